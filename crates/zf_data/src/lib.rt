@@ -1,0 +1,12 @@
+//! Lists, boxes and texts that contracts see as what they hold, so that a tree of them is plain data.
+#![tactic(auto)]
+
+mod boxed;
+mod items;
+mod text;
+mod word;
+
+pub use boxed::Boxed;
+pub use items::Items;
+pub use text::Text;
+pub use word::Word;
