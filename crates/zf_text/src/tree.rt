@@ -91,14 +91,14 @@ pub enum Decl {
 
 #[derive(Debug, Drop)]
 pub enum SchemaExp {
-    /// `[ Decl; .. | Term; .. ]`, with the line of its bracket
-    Text(u32, Items<Decl>, Items<Term>),
+    /// `[ Decl; .. | Term; .. ]`
+    Text(Items<Decl>, Items<Term>),
     Ref(SchemaRef),
     /// `A \land B`
-    Both(u32, Boxed<SchemaExp>, Boxed<SchemaExp>),
-    /// `A \lor B`
+    Both(Boxed<SchemaExp>, Boxed<SchemaExp>),
+    /// `A \lor B`, with the line of its first token
     Or(u32, Boxed<SchemaExp>, Boxed<SchemaExp>),
-    Bracket(u32, Boxed<SchemaExp>),
+    Bracket(Boxed<SchemaExp>),
 }
 
 #[derive(Debug, Drop)]

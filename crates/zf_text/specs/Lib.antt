@@ -1,0 +1,5 @@
+pub mod Trees
+pub mod Levels
+pub mod Separators
+pub mod Spelling
+pub mod Reads

@@ -1,0 +1,165 @@
+-- The spelling of a tree, by the grammar read from the tree to its symbols: `Spells tree ts rest` says that the symbols `ts` begin with
+-- those of the tree, that `rest` follows them, and that each name and each term has the line of its first symbol.
+use Rattle.std.specs.Prelude.{◌≡◌, ℕ, List, [], ◌∷◌}
+use Rattle.zf_text.specs.declared.token.Kind.{Kind}
+use Rattle.zf_text.specs.declared.token.Kind.TheVariants as k
+use Rattle.zf_text.specs.declared.token.Infix.TheVariants.{Minus}
+use Rattle.zf_text.specs.declared.token.Connective.TheVariants.{And, Or}
+use Rattle.zf_text.specs.declared.tree.Mark.TheVariants.{Plain, Delta, Xi}
+use Rattle.zf_text.specs.declared.tree.Mark.{Mark}
+use Rattle.zf_text.specs.declared.tree.Name.{Name}
+use Rattle.zf_text.specs.declared.tree.SchemaRef.{SchemaRef}
+use Rattle.zf_text.specs.declared.tree.Sign.{Sign}
+use Rattle.zf_text.specs.declared.tree.Sign.TheVariants as sign
+use Rattle.zf_text.specs.Separators.{Symbol, symbol, separator}
+use Rattle.zf_text.specs.Trees.{Tree, named, numeral, constant, empty_set, bracket, tuple, display, builder, prefixed, inverse, image, applied, infixed, arrow, product, chain, negated, connected, quantified, Trees, no_trees, tree, Links, no_links, link, VarDecls, no_decls, var_decl, Perhaps, absent, present, DeclTree, vars, include, SchemaTree, schema_text, reference, both, either, schema_bracket, ParagraphTree, given, free, abbreviation, definition, BoxTree, zed, schema_box}
+
+-- the first symbol, with its line, and the rest
+abbrev pub Starts : Kind → ℕ → List Symbol → List Symbol → Type 0
+Starts kind line ts rest = ts ≡ symbol kind line ∷ rest
+
+-- the first symbol, on any line, and the rest
+abbrev pub Next : Kind → List Symbol → List Symbol → Type 0
+Next kind ts rest = (line : ℕ) × Starts kind line ts rest
+
+-- one or more, each spelled in this way, parted by the symbol
+abbrev pub PartedBy : {A : Type 0} → Kind → (A → List Symbol → List Symbol → Type 0) → List A → List Symbol → List Symbol → Type 0
+PartedBy kind spells [] ts rest = ⊥
+PartedBy kind spells (x ∷ []) ts rest = spells x ts rest
+PartedBy kind spells (x ∷ (y ∷ ys)) ts rest = (a b : List Symbol) × spells x ts a × Next kind a b × PartedBy kind spells (y ∷ ys) b rest
+
+abbrev pub SpellsName : Name → List Symbol → List Symbol → Type 0
+SpellsName n ts rest = Starts (k.Name n.base n.strokes) n.line ts rest
+
+abbrev pub SpellsNames : List Name → List Symbol → List Symbol → Type 0
+SpellsNames = PartedBy k.Comma SpellsName
+
+abbrev pub sign_kind : Sign → Kind
+sign_kind (sign.Symbol s) = k.Prefix s
+sign_kind sign.Minus = k.Infix Minus
+
+-- the line of the first symbol
+abbrev pub line_of : Tree → ℕ
+line_of (named n) = n.line
+line_of (numeral l v) = l
+line_of (constant l c) = l
+line_of (empty_set l t) = l
+line_of (bracket l t) = l
+line_of (tuple l ts) = l
+line_of (display l ts) = l
+line_of (builder l ds p t) = l
+line_of (prefixed l s t) = l
+line_of (inverse l t) = l
+line_of (image l r a) = l
+line_of (applied l f x) = l
+line_of (infixed l op a b) = l
+line_of (arrow l op a b) = l
+line_of (product l ts) = l
+line_of (chain l t ks) = l
+line_of (negated l t) = l
+line_of (connected l c a b) = l
+line_of (quantified l q ds p t) = l
+
+abbrev pub IsFirstLine : ℕ → Trees → Type 0
+IsFirstLine l no_trees = ⊥
+IsFirstLine l (tree t ts) = l ≡ line_of t
+
+abbrev mutual
+  pub Spells : Tree → List Symbol → List Symbol → Type 0
+  Spells (named n) ts rest = SpellsName n ts rest
+  Spells (numeral l v) ts rest = Starts (k.Number v) l ts rest
+  Spells (constant l c) ts rest = Starts (k.Constant c) l ts rest
+  Spells (empty_set l t) ts rest = (a b c : List Symbol) × Starts k.EmptySet l ts a × Next k.OpenSquare a b × Spells t b c × Next k.CloseSquare c rest
+  Spells (bracket l t) ts rest = (a b : List Symbol) × Starts k.OpenRound l ts a × Spells t a b × Next k.CloseRound b rest
+  Spells (tuple l us) ts rest = (a b : List Symbol) × Starts k.OpenRound l ts a × SpellsItems k.Comma us a b × Next k.CloseRound b rest
+  Spells (display l us) ts rest = (a b : List Symbol) × Starts k.OpenBrace l ts a × SpellsItems k.Comma us a b × Next k.CloseBrace b rest
+  Spells (builder l ds p t) ts rest =
+      (a b c d : List Symbol) × Starts k.OpenBrace l ts a × SpellsDecls ds a b × SpellsPart k.Bar p b c × SpellsPart k.At t c d × Next k.CloseBrace d rest
+  Spells (prefixed l s t) ts rest = (a : List Symbol) × Starts (sign_kind s) l ts a × Spells t a rest
+  Spells (inverse l t) ts rest = (a : List Symbol) × (l ≡ line_of t) × Spells t ts a × Next k.Inverse a rest
+  Spells (image l r t) ts rest =
+      (a b c : List Symbol) × (l ≡ line_of r) × Spells r ts a × Next k.OpenImage a b × Spells t b c × Next k.CloseImage c rest
+  Spells (applied l f x) ts rest = (a : List Symbol) × (l ≡ line_of f) × Spells f ts a × Spells x a rest
+  Spells (infixed l op x y) ts rest = (a b : List Symbol) × (l ≡ line_of x) × Spells x ts a × Next (k.Infix op) a b × Spells y b rest
+  Spells (arrow l op x y) ts rest = (a b : List Symbol) × (l ≡ line_of x) × Spells x ts a × Next (k.Arrow op) a b × Spells y b rest
+  Spells (product l us) ts rest = IsFirstLine l us × SpellsItems k.Cross us ts rest
+  Spells (chain l t ks) ts rest = (a : List Symbol) × (l ≡ line_of t) × Spells t ts a × SpellsLinks ks a rest
+  Spells (negated l t) ts rest = (a : List Symbol) × Starts k.Not l ts a × Spells t a rest
+  Spells (connected l c x y) ts rest = (a b : List Symbol) × (l ≡ line_of x) × Spells x ts a × Next (k.Connective c) a b × Spells y b rest
+  Spells (quantified l q ds p t) ts rest =
+      (a b c d : List Symbol) × Starts (k.Quantifier q) l ts a × SpellsDecls ds a b × SpellsPart k.Bar p b c × Next k.At c d × Spells t d rest
+
+  -- one or more, parted by the symbol
+  pub SpellsItems : Kind → Trees → List Symbol → List Symbol → Type 0
+  SpellsItems kind no_trees ts rest = ⊥
+  SpellsItems kind (tree t us) ts rest = (a : List Symbol) × Spells t ts a × SpellsFurther kind us a rest
+
+  pub SpellsFurther : Kind → Trees → List Symbol → List Symbol → Type 0
+  SpellsFurther kind no_trees ts rest = ts ≡ rest
+  SpellsFurther kind (tree t us) ts rest = (a b : List Symbol) × Next kind ts a × Spells t a b × SpellsFurther kind us b rest
+
+  -- the links of a chain, of which there is at least one
+  pub SpellsLinks : Links → List Symbol → List Symbol → Type 0
+  SpellsLinks no_links ts rest = ⊥
+  SpellsLinks (link r t no_links) ts rest = (a : List Symbol) × Next (k.Relation r) ts a × Spells t a rest
+  SpellsLinks (link r t (link s u ks)) ts rest = (a b : List Symbol) × Next (k.Relation r) ts a × Spells t a b × SpellsLinks (link s u ks) b rest
+
+  -- declarations of bound variables, parted by separators
+  pub SpellsDecls : VarDecls → List Symbol → List Symbol → Type 0
+  SpellsDecls no_decls ts rest = ⊥
+  SpellsDecls (var_decl ns t no_decls) ts rest = (a b : List Symbol) × SpellsNames ns ts a × Next k.Colon a b × Spells t b rest
+  SpellsDecls (var_decl ns t (var_decl ms u ds)) ts rest =
+      (a b c d : List Symbol) × SpellsNames ns ts a × Next k.Colon a b × Spells t b c × Next separator c d × SpellsDecls (var_decl ms u ds) d rest
+
+  -- a part that may be left out, behind its symbol
+  pub SpellsPart : Kind → Perhaps → List Symbol → List Symbol → Type 0
+  SpellsPart kind absent ts rest = ts ≡ rest
+  SpellsPart kind (present t) ts rest = (a : List Symbol) × Next kind ts a × Spells t a rest
+
+-- ---- declarations, schema expressions, paragraphs and boxes
+
+abbrev pub SpellsMarked : Mark → Name → List Symbol → List Symbol → Type 0
+SpellsMarked Plain n ts rest = SpellsName n ts rest
+SpellsMarked Delta n ts rest = (a : List Symbol) × Next k.Delta ts a × SpellsName n a rest
+SpellsMarked Xi n ts rest = (a : List Symbol) × Next k.Xi ts a × SpellsName n a rest
+
+abbrev pub SpellsRef : SchemaRef → List Symbol → List Symbol → Type 0
+SpellsRef r = SpellsMarked r.mark r.name
+
+abbrev pub SpellsDecl : DeclTree → List Symbol → List Symbol → Type 0
+SpellsDecl (vars ns t) ts rest = (a b : List Symbol) × SpellsNames ns ts a × Next k.Colon a b × Spells t b rest
+SpellsDecl (include r) ts rest = SpellsRef r ts rest
+
+-- predicates, parted by separators, behind the symbol; without any, nothing
+abbrev pub SpellsPredicates : Kind → List Tree → List Symbol → List Symbol → Type 0
+SpellsPredicates kind [] ts rest = ts ≡ rest
+SpellsPredicates kind (p ∷ ps) ts rest = (a : List Symbol) × Next kind ts a × PartedBy separator Spells (p ∷ ps) a rest
+
+-- the first symbol is on this line
+abbrev pub IsOn : ℕ → List Symbol → Type 0
+IsOn line [] = ⊥
+IsOn line (t ∷ ts) = t.line ≡ line
+
+abbrev pub SpellsSchema : SchemaTree → List Symbol → List Symbol → Type 0
+SpellsSchema (schema_text ds ps) ts rest =
+    (a b c : List Symbol) × Next k.OpenSquare ts a × PartedBy separator SpellsDecl ds a b × SpellsPredicates k.Bar ps b c × Next k.CloseSquare c rest
+SpellsSchema (reference r) ts rest = SpellsRef r ts rest
+SpellsSchema (both x y) ts rest = (a b : List Symbol) × SpellsSchema x ts a × Next (k.Connective And) a b × SpellsSchema y b rest
+SpellsSchema (either l x y) ts rest = (a b : List Symbol) × IsOn l ts × SpellsSchema x ts a × Next (k.Connective Or) a b × SpellsSchema y b rest
+SpellsSchema (schema_bracket x) ts rest = (a b : List Symbol) × Next k.OpenRound ts a × SpellsSchema x a b × Next k.CloseRound b rest
+
+abbrev pub SpellsParagraph : ParagraphTree → List Symbol → List Symbol → Type 0
+SpellsParagraph (given ns) ts rest = (a b : List Symbol) × Next k.OpenSquare ts a × SpellsNames ns a b × Next k.CloseSquare b rest
+SpellsParagraph (free n ns) ts rest = (a b : List Symbol) × SpellsName n ts a × Next k.FreeType a b × PartedBy k.Bar SpellsName ns b rest
+SpellsParagraph (abbreviation n t) ts rest = (a b : List Symbol) × SpellsName n ts a × Next k.Abbreviates a b × Spells t b rest
+SpellsParagraph (definition n x) ts rest = (a b : List Symbol) × (n.strokes ≡ []) × SpellsName n ts a × Next k.Defines a b × SpellsSchema x b rest
+
+abbrev pub SpellsBox : BoxTree → List Symbol → List Symbol → Type 0
+SpellsBox (zed ps) ts rest = (a b : List Symbol) × Next k.BeginZed ts a × PartedBy separator SpellsParagraph ps a b × Next k.EndBox b rest
+SpellsBox (schema_box n ds ps) ts rest =
+    (a b c : List Symbol) × (n.strokes ≡ []) × Starts (k.BeginSchema n.base) n.line ts a × PartedBy separator SpellsDecl ds a b × SpellsPredicates k.Where ps b c
+    × Next k.EndBox c rest
+
+abbrev pub SpellsBoxes : List BoxTree → List Symbol → Type 0
+SpellsBoxes [] ts = ts ≡ []
+SpellsBoxes (b ∷ bs) ts = (a : List Symbol) × SpellsBox b ts a × SpellsBoxes bs a
