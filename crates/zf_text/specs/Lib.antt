@@ -3,3 +3,5 @@ pub mod Levels
 pub mod Separators
 pub mod Spelling
 pub mod Reads
+pub mod Basic
+pub mod Reading

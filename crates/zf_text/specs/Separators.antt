@@ -17,6 +17,13 @@ symbol kind line = record { kind = kind; line = line }
 abbrev pub separator : Kind
 separator = k.Separator Semicolon
 
+abbrev pub canonical : Kind → Kind
+canonical (k.Separator s) = separator
+canonical kind = kind
+
+abbrev pub symbol_of : Token → Symbol
+symbol_of t = symbol (canonical t.kind) t.line
+
 abbrev pub is_separator : Kind → Bool
 is_separator (k.Separator s) = true
 is_separator _ = false
@@ -67,8 +74,8 @@ abbrev pub reduced_after : Bool → List Token → List Symbol
 reduced_after drops [] = []
 reduced_after drops (t ∷ ts) =
     if is_separator t.kind
-    then (if drops || starts_closed ts then reduced_after drops ts else symbol separator t.line ∷ reduced_after true ts)
-    else symbol t.kind t.line ∷ reduced_after (opens t.kind) ts
+    then (if drops || starts_closed ts then reduced_after drops ts else symbol_of t ∷ reduced_after true ts)
+    else symbol_of t ∷ reduced_after (opens t.kind) ts
 
 abbrev pub reduced : List Token → List Symbol
 reduced = reduced_after true

@@ -5,8 +5,8 @@ use Rattle.zf_text.specs.declared.token.Kind.{Kind}
 use Rattle.zf_text.specs.declared.token.Kind.TheVariants as k
 use Rattle.zf_text.specs.declared.token.Infix.TheVariants.{Minus}
 use Rattle.zf_text.specs.declared.token.Connective.TheVariants.{And, Or}
-use Rattle.zf_text.specs.declared.tree.Mark.TheVariants.{Plain, Delta, Xi}
-use Rattle.zf_text.specs.declared.tree.Mark.{Mark}
+use Rattle.zf_text.specs.declared.tree.RefMark.TheVariants.{Plain, Delta, Xi}
+use Rattle.zf_text.specs.declared.tree.RefMark.{RefMark}
 use Rattle.zf_text.specs.declared.tree.Name.{Name}
 use Rattle.zf_text.specs.declared.tree.SchemaRef.{SchemaRef}
 use Rattle.zf_text.specs.declared.tree.Sign.{Sign}
@@ -118,7 +118,7 @@ abbrev mutual
 
 -- ---- declarations, schema expressions, paragraphs and boxes
 
-abbrev pub SpellsMarked : Mark → Name → List Symbol → List Symbol → Type 0
+abbrev pub SpellsMarked : RefMark → Name → List Symbol → List Symbol → Type 0
 SpellsMarked Plain n ts rest = SpellsName n ts rest
 SpellsMarked Delta n ts rest = (a : List Symbol) × Next k.Delta ts a × SpellsName n a rest
 SpellsMarked Xi n ts rest = (a : List Symbol) × Next k.Xi ts a × SpellsName n a rest

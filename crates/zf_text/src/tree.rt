@@ -69,7 +69,7 @@ pub struct VarDecl {
 
 /// How the schema of a reference is taken.
 #[derive(Clone, Copy, Debug, PartialEq, Eq)]
-pub enum Mark {
+pub enum RefMark {
     Plain,
     Delta,
     Xi,
@@ -78,7 +78,7 @@ pub enum Mark {
 /// A reference to a schema. The strokes of its name decorate.
 #[derive(Debug, Drop)]
 pub struct SchemaRef {
-    pub mark: Mark,
+    pub mark: RefMark,
     pub name: Name,
 }
 

@@ -1,0 +1,103 @@
+-- The symbols that a rule asks for by themselves.
+use Rattle.std.proofs.Common.{◌≡◌, ℕ, ◌+◌, ◌≤◌, Bool, true, false, List, [], ◌∷◌, length, Option, Some, None, refl, sym, ap, ◌∙◌, subst, arith}
+use Rattle.std.specs.Prelude.{if◌then◌else◌}
+use Rattle.zf_text.specs.declared.next.Mark.{Mark}
+use Rattle.zf_text.specs.declared.next.Mark.TheVariants as mark
+use Rattle.zf_text.specs.declared.next.Next.TheVariants as next
+use Rattle.zf_text.specs.declared.token.Kind.{Kind}
+use Rattle.zf_text.specs.declared.token.Kind.TheVariants as k
+use Rattle.zf_text.specs.declared.token.Separator.{Separator}
+use Rattle.zf_text.specs.declared.token.Separator.TheVariants.{Semicolon, NewLine, Also}
+use Rattle.zf_text.specs.Separators.{Symbol, symbol, separator}
+use Rattle.zf_text.specs.Spelling.{Next}
+use Rattle.zf_text.specs.Reading.{first, rest, next_of, is_mark, expect, Outcome, Parser, and_then}
+
+abbrev pub kind_of : Mark → Kind
+kind_of mark.EndBox = k.EndBox
+kind_of mark.Separator = separator
+kind_of mark.OpenSquare = k.OpenSquare
+kind_of mark.CloseSquare = k.CloseSquare
+kind_of mark.Comma = k.Comma
+kind_of mark.Colon = k.Colon
+kind_of mark.Where = k.Where
+
+separator_is : (m : Mark) (s : Separator) → is_mark m (next_of (k.Separator s)) ≡ true → k.Separator s ≡ kind_of m
+separator_is mark.Separator Semicolon e = refl
+separator_is mark.Separator NewLine e = absurd (cc)
+separator_is mark.Separator Also e = absurd (cc)
+separator_is mark.EndBox Semicolon e = absurd (cc)
+separator_is mark.EndBox NewLine e = absurd (cc)
+separator_is mark.EndBox Also e = absurd (cc)
+separator_is _ Semicolon e = absurd (cc)
+separator_is _ NewLine e = absurd (cc)
+separator_is _ Also e = absurd (cc)
+
+kind_is : (m : Mark) (kind : Kind) → is_mark m (next_of kind) ≡ true → kind ≡ kind_of m
+kind_is m (k.Separator s) e = separator_is m s e
+kind_is mark.EndBox k.EndBox e = refl
+kind_is mark.EndBox _ e = absurd (cc)
+kind_is mark.Separator k.EndBox e = absurd (cc)
+kind_is mark.Separator _ e = absurd (cc)
+kind_is mark.OpenSquare k.OpenSquare e = refl
+kind_is mark.OpenSquare _ e = absurd (cc)
+kind_is mark.CloseSquare k.CloseSquare e = refl
+kind_is mark.CloseSquare _ e = absurd (cc)
+kind_is mark.Comma k.Comma e = refl
+kind_is mark.Comma _ e = absurd (cc)
+kind_is mark.Colon k.Colon e = refl
+kind_is mark.Colon _ e = absurd (cc)
+kind_is mark.Where k.Where e = refl
+kind_is mark.Where _ e = absurd (cc)
+
+not_at_end : (m : Mark) → is_mark m next.End ≡ true → ⊥
+not_at_end mark.EndBox e = cc
+not_at_end mark.Separator e = cc
+not_at_end mark.OpenSquare e = cc
+not_at_end mark.CloseSquare e = cc
+not_at_end mark.Comma e = cc
+not_at_end mark.Colon e = cc
+not_at_end mark.Where e = cc
+
+itself : (m : Mark) → is_mark m (next_of (kind_of m)) ≡ true
+itself mark.EndBox = refl
+itself mark.Separator = refl
+itself mark.OpenSquare = refl
+itself mark.CloseSquare = refl
+itself mark.Comma = refl
+itself mark.Colon = refl
+itself mark.Where = refl
+
+-- where the symbol is seen, it stands
+pub marked : (m : Mark) (ts : List Symbol) → is_mark m (first ts) ≡ true → Next (kind_of m) ts (rest ts)
+marked m [] e = absurd (not_at_end m e)
+marked m (t ∷ ts) e = (t.line, ap (λ kind. symbol kind t.line ∷ ts) (kind_is m t.kind e))
+
+-- where it stands, it is seen
+pub seen : (m : Mark) (ts us : List Symbol) → Next (kind_of m) ts us → is_mark m (first ts) ≡ true
+seen m ts us h = ap (λ ts. is_mark m (first ts)) h.1 ∙ itself m
+
+pub passed : {kind : Kind} (ts us : List Symbol) → Next kind ts us → rest ts ≡ us
+passed ts us h = ap rest h.1
+
+pub next_shorter : {kind : Kind} (ts us : List Symbol) → Next kind ts us → length us + 1 ≤ length ts
+next_shorter ts us h = omega (arith, ap length h.1)
+
+-- ---- steps of a reading
+
+pub bound : {A B : Type 0} (o : Outcome A) (f : A → Parser B) (r : B × List Symbol) → and_then o f ≡ Some r → (a : A) × (us : List Symbol) × (o ≡ Some (a, us)) × (f a us ≡ Some r)
+bound None f r e = absurd (cc)
+bound (Some p) f r e = (p.0, p.1, refl, e)
+
+by_test : {A : Type 0} (b : Bool) (o : Option A) (r : A) → (if b then o else None) ≡ Some r → (b ≡ true) × (o ≡ Some r)
+by_test true o r e = (refl, e)
+by_test false o r e = absurd (cc)
+
+pub expected : (m : Mark) (ts us : List Symbol) (u : Unit {0}) → expect m ts ≡ Some (u, us) → Next (kind_of m) ts us
+expected m ts us u e =
+    let t = by_test (is_mark m (first ts)) (Some (tt, rest ts)) (u, us) e in
+    let next : Next (kind_of m) ts (rest ts) = marked m ts t.0 in
+    let is : rest ts ≡ us = ap (λ (o : Outcome (Unit {0})). elim o as (λ _. List Symbol) [ None ↦ [] | Some p ↦ p.1 ]) t.1 in
+    subst (Next (kind_of m) ts) is next
+
+pub expects : (m : Mark) (ts us : List Symbol) → Next (kind_of m) ts us → expect m ts ≡ Some (tt, us)
+expects m ts us h = rw (seen m ts us h) (ap (λ us. Some (tt, us)) (passed ts us h))
