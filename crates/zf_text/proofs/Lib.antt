@@ -1,2 +1,6 @@
 pub mod Turns
 pub mod Marks
+pub mod Parted
+pub mod Seen
+pub mod Sound
+pub mod Complete

@@ -88,7 +88,7 @@ pub bound : {A B : Type 0} (o : Outcome A) (f : A → Parser B) (r : B × List S
 bound None f r e = absurd (cc)
 bound (Some p) f r e = (p.0, p.1, refl, e)
 
-by_test : {A : Type 0} (b : Bool) (o : Option A) (r : A) → (if b then o else None) ≡ Some r → (b ≡ true) × (o ≡ Some r)
+pub by_test : {A : Type 0} (b : Bool) (o : Option A) (r : A) → (if b then o else None) ≡ Some r → (b ≡ true) × (o ≡ Some r)
 by_test true o r e = (refl, e)
 by_test false o r e = absurd (cc)
 

@@ -201,6 +201,9 @@ boxes_from (suc n) bs = λ ts. if is_end (first ts) then Some (bs, ts) else and_
 unfoldable pub read_boxes : Parser (List ZBox)
 read_boxes = λ ts. boxes_from (length ts) [] ts
 
+unfoldable pub read_all : Parser (List ZBox)
+read_all = λ ts. and_then (read_boxes ts) (λ bs us. if is_end (first us) then Some (bs, us) else None)
+
 -- ---- what a function that reads ensures: the outcome, unless memory ran out
 
 abbrev pub IsRefusal : TextFaultKind → Type 0
