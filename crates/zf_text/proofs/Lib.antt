@@ -4,3 +4,4 @@ pub mod Parted
 pub mod Seen
 pub mod Sound
 pub mod Complete
+pub mod Answers

@@ -4,4 +4,5 @@ pub mod Separators
 pub mod Spelling
 pub mod Reads
 pub mod Basic
+pub mod Parsing
 pub mod Reading

@@ -4,6 +4,7 @@
 mod cursor;
 pub mod fault;
 mod next;
+pub mod reading;
 mod rules;
 pub mod token;
 pub mod tree;

@@ -1,0 +1,67 @@
+//! Trees out of tokens.
+ghost use Rattle.std.specs.Prelude.{◌≡◌, IfOk, map, drop};
+ghost use Rattle.zf_text.specs.Parsing.{Parses};
+ghost use Rattle.zf_text.specs.Reading as spec;
+ghost use Rattle.zf_text.specs.Reading.{Gives};
+ghost use Rattle.zf_text.specs.Separators.{reduced, starts_closed, symbol_of};
+
+use crate::cursor::Cursor;
+use crate::fault::TextFault;
+use crate::rules::boxes;
+use crate::token::Token;
+use crate::tree::{Spec, ZBox};
+use std::alloc::{AllocError, Global};
+use zf_data::Items;
+
+/// Whether a separator before these tokens is dropped.
+fn starts_closed(tokens: &[Token]) -> bool
+    ensures { result ≡ starts_closed tokens.now }
+{
+    match tokens {
+        [] => false,
+        [first, ..] => first.kind.closes(),
+    }
+}
+
+/// The tokens without the separators that are dropped.
+fn reduce<'a>(alloc: Global, tokens: &'a [Token]) -> Result<Vec<&'a Token>, AllocError>
+    ensures { IfOk result (λ kept. map (λ t. symbol_of t.now) kept.items ≡ reduced tokens.entry.now) }
+{
+    let mut kept = Vec::new(alloc);
+    let mut drops = true;
+    for i in 0..tokens.len() {
+        let token = &tokens[i];
+        if token.kind.is_separator() {
+            if !drops && !starts_closed(&tokens[i + 1..]) {
+                kept.push(token)?;
+                drops = true;
+            }
+        } else {
+            kept.push(token)?;
+            drops = token.kind.opens();
+        }
+    }
+    Ok(kept)
+}
+
+/// All boxes, and nothing after them.
+#[tactic(auto, unfolding(crate::specs::Reading::read_all))]
+fn all(alloc: Global, tokens: &mut Cursor<'_>) -> Result<Items<ZBox>, TextFault>
+    ensures { Gives (spec.read_all tokens.old) result tokens.new }
+{
+    let boxes = boxes(alloc, tokens)?;
+    if !tokens.is_done() {
+        return Err(tokens.refused());
+    }
+    Ok(boxes)
+}
+
+/// The tree that reads the tokens.
+pub fn parse(alloc: Global, tokens: &[Token]) -> Result<Spec, TextFault>
+    ensures { Parses result tokens.now }
+{
+    let reduced = reduce(alloc, tokens)?;
+    let mut cursor = Cursor::new(&reduced);
+    let boxes = all(alloc, &mut cursor)?;
+    Ok(Spec { boxes })
+}
