@@ -1,0 +1,9 @@
+//! From the bytes of a reader to the bytes of a writer.
+#![tactic(auto)]
+
+pub mod counted;
+pub mod fault;
+pub mod reading;
+pub mod simple;
+pub mod texts;
+pub mod writing;

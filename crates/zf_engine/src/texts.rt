@@ -1,0 +1,187 @@
+//! The lines of an answer, each with its newline.
+ghost use Rattle.std.specs.Prelude.{◌≡◌, ◌++◌, IfOk, OnErr, OnOk, length, take};
+ghost use Rattle.zf_engine.specs.Texts as spec;
+
+use crate::simple::fault::{TypeFault, TypeFaultKind};
+use itoa::Buffer;
+use std::alloc::{AllocError, Global};
+use zf_data::Text;
+use zf_text::fault::{TextFault, TextFaultKind};
+
+/// The text of a fault of a text.
+pub fn text_fault_text(kind: TextFaultKind) -> &'static [u8]
+    ensures { result.now ≡ spec.text_fault_text kind }
+{
+    match kind {
+        TextFaultKind::BadByte => b"byte not in the markup",
+        TextFaultKind::UnknownCommand => b"unknown command",
+        TextFaultKind::NotInProfile => b"not in this profile",
+        TextFaultKind::UnclosedBox => b"box is not closed",
+        TextFaultKind::Unexpected => b"unexpected symbol",
+        TextFaultKind::NumberTooLarge => b"number too large",
+        TextFaultKind::TooDeep => b"nested too deeply",
+        TextFaultKind::TooLong => b"source too long",
+        TextFaultKind::OutOfMemory => b"out of memory",
+    }
+}
+
+/// The text of a fault of a type.
+pub fn type_fault_text(kind: TypeFaultKind) -> &'static [u8]
+    ensures { result.now ≡ spec.type_fault_text kind }
+{
+    match kind {
+        TypeFaultKind::NotDeclared => b"name not declared",
+        TypeFaultKind::AlreadyDefined => b"name already defined",
+        TypeFaultKind::Mismatch => b"types differ",
+        TypeFaultKind::NotASet => b"a set is needed",
+        TypeFaultKind::NotANumber => b"a number is needed",
+        TypeFaultKind::NotARelation => b"a relation is needed",
+        TypeFaultKind::NotAPredicate => b"a predicate is needed",
+        TypeFaultKind::NotAnExpression => b"an expression is needed",
+        TypeFaultKind::ComponentClash => b"component has two types",
+        TypeFaultKind::NotASchema => b"a schema is needed",
+        TypeFaultKind::LocalTwice => b"variable declared twice",
+        TypeFaultKind::TooLarge => b"too large",
+    }
+}
+
+/// `FILE:LINE: TEXT`
+pub fn fault_line(alloc: Global, file: &[u8], line: u32, text: &[u8]) -> Result<Vec<u8>, AllocError>
+    ensures { IfOk result (λ v. v.items ≡ spec.fault_line file.now line text.now) }
+{
+    let mut number = Buffer::new();
+    let mut bytes = Vec::from_slice(alloc, file)?;
+    bytes.extend_from_slice(b":")?;
+    bytes.extend_from_slice(number.format(line).as_bytes())?;
+    bytes.extend_from_slice(b": ")?;
+    bytes.extend_from_slice(text)?;
+    bytes.extend_from_slice(b"\n")?;
+    Ok(bytes)
+}
+
+/// The line of a fault of a text. A source that is too long has no line number.
+pub fn text_fault_line(alloc: Global, file: &[u8], fault: TextFault) -> Result<Vec<u8>, AllocError>
+    ensures { IfOk result (λ v. v.items ≡ spec.text_fault_line file.now fault) }
+{
+    match fault.kind {
+        TextFaultKind::TooLong => too_long_line(alloc, file),
+        kind => fault_line(alloc, file, fault.line, text_fault_text(kind)),
+    }
+}
+
+/// The line of a fault of a type.
+pub fn type_fault_line(alloc: Global, file: &[u8], fault: TypeFault) -> Result<Vec<u8>, AllocError>
+    ensures { IfOk result (λ v. v.items ≡ spec.type_fault_line file.now fault) }
+{
+    fault_line(alloc, file, fault.line, type_fault_text(fault.kind))
+}
+
+/// The name between the two parts of its line.
+fn around(alloc: Global, before: &[u8], name: &[u8], after: &[u8]) -> Result<Vec<u8>, AllocError>
+    ensures { IfOk result (λ v. v.items ≡ before.now ++ name.now ++ after.now) }
+{
+    let mut bytes = Vec::from_slice(alloc, before)?;
+    bytes.extend_from_slice(name)?;
+    bytes.extend_from_slice(after)?;
+    Ok(bytes)
+}
+
+/// `FILE: source too long`
+pub fn too_long_line(alloc: Global, file: &[u8]) -> Result<Vec<u8>, AllocError>
+    ensures { IfOk result (λ v. v.items ≡ spec.too_long_line file.now) }
+{
+    around(alloc, b"", file, b": source too long\n")
+}
+
+/// `zf: no schema S`
+pub fn no_schema_line(alloc: Global, schema: &[u8]) -> Result<Vec<u8>, AllocError>
+    ensures { IfOk result (λ v. v.items ≡ spec.no_schema_line schema.now) }
+{
+    around(alloc, b"zf: no schema ", schema, b"\n")
+}
+
+/// `zf: no size for N`
+pub fn no_size_line(alloc: Global, name: &[u8]) -> Result<Vec<u8>, AllocError>
+    ensures { IfOk result (λ v. v.items ≡ spec.no_size_line name.now) }
+{
+    around(alloc, b"zf: no size for ", name, b"\n")
+}
+
+/// `zf: N is not a given set`
+pub fn not_given_line(alloc: Global, name: &[u8]) -> Result<Vec<u8>, AllocError>
+    ensures { IfOk result (λ v. v.items ≡ spec.not_given_line name.now) }
+{
+    around(alloc, b"zf: ", name, b" is not a given set\n")
+}
+
+/// `zf: two sizes for N`
+pub fn size_twice_line(alloc: Global, name: &[u8]) -> Result<Vec<u8>, AllocError>
+    ensures { IfOk result (λ v. v.items ≡ spec.size_twice_line name.now) }
+{
+    around(alloc, b"zf: two sizes for ", name, b"\n")
+}
+
+/// `zf: size of N is too large`
+pub fn size_too_large_line(alloc: Global, name: &[u8]) -> Result<Vec<u8>, AllocError>
+    ensures { IfOk result (λ v. v.items ≡ spec.size_too_large_line name.now) }
+{
+    around(alloc, b"zf: size of ", name, b" is too large\n")
+}
+
+/// Appends `x == NAME.k` for the name of a component, the name of its set, and a place from 0.
+#[inline]
+fn append_component(
+    line: &mut Vec<u8>,
+    component: &(Text, Text),
+    place: u64,
+) -> Result<(), AllocError>
+    ensures ok { OnOk result (line.new.items ≡ line.old.items ++ spec.component_text (component.now, place)) }
+    ensures kept { take (length line.old.items) line.new.items ≡ line.old.items }
+{
+    let (name, set) = component;
+    let mut number = Buffer::new();
+    line.extend_from_slice(name.as_slice())?;
+    line.extend_from_slice(b" == ")?;
+    line.extend_from_slice(set.as_slice())?;
+    line.extend_from_slice(b".")?;
+    line.extend_from_slice(number.format(u128::from(place) + 1).as_bytes())
+}
+
+/// Appends the binding. A refusal leaves a part of it.
+fn append_binding(
+    line: &mut Vec<u8>,
+    components: &[(Text, Text)],
+    row: &[u64],
+) -> Result<(), AllocError>
+    ensures ok { OnOk result (line.new.items ≡ line.old.items ++ spec.binding_text components.now row.now) }
+    ensures kept { take (length line.old.items) line.new.items ≡ line.old.items }
+{
+    for i in 0..components.len().min(row.len()) {
+        if i > 0 {
+            line.extend_from_slice(b", ")?;
+        }
+        append_component(line, &components[i], row[i])?;
+    }
+    Ok(())
+}
+
+/// Appends `x == NAME.1, y == NAME.2` and a newline, for components given by their names and the
+/// names of their sets, and a row of places from 0. A refusal leaves the line as it was.
+pub fn append_binding_line(
+    line: &mut Vec<u8>,
+    components: &[(Text, Text)],
+    row: &[u64],
+) -> Result<(), AllocError>
+    ensures ok { OnOk result (line.new.items ≡ line.old.items ++ spec.binding_line components.now row.now) }
+    ensures err { OnErr result (line.new.items ≡ line.old.items) }
+{
+    let start = line.len();
+    let mut result = append_binding(line, components, row);
+    if result.is_ok() {
+        result = line.extend_from_slice(b"\n");
+    }
+    if result.is_err() {
+        line.truncate(start);
+    }
+    result
+}
