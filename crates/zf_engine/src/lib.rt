@@ -4,6 +4,5 @@
 pub mod counted;
 pub mod fault;
 pub mod reading;
-pub mod simple;
 pub mod texts;
 pub mod writing;

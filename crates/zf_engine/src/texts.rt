@@ -2,7 +2,7 @@
 ghost use Rattle.std.specs.Prelude.{◌≡◌, ◌++◌, IfOk, OnErr, OnOk, length, take};
 ghost use Rattle.zf_engine.specs.Texts as spec;
 
-use crate::simple::fault::{TypeFault, TypeFaultKind};
+use zf_simple::fault::{TypeFault, TypeFaultKind};
 use itoa::Buffer;
 use std::alloc::{AllocError, Global};
 use zf_data::Text;

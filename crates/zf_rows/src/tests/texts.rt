@@ -1,7 +1,7 @@
 //! The lines of an answer, as they are printed.
 use std::test::Fail;
 use zf_data::Text;
-use zf_engine::simple::fault::{TypeFault, TypeFaultKind};
+use zf_simple::fault::{TypeFault, TypeFaultKind};
 use zf_engine::texts;
 use zf_text::fault::{TextFault, TextFaultKind};
 

@@ -1,7 +1,8 @@
-//! Faults of a type.
+//! Faults of types.
+
 use thiserror::Error;
 
-/// Why a paragraph or box is not well typed.
+/// Why an item is not well typed.
 #[derive(Clone, Copy, Debug, PartialEq, Eq, Error)]
 pub enum TypeFaultKind {
     #[error("name not declared")]
@@ -30,7 +31,7 @@ pub enum TypeFaultKind {
     TooLarge,
 }
 
-/// A fault, with its line.
+/// A fault, with the line of the offending name or predicate.
 #[derive(Clone, Copy, Debug, PartialEq, Eq)]
 pub struct TypeFault {
     pub kind: TypeFaultKind,

@@ -1,0 +1,60 @@
+-- What `split_once` makes of a size word.
+use Rattle.std.proofs.Common.{◌≡◌, ◌≢◌, ◌+◌, ◌++◌, ◌∷◌, ◌∙◌, ◌<◌, ℕ, List, [], length, get_or, take, map, Option, Some, None, MatchOption, Bor, sym, ap, refl, subst, append_assoc, lit<, arith}
+use Rattle.std.specs.List.{AllZip}
+use Rattle.std.specs.Str.Parse.{IsNumeral}
+use Rattle.std.proofs.lemmas.List.{get_or-map, get_or_default, length-map, map_more}
+use Rattle.std.proofs.lemmas.Str.Pattern.{IsSplitOnceResult, split_after, split_parts}
+use Rattle.zf_command.specs.Jobs.{IsBadSize, HasBadSize, ReadsNumber, ReadsSize}
+use Rattle.zf_command.specs.declared.job.Size.{Size}
+
+-- where a word is read as a size, it is parted into the name and the digits
+pub parts_are : (word : List ℕ) (r : Option (Bor (List ℕ) × Bor (List ℕ))) (size : Size) → IsSplitOnceResult 61 word r → (read : ReadsSize word size)
+    → MatchOption r ⊥ (λ x. (x.0.now ≡ size.name) × (x.1.now ≡ read.digits))
+parts_are word r size split read =
+    split_after 61 word size.name read.digits r split (lit< tt) (read.parted ∙ append_assoc size.name (61 ∷ []) read.digits) (λ i. read.first i 0)
+
+pub bad_unparted : (word : List ℕ) → IsSplitOnceResult 61 word None → IsBadSize word
+bad_unparted word split size read = parts_are word None size split read
+
+empty_from_length : (xs : List ℕ) → length xs ≡ 0 → xs ≡ []
+empty_from_length [] e = refl
+empty_from_length (x ∷ xs) e = absurd (omega arith)
+
+module _ (word : List ℕ) (parts : Bor (List ℕ) × Bor (List ℕ)) (split : IsSplitOnceResult 61 word (Some parts)) where
+  pub bad_unnamed : length parts.0.now ≡ 0 → IsBadSize word
+  bad_unnamed none size read = read.named (sym (parts_are word (Some parts) size split read).0 ∙ empty_from_length parts.0.now none)
+
+  pub bad_number : (IsNumeral 10 parts.1.now → ⊥) → IsBadSize word
+  bad_number h size read = h (subst (IsNumeral 10) (sym (parts_are word (Some parts) size split read).1) read.counted.0)
+
+  pub reads_parts : (n : ℕ) → (length parts.0.now ≡ 0 → ⊥) → ReadsNumber parts.1.now n → ReadsSize word (record { name = parts.0.now; count = n })
+  reads_parts n named counted =
+      let cut = split_parts 61 word (Some parts) split (lit< tt) in
+      record {
+        digits = parts.1.now;
+        parted = cut.0 ∙ sym (append_assoc parts.0.now (61 ∷ []) parts.1.now);
+        first = λ i d below. subst (λ b. b ≢ 61) (get_or_default parts.0.now i 0 d below) (cut.1 i below);
+        named = λ e. named (ap length e);
+        counted = counted;
+      }
+
+all_zip_push : {A B : Type 0} (R : A → B → Type 0) (xs : List A) (ys : List B) (x : A) (y : B) → AllZip R xs ys → R x y → AllZip R (xs ++ x ∷ []) (ys ++ y ∷ [])
+all_zip_push R [] [] x y all here = (here, tt)
+all_zip_push R [] (b ∷ ys) x y all here = absurd all
+all_zip_push R (a ∷ xs) [] x y all here = absurd all
+all_zip_push R (a ∷ xs) (b ∷ ys) x y all here = (all.0, all_zip_push R xs ys x y all.1 here)
+
+abbrev texts : List (Bor (List ℕ)) → List (List ℕ)
+texts words = map (λ w. w.now) words
+
+-- one more word is read
+pub reads_more : (words : List (Bor (List ℕ))) (sizes : List Size) (i : ℕ) (d : Bor (List ℕ)) (size : Size) → i < length words
+    → AllZip ReadsSize (texts (take i words)) sizes → ReadsSize (get_or words i d).now size → AllZip ReadsSize (texts (take (i + 1) words)) (sizes ++ size ∷ [])
+reads_more words sizes i d size below all read =
+    rw (map_more (λ (w : Bor (List ℕ)). w.now) words i d below) (all_zip_push ReadsSize (texts (take i words)) sizes _ size all read)
+
+-- one of the words is bad
+pub bad_among : (words : List (Bor (List ℕ))) (i : ℕ) (d : Bor (List ℕ)) → i < length words → IsBadSize (get_or words i d).now → HasBadSize (texts words)
+bad_among words i d below bad =
+    let within : i < length (texts words) = rw (length-map words (λ (w : Bor (List ℕ)). w.now)) below in
+    ((get_or words i d).now, (i, within, get_or-map (λ (w : Bor (List ℕ)). w.now) words i d _ below), bad)

@@ -1,0 +1,7 @@
+use Rattle.std.proofs.Common.{map, take}
+use Rattle.std.specs.List.{AllZip}
+use Rattle.zf_command.specs.Jobs.{ReadsSize}
+use Rattle.zf_command.proofs.sizes.sizes_of.Given as goal
+
+abbrev pub invariant-loop-word : goal.invariant-loop-word
+invariant-loop-word l = AllZip ReadsSize (map (λ w. w.now) (take l.word-index l.words)) l.sizes

@@ -1,0 +1,38 @@
+-- The command line, as the literals that `clap` reads words by: `show FILE SCHEMA [NAME=SIZE]...`.
+use Rattle.std.specs.Prelude.{◌≡◌, Some, codes, true, false}
+use Rattle.clap.specs.Words.{App, Rule, Text, app_of, new_app, new_rule, rule_of, with_rule, with_subcommand}
+use Rattle.clap.specs.declared.builder.ArgAction.TheVariants.{Append}
+use Rattle.clap.specs.declared.builder.Arg.{Arg}
+use Rattle.clap.specs.declared.builder.command.Command.{Command}
+use Rattle.clap.specs.declared.builder.command.Command.TheViews.{out-Command}
+
+-- an argument that must be given
+abbrev pub required_rule : Text → Rule
+required_rule name = record (new_rule name) { required = true }
+
+-- `[NAME=SIZE]...`
+abbrev pub sizes_rule : Rule
+sizes_rule = record (new_rule (codes "NAME=SIZE")) { action = Some Append }
+
+-- `show FILE SCHEMA [NAME=SIZE]...`
+abbrev pub show_app : App
+show_app = with_rule (with_rule (with_rule (new_app (codes "show")) (required_rule (codes "FILE"))) (required_rule (codes "SCHEMA"))) sizes_rule
+
+-- `zf`, which wants a subcommand, and whose words do not begin with its own name
+abbrev pub zf_top : App
+zf_top = record (new_app (codes "zf")) { top = record (new_app (codes "zf")).top { no_binary_name = true; subcommand_required = true } }
+
+abbrev pub zf_app : App
+zf_app = with_subcommand zf_top show_app.top
+
+-- the argument is the rule, and is for its own command alone
+abbrev pub IsArg : Arg → Rule → Type 0
+IsArg a r = (rule_of a ≡ r) × (a.global ≡ false)
+
+-- the command is the literal, and has no argument for its subcommands
+abbrev pub IsCommand : Command → App → Type 0
+IsCommand c a = (app_of c ≡ a) × ((out-Command c).has_globals ≡ false)
+
+-- the same of a command that wants a subcommand
+abbrev pub IsTop : Command → App → Type 0
+IsTop c a = (app_of c ≡ a) × ((out-Command c).has_globals ≡ false) × ((out-Command c).subcommand_required ≡ true)

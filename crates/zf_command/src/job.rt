@@ -1,0 +1,46 @@
+//! Jobs, and what a command line asks for.
+ghost use Rattle.std.specs.Prelude.{◌≡◌};
+
+use std::alloc::AllocError;
+use thiserror::Error;
+use zf_data::{Items, Word};
+
+/// A size word: the name and the size of a given set.
+#[derive(Debug, Drop)]
+pub struct Size {
+    pub name: Word,
+    pub count: u64,
+}
+
+#[derive(Debug, Drop)]
+pub enum Job {
+    /// The bindings of the schema, where the given sets have these sizes.
+    Show { schema: Word, sizes: Items<Size> },
+}
+
+#[derive(Debug, Drop)]
+pub enum Asked {
+    /// The file, as it was given, and the job on it.
+    Work(Word, Job),
+    /// The text of help.
+    Help(Word),
+}
+
+/// Why words are not read.
+#[derive(Clone, Copy, Debug, PartialEq, Eq, Error)]
+pub enum UsageFault {
+    #[error("bad arguments")]
+    BadWords,
+    #[error("out of memory")]
+    OutOfMemory,
+}
+
+impl From<AllocError> for UsageFault {
+    ghost use Rattle.zf_command.specs.declared.job.UsageFault.TheVariants.{OutOfMemory};
+
+    ghost from_gives = { λ _ fault. fault ≡ OutOfMemory };
+
+    fn from(_error: AllocError) -> UsageFault {
+        UsageFault::OutOfMemory
+    }
+}

@@ -1,0 +1,10 @@
+//! The words of the command line: `job_of` gives the file and the job that they ask for.
+#![tactic(auto)]
+
+pub mod asked;
+mod command;
+pub mod job;
+mod matches;
+mod sizes;
+#[cfg(test)]
+mod tests;

@@ -1,0 +1,28 @@
+//! The values of `clap`'s matches.
+ghost use Rattle.std.specs.Prelude.{◌≡◌, IfOk, map, option_map};
+ghost use Rattle.clap.specs.Words.{all_of, first_of, found_of, rows_of};
+ghost use Rattle.zf_command.specs.Jobs.{value_of};
+
+use clap::ArgMatches;
+use std::alloc::{AllocError, Global};
+use zf_data::Word;
+
+/// The value of an argument that is required.
+pub fn value_in(alloc: Global, matches: &ArgMatches<'_>, id: &str) -> Result<Word, AllocError>
+    ensures { IfOk result (λ w. w ≡ value_of id.now (rows_of (found_of matches.now))) }
+{
+    Word::of(alloc, first_in(matches, id).unwrap_or(""))
+}
+
+fn first_in<'a>(matches: &ArgMatches<'a>, id: &str) -> Option<&'a str>
+    ensures { option_map (λ v. v.now) result ≡ first_of id.now (rows_of (found_of matches.now)) }
+{
+    matches.get_str(id)
+}
+
+/// The values of an argument, if it was given.
+pub fn all_in<'m, 'a>(matches: &'m ArgMatches<'a>, id: &str) -> Option<&'m [&'a str]>
+    ensures { option_map (λ s. map (λ v. v.now) s.now) result ≡ all_of id.now (rows_of (found_of matches.now)) }
+{
+    matches.get_strs(id)
+}

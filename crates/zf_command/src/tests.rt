@@ -1,0 +1,58 @@
+//! What command lines ask for.
+use crate::asked::job_of;
+use crate::job::{Asked, Job, UsageFault};
+use std::alloc::{AllocError, Global};
+use std::test::Fail;
+
+/// Words, and what they ask for, in short.
+static LINES: [(&[&str], &str); 15] = [
+    (&["show", "-", "S", "NAME=2"], "- S NAME:2"),
+    (&["show", "s.tex", "S"], "s.tex S"),
+    (
+        &["show", "s.tex", "S", "A=1", "B=02", "A=0"],
+        "s.tex S A:1 B:2 A:0",
+    ),
+    (
+        &["show", "s.tex", "S", "NAME=99999999999999999999999"],
+        "s.tex S NAME:18446744073709551615",
+    ),
+    (&["--help"], "help"),
+    (&["show", "--help"], "help"),
+    (&[], "bad arguments"),
+    (&["check", "s.tex"], "bad arguments"),
+    (&["show", "s.tex"], "bad arguments"),
+    (&["show", "--limit", "0", "s.tex", "S"], "bad arguments"),
+    (&["show", "s.tex", "S", "NAME"], "bad arguments"),
+    (&["show", "s.tex", "S", "NAME="], "bad arguments"),
+    (&["show", "s.tex", "S", "=2"], "bad arguments"),
+    (&["show", "s.tex", "S", "NAME==2"], "bad arguments"),
+    (&["show", "s.tex", "S", "NAME=+2"], "bad arguments"),
+];
+
+#[test]
+fn reads_command_lines(rt: HostRuntime) -> Result<(), Fail> {
+    for (words, short) in &LINES {
+        let asked = in_short(rt.alloc(), job_of(rt.alloc(), words))?;
+        assert_eq!(rt; asked.as_str(), *short);
+    }
+    Ok(())
+}
+
+fn in_short(alloc: Global, asked: Result<Asked, UsageFault>) -> Result<String, AllocError> {
+    match asked {
+        Ok(Asked::Work(file, job)) => {
+            let Job::Show { schema, sizes } = job;
+            let mut text = format!(in alloc; "{} {}", file.as_str(), schema.as_str())?;
+            for size in sizes.as_slice() {
+                text.push_str(format!(in alloc;
+                    " {}:{}",
+                    size.name.as_str(),
+                    size.count
+                )?.as_str())?;
+            }
+            Ok(text)
+        }
+        Ok(Asked::Help(_text)) => String::from_str(alloc, "help"),
+        Err(fault) => format!(in alloc; "{fault}"),
+    }
+}

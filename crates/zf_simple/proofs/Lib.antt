@@ -1,0 +1,5 @@
+pub mod typing
+pub mod Ascending
+pub mod AllRows
+pub mod NextRow
+pub mod Accepting

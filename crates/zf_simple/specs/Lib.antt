@@ -1,0 +1,10 @@
+pub mod Names
+pub mod Typing
+pub mod Offences
+pub mod Refusals
+pub mod Checking
+pub mod Laws
+pub mod Bindings
+pub mod Rows
+pub mod Places
+pub mod Sizes

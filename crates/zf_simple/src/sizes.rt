@@ -1,0 +1,141 @@
+//! The sizes of the given sets.
+ghost use Rattle.std.specs.Prelude.{◌≡◌, ◌↔◌, Contains, IsTrue, IfOk, IfErr, OnOk, MatchOption};
+ghost use Rattle.zf_simple.specs.Sizes.{names, IsAccepted, AreAccepted, Refuses, IsRefusal, AreSizes};
+
+use zf_command::job::Size;
+use std::alloc::{AllocError, AllocFailed, Global};
+use thiserror::Error;
+use zf_data::Text;
+
+/// The greatest size of a given set.
+pub const SET_MAX: u64 = 65_536;
+
+/// Why the stated sizes do not serve, with the name in question.
+#[derive(Debug, Drop, Error)]
+pub enum SizeFault {
+    #[error("no size for a given set")]
+    NoSize(Text),
+    #[error("a size for a name that is no given set")]
+    NotGiven(Text),
+    #[error("two sizes for a given set")]
+    SizeTwice(Text),
+    #[error("size of a given set is too large")]
+    SizeTooLarge(Text),
+    #[error("out of memory")]
+    OutOfMemory,
+}
+
+impl From<AllocError> for SizeFault {
+    ghost use Rattle.zf_simple.specs.declared.sizes.SizeFault.TheVariants.{OutOfMemory};
+
+    ghost from_gives = { λ _ fault. fault ≡ OutOfMemory };
+
+    fn from(_error: AllocError) -> SizeFault {
+        SizeFault::OutOfMemory
+    }
+}
+
+impl<T: Drop> From<AllocFailed<T>> for SizeFault {
+    ghost use Rattle.zf_simple.specs.declared.sizes.SizeFault.TheVariants.{OutOfMemory};
+
+    ghost from_gives = { λ _ fault. fault ≡ OutOfMemory };
+
+    fn from(_error: AllocFailed<T>) -> SizeFault {
+        SizeFault::OutOfMemory
+    }
+}
+
+/// The size of each given set, in the order of `sets`.
+pub fn sizes_of(alloc: Global, sets: &[Text], sizes: &[Size]) -> Result<Vec<u64>, SizeFault>
+    ensures ok { IfOk result (λ counts. AreSizes sets.now sizes.now counts.items) }
+    ensures err { IfErr result (IsRefusal sets.now sizes.now) }
+{
+    check_sizes(alloc, sets, sizes)?;
+    let mut counts = Vec::new(alloc);
+    for set in sets {
+        let Some(count) = count_of(sizes, set.as_slice()) else {
+            return Err(SizeFault::NoSize(set.copy(alloc)?));
+        };
+        counts.push(count)?;
+    }
+    Ok(counts)
+}
+
+/// Refuses the first size that is not accepted.
+fn check_sizes(alloc: Global, sets: &[Text], sizes: &[Size]) -> Result<(), SizeFault>
+    ensures ok { OnOk result (AreAccepted sets.now sizes.now) }
+    ensures err { IfErr result (IsRefusal sets.now sizes.now) }
+{
+    for (i, size) in sizes.iter().enumerate() {
+        check_size(alloc, sets, &sizes[..i], size)?;
+    }
+    Ok(())
+}
+
+/// Refuses a size that is not accepted after the earlier ones.
+fn check_size(alloc: Global, sets: &[Text], earlier: &[Size], size: &Size) -> Result<(), SizeFault>
+    ensures ok { OnOk result (IsAccepted sets.now earlier.now size.now) }
+    ensures err { IfErr result (Refuses sets.now earlier.now size.now) }
+{
+    let name = size.name.as_bytes();
+    if !is_given(sets, name) {
+        return Err(SizeFault::NotGiven(Text::of(alloc, name)?));
+    }
+    if count_of(earlier, name).is_some() {
+        return Err(SizeFault::SizeTwice(Text::of(alloc, name)?));
+    }
+    if size.count > SET_MAX {
+        return Err(SizeFault::SizeTooLarge(Text::of(alloc, name)?));
+    }
+    Ok(())
+}
+
+/// Whether a given set has the name.
+fn is_given(sets: &[Text], name: &[u8]) -> bool
+    ensures { IsTrue result ↔ Contains sets.now name.now }
+{
+    for set in sets {
+        if set.as_slice() == name {
+            return true;
+        }
+    }
+    false
+}
+
+/// The size that is stated for the name, if there is one.
+fn count_of(sizes: &[Size], name: &[u8]) -> Option<u64>
+    ensures { MatchOption result (¬ (Contains (names sizes.now) name.now)) (λ count. Contains sizes.now (record { name = name.now; count = count })) }
+{
+    for size in sizes {
+        if size.name.as_bytes() == name {
+            return Some(size.count);
+        }
+    }
+    None
+}
+
+#[cfg(test)]
+mod tests {
+    use super::*;
+    use std::test::Fail;
+    use zf_data::Word;
+
+    #[test]
+    fn in_the_order_of_the_sets(rt: HostRuntime) -> Result<(), Fail> {
+        let mut sets = Vec::new(rt.alloc());
+        sets.push(Text::of(rt.alloc(), b"NAME")?)?;
+        sets.push(Text::of(rt.alloc(), b"DATE")?)?;
+        let mut sizes = Vec::new(rt.alloc());
+        sizes.push(Size {
+            name: Word::of(rt.alloc(), "DATE")?,
+            count: 0,
+        })?;
+        sizes.push(Size {
+            name: Word::of(rt.alloc(), "NAME")?,
+            count: SET_MAX,
+        })?;
+        let counts = sizes_of(rt.alloc(), &sets, &sizes)?;
+        assert_eq!(rt; counts.as_slice(), [SET_MAX, 0].as_slice());
+        Ok(())
+    }
+}
