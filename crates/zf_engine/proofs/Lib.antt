@@ -1,1 +1,4 @@
 pub mod Separated
+pub mod Found
+pub mod Refusing
+pub mod Parts

@@ -1,16 +1,13 @@
 -- What a run's reading and writing leave, by how it ended.
 use Rattle.std.specs.Prelude.{◌≡◌, ◌≤◌, ℕ, ◌+◌, ◌⊎◌, List, ◌++◌, length, Option, Result, Err}
 use Rattle.std.specs.Io.KnownBytes.{Appends, Consumes, IsAtEnd}
+use Rattle.zf_text.specs.declared.scan.TheConstants.{SOURCE_MAX}
 use Rattle.zf_engine.specs.declared.fault.RunFault.{RunFault}
 use Rattle.zf_engine.specs.declared.fault.RunFault.TheVariants.{ReadFailed, WriteFailed}
 
--- the greatest length of a source
-abbrev pub source_max : ℕ
-source_max = 1048576
-
 -- the reader gave these bytes, and is at its end or gave one byte more than a source may have
 abbrev pub Gave : Option (List ℕ) → Option (List ℕ) → List ℕ → Type 0
-Gave old new bytes = Consumes old new bytes × (IsAtEnd new ⊎ (length bytes ≡ source_max + 1))
+Gave old new bytes = Consumes old new bytes × (IsAtEnd new ⊎ (length bytes ≡ SOURCE_MAX + 1))
 
 -- however the reading ended, the reader gave at most so many bytes
 abbrev pub GaveAtMost : ℕ → Option (List ℕ) → Option (List ℕ) → Type 0

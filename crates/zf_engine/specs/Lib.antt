@@ -1,3 +1,5 @@
 pub mod Counts
 pub mod Faults
 pub mod Texts
+pub mod Answers
+pub mod Stops

@@ -3,6 +3,10 @@
 
 pub mod counted;
 pub mod fault;
+mod prepare;
+pub mod program;
 pub mod reading;
+pub mod run;
+mod show;
 pub mod texts;
 pub mod writing;

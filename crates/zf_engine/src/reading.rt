@@ -1,15 +1,13 @@
 //! The loop that reads a source.
 ghost use Rattle.std.specs.Prelude.{◌≡◌, ◌≤◌, ◌+◌, IfOk, vec_len};
 ghost use Rattle.zf_engine.specs.Counts.{device_of, failures_of};
-ghost use Rattle.zf_engine.specs.Faults.{Gave, GaveAtMost, read_failures, source_max, write_failures};
+ghost use Rattle.zf_engine.specs.Faults.{Gave, GaveAtMost, read_failures, write_failures};
 
 use crate::counted::Counted;
 use crate::fault::RunFault;
 use std::alloc::Global;
 use std::io::Read;
-
-/// The greatest length of a source.
-pub const SOURCE_MAX: usize = 1_048_576;
+use zf_text::scan::SOURCE_MAX;
 
 const CHUNK: usize = 65_536;
 
@@ -18,8 +16,8 @@ const CHUNK: usize = 65_536;
 pub fn read_source<R: Read>(alloc: Global, reader: &mut Counted<R>) -> Result<Vec<u8>, RunFault>
     requires { failures_of reader.old ≡ 0 }
     ensures gave { IfOk result (λ v. Gave (R.remaining (device_of reader.old)) (R.remaining (device_of reader.new)) v.items) }
-    ensures bound { GaveAtMost (source_max + 1) (R.remaining (device_of reader.old)) (R.remaining (device_of reader.new)) }
-    ensures len { IfOk result (λ v. vec_len v ≤ source_max + 1) }
+    ensures bound { GaveAtMost (SOURCE_MAX + 1) (R.remaining (device_of reader.old)) (R.remaining (device_of reader.new)) }
+    ensures len { IfOk result (λ v. vec_len v ≤ SOURCE_MAX + 1) }
     ensures count { failures_of reader.new ≡ read_failures result }
     ensures unwritten { write_failures result ≡ 0 }
 {

@@ -8,3 +8,5 @@ pub mod Bindings
 pub mod Rows
 pub mod Places
 pub mod Sizes
+pub mod Reading
+pub mod Unread

@@ -13,6 +13,7 @@ mod limit;
 mod names;
 mod paragraph;
 mod property;
+pub mod reading;
 mod refusal;
 mod side;
 mod signature;

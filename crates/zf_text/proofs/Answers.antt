@@ -1,5 +1,5 @@
 -- What an answer of the rules says of the trees that read the tokens.
-use Rattle.std.proofs.Common.{◌≡◌, List, [], ◌∷◌, Option, Some, None, Result, Ok, Err, map, lit≤, sym, ◌∙◌}
+use Rattle.std.proofs.Common.{◌≡◌, ◌⊎◌, ℕ, refl, inl, inr, List, [], ◌∷◌, Option, Some, None, Result, Ok, Err, map, lit≤, sym, ◌∙◌}
 use Rattle.std.specs.List.{AllByRecursion}
 use Rattle.zf_text.specs.declared.fault.TextFault.{TextFault}
 use Rattle.zf_text.specs.declared.fault.TextFaultKind.{TextFaultKind}
@@ -7,8 +7,10 @@ use Rattle.zf_text.specs.declared.fault.TextFaultKind.TheVariants as fault
 use Rattle.zf_text.specs.declared.token.Token.{Token}
 use Rattle.zf_text.specs.declared.tree.ZBox.{ZBox}
 use Rattle.zf_text.specs.Basic.{IsBasic, IsBasicPredicate, IsBasicDecl, IsBasicParagraph}
+use Rattle.zf_text.specs.declared.tree.Spec.{Spec}
+use Rattle.zf_text.specs.Cuts.{IsCutInto, IsWantOfMemory}
 use Rattle.zf_text.specs.Levels.{BoxIsLevelled, ParagraphIsLevelled, DeclIsLevelled, IsLevelled}
-use Rattle.zf_text.specs.Parsing.{ReadsBasic, Refuses}
+use Rattle.zf_text.specs.Parsing.{ReadsBasic, Refuses, Parses, ReadsSpec, RefusesSource}
 use Rattle.zf_text.specs.Reading.{Outcome, read_all, Fails}
 use Rattle.zf_text.specs.Reads.{Reads}
 use Rattle.zf_text.specs.Separators.{Symbol, reduced}
@@ -47,9 +49,23 @@ none_reads tokens e boxes r =
     let both : ◌≡◌ {A = Outcome (List ZBox)} None (Some (x.0, [])) = sym e ∙ x.1 in
     cc
 
-pub refused : (kind : TextFaultKind) (tokens : List Token) → Fails (read_all (reduced tokens)) kind → Refuses kind tokens
-refused fault.OutOfMemory tokens h = tt
-refused fault.Unexpected tokens h = none_reads tokens h
-refused fault.NotInProfile tokens h = none_reads tokens h
-refused fault.BadByte tokens h = absurd h
-refused _ tokens h = absurd h
+pub refused : (kind : TextFaultKind) (line : ℕ) (tokens : List Token) → Fails (read_all (reduced tokens)) kind line → Refuses kind line tokens
+refused fault.OutOfMemory line tokens h = h
+refused fault.Unexpected line tokens h = none_reads tokens h
+refused fault.NotInProfile line tokens h = none_reads tokens h
+refused fault.BadByte line tokens h = absurd h
+refused _ line tokens h = absurd h
+
+-- ---- a source
+
+refuses_source : (kind : TextFaultKind) (line : ℕ) (source : List ℕ) (tokens : List Token) → IsCutInto source tokens → Refuses kind line tokens
+    → IsWantOfMemory (record { kind = kind; line = line }) ⊎ RefusesSource source (record { kind = kind; line = line })
+refuses_source fault.OutOfMemory line source tokens cut h = inl (refl, h)
+refuses_source fault.Unexpected line source tokens cut h = inr (inr (tokens, cut, h, tt))
+refuses_source fault.NotInProfile line source tokens cut h = inr (inr (tokens, cut, h, tt))
+refuses_source fault.BadByte line source tokens cut h = absurd h
+refuses_source _ line source tokens cut h = absurd h
+
+pub reads_spec : (result : Result Spec TextFault) (source : List ℕ) (tokens : List Token) → IsCutInto source tokens → Parses result tokens → ReadsSpec result source
+reads_spec (Ok spec) source tokens cut h = (tokens, cut, h)
+reads_spec (Err fault) source tokens cut h = refuses_source fault.kind fault.line source tokens cut h

@@ -19,7 +19,7 @@ rolled x = fold-roll-Term Tree (Relation × Tree) (List Name × Tree) tree_step 
 pub of-Name : (n : Name) → tree_of (v.Name n) ≡ named n
 of-Name n = ap tree_of (sym (v.rolls-Name n)) ∙ rolled (Term-F.Name n)
 
-of-Chain : (l : ℕ) (t : Term) (ks : List Link) → tree_of (v.Chain l t ks) ≡ chain l (tree_of t) (links (map link_of ks))
+pub of-Chain : (l : ℕ) (t : Term) (ks : List Link) → tree_of (v.Chain l t ks) ≡ chain l (tree_of t) (links (map link_of ks))
 of-Chain l t ks = ap tree_of (sym (v.rolls-Chain l t ks)) ∙ rolled (Term-F.Chain l t ks)
 
 of-Link : (k : Link-F Term Link VarDecl) → link_of (roll-Link k) ≡ (k.relation, tree_of k.right)

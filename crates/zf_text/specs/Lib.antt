@@ -1,8 +1,11 @@
+pub mod Pieces
+pub mod Cuts
+pub mod Separators
 pub mod Trees
 pub mod Levels
-pub mod Separators
 pub mod Spelling
 pub mod Reads
 pub mod Basic
 pub mod Parsing
+pub mod Steps
 pub mod Reading

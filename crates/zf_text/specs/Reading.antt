@@ -211,12 +211,12 @@ IsRefusal fault.Unexpected = Unit {0}
 IsRefusal fault.NotInProfile = Unit {0}
 IsRefusal _ = ⊥
 
-abbrev pub Fails : {A : Type 0} → Outcome A → TextFaultKind → Type 0
-Fails outcome fault.OutOfMemory = Unit {0}
-Fails outcome fault.Unexpected = outcome ≡ None
-Fails outcome fault.NotInProfile = outcome ≡ None
-Fails outcome _ = ⊥
+abbrev pub Fails : {A : Type 0} → Outcome A → TextFaultKind → ℕ → Type 0
+Fails outcome fault.OutOfMemory line = line ≡ 0
+Fails outcome fault.Unexpected line = outcome ≡ None
+Fails outcome fault.NotInProfile line = outcome ≡ None
+Fails outcome _ line = ⊥
 
 abbrev pub Gives : {A : Type 0} → Outcome A → Result A TextFault → List Symbol → Type 0
 Gives outcome (Ok a) after = outcome ≡ Some (a, after)
-Gives outcome (Err e) after = Fails outcome e.kind
+Gives outcome (Err e) after = Fails outcome e.kind e.line

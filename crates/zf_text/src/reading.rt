@@ -1,6 +1,6 @@
-//! Trees out of tokens.
+//! Trees out of tokens, and out of a source.
 ghost use Rattle.std.specs.Prelude.{◌≡◌, IfOk, map, drop};
-ghost use Rattle.zf_text.specs.Parsing.{Parses};
+ghost use Rattle.zf_text.specs.Parsing.{Parses, ReadsSpec};
 ghost use Rattle.zf_text.specs.Reading as spec;
 ghost use Rattle.zf_text.specs.Reading.{Gives};
 ghost use Rattle.zf_text.specs.Separators.{reduced, starts_closed, symbol_of};
@@ -8,6 +8,7 @@ ghost use Rattle.zf_text.specs.Separators.{reduced, starts_closed, symbol_of};
 use crate::cursor::Cursor;
 use crate::fault::TextFault;
 use crate::rules::boxes;
+use crate::scan::scan;
 use crate::token::Token;
 use crate::tree::{Spec, ZBox};
 use std::alloc::{AllocError, Global};
@@ -64,4 +65,12 @@ pub fn parse(alloc: Global, tokens: &[Token]) -> Result<Spec, TextFault>
     let mut cursor = Cursor::new(&reduced);
     let boxes = all(alloc, &mut cursor)?;
     Ok(Spec { boxes })
+}
+
+/// The tree of a source: `scan`, and then `parse`.
+pub fn read_spec(alloc: Global, source: &[u8]) -> Result<Spec, TextFault>
+    ensures { ReadsSpec result source.now }
+{
+    let tokens = scan(alloc, source)?;
+    parse(alloc, tokens.as_slice())
 }

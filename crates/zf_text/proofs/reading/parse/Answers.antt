@@ -10,8 +10,9 @@ use Rattle.zf_text.proofs.reading.parse.Goals as goal
 pub returns-in_err-boxes : goal.returns-in_err-boxes
 returns-in_err-boxes c =
     let cursor_is : c.new-cursor.result ≡ reduced c.args.tokens.now = c.new-cursor.ensures ∙ ap (map (λ t. symbol_of t.now)) c.deref.ensures.value ∙ c.in_ok-reduced.ensures in
-    let fails : Fails (read_all (reduced c.args.tokens.now)) c.in_err-boxes.field-0.0.kind = subst (λ ts. Fails (read_all ts) c.in_err-boxes.field-0.0.kind) cursor_is c.in_err-boxes.ensures in
-    let h : Refuses c.in_err-boxes.field-0.0.kind c.args.tokens.now = refused c.in_err-boxes.field-0.0.kind c.args.tokens.now fails in
+    let fault = c.in_err-boxes.field-0.0 in
+    let fails : Fails (read_all (reduced c.args.tokens.now)) fault.kind fault.line = subst (λ ts. Fails (read_all ts) fault.kind fault.line) cursor_is c.in_err-boxes.ensures in
+    let h : Refuses fault.kind fault.line c.args.tokens.now = refused fault.kind fault.line c.args.tokens.now fails in
     search rules
 
 pub returns : goal.returns

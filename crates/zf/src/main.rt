@@ -1,0 +1,29 @@
+//! The program.
+#![tactic(auto)]
+
+use std::process::ExitCode;
+use std::rt::Env;
+use std::{env, io};
+use zf_command::job::UsageFault;
+use zf_engine::program::{program, refuse};
+
+fn main(rt: HostRuntime) -> ExitCode {
+    match words_of(&rt) {
+        Ok(words) => ExitCode::from(program(&rt, words.as_slice())),
+        Err(error) => ExitCode::from(refuse(&rt, fault_of(error))),
+    }
+}
+
+/// The words after the program's own name.
+fn words_of<R: Env + AllocGlobal>(rt: &R) -> io::Result<Vec<String>> {
+    let words = env::args(rt)?.skip(1).collect(rt.alloc())?;
+    Ok(words)
+}
+
+/// Words that cannot be read as text are bad arguments.
+fn fault_of(error: io::Error) -> UsageFault {
+    match error.kind() {
+        io::ErrorKind::OutOfMemory => UsageFault::OutOfMemory,
+        _ => UsageFault::BadWords,
+    }
+}

@@ -1,0 +1,89 @@
+//! All that the program does: words in, a status out.
+ghost use Rattle.std.specs.Prelude.{◌≡◌};
+
+use crate::counted::Counted;
+use crate::fault::{RunFault, Status};
+use crate::run::run;
+use std::convert::AsStr;
+use std::fs::File;
+use std::io;
+use std::io::Read;
+use std::rt::Files;
+use zf_command::asked::job_of;
+use zf_command::job::{Asked, Job, UsageFault};
+
+/// Does what the words after the program's own name ask for. The answer is the status.
+pub fn program<R: Files + Input + Print + Eprint + AllocGlobal, S: AsStr>(
+    rt: &R,
+    words: &[S],
+) -> u8 {
+    match job_of(rt.alloc(), words) {
+        Ok(Asked::Work(file, job)) => work(rt, file.as_str(), &job),
+        Ok(Asked::Help(text)) => help(rt, text.as_str()),
+        Err(fault) => refuse(rt, fault),
+    }
+}
+
+/// Says why words are refused. The answer is the status.
+pub fn refuse<R: Eprint>(rt: &R, fault: UsageFault) -> u8 {
+    match fault {
+        UsageFault::BadWords => complain(rt, "zf: bad arguments", 2),
+        UsageFault::OutOfMemory => complain(rt, "zf: out of memory", 4),
+    }
+}
+
+/// Writes the text of help.
+fn help<R: Print + Eprint>(rt: &R, text: &str) -> u8 {
+    match rt.print(text) {
+        Ok(()) => 0,
+        Err(_) => complain(rt, "zf: write failed", 5),
+    }
+}
+
+/// Does the job on the file, which is standard input where it is `-`.
+fn work<R: Files + Input + Print + Eprint + AllocGlobal>(rt: &R, file: &str, job: &Job) -> u8 {
+    if file == "-" {
+        return work_over(rt, file, job, rt.reader());
+    }
+    match File::open(rt, file) {
+        Ok(opened) => work_over(rt, file, job, opened),
+        Err(_) => {
+            let _ = eprintln!(rt; "zf: cannot open {file}");
+            5
+        }
+    }
+}
+
+/// Does the job on what the device reads.
+fn work_over<R: Print + Eprint + AllocGlobal, D: Read + Drop>(
+    rt: &R,
+    file: &str,
+    job: &Job,
+    device: D,
+) -> u8 {
+    let mut reader = Counted::new(device);
+    let mut writer = Counted::new(io::writer(rt));
+    match run(rt.alloc(), job, file, &mut reader, &mut writer) {
+        Ok(status) => number_of(status),
+        Err(RunFault::ReadFailed) => complain(rt, "zf: read failed", 5),
+        Err(RunFault::WriteFailed) => complain(rt, "zf: write failed", 5),
+        Err(RunFault::OutOfMemory) => complain(rt, "zf: out of memory", 4),
+    }
+}
+
+fn number_of(status: Status) -> u8 {
+    match status {
+        Status::Done => 0,
+        Status::BadSpec => 1,
+        Status::BadRequest => 2,
+        Status::PastBounds => 3,
+    }
+}
+
+/// Says what went wrong, and gives the status. A write that fails changes nothing.
+fn complain<R: Eprint>(rt: &R, text: &str, status: u8) -> u8
+    ensures { result ≡ status }
+{
+    let _ = rt.eprintln(text);
+    status
+}

@@ -1,0 +1,23 @@
+-- What a term is seen as, by its form, and what a link of a chain is.
+use Rattle.std.proofs.Common.{◌≡◌, List}
+use Rattle.zf_text.specs.declared.token.Relation.{Relation}
+use Rattle.zf_text.specs.declared.tree.Name.{Name}
+use Rattle.zf_text.specs.declared.tree.Term.{Term}
+use Rattle.zf_text.specs.declared.tree.Link.{Link}
+use Rattle.zf_text.specs.declared.tree.VarDecl.{VarDecl}
+use Rattle.zf_text.specs.declared.tree.Term.TheOpen.{Term-F}
+use Rattle.zf_text.specs.declared.tree.Term.TheViews.{out-Term}
+use Rattle.zf_text.specs.declared.tree.Term.TheFolds.{fold_out-Term, fold_out-Link, map-Term}
+use Rattle.zf_text.specs.Trees.{Tree, tree_of, link_of, var_decl_of, tree_step, link_step, decl_step}
+
+-- one level of a term, with a tree in the place of each term in it
+abbrev pub form_of : Term-F Term Link VarDecl → Tree
+form_of x = tree_step (map-Term Term Link VarDecl Tree (Relation × Tree) (List Name × Tree) tree_of link_of var_decl_of x)
+
+pub seen_term : (t : Term) → tree_of t ≡ form_of (out-Term t)
+unfolding tree_of link_of var_decl_of
+seen_term t = fold_out-Term Tree (Relation × Tree) (List Name × Tree) tree_step link_step decl_step t
+
+pub seen_link : (k : Link) → link_of k ≡ (k.relation, tree_of k.right)
+unfolding tree_of link_of
+seen_link k = fold_out-Link Tree (Relation × Tree) (List Name × Tree) tree_step link_step decl_step k
