@@ -16,7 +16,8 @@ use Rattle.zf_simple.specs.Reading.{items_in}
 use Rattle.zf_simple.specs.Sizes.{AreSizes, IsRefusal}
 use Rattle.zf_text.specs.declared.fault.TextFault.{TextFault}
 use Rattle.zf_text.specs.declared.fault.TextFaultKind.TheVariants.{NotInProfile}
-use Rattle.zf_text.specs.Parsing.{ReadsSource, RefusesSource, IsWantOfMemory}
+use Rattle.zf_text.specs.Cuts.{IsWantOfMemory}
+use Rattle.zf_text.specs.Parsing.{RefusesSource}
 use Rattle.zf_text.specs.Trees.{BoxTree}
 use Rattle.zf_engine.specs.declared.fault.Status.{Status}
 use Rattle.zf_engine.specs.declared.fault.Status.TheVariants.{Done, BadSpec, BadRequest}

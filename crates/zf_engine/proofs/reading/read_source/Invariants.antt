@@ -2,12 +2,12 @@
 use Rattle.std.proofs.Common.{◌≡◌, ◌≤◌, ◌-◌, ◌+◌, vec_len}
 use Rattle.std.specs.Io.KnownBytes.{Consumes}
 use Rattle.zf_engine.specs.Counts.{device_of, failures_of}
-use Rattle.zf_engine.specs.Faults.{source_max}
+use Rattle.zf_text.specs.declared.scan.TheConstants.{SOURCE_MAX}
 use Rattle.zf_engine.proofs.reading.read_source.Given as goal
 
 abbrev pub invariant-loop-buffer : goal.invariant-loop-buffer
 invariant-loop-buffer g l = Consumes (g.R.Read.remaining (device_of l.initial.reader)) (g.R.Read.remaining (device_of l.reader)) l.source.items
-    × (failures_of l.reader ≡ 0) × (vec_len l.source ≤ source_max + 1)
+    × (failures_of l.reader ≡ 0) × (vec_len l.source ≤ SOURCE_MAX + 1)
 
 abbrev pub decreases-loop-buffer : goal.decreases-loop-buffer
-decreases-loop-buffer g l = source_max + 1 - vec_len l.source
+decreases-loop-buffer g l = SOURCE_MAX + 1 - vec_len l.source
