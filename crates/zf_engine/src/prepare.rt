@@ -13,8 +13,8 @@ use std::alloc::{AllocError, AllocFailed, Global};
 use zf_command::job::{Job, Size};
 use zf_data::{Items, Text};
 use zf_simple::checker::check;
-use zf_simple::find::schema;
 use zf_simple::fault::TypeFault;
+use zf_simple::find::schema;
 use zf_simple::globals::{Checked, Component, Schema};
 use zf_simple::item::Item;
 use zf_simple::reading::{Unread, items_of};
@@ -169,11 +169,7 @@ fn headings(
 }
 
 /// The number of elements of each component's set.
-fn ranges(
-    alloc: Global,
-    counts: &[u64],
-    components: &[Component],
-) -> Result<Vec<u64>, AllocError>
+fn ranges(alloc: Global, counts: &[u64], components: &[Component]) -> Result<Vec<u64>, AllocError>
     requires { All (λ c. c.set < length counts.now) components.now }
     ensures { IfOk result (λ v. v.items ≡ ranges counts.now components.now) }
 {

@@ -2,10 +2,10 @@
 ghost use Rattle.std.specs.Prelude.{◌≡◌, ◌++◌, IfOk, OnErr, OnOk, length, take};
 ghost use Rattle.zf_engine.specs.Texts as spec;
 
-use zf_simple::fault::{TypeFault, TypeFaultKind};
 use itoa::Buffer;
 use std::alloc::{AllocError, Global};
 use zf_data::Text;
+use zf_simple::fault::{TypeFault, TypeFaultKind};
 use zf_text::fault::{TextFault, TextFaultKind};
 
 /// The text of a fault of a text.

@@ -19,6 +19,5 @@ mod side;
 mod signature;
 pub mod sizes;
 pub mod test;
-
 #[cfg(test)]
 mod tests;

@@ -2,9 +2,9 @@
 ghost use Rattle.std.specs.Prelude.{◌≡◌, ◌↔◌, Contains, IsTrue, IfOk, IfErr, OnOk, MatchOption};
 ghost use Rattle.zf_simple.specs.Sizes.{names, IsAccepted, AreAccepted, Refuses, IsRefusal, AreSizes};
 
-use zf_command::job::Size;
 use std::alloc::{AllocError, AllocFailed, Global};
 use thiserror::Error;
+use zf_command::job::Size;
 use zf_data::Text;
 
 /// The greatest size of a given set.

@@ -52,7 +52,6 @@ module _ {A : Type 0} (part : Mark) (item : Parser A) (S : A → List Symbol →
 module _ {A T : Type 0} (part : Mark) (item : Parser A) (S : T → List Symbol → List Symbol → Type 0) (Is : T → Type 0)
     (complete : (t : T) (ts us : List Symbol) → Is t → S t ts us → (x : A) × (item ts ≡ Some (x, us)))
     (shorter : (t : T) (ts us : List Symbol) → Is t → S t ts us → length us ≤ length ts) where
-
   -- what follows the items read so far
   abbrev Further : List T → List Symbol → List Symbol → Type 0
   Further [] ts us = (ts ≡ us) × (is_mark part (first us) ≡ false)

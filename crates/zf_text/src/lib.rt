@@ -11,9 +11,8 @@ mod pieces;
 pub mod reading;
 mod rules;
 pub mod scan;
+#[cfg(test)]
+mod scan_tests;
 mod symbols;
 pub mod token;
 pub mod tree;
-
-#[cfg(test)]
-mod scan_tests;

@@ -1,8 +1,8 @@
 //! The lines of an answer, as they are printed.
 use std::test::Fail;
 use zf_data::Text;
-use zf_simple::fault::{TypeFault, TypeFaultKind};
 use zf_engine::texts;
+use zf_simple::fault::{TypeFault, TypeFaultKind};
 use zf_text::fault::{TextFault, TextFaultKind};
 
 #[test]

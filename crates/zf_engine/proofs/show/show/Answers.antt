@@ -24,8 +24,7 @@ lines-preserved g c =
     let (front, whole, written, none) = c.lines.invariant in
     let line = c.append_binding_line.new.line.items in
     let is_line : line ≡ binding_line c.args.components.now c.row.result.now = c.in_ok-append_binding_line.ensures.ok ∙ ap (λ l. l ++ binding_line c.args.components.now c.row.result.now) c.clear.ensures.items in
-    let next = line_first c.args.components.now c.lines.bindings c.advance.new.self c.row.result.now line c.advance.result c.lines-test.true c.advance.ensures c.row.ensures is_line in
-    (
+    let next = line_first c.args.components.now c.lines.bindings c.advance.new.self c.row.result.now line c.advance.result c.lines-test.true c.advance.ensures c.row.ensures is_line in (
       front ++ line,
       whole ∙ ap (λ l. front ++ l) next ∙ sym (append_assoc front line _),
       Appends-trans _ _ _ _ _ written (rw c.deref.ensures.value at c.in_ok-write_text.ensures.ok),
