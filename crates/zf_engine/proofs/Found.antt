@@ -1,5 +1,5 @@
 -- What is known of a schema that is found among the sound ones.
-use Rattle.std.proofs.Common.{◌≡◌, ◌<◌, ℕ, zero, suc, List, [], ◌∷◌, length, All, subst, sym}
+use Rattle.std.proofs.Common.{◌<◌, ℕ, zero, suc, List, [], ◌∷◌, length, All, subst, sym}
 use Rattle.std.proofs.lemmas.List.Elements.{All-nil, All-cons}
 use Rattle.zf_simple.specs.declared.globals.Component.{Component}
 use Rattle.zf_simple.specs.declared.globals.Schema as schema

@@ -1,5 +1,5 @@
 -- How the parts of an answer that are written come together.
-use Rattle.std.proofs.Common.{◌≡◌, ◌++◌, ◌∷◌, ℕ, List, [], Option, Some, Bool, true, false, Result, Ok, Err, OnErr, refl, sym, ap, subst, ◌∙◌, append_assoc, append-nil, inl, inr, codes}
+use Rattle.std.proofs.Common.{◌≡◌, ◌++◌, ℕ, List, [], Option, Some, Bool, true, false, Result, Ok, Err, OnErr, refl, sym, ap, ◌∙◌, append_assoc, append-nil, inl, inr, codes}
 use Rattle.std.specs.Bool.{MatchBool}
 use Rattle.std.specs.List.{flat_map}
 use Rattle.std.specs.Io.KnownBytes.{Appends, Keeps}

@@ -1,5 +1,5 @@
 -- The steps before the first binding make answers: refusals, or a walk whose lines are one.
-use Rattle.std.proofs.Common.{◌≡◌, ◌⊎◌, ◌≢◌, ℕ, List, [], length, All, slice_index, refl, sym, ap, ◌∙◌, subst, inl, inr, ⊎_elim}
+use Rattle.std.proofs.Common.{◌≡◌, ◌⊎◌, ◌≢◌, ℕ, List, [], length, All, slice_index, refl, sym, ap, ◌∙◌, subst, inl, inr}
 use Rattle.std.specs.List.{flat_map}
 use Rattle.std.proofs.lemmas.List.{length-map}
 use Rattle.std.proofs.lemmas.Slice.Zip.{AllZip-long}
@@ -11,16 +11,11 @@ use Rattle.zf_simple.specs.declared.globals.Schema as schema
 use Rattle.zf_simple.specs.declared.sizes.SizeFault.{SizeFault}
 use Rattle.zf_simple.specs.declared.test.Test.{Test}
 use Rattle.zf_simple.specs.Bindings.{IsBindings, IsWithin}
-use Rattle.zf_simple.specs.Names.{IsFirst, IsUnused, schema_name}
-use Rattle.zf_simple.specs.Reading.{items_in}
 use Rattle.zf_simple.specs.Sizes.{AreSizes, IsRefusal}
 use Rattle.zf_text.specs.declared.fault.TextFault.{TextFault}
-use Rattle.zf_text.specs.declared.fault.TextFaultKind.TheVariants.{NotInProfile}
 use Rattle.zf_text.specs.Cuts.{IsWantOfMemory}
 use Rattle.zf_text.specs.Parsing.{RefusesSource}
-use Rattle.zf_text.specs.Trees.{BoxTree}
-use Rattle.zf_engine.specs.declared.fault.Status.{Status}
-use Rattle.zf_engine.specs.declared.fault.Status.TheVariants.{Done, BadSpec, BadRequest}
+use Rattle.zf_engine.specs.declared.fault.Status.TheVariants.{Done, BadSpec}
 use Rattle.zf_engine.specs.declared.prepare.Ready.{Ready}
 use Rattle.zf_engine.specs.declared.prepare.Stop.{Stop}
 use Rattle.zf_engine.specs.declared.prepare.Stop.TheVariants.{Refused, OutOfMemory}

@@ -1,11 +1,10 @@
 -- What a run of `show` writes and answers, by the first case that applies.
-use Rattle.std.specs.Prelude.{◌≡◌, ◌≢◌, ◌⊎◌, ℕ, List, [], ◌++◌, map, codes, slice_index, slice_index_or, Option, Result, Ok, Err}
+use Rattle.std.specs.Prelude.{◌≡◌, ◌≢◌, ◌⊎◌, ℕ, List, [], ◌++◌, map, codes, slice_index, slice_index_or, Option, Ok, Err}
 use Rattle.std.specs.List.{flat_map}
 use Rattle.std.specs.Io.KnownBytes.{Appends}
 use Rattle.zf_command.specs.declared.job.Job.{Job}
 use Rattle.zf_command.specs.declared.job.Job.TheVariants.{Show}
 use Rattle.zf_command.specs.declared.job.Size.{Size}
-use Rattle.zf_simple.specs.declared.fault.TypeFault.{TypeFault}
 use Rattle.zf_simple.specs.declared.globals.Checked.{Checked}
 use Rattle.zf_simple.specs.declared.globals.Component.{Component}
 use Rattle.zf_simple.specs.declared.globals.Schema.{Schema}

@@ -1,4 +1,4 @@
-use Rattle.std.proofs.Common.{◌≡◌, ◌∙◌, ap, refl}
+use Rattle.std.proofs.Common.{◌∙◌, ap, refl}
 use Rattle.zf_text.specs.Trees.{boxes_of}
 use Rattle.zf_engine.specs.Answers.{HasOtherForm, other_form}
 use Rattle.zf_engine.specs.Texts.{fault_line}

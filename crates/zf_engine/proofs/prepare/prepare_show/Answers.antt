@@ -1,7 +1,7 @@
 use Rattle.std.proofs.Common.{◌≡◌, ◌∙◌, ◌<◌, sym, ap, subst, length, All, refl}
 use Rattle.zf_simple.specs.Sizes.{AreSizes, IsRefusal}
 use Rattle.zf_engine.specs.Answers.{HasSchema, no_schema, headings, ranges}
-use Rattle.zf_engine.proofs.Found.{IsFit, fit}
+use Rattle.zf_engine.proofs.Found.{fit}
 use Rattle.zf_engine.proofs.Refusing.{misfit_refuses, lengths, shows, stays_within}
 use Rattle.zf_engine.proofs.prepare.prepare_show.Goals as goal
 

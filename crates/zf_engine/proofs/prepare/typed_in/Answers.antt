@@ -1,4 +1,4 @@
-use Rattle.std.proofs.Common.{◌≡◌, ◌∙◌, List, [], ◌∷◌, Bool, true, false, ◌==◌, length, sym, ap}
+use Rattle.std.proofs.Common.{◌≡◌, ◌∙◌, List, [], Bool, true, false, ◌==◌, length, sym, ap}
 use Rattle.std.specs.List.{flat_map}
 use Rattle.zf_engine.specs.Texts.{type_fault_line}
 use Rattle.zf_engine.proofs.Refusing.{ill_typed_refuses}

@@ -1,4 +1,4 @@
-use Rattle.std.proofs.Common.{◌≡◌, subst}
+use Rattle.std.proofs.Common.{subst}
 use Rattle.zf_simple.specs.Bindings.{IsBindings}
 use Rattle.zf_engine.specs.Answers.{show_text}
 use Rattle.zf_engine.proofs.Parts.{always_on_err, stops_in}

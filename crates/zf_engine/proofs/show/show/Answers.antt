@@ -1,6 +1,5 @@
-use Rattle.std.proofs.Common.{◌≡◌, ◌++◌, [], rules, sym, ap, ◌∙◌, append_assoc, append-nil, codes, Some}
+use Rattle.std.proofs.Common.{◌≡◌, ◌++◌, [], rules, sym, ap, ◌∙◌, append_assoc, append-nil, codes}
 use Rattle.std.proofs.KnownBytes.{Appends-trans}
-use Rattle.zf_engine.specs.Answers.{show_text}
 use Rattle.zf_engine.specs.Texts.{binding_line}
 use Rattle.zf_engine.proofs.Parts.{front_more, front_alone, weaker_on_err, always_on_err, line_first, end_last}
 use Rattle.zf_engine.proofs.show.show.Goals as goal
