@@ -1,4 +1,4 @@
--- Which kind of refusal the words get.
+-- What the matches and the refusals of `clap` say of the words, by the literal of the command line.
 use Rattle.std.proofs.Common.{◌≡◌, ◌∙◌, ap, sym, true, refl, subst, inl, inr, List, [], Option, Some, None, Result, Ok, Err, IfOk, option_map}
 use Rattle.clap.specs.Words.{App, HasKind, HasMatchesOf, IsAmong, Row, Text, fault_of, is_simple, is_simple_and_free, kind_of, subcommand_of, subcommand_rows_of}
 use Rattle.clap.specs.declared.error.Error.{Error}

@@ -1,5 +1,5 @@
--- What `split_once` makes of a size word.
-use Rattle.std.proofs.Common.{◌≡◌, ◌≢◌, ◌+◌, ◌++◌, ◌∷◌, ◌∙◌, ◌<◌, ℕ, List, [], length, get_or, take, map, Option, Some, None, MatchOption, Bor, sym, ap, refl, subst, append_assoc, lit<, arith}
+-- What `split_once` makes of a size word, and what a loop over size words has read.
+use Rattle.std.proofs.Common.{◌≡◌, ◌≢◌, ◌+◌, ◌++◌, ◌∷◌, ◌∙◌, ◌<◌, ℕ, List, [], length, get_or, take, map, Option, Some, None, MatchOption, Bor, sym, ap, subst, append_assoc, lit<}
 use Rattle.std.specs.List.{AllZip}
 use Rattle.std.specs.Str.Parse.{IsNumeral}
 use Rattle.std.proofs.lemmas.List.{get_or-map, get_or_default, length-map, map_more}
@@ -16,14 +16,7 @@ parts_are word r size split read =
 pub bad_unparted : (word : List ℕ) → IsSplitOnceResult 61 word None → IsBadSize word
 bad_unparted word split size read = parts_are word None size split read
 
-empty_from_length : (xs : List ℕ) → length xs ≡ 0 → xs ≡ []
-empty_from_length [] e = refl
-empty_from_length (x ∷ xs) e = absurd (omega arith)
-
 module _ (word : List ℕ) (parts : Bor (List ℕ) × Bor (List ℕ)) (split : IsSplitOnceResult 61 word (Some parts)) where
-  pub bad_unnamed : length parts.0.now ≡ 0 → IsBadSize word
-  bad_unnamed none size read = read.named (sym (parts_are word (Some parts) size split read).0 ∙ empty_from_length parts.0.now none)
-
   pub bad_number : (IsNumeral 10 parts.1.now → ⊥) → IsBadSize word
   bad_number h size read = h (subst (IsNumeral 10) (sym (parts_are word (Some parts) size split read).1) read.counted.0)
 

@@ -23,7 +23,7 @@ values_of id rows = unwrap_or (all_of id rows) []
 abbrev pub ReadsNumber : Text → ℕ → Type 0
 ReadsNumber digits n = IsNumeral 10 digits × (n ≡ min (digits_value 10 digits) (2 ^ 64 - 1))
 
--- the word is NAME=SIZE, parted at its first `=`
+-- the word is NAME=SIZE, parted at its first `=`, which is the byte 61
 pub record ReadsSize (word : Text) (size : Size) : Type 0 where
   pub digits : Text
   pub parted : word ≡ size.name ++ codes "=" ++ digits

@@ -44,11 +44,8 @@ fn in_short(alloc: Global, asked: Result<Asked, UsageFault>) -> Result<String, A
             let Job::Show { schema, sizes } = job;
             let mut text = format!(in alloc; "{} {}", file.as_str(), schema.as_str())?;
             for size in sizes.as_slice() {
-                text.push_str(format!(in alloc;
-                    " {}:{}",
-                    size.name.as_str(),
-                    size.count
-                )?.as_str())?;
+                let more = format!(in alloc; " {}:{}", size.name.as_str(), size.count)?;
+                text.push_str(more.as_str())?;
             }
             Ok(text)
         }

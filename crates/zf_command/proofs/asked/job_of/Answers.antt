@@ -1,3 +1,4 @@
+-- The answers of `job_of`, from what `clap` ensures of its matches and its errors.
 use Rattle.std.proofs.Common.{sym, ◌∙◌, inl, inr, map}
 use Rattle.clap.specs.declared.error.kind.ErrorKind.TheVariants.{DisplayHelp}
 use Rattle.zf_command.proofs.Refusals.{among_kinds, answered, are_matches}

@@ -1,3 +1,4 @@
+-- The command `show`, argument by argument.
 use Rattle.zf_command.proofs.Commands.{with_about, with_one_more}
 use Rattle.zf_command.proofs.command.show_command.Goals as goal
 

@@ -1,3 +1,4 @@
+-- The values of an argument, by the rows of the matches.
 use Rattle.std.proofs.Common.{◌∙◌}
 use Rattle.clap.specs.Words.{found_of}
 use Rattle.clap.proofs.WalkLemmas.{raw_values-rows}

@@ -1,3 +1,4 @@
+-- A numeral, from a test of each byte.
 use Rattle.std.proofs.Common.{arith}
 use Rattle.std.proofs.lemmas.Bool.Decides.{nat_tests}
 use Rattle.zf_command.proofs.Numbers.{digits_by_index}

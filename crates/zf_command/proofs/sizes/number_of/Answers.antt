@@ -1,3 +1,4 @@
+-- The number of a numeral, from what `parse` answers.
 use Rattle.std.specs.declared.num.ParseIntError.{ParseIntError}
 use Rattle.zf_command.proofs.Numbers.{reads_parsed, reads_past}
 use Rattle.zf_command.proofs.sizes.number_of.Goals as goal

@@ -1,3 +1,4 @@
+-- The sizes of words, word by word.
 use Rattle.std.proofs.Common.{◌≡◌, Err, ◌∙◌, ap, sym}
 use Rattle.std.proofs.lemmas.Result.{err_from_is_err_and}
 use Rattle.zf_command.proofs.SizeWords.{bad_among, reads_more}

@@ -1,3 +1,4 @@
+-- The words so far are read as the sizes so far.
 use Rattle.std.proofs.Common.{map, take}
 use Rattle.std.specs.List.{AllZip}
 use Rattle.zf_command.specs.Jobs.{ReadsSize}
