@@ -1,3 +1,9 @@
 mod calls;
 mod loops;
+mod program;
+mod rows;
+mod runs;
+mod sources;
+mod stops;
 mod texts;
+mod trees;

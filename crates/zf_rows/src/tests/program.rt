@@ -1,0 +1,20 @@
+//! The statuses of the program.
+use std::test::Fail;
+use zf_engine::program::program;
+
+static STATUSES: [(&[&str], u8); 6] = [
+    (&[], 2),
+    (&["show", "s.tex"], 2),
+    (&["show", "s.tex", "S", "NAME"], 2),
+    (&["show", "--limit", "0", "s.tex", "S"], 2),
+    (&["show", "no/such/file.tex", "S"], 5),
+    (&["show", "--help"], 0),
+];
+
+#[test]
+fn statuses(rt: HostRuntime) -> Result<(), Fail> {
+    for (words, status) in &STATUSES {
+        assert!(rt; program(&rt, words) == *status, "{words:?}");
+    }
+    Ok(())
+}

@@ -1,0 +1,26 @@
+//! Runs of a command line over devices.
+use std::alloc::Global;
+use std::io::{Read, Write};
+use std::test::Fail;
+use zf_command::asked::job_of;
+use zf_command::job::Asked;
+use zf_engine::counted::Counted;
+use zf_engine::fault::{RunFault, Status};
+use zf_engine::run::run;
+
+/// How a run of the words ends.
+pub fn ended<R: Read + Drop, W: Write + Drop>(
+    alloc: Global,
+    words: &[&str],
+    reader: R,
+    writer: W,
+) -> Result<Result<Status, RunFault>, Fail> {
+    match job_of(alloc, words)? {
+        Asked::Work(file, job) => {
+            let mut reader = Counted::new(reader);
+            let mut writer = Counted::new(writer);
+            Ok(run(alloc, &job, file.as_str(), &mut reader, &mut writer))
+        }
+        Asked::Help(_text) => Err(Fail::new("help")),
+    }
+}

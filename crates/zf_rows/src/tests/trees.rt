@@ -1,0 +1,59 @@
+//! What no clause says: with memory left, a text has a tree and items.
+use crate::tests::sources::TWO;
+use std::test::Fail;
+use zf_simple::item::Item;
+use zf_simple::reading::items_of;
+use zf_text::reading::{parse, read_spec};
+use zf_text::scan::scan;
+use zf_text::token::Relation;
+use zf_text::tree::{Decl, Paragraph, Term, ZBox};
+
+#[test]
+fn a_text_has_a_tree(rt: HostRuntime) -> Result<(), Fail> {
+    let tokens = scan(rt.alloc(), TWO.as_bytes())?;
+    let parsed = parse(rt.alloc(), tokens.as_slice())?;
+    let read = read_spec(rt.alloc(), TWO.as_bytes())?;
+    for spec in &[parsed, read] {
+        let [
+            ZBox::Zed(paragraphs),
+            ZBox::SchemaBox(name, decls, predicates),
+        ] = spec.boxes.as_slice()
+        else {
+            return Err(Fail::new("other boxes"));
+        };
+        let [Paragraph::Given(sets)] = paragraphs.as_slice() else {
+            return Err(Fail::new("other paragraphs"));
+        };
+        assert!(rt; sets.len() == 1 && name.line == 4);
+        assert_eq!(rt; name.base.as_slice(), b"S".as_slice());
+        let [Decl::Vars(names, Term::Name(set))] = decls.as_slice() else {
+            return Err(Fail::new("other declarations"));
+        };
+        assert!(rt; names.len() == 2 && set.line == 5);
+        let [Term::Chain(7, _, links)] = predicates.as_slice() else {
+            return Err(Fail::new("other predicates"));
+        };
+        let [link] = links.as_slice() else {
+            return Err(Fail::new("other links"));
+        };
+        assert!(rt; link.relation == Relation::NotEqual);
+    }
+    Ok(())
+}
+
+#[test]
+fn a_text_has_items(rt: HostRuntime) -> Result<(), Fail> {
+    let spec = read_spec(rt.alloc(), TWO.as_bytes())?;
+    let items = items_of(rt.alloc(), &spec)?;
+    let [Item::Given(sets), Item::Schema(name, declared, compared)] = items.as_slice() else {
+        return Err(Fail::new("other items"));
+    };
+    assert!(rt; sets.len() == 1 && declared.len() == 1 && name.line == 4);
+    let [predicate] = compared.as_slice() else {
+        return Err(Fail::new("other predicates"));
+    };
+    assert_eq!(rt; predicate.left.base.as_slice(), b"x".as_slice());
+    assert_eq!(rt; predicate.right.base.as_slice(), b"y".as_slice());
+    assert!(rt; !predicate.is_equal);
+    Ok(())
+}
