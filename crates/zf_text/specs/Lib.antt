@@ -1,8 +1,11 @@
 pub mod Trees
 pub mod Levels
+pub mod Height
 pub mod Separators
 pub mod Spelling
 pub mod Reads
-pub mod Basic
 pub mod Parsing
 pub mod Reading
+pub mod TermReading
+pub mod BoxReading
+pub mod Nests

@@ -1,27 +1,27 @@
 -- What reading the tokens of a text answers.
-use Rattle.std.specs.Prelude.{List, Result, Ok, Err}
-use Rattle.std.specs.List.{AllByRecursion}
+use Rattle.std.specs.Prelude.{◌≡◌, ℕ, ◌≤◌, List, Result, Ok, Err}
 use Rattle.zf_text.specs.declared.fault.TextFault.{TextFault}
 use Rattle.zf_text.specs.declared.fault.TextFaultKind.{TextFaultKind}
-use Rattle.zf_text.specs.declared.fault.TextFaultKind.TheVariants.{Unexpected, NotInProfile, OutOfMemory}
+use Rattle.zf_text.specs.declared.fault.TextFaultKind.TheVariants.{Unexpected, NotInProfile, TooDeep, OutOfMemory}
 use Rattle.zf_text.specs.declared.token.Token.{Token}
 use Rattle.zf_text.specs.declared.tree.Spec.{Spec}
-use Rattle.zf_text.specs.Basic.{IsBasic}
+use Rattle.zf_text.specs.Height.{highest, height_limit}
 use Rattle.zf_text.specs.Reads.{Reads}
 use Rattle.zf_text.specs.Trees.{BoxTree, boxes_of}
 
--- a basic tree that reads the tokens
-pub record ReadsBasic (boxes : List BoxTree) (tokens : List Token) : Type 0 where
+-- a tree that reads the tokens, with no part above the limit
+pub record ReadsLow (boxes : List BoxTree) (tokens : List Token) : Type 0 where
   pub reads : Reads boxes tokens
-  pub basic : AllByRecursion IsBasic boxes
+  pub low : highest boxes ≤ height_limit
 
--- when each fault comes: no basic tree reads the tokens, or memory ended
-abbrev pub Refuses : TextFaultKind → List Token → Type 0
-Refuses Unexpected tokens = (boxes : List BoxTree) → ReadsBasic boxes tokens → ⊥
-Refuses NotInProfile tokens = (boxes : List BoxTree) → ReadsBasic boxes tokens → ⊥
-Refuses OutOfMemory tokens = Unit {0}
-Refuses _ tokens = ⊥
+-- when each fault comes: no tree reads the tokens, none within the limit does, or memory ended
+abbrev pub Refuses : TextFaultKind → (line : ℕ) → List Token → Type 0
+Refuses Unexpected line tokens = (boxes : List BoxTree) → Reads boxes tokens → ⊥
+Refuses NotInProfile line tokens = (boxes : List BoxTree) → Reads boxes tokens → ⊥
+Refuses TooDeep line tokens = (boxes : List BoxTree) → ReadsLow boxes tokens → ⊥
+Refuses OutOfMemory line tokens = line ≡ 0
+Refuses _ line tokens = ⊥
 
 abbrev pub Parses : Result Spec TextFault → List Token → Type 0
-Parses (Ok spec) tokens = ReadsBasic (boxes_of spec) tokens
-Parses (Err fault) tokens = Refuses fault.kind tokens
+Parses (Ok spec) tokens = ReadsLow (boxes_of spec) tokens
+Parses (Err fault) tokens = Refuses fault.kind fault.line tokens

@@ -1,10 +1,18 @@
 //! From bytes to trees: `read_spec` gives the tree that reads the tokens of a source.
 #![tactic(auto)]
 
+mod boxes;
 mod cursor;
+mod decls;
 pub mod fault;
+mod items;
+mod levels;
+mod names;
 mod next;
+mod paragraphs;
 pub mod reading;
-mod rules;
+mod schemas;
+mod tall;
+mod terms;
 pub mod token;
 pub mod tree;
