@@ -9,7 +9,7 @@ use Rattle.zf_text.specs.declared.tree.Term.TheViews.{out-Term, roll-Term, roll-
 use Rattle.zf_text.specs.declared.tree.Term.TheVariants as v
 use Rattle.zf_text.specs.Trees.{Tree, chain, links, tree_of, link_of}
 use Rattle.zf_text.proofs.Forms.{form_of, seen_term, seen_link}
-use Rattle.zf_text.proofs.Seen.{of-Chain}
+use Rattle.zf_text.proofs.TermSeen.{of-Chain}
 use Rattle.zf_simple.specs.Reading.{name_of, equation_of, compared_by, compared_of}
 
 opened : (t : Term) (x : Term-F Term Link VarDecl) → out-Term t ≡ x → t ≡ roll-Term x

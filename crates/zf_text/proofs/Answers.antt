@@ -1,60 +1,69 @@
--- What an answer of the rules says of the trees that read the tokens.
-use Rattle.std.proofs.Common.{◌≡◌, ◌⊎◌, ℕ, refl, inl, inr, List, [], ◌∷◌, Option, Some, None, Result, Ok, Err, map, lit≤, sym, ◌∙◌}
-use Rattle.std.specs.List.{AllByRecursion}
+-- What an outcome of the rules says of the trees that read the tokens.
+use Rattle.std.proofs.Common.{◌≡◌, ℕ, ◌≤◌, max, List, [], ◌∷◌, Result, Ok, Err, map, inl, inr, sym, ◌∙◌, ap, arith, refl}
+use Rattle.std.specs.Prelude.{◌⊎◌}
 use Rattle.zf_text.specs.declared.fault.TextFault.{TextFault}
 use Rattle.zf_text.specs.declared.fault.TextFaultKind.{TextFaultKind}
 use Rattle.zf_text.specs.declared.fault.TextFaultKind.TheVariants as fault
 use Rattle.zf_text.specs.declared.token.Token.{Token}
-use Rattle.zf_text.specs.declared.tree.ZBox.{ZBox}
-use Rattle.zf_text.specs.Basic.{IsBasic, IsBasicPredicate, IsBasicDecl, IsBasicParagraph}
 use Rattle.zf_text.specs.declared.tree.Spec.{Spec}
+use Rattle.zf_text.specs.declared.tree.ZBox.{ZBox}
+use Rattle.zf_text.specs.BoxReading.{read_all}
 use Rattle.zf_text.specs.Cuts.{IsCutInto, IsWantOfMemory}
-use Rattle.zf_text.specs.Levels.{BoxIsLevelled, ParagraphIsLevelled, DeclIsLevelled, IsLevelled}
-use Rattle.zf_text.specs.Parsing.{ReadsBasic, Refuses, Parses, ReadsSpec, RefusesSource}
-use Rattle.zf_text.specs.Reading.{Outcome, read_all, Fails}
+use Rattle.zf_text.specs.Height.{highest, height_limit}
+use Rattle.zf_text.specs.Parsing.{ReadsLow, Refuses, Parses, ReadsSpec, RefusesSource}
 use Rattle.zf_text.specs.Reads.{Reads}
 use Rattle.zf_text.specs.Separators.{Symbol, reduced}
-use Rattle.zf_text.specs.Trees.{Tree, named, chain, link, no_links, BoxTree, zed, schema_box, DeclTree, vars, ParagraphTree, given, box_of}
-use Rattle.zf_text.proofs.Sound.{AreBoxes, all_sound}
-use Rattle.zf_text.proofs.Complete.{all_complete}
+use Rattle.zf_text.specs.TermReading.{Outcome, Refused, TooDeep, Fails}
+use Rattle.zf_text.specs.Trees.{BoxTree, box_of}
+use Rattle.zf_text.proofs.BoxesRead.{AreRead, all_sound, all_answers}
+use Rattle.zf_text.proofs.TermSteps.{ok_pair}
 
-all_of : {A : Type 0} (P Q : A → Type 0) → ((a : A) → P a → Q a) → (xs : List A) → AllByRecursion P xs → AllByRecursion Q xs
-all_of P Q f [] h = tt
-all_of P Q f (x ∷ xs) h = (f x h.0, all_of P Q f xs h.1)
-
-predicate_levelled : (t : Tree) → IsBasicPredicate t → IsLevelled t
-predicate_levelled (chain l (named n) (link r (named m) no_links)) is = (lit≤ tt, tt, (lit≤ tt, tt, tt))
-predicate_levelled _ is = absurd is
-
-decl_levelled : (d : DeclTree) → IsBasicDecl d → DeclIsLevelled d
-decl_levelled (vars ns (named n)) is = (lit≤ tt, tt)
-decl_levelled _ is = absurd is
-
-paragraph_levelled : (p : ParagraphTree) → IsBasicParagraph p → ParagraphIsLevelled p
-paragraph_levelled (given ns) is = tt
-paragraph_levelled _ is = absurd is
-
-box_levelled : (b : BoxTree) → IsBasic b → BoxIsLevelled b
-box_levelled (zed ps) is = all_of IsBasicParagraph ParagraphIsLevelled paragraph_levelled ps is
-box_levelled (schema_box n ds ps) is = (all_of IsBasicDecl DeclIsLevelled decl_levelled ds is.0, all_of IsBasicPredicate IsLevelled predicate_levelled ps is.1)
-
-pub parsed : (bs : List ZBox) (tokens : List Token) (us : List Symbol) → read_all (reduced tokens) ≡ Some (bs, us) → ReadsBasic (map box_of bs) tokens
+pub parsed : (bs : List ZBox) (tokens : List Token) (us : List Symbol) → read_all height_limit (reduced tokens) ≡ Ok (bs, us) → ReadsLow (map box_of bs) tokens
 parsed bs tokens us e =
-    let h = all_sound bs (reduced tokens) us e in
-    record { reads = record { levelled = all_of IsBasic BoxIsLevelled box_levelled (map box_of bs) h.0; spelled = h.1 }; basic = h.0 }
+    let s = all_sound height_limit (reduced tokens) us bs e in
+    record { reads = record { levelled = s.levelled; spelled = s.spelled }; low = s.low }
 
-none_reads : (tokens : List Token) → read_all (reduced tokens) ≡ None → (boxes : List BoxTree) → ReadsBasic boxes tokens → ⊥
-none_reads tokens e boxes r =
-    let x = all_complete boxes (reduced tokens) r.basic r.reads.spelled in
-    let both : ◌≡◌ {A = Outcome (List ZBox)} None (Some (x.0, [])) = sym e ∙ x.1 in
-    cc
+answers : (n : ℕ) (tokens : List Token) (boxes : List BoxTree) → Reads boxes tokens → AreRead n boxes (read_all n (reduced tokens))
+answers n tokens boxes r = all_answers n boxes (reduced tokens) r.levelled r.spelled
 
-pub refused : (kind : TextFaultKind) (line : ℕ) (tokens : List Token) → Fails (read_all (reduced tokens)) kind line → Refuses kind line tokens
+none_reads : (n : ℕ) (tokens : List Token) → read_all n (reduced tokens) ≡ Err Refused → (boxes : List BoxTree) → Reads boxes tokens → ⊥
+none_reads n tokens e boxes r = by (answers n tokens boxes r)
+  where
+    by : AreRead n boxes (read_all n (reduced tokens)) → ⊥
+    by (inl a) = let read = a.read in cc
+    by (inr d) = let refused = d.refused in cc
+
+none_low : (n : ℕ) (tokens : List Token) → read_all n (reduced tokens) ≡ Err TooDeep → (boxes : List BoxTree) → Reads boxes tokens → highest boxes ≤ n → ⊥
+none_low n tokens e boxes r low = by (answers n tokens boxes r)
+  where
+    by : AreRead n boxes (read_all n (reduced tokens)) → ⊥
+    by (inl a) = let read = a.read in cc
+    by (inr d) = let above = d.above in omega arith
+
+pub refused : (kind : TextFaultKind) (line : ℕ) (tokens : List Token) → Fails (read_all height_limit (reduced tokens)) kind line → Refuses kind line tokens
 refused fault.OutOfMemory line tokens h = h
-refused fault.Unexpected line tokens h = none_reads tokens h
-refused fault.NotInProfile line tokens h = none_reads tokens h
+refused fault.Unexpected line tokens h = none_reads height_limit tokens h
+refused fault.NotInProfile line tokens h = none_reads height_limit tokens h
+refused fault.TooDeep line tokens h = λ boxes r. none_low height_limit tokens h boxes r.reads r.low
 refused fault.BadByte line tokens h = absurd h
 refused _ line tokens h = absurd h
+
+-- what is read, where nothing is too high
+reads_them : (n : ℕ) (tokens : List Token) (boxes : List BoxTree) → Reads boxes tokens → highest boxes ≤ n → (bs : List ZBox) × (map box_of bs ≡ boxes) × (read_all n (reduced tokens) ≡ Ok (bs, []))
+reads_them n tokens boxes r low = by (answers n tokens boxes r)
+  where
+    by : AreRead n boxes (read_all n (reduced tokens)) → (bs : List ZBox) × (map box_of bs ≡ boxes) × (read_all n (reduced tokens) ≡ Ok (bs, []))
+    by (inl a) = (a.value, a.is, a.read)
+    by (inr d) = let above = d.above in absurd (omega arith)
+
+-- no tokens are read by two trees
+pub only_one : (a b : List BoxTree) (tokens : List Token) → Reads a tokens → Reads b tokens → a ≡ b
+only_one a b tokens r s =
+    let n = max (highest a) (highest b) in
+    let x = reads_them n tokens a r (omega arith) in
+    let y = reads_them n tokens b s (omega arith) in
+    let same : x.0 ≡ y.0 = ap (λ p. p.0) (ok_pair (x.0, []) (y.0, []) (sym x.2 ∙ y.2)) in
+    sym x.1 ∙ ap (map box_of) same ∙ y.1
 
 -- ---- a source
 
@@ -63,6 +72,7 @@ refuses_source : (kind : TextFaultKind) (line : ℕ) (source : List ℕ) (tokens
 refuses_source fault.OutOfMemory line source tokens cut h = inl (refl, h)
 refuses_source fault.Unexpected line source tokens cut h = inr (inr (tokens, cut, h, tt))
 refuses_source fault.NotInProfile line source tokens cut h = inr (inr (tokens, cut, h, tt))
+refuses_source fault.TooDeep line source tokens cut h = inr (inr (tokens, cut, h, tt))
 refuses_source fault.BadByte line source tokens cut h = absurd h
 refuses_source _ line source tokens cut h = absurd h
 

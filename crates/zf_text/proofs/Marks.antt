@@ -15,11 +15,17 @@ use Rattle.zf_text.specs.Reading.{first, rest, next_of, is_mark, expect, Outcome
 abbrev pub kind_of : Mark → Kind
 kind_of mark.EndBox = k.EndBox
 kind_of mark.Separator = separator
+kind_of mark.CloseRound = k.CloseRound
 kind_of mark.OpenSquare = k.OpenSquare
 kind_of mark.CloseSquare = k.CloseSquare
+kind_of mark.CloseBrace = k.CloseBrace
+kind_of mark.CloseImage = k.CloseImage
 kind_of mark.Comma = k.Comma
 kind_of mark.Colon = k.Colon
+kind_of mark.Bar = k.Bar
+kind_of mark.At = k.At
 kind_of mark.Where = k.Where
+kind_of mark.Cross = k.Cross
 
 separator_is : (m : Mark) (s : Separator) → is_mark m (next_of (k.Separator s)) ≡ true → k.Separator s ≡ kind_of m
 separator_is mark.Separator Semicolon e = refl
@@ -38,34 +44,58 @@ kind_is mark.EndBox k.EndBox e = refl
 kind_is mark.EndBox _ e = absurd (cc)
 kind_is mark.Separator k.EndBox e = absurd (cc)
 kind_is mark.Separator _ e = absurd (cc)
+kind_is mark.CloseRound k.CloseRound e = refl
+kind_is mark.CloseRound _ e = absurd (cc)
 kind_is mark.OpenSquare k.OpenSquare e = refl
 kind_is mark.OpenSquare _ e = absurd (cc)
 kind_is mark.CloseSquare k.CloseSquare e = refl
 kind_is mark.CloseSquare _ e = absurd (cc)
+kind_is mark.CloseBrace k.CloseBrace e = refl
+kind_is mark.CloseBrace _ e = absurd (cc)
+kind_is mark.CloseImage k.CloseImage e = refl
+kind_is mark.CloseImage _ e = absurd (cc)
 kind_is mark.Comma k.Comma e = refl
 kind_is mark.Comma _ e = absurd (cc)
 kind_is mark.Colon k.Colon e = refl
 kind_is mark.Colon _ e = absurd (cc)
+kind_is mark.Bar k.Bar e = refl
+kind_is mark.Bar _ e = absurd (cc)
+kind_is mark.At k.At e = refl
+kind_is mark.At _ e = absurd (cc)
 kind_is mark.Where k.Where e = refl
 kind_is mark.Where _ e = absurd (cc)
+kind_is mark.Cross k.Cross e = refl
+kind_is mark.Cross _ e = absurd (cc)
 
 not_at_end : (m : Mark) → is_mark m next.End ≡ true → ⊥
 not_at_end mark.EndBox e = cc
 not_at_end mark.Separator e = cc
+not_at_end mark.CloseRound e = cc
 not_at_end mark.OpenSquare e = cc
 not_at_end mark.CloseSquare e = cc
+not_at_end mark.CloseBrace e = cc
+not_at_end mark.CloseImage e = cc
 not_at_end mark.Comma e = cc
 not_at_end mark.Colon e = cc
+not_at_end mark.Bar e = cc
+not_at_end mark.At e = cc
 not_at_end mark.Where e = cc
+not_at_end mark.Cross e = cc
 
 itself : (m : Mark) → is_mark m (next_of (kind_of m)) ≡ true
 itself mark.EndBox = refl
 itself mark.Separator = refl
+itself mark.CloseRound = refl
 itself mark.OpenSquare = refl
 itself mark.CloseSquare = refl
+itself mark.CloseBrace = refl
+itself mark.CloseImage = refl
 itself mark.Comma = refl
 itself mark.Colon = refl
+itself mark.Bar = refl
+itself mark.At = refl
 itself mark.Where = refl
+itself mark.Cross = refl
 
 -- where the symbol is seen, it stands
 pub marked : (m : Mark) (ts : List Symbol) → is_mark m (first ts) ≡ true → Next (kind_of m) ts (rest ts)

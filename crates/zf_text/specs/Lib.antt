@@ -3,9 +3,12 @@ pub mod Cuts
 pub mod Separators
 pub mod Trees
 pub mod Levels
+pub mod Height
 pub mod Spelling
 pub mod Reads
-pub mod Basic
 pub mod Parsing
 pub mod Steps
 pub mod Reading
+pub mod TermReading
+pub mod BoxReading
+pub mod Nests

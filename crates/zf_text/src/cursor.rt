@@ -1,12 +1,15 @@
 //! The symbols of a text that are left to be read.
-ghost use Rattle.std.specs.Prelude.{◌≡◌, ◌⊎◌, length, map};
+ghost use Rattle.std.specs.Prelude.{◌≡◌, ◌⊎◌, true, length, map};
+ghost use Rattle.zf_text.specs.BoxReading as boxes;
 ghost use Rattle.zf_text.specs.Reading as spec;
-ghost use Rattle.zf_text.specs.Reading.{Gives, IsRefusal};
 ghost use Rattle.zf_text.specs.Separators.{symbol_of};
+ghost use Rattle.zf_text.specs.TermReading as terms;
+ghost use Rattle.zf_text.specs.TermReading.{Gives};
+ghost use Rattle.zf_text.specs.declared.fault.TextFaultKind.TheVariants.{Unexpected, TooDeep};
 
 use crate::fault::{TextFault, TextFaultKind};
 use crate::next::{Mark, Next, next_of};
-use crate::token::{Kind, Relation, Token};
+use crate::token::{Connective, Kind, Token};
 use crate::tree::Name;
 use std::alloc::Global;
 use std::marker::Model;
@@ -61,28 +64,73 @@ impl<'a> Cursor<'a> {
     }
 
     /// The line of the next symbol; 0 where nothing is left.
-    pub fn line(&self) -> u32 {
+    pub fn line(&self) -> u32
+        ensures { result ≡ terms.here self.now }
+    {
         match self.rest {
             [] => 0,
             [first, ..] => first.line,
         }
     }
 
-    /// The fault of the next symbol, which no rule reads here.
-    pub fn refused(&self) -> TextFault
-        ensures { IsRefusal result.kind }
+    /// No rule reads the next symbol here.
+    pub fn unexpected(&self) -> TextFault
+        ensures { result.kind ≡ Unexpected }
     {
-        let kind = match self.peek() {
-            Next::Other => TextFaultKind::NotInProfile,
-            Next::Relation(Relation::Equal) => TextFaultKind::Unexpected,
-            Next::Relation(Relation::NotEqual) => TextFaultKind::Unexpected,
-            Next::Relation(_) => TextFaultKind::NotInProfile,
-            _ => TextFaultKind::Unexpected,
-        };
         TextFault {
-            kind,
+            kind: TextFaultKind::Unexpected,
             line: self.line(),
         }
+    }
+
+    /// The term to which the next symbol belongs is too high.
+    pub fn too_deep(&self) -> TextFault
+        ensures { result.kind ≡ TooDeep }
+    {
+        TextFault {
+            kind: TextFaultKind::TooDeep,
+            line: self.line(),
+        }
+    }
+
+    /// Whether one or more names, parted by commas, and a colon come next.
+    pub fn begins_decl(&self) -> bool
+        ensures { result ≡ terms.begins_decl true self.now }
+    {
+        let mut ahead = Cursor { rest: self.rest };
+        let mut due = true;
+        for _turn in 0..self.left() {
+            let next = ahead.peek();
+            if !next.goes_on(due) {
+                return next.ends_names(due);
+            }
+            ahead.skip();
+            due = !due;
+        }
+        false
+    }
+
+    /// Whether the symbol after the next one shows that declared names come next.
+    pub fn declares(&self) -> bool
+        ensures { result ≡ boxes.is_declared self.now }
+    {
+        let mut ahead = Cursor { rest: self.rest };
+        ahead.skip();
+        ahead.is_at(Mark::Comma) || ahead.is_at(Mark::Colon)
+    }
+
+    /// Whether `\land` comes next.
+    pub fn is_and(&self) -> bool
+        ensures { result ≡ boxes.is_and (spec.first self.now) }
+    {
+        matches!(self.peek(), Next::Connective(Connective::And))
+    }
+
+    /// Whether `\lor` comes next.
+    pub fn is_or(&self) -> bool
+        ensures { result ≡ boxes.is_or (spec.first self.now) }
+    {
+        matches!(self.peek(), Next::Connective(Connective::Or))
     }
 
     /// Whether this symbol comes next.
@@ -101,10 +149,10 @@ impl<'a> Cursor<'a> {
 
     /// Goes past this symbol.
     pub fn expect(&mut self, mark: Mark) -> Result<(), TextFault>
-        ensures { Gives (spec.expect mark self.old) result self.new }
+        ensures { Gives (terms.expect mark self.old) result self.new }
     {
         if !self.is_at(mark) {
-            return Err(self.refused());
+            return Err(self.unexpected());
         }
         self.skip();
         Ok(())
@@ -112,7 +160,7 @@ impl<'a> Cursor<'a> {
 
     /// A name, copied out of its token.
     pub fn name(&mut self, alloc: Global) -> Result<Name, TextFault>
-        ensures { Gives (spec.read_name self.old) result self.new }
+        ensures { Gives (terms.lift (spec.read_name self.old)) result self.new }
     {
         match self.rest {
             [token, rest @ ..] => match &token.kind {
@@ -125,15 +173,15 @@ impl<'a> Cursor<'a> {
                     self.rest = rest;
                     Ok(name)
                 }
-                _ => Err(self.refused()),
+                _ => Err(self.unexpected()),
             },
-            [] => Err(self.refused()),
+            [] => Err(self.unexpected()),
         }
     }
 
     /// The opening of a schema box: its name.
     pub fn opening(&mut self, alloc: Global) -> Result<Name, TextFault>
-        ensures { Gives (spec.read_opening self.old) result self.new }
+        ensures { Gives (terms.lift (spec.read_opening self.old)) result self.new }
     {
         match self.rest {
             [token, rest @ ..] => match &token.kind {
@@ -148,9 +196,9 @@ impl<'a> Cursor<'a> {
                     self.rest = rest;
                     Ok(name)
                 }
-                _ => Err(self.refused()),
+                _ => Err(self.unexpected()),
             },
-            [] => Err(self.refused()),
+            [] => Err(self.unexpected()),
         }
     }
 }

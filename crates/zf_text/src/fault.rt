@@ -1,6 +1,7 @@
 //! Faults of a text.
 ghost use Rattle.std.specs.Prelude.{◌≡◌};
 ghost use Rattle.zf_text.specs.declared.fault.TextFault.{TextFault};
+ghost use Rattle.zf_text.specs.declared.fault.TextFaultKind.TheVariants.{NotInProfile};
 
 use std::alloc::{AllocError, AllocFailed};
 use thiserror::Error;
@@ -34,6 +35,18 @@ pub struct TextFault {
     pub kind: TextFaultKind,
     /// The line of the fault, from 1; 0 for `TooLong` and `OutOfMemory`.
     pub line: u32,
+}
+
+impl TextFault {
+    /// A form that is not read; the line is that of its first symbol.
+    pub fn not_in_profile(line: u32) -> TextFault
+        ensures { result ≡ record { kind = NotInProfile; line = line } }
+    {
+        TextFault {
+            kind: TextFaultKind::NotInProfile,
+            line,
+        }
+    }
 }
 
 impl From<AllocError> for TextFault {

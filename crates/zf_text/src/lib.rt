@@ -1,18 +1,26 @@
 //! From bytes to trees: `read_spec` gives the tree that reads the tokens of a source.
 #![tactic(auto)]
 
+mod boxes;
 mod commands;
 mod cursor;
+mod decls;
 pub mod fault;
 mod inside;
+mod items;
+mod levels;
+mod names;
 mod next;
 mod outside;
+mod paragraphs;
 mod pieces;
 pub mod reading;
-mod rules;
 pub mod scan;
 #[cfg(test)]
 mod scan_tests;
+mod schemas;
 mod symbols;
+mod tall;
+mod terms;
 pub mod token;
 pub mod tree;

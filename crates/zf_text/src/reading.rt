@@ -1,18 +1,18 @@
 //! Trees out of tokens, and out of a source.
-ghost use Rattle.std.specs.Prelude.{◌≡◌, IfOk, map, drop};
+ghost use Rattle.std.specs.Prelude.{◌≡◌, List, IfOk, map, drop};
 ghost use Rattle.zf_text.specs.Parsing.{Parses, ReadsSpec};
-ghost use Rattle.zf_text.specs.Reading as spec;
-ghost use Rattle.zf_text.specs.Reading.{Gives};
+ghost use Rattle.zf_text.specs.Reads.{Reads};
 ghost use Rattle.zf_text.specs.Separators.{reduced, starts_closed, symbol_of};
+ghost use Rattle.zf_text.specs.Trees.{BoxTree};
+ghost use Rattle.zf_text.specs.declared.token.Token.{Token};
 
+use crate::boxes::all;
 use crate::cursor::Cursor;
 use crate::fault::TextFault;
-use crate::rules::boxes;
 use crate::scan::scan;
 use crate::token::Token;
-use crate::tree::{Spec, ZBox};
+use crate::tree::Spec;
 use std::alloc::{AllocError, Global};
-use zf_data::Items;
 
 /// Whether a separator before these tokens is dropped.
 fn starts_closed(tokens: &[Token]) -> bool
@@ -45,17 +45,8 @@ fn reduce<'a>(alloc: Global, tokens: &'a [Token]) -> Result<Vec<&'a Token>, Allo
     Ok(kept)
 }
 
-/// All boxes, and nothing after them.
-#[tactic(auto, unfolding(crate::specs::Reading::read_all))]
-fn all(alloc: Global, tokens: &mut Cursor<'_>) -> Result<Items<ZBox>, TextFault>
-    ensures { Gives (spec.read_all tokens.old) result tokens.new }
-{
-    let boxes = boxes(alloc, tokens)?;
-    if !tokens.is_done() {
-        return Err(tokens.refused());
-    }
-    Ok(boxes)
-}
+/// The limit of a term or schema expression.
+const HEIGHT_LIMIT: u32 = 128;
 
 /// The tree that reads the tokens.
 pub fn parse(alloc: Global, tokens: &[Token]) -> Result<Spec, TextFault>
@@ -63,7 +54,7 @@ pub fn parse(alloc: Global, tokens: &[Token]) -> Result<Spec, TextFault>
 {
     let reduced = reduce(alloc, tokens)?;
     let mut cursor = Cursor::new(&reduced);
-    let boxes = all(alloc, &mut cursor)?;
+    let boxes = all(alloc, &mut cursor, HEIGHT_LIMIT)?;
     Ok(Spec { boxes })
 }
 
@@ -74,3 +65,8 @@ pub fn read_spec(alloc: Global, source: &[u8]) -> Result<Spec, TextFault>
     let tokens = scan(alloc, source)?;
     parse(alloc, tokens.as_slice())
 }
+
+/// A law: no tokens are read by two trees.
+pub fn one_tree()
+    ensures { (a b : List BoxTree) (tokens : List Token) → Reads a tokens → Reads b tokens → a ≡ b }
+{}

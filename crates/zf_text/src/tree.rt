@@ -1,4 +1,7 @@
 //! The trees of a text.
+ghost use Rattle.std.specs.Prelude.{◌≡◌};
+ghost use Rattle.zf_text.specs.BoxReading as spec;
+
 use crate::token::{Arrow, Connective, Constant, Infix, Prefix, Quantifier, Relation};
 use zf_data::{Boxed, Items, Text};
 
@@ -9,6 +12,18 @@ pub struct Name {
     /// The strokes, as spelled.
     pub strokes: Text,
     pub line: u32,
+}
+
+impl Name {
+    /// Whether the name has no strokes.
+    pub fn is_bare(&self) -> bool
+        ensures { result ≡ spec.is_bare self.now.strokes }
+    {
+        match self.strokes.as_slice() {
+            [] => true,
+            [_, ..] => false,
+        }
+    }
 }
 
 /// What stands before one term.

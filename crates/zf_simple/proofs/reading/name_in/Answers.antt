@@ -1,5 +1,5 @@
 use Rattle.std.proofs.Common.{sym, ap, ◌∙◌}
-use Rattle.zf_text.proofs.Seen.{of-Name}
+use Rattle.zf_text.proofs.TermSeen.{of-Name}
 use Rattle.zf_text.specs.Trees.{tree_of}
 use Rattle.zf_simple.specs.Reading.{name_of}
 use Rattle.zf_simple.proofs.Terms.{no_name}

@@ -1,0 +1,26 @@
+-- One turn of reading what goes on with a schema expression.
+use Rattle.std.proofs.Common.{◌≡◌, ℕ, suc, ◌+◌, ◌≤◌, ◌<◌, max, Bool, true, List, Result, Ok, Err, refl, ap, ◌∙◌}
+use Rattle.std.proofs.lemmas.Bool.{le-leb, lt-leb}
+use Rattle.zf_text.specs.declared.fault.TextFaultKind.{TextFaultKind}
+use Rattle.zf_text.specs.declared.next.Next as code
+use Rattle.zf_text.specs.declared.tall.Tall.{Tall}
+use Rattle.zf_text.specs.declared.tree.SchemaExp.{SchemaExp}
+use Rattle.zf_text.specs.BoxReading.{joined}
+use Rattle.zf_text.specs.Reading.{first, rest}
+use Rattle.zf_text.specs.Separators.{Symbol}
+use Rattle.zf_text.specs.TermReading.{Parser, TooDeep, Fails, tall}
+use Rattle.zf_text.proofs.TermTurns.{fails_then}
+
+module _ (joins : code.Next → Bool) (operand : Parser (Tall SchemaExp)) (make : SchemaExp → SchemaExp → SchemaExp) (highest n : ℕ) (x : Tall SchemaExp) (ts : List Symbol) (is : joins (first ts) ≡ true) where
+  pub goes_on : (y : Tall SchemaExp) (us : List Symbol) → operand (rest ts) ≡ Ok (y, us) → max x.height y.height + 1 ≤ highest
+      → joined joins operand make highest (suc n) x ts ≡ joined joins operand make highest n (tall (make x.part y.part) (max x.height y.height + 1)) us
+  unfolding joined
+  goes_on y us e low = rw (is, e, le-leb (max x.height y.height + 1) highest low) refl
+
+  pub too_high : (y : Tall SchemaExp) (us : List Symbol) → operand (rest ts) ≡ Ok (y, us) → highest < max x.height y.height + 1 → joined joins operand make highest (suc n) x ts ≡ Err TooDeep
+  unfolding joined
+  too_high y us e high = rw (is, e, lt-leb (max x.height y.height + 1) highest high) refl
+
+  pub fails : (kind : TextFaultKind) (line : ℕ) → Fails (operand (rest ts)) kind line → Fails (joined joins operand make highest (suc n) x ts) kind line
+  unfolding joined
+  fails kind line h = rw is (fails_then _ _ kind line h)

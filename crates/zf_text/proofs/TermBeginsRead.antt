@@ -1,0 +1,166 @@
+-- What begins a term: what a levelled tree spells there is read.
+use Rattle.std.proofs.Common.{◌≡◌, ℕ, ◌+◌, ◌≤◌, List, ◌∷◌, Ok, true, false, refl, sym, ap, ◌∙◌, subst, arith}
+use Rattle.std.proofs.lemmas.Bool.{le-leb}
+use Rattle.zf_text.specs.declared.next.Mark.TheVariants as mark
+use Rattle.zf_text.specs.declared.tall.Tall.{Tall}
+use Rattle.zf_text.specs.declared.token.Constant.{Constant}
+use Rattle.zf_text.specs.declared.token.Kind.TheVariants as k
+use Rattle.zf_text.specs.declared.token.Quantifier.{Quantifier}
+use Rattle.zf_text.specs.declared.tree.Name.{Name}
+use Rattle.zf_text.specs.declared.tree.Sign.{Sign}
+use Rattle.zf_text.specs.declared.tree.Sign.TheVariants as sign
+use Rattle.zf_text.specs.declared.tree.Term.{Term}
+use Rattle.zf_text.specs.declared.tree.Term.TheVariants as term
+use Rattle.zf_text.specs.Height.{height, tallest}
+use Rattle.zf_text.specs.Levels.{quantifier_level, negation_level, expression_level, unary_level, sign_level, level, IsLevelled, AreAt}
+use Rattle.zf_text.specs.Reading.{first, next_of, is_mark}
+use Rattle.zf_text.specs.Separators.{Symbol, symbol}
+use Rattle.zf_text.specs.Spelling.{Spells}
+use Rattle.zf_text.specs.TermReading.{Outcome, binds, begins_decl, tall, enclosed, empty_set, round, display, builder, braced, under, quantified, beginning}
+use Rattle.zf_text.specs.Trees.{Tree, named, numeral, constant, bracket, tuple, prefixed, inverse, applied, infixed, arrow, chain, negated, connected, Trees, no_trees, tree, Links, no_links, link, VarDecls, no_decls, var_decl, Perhaps, absent, present, trees, links, var_decls, tree_of, link_of, var_decl_of}
+use Rattle.zf_text.specs.Trees as shape
+use Rattle.zf_text.proofs.Marks.{seen}
+use Rattle.zf_text.proofs.TermFirsts.{not_closed}
+use Rattle.zf_text.proofs.TermSeen as of
+use Rattle.zf_text.proofs.TermSeen.{part_of}
+use Rattle.zf_text.proofs.TermSteps.{ok_expect}
+use Rattle.zf_text.proofs.TermParts.{decls_of}
+use Rattle.zf_text.proofs.TermPartsRead.{IsRead, Reader, IsComplete, first_is, part_first, from_false, decls_begin, items_do_not, further_stops, all_complete, decls_complete, part_complete}
+
+module _ (below : Reader) (n : ℕ) (ok : IsComplete n below) where
+  pub moved : (o p : Outcome (Tall Term)) (t : Tree) (us : List Symbol) → o ≡ p → IsRead p t us → IsRead o t us
+  moved o p t us e r = record { term = r.term; is = r.is; read = e ∙ r.read }
+
+  pub name_begins : (least : ℕ) (m : Name) (ts us : List Symbol) → Spells (named m) ts us → IsRead (beginning below least ts) (named m) us
+  unfolding beginning
+  name_begins least m ts us h = record { term = term.Name m; is = of.of-Name m; read = ap (beginning below least) h }
+
+  pub numeral_begins : (least l v : ℕ) (ts us : List Symbol) → Spells (numeral l v) ts us → IsRead (beginning below least ts) (numeral l v) us
+  unfolding beginning
+  numeral_begins least l v ts us h = record { term = term.Number l v; is = of.of-Number l v; read = ap (beginning below least) h }
+
+  pub constant_begins : (least l : ℕ) (c : Constant) (ts us : List Symbol) → Spells (constant l c) ts us → IsRead (beginning below least ts) (constant l c) us
+  unfolding beginning
+  constant_begins least l c ts us h = record { term = term.Constant l c; is = of.of-Constant l c; read = ap (beginning below least) h }
+
+  pub empty_set_begins : (least l : ℕ) (t : Tree) (ts us : List Symbol) → IsLevelled (shape.empty_set l t) → height (shape.empty_set l t) ≤ n + 1 → Spells (shape.empty_set l t) ts us → IsRead (beginning below least ts) (shape.empty_set l t) us
+  unfolding beginning empty_set enclosed
+  empty_set_begins least l t ts us lev low h =
+      let x = ok expression_level t h.1 h.2 lev.0 lev.1 (omega arith) h.5 (first_is (λ x. binds x ≤ expression_level) h.2 us h.6 (omega arith)) in
+      record {
+        term = term.EmptySet l x.term;
+        is = of.of-EmptySet l x.term ∙ ap (shape.empty_set l) x.is;
+        read = ap (beginning below least) h.3 ∙ rw (ok_expect mark.OpenSquare h.0 h.1 h.4, x.read, ok_expect mark.CloseSquare h.2 us h.6) refl;
+      }
+
+  pub bracket_begins : (least l : ℕ) (t : Tree) (ts us : List Symbol) → IsLevelled t → height t ≤ n → Spells (bracket l t) ts us → IsRead (beginning below least ts) (bracket l t) us
+  unfolding beginning round
+  bracket_begins least l t ts us lev low h =
+      let x = ok quantifier_level t h.0 (symbol k.CloseRound h.4.0 ∷ us) (omega arith) lev low (subst (Spells t h.0) h.4.1 h.3) (omega arith) in
+      record {
+        term = term.Bracket l x.term;
+        is = of.of-Bracket l x.term ∙ ap (bracket l) x.is;
+        read = ap (beginning below least) h.2 ∙ rw x.read refl;
+      }
+
+  pub tuple_begins : (least l : ℕ) (t u : Tree) (vs : Trees) (ts us : List Symbol) → AreAt expression_level (tree t (tree u vs)) → tallest (tree t (tree u vs)) ≤ n → Spells (tuple l (tree t (tree u vs))) ts us
+      → IsRead (beginning below least ts) (tuple l (tree t (tree u vs))) us
+  unfolding beginning round
+  tuple_begins least l t u vs ts us lev low h =
+      let (a, b, starts, (c, s, (d, e, comma, s_u, further_u)), close) = h in
+      let at : List Symbol = symbol k.Comma comma.0 ∷ d in
+      let x = ok quantifier_level t a at (omega arith) lev.1 (omega arith) (subst (Spells t a) comma.1 s) (omega arith) in
+      let all = all_complete below n ok mark.Comma expression_level (omega arith) x.term t (tree u vs) at b x.is lev.2 (omega arith) (first_is (λ x. is_mark mark.Comma x ≡ false) b us close refl) (first_is (λ x. binds x ≤ expression_level) b us close (omega arith)) (d, e, (comma.0, refl), s_u, further_u) in
+      let fits : expression_level ≤ level (tree_of x.term) = omega (arith, ap level x.is, lev.0) in
+      record {
+        term = term.Tuple l all.all;
+        is = of.of-Tuple l all.all ∙ ap (tuple l) all.are;
+        read = ap (beginning below least) starts ∙ rw (x.read, le-leb expression_level (level (tree_of x.term)) fits, all.read, ok_expect mark.CloseRound b us close) refl;
+      }
+
+  pub display_begins : (least l : ℕ) (t : Tree) (vs : Trees) (ts us : List Symbol) → AreAt expression_level (tree t vs) → tallest (tree t vs) ≤ n → Spells (shape.display l (tree t vs)) ts us
+      → IsRead (beginning below least ts) (shape.display l (tree t vs)) us
+  unfolding beginning braced display
+  display_begins least l t vs ts us lev low h =
+      let (a, b, starts, (c, s, more), close) = h in
+      let none = first_is (λ x. is_mark mark.Comma x ≡ false) b us close refl in
+      let stop = first_is (λ x. binds x ≤ expression_level) b us close (omega arith) in
+      let parts : binds (next_of k.Comma) ≤ expression_level = omega arith in
+      let x = ok expression_level t a c lev.0 lev.1 (omega arith) s (further_stops below n ok mark.Comma expression_level parts vs c b stop more) in
+      let all = all_complete below n ok mark.Comma expression_level parts x.term t vs c b x.is lev.2 (omega arith) none stop more in
+      let is : begins_decl true a ≡ false = from_false (begins_decl true a) (items_do_not t vs a c b us lev.1 lev.2 s more close) in
+      record {
+        term = term.Display l all.all;
+        is = of.of-Display l all.all ∙ ap (shape.display l) all.are;
+        read = ap (beginning below least) starts ∙ rw (is, not_closed t a c s, x.read, all.read, ok_expect mark.CloseBrace b us close) refl;
+      }
+
+  pub builder_begins : (least l : ℕ) (ds : VarDecls) (p t : Perhaps) (ts us : List Symbol) → IsLevelled (shape.builder l ds p t) → height (shape.builder l ds p t) ≤ n + 1 → Spells (shape.builder l ds p t) ts us
+      → IsRead (beginning below least ts) (shape.builder l ds p t) us
+  unfolding beginning braced builder
+  builder_begins least l ds p t ts us lev low h =
+      let (a, b, c, d, starts, decls_h, p_h, t_h, close) = h in
+      let no_at = first_is (λ x. is_mark mark.At x ≡ false) d us close refl in
+      let stop_d = first_is (λ x. binds x ≤ expression_level) d us close (omega arith) in
+      let no_bar = part_first k.At (λ x. is_mark mark.Bar x ≡ false) t c d t_h refl (first_is (λ x. is_mark mark.Bar x ≡ false) d us close refl) in
+      let stop_c = part_first k.At (λ x. binds x ≤ quantifier_level) t c d t_h (omega arith) (first_is (λ x. binds x ≤ quantifier_level) d us close (omega arith)) in
+      let no_sep = part_first k.Bar (λ x. is_mark mark.Separator x ≡ false) p b c p_h refl (part_first k.At (λ x. is_mark mark.Separator x ≡ false) t c d t_h refl (first_is (λ x. is_mark mark.Separator x ≡ false) d us close refl)) in
+      let stop_b = part_first k.Bar (λ x. binds x ≤ expression_level) p b c p_h (omega arith) (part_first k.At (λ x. binds x ≤ expression_level) t c d t_h (omega arith) stop_d) in
+      let xs = decls_complete below n ok ds a b lev.0 (omega arith) no_sep stop_b decls_h in
+      let q = part_complete below n ok mark.Bar quantifier_level p b c lev.1 (omega arith) no_bar stop_c p_h in
+      let r = part_complete below n ok mark.At expression_level t c d lev.2 (omega arith) no_at stop_d t_h in
+      let are = xs.are in
+      let is_p = q.is in
+      let is_t = r.is in
+      let same : shape.builder l (decls_of xs.all) (part_of q.term) (part_of r.term) ≡ shape.builder l ds p t = cc in
+      record {
+        term = term.Builder l xs.all q.term r.term;
+        is = of.of-Builder l xs.all q.term r.term ∙ same;
+        read = ap (beginning below least) starts ∙ rw (decls_begin ds a b decls_h, xs.read, q.read, r.read, ok_expect mark.CloseBrace d us close) refl;
+      }
+
+  pub quantified_begins : (least l : ℕ) (w : Quantifier) (ds : VarDecls) (p : Perhaps) (t : Tree) (ts us : List Symbol) → least ≤ quantifier_level → IsLevelled (shape.quantified l w ds p t) → height (shape.quantified l w ds p t) ≤ n + 1
+      → Spells (shape.quantified l w ds p t) ts us → binds (first us) ≤ quantifier_level → IsRead (beginning below least ts) (shape.quantified l w ds p t) us
+  unfolding beginning quantified
+  quantified_begins least l w ds p t ts us fits lev low h stop =
+      let (a, b, c, d, starts, decls_h, p_h, at, t_h) = h in
+      let no_bar = first_is (λ x. is_mark mark.Bar x ≡ false) c d at refl in
+      let stop_c = first_is (λ x. binds x ≤ quantifier_level) c d at (omega arith) in
+      let no_sep = part_first k.Bar (λ x. is_mark mark.Separator x ≡ false) p b c p_h refl (first_is (λ x. is_mark mark.Separator x ≡ false) c d at refl) in
+      let stop_b = part_first k.Bar (λ x. binds x ≤ expression_level) p b c p_h (omega arith) (first_is (λ x. binds x ≤ expression_level) c d at (omega arith)) in
+      let xs = decls_complete below n ok ds a b lev.0 (omega arith) no_sep stop_b decls_h in
+      let q = part_complete below n ok mark.Bar quantifier_level p b c lev.1 (omega arith) no_bar stop_c p_h in
+      let x = ok quantifier_level t d us (omega arith) lev.2 (omega arith) t_h stop in
+      let are = xs.are in
+      let is_p = q.is in
+      let is_t = x.is in
+      let same : shape.quantified l w (decls_of xs.all) (part_of q.term) (tree_of x.term) ≡ shape.quantified l w ds p t = cc in
+      record {
+        term = term.Quantified l w xs.all q.term x.term;
+        is = of.of-Quantified l w xs.all q.term x.term ∙ same;
+        read = ap (beginning below least) starts ∙ rw (le-leb least quantifier_level fits, xs.read, q.read, ok_expect mark.At c d at, x.read) refl;
+      }
+
+  under_complete : (place : ℕ) (make : Term → Term) (node t : Tree) (a us : List Symbol) → ((x : Term) → tree_of x ≡ t → tree_of (make x) ≡ node) → height node ≡ height t + 1 → place ≤ level t → IsLevelled t → height t ≤ n → Spells t a us → binds (first us) ≤ place
+      → IsRead (under below place make a) node us
+  unfolding under
+  under_complete place make node t a us seen high fits lev low h stop =
+      let x = ok place t a us fits lev low h stop in
+      record { term = make x.term; is = seen x.term x.is; read = rw x.read (ap (λ h. Ok (tall (make x.term) h, us)) (sym high)) }
+
+  pub prefixed_begins : (s : Sign) (least l : ℕ) (t : Tree) (ts us : List Symbol) → least ≤ sign_level s → IsLevelled (prefixed l s t) → height (prefixed l s t) ≤ n + 1 → Spells (prefixed l s t) ts us → binds (first us) ≤ sign_level s
+      → IsRead (beginning below least ts) (prefixed l s t) us
+  unfolding beginning
+  prefixed_begins sign.Minus least l t ts us fits lev low h stop =
+      moved _ _ _ us (ap (beginning below least) h.1 ∙ rw (le-leb least unary_level fits) refl)
+      (under_complete unary_level (term.Prefix l sign.Minus) (prefixed l sign.Minus t) t h.0 us (λ x is. of.of-Prefix l sign.Minus x ∙ ap (prefixed l sign.Minus) is) refl lev.0 lev.1 (omega arith) h.2 stop)
+  prefixed_begins (sign.Symbol s) least l t ts us fits lev low h stop =
+      moved _ _ _ us (ap (beginning below least) h.1 ∙ rw (le-leb least (sign_level (sign.Symbol s)) fits) refl)
+      (under_complete (sign_level (sign.Symbol s)) (term.Prefix l (sign.Symbol s)) (prefixed l (sign.Symbol s) t) t h.0 us (λ x is. of.of-Prefix l (sign.Symbol s) x ∙ ap (prefixed l (sign.Symbol s)) is) refl lev.0 lev.1 (omega arith) h.2 stop)
+
+  pub negated_begins : (least l : ℕ) (t : Tree) (ts us : List Symbol) → least ≤ negation_level → IsLevelled (negated l t) → height (negated l t) ≤ n + 1 → Spells (negated l t) ts us → binds (first us) ≤ negation_level
+      → IsRead (beginning below least ts) (negated l t) us
+  unfolding beginning
+  negated_begins least l t ts us fits lev low h stop =
+      moved _ _ _ us (ap (beginning below least) h.1 ∙ rw (le-leb least negation_level fits) refl)
+      (under_complete negation_level (term.Not l) (negated l t) t h.0 us (λ x is. of.of-Not l x ∙ ap (negated l) is) refl lev.0 lev.1 (omega arith) h.2 stop)

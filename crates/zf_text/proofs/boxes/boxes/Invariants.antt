@@ -1,0 +1,7 @@
+use Rattle.std.proofs.Common.{◌≡◌, ◌-◌}
+use Rattle.zf_text.specs.BoxReading.{read_boxes, boxes_from}
+use Rattle.zf_text.proofs.boxes.boxes.Given as goal
+
+-- the boxes so far, and those that are left, are the whole
+abbrev pub invariant-loop-turn : goal.invariant-loop-turn
+invariant-loop-turn l = read_boxes l.highest l.fn.tokens ≡ boxes_from l.highest (l._turn-end - l._turn) l.boxes l.tokens

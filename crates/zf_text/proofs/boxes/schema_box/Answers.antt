@@ -1,0 +1,13 @@
+use Rattle.std.proofs.Common.{◌≡◌, true, refl, rules, arith}
+use Rattle.std.proofs.lemmas.Grind.{common_steps}
+use Rattle.zf_text.specs.declared.next.Mark.TheVariants as mark
+use Rattle.zf_text.specs.BoxReading.{read_schema_box}
+use Rattle.zf_text.specs.Reading.{first, is_mark}
+use Rattle.zf_text.proofs.BoxDecls.{no_decls}
+use Rattle.zf_text.proofs.boxes.schema_box.Goals as goal
+
+pub returns-then-is_at : goal.returns-then-is_at
+unfolding read_schema_box
+returns-then-is_at c =
+    let is : is_mark mark.OpenSquare (first c.opening.new.self) ≡ true = grind (arith, common_steps) in
+    rw (c.not_in_profile.ensures, c.in_ok-name.ensures, no_decls c.args.highest c.opening.new.self is) refl

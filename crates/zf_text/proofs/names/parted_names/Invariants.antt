@@ -1,0 +1,7 @@
+use Rattle.std.proofs.Common.{◌≡◌, ◌-◌}
+use Rattle.zf_text.specs.Reading.{parted, parted_from, read_name}
+use Rattle.zf_text.proofs.names.parted_names.Given as goal
+
+-- the names so far, and those that are left, are the whole
+abbrev pub invariant-loop-turn : goal.invariant-loop-turn
+invariant-loop-turn l = parted l.part read_name l.fn.tokens ≡ parted_from l.part read_name (l._turn-end - l._turn) l.names l.tokens

@@ -1,7 +1,0 @@
-use Rattle.std.proofs.Common.{◌≡◌, ◌-◌}
-use Rattle.zf_text.specs.Reading.{read_boxes, boxes_from}
-use Rattle.zf_text.proofs.rules.boxes.Given as goal
-
--- the boxes so far, and those that are left, are the whole
-abbrev pub invariant-loop-turn : goal.invariant-loop-turn
-invariant-loop-turn l = read_boxes l.fn.tokens ≡ boxes_from (l._turn-end - l._turn) l.boxes l.tokens

@@ -1,0 +1,355 @@
+-- Reading a term from left to right, as the parser does. No public clause rests on this file.
+use Rattle.std.specs.Prelude.{◌≡◌, ℕ, zero, suc, ◌+◌, max, nat_le, Bool, true, false, not, if◌then◌else◌, List, [], ◌∷◌, ◌++◌, length, Option, Some, None, Result, Ok, Err}
+use Rattle.zf_text.specs.declared.fault.TextFault.{TextFault}
+use Rattle.zf_text.specs.declared.fault.TextFaultKind.{TextFaultKind}
+use Rattle.zf_text.specs.declared.fault.TextFaultKind.TheVariants as fault
+use Rattle.zf_text.specs.declared.next.Mark.{Mark}
+use Rattle.zf_text.specs.declared.next.Mark.TheVariants as mark
+use Rattle.zf_text.specs.declared.next.Next.{Next}
+use Rattle.zf_text.specs.declared.next.Next.TheVariants as next
+use Rattle.zf_text.specs.declared.tall.Tall.{Tall}
+use Rattle.zf_text.specs.declared.token.Infix.TheVariants.{Minus}
+use Rattle.zf_text.specs.declared.token.Quantifier.{Quantifier}
+use Rattle.zf_text.specs.declared.token.Relation.{Relation}
+use Rattle.zf_text.specs.declared.tree.Link.{Link, roll-Link}
+use Rattle.zf_text.specs.declared.tree.Name.{Name}
+use Rattle.zf_text.specs.declared.tree.Sign.TheVariants as sign
+use Rattle.zf_text.specs.declared.tree.Term.{Term}
+use Rattle.zf_text.specs.declared.tree.Term.TheVariants as term
+use Rattle.zf_text.specs.declared.tree.VarDecl.{VarDecl, roll-VarDecl}
+use Rattle.zf_text.specs.Levels.{quantifier_level, negation_level, chain_level, expression_level, product_level, unary_level, application_level, postfix_level, connective_level, infix_level, sign_level, left_place, right_place, level}
+use Rattle.zf_text.specs.Reading as basic
+use Rattle.zf_text.specs.Reading.{first, rest, is_mark, read_name}
+use Rattle.zf_text.specs.Separators.{Symbol}
+use Rattle.zf_text.specs.Spelling.{line_of}
+use Rattle.zf_text.specs.Trees.{tree_of}
+
+-- ---- a value and the symbols after it, or why there is none
+
+pub data Fault : Type 0 where
+  -- no term is spelled here, of any height
+  Refused : Fault
+  -- none of the height that is allowed
+  TooDeep : Fault
+
+abbrev pub Outcome : Type 0 → Type 0
+Outcome A = Result (A × List Symbol) Fault
+
+abbrev pub Parser : Type 0 → Type 0
+Parser A = List Symbol → Outcome A
+
+abbrev pub and_then : {A B : Type 0} → Outcome A → (A → Parser B) → Outcome B
+and_then (Ok p) f = f p.0 p.1
+and_then (Err e) f = Err e
+
+infixl 10 ◌>>=◌
+abbrev pub ◌>>=◌ : {A B : Type 0} → Parser A → (A → Parser B) → Parser B
+p >>= f = λ ts. and_then (p ts) f
+
+infixl 10 ◌>>◌
+abbrev pub ◌>>◌ : {A B : Type 0} → Parser A → Parser B → Parser B
+p >> f = p >>= (λ _. f)
+
+abbrev pub pure : {A : Type 0} → A → Parser A
+pure a = λ ts. Ok (a, ts)
+
+abbrev pub refuse : {A : Type 0} → Parser A
+refuse = λ ts. Err Refused
+
+abbrev pub too_deep : {A : Type 0} → Parser A
+too_deep = λ ts. Err TooDeep
+
+-- goes past the next symbol
+abbrev pub past : {A : Type 0} → Parser A → Parser A
+past p = λ ts. p (rest ts)
+
+-- what a rule without terms answers
+abbrev pub lift : {A : Type 0} → basic.Outcome A → Outcome A
+lift None = Err Refused
+lift (Some p) = Ok p
+
+abbrev pub expect : Mark → Parser (Unit {0})
+expect m = λ ts. lift (basic.expect m ts)
+
+abbrev pub read_names : Parser (List Name)
+read_names = λ ts. lift (basic.parted mark.Comma read_name ts)
+
+-- the line of the next symbol
+abbrev pub here : List Symbol → ℕ
+here [] = 0
+here (t ∷ ts) = t.line
+
+-- ---- what a function that reads ensures: the outcome, unless memory ran out
+
+abbrev pub Fails : {A : Type 0} → Outcome A → TextFaultKind → (line : ℕ) → Type 0
+Fails outcome fault.OutOfMemory line = line ≡ 0
+Fails outcome fault.Unexpected line = outcome ≡ Err Refused
+Fails outcome fault.NotInProfile line = outcome ≡ Err Refused
+Fails outcome fault.TooDeep line = outcome ≡ Err TooDeep
+Fails outcome _ line = ⊥
+
+abbrev pub Gives : {A : Type 0} → Outcome A → Result A TextFault → List Symbol → Type 0
+Gives outcome (Ok a) after = outcome ≡ Ok (a, after)
+Gives outcome (Err e) after = Fails outcome e.kind e.line
+
+-- ---- what a symbol is behind a term
+
+-- one more than the level at which the symbol goes on with the term before it; 0 where it does not
+abbrev pub binds : Next → ℕ
+binds (next.Connective c) = connective_level c + 1
+binds (next.Relation r) = chain_level + 1
+binds (next.Arrow a) = expression_level + 1
+binds next.Cross = product_level + 1
+binds (next.Infix op) = infix_level op + 1
+binds next.Name = application_level + 1
+binds (next.Number v) = application_level + 1
+binds (next.Constant c) = application_level + 1
+binds next.EmptySet = application_level + 1
+binds next.OpenRound = application_level + 1
+binds next.OpenBrace = application_level + 1
+binds next.Inverse = postfix_level + 1
+binds next.OpenImage = postfix_level + 1
+binds _ = 0
+
+-- the level that the term before such a symbol has at least
+abbrev pub place_before : Next → ℕ
+place_before (next.Connective c) = left_place c
+place_before (next.Relation r) = expression_level
+place_before (next.Arrow a) = product_level
+place_before next.Cross = product_level + 1
+place_before (next.Infix op) = infix_level op
+place_before next.Inverse = postfix_level
+place_before next.OpenImage = postfix_level
+place_before _ = application_level
+
+-- whether the symbol goes on with a list of names; the test is whether a name is due
+abbrev pub goes_on : Bool → Next → Bool
+goes_on true next.Name = true
+goes_on false next.Comma = true
+goes_on _ _ = false
+
+-- whether it ends the list as a colon does
+abbrev pub ends_names : Bool → Next → Bool
+ends_names false next.Colon = true
+ends_names _ _ = false
+
+-- whether names parted by commas and a colon come next, the first of them a name that is due or what follows a name
+abbrev pub begins_decl : Bool → List Symbol → Bool
+begins_decl due [] = false
+begins_decl due (t ∷ ts) = if goes_on due (basic.next_of t.kind) then begins_decl (not due) ts else ends_names due (basic.next_of t.kind)
+
+-- ---- parts with their heights
+
+abbrev pub tall : {A : Type 0} → A → ℕ → Tall A
+tall part height = record { part = part; height = height }
+
+-- one more at the end
+abbrev pub with_term : Tall (List Term) → Tall Term → Tall (List Term)
+with_term xs x = tall (xs.part ++ x.part ∷ []) (max xs.height x.height)
+
+abbrev pub new_link : Relation → Term → Link
+new_link r t = roll-Link (record { relation = r; right = t })
+
+abbrev pub with_link : Tall (List Link) → Relation → Tall Term → Tall (List Link)
+with_link xs r x = tall (xs.part ++ new_link r x.part ∷ []) (max xs.height x.height)
+
+abbrev pub new_decl : List Name → Term → VarDecl
+new_decl ns t = roll-VarDecl (record { names = ns; set = t })
+
+abbrev pub with_decl : Tall (List VarDecl) → Tall VarDecl → Tall (List VarDecl)
+with_decl xs x = tall (xs.part ++ x.part ∷ []) (max xs.height x.height)
+
+-- a term over its only part
+abbrev pub over : (Term → Term) → Tall Term → Tall Term
+over make x = tall (make x.part) (x.height + 1)
+
+-- a term over two parts
+abbrev pub over_both : (Term → Term → Term) → Tall Term → Tall Term → Tall Term
+over_both make x y = tall (make x.part y.part) (max x.height y.height + 1)
+
+-- ---- the rules, of which `below` reads a term at a place, one level deeper
+
+module _ (below : ℕ → Parser (Tall Term)) where
+  -- further terms at this place, each behind the symbol; the number bounds the turns
+  unfoldable pub further_from : Mark → ℕ → ℕ → Tall (List Term) → Parser (Tall (List Term))
+  further_from m place zero xs = pure xs
+  further_from m place (suc n) xs = λ ts.
+      if is_mark m (first ts)
+      then and_then (below place (rest ts)) (λ x us. further_from m place n (with_term xs x) us)
+      else Ok (xs, ts)
+
+  unfoldable pub further : Mark → ℕ → Tall Term → Parser (Tall (List Term))
+  further m place x = λ ts. further_from m place (length ts) (tall (x.part ∷ []) x.height) ts
+
+  -- the links of a chain
+  abbrev pub links_by : (Tall (List Link) → Parser (Tall (List Link))) → Tall (List Link) → Next → Parser (Tall (List Link))
+  links_by more xs (next.Relation r) = past (do
+    x ← below expression_level
+    more (with_link xs r x))
+  links_by more xs _ = pure xs
+
+  unfoldable pub links_from : ℕ → Tall (List Link) → Parser (Tall (List Link))
+  links_from zero xs = pure xs
+  links_from (suc n) xs = λ ts. links_by (links_from n) xs (first ts) ts
+
+  unfoldable pub chain_links : Parser (Tall (List Link))
+  chain_links = λ ts. links_from (length ts) (tall [] 0) ts
+
+  -- declarations of bound variables
+  unfoldable pub read_decl : Parser (Tall VarDecl)
+  read_decl = do
+    ns ← read_names
+    expect mark.Colon
+    x ← below expression_level
+    pure (tall (new_decl ns x.part) x.height)
+
+  unfoldable pub decls_from : ℕ → Tall (List VarDecl) → Parser (Tall (List VarDecl))
+  decls_from zero xs = pure xs
+  decls_from (suc n) xs = λ ts.
+      if is_mark mark.Separator (first ts)
+      then and_then (read_decl (rest ts)) (λ x us. decls_from n (with_decl xs x) us)
+      else Ok (xs, ts)
+
+  unfoldable pub decls : Parser (Tall (List VarDecl))
+  decls = λ ts. and_then (read_decl ts) (λ x us. decls_from (length us) (tall (x.part ∷ []) x.height) us)
+
+  -- a part that may be left out, behind its symbol
+  unfoldable pub part : Mark → ℕ → Parser (Tall (Option Term))
+  part m place = λ ts.
+      if is_mark m (first ts)
+      then and_then (below place (rest ts)) (λ x us. Ok (tall (Some x.part) x.height, us))
+      else Ok (tall None 0, ts)
+
+  -- ---- what begins a term
+
+  unfoldable pub enclosed : ℕ → Mark → (Term → Term) → Parser (Tall Term)
+  enclosed place close make = do
+    x ← below place
+    expect close
+    pure (over make x)
+
+  unfoldable pub empty_set : ℕ → Parser (Tall Term)
+  empty_set line = expect mark.OpenSquare >> enclosed expression_level mark.CloseSquare (term.EmptySet line)
+
+  abbrev pub round_by : ℕ → Tall Term → Next → Parser (Tall Term)
+  round_by line x next.CloseRound = past (pure (over (term.Bracket line) x))
+  round_by line x next.Comma = λ ts.
+      if nat_le expression_level (level (tree_of x.part))
+      then (do
+        all ← further mark.Comma expression_level x
+        expect mark.CloseRound
+        pure (tall (term.Tuple line all.part) (all.height + 1))) ts
+      else Err Refused
+  round_by line x _ = refuse
+
+  -- after an opening bracket
+  unfoldable pub round : ℕ → Parser (Tall Term)
+  round line = do
+    x ← below quantifier_level
+    λ ts. round_by line x (first ts) ts
+
+  unfoldable pub display : ℕ → Parser (Tall Term)
+  display line = λ ts.
+      if is_mark mark.CloseBrace (first ts)
+      then Err Refused
+      else (do
+        x ← below expression_level
+        all ← further mark.Comma expression_level x
+        expect mark.CloseBrace
+        pure (tall (term.Display line all.part) (all.height + 1))) ts
+
+  unfoldable pub builder : ℕ → Parser (Tall Term)
+  builder line = do
+    ds ← decls
+    p ← part mark.Bar quantifier_level
+    t ← part mark.At expression_level
+    expect mark.CloseBrace
+    pure (tall (term.Builder line ds.part p.part t.part) (max (max ds.height p.height) t.height + 1))
+
+  unfoldable pub braced : ℕ → Parser (Tall Term)
+  braced line = λ ts. if begins_decl true ts then builder line ts else display line ts
+
+  unfoldable pub under : ℕ → (Term → Term) → Parser (Tall Term)
+  under place make = do
+    x ← below place
+    pure (over make x)
+
+  unfoldable pub quantified : ℕ → Quantifier → Parser (Tall Term)
+  quantified line q = do
+    ds ← decls
+    p ← part mark.Bar quantifier_level
+    expect mark.At
+    x ← below quantifier_level
+    pure (tall (term.Quantified line q ds.part p.part x.part) (max (max ds.height p.height) x.height + 1))
+
+  -- a rule that stands at its level or a looser place
+  abbrev pub if_at : ℕ → ℕ → Parser (Tall Term) → Parser (Tall Term)
+  if_at least place p = λ ts. if nat_le least place then p ts else Err Refused
+
+  abbrev pub beginning_by : ℕ → ℕ → Next → Parser (Tall Term)
+  beginning_by least line next.Name = λ ts. and_then (lift (read_name ts)) (λ n us. Ok (tall (term.Name n) 1, us))
+  beginning_by least line (next.Number v) = past (pure (tall (term.Number line v) 1))
+  beginning_by least line (next.Constant c) = past (pure (tall (term.Constant line c) 1))
+  beginning_by least line next.EmptySet = past (empty_set line)
+  beginning_by least line next.OpenRound = past (round line)
+  beginning_by least line next.OpenBrace = past (braced line)
+  beginning_by least line (next.Prefix s) = if_at least (sign_level (sign.Symbol s)) (past (under (sign_level (sign.Symbol s)) (term.Prefix line (sign.Symbol s))))
+  beginning_by least line (next.Infix Minus) = if_at least unary_level (past (under unary_level (term.Prefix line sign.Minus)))
+  beginning_by least line next.Not = if_at least negation_level (past (under negation_level (term.Not line)))
+  beginning_by least line (next.Quantifier q) = if_at least quantifier_level (past (quantified line q))
+  beginning_by least line _ = refuse
+
+  unfoldable pub beginning : ℕ → Parser (Tall Term)
+  beginning least = λ ts. beginning_by least (here ts) (first ts) ts
+
+  -- ---- what goes on with a term
+
+  unfoldable pub with_right : ℕ → (Term → Term → Term) → Tall Term → Parser (Tall Term)
+  with_right place make x = do
+    y ← below place
+    pure (over_both make x y)
+
+  unfoldable pub image : Tall Term → Parser (Tall Term)
+  image x = do
+    y ← below expression_level
+    expect mark.CloseImage
+    pure (over_both (term.Image (line_of (tree_of x.part))) x y)
+
+  unfoldable pub chained : Tall Term → Parser (Tall Term)
+  chained x = do
+    ks ← chain_links
+    pure (tall (term.Chain (line_of (tree_of x.part)) x.part ks.part) (max x.height ks.height + 1))
+
+  unfoldable pub product : Tall Term → Parser (Tall Term)
+  product x = do
+    all ← further mark.Cross (product_level + 1) x
+    pure (tall (term.Product (line_of (tree_of x.part)) all.part) (all.height + 1))
+
+  abbrev pub longer_by : Tall Term → Next → Parser (Tall Term)
+  longer_by x (next.Connective c) = past (with_right (right_place c) (term.Connective (line_of (tree_of x.part)) c) x)
+  longer_by x (next.Relation r) = chained x
+  longer_by x (next.Arrow a) = past (with_right expression_level (term.Arrow (line_of (tree_of x.part)) a) x)
+  longer_by x next.Cross = product x
+  longer_by x (next.Infix op) = past (with_right (infix_level op + 1) (term.Infix (line_of (tree_of x.part)) op) x)
+  longer_by x next.Inverse = past (pure (over (term.Inverse (line_of (tree_of x.part))) x))
+  longer_by x next.OpenImage = past (image x)
+  longer_by x _ = with_right postfix_level (term.Apply (line_of (tree_of x.part))) x
+
+  -- goes on while the symbols bind more tightly than this place, up to this height; the second number bounds the turns
+  unfoldable pub climb : ℕ → ℕ → ℕ → Tall Term → Parser (Tall Term)
+  climb highest least zero x = too_deep
+  climb highest least (suc n) x = λ ts.
+      if nat_le (binds (first ts)) least then Ok (x, ts)
+      else if nat_le (place_before (first ts)) (level (tree_of x.part))
+      then and_then (longer_by x (first ts) ts) (λ y us. if nat_le y.height highest then climb highest least n y us else Err TooDeep)
+      else Err Refused
+
+  unfoldable pub whole : ℕ → ℕ → Parser (Tall Term)
+  whole highest least = do
+    x ← beginning least
+    climb highest least highest x
+
+-- a term at this place, of at most this height
+unfoldable pub read_term : ℕ → ℕ → Parser (Tall Term)
+read_term zero least = too_deep
+read_term (suc n) least = whole (read_term n) (n + 1) least

@@ -1,0 +1,89 @@
+//! The rules of boxes and of a whole text.
+ghost use Rattle.std.specs.Prelude.{◌≤◌};
+ghost use Rattle.zf_text.specs.BoxReading as spec;
+ghost use Rattle.zf_text.specs.TermReading.{Gives};
+
+use crate::cursor::Cursor;
+use crate::decls::{decls, predicates};
+use crate::fault::TextFault;
+use crate::items::items;
+use crate::next::{Mark, Next};
+use crate::paragraphs::ParagraphRule;
+use crate::tree::ZBox;
+use std::alloc::Global;
+use zf_data::Items;
+
+/// A `zed` box, after its opening.
+#[tactic(auto, unfolding(crate::specs::BoxReading::read_zed))]
+fn zed(alloc: Global, tokens: &mut Cursor<'_>, highest: u32) -> Result<ZBox, TextFault>
+    requires { highest ≤ 1000 }
+    ensures { Gives (spec.read_zed highest tokens.old) result tokens.new }
+{
+    let paragraphs = items(
+        alloc,
+        tokens,
+        Mark::Separator,
+        &ParagraphRule { alloc, highest },
+    )?;
+    tokens.expect(Mark::EndBox)?;
+    Ok(ZBox::Zed(paragraphs.part))
+}
+
+/// A schema box. One with generic parameters is not read.
+#[tactic(auto, unfolding(crate::specs::BoxReading::read_schema_box))]
+fn schema_box(alloc: Global, tokens: &mut Cursor<'_>, highest: u32) -> Result<ZBox, TextFault>
+    requires { highest ≤ 1000 }
+    ensures { Gives (spec.read_schema_box highest tokens.old) result tokens.new }
+{
+    let name = tokens.opening(alloc)?;
+    if tokens.is_at(Mark::OpenSquare) {
+        return Err(TextFault::not_in_profile(tokens.line()));
+    }
+    let decls = decls(alloc, tokens, highest)?;
+    let predicates = predicates(alloc, tokens, highest, Mark::Where)?;
+    tokens.expect(Mark::EndBox)?;
+    Ok(ZBox::SchemaBox(name, decls.part, predicates.part))
+}
+
+#[tactic(auto, unfolding(crate::specs::BoxReading::read_box))]
+fn one_box(alloc: Global, tokens: &mut Cursor<'_>, highest: u32) -> Result<ZBox, TextFault>
+    requires { highest ≤ 1000 }
+    ensures { Gives (spec.read_box highest tokens.old) result tokens.new }
+{
+    match tokens.peek() {
+        Next::BeginZed => {
+            tokens.skip();
+            zed(alloc, tokens, highest)
+        }
+        _ => schema_box(alloc, tokens, highest),
+    }
+}
+
+/// All boxes.
+fn boxes(alloc: Global, tokens: &mut Cursor<'_>, highest: u32) -> Result<Items<ZBox>, TextFault>
+    requires { highest ≤ 1000 }
+    ensures { Gives (spec.read_boxes highest tokens.old) result tokens.new }
+{
+    let mut boxes = Items::new(alloc);
+    for _turn in 0..tokens.left() {
+        if tokens.is_done() {
+            return Ok(boxes);
+        }
+        let next = one_box(alloc, tokens, highest)?;
+        boxes.push(next)?;
+    }
+    Ok(boxes)
+}
+
+/// All boxes, and nothing after them.
+#[tactic(auto, unfolding(crate::specs::BoxReading::read_all))]
+pub fn all(alloc: Global, tokens: &mut Cursor<'_>, highest: u32) -> Result<Items<ZBox>, TextFault>
+    requires { highest ≤ 1000 }
+    ensures { Gives (spec.read_all highest tokens.old) result tokens.new }
+{
+    let boxes = boxes(alloc, tokens, highest)?;
+    if !tokens.is_done() {
+        return Err(tokens.unexpected());
+    }
+    Ok(boxes)
+}

@@ -1,0 +1,61 @@
+//! One or more items with their heights, parted by a symbol.
+ghost use Rattle.std.specs.Prelude.{◌≤◌, IfOk};
+ghost use Rattle.zf_text.specs.BoxReading as spec;
+ghost use Rattle.zf_text.specs.TermReading.{Gives};
+
+use crate::cursor::Cursor;
+use crate::fault::TextFault;
+use crate::next::Mark;
+use crate::tall::Tall;
+use std::alloc::Global;
+use zf_data::Items;
+
+/// A rule of the grammar, which reads items of one type up to a height.
+pub trait Rule {
+    type Item: Drop;
+
+    ghost use Rattle.std.specs.Prelude.{ℕ, List, Result};
+    ghost use Rattle.zf_text.specs.Separators.{Symbol};
+    ghost use Rattle.zf_text.specs.TermReading.{Fault};
+    ghost use Rattle.zf_text.specs.declared.tall.Tall.{Tall};
+
+    ghost parser: { Self → List Symbol → Result (Tall Self.Item × List Symbol) Fault };
+
+    ghost limit: { Self → ℕ };
+
+    fn read(&self, tokens: &mut Cursor<'_>) -> Result<Tall<Self::Item>, TextFault>
+        requires { limit self.now ≤ 1000 }
+        ensures value { Gives (parser self.now tokens.old) result tokens.new }
+        ensures low { IfOk result (λ x. x.height ≤ limit self.now) };
+}
+
+pub fn items<R: Rule>(
+    alloc: Global,
+    tokens: &mut Cursor<'_>,
+    part: Mark,
+    rule: &R,
+) -> Result<Tall<Items<R::Item>>, TextFault>
+    requires { R.limit rule.now ≤ 1000 }
+    ensures value { Gives (spec.items part (R.parser rule.now) tokens.old) result tokens.new }
+    ensures low { IfOk result (λ x. x.height ≤ R.limit rule.now) }
+{
+    let first = rule.read(tokens)?;
+    let mut items = Items::of(alloc, first.part)?;
+    let mut height = first.height;
+    for _turn in 0..tokens.left() {
+        if !tokens.is_at(part) {
+            return Ok(Tall {
+                part: items,
+                height,
+            });
+        }
+        tokens.skip();
+        let next = rule.read(tokens)?;
+        items.push(next.part)?;
+        height = height.max(next.height);
+    }
+    Ok(Tall {
+        part: items,
+        height,
+    })
+}

@@ -1,0 +1,137 @@
+//! The rules of paragraphs.
+ghost use Rattle.std.specs.Prelude.{◌≤◌, IfOk};
+ghost use Rattle.zf_text.specs.BoxReading as spec;
+ghost use Rattle.zf_text.specs.TermReading.{Gives};
+
+use crate::cursor::Cursor;
+use crate::fault::TextFault;
+use crate::items::Rule;
+use crate::levels::EXPRESSION;
+use crate::names::{names, parted_names};
+use crate::next::{Mark, Next};
+use crate::schemas::schema;
+use crate::tall::Tall;
+use crate::terms::term;
+use crate::tree::{Name, Paragraph};
+use std::alloc::Global;
+
+/// Given sets, after the opening bracket.
+#[tactic(auto, unfolding(crate::specs::BoxReading::given))]
+fn given(alloc: Global, tokens: &mut Cursor<'_>) -> Result<Tall<Paragraph>, TextFault>
+    ensures value { Gives (spec.given tokens.old) result tokens.new }
+    ensures low { IfOk result (λ x. x.height ≤ 0) }
+{
+    let names = names(alloc, tokens)?;
+    tokens.expect(Mark::CloseSquare)?;
+    Ok(Tall {
+        part: Paragraph::Given(names),
+        height: 0,
+    })
+}
+
+/// The constructors of a free type.
+#[tactic(auto, unfolding(crate::specs::BoxReading::free_type))]
+fn free_type(
+    alloc: Global,
+    tokens: &mut Cursor<'_>,
+    name: Name,
+) -> Result<Tall<Paragraph>, TextFault>
+    ensures value { Gives (spec.free_type name tokens.old) result tokens.new }
+    ensures low { IfOk result (λ x. x.height ≤ 0) }
+{
+    let constructors = parted_names(alloc, tokens, Mark::Bar)?;
+    Ok(Tall {
+        part: Paragraph::Free(name, constructors),
+        height: 0,
+    })
+}
+
+/// The term of an abbreviation.
+#[tactic(auto, unfolding(crate::specs::BoxReading::abbreviation))]
+fn abbreviation(
+    alloc: Global,
+    tokens: &mut Cursor<'_>,
+    highest: u32,
+    name: Name,
+) -> Result<Tall<Paragraph>, TextFault>
+    requires { highest ≤ 1000 }
+    ensures value { Gives (spec.abbreviation highest name tokens.old) result tokens.new }
+    ensures low { IfOk result (λ x. x.height ≤ highest) }
+{
+    let set = term(alloc, tokens, highest, EXPRESSION)?;
+    Ok(Tall {
+        part: Paragraph::Abbrev(name, set.part),
+        height: set.height,
+    })
+}
+
+/// The schema expression of a definition, whose name has no strokes.
+#[tactic(auto, unfolding(crate::specs::BoxReading::definition))]
+fn definition(
+    alloc: Global,
+    tokens: &mut Cursor<'_>,
+    highest: u32,
+    name: Name,
+) -> Result<Tall<Paragraph>, TextFault>
+    requires { highest ≤ 1000 }
+    ensures value { Gives (spec.definition highest name tokens.old) result tokens.new }
+    ensures low { IfOk result (λ x. x.height ≤ highest) }
+{
+    if !name.is_bare() {
+        return Err(tokens.unexpected());
+    }
+    let schema = schema(alloc, tokens, highest)?;
+    Ok(Tall {
+        part: Paragraph::Defs(name, schema.part),
+        height: schema.height,
+    })
+}
+
+/// A paragraph that begins with the name it defines.
+#[tactic(auto, unfolding(crate::specs::BoxReading::named))]
+fn named(alloc: Global, tokens: &mut Cursor<'_>, highest: u32) -> Result<Tall<Paragraph>, TextFault>
+    requires { highest ≤ 1000 }
+    ensures value { Gives (spec.named highest tokens.old) result tokens.new }
+    ensures low { IfOk result (λ x. x.height ≤ highest) }
+{
+    let name = tokens.name(alloc)?;
+    match tokens.peek() {
+        Next::FreeType => {
+            tokens.skip();
+            free_type(alloc, tokens, name)
+        }
+        Next::Abbreviates => {
+            tokens.skip();
+            abbreviation(alloc, tokens, highest, name)
+        }
+        Next::Defines => {
+            tokens.skip();
+            definition(alloc, tokens, highest, name)
+        }
+        _ => Err(tokens.unexpected()),
+    }
+}
+
+/// A paragraph.
+#[derive(Drop)]
+pub struct ParagraphRule {
+    pub alloc: Global,
+    pub highest: u32,
+}
+
+impl Rule for ParagraphRule {
+    type Item = Paragraph;
+
+    ghost parser = { λ r. spec.read_paragraph r.highest };
+
+    ghost limit = { λ r. r.highest };
+
+    #[tactic(auto, unfolding(crate::specs::BoxReading::read_paragraph))]
+    fn read(&self, tokens: &mut Cursor<'_>) -> Result<Tall<Paragraph>, TextFault> {
+        if tokens.is_at(Mark::OpenSquare) {
+            tokens.skip();
+            return given(self.alloc, tokens);
+        }
+        named(self.alloc, tokens, self.highest)
+    }
+}

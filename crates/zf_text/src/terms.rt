@@ -1,0 +1,94 @@
+//! The rules of terms.
+ghost use Rattle.std.specs.Prelude.{◌+◌, ◌≤◌, IfOk};
+ghost use Rattle.zf_text.specs.Nests.{Nests};
+ghost use Rattle.zf_text.specs.TermReading as spec;
+ghost use Rattle.zf_text.specs.TermReading.{Gives, read_term};
+
+mod beginnings;
+mod longer;
+mod parts;
+
+use crate::cursor::Cursor;
+use crate::fault::TextFault;
+use crate::levels::{binds, level, place_before};
+use crate::tall::Tall;
+use crate::tree::Term;
+use std::alloc::Global;
+
+/// What the rules are given: how terms that stand one level deeper are read, up to the height `below`.
+#[derive(Clone, Copy)]
+struct Grammar<F> {
+    alloc: Global,
+    below: u32,
+    read: F,
+}
+
+impl<F: Fn(Global, &mut Cursor<'_>, u32, u8) -> Result<Tall<Term>, TextFault>> Grammar<F> {
+    fn term(&self, tokens: &mut Cursor<'_>, place: u8) -> Result<Tall<Term>, TextFault>
+        requires nests { Nests self.now.below (F.pre self.now.read) (F.post self.now.read) }
+        ensures value { Gives (read_term self.now.below place tokens.old) result tokens.new }
+        ensures low { IfOk result (λ x. x.height ≤ self.now.below) }
+    {
+        (self.read)(self.alloc, tokens, self.below, place)
+    }
+
+    /// Goes on while the symbols bind more tightly than this place.
+    fn climb(
+        &self,
+        tokens: &mut Cursor<'_>,
+        least: u8,
+        mut left: Tall<Term>,
+    ) -> Result<Tall<Term>, TextFault>
+        requires nests { Nests self.now.below (F.pre self.now.read) (F.post self.now.read) }
+        requires left_low { left.height ≤ self.now.below + 1 }
+        ensures value { Gives (spec.climb (read_term self.now.below) (self.now.below + 1) least (self.now.below + 1) left tokens.old) result tokens.new }
+        ensures low { IfOk result (λ x. x.height ≤ self.now.below + 1) }
+    {
+        for _turn in 0..self.below + 1 {
+            let after = tokens.peek();
+            if binds(after) <= least {
+                return Ok(left);
+            }
+            if level(&left.part) < place_before(after) {
+                return Err(tokens.unexpected());
+            }
+            left = self.longer(tokens, left, after)?;
+            if left.height > self.below + 1 {
+                return Err(tokens.too_deep());
+            }
+        }
+        Err(tokens.too_deep())
+    }
+
+    #[tactic(auto, unfolding(crate::specs::TermReading::whole))]
+    fn whole(&self, tokens: &mut Cursor<'_>, least: u8) -> Result<Tall<Term>, TextFault>
+        requires nests { Nests self.now.below (F.pre self.now.read) (F.post self.now.read) }
+        ensures value { Gives (spec.whole (read_term self.now.below) (self.now.below + 1) least tokens.old) result tokens.new }
+        ensures low { IfOk result (λ x. x.height ≤ self.now.below + 1) }
+    {
+        let first = self.beginning(tokens, least)?;
+        self.climb(tokens, least, first)
+    }
+}
+
+/// A term at this place, of at most this height.
+pub fn term(
+    alloc: Global,
+    tokens: &mut Cursor<'_>,
+    highest: u32,
+    least: u8,
+) -> Result<Tall<Term>, TextFault>
+    requires { highest ≤ 1000 }
+    ensures value { Gives (read_term highest least tokens.old) result tokens.new }
+    ensures low { IfOk result (λ x. x.height ≤ highest) }
+{
+    if highest == 0 {
+        return Err(tokens.too_deep());
+    }
+    Grammar {
+        alloc,
+        below: highest - 1,
+        read: term,
+    }
+    .whole(tokens, least)
+}

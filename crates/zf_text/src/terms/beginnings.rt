@@ -1,0 +1,253 @@
+//! What begins a term.
+ghost use Rattle.std.specs.Prelude.{◌≡◌, ◌+◌, ◌≤◌, IfOk};
+ghost use Rattle.zf_text.specs.Levels as levels;
+ghost use Rattle.zf_text.specs.Nests.{Nests};
+ghost use Rattle.zf_text.specs.TermReading as spec;
+ghost use Rattle.zf_text.specs.TermReading.{Gives, read_term};
+ghost use Rattle.zf_text.specs.declared.next.Next.TheVariants as next;
+ghost use Rattle.zf_text.specs.declared.tree.Term.TheVariants as term;
+
+use super::Grammar;
+use crate::cursor::Cursor;
+use crate::fault::TextFault;
+use crate::levels::{EXPRESSION, NEGATION, QUANTIFIER, UNARY, level, sign_level};
+use crate::next::{Mark, Next};
+use crate::tall::Tall;
+use crate::token::{Infix, Quantifier};
+use crate::tree::{Sign, Term};
+use std::alloc::Global;
+use zf_data::Boxed;
+
+impl<F: Fn(Global, &mut Cursor<'_>, u32, u8) -> Result<Tall<Term>, TextFault>> Grammar<F> {
+    /// After `\emptyset`.
+    #[tactic(auto, unfolding(crate::specs::TermReading::empty_set, crate::specs::TermReading::enclosed))]
+    fn empty_set(&self, tokens: &mut Cursor<'_>, line: u32) -> Result<Tall<Term>, TextFault>
+        requires nests { Nests self.now.below (F.pre self.now.read) (F.post self.now.read) }
+        ensures value { Gives (spec.empty_set (read_term self.now.below) line tokens.old) result tokens.new }
+        ensures low { IfOk result (λ x. x.height ≤ self.now.below + 1) }
+    {
+        if !tokens.is_at(Mark::OpenSquare) {
+            return Err(TextFault::not_in_profile(line));
+        }
+        tokens.skip();
+        let set = self.term(tokens, EXPRESSION)?;
+        tokens.expect(Mark::CloseSquare)?;
+        Ok(Tall {
+            part: Term::EmptySet(line, Boxed::new(self.alloc, set.part)?),
+            height: set.height + 1,
+        })
+    }
+
+    /// After `(` and a term that a comma follows.
+    fn tuple(
+        &self,
+        tokens: &mut Cursor<'_>,
+        line: u32,
+        first: Tall<Term>,
+    ) -> Result<Tall<Term>, TextFault>
+        requires nests { Nests self.now.below (F.pre self.now.read) (F.post self.now.read) }
+        requires first_low { first.height ≤ self.now.below }
+        ensures value { Gives (spec.round_by (read_term self.now.below) line first next.Comma tokens.old) result tokens.new }
+        ensures low { IfOk result (λ x. x.height ≤ self.now.below + 1) }
+    {
+        if level(&first.part) < EXPRESSION {
+            return Err(tokens.unexpected());
+        }
+        let all = self.further(tokens, Mark::Comma, EXPRESSION, first)?;
+        tokens.expect(Mark::CloseRound)?;
+        Ok(Tall {
+            part: Term::Tuple(line, all.part),
+            height: all.height + 1,
+        })
+    }
+
+    /// After `(`.
+    #[tactic(auto, unfolding(crate::specs::TermReading::round))]
+    fn round(&self, tokens: &mut Cursor<'_>, line: u32) -> Result<Tall<Term>, TextFault>
+        requires nests { Nests self.now.below (F.pre self.now.read) (F.post self.now.read) }
+        ensures value { Gives (spec.round (read_term self.now.below) line tokens.old) result tokens.new }
+        ensures low { IfOk result (λ x. x.height ≤ self.now.below + 1) }
+    {
+        let inner = self.term(tokens, QUANTIFIER)?;
+        match tokens.peek() {
+            Next::CloseRound => {
+                tokens.skip();
+                Ok(Tall {
+                    part: Term::Bracket(line, Boxed::new(self.alloc, inner.part)?),
+                    height: inner.height + 1,
+                })
+            }
+            Next::Comma => self.tuple(tokens, line, inner),
+            _ => Err(tokens.unexpected()),
+        }
+    }
+
+    /// After `\{`, where no declaration begins.
+    #[tactic(auto, unfolding(crate::specs::TermReading::display))]
+    fn display(&self, tokens: &mut Cursor<'_>, line: u32) -> Result<Tall<Term>, TextFault>
+        requires nests { Nests self.now.below (F.pre self.now.read) (F.post self.now.read) }
+        ensures value { Gives (spec.display (read_term self.now.below) line tokens.old) result tokens.new }
+        ensures low { IfOk result (λ x. x.height ≤ self.now.below + 1) }
+    {
+        if tokens.is_at(Mark::CloseBrace) {
+            return Err(TextFault::not_in_profile(line));
+        }
+        let first = self.term(tokens, EXPRESSION)?;
+        let all = self.further(tokens, Mark::Comma, EXPRESSION, first)?;
+        tokens.expect(Mark::CloseBrace)?;
+        Ok(Tall {
+            part: Term::Display(line, all.part),
+            height: all.height + 1,
+        })
+    }
+
+    /// After `\{`, where a declaration begins.
+    #[tactic(auto, unfolding(crate::specs::TermReading::builder))]
+    fn builder(&self, tokens: &mut Cursor<'_>, line: u32) -> Result<Tall<Term>, TextFault>
+        requires nests { Nests self.now.below (F.pre self.now.read) (F.post self.now.read) }
+        ensures value { Gives (spec.builder (read_term self.now.below) line tokens.old) result tokens.new }
+        ensures low { IfOk result (λ x. x.height ≤ self.now.below + 1) }
+    {
+        let decls = self.decls(tokens)?;
+        let filter = self.part(tokens, Mark::Bar, QUANTIFIER)?;
+        let value = self.part(tokens, Mark::At, EXPRESSION)?;
+        tokens.expect(Mark::CloseBrace)?;
+        Ok(Tall {
+            part: Term::Builder(line, decls.part, filter.part, value.part),
+            height: decls.height.max(filter.height).max(value.height) + 1,
+        })
+    }
+
+    /// After `\{`.
+    #[tactic(auto, unfolding(crate::specs::TermReading::braced))]
+    fn braced(&self, tokens: &mut Cursor<'_>, line: u32) -> Result<Tall<Term>, TextFault>
+        requires nests { Nests self.now.below (F.pre self.now.read) (F.post self.now.read) }
+        ensures value { Gives (spec.braced (read_term self.now.below) line tokens.old) result tokens.new }
+        ensures low { IfOk result (λ x. x.height ≤ self.now.below + 1) }
+    {
+        if tokens.begins_decl() {
+            self.builder(tokens, line)
+        } else {
+            self.display(tokens, line)
+        }
+    }
+
+    /// After the sign.
+    #[tactic(auto, unfolding(crate::specs::TermReading::under))]
+    fn prefixed(
+        &self,
+        tokens: &mut Cursor<'_>,
+        line: u32,
+        sign: Sign,
+    ) -> Result<Tall<Term>, TextFault>
+        requires nests { Nests self.now.below (F.pre self.now.read) (F.post self.now.read) }
+        ensures value { Gives (spec.under (read_term self.now.below) (levels.sign_level sign) (term.Prefix line sign) tokens.old) result tokens.new }
+        ensures low { IfOk result (λ x. x.height ≤ self.now.below + 1) }
+    {
+        let operand = self.term(tokens, sign_level(sign))?;
+        Ok(Tall {
+            part: Term::Prefix(line, sign, Boxed::new(self.alloc, operand.part)?),
+            height: operand.height + 1,
+        })
+    }
+
+    /// After `\lnot`.
+    #[tactic(auto, unfolding(crate::specs::TermReading::under))]
+    fn negated(&self, tokens: &mut Cursor<'_>, line: u32) -> Result<Tall<Term>, TextFault>
+        requires nests { Nests self.now.below (F.pre self.now.read) (F.post self.now.read) }
+        ensures value { Gives (spec.under (read_term self.now.below) levels.negation_level (term.Not line) tokens.old) result tokens.new }
+        ensures low { IfOk result (λ x. x.height ≤ self.now.below + 1) }
+    {
+        let operand = self.term(tokens, NEGATION)?;
+        Ok(Tall {
+            part: Term::Not(line, Boxed::new(self.alloc, operand.part)?),
+            height: operand.height + 1,
+        })
+    }
+
+    /// After the quantifier.
+    #[tactic(auto, unfolding(crate::specs::TermReading::quantified))]
+    fn quantified(
+        &self,
+        tokens: &mut Cursor<'_>,
+        line: u32,
+        quantifier: Quantifier,
+    ) -> Result<Tall<Term>, TextFault>
+        requires nests { Nests self.now.below (F.pre self.now.read) (F.post self.now.read) }
+        ensures value { Gives (spec.quantified (read_term self.now.below) line quantifier tokens.old) result tokens.new }
+        ensures low { IfOk result (λ x. x.height ≤ self.now.below + 1) }
+    {
+        let decls = self.decls(tokens)?;
+        let constraint = self.part(tokens, Mark::Bar, QUANTIFIER)?;
+        tokens.expect(Mark::At)?;
+        let body = self.term(tokens, QUANTIFIER)?;
+        let inner = Boxed::new(self.alloc, body.part)?;
+        Ok(Tall {
+            part: Term::Quantified(line, quantifier, decls.part, constraint.part, inner),
+            height: decls.height.max(constraint.height).max(body.height) + 1,
+        })
+    }
+
+    /// What stands first in a term at this place.
+    #[tactic(auto, unfolding(crate::specs::TermReading::beginning))]
+    pub(super) fn beginning(
+        &self,
+        tokens: &mut Cursor<'_>,
+        least: u8,
+    ) -> Result<Tall<Term>, TextFault>
+        requires nests { Nests self.now.below (F.pre self.now.read) (F.post self.now.read) }
+        ensures value { Gives (spec.beginning (read_term self.now.below) least tokens.old) result tokens.new }
+        ensures low { IfOk result (λ x. x.height ≤ self.now.below + 1) }
+    {
+        let line = tokens.line();
+        match tokens.peek() {
+            Next::Name => Ok(Tall {
+                part: Term::Name(tokens.name(self.alloc)?),
+                height: 1,
+            }),
+            Next::Number(value) => {
+                tokens.skip();
+                Ok(Tall {
+                    part: Term::Number(line, value),
+                    height: 1,
+                })
+            }
+            Next::Constant(constant) => {
+                tokens.skip();
+                Ok(Tall {
+                    part: Term::Constant(line, constant),
+                    height: 1,
+                })
+            }
+            Next::EmptySet => {
+                tokens.skip();
+                self.empty_set(tokens, line)
+            }
+            Next::OpenRound => {
+                tokens.skip();
+                self.round(tokens, line)
+            }
+            Next::OpenBrace => {
+                tokens.skip();
+                self.braced(tokens, line)
+            }
+            Next::Prefix(prefix) if least <= sign_level(Sign::Symbol(prefix)) => {
+                tokens.skip();
+                self.prefixed(tokens, line, Sign::Symbol(prefix))
+            }
+            Next::Infix(Infix::Minus) if least <= UNARY => {
+                tokens.skip();
+                self.prefixed(tokens, line, Sign::Minus)
+            }
+            Next::Not if least <= NEGATION => {
+                tokens.skip();
+                self.negated(tokens, line)
+            }
+            Next::Quantifier(quantifier) if least <= QUANTIFIER => {
+                tokens.skip();
+                self.quantified(tokens, line, quantifier)
+            }
+            _ => Err(tokens.unexpected()),
+        }
+    }
+}

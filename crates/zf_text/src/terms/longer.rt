@@ -1,0 +1,196 @@
+//! What goes on with a term.
+ghost use Rattle.std.specs.Prelude.{◌+◌, ◌≤◌, IfOk};
+ghost use Rattle.zf_text.specs.Levels as levels;
+ghost use Rattle.zf_text.specs.Nests.{Nests};
+ghost use Rattle.zf_text.specs.Spelling.{line_of};
+ghost use Rattle.zf_text.specs.TermReading as spec;
+ghost use Rattle.zf_text.specs.TermReading.{Gives, read_term};
+ghost use Rattle.zf_text.specs.Trees.{tree_of};
+ghost use Rattle.zf_text.specs.declared.next.Next.TheVariants as next;
+ghost use Rattle.zf_text.specs.declared.tree.Term.TheVariants as term;
+
+use super::Grammar;
+use crate::cursor::Cursor;
+use crate::fault::TextFault;
+use crate::levels::{EXPRESSION, POSTFIX, PRODUCT, infix_level, line, right_place};
+use crate::next::{Mark, Next};
+use crate::tall::Tall;
+use crate::token::{Arrow, Connective, Infix};
+use crate::tree::Term;
+use std::alloc::Global;
+use zf_data::Boxed;
+
+impl<F: Fn(Global, &mut Cursor<'_>, u32, u8) -> Result<Tall<Term>, TextFault>> Grammar<F> {
+    #[tactic(auto, unfolding(crate::specs::TermReading::with_right))]
+    fn connected(
+        &self,
+        tokens: &mut Cursor<'_>,
+        connective: Connective,
+        left: Tall<Term>,
+    ) -> Result<Tall<Term>, TextFault>
+        requires nests { Nests self.now.below (F.pre self.now.read) (F.post self.now.read) }
+        requires left_low { left.height ≤ self.now.below + 1 }
+        ensures value { Gives (spec.longer_by (read_term self.now.below) left (next.Connective connective) tokens.old) result tokens.new }
+        ensures low { IfOk result (λ x. x.height ≤ self.now.below + 2) }
+    {
+        tokens.skip();
+        let right = self.term(tokens, right_place(connective))?;
+        let line = line(&left.part);
+        let first = Boxed::new(self.alloc, left.part)?;
+        let second = Boxed::new(self.alloc, right.part)?;
+        Ok(Tall {
+            part: Term::Connective(line, connective, first, second),
+            height: left.height.max(right.height) + 1,
+        })
+    }
+
+    #[tactic(auto, unfolding(crate::specs::TermReading::with_right))]
+    fn arrow(
+        &self,
+        tokens: &mut Cursor<'_>,
+        arrow: Arrow,
+        left: Tall<Term>,
+    ) -> Result<Tall<Term>, TextFault>
+        requires nests { Nests self.now.below (F.pre self.now.read) (F.post self.now.read) }
+        requires left_low { left.height ≤ self.now.below + 1 }
+        ensures value { Gives (spec.longer_by (read_term self.now.below) left (next.Arrow arrow) tokens.old) result tokens.new }
+        ensures low { IfOk result (λ x. x.height ≤ self.now.below + 2) }
+    {
+        tokens.skip();
+        let right = self.term(tokens, EXPRESSION)?;
+        let line = line(&left.part);
+        let first = Boxed::new(self.alloc, left.part)?;
+        let second = Boxed::new(self.alloc, right.part)?;
+        Ok(Tall {
+            part: Term::Arrow(line, arrow, first, second),
+            height: left.height.max(right.height) + 1,
+        })
+    }
+
+    #[tactic(auto, unfolding(crate::specs::TermReading::with_right))]
+    fn infixed(
+        &self,
+        tokens: &mut Cursor<'_>,
+        op: Infix,
+        left: Tall<Term>,
+    ) -> Result<Tall<Term>, TextFault>
+        requires nests { Nests self.now.below (F.pre self.now.read) (F.post self.now.read) }
+        requires left_low { left.height ≤ self.now.below + 1 }
+        ensures value { Gives (spec.longer_by (read_term self.now.below) left (next.Infix op) tokens.old) result tokens.new }
+        ensures low { IfOk result (λ x. x.height ≤ self.now.below + 2) }
+    {
+        tokens.skip();
+        let right = self.term(tokens, infix_level(op) + 1)?;
+        let line = line(&left.part);
+        let first = Boxed::new(self.alloc, left.part)?;
+        let second = Boxed::new(self.alloc, right.part)?;
+        Ok(Tall {
+            part: Term::Infix(line, op, first, second),
+            height: left.height.max(right.height) + 1,
+        })
+    }
+
+    #[tactic(auto, unfolding(crate::specs::TermReading::with_right))]
+    fn applied(&self, tokens: &mut Cursor<'_>, left: Tall<Term>) -> Result<Tall<Term>, TextFault>
+        requires nests { Nests self.now.below (F.pre self.now.read) (F.post self.now.read) }
+        requires left_low { left.height ≤ self.now.below + 1 }
+        ensures value { Gives (spec.with_right (read_term self.now.below) levels.postfix_level (term.Apply (line_of (tree_of left.part))) left tokens.old) result tokens.new }
+        ensures low { IfOk result (λ x. x.height ≤ self.now.below + 2) }
+    {
+        let argument = self.term(tokens, POSTFIX)?;
+        let line = line(&left.part);
+        let first = Boxed::new(self.alloc, left.part)?;
+        let second = Boxed::new(self.alloc, argument.part)?;
+        Ok(Tall {
+            part: Term::Apply(line, first, second),
+            height: left.height.max(argument.height) + 1,
+        })
+    }
+
+    fn inverse(&self, tokens: &mut Cursor<'_>, left: Tall<Term>) -> Result<Tall<Term>, TextFault>
+        requires left_low { left.height ≤ 1000 }
+        ensures value { Gives (spec.longer_by (read_term self.now.below) left next.Inverse tokens.old) result tokens.new }
+        ensures low { IfOk result (λ x. x.height ≤ left.height + 1) }
+    {
+        tokens.skip();
+        let line = line(&left.part);
+        Ok(Tall {
+            part: Term::Inverse(line, Boxed::new(self.alloc, left.part)?),
+            height: left.height + 1,
+        })
+    }
+
+    #[tactic(auto, unfolding(crate::specs::TermReading::image))]
+    fn image(&self, tokens: &mut Cursor<'_>, left: Tall<Term>) -> Result<Tall<Term>, TextFault>
+        requires nests { Nests self.now.below (F.pre self.now.read) (F.post self.now.read) }
+        requires left_low { left.height ≤ self.now.below + 1 }
+        ensures value { Gives (spec.longer_by (read_term self.now.below) left next.OpenImage tokens.old) result tokens.new }
+        ensures low { IfOk result (λ x. x.height ≤ self.now.below + 2) }
+    {
+        tokens.skip();
+        let set = self.term(tokens, EXPRESSION)?;
+        tokens.expect(Mark::CloseImage)?;
+        let line = line(&left.part);
+        let first = Boxed::new(self.alloc, left.part)?;
+        let second = Boxed::new(self.alloc, set.part)?;
+        Ok(Tall {
+            part: Term::Image(line, first, second),
+            height: left.height.max(set.height) + 1,
+        })
+    }
+
+    #[tactic(auto, unfolding(crate::specs::TermReading::chained))]
+    fn chained(&self, tokens: &mut Cursor<'_>, left: Tall<Term>) -> Result<Tall<Term>, TextFault>
+        requires nests { Nests self.now.below (F.pre self.now.read) (F.post self.now.read) }
+        requires left_low { left.height ≤ self.now.below + 1 }
+        ensures value { Gives (spec.chained (read_term self.now.below) left tokens.old) result tokens.new }
+        ensures low { IfOk result (λ x. x.height ≤ self.now.below + 2) }
+    {
+        let links = self.chain_links(tokens)?;
+        let line = line(&left.part);
+        let first = Boxed::new(self.alloc, left.part)?;
+        Ok(Tall {
+            part: Term::Chain(line, first, links.part),
+            height: left.height.max(links.height) + 1,
+        })
+    }
+
+    #[tactic(auto, unfolding(crate::specs::TermReading::product))]
+    fn product(&self, tokens: &mut Cursor<'_>, left: Tall<Term>) -> Result<Tall<Term>, TextFault>
+        requires nests { Nests self.now.below (F.pre self.now.read) (F.post self.now.read) }
+        requires left_low { left.height ≤ self.now.below + 1 }
+        ensures value { Gives (spec.product (read_term self.now.below) left tokens.old) result tokens.new }
+        ensures low { IfOk result (λ x. x.height ≤ self.now.below + 2) }
+    {
+        let line = line(&left.part);
+        let all = self.further(tokens, Mark::Cross, PRODUCT + 1, left)?;
+        Ok(Tall {
+            part: Term::Product(line, all.part),
+            height: all.height + 1,
+        })
+    }
+
+    /// The term with what the next symbol adds to it.
+    pub(super) fn longer(
+        &self,
+        tokens: &mut Cursor<'_>,
+        left: Tall<Term>,
+        after: Next,
+    ) -> Result<Tall<Term>, TextFault>
+        requires nests { Nests self.now.below (F.pre self.now.read) (F.post self.now.read) }
+        requires left_low { left.height ≤ self.now.below + 1 }
+        ensures value { Gives (spec.longer_by (read_term self.now.below) left after tokens.old) result tokens.new }
+        ensures low { IfOk result (λ x. x.height ≤ self.now.below + 2) }
+    {
+        match after {
+            Next::Connective(connective) => self.connected(tokens, connective, left),
+            Next::Relation(_) => self.chained(tokens, left),
+            Next::Arrow(arrow) => self.arrow(tokens, arrow, left),
+            Next::Cross => self.product(tokens, left),
+            Next::Infix(op) => self.infixed(tokens, op, left),
+            Next::Inverse => self.inverse(tokens, left),
+            Next::OpenImage => self.image(tokens, left),
+            _ => self.applied(tokens, left),
+        }
+    }
+}

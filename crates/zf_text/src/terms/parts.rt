@@ -1,0 +1,157 @@
+//! Lists of parts of a term, and parts that may be left out.
+ghost use Rattle.std.specs.Prelude.{◌≤◌, max, IfOk};
+ghost use Rattle.zf_text.specs.Nests.{Nests};
+ghost use Rattle.zf_text.specs.TermReading as spec;
+ghost use Rattle.zf_text.specs.TermReading.{Gives, read_term};
+
+use super::Grammar;
+use crate::cursor::Cursor;
+use crate::fault::TextFault;
+use crate::levels::EXPRESSION;
+use crate::names::names;
+use crate::next::{Mark, Next};
+use crate::tall::Tall;
+use crate::tree::{Link, Term, VarDecl};
+use std::alloc::Global;
+use zf_data::{Boxed, Items};
+
+impl<F: Fn(Global, &mut Cursor<'_>, u32, u8) -> Result<Tall<Term>, TextFault>> Grammar<F> {
+    /// The term, and further ones at this place, each behind the symbol.
+    #[tactic(auto, unfolding(crate::specs::TermReading::further))]
+    pub(super) fn further(
+        &self,
+        tokens: &mut Cursor<'_>,
+        mark: Mark,
+        place: u8,
+        first: Tall<Term>,
+    ) -> Result<Tall<Items<Term>>, TextFault>
+        requires nests { Nests self.now.below (F.pre self.now.read) (F.post self.now.read) }
+        ensures value { Gives (spec.further (read_term self.now.below) mark place first tokens.old) result tokens.new }
+        ensures low { IfOk result (λ x. x.height ≤ max first.height self.now.below) }
+    {
+        let mut terms = Items::of(self.alloc, first.part)?;
+        let mut height = first.height;
+        for _turn in 0..tokens.left() {
+            if !tokens.is_at(mark) {
+                return Ok(Tall {
+                    part: terms,
+                    height,
+                });
+            }
+            tokens.skip();
+            let next = self.term(tokens, place)?;
+            terms.push(next.part)?;
+            height = height.max(next.height);
+        }
+        Ok(Tall {
+            part: terms,
+            height,
+        })
+    }
+
+    /// The links of a chain.
+    #[tactic(auto, unfolding(crate::specs::TermReading::chain_links))]
+    pub(super) fn chain_links(
+        &self,
+        tokens: &mut Cursor<'_>,
+    ) -> Result<Tall<Items<Link>>, TextFault>
+        requires nests { Nests self.now.below (F.pre self.now.read) (F.post self.now.read) }
+        ensures value { Gives (spec.chain_links (read_term self.now.below) tokens.old) result tokens.new }
+        ensures low { IfOk result (λ x. x.height ≤ self.now.below) }
+    {
+        let mut links = Items::new(self.alloc);
+        let mut height = 0;
+        for _turn in 0..tokens.left() {
+            let Next::Relation(relation) = tokens.peek() else {
+                return Ok(Tall {
+                    part: links,
+                    height,
+                });
+            };
+            tokens.skip();
+            let right = self.term(tokens, EXPRESSION)?;
+            links.push(Link {
+                relation,
+                right: right.part,
+            })?;
+            height = height.max(right.height);
+        }
+        Ok(Tall {
+            part: links,
+            height,
+        })
+    }
+
+    /// A declaration of bound variables.
+    #[tactic(auto, unfolding(crate::specs::TermReading::read_decl))]
+    fn decl(&self, tokens: &mut Cursor<'_>) -> Result<Tall<VarDecl>, TextFault>
+        requires nests { Nests self.now.below (F.pre self.now.read) (F.post self.now.read) }
+        ensures value { Gives (spec.read_decl (read_term self.now.below) tokens.old) result tokens.new }
+        ensures low { IfOk result (λ x. x.height ≤ self.now.below) }
+    {
+        let names = names(self.alloc, tokens)?;
+        tokens.expect(Mark::Colon)?;
+        let set = self.term(tokens, EXPRESSION)?;
+        Ok(Tall {
+            part: VarDecl {
+                names,
+                set: set.part,
+            },
+            height: set.height,
+        })
+    }
+
+    /// One or more declarations, parted by separators.
+    #[tactic(auto, unfolding(crate::specs::TermReading::decls))]
+    pub(super) fn decls(&self, tokens: &mut Cursor<'_>) -> Result<Tall<Items<VarDecl>>, TextFault>
+        requires nests { Nests self.now.below (F.pre self.now.read) (F.post self.now.read) }
+        ensures value { Gives (spec.decls (read_term self.now.below) tokens.old) result tokens.new }
+        ensures low { IfOk result (λ x. x.height ≤ self.now.below) }
+    {
+        let first = self.decl(tokens)?;
+        let mut decls = Items::of(self.alloc, first.part)?;
+        let mut height = first.height;
+        for _turn in 0..tokens.left() {
+            if !tokens.is_at(Mark::Separator) {
+                return Ok(Tall {
+                    part: decls,
+                    height,
+                });
+            }
+            tokens.skip();
+            let next = self.decl(tokens)?;
+            decls.push(next.part)?;
+            height = height.max(next.height);
+        }
+        Ok(Tall {
+            part: decls,
+            height,
+        })
+    }
+
+    /// A part that may be left out, behind its symbol.
+    #[tactic(auto, unfolding(crate::specs::TermReading::part))]
+    pub(super) fn part(
+        &self,
+        tokens: &mut Cursor<'_>,
+        mark: Mark,
+        place: u8,
+    ) -> Result<Tall<Option<Boxed<Term>>>, TextFault>
+        requires nests { Nests self.now.below (F.pre self.now.read) (F.post self.now.read) }
+        ensures value { Gives (spec.part (read_term self.now.below) mark place tokens.old) result tokens.new }
+        ensures low { IfOk result (λ x. x.height ≤ self.now.below) }
+    {
+        if !tokens.is_at(mark) {
+            return Ok(Tall {
+                part: None,
+                height: 0,
+            });
+        }
+        tokens.skip();
+        let term = self.term(tokens, place)?;
+        Ok(Tall {
+            part: Some(Boxed::new(self.alloc, term.part)?),
+            height: term.height,
+        })
+    }
+}
