@@ -1,4 +1,5 @@
--- The levels of the grammar, the loosest first, and the trees whose children all stand at their level or a tighter one.
+-- The levels of the grammar (the binding powers of ZRM 6), the loosest first, and the trees whose children all stand at their level or a
+-- tighter one.
 use Rattle.std.specs.Prelude.{ℕ, ◌+◌, ◌≤◌, List, [], ◌∷◌, max}
 use Rattle.std.specs.List.{AllByRecursion}
 use Rattle.zf_text.specs.declared.token.Connective.{Connective}

@@ -1,4 +1,5 @@
--- The pieces that a source is cut into: how each is spelled, and which spellings are refused.
+-- The pieces that a source is cut into: how each is spelled, and which spellings are refused. What a word and a decoration are is said in
+-- ZRM 3.1; the spellings are those of the fuzz markup.
 use Rattle.std.specs.Prelude.{◌≡◌, ℕ, ◌+◌, ◌-◌, ◌*◌, ◌⊎◌, Bool, true, false, not, ◌&&◌, ◌||◌, nat_le, ◌==◌, if◌then◌else◌, List, [], ◌∷◌, ◌++◌, length, codes, Option, Some, None}
 use Rattle.std.specs.List.{fold}
 use Rattle.std.specs.Str.{bytes_eq}

@@ -1,4 +1,5 @@
--- The reduced list of a token list: each run of separators is one symbol, and those that a neighbour makes needless are left out.
+-- The reduced list of a token list: each run of separators is one symbol, and those that a neighbour makes needless are left out (the
+-- line breaks of ZRM 3.1).
 use Rattle.std.specs.Prelude.{ℕ, Bool, true, false, ◌||◌, if◌then◌else◌, List, [], ◌∷◌}
 use Rattle.zf_text.specs.declared.token.Kind.{Kind}
 use Rattle.zf_text.specs.declared.token.Kind.TheVariants as k

@@ -1,4 +1,4 @@
--- The spelling of a tree, by the grammar read from the tree to its symbols: `Spells tree ts rest` says that the symbols `ts` begin with
+-- The spelling of a tree, by the grammar of ZRM 6 read from the tree to its symbols: `Spells tree ts rest` says that the symbols `ts` begin with
 -- those of the tree, that `rest` follows them, and that each name and each term has the line of its first symbol.
 use Rattle.std.specs.Prelude.{◌≡◌, ℕ, List, [], ◌∷◌}
 use Rattle.zf_text.specs.declared.token.Kind.{Kind}

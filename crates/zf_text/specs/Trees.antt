@@ -1,4 +1,4 @@
--- Trees as plain data, and how the program's trees are seen as them.
+-- Trees as plain data, a form for each form of ZRM 6 that is read, and how the program's trees are seen as them.
 use Rattle.std.specs.Prelude.{ℕ, List, [], ◌∷◌, map, Option, Some, None}
 use Rattle.zf_text.specs.declared.token.Arrow.{Arrow}
 use Rattle.zf_text.specs.declared.token.Connective.{Connective}
