@@ -1,6 +1,7 @@
 mod calls;
 mod loops;
 mod program;
+mod refusals;
 mod rows;
 mod runs;
 mod sources;

@@ -16,8 +16,6 @@ mod paragraphs;
 mod pieces;
 pub mod reading;
 pub mod scan;
-#[cfg(test)]
-mod scan_tests;
 mod schemas;
 mod symbols;
 mod tall;

@@ -11,6 +11,7 @@ use zf_text::tree::{Decl, Paragraph, Term, ZBox};
 #[test]
 fn a_text_has_a_tree(rt: HostRuntime) -> Result<(), Fail> {
     let tokens = scan(rt.alloc(), TWO.as_bytes())?;
+    assert_eq!(rt; tokens.len(), 16);
     let parsed = parse(rt.alloc(), tokens.as_slice())?;
     let read = read_spec(rt.alloc(), TWO.as_bytes())?;
     for spec in &[parsed, read] {
