@@ -6,5 +6,3 @@ mod command;
 pub mod job;
 mod matches;
 mod sizes;
-#[cfg(test)]
-mod tests;

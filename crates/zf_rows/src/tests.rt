@@ -1,9 +1,12 @@
 mod calls;
+mod command_lines;
 mod loops;
 mod program;
 mod refusals;
 mod rows;
 mod runs;
+mod simple_bindings;
+mod simple_texts;
 mod sources;
 mod stops;
 mod texts;

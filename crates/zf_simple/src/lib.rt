@@ -19,5 +19,3 @@ mod side;
 mod signature;
 pub mod sizes;
 pub mod test;
-#[cfg(test)]
-mod tests;

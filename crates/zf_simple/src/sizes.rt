@@ -113,29 +113,3 @@ fn count_of(sizes: &[Size], name: &[u8]) -> Option<u64>
     }
     None
 }
-
-#[cfg(test)]
-mod tests {
-    use super::*;
-    use std::test::Fail;
-    use zf_data::Word;
-
-    #[test]
-    fn in_the_order_of_the_sets(rt: HostRuntime) -> Result<(), Fail> {
-        let mut sets = Vec::new(rt.alloc());
-        sets.push(Text::of(rt.alloc(), b"NAME")?)?;
-        sets.push(Text::of(rt.alloc(), b"DATE")?)?;
-        let mut sizes = Vec::new(rt.alloc());
-        sizes.push(Size {
-            name: Word::of(rt.alloc(), "DATE")?,
-            count: 0,
-        })?;
-        sizes.push(Size {
-            name: Word::of(rt.alloc(), "NAME")?,
-            count: SET_MAX,
-        })?;
-        let counts = sizes_of(rt.alloc(), &sets, &sizes)?;
-        assert_eq!(rt; counts.as_slice(), [SET_MAX, 0].as_slice());
-        Ok(())
-    }
-}

@@ -1,6 +1,6 @@
 //! What command lines ask for.
-use crate::asked::job_of;
-use crate::job::{Asked, Job, UsageFault};
+use zf_command::asked::job_of;
+use zf_command::job::{Asked, Job, UsageFault};
 use std::alloc::{AllocError, Global};
 use std::test::Fail;
 

@@ -1,9 +1,9 @@
 //! Texts of a few lines.
-use crate::checker::check;
-use crate::fault::{TypeFault, TypeFaultKind};
-use crate::find::schema;
-use crate::item::{Compared, Declared, Item};
-use crate::test::Test;
+use zf_simple::checker::check;
+use zf_simple::fault::{TypeFault, TypeFaultKind};
+use zf_simple::find::schema;
+use zf_simple::item::{Compared, Declared, Item};
+use zf_simple::test::Test;
 use std::alloc::{AllocError, Global};
 use std::test::Fail;
 use zf_data::{Items, Text};
