@@ -1,8 +1,8 @@
 //! What command lines ask for.
-use zf_command::asked::job_of;
-use zf_command::job::{Asked, Job, UsageFault};
 use std::alloc::{AllocError, Global};
 use std::test::Fail;
+use zf_command::asked::job_of;
+use zf_command::job::{Asked, Job, UsageFault};
 
 /// Words, and what they ask for, in short.
 static LINES: [(&[&str], &str); 15] = [

@@ -1,12 +1,12 @@
 //! Texts of a few lines.
+use std::alloc::{AllocError, Global};
+use std::test::Fail;
+use zf_data::{Items, Text};
 use zf_simple::checker::check;
 use zf_simple::fault::{TypeFault, TypeFaultKind};
 use zf_simple::find::schema;
 use zf_simple::item::{Compared, Declared, Item};
 use zf_simple::test::Test;
-use std::alloc::{AllocError, Global};
-use std::test::Fail;
-use zf_data::{Items, Text};
 use zf_text::tree::Name;
 
 fn name(alloc: Global, text: &[u8], line: u32) -> Result<Name, AllocError> {
