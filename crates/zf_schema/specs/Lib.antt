@@ -1,0 +1,9 @@
+pub mod Calculus
+pub mod Limits
+pub mod Listing
+pub mod Expressions
+pub mod SchemaOffences
+pub mod Checking
+pub mod Growth
+pub mod SchemaLaws
+pub mod Runs
