@@ -22,3 +22,4 @@ pub mod Members
 pub mod Chains
 pub mod Bound
 pub mod Quantified
+pub mod Rows

@@ -143,3 +143,6 @@ pub record AreBound (s : Scope) (ds : VarDecls) (b : Bound) : Type 0 where
 -- no variables are bound by declarations with this offence
 abbrev pub DeclarationsOffend : Scope → VarDecls → TypeFaultKind → ℕ → Type 0
 DeclarationsOffend s ds k m = Repeats (declared ds) k m ⊎ SetsOffend s ds k m
+
+abbrev pub var_type : Var → Ty
+var_type v = v.type

@@ -1,7 +1,7 @@
 //! Bound variables: how declarations bring them into scope, and how they leave it.
 ghost use Rattle.std.specs.Prelude.{◌≡◌, ℕ, IfOk, IfErr, OnOk, OnErr, List, ◌++◌, length, map};
 ghost use Rattle.zf_text.specs.declared.tree.Name as program;
-ghost use Rattle.zf_type.specs.Judging.{AreNew, AreRepeated};
+ghost use Rattle.zf_type.specs.Judging.{AreNew, AreRepeated, var_type};
 ghost use Rattle.zf_type.specs.Refusals.{IfFault};
 ghost use Rattle.zf_type.specs.Rules.{Meets, set_of, sort_of};
 ghost use Rattle.zf_type.specs.Scopes as spec;
@@ -16,7 +16,7 @@ use crate::scope::{Scope, Variable, is_bound};
 use crate::sort::Sort;
 use crate::ztype::ZType;
 use std::alloc::{AllocError, Global};
-use zf_data::Text;
+use zf_data::{Items, Text};
 use zf_text::tree::Name;
 
 /// Adds variables of these names, which are members of a set of this sort.
@@ -78,4 +78,30 @@ pub(crate) fn unbind(scope: &mut Scope<'_>, outside: usize)
     ensures { (s : spec.Scope) (vs : List Var) → scope_of scope.old ≡ within s vs → outside ≡ length s.locals → scope_of scope.new ≡ s }
 {
     scope.locals.truncate(outside);
+}
+
+/// The type of what the variables within make together: that of the one, else that of their tuples.
+pub(crate) fn row(alloc: Global, scope: &Scope<'_>, outside: usize) -> Result<ZType, AllocError>
+    ensures { IfOk result (λ t. (s : spec.Scope) (vs : List Var) → scope_of scope.now ≡ within s vs → outside ≡ length s.locals → type_of t ≡ typing.row_type vs) }
+{
+    let locals = scope.locals.as_slice();
+    let mut types = Items::new(alloc);
+    for place in outside..locals.len() {
+        types.push(locals[place].ztype.copy(alloc)?)?;
+    }
+    Ok(row_of(types))
+}
+
+#[tactic(auto, using(crate::proofs::TypesSeen::seen))]
+fn row_of(types: Items<ZType>) -> ZType
+    ensures { (vs : List Var) → map type_of types ≡ map var_type vs → type_of result ≡ typing.row_type vs }
+{
+    let mut types = types;
+    if types.len() != 1 {
+        return ZType::Product(types);
+    }
+    match types.pop() {
+        Some(ztype) => ztype,
+        None => unreachable!(),
+    }
 }

@@ -10,7 +10,7 @@ ghost use Rattle.zf_type.specs.ResolvedTrees.{resolved_link_of, range_of};
 ghost use Rattle.zf_type.specs.Resolving.{resolved_links, resolved_ranges, resolved_part};
 ghost use Rattle.zf_type.specs.Rules as rules;
 ghost use Rattle.zf_type.specs.Rules.{Takes, typed};
-ghost use Rattle.zf_type.specs.Typing.{AreLinked, Binds};
+ghost use Rattle.zf_type.specs.Typing.{AreLinked, Binds, Builds, row_type};
 ghost use Rattle.zf_type.specs.Offences.{Offends, OneOffends, LinksOffend};
 ghost use Rattle.zf_type.specs.Refusals.{IfFault};
 ghost use Rattle.zf_type.specs.ResolvedTrees.{resolved_of};
@@ -26,7 +26,7 @@ ghost use Rattle.zf_text.specs.Trees.{named, numeral};
 ghost use Rattle.zf_type.specs.declared.operator.Need.{Need};
 ghost use Rattle.zf_type.specs.declared.operator.Need.TheVariants as needs;
 
-use crate::binding::{bind, declare_names, depth, unbind};
+use crate::binding::{bind, declare_names, depth, row, unbind};
 use crate::fault::{Refusal, TypeFaultKind, refused};
 use crate::operator::{Listed, Need, Operator, Rule, Unary, relation_rule};
 use crate::resolved::{Range, Resolved, ResolvedLink};
@@ -204,7 +204,23 @@ fn judge_term(
                 body,
             )
         }
-        Term::Builder(_, _, _, _) => Err(Refusal::OutOfMemory),
+        Term::Builder(line, decls, filter, member) => {
+            let line = *line;
+            let outside = depth(scope);
+            let ranges = declare(decls.as_slice(), alloc, scope)?;
+            let filter = judge_part(filter, alloc, Need::Predicate, scope);
+            let member = judge_part(member, alloc, Need::Expression, scope);
+            let row = row(alloc, scope, outside);
+            unbind(scope, outside);
+            built(
+                alloc,
+                Place { need, line },
+                ranges,
+                filter,
+                member,
+                row,
+            )
+        }
     }
 }
 
@@ -497,6 +513,50 @@ fn quantified(
     let term = Resolved::Quantified(place.line, quantifier, ranges, filter, inner);
     let sort = Sort::Predicate;
     placed(Judged { term, sort }, place.need)
+}
+
+/// A builder, of which the parts are judged within its variables. Where it has no term it builds
+/// rows of the variables.
+fn built(
+    alloc: Global,
+    place: Place,
+    ranges: Items<Range>,
+    filter: Result<Option<Judged>, Refusal>,
+    member: Result<Option<Judged>, Refusal>,
+    row: Result<ZType, AllocError>,
+) -> Result<Judged, Refusal>
+    ensures { (s : spec.Scope) (ds : tree.VarDecls) (vs : List Var) (p e : tree.Perhaps) → Binds s ds vs → trees_of.ranges (map range_of ranges) ≡ resolved_ranges s ds → JudgesPart (within s vs) needs.Predicate p filter → JudgesPart (within s vs) needs.Expression e member → IfOk row (λ t. type_of t ≡ row_type vs) → Judges s place.need (tree.builder place.line ds p e) result }
+{
+    let condition = filter?;
+    let element = member?;
+    let rows = row?;
+    let shape = member_shape(alloc, element, rows)?;
+    let set = ZType::Power(Boxed::new(alloc, shape.ztype)?);
+    if !set.is_small() {
+        return Err(refused(TypeFaultKind::TooLarge, place.line));
+    }
+    let condition_term = part_term(alloc, condition)?;
+    let term = Resolved::Builder(place.line, ranges, condition_term, shape.term);
+    let sort = Sort::Typed(set);
+    placed(Judged { term, sort }, place.need)
+}
+
+/// What a builder builds: its term, where it has one, and the type.
+#[derive(Drop)]
+struct Shape {
+    term: Option<Boxed<Resolved>>,
+    ztype: ZType,
+}
+
+fn member_shape(alloc: Global, member: Option<Judged>, row: ZType) -> Result<Shape, AllocError>
+    ensures { (s : spec.Scope) (vs : List Var) (p : tree.Perhaps) → IsPart s needs.Expression p member → type_of row ≡ row_type vs → IfOk result (λ b. (trees_of.part_of b.term ≡ resolved_part s p) × Builds s vs p (type_of b.ztype)) }
+{
+    let Some(judged) = member else {
+        return Ok(Shape { term: None, ztype: row });
+    };
+    let term = Boxed::new(alloc, judged.term)?;
+    let ztype = judged.sort.into_type().unwrap_or(row);
+    Ok(Shape { term: Some(term), ztype })
 }
 
 fn part_term(alloc: Global, part: Option<Judged>) -> Result<Option<Boxed<Resolved>>, AllocError>
