@@ -48,6 +48,10 @@ impl<T: Drop> Items<T> {
         ensures ok { OnOk result (self.new ≡ self.old ++ item ∷ []) }
         ensures err { OnErr result (self.new ≡ self.old) }
     {
+        // Most lists of a tree have one item: the first gets room for itself alone.
+        if self.items.is_empty() {
+            self.items.reserve_exact(1)?;
+        }
         self.items.push(item)?;
         Ok(())
     }

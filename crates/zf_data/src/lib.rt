@@ -3,6 +3,7 @@
 
 mod boxed;
 mod items;
+mod stored;
 mod text;
 mod word;
 

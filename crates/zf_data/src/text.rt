@@ -1,13 +1,14 @@
 //! Texts of a source, as bytes.
-ghost use Rattle.std.specs.Prelude.{◌≡◌, ◌++◌, ◌↔◌, IsTrue, IfOk};
+ghost use Rattle.std.specs.Prelude.{◌≡◌, ◌↔◌, [], IsTrue, IfOk};
 
+use crate::stored::{SHORT_MAX, Stored, long, short};
 use std::alloc::{AllocError, Global};
 use std::marker::Model;
 
 /// A text that contracts see as the list of its bytes.
 #[derive(Debug, Drop)]
 pub struct Text {
-    pub bytes: Vec<u8>,
+    stored: Stored,
 }
 
 impl Model for Text {
@@ -15,7 +16,9 @@ impl Model for Text {
 
     ghost Value = { List ℕ };
 
-    ghost view = { λ t. t.bytes.items };
+    ghost use Rattle.zf_data.specs.Texts.{bytes_of};
+
+    ghost view = { λ t. bytes_of t.stored };
 }
 
 impl Text {
@@ -23,26 +26,40 @@ impl Text {
     pub fn of(alloc: Global, bytes: &[u8]) -> Result<Text, AllocError>
         ensures { IfOk result (λ t. t ≡ bytes.now) }
     {
-        let bytes = Vec::from_slice(alloc, bytes)?;
-        Ok(Text { bytes })
+        let stored = if bytes.len() <= SHORT_MAX {
+            short(bytes)
+        } else {
+            long(alloc, bytes)?
+        };
+        Ok(Text { stored })
+    }
+
+    /// The empty text.
+    pub fn empty() -> Text
+        ensures { result ≡ [] }
+    {
+        Text { stored: short(&[]) }
     }
 
     pub fn copy(&self, alloc: Global) -> Result<Text, AllocError>
         ensures { IfOk result (λ t. t ≡ self.now) }
     {
-        Text::of(alloc, self.bytes.as_slice())
+        Text::of(alloc, self.as_slice())
     }
 
     pub fn as_slice(&self) -> &[u8]
         ensures { result.now ≡ self.now }
     {
-        self.bytes.as_slice()
+        match &self.stored {
+            Stored::Short(len, few) => &few[..usize::from(*len).min(SHORT_MAX)],
+            Stored::Long(all) => all.get().as_slice(),
+        }
     }
 
     /// Whether the texts have the same bytes.
     pub fn same(&self, other: &Text) -> bool
         ensures { IsTrue result ↔ (self.now ≡ other.now) }
     {
-        self.bytes.as_slice() == other.bytes.as_slice()
+        self.as_slice() == other.as_slice()
     }
 }

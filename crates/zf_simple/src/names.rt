@@ -12,7 +12,7 @@ pub fn spelled(alloc: Global, name: &Name) -> Result<Text, AllocError>
 {
     let mut bytes = Vec::from_slice(alloc, name.base.as_slice())?;
     bytes.extend_from_slice(name.strokes.as_slice())?;
-    Ok(Text { bytes })
+    Text::of(alloc, bytes.as_slice())
 }
 
 /// Whether the spellings are equal.

@@ -188,9 +188,7 @@ impl<'a> Cursor<'a> {
                 Kind::BeginSchema(base) => {
                     let name = Name {
                         base: base.copy(alloc)?,
-                        strokes: Text {
-                            bytes: Vec::new(alloc),
-                        },
+                        strokes: Text::empty(),
                         line: token.line,
                     };
                     self.rest = rest;

@@ -37,6 +37,7 @@ pub fn inside_at(alloc: Global, end: &[u8], rest: &[u8]) -> Result<Found, AllocE
 
 /// A comment, from its `%` on.
 #[tactic(auto, unfolding(crate::specs::Steps::comment_found))]
+#[inline(never)]
 pub fn comment_at(rest: &[u8]) -> Found
     requires { 0 < length rest.now }
     ensures { result ≡ steps.comment_found rest.now }
@@ -61,6 +62,7 @@ fn is_directive(comment: &[u8]) -> bool
 
 // A command, or the closing of the box.
 #[tactic(auto, unfolding(crate::specs::Steps::command_found))]
+#[inline(never)]
 fn command_at(end: &[u8], rest: &[u8]) -> Found
     requires { 0 < length rest.now }
     ensures { result ≡ steps.command_found end.now rest.now }
@@ -121,6 +123,7 @@ fn tail_len(rest: &[u8]) -> usize
 
 // A name, `true` or `false`.
 #[tactic(auto, unfolding(crate::specs::Steps::word_found))]
+#[inline(never)]
 fn word_at(alloc: Global, rest: &[u8]) -> Result<Found, AllocError>
     ensures { IfOk result (λ found. found ≡ steps.word_found rest.now) }
 {
@@ -159,6 +162,7 @@ pub fn base_len(rest: &[u8]) -> usize
 }
 
 #[tactic(auto, unfolding(crate::specs::Steps::number_found))]
+#[inline(never)]
 fn number_at(rest: &[u8]) -> Found
     ensures { result ≡ steps.number_found rest.now }
 {
@@ -184,8 +188,33 @@ fn value_of(digits: &[u8]) -> Option<u64>
     Some(n)
 }
 
-#[tactic(auto, unfolding(crate::specs::Steps::symbol_found))]
+// A symbol or a blank. The most frequent ones are told by their first byte.
+#[tactic(auto, unfolding(crate::specs::Steps::symbol_found, crate::specs::Pieces::symbols))]
 fn symbol_at(rest: &[u8]) -> Found
+    ensures { result ≡ steps.symbol_found rest.now }
+{
+    let [first, ..] = rest else {
+        return of_one_byte(Piece::Refused(TextFaultKind::BadByte));
+    };
+    match *first {
+        b'\t' | b'\n' | b'\r' | b' ' | b'~' => of_one_byte(Piece::Plain),
+        b'(' => of_one_byte(Piece::Symbol(Kind::OpenRound)),
+        b')' => of_one_byte(Piece::Symbol(Kind::CloseRound)),
+        b',' => of_one_byte(Piece::Symbol(Kind::Comma)),
+        _ => other_symbol_at(rest),
+    }
+}
+
+#[inline(always)]
+fn of_one_byte(piece: Piece) -> Found
+    ensures { result ≡ steps.found piece 1 }
+{
+    Found { piece, len: 1 }
+}
+
+#[inline(never)]
+#[tactic(auto, unfolding(crate::specs::Steps::symbol_found))]
+fn other_symbol_at(rest: &[u8]) -> Found
     requires { 0 < length rest.now }
     ensures { result ≡ steps.symbol_found rest.now }
 {

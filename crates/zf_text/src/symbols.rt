@@ -50,7 +50,8 @@ pub fn fixed(text: &[u8]) -> Option<Piece>
     }
 }
 
-// The piece, where its text is this one.
+// The piece, where its text is this one. Inlined, since making each piece that is passed to a call costs more than the look-up.
+#[inline(always)]
 fn only(rest: &[u8], text: &[u8], piece: Piece) -> Option<Piece>
     ensures { result ≡ (if bytes_eq rest.now text.now then Some piece else None) }
 {
