@@ -24,6 +24,12 @@ impl<T> Boxed<T> {
     {
         &self.inner
     }
+
+    pub fn into_inner(self) -> T
+        ensures { result ≡ self }
+    {
+        Box::into_inner(self.inner)
+    }
 }
 
 impl<T: Drop> Boxed<T> {

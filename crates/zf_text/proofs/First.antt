@@ -8,7 +8,7 @@ use Rattle.std.proofs.Math.Numerals.{one-add}
 use Rattle.std.proofs.lemmas.Bool.Decides.{nat_tests}
 use Rattle.zf_text.specs.declared.fault.TextFaultKind.TheVariants as faults
 use Rattle.zf_text.specs.declared.token.Kind.TheVariants.{BeginZed, BeginSchema}
-use Rattle.zf_text.specs.declared.pieces.Found.{Found}
+use Rattle.zf_text.specs.Steps.{Found}
 use Rattle.zf_text.specs.declared.pieces.Piece.{Piece}
 use Rattle.zf_text.specs.declared.pieces.Piece.TheVariants.{Plain, Symbol, Refused}
 use Rattle.zf_text.specs.declared.pieces.Run.TheVariants.{Base, Line}

@@ -5,7 +5,7 @@ use Rattle.std.proofs.Math.ListN.{drop_of_length-le}
 use Rattle.zf_text.specs.declared.fault.TextFault.{TextFault}
 use Rattle.zf_text.specs.declared.fault.TextFaultKind.{TextFaultKind}
 use Rattle.zf_text.specs.declared.fault.TextFaultKind.TheVariants.{BadByte, UnclosedBox}
-use Rattle.zf_text.specs.declared.pieces.Found.{Found}
+use Rattle.zf_text.specs.Steps.{Found}
 use Rattle.zf_text.specs.declared.pieces.Piece.{Piece}
 use Rattle.zf_text.specs.declared.pieces.Piece.TheVariants.{Refused}
 use Rattle.zf_text.specs.declared.pieces.Place.{Place}

@@ -6,6 +6,10 @@ pub mod Longest
 pub mod Closing
 pub mod First
 pub mod Same
+pub mod Spelled
+pub mod Cursored
+pub mod LaidOut
+pub mod Reducing
 pub mod Scanned
 pub mod Laws
 pub mod Turns

@@ -5,7 +5,7 @@ use Rattle.std.proofs.Math.Numerals.{one-add}
 use Rattle.std.proofs.Math.Seq.{take-add}
 use Rattle.std.proofs.lemmas.Bool.Decides.{nat_tests}
 use Rattle.zf_text.specs.declared.fault.TextFaultKind.TheVariants as faults
-use Rattle.zf_text.specs.declared.pieces.Found.{Found}
+use Rattle.zf_text.specs.Steps.{Found}
 use Rattle.zf_text.specs.declared.pieces.Piece.{Piece}
 use Rattle.zf_text.specs.declared.pieces.Piece.TheVariants.{Symbol, Refused}
 use Rattle.zf_text.specs.declared.pieces.Run.TheVariants.{Digits, Base, Strokes, Line}

@@ -1,17 +1,21 @@
 -- What the loop of the scanner keeps, and what one turn does.
-use Rattle.std.proofs.Common.{◌≡◌, ℕ, ◌+◌, ◌≤◌, ◌<◌, ◌⊎◌, List, [], ◌∷◌, ◌++◌, length, take, drop, Bool, true, false, refl, sym, ap, ◌∙◌, subst, arith, inl, inr, append_assoc, take-append-drop, length-append, length-take-le}
+use Rattle.std.proofs.Common.{◌≡◌, ℕ, ◌+◌, ◌≤◌, ◌<◌, ◌⊎◌, List, [], ◌∷◌, ◌++◌, length, take, drop, map, ◌-◌, Bool, true, false, refl, sym, ap, ◌∙◌, subst, arith, inl, inr, append_assoc, take-append-drop, length-append, length-take-le}
 use Rattle.std.specs.Prelude.{◌==◌, if◌then◌else◌, codes}
-use Rattle.std.proofs.lemmas.List.{append-nil, drop-drop}
+use Rattle.std.proofs.lemmas.List.{append-nil, drop-drop, map-append}
 use Rattle.zf_text.specs.declared.fault.TextFaultKind.TheVariants as faults
-use Rattle.zf_text.specs.declared.pieces.Found.{Found}
+use Rattle.zf_text.specs.declared.next.Next as symbol
+use Rattle.zf_text.specs.declared.pieces.Found as code
 use Rattle.zf_text.specs.declared.pieces.Piece.{Piece}
 use Rattle.zf_text.specs.declared.pieces.Piece.TheVariants.{Plain, Symbol, Refused}
 use Rattle.zf_text.specs.declared.pieces.Place.{Place}
 use Rattle.zf_text.specs.declared.pieces.Place.TheVariants as places
+use Rattle.zf_text.specs.declared.placed.Placed.{Placed}
 use Rattle.zf_text.specs.declared.token.Kind.{Kind}
 use Rattle.zf_text.specs.declared.token.Token.{Token}
 use Rattle.zf_text.specs.Cuts.{Stands, newlines, Spot, line_of, start, entered, past, IsRead, Cuts, tokens_of, tokens_from}
-use Rattle.zf_text.specs.Steps.{found_at}
+use Rattle.zf_text.specs.Placing.{token_at}
+use Rattle.zf_text.specs.Sights.{kind_of, told}
+use Rattle.zf_text.specs.Steps.{Found, found_at}
 use Rattle.zf_text.proofs.Longest as longest
 use Rattle.zf_text.proofs.Longest.{spelled_some}
 use Rattle.zf_text.proofs.Closing.{zed_next, schema_next}
@@ -100,8 +104,8 @@ turned source at line place tokens b f s r = record {
 
 -- ---- what a turn has found
 
-pub found_from : (place : Place) (s rest : List ℕ) (f : Found) → rest ≡ s → f ≡ found_at place rest → 0 < length s → Next place s f
-found_from place s rest f e g some = subst (λ f. Next place s f) (sym (g ∙ ap (found_at place) e)) (found_next place s some)
+pub seen_at : (place : Place) (s rest : List ℕ) (f : code.Found) → rest ≡ s → told rest f ≡ found_at place rest → 0 < length s → Next place s (told s f)
+seen_at place s rest f e g some = subst (λ f. Next place s f) (sym (subst (λ r. told r f ≡ found_at place r) e g)) (found_next place s some)
 
 pub goes : (place : Place) (s : List ℕ) (f : Found) → Next place s f → IsRead f.piece → StandsAt place s f
 goes place s f (inl a) r = a
@@ -126,3 +130,11 @@ told_symbol source at line place tokens b f text kind e n =
     ∙ ap (λ s. one s (length b.spot.before + length text) (line_of b.spot)) (sym b.at_is)
     ∙ ap (λ t. one at t (line_of b.spot)) (ap (λ s. s + length text) (sym b.at_is) ∙ ap (λ n. at + n) n)
     ∙ ap (λ l. one at (at + f.len) l) (sym b.line_is)
+
+pub placed_told : (source : List ℕ) (at len : ℕ) (symbols : List Placed) (next : symbol.Next) (amount line : ℕ)
+    → map (token_at source) symbols ++ record { kind = kind_of next amount (take len (drop at source)); start = at; stop = at + len; line = line } ∷ []
+    ≡ map (token_at source) (symbols ++ record { next = next; line = line; start = at; stop = at + len; amount = amount } ∷ [])
+placed_told source at len symbols next amount line =
+    let same : len ≡ at + len - at = omega arith in
+    ap (λ n. map (token_at source) symbols ++ record { kind = kind_of next amount (take n (drop at source)); start = at; stop = at + len; line = line } ∷ []) same
+    ∙ sym (map-append (token_at source) symbols (record { next = next; line = line; start = at; stop = at + len; amount = amount } ∷ []))

@@ -8,6 +8,9 @@ pub mod Spelling
 pub mod Reads
 pub mod Parsing
 pub mod Steps
+pub mod Sights
+pub mod Placing
+pub mod Laying
 pub mod Reading
 pub mod TermReading
 pub mod BoxReading

@@ -17,9 +17,8 @@ next_of k.BeginZed = next.BeginZed
 next_of (k.BeginSchema name) = next.BeginSchema
 next_of k.EndBox = next.EndBox
 next_of (k.Name base strokes) = next.Name
-next_of (k.Number v) = next.Number v
-next_of (k.Separator Semicolon) = next.Separator
-next_of (k.Separator _) = next.Other
+next_of (k.Number v) = next.Number
+next_of (k.Separator s) = next.Separator s
 next_of k.OpenRound = next.OpenRound
 next_of k.CloseRound = next.CloseRound
 next_of k.OpenSquare = next.OpenSquare
@@ -65,7 +64,7 @@ is_end _ = false
 abbrev pub is_mark : Mark → Next → Bool
 is_mark mark.EndBox next.EndBox = true
 is_mark mark.EndBox _ = false
-is_mark mark.Separator next.Separator = true
+is_mark mark.Separator (next.Separator Semicolon) = true
 is_mark mark.Separator _ = false
 is_mark mark.CloseRound next.CloseRound = true
 is_mark mark.CloseRound _ = false
@@ -125,7 +124,7 @@ skip = λ ts. Some (tt, rest ts)
 abbrev pub expect : Mark → Parser (Unit {0})
 expect m = λ ts. if is_mark m (first ts) then Some (tt, rest ts) else None
 
--- ---- names
+-- ---- names and numbers
 
 abbrev pub name_by : Kind → ℕ → Parser Name
 name_by (k.Name base strokes) line = λ ts. Some (record { base = base; strokes = strokes; line = line }, rest ts)
@@ -134,6 +133,14 @@ name_by _ line = refuse
 abbrev pub read_name : Parser Name
 read_name [] = None
 read_name (t ∷ ts) = name_by t.kind t.line (t ∷ ts)
+
+abbrev pub number_by : Kind → Parser ℕ
+number_by (k.Number v) = λ ts. Some (v, rest ts)
+number_by _ = refuse
+
+abbrev pub read_number : Parser ℕ
+read_number [] = None
+read_number (t ∷ ts) = number_by t.kind (t ∷ ts)
 
 abbrev pub opening_by : Kind → ℕ → Parser Name
 opening_by (k.BeginSchema base) line = λ ts. Some (record { base = base; strokes = []; line = line }, rest ts)

@@ -6,7 +6,6 @@ use Rattle.zf_text.specs.declared.fault.TextFaultKind.{TextFaultKind}
 use Rattle.zf_text.specs.declared.fault.TextFaultKind.TheVariants as faults
 use Rattle.zf_text.specs.declared.token.Kind.{Kind}
 use Rattle.zf_text.specs.declared.token.Kind.TheVariants.{BeginZed, BeginSchema, EndBox, Name}
-use Rattle.zf_text.specs.declared.pieces.Found.{Found}
 use Rattle.zf_text.specs.declared.pieces.Piece.{Piece}
 use Rattle.zf_text.specs.declared.pieces.Piece.TheVariants.{Plain, Symbol, Refused}
 use Rattle.zf_text.specs.declared.pieces.Place.{Place}
@@ -31,6 +30,11 @@ abbrev pub begins : List ℕ → List ℕ → Bool
 begins s front = starts_with nat_eq s front
 
 -- ---- inside a box
+
+-- a piece that begins a text, by its length
+pub record Found : Type 0 where
+  pub piece : Piece
+  pub len : ℕ
 
 abbrev pub found : Piece → ℕ → Found
 found piece len = record { piece = piece; len = len }

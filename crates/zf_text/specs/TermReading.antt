@@ -19,7 +19,7 @@ use Rattle.zf_text.specs.declared.tree.Term.TheVariants as term
 use Rattle.zf_text.specs.declared.tree.VarDecl.{VarDecl, roll-VarDecl}
 use Rattle.zf_text.specs.Levels.{quantifier_level, negation_level, chain_level, expression_level, product_level, unary_level, application_level, postfix_level, connective_level, infix_level, sign_level, left_place, right_place, level}
 use Rattle.zf_text.specs.Reading as basic
-use Rattle.zf_text.specs.Reading.{first, rest, is_mark, read_name}
+use Rattle.zf_text.specs.Reading.{first, rest, is_mark, read_name, read_number}
 use Rattle.zf_text.specs.Separators.{Symbol}
 use Rattle.zf_text.specs.Spelling.{line_of}
 use Rattle.zf_text.specs.Trees.{tree_of}
@@ -102,7 +102,7 @@ binds (next.Arrow a) = expression_level + 1
 binds next.Cross = product_level + 1
 binds (next.Infix op) = infix_level op + 1
 binds next.Name = application_level + 1
-binds (next.Number v) = application_level + 1
+binds next.Number = application_level + 1
 binds (next.Constant c) = application_level + 1
 binds next.EmptySet = application_level + 1
 binds next.OpenRound = application_level + 1
@@ -288,7 +288,7 @@ module _ (below : ℕ → Parser (Tall Term)) where
 
   abbrev pub beginning_by : ℕ → ℕ → Next → Parser (Tall Term)
   beginning_by least line next.Name = λ ts. and_then (lift (read_name ts)) (λ n us. Ok (tall (term.Name n) 1, us))
-  beginning_by least line (next.Number v) = past (pure (tall (term.Number line v) 1))
+  beginning_by least line next.Number = λ ts. and_then (lift (read_number ts)) (λ v us. Ok (tall (term.Number line v) 1, us))
   beginning_by least line (next.Constant c) = past (pure (tall (term.Constant line c) 1))
   beginning_by least line next.EmptySet = past (empty_set line)
   beginning_by least line next.OpenRound = past (round line)

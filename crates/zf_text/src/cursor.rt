@@ -2,39 +2,45 @@
 ghost use Rattle.std.specs.Prelude.{◌≡◌, ◌⊎◌, true, length, map};
 ghost use Rattle.zf_text.specs.BoxReading as boxes;
 ghost use Rattle.zf_text.specs.Reading as spec;
-ghost use Rattle.zf_text.specs.Separators.{symbol_of};
+ghost use Rattle.zf_text.specs.Placing.{symbol_at};
 ghost use Rattle.zf_text.specs.TermReading as terms;
 ghost use Rattle.zf_text.specs.TermReading.{Gives};
 ghost use Rattle.zf_text.specs.declared.fault.TextFaultKind.TheVariants.{Unexpected, TooDeep};
 
 use crate::fault::{TextFault, TextFaultKind};
-use crate::next::{Mark, Next, next_of};
-use crate::token::{Connective, Kind, Token};
+use crate::next::{Mark, Next};
+use crate::placed::Placed;
+use crate::token::Connective;
 use crate::tree::Name;
 use std::alloc::Global;
 use std::marker::Model;
 use zf_data::Text;
 
-/// A place in the reduced list of the tokens, which contracts see as the symbols from there on.
+/// A place in the reduced list of the symbols of a text, which contracts see as the symbols from there on.
 #[derive(Drop)]
 pub struct Cursor<'a> {
-    rest: &'a [&'a Token],
+    text: &'a [u8],
+    rest: &'a [Placed],
 }
 
 impl<'a> Model for Cursor<'a> {
     ghost use Rattle.std.specs.Prelude.{List, map};
-    ghost use Rattle.zf_text.specs.Separators.{Symbol, symbol_of};
+    ghost use Rattle.zf_text.specs.Separators.{Symbol};
+    ghost use Rattle.zf_text.specs.Placing.{symbol_at};
 
     ghost Value = { List Symbol };
 
-    ghost view = { λ c. map (λ t. symbol_of t.now) c.rest.now };
+    ghost view = { λ c. map (symbol_at c.text.now) c.rest.now };
 }
 
 impl<'a> Cursor<'a> {
-    pub fn new(tokens: &'a [&'a Token]) -> Cursor<'a>
-        ensures { result ≡ map (λ t. symbol_of t.now) tokens.entry.now }
+    pub fn new(text: &'a [u8], symbols: &'a [Placed]) -> Cursor<'a>
+        ensures { result ≡ map (symbol_at text.entry.now) symbols.entry.now }
     {
-        Cursor { rest: tokens }
+        Cursor {
+            text,
+            rest: symbols,
+        }
     }
 
     /// What comes next.
@@ -43,7 +49,7 @@ impl<'a> Cursor<'a> {
     {
         match self.rest {
             [] => Next::End,
-            [first, ..] => next_of(&first.kind),
+            [first, ..] => first.next.seen(),
         }
     }
 
@@ -97,7 +103,10 @@ impl<'a> Cursor<'a> {
     pub fn begins_decl(&self) -> bool
         ensures { result ≡ terms.begins_decl true self.now }
     {
-        let mut ahead = Cursor { rest: self.rest };
+        let mut ahead = Cursor {
+            text: self.text,
+            rest: self.rest,
+        };
         let mut due = true;
         for _turn in 0..self.left() {
             let next = ahead.peek();
@@ -114,7 +123,10 @@ impl<'a> Cursor<'a> {
     pub fn declares(&self) -> bool
         ensures { result ≡ boxes.is_declared self.now }
     {
-        let mut ahead = Cursor { rest: self.rest };
+        let mut ahead = Cursor {
+            text: self.text,
+            rest: self.rest,
+        };
         ahead.skip();
         ahead.is_at(Mark::Comma) || ahead.is_at(Mark::Colon)
     }
@@ -158,24 +170,34 @@ impl<'a> Cursor<'a> {
         Ok(())
     }
 
-    /// A name, copied out of its token.
+    /// A name, copied out of the text.
     pub fn name(&mut self, alloc: Global) -> Result<Name, TextFault>
         ensures { Gives (terms.lift (spec.read_name self.old)) result self.new }
     {
         match self.rest {
-            [token, rest @ ..] => match &token.kind {
-                Kind::Name(base, strokes) => {
-                    let name = Name {
-                        base: base.copy(alloc)?,
-                        strokes: strokes.copy(alloc)?,
-                        line: token.line,
-                    };
-                    self.rest = rest;
-                    Ok(name)
-                }
-                _ => Err(self.unexpected()),
-            },
-            [] => Err(self.unexpected()),
+            [first, rest @ ..] if matches!(first.next, Next::Name) => {
+                let name = Name {
+                    base: Text::of(alloc, first.base(self.text))?,
+                    strokes: Text::of(alloc, first.strokes(self.text))?,
+                    line: first.line,
+                };
+                self.rest = rest;
+                Ok(name)
+            }
+            _ => Err(self.unexpected()),
+        }
+    }
+
+    /// A number.
+    pub fn number(&mut self) -> Result<u64, TextFault>
+        ensures { Gives (terms.lift (spec.read_number self.old)) result self.new }
+    {
+        match self.rest {
+            [first, rest @ ..] if matches!(first.next, Next::Number) => {
+                self.rest = rest;
+                Ok(first.amount as u64)
+            }
+            _ => Err(self.unexpected()),
         }
     }
 
@@ -184,21 +206,18 @@ impl<'a> Cursor<'a> {
         ensures { Gives (terms.lift (spec.read_opening self.old)) result self.new }
     {
         match self.rest {
-            [token, rest @ ..] => match &token.kind {
-                Kind::BeginSchema(base) => {
-                    let name = Name {
-                        base: base.copy(alloc)?,
-                        strokes: Text {
-                            bytes: Vec::new(alloc),
-                        },
-                        line: token.line,
-                    };
-                    self.rest = rest;
-                    Ok(name)
-                }
-                _ => Err(self.unexpected()),
-            },
-            [] => Err(self.unexpected()),
+            [first, rest @ ..] if matches!(first.next, Next::BeginSchema) => {
+                let name = Name {
+                    base: Text::of(alloc, first.opened(self.text))?,
+                    strokes: Text {
+                        bytes: Vec::new(alloc),
+                    },
+                    line: first.line,
+                };
+                self.rest = rest;
+                Ok(name)
+            }
+            _ => Err(self.unexpected()),
         }
     }
 }

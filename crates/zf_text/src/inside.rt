@@ -1,53 +1,48 @@
 //! The piece that begins a text inside a box.
-ghost use Rattle.std.specs.Prelude.{◌≡◌, ◌<◌, ◌≤◌, length, nat_le, if◌then◌else◌, IfOk, Some, None};
+ghost use Rattle.std.specs.Prelude.{◌≡◌, ◌<◌, ◌≤◌, length, nat_le, if◌then◌else◌, Some, None};
 ghost use Rattle.zf_text.specs.Pieces as spec;
+ghost use Rattle.zf_text.specs.Sights.{told};
 ghost use Rattle.zf_text.specs.Steps as steps;
 
 use crate::fault::TextFaultKind;
-use crate::pieces::{Found, Piece, Run, after, begins, front, is_digit, is_letter, run_len, step};
+use crate::next::Next;
+use crate::pieces::{Found, Run, Sight, after, begins, front, is_digit, is_letter, run_len, step};
 use crate::symbols::fixed;
-use crate::token::Kind;
-use std::alloc::{AllocError, Global};
-use zf_data::Text;
 
 /// The greatest number.
 pub const NUMBER_MAX: u64 = 9223372036854775807;
 
 /// The piece at the front of a text in a box that `end` closes.
 #[tactic(auto, unfolding(crate::specs::Steps::inside_found))]
-pub fn inside_at(alloc: Global, end: &[u8], rest: &[u8]) -> Result<Found, AllocError>
-    ensures { IfOk result (λ found. found ≡ steps.inside_found end.now rest.now) }
+pub fn inside_at(end: &[u8], rest: &[u8]) -> Found
+    ensures { told rest.now result ≡ steps.inside_found end.now rest.now }
 {
     let [first, ..] = rest else {
-        let piece = Piece::Refused(TextFaultKind::UnclosedBox);
-        return Ok(Found { piece, len: 0 });
+        return Found::of(Sight::Refused(TextFaultKind::UnclosedBox), 0);
     };
-    if *first == b'%' {
-        Ok(comment_at(rest))
-    } else if *first == b'\\' {
-        Ok(command_at(end, rest))
-    } else if is_letter(*first) {
-        word_at(alloc, rest)
-    } else if is_digit(*first) {
-        Ok(number_at(rest))
-    } else {
-        Ok(symbol_at(rest))
+    match *first {
+        b'%' => comment_at(rest),
+        b'\\' => command_at(end, rest),
+        b if is_letter(b) => word_at(rest),
+        b if is_digit(b) => number_at(rest),
+        _ => symbol_at(rest),
     }
 }
 
 /// A comment, from its `%` on.
 #[tactic(auto, unfolding(crate::specs::Steps::comment_found))]
+#[inline(never)]
 pub fn comment_at(rest: &[u8]) -> Found
     requires { 0 < length rest.now }
-    ensures { result ≡ steps.comment_found rest.now }
+    ensures { told rest.now result ≡ steps.comment_found rest.now }
 {
     let len = 1 + run_len(Run::Line, after(rest, 1));
-    let piece = if is_directive(front(rest, len)) {
-        Piece::Refused(TextFaultKind::NotInProfile)
+    let sight = if is_directive(front(rest, len)) {
+        Sight::Refused(TextFaultKind::NotInProfile)
     } else {
-        Piece::Plain
+        Sight::Plain
     };
-    Found { piece, len }
+    Found::of(sight, len)
 }
 
 fn is_directive(comment: &[u8]) -> bool
@@ -61,20 +56,18 @@ fn is_directive(comment: &[u8]) -> bool
 
 // A command, or the closing of the box.
 #[tactic(auto, unfolding(crate::specs::Steps::command_found))]
+#[inline(never)]
 fn command_at(end: &[u8], rest: &[u8]) -> Found
     requires { 0 < length rest.now }
-    ensures { result ≡ steps.command_found end.now rest.now }
+    ensures { told rest.now result ≡ steps.command_found end.now rest.now }
 {
     if begins(rest, end) {
-        return Found {
-            piece: Piece::Symbol(Kind::EndBox),
-            len: end.len(),
-        };
+        return Found::of(Sight::Symbol(Next::EndBox), end.len());
     }
     let short = command_len(rest);
     let long = short + tail_len(after(rest, short));
     match fixed(front(rest, long)) {
-        Some(piece) => Found { piece, len: long },
+        Some(sight) => Found::of(sight, long),
         None => short_command(rest, short),
     }
 }
@@ -82,14 +75,11 @@ fn command_at(end: &[u8], rest: &[u8]) -> Found
 #[tactic(auto, unfolding(crate::specs::Steps::short_command))]
 fn short_command(rest: &[u8], len: usize) -> Found
     requires { len ≤ length rest.now }
-    ensures { result ≡ steps.short_command rest.now len }
+    ensures { told rest.now result ≡ steps.short_command rest.now len }
 {
     match fixed(front(rest, len)) {
-        Some(piece) => Found { piece, len },
-        None => Found {
-            piece: Piece::Refused(TextFaultKind::UnknownCommand),
-            len,
-        },
+        Some(sight) => Found::of(sight, len),
+        None => Found::of(Sight::Refused(TextFaultKind::UnknownCommand), len),
     }
 }
 
@@ -121,30 +111,21 @@ fn tail_len(rest: &[u8]) -> usize
 
 // A name, `true` or `false`.
 #[tactic(auto, unfolding(crate::specs::Steps::word_found))]
-fn word_at(alloc: Global, rest: &[u8]) -> Result<Found, AllocError>
-    ensures { IfOk result (λ found. found ≡ steps.word_found rest.now) }
+#[inline(never)]
+fn word_at(rest: &[u8]) -> Found
+    ensures { told rest.now result ≡ steps.word_found rest.now }
 {
     let base = base_len(rest);
     let strokes = run_len(Run::Strokes, after(rest, base));
     let len = base + strokes;
     match fixed(front(rest, len)) {
-        Some(piece) => Ok(Found { piece, len }),
-        None => {
-            let name = name_of(alloc, front(rest, base), front(after(rest, base), strokes))?;
-            Ok(Found {
-                piece: Piece::Symbol(name),
-                len,
-            })
-        }
+        Some(sight) => Found::of(sight, len),
+        None => Found {
+            sight: Sight::Symbol(Next::Name),
+            amount: base,
+            len,
+        },
     }
-}
-
-fn name_of(alloc: Global, base: &[u8], strokes: &[u8]) -> Result<Kind, AllocError>
-    ensures { IfOk result (λ kind. kind ≡ steps.name_of base.now strokes.now) }
-{
-    let base = Text::of(alloc, base)?;
-    let strokes = Text::of(alloc, strokes)?;
-    Ok(Kind::Name(base, strokes))
 }
 
 /// How long the base of a name is that begins a text, 0 if none does.
@@ -159,15 +140,19 @@ pub fn base_len(rest: &[u8]) -> usize
 }
 
 #[tactic(auto, unfolding(crate::specs::Steps::number_found))]
+#[inline(never)]
 fn number_at(rest: &[u8]) -> Found
-    ensures { result ≡ steps.number_found rest.now }
+    ensures { told rest.now result ≡ steps.number_found rest.now }
 {
     let len = run_len(Run::Digits, rest);
-    let piece = match value_of(front(rest, len)) {
-        Some(value) => Piece::Symbol(Kind::Number(value)),
-        None => Piece::Refused(TextFaultKind::NumberTooLarge),
-    };
-    Found { piece, len }
+    match value_of(front(rest, len)) {
+        Some(value) => Found {
+            sight: Sight::Symbol(Next::Number),
+            amount: value as usize,
+            len,
+        },
+        None => Found::of(Sight::Refused(TextFaultKind::NumberTooLarge), len),
+    }
 }
 
 fn value_of(digits: &[u8]) -> Option<u64>
@@ -184,18 +169,32 @@ fn value_of(digits: &[u8]) -> Option<u64>
     Some(n)
 }
 
-#[tactic(auto, unfolding(crate::specs::Steps::symbol_found))]
+// A symbol. The most frequent ones are told by their first byte.
+#[tactic(auto, unfolding(crate::specs::Steps::symbol_found, crate::specs::Pieces::symbols))]
 fn symbol_at(rest: &[u8]) -> Found
+    ensures { told rest.now result ≡ steps.symbol_found rest.now }
+{
+    let [first, ..] = rest else {
+        return Found::of(Sight::Refused(TextFaultKind::BadByte), 1);
+    };
+    match *first {
+        b'(' => Found::of(Sight::Symbol(Next::OpenRound), 1),
+        b')' => Found::of(Sight::Symbol(Next::CloseRound), 1),
+        b',' => Found::of(Sight::Symbol(Next::Comma), 1),
+        _ => other_symbol_at(rest),
+    }
+}
+
+#[inline(never)]
+#[tactic(auto, unfolding(crate::specs::Steps::symbol_found))]
+fn other_symbol_at(rest: &[u8]) -> Found
     requires { 0 < length rest.now }
-    ensures { result ≡ steps.symbol_found rest.now }
+    ensures { told rest.now result ≡ steps.symbol_found rest.now }
 {
     let len = symbol_len(rest);
     match fixed(front(rest, len)) {
-        Some(piece) => Found { piece, len },
-        None => Found {
-            piece: Piece::Refused(TextFaultKind::BadByte),
-            len,
-        },
+        Some(sight) => Found::of(sight, len),
+        None => Found::of(Sight::Refused(TextFaultKind::BadByte), len),
     }
 }
 

@@ -171,7 +171,7 @@ pub fn binds(next: Next) -> u8
         Next::Inverse => POSTFIX + 1,
         Next::OpenImage => POSTFIX + 1,
         Next::Name => APPLICATION + 1,
-        Next::Number(_) => APPLICATION + 1,
+        Next::Number => APPLICATION + 1,
         Next::Constant(_) => APPLICATION + 1,
         Next::EmptySet => APPLICATION + 1,
         Next::OpenRound => APPLICATION + 1,

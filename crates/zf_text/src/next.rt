@@ -1,10 +1,13 @@
 //! What comes next, for the rules of the grammar to choose by.
-ghost use Rattle.std.specs.Prelude.{◌≡◌};
+ghost use Rattle.std.specs.Prelude.{◌≡◌, ℕ, List};
 ghost use Rattle.zf_text.specs.Reading as spec;
-ghost use Rattle.zf_text.specs.Separators.{canonical};
+ghost use Rattle.zf_text.specs.Separators as separators;
+ghost use Rattle.zf_text.specs.Sights.{kind_of};
 ghost use Rattle.zf_text.specs.TermReading as terms;
 
-use crate::token::{Arrow, Connective, Constant, Infix, Kind, Prefix, Quantifier, Relation};
+use crate::token::{
+    Arrow, Connective, Constant, Infix, Kind, Prefix, Quantifier, Relation, Separator,
+};
 
 /// The next symbol, without its text.
 #[derive(Clone, Copy, Debug)]
@@ -15,8 +18,8 @@ pub enum Next {
     BeginSchema,
     EndBox,
     Name,
-    Number(u64),
-    Separator,
+    Number,
+    Separator(Separator),
     OpenRound,
     CloseRound,
     OpenSquare,
@@ -46,8 +49,6 @@ pub enum Next {
     Quantifier(Quantifier),
     Delta,
     Xi,
-    /// A separator as it stands before the list is reduced. No symbol that is left is one.
-    Other,
 }
 
 /// A symbol that a rule asks for by itself.
@@ -69,15 +70,15 @@ pub enum Mark {
 }
 
 pub fn next_of(kind: &Kind) -> Next
-    ensures { result ≡ spec.next_of (canonical kind.now) }
+    ensures { result ≡ spec.next_of kind.now }
 {
     match kind {
         Kind::BeginZed => Next::BeginZed,
         Kind::BeginSchema(_) => Next::BeginSchema,
         Kind::EndBox => Next::EndBox,
         Kind::Name(_, _) => Next::Name,
-        Kind::Number(value) => Next::Number(*value),
-        Kind::Separator(_) => Next::Separator,
+        Kind::Number(_) => Next::Number,
+        Kind::Separator(separator) => Next::Separator(*separator),
         Kind::OpenRound => Next::OpenRound,
         Kind::CloseRound => Next::CloseRound,
         Kind::OpenSquare => Next::OpenSquare,
@@ -111,6 +112,75 @@ pub fn next_of(kind: &Kind) -> Next
 }
 
 impl Next {
+    /// The symbol itself. `End` is none, and would be seen as `EndBox`.
+    pub fn seen(self) -> Next
+        ensures { (base : ℕ) (text : List ℕ) → result ≡ spec.next_of (kind_of self base text) }
+    {
+        match self {
+            Next::End => Next::EndBox,
+            _ => self,
+        }
+    }
+
+    /// Whether this is a separator.
+    pub fn is_separator(self) -> bool
+        ensures { (base : ℕ) (text : List ℕ) → result ≡ separators.is_separator (kind_of self base text) }
+    {
+        matches!(self, Next::Separator(_))
+    }
+
+    /// Whether a separator before or after this token is dropped.
+    fn joins(self) -> bool
+        ensures { (base : ℕ) (text : List ℕ) → result ≡ separators.joins (kind_of self base text) }
+    {
+        matches!(
+            self,
+            Next::Infix(_)
+                | Next::Relation(_)
+                | Next::Arrow(_)
+                | Next::Cross
+                | Next::Connective(_)
+                | Next::Comma
+                | Next::Colon
+                | Next::Bar
+                | Next::At
+                | Next::Defines
+                | Next::Abbreviates
+                | Next::FreeType
+                | Next::Where
+        )
+    }
+
+    /// Whether a separator after this token is dropped.
+    pub fn opens(self) -> bool
+        ensures { (base : ℕ) (text : List ℕ) → result ≡ separators.opens (kind_of self base text) }
+    {
+        match self {
+            Next::BeginZed => true,
+            Next::BeginSchema => true,
+            Next::OpenRound => true,
+            Next::OpenSquare => true,
+            Next::OpenBrace => true,
+            Next::OpenImage => true,
+            _ => self.joins(),
+        }
+    }
+
+    /// Whether a separator before this token is dropped.
+    pub fn closes(self) -> bool
+        ensures { (base : ℕ) (text : List ℕ) → result ≡ separators.closes (kind_of self base text) }
+    {
+        match self {
+            Next::EndBox | Next::End => true,
+            Next::CloseRound => true,
+            Next::CloseSquare => true,
+            Next::CloseBrace => true,
+            Next::CloseImage => true,
+            Next::Separator(_) => true,
+            _ => self.joins(),
+        }
+    }
+
     /// Whether this goes on with a list of names; the test is whether a name is due.
     pub fn goes_on(self, due: bool) -> bool
         ensures { result ≡ terms.goes_on due self }
@@ -138,7 +208,7 @@ impl Next {
     {
         match mark {
             Mark::EndBox => matches!(self, Next::EndBox),
-            Mark::Separator => matches!(self, Next::Separator),
+            Mark::Separator => matches!(self, Next::Separator(Separator::Semicolon)),
             Mark::CloseRound => matches!(self, Next::CloseRound),
             Mark::OpenSquare => matches!(self, Next::OpenSquare),
             Mark::CloseSquare => matches!(self, Next::CloseSquare),

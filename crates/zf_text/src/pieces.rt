@@ -6,9 +6,10 @@ ghost use Rattle.zf_text.specs.Pieces as spec;
 ghost use Rattle.zf_text.specs.Steps as steps;
 
 use crate::fault::TextFaultKind;
+use crate::next::Next;
 use crate::token::Kind;
 
-/// What a piece is.
+/// What a piece is. The scanner keeps a `Sight` of it, and the text stays in the source.
 #[derive(Drop)]
 pub enum Piece {
     /// Informal text, a comment or a blank: no token.
@@ -17,11 +18,34 @@ pub enum Piece {
     Refused(TextFaultKind),
 }
 
-/// A piece that begins a text, by its length.
-#[derive(Drop)]
+/// A piece without its text.
+#[derive(Clone, Copy)]
+pub enum Sight {
+    Plain,
+    Symbol(Next),
+    Refused(TextFaultKind),
+}
+
+/// What begins a text: its length, and a name's length without strokes or a number's value.
+#[derive(Clone, Copy)]
 pub struct Found {
-    pub piece: Piece,
+    pub sight: Sight,
+    pub amount: usize,
     pub len: usize,
+}
+
+impl Found {
+    /// A piece that is no name and no number.
+    #[inline(always)]
+    pub fn of(sight: Sight, len: usize) -> Found
+        ensures { result ≡ record { sight = sight; amount = 0; len = len } }
+    {
+        Found {
+            sight,
+            amount: 0,
+            len,
+        }
+    }
 }
 
 /// Where a piece stands: outside the boxes, or in a box with the line of its `\begin`.
@@ -85,16 +109,9 @@ pub fn step(run: Run, bytes: &[u8]) -> usize
 {
     match bytes {
         [] => 0,
-        [b] => { if is_one(run, *b) { 1 } else { 0 } }
-        [b, c, ..] => {
-            if is_one(run, *b) {
-                1
-            } else if is_two(run, *b, *c) {
-                2
-            } else {
-                0
-            }
-        }
+        [b, ..] if is_one(run, *b) => 1,
+        [b, c, ..] if is_two(run, *b, *c) => 2,
+        _ => 0,
     }
 }
 

@@ -1,69 +1,82 @@
 //! Trees out of tokens, and out of a source.
-ghost use Rattle.std.specs.Prelude.{◌≡◌, List, IfOk, map, drop};
+ghost use Rattle.std.specs.Prelude.{◌≡◌, ℕ, List, IfOk, map};
 ghost use Rattle.zf_text.specs.Parsing.{Parses, ReadsSpec};
+ghost use Rattle.zf_text.specs.Placing.{symbol_at, token_at, unplaced};
 ghost use Rattle.zf_text.specs.Reads.{Reads};
-ghost use Rattle.zf_text.specs.Separators.{reduced, starts_closed, symbol_of};
+ghost use Rattle.zf_text.specs.Separators.{reduced, starts_closed};
 ghost use Rattle.zf_text.specs.Trees.{BoxTree};
 ghost use Rattle.zf_text.specs.declared.token.Token.{Token};
 
 use crate::boxes::all;
 use crate::cursor::Cursor;
 use crate::fault::TextFault;
-use crate::scan::scan;
+use crate::laid::{Laid, lay_out};
+use crate::placed::Placed;
+use crate::scan::symbols;
 use crate::token::Token;
 use crate::tree::Spec;
-use std::alloc::{AllocError, Global};
+use std::alloc::Global;
 
-/// Whether a separator before these tokens is dropped.
-fn starts_closed(tokens: &[Token]) -> bool
-    ensures { result ≡ starts_closed tokens.now }
+/// Whether a separator before these symbols is dropped.
+fn starts_closed(symbols: &[Placed]) -> bool
+    ensures { (text : List ℕ) → result ≡ starts_closed (map (token_at text) symbols.now) }
 {
-    match tokens {
+    match symbols {
         [] => false,
-        [first, ..] => first.kind.closes(),
+        [first, ..] => first.next.closes(),
     }
 }
 
-/// The tokens without the separators that are dropped.
-fn reduce<'a>(alloc: Global, tokens: &'a [Token]) -> Result<Vec<&'a Token>, AllocError>
-    ensures { IfOk result (λ kept. map (λ t. symbol_of t.now) kept.items ≡ reduced tokens.entry.now) }
+/// Takes out the separators that are dropped.
+fn reduce(symbols: &mut Vec<Placed>)
+    ensures { (text : List ℕ) → map (symbol_at text) symbols.new.items ≡ reduced (map (token_at text) symbols.old.items) }
 {
-    let mut kept = Vec::new(alloc);
+    let mut kept = 0;
     let mut drops = true;
-    for i in 0..tokens.len() {
-        let token = &tokens[i];
-        if token.kind.is_separator() {
-            if !drops && !starts_closed(&tokens[i + 1..]) {
-                kept.push(token)?;
+    for i in 0..symbols.len() {
+        let symbol = symbols[i];
+        if symbol.next.is_separator() {
+            if !drops && !starts_closed(&symbols.as_slice()[i + 1..]) {
+                symbols[kept] = symbol.as_separator();
+                kept += 1;
                 drops = true;
             }
         } else {
-            kept.push(token)?;
-            drops = token.kind.opens();
+            symbols[kept] = symbol;
+            kept += 1;
+            drops = symbol.next.opens();
         }
     }
-    Ok(kept)
+    symbols.truncate(kept);
 }
 
 /// The limit of a term or schema expression.
 const HEIGHT_LIMIT: u32 = 128;
 
+/// The tree that reads the symbols of a text.
+fn parsed(alloc: Global, text: &[u8], mut symbols: Vec<Placed>) -> Result<Spec, TextFault>
+    ensures { (tokens : List Token) → map unplaced tokens ≡ map (symbol_at text.now) symbols.items → Parses result tokens }
+{
+    reduce(&mut symbols);
+    let mut cursor = Cursor::new(text, symbols.as_slice());
+    let boxes = all(alloc, &mut cursor, HEIGHT_LIMIT)?;
+    Ok(Spec { boxes })
+}
+
 /// The tree that reads the tokens.
 pub fn parse(alloc: Global, tokens: &[Token]) -> Result<Spec, TextFault>
     ensures { Parses result tokens.now }
 {
-    let reduced = reduce(alloc, tokens)?;
-    let mut cursor = Cursor::new(&reduced);
-    let boxes = all(alloc, &mut cursor, HEIGHT_LIMIT)?;
-    Ok(Spec { boxes })
+    let Laid { text, symbols } = lay_out(alloc, tokens)?;
+    parsed(alloc, text.as_slice(), symbols)
 }
 
 /// The tree of a source: `scan`, and then `parse`.
 pub fn read_spec(alloc: Global, source: &[u8]) -> Result<Spec, TextFault>
     ensures { ReadsSpec result source.now }
 {
-    let tokens = scan(alloc, source)?;
-    parse(alloc, tokens.as_slice())
+    let symbols = symbols(alloc, source)?;
+    parsed(alloc, source, symbols)
 }
 
 /// A law: no tokens are read by two trees.

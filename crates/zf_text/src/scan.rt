@@ -1,18 +1,64 @@
 //! From bytes to tokens.
-ghost use Rattle.std.specs.Prelude.{◌≡◌, ◌≤◌, ◌⊎◌, length, IfOk, IfErr};
-ghost use Rattle.zf_text.specs.Steps as steps;
+ghost use Rattle.std.specs.Prelude.{◌≡◌, ◌≤◌, ◌⊎◌, ℕ, List, IsTrue, length, map, IfOk, IfErr};
 ghost use Rattle.zf_text.specs.Cuts as cuts;
+ghost use Rattle.zf_text.specs.Placing.{token_at};
+ghost use Rattle.zf_text.specs.Sights.{kind_of, piece_of, told};
+ghost use Rattle.zf_text.specs.Steps as steps;
+ghost use Rattle.zf_text.specs.declared.pieces.Piece.TheVariants.{Plain, Symbol};
 
 use crate::fault::{TextFault, TextFaultKind};
 use crate::inside::inside_at;
+use crate::next::Next;
 use crate::outside::outside_at;
-use crate::pieces::{Found, Piece, Place, after, front};
-use crate::token::{Kind, Token};
-use std::alloc::{AllocError, Global};
+use crate::pieces::{Found, Place, Sight, after, front};
+use crate::placed::Placed;
+use crate::token::Token;
+use std::alloc::Global;
 use zf_data::Items;
 
 /// The greatest length of a source.
 pub const SOURCE_MAX: usize = 1_048_576;
+
+/// The symbols of a source, with their places.
+pub(crate) fn symbols(alloc: Global, source: &[u8]) -> Result<Vec<Placed>, TextFault>
+    ensures cut { IfOk result (λ symbols. cuts.IsCutInto source.now (map (token_at source.now) symbols.items)) }
+    ensures fault { IfErr result (λ fault. cuts.IsWantOfMemory fault ⊎ cuts.HasFault source.now fault) }
+    ensures uncut { IfErr result (λ fault. cuts.IsWantOfMemory fault ⊎ cuts.IsUncut source.now) }
+{
+    if source.len() > SOURCE_MAX {
+        return Err(fault_at(TextFaultKind::TooLong, Place::Outside, 0));
+    }
+    let mut symbols = Vec::new(alloc);
+    let mut place = Place::Outside;
+    let mut line = 1;
+    let mut start = 0;
+    while start < source.len() {
+        let rest = after(source, start);
+        let Found { sight, amount, len } = piece_at(place, rest);
+        match sight {
+            Sight::Plain => (),
+            Sight::Symbol(next) => {
+                let stop = start + len;
+                let symbol = Placed {
+                    next,
+                    line,
+                    start,
+                    stop,
+                    amount,
+                };
+                symbols.push(symbol)?;
+            }
+            Sight::Refused(kind) => return Err(fault_at(kind, place, line)),
+        }
+        place = entered(place, line, sight);
+        line += newlines(front(rest, len));
+        start += len;
+    }
+    match place {
+        Place::Outside => Ok(symbols),
+        _ => Err(fault_at(TextFaultKind::UnclosedBox, place, line)),
+    }
+}
 
 /// The tokens of a source.
 pub fn scan(alloc: Global, source: &[u8]) -> Result<Items<Token>, TextFault>
@@ -21,61 +67,60 @@ pub fn scan(alloc: Global, source: &[u8]) -> Result<Items<Token>, TextFault>
     ensures fault { IfErr result (λ fault. cuts.IsWantOfMemory fault ⊎ cuts.HasFault source.now fault) }
     ensures uncut { IfErr result (λ fault. cuts.IsWantOfMemory fault ⊎ cuts.IsUncut source.now) }
 {
-    if source.len() > SOURCE_MAX {
-        return Err(fault_at(TextFaultKind::TooLong, Place::Outside, 0));
-    }
+    let symbols = symbols(alloc, source)?;
     let mut tokens = Items::new(alloc);
-    let mut place = Place::Outside;
-    let mut line = 1;
-    let mut start = 0;
-    while start < source.len() {
-        let rest = after(source, start);
-        let Found { piece, len } = piece_at(alloc, place, rest)?;
-        let next = entered(place, line, &piece);
-        match piece {
-            Piece::Plain => (),
-            Piece::Symbol(kind) => {
-                let stop = start + len;
-                let token = Token {
-                    kind,
-                    start,
-                    stop,
-                    line,
-                };
-                tokens.push(token)?;
-            }
-            Piece::Refused(kind) => return Err(fault_at(kind, place, line)),
-        }
-        place = next;
-        line += newlines(front(rest, len));
-        start += len;
+    for i in 0..symbols.len() {
+        tokens.push(symbols[i].token(alloc, source)?)?;
     }
+    Ok(tokens)
+}
+
+// Whether a blank begins a text inside a box.
+#[tactic(auto, unfolding(crate::specs::Steps::found_at, crate::specs::Steps::inside_found, crate::specs::Steps::symbol_found, crate::specs::Pieces::symbols))]
+#[inline(always)]
+fn is_blank(place: Place, rest: &[u8]) -> bool
+    ensures { IsTrue result → steps.found_at place rest.now ≡ steps.found Plain 1 }
+{
     match place {
-        Place::Outside => Ok(tokens),
-        _ => Err(fault_at(TextFaultKind::UnclosedBox, place, line)),
+        Place::Outside => false,
+        Place::Zed(_) | Place::Schema(_) => matches!(rest, [b' ' | b'\n' | b'\t', ..]),
     }
 }
 
-// The piece at the front of a text, with its length.
+// The piece at the front of a text. Most are blanks.
 #[tactic(auto, unfolding(crate::specs::Steps::found_at))]
-fn piece_at(alloc: Global, place: Place, rest: &[u8]) -> Result<Found, AllocError>
-    ensures { IfOk result (λ found. found ≡ steps.found_at place rest.now) }
+#[inline(always)]
+fn piece_at(place: Place, rest: &[u8]) -> Found
+    ensures { told rest.now result ≡ steps.found_at place rest.now }
 {
+    if is_blank(place, rest) {
+        return Found::of(Sight::Plain, 1);
+    }
     match place {
-        Place::Outside => outside_at(alloc, rest),
-        Place::Zed(_) => inside_at(alloc, b"\\end{zed}", rest),
-        Place::Schema(_) => inside_at(alloc, b"\\end{schema}", rest),
+        Place::Outside => outside_at(rest),
+        Place::Zed(_) => inside_at(b"\\end{zed}", rest),
+        Place::Schema(_) => inside_at(b"\\end{schema}", rest),
     }
 }
 
 // Where the text behind a piece stands.
-fn entered(place: Place, line: u32, piece: &Piece) -> Place
-    ensures { result ≡ cuts.entered place line piece.now }
+fn entered(place: Place, line: u32, sight: Sight) -> Place
+    ensures { (amount : ℕ) (text : List ℕ) → result ≡ cuts.entered place line (piece_of sight amount text) }
 {
-    match piece {
-        Piece::Symbol(Kind::BeginZed) => Place::Zed(line),
-        Piece::Symbol(Kind::BeginSchema(_)) => Place::Schema(line),
-        Piece::Symbol(Kind::EndBox) => Place::Outside,
+    match sight {
+        Sight::Plain | Sight::Refused(_) => place,
+        Sight::Symbol(next) => behind(place, line, next),
+    }
+}
+
+// Where the text behind a symbol stands.
+fn behind(place: Place, line: u32, next: Next) -> Place
+    ensures { (amount : ℕ) (text : List ℕ) → result ≡ cuts.entered place line (Symbol (kind_of next amount text)) }
+{
+    match next {
+        Next::BeginZed => Place::Zed(line),
+        Next::BeginSchema => Place::Schema(line),
+        Next::EndBox | Next::End => Place::Outside,
         _ => place,
     }
 }
@@ -106,6 +151,10 @@ fn newlines(bytes: &[u8]) -> u32
     ensures value { result ≡ cuts.newlines bytes.now }
     ensures few { result ≤ length bytes.now }
 {
+    // Most pieces are one byte.
+    if let [b] = bytes {
+        return if *b == b'\n' { 1 } else { 0 };
+    }
     let mut n = 0;
     for b in bytes {
         if *b == b'\n' {

@@ -4,100 +4,103 @@
 ghost use Rattle.std.specs.Prelude.{◌≡◌, ◌∷◌, if◌then◌else◌, Some, None};
 ghost use Rattle.std.specs.Str.{bytes_eq};
 ghost use Rattle.zf_text.specs.Pieces.{look_up, symbols};
+ghost use Rattle.zf_text.specs.Sights.{seen};
 
 use crate::commands as by_letter;
 use crate::fault::TextFaultKind;
-use crate::pieces::{Piece, same};
-use crate::token::{Constant, Infix, Kind, Prefix, Relation, Separator};
+use crate::next::Next;
+use crate::pieces::{Sight, same};
+use crate::token::{Constant, Infix, Prefix, Relation, Separator};
 
 /// The piece that a text spells, if it is of one spelling.
-pub fn fixed(text: &[u8]) -> Option<Piece>
-    ensures { result ≡ look_up text.now symbols }
+pub fn fixed(text: &[u8]) -> Option<Sight>
+    ensures { seen text.now result ≡ look_up text.now symbols }
 {
     let [first, rest @ ..] = text else {
         return None;
     };
     match *first {
         b'\\' => command(rest),
-        b'\t' | b'\n' | b'\r' | b' ' | b'~' => only(rest, b"", Piece::Plain),
+        b'\t' | b'\n' | b'\r' | b' ' | b'~' => only(rest, b"", Sight::Plain),
         b';' => only(
             rest,
             b"",
-            Piece::Symbol(Kind::Separator(Separator::Semicolon)),
+            Sight::Symbol(Next::Separator(Separator::Semicolon)),
         ),
-        b'(' => only(rest, b"", Piece::Symbol(Kind::OpenRound)),
-        b')' => only(rest, b"", Piece::Symbol(Kind::CloseRound)),
-        b'[' => only(rest, b"", Piece::Symbol(Kind::OpenSquare)),
-        b']' => only(rest, b"", Piece::Symbol(Kind::CloseSquare)),
-        b',' => only(rest, b"", Piece::Symbol(Kind::Comma)),
+        b'(' => only(rest, b"", Sight::Symbol(Next::OpenRound)),
+        b')' => only(rest, b"", Sight::Symbol(Next::CloseRound)),
+        b'[' => only(rest, b"", Sight::Symbol(Next::OpenSquare)),
+        b']' => only(rest, b"", Sight::Symbol(Next::CloseSquare)),
+        b',' => only(rest, b"", Sight::Symbol(Next::Comma)),
         b':' => colons(rest),
-        b'|' => only(rest, b"", Piece::Symbol(Kind::Bar)),
-        b'@' => only(rest, b"", Piece::Symbol(Kind::At)),
+        b'|' => only(rest, b"", Sight::Symbol(Next::Bar)),
+        b'@' => only(rest, b"", Sight::Symbol(Next::At)),
         b'=' => equals(rest),
-        b'<' => only(rest, b"", Piece::Symbol(Kind::Relation(Relation::Less))),
-        b'>' => only(rest, b"", Piece::Symbol(Kind::Relation(Relation::Greater))),
-        b'+' => only(rest, b"", Piece::Symbol(Kind::Infix(Infix::Plus))),
-        b'-' => only(rest, b"", Piece::Symbol(Kind::Infix(Infix::Minus))),
-        b'*' => only(rest, b"", Piece::Symbol(Kind::Infix(Infix::Times))),
-        b't' => only(rest, b"rue", Piece::Symbol(Kind::Constant(Constant::True))),
+        b'<' => only(rest, b"", Sight::Symbol(Next::Relation(Relation::Less))),
+        b'>' => only(rest, b"", Sight::Symbol(Next::Relation(Relation::Greater))),
+        b'+' => only(rest, b"", Sight::Symbol(Next::Infix(Infix::Plus))),
+        b'-' => only(rest, b"", Sight::Symbol(Next::Infix(Infix::Minus))),
+        b'*' => only(rest, b"", Sight::Symbol(Next::Infix(Infix::Times))),
+        b't' => only(rest, b"rue", Sight::Symbol(Next::Constant(Constant::True))),
         b'f' => only(
             rest,
             b"alse",
-            Piece::Symbol(Kind::Constant(Constant::False)),
+            Sight::Symbol(Next::Constant(Constant::False)),
         ),
-        b'{' | b'}' => only(rest, b"", Piece::Refused(TextFaultKind::NotInProfile)),
+        b'{' | b'}' => only(rest, b"", Sight::Refused(TextFaultKind::NotInProfile)),
         _ => None,
     }
 }
 
-// The piece, where its text is this one.
-fn only(rest: &[u8], text: &[u8], piece: Piece) -> Option<Piece>
-    ensures { result ≡ (if bytes_eq rest.now text.now then Some piece else None) }
+// The sight, where its text is this one.
+#[inline(always)]
+fn only(rest: &[u8], text: &[u8], sight: Sight) -> Option<Sight>
+    ensures { result ≡ (if bytes_eq rest.now text.now then Some sight else None) }
 {
-    if same(rest, text) { Some(piece) } else { None }
+    if same(rest, text) { Some(sight) } else { None }
 }
 
-fn colons(rest: &[u8]) -> Option<Piece>
-    ensures { result ≡ look_up (58 ∷ rest.now) symbols }
+fn colons(rest: &[u8]) -> Option<Sight>
+    ensures { seen (58 ∷ rest.now) result ≡ look_up (58 ∷ rest.now) symbols }
 {
     if same(rest, b"") {
-        Some(Piece::Symbol(Kind::Colon))
+        Some(Sight::Symbol(Next::Colon))
     } else if same(rest, b":=") {
-        Some(Piece::Symbol(Kind::FreeType))
+        Some(Sight::Symbol(Next::FreeType))
     } else {
         None
     }
 }
 
-fn equals(rest: &[u8]) -> Option<Piece>
-    ensures { result ≡ look_up (61 ∷ rest.now) symbols }
+fn equals(rest: &[u8]) -> Option<Sight>
+    ensures { seen (61 ∷ rest.now) result ≡ look_up (61 ∷ rest.now) symbols }
 {
     if same(rest, b"=") {
-        Some(Piece::Symbol(Kind::Abbreviates))
+        Some(Sight::Symbol(Next::Abbreviates))
     } else if same(rest, b"") {
-        Some(Piece::Symbol(Kind::Relation(Relation::Equal)))
+        Some(Sight::Symbol(Next::Relation(Relation::Equal)))
     } else {
         None
     }
 }
 
 // A command, by what stands behind its backslash.
-fn command(text: &[u8]) -> Option<Piece>
-    ensures { result ≡ look_up (92 ∷ text.now) symbols }
+fn command(text: &[u8]) -> Option<Sight>
+    ensures { seen (92 ∷ text.now) result ≡ look_up (92 ∷ text.now) symbols }
 {
     let [first, rest @ ..] = text else {
         return None;
     };
     match *first {
-        b',' | b':' | b';' | b'!' | b' ' => only(rest, b"", Piece::Plain),
+        b',' | b':' | b';' | b'!' | b' ' => only(rest, b"", Sight::Plain),
         b'\\' => only(
             rest,
             b"",
-            Piece::Symbol(Kind::Separator(Separator::NewLine)),
+            Sight::Symbol(Next::Separator(Separator::NewLine)),
         ),
-        b'{' => only(rest, b"", Piece::Symbol(Kind::OpenBrace)),
-        b'}' => only(rest, b"", Piece::Symbol(Kind::CloseBrace)),
-        b'#' => only(rest, b"", Piece::Symbol(Kind::Prefix(Prefix::Size))),
+        b'{' => only(rest, b"", Sight::Symbol(Next::OpenBrace)),
+        b'}' => only(rest, b"", Sight::Symbol(Next::CloseBrace)),
+        b'#' => only(rest, b"", Sight::Symbol(Next::Prefix(Prefix::Size))),
         b'a' => by_letter::commands_in_a(rest),
         b'b' => by_letter::commands_in_b(rest),
         b'c' => by_letter::commands_in_c(rest),

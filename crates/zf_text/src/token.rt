@@ -1,7 +1,4 @@
 //! Tokens: the symbols of the markup, one value for each.
-ghost use Rattle.std.specs.Prelude.{◌≡◌};
-ghost use Rattle.zf_text.specs.Separators as spec;
-
 use zf_data::Text;
 
 /// A run of one or more of these parts paragraphs, declarations or predicates.
@@ -222,64 +219,4 @@ pub struct Token {
     pub stop: usize,
     /// One more than the number of newline bytes before it.
     pub line: u32,
-}
-
-impl Kind {
-    pub fn is_separator(&self) -> bool
-        ensures { result ≡ spec.is_separator self.now }
-    {
-        matches!(self, Kind::Separator(_))
-    }
-
-    /// Whether a separator before or after this token is dropped.
-    fn joins(&self) -> bool
-        ensures { result ≡ spec.joins self.now }
-    {
-        matches!(
-            self,
-            Kind::Infix(_)
-                | Kind::Relation(_)
-                | Kind::Arrow(_)
-                | Kind::Cross
-                | Kind::Connective(_)
-                | Kind::Comma
-                | Kind::Colon
-                | Kind::Bar
-                | Kind::At
-                | Kind::Defines
-                | Kind::Abbreviates
-                | Kind::FreeType
-                | Kind::Where
-        )
-    }
-
-    /// Whether a separator after this token is dropped.
-    pub fn opens(&self) -> bool
-        ensures { result ≡ spec.opens self.now }
-    {
-        match self {
-            Kind::BeginZed => true,
-            Kind::BeginSchema(_) => true,
-            Kind::OpenRound => true,
-            Kind::OpenSquare => true,
-            Kind::OpenBrace => true,
-            Kind::OpenImage => true,
-            _ => self.joins(),
-        }
-    }
-
-    /// Whether a separator before this token is dropped.
-    pub fn closes(&self) -> bool
-        ensures { result ≡ spec.closes self.now }
-    {
-        match self {
-            Kind::EndBox => true,
-            Kind::CloseRound => true,
-            Kind::CloseSquare => true,
-            Kind::CloseBrace => true,
-            Kind::CloseImage => true,
-            Kind::Separator(_) => true,
-            _ => self.joins(),
-        }
-    }
 }

@@ -21,6 +21,7 @@ use zf_data::Boxed;
 impl<F: Fn(Global, &mut Cursor<'_>, u32, u8) -> Result<Tall<Term>, TextFault>> Grammar<F> {
     /// After `\emptyset`.
     #[tactic(auto, unfolding(crate::specs::TermReading::empty_set, crate::specs::TermReading::enclosed))]
+    #[inline(never)]
     fn empty_set(&self, tokens: &mut Cursor<'_>, line: u32) -> Result<Tall<Term>, TextFault>
         requires nests { Nests self.now.below (F.pre self.now.read) (F.post self.now.read) }
         ensures value { Gives (spec.empty_set (read_term self.now.below) line tokens.old) result tokens.new }
@@ -39,6 +40,7 @@ impl<F: Fn(Global, &mut Cursor<'_>, u32, u8) -> Result<Tall<Term>, TextFault>> G
     }
 
     /// After `(` and a term that a comma follows.
+    #[inline(never)]
     fn tuple(
         &self,
         tokens: &mut Cursor<'_>,
@@ -63,6 +65,7 @@ impl<F: Fn(Global, &mut Cursor<'_>, u32, u8) -> Result<Tall<Term>, TextFault>> G
 
     /// After `(`.
     #[tactic(auto, unfolding(crate::specs::TermReading::round))]
+    #[inline(never)]
     fn round(&self, tokens: &mut Cursor<'_>, line: u32) -> Result<Tall<Term>, TextFault>
         requires nests { Nests self.now.below (F.pre self.now.read) (F.post self.now.read) }
         ensures value { Gives (spec.round (read_term self.now.below) line tokens.old) result tokens.new }
@@ -84,6 +87,7 @@ impl<F: Fn(Global, &mut Cursor<'_>, u32, u8) -> Result<Tall<Term>, TextFault>> G
 
     /// After `\{`, where no declaration begins.
     #[tactic(auto, unfolding(crate::specs::TermReading::display))]
+    #[inline(never)]
     fn display(&self, tokens: &mut Cursor<'_>, line: u32) -> Result<Tall<Term>, TextFault>
         requires nests { Nests self.now.below (F.pre self.now.read) (F.post self.now.read) }
         ensures value { Gives (spec.display (read_term self.now.below) line tokens.old) result tokens.new }
@@ -103,6 +107,7 @@ impl<F: Fn(Global, &mut Cursor<'_>, u32, u8) -> Result<Tall<Term>, TextFault>> G
 
     /// After `\{`, where a declaration begins.
     #[tactic(auto, unfolding(crate::specs::TermReading::builder))]
+    #[inline(never)]
     fn builder(&self, tokens: &mut Cursor<'_>, line: u32) -> Result<Tall<Term>, TextFault>
         requires nests { Nests self.now.below (F.pre self.now.read) (F.post self.now.read) }
         ensures value { Gives (spec.builder (read_term self.now.below) line tokens.old) result tokens.new }
@@ -120,6 +125,7 @@ impl<F: Fn(Global, &mut Cursor<'_>, u32, u8) -> Result<Tall<Term>, TextFault>> G
 
     /// After `\{`.
     #[tactic(auto, unfolding(crate::specs::TermReading::braced))]
+    #[inline(never)]
     fn braced(&self, tokens: &mut Cursor<'_>, line: u32) -> Result<Tall<Term>, TextFault>
         requires nests { Nests self.now.below (F.pre self.now.read) (F.post self.now.read) }
         ensures value { Gives (spec.braced (read_term self.now.below) line tokens.old) result tokens.new }
@@ -134,6 +140,7 @@ impl<F: Fn(Global, &mut Cursor<'_>, u32, u8) -> Result<Tall<Term>, TextFault>> G
 
     /// After the sign.
     #[tactic(auto, unfolding(crate::specs::TermReading::under))]
+    #[inline(never)]
     fn prefixed(
         &self,
         tokens: &mut Cursor<'_>,
@@ -153,6 +160,7 @@ impl<F: Fn(Global, &mut Cursor<'_>, u32, u8) -> Result<Tall<Term>, TextFault>> G
 
     /// After `\lnot`.
     #[tactic(auto, unfolding(crate::specs::TermReading::under))]
+    #[inline(never)]
     fn negated(&self, tokens: &mut Cursor<'_>, line: u32) -> Result<Tall<Term>, TextFault>
         requires nests { Nests self.now.below (F.pre self.now.read) (F.post self.now.read) }
         ensures value { Gives (spec.under (read_term self.now.below) levels.negation_level (term.Not line) tokens.old) result tokens.new }
@@ -167,6 +175,7 @@ impl<F: Fn(Global, &mut Cursor<'_>, u32, u8) -> Result<Tall<Term>, TextFault>> G
 
     /// After the quantifier.
     #[tactic(auto, unfolding(crate::specs::TermReading::quantified))]
+    #[inline(never)]
     fn quantified(
         &self,
         tokens: &mut Cursor<'_>,
@@ -205,13 +214,10 @@ impl<F: Fn(Global, &mut Cursor<'_>, u32, u8) -> Result<Tall<Term>, TextFault>> G
                 part: Term::Name(tokens.name(self.alloc)?),
                 height: 1,
             }),
-            Next::Number(value) => {
-                tokens.skip();
-                Ok(Tall {
-                    part: Term::Number(line, value),
-                    height: 1,
-                })
-            }
+            Next::Number => Ok(Tall {
+                part: Term::Number(line, tokens.number()?),
+                height: 1,
+            }),
             Next::Constant(constant) => {
                 tokens.skip();
                 Ok(Tall {

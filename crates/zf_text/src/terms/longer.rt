@@ -22,6 +22,7 @@ use zf_data::Boxed;
 
 impl<F: Fn(Global, &mut Cursor<'_>, u32, u8) -> Result<Tall<Term>, TextFault>> Grammar<F> {
     #[tactic(auto, unfolding(crate::specs::TermReading::with_right))]
+    #[inline(never)]
     fn connected(
         &self,
         tokens: &mut Cursor<'_>,
@@ -45,6 +46,7 @@ impl<F: Fn(Global, &mut Cursor<'_>, u32, u8) -> Result<Tall<Term>, TextFault>> G
     }
 
     #[tactic(auto, unfolding(crate::specs::TermReading::with_right))]
+    #[inline(never)]
     fn arrow(
         &self,
         tokens: &mut Cursor<'_>,
@@ -68,6 +70,7 @@ impl<F: Fn(Global, &mut Cursor<'_>, u32, u8) -> Result<Tall<Term>, TextFault>> G
     }
 
     #[tactic(auto, unfolding(crate::specs::TermReading::with_right))]
+    #[inline(never)]
     fn infixed(
         &self,
         tokens: &mut Cursor<'_>,
@@ -91,6 +94,7 @@ impl<F: Fn(Global, &mut Cursor<'_>, u32, u8) -> Result<Tall<Term>, TextFault>> G
     }
 
     #[tactic(auto, unfolding(crate::specs::TermReading::with_right))]
+    #[inline(never)]
     fn applied(&self, tokens: &mut Cursor<'_>, left: Tall<Term>) -> Result<Tall<Term>, TextFault>
         requires nests { Nests self.now.below (F.pre self.now.read) (F.post self.now.read) }
         requires left_low { left.height ≤ self.now.below + 1 }
@@ -107,6 +111,7 @@ impl<F: Fn(Global, &mut Cursor<'_>, u32, u8) -> Result<Tall<Term>, TextFault>> G
         })
     }
 
+    #[inline(never)]
     fn inverse(&self, tokens: &mut Cursor<'_>, left: Tall<Term>) -> Result<Tall<Term>, TextFault>
         requires left_low { left.height ≤ 1000 }
         ensures value { Gives (spec.longer_by (read_term self.now.below) left next.Inverse tokens.old) result tokens.new }
@@ -121,6 +126,7 @@ impl<F: Fn(Global, &mut Cursor<'_>, u32, u8) -> Result<Tall<Term>, TextFault>> G
     }
 
     #[tactic(auto, unfolding(crate::specs::TermReading::image))]
+    #[inline(never)]
     fn image(&self, tokens: &mut Cursor<'_>, left: Tall<Term>) -> Result<Tall<Term>, TextFault>
         requires nests { Nests self.now.below (F.pre self.now.read) (F.post self.now.read) }
         requires left_low { left.height ≤ self.now.below + 1 }
@@ -140,6 +146,7 @@ impl<F: Fn(Global, &mut Cursor<'_>, u32, u8) -> Result<Tall<Term>, TextFault>> G
     }
 
     #[tactic(auto, unfolding(crate::specs::TermReading::chained))]
+    #[inline(never)]
     fn chained(&self, tokens: &mut Cursor<'_>, left: Tall<Term>) -> Result<Tall<Term>, TextFault>
         requires nests { Nests self.now.below (F.pre self.now.read) (F.post self.now.read) }
         requires left_low { left.height ≤ self.now.below + 1 }
@@ -156,6 +163,7 @@ impl<F: Fn(Global, &mut Cursor<'_>, u32, u8) -> Result<Tall<Term>, TextFault>> G
     }
 
     #[tactic(auto, unfolding(crate::specs::TermReading::product))]
+    #[inline(never)]
     fn product(&self, tokens: &mut Cursor<'_>, left: Tall<Term>) -> Result<Tall<Term>, TextFault>
         requires nests { Nests self.now.below (F.pre self.now.read) (F.post self.now.read) }
         requires left_low { left.height ≤ self.now.below + 1 }
@@ -171,6 +179,7 @@ impl<F: Fn(Global, &mut Cursor<'_>, u32, u8) -> Result<Tall<Term>, TextFault>> G
     }
 
     /// The term with what the next symbol adds to it.
+    #[inline(never)]
     pub(super) fn longer(
         &self,
         tokens: &mut Cursor<'_>,

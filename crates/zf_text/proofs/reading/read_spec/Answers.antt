@@ -1,8 +1,11 @@
-use Rattle.std.proofs.Common.{subst}
-use Rattle.zf_text.specs.Parsing.{Parses}
+use Rattle.std.proofs.Common.{map}
+use Rattle.zf_text.specs.Placing.{token_at}
 use Rattle.zf_text.proofs.Answers.{reads_spec}
+use Rattle.zf_text.proofs.Reducing.{placeless}
 use Rattle.zf_text.proofs.reading.read_spec.Goals as goal
 
 pub returns : goal.returns
 returns c =
-    reads_spec c.parse.result c.args.source.now c.in_ok-tokens.tokens c.in_ok-tokens.ensures.cut (subst (Parses c.parse.result) c.as_slice.ensures c.parse.ensures)
+    let source = c.args.source.now in
+    let symbols = c.in_ok-symbols.symbols.items in
+    reads_spec c.parsed.result source (map (token_at source) symbols) c.in_ok-symbols.ensures.cut (c.parsed.ensures (map (token_at source) symbols) (placeless source symbols))

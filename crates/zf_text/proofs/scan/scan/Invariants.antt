@@ -1,10 +1,7 @@
-use Rattle.std.proofs.Common.{◌≤◌, ◌-◌, length}
-use Rattle.zf_text.specs.declared.scan.TheConstants.{SOURCE_MAX}
-use Rattle.zf_text.proofs.Scanned.{Before}
+use Rattle.std.proofs.Common.{◌≡◌, ◌++◌, map, drop}
+use Rattle.zf_text.specs.Placing.{token_at}
 use Rattle.zf_text.proofs.scan.scan.Given as goal
 
-abbrev pub invariant-loop-start : goal.invariant-loop-start
-invariant-loop-start l = record { before : Before l.source l.start l.line l.place l.tokens; short : length l.source ≤ SOURCE_MAX; within : l.start ≤ length l.source }
-
-abbrev pub decreases-loop-start : goal.decreases-loop-start
-decreases-loop-start l = length l.source - l.start
+-- the tokens so far, and those of the symbols ahead, are the whole
+abbrev pub invariant-loop-i : goal.invariant-loop-i
+invariant-loop-i l = map (token_at l.source) l.symbols.items ≡ l.tokens ++ map (token_at l.source) (drop l.i l.symbols.items)
