@@ -1,0 +1,129 @@
+-- A term is of one sort at most, and what it declares or builds is one thing.
+use Rattle.std.proofs.Common.{◌≡◌, List, ◌++◌, sym, ap, ◌∙◌, subst}
+use Rattle.std.proofs.lemmas.Option.{same_Some}
+use Rattle.zf_text.specs.declared.token.Prefix.{Prefix}
+use Rattle.zf_text.specs.declared.token.Prefix.TheVariants.{Power, Finset, Domain, Range, Size}
+use Rattle.zf_text.specs.declared.tree.Sign.{Sign}
+use Rattle.zf_text.specs.declared.tree.Sign.TheVariants as sign
+use Rattle.zf_text.specs.Trees.{Tree, named, numeral, constant, empty_set, bracket, tuple, display, builder, prefixed, inverse, image, applied, infixed, arrow, product, chain, negated, connected, quantified, Trees, no_trees, tree, VarDecls, no_decls, var_decl, Perhaps, absent, present}
+use Rattle.zf_type.specs.declared.operator.Operator.TheVariants.{Function, Generic, Connective, Application, Image}
+use Rattle.zf_type.specs.declared.operator.Rule.{Rule}
+use Rattle.zf_type.specs.declared.operator.Rule.TheVariants as rule
+use Rattle.zf_type.specs.declared.operator.Unary.{Unary}
+use Rattle.zf_type.specs.declared.operator.Unary.TheVariants as unary
+use Rattle.zf_type.specs.Rules.{Sort, typed, set_of, rule_of, Takes, PrefixTakes, SignTakes, UnaryTakes}
+use Rattle.zf_type.specs.Scopes.{Scope, Var, within}
+use Rattle.zf_type.specs.Types as t
+use Rattle.zf_type.specs.Types.{Ty, Tys, type}
+use Rattle.zf_type.specs.Typing.{variables, IsOf, AreOf, AreSetsOf, AllAreOf, Declare, Builds}
+
+-- ---- of two operands, and of one, the whole is one
+
+pub one_whole : (r : Rule) (x y z w : Sort) → Takes r x y z → Takes r x y w → z ≡ w
+one_whole rule.Arithmetic x y z w p q = (cc)
+one_whole rule.Interval x y z w p q = (cc)
+one_whole rule.Pairing x y z w p q = (cc)
+one_whole rule.SetFunction x y z w p q = (cc)
+one_whole rule.Overriding x y z w p q = (cc)
+one_whole rule.Composing x y z w p q = (cc)
+one_whole rule.DomainRestricting x y z w p q = (cc)
+one_whole rule.RangeRestricting x y z w p q = (cc)
+one_whole rule.Relating x y z w p q = (cc)
+one_whole rule.Applying x y z w p q = (cc)
+one_whole rule.Imaging x y z w p q = (cc)
+one_whole rule.Equating x y z w p q = (cc)
+one_whole rule.Belonging x y z w p q = (cc)
+one_whole rule.Including x y z w p q = (cc)
+one_whole rule.Comparing x y z w p q = (cc)
+one_whole rule.Connecting x y z w p q = (cc)
+
+one_prefixed : (op : Prefix) (x z w : Sort) → PrefixTakes op x z → PrefixTakes op x w → z ≡ w
+one_prefixed Power x z w p q = (cc)
+one_prefixed Finset x z w p q = (cc)
+one_prefixed Size x z w p q = (cc)
+one_prefixed Domain x z w p q = (cc)
+one_prefixed Range x z w p q = (cc)
+
+one_signed : (op : Sign) (x z w : Sort) → SignTakes op x z → SignTakes op x w → z ≡ w
+one_signed sign.Minus x z w p q = (cc)
+one_signed (sign.Symbol op) x z w p q = one_prefixed op x z w p q
+
+pub one_unary : (op : Unary) (x z w : Sort) → UnaryTakes op x z → UnaryTakes op x w → z ≡ w
+one_unary (unary.Sign op) x z w p q = one_signed op x z w p q
+one_unary unary.Inverse x z w p q = (cc)
+one_unary unary.Not x z w p q = (cc)
+
+-- equal operands make an equal whole
+pub same_whole : (r : Rule) (x y z a b c : Sort) → x ≡ a → y ≡ b → Takes r x y z → Takes r a b c → z ≡ c
+same_whole r x y z a b c left right p q = one_whole r a b z c (subst (λ v. Takes r a v z) right (subst (λ v. Takes r v y z) left p)) q
+
+pub same_unary : (op : Unary) (x z a c : Sort) → x ≡ a → UnaryTakes op x z → UnaryTakes op a c → z ≡ c
+same_unary op x z a c operand p q = one_unary op a z c (subst (λ v. UnaryTakes op v z) operand p) q
+
+pub same_typed : (u v : Ty) → typed u ≡ typed v → u ≡ v
+same_typed u v e = (cc)
+
+pub same_set : (u v : Ty) → set_of u ≡ set_of v → u ≡ v
+same_set u v e = (cc)
+
+-- ---- of a term the sort is one
+
+mutual
+  pub one_sort : (s : Scope) (e : Tree) (x y : Sort) → IsOf s e x → IsOf s e y → x ≡ y
+  one_sort s (named n) x y p q = ap (λ v. v.1) (same_Some (p.0, x) (q.0, y) (sym p.1 ∙ q.1))
+  one_sort s (numeral l v) x y p q = p ∙ sym q
+  one_sort s (constant l c) x y p q = p ∙ sym q
+  one_sort s (empty_set l e) x y p q = p.2 ∙ one_sort s e (set_of p.0) (set_of q.0) p.1 q.1 ∙ sym q.2
+  one_sort s (bracket l e) x y p q = one_sort s e x y p.0 q.0
+  one_sort s (tuple l es) x y p q = p.3 ∙ ap (λ us. typed (t.product us)) (one_row s es p.0 q.0 p.1 q.1) ∙ sym q.3
+  one_sort s (display l es) x y p q = p.3 ∙ ap set_of (one_type s es p.0 q.0 p.1 q.1) ∙ sym q.3
+  one_sort s (builder l ds c e) x y p q =
+      let vs = one_declared s ds p.0 q.0 p.3 q.3 in
+      let built = subst (λ v. Builds (within s v) v e p.1) vs p.5 in
+      p.7 ∙ ap set_of (one_built (within s q.0) q.0 e p.1 q.1 built q.5) ∙ sym q.7
+  one_sort s (prefixed l op e) x y p q = same_unary (unary.Sign op) p.0 x q.0 y (one_sort s e p.0 q.0 p.1 q.1) p.2 q.2
+  one_sort s (inverse l e) x y p q = same_unary unary.Inverse p.0 x q.0 y (one_sort s e p.0 q.0 p.1 q.1) p.2 q.2
+  one_sort s (negated l e) x y p q = same_unary unary.Not p.0 x q.0 y (one_sort s e p.0 q.0 p.1 q.1) p.2 q.2
+  one_sort s (image l a b) x y p q =
+      same_whole (rule_of Image) p.0 p.1 x q.0 q.1 y (one_sort s a p.0 q.0 p.2 q.2) (one_sort s b p.1 q.1 p.3 q.3) p.4 q.4
+  one_sort s (applied l a b) x y p q =
+      same_whole (rule_of Application) p.0 p.1 x q.0 q.1 y (one_sort s a p.0 q.0 p.2 q.2) (one_sort s b p.1 q.1 p.3 q.3) p.4 q.4
+  one_sort s (infixed l op a b) x y p q =
+      same_whole (rule_of (Function op)) p.0 p.1 x q.0 q.1 y (one_sort s a p.0 q.0 p.2 q.2) (one_sort s b p.1 q.1 p.3 q.3) p.4 q.4
+  one_sort s (arrow l op a b) x y p q =
+      same_whole (rule_of (Generic op)) p.0 p.1 x q.0 q.1 y (one_sort s a p.0 q.0 p.2 q.2) (one_sort s b p.1 q.1 p.3 q.3) p.4 q.4
+  one_sort s (connected l op a b) x y p q =
+      same_whole (rule_of (Connective op)) p.0 p.1 x q.0 q.1 y (one_sort s a p.0 q.0 p.2 q.2) (one_sort s b p.1 q.1 p.3 q.3) p.4 q.4
+  one_sort s (product l es) x y p q = p.3 ∙ ap (λ us. set_of (t.product us)) (one_row_of_sets s es p.0 q.0 p.1 q.1) ∙ sym q.3
+  one_sort s (chain l e ks) x y p q = p.3 ∙ sym q.3
+  one_sort s (quantified l op ds c e) x y p q = p.5 ∙ sym q.5
+
+  pub one_row : (s : Scope) (es : Trees) (us vs : Tys) → AreOf s es us → AreOf s es vs → us ≡ vs
+  one_row s no_trees us vs p q = p ∙ sym q
+  one_row s (tree e es) us vs p q =
+      let first = one_sort s e (typed p.0) (typed q.0) p.2 q.2 in
+      let rest = one_row s es p.1 q.1 p.3 q.3 in
+      (cc)
+
+  pub one_row_of_sets : (s : Scope) (es : Trees) (us vs : Tys) → AreSetsOf s es us → AreSetsOf s es vs → us ≡ vs
+  one_row_of_sets s no_trees us vs p q = p ∙ sym q
+  one_row_of_sets s (tree e es) us vs p q =
+      let first = one_sort s e (set_of p.0) (set_of q.0) p.2 q.2 in
+      let rest = one_row_of_sets s es p.1 q.1 p.3 q.3 in
+      (cc)
+
+  pub one_type : (s : Scope) (es : Trees) (u v : Ty) → AllAreOf s es u → AllAreOf s es v → u ≡ v
+  one_type s no_trees u v p q = absurd p
+  one_type s (tree e no_trees) u v p q = same_typed u v (one_sort s e (typed u) (typed v) p q)
+  one_type s (tree e (tree f es)) u v p q = same_typed u v (one_sort s e (typed u) (typed v) p.0 q.0)
+
+  pub one_declared : (s : Scope) (ds : VarDecls) (us vs : List Var) → Declare s ds us → Declare s ds vs → us ≡ vs
+  one_declared s no_decls us vs p q = p ∙ sym q
+  one_declared s (var_decl ns e ds) us vs p q =
+      let set = same_set p.0 q.0 (one_sort s e (set_of p.0) (set_of q.0) p.2 q.2) in
+      let rest = one_declared s ds p.1 q.1 p.3 q.3 in
+      p.4 ∙ ap (λ u. variables ns u ++ p.1) set ∙ ap (λ rest. variables ns q.0 ++ rest) rest ∙ sym q.4
+
+  pub one_built : (s : Scope) (ws : List Var) (e : Perhaps) (u v : Ty) → Builds s ws e u → Builds s ws e v → u ≡ v
+  one_built s ws absent u v p q = p ∙ sym q
+  one_built s ws (present e) u v p q = same_typed u v (one_sort s e (typed u) (typed v) p q)

@@ -1,0 +1,42 @@
+use Rattle.std.proofs.Common.{◌≡◌, ◌+◌, ◌++◌, [], ◌∷◌, map, drop, sym, ap, ◌∙◌, subst, inr, arith, append-nil, true≢false}
+use Rattle.std.proofs.lemmas.List.{drop_all, map-append}
+use Rattle.zf_type.specs.Judging.{IsBound, AreNew, AreRepeated}
+use Rattle.zf_type.specs.Scopes.{spelling, variable_of}
+use Rattle.zf_type.specs.Types.{type_of}
+use Rattle.zf_type.specs.Typing.{variables}
+use Rattle.zf_type.proofs.Bound.{one_new, one_repeated}
+use Rattle.zf_type.proofs.Walk.{dropped, pushed}
+use Rattle.zf_type.proofs.binding.declare_names.Goals as goal
+
+pub loop-name-preserved : goal.loop-name-preserved
+loop-name-preserved c =
+    let i = c.loop-name.name-index in
+    let n = c.name-item.result in
+    let u = type_of c.in-Some.members in
+    let v = c.in_ok-variable.variable in
+    let old = map variable_of c.loop-name.variables.items in
+    let rest = drop (i + 1) c.args.names.now in
+    let ahead = dropped c.args.names.now i n (omega arith) c.name-item.is in
+    let is : variable_of v ≡ record { name = spelling n; type = u } = c.in_ok-variable.ensures ∙ ap (λ t. record { name = spelling n; type = t }) c.loop-name.invariant.kept in
+    let named : v.name ≡ spelling n = ap (λ w. w.name) is in
+    let more : map variable_of c.push.new.self.items ≡ old ++ variable_of v ∷ [] = ap (map variable_of) c.in_ok-push.ensures.items ∙ map-append variable_of c.loop-name.variables.items (v ∷ []) in
+    let free : IsBound (spelling n) old → ⊥ = λ b.
+    true≢false (sym (c.is_bound.ensures.1 (subst (λ x. IsBound x (map variable_of c.as_slice.result.now)) (sym (c.as_slice-in-loop-name.ensures ∙ named)) (subst (λ xs. IsBound (spelling n) (map variable_of xs)) (sym c.as_slice.ensures.value) b))) ∙ c.if-is_bound.false) in
+    record {
+      kept = c.loop-name.invariant.kept;
+      adds =
+          pushed variable_of c.loop-name.variables.items c.push.new.self.items v (variables rest u) c.in_ok-push.ensures.items
+          ∙ ap (λ w. old ++ w ∷ variables rest u) is
+          ∙ ap (λ xs. old ++ variables xs u) (sym ahead)
+          ∙ c.loop-name.invariant.adds;
+      apart = λ ns h. c.loop-name.invariant.apart ns (subst (λ xs. AreNew old (xs ++ ns)) (sym ahead) (one_new old (variable_of v) n (rest ++ ns) named free (subst (λ vs. AreNew vs (rest ++ ns)) more h)));
+      repeated = λ ns k m h. c.loop-name.invariant.repeated ns k m (subst (λ xs. AreRepeated old (xs ++ ns) k m) (sym ahead) (inr (one_repeated old (variable_of v) n (rest ++ ns) k m named (subst (λ vs. AreRepeated vs (rest ++ ns) k m) more h))));
+    }
+
+pub returns-clause-ok : goal.returns-clause-ok
+returns-clause-ok c =
+    let old = map variable_of c.loop-name.variables.items in (
+      type_of c.in-Some.members,
+      c.in-Some.ensures,
+      sym (append-nil old) ∙ ap (λ xs. old ++ variables xs (type_of c.in-Some.members)) (sym (drop_all c.loop-name.name-index c.args.names.now (omega arith))) ∙ c.loop-name.invariant.adds,
+    )

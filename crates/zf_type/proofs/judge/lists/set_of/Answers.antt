@@ -1,0 +1,30 @@
+use Rattle.std.proofs.Common.{◌≡◌, map, refl, sym, ap, ◌∙◌, subst, arith, true≢false}
+use Rattle.zf_type.specs.declared.fault.TypeFaultKind.TheVariants.{Mismatch}
+use Rattle.zf_type.specs.Judging.{DiffersAt}
+use Rattle.zf_type.specs.Refusals.{IfFault}
+use Rattle.zf_type.specs.ResolvedTrees.{resolved_of}
+use Rattle.zf_type.specs.Types.{types, type_of, power}
+use Rattle.zf_type.proofs.Members.{none_first, differs_at, first_among, all_same}
+use Rattle.zf_type.proofs.TypesSeen.{of-Power}
+use Rattle.zf_type.proofs.judge.lists.set_of.Goals as goal
+
+pub returns-in_default : goal.returns-in_default
+returns-in_default c = record {
+  ok = tt;
+  wrong = subst (λ r. IfFault r (λ k m. (k ≡ Mismatch) × DiffersAt c.args.line (map resolved_of c.args.terms.now) (types (map type_of c.args.types.now)) m)) (sym c.refused.ensures) (refl, none_first c.args.types.now c.args.terms.now c.args.line c.in_default.ensures.value c.requires);
+}
+
+pub returns-then-not-same : goal.returns-then-not-same
+returns-then-not-same c =
+    let other : type_of c.in-Some.first.now ≡ type_of c.index-types-place.result → ⊥ = λ e. true≢false (sym (c.same.ensures.1 e) ∙ c.if-not-same.true) in
+    let at = differs_at c.args.types.now c.args.terms.now c.in-Some.first.now c.args.line c.loop-place.place c.index-types-place.result c.index-terms-place.result c.in-Some.ensures.value (omega (arith, c.loop-place.auto.place)) (omega arith) c.requires c.index-types-place.is c.index-terms-place.is other in
+    record {
+      ok = tt;
+      wrong = subst (λ r. IfFault r (λ k m. (k ≡ Mismatch) × DiffersAt c.args.line (map resolved_of c.args.terms.now) (types (map type_of c.args.types.now)) m)) (sym c.refused-then-not-same.ensures) (refl, subst (λ m. DiffersAt c.args.line (map resolved_of c.args.terms.now) (types (map type_of c.args.types.now)) m) (sym c.line.ensures) at);
+    }
+
+pub returns : goal.returns
+returns c = record {
+  ok = (type_of c.in-Some.first.now, all_same c.args.types.now c.in-Some.first.now (first_among c.args.types.now c.in-Some.first.now c.in-Some.ensures.value) (λ i m. c.loop-place.invariant i (omega (arith, m))), of-Power c.in_ok-new.field-0 ∙ ap (λ t. power (type_of t)) (c.in_ok-new.ensures ∙ c.in_ok-copy.ensures));
+  wrong = tt;
+}

@@ -1,0 +1,26 @@
+use Rattle.std.proofs.Common.{◌≡◌, Some, None, refl, sym, ap, ◌∙◌, subst, inl, Err}
+use Rattle.zf_text.specs.Trees.{named}
+use Rattle.zf_type.specs.declared.fault.Refusal.TheVariants.{Fault}
+use Rattle.zf_type.specs.declared.fault.TypeFaultKind.TheVariants.{NotDeclared}
+use Rattle.zf_type.specs.ResolvedTrees.{reference}
+use Rattle.zf_type.specs.Resolving.{referent}
+use Rattle.zf_type.specs.Rules.{sort_of}
+use Rattle.zf_type.specs.Scopes.{scope_of, spelling, meant, meaning}
+use Rattle.zf_type.specs.Judging.{Judges}
+use Rattle.zf_type.proofs.Judging.{judges_err, from_memory}
+use Rattle.zf_type.proofs.ResolvedSeen.{of-Name}
+use Rattle.zf_type.proofs.judge.named.Goals as goal
+
+pub returns-in_err-reference : goal.returns-in_err-reference
+returns-in_err-reference c = from_memory (scope_of c.args.scope.now) c.args.need (named c.args.name.now) c.from_residual.result c.from_residual.ensures.0 c.from_residual.ensures.1
+
+pub returns-in-Some : goal.returns-in-Some
+returns-in-Some c =
+    let found : Some (c.in-Some.reference, sort_of c.in-Some.sort) ≡ meaning (scope_of c.args.scope.now) (spelling c.args.name.now) = sym (ap meant c.in-Some.is) ∙ c.in_ok-reference.ensures in
+    c.placed.ensures (scope_of c.args.scope.now) (named c.args.name.now) (c.in-Some.reference, sym found) (of-Name c.args.name.now.line c.in-Some.reference ∙ ap (λ o. reference c.args.name.now.line (referent o)) found)
+
+pub returns-in-None : goal.returns-in-None
+returns-in-None c =
+    let found : None ≡ meaning (scope_of c.args.scope.now) (spelling c.args.name.now) = sym (ap meant c.in-None.is) ∙ c.in_ok-reference.ensures in
+    subst (λ r. Judges (scope_of c.args.scope.now) c.args.need (named c.args.name.now) (Err r)) (sym c.refused.ensures)
+    (judges_err (scope_of c.args.scope.now) c.args.need (named c.args.name.now) (Fault (record { kind = NotDeclared; line = c.args.name.now.line })) (inl (sym found, refl, refl)))

@@ -1,0 +1,17 @@
+-- What holds of every term.
+use Rattle.std.specs.Prelude.{◌≡◌, ℕ}
+use Rattle.zf_text.specs.Trees.{Tree}
+use Rattle.zf_type.specs.declared.fault.TypeFaultKind.{TypeFaultKind}
+use Rattle.zf_type.specs.declared.operator.Need.{Need}
+use Rattle.zf_type.specs.Rules.{Sort, Meets}
+use Rattle.zf_type.specs.Scopes.{Scope}
+use Rattle.zf_type.specs.Typing.{IsOf}
+use Rattle.zf_type.specs.Offences.{Offends}
+
+-- a term has at most one sort in a scope
+abbrev pub OneSort : Type 0
+OneSort = (s : Scope) (e : Tree) (x y : Sort) → IsOf s e x → IsOf s e y → x ≡ y
+
+-- a term that is well typed for its place has no offence there
+abbrev pub NoOffence : Type 0
+NoOffence = (s : Scope) (n : Need) (e : Tree) (z : Sort) (k : TypeFaultKind) (m : ℕ) → IsOf s e z → Meets n z → Offends s n e k m → ⊥

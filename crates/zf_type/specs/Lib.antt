@@ -1,0 +1,16 @@
+pub mod Types
+pub mod TypeTexts
+pub mod ResolvedTrees
+pub mod Definitions
+pub mod Extents
+pub mod Shapes
+pub mod SetShapes
+pub mod Rules
+pub mod Scopes
+pub mod Typing
+pub mod Resolving
+pub mod Offences
+pub mod Refusals
+pub mod Numbers
+pub mod Laws
+pub mod Judging

@@ -1,0 +1,94 @@
+-- What a name stands for: the innermost bound variable of that name, else the component, else the global.
+use Rattle.std.specs.Prelude.{ℕ, ◌+◌, if◌then◌else◌, List, [], ◌∷◌, ◌++◌, Option, Some, None, map}
+use Rattle.std.specs.Str.{bytes_eq}
+use Rattle.zf_text.specs.declared.tree.Name.{Name}
+use Rattle.zf_type.specs.declared.resolved.Reference.{Reference}
+use Rattle.zf_type.specs.declared.resolved.Reference.TheVariants.{Component, Local, Global}
+use Rattle.zf_type.specs.declared.scope.Scope as program_scope
+use Rattle.zf_type.specs.declared.scope.Variable.{Variable}
+use Rattle.zf_type.specs.Definitions.{comp_of, globals_of, Comp, Defined, Definition, given_set, free_type, constructor, abbreviation, schema}
+use Rattle.zf_type.specs.declared.sort.Sort as program
+use Rattle.zf_type.specs.Rules.{Sort, typed, a_schema, set_of, sort_of}
+use Rattle.zf_type.specs.Types.{Ty, basic, type_of}
+
+-- two names are the same name where their spellings are equal
+abbrev pub spelling : Name → List ℕ
+spelling n = n.base ++ n.strokes
+
+-- a bound variable
+pub record Var : Type 0 where
+  pub name : List ℕ
+  pub type : Ty
+
+-- what is in scope; the variables that are bound last stand last
+pub record Scope : Type 0 where
+  pub globals : List Defined
+  pub comps : List Comp
+  pub locals : List Var
+
+abbrev pub variable_of : Variable → Var
+variable_of v = record { name = v.name; type = type_of v.ztype }
+
+-- the scope with further bound variables
+abbrev pub within : Scope → List Var → Scope
+within s vs = record { globals = s.globals; comps = s.comps; locals = s.locals ++ vs }
+
+abbrev pub later : {A : Type 0} → Option (ℕ × A) → Option (ℕ × A)
+later None = None
+later (Some p) = Some (p.0 + 1, p.1)
+
+abbrev pub or_else : {A : Type 0} → Option A → Option A → Option A
+or_else None other = other
+or_else (Some x) other = Some x
+
+-- the first in the list that has the name, with its place
+abbrev pub first_named : {A : Type 0} → (A → List ℕ) → List ℕ → List A → Option (ℕ × A)
+first_named name x [] = None
+first_named name x (a ∷ rest) = if bytes_eq (name a) x then Some (0, a) else later (first_named name x rest)
+
+-- the last that has it
+abbrev pub last_named : {A : Type 0} → (A → List ℕ) → List ℕ → List A → Option (ℕ × A)
+last_named name x [] = None
+last_named name x (a ∷ rest) = or_else (later (last_named name x rest)) (if bytes_eq (name a) x then Some (0, a) else None)
+
+abbrev pub definition_sort : List ℕ → Definition → Sort
+definition_sort name (given_set n) = set_of (basic name)
+definition_sort name (free_type n names) = set_of (basic name)
+definition_sort name (constructor n of_type place) = typed (basic of_type)
+definition_sort name (abbreviation t r x) = typed t
+definition_sort name (schema f) = a_schema
+
+abbrev pub global_sort : Defined → Sort
+global_sort d = definition_sort d.name d.definition
+
+abbrev pub with_local : Option (ℕ × Var) → Option (Reference × Sort)
+with_local None = None
+with_local (Some p) = Some (Local p.0, typed p.1.type)
+
+abbrev pub with_comp : Option (ℕ × Comp) → Option (Reference × Sort)
+with_comp None = None
+with_comp (Some p) = Some (Component p.0, typed p.1.type)
+
+abbrev pub with_global : Option (ℕ × Defined) → Option (Reference × Sort)
+with_global None = None
+with_global (Some p) = Some (Global p.0, global_sort p.1)
+
+-- what a name refers to, and what it is
+abbrev pub meaning : Scope → List ℕ → Option (Reference × Sort)
+meaning s x =
+    or_else (with_local (last_named (λ v. v.name) x s.locals))
+    (or_else (with_comp (first_named (λ c. c.name) x s.comps)) (with_global (first_named (λ d. d.name) x s.globals)))
+
+-- ---- the program's answers as these
+
+unfoldable pub scope_of : program_scope.Scope → Scope
+scope_of s = record { globals = globals_of s.globals.now; comps = map comp_of s.components.now; locals = map variable_of s.locals.items }
+
+-- what is found, with its place
+abbrev pub found_as : {A B : Type 0} → (A → B) → Option (ℕ × A) → Option (ℕ × B)
+found_as f None = None
+found_as f (Some p) = Some (p.0, f p.1)
+
+abbrev pub meant : Option (Reference × program.Sort) → Option (Reference × Sort)
+meant None = None
+meant (Some p) = Some (p.0, sort_of p.1)

@@ -1,0 +1,102 @@
+-- The typing rules: a relation between what is in scope, a term, and a type, or that it is a predicate or a schema's name.
+use Rattle.std.specs.Prelude.{◌≡◌, List, [], ◌∷◌, ◌++◌, Some}
+use Rattle.zf_text.specs.declared.tree.Name.{Name}
+use Rattle.zf_text.specs.Trees.{Tree, named, numeral, constant, empty_set, bracket, tuple, display, builder, prefixed, inverse, image, applied, infixed, arrow, product, chain, negated, connected, quantified, Trees, no_trees, tree, Links, no_links, link, VarDecls, no_decls, var_decl, Perhaps, absent, present}
+use Rattle.zf_type.specs.declared.operator.Operator.TheVariants.{Function, Generic, Connective, Application, Image}
+use Rattle.zf_type.specs.declared.operator.Unary.TheVariants.{Sign, Inverse, Not}
+use Rattle.zf_type.specs.declared.resolved.Reference.{Reference}
+use Rattle.zf_type.specs.Rules.{Sort, typed, predicate, a_schema, number, set_of, IsSmall, IsSmallSort, rule_of, relation_rule, Takes, UnaryTakes, constant_sort}
+use Rattle.zf_type.specs.Scopes.{Scope, Var, spelling, within, meaning}
+use Rattle.zf_type.specs.Types as t
+use Rattle.zf_type.specs.Types.{Ty, power, Tys, no_types, type}
+
+-- the variables of names that are declared to be in a set
+abbrev pub variables : List Name → Ty → List Var
+variables [] u = []
+variables (n ∷ ns) u = record { name = spelling n; type = u } ∷ variables ns u
+
+-- the names that are declared
+abbrev pub declared : VarDecls → List Name
+declared no_decls = []
+declared (var_decl ns t ds) = ns ++ declared ds
+
+-- the name is spelled as none of these
+abbrev pub IsApart : Name → List Name → Type 0
+IsApart n [] = Unit {0}
+IsApart n (m ∷ ms) = (spelling n ≡ spelling m → ⊥) × IsApart n ms
+
+-- no two are spelled alike
+abbrev pub AreApart : List Name → Type 0
+AreApart [] = Unit {0}
+AreApart (n ∷ ns) = IsApart n ns × AreApart ns
+
+abbrev pub types_of : List Var → Tys
+types_of [] = no_types
+types_of (v ∷ vs) = type v.type (types_of vs)
+
+-- what a builder without a term builds: the one variable, or the tuple of all
+abbrev pub row_type : List Var → Ty
+row_type (v ∷ []) = v.type
+row_type vs = t.product (types_of vs)
+
+abbrev mutual
+  pub IsOf : Scope → Tree → Sort → Type 0
+  IsOf s (named n) z = (r : Reference) × (meaning s (spelling n) ≡ Some (r, z))
+  IsOf s (numeral l v) z = z ≡ number
+  IsOf s (constant l c) z = z ≡ constant_sort c
+  IsOf s (empty_set l e) z = (u : Ty) × IsOf s e (set_of u) × (z ≡ set_of u)
+  IsOf s (bracket l e) z = IsOf s e z × (z ≡ a_schema → ⊥)
+  IsOf s (tuple l es) z = (us : Tys) × AreOf s es us × IsSmall (t.product us) × (z ≡ typed (t.product us))
+  IsOf s (display l es) z = (u : Ty) × AllAreOf s es u × IsSmall (power u) × (z ≡ set_of u)
+  IsOf s (builder l ds p e) z = (vs : List Var) × (u : Ty) × AreApart (declared ds) × Declare s ds vs × Constrains (within s vs) p × Builds (within s vs) vs e u × IsSmall (power u) × (z ≡ set_of u)
+  IsOf s (prefixed l op e) z = (x : Sort) × IsOf s e x × UnaryTakes (Sign op) x z × IsSmallSort z
+  IsOf s (inverse l e) z = (x : Sort) × IsOf s e x × UnaryTakes Inverse x z × IsSmallSort z
+  IsOf s (negated l e) z = (x : Sort) × IsOf s e x × UnaryTakes Not x z × IsSmallSort z
+  IsOf s (image l a b) z = (x y : Sort) × IsOf s a x × IsOf s b y × Takes (rule_of Image) x y z × IsSmallSort z
+  IsOf s (applied l a b) z = (x y : Sort) × IsOf s a x × IsOf s b y × Takes (rule_of Application) x y z × IsSmallSort z
+  IsOf s (infixed l op a b) z = (x y : Sort) × IsOf s a x × IsOf s b y × Takes (rule_of (Function op)) x y z × IsSmallSort z
+  IsOf s (arrow l op a b) z = (x y : Sort) × IsOf s a x × IsOf s b y × Takes (rule_of (Generic op)) x y z × IsSmallSort z
+  IsOf s (connected l op a b) z = (x y : Sort) × IsOf s a x × IsOf s b y × Takes (rule_of (Connective op)) x y z × IsSmallSort z
+  IsOf s (product l es) z = (us : Tys) × AreSetsOf s es us × IsSmall (power (t.product us)) × (z ≡ set_of (t.product us))
+  IsOf s (chain l e ks) z = (u : Ty) × IsOf s e (typed u) × AreLinked s (typed u) ks × (z ≡ predicate)
+  IsOf s (quantified l q ds p e) z = (vs : List Var) × AreApart (declared ds) × Declare s ds vs × Constrains (within s vs) p × IsOf (within s vs) e predicate × (z ≡ predicate)
+
+  -- the terms are expressions of these types
+  pub AreOf : Scope → Trees → Tys → Type 0
+  AreOf s no_trees us = us ≡ no_types
+  AreOf s (tree e es) us = (v : Ty) × (vs : Tys) × IsOf s e (typed v) × AreOf s es vs × (us ≡ type v vs)
+
+  -- sets of these types
+  pub AreSetsOf : Scope → Trees → Tys → Type 0
+  AreSetsOf s no_trees us = us ≡ no_types
+  AreSetsOf s (tree e es) us = (v : Ty) × (vs : Tys) × IsOf s e (set_of v) × AreSetsOf s es vs × (us ≡ type v vs)
+
+  -- one or more expressions, all of this type
+  pub AllAreOf : Scope → Trees → Ty → Type 0
+  AllAreOf s no_trees u = ⊥
+  AllAreOf s (tree e no_trees) u = IsOf s e (typed u)
+  AllAreOf s (tree e (tree f es)) u = IsOf s e (typed u) × AllAreOf s (tree f es) u
+
+  -- what is left of a chain, behind an operand of this sort
+  pub AreLinked : Scope → Sort → Links → Type 0
+  AreLinked s x no_links = Unit {0}
+  AreLinked s x (link r e ks) = (y : Sort) × IsOf s e y × Takes (relation_rule r) x y predicate × AreLinked s y ks
+
+  -- the declarations declare these variables; their sets know nothing of them
+  pub Declare : Scope → VarDecls → List Var → Type 0
+  Declare s no_decls vs = vs ≡ []
+  Declare s (var_decl ns e ds) vs = (u : Ty) × (us : List Var) × IsOf s e (set_of u) × Declare s ds us × (vs ≡ variables ns u ++ us)
+
+  -- what may be left out is a predicate
+  pub Constrains : Scope → Perhaps → Type 0
+  Constrains s absent = Unit {0}
+  Constrains s (present e) = IsOf s e predicate
+
+  -- the type of what a builder builds out of these variables
+  pub Builds : Scope → List Var → Perhaps → Ty → Type 0
+  Builds s vs absent u = u ≡ row_type vs
+  Builds s vs (present e) u = IsOf s e (typed u)
+
+-- the declarations bind these variables, each once
+abbrev pub Binds : Scope → VarDecls → List Var → Type 0
+Binds s ds vs = AreApart (declared ds) × Declare s ds vs

@@ -1,0 +1,107 @@
+//! Bound variables: how declarations bring them into scope, and how they leave it.
+ghost use Rattle.std.specs.Prelude.{◌≡◌, ℕ, IfOk, IfErr, OnOk, OnErr, List, ◌++◌, length, map};
+ghost use Rattle.zf_text.specs.declared.tree.Name as program;
+ghost use Rattle.zf_type.specs.Judging.{AreNew, AreRepeated, var_type};
+ghost use Rattle.zf_type.specs.Refusals.{IfFault};
+ghost use Rattle.zf_type.specs.Rules.{Meets, set_of, sort_of};
+ghost use Rattle.zf_type.specs.Scopes as spec;
+ghost use Rattle.zf_type.specs.Scopes.{Var, scope_of, spelling, variable_of, within};
+ghost use Rattle.zf_type.specs.Types.{Ty, type_of};
+ghost use Rattle.zf_type.specs.Typing as typing;
+ghost use Rattle.zf_type.specs.declared.fault.TypeFaultKind as faults;
+ghost use Rattle.zf_type.specs.declared.operator.Need.TheVariants as needs;
+
+use crate::fault::{Refusal, TypeFaultKind, refused};
+use crate::scope::{Scope, Variable, is_bound};
+use crate::sort::Sort;
+use crate::ztype::ZType;
+use std::alloc::{AllocError, Global};
+use zf_data::{Items, Text};
+use zf_text::tree::Name;
+
+/// Adds variables of these names, which are members of a set of this sort.
+pub(crate) fn declare_names(
+    alloc: Global,
+    names: &[Name],
+    set: Sort,
+    variables: &mut Vec<Variable>,
+) -> Result<(), Refusal>
+    requires { Meets needs.Set (sort_of set) }
+    ensures ok { OnOk result ((u : Ty) × (sort_of set ≡ set_of u) × (map variable_of variables.new.items ≡ map variable_of variables.old.items ++ typing.variables names.now u)) }
+    ensures apart { OnOk result ((ns : List program.Name) → AreNew (map variable_of variables.new.items) ns → AreNew (map variable_of variables.old.items) (names.now ++ ns)) }
+    ensures later { OnOk result ((ns : List program.Name) (kind : faults.TypeFaultKind) (line : ℕ) → AreRepeated (map variable_of variables.new.items) ns kind line → AreRepeated (map variable_of variables.old.items) (names.now ++ ns) kind line) }
+    ensures repeated { IfErr result (λ e. IfFault e (λ kind line. (ns : List program.Name) → AreRepeated (map variable_of variables.old.items) (names.now ++ ns) kind line)) }
+{
+    let Some(members) = set.into_member() else {
+        unreachable!();
+    };
+    for name in names {
+        let variable = variable(alloc, name, &members)?;
+        if is_bound(variables.as_slice(), variable.name.as_slice()) {
+            return Err(refused(TypeFaultKind::LocalTwice, name.line));
+        }
+        variables.push(variable)?;
+    }
+    Ok(())
+}
+
+/// A variable of the name.
+fn variable(alloc: Global, name: &Name, ztype: &ZType) -> Result<Variable, AllocError>
+    ensures { IfOk result (λ v. variable_of v ≡ record { name = spelling name.now; type = type_of ztype.now }) }
+{
+    let mut bytes = Vec::from_slice(alloc, name.base.as_slice())?;
+    bytes.extend_from_slice(name.strokes.as_slice())?;
+    let name = Text::of(alloc, bytes.as_slice())?;
+    let ztype = ztype.copy(alloc)?;
+    Ok(Variable { name, ztype })
+}
+
+/// How many variables are bound.
+pub(crate) fn depth(scope: &Scope<'_>) -> usize
+    ensures { result ≡ length (scope_of scope.now).locals }
+{
+    scope.locals.as_slice().len()
+}
+
+/// Brings variables into scope, within those that are bound.
+pub(crate) fn bind(scope: &mut Scope<'_>, variables: Vec<Variable>) -> Result<(), AllocError>
+    ensures ok { OnOk result (scope_of scope.new ≡ within (scope_of scope.old) (map variable_of variables.items)) }
+    ensures err { OnErr result (scope_of scope.new ≡ scope_of scope.old) }
+{
+    let mut variables = variables;
+    scope.locals.append(&mut variables)?;
+    Ok(())
+}
+
+/// Leaves in scope the variables that are bound outside.
+pub(crate) fn unbind(scope: &mut Scope<'_>, outside: usize)
+    ensures { (s : spec.Scope) (vs : List Var) → scope_of scope.old ≡ within s vs → outside ≡ length s.locals → scope_of scope.new ≡ s }
+{
+    scope.locals.truncate(outside);
+}
+
+/// The type of what the variables within make together: that of the one, else that of their tuples.
+pub(crate) fn row(alloc: Global, scope: &Scope<'_>, outside: usize) -> Result<ZType, AllocError>
+    ensures { IfOk result (λ t. (s : spec.Scope) (vs : List Var) → scope_of scope.now ≡ within s vs → outside ≡ length s.locals → type_of t ≡ typing.row_type vs) }
+{
+    let locals = scope.locals.as_slice();
+    let mut types = Items::new(alloc);
+    for place in outside..locals.len() {
+        types.push(locals[place].ztype.copy(alloc)?)?;
+    }
+    Ok(row_of(types))
+}
+
+#[tactic(auto, using(crate::proofs::TypesSeen::seen))]
+fn row_of(types: Items<ZType>) -> ZType
+    ensures { (vs : List Var) → map type_of types ≡ map var_type vs → type_of result ≡ typing.row_type vs }
+{
+    let mut types = types;
+    if types.len() != 1 {
+        return ZType::Product(types);
+    }
+    match types.pop() {
+        Some(ztype) => ztype,
+        None => unreachable!(),
+    }
+}

@@ -1,0 +1,75 @@
+//! Faults of types.
+ghost use Rattle.std.specs.Prelude.{◌≡◌};
+
+use std::alloc::{AllocError, AllocFailed};
+use thiserror::Error;
+
+/// Why a paragraph or box is not well typed.
+#[derive(Clone, Copy, Debug, PartialEq, Eq, Error)]
+pub enum TypeFaultKind {
+    #[error("name not declared")]
+    NotDeclared,
+    #[error("name already defined")]
+    AlreadyDefined,
+    #[error("types differ")]
+    Mismatch,
+    #[error("a set is needed")]
+    NotASet,
+    #[error("a number is needed")]
+    NotANumber,
+    #[error("a relation is needed")]
+    NotARelation,
+    #[error("a predicate is needed")]
+    NotAPredicate,
+    #[error("an expression is needed")]
+    NotAnExpression,
+    #[error("component has two types")]
+    ComponentClash,
+    #[error("a schema is needed")]
+    NotASchema,
+    #[error("variable declared twice")]
+    LocalTwice,
+    #[error("too large")]
+    TooLarge,
+}
+
+/// A fault, with the line of the first token of the offending term or name.
+#[derive(Clone, Copy, Debug, PartialEq, Eq)]
+pub struct TypeFault {
+    pub kind: TypeFaultKind,
+    pub line: u32,
+}
+
+/// Why there is no answer: a fault, or memory ran out.
+#[derive(Debug, Drop)]
+pub enum Refusal {
+    Fault(TypeFault),
+    OutOfMemory,
+}
+
+/// The refusal by a fault of this kind at this line.
+pub fn refused(kind: TypeFaultKind, line: u32) -> Refusal
+    ensures { result ≡ Refusal.Fault (record { kind = kind; line = line }) }
+{
+    Refusal::Fault(TypeFault { kind, line })
+}
+
+impl From<AllocError> for Refusal {
+    ghost use Rattle.zf_type.specs.declared.fault.Refusal.TheVariants.{OutOfMemory};
+
+    ghost from_gives = { λ _ refusal. refusal ≡ OutOfMemory };
+
+    fn from(_error: AllocError) -> Refusal {
+        Refusal::OutOfMemory
+    }
+}
+
+impl<T: Drop> From<AllocFailed<T>> for Refusal {
+    ghost use Rattle.zf_type.specs.declared.fault.Refusal.TheVariants.{OutOfMemory};
+
+    ghost from_gives = { λ _ refusal. refusal ≡ OutOfMemory };
+
+    fn from(_error: AllocFailed<T>) -> Refusal {
+        Refusal::OutOfMemory
+    }
+}

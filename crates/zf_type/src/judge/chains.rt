@@ -1,0 +1,129 @@
+//! Chains of relations.
+ghost use Rattle.std.specs.Prelude.{◌≡◌, IfOk, IfErr, OnOk, map};
+ghost use Rattle.zf_text.specs.Spelling as text;
+ghost use Rattle.zf_text.specs.Trees as tree;
+ghost use Rattle.zf_text.specs.Trees.{Tree, link_of};
+ghost use Rattle.zf_type.specs.Judging.{IsJudged, Judges};
+ghost use Rattle.zf_type.specs.Offences.{LinksOffend};
+ghost use Rattle.zf_type.specs.Refusals.{IfFault};
+ghost use Rattle.zf_type.specs.ResolvedTrees as trees_of;
+ghost use Rattle.zf_type.specs.ResolvedTrees.{resolved_link_of, resolved_of};
+ghost use Rattle.zf_type.specs.Resolving.{resolved, resolved_links};
+ghost use Rattle.zf_type.specs.Rules as rules;
+ghost use Rattle.zf_type.specs.Rules.{Meets, Takes, sort_of, typed};
+ghost use Rattle.zf_type.specs.Scopes as spec;
+ghost use Rattle.zf_type.specs.Scopes.{scope_of};
+ghost use Rattle.zf_type.specs.Types.{Ty};
+ghost use Rattle.zf_type.specs.Typing.{AreLinked, IsOf};
+ghost use Rattle.zf_type.specs.declared.operator.Need.TheVariants as needs;
+
+use super::{Judged, Place, judge_term, placed};
+use crate::fault::{Refusal, TypeFaultKind, refused};
+use crate::operator::{Need, Rule, relation_rule};
+use crate::resolved::{Resolved, ResolvedLink};
+use crate::rules::combine;
+use crate::scope::Scope;
+use crate::sort::Sort;
+use std::alloc::{AllocError, Global};
+use zf_data::{Boxed, Items};
+use zf_text::tree::Link;
+
+/// The operand to the left of a link: what it is, and its line.
+#[derive(Drop)]
+struct Operand {
+    sort: Sort,
+    line: u32,
+}
+
+/// A chain of relations, of which the first operand is judged.
+#[cycle(judging)]
+pub(super) fn chain(
+    links: &[Link],
+    alloc: Global,
+    place: Place,
+    first: Judged,
+    scope: &mut Scope<'_>,
+) -> Result<Judged, Refusal>
+    ensures judged { (a : Tree) → IsJudged (scope_of scope.old) needs.Expression a first → Judges (scope_of scope.old) place.need (tree.chain place.line a (tree.links (map link_of links.now))) result }
+    ensures scope { scope_of scope.new ≡ scope_of scope.old }
+{
+    let line = first.term.line();
+    let Judged { term, sort } = first;
+    let links = judge_links(links, alloc, Operand { sort, line }, scope)?;
+    with_links(alloc, place, term, links)
+}
+
+#[cycle(judging)]
+fn judge_links(
+    links: &[Link],
+    alloc: Global,
+    first: Operand,
+    scope: &mut Scope<'_>,
+) -> Result<Items<ResolvedLink>, Refusal>
+    ensures ok { IfOk result (λ ks. AreLinked (scope_of scope.old) (sort_of first.sort) (tree.links (map link_of links.now)) × (trees_of.links (map resolved_link_of ks) ≡ resolved_links (scope_of scope.old) (tree.links (map link_of links.now)))) }
+    ensures wrong { (a : Tree) → IsOf (scope_of scope.old) a (sort_of first.sort) → first.line ≡ text.line_of a → IfErr result (λ e. IfFault e (λ kind line. LinksOffend (scope_of scope.old) a (tree.links (map link_of links.now)) kind line)) }
+    ensures scope { scope_of scope.new ≡ scope_of scope.old }
+{
+    let mut judged = Items::new(alloc);
+    let mut left = first;
+    for link in links {
+        let rule = relation_rule(link.relation);
+        check_left(&left, rule.left_need())?;
+        let right = judge_term(&link.right, alloc, rule.right_need(), scope)?;
+        let line = right.term.line();
+        let sort = copy_of(alloc, &right.sort)?;
+        relate(alloc, rule, left.sort, right.sort, line)?;
+        judged.push(ResolvedLink {
+            relation: link.relation,
+            right: right.term,
+        })?;
+        left = Operand { sort, line };
+    }
+    Ok(judged)
+}
+
+/// A place of this need takes the operand.
+fn check_left(left: &Operand, need: Need) -> Result<(), Refusal>
+    ensures ok { OnOk result (Meets need (sort_of left.now.sort)) }
+    ensures wrong { IfErr result (λ e. IfFault e (λ kind line. (Meets need (sort_of left.now.sort) → ⊥) × (kind ≡ rules.lack_of need (sort_of left.now.sort)) × (line ≡ left.now.line))) }
+{
+    if left.sort.meets(need) {
+        return Ok(());
+    }
+    Err(refused(left.sort.lack(need), left.line))
+}
+
+/// The rule takes both operands; the line is that of the right one.
+#[tactic(auto, unfolding(crate::specs::Rules::IsMade))]
+fn relate(alloc: Global, rule: Rule, left: Sort, right: Sort, line: u32) -> Result<(), Refusal>
+    ensures ok { OnOk result ((z : rules.Sort) × Takes rule (sort_of left) (sort_of right) z) }
+    ensures wrong { IfErr result (λ e. IfFault e (λ kind m. ((z : rules.Sort) → Takes rule (sort_of left) (sort_of right) z → ⊥) × (kind ≡ TypeFaultKind.Mismatch) × (m ≡ line))) }
+{
+    match combine(alloc, rule, left, right)? {
+        Some(_) => Ok(()),
+        None => Err(refused(TypeFaultKind::Mismatch, line)),
+    }
+}
+
+fn copy_of(alloc: Global, sort: &Sort) -> Result<Sort, AllocError>
+    ensures { IfOk result (λ copy. sort_of copy ≡ sort_of sort.now) }
+{
+    match sort {
+        Sort::Typed(ztype) => Ok(Sort::Typed(ztype.copy(alloc)?)),
+        Sort::Predicate => Ok(Sort::Predicate),
+        Sort::Schema => Ok(Sort::Schema),
+    }
+}
+
+fn with_links(
+    alloc: Global,
+    place: Place,
+    first: Resolved,
+    links: Items<ResolvedLink>,
+) -> Result<Judged, Refusal>
+    ensures { (s : spec.Scope) (a : Tree) (u : Ty) (ks : tree.Links) → IsOf s a (typed u) → resolved_of first ≡ resolved s a → AreLinked s (typed u) ks → trees_of.links (map resolved_link_of links) ≡ resolved_links s ks → Judges s place.need (tree.chain place.line a ks) result }
+{
+    let term = Resolved::Chain(place.line, Boxed::new(alloc, first)?, links);
+    let sort = Sort::Predicate;
+    placed(Judged { term, sort }, place.need)
+}

@@ -1,0 +1,165 @@
+//! What several terms make: tuples, displays and products.
+ghost use Rattle.std.specs.Prelude.{◌≡◌, IfOk, IfErr, length, map};
+ghost use Rattle.zf_text.specs.Trees.{Trees, tree_of, trees};
+ghost use Rattle.zf_type.specs.Judging as judging;
+ghost use Rattle.zf_type.specs.Judging.{AreJudged, DiffersAt, Judges, Makes, listed_tree, member_sort};
+ghost use Rattle.zf_type.specs.Offences.{OneOffends};
+ghost use Rattle.zf_type.specs.Refusals.{IfFault};
+ghost use Rattle.zf_type.specs.ResolvedTrees.{resolved_of};
+ghost use Rattle.zf_type.specs.Rules.{Meets, sort_of};
+ghost use Rattle.zf_type.specs.Scopes as spec;
+ghost use Rattle.zf_type.specs.Scopes.{scope_of};
+ghost use Rattle.zf_type.specs.Types as tys;
+ghost use Rattle.zf_type.specs.Types.{Ty, power, type_of};
+
+use super::{Judged, Place, judge_term, placed};
+use crate::fault::{Refusal, TypeFaultKind, refused};
+use crate::operator::{Listed, Need};
+use crate::resolved::Resolved;
+use crate::scope::Scope;
+use crate::sort::Sort;
+use crate::ztype::ZType;
+use std::alloc::{AllocError, Global};
+use zf_data::{Boxed, Items};
+use zf_text::tree::Term;
+
+/// The members of a list of terms, and the type of each; of a set the type of its members.
+#[derive(Drop)]
+struct Members {
+    terms: Items<Resolved>,
+    types: Items<ZType>,
+}
+
+/// What several terms make.
+#[cycle(judging)]
+pub(super) fn listed(
+    terms: &[Term],
+    alloc: Global,
+    place: Place,
+    form: Listed,
+    scope: &mut Scope<'_>,
+) -> Result<Judged, Refusal>
+    ensures judged { Judges (scope_of scope.old) place.need (listed_tree form place.line (trees (map tree_of terms.now))) result }
+    ensures scope { scope_of scope.new ≡ scope_of scope.old }
+{
+    let members = judge_all(terms, alloc, form, scope)?;
+    with_members(alloc, place, form, members)
+}
+
+#[cycle(judging)]
+fn judge_all(
+    terms: &[Term],
+    alloc: Global,
+    form: Listed,
+    scope: &mut Scope<'_>,
+) -> Result<Members, Refusal>
+    ensures ok { IfOk result (λ ms. AreJudged form (scope_of scope.old) (trees (map tree_of terms.now)) ms) }
+    ensures wrong { IfErr result (λ e. IfFault e (λ kind line. OneOffends (scope_of scope.old) (judging.member_need form) (trees (map tree_of terms.now)) kind line)) }
+    ensures scope { scope_of scope.new ≡ scope_of scope.old }
+{
+    let mut members = Members {
+        terms: Items::new(alloc),
+        types: Items::new(alloc),
+    };
+    for term in terms {
+        let member = judge_term(term, alloc, member_need(form), scope)?;
+        members.terms.push(member.term)?;
+        members.types.push(member_type(alloc, form, member.sort)?)?;
+    }
+    Ok(members)
+}
+
+fn member_need(form: Listed) -> Need
+    ensures { result ≡ judging.member_need form }
+{
+    match form {
+        Listed::Tuple | Listed::Display => Need::Expression,
+        Listed::Product => Need::Set,
+    }
+}
+
+/// The type that is kept of a member.
+fn member_type(alloc: Global, form: Listed, sort: Sort) -> Result<ZType, AllocError>
+    requires { Meets (judging.member_need form) (sort_of sort) }
+    ensures { IfOk result (λ t. sort_of sort ≡ member_sort form (type_of t)) }
+{
+    let Sort::Typed(ztype) = sort else {
+        unreachable!();
+    };
+    match form {
+        Listed::Tuple | Listed::Display => Ok(ztype),
+        Listed::Product => element(alloc, &ztype),
+    }
+}
+
+/// The type of a set's members.
+#[tactic(auto, using(crate::proofs::TypesSeen::seen))]
+fn element(alloc: Global, ztype: &ZType) -> Result<ZType, AllocError>
+    requires { (u : Ty) × (type_of ztype.now ≡ power u) }
+    ensures { IfOk result (λ t. type_of ztype.now ≡ power (type_of t)) }
+{
+    match ztype {
+        ZType::Power(members) => members.get().copy(alloc),
+        ZType::Int => unreachable!(),
+        ZType::Basic(_) => unreachable!(),
+        ZType::Product(_) => unreachable!(),
+    }
+}
+
+/// The rule of what makes one term out of several.
+fn with_members(
+    alloc: Global,
+    place: Place,
+    form: Listed,
+    members: Members,
+) -> Result<Judged, Refusal>
+    requires { length members.terms ≡ length members.types }
+    ensures { (s : spec.Scope) (es : Trees) → AreJudged form s es members → Judges s place.need (listed_tree form place.line es) result }
+{
+    let Members { terms, types } = members;
+    let ztype = made_of(alloc, form, place.line, terms.as_slice(), types)?;
+    if !ztype.is_small() {
+        return Err(refused(TypeFaultKind::TooLarge, place.line));
+    }
+    let term = Resolved::Listed(place.line, form, terms);
+    let sort = Sort::Typed(ztype);
+    placed(Judged { term, sort }, place.need)
+}
+
+/// The type of what members of these types make.
+#[tactic(auto, using(crate::proofs::TypesSeen::seen))]
+fn made_of(
+    alloc: Global,
+    form: Listed,
+    line: u32,
+    terms: &[Resolved],
+    types: Items<ZType>,
+) -> Result<ZType, Refusal>
+    requires { length terms.now ≡ length types }
+    ensures ok { IfOk result (λ t. Makes form (tys.types (map type_of types)) (type_of t)) }
+    ensures wrong { IfErr result (λ e. IfFault e (λ kind m. (form ≡ Listed.Display) × (kind ≡ TypeFaultKind.Mismatch) × DiffersAt line (map resolved_of terms.now) (tys.types (map type_of types)) m)) }
+{
+    match form {
+        Listed::Tuple => Ok(ZType::Product(types)),
+        Listed::Product => Ok(ZType::Power(Boxed::new(alloc, ZType::Product(types))?)),
+        Listed::Display => set_of(alloc, line, terms, types.as_slice()),
+    }
+}
+
+/// The type of a set of these members.
+#[tactic(auto, using(crate::proofs::TypesSeen::seen))]
+fn set_of(alloc: Global, line: u32, terms: &[Resolved], types: &[ZType]) -> Result<ZType, Refusal>
+    requires { length terms.now ≡ length types.now }
+    ensures ok { IfOk result (λ t. Makes Listed.Display (tys.types (map type_of types.now)) (type_of t)) }
+    ensures wrong { IfErr result (λ e. IfFault e (λ kind m. (kind ≡ TypeFaultKind.Mismatch) × DiffersAt line (map resolved_of terms.now) (tys.types (map type_of types.now)) m)) }
+{
+    let Some(first) = types.first() else {
+        return Err(refused(TypeFaultKind::Mismatch, line));
+    };
+    for place in 1..types.len() {
+        if !first.same(&types[place]) {
+            return Err(refused(TypeFaultKind::Mismatch, terms[place].line()));
+        }
+    }
+    Ok(ZType::Power(Boxed::new(alloc, first.copy(alloc)?)?))
+}

@@ -1,0 +1,152 @@
+//! What names stand for.
+ghost use Rattle.std.specs.Prelude.{◌≡◌, ◌↔◌, IsTrue, IfOk, map};
+ghost use Rattle.std.specs.Str.{bytes_eq};
+ghost use Rattle.zf_type.specs.Definitions.{comp_of, entry_of, definition_of, globals_of};
+ghost use Rattle.zf_type.specs.Judging.{IsBound};
+ghost use Rattle.zf_type.specs.Rules.{sort_of};
+ghost use Rattle.zf_type.specs.Scopes as spec;
+ghost use Rattle.zf_type.specs.Scopes.{scope_of, variable_of, spelling, first_named, last_named, meant, found_as};
+
+use crate::globals::{Component, Entry, Globals};
+use crate::resolved::Reference;
+use crate::sort::Sort;
+use crate::ztype::ZType;
+use std::alloc::{AllocError, Global};
+use zf_data::{Boxed, Text};
+use zf_text::tree::Name;
+
+/// A bound variable.
+#[derive(Debug, Drop)]
+pub struct Variable {
+    /// The name as spelled, with its strokes.
+    pub name: Text,
+    pub ztype: ZType,
+}
+
+/// What is in scope; the variables that are bound last stand last.
+#[derive(Drop)]
+pub struct Scope<'a> {
+    pub globals: &'a Globals,
+    pub components: &'a [Component],
+    pub locals: Vec<Variable>,
+}
+
+impl Scope<'_> {
+    /// What a name refers to, and what it is.
+    pub fn meaning(
+        &self,
+        alloc: Global,
+        name: &Name,
+    ) -> Result<Option<(Reference, Sort)>, AllocError>
+        ensures { IfOk result (λ found. meant found ≡ spec.meaning (scope_of self.now) (spelling name.now)) }
+    {
+        if name.is_bare() {
+            return self.meaning_of(alloc, name.base.as_slice());
+        }
+        let name = spelled(alloc, name)?;
+        self.meaning_of(alloc, name.as_slice())
+    }
+
+    fn meaning_of(
+        &self,
+        alloc: Global,
+        name: &[u8],
+    ) -> Result<Option<(Reference, Sort)>, AllocError>
+        ensures { IfOk result (λ found. meant found ≡ spec.meaning (scope_of self.now) name.now) }
+    {
+        if let Some((place, variable)) = local_of(self.locals.as_slice(), name) {
+            let sort = Sort::Typed(variable.ztype.copy(alloc)?);
+            return Ok(Some((Reference::Local(place), sort)));
+        }
+        if let Some((place, component)) = component_of(self.components, name) {
+            let sort = Sort::Typed(component.ztype.copy(alloc)?);
+            return Ok(Some((Reference::Component(place), sort)));
+        }
+        match global_of(self.globals, name) {
+            Some((place, entry)) => {
+                let sort = entry_sort(alloc, name, entry)?;
+                Ok(Some((Reference::Global(place), sort)))
+            }
+            None => Ok(None),
+        }
+    }
+}
+
+/// The name as spelled, with its strokes.
+pub fn spelled(alloc: Global, name: &Name) -> Result<Text, AllocError>
+    ensures { IfOk result (λ t. t ≡ spelling name.now) }
+{
+    let mut bytes = Vec::from_slice(alloc, name.base.as_slice())?;
+    bytes.extend_from_slice(name.strokes.as_slice())?;
+    Ok(Text { bytes })
+}
+
+/// The last variable of the name, with its place.
+fn local_of<'a>(locals: &'a [Variable], name: &[u8]) -> Option<(usize, &'a Variable)>
+    ensures { found_as (λ v. variable_of v.now) result ≡ last_named (λ v. v.name) name.now (map variable_of locals.now) }
+{
+    let mut place = locals.len();
+    while place > 0 {
+        place -= 1;
+        let variable = &locals[place];
+        if is_same(variable.name.as_slice(), name) {
+            return Some((place, variable));
+        }
+    }
+    None
+}
+
+/// Whether one of the variables has the name.
+pub(crate) fn is_bound(locals: &[Variable], name: &[u8]) -> bool
+    ensures { IsTrue result ↔ IsBound name.now (map variable_of locals.now) }
+{
+    match local_of(locals, name) {
+        Some(_) => true,
+        None => false,
+    }
+}
+
+/// The component of the name, with its place.
+pub fn component_of<'a>(components: &'a [Component], name: &[u8]) -> Option<(usize, &'a Component)>
+    ensures { found_as (λ c. comp_of c.now) result ≡ first_named (λ c. c.name) name.now (map comp_of components.now) }
+{
+    for (place, component) in components.iter().enumerate() {
+        if is_same(component.name.as_slice(), name) {
+            return Some((place, component));
+        }
+    }
+    None
+}
+
+/// What the global of the name is defined as, with its place.
+pub fn global_of<'a>(globals: &'a Globals, name: &[u8]) -> Option<(usize, &'a Entry)>
+    ensures { found_as (λ e. entry_of name.now e.now) result ≡ first_named (λ d. d.name) name.now (globals_of globals.now) }
+{
+    match globals.entries.get_full(name) {
+        Some((place, _, entry)) => Some((place, entry)),
+        None => None,
+    }
+}
+
+/// What a global is.
+#[tactic(auto, using(crate::proofs::TypesSeen::seen))]
+fn entry_sort(alloc: Global, name: &[u8], entry: &Entry) -> Result<Sort, AllocError>
+    ensures { IfOk result (λ sort. sort_of sort ≡ spec.definition_sort name.now (definition_of entry.now)) }
+{
+    match entry {
+        Entry::Given(_) | Entry::Free(_, _) => {
+            let members = ZType::Basic(Text::of(alloc, name)?);
+            Ok(Sort::Typed(ZType::Power(Boxed::new(alloc, members)?)))
+        }
+        Entry::Constructor(_, of_type, _) => Ok(Sort::Typed(ZType::Basic(of_type.copy(alloc)?))),
+        Entry::Abbrev(ztype, _, _) => Ok(Sort::Typed(ztype.copy(alloc)?)),
+        Entry::Schema(_) => Ok(Sort::Schema),
+    }
+}
+
+/// Whether the spellings are equal.
+fn is_same(left: &[u8], right: &[u8]) -> bool
+    ensures { result ≡ bytes_eq left.now right.now }
+{
+    left == right
+}

@@ -1,0 +1,121 @@
+//! What a term can be.
+ghost use Rattle.std.specs.Prelude.{◌≡◌, ◌↔◌, IsTrue, MatchOption};
+ghost use Rattle.zf_type.specs.Rules.{IsSmallSort, Meets, lack, lack_of, untyped_lack, relation, set_of, sort_of, typed};
+ghost use Rattle.zf_type.specs.Types.{Ty, type_of};
+
+use crate::fault::TypeFaultKind;
+use crate::operator::Need;
+use crate::ztype::ZType;
+
+/// What a term is.
+#[derive(Debug, Drop)]
+pub enum Sort {
+    /// An expression of this type.
+    Typed(ZType),
+    Predicate,
+    /// The name of a schema.
+    Schema,
+}
+
+impl Sort {
+    /// Whether a term of this sort can stand where this is needed.
+    pub fn meets(&self, need: Need) -> bool
+        ensures { IsTrue result ↔ Meets need (sort_of self.now) }
+    {
+        match self {
+            Sort::Typed(ztype) => type_meets(ztype, need),
+            Sort::Predicate => need == Need::Predicate,
+            Sort::Schema => false,
+        }
+    }
+
+    /// What is wrong with a term of this sort where this is needed.
+    pub fn lack(&self, need: Need) -> TypeFaultKind
+        ensures { result ≡ lack_of need (sort_of self.now) }
+    {
+        match self {
+            Sort::Typed(_) => typed_lack(need),
+            Sort::Predicate | Sort::Schema => untyped_lack(need),
+        }
+    }
+
+    /// Whether its type is within the limit.
+    pub fn is_small(&self) -> bool
+        ensures { IsTrue result ↔ IsSmallSort (sort_of self.now) }
+    {
+        match self {
+            Sort::Typed(ztype) => ztype.is_small(),
+            Sort::Predicate | Sort::Schema => true,
+        }
+    }
+
+    /// Whether the sorts are the same.
+    pub fn same(&self, other: &Sort) -> bool
+        ensures { IsTrue result ↔ (sort_of self.now ≡ sort_of other.now) }
+    {
+        match (self, other) {
+            (Sort::Typed(ztype), Sort::Typed(other)) => ztype.same(other),
+            (Sort::Predicate, Sort::Predicate) | (Sort::Schema, Sort::Schema) => true,
+            _ => false,
+        }
+    }
+
+    /// The type of an expression.
+    pub fn into_type(self) -> Option<ZType>
+        ensures { MatchOption result ((t : Ty) → sort_of self ≡ typed t → ⊥) (λ t. sort_of self ≡ typed (type_of t)) }
+    {
+        match self {
+            Sort::Typed(ztype) => Some(ztype),
+            Sort::Predicate | Sort::Schema => None,
+        }
+    }
+
+    /// The type of the members of a set.
+    pub fn into_member(self) -> Option<ZType>
+        ensures { MatchOption result ((t : Ty) → sort_of self ≡ set_of t → ⊥) (λ t. sort_of self ≡ set_of (type_of t)) }
+    {
+        self.into_type()?.into_member()
+    }
+
+    /// The types that a relation is from and into.
+    pub fn into_sides(self) -> Option<(ZType, ZType)>
+        ensures { MatchOption result ((t u : Ty) → sort_of self ≡ relation t u → ⊥) (λ p. sort_of self ≡ relation (type_of p.0) (type_of p.1)) }
+    {
+        self.into_member()?.into_pair()
+    }
+}
+
+fn type_meets(ztype: &ZType, need: Need) -> bool
+    ensures { IsTrue result ↔ Meets need (typed (type_of ztype.now)) }
+{
+    match need {
+        Need::Expression => true,
+        Need::Number => ztype.is_int(),
+        Need::Set => ztype.is_set(),
+        Need::Relation => ztype.is_relation(),
+        Need::Predicate => false,
+    }
+}
+
+fn typed_lack(need: Need) -> TypeFaultKind
+    ensures { result ≡ lack need }
+{
+    match need {
+        Need::Expression => TypeFaultKind::NotAnExpression,
+        Need::Number => TypeFaultKind::NotANumber,
+        Need::Set => TypeFaultKind::NotASet,
+        Need::Relation => TypeFaultKind::NotARelation,
+        Need::Predicate => TypeFaultKind::NotAPredicate,
+    }
+}
+
+fn untyped_lack(need: Need) -> TypeFaultKind
+    ensures { result ≡ untyped_lack need }
+{
+    match need {
+        Need::Predicate => TypeFaultKind::NotAPredicate,
+        Need::Expression | Need::Number | Need::Set | Need::Relation => {
+            TypeFaultKind::NotAnExpression
+        }
+    }
+}

@@ -1,0 +1,222 @@
+//! Types.
+ghost use Rattle.std.specs.Prelude.{◌≡◌, ◌+◌, ◌<◌, ◌↔◌, IsTrue, IfOk, MatchOption, map};
+ghost use Rattle.zf_type.specs.Rules.{IsSmall, pair};
+ghost use Rattle.zf_type.specs.Types as spec;
+ghost use Rattle.zf_type.specs.Types.{Ty, int, power, types, type_of, nodes, nodes_of_all};
+
+use std::alloc::{AllocError, Global};
+use zf_data::{Boxed, Items, Text};
+
+/// A type. Two are the same type where they are equal.
+#[derive(Debug, Drop)]
+pub enum ZType {
+    /// `\num`
+    Int,
+    /// A given set or free type, by its name.
+    Basic(Text),
+    /// Sets of members of a type.
+    Power(Boxed<ZType>),
+    /// Tuples.
+    Product(Items<ZType>),
+}
+
+/// The limit on the nodes of a type.
+const MOST_NODES: u32 = 256;
+
+impl ZType {
+    pub fn copy(&self, alloc: Global) -> Result<ZType, AllocError>
+        ensures { IfOk result (λ t. t ≡ self.now) }
+    {
+        match self {
+            ZType::Int => Ok(ZType::Int),
+            ZType::Basic(name) => Ok(ZType::Basic(name.copy(alloc)?)),
+            ZType::Power(member) => Ok(ZType::Power(Boxed::new(alloc, member.get().copy(alloc)?)?)),
+            ZType::Product(parts) => {
+                let mut copies = Items::new(alloc);
+                for part in parts.as_slice() {
+                    copies.push(part.copy(alloc)?)?;
+                }
+                Ok(ZType::Product(copies))
+            }
+        }
+    }
+
+    /// Whether the types are the same.
+    #[cycle(same)]
+    #[tactic(auto, unfolding(crate::specs::Types::type_of))]
+    pub fn same(&self, other: &ZType) -> bool
+        ensures { IsTrue result ↔ (type_of self.now ≡ type_of other.now) }
+    {
+        match (self, other) {
+            (ZType::Int, ZType::Int) => true,
+            (ZType::Basic(name), ZType::Basic(other)) => name.same(other),
+            (ZType::Power(member), ZType::Power(other)) => member.get().same(other.get()),
+            (ZType::Product(parts), ZType::Product(others)) => {
+                same_all(parts.as_slice(), others.as_slice())
+            }
+            _ => false,
+        }
+    }
+
+    /// Whether the type is within the limit.
+    pub fn is_small(&self) -> bool
+        ensures { IsTrue result ↔ IsSmall (type_of self.now) }
+    {
+        self.room_after(MOST_NODES).is_some()
+    }
+
+    /// How much of the room for nodes is left behind the type, where there is enough. Ends as soon as there isn't.
+    #[cycle(room)]
+    fn room_after(&self, room: u32) -> Option<u32>
+        ensures { MatchOption result (room < nodes (type_of self.now)) (λ left. left + nodes (type_of self.now) ≡ room) }
+    {
+        if room == 0 {
+            return None;
+        }
+        let left = room - 1;
+        match self {
+            ZType::Int | ZType::Basic(_) => Some(left),
+            ZType::Power(member) => member.get().room_after(left),
+            ZType::Product(parts) => room_after_all(parts.as_slice(), left),
+        }
+    }
+
+    /// Whether numbers are parts of its values.
+    #[cycle(numbers)]
+    #[tactic(auto, using(crate::proofs::TypesSeen::seen))]
+    pub fn has_numbers(&self) -> bool
+        ensures { result ≡ spec.has_numbers (type_of self.now) }
+    {
+        match self {
+            ZType::Int => true,
+            ZType::Basic(_) => false,
+            ZType::Power(member) => member.get().has_numbers(),
+            ZType::Product(parts) => have_numbers(parts.as_slice()),
+        }
+    }
+
+    /// Whether it is that of numbers.
+    #[tactic(auto, using(crate::proofs::TypeForms::int_form))]
+    pub fn is_int(&self) -> bool
+        ensures { IsTrue result ↔ (type_of self.now ≡ int) }
+    {
+        matches!(self, ZType::Int)
+    }
+
+    /// Whether it is one of sets.
+    #[tactic(auto, using(crate::proofs::TypeForms::set_form))]
+    pub fn is_set(&self) -> bool
+        ensures { IsTrue result ↔ ((t : Ty) × (type_of self.now ≡ power t)) }
+    {
+        matches!(self, ZType::Power(_))
+    }
+
+    /// Whether it is one of sets of pairs.
+    pub fn is_relation(&self) -> bool
+        ensures { IsTrue result ↔ ((t u : Ty) × (type_of self.now ≡ power (pair t u))) }
+    {
+        match self {
+            ZType::Power(member) => member.get().is_pair(),
+            _ => false,
+        }
+    }
+
+    /// Whether it is one of pairs.
+    pub fn is_pair(&self) -> bool
+        ensures { IsTrue result ↔ ((t u : Ty) × (type_of self.now ≡ pair t u)) }
+    {
+        match self {
+            ZType::Product(parts) => parts.len() == 2,
+            _ => false,
+        }
+    }
+
+    /// The type of a set's members.
+    pub fn into_member(self) -> Option<ZType>
+        ensures { MatchOption result ((t : Ty) → type_of self ≡ power t → ⊥) (λ t. type_of self ≡ power (type_of t)) }
+    {
+        let ZType::Power(member) = self else {
+            return None;
+        };
+        Some(member.into_inner())
+    }
+
+    /// The types of both parts of a pair.
+    pub fn into_pair(self) -> Option<(ZType, ZType)>
+        ensures { MatchOption result ((t u : Ty) → type_of self ≡ pair t u → ⊥) (λ p. type_of self ≡ pair (type_of p.0) (type_of p.1)) }
+    {
+        let ZType::Product(mut parts) = self else {
+            return None;
+        };
+        if parts.len() != 2 {
+            return None;
+        }
+        let second = parts.pop()?;
+        let first = parts.pop()?;
+        Some((first, second))
+    }
+}
+
+#[cycle(same)]
+fn same_all(parts: &[ZType], others: &[ZType]) -> bool
+    ensures { IsTrue result ↔ (map type_of parts.now ≡ map type_of others.now) }
+{
+    if parts.len() != others.len() {
+        return false;
+    }
+    for i in 0..parts.len() {
+        if !parts[i].same(&others[i]) {
+            return false;
+        }
+    }
+    true
+}
+
+#[cycle(room)]
+fn room_after_all(parts: &[ZType], room: u32) -> Option<u32>
+    ensures { MatchOption result (room < nodes_of_all (types (map type_of parts.now))) (λ left. left + nodes_of_all (types (map type_of parts.now)) ≡ room) }
+{
+    let mut left = room;
+    for part in parts {
+        let Some(rest) = part.room_after(left) else {
+            return None;
+        };
+        left = rest;
+    }
+    Some(left)
+}
+
+#[cycle(numbers)]
+fn have_numbers(parts: &[ZType]) -> bool
+    ensures { result ≡ spec.have_numbers (types (map type_of parts.now)) }
+{
+    for part in parts {
+        if part.has_numbers() {
+            return true;
+        }
+    }
+    false
+}
+
+/// The type of sets of members of a type.
+#[tactic(auto, using(crate::proofs::TypesSeen::seen))]
+pub fn set_type(alloc: Global, member: ZType) -> Result<ZType, AllocError>
+    ensures { IfOk result (λ t. type_of t ≡ power (type_of member)) }
+{
+    Ok(ZType::Power(Boxed::new(alloc, member)?))
+}
+
+/// The type of pairs.
+#[tactic(auto, using(crate::proofs::TypesSeen::seen))]
+pub fn pair_type(alloc: Global, first: ZType, second: ZType) -> Result<ZType, AllocError>
+    ensures { IfOk result (λ t. type_of t ≡ pair (type_of first) (type_of second)) }
+{
+    let mut parts = Items::of(alloc, first)?;
+    parts.push(second)?;
+    Ok(ZType::Product(parts))
+}
+
+/// Types that are the same are equal, so that `same` is equality.
+pub fn one_type()
+    ensures { (a b : ZType) → type_of a ≡ type_of b → a ≡ b }
+{}
