@@ -1,0 +1,153 @@
+-- Components by name: their types and declared sets, before and after one more.
+use Rattle.std.proofs.Common.{◌≡◌, ℕ, zero, suc, ◌+◌, Bool, true, false, if◌then◌else◌, List, [], ◌∷◌, ◌++◌, Option, Some, None, slice_get, refl, sym, arith, ap, ◌∙◌, subst}
+use Rattle.std.proofs.lemmas.List.{append-nil, append_assoc}
+use Rattle.std.proofs.lemmas.Option.{same_Some, none-some}
+use Rattle.std.specs.Str.{bytes_eq}
+use Rattle.zf_type.specs.Definitions.{Comp}
+use Rattle.zf_type.specs.Scopes.{later, or_else}
+use Rattle.zf_type.specs.Types.{Ty}
+use Rattle.zf_type.proofs.Choices.{or_none, or_else_assoc}
+use Rattle.zf_type.proofs.SameNames.{is_same, is_itself, swapped}
+use Rattle.zf_schema.specs.Calculus.{comp, comp_named, with_comp, with_comps}
+use Rattle.zf_schema.specs.SchemaLaws.{type_found, type_named, sets_found, sets_named, AreOnce}
+
+-- ---- what is found
+
+pub later_type : (o : Option (ℕ × Comp)) → type_found (later o) ≡ type_found o
+later_type None = refl
+later_type (Some p) = refl
+
+pub later_sets : (o : Option (ℕ × Comp)) → sets_found (later o) ≡ sets_found o
+later_sets None = refl
+later_sets (Some p) = refl
+
+-- where no type is found, nothing is
+pub not_found : (o : Option (ℕ × Comp)) → type_found o ≡ None → o ≡ None
+not_found None e = refl
+not_found (Some p) e = absurd (none-some p.1.type (sym e))
+
+pub found : (o : Option (ℕ × Comp)) (t : Ty) → type_found o ≡ Some t → (p : ℕ × Comp) × (o ≡ Some p) × (p.1.type ≡ t)
+found None t e = absurd (none-some t e)
+found (Some p) t e = (p, refl, same_Some p.1.type t e)
+
+next_stands : (c : Comp) (cs : List Comp) (i : ℕ) (d : Comp) → slice_get cs i ≡ Some d → slice_get (c ∷ cs) (i + 1) ≡ Some d
+next_stands c cs i d e =
+    let next : suc i ≡ i + 1 = omega arith in
+    subst (λ n. slice_get (c ∷ cs) n ≡ Some d) next e
+
+-- it stands at the place that is found, and has the name
+pub stands_there : (x : List ℕ) (cs : List Comp) (p : ℕ × Comp) → comp_named x cs ≡ Some p → (slice_get cs p.0 ≡ Some p.1) × (p.1.name ≡ x)
+stands_there x [] p e = absurd (none-some p e)
+stands_there x (c ∷ cs) p e = by (bytes_eq c.name x) refl (comp_named x cs) (stands_there x cs) e
+  where
+    by :
+        (t : Bool) → bytes_eq c.name x ≡ t → (o : Option (ℕ × Comp)) → ((q : ℕ × Comp) → o ≡ Some q → (slice_get cs q.0 ≡ Some q.1) × (q.1.name ≡ x))
+        → (if t then Some (0, c) else later o) ≡ Some p → (slice_get (c ∷ cs) p.0 ≡ Some p.1) × (p.1.name ≡ x)
+    by true same o rest e = subst (λ q. (slice_get (c ∷ cs) q.0 ≡ Some q.1) × (q.1.name ≡ x)) (same_Some (0, c) p e) (refl, is_same c.name x same)
+    by false same None rest e = absurd (none-some p e)
+    by false same (Some q) rest e =
+        let there = rest q refl in
+        let next : slice_get (c ∷ cs) (q.0 + 1) ≡ Some q.1 = next_stands c cs q.0 q.1 there.0 in
+        subst (λ r. (slice_get (c ∷ cs) r.0 ≡ Some r.1) × (r.1.name ≡ x)) (same_Some (q.0 + 1, q.1) p e) (next, there.1)
+
+-- ---- one more component
+
+-- the type is that of the first that has the name
+pub type_one_more : (x : List ℕ) (cs : List Comp) (c : Comp) → type_named x (with_comp cs c) ≡ or_else (type_named x cs) (if bytes_eq c.name x then Some c.type else None)
+type_one_more x [] c = by (bytes_eq c.name x)
+  where
+    by : (t : Bool) → type_found (if t then Some (0, c) else None) ≡ (if t then Some c.type else None)
+    by true = refl
+    by false = refl
+type_one_more x (d ∷ ds) c = by (bytes_eq d.name c.name) refl (type_one_more x ds c)
+  where
+    known :
+        (t w : Bool) → t ≡ w
+        → type_found (if t then Some (0, comp d.name d.type (d.sets ++ c.sets)) else later (comp_named x ds)) ≡ or_else (type_found (if t then Some (0, d) else later (comp_named x ds))) (if w then Some c.type else None)
+    known true w e = refl
+    known false true e = absurd (cc)
+    known false false e = sym (or_none (type_found (later (comp_named x ds))))
+
+    passed :
+        (t w : Bool) → type_named x (with_comp ds c) ≡ or_else (type_named x ds) (if w then Some c.type else None)
+        → type_found (if t then Some (0, d) else later (comp_named x (with_comp ds c))) ≡ or_else (type_found (if t then Some (0, d) else later (comp_named x ds))) (if w then Some c.type else None)
+    passed true w rest = refl
+    passed false w rest = later_type (comp_named x (with_comp ds c)) ∙ rest ∙ ap (λ o. or_else o (if w then Some c.type else None)) (sym (later_type (comp_named x ds)))
+
+    by :
+        (s : Bool) → bytes_eq d.name c.name ≡ s → type_named x (with_comp ds c) ≡ or_else (type_named x ds) (if bytes_eq c.name x then Some c.type else None)
+        → type_named x (if s then comp d.name d.type (d.sets ++ c.sets) ∷ ds else d ∷ with_comp ds c) ≡ or_else (type_named x (d ∷ ds)) (if bytes_eq c.name x then Some c.type else None)
+    by true same rest = known (bytes_eq d.name x) (bytes_eq c.name x) (ap (λ n. bytes_eq n x) (is_same d.name c.name same))
+    by false same rest = passed (bytes_eq d.name x) (bytes_eq c.name x) rest
+
+-- the declared sets are added to those of the name
+pub sets_one_more : (x : List ℕ) (cs : List Comp) (c : Comp) → sets_named x (with_comp cs c) ≡ sets_named x cs ++ (if bytes_eq c.name x then c.sets else [])
+sets_one_more x [] c = by (bytes_eq c.name x)
+  where
+    by : (t : Bool) → sets_found (if t then Some (0, c) else None) ≡ (if t then c.sets else [])
+    by true = refl
+    by false = refl
+sets_one_more x (d ∷ ds) c = by (bytes_eq d.name c.name) refl (sets_one_more x ds c)
+  where
+    known :
+        (t w : Bool) → t ≡ w
+        → sets_found (if t then Some (0, comp d.name d.type (d.sets ++ c.sets)) else later (comp_named x ds)) ≡ sets_found (if t then Some (0, d) else later (comp_named x ds)) ++ (if w then c.sets else [])
+    known true true e = refl
+    known true false e = absurd (cc)
+    known false true e = absurd (cc)
+    known false false e = sym (append-nil (sets_found (later (comp_named x ds))))
+
+    passed :
+        (t w : Bool) → (t ≡ true → w ≡ false) → sets_named x (with_comp ds c) ≡ sets_named x ds ++ (if w then c.sets else [])
+        → sets_found (if t then Some (0, d) else later (comp_named x (with_comp ds c))) ≡ sets_found (if t then Some (0, d) else later (comp_named x ds)) ++ (if w then c.sets else [])
+    passed true true other rest = absurd (let e = other refl in (cc))
+    passed true false other rest = sym (append-nil d.sets)
+    passed false w other rest = later_sets (comp_named x (with_comp ds c)) ∙ rest ∙ ap (λ o. o ++ (if w then c.sets else [])) (sym (later_sets (comp_named x ds)))
+
+    by :
+        (s : Bool) → bytes_eq d.name c.name ≡ s → sets_named x (with_comp ds c) ≡ sets_named x ds ++ (if bytes_eq c.name x then c.sets else [])
+        → sets_named x (if s then comp d.name d.type (d.sets ++ c.sets) ∷ ds else d ∷ with_comp ds c) ≡ sets_named x (d ∷ ds) ++ (if bytes_eq c.name x then c.sets else [])
+    by true same rest = known (bytes_eq d.name x) (bytes_eq c.name x) (ap (λ n. bytes_eq n x) (is_same d.name c.name same))
+    by false same rest =
+        passed (bytes_eq d.name x) (bytes_eq c.name x) (λ e. swapped c.name x ∙ ap (λ n. bytes_eq n c.name) (sym (is_same d.name x e)) ∙ same) rest
+
+-- ---- many more
+
+pub joined_type : (x : List ℕ) (cs ds : List Comp) → type_named x (with_comps cs ds) ≡ or_else (type_named x cs) (type_named x ds)
+joined_type x cs [] = sym (or_none (type_named x cs))
+joined_type x cs (d ∷ ds) =
+    joined_type x (with_comp cs d) ds ∙ ap (λ o. or_else o (type_named x ds)) (type_one_more x cs d)
+    ∙ or_else_assoc (type_named x cs) (if bytes_eq d.name x then Some d.type else None) (type_named x ds) ∙ ap (or_else (type_named x cs)) (first (bytes_eq d.name x))
+  where
+    first : (t : Bool) → or_else (if t then Some d.type else None) (type_named x ds) ≡ type_found (if t then Some (0, d) else later (comp_named x ds))
+    first true = refl
+    first false = sym (later_type (comp_named x ds))
+
+pub joined_sets : (x : List ℕ) (cs ds : List Comp) → AreOnce ds → sets_named x (with_comps cs ds) ≡ sets_named x cs ++ sets_named x ds
+joined_sets x cs [] once = sym (append-nil (sets_named x cs))
+joined_sets x cs (d ∷ ds) once =
+    joined_sets x (with_comp cs d) ds once.1 ∙ ap (λ o. o ++ sets_named x ds) (sets_one_more x cs d)
+    ∙ append_assoc (sets_named x cs) (if bytes_eq d.name x then d.sets else []) (sets_named x ds)
+    ∙ ap (λ o. sets_named x cs ++ o) (first (bytes_eq d.name x) (λ e. subst (λ n. comp_named n ds ≡ None) (is_same d.name x e) once.0))
+  where
+    first : (t : Bool) → (t ≡ true → comp_named x ds ≡ None) → (if t then d.sets else []) ++ sets_named x ds ≡ sets_found (if t then Some (0, d) else later (comp_named x ds))
+    first true other = ap (λ o. d.sets ++ sets_found o) (other refl) ∙ append-nil d.sets
+    first false other = sym (later_sets (comp_named x ds))
+
+-- ---- components that have names of their own
+
+-- the type of the component at a place is that of its name
+pub type_of_once : (cs : List Comp) (i : ℕ) (c : Comp) → AreOnce cs → slice_get cs i ≡ Some c → type_named c.name cs ≡ Some c.type
+type_of_once [] i c once e = absurd (none-some c e)
+type_of_once (d ∷ ds) zero c once e = subst (λ v. type_named v.name (d ∷ ds) ≡ Some v.type) (same_Some d c e) (itself (bytes_eq d.name d.name) (is_itself d.name))
+  where
+    itself : (t : Bool) → t ≡ true → type_found (if t then Some (0, d) else later (comp_named d.name ds)) ≡ Some d.type
+    itself true e = refl
+    itself false e = absurd (cc)
+type_of_once (d ∷ ds) (suc i) c once e = by (bytes_eq d.name c.name) (is_same d.name c.name) (type_of_once ds i c once.1 e)
+  where
+    by :
+        (t : Bool) → (t ≡ true → d.name ≡ c.name) → type_named c.name ds ≡ Some c.type
+        → type_found (if t then Some (0, d) else later (comp_named c.name ds)) ≡ Some c.type
+    by true same rest = absurd (none-some c.type (ap type_found (sym (subst (λ n. comp_named n ds ≡ None) (same refl) once.0)) ∙ rest))
+    by false same rest = later_type (comp_named c.name ds) ∙ rest

@@ -1,0 +1,126 @@
+-- A schema expression that is a schema has no offence.
+use Rattle.std.proofs.Common.{ℕ, List, [], ◌∷◌, refl, sym, ◌∙◌, subst, inl, inr}
+use Rattle.std.proofs.lemmas.Option.{same_Some, none-some}
+use Rattle.zf_text.specs.declared.tree.Name.{Name}
+use Rattle.zf_text.specs.declared.tree.SchemaRef.{SchemaRef}
+use Rattle.zf_text.specs.Trees.{Tree, DeclTree, vars, include, SchemaTree, schema_text, reference, both, either, schema_bracket}
+use Rattle.zf_type.specs.declared.fault.TypeFaultKind.{TypeFaultKind}
+use Rattle.zf_type.specs.declared.operator.Need.TheVariants as need
+use Rattle.zf_type.specs.Definitions.{Schema, DeclaredSet, plain, Defined, schema}
+use Rattle.zf_type.specs.ResolvedTrees.{ResolvedTree}
+use Rattle.zf_type.specs.Resolving.{resolved}
+use Rattle.zf_type.specs.Rules.{set_of, predicate}
+use Rattle.zf_type.specs.Scopes.{spelling}
+use Rattle.zf_type.specs.Shapes.{conjuncts}
+use Rattle.zf_type.specs.Types.{Ty}
+use Rattle.zf_type.proofs.NoOffence.{no_offence}
+use Rattle.zf_type.proofs.OneSort.{same_set, one_sort}
+use Rattle.zf_schema.specs.Calculus.{comp, schema_of, nothing, Agrees, Agree, with_comp, conjoined, decorated, marked, MarkAgrees, disjoined}
+use Rattle.zf_schema.specs.Expressions.{outside, inside, IsNext, Refers, AddsAll, Includes, DeclaresOne, Declares, TakesAll, ConstrainsOne, Constrains, IsText, IsSchema}
+use Rattle.zf_schema.specs.SchemaOffences.{Stops, IsNoSchema, CantRefer, OffendsRef, OffendsNames, OffendsDecl, OffendsDecls, OffendsConjuncts, OffendsPredicate, OffendsPredicates, OffendsText, StopsEither, OffendsSchema, name_line}
+use Rattle.zf_schema.proofs.OneSchema.{one_base, one_reference, one_added, one_declaration, all_declared, one_constraint, one_schema}
+
+-- ---- what is next is not stopped
+
+pub not_stopped : (Agreed : Type 0) (next b : Schema) (k : TypeFaultKind) → Agreed → IsNext next b → Stops Agreed next k → ⊥
+not_stopped Agreed next b k agreed p (inl o) = o.1 agreed
+not_stopped Agreed next b k agreed p (inr o) = o.2 p.1
+
+either_not_stopped : (Agreed : Type 0) (next b : Schema) (l name : ℕ) (k : TypeFaultKind) (m : ℕ) → Agreed → IsNext next b → StopsEither Agreed next l name k m → ⊥
+either_not_stopped Agreed next b l name k m agreed p (inl o) = o.2 agreed
+either_not_stopped Agreed next b l name k m agreed p (inr o) = o.3 p.1
+
+-- ---- references
+
+can_refer : (g : List Defined) (r : SchemaRef) (b : Schema) (k : TypeFaultKind) → Refers g r b → CantRefer g r k → ⊥
+can_refer g r b k p (inl o) = none-some (p.0, record { name = p.1; definition = schema p.2 }) (sym o.1 ∙ p.3)
+can_refer g r b k p (inr (inl o)) =
+    let same = same_Some (o.1, o.2) (p.0, record { name = p.1; definition = schema p.2 }) (sym o.3 ∙ p.3) in
+    subst (λ d. IsNoSchema d.1.definition) same o.4
+can_refer g r b k p (inr (inr o)) =
+    let base = one_base g r.name.base p.0 o.0 p.1 o.1 p.2 o.2 p.3 o.3 in
+    let agreed = subst (λ a. MarkAgrees r.mark a) base p.4 in
+    let next = subst (λ a. IsNext (decorated r.name.strokes (marked r.mark r.name.line a)) b) base p.5 in
+    not_stopped (MarkAgrees r.mark o.2) (decorated r.name.strokes (marked r.mark r.name.line o.2)) b k agreed next o.4
+
+pub no_reference_offence : (g : List Defined) (r : SchemaRef) (b : Schema) (k : TypeFaultKind) (m : ℕ) → Refers g r b → OffendsRef g r k m → ⊥
+no_reference_offence g r b k m p o = can_refer g r b k p o.1
+
+-- ---- declarations
+
+pub no_name_offends : (a : Schema) (ns : List Name) (t : Ty) (s : DeclaredSet) (b : Schema) (k : TypeFaultKind) (m : ℕ) → AddsAll a ns t s b → OffendsNames a ns t s k m → ⊥
+no_name_offends a [] t s b k m p o = o
+no_name_offends a (n ∷ ns) t s b k m p (inl o) =
+    let c = comp (spelling n) t (s ∷ []) in
+    not_stopped (Agrees a.comps c) (schema_of (with_comp a.comps c) a.conjuncts) p.0 k p.1.0 p.1.1 o.1
+no_name_offends a (n ∷ ns) t s b k m p (inr o) =
+    let mid = one_added a (comp (spelling n) t (s ∷ [])) p.0 o.0 p.1 o.1 in
+    no_name_offends o.0 ns t s b k m (subst (λ v. AddsAll v ns t s b) mid p.2) o.2
+
+pub no_declaration_offence : (g : List Defined) (a : Schema) (d : DeclTree) (b : Schema) (k : TypeFaultKind) (m : ℕ) → DeclaresOne g a d b → OffendsDecl g a d k m → ⊥
+no_declaration_offence g a (vars ns e) b k m p (inl o) = no_offence (outside g) need.Set e (set_of p.0) k m p.1 (p.0, refl) o
+no_declaration_offence g a (vars ns e) b k m p (inr o) =
+    let type = same_set p.0 o.0 (one_sort (outside g) e (set_of p.0) (set_of o.0) p.1 o.1) in
+    let set = plain (resolved (outside g) e) in
+    no_name_offends a ns o.0 set b k m (subst (λ t. AddsAll a ns t set b) type p.2) o.2
+no_declaration_offence g a (include r) b k m p (inl o) = no_reference_offence g r p.0 k m p.1 o
+no_declaration_offence g a (include r) b k m p (inr o) =
+    let included = one_reference g r p.0 o.0 p.1 o.1 in
+    let taken = subst (λ c. Includes a c b) included p.2 in
+    not_stopped (Agree a.comps o.0.comps) (conjoined a o.0) b k taken.0 taken.1 o.3
+
+pub no_declared_offence : (g : List Defined) (a : Schema) (ds : List DeclTree) (b : Schema) (k : TypeFaultKind) (m : ℕ) → Declares g a ds b → OffendsDecls g a ds k m → ⊥
+no_declared_offence g a [] b k m p o = o
+no_declared_offence g a (d ∷ ds) b k m p (inl o) = no_declaration_offence g a d p.0 k m p.1 o
+no_declared_offence g a (d ∷ ds) b k m p (inr o) =
+    let mid = one_declaration g a d p.0 o.0 p.1 o.1 in
+    no_declared_offence g o.0 ds b k m (subst (λ v. Declares g v ds b) mid p.2) o.2
+
+-- ---- predicates
+
+pub no_conjunct_offends : (a : Schema) (cs : List ResolvedTree) (b : Schema) (k : TypeFaultKind) (m : ℕ) → TakesAll a cs b → OffendsConjuncts a cs k m → ⊥
+no_conjunct_offends a [] b k m p o = o
+no_conjunct_offends a (c ∷ cs) b k m p (inl o) = o.2 p.1.1
+no_conjunct_offends a (c ∷ cs) b k m p (inr o) =
+    let mid = p.1.0 ∙ sym o.1.0 in
+    no_conjunct_offends o.0 cs b k m (subst (λ v. TakesAll v cs b) mid p.2) o.2
+
+pub no_predicate_offence : (g : List Defined) (a : Schema) (e : Tree) (b : Schema) (k : TypeFaultKind) (m : ℕ) → ConstrainsOne g a e b → OffendsPredicate g a e k m → ⊥
+no_predicate_offence g a e b k m p (inl o) = no_offence (inside g a) need.Predicate e predicate k m p.0 refl o
+no_predicate_offence g a e b k m p (inr o) = no_conjunct_offends a (conjuncts (resolved (inside g a) e)) b k m p.1 o.1
+
+pub no_constraint_offence : (g : List Defined) (a : Schema) (es : List Tree) (b : Schema) (k : TypeFaultKind) (m : ℕ) → Constrains g a es b → OffendsPredicates g a es k m → ⊥
+no_constraint_offence g a [] b k m p o = o
+no_constraint_offence g a (e ∷ es) b k m p (inl o) = no_predicate_offence g a e p.0 k m p.1 o
+no_constraint_offence g a (e ∷ es) b k m p (inr o) =
+    let mid = one_constraint g a e p.0 o.0 p.1 o.1 in
+    no_constraint_offence g o.0 es b k m (subst (λ v. Constrains g v es b) mid p.2) o.2
+
+-- ---- boxes and schema expressions
+
+pub no_text_offence : (g : List Defined) (ds : List DeclTree) (es : List Tree) (b : Schema) (k : TypeFaultKind) (m : ℕ) → IsText g ds es b → OffendsText g ds es k m → ⊥
+no_text_offence g ds es b k m p (inl o) = no_declared_offence g nothing ds p.0 k m p.1 o
+no_text_offence g ds es b k m p (inr o) =
+    let mid = all_declared g nothing ds p.0 o.0 p.1 o.1 in
+    no_constraint_offence g o.0 es b k m (subst (λ v. Constrains g v es b) mid p.2) o.2
+
+pub no_schema_offence : (g : List Defined) (x : SchemaTree) (c : Schema) (k : TypeFaultKind) (m : ℕ) → IsSchema g x c → OffendsSchema g x k m → ⊥
+no_schema_offence g (schema_text ds es) c k m p o = no_text_offence g ds es c k m p o
+no_schema_offence g (reference r) c k m p o = no_reference_offence g r c k m p o
+no_schema_offence g (both x y) c k m p (inl o) = no_schema_offence g x p.0 k m p.2 o
+no_schema_offence g (both x y) c k m p (inr (inl o)) = no_schema_offence g y p.1 k m p.3 o
+no_schema_offence g (both x y) c k m p (inr (inr o)) =
+    let left = one_schema g x p.0 o.0 p.2 o.2 in
+    let right = one_schema g y p.1 o.1 p.3 o.3 in
+    let agreed = subst (λ b. Agree o.0.comps b.comps) right (subst (λ a. Agree a.comps p.1.comps) left p.4) in
+    let next = subst (λ b. IsNext (conjoined o.0 b) c) right (subst (λ a. IsNext (conjoined a p.1) c) left p.5) in
+    not_stopped (Agree o.0.comps o.1.comps) (conjoined o.0 o.1) c k agreed next o.5
+no_schema_offence g (either l x y) c k m p (inl o) = no_schema_offence g x p.0 k m p.2 o
+no_schema_offence g (either l x y) c k m p (inr (inl o)) = no_schema_offence g y p.1 k m p.3 o
+no_schema_offence g (either l x y) c k m p (inr (inr o)) =
+    let left = one_schema g x p.0 o.0 p.2 o.2 in
+    let right = one_schema g y p.1 o.1 p.3 o.3 in
+    let agreed = subst (λ b. Agree o.0.comps b.comps) right (subst (λ a. Agree a.comps p.1.comps) left p.4) in
+    let next = subst (λ b. IsNext (disjoined l o.0 b) c) right (subst (λ a. IsNext (disjoined l a p.1) c) left p.5) in
+    either_not_stopped (Agree o.0.comps o.1.comps) (disjoined l o.0 o.1) c l (name_line y) k m agreed next o.4
+no_schema_offence g (schema_bracket x) c k m p o = no_schema_offence g x c k m p o

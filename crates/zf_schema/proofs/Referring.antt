@@ -1,0 +1,32 @@
+-- References to schemas, out of what is named and what it is marked to be.
+use Rattle.std.proofs.Common.{◌≡◌, inl, inr, ℕ, List, Some, refl, ap, ◌∙◌, subst}
+use Rattle.zf_text.specs.declared.tree.SchemaRef.{SchemaRef}
+use Rattle.zf_type.specs.declared.fault.TypeFaultKind.{TypeFaultKind}
+use Rattle.zf_type.specs.Definitions.{Schema, Defined, schema}
+use Rattle.zf_type.specs.Refusals.{IfFault}
+use Rattle.zf_type.specs.Scopes.{first_named}
+use Rattle.zf_schema.specs.Calculus.{decorated, marked, MarkAgrees}
+use Rattle.zf_schema.specs.declared.stop.Stop.{Stop}
+use Rattle.zf_schema.specs.declared.stop.Stop.TheVariants.{Clash, TooLarge, OutOfMemory}
+use Rattle.zf_schema.specs.Expressions.{IsNext, Refers}
+use Rattle.zf_schema.specs.Growth.{IfStopped, IsNamed, refusal_of}
+use Rattle.zf_schema.specs.SchemaOffences.{Stops, OffendsRef}
+use Rattle.zf_schema.proofs.Decorating.{within_decorated, decorated_within}
+
+pub refused_by : (e : Stop) (l : ℕ) (P : TypeFaultKind → Type 0) (Q : TypeFaultKind → ℕ → Type 0) → ((k : TypeFaultKind) → P k → Q k l) → IfStopped e P → IfFault (refusal_of e l) Q
+refused_by Clash l P Q f h = f _ h
+refused_by TooLarge l P Q f h = f _ h
+refused_by OutOfMemory l P Q f h = tt
+
+found : (g : List Defined) (x y : List ℕ) (a : Schema) (n : IsNamed g x a) → x ≡ y → first_named (λ d. d.name) y g ≡ Some (n.0, record { name = x; definition = schema a })
+found g x y a n e = subst (λ (z : List ℕ). first_named (λ (d : Defined). d.name) z g ≡ Some (n.0, record { name = x; definition = schema a })) e n.1
+
+pub refers : (g : List Defined) (r : SchemaRef) (x strokes : List ℕ) (a m b : Schema) → IsNamed g x a → x ≡ r.name.base → strokes ≡ r.name.strokes → MarkAgrees r.mark a → IsNext (marked r.mark r.name.line a) m → b ≡ decorated strokes m → Refers g r b
+refers g r x strokes a m b n e f agree next h =
+    let made : b ≡ decorated r.name.strokes (marked r.mark r.name.line a) = h ∙ ap (λ (s : List ℕ). decorated s m) f ∙ ap (decorated r.name.strokes) next.0 in
+    (n.0, x, a, found g x r.name.base a n e, agree, (made, within_decorated r.name.strokes (marked r.mark r.name.line a) next.1))
+
+pub cant_refer : (g : List Defined) (r : SchemaRef) (x : List ℕ) (a : Schema) → IsNamed g x a → x ≡ r.name.base → (k : TypeFaultKind) → Stops (MarkAgrees r.mark a) (marked r.mark r.name.line a) k → OffendsRef g r k r.name.line
+cant_refer g r x a n e k (inl h) = (refl, inr (inr (n.0, x, a, found g x r.name.base a n e, inl h)))
+cant_refer g r x a n e k (inr h) =
+    (refl, inr (inr (n.0, x, a, found g x r.name.base a n e, inr (h.0, h.1, λ w. h.2 (decorated_within r.name.strokes (marked r.mark r.name.line a) w)))))

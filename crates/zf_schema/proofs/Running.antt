@@ -1,0 +1,65 @@
+-- Items that are checked, one after another.
+use Rattle.std.proofs.Common.{◌≡◌, List, [], ◌∷◌, ◌++◌, Result, Ok, Err, OnOk, OnErr, IfErr, refl, sym, ap, ◌∙◌, subst, inl, inr}
+use Rattle.std.proofs.lemmas.List.{append-nil, append_assoc}
+use Rattle.zf_text.specs.Trees.{BoxTree}
+use Rattle.zf_type.specs.declared.fault.Refusal.{Refusal}
+use Rattle.zf_type.specs.declared.fault.Refusal.TheVariants.{Fault, OutOfMemory}
+use Rattle.zf_type.specs.declared.fault.TypeFault.{TypeFault}
+use Rattle.zf_type.specs.Definitions.{Defined, globals_of}
+use Rattle.zf_type.specs.Refusals.{IfFault}
+use Rattle.zf_schema.specs.declared.checker.Checked.{Checked}
+use Rattle.zf_schema.specs.Checking.{Item, items, Defines, OffendsItem, Checks, IsChecked}
+use Rattle.zf_schema.specs.Runs.{Notes, RunsOne, Runs}
+use Rattle.zf_schema.proofs.OneDefinition.{no_item_offence}
+
+-- what an item defines, or its fault that is noted
+pub noted :
+    {A : Type 0} (a b : Checked) (item : Item) (result : Result A Refusal)
+    → OnOk result (Defines (globals_of a.globals) item (globals_of b.globals))
+    → IfErr result (λ e. IfFault e (λ k m. OffendsItem (globals_of a.globals) item k m))
+    → OnErr result (globals_of b.globals ≡ globals_of a.globals)
+    → Notes result a.faults b.faults
+    → RunsOne a item b
+unfolding RunsOne
+noted a b item (Ok u) ok bad kept notes = ([], inl (ok, refl), notes ∙ sym (append-nil a.faults))
+noted a b item (Err (Fault f)) ok bad kept notes =
+    (f ∷ [], inr (λ other d. no_item_offence (globals_of a.globals) item other f.kind f.line d bad, kept, (f, bad, refl)), notes)
+noted a b item (Err OutOfMemory) ok bad kept notes = absurd notes
+
+pub run_none : (a : Checked) → Runs a [] a
+unfolding Runs
+run_none a = ([], (refl, refl), sym (append-nil a.faults))
+
+pub run_step : (a mid b : Checked) (item : Item) (rest : List Item) → RunsOne a item mid → Runs mid rest b → Runs a (item ∷ rest) b
+unfolding RunsOne Runs
+run_step a mid b item rest p q =
+    (p.0 ++ q.0, (globals_of mid.globals, p.0, q.0, p.1, q.1, refl), q.2 ∙ ap (λ fs. fs ++ q.0) p.2 ∙ append_assoc a.faults p.0 q.0)
+
+pub run_one : (a b : Checked) (item : Item) → RunsOne a item b → Runs a (item ∷ []) b
+run_one a b item p = run_step a b b item [] p (run_none b)
+
+checks_on :
+    (g h i : List Defined) (xs ys : List Item) (es fs : List TypeFault)
+    → Checks g xs h es → Checks h ys i fs → Checks g (xs ++ ys) i (es ++ fs)
+checks_on g h i [] ys es fs p q =
+    subst (λ v. Checks v ys i (es ++ fs)) p.0 (subst (λ v. Checks h ys i (v ++ fs)) (sym p.1) q)
+checks_on g h i (x ∷ xs) ys es fs p q =
+    (p.0, p.1, p.2 ++ fs, p.3, checks_on p.0 h i xs ys p.2 fs p.4 q, ap (λ v. v ++ fs) p.5 ∙ append_assoc p.1 p.2 fs)
+
+pub run_on : (a mid b : Checked) (xs ys : List Item) → Runs a xs mid → Runs mid ys b → Runs a (xs ++ ys) b
+unfolding Runs
+run_on a mid b xs ys p q = (
+  p.0 ++ q.0,
+  checks_on (globals_of a.globals) (globals_of mid.globals) (globals_of b.globals) xs ys p.0 q.0 p.1 q.1,
+  q.2 ∙ ap (λ fs. fs ++ q.0) p.2 ∙ append_assoc a.faults p.0 q.0,
+)
+
+-- all items of a text, from no globals and no faults on
+pub run_all :
+    (a b : Checked) (boxes : List BoxTree) → globals_of a.globals ≡ [] → a.faults ≡ []
+    → Runs a (items boxes) b → IsChecked boxes (globals_of b.globals) b.faults
+unfolding Runs
+run_all a b boxes empty none p =
+    let faults = p.2 ∙ ap (λ fs. fs ++ p.0) none in
+    subst (λ fs. Checks [] (items boxes) (globals_of b.globals) fs) (sym faults)
+    (subst (λ g. Checks g (items boxes) (globals_of b.globals) p.0) empty p.1)

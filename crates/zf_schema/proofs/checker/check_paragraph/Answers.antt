@@ -1,0 +1,14 @@
+use Rattle.std.proofs.lemmas.Result.{on_ok_weaker}
+use Rattle.zf_text.specs.Trees.{paragraph_of}
+use Rattle.zf_schema.specs.declared.checker.Checked.{Checked}
+use Rattle.zf_schema.specs.Checking.{a_paragraph}
+use Rattle.zf_schema.proofs.Running.{noted}
+use Rattle.zf_schema.proofs.checker.check_paragraph.Goals as goal
+
+pub returns-clause-runs : goal.returns-clause-runs
+returns-clause-runs c =
+    let after : Checked = record { globals = c.define-defined.new.globals; faults = c.note.new.faults } in
+    let item = a_paragraph (paragraph_of c.args.paragraph.now) in
+    on_ok_weaker c.note.result
+    (noted c.args.checked.now after item c.define-defined.result c.define-defined.ensures.ok c.define-defined.ensures.fault c.define-defined.ensures.kept)
+    c.note.ensures

@@ -1,0 +1,15 @@
+use Rattle.std.proofs.Common.{map}
+use Rattle.std.proofs.lemmas.Result.{on_ok_weaker}
+use Rattle.zf_text.specs.Trees.{decl_of, tree_of}
+use Rattle.zf_schema.specs.declared.checker.Checked.{Checked}
+use Rattle.zf_schema.specs.Checking.{a_box}
+use Rattle.zf_schema.proofs.Running.{noted}
+use Rattle.zf_schema.proofs.checker.check_schema_box.Goals as goal
+
+pub returns-clause-runs : goal.returns-clause-runs
+returns-clause-runs c =
+    let after : Checked = record { globals = c.define_box-defined.new.globals; faults = c.note.new.faults } in
+    let item = a_box c.args.name.now (map decl_of c.args.decls.now) (map tree_of c.args.predicates.now) in
+    on_ok_weaker c.note.result
+    (noted c.args.checked.now after item c.define_box-defined.result c.define_box-defined.ensures.ok c.define_box-defined.ensures.fault c.define_box-defined.ensures.kept)
+    c.note.ensures

@@ -1,0 +1,7 @@
+-- The text has grown by the names so far.
+use Rattle.std.proofs.Common.{◌≡◌, ◌++◌, take}
+use Rattle.zf_schema.specs.Listing.{choices_text}
+use Rattle.zf_schema.proofs.listing.append_choices.Given as goal
+
+abbrev pub invariant-loop-i : goal.invariant-loop-i
+invariant-loop-i l = l.text.items ≡ l.initial.text.items ++ choices_text (take l.i l.names)

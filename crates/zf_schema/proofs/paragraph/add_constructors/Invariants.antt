@@ -1,0 +1,15 @@
+use Rattle.std.proofs.Common.{ℕ, ◌≤◌, List, length, drop}
+use Rattle.zf_type.specs.declared.fault.TypeFaultKind.{TypeFaultKind}
+use Rattle.zf_type.specs.Definitions.{Defined, globals_of}
+use Rattle.zf_type.specs.Scopes.{spelling}
+use Rattle.zf_schema.specs.Checking.{Constructs, OffendsConstructors}
+use Rattle.zf_schema.proofs.Beginning.{Begins}
+use Rattle.zf_schema.proofs.paragraph.add_constructors.Given as goal
+
+abbrev pub invariant-loop-place : goal.invariant-loop-place
+invariant-loop-place l = record {
+  constructs : (h : List Defined) → Constructs (globals_of l.globals) l.number (spelling l.of_type) l.place (drop l.place l.names) h → Constructs (globals_of l.initial.globals) l.number (spelling l.of_type) 0 l.names h;
+  offends : (kind : TypeFaultKind) (line : ℕ) → OffendsConstructors (globals_of l.globals) l.number (spelling l.of_type) l.place (drop l.place l.names) kind line → OffendsConstructors (globals_of l.initial.globals) l.number (spelling l.of_type) 0 l.names kind line;
+  room : length (globals_of l.initial.globals) ≤ length (globals_of l.globals);
+  begun : Begins (globals_of l.initial.globals) (globals_of l.globals);
+}

@@ -1,0 +1,17 @@
+use Rattle.std.proofs.Common.{◌≡◌, ℕ, ◌+◌, ◌<◌, ◌≤◌, ◌^◌, List, length, drop}
+use Rattle.zf_type.specs.declared.fault.TypeFaultKind.{TypeFaultKind}
+use Rattle.zf_type.specs.Definitions.{Defined, globals_of}
+use Rattle.zf_type.specs.Numbers.{next_number}
+use Rattle.zf_schema.specs.Checking.{Gives, OffendsGiven}
+use Rattle.zf_schema.proofs.Beginning.{Begins}
+use Rattle.zf_schema.proofs.paragraph.add_given.Given as goal
+
+abbrev pub invariant-loop-place : goal.invariant-loop-place
+invariant-loop-place l = record {
+  gives : (h : List Defined) → Gives (globals_of l.globals) (drop l.place l.names) h → Gives (globals_of l.initial.globals) l.names h;
+  offends : (kind : TypeFaultKind) (line : ℕ) → OffendsGiven (globals_of l.globals) (drop l.place l.names) kind line → OffendsGiven (globals_of l.initial.globals) l.names kind line;
+  number : next_number (globals_of l.globals) ≡ l.first + l.place;
+  small : l.first < 2 ^ 63;
+  room : length (globals_of l.initial.globals) ≤ length (globals_of l.globals);
+  begun : Begins (globals_of l.initial.globals) (globals_of l.globals);
+}

@@ -1,0 +1,34 @@
+use Rattle.std.proofs.Common.{ℕ, inl, inr, map, refl, rules}
+use Rattle.zf_text.specs.Trees.{tree_of}
+use Rattle.zf_type.specs.declared.fault.TypeFaultKind.{TypeFaultKind}
+use Rattle.zf_type.specs.Definitions.{globals_of, schema_of}
+use Rattle.zf_schema.specs.Expressions.{Constrains}
+use Rattle.zf_schema.specs.SchemaOffences.{OffendsPredicate, OffendsPredicates}
+use Rattle.zf_schema.proofs.Texts.{at_step, at_end, if_fault}
+use Rattle.zf_schema.proofs.text.constrain_all.Goals as goal
+
+pub loop-predicate-preserved : goal.loop-predicate-preserved
+loop-predicate-preserved c =
+    let g = globals_of c.args.globals.now in
+    let a = schema_of c.loop-predicate.growing.flat in
+    let b = schema_of c.constrain.new.growing.flat in
+    record {
+      growing = c.in_ok-constrain.ensures.growing;
+      constrains = λ out r. c.loop-predicate.invariant.constrains out (at_step (λ ds. Constrains g a (map tree_of ds) out) c.args.predicates.now c.loop-predicate.predicate-index c.predicate-item.result c.predicate-item.is c.loop-predicate-test.true (b, c.in_ok-constrain.ensures.ok, r));
+      offends = λ k m o. c.loop-predicate.invariant.offends k m (at_step (λ ds. OffendsPredicates g a (map tree_of ds) k m) c.args.predicates.now c.loop-predicate.predicate-index c.predicate-item.result c.predicate-item.is c.loop-predicate-test.true (inr (b, c.in_ok-constrain.ensures.ok, o)));
+    }
+
+pub returns-in_err-constrain-clause-wrong : goal.returns-in_err-constrain-clause-wrong
+returns-in_err-constrain-clause-wrong c =
+    let g = globals_of c.args.globals.now in
+    let a = schema_of c.loop-predicate.growing.flat in
+    let step : (k : TypeFaultKind) (m : ℕ) → OffendsPredicate g a (tree_of c.predicate-item.result) k m → OffendsPredicates g (schema_of c.args.growing.now.flat) (map tree_of c.args.predicates.now) k m =
+    λ k m o. c.loop-predicate.invariant.offends k m (at_step (λ ds. OffendsPredicates g a (map tree_of ds) k m) c.args.predicates.now c.loop-predicate.predicate-index c.predicate-item.result c.predicate-item.is c.loop-predicate-test.true (inl o)) in
+    let fact = if_fault _ _ _ step c.in_err-constrain.ensures.wrong in
+    search rules
+
+pub returns-clause-ok : goal.returns-clause-ok
+returns-clause-ok c =
+    let g = globals_of c.args.globals.now in
+    let a = schema_of c.loop-predicate.growing.flat in
+    c.loop-predicate.invariant.constrains a (at_end (λ ds. Constrains g a (map tree_of ds) a) c.args.predicates.now c.loop-predicate.predicate-index c.loop-predicate-test.false refl)

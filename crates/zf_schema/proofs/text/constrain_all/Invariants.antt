@@ -1,0 +1,15 @@
+use Rattle.std.proofs.Common.{ℕ, map, drop}
+use Rattle.zf_text.specs.Trees.{tree_of}
+use Rattle.zf_type.specs.declared.fault.TypeFaultKind.{TypeFaultKind}
+use Rattle.zf_type.specs.Definitions.{Schema, globals_of, schema_of}
+use Rattle.zf_schema.specs.Expressions.{Constrains}
+use Rattle.zf_schema.specs.Growth.{IsGrowing}
+use Rattle.zf_schema.specs.SchemaOffences.{OffendsPredicates}
+use Rattle.zf_schema.proofs.text.constrain_all.Given as goal
+
+abbrev pub invariant-loop-predicate : goal.invariant-loop-predicate
+invariant-loop-predicate l = record {
+  growing : IsGrowing l.growing;
+  constrains : (out : Schema) → Constrains (globals_of l.globals) (schema_of l.growing.flat) (map tree_of (drop l.predicate-index l.predicates)) out → Constrains (globals_of l.globals) (schema_of l.initial.growing.flat) (map tree_of l.predicates) out;
+  offends : (k : TypeFaultKind) (m : ℕ) → OffendsPredicates (globals_of l.globals) (schema_of l.growing.flat) (map tree_of (drop l.predicate-index l.predicates)) k m → OffendsPredicates (globals_of l.globals) (schema_of l.initial.growing.flat) (map tree_of l.predicates) k m;
+}

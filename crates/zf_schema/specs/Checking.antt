@@ -1,0 +1,112 @@
+-- What a text defines, and the faults of its paragraphs and boxes.
+use Rattle.std.specs.Prelude.{◌≡◌, ◌⊎◌, ℕ, ◌+◌, List, [], ◌∷◌, ◌++◌, map, flat_map, None}
+use Rattle.zf_text.specs.declared.tree.Name.{Name}
+use Rattle.zf_text.specs.Trees.{Tree, DeclTree, ParagraphTree, given, free, definition, BoxTree, zed, schema_box}
+use Rattle.zf_text.specs.Trees as text
+use Rattle.zf_type.specs.declared.fault.TypeFault.{TypeFault}
+use Rattle.zf_type.specs.declared.fault.TypeFaultKind.{TypeFaultKind}
+use Rattle.zf_type.specs.declared.fault.TypeFaultKind.TheVariants.{AlreadyDefined}
+use Rattle.zf_type.specs.declared.operator.Need.TheVariants as need
+use Rattle.zf_type.specs.Definitions.{Schema, Defined, Definition, given_set, free_type, constructor, abbreviation, schema}
+pub use Rattle.zf_type.specs.Numbers.{has_elements, next_number}
+use Rattle.zf_type.specs.Extents.{extent_of}
+use Rattle.zf_type.specs.Offences.{Offends}
+use Rattle.zf_type.specs.ResolvedTrees.{ResolvedTree}
+use Rattle.zf_type.specs.Resolving.{resolved}
+use Rattle.zf_type.specs.Rules.{typed}
+use Rattle.zf_type.specs.Scopes.{spelling, first_named}
+use Rattle.zf_type.specs.Types.{Ty}
+use Rattle.zf_type.specs.Typing.{IsOf}
+use Rattle.zf_schema.specs.Expressions.{outside, IsText, IsSchema}
+use Rattle.zf_schema.specs.SchemaOffences.{OffendsText, OffendsSchema}
+
+-- a paragraph, or a schema box
+pub data Item : Type 0 where
+  a_paragraph : ParagraphTree → Item
+  a_box : Name → List DeclTree → List Tree → Item
+
+abbrev pub items_in : BoxTree → List Item
+items_in (zed ps) = map a_paragraph ps
+items_in (schema_box n ds ps) = a_box n ds ps ∷ []
+
+abbrev pub items : List BoxTree → List Item
+items = flat_map items_in
+
+-- no global has the name
+abbrev pub IsNew : List Defined → Name → Type 0
+IsNew g n = first_named (λ d. d.name) (spelling n) g ≡ None
+
+-- one more global
+abbrev pub with_global : List Defined → Name → Definition → List Defined
+with_global g n d = g ++ record { name = spelling n; definition = d } ∷ []
+
+-- a term of this type, as what a name is defined as after the globals
+abbrev pub abbreviated : List Defined → Ty → ResolvedTree → Definition
+abbreviated g t r = abbreviation t r (extent_of g r)
+
+-- ---- what each defines
+
+abbrev pub Gives : List Defined → List Name → List Defined → Type 0
+Gives g [] h = h ≡ g
+Gives g (n ∷ ns) h = IsNew g n × Gives (with_global g n (given_set (next_number g))) ns h
+
+-- the constructors of the free type of this number and name, from this place on
+abbrev pub Constructs : List Defined → (number : ℕ) → (of_type : List ℕ) → (place : ℕ) → List Name → List Defined → Type 0
+Constructs g number of_type place [] h = h ≡ g
+Constructs g number of_type place (n ∷ ns) h = IsNew g n × Constructs (with_global g n (constructor number of_type place)) number of_type (place + 1) ns h
+
+abbrev pub DefinesParagraph : List Defined → ParagraphTree → List Defined → Type 0
+DefinesParagraph g (given ns) h = Gives g ns h
+DefinesParagraph g (free n ns) h = IsNew g n × Constructs (with_global g n (free_type (next_number g) (map spelling ns))) (next_number g) (spelling n) 0 ns h
+DefinesParagraph g (text.abbreviation n e) h = IsNew g n × ((t : Ty) × IsOf (outside g) e (typed t) × (h ≡ with_global g n (abbreviated g t (resolved (outside g) e))))
+DefinesParagraph g (definition n x) h = IsNew g n × ((a : Schema) × IsSchema g x a × (h ≡ with_global g n (schema a)))
+
+-- the paragraph or box is well typed after the globals g, and makes the globals h
+abbrev pub Defines : List Defined → Item → List Defined → Type 0
+Defines g (a_paragraph p) h = DefinesParagraph g p h
+Defines g (a_box n ds ps) h = IsNew g n × ((a : Schema) × IsText g ds ps a × (h ≡ with_global g n (schema a)))
+
+-- ---- what is wrong with one that is not well typed
+
+-- the name is that of a global
+abbrev pub IsTaken : List Defined → Name → TypeFaultKind → ℕ → Type 0
+IsTaken g n k m = (k ≡ AlreadyDefined) × (m ≡ n.line) × (IsNew g n → ⊥)
+
+abbrev pub OffendsGiven : List Defined → List Name → TypeFaultKind → ℕ → Type 0
+OffendsGiven g [] k m = ⊥
+OffendsGiven g (n ∷ ns) k m = IsTaken g n k m ⊎ OffendsGiven (with_global g n (given_set (next_number g))) ns k m
+
+abbrev pub OffendsConstructors : List Defined → (number : ℕ) → (of_type : List ℕ) → (place : ℕ) → List Name → TypeFaultKind → ℕ → Type 0
+OffendsConstructors g number of_type place [] k m = ⊥
+OffendsConstructors g number of_type place (n ∷ ns) k m =
+    IsTaken g n k m ⊎ OffendsConstructors (with_global g n (constructor number of_type place)) number of_type (place + 1) ns k m
+
+abbrev pub OffendsParagraph : List Defined → ParagraphTree → TypeFaultKind → ℕ → Type 0
+OffendsParagraph g (given ns) k m = OffendsGiven g ns k m
+OffendsParagraph g (free n ns) k m =
+    IsTaken g n k m ⊎ OffendsConstructors (with_global g n (free_type (next_number g) (map spelling ns))) (next_number g) (spelling n) 0 ns k m
+OffendsParagraph g (text.abbreviation n e) k m = IsTaken g n k m ⊎ Offends (outside g) need.Expression e k m
+OffendsParagraph g (definition n x) k m = IsTaken g n k m ⊎ OffendsSchema g x k m
+
+-- the kind, at the line, is an offence of the paragraph or box after the globals g
+abbrev pub OffendsItem : List Defined → Item → TypeFaultKind → ℕ → Type 0
+OffendsItem g (a_paragraph p) k m = OffendsParagraph g p k m
+OffendsItem g (a_box n ds ps) k m = IsTaken g n k m ⊎ OffendsText g ds ps k m
+
+-- ---- one after another
+
+-- it is well typed and defines what it does, or it is not, defines nothing and has one fault
+abbrev pub ChecksOne : List Defined → Item → List Defined → List TypeFault → Type 0
+ChecksOne g item h faults =
+    (Defines g item h × (faults ≡ []))
+    ⊎ (((other : List Defined) → Defines g item other → ⊥) × (h ≡ g) × ((f : TypeFault) × OffendsItem g item f.kind f.line × (faults ≡ f ∷ [])))
+
+-- what the items define after the globals g, and their faults, in order
+abbrev pub Checks : List Defined → List Item → List Defined → List TypeFault → Type 0
+Checks g [] h faults = (h ≡ g) × (faults ≡ [])
+Checks g (item ∷ rest) h faults =
+    (mid : List Defined) × (first more : List TypeFault) × ChecksOne g item mid first × Checks mid rest h more × (faults ≡ first ++ more)
+
+-- what a text defines, and its faults
+abbrev pub IsChecked : List BoxTree → List Defined → List TypeFault → Type 0
+IsChecked boxes globals faults = Checks [] (items boxes) globals faults

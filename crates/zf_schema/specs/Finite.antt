@@ -1,0 +1,80 @@
+-- Which schemas are finite: whose bindings are among those of finite sets, where each given set is finite.
+use Rattle.std.specs.Prelude.{◌≡◌, ◌↔◌, IsTrue, ℕ, Bool, true, false, not, ◌&&◌, ◌||◌, if◌then◌else◌, List, [], ◌∷◌, ◌++◌, flat_map, Option, Some, None}
+use Rattle.std.specs.List.{AllByRecursion}
+use Rattle.zf_type.specs.declared.extent.Infinite.{Infinite}
+use Rattle.zf_type.specs.Definitions.{Comp, Schema, DeclaredSet, plain, carrier, sides, DeclaredSets, no_sets, set, sets_of, Defined}
+use Rattle.zf_type.specs.Extents.{direct, offending, offending_within}
+use Rattle.zf_type.specs.Shapes.{line_of}
+use Rattle.zf_type.specs.Types.{has_numbers}
+
+-- ---- what bounds a component
+
+abbrev pub is_none : Option Infinite → Bool
+is_none None = true
+is_none (Some s) = false
+
+-- a declared set bounds, unless it is infinite; a disjunction needs a bound on both sides
+abbrev mutual
+  pub bounds : List Defined → DeclaredSet → Bool
+  bounds g (plain t) = is_none (direct g t)
+  bounds g (carrier t) = not (has_numbers t)
+  bounds g (sides left right) = one_bounds g left && one_bounds g right
+
+  pub one_bounds : List Defined → DeclaredSets → Bool
+  one_bounds g no_sets = false
+  one_bounds g (set d ds) = bounds g d || one_bounds g ds
+
+abbrev pub first_or : List ℕ → ℕ → ℕ
+first_or [] other = other
+first_or (l ∷ ls) other = l
+
+-- the lines of the sets of declarations, from left to right
+abbrev mutual
+  pub plain_lines : DeclaredSet → List ℕ
+  plain_lines (plain t) = line_of t ∷ []
+  plain_lines (carrier t) = []
+  plain_lines (sides left right) = all_plain_lines left ++ all_plain_lines right
+
+  pub all_plain_lines : DeclaredSets → List ℕ
+  all_plain_lines no_sets = []
+  all_plain_lines (set d ds) = plain_lines d ++ all_plain_lines ds
+
+-- the line of the first of them; a component of a schema has one
+abbrev pub first_plain : DeclaredSets → ℕ
+first_plain ds = first_or (all_plain_lines ds) 0
+
+-- that line, where nothing bounds
+abbrev pub unbounded : List Defined → DeclaredSets → List ℕ
+unbounded g ds = if one_bounds g ds then [] else first_plain ds ∷ []
+
+-- ---- the names in it that offend
+
+-- a declared set that is infinite as a whole does not offend: it filters
+abbrev mutual
+  pub set_lines : List Defined → DeclaredSet → List ℕ
+  set_lines g (plain t) = offending_within g t
+  set_lines g (carrier t) = []
+  set_lines g (sides left right) = all_set_lines g left ++ all_set_lines g right
+
+  pub all_set_lines : List Defined → DeclaredSets → List ℕ
+  all_set_lines g no_sets = []
+  all_set_lines g (set d ds) = set_lines g d ++ all_set_lines g ds
+
+-- ---- schemas
+
+abbrev pub comp_lines : List Defined → Comp → List ℕ
+comp_lines g c = unbounded g (sets_of c.sets) ++ all_set_lines g (sets_of c.sets)
+
+-- the lines of what makes a schema infinite: of its components with their declared sets, and then of its conjuncts
+abbrev pub infinite_lines : List Defined → Schema → List ℕ
+infinite_lines g a = flat_map (comp_lines g) a.comps ++ flat_map (offending g) a.conjuncts
+
+-- each component has a declared set that bounds it, and no name offends
+pub record IsFinite (g : List Defined) (a : Schema) : Type 0 where
+  pub bounded : AllByRecursion (λ c. IsTrue (one_bounds g (sets_of c.sets))) a.comps
+  pub sets : AllByRecursion (λ c. all_set_lines g (sets_of c.sets) ≡ []) a.comps
+  pub conjuncts : AllByRecursion (λ t. offending g t ≡ []) a.conjuncts
+
+-- a schema is finite exactly where nothing makes it infinite
+abbrev pub FiniteWithoutLines : Type 0
+FiniteWithoutLines = (g : List Defined) (a : Schema) → IsFinite g a ↔ (infinite_lines g a ≡ [])

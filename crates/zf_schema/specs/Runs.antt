@@ -1,0 +1,30 @@
+-- How far a check of a text has come, for private contracts alone.
+use Rattle.std.specs.Prelude.{◌≡◌, ℕ, length, List, [], ◌∷◌, ◌++◌, Result, Ok, Err}
+use Rattle.zf_text.specs.Trees.{ParagraphTree, given, free, abbreviation, definition}
+use Rattle.zf_type.specs.declared.fault.Refusal.{Refusal}
+use Rattle.zf_type.specs.declared.fault.Refusal.TheVariants.{Fault, OutOfMemory}
+use Rattle.zf_type.specs.declared.fault.TypeFault.{TypeFault}
+use Rattle.zf_type.specs.Definitions.{globals_of}
+use Rattle.zf_schema.specs.declared.checker.Checked.{Checked}
+use Rattle.zf_schema.specs.Checking.{Item, ChecksOne, Checks}
+
+-- the fault, if there is one, is put behind those that were there
+abbrev pub Notes : {A : Type 0} → Result A Refusal → List TypeFault → List TypeFault → Type 0
+Notes (Ok a) es fs = fs ≡ es
+Notes (Err (Fault f)) es fs = fs ≡ es ++ f ∷ []
+Notes (Err OutOfMemory) es fs = ⊥
+
+-- how many given sets and free types a paragraph defines
+abbrev pub elements : ParagraphTree → ℕ
+elements (given ns) = length ns
+elements (free n ns) = 1
+elements (abbreviation n e) = 0
+elements (definition n x) = 0
+
+-- one more item is checked
+unfoldable pub RunsOne : Checked → Item → Checked → Type 0
+RunsOne a item b = (more : List TypeFault) × ChecksOne (globals_of a.globals) item (globals_of b.globals) more × (b.faults ≡ a.faults ++ more)
+
+-- more items are
+unfoldable pub Runs : Checked → List Item → Checked → Type 0
+Runs a items b = (more : List TypeFault) × Checks (globals_of a.globals) items (globals_of b.globals) more × (b.faults ≡ a.faults ++ more)

@@ -1,0 +1,119 @@
+//! The checker: what a text defines, and what is wrong with it.
+ghost use Rattle.std.specs.Prelude.{◌≡◌, [], map, IfOk, OnOk};
+ghost use Rattle.zf_text.specs.Trees.{boxes_of, box_of, paragraph_of, decl_of, tree_of};
+ghost use Rattle.zf_type.specs.Definitions.{globals_of};
+ghost use Rattle.zf_type.specs.Numbers.{next_number};
+ghost use Rattle.zf_schema.specs.Checking.{a_paragraph, a_box, items_in, IsChecked};
+ghost use Rattle.zf_schema.specs.Runs.{Notes, Runs, RunsOne};
+
+use crate::paragraph::{define, define_box};
+use std::alloc::{AllocError, Global};
+use zf_data::Items;
+use zf_text::tree::{Decl, Name, Paragraph, Spec, Term, ZBox};
+use zf_type::fault::{Refusal, TypeFault};
+use zf_type::globals::Globals;
+
+/// What a text defines, and its faults in order.
+#[derive(Drop)]
+pub struct Checked {
+    pub globals: Globals,
+    pub faults: Items<TypeFault>,
+}
+
+/// Checks a text. Each paragraph or box that is not well typed has one fault, and defines nothing.
+pub fn check_spec(alloc: Global, spec: &Spec) -> Result<Checked, AllocError>
+    ensures { IfOk result (λ c. IsChecked (boxes_of spec.now) (globals_of c.globals) c.faults) }
+{
+    let mut checked = Checked {
+        globals: Globals::new(alloc),
+        faults: Items::new(alloc),
+    };
+    let mut next = 0;
+    for each in spec.boxes.as_slice() {
+        check_box(alloc, &mut checked, &mut next, each)?;
+    }
+    Ok(checked)
+}
+
+/// Checks a box. As all that follow it keeps the number of the next given set or free type.
+fn check_box(
+    alloc: Global,
+    checked: &mut Checked,
+    next: &mut usize,
+    each: &ZBox,
+) -> Result<(), AllocError>
+    requires { next.old ≡ next_number (globals_of checked.old.globals) }
+    ensures runs { OnOk result (Runs checked.old (items_in (box_of each.now)) checked.new) }
+    ensures numbered { next.new ≡ next_number (globals_of checked.new.globals) }
+{
+    match each {
+        ZBox::Zed(paragraphs) => check_paragraphs(alloc, checked, next, paragraphs.as_slice()),
+        ZBox::SchemaBox(name, decls, predicates) => {
+            check_schema_box(
+                alloc,
+                checked,
+                next,
+                name,
+                decls.as_slice(),
+                predicates.as_slice(),
+            )
+        }
+    }
+}
+
+fn check_paragraphs(
+    alloc: Global,
+    checked: &mut Checked,
+    next: &mut usize,
+    paragraphs: &[Paragraph],
+) -> Result<(), AllocError>
+    requires { next.old ≡ next_number (globals_of checked.old.globals) }
+    ensures runs { OnOk result (Runs checked.old (map a_paragraph (map paragraph_of paragraphs.now)) checked.new) }
+    ensures numbered { next.new ≡ next_number (globals_of checked.new.globals) }
+{
+    for paragraph in paragraphs {
+        check_paragraph(alloc, checked, next, paragraph)?;
+    }
+    Ok(())
+}
+
+fn check_paragraph(
+    alloc: Global,
+    checked: &mut Checked,
+    next: &mut usize,
+    paragraph: &Paragraph,
+) -> Result<(), AllocError>
+    requires { next.old ≡ next_number (globals_of checked.old.globals) }
+    ensures runs { OnOk result (RunsOne checked.old (a_paragraph (paragraph_of paragraph.now)) checked.new) }
+    ensures numbered { next.new ≡ next_number (globals_of checked.new.globals) }
+{
+    let defined = define(alloc, &mut checked.globals, next, paragraph);
+    note(&mut checked.faults, defined)
+}
+
+fn check_schema_box(
+    alloc: Global,
+    checked: &mut Checked,
+    next: &mut usize,
+    name: &Name,
+    decls: &[Decl],
+    predicates: &[Term],
+) -> Result<(), AllocError>
+    requires { next.old ≡ next_number (globals_of checked.old.globals) }
+    ensures runs { OnOk result (RunsOne checked.old (a_box name.now (map decl_of decls.now) (map tree_of predicates.now)) checked.new) }
+    ensures numbered { next.new ≡ next_number (globals_of checked.new.globals) }
+{
+    let defined = define_box(alloc, &mut checked.globals, name, decls, predicates);
+    note(&mut checked.faults, defined)
+}
+
+/// Puts the fault, if there is one, behind the others.
+fn note(faults: &mut Items<TypeFault>, defined: Result<(), Refusal>) -> Result<(), AllocError>
+    ensures { OnOk result (Notes defined faults.old faults.new) }
+{
+    match defined {
+        Ok(()) => Ok(()),
+        Err(Refusal::Fault(fault)) => faults.push(fault),
+        Err(Refusal::OutOfMemory) => Err(AllocError),
+    }
+}

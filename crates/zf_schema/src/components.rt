@@ -1,0 +1,139 @@
+//! Components of a schema: which has a name, which agree, and one more.
+ghost use Rattle.std.specs.Prelude.{◌≡◌, ◌++◌, ◌∷◌, [], ◌<◌, ◌≤◌, ◌↔◌, IsTrue, IfErr, IfOk, OnOk, MatchOption, Some, None, map, length, slice_index_or, slice_set};
+ghost use Rattle.zf_type.specs.declared.globals.Component.{Component};
+ghost use Rattle.zf_type.specs.declared.fault.TypeFaultKind.TheVariants as kinds;
+ghost use Rattle.zf_type.specs.Definitions.{Comp, comp_of};
+ghost use Rattle.zf_type.specs.Shapes.{place_in};
+ghost use Rattle.zf_schema.specs.Calculus as spec;
+ghost use Rattle.zf_schema.specs.Calculus.{Agrees, Agree, comp_named, new_place, with_comp};
+ghost use Rattle.zf_schema.specs.Growth.{IfStopped, enriched};
+
+use crate::limits::COMPONENTS_MAX;
+use crate::stop::Stop;
+use std::alloc::{AllocError, Global};
+use zf_data::Items;
+use zf_type::globals::{Component, Domain};
+use zf_type::scope::component_of;
+
+/// Whether none of the others has another type than the component that has its name.
+pub fn agree(components: &[Component], others: &[Component]) -> bool
+    ensures { IsTrue result ↔ Agree (map comp_of components.now) (map comp_of others.now) }
+{
+    for other in others {
+        if !agrees(components, other) {
+            return false;
+        }
+    }
+    true
+}
+
+/// Whether the component has the type of the one that has its name, if one has.
+pub fn agrees(components: &[Component], component: &Component) -> bool
+    ensures { IsTrue result ↔ Agrees (map comp_of components.now) (comp_of component.now) }
+{
+    match component_of(components, component.name.as_slice()) {
+        Some((_, known)) => known.ztype.same(&component.ztype),
+        None => true,
+    }
+}
+
+/// Adds a component, if there is room; one of its name gains its declared sets.
+pub fn join(components: &mut Items<Component>, component: Component) -> Result<(), Stop>
+    requires { length (map comp_of components.old) ≤ 64 }
+    ensures ok { OnOk result (map comp_of components.new ≡ with_comp (map comp_of components.old) (comp_of component)) }
+    ensures room { OnOk result (length (with_comp (map comp_of components.old) (comp_of component)) ≤ 64) }
+    ensures err { IfErr result (λ e. IfStopped e (λ kind. (kind ≡ kinds.TooLarge) × (length (with_comp (map comp_of components.old) (comp_of component)) ≤ 64 → ⊥))) }
+{
+    match place_of(components.as_slice(), component.name.as_slice()) {
+        Some(place) => Ok(gain(components, place, component.domains)?),
+        None => add_new(components, component),
+    }
+}
+
+/// Adds a component of a new name, if there is room.
+fn add_new(components: &mut Items<Component>, component: Component) -> Result<(), Stop>
+    ensures ok { OnOk result (components.new ≡ components.old ++ component ∷ []) }
+    ensures room { OnOk result (length components.old < 64) }
+    ensures err { IfErr result (λ e. IfStopped e (λ kind. (kind ≡ kinds.TooLarge) × (64 ≤ length components.old))) }
+{
+    if components.len() >= COMPONENTS_MAX {
+        return Err(Stop::TooLarge);
+    }
+    components.push(component)?;
+    Ok(())
+}
+
+/// The component at the place gains declared sets.
+fn gain(
+    components: &mut Items<Component>,
+    place: usize,
+    domains: Items<Domain>,
+) -> Result<(), AllocError>
+    requires { place < length components.old }
+    ensures { OnOk result ((c : Component) → slice_index_or components.old place c ≡ c → components.new ≡ slice_set components.old place (enriched c domains)) }
+{
+    enrich(&mut components.items[place], domains)
+}
+
+/// The component gains declared sets.
+fn enrich(component: &mut Component, domains: Items<Domain>) -> Result<(), AllocError>
+    ensures { OnOk result (component.new ≡ enriched component.old domains) }
+{
+    append(&mut component.domains, domains)
+}
+
+fn append(domains: &mut Items<Domain>, mut further: Items<Domain>) -> Result<(), AllocError>
+    ensures { OnOk result (domains.new ≡ domains.old ++ further) }
+{
+    domains.items.append(&mut further.items)
+}
+
+/// Copies of the components.
+pub fn component_copies(
+    alloc: Global,
+    components: &[Component],
+) -> Result<Items<Component>, AllocError>
+    ensures { IfOk result (λ cs. cs ≡ components.now) }
+{
+    let mut made = Items::new(alloc);
+    for component in components {
+        made.push(component.copy(alloc)?)?;
+    }
+    Ok(made)
+}
+
+/// Where the components of the one list are in the other, by their names; one that is not there keeps its place.
+pub fn new_places(
+    alloc: Global,
+    components: &[Component],
+    among: &[Component],
+) -> Result<Vec<usize>, AllocError>
+    ensures places { IfOk result (λ places. place_in places.items ≡ new_place (map comp_of components.now) (map comp_of among.now)) }
+    ensures each { IfOk result (λ places. length places.items ≡ length (map comp_of components.now)) }
+{
+    let mut places = Vec::new(alloc);
+    for (place, component) in components.iter().enumerate() {
+        places.push(place_or(among, component.name.as_slice(), place))?;
+    }
+    Ok(places)
+}
+
+/// The place of the component of the name, or this one where there is none.
+fn place_or(components: &[Component], name: &[u8], otherwise: usize) -> usize
+    ensures { result ≡ spec.place_or (comp_named name.now (map comp_of components.now)) otherwise }
+{
+    match component_of(components, name) {
+        Some((place, _)) => place,
+        None => otherwise,
+    }
+}
+
+/// The place of the component of the name.
+fn place_of(components: &[Component], name: &[u8]) -> Option<usize>
+    ensures { MatchOption result (comp_named name.now (map comp_of components.now) ≡ None) (λ place. (c : Comp) × (comp_named name.now (map comp_of components.now) ≡ Some (place, c))) }
+{
+    match component_of(components, name) {
+        Some((place, _)) => Some(place),
+        None => None,
+    }
+}

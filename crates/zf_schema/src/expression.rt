@@ -1,0 +1,149 @@
+//! The schemas that schema expressions are.
+ghost use Rattle.std.specs.Prelude.{◌≡◌, IfErr, IfOk, map};
+ghost use Rattle.zf_text.specs.Trees as tree;
+ghost use Rattle.zf_text.specs.Trees.{decl_of};
+ghost use Rattle.zf_type.specs.Definitions.{globals_of, schema_of};
+ghost use Rattle.zf_type.specs.Refusals.{IfFault};
+ghost use Rattle.zf_schema.specs.Calculus.{Agree, conjoined, disjoined};
+ghost use Rattle.zf_schema.specs.Expressions.{IsNext, IsSchema, Refers};
+ghost use Rattle.zf_schema.specs.Growth.{CantConjoin, IsGrowing};
+ghost use Rattle.zf_schema.specs.SchemaOffences as spec;
+ghost use Rattle.zf_schema.specs.SchemaOffences.{OffendsRef, OffendsSchema, StopsEither};
+
+use crate::disjunction::disjoin;
+use crate::growing::Growing;
+use crate::reference::refer;
+use crate::stop::Stop;
+use crate::text::growing_text;
+use std::alloc::Global;
+use zf_text::tree::{Decl, Name, SchemaExp, SchemaRef};
+use zf_type::fault::Refusal;
+use zf_type::globals::{Flat, Globals};
+
+/// The schema that the expression is.
+pub fn schema_of_expression(
+    exp: &SchemaExp,
+    alloc: Global,
+    globals: &Globals,
+) -> Result<Flat, Refusal>
+    ensures ok { IfOk result (λ f. IsSchema (globals_of globals.now) (tree.schema_of exp.now) (schema_of f)) }
+    ensures wrong { IfErr result (λ e. IfFault e (OffendsSchema (globals_of globals.now) (tree.schema_of exp.now))) }
+{
+    Ok(growing_schema(exp, alloc, globals)?.flat)
+}
+
+/// The same schema, with what is left of the limits.
+#[tactic(auto, using(zf_text::proofs::SchemaSeen::seen))]
+fn growing_schema(exp: &SchemaExp, alloc: Global, globals: &Globals) -> Result<Growing, Refusal>
+    ensures ok { IfOk result (λ g. IsSchema (globals_of globals.now) (tree.schema_of exp.now) (schema_of g.flat)) }
+    ensures growing { IfOk result (λ g. IsGrowing g) }
+    ensures wrong { IfErr result (λ e. IfFault e (OffendsSchema (globals_of globals.now) (tree.schema_of exp.now))) }
+{
+    match exp {
+        SchemaExp::Text(decls, predicates) => growing_text(
+            alloc,
+            globals,
+            decls.as_slice(),
+            predicates.as_slice(),
+        ),
+        SchemaExp::Ref(reference) => referred(alloc, globals, reference),
+        SchemaExp::Both(left, right) => {
+            let of_left = growing_schema(left.get(), alloc, globals)?;
+            let of_right = growing_schema(right.get(), alloc, globals)?;
+            conjunction(alloc, name_line(right.get()), of_left, &of_right.flat)
+        }
+        SchemaExp::Or(line, left, right) => {
+            let of_left = growing_schema(left.get(), alloc, globals)?;
+            let of_right = growing_schema(right.get(), alloc, globals)?;
+            disjunction(
+                alloc,
+                *line,
+                name_line(right.get()),
+                &of_left.flat,
+                &of_right.flat,
+            )
+        }
+        SchemaExp::Bracket(inner) => growing_schema(inner.get(), alloc, globals),
+    }
+}
+
+/// The schema that is referred to.
+fn referred(alloc: Global, globals: &Globals, reference: &SchemaRef) -> Result<Growing, Refusal>
+    ensures ok { IfOk result (λ g. Refers (globals_of globals.now) reference.now (schema_of g.flat)) }
+    ensures growing { IfOk result (λ g. IsGrowing g) }
+    ensures wrong { IfErr result (λ e. IfFault e (OffendsRef (globals_of globals.now) reference.now)) }
+{
+    let flat = refer(alloc, globals, reference)?;
+    let Some(growing) = Growing::of(flat) else {
+        unreachable!();
+    };
+    Ok(growing)
+}
+
+/// The conjunction of two schemas, where the first name of the right one stands at this line.
+fn conjunction(alloc: Global, line: u32, left: Growing, right: &Flat) -> Result<Growing, Refusal>
+    requires { IsGrowing left }
+    ensures agree { IfOk result (λ g. Agree (schema_of left.flat).comps (schema_of right.now).comps) }
+    ensures ok { IfOk result (λ g. IsNext (conjoined (schema_of left.flat) (schema_of right.now)) (schema_of g.flat)) }
+    ensures growing { IfOk result (λ g. IsGrowing g) }
+    ensures wrong { IfErr result (λ e. IfFault e (CantConjoin line (schema_of left.flat) (schema_of right.now))) }
+{
+    let mut whole = left;
+    match whole.include(alloc, right) {
+        Ok(()) => Ok(whole),
+        Err(stop) => Err(stop.refusal(line)),
+    }
+}
+
+/// The disjunction of two schemas that begins at this line, where the first name of the right one stands at that.
+fn disjunction(
+    alloc: Global,
+    line: u32,
+    name: u32,
+    left: &Flat,
+    right: &Flat,
+) -> Result<Growing, Refusal>
+    ensures agree { IfOk result (λ g. Agree (schema_of left.now).comps (schema_of right.now).comps) }
+    ensures ok { IfOk result (λ g. IsNext (disjoined line (schema_of left.now) (schema_of right.now)) (schema_of g.flat)) }
+    ensures growing { IfOk result (λ g. IsGrowing g) }
+    ensures wrong { IfErr result (λ e. IfFault e (StopsEither (Agree (schema_of left.now).comps (schema_of right.now).comps) (disjoined line (schema_of left.now) (schema_of right.now)) line name)) }
+{
+    match disjoin(alloc, line, left, right) {
+        Ok(growing) => Ok(growing),
+        Err(Stop::Clash) => Err(Stop::Clash.refusal(name)),
+        Err(stop) => Err(stop.refusal(line)),
+    }
+}
+
+/// The line of the first name.
+#[tactic(auto, using(zf_text::proofs::SchemaSeen::seen))]
+fn name_line(exp: &SchemaExp) -> u32
+    ensures { result ≡ spec.name_line (tree.schema_of exp.now) }
+{
+    match exp {
+        SchemaExp::Text(decls, _) => decls_line(decls.as_slice()),
+        SchemaExp::Ref(reference) => reference.name.line,
+        SchemaExp::Both(left, _) => name_line(left.get()),
+        SchemaExp::Or(_, left, _) => name_line(left.get()),
+        SchemaExp::Bracket(inner) => name_line(inner.get()),
+    }
+}
+
+fn decls_line(decls: &[Decl]) -> u32
+    ensures { result ≡ spec.decls_line (map decl_of decls.now) }
+{
+    match decls {
+        [] => 0,
+        [Decl::Vars(names, _), ..] => names_line(names.as_slice()),
+        [Decl::Include(reference), ..] => reference.name.line,
+    }
+}
+
+fn names_line(names: &[Name]) -> u32
+    ensures { result ≡ spec.names_line names.now }
+{
+    match names {
+        [] => 0,
+        [name, ..] => name.line,
+    }
+}

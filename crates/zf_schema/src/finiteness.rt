@@ -1,0 +1,167 @@
+//! Which schemas are finite.
+ghost use Rattle.std.specs.Prelude.{◌≡◌, OnOk, IfErr, Some, flat_map, map};
+ghost use Rattle.zf_type.specs.Definitions.{comp_of, globals_of, schema_of, set_of, sets_of};
+ghost use Rattle.zf_type.specs.Extents.{first};
+ghost use Rattle.zf_type.specs.Extents as extents;
+ghost use Rattle.zf_type.specs.ResolvedTrees.{resolved_of};
+ghost use Rattle.zf_type.specs.Scopes.{or_else};
+ghost use Rattle.zf_schema.specs.Finite as spec;
+ghost use Rattle.zf_schema.specs.Finite.{IsFinite};
+
+use thiserror::Error;
+use zf_data::Items;
+use zf_type::globals::{Component, Domain, Flat, Globals};
+use zf_type::infinite::{direct, offending_after, offending_within_after};
+use zf_type::resolved::Resolved;
+
+/// Why a schema has no events: the line of the first infinite set that would be searched.
+#[derive(Clone, Copy, Debug, PartialEq, Eq, Error)]
+#[error("not finite")]
+pub struct NotFinite {
+    pub line: u32,
+}
+
+/// Whether the schema is finite, after the globals that it is made of.
+pub fn finite(schema: &Flat, globals: &Globals) -> Result<(), NotFinite>
+    ensures ok { OnOk result (IsFinite (globals_of globals.now) (schema_of schema.now)) }
+    ensures err { IfErr result (λ e. first (spec.infinite_lines (globals_of globals.now) (schema_of schema.now)) ≡ Some e.line) }
+{
+    let line = components_line(schema.components.as_slice(), globals);
+    match conjuncts_after(schema.conjuncts.as_slice(), line, globals) {
+        Some(line) => Err(NotFinite { line }),
+        None => Ok(()),
+    }
+}
+
+/// The line of the first name in the components that offends, or of the first that nothing bounds.
+fn components_line(components: &[Component], globals: &Globals) -> Option<u32>
+    ensures { result ≡ first (flat_map (spec.comp_lines (globals_of globals.now)) (map comp_of components.now)) }
+{
+    let mut line = None;
+    for component in components {
+        line = component_after(component, line, globals);
+    }
+    line
+}
+
+/// As for all that follow: the line that was found before, or else that of the first in this.
+#[tactic(auto, using(crate::proofs::FirstOffences::both_after))]
+fn component_after(component: &Component, found: Option<u32>, globals: &Globals) -> Option<u32>
+    ensures { result ≡ or_else found (first (spec.comp_lines (globals_of globals.now) (comp_of component.now))) }
+{
+    let line = unbounded_after(&component.domains, found, globals);
+    all_names_after(&component.domains, line, globals)
+}
+
+fn conjuncts_after(conjuncts: &[Resolved], found: Option<u32>, globals: &Globals) -> Option<u32>
+    ensures { result ≡ or_else found (first (flat_map (extents.offending (globals_of globals.now)) (map resolved_of conjuncts.now))) }
+{
+    let mut line = found;
+    for conjunct in conjuncts {
+        line = offending_after(conjunct, line, globals);
+    }
+    line
+}
+
+/// The line of the first set of a declaration, if nothing bounds the component.
+fn unbounded_after(domains: &Items<Domain>, found: Option<u32>, globals: &Globals) -> Option<u32>
+    ensures { result ≡ or_else found (first (spec.unbounded (globals_of globals.now) (sets_of (map set_of domains.now)))) }
+{
+    if one_bounds(domains, globals) {
+        return found;
+    }
+    or_line(found, first_plain(domains))
+}
+
+/// Whether the declared set bounds a component.
+#[cycle(bounds)]
+#[tactic(auto, using(zf_type::proofs::SetsSeen::seen))]
+fn bounds(domain: &Domain, globals: &Globals) -> bool
+    ensures { result ≡ spec.bounds (globals_of globals.now) (set_of domain.now) }
+{
+    match domain {
+        Domain::Plain(set) => direct(set, globals).is_none(),
+        Domain::Carrier(ztype) => !ztype.has_numbers(),
+        Domain::Either(left, right) => one_bounds(left, globals) && one_bounds(right, globals),
+    }
+}
+
+#[cycle(bounds)]
+fn one_bounds(domains: &Items<Domain>, globals: &Globals) -> bool
+    ensures { result ≡ spec.one_bounds (globals_of globals.now) (sets_of (map set_of domains.now)) }
+{
+    for domain in domains.as_slice() {
+        if bounds(domain, globals) {
+            return true;
+        }
+    }
+    false
+}
+
+/// The line of the first set of a declaration.
+fn first_plain(domains: &Items<Domain>) -> u32
+    ensures { result ≡ spec.first_plain (sets_of (map set_of domains.now)) }
+{
+    match all_plain_after(domains, None) {
+        Some(line) => line,
+        None => 0,
+    }
+}
+
+#[cycle(plain)]
+#[tactic(auto, using(zf_type::proofs::SetsSeen::seen, crate::proofs::FirstOffences::both_after))]
+fn plain_after(domain: &Domain, found: Option<u32>) -> Option<u32>
+    ensures { result ≡ or_else found (first (spec.plain_lines (set_of domain.now))) }
+{
+    match domain {
+        Domain::Plain(set) => or_line(found, set.line()),
+        Domain::Carrier(_) => found,
+        Domain::Either(left, right) => all_plain_after(right, all_plain_after(left, found)),
+    }
+}
+
+fn or_line(found: Option<u32>, line: u32) -> Option<u32>
+    ensures { result ≡ or_else found (Some line) }
+{
+    match found {
+        Some(line) => Some(line),
+        None => Some(line),
+    }
+}
+
+#[cycle(plain)]
+fn all_plain_after(domains: &Items<Domain>, found: Option<u32>) -> Option<u32>
+    ensures { result ≡ or_else found (first (spec.all_plain_lines (sets_of (map set_of domains.now)))) }
+{
+    let mut line = found;
+    for domain in domains.as_slice() {
+        line = plain_after(domain, line);
+    }
+    line
+}
+
+/// The line of the first name in the declared set that offends.
+#[cycle(names)]
+#[tactic(auto, using(zf_type::proofs::SetsSeen::seen, crate::proofs::FirstOffences::both_after))]
+fn names_after(domain: &Domain, found: Option<u32>, globals: &Globals) -> Option<u32>
+    ensures { result ≡ or_else found (first (spec.set_lines (globals_of globals.now) (set_of domain.now))) }
+{
+    match domain {
+        Domain::Plain(set) => offending_within_after(set, found, globals),
+        Domain::Carrier(_) => found,
+        Domain::Either(left, right) => {
+            all_names_after(right, all_names_after(left, found, globals), globals)
+        }
+    }
+}
+
+#[cycle(names)]
+fn all_names_after(domains: &Items<Domain>, found: Option<u32>, globals: &Globals) -> Option<u32>
+    ensures { result ≡ or_else found (first (spec.all_set_lines (globals_of globals.now) (sets_of (map set_of domains.now)))) }
+{
+    let mut line = found;
+    for domain in domains.as_slice() {
+        line = names_after(domain, line, globals);
+    }
+    line
+}

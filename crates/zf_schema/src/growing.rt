@@ -1,0 +1,223 @@
+//! Schemas that grow within the limits.
+ghost use Rattle.std.specs.Prelude.{◌≡◌, ◌∷◌, [], IfErr, IfOk, MatchOption, OnOk, length, map};
+ghost use Rattle.zf_type.specs.Definitions.{comp_of, schema_of};
+ghost use Rattle.zf_type.specs.ResolvedTrees.{resolved_of};
+ghost use Rattle.zf_type.specs.Shapes.{moved, place_in};
+ghost use Rattle.zf_schema.specs.Calculus.{Agree, Agrees, conjoined, new_place, nothing};
+ghost use Rattle.zf_schema.specs.Expressions.{Adds, Includes, IsNext};
+ghost use Rattle.zf_schema.specs.Growth.{IsGrowing, IfStopped, IsTooLarge, all_grown, constrained, equalities, equality, grown};
+ghost use Rattle.zf_schema.specs.Limits.{IsWithin};
+ghost use Rattle.zf_schema.specs.SchemaOffences.{Stops};
+
+use crate::components::{agree, agrees, join, new_places};
+use crate::limits::{COMPONENTS_MAX, CONJUNCTS_MAX, HEIGHT_MAX, NODES_MAX, SETS_MAX};
+use crate::room::{after_all_nodes, after_all_sets, after_nodes, after_sets, after_terms, are_low};
+use crate::stop::Stop;
+use std::alloc::{AllocError, Global};
+use zf_data::{Boxed, Items};
+use zf_text::token::Relation;
+use zf_type::globals::{Component, Flat};
+use zf_type::resolved::{Reference, Resolved, ResolvedLink};
+
+/// A schema, with what is left of the limits, so that each step costs only what it adds.
+#[derive(Debug, Drop)]
+pub struct Growing {
+    pub flat: Flat,
+    pub sets_left: usize,
+    pub nodes_left: usize,
+}
+
+impl Growing {
+    /// The schema of no declarations.
+    pub fn new(alloc: Global) -> Growing
+        ensures schema { schema_of result.flat ≡ nothing }
+        ensures growing { IsGrowing result }
+    {
+        Growing {
+            flat: Flat {
+                components: Items::new(alloc),
+                conjuncts: Items::new(alloc),
+            },
+            sets_left: SETS_MAX,
+            nodes_left: NODES_MAX,
+        }
+    }
+
+    /// A schema that was made elsewhere, if it is within the limits.
+    pub fn of(flat: Flat) -> Option<Growing>
+        ensures { MatchOption result (IsWithin (schema_of flat) → ⊥) (λ g. (schema_of g.flat ≡ schema_of flat) × IsGrowing g) }
+    {
+        if flat.components.len() > COMPONENTS_MAX {
+            return None;
+        }
+        if flat.conjuncts.len() > CONJUNCTS_MAX {
+            return None;
+        }
+        if !are_low(flat.conjuncts.as_slice()) {
+            return None;
+        }
+        let sets_left = after_all_sets(flat.components.as_slice(), SETS_MAX)?;
+        let behind_sets = after_all_nodes(flat.components.as_slice(), NODES_MAX)?;
+        let nodes_left = after_terms(flat.conjuncts.as_slice(), behind_sets)?;
+        Some(Growing {
+            flat,
+            sets_left,
+            nodes_left,
+        })
+    }
+
+    /// One more component.
+    pub fn add(&mut self, component: Component) -> Result<(), Stop>
+        requires { IsGrowing self.old }
+        ensures ok { OnOk result (Adds (schema_of self.old.flat) (comp_of component) (schema_of self.new.flat)) }
+        ensures growing { OnOk result (IsGrowing self.new) }
+        ensures err { IfErr result (λ e. IfStopped e (Stops (Agrees (schema_of self.old.flat).comps (comp_of component)) (grown (schema_of self.old.flat) (comp_of component)))) }
+    {
+        if !agrees(self.flat.components.as_slice(), &component) {
+            return Err(Stop::Clash);
+        }
+        self.grow(component)
+    }
+
+    /// One more component, whatever type one of its name has.
+    pub fn grow(&mut self, component: Component) -> Result<(), Stop>
+        requires { IsGrowing self.old }
+        ensures ok { OnOk result (IsNext (grown (schema_of self.old.flat) (comp_of component)) (schema_of self.new.flat)) }
+        ensures growing { OnOk result (IsGrowing self.new) }
+        ensures err { IfErr result (λ e. IfStopped e (IsTooLarge (grown (schema_of self.old.flat) (comp_of component)))) }
+    {
+        let Some(sets_left) = after_sets(component.domains.as_slice(), self.sets_left) else {
+            return Err(Stop::TooLarge);
+        };
+        let Some(nodes_left) = after_nodes(component.domains.as_slice(), self.nodes_left) else {
+            return Err(Stop::TooLarge);
+        };
+        join(&mut self.flat.components, component)?;
+        self.sets_left = sets_left;
+        self.nodes_left = nodes_left;
+        Ok(())
+    }
+
+    /// One more conjunct.
+    pub fn take(&mut self, conjunct: Resolved) -> Result<(), Stop>
+        requires { IsGrowing self.old }
+        ensures ok { OnOk result (IsNext (constrained (schema_of self.old.flat) (resolved_of conjunct ∷ [])) (schema_of self.new.flat)) }
+        ensures growing { OnOk result (IsGrowing self.new) }
+        ensures err { IfErr result (λ e. IfStopped e (IsTooLarge (constrained (schema_of self.old.flat) (resolved_of conjunct ∷ [])))) }
+    {
+        let Some(nodes_left) = conjunct.room_after(self.nodes_left) else {
+            return Err(Stop::TooLarge);
+        };
+        if self.flat.conjuncts.len() >= CONJUNCTS_MAX {
+            return Err(Stop::TooLarge);
+        }
+        if !conjunct.is_within(HEIGHT_MAX) {
+            return Err(Stop::TooLarge);
+        }
+        self.flat.conjuncts.push(conjunct)?;
+        self.nodes_left = nodes_left;
+        Ok(())
+    }
+
+    /// Another schema that is taken in: its components, and then its conjuncts.
+    pub fn include(&mut self, alloc: Global, other: &Flat) -> Result<(), Stop>
+        requires { IsGrowing self.old }
+        ensures ok { OnOk result (Includes (schema_of self.old.flat) (schema_of other.now) (schema_of self.new.flat)) }
+        ensures growing { OnOk result (IsGrowing self.new) }
+        ensures err { IfErr result (λ e. IfStopped e (Stops (Agree (schema_of self.old.flat).comps (schema_of other.now).comps) (conjoined (schema_of self.old.flat) (schema_of other.now)))) }
+    {
+        if !agree(self.flat.components.as_slice(), other.components.as_slice()) {
+            return Err(Stop::Clash);
+        }
+        self.merge(alloc, other)?;
+        Ok(())
+    }
+
+    /// Another schema that is taken in, whatever types components of one name have; answers where its components are.
+    pub fn merge(&mut self, alloc: Global, other: &Flat) -> Result<Vec<usize>, Stop>
+        requires { IsGrowing self.old }
+        ensures ok { OnOk result (IsNext (conjoined (schema_of self.old.flat) (schema_of other.now)) (schema_of self.new.flat)) }
+        ensures growing { OnOk result (IsGrowing self.new) }
+        ensures places { IfOk result (λ places. place_in places.items ≡ new_place (schema_of other.now).comps (schema_of self.new.flat).comps) }
+        ensures each { IfOk result (λ places. length places.items ≡ length (schema_of other.now).comps) }
+        ensures err { IfErr result (λ e. IfStopped e (IsTooLarge (conjoined (schema_of self.old.flat) (schema_of other.now)))) }
+    {
+        self.grow_all(alloc, other.components.as_slice())?;
+        let places = new_places(
+            alloc,
+            other.components.as_slice(),
+            self.flat.components.as_slice(),
+        )?;
+        self.take_moved(alloc, other.conjuncts.as_slice(), places.as_slice())?;
+        Ok(places)
+    }
+
+    /// Copies of the components, one after another.
+    fn grow_all(&mut self, alloc: Global, components: &[Component]) -> Result<(), Stop>
+        requires { IsGrowing self.old }
+        ensures ok { OnOk result (schema_of self.new.flat ≡ all_grown (schema_of self.old.flat) (map comp_of components.now)) }
+        ensures growing { OnOk result (IsGrowing self.new) }
+        ensures err { IfErr result (λ e. IfStopped e (IsTooLarge (all_grown (schema_of self.old.flat) (map comp_of components.now)))) }
+    {
+        for component in components {
+            let copy = component.copy(alloc)?;
+            self.grow(copy)?;
+        }
+        Ok(())
+    }
+
+    /// Copies of the conjuncts, with their components numbered anew, one after another.
+    fn take_moved(
+        &mut self,
+        alloc: Global,
+        conjuncts: &[Resolved],
+        places: &[usize],
+    ) -> Result<(), Stop>
+        requires { IsGrowing self.old }
+        ensures ok { OnOk result (schema_of self.new.flat ≡ constrained (schema_of self.old.flat) (map (moved (place_in places.now)) (map resolved_of conjuncts.now))) }
+        ensures growing { OnOk result (IsGrowing self.new) }
+        ensures err { IfErr result (λ e. IfStopped e (IsTooLarge (constrained (schema_of self.old.flat) (map (moved (place_in places.now)) (map resolved_of conjuncts.now))))) }
+    {
+        for conjunct in conjuncts {
+            let moved = conjunct.moved(alloc, places)?;
+            self.take(moved)?;
+        }
+        Ok(())
+    }
+
+    /// That each component is equal to the one at the place in the list, one after another.
+    pub fn take_equalities(
+        &mut self,
+        alloc: Global,
+        line: u32,
+        places: &[usize],
+    ) -> Result<(), Stop>
+        requires { IsGrowing self.old }
+        ensures ok { OnOk result (schema_of self.new.flat ≡ constrained (schema_of self.old.flat) (equalities line 0 places.now)) }
+        ensures growing { OnOk result (IsGrowing self.new) }
+        ensures err { IfErr result (λ e. IfStopped e (IsTooLarge (constrained (schema_of self.old.flat) (equalities line 0 places.now)))) }
+    {
+        for (place, other) in places.iter().enumerate() {
+            let equality = equality(alloc, line, place, *other)?;
+            self.take(equality)?;
+        }
+        Ok(())
+    }
+}
+
+/// That two components are equal.
+#[tactic(auto, using(zf_type::proofs::ResolvedSeen::seen))]
+fn equality(alloc: Global, line: u32, place: usize, other: usize) -> Result<Resolved, AllocError>
+    ensures { IfOk result (λ t. resolved_of t ≡ equality line place other) }
+{
+    let left = Boxed::new(alloc, Resolved::Name(line, Reference::Component(place)))?;
+    let right = Resolved::Name(line, Reference::Component(other));
+    let links = Items::of(
+        alloc,
+        ResolvedLink {
+            relation: Relation::Equal,
+            right,
+        },
+    )?;
+    Ok(Resolved::Chain(line, left, links))
+}

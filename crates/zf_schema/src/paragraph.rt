@@ -1,0 +1,244 @@
+//! What a paragraph or box adds to the globals.
+ghost use Rattle.std.specs.Prelude.{◌≡◌, ◌<◌, ◌^◌, map, length, take, IfOk, IfErr, OnOk, OnErr};
+ghost use Rattle.zf_text.specs.Trees.{paragraph_of, schema_of, decl_of, tree_of};
+ghost use Rattle.zf_text.specs.Trees as text;
+ghost use Rattle.zf_type.specs.declared.operator.Need.TheVariants as need;
+ghost use Rattle.zf_type.specs.Definitions.{definition_of, globals_of};
+ghost use Rattle.zf_type.specs.Offences.{Offends};
+ghost use Rattle.zf_type.specs.Resolving.{resolved};
+ghost use Rattle.zf_type.specs.Rules.{typed};
+ghost use Rattle.zf_type.specs.Numbers.{next_number};
+ghost use Rattle.zf_type.specs.Types.{Ty};
+ghost use Rattle.zf_type.specs.Typing.{IsOf};
+ghost use Rattle.zf_schema.specs.Expressions.{outside};
+ghost use Rattle.zf_type.specs.Refusals.{IfFault};
+ghost use Rattle.zf_type.specs.Scopes.{spelling};
+ghost use Rattle.zf_schema.specs.Runs as spec;
+ghost use Rattle.zf_schema.specs.Checking.{IsNew, with_global, abbreviated, Gives, Constructs, DefinesParagraph, Defines, a_box, IsTaken, OffendsGiven, OffendsConstructors, OffendsParagraph, OffendsItem};
+
+use crate::expression::schema_of_expression;
+use crate::text::{scope_over, text_of};
+use std::alloc::{AllocError, Global};
+use zf_data::{Items, Text};
+use zf_text::tree::{Decl, Name, Paragraph, SchemaExp, Term};
+use zf_type::fault::{Refusal, TypeFaultKind, refused};
+use zf_type::globals::{Entry, Globals};
+use zf_type::infinite::extent_of;
+use zf_type::judge::judge;
+use zf_type::operator::Need;
+use zf_type::scope::spelled;
+
+/// Defines what the paragraph does, or leaves the globals as they were. Keeps the number of the next given set or free type.
+pub fn define(
+    alloc: Global,
+    globals: &mut Globals,
+    next: &mut usize,
+    paragraph: &Paragraph,
+) -> Result<(), Refusal>
+    requires { next.old ≡ next_number (globals_of globals.old) }
+    ensures ok { OnOk result (DefinesParagraph (globals_of globals.old) (paragraph_of paragraph.now) (globals_of globals.new)) }
+    ensures fault { IfErr result (λ e. IfFault e (λ kind line. OffendsParagraph (globals_of globals.old) (paragraph_of paragraph.now) kind line)) }
+    ensures kept { OnErr result (globals_of globals.new ≡ globals_of globals.old) }
+    ensures numbered { next.new ≡ next_number (globals_of globals.new) }
+{
+    let count = globals.len();
+    let defined = add(alloc, globals, *next, paragraph);
+    if defined.is_err() {
+        globals.truncate(count);
+    } else {
+        *next += elements(paragraph);
+    }
+    defined
+}
+
+/// How many given sets and free types it defines.
+fn elements(paragraph: &Paragraph) -> usize
+    ensures number { result ≡ spec.elements (paragraph_of paragraph.now) }
+    ensures small { result < 2 ^ 63 }
+{
+    match paragraph {
+        Paragraph::Given(names) => names.as_slice().len(),
+        Paragraph::Free(_, _) => 1,
+        Paragraph::Abbrev(_, _) => 0,
+        Paragraph::Defs(_, _) => 0,
+    }
+}
+
+/// Defines the schema of a box, or leaves the globals as they were.
+pub fn define_box(
+    alloc: Global,
+    globals: &mut Globals,
+    name: &Name,
+    decls: &[Decl],
+    predicates: &[Term],
+) -> Result<(), Refusal>
+    ensures ok { OnOk result (Defines (globals_of globals.old) (a_box name.now (map decl_of decls.now) (map tree_of predicates.now)) (globals_of globals.new)) }
+    ensures fault { IfErr result (λ e. IfFault e (λ kind line. OffendsItem (globals_of globals.old) (a_box name.now (map decl_of decls.now) (map tree_of predicates.now)) kind line)) }
+    ensures kept { OnErr result (globals_of globals.new ≡ globals_of globals.old) }
+    ensures numbered { next_number (globals_of globals.new) ≡ next_number (globals_of globals.old) }
+{
+    let spelled = new_name(alloc, globals, name)?;
+    let schema = text_of(alloc, globals, decls, predicates)?;
+    globals.define(spelled, Entry::Schema(schema))?;
+    Ok(())
+}
+
+/// Defines what the paragraph does. A faulty one may define some of its names.
+fn add(
+    alloc: Global,
+    globals: &mut Globals,
+    next: usize,
+    paragraph: &Paragraph,
+) -> Result<(), Refusal>
+    requires number { next ≡ next_number (globals_of globals.old) }
+    requires small { next < 2 ^ 63 }
+    ensures ok { OnOk result (DefinesParagraph (globals_of globals.old) (paragraph_of paragraph.now) (globals_of globals.new)) }
+    ensures fault { IfErr result (λ e. IfFault e (λ kind line. OffendsParagraph (globals_of globals.old) (paragraph_of paragraph.now) kind line)) }
+    ensures begun { take (length (globals_of globals.old)) (globals_of globals.new) ≡ globals_of globals.old }
+{
+    match paragraph {
+        Paragraph::Given(names) => add_given(alloc, globals, next, names.as_slice()),
+        Paragraph::Free(name, names) => add_free(alloc, globals, next, name, names.as_slice()),
+        Paragraph::Abbrev(name, term) => add_abbreviation(alloc, globals, name, term),
+        Paragraph::Defs(name, exp) => add_schema(alloc, globals, name, exp),
+    }
+}
+
+fn add_given(
+    alloc: Global,
+    globals: &mut Globals,
+    first: usize,
+    names: &[Name],
+) -> Result<(), Refusal>
+    requires number { first ≡ next_number (globals_of globals.old) }
+    requires small { first < 2 ^ 63 }
+    ensures ok { OnOk result (Gives (globals_of globals.old) names.now (globals_of globals.new)) }
+    ensures fault { IfErr result (λ e. IfFault e (λ kind line. OffendsGiven (globals_of globals.old) names.now kind line)) }
+    ensures begun { take (length (globals_of globals.old)) (globals_of globals.new) ≡ globals_of globals.old }
+{
+    for (place, name) in names.iter().enumerate() {
+        add_name(alloc, globals, name, Entry::Given(first + place))?;
+    }
+    Ok(())
+}
+
+fn add_free(
+    alloc: Global,
+    globals: &mut Globals,
+    number: usize,
+    name: &Name,
+    names: &[Name],
+) -> Result<(), Refusal>
+    requires { number ≡ next_number (globals_of globals.old) }
+    ensures ok { OnOk result (DefinesParagraph (globals_of globals.old) (text.free name.now names.now) (globals_of globals.new)) }
+    ensures fault { IfErr result (λ e. IfFault e (λ kind line. OffendsParagraph (globals_of globals.old) (text.free name.now names.now) kind line)) }
+    ensures begun { take (length (globals_of globals.old)) (globals_of globals.new) ≡ globals_of globals.old }
+{
+    let constructors = all_spelled(alloc, names)?;
+    add_name(alloc, globals, name, Entry::Free(number, constructors))?;
+    add_constructors(alloc, globals, number, name, names)
+}
+
+fn add_constructors(
+    alloc: Global,
+    globals: &mut Globals,
+    number: usize,
+    of_type: &Name,
+    names: &[Name],
+) -> Result<(), Refusal>
+    ensures ok { OnOk result (Constructs (globals_of globals.old) number (spelling of_type.now) 0 names.now (globals_of globals.new)) }
+    ensures fault { IfErr result (λ e. IfFault e (λ kind line. OffendsConstructors (globals_of globals.old) number (spelling of_type.now) 0 names.now kind line)) }
+    ensures begun { take (length (globals_of globals.old)) (globals_of globals.new) ≡ globals_of globals.old }
+{
+    for (place, name) in names.iter().enumerate() {
+        let of_type = spelled(alloc, of_type)?;
+        add_name(
+            alloc,
+            globals,
+            name,
+            Entry::Constructor(number, of_type, place),
+        )?;
+    }
+    Ok(())
+}
+
+fn add_abbreviation(
+    alloc: Global,
+    globals: &mut Globals,
+    name: &Name,
+    term: &Term,
+) -> Result<(), Refusal>
+    ensures ok { OnOk result (DefinesParagraph (globals_of globals.old) (text.abbreviation name.now (tree_of term.now)) (globals_of globals.new)) }
+    ensures fault { IfErr result (λ e. IfFault e (λ kind line. OffendsParagraph (globals_of globals.old) (text.abbreviation name.now (tree_of term.now)) kind line)) }
+    ensures begun { take (length (globals_of globals.old)) (globals_of globals.new) ≡ globals_of globals.old }
+{
+    let spelled = new_name(alloc, globals, name)?;
+    let entry = abbreviation_of(alloc, globals, term)?;
+    globals.define(spelled, entry)?;
+    Ok(())
+}
+
+fn add_schema(
+    alloc: Global,
+    globals: &mut Globals,
+    name: &Name,
+    exp: &SchemaExp,
+) -> Result<(), Refusal>
+    ensures ok { OnOk result (DefinesParagraph (globals_of globals.old) (text.definition name.now (text.schema_of exp.now)) (globals_of globals.new)) }
+    ensures fault { IfErr result (λ e. IfFault e (λ kind line. OffendsParagraph (globals_of globals.old) (text.definition name.now (text.schema_of exp.now)) kind line)) }
+    ensures begun { take (length (globals_of globals.old)) (globals_of globals.new) ≡ globals_of globals.old }
+{
+    let spelled = new_name(alloc, globals, name)?;
+    let schema = schema_of_expression(exp, alloc, globals)?;
+    globals.define(spelled, Entry::Schema(schema))?;
+    Ok(())
+}
+
+/// Defines one name.
+fn add_name(alloc: Global, globals: &mut Globals, name: &Name, entry: Entry) -> Result<(), Refusal>
+    ensures new { OnOk result (IsNew (globals_of globals.old) name.now) }
+    ensures ok { OnOk result (globals_of globals.new ≡ with_global (globals_of globals.old) name.now (definition_of entry)) }
+    ensures fault { IfErr result (λ e. IfFault e (λ kind line. IsTaken (globals_of globals.old) name.now kind line)) }
+    ensures kept { OnErr result (globals_of globals.new ≡ globals_of globals.old) }
+{
+    let spelled = new_name(alloc, globals, name)?;
+    globals.define(spelled, entry)?;
+    Ok(())
+}
+
+/// The name as spelled, if no global has it.
+fn new_name(alloc: Global, globals: &Globals, name: &Name) -> Result<Text, Refusal>
+    ensures ok { IfOk result (λ t. t ≡ spelling name.now) }
+    ensures new { OnOk result (IsNew (globals_of globals.now) name.now) }
+    ensures fault { IfErr result (λ e. IfFault e (λ kind line. IsTaken (globals_of globals.now) name.now kind line)) }
+{
+    let spelled = spelled(alloc, name)?;
+    if !globals.is_new(spelled.as_slice()) {
+        return Err(refused(TypeFaultKind::AlreadyDefined, name.line));
+    }
+    Ok(spelled)
+}
+
+fn all_spelled(alloc: Global, names: &[Name]) -> Result<Items<Text>, AllocError>
+    ensures { IfOk result (λ s. s ≡ map spelling names.now) }
+{
+    let mut all = Items::new(alloc);
+    for name in names {
+        all.push(spelled(alloc, name)?)?;
+    }
+    Ok(all)
+}
+
+/// The term with its type, as what a name is defined as.
+fn abbreviation_of(alloc: Global, globals: &Globals, term: &Term) -> Result<Entry, Refusal>
+    ensures ok { IfOk result (λ e. (t : Ty) × IsOf (outside (globals_of globals.now)) (tree_of term.now) (typed t) × (definition_of e ≡ abbreviated (globals_of globals.now) t (resolved (outside (globals_of globals.now)) (tree_of term.now)))) }
+    ensures fault { IfErr result (λ e. IfFault e (λ kind line. Offends (outside (globals_of globals.now)) need.Expression (tree_of term.now) kind line)) }
+{
+    let mut scope = scope_over(alloc, globals, &[]);
+    let judged = judge(term, alloc, Need::Expression, &mut scope)?;
+    let Some(ztype) = judged.sort.into_type() else {
+        unreachable!();
+    };
+    let extent = extent_of(&judged.term, globals);
+    Ok(Entry::Abbrev(ztype, judged.term, extent))
+}

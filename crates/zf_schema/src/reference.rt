@@ -1,0 +1,72 @@
+//! References to schemas.
+ghost use Rattle.std.specs.Prelude.{◌≡◌, ◌⊎◌, ℕ, IfErr, IfOk, MatchOption, Some, None};
+ghost use Rattle.zf_type.specs.Definitions.{Defined, definition_of, globals_of, schema, schema_of};
+ghost use Rattle.zf_type.specs.Refusals.{IfFault};
+ghost use Rattle.zf_type.specs.Scopes.{first_named};
+ghost use Rattle.zf_schema.specs.Expressions.{Refers};
+ghost use Rattle.zf_schema.specs.Growth as spec;
+ghost use Rattle.zf_schema.specs.Growth.{IsNamed, LacksSchema};
+ghost use Rattle.zf_schema.specs.SchemaOffences.{IsNoSchema, OffendsRef};
+
+use crate::marking::{decorate_own, marked};
+use crate::stop::Stop;
+use std::alloc::Global;
+use zf_text::tree::SchemaRef;
+use zf_type::fault::{Refusal, TypeFaultKind, refused};
+use zf_type::globals::{Entry, Flat, Globals};
+use zf_type::scope::global_of;
+
+/// The schema that is referred to.
+pub fn refer(alloc: Global, globals: &Globals, reference: &SchemaRef) -> Result<Flat, Refusal>
+    ensures ok { IfOk result (λ f. Refers (globals_of globals.now) reference.now (schema_of f)) }
+    ensures fault { IfErr result (λ e. IfFault e (OffendsRef (globals_of globals.now) reference.now)) }
+{
+    let name = &reference.name;
+    let flat = match schema_named(globals, name.base.as_slice()) {
+        Ok(flat) => flat,
+        Err(kind) => return Err(refused(kind, name.line)),
+    };
+    match marked(alloc, reference.mark, name.line, flat) {
+        Ok(growing) => Ok(decorate_own(alloc, name.strokes.as_slice(), growing.flat)?),
+        Err(stop) => Err(stop.refusal(name.line)),
+    }
+}
+
+/// The schema of the name, or why there is none.
+fn schema_named<'a>(globals: &'a Globals, name: &[u8]) -> Result<&'a Flat, TypeFaultKind>
+    ensures ok { IfOk result (λ f. IsNamed (globals_of globals.now) name.now (schema_of f.now)) }
+    ensures err { IfErr result (LacksSchema (globals_of globals.now) name.now) }
+{
+    let Some((_, entry)) = global_of(globals, name) else {
+        return Err(TypeFaultKind::NotDeclared);
+    };
+    match as_schema(entry) {
+        Some(flat) => Ok(flat),
+        None => Err(TypeFaultKind::NotASchema),
+    }
+}
+
+fn as_schema(entry: &Entry) -> Option<&Flat>
+    ensures { MatchOption result (IsNoSchema (definition_of entry.now)) (λ f. definition_of entry.now ≡ schema (schema_of f.now)) }
+{
+    match entry {
+        Entry::Schema(flat) => Some(flat),
+        Entry::Given(_)
+        | Entry::Free(_, _)
+        | Entry::Constructor(_, _, _)
+        | Entry::Abbrev(_, _, _) => None,
+    }
+}
+
+impl Stop {
+    /// The refusal at this line.
+    pub fn refusal(self, line: u32) -> Refusal
+        ensures { result ≡ spec.refusal_of self line }
+    {
+        match self {
+            Stop::Clash => refused(TypeFaultKind::ComponentClash, line),
+            Stop::TooLarge => refused(TypeFaultKind::TooLarge, line),
+            Stop::OutOfMemory => Refusal::OutOfMemory,
+        }
+    }
+}

@@ -1,0 +1,80 @@
+//! How much of the limits is left behind parts of a schema.
+ghost use Rattle.std.specs.Prelude.{◌≡◌, ◌+◌, ◌<◌, ◌↔◌, IsTrue, MatchOption, map};
+ghost use Rattle.std.specs.List.{AllByRecursion, sum_by};
+ghost use Rattle.zf_type.specs.Definitions.{comp_of, set_of};
+ghost use Rattle.zf_type.specs.ResolvedTrees.{resolved_of};
+ghost use Rattle.zf_type.specs.SetShapes.{set_count, set_nodes};
+ghost use Rattle.zf_type.specs.Shapes.{nodes};
+ghost use Rattle.zf_schema.specs.Growth.{counted};
+ghost use Rattle.zf_schema.specs.Limits.{IsLow};
+
+use crate::limits::HEIGHT_MAX;
+use zf_type::globals::{Component, Domain};
+use zf_type::resolved::Resolved;
+
+/// How much of the room for declared sets is left behind these, where there is enough.
+pub fn after_sets(domains: &[Domain], room: usize) -> Option<usize>
+    ensures { MatchOption result (room < sum_by set_count (map set_of domains.now)) (λ left. left + sum_by set_count (map set_of domains.now) ≡ room) }
+{
+    let mut left = room;
+    for domain in domains {
+        left = domain.room_after_sets(left)?;
+    }
+    Some(left)
+}
+
+/// How much of the room for nodes is left behind these, where there is enough.
+pub fn after_nodes(domains: &[Domain], room: usize) -> Option<usize>
+    ensures { MatchOption result (room < sum_by set_nodes (map set_of domains.now)) (λ left. left + sum_by set_nodes (map set_of domains.now) ≡ room) }
+{
+    let mut left = room;
+    for domain in domains {
+        left = domain.room_after_nodes(left)?;
+    }
+    Some(left)
+}
+
+/// The same of all declared sets of components.
+pub fn after_all_sets(components: &[Component], room: usize) -> Option<usize>
+    ensures { MatchOption result (room < counted set_count (map comp_of components.now)) (λ left. left + counted set_count (map comp_of components.now) ≡ room) }
+{
+    let mut left = room;
+    for component in components {
+        left = after_sets(component.domains.as_slice(), left)?;
+    }
+    Some(left)
+}
+
+/// The same of the nodes of all declared sets of components.
+pub fn after_all_nodes(components: &[Component], room: usize) -> Option<usize>
+    ensures { MatchOption result (room < counted set_nodes (map comp_of components.now)) (λ left. left + counted set_nodes (map comp_of components.now) ≡ room) }
+{
+    let mut left = room;
+    for component in components {
+        left = after_nodes(component.domains.as_slice(), left)?;
+    }
+    Some(left)
+}
+
+/// The same of the nodes of terms.
+pub fn after_terms(terms: &[Resolved], room: usize) -> Option<usize>
+    ensures { MatchOption result (room < sum_by nodes (map resolved_of terms.now)) (λ left. left + sum_by nodes (map resolved_of terms.now) ≡ room) }
+{
+    let mut left = room;
+    for term in terms {
+        left = term.room_after(left)?;
+    }
+    Some(left)
+}
+
+/// Whether no term is too high.
+pub fn are_low(terms: &[Resolved]) -> bool
+    ensures { IsTrue result ↔ AllByRecursion IsLow (map resolved_of terms.now) }
+{
+    for term in terms {
+        if !term.is_within(HEIGHT_MAX) {
+            return false;
+        }
+    }
+    true
+}
