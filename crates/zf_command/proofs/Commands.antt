@@ -1,6 +1,6 @@
 -- What a parse reads of a command with one more argument, or with a text for help.
-use Rattle.std.proofs.Common.{◌≡◌, ◌∙◌, ap₂, ◌||◌, ℕ, List, Option, Bor}
-use Rattle.clap.specs.Words.{App, Rule, AddsArg, with_rule}
+use Rattle.std.proofs.Common.{◌≡◌, ◌∙◌, ap, ap₂, ◌||◌, ℕ, List, Option, Bor}
+use Rattle.clap.specs.Words.{App, Rule, AddsArg, AddsSubcommand, with_rule, with_subcommand}
 use Rattle.clap.specs.declared.builder.Arg.{Arg}
 use Rattle.clap.specs.declared.builder.command.Command.{Command}
 use Rattle.clap.specs.declared.builder.command.Command.TheViews.{out-Command}
@@ -9,6 +9,10 @@ use Rattle.zf_command.specs.Apps.{IsArg, IsCommand}
 pub with_one_more : (old new : Command) (a : Arg) (app : App) (r : Rule) → IsCommand old app → IsArg a r → AddsArg old a new → IsCommand new (with_rule app r)
 with_one_more old new a app r is_old is_arg adds =
     (adds.shape is_arg.1 ∙ ap₂ with_rule is_old.0 is_arg.0, adds.globals ∙ ap₂ (λ x y. x || y) is_old.1 is_arg.1)
+
+pub with_one_sub : (old sub new : Command) (app of_sub : App) → IsCommand old app → IsCommand sub of_sub → AddsSubcommand old sub new → IsCommand new (with_subcommand app of_sub.top)
+with_one_sub old sub new app of_sub is_old is_sub adds =
+    (adds.shape is_sub.1 ∙ ap₂ with_subcommand is_old.0 (ap (λ a. a.top) is_sub.0), adds.globals ∙ ap₂ (λ x y. x || y) is_old.1 is_sub.1)
 
 -- a text for help changes nothing that a parse reads
 pub with_about : (old new : Command) (text : Option (Bor (List ℕ))) (app : App) → IsCommand old app → out-Command new ≡ record (out-Command old) { about = text } → IsCommand new app

@@ -1,6 +1,6 @@
 -- What the matches and the refusals of `clap` say of the words, by the literal of the command line.
-use Rattle.std.proofs.Common.{◌≡◌, ◌∙◌, ap, sym, true, refl, subst, inl, inr, List, [], Option, Some, None, Result, Ok, Err, IfOk, option_map}
-use Rattle.clap.specs.Words.{App, HasKind, HasMatchesOf, IsAmong, Row, Text, fault_of, is_simple, is_simple_and_free, kind_of, subcommand_of, subcommand_rows_of}
+use Rattle.std.proofs.Common.{◌≡◌, ◌∙◌, ap, ap₂, sym, true, refl, subst, inl, inr, List, [], Option, Some, None, Result, Ok, Err, IfOk, option_map, Box}
+use Rattle.clap.specs.Words.{App, HasKind, HasMatchesOf, IsAmong, Row, Text, subcommand_name_of, subcommand_rows, fault_of, is_simple, is_simple_and_free, kind_of, subcommand_of, subcommand_rows_of}
 use Rattle.clap.specs.declared.error.Error.{Error}
 use Rattle.clap.specs.declared.error.kind.ErrorKind.{ErrorKind}
 use Rattle.clap.specs.declared.error.kind.ErrorKind.TheVariants.{OutOfMemory}
@@ -11,12 +11,21 @@ use Rattle.zf_command.specs.declared.job.Asked.{Asked}
 use Rattle.zf_command.specs.declared.job.Asked.TheVariants.{Help, Work}
 use Rattle.zf_command.specs.declared.job.UsageFault.{UsageFault}
 use Rattle.clap.specs.declared.parser.matches.ArgMatches.{ArgMatches}
+use Rattle.clap.specs.declared.parser.matches.ArgMatches.TheViews.{out-ArgMatches, out-SubCommand}
+use Rattle.clap.specs.declared.parser.matches.SubCommand.{SubCommand}
+use Rattle.std.specs.Box.{box_value}
 
-named : (found : Option (Text × List Row)) (rows : List Row) → Some rows ≡ option_map (λ p. p.1) found → (name : Text) × (found ≡ Some (name, rows))
-named None rows e = cc
-named (Some p) rows e =
-    let same : p.1 ≡ rows = cc in
-    (p.0, ap (λ (r : List Row). Some (p.0, r)) same)
+named : (found : Option (Text × List Row)) (name : Text) (rows : List Row) → Some name ≡ option_map (λ p. p.0) found → Some rows ≡ option_map (λ p. p.1) found → found ≡ Some (name, rows)
+named None name rows e d = cc
+named (Some p) name rows e d =
+    let named_so : p.0 ≡ name = cc in
+    let found_so : p.1 ≡ rows = cc in
+    ap₂ (λ (n : Text) (r : List Row). Some (n, r)) named_so found_so
+
+-- the name of a subcommand is that which stands beside its rows
+named_as : {Z : Type 0} (found : Option (Box SubCommand Z)) → option_map (λ b. (out-SubCommand (box_value b)).name.now) found ≡ option_map (λ p. p.0) (subcommand_rows found)
+named_as None = refl
+named_as (Some b) = refl
 
 -- the command is one whose matches and refusals are exact
 pub zf_is_free : is_simple_and_free zf_app ≡ true
@@ -38,14 +47,16 @@ among_kinds app words e k is kind other kinds =
     ]
 
 -- the matches of words that were taken
-pub are_matches : (app : App) (words : List Text) (m : ArgMatches) (rows : List Row) → app ≡ zf_app → HasMatchesOf app words m
-    → (is_simple_and_free app ≡ true → fault_of app words ≡ []) → Some rows ≡ option_map (λ p. p.1) (subcommand_rows_of m) → AreMatches words rows
-are_matches app words m rows is has taken found =
-    let here : subcommand_rows_of m ≡ subcommand_of zf_app words = subst (λ (a : App). subcommand_rows_of m ≡ subcommand_of a words) is (has (ap is_simple is ∙ zf_is_simple)).1 in
-    let name = named (subcommand_of zf_app words) rows (found ∙ ap (option_map (λ p. p.1)) here) in
-    (subst (λ (a : App). fault_of a words ≡ []) is (taken (ap is_simple_and_free is ∙ zf_is_free)), name.0, name.1)
+pub are_matches : (app : App) (words : List Text) (m : ArgMatches) (name : Text) (rows : List Row) → app ≡ zf_app → HasMatchesOf app words m
+    → (is_simple_and_free app ≡ true → fault_of app words ≡ []) → Some name ≡ subcommand_name_of m → Some rows ≡ option_map (λ p. p.1) (subcommand_rows_of m)
+    → AreMatches words name rows
+are_matches app words m name rows is has taken called found =
+    let here : subcommand_rows_of m ≡ subcommand_of zf_app words = subst (λ (a : App). subcommand_rows_of m ≡ subcommand_of a words) is (has (ap is_simple is ∙ zf_is_simple)).1 in (
+      subst (λ (a : App). fault_of a words ≡ []) is (taken (ap is_simple_and_free is ∙ zf_is_free)),
+      named (subcommand_of zf_app words) name rows (called ∙ named_as (out-ArgMatches m).subcommand ∙ ap (option_map (λ p. p.0)) here) (found ∙ ap (option_map (λ p. p.1)) here),
+    )
 
-pub answered : (words : List Text) (rows : List Row) (r : Result Asked UsageFault) → AreMatches words rows → IfOk r (Asks rows) → IfOk r (IsAsked words)
-answered words rows (Ok (Work file job)) are asks = (rows, are, asks)
-answered words rows (Ok (Help text)) are asks = absurd asks
-answered words rows (Err e) are asks = tt
+pub answered : (words : List Text) (name : Text) (rows : List Row) (r : Result Asked UsageFault) → AreMatches words name rows → IfOk r (Asks name rows) → IfOk r (IsAsked words)
+answered words name rows (Ok (Work file job)) are asks = (name, rows, are, asks)
+answered words name rows (Ok (Help text)) are asks = absurd asks
+answered words name rows (Err e) are asks = tt

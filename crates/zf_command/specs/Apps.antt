@@ -1,7 +1,7 @@
--- The command line, as the literals that `clap` reads words by: `show FILE SCHEMA [NAME=SIZE]...`.
+-- The command line, as the literals that `clap` reads words by: `check [-t] FILE` and `show FILE SCHEMA [NAME=SIZE]...`.
 use Rattle.std.specs.Prelude.{◌≡◌, Some, codes, true, false}
 use Rattle.clap.specs.Words.{App, Rule, Text, app_of, new_app, new_rule, rule_of, with_rule, with_subcommand}
-use Rattle.clap.specs.declared.builder.ArgAction.TheVariants.{Append}
+use Rattle.clap.specs.declared.builder.ArgAction.TheVariants.{Append, SetTrue}
 use Rattle.clap.specs.declared.builder.Arg.{Arg}
 use Rattle.clap.specs.declared.builder.command.Command.{Command}
 use Rattle.clap.specs.declared.builder.command.Command.TheViews.{out-Command}
@@ -14,6 +14,14 @@ required_rule name = record (new_rule name) { required = true }
 abbrev pub sizes_rule : Rule
 sizes_rule = record (new_rule (codes "NAME=SIZE")) { action = Some Append }
 
+-- `[-t]`; the letter is the character 116
+abbrev pub types_rule : Rule
+types_rule = record (new_rule (codes "types")) { short = Some 116; action = Some SetTrue }
+
+-- `check [-t] FILE`
+abbrev pub check_app : App
+check_app = with_rule (with_rule (new_app (codes "check")) types_rule) (required_rule (codes "FILE"))
+
 -- `show FILE SCHEMA [NAME=SIZE]...`
 abbrev pub show_app : App
 show_app = with_rule (with_rule (with_rule (new_app (codes "show")) (required_rule (codes "FILE"))) (required_rule (codes "SCHEMA"))) sizes_rule
@@ -23,7 +31,7 @@ abbrev pub zf_top : App
 zf_top = record (new_app (codes "zf")) { top = record (new_app (codes "zf")).top { no_binary_name = true; subcommand_required = true } }
 
 abbrev pub zf_app : App
-zf_app = with_subcommand zf_top show_app.top
+zf_app = with_subcommand (with_subcommand zf_top check_app.top) show_app.top
 
 -- the argument is the rule, and is for its own command alone
 abbrev pub IsArg : Arg → Rule → Type 0

@@ -1,5 +1,7 @@
 -- What a job is read from: the matches that `clap` makes of the words.
-use Rattle.std.specs.Prelude.{◌≡◌, ◌≢◌, ◌⊎◌, ◌++◌, ◌-◌, ◌^◌, ℕ, List, [], Some, codes, min, unwrap_or}
+use Rattle.std.specs.Prelude.{◌≡◌, ◌≢◌, ◌⊎◌, ◌++◌, ◌-◌, ◌^◌, ℕ, Bool, false, List, [], Some, codes, min, unwrap_or}
+use Rattle.std.specs.Option.{option_map_or}
+use Rattle.std.specs.Str.{bytes_eq}
 use Rattle.std.specs.List.{All, AllZip, Contains}
 use Rattle.std.specs.Str.Parse.{IsNumeral, digits_value}
 use Rattle.clap.specs.Words.{IsAmong, Row, Text, all_of, fault_of, first_of, subcommand_of}
@@ -8,7 +10,7 @@ use Rattle.clap.specs.declared.error.kind.ErrorKind.TheVariants.{DisplayHelp, Ou
 use Rattle.zf_command.specs.declared.job.Asked.{Asked}
 use Rattle.zf_command.specs.declared.job.Asked.TheVariants.{Help, Work}
 use Rattle.zf_command.specs.declared.job.Job.{Job}
-use Rattle.zf_command.specs.declared.job.Job.TheVariants.{Show}
+use Rattle.zf_command.specs.declared.job.Job.TheVariants.{Check, Show}
 use Rattle.zf_command.specs.declared.job.Size.{Size}
 use Rattle.zf_command.specs.Apps.{zf_app}
 
@@ -18,6 +20,10 @@ value_of id rows = unwrap_or (first_of id rows) []
 
 abbrev pub values_of : Text → List Row → List Text
 values_of id rows = unwrap_or (all_of id rows) []
+
+-- whether an argument that is a flag was given
+abbrev pub is_flagged : Text → List Row → Bool
+is_flagged id rows = option_map_or (bytes_eq (codes "true")) (first_of id rows) false
 
 -- the digits spell n; a number past 64 bits is kept as the greatest
 abbrev pub ReadsNumber : Text → ℕ → Type 0
@@ -38,27 +44,29 @@ IsBadSize word = (size : Size) → ReadsSize word size → ⊥
 abbrev pub HasBadSize : List Text → Type 0
 HasBadSize words = (word : Text) × Contains words word × IsBadSize word
 
--- the job is `show`, read from the matches of its arguments
-abbrev pub IsShow : List Row → Job → Type 0
-IsShow rows (Show schema sizes) = (schema ≡ value_of (codes "SCHEMA") rows) × AllZip ReadsSize (values_of (codes "NAME=SIZE") rows) sizes
+-- the job is `check` where the subcommand has this name, else `show`, read from the matches of its arguments
+abbrev pub IsJob : Text → List Row → Job → Type 0
+IsJob name rows (Check types) = (name ≡ codes "check") × (types ≡ is_flagged (codes "types") rows)
+IsJob name rows (Show schema sizes) =
+    (name ≢ codes "check") × (schema ≡ value_of (codes "SCHEMA") rows) × AllZip ReadsSize (values_of (codes "NAME=SIZE") rows) sizes
 
--- the matches of a subcommand ask for the work
-abbrev pub Asks : List Row → Asked → Type 0
-Asks rows (Work file job) = (file ≡ value_of (codes "FILE") rows) × IsShow rows job
-Asks rows (Help text) = ⊥
+-- the matches of the subcommand of this name ask for the work
+abbrev pub Asks : Text → List Row → Asked → Type 0
+Asks name rows (Work file job) = (file ≡ value_of (codes "FILE") rows) × IsJob name rows job
+Asks name rows (Help text) = ⊥
 
 -- a size word among the matches has another form
 abbrev pub Refuses : List Row → Type 0
 Refuses rows = HasBadSize (values_of (codes "NAME=SIZE") rows)
 
--- `clap` takes the words, and the rows are the matches of the subcommand that they name
-abbrev pub AreMatches : List Text → List Row → Type 0
-AreMatches words rows = (fault_of zf_app words ≡ []) × (name : Text) × (subcommand_of zf_app words ≡ Some (name, rows))
+-- `clap` takes the words, which name this subcommand, and the rows are its matches
+abbrev pub AreMatches : List Text → Text → List Row → Type 0
+AreMatches words name rows = (fault_of zf_app words ≡ []) × (subcommand_of zf_app words ≡ Some (name, rows))
 
 -- what the words ask for: help, where `clap` answers that it is asked for, else what the subcommand's matches ask for
 abbrev pub IsAsked : List Text → Asked → Type 0
 IsAsked words (Help text) = IsAmong DisplayHelp (fault_of zf_app words)
-IsAsked words (Work file job) = (rows : List Row) × AreMatches words rows × Asks rows (Work file job)
+IsAsked words (Work file job) = (name : Text) × (rows : List Row) × AreMatches words name rows × Asks name rows (Work file job)
 
 -- `clap` refuses the words, for another cause than memory and help
 abbrev pub IsRefusedByClap : List Text → Type 0
@@ -66,4 +74,4 @@ IsRefusedByClap words = (cause : ErrorKind) × IsAmong cause (fault_of zf_app wo
 
 -- the words are refused: by `clap`, or since a size word among its matches has another form
 abbrev pub IsRefused : List Text → Type 0
-IsRefused words = IsRefusedByClap words ⊎ ((rows : List Row) × AreMatches words rows × Refuses rows)
+IsRefused words = IsRefusedByClap words ⊎ ((name : Text) × (rows : List Row) × AreMatches words name rows × Refuses rows)

@@ -1,12 +1,12 @@
 //! What the words of a command line ask for.
 ghost use Rattle.std.specs.Prelude.{◌≡◌, IfOk, IsErrOf, map};
 ghost use Rattle.clap.specs.Words.{found_of, rows_of};
-ghost use Rattle.zf_command.specs.Jobs.{IsAsked, IsRefused, IsShow, Asks, Refuses};
+ghost use Rattle.zf_command.specs.Jobs.{IsAsked, IsRefused, IsJob, Asks, Refuses};
 ghost use Rattle.zf_command.specs.declared.job.UsageFault.TheVariants.{BadWords};
 
 use crate::command::zf;
 use crate::job::{Asked, Job, UsageFault};
-use crate::matches::{all_in, value_in};
+use crate::matches::{all_in, is_flagged, value_in};
 use crate::sizes::sizes_of;
 use clap::ArgMatches;
 use clap::error::ErrorKind;
@@ -22,7 +22,7 @@ pub fn job_of<S: AsStr>(alloc: Global, words: &[S]) -> Result<Asked, UsageFault>
     let command = zf(alloc)?;
     match command.try_get_matches_from(words) {
         Ok(matches) => match matches.subcommand() {
-            Some((_name, inner)) => work_in(alloc, inner),
+            Some((name, inner)) => work_in(alloc, name, inner),
             None => unreachable!(),
         },
         Err(error) => match error.kind() {
@@ -36,20 +36,24 @@ pub fn job_of<S: AsStr>(alloc: Global, words: &[S]) -> Result<Asked, UsageFault>
     }
 }
 
-/// The file and the job of a subcommand's matches.
-fn work_in(alloc: Global, matches: &ArgMatches<'_>) -> Result<Asked, UsageFault>
-    ensures asked { IfOk result (Asks (rows_of (found_of matches.now))) }
+/// The file and the job of the matches of the subcommand of this name.
+fn work_in(alloc: Global, name: &str, matches: &ArgMatches<'_>) -> Result<Asked, UsageFault>
+    ensures asked { IfOk result (Asks name.now (rows_of (found_of matches.now))) }
     ensures refused { IsErrOf result BadWords → Refuses (rows_of (found_of matches.now)) }
 {
     let file = value_in(alloc, matches, "FILE")?;
-    let job = show_in(alloc, matches)?;
+    let job = job_in(alloc, name, matches)?;
     Ok(Asked::Work(file, job))
 }
 
-fn show_in(alloc: Global, matches: &ArgMatches<'_>) -> Result<Job, UsageFault>
-    ensures asked { IfOk result (IsShow (rows_of (found_of matches.now))) }
+fn job_in(alloc: Global, name: &str, matches: &ArgMatches<'_>) -> Result<Job, UsageFault>
+    ensures asked { IfOk result (IsJob name.now (rows_of (found_of matches.now))) }
     ensures refused { IsErrOf result BadWords → Refuses (rows_of (found_of matches.now)) }
 {
+    if name == "check" {
+        let types = is_flagged(matches, "types");
+        return Ok(Job::Check { types });
+    }
     let schema = value_in(alloc, matches, "SCHEMA")?;
     let words = all_in(matches, "NAME=SIZE").unwrap_or(&[]);
     let sizes = sizes_of(alloc, words)?;

@@ -1,6 +1,6 @@
 //! The command that `clap` is given, one small function for each argument.
 ghost use Rattle.std.specs.Prelude.{◌≡◌, IfOk, codes};
-ghost use Rattle.zf_command.specs.Apps.{IsArg, IsCommand, IsTop, required_rule, show_app, sizes_rule, zf_app};
+ghost use Rattle.zf_command.specs.Apps.{IsArg, IsCommand, IsTop, check_app, required_rule, show_app, sizes_rule, types_rule, zf_app, zf_top};
 
 use clap::{Arg, ArgAction, Command};
 use std::alloc::{AllocError, Global};
@@ -9,13 +9,32 @@ use std::alloc::{AllocError, Global};
 pub fn zf<'a>(alloc: Global) -> Result<Command<'a>, AllocError>
     ensures { IfOk result (λ c. IsTop c zf_app) }
 {
+    let check = check_command(alloc)?;
     let show = show_command(alloc)?;
+    let command = top_command(alloc)?.subcommand(check)?.subcommand(show)?;
+    Ok(command)
+}
+
+/// `zf`, before it is given its subcommands.
+fn top_command<'a>(alloc: Global) -> Result<Command<'a>, AllocError>
+    ensures { IfOk result (λ c. IsCommand c zf_top) }
+{
     let command = Command::new(alloc, "zf")
         .bin_name("zf")?
         .about("A type checker and finite animator for Z in the LaTeX markup of fuzz")
         .no_binary_name(true)
-        .subcommand_required(true)
-        .subcommand(show)?;
+        .subcommand_required(true);
+    Ok(command)
+}
+
+/// `check [-t] FILE`
+fn check_command<'a>(alloc: Global) -> Result<Command<'a>, AllocError>
+    ensures { IfOk result (λ c. IsCommand c check_app) }
+{
+    let command = Command::new(alloc, "check")
+        .about("Writes the faults of types, one a line")
+        .arg(types_arg(alloc))?
+        .arg(file_arg(alloc))?;
     Ok(command)
 }
 
@@ -29,6 +48,15 @@ fn show_command<'a>(alloc: Global) -> Result<Command<'a>, AllocError>
         .arg(schema_arg(alloc))?
         .arg(sizes_arg(alloc))?;
     Ok(command)
+}
+
+fn types_arg<'a>(alloc: Global) -> Arg<'a>
+    ensures { IsArg result types_rule }
+{
+    Arg::new(alloc, "types")
+        .short('t')
+        .action(ArgAction::SetTrue)
+        .help("Writes also what is defined, with its types")
 }
 
 fn file_arg<'a>(alloc: Global) -> Arg<'a>

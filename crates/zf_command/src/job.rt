@@ -14,6 +14,8 @@ pub struct Size {
 
 #[derive(Debug, Drop)]
 pub enum Job {
+    /// The faults of types; then, if `types`, what is defined, with its types.
+    Check { types: bool },
     /// The bindings of the schema, where the given sets have these sizes.
     Show { schema: Word, sizes: Items<Size> },
 }

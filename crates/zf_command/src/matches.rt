@@ -1,7 +1,7 @@
 //! The values of `clap`'s matches.
 ghost use Rattle.std.specs.Prelude.{◌≡◌, IfOk, map, option_map};
 ghost use Rattle.clap.specs.Words.{all_of, first_of, found_of, rows_of};
-ghost use Rattle.zf_command.specs.Jobs.{value_of};
+ghost use Rattle.zf_command.specs.Jobs.{is_flagged, value_of};
 
 use clap::ArgMatches;
 use std::alloc::{AllocError, Global};
@@ -12,6 +12,16 @@ pub fn value_in(alloc: Global, matches: &ArgMatches<'_>, id: &str) -> Result<Wor
     ensures { IfOk result (λ w. w ≡ value_of id.now (rows_of (found_of matches.now))) }
 {
     Word::of(alloc, first_in(matches, id).unwrap_or(""))
+}
+
+/// Whether an argument that is a flag was given.
+pub fn is_flagged(matches: &ArgMatches<'_>, id: &str) -> bool
+    ensures { result ≡ is_flagged id.now (rows_of (found_of matches.now)) }
+{
+    match first_in(matches, id) {
+        Some(value) => value == "true",
+        None => false,
+    }
 }
 
 fn first_in<'a>(matches: &ArgMatches<'a>, id: &str) -> Option<&'a str>

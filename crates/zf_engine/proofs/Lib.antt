@@ -1,4 +1,3 @@
 pub mod Separated
-pub mod Found
 pub mod Refusing
 pub mod Parts

@@ -6,8 +6,9 @@ use Rattle.std.specs.Io.KnownBytes.{Appends, Keeps}
 use Rattle.std.proofs.KnownBytes.{Appends-trans, Appends-kept, Appends-nil}
 use Rattle.zf_command.specs.declared.job.Job.{Job}
 use Rattle.zf_simple.specs.Bindings.{Walk, Gives, Ends}
+use Rattle.zf_simple.specs.declared.simple.Component.{Component}
 use Rattle.zf_engine.specs.declared.fault.Status.{Status}
-use Rattle.zf_engine.specs.Answers.{Answer, AnswersSource, StopsInSource, StopsInReader, show_text}
+use Rattle.zf_engine.specs.Answers.{Answer, AnswersReader, AnswersSource, StopsInSource, StopsInReader, show_text}
 use Rattle.zf_engine.specs.Faults.{AppendsFront, Gave}
 use Rattle.zf_engine.specs.Texts.{binding_line}
 
@@ -35,7 +36,7 @@ front_alone a b text front tail whole written = (front, (tail, whole), written)
 -- ---- the lines of a walk
 
 -- the line of a step is the front of what is ahead
-pub line_first : (components : List (List ℕ × List ℕ)) (old new : Walk) (row line : List ℕ) (found : Bool) → found ≡ true → MatchBool found (Gives old new) (Ends old new)
+pub line_first : (components : List Component) (old new : Walk) (row line : List ℕ) (found : Bool) → found ≡ true → MatchBool found (Gives old new) (Ends old new)
     → new.last ≡ Some row → line ≡ binding_line components row → show_text components old.rest ≡ line ++ show_text components new.rest
 line_first components old new row line true is gives last same =
     let row_is : gives.0 ≡ row = some_same gives.0 row (sym gives.2 ∙ last) in
@@ -47,7 +48,7 @@ line_first components old new row line true is gives last same =
     some_same x y e = cc
 line_first components old new row line false is gives last same = absurd (cc)
 
-pub end_last : (components : List (List ℕ × List ℕ)) (old new : Walk) (found : Bool) → found ≡ false → MatchBool found (Gives old new) (Ends old new)
+pub end_last : (components : List Component) (old new : Walk) (found : Bool) → found ≡ false → MatchBool found (Gives old new) (Ends old new)
     → show_text components old.rest ≡ codes "end\n"
 end_last components old new false is ends = ap (show_text components) ends.0
 end_last components old new true is ends = absurd (cc)
@@ -71,3 +72,8 @@ pub stops_whole : (job : Job) (file source : List ℕ) (status : Status) (a b c 
     → Keeps b c → StopsInSource job file source a c
 stops_whole job file source status a b c (text, answer, appended) kept =
     (text, inr (text, status, answer, ([], sym (append-nil text))), Appends-kept a b c text appended kept)
+
+-- the same, where the flush did not fail
+pub answers_kept : (job : Job) (file source : List ℕ) (status : Status) (given left a b c : Option (List ℕ)) → Gave given left source → AnswersSource job file source a b status
+    → Keeps b c → AnswersReader job file given left a c status
+answers_kept job file source status given left a b c gave (text, answer, appended) kept = (source, gave, (text, answer, Appends-kept a b c text appended kept))

@@ -1,65 +1,96 @@
 -- The steps before the first binding make answers: refusals, or a walk whose lines are one.
-use Rattle.std.proofs.Common.{◌≡◌, ◌⊎◌, ◌≢◌, ℕ, List, [], length, All, slice_index, refl, sym, ap, ◌∙◌, subst, inl, inr}
+use Rattle.std.proofs.Common.{◌≡◌, ◌⊎◌, ◌≢◌, ℕ, List, [], ◌∷◌, Bool, ◌==◌, false, true, length, All, Contains, Result, Ok, Err, IfErr, refl, sym, ap, ◌∙◌, subst, inl, inr}
 use Rattle.std.specs.List.{flat_map}
-use Rattle.std.proofs.lemmas.List.{length-map}
+use Rattle.std.proofs.lemmas.List.Elements.{All-contains}
 use Rattle.std.proofs.lemmas.Slice.Zip.{AllZip-long}
 use Rattle.zf_command.specs.declared.job.Job.{Job}
-use Rattle.zf_command.specs.declared.job.Job.TheVariants.{Show}
+use Rattle.zf_command.specs.declared.job.Job.TheVariants.{Check, Show}
 use Rattle.zf_command.specs.declared.job.Size.{Size}
-use Rattle.zf_simple.specs.declared.globals.Checked.{Checked}
-use Rattle.zf_simple.specs.declared.globals.Schema as schema
-use Rattle.zf_simple.specs.declared.sizes.SizeFault.{SizeFault}
+use Rattle.zf_schema.specs.Finite.{IsFinite}
+use Rattle.zf_simple.specs.declared.simple.Component.{Component}
+use Rattle.zf_simple.specs.declared.simple.Simple.{Simple}
 use Rattle.zf_simple.specs.declared.test.Test.{Test}
 use Rattle.zf_simple.specs.Bindings.{IsBindings, IsWithin}
-use Rattle.zf_simple.specs.Sizes.{AreSizes, IsRefusal}
+use Rattle.zf_simple.specs.Showing.{given_sets, simple_of}
+use Rattle.zf_simple.specs.Sizes.{AreSized, AreRanges, HaveSizes, names}
 use Rattle.zf_text.specs.declared.fault.TextFault.{TextFault}
 use Rattle.zf_text.specs.Cuts.{IsWantOfMemory}
 use Rattle.zf_text.specs.Parsing.{RefusesSource}
+use Rattle.zf_type.specs.declared.fault.TypeFault.{TypeFault}
+use Rattle.zf_type.specs.Definitions.{Defined, Schema}
+use Rattle.zf_engine.specs.declared.fault.Status.{Status}
 use Rattle.zf_engine.specs.declared.fault.Status.TheVariants.{Done, BadSpec}
 use Rattle.zf_engine.specs.declared.prepare.Ready.{Ready}
-use Rattle.zf_engine.specs.declared.prepare.Stop.{Stop}
-use Rattle.zf_engine.specs.declared.prepare.Stop.TheVariants.{Refused, OutOfMemory}
-use Rattle.zf_engine.specs.Answers.{Answer, Checks, HasSchema, ShowAnswer, unread, ill_typed, bad_sizes, bindings, headings, ranges, show_text}
-use Rattle.zf_engine.specs.Stops.{IfRefused, IsUnread, IsMisfit, RefusesAll, ShowsBindings, ShowsJob}
+use Rattle.zf_engine.specs.declared.stop.Stop.{Stop}
+use Rattle.zf_engine.specs.declared.stop.Stop.TheVariants.{Answered, OutOfMemory}
+use Rattle.zf_engine.specs.Answers.{Answer, Checks, HasSchema, IsNamed, ShowAnswer, UnreadAnswer, ill_typed, other_form, bad_sizes, not_finite, bindings, show_text}
+use Rattle.zf_engine.specs.Stops.{IfAnswered, IsFaultLine, ShowsBindings, ShowsJob, TellsForm, TellsInfinite, TellsMisfit}
 use Rattle.zf_engine.specs.Texts.{type_fault_line}
 
-pub unread_refuses : (file source : List ℕ) (fault : TextFault) (stop : Stop) → IsWantOfMemory fault ⊎ RefusesSource source fault → IfRefused stop (IsUnread file fault)
-    → RefusesAll file source stop
-unread_refuses file source fault OutOfMemory (inl memory) h name sizes = tt
-unread_refuses file source fault OutOfMemory (inr refuses) h name sizes = tt
-unread_refuses file source fault (Refused text status) (inl memory) h name sizes = absurd (h.0 memory.0)
-unread_refuses file source fault (Refused text status) (inr refuses) h name sizes = unread fault refuses h.1 h.2
+pub weaker : (stop : Stop) {P Q : List ℕ → Status → Type 0} → ((text : List ℕ) (status : Status) → P text status → Q text status) → IfAnswered stop P → IfAnswered stop Q
+weaker (Answered text status) f h = f text.items status h
+weaker OutOfMemory f h = tt
 
-pub ill_typed_refuses : (file source text : List ℕ) (checked : Checked) → Checks source checked → checked.faults ≢ [] → text ≡ flat_map (type_fault_line file) checked.faults
-    → (name : List ℕ) (sizes : List Size) → ShowAnswer name sizes file source text BadSpec
-ill_typed_refuses file source text checked checks some is name sizes = ill_typed checked checks some is refl
+pub weaker_err : {A : Type 0} (r : Result A Stop) (P Q : Stop → Type 0) → ((stop : Stop) → P stop → Q stop) → IfErr r P → IfErr r Q
+weaker_err (Ok x) P Q f h = tt
+weaker_err (Err stop) P Q f h = f stop h
 
-pub misfit_refuses : (name file source : List ℕ) (sizes : List Size) (checked : Checked) (s : schema.Schema) (fault : SizeFault) (stop : Stop) → HasSchema source name checked s
-    → IsRefusal checked.globals.sets sizes fault → IfRefused stop (IsMisfit fault) → IfRefused stop (ShowAnswer name sizes file source)
-misfit_refuses name file source sizes checked s fault OutOfMemory has refusal h = tt
-misfit_refuses name file source sizes checked s fault (Refused text status) has refusal h = bad_sizes checked s fault has refusal h.0 h.1 h.2
+pub unread_answers : (file source : List ℕ) (fault : TextFault) (stop : Stop) → IsWantOfMemory fault ⊎ RefusesSource source fault → IfAnswered stop (IsFaultLine file fault)
+    → IfAnswered stop (UnreadAnswer file source)
+unread_answers file source fault OutOfMemory (inl memory) h = tt
+unread_answers file source fault OutOfMemory (inr refuses) h = tt
+unread_answers file source fault (Answered text status) (inl memory) h = absurd (h.0 memory.0)
+unread_answers file source fault (Answered text status) (inr refuses) h = (fault, refuses, h.1, h.2)
 
--- ---- the walk
+-- an answer for a source that can't be read answers every job
+pub answers_any : (job : Job) (file source : List ℕ) (stop : Stop) → IfAnswered stop (UnreadAnswer file source) → IfAnswered stop (Answer job file source)
+answers_any job file source stop h = weaker stop (λ text status unread. inl unread) h
 
-pub lengths : (sets : List (List ℕ)) (sizes : List Size) (counts : List ℕ) → AreSizes sets sizes counts → length counts ≡ length sets
-lengths sets sizes counts h = AllZip-long _ sets counts h.each
+pub ill_typed_answers : (file source text : List ℕ) (globals : List Defined) (faults : List TypeFault) → Checks source globals faults → faults ≢ []
+    → text ≡ flat_map (type_fault_line file) faults → (name : List ℕ) (sizes : List Size) → Answer (Show name sizes) file source text BadSpec
+ill_typed_answers file source text globals faults checks some is name sizes = inr (ill_typed globals faults checks some is refl)
 
-pub shows : (name file source : List ℕ) (sizes : List Size) (checked : Checked) (s : schema.Schema) (counts : List ℕ) (ready : Ready) → HasSchema source name checked s
-    → AreSizes checked.globals.sets sizes counts → ready.components.items ≡ headings checked.globals.sets s.components → ready.sizes.items ≡ ranges counts s.components
-    → ready.tests ≡ s.tests → ShowsBindings name sizes file source ready
+pub some_of : {A : Type 0} (xs : List A) (b : Bool) → b ≡ false → b ≡ (length xs == 0) → xs ≡ [] → ⊥
+some_of xs b unset test none =
+    let both : false ≡ true = sym unset ∙ test ∙ ap (λ xs. length xs == 0) none in
+    cc
+
+-- ---- the refusals of a schema
+
+pub has_schema : (source name : List ℕ) (g : List Defined) (a : Schema) → Checks source g [] → IsNamed g name a → HasSchema source name g a
+has_schema source name g a checks named = record { checks = checks; named = named }
+
+module _ (name file source : List ℕ) (sizes : List Size) (g : List Defined) (a : Schema) (has : HasSchema source name g a) where
+  pub form_answers : (stop : Stop) → IfAnswered stop (TellsForm g a file) → IfAnswered stop (Answer (Show name sizes) file source)
+  form_answers stop h = weaker stop (λ text status t. inr (other_form g a t.0 has t.1 t.2 t.3)) h
+
+  module _ (simple : Simple) (read : simple_of g a ≡ Ok simple) where
+    pub misfit_answers : (stop : Stop) → IfAnswered stop (TellsMisfit g sizes) → IfAnswered stop (Answer (Show name sizes) file source)
+    misfit_answers stop h = weaker stop (λ text status t. inr (bad_sizes g a simple t.0 has read t.1 t.2.0 t.2.1 t.2.2)) h
+
+    pub infinite_answers : AreSized (given_sets g) sizes → (stop : Stop) → IfAnswered stop (TellsInfinite g a file) → IfAnswered stop (Answer (Show name sizes) file source)
+    infinite_answers sized stop h = weaker stop (λ text status t. inr (not_finite g a simple t.0 has read sized t.1 t.2 t.3)) h
+
+    -- ---- the walk
+
+    pub shows : (ready : Ready) → AreSized (given_sets g) sizes → IsFinite g a → AreRanges sizes simple.components ready.ranges.items → ready.simple ≡ simple
+        → ShowsBindings name sizes file source ready
+    unfolding ShowsBindings
+    shows ready sized ends ranged same rows is =
+        let all_rows = subst (λ s. IsBindings ready.ranges.items s.tests rows) same is in
+        bindings g a simple ready.ranges.items rows has read sized ends ranged all_rows (ap (λ s. show_text s.components rows) same) refl
+
+-- each component has a size, since its given set has one
+pub have_sizes : (sets : List (List ℕ)) (sizes : List Size) (components : List Component) → All (λ c. Contains sets c.set) components → AreSized sets sizes
+    → HaveSizes sizes components
+have_sizes sets sizes components given sized = λ i d below. All-contains (Contains (names sizes)) sets _ sized.sized (given i d below)
+
+pub stays_within : (sizes : List Size) (components : List Component) (ranges : List ℕ) (tests : List Test) → All (IsWithin (length components)) tests
+    → AreRanges sizes components ranges → All (IsWithin (length ranges)) tests
+stays_within sizes components ranges tests within ranged = subst (λ n. All (IsWithin n) tests) (sym (AllZip-long _ components ranges ranged)) within
+
+pub job_shown : (job : Job) (file source : List ℕ) (ready : Ready) (rows : List (List ℕ)) → ShowsJob job file source ready → IsBindings ready.ranges.items ready.simple.tests rows
+    → Answer job file source (show_text ready.simple.components rows) Done
 unfolding ShowsBindings
-shows name file source sizes checked s counts ready has are named sized tested rows is =
-    let sized_rows = subst (λ n. IsBindings n ready.tests rows) sized is in
-    let all_rows = subst (λ t. IsBindings (ranges counts s.components) t rows) tested sized_rows in
-    bindings checked s counts rows has are all_rows (ap (λ cs. show_text cs rows) named) refl
-
-pub stays_within : (s : schema.Schema) (counts : List ℕ) (sizes : List ℕ) (tests : List Test) → All (IsWithin (length s.components)) s.tests → sizes ≡ ranges counts s.components
-    → tests ≡ s.tests → All (IsWithin (length sizes)) tests
-stays_within s counts sizes tests over sized tested =
-    let long : length s.components ≡ length sizes = sym (ap length sized ∙ length-map s.components (λ c. slice_index counts c.set)) in
-    subst (All (IsWithin (length sizes))) (sym tested) (subst (λ n. All (IsWithin n) s.tests) long over)
-
-pub job_shown : (job : Job) (file source : List ℕ) (ready : Ready) (rows : List (List ℕ)) → ShowsJob job file source ready → IsBindings ready.sizes.items ready.tests rows
-    → Answer job file source (show_text ready.components.items rows) Done
-unfolding ShowsBindings
-job_shown (Show name sizes) file source ready rows shown is = shown rows is
+job_shown (Check types) file source ready rows shown is = absurd shown
+job_shown (Show name sizes) file source ready rows shown is = inr (shown rows is)

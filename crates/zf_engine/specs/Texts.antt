@@ -4,9 +4,10 @@ use Rattle.std.specs.List.{flat_map, zip}
 use Rattle.zf_text.specs.declared.fault.TextFault.{TextFault}
 use Rattle.zf_text.specs.declared.fault.TextFaultKind.{TextFaultKind}
 use Rattle.zf_text.specs.declared.fault.TextFaultKind.TheVariants.{BadByte, UnknownCommand, NotInProfile, UnclosedBox, Unexpected, NumberTooLarge, TooDeep, TooLong, OutOfMemory}
-use Rattle.zf_simple.specs.declared.fault.TypeFault.{TypeFault}
-use Rattle.zf_simple.specs.declared.fault.TypeFaultKind.{TypeFaultKind}
-use Rattle.zf_simple.specs.declared.fault.TypeFaultKind.TheVariants.{NotDeclared, AlreadyDefined, Mismatch, NotASet, NotANumber, NotARelation, NotAPredicate, NotAnExpression, ComponentClash, NotASchema, LocalTwice, TooLarge}
+use Rattle.zf_simple.specs.declared.simple.Component.{Component}
+use Rattle.zf_type.specs.declared.fault.TypeFault.{TypeFault}
+use Rattle.zf_type.specs.declared.fault.TypeFaultKind.{TypeFaultKind}
+use Rattle.zf_type.specs.declared.fault.TypeFaultKind.TheVariants.{NotDeclared, AlreadyDefined, Mismatch, NotASet, NotANumber, NotARelation, NotAPredicate, NotAnExpression, ComponentClash, NotASchema, LocalTwice, TooLarge}
 
 abbrev pub text_fault_text : TextFaultKind → List ℕ
 text_fault_text BadByte = codes "byte not in the markup"
@@ -32,6 +33,9 @@ type_fault_text ComponentClash = codes "component has two types"
 type_fault_text NotASchema = codes "a schema is needed"
 type_fault_text LocalTwice = codes "variable declared twice"
 type_fault_text TooLarge = codes "too large"
+
+abbrev pub not_finite_text : List ℕ
+not_finite_text = codes "not finite"
 
 -- `FILE:LINE: TEXT`
 abbrev pub fault_line : List ℕ → ℕ → List ℕ → List ℕ
@@ -71,13 +75,13 @@ separated (text ∷ texts) = text ++ flat_map (λ next. codes ", " ++ next) text
 abbrev pub element_text : List ℕ → ℕ → List ℕ
 element_text set place = set ++ codes "." ++ decimal (place + 1)
 
--- `x == v`, for the name of a component, the name of its set, and the place of its element
-abbrev pub component_text : (List ℕ × List ℕ) × ℕ → List ℕ
-component_text ((name, set), place) = name ++ codes " == " ++ element_text set place
+-- `x == v`, for a component and the place of its element
+abbrev pub component_text : Component × ℕ → List ℕ
+component_text (c, place) = c.name ++ codes " == " ++ element_text c.set place
 
--- the binding of the components, each a name and the name of its set, to the elements at the places of the row
-abbrev pub binding_text : List (List ℕ × List ℕ) → List ℕ → List ℕ
+-- the binding of the components to the elements at the places of the row
+abbrev pub binding_text : List Component → List ℕ → List ℕ
 binding_text components row = separated (map component_text (zip components row))
 
-abbrev pub binding_line : List (List ℕ × List ℕ) → List ℕ → List ℕ
+abbrev pub binding_line : List Component → List ℕ → List ℕ
 binding_line components row = binding_text components row ++ codes "\n"

@@ -1,141 +1,154 @@
-//! The steps of `show` before the first binding: the refusals, in their order.
-ghost use Rattle.std.specs.Prelude.{◌≡◌, ◌<◌, [], IfOk, IfErr, All, length};
-ghost use Rattle.std.specs.List.{flat_map};
-ghost use Rattle.zf_engine.specs.Answers.{Answer, Checks, HasItems, ShowAnswer, headings, ranges};
-ghost use Rattle.zf_engine.specs.Stops.{IfRefused, IsMisfit, IsUnread, RefusesAll, ShowsBindings, ShowsJob};
-ghost use Rattle.zf_engine.specs.Texts.{type_fault_line};
+//! What a job comes to: an answer, or the walk over the bindings of a schema. The refusals come in their order.
+ghost use Rattle.std.specs.Prelude.{◌≡◌, ℕ, List, [], IfOk, IfErr, All, length, OnOk, Ok, Contains};
+ghost use Rattle.zf_command.specs.declared.job.Job.TheVariants.{Check, Show};
+ghost use Rattle.zf_engine.specs.Answers.{Answer, Checks};
+ghost use Rattle.zf_engine.specs.Stops.{AnswersOver, AnswersShow, IfAnswered, IsMisfit, ShowsBindings, ShowsJob, TellsForm, TellsInfinite, TellsMisfit};
+ghost use Rattle.zf_schema.specs.Finite.{IsFinite};
 ghost use Rattle.zf_simple.specs.Bindings.{IsWithin};
-ghost use Rattle.zf_simple.specs.Checking.{IsSound};
+ghost use Rattle.zf_simple.specs.Showing as showing;
+ghost use Rattle.zf_simple.specs.Sizes.{AreSized};
+ghost use Rattle.zf_type.specs.Definitions.{globals_of, schema_of};
 
+use crate::check::{check_answer, checked_in, fault_lines};
 use crate::fault::Status;
+use crate::stop::Stop;
 use crate::texts;
-use std::alloc::{AllocError, AllocFailed, Global};
+use std::alloc::Global;
 use zf_command::job::{Job, Size};
-use zf_data::{Items, Text};
-use zf_simple::checker::check;
-use zf_simple::fault::TypeFault;
-use zf_simple::find::schema;
-use zf_simple::globals::{Checked, Component, Schema};
-use zf_simple::item::Item;
-use zf_simple::reading::{Unread, items_of};
-use zf_simple::sizes::{SizeFault, sizes_of};
-use zf_simple::test::Test;
-use zf_text::fault::{TextFault, TextFaultKind};
-use zf_text::reading::read_spec;
-
-/// Why no binding is looked for.
-#[derive(Drop)]
-pub enum Stop {
-    /// The text that is the whole answer, and its status.
-    Refused(Vec<u8>, Status),
-    OutOfMemory,
-}
-
-impl From<AllocError> for Stop {
-    ghost use Rattle.zf_engine.specs.declared.prepare.Stop.TheVariants.{OutOfMemory};
-
-    ghost from_gives = { λ _ stop. stop ≡ OutOfMemory };
-
-    fn from(_error: AllocError) -> Stop {
-        Stop::OutOfMemory
-    }
-}
-
-impl<T: Drop> From<AllocFailed<T>> for Stop {
-    ghost use Rattle.zf_engine.specs.declared.prepare.Stop.TheVariants.{OutOfMemory};
-
-    ghost from_gives = { λ _ stop. stop ≡ OutOfMemory };
-
-    fn from(_error: AllocFailed<T>) -> Stop {
-        Stop::OutOfMemory
-    }
-}
+use zf_schema::finite;
+use zf_simple::given::given_sets;
+use zf_simple::showing::simple_of;
+use zf_simple::simple::Simple;
+use zf_simple::sizes::{SizeFault, check_sizes, ranges_of};
+use zf_simple::unread::Unread;
+use zf_text::fault::TextFaultKind;
+use zf_type::globals::{Flat, Globals};
 
 /// What the walk over the bindings of a schema is given.
 #[derive(Drop)]
 pub struct Ready {
-    /// The name of each component, and the name of its set.
-    pub components: Vec<(Text, Text)>,
+    pub simple: Simple,
     /// The number of elements of each component's set.
-    pub sizes: Vec<u64>,
-    pub tests: Items<Test>,
+    pub ranges: Vec<u64>,
 }
 
-/// The items of a source.
-fn items_in(alloc: Global, file: &[u8], source: &[u8]) -> Result<Items<Item>, Stop>
-    ensures items { IfOk result (HasItems source.now) }
-    ensures stop { IfErr result (RefusesAll file.now source.now) }
+/// What a job on a source comes to: the walk over bindings, or the answer where there is none.
+pub fn prepare(alloc: Global, job: &Job, file_name: &str, source: &[u8]) -> Result<Ready, Stop>
+    ensures shows { IfOk result (ShowsJob job.now file_name.now source.now) }
+    ensures within { IfOk result (λ r. All (IsWithin (length r.ranges.items)) r.simple.tests) }
+    ensures stop { IfErr result (λ s. IfAnswered s (Answer job.now file_name.now source.now)) }
 {
-    let spec = match read_spec(alloc, source) {
-        Ok(spec) => spec,
-        Err(fault) => return Err(unread(alloc, file, fault)),
+    let file = file_name.as_bytes();
+    match job {
+        Job::Check { types } => match checked_text(alloc, *types, file, source) {
+            Ok((text, status)) => Err(Stop::Answered(text, status)),
+            Err(stop) => Err(stop),
+        },
+        Job::Show { schema, sizes } => {
+            prepare_show(alloc, schema.as_str(), sizes.as_slice(), file, source)
+        }
+    }
+}
+
+/// The answer of `check`.
+fn checked_text(
+    alloc: Global,
+    types: bool,
+    file: &[u8],
+    source: &[u8],
+) -> Result<(Vec<u8>, Status), Stop>
+    ensures answer { IfOk result (λ p. Answer (Check types) file.now source.now p.0.items p.1) }
+    ensures stop { IfErr result (λ s. IfAnswered s (Answer (Check types) file.now source.now)) }
+{
+    let checked = checked_in(alloc, file, source)?;
+    Ok(check_answer(alloc, types, file, &checked)?)
+}
+
+/// The walk over the bindings of a schema of a source, or the answer where there is none.
+fn prepare_show(
+    alloc: Global,
+    name: &str,
+    sizes: &[Size],
+    file: &[u8],
+    source: &[u8],
+) -> Result<Ready, Stop>
+    ensures shows { IfOk result (ShowsBindings name.now sizes.now file.now source.now) }
+    ensures within { IfOk result (λ r. All (IsWithin (length r.ranges.items)) r.simple.tests) }
+    ensures stop { IfErr result (λ s. IfAnswered s (Answer (Show name.now sizes.now) file.now source.now)) }
+{
+    let globals = typed_in(alloc, file, source)?;
+    prepare_over(alloc, name, sizes, file, &globals)
+}
+
+/// The walk over the bindings of a schema of these globals, or the answer where there is none.
+fn prepare_over(
+    alloc: Global,
+    name: &str,
+    sizes: &[Size],
+    file: &[u8],
+    globals: &Globals,
+) -> Result<Ready, Stop>
+    ensures shows { IfOk result (λ r. (source : List ℕ) → Checks source (globals_of globals.now) [] → ShowsBindings name.now sizes.now file.now source r) }
+    ensures within { IfOk result (λ r. All (IsWithin (length r.ranges.items)) r.simple.tests) }
+    ensures stop { IfErr result (AnswersOver (globals_of globals.now) name.now sizes.now file.now) }
+{
+    let Some(schema) = globals.schema(name) else {
+        let line = texts::no_schema_line(alloc, name.as_bytes())?;
+        return Err(Stop::Answered(line, Status::BadRequest));
     };
-    match items_of(alloc, &spec) {
-        Ok(items) => Ok(items),
+    let simple = simple_in(alloc, file, globals, schema)?;
+    check_fit(alloc, globals, sizes)?;
+    check_end(alloc, file, globals, schema)?;
+    let ranges = ranges_of(alloc, simple.components.as_slice(), sizes)?;
+    Ok(Ready { simple, ranges })
+}
+
+/// What a source that is well typed defines.
+fn typed_in(alloc: Global, file: &[u8], source: &[u8]) -> Result<Globals, Stop>
+    ensures checks { IfOk result (λ g. Checks source.now (globals_of g) []) }
+    ensures stop { IfErr result (AnswersShow file.now source.now) }
+{
+    let checked = checked_in(alloc, file, source)?;
+    if !checked.faults.as_slice().is_empty() {
+        let lines = fault_lines(alloc, file, checked.faults.as_slice())?;
+        return Err(Stop::Answered(lines, Status::BadSpec));
+    }
+    Ok(checked.globals)
+}
+
+/// The schema, if it is one that can be shown.
+fn simple_in(alloc: Global, file: &[u8], globals: &Globals, schema: &Flat) -> Result<Simple, Stop>
+    ensures read { IfOk result (λ s. showing.simple_of (globals_of globals.now) (schema_of schema.now) ≡ Ok s) }
+    ensures within { IfOk result (λ s. All (IsWithin (length s.components)) s.tests) }
+    ensures given { IfOk result (λ s. All (λ c. Contains (showing.given_sets (globals_of globals.now)) c.set) s.components) }
+    ensures stop { IfErr result (λ s. IfAnswered s (TellsForm (globals_of globals.now) (schema_of schema.now) file.now)) }
+{
+    match simple_of(alloc, globals, schema) {
+        Ok(simple) => Ok(simple),
         Err(Unread::Form(line)) => {
             let text = texts::text_fault_text(TextFaultKind::NotInProfile);
             let line = texts::fault_line(alloc, file, line, text)?;
-            Err(Stop::Refused(line, Status::BadSpec))
+            Err(Stop::Answered(line, Status::BadSpec))
         }
         Err(Unread::OutOfMemory) => Err(Stop::OutOfMemory),
     }
 }
 
-/// The answer for a fault of a text.
-fn unread(alloc: Global, file: &[u8], fault: TextFault) -> Stop
-    ensures { IfRefused result (IsUnread file.now fault) }
+/// Refuses sizes that do not fit the given sets.
+fn check_fit(alloc: Global, globals: &Globals, sizes: &[Size]) -> Result<(), Stop>
+    ensures ok { OnOk result (AreSized (showing.given_sets (globals_of globals.now)) sizes.now) }
+    ensures stop { IfErr result (λ s. IfAnswered s (TellsMisfit (globals_of globals.now) sizes.now)) }
 {
-    if fault.kind == TextFaultKind::OutOfMemory {
-        return Stop::OutOfMemory;
+    let sets = given_sets(alloc, globals)?;
+    match check_sizes(alloc, sets.as_slice(), sizes) {
+        Ok(()) => Ok(()),
+        Err(fault) => Err(misfit(alloc, fault)),
     }
-    match texts::text_fault_line(alloc, file, fault) {
-        Ok(line) => Stop::Refused(line, Status::BadSpec),
-        Err(_) => Stop::OutOfMemory,
-    }
-}
-
-/// The items of a source, checked.
-fn checked_in(alloc: Global, file: &[u8], source: &[u8]) -> Result<Checked, Stop>
-    ensures checks { IfOk result (Checks source.now) }
-    ensures sound { IfOk result (λ c. IsSound c.globals) }
-    ensures stop { IfErr result (RefusesAll file.now source.now) }
-{
-    let items = items_in(alloc, file, source)?;
-    let checked = check(alloc, items.as_slice())?;
-    Ok(checked)
-}
-
-/// The lines of faults.
-fn fault_lines(alloc: Global, file: &[u8], faults: &[TypeFault]) -> Result<Vec<u8>, AllocError>
-    ensures { IfOk result (λ v. v.items ≡ flat_map (type_fault_line file.now) faults.now) }
-{
-    let mut lines = Vec::new(alloc);
-    for fault in faults {
-        let line = texts::type_fault_line(alloc, file, *fault)?;
-        lines.extend_from_slice(&line)?;
-    }
-    Ok(lines)
-}
-
-/// The items of a source that is well typed, checked.
-fn typed_in(alloc: Global, file: &[u8], source: &[u8]) -> Result<Checked, Stop>
-    ensures checks { IfOk result (Checks source.now) }
-    ensures typed { IfOk result (λ c. c.faults ≡ []) }
-    ensures sound { IfOk result (λ c. IsSound c.globals) }
-    ensures stop { IfErr result (RefusesAll file.now source.now) }
-{
-    let checked = checked_in(alloc, file, source)?;
-    let faults = checked.faults.as_slice();
-    if !faults.is_empty() {
-        let lines = fault_lines(alloc, file, faults)?;
-        return Err(Stop::Refused(lines, Status::BadSpec));
-    }
-    Ok(checked)
 }
 
 /// The answer for sizes that do not fit.
 fn misfit(alloc: Global, fault: SizeFault) -> Stop
-    ensures { IfRefused result (IsMisfit fault) }
+    ensures { IfAnswered result (IsMisfit fault) }
 {
     let line = match &fault {
         SizeFault::NoSize(name) => texts::no_size_line(alloc, name.as_slice()),
@@ -145,96 +158,21 @@ fn misfit(alloc: Global, fault: SizeFault) -> Stop
         SizeFault::OutOfMemory => return Stop::OutOfMemory,
     };
     match line {
-        Ok(line) => Stop::Refused(line, Status::BadRequest),
+        Ok(line) => Stop::Answered(line, Status::BadRequest),
         Err(_) => Stop::OutOfMemory,
     }
 }
 
-/// The name of each component, and the name of its set.
-fn headings(
-    alloc: Global,
-    sets: &[Text],
-    components: &[Component],
-) -> Result<Vec<(Text, Text)>, AllocError>
-    requires { All (λ c. c.set < length sets.now) components.now }
-    ensures { IfOk result (λ v. v.items ≡ headings sets.now components.now) }
+/// Refuses a schema that is not finite.
+fn check_end(alloc: Global, file: &[u8], globals: &Globals, schema: &Flat) -> Result<(), Stop>
+    ensures ok { OnOk result (IsFinite (globals_of globals.now) (schema_of schema.now)) }
+    ensures stop { IfErr result (λ s. IfAnswered s (TellsInfinite (globals_of globals.now) (schema_of schema.now) file.now)) }
 {
-    let mut headings = Vec::new(alloc);
-    for component in components {
-        let name = component.name.copy(alloc)?;
-        let set = sets[component.set].copy(alloc)?;
-        headings.push((name, set))?;
-    }
-    Ok(headings)
-}
-
-/// The number of elements of each component's set.
-fn ranges(alloc: Global, counts: &[u64], components: &[Component]) -> Result<Vec<u64>, AllocError>
-    requires { All (λ c. c.set < length counts.now) components.now }
-    ensures { IfOk result (λ v. v.items ≡ ranges counts.now components.now) }
-{
-    let mut ranges = Vec::new(alloc);
-    for component in components {
-        ranges.push(counts[component.set])?;
-    }
-    Ok(ranges)
-}
-
-/// The walk over the bindings of a schema.
-fn ready_for(
-    alloc: Global,
-    sets: &[Text],
-    counts: &[u64],
-    schema: &Schema,
-) -> Result<Ready, AllocError>
-    requires same { length counts.now ≡ length sets.now }
-    requires within { All (λ c. c.set < length sets.now) schema.now.components }
-    ensures { IfOk result (λ r. (r.components.items ≡ headings sets.now schema.now.components) × (r.sizes.items ≡ ranges counts.now schema.now.components) × (r.tests ≡ schema.now.tests)) }
-{
-    let components = schema.components.as_slice();
-    let tests = Vec::from_slice(alloc, schema.tests.as_slice())?;
-    Ok(Ready {
-        components: headings(alloc, sets, components)?,
-        sizes: ranges(alloc, counts, components)?,
-        tests: Items { items: tests },
-    })
-}
-
-/// The walk over the bindings of a schema of a source, or the answer where there is none.
-fn prepare_show(
-    alloc: Global,
-    name: &[u8],
-    sizes: &[Size],
-    file: &[u8],
-    source: &[u8],
-) -> Result<Ready, Stop>
-    ensures shows { IfOk result (ShowsBindings name.now sizes.now file.now source.now) }
-    ensures within { IfOk result (λ r. All (IsWithin (length r.sizes.items)) r.tests) }
-    ensures stop { IfErr result (λ s. IfRefused s (ShowAnswer name.now sizes.now file.now source.now)) }
-{
-    let checked = typed_in(alloc, file, source)?;
-    let Some(found) = schema(&checked.globals, name) else {
-        let line = texts::no_schema_line(alloc, name)?;
-        return Err(Stop::Refused(line, Status::BadRequest));
-    };
-    let sets = checked.globals.sets.as_slice();
-    let counts = match sizes_of(alloc, sets, sizes) {
-        Ok(counts) => counts,
-        Err(fault) => return Err(misfit(alloc, fault)),
-    };
-    Ok(ready_for(alloc, sets, &counts, found)?)
-}
-
-/// What a job on a source comes to: the walk over bindings, or the answer where there is none.
-pub fn prepare(alloc: Global, job: &Job, file_name: &str, source: &[u8]) -> Result<Ready, Stop>
-    ensures shows { IfOk result (ShowsJob job.now file_name.now source.now) }
-    ensures within { IfOk result (λ r. All (IsWithin (length r.sizes.items)) r.tests) }
-    ensures stop { IfErr result (λ s. IfRefused s (Answer job.now file_name.now source.now)) }
-{
-    let file = file_name.as_bytes();
-    match job {
-        Job::Show { schema, sizes } => {
-            prepare_show(alloc, schema.as_bytes(), sizes.as_slice(), file, source)
+    match finite(schema, globals) {
+        Ok(()) => Ok(()),
+        Err(fault) => {
+            let line = texts::fault_line(alloc, file, fault.line, texts::not_finite_text())?;
+            Err(Stop::Answered(line, Status::BadSpec))
         }
     }
 }

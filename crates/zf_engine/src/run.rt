@@ -8,9 +8,10 @@ ghost use Rattle.zf_text.specs.declared.scan.TheConstants.{SOURCE_MAX};
 
 use crate::counted::Counted;
 use crate::fault::{RunFault, Status};
-use crate::prepare::{Ready, Stop, prepare};
+use crate::prepare::{Ready, prepare};
 use crate::reading::read_source;
 use crate::show::show;
+use crate::stop::Stop;
 use crate::writing::write_text;
 use std::alloc::Global;
 use std::io::{Read, Write};
@@ -33,19 +34,15 @@ fn answer<W: Write>(
 {
     let ready = match prepare(alloc, job, file_name, source) {
         Ok(ready) => ready,
-        Err(Stop::Refused(text, status)) => {
+        Err(Stop::Answered(text, status)) => {
             write_text(writer, &text)?;
             return Ok(status);
         }
         Err(Stop::OutOfMemory) => return Err(RunFault::OutOfMemory),
     };
-    let Ready {
-        components,
-        sizes,
-        tests,
-    } = ready;
-    let mut bindings = Bindings::start(alloc, sizes, tests.as_slice())?;
-    show(alloc, &components, &mut bindings, writer)?;
+    let Ready { simple, ranges } = ready;
+    let mut bindings = Bindings::start(alloc, ranges, simple.tests.as_slice())?;
+    show(alloc, simple.components.as_slice(), &mut bindings, writer)?;
     Ok(Status::Done)
 }
 

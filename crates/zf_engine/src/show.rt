@@ -11,13 +11,13 @@ use crate::texts::append_binding_line;
 use crate::writing::write_text;
 use std::alloc::Global;
 use std::io::Write;
-use zf_data::Text;
 use zf_simple::bindings::Bindings;
+use zf_simple::simple::Component;
 
 /// Writes the lines of the bindings that are ahead, and the last line.
 pub fn show<W: Write>(
     alloc: Global,
-    components: &[(Text, Text)],
+    components: &[Component],
     bindings: &mut Bindings<'_>,
     writer: &mut Counted<W>,
 ) -> Result<(), RunFault>

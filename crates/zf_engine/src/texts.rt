@@ -4,9 +4,9 @@ ghost use Rattle.zf_engine.specs.Texts as spec;
 
 use itoa::Buffer;
 use std::alloc::{AllocError, Global};
-use zf_data::Text;
-use zf_simple::fault::{TypeFault, TypeFaultKind};
+use zf_simple::simple::Component;
 use zf_text::fault::{TextFault, TextFaultKind};
+use zf_type::fault::{TypeFault, TypeFaultKind};
 
 /// The text of a fault of a text.
 pub fn text_fault_text(kind: TextFaultKind) -> &'static [u8]
@@ -43,6 +43,13 @@ pub fn type_fault_text(kind: TypeFaultKind) -> &'static [u8]
         TypeFaultKind::LocalTwice => b"variable declared twice",
         TypeFaultKind::TooLarge => b"too large",
     }
+}
+
+/// The text of a schema that is not finite.
+pub fn not_finite_text() -> &'static [u8]
+    ensures { result.now ≡ spec.not_finite_text }
+{
+    b"not finite"
 }
 
 /// `FILE:LINE: TEXT`
@@ -128,21 +135,16 @@ pub fn size_too_large_line(alloc: Global, name: &[u8]) -> Result<Vec<u8>, AllocE
     around(alloc, b"zf: size of ", name, b" is too large\n")
 }
 
-/// Appends `x == NAME.k` for the name of a component, the name of its set, and a place from 0.
+/// Appends `x == NAME.k` for a component and a place from 0.
 #[inline]
-fn append_component(
-    line: &mut Vec<u8>,
-    component: &(Text, Text),
-    place: u64,
-) -> Result<(), AllocError>
+fn append_component(line: &mut Vec<u8>, component: &Component, place: u64) -> Result<(), AllocError>
     ensures ok { OnOk result (line.new.items ≡ line.old.items ++ spec.component_text (component.now, place)) }
     ensures kept { take (length line.old.items) line.new.items ≡ line.old.items }
 {
-    let (name, set) = component;
     let mut number = Buffer::new();
-    line.extend_from_slice(name.as_slice())?;
+    line.extend_from_slice(component.name.as_slice())?;
     line.extend_from_slice(b" == ")?;
-    line.extend_from_slice(set.as_slice())?;
+    line.extend_from_slice(component.set.as_slice())?;
     line.extend_from_slice(b".")?;
     line.extend_from_slice(number.format(u128::from(place) + 1).as_bytes())
 }
@@ -150,7 +152,7 @@ fn append_component(
 /// Appends the binding. A refusal leaves a part of it.
 fn append_binding(
     line: &mut Vec<u8>,
-    components: &[(Text, Text)],
+    components: &[Component],
     row: &[u64],
 ) -> Result<(), AllocError>
     ensures ok { OnOk result (line.new.items ≡ line.old.items ++ spec.binding_text components.now row.now) }
@@ -165,11 +167,11 @@ fn append_binding(
     Ok(())
 }
 
-/// Appends `x == NAME.1, y == NAME.2` and a newline, for components given by their names and the
-/// names of their sets, and a row of places from 0. A refusal leaves the line as it was.
+/// Appends `x == NAME.1, y == NAME.2` and a newline, for components and a row of places from 0. A refusal leaves
+/// the line as it was.
 pub fn append_binding_line(
     line: &mut Vec<u8>,
-    components: &[(Text, Text)],
+    components: &[Component],
     row: &[u64],
 ) -> Result<(), AllocError>
     ensures ok { OnOk result (line.new.items ≡ line.old.items ++ spec.binding_line components.now row.now) }

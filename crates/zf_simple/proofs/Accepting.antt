@@ -1,13 +1,12 @@
 -- Sizes one after another: which are accepted so far, and where a fault stands.
 use Rattle.std.proofs.Common.{◌≡◌, ℕ, ◌+◌, ◌<◌, ◌⊎◌, List, [], ◌∷◌, ◌++◌, length, get_or, take, drop, refl, sym, ap, ◌∙◌, subst, inl, inr, take-append-drop}
-use Rattle.std.specs.List.{Contains, All, AllZip}
+use Rattle.std.specs.List.{Contains, All}
 use Rattle.std.proofs.lemmas.List.{take_more, drop_more, map-append}
 use Rattle.std.proofs.lemmas.List.Elements.{Contains-push_cases, All-more}
 use Rattle.zf_command.specs.declared.job.Size.{Size}
 use Rattle.zf_simple.specs.declared.sizes.SizeFault.{SizeFault}
 use Rattle.zf_simple.specs.declared.sizes.SizeFault.TheVariants.{NoSize, NotGiven, SizeTwice, SizeTooLarge, OutOfMemory}
 use Rattle.zf_simple.specs.Sizes.{names, IsAccepted, AreAccepted, Refuses, RefusesSize, LacksSize, IsRefusal}
-use Rattle.zf_simple.proofs.Ascending.{Contains-map}
 
 -- a list is what stands before a place, the element there, and what follows
 pub split_at : {X : Type 0} (xs : List X) (i : ℕ) (x : X) → i < length xs → x ≡ get_or xs i x → xs ≡ take i xs ++ x ∷ drop (i + 1) xs
@@ -87,22 +86,6 @@ lack-at sets sizes i set h e accepted sized lacking = record {
   lacking = lacking;
 }
 
-abbrev IsCount : List Size → List ℕ → ℕ → Type 0
-IsCount sizes set count = Contains sizes (record { name = set; count = count })
-
-AllZip-end : {A B : Type 0} (R : A → B → Type 0) (xs : List A) (ys : List B) (x : A) (y : B) → AllZip R xs ys → R x y → AllZip R (xs ++ x ∷ []) (ys ++ y ∷ [])
-AllZip-end R [] [] x y a r = (r, tt)
-AllZip-end R [] (v ∷ ys) x y a r = absurd a
-AllZip-end R (u ∷ xs) [] x y a r = absurd a
-AllZip-end R (u ∷ xs) (v ∷ ys) x y a r = (a.0, AllZip-end R xs ys x y a.1 r)
-
-pub counts-more : (sets : List (List ℕ)) (sizes : List Size) (counts : List ℕ) (i : ℕ) (set : List ℕ) (count : ℕ) → i < length sets → set ≡ get_or sets i set
-    → AllZip (IsCount sizes) (take i sets) counts → IsCount sizes set count → AllZip (IsCount sizes) (take (i + 1) sets) (counts ++ count ∷ [])
-counts-more sets sizes counts i set count h e before here =
-    rw (take_more sets i set h, sym e) (AllZip-end (IsCount sizes) (take i sets) counts set count before here)
-
-pub sized-more : (sets : List (List ℕ)) (sizes : List Size) (i : ℕ) (set : List ℕ) (count : ℕ) → i < length sets → set ≡ get_or sets i set
-    → All (λ set. Contains (names sizes) set) (take i sets) → IsCount sizes set count → All (λ set. Contains (names sizes) set) (take (i + 1) sets)
-sized-more sets sizes i set count h e before here =
-    All-more (λ set. Contains (names sizes) set) sets i set h before
-    (subst (λ set. Contains (names sizes) set) e (Contains-map (λ size. size.name) sizes (record { name = set; count = count }) here))
+pub sized-more : (sets : List (List ℕ)) (sizes : List Size) (i : ℕ) (set : List ℕ) → i < length sets → set ≡ get_or sets i set
+    → All (λ set. Contains (names sizes) set) (take i sets) → Contains (names sizes) set → All (λ set. Contains (names sizes) set) (take (i + 1) sets)
+sized-more sets sizes i set h e before here = All-more (λ set. Contains (names sizes) set) sets i set h before (subst (λ set. Contains (names sizes) set) e here)

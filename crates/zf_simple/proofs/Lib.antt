@@ -1,7 +1,10 @@
-pub mod typing
 pub mod Ascending
 pub mod AllRows
 pub mod NextRow
 pub mod Accepting
-pub mod Turns
+pub mod Ranges
+pub mod Joined
+pub mod DeclaredSets
 pub mod Terms
+pub mod Found
+pub mod Sound

@@ -1,49 +1,61 @@
--- What the program's terms are as names, and as equations of names.
-use Rattle.std.proofs.Common.{◌≡◌, ℕ, List, [], ◌∷◌, length, get_or, map, None, refl, sym, ap, ◌∙◌, arith}
-use Rattle.zf_text.specs.declared.tree.Name.{Name}
-use Rattle.zf_text.specs.declared.tree.Term.{Term}
-use Rattle.zf_text.specs.declared.tree.Link.{Link}
-use Rattle.zf_text.specs.declared.tree.VarDecl.{VarDecl}
-use Rattle.zf_text.specs.declared.tree.Term.TheOpen.{Term-F}
-use Rattle.zf_text.specs.declared.tree.Term.TheViews.{out-Term, roll-Term, roll-out-Term}
-use Rattle.zf_text.specs.declared.tree.Term.TheVariants as v
-use Rattle.zf_text.specs.Trees.{Tree, chain, links, tree_of, link_of}
-use Rattle.zf_text.proofs.Forms.{form_of, seen_term, seen_link}
-use Rattle.zf_text.proofs.TermSeen.{of-Chain}
-use Rattle.zf_simple.specs.Reading.{name_of, equation_of, compared_by, compared_of}
+-- What the program's resolved terms are as names, and as equations of names.
+use Rattle.std.proofs.Common.{◌≡◌, ℕ, List, [], ◌∷◌, length, get_or, map, None, Err, refl, sym, ap, ◌∙◌, arith}
+use Rattle.zf_type.specs.declared.resolved.Reference.{Reference}
+use Rattle.zf_type.specs.declared.resolved.Resolved.{Resolved}
+use Rattle.zf_type.specs.declared.resolved.ResolvedLink.{ResolvedLink}
+use Rattle.zf_type.specs.declared.resolved.Range.{Range}
+use Rattle.zf_type.specs.declared.resolved.Resolved.TheOpen.{Resolved-F}
+use Rattle.zf_type.specs.declared.resolved.Resolved.TheViews.{out-Resolved, roll-out-Resolved}
+use Rattle.zf_type.specs.declared.resolved.Resolved.TheVariants as v
+use Rattle.zf_type.specs.Definitions.{Defined}
+use Rattle.zf_type.specs.ResolvedTrees.{ResolvedTree, chain, links, resolved_of, resolved_link_of}
+use Rattle.zf_type.specs.Shapes.{line_of}
+use Rattle.zf_type.proofs.ResolvedSeen.{form_of, rolled, opened, of-Chain, link-seen}
+use Rattle.zf_simple.specs.Showing.{reference_of, linked, test_of}
 
-opened : (t : Term) (x : Term-F Term Link VarDecl) → out-Term t ≡ x → t ≡ roll-Term x
-opened t x e = sym (roll-out-Term t) ∙ ap roll-Term e
+seen : (t : Resolved) → resolved_of t ≡ form_of (out-Resolved t)
+seen t = ap resolved_of (sym (roll-out-Resolved t)) ∙ rolled (out-Resolved t)
 
--- a form that is no name has none
-nameless : (x : Term-F Term Link VarDecl) → ((n : Name) → x ≡ Term-F.Name n → ⊥) → name_of (form_of x) ≡ None
-nameless (Term-F.Name n) other = absurd (other n refl)
+-- a form that is no name refers to nothing
+nameless : (x : Resolved-F Resolved Range ResolvedLink) → ((l : ℕ) (r : Reference) → x ≡ Resolved-F.Name l r → ⊥) → reference_of (form_of x) ≡ None
+nameless (Resolved-F.Name l r) other = absurd (other l r refl)
 nameless _ other = refl
 
-pub no_name : (t : Term) → ((n : Name) → t ≡ v.Name n → ⊥) → name_of (tree_of t) ≡ None
-no_name t other = ap name_of (seen_term t) ∙ nameless (out-Term t) (λ n e. other n (opened t (Term-F.Name n) e ∙ v.rolls-Name n))
+pub no_name : (t : Resolved) → ((l : ℕ) (r : Reference) → t ≡ v.Name l r → ⊥) → reference_of (resolved_of t) ≡ None
+no_name t other = ap reference_of (seen t) ∙ nameless (out-Resolved t) (λ l r e. other l r (opened t (Resolved-F.Name l r) e ∙ v.rolls-Name l r))
 
--- a form that is no chain compares nothing
-chainless : (x : Term-F Term Link VarDecl) → ((l : ℕ) (t : Term) (ks : List Link) → x ≡ Term-F.Chain l t ks → ⊥) → compared_of (form_of x) ≡ None
-chainless (Term-F.Chain l t ks) other = absurd (other l t ks refl)
-chainless _ other = refl
+-- a form that is no chain tests nothing
+chainless :
+    (g : List Defined) (n : ℕ) (x : Resolved-F Resolved Range ResolvedLink) → ((l : ℕ) (t : Resolved) (ks : List ResolvedLink) → x ≡ Resolved-F.Chain l t ks → ⊥)
+    → test_of g n (form_of x) ≡ Err (line_of (form_of x))
+chainless g n (Resolved-F.Chain l t ks) other = absurd (other l t ks refl)
+chainless g n _ other = refl
 
-pub no_chain : (t : Term) → ((l : ℕ) (first : Term) (ks : List Link) → t ≡ v.Chain l first ks → ⊥) → compared_of (tree_of t) ≡ None
-no_chain t other = ap compared_of (seen_term t) ∙ chainless (out-Term t) (λ l first ks e. other l first ks (opened t (Term-F.Chain l first ks) e ∙ v.rolls-Chain l first ks))
+pub no_chain :
+    (g : List Defined) (n : ℕ) (t : Resolved) → ((l : ℕ) (first : Resolved) (ks : List ResolvedLink) → t ≡ v.Chain l first ks → ⊥)
+    → test_of g n (resolved_of t) ≡ Err (line_of (resolved_of t))
+no_chain g n t other =
+    ap (test_of g n) (seen t) ∙ chainless g n (out-Resolved t) (λ l first ks e. other l first ks (opened t (Resolved-F.Chain l first ks) e ∙ v.rolls-Chain l first ks))
+    ∙ ap (λ u. Err (line_of u)) (sym (seen t))
 
 -- nor does a chain of no link, or of two or more
-of_links : (l : ℕ) (t : Tree) (ks : List Link) → (length ks ≡ 1 → ⊥) → compared_of (chain l t (links (map link_of ks))) ≡ None
-of_links l t [] other = refl
-of_links l t (k ∷ []) other = absurd (other refl)
-of_links l t (k ∷ (k' ∷ ks)) other = refl
+of_links : (g : List Defined) (n l : ℕ) (t : ResolvedTree) (ks : List ResolvedLink) → (length ks ≡ 1 → ⊥) → test_of g n (chain l t (links (map resolved_link_of ks))) ≡ Err l
+of_links g n l t [] other = refl
+of_links g n l t (k ∷ []) other = absurd (other refl)
+of_links g n l t (k ∷ (k' ∷ ks)) other = refl
 
-pub no_link : (l : ℕ) (first : Term) (ks : List Link) → (length ks ≡ 1 → ⊥) → compared_of (tree_of (v.Chain l first ks)) ≡ None
-no_link l first ks other = ap compared_of (of-Chain l first ks) ∙ of_links l (tree_of first) ks other
+pub no_link : (g : List Defined) (n l : ℕ) (first : Resolved) (ks : List ResolvedLink) → (length ks ≡ 1 → ⊥) → test_of g n (resolved_of (v.Chain l first ks)) ≡ Err l
+no_link g n l first ks other = ap (test_of g n) (of-Chain l first ks) ∙ of_links g n l (resolved_of first) ks other
 
-of_link : (l : ℕ) (t : Tree) (ks : List Link) (k : Link) → length ks ≡ 1 → k ≡ get_or ks 0 k → compared_of (chain l t (links (map link_of ks))) ≡ compared_by (name_of t) (equation_of (link_of k).0) (name_of (link_of k).1)
-of_link l t [] k one e = absurd (omega arith)
-of_link l t (k' ∷ []) k one e = ap (λ z. compared_by (name_of t) (equation_of (link_of z).0) (name_of (link_of z).1)) (sym e)
-of_link l t (k' ∷ (k'' ∷ ks)) k one e = absurd (omega arith)
+of_link :
+    (g : List Defined) (n l : ℕ) (t : ResolvedTree) (ks : List ResolvedLink) (k : ResolvedLink) → length ks ≡ 1 → k ≡ get_or ks 0 k
+    → test_of g n (chain l t (links (map resolved_link_of ks))) ≡ linked g n l t (resolved_link_of k).0 (resolved_link_of k).1
+of_link g n l t [] k one e = absurd (omega arith)
+of_link g n l t (k' ∷ []) k one e = ap (λ z. linked g n l t (resolved_link_of z).0 (resolved_link_of z).1) (sym e)
+of_link g n l t (k' ∷ (k'' ∷ ks)) k one e = absurd (omega arith)
 
-pub one_link : (l : ℕ) (first : Term) (ks : List Link) (k : Link) → length ks ≡ 1 → k ≡ get_or ks 0 k → compared_of (tree_of (v.Chain l first ks)) ≡ compared_by (name_of (tree_of first)) (equation_of k.relation) (name_of (tree_of k.right))
-one_link l first ks k one e = ap compared_of (of-Chain l first ks) ∙ of_link l (tree_of first) ks k one e ∙ ap (λ z. compared_by (name_of (tree_of first)) (equation_of z.0) (name_of z.1)) (seen_link k)
+pub one_link :
+    (g : List Defined) (n l : ℕ) (first : Resolved) (ks : List ResolvedLink) (k : ResolvedLink) → length ks ≡ 1 → k ≡ get_or ks 0 k
+    → test_of g n (resolved_of (v.Chain l first ks)) ≡ linked g n l (resolved_of first) k.relation (resolved_of k.right)
+one_link g n l first ks k one e =
+    ap (test_of g n) (of-Chain l first ks) ∙ of_link g n l (resolved_of first) ks k one e ∙ ap (λ z. linked g n l (resolved_of first) z.0 z.1) (link-seen k)

@@ -1,12 +1,6 @@
-pub mod Names
-pub mod Typing
-pub mod Offences
-pub mod Refusals
-pub mod Checking
-pub mod Laws
+pub mod Showing
+pub mod Unread
 pub mod Bindings
 pub mod Rows
 pub mod Places
 pub mod Sizes
-pub mod Reading
-pub mod Unread

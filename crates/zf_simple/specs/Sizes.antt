@@ -1,7 +1,8 @@
--- The sizes of given sets: what is accepted, what is refused first, and what the sizes then are.
+-- The sizes of given sets: what is accepted, what is refused first, and what the ranges of components then are.
 use Rattle.std.specs.Prelude.{◌≡◌, ℕ, ◌<◌, ◌≤◌, List, ◌∷◌, ◌++◌, map, All, Contains}
 use Rattle.std.specs.List.{AllZip}
 use Rattle.zf_command.specs.declared.job.Size.{Size}
+use Rattle.zf_simple.specs.declared.simple.Component.{Component}
 use Rattle.zf_simple.specs.declared.sizes.TheConstants.{SET_MAX}
 use Rattle.zf_simple.specs.declared.sizes.SizeFault.{SizeFault}
 use Rattle.zf_simple.specs.declared.sizes.SizeFault.TheVariants.{NoSize, NotGiven, SizeTwice, SizeTooLarge, OutOfMemory}
@@ -52,7 +53,19 @@ IsRefusal sets sizes (NoSize name) = LacksSize sets sizes name
 IsRefusal sets sizes OutOfMemory = Unit {0}
 IsRefusal sets sizes fault = RefusesSize sets sizes fault
 
--- All sizes are accepted, and each given set has its count.
-pub record AreSizes (sets : List (List ℕ)) (sizes : List Size) (counts : List ℕ) : Type 0 where
+-- All sizes are accepted, and each given set has one.
+pub record AreSized (sets : List (List ℕ)) (sizes : List Size) : Type 0 where
   pub accepted : AreAccepted sets sizes
-  pub each : AllZip (λ set count. Contains sizes (record { name = set; count = count })) sets counts
+  pub sized : All (λ set. Contains (names sizes) set) sets
+
+-- The size is stated for the name.
+abbrev pub IsSize : List Size → List ℕ → ℕ → Type 0
+IsSize sizes name count = Contains sizes (record { name = name; count = count })
+
+-- Each component has a size stated for its given set.
+abbrev pub HaveSizes : List Size → List Component → Type 0
+HaveSizes sizes components = All (λ c. Contains (names sizes) c.set) components
+
+-- Each component has this range: the size of its given set.
+abbrev pub AreRanges : List Size → List Component → List ℕ → Type 0
+AreRanges sizes components ranges = AllZip (λ c count. IsSize sizes c.set count) components ranges

@@ -1,8 +1,8 @@
--- What a function that makes items ensures.
+-- What a function that reads a form ensures.
 use Rattle.std.specs.Prelude.{◌≡◌, List, ◌++◌, Result, Ok, Err}
-use Rattle.zf_simple.specs.declared.reading.Unread.{Unread}
-use Rattle.zf_simple.specs.declared.reading.Unread.TheVariants.{Form, OutOfMemory}
-use Rattle.zf_simple.specs.Reading.{Read, ◌>>=◌}
+use Rattle.zf_simple.specs.declared.unread.Unread.{Unread}
+use Rattle.zf_simple.specs.declared.unread.Unread.TheVariants.{Form, OutOfMemory}
+use Rattle.zf_simple.specs.Showing.{Read, ◌>>=◌}
 
 abbrev pub Gives : {A : Type 0} → Read A → Result A Unread → Type 0
 Gives read (Ok x) = read ≡ Ok x

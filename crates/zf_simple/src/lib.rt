@@ -1,21 +1,14 @@
-//! Specifications of given sets, and of schemas over them whose predicates are equations of names: what they
-//! define, what is wrong with them, and the bindings of their schemas.
+//! Schemas over given sets whose conjuncts are equations of names: which schemas are such, how large their sets
+//! are, and their bindings.
 #![tactic(auto)]
 
 pub mod bindings;
-pub mod checker;
-pub mod fault;
-pub mod find;
-pub mod globals;
-pub mod item;
-pub mod laws;
-mod limit;
-mod names;
-mod paragraph;
-mod property;
-pub mod reading;
-mod refusal;
-mod side;
-mod signature;
+mod components;
+mod conjuncts;
+pub mod given;
+pub mod showing;
+pub mod side;
+pub mod simple;
 pub mod sizes;
 pub mod test;
+pub mod unread;

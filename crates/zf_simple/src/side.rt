@@ -1,10 +1,10 @@
-//! The sides of a predicate.
+//! The sides of a conjunct.
 
-/// What a name in a predicate stands for.
+/// What a name in a conjunct stands for.
 #[derive(Clone, Copy, Debug, PartialEq, Eq)]
 pub enum Side {
-    /// A component, by its place, and the number of its given set.
-    OfComponent(usize, usize),
-    /// A given set, by its number.
+    /// A component, by its place.
+    OfComponent(usize),
+    /// A given set, by its place among the globals.
     OfSet(usize),
 }

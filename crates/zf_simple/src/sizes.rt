@@ -1,7 +1,8 @@
 //! The sizes of the given sets.
 ghost use Rattle.std.specs.Prelude.{◌≡◌, ◌↔◌, Contains, IsTrue, IfOk, IfErr, OnOk, MatchOption};
-ghost use Rattle.zf_simple.specs.Sizes.{names, IsAccepted, AreAccepted, Refuses, IsRefusal, AreSizes};
+ghost use Rattle.zf_simple.specs.Sizes.{names, IsAccepted, AreAccepted, Refuses, IsRefusal, AreSized, IsSize, HaveSizes, AreRanges};
 
+use crate::simple::Component;
 use std::alloc::{AllocError, AllocFailed, Global};
 use thiserror::Error;
 use zf_command::job::Size;
@@ -45,24 +46,49 @@ impl<T: Drop> From<AllocFailed<T>> for SizeFault {
     }
 }
 
-/// The size of each given set, in the order of `sets`.
-pub fn sizes_of(alloc: Global, sets: &[Text], sizes: &[Size]) -> Result<Vec<u64>, SizeFault>
-    ensures ok { IfOk result (λ counts. AreSizes sets.now sizes.now counts.items) }
+/// Refuses the first size that is not accepted, or the first given set that has none.
+pub fn check_sizes(alloc: Global, sets: &[Text], sizes: &[Size]) -> Result<(), SizeFault>
+    ensures ok { OnOk result (AreSized sets.now sizes.now) }
     ensures err { IfErr result (IsRefusal sets.now sizes.now) }
 {
-    check_sizes(alloc, sets, sizes)?;
-    let mut counts = Vec::new(alloc);
+    check_accepted(alloc, sets, sizes)?;
     for set in sets {
-        let Some(count) = count_of(sizes, set.as_slice()) else {
+        if !is_sized(sizes, set.as_slice()) {
             return Err(SizeFault::NoSize(set.copy(alloc)?));
-        };
-        counts.push(count)?;
+        }
     }
-    Ok(counts)
+    Ok(())
+}
+
+/// The number of elements of each component's given set.
+pub fn ranges_of(
+    alloc: Global,
+    components: &[Component],
+    sizes: &[Size],
+) -> Result<Vec<u64>, AllocError>
+    requires { HaveSizes sizes.now components.now }
+    ensures { IfOk result (λ ranges. AreRanges sizes.now components.now ranges.items) }
+{
+    let mut ranges = Vec::new(alloc);
+    for component in components {
+        ranges.push(range_of(sizes, component.set.as_slice()))?;
+    }
+    Ok(ranges)
+}
+
+/// The size that is stated for the name.
+fn range_of(sizes: &[Size], name: &[u8]) -> u64
+    requires { Contains (names sizes.now) name.now }
+    ensures { IsSize sizes.now name.now result }
+{
+    match count_of(sizes, name) {
+        Some(count) => count,
+        None => unreachable!(),
+    }
 }
 
 /// Refuses the first size that is not accepted.
-fn check_sizes(alloc: Global, sets: &[Text], sizes: &[Size]) -> Result<(), SizeFault>
+fn check_accepted(alloc: Global, sets: &[Text], sizes: &[Size]) -> Result<(), SizeFault>
     ensures ok { OnOk result (AreAccepted sets.now sizes.now) }
     ensures err { IfErr result (IsRefusal sets.now sizes.now) }
 {
@@ -81,7 +107,7 @@ fn check_size(alloc: Global, sets: &[Text], earlier: &[Size], size: &Size) -> Re
     if !is_given(sets, name) {
         return Err(SizeFault::NotGiven(Text::of(alloc, name)?));
     }
-    if count_of(earlier, name).is_some() {
+    if is_sized(earlier, name) {
         return Err(SizeFault::SizeTwice(Text::of(alloc, name)?));
     }
     if size.count > SET_MAX {
@@ -102,9 +128,19 @@ fn is_given(sets: &[Text], name: &[u8]) -> bool
     false
 }
 
+/// Whether a size is stated for the name.
+fn is_sized(sizes: &[Size], name: &[u8]) -> bool
+    ensures { IsTrue result ↔ Contains (names sizes.now) name.now }
+{
+    match count_of(sizes, name) {
+        Some(_) => true,
+        None => false,
+    }
+}
+
 /// The size that is stated for the name, if there is one.
 fn count_of(sizes: &[Size], name: &[u8]) -> Option<u64>
-    ensures { MatchOption result (¬ (Contains (names sizes.now) name.now)) (λ count. Contains sizes.now (record { name = name.now; count = count })) }
+    ensures { MatchOption result (¬ (Contains (names sizes.now) name.now)) (λ count. IsSize sizes.now name.now count) }
 {
     for size in sizes {
         if size.name.as_bytes() == name {

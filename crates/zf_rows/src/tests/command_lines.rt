@@ -2,10 +2,10 @@
 use std::alloc::{AllocError, Global};
 use std::test::Fail;
 use zf_command::asked::job_of;
-use zf_command::job::{Asked, Job, UsageFault};
+use zf_command::job::{Asked, Job, Size, UsageFault};
 
 /// Words, and what they ask for, in short.
-static LINES: [(&[&str], &str); 15] = [
+static LINES: &[(&[&str], &str)] = &[
     (&["show", "-", "S", "NAME=2"], "- S NAME:2"),
     (&["show", "s.tex", "S"], "s.tex S"),
     (
@@ -19,7 +19,16 @@ static LINES: [(&[&str], &str); 15] = [
     (&["--help"], "help"),
     (&["show", "--help"], "help"),
     (&[], "bad arguments"),
-    (&["check", "s.tex"], "bad arguments"),
+    (&["check", "s.tex"], "check s.tex"),
+    (&["check", "-t", "-"], "check -t -"),
+    (&["check", "s.tex", "-t"], "check -t s.tex"),
+    (&["check", "--", "-t"], "check -t"),
+    (&["check", "--help"], "help"),
+    (&["check"], "bad arguments"),
+    (&["check", "-t"], "bad arguments"),
+    (&["check", "-t", "-t", "s.tex"], "bad arguments"),
+    (&["check", "-x", "s.tex"], "bad arguments"),
+    (&["check", "s.tex", "S"], "bad arguments"),
     (&["show", "s.tex"], "bad arguments"),
     (&["show", "--limit", "0", "s.tex", "S"], "bad arguments"),
     (&["show", "s.tex", "S", "NAME"], "bad arguments"),
@@ -31,7 +40,7 @@ static LINES: [(&[&str], &str); 15] = [
 
 #[test]
 fn reads_command_lines(rt: HostRuntime) -> Result<(), Fail> {
-    for (words, short) in &LINES {
+    for (words, short) in LINES {
         let asked = in_short(rt.alloc(), job_of(rt.alloc(), words))?;
         assert_eq!(rt; asked.as_str(), *short);
     }
@@ -41,15 +50,32 @@ fn reads_command_lines(rt: HostRuntime) -> Result<(), Fail> {
 fn in_short(alloc: Global, asked: Result<Asked, UsageFault>) -> Result<String, AllocError> {
     match asked {
         Ok(Asked::Work(file, job)) => {
-            let Job::Show { schema, sizes } = job;
-            let mut text = format!(in alloc; "{} {}", file.as_str(), schema.as_str())?;
-            for size in sizes.as_slice() {
-                let more = format!(in alloc; " {}:{}", size.name.as_str(), size.count)?;
-                text.push_str(more.as_str())?;
+            match job {
+                Job::Check { types: false } => format!(in alloc; "check {}", file.as_str()),
+                Job::Check { types: true } => format!(in alloc; "check -t {}", file.as_str()),
+                Job::Show { schema, sizes } => show_in_short(
+                    alloc,
+                    file.as_str(),
+                    schema.as_str(),
+                    sizes.as_slice(),
+                ),
             }
-            Ok(text)
         }
         Ok(Asked::Help(_text)) => String::from_str(alloc, "help"),
         Err(fault) => format!(in alloc; "{fault}"),
     }
+}
+
+fn show_in_short(
+    alloc: Global,
+    file: &str,
+    schema: &str,
+    sizes: &[Size],
+) -> Result<String, AllocError> {
+    let mut text = format!(in alloc; "{file} {schema}")?;
+    for size in sizes {
+        let more = format!(in alloc; " {}:{}", size.name.as_str(), size.count)?;
+        text.push_str(more.as_str())?;
+    }
+    Ok(text)
 }

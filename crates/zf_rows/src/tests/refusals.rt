@@ -1,5 +1,5 @@
-//! What a run writes of a text that is not read, or that can not be shown yet.
-use crate::tests::runs::ended;
+//! What a run writes of a text that is not read, or of a schema that can't be shown yet.
+use crate::tests::checks::{answers, checks};
 use std::alloc::Global;
 use std::test::Fail;
 use zf_engine::fault::Status;
@@ -9,13 +9,7 @@ use zf_text_rows::repeated::{repeated, spaces};
 const WORDS: &[&str] = &["show", "s.tex", "Absent", "A=1", "A=2", "B=70000"];
 
 fn writes(alloc: Global, source: &str, status: Status, text: &str) -> Result<(), Fail> {
-    let mut written = Vec::new(alloc);
-    let end = ended(alloc, WORDS, source.as_bytes(), &mut written)?;
-    if end == Ok(status) && written.as_slice() == text.as_bytes() {
-        return Ok(());
-    }
-    let found = String::from_utf8(written)?;
-    Err(Fail::new(format_args!("{end:?}: {found}, not {text}")))
+    answers(alloc, WORDS, source, text, status)
 }
 
 /// Texts with a fault, and what is written.
@@ -84,6 +78,7 @@ x : \{\}
 fn faults_come_first(rt: HostRuntime) -> Result<(), Fail> {
     for (source, text) in FAULTS {
         writes(rt.alloc(), source, Status::BadSpec, text)?;
+        checks(rt.alloc(), source, text)?;
     }
     Ok(())
 }
@@ -94,16 +89,15 @@ fn no_boxes(rt: HostRuntime) -> Result<(), Fail> {
     writes(rt.alloc(), "% \\begin{zed}\n", Status::BadRequest, absent)?;
     let longest = spaces(rt.alloc(), 1_048_576)?;
     writes(rt.alloc(), longest.as_str(), Status::BadRequest, absent)?;
+    checks(rt.alloc(), longest.as_str(), "")?;
     let too_long = spaces(rt.alloc(), 1_048_577)?;
     let text = "s.tex: source too long\n";
-    writes(rt.alloc(), too_long.as_str(), Status::BadSpec, text)
+    writes(rt.alloc(), too_long.as_str(), Status::BadSpec, text)?;
+    checks(rt.alloc(), too_long.as_str(), text)
 }
 
 /// Pairs of brackets round a name in a chain, and what is written. The highest tree that is read has height 128.
-static BRACKETS: [(usize, &str); 2] = [
-    (126, "s.tex:1: not in this profile\n"),
-    (127, "s.tex:4: nested too deeply\n"),
-];
+static BRACKETS: [(usize, &str); 2] = [(126, ""), (127, "s.tex:4: nested too deeply\n")];
 
 #[test]
 fn brackets(rt: HostRuntime) -> Result<(), Fail> {
@@ -118,86 +112,142 @@ fn brackets(rt: HostRuntime) -> Result<(), Fail> {
                 ("\n\\end{schema}\n", 1),
             ],
         )?;
-        writes(rt.alloc(), source.as_str(), Status::BadSpec, text)?;
+        checks(rt.alloc(), source.as_str(), text)?;
     }
     Ok(())
 }
 
-/// Texts that are read and can't be shown yet. Line 4 has the first name of the first paragraph or box for which that is so.
-static NOT_YET: &[&str] = &[
-    r"\begin{zed}
+/// What stands before a box, from line 7 on.
+const BEFORE: &str = r"\begin{zed}
 [NAME]
-\\
-C ::=
-red | green
 \end{zed}
-",
-    r"\begin{zed}
-[NAME]
-\\
-X
-== NAME \\
-C ::= a
-\end{zed}
-",
-    r"\begin{zed}
-[NAME]
-\also
-S
-\defs
-[x : NAME]
-\end{zed}
-",
-    // Behind a set that is not declared.
-    r"\begin{schema}{S}
-x : NAME
-\end{schema} \begin{zed}
-X == 1
-\end{zed}
-",
-];
+\begin{schema}{T}
+t : NAME
+\end{schema}
+\begin{schema}{S}
+";
 
-/// Declarations of a schema box that can't be shown yet.
+/// Declarations on line 8 that can't be shown yet.
 static DECLS_NOT_YET: &[&str] = &[
     r"x : \power NAME",
     "x : (NAME)",
     r"x : 1 \upto 3",
     r"x : NAME \cross NAME",
-    r"y : NAME; x : \{y\}",
-    "T",
-    r"x : NAME; \Delta T",
+    r"x : NAME \cup NAME",
+    r"T; x : \emptyset[NAME]",
 ];
 
-/// Predicates of a schema box that can't be shown yet.
+/// Predicates on line 10 that can't be shown yet.
 static PREDICATES_NOT_YET: &[&str] = &[
     "true",
-    "x",
-    "x = 1",
+    "1 = 2",
     "(x = y)",
+    "x = (y)",
     "x = y = x",
     r"x \in NAME",
     r"\lnot x = y",
-    r"x = y \land y = x",
+    r"x = y \lor x \neq y",
+    r"x = y \land true",
+    r"\{x\} = \{y\}",
     r"\forall z : NAME @ x = z",
     r"x = y; \exists z : NAME @ x = z",
 ];
 
+/// Sources with the schema S, and the line of the first form that can't be shown yet.
+static NOT_YET: &[(&str, &str)] = &[
+    // An abbreviation comes before all schemas.
+    (
+        r"\begin{zed}
+[NAME] \\ S \defs [x : \power NAME] \\ X == NAME \\ Y ==
+1 \upto 2
+\end{zed}
+",
+        "s.tex:3: not in this profile\n",
+    ),
+    (
+        r"\begin{zed}
+C ::= red | green \\ S \defs [x :
+C]
+\end{zed}
+",
+        "s.tex:3: not in this profile\n",
+    ),
+    // Declared sets come before conjuncts.
+    (
+        r"\begin{zed}
+[NAME] \\ S \defs [x :
+\finset NAME | x = x \land \lnot
+x = x]
+\end{zed}
+",
+        "s.tex:3: not in this profile\n",
+    ),
+    (
+        r"\begin{zed}
+[NAME] \\ S \defs
+[x : NAME] \lor [x : NAME | x = x]
+\end{zed}
+",
+        "s.tex:3: not in this profile\n",
+    ),
+    // The outer form comes before those in it.
+    (
+        r"\begin{zed}
+[NAME] \\ S \defs [x : NAME |
+\lnot
+x = x]
+\end{zed}
+",
+        "s.tex:3: not in this profile\n",
+    ),
+];
+
 #[test]
 fn not_yet(rt: HostRuntime) -> Result<(), Fail> {
-    let text = "s.tex:4: not in this profile\n";
-    let before = "\\begin{zed}\n[NAME]\n\\end{zed}\n\\begin{schema}{S}\n";
-    for source in NOT_YET {
-        writes(rt.alloc(), source, Status::BadSpec, text)?;
+    for (source, text) in NOT_YET {
+        shows(rt.alloc(), source, text)?;
     }
     for decl in DECLS_NOT_YET {
-        let source = format!(in rt.alloc(); "{before}{decl}\n\\end{{schema}}\n")?;
-        writes(rt.alloc(), source.as_str(), Status::BadSpec, text)?;
+        let source = format!(in rt.alloc(); "{BEFORE}{decl}\n\\end{{schema}}\n")?;
+        shows(
+            rt.alloc(),
+            source.as_str(),
+            "s.tex:8: not in this profile\n",
+        )?;
     }
     for predicate in PREDICATES_NOT_YET {
         let source = format!(in rt.alloc();
-            "{before}x, y : NAME\n\\where\n{predicate}\n\\end{{schema}}\n"
+            "{BEFORE}x, y : NAME\n\\where\n{predicate}\n\\end{{schema}}\n"
         )?;
-        writes(rt.alloc(), source.as_str(), Status::BadSpec, text)?;
+        shows(
+            rt.alloc(),
+            source.as_str(),
+            "s.tex:10: not in this profile\n",
+        )?;
+    }
+    Ok(())
+}
+
+/// `show` of the schema S with sizes that fit none writes the text: forms are looked at before sizes.
+fn shows(alloc: Global, source: &str, text: &str) -> Result<(), Fail> {
+    answers(
+        alloc,
+        &["show", "s.tex", "S", "A=1"],
+        source,
+        text,
+        Status::BadSpec,
+    )
+}
+
+#[test]
+fn a_schema_is_found_first(rt: HostRuntime) -> Result<(), Fail> {
+    for (source, _) in NOT_YET {
+        writes(
+            rt.alloc(),
+            source,
+            Status::BadRequest,
+            "zf: no schema Absent\n",
+        )?;
     }
     Ok(())
 }

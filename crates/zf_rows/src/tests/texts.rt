@@ -2,8 +2,9 @@
 use std::test::Fail;
 use zf_data::Text;
 use zf_engine::texts;
-use zf_simple::fault::{TypeFault, TypeFaultKind};
+use zf_simple::simple::Component;
 use zf_text::fault::{TextFault, TextFaultKind};
+use zf_type::fault::{TypeFault, TypeFaultKind};
 
 #[test]
 fn lines_of_faults(rt: HostRuntime) -> Result<(), Fail> {
@@ -47,8 +48,14 @@ fn lines_of_requests(rt: HostRuntime) -> Result<(), Fail> {
 
 #[test]
 fn lines_of_bindings(rt: HostRuntime) -> Result<(), Fail> {
-    let x = (Text::of(rt.alloc(), b"x")?, Text::of(rt.alloc(), b"NAME")?);
-    let y = (Text::of(rt.alloc(), b"y'")?, Text::of(rt.alloc(), b"DATE")?);
+    let x = Component {
+        name: Text::of(rt.alloc(), b"x")?,
+        set: Text::of(rt.alloc(), b"NAME")?,
+    };
+    let y = Component {
+        name: Text::of(rt.alloc(), b"y'")?,
+        set: Text::of(rt.alloc(), b"DATE")?,
+    };
     let components = vec![in rt.alloc(); x, y]?;
     let mut line = Vec::new(rt.alloc());
     texts::append_binding_line(&mut line, &components, &[0, 9])?;

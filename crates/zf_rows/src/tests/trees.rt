@@ -1,8 +1,6 @@
-//! What no clause says: with memory left, a text has a tree and items.
+//! What no clause says: with memory left, a text has a tree.
 use crate::tests::sources::TWO;
 use std::test::Fail;
-use zf_simple::item::Item;
-use zf_simple::reading::items_of;
 use zf_text::reading::{parse, read_spec};
 use zf_text::scan::scan;
 use zf_text::token::Relation;
@@ -39,22 +37,5 @@ fn a_text_has_a_tree(rt: HostRuntime) -> Result<(), Fail> {
         };
         assert!(rt; link.relation == Relation::NotEqual);
     }
-    Ok(())
-}
-
-#[test]
-fn a_text_has_items(rt: HostRuntime) -> Result<(), Fail> {
-    let spec = read_spec(rt.alloc(), TWO.as_bytes())?;
-    let items = items_of(rt.alloc(), &spec)?;
-    let [Item::Given(sets), Item::Schema(name, declared, compared)] = items.as_slice() else {
-        return Err(Fail::new("other items"));
-    };
-    assert!(rt; sets.len() == 1 && declared.len() == 1 && name.line == 4);
-    let [predicate] = compared.as_slice() else {
-        return Err(Fail::new("other predicates"));
-    };
-    assert_eq!(rt; predicate.left.base.as_slice(), b"x".as_slice());
-    assert_eq!(rt; predicate.right.base.as_slice(), b"y".as_slice());
-    assert!(rt; !predicate.is_equal);
     Ok(())
 }

@@ -1,6 +1,8 @@
 use Rattle.std.proofs.Common.{take}
-use Rattle.zf_simple.specs.Sizes.{AreAccepted}
+use Rattle.std.specs.List.{All, Contains}
+use Rattle.zf_simple.specs.Sizes.{names}
 use Rattle.zf_simple.proofs.sizes.check_sizes.Given as goal
 
-abbrev pub invariant-loop-i : goal.invariant-loop-i
-invariant-loop-i l = AreAccepted l.sets (take l.i l.sizes)
+-- The sets so far have sizes.
+abbrev pub invariant-loop-set : goal.invariant-loop-set
+invariant-loop-set l = All (λ set. Contains (names l.sizes) set) (take l.set-index l.sets)

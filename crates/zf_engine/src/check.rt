@@ -1,0 +1,96 @@
+//! What a source defines, its faults, and the answer of `check`.
+ghost use Rattle.std.specs.Prelude.{◌≡◌, [], IfOk, IfErr};
+ghost use Rattle.std.specs.List.{flat_map};
+ghost use Rattle.zf_engine.specs.Answers.{Checks, CheckAnswer, UnreadAnswer, check_status, check_text};
+ghost use Rattle.zf_engine.specs.Stops.{IfAnswered, IsFaultLine};
+ghost use Rattle.zf_engine.specs.Texts.{type_fault_line};
+ghost use Rattle.zf_text.specs.Parsing.{ReadsSource};
+ghost use Rattle.zf_text.specs.Trees.{boxes_of};
+ghost use Rattle.zf_type.specs.Definitions.{globals_of};
+
+use crate::fault::Status;
+use crate::stop::Stop;
+use crate::texts;
+use std::alloc::{AllocError, Global};
+use zf_schema::checker::{Checked, check_spec};
+use zf_schema::listing::listing;
+use zf_text::fault::{TextFault, TextFaultKind};
+use zf_text::reading::read_spec;
+use zf_text::tree::Spec;
+use zf_type::fault::TypeFault;
+
+/// What a source defines, and its faults of types.
+pub fn checked_in(alloc: Global, file: &[u8], source: &[u8]) -> Result<Checked, Stop>
+    ensures checks { IfOk result (λ c. Checks source.now (globals_of c.globals) c.faults) }
+    ensures stop { IfErr result (λ s. IfAnswered s (UnreadAnswer file.now source.now)) }
+{
+    let spec = spec_in(alloc, file, source)?;
+    let checked = check_spec(alloc, &spec)?;
+    Ok(checked)
+}
+
+/// The text and the status that answer `check`.
+pub fn check_answer(
+    alloc: Global,
+    types: bool,
+    file: &[u8],
+    checked: &Checked,
+) -> Result<(Vec<u8>, Status), AllocError>
+    ensures text { IfOk result (λ p. p.0.items ≡ check_text types file.now (globals_of checked.now.globals) checked.now.faults) }
+    ensures status { IfOk result (λ p. p.1 ≡ check_status checked.now.faults) }
+{
+    let faults = checked.faults.as_slice();
+    let mut text = fault_lines(alloc, file, faults)?;
+    if types {
+        let defined = listing(alloc, &checked.globals)?;
+        text.extend_from_slice(defined.as_slice())?;
+    }
+    Ok((text, check_status(faults)))
+}
+
+/// A text with a fault is a bad specification.
+fn check_status(faults: &[TypeFault]) -> Status
+    ensures { result ≡ check_status faults.now }
+{
+    if faults.is_empty() {
+        Status::Done
+    } else {
+        Status::BadSpec
+    }
+}
+
+/// The lines of faults.
+pub fn fault_lines(alloc: Global, file: &[u8], faults: &[TypeFault]) -> Result<Vec<u8>, AllocError>
+    ensures { IfOk result (λ v. v.items ≡ flat_map (type_fault_line file.now) faults.now) }
+{
+    let mut lines = Vec::new(alloc);
+    for fault in faults {
+        let line = texts::type_fault_line(alloc, file, *fault)?;
+        lines.extend_from_slice(&line)?;
+    }
+    Ok(lines)
+}
+
+/// The tree of a source.
+fn spec_in(alloc: Global, file: &[u8], source: &[u8]) -> Result<Spec, Stop>
+    ensures reads { IfOk result (λ s. ReadsSource (boxes_of s) source.now) }
+    ensures stop { IfErr result (λ s. IfAnswered s (UnreadAnswer file.now source.now)) }
+{
+    match read_spec(alloc, source) {
+        Ok(spec) => Ok(spec),
+        Err(fault) => Err(unread(alloc, file, fault)),
+    }
+}
+
+/// The answer for a fault of a text.
+fn unread(alloc: Global, file: &[u8], fault: TextFault) -> Stop
+    ensures { IfAnswered result (IsFaultLine file.now fault) }
+{
+    if fault.kind == TextFaultKind::OutOfMemory {
+        return Stop::OutOfMemory;
+    }
+    match texts::text_fault_line(alloc, file, fault) {
+        Ok(line) => Stop::Answered(line, Status::BadSpec),
+        Err(_) => Stop::OutOfMemory,
+    }
+}
