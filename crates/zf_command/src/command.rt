@@ -32,7 +32,7 @@ fn check_command<'a>(alloc: Global) -> Result<Command<'a>, AllocError>
     ensures { IfOk result (λ c. IsCommand c check_app) }
 {
     let command = Command::new(alloc, "check")
-        .about("Writes the faults of types, one a line")
+        .about("Writes the faults of a specification, one a line")
         .arg(types_arg(alloc))?
         .arg(file_arg(alloc))?;
     Ok(command)
