@@ -1,18 +1,14 @@
 -- The steps before the first binding make answers: refusals, or a walk whose lines are one.
-use Rattle.std.proofs.Common.{◌≡◌, ◌⊎◌, ◌≢◌, ℕ, List, [], ◌∷◌, Bool, ◌==◌, false, true, length, All, Contains, Result, Ok, Err, IfErr, refl, sym, ap, ◌∙◌, subst, inl, inr}
+use Rattle.std.proofs.Common.{◌≡◌, ◌⊎◌, ◌≢◌, ℕ, List, [], Bool, ◌==◌, false, true, length, Result, Ok, Err, IfErr, refl, sym, ap, ◌∙◌, subst, inl, inr}
 use Rattle.std.specs.List.{flat_map}
-use Rattle.std.proofs.lemmas.List.Elements.{All-contains}
-use Rattle.std.proofs.lemmas.Slice.Zip.{AllZip-long}
 use Rattle.zf_command.specs.declared.job.Job.{Job}
 use Rattle.zf_command.specs.declared.job.Job.TheVariants.{Check, Show}
 use Rattle.zf_command.specs.declared.job.Size.{Size}
 use Rattle.zf_schema.specs.Finite.{IsFinite}
-use Rattle.zf_simple.specs.declared.simple.Component.{Component}
 use Rattle.zf_simple.specs.declared.simple.Simple.{Simple}
-use Rattle.zf_simple.specs.declared.test.Test.{Test}
-use Rattle.zf_simple.specs.Bindings.{IsBindings, IsWithin}
+use Rattle.zf_simple.specs.Bindings.{IsBindings}
 use Rattle.zf_simple.specs.Showing.{given_sets, simple_of}
-use Rattle.zf_simple.specs.Sizes.{AreSized, AreRanges, HaveSizes, names}
+use Rattle.zf_simple.specs.Sizes.{AreSized, AreRanges}
 use Rattle.zf_text.specs.declared.fault.TextFault.{TextFault}
 use Rattle.zf_text.specs.Cuts.{IsWantOfMemory}
 use Rattle.zf_text.specs.Parsing.{RefusesSource}
@@ -23,7 +19,7 @@ use Rattle.zf_engine.specs.declared.fault.Status.TheVariants.{Done, BadSpec}
 use Rattle.zf_engine.specs.declared.prepare.Ready.{Ready}
 use Rattle.zf_engine.specs.declared.stop.Stop.{Stop}
 use Rattle.zf_engine.specs.declared.stop.Stop.TheVariants.{Answered, OutOfMemory}
-use Rattle.zf_engine.specs.Answers.{Answer, Checks, HasSchema, IsNamed, ShowAnswer, UnreadAnswer, ill_typed, other_form, bad_sizes, not_finite, bindings, show_text}
+use Rattle.zf_engine.specs.Answers.{Answer, Checks, HasSchema, IsNamed, UnreadAnswer, ill_typed, other_form, bad_sizes, not_finite, bindings, show_text}
 use Rattle.zf_engine.specs.Stops.{IfAnswered, IsFaultLine, ShowsBindings, ShowsJob, TellsForm, TellsInfinite, TellsMisfit}
 use Rattle.zf_engine.specs.Texts.{type_fault_line}
 
@@ -79,15 +75,6 @@ module _ (name file source : List ℕ) (sizes : List Size) (g : List Defined) (a
     shows ready sized ends ranged same rows is =
         let all_rows = subst (λ s. IsBindings ready.ranges.items s.tests rows) same is in
         bindings g a simple ready.ranges.items rows has read sized ends ranged all_rows (ap (λ s. show_text s.components rows) same) refl
-
--- each component has a size, since its given set has one
-pub have_sizes : (sets : List (List ℕ)) (sizes : List Size) (components : List Component) → All (λ c. Contains sets c.set) components → AreSized sets sizes
-    → HaveSizes sizes components
-have_sizes sets sizes components given sized = λ i d below. All-contains (Contains (names sizes)) sets _ sized.sized (given i d below)
-
-pub stays_within : (sizes : List Size) (components : List Component) (ranges : List ℕ) (tests : List Test) → All (IsWithin (length components)) tests
-    → AreRanges sizes components ranges → All (IsWithin (length ranges)) tests
-stays_within sizes components ranges tests within ranged = subst (λ n. All (IsWithin n) tests) (sym (AllZip-long _ components ranges ranged)) within
 
 pub job_shown : (job : Job) (file source : List ℕ) (ready : Ready) (rows : List (List ℕ)) → ShowsJob job file source ready → IsBindings ready.ranges.items ready.simple.tests rows
     → Answer job file source (show_text ready.simple.components rows) Done

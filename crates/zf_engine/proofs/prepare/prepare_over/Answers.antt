@@ -1,10 +1,11 @@
-use Rattle.std.proofs.Common.{rules, ◌≡◌, ◌∙◌, List, ℕ, All, [], refl, inr, subst, ap, sym, Contains}
-use Rattle.zf_type.specs.Definitions.{schema_of, globals_of, Defined}
+use Rattle.std.proofs.Common.{rules, ◌∙◌, refl, inr, subst, ap, sym}
+use Rattle.zf_type.specs.Definitions.{schema_of, globals_of}
 use Rattle.zf_simple.specs.Sizes.{AreRanges, HaveSizes}
-use Rattle.zf_engine.specs.Answers.{Checks, HasSchema, IsNamed, no_schema}
+use Rattle.zf_engine.specs.Answers.{no_schema}
 use Rattle.zf_engine.specs.Stops.{AnswersOver, IfAnswered, TellsForm, TellsInfinite, TellsMisfit}
 use Rattle.zf_engine.specs.Texts.{no_schema_line}
-use Rattle.zf_engine.proofs.Refusing.{form_answers, misfit_answers, infinite_answers, shows, have_sizes, stays_within, has_schema, weaker_err}
+use Rattle.zf_simple.proofs.Ranges.{have_sizes, within_ranges}
+use Rattle.zf_engine.proofs.Refusing.{form_answers, misfit_answers, infinite_answers, shows, has_schema, weaker_err}
 use Rattle.zf_engine.proofs.prepare.prepare_over.Goals as goal
 
 pub returns-in_default-clause-stop : goal.returns-in_default-clause-stop
@@ -28,7 +29,7 @@ returns-in_err-check_end-clause-stop c =
 
 pub ranges_of-requires : goal.ranges_of-requires
 ranges_of-requires c =
-    subst (HaveSizes c.args.sizes.now) (sym c.as_slice.ensures) (have_sizes _ c.args.sizes.now c.in_ok-simple.simple.components c.in_ok-simple.ensures.given c.in_ok-check_fit.ensures.ok)
+    subst (HaveSizes c.args.sizes.now) (sym c.as_slice.ensures) (have_sizes _ c.args.sizes.now c.in_ok-simple.simple.components c.in_ok-check_fit.ensures.ok c.in_ok-simple.ensures.given)
 
 pub returns-clause-shows : goal.returns-clause-shows
 returns-clause-shows c = λ source checks.
@@ -37,5 +38,5 @@ returns-clause-shows c = λ source checks.
 
 pub returns-clause-within : goal.returns-clause-within
 returns-clause-within c =
-    stays_within c.args.sizes.now c.in_ok-simple.simple.components c.in_ok-ranges.ranges.items c.in_ok-simple.simple.tests c.in_ok-simple.ensures.within
-    (subst (λ cs. AreRanges c.args.sizes.now cs c.in_ok-ranges.ranges.items) c.as_slice.ensures c.in_ok-ranges.ensures)
+    within_ranges c.args.sizes.now c.in_ok-simple.simple.components c.in_ok-ranges.ranges.items c.in_ok-simple.simple.tests
+    (subst (λ cs. AreRanges c.args.sizes.now cs c.in_ok-ranges.ranges.items) c.as_slice.ensures c.in_ok-ranges.ensures) c.in_ok-simple.ensures.within

@@ -1,4 +1,4 @@
-use Rattle.std.proofs.Common.{◌≡◌, ◌∙◌, length, ap, ◌==◌, sym}
+use Rattle.std.proofs.Common.{◌∙◌, length, ap, ◌==◌}
 use Rattle.std.specs.List.{flat_map}
 use Rattle.zf_engine.specs.Texts.{type_fault_line}
 use Rattle.zf_engine.proofs.Refusing.{ill_typed_answers, some_of}
