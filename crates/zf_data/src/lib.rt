@@ -3,10 +3,12 @@
 
 mod boxed;
 mod items;
+mod shared;
 mod text;
 mod word;
 
 pub use boxed::Boxed;
 pub use items::Items;
+pub use shared::Shared;
 pub use text::Text;
 pub use word::Word;

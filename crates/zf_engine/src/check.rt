@@ -12,6 +12,7 @@ use crate::fault::Status;
 use crate::stop::Stop;
 use crate::texts;
 use std::alloc::{AllocError, Global};
+use std::mem;
 use zf_schema::checker::{Checked, check_spec};
 use zf_schema::listing::listing;
 use zf_text::fault::{TextFault, TextFaultKind};
@@ -26,6 +27,8 @@ pub fn checked_in(alloc: Global, file: &[u8], source: &[u8]) -> Result<Checked, 
 {
     let spec = spec_in(alloc, file, source)?;
     let checked = check_spec(alloc, &spec)?;
+    // The tree goes with the program: to take it apart costs as much as to check it.
+    mem::forget(spec);
     Ok(checked)
 }
 

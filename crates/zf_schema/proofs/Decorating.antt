@@ -1,12 +1,12 @@
 -- Strokes change no size.
-use Rattle.std.proofs.Common.{◌≡◌, ℕ, Bool, true, ◌==◌, eqb-true, length, sym, List, [], ◌∷◌, ◌++◌, map, refl, ap, ◌∙◌, arith, append-nil}
+use Rattle.std.proofs.Common.{◌≡◌, ℕ, Bool, true, ◌==◌, eqb-true, length, sym, List, [], ◌∷◌, ◌++◌, map, refl, ap, ◌∙◌, subst, arith, append-nil}
 use Rattle.std.proofs.lemmas.List.{length-map}
 use Rattle.std.proofs.lemmas.List.Sums.{sum_by-cons}
 use Rattle.std.specs.List.{sum_by}
 use Rattle.zf_type.specs.Definitions.{Comp, Schema, DeclaredSet}
 use Rattle.zf_type.specs.SetShapes.{set_count, set_nodes}
 use Rattle.zf_schema.specs.Calculus.{comp, schema_of, decorated}
-use Rattle.zf_schema.specs.Growth.{counted}
+use Rattle.zf_schema.specs.Growth.{HasLeft, counted}
 use Rattle.zf_schema.specs.Limits.{IsWithin}
 
 abbrev pub stroked : List ℕ → Comp → Comp
@@ -49,6 +49,19 @@ decorated_within strokes a w =
       nodes = omega arith;
       low = w.low;
     }
+
+pub left_decorated : (strokes : List ℕ) (a b : Schema) (s n : ℕ) → HasLeft a s n → b ≡ decorated strokes a → HasLeft b s n
+left_decorated strokes a b s n h e =
+    let c = counts_same set_count strokes a.comps in
+    let d = counts_same set_nodes strokes a.comps in
+    let sets = h.sets in
+    let nodes = h.nodes in
+    let whole : HasLeft (decorated strokes a) s n = record {
+      sets = omega arith;
+      nodes = omega arith;
+      within = within_decorated strokes a h.within;
+    } in
+    subst (λ (x : Schema). HasLeft x s n) (sym e) whole
 
 no_strokes : (cs : List Comp) → map (stroked []) cs ≡ cs
 no_strokes [] = refl

@@ -1,5 +1,5 @@
 -- The components of disjunctions.
-use Rattle.std.proofs.Common.{◌≡◌, inr, ℕ, ◌+◌, ◌<◌, ◌≤◌, List, [], ◌∷◌, length, map, drop, get_or, refl, sym, ap, ◌∙◌, subst, arith}
+use Rattle.std.proofs.Common.{◌≡◌, inr, ℕ, ◌<◌, List, [], ◌∷◌, length, map, refl, sym, ap, ◌∙◌, subst, arith}
 use Rattle.std.proofs.lemmas.List.{length-map}
 use Rattle.zf_type.specs.declared.fault.TypeFaultKind.{TypeFaultKind}
 use Rattle.zf_type.specs.declared.fault.TypeFaultKind.TheVariants as kinds
@@ -10,25 +10,14 @@ use Rattle.zf_type.specs.declared.globals.Flat.{Flat}
 use Rattle.zf_type.specs.declared.ztype.ZType.{ZType}
 use Rattle.zf_type.specs.Definitions.{Comp, Schema, DeclaredSet, sides, sets_of, set_of, comp_of, schema_of}
 use Rattle.zf_type.specs.Types.{type_of}
-use Rattle.zf_schema.specs.Calculus.{comp, comp_named, sets_on, with_comp, with_comps, disjoined}
+use Rattle.zf_schema.specs.Calculus.{comp, comp_named, sets_on, with_comps, disjoined}
 use Rattle.zf_schema.specs.Growth.{IsTooLarge, either_comp, disjoined_over}
 use Rattle.zf_schema.specs.Expressions.{IsNext}
 use Rattle.zf_schema.specs.Limits.{IsWithin}
 use Rattle.zf_schema.specs.SchemaOffences.{Stops}
-use Rattle.zf_type.proofs.Walk.{dropped}
 use Rattle.zf_type.proofs.SetsSeen.{of-Either}
 use Rattle.zf_schema.proofs.Merging.{none_shorter}
-
--- more components than a schema can have
-abbrev pub TooMany : List Comp → TypeFaultKind → Type 0
-TooMany cs k = (k ≡ kinds.TooLarge) × (length cs ≤ 64 → ⊥)
-
-pub stops_joining : (ws : List Comp) (all xs : List Component) (i : ℕ) (x y : Component) → i < length xs → x ≡ get_or xs i x → y ≡ x → with_comps (map comp_of all) (map comp_of (drop i xs)) ≡ ws → (k : TypeFaultKind) → TooMany (with_comp (map comp_of all) (comp_of y)) k → TooMany ws k
-stops_joining ws all xs i x y l e f whole k h =
-    let now : with_comps (map comp_of all) (comp_of x ∷ map comp_of (drop (i + 1) xs)) ≡ ws = ap (λ (ys : List Component). with_comps (map comp_of all) (map comp_of ys)) (sym (dropped xs i x l e)) ∙ whole in
-    let less = none_shorter (with_comp (map comp_of all) (comp_of x)) (map comp_of (drop (i + 1) xs)) in
-    let same = ap (λ (z : Component). length (with_comp (map comp_of all) (comp_of z))) f in
-    (h.0, λ w. h.1 (omega (arith, ap length now)))
+use Rattle.zf_schema.proofs.Placing.{TooMany}
 
 pub too_many : (cs ds : List Component) → 64 < length cs → TooMany (with_comps (map comp_of cs) (map comp_of ds)) kinds.TooLarge
 too_many cs ds l = (refl, λ w. omega (arith, none_shorter (map comp_of cs) (map comp_of ds), length-map cs comp_of))

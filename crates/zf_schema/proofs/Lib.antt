@@ -13,10 +13,11 @@ pub mod Unchanged
 pub mod Globals
 pub mod Counting
 pub mod Merging
+pub mod Placing
 pub mod Monotony
+pub mod Beside
 pub mod Renumbering
 pub mod Stopping
-pub mod Steps
 pub mod Equalities
 pub mod Decorating
 pub mod Changing

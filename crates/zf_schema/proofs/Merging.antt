@@ -23,7 +23,7 @@ front false a d i (Some r) h =
     let e = some_alike h in
     inr (refl, (r.0, ap (λ x. Some (r.0, x)) (ap (λ q. q.1) e), sym (ap (λ q. q.0) e) ∙ add-one r.0))
 
-nothing_before : {A : Type 0} (b : Bool) (p : ℕ × A) (o : Option (ℕ × A)) → (if b then Some p else later o) ≡ None → (b ≡ false) × (o ≡ None)
+pub nothing_before : {A : Type 0} (b : Bool) (p : ℕ × A) (o : Option (ℕ × A)) → (if b then Some p else later o) ≡ None → (b ≡ false) × (o ≡ None)
 nothing_before true p o h = absurd (cc)
 nothing_before false p None h = (refl, refl)
 nothing_before false p (Some q) h = absurd (cc)

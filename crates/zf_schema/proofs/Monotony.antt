@@ -70,7 +70,7 @@ sets_passed a c s n h e w = omega (arith, counts_more set_count a.comps c, h.set
 pub nodes_passed : (a : Schema) (c : Comp) (s n : ℕ) → HasLeft a s n → n < sum_by set_nodes c.sets → IsWithin (grown a c) → ⊥
 nodes_passed a c s n h e w = omega (arith, counts_more set_nodes a.comps c, h.nodes, w.nodes)
 
-all_low : (ts us : List ResolvedTree) → AllByRecursion IsLow ts → AllByRecursion IsLow us → AllByRecursion IsLow (ts ++ us)
+pub all_low : (ts us : List ResolvedTree) → AllByRecursion IsLow ts → AllByRecursion IsLow us → AllByRecursion IsLow (ts ++ us)
 all_low [] us h g = g
 all_low (t ∷ ts) us h g = (h.0, all_low ts us h.1 g)
 

@@ -1,5 +1,5 @@
 -- A schema that grows within the limits, and what stops it.
-use Rattle.std.specs.Prelude.{◌≡◌, ◌⊎◌, ℕ, ◌+◌, ◌++◌, List, [], ◌∷◌, fold, map, Some, None}
+use Rattle.std.specs.Prelude.{◌≡◌, ◌⊎◌, ℕ, ◌+◌, ◌≤◌, ◌++◌, List, [], ◌∷◌, fold, length, map, Option, Some, None}
 use Rattle.std.specs.List.{sum_by}
 use Rattle.zf_text.specs.declared.token.Relation.TheVariants.{Equal, Member}
 use Rattle.zf_text.specs.declared.token.Connective.TheVariants.{And, Or}
@@ -36,6 +36,25 @@ pub record HasLeft (a : Schema) (sets_left nodes_left : ℕ) : Type 0 where
 abbrev pub IsGrowing : Growing → Type 0
 IsGrowing g = HasLeft (schema_of g.flat) g.sets_left g.nodes_left
 
+-- what is left of two of them beside another schema, once its components are joined
+abbrev pub HasLeftBeside : Schema → Schema → ℕ × ℕ → Type 0
+HasLeftBeside a b left = length (with_comps a.comps b.comps) ≤ 64 → HasLeft (calculus.conjoined a b) left.0 left.1
+
+-- the place of the first component that has the name
+abbrev pub place_found : Option (ℕ × Comp) → Option ℕ
+place_found None = None
+place_found (Some p) = Some p.0
+
+abbrev pub place_named : List ℕ → List Comp → Option ℕ
+place_named x cs = place_found (calculus.comp_named x cs)
+
+-- the components are at these places
+abbrev pub AreAt : List Comp → List ℕ → List Comp → Type 0
+AreAt all [] [] = Unit {0}
+AreAt all [] (c ∷ cs) = ⊥
+AreAt all (p ∷ ps) [] = ⊥
+AreAt all (p ∷ ps) (c ∷ cs) = (place_named c.name all ≡ Some p) × AreAt all ps cs
+
 -- the fact holds of the kind of fault, unless memory ran out
 abbrev pub IfStopped : Stop → (TypeFaultKind → Type 0) → Type 0
 IfStopped Clash P = P ComponentClash
@@ -53,9 +72,6 @@ IsTooLarge next k = (k ≡ kind.TooLarge) × (IsWithin next → ⊥)
 -- with one more component, whatever type one of its name has
 abbrev pub grown : Schema → Comp → Schema
 grown a c = calculus.schema_of (with_comp a.comps c) a.conjuncts
-
-abbrev pub all_grown : Schema → List Comp → Schema
-all_grown a cs = calculus.schema_of (with_comps a.comps cs) a.conjuncts
 
 -- with further conjuncts
 abbrev pub constrained : Schema → List ResolvedTree → Schema

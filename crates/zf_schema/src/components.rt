@@ -5,8 +5,8 @@ ghost use Rattle.zf_type.specs.declared.fault.TypeFaultKind.TheVariants as kinds
 ghost use Rattle.zf_type.specs.Definitions.{Comp, comp_of};
 ghost use Rattle.zf_type.specs.Shapes.{place_in};
 ghost use Rattle.zf_schema.specs.Calculus as spec;
-ghost use Rattle.zf_schema.specs.Calculus.{Agrees, Agree, comp_named, new_place, with_comp};
-ghost use Rattle.zf_schema.specs.Growth.{IfStopped, enriched};
+ghost use Rattle.zf_schema.specs.Calculus.{Agrees, Agree, comp_named, new_place, with_comp, with_comps};
+ghost use Rattle.zf_schema.specs.Growth.{AreAt, IfStopped, enriched, place_named};
 
 use crate::limits::COMPONENTS_MAX;
 use crate::stop::Stop;
@@ -37,16 +37,43 @@ pub fn agrees(components: &[Component], component: &Component) -> bool
     }
 }
 
-/// Adds a component, if there is room; one of its name gains its declared sets.
-pub fn join(components: &mut Items<Component>, component: Component) -> Result<(), Stop>
+/// Adds components, one after another, if there is room; answers where they are.
+pub fn join_all(
+    components: &mut Items<Component>,
+    alloc: Global,
+    further: Items<Component>,
+) -> Result<Items<usize>, Stop>
+    requires { length (map comp_of components.old) ≤ 64 }
+    ensures ok { OnOk result (map comp_of components.new ≡ with_comps (map comp_of components.old) (map comp_of further)) }
+    ensures places { IfOk result (λ places. AreAt (map comp_of components.new) places (map comp_of further)) }
+    ensures room { OnOk result (length (with_comps (map comp_of components.old) (map comp_of further)) ≤ 64) }
+    ensures err { IfErr result (λ e. IfStopped e (λ kind. (kind ≡ kinds.TooLarge) × (length (with_comps (map comp_of components.old) (map comp_of further)) ≤ 64 → ⊥))) }
+{
+    let mut places = Items::new(alloc);
+    for component in further.items {
+        places.push(join(components, component)?)?;
+    }
+    Ok(places)
+}
+
+/// Adds a component, if there is room; one of its name gains its declared sets. Answers where it is.
+pub fn join(components: &mut Items<Component>, component: Component) -> Result<usize, Stop>
     requires { length (map comp_of components.old) ≤ 64 }
     ensures ok { OnOk result (map comp_of components.new ≡ with_comp (map comp_of components.old) (comp_of component)) }
+    ensures place { IfOk result (λ place. place_named component.name (with_comp (map comp_of components.old) (comp_of component)) ≡ Some place) }
     ensures room { OnOk result (length (with_comp (map comp_of components.old) (comp_of component)) ≤ 64) }
     ensures err { IfErr result (λ e. IfStopped e (λ kind. (kind ≡ kinds.TooLarge) × (length (with_comp (map comp_of components.old) (comp_of component)) ≤ 64 → ⊥))) }
 {
     match place_of(components.as_slice(), component.name.as_slice()) {
-        Some(place) => Ok(gain(components, place, component.domains)?),
-        None => add_new(components, component),
+        Some(place) => {
+            gain(components, place, component.domains)?;
+            Ok(place)
+        }
+        None => {
+            let place = components.len();
+            add_new(components, component)?;
+            Ok(place)
+        }
     }
 }
 
@@ -107,11 +134,11 @@ pub fn new_places(
     alloc: Global,
     components: &[Component],
     among: &[Component],
-) -> Result<Vec<usize>, AllocError>
-    ensures places { IfOk result (λ places. place_in places.items ≡ new_place (map comp_of components.now) (map comp_of among.now)) }
-    ensures each { IfOk result (λ places. length places.items ≡ length (map comp_of components.now)) }
+) -> Result<Items<usize>, AllocError>
+    ensures places { IfOk result (λ places. place_in places ≡ new_place (map comp_of components.now) (map comp_of among.now)) }
+    ensures each { IfOk result (λ places. length places ≡ length (map comp_of components.now)) }
 {
-    let mut places = Vec::new(alloc);
+    let mut places = Items::new(alloc);
     for (place, component) in components.iter().enumerate() {
         places.push(place_or(among, component.name.as_slice(), place))?;
     }

@@ -1,7 +1,7 @@
 //! Disjunctions of schemas.
 ghost use Rattle.std.specs.Prelude.{◌≡◌, ◌++◌, ◌∷◌, ◌≤◌, IfErr, IfOk, OnOk, flat_map, length, map};
 ghost use Rattle.zf_type.specs.declared.fault.TypeFaultKind.TheVariants as kinds;
-ghost use Rattle.zf_type.specs.Definitions.{comp_of, schema_of, set_of};
+ghost use Rattle.zf_type.specs.Definitions.{comp_of, conjunct_of, schema_of, set_of};
 ghost use Rattle.zf_type.specs.ResolvedTrees.{resolved_of};
 ghost use Rattle.zf_type.specs.Shapes.{place_in};
 ghost use Rattle.zf_type.specs.Shapes as shape;
@@ -12,15 +12,16 @@ ghost use Rattle.zf_schema.specs.Expressions.{IsNext};
 ghost use Rattle.zf_schema.specs.Growth.{IfStopped, IsGrowing, all_joined, both_hold, disjoined_over, either_comp, is_member, one_holds};
 ghost use Rattle.zf_schema.specs.SchemaOffences.{Stops};
 
-use crate::components::{agree, component_copies, join, new_places};
+use crate::components::{agree, component_copies, join_all, new_places};
 use crate::growing::Growing;
 use crate::limits::COMPONENTS_MAX;
-use crate::marking::{copies, within};
+use crate::marking::within;
 use crate::stop::Stop;
 use std::alloc::{AllocError, Global};
 use zf_data::{Boxed, Items};
 use zf_text::token::{Connective, Constant, Relation};
-use zf_type::globals::{Component, Domain, Flat};
+use zf_type::conjunct::Conjunct;
+use zf_type::globals::{Component, Domain, Flat, shared_sets};
 use zf_type::operator::Operator;
 use zf_type::resolved::{Reference, Resolved, ResolvedLink};
 use zf_type::scope::component_of;
@@ -38,10 +39,8 @@ fn all_components(
         return Err(Stop::TooLarge);
     }
     let mut all = component_copies(alloc, left)?;
-    for component in right {
-        let copy = component.copy(alloc)?;
-        join(&mut all, copy)?;
-    }
+    let further = component_copies(alloc, right)?;
+    let _places = join_all(&mut all, alloc, further)?;
     Ok(all)
 }
 
@@ -55,7 +54,7 @@ fn either(
     ensures { IfOk result (λ c. comp_of c ≡ either_comp (map comp_of left.now) (map comp_of right.now) (comp_of component.now)) }
 {
     let name = component.name.copy(alloc)?;
-    let ztype = component.ztype.copy(alloc)?;
+    let ztype = component.ztype.share()?;
     let left = sets_on(alloc, left, component)?;
     let right = sets_on(alloc, right, component)?;
     let domains = Items::of(alloc, Domain::Either(left, right))?;
@@ -76,19 +75,9 @@ fn sets_on(
     ensures { IfOk result (λ ds. map set_of ds ≡ spec.sets_on (comp_named component.now.name (map comp_of side.now)) (type_of component.now.ztype)) }
 {
     match component_of(side, component.name.as_slice()) {
-        Some((_, found)) => domain_copies(alloc, found.domains.as_slice()),
-        None => Items::of(alloc, Domain::Carrier(component.ztype.copy(alloc)?)),
+        Some((_, found)) => shared_sets(&found.domains, alloc),
+        None => Items::of(alloc, Domain::Carrier(component.ztype.share()?)),
     }
-}
-
-fn domain_copies(alloc: Global, domains: &[Domain]) -> Result<Items<Domain>, AllocError>
-    ensures { IfOk result (λ ds. ds ≡ domains.now) }
-{
-    let mut made = Items::new(alloc);
-    for domain in domains {
-        made.push(domain.copy(alloc)?)?;
-    }
-    Ok(made)
 }
 
 /// The components of a disjunction, one for each of these.
@@ -168,7 +157,7 @@ fn push_membership(
 {
     match domain {
         Domain::Plain(set) => {
-            let term = membership(alloc, place, set)?;
+            let term = membership(alloc, place, set.get())?;
             made.push(term)
         }
         Domain::Carrier(_) => Ok(()),
@@ -203,15 +192,15 @@ fn push_all_memberships(
     Ok(())
 }
 
-fn push_copies(
+fn push_conjuncts(
     alloc: Global,
-    terms: &[Resolved],
+    conjuncts: &[Conjunct],
     made: &mut Items<Resolved>,
 ) -> Result<(), AllocError>
-    ensures { OnOk result (made.new ≡ made.old ++ terms.now) }
+    ensures { OnOk result (map resolved_of made.new ≡ map resolved_of made.old ++ map conjunct_of conjuncts.now) }
 {
-    for term in terms {
-        made.push(term.copy(alloc)?)?;
+    for conjunct in conjuncts {
+        made.push(conjunct.resolved(alloc)?)?;
     }
     Ok(())
 }
@@ -222,7 +211,7 @@ fn constraints(alloc: Global, flat: &Flat) -> Result<Items<Resolved>, AllocError
 {
     let mut made = Items::new(alloc);
     push_all_memberships(alloc, flat.components.as_slice(), &mut made)?;
-    push_copies(alloc, flat.conjuncts.as_slice(), &mut made)?;
+    push_conjuncts(alloc, flat.conjuncts.as_slice(), &mut made)?;
     Ok(made)
 }
 
@@ -276,7 +265,7 @@ fn disjunction(
     let of_right = constraints(alloc, right)?;
     let moved = moved_all(alloc, of_right.as_slice(), places.as_slice())?;
     let whole = one_holds(alloc, line, of_left.as_slice(), moved.as_slice())?;
-    let conjuncts = Items::of(alloc, whole)?;
+    let conjuncts = Items::of(alloc, Conjunct::of(alloc, whole)?)?;
     Ok(Flat {
         components,
         conjuncts,

@@ -5,18 +5,18 @@ ghost use Rattle.zf_text.specs.Trees.{decl_of};
 ghost use Rattle.zf_type.specs.Definitions.{globals_of, schema_of};
 ghost use Rattle.zf_type.specs.Refusals.{IfFault};
 ghost use Rattle.zf_schema.specs.Calculus.{Agree, conjoined, disjoined};
-ghost use Rattle.zf_schema.specs.Expressions.{IsNext, IsSchema, Refers};
+ghost use Rattle.zf_schema.specs.Expressions.{IsNext, IsSchema};
 ghost use Rattle.zf_schema.specs.Growth.{CantConjoin, IsGrowing};
 ghost use Rattle.zf_schema.specs.SchemaOffences as spec;
-ghost use Rattle.zf_schema.specs.SchemaOffences.{OffendsRef, OffendsSchema, StopsEither};
+ghost use Rattle.zf_schema.specs.SchemaOffences.{OffendsSchema, StopsEither};
 
 use crate::disjunction::disjoin;
 use crate::growing::Growing;
-use crate::reference::refer;
+use crate::reference::referred;
 use crate::stop::Stop;
 use crate::text::growing_text;
 use std::alloc::Global;
-use zf_text::tree::{Decl, Name, SchemaExp, SchemaRef};
+use zf_text::tree::{Decl, Name, SchemaExp};
 use zf_type::fault::Refusal;
 use zf_type::globals::{Flat, Globals};
 
@@ -50,7 +50,7 @@ fn growing_schema(exp: &SchemaExp, alloc: Global, globals: &Globals) -> Result<G
         SchemaExp::Both(left, right) => {
             let of_left = growing_schema(left.get(), alloc, globals)?;
             let of_right = growing_schema(right.get(), alloc, globals)?;
-            conjunction(alloc, name_line(right.get()), of_left, &of_right.flat)
+            conjunction(alloc, name_line(right.get()), of_left, of_right)
         }
         SchemaExp::Or(line, left, right) => {
             let of_left = growing_schema(left.get(), alloc, globals)?;
@@ -67,26 +67,14 @@ fn growing_schema(exp: &SchemaExp, alloc: Global, globals: &Globals) -> Result<G
     }
 }
 
-/// The schema that is referred to.
-fn referred(alloc: Global, globals: &Globals, reference: &SchemaRef) -> Result<Growing, Refusal>
-    ensures ok { IfOk result (λ g. Refers (globals_of globals.now) reference.now (schema_of g.flat)) }
-    ensures growing { IfOk result (λ g. IsGrowing g) }
-    ensures wrong { IfErr result (λ e. IfFault e (OffendsRef (globals_of globals.now) reference.now)) }
-{
-    let flat = refer(alloc, globals, reference)?;
-    let Some(growing) = Growing::of(flat) else {
-        unreachable!();
-    };
-    Ok(growing)
-}
-
 /// The conjunction of two schemas, where the first name of the right one stands at this line.
-fn conjunction(alloc: Global, line: u32, left: Growing, right: &Flat) -> Result<Growing, Refusal>
-    requires { IsGrowing left }
-    ensures agree { IfOk result (λ g. Agree (schema_of left.flat).comps (schema_of right.now).comps) }
-    ensures ok { IfOk result (λ g. IsNext (conjoined (schema_of left.flat) (schema_of right.now)) (schema_of g.flat)) }
+fn conjunction(alloc: Global, line: u32, left: Growing, right: Growing) -> Result<Growing, Refusal>
+    requires first { IsGrowing left }
+    requires second { IsGrowing right }
+    ensures agree { IfOk result (λ g. Agree (schema_of left.flat).comps (schema_of right.flat).comps) }
+    ensures ok { IfOk result (λ g. IsNext (conjoined (schema_of left.flat) (schema_of right.flat)) (schema_of g.flat)) }
     ensures growing { IfOk result (λ g. IsGrowing g) }
-    ensures wrong { IfErr result (λ e. IfFault e (CantConjoin line (schema_of left.flat) (schema_of right.now))) }
+    ensures wrong { IfErr result (λ e. IfFault e (CantConjoin line (schema_of left.flat) (schema_of right.flat))) }
 {
     let mut whole = left;
     match whole.include(alloc, right) {

@@ -1,18 +1,17 @@
 //! Which schemas are finite.
 ghost use Rattle.std.specs.Prelude.{◌≡◌, OnOk, IfErr, Some, flat_map, map};
-ghost use Rattle.zf_type.specs.Definitions.{comp_of, globals_of, schema_of, set_of, sets_of};
+ghost use Rattle.zf_type.specs.Definitions.{comp_of, conjunct_of, globals_of, schema_of, set_of, sets_of};
 ghost use Rattle.zf_type.specs.Extents.{first};
 ghost use Rattle.zf_type.specs.Extents as extents;
-ghost use Rattle.zf_type.specs.ResolvedTrees.{resolved_of};
 ghost use Rattle.zf_type.specs.Scopes.{or_else};
 ghost use Rattle.zf_schema.specs.Finite as spec;
 ghost use Rattle.zf_schema.specs.Finite.{IsFinite};
 
 use thiserror::Error;
 use zf_data::Items;
+use zf_type::conjunct::Conjunct;
 use zf_type::globals::{Component, Domain, Flat, Globals};
 use zf_type::infinite::{direct, offending_after, offending_within_after};
-use zf_type::resolved::Resolved;
 
 /// Why a schema has no events: the line of the first infinite set that would be searched.
 #[derive(Clone, Copy, Debug, PartialEq, Eq, Error)]
@@ -53,14 +52,21 @@ fn component_after(component: &Component, found: Option<u32>, globals: &Globals)
     all_names_after(&component.domains, line, globals)
 }
 
-fn conjuncts_after(conjuncts: &[Resolved], found: Option<u32>, globals: &Globals) -> Option<u32>
-    ensures { result ≡ or_else found (first (flat_map (extents.offending (globals_of globals.now)) (map resolved_of conjuncts.now))) }
+fn conjuncts_after(conjuncts: &[Conjunct], found: Option<u32>, globals: &Globals) -> Option<u32>
+    ensures { result ≡ or_else found (first (flat_map (extents.offending (globals_of globals.now)) (map conjunct_of conjuncts.now))) }
 {
     let mut line = found;
     for conjunct in conjuncts {
-        line = offending_after(conjunct, line, globals);
+        line = conjunct_after(conjunct, line, globals);
     }
     line
+}
+
+#[tactic(auto, using(zf_type::proofs::Renumbered::same_offences))]
+fn conjunct_after(conjunct: &Conjunct, found: Option<u32>, globals: &Globals) -> Option<u32>
+    ensures { result ≡ or_else found (first (extents.offending (globals_of globals.now) (conjunct_of conjunct.now))) }
+{
+    offending_after(conjunct.term.get(), found, globals)
 }
 
 /// The line of the first set of a declaration, if nothing bounds the component.
@@ -80,7 +86,7 @@ fn bounds(domain: &Domain, globals: &Globals) -> bool
     ensures { result ≡ spec.bounds (globals_of globals.now) (set_of domain.now) }
 {
     match domain {
-        Domain::Plain(set) => direct(set, globals).is_none(),
+        Domain::Plain(set) => direct(set.get(), globals).is_none(),
         Domain::Carrier(ztype) => !ztype.has_numbers(),
         Domain::Either(left, right) => one_bounds(left, globals) && one_bounds(right, globals),
     }
@@ -114,7 +120,7 @@ fn plain_after(domain: &Domain, found: Option<u32>) -> Option<u32>
     ensures { result ≡ or_else found (first (spec.plain_lines (set_of domain.now))) }
 {
     match domain {
-        Domain::Plain(set) => or_line(found, set.line()),
+        Domain::Plain(set) => or_line(found, set.get().line()),
         Domain::Carrier(_) => found,
         Domain::Either(left, right) => all_plain_after(right, all_plain_after(left, found)),
     }
@@ -147,7 +153,7 @@ fn names_after(domain: &Domain, found: Option<u32>, globals: &Globals) -> Option
     ensures { result ≡ or_else found (first (spec.set_lines (globals_of globals.now) (set_of domain.now))) }
 {
     match domain {
-        Domain::Plain(set) => offending_within_after(set, found, globals),
+        Domain::Plain(set) => offending_within_after(set.get(), found, globals),
         Domain::Carrier(_) => found,
         Domain::Either(left, right) => {
             all_names_after(right, all_names_after(left, found, globals), globals)

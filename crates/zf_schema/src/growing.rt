@@ -1,21 +1,24 @@
 //! Schemas that grow within the limits.
-ghost use Rattle.std.specs.Prelude.{◌≡◌, ◌∷◌, [], IfErr, IfOk, MatchOption, OnOk, length, map};
-ghost use Rattle.zf_type.specs.Definitions.{comp_of, schema_of};
-ghost use Rattle.zf_type.specs.ResolvedTrees.{resolved_of};
-ghost use Rattle.zf_type.specs.Shapes.{moved, place_in};
+ghost use Rattle.std.specs.Prelude.{◌≡◌, ◌∷◌, [], ◌++◌, IfErr, IfOk, IsTrue, MatchOption, OnOk, length, map};
+ghost use Rattle.zf_type.specs.Definitions.{comp_of, conjunct_of, schema_of};
+ghost use Rattle.zf_type.specs.ResolvedTrees.{ResolvedTree};
+ghost use Rattle.zf_type.specs.Shapes.{moved, numbering, place_in};
 ghost use Rattle.zf_schema.specs.Calculus.{Agree, Agrees, conjoined, new_place, nothing};
 ghost use Rattle.zf_schema.specs.Expressions.{Adds, Includes, IsNext};
-ghost use Rattle.zf_schema.specs.Growth.{IsGrowing, IfStopped, IsTooLarge, all_grown, constrained, equalities, equality, grown};
+ghost use Rattle.zf_schema.specs.Growth.{HasLeftBeside, IsGrowing, IfStopped, IsTooLarge, constrained, equalities, equality, grown};
 ghost use Rattle.zf_schema.specs.Limits.{IsWithin};
 ghost use Rattle.zf_schema.specs.SchemaOffences.{Stops};
 
-use crate::components::{agree, agrees, join, new_places};
+use crate::components::{agree, agrees, join, join_all};
 use crate::limits::{COMPONENTS_MAX, CONJUNCTS_MAX, HEIGHT_MAX, NODES_MAX, SETS_MAX};
-use crate::room::{after_all_nodes, after_all_sets, after_nodes, after_sets, after_terms, are_low};
+use crate::room::{
+    after_all_nodes, after_all_sets, after_conjuncts, after_nodes, after_sets, are_low,
+};
 use crate::stop::Stop;
 use std::alloc::{AllocError, Global};
-use zf_data::{Boxed, Items};
+use zf_data::{Boxed, Items, Shared};
 use zf_text::token::Relation;
+use zf_type::conjunct::Conjunct;
 use zf_type::globals::{Component, Flat};
 use zf_type::resolved::{Reference, Resolved, ResolvedLink};
 
@@ -58,7 +61,7 @@ impl Growing {
         }
         let sets_left = after_all_sets(flat.components.as_slice(), SETS_MAX)?;
         let behind_sets = after_all_nodes(flat.components.as_slice(), NODES_MAX)?;
-        let nodes_left = after_terms(flat.conjuncts.as_slice(), behind_sets)?;
+        let nodes_left = after_conjuncts(flat.conjuncts.as_slice(), behind_sets)?;
         Some(Growing {
             flat,
             sets_left,
@@ -99,11 +102,11 @@ impl Growing {
     }
 
     /// One more conjunct.
-    pub fn take(&mut self, conjunct: Resolved) -> Result<(), Stop>
+    pub fn take(&mut self, conjunct: Conjunct) -> Result<(), Stop>
         requires { IsGrowing self.old }
-        ensures ok { OnOk result (IsNext (constrained (schema_of self.old.flat) (resolved_of conjunct ∷ [])) (schema_of self.new.flat)) }
+        ensures ok { OnOk result (IsNext (constrained (schema_of self.old.flat) (conjunct_of conjunct ∷ [])) (schema_of self.new.flat)) }
         ensures growing { OnOk result (IsGrowing self.new) }
-        ensures err { IfErr result (λ e. IfStopped e (IsTooLarge (constrained (schema_of self.old.flat) (resolved_of conjunct ∷ [])))) }
+        ensures err { IfErr result (λ e. IfStopped e (IsTooLarge (constrained (schema_of self.old.flat) (conjunct_of conjunct ∷ [])))) }
     {
         let Some(nodes_left) = conjunct.room_after(self.nodes_left) else {
             return Err(Stop::TooLarge);
@@ -120,13 +123,17 @@ impl Growing {
     }
 
     /// Another schema that is taken in: its components, and then its conjuncts.
-    pub fn include(&mut self, alloc: Global, other: &Flat) -> Result<(), Stop>
-        requires { IsGrowing self.old }
-        ensures ok { OnOk result (Includes (schema_of self.old.flat) (schema_of other.now) (schema_of self.new.flat)) }
+    pub fn include(&mut self, alloc: Global, other: Growing) -> Result<(), Stop>
+        requires before { IsGrowing self.old }
+        requires further { IsGrowing other }
+        ensures ok { OnOk result (Includes (schema_of self.old.flat) (schema_of other.flat) (schema_of self.new.flat)) }
         ensures growing { OnOk result (IsGrowing self.new) }
-        ensures err { IfErr result (λ e. IfStopped e (Stops (Agree (schema_of self.old.flat).comps (schema_of other.now).comps) (conjoined (schema_of self.old.flat) (schema_of other.now)))) }
+        ensures err { IfErr result (λ e. IfStopped e (Stops (Agree (schema_of self.old.flat).comps (schema_of other.flat).comps) (conjoined (schema_of self.old.flat) (schema_of other.flat)))) }
     {
-        if !agree(self.flat.components.as_slice(), other.components.as_slice()) {
+        if !agree(
+            self.flat.components.as_slice(),
+            other.flat.components.as_slice(),
+        ) {
             return Err(Stop::Clash);
         }
         self.merge(alloc, other)?;
@@ -134,55 +141,42 @@ impl Growing {
     }
 
     /// Another schema that is taken in, whatever types components of one name have; answers where its components are.
-    pub fn merge(&mut self, alloc: Global, other: &Flat) -> Result<Vec<usize>, Stop>
-        requires { IsGrowing self.old }
-        ensures ok { OnOk result (IsNext (conjoined (schema_of self.old.flat) (schema_of other.now)) (schema_of self.new.flat)) }
+    pub fn merge(&mut self, alloc: Global, other: Growing) -> Result<Shared<Items<usize>>, Stop>
+        requires before { IsGrowing self.old }
+        requires further { IsGrowing other }
+        ensures ok { OnOk result (IsNext (conjoined (schema_of self.old.flat) (schema_of other.flat)) (schema_of self.new.flat)) }
         ensures growing { OnOk result (IsGrowing self.new) }
-        ensures places { IfOk result (λ places. place_in places.items ≡ new_place (schema_of other.now).comps (schema_of self.new.flat).comps) }
-        ensures each { IfOk result (λ places. length places.items ≡ length (schema_of other.now).comps) }
-        ensures err { IfErr result (λ e. IfStopped e (IsTooLarge (conjoined (schema_of self.old.flat) (schema_of other.now)))) }
+        ensures places { IfOk result (λ places. place_in places ≡ new_place (schema_of other.flat).comps (schema_of self.new.flat).comps) }
+        ensures each { IfOk result (λ places. length places ≡ length (schema_of other.flat).comps) }
+        ensures err { IfErr result (λ e. IfStopped e (IsTooLarge (conjoined (schema_of self.old.flat) (schema_of other.flat)))) }
     {
-        self.grow_all(alloc, other.components.as_slice())?;
-        let places = new_places(
-            alloc,
-            other.components.as_slice(),
-            self.flat.components.as_slice(),
-        )?;
-        self.take_moved(alloc, other.conjuncts.as_slice(), places.as_slice())?;
+        let Some(left) = self.left_beside(&other) else {
+            return Err(Stop::TooLarge);
+        };
+        let Flat {
+            components,
+            conjuncts,
+        } = other.flat;
+        let places = join_all(&mut self.flat.components, alloc, components)?;
+        let places = Shared::new(alloc, places)?;
+        take_moved(&mut self.flat.conjuncts, alloc, conjuncts, &places)?;
+        self.sets_left = left.0;
+        self.nodes_left = left.1;
         Ok(places)
     }
 
-    /// Copies of the components, one after another.
-    fn grow_all(&mut self, alloc: Global, components: &[Component]) -> Result<(), Stop>
-        requires { IsGrowing self.old }
-        ensures ok { OnOk result (schema_of self.new.flat ≡ all_grown (schema_of self.old.flat) (map comp_of components.now)) }
-        ensures growing { OnOk result (IsGrowing self.new) }
-        ensures err { IfErr result (λ e. IfStopped e (IsTooLarge (all_grown (schema_of self.old.flat) (map comp_of components.now)))) }
+    /// How many declared sets and nodes are left beside another schema, where there is room for it and its conjuncts.
+    fn left_beside(&self, other: &Growing) -> Option<(usize, usize)>
+        requires before { IsGrowing self.now }
+        requires further { IsGrowing other.now }
+        ensures { MatchOption result (IsWithin (conjoined (schema_of self.now.flat) (schema_of other.now.flat)) → ⊥) (HasLeftBeside (schema_of self.now.flat) (schema_of other.now.flat)) }
     {
-        for component in components {
-            let copy = component.copy(alloc)?;
-            self.grow(copy)?;
+        let sets_left = self.sets_left.checked_sub(SETS_MAX - other.sets_left)?;
+        let nodes_left = self.nodes_left.checked_sub(NODES_MAX - other.nodes_left)?;
+        if self.flat.conjuncts.len() + other.flat.conjuncts.len() > CONJUNCTS_MAX {
+            return None;
         }
-        Ok(())
-    }
-
-    /// Copies of the conjuncts, with their components numbered anew, one after another.
-    fn take_moved(
-        &mut self,
-        alloc: Global,
-        conjuncts: &[Resolved],
-        places: &[usize],
-    ) -> Result<(), Stop>
-        requires { IsGrowing self.old }
-        ensures ok { OnOk result (schema_of self.new.flat ≡ constrained (schema_of self.old.flat) (map (moved (place_in places.now)) (map resolved_of conjuncts.now))) }
-        ensures growing { OnOk result (IsGrowing self.new) }
-        ensures err { IfErr result (λ e. IfStopped e (IsTooLarge (constrained (schema_of self.old.flat) (map (moved (place_in places.now)) (map resolved_of conjuncts.now))))) }
-    {
-        for conjunct in conjuncts {
-            let moved = conjunct.moved(alloc, places)?;
-            self.take(moved)?;
-        }
-        Ok(())
+        Some((sets_left, nodes_left))
     }
 
     /// That each component is equal to the one at the place in the list, one after another.
@@ -205,10 +199,59 @@ impl Growing {
     }
 }
 
+/// Further conjuncts, whose components are at these places.
+fn take_moved(
+    conjuncts: &mut Items<Conjunct>,
+    alloc: Global,
+    further: Items<Conjunct>,
+    places: &Shared<Items<usize>>,
+) -> Result<(), AllocError>
+    ensures { OnOk result (map conjunct_of conjuncts.new ≡ map conjunct_of conjuncts.old ++ map (moved (place_in places.now)) (map conjunct_of further)) }
+{
+    if are_own(places.get().as_slice()) {
+        return take_all(conjuncts, further);
+    }
+    let numbering = Some(places.share()?);
+    take_numbered(conjuncts, alloc, further, &numbering)
+}
+
+/// Further conjuncts, with their components numbered anew.
+fn take_numbered(
+    conjuncts: &mut Items<Conjunct>,
+    alloc: Global,
+    further: Items<Conjunct>,
+    places: &Option<Shared<Items<usize>>>,
+) -> Result<(), AllocError>
+    ensures { OnOk result (map conjunct_of conjuncts.new ≡ map conjunct_of conjuncts.old ++ map (moved (numbering places.now)) (map conjunct_of further)) }
+{
+    for conjunct in further.items {
+        conjuncts.push(conjunct.moved(alloc, places)?)?;
+    }
+    Ok(())
+}
+
+fn take_all(conjuncts: &mut Items<Conjunct>, mut further: Items<Conjunct>) -> Result<(), AllocError>
+    ensures { OnOk result (conjuncts.new ≡ conjuncts.old ++ further) }
+{
+    conjuncts.items.append(&mut further.items)
+}
+
+/// Whether each place is its own number.
+fn are_own(places: &[usize]) -> bool
+    ensures { IsTrue result → (t : ResolvedTree) → moved (place_in places.now) t ≡ t }
+{
+    for (place, other) in places.iter().enumerate() {
+        if *other != place {
+            return false;
+        }
+    }
+    true
+}
+
 /// That two components are equal.
 #[tactic(auto, using(zf_type::proofs::ResolvedSeen::seen))]
-fn equality(alloc: Global, line: u32, place: usize, other: usize) -> Result<Resolved, AllocError>
-    ensures { IfOk result (λ t. resolved_of t ≡ equality line place other) }
+fn equality(alloc: Global, line: u32, place: usize, other: usize) -> Result<Conjunct, AllocError>
+    ensures { IfOk result (λ c. conjunct_of c ≡ equality line place other) }
 {
     let left = Boxed::new(alloc, Resolved::Name(line, Reference::Component(place)))?;
     let right = Resolved::Name(line, Reference::Component(other));
@@ -219,5 +262,5 @@ fn equality(alloc: Global, line: u32, place: usize, other: usize) -> Result<Reso
             right,
         },
     )?;
-    Ok(Resolved::Chain(line, left, links))
+    Conjunct::of(alloc, Resolved::Chain(line, left, links))
 }

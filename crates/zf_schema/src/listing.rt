@@ -19,7 +19,8 @@ pub fn listing(alloc: Global, globals: &Globals) -> Result<Text, AllocError>
     for (name, entry) in globals.entries.iter() {
         append_entry(&mut bytes, name.as_slice(), entry)?;
     }
-    Ok(Text { bytes })
+    let text = Text::of(alloc, bytes.as_slice())?;
+    Ok(text)
 }
 
 /// Appends the lines of a name. As for all that follow, a refusal leaves a part of them.

@@ -19,7 +19,7 @@ ghost use Rattle.zf_schema.specs.Checking.{IsNew, with_global, abbreviated, Give
 use crate::expression::schema_of_expression;
 use crate::text::{scope_over, text_of};
 use std::alloc::{AllocError, Global};
-use zf_data::{Items, Text};
+use zf_data::{Items, Shared, Text};
 use zf_text::tree::{Decl, Name, Paragraph, SchemaExp, Term};
 use zf_type::fault::{Refusal, TypeFaultKind, refused};
 use zf_type::globals::{Entry, Globals};
@@ -150,14 +150,10 @@ fn add_constructors(
     ensures fault { IfErr result (λ e. IfFault e (λ kind line. OffendsConstructors (globals_of globals.old) number (spelling of_type.now) 0 names.now kind line)) }
     ensures begun { take (length (globals_of globals.old)) (globals_of globals.new) ≡ globals_of globals.old }
 {
+    let type_name = Shared::new(alloc, spelled(alloc, of_type)?)?;
     for (place, name) in names.iter().enumerate() {
-        let of_type = spelled(alloc, of_type)?;
-        add_name(
-            alloc,
-            globals,
-            name,
-            Entry::Constructor(number, of_type, place),
-        )?;
+        let entry = Entry::Constructor(number, type_name.share()?, place);
+        add_name(alloc, globals, name, entry)?;
     }
     Ok(())
 }

@@ -5,9 +5,10 @@ ghost use Rattle.zf_type.specs.Refusals.{IfFault};
 ghost use Rattle.zf_type.specs.Scopes.{first_named};
 ghost use Rattle.zf_schema.specs.Expressions.{Refers};
 ghost use Rattle.zf_schema.specs.Growth as spec;
-ghost use Rattle.zf_schema.specs.Growth.{IsNamed, LacksSchema};
+ghost use Rattle.zf_schema.specs.Growth.{IsGrowing, IsNamed, LacksSchema};
 ghost use Rattle.zf_schema.specs.SchemaOffences.{IsNoSchema, OffendsRef};
 
+use crate::growing::Growing;
 use crate::marking::{decorate_own, marked};
 use crate::stop::Stop;
 use std::alloc::Global;
@@ -21,13 +22,22 @@ pub fn refer(alloc: Global, globals: &Globals, reference: &SchemaRef) -> Result<
     ensures ok { IfOk result (λ f. Refers (globals_of globals.now) reference.now (schema_of f)) }
     ensures fault { IfErr result (λ e. IfFault e (OffendsRef (globals_of globals.now) reference.now)) }
 {
+    Ok(referred(alloc, globals, reference)?.flat)
+}
+
+/// The same schema, with what is left of the limits.
+pub fn referred(alloc: Global, globals: &Globals, reference: &SchemaRef) -> Result<Growing, Refusal>
+    ensures ok { IfOk result (λ g. Refers (globals_of globals.now) reference.now (schema_of g.flat)) }
+    ensures growing { IfOk result (λ g. IsGrowing g) }
+    ensures fault { IfErr result (λ e. IfFault e (OffendsRef (globals_of globals.now) reference.now)) }
+{
     let name = &reference.name;
     let flat = match schema_named(globals, name.base.as_slice()) {
         Ok(flat) => flat,
         Err(kind) => return Err(refused(kind, name.line)),
     };
     match marked(alloc, reference.mark, name.line, flat) {
-        Ok(growing) => Ok(decorate_own(alloc, name.strokes.as_slice(), growing.flat)?),
+        Ok(growing) => Ok(decorate_own(alloc, name.strokes.as_slice(), growing)?),
         Err(stop) => Err(stop.refusal(name.line)),
     }
 }

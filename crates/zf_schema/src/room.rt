@@ -1,16 +1,15 @@
 //! How much of the limits is left behind parts of a schema.
 ghost use Rattle.std.specs.Prelude.{◌≡◌, ◌+◌, ◌<◌, ◌↔◌, IsTrue, MatchOption, map};
 ghost use Rattle.std.specs.List.{AllByRecursion, sum_by};
-ghost use Rattle.zf_type.specs.Definitions.{comp_of, set_of};
-ghost use Rattle.zf_type.specs.ResolvedTrees.{resolved_of};
+ghost use Rattle.zf_type.specs.Definitions.{comp_of, conjunct_of, set_of};
 ghost use Rattle.zf_type.specs.SetShapes.{set_count, set_nodes};
 ghost use Rattle.zf_type.specs.Shapes.{nodes};
 ghost use Rattle.zf_schema.specs.Growth.{counted};
 ghost use Rattle.zf_schema.specs.Limits.{IsLow};
 
 use crate::limits::HEIGHT_MAX;
+use zf_type::conjunct::Conjunct;
 use zf_type::globals::{Component, Domain};
-use zf_type::resolved::Resolved;
 
 /// How much of the room for declared sets is left behind these, where there is enough.
 pub fn after_sets(domains: &[Domain], room: usize) -> Option<usize>
@@ -56,23 +55,23 @@ pub fn after_all_nodes(components: &[Component], room: usize) -> Option<usize>
     Some(left)
 }
 
-/// The same of the nodes of terms.
-pub fn after_terms(terms: &[Resolved], room: usize) -> Option<usize>
-    ensures { MatchOption result (room < sum_by nodes (map resolved_of terms.now)) (λ left. left + sum_by nodes (map resolved_of terms.now) ≡ room) }
+/// The same of the nodes of conjuncts.
+pub fn after_conjuncts(conjuncts: &[Conjunct], room: usize) -> Option<usize>
+    ensures { MatchOption result (room < sum_by nodes (map conjunct_of conjuncts.now)) (λ left. left + sum_by nodes (map conjunct_of conjuncts.now) ≡ room) }
 {
     let mut left = room;
-    for term in terms {
-        left = term.room_after(left)?;
+    for conjunct in conjuncts {
+        left = conjunct.room_after(left)?;
     }
     Some(left)
 }
 
-/// Whether no term is too high.
-pub fn are_low(terms: &[Resolved]) -> bool
-    ensures { IsTrue result ↔ AllByRecursion IsLow (map resolved_of terms.now) }
+/// Whether no conjunct is too high.
+pub fn are_low(conjuncts: &[Conjunct]) -> bool
+    ensures { IsTrue result ↔ AllByRecursion IsLow (map conjunct_of conjuncts.now) }
 {
-    for term in terms {
-        if !term.is_within(HEIGHT_MAX) {
+    for conjunct in conjuncts {
+        if !conjunct.is_within(HEIGHT_MAX) {
             return false;
         }
     }

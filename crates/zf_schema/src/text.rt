@@ -17,10 +17,11 @@ ghost use Rattle.zf_schema.specs.SchemaOffences.{OffendsConjuncts, OffendsDecl, 
 ghost use Rattle.zf_type.specs.Shapes as shape;
 
 use crate::growing::Growing;
-use crate::reference::refer;
+use crate::reference::referred;
 use std::alloc::{AllocError, Global};
-use zf_data::Items;
+use zf_data::{Items, Shared};
 use zf_text::tree::{Decl, Name, SchemaRef, Term};
+use zf_type::conjunct::Conjunct;
 use zf_type::fault::Refusal;
 use zf_type::globals::{Component, Domain, Flat, Globals};
 use zf_type::judge::{Judged, judge};
@@ -109,10 +110,11 @@ fn declare_names(
     ensures wrong { IfErr result (λ e. IfFault e (OffendsDecl (globals_of globals.now) (schema_of growing.old.flat) (vars names.now (tree_of set.now)))) }
 {
     let Judged { term, sort } = judge_over(alloc, globals, &[], Need::Set, set)?;
-    let Some(ztype) = sort.into_member() else {
+    let Some(ztype) = sort.member() else {
         unreachable!();
     };
-    add_all(alloc, growing, names, &ztype, &term)
+    let set = Shared::new(alloc, term)?;
+    add_all(alloc, growing, names, ztype, &set)
 }
 
 /// A schema that is taken in.
@@ -127,8 +129,8 @@ fn include(
     ensures growing { OnOk result (IsGrowing growing.new) }
     ensures wrong { IfErr result (λ e. IfFault e (OffendsDecl (globals_of globals.now) (schema_of growing.old.flat) (include reference.now))) }
 {
-    let flat = refer(alloc, globals, reference)?;
-    match growing.include(alloc, &flat) {
+    let other = referred(alloc, globals, reference)?;
+    match growing.include(alloc, other) {
         Ok(()) => Ok(()),
         Err(stop) => Err(stop.refusal(reference.name.line)),
     }
@@ -140,7 +142,7 @@ fn add_all(
     growing: &mut Growing,
     names: &[Name],
     ztype: &ZType,
-    set: &Resolved,
+    set: &Shared<Resolved>,
 ) -> Result<(), Refusal>
     requires { IsGrowing growing.old }
     ensures ok { OnOk result (AddsAll (schema_of growing.old.flat) names.now (type_of ztype.now) (plain (resolved_of set.now)) (schema_of growing.new.flat)) }
@@ -159,7 +161,7 @@ fn add(
     growing: &mut Growing,
     name: &Name,
     ztype: &ZType,
-    set: &Resolved,
+    set: &Shared<Resolved>,
 ) -> Result<(), Refusal>
     requires { IsGrowing growing.old }
     ensures ok { OnOk result (Adds (schema_of growing.old.flat) (comp (spelling name.now) (type_of ztype.now) (plain (resolved_of set.now) ∷ [])) (schema_of growing.new.flat)) }
@@ -179,13 +181,13 @@ fn declared(
     alloc: Global,
     name: &Name,
     ztype: &ZType,
-    set: &Resolved,
+    set: &Shared<Resolved>,
 ) -> Result<Component, AllocError>
     ensures { IfOk result (λ c. comp_of c ≡ comp (spelling name.now) (type_of ztype.now) (plain (resolved_of set.now) ∷ [])) }
 {
     let name = spelled(alloc, name)?;
-    let ztype = ztype.copy(alloc)?;
-    let domains = Items::of(alloc, Domain::Plain(set.copy(alloc)?))?;
+    let ztype = ztype.share()?;
+    let domains = Items::of(alloc, Domain::Plain(set.share()?))?;
     Ok(Component {
         name,
         ztype,
@@ -255,7 +257,7 @@ fn constrain(
     let components = growing.flat.components.as_slice();
     let judged = judge_over(alloc, globals, components, Need::Predicate, predicate)?;
     let conjuncts = conjuncts_of(alloc, judged.term)?;
-    take_all(growing, conjuncts)
+    take_all(alloc, growing, conjuncts)
 }
 
 fn conjuncts_of(alloc: Global, predicate: Resolved) -> Result<Items<Resolved>, AllocError>
@@ -267,27 +269,27 @@ fn conjuncts_of(alloc: Global, predicate: Resolved) -> Result<Items<Resolved>, A
 }
 
 /// Takes the conjuncts, one after another.
-fn take_all(growing: &mut Growing, conjuncts: Items<Resolved>) -> Result<(), Refusal>
+fn take_all(alloc: Global, growing: &mut Growing, conjuncts: Items<Resolved>) -> Result<(), Refusal>
     requires { IsGrowing growing.old }
     ensures ok { OnOk result (TakesAll (schema_of growing.old.flat) (map resolved_of conjuncts) (schema_of growing.new.flat)) }
     ensures growing { OnOk result (IsGrowing growing.new) }
     ensures wrong { IfErr result (λ e. IfFault e (OffendsConjuncts (schema_of growing.old.flat) (map resolved_of conjuncts))) }
 {
     for conjunct in conjuncts.items {
-        take(growing, conjunct)?;
+        take(alloc, growing, conjunct)?;
     }
     Ok(())
 }
 
 /// Takes one conjunct.
-fn take(growing: &mut Growing, conjunct: Resolved) -> Result<(), Refusal>
+fn take(alloc: Global, growing: &mut Growing, conjunct: Resolved) -> Result<(), Refusal>
     requires { IsGrowing growing.old }
     ensures ok { OnOk result (IsNext (constrained (schema_of growing.old.flat) (resolved_of conjunct ∷ [])) (schema_of growing.new.flat)) }
     ensures growing { OnOk result (IsGrowing growing.new) }
     ensures wrong { IfErr result (λ e. IfFault e (CantTake (schema_of growing.old.flat) (resolved_of conjunct))) }
 {
     let line = conjunct.line();
-    match growing.take(conjunct) {
+    match growing.take(Conjunct::of(alloc, conjunct)?) {
         Ok(()) => Ok(()),
         Err(stop) => Err(stop.refusal(line)),
     }

@@ -62,7 +62,7 @@ fn add_sets(
     ensures { Adds sets.old (spec.each (spec.as_set (globals_of globals.now)) (spec.terms_in (set_of domain.now))) result sets.new }
 {
     match domain {
-        Domain::Plain(set) => add_set(set, alloc, globals, sets),
+        Domain::Plain(set) => add_set(set.get(), alloc, globals, sets),
         Domain::Carrier(_) => Ok(()),
         Domain::Either(left, right) => {
             add_all_sets(left, alloc, globals, sets)?;

@@ -1,6 +1,6 @@
 //! The conjuncts of a schema, as tests of its rows.
 ghost use Rattle.std.specs.Prelude.{◌≡◌, map};
-ghost use Rattle.zf_type.specs.Definitions.{globals_of};
+ghost use Rattle.zf_type.specs.Definitions.{conjunct_of, globals_of};
 ghost use Rattle.zf_type.specs.ResolvedTrees.{resolved_of};
 ghost use Rattle.zf_simple.specs.Showing as spec;
 ghost use Rattle.zf_simple.specs.Unread.{Gives};
@@ -12,6 +12,7 @@ use crate::unread::Unread;
 use std::alloc::Global;
 use zf_data::Items;
 use zf_text::token::Relation;
+use zf_type::conjunct::Conjunct;
 use zf_type::globals::Globals;
 use zf_type::resolved::{Reference, Resolved, ResolvedLink};
 
@@ -20,22 +21,34 @@ pub(crate) fn tests_of(
     alloc: Global,
     globals: &Globals,
     count: usize,
-    conjuncts: &[Resolved],
+    conjuncts: &[Conjunct],
 ) -> Result<Items<Test>, Unread>
-    ensures { Gives (spec.each (spec.test_of (globals_of globals.now) count) (map resolved_of conjuncts.now)) result }
+    ensures { Gives (spec.each (spec.test_of (globals_of globals.now) count) (map conjunct_of conjuncts.now)) result }
 {
     let mut tests = Items::new(alloc);
     for conjunct in conjuncts {
-        tests.push(test_of(globals, count, conjunct)?)?;
+        tests.push(conjunct_test(alloc, globals, count, conjunct)?)?;
     }
     Ok(tests)
 }
 
-fn test_of(globals: &Globals, count: usize, conjunct: &Resolved) -> Result<Test, Unread>
-    ensures { Gives (spec.test_of (globals_of globals.now) count (resolved_of conjunct.now)) result }
+fn conjunct_test(
+    alloc: Global,
+    globals: &Globals,
+    count: usize,
+    conjunct: &Conjunct,
+) -> Result<Test, Unread>
+    ensures { Gives (spec.test_of (globals_of globals.now) count (conjunct_of conjunct.now)) result }
 {
-    let Resolved::Chain(line, first, links) = conjunct else {
-        return Err(Unread::Form(conjunct.line()));
+    let term = conjunct.resolved(alloc)?;
+    test_of(globals, count, &term)
+}
+
+fn test_of(globals: &Globals, count: usize, term: &Resolved) -> Result<Test, Unread>
+    ensures { Gives (spec.test_of (globals_of globals.now) count (resolved_of term.now)) result }
+{
+    let Resolved::Chain(line, first, links) = term else {
+        return Err(Unread::Form(term.line()));
     };
     if links.len() != 1 {
         return Err(Unread::Form(*line));

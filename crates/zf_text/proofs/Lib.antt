@@ -11,6 +11,7 @@ pub mod Cursored
 pub mod LaidOut
 pub mod Reducing
 pub mod Scanned
+pub mod Quiet
 pub mod Laws
 pub mod Turns
 pub mod Marks

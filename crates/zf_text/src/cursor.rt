@@ -209,9 +209,7 @@ impl<'a> Cursor<'a> {
             [first, rest @ ..] if matches!(first.next, Next::BeginSchema) => {
                 let name = Name {
                     base: Text::of(alloc, first.opened(self.text))?,
-                    strokes: Text {
-                        bytes: Vec::new(alloc),
-                    },
+                    strokes: Text::new(alloc),
                     line: first.line,
                 };
                 self.rest = rest;

@@ -1,19 +1,22 @@
 //! The piece that begins a text inside a box.
 ghost use Rattle.std.specs.Prelude.{◌≡◌, ◌<◌, ◌≤◌, length, nat_le, if◌then◌else◌, Some, None};
 ghost use Rattle.zf_text.specs.Pieces as spec;
-ghost use Rattle.zf_text.specs.Sights.{told};
+ghost use Rattle.zf_text.specs.Pieces.{look_up, symbols};
+ghost use Rattle.zf_text.specs.Sights.{seen, told};
 ghost use Rattle.zf_text.specs.Steps as steps;
 
 use crate::fault::TextFaultKind;
 use crate::next::Next;
 use crate::pieces::{Found, Run, Sight, after, begins, front, is_digit, is_letter, run_len, step};
 use crate::symbols::fixed;
+use crate::token::{Infix, Relation};
 
 /// The greatest number.
 pub const NUMBER_MAX: u64 = 9223372036854775807;
 
 /// The piece at the front of a text in a box that `end` closes.
 #[tactic(auto, unfolding(crate::specs::Steps::inside_found))]
+#[inline(always)]
 pub fn inside_at(end: &[u8], rest: &[u8]) -> Found
     ensures { told rest.now result ≡ steps.inside_found end.now rest.now }
 {
@@ -118,13 +121,28 @@ fn word_at(rest: &[u8]) -> Found
     let base = base_len(rest);
     let strokes = run_len(Run::Strokes, after(rest, base));
     let len = base + strokes;
-    match fixed(front(rest, len)) {
+    match fixed_word(front(rest, len)) {
         Some(sight) => Found::of(sight, len),
         None => Found {
             sight: Sight::Symbol(Next::Name),
             amount: base,
             len,
         },
+    }
+}
+
+// The piece of one spelling that a word is, if it is one.
+#[inline(always)]
+fn fixed_word(word: &[u8]) -> Option<Sight>
+    ensures { seen word.now result ≡ look_up word.now symbols }
+{
+    let [first, ..] = word else {
+        return fixed(word);
+    };
+    match *first {
+        b't' | b'f' => fixed(word),
+        b if is_letter(b) => None,
+        _ => fixed(word),
     }
 }
 
@@ -181,6 +199,14 @@ fn symbol_at(rest: &[u8]) -> Found
         b'(' => Found::of(Sight::Symbol(Next::OpenRound), 1),
         b')' => Found::of(Sight::Symbol(Next::CloseRound), 1),
         b',' => Found::of(Sight::Symbol(Next::Comma), 1),
+        b'[' => Found::of(Sight::Symbol(Next::OpenSquare), 1),
+        b']' => Found::of(Sight::Symbol(Next::CloseSquare), 1),
+        b'@' => Found::of(Sight::Symbol(Next::At), 1),
+        b'|' => Found::of(Sight::Symbol(Next::Bar), 1),
+        b'+' => Found::of(Sight::Symbol(Next::Infix(Infix::Plus)), 1),
+        b'-' => Found::of(Sight::Symbol(Next::Infix(Infix::Minus)), 1),
+        b'<' => Found::of(Sight::Symbol(Next::Relation(Relation::Less)), 1),
+        b'>' => Found::of(Sight::Symbol(Next::Relation(Relation::Greater)), 1),
         _ => other_symbol_at(rest),
     }
 }

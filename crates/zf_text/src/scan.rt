@@ -4,7 +4,9 @@ ghost use Rattle.zf_text.specs.Cuts as cuts;
 ghost use Rattle.zf_text.specs.Placing.{token_at};
 ghost use Rattle.zf_text.specs.Sights.{kind_of, piece_of, told};
 ghost use Rattle.zf_text.specs.Steps as steps;
+ghost use Rattle.zf_text.specs.declared.next.Next.{Next as NextSymbol};
 ghost use Rattle.zf_text.specs.declared.pieces.Piece.TheVariants.{Plain, Symbol};
+ghost use Rattle.zf_text.specs.declared.pieces.Sight.TheVariants as sights;
 
 use crate::fault::{TextFault, TextFaultKind};
 use crate::inside::inside_at;
@@ -51,7 +53,7 @@ pub(crate) fn symbols(alloc: Global, source: &[u8]) -> Result<Vec<Placed>, TextF
             Sight::Refused(kind) => return Err(fault_at(kind, place, line)),
         }
         place = entered(place, line, sight);
-        line += newlines(front(rest, len));
+        line += ended(sight, front(rest, len));
         start += len;
     }
     match place {
@@ -143,6 +145,19 @@ fn begun(place: Place) -> u32
     match place {
         Place::Outside => 0,
         Place::Zed(line) | Place::Schema(line) => line,
+    }
+}
+
+// How many lines end in a piece. None does in a symbol.
+fn ended(sight: Sight, text: &[u8]) -> u32
+    requires len { length text.now ≤ SOURCE_MAX }
+    requires quiet { (next : NextSymbol) → sight ≡ sights.Symbol next → cuts.newlines text.now ≡ 0 }
+    ensures value { result ≡ cuts.newlines text.now }
+    ensures few { result ≤ length text.now }
+{
+    match sight {
+        Sight::Symbol(_) => 0,
+        _ => newlines(text),
     }
 }
 

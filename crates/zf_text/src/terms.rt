@@ -14,6 +14,7 @@ use crate::levels::{binds, level, place_before};
 use crate::tall::Tall;
 use crate::tree::Term;
 use std::alloc::Global;
+use zf_data::Boxed;
 
 /// What the rules are given: how terms that stand one level deeper are read, up to the height `below`.
 #[derive(Clone, Copy)]
@@ -32,7 +33,22 @@ impl<F: Fn(Global, &mut Cursor<'_>, u32, u8) -> Result<Tall<Term>, TextFault>> G
         (self.read)(self.alloc, tokens, self.below, place)
     }
 
+    /// A term at this place, in a box.
+    #[inline(never)]
+    fn boxed(&self, tokens: &mut Cursor<'_>, place: u8) -> Result<Tall<Boxed<Term>>, TextFault>
+        requires nests { Nests self.now.below (F.pre self.now.read) (F.post self.now.read) }
+        ensures value { Gives (read_term self.now.below place tokens.old) result tokens.new }
+        ensures low { IfOk result (λ x. x.height ≤ self.now.below) }
+    {
+        let term = self.term(tokens, place)?;
+        Ok(Tall {
+            part: Boxed::new(self.alloc, term.part)?,
+            height: term.height,
+        })
+    }
+
     /// Goes on while the symbols bind more tightly than this place.
+    #[inline(never)]
     fn climb(
         &self,
         tokens: &mut Cursor<'_>,
@@ -60,13 +76,17 @@ impl<F: Fn(Global, &mut Cursor<'_>, u32, u8) -> Result<Tall<Term>, TextFault>> G
         Err(tokens.too_deep())
     }
 
-    #[tactic(auto, unfolding(crate::specs::TermReading::whole))]
+    #[tactic(auto, unfolding(crate::specs::TermReading::whole, crate::specs::TermReading::climb))]
     fn whole(&self, tokens: &mut Cursor<'_>, least: u8) -> Result<Tall<Term>, TextFault>
         requires nests { Nests self.now.below (F.pre self.now.read) (F.post self.now.read) }
         ensures value { Gives (spec.whole (read_term self.now.below) (self.now.below + 1) least tokens.old) result tokens.new }
         ensures low { IfOk result (λ x. x.height ≤ self.now.below + 1) }
     {
         let first = self.beginning(tokens, least)?;
+        // Most terms end here.
+        if binds(tokens.peek()) <= least {
+            return Ok(first);
+        }
         self.climb(tokens, least, first)
     }
 }

@@ -17,6 +17,8 @@ pub mod Heights
 pub mod FirstLines
 pub mod Conjunctions
 pub mod Copies
+pub mod Renumbered
+pub mod Places
 pub mod SetsSeen
 pub mod Named
 pub mod Judging

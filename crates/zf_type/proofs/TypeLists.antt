@@ -1,5 +1,5 @@
 -- Lists of types, compared from the front and counted from the back.
-use Rattle.std.proofs.Common.{◌≡◌, ℕ, zero, suc, ◌+◌, ◌<◌, List, [], ◌∷◌, ◌++◌, length, map, take, drop, get_or, refl, sym, ap, ◌∙◌, ◌↔◌, arith, add-one, length-append}
+use Rattle.std.proofs.Common.{◌≡◌, ℕ, zero, suc, ◌+◌, ◌<◌, List, [], ◌∷◌, length, map, take, drop, get_or, refl, sym, ap, ◌∙◌, ◌↔◌, arith, add-one}
 use Rattle.zf_type.specs.declared.ztype.ZType.{ZType}
 use Rattle.zf_type.specs.declared.ztype.ZType.TheVariants as v
 use Rattle.zf_type.specs.Rules.{pair}
@@ -55,9 +55,15 @@ two_parts a xs t u e h =
     let q : types (map type_of xs) ≡ type t (type u no_types) = (cc) in
     of_two xs t u q
 
-pub two_made : (a : ZType) (xs ys zs : List ZType) (first second : ZType) → a ≡ v.Product xs → xs ≡ ys ++ second ∷ [] → ys ≡ zs ++ first ∷ [] → length xs ≡ 2 → type_of a ≡ pair (type_of first) (type_of second)
-two_made a xs ys [] first second e f g l = let h : xs ≡ first ∷ second ∷ [] = f ∙ ap (λ us. us ++ second ∷ []) g in ap type_of (e ∙ ap v.Product h) ∙ of-Product (first ∷ second ∷ [])
-two_made a xs ys (z ∷ zs) first second e f g l = absurd (omega (arith, ap length f, ap length g, length-append ys (second ∷ []), length-append zs (first ∷ [])))
+pub two_made : (a : ZType) (xs ys : List ZType) (first second : ZType) → a ≡ v.Product xs → ys ≡ xs → length ys ≡ 2 → first ≡ get_or ys 0 first → second ≡ get_or ys 1 second → type_of a ≡ pair (type_of first) (type_of second)
+two_made a xs [] first second e f l p q = absurd (omega (arith, l))
+two_made a xs (x ∷ []) first second e f l p q = absurd (omega (arith, l))
+two_made a xs (x ∷ y ∷ []) first second e f l p q =
+    let is : type_of a ≡ pair (type_of x) (type_of y) = ap type_of (e ∙ ap v.Product (sym f)) ∙ of-Product (x ∷ y ∷ []) in
+    let one : first ≡ x = p in
+    let two : second ≡ y = q in
+    (cc)
+two_made a xs (x ∷ y ∷ z ∷ zs) first second e f l p q = absurd (omega (arith, l))
 
 pub one_pair : (xs : List ZType) (a : ZType) → a ≡ v.Product xs → length xs ≡ 2 → (t u : Ty) × (type_of a ≡ pair t u)
 one_pair [] a e l = absurd (omega (arith, l))

@@ -1,5 +1,6 @@
 -- What global names are defined as, as plain data, and how the program's globals are seen as it.
 use Rattle.std.specs.Prelude.{ℕ, List, [], ◌∷◌, map}
+use Rattle.zf_type.specs.declared.conjunct.Conjunct.{Conjunct}
 use Rattle.zf_type.specs.declared.extent.Extent.{Extent}
 use Rattle.zf_type.specs.declared.globals.Component.{Component}
 use Rattle.zf_type.specs.declared.globals.Domain.{Domain, fold-Domain}
@@ -9,6 +10,7 @@ use Rattle.zf_type.specs.declared.globals.Entry.TheVariants as entry
 use Rattle.zf_type.specs.declared.globals.Flat.{Flat}
 use Rattle.zf_type.specs.declared.globals.Globals.{Globals}
 use Rattle.zf_type.specs.ResolvedTrees.{ResolvedTree, resolved_of}
+use Rattle.zf_type.specs.Shapes.{moved, numbering}
 use Rattle.zf_type.specs.Types.{Ty, type_of}
 
 -- a declared set: that of a declaration, all values of a type, or the two sides of a disjunction
@@ -63,8 +65,11 @@ set_of = fold-Domain DeclaredSet domain_step
 abbrev pub comp_of : Component → Comp
 comp_of c = record { name = c.name; type = type_of c.ztype; sets = map set_of c.domains }
 
+abbrev pub conjunct_of : Conjunct → ResolvedTree
+conjunct_of c = moved (numbering c.places) (resolved_of c.term)
+
 abbrev pub schema_of : Flat → Schema
-schema_of f = record { comps = map comp_of f.components; conjuncts = map resolved_of f.conjuncts }
+schema_of f = record { comps = map comp_of f.components; conjuncts = map conjunct_of f.conjuncts }
 
 abbrev pub definition_of : Entry → Definition
 definition_of (entry.Given n) = given_set n

@@ -1,5 +1,5 @@
 -- The shape of resolved terms: their nodes, their height, their conjuncts, and their components numbered anew.
-use Rattle.std.specs.Prelude.{ℕ, ◌+◌, max, Bool, true, false, if◌then◌else◌, List, [], ◌∷◌, ◌++◌, get_or}
+use Rattle.std.specs.Prelude.{ℕ, ◌+◌, max, Bool, true, false, if◌then◌else◌, List, [], ◌∷◌, ◌++◌, get_or, Option, Some, None}
 use Rattle.zf_text.specs.declared.token.Connective.TheVariants.{And, Or, Implies, Iff}
 use Rattle.zf_text.specs.declared.token.Relation.{Relation}
 use Rattle.zf_type.specs.declared.operator.Operator.{Operator}
@@ -96,6 +96,11 @@ renumbered f (Global i) = Global i
 -- the number at this place of the list, or the place itself where there is none
 abbrev pub place_in : List ℕ → ℕ → ℕ
 place_in places i = get_or places i i
+
+-- by a list, where there is one
+abbrev pub numbering : Option (List ℕ) → ℕ → ℕ
+numbering None i = i
+numbering (Some places) i = place_in places i
 
 abbrev mutual
   pub moved : (ℕ → ℕ) → ResolvedTree → ResolvedTree

@@ -12,31 +12,31 @@ ghost use Rattle.zf_type.specs.declared.fault.TypeFaultKind as faults;
 ghost use Rattle.zf_type.specs.declared.operator.Need.TheVariants as needs;
 
 use crate::fault::{Refusal, TypeFaultKind, refused};
-use crate::scope::{Scope, Variable, is_bound};
+use crate::scope::{Scope, Variable, is_bound, spelled};
 use crate::sort::Sort;
-use crate::ztype::ZType;
+use crate::ztype::{ZType, product_type};
 use std::alloc::{AllocError, Global};
-use zf_data::{Items, Text};
+use zf_data::Items;
 use zf_text::tree::Name;
 
 /// Adds variables of these names, which are members of a set of this sort.
 pub(crate) fn declare_names(
     alloc: Global,
     names: &[Name],
-    set: Sort,
+    set: &Sort,
     variables: &mut Vec<Variable>,
 ) -> Result<(), Refusal>
-    requires { Meets needs.Set (sort_of set) }
-    ensures ok { OnOk result ((u : Ty) × (sort_of set ≡ set_of u) × (map variable_of variables.new.items ≡ map variable_of variables.old.items ++ typing.variables names.now u)) }
+    requires { Meets needs.Set (sort_of set.now) }
+    ensures ok { OnOk result ((u : Ty) × (sort_of set.now ≡ set_of u) × (map variable_of variables.new.items ≡ map variable_of variables.old.items ++ typing.variables names.now u)) }
     ensures apart { OnOk result ((ns : List program.Name) → AreNew (map variable_of variables.new.items) ns → AreNew (map variable_of variables.old.items) (names.now ++ ns)) }
     ensures later { OnOk result ((ns : List program.Name) (kind : faults.TypeFaultKind) (line : ℕ) → AreRepeated (map variable_of variables.new.items) ns kind line → AreRepeated (map variable_of variables.old.items) (names.now ++ ns) kind line) }
     ensures repeated { IfErr result (λ e. IfFault e (λ kind line. (ns : List program.Name) → AreRepeated (map variable_of variables.old.items) (names.now ++ ns) kind line)) }
 {
-    let Some(members) = set.into_member() else {
+    let Some(members) = set.member() else {
         unreachable!();
     };
     for name in names {
-        let variable = variable(alloc, name, &members)?;
+        let variable = variable(alloc, name, members)?;
         if is_bound(variables.as_slice(), variable.name.as_slice()) {
             return Err(refused(TypeFaultKind::LocalTwice, name.line));
         }
@@ -49,10 +49,8 @@ pub(crate) fn declare_names(
 fn variable(alloc: Global, name: &Name, ztype: &ZType) -> Result<Variable, AllocError>
     ensures { IfOk result (λ v. variable_of v ≡ record { name = spelling name.now; type = type_of ztype.now }) }
 {
-    let mut bytes = Vec::from_slice(alloc, name.base.as_slice())?;
-    bytes.extend_from_slice(name.strokes.as_slice())?;
-    let name = Text::of(alloc, bytes.as_slice())?;
-    let ztype = ztype.copy(alloc)?;
+    let name = spelled(alloc, name)?;
+    let ztype = ztype.share()?;
     Ok(Variable { name, ztype })
 }
 
@@ -87,21 +85,21 @@ pub(crate) fn row(alloc: Global, scope: &Scope<'_>, outside: usize) -> Result<ZT
     let locals = scope.locals.as_slice();
     let mut types = Items::new(alloc);
     for place in outside..locals.len() {
-        types.push(locals[place].ztype.copy(alloc)?)?;
+        types.push(locals[place].ztype.share()?)?;
     }
-    Ok(row_of(types))
+    row_of(alloc, types)
 }
 
 #[tactic(auto, using(crate::proofs::TypesSeen::seen))]
-fn row_of(types: Items<ZType>) -> ZType
-    ensures { (vs : List Var) → map type_of types ≡ map var_type vs → type_of result ≡ typing.row_type vs }
+fn row_of(alloc: Global, types: Items<ZType>) -> Result<ZType, AllocError>
+    ensures { IfOk result (λ t. (vs : List Var) → map type_of types ≡ map var_type vs → type_of t ≡ typing.row_type vs) }
 {
     let mut types = types;
     if types.len() != 1 {
-        return ZType::Product(types);
+        return product_type(alloc, types);
     }
     match types.pop() {
-        Some(ztype) => ztype,
+        Some(ztype) => Ok(ztype),
         None => unreachable!(),
     }
 }

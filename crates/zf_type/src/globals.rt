@@ -5,19 +5,20 @@ ghost use Rattle.zf_type.specs.Definitions.{definition_of, globals_of, schema_of
 ghost use Rattle.zf_type.specs.Scopes.{first_named};
 ghost use Rattle.zf_type.specs.SetShapes.{set_count, set_nodes, all_set_counts, all_set_nodes};
 
+use crate::conjunct::Conjunct;
 use crate::extent::Extent;
 use crate::resolved::Resolved;
 use crate::ztype::ZType;
 use indexmap::IndexMap;
 use std::alloc::{AllocError, Global};
 use std::marker::Model;
-use zf_data::{Items, Text};
+use zf_data::{Items, Shared, Text};
 
 /// A declared set of a component.
 #[derive(Debug, Drop)]
 pub enum Domain {
     /// The set that a declaration names.
-    Plain(Resolved),
+    Plain(Shared<Resolved>),
     /// All values of the type: of a component that one side of a disjunction lacks.
     Carrier(ZType),
     /// Both sides of a disjunction: what lies in all of the left or in all of the right.
@@ -37,7 +38,7 @@ pub struct Component {
 #[derive(Debug, Drop)]
 pub struct Flat {
     pub components: Items<Component>,
-    pub conjuncts: Items<Resolved>,
+    pub conjuncts: Items<Conjunct>,
 }
 
 /// What a global name is defined as. The number of a given set or free type is its place among them.
@@ -47,7 +48,7 @@ pub enum Entry {
     /// A free type: its number, and its constructors.
     Free(usize, Items<Text>),
     /// A constructor: the number and the name of its free type, and its place in it.
-    Constructor(usize, Text, usize),
+    Constructor(usize, Shared<Text>, usize),
     /// An abbreviation: its type, its term, and the extent of that.
     Abbrev(ZType, Resolved, Extent),
     Schema(Flat),
@@ -60,16 +61,16 @@ pub struct Globals {
 }
 
 impl Domain {
-    #[cycle(copy)]
-    pub fn copy(&self, alloc: Global) -> Result<Domain, AllocError>
+    #[cycle(share)]
+    pub fn share(&self, alloc: Global) -> Result<Domain, AllocError>
         ensures { IfOk result (λ d. d ≡ self.now) }
     {
         match self {
-            Domain::Plain(set) => Ok(Domain::Plain(set.copy(alloc)?)),
-            Domain::Carrier(ztype) => Ok(Domain::Carrier(ztype.copy(alloc)?)),
+            Domain::Plain(set) => Ok(Domain::Plain(set.share()?)),
+            Domain::Carrier(ztype) => Ok(Domain::Carrier(ztype.share()?)),
             Domain::Either(left, right) => {
-                let left = copied(left, alloc)?;
-                let right = copied(right, alloc)?;
+                let left = shared_sets(left, alloc)?;
+                let right = shared_sets(right, alloc)?;
                 Ok(Domain::Either(left, right))
             }
         }
@@ -98,7 +99,7 @@ impl Domain {
         ensures { MatchOption result (room < set_nodes (set_of self.now)) (λ left. left + set_nodes (set_of self.now) ≡ room) }
     {
         match self {
-            Domain::Plain(set) => set.room_after(room),
+            Domain::Plain(set) => set.get().room_after(room),
             Domain::Carrier(_) => Some(room),
             Domain::Either(left, right) => room_after_all_nodes(
                 right,
@@ -108,15 +109,16 @@ impl Domain {
     }
 }
 
-#[cycle(copy)]
-fn copied(domains: &Items<Domain>, alloc: Global) -> Result<Items<Domain>, AllocError>
+/// The same declared sets, which are not copied.
+#[cycle(share)]
+pub fn shared_sets(domains: &Items<Domain>, alloc: Global) -> Result<Items<Domain>, AllocError>
     ensures { IfOk result (λ ds. ds ≡ domains.now) }
 {
-    let mut copies = Items::new(alloc);
+    let mut same = Items::new(alloc);
     for domain in domains.as_slice() {
-        copies.push(domain.copy(alloc)?)?;
+        same.push(domain.share(alloc)?)?;
     }
-    Ok(copies)
+    Ok(same)
 }
 
 /// As for one declared set.
@@ -150,8 +152,8 @@ impl Component {
         ensures { IfOk result (λ c. c ≡ self.now) }
     {
         let name = self.name.copy(alloc)?;
-        let ztype = self.ztype.copy(alloc)?;
-        let domains = copied(&self.domains, alloc)?;
+        let ztype = self.ztype.share()?;
+        let domains = shared_sets(&self.domains, alloc)?;
         Ok(Component {
             name,
             ztype,
@@ -215,7 +217,8 @@ impl Globals {
         ensures ok { OnOk result (globals_of self.new ≡ globals_of self.old ++ record { name = name; definition = definition_of entry } ∷ []) }
         ensures err { OnErr result (globals_of self.new ≡ globals_of self.old) }
     {
-        self.entries.insert(name.bytes, entry)?;
+        let key = name.to_vec()?;
+        self.entries.insert(key, entry)?;
         Ok(())
     }
 

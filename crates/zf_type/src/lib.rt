@@ -2,6 +2,7 @@
 #![tactic(auto)]
 
 mod binding;
+pub mod conjunct;
 mod conjuncts;
 pub mod extent;
 pub mod fault;

@@ -1,5 +1,5 @@
 //! The rules of types: what terms make together.
-ghost use Rattle.std.specs.Prelude.{◌≡◌, IfOk, MatchOption};
+ghost use Rattle.std.specs.Prelude.{◌≡◌, ◌↔◌, IsTrue, IfOk, MatchOption};
 ghost use Rattle.zf_text.specs.declared.token.Prefix.TheVariants as prefix;
 ghost use Rattle.zf_text.specs.declared.tree.Sign.TheVariants as sign;
 ghost use Rattle.zf_type.specs.declared.operator.Rule.TheVariants as rule;
@@ -19,13 +19,13 @@ use zf_text::tree::Sign;
 pub fn combine(
     alloc: Global,
     rule: Rule,
-    left: Sort,
-    right: Sort,
+    left: &Sort,
+    right: &Sort,
 ) -> Result<Option<Sort>, AllocError>
-    ensures { IfOk result (IsMade rule (sort_of left) (sort_of right)) }
+    ensures { IfOk result (IsMade rule (sort_of left.now) (sort_of right.now)) }
 {
     match rule {
-        Rule::Arithmetic | Rule::SetFunction | Rule::Overriding => Ok(alike(rule, left, right)),
+        Rule::Arithmetic | Rule::SetFunction | Rule::Overriding => alike(rule, left, right),
         Rule::Equating | Rule::Including | Rule::Comparing | Rule::Connecting => {
             Ok(compared(rule, left, right))
         }
@@ -33,36 +33,46 @@ pub fn combine(
         Rule::Interval => interval(alloc, left, right),
         Rule::Pairing => paired(alloc, left, right),
         Rule::Composing => composed(alloc, left, right),
-        Rule::DomainRestricting => domain_restricted(alloc, left, right),
-        Rule::RangeRestricting => range_restricted(alloc, left, right),
+        Rule::DomainRestricting => domain_restricted(left, right),
+        Rule::RangeRestricting => range_restricted(left, right),
         Rule::Relating => related(alloc, left, right),
-        Rule::Applying => Ok(applied(left, right)),
+        Rule::Applying => applied(left, right),
         Rule::Imaging => image(alloc, left, right),
     }
 }
 
 /// The sort of both operands, where they have one that the rule takes.
-fn alike(rule: Rule, left: Sort, right: Sort) -> Option<Sort>
-    ensures { MatchOption result (Meets (left_need rule) (sort_of left) → sort_of left ≡ sort_of right → ⊥) (λ z. Meets (left_need rule) (sort_of left) × (sort_of left ≡ sort_of right) × (sort_of z ≡ sort_of left)) }
+fn alike(rule: Rule, left: &Sort, right: &Sort) -> Result<Option<Sort>, AllocError>
+    ensures { IfOk result (λ o. MatchOption o (Meets (left_need rule) (sort_of left.now) → sort_of left.now ≡ sort_of right.now → ⊥) (λ z. Meets (left_need rule) (sort_of left.now) × (sort_of left.now ≡ sort_of right.now) × (sort_of z ≡ sort_of left.now))) }
 {
-    if left.meets(rule.left_need()) && left.same(&right) {
-        Some(left)
+    if are_alike(rule, left, right) {
+        Ok(Some(left.share()?))
+    } else {
+        Ok(None)
+    }
+}
+
+/// The predicate that the operands have one sort, where they have one that the rule takes.
+fn compared(rule: Rule, left: &Sort, right: &Sort) -> Option<Sort>
+    ensures { MatchOption result (Meets (left_need rule) (sort_of left.now) → sort_of left.now ≡ sort_of right.now → ⊥) (λ z. Meets (left_need rule) (sort_of left.now) × (sort_of left.now ≡ sort_of right.now) × (sort_of z ≡ predicate)) }
+{
+    if are_alike(rule, left, right) {
+        Some(Sort::Predicate)
     } else {
         None
     }
 }
 
-/// The predicate that the operands have one sort, where they have one that the rule takes.
-fn compared(rule: Rule, left: Sort, right: Sort) -> Option<Sort>
-    ensures { MatchOption result (Meets (left_need rule) (sort_of left) → sort_of left ≡ sort_of right → ⊥) (λ z. Meets (left_need rule) (sort_of left) × (sort_of left ≡ sort_of right) × (sort_of z ≡ predicate)) }
+/// Whether both operands have one sort, which the rule takes.
+fn are_alike(rule: Rule, left: &Sort, right: &Sort) -> bool
+    ensures { IsTrue result ↔ (Meets (left_need rule) (sort_of left.now) × (sort_of left.now ≡ sort_of right.now)) }
 {
-    alike(rule, left, right)?;
-    Some(Sort::Predicate)
+    left.meets(rule.left_need()) && left.same(right)
 }
 
 #[tactic(auto, unfolding(crate::specs::Rules::IsMade))]
-fn interval(alloc: Global, left: Sort, right: Sort) -> Result<Option<Sort>, AllocError>
-    ensures { IfOk result (IsMade rule.Interval (sort_of left) (sort_of right)) }
+fn interval(alloc: Global, left: &Sort, right: &Sort) -> Result<Option<Sort>, AllocError>
+    ensures { IfOk result (IsMade rule.Interval (sort_of left.now) (sort_of right.now)) }
 {
     if !left.meets(Need::Number) {
         return Ok(None);
@@ -74,123 +84,128 @@ fn interval(alloc: Global, left: Sort, right: Sort) -> Result<Option<Sort>, Allo
 }
 
 #[tactic(auto, unfolding(crate::specs::Rules::IsMade))]
-fn paired(alloc: Global, left: Sort, right: Sort) -> Result<Option<Sort>, AllocError>
-    ensures { IfOk result (IsMade rule.Pairing (sort_of left) (sort_of right)) }
+fn paired(alloc: Global, left: &Sort, right: &Sort) -> Result<Option<Sort>, AllocError>
+    ensures { IfOk result (IsMade rule.Pairing (sort_of left.now) (sort_of right.now)) }
 {
-    let Some(first) = left.into_type() else {
+    let Some(first) = left.ztype() else {
         return Ok(None);
     };
-    let Some(second) = right.into_type() else {
+    let Some(second) = right.ztype() else {
         return Ok(None);
     };
-    Ok(Some(Sort::Typed(pair_type(alloc, first, second)?)))
+    let pair = pair_type(alloc, first.share()?, second.share()?)?;
+    Ok(Some(Sort::Typed(pair)))
 }
 
 #[tactic(auto, unfolding(crate::specs::Rules::IsMade))]
-fn composed(alloc: Global, left: Sort, right: Sort) -> Result<Option<Sort>, AllocError>
-    ensures { IfOk result (IsMade rule.Composing (sort_of left) (sort_of right)) }
+fn composed(alloc: Global, left: &Sort, right: &Sort) -> Result<Option<Sort>, AllocError>
+    ensures { IfOk result (IsMade rule.Composing (sort_of left.now) (sort_of right.now)) }
 {
-    let Some((from, middle)) = left.into_sides() else {
+    let Some((from, middle)) = left.sides() else {
         return Ok(None);
     };
-    let Some((start, into)) = right.into_sides() else {
+    let Some((start, into)) = right.sides() else {
         return Ok(None);
     };
-    if !middle.same(&start) {
+    if !middle.same(start) {
         return Ok(None);
     }
     Ok(Some(relation_sort(alloc, from, into)?))
 }
 
 #[tactic(auto, unfolding(crate::specs::Rules::IsMade))]
-fn domain_restricted(alloc: Global, left: Sort, right: Sort) -> Result<Option<Sort>, AllocError>
-    ensures { IfOk result (IsMade rule.DomainRestricting (sort_of left) (sort_of right)) }
+fn domain_restricted(left: &Sort, right: &Sort) -> Result<Option<Sort>, AllocError>
+    ensures { IfOk result (IsMade rule.DomainRestricting (sort_of left.now) (sort_of right.now)) }
 {
-    let Some(member) = left.into_member() else {
+    let Some(member) = left.member() else {
         return Ok(None);
     };
-    let Some((from, into)) = right.into_sides() else {
+    let Some((from, _)) = right.sides() else {
         return Ok(None);
     };
-    if !member.same(&from) {
+    if !member.same(from) {
         return Ok(None);
     }
-    Ok(Some(relation_sort(alloc, from, into)?))
+    Ok(Some(right.share()?))
 }
 
 #[tactic(auto, unfolding(crate::specs::Rules::IsMade))]
-fn range_restricted(alloc: Global, left: Sort, right: Sort) -> Result<Option<Sort>, AllocError>
-    ensures { IfOk result (IsMade rule.RangeRestricting (sort_of left) (sort_of right)) }
+fn range_restricted(left: &Sort, right: &Sort) -> Result<Option<Sort>, AllocError>
+    ensures { IfOk result (IsMade rule.RangeRestricting (sort_of left.now) (sort_of right.now)) }
 {
-    let Some((from, into)) = left.into_sides() else {
+    let Some((_, into)) = left.sides() else {
         return Ok(None);
     };
-    let Some(member) = right.into_member() else {
+    let Some(member) = right.member() else {
         return Ok(None);
     };
-    if !member.same(&into) {
+    if !member.same(into) {
         return Ok(None);
     }
-    Ok(Some(relation_sort(alloc, from, into)?))
+    Ok(Some(left.share()?))
 }
 
 #[tactic(auto, unfolding(crate::specs::Rules::IsMade))]
-fn related(alloc: Global, left: Sort, right: Sort) -> Result<Option<Sort>, AllocError>
-    ensures { IfOk result (IsMade rule.Relating (sort_of left) (sort_of right)) }
+fn related(alloc: Global, left: &Sort, right: &Sort) -> Result<Option<Sort>, AllocError>
+    ensures { IfOk result (IsMade rule.Relating (sort_of left.now) (sort_of right.now)) }
 {
-    let Some(from) = left.into_member() else {
+    let Some(from) = left.member() else {
         return Ok(None);
     };
-    let Some(into) = right.into_member() else {
+    let Some(into) = right.member() else {
         return Ok(None);
     };
-    let relation = set_type(alloc, pair_type(alloc, from, into)?)?;
-    Ok(Some(set_sort(alloc, relation)?))
+    let pair = pair_type(alloc, from.share()?, into.share()?)?;
+    Ok(Some(set_sort(alloc, set_type(alloc, pair)?)?))
 }
 
 #[tactic(auto, unfolding(crate::specs::Rules::IsMade))]
-fn applied(left: Sort, right: Sort) -> Option<Sort>
-    ensures { IsMade rule.Applying (sort_of left) (sort_of right) result }
+fn applied(left: &Sort, right: &Sort) -> Result<Option<Sort>, AllocError>
+    ensures { IfOk result (IsMade rule.Applying (sort_of left.now) (sort_of right.now)) }
 {
-    let (from, into) = left.into_sides()?;
-    let argument = right.into_type()?;
-    if !argument.same(&from) {
-        return None;
-    }
-    Some(Sort::Typed(into))
-}
-
-#[tactic(auto, unfolding(crate::specs::Rules::IsMade))]
-fn image(alloc: Global, left: Sort, right: Sort) -> Result<Option<Sort>, AllocError>
-    ensures { IfOk result (IsMade rule.Imaging (sort_of left) (sort_of right)) }
-{
-    let Some((from, into)) = left.into_sides() else {
+    let Some((from, into)) = left.sides() else {
         return Ok(None);
     };
-    let Some(member) = right.into_member() else {
+    let Some(argument) = right.ztype() else {
         return Ok(None);
     };
-    if !member.same(&from) {
+    if !argument.same(from) {
         return Ok(None);
     }
-    Ok(Some(set_sort(alloc, into)?))
+    Ok(Some(Sort::Typed(into.share()?)))
 }
 
 #[tactic(auto, unfolding(crate::specs::Rules::IsMade))]
-fn belonging(left: Sort, right: Sort) -> Option<Sort>
-    ensures { IsMade rule.Belonging (sort_of left) (sort_of right) result }
+fn image(alloc: Global, left: &Sort, right: &Sort) -> Result<Option<Sort>, AllocError>
+    ensures { IfOk result (IsMade rule.Imaging (sort_of left.now) (sort_of right.now)) }
 {
-    let member = left.into_type()?;
-    let of_set = right.into_member()?;
-    if !member.same(&of_set) {
+    let Some((from, into)) = left.sides() else {
+        return Ok(None);
+    };
+    let Some(member) = right.member() else {
+        return Ok(None);
+    };
+    if !member.same(from) {
+        return Ok(None);
+    }
+    Ok(Some(set_sort(alloc, into.share()?)?))
+}
+
+#[tactic(auto, unfolding(crate::specs::Rules::IsMade))]
+fn belonging(left: &Sort, right: &Sort) -> Option<Sort>
+    ensures { IsMade rule.Belonging (sort_of left.now) (sort_of right.now) result }
+{
+    let member = left.ztype()?;
+    let of_set = right.member()?;
+    if !member.same(of_set) {
         return None;
     }
     Some(Sort::Predicate)
 }
 
 /// What one operand makes, where the symbol takes it.
-pub fn apply(alloc: Global, op: Unary, operand: Sort) -> Result<Option<Sort>, AllocError>
-    ensures { IfOk result (IsMadeOfOne op (sort_of operand)) }
+pub fn apply(alloc: Global, op: Unary, operand: &Sort) -> Result<Option<Sort>, AllocError>
+    ensures { IfOk result (IsMadeOfOne op (sort_of operand.now)) }
 {
     match op {
         Unary::Sign(Sign::Minus) => Ok(negative(operand)),
@@ -201,39 +216,39 @@ pub fn apply(alloc: Global, op: Unary, operand: Sort) -> Result<Option<Sort>, Al
 }
 
 #[tactic(auto, unfolding(crate::specs::Rules::IsMadeOfOne))]
-fn negative(operand: Sort) -> Option<Sort>
-    ensures { IsMadeOfOne (unary.Sign sign.Minus) (sort_of operand) result }
+fn negative(operand: &Sort) -> Option<Sort>
+    ensures { IsMadeOfOne (unary.Sign sign.Minus) (sort_of operand.now) result }
 {
     if operand.meets(Need::Number) {
-        Some(operand)
+        Some(Sort::Typed(int_type()))
     } else {
         None
     }
 }
 
 #[tactic(auto, unfolding(crate::specs::Rules::IsMadeOfOne))]
-fn negated(operand: Sort) -> Option<Sort>
-    ensures { IsMadeOfOne unary.Not (sort_of operand) result }
+fn negated(operand: &Sort) -> Option<Sort>
+    ensures { IsMadeOfOne unary.Not (sort_of operand.now) result }
 {
     if operand.meets(Need::Predicate) {
-        Some(operand)
+        Some(Sort::Predicate)
     } else {
         None
     }
 }
 
 #[tactic(auto, unfolding(crate::specs::Rules::IsMadeOfOne))]
-fn inverted(alloc: Global, operand: Sort) -> Result<Option<Sort>, AllocError>
-    ensures { IfOk result (IsMadeOfOne unary.Inverse (sort_of operand)) }
+fn inverted(alloc: Global, operand: &Sort) -> Result<Option<Sort>, AllocError>
+    ensures { IfOk result (IsMadeOfOne unary.Inverse (sort_of operand.now)) }
 {
-    let Some((from, into)) = operand.into_sides() else {
+    let Some((from, into)) = operand.sides() else {
         return Ok(None);
     };
     Ok(Some(relation_sort(alloc, into, from)?))
 }
 
-fn prefixed(alloc: Global, prefix: Prefix, operand: Sort) -> Result<Option<Sort>, AllocError>
-    ensures { IfOk result (IsMadeOfOne (unary.Sign (sign.Symbol prefix)) (sort_of operand)) }
+fn prefixed(alloc: Global, prefix: Prefix, operand: &Sort) -> Result<Option<Sort>, AllocError>
+    ensures { IfOk result (IsMadeOfOne (unary.Sign (sign.Symbol prefix)) (sort_of operand.now)) }
 {
     match prefix {
         Prefix::Power | Prefix::Finset => subsets(alloc, operand),
@@ -244,8 +259,8 @@ fn prefixed(alloc: Global, prefix: Prefix, operand: Sort) -> Result<Option<Sort>
 }
 
 #[tactic(auto, unfolding(crate::specs::Rules::IsMadeOfOne))]
-fn size(operand: Sort) -> Option<Sort>
-    ensures { IsMadeOfOne (unary.Sign (sign.Symbol prefix.Size)) (sort_of operand) result }
+fn size(operand: &Sort) -> Option<Sort>
+    ensures { IsMadeOfOne (unary.Sign (sign.Symbol prefix.Size)) (sort_of operand.now) result }
 {
     if operand.meets(Need::Set) {
         Some(Sort::Typed(int_type()))
@@ -255,34 +270,37 @@ fn size(operand: Sort) -> Option<Sort>
 }
 
 #[tactic(auto, unfolding(crate::specs::Rules::IsMadeOfOne))]
-fn domain(alloc: Global, operand: Sort) -> Result<Option<Sort>, AllocError>
-    ensures { IfOk result (IsMadeOfOne (unary.Sign (sign.Symbol prefix.Domain)) (sort_of operand)) }
+fn domain(alloc: Global, operand: &Sort) -> Result<Option<Sort>, AllocError>
+    ensures { IfOk result (IsMadeOfOne (unary.Sign (sign.Symbol prefix.Domain)) (sort_of operand.now)) }
 {
-    let Some((from, _)) = operand.into_sides() else {
+    let Some((from, _)) = operand.sides() else {
         return Ok(None);
     };
-    Ok(Some(set_sort(alloc, from)?))
+    Ok(Some(set_sort(alloc, from.share()?)?))
 }
 
 #[tactic(auto, unfolding(crate::specs::Rules::IsMadeOfOne))]
-fn range(alloc: Global, operand: Sort) -> Result<Option<Sort>, AllocError>
-    ensures { IfOk result (IsMadeOfOne (unary.Sign (sign.Symbol prefix.Range)) (sort_of operand)) }
+fn range(alloc: Global, operand: &Sort) -> Result<Option<Sort>, AllocError>
+    ensures { IfOk result (IsMadeOfOne (unary.Sign (sign.Symbol prefix.Range)) (sort_of operand.now)) }
 {
-    let Some((_, into)) = operand.into_sides() else {
+    let Some((_, into)) = operand.sides() else {
         return Ok(None);
     };
-    Ok(Some(set_sort(alloc, into)?))
+    Ok(Some(set_sort(alloc, into.share()?)?))
 }
 
 #[tactic(auto, unfolding(crate::specs::Rules::IsMadeOfOne))]
-fn subsets(alloc: Global, operand: Sort) -> Result<Option<Sort>, AllocError>
-    ensures all { IfOk result (IsMadeOfOne (unary.Sign (sign.Symbol prefix.Power)) (sort_of operand)) }
-    ensures finite { IfOk result (IsMadeOfOne (unary.Sign (sign.Symbol prefix.Finset)) (sort_of operand)) }
+fn subsets(alloc: Global, operand: &Sort) -> Result<Option<Sort>, AllocError>
+    ensures all { IfOk result (IsMadeOfOne (unary.Sign (sign.Symbol prefix.Power)) (sort_of operand.now)) }
+    ensures finite { IfOk result (IsMadeOfOne (unary.Sign (sign.Symbol prefix.Finset)) (sort_of operand.now)) }
 {
-    let Some(member) = operand.into_member() else {
+    let Some(ztype) = operand.ztype() else {
         return Ok(None);
     };
-    Ok(Some(set_sort(alloc, set_type(alloc, member)?)?))
+    if !ztype.is_set() {
+        return Ok(None);
+    }
+    Ok(Some(set_sort(alloc, ztype.share()?)?))
 }
 
 fn set_sort(alloc: Global, member: ZType) -> Result<Sort, AllocError>
@@ -304,10 +322,10 @@ fn int_type() -> ZType
     ZType::Int
 }
 
-fn relation_sort(alloc: Global, from: ZType, into: ZType) -> Result<Sort, AllocError>
-    ensures { IfOk result (λ z. sort_of z ≡ relation (type_of from) (type_of into)) }
+fn relation_sort(alloc: Global, from: &ZType, into: &ZType) -> Result<Sort, AllocError>
+    ensures { IfOk result (λ z. sort_of z ≡ relation (type_of from.now) (type_of into.now)) }
 {
-    set_sort(alloc, pair_type(alloc, from, into)?)
+    set_sort(alloc, pair_type(alloc, from.share()?, into.share()?)?)
 }
 
 /// The sort of a constant.

@@ -12,7 +12,7 @@ use crate::resolved::Reference;
 use crate::sort::Sort;
 use crate::ztype::ZType;
 use std::alloc::{AllocError, Global};
-use zf_data::{Boxed, Text};
+use zf_data::{Shared, Text};
 use zf_text::tree::Name;
 
 /// A bound variable.
@@ -55,11 +55,11 @@ impl Scope<'_> {
         ensures { IfOk result (λ found. meant found ≡ spec.meaning (scope_of self.now) name.now) }
     {
         if let Some((place, variable)) = local_of(self.locals.as_slice(), name) {
-            let sort = Sort::Typed(variable.ztype.copy(alloc)?);
+            let sort = Sort::Typed(variable.ztype.share()?);
             return Ok(Some((Reference::Local(place), sort)));
         }
         if let Some((place, component)) = component_of(self.components, name) {
-            let sort = Sort::Typed(component.ztype.copy(alloc)?);
+            let sort = Sort::Typed(component.ztype.share()?);
             return Ok(Some((Reference::Component(place), sort)));
         }
         match global_of(self.globals, name) {
@@ -76,9 +76,9 @@ impl Scope<'_> {
 pub fn spelled(alloc: Global, name: &Name) -> Result<Text, AllocError>
     ensures { IfOk result (λ t. t ≡ spelling name.now) }
 {
-    let mut bytes = Vec::from_slice(alloc, name.base.as_slice())?;
-    bytes.extend_from_slice(name.strokes.as_slice())?;
-    Ok(Text { bytes })
+    let mut text = name.base.copy(alloc)?;
+    text.append(name.strokes.as_slice())?;
+    Ok(text)
 }
 
 /// The last variable of the name, with its place.
@@ -135,11 +135,11 @@ fn entry_sort(alloc: Global, name: &[u8], entry: &Entry) -> Result<Sort, AllocEr
 {
     match entry {
         Entry::Given(_) | Entry::Free(_, _) => {
-            let members = ZType::Basic(Text::of(alloc, name)?);
-            Ok(Sort::Typed(ZType::Power(Boxed::new(alloc, members)?)))
+            let members = ZType::Basic(Shared::new(alloc, Text::of(alloc, name)?)?);
+            Ok(Sort::Typed(ZType::Power(Shared::new(alloc, members)?)))
         }
-        Entry::Constructor(_, of_type, _) => Ok(Sort::Typed(ZType::Basic(of_type.copy(alloc)?))),
-        Entry::Abbrev(ztype, _, _) => Ok(Sort::Typed(ztype.copy(alloc)?)),
+        Entry::Constructor(_, of_type, _) => Ok(Sort::Typed(ZType::Basic(of_type.share()?))),
+        Entry::Abbrev(ztype, _, _) => Ok(Sort::Typed(ztype.share()?)),
         Entry::Schema(_) => Ok(Sort::Schema),
     }
 }

@@ -1,11 +1,12 @@
 //! What a term can be.
-ghost use Rattle.std.specs.Prelude.{◌≡◌, ◌↔◌, IsTrue, MatchOption};
+ghost use Rattle.std.specs.Prelude.{◌≡◌, ◌↔◌, IsTrue, IfOk, MatchOption};
 ghost use Rattle.zf_type.specs.Rules.{IsSmallSort, Meets, lack, lack_of, untyped_lack, relation, set_of, sort_of, typed};
 ghost use Rattle.zf_type.specs.Types.{Ty, type_of};
 
 use crate::fault::TypeFaultKind;
 use crate::operator::Need;
 use crate::ztype::ZType;
+use std::alloc::AllocError;
 
 /// What a term is.
 #[derive(Debug, Drop)]
@@ -18,6 +19,17 @@ pub enum Sort {
 }
 
 impl Sort {
+    /// The same sort, of which nothing is copied.
+    pub fn share(&self) -> Result<Sort, AllocError>
+        ensures { IfOk result (λ z. sort_of z ≡ sort_of self.now) }
+    {
+        match self {
+            Sort::Typed(ztype) => Ok(Sort::Typed(ztype.share()?)),
+            Sort::Predicate => Ok(Sort::Predicate),
+            Sort::Schema => Ok(Sort::Schema),
+        }
+    }
+
     /// Whether a term of this sort can stand where this is needed.
     pub fn meets(&self, need: Need) -> bool
         ensures { IsTrue result ↔ Meets need (sort_of self.now) }
@@ -64,6 +76,16 @@ impl Sort {
     pub fn into_type(self) -> Option<ZType>
         ensures { MatchOption result ((t : Ty) → sort_of self ≡ typed t → ⊥) (λ t. sort_of self ≡ typed (type_of t)) }
     {
+        let Sort::Typed(ztype) = self else {
+            return None;
+        };
+        Some(ztype)
+    }
+
+    /// The type of an expression, lent.
+    pub fn ztype(&self) -> Option<&ZType>
+        ensures { MatchOption result ((t : Ty) → sort_of self.now ≡ typed t → ⊥) (λ t. sort_of self.now ≡ typed (type_of t.now)) }
+    {
         match self {
             Sort::Typed(ztype) => Some(ztype),
             Sort::Predicate | Sort::Schema => None,
@@ -71,17 +93,17 @@ impl Sort {
     }
 
     /// The type of the members of a set.
-    pub fn into_member(self) -> Option<ZType>
-        ensures { MatchOption result ((t : Ty) → sort_of self ≡ set_of t → ⊥) (λ t. sort_of self ≡ set_of (type_of t)) }
+    pub fn member(&self) -> Option<&ZType>
+        ensures { MatchOption result ((t : Ty) → sort_of self.now ≡ set_of t → ⊥) (λ t. sort_of self.now ≡ set_of (type_of t.now)) }
     {
-        self.into_type()?.into_member()
+        self.ztype()?.member()
     }
 
     /// The types that a relation is from and into.
-    pub fn into_sides(self) -> Option<(ZType, ZType)>
-        ensures { MatchOption result ((t u : Ty) → sort_of self ≡ relation t u → ⊥) (λ p. sort_of self ≡ relation (type_of p.0) (type_of p.1)) }
+    pub fn sides(&self) -> Option<(&ZType, &ZType)>
+        ensures { MatchOption result ((t u : Ty) → sort_of self.now ≡ relation t u → ⊥) (λ p. sort_of self.now ≡ relation (type_of p.0.now) (type_of p.1.now)) }
     {
-        self.into_member()?.into_pair()
+        self.member()?.pair()
     }
 }
 

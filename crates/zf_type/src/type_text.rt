@@ -13,7 +13,7 @@ pub fn type_text(alloc: Global, ztype: &ZType) -> Result<Text, AllocError>
 {
     let mut bytes = Vec::new(alloc);
     append_type(&mut bytes, ztype)?;
-    Ok(Text { bytes })
+    Text::of(alloc, bytes.as_slice())
 }
 
 /// Appends the text of a type. A refusal leaves a part of it.
@@ -24,14 +24,14 @@ pub fn append_type(text: &mut Vec<u8>, ztype: &ZType) -> Result<(), AllocError>
 {
     match ztype {
         ZType::Int => text.extend_from_slice(b"\\num"),
-        ZType::Basic(name) => text.extend_from_slice(name.as_slice()),
+        ZType::Basic(name) => text.extend_from_slice(name.get().as_slice()),
         ZType::Power(member) => {
             text.extend_from_slice(b"\\power ")?;
             append_type(text, member.get())
         }
         ZType::Product(parts) => {
             text.extend_from_slice(b"(")?;
-            append_parts(text, parts.as_slice())?;
+            append_parts(text, parts.get().as_slice())?;
             text.extend_from_slice(b")")
         }
     }

@@ -2,10 +2,10 @@
 ghost use Rattle.std.specs.Prelude.{◌≡◌, ◌+◌, ◌<◌, ◌↔◌, IsTrue, IfOk, MatchOption, map};
 ghost use Rattle.zf_type.specs.Rules.{IsSmall, pair};
 ghost use Rattle.zf_type.specs.Types as spec;
-ghost use Rattle.zf_type.specs.Types.{Ty, int, power, types, type_of, nodes, nodes_of_all};
+ghost use Rattle.zf_type.specs.Types.{Ty, int, power, product, types, type_of, nodes, nodes_of_all};
 
 use std::alloc::{AllocError, Global};
-use zf_data::{Boxed, Items, Text};
+use zf_data::{Items, Shared, Text};
 
 /// A type. Two are the same type where they are equal.
 #[derive(Debug, Drop)]
@@ -13,31 +13,26 @@ pub enum ZType {
     /// `\num`
     Int,
     /// A given set or free type, by its name.
-    Basic(Text),
+    Basic(Shared<Text>),
     /// Sets of members of a type.
-    Power(Boxed<ZType>),
+    Power(Shared<ZType>),
     /// Tuples.
-    Product(Items<ZType>),
+    Product(Shared<Items<ZType>>),
 }
 
 /// The limit on the nodes of a type.
 const MOST_NODES: u32 = 256;
 
 impl ZType {
-    pub fn copy(&self, alloc: Global) -> Result<ZType, AllocError>
+    /// The same type, of which nothing is copied.
+    pub fn share(&self) -> Result<ZType, AllocError>
         ensures { IfOk result (λ t. t ≡ self.now) }
     {
         match self {
             ZType::Int => Ok(ZType::Int),
-            ZType::Basic(name) => Ok(ZType::Basic(name.copy(alloc)?)),
-            ZType::Power(member) => Ok(ZType::Power(Boxed::new(alloc, member.get().copy(alloc)?)?)),
-            ZType::Product(parts) => {
-                let mut copies = Items::new(alloc);
-                for part in parts.as_slice() {
-                    copies.push(part.copy(alloc)?)?;
-                }
-                Ok(ZType::Product(copies))
-            }
+            ZType::Basic(name) => Ok(ZType::Basic(name.share()?)),
+            ZType::Power(member) => Ok(ZType::Power(member.share()?)),
+            ZType::Product(parts) => Ok(ZType::Product(parts.share()?)),
         }
     }
 
@@ -49,10 +44,10 @@ impl ZType {
     {
         match (self, other) {
             (ZType::Int, ZType::Int) => true,
-            (ZType::Basic(name), ZType::Basic(other)) => name.same(other),
+            (ZType::Basic(name), ZType::Basic(other)) => name.get().same(other.get()),
             (ZType::Power(member), ZType::Power(other)) => member.get().same(other.get()),
             (ZType::Product(parts), ZType::Product(others)) => {
-                same_all(parts.as_slice(), others.as_slice())
+                same_all(parts.get().as_slice(), others.get().as_slice())
             }
             _ => false,
         }
@@ -77,7 +72,7 @@ impl ZType {
         match self {
             ZType::Int | ZType::Basic(_) => Some(left),
             ZType::Power(member) => member.get().room_after(left),
-            ZType::Product(parts) => room_after_all(parts.as_slice(), left),
+            ZType::Product(parts) => room_after_all(parts.get().as_slice(), left),
         }
     }
 
@@ -91,7 +86,7 @@ impl ZType {
             ZType::Int => true,
             ZType::Basic(_) => false,
             ZType::Power(member) => member.get().has_numbers(),
-            ZType::Product(parts) => have_numbers(parts.as_slice()),
+            ZType::Product(parts) => have_numbers(parts.get().as_slice()),
         }
     }
 
@@ -126,34 +121,33 @@ impl ZType {
         ensures { IsTrue result ↔ ((t u : Ty) × (type_of self.now ≡ pair t u)) }
     {
         match self {
-            ZType::Product(parts) => parts.len() == 2,
+            ZType::Product(parts) => parts.get().len() == 2,
             _ => false,
         }
     }
 
     /// The type of a set's members.
-    pub fn into_member(self) -> Option<ZType>
-        ensures { MatchOption result ((t : Ty) → type_of self ≡ power t → ⊥) (λ t. type_of self ≡ power (type_of t)) }
+    pub fn member(&self) -> Option<&ZType>
+        ensures { MatchOption result ((t : Ty) → type_of self.now ≡ power t → ⊥) (λ t. type_of self.now ≡ power (type_of t.now)) }
     {
-        let ZType::Power(member) = self else {
-            return None;
-        };
-        Some(member.into_inner())
+        match self {
+            ZType::Power(member) => Some(member.get()),
+            _ => None,
+        }
     }
 
     /// The types of both parts of a pair.
-    pub fn into_pair(self) -> Option<(ZType, ZType)>
-        ensures { MatchOption result ((t u : Ty) → type_of self ≡ pair t u → ⊥) (λ p. type_of self ≡ pair (type_of p.0) (type_of p.1)) }
+    pub fn pair(&self) -> Option<(&ZType, &ZType)>
+        ensures { MatchOption result ((t u : Ty) → type_of self.now ≡ pair t u → ⊥) (λ p. type_of self.now ≡ pair (type_of p.0.now) (type_of p.1.now)) }
     {
-        let ZType::Product(mut parts) = self else {
+        let ZType::Product(parts) = self else {
             return None;
         };
+        let parts = parts.get().as_slice();
         if parts.len() != 2 {
             return None;
         }
-        let second = parts.pop()?;
-        let first = parts.pop()?;
-        Some((first, second))
+        Some((&parts[0], &parts[1]))
     }
 }
 
@@ -203,7 +197,7 @@ fn have_numbers(parts: &[ZType]) -> bool
 pub fn set_type(alloc: Global, member: ZType) -> Result<ZType, AllocError>
     ensures { IfOk result (λ t. type_of t ≡ power (type_of member)) }
 {
-    Ok(ZType::Power(Boxed::new(alloc, member)?))
+    Ok(ZType::Power(Shared::new(alloc, member)?))
 }
 
 /// The type of pairs.
@@ -213,7 +207,15 @@ pub fn pair_type(alloc: Global, first: ZType, second: ZType) -> Result<ZType, Al
 {
     let mut parts = Items::of(alloc, first)?;
     parts.push(second)?;
-    Ok(ZType::Product(parts))
+    product_type(alloc, parts)
+}
+
+/// The type of tuples of parts of these types.
+#[tactic(auto, using(crate::proofs::TypesSeen::seen))]
+pub fn product_type(alloc: Global, parts: Items<ZType>) -> Result<ZType, AllocError>
+    ensures { IfOk result (λ t. type_of t ≡ product (types (map type_of parts))) }
+{
+    Ok(ZType::Product(Shared::new(alloc, parts)?))
 }
 
 /// Types that are the same are equal, so that `same` is equality.

@@ -153,8 +153,12 @@ fn decoration_captures_nothing(rt: HostRuntime) -> Result<(), Fail> {
         return Err(Fail::new("other components"));
     };
     assert_eq!(rt; component.name.as_slice(), b"x'".as_slice());
-    let [Resolved::Quantified(4, _, _, None, body)] = schema.conjuncts.as_slice() else {
+    let [conjunct] = schema.conjuncts.as_slice() else {
         return Err(Fail::new("other conjuncts"));
+    };
+    let term = conjunct.resolved(rt.alloc())?;
+    let Resolved::Quantified(4, _, _, None, body) = &term else {
+        return Err(Fail::new("another conjunct"));
     };
     let Resolved::Chain(4, variable, links) = body.get() else {
         return Err(Fail::new("another body"));

@@ -16,7 +16,6 @@ use crate::tall::Tall;
 use crate::token::{Infix, Quantifier};
 use crate::tree::{Sign, Term};
 use std::alloc::Global;
-use zf_data::Boxed;
 
 impl<F: Fn(Global, &mut Cursor<'_>, u32, u8) -> Result<Tall<Term>, TextFault>> Grammar<F> {
     /// After `\emptyset`.
@@ -31,10 +30,10 @@ impl<F: Fn(Global, &mut Cursor<'_>, u32, u8) -> Result<Tall<Term>, TextFault>> G
             return Err(TextFault::not_in_profile(line));
         }
         tokens.skip();
-        let set = self.term(tokens, EXPRESSION)?;
+        let set = self.boxed(tokens, EXPRESSION)?;
         tokens.expect(Mark::CloseSquare)?;
         Ok(Tall {
-            part: Term::EmptySet(line, Boxed::new(self.alloc, set.part)?),
+            part: Term::EmptySet(line, set.part),
             height: set.height + 1,
         })
     }
@@ -71,16 +70,22 @@ impl<F: Fn(Global, &mut Cursor<'_>, u32, u8) -> Result<Tall<Term>, TextFault>> G
         ensures value { Gives (spec.round (read_term self.now.below) line tokens.old) result tokens.new }
         ensures low { IfOk result (λ x. x.height ≤ self.now.below + 1) }
     {
-        let inner = self.term(tokens, QUANTIFIER)?;
+        let inner = self.boxed(tokens, QUANTIFIER)?;
         match tokens.peek() {
             Next::CloseRound => {
                 tokens.skip();
                 Ok(Tall {
-                    part: Term::Bracket(line, Boxed::new(self.alloc, inner.part)?),
+                    part: Term::Bracket(line, inner.part),
                     height: inner.height + 1,
                 })
             }
-            Next::Comma => self.tuple(tokens, line, inner),
+            Next::Comma => {
+                let first = Tall {
+                    part: inner.part.into_inner(),
+                    height: inner.height,
+                };
+                self.tuple(tokens, line, first)
+            }
             _ => Err(tokens.unexpected()),
         }
     }
@@ -151,9 +156,9 @@ impl<F: Fn(Global, &mut Cursor<'_>, u32, u8) -> Result<Tall<Term>, TextFault>> G
         ensures value { Gives (spec.under (read_term self.now.below) (levels.sign_level sign) (term.Prefix line sign) tokens.old) result tokens.new }
         ensures low { IfOk result (λ x. x.height ≤ self.now.below + 1) }
     {
-        let operand = self.term(tokens, sign_level(sign))?;
+        let operand = self.boxed(tokens, sign_level(sign))?;
         Ok(Tall {
-            part: Term::Prefix(line, sign, Boxed::new(self.alloc, operand.part)?),
+            part: Term::Prefix(line, sign, operand.part),
             height: operand.height + 1,
         })
     }
@@ -166,9 +171,9 @@ impl<F: Fn(Global, &mut Cursor<'_>, u32, u8) -> Result<Tall<Term>, TextFault>> G
         ensures value { Gives (spec.under (read_term self.now.below) levels.negation_level (term.Not line) tokens.old) result tokens.new }
         ensures low { IfOk result (λ x. x.height ≤ self.now.below + 1) }
     {
-        let operand = self.term(tokens, NEGATION)?;
+        let operand = self.boxed(tokens, NEGATION)?;
         Ok(Tall {
-            part: Term::Not(line, Boxed::new(self.alloc, operand.part)?),
+            part: Term::Not(line, operand.part),
             height: operand.height + 1,
         })
     }
@@ -189,10 +194,9 @@ impl<F: Fn(Global, &mut Cursor<'_>, u32, u8) -> Result<Tall<Term>, TextFault>> G
         let decls = self.decls(tokens)?;
         let constraint = self.part(tokens, Mark::Bar, QUANTIFIER)?;
         tokens.expect(Mark::At)?;
-        let body = self.term(tokens, QUANTIFIER)?;
-        let inner = Boxed::new(self.alloc, body.part)?;
+        let body = self.boxed(tokens, QUANTIFIER)?;
         Ok(Tall {
-            part: Term::Quantified(line, quantifier, decls.part, constraint.part, inner),
+            part: Term::Quantified(line, quantifier, decls.part, constraint.part, body.part),
             height: decls.height.max(constraint.height).max(body.height) + 1,
         })
     }

@@ -34,13 +34,12 @@ impl<F: Fn(Global, &mut Cursor<'_>, u32, u8) -> Result<Tall<Term>, TextFault>> G
         ensures value { Gives (spec.longer_by (read_term self.now.below) left (next.Connective connective) tokens.old) result tokens.new }
         ensures low { IfOk result (λ x. x.height ≤ self.now.below + 2) }
     {
-        tokens.skip();
-        let right = self.term(tokens, right_place(connective))?;
         let line = line(&left.part);
         let first = Boxed::new(self.alloc, left.part)?;
-        let second = Boxed::new(self.alloc, right.part)?;
+        tokens.skip();
+        let right = self.boxed(tokens, right_place(connective))?;
         Ok(Tall {
-            part: Term::Connective(line, connective, first, second),
+            part: Term::Connective(line, connective, first, right.part),
             height: left.height.max(right.height) + 1,
         })
     }
@@ -58,13 +57,12 @@ impl<F: Fn(Global, &mut Cursor<'_>, u32, u8) -> Result<Tall<Term>, TextFault>> G
         ensures value { Gives (spec.longer_by (read_term self.now.below) left (next.Arrow arrow) tokens.old) result tokens.new }
         ensures low { IfOk result (λ x. x.height ≤ self.now.below + 2) }
     {
-        tokens.skip();
-        let right = self.term(tokens, EXPRESSION)?;
         let line = line(&left.part);
         let first = Boxed::new(self.alloc, left.part)?;
-        let second = Boxed::new(self.alloc, right.part)?;
+        tokens.skip();
+        let right = self.boxed(tokens, EXPRESSION)?;
         Ok(Tall {
-            part: Term::Arrow(line, arrow, first, second),
+            part: Term::Arrow(line, arrow, first, right.part),
             height: left.height.max(right.height) + 1,
         })
     }
@@ -82,13 +80,12 @@ impl<F: Fn(Global, &mut Cursor<'_>, u32, u8) -> Result<Tall<Term>, TextFault>> G
         ensures value { Gives (spec.longer_by (read_term self.now.below) left (next.Infix op) tokens.old) result tokens.new }
         ensures low { IfOk result (λ x. x.height ≤ self.now.below + 2) }
     {
-        tokens.skip();
-        let right = self.term(tokens, infix_level(op) + 1)?;
         let line = line(&left.part);
         let first = Boxed::new(self.alloc, left.part)?;
-        let second = Boxed::new(self.alloc, right.part)?;
+        tokens.skip();
+        let right = self.boxed(tokens, infix_level(op) + 1)?;
         Ok(Tall {
-            part: Term::Infix(line, op, first, second),
+            part: Term::Infix(line, op, first, right.part),
             height: left.height.max(right.height) + 1,
         })
     }
@@ -101,12 +98,11 @@ impl<F: Fn(Global, &mut Cursor<'_>, u32, u8) -> Result<Tall<Term>, TextFault>> G
         ensures value { Gives (spec.with_right (read_term self.now.below) levels.postfix_level (term.Apply (line_of (tree_of left.part))) left tokens.old) result tokens.new }
         ensures low { IfOk result (λ x. x.height ≤ self.now.below + 2) }
     {
-        let argument = self.term(tokens, POSTFIX)?;
         let line = line(&left.part);
         let first = Boxed::new(self.alloc, left.part)?;
-        let second = Boxed::new(self.alloc, argument.part)?;
+        let argument = self.boxed(tokens, POSTFIX)?;
         Ok(Tall {
-            part: Term::Apply(line, first, second),
+            part: Term::Apply(line, first, argument.part),
             height: left.height.max(argument.height) + 1,
         })
     }
@@ -133,14 +129,13 @@ impl<F: Fn(Global, &mut Cursor<'_>, u32, u8) -> Result<Tall<Term>, TextFault>> G
         ensures value { Gives (spec.longer_by (read_term self.now.below) left next.OpenImage tokens.old) result tokens.new }
         ensures low { IfOk result (λ x. x.height ≤ self.now.below + 2) }
     {
-        tokens.skip();
-        let set = self.term(tokens, EXPRESSION)?;
-        tokens.expect(Mark::CloseImage)?;
         let line = line(&left.part);
         let first = Boxed::new(self.alloc, left.part)?;
-        let second = Boxed::new(self.alloc, set.part)?;
+        tokens.skip();
+        let set = self.boxed(tokens, EXPRESSION)?;
+        tokens.expect(Mark::CloseImage)?;
         Ok(Tall {
-            part: Term::Image(line, first, second),
+            part: Term::Image(line, first, set.part),
             height: left.height.max(set.height) + 1,
         })
     }
@@ -153,9 +148,9 @@ impl<F: Fn(Global, &mut Cursor<'_>, u32, u8) -> Result<Tall<Term>, TextFault>> G
         ensures value { Gives (spec.chained (read_term self.now.below) left tokens.old) result tokens.new }
         ensures low { IfOk result (λ x. x.height ≤ self.now.below + 2) }
     {
-        let links = self.chain_links(tokens)?;
         let line = line(&left.part);
         let first = Boxed::new(self.alloc, left.part)?;
+        let links = self.chain_links(tokens)?;
         Ok(Tall {
             part: Term::Chain(line, first, links.part),
             height: left.height.max(links.height) + 1,

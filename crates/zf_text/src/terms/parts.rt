@@ -148,9 +148,9 @@ impl<F: Fn(Global, &mut Cursor<'_>, u32, u8) -> Result<Tall<Term>, TextFault>> G
             });
         }
         tokens.skip();
-        let term = self.term(tokens, place)?;
+        let term = self.boxed(tokens, place)?;
         Ok(Tall {
-            part: Some(Boxed::new(self.alloc, term.part)?),
+            part: Some(term.part),
             height: term.height,
         })
     }

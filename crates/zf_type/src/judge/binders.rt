@@ -62,7 +62,7 @@ fn judge_sets(decls: &[VarDecl], alloc: Global, scope: &mut Scope<'_>) -> Result
     for decl in decls {
         let set = judge_term(&decl.set, alloc, Need::Set, scope)?;
         let names = decl.names.as_slice();
-        declare_names(alloc, names, set.sort, &mut variables)?;
+        declare_names(alloc, names, &set.sort, &mut variables)?;
         ranges.push(Range {
             variables: names.len(),
             set: set.term,

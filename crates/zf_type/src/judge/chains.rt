@@ -24,7 +24,7 @@ use crate::resolved::{Resolved, ResolvedLink};
 use crate::rules::combine;
 use crate::scope::Scope;
 use crate::sort::Sort;
-use std::alloc::{AllocError, Global};
+use std::alloc::Global;
 use zf_data::{Boxed, Items};
 use zf_text::tree::Link;
 
@@ -71,13 +71,15 @@ fn judge_links(
         check_left(&left, rule.left_need())?;
         let right = judge_term(&link.right, alloc, rule.right_need(), scope)?;
         let line = right.term.line();
-        let sort = copy_of(alloc, &right.sort)?;
-        relate(alloc, rule, left.sort, right.sort, line)?;
+        relate(alloc, rule, &left.sort, &right.sort, line)?;
         judged.push(ResolvedLink {
             relation: link.relation,
             right: right.term,
         })?;
-        left = Operand { sort, line };
+        left = Operand {
+            sort: right.sort,
+            line,
+        };
     }
     Ok(judged)
 }
@@ -95,23 +97,13 @@ fn check_left(left: &Operand, need: Need) -> Result<(), Refusal>
 
 /// The rule takes both operands; the line is that of the right one.
 #[tactic(auto, unfolding(crate::specs::Rules::IsMade))]
-fn relate(alloc: Global, rule: Rule, left: Sort, right: Sort, line: u32) -> Result<(), Refusal>
-    ensures ok { OnOk result ((z : rules.Sort) × Takes rule (sort_of left) (sort_of right) z) }
-    ensures wrong { IfErr result (λ e. IfFault e (λ kind m. ((z : rules.Sort) → Takes rule (sort_of left) (sort_of right) z → ⊥) × (kind ≡ TypeFaultKind.Mismatch) × (m ≡ line))) }
+fn relate(alloc: Global, rule: Rule, left: &Sort, right: &Sort, line: u32) -> Result<(), Refusal>
+    ensures ok { OnOk result ((z : rules.Sort) × Takes rule (sort_of left.now) (sort_of right.now) z) }
+    ensures wrong { IfErr result (λ e. IfFault e (λ kind m. ((z : rules.Sort) → Takes rule (sort_of left.now) (sort_of right.now) z → ⊥) × (kind ≡ TypeFaultKind.Mismatch) × (m ≡ line))) }
 {
     match combine(alloc, rule, left, right)? {
         Some(_) => Ok(()),
         None => Err(refused(TypeFaultKind::Mismatch, line)),
-    }
-}
-
-fn copy_of(alloc: Global, sort: &Sort) -> Result<Sort, AllocError>
-    ensures { IfOk result (λ copy. sort_of copy ≡ sort_of sort.now) }
-{
-    match sort {
-        Sort::Typed(ztype) => Ok(Sort::Typed(ztype.copy(alloc)?)),
-        Sort::Predicate => Ok(Sort::Predicate),
-        Sort::Schema => Ok(Sort::Schema),
     }
 }
 

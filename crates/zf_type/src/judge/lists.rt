@@ -18,9 +18,9 @@ use crate::operator::{Listed, Need};
 use crate::resolved::Resolved;
 use crate::scope::Scope;
 use crate::sort::Sort;
-use crate::ztype::ZType;
+use crate::ztype::{ZType, product_type, set_type};
 use std::alloc::{AllocError, Global};
-use zf_data::{Boxed, Items};
+use zf_data::Items;
 use zf_text::tree::Term;
 
 /// The members of a list of terms, and the type of each; of a set the type of its members.
@@ -64,7 +64,7 @@ fn judge_all(
     for term in terms {
         let member = judge_term(term, alloc, member_need(form), scope)?;
         members.terms.push(member.term)?;
-        members.types.push(member_type(alloc, form, member.sort)?)?;
+        members.types.push(member_type(form, member.sort)?)?;
     }
     Ok(members)
 }
@@ -79,7 +79,7 @@ fn member_need(form: Listed) -> Need
 }
 
 /// The type that is kept of a member.
-fn member_type(alloc: Global, form: Listed, sort: Sort) -> Result<ZType, AllocError>
+fn member_type(form: Listed, sort: Sort) -> Result<ZType, AllocError>
     requires { Meets (judging.member_need form) (sort_of sort) }
     ensures { IfOk result (λ t. sort_of sort ≡ member_sort form (type_of t)) }
 {
@@ -88,21 +88,19 @@ fn member_type(alloc: Global, form: Listed, sort: Sort) -> Result<ZType, AllocEr
     };
     match form {
         Listed::Tuple | Listed::Display => Ok(ztype),
-        Listed::Product => element(alloc, &ztype),
+        Listed::Product => element(&ztype),
     }
 }
 
 /// The type of a set's members.
 #[tactic(auto, using(crate::proofs::TypesSeen::seen))]
-fn element(alloc: Global, ztype: &ZType) -> Result<ZType, AllocError>
+fn element(ztype: &ZType) -> Result<ZType, AllocError>
     requires { (u : Ty) × (type_of ztype.now ≡ power u) }
     ensures { IfOk result (λ t. type_of ztype.now ≡ power (type_of t)) }
 {
-    match ztype {
-        ZType::Power(members) => members.get().copy(alloc),
-        ZType::Int => unreachable!(),
-        ZType::Basic(_) => unreachable!(),
-        ZType::Product(_) => unreachable!(),
+    match ztype.member() {
+        Some(members) => members.share(),
+        None => unreachable!(),
     }
 }
 
@@ -140,8 +138,8 @@ fn made_of(
     ensures wrong { IfErr result (λ e. IfFault e (λ kind m. (form ≡ Listed.Display) × (kind ≡ TypeFaultKind.Mismatch) × DiffersAt line (map resolved_of terms.now) (tys.types (map type_of types)) m)) }
 {
     match form {
-        Listed::Tuple => Ok(ZType::Product(types)),
-        Listed::Product => Ok(ZType::Power(Boxed::new(alloc, ZType::Product(types))?)),
+        Listed::Tuple => Ok(product_type(alloc, types)?),
+        Listed::Product => Ok(set_type(alloc, product_type(alloc, types)?)?),
         Listed::Display => set_of(alloc, line, terms, types.as_slice()),
     }
 }
@@ -161,5 +159,5 @@ fn set_of(alloc: Global, line: u32, terms: &[Resolved], types: &[ZType]) -> Resu
             return Err(refused(TypeFaultKind::Mismatch, terms[place].line()));
         }
     }
-    Ok(ZType::Power(Boxed::new(alloc, first.copy(alloc)?)?))
+    Ok(set_type(alloc, first.share()?)?)
 }

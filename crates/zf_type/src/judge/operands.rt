@@ -36,14 +36,13 @@ fn with_operand(alloc: Global, place: Place, op: Unary, operand: Judged) -> Resu
     requires { Meets (need_of op) (sort_of operand.sort) }
     ensures { (s : spec.Scope) (e : Tree) → IsJudged s (need_of op) e operand → Judges s place.need (unary_tree op place.line e) result }
 {
-    let Judged { term, sort } = operand;
-    let Some(made) = apply(alloc, op, sort)? else {
+    let Some(made) = apply(alloc, op, &operand.sort)? else {
         unreachable!();
     };
     if !made.is_small() {
         return Err(refused(TypeFaultKind::TooLarge, place.line));
     }
-    let term = Resolved::Unary(place.line, op, Boxed::new(alloc, term)?);
+    let term = Resolved::Unary(place.line, op, Boxed::new(alloc, operand.term)?);
     placed(Judged { term, sort: made }, place.need)
 }
 
@@ -75,7 +74,7 @@ fn with_operands(
     ensures { (s : spec.Scope) (a b : Tree) → IsJudged s (left_need (rule_of op)) a left → IsJudged s (right_need (rule_of op)) b right → Judges s place.need (binary_tree op place.line a b) result }
 {
     let line = right.term.line();
-    let Some(made) = combine(alloc, op.rule(), left.sort, right.sort)? else {
+    let Some(made) = combine(alloc, op.rule(), &left.sort, &right.sort)? else {
         return Err(refused(TypeFaultKind::Mismatch, line));
     };
     if !made.is_small() {

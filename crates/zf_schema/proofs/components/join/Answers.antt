@@ -1,10 +1,11 @@
-use Rattle.std.proofs.Common.{◌≡◌, ◌<◌, ◌≤◌, length, map, arith}
-use Rattle.std.proofs.lemmas.Result.{on_ok_weaker}
+use Rattle.std.proofs.Common.{◌≡◌, ◌≤◌, length, map, arith, rules}
 use Rattle.zf_type.specs.Definitions.{comp_of}
+use Rattle.zf_type.specs.declared.fault.TypeFaultKind.{TypeFaultKind}
 use Rattle.zf_type.specs.declared.fault.TypeFaultKind.TheVariants as kinds
 use Rattle.zf_schema.specs.Calculus.{with_comp}
 use Rattle.zf_schema.proofs.Merging.{named_below, joined_known, joined_new, length_known, length_new}
-use Rattle.zf_schema.proofs.Stopping.{stopped}
+use Rattle.zf_schema.proofs.Placing.{placed_known, placed_new}
+use Rattle.zf_schema.proofs.Stopping.{weaker}
 use Rattle.zf_schema.proofs.components.join.Goals as goal
 
 pub gain-requires : goal.gain-requires
@@ -19,21 +20,27 @@ returns-in_ok-gain-in-Some-clause-room c =
     let l = length_known c.args.component c.as_slice-2.result.now c.as_slice.result.now c.args.components.now c.in-Some.place c.as_slice-2.ensures c.as_slice.ensures c.in-Some.ensures in
     omega (arith, c.requires)
 
-pub returns-in-None-clause-ok : goal.returns-in-None-clause-ok
-returns-in-None-clause-ok c =
-    on_ok_weaker c.add_new.result (joined_new c.args.component c.as_slice-2.result.now c.as_slice.result.now c.args.components.now c.add_new.new.components c.as_slice-2.ensures c.as_slice.ensures c.in-None.ensures) c.add_new.ensures.ok
+pub returns-in_ok-gain-in-Some-clause-place : goal.returns-in_ok-gain-in-Some-clause-place
+returns-in_ok-gain-in-Some-clause-place c =
+    placed_known c.args.component c.as_slice-2.result.now c.as_slice.result.now c.args.components.now c.in-Some.place c.as_slice-2.ensures c.as_slice.ensures c.in-Some.ensures
 
-pub returns-in-None-clause-room : goal.returns-in-None-clause-room
-returns-in-None-clause-room c =
-    let l = length_new c.args.component c.as_slice-2.result.now c.as_slice.result.now c.args.components.now c.as_slice-2.ensures c.as_slice.ensures c.in-None.ensures in
-    let weaker : length c.args.components.now < 64 → length (with_comp (map comp_of c.args.components.now) (comp_of c.args.component)) ≤ 64 = λ h. omega arith in
-    on_ok_weaker c.add_new.result weaker c.add_new.ensures.room
+pub returns-in_ok-add_new-in-None-clause-ok : goal.returns-in_ok-add_new-in-None-clause-ok
+returns-in_ok-add_new-in-None-clause-ok c =
+    joined_new c.args.component c.as_slice-2.result.now c.as_slice.result.now c.args.components.now c.add_new.new.components c.as_slice-2.ensures c.as_slice.ensures c.in-None.ensures c.in_ok-add_new-in-None.ensures.ok
 
-pub returns-in-None-clause-err : goal.returns-in-None-clause-err
-returns-in-None-clause-err c =
+pub returns-in_ok-add_new-in-None-clause-place : goal.returns-in_ok-add_new-in-None-clause-place
+returns-in_ok-add_new-in-None-clause-place c =
+    placed_new c.args.component c.as_slice-2.result.now c.as_slice.result.now c.args.components.now c.len-place.result c.as_slice-2.ensures c.as_slice.ensures c.in-None.ensures c.len-place.ensures
+
+pub returns-in_ok-add_new-in-None-clause-room : goal.returns-in_ok-add_new-in-None-clause-room
+returns-in_ok-add_new-in-None-clause-room c =
     let l = length_new c.args.component c.as_slice-2.result.now c.as_slice.result.now c.args.components.now c.as_slice-2.ensures c.as_slice.ensures c.in-None.ensures in
-    stopped c.add_new.result
-    (λ kind. (kind ≡ kinds.TooLarge) × (64 ≤ length c.args.components.now))
-    (λ kind. (kind ≡ kinds.TooLarge) × (length (with_comp (map comp_of c.args.components.now) (comp_of c.args.component)) ≤ 64 → ⊥))
-    (λ kind h. (h.0, λ w. omega (arith, h.1)))
-    c.add_new.ensures.err
+    omega (arith, c.in_ok-add_new-in-None.ensures.room)
+
+pub returns-in_err-add_new-in-None-clause-err : goal.returns-in_err-add_new-in-None-clause-err
+returns-in_err-add_new-in-None-clause-err c =
+    let l = length_new c.args.component c.as_slice-2.result.now c.as_slice.result.now c.args.components.now c.as_slice-2.ensures c.as_slice.ensures c.in-None.ensures in
+    let step : (k : TypeFaultKind) → (k ≡ kinds.TooLarge) × (64 ≤ length c.args.components.now) → (k ≡ kinds.TooLarge) × (length (with_comp (map comp_of c.args.components.now) (comp_of c.args.component)) ≤ 64 → ⊥) =
+    λ k h. (h.0, λ w. omega (arith, h.1)) in
+    let fact = weaker _ _ _ step c.in_err-add_new-in-None.ensures.err in
+    search rules

@@ -4,6 +4,6 @@ use Rattle.zf_schema.proofs.components.new_places.Given as goal
 
 abbrev pub invariant-loop-place : goal.invariant-loop-place
 invariant-loop-place l = record {
-  counted : length l.places.items ≡ l.place;
-  places : ArePlaces l.places.items l.components l.among;
+  counted : length l.places ≡ l.place;
+  places : ArePlaces l.places l.components l.among;
 }

@@ -1,4 +1,4 @@
-use Rattle.std.proofs.Common.{◌≡◌, ◌++◌, ap, ◌∙◌}
+use Rattle.std.proofs.Common.{◌≡◌, ◌++◌, ap, ◌∙◌, rules}
 use Rattle.zf_type.specs.Definitions.{definition_of}
 use Rattle.zf_schema.specs.Listing.{definition_text}
 use Rattle.zf_schema.proofs.Lines.{entry_text, all_ahead, one_ahead, none_ahead}
@@ -14,4 +14,6 @@ loop-name-preserved c =
     one_ahead _ _ _ (c.in-Some.name.now, c.in-Some.entry.now) _ _ c.in-Some.ensures.steps named c.loop-name.invariant
 
 pub returns : goal.returns
-returns c = none_ahead _ _ _ c.in-None.ensures.steps.0 c.loop-name.invariant
+returns c =
+    let whole = none_ahead _ _ _ c.in-None.ensures.steps.0 c.loop-name.invariant in
+    search rules

@@ -1,4 +1,4 @@
-use Rattle.std.proofs.Common.{◌∙◌, refl, rules}
+use Rattle.std.proofs.Common.{ap, ◌∙◌, refl, rules}
 use Rattle.zf_type.specs.Definitions.{schema_of}
 use Rattle.zf_schema.specs.Calculus.{Agree, decorated, prime}
 use Rattle.zf_schema.proofs.Changing.{agreed, stops_before, stops_after}
@@ -16,5 +16,5 @@ pub returns-in_err-places-clause-err : goal.returns-in_err-places-clause-err
 returns-in_err-places-clause-err c =
     let a = schema_of c.args.flat.now in
     let agree : Agree a.comps (decorated prime a).comps = agreed c.args.flat.now c.in_ok-after.after (decorated prime a) c.as_slice.result.now c.as_slice-2.result.now c.as_slice.ensures c.as_slice-2.ensures c.in_ok-after.ensures (c.if-not-agree.ensures.0 refl) in
-    let fact = weaker _ _ _ (stops_after a (schema_of c.in_ok-growing.growing.flat) (schema_of c.in_ok-after.after) (c.in_ok-growing.ensures.ok.0 ∙ c.in_ok-before.ensures) c.in_ok-after.ensures agree) c.in_err-places.ensures.err in
+    let fact = weaker _ _ _ (stops_after a (schema_of c.in_ok-growing.growing.flat) (schema_of c.alike-after.result.flat) (c.in_ok-growing.ensures.ok.0 ∙ c.in_ok-before.ensures) (ap schema_of c.alike-after.ensures.same ∙ c.in_ok-after.ensures) agree) c.in_err-places.ensures.err in
     search rules

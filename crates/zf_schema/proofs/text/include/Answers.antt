@@ -6,10 +6,10 @@ use Rattle.zf_schema.proofs.Referring.{refused_by}
 use Rattle.zf_schema.proofs.Texts.{cant_include}
 use Rattle.zf_schema.proofs.text.include.Goals as goal
 
-pub returns-clause-wrong : goal.returns-clause-wrong
-returns-clause-wrong c =
+pub returns-in-Err-clause-wrong : goal.returns-in-Err-clause-wrong
+returns-in-Err-clause-wrong c =
     let g = globals_of c.args.globals.now in
     let a = schema_of c.args.growing.now.flat in
-    let b = schema_of c.in_ok-flat.flat in
+    let b = schema_of c.in_ok-other.other.flat in
     let r = c.args.reference.now in
-    rw c.refusal.ensures (refused_by c.in-Err.stop r.name.line (Stops (Agree a.comps b.comps) (conjoined a b)) (OffendsDecl g a (include r)) (cant_include g a r b c.in_ok-flat.ensures.ok) c.in-Err.ensures.err)
+    rw c.refusal.ensures (refused_by c.in-Err.stop r.name.line (Stops (Agree a.comps b.comps) (conjoined a b)) (OffendsDecl g a (include r)) (cant_include g a r b c.in_ok-other.ensures.ok) c.in-Err.ensures.err)

@@ -1,7 +1,6 @@
 use Rattle.std.proofs.Common.{◌≡◌, length, map, Err, sym, ◌∙◌, subst, rules}
 use Rattle.std.proofs.lemmas.List.{length-map}
-use Rattle.zf_type.specs.Definitions.{comp_of, globals_of, schema_of}
-use Rattle.zf_type.specs.ResolvedTrees.{resolved_of}
+use Rattle.zf_type.specs.Definitions.{comp_of, conjunct_of, globals_of, schema_of}
 use Rattle.zf_simple.specs.Showing.{each, test_of}
 use Rattle.zf_simple.specs.Unread.{Gives}
 use Rattle.zf_simple.proofs.Sound.{made_of, tests_fail, are_within, are_given}
@@ -14,7 +13,7 @@ returns-in_err-tests-clause-read c =
     let n = c.len-count.result in
     let error = c.in_err-tests.field-0.0 in
     let count : n ≡ length a.comps = c.len-count.ensures ∙ sym (length-map c.args.schema.now.components comp_of) in
-    let fails = subst (λ us. Gives (each (test_of g n) (map resolved_of us)) (Err error)) c.as_slice-2.ensures c.in_err-tests.ensures in
+    let fails = subst (λ us. Gives (each (test_of g n) (map conjunct_of us)) (Err error)) c.as_slice-2.ensures c.in_err-tests.ensures in
     let whole = tests_fail g a n c.in_ok-components.components error count c.in_ok-check_abbreviations.ensures (rw c.as_slice.ensures at c.in_ok-components.ensures) fails in
     search rules
 

@@ -15,7 +15,7 @@ returns-in-None c =
     let strokes : c.run_len-strokes.result ≡ steps.strokes_len s = c.run_len-strokes.ensures.value ∙ ap (steps.run_len Strokes) (c.after.ensures ∙ ap (λ n. drop n s) base) in
     let len : c.base_len-base.result + c.run_len-strokes.result ≡ steps.word_len s = ap (λ n. n + c.run_len-strokes.result) base ∙ ap (λ n. steps.base_len s + n) strokes in
     let text : c.front.result.now ≡ take (steps.word_len s) s = c.front.ensures ∙ ap (λ n. take n s) len in
-    let none : look_up (take (steps.word_len s) s) symbols ≡ None = sym (ap (λ t. look_up t symbols) text) ∙ sym c.fixed.ensures ∙ ap (seen c.front.result.now) c.in-None.is in
+    let none : look_up (take (steps.word_len s) s) symbols ≡ None = sym (ap (λ t. look_up t symbols) text) ∙ sym c.fixed_word.ensures ∙ ap (seen c.front.result.now) c.in-None.is in
     ap (λ n. told s (record { sight = sight.Symbol next.Name; amount = n; len = c.base_len-base.result + c.run_len-strokes.result })) base
     ∙ ap (λ n. told s (record { sight = sight.Symbol next.Name; amount = steps.base_len s; len = n })) len
     ∙ word_told s none

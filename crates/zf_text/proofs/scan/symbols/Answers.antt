@@ -5,8 +5,11 @@ use Rattle.zf_text.specs.Sights.{piece_of, kind_of, told}
 use Rattle.zf_text.specs.Steps.{Found}
 use Rattle.zf_text.specs.declared.pieces.Piece.{Piece}
 use Rattle.zf_text.specs.declared.pieces.Piece.TheVariants.{Plain, Symbol, Refused}
+use Rattle.zf_text.specs.declared.next.Next.{Next as NextSymbol}
 use Rattle.zf_text.specs.declared.pieces.Sight.{Sight}
+use Rattle.zf_text.specs.declared.pieces.Sight.TheVariants as sights
 use Rattle.zf_text.proofs.Scanned.{StandsAt, seen_at, goes, turned, line_le, moved, told_plain, told_symbol, placed_told}
+use Rattle.zf_text.proofs.Quiet.{quiet}
 use Rattle.zf_text.proofs.Laws.{finished, stuck, refused, ended, uncut}
 use Rattle.zf_text.proofs.scan.symbols.Goals as goal
 use Rattle.zf_text.proofs.scan.symbols.Goals.{Joined-sight, in-Plain, in-Symbol+in_ok-push-in-Symbol}
@@ -62,10 +65,20 @@ stands c =
 pub front-requires : goal.front-requires
 front-requires c = omega (arith, (stands (goal.at.front-requires c).Joined-sight).within, ap length c.after-rest.ensures)
 
+pub ended-line-requires-clause-quiet : goal.ended-line-requires-clause-quiet
+ended-line-requires-clause-quiet c = λ next e.
+    let joined = (goal.at.ended-line-requires-clause-quiet c).Joined-sight in
+    let s = drop c.loop-start.start c.args.source.now in
+    let f = c.piece_at-sight.result in
+    let text = take f.len s in
+    let none : (next : NextSymbol) → f.sight ≡ sights.Symbol next → newlines text ≡ 0 = λ next is. quiet c.loop-start.place s (found joined) (kind_of next f.amount text) (stands joined) (ap (λ sight. piece_of sight f.amount text) is) in
+    let silent : newlines text ≡ 0 = elim c.match-sight.branch [ in-Plain w ↦ none next (sym w.sight-is ∙ e) | in-Symbol+in_ok-push-in-Symbol w ↦ none w.in-Symbol.next w.in-Symbol.is ] in
+    ap newlines (c.front.ensures ∙ ap (take f.len) c.after-rest.ensures) ∙ silent
+
 pub overflow_add-line : goal.overflow_add-line
 overflow_add-line c =
     let a = stands (goal.at.overflow_add-line c).Joined-sight in
-    omega (arith, a.within, length-drop c.loop-start.start c.args.source.now, c.loop-start.invariant.short, line_le _ _ _ _ _ c.loop-start.invariant.before, c.newlines-line.ensures.few, ap length c.front.ensures, length-take-le c.piece_at-sight.result.len c.after-rest.result.now (omega (arith, a.within, ap length c.after-rest.ensures)))
+    omega (arith, a.within, length-drop c.loop-start.start c.args.source.now, c.loop-start.invariant.short, line_le _ _ _ _ _ c.loop-start.invariant.before, c.ended-line.ensures.few, ap length c.front.ensures, length-take-le c.piece_at-sight.result.len c.after-rest.result.now (omega (arith, a.within, ap length c.after-rest.ensures)))
 
 pub overflow_add-start : goal.overflow_add-start
 overflow_add-start c =
@@ -86,7 +99,7 @@ loop-start-preserved c =
     let at = c.loop-start.start in
     let f = c.piece_at-sight.result in
     let text = take f.len (drop at source) in
-    let lines : newlines text ≡ c.newlines-line.result = sym (c.newlines-line.ensures.value ∙ ap newlines (c.front.ensures ∙ ap (take f.len) c.after-rest.ensures)) in
+    let lines : newlines text ≡ c.ended-line.result = sym (c.ended-line.ensures.value ∙ ap newlines (c.front.ensures ∙ ap (take f.len) c.after-rest.ensures)) in
     let long : length text ≡ f.len = length-take-le f.len (drop at source) a.within in
     record {
       before = elim c.match-sight.branch [

@@ -12,7 +12,7 @@ pub loop-name-preserved : goal.loop-name-preserved
 loop-name-preserved c =
     let i = c.loop-name.name-index in
     let n = c.name-item.result in
-    let u = type_of c.in-Some.members in
+    let u = type_of c.in-Some.members.now in
     let v = c.in_ok-variable.variable in
     let old = map variable_of c.loop-name.variables.items in
     let rest = drop (i + 1) c.args.names.now in
@@ -36,7 +36,7 @@ loop-name-preserved c =
 pub returns-clause-ok : goal.returns-clause-ok
 returns-clause-ok c =
     let old = map variable_of c.loop-name.variables.items in (
-      type_of c.in-Some.members,
+      type_of c.in-Some.members.now,
       c.in-Some.ensures,
-      sym (append-nil old) ∙ ap (λ xs. old ++ variables xs (type_of c.in-Some.members)) (sym (drop_all c.loop-name.name-index c.args.names.now (omega arith))) ∙ c.loop-name.invariant.adds,
+      sym (append-nil old) ∙ ap (λ xs. old ++ variables xs (type_of c.in-Some.members.now)) (sym (drop_all c.loop-name.name-index c.args.names.now (omega arith))) ∙ c.loop-name.invariant.adds,
     )

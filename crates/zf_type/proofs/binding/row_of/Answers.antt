@@ -1,7 +1,15 @@
-use Rattle.std.proofs.Common.{◌∙◌}
+use Rattle.std.proofs.Common.{◌≡◌, List, map, ◌∙◌}
+use Rattle.std.proofs.lemmas.Result.{IfOk-weaker}
+use Rattle.zf_type.specs.Judging.{var_type}
+use Rattle.zf_type.specs.Scopes.{Var}
+use Rattle.zf_type.specs.Types.{product, types, type_of}
+use Rattle.zf_type.specs.Typing.{row_type}
 use Rattle.zf_type.proofs.Rows.{of_many}
-use Rattle.zf_type.proofs.TypesSeen.{of-Product}
 use Rattle.zf_type.proofs.binding.row_of.Goals as goal
 
 pub returns-then-len-ne1 : goal.returns-then-len-ne1
-returns-then-len-ne1 c = λ vs h. of-Product c.args.types ∙ of_many c.args.types vs (λ e. c.if-len-ne1.true (c.len.ensures ∙ e)) h
+returns-then-len-ne1 c =
+    let ts = c.args.types in
+    IfOk-weaker c.product_type.result (λ t. type_of t ≡ product (types (map type_of ts))) (λ t. (vs : List Var) → map type_of ts ≡ map var_type vs → type_of t ≡ row_type vs)
+    (λ t is vs h. is ∙ of_many ts vs (λ e. c.if-len-ne1.true (c.len.ensures ∙ e)) h)
+    c.product_type.ensures

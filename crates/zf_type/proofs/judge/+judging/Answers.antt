@@ -248,13 +248,12 @@ chains::judge_links-loop-link-preserved t c =
     let j = c.in_ok-right.right in
     let x = sort_of c.loop-link.left.sort in
     let y = sort_of j.sort in
-    let ahead = tree.links (map tree.link_of (drop (i + 1) all)) in
     let judged = judged_of s (right_need rule) e j (subst (λ z. Judges z (right_need rule) e (Ok j)) c.loop-link.invariant.same (subst (λ n. Judges (scope_of c.loop-link.scope) n e (Ok j)) (c.right_need.ensures ∙ ap right_need c.relation_rule-rule.ensures) c.in_ok-right.ensures.judged)) in
     let made = c.in_ok-relate.ensures.ok in
     let taken : Takes rule x y predicate = compares k.relation x y made.0 (subst (λ r. Takes r x y made.0) c.relation_rule-rule.ensures made.1) in
     record {
       same = c.in_ok-right.ensures.scope ∙ c.loop-link.invariant.same;
-      linked = λ h. c.loop-link.invariant.linked (link_ahead (λ l. AreLinked s x l) all i k c.link-item.is (omega arith) (y, judged.is_of, taken, subst (λ z. AreLinked s z ahead) c.in_ok-sort.ensures h));
+      linked = λ h. c.loop-link.invariant.linked (link_ahead (λ l. AreLinked s x l) all i k c.link-item.is (omega arith) (y, judged.is_of, taken, h));
       resolves = λ ks same.
           let p = new_link k.relation j.term in
           ap resolved_trees.links (pushed resolved_link_of c.loop-link.judged c.push.new.self p ks c.in_ok-push.ensures.ok)
@@ -265,7 +264,7 @@ chains::judge_links-loop-link-preserved t c =
       offends = λ a h l.
           let b = c.loop-link.invariant.offends a h l in (
             e,
-            subst (λ z. IsOf s e z) (sym c.in_ok-sort.ensures) judged.is_of,
+            judged.is_of,
             c.line-line.ensures ∙ ap line_of judged.term ∙ line_kept s e,
             λ f m o. b.3 f m (link_ahead (λ q. LinksOffend s b.0 q f m) all i k c.link-item.is (omega arith) (inr (inr (inr o)))),
           );

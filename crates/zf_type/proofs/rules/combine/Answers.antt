@@ -1,8 +1,13 @@
-use Rattle.zf_type.proofs.Taken.{alike, compared}
+use Rattle.std.proofs.lemmas.Result.{IfOk-weaker}
+use Rattle.zf_type.specs.Rules.{IsMade, sort_of}
+use Rattle.zf_type.proofs.Taken.{IsAlike, alike, compared}
 use Rattle.zf_type.proofs.rules.combine.Goals as goal
 
 pub returns-in-Arithmetic : goal.returns-in-Arithmetic
-returns-in-Arithmetic c = alike _ _ _ _ c.in-Arithmetic.is c.alike.ensures
+returns-in-Arithmetic c =
+    let x = sort_of c.args.left.now in
+    let y = sort_of c.args.right.now in
+    IfOk-weaker c.alike.result (IsAlike c.args.rule x y) (IsMade c.args.rule x y) (λ o h. alike c.args.rule x y o c.in-Arithmetic.is h) c.alike.ensures
 
 pub returns-in-Equating : goal.returns-in-Equating
 returns-in-Equating c = compared _ _ _ _ c.in-Equating.is c.compared.ensures

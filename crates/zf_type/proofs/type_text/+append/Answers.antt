@@ -8,13 +8,13 @@ use Rattle.zf_type.proofs.type_text.+append.Goals.{append_parts-then-i-gt0+in_ok
 pub append_type-returns-in_ok-extend_from_slice-in-Power : goal.append_type-returns-in_ok-extend_from_slice-in-Power
 append_type-returns-in_ok-extend_from_slice-in-Power t c =
     both_written c.append_type.result _ _ _ (codes "\\power ") _ _ c.in_ok-extend_from_slice-in-Power.ensures.items c.append_type.ensures
-    (of_power c.args.ztype.now _ c.in-Power.is ∙ ap (λ m. codes "\\power " ++ type_text (type_of m)) (sym c.get.ensures))
+    (of_power c.args.ztype.now _ c.in-Power.is ∙ ap (λ m. codes "\\power " ++ type_text (type_of m)) (sym c.get-in-Power.ensures))
 
 pub append_type-returns-in_ok-append_parts-in-Product : goal.append_type-returns-in_ok-append_parts-in-Product
 append_type-returns-in_ok-append_parts-in-Product t c =
     three_written c.extend_from_slice-in-Product-2.result _ _ _ _ (codes "(") _ (codes ")") _ _ c.in_ok-extend_from_slice-in-Product.ensures.items
     c.in_ok-append_parts-in-Product.ensures c.extend_from_slice-in-Product-2.ensures.items
-    (of_product c.args.ztype.now _ c.in-Product.is ∙ ap (λ ts. codes "(" ++ parts_text (types (map type_of ts)) ++ codes ")") (sym c.as_slice-in-Product.ensures))
+    (of_product c.args.ztype.now _ c.in-Product.is ∙ ap (λ ts. codes "(" ++ parts_text (types (map type_of ts)) ++ codes ")") (sym (c.as_slice-in-Product.ensures ∙ c.get-in-Product.ensures)))
 
 pub append_parts-loop-i-preserved : goal.append_parts-loop-i-preserved
 append_parts-loop-i-preserved t c = elim c.if-i-gt0.branch [

@@ -22,7 +22,7 @@ ZType::room_after-returns-in-Power t c =
 pub ZType::room_after-returns-in-Product : goal.ZType::room_after-returns-in-Product
 ZType::room_after-returns-in-Product t c =
     one_more c.room_after_all.result c.args.room (c.args.room - 1) _ _ (omega (arith, c.if-room-eq0.false))
-    (nodes-Product c.args.self.now _ c.in-Product.is ∙ ap (λ ts. nodes_of_all (types (map type_of ts)) + 1) (sym c.as_slice.ensures))
+    (nodes-Product c.args.self.now _ c.in-Product.is ∙ ap (λ ts. nodes_of_all (types (map type_of ts)) + 1) (sym (c.as_slice.ensures ∙ c.get-in-Product.ensures)))
     c.room_after_all.ensures
 
 pub room_after_all-loop-part-preserved : goal.room_after_all-loop-part-preserved

@@ -1,9 +1,26 @@
-use Rattle.std.proofs.Common.{rules}
-use Rattle.zf_schema.proofs.Steps.{stops_merging}
-use Rattle.zf_schema.proofs.Stopping.{weaker}
+use Rattle.std.proofs.Common.{map, sym, subst}
+use Rattle.zf_type.specs.Definitions.{Schema, comp_of, conjunct_of, schema_of}
+use Rattle.zf_schema.specs.Growth.{HasLeft}
+use Rattle.zf_schema.proofs.Beside.{both_made}
+use Rattle.zf_schema.proofs.Placing.{are_new_places, as_many, same_places}
 use Rattle.zf_schema.proofs.growing.Growing.merge.Goals as goal
 
-pub returns-in_err-take_moved-clause-err : goal.returns-in_err-take_moved-clause-err
-returns-in_err-take_moved-clause-err c =
-    let fact = weaker _ _ _ (stops_merging c.args.self.now.flat c.grow_all.new.self.flat c.args.other.now c.as_slice.result.now c.as_slice-2.result.now c.as_slice-3.result.now c.as_slice-4.result.now c.in_ok-places.places.items c.as_slice-5.result.now c.in_ok-grow_all.ensures.ok c.as_slice.ensures c.in_ok-places.ensures.places c.as_slice-2.ensures c.as_slice-3.ensures c.as_slice-4.ensures c.as_slice-5.ensures.value) c.in_err-take_moved.ensures.err in
-    search rules
+pub returns-clause-ok : goal.returns-clause-ok
+returns-clause-ok c =
+    let at = same_places (map comp_of c.join_all.new.components) c.in_ok-places.places c.in_ok-places-2.places (map comp_of c.args.other.flat.components) c.in_ok-places-2.ensures c.in_ok-places.ensures.places in
+    let made = both_made (schema_of c.args.self.now.flat) (schema_of c.args.other.flat) (map comp_of c.join_all.new.components) (map conjunct_of c.take_moved.new.conjuncts) c.in_ok-places-2.places c.in_ok-places.ensures.ok at c.in_ok-take_moved.ensures in
+    (made, (c.in-Some.ensures c.in_ok-places.ensures.room).within)
+
+pub returns-clause-growing : goal.returns-clause-growing
+returns-clause-growing c =
+    let at = same_places (map comp_of c.join_all.new.components) c.in_ok-places.places c.in_ok-places-2.places (map comp_of c.args.other.flat.components) c.in_ok-places-2.ensures c.in_ok-places.ensures.places in
+    let made = both_made (schema_of c.args.self.now.flat) (schema_of c.args.other.flat) (map comp_of c.join_all.new.components) (map conjunct_of c.take_moved.new.conjuncts) c.in_ok-places-2.places c.in_ok-places.ensures.ok at c.in_ok-take_moved.ensures in
+    subst (λ (a : Schema). HasLeft a c.in-Some.left.0 c.in-Some.left.1) (sym made) (c.in-Some.ensures c.in_ok-places.ensures.room)
+
+pub returns-clause-places : goal.returns-clause-places
+returns-clause-places c =
+    are_new_places _ _ _ (same_places (map comp_of c.join_all.new.components) c.in_ok-places.places c.in_ok-places-2.places (map comp_of c.args.other.flat.components) c.in_ok-places-2.ensures c.in_ok-places.ensures.places)
+
+pub returns-clause-each : goal.returns-clause-each
+returns-clause-each c =
+    as_many _ _ _ (same_places (map comp_of c.join_all.new.components) c.in_ok-places.places c.in_ok-places-2.places (map comp_of c.args.other.flat.components) c.in_ok-places-2.ensures c.in_ok-places.ensures.places)

@@ -5,7 +5,6 @@ use Rattle.zf_type.specs.Refusals.{IfFault}
 use Rattle.zf_type.specs.ResolvedTrees.{resolved_of}
 use Rattle.zf_type.specs.Types.{types, type_of, power}
 use Rattle.zf_type.proofs.Members.{none_first, differs_at, first_among, all_same}
-use Rattle.zf_type.proofs.TypesSeen.{of-Power}
 use Rattle.zf_type.proofs.judge.lists.set_of.Goals as goal
 
 pub returns-in_default : goal.returns-in_default
@@ -25,6 +24,6 @@ returns-then-not-same c =
 
 pub returns : goal.returns
 returns c = record {
-  ok = (type_of c.in-Some.first.now, all_same c.args.types.now c.in-Some.first.now (first_among c.args.types.now c.in-Some.first.now c.in-Some.ensures.value) (λ i m. c.loop-place.invariant i (omega (arith, m))), of-Power c.in_ok-new.field-0 ∙ ap (λ t. power (type_of t)) (c.in_ok-new.ensures ∙ c.in_ok-copy.ensures));
+  ok = (type_of c.in-Some.first.now, all_same c.args.types.now c.in-Some.first.now (first_among c.args.types.now c.in-Some.first.now c.in-Some.ensures.value) (λ i m. c.loop-place.invariant i (omega (arith, m))), c.in_ok-set_type.ensures ∙ ap (λ t. power (type_of t)) c.in_ok-share.ensures);
   wrong = tt;
 }

@@ -10,14 +10,14 @@ use Rattle.zf_type.proofs.scope.Scope.meaning_of.Goals as goal
 pub returns-in-Some : goal.returns-in-Some
 unfolding scope_of
 returns-in-Some c =
-    ap (λ t. Some (Local c.in-Some.place, typed (type_of t))) c.in_ok-copy.ensures
+    ap (λ t. Some (Local c.in-Some.place, typed (type_of t))) c.in_ok-share.ensures
     ∙ sym (means_local (scope_of c.args.self.now) c.args.name.now c.in-Some.place (variable_of c.in-Some.variable.now) (c.in-Some.ensures ∙ ap (λ vs. last_named (λ u. u.name) c.args.name.now (map variable_of vs)) c.as_slice.ensures.value))
 
 pub returns-in-Some-component_of : goal.returns-in-Some-component_of
 unfolding scope_of
 returns-in-Some-component_of c =
     let no_local = c.in_default.ensures ∙ ap (λ vs. last_named (λ u. u.name) c.args.name.now (map variable_of vs)) c.as_slice.ensures.value in
-    ap (λ t. Some (Component c.in-Some-component_of.place, typed (type_of t))) c.in_ok-copy-2.ensures
+    ap (λ t. Some (Component c.in-Some-component_of.place, typed (type_of t))) c.in_ok-share-2.ensures
     ∙ sym (means_component (scope_of c.args.self.now) c.args.name.now c.in-Some-component_of.place (comp_of c.in-Some-component_of.component.now) no_local c.in-Some-component_of.ensures)
 
 pub returns-in_ok-sort-in-Some-global_of : goal.returns-in_ok-sort-in-Some-global_of

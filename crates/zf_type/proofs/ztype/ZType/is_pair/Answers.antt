@@ -1,4 +1,4 @@
-use Rattle.std.proofs.Common.{sym, ◌∙◌, true≢false}
+use Rattle.std.proofs.Common.{length, sym, ap, ◌∙◌, true≢false}
 use Rattle.std.proofs.lemmas.Bool.{eq-eqb, eqb-true}
 use Rattle.zf_type.proofs.TypeForms.{is_product}
 use Rattle.zf_type.proofs.TypeLists.{two_parts, one_pair}
@@ -9,6 +9,6 @@ returns-in_default c = (λ b. absurd (true≢false (sym b)), λ h. let p = is_pr
 
 pub returns-in-Product : goal.returns-in-Product
 returns-in-Product c = (
-  λ b. one_pair _ _ c.in-Product.is (sym c.len.ensures ∙ eqb-true c.len.result 2 b),
-  λ h. eq-eqb c.len.result 2 (c.len.ensures ∙ two_parts _ _ h.0 h.1 c.in-Product.is h.2),
+  λ b. one_pair _ _ c.in-Product.is (sym (c.len.ensures ∙ ap length c.get.ensures) ∙ eqb-true c.len.result 2 b),
+  λ h. eq-eqb c.len.result 2 (c.len.ensures ∙ ap length c.get.ensures ∙ two_parts _ _ h.0 h.1 c.in-Product.is h.2),
 )

@@ -1,0 +1,133 @@
+//! Conjuncts of schemas.
+ghost use Rattle.std.specs.Prelude.{◌≡◌, ◌+◌, ◌<◌, ◌≤◌, ◌↔◌, ℕ, IsTrue, IfOk, MatchOption};
+ghost use Rattle.zf_type.specs.Definitions.{conjunct_of};
+ghost use Rattle.zf_type.specs.ResolvedTrees.{resolved_of};
+ghost use Rattle.zf_type.specs.Shapes as spec;
+
+use crate::resolved::Resolved;
+use std::alloc::{AllocError, Global};
+use zf_data::{Items, Shared};
+
+/// A conjunct of a schema: a term, which is shared with the schemas that take in the schema, and the places of its components in
+/// this one, where they are others.
+#[derive(Debug, Drop)]
+pub struct Conjunct {
+    pub term: Shared<Resolved>,
+    pub places: Option<Shared<Items<usize>>>,
+}
+
+impl Conjunct {
+    pub fn of(alloc: Global, term: Resolved) -> Result<Conjunct, AllocError>
+        ensures { IfOk result (λ c. conjunct_of c ≡ resolved_of term) }
+    {
+        Ok(Conjunct {
+            term: Shared::new(alloc, term)?,
+            places: None,
+        })
+    }
+
+    pub fn share(&self) -> Result<Conjunct, AllocError>
+        ensures { IfOk result (λ c. c ≡ self.now) }
+    {
+        Ok(Conjunct {
+            term: self.term.share()?,
+            places: shared(&self.places)?,
+        })
+    }
+
+    /// The conjunct with its components numbered anew.
+    pub fn moved(
+        self,
+        alloc: Global,
+        places: &Option<Shared<Items<usize>>>,
+    ) -> Result<Conjunct, AllocError>
+        ensures { IfOk result (λ c. conjunct_of c ≡ spec.moved (spec.numbering places.now) (conjunct_of self)) }
+    {
+        let places = composed(alloc, &self.places, places)?;
+        Ok(Conjunct {
+            term: self.term,
+            places,
+        })
+    }
+
+    /// The line of the first token.
+    #[tactic(auto, using(crate::proofs::Renumbered::kept))]
+    pub fn line(&self) -> u32
+        ensures { result ≡ spec.line_of (conjunct_of self.now) }
+    {
+        self.term.get().line()
+    }
+
+    /// What is left of room for so many nodes, if the term has no more.
+    #[tactic(auto, using(crate::proofs::Renumbered::kept))]
+    pub fn room_after(&self, room: usize) -> Option<usize>
+        ensures { MatchOption result (room < spec.nodes (conjunct_of self.now)) (λ left. left + spec.nodes (conjunct_of self.now) ≡ room) }
+    {
+        self.term.get().room_after(room)
+    }
+
+    /// Whether the term is no higher.
+    #[tactic(auto, using(crate::proofs::Renumbered::kept))]
+    pub fn is_within(&self, highest: usize) -> bool
+        ensures { IsTrue result ↔ spec.height (conjunct_of self.now) ≤ highest }
+    {
+        self.term.get().is_within(highest)
+    }
+
+    /// The term, by the places in the schema.
+    pub fn resolved(&self, alloc: Global) -> Result<Resolved, AllocError>
+        ensures { IfOk result (λ t. resolved_of t ≡ conjunct_of self.now) }
+    {
+        match &self.places {
+            None => self.term.get().copy(alloc),
+            Some(places) => self.term.get().moved(alloc, places.get().as_slice()),
+        }
+    }
+}
+
+fn shared(places: &Option<Shared<Items<usize>>>) -> Result<Option<Shared<Items<usize>>>, AllocError>
+    ensures { IfOk result (λ ps. ps ≡ places.now) }
+{
+    match places {
+        None => Ok(None),
+        Some(places) => Ok(Some(places.share()?)),
+    }
+}
+
+/// The one numbering, and then the other.
+fn composed(
+    alloc: Global,
+    first: &Option<Shared<Items<usize>>>,
+    then: &Option<Shared<Items<usize>>>,
+) -> Result<Option<Shared<Items<usize>>>, AllocError>
+    ensures { IfOk result (λ ps. spec.numbering ps ≡ (λ (i : ℕ). spec.numbering then.now (spec.numbering first.now i))) }
+{
+    match (first, then) {
+        (None, then) => shared(then),
+        (first, None) => shared(first),
+        (Some(first), Some(then)) => {
+            let places = both(alloc, first.get().as_slice(), then.get().as_slice())?;
+            Ok(Some(Shared::new(alloc, places)?))
+        }
+    }
+}
+
+fn both(alloc: Global, first: &[usize], then: &[usize]) -> Result<Items<usize>, AllocError>
+    ensures { IfOk result (λ ps. spec.place_in ps ≡ (λ (i : ℕ). spec.place_in then.now (spec.place_in first.now i))) }
+{
+    let mut places = Items::new(alloc);
+    for place in 0..first.len().max(then.len()) {
+        places.push(place_in(then, place_in(first, place)))?;
+    }
+    Ok(places)
+}
+
+/// The number at the place, or the place itself where there is none.
+fn place_in(places: &[usize], place: usize) -> usize
+    ensures { result ≡ spec.place_in places.now place }
+{
+    match places.get(place) {
+        Some(other) => *other,
+        None => place,
+    }
+}
