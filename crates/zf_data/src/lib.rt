@@ -1,6 +1,7 @@
 //! Lists, boxes and texts that contracts see as what they hold, so that a tree of them is plain data.
 #![tactic(auto)]
 
+pub mod arena;
 mod boxed;
 mod items;
 mod shared;

@@ -21,7 +21,7 @@ pub struct Checked {
 }
 
 /// Checks a text. Each paragraph or box that is not well typed has one fault, and defines nothing.
-pub fn check_spec(alloc: Global, spec: &Spec) -> Result<Checked, AllocError>
+pub fn check_spec(alloc: Global, spec: &Spec<'_>) -> Result<Checked, AllocError>
     ensures { IfOk result (λ c. IsChecked (boxes_of spec.now) (globals_of c.globals) c.faults) }
 {
     let mut checked = Checked {
@@ -40,7 +40,7 @@ fn check_box(
     alloc: Global,
     checked: &mut Checked,
     next: &mut usize,
-    each: &ZBox,
+    each: &ZBox<'_>,
 ) -> Result<(), AllocError>
     requires { next.old ≡ next_number (globals_of checked.old.globals) }
     ensures runs { OnOk result (Runs checked.old (items_in (box_of each.now)) checked.new) }
@@ -65,7 +65,7 @@ fn check_paragraphs(
     alloc: Global,
     checked: &mut Checked,
     next: &mut usize,
-    paragraphs: &[Paragraph],
+    paragraphs: &[Paragraph<'_>],
 ) -> Result<(), AllocError>
     requires { next.old ≡ next_number (globals_of checked.old.globals) }
     ensures runs { OnOk result (Runs checked.old (map a_paragraph (map paragraph_of paragraphs.now)) checked.new) }
@@ -81,7 +81,7 @@ fn check_paragraph(
     alloc: Global,
     checked: &mut Checked,
     next: &mut usize,
-    paragraph: &Paragraph,
+    paragraph: &Paragraph<'_>,
 ) -> Result<(), AllocError>
     requires { next.old ≡ next_number (globals_of checked.old.globals) }
     ensures runs { OnOk result (RunsOne checked.old (a_paragraph (paragraph_of paragraph.now)) checked.new) }
@@ -95,9 +95,9 @@ fn check_schema_box(
     alloc: Global,
     checked: &mut Checked,
     next: &mut usize,
-    name: &Name,
-    decls: &[Decl],
-    predicates: &[Term],
+    name: &Name<'_>,
+    decls: &[Decl<'_>],
+    predicates: &[Term<'_>],
 ) -> Result<(), AllocError>
     requires { next.old ≡ next_number (globals_of checked.old.globals) }
     ensures runs { OnOk result (RunsOne checked.old (a_box name.now (map decl_of decls.now) (map tree_of predicates.now)) checked.new) }

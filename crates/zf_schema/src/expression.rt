@@ -22,7 +22,7 @@ use zf_type::globals::{Flat, Globals};
 
 /// The schema that the expression is.
 pub fn schema_of_expression(
-    exp: &SchemaExp,
+    exp: &SchemaExp<'_>,
     alloc: Global,
     globals: &Globals,
 ) -> Result<Flat, Refusal>
@@ -34,7 +34,7 @@ pub fn schema_of_expression(
 
 /// The same schema, with what is left of the limits.
 #[tactic(auto, using(zf_text::proofs::SchemaSeen::seen))]
-fn growing_schema(exp: &SchemaExp, alloc: Global, globals: &Globals) -> Result<Growing, Refusal>
+fn growing_schema(exp: &SchemaExp<'_>, alloc: Global, globals: &Globals) -> Result<Growing, Refusal>
     ensures ok { IfOk result (λ g. IsSchema (globals_of globals.now) (tree.schema_of exp.now) (schema_of g.flat)) }
     ensures growing { IfOk result (λ g. IsGrowing g) }
     ensures wrong { IfErr result (λ e. IfFault e (OffendsSchema (globals_of globals.now) (tree.schema_of exp.now))) }
@@ -105,7 +105,7 @@ fn disjunction(
 
 /// The line of the first name.
 #[tactic(auto, using(zf_text::proofs::SchemaSeen::seen))]
-fn name_line(exp: &SchemaExp) -> u32
+fn name_line(exp: &SchemaExp<'_>) -> u32
     ensures { result ≡ spec.name_line (tree.schema_of exp.now) }
 {
     match exp {
@@ -117,17 +117,19 @@ fn name_line(exp: &SchemaExp) -> u32
     }
 }
 
-fn decls_line(decls: &[Decl]) -> u32
+fn decls_line(decls: &[Decl<'_>]) -> u32
     ensures { result ≡ spec.decls_line (map decl_of decls.now) }
 {
     match decls {
         [] => 0,
-        [Decl::Vars(names, _), ..] => names_line(names.as_slice()),
-        [Decl::Include(reference), ..] => reference.name.line,
+        [first, ..] => match first {
+            Decl::Vars(names, _) => names_line(names.as_slice()),
+            Decl::Include(reference) => reference.name.line,
+        },
     }
 }
 
-fn names_line(names: &[Name]) -> u32
+fn names_line(names: &[Name<'_>]) -> u32
     ensures { result ≡ spec.names_line names.now }
 {
     match names {

@@ -33,7 +33,7 @@ pub fn define(
     alloc: Global,
     globals: &mut Globals,
     next: &mut usize,
-    paragraph: &Paragraph,
+    paragraph: &Paragraph<'_>,
 ) -> Result<(), Refusal>
     requires { next.old ≡ next_number (globals_of globals.old) }
     ensures ok { OnOk result (DefinesParagraph (globals_of globals.old) (paragraph_of paragraph.now) (globals_of globals.new)) }
@@ -52,7 +52,7 @@ pub fn define(
 }
 
 /// How many given sets and free types it defines.
-fn elements(paragraph: &Paragraph) -> usize
+fn elements(paragraph: &Paragraph<'_>) -> usize
     ensures number { result ≡ spec.elements (paragraph_of paragraph.now) }
     ensures small { result < 2 ^ 63 }
 {
@@ -68,9 +68,9 @@ fn elements(paragraph: &Paragraph) -> usize
 pub fn define_box(
     alloc: Global,
     globals: &mut Globals,
-    name: &Name,
-    decls: &[Decl],
-    predicates: &[Term],
+    name: &Name<'_>,
+    decls: &[Decl<'_>],
+    predicates: &[Term<'_>],
 ) -> Result<(), Refusal>
     ensures ok { OnOk result (Defines (globals_of globals.old) (a_box name.now (map decl_of decls.now) (map tree_of predicates.now)) (globals_of globals.new)) }
     ensures fault { IfErr result (λ e. IfFault e (λ kind line. OffendsItem (globals_of globals.old) (a_box name.now (map decl_of decls.now) (map tree_of predicates.now)) kind line)) }
@@ -88,7 +88,7 @@ fn add(
     alloc: Global,
     globals: &mut Globals,
     next: usize,
-    paragraph: &Paragraph,
+    paragraph: &Paragraph<'_>,
 ) -> Result<(), Refusal>
     requires number { next ≡ next_number (globals_of globals.old) }
     requires small { next < 2 ^ 63 }
@@ -108,7 +108,7 @@ fn add_given(
     alloc: Global,
     globals: &mut Globals,
     first: usize,
-    names: &[Name],
+    names: &[Name<'_>],
 ) -> Result<(), Refusal>
     requires number { first ≡ next_number (globals_of globals.old) }
     requires small { first < 2 ^ 63 }
@@ -126,8 +126,8 @@ fn add_free(
     alloc: Global,
     globals: &mut Globals,
     number: usize,
-    name: &Name,
-    names: &[Name],
+    name: &Name<'_>,
+    names: &[Name<'_>],
 ) -> Result<(), Refusal>
     requires { number ≡ next_number (globals_of globals.old) }
     ensures ok { OnOk result (DefinesParagraph (globals_of globals.old) (text.free name.now names.now) (globals_of globals.new)) }
@@ -143,8 +143,8 @@ fn add_constructors(
     alloc: Global,
     globals: &mut Globals,
     number: usize,
-    of_type: &Name,
-    names: &[Name],
+    of_type: &Name<'_>,
+    names: &[Name<'_>],
 ) -> Result<(), Refusal>
     ensures ok { OnOk result (Constructs (globals_of globals.old) number (spelling of_type.now) 0 names.now (globals_of globals.new)) }
     ensures fault { IfErr result (λ e. IfFault e (λ kind line. OffendsConstructors (globals_of globals.old) number (spelling of_type.now) 0 names.now kind line)) }
@@ -161,8 +161,8 @@ fn add_constructors(
 fn add_abbreviation(
     alloc: Global,
     globals: &mut Globals,
-    name: &Name,
-    term: &Term,
+    name: &Name<'_>,
+    term: &Term<'_>,
 ) -> Result<(), Refusal>
     ensures ok { OnOk result (DefinesParagraph (globals_of globals.old) (text.abbreviation name.now (tree_of term.now)) (globals_of globals.new)) }
     ensures fault { IfErr result (λ e. IfFault e (λ kind line. OffendsParagraph (globals_of globals.old) (text.abbreviation name.now (tree_of term.now)) kind line)) }
@@ -177,8 +177,8 @@ fn add_abbreviation(
 fn add_schema(
     alloc: Global,
     globals: &mut Globals,
-    name: &Name,
-    exp: &SchemaExp,
+    name: &Name<'_>,
+    exp: &SchemaExp<'_>,
 ) -> Result<(), Refusal>
     ensures ok { OnOk result (DefinesParagraph (globals_of globals.old) (text.definition name.now (text.schema_of exp.now)) (globals_of globals.new)) }
     ensures fault { IfErr result (λ e. IfFault e (λ kind line. OffendsParagraph (globals_of globals.old) (text.definition name.now (text.schema_of exp.now)) kind line)) }
@@ -191,7 +191,12 @@ fn add_schema(
 }
 
 /// Defines one name.
-fn add_name(alloc: Global, globals: &mut Globals, name: &Name, entry: Entry) -> Result<(), Refusal>
+fn add_name(
+    alloc: Global,
+    globals: &mut Globals,
+    name: &Name<'_>,
+    entry: Entry,
+) -> Result<(), Refusal>
     ensures new { OnOk result (IsNew (globals_of globals.old) name.now) }
     ensures ok { OnOk result (globals_of globals.new ≡ with_global (globals_of globals.old) name.now (definition_of entry)) }
     ensures fault { IfErr result (λ e. IfFault e (λ kind line. IsTaken (globals_of globals.old) name.now kind line)) }
@@ -203,7 +208,7 @@ fn add_name(alloc: Global, globals: &mut Globals, name: &Name, entry: Entry) -> 
 }
 
 /// The name as spelled, if no global has it.
-fn new_name(alloc: Global, globals: &Globals, name: &Name) -> Result<Text, Refusal>
+fn new_name(alloc: Global, globals: &Globals, name: &Name<'_>) -> Result<Text, Refusal>
     ensures ok { IfOk result (λ t. t ≡ spelling name.now) }
     ensures new { OnOk result (IsNew (globals_of globals.now) name.now) }
     ensures fault { IfErr result (λ e. IfFault e (λ kind line. IsTaken (globals_of globals.now) name.now kind line)) }
@@ -215,7 +220,7 @@ fn new_name(alloc: Global, globals: &Globals, name: &Name) -> Result<Text, Refus
     Ok(spelled)
 }
 
-fn all_spelled(alloc: Global, names: &[Name]) -> Result<Items<Text>, AllocError>
+fn all_spelled(alloc: Global, names: &[Name<'_>]) -> Result<Items<Text>, AllocError>
     ensures { IfOk result (λ s. s ≡ map spelling names.now) }
 {
     let mut all = Items::new(alloc);
@@ -226,7 +231,7 @@ fn all_spelled(alloc: Global, names: &[Name]) -> Result<Items<Text>, AllocError>
 }
 
 /// The term with its type, as what a name is defined as.
-fn abbreviation_of(alloc: Global, globals: &Globals, term: &Term) -> Result<Entry, Refusal>
+fn abbreviation_of(alloc: Global, globals: &Globals, term: &Term<'_>) -> Result<Entry, Refusal>
     ensures ok { IfOk result (λ e. (t : Ty) × IsOf (outside (globals_of globals.now)) (tree_of term.now) (typed t) × (definition_of e ≡ abbreviated (globals_of globals.now) t (resolved (outside (globals_of globals.now)) (tree_of term.now)))) }
     ensures fault { IfErr result (λ e. IfFault e (λ kind line. Offends (outside (globals_of globals.now)) need.Expression (tree_of term.now) kind line)) }
 {

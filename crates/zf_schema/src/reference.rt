@@ -18,7 +18,7 @@ use zf_type::globals::{Entry, Flat, Globals};
 use zf_type::scope::global_of;
 
 /// The schema that is referred to.
-pub fn refer(alloc: Global, globals: &Globals, reference: &SchemaRef) -> Result<Flat, Refusal>
+pub fn refer(alloc: Global, globals: &Globals, reference: &SchemaRef<'_>) -> Result<Flat, Refusal>
     ensures ok { IfOk result (λ f. Refers (globals_of globals.now) reference.now (schema_of f)) }
     ensures fault { IfErr result (λ e. IfFault e (OffendsRef (globals_of globals.now) reference.now)) }
 {

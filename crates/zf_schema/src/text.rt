@@ -34,8 +34,8 @@ use zf_type::ztype::ZType;
 pub fn text_of(
     alloc: Global,
     globals: &Globals,
-    decls: &[Decl],
-    predicates: &[Term],
+    decls: &[Decl<'_>],
+    predicates: &[Term<'_>],
 ) -> Result<Flat, Refusal>
     ensures ok { IfOk result (λ f. IsText (globals_of globals.now) (map decl_of decls.now) (map tree_of predicates.now) (schema_of f)) }
     ensures wrong { IfErr result (λ e. IfFault e (OffendsText (globals_of globals.now) (map decl_of decls.now) (map tree_of predicates.now))) }
@@ -47,8 +47,8 @@ pub fn text_of(
 pub fn growing_text(
     alloc: Global,
     globals: &Globals,
-    decls: &[Decl],
-    predicates: &[Term],
+    decls: &[Decl<'_>],
+    predicates: &[Term<'_>],
 ) -> Result<Growing, Refusal>
     ensures ok { IfOk result (λ g. IsText (globals_of globals.now) (map decl_of decls.now) (map tree_of predicates.now) (schema_of g.flat)) }
     ensures growing { IfOk result (λ g. IsGrowing g) }
@@ -65,7 +65,7 @@ fn declare_all(
     alloc: Global,
     globals: &Globals,
     growing: &mut Growing,
-    decls: &[Decl],
+    decls: &[Decl<'_>],
 ) -> Result<(), Refusal>
     requires { IsGrowing growing.old }
     ensures ok { OnOk result (Declares (globals_of globals.now) (schema_of growing.old.flat) (map decl_of decls.now) (schema_of growing.new.flat)) }
@@ -83,7 +83,7 @@ fn declare(
     alloc: Global,
     globals: &Globals,
     growing: &mut Growing,
-    decl: &Decl,
+    decl: &Decl<'_>,
 ) -> Result<(), Refusal>
     requires { IsGrowing growing.old }
     ensures ok { OnOk result (DeclaresOne (globals_of globals.now) (schema_of growing.old.flat) (decl_of decl.now) (schema_of growing.new.flat)) }
@@ -101,8 +101,8 @@ fn declare_names(
     alloc: Global,
     globals: &Globals,
     growing: &mut Growing,
-    names: &[Name],
-    set: &Term,
+    names: &[Name<'_>],
+    set: &Term<'_>,
 ) -> Result<(), Refusal>
     requires { IsGrowing growing.old }
     ensures ok { OnOk result (DeclaresOne (globals_of globals.now) (schema_of growing.old.flat) (vars names.now (tree_of set.now)) (schema_of growing.new.flat)) }
@@ -122,7 +122,7 @@ fn include(
     alloc: Global,
     globals: &Globals,
     growing: &mut Growing,
-    reference: &SchemaRef,
+    reference: &SchemaRef<'_>,
 ) -> Result<(), Refusal>
     requires { IsGrowing growing.old }
     ensures ok { OnOk result (DeclaresOne (globals_of globals.now) (schema_of growing.old.flat) (include reference.now) (schema_of growing.new.flat)) }
@@ -140,7 +140,7 @@ fn include(
 fn add_all(
     alloc: Global,
     growing: &mut Growing,
-    names: &[Name],
+    names: &[Name<'_>],
     ztype: &ZType,
     set: &Shared<Resolved>,
 ) -> Result<(), Refusal>
@@ -159,7 +159,7 @@ fn add_all(
 fn add(
     alloc: Global,
     growing: &mut Growing,
-    name: &Name,
+    name: &Name<'_>,
     ztype: &ZType,
     set: &Shared<Resolved>,
 ) -> Result<(), Refusal>
@@ -179,7 +179,7 @@ fn add(
 #[tactic(auto, using(zf_type::proofs::SetsSeen::seen))]
 fn declared(
     alloc: Global,
-    name: &Name,
+    name: &Name<'_>,
     ztype: &ZType,
     set: &Shared<Resolved>,
 ) -> Result<Component, AllocError>
@@ -201,7 +201,7 @@ fn judge_over(
     globals: &Globals,
     components: &[Component],
     need: Need,
-    term: &Term,
+    term: &Term<'_>,
 ) -> Result<Judged, Refusal>
     ensures sort { IfOk result (λ j. IsOf (over (globals_of globals.now) (map comp_of components.now)) (tree_of term.now) (sort_of j.sort)) }
     ensures met { IfOk result (λ j. Meets need (sort_of j.sort)) }
@@ -229,7 +229,7 @@ fn constrain_all(
     alloc: Global,
     globals: &Globals,
     growing: &mut Growing,
-    predicates: &[Term],
+    predicates: &[Term<'_>],
 ) -> Result<(), Refusal>
     requires { IsGrowing growing.old }
     ensures ok { OnOk result (Constrains (globals_of globals.now) (schema_of growing.old.flat) (map tree_of predicates.now) (schema_of growing.new.flat)) }
@@ -247,7 +247,7 @@ fn constrain(
     alloc: Global,
     globals: &Globals,
     growing: &mut Growing,
-    predicate: &Term,
+    predicate: &Term<'_>,
 ) -> Result<(), Refusal>
     requires { IsGrowing growing.old }
     ensures ok { OnOk result (ConstrainsOne (globals_of globals.now) (schema_of growing.old.flat) (tree_of predicate.now) (schema_of growing.new.flat)) }

@@ -9,7 +9,6 @@ use crate::fault::TextFaultKind;
 use crate::next::Next;
 use crate::pieces::{Found, Run, Sight, after, begins, front, is_digit, is_letter, run_len, step};
 use crate::symbols::fixed;
-use crate::token::{Infix, Relation};
 
 /// The greatest number.
 pub const NUMBER_MAX: u64 = 9223372036854775807;
@@ -199,14 +198,6 @@ fn symbol_at(rest: &[u8]) -> Found
         b'(' => Found::of(Sight::Symbol(Next::OpenRound), 1),
         b')' => Found::of(Sight::Symbol(Next::CloseRound), 1),
         b',' => Found::of(Sight::Symbol(Next::Comma), 1),
-        b'[' => Found::of(Sight::Symbol(Next::OpenSquare), 1),
-        b']' => Found::of(Sight::Symbol(Next::CloseSquare), 1),
-        b'@' => Found::of(Sight::Symbol(Next::At), 1),
-        b'|' => Found::of(Sight::Symbol(Next::Bar), 1),
-        b'+' => Found::of(Sight::Symbol(Next::Infix(Infix::Plus)), 1),
-        b'-' => Found::of(Sight::Symbol(Next::Infix(Infix::Minus)), 1),
-        b'<' => Found::of(Sight::Symbol(Next::Relation(Relation::Less)), 1),
-        b'>' => Found::of(Sight::Symbol(Next::Relation(Relation::Greater)), 1),
         _ => other_symbol_at(rest),
     }
 }

@@ -15,6 +15,8 @@ use crate::placed::Placed;
 use crate::scan::symbols;
 use crate::token::Token;
 use crate::tree::Spec;
+use bumpalo::Bump;
+use bumpalo::collections::into_bump_slice;
 use std::alloc::Global;
 
 /// Whether a separator before these symbols is dropped.
@@ -54,29 +56,37 @@ fn reduce(symbols: &mut Vec<Placed>)
 const HEIGHT_LIMIT: u32 = 128;
 
 /// The tree that reads the symbols of a text.
-fn parsed(alloc: Global, text: &[u8], mut symbols: Vec<Placed>) -> Result<Spec, TextFault>
+fn parsed<'a>(
+    arena: &'a Bump,
+    text: &'a [u8],
+    mut symbols: Vec<Placed>,
+) -> Result<Spec<'a>, TextFault>
     ensures { (tokens : List Token) → map unplaced tokens ≡ map (symbol_at text.now) symbols.items → Parses result tokens }
 {
     reduce(&mut symbols);
     let mut cursor = Cursor::new(text, symbols.as_slice());
-    let boxes = all(alloc, &mut cursor, HEIGHT_LIMIT)?;
+    let boxes = all(arena, &mut cursor, HEIGHT_LIMIT)?;
     Ok(Spec { boxes })
 }
 
 /// The tree that reads the tokens.
-pub fn parse(alloc: Global, tokens: &[Token]) -> Result<Spec, TextFault>
+pub fn parse<'a>(alloc: Global, arena: &'a Bump, tokens: &[Token]) -> Result<Spec<'a>, TextFault>
     ensures { Parses result tokens.now }
 {
-    let Laid { text, symbols } = lay_out(alloc, tokens)?;
-    parsed(alloc, text.as_slice(), symbols)
+    let Laid { text, symbols } = lay_out(alloc, arena, tokens)?;
+    parsed(arena, into_bump_slice(text), symbols)
 }
 
 /// The tree of a source: `scan`, and then `parse`.
-pub fn read_spec(alloc: Global, source: &[u8]) -> Result<Spec, TextFault>
+pub fn read_spec<'a>(
+    alloc: Global,
+    arena: &'a Bump,
+    source: &'a [u8],
+) -> Result<Spec<'a>, TextFault>
     ensures { ReadsSpec result source.now }
 {
     let symbols = symbols(alloc, source)?;
-    parsed(alloc, source, symbols)
+    parsed(arena, source, symbols)
 }
 
 /// A law: no tokens are read by two trees.

@@ -22,7 +22,7 @@ use zf_text::tree::Name;
 /// Adds variables of these names, which are members of a set of this sort.
 pub(crate) fn declare_names(
     alloc: Global,
-    names: &[Name],
+    names: &[Name<'_>],
     set: &Sort,
     variables: &mut Vec<Variable>,
 ) -> Result<(), Refusal>
@@ -46,7 +46,7 @@ pub(crate) fn declare_names(
 }
 
 /// A variable of the name.
-fn variable(alloc: Global, name: &Name, ztype: &ZType) -> Result<Variable, AllocError>
+fn variable(alloc: Global, name: &Name<'_>, ztype: &ZType) -> Result<Variable, AllocError>
     ensures { IfOk result (λ v. variable_of v ≡ record { name = spelling name.now; type = type_of ztype.now }) }
 {
     let name = spelled(alloc, name)?;

@@ -51,7 +51,7 @@ struct Place {
 
 /// What the term is where this is needed.
 pub fn judge(
-    term: &Term,
+    term: &Term<'_>,
     alloc: Global,
     need: Need,
     scope: &mut Scope<'_>,
@@ -68,7 +68,7 @@ pub fn judge(
 #[cycle(judging)]
 #[tactic(auto, using(zf_text::proofs::TermSeen::seen))]
 fn judge_term(
-    term: &Term,
+    term: &Term<'_>,
     alloc: Global,
     need: Need,
     scope: &mut Scope<'_>,
@@ -242,7 +242,7 @@ fn bracket(alloc: Global, need: Need, line: u32, inner: Judged) -> Result<Judged
     placed(Judged { term, sort }, need)
 }
 
-fn named(alloc: Global, need: Need, name: &Name, scope: &Scope<'_>) -> Result<Judged, Refusal>
+fn named(alloc: Global, need: Need, name: &Name<'_>, scope: &Scope<'_>) -> Result<Judged, Refusal>
     ensures { Judges (scope_of scope.now) need (named name.now) result }
 {
     match scope.meaning(alloc, name)? {

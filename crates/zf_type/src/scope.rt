@@ -36,7 +36,7 @@ impl Scope<'_> {
     pub fn meaning(
         &self,
         alloc: Global,
-        name: &Name,
+        name: &Name<'_>,
     ) -> Result<Option<(Reference, Sort)>, AllocError>
         ensures { IfOk result (λ found. meant found ≡ spec.meaning (scope_of self.now) (spelling name.now)) }
     {
@@ -73,10 +73,10 @@ impl Scope<'_> {
 }
 
 /// The name as spelled, with its strokes.
-pub fn spelled(alloc: Global, name: &Name) -> Result<Text, AllocError>
+pub fn spelled(alloc: Global, name: &Name<'_>) -> Result<Text, AllocError>
     ensures { IfOk result (λ t. t ≡ spelling name.now) }
 {
-    let mut text = name.base.copy(alloc)?;
+    let mut text = Text::of(alloc, name.base.as_slice())?;
     text.append(name.strokes.as_slice())?;
     Ok(text)
 }

@@ -1,5 +1,6 @@
 //! The schema calculus: what is listed, and what is shown.
 use crate::tests::checks::answers;
+use bumpalo::Bump;
 use std::test::Fail;
 use zf_engine::fault::Status;
 use zf_schema::checker::check_spec;
@@ -146,7 +147,8 @@ S'
 
 #[test]
 fn decoration_captures_nothing(rt: HostRuntime) -> Result<(), Fail> {
-    let spec = read_spec(rt.alloc(), CAPTURES.as_bytes())?;
+    let arena = Bump::new(rt.alloc());
+    let spec = read_spec(rt.alloc(), &arena, CAPTURES.as_bytes())?;
     let checked = check_spec(rt.alloc(), &spec)?;
     let schema = checked.globals.schema("T").ok_or("no schema")?;
     let [component] = schema.components.as_slice() else {

@@ -1,5 +1,6 @@
 //! What no clause says: with memory left, a text has a tree.
 use crate::tests::sources::TWO;
+use bumpalo::Bump;
 use std::test::Fail;
 use zf_text::reading::{parse, read_spec};
 use zf_text::scan::scan;
@@ -10,8 +11,9 @@ use zf_text::tree::{Decl, Paragraph, Term, ZBox};
 fn a_text_has_a_tree(rt: HostRuntime) -> Result<(), Fail> {
     let tokens = scan(rt.alloc(), TWO.as_bytes())?;
     assert_eq!(rt; tokens.len(), 16);
-    let parsed = parse(rt.alloc(), tokens.as_slice())?;
-    let read = read_spec(rt.alloc(), TWO.as_bytes())?;
+    let arena = Bump::new(rt.alloc());
+    let parsed = parse(rt.alloc(), &arena, tokens.as_slice())?;
+    let read = read_spec(rt.alloc(), &arena, TWO.as_bytes())?;
     for spec in &[parsed, read] {
         let [
             ZBox::Zed(paragraphs),

@@ -15,13 +15,17 @@ use crate::next::{Mark, Next};
 use crate::tall::Tall;
 use crate::token::{Infix, Quantifier};
 use crate::tree::{Sign, Term};
-use std::alloc::Global;
+use bumpalo::Bump;
+use zf_data::arena::Boxed;
 
-impl<F: Fn(Global, &mut Cursor<'_>, u32, u8) -> Result<Tall<Term>, TextFault>> Grammar<F> {
+impl<
+    'a,
+    F: Fn(&'a Bump, &mut Cursor<'a, '_>, u32, u8) -> Result<Tall<Term<'a>>, TextFault>,
+> Grammar<'a, F> {
     /// After `\emptyset`.
     #[tactic(auto, unfolding(crate::specs::TermReading::empty_set, crate::specs::TermReading::enclosed))]
     #[inline(never)]
-    fn empty_set(&self, tokens: &mut Cursor<'_>, line: u32) -> Result<Tall<Term>, TextFault>
+    fn empty_set(&self, tokens: &mut Cursor<'a, '_>, line: u32) -> Result<Tall<Term<'a>>, TextFault>
         requires nests { Nests self.now.below (F.pre self.now.read) (F.post self.now.read) }
         ensures value { Gives (spec.empty_set (read_term self.now.below) line tokens.old) result tokens.new }
         ensures low { IfOk result (λ x. x.height ≤ self.now.below + 1) }
@@ -30,10 +34,10 @@ impl<F: Fn(Global, &mut Cursor<'_>, u32, u8) -> Result<Tall<Term>, TextFault>> G
             return Err(TextFault::not_in_profile(line));
         }
         tokens.skip();
-        let set = self.boxed(tokens, EXPRESSION)?;
+        let set = self.term(tokens, EXPRESSION)?;
         tokens.expect(Mark::CloseSquare)?;
         Ok(Tall {
-            part: Term::EmptySet(line, set.part),
+            part: Term::EmptySet(line, Boxed::new(self.arena, set.part)?),
             height: set.height + 1,
         })
     }
@@ -42,13 +46,13 @@ impl<F: Fn(Global, &mut Cursor<'_>, u32, u8) -> Result<Tall<Term>, TextFault>> G
     #[inline(never)]
     fn tuple(
         &self,
-        tokens: &mut Cursor<'_>,
+        tokens: &mut Cursor<'a, '_>,
         line: u32,
-        first: Tall<Term>,
-    ) -> Result<Tall<Term>, TextFault>
+        first: Tall<Term<'a>>,
+    ) -> Result<Tall<Term<'a>>, TextFault>
         requires nests { Nests self.now.below (F.pre self.now.read) (F.post self.now.read) }
         requires first_low { first.height ≤ self.now.below }
-        ensures value { Gives (spec.round_by (read_term self.now.below) line first next.Comma tokens.old) result tokens.new }
+        ensures value { Gives (spec.round_by (read_term self.now.below) line first.entry next.Comma tokens.old) result tokens.new }
         ensures low { IfOk result (λ x. x.height ≤ self.now.below + 1) }
     {
         if level(&first.part) < EXPRESSION {
@@ -65,27 +69,21 @@ impl<F: Fn(Global, &mut Cursor<'_>, u32, u8) -> Result<Tall<Term>, TextFault>> G
     /// After `(`.
     #[tactic(auto, unfolding(crate::specs::TermReading::round))]
     #[inline(never)]
-    fn round(&self, tokens: &mut Cursor<'_>, line: u32) -> Result<Tall<Term>, TextFault>
+    fn round(&self, tokens: &mut Cursor<'a, '_>, line: u32) -> Result<Tall<Term<'a>>, TextFault>
         requires nests { Nests self.now.below (F.pre self.now.read) (F.post self.now.read) }
         ensures value { Gives (spec.round (read_term self.now.below) line tokens.old) result tokens.new }
         ensures low { IfOk result (λ x. x.height ≤ self.now.below + 1) }
     {
-        let inner = self.boxed(tokens, QUANTIFIER)?;
+        let inner = self.term(tokens, QUANTIFIER)?;
         match tokens.peek() {
             Next::CloseRound => {
                 tokens.skip();
                 Ok(Tall {
-                    part: Term::Bracket(line, inner.part),
+                    part: Term::Bracket(line, Boxed::new(self.arena, inner.part)?),
                     height: inner.height + 1,
                 })
             }
-            Next::Comma => {
-                let first = Tall {
-                    part: inner.part.into_inner(),
-                    height: inner.height,
-                };
-                self.tuple(tokens, line, first)
-            }
+            Next::Comma => self.tuple(tokens, line, inner),
             _ => Err(tokens.unexpected()),
         }
     }
@@ -93,7 +91,7 @@ impl<F: Fn(Global, &mut Cursor<'_>, u32, u8) -> Result<Tall<Term>, TextFault>> G
     /// After `\{`, where no declaration begins.
     #[tactic(auto, unfolding(crate::specs::TermReading::display))]
     #[inline(never)]
-    fn display(&self, tokens: &mut Cursor<'_>, line: u32) -> Result<Tall<Term>, TextFault>
+    fn display(&self, tokens: &mut Cursor<'a, '_>, line: u32) -> Result<Tall<Term<'a>>, TextFault>
         requires nests { Nests self.now.below (F.pre self.now.read) (F.post self.now.read) }
         ensures value { Gives (spec.display (read_term self.now.below) line tokens.old) result tokens.new }
         ensures low { IfOk result (λ x. x.height ≤ self.now.below + 1) }
@@ -113,7 +111,7 @@ impl<F: Fn(Global, &mut Cursor<'_>, u32, u8) -> Result<Tall<Term>, TextFault>> G
     /// After `\{`, where a declaration begins.
     #[tactic(auto, unfolding(crate::specs::TermReading::builder))]
     #[inline(never)]
-    fn builder(&self, tokens: &mut Cursor<'_>, line: u32) -> Result<Tall<Term>, TextFault>
+    fn builder(&self, tokens: &mut Cursor<'a, '_>, line: u32) -> Result<Tall<Term<'a>>, TextFault>
         requires nests { Nests self.now.below (F.pre self.now.read) (F.post self.now.read) }
         ensures value { Gives (spec.builder (read_term self.now.below) line tokens.old) result tokens.new }
         ensures low { IfOk result (λ x. x.height ≤ self.now.below + 1) }
@@ -131,7 +129,7 @@ impl<F: Fn(Global, &mut Cursor<'_>, u32, u8) -> Result<Tall<Term>, TextFault>> G
     /// After `\{`.
     #[tactic(auto, unfolding(crate::specs::TermReading::braced))]
     #[inline(never)]
-    fn braced(&self, tokens: &mut Cursor<'_>, line: u32) -> Result<Tall<Term>, TextFault>
+    fn braced(&self, tokens: &mut Cursor<'a, '_>, line: u32) -> Result<Tall<Term<'a>>, TextFault>
         requires nests { Nests self.now.below (F.pre self.now.read) (F.post self.now.read) }
         ensures value { Gives (spec.braced (read_term self.now.below) line tokens.old) result tokens.new }
         ensures low { IfOk result (λ x. x.height ≤ self.now.below + 1) }
@@ -148,17 +146,17 @@ impl<F: Fn(Global, &mut Cursor<'_>, u32, u8) -> Result<Tall<Term>, TextFault>> G
     #[inline(never)]
     fn prefixed(
         &self,
-        tokens: &mut Cursor<'_>,
+        tokens: &mut Cursor<'a, '_>,
         line: u32,
         sign: Sign,
-    ) -> Result<Tall<Term>, TextFault>
+    ) -> Result<Tall<Term<'a>>, TextFault>
         requires nests { Nests self.now.below (F.pre self.now.read) (F.post self.now.read) }
         ensures value { Gives (spec.under (read_term self.now.below) (levels.sign_level sign) (term.Prefix line sign) tokens.old) result tokens.new }
         ensures low { IfOk result (λ x. x.height ≤ self.now.below + 1) }
     {
-        let operand = self.boxed(tokens, sign_level(sign))?;
+        let operand = self.term(tokens, sign_level(sign))?;
         Ok(Tall {
-            part: Term::Prefix(line, sign, operand.part),
+            part: Term::Prefix(line, sign, Boxed::new(self.arena, operand.part)?),
             height: operand.height + 1,
         })
     }
@@ -166,14 +164,14 @@ impl<F: Fn(Global, &mut Cursor<'_>, u32, u8) -> Result<Tall<Term>, TextFault>> G
     /// After `\lnot`.
     #[tactic(auto, unfolding(crate::specs::TermReading::under))]
     #[inline(never)]
-    fn negated(&self, tokens: &mut Cursor<'_>, line: u32) -> Result<Tall<Term>, TextFault>
+    fn negated(&self, tokens: &mut Cursor<'a, '_>, line: u32) -> Result<Tall<Term<'a>>, TextFault>
         requires nests { Nests self.now.below (F.pre self.now.read) (F.post self.now.read) }
         ensures value { Gives (spec.under (read_term self.now.below) levels.negation_level (term.Not line) tokens.old) result tokens.new }
         ensures low { IfOk result (λ x. x.height ≤ self.now.below + 1) }
     {
-        let operand = self.boxed(tokens, NEGATION)?;
+        let operand = self.term(tokens, NEGATION)?;
         Ok(Tall {
-            part: Term::Not(line, operand.part),
+            part: Term::Not(line, Boxed::new(self.arena, operand.part)?),
             height: operand.height + 1,
         })
     }
@@ -183,10 +181,10 @@ impl<F: Fn(Global, &mut Cursor<'_>, u32, u8) -> Result<Tall<Term>, TextFault>> G
     #[inline(never)]
     fn quantified(
         &self,
-        tokens: &mut Cursor<'_>,
+        tokens: &mut Cursor<'a, '_>,
         line: u32,
         quantifier: Quantifier,
-    ) -> Result<Tall<Term>, TextFault>
+    ) -> Result<Tall<Term<'a>>, TextFault>
         requires nests { Nests self.now.below (F.pre self.now.read) (F.post self.now.read) }
         ensures value { Gives (spec.quantified (read_term self.now.below) line quantifier tokens.old) result tokens.new }
         ensures low { IfOk result (λ x. x.height ≤ self.now.below + 1) }
@@ -194,9 +192,10 @@ impl<F: Fn(Global, &mut Cursor<'_>, u32, u8) -> Result<Tall<Term>, TextFault>> G
         let decls = self.decls(tokens)?;
         let constraint = self.part(tokens, Mark::Bar, QUANTIFIER)?;
         tokens.expect(Mark::At)?;
-        let body = self.boxed(tokens, QUANTIFIER)?;
+        let body = self.term(tokens, QUANTIFIER)?;
+        let inner = Boxed::new(self.arena, body.part)?;
         Ok(Tall {
-            part: Term::Quantified(line, quantifier, decls.part, constraint.part, body.part),
+            part: Term::Quantified(line, quantifier, decls.part, constraint.part, inner),
             height: decls.height.max(constraint.height).max(body.height) + 1,
         })
     }
@@ -205,9 +204,9 @@ impl<F: Fn(Global, &mut Cursor<'_>, u32, u8) -> Result<Tall<Term>, TextFault>> G
     #[tactic(auto, unfolding(crate::specs::TermReading::beginning))]
     pub(super) fn beginning(
         &self,
-        tokens: &mut Cursor<'_>,
+        tokens: &mut Cursor<'a, '_>,
         least: u8,
-    ) -> Result<Tall<Term>, TextFault>
+    ) -> Result<Tall<Term<'a>>, TextFault>
         requires nests { Nests self.now.below (F.pre self.now.read) (F.post self.now.read) }
         ensures value { Gives (spec.beginning (read_term self.now.below) least tokens.old) result tokens.new }
         ensures low { IfOk result (λ x. x.height ≤ self.now.below + 1) }
@@ -215,7 +214,7 @@ impl<F: Fn(Global, &mut Cursor<'_>, u32, u8) -> Result<Tall<Term>, TextFault>> G
         let line = tokens.line();
         match tokens.peek() {
             Next::Name => Ok(Tall {
-                part: Term::Name(tokens.name(self.alloc)?),
+                part: Term::Name(tokens.name()?),
                 height: 1,
             }),
             Next::Number => Ok(Tall {

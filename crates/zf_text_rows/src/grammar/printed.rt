@@ -9,18 +9,18 @@ use zf_text::tree::{
 #[derive(Clone, Copy)]
 enum Part<'a> {
     Close,
-    Name(&'a Name),
-    Term(&'a Term),
-    Link(&'a Link),
-    Bound(&'a VarDecl),
+    Name(&'a Name<'a>),
+    Term(&'a Term<'a>),
+    Link(&'a Link<'a>),
+    Bound(&'a VarDecl<'a>),
     /// A term behind a bar.
-    Filter(&'a Term),
+    Filter(&'a Term<'a>),
     /// A term behind `@`.
-    Body(&'a Term),
-    Decl(&'a Decl),
-    Schema(&'a SchemaExp),
-    Paragraph(&'a Paragraph),
-    ZBox(&'a ZBox),
+    Body(&'a Term<'a>),
+    Decl(&'a Decl<'a>),
+    Schema(&'a SchemaExp<'a>),
+    Paragraph(&'a Paragraph<'a>),
+    ZBox(&'a ZBox<'a>),
 }
 
 /// The text so far, and the parts to come, the next one last.
@@ -37,35 +37,35 @@ impl<'a> Printer<'a> {
         Ok(())
     }
 
-    fn wait_for_terms(&mut self, terms: &'a [Term]) -> Result<(), Fail> {
+    fn wait_for_terms(&mut self, terms: &'a [Term<'a>]) -> Result<(), Fail> {
         for term in terms.iter().rev() {
             self.waiting.push(Part::Term(term))?;
         }
         Ok(())
     }
 
-    fn wait_for_predicates(&mut self, terms: &'a [Term]) -> Result<(), Fail> {
+    fn wait_for_predicates(&mut self, terms: &'a [Term<'a>]) -> Result<(), Fail> {
         for term in terms.iter().rev() {
             self.waiting.push(Part::Filter(term))?;
         }
         Ok(())
     }
 
-    fn wait_for_names(&mut self, names: &'a [Name]) -> Result<(), Fail> {
+    fn wait_for_names(&mut self, names: &'a [Name<'a>]) -> Result<(), Fail> {
         for name in names.iter().rev() {
             self.waiting.push(Part::Name(name))?;
         }
         Ok(())
     }
 
-    fn wait_for_bound(&mut self, decls: &'a [VarDecl]) -> Result<(), Fail> {
+    fn wait_for_bound(&mut self, decls: &'a [VarDecl<'a>]) -> Result<(), Fail> {
         for decl in decls.iter().rev() {
             self.waiting.push(Part::Bound(decl))?;
         }
         Ok(())
     }
 
-    fn wait_for_decls(&mut self, decls: &'a [Decl]) -> Result<(), Fail> {
+    fn wait_for_decls(&mut self, decls: &'a [Decl<'a>]) -> Result<(), Fail> {
         for decl in decls.iter().rev() {
             self.waiting.push(Part::Decl(decl))?;
         }
@@ -84,26 +84,26 @@ impl<'a> Printer<'a> {
         Ok(())
     }
 
-    fn one(&mut self, line: u32, term: &'a Term) -> Result<(), Fail> {
+    fn one(&mut self, line: u32, term: &'a Term<'a>) -> Result<(), Fail> {
         self.at(line)?;
         self.wait_for(Part::Close)?;
         self.wait_for(Part::Term(term))
     }
 
-    fn two(&mut self, line: u32, left: &'a Term, right: &'a Term) -> Result<(), Fail> {
+    fn two(&mut self, line: u32, left: &'a Term<'a>, right: &'a Term<'a>) -> Result<(), Fail> {
         self.at(line)?;
         self.wait_for(Part::Close)?;
         self.wait_for(Part::Term(right))?;
         self.wait_for(Part::Term(left))
     }
 
-    fn many(&mut self, line: u32, terms: &'a [Term]) -> Result<(), Fail> {
+    fn many(&mut self, line: u32, terms: &'a [Term<'a>]) -> Result<(), Fail> {
         self.at(line)?;
         self.wait_for(Part::Close)?;
         self.wait_for_terms(terms)
     }
 
-    fn chain(&mut self, line: u32, first: &'a Term, links: &'a [Link]) -> Result<(), Fail> {
+    fn chain(&mut self, line: u32, first: &'a Term<'a>, links: &'a [Link<'a>]) -> Result<(), Fail> {
         self.at(line)?;
         self.wait_for(Part::Close)?;
         for link in links.iter().rev() {
@@ -115,9 +115,9 @@ impl<'a> Printer<'a> {
     fn bound(
         &mut self,
         line: u32,
-        decls: &'a [VarDecl],
-        filter: Option<&'a Term>,
-        body: Option<&'a Term>,
+        decls: &'a [VarDecl<'a>],
+        filter: Option<&'a Term<'a>>,
+        body: Option<&'a Term<'a>>,
     ) -> Result<(), Fail> {
         self.at(line)?;
         self.wait_for(Part::Close)?;
@@ -130,7 +130,7 @@ impl<'a> Printer<'a> {
         self.wait_for_bound(decls)
     }
 
-    fn name(&mut self, name: &Name) -> Result<(), Fail> {
+    fn name(&mut self, name: &Name<'_>) -> Result<(), Fail> {
         let base = str::from_utf8(name.base.as_slice())?;
         let strokes = str::from_utf8(name.strokes.as_slice())?;
         write!(self.text, " {base}")?;
@@ -140,7 +140,7 @@ impl<'a> Printer<'a> {
         self.at(name.line)
     }
 
-    fn term(&mut self, term: &'a Term) -> Result<(), Fail> {
+    fn term(&mut self, term: &'a Term<'a>) -> Result<(), Fail> {
         match term {
             Term::Name(name) => self.name(name),
             Term::Number(line, value) => {
@@ -224,7 +224,7 @@ impl<'a> Printer<'a> {
         }
     }
 
-    fn reference(&mut self, reference: &'a SchemaRef) -> Result<(), Fail> {
+    fn reference(&mut self, reference: &'a SchemaRef<'a>) -> Result<(), Fail> {
         match reference.mark {
             RefMark::Plain => self.open("Plain")?,
             RefMark::Delta => self.open("Delta")?,
@@ -233,7 +233,7 @@ impl<'a> Printer<'a> {
         self.wait_for(Part::Name(&reference.name))
     }
 
-    fn decl(&mut self, decl: &'a Decl) -> Result<(), Fail> {
+    fn decl(&mut self, decl: &'a Decl<'a>) -> Result<(), Fail> {
         match decl {
             Decl::Vars(names, set) => {
                 self.open(":")?;
@@ -244,7 +244,7 @@ impl<'a> Printer<'a> {
         }
     }
 
-    fn schema(&mut self, schema: &'a SchemaExp) -> Result<(), Fail> {
+    fn schema(&mut self, schema: &'a SchemaExp<'a>) -> Result<(), Fail> {
         match schema {
             SchemaExp::Text(decls, predicates) => {
                 self.open("Text")?;
@@ -270,7 +270,7 @@ impl<'a> Printer<'a> {
         }
     }
 
-    fn paragraph(&mut self, paragraph: &'a Paragraph) -> Result<(), Fail> {
+    fn paragraph(&mut self, paragraph: &'a Paragraph<'a>) -> Result<(), Fail> {
         match paragraph {
             Paragraph::Given(names) => {
                 self.open("Given")?;
@@ -294,7 +294,7 @@ impl<'a> Printer<'a> {
         }
     }
 
-    fn zbox(&mut self, zbox: &'a ZBox) -> Result<(), Fail> {
+    fn zbox(&mut self, zbox: &'a ZBox<'a>) -> Result<(), Fail> {
         match zbox {
             ZBox::Zed(paragraphs) => {
                 self.open("Zed")?;
@@ -346,7 +346,7 @@ impl<'a> Printer<'a> {
     }
 }
 
-fn print_all(alloc: Global, spec: &Spec, has_lines: bool) -> Result<String, Fail> {
+fn print_all(alloc: Global, spec: &Spec<'_>, has_lines: bool) -> Result<String, Fail> {
     let mut printer = Printer {
         text: String::new(alloc),
         waiting: Vec::new(alloc),
@@ -365,11 +365,11 @@ fn print_all(alloc: Global, spec: &Spec, has_lines: bool) -> Result<String, Fail
 }
 
 /// The text of the boxes, without lines.
-pub fn printed(alloc: Global, spec: &Spec) -> Result<String, Fail> {
+pub fn printed(alloc: Global, spec: &Spec<'_>) -> Result<String, Fail> {
     print_all(alloc, spec, false)
 }
 
 /// The text of the boxes, with the line of each name and term behind `@`.
-pub fn printed_with_lines(alloc: Global, spec: &Spec) -> Result<String, Fail> {
+pub fn printed_with_lines(alloc: Global, spec: &Spec<'_>) -> Result<String, Fail> {
     print_all(alloc, spec, true)
 }

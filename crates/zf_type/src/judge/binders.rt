@@ -23,7 +23,7 @@ use crate::scope::{Scope, Variable};
 use crate::sort::Sort;
 use crate::ztype::{ZType, set_type};
 use std::alloc::{AllocError, Global};
-use zf_data::{Boxed, Items};
+use zf_data::{Boxed, Items, arena};
 use zf_text::token::Quantifier;
 use zf_text::tree::{Term, VarDecl};
 
@@ -37,7 +37,7 @@ struct Bound {
 /// Brings the variables that are declared into scope, and answers their ranges.
 #[cycle(judging)]
 pub(super) fn declare(
-    decls: &[VarDecl],
+    decls: &[VarDecl<'_>],
     alloc: Global,
     scope: &mut Scope<'_>,
 ) -> Result<Items<Range>, Refusal>
@@ -52,7 +52,7 @@ pub(super) fn declare(
 
 /// The declared sets know nothing of the variables.
 #[cycle(judging)]
-fn judge_sets(decls: &[VarDecl], alloc: Global, scope: &mut Scope<'_>) -> Result<Bound, Refusal>
+fn judge_sets(decls: &[VarDecl<'_>], alloc: Global, scope: &mut Scope<'_>) -> Result<Bound, Refusal>
     ensures ok { IfOk result (λ b. AreBound (scope_of scope.old) (tree.var_decls (map var_decl_of decls.now)) b) }
     ensures wrong { IfErr result (λ e. IfFault e (λ kind line. DeclarationsOffend (scope_of scope.old) (tree.var_decls (map var_decl_of decls.now)) kind line)) }
     ensures scope { scope_of scope.new ≡ scope_of scope.old }
@@ -73,7 +73,7 @@ fn judge_sets(decls: &[VarDecl], alloc: Global, scope: &mut Scope<'_>) -> Result
 
 #[cycle(judging)]
 pub(super) fn judge_part(
-    part: &Option<Boxed<Term>>,
+    part: &Option<arena::Boxed<'_, Term<'_>>>,
     alloc: Global,
     need: Need,
     scope: &mut Scope<'_>,

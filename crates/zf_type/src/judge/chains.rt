@@ -38,7 +38,7 @@ struct Operand {
 /// A chain of relations, of which the first operand is judged.
 #[cycle(judging)]
 pub(super) fn chain(
-    links: &[Link],
+    links: &[Link<'_>],
     alloc: Global,
     place: Place,
     first: Judged,
@@ -55,7 +55,7 @@ pub(super) fn chain(
 
 #[cycle(judging)]
 fn judge_links(
-    links: &[Link],
+    links: &[Link<'_>],
     alloc: Global,
     first: Operand,
     scope: &mut Scope<'_>,

@@ -33,7 +33,7 @@ struct Members {
 /// What several terms make.
 #[cycle(judging)]
 pub(super) fn listed(
-    terms: &[Term],
+    terms: &[Term<'_>],
     alloc: Global,
     place: Place,
     form: Listed,
@@ -48,7 +48,7 @@ pub(super) fn listed(
 
 #[cycle(judging)]
 fn judge_all(
-    terms: &[Term],
+    terms: &[Term<'_>],
     alloc: Global,
     form: Listed,
     scope: &mut Scope<'_>,

@@ -18,7 +18,7 @@ use zf_text::tree::Term;
 
 #[cycle(judging)]
 pub(super) fn unary(
-    operand: &Term,
+    operand: &Term<'_>,
     alloc: Global,
     place: Place,
     op: Unary,
@@ -49,7 +49,7 @@ fn with_operand(alloc: Global, place: Place, op: Unary, operand: Judged) -> Resu
 /// What two terms make, of which the left one is judged.
 #[cycle(judging)]
 pub(super) fn binary(
-    right: &Term,
+    right: &Term<'_>,
     alloc: Global,
     place: Place,
     op: Operator,

@@ -1,0 +1,8 @@
+//! Lists and boxes that stand in an arena, and bytes that are lent. Nothing of them is dropped, and the arena keeps its chunks until the process ends.
+mod boxed;
+mod items;
+mod lent;
+
+pub use boxed::Boxed;
+pub use items::Items;
+pub use lent::Lent;
