@@ -27,7 +27,7 @@ pub fn checked_in(alloc: Global, file: &[u8], source: &[u8]) -> Result<Checked, 
 {
     let spec = spec_in(alloc, file, source)?;
     let checked = check_spec(alloc, &spec)?;
-    // The tree goes with the program: to take it apart costs as much as to check it.
+    // The tree goes with the program: nothing is gained by taking it apart before.
     mem::forget(spec);
     Ok(checked)
 }
