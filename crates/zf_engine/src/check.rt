@@ -11,8 +11,8 @@ ghost use Rattle.zf_type.specs.Definitions.{globals_of};
 use crate::fault::Status;
 use crate::stop::Stop;
 use crate::texts;
+use bumpalo::Bump;
 use std::alloc::{AllocError, Global};
-use std::mem;
 use zf_schema::checker::{Checked, check_spec};
 use zf_schema::listing::listing;
 use zf_text::fault::{TextFault, TextFaultKind};
@@ -21,14 +21,17 @@ use zf_text::tree::Spec;
 use zf_type::fault::TypeFault;
 
 /// What a source defines, and its faults of types.
-pub fn checked_in(alloc: Global, file: &[u8], source: &[u8]) -> Result<Checked, Stop>
+pub fn checked_in<'a>(
+    alloc: Global,
+    arena: &'a Bump,
+    file: &[u8],
+    source: &'a [u8],
+) -> Result<Checked<'a>, Stop>
     ensures checks { IfOk result (λ c. Checks source.now (globals_of c.globals) c.faults) }
     ensures stop { IfErr result (λ s. IfAnswered s (UnreadAnswer file.now source.now)) }
 {
-    let spec = spec_in(alloc, file, source)?;
-    let checked = check_spec(alloc, &spec)?;
-    // The tree goes with the program: nothing is gained by taking it apart before.
-    mem::forget(spec);
+    let spec = spec_in(alloc, arena, file, source)?;
+    let checked = check_spec(alloc, arena, &spec)?;
     Ok(checked)
 }
 
@@ -37,7 +40,7 @@ pub fn check_answer(
     alloc: Global,
     types: bool,
     file: &[u8],
-    checked: &Checked,
+    checked: &Checked<'_>,
 ) -> Result<(Vec<u8>, Status), AllocError>
     ensures text { IfOk result (λ p. p.0.items ≡ check_text types file.now (globals_of checked.now.globals) checked.now.faults) }
     ensures status { IfOk result (λ p. p.1 ≡ check_status checked.now.faults) }
@@ -75,11 +78,16 @@ pub fn fault_lines(alloc: Global, file: &[u8], faults: &[TypeFault]) -> Result<V
 }
 
 /// The tree of a source.
-fn spec_in(alloc: Global, file: &[u8], source: &[u8]) -> Result<Spec, Stop>
+fn spec_in<'a>(
+    alloc: Global,
+    arena: &'a Bump,
+    file: &[u8],
+    source: &'a [u8],
+) -> Result<Spec<'a>, Stop>
     ensures reads { IfOk result (λ s. ReadsSource (boxes_of s) source.now) }
     ensures stop { IfErr result (λ s. IfAnswered s (UnreadAnswer file.now source.now)) }
 {
-    match read_spec(alloc, source) {
+    match read_spec(alloc, arena, source) {
         Ok(spec) => Ok(spec),
         Err(fault) => Err(unread(alloc, file, fault)),
     }

@@ -13,6 +13,7 @@ use crate::check::{check_answer, checked_in, fault_lines};
 use crate::fault::Status;
 use crate::stop::Stop;
 use crate::texts;
+use bumpalo::Bump;
 use std::alloc::Global;
 use zf_command::job::{Job, Size};
 use zf_schema::finite;
@@ -60,7 +61,8 @@ fn checked_text(
     ensures answer { IfOk result (λ p. Answer (Check types) file.now source.now p.0.items p.1) }
     ensures stop { IfErr result (λ s. IfAnswered s (Answer (Check types) file.now source.now)) }
 {
-    let checked = checked_in(alloc, file, source)?;
+    let arena = Bump::new(alloc);
+    let checked = checked_in(alloc, &arena, file, source)?;
     Ok(check_answer(alloc, types, file, &checked)?)
 }
 
@@ -76,17 +78,19 @@ fn prepare_show(
     ensures within { IfOk result (λ r. All (IsWithin (length r.ranges.items)) r.simple.tests) }
     ensures stop { IfErr result (λ s. IfAnswered s (Answer (Show name.now sizes.now) file.now source.now)) }
 {
-    let globals = typed_in(alloc, file, source)?;
-    prepare_over(alloc, name, sizes, file, &globals)
+    let arena = Bump::new(alloc);
+    let globals = typed_in(alloc, &arena, file, source)?;
+    prepare_over(alloc, &arena, name, sizes, file, &globals)
 }
 
 /// The walk over the bindings of a schema of these globals, or the answer where there is none.
-fn prepare_over(
+fn prepare_over<'a>(
     alloc: Global,
+    arena: &'a Bump,
     name: &str,
     sizes: &[Size],
     file: &[u8],
-    globals: &Globals,
+    globals: &Globals<'a>,
 ) -> Result<Ready, Stop>
     ensures shows { IfOk result (λ r. (source : List ℕ) → Checks source (globals_of globals.now) [] → ShowsBindings name.now sizes.now file.now source r) }
     ensures within { IfOk result (λ r. All (IsWithin (length r.ranges.items)) r.simple.tests) }
@@ -96,7 +100,7 @@ fn prepare_over(
         let line = texts::no_schema_line(alloc, name.as_bytes())?;
         return Err(Stop::Answered(line, Status::BadRequest));
     };
-    let simple = simple_in(alloc, file, globals, schema)?;
+    let simple = simple_in(alloc, arena, file, globals, schema)?;
     check_fit(alloc, globals, sizes)?;
     check_end(alloc, file, globals, schema)?;
     let ranges = ranges_of(alloc, simple.components.as_slice(), sizes)?;
@@ -104,11 +108,16 @@ fn prepare_over(
 }
 
 /// What a source that is well typed defines.
-fn typed_in(alloc: Global, file: &[u8], source: &[u8]) -> Result<Globals, Stop>
+fn typed_in<'a>(
+    alloc: Global,
+    arena: &'a Bump,
+    file: &[u8],
+    source: &'a [u8],
+) -> Result<Globals<'a>, Stop>
     ensures checks { IfOk result (λ g. Checks source.now (globals_of g) []) }
     ensures stop { IfErr result (AnswersShow file.now source.now) }
 {
-    let checked = checked_in(alloc, file, source)?;
+    let checked = checked_in(alloc, arena, file, source)?;
     if !checked.faults.as_slice().is_empty() {
         let lines = fault_lines(alloc, file, checked.faults.as_slice())?;
         return Err(Stop::Answered(lines, Status::BadSpec));
@@ -117,13 +126,19 @@ fn typed_in(alloc: Global, file: &[u8], source: &[u8]) -> Result<Globals, Stop>
 }
 
 /// The schema, if it is one that can be shown.
-fn simple_in(alloc: Global, file: &[u8], globals: &Globals, schema: &Flat) -> Result<Simple, Stop>
+fn simple_in<'a>(
+    alloc: Global,
+    arena: &'a Bump,
+    file: &[u8],
+    globals: &Globals<'a>,
+    schema: &Flat<'a>,
+) -> Result<Simple, Stop>
     ensures read { IfOk result (λ s. showing.simple_of (globals_of globals.now) (schema_of schema.now) ≡ Ok s) }
     ensures within { IfOk result (λ s. All (IsWithin (length s.components)) s.tests) }
     ensures given { IfOk result (λ s. All (λ c. Contains (showing.given_sets (globals_of globals.now)) c.set) s.components) }
     ensures stop { IfErr result (λ s. IfAnswered s (TellsForm (globals_of globals.now) (schema_of schema.now) file.now)) }
 {
-    match simple_of(alloc, globals, schema) {
+    match simple_of(alloc, arena, globals, schema) {
         Ok(simple) => Ok(simple),
         Err(Unread::Form(line)) => {
             let text = texts::text_fault_text(TextFaultKind::NotInProfile);
@@ -164,7 +179,12 @@ fn misfit(alloc: Global, fault: SizeFault) -> Stop
 }
 
 /// Refuses a schema that is not finite.
-fn check_end(alloc: Global, file: &[u8], globals: &Globals, schema: &Flat) -> Result<(), Stop>
+fn check_end<'a>(
+    alloc: Global,
+    file: &[u8],
+    globals: &Globals<'a>,
+    schema: &Flat<'a>,
+) -> Result<(), Stop>
     ensures ok { OnOk result (IsFinite (globals_of globals.now) (schema_of schema.now)) }
     ensures stop { IfErr result (λ s. IfAnswered s (TellsInfinite (globals_of globals.now) (schema_of schema.now) file.now)) }
 {

@@ -7,21 +7,27 @@ ghost use Rattle.zf_schema.specs.Checking.{a_paragraph, a_box, items_in, IsCheck
 ghost use Rattle.zf_schema.specs.Runs.{Notes, Runs, RunsOne};
 
 use crate::paragraph::{define, define_box};
+use bumpalo::Bump;
 use std::alloc::{AllocError, Global};
 use zf_data::Items;
+use zf_data::arena::Boxed;
 use zf_text::tree::{Decl, Name, Paragraph, Spec, Term, ZBox};
 use zf_type::fault::{Refusal, TypeFault};
 use zf_type::globals::Globals;
 
 /// What a text defines, and its faults in order.
 #[derive(Drop)]
-pub struct Checked {
-    pub globals: Globals,
+pub struct Checked<'a> {
+    pub globals: Globals<'a>,
     pub faults: Items<TypeFault>,
 }
 
 /// Checks a text. Each paragraph or box that is not well typed has one fault, and defines nothing.
-pub fn check_spec(alloc: Global, spec: &Spec) -> Result<Checked, AllocError>
+pub fn check_spec<'a>(
+    alloc: Global,
+    arena: &'a Bump,
+    spec: &Spec<'a>,
+) -> Result<Checked<'a>, AllocError>
     ensures { IfOk result (λ c. IsChecked (boxes_of spec.now) (globals_of c.globals) c.faults) }
 {
     let mut checked = Checked {
@@ -30,27 +36,27 @@ pub fn check_spec(alloc: Global, spec: &Spec) -> Result<Checked, AllocError>
     };
     let mut next = 0;
     for each in spec.boxes.as_slice() {
-        check_box(alloc, &mut checked, &mut next, each)?;
+        check_box(arena, &mut checked, &mut next, each)?;
     }
     Ok(checked)
 }
 
 /// Checks a box. As all that follow it keeps the number of the next given set or free type.
-fn check_box(
-    alloc: Global,
-    checked: &mut Checked,
+fn check_box<'a>(
+    arena: &'a Bump,
+    checked: &mut Checked<'a>,
     next: &mut usize,
-    each: &ZBox,
+    each: &ZBox<'a>,
 ) -> Result<(), AllocError>
     requires { next.old ≡ next_number (globals_of checked.old.globals) }
     ensures runs { OnOk result (Runs checked.old (items_in (box_of each.now)) checked.new) }
     ensures numbered { next.new ≡ next_number (globals_of checked.new.globals) }
 {
     match each {
-        ZBox::Zed(paragraphs) => check_paragraphs(alloc, checked, next, paragraphs.as_slice()),
+        ZBox::Zed(paragraphs) => check_paragraphs(arena, checked, next, paragraphs.as_slice()),
         ZBox::SchemaBox(name, decls, predicates) => {
             check_schema_box(
-                alloc,
+                arena,
                 checked,
                 next,
                 name,
@@ -61,49 +67,49 @@ fn check_box(
     }
 }
 
-fn check_paragraphs(
-    alloc: Global,
-    checked: &mut Checked,
+fn check_paragraphs<'a>(
+    arena: &'a Bump,
+    checked: &mut Checked<'a>,
     next: &mut usize,
-    paragraphs: &[Paragraph],
+    paragraphs: &[Paragraph<'a>],
 ) -> Result<(), AllocError>
     requires { next.old ≡ next_number (globals_of checked.old.globals) }
     ensures runs { OnOk result (Runs checked.old (map a_paragraph (map paragraph_of paragraphs.now)) checked.new) }
     ensures numbered { next.new ≡ next_number (globals_of checked.new.globals) }
 {
     for paragraph in paragraphs {
-        check_paragraph(alloc, checked, next, paragraph)?;
+        check_paragraph(arena, checked, next, paragraph)?;
     }
     Ok(())
 }
 
-fn check_paragraph(
-    alloc: Global,
-    checked: &mut Checked,
+fn check_paragraph<'a>(
+    arena: &'a Bump,
+    checked: &mut Checked<'a>,
     next: &mut usize,
-    paragraph: &Paragraph,
+    paragraph: &Paragraph<'a>,
 ) -> Result<(), AllocError>
     requires { next.old ≡ next_number (globals_of checked.old.globals) }
     ensures runs { OnOk result (RunsOne checked.old (a_paragraph (paragraph_of paragraph.now)) checked.new) }
     ensures numbered { next.new ≡ next_number (globals_of checked.new.globals) }
 {
-    let defined = define(alloc, &mut checked.globals, next, paragraph);
+    let defined = define(arena, &mut checked.globals, next, paragraph);
     note(&mut checked.faults, defined)
 }
 
-fn check_schema_box(
-    alloc: Global,
-    checked: &mut Checked,
+fn check_schema_box<'a>(
+    arena: &'a Bump,
+    checked: &mut Checked<'a>,
     next: &mut usize,
-    name: &Name,
-    decls: &[Decl],
-    predicates: &[Term],
+    name: &Name<'a>,
+    decls: &[Decl<'a>],
+    predicates: &[Boxed<'a, Term<'a>>],
 ) -> Result<(), AllocError>
     requires { next.old ≡ next_number (globals_of checked.old.globals) }
     ensures runs { OnOk result (RunsOne checked.old (a_box name.now (map decl_of decls.now) (map tree_of predicates.now)) checked.new) }
     ensures numbered { next.new ≡ next_number (globals_of checked.new.globals) }
 {
-    let defined = define_box(alloc, &mut checked.globals, name, decls, predicates);
+    let defined = define_box(arena, &mut checked.globals, name, decls, predicates);
     note(&mut checked.faults, defined)
 }
 

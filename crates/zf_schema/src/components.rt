@@ -10,13 +10,16 @@ ghost use Rattle.zf_schema.specs.Growth.{AreAt, IfStopped, enriched, place_named
 
 use crate::limits::COMPONENTS_MAX;
 use crate::stop::Stop;
-use std::alloc::{AllocError, Global};
-use zf_data::Items;
-use zf_type::globals::{Component, Domain};
+use bumpalo::Bump;
+use std::alloc::AllocError;
+use std::mem;
+use std::mem::ManuallyDrop;
+use zf_data::arena::{Items, Shared};
+use zf_type::globals::{Component, Domain, Domains};
 use zf_type::scope::component_of;
 
 /// Whether none of the others has another type than the component that has its name.
-pub fn agree(components: &[Component], others: &[Component]) -> bool
+pub fn agree<'a>(components: &[Component<'a>], others: &[Component<'a>]) -> bool
     ensures { IsTrue result ↔ Agree (map comp_of components.now) (map comp_of others.now) }
 {
     for other in others {
@@ -28,7 +31,7 @@ pub fn agree(components: &[Component], others: &[Component]) -> bool
 }
 
 /// Whether the component has the type of the one that has its name, if one has.
-pub fn agrees(components: &[Component], component: &Component) -> bool
+pub fn agrees<'a>(components: &[Component<'a>], component: &Component<'a>) -> bool
     ensures { IsTrue result ↔ Agrees (map comp_of components.now) (comp_of component.now) }
 {
     match component_of(components, component.name.as_slice()) {
@@ -38,31 +41,34 @@ pub fn agrees(components: &[Component], component: &Component) -> bool
 }
 
 /// Adds components, one after another, if there is room; answers where they are.
-pub fn join_all(
-    components: &mut Items<Component>,
-    alloc: Global,
-    further: Items<Component>,
-) -> Result<Items<usize>, Stop>
+pub fn join_all<'a>(
+    components: &mut Items<'a, Component<'a>>,
+    arena: &'a Bump,
+    further: Items<'a, Component<'a>>,
+) -> Result<Items<'a, usize>, Stop>
     requires { length (map comp_of components.old) ≤ 64 }
-    ensures ok { OnOk result (map comp_of components.new ≡ with_comps (map comp_of components.old) (map comp_of further)) }
-    ensures places { IfOk result (λ places. AreAt (map comp_of components.new) places (map comp_of further)) }
-    ensures room { OnOk result (length (with_comps (map comp_of components.old) (map comp_of further)) ≤ 64) }
-    ensures err { IfErr result (λ e. IfStopped e (λ kind. (kind ≡ kinds.TooLarge) × (length (with_comps (map comp_of components.old) (map comp_of further)) ≤ 64 → ⊥))) }
+    ensures ok { OnOk result (map comp_of components.new ≡ with_comps (map comp_of components.old) (map comp_of further.entry)) }
+    ensures places { IfOk result (λ places. AreAt (map comp_of components.new) places (map comp_of further.entry)) }
+    ensures room { OnOk result (length (with_comps (map comp_of components.old) (map comp_of further.entry)) ≤ 64) }
+    ensures err { IfErr result (λ e. IfStopped e (λ kind. (kind ≡ kinds.TooLarge) × (length (with_comps (map comp_of components.old) (map comp_of further.entry)) ≤ 64 → ⊥))) }
 {
-    let mut places = Items::new(alloc);
-    for component in further.items {
+    let mut places = Items::with_room(arena, further.len())?;
+    for component in further.into_vec() {
         places.push(join(components, component)?)?;
     }
     Ok(places)
 }
 
 /// Adds a component, if there is room; one of its name gains its declared sets. Answers where it is.
-pub fn join(components: &mut Items<Component>, component: Component) -> Result<usize, Stop>
+pub fn join<'a>(
+    components: &mut Items<'a, Component<'a>>,
+    component: Component<'a>,
+) -> Result<usize, Stop>
     requires { length (map comp_of components.old) ≤ 64 }
-    ensures ok { OnOk result (map comp_of components.new ≡ with_comp (map comp_of components.old) (comp_of component)) }
-    ensures place { IfOk result (λ place. place_named component.name (with_comp (map comp_of components.old) (comp_of component)) ≡ Some place) }
-    ensures room { OnOk result (length (with_comp (map comp_of components.old) (comp_of component)) ≤ 64) }
-    ensures err { IfErr result (λ e. IfStopped e (λ kind. (kind ≡ kinds.TooLarge) × (length (with_comp (map comp_of components.old) (comp_of component)) ≤ 64 → ⊥))) }
+    ensures ok { OnOk result (map comp_of components.new ≡ with_comp (map comp_of components.old) (comp_of component.entry)) }
+    ensures place { IfOk result (λ place. place_named component.entry.name (with_comp (map comp_of components.old) (comp_of component.entry)) ≡ Some place) }
+    ensures room { OnOk result (length (with_comp (map comp_of components.old) (comp_of component.entry)) ≤ 64) }
+    ensures err { IfErr result (λ e. IfStopped e (λ kind. (kind ≡ kinds.TooLarge) × (length (with_comp (map comp_of components.old) (comp_of component.entry)) ≤ 64 → ⊥))) }
 {
     match place_of(components.as_slice(), component.name.as_slice()) {
         Some(place) => {
@@ -78,8 +84,11 @@ pub fn join(components: &mut Items<Component>, component: Component) -> Result<u
 }
 
 /// Adds a component of a new name, if there is room.
-fn add_new(components: &mut Items<Component>, component: Component) -> Result<(), Stop>
-    ensures ok { OnOk result (components.new ≡ components.old ++ component ∷ []) }
+fn add_new<'a>(
+    components: &mut Items<'a, Component<'a>>,
+    component: Component<'a>,
+) -> Result<(), Stop>
+    ensures ok { OnOk result (components.new ≡ components.old ++ component.entry ∷ []) }
     ensures room { OnOk result (length components.old < 64) }
     ensures err { IfErr result (λ e. IfStopped e (λ kind. (kind ≡ kinds.TooLarge) × (64 ≤ length components.old))) }
 {
@@ -91,54 +100,87 @@ fn add_new(components: &mut Items<Component>, component: Component) -> Result<()
 }
 
 /// The component at the place gains declared sets.
-fn gain(
-    components: &mut Items<Component>,
+fn gain<'a>(
+    components: &mut Items<'a, Component<'a>>,
     place: usize,
-    domains: Items<Domain>,
+    domains: Domains<'a>,
 ) -> Result<(), AllocError>
     requires { place < length components.old }
-    ensures { OnOk result ((c : Component) → slice_index_or components.old place c ≡ c → components.new ≡ slice_set components.old place (enriched c domains)) }
+    ensures { OnOk result ((c : Component) → slice_index_or components.old place c ≡ c → components.new ≡ slice_set components.old place (enriched c domains.entry)) }
 {
-    enrich(&mut components.items[place], domains)
+    let arena = components.arena();
+    let mut all = mem::replace(components, Items::new(arena)).into_vec();
+    let gained = enrich(arena, &mut all[place], domains);
+    *components = Items {
+        items: ManuallyDrop::new(all),
+    };
+    gained
 }
 
 /// The component gains declared sets.
-fn enrich(component: &mut Component, domains: Items<Domain>) -> Result<(), AllocError>
-    ensures { OnOk result (component.new ≡ enriched component.old domains) }
+fn enrich<'a>(
+    arena: &'a Bump,
+    component: &mut Component<'a>,
+    domains: Domains<'a>,
+) -> Result<(), AllocError>
+    ensures { OnOk result (component.new ≡ enriched component.old domains.entry) }
 {
-    append(&mut component.domains, domains)
+    component.domains = both(
+        arena,
+        component.domains.get().as_slice(),
+        domains.get().as_slice(),
+    )?;
+    Ok(())
 }
 
-fn append(domains: &mut Items<Domain>, mut further: Items<Domain>) -> Result<(), AllocError>
-    ensures { OnOk result (domains.new ≡ domains.old ++ further) }
+/// The declared sets of both lists, which are not copied.
+fn both<'a>(
+    arena: &'a Bump,
+    first: &[Domain<'a>],
+    further: &[Domain<'a>],
+) -> Result<Domains<'a>, AllocError>
+    ensures { IfOk result (λ ds. ds ≡ first.now ++ further.now) }
 {
-    domains.items.append(&mut further.items)
+    let mut all = Items::with_room(arena, first.len())?;
+    add_shared(&mut all, first)?;
+    all.make_room(further.len())?;
+    add_shared(&mut all, further)?;
+    Shared::new(arena, all)
+}
+
+fn add_shared<'a>(all: &mut Items<'a, Domain<'a>>, domains: &[Domain<'a>]) -> Result<(), AllocError>
+    ensures { OnOk result (all.new ≡ all.old ++ domains.now) }
+{
+    for domain in domains {
+        all.push(domain.share()?)?;
+    }
+    Ok(())
 }
 
 /// Copies of the components.
-pub fn component_copies(
-    alloc: Global,
-    components: &[Component],
-) -> Result<Items<Component>, AllocError>
+pub fn component_copies<'a>(
+    arena: &'a Bump,
+    components: &[Component<'a>],
+) -> Result<Items<'a, Component<'a>>, AllocError>
     ensures { IfOk result (λ cs. cs ≡ components.now) }
 {
-    let mut made = Items::new(alloc);
+    let mut made = Items::with_room(arena, components.len())?;
     for component in components {
-        made.push(component.copy(alloc)?)?;
+        made.push(component.share()?)?;
     }
     Ok(made)
 }
 
 /// Where the components of the one list are in the other, by their names; one that is not there keeps its place.
-pub fn new_places(
-    alloc: Global,
-    components: &[Component],
-    among: &[Component],
-) -> Result<Items<usize>, AllocError>
+pub fn new_places<'a>(
+    arena: &'a Bump,
+    components: &[Component<'a>],
+    among: &[Component<'a>],
+) -> Result<Items<'a, usize>, AllocError>
     ensures places { IfOk result (λ places. place_in places ≡ new_place (map comp_of components.now) (map comp_of among.now)) }
     ensures each { IfOk result (λ places. length places ≡ length (map comp_of components.now)) }
 {
-    let mut places = Items::new(alloc);
+    let mut places = Items::with_room(arena, components.len())?;
     for (place, component) in components.iter().enumerate() {
         places.push(place_or(among, component.name.as_slice(), place))?;
     }
@@ -146,7 +188,7 @@ pub fn new_places(
 }
 
 /// The place of the component of the name, or this one where there is none.
-fn place_or(components: &[Component], name: &[u8], otherwise: usize) -> usize
+fn place_or(components: &[Component<'_>], name: &[u8], otherwise: usize) -> usize
     ensures { result ≡ spec.place_or (comp_named name.now (map comp_of components.now)) otherwise }
 {
     match component_of(components, name) {
@@ -156,7 +198,7 @@ fn place_or(components: &[Component], name: &[u8], otherwise: usize) -> usize
 }
 
 /// The place of the component of the name.
-fn place_of(components: &[Component], name: &[u8]) -> Option<usize>
+fn place_of(components: &[Component<'_>], name: &[u8]) -> Option<usize>
     ensures { MatchOption result (comp_named name.now (map comp_of components.now) ≡ None) (λ place. (c : Comp) × (comp_named name.now (map comp_of components.now) ≡ Some (place, c))) }
 {
     match component_of(components, name) {

@@ -17,47 +17,49 @@ use crate::growing::Growing;
 use crate::limits::COMPONENTS_MAX;
 use crate::marking::within;
 use crate::stop::Stop;
-use std::alloc::{AllocError, Global};
-use zf_data::{Boxed, Items};
+use bumpalo::Bump;
+use std::alloc::AllocError;
+use zf_data::arena::{Boxed, Items, Shared};
 use zf_text::token::{Connective, Constant, Relation};
 use zf_type::conjunct::Conjunct;
-use zf_type::globals::{Component, Domain, Flat, shared_sets};
+use zf_type::globals::{Component, Domain, Domains, Flat};
 use zf_type::operator::Operator;
 use zf_type::resolved::{Reference, Resolved, ResolvedLink};
 use zf_type::scope::component_of;
 
 /// The components of the left side, and those of the right side that are new.
-fn all_components(
-    alloc: Global,
-    left: &[Component],
-    right: &[Component],
-) -> Result<Items<Component>, Stop>
+fn all_components<'a>(
+    arena: &'a Bump,
+    left: &[Component<'a>],
+    right: &[Component<'a>],
+) -> Result<Items<'a, Component<'a>>, Stop>
     ensures ok { IfOk result (λ cs. map comp_of cs ≡ with_comps (map comp_of left.now) (map comp_of right.now)) }
     ensures err { IfErr result (λ e. IfStopped e (λ k. (k ≡ kinds.TooLarge) × (length (with_comps (map comp_of left.now) (map comp_of right.now)) ≤ 64 → ⊥))) }
 {
     if left.len() > COMPONENTS_MAX {
         return Err(Stop::TooLarge);
     }
-    let mut all = component_copies(alloc, left)?;
-    let further = component_copies(alloc, right)?;
-    let _places = join_all(&mut all, alloc, further)?;
+    let mut all = component_copies(arena, left)?;
+    let further = component_copies(arena, right)?;
+    let _places = join_all(&mut all, arena, further)?;
     Ok(all)
 }
 
 /// The component of a disjunction: its declared sets on either side.
-fn either(
-    alloc: Global,
-    component: &Component,
-    left: &[Component],
-    right: &[Component],
-) -> Result<Component, AllocError>
+fn either<'a>(
+    arena: &'a Bump,
+    component: &Component<'a>,
+    left: &[Component<'a>],
+    right: &[Component<'a>],
+) -> Result<Component<'a>, AllocError>
     ensures { IfOk result (λ c. comp_of c ≡ either_comp (map comp_of left.now) (map comp_of right.now) (comp_of component.now)) }
 {
-    let name = component.name.copy(alloc)?;
+    let name = component.name.share();
     let ztype = component.ztype.share()?;
-    let left = sets_on(alloc, left, component)?;
-    let right = sets_on(alloc, right, component)?;
-    let domains = Items::of(alloc, Domain::Either(left, right))?;
+    let left = sets_on(arena, left, component)?;
+    let right = sets_on(arena, right, component)?;
+    let domains = Items::of(arena, Domain::Either(left, right))?;
+    let domains = Shared::new(arena, domains)?;
     Ok(Component {
         name,
         ztype,
@@ -67,45 +69,52 @@ fn either(
 
 /// The declared sets of a component on a side; all values of its type where the side lacks it.
 #[tactic(auto, using(zf_type::proofs::SetsSeen::seen))]
-fn sets_on(
-    alloc: Global,
-    side: &[Component],
-    component: &Component,
-) -> Result<Items<Domain>, AllocError>
+fn sets_on<'a>(
+    arena: &'a Bump,
+    side: &[Component<'a>],
+    component: &Component<'a>,
+) -> Result<Domains<'a>, AllocError>
     ensures { IfOk result (λ ds. map set_of ds ≡ spec.sets_on (comp_named component.now.name (map comp_of side.now)) (type_of component.now.ztype)) }
 {
     match component_of(side, component.name.as_slice()) {
-        Some((_, found)) => shared_sets(&found.domains, alloc),
-        None => Items::of(alloc, Domain::Carrier(component.ztype.share()?)),
+        Some((_, found)) => Ok(found.domains.share()?),
+        None => {
+            let carrier = Domain::Carrier(component.ztype.share()?);
+            Shared::new(arena, Items::of(arena, carrier)?)
+        }
     }
 }
 
 /// The components of a disjunction, one for each of these.
-fn either_all(
-    alloc: Global,
-    components: &[Component],
-    left: &[Component],
-    right: &[Component],
-) -> Result<Items<Component>, AllocError>
+fn either_all<'a>(
+    arena: &'a Bump,
+    components: &[Component<'a>],
+    left: &[Component<'a>],
+    right: &[Component<'a>],
+) -> Result<Items<'a, Component<'a>>, AllocError>
     ensures { IfOk result (λ cs. map comp_of cs ≡ map (either_comp (map comp_of left.now) (map comp_of right.now)) (map comp_of components.now)) }
 {
-    let mut made = Items::new(alloc);
+    let mut made = Items::with_room(arena, components.len())?;
     for component in components {
-        made.push(either(alloc, component, left, right)?)?;
+        made.push(either(arena, component, left, right)?)?;
     }
     Ok(made)
 }
 
 /// That a component lies in a declared set that a declaration names.
 #[tactic(auto, using(zf_type::proofs::ResolvedSeen::seen))]
-fn membership(alloc: Global, place: usize, set: &Resolved) -> Result<Resolved, AllocError>
+fn membership<'a>(
+    arena: &'a Bump,
+    place: usize,
+    set: &Resolved<'a>,
+) -> Result<Resolved<'a>, AllocError>
     ensures { IfOk result (λ t. resolved_of t ≡ is_member place (resolved_of set.now)) }
 {
     let first = set.line();
-    let left = Boxed::new(alloc, Resolved::Name(first, Reference::Component(place)))?;
-    let right = set.copy(alloc)?;
+    let left = Boxed::new(arena, Resolved::Name(first, Reference::Component(place)))?;
+    let right = set.copy(arena)?;
     let links = Items::of(
-        alloc,
+        arena,
         ResolvedLink {
             relation: Relation::Member,
             right,
@@ -115,49 +124,61 @@ fn membership(alloc: Global, place: usize, set: &Resolved) -> Result<Resolved, A
 }
 
 /// Joined to the left by `\land`.
-fn joined(alloc: Global, line: u32, terms: &[Resolved]) -> Result<Resolved, AllocError>
+fn joined<'a>(
+    arena: &'a Bump,
+    line: u32,
+    terms: &[Resolved<'a>],
+) -> Result<Resolved<'a>, AllocError>
     ensures { IfOk result (λ t. resolved_of t ≡ spec.joined line (map resolved_of terms.now)) }
 {
     match terms.split_first() {
         None => Ok(Resolved::Constant(line, Constant::True)),
-        Some((first, further)) => joined_to(alloc, first.copy(alloc)?, further),
+        Some((first, further)) => joined_to(arena, first.copy(arena)?, further),
     }
 }
 
-fn joined_to(alloc: Global, first: Resolved, further: &[Resolved]) -> Result<Resolved, AllocError>
-    ensures { IfOk result (λ t. resolved_of t ≡ all_joined (resolved_of first) (map resolved_of further.now)) }
+fn joined_to<'a>(
+    arena: &'a Bump,
+    first: Resolved<'a>,
+    further: &[Resolved<'a>],
+) -> Result<Resolved<'a>, AllocError>
+    ensures { IfOk result (λ t. resolved_of t ≡ all_joined (resolved_of first.entry) (map resolved_of further.now)) }
 {
     let mut whole = first;
     for term in further {
-        let right = term.copy(alloc)?;
-        whole = both(alloc, whole, right)?;
+        let right = term.copy(arena)?;
+        whole = both(arena, whole, right)?;
     }
     Ok(whole)
 }
 
 #[tactic(auto, using(zf_type::proofs::ResolvedSeen::seen))]
-fn both(alloc: Global, left: Resolved, right: Resolved) -> Result<Resolved, AllocError>
-    ensures { IfOk result (λ t. resolved_of t ≡ both_hold (resolved_of left) (resolved_of right)) }
+fn both<'a>(
+    arena: &'a Bump,
+    left: Resolved<'a>,
+    right: Resolved<'a>,
+) -> Result<Resolved<'a>, AllocError>
+    ensures { IfOk result (λ t. resolved_of t ≡ both_hold (resolved_of left.entry) (resolved_of right.entry)) }
 {
     let first = left.line();
-    let left = Boxed::new(alloc, left)?;
-    let right = Boxed::new(alloc, right)?;
+    let left = Boxed::new(arena, left)?;
+    let right = Boxed::new(arena, right)?;
     Ok(Resolved::Binary(first, Operator::Connective(Connective::And), left, right))
 }
 
 /// That a component lies in a declared set, where a declaration names it.
 #[tactic(auto, using(zf_type::proofs::SetsSeen::seen))]
-fn push_membership(
-    alloc: Global,
+fn push_membership<'a>(
+    arena: &'a Bump,
     place: usize,
-    domain: &Domain,
-    made: &mut Items<Resolved>,
+    domain: &Domain<'a>,
+    made: &mut Items<'a, Resolved<'a>>,
 ) -> Result<(), AllocError>
     ensures { OnOk result (map resolved_of made.new ≡ map resolved_of made.old ++ spec.membership place (set_of domain.now)) }
 {
     match domain {
         Domain::Plain(set) => {
-            let term = membership(alloc, place, set.get())?;
+            let term = membership(arena, place, set.get())?;
             made.push(term)
         }
         Domain::Carrier(_) => Ok(()),
@@ -165,107 +186,107 @@ fn push_membership(
     }
 }
 
-fn push_memberships(
-    alloc: Global,
+fn push_memberships<'a>(
+    arena: &'a Bump,
     place: usize,
-    domains: &[Domain],
-    made: &mut Items<Resolved>,
+    domains: &[Domain<'a>],
+    made: &mut Items<'a, Resolved<'a>>,
 ) -> Result<(), AllocError>
     ensures { OnOk result (map resolved_of made.new ≡ map resolved_of made.old ++ flat_map (spec.membership place) (map set_of domains.now)) }
 {
     for domain in domains {
-        push_membership(alloc, place, domain, made)?;
+        push_membership(arena, place, domain, made)?;
     }
     Ok(())
 }
 
-fn push_all_memberships(
-    alloc: Global,
-    components: &[Component],
-    made: &mut Items<Resolved>,
+fn push_all_memberships<'a>(
+    arena: &'a Bump,
+    components: &[Component<'a>],
+    made: &mut Items<'a, Resolved<'a>>,
 ) -> Result<(), AllocError>
     ensures { OnOk result (map resolved_of made.new ≡ map resolved_of made.old ++ spec.memberships 0 (map comp_of components.now)) }
 {
     for (place, component) in components.iter().enumerate() {
-        push_memberships(alloc, place, component.domains.as_slice(), made)?;
+        push_memberships(arena, place, component.domains.get().as_slice(), made)?;
     }
     Ok(())
 }
 
-fn push_conjuncts(
-    alloc: Global,
-    conjuncts: &[Conjunct],
-    made: &mut Items<Resolved>,
+fn push_conjuncts<'a>(
+    arena: &'a Bump,
+    conjuncts: &[Conjunct<'a>],
+    made: &mut Items<'a, Resolved<'a>>,
 ) -> Result<(), AllocError>
     ensures { OnOk result (map resolved_of made.new ≡ map resolved_of made.old ++ map conjunct_of conjuncts.now) }
 {
     for conjunct in conjuncts {
-        made.push(conjunct.resolved(alloc)?)?;
+        made.push(conjunct.resolved(arena)?)?;
     }
     Ok(())
 }
 
 /// That the components lie in their declared sets, and the conjuncts.
-fn constraints(alloc: Global, flat: &Flat) -> Result<Items<Resolved>, AllocError>
+fn constraints<'a>(arena: &'a Bump, flat: &Flat<'a>) -> Result<Items<'a, Resolved<'a>>, AllocError>
     ensures { IfOk result (λ ts. map resolved_of ts ≡ spec.constraints (schema_of flat.now)) }
 {
-    let mut made = Items::new(alloc);
-    push_all_memberships(alloc, flat.components.as_slice(), &mut made)?;
-    push_conjuncts(alloc, flat.conjuncts.as_slice(), &mut made)?;
+    let mut made = Items::new(arena);
+    push_all_memberships(arena, flat.components.as_slice(), &mut made)?;
+    push_conjuncts(arena, flat.conjuncts.as_slice(), &mut made)?;
     Ok(made)
 }
 
-fn moved_all(
-    alloc: Global,
-    terms: &[Resolved],
+fn moved_all<'a>(
+    arena: &'a Bump,
+    terms: &[Resolved<'a>],
     places: &[usize],
-) -> Result<Items<Resolved>, AllocError>
+) -> Result<Items<'a, Resolved<'a>>, AllocError>
     ensures { IfOk result (λ ts. map resolved_of ts ≡ map (shape.moved (place_in places.now)) (map resolved_of terms.now)) }
 {
-    let mut made = Items::new(alloc);
+    let mut made = Items::new(arena);
     for term in terms {
-        made.push(term.moved(alloc, places)?)?;
+        made.push(term.moved(arena, places)?)?;
     }
     Ok(made)
 }
 
 /// That one side holds or the other.
 #[tactic(auto, using(zf_type::proofs::ResolvedSeen::seen))]
-fn one_holds(
-    alloc: Global,
+fn one_holds<'a>(
+    arena: &'a Bump,
     line: u32,
-    left: &[Resolved],
-    right: &[Resolved],
-) -> Result<Resolved, AllocError>
+    left: &[Resolved<'a>],
+    right: &[Resolved<'a>],
+) -> Result<Resolved<'a>, AllocError>
     ensures { IfOk result (λ t. resolved_of t ≡ one_holds line (map resolved_of left.now) (map resolved_of right.now)) }
 {
-    let left = Boxed::new(alloc, joined(alloc, line, left)?)?;
-    let right = Boxed::new(alloc, joined(alloc, line, right)?)?;
+    let left = Boxed::new(arena, joined(arena, line, left)?)?;
+    let right = Boxed::new(arena, joined(arena, line, right)?)?;
     Ok(Resolved::Binary(line, Operator::Connective(Connective::Or), left, right))
 }
 
 /// The disjunction, over these components.
-fn disjunction(
-    alloc: Global,
+fn disjunction<'a>(
+    arena: &'a Bump,
     line: u32,
-    left: &Flat,
-    right: &Flat,
-    all: &[Component],
-) -> Result<Flat, AllocError>
+    left: &Flat<'a>,
+    right: &Flat<'a>,
+    all: &[Component<'a>],
+) -> Result<Flat<'a>, AllocError>
     ensures { IfOk result (λ f. schema_of f ≡ disjoined_over (map comp_of all.now) line (schema_of left.now) (schema_of right.now)) }
 {
     let components = either_all(
-        alloc,
+        arena,
         all,
         left.components.as_slice(),
         right.components.as_slice(),
     )?;
-    let places = new_places(alloc, right.components.as_slice(), all)?;
-    let of_left = constraints(alloc, left)?;
-    let of_right = constraints(alloc, right)?;
-    let moved = moved_all(alloc, of_right.as_slice(), places.as_slice())?;
-    let whole = one_holds(alloc, line, of_left.as_slice(), moved.as_slice())?;
-    let conjuncts = Items::of(alloc, Conjunct::of(alloc, whole)?)?;
+    let places = new_places(arena, right.components.as_slice(), all)?;
+    let of_left = constraints(arena, left)?;
+    let of_right = constraints(arena, right)?;
+    let moved = moved_all(arena, of_right.as_slice(), places.as_slice())?;
+    let whole = one_holds(arena, line, of_left.as_slice(), moved.as_slice())?;
+    let conjuncts = Items::of(arena, Conjunct::of(arena, whole)?)?;
     Ok(Flat {
         components,
         conjuncts,
@@ -273,7 +294,12 @@ fn disjunction(
 }
 
 /// The disjunction of two schemas.
-pub fn disjoin(alloc: Global, line: u32, left: &Flat, right: &Flat) -> Result<Growing, Stop>
+pub fn disjoin<'a>(
+    arena: &'a Bump,
+    line: u32,
+    left: &Flat<'a>,
+    right: &Flat<'a>,
+) -> Result<Growing<'a>, Stop>
     ensures agree { IfOk result (λ g. Agree (schema_of left.now).comps (schema_of right.now).comps) }
     ensures ok { IfOk result (λ g. IsNext (disjoined line (schema_of left.now) (schema_of right.now)) (schema_of g.flat)) }
     ensures growing { IfOk result (λ g. IsGrowing g) }
@@ -283,10 +309,10 @@ pub fn disjoin(alloc: Global, line: u32, left: &Flat, right: &Flat) -> Result<Gr
         return Err(Stop::Clash);
     }
     let all = all_components(
-        alloc,
+        arena,
         left.components.as_slice(),
         right.components.as_slice(),
     )?;
-    let flat = disjunction(alloc, line, left, right, all.as_slice())?;
+    let flat = disjunction(arena, line, left, right, all.as_slice())?;
     within(flat)
 }

@@ -15,88 +15,97 @@ use crate::growing::Growing;
 use crate::reference::referred;
 use crate::stop::Stop;
 use crate::text::growing_text;
-use std::alloc::Global;
+use bumpalo::Bump;
 use zf_text::tree::{Decl, Name, SchemaExp};
 use zf_type::fault::Refusal;
 use zf_type::globals::{Flat, Globals};
 
 /// The schema that the expression is.
-pub fn schema_of_expression(
-    exp: &SchemaExp,
-    alloc: Global,
-    globals: &Globals,
-) -> Result<Flat, Refusal>
+pub fn schema_of_expression<'a>(
+    exp: &SchemaExp<'a>,
+    arena: &'a Bump,
+    globals: &Globals<'a>,
+) -> Result<Flat<'a>, Refusal>
     ensures ok { IfOk result (λ f. IsSchema (globals_of globals.now) (tree.schema_of exp.now) (schema_of f)) }
     ensures wrong { IfErr result (λ e. IfFault e (OffendsSchema (globals_of globals.now) (tree.schema_of exp.now))) }
 {
-    Ok(growing_schema(exp, alloc, globals)?.flat)
+    Ok(growing_schema(exp, arena, globals)?.flat)
 }
 
 /// The same schema, with what is left of the limits.
 #[tactic(auto, using(zf_text::proofs::SchemaSeen::seen))]
-fn growing_schema(exp: &SchemaExp, alloc: Global, globals: &Globals) -> Result<Growing, Refusal>
+fn growing_schema<'a>(
+    exp: &SchemaExp<'a>,
+    arena: &'a Bump,
+    globals: &Globals<'a>,
+) -> Result<Growing<'a>, Refusal>
     ensures ok { IfOk result (λ g. IsSchema (globals_of globals.now) (tree.schema_of exp.now) (schema_of g.flat)) }
     ensures growing { IfOk result (λ g. IsGrowing g) }
     ensures wrong { IfErr result (λ e. IfFault e (OffendsSchema (globals_of globals.now) (tree.schema_of exp.now))) }
 {
     match exp {
         SchemaExp::Text(decls, predicates) => growing_text(
-            alloc,
+            arena,
             globals,
             decls.as_slice(),
             predicates.as_slice(),
         ),
-        SchemaExp::Ref(reference) => referred(alloc, globals, reference),
+        SchemaExp::Ref(reference) => referred(arena, globals, reference),
         SchemaExp::Both(left, right) => {
-            let of_left = growing_schema(left.get(), alloc, globals)?;
-            let of_right = growing_schema(right.get(), alloc, globals)?;
-            conjunction(alloc, name_line(right.get()), of_left, of_right)
+            let of_left = growing_schema(left.get(), arena, globals)?;
+            let of_right = growing_schema(right.get(), arena, globals)?;
+            conjunction(arena, name_line(right.get()), of_left, of_right)
         }
         SchemaExp::Or(line, left, right) => {
-            let of_left = growing_schema(left.get(), alloc, globals)?;
-            let of_right = growing_schema(right.get(), alloc, globals)?;
+            let of_left = growing_schema(left.get(), arena, globals)?;
+            let of_right = growing_schema(right.get(), arena, globals)?;
             disjunction(
-                alloc,
+                arena,
                 *line,
                 name_line(right.get()),
                 &of_left.flat,
                 &of_right.flat,
             )
         }
-        SchemaExp::Bracket(inner) => growing_schema(inner.get(), alloc, globals),
+        SchemaExp::Bracket(inner) => growing_schema(inner.get(), arena, globals),
     }
 }
 
 /// The conjunction of two schemas, where the first name of the right one stands at this line.
-fn conjunction(alloc: Global, line: u32, left: Growing, right: Growing) -> Result<Growing, Refusal>
+fn conjunction<'a>(
+    arena: &'a Bump,
+    line: u32,
+    left: Growing<'a>,
+    right: Growing<'a>,
+) -> Result<Growing<'a>, Refusal>
     requires first { IsGrowing left }
     requires second { IsGrowing right }
-    ensures agree { IfOk result (λ g. Agree (schema_of left.flat).comps (schema_of right.flat).comps) }
-    ensures ok { IfOk result (λ g. IsNext (conjoined (schema_of left.flat) (schema_of right.flat)) (schema_of g.flat)) }
+    ensures agree { IfOk result (λ g. Agree (schema_of left.entry.flat).comps (schema_of right.entry.flat).comps) }
+    ensures ok { IfOk result (λ g. IsNext (conjoined (schema_of left.entry.flat) (schema_of right.entry.flat)) (schema_of g.flat)) }
     ensures growing { IfOk result (λ g. IsGrowing g) }
-    ensures wrong { IfErr result (λ e. IfFault e (CantConjoin line (schema_of left.flat) (schema_of right.flat))) }
+    ensures wrong { IfErr result (λ e. IfFault e (CantConjoin line (schema_of left.entry.flat) (schema_of right.entry.flat))) }
 {
     let mut whole = left;
-    match whole.include(alloc, right) {
+    match whole.include(arena, right) {
         Ok(()) => Ok(whole),
         Err(stop) => Err(stop.refusal(line)),
     }
 }
 
 /// The disjunction of two schemas that begins at this line, where the first name of the right one stands at that.
-fn disjunction(
-    alloc: Global,
+fn disjunction<'a>(
+    arena: &'a Bump,
     line: u32,
     name: u32,
-    left: &Flat,
-    right: &Flat,
-) -> Result<Growing, Refusal>
+    left: &Flat<'a>,
+    right: &Flat<'a>,
+) -> Result<Growing<'a>, Refusal>
     ensures agree { IfOk result (λ g. Agree (schema_of left.now).comps (schema_of right.now).comps) }
     ensures ok { IfOk result (λ g. IsNext (disjoined line (schema_of left.now) (schema_of right.now)) (schema_of g.flat)) }
     ensures growing { IfOk result (λ g. IsGrowing g) }
     ensures wrong { IfErr result (λ e. IfFault e (StopsEither (Agree (schema_of left.now).comps (schema_of right.now).comps) (disjoined line (schema_of left.now) (schema_of right.now)) line name)) }
 {
-    match disjoin(alloc, line, left, right) {
+    match disjoin(arena, line, left, right) {
         Ok(growing) => Ok(growing),
         Err(Stop::Clash) => Err(Stop::Clash.refusal(name)),
         Err(stop) => Err(stop.refusal(line)),
@@ -105,7 +114,7 @@ fn disjunction(
 
 /// The line of the first name.
 #[tactic(auto, using(zf_text::proofs::SchemaSeen::seen))]
-fn name_line(exp: &SchemaExp) -> u32
+fn name_line(exp: &SchemaExp<'_>) -> u32
     ensures { result ≡ spec.name_line (tree.schema_of exp.now) }
 {
     match exp {
@@ -117,17 +126,19 @@ fn name_line(exp: &SchemaExp) -> u32
     }
 }
 
-fn decls_line(decls: &[Decl]) -> u32
+fn decls_line(decls: &[Decl<'_>]) -> u32
     ensures { result ≡ spec.decls_line (map decl_of decls.now) }
 {
     match decls {
         [] => 0,
-        [Decl::Vars(names, _), ..] => names_line(names.as_slice()),
-        [Decl::Include(reference), ..] => reference.name.line,
+        [first, ..] => match first {
+            Decl::Vars(names, _) => names_line(names.as_slice()),
+            Decl::Include(reference) => reference.name.line,
+        },
     }
 }
 
-fn names_line(names: &[Name]) -> u32
+fn names_line(names: &[Name<'_>]) -> u32
     ensures { result ≡ spec.names_line names.now }
 {
     match names {

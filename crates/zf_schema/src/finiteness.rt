@@ -8,7 +8,7 @@ ghost use Rattle.zf_schema.specs.Finite as spec;
 ghost use Rattle.zf_schema.specs.Finite.{IsFinite};
 
 use thiserror::Error;
-use zf_data::Items;
+use zf_data::arena::Items;
 use zf_type::conjunct::Conjunct;
 use zf_type::globals::{Component, Domain, Flat, Globals};
 use zf_type::infinite::{direct, offending_after, offending_within_after};
@@ -21,7 +21,7 @@ pub struct NotFinite {
 }
 
 /// Whether the schema is finite, after the globals that it is made of.
-pub fn finite(schema: &Flat, globals: &Globals) -> Result<(), NotFinite>
+pub fn finite<'a>(schema: &Flat<'a>, globals: &Globals<'a>) -> Result<(), NotFinite>
     ensures ok { OnOk result (IsFinite (globals_of globals.now) (schema_of schema.now)) }
     ensures err { IfErr result (λ e. first (spec.infinite_lines (globals_of globals.now) (schema_of schema.now)) ≡ Some e.line) }
 {
@@ -33,7 +33,7 @@ pub fn finite(schema: &Flat, globals: &Globals) -> Result<(), NotFinite>
 }
 
 /// The line of the first name in the components that offends, or of the first that nothing bounds.
-fn components_line(components: &[Component], globals: &Globals) -> Option<u32>
+fn components_line<'a>(components: &[Component<'a>], globals: &Globals<'a>) -> Option<u32>
     ensures { result ≡ first (flat_map (spec.comp_lines (globals_of globals.now)) (map comp_of components.now)) }
 {
     let mut line = None;
@@ -45,14 +45,22 @@ fn components_line(components: &[Component], globals: &Globals) -> Option<u32>
 
 /// As for all that follow: the line that was found before, or else that of the first in this.
 #[tactic(auto, using(crate::proofs::FirstOffences::both_after))]
-fn component_after(component: &Component, found: Option<u32>, globals: &Globals) -> Option<u32>
+fn component_after<'a>(
+    component: &Component<'a>,
+    found: Option<u32>,
+    globals: &Globals<'a>,
+) -> Option<u32>
     ensures { result ≡ or_else found (first (spec.comp_lines (globals_of globals.now) (comp_of component.now))) }
 {
-    let line = unbounded_after(&component.domains, found, globals);
-    all_names_after(&component.domains, line, globals)
+    let line = unbounded_after(component.domains.get(), found, globals);
+    all_names_after(component.domains.get(), line, globals)
 }
 
-fn conjuncts_after(conjuncts: &[Conjunct], found: Option<u32>, globals: &Globals) -> Option<u32>
+fn conjuncts_after<'a>(
+    conjuncts: &[Conjunct<'a>],
+    found: Option<u32>,
+    globals: &Globals<'a>,
+) -> Option<u32>
     ensures { result ≡ or_else found (first (flat_map (extents.offending (globals_of globals.now)) (map conjunct_of conjuncts.now))) }
 {
     let mut line = found;
@@ -63,14 +71,22 @@ fn conjuncts_after(conjuncts: &[Conjunct], found: Option<u32>, globals: &Globals
 }
 
 #[tactic(auto, using(zf_type::proofs::Renumbered::same_offences))]
-fn conjunct_after(conjunct: &Conjunct, found: Option<u32>, globals: &Globals) -> Option<u32>
+fn conjunct_after<'a>(
+    conjunct: &Conjunct<'a>,
+    found: Option<u32>,
+    globals: &Globals<'a>,
+) -> Option<u32>
     ensures { result ≡ or_else found (first (extents.offending (globals_of globals.now) (conjunct_of conjunct.now))) }
 {
     offending_after(conjunct.term.get(), found, globals)
 }
 
 /// The line of the first set of a declaration, if nothing bounds the component.
-fn unbounded_after(domains: &Items<Domain>, found: Option<u32>, globals: &Globals) -> Option<u32>
+fn unbounded_after<'a>(
+    domains: &Items<'a, Domain<'a>>,
+    found: Option<u32>,
+    globals: &Globals<'a>,
+) -> Option<u32>
     ensures { result ≡ or_else found (first (spec.unbounded (globals_of globals.now) (sets_of (map set_of domains.now)))) }
 {
     if one_bounds(domains, globals) {
@@ -82,18 +98,19 @@ fn unbounded_after(domains: &Items<Domain>, found: Option<u32>, globals: &Global
 /// Whether the declared set bounds a component.
 #[cycle(bounds)]
 #[tactic(auto, using(zf_type::proofs::SetsSeen::seen))]
-fn bounds(domain: &Domain, globals: &Globals) -> bool
+fn bounds<'a>(domain: &Domain<'a>, globals: &Globals<'a>) -> bool
     ensures { result ≡ spec.bounds (globals_of globals.now) (set_of domain.now) }
 {
     match domain {
         Domain::Plain(set) => direct(set.get(), globals).is_none(),
         Domain::Carrier(ztype) => !ztype.has_numbers(),
-        Domain::Either(left, right) => one_bounds(left, globals) && one_bounds(right, globals),
+        Domain::Either(left, right) => one_bounds(left.get(), globals)
+            && one_bounds(right.get(), globals),
     }
 }
 
 #[cycle(bounds)]
-fn one_bounds(domains: &Items<Domain>, globals: &Globals) -> bool
+fn one_bounds<'a>(domains: &Items<'a, Domain<'a>>, globals: &Globals<'a>) -> bool
     ensures { result ≡ spec.one_bounds (globals_of globals.now) (sets_of (map set_of domains.now)) }
 {
     for domain in domains.as_slice() {
@@ -105,7 +122,7 @@ fn one_bounds(domains: &Items<Domain>, globals: &Globals) -> bool
 }
 
 /// The line of the first set of a declaration.
-fn first_plain(domains: &Items<Domain>) -> u32
+fn first_plain<'a>(domains: &Items<'a, Domain<'a>>) -> u32
     ensures { result ≡ spec.first_plain (sets_of (map set_of domains.now)) }
 {
     match all_plain_after(domains, None) {
@@ -116,13 +133,16 @@ fn first_plain(domains: &Items<Domain>) -> u32
 
 #[cycle(plain)]
 #[tactic(auto, using(zf_type::proofs::SetsSeen::seen, crate::proofs::FirstOffences::both_after))]
-fn plain_after(domain: &Domain, found: Option<u32>) -> Option<u32>
+fn plain_after<'a>(domain: &Domain<'a>, found: Option<u32>) -> Option<u32>
     ensures { result ≡ or_else found (first (spec.plain_lines (set_of domain.now))) }
 {
     match domain {
         Domain::Plain(set) => or_line(found, set.get().line()),
         Domain::Carrier(_) => found,
-        Domain::Either(left, right) => all_plain_after(right, all_plain_after(left, found)),
+        Domain::Either(left, right) => all_plain_after(
+            right.get(),
+            all_plain_after(left.get(), found),
+        ),
     }
 }
 
@@ -136,7 +156,7 @@ fn or_line(found: Option<u32>, line: u32) -> Option<u32>
 }
 
 #[cycle(plain)]
-fn all_plain_after(domains: &Items<Domain>, found: Option<u32>) -> Option<u32>
+fn all_plain_after<'a>(domains: &Items<'a, Domain<'a>>, found: Option<u32>) -> Option<u32>
     ensures { result ≡ or_else found (first (spec.all_plain_lines (sets_of (map set_of domains.now)))) }
 {
     let mut line = found;
@@ -149,20 +169,25 @@ fn all_plain_after(domains: &Items<Domain>, found: Option<u32>) -> Option<u32>
 /// The line of the first name in the declared set that offends.
 #[cycle(names)]
 #[tactic(auto, using(zf_type::proofs::SetsSeen::seen, crate::proofs::FirstOffences::both_after))]
-fn names_after(domain: &Domain, found: Option<u32>, globals: &Globals) -> Option<u32>
+fn names_after<'a>(domain: &Domain<'a>, found: Option<u32>, globals: &Globals<'a>) -> Option<u32>
     ensures { result ≡ or_else found (first (spec.set_lines (globals_of globals.now) (set_of domain.now))) }
 {
     match domain {
         Domain::Plain(set) => offending_within_after(set.get(), found, globals),
         Domain::Carrier(_) => found,
         Domain::Either(left, right) => {
-            all_names_after(right, all_names_after(left, found, globals), globals)
+            let line = all_names_after(left.get(), found, globals);
+            all_names_after(right.get(), line, globals)
         }
     }
 }
 
 #[cycle(names)]
-fn all_names_after(domains: &Items<Domain>, found: Option<u32>, globals: &Globals) -> Option<u32>
+fn all_names_after<'a>(
+    domains: &Items<'a, Domain<'a>>,
+    found: Option<u32>,
+    globals: &Globals<'a>,
+) -> Option<u32>
     ensures { result ≡ or_else found (first (spec.all_set_lines (globals_of globals.now) (sets_of (map set_of domains.now)))) }
 {
     let mut line = found;

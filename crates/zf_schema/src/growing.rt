@@ -15,31 +15,32 @@ use crate::room::{
     after_all_nodes, after_all_sets, after_conjuncts, after_nodes, after_sets, are_low,
 };
 use crate::stop::Stop;
-use std::alloc::{AllocError, Global};
-use zf_data::{Boxed, Items, Shared};
+use bumpalo::Bump;
+use std::alloc::AllocError;
+use zf_data::arena::{Boxed, Items, Shared};
 use zf_text::token::Relation;
 use zf_type::conjunct::Conjunct;
 use zf_type::globals::{Component, Flat};
 use zf_type::resolved::{Reference, Resolved, ResolvedLink};
 
 /// A schema, with what is left of the limits, so that each step costs only what it adds.
-#[derive(Debug, Drop)]
-pub struct Growing {
-    pub flat: Flat,
+#[derive(Drop)]
+pub struct Growing<'a> {
+    pub flat: Flat<'a>,
     pub sets_left: usize,
     pub nodes_left: usize,
 }
 
-impl Growing {
+impl<'a> Growing<'a> {
     /// The schema of no declarations.
-    pub fn new(alloc: Global) -> Growing
+    pub fn new(arena: &'a Bump) -> Growing<'a>
         ensures schema { schema_of result.flat ≡ nothing }
         ensures growing { IsGrowing result }
     {
         Growing {
             flat: Flat {
-                components: Items::new(alloc),
-                conjuncts: Items::new(alloc),
+                components: Items::new(arena),
+                conjuncts: Items::new(arena),
             },
             sets_left: SETS_MAX,
             nodes_left: NODES_MAX,
@@ -47,8 +48,8 @@ impl Growing {
     }
 
     /// A schema that was made elsewhere, if it is within the limits.
-    pub fn of(flat: Flat) -> Option<Growing>
-        ensures { MatchOption result (IsWithin (schema_of flat) → ⊥) (λ g. (schema_of g.flat ≡ schema_of flat) × IsGrowing g) }
+    pub fn of(flat: Flat<'a>) -> Option<Growing<'a>>
+        ensures { MatchOption result (IsWithin (schema_of flat.entry) → ⊥) (λ g. (schema_of g.flat ≡ schema_of flat.entry) × IsGrowing g) }
     {
         if flat.components.len() > COMPONENTS_MAX {
             return None;
@@ -70,11 +71,11 @@ impl Growing {
     }
 
     /// One more component.
-    pub fn add(&mut self, component: Component) -> Result<(), Stop>
+    pub fn add(&mut self, component: Component<'a>) -> Result<(), Stop>
         requires { IsGrowing self.old }
-        ensures ok { OnOk result (Adds (schema_of self.old.flat) (comp_of component) (schema_of self.new.flat)) }
+        ensures ok { OnOk result (Adds (schema_of self.old.flat) (comp_of component.entry) (schema_of self.new.flat)) }
         ensures growing { OnOk result (IsGrowing self.new) }
-        ensures err { IfErr result (λ e. IfStopped e (Stops (Agrees (schema_of self.old.flat).comps (comp_of component)) (grown (schema_of self.old.flat) (comp_of component)))) }
+        ensures err { IfErr result (λ e. IfStopped e (Stops (Agrees (schema_of self.old.flat).comps (comp_of component.entry)) (grown (schema_of self.old.flat) (comp_of component.entry)))) }
     {
         if !agrees(self.flat.components.as_slice(), &component) {
             return Err(Stop::Clash);
@@ -83,16 +84,17 @@ impl Growing {
     }
 
     /// One more component, whatever type one of its name has.
-    pub fn grow(&mut self, component: Component) -> Result<(), Stop>
+    pub fn grow(&mut self, component: Component<'a>) -> Result<(), Stop>
         requires { IsGrowing self.old }
-        ensures ok { OnOk result (IsNext (grown (schema_of self.old.flat) (comp_of component)) (schema_of self.new.flat)) }
+        ensures ok { OnOk result (IsNext (grown (schema_of self.old.flat) (comp_of component.entry)) (schema_of self.new.flat)) }
         ensures growing { OnOk result (IsGrowing self.new) }
-        ensures err { IfErr result (λ e. IfStopped e (IsTooLarge (grown (schema_of self.old.flat) (comp_of component)))) }
+        ensures err { IfErr result (λ e. IfStopped e (IsTooLarge (grown (schema_of self.old.flat) (comp_of component.entry)))) }
     {
-        let Some(sets_left) = after_sets(component.domains.as_slice(), self.sets_left) else {
+        let Some(sets_left) = after_sets(component.domains.get().as_slice(), self.sets_left) else {
             return Err(Stop::TooLarge);
         };
-        let Some(nodes_left) = after_nodes(component.domains.as_slice(), self.nodes_left) else {
+        let Some(nodes_left) = after_nodes(component.domains.get().as_slice(), self.nodes_left)
+        else {
             return Err(Stop::TooLarge);
         };
         join(&mut self.flat.components, component)?;
@@ -102,11 +104,11 @@ impl Growing {
     }
 
     /// One more conjunct.
-    pub fn take(&mut self, conjunct: Conjunct) -> Result<(), Stop>
+    pub fn take(&mut self, conjunct: Conjunct<'a>) -> Result<(), Stop>
         requires { IsGrowing self.old }
-        ensures ok { OnOk result (IsNext (constrained (schema_of self.old.flat) (conjunct_of conjunct ∷ [])) (schema_of self.new.flat)) }
+        ensures ok { OnOk result (IsNext (constrained (schema_of self.old.flat) (conjunct_of conjunct.entry ∷ [])) (schema_of self.new.flat)) }
         ensures growing { OnOk result (IsGrowing self.new) }
-        ensures err { IfErr result (λ e. IfStopped e (IsTooLarge (constrained (schema_of self.old.flat) (conjunct_of conjunct ∷ [])))) }
+        ensures err { IfErr result (λ e. IfStopped e (IsTooLarge (constrained (schema_of self.old.flat) (conjunct_of conjunct.entry ∷ [])))) }
     {
         let Some(nodes_left) = conjunct.room_after(self.nodes_left) else {
             return Err(Stop::TooLarge);
@@ -123,12 +125,12 @@ impl Growing {
     }
 
     /// Another schema that is taken in: its components, and then its conjuncts.
-    pub fn include(&mut self, alloc: Global, other: Growing) -> Result<(), Stop>
+    pub fn include(&mut self, arena: &'a Bump, other: Growing<'a>) -> Result<(), Stop>
         requires before { IsGrowing self.old }
         requires further { IsGrowing other }
-        ensures ok { OnOk result (Includes (schema_of self.old.flat) (schema_of other.flat) (schema_of self.new.flat)) }
+        ensures ok { OnOk result (Includes (schema_of self.old.flat) (schema_of other.entry.flat) (schema_of self.new.flat)) }
         ensures growing { OnOk result (IsGrowing self.new) }
-        ensures err { IfErr result (λ e. IfStopped e (Stops (Agree (schema_of self.old.flat).comps (schema_of other.flat).comps) (conjoined (schema_of self.old.flat) (schema_of other.flat)))) }
+        ensures err { IfErr result (λ e. IfStopped e (Stops (Agree (schema_of self.old.flat).comps (schema_of other.entry.flat).comps) (conjoined (schema_of self.old.flat) (schema_of other.entry.flat)))) }
     {
         if !agree(
             self.flat.components.as_slice(),
@@ -136,19 +138,23 @@ impl Growing {
         ) {
             return Err(Stop::Clash);
         }
-        self.merge(alloc, other)?;
+        self.merge(arena, other)?;
         Ok(())
     }
 
     /// Another schema that is taken in, whatever types components of one name have; answers where its components are.
-    pub fn merge(&mut self, alloc: Global, other: Growing) -> Result<Shared<Items<usize>>, Stop>
+    pub fn merge(
+        &mut self,
+        arena: &'a Bump,
+        other: Growing<'a>,
+    ) -> Result<Shared<'a, Items<'a, usize>>, Stop>
         requires before { IsGrowing self.old }
         requires further { IsGrowing other }
-        ensures ok { OnOk result (IsNext (conjoined (schema_of self.old.flat) (schema_of other.flat)) (schema_of self.new.flat)) }
+        ensures ok { OnOk result (IsNext (conjoined (schema_of self.old.flat) (schema_of other.entry.flat)) (schema_of self.new.flat)) }
         ensures growing { OnOk result (IsGrowing self.new) }
-        ensures places { IfOk result (λ places. place_in places ≡ new_place (schema_of other.flat).comps (schema_of self.new.flat).comps) }
-        ensures each { IfOk result (λ places. length places ≡ length (schema_of other.flat).comps) }
-        ensures err { IfErr result (λ e. IfStopped e (IsTooLarge (conjoined (schema_of self.old.flat) (schema_of other.flat)))) }
+        ensures places { IfOk result (λ places. place_in places ≡ new_place (schema_of other.entry.flat).comps (schema_of self.new.flat).comps) }
+        ensures each { IfOk result (λ places. length places ≡ length (schema_of other.entry.flat).comps) }
+        ensures err { IfErr result (λ e. IfStopped e (IsTooLarge (conjoined (schema_of self.old.flat) (schema_of other.entry.flat)))) }
     {
         let Some(left) = self.left_beside(&other) else {
             return Err(Stop::TooLarge);
@@ -157,16 +163,16 @@ impl Growing {
             components,
             conjuncts,
         } = other.flat;
-        let places = join_all(&mut self.flat.components, alloc, components)?;
-        let places = Shared::new(alloc, places)?;
-        take_moved(&mut self.flat.conjuncts, alloc, conjuncts, &places)?;
+        let places = join_all(&mut self.flat.components, arena, components)?;
+        let places = Shared::new(arena, places)?;
+        take_moved(&mut self.flat.conjuncts, arena, conjuncts, &places)?;
         self.sets_left = left.0;
         self.nodes_left = left.1;
         Ok(places)
     }
 
     /// How many declared sets and nodes are left beside another schema, where there is room for it and its conjuncts.
-    fn left_beside(&self, other: &Growing) -> Option<(usize, usize)>
+    fn left_beside(&self, other: &Growing<'a>) -> Option<(usize, usize)>
         requires before { IsGrowing self.now }
         requires further { IsGrowing other.now }
         ensures { MatchOption result (IsWithin (conjoined (schema_of self.now.flat) (schema_of other.now.flat)) → ⊥) (HasLeftBeside (schema_of self.now.flat) (schema_of other.now.flat)) }
@@ -182,7 +188,7 @@ impl Growing {
     /// That each component is equal to the one at the place in the list, one after another.
     pub fn take_equalities(
         &mut self,
-        alloc: Global,
+        arena: &'a Bump,
         line: u32,
         places: &[usize],
     ) -> Result<(), Stop>
@@ -191,8 +197,9 @@ impl Growing {
         ensures growing { OnOk result (IsGrowing self.new) }
         ensures err { IfErr result (λ e. IfStopped e (IsTooLarge (constrained (schema_of self.old.flat) (equalities line 0 places.now)))) }
     {
-        for (place, other) in places.iter().enumerate() {
-            let equality = equality(alloc, line, place, *other)?;
+        for place in 0..places.len() {
+            let other = places[place];
+            let equality = equality(arena, line, place, other)?;
             self.take(equality)?;
         }
         Ok(())
@@ -200,40 +207,44 @@ impl Growing {
 }
 
 /// Further conjuncts, whose components are at these places.
-fn take_moved(
-    conjuncts: &mut Items<Conjunct>,
-    alloc: Global,
-    further: Items<Conjunct>,
-    places: &Shared<Items<usize>>,
+fn take_moved<'a>(
+    conjuncts: &mut Items<'a, Conjunct<'a>>,
+    arena: &'a Bump,
+    further: Items<'a, Conjunct<'a>>,
+    places: &Shared<'a, Items<'a, usize>>,
 ) -> Result<(), AllocError>
-    ensures { OnOk result (map conjunct_of conjuncts.new ≡ map conjunct_of conjuncts.old ++ map (moved (place_in places.now)) (map conjunct_of further)) }
+    ensures { OnOk result (map conjunct_of conjuncts.new ≡ map conjunct_of conjuncts.old ++ map (moved (place_in places.now)) (map conjunct_of further.entry)) }
 {
     if are_own(places.get().as_slice()) {
         return take_all(conjuncts, further);
     }
     let numbering = Some(places.share()?);
-    take_numbered(conjuncts, alloc, further, &numbering)
+    take_numbered(conjuncts, arena, further, &numbering)
 }
 
 /// Further conjuncts, with their components numbered anew.
-fn take_numbered(
-    conjuncts: &mut Items<Conjunct>,
-    alloc: Global,
-    further: Items<Conjunct>,
-    places: &Option<Shared<Items<usize>>>,
+fn take_numbered<'a>(
+    conjuncts: &mut Items<'a, Conjunct<'a>>,
+    arena: &'a Bump,
+    further: Items<'a, Conjunct<'a>>,
+    places: &Option<Shared<'a, Items<'a, usize>>>,
 ) -> Result<(), AllocError>
-    ensures { OnOk result (map conjunct_of conjuncts.new ≡ map conjunct_of conjuncts.old ++ map (moved (numbering places.now)) (map conjunct_of further)) }
+    ensures { OnOk result (map conjunct_of conjuncts.new ≡ map conjunct_of conjuncts.old ++ map (moved (numbering places.now)) (map conjunct_of further.entry)) }
 {
-    for conjunct in further.items {
-        conjuncts.push(conjunct.moved(alloc, places)?)?;
+    conjuncts.make_room(further.len())?;
+    for conjunct in further.into_vec() {
+        conjuncts.push(conjunct.moved(arena, places)?)?;
     }
     Ok(())
 }
 
-fn take_all(conjuncts: &mut Items<Conjunct>, mut further: Items<Conjunct>) -> Result<(), AllocError>
-    ensures { OnOk result (conjuncts.new ≡ conjuncts.old ++ further) }
+fn take_all<'a>(
+    conjuncts: &mut Items<'a, Conjunct<'a>>,
+    mut further: Items<'a, Conjunct<'a>>,
+) -> Result<(), AllocError>
+    ensures { OnOk result (conjuncts.new ≡ conjuncts.old ++ further.entry) }
 {
-    conjuncts.items.append(&mut further.items)
+    conjuncts.append(further)
 }
 
 /// Whether each place is its own number.
@@ -250,17 +261,22 @@ fn are_own(places: &[usize]) -> bool
 
 /// That two components are equal.
 #[tactic(auto, using(zf_type::proofs::ResolvedSeen::seen))]
-fn equality(alloc: Global, line: u32, place: usize, other: usize) -> Result<Conjunct, AllocError>
+fn equality<'a>(
+    arena: &'a Bump,
+    line: u32,
+    place: usize,
+    other: usize,
+) -> Result<Conjunct<'a>, AllocError>
     ensures { IfOk result (λ c. conjunct_of c ≡ equality line place other) }
 {
-    let left = Boxed::new(alloc, Resolved::Name(line, Reference::Component(place)))?;
+    let left = Boxed::new(arena, Resolved::Name(line, Reference::Component(place)))?;
     let right = Resolved::Name(line, Reference::Component(other));
     let links = Items::of(
-        alloc,
+        arena,
         ResolvedLink {
             relation: Relation::Equal,
             right,
         },
     )?;
-    Conjunct::of(alloc, Resolved::Chain(line, left, links))
+    Conjunct::of(arena, Resolved::Chain(line, left, links))
 }

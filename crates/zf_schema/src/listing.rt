@@ -7,6 +7,7 @@ ghost use Rattle.zf_schema.specs.Listing as spec;
 
 use std::alloc::{AllocError, Global};
 use zf_data::Text;
+use zf_data::arena::Lent;
 use zf_type::globals::{Component, Entry, Flat, Globals};
 use zf_type::type_text::append_type;
 use zf_type::ztype::ZType;
@@ -46,7 +47,7 @@ fn append_given(text: &mut Vec<u8>, name: &[u8]) -> Result<(), AllocError>
 }
 
 /// `Free T ::= a | b`
-fn append_free(text: &mut Vec<u8>, name: &[u8], constructors: &[Text]) -> Result<(), AllocError>
+fn append_free(text: &mut Vec<u8>, name: &[u8], constructors: &[Lent<'_>]) -> Result<(), AllocError>
     ensures { OnOk result (text.new.items ≡ text.old.items ++ (codes "Free " ++ name.now ++ codes " ::= " ++ spec.choices_text constructors.now ++ codes "\n")) }
 {
     text.extend_from_slice(b"Free ")?;
@@ -57,7 +58,7 @@ fn append_free(text: &mut Vec<u8>, name: &[u8], constructors: &[Text]) -> Result
 }
 
 /// The names with ` | ` between each two.
-fn append_choices(text: &mut Vec<u8>, names: &[Text]) -> Result<(), AllocError>
+fn append_choices(text: &mut Vec<u8>, names: &[Lent<'_>]) -> Result<(), AllocError>
     ensures { OnOk result (text.new.items ≡ text.old.items ++ spec.choices_text names.now) }
 {
     for i in 0..names.len() {

@@ -11,40 +11,49 @@ ghost use Rattle.zf_schema.specs.SchemaOffences.{Stops};
 use crate::components::agree;
 use crate::growing::Growing;
 use crate::stop::Stop;
-use std::alloc::{AllocError, Global};
-use zf_data::{Items, Shared};
+use bumpalo::Bump;
+use std::alloc::AllocError;
+use zf_data::arena::{Items, Lent, Shared};
 use zf_text::tree::RefMark;
 use zf_type::conjunct::Conjunct;
 use zf_type::globals::{Component, Flat};
 
 /// The schema as it is marked: itself, or it and its state after an operation, and then that no component changes.
-pub fn marked(alloc: Global, mark: RefMark, line: u32, flat: &Flat) -> Result<Growing, Stop>
+pub fn marked<'a>(
+    arena: &'a Bump,
+    mark: RefMark,
+    line: u32,
+    flat: &Flat<'a>,
+) -> Result<Growing<'a>, Stop>
     ensures agree { IfOk result (λ g. MarkAgrees mark (schema_of flat.now)) }
     ensures ok { IfOk result (λ g. IsNext (spec.marked mark line (schema_of flat.now)) (schema_of g.flat)) }
     ensures growing { IfOk result (λ g. IsGrowing g) }
     ensures err { IfErr result (λ e. IfStopped e (Stops (MarkAgrees mark (schema_of flat.now)) (spec.marked mark line (schema_of flat.now)))) }
 {
     match mark {
-        RefMark::Plain => within(copy(alloc, flat)?),
-        RefMark::Delta => Ok(change(alloc, flat)?.0),
-        RefMark::Xi => no_change(alloc, line, flat),
+        RefMark::Plain => within(copy(arena, flat)?),
+        RefMark::Delta => Ok(change(arena, flat)?.0),
+        RefMark::Xi => no_change(arena, line, flat),
     }
 }
 
 /// A schema and its state after an operation, where no component changes.
-fn no_change(alloc: Global, line: u32, flat: &Flat) -> Result<Growing, Stop>
+fn no_change<'a>(arena: &'a Bump, line: u32, flat: &Flat<'a>) -> Result<Growing<'a>, Stop>
     ensures agree { IfOk result (λ g. Agree (schema_of flat.now).comps (decorated prime (schema_of flat.now)).comps) }
     ensures ok { IfOk result (λ g. IsNext (xi line (schema_of flat.now)) (schema_of g.flat)) }
     ensures growing { IfOk result (λ g. IsGrowing g) }
     ensures err { IfErr result (λ e. IfStopped e (Stops (Agree (schema_of flat.now).comps (decorated prime (schema_of flat.now)).comps) (xi line (schema_of flat.now)))) }
 {
-    let (mut growing, places) = change(alloc, flat)?;
-    growing.take_equalities(alloc, line, places.get().as_slice())?;
+    let (mut growing, places) = change(arena, flat)?;
+    growing.take_equalities(arena, line, places.get().as_slice())?;
     Ok(growing)
 }
 
 /// A schema and its state after an operation, and where the components of that state are.
-fn change(alloc: Global, flat: &Flat) -> Result<(Growing, Shared<Items<usize>>), Stop>
+fn change<'a>(
+    arena: &'a Bump,
+    flat: &Flat<'a>,
+) -> Result<(Growing<'a>, Shared<'a, Items<'a, usize>>), Stop>
     ensures agree { IfOk result (λ p. Agree (schema_of flat.now).comps (decorated prime (schema_of flat.now)).comps) }
     ensures ok { IfOk result (λ p. IsNext (delta (schema_of flat.now)) (schema_of p.0.flat)) }
     ensures growing { IfOk result (λ p. IsGrowing p.0) }
@@ -52,22 +61,22 @@ fn change(alloc: Global, flat: &Flat) -> Result<(Growing, Shared<Items<usize>>),
     ensures each { IfOk result (λ p. length p.1 ≡ length (schema_of flat.now).comps) }
     ensures err { IfErr result (λ e. IfStopped e (Stops (Agree (schema_of flat.now).comps (decorated prime (schema_of flat.now)).comps) (delta (schema_of flat.now)))) }
 {
-    let after = decorate(alloc, b"'", flat)?;
+    let after = decorate(arena, b"'", flat)?;
     if !agree(flat.components.as_slice(), after.components.as_slice()) {
         return Err(Stop::Clash);
     }
-    let before = copy(alloc, flat)?;
+    let before = copy(arena, flat)?;
     let mut growing = within(before)?;
     let after = alike(&growing, after);
-    let places = growing.merge(alloc, after)?;
+    let places = growing.merge(arena, after)?;
     Ok((growing, places))
 }
 
 /// The schema, if it is within the limits.
-pub fn within(flat: Flat) -> Result<Growing, Stop>
-    ensures ok { IfOk result (λ g. IsNext (schema_of flat) (schema_of g.flat)) }
+pub fn within<'a>(flat: Flat<'a>) -> Result<Growing<'a>, Stop>
+    ensures ok { IfOk result (λ g. IsNext (schema_of flat.entry) (schema_of g.flat)) }
     ensures growing { IfOk result (λ g. IsGrowing g) }
-    ensures err { IfErr result (λ e. IfStopped e (IsTooLarge (schema_of flat))) }
+    ensures err { IfErr result (λ e. IfStopped e (IsTooLarge (schema_of flat.entry))) }
 {
     match Growing::of(flat) {
         Some(growing) => Ok(growing),
@@ -76,17 +85,17 @@ pub fn within(flat: Flat) -> Result<Growing, Stop>
 }
 
 /// The same schema.
-fn copy(alloc: Global, flat: &Flat) -> Result<Flat, AllocError>
+fn copy<'a>(arena: &'a Bump, flat: &Flat<'a>) -> Result<Flat<'a>, AllocError>
     ensures { IfOk result (λ f. schema_of f ≡ schema_of flat.now) }
 {
-    decorate(alloc, b"", flat)
+    decorate(arena, b"", flat)
 }
 
 /// A schema that is another one decorated, so that as much is left of the limits.
-fn alike(growing: &Growing, flat: Flat) -> Growing
+fn alike<'a>(growing: &Growing<'a>, flat: Flat<'a>) -> Growing<'a>
     requires limits { IsGrowing growing.now }
     requires alike { (strokes : List ℕ) × (schema_of flat ≡ decorated strokes (schema_of growing.now.flat)) }
-    ensures same { result.flat ≡ flat }
+    ensures same { result.flat ≡ flat.entry }
     ensures growing { IsGrowing result }
 {
     Growing {
@@ -97,61 +106,77 @@ fn alike(growing: &Growing, flat: Flat) -> Growing
 }
 
 /// A schema with strokes at the end of the name of each component. Where there are none, it is handed back.
-pub fn decorate_own(alloc: Global, strokes: &[u8], growing: Growing) -> Result<Growing, AllocError>
+pub fn decorate_own<'a>(
+    arena: &'a Bump,
+    strokes: &[u8],
+    growing: Growing<'a>,
+) -> Result<Growing<'a>, AllocError>
     requires { IsGrowing growing }
-    ensures ok { IfOk result (λ g. schema_of g.flat ≡ decorated strokes.now (schema_of growing.flat)) }
+    ensures ok { IfOk result (λ g. schema_of g.flat ≡ decorated strokes.now (schema_of growing.entry.flat)) }
     ensures growing { IfOk result (λ g. IsGrowing g) }
 {
     if strokes.is_empty() {
         return Ok(growing);
     }
-    let flat = decorate(alloc, strokes, &growing.flat)?;
+    let flat = decorate(arena, strokes, &growing.flat)?;
     Ok(alike(&growing, flat))
 }
 
 /// A schema with strokes at the end of the name of each component.
-pub fn decorate(alloc: Global, strokes: &[u8], flat: &Flat) -> Result<Flat, AllocError>
+pub fn decorate<'a>(
+    arena: &'a Bump,
+    strokes: &[u8],
+    flat: &Flat<'a>,
+) -> Result<Flat<'a>, AllocError>
     ensures { IfOk result (λ f. schema_of f ≡ decorated strokes.now (schema_of flat.now)) }
 {
-    let components = decorated_components(alloc, strokes, flat.components.as_slice())?;
-    let conjuncts = shared(alloc, flat.conjuncts.as_slice())?;
+    let components = decorated_components(arena, strokes, flat.components.as_slice())?;
+    let conjuncts = shared(arena, flat.conjuncts.as_slice())?;
     Ok(Flat {
         components,
         conjuncts,
     })
 }
 
-fn decorated_components(
-    alloc: Global,
+fn decorated_components<'a>(
+    arena: &'a Bump,
     strokes: &[u8],
-    components: &[Component],
-) -> Result<Items<Component>, AllocError>
+    components: &[Component<'a>],
+) -> Result<Items<'a, Component<'a>>, AllocError>
     ensures { IfOk result (λ cs. map comp_of cs ≡ map (λ c. comp (c.name ++ strokes.now) c.type c.sets) (map comp_of components.now)) }
 {
-    let mut made = Items::new(alloc);
+    let mut made = Items::with_room(arena, components.len())?;
     for component in components {
-        made.push(decorated_component(alloc, strokes, component)?)?;
+        made.push(decorated_component(arena, strokes, component)?)?;
     }
     Ok(made)
 }
 
-fn decorated_component(
-    alloc: Global,
+fn decorated_component<'a>(
+    arena: &'a Bump,
     strokes: &[u8],
-    component: &Component,
-) -> Result<Component, AllocError>
+    component: &Component<'a>,
+) -> Result<Component<'a>, AllocError>
     ensures { IfOk result (λ c. comp_of c ≡ comp (component.now.name ++ strokes.now) (comp_of component.now).type (comp_of component.now).sets) }
 {
-    let mut copy = component.copy(alloc)?;
-    copy.name.append(strokes)?;
-    Ok(copy)
+    let name = Lent::joined(arena, component.name.as_slice(), strokes)?;
+    let ztype = component.ztype.share()?;
+    let domains = component.domains.share()?;
+    Ok(Component {
+        name,
+        ztype,
+        domains,
+    })
 }
 
 /// The same conjuncts.
-fn shared(alloc: Global, conjuncts: &[Conjunct]) -> Result<Items<Conjunct>, AllocError>
+fn shared<'a>(
+    arena: &'a Bump,
+    conjuncts: &[Conjunct<'a>],
+) -> Result<Items<'a, Conjunct<'a>>, AllocError>
     ensures { IfOk result (λ cs. cs ≡ conjuncts.now) }
 {
-    let mut same = Items::new(alloc);
+    let mut same = Items::with_room(arena, conjuncts.len())?;
     for conjunct in conjuncts {
         same.push(conjunct.share()?)?;
     }

@@ -18,8 +18,9 @@ ghost use Rattle.zf_schema.specs.Checking.{IsNew, with_global, abbreviated, Give
 
 use crate::expression::schema_of_expression;
 use crate::text::{scope_over, text_of};
-use std::alloc::{AllocError, Global};
-use zf_data::{Items, Shared, Text};
+use bumpalo::Bump;
+use std::alloc::AllocError;
+use zf_data::arena::{Boxed, Items, Lent, Shared};
 use zf_text::tree::{Decl, Name, Paragraph, SchemaExp, Term};
 use zf_type::fault::{Refusal, TypeFaultKind, refused};
 use zf_type::globals::{Entry, Globals};
@@ -29,11 +30,11 @@ use zf_type::operator::Need;
 use zf_type::scope::spelled;
 
 /// Defines what the paragraph does, or leaves the globals as they were. Keeps the number of the next given set or free type.
-pub fn define(
-    alloc: Global,
-    globals: &mut Globals,
+pub fn define<'a>(
+    arena: &'a Bump,
+    globals: &mut Globals<'a>,
     next: &mut usize,
-    paragraph: &Paragraph,
+    paragraph: &Paragraph<'a>,
 ) -> Result<(), Refusal>
     requires { next.old ≡ next_number (globals_of globals.old) }
     ensures ok { OnOk result (DefinesParagraph (globals_of globals.old) (paragraph_of paragraph.now) (globals_of globals.new)) }
@@ -42,7 +43,7 @@ pub fn define(
     ensures numbered { next.new ≡ next_number (globals_of globals.new) }
 {
     let count = globals.len();
-    let defined = add(alloc, globals, *next, paragraph);
+    let defined = add(arena, globals, *next, paragraph);
     if defined.is_err() {
         globals.truncate(count);
     } else {
@@ -52,7 +53,7 @@ pub fn define(
 }
 
 /// How many given sets and free types it defines.
-fn elements(paragraph: &Paragraph) -> usize
+fn elements(paragraph: &Paragraph<'_>) -> usize
     ensures number { result ≡ spec.elements (paragraph_of paragraph.now) }
     ensures small { result < 2 ^ 63 }
 {
@@ -65,30 +66,30 @@ fn elements(paragraph: &Paragraph) -> usize
 }
 
 /// Defines the schema of a box, or leaves the globals as they were.
-pub fn define_box(
-    alloc: Global,
-    globals: &mut Globals,
-    name: &Name,
-    decls: &[Decl],
-    predicates: &[Term],
+pub fn define_box<'a>(
+    arena: &'a Bump,
+    globals: &mut Globals<'a>,
+    name: &Name<'a>,
+    decls: &[Decl<'a>],
+    predicates: &[Boxed<'a, Term<'a>>],
 ) -> Result<(), Refusal>
     ensures ok { OnOk result (Defines (globals_of globals.old) (a_box name.now (map decl_of decls.now) (map tree_of predicates.now)) (globals_of globals.new)) }
     ensures fault { IfErr result (λ e. IfFault e (λ kind line. OffendsItem (globals_of globals.old) (a_box name.now (map decl_of decls.now) (map tree_of predicates.now)) kind line)) }
     ensures kept { OnErr result (globals_of globals.new ≡ globals_of globals.old) }
     ensures numbered { next_number (globals_of globals.new) ≡ next_number (globals_of globals.old) }
 {
-    let spelled = new_name(alloc, globals, name)?;
-    let schema = text_of(alloc, globals, decls, predicates)?;
+    let spelled = new_name(arena, globals, name)?;
+    let schema = text_of(arena, globals, decls, predicates)?;
     globals.define(spelled, Entry::Schema(schema))?;
     Ok(())
 }
 
 /// Defines what the paragraph does. A faulty one may define some of its names.
-fn add(
-    alloc: Global,
-    globals: &mut Globals,
+fn add<'a>(
+    arena: &'a Bump,
+    globals: &mut Globals<'a>,
     next: usize,
-    paragraph: &Paragraph,
+    paragraph: &Paragraph<'a>,
 ) -> Result<(), Refusal>
     requires number { next ≡ next_number (globals_of globals.old) }
     requires small { next < 2 ^ 63 }
@@ -97,18 +98,18 @@ fn add(
     ensures begun { take (length (globals_of globals.old)) (globals_of globals.new) ≡ globals_of globals.old }
 {
     match paragraph {
-        Paragraph::Given(names) => add_given(alloc, globals, next, names.as_slice()),
-        Paragraph::Free(name, names) => add_free(alloc, globals, next, name, names.as_slice()),
-        Paragraph::Abbrev(name, term) => add_abbreviation(alloc, globals, name, term),
-        Paragraph::Defs(name, exp) => add_schema(alloc, globals, name, exp),
+        Paragraph::Given(names) => add_given(arena, globals, next, names.as_slice()),
+        Paragraph::Free(name, names) => add_free(arena, globals, next, name, names.as_slice()),
+        Paragraph::Abbrev(name, term) => add_abbreviation(arena, globals, name, term),
+        Paragraph::Defs(name, exp) => add_schema(arena, globals, name, exp),
     }
 }
 
-fn add_given(
-    alloc: Global,
-    globals: &mut Globals,
+fn add_given<'a>(
+    arena: &'a Bump,
+    globals: &mut Globals<'a>,
     first: usize,
-    names: &[Name],
+    names: &[Name<'a>],
 ) -> Result<(), Refusal>
     requires number { first ≡ next_number (globals_of globals.old) }
     requires small { first < 2 ^ 63 }
@@ -117,121 +118,134 @@ fn add_given(
     ensures begun { take (length (globals_of globals.old)) (globals_of globals.new) ≡ globals_of globals.old }
 {
     for (place, name) in names.iter().enumerate() {
-        add_name(alloc, globals, name, Entry::Given(first + place))?;
+        add_name(arena, globals, name, Entry::Given(first + place))?;
     }
     Ok(())
 }
 
-fn add_free(
-    alloc: Global,
-    globals: &mut Globals,
+fn add_free<'a>(
+    arena: &'a Bump,
+    globals: &mut Globals<'a>,
     number: usize,
-    name: &Name,
-    names: &[Name],
+    name: &Name<'a>,
+    names: &[Name<'a>],
 ) -> Result<(), Refusal>
     requires { number ≡ next_number (globals_of globals.old) }
     ensures ok { OnOk result (DefinesParagraph (globals_of globals.old) (text.free name.now names.now) (globals_of globals.new)) }
     ensures fault { IfErr result (λ e. IfFault e (λ kind line. OffendsParagraph (globals_of globals.old) (text.free name.now names.now) kind line)) }
     ensures begun { take (length (globals_of globals.old)) (globals_of globals.new) ≡ globals_of globals.old }
 {
-    let constructors = all_spelled(alloc, names)?;
-    add_name(alloc, globals, name, Entry::Free(number, constructors))?;
-    add_constructors(alloc, globals, number, name, names)
+    let constructors = all_spelled(arena, names)?;
+    add_name(arena, globals, name, Entry::Free(number, constructors))?;
+    add_constructors(arena, globals, number, name, names)
 }
 
-fn add_constructors(
-    alloc: Global,
-    globals: &mut Globals,
+fn add_constructors<'a>(
+    arena: &'a Bump,
+    globals: &mut Globals<'a>,
     number: usize,
-    of_type: &Name,
-    names: &[Name],
+    of_type: &Name<'a>,
+    names: &[Name<'a>],
 ) -> Result<(), Refusal>
     ensures ok { OnOk result (Constructs (globals_of globals.old) number (spelling of_type.now) 0 names.now (globals_of globals.new)) }
     ensures fault { IfErr result (λ e. IfFault e (λ kind line. OffendsConstructors (globals_of globals.old) number (spelling of_type.now) 0 names.now kind line)) }
     ensures begun { take (length (globals_of globals.old)) (globals_of globals.new) ≡ globals_of globals.old }
 {
-    let type_name = Shared::new(alloc, spelled(alloc, of_type)?)?;
+    let type_name = spelled(arena, of_type)?;
     for (place, name) in names.iter().enumerate() {
-        let entry = Entry::Constructor(number, type_name.share()?, place);
-        add_name(alloc, globals, name, entry)?;
+        let entry = Entry::Constructor(number, type_name.share(), place);
+        add_name(arena, globals, name, entry)?;
     }
     Ok(())
 }
 
-fn add_abbreviation(
-    alloc: Global,
-    globals: &mut Globals,
-    name: &Name,
-    term: &Term,
+fn add_abbreviation<'a>(
+    arena: &'a Bump,
+    globals: &mut Globals<'a>,
+    name: &Name<'a>,
+    term: &Boxed<'a, Term<'a>>,
 ) -> Result<(), Refusal>
     ensures ok { OnOk result (DefinesParagraph (globals_of globals.old) (text.abbreviation name.now (tree_of term.now)) (globals_of globals.new)) }
     ensures fault { IfErr result (λ e. IfFault e (λ kind line. OffendsParagraph (globals_of globals.old) (text.abbreviation name.now (tree_of term.now)) kind line)) }
     ensures begun { take (length (globals_of globals.old)) (globals_of globals.new) ≡ globals_of globals.old }
 {
-    let spelled = new_name(alloc, globals, name)?;
-    let entry = abbreviation_of(alloc, globals, term)?;
+    let spelled = new_name(arena, globals, name)?;
+    let entry = abbreviation_of(arena, globals, term)?;
     globals.define(spelled, entry)?;
     Ok(())
 }
 
-fn add_schema(
-    alloc: Global,
-    globals: &mut Globals,
-    name: &Name,
-    exp: &SchemaExp,
+fn add_schema<'a>(
+    arena: &'a Bump,
+    globals: &mut Globals<'a>,
+    name: &Name<'a>,
+    exp: &SchemaExp<'a>,
 ) -> Result<(), Refusal>
     ensures ok { OnOk result (DefinesParagraph (globals_of globals.old) (text.definition name.now (text.schema_of exp.now)) (globals_of globals.new)) }
     ensures fault { IfErr result (λ e. IfFault e (λ kind line. OffendsParagraph (globals_of globals.old) (text.definition name.now (text.schema_of exp.now)) kind line)) }
     ensures begun { take (length (globals_of globals.old)) (globals_of globals.new) ≡ globals_of globals.old }
 {
-    let spelled = new_name(alloc, globals, name)?;
-    let schema = schema_of_expression(exp, alloc, globals)?;
+    let spelled = new_name(arena, globals, name)?;
+    let schema = schema_of_expression(exp, arena, globals)?;
     globals.define(spelled, Entry::Schema(schema))?;
     Ok(())
 }
 
 /// Defines one name.
-fn add_name(alloc: Global, globals: &mut Globals, name: &Name, entry: Entry) -> Result<(), Refusal>
+fn add_name<'a>(
+    arena: &'a Bump,
+    globals: &mut Globals<'a>,
+    name: &Name<'a>,
+    entry: Entry<'a>,
+) -> Result<(), Refusal>
     ensures new { OnOk result (IsNew (globals_of globals.old) name.now) }
-    ensures ok { OnOk result (globals_of globals.new ≡ with_global (globals_of globals.old) name.now (definition_of entry)) }
+    ensures ok { OnOk result (globals_of globals.new ≡ with_global (globals_of globals.old) name.now (definition_of entry.entry)) }
     ensures fault { IfErr result (λ e. IfFault e (λ kind line. IsTaken (globals_of globals.old) name.now kind line)) }
     ensures kept { OnErr result (globals_of globals.new ≡ globals_of globals.old) }
 {
-    let spelled = new_name(alloc, globals, name)?;
+    let spelled = new_name(arena, globals, name)?;
     globals.define(spelled, entry)?;
     Ok(())
 }
 
 /// The name as spelled, if no global has it.
-fn new_name(alloc: Global, globals: &Globals, name: &Name) -> Result<Text, Refusal>
+fn new_name<'a>(
+    arena: &'a Bump,
+    globals: &Globals<'a>,
+    name: &Name<'a>,
+) -> Result<Lent<'a>, Refusal>
     ensures ok { IfOk result (λ t. t ≡ spelling name.now) }
     ensures new { OnOk result (IsNew (globals_of globals.now) name.now) }
     ensures fault { IfErr result (λ e. IfFault e (λ kind line. IsTaken (globals_of globals.now) name.now kind line)) }
 {
-    let spelled = spelled(alloc, name)?;
+    let spelled = spelled(arena, name)?;
     if !globals.is_new(spelled.as_slice()) {
         return Err(refused(TypeFaultKind::AlreadyDefined, name.line));
     }
     Ok(spelled)
 }
 
-fn all_spelled(alloc: Global, names: &[Name]) -> Result<Items<Text>, AllocError>
+fn all_spelled<'a>(arena: &'a Bump, names: &[Name<'a>]) -> Result<Items<'a, Lent<'a>>, AllocError>
     ensures { IfOk result (λ s. s ≡ map spelling names.now) }
 {
-    let mut all = Items::new(alloc);
+    let mut all = Items::new(arena);
     for name in names {
-        all.push(spelled(alloc, name)?)?;
+        all.push(spelled(arena, name)?)?;
     }
     Ok(all)
 }
 
 /// The term with its type, as what a name is defined as.
-fn abbreviation_of(alloc: Global, globals: &Globals, term: &Term) -> Result<Entry, Refusal>
+fn abbreviation_of<'a>(
+    arena: &'a Bump,
+    globals: &Globals<'a>,
+    term: &Boxed<'a, Term<'a>>,
+) -> Result<Entry<'a>, Refusal>
     ensures ok { IfOk result (λ e. (t : Ty) × IsOf (outside (globals_of globals.now)) (tree_of term.now) (typed t) × (definition_of e ≡ abbreviated (globals_of globals.now) t (resolved (outside (globals_of globals.now)) (tree_of term.now)))) }
     ensures fault { IfErr result (λ e. IfFault e (λ kind line. Offends (outside (globals_of globals.now)) need.Expression (tree_of term.now) kind line)) }
 {
-    let mut scope = scope_over(alloc, globals, &[]);
-    let judged = judge(term, alloc, Need::Expression, &mut scope)?;
+    let mut scope = scope_over(globals, &[]);
+    let judged = judge(term.get(), arena, Need::Expression, &mut scope)?;
     let Some(ztype) = judged.sort.into_type() else {
         unreachable!();
     };

@@ -11,22 +11,30 @@ ghost use Rattle.zf_schema.specs.SchemaOffences.{IsNoSchema, OffendsRef};
 use crate::growing::Growing;
 use crate::marking::{decorate_own, marked};
 use crate::stop::Stop;
-use std::alloc::Global;
+use bumpalo::Bump;
 use zf_text::tree::SchemaRef;
 use zf_type::fault::{Refusal, TypeFaultKind, refused};
 use zf_type::globals::{Entry, Flat, Globals};
 use zf_type::scope::global_of;
 
 /// The schema that is referred to.
-pub fn refer(alloc: Global, globals: &Globals, reference: &SchemaRef) -> Result<Flat, Refusal>
+pub fn refer<'a>(
+    arena: &'a Bump,
+    globals: &Globals<'a>,
+    reference: &SchemaRef<'a>,
+) -> Result<Flat<'a>, Refusal>
     ensures ok { IfOk result (λ f. Refers (globals_of globals.now) reference.now (schema_of f)) }
     ensures fault { IfErr result (λ e. IfFault e (OffendsRef (globals_of globals.now) reference.now)) }
 {
-    Ok(referred(alloc, globals, reference)?.flat)
+    Ok(referred(arena, globals, reference)?.flat)
 }
 
 /// The same schema, with what is left of the limits.
-pub fn referred(alloc: Global, globals: &Globals, reference: &SchemaRef) -> Result<Growing, Refusal>
+pub fn referred<'a>(
+    arena: &'a Bump,
+    globals: &Globals<'a>,
+    reference: &SchemaRef<'a>,
+) -> Result<Growing<'a>, Refusal>
     ensures ok { IfOk result (λ g. Refers (globals_of globals.now) reference.now (schema_of g.flat)) }
     ensures growing { IfOk result (λ g. IsGrowing g) }
     ensures fault { IfErr result (λ e. IfFault e (OffendsRef (globals_of globals.now) reference.now)) }
@@ -36,14 +44,17 @@ pub fn referred(alloc: Global, globals: &Globals, reference: &SchemaRef) -> Resu
         Ok(flat) => flat,
         Err(kind) => return Err(refused(kind, name.line)),
     };
-    match marked(alloc, reference.mark, name.line, flat) {
-        Ok(growing) => Ok(decorate_own(alloc, name.strokes.as_slice(), growing)?),
+    match marked(arena, reference.mark, name.line, flat) {
+        Ok(growing) => Ok(decorate_own(arena, name.strokes.as_slice(), growing)?),
         Err(stop) => Err(stop.refusal(name.line)),
     }
 }
 
 /// The schema of the name, or why there is none.
-fn schema_named<'a>(globals: &'a Globals, name: &[u8]) -> Result<&'a Flat, TypeFaultKind>
+fn schema_named<'a, 'b>(
+    globals: &'b Globals<'a>,
+    name: &[u8],
+) -> Result<&'b Flat<'a>, TypeFaultKind>
     ensures ok { IfOk result (λ f. IsNamed (globals_of globals.now) name.now (schema_of f.now)) }
     ensures err { IfErr result (LacksSchema (globals_of globals.now) name.now) }
 {
@@ -56,7 +67,7 @@ fn schema_named<'a>(globals: &'a Globals, name: &[u8]) -> Result<&'a Flat, TypeF
     }
 }
 
-fn as_schema(entry: &Entry) -> Option<&Flat>
+fn as_schema<'a, 'b>(entry: &'b Entry<'a>) -> Option<&'b Flat<'a>>
     ensures { MatchOption result (IsNoSchema (definition_of entry.now)) (λ f. definition_of entry.now ≡ schema (schema_of f.now)) }
 {
     match entry {

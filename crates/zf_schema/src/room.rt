@@ -12,7 +12,7 @@ use zf_type::conjunct::Conjunct;
 use zf_type::globals::{Component, Domain};
 
 /// How much of the room for declared sets is left behind these, where there is enough.
-pub fn after_sets(domains: &[Domain], room: usize) -> Option<usize>
+pub fn after_sets(domains: &[Domain<'_>], room: usize) -> Option<usize>
     ensures { MatchOption result (room < sum_by set_count (map set_of domains.now)) (λ left. left + sum_by set_count (map set_of domains.now) ≡ room) }
 {
     let mut left = room;
@@ -23,7 +23,7 @@ pub fn after_sets(domains: &[Domain], room: usize) -> Option<usize>
 }
 
 /// How much of the room for nodes is left behind these, where there is enough.
-pub fn after_nodes(domains: &[Domain], room: usize) -> Option<usize>
+pub fn after_nodes(domains: &[Domain<'_>], room: usize) -> Option<usize>
     ensures { MatchOption result (room < sum_by set_nodes (map set_of domains.now)) (λ left. left + sum_by set_nodes (map set_of domains.now) ≡ room) }
 {
     let mut left = room;
@@ -34,29 +34,29 @@ pub fn after_nodes(domains: &[Domain], room: usize) -> Option<usize>
 }
 
 /// The same of all declared sets of components.
-pub fn after_all_sets(components: &[Component], room: usize) -> Option<usize>
+pub fn after_all_sets(components: &[Component<'_>], room: usize) -> Option<usize>
     ensures { MatchOption result (room < counted set_count (map comp_of components.now)) (λ left. left + counted set_count (map comp_of components.now) ≡ room) }
 {
     let mut left = room;
     for component in components {
-        left = after_sets(component.domains.as_slice(), left)?;
+        left = after_sets(component.domains.get().as_slice(), left)?;
     }
     Some(left)
 }
 
 /// The same of the nodes of all declared sets of components.
-pub fn after_all_nodes(components: &[Component], room: usize) -> Option<usize>
+pub fn after_all_nodes(components: &[Component<'_>], room: usize) -> Option<usize>
     ensures { MatchOption result (room < counted set_nodes (map comp_of components.now)) (λ left. left + counted set_nodes (map comp_of components.now) ≡ room) }
 {
     let mut left = room;
     for component in components {
-        left = after_nodes(component.domains.as_slice(), left)?;
+        left = after_nodes(component.domains.get().as_slice(), left)?;
     }
     Some(left)
 }
 
 /// The same of the nodes of conjuncts.
-pub fn after_conjuncts(conjuncts: &[Conjunct], room: usize) -> Option<usize>
+pub fn after_conjuncts(conjuncts: &[Conjunct<'_>], room: usize) -> Option<usize>
     ensures { MatchOption result (room < sum_by nodes (map conjunct_of conjuncts.now)) (λ left. left + sum_by nodes (map conjunct_of conjuncts.now) ≡ room) }
 {
     let mut left = room;
@@ -67,7 +67,7 @@ pub fn after_conjuncts(conjuncts: &[Conjunct], room: usize) -> Option<usize>
 }
 
 /// Whether no conjunct is too high.
-pub fn are_low(conjuncts: &[Conjunct]) -> bool
+pub fn are_low(conjuncts: &[Conjunct<'_>]) -> bool
     ensures { IsTrue result ↔ AllByRecursion IsLow (map conjunct_of conjuncts.now) }
 {
     for conjunct in conjuncts {

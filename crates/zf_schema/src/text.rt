@@ -18,8 +18,9 @@ ghost use Rattle.zf_type.specs.Shapes as shape;
 
 use crate::growing::Growing;
 use crate::reference::referred;
-use std::alloc::{AllocError, Global};
-use zf_data::{Items, Shared};
+use bumpalo::Bump;
+use std::alloc::AllocError;
+use zf_data::arena::{Boxed, Items, Shared};
 use zf_text::tree::{Decl, Name, SchemaRef, Term};
 use zf_type::conjunct::Conjunct;
 use zf_type::fault::Refusal;
@@ -31,41 +32,41 @@ use zf_type::scope::{Scope, spelled};
 use zf_type::ztype::ZType;
 
 /// The schema of these declarations, and then of these predicates over them.
-pub fn text_of(
-    alloc: Global,
-    globals: &Globals,
-    decls: &[Decl],
-    predicates: &[Term],
-) -> Result<Flat, Refusal>
+pub fn text_of<'a>(
+    arena: &'a Bump,
+    globals: &Globals<'a>,
+    decls: &[Decl<'a>],
+    predicates: &[Boxed<'a, Term<'a>>],
+) -> Result<Flat<'a>, Refusal>
     ensures ok { IfOk result (λ f. IsText (globals_of globals.now) (map decl_of decls.now) (map tree_of predicates.now) (schema_of f)) }
     ensures wrong { IfErr result (λ e. IfFault e (OffendsText (globals_of globals.now) (map decl_of decls.now) (map tree_of predicates.now))) }
 {
-    Ok(growing_text(alloc, globals, decls, predicates)?.flat)
+    Ok(growing_text(arena, globals, decls, predicates)?.flat)
 }
 
 /// The same schema, with what is left of the limits.
-pub fn growing_text(
-    alloc: Global,
-    globals: &Globals,
-    decls: &[Decl],
-    predicates: &[Term],
-) -> Result<Growing, Refusal>
+pub fn growing_text<'a>(
+    arena: &'a Bump,
+    globals: &Globals<'a>,
+    decls: &[Decl<'a>],
+    predicates: &[Boxed<'a, Term<'a>>],
+) -> Result<Growing<'a>, Refusal>
     ensures ok { IfOk result (λ g. IsText (globals_of globals.now) (map decl_of decls.now) (map tree_of predicates.now) (schema_of g.flat)) }
     ensures growing { IfOk result (λ g. IsGrowing g) }
     ensures wrong { IfErr result (λ e. IfFault e (OffendsText (globals_of globals.now) (map decl_of decls.now) (map tree_of predicates.now))) }
 {
-    let mut growing = Growing::new(alloc);
-    declare_all(alloc, globals, &mut growing, decls)?;
-    constrain_all(alloc, globals, &mut growing, predicates)?;
+    let mut growing = Growing::new(arena);
+    declare_all(arena, globals, &mut growing, decls)?;
+    constrain_all(arena, globals, &mut growing, predicates)?;
     Ok(growing)
 }
 
 /// Takes in the declarations, one after another.
-fn declare_all(
-    alloc: Global,
-    globals: &Globals,
-    growing: &mut Growing,
-    decls: &[Decl],
+fn declare_all<'a>(
+    arena: &'a Bump,
+    globals: &Globals<'a>,
+    growing: &mut Growing<'a>,
+    decls: &[Decl<'a>],
 ) -> Result<(), Refusal>
     requires { IsGrowing growing.old }
     ensures ok { OnOk result (Declares (globals_of globals.now) (schema_of growing.old.flat) (map decl_of decls.now) (schema_of growing.new.flat)) }
@@ -73,17 +74,17 @@ fn declare_all(
     ensures wrong { IfErr result (λ e. IfFault e (OffendsDecls (globals_of globals.now) (schema_of growing.old.flat) (map decl_of decls.now))) }
 {
     for decl in decls {
-        declare(alloc, globals, growing, decl)?;
+        declare(arena, globals, growing, decl)?;
     }
     Ok(())
 }
 
 /// Takes in one declaration.
-fn declare(
-    alloc: Global,
-    globals: &Globals,
-    growing: &mut Growing,
-    decl: &Decl,
+fn declare<'a>(
+    arena: &'a Bump,
+    globals: &Globals<'a>,
+    growing: &mut Growing<'a>,
+    decl: &Decl<'a>,
 ) -> Result<(), Refusal>
     requires { IsGrowing growing.old }
     ensures ok { OnOk result (DeclaresOne (globals_of globals.now) (schema_of growing.old.flat) (decl_of decl.now) (schema_of growing.new.flat)) }
@@ -91,58 +92,58 @@ fn declare(
     ensures wrong { IfErr result (λ e. IfFault e (OffendsDecl (globals_of globals.now) (schema_of growing.old.flat) (decl_of decl.now))) }
 {
     match decl {
-        Decl::Vars(names, set) => declare_names(alloc, globals, growing, names.as_slice(), set),
-        Decl::Include(reference) => include(alloc, globals, growing, reference),
+        Decl::Vars(names, set) => declare_names(arena, globals, growing, names.as_slice(), set),
+        Decl::Include(reference) => include(arena, globals, growing, reference),
     }
 }
 
 /// Names that are declared to be in a set.
-fn declare_names(
-    alloc: Global,
-    globals: &Globals,
-    growing: &mut Growing,
-    names: &[Name],
-    set: &Term,
+fn declare_names<'a>(
+    arena: &'a Bump,
+    globals: &Globals<'a>,
+    growing: &mut Growing<'a>,
+    names: &[Name<'a>],
+    set: &Boxed<'a, Term<'a>>,
 ) -> Result<(), Refusal>
     requires { IsGrowing growing.old }
     ensures ok { OnOk result (DeclaresOne (globals_of globals.now) (schema_of growing.old.flat) (vars names.now (tree_of set.now)) (schema_of growing.new.flat)) }
     ensures growing { OnOk result (IsGrowing growing.new) }
     ensures wrong { IfErr result (λ e. IfFault e (OffendsDecl (globals_of globals.now) (schema_of growing.old.flat) (vars names.now (tree_of set.now)))) }
 {
-    let Judged { term, sort } = judge_over(alloc, globals, &[], Need::Set, set)?;
+    let Judged { term, sort } = judge_over(arena, globals, &[], Need::Set, set)?;
     let Some(ztype) = sort.member() else {
         unreachable!();
     };
-    let set = Shared::new(alloc, term)?;
-    add_all(alloc, growing, names, ztype, &set)
+    let set = Shared::new(arena, term)?;
+    add_all(arena, growing, names, ztype, &set)
 }
 
 /// A schema that is taken in.
-fn include(
-    alloc: Global,
-    globals: &Globals,
-    growing: &mut Growing,
-    reference: &SchemaRef,
+fn include<'a>(
+    arena: &'a Bump,
+    globals: &Globals<'a>,
+    growing: &mut Growing<'a>,
+    reference: &SchemaRef<'a>,
 ) -> Result<(), Refusal>
     requires { IsGrowing growing.old }
     ensures ok { OnOk result (DeclaresOne (globals_of globals.now) (schema_of growing.old.flat) (include reference.now) (schema_of growing.new.flat)) }
     ensures growing { OnOk result (IsGrowing growing.new) }
     ensures wrong { IfErr result (λ e. IfFault e (OffendsDecl (globals_of globals.now) (schema_of growing.old.flat) (include reference.now))) }
 {
-    let other = referred(alloc, globals, reference)?;
-    match growing.include(alloc, other) {
+    let other = referred(arena, globals, reference)?;
+    match growing.include(arena, other) {
         Ok(()) => Ok(()),
         Err(stop) => Err(stop.refusal(reference.name.line)),
     }
 }
 
 /// Names of this type that are declared to be in the set, one after another.
-fn add_all(
-    alloc: Global,
-    growing: &mut Growing,
-    names: &[Name],
-    ztype: &ZType,
-    set: &Shared<Resolved>,
+fn add_all<'a>(
+    arena: &'a Bump,
+    growing: &mut Growing<'a>,
+    names: &[Name<'a>],
+    ztype: &ZType<'a>,
+    set: &Shared<'a, Resolved<'a>>,
 ) -> Result<(), Refusal>
     requires { IsGrowing growing.old }
     ensures ok { OnOk result (AddsAll (schema_of growing.old.flat) names.now (type_of ztype.now) (plain (resolved_of set.now)) (schema_of growing.new.flat)) }
@@ -150,25 +151,25 @@ fn add_all(
     ensures wrong { IfErr result (λ e. IfFault e (OffendsNames (schema_of growing.old.flat) names.now (type_of ztype.now) (plain (resolved_of set.now)))) }
 {
     for name in names {
-        add(alloc, growing, name, ztype, set)?;
+        add(arena, growing, name, ztype, set)?;
     }
     Ok(())
 }
 
 /// One name of this type that is declared to be in the set.
-fn add(
-    alloc: Global,
-    growing: &mut Growing,
-    name: &Name,
-    ztype: &ZType,
-    set: &Shared<Resolved>,
+fn add<'a>(
+    arena: &'a Bump,
+    growing: &mut Growing<'a>,
+    name: &Name<'a>,
+    ztype: &ZType<'a>,
+    set: &Shared<'a, Resolved<'a>>,
 ) -> Result<(), Refusal>
     requires { IsGrowing growing.old }
     ensures ok { OnOk result (Adds (schema_of growing.old.flat) (comp (spelling name.now) (type_of ztype.now) (plain (resolved_of set.now) ∷ [])) (schema_of growing.new.flat)) }
     ensures growing { OnOk result (IsGrowing growing.new) }
     ensures wrong { IfErr result (λ e. IfFault e (CantAdd (schema_of growing.old.flat) name.now (type_of ztype.now) (plain (resolved_of set.now)))) }
 {
-    let component = declared(alloc, name, ztype, set)?;
+    let component = declared(arena, name, ztype, set)?;
     match growing.add(component) {
         Ok(()) => Ok(()),
         Err(stop) => Err(stop.refusal(name.line)),
@@ -177,17 +178,18 @@ fn add(
 
 /// A component of this type that is declared to be in the set.
 #[tactic(auto, using(zf_type::proofs::SetsSeen::seen))]
-fn declared(
-    alloc: Global,
-    name: &Name,
-    ztype: &ZType,
-    set: &Shared<Resolved>,
-) -> Result<Component, AllocError>
+fn declared<'a>(
+    arena: &'a Bump,
+    name: &Name<'a>,
+    ztype: &ZType<'a>,
+    set: &Shared<'a, Resolved<'a>>,
+) -> Result<Component<'a>, AllocError>
     ensures { IfOk result (λ c. comp_of c ≡ comp (spelling name.now) (type_of ztype.now) (plain (resolved_of set.now) ∷ [])) }
 {
-    let name = spelled(alloc, name)?;
+    let name = spelled(arena, name)?;
     let ztype = ztype.share()?;
-    let domains = Items::of(alloc, Domain::Plain(set.share()?))?;
+    let domains = Items::of(arena, Domain::Plain(set.share()?))?;
+    let domains = Shared::new(arena, domains)?;
     Ok(Component {
         name,
         ztype,
@@ -196,40 +198,43 @@ fn declared(
 }
 
 /// What the term is where the globals and these components are in scope.
-fn judge_over(
-    alloc: Global,
-    globals: &Globals,
-    components: &[Component],
+fn judge_over<'a>(
+    arena: &'a Bump,
+    globals: &Globals<'a>,
+    components: &[Component<'a>],
     need: Need,
-    term: &Term,
-) -> Result<Judged, Refusal>
+    term: &Boxed<'a, Term<'a>>,
+) -> Result<Judged<'a>, Refusal>
     ensures sort { IfOk result (λ j. IsOf (over (globals_of globals.now) (map comp_of components.now)) (tree_of term.now) (sort_of j.sort)) }
     ensures met { IfOk result (λ j. Meets need (sort_of j.sort)) }
     ensures term { IfOk result (λ j. resolved_of j.term ≡ resolved (over (globals_of globals.now) (map comp_of components.now)) (tree_of term.now)) }
     ensures wrong { IfErr result (λ e. IfFault e (Offends (over (globals_of globals.now) (map comp_of components.now)) need (tree_of term.now))) }
 {
-    let mut scope = scope_over(alloc, globals, components);
-    judge(term, alloc, need, &mut scope)
+    let mut scope = scope_over(globals, components);
+    judge(term.get(), arena, need, &mut scope)
 }
 
 /// The scope of the globals and these components, where no variable is bound.
 #[tactic(auto, unfolding(zf_type::specs::Scopes::scope_of))]
-pub fn scope_over<'a>(alloc: Global, globals: &'a Globals, components: &'a [Component]) -> Scope<'a>
+pub fn scope_over<'a, 'b>(
+    globals: &'b Globals<'a>,
+    components: &'b [Component<'a>],
+) -> Scope<'a, 'b>
     ensures { scope_of result ≡ over (globals_of globals.now) (map comp_of components.now) }
 {
     Scope {
         globals,
         components,
-        locals: Vec::new(alloc),
+        locals: Vec::new(*globals.entries.allocator()),
     }
 }
 
 /// Takes the predicates, one after another.
-fn constrain_all(
-    alloc: Global,
-    globals: &Globals,
-    growing: &mut Growing,
-    predicates: &[Term],
+fn constrain_all<'a>(
+    arena: &'a Bump,
+    globals: &Globals<'a>,
+    growing: &mut Growing<'a>,
+    predicates: &[Boxed<'a, Term<'a>>],
 ) -> Result<(), Refusal>
     requires { IsGrowing growing.old }
     ensures ok { OnOk result (Constrains (globals_of globals.now) (schema_of growing.old.flat) (map tree_of predicates.now) (schema_of growing.new.flat)) }
@@ -237,17 +242,17 @@ fn constrain_all(
     ensures wrong { IfErr result (λ e. IfFault e (OffendsPredicates (globals_of globals.now) (schema_of growing.old.flat) (map tree_of predicates.now))) }
 {
     for predicate in predicates {
-        constrain(alloc, globals, growing, predicate)?;
+        constrain(arena, globals, growing, predicate)?;
     }
     Ok(())
 }
 
 /// Takes one predicate, split at its outermost `\land`.
-fn constrain(
-    alloc: Global,
-    globals: &Globals,
-    growing: &mut Growing,
-    predicate: &Term,
+fn constrain<'a>(
+    arena: &'a Bump,
+    globals: &Globals<'a>,
+    growing: &mut Growing<'a>,
+    predicate: &Boxed<'a, Term<'a>>,
 ) -> Result<(), Refusal>
     requires { IsGrowing growing.old }
     ensures ok { OnOk result (ConstrainsOne (globals_of globals.now) (schema_of growing.old.flat) (tree_of predicate.now) (schema_of growing.new.flat)) }
@@ -255,41 +260,52 @@ fn constrain(
     ensures wrong { IfErr result (λ e. IfFault e (OffendsPredicate (globals_of globals.now) (schema_of growing.old.flat) (tree_of predicate.now))) }
 {
     let components = growing.flat.components.as_slice();
-    let judged = judge_over(alloc, globals, components, Need::Predicate, predicate)?;
-    let conjuncts = conjuncts_of(alloc, judged.term)?;
-    take_all(alloc, growing, conjuncts)
+    let judged = judge_over(arena, globals, components, Need::Predicate, predicate)?;
+    let conjuncts = conjuncts_of(arena, judged.term)?;
+    take_all(arena, growing, conjuncts)
 }
 
-fn conjuncts_of(alloc: Global, predicate: Resolved) -> Result<Items<Resolved>, AllocError>
-    ensures { IfOk result (λ ts. map resolved_of ts ≡ shape.conjuncts (resolved_of predicate)) }
+fn conjuncts_of<'a>(
+    arena: &'a Bump,
+    predicate: Resolved<'a>,
+) -> Result<Items<'a, Resolved<'a>>, AllocError>
+    ensures { IfOk result (λ ts. map resolved_of ts ≡ shape.conjuncts (resolved_of predicate.entry)) }
 {
-    let mut conjuncts = Items::new(alloc);
+    let mut conjuncts = Items::new(arena);
     predicate.push_conjuncts(&mut conjuncts)?;
     Ok(conjuncts)
 }
 
 /// Takes the conjuncts, one after another.
-fn take_all(alloc: Global, growing: &mut Growing, conjuncts: Items<Resolved>) -> Result<(), Refusal>
+fn take_all<'a>(
+    arena: &'a Bump,
+    growing: &mut Growing<'a>,
+    conjuncts: Items<'a, Resolved<'a>>,
+) -> Result<(), Refusal>
     requires { IsGrowing growing.old }
-    ensures ok { OnOk result (TakesAll (schema_of growing.old.flat) (map resolved_of conjuncts) (schema_of growing.new.flat)) }
+    ensures ok { OnOk result (TakesAll (schema_of growing.old.flat) (map resolved_of conjuncts.entry) (schema_of growing.new.flat)) }
     ensures growing { OnOk result (IsGrowing growing.new) }
-    ensures wrong { IfErr result (λ e. IfFault e (OffendsConjuncts (schema_of growing.old.flat) (map resolved_of conjuncts))) }
+    ensures wrong { IfErr result (λ e. IfFault e (OffendsConjuncts (schema_of growing.old.flat) (map resolved_of conjuncts.entry))) }
 {
-    for conjunct in conjuncts.items {
-        take(alloc, growing, conjunct)?;
+    for conjunct in conjuncts.into_vec() {
+        take(arena, growing, conjunct)?;
     }
     Ok(())
 }
 
 /// Takes one conjunct.
-fn take(alloc: Global, growing: &mut Growing, conjunct: Resolved) -> Result<(), Refusal>
+fn take<'a>(
+    arena: &'a Bump,
+    growing: &mut Growing<'a>,
+    conjunct: Resolved<'a>,
+) -> Result<(), Refusal>
     requires { IsGrowing growing.old }
-    ensures ok { OnOk result (IsNext (constrained (schema_of growing.old.flat) (resolved_of conjunct ∷ [])) (schema_of growing.new.flat)) }
+    ensures ok { OnOk result (IsNext (constrained (schema_of growing.old.flat) (resolved_of conjunct.entry ∷ [])) (schema_of growing.new.flat)) }
     ensures growing { OnOk result (IsGrowing growing.new) }
-    ensures wrong { IfErr result (λ e. IfFault e (CantTake (schema_of growing.old.flat) (resolved_of conjunct))) }
+    ensures wrong { IfErr result (λ e. IfFault e (CantTake (schema_of growing.old.flat) (resolved_of conjunct.entry))) }
 {
     let line = conjunct.line();
-    match growing.take(Conjunct::of(alloc, conjunct)?) {
+    match growing.take(Conjunct::of(arena, conjunct)?) {
         Ok(()) => Ok(()),
         Err(stop) => Err(stop.refusal(line)),
     }

@@ -10,7 +10,7 @@ use crate::simple::Component;
 use crate::unread::Unread;
 use std::alloc::Global;
 use zf_data::{Items, Text};
-use zf_type::globals::{Component as Typed, Domain, Globals};
+use zf_type::globals::{Component as Typed, Domain, Domains, Globals};
 use zf_type::resolved::Resolved;
 
 /// The components, each with the name of its given set.
@@ -33,13 +33,13 @@ fn component_of(alloc: Global, globals: &Globals, component: &Typed) -> Result<C
 {
     let set = common_set(alloc, globals, &component.domains)?;
     Ok(Component {
-        name: component.name.copy(alloc)?,
+        name: Text::of(alloc, component.name.as_slice())?,
         set,
     })
 }
 
 /// The given set that the declared sets of a component name.
-fn common_set(alloc: Global, globals: &Globals, domains: &Items<Domain>) -> Result<Text, Unread>
+fn common_set(alloc: Global, globals: &Globals, domains: &Domains<'_>) -> Result<Text, Unread>
     ensures { Gives (spec.common_set (globals_of globals.now) (map set_of domains.now)) result }
 {
     let mut sets = Items::new(alloc);
@@ -73,14 +73,14 @@ fn add_sets(
 
 #[cycle(sets)]
 fn add_all_sets(
-    domains: &Items<Domain>,
+    domains: &Domains<'_>,
     alloc: Global,
     globals: &Globals,
     sets: &mut Items<Text>,
 ) -> Result<(), Unread>
     ensures { Adds sets.old (spec.each (spec.as_set (globals_of globals.now)) (spec.terms_in_all (sets_of (map set_of domains.now)))) result sets.new }
 {
-    for domain in domains.as_slice() {
+    for domain in domains.get().as_slice() {
         add_sets(domain, alloc, globals, sets)?;
     }
     Ok(())

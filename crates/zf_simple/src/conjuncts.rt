@@ -9,6 +9,7 @@ use crate::given::{reference_of, set_at};
 use crate::side::Side;
 use crate::test::Test;
 use crate::unread::Unread;
+use bumpalo::Bump;
 use std::alloc::Global;
 use zf_data::Items;
 use zf_text::token::Relation;
@@ -17,30 +18,31 @@ use zf_type::globals::Globals;
 use zf_type::resolved::{Reference, Resolved, ResolvedLink};
 
 /// The tests of a schema of `count` components.
-pub(crate) fn tests_of(
+pub(crate) fn tests_of<'a>(
     alloc: Global,
-    globals: &Globals,
+    arena: &'a Bump,
+    globals: &Globals<'a>,
     count: usize,
-    conjuncts: &[Conjunct],
+    conjuncts: &[Conjunct<'a>],
 ) -> Result<Items<Test>, Unread>
     ensures { Gives (spec.each (spec.test_of (globals_of globals.now) count) (map conjunct_of conjuncts.now)) result }
 {
     let mut tests = Items::new(alloc);
     for conjunct in conjuncts {
-        tests.push(conjunct_test(alloc, globals, count, conjunct)?)?;
+        tests.push(conjunct_test(arena, globals, count, conjunct)?)?;
     }
     Ok(tests)
 }
 
-fn conjunct_test(
-    alloc: Global,
-    globals: &Globals,
+fn conjunct_test<'a>(
+    arena: &'a Bump,
+    globals: &Globals<'a>,
     count: usize,
-    conjunct: &Conjunct,
+    conjunct: &Conjunct<'a>,
 ) -> Result<Test, Unread>
     ensures { Gives (spec.test_of (globals_of globals.now) count (conjunct_of conjunct.now)) result }
 {
-    let term = conjunct.resolved(alloc)?;
+    let term = conjunct.resolved(arena)?;
     test_of(globals, count, &term)
 }
 

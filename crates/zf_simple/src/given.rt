@@ -47,7 +47,7 @@ fn is_given(entry: &Entry) -> bool
 }
 
 /// The name of the given set at this place among the globals.
-pub(crate) fn set_at(globals: &Globals, place: usize) -> Option<&[u8]>
+pub(crate) fn set_at<'b>(globals: &'b Globals<'_>, place: usize) -> Option<&'b [u8]>
     ensures { option_map (λ n. n.now) result ≡ spec.set_at (globals_of globals.now) place }
 {
     let (name, entry) = globals.in_order(place)?;
@@ -65,7 +65,7 @@ pub(crate) fn reference_of(term: &Resolved) -> Option<Reference>
 }
 
 /// The name of the given set that a reference is to.
-fn set_meant(globals: &Globals, reference: Reference) -> Option<&[u8]>
+fn set_meant<'b>(globals: &'b Globals<'_>, reference: Reference) -> Option<&'b [u8]>
     ensures { option_map (λ n. n.now) result ≡ spec.set_meant (globals_of globals.now) reference }
 {
     match reference {
@@ -75,7 +75,7 @@ fn set_meant(globals: &Globals, reference: Reference) -> Option<&[u8]>
 }
 
 /// The name of the given set that a term names.
-pub(crate) fn set_named<'a>(globals: &'a Globals, term: &Resolved) -> Option<&'a [u8]>
+pub(crate) fn set_named<'b>(globals: &'b Globals<'_>, term: &Resolved<'_>) -> Option<&'b [u8]>
     ensures { option_map (λ n. n.now) result ≡ spec.set_named (globals_of globals.now) (resolved_of term.now) }
 {
     set_meant(globals, reference_of(term)?)

@@ -11,13 +11,19 @@ use crate::conjuncts::tests_of;
 use crate::given::set_named;
 use crate::simple::Simple;
 use crate::unread::Unread;
+use bumpalo::Bump;
 use std::alloc::Global;
 use zf_type::globals::{Entry, Flat, Globals};
 use zf_type::resolved::Resolved;
 
 /// The schema as one over given sets, or why it is none. Forms that cannot be shown are looked for in the terms of
 /// all abbreviations, then in the declared sets of the schema, then in its conjuncts.
-pub fn simple_of(alloc: Global, globals: &Globals, schema: &Flat) -> Result<Simple, Unread>
+pub fn simple_of<'a>(
+    alloc: Global,
+    arena: &'a Bump,
+    globals: &Globals<'a>,
+    schema: &Flat<'a>,
+) -> Result<Simple, Unread>
     ensures read { Gives (spec.simple_of (globals_of globals.now) (schema_of schema.now)) result }
     ensures within { IfOk result (λ s. All (IsWithin (length s.components)) s.tests) }
     ensures given { IfOk result (λ s. All (λ c. Contains (spec.given_sets (globals_of globals.now)) c.set) s.components) }
@@ -25,7 +31,7 @@ pub fn simple_of(alloc: Global, globals: &Globals, schema: &Flat) -> Result<Simp
     check_abbreviations(globals)?;
     let components = components_of(alloc, globals, schema.components.as_slice())?;
     let count = schema.components.len();
-    let tests = tests_of(alloc, globals, count, schema.conjuncts.as_slice())?;
+    let tests = tests_of(alloc, arena, globals, count, schema.conjuncts.as_slice())?;
     Ok(Simple { components, tests })
 }
 

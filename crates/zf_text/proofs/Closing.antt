@@ -97,7 +97,7 @@ fits_len u rest t e f =
     let parts = take-append-drop m u in
     fits_by (take m u) (drop m u) u rest t (e ∙ ap (λ u. u ++ rest) (sym parts) ∙ append_assoc (take m u) (drop m u) rest) (ap length (sym parts) ∙ length-append (take m u) (drop m u)) (run_all Letters u) (ap (λ m. ends_well m (drop (run_len Letters u) u)) long ∙ f)
 
-tail_within : (s : List ℕ) → tail_len s ≤ length s
+pub tail_within : (s : List ℕ) → tail_len s ≤ length s
 tail_within s = pick (λ n. n ≤ length s) (begins s (codes "_1")) _ _ (λ h. front_le s (codes "_1") _ (begins_is s (codes "_1") h)) (λ _. step_within s)
   where
     step_within : (s : List ℕ) → step_len Digits s ≤ length s

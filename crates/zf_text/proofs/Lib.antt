@@ -11,12 +11,15 @@ pub mod Cursored
 pub mod LaidOut
 pub mod Reducing
 pub mod Scanned
+mod ScanTurns
 pub mod Quiet
 pub mod Laws
 pub mod Turns
 pub mod Marks
 pub mod Parted
 pub mod Forms
+mod Fronts
+mod MarkedCommands
 pub mod NamesRead
 pub mod TermSeen
 pub mod TermSteps

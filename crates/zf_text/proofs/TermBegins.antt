@@ -197,7 +197,7 @@ module _ (below : Reader) (n : ℕ) (ok : IsSound n below) where
       let low = s.low in
       let low_p = sp.low in
       let low_x = sx.low in
-      made (n + 1) least (shape.quantified line q (decls_of ds.0.part) (part_of p.0.part) (tree_of x.0.part)) (term.Quantified line q ds.0.part p.0.part x.0.part) (max (max ds.0.height p.0.height) x.0.height + 1) _ x.1 us y
+      made (n + 1) least (shape.quantified line q (decls_of ds.0.part) (part_of p.0.part) (tree_of x.0.part)) (term.Quantified q line ds.0.part p.0.part x.0.part) (max (max ds.0.height p.0.height) x.0.height + 1) _ x.1 us y
       (of.of-Quantified line q ds.0.part p.0.part x.0.part) x.3
       (record {
         fits = fits;

@@ -136,7 +136,7 @@ module _ (below : Reader) (n : ℕ) (ok : IsComplete n below) where
       let is_t = x.is in
       let same : shape.quantified l w (decls_of xs.all) (part_of q.term) (tree_of x.term) ≡ shape.quantified l w ds p t = cc in
       record {
-        term = term.Quantified l w xs.all q.term x.term;
+        term = term.Quantified w l xs.all q.term x.term;
         is = of.of-Quantified l w xs.all q.term x.term ∙ same;
         read = ap (beginning below least) starts ∙ rw (le-leb least quantifier_level fits, xs.read, q.read, ok_expect mark.At c d at, x.read) refl;
       }

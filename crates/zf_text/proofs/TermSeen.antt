@@ -84,9 +84,9 @@ of-Not l t = ap tree_of (sym (v.rolls-Not l t)) ∙ rolled (Term-F.Not l t)
 pub of-Connective : (l : ℕ) (c : Connective) (a b : Term) → tree_of (v.Connective l c a b) ≡ connected l c (tree_of a) (tree_of b)
 of-Connective l c a b = ap tree_of (sym (v.rolls-Connective l c a b)) ∙ rolled (Term-F.Connective l c a b)
 
-pub of-Quantified : (l : ℕ) (q : Quantifier) (ds : List VarDecl) (p : Option Term) (t : Term) → tree_of (v.Quantified l q ds p t) ≡ quantified l q (var_decls (map var_decl_of ds)) (part_of p) (tree_of t)
-of-Quantified l q ds None t = ap tree_of (sym (v.rolls-Quantified l q ds None t)) ∙ rolled (Term-F.Quantified l q ds None t)
-of-Quantified l q ds (Some p) t = ap tree_of (sym (v.rolls-Quantified l q ds (Some p) t)) ∙ rolled (Term-F.Quantified l q ds (Some p) t)
+pub of-Quantified : (l : ℕ) (q : Quantifier) (ds : List VarDecl) (p : Option Term) (t : Term) → tree_of (v.Quantified q l ds p t) ≡ quantified l q (var_decls (map var_decl_of ds)) (part_of p) (tree_of t)
+of-Quantified l q ds None t = ap tree_of (sym (v.rolls-Quantified q l ds None t)) ∙ rolled (Term-F.Quantified q l ds None t)
+of-Quantified l q ds (Some p) t = ap tree_of (sym (v.rolls-Quantified q l ds (Some p) t)) ∙ rolled (Term-F.Quantified q l ds (Some p) t)
 
 pub of-link : (r : Relation) (t : Term) → link_of (new_link r t) ≡ (r, tree_of t)
 unfolding tree_of link_of

@@ -136,6 +136,11 @@ unfoldable pub outside_found : List ℕ → Found
 outside_found [] = plain 0
 outside_found (b ∷ bs) = if b == 92 then opening_found (b ∷ bs) else (if b == 37 then comment_found (b ∷ bs) else plain 1)
 
+abbrev pub closing : Place → List ℕ
+closing Outside = []
+closing (Zed line) = codes "\\end{zed}"
+closing (Schema line) = codes "\\end{schema}"
+
 unfoldable pub found_at : Place → List ℕ → Found
 found_at Outside s = outside_found s
 found_at (Zed line) s = inside_found (codes "\\end{zed}") s

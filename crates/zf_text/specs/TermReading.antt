@@ -280,7 +280,7 @@ module _ (below : ℕ → Parser (Tall Term)) where
     p ← part mark.Bar quantifier_level
     expect mark.At
     x ← below quantifier_level
-    pure (tall (term.Quantified line q ds.part p.part x.part) (max (max ds.height p.height) x.height + 1))
+    pure (tall (term.Quantified q line ds.part p.part x.part) (max (max ds.height p.height) x.height + 1))
 
   -- a rule that stands at its level or a looser place
   abbrev pub if_at : ℕ → ℕ → Parser (Tall Term) → Parser (Tall Term)

@@ -129,7 +129,7 @@ tree_step (Term-F.Product l ts) = product l (trees ts)
 tree_step (Term-F.Chain l t ks) = chain l t (links ks)
 tree_step (Term-F.Not l t) = negated l t
 tree_step (Term-F.Connective l op a b) = connected l op a b
-tree_step (Term-F.Quantified l q ds p t) = quantified l q (var_decls ds) (perhaps p) t
+tree_step (Term-F.Quantified q l ds p t) = quantified l q (var_decls ds) (perhaps p) t
 
 abbrev pub link_step : Link-F Tree (Relation × Tree) (List Name × Tree) → Relation × Tree
 link_step k = (k.relation, k.right)

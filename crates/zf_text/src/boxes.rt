@@ -10,20 +10,24 @@ use crate::items::items;
 use crate::next::{Mark, Next};
 use crate::paragraphs::ParagraphRule;
 use crate::tree::ZBox;
-use std::alloc::Global;
-use zf_data::Items;
+use bumpalo::Bump;
+use zf_data::arena::Items;
 
 /// A `zed` box, after its opening.
 #[tactic(auto, unfolding(crate::specs::BoxReading::read_zed))]
-fn zed(alloc: Global, tokens: &mut Cursor<'_>, highest: u32) -> Result<ZBox, TextFault>
+fn zed<'a>(
+    arena: &'a Bump,
+    tokens: &mut Cursor<'a, '_>,
+    highest: u32,
+) -> Result<ZBox<'a>, TextFault>
     requires { highest ≤ 1000 }
     ensures { Gives (spec.read_zed highest tokens.old) result tokens.new }
 {
     let paragraphs = items(
-        alloc,
+        arena,
         tokens,
         Mark::Separator,
-        &ParagraphRule { alloc, highest },
+        &ParagraphRule { arena, highest },
     )?;
     tokens.expect(Mark::EndBox)?;
     Ok(ZBox::Zed(paragraphs.part))
@@ -31,45 +35,57 @@ fn zed(alloc: Global, tokens: &mut Cursor<'_>, highest: u32) -> Result<ZBox, Tex
 
 /// A schema box. One with generic parameters is not read.
 #[tactic(auto, unfolding(crate::specs::BoxReading::read_schema_box))]
-fn schema_box(alloc: Global, tokens: &mut Cursor<'_>, highest: u32) -> Result<ZBox, TextFault>
+fn schema_box<'a>(
+    arena: &'a Bump,
+    tokens: &mut Cursor<'a, '_>,
+    highest: u32,
+) -> Result<ZBox<'a>, TextFault>
     requires { highest ≤ 1000 }
     ensures { Gives (spec.read_schema_box highest tokens.old) result tokens.new }
 {
-    let name = tokens.opening(alloc)?;
+    let name = tokens.opening()?;
     if tokens.is_at(Mark::OpenSquare) {
         return Err(TextFault::not_in_profile(tokens.line()));
     }
-    let decls = decls(alloc, tokens, highest)?;
-    let predicates = predicates(alloc, tokens, highest, Mark::Where)?;
+    let decls = decls(arena, tokens, highest)?;
+    let predicates = predicates(arena, tokens, highest, Mark::Where)?;
     tokens.expect(Mark::EndBox)?;
     Ok(ZBox::SchemaBox(name, decls.part, predicates.part))
 }
 
 #[tactic(auto, unfolding(crate::specs::BoxReading::read_box))]
-fn one_box(alloc: Global, tokens: &mut Cursor<'_>, highest: u32) -> Result<ZBox, TextFault>
+fn one_box<'a>(
+    arena: &'a Bump,
+    tokens: &mut Cursor<'a, '_>,
+    highest: u32,
+) -> Result<ZBox<'a>, TextFault>
     requires { highest ≤ 1000 }
     ensures { Gives (spec.read_box highest tokens.old) result tokens.new }
 {
     match tokens.peek() {
         Next::BeginZed => {
             tokens.skip();
-            zed(alloc, tokens, highest)
+            zed(arena, tokens, highest)
         }
-        _ => schema_box(alloc, tokens, highest),
+        _ => schema_box(arena, tokens, highest),
     }
 }
 
 /// All boxes.
-fn boxes(alloc: Global, tokens: &mut Cursor<'_>, highest: u32) -> Result<Items<ZBox>, TextFault>
+fn boxes<'a>(
+    arena: &'a Bump,
+    tokens: &mut Cursor<'a, '_>,
+    highest: u32,
+) -> Result<Items<'a, ZBox<'a>>, TextFault>
     requires { highest ≤ 1000 }
     ensures { Gives (spec.read_boxes highest tokens.old) result tokens.new }
 {
-    let mut boxes = Items::new(alloc);
+    let mut boxes = Items::new(arena);
     for _turn in 0..tokens.left() {
         if tokens.is_done() {
             return Ok(boxes);
         }
-        let next = one_box(alloc, tokens, highest)?;
+        let next = one_box(arena, tokens, highest)?;
         boxes.push(next)?;
     }
     Ok(boxes)
@@ -77,11 +93,15 @@ fn boxes(alloc: Global, tokens: &mut Cursor<'_>, highest: u32) -> Result<Items<Z
 
 /// All boxes, and nothing after them.
 #[tactic(auto, unfolding(crate::specs::BoxReading::read_all))]
-pub fn all(alloc: Global, tokens: &mut Cursor<'_>, highest: u32) -> Result<Items<ZBox>, TextFault>
+pub fn all<'a>(
+    arena: &'a Bump,
+    tokens: &mut Cursor<'a, '_>,
+    highest: u32,
+) -> Result<Items<'a, ZBox<'a>>, TextFault>
     requires { highest ≤ 1000 }
     ensures { Gives (spec.read_all highest tokens.old) result tokens.new }
 {
-    let boxes = boxes(alloc, tokens, highest)?;
+    let boxes = boxes(arena, tokens, highest)?;
     if !tokens.is_done() {
         return Err(tokens.unexpected());
     }

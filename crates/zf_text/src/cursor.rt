@@ -12,18 +12,17 @@ use crate::next::{Mark, Next};
 use crate::placed::Placed;
 use crate::token::Connective;
 use crate::tree::Name;
-use std::alloc::Global;
 use std::marker::Model;
-use zf_data::Text;
+use zf_data::arena::Lent;
 
 /// A place in the reduced list of the symbols of a text, which contracts see as the symbols from there on.
 #[derive(Drop)]
-pub struct Cursor<'a> {
+pub struct Cursor<'a, 'b> {
     text: &'a [u8],
-    rest: &'a [Placed],
+    rest: &'b [Placed],
 }
 
-impl<'a> Model for Cursor<'a> {
+impl<'a, 'b> Model for Cursor<'a, 'b> {
     ghost use Rattle.std.specs.Prelude.{List, map};
     ghost use Rattle.zf_text.specs.Separators.{Symbol};
     ghost use Rattle.zf_text.specs.Placing.{symbol_at};
@@ -33,8 +32,8 @@ impl<'a> Model for Cursor<'a> {
     ghost view = { λ c. map (symbol_at c.text.now) c.rest.now };
 }
 
-impl<'a> Cursor<'a> {
-    pub fn new(text: &'a [u8], symbols: &'a [Placed]) -> Cursor<'a>
+impl<'a, 'b> Cursor<'a, 'b> {
+    pub fn new(text: &'a [u8], symbols: &'b [Placed]) -> Cursor<'a, 'b>
         ensures { result ≡ map (symbol_at text.entry.now) symbols.entry.now }
     {
         Cursor {
@@ -170,15 +169,15 @@ impl<'a> Cursor<'a> {
         Ok(())
     }
 
-    /// A name, copied out of the text.
-    pub fn name(&mut self, alloc: Global) -> Result<Name, TextFault>
+    /// A name, whose bytes the text lends.
+    pub fn name(&mut self) -> Result<Name<'a>, TextFault>
         ensures { Gives (terms.lift (spec.read_name self.old)) result self.new }
     {
         match self.rest {
             [first, rest @ ..] if matches!(first.next, Next::Name) => {
                 let name = Name {
-                    base: Text::of(alloc, first.base(self.text))?,
-                    strokes: Text::of(alloc, first.strokes(self.text))?,
+                    base: Lent::new(first.base(self.text)),
+                    strokes: Lent::new(first.strokes(self.text)),
                     line: first.line,
                 };
                 self.rest = rest;
@@ -202,14 +201,14 @@ impl<'a> Cursor<'a> {
     }
 
     /// The opening of a schema box: its name.
-    pub fn opening(&mut self, alloc: Global) -> Result<Name, TextFault>
+    pub fn opening(&mut self) -> Result<Name<'a>, TextFault>
         ensures { Gives (terms.lift (spec.read_opening self.old)) result self.new }
     {
         match self.rest {
             [first, rest @ ..] if matches!(first.next, Next::BeginSchema) => {
                 let name = Name {
-                    base: Text::of(alloc, first.opened(self.text))?,
-                    strokes: Text::new(alloc),
+                    base: Lent::new(first.opened(self.text)),
+                    strokes: Lent::new(&[]),
                     line: first.line,
                 };
                 self.rest = rest;

@@ -12,45 +12,49 @@ use crate::next::{Mark, Next};
 use crate::tall::Tall;
 use crate::terms::term;
 use crate::tree::{Decl, RefMark, SchemaRef, Term};
-use std::alloc::Global;
-use zf_data::Items;
+use bumpalo::Bump;
+use zf_data::arena::{Boxed, Items};
 
 #[tactic(auto, unfolding(crate::specs::BoxReading::marked))]
-fn marked(alloc: Global, tokens: &mut Cursor<'_>, mark: RefMark) -> Result<SchemaRef, TextFault>
+fn marked<'a>(tokens: &mut Cursor<'a, '_>, mark: RefMark) -> Result<SchemaRef<'a>, TextFault>
     ensures { Gives (spec.marked mark tokens.old) result tokens.new }
 {
-    let name = tokens.name(alloc)?;
+    let name = tokens.name()?;
     Ok(SchemaRef { mark, name })
 }
 
 /// A schema reference.
 #[tactic(auto, unfolding(crate::specs::BoxReading::read_ref))]
-pub fn reference(alloc: Global, tokens: &mut Cursor<'_>) -> Result<SchemaRef, TextFault>
+pub fn reference<'a>(tokens: &mut Cursor<'a, '_>) -> Result<SchemaRef<'a>, TextFault>
     ensures { Gives (spec.read_ref tokens.old) result tokens.new }
 {
     match tokens.peek() {
         Next::Delta => {
             tokens.skip();
-            marked(alloc, tokens, RefMark::Delta)
+            marked(tokens, RefMark::Delta)
         }
         Next::Xi => {
             tokens.skip();
-            marked(alloc, tokens, RefMark::Xi)
+            marked(tokens, RefMark::Xi)
         }
-        _ => marked(alloc, tokens, RefMark::Plain),
+        _ => marked(tokens, RefMark::Plain),
     }
 }
 
 /// Components and their declared set.
 #[tactic(auto, unfolding(crate::specs::BoxReading::variables))]
-fn variables(alloc: Global, tokens: &mut Cursor<'_>, highest: u32) -> Result<Tall<Decl>, TextFault>
+fn variables<'a>(
+    arena: &'a Bump,
+    tokens: &mut Cursor<'a, '_>,
+    highest: u32,
+) -> Result<Tall<Decl<'a>>, TextFault>
     requires { highest ≤ 1000 }
     ensures value { Gives (spec.variables highest tokens.old) result tokens.new }
     ensures low { IfOk result (λ x. x.height ≤ highest) }
 {
-    let names = names(alloc, tokens)?;
+    let names = names(arena, tokens)?;
     tokens.expect(Mark::Colon)?;
-    let set = term(alloc, tokens, highest, EXPRESSION)?;
+    let set = term(arena, tokens, highest, EXPRESSION)?;
     Ok(Tall {
         part: Decl::Vars(names, set.part),
         height: set.height,
@@ -59,11 +63,11 @@ fn variables(alloc: Global, tokens: &mut Cursor<'_>, highest: u32) -> Result<Tal
 
 /// A schema that is included, which has height 1.
 #[tactic(auto, unfolding(crate::specs::BoxReading::inclusion))]
-fn inclusion(alloc: Global, tokens: &mut Cursor<'_>, highest: u32) -> Result<Tall<Decl>, TextFault>
+fn inclusion<'a>(tokens: &mut Cursor<'a, '_>, highest: u32) -> Result<Tall<Decl<'a>>, TextFault>
     ensures value { Gives (spec.inclusion highest tokens.old) result tokens.new }
     ensures low { IfOk result (λ x. x.height ≤ highest) }
 {
-    let schema = reference(alloc, tokens)?;
+    let schema = reference(tokens)?;
     if highest < 1 {
         return Err(tokens.too_deep());
     }
@@ -75,49 +79,49 @@ fn inclusion(alloc: Global, tokens: &mut Cursor<'_>, highest: u32) -> Result<Tal
 
 /// A declaration.
 #[derive(Drop)]
-struct DeclRule {
-    alloc: Global,
+struct DeclRule<'a> {
+    arena: &'a Bump,
     highest: u32,
 }
 
-impl Rule for DeclRule {
-    type Item = Decl;
+impl<'a> Rule<'a> for DeclRule<'a> {
+    type Item = Decl<'a>;
 
     ghost parser = { λ r. spec.read_decl r.highest };
 
     ghost limit = { λ r. r.highest };
 
     #[tactic(auto, unfolding(crate::specs::BoxReading::read_decl))]
-    fn read(&self, tokens: &mut Cursor<'_>) -> Result<Tall<Decl>, TextFault> {
+    fn read(&self, tokens: &mut Cursor<'a, '_>) -> Result<Tall<Decl<'a>>, TextFault> {
         if tokens.declares() {
-            return variables(self.alloc, tokens, self.highest);
+            return variables(self.arena, tokens, self.highest);
         }
-        inclusion(self.alloc, tokens, self.highest)
+        inclusion(tokens, self.highest)
     }
 }
 
 /// One or more declarations, parted by separators.
-pub fn decls(
-    alloc: Global,
-    tokens: &mut Cursor<'_>,
+pub fn decls<'a>(
+    arena: &'a Bump,
+    tokens: &mut Cursor<'a, '_>,
     highest: u32,
-) -> Result<Tall<Items<Decl>>, TextFault>
+) -> Result<Tall<Items<'a, Decl<'a>>>, TextFault>
     requires { highest ≤ 1000 }
     ensures value { Gives (spec.read_decls highest tokens.old) result tokens.new }
     ensures low { IfOk result (λ x. x.height ≤ highest) }
 {
-    items(alloc, tokens, Mark::Separator, &DeclRule { alloc, highest })
+    items(arena, tokens, Mark::Separator, &DeclRule { arena, highest })
 }
 
 /// A predicate.
 #[derive(Drop)]
-struct PredicateRule {
-    alloc: Global,
+struct PredicateRule<'a> {
+    arena: &'a Bump,
     highest: u32,
 }
 
-impl Rule for PredicateRule {
-    type Item = Term;
+impl<'a> Rule<'a> for PredicateRule<'a> {
+    type Item = Boxed<'a, Term<'a>>;
 
     ghost use Rattle.zf_text.specs.Levels.{quantifier_level};
     ghost use Rattle.zf_text.specs.TermReading.{read_term};
@@ -126,34 +130,34 @@ impl Rule for PredicateRule {
 
     ghost limit = { λ r. r.highest };
 
-    fn read(&self, tokens: &mut Cursor<'_>) -> Result<Tall<Term>, TextFault> {
-        term(self.alloc, tokens, self.highest, QUANTIFIER)
+    fn read(&self, tokens: &mut Cursor<'a, '_>) -> Result<Tall<Boxed<'a, Term<'a>>>, TextFault> {
+        term(self.arena, tokens, self.highest, QUANTIFIER)
     }
 }
 
 /// Predicates behind a symbol, parted by separators, if that symbol is there.
 #[tactic(auto, unfolding(crate::specs::BoxReading::predicates))]
-pub fn predicates(
-    alloc: Global,
-    tokens: &mut Cursor<'_>,
+pub fn predicates<'a>(
+    arena: &'a Bump,
+    tokens: &mut Cursor<'a, '_>,
     highest: u32,
     mark: Mark,
-) -> Result<Tall<Items<Term>>, TextFault>
+) -> Result<Tall<Items<'a, Boxed<'a, Term<'a>>>>, TextFault>
     requires { highest ≤ 1000 }
     ensures value { Gives (spec.predicates highest mark tokens.old) result tokens.new }
     ensures low { IfOk result (λ x. x.height ≤ highest) }
 {
     if !tokens.is_at(mark) {
         return Ok(Tall {
-            part: Items::new(alloc),
+            part: Items::new(arena),
             height: 0,
         });
     }
     tokens.skip();
     items(
-        alloc,
+        arena,
         tokens,
         Mark::Separator,
-        &PredicateRule { alloc, highest },
+        &PredicateRule { arena, highest },
     )
 }

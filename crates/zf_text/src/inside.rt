@@ -1,5 +1,5 @@
 //! The piece that begins a text inside a box.
-ghost use Rattle.std.specs.Prelude.{◌≡◌, ◌<◌, ◌≤◌, length, nat_le, if◌then◌else◌, Some, None};
+ghost use Rattle.std.specs.Prelude.{◌≡◌, ◌<◌, ◌≤◌, ℕ, List, ◌∷◌, IsTrue, length, slice_index_or, nat_le, if◌then◌else◌, Some, None};
 ghost use Rattle.zf_text.specs.Pieces as spec;
 ghost use Rattle.zf_text.specs.Pieces.{look_up, symbols};
 ghost use Rattle.zf_text.specs.Sights.{seen, told};
@@ -7,25 +7,41 @@ ghost use Rattle.zf_text.specs.Steps as steps;
 
 use crate::fault::TextFaultKind;
 use crate::next::Next;
-use crate::pieces::{Found, Run, Sight, after, begins, front, is_digit, is_letter, run_len, step};
+use crate::pieces::{
+    Found, Place, Run, Sight, after, begins, front, is_digit, is_letter, run_len, step,
+};
+use crate::signs::symbol_at;
 use crate::symbols::fixed;
-use crate::token::{Infix, Relation};
+use crate::token::Separator;
 
 /// The greatest number.
 pub const NUMBER_MAX: u64 = 9223372036854775807;
 
-/// The piece at the front of a text in a box that `end` closes.
+/// How the box is closed.
+fn closing(place: Place) -> &'static [u8]
+    ensures { result.now ≡ steps.closing place }
+{
+    match place {
+        Place::Outside => b"",
+        Place::Zed(_) => b"\\end{zed}",
+        Place::Schema(_) => b"\\end{schema}",
+    }
+}
+
+/// The piece at the front of a text in a box.
 #[tactic(auto, unfolding(crate::specs::Steps::inside_found))]
 #[inline(always)]
-pub fn inside_at(end: &[u8], rest: &[u8]) -> Found
-    ensures { told rest.now result ≡ steps.inside_found end.now rest.now }
+pub fn inside_at(place: Place, rest: &[u8]) -> Found
+    requires end_len { 2 ≤ length (steps.closing place) }
+    requires end_second { slice_index_or (steps.closing place) 1 0 ≡ 101 }
+    ensures { told rest.now result ≡ steps.inside_found (steps.closing place) rest.now }
 {
     let [first, ..] = rest else {
         return Found::of(Sight::Refused(TextFaultKind::UnclosedBox), 0);
     };
     match *first {
         b'%' => comment_at(rest),
-        b'\\' => command_at(end, rest),
+        b'\\' => command_at(place, rest),
         b if is_letter(b) => word_at(rest),
         b if is_digit(b) => number_at(rest),
         _ => symbol_at(rest),
@@ -34,7 +50,7 @@ pub fn inside_at(end: &[u8], rest: &[u8]) -> Found
 
 /// A comment, from its `%` on.
 #[tactic(auto, unfolding(crate::specs::Steps::comment_found))]
-#[inline(never)]
+#[inline(always)]
 pub fn comment_at(rest: &[u8]) -> Found
     requires { 0 < length rest.now }
     ensures { told rest.now result ≡ steps.comment_found rest.now }
@@ -57,14 +73,33 @@ fn is_directive(comment: &[u8]) -> bool
     }
 }
 
-// A command, or the closing of the box.
-#[tactic(auto, unfolding(crate::specs::Steps::command_found))]
-#[inline(never)]
-fn command_at(end: &[u8], rest: &[u8]) -> Found
-    requires { 0 < length rest.now }
-    ensures { told rest.now result ≡ steps.command_found end.now rest.now }
+// A command, or the closing of the box. The most frequent ones are told by their second byte.
+#[inline(always)]
+fn command_at(place: Place, rest: &[u8]) -> Found
+    requires end_len { 2 ≤ length (steps.closing place) }
+    requires end_second { slice_index_or (steps.closing place) 1 0 ≡ 101 }
+    requires some { 0 < length rest.now }
+    requires first { slice_index_or rest.now 0 0 ≡ 92 }
+    ensures { told rest.now result ≡ steps.command_found (steps.closing place) rest.now }
 {
-    if begins(rest, end) {
+    match rest {
+        [_, b'\\', ..] => Found::of(Sight::Symbol(Next::Separator(Separator::NewLine)), 2),
+        [_, b'{', ..] => Found::of(Sight::Symbol(Next::OpenBrace), 2),
+        [_, b'}', ..] => Found::of(Sight::Symbol(Next::CloseBrace), 2),
+        _ => named_command_at(place, rest),
+    }
+}
+
+#[tactic(auto, unfolding(crate::specs::Steps::command_found))]
+#[inline(always)]
+fn named_command_at(place: Place, rest: &[u8]) -> Found
+    requires end_len { 2 ≤ length (steps.closing place) }
+    requires end_second { slice_index_or (steps.closing place) 1 0 ≡ 101 }
+    requires some { 0 < length rest.now }
+    ensures { told rest.now result ≡ steps.command_found (steps.closing place) rest.now }
+{
+    let end = closing(place);
+    if closes(end, rest) {
         return Found::of(Sight::Symbol(Next::EndBox), end.len());
     }
     let short = command_len(rest);
@@ -72,6 +107,20 @@ fn command_at(end: &[u8], rest: &[u8]) -> Found
     match fixed(front(rest, long)) {
         Some(sight) => Found::of(sight, long),
         None => short_command(rest, short),
+    }
+}
+
+// Whether the box is closed here. Its end begins with `\e`.
+#[inline(always)]
+fn closes(end: &[u8], rest: &[u8]) -> bool
+    requires end_len { 2 ≤ length end.now }
+    requires end_second { slice_index_or end.now 1 0 ≡ 101 }
+    ensures value { result ≡ steps.begins rest.now end.now }
+    ensures room { IsTrue result → length end.now ≤ length rest.now }
+{
+    match rest {
+        [_, b'e', ..] => begins(rest, end),
+        _ => false,
     }
 }
 
@@ -114,7 +163,7 @@ fn tail_len(rest: &[u8]) -> usize
 
 // A name, `true` or `false`.
 #[tactic(auto, unfolding(crate::specs::Steps::word_found))]
-#[inline(never)]
+#[inline(always)]
 fn word_at(rest: &[u8]) -> Found
     ensures { told rest.now result ≡ steps.word_found rest.now }
 {
@@ -158,7 +207,7 @@ pub fn base_len(rest: &[u8]) -> usize
 }
 
 #[tactic(auto, unfolding(crate::specs::Steps::number_found))]
-#[inline(never)]
+#[inline(always)]
 fn number_at(rest: &[u8]) -> Found
     ensures { told rest.now result ≡ steps.number_found rest.now }
 {
@@ -185,55 +234,4 @@ fn value_of(digits: &[u8]) -> Option<u64>
         n = 10 * n + digit;
     }
     Some(n)
-}
-
-// A symbol. The most frequent ones are told by their first byte.
-#[tactic(auto, unfolding(crate::specs::Steps::symbol_found, crate::specs::Pieces::symbols))]
-fn symbol_at(rest: &[u8]) -> Found
-    ensures { told rest.now result ≡ steps.symbol_found rest.now }
-{
-    let [first, ..] = rest else {
-        return Found::of(Sight::Refused(TextFaultKind::BadByte), 1);
-    };
-    match *first {
-        b'(' => Found::of(Sight::Symbol(Next::OpenRound), 1),
-        b')' => Found::of(Sight::Symbol(Next::CloseRound), 1),
-        b',' => Found::of(Sight::Symbol(Next::Comma), 1),
-        b'[' => Found::of(Sight::Symbol(Next::OpenSquare), 1),
-        b']' => Found::of(Sight::Symbol(Next::CloseSquare), 1),
-        b'@' => Found::of(Sight::Symbol(Next::At), 1),
-        b'|' => Found::of(Sight::Symbol(Next::Bar), 1),
-        b'+' => Found::of(Sight::Symbol(Next::Infix(Infix::Plus)), 1),
-        b'-' => Found::of(Sight::Symbol(Next::Infix(Infix::Minus)), 1),
-        b'<' => Found::of(Sight::Symbol(Next::Relation(Relation::Less)), 1),
-        b'>' => Found::of(Sight::Symbol(Next::Relation(Relation::Greater)), 1),
-        _ => other_symbol_at(rest),
-    }
-}
-
-#[inline(never)]
-#[tactic(auto, unfolding(crate::specs::Steps::symbol_found))]
-fn other_symbol_at(rest: &[u8]) -> Found
-    requires { 0 < length rest.now }
-    ensures { told rest.now result ≡ steps.symbol_found rest.now }
-{
-    let len = symbol_len(rest);
-    match fixed(front(rest, len)) {
-        Some(sight) => Found::of(sight, len),
-        None => Found::of(Sight::Refused(TextFaultKind::BadByte), len),
-    }
-}
-
-fn symbol_len(rest: &[u8]) -> usize
-    requires { 0 < length rest.now }
-    ensures value { result ≡ steps.symbol_len rest.now }
-    ensures within { result ≤ length rest.now }
-{
-    if begins(rest, b"::=") {
-        3
-    } else if begins(rest, b"==") {
-        2
-    } else {
-        1
-    }
 }

@@ -7,11 +7,11 @@ use crate::cursor::Cursor;
 use crate::fault::TextFault;
 use crate::next::Mark;
 use crate::tall::Tall;
-use std::alloc::Global;
-use zf_data::Items;
+use bumpalo::Bump;
+use zf_data::arena::Items;
 
 /// A rule of the grammar, which reads items of one type up to a height.
-pub trait Rule {
+pub trait Rule<'a> {
     type Item: Drop;
 
     ghost use Rattle.std.specs.Prelude.{ℕ, List, Result};
@@ -23,24 +23,24 @@ pub trait Rule {
 
     ghost limit: { Self → ℕ };
 
-    fn read(&self, tokens: &mut Cursor<'_>) -> Result<Tall<Self::Item>, TextFault>
+    fn read(&self, tokens: &mut Cursor<'a, '_>) -> Result<Tall<Self::Item>, TextFault>
         requires { limit self.now ≤ 1000 }
         ensures value { Gives (parser self.now tokens.old) result tokens.new }
         ensures low { IfOk result (λ x. x.height ≤ limit self.now) };
 }
 
-pub fn items<R: Rule>(
-    alloc: Global,
-    tokens: &mut Cursor<'_>,
+pub fn items<'a, R: Rule<'a>>(
+    arena: &'a Bump,
+    tokens: &mut Cursor<'a, '_>,
     part: Mark,
     rule: &R,
-) -> Result<Tall<Items<R::Item>>, TextFault>
+) -> Result<Tall<Items<'a, R::Item>>, TextFault>
     requires { R.limit rule.now ≤ 1000 }
     ensures value { Gives (spec.items part (R.parser rule.now) tokens.old) result tokens.new }
     ensures low { IfOk result (λ x. x.height ≤ R.limit rule.now) }
 {
     let first = rule.read(tokens)?;
-    let mut items = Items::of(alloc, first.part)?;
+    let mut items = Items::of(arena, first.part)?;
     let mut height = first.height;
     for _turn in 0..tokens.left() {
         if !tokens.is_at(part) {

@@ -6,17 +6,18 @@ ghost use Rattle.zf_text.specs.declared.token.Token.{Token};
 use crate::next::next_of;
 use crate::placed::Placed;
 use crate::token::{Kind, Token};
+use bumpalo::Bump;
 use std::alloc::{AllocError, Global};
 
 /// A text, and its symbols.
 #[derive(Drop)]
-pub struct Laid {
-    pub text: Vec<u8>,
+pub struct Laid<'a> {
+    pub text: Vec<u8, &'a Bump>,
     pub symbols: Vec<Placed>,
 }
 
 /// What is spelled of the token, so that its text can be read again.
-fn spell(text: &mut Vec<u8>, kind: &Kind) -> Result<(), AllocError>
+fn spell(text: &mut Vec<u8, &Bump>, kind: &Kind) -> Result<(), AllocError>
     ensures { OnOk result (text.new.items ≡ text.old.items ++ spec.spelling kind.now) }
 {
     match kind {
@@ -44,7 +45,7 @@ fn amount(kind: &Kind) -> usize
     }
 }
 
-impl Laid {
+impl<'a> Laid<'a> {
     fn add(&mut self, token: &Token) -> Result<(), AllocError>
         ensures { (before : List Token) → spec.IsLaid self.old.text.items self.old.symbols.items before → OnOk result (spec.IsLaid self.new.text.items self.new.symbols.items (before ++ token.now ∷ [])) }
     {
@@ -62,11 +63,11 @@ impl Laid {
 }
 
 /// The tokens, laid out in a text of their own.
-pub fn lay_out(alloc: Global, tokens: &[Token]) -> Result<Laid, AllocError>
+pub fn lay_out<'a>(alloc: Global, arena: &'a Bump, tokens: &[Token]) -> Result<Laid<'a>, AllocError>
     ensures { IfOk result (λ l. spec.IsLaid l.text.items l.symbols.items tokens.now) }
 {
     let mut laid = Laid {
-        text: Vec::new(alloc),
+        text: Vec::new(arena),
         symbols: Vec::new(alloc),
     };
     for i in 0..tokens.len() {

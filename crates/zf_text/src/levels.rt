@@ -104,7 +104,7 @@ pub fn sign_level(sign: Sign) -> u8
 }
 
 #[tactic(auto, using(crate::proofs::TermSeen::seen))]
-pub fn level(term: &Term) -> u8
+pub fn level(term: &Term<'_>) -> u8
     ensures { result ≡ levels.level (tree_of term.now) }
 {
     match term {
@@ -132,7 +132,7 @@ pub fn level(term: &Term) -> u8
 
 /// The line of the first symbol.
 #[tactic(auto, using(crate::proofs::TermSeen::seen))]
-pub fn line(term: &Term) -> u32
+pub fn line(term: &Term<'_>) -> u32
     ensures { result ≡ spelling.line_of (tree_of term.now) }
 {
     match term {
@@ -154,7 +154,7 @@ pub fn line(term: &Term) -> u32
         Term::Chain(line, _, _) => *line,
         Term::Not(line, _) => *line,
         Term::Connective(line, _, _, _) => *line,
-        Term::Quantified(line, _, _, _, _) => *line,
+        Term::Quantified(_, line, _, _, _) => *line,
     }
 }
 

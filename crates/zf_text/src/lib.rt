@@ -19,6 +19,7 @@ mod placed;
 pub mod reading;
 pub mod scan;
 mod schemas;
+mod signs;
 mod symbols;
 mod tall;
 mod terms;

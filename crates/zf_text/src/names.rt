@@ -6,33 +6,36 @@ use crate::cursor::Cursor;
 use crate::fault::TextFault;
 use crate::next::Mark;
 use crate::tree::Name;
-use std::alloc::Global;
-use zf_data::Items;
+use bumpalo::Bump;
+use zf_data::arena::Items;
 
 /// One or more names, parted by a symbol.
-pub fn parted_names(
-    alloc: Global,
-    tokens: &mut Cursor<'_>,
+pub fn parted_names<'a>(
+    arena: &'a Bump,
+    tokens: &mut Cursor<'a, '_>,
     part: Mark,
-) -> Result<Items<Name>, TextFault>
+) -> Result<Items<'a, Name<'a>>, TextFault>
     ensures { Gives (lift (spec.parted part spec.read_name tokens.old)) result tokens.new }
 {
-    let first = tokens.name(alloc)?;
-    let mut names = Items::of(alloc, first)?;
+    let first = tokens.name()?;
+    let mut names = Items::of(arena, first)?;
     for _turn in 0..tokens.left() {
         if !tokens.is_at(part) {
             return Ok(names);
         }
         tokens.skip();
-        let name = tokens.name(alloc)?;
+        let name = tokens.name()?;
         names.push(name)?;
     }
     Ok(names)
 }
 
 /// One or more names, parted by commas.
-pub fn names(alloc: Global, tokens: &mut Cursor<'_>) -> Result<Items<Name>, TextFault>
+pub fn names<'a>(
+    arena: &'a Bump,
+    tokens: &mut Cursor<'a, '_>,
+) -> Result<Items<'a, Name<'a>>, TextFault>
     ensures { Gives (read_names tokens.old) result tokens.new }
 {
-    parted_names(alloc, tokens, Mark::Comma)
+    parted_names(arena, tokens, Mark::Comma)
 }

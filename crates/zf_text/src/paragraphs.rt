@@ -13,15 +13,15 @@ use crate::schemas::schema;
 use crate::tall::Tall;
 use crate::terms::term;
 use crate::tree::{Name, Paragraph};
-use std::alloc::Global;
+use bumpalo::Bump;
 
 /// Given sets, after the opening bracket.
 #[tactic(auto, unfolding(crate::specs::BoxReading::given))]
-fn given(alloc: Global, tokens: &mut Cursor<'_>) -> Result<Tall<Paragraph>, TextFault>
+fn given<'a>(arena: &'a Bump, tokens: &mut Cursor<'a, '_>) -> Result<Tall<Paragraph<'a>>, TextFault>
     ensures value { Gives (spec.given tokens.old) result tokens.new }
     ensures low { IfOk result (λ x. x.height ≤ 0) }
 {
-    let names = names(alloc, tokens)?;
+    let names = names(arena, tokens)?;
     tokens.expect(Mark::CloseSquare)?;
     Ok(Tall {
         part: Paragraph::Given(names),
@@ -31,15 +31,15 @@ fn given(alloc: Global, tokens: &mut Cursor<'_>) -> Result<Tall<Paragraph>, Text
 
 /// The constructors of a free type.
 #[tactic(auto, unfolding(crate::specs::BoxReading::free_type))]
-fn free_type(
-    alloc: Global,
-    tokens: &mut Cursor<'_>,
-    name: Name,
-) -> Result<Tall<Paragraph>, TextFault>
-    ensures value { Gives (spec.free_type name tokens.old) result tokens.new }
+fn free_type<'a>(
+    arena: &'a Bump,
+    tokens: &mut Cursor<'a, '_>,
+    name: Name<'a>,
+) -> Result<Tall<Paragraph<'a>>, TextFault>
+    ensures value { Gives (spec.free_type name.entry tokens.old) result tokens.new }
     ensures low { IfOk result (λ x. x.height ≤ 0) }
 {
-    let constructors = parted_names(alloc, tokens, Mark::Bar)?;
+    let constructors = parted_names(arena, tokens, Mark::Bar)?;
     Ok(Tall {
         part: Paragraph::Free(name, constructors),
         height: 0,
@@ -48,17 +48,17 @@ fn free_type(
 
 /// The term of an abbreviation.
 #[tactic(auto, unfolding(crate::specs::BoxReading::abbreviation))]
-fn abbreviation(
-    alloc: Global,
-    tokens: &mut Cursor<'_>,
+fn abbreviation<'a>(
+    arena: &'a Bump,
+    tokens: &mut Cursor<'a, '_>,
     highest: u32,
-    name: Name,
-) -> Result<Tall<Paragraph>, TextFault>
+    name: Name<'a>,
+) -> Result<Tall<Paragraph<'a>>, TextFault>
     requires { highest ≤ 1000 }
-    ensures value { Gives (spec.abbreviation highest name tokens.old) result tokens.new }
+    ensures value { Gives (spec.abbreviation highest name.entry tokens.old) result tokens.new }
     ensures low { IfOk result (λ x. x.height ≤ highest) }
 {
-    let set = term(alloc, tokens, highest, EXPRESSION)?;
+    let set = term(arena, tokens, highest, EXPRESSION)?;
     Ok(Tall {
         part: Paragraph::Abbrev(name, set.part),
         height: set.height,
@@ -67,20 +67,20 @@ fn abbreviation(
 
 /// The schema expression of a definition, whose name has no strokes.
 #[tactic(auto, unfolding(crate::specs::BoxReading::definition))]
-fn definition(
-    alloc: Global,
-    tokens: &mut Cursor<'_>,
+fn definition<'a>(
+    arena: &'a Bump,
+    tokens: &mut Cursor<'a, '_>,
     highest: u32,
-    name: Name,
-) -> Result<Tall<Paragraph>, TextFault>
+    name: Name<'a>,
+) -> Result<Tall<Paragraph<'a>>, TextFault>
     requires { highest ≤ 1000 }
-    ensures value { Gives (spec.definition highest name tokens.old) result tokens.new }
+    ensures value { Gives (spec.definition highest name.entry tokens.old) result tokens.new }
     ensures low { IfOk result (λ x. x.height ≤ highest) }
 {
     if !name.is_bare() {
         return Err(tokens.unexpected());
     }
-    let schema = schema(alloc, tokens, highest)?;
+    let schema = schema(arena, tokens, highest)?;
     Ok(Tall {
         part: Paragraph::Defs(name, schema.part),
         height: schema.height,
@@ -89,24 +89,28 @@ fn definition(
 
 /// A paragraph that begins with the name it defines.
 #[tactic(auto, unfolding(crate::specs::BoxReading::named))]
-fn named(alloc: Global, tokens: &mut Cursor<'_>, highest: u32) -> Result<Tall<Paragraph>, TextFault>
+fn named<'a>(
+    arena: &'a Bump,
+    tokens: &mut Cursor<'a, '_>,
+    highest: u32,
+) -> Result<Tall<Paragraph<'a>>, TextFault>
     requires { highest ≤ 1000 }
     ensures value { Gives (spec.named highest tokens.old) result tokens.new }
     ensures low { IfOk result (λ x. x.height ≤ highest) }
 {
-    let name = tokens.name(alloc)?;
+    let name = tokens.name()?;
     match tokens.peek() {
         Next::FreeType => {
             tokens.skip();
-            free_type(alloc, tokens, name)
+            free_type(arena, tokens, name)
         }
         Next::Abbreviates => {
             tokens.skip();
-            abbreviation(alloc, tokens, highest, name)
+            abbreviation(arena, tokens, highest, name)
         }
         Next::Defines => {
             tokens.skip();
-            definition(alloc, tokens, highest, name)
+            definition(arena, tokens, highest, name)
         }
         _ => Err(tokens.unexpected()),
     }
@@ -114,24 +118,24 @@ fn named(alloc: Global, tokens: &mut Cursor<'_>, highest: u32) -> Result<Tall<Pa
 
 /// A paragraph.
 #[derive(Drop)]
-pub struct ParagraphRule {
-    pub alloc: Global,
+pub struct ParagraphRule<'a> {
+    pub arena: &'a Bump,
     pub highest: u32,
 }
 
-impl Rule for ParagraphRule {
-    type Item = Paragraph;
+impl<'a> Rule<'a> for ParagraphRule<'a> {
+    type Item = Paragraph<'a>;
 
     ghost parser = { λ r. spec.read_paragraph r.highest };
 
     ghost limit = { λ r. r.highest };
 
     #[tactic(auto, unfolding(crate::specs::BoxReading::read_paragraph))]
-    fn read(&self, tokens: &mut Cursor<'_>) -> Result<Tall<Paragraph>, TextFault> {
+    fn read(&self, tokens: &mut Cursor<'a, '_>) -> Result<Tall<Paragraph<'a>>, TextFault> {
         if tokens.is_at(Mark::OpenSquare) {
             tokens.skip();
-            return given(self.alloc, tokens);
+            return given(self.arena, tokens);
         }
-        named(self.alloc, tokens, self.highest)
+        named(self.arena, tokens, self.highest)
     }
 }

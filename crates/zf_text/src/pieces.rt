@@ -130,17 +130,29 @@ pub fn run_len(run: Run, bytes: &[u8]) -> usize
     }
 }
 
+/// Whether two texts are the same. The second is mostly a literal, so that the loop unrolls.
+#[inline(always)]
 pub fn same(a: &[u8], b: &[u8]) -> bool
     ensures { result ≡ bytes_eq a.now b.now }
 {
-    a == b
+    a.len() == b.len() && begins(a, b)
 }
 
+/// Whether a text begins with another.
+#[inline(always)]
 pub fn begins(bytes: &[u8], front: &[u8]) -> bool
     ensures value { result ≡ starts_with nat_eq bytes.now front.now }
     ensures room { IsTrue result → length front.now ≤ length bytes.now }
 {
-    bytes.starts_with(front)
+    if bytes.len() < front.len() {
+        return false;
+    }
+    for i in 0..front.len() {
+        if bytes[i] != front[i] {
+            return false;
+        }
+    }
+    true
 }
 
 pub fn front(bytes: &[u8], len: usize) -> &[u8]

@@ -1,10 +1,11 @@
 //! Trees out of tokens, and out of a source.
-ghost use Rattle.std.specs.Prelude.{◌≡◌, ℕ, List, IfOk, map};
+ghost use Rattle.std.specs.Prelude.{◌≡◌, ◌≤◌, ◌<◌, ℕ, List, IfOk, length, map, slice_index_or, slice_set};
 ghost use Rattle.zf_text.specs.Parsing.{Parses, ReadsSpec};
 ghost use Rattle.zf_text.specs.Placing.{symbol_at, token_at, unplaced};
 ghost use Rattle.zf_text.specs.Reads.{Reads};
 ghost use Rattle.zf_text.specs.Separators.{reduced, starts_closed};
 ghost use Rattle.zf_text.specs.Trees.{BoxTree};
+ghost use Rattle.zf_text.specs.declared.placed.Placed.{Placed};
 ghost use Rattle.zf_text.specs.declared.token.Token.{Token};
 
 use crate::boxes::all;
@@ -15,6 +16,8 @@ use crate::placed::Placed;
 use crate::scan::symbols;
 use crate::token::Token;
 use crate::tree::Spec;
+use bumpalo::Bump;
+use bumpalo::collections::into_bump_slice;
 use std::alloc::Global;
 
 /// Whether a separator before these symbols is dropped.
@@ -24,6 +27,18 @@ fn starts_closed(symbols: &[Placed]) -> bool
     match symbols {
         [] => false,
         [first, ..] => first.next.closes(),
+    }
+}
+
+/// Puts a symbol to a place before its own; mostly it stands there.
+#[inline(always)]
+fn put(symbols: &mut Vec<Placed>, to: usize, from: usize)
+    requires before { to ≤ from }
+    requires within { from < length symbols.old.items }
+    ensures { (symbol : Placed) → symbol ≡ slice_index_or symbols.old.items from symbol → symbols.new.items ≡ slice_set symbols.old.items to symbol }
+{
+    if to < from {
+        symbols[to] = symbols[from];
     }
 }
 
@@ -42,7 +57,7 @@ fn reduce(symbols: &mut Vec<Placed>)
                 drops = true;
             }
         } else {
-            symbols[kept] = symbol;
+            put(symbols, kept, i);
             kept += 1;
             drops = symbol.next.opens();
         }
@@ -54,29 +69,37 @@ fn reduce(symbols: &mut Vec<Placed>)
 const HEIGHT_LIMIT: u32 = 128;
 
 /// The tree that reads the symbols of a text.
-fn parsed(alloc: Global, text: &[u8], mut symbols: Vec<Placed>) -> Result<Spec, TextFault>
+fn parsed<'a>(
+    arena: &'a Bump,
+    text: &'a [u8],
+    mut symbols: Vec<Placed>,
+) -> Result<Spec<'a>, TextFault>
     ensures { (tokens : List Token) → map unplaced tokens ≡ map (symbol_at text.now) symbols.items → Parses result tokens }
 {
     reduce(&mut symbols);
     let mut cursor = Cursor::new(text, symbols.as_slice());
-    let boxes = all(alloc, &mut cursor, HEIGHT_LIMIT)?;
+    let boxes = all(arena, &mut cursor, HEIGHT_LIMIT)?;
     Ok(Spec { boxes })
 }
 
 /// The tree that reads the tokens.
-pub fn parse(alloc: Global, tokens: &[Token]) -> Result<Spec, TextFault>
+pub fn parse<'a>(alloc: Global, arena: &'a Bump, tokens: &[Token]) -> Result<Spec<'a>, TextFault>
     ensures { Parses result tokens.now }
 {
-    let Laid { text, symbols } = lay_out(alloc, tokens)?;
-    parsed(alloc, text.as_slice(), symbols)
+    let Laid { text, symbols } = lay_out(alloc, arena, tokens)?;
+    parsed(arena, into_bump_slice(text), symbols)
 }
 
 /// The tree of a source: `scan`, and then `parse`.
-pub fn read_spec(alloc: Global, source: &[u8]) -> Result<Spec, TextFault>
+pub fn read_spec<'a>(
+    alloc: Global,
+    arena: &'a Bump,
+    source: &'a [u8],
+) -> Result<Spec<'a>, TextFault>
     ensures { ReadsSpec result source.now }
 {
     let symbols = symbols(alloc, source)?;
-    parsed(alloc, source, symbols)
+    parsed(arena, source, symbols)
 }
 
 /// A law: no tokens are read by two trees.

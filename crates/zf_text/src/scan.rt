@@ -1,5 +1,5 @@
 //! From bytes to tokens.
-ghost use Rattle.std.specs.Prelude.{◌≡◌, ◌≤◌, ◌⊎◌, ℕ, List, IsTrue, length, map, IfOk, IfErr};
+ghost use Rattle.std.specs.Prelude.{◌≡◌, ◌≤◌, ◌⊎◌, ℕ, List, IsTrue, length, take, map, IfOk, IfErr};
 ghost use Rattle.zf_text.specs.Cuts as cuts;
 ghost use Rattle.zf_text.specs.Placing.{token_at};
 ghost use Rattle.zf_text.specs.Sights.{kind_of, piece_of, told};
@@ -36,24 +36,26 @@ pub(crate) fn symbols(alloc: Global, source: &[u8]) -> Result<Vec<Placed>, TextF
     let mut start = 0;
     while start < source.len() {
         let rest = after(source, start);
+        if is_blank(place, rest) {
+            line += ends_line(rest);
+            start += 1;
+            continue;
+        }
         let Found { sight, amount, len } = piece_at(place, rest);
         match sight {
-            Sight::Plain => (),
+            Sight::Plain => line += newlines(front(rest, len)),
             Sight::Symbol(next) => {
-                let stop = start + len;
-                let symbol = Placed {
+                symbols.push(Placed {
                     next,
                     line,
                     start,
-                    stop,
+                    stop: start + len,
                     amount,
-                };
-                symbols.push(symbol)?;
+                })?;
+                place = behind(place, line, next);
             }
             Sight::Refused(kind) => return Err(fault_at(kind, place, line)),
         }
-        place = entered(place, line, sight);
-        line += ended(sight, front(rest, len));
         start += len;
     }
     match place {
@@ -89,29 +91,27 @@ fn is_blank(place: Place, rest: &[u8]) -> bool
     }
 }
 
-// The piece at the front of a text. Most are blanks.
+// How many lines end in the first byte.
+#[inline(always)]
+fn ends_line(rest: &[u8]) -> u32
+    ensures value { result ≡ cuts.newlines (take 1 rest.now) }
+    ensures few { result ≤ 1 }
+{
+    match rest {
+        [b'\n', ..] => 1,
+        _ => 0,
+    }
+}
+
+// The piece at the front of a text.
 #[tactic(auto, unfolding(crate::specs::Steps::found_at))]
 #[inline(always)]
 fn piece_at(place: Place, rest: &[u8]) -> Found
     ensures { told rest.now result ≡ steps.found_at place rest.now }
 {
-    if is_blank(place, rest) {
-        return Found::of(Sight::Plain, 1);
-    }
     match place {
         Place::Outside => outside_at(rest),
-        Place::Zed(_) => inside_at(b"\\end{zed}", rest),
-        Place::Schema(_) => inside_at(b"\\end{schema}", rest),
-    }
-}
-
-// Where the text behind a piece stands.
-fn entered(place: Place, line: u32, sight: Sight) -> Place
-    ensures { (amount : ℕ) (text : List ℕ) → result ≡ cuts.entered place line (piece_of sight amount text) }
-{
-    match sight {
-        Sight::Plain | Sight::Refused(_) => place,
-        Sight::Symbol(next) => behind(place, line, next),
+        Place::Zed(_) | Place::Schema(_) => inside_at(place, rest),
     }
 }
 
@@ -148,28 +148,12 @@ fn begun(place: Place) -> u32
     }
 }
 
-// How many lines end in a piece. None does in a symbol.
-fn ended(sight: Sight, text: &[u8]) -> u32
-    requires len { length text.now ≤ SOURCE_MAX }
-    requires quiet { (next : NextSymbol) → sight ≡ sights.Symbol next → cuts.newlines text.now ≡ 0 }
-    ensures value { result ≡ cuts.newlines text.now }
-    ensures few { result ≤ length text.now }
-{
-    match sight {
-        Sight::Symbol(_) => 0,
-        _ => newlines(text),
-    }
-}
-
+// How many lines end in a piece.
 fn newlines(bytes: &[u8]) -> u32
     requires { length bytes.now ≤ SOURCE_MAX }
     ensures value { result ≡ cuts.newlines bytes.now }
     ensures few { result ≤ length bytes.now }
 {
-    // Most pieces are one byte.
-    if let [b] = bytes {
-        return if *b == b'\n' { 1 } else { 0 };
-    }
     let mut n = 0;
     for b in bytes {
         if *b == b'\n' {

@@ -11,18 +11,22 @@ use crate::fault::TextFault;
 use crate::next::{Mark, Next};
 use crate::tall::Tall;
 use crate::tree::SchemaExp;
-use std::alloc::Global;
-use zf_data::Boxed;
+use bumpalo::Bump;
+use zf_data::arena::Boxed;
 
 /// A schema text after its opening bracket, with parts up to the height `below`.
 #[tactic(auto, unfolding(crate::specs::BoxReading::schema_text))]
-fn text(alloc: Global, tokens: &mut Cursor<'_>, below: u32) -> Result<Tall<SchemaExp>, TextFault>
+fn text<'a>(
+    arena: &'a Bump,
+    tokens: &mut Cursor<'a, '_>,
+    below: u32,
+) -> Result<Tall<SchemaExp<'a>>, TextFault>
     requires { below ≤ 999 }
     ensures value { Gives (spec.schema_text below tokens.old) result tokens.new }
     ensures low { IfOk result (λ x. x.height ≤ below + 1) }
 {
-    let decls = decls(alloc, tokens, below)?;
-    let predicates = predicates(alloc, tokens, below, Mark::Bar)?;
+    let decls = decls(arena, tokens, below)?;
+    let predicates = predicates(arena, tokens, below, Mark::Bar)?;
     tokens.expect(Mark::CloseSquare)?;
     Ok(Tall {
         part: SchemaExp::Text(decls.part, predicates.part),
@@ -32,24 +36,27 @@ fn text(alloc: Global, tokens: &mut Cursor<'_>, below: u32) -> Result<Tall<Schem
 
 /// What the rules are given: how schema expressions that stand one level deeper are read, up to the height `below`.
 #[derive(Clone, Copy)]
-struct Schemas<F> {
-    alloc: Global,
+struct Schemas<'a, F> {
+    arena: &'a Bump,
     below: u32,
     read: F,
 }
 
-impl<F: Fn(Global, &mut Cursor<'_>, u32) -> Result<Tall<SchemaExp>, TextFault>> Schemas<F> {
-    fn schema(&self, tokens: &mut Cursor<'_>) -> Result<Tall<SchemaExp>, TextFault>
+impl<
+    'a,
+    F: Fn(&'a Bump, &mut Cursor<'a, '_>, u32) -> Result<Tall<SchemaExp<'a>>, TextFault>,
+> Schemas<'a, F> {
+    fn schema(&self, tokens: &mut Cursor<'a, '_>) -> Result<Tall<SchemaExp<'a>>, TextFault>
         requires nests { SchemaNests self.now.below (F.pre self.now.read) (F.post self.now.read) }
         ensures value { Gives (read_schema self.now.below tokens.old) result tokens.new }
         ensures low { IfOk result (λ x. x.height ≤ self.now.below) }
     {
-        (self.read)(self.alloc, tokens, self.below)
+        (self.read)(self.arena, tokens, self.below)
     }
 
     /// A schema expression in brackets, after the opening one.
     #[tactic(auto, unfolding(crate::specs::BoxReading::schema_bracket))]
-    fn bracket(&self, tokens: &mut Cursor<'_>) -> Result<Tall<SchemaExp>, TextFault>
+    fn bracket(&self, tokens: &mut Cursor<'a, '_>) -> Result<Tall<SchemaExp<'a>>, TextFault>
         requires nests { SchemaNests self.now.below (F.pre self.now.read) (F.post self.now.read) }
         ensures value { Gives (spec.schema_bracket self.now.below (read_schema self.now.below) tokens.old) result tokens.new }
         ensures low { IfOk result (λ x. x.height ≤ self.now.below + 1) }
@@ -57,14 +64,14 @@ impl<F: Fn(Global, &mut Cursor<'_>, u32) -> Result<Tall<SchemaExp>, TextFault>> 
         let inner = self.schema(tokens)?;
         tokens.expect(Mark::CloseRound)?;
         Ok(Tall {
-            part: SchemaExp::Bracket(Boxed::new(self.alloc, inner.part)?),
+            part: SchemaExp::Bracket(Boxed::new(self.arena, inner.part)?),
             height: inner.height + 1,
         })
     }
 
     /// A reference, a schema text, or a schema expression in brackets.
     #[tactic(auto, unfolding(crate::specs::BoxReading::schema_part))]
-    fn part(&self, tokens: &mut Cursor<'_>) -> Result<Tall<SchemaExp>, TextFault>
+    fn part(&self, tokens: &mut Cursor<'a, '_>) -> Result<Tall<SchemaExp<'a>>, TextFault>
         requires nests { SchemaNests self.now.below (F.pre self.now.read) (F.post self.now.read) }
         ensures value { Gives (spec.schema_part self.now.below (read_schema self.now.below) tokens.old) result tokens.new }
         ensures low { IfOk result (λ x. x.height ≤ self.now.below + 1) }
@@ -72,21 +79,21 @@ impl<F: Fn(Global, &mut Cursor<'_>, u32) -> Result<Tall<SchemaExp>, TextFault>> 
         match tokens.peek() {
             Next::OpenSquare => {
                 tokens.skip();
-                text(self.alloc, tokens, self.below)
+                text(self.arena, tokens, self.below)
             }
             Next::OpenRound => {
                 tokens.skip();
                 self.bracket(tokens)
             }
             _ => Ok(Tall {
-                part: SchemaExp::Ref(reference(self.alloc, tokens)?),
+                part: SchemaExp::Ref(reference(tokens)?),
                 height: 1,
             }),
         }
     }
 
     /// Parts joined by `\land`, to the left.
-    fn conjunction(&self, tokens: &mut Cursor<'_>) -> Result<Tall<SchemaExp>, TextFault>
+    fn conjunction(&self, tokens: &mut Cursor<'a, '_>) -> Result<Tall<SchemaExp<'a>>, TextFault>
         requires nests { SchemaNests self.now.below (F.pre self.now.read) (F.post self.now.read) }
         ensures value { Gives (spec.conjunction self.now.below (read_schema self.now.below) tokens.old) result tokens.new }
         ensures low { IfOk result (λ x. x.height ≤ self.now.below + 1) }
@@ -102,8 +109,8 @@ impl<F: Fn(Global, &mut Cursor<'_>, u32) -> Result<Tall<SchemaExp>, TextFault>> 
             if height > self.below + 1 {
                 return Err(tokens.too_deep());
             }
-            let first = Boxed::new(self.alloc, left.part)?;
-            let second = Boxed::new(self.alloc, right.part)?;
+            let first = Boxed::new(self.arena, left.part)?;
+            let second = Boxed::new(self.arena, right.part)?;
             left = Tall {
                 part: SchemaExp::Both(first, second),
                 height,
@@ -113,7 +120,7 @@ impl<F: Fn(Global, &mut Cursor<'_>, u32) -> Result<Tall<SchemaExp>, TextFault>> 
     }
 
     /// Conjunctions joined by `\lor`, to the left.
-    fn disjunction(&self, tokens: &mut Cursor<'_>) -> Result<Tall<SchemaExp>, TextFault>
+    fn disjunction(&self, tokens: &mut Cursor<'a, '_>) -> Result<Tall<SchemaExp<'a>>, TextFault>
         requires nests { SchemaNests self.now.below (F.pre self.now.read) (F.post self.now.read) }
         ensures value { Gives (spec.disjunction self.now.below (read_schema self.now.below) tokens.old) result tokens.new }
         ensures low { IfOk result (λ x. x.height ≤ self.now.below + 1) }
@@ -130,8 +137,8 @@ impl<F: Fn(Global, &mut Cursor<'_>, u32) -> Result<Tall<SchemaExp>, TextFault>> 
             if height > self.below + 1 {
                 return Err(tokens.too_deep());
             }
-            let first = Boxed::new(self.alloc, left.part)?;
-            let second = Boxed::new(self.alloc, right.part)?;
+            let first = Boxed::new(self.arena, left.part)?;
+            let second = Boxed::new(self.arena, right.part)?;
             left = Tall {
                 part: SchemaExp::Or(line, first, second),
                 height,
@@ -142,11 +149,11 @@ impl<F: Fn(Global, &mut Cursor<'_>, u32) -> Result<Tall<SchemaExp>, TextFault>> 
 }
 
 /// A schema expression of at most this height.
-pub fn schema(
-    alloc: Global,
-    tokens: &mut Cursor<'_>,
+pub fn schema<'a>(
+    arena: &'a Bump,
+    tokens: &mut Cursor<'a, '_>,
     highest: u32,
-) -> Result<Tall<SchemaExp>, TextFault>
+) -> Result<Tall<SchemaExp<'a>>, TextFault>
     requires { highest ≤ 1000 }
     ensures value { Gives (read_schema highest tokens.old) result tokens.new }
     ensures low { IfOk result (λ x. x.height ≤ highest) }
@@ -155,7 +162,7 @@ pub fn schema(
         return Err(tokens.too_deep());
     }
     Schemas {
-        alloc,
+        arena,
         below: highest - 1,
         read: schema,
     }

@@ -13,51 +13,44 @@ use crate::fault::TextFault;
 use crate::levels::{binds, level, place_before};
 use crate::tall::Tall;
 use crate::tree::Term;
-use std::alloc::Global;
-use zf_data::Boxed;
+use bumpalo::Bump;
+use zf_data::arena::Boxed;
 
 /// What the rules are given: how terms that stand one level deeper are read, up to the height `below`.
 #[derive(Clone, Copy)]
-struct Grammar<F> {
-    alloc: Global,
+struct Grammar<'a, F> {
+    arena: &'a Bump,
     below: u32,
     read: F,
 }
 
-impl<F: Fn(Global, &mut Cursor<'_>, u32, u8) -> Result<Tall<Term>, TextFault>> Grammar<F> {
-    fn term(&self, tokens: &mut Cursor<'_>, place: u8) -> Result<Tall<Term>, TextFault>
+impl<
+    'a,
+    F: Fn(&'a Bump, &mut Cursor<'a, '_>, u32, u8) -> Result<Tall<Boxed<'a, Term<'a>>>, TextFault>,
+> Grammar<'a, F> {
+    #[inline(always)]
+    fn term(
+        &self,
+        tokens: &mut Cursor<'a, '_>,
+        place: u8,
+    ) -> Result<Tall<Boxed<'a, Term<'a>>>, TextFault>
         requires nests { Nests self.now.below (F.pre self.now.read) (F.post self.now.read) }
         ensures value { Gives (read_term self.now.below place tokens.old) result tokens.new }
         ensures low { IfOk result (λ x. x.height ≤ self.now.below) }
     {
-        (self.read)(self.alloc, tokens, self.below, place)
-    }
-
-    /// A term at this place, in a box.
-    #[inline(never)]
-    fn boxed(&self, tokens: &mut Cursor<'_>, place: u8) -> Result<Tall<Boxed<Term>>, TextFault>
-        requires nests { Nests self.now.below (F.pre self.now.read) (F.post self.now.read) }
-        ensures value { Gives (read_term self.now.below place tokens.old) result tokens.new }
-        ensures low { IfOk result (λ x. x.height ≤ self.now.below) }
-    {
-        let term = self.term(tokens, place)?;
-        Ok(Tall {
-            part: Boxed::new(self.alloc, term.part)?,
-            height: term.height,
-        })
+        (self.read)(self.arena, tokens, self.below, place)
     }
 
     /// Goes on while the symbols bind more tightly than this place.
-    #[inline(never)]
     fn climb(
         &self,
-        tokens: &mut Cursor<'_>,
+        tokens: &mut Cursor<'a, '_>,
         least: u8,
-        mut left: Tall<Term>,
-    ) -> Result<Tall<Term>, TextFault>
+        mut left: Tall<Boxed<'a, Term<'a>>>,
+    ) -> Result<Tall<Boxed<'a, Term<'a>>>, TextFault>
         requires nests { Nests self.now.below (F.pre self.now.read) (F.post self.now.read) }
         requires left_low { left.height ≤ self.now.below + 1 }
-        ensures value { Gives (spec.climb (read_term self.now.below) (self.now.below + 1) least (self.now.below + 1) left tokens.old) result tokens.new }
+        ensures value { Gives (spec.climb (read_term self.now.below) (self.now.below + 1) least (self.now.below + 1) left.entry tokens.old) result tokens.new }
         ensures low { IfOk result (λ x. x.height ≤ self.now.below + 1) }
     {
         for _turn in 0..self.below + 1 {
@@ -65,7 +58,7 @@ impl<F: Fn(Global, &mut Cursor<'_>, u32, u8) -> Result<Tall<Term>, TextFault>> G
             if binds(after) <= least {
                 return Ok(left);
             }
-            if level(&left.part) < place_before(after) {
+            if level(left.part.get()) < place_before(after) {
                 return Err(tokens.unexpected());
             }
             left = self.longer(tokens, left, after)?;
@@ -77,7 +70,11 @@ impl<F: Fn(Global, &mut Cursor<'_>, u32, u8) -> Result<Tall<Term>, TextFault>> G
     }
 
     #[tactic(auto, unfolding(crate::specs::TermReading::whole, crate::specs::TermReading::climb))]
-    fn whole(&self, tokens: &mut Cursor<'_>, least: u8) -> Result<Tall<Term>, TextFault>
+    fn whole(
+        &self,
+        tokens: &mut Cursor<'a, '_>,
+        least: u8,
+    ) -> Result<Tall<Boxed<'a, Term<'a>>>, TextFault>
         requires nests { Nests self.now.below (F.pre self.now.read) (F.post self.now.read) }
         ensures value { Gives (spec.whole (read_term self.now.below) (self.now.below + 1) least tokens.old) result tokens.new }
         ensures low { IfOk result (λ x. x.height ≤ self.now.below + 1) }
@@ -92,12 +89,12 @@ impl<F: Fn(Global, &mut Cursor<'_>, u32, u8) -> Result<Tall<Term>, TextFault>> G
 }
 
 /// A term at this place, of at most this height.
-pub fn term(
-    alloc: Global,
-    tokens: &mut Cursor<'_>,
+pub fn term<'a>(
+    arena: &'a Bump,
+    tokens: &mut Cursor<'a, '_>,
     highest: u32,
     least: u8,
-) -> Result<Tall<Term>, TextFault>
+) -> Result<Tall<Boxed<'a, Term<'a>>>, TextFault>
     requires { highest ≤ 1000 }
     ensures value { Gives (read_term highest least tokens.old) result tokens.new }
     ensures low { IfOk result (λ x. x.height ≤ highest) }
@@ -106,7 +103,7 @@ pub fn term(
         return Err(tokens.too_deep());
     }
     Grammar {
-        alloc,
+        arena,
         below: highest - 1,
         read: term,
     }

@@ -3,18 +3,18 @@ ghost use Rattle.std.specs.Prelude.{◌≡◌};
 ghost use Rattle.zf_text.specs.BoxReading as spec;
 
 use crate::token::{Arrow, Connective, Constant, Infix, Prefix, Quantifier, Relation};
-use zf_data::{Boxed, Items, Text};
+use zf_data::arena::{Boxed, Items, Lent};
 
 /// A name, and the line where it stands.
-#[derive(Debug, Drop)]
-pub struct Name {
-    pub base: Text,
+#[derive(Drop)]
+pub struct Name<'a> {
+    pub base: Lent<'a>,
     /// The strokes, as spelled.
-    pub strokes: Text,
+    pub strokes: Lent<'a>,
     pub line: u32,
 }
 
-impl Name {
+impl<'a> Name<'a> {
     /// Whether the name has no strokes.
     pub fn is_bare(&self) -> bool
         ensures { result ≡ spec.is_bare self.now.strokes }
@@ -33,53 +33,56 @@ pub enum Sign {
     Minus,
 }
 
+/// A part of a term that may be left out. It stands in a box, since few terms have one.
+pub type Part<'a> = Boxed<'a, Option<Boxed<'a, Term<'a>>>>;
+
 /// A term, with the line of its first token. Expressions and predicates share it.
 #[cycle(terms)]
-#[derive(Debug, Drop)]
-pub enum Term {
-    Name(Name),
+#[derive(Drop)]
+pub enum Term<'a> {
+    Name(Name<'a>),
     Number(u32, u64),
     Constant(u32, Constant),
     /// `\emptyset[E]`
-    EmptySet(u32, Boxed<Term>),
-    Bracket(u32, Boxed<Term>),
-    Tuple(u32, Items<Term>),
-    Display(u32, Items<Term>),
+    EmptySet(u32, Boxed<'a, Term<'a>>),
+    Bracket(u32, Boxed<'a, Term<'a>>),
+    Tuple(u32, Items<'a, Boxed<'a, Term<'a>>>),
+    Display(u32, Items<'a, Boxed<'a, Term<'a>>>),
     /// A builder: the declarations, the filter, and the term.
-    Builder(u32, Items<VarDecl>, Option<Boxed<Term>>, Option<Boxed<Term>>),
-    Prefix(u32, Sign, Boxed<Term>),
+    Builder(u32, Boxed<'a, Items<'a, VarDecl<'a>>>, Part<'a>, Part<'a>),
+    Prefix(u32, Sign, Boxed<'a, Term<'a>>),
     /// `R \inv`
-    Inverse(u32, Boxed<Term>),
+    Inverse(u32, Boxed<'a, Term<'a>>),
     /// `R \limg A \rimg`
-    Image(u32, Boxed<Term>, Boxed<Term>),
+    Image(u32, Boxed<'a, Term<'a>>, Boxed<'a, Term<'a>>),
     /// `f x`
-    Apply(u32, Boxed<Term>, Boxed<Term>),
-    Infix(u32, Infix, Boxed<Term>, Boxed<Term>),
-    Arrow(u32, Arrow, Boxed<Term>, Boxed<Term>),
+    Apply(u32, Boxed<'a, Term<'a>>, Boxed<'a, Term<'a>>),
+    Infix(u32, Infix, Boxed<'a, Term<'a>>, Boxed<'a, Term<'a>>),
+    Arrow(u32, Arrow, Boxed<'a, Term<'a>>, Boxed<'a, Term<'a>>),
     /// `A \cross B ..`, one node
-    Product(u32, Items<Term>),
+    Product(u32, Items<'a, Boxed<'a, Term<'a>>>),
     /// A chain of relations: the first operand, and the links.
-    Chain(u32, Boxed<Term>, Items<Link>),
-    Not(u32, Boxed<Term>),
-    Connective(u32, Connective, Boxed<Term>, Boxed<Term>),
+    Chain(u32, Boxed<'a, Term<'a>>, Items<'a, Link<'a>>),
+    Not(u32, Boxed<'a, Term<'a>>),
+    Connective(u32, Connective, Boxed<'a, Term<'a>>, Boxed<'a, Term<'a>>),
     /// The declarations, the constraint, and the body.
-    Quantified(u32, Quantifier, Items<VarDecl>, Option<Boxed<Term>>, Boxed<Term>),
+    Quantified(Quantifier, u32, Boxed<'a, Items<'a, VarDecl<'a>>>, Part<'a>, Boxed<'a, Term<'a>>),
 }
 
 /// A further part of a chain.
 #[cycle(terms)]
-#[derive(Debug, Drop)]
-pub struct Link {
+#[derive(Drop)]
+pub struct Link<'a> {
     pub relation: Relation,
-    pub right: Term,
+    pub right: Boxed<'a, Term<'a>>,
 }
 
 /// Bound variables, and their declared set.
 #[cycle(terms)]
-#[derive(Debug, Drop)]
-pub struct VarDecl {
-    pub names: Items<Name>,
-    pub set: Term,
+#[derive(Drop)]
+pub struct VarDecl<'a> {
+    pub names: Items<'a, Name<'a>>,
+    pub set: Boxed<'a, Term<'a>>,
 }
 
 /// How the schema of a reference is taken.
@@ -91,52 +94,52 @@ pub enum RefMark {
 }
 
 /// A reference to a schema. The strokes of its name decorate.
-#[derive(Debug, Drop)]
-pub struct SchemaRef {
+#[derive(Drop)]
+pub struct SchemaRef<'a> {
     pub mark: RefMark,
-    pub name: Name,
+    pub name: Name<'a>,
 }
 
-#[derive(Debug, Drop)]
-pub enum Decl {
+#[derive(Drop)]
+pub enum Decl<'a> {
     /// Components, and their declared set.
-    Vars(Items<Name>, Term),
-    Include(SchemaRef),
+    Vars(Items<'a, Name<'a>>, Boxed<'a, Term<'a>>),
+    Include(SchemaRef<'a>),
 }
 
-#[derive(Debug, Drop)]
-pub enum SchemaExp {
+#[derive(Drop)]
+pub enum SchemaExp<'a> {
     /// `[ Decl; .. | Term; .. ]`
-    Text(Items<Decl>, Items<Term>),
-    Ref(SchemaRef),
+    Text(Items<'a, Decl<'a>>, Items<'a, Boxed<'a, Term<'a>>>),
+    Ref(SchemaRef<'a>),
     /// `A \land B`
-    Both(Boxed<SchemaExp>, Boxed<SchemaExp>),
+    Both(Boxed<'a, SchemaExp<'a>>, Boxed<'a, SchemaExp<'a>>),
     /// `A \lor B`, with the line of its first token
-    Or(u32, Boxed<SchemaExp>, Boxed<SchemaExp>),
-    Bracket(Boxed<SchemaExp>),
+    Or(u32, Boxed<'a, SchemaExp<'a>>, Boxed<'a, SchemaExp<'a>>),
+    Bracket(Boxed<'a, SchemaExp<'a>>),
 }
 
-#[derive(Debug, Drop)]
-pub enum Paragraph {
+#[derive(Drop)]
+pub enum Paragraph<'a> {
     /// `[ Name, .. ]`
-    Given(Items<Name>),
+    Given(Items<'a, Name<'a>>),
     /// `Name ::= Name | ..`
-    Free(Name, Items<Name>),
+    Free(Name<'a>, Items<'a, Name<'a>>),
     /// `Name == Term`
-    Abbrev(Name, Term),
+    Abbrev(Name<'a>, Boxed<'a, Term<'a>>),
     /// `Name \defs SchemaExp`
-    Defs(Name, SchemaExp),
+    Defs(Name<'a>, SchemaExp<'a>),
 }
 
-#[derive(Debug, Drop)]
-pub enum ZBox {
-    Zed(Items<Paragraph>),
+#[derive(Drop)]
+pub enum ZBox<'a> {
+    Zed(Items<'a, Paragraph<'a>>),
     /// The name, the declarations, and the predicates below `\where`.
-    SchemaBox(Name, Items<Decl>, Items<Term>),
+    SchemaBox(Name<'a>, Items<'a, Decl<'a>>, Items<'a, Boxed<'a, Term<'a>>>),
 }
 
 /// A whole text.
-#[derive(Debug, Drop)]
-pub struct Spec {
-    pub boxes: Items<ZBox>,
+#[derive(Drop)]
+pub struct Spec<'a> {
+    pub boxes: Items<'a, ZBox<'a>>,
 }

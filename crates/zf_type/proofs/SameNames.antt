@@ -1,5 +1,5 @@
 -- When two names are the same.
-use Rattle.std.proofs.Common.{◌≡◌, ℕ, Bool, true, false, List, refl, sym}
+use Rattle.std.proofs.Common.{◌≡◌, ℕ, Bool, true, false, List, length, refl, sym, ap, true≢false}
 use Rattle.std.proofs.lemmas.Slice.Eq.{bytes_eq-Decides}
 use Rattle.std.specs.Str.{bytes_eq}
 
@@ -18,3 +18,6 @@ tests_alike false false there back = refl
 pub swapped : (x y : List ℕ) → bytes_eq x y ≡ bytes_eq y x
 swapped x y =
     tests_alike (bytes_eq x y) (bytes_eq y x) (λ e. (bytes_eq-Decides y x).1 (sym (is_same x y e))) (λ e. (bytes_eq-Decides x y).1 (sym (is_same y x e)))
+
+pub lengths_differ : (x y : List ℕ) → (length x ≡ length y → ⊥) → bytes_eq x y ≡ false
+lengths_differ x y apart = tests_alike (bytes_eq x y) false (λ e. absurd (apart (ap length (is_same x y e)))) (λ e. absurd (true≢false (sym e)))

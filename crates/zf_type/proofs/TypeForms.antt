@@ -81,10 +81,10 @@ nodes-Power a b e = ap nodes (ap type_of e ∙ of-Power b)
 pub nodes-Product : (a : ZType) (xs : List ZType) → a ≡ v.Product xs → nodes (type_of a) ≡ nodes_of_all (types (map type_of xs)) + 1
 nodes-Product a xs e = ap nodes (ap type_of e ∙ of-Product xs)
 
--- one node more is counted
-pub one_more : (o : Option ℕ) (room left n m : ℕ) → left + 1 ≡ room → n ≡ m + 1 → MatchOption o (left < m) (λ k. k + m ≡ left) → MatchOption o (room < n) (λ k. k + n ≡ room)
-one_more None room left n m e f h = omega (arith, e, f, h)
-one_more (Some k) room left n m e f h = omega (arith, e, f, h)
+-- what is left of the room for all is left of what the rest of it has
+pub left_of_both : (o : Option ℕ) (room left n m : ℕ) → left + n ≡ room + m → MatchOption o (left < m) (λ k. k + m ≡ left) → MatchOption o (room < n) (λ k. k + n ≡ room)
+left_of_both None room left n m e h = omega (arith, e, h)
+left_of_both (Some k) room left n m e h = omega (arith, e, h)
 
 pub ruleset int_form = (is_int, of-Int)
 

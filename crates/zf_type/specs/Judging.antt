@@ -2,6 +2,10 @@
 use Rattle.std.specs.Prelude.{◌≡◌, ◌⊎◌, ℕ, List, [], ◌∷◌, map, Option, Some, None, Result, IfOk, IfErr}
 use Rattle.zf_text.specs.declared.tree.Name.{Name}
 use Rattle.zf_text.specs.declared.tree.Term.{Term}
+use Rattle.zf_text.specs.declared.tree.Term.TheVariants as form
+use Rattle.zf_text.specs.declared.tree.Link.{Link}
+use Rattle.zf_text.specs.declared.tree.VarDecl.{VarDecl}
+use Rattle.zf_text.specs.declared.token.Quantifier.{Quantifier}
 use Rattle.zf_text.specs.Trees.{Tree, tree_of, VarDecls, Perhaps, absent, present, Trees, no_trees, tree, tuple, display, product, prefixed, inverse, negated, image, applied, infixed, arrow, connected}
 use Rattle.zf_type.specs.declared.fault.Refusal.{Refusal}
 use Rattle.zf_type.specs.declared.judge.Judged.{Judged}
@@ -55,6 +59,17 @@ abbrev pub listed_tree : Listed → (line : ℕ) → Trees → Tree
 listed_tree Tuple l es = tuple l es
 listed_tree Display l es = display l es
 listed_tree Product l es = product l es
+
+-- ---- terms of one form
+
+abbrev pub IsChain : Term → Type 0
+IsChain t = (l : ℕ) × (a : Term) × (ks : List Link) × (t ≡ form.Chain l a ks)
+
+abbrev pub IsQuantified : Term → Type 0
+IsQuantified t = (l : ℕ) × (q : Quantifier) × (ds : List VarDecl) × (p : Option Term) × (e : Term) × (t ≡ form.Quantified q l ds p e)
+
+abbrev pub IsBuilder : Term → Type 0
+IsBuilder t = (l : ℕ) × (ds : List VarDecl) × (p e : Option Term) × (t ≡ form.Builder l ds p e)
 
 -- ---- members of tuples, displays and products
 

@@ -15,16 +15,17 @@ use crate::fault::{Refusal, TypeFaultKind, refused};
 use crate::scope::{Scope, Variable, is_bound, spelled};
 use crate::sort::Sort;
 use crate::ztype::{ZType, product_type};
-use std::alloc::{AllocError, Global};
-use zf_data::Items;
+use bumpalo::Bump;
+use std::alloc::AllocError;
+use zf_data::arena::Items;
 use zf_text::tree::Name;
 
 /// Adds variables of these names, which are members of a set of this sort.
-pub(crate) fn declare_names(
-    alloc: Global,
-    names: &[Name],
-    set: &Sort,
-    variables: &mut Vec<Variable>,
+pub(crate) fn declare_names<'a>(
+    arena: &'a Bump,
+    names: &[Name<'a>],
+    set: &Sort<'a>,
+    variables: &mut Vec<Variable<'a>>,
 ) -> Result<(), Refusal>
     requires { Meets needs.Set (sort_of set.now) }
     ensures ok { OnOk result ((u : Ty) × (sort_of set.now ≡ set_of u) × (map variable_of variables.new.items ≡ map variable_of variables.old.items ++ typing.variables names.now u)) }
@@ -36,7 +37,7 @@ pub(crate) fn declare_names(
         unreachable!();
     };
     for name in names {
-        let variable = variable(alloc, name, members)?;
+        let variable = variable(arena, name, members)?;
         if is_bound(variables.as_slice(), variable.name.as_slice()) {
             return Err(refused(TypeFaultKind::LocalTwice, name.line));
         }
@@ -46,24 +47,31 @@ pub(crate) fn declare_names(
 }
 
 /// A variable of the name.
-fn variable(alloc: Global, name: &Name, ztype: &ZType) -> Result<Variable, AllocError>
+fn variable<'a>(
+    arena: &'a Bump,
+    name: &Name<'a>,
+    ztype: &ZType<'a>,
+) -> Result<Variable<'a>, AllocError>
     ensures { IfOk result (λ v. variable_of v ≡ record { name = spelling name.now; type = type_of ztype.now }) }
 {
-    let name = spelled(alloc, name)?;
+    let name = spelled(arena, name)?;
     let ztype = ztype.share()?;
     Ok(Variable { name, ztype })
 }
 
 /// How many variables are bound.
-pub(crate) fn depth(scope: &Scope<'_>) -> usize
+pub(crate) fn depth(scope: &Scope<'_, '_>) -> usize
     ensures { result ≡ length (scope_of scope.now).locals }
 {
     scope.locals.as_slice().len()
 }
 
 /// Brings variables into scope, within those that are bound.
-pub(crate) fn bind(scope: &mut Scope<'_>, variables: Vec<Variable>) -> Result<(), AllocError>
-    ensures ok { OnOk result (scope_of scope.new ≡ within (scope_of scope.old) (map variable_of variables.items)) }
+pub(crate) fn bind<'a>(
+    scope: &mut Scope<'a, '_>,
+    variables: Vec<Variable<'a>>,
+) -> Result<(), AllocError>
+    ensures ok { OnOk result (scope_of scope.new ≡ within (scope_of scope.old) (map variable_of variables.entry.items)) }
     ensures err { OnErr result (scope_of scope.new ≡ scope_of scope.old) }
 {
     let mut variables = variables;
@@ -72,31 +80,35 @@ pub(crate) fn bind(scope: &mut Scope<'_>, variables: Vec<Variable>) -> Result<()
 }
 
 /// Leaves in scope the variables that are bound outside.
-pub(crate) fn unbind(scope: &mut Scope<'_>, outside: usize)
+pub(crate) fn unbind(scope: &mut Scope<'_, '_>, outside: usize)
     ensures { (s : spec.Scope) (vs : List Var) → scope_of scope.old ≡ within s vs → outside ≡ length s.locals → scope_of scope.new ≡ s }
 {
     scope.locals.truncate(outside);
 }
 
 /// The type of what the variables within make together: that of the one, else that of their tuples.
-pub(crate) fn row(alloc: Global, scope: &Scope<'_>, outside: usize) -> Result<ZType, AllocError>
+pub(crate) fn row<'a>(
+    arena: &'a Bump,
+    scope: &Scope<'a, '_>,
+    outside: usize,
+) -> Result<ZType<'a>, AllocError>
     ensures { IfOk result (λ t. (s : spec.Scope) (vs : List Var) → scope_of scope.now ≡ within s vs → outside ≡ length s.locals → type_of t ≡ typing.row_type vs) }
 {
     let locals = scope.locals.as_slice();
-    let mut types = Items::new(alloc);
+    let mut types = Items::new(arena);
     for place in outside..locals.len() {
         types.push(locals[place].ztype.share()?)?;
     }
-    row_of(alloc, types)
+    row_of(arena, types)
 }
 
 #[tactic(auto, using(crate::proofs::TypesSeen::seen))]
-fn row_of(alloc: Global, types: Items<ZType>) -> Result<ZType, AllocError>
-    ensures { IfOk result (λ t. (vs : List Var) → map type_of types ≡ map var_type vs → type_of t ≡ typing.row_type vs) }
+fn row_of<'a>(arena: &'a Bump, types: Items<'a, ZType<'a>>) -> Result<ZType<'a>, AllocError>
+    ensures { IfOk result (λ t. (vs : List Var) → map type_of types.entry ≡ map var_type vs → type_of t ≡ typing.row_type vs) }
 {
     let mut types = types;
     if types.len() != 1 {
-        return product_type(alloc, types);
+        return product_type(arena, types);
     }
     match types.pop() {
         Some(ztype) => Ok(ztype),

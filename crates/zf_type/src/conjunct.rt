@@ -5,28 +5,29 @@ ghost use Rattle.zf_type.specs.ResolvedTrees.{resolved_of};
 ghost use Rattle.zf_type.specs.Shapes as spec;
 
 use crate::resolved::Resolved;
-use std::alloc::{AllocError, Global};
-use zf_data::{Items, Shared};
+use bumpalo::Bump;
+use std::alloc::AllocError;
+use zf_data::arena::{Items, Shared};
 
 /// A conjunct of a schema: a term, which is shared with the schemas that take in the schema, and the places of its components in
 /// this one, where they are others.
-#[derive(Debug, Drop)]
-pub struct Conjunct {
-    pub term: Shared<Resolved>,
-    pub places: Option<Shared<Items<usize>>>,
+#[derive(Drop)]
+pub struct Conjunct<'a> {
+    pub term: Shared<'a, Resolved<'a>>,
+    pub places: Option<Shared<'a, Items<'a, usize>>>,
 }
 
-impl Conjunct {
-    pub fn of(alloc: Global, term: Resolved) -> Result<Conjunct, AllocError>
-        ensures { IfOk result (λ c. conjunct_of c ≡ resolved_of term) }
+impl<'a> Conjunct<'a> {
+    pub fn of(arena: &'a Bump, term: Resolved<'a>) -> Result<Conjunct<'a>, AllocError>
+        ensures { IfOk result (λ c. conjunct_of c ≡ resolved_of term.entry) }
     {
         Ok(Conjunct {
-            term: Shared::new(alloc, term)?,
+            term: Shared::new(arena, term)?,
             places: None,
         })
     }
 
-    pub fn share(&self) -> Result<Conjunct, AllocError>
+    pub fn share(&self) -> Result<Conjunct<'a>, AllocError>
         ensures { IfOk result (λ c. c ≡ self.now) }
     {
         Ok(Conjunct {
@@ -38,12 +39,12 @@ impl Conjunct {
     /// The conjunct with its components numbered anew.
     pub fn moved(
         self,
-        alloc: Global,
-        places: &Option<Shared<Items<usize>>>,
-    ) -> Result<Conjunct, AllocError>
-        ensures { IfOk result (λ c. conjunct_of c ≡ spec.moved (spec.numbering places.now) (conjunct_of self)) }
+        arena: &'a Bump,
+        places: &Option<Shared<'a, Items<'a, usize>>>,
+    ) -> Result<Conjunct<'a>, AllocError>
+        ensures { IfOk result (λ c. conjunct_of c ≡ spec.moved (spec.numbering places.now) (conjunct_of self.entry)) }
     {
-        let places = composed(alloc, &self.places, places)?;
+        let places = composed(arena, &self.places, places)?;
         Ok(Conjunct {
             term: self.term,
             places,
@@ -75,17 +76,19 @@ impl Conjunct {
     }
 
     /// The term, by the places in the schema.
-    pub fn resolved(&self, alloc: Global) -> Result<Resolved, AllocError>
+    pub fn resolved(&self, arena: &'a Bump) -> Result<Resolved<'a>, AllocError>
         ensures { IfOk result (λ t. resolved_of t ≡ conjunct_of self.now) }
     {
         match &self.places {
-            None => self.term.get().copy(alloc),
-            Some(places) => self.term.get().moved(alloc, places.get().as_slice()),
+            None => self.term.get().copy(arena),
+            Some(places) => self.term.get().moved(arena, places.get().as_slice()),
         }
     }
 }
 
-fn shared(places: &Option<Shared<Items<usize>>>) -> Result<Option<Shared<Items<usize>>>, AllocError>
+fn shared<'a>(
+    places: &Option<Shared<'a, Items<'a, usize>>>,
+) -> Result<Option<Shared<'a, Items<'a, usize>>>, AllocError>
     ensures { IfOk result (λ ps. ps ≡ places.now) }
 {
     match places {
@@ -95,27 +98,31 @@ fn shared(places: &Option<Shared<Items<usize>>>) -> Result<Option<Shared<Items<u
 }
 
 /// The one numbering, and then the other.
-fn composed(
-    alloc: Global,
-    first: &Option<Shared<Items<usize>>>,
-    then: &Option<Shared<Items<usize>>>,
-) -> Result<Option<Shared<Items<usize>>>, AllocError>
+fn composed<'a>(
+    arena: &'a Bump,
+    first: &Option<Shared<'a, Items<'a, usize>>>,
+    then: &Option<Shared<'a, Items<'a, usize>>>,
+) -> Result<Option<Shared<'a, Items<'a, usize>>>, AllocError>
     ensures { IfOk result (λ ps. spec.numbering ps ≡ (λ (i : ℕ). spec.numbering then.now (spec.numbering first.now i))) }
 {
     match (first, then) {
         (None, then) => shared(then),
         (first, None) => shared(first),
         (Some(first), Some(then)) => {
-            let places = both(alloc, first.get().as_slice(), then.get().as_slice())?;
-            Ok(Some(Shared::new(alloc, places)?))
+            let places = both(arena, first.get().as_slice(), then.get().as_slice())?;
+            Ok(Some(Shared::new(arena, places)?))
         }
     }
 }
 
-fn both(alloc: Global, first: &[usize], then: &[usize]) -> Result<Items<usize>, AllocError>
+fn both<'a>(
+    arena: &'a Bump,
+    first: &[usize],
+    then: &[usize],
+) -> Result<Items<'a, usize>, AllocError>
     ensures { IfOk result (λ ps. spec.place_in ps ≡ (λ (i : ℕ). spec.place_in then.now (spec.place_in first.now i))) }
 {
-    let mut places = Items::new(alloc);
+    let mut places = Items::with_room(arena, first.len().max(then.len()))?;
     for place in 0..first.len().max(then.len()) {
         places.push(place_in(then, place_in(first, place)))?;
     }

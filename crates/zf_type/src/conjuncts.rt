@@ -6,7 +6,7 @@ ghost use Rattle.zf_type.specs.Shapes as spec;
 use crate::operator::Operator;
 use crate::resolved::Resolved;
 use std::alloc::AllocError;
-use zf_data::Items;
+use zf_data::arena::Items;
 use zf_text::token::Connective;
 
 impl Operator {
@@ -26,7 +26,7 @@ impl Operator {
     }
 }
 
-impl Resolved {
+impl<'a> Resolved<'a> {
     /// Whether it is a conjunction, within brackets or without.
     #[tactic(auto, using(crate::proofs::ResolvedSeen::seen))]
     fn is_conjunction(&self) -> bool
@@ -49,8 +49,8 @@ impl Resolved {
 
     /// Adds the conjuncts of the predicate.
     #[tactic(auto, using(crate::proofs::Conjunctions::split))]
-    pub fn push_conjuncts(self, conjuncts: &mut Items<Resolved>) -> Result<(), AllocError>
-        ensures { OnOk result (map resolved_of conjuncts.new ≡ map resolved_of conjuncts.old ++ spec.conjuncts (resolved_of self)) }
+    pub fn push_conjuncts(self, conjuncts: &mut Items<'a, Resolved<'a>>) -> Result<(), AllocError>
+        ensures { OnOk result (map resolved_of conjuncts.new ≡ map resolved_of conjuncts.old ++ spec.conjuncts (resolved_of self.entry)) }
     {
         match self {
             Resolved::Bracket(line, inner) => {

@@ -9,70 +9,70 @@ use crate::conjunct::Conjunct;
 use crate::extent::Extent;
 use crate::resolved::Resolved;
 use crate::ztype::ZType;
+use bumpalo::Bump;
 use indexmap::IndexMap;
 use std::alloc::{AllocError, Global};
 use std::marker::Model;
-use zf_data::{Items, Shared, Text};
+use zf_data::arena::{Items, Lent, Shared};
 
 /// A declared set of a component.
-#[derive(Debug, Drop)]
-pub enum Domain {
+#[derive(Drop)]
+pub enum Domain<'a> {
     /// The set that a declaration names.
-    Plain(Shared<Resolved>),
+    Plain(Shared<'a, Resolved<'a>>),
     /// All values of the type: of a component that one side of a disjunction lacks.
-    Carrier(ZType),
+    Carrier(ZType<'a>),
     /// Both sides of a disjunction: what lies in all of the left or in all of the right.
-    Either(Items<Domain>, Items<Domain>),
+    Either(Domains<'a>, Domains<'a>),
 }
 
+/// Declared sets, which several components may share.
+pub type Domains<'a> = Shared<'a, Items<'a, Domain<'a>>>;
+
 /// A component of a schema, with its declared sets.
-#[derive(Debug, Drop)]
-pub struct Component {
+#[derive(Drop)]
+pub struct Component<'a> {
     /// The name as spelled, with its strokes.
-    pub name: Text,
-    pub ztype: ZType,
-    pub domains: Items<Domain>,
+    pub name: Lent<'a>,
+    pub ztype: ZType<'a>,
+    pub domains: Domains<'a>,
 }
 
 /// A schema: its components in order, and the conjuncts of its property.
-#[derive(Debug, Drop)]
-pub struct Flat {
-    pub components: Items<Component>,
-    pub conjuncts: Items<Conjunct>,
+#[derive(Drop)]
+pub struct Flat<'a> {
+    pub components: Items<'a, Component<'a>>,
+    pub conjuncts: Items<'a, Conjunct<'a>>,
 }
 
 /// What a global name is defined as. The number of a given set or free type is its place among them.
-#[derive(Debug, Drop)]
-pub enum Entry {
+#[derive(Drop)]
+pub enum Entry<'a> {
     Given(usize),
     /// A free type: its number, and its constructors.
-    Free(usize, Items<Text>),
+    Free(usize, Items<'a, Lent<'a>>),
     /// A constructor: the number and the name of its free type, and its place in it.
-    Constructor(usize, Shared<Text>, usize),
+    Constructor(usize, Lent<'a>, usize),
     /// An abbreviation: its type, its term, and the extent of that.
-    Abbrev(ZType, Resolved, Extent),
-    Schema(Flat),
+    Abbrev(ZType<'a>, Resolved<'a>, Extent),
+    Schema(Flat<'a>),
 }
 
 /// The names that a text defines, in order.
 #[derive(Drop)]
-pub struct Globals {
-    pub entries: IndexMap<Vec<u8>, Entry>,
+pub struct Globals<'a> {
+    pub entries: IndexMap<Vec<u8>, Entry<'a>>,
 }
 
-impl Domain {
-    #[cycle(share)]
-    pub fn share(&self, alloc: Global) -> Result<Domain, AllocError>
+impl<'a> Domain<'a> {
+    /// The same declared set, of which nothing is copied.
+    pub fn share(&self) -> Result<Domain<'a>, AllocError>
         ensures { IfOk result (λ d. d ≡ self.now) }
     {
         match self {
             Domain::Plain(set) => Ok(Domain::Plain(set.share()?)),
             Domain::Carrier(ztype) => Ok(Domain::Carrier(ztype.share()?)),
-            Domain::Either(left, right) => {
-                let left = shared_sets(left, alloc)?;
-                let right = shared_sets(right, alloc)?;
-                Ok(Domain::Either(left, right))
-            }
+            Domain::Either(left, right) => Ok(Domain::Either(left.share()?, right.share()?)),
         }
     }
 
@@ -86,8 +86,8 @@ impl Domain {
             Domain::Plain(_) => room.checked_sub(1),
             Domain::Carrier(_) => room.checked_sub(1),
             Domain::Either(left, right) => room_after_all_sets(
-                right,
-                room_after_all_sets(left, room)?,
+                right.get(),
+                room_after_all_sets(left.get(), room)?,
             ),
         }
     }
@@ -102,29 +102,17 @@ impl Domain {
             Domain::Plain(set) => set.get().room_after(room),
             Domain::Carrier(_) => Some(room),
             Domain::Either(left, right) => room_after_all_nodes(
-                right,
-                room_after_all_nodes(left, room)?,
+                right.get(),
+                room_after_all_nodes(left.get(), room)?,
             ),
         }
     }
 }
 
-/// The same declared sets, which are not copied.
-#[cycle(share)]
-pub fn shared_sets(domains: &Items<Domain>, alloc: Global) -> Result<Items<Domain>, AllocError>
-    ensures { IfOk result (λ ds. ds ≡ domains.now) }
-{
-    let mut same = Items::new(alloc);
-    for domain in domains.as_slice() {
-        same.push(domain.share(alloc)?)?;
-    }
-    Ok(same)
-}
-
 /// As for one declared set.
 #[cycle(sets)]
 #[tactic(auto, using(crate::proofs::SetsSeen::counts_before))]
-pub fn room_after_all_sets(domains: &Items<Domain>, room: usize) -> Option<usize>
+pub fn room_after_all_sets<'a>(domains: &Items<'a, Domain<'a>>, room: usize) -> Option<usize>
     ensures { MatchOption result (room < all_set_counts (map set_of domains.now)) (λ left. left + all_set_counts (map set_of domains.now) ≡ room) }
 {
     let mut left = room;
@@ -137,7 +125,7 @@ pub fn room_after_all_sets(domains: &Items<Domain>, room: usize) -> Option<usize
 /// As for one declared set.
 #[cycle(nodes)]
 #[tactic(auto, using(crate::proofs::SetsSeen::nodes_before))]
-pub fn room_after_all_nodes(domains: &Items<Domain>, room: usize) -> Option<usize>
+pub fn room_after_all_nodes<'a>(domains: &Items<'a, Domain<'a>>, room: usize) -> Option<usize>
     ensures { MatchOption result (room < all_set_nodes (map set_of domains.now)) (λ left. left + all_set_nodes (map set_of domains.now) ≡ room) }
 {
     let mut left = room;
@@ -147,13 +135,14 @@ pub fn room_after_all_nodes(domains: &Items<Domain>, room: usize) -> Option<usiz
     Some(left)
 }
 
-impl Component {
-    pub fn copy(&self, alloc: Global) -> Result<Component, AllocError>
+impl<'a> Component<'a> {
+    /// The same component, of which nothing is copied.
+    pub fn share(&self) -> Result<Component<'a>, AllocError>
         ensures { IfOk result (λ c. c ≡ self.now) }
     {
-        let name = self.name.copy(alloc)?;
+        let name = self.name.share();
         let ztype = self.ztype.share()?;
-        let domains = shared_sets(&self.domains, alloc)?;
+        let domains = self.domains.share()?;
         Ok(Component {
             name,
             ztype,
@@ -162,8 +151,8 @@ impl Component {
     }
 }
 
-impl Globals {
-    pub fn new(alloc: Global) -> Globals
+impl<'a> Globals<'a> {
+    pub fn new(alloc: Global) -> Globals<'a>
         ensures { globals_of result ≡ [] }
     {
         Globals {
@@ -180,14 +169,14 @@ impl Globals {
     }
 
     /// What the name is defined as.
-    pub fn entry(&self, name: &str) -> Option<&Entry>
+    pub fn entry(&self, name: &str) -> Option<&Entry<'a>>
         ensures { MatchOption result (first_named (λ d. d.name) name.now (globals_of self.now) ≡ None) (λ e. (i : ℕ) × (first_named (λ d. d.name) name.now (globals_of self.now) ≡ Some (i, record { name = name.now; definition = definition_of e.now }))) }
     {
         self.entries.get(name.as_bytes())
     }
 
     /// The schema of this name.
-    pub fn schema(&self, name: &str) -> Option<&Flat>
+    pub fn schema(&self, name: &str) -> Option<&Flat<'a>>
         ensures { MatchOption result ((i : ℕ) (a : spec.Schema) → first_named (λ d. d.name) name.now (globals_of self.now) ≡ Some (i, record { name = name.now; definition = spec.schema a }) → ⊥) (λ f. (i : ℕ) × (first_named (λ d. d.name) name.now (globals_of self.now) ≡ Some (i, record { name = name.now; definition = spec.schema (schema_of f.now) }))) }
     {
         match self.entry(name)? {
@@ -197,7 +186,7 @@ impl Globals {
     }
 
     /// The name at this place in the order of definition, and what it is defined as.
-    pub fn in_order(&self, place: usize) -> Option<(&[u8], &Entry)>
+    pub fn in_order(&self, place: usize) -> Option<(&[u8], &Entry<'a>)>
         ensures { MatchOption result (slice_get (globals_of self.now) place ≡ None) (λ p. slice_get (globals_of self.now) place ≡ Some (record { name = p.0.now; definition = definition_of p.1.now })) }
     {
         let (name, entry) = self.entries.get_index(place)?;
@@ -212,12 +201,12 @@ impl Globals {
     }
 
     /// Defines a name that is new.
-    pub fn define(&mut self, name: Text, entry: Entry) -> Result<(), AllocError>
+    pub fn define(&mut self, name: Lent<'a>, entry: Entry<'a>) -> Result<(), AllocError>
         requires { first_named (λ d. d.name) name (globals_of self.old) ≡ None }
-        ensures ok { OnOk result (globals_of self.new ≡ globals_of self.old ++ record { name = name; definition = definition_of entry } ∷ []) }
+        ensures ok { OnOk result (globals_of self.new ≡ globals_of self.old ++ record { name = name.entry; definition = definition_of entry.entry } ∷ []) }
         ensures err { OnErr result (globals_of self.new ≡ globals_of self.old) }
     {
-        let key = name.to_vec()?;
+        let key = Vec::from_slice(*self.entries.allocator(), name.as_slice())?;
         self.entries.insert(key, entry)?;
         Ok(())
     }

@@ -7,13 +7,13 @@ ghost use Rattle.zf_type.specs.Scopes.{or_else};
 
 use crate::extent::{Extent, Infinite};
 use crate::globals::{Entry, Globals};
-use crate::resolved::{Range, Reference, Resolved, ResolvedLink};
-use zf_data::{Boxed, Items};
+use crate::resolved::{Part, Range, Reference, Resolved, ResolvedLink};
+use zf_data::arena::{Boxed, Items};
 use zf_text::token::{Constant, Relation};
 
 /// The infinite set that the term is, within brackets or without.
 #[tactic(auto, using(crate::proofs::ResolvedSeen::seen))]
-pub fn direct(term: &Resolved, globals: &Globals) -> Option<Infinite>
+pub fn direct<'a>(term: &Resolved<'a>, globals: &Globals<'a>) -> Option<Infinite>
     ensures { result ≡ spec.direct (globals_of globals.now) (resolved_of term.now) }
 {
     match term {
@@ -32,7 +32,7 @@ pub fn direct(term: &Resolved, globals: &Globals) -> Option<Infinite>
 }
 
 /// The extent of a term that a name is defined as.
-pub fn extent_of(term: &Resolved, globals: &Globals) -> Extent
+pub fn extent_of<'a>(term: &Resolved<'a>, globals: &Globals<'a>) -> Extent
     ensures { result ≡ spec.extent_of (globals_of globals.now) (resolved_of term.now) }
 {
     if let Some(set) = direct(term, globals) {
@@ -47,7 +47,7 @@ pub fn extent_of(term: &Resolved, globals: &Globals) -> Extent
 /// The line of the first name in the term that offends.
 #[cycle(offending)]
 #[tactic(auto, using(crate::proofs::ResolvedSeen::seen, crate::proofs::FirstLines::first_of_both))]
-pub fn offending(term: &Resolved, globals: &Globals) -> Option<u32>
+pub fn offending<'a>(term: &Resolved<'a>, globals: &Globals<'a>) -> Option<u32>
     ensures { result ≡ spec.first (spec.offending (globals_of globals.now) (resolved_of term.now)) }
 {
     match term {
@@ -77,7 +77,11 @@ pub fn offending(term: &Resolved, globals: &Globals) -> Option<u32>
 
 /// The line that was found before, or that of the first name in the term that offends.
 #[cycle(offending)]
-pub fn offending_after(term: &Resolved, found: Option<u32>, globals: &Globals) -> Option<u32>
+pub fn offending_after<'a>(
+    term: &Resolved<'a>,
+    found: Option<u32>,
+    globals: &Globals<'a>,
+) -> Option<u32>
     ensures { result ≡ or_else found (spec.first (spec.offending (globals_of globals.now) (resolved_of term.now))) }
 {
     match found {
@@ -88,7 +92,11 @@ pub fn offending_after(term: &Resolved, found: Option<u32>, globals: &Globals) -
 
 /// The same where a whole infinite set may stand.
 #[cycle(offending)]
-pub fn offending_within_after(term: &Resolved, found: Option<u32>, globals: &Globals) -> Option<u32>
+pub fn offending_within_after<'a>(
+    term: &Resolved<'a>,
+    found: Option<u32>,
+    globals: &Globals<'a>,
+) -> Option<u32>
     ensures { result ≡ or_else found (spec.first (spec.offending_within (globals_of globals.now) (resolved_of term.now))) }
 {
     match direct(term, globals) {
@@ -98,7 +106,7 @@ pub fn offending_within_after(term: &Resolved, found: Option<u32>, globals: &Glo
 }
 
 #[cycle(offending)]
-fn terms_offending(items: &Items<Resolved>, globals: &Globals) -> Option<u32>
+fn terms_offending<'a>(items: &Items<'a, Resolved<'a>>, globals: &Globals<'a>) -> Option<u32>
     ensures { result ≡ spec.first (spec.all_offending (globals_of globals.now) (terms (map resolved_of items.now))) }
 {
     let mut line = None;
@@ -109,7 +117,11 @@ fn terms_offending(items: &Items<Resolved>, globals: &Globals) -> Option<u32>
 }
 
 #[cycle(offending)]
-fn links_after(further: &Items<ResolvedLink>, found: Option<u32>, globals: &Globals) -> Option<u32>
+fn links_after<'a>(
+    further: &Items<'a, ResolvedLink<'a>>,
+    found: Option<u32>,
+    globals: &Globals<'a>,
+) -> Option<u32>
     ensures { result ≡ or_else found (spec.first (spec.links_offending (globals_of globals.now) (links (map resolved_link_of further.now)))) }
 {
     let mut line = found;
@@ -123,12 +135,12 @@ fn links_after(further: &Items<ResolvedLink>, found: Option<u32>, globals: &Glob
 
 /// The same of the right side of a link.
 #[cycle(offending)]
-fn right_after(
-    right: &Resolved,
+fn right_after<'a>(
+    right: &Resolved<'a>,
     found: Option<u32>,
     relation: Relation,
     is_last: bool,
-    globals: &Globals,
+    globals: &Globals<'a>,
 ) -> Option<u32>
     ensures { result ≡ or_else found (spec.first (spec.unless (spec.tested (globals_of globals.now) relation is_last (resolved_of right.now)) (spec.offending (globals_of globals.now) (resolved_of right.now)))) }
 {
@@ -140,7 +152,10 @@ fn right_after(
 }
 
 #[cycle(offending)]
-fn ranges_offending(variables: &Items<Range>, globals: &Globals) -> Option<u32>
+fn ranges_offending<'a>(
+    variables: &Boxed<'a, Items<'a, Range<'a>>>,
+    globals: &Globals<'a>,
+) -> Option<u32>
     ensures { result ≡ spec.first (spec.ranges_offending (globals_of globals.now) (ranges (map range_of variables.now))) }
 {
     let mut line = None;
@@ -151,17 +166,17 @@ fn ranges_offending(variables: &Items<Range>, globals: &Globals) -> Option<u32>
 }
 
 #[cycle(offending)]
-fn part_after(part: &Option<Boxed<Resolved>>, found: Option<u32>, globals: &Globals) -> Option<u32>
+fn part_after<'a>(part: &Part<'a>, found: Option<u32>, globals: &Globals<'a>) -> Option<u32>
     ensures { result ≡ or_else found (spec.first (spec.part_offending (globals_of globals.now) (part_of part.now))) }
 {
-    match part {
+    match part.get() {
         None => found,
         Some(term) => offending_after(term.get(), found, globals),
     }
 }
 
 /// The extent of what a name stands for.
-fn extent_named(globals: &Globals, reference: Reference) -> Extent
+fn extent_named(globals: &Globals<'_>, reference: Reference) -> Extent
     ensures { result ≡ spec.extent_named (globals_of globals.now) reference }
 {
     match reference {
@@ -238,7 +253,7 @@ impl Extent {
     }
 }
 
-impl Entry {
+impl<'a> Entry<'a> {
     /// The extent of a name that is defined as this.
     fn extent(&self) -> Extent
         ensures { result ≡ spec.definition_extent (definition_of self.now) }

@@ -10,6 +10,7 @@ ghost use Rattle.zf_type.specs.Resolving.{resolved};
 ghost use Rattle.zf_type.specs.Rules.{Meets, sort_of};
 ghost use Rattle.zf_type.specs.Scopes as spec;
 ghost use Rattle.zf_type.specs.Scopes.{scope_of};
+ghost use Rattle.zf_type.specs.Shapes.{line_of};
 ghost use Rattle.zf_type.specs.Typing.{IsOf};
 ghost use Rattle.zf_type.specs.declared.operator.Need.TheVariants as needs;
 
@@ -18,7 +19,6 @@ mod chains;
 mod lists;
 mod operands;
 
-use crate::binding::{depth, row, unbind};
 use crate::fault::{Refusal, TypeFaultKind, refused};
 use crate::operator::{Listed, Need, Operator, Unary};
 use crate::resolved::Resolved;
@@ -26,20 +26,20 @@ use crate::rules::constant_sort;
 use crate::scope::Scope;
 use crate::sort::Sort;
 use crate::ztype::ZType;
-use binders::{built, declare, judge_part, quantified};
+use binders::{builder, quantified};
+use bumpalo::Bump;
 use chains::chain;
 use lists::listed;
 use operands::{binary, unary};
-use std::alloc::Global;
-use zf_data::Boxed;
+use zf_data::arena::Boxed;
 use zf_text::token::Constant;
 use zf_text::tree::{Name, Term};
 
 /// A term in which each name says what it stands for, and what the term is.
-#[derive(Debug, Drop)]
-pub struct Judged {
-    pub term: Resolved,
-    pub sort: Sort,
+#[derive(Drop)]
+pub struct Judged<'a> {
+    pub term: Resolved<'a>,
+    pub sort: Sort<'a>,
 }
 
 /// What the place of a term needs, and the line of its first token.
@@ -50,49 +50,63 @@ struct Place {
 }
 
 /// What the term is where this is needed.
-pub fn judge(
-    term: &Term,
-    alloc: Global,
+pub fn judge<'a>(
+    term: &Term<'a>,
+    arena: &'a Bump,
     need: Need,
-    scope: &mut Scope<'_>,
-) -> Result<Judged, Refusal>
+    scope: &mut Scope<'a, '_>,
+) -> Result<Judged<'a>, Refusal>
     ensures sort { IfOk result (λ j. IsOf (scope_of scope.old) (tree_of term.now) (sort_of j.sort)) }
     ensures met { IfOk result (λ j. Meets need (sort_of j.sort)) }
     ensures term { IfOk result (λ j. resolved_of j.term ≡ resolved (scope_of scope.old) (tree_of term.now)) }
     ensures wrong { IfErr result (λ e. IfFault e (λ kind line. Offends (scope_of scope.old) need (tree_of term.now) kind line)) }
     ensures scope { scope_of scope.new ≡ scope_of scope.old }
 {
-    judge_term(term, alloc, need, scope)
+    judge_term(term, arena, need, scope)
+}
+
+/// A term that stands in a box.
+#[cycle(judging)]
+fn judge_boxed<'a>(
+    term: &Boxed<'a, Term<'a>>,
+    arena: &'a Bump,
+    need: Need,
+    scope: &mut Scope<'a, '_>,
+) -> Result<Judged<'a>, Refusal>
+    ensures judged { Judges (scope_of scope.old) need (tree_of term.now) result }
+    ensures scope { scope_of scope.new ≡ scope_of scope.old }
+{
+    judge_term(term.get(), arena, need, scope)
 }
 
 #[cycle(judging)]
 #[tactic(auto, using(zf_text::proofs::TermSeen::seen))]
-fn judge_term(
-    term: &Term,
-    alloc: Global,
+fn judge_term<'a>(
+    term: &Term<'a>,
+    arena: &'a Bump,
     need: Need,
-    scope: &mut Scope<'_>,
-) -> Result<Judged, Refusal>
+    scope: &mut Scope<'a, '_>,
+) -> Result<Judged<'a>, Refusal>
     ensures judged { Judges (scope_of scope.old) need (tree_of term.now) result }
     ensures scope { scope_of scope.new ≡ scope_of scope.old }
 {
     match term {
-        Term::Name(name) => named(alloc, need, name, scope),
+        Term::Name(name) => named(arena, need, name, scope),
         Term::Number(line, value) => number(need, *line, *value),
-        Term::Constant(line, constant) => constant_term(alloc, need, *line, *constant),
+        Term::Constant(line, constant) => constant_term(arena, need, *line, *constant),
         Term::EmptySet(line, of) => {
-            let of = judge_term(of.get(), alloc, Need::Set, scope)?;
-            empty_set(alloc, need, *line, of)
+            let line = *line;
+            empty_set(of.get(), arena, Place { need, line }, scope)
         }
         Term::Bracket(line, inner) => {
-            let inner = judge_term(inner.get(), alloc, need, scope)?;
-            bracket(alloc, need, *line, inner)
+            let line = *line;
+            bracket(inner.get(), arena, Place { need, line }, scope)
         }
         Term::Prefix(line, sign, operand) => {
             let line = *line;
             unary(
                 operand.get(),
-                alloc,
+                arena,
                 Place { need, line },
                 Unary::Sign(*sign),
                 scope,
@@ -102,7 +116,7 @@ fn judge_term(
             let line = *line;
             unary(
                 operand.get(),
-                alloc,
+                arena,
                 Place { need, line },
                 Unary::Inverse,
                 scope,
@@ -112,7 +126,7 @@ fn judge_term(
             let line = *line;
             unary(
                 operand.get(),
-                alloc,
+                arena,
                 Place { need, line },
                 Unary::Not,
                 scope,
@@ -121,38 +135,73 @@ fn judge_term(
         Term::Image(line, left, right) => {
             let line = *line;
             let op = Operator::Image;
-            let left = judge_term(left.get(), alloc, op.rule().left_need(), scope)?;
-            binary(right.get(), alloc, Place { need, line }, op, left, scope)
+            binary(
+                term,
+                arena,
+                Place { need, line },
+                op,
+                left.get(),
+                right.get(),
+                scope,
+            )
         }
         Term::Apply(line, left, right) => {
             let line = *line;
             let op = Operator::Application;
-            let left = judge_term(left.get(), alloc, op.rule().left_need(), scope)?;
-            binary(right.get(), alloc, Place { need, line }, op, left, scope)
+            binary(
+                term,
+                arena,
+                Place { need, line },
+                op,
+                left.get(),
+                right.get(),
+                scope,
+            )
         }
         Term::Infix(line, infix, left, right) => {
             let line = *line;
             let op = Operator::Function(*infix);
-            let left = judge_term(left.get(), alloc, op.rule().left_need(), scope)?;
-            binary(right.get(), alloc, Place { need, line }, op, left, scope)
+            binary(
+                term,
+                arena,
+                Place { need, line },
+                op,
+                left.get(),
+                right.get(),
+                scope,
+            )
         }
         Term::Arrow(line, arrow, left, right) => {
             let line = *line;
             let op = Operator::Generic(*arrow);
-            let left = judge_term(left.get(), alloc, op.rule().left_need(), scope)?;
-            binary(right.get(), alloc, Place { need, line }, op, left, scope)
+            binary(
+                term,
+                arena,
+                Place { need, line },
+                op,
+                left.get(),
+                right.get(),
+                scope,
+            )
         }
         Term::Connective(line, connective, left, right) => {
             let line = *line;
             let op = Operator::Connective(*connective);
-            let left = judge_term(left.get(), alloc, op.rule().left_need(), scope)?;
-            binary(right.get(), alloc, Place { need, line }, op, left, scope)
+            binary(
+                term,
+                arena,
+                Place { need, line },
+                op,
+                left.get(),
+                right.get(),
+                scope,
+            )
         }
         Term::Tuple(line, terms) => {
             let line = *line;
             listed(
                 terms.as_slice(),
-                alloc,
+                arena,
                 Place { need, line },
                 Listed::Tuple,
                 scope,
@@ -162,7 +211,7 @@ fn judge_term(
             let line = *line;
             listed(
                 terms.as_slice(),
-                alloc,
+                arena,
                 Place { need, line },
                 Listed::Display,
                 scope,
@@ -172,107 +221,131 @@ fn judge_term(
             let line = *line;
             listed(
                 terms.as_slice(),
-                alloc,
+                arena,
                 Place { need, line },
                 Listed::Product,
                 scope,
             )
         }
-        Term::Chain(line, first, links) => {
-            let line = *line;
-            let first = judge_term(first.get(), alloc, Need::Expression, scope)?;
-            chain(links.as_slice(), alloc, Place { need, line }, first, scope)
-        }
-        Term::Quantified(line, quantifier, decls, constraint, body) => {
-            let line = *line;
-            let quantifier = *quantifier;
-            let outside = depth(scope);
-            let ranges = declare(decls.as_slice(), alloc, scope)?;
-            let constraint = judge_part(constraint, alloc, Need::Predicate, scope);
-            let body = judge_term(body.get(), alloc, Need::Predicate, scope);
-            unbind(scope, outside);
-            quantified(
-                alloc,
-                Place { need, line },
-                quantifier,
-                ranges,
-                constraint,
-                body,
-            )
-        }
-        Term::Builder(line, decls, filter, member) => {
-            let line = *line;
-            let outside = depth(scope);
-            let ranges = declare(decls.as_slice(), alloc, scope)?;
-            let filter = judge_part(filter, alloc, Need::Predicate, scope);
-            let member = judge_part(member, alloc, Need::Expression, scope);
-            let row = row(alloc, scope, outside);
-            unbind(scope, outside);
-            built(alloc, Place { need, line }, ranges, filter, member, row)
-        }
+        Term::Chain(_, _, _) => chain(term, arena, need, scope),
+        Term::Quantified(_, _, _, _, _) => quantified(term, arena, need, scope),
+        Term::Builder(_, _, _, _) => builder(term, arena, need, scope),
     }
 }
 
-fn constant_term(
-    alloc: Global,
+#[inline(never)]
+fn constant_term<'a>(
+    arena: &'a Bump,
     need: Need,
     line: u32,
     constant: Constant,
-) -> Result<Judged, Refusal>
+) -> Result<Judged<'a>, Refusal>
     ensures { (s : spec.Scope) → Judges s need (tree.constant line constant) result }
 {
-    let sort = constant_sort(alloc, constant)?;
+    let sort = constant_sort(arena, constant)?;
+    if !sort.meets(need) {
+        return Err(misplaced(&sort, need, line));
+    }
     let term = Resolved::Constant(line, constant);
-    placed(Judged { term, sort }, need)
+    Ok(Judged { term, sort })
 }
 
-fn empty_set(alloc: Global, need: Need, line: u32, of: Judged) -> Result<Judged, Refusal>
-    ensures { (s : spec.Scope) (e : Tree) → IsJudged s needs.Set e of → Judges s need (tree.empty_set line e) result }
+#[cycle(judging)]
+#[inline(never)]
+fn empty_set<'a>(
+    of: &Term<'a>,
+    arena: &'a Bump,
+    place: Place,
+    scope: &mut Scope<'a, '_>,
+) -> Result<Judged<'a>, Refusal>
+    ensures judged { Judges (scope_of scope.old) place.need (tree.empty_set place.line (tree_of of.now)) result }
+    ensures scope { scope_of scope.new ≡ scope_of scope.old }
+{
+    let of = judge_term(of, arena, Need::Set, scope)?;
+    empty_set_of(arena, place.need, place.line, of)
+}
+
+fn empty_set_of<'a>(
+    arena: &'a Bump,
+    need: Need,
+    line: u32,
+    of: Judged<'a>,
+) -> Result<Judged<'a>, Refusal>
+    ensures { (s : spec.Scope) (e : Tree) → IsJudged s needs.Set e of.entry → Judges s need (tree.empty_set line e) result }
 {
     let Judged { term, sort } = of;
-    let term = Resolved::EmptySet(line, Boxed::new(alloc, term)?);
-    placed(Judged { term, sort }, need)
+    if !sort.meets(need) {
+        return Err(misplaced(&sort, need, line));
+    }
+    let term = Resolved::EmptySet(line, Boxed::new(arena, term)?);
+    Ok(Judged { term, sort })
 }
 
-fn bracket(alloc: Global, need: Need, line: u32, inner: Judged) -> Result<Judged, Refusal>
-    ensures { (s : spec.Scope) (e : Tree) → IsJudged s need e inner → Judges s need (tree.bracket line e) result }
+#[cycle(judging)]
+#[inline(never)]
+fn bracket<'a>(
+    inner: &Term<'a>,
+    arena: &'a Bump,
+    place: Place,
+    scope: &mut Scope<'a, '_>,
+) -> Result<Judged<'a>, Refusal>
+    ensures judged { Judges (scope_of scope.old) place.need (tree.bracket place.line (tree_of inner.now)) result }
+    ensures scope { scope_of scope.new ≡ scope_of scope.old }
+{
+    let inner = judge_term(inner, arena, place.need, scope)?;
+    bracketed(arena, place.need, place.line, inner)
+}
+
+fn bracketed<'a>(
+    arena: &'a Bump,
+    need: Need,
+    line: u32,
+    inner: Judged<'a>,
+) -> Result<Judged<'a>, Refusal>
+    ensures { (s : spec.Scope) (e : Tree) → IsJudged s need e inner.entry → Judges s need (tree.bracket line e) result }
 {
     let Judged { term, sort } = inner;
-    let term = Resolved::Bracket(line, Boxed::new(alloc, term)?);
-    placed(Judged { term, sort }, need)
+    let term = Resolved::Bracket(line, Boxed::new(arena, term)?);
+    Ok(Judged { term, sort })
 }
 
-fn named(alloc: Global, need: Need, name: &Name, scope: &Scope<'_>) -> Result<Judged, Refusal>
+#[inline(never)]
+fn named<'a>(
+    arena: &'a Bump,
+    need: Need,
+    name: &Name<'a>,
+    scope: &Scope<'a, '_>,
+) -> Result<Judged<'a>, Refusal>
     ensures { Judges (scope_of scope.now) need (named name.now) result }
 {
-    match scope.meaning(alloc, name)? {
+    match scope.meaning(arena, name)? {
         Some((reference, sort)) => {
+            if !sort.meets(need) {
+                return Err(misplaced(&sort, need, name.line));
+            }
             let term = Resolved::Name(name.line, reference);
-            placed(Judged { term, sort }, need)
+            Ok(Judged { term, sort })
         }
         None => Err(refused(TypeFaultKind::NotDeclared, name.line)),
     }
 }
 
-fn number(need: Need, line: u32, value: u64) -> Result<Judged, Refusal>
+#[inline(never)]
+fn number<'a>(need: Need, line: u32, value: u64) -> Result<Judged<'a>, Refusal>
     ensures { (s : spec.Scope) → Judges s need (numeral line value) result }
 {
+    let sort = Sort::Typed(ZType::Int);
+    if !sort.meets(need) {
+        return Err(misplaced(&sort, need, line));
+    }
     let term = Resolved::Number(line, value);
-    placed(
-        Judged {
-            term,
-            sort: Sort::Typed(ZType::Int),
-        },
-        need,
-    )
+    Ok(Judged { term, sort })
 }
 
-/// The term, where its place takes what it is.
-fn placed(judged: Judged, need: Need) -> Result<Judged, Refusal>
-    ensures { (s : spec.Scope) (e : Tree) → IsOf s e (sort_of judged.sort) → resolved_of judged.term ≡ resolved s e → Judges s need e result }
+/// The refusal of a term of this sort and line, whose place does not take it.
+#[inline(never)]
+fn misplaced(sort: &Sort<'_>, need: Need, line: u32) -> Refusal
+    ensures { (s : spec.Scope) (e : Tree) → IsOf s e (sort_of sort.now) → (Meets need (sort_of sort.now) → ⊥) → line_of (resolved s e) ≡ line → IfFault result (λ kind m. Offends s need e kind m) }
 {
-    if judged.sort.meets(need) {
-        return Ok(judged);
-    }
-    Err(refused(judged.sort.lack(need), judged.term.line()))
+    refused(sort.lack(need), line)
 }

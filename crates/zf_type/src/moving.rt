@@ -3,9 +3,10 @@ ghost use Rattle.std.specs.Prelude.{◌≡◌, IfOk, map};
 ghost use Rattle.zf_type.specs.ResolvedTrees.{resolved_of, resolved_link_of, range_of, part_of};
 ghost use Rattle.zf_type.specs.Shapes as spec;
 
-use crate::resolved::{Range, Reference, Resolved, ResolvedLink};
-use std::alloc::{AllocError, Global};
-use zf_data::{Boxed, Items};
+use crate::resolved::{Part, Range, Reference, Resolved, ResolvedLink};
+use bumpalo::Bump;
+use std::alloc::AllocError;
+use zf_data::arena::{Boxed, Items};
 
 impl Reference {
     /// The same, with the component numbered anew where the list has a number for it.
@@ -23,18 +24,18 @@ impl Reference {
     }
 }
 
-impl Resolved {
+impl<'a> Resolved<'a> {
     #[tactic(auto, using(crate::proofs::Copies::copied))]
-    pub fn copy(&self, alloc: Global) -> Result<Resolved, AllocError>
+    pub fn copy(&self, arena: &'a Bump) -> Result<Resolved<'a>, AllocError>
         ensures { IfOk result (λ t. t ≡ self.now) }
     {
-        self.moved(alloc, &[])
+        self.moved(arena, &[])
     }
 
     /// The same term, with its components numbered anew: by the list's number at their place, where there is one.
     #[cycle(moved)]
     #[tactic(auto, using(crate::proofs::ResolvedSeen::seen, crate::proofs::MovedLists::lists))]
-    pub fn moved(&self, alloc: Global, places: &[usize]) -> Result<Resolved, AllocError>
+    pub fn moved(&self, arena: &'a Bump, places: &[usize]) -> Result<Resolved<'a>, AllocError>
         ensures { IfOk result (λ t. resolved_of t ≡ spec.moved (spec.place_in places.now) (resolved_of self.now)) }
     {
         match self {
@@ -43,42 +44,42 @@ impl Resolved {
             Resolved::Constant(line, constant) => Ok(Resolved::Constant(*line, *constant)),
             Resolved::EmptySet(line, of) => Ok(Resolved::EmptySet(
                 *line,
-                Boxed::new(alloc, of.get().moved(alloc, places)?)?,
+                Boxed::new(arena, of.get().moved(arena, places)?)?,
             )),
             Resolved::Bracket(line, inner) => Ok(Resolved::Bracket(
                 *line,
-                Boxed::new(alloc, inner.get().moved(alloc, places)?)?,
+                Boxed::new(arena, inner.get().moved(arena, places)?)?,
             )),
             Resolved::Listed(line, form, items) => Ok(Resolved::Listed(
                 *line,
                 *form,
-                moved_terms(items, alloc, places)?,
+                moved_terms(items, arena, places)?,
             )),
             Resolved::Builder(line, variables, filter, term) => {
-                let variables = moved_ranges(variables, alloc, places)?;
-                let filter = moved_part(filter, alloc, places)?;
-                let term = moved_part(term, alloc, places)?;
+                let variables = moved_ranges(variables, arena, places)?;
+                let filter = moved_part(filter, arena, places)?;
+                let term = moved_part(term, arena, places)?;
                 Ok(Resolved::Builder(*line, variables, filter, term))
             }
             Resolved::Unary(line, op, of) => Ok(Resolved::Unary(
                 *line,
                 *op,
-                Boxed::new(alloc, of.get().moved(alloc, places)?)?,
+                Boxed::new(arena, of.get().moved(arena, places)?)?,
             )),
             Resolved::Binary(line, op, left, right) => {
-                let left = Boxed::new(alloc, left.get().moved(alloc, places)?)?;
-                let right = Boxed::new(alloc, right.get().moved(alloc, places)?)?;
+                let left = Boxed::new(arena, left.get().moved(arena, places)?)?;
+                let right = Boxed::new(arena, right.get().moved(arena, places)?)?;
                 Ok(Resolved::Binary(*line, *op, left, right))
             }
             Resolved::Chain(line, first, further) => {
-                let first = Boxed::new(alloc, first.get().moved(alloc, places)?)?;
-                let further = moved_links(further, alloc, places)?;
+                let first = Boxed::new(arena, first.get().moved(arena, places)?)?;
+                let further = moved_links(further, arena, places)?;
                 Ok(Resolved::Chain(*line, first, further))
             }
             Resolved::Quantified(line, quantifier, variables, constraint, body) => {
-                let variables = moved_ranges(variables, alloc, places)?;
-                let constraint = moved_part(constraint, alloc, places)?;
-                let body = Boxed::new(alloc, body.get().moved(alloc, places)?)?;
+                let variables = moved_ranges(variables, arena, places)?;
+                let constraint = moved_part(constraint, arena, places)?;
+                let body = Boxed::new(arena, body.get().moved(arena, places)?)?;
                 Ok(Resolved::Quantified(*line, *quantifier, variables, constraint, body))
             }
         }
@@ -86,86 +87,93 @@ impl Resolved {
 }
 
 #[cycle(moved)]
-fn moved_terms(
-    items: &Items<Resolved>,
-    alloc: Global,
+fn moved_terms<'a>(
+    items: &Items<'a, Resolved<'a>>,
+    arena: &'a Bump,
     places: &[usize],
-) -> Result<Items<Resolved>, AllocError>
+) -> Result<Items<'a, Resolved<'a>>, AllocError>
     ensures { IfOk result (λ s. map resolved_of s ≡ map (spec.moved (spec.place_in places.now)) (map resolved_of items.now)) }
 {
-    let mut moved = Items::new(alloc);
+    let mut moved = Items::with_room(arena, items.len())?;
     for term in items.as_slice() {
-        moved.push(term.moved(alloc, places)?)?;
+        moved.push(term.moved(arena, places)?)?;
     }
     Ok(moved)
 }
 
 #[cycle(moved)]
-fn moved_links(
-    further: &Items<ResolvedLink>,
-    alloc: Global,
+fn moved_links<'a>(
+    further: &Items<'a, ResolvedLink<'a>>,
+    arena: &'a Bump,
     places: &[usize],
-) -> Result<Items<ResolvedLink>, AllocError>
+) -> Result<Items<'a, ResolvedLink<'a>>, AllocError>
     ensures { IfOk result (λ s. map resolved_link_of s ≡ map (spec.link_moved (spec.place_in places.now)) (map resolved_link_of further.now)) }
 {
-    let mut moved = Items::new(alloc);
+    let mut moved = Items::with_room(arena, further.len())?;
     for link in further.as_slice() {
-        moved.push(moved_link(link, alloc, places)?)?;
+        moved.push(moved_link(link, arena, places)?)?;
     }
     Ok(moved)
 }
 
 #[cycle(moved)]
 #[tactic(auto, using(crate::proofs::ResolvedSeen::parts_seen))]
-fn moved_link(
-    link: &ResolvedLink,
-    alloc: Global,
+fn moved_link<'a>(
+    link: &ResolvedLink<'a>,
+    arena: &'a Bump,
     places: &[usize],
-) -> Result<ResolvedLink, AllocError>
+) -> Result<ResolvedLink<'a>, AllocError>
     ensures { IfOk result (λ k. resolved_link_of k ≡ spec.link_moved (spec.place_in places.now) (resolved_link_of link.now)) }
 {
     Ok(ResolvedLink {
         relation: link.relation,
-        right: link.right.moved(alloc, places)?,
+        right: link.right.moved(arena, places)?,
     })
 }
 
 #[cycle(moved)]
-fn moved_ranges(
-    variables: &Items<Range>,
-    alloc: Global,
+fn moved_ranges<'a>(
+    variables: &Boxed<'a, Items<'a, Range<'a>>>,
+    arena: &'a Bump,
     places: &[usize],
-) -> Result<Items<Range>, AllocError>
+) -> Result<Boxed<'a, Items<'a, Range<'a>>>, AllocError>
     ensures { IfOk result (λ s. map range_of s ≡ map (spec.range_moved (spec.place_in places.now)) (map range_of variables.now)) }
 {
-    let mut moved = Items::new(alloc);
+    let mut moved = Items::with_room(arena, variables.as_slice().len())?;
     for range in variables.as_slice() {
-        moved.push(moved_range(range, alloc, places)?)?;
+        moved.push(moved_range(range, arena, places)?)?;
     }
-    Ok(moved)
+    Boxed::new(arena, moved)
 }
 
 #[cycle(moved)]
 #[tactic(auto, using(crate::proofs::ResolvedSeen::parts_seen))]
-fn moved_range(range: &Range, alloc: Global, places: &[usize]) -> Result<Range, AllocError>
+fn moved_range<'a>(
+    range: &Range<'a>,
+    arena: &'a Bump,
+    places: &[usize],
+) -> Result<Range<'a>, AllocError>
     ensures { IfOk result (λ r. range_of r ≡ spec.range_moved (spec.place_in places.now) (range_of range.now)) }
 {
     Ok(Range {
         variables: range.variables,
-        set: range.set.moved(alloc, places)?,
+        set: range.set.moved(arena, places)?,
     })
 }
 
 #[cycle(moved)]
-fn moved_part(
-    part: &Option<Boxed<Resolved>>,
-    alloc: Global,
+fn moved_part<'a>(
+    part: &Part<'a>,
+    arena: &'a Bump,
     places: &[usize],
-) -> Result<Option<Boxed<Resolved>>, AllocError>
+) -> Result<Part<'a>, AllocError>
     ensures { IfOk result (λ p. part_of p ≡ spec.part_moved (spec.place_in places.now) (part_of part.now)) }
 {
-    match part {
-        None => Ok(None),
-        Some(term) => Ok(Some(Boxed::new(alloc, term.get().moved(alloc, places)?)?)),
+    match part.get() {
+        None => Boxed::new(arena, None),
+        Some(term) => {
+            let moved = Boxed::new(arena, term.get().moved(arena, places)?)?;
+            Boxed::new(arena, Some(moved))
+        }
     }
 }

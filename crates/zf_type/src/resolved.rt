@@ -1,6 +1,6 @@
 //! Resolved terms: terms in which each name says what it stands for.
 use crate::operator::{Listed, Operator, Unary};
-use zf_data::{Boxed, Items};
+use zf_data::arena::{Boxed, Items};
 use zf_text::token::{Constant, Quantifier, Relation};
 
 /// What a name stands for.
@@ -14,39 +14,42 @@ pub enum Reference {
     Global(usize),
 }
 
+/// A part of a term that may be left out, in a box of its own: most terms have none, and stay small.
+pub type Part<'a> = Boxed<'a, Option<Boxed<'a, Resolved<'a>>>>;
+
 /// A term, with the line of its first token.
 #[cycle(resolved)]
-#[derive(Debug, Drop)]
-pub enum Resolved {
+#[derive(Drop)]
+pub enum Resolved<'a> {
     Name(u32, Reference),
     Number(u32, u64),
     Constant(u32, Constant),
     /// `\emptyset[E]`
-    EmptySet(u32, Boxed<Resolved>),
-    Bracket(u32, Boxed<Resolved>),
-    Listed(u32, Listed, Items<Resolved>),
+    EmptySet(u32, Boxed<'a, Resolved<'a>>),
+    Bracket(u32, Boxed<'a, Resolved<'a>>),
+    Listed(u32, Listed, Items<'a, Resolved<'a>>),
     /// A builder: the ranges of its variables, the filter, and the term.
-    Builder(u32, Items<Range>, Option<Boxed<Resolved>>, Option<Boxed<Resolved>>),
-    Unary(u32, Unary, Boxed<Resolved>),
-    Binary(u32, Operator, Boxed<Resolved>, Boxed<Resolved>),
+    Builder(u32, Boxed<'a, Items<'a, Range<'a>>>, Part<'a>, Part<'a>),
+    Unary(u32, Unary, Boxed<'a, Resolved<'a>>),
+    Binary(u32, Operator, Boxed<'a, Resolved<'a>>, Boxed<'a, Resolved<'a>>),
     /// A chain of relations: the first operand, and the further ones.
-    Chain(u32, Boxed<Resolved>, Items<ResolvedLink>),
+    Chain(u32, Boxed<'a, Resolved<'a>>, Items<'a, ResolvedLink<'a>>),
     /// The ranges of the variables, the constraint, and the body.
-    Quantified(u32, Quantifier, Items<Range>, Option<Boxed<Resolved>>, Boxed<Resolved>),
+    Quantified(u32, Quantifier, Boxed<'a, Items<'a, Range<'a>>>, Part<'a>, Boxed<'a, Resolved<'a>>),
 }
 
 /// A further part of a chain.
 #[cycle(resolved)]
-#[derive(Debug, Drop)]
-pub struct ResolvedLink {
+#[derive(Drop)]
+pub struct ResolvedLink<'a> {
     pub relation: Relation,
-    pub right: Resolved,
+    pub right: Resolved<'a>,
 }
 
 /// Bound variables: how many there are, and their declared set.
 #[cycle(resolved)]
-#[derive(Debug, Drop)]
-pub struct Range {
+#[derive(Drop)]
+pub struct Range<'a> {
     pub variables: usize,
-    pub set: Resolved,
+    pub set: Resolved<'a>,
 }

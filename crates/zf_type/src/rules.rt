@@ -11,17 +11,18 @@ ghost use Rattle.zf_type.specs.Types.{int, type_of};
 use crate::operator::{Need, Rule, Unary};
 use crate::sort::Sort;
 use crate::ztype::{ZType, pair_type, set_type};
-use std::alloc::{AllocError, Global};
+use bumpalo::Bump;
+use std::alloc::AllocError;
 use zf_text::token::{Constant, Prefix};
 use zf_text::tree::Sign;
 
 /// What two operands make by a rule, where it takes them together.
-pub fn combine(
-    alloc: Global,
+pub fn combine<'a>(
+    arena: &'a Bump,
     rule: Rule,
-    left: &Sort,
-    right: &Sort,
-) -> Result<Option<Sort>, AllocError>
+    left: &Sort<'a>,
+    right: &Sort<'a>,
+) -> Result<Option<Sort<'a>>, AllocError>
     ensures { IfOk result (IsMade rule (sort_of left.now) (sort_of right.now)) }
 {
     match rule {
@@ -30,19 +31,19 @@ pub fn combine(
             Ok(compared(rule, left, right))
         }
         Rule::Belonging => Ok(belonging(left, right)),
-        Rule::Interval => interval(alloc, left, right),
-        Rule::Pairing => paired(alloc, left, right),
-        Rule::Composing => composed(alloc, left, right),
+        Rule::Interval => interval(arena, left, right),
+        Rule::Pairing => paired(arena, left, right),
+        Rule::Composing => composed(arena, left, right),
         Rule::DomainRestricting => domain_restricted(left, right),
         Rule::RangeRestricting => range_restricted(left, right),
-        Rule::Relating => related(alloc, left, right),
+        Rule::Relating => related(arena, left, right),
         Rule::Applying => applied(left, right),
-        Rule::Imaging => image(alloc, left, right),
+        Rule::Imaging => image(arena, left, right),
     }
 }
 
 /// The sort of both operands, where they have one that the rule takes.
-fn alike(rule: Rule, left: &Sort, right: &Sort) -> Result<Option<Sort>, AllocError>
+fn alike<'a>(rule: Rule, left: &Sort<'a>, right: &Sort<'a>) -> Result<Option<Sort<'a>>, AllocError>
     ensures { IfOk result (λ o. MatchOption o (Meets (left_need rule) (sort_of left.now) → sort_of left.now ≡ sort_of right.now → ⊥) (λ z. Meets (left_need rule) (sort_of left.now) × (sort_of left.now ≡ sort_of right.now) × (sort_of z ≡ sort_of left.now))) }
 {
     if are_alike(rule, left, right) {
@@ -53,7 +54,7 @@ fn alike(rule: Rule, left: &Sort, right: &Sort) -> Result<Option<Sort>, AllocErr
 }
 
 /// The predicate that the operands have one sort, where they have one that the rule takes.
-fn compared(rule: Rule, left: &Sort, right: &Sort) -> Option<Sort>
+fn compared<'a>(rule: Rule, left: &Sort<'a>, right: &Sort<'a>) -> Option<Sort<'a>>
     ensures { MatchOption result (Meets (left_need rule) (sort_of left.now) → sort_of left.now ≡ sort_of right.now → ⊥) (λ z. Meets (left_need rule) (sort_of left.now) × (sort_of left.now ≡ sort_of right.now) × (sort_of z ≡ predicate)) }
 {
     if are_alike(rule, left, right) {
@@ -64,14 +65,18 @@ fn compared(rule: Rule, left: &Sort, right: &Sort) -> Option<Sort>
 }
 
 /// Whether both operands have one sort, which the rule takes.
-fn are_alike(rule: Rule, left: &Sort, right: &Sort) -> bool
+fn are_alike<'a>(rule: Rule, left: &Sort<'a>, right: &Sort<'a>) -> bool
     ensures { IsTrue result ↔ (Meets (left_need rule) (sort_of left.now) × (sort_of left.now ≡ sort_of right.now)) }
 {
     left.meets(rule.left_need()) && left.same(right)
 }
 
 #[tactic(auto, unfolding(crate::specs::Rules::IsMade))]
-fn interval(alloc: Global, left: &Sort, right: &Sort) -> Result<Option<Sort>, AllocError>
+fn interval<'a>(
+    arena: &'a Bump,
+    left: &Sort<'a>,
+    right: &Sort<'a>,
+) -> Result<Option<Sort<'a>>, AllocError>
     ensures { IfOk result (IsMade rule.Interval (sort_of left.now) (sort_of right.now)) }
 {
     if !left.meets(Need::Number) {
@@ -80,11 +85,15 @@ fn interval(alloc: Global, left: &Sort, right: &Sort) -> Result<Option<Sort>, Al
     if !right.meets(Need::Number) {
         return Ok(None);
     }
-    Ok(Some(set_of_numbers(alloc)?))
+    Ok(Some(set_of_numbers(arena)?))
 }
 
 #[tactic(auto, unfolding(crate::specs::Rules::IsMade))]
-fn paired(alloc: Global, left: &Sort, right: &Sort) -> Result<Option<Sort>, AllocError>
+fn paired<'a>(
+    arena: &'a Bump,
+    left: &Sort<'a>,
+    right: &Sort<'a>,
+) -> Result<Option<Sort<'a>>, AllocError>
     ensures { IfOk result (IsMade rule.Pairing (sort_of left.now) (sort_of right.now)) }
 {
     let Some(first) = left.ztype() else {
@@ -93,12 +102,16 @@ fn paired(alloc: Global, left: &Sort, right: &Sort) -> Result<Option<Sort>, Allo
     let Some(second) = right.ztype() else {
         return Ok(None);
     };
-    let pair = pair_type(alloc, first.share()?, second.share()?)?;
+    let pair = pair_type(arena, first.share()?, second.share()?)?;
     Ok(Some(Sort::Typed(pair)))
 }
 
 #[tactic(auto, unfolding(crate::specs::Rules::IsMade))]
-fn composed(alloc: Global, left: &Sort, right: &Sort) -> Result<Option<Sort>, AllocError>
+fn composed<'a>(
+    arena: &'a Bump,
+    left: &Sort<'a>,
+    right: &Sort<'a>,
+) -> Result<Option<Sort<'a>>, AllocError>
     ensures { IfOk result (IsMade rule.Composing (sort_of left.now) (sort_of right.now)) }
 {
     let Some((from, middle)) = left.sides() else {
@@ -110,11 +123,11 @@ fn composed(alloc: Global, left: &Sort, right: &Sort) -> Result<Option<Sort>, Al
     if !middle.same(start) {
         return Ok(None);
     }
-    Ok(Some(relation_sort(alloc, from, into)?))
+    Ok(Some(relation_sort(arena, from, into)?))
 }
 
 #[tactic(auto, unfolding(crate::specs::Rules::IsMade))]
-fn domain_restricted(left: &Sort, right: &Sort) -> Result<Option<Sort>, AllocError>
+fn domain_restricted<'a>(left: &Sort<'a>, right: &Sort<'a>) -> Result<Option<Sort<'a>>, AllocError>
     ensures { IfOk result (IsMade rule.DomainRestricting (sort_of left.now) (sort_of right.now)) }
 {
     let Some(member) = left.member() else {
@@ -130,7 +143,7 @@ fn domain_restricted(left: &Sort, right: &Sort) -> Result<Option<Sort>, AllocErr
 }
 
 #[tactic(auto, unfolding(crate::specs::Rules::IsMade))]
-fn range_restricted(left: &Sort, right: &Sort) -> Result<Option<Sort>, AllocError>
+fn range_restricted<'a>(left: &Sort<'a>, right: &Sort<'a>) -> Result<Option<Sort<'a>>, AllocError>
     ensures { IfOk result (IsMade rule.RangeRestricting (sort_of left.now) (sort_of right.now)) }
 {
     let Some((_, into)) = left.sides() else {
@@ -146,7 +159,11 @@ fn range_restricted(left: &Sort, right: &Sort) -> Result<Option<Sort>, AllocErro
 }
 
 #[tactic(auto, unfolding(crate::specs::Rules::IsMade))]
-fn related(alloc: Global, left: &Sort, right: &Sort) -> Result<Option<Sort>, AllocError>
+fn related<'a>(
+    arena: &'a Bump,
+    left: &Sort<'a>,
+    right: &Sort<'a>,
+) -> Result<Option<Sort<'a>>, AllocError>
     ensures { IfOk result (IsMade rule.Relating (sort_of left.now) (sort_of right.now)) }
 {
     let Some(from) = left.member() else {
@@ -155,12 +172,12 @@ fn related(alloc: Global, left: &Sort, right: &Sort) -> Result<Option<Sort>, All
     let Some(into) = right.member() else {
         return Ok(None);
     };
-    let pair = pair_type(alloc, from.share()?, into.share()?)?;
-    Ok(Some(set_sort(alloc, set_type(alloc, pair)?)?))
+    let pair = pair_type(arena, from.share()?, into.share()?)?;
+    Ok(Some(set_sort(arena, set_type(arena, pair)?)?))
 }
 
 #[tactic(auto, unfolding(crate::specs::Rules::IsMade))]
-fn applied(left: &Sort, right: &Sort) -> Result<Option<Sort>, AllocError>
+fn applied<'a>(left: &Sort<'a>, right: &Sort<'a>) -> Result<Option<Sort<'a>>, AllocError>
     ensures { IfOk result (IsMade rule.Applying (sort_of left.now) (sort_of right.now)) }
 {
     let Some((from, into)) = left.sides() else {
@@ -176,7 +193,11 @@ fn applied(left: &Sort, right: &Sort) -> Result<Option<Sort>, AllocError>
 }
 
 #[tactic(auto, unfolding(crate::specs::Rules::IsMade))]
-fn image(alloc: Global, left: &Sort, right: &Sort) -> Result<Option<Sort>, AllocError>
+fn image<'a>(
+    arena: &'a Bump,
+    left: &Sort<'a>,
+    right: &Sort<'a>,
+) -> Result<Option<Sort<'a>>, AllocError>
     ensures { IfOk result (IsMade rule.Imaging (sort_of left.now) (sort_of right.now)) }
 {
     let Some((from, into)) = left.sides() else {
@@ -188,11 +209,11 @@ fn image(alloc: Global, left: &Sort, right: &Sort) -> Result<Option<Sort>, Alloc
     if !member.same(from) {
         return Ok(None);
     }
-    Ok(Some(set_sort(alloc, into.share()?)?))
+    Ok(Some(set_sort(arena, into.share()?)?))
 }
 
 #[tactic(auto, unfolding(crate::specs::Rules::IsMade))]
-fn belonging(left: &Sort, right: &Sort) -> Option<Sort>
+fn belonging<'a>(left: &Sort<'a>, right: &Sort<'a>) -> Option<Sort<'a>>
     ensures { IsMade rule.Belonging (sort_of left.now) (sort_of right.now) result }
 {
     let member = left.ztype()?;
@@ -204,19 +225,23 @@ fn belonging(left: &Sort, right: &Sort) -> Option<Sort>
 }
 
 /// What one operand makes, where the symbol takes it.
-pub fn apply(alloc: Global, op: Unary, operand: &Sort) -> Result<Option<Sort>, AllocError>
+pub fn apply<'a>(
+    arena: &'a Bump,
+    op: Unary,
+    operand: &Sort<'a>,
+) -> Result<Option<Sort<'a>>, AllocError>
     ensures { IfOk result (IsMadeOfOne op (sort_of operand.now)) }
 {
     match op {
         Unary::Sign(Sign::Minus) => Ok(negative(operand)),
-        Unary::Sign(Sign::Symbol(prefix)) => prefixed(alloc, prefix, operand),
-        Unary::Inverse => inverted(alloc, operand),
+        Unary::Sign(Sign::Symbol(prefix)) => prefixed(arena, prefix, operand),
+        Unary::Inverse => inverted(arena, operand),
         Unary::Not => Ok(negated(operand)),
     }
 }
 
 #[tactic(auto, unfolding(crate::specs::Rules::IsMadeOfOne))]
-fn negative(operand: &Sort) -> Option<Sort>
+fn negative<'a>(operand: &Sort<'a>) -> Option<Sort<'a>>
     ensures { IsMadeOfOne (unary.Sign sign.Minus) (sort_of operand.now) result }
 {
     if operand.meets(Need::Number) {
@@ -227,7 +252,7 @@ fn negative(operand: &Sort) -> Option<Sort>
 }
 
 #[tactic(auto, unfolding(crate::specs::Rules::IsMadeOfOne))]
-fn negated(operand: &Sort) -> Option<Sort>
+fn negated<'a>(operand: &Sort<'a>) -> Option<Sort<'a>>
     ensures { IsMadeOfOne unary.Not (sort_of operand.now) result }
 {
     if operand.meets(Need::Predicate) {
@@ -238,28 +263,32 @@ fn negated(operand: &Sort) -> Option<Sort>
 }
 
 #[tactic(auto, unfolding(crate::specs::Rules::IsMadeOfOne))]
-fn inverted(alloc: Global, operand: &Sort) -> Result<Option<Sort>, AllocError>
+fn inverted<'a>(arena: &'a Bump, operand: &Sort<'a>) -> Result<Option<Sort<'a>>, AllocError>
     ensures { IfOk result (IsMadeOfOne unary.Inverse (sort_of operand.now)) }
 {
     let Some((from, into)) = operand.sides() else {
         return Ok(None);
     };
-    Ok(Some(relation_sort(alloc, into, from)?))
+    Ok(Some(relation_sort(arena, into, from)?))
 }
 
-fn prefixed(alloc: Global, prefix: Prefix, operand: &Sort) -> Result<Option<Sort>, AllocError>
+fn prefixed<'a>(
+    arena: &'a Bump,
+    prefix: Prefix,
+    operand: &Sort<'a>,
+) -> Result<Option<Sort<'a>>, AllocError>
     ensures { IfOk result (IsMadeOfOne (unary.Sign (sign.Symbol prefix)) (sort_of operand.now)) }
 {
     match prefix {
-        Prefix::Power | Prefix::Finset => subsets(alloc, operand),
+        Prefix::Power | Prefix::Finset => subsets(arena, operand),
         Prefix::Size => Ok(size(operand)),
-        Prefix::Domain => domain(alloc, operand),
-        Prefix::Range => range(alloc, operand),
+        Prefix::Domain => domain(arena, operand),
+        Prefix::Range => range(arena, operand),
     }
 }
 
 #[tactic(auto, unfolding(crate::specs::Rules::IsMadeOfOne))]
-fn size(operand: &Sort) -> Option<Sort>
+fn size<'a>(operand: &Sort<'a>) -> Option<Sort<'a>>
     ensures { IsMadeOfOne (unary.Sign (sign.Symbol prefix.Size)) (sort_of operand.now) result }
 {
     if operand.meets(Need::Set) {
@@ -270,27 +299,27 @@ fn size(operand: &Sort) -> Option<Sort>
 }
 
 #[tactic(auto, unfolding(crate::specs::Rules::IsMadeOfOne))]
-fn domain(alloc: Global, operand: &Sort) -> Result<Option<Sort>, AllocError>
+fn domain<'a>(arena: &'a Bump, operand: &Sort<'a>) -> Result<Option<Sort<'a>>, AllocError>
     ensures { IfOk result (IsMadeOfOne (unary.Sign (sign.Symbol prefix.Domain)) (sort_of operand.now)) }
 {
     let Some((from, _)) = operand.sides() else {
         return Ok(None);
     };
-    Ok(Some(set_sort(alloc, from.share()?)?))
+    Ok(Some(set_sort(arena, from.share()?)?))
 }
 
 #[tactic(auto, unfolding(crate::specs::Rules::IsMadeOfOne))]
-fn range(alloc: Global, operand: &Sort) -> Result<Option<Sort>, AllocError>
+fn range<'a>(arena: &'a Bump, operand: &Sort<'a>) -> Result<Option<Sort<'a>>, AllocError>
     ensures { IfOk result (IsMadeOfOne (unary.Sign (sign.Symbol prefix.Range)) (sort_of operand.now)) }
 {
     let Some((_, into)) = operand.sides() else {
         return Ok(None);
     };
-    Ok(Some(set_sort(alloc, into.share()?)?))
+    Ok(Some(set_sort(arena, into.share()?)?))
 }
 
 #[tactic(auto, unfolding(crate::specs::Rules::IsMadeOfOne))]
-fn subsets(alloc: Global, operand: &Sort) -> Result<Option<Sort>, AllocError>
+fn subsets<'a>(arena: &'a Bump, operand: &Sort<'a>) -> Result<Option<Sort<'a>>, AllocError>
     ensures all { IfOk result (IsMadeOfOne (unary.Sign (sign.Symbol prefix.Power)) (sort_of operand.now)) }
     ensures finite { IfOk result (IsMadeOfOne (unary.Sign (sign.Symbol prefix.Finset)) (sort_of operand.now)) }
 {
@@ -300,40 +329,44 @@ fn subsets(alloc: Global, operand: &Sort) -> Result<Option<Sort>, AllocError>
     if !ztype.is_set() {
         return Ok(None);
     }
-    Ok(Some(set_sort(alloc, ztype.share()?)?))
+    Ok(Some(set_sort(arena, ztype.share()?)?))
 }
 
-fn set_sort(alloc: Global, member: ZType) -> Result<Sort, AllocError>
-    ensures { IfOk result (λ z. sort_of z ≡ set_of (type_of member)) }
+fn set_sort<'a>(arena: &'a Bump, member: ZType<'a>) -> Result<Sort<'a>, AllocError>
+    ensures { IfOk result (λ z. sort_of z ≡ set_of (type_of member.entry)) }
 {
-    Ok(Sort::Typed(set_type(alloc, member)?))
+    Ok(Sort::Typed(set_type(arena, member)?))
 }
 
-fn set_of_numbers(alloc: Global) -> Result<Sort, AllocError>
+fn set_of_numbers<'a>(arena: &'a Bump) -> Result<Sort<'a>, AllocError>
     ensures { IfOk result (λ z. sort_of z ≡ set_of int) }
 {
-    set_sort(alloc, int_type())
+    set_sort(arena, int_type())
 }
 
 #[tactic(auto, using(crate::proofs::TypesSeen::seen))]
-fn int_type() -> ZType
+fn int_type<'a>() -> ZType<'a>
     ensures { type_of result ≡ int }
 {
     ZType::Int
 }
 
-fn relation_sort(alloc: Global, from: &ZType, into: &ZType) -> Result<Sort, AllocError>
+fn relation_sort<'a>(
+    arena: &'a Bump,
+    from: &ZType<'a>,
+    into: &ZType<'a>,
+) -> Result<Sort<'a>, AllocError>
     ensures { IfOk result (λ z. sort_of z ≡ relation (type_of from.now) (type_of into.now)) }
 {
-    set_sort(alloc, pair_type(alloc, from.share()?, into.share()?)?)
+    set_sort(arena, pair_type(arena, from.share()?, into.share()?)?)
 }
 
 /// The sort of a constant.
-pub fn constant_sort(alloc: Global, constant: Constant) -> Result<Sort, AllocError>
+pub fn constant_sort<'a>(arena: &'a Bump, constant: Constant) -> Result<Sort<'a>, AllocError>
     ensures { IfOk result (λ z. sort_of z ≡ spec.constant_sort constant) }
 {
     match constant {
         Constant::True | Constant::False => Ok(Sort::Predicate),
-        Constant::Integers | Constant::Naturals | Constant::Positives => set_of_numbers(alloc),
+        Constant::Integers | Constant::Naturals | Constant::Positives => set_of_numbers(arena),
     }
 }

@@ -11,47 +11,45 @@ use crate::globals::{Component, Entry, Globals};
 use crate::resolved::Reference;
 use crate::sort::Sort;
 use crate::ztype::ZType;
-use std::alloc::{AllocError, Global};
-use zf_data::{Shared, Text};
+use bumpalo::Bump;
+use std::alloc::AllocError;
+use zf_data::arena::{Lent, Shared};
 use zf_text::tree::Name;
 
 /// A bound variable.
-#[derive(Debug, Drop)]
-pub struct Variable {
+#[derive(Drop)]
+pub struct Variable<'a> {
     /// The name as spelled, with its strokes.
-    pub name: Text,
-    pub ztype: ZType,
+    pub name: Lent<'a>,
+    pub ztype: ZType<'a>,
 }
 
 /// What is in scope; the variables that are bound last stand last.
 #[derive(Drop)]
-pub struct Scope<'a> {
-    pub globals: &'a Globals,
-    pub components: &'a [Component],
-    pub locals: Vec<Variable>,
+pub struct Scope<'a, 'b> {
+    pub globals: &'b Globals<'a>,
+    pub components: &'b [Component<'a>],
+    pub locals: Vec<Variable<'a>>,
 }
 
-impl Scope<'_> {
+impl<'a> Scope<'a, '_> {
     /// What a name refers to, and what it is.
     pub fn meaning(
         &self,
-        alloc: Global,
-        name: &Name,
-    ) -> Result<Option<(Reference, Sort)>, AllocError>
+        arena: &'a Bump,
+        name: &Name<'a>,
+    ) -> Result<Option<(Reference, Sort<'a>)>, AllocError>
         ensures { IfOk result (λ found. meant found ≡ spec.meaning (scope_of self.now) (spelling name.now)) }
     {
-        if name.is_bare() {
-            return self.meaning_of(alloc, name.base.as_slice());
-        }
-        let name = spelled(alloc, name)?;
-        self.meaning_of(alloc, name.as_slice())
+        let name = spelled(arena, name)?;
+        self.meaning_of(arena, name.as_slice())
     }
 
     fn meaning_of(
         &self,
-        alloc: Global,
-        name: &[u8],
-    ) -> Result<Option<(Reference, Sort)>, AllocError>
+        arena: &'a Bump,
+        name: &'a [u8],
+    ) -> Result<Option<(Reference, Sort<'a>)>, AllocError>
         ensures { IfOk result (λ found. meant found ≡ spec.meaning (scope_of self.now) name.now) }
     {
         if let Some((place, variable)) = local_of(self.locals.as_slice(), name) {
@@ -64,7 +62,7 @@ impl Scope<'_> {
         }
         match global_of(self.globals, name) {
             Some((place, entry)) => {
-                let sort = entry_sort(alloc, name, entry)?;
+                let sort = entry_sort(arena, name, entry)?;
                 Ok(Some((Reference::Global(place), sort)))
             }
             None => Ok(None),
@@ -73,16 +71,17 @@ impl Scope<'_> {
 }
 
 /// The name as spelled, with its strokes.
-pub fn spelled(alloc: Global, name: &Name) -> Result<Text, AllocError>
+pub fn spelled<'a>(arena: &'a Bump, name: &Name<'a>) -> Result<Lent<'a>, AllocError>
     ensures { IfOk result (λ t. t ≡ spelling name.now) }
 {
-    let mut text = name.base.copy(alloc)?;
-    text.append(name.strokes.as_slice())?;
-    Ok(text)
+    if name.is_bare() {
+        return Ok(name.base.share());
+    }
+    Lent::joined(arena, name.base.as_slice(), name.strokes.as_slice())
 }
 
 /// The last variable of the name, with its place.
-fn local_of<'a>(locals: &'a [Variable], name: &[u8]) -> Option<(usize, &'a Variable)>
+fn local_of<'a, 'b>(locals: &'b [Variable<'a>], name: &[u8]) -> Option<(usize, &'b Variable<'a>)>
     ensures { found_as (λ v. variable_of v.now) result ≡ last_named (λ v. v.name) name.now (map variable_of locals.now) }
 {
     let mut place = locals.len();
@@ -97,7 +96,7 @@ fn local_of<'a>(locals: &'a [Variable], name: &[u8]) -> Option<(usize, &'a Varia
 }
 
 /// Whether one of the variables has the name.
-pub(crate) fn is_bound(locals: &[Variable], name: &[u8]) -> bool
+pub(crate) fn is_bound(locals: &[Variable<'_>], name: &[u8]) -> bool
     ensures { IsTrue result ↔ IsBound name.now (map variable_of locals.now) }
 {
     match local_of(locals, name) {
@@ -107,7 +106,10 @@ pub(crate) fn is_bound(locals: &[Variable], name: &[u8]) -> bool
 }
 
 /// The component of the name, with its place.
-pub fn component_of<'a>(components: &'a [Component], name: &[u8]) -> Option<(usize, &'a Component)>
+pub fn component_of<'a, 'b>(
+    components: &'b [Component<'a>],
+    name: &[u8],
+) -> Option<(usize, &'b Component<'a>)>
     ensures { found_as (λ c. comp_of c.now) result ≡ first_named (λ c. c.name) name.now (map comp_of components.now) }
 {
     for (place, component) in components.iter().enumerate() {
@@ -119,7 +121,7 @@ pub fn component_of<'a>(components: &'a [Component], name: &[u8]) -> Option<(usi
 }
 
 /// What the global of the name is defined as, with its place.
-pub fn global_of<'a>(globals: &'a Globals, name: &[u8]) -> Option<(usize, &'a Entry)>
+pub fn global_of<'a, 'b>(globals: &'b Globals<'a>, name: &[u8]) -> Option<(usize, &'b Entry<'a>)>
     ensures { found_as (λ e. entry_of name.now e.now) result ≡ first_named (λ d. d.name) name.now (globals_of globals.now) }
 {
     match globals.entries.get_full(name) {
@@ -130,23 +132,53 @@ pub fn global_of<'a>(globals: &'a Globals, name: &[u8]) -> Option<(usize, &'a En
 
 /// What a global is.
 #[tactic(auto, using(crate::proofs::TypesSeen::seen))]
-fn entry_sort(alloc: Global, name: &[u8], entry: &Entry) -> Result<Sort, AllocError>
+fn entry_sort<'a>(
+    arena: &'a Bump,
+    name: &'a [u8],
+    entry: &Entry<'a>,
+) -> Result<Sort<'a>, AllocError>
     ensures { IfOk result (λ sort. sort_of sort ≡ spec.definition_sort name.now (definition_of entry.now)) }
 {
     match entry {
         Entry::Given(_) | Entry::Free(_, _) => {
-            let members = ZType::Basic(Shared::new(alloc, Text::of(alloc, name)?)?);
-            Ok(Sort::Typed(ZType::Power(Shared::new(alloc, members)?)))
+            let members = ZType::Basic(Lent::new(name));
+            Ok(Sort::Typed(ZType::Power(Shared::new(arena, members)?)))
         }
-        Entry::Constructor(_, of_type, _) => Ok(Sort::Typed(ZType::Basic(of_type.share()?))),
+        Entry::Constructor(_, of_type, _) => Ok(Sort::Typed(ZType::Basic(of_type.share()))),
         Entry::Abbrev(ztype, _, _) => Ok(Sort::Typed(ztype.share()?)),
         Entry::Schema(_) => Ok(Sort::Schema),
     }
 }
 
-/// Whether the spellings are equal.
+/// Whether the spellings are equal. Most that are not differ in their lengths.
+#[inline(always)]
+#[tactic(auto, using(crate::proofs::SameNames::lengths_differ))]
 fn is_same(left: &[u8], right: &[u8]) -> bool
     ensures { result ≡ bytes_eq left.now right.now }
 {
-    left == right
+    if left.len() != right.len() {
+        return false;
+    }
+    are_same(left, right)
+}
+
+/// The same, byte by byte: names are short, and this costs less than a comparison of slices.
+fn are_same(left: &[u8], right: &[u8]) -> bool
+    ensures { result ≡ bytes_eq left.now right.now }
+{
+    let mut left = left;
+    let mut right = right;
+    loop {
+        let [first, more @ ..] = left else {
+            return right.is_empty();
+        };
+        let [second, further @ ..] = right else {
+            return false;
+        };
+        if *first != *second {
+            return false;
+        }
+        left = more;
+        right = further;
+    }
 }

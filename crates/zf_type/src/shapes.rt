@@ -3,10 +3,10 @@ ghost use Rattle.std.specs.Prelude.{◌≡◌, ◌+◌, ◌<◌, ◌≤◌, ◌�
 ghost use Rattle.zf_type.specs.ResolvedTrees.{resolved_of, resolved_link_of, range_of, terms, links, ranges, part_of};
 ghost use Rattle.zf_type.specs.Shapes as spec;
 
-use crate::resolved::{Range, Resolved, ResolvedLink};
-use zf_data::{Boxed, Items};
+use crate::resolved::{Part, Range, Resolved, ResolvedLink};
+use zf_data::arena::{Boxed, Items};
 
-impl Resolved {
+impl<'a> Resolved<'a> {
     /// The line of the first token.
     #[tactic(auto, using(crate::proofs::ResolvedSeen::seen))]
     pub fn line(&self) -> u32
@@ -101,7 +101,7 @@ impl Resolved {
 
 #[cycle(room)]
 #[tactic(auto, using(crate::proofs::Nodes::terms_before))]
-fn room_after_terms(items: &Items<Resolved>, room: usize) -> Option<usize>
+fn room_after_terms<'a>(items: &Items<'a, Resolved<'a>>, room: usize) -> Option<usize>
     ensures { MatchOption result (room < spec.all_nodes (terms (map resolved_of items.now))) (λ left. left + spec.all_nodes (terms (map resolved_of items.now)) ≡ room) }
 {
     let mut left = room;
@@ -113,7 +113,7 @@ fn room_after_terms(items: &Items<Resolved>, room: usize) -> Option<usize>
 
 #[cycle(room)]
 #[tactic(auto, using(crate::proofs::Nodes::links_before))]
-fn room_after_links(further: &Items<ResolvedLink>, room: usize) -> Option<usize>
+fn room_after_links<'a>(further: &Items<'a, ResolvedLink<'a>>, room: usize) -> Option<usize>
     ensures { MatchOption result (room < spec.link_nodes (links (map resolved_link_of further.now))) (λ left. left + spec.link_nodes (links (map resolved_link_of further.now)) ≡ room) }
 {
     let mut left = room;
@@ -125,7 +125,7 @@ fn room_after_links(further: &Items<ResolvedLink>, room: usize) -> Option<usize>
 
 #[cycle(room)]
 #[tactic(auto, using(crate::proofs::Nodes::ranges_before))]
-fn room_after_ranges(variables: &Items<Range>, room: usize) -> Option<usize>
+fn room_after_ranges<'a>(variables: &Boxed<'a, Items<'a, Range<'a>>>, room: usize) -> Option<usize>
     ensures { MatchOption result (room < spec.range_nodes (ranges (map range_of variables.now))) (λ left. left + spec.range_nodes (ranges (map range_of variables.now)) ≡ room) }
 {
     let mut left = room;
@@ -136,17 +136,17 @@ fn room_after_ranges(variables: &Items<Range>, room: usize) -> Option<usize>
 }
 
 #[cycle(room)]
-fn room_after_part(part: &Option<Boxed<Resolved>>, room: usize) -> Option<usize>
+fn room_after_part<'a>(part: &Part<'a>, room: usize) -> Option<usize>
     ensures { MatchOption result (room < spec.part_nodes (part_of part.now)) (λ left. left + spec.part_nodes (part_of part.now) ≡ room) }
 {
-    match part {
+    match part.get() {
         None => Some(room),
         Some(term) => term.get().room_after(room),
     }
 }
 
 #[cycle(within)]
-fn are_terms_within(items: &Items<Resolved>, highest: usize) -> bool
+fn are_terms_within<'a>(items: &Items<'a, Resolved<'a>>, highest: usize) -> bool
     ensures { IsTrue result ↔ spec.tallest (terms (map resolved_of items.now)) ≤ highest }
 {
     for term in items.as_slice() {
@@ -158,7 +158,7 @@ fn are_terms_within(items: &Items<Resolved>, highest: usize) -> bool
 }
 
 #[cycle(within)]
-fn are_links_within(further: &Items<ResolvedLink>, highest: usize) -> bool
+fn are_links_within<'a>(further: &Items<'a, ResolvedLink<'a>>, highest: usize) -> bool
     ensures { IsTrue result ↔ spec.tallest_link (links (map resolved_link_of further.now)) ≤ highest }
 {
     for link in further.as_slice() {
@@ -170,7 +170,7 @@ fn are_links_within(further: &Items<ResolvedLink>, highest: usize) -> bool
 }
 
 #[cycle(within)]
-fn are_ranges_within(variables: &Items<Range>, highest: usize) -> bool
+fn are_ranges_within<'a>(variables: &Boxed<'a, Items<'a, Range<'a>>>, highest: usize) -> bool
     ensures { IsTrue result ↔ spec.tallest_range (ranges (map range_of variables.now)) ≤ highest }
 {
     for range in variables.as_slice() {
@@ -182,10 +182,10 @@ fn are_ranges_within(variables: &Items<Range>, highest: usize) -> bool
 }
 
 #[cycle(within)]
-fn is_part_within(part: &Option<Boxed<Resolved>>, highest: usize) -> bool
+fn is_part_within<'a>(part: &Part<'a>, highest: usize) -> bool
     ensures { IsTrue result ↔ spec.part_height (part_of part.now) ≤ highest }
 {
-    match part {
+    match part.get() {
         None => true,
         Some(term) => term.get().is_within(highest),
     }

@@ -9,18 +9,18 @@ use crate::ztype::ZType;
 use std::alloc::AllocError;
 
 /// What a term is.
-#[derive(Debug, Drop)]
-pub enum Sort {
+#[derive(Drop)]
+pub enum Sort<'a> {
     /// An expression of this type.
-    Typed(ZType),
+    Typed(ZType<'a>),
     Predicate,
     /// The name of a schema.
     Schema,
 }
 
-impl Sort {
+impl<'a> Sort<'a> {
     /// The same sort, of which nothing is copied.
-    pub fn share(&self) -> Result<Sort, AllocError>
+    pub fn share(&self) -> Result<Sort<'a>, AllocError>
         ensures { IfOk result (λ z. sort_of z ≡ sort_of self.now) }
     {
         match self {
@@ -62,7 +62,7 @@ impl Sort {
     }
 
     /// Whether the sorts are the same.
-    pub fn same(&self, other: &Sort) -> bool
+    pub fn same(&self, other: &Sort<'a>) -> bool
         ensures { IsTrue result ↔ (sort_of self.now ≡ sort_of other.now) }
     {
         match (self, other) {
@@ -73,8 +73,8 @@ impl Sort {
     }
 
     /// The type of an expression.
-    pub fn into_type(self) -> Option<ZType>
-        ensures { MatchOption result ((t : Ty) → sort_of self ≡ typed t → ⊥) (λ t. sort_of self ≡ typed (type_of t)) }
+    pub fn into_type(self) -> Option<ZType<'a>>
+        ensures { MatchOption result ((t : Ty) → sort_of self.entry ≡ typed t → ⊥) (λ t. sort_of self.entry ≡ typed (type_of t)) }
     {
         let Sort::Typed(ztype) = self else {
             return None;
@@ -83,7 +83,7 @@ impl Sort {
     }
 
     /// The type of an expression, lent.
-    pub fn ztype(&self) -> Option<&ZType>
+    pub fn ztype(&self) -> Option<&ZType<'a>>
         ensures { MatchOption result ((t : Ty) → sort_of self.now ≡ typed t → ⊥) (λ t. sort_of self.now ≡ typed (type_of t.now)) }
     {
         match self {
@@ -93,21 +93,21 @@ impl Sort {
     }
 
     /// The type of the members of a set.
-    pub fn member(&self) -> Option<&ZType>
+    pub fn member(&self) -> Option<&ZType<'a>>
         ensures { MatchOption result ((t : Ty) → sort_of self.now ≡ set_of t → ⊥) (λ t. sort_of self.now ≡ set_of (type_of t.now)) }
     {
         self.ztype()?.member()
     }
 
     /// The types that a relation is from and into.
-    pub fn sides(&self) -> Option<(&ZType, &ZType)>
+    pub fn sides(&self) -> Option<(&ZType<'a>, &ZType<'a>)>
         ensures { MatchOption result ((t u : Ty) → sort_of self.now ≡ relation t u → ⊥) (λ p. sort_of self.now ≡ relation (type_of p.0.now) (type_of p.1.now)) }
     {
         self.member()?.pair()
     }
 }
 
-fn type_meets(ztype: &ZType, need: Need) -> bool
+fn type_meets(ztype: &ZType<'_>, need: Need) -> bool
     ensures { IsTrue result ↔ Meets need (typed (type_of ztype.now)) }
 {
     match need {

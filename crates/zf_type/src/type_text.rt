@@ -8,7 +8,7 @@ use std::alloc::{AllocError, Global};
 use zf_data::Text;
 
 /// The text of a type.
-pub fn type_text(alloc: Global, ztype: &ZType) -> Result<Text, AllocError>
+pub fn type_text(alloc: Global, ztype: &ZType<'_>) -> Result<Text, AllocError>
     ensures { IfOk result (λ t. t ≡ spec.type_text (type_of ztype.now)) }
 {
     let mut bytes = Vec::new(alloc);
@@ -19,12 +19,12 @@ pub fn type_text(alloc: Global, ztype: &ZType) -> Result<Text, AllocError>
 /// Appends the text of a type. A refusal leaves a part of it.
 #[cycle(append)]
 #[tactic(auto, using(crate::proofs::TypesSeen::seen))]
-pub fn append_type(text: &mut Vec<u8>, ztype: &ZType) -> Result<(), AllocError>
+pub fn append_type(text: &mut Vec<u8>, ztype: &ZType<'_>) -> Result<(), AllocError>
     ensures { OnOk result (text.new.items ≡ text.old.items ++ spec.type_text (type_of ztype.now)) }
 {
     match ztype {
         ZType::Int => text.extend_from_slice(b"\\num"),
-        ZType::Basic(name) => text.extend_from_slice(name.get().as_slice()),
+        ZType::Basic(name) => text.extend_from_slice(name.as_slice()),
         ZType::Power(member) => {
             text.extend_from_slice(b"\\power ")?;
             append_type(text, member.get())
@@ -38,7 +38,7 @@ pub fn append_type(text: &mut Vec<u8>, ztype: &ZType) -> Result<(), AllocError>
 }
 
 #[cycle(append)]
-fn append_parts(text: &mut Vec<u8>, parts: &[ZType]) -> Result<(), AllocError>
+fn append_parts(text: &mut Vec<u8>, parts: &[ZType<'_>]) -> Result<(), AllocError>
     ensures { OnOk result (text.new.items ≡ text.old.items ++ spec.parts_text (types (map type_of parts.now))) }
 {
     for i in 0..parts.len() {

@@ -4,33 +4,34 @@ ghost use Rattle.zf_type.specs.Rules.{IsSmall, pair};
 ghost use Rattle.zf_type.specs.Types as spec;
 ghost use Rattle.zf_type.specs.Types.{Ty, int, power, product, types, type_of, nodes, nodes_of_all};
 
-use std::alloc::{AllocError, Global};
-use zf_data::{Items, Shared, Text};
+use bumpalo::Bump;
+use std::alloc::AllocError;
+use zf_data::arena::{Items, Lent, Shared};
 
 /// A type. Two are the same type where they are equal.
-#[derive(Debug, Drop)]
-pub enum ZType {
+#[derive(Drop)]
+pub enum ZType<'a> {
     /// `\num`
     Int,
     /// A given set or free type, by its name.
-    Basic(Shared<Text>),
+    Basic(Lent<'a>),
     /// Sets of members of a type.
-    Power(Shared<ZType>),
+    Power(Shared<'a, ZType<'a>>),
     /// Tuples.
-    Product(Shared<Items<ZType>>),
+    Product(Shared<'a, Items<'a, ZType<'a>>>),
 }
 
 /// The limit on the nodes of a type.
 const MOST_NODES: u32 = 256;
 
-impl ZType {
+impl<'a> ZType<'a> {
     /// The same type, of which nothing is copied.
-    pub fn share(&self) -> Result<ZType, AllocError>
+    pub fn share(&self) -> Result<ZType<'a>, AllocError>
         ensures { IfOk result (λ t. t ≡ self.now) }
     {
         match self {
             ZType::Int => Ok(ZType::Int),
-            ZType::Basic(name) => Ok(ZType::Basic(name.share()?)),
+            ZType::Basic(name) => Ok(ZType::Basic(name.share())),
             ZType::Power(member) => Ok(ZType::Power(member.share()?)),
             ZType::Product(parts) => Ok(ZType::Product(parts.share()?)),
         }
@@ -39,12 +40,12 @@ impl ZType {
     /// Whether the types are the same.
     #[cycle(same)]
     #[tactic(auto, unfolding(crate::specs::Types::type_of))]
-    pub fn same(&self, other: &ZType) -> bool
+    pub fn same(&self, other: &ZType<'a>) -> bool
         ensures { IsTrue result ↔ (type_of self.now ≡ type_of other.now) }
     {
         match (self, other) {
             (ZType::Int, ZType::Int) => true,
-            (ZType::Basic(name), ZType::Basic(other)) => name.get().same(other.get()),
+            (ZType::Basic(name), ZType::Basic(other)) => name.same(other),
             (ZType::Power(member), ZType::Power(other)) => member.get().same(other.get()),
             (ZType::Product(parts), ZType::Product(others)) => {
                 same_all(parts.get().as_slice(), others.get().as_slice())
@@ -65,15 +66,17 @@ impl ZType {
     fn room_after(&self, room: u32) -> Option<u32>
         ensures { MatchOption result (room < nodes (type_of self.now)) (λ left. left + nodes (type_of self.now) ≡ room) }
     {
-        if room == 0 {
-            return None;
+        let mut ztype = self;
+        let mut left = room;
+        while left > 0 {
+            left -= 1;
+            match ztype {
+                ZType::Int | ZType::Basic(_) => return Some(left),
+                ZType::Power(member) => ztype = member.get(),
+                ZType::Product(parts) => return room_after_all(parts.get().as_slice(), left),
+            }
         }
-        let left = room - 1;
-        match self {
-            ZType::Int | ZType::Basic(_) => Some(left),
-            ZType::Power(member) => member.get().room_after(left),
-            ZType::Product(parts) => room_after_all(parts.get().as_slice(), left),
-        }
+        None
     }
 
     /// Whether numbers are parts of its values.
@@ -127,7 +130,7 @@ impl ZType {
     }
 
     /// The type of a set's members.
-    pub fn member(&self) -> Option<&ZType>
+    pub fn member(&self) -> Option<&ZType<'a>>
         ensures { MatchOption result ((t : Ty) → type_of self.now ≡ power t → ⊥) (λ t. type_of self.now ≡ power (type_of t.now)) }
     {
         match self {
@@ -137,7 +140,7 @@ impl ZType {
     }
 
     /// The types of both parts of a pair.
-    pub fn pair(&self) -> Option<(&ZType, &ZType)>
+    pub fn pair(&self) -> Option<(&ZType<'a>, &ZType<'a>)>
         ensures { MatchOption result ((t u : Ty) → type_of self.now ≡ pair t u → ⊥) (λ p. type_of self.now ≡ pair (type_of p.0.now) (type_of p.1.now)) }
     {
         let ZType::Product(parts) = self else {
@@ -152,7 +155,7 @@ impl ZType {
 }
 
 #[cycle(same)]
-fn same_all(parts: &[ZType], others: &[ZType]) -> bool
+fn same_all<'a>(parts: &[ZType<'a>], others: &[ZType<'a>]) -> bool
     ensures { IsTrue result ↔ (map type_of parts.now ≡ map type_of others.now) }
 {
     if parts.len() != others.len() {
@@ -167,7 +170,7 @@ fn same_all(parts: &[ZType], others: &[ZType]) -> bool
 }
 
 #[cycle(room)]
-fn room_after_all(parts: &[ZType], room: u32) -> Option<u32>
+fn room_after_all(parts: &[ZType<'_>], room: u32) -> Option<u32>
     ensures { MatchOption result (room < nodes_of_all (types (map type_of parts.now))) (λ left. left + nodes_of_all (types (map type_of parts.now)) ≡ room) }
 {
     let mut left = room;
@@ -181,7 +184,7 @@ fn room_after_all(parts: &[ZType], room: u32) -> Option<u32>
 }
 
 #[cycle(numbers)]
-fn have_numbers(parts: &[ZType]) -> bool
+fn have_numbers(parts: &[ZType<'_>]) -> bool
     ensures { result ≡ spec.have_numbers (types (map type_of parts.now)) }
 {
     for part in parts {
@@ -194,28 +197,35 @@ fn have_numbers(parts: &[ZType]) -> bool
 
 /// The type of sets of members of a type.
 #[tactic(auto, using(crate::proofs::TypesSeen::seen))]
-pub fn set_type(alloc: Global, member: ZType) -> Result<ZType, AllocError>
-    ensures { IfOk result (λ t. type_of t ≡ power (type_of member)) }
+pub fn set_type<'a>(arena: &'a Bump, member: ZType<'a>) -> Result<ZType<'a>, AllocError>
+    ensures { IfOk result (λ t. type_of t ≡ power (type_of member.entry)) }
 {
-    Ok(ZType::Power(Shared::new(alloc, member)?))
+    Ok(ZType::Power(Shared::new(arena, member)?))
 }
 
 /// The type of pairs.
 #[tactic(auto, using(crate::proofs::TypesSeen::seen))]
-pub fn pair_type(alloc: Global, first: ZType, second: ZType) -> Result<ZType, AllocError>
-    ensures { IfOk result (λ t. type_of t ≡ pair (type_of first) (type_of second)) }
+pub fn pair_type<'a>(
+    arena: &'a Bump,
+    first: ZType<'a>,
+    second: ZType<'a>,
+) -> Result<ZType<'a>, AllocError>
+    ensures { IfOk result (λ t. type_of t ≡ pair (type_of first.entry) (type_of second.entry)) }
 {
-    let mut parts = Items::of(alloc, first)?;
+    let mut parts = Items::of(arena, first)?;
     parts.push(second)?;
-    product_type(alloc, parts)
+    product_type(arena, parts)
 }
 
 /// The type of tuples of parts of these types.
 #[tactic(auto, using(crate::proofs::TypesSeen::seen))]
-pub fn product_type(alloc: Global, parts: Items<ZType>) -> Result<ZType, AllocError>
-    ensures { IfOk result (λ t. type_of t ≡ product (types (map type_of parts))) }
+pub fn product_type<'a>(
+    arena: &'a Bump,
+    parts: Items<'a, ZType<'a>>,
+) -> Result<ZType<'a>, AllocError>
+    ensures { IfOk result (λ t. type_of t ≡ product (types (map type_of parts.entry))) }
 {
-    Ok(ZType::Product(Shared::new(alloc, parts)?))
+    Ok(ZType::Product(Shared::new(arena, parts)?))
 }
 
 /// Types that are the same are equal, so that `same` is equality.

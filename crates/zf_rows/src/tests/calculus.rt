@@ -1,5 +1,6 @@
 //! The schema calculus: what is listed, and what is shown.
 use crate::tests::checks::answers;
+use bumpalo::Bump;
 use std::test::Fail;
 use zf_engine::fault::Status;
 use zf_schema::checker::check_spec;
@@ -146,8 +147,9 @@ S'
 
 #[test]
 fn decoration_captures_nothing(rt: HostRuntime) -> Result<(), Fail> {
-    let spec = read_spec(rt.alloc(), CAPTURES.as_bytes())?;
-    let checked = check_spec(rt.alloc(), &spec)?;
+    let arena = Bump::new(rt.alloc());
+    let spec = read_spec(rt.alloc(), &arena, CAPTURES.as_bytes())?;
+    let checked = check_spec(rt.alloc(), &arena, &spec)?;
     let schema = checked.globals.schema("T").ok_or("no schema")?;
     let [component] = schema.components.as_slice() else {
         return Err(Fail::new("other components"));
@@ -156,10 +158,11 @@ fn decoration_captures_nothing(rt: HostRuntime) -> Result<(), Fail> {
     let [conjunct] = schema.conjuncts.as_slice() else {
         return Err(Fail::new("other conjuncts"));
     };
-    let term = conjunct.resolved(rt.alloc())?;
-    let Resolved::Quantified(4, _, _, None, body) = &term else {
+    let term = conjunct.resolved(&arena)?;
+    let Resolved::Quantified(4, _, _, constraint, body) = &term else {
         return Err(Fail::new("another conjunct"));
     };
+    assert!(rt; constraint.get().is_none());
     let Resolved::Chain(4, variable, links) = body.get() else {
         return Err(Fail::new("another body"));
     };

@@ -1,4 +1,5 @@
 //! Which schemas are finite, and the line of the first name that makes one infinite.
+use bumpalo::Bump;
 use std::alloc::Global;
 use std::test::Fail;
 use zf_schema::checker::check_spec;
@@ -59,8 +60,9 @@ fn schemas(rt: HostRuntime) -> Result<(), Fail> {
 
 fn line_of(alloc: Global, exp: &str) -> Result<u32, Fail> {
     let source = format!(in alloc; "{BEFORE}\\begin{{zed}} S \\defs\n{exp}\n\\end{{zed}}\n")?;
-    let spec = read_spec(alloc, source.as_bytes())?;
-    let checked = check_spec(alloc, &spec)?;
+    let arena = Bump::new(alloc);
+    let spec = read_spec(alloc, &arena, source.as_bytes())?;
+    let checked = check_spec(alloc, &arena, &spec)?;
     let schema = checked.globals.schema("S").ok_or("no schema")?;
     match finite(schema, &checked.globals) {
         Ok(()) => Ok(0),
@@ -79,8 +81,9 @@ static NAMES: [(&str, Option<Infinite>); 5] = [
 
 #[test]
 fn names(rt: HostRuntime) -> Result<(), Fail> {
-    let spec = read_spec(rt.alloc(), BEFORE.as_bytes())?;
-    let checked = check_spec(rt.alloc(), &spec)?;
+    let arena = Bump::new(rt.alloc());
+    let spec = read_spec(rt.alloc(), &arena, BEFORE.as_bytes())?;
+    let checked = check_spec(rt.alloc(), &arena, &spec)?;
     for (name, set) in NAMES {
         let Some(Entry::Abbrev(_, term, _)) = checked.globals.entry(name) else {
             return Err(Fail::new(name));

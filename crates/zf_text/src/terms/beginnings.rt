@@ -13,15 +13,62 @@ use crate::fault::TextFault;
 use crate::levels::{EXPRESSION, NEGATION, QUANTIFIER, UNARY, level, sign_level};
 use crate::next::{Mark, Next};
 use crate::tall::Tall;
-use crate::token::{Infix, Quantifier};
+use crate::token::{Constant, Infix, Quantifier};
 use crate::tree::{Sign, Term};
-use std::alloc::Global;
+use bumpalo::Bump;
+use std::alloc::AllocError;
+use zf_data::arena::Boxed;
 
-impl<F: Fn(Global, &mut Cursor<'_>, u32, u8) -> Result<Tall<Term>, TextFault>> Grammar<F> {
+impl<
+    'a,
+    F: Fn(&'a Bump, &mut Cursor<'a, '_>, u32, u8) -> Result<Tall<Boxed<'a, Term<'a>>>, TextFault>,
+> Grammar<'a, F> {
+    fn name(&self, tokens: &mut Cursor<'a, '_>) -> Result<Tall<Boxed<'a, Term<'a>>>, TextFault>
+        ensures value { Gives (spec.beginning_by (read_term self.now.below) 0 0 next.Name tokens.old) result tokens.new }
+        ensures low { IfOk result (λ x. x.height ≤ self.now.below + 1) }
+    {
+        let name = tokens.name()?;
+        Ok(Tall {
+            part: Boxed::new(self.arena, Term::Name(name))?,
+            height: 1,
+        })
+    }
+
+    fn number(
+        &self,
+        tokens: &mut Cursor<'a, '_>,
+        line: u32,
+    ) -> Result<Tall<Boxed<'a, Term<'a>>>, TextFault>
+        ensures value { Gives (spec.beginning_by (read_term self.now.below) 0 line next.Number tokens.old) result tokens.new }
+        ensures low { IfOk result (λ x. x.height ≤ self.now.below + 1) }
+    {
+        let number = tokens.number()?;
+        Ok(Tall {
+            part: Boxed::new(self.arena, Term::Number(line, number))?,
+            height: 1,
+        })
+    }
+
+    fn constant(
+        &self,
+        line: u32,
+        constant: Constant,
+    ) -> Result<Tall<Boxed<'a, Term<'a>>>, AllocError>
+        ensures { IfOk result (λ x. x ≡ spec.tall (term.Constant line constant) 1) }
+    {
+        Ok(Tall {
+            part: Boxed::new(self.arena, Term::Constant(line, constant))?,
+            height: 1,
+        })
+    }
+
     /// After `\emptyset`.
     #[tactic(auto, unfolding(crate::specs::TermReading::empty_set, crate::specs::TermReading::enclosed))]
-    #[inline(never)]
-    fn empty_set(&self, tokens: &mut Cursor<'_>, line: u32) -> Result<Tall<Term>, TextFault>
+    fn empty_set(
+        &self,
+        tokens: &mut Cursor<'a, '_>,
+        line: u32,
+    ) -> Result<Tall<Boxed<'a, Term<'a>>>, TextFault>
         requires nests { Nests self.now.below (F.pre self.now.read) (F.post self.now.read) }
         ensures value { Gives (spec.empty_set (read_term self.now.below) line tokens.old) result tokens.new }
         ensures low { IfOk result (λ x. x.height ≤ self.now.below + 1) }
@@ -30,70 +77,69 @@ impl<F: Fn(Global, &mut Cursor<'_>, u32, u8) -> Result<Tall<Term>, TextFault>> G
             return Err(TextFault::not_in_profile(line));
         }
         tokens.skip();
-        let set = self.boxed(tokens, EXPRESSION)?;
+        let set = self.term(tokens, EXPRESSION)?;
         tokens.expect(Mark::CloseSquare)?;
         Ok(Tall {
-            part: Term::EmptySet(line, set.part),
+            part: Boxed::new(self.arena, Term::EmptySet(line, set.part))?,
             height: set.height + 1,
         })
     }
 
     /// After `(` and a term that a comma follows.
-    #[inline(never)]
     fn tuple(
         &self,
-        tokens: &mut Cursor<'_>,
+        tokens: &mut Cursor<'a, '_>,
         line: u32,
-        first: Tall<Term>,
-    ) -> Result<Tall<Term>, TextFault>
+        first: Tall<Boxed<'a, Term<'a>>>,
+    ) -> Result<Tall<Boxed<'a, Term<'a>>>, TextFault>
         requires nests { Nests self.now.below (F.pre self.now.read) (F.post self.now.read) }
         requires first_low { first.height ≤ self.now.below }
-        ensures value { Gives (spec.round_by (read_term self.now.below) line first next.Comma tokens.old) result tokens.new }
+        ensures value { Gives (spec.round_by (read_term self.now.below) line first.entry next.Comma tokens.old) result tokens.new }
         ensures low { IfOk result (λ x. x.height ≤ self.now.below + 1) }
     {
-        if level(&first.part) < EXPRESSION {
+        if level(first.part.get()) < EXPRESSION {
             return Err(tokens.unexpected());
         }
         let all = self.further(tokens, Mark::Comma, EXPRESSION, first)?;
         tokens.expect(Mark::CloseRound)?;
         Ok(Tall {
-            part: Term::Tuple(line, all.part),
+            part: Boxed::new(self.arena, Term::Tuple(line, all.part))?,
             height: all.height + 1,
         })
     }
 
     /// After `(`.
     #[tactic(auto, unfolding(crate::specs::TermReading::round))]
-    #[inline(never)]
-    fn round(&self, tokens: &mut Cursor<'_>, line: u32) -> Result<Tall<Term>, TextFault>
+    fn round(
+        &self,
+        tokens: &mut Cursor<'a, '_>,
+        line: u32,
+    ) -> Result<Tall<Boxed<'a, Term<'a>>>, TextFault>
         requires nests { Nests self.now.below (F.pre self.now.read) (F.post self.now.read) }
         ensures value { Gives (spec.round (read_term self.now.below) line tokens.old) result tokens.new }
         ensures low { IfOk result (λ x. x.height ≤ self.now.below + 1) }
     {
-        let inner = self.boxed(tokens, QUANTIFIER)?;
+        let inner = self.term(tokens, QUANTIFIER)?;
         match tokens.peek() {
             Next::CloseRound => {
                 tokens.skip();
                 Ok(Tall {
-                    part: Term::Bracket(line, inner.part),
+                    part: Boxed::new(self.arena, Term::Bracket(line, inner.part))?,
                     height: inner.height + 1,
                 })
             }
-            Next::Comma => {
-                let first = Tall {
-                    part: inner.part.into_inner(),
-                    height: inner.height,
-                };
-                self.tuple(tokens, line, first)
-            }
+            Next::Comma => self.tuple(tokens, line, inner),
             _ => Err(tokens.unexpected()),
         }
     }
 
     /// After `\{`, where no declaration begins.
     #[tactic(auto, unfolding(crate::specs::TermReading::display))]
-    #[inline(never)]
-    fn display(&self, tokens: &mut Cursor<'_>, line: u32) -> Result<Tall<Term>, TextFault>
+    fn display(
+        &self,
+        tokens: &mut Cursor<'a, '_>,
+        line: u32,
+    ) -> Result<Tall<Boxed<'a, Term<'a>>>, TextFault>
         requires nests { Nests self.now.below (F.pre self.now.read) (F.post self.now.read) }
         ensures value { Gives (spec.display (read_term self.now.below) line tokens.old) result tokens.new }
         ensures low { IfOk result (λ x. x.height ≤ self.now.below + 1) }
@@ -105,33 +151,43 @@ impl<F: Fn(Global, &mut Cursor<'_>, u32, u8) -> Result<Tall<Term>, TextFault>> G
         let all = self.further(tokens, Mark::Comma, EXPRESSION, first)?;
         tokens.expect(Mark::CloseBrace)?;
         Ok(Tall {
-            part: Term::Display(line, all.part),
+            part: Boxed::new(self.arena, Term::Display(line, all.part))?,
             height: all.height + 1,
         })
     }
 
     /// After `\{`, where a declaration begins.
     #[tactic(auto, unfolding(crate::specs::TermReading::builder))]
-    #[inline(never)]
-    fn builder(&self, tokens: &mut Cursor<'_>, line: u32) -> Result<Tall<Term>, TextFault>
+    fn builder(
+        &self,
+        tokens: &mut Cursor<'a, '_>,
+        line: u32,
+    ) -> Result<Tall<Boxed<'a, Term<'a>>>, TextFault>
         requires nests { Nests self.now.below (F.pre self.now.read) (F.post self.now.read) }
         ensures value { Gives (spec.builder (read_term self.now.below) line tokens.old) result tokens.new }
         ensures low { IfOk result (λ x. x.height ≤ self.now.below + 1) }
     {
         let decls = self.decls(tokens)?;
+        let bound = Boxed::new(self.arena, decls.part)?;
         let filter = self.part(tokens, Mark::Bar, QUANTIFIER)?;
         let value = self.part(tokens, Mark::At, EXPRESSION)?;
         tokens.expect(Mark::CloseBrace)?;
         Ok(Tall {
-            part: Term::Builder(line, decls.part, filter.part, value.part),
+            part: Boxed::new(
+                self.arena,
+                Term::Builder(line, bound, filter.part, value.part),
+            )?,
             height: decls.height.max(filter.height).max(value.height) + 1,
         })
     }
 
     /// After `\{`.
     #[tactic(auto, unfolding(crate::specs::TermReading::braced))]
-    #[inline(never)]
-    fn braced(&self, tokens: &mut Cursor<'_>, line: u32) -> Result<Tall<Term>, TextFault>
+    fn braced(
+        &self,
+        tokens: &mut Cursor<'a, '_>,
+        line: u32,
+    ) -> Result<Tall<Boxed<'a, Term<'a>>>, TextFault>
         requires nests { Nests self.now.below (F.pre self.now.read) (F.post self.now.read) }
         ensures value { Gives (spec.braced (read_term self.now.below) line tokens.old) result tokens.new }
         ensures low { IfOk result (λ x. x.height ≤ self.now.below + 1) }
@@ -145,58 +201,61 @@ impl<F: Fn(Global, &mut Cursor<'_>, u32, u8) -> Result<Tall<Term>, TextFault>> G
 
     /// After the sign.
     #[tactic(auto, unfolding(crate::specs::TermReading::under))]
-    #[inline(never)]
     fn prefixed(
         &self,
-        tokens: &mut Cursor<'_>,
+        tokens: &mut Cursor<'a, '_>,
         line: u32,
         sign: Sign,
-    ) -> Result<Tall<Term>, TextFault>
+    ) -> Result<Tall<Boxed<'a, Term<'a>>>, TextFault>
         requires nests { Nests self.now.below (F.pre self.now.read) (F.post self.now.read) }
         ensures value { Gives (spec.under (read_term self.now.below) (levels.sign_level sign) (term.Prefix line sign) tokens.old) result tokens.new }
         ensures low { IfOk result (λ x. x.height ≤ self.now.below + 1) }
     {
-        let operand = self.boxed(tokens, sign_level(sign))?;
+        let operand = self.term(tokens, sign_level(sign))?;
         Ok(Tall {
-            part: Term::Prefix(line, sign, operand.part),
+            part: Boxed::new(self.arena, Term::Prefix(line, sign, operand.part))?,
             height: operand.height + 1,
         })
     }
 
     /// After `\lnot`.
     #[tactic(auto, unfolding(crate::specs::TermReading::under))]
-    #[inline(never)]
-    fn negated(&self, tokens: &mut Cursor<'_>, line: u32) -> Result<Tall<Term>, TextFault>
+    fn negated(
+        &self,
+        tokens: &mut Cursor<'a, '_>,
+        line: u32,
+    ) -> Result<Tall<Boxed<'a, Term<'a>>>, TextFault>
         requires nests { Nests self.now.below (F.pre self.now.read) (F.post self.now.read) }
         ensures value { Gives (spec.under (read_term self.now.below) levels.negation_level (term.Not line) tokens.old) result tokens.new }
         ensures low { IfOk result (λ x. x.height ≤ self.now.below + 1) }
     {
-        let operand = self.boxed(tokens, NEGATION)?;
+        let operand = self.term(tokens, NEGATION)?;
         Ok(Tall {
-            part: Term::Not(line, operand.part),
+            part: Boxed::new(self.arena, Term::Not(line, operand.part))?,
             height: operand.height + 1,
         })
     }
 
     /// After the quantifier.
     #[tactic(auto, unfolding(crate::specs::TermReading::quantified))]
-    #[inline(never)]
     fn quantified(
         &self,
-        tokens: &mut Cursor<'_>,
+        tokens: &mut Cursor<'a, '_>,
         line: u32,
         quantifier: Quantifier,
-    ) -> Result<Tall<Term>, TextFault>
+    ) -> Result<Tall<Boxed<'a, Term<'a>>>, TextFault>
         requires nests { Nests self.now.below (F.pre self.now.read) (F.post self.now.read) }
         ensures value { Gives (spec.quantified (read_term self.now.below) line quantifier tokens.old) result tokens.new }
         ensures low { IfOk result (λ x. x.height ≤ self.now.below + 1) }
     {
         let decls = self.decls(tokens)?;
+        let bound = Boxed::new(self.arena, decls.part)?;
         let constraint = self.part(tokens, Mark::Bar, QUANTIFIER)?;
         tokens.expect(Mark::At)?;
-        let body = self.boxed(tokens, QUANTIFIER)?;
+        let body = self.term(tokens, QUANTIFIER)?;
+        let term = Term::Quantified(quantifier, line, bound, constraint.part, body.part);
         Ok(Tall {
-            part: Term::Quantified(line, quantifier, decls.part, constraint.part, body.part),
+            part: Boxed::new(self.arena, term)?,
             height: decls.height.max(constraint.height).max(body.height) + 1,
         })
     }
@@ -205,29 +264,20 @@ impl<F: Fn(Global, &mut Cursor<'_>, u32, u8) -> Result<Tall<Term>, TextFault>> G
     #[tactic(auto, unfolding(crate::specs::TermReading::beginning))]
     pub(super) fn beginning(
         &self,
-        tokens: &mut Cursor<'_>,
+        tokens: &mut Cursor<'a, '_>,
         least: u8,
-    ) -> Result<Tall<Term>, TextFault>
+    ) -> Result<Tall<Boxed<'a, Term<'a>>>, TextFault>
         requires nests { Nests self.now.below (F.pre self.now.read) (F.post self.now.read) }
         ensures value { Gives (spec.beginning (read_term self.now.below) least tokens.old) result tokens.new }
         ensures low { IfOk result (λ x. x.height ≤ self.now.below + 1) }
     {
         let line = tokens.line();
         match tokens.peek() {
-            Next::Name => Ok(Tall {
-                part: Term::Name(tokens.name(self.alloc)?),
-                height: 1,
-            }),
-            Next::Number => Ok(Tall {
-                part: Term::Number(line, tokens.number()?),
-                height: 1,
-            }),
+            Next::Name => self.name(tokens),
+            Next::Number => self.number(tokens, line),
             Next::Constant(constant) => {
                 tokens.skip();
-                Ok(Tall {
-                    part: Term::Constant(line, constant),
-                    height: 1,
-                })
+                Ok(self.constant(line, constant)?)
             }
             Next::EmptySet => {
                 tokens.skip();

@@ -17,173 +17,184 @@ use crate::next::{Mark, Next};
 use crate::tall::Tall;
 use crate::token::{Arrow, Connective, Infix};
 use crate::tree::Term;
-use std::alloc::Global;
-use zf_data::Boxed;
+use bumpalo::Bump;
+use zf_data::arena::Boxed;
 
-impl<F: Fn(Global, &mut Cursor<'_>, u32, u8) -> Result<Tall<Term>, TextFault>> Grammar<F> {
+impl<
+    'a,
+    F: Fn(&'a Bump, &mut Cursor<'a, '_>, u32, u8) -> Result<Tall<Boxed<'a, Term<'a>>>, TextFault>,
+> Grammar<'a, F> {
     #[tactic(auto, unfolding(crate::specs::TermReading::with_right))]
-    #[inline(never)]
     fn connected(
         &self,
-        tokens: &mut Cursor<'_>,
+        tokens: &mut Cursor<'a, '_>,
         connective: Connective,
-        left: Tall<Term>,
-    ) -> Result<Tall<Term>, TextFault>
+        left: Tall<Boxed<'a, Term<'a>>>,
+    ) -> Result<Tall<Boxed<'a, Term<'a>>>, TextFault>
         requires nests { Nests self.now.below (F.pre self.now.read) (F.post self.now.read) }
         requires left_low { left.height ≤ self.now.below + 1 }
-        ensures value { Gives (spec.longer_by (read_term self.now.below) left (next.Connective connective) tokens.old) result tokens.new }
+        ensures value { Gives (spec.longer_by (read_term self.now.below) left.entry (next.Connective connective) tokens.old) result tokens.new }
         ensures low { IfOk result (λ x. x.height ≤ self.now.below + 2) }
     {
-        let line = line(&left.part);
-        let first = Boxed::new(self.alloc, left.part)?;
+        let line = line(left.part.get());
         tokens.skip();
-        let right = self.boxed(tokens, right_place(connective))?;
+        let right = self.term(tokens, right_place(connective))?;
         Ok(Tall {
-            part: Term::Connective(line, connective, first, right.part),
+            part: Boxed::new(
+                self.arena,
+                Term::Connective(line, connective, left.part, right.part),
+            )?,
             height: left.height.max(right.height) + 1,
         })
     }
 
     #[tactic(auto, unfolding(crate::specs::TermReading::with_right))]
-    #[inline(never)]
     fn arrow(
         &self,
-        tokens: &mut Cursor<'_>,
+        tokens: &mut Cursor<'a, '_>,
         arrow: Arrow,
-        left: Tall<Term>,
-    ) -> Result<Tall<Term>, TextFault>
+        left: Tall<Boxed<'a, Term<'a>>>,
+    ) -> Result<Tall<Boxed<'a, Term<'a>>>, TextFault>
         requires nests { Nests self.now.below (F.pre self.now.read) (F.post self.now.read) }
         requires left_low { left.height ≤ self.now.below + 1 }
-        ensures value { Gives (spec.longer_by (read_term self.now.below) left (next.Arrow arrow) tokens.old) result tokens.new }
+        ensures value { Gives (spec.longer_by (read_term self.now.below) left.entry (next.Arrow arrow) tokens.old) result tokens.new }
         ensures low { IfOk result (λ x. x.height ≤ self.now.below + 2) }
     {
-        let line = line(&left.part);
-        let first = Boxed::new(self.alloc, left.part)?;
+        let line = line(left.part.get());
         tokens.skip();
-        let right = self.boxed(tokens, EXPRESSION)?;
+        let right = self.term(tokens, EXPRESSION)?;
         Ok(Tall {
-            part: Term::Arrow(line, arrow, first, right.part),
+            part: Boxed::new(self.arena, Term::Arrow(line, arrow, left.part, right.part))?,
             height: left.height.max(right.height) + 1,
         })
     }
 
     #[tactic(auto, unfolding(crate::specs::TermReading::with_right))]
-    #[inline(never)]
     fn infixed(
         &self,
-        tokens: &mut Cursor<'_>,
+        tokens: &mut Cursor<'a, '_>,
         op: Infix,
-        left: Tall<Term>,
-    ) -> Result<Tall<Term>, TextFault>
+        left: Tall<Boxed<'a, Term<'a>>>,
+    ) -> Result<Tall<Boxed<'a, Term<'a>>>, TextFault>
         requires nests { Nests self.now.below (F.pre self.now.read) (F.post self.now.read) }
         requires left_low { left.height ≤ self.now.below + 1 }
-        ensures value { Gives (spec.longer_by (read_term self.now.below) left (next.Infix op) tokens.old) result tokens.new }
+        ensures value { Gives (spec.longer_by (read_term self.now.below) left.entry (next.Infix op) tokens.old) result tokens.new }
         ensures low { IfOk result (λ x. x.height ≤ self.now.below + 2) }
     {
-        let line = line(&left.part);
-        let first = Boxed::new(self.alloc, left.part)?;
+        let line = line(left.part.get());
         tokens.skip();
-        let right = self.boxed(tokens, infix_level(op) + 1)?;
+        let right = self.term(tokens, infix_level(op) + 1)?;
         Ok(Tall {
-            part: Term::Infix(line, op, first, right.part),
+            part: Boxed::new(self.arena, Term::Infix(line, op, left.part, right.part))?,
             height: left.height.max(right.height) + 1,
         })
     }
 
     #[tactic(auto, unfolding(crate::specs::TermReading::with_right))]
-    #[inline(never)]
-    fn applied(&self, tokens: &mut Cursor<'_>, left: Tall<Term>) -> Result<Tall<Term>, TextFault>
+    fn applied(
+        &self,
+        tokens: &mut Cursor<'a, '_>,
+        left: Tall<Boxed<'a, Term<'a>>>,
+    ) -> Result<Tall<Boxed<'a, Term<'a>>>, TextFault>
         requires nests { Nests self.now.below (F.pre self.now.read) (F.post self.now.read) }
         requires left_low { left.height ≤ self.now.below + 1 }
-        ensures value { Gives (spec.with_right (read_term self.now.below) levels.postfix_level (term.Apply (line_of (tree_of left.part))) left tokens.old) result tokens.new }
+        ensures value { Gives (spec.with_right (read_term self.now.below) levels.postfix_level (term.Apply (line_of (tree_of left.entry.part))) left.entry tokens.old) result tokens.new }
         ensures low { IfOk result (λ x. x.height ≤ self.now.below + 2) }
     {
-        let line = line(&left.part);
-        let first = Boxed::new(self.alloc, left.part)?;
-        let argument = self.boxed(tokens, POSTFIX)?;
+        let line = line(left.part.get());
+        let argument = self.term(tokens, POSTFIX)?;
         Ok(Tall {
-            part: Term::Apply(line, first, argument.part),
+            part: Boxed::new(self.arena, Term::Apply(line, left.part, argument.part))?,
             height: left.height.max(argument.height) + 1,
         })
     }
 
-    #[inline(never)]
-    fn inverse(&self, tokens: &mut Cursor<'_>, left: Tall<Term>) -> Result<Tall<Term>, TextFault>
+    fn inverse(
+        &self,
+        tokens: &mut Cursor<'a, '_>,
+        left: Tall<Boxed<'a, Term<'a>>>,
+    ) -> Result<Tall<Boxed<'a, Term<'a>>>, TextFault>
         requires left_low { left.height ≤ 1000 }
-        ensures value { Gives (spec.longer_by (read_term self.now.below) left next.Inverse tokens.old) result tokens.new }
-        ensures low { IfOk result (λ x. x.height ≤ left.height + 1) }
+        ensures value { Gives (spec.longer_by (read_term self.now.below) left.entry next.Inverse tokens.old) result tokens.new }
+        ensures low { IfOk result (λ x. x.height ≤ left.entry.height + 1) }
     {
         tokens.skip();
-        let line = line(&left.part);
+        let line = line(left.part.get());
         Ok(Tall {
-            part: Term::Inverse(line, Boxed::new(self.alloc, left.part)?),
+            part: Boxed::new(self.arena, Term::Inverse(line, left.part))?,
             height: left.height + 1,
         })
     }
 
     #[tactic(auto, unfolding(crate::specs::TermReading::image))]
-    #[inline(never)]
-    fn image(&self, tokens: &mut Cursor<'_>, left: Tall<Term>) -> Result<Tall<Term>, TextFault>
+    fn image(
+        &self,
+        tokens: &mut Cursor<'a, '_>,
+        left: Tall<Boxed<'a, Term<'a>>>,
+    ) -> Result<Tall<Boxed<'a, Term<'a>>>, TextFault>
         requires nests { Nests self.now.below (F.pre self.now.read) (F.post self.now.read) }
         requires left_low { left.height ≤ self.now.below + 1 }
-        ensures value { Gives (spec.longer_by (read_term self.now.below) left next.OpenImage tokens.old) result tokens.new }
+        ensures value { Gives (spec.longer_by (read_term self.now.below) left.entry next.OpenImage tokens.old) result tokens.new }
         ensures low { IfOk result (λ x. x.height ≤ self.now.below + 2) }
     {
-        let line = line(&left.part);
-        let first = Boxed::new(self.alloc, left.part)?;
+        let line = line(left.part.get());
         tokens.skip();
-        let set = self.boxed(tokens, EXPRESSION)?;
+        let set = self.term(tokens, EXPRESSION)?;
         tokens.expect(Mark::CloseImage)?;
         Ok(Tall {
-            part: Term::Image(line, first, set.part),
+            part: Boxed::new(self.arena, Term::Image(line, left.part, set.part))?,
             height: left.height.max(set.height) + 1,
         })
     }
 
     #[tactic(auto, unfolding(crate::specs::TermReading::chained))]
-    #[inline(never)]
-    fn chained(&self, tokens: &mut Cursor<'_>, left: Tall<Term>) -> Result<Tall<Term>, TextFault>
+    fn chained(
+        &self,
+        tokens: &mut Cursor<'a, '_>,
+        left: Tall<Boxed<'a, Term<'a>>>,
+    ) -> Result<Tall<Boxed<'a, Term<'a>>>, TextFault>
         requires nests { Nests self.now.below (F.pre self.now.read) (F.post self.now.read) }
         requires left_low { left.height ≤ self.now.below + 1 }
-        ensures value { Gives (spec.chained (read_term self.now.below) left tokens.old) result tokens.new }
+        ensures value { Gives (spec.chained (read_term self.now.below) left.entry tokens.old) result tokens.new }
         ensures low { IfOk result (λ x. x.height ≤ self.now.below + 2) }
     {
-        let line = line(&left.part);
-        let first = Boxed::new(self.alloc, left.part)?;
+        let line = line(left.part.get());
         let links = self.chain_links(tokens)?;
         Ok(Tall {
-            part: Term::Chain(line, first, links.part),
+            part: Boxed::new(self.arena, Term::Chain(line, left.part, links.part))?,
             height: left.height.max(links.height) + 1,
         })
     }
 
     #[tactic(auto, unfolding(crate::specs::TermReading::product))]
-    #[inline(never)]
-    fn product(&self, tokens: &mut Cursor<'_>, left: Tall<Term>) -> Result<Tall<Term>, TextFault>
+    fn product(
+        &self,
+        tokens: &mut Cursor<'a, '_>,
+        left: Tall<Boxed<'a, Term<'a>>>,
+    ) -> Result<Tall<Boxed<'a, Term<'a>>>, TextFault>
         requires nests { Nests self.now.below (F.pre self.now.read) (F.post self.now.read) }
         requires left_low { left.height ≤ self.now.below + 1 }
-        ensures value { Gives (spec.product (read_term self.now.below) left tokens.old) result tokens.new }
+        ensures value { Gives (spec.product (read_term self.now.below) left.entry tokens.old) result tokens.new }
         ensures low { IfOk result (λ x. x.height ≤ self.now.below + 2) }
     {
-        let line = line(&left.part);
+        let line = line(left.part.get());
         let all = self.further(tokens, Mark::Cross, PRODUCT + 1, left)?;
         Ok(Tall {
-            part: Term::Product(line, all.part),
+            part: Boxed::new(self.arena, Term::Product(line, all.part))?,
             height: all.height + 1,
         })
     }
 
     /// The term with what the next symbol adds to it.
-    #[inline(never)]
     pub(super) fn longer(
         &self,
-        tokens: &mut Cursor<'_>,
-        left: Tall<Term>,
+        tokens: &mut Cursor<'a, '_>,
+        left: Tall<Boxed<'a, Term<'a>>>,
         after: Next,
-    ) -> Result<Tall<Term>, TextFault>
+    ) -> Result<Tall<Boxed<'a, Term<'a>>>, TextFault>
         requires nests { Nests self.now.below (F.pre self.now.read) (F.post self.now.read) }
         requires left_low { left.height ≤ self.now.below + 1 }
-        ensures value { Gives (spec.longer_by (read_term self.now.below) left after tokens.old) result tokens.new }
+        ensures value { Gives (spec.longer_by (read_term self.now.below) left.entry after tokens.old) result tokens.new }
         ensures low { IfOk result (λ x. x.height ≤ self.now.below + 2) }
     {
         match after {

@@ -11,25 +11,28 @@ use crate::levels::EXPRESSION;
 use crate::names::names;
 use crate::next::{Mark, Next};
 use crate::tall::Tall;
-use crate::tree::{Link, Term, VarDecl};
-use std::alloc::Global;
-use zf_data::{Boxed, Items};
+use crate::tree::{Link, Part, Term, VarDecl};
+use bumpalo::Bump;
+use zf_data::arena::{Boxed, Items};
 
-impl<F: Fn(Global, &mut Cursor<'_>, u32, u8) -> Result<Tall<Term>, TextFault>> Grammar<F> {
+impl<
+    'a,
+    F: Fn(&'a Bump, &mut Cursor<'a, '_>, u32, u8) -> Result<Tall<Boxed<'a, Term<'a>>>, TextFault>,
+> Grammar<'a, F> {
     /// The term, and further ones at this place, each behind the symbol.
     #[tactic(auto, unfolding(crate::specs::TermReading::further))]
     pub(super) fn further(
         &self,
-        tokens: &mut Cursor<'_>,
+        tokens: &mut Cursor<'a, '_>,
         mark: Mark,
         place: u8,
-        first: Tall<Term>,
-    ) -> Result<Tall<Items<Term>>, TextFault>
+        first: Tall<Boxed<'a, Term<'a>>>,
+    ) -> Result<Tall<Items<'a, Boxed<'a, Term<'a>>>>, TextFault>
         requires nests { Nests self.now.below (F.pre self.now.read) (F.post self.now.read) }
-        ensures value { Gives (spec.further (read_term self.now.below) mark place first tokens.old) result tokens.new }
-        ensures low { IfOk result (λ x. x.height ≤ max first.height self.now.below) }
+        ensures value { Gives (spec.further (read_term self.now.below) mark place first.entry tokens.old) result tokens.new }
+        ensures low { IfOk result (λ x. x.height ≤ max first.entry.height self.now.below) }
     {
-        let mut terms = Items::of(self.alloc, first.part)?;
+        let mut terms = Items::of(self.arena, first.part)?;
         let mut height = first.height;
         for _turn in 0..tokens.left() {
             if !tokens.is_at(mark) {
@@ -53,13 +56,13 @@ impl<F: Fn(Global, &mut Cursor<'_>, u32, u8) -> Result<Tall<Term>, TextFault>> G
     #[tactic(auto, unfolding(crate::specs::TermReading::chain_links))]
     pub(super) fn chain_links(
         &self,
-        tokens: &mut Cursor<'_>,
-    ) -> Result<Tall<Items<Link>>, TextFault>
+        tokens: &mut Cursor<'a, '_>,
+    ) -> Result<Tall<Items<'a, Link<'a>>>, TextFault>
         requires nests { Nests self.now.below (F.pre self.now.read) (F.post self.now.read) }
         ensures value { Gives (spec.chain_links (read_term self.now.below) tokens.old) result tokens.new }
         ensures low { IfOk result (λ x. x.height ≤ self.now.below) }
     {
-        let mut links = Items::new(self.alloc);
+        let mut links = Items::new(self.arena);
         let mut height = 0;
         for _turn in 0..tokens.left() {
             let Next::Relation(relation) = tokens.peek() else {
@@ -84,12 +87,12 @@ impl<F: Fn(Global, &mut Cursor<'_>, u32, u8) -> Result<Tall<Term>, TextFault>> G
 
     /// A declaration of bound variables.
     #[tactic(auto, unfolding(crate::specs::TermReading::read_decl))]
-    fn decl(&self, tokens: &mut Cursor<'_>) -> Result<Tall<VarDecl>, TextFault>
+    fn decl(&self, tokens: &mut Cursor<'a, '_>) -> Result<Tall<VarDecl<'a>>, TextFault>
         requires nests { Nests self.now.below (F.pre self.now.read) (F.post self.now.read) }
         ensures value { Gives (spec.read_decl (read_term self.now.below) tokens.old) result tokens.new }
         ensures low { IfOk result (λ x. x.height ≤ self.now.below) }
     {
-        let names = names(self.alloc, tokens)?;
+        let names = names(self.arena, tokens)?;
         tokens.expect(Mark::Colon)?;
         let set = self.term(tokens, EXPRESSION)?;
         Ok(Tall {
@@ -103,13 +106,16 @@ impl<F: Fn(Global, &mut Cursor<'_>, u32, u8) -> Result<Tall<Term>, TextFault>> G
 
     /// One or more declarations, parted by separators.
     #[tactic(auto, unfolding(crate::specs::TermReading::decls))]
-    pub(super) fn decls(&self, tokens: &mut Cursor<'_>) -> Result<Tall<Items<VarDecl>>, TextFault>
+    pub(super) fn decls(
+        &self,
+        tokens: &mut Cursor<'a, '_>,
+    ) -> Result<Tall<Items<'a, VarDecl<'a>>>, TextFault>
         requires nests { Nests self.now.below (F.pre self.now.read) (F.post self.now.read) }
         ensures value { Gives (spec.decls (read_term self.now.below) tokens.old) result tokens.new }
         ensures low { IfOk result (λ x. x.height ≤ self.now.below) }
     {
         let first = self.decl(tokens)?;
-        let mut decls = Items::of(self.alloc, first.part)?;
+        let mut decls = Items::of(self.arena, first.part)?;
         let mut height = first.height;
         for _turn in 0..tokens.left() {
             if !tokens.is_at(Mark::Separator) {
@@ -133,24 +139,24 @@ impl<F: Fn(Global, &mut Cursor<'_>, u32, u8) -> Result<Tall<Term>, TextFault>> G
     #[tactic(auto, unfolding(crate::specs::TermReading::part))]
     pub(super) fn part(
         &self,
-        tokens: &mut Cursor<'_>,
+        tokens: &mut Cursor<'a, '_>,
         mark: Mark,
         place: u8,
-    ) -> Result<Tall<Option<Boxed<Term>>>, TextFault>
+    ) -> Result<Tall<Part<'a>>, TextFault>
         requires nests { Nests self.now.below (F.pre self.now.read) (F.post self.now.read) }
         ensures value { Gives (spec.part (read_term self.now.below) mark place tokens.old) result tokens.new }
         ensures low { IfOk result (λ x. x.height ≤ self.now.below) }
     {
         if !tokens.is_at(mark) {
             return Ok(Tall {
-                part: None,
+                part: Boxed::new(self.arena, None)?,
                 height: 0,
             });
         }
         tokens.skip();
-        let term = self.boxed(tokens, place)?;
+        let term = self.term(tokens, place)?;
         Ok(Tall {
-            part: Some(term.part),
+            part: Boxed::new(self.arena, Some(term.part))?,
             height: term.height,
         })
     }

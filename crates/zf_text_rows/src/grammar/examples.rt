@@ -2,6 +2,7 @@
 use crate::grammar::places::{PREDICATE_BOX, PREDICATE_BOX_TREE};
 use crate::grammar::printed::printed_with_lines;
 use crate::grammar::reads::{reads, refuses, unexpected};
+use bumpalo::Bump;
 use std::test::Fail;
 use zf_text::reading::read_spec;
 
@@ -285,7 +286,8 @@ U | true % a comment
 #[test]
 fn lines(rt: HostRuntime) -> Result<(), Fail> {
     for (source, tree) in LINES {
-        let spec = read_spec(rt.alloc(), source.as_bytes())?;
+        let arena = Bump::new(rt.alloc());
+        let spec = read_spec(rt.alloc(), &arena, source.as_bytes())?;
         let found = printed_with_lines(rt.alloc(), &spec)?;
         assert_eq!(rt; found.as_str(), *tree);
     }

@@ -1,4 +1,5 @@
 //! A text that is cut off anywhere is told to be cut off, or is read.
+use bumpalo::Bump;
 use std::test::Fail;
 use zf_text::fault::TextFaultKind;
 use zf_text::reading::read_spec;
@@ -17,7 +18,8 @@ known = \dom birthday
 fn of_a_text(rt: HostRuntime) -> Result<(), Fail> {
     let text = BIRTHDAY_BOOK.as_bytes();
     for length in 0..text.len() {
-        match read_spec(rt.alloc(), &text[..length]) {
+        let arena = Bump::new(rt.alloc());
+        match read_spec(rt.alloc(), &arena, &text[..length]) {
             Ok(_spec) => {}
             Err(fault) => assert!(rt;
                 matches!(

@@ -1,71 +1,73 @@
 //! Trees as texts: the name of a form and then its parts, in round brackets, with a blank before each.
 use std::alloc::Global;
 use std::test::Fail;
+use zf_data::arena::Boxed;
 use zf_text::tree::{
-    Decl, Link, Name, Paragraph, RefMark, SchemaExp, SchemaRef, Sign, Spec, Term, VarDecl, ZBox,
+    Decl, Link, Name, Paragraph, Part as TermPart, RefMark, SchemaExp, SchemaRef, Sign, Spec, Term,
+    VarDecl, ZBox,
 };
 
 /// What is still to be printed.
 #[derive(Clone, Copy)]
-enum Part<'a> {
+enum Part<'t, 'a> {
     Close,
-    Name(&'a Name),
-    Term(&'a Term),
-    Link(&'a Link),
-    Bound(&'a VarDecl),
+    Name(&'t Name<'a>),
+    Term(&'t Term<'a>),
+    Link(&'t Link<'a>),
+    Bound(&'t VarDecl<'a>),
     /// A term behind a bar.
-    Filter(&'a Term),
+    Filter(&'t Term<'a>),
     /// A term behind `@`.
-    Body(&'a Term),
-    Decl(&'a Decl),
-    Schema(&'a SchemaExp),
-    Paragraph(&'a Paragraph),
-    ZBox(&'a ZBox),
+    Body(&'t Term<'a>),
+    Decl(&'t Decl<'a>),
+    Schema(&'t SchemaExp<'a>),
+    Paragraph(&'t Paragraph<'a>),
+    ZBox(&'t ZBox<'a>),
 }
 
 /// The text so far, and the parts to come, the next one last.
 #[derive(Drop)]
-struct Printer<'a> {
+struct Printer<'t, 'a> {
     text: String,
-    waiting: Vec<Part<'a>>,
+    waiting: Vec<Part<'t, 'a>>,
     has_lines: bool,
 }
 
-impl<'a> Printer<'a> {
-    fn wait_for(&mut self, part: Part<'a>) -> Result<(), Fail> {
+impl<'t, 'a> Printer<'t, 'a> {
+    fn wait_for(&mut self, part: Part<'t, 'a>) -> Result<(), Fail> {
         self.waiting.push(part)?;
         Ok(())
     }
 
-    fn wait_for_terms(&mut self, terms: &'a [Term]) -> Result<(), Fail> {
+    fn wait_for_terms(&mut self, terms: &'t [Boxed<'a, Term<'a>>]) -> Result<(), Fail> {
         for term in terms.iter().rev() {
-            self.waiting.push(Part::Term(term))?;
+            self.waiting.push(Part::Term(term.get()))?;
         }
         Ok(())
     }
 
-    fn wait_for_predicates(&mut self, terms: &'a [Term]) -> Result<(), Fail> {
+    fn wait_for_predicates(&mut self, terms: &'t [Boxed<'a, Term<'a>>]) -> Result<(), Fail> {
         for term in terms.iter().rev() {
-            self.waiting.push(Part::Filter(term))?;
+            self.waiting.push(Part::Filter(term.get()))?;
         }
         Ok(())
     }
 
-    fn wait_for_names(&mut self, names: &'a [Name]) -> Result<(), Fail> {
+    fn wait_for_names(&mut self, names: &'t [Name<'a>]) -> Result<(), Fail> {
         for name in names.iter().rev() {
             self.waiting.push(Part::Name(name))?;
         }
         Ok(())
     }
 
-    fn wait_for_bound(&mut self, decls: &'a [VarDecl]) -> Result<(), Fail> {
+    fn wait_for_bound(&mut self, decls: &'t [VarDecl<'a>]) -> Result<(), Fail> {
         for decl in decls.iter().rev() {
             self.waiting.push(Part::Bound(decl))?;
         }
         Ok(())
     }
 
-    fn wait_for_decls(&mut self, decls: &'a [Decl]) -> Result<(), Fail> {
+    fn wait_for_decls(&mut self, decls: &'t [Decl<'a>]) -> Result<(), Fail> {
         for decl in decls.iter().rev() {
             self.waiting.push(Part::Decl(decl))?;
         }
@@ -84,26 +86,26 @@ impl<'a> Printer<'a> {
         Ok(())
     }
 
-    fn one(&mut self, line: u32, term: &'a Term) -> Result<(), Fail> {
+    fn one(&mut self, line: u32, term: &'t Term<'a>) -> Result<(), Fail> {
         self.at(line)?;
         self.wait_for(Part::Close)?;
         self.wait_for(Part::Term(term))
     }
 
-    fn two(&mut self, line: u32, left: &'a Term, right: &'a Term) -> Result<(), Fail> {
+    fn two(&mut self, line: u32, left: &'t Term<'a>, right: &'t Term<'a>) -> Result<(), Fail> {
         self.at(line)?;
         self.wait_for(Part::Close)?;
         self.wait_for(Part::Term(right))?;
         self.wait_for(Part::Term(left))
     }
 
-    fn many(&mut self, line: u32, terms: &'a [Term]) -> Result<(), Fail> {
+    fn many(&mut self, line: u32, terms: &'t [Boxed<'a, Term<'a>>]) -> Result<(), Fail> {
         self.at(line)?;
         self.wait_for(Part::Close)?;
         self.wait_for_terms(terms)
     }
 
-    fn chain(&mut self, line: u32, first: &'a Term, links: &'a [Link]) -> Result<(), Fail> {
+    fn chain(&mut self, line: u32, first: &'t Term<'a>, links: &'t [Link<'a>]) -> Result<(), Fail> {
         self.at(line)?;
         self.wait_for(Part::Close)?;
         for link in links.iter().rev() {
@@ -115,9 +117,9 @@ impl<'a> Printer<'a> {
     fn bound(
         &mut self,
         line: u32,
-        decls: &'a [VarDecl],
-        filter: Option<&'a Term>,
-        body: Option<&'a Term>,
+        decls: &'t [VarDecl<'a>],
+        filter: Option<&'t Term<'a>>,
+        body: Option<&'t Term<'a>>,
     ) -> Result<(), Fail> {
         self.at(line)?;
         self.wait_for(Part::Close)?;
@@ -130,7 +132,7 @@ impl<'a> Printer<'a> {
         self.wait_for_bound(decls)
     }
 
-    fn name(&mut self, name: &Name) -> Result<(), Fail> {
+    fn name(&mut self, name: &Name<'_>) -> Result<(), Fail> {
         let base = str::from_utf8(name.base.as_slice())?;
         let strokes = str::from_utf8(name.strokes.as_slice())?;
         write!(self.text, " {base}")?;
@@ -140,7 +142,7 @@ impl<'a> Printer<'a> {
         self.at(name.line)
     }
 
-    fn term(&mut self, term: &'a Term) -> Result<(), Fail> {
+    fn term(&mut self, term: &'t Term<'a>) -> Result<(), Fail> {
         match term {
             Term::Name(name) => self.name(name),
             Term::Number(line, value) => {
@@ -169,8 +171,8 @@ impl<'a> Printer<'a> {
             }
             Term::Builder(line, decls, filter, term) => {
                 write!(self.text, " (Builder")?;
-                let filter = filter.as_ref().map(|filter| filter.get());
-                let term = term.as_ref().map(|term| term.get());
+                let filter = lent(filter);
+                let term = lent(term);
                 self.bound(*line, decls.as_slice(), filter, term)
             }
             Term::Prefix(line, sign, term) => {
@@ -216,15 +218,15 @@ impl<'a> Printer<'a> {
                 write!(self.text, " ({connective:?}")?;
                 self.two(*line, left.get(), right.get())
             }
-            Term::Quantified(line, quantifier, decls, filter, body) => {
+            Term::Quantified(quantifier, line, decls, filter, body) => {
                 write!(self.text, " ({quantifier:?}")?;
-                let filter = filter.as_ref().map(|filter| filter.get());
+                let filter = lent(filter);
                 self.bound(*line, decls.as_slice(), filter, Some(body.get()))
             }
         }
     }
 
-    fn reference(&mut self, reference: &'a SchemaRef) -> Result<(), Fail> {
+    fn reference(&mut self, reference: &'t SchemaRef<'a>) -> Result<(), Fail> {
         match reference.mark {
             RefMark::Plain => self.open("Plain")?,
             RefMark::Delta => self.open("Delta")?,
@@ -233,18 +235,18 @@ impl<'a> Printer<'a> {
         self.wait_for(Part::Name(&reference.name))
     }
 
-    fn decl(&mut self, decl: &'a Decl) -> Result<(), Fail> {
+    fn decl(&mut self, decl: &'t Decl<'a>) -> Result<(), Fail> {
         match decl {
             Decl::Vars(names, set) => {
                 self.open(":")?;
-                self.wait_for(Part::Term(set))?;
+                self.wait_for(Part::Term(set.get()))?;
                 self.wait_for_names(names.as_slice())
             }
             Decl::Include(reference) => self.reference(reference),
         }
     }
 
-    fn schema(&mut self, schema: &'a SchemaExp) -> Result<(), Fail> {
+    fn schema(&mut self, schema: &'t SchemaExp<'a>) -> Result<(), Fail> {
         match schema {
             SchemaExp::Text(decls, predicates) => {
                 self.open("Text")?;
@@ -270,7 +272,7 @@ impl<'a> Printer<'a> {
         }
     }
 
-    fn paragraph(&mut self, paragraph: &'a Paragraph) -> Result<(), Fail> {
+    fn paragraph(&mut self, paragraph: &'t Paragraph<'a>) -> Result<(), Fail> {
         match paragraph {
             Paragraph::Given(names) => {
                 self.open("Given")?;
@@ -283,7 +285,7 @@ impl<'a> Printer<'a> {
             }
             Paragraph::Abbrev(name, term) => {
                 self.open("Abbrev")?;
-                self.wait_for(Part::Term(term))?;
+                self.wait_for(Part::Term(term.get()))?;
                 self.wait_for(Part::Name(name))
             }
             Paragraph::Defs(name, schema) => {
@@ -294,7 +296,7 @@ impl<'a> Printer<'a> {
         }
     }
 
-    fn zbox(&mut self, zbox: &'a ZBox) -> Result<(), Fail> {
+    fn zbox(&mut self, zbox: &'t ZBox<'a>) -> Result<(), Fail> {
         match zbox {
             ZBox::Zed(paragraphs) => {
                 self.open("Zed")?;
@@ -312,7 +314,7 @@ impl<'a> Printer<'a> {
         }
     }
 
-    fn print(&mut self, part: Part<'a>) -> Result<(), Fail> {
+    fn print(&mut self, part: Part<'t, 'a>) -> Result<(), Fail> {
         match part {
             Part::Close => {
                 write!(self.text, ")")?;
@@ -323,11 +325,11 @@ impl<'a> Printer<'a> {
             Part::Link(link) => {
                 write!(self.text, " ({:?}", link.relation)?;
                 self.wait_for(Part::Close)?;
-                self.wait_for(Part::Term(&link.right))
+                self.wait_for(Part::Term(link.right.get()))
             }
             Part::Bound(decl) => {
                 self.open(":")?;
-                self.wait_for(Part::Term(&decl.set))?;
+                self.wait_for(Part::Term(decl.set.get()))?;
                 self.wait_for_names(decl.names.as_slice())
             }
             Part::Filter(term) => {
@@ -346,7 +348,15 @@ impl<'a> Printer<'a> {
     }
 }
 
-fn print_all(alloc: Global, spec: &Spec, has_lines: bool) -> Result<String, Fail> {
+/// A part that may be left out.
+fn lent<'t, 'a>(part: &'t TermPart<'a>) -> Option<&'t Term<'a>> {
+    match part.get() {
+        None => None,
+        Some(term) => Some(term.get()),
+    }
+}
+
+fn print_all(alloc: Global, spec: &Spec<'_>, has_lines: bool) -> Result<String, Fail> {
     let mut printer = Printer {
         text: String::new(alloc),
         waiting: Vec::new(alloc),
@@ -365,11 +375,11 @@ fn print_all(alloc: Global, spec: &Spec, has_lines: bool) -> Result<String, Fail
 }
 
 /// The text of the boxes, without lines.
-pub fn printed(alloc: Global, spec: &Spec) -> Result<String, Fail> {
+pub fn printed(alloc: Global, spec: &Spec<'_>) -> Result<String, Fail> {
     print_all(alloc, spec, false)
 }
 
 /// The text of the boxes, with the line of each name and term behind `@`.
-pub fn printed_with_lines(alloc: Global, spec: &Spec) -> Result<String, Fail> {
+pub fn printed_with_lines(alloc: Global, spec: &Spec<'_>) -> Result<String, Fail> {
     print_all(alloc, spec, true)
 }

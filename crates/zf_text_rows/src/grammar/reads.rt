@@ -1,5 +1,6 @@
 //! What sources are read as.
 use crate::grammar::printed::printed;
+use bumpalo::Bump;
 use std::alloc::Global;
 use std::test::Fail;
 use zf_text::fault::{TextFault, TextFaultKind};
@@ -7,7 +8,8 @@ use zf_text::reading::read_spec;
 
 /// Fails where the source has another tree, or none.
 pub fn reads(alloc: Global, source: &str, tree: &str) -> Result<(), Fail> {
-    match read_spec(alloc, source.as_bytes()) {
+    let arena = Bump::new(alloc);
+    match read_spec(alloc, &arena, source.as_bytes()) {
         Ok(spec) => {
             let found = printed(alloc, &spec)?;
             if found.as_str() == tree {
@@ -21,7 +23,8 @@ pub fn reads(alloc: Global, source: &str, tree: &str) -> Result<(), Fail> {
 
 /// Fails where the source is not refused with this fault.
 pub fn refuses(alloc: Global, source: &str, fault: TextFault) -> Result<(), Fail> {
-    match read_spec(alloc, source.as_bytes()) {
+    let arena = Bump::new(alloc);
+    match read_spec(alloc, &arena, source.as_bytes()) {
         Ok(_spec) => Err(Fail::new(format_args!("{source}is read"))),
         Err(found) => {
             if found == fault {

@@ -1,5 +1,6 @@
 //! Texts of about a megabyte.
 use crate::repeated::repeated;
+use bumpalo::Bump;
 use std::test::Fail;
 use zf_text::fault::TextFaultKind;
 use zf_text::reading::read_spec;
@@ -42,7 +43,8 @@ static BROKEN: &[&[(&str, usize)]] = &[
 fn broken(rt: HostRuntime) -> Result<(), Fail> {
     for words in BROKEN {
         let text = repeated(rt.alloc(), words)?;
-        match read_spec(rt.alloc(), text.as_bytes()) {
+        let arena = Bump::new(rt.alloc());
+        match read_spec(rt.alloc(), &arena, text.as_bytes()) {
             Ok(_spec) => assert!(rt; false, "{words:?}"),
             Err(fault) => assert!(rt;
                 matches!(
@@ -82,7 +84,8 @@ static HIGH: &[&[(&str, usize)]] = &[
 fn high(rt: HostRuntime) -> Result<(), Fail> {
     for words in HIGH {
         let text = repeated(rt.alloc(), words)?;
-        match read_spec(rt.alloc(), text.as_bytes()) {
+        let arena = Bump::new(rt.alloc());
+        match read_spec(rt.alloc(), &arena, text.as_bytes()) {
             Ok(_spec) => assert!(rt; false, "{words:?}"),
             Err(fault) => assert!(rt;
                 fault.kind == TextFaultKind::TooDeep,
@@ -123,7 +126,8 @@ static WIDE: &[&[(&str, usize)]] = &[
 fn wide(rt: HostRuntime) -> Result<(), Fail> {
     for words in WIDE {
         let text = repeated(rt.alloc(), words)?;
-        let is_read = read_spec(rt.alloc(), text.as_bytes()).is_ok();
+        let arena = Bump::new(rt.alloc());
+        let is_read = read_spec(rt.alloc(), &arena, text.as_bytes()).is_ok();
         assert!(rt; is_read, "{words:?}");
     }
     Ok(())

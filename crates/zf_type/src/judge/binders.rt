@@ -1,8 +1,8 @@
 //! What binds variables: declarations, quantified predicates and builders.
 ghost use Rattle.std.specs.Prelude.{◌≡◌, IfOk, IfErr, OnErr, List, map};
 ghost use Rattle.zf_text.specs.Trees as tree;
-ghost use Rattle.zf_text.specs.Trees.{Tree, var_decl_of};
-ghost use Rattle.zf_type.specs.Judging.{AreBound, DeclarationsOffend, IsPart, Judges, JudgesPart, part_tree};
+ghost use Rattle.zf_text.specs.Trees.{Tree, tree_of, var_decl_of};
+ghost use Rattle.zf_type.specs.Judging.{AreBound, DeclarationsOffend, IsBuilder, IsPart, IsQuantified, Judges, JudgesPart, part_tree};
 ghost use Rattle.zf_type.specs.Refusals.{IfFault};
 ghost use Rattle.zf_type.specs.ResolvedTrees as trees_of;
 ghost use Rattle.zf_type.specs.ResolvedTrees.{range_of};
@@ -14,160 +14,235 @@ ghost use Rattle.zf_type.specs.Typing.{Binds, Builds, row_type};
 ghost use Rattle.zf_type.specs.declared.operator.Need.{Need};
 ghost use Rattle.zf_type.specs.declared.operator.Need.TheVariants as needs;
 
-use super::{Judged, Place, judge_term, placed};
-use crate::binding::{bind, declare_names};
+use super::{Judged, Place, judge_boxed, judge_term, misplaced};
+use crate::binding::{bind, declare_names, depth, row, unbind};
 use crate::fault::{Refusal, TypeFaultKind, refused};
 use crate::operator::Need;
-use crate::resolved::{Range, Resolved};
+use crate::resolved::{Part, Range, Resolved};
 use crate::scope::{Scope, Variable};
 use crate::sort::Sort;
 use crate::ztype::{ZType, set_type};
-use std::alloc::{AllocError, Global};
-use zf_data::{Boxed, Items};
+use bumpalo::Bump;
+use std::alloc::AllocError;
+use zf_data::arena::{Boxed, Items};
 use zf_text::token::Quantifier;
-use zf_text::tree::{Term, VarDecl};
+use zf_text::tree::{Part as TermPart, Term, VarDecl};
 
 /// What declarations bind: the ranges of the variables, and these.
 #[derive(Drop)]
-struct Bound {
-    ranges: Items<Range>,
-    variables: Vec<Variable>,
+struct Bound<'a> {
+    ranges: Boxed<'a, Items<'a, Range<'a>>>,
+    variables: Vec<Variable<'a>>,
+}
+
+/// A quantified predicate.
+#[cycle(judging)]
+#[inline(never)]
+pub(super) fn quantified<'a>(
+    term: &Term<'a>,
+    arena: &'a Bump,
+    need: Need,
+    scope: &mut Scope<'a, '_>,
+) -> Result<Judged<'a>, Refusal>
+    requires { IsQuantified term.now }
+    ensures judged { Judges (scope_of scope.old) need (tree_of term.now) result }
+    ensures scope { scope_of scope.new ≡ scope_of scope.old }
+{
+    let Term::Quantified(quantifier, line, decls, constraint, body) = term else {
+        unreachable!();
+    };
+    let line = *line;
+    let quantifier = *quantifier;
+    let outside = depth(scope);
+    let ranges = declare(decls.as_slice(), arena, scope)?;
+    let constraint = judge_part(constraint, arena, Need::Predicate, scope);
+    let body = judge_term(body.get(), arena, Need::Predicate, scope);
+    unbind(scope, outside);
+    with_body(
+        arena,
+        Place { need, line },
+        quantifier,
+        ranges,
+        constraint,
+        body,
+    )
+}
+
+/// A builder.
+#[cycle(judging)]
+#[inline(never)]
+pub(super) fn builder<'a>(
+    term: &Term<'a>,
+    arena: &'a Bump,
+    need: Need,
+    scope: &mut Scope<'a, '_>,
+) -> Result<Judged<'a>, Refusal>
+    requires { IsBuilder term.now }
+    ensures judged { Judges (scope_of scope.old) need (tree_of term.now) result }
+    ensures scope { scope_of scope.new ≡ scope_of scope.old }
+{
+    let Term::Builder(line, decls, filter, member) = term else {
+        unreachable!();
+    };
+    let line = *line;
+    let outside = depth(scope);
+    let ranges = declare(decls.as_slice(), arena, scope)?;
+    let filter = judge_part(filter, arena, Need::Predicate, scope);
+    let member = judge_part(member, arena, Need::Expression, scope);
+    let row = row(arena, scope, outside);
+    unbind(scope, outside);
+    built(arena, Place { need, line }, ranges, filter, member, row)
 }
 
 /// Brings the variables that are declared into scope, and answers their ranges.
 #[cycle(judging)]
-pub(super) fn declare(
-    decls: &[VarDecl],
-    alloc: Global,
-    scope: &mut Scope<'_>,
-) -> Result<Items<Range>, Refusal>
+fn declare<'a>(
+    decls: &[VarDecl<'a>],
+    arena: &'a Bump,
+    scope: &mut Scope<'a, '_>,
+) -> Result<Boxed<'a, Items<'a, Range<'a>>>, Refusal>
     ensures ok { IfOk result (λ rs. (vs : List Var) × Binds (scope_of scope.old) (tree.var_decls (map var_decl_of decls.now)) vs × (trees_of.ranges (map range_of rs) ≡ resolved_ranges (scope_of scope.old) (tree.var_decls (map var_decl_of decls.now))) × (scope_of scope.new ≡ within (scope_of scope.old) vs)) }
     ensures wrong { IfErr result (λ e. IfFault e (λ kind line. DeclarationsOffend (scope_of scope.old) (tree.var_decls (map var_decl_of decls.now)) kind line)) }
     ensures scope { OnErr result (scope_of scope.new ≡ scope_of scope.old) }
 {
-    let bound = judge_sets(decls, alloc, scope)?;
+    let bound = judge_sets(decls, arena, scope)?;
     bind(scope, bound.variables)?;
     Ok(bound.ranges)
 }
 
 /// The declared sets know nothing of the variables.
 #[cycle(judging)]
-fn judge_sets(decls: &[VarDecl], alloc: Global, scope: &mut Scope<'_>) -> Result<Bound, Refusal>
+fn judge_sets<'a>(
+    decls: &[VarDecl<'a>],
+    arena: &'a Bump,
+    scope: &mut Scope<'a, '_>,
+) -> Result<Bound<'a>, Refusal>
     ensures ok { IfOk result (λ b. AreBound (scope_of scope.old) (tree.var_decls (map var_decl_of decls.now)) b) }
     ensures wrong { IfErr result (λ e. IfFault e (λ kind line. DeclarationsOffend (scope_of scope.old) (tree.var_decls (map var_decl_of decls.now)) kind line)) }
     ensures scope { scope_of scope.new ≡ scope_of scope.old }
 {
-    let mut ranges = Items::new(alloc);
-    let mut variables = Vec::new(alloc);
+    let mut ranges = Items::new(arena);
+    let mut variables = Vec::new(*scope.locals.allocator());
     for decl in decls {
-        let set = judge_term(&decl.set, alloc, Need::Set, scope)?;
+        let set = judge_boxed(&decl.set, arena, Need::Set, scope)?;
         let names = decl.names.as_slice();
-        declare_names(alloc, names, &set.sort, &mut variables)?;
+        declare_names(arena, names, &set.sort, &mut variables)?;
         ranges.push(Range {
             variables: names.len(),
             set: set.term,
         })?;
     }
+    let ranges = Boxed::new(arena, ranges)?;
     Ok(Bound { ranges, variables })
 }
 
 #[cycle(judging)]
-pub(super) fn judge_part(
-    part: &Option<Boxed<Term>>,
-    alloc: Global,
+fn judge_part<'a>(
+    part: &TermPart<'a>,
+    arena: &'a Bump,
     need: Need,
-    scope: &mut Scope<'_>,
-) -> Result<Option<Judged>, Refusal>
+    scope: &mut Scope<'a, '_>,
+) -> Result<Option<Judged<'a>>, Refusal>
     ensures judged { JudgesPart (scope_of scope.old) need (part_tree part.now) result }
     ensures scope { scope_of scope.new ≡ scope_of scope.old }
 {
-    match part {
+    match part.get() {
         None => Ok(None),
         Some(term) => {
-            let judged = judge_term(term.get(), alloc, need, scope)?;
+            let judged = judge_term(term.get(), arena, need, scope)?;
             Ok(Some(judged))
         }
     }
 }
 
 /// A quantified predicate, of which the parts are judged within its variables.
-pub(super) fn quantified(
-    alloc: Global,
+fn with_body<'a>(
+    arena: &'a Bump,
     place: Place,
     quantifier: Quantifier,
-    ranges: Items<Range>,
-    constraint: Result<Option<Judged>, Refusal>,
-    body: Result<Judged, Refusal>,
-) -> Result<Judged, Refusal>
-    ensures { (s : spec.Scope) (ds : tree.VarDecls) (vs : List Var) (p : tree.Perhaps) (e : Tree) → Binds s ds vs → trees_of.ranges (map range_of ranges) ≡ resolved_ranges s ds → JudgesPart (within s vs) needs.Predicate p constraint → Judges (within s vs) needs.Predicate e body → Judges s place.need (tree.quantified place.line quantifier ds p e) result }
+    ranges: Boxed<'a, Items<'a, Range<'a>>>,
+    constraint: Result<Option<Judged<'a>>, Refusal>,
+    body: Result<Judged<'a>, Refusal>,
+) -> Result<Judged<'a>, Refusal>
+    ensures { (s : spec.Scope) (ds : tree.VarDecls) (vs : List Var) (p : tree.Perhaps) (e : Tree) → Binds s ds vs → trees_of.ranges (map range_of ranges.entry) ≡ resolved_ranges s ds → JudgesPart (within s vs) needs.Predicate p constraint.entry → Judges (within s vs) needs.Predicate e body.entry → Judges s place.need (tree.quantified place.line quantifier ds p e) result }
 {
     let condition = constraint?;
     let predicate = body?;
-    let filter = part_term(alloc, condition)?;
-    let inner = Boxed::new(alloc, predicate.term)?;
-    let term = Resolved::Quantified(place.line, quantifier, ranges, filter, inner);
     let sort = Sort::Predicate;
-    placed(Judged { term, sort }, place.need)
+    if !sort.meets(place.need) {
+        return Err(misplaced(&sort, place.need, place.line));
+    }
+    let filter = part_term(arena, condition)?;
+    let inner = Boxed::new(arena, predicate.term)?;
+    let term = Resolved::Quantified(place.line, quantifier, ranges, filter, inner);
+    Ok(Judged { term, sort })
 }
 
 /// A builder, of which the parts are judged within its variables. Where it has no term it builds
 /// rows of the variables.
-pub(super) fn built(
-    alloc: Global,
+fn built<'a>(
+    arena: &'a Bump,
     place: Place,
-    ranges: Items<Range>,
-    filter: Result<Option<Judged>, Refusal>,
-    member: Result<Option<Judged>, Refusal>,
-    row: Result<ZType, AllocError>,
-) -> Result<Judged, Refusal>
-    ensures { (s : spec.Scope) (ds : tree.VarDecls) (vs : List Var) (p e : tree.Perhaps) → Binds s ds vs → trees_of.ranges (map range_of ranges) ≡ resolved_ranges s ds → JudgesPart (within s vs) needs.Predicate p filter → JudgesPart (within s vs) needs.Expression e member → IfOk row (λ t. type_of t ≡ row_type vs) → Judges s place.need (tree.builder place.line ds p e) result }
+    ranges: Boxed<'a, Items<'a, Range<'a>>>,
+    filter: Result<Option<Judged<'a>>, Refusal>,
+    member: Result<Option<Judged<'a>>, Refusal>,
+    row: Result<ZType<'a>, AllocError>,
+) -> Result<Judged<'a>, Refusal>
+    ensures { (s : spec.Scope) (ds : tree.VarDecls) (vs : List Var) (p e : tree.Perhaps) → Binds s ds vs → trees_of.ranges (map range_of ranges.entry) ≡ resolved_ranges s ds → JudgesPart (within s vs) needs.Predicate p filter.entry → JudgesPart (within s vs) needs.Expression e member.entry → IfOk row.entry (λ t. type_of t ≡ row_type vs) → Judges s place.need (tree.builder place.line ds p e) result }
 {
     let condition = filter?;
     let element = member?;
     let rows = row?;
-    let shape = member_shape(alloc, element, rows)?;
-    let set = set_type(alloc, shape.ztype)?;
+    let shape = member_shape(arena, element, rows)?;
+    let set = set_type(arena, shape.ztype)?;
     if !set.is_small() {
         return Err(refused(TypeFaultKind::TooLarge, place.line));
     }
-    let condition_term = part_term(alloc, condition)?;
-    let term = Resolved::Builder(place.line, ranges, condition_term, shape.term);
     let sort = Sort::Typed(set);
-    placed(Judged { term, sort }, place.need)
+    if !sort.meets(place.need) {
+        return Err(misplaced(&sort, place.need, place.line));
+    }
+    let condition_term = part_term(arena, condition)?;
+    let term = Resolved::Builder(place.line, ranges, condition_term, shape.term);
+    Ok(Judged { term, sort })
 }
 
 /// What a builder builds: its term, where it has one, and the type.
 #[derive(Drop)]
-struct Shape {
-    term: Option<Boxed<Resolved>>,
-    ztype: ZType,
+struct Shape<'a> {
+    term: Part<'a>,
+    ztype: ZType<'a>,
 }
 
-fn member_shape(alloc: Global, member: Option<Judged>, row: ZType) -> Result<Shape, AllocError>
-    ensures { (s : spec.Scope) (vs : List Var) (p : tree.Perhaps) → IsPart s needs.Expression p member → type_of row ≡ row_type vs → IfOk result (λ b. (trees_of.part_of b.term ≡ resolved_part s p) × Builds s vs p (type_of b.ztype)) }
+fn member_shape<'a>(
+    arena: &'a Bump,
+    member: Option<Judged<'a>>,
+    row: ZType<'a>,
+) -> Result<Shape<'a>, AllocError>
+    ensures { (s : spec.Scope) (vs : List Var) (p : tree.Perhaps) → IsPart s needs.Expression p member.entry → type_of row.entry ≡ row_type vs → IfOk result (λ b. (trees_of.part_of b.term ≡ resolved_part s p) × Builds s vs p (type_of b.ztype)) }
 {
     let Some(judged) = member else {
         return Ok(Shape {
-            term: None,
+            term: Boxed::new(arena, None)?,
             ztype: row,
         });
     };
-    let term = Boxed::new(alloc, judged.term)?;
+    let term = Boxed::new(arena, judged.term)?;
     let ztype = judged.sort.into_type().unwrap_or(row);
     Ok(Shape {
-        term: Some(term),
+        term: Boxed::new(arena, Some(term))?,
         ztype,
     })
 }
 
-fn part_term(alloc: Global, part: Option<Judged>) -> Result<Option<Boxed<Resolved>>, AllocError>
-    ensures { (s : spec.Scope) (n : Need) (p : tree.Perhaps) → IsPart s n p part → IfOk result (λ t. trees_of.part_of t ≡ resolved_part s p) }
+fn part_term<'a>(arena: &'a Bump, part: Option<Judged<'a>>) -> Result<Part<'a>, AllocError>
+    ensures { (s : spec.Scope) (n : Need) (p : tree.Perhaps) → IsPart s n p part.entry → IfOk result (λ t. trees_of.part_of t ≡ resolved_part s p) }
 {
     match part {
-        None => Ok(None),
+        None => Boxed::new(arena, None),
         Some(judged) => {
-            let term = Boxed::new(alloc, judged.term)?;
-            Ok(Some(term))
+            let term = Boxed::new(arena, judged.term)?;
+            Boxed::new(arena, Some(term))
         }
     }
 }

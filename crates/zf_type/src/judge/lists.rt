@@ -12,57 +12,59 @@ ghost use Rattle.zf_type.specs.Scopes.{scope_of};
 ghost use Rattle.zf_type.specs.Types as tys;
 ghost use Rattle.zf_type.specs.Types.{Ty, power, type_of};
 
-use super::{Judged, Place, judge_term, placed};
+use super::{Judged, Place, judge_term, misplaced};
 use crate::fault::{Refusal, TypeFaultKind, refused};
 use crate::operator::{Listed, Need};
 use crate::resolved::Resolved;
 use crate::scope::Scope;
 use crate::sort::Sort;
 use crate::ztype::{ZType, product_type, set_type};
-use std::alloc::{AllocError, Global};
-use zf_data::Items;
+use bumpalo::Bump;
+use std::alloc::AllocError;
+use zf_data::arena::{Boxed, Items};
 use zf_text::tree::Term;
 
 /// The members of a list of terms, and the type of each; of a set the type of its members.
 #[derive(Drop)]
-struct Members {
-    terms: Items<Resolved>,
-    types: Items<ZType>,
+struct Members<'a> {
+    terms: Items<'a, Resolved<'a>>,
+    types: Items<'a, ZType<'a>>,
 }
 
 /// What several terms make.
 #[cycle(judging)]
-pub(super) fn listed(
-    terms: &[Term],
-    alloc: Global,
+#[inline(never)]
+pub(super) fn listed<'a>(
+    terms: &[Boxed<'a, Term<'a>>],
+    arena: &'a Bump,
     place: Place,
     form: Listed,
-    scope: &mut Scope<'_>,
-) -> Result<Judged, Refusal>
+    scope: &mut Scope<'a, '_>,
+) -> Result<Judged<'a>, Refusal>
     ensures judged { Judges (scope_of scope.old) place.need (listed_tree form place.line (trees (map tree_of terms.now))) result }
     ensures scope { scope_of scope.new ≡ scope_of scope.old }
 {
-    let members = judge_all(terms, alloc, form, scope)?;
-    with_members(alloc, place, form, members)
+    let members = judge_all(terms, arena, form, scope)?;
+    with_members(arena, place, form, members)
 }
 
 #[cycle(judging)]
-fn judge_all(
-    terms: &[Term],
-    alloc: Global,
+fn judge_all<'a>(
+    terms: &[Boxed<'a, Term<'a>>],
+    arena: &'a Bump,
     form: Listed,
-    scope: &mut Scope<'_>,
-) -> Result<Members, Refusal>
+    scope: &mut Scope<'a, '_>,
+) -> Result<Members<'a>, Refusal>
     ensures ok { IfOk result (λ ms. AreJudged form (scope_of scope.old) (trees (map tree_of terms.now)) ms) }
     ensures wrong { IfErr result (λ e. IfFault e (λ kind line. OneOffends (scope_of scope.old) (judging.member_need form) (trees (map tree_of terms.now)) kind line)) }
     ensures scope { scope_of scope.new ≡ scope_of scope.old }
 {
     let mut members = Members {
-        terms: Items::new(alloc),
-        types: Items::new(alloc),
+        terms: Items::with_room(arena, terms.len())?,
+        types: Items::with_room(arena, terms.len())?,
     };
     for term in terms {
-        let member = judge_term(term, alloc, member_need(form), scope)?;
+        let member = judge_term(term.get(), arena, member_need(form), scope)?;
         members.terms.push(member.term)?;
         members.types.push(member_type(form, member.sort)?)?;
     }
@@ -79,9 +81,9 @@ fn member_need(form: Listed) -> Need
 }
 
 /// The type that is kept of a member.
-fn member_type(form: Listed, sort: Sort) -> Result<ZType, AllocError>
+fn member_type<'a>(form: Listed, sort: Sort<'a>) -> Result<ZType<'a>, AllocError>
     requires { Meets (judging.member_need form) (sort_of sort) }
-    ensures { IfOk result (λ t. sort_of sort ≡ member_sort form (type_of t)) }
+    ensures { IfOk result (λ t. sort_of sort.entry ≡ member_sort form (type_of t)) }
 {
     let Sort::Typed(ztype) = sort else {
         unreachable!();
@@ -94,7 +96,7 @@ fn member_type(form: Listed, sort: Sort) -> Result<ZType, AllocError>
 
 /// The type of a set's members.
 #[tactic(auto, using(crate::proofs::TypesSeen::seen))]
-fn element(ztype: &ZType) -> Result<ZType, AllocError>
+fn element<'a>(ztype: &ZType<'a>) -> Result<ZType<'a>, AllocError>
     requires { (u : Ty) × (type_of ztype.now ≡ power u) }
     ensures { IfOk result (λ t. type_of ztype.now ≡ power (type_of t)) }
 {
@@ -105,48 +107,56 @@ fn element(ztype: &ZType) -> Result<ZType, AllocError>
 }
 
 /// The rule of what makes one term out of several.
-fn with_members(
-    alloc: Global,
+fn with_members<'a>(
+    arena: &'a Bump,
     place: Place,
     form: Listed,
-    members: Members,
-) -> Result<Judged, Refusal>
+    members: Members<'a>,
+) -> Result<Judged<'a>, Refusal>
     requires { length members.terms ≡ length members.types }
-    ensures { (s : spec.Scope) (es : Trees) → AreJudged form s es members → Judges s place.need (listed_tree form place.line es) result }
+    ensures { (s : spec.Scope) (es : Trees) → AreJudged form s es members.entry → Judges s place.need (listed_tree form place.line es) result }
 {
     let Members { terms, types } = members;
-    let ztype = made_of(alloc, form, place.line, terms.as_slice(), types)?;
+    let ztype = made_of(arena, form, place.line, terms.as_slice(), types)?;
     if !ztype.is_small() {
         return Err(refused(TypeFaultKind::TooLarge, place.line));
     }
-    let term = Resolved::Listed(place.line, form, terms);
     let sort = Sort::Typed(ztype);
-    placed(Judged { term, sort }, place.need)
+    if !sort.meets(place.need) {
+        return Err(misplaced(&sort, place.need, place.line));
+    }
+    let term = Resolved::Listed(place.line, form, terms);
+    Ok(Judged { term, sort })
 }
 
 /// The type of what members of these types make.
 #[tactic(auto, using(crate::proofs::TypesSeen::seen))]
-fn made_of(
-    alloc: Global,
+fn made_of<'a>(
+    arena: &'a Bump,
     form: Listed,
     line: u32,
-    terms: &[Resolved],
-    types: Items<ZType>,
-) -> Result<ZType, Refusal>
+    terms: &[Resolved<'a>],
+    types: Items<'a, ZType<'a>>,
+) -> Result<ZType<'a>, Refusal>
     requires { length terms.now ≡ length types }
-    ensures ok { IfOk result (λ t. Makes form (tys.types (map type_of types)) (type_of t)) }
-    ensures wrong { IfErr result (λ e. IfFault e (λ kind m. (form ≡ Listed.Display) × (kind ≡ TypeFaultKind.Mismatch) × DiffersAt line (map resolved_of terms.now) (tys.types (map type_of types)) m)) }
+    ensures ok { IfOk result (λ t. Makes form (tys.types (map type_of types.entry)) (type_of t)) }
+    ensures wrong { IfErr result (λ e. IfFault e (λ kind m. (form ≡ Listed.Display) × (kind ≡ TypeFaultKind.Mismatch) × DiffersAt line (map resolved_of terms.now) (tys.types (map type_of types.entry)) m)) }
 {
     match form {
-        Listed::Tuple => Ok(product_type(alloc, types)?),
-        Listed::Product => Ok(set_type(alloc, product_type(alloc, types)?)?),
-        Listed::Display => set_of(alloc, line, terms, types.as_slice()),
+        Listed::Tuple => Ok(product_type(arena, types)?),
+        Listed::Product => Ok(set_type(arena, product_type(arena, types)?)?),
+        Listed::Display => set_of(arena, line, terms, types.as_slice()),
     }
 }
 
 /// The type of a set of these members.
 #[tactic(auto, using(crate::proofs::TypesSeen::seen))]
-fn set_of(alloc: Global, line: u32, terms: &[Resolved], types: &[ZType]) -> Result<ZType, Refusal>
+fn set_of<'a>(
+    arena: &'a Bump,
+    line: u32,
+    terms: &[Resolved<'a>],
+    types: &[ZType<'a>],
+) -> Result<ZType<'a>, Refusal>
     requires { length terms.now ≡ length types.now }
     ensures ok { IfOk result (λ t. Makes Listed.Display (tys.types (map type_of types.now)) (type_of t)) }
     ensures wrong { IfErr result (λ e. IfFault e (λ kind m. (kind ≡ TypeFaultKind.Mismatch) × DiffersAt line (map resolved_of terms.now) (tys.types (map type_of types.now)) m)) }
@@ -159,5 +169,5 @@ fn set_of(alloc: Global, line: u32, terms: &[Resolved], types: &[ZType]) -> Resu
             return Err(refused(TypeFaultKind::Mismatch, terms[place].line()));
         }
     }
-    Ok(set_type(alloc, first.share()?)?)
+    Ok(set_type(arena, first.share()?)?)
 }

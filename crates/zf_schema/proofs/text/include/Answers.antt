@@ -13,3 +13,6 @@ returns-in-Err-clause-wrong c =
     let b = schema_of c.in_ok-other.other.flat in
     let r = c.args.reference.now in
     rw c.refusal.ensures (refused_by c.in-Err.stop r.name.line (Stops (Agree a.comps b.comps) (conjoined a b)) (OffendsDecl g a (include r)) (cant_include g a r b c.in_ok-other.ensures.ok) c.in-Err.ensures.err)
+
+pub returns-in-Ok-clause-ok : goal.returns-in-Ok-clause-ok
+returns-in-Ok-clause-ok c = (schema_of c.in_ok-other.other.flat, c.in_ok-other.ensures.ok, c.in-Ok.ensures.ok)

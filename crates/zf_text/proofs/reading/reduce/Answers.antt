@@ -44,5 +44,5 @@ loop-i-preserved c =
           moved initial _ (i + 1) _ _
           (stored initial now i kept drops w.opens-drops.result p r h
           (λ text. at text ∙ at_other drops w.opens-drops.result text p rest (sym (c.is_separator.ensures _ _) ∙ w.if-is_separator.false) (w.opens-drops.ensures _ _)))
-          _ _ _ (ap (λ v. v.items) w.symbols-is) w.kept-is w.drops-is
+          _ _ _ (ap (λ v. v.items) w.symbols-is ∙ w.put.ensures p c.index-symbol.ensures) w.kept-is w.drops-is
     ]

@@ -1,6 +1,9 @@
-use Rattle.std.proofs.Common.{◌≡◌, ◌+◌, ◌++◌, [], ◌∷◌, map, drop, sym, ap, ◌∙◌, subst, inr, arith, append-nil, true≢false}
+use Rattle.std.proofs.Common.{◌≡◌, ◌+◌, ◌++◌, [], ◌∷◌, map, drop, sym, ap, ◌∙◌, subst, refl, inl, inr, arith, List, append-nil, true≢false}
 use Rattle.std.proofs.lemmas.List.{drop_all, map-append}
+use Rattle.zf_text.specs.declared.tree.Name.{Name}
+use Rattle.zf_type.specs.declared.fault.TypeFaultKind.TheVariants.{LocalTwice}
 use Rattle.zf_type.specs.Judging.{IsBound, AreNew, AreRepeated}
+use Rattle.zf_type.specs.Refusals.{IfFault}
 use Rattle.zf_type.specs.Scopes.{spelling, variable_of}
 use Rattle.zf_type.specs.Types.{type_of}
 use Rattle.zf_type.specs.Typing.{variables}
@@ -40,3 +43,16 @@ returns-clause-ok c =
       c.in-Some.ensures,
       sym (append-nil old) ∙ ap (λ xs. old ++ variables xs (type_of c.in-Some.members.now)) (sym (drop_all c.loop-name.name-index c.args.names.now (omega arith))) ∙ c.loop-name.invariant.adds,
     )
+
+pub returns-then-is_bound-clause-repeated : goal.returns-then-is_bound-clause-repeated
+returns-then-is_bound-clause-repeated c =
+    let i = c.loop-name.name-index in
+    let n = c.name-item.result in
+    let v = c.in_ok-variable.variable in
+    let old = map variable_of c.loop-name.variables.items in
+    let ahead = dropped c.args.names.now i n (omega arith) c.name-item.is in
+    let named : v.name ≡ spelling n = ap (λ w. w.name) c.in_ok-variable.ensures in
+    let found : IsBound v.name (map variable_of c.as_slice.result.now) = subst (λ x. IsBound x (map variable_of c.as_slice.result.now)) c.as_slice-in-loop-name.ensures (c.is_bound.ensures.0 c.if-is_bound.true) in
+    let bound : IsBound (spelling n) old = subst (λ x. IsBound x old) named (subst (λ xs. IsBound v.name (map variable_of xs)) c.as_slice.ensures.value found) in
+    subst (λ r. IfFault r (λ k m. (ns : List Name) → AreRepeated (map variable_of c.args.variables.now.items) (c.args.names.now ++ ns) k m)) (sym c.refused.ensures)
+    (λ ns. c.loop-name.invariant.repeated ns LocalTwice n.line (subst (λ xs. AreRepeated old (xs ++ ns) LocalTwice n.line) (sym ahead) (inl (bound, refl, refl))))

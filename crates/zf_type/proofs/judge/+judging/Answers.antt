@@ -26,7 +26,7 @@ use Rattle.zf_type.proofs.ResolvedSeen.{new_link, of-link, new_range, of-range}
 use Rattle.zf_type.proofs.Walk.{at_step, at_end, pushed}
 use Rattle.zf_type.specs.Rules.{Sort, predicate, sort_of, Meets, lack_of, relation_rule, Takes, left_need, right_need, rule_of, need_of}
 use Rattle.zf_type.specs.Scopes.{scope_of, variable_of, within}
-use Rattle.zf_type.proofs.Judging.{line_kept, judged_of, if_fault, fault_of, fault_from, from_fault, from_part, unary_operand, binary_right, left_fails, left_holds}
+use Rattle.zf_type.proofs.Judging.{line_kept, judged_of, if_fault, fault_of, fault_from, from_fault, from_part, unary_operand, binary_left, binary_right}
 use Rattle.zf_type.proofs.judge.+judging.Goals as goal
 
 pub operands::unary-returns-in_err-operand-clause-judged : goal.operands::unary-returns-in_err-operand-clause-judged
@@ -47,95 +47,6 @@ operands::unary-with_operand-requires t c =
     let s = scope_of c.args.scope.now in
     let e = tree_of c.args.operand.now in
     (judged_of s (need_of c.args.op) e c.in_ok-operand.operand (subst (λ n. Judges s n e (Ok c.in_ok-operand.operand)) c.need.ensures c.in_ok-operand.ensures.judged)).met
-
-pub operands::binary-returns-in_err-right-clause-judged : goal.operands::binary-returns-in_err-right-clause-judged
-operands::binary-returns-in_err-right-clause-judged t c = λ a g.
-    let s = scope_of c.args.scope.now in
-    let b = tree_of c.args.right.now in
-    from_part s s (right_need (rule_of c.args.op)) c.args.place.need b (binary_tree c.args.op c.args.place.line a b) c.in_err-right.field-0.0 c.from_residual.result (binary_right s c.args.place.need c.args.op c.args.place.line a b)
-    (subst (λ n. Judges s n b (Err c.in_err-right.field-0.0)) (c.right_need.ensures ∙ ap right_need c.rule.ensures) c.in_err-right.ensures.judged) c.from_residual.ensures.0 c.from_residual.ensures.1
-
-pub operands::binary-returns-clause-judged : goal.operands::binary-returns-clause-judged
-operands::binary-returns-clause-judged t c = λ a g.
-    let s = scope_of c.args.scope.now in
-    let b = tree_of c.args.right.now in
-    c.with_operands.ensures s a b g (judged_of s (right_need (rule_of c.args.op)) b c.in_ok-right.right (subst (λ n. Judges s n b (Ok c.in_ok-right.right)) (c.right_need.ensures ∙ ap right_need c.rule.ensures) c.in_ok-right.ensures.judged))
-
-pub judge_term-returns-in_err-left-in-Image-clause-judged : goal.judge_term-returns-in_err-left-in-Image-clause-judged
-judge_term-returns-in_err-left-in-Image-clause-judged t c =
-    left_fails (scope_of c.args.scope.now) c.args.need c.left_need.result Image c.in-Image.line (tree_of c.in-Image.left) (tree_of c.in-Image.right) (tree_of c.get-in-Image.result.now) (tree_of c.args.term.now) c.in_err-left-in-Image.field-0.0 c.from_residual-in_err-left-in-Image.result
-    (ap tree_of c.get-in-Image.ensures) (c.left_need.ensures ∙ ap left_need c.rule.ensures) (ap tree_of c.in-Image.is ∙ seen.of-Image c.in-Image.line c.in-Image.left c.in-Image.right) c.in_err-left-in-Image.ensures.judged c.from_residual-in_err-left-in-Image.ensures.0 c.from_residual-in_err-left-in-Image.ensures.1
-
-pub judge_term-returns-in_ok-left-in-Image-clause-judged : goal.judge_term-returns-in_ok-left-in-Image-clause-judged
-judge_term-returns-in_ok-left-in-Image-clause-judged t c =
-    left_holds (scope_of c.args.scope.now) (scope_of c.judge_term-in-Image.new.scope) c.args.need c.left_need.result Image c.in-Image.line (tree_of c.in-Image.left) (tree_of c.in-Image.right) (tree_of c.get-in-Image.result.now) (tree_of c.get-in-Image-2.result.now) (tree_of c.args.term.now) c.in_ok-left-in-Image.left c.binary.result
-    c.in_ok-left-in-Image.ensures.scope (ap tree_of c.get-in-Image.ensures) (ap tree_of c.get-in-Image-2.ensures) (c.left_need.ensures ∙ ap left_need c.rule.ensures) (ap tree_of c.in-Image.is ∙ seen.of-Image c.in-Image.line c.in-Image.left c.in-Image.right) c.in_ok-left-in-Image.ensures.judged c.binary.ensures.judged
-
-pub judge_term-returns-in_err-left-in-Apply-clause-judged : goal.judge_term-returns-in_err-left-in-Apply-clause-judged
-judge_term-returns-in_err-left-in-Apply-clause-judged t c =
-    left_fails (scope_of c.args.scope.now) c.args.need c.left_need-in-Apply.result Application c.in-Apply.line (tree_of c.in-Apply.left) (tree_of c.in-Apply.right) (tree_of c.get-in-Apply.result.now) (tree_of c.args.term.now) c.in_err-left-in-Apply.field-0.0 c.from_residual-in_err-left-in-Apply.result
-    (ap tree_of c.get-in-Apply.ensures) (c.left_need-in-Apply.ensures ∙ ap left_need c.rule-in-Apply.ensures) (ap tree_of c.in-Apply.is ∙ seen.of-Apply c.in-Apply.line c.in-Apply.left c.in-Apply.right) c.in_err-left-in-Apply.ensures.judged c.from_residual-in_err-left-in-Apply.ensures.0 c.from_residual-in_err-left-in-Apply.ensures.1
-
-pub judge_term-returns-in_ok-left-in-Apply-clause-judged : goal.judge_term-returns-in_ok-left-in-Apply-clause-judged
-judge_term-returns-in_ok-left-in-Apply-clause-judged t c =
-    left_holds (scope_of c.args.scope.now) (scope_of c.judge_term-in-Apply.new.scope) c.args.need c.left_need-in-Apply.result Application c.in-Apply.line (tree_of c.in-Apply.left) (tree_of c.in-Apply.right) (tree_of c.get-in-Apply.result.now) (tree_of c.get-in-Apply-2.result.now) (tree_of c.args.term.now) c.in_ok-left-in-Apply.left c.binary-in-Apply.result
-    c.in_ok-left-in-Apply.ensures.scope (ap tree_of c.get-in-Apply.ensures) (ap tree_of c.get-in-Apply-2.ensures) (c.left_need-in-Apply.ensures ∙ ap left_need c.rule-in-Apply.ensures) (ap tree_of c.in-Apply.is ∙ seen.of-Apply c.in-Apply.line c.in-Apply.left c.in-Apply.right) c.in_ok-left-in-Apply.ensures.judged c.binary-in-Apply.ensures.judged
-
-pub judge_term-returns-in_err-left-in-Infix-clause-judged : goal.judge_term-returns-in_err-left-in-Infix-clause-judged
-judge_term-returns-in_err-left-in-Infix-clause-judged t c =
-    left_fails (scope_of c.args.scope.now) c.args.need c.left_need-in-Infix.result (Function c.in-Infix.infix) c.in-Infix.line (tree_of c.in-Infix.left) (tree_of c.in-Infix.right) (tree_of c.get-in-Infix.result.now) (tree_of c.args.term.now) c.in_err-left-in-Infix.field-0.0 c.from_residual-in_err-left-in-Infix.result
-    (ap tree_of c.get-in-Infix.ensures) (c.left_need-in-Infix.ensures ∙ ap left_need c.rule-in-Infix.ensures) (ap tree_of c.in-Infix.is ∙ seen.of-Infix c.in-Infix.line c.in-Infix.infix c.in-Infix.left c.in-Infix.right) c.in_err-left-in-Infix.ensures.judged c.from_residual-in_err-left-in-Infix.ensures.0 c.from_residual-in_err-left-in-Infix.ensures.1
-
-pub judge_term-returns-in_ok-left-in-Infix-clause-judged : goal.judge_term-returns-in_ok-left-in-Infix-clause-judged
-judge_term-returns-in_ok-left-in-Infix-clause-judged t c =
-    left_holds (scope_of c.args.scope.now) (scope_of c.judge_term-in-Infix.new.scope) c.args.need c.left_need-in-Infix.result (Function c.in-Infix.infix) c.in-Infix.line (tree_of c.in-Infix.left) (tree_of c.in-Infix.right) (tree_of c.get-in-Infix.result.now) (tree_of c.get-in-Infix-2.result.now) (tree_of c.args.term.now) c.in_ok-left-in-Infix.left c.binary-in-Infix.result
-    c.in_ok-left-in-Infix.ensures.scope (ap tree_of c.get-in-Infix.ensures) (ap tree_of c.get-in-Infix-2.ensures) (c.left_need-in-Infix.ensures ∙ ap left_need c.rule-in-Infix.ensures) (ap tree_of c.in-Infix.is ∙ seen.of-Infix c.in-Infix.line c.in-Infix.infix c.in-Infix.left c.in-Infix.right) c.in_ok-left-in-Infix.ensures.judged c.binary-in-Infix.ensures.judged
-
-pub judge_term-returns-in_err-left-in-Arrow-clause-judged : goal.judge_term-returns-in_err-left-in-Arrow-clause-judged
-judge_term-returns-in_err-left-in-Arrow-clause-judged t c =
-    left_fails (scope_of c.args.scope.now) c.args.need c.left_need-in-Arrow.result (Generic c.in-Arrow.arrow) c.in-Arrow.line (tree_of c.in-Arrow.left) (tree_of c.in-Arrow.right) (tree_of c.get-in-Arrow.result.now) (tree_of c.args.term.now) c.in_err-left-in-Arrow.field-0.0 c.from_residual-in_err-left-in-Arrow.result
-    (ap tree_of c.get-in-Arrow.ensures) (c.left_need-in-Arrow.ensures ∙ ap left_need c.rule-in-Arrow.ensures) (ap tree_of c.in-Arrow.is ∙ seen.of-Arrow c.in-Arrow.line c.in-Arrow.arrow c.in-Arrow.left c.in-Arrow.right) c.in_err-left-in-Arrow.ensures.judged c.from_residual-in_err-left-in-Arrow.ensures.0 c.from_residual-in_err-left-in-Arrow.ensures.1
-
-pub judge_term-returns-in_ok-left-in-Arrow-clause-judged : goal.judge_term-returns-in_ok-left-in-Arrow-clause-judged
-judge_term-returns-in_ok-left-in-Arrow-clause-judged t c =
-    left_holds (scope_of c.args.scope.now) (scope_of c.judge_term-in-Arrow.new.scope) c.args.need c.left_need-in-Arrow.result (Generic c.in-Arrow.arrow) c.in-Arrow.line (tree_of c.in-Arrow.left) (tree_of c.in-Arrow.right) (tree_of c.get-in-Arrow.result.now) (tree_of c.get-in-Arrow-2.result.now) (tree_of c.args.term.now) c.in_ok-left-in-Arrow.left c.binary-in-Arrow.result
-    c.in_ok-left-in-Arrow.ensures.scope (ap tree_of c.get-in-Arrow.ensures) (ap tree_of c.get-in-Arrow-2.ensures) (c.left_need-in-Arrow.ensures ∙ ap left_need c.rule-in-Arrow.ensures) (ap tree_of c.in-Arrow.is ∙ seen.of-Arrow c.in-Arrow.line c.in-Arrow.arrow c.in-Arrow.left c.in-Arrow.right) c.in_ok-left-in-Arrow.ensures.judged c.binary-in-Arrow.ensures.judged
-
-pub judge_term-returns-in_err-left-in-Connective-clause-judged : goal.judge_term-returns-in_err-left-in-Connective-clause-judged
-judge_term-returns-in_err-left-in-Connective-clause-judged t c =
-    left_fails (scope_of c.args.scope.now) c.args.need c.left_need-in-Connective.result (Connective c.in-Connective.connective) c.in-Connective.line (tree_of c.in-Connective.left) (tree_of c.in-Connective.right) (tree_of c.get-in-Connective.result.now) (tree_of c.args.term.now) c.in_err-left-in-Connective.field-0.0 c.from_residual-in_err-left-in-Connective.result
-    (ap tree_of c.get-in-Connective.ensures) (c.left_need-in-Connective.ensures ∙ ap left_need c.rule-in-Connective.ensures) (ap tree_of c.in-Connective.is ∙ seen.of-Connective c.in-Connective.line c.in-Connective.connective c.in-Connective.left c.in-Connective.right) c.in_err-left-in-Connective.ensures.judged c.from_residual-in_err-left-in-Connective.ensures.0 c.from_residual-in_err-left-in-Connective.ensures.1
-
-pub judge_term-returns-in_ok-left-in-Connective-clause-judged : goal.judge_term-returns-in_ok-left-in-Connective-clause-judged
-judge_term-returns-in_ok-left-in-Connective-clause-judged t c =
-    left_holds (scope_of c.args.scope.now) (scope_of c.judge_term-in-Connective.new.scope) c.args.need c.left_need-in-Connective.result (Connective c.in-Connective.connective) c.in-Connective.line (tree_of c.in-Connective.left) (tree_of c.in-Connective.right) (tree_of c.get-in-Connective.result.now) (tree_of c.get-in-Connective-2.result.now) (tree_of c.args.term.now) c.in_ok-left-in-Connective.left c.binary-in-Connective.result
-    c.in_ok-left-in-Connective.ensures.scope (ap tree_of c.get-in-Connective.ensures) (ap tree_of c.get-in-Connective-2.ensures) (c.left_need-in-Connective.ensures ∙ ap left_need c.rule-in-Connective.ensures) (ap tree_of c.in-Connective.is ∙ seen.of-Connective c.in-Connective.line c.in-Connective.connective c.in-Connective.left c.in-Connective.right) c.in_ok-left-in-Connective.ensures.judged c.binary-in-Connective.ensures.judged
-
-pub judge_term-returns-in_err-of-in-EmptySet-clause-judged : goal.judge_term-returns-in_err-of-in-EmptySet-clause-judged
-judge_term-returns-in_err-of-in-EmptySet-clause-judged t c =
-    let s = scope_of c.args.scope.now in
-    let is = ap tree_of c.in-EmptySet.is ∙ seen.of-EmptySet c.in-EmptySet.line c.in-EmptySet.of ∙ ap (tree.empty_set c.in-EmptySet.line) (sym (ap tree_of c.get.ensures)) in
-    subst (λ e. Judges s c.args.need e c.from_residual.result) (sym is)
-    (from_part s s need.Set c.args.need (tree_of c.get.result.now) (tree.empty_set c.in-EmptySet.line (tree_of c.get.result.now)) c.in_err-of-in-EmptySet.field-0.0 c.from_residual.result (λ k m h. inl h) c.in_err-of-in-EmptySet.ensures.judged c.from_residual.ensures.0 c.from_residual.ensures.1)
-
-pub judge_term-returns-in_ok-of-in-EmptySet-clause-judged : goal.judge_term-returns-in_ok-of-in-EmptySet-clause-judged
-judge_term-returns-in_ok-of-in-EmptySet-clause-judged t c =
-    let s = scope_of c.args.scope.now in
-    let is = ap tree_of c.in-EmptySet.is ∙ seen.of-EmptySet c.in-EmptySet.line c.in-EmptySet.of ∙ ap (tree.empty_set c.in-EmptySet.line) (sym (ap tree_of c.get.ensures)) in
-    subst (λ e. Judges s c.args.need e c.empty_set.result) (sym is) (c.empty_set.ensures s (tree_of c.get.result.now) (judged_of s need.Set (tree_of c.get.result.now) c.in_ok-of-in-EmptySet.of c.in_ok-of-in-EmptySet.ensures.judged))
-
-pub judge_term-returns-in_err-inner-in-Bracket-clause-judged : goal.judge_term-returns-in_err-inner-in-Bracket-clause-judged
-judge_term-returns-in_err-inner-in-Bracket-clause-judged t c =
-    let s = scope_of c.args.scope.now in
-    let is = ap tree_of c.in-Bracket.is ∙ seen.of-Bracket c.in-Bracket.line c.in-Bracket.inner ∙ ap (tree.bracket c.in-Bracket.line) (sym (ap tree_of c.get-in-Bracket.ensures)) in
-    subst (λ e. Judges s c.args.need e c.from_residual-in_err-inner-in-Bracket.result) (sym is)
-    (from_part s s c.args.need c.args.need (tree_of c.get-in-Bracket.result.now) (tree.bracket c.in-Bracket.line (tree_of c.get-in-Bracket.result.now)) c.in_err-inner-in-Bracket.field-0.0 c.from_residual-in_err-inner-in-Bracket.result (λ k m h. inl h) c.in_err-inner-in-Bracket.ensures.judged c.from_residual-in_err-inner-in-Bracket.ensures.0 c.from_residual-in_err-inner-in-Bracket.ensures.1)
-
-pub judge_term-returns-in_ok-inner-in-Bracket-clause-judged : goal.judge_term-returns-in_ok-inner-in-Bracket-clause-judged
-judge_term-returns-in_ok-inner-in-Bracket-clause-judged t c =
-    let s = scope_of c.args.scope.now in
-    let is = ap tree_of c.in-Bracket.is ∙ seen.of-Bracket c.in-Bracket.line c.in-Bracket.inner ∙ ap (tree.bracket c.in-Bracket.line) (sym (ap tree_of c.get-in-Bracket.ensures)) in
-    subst (λ e. Judges s c.args.need e c.bracket.result) (sym is) (c.bracket.ensures s (tree_of c.get-in-Bracket.result.now) (judged_of s c.args.need (tree_of c.get-in-Bracket.result.now) c.in_ok-inner-in-Bracket.inner c.in_ok-inner-in-Bracket.ensures.judged))
 
 pub lists::listed-returns-in_err-members-clause-judged : goal.lists::listed-returns-in_err-members-clause-judged
 lists::listed-returns-in_err-members-clause-judged t c =
@@ -160,7 +71,7 @@ lists::judge_all-loop-term-preserved t c =
     let e = tree_of c.term-item.result in
     let j = c.in_ok-member.member in
     let u = c.in_ok-member_type.field-0 in
-    let judged = judged_of s (member_need form) e j (subst (λ z. Judges z (member_need form) e (Ok j)) c.loop-term.invariant.same (subst (λ n. Judges (scope_of c.loop-term.scope) n e (Ok j)) c.member_need.ensures c.in_ok-member.ensures.judged)) in
+    let judged = judged_of s (member_need form) e j (subst (λ z. Judges z (member_need form) e (Ok j)) c.loop-term.invariant.same (subst (λ n. Judges (scope_of c.loop-term.scope) n e (Ok j)) c.member_need.ensures (subst (λ y. Judges (scope_of c.loop-term.scope) c.member_need.result y (Ok j)) (ap tree_of c.get.ensures) c.in_ok-member.ensures.judged))) in
     let is = subst (λ z. IsOf s e z) c.in_ok-member_type.ensures judged.is_of in
     record {
       same = c.in_ok-member.ensures.scope ∙ c.loop-term.invariant.same;
@@ -189,10 +100,10 @@ lists::judge_all-returns-in_err-member-clause-wrong t c =
     let n = member_need c.args.form in
     let e = tree_of c.term-item.result in
     let x = c.in_err-member.field-0.0 in
-    let judged : Judges s n e (Err x) = subst (λ z. Judges z n e (Err x)) c.loop-term.invariant.same (subst (λ m. Judges (scope_of c.loop-term.scope) m e (Err x)) c.member_need.ensures c.in_err-member.ensures.judged) in
+    let judged : Judges s n e (Err x) = subst (λ z. Judges z n e (Err x)) c.loop-term.invariant.same (subst (λ m. Judges (scope_of c.loop-term.scope) m e (Err x)) c.member_need.ensures (subst (λ y. Judges (scope_of c.loop-term.scope) c.member_need.result y (Err x)) (ap tree_of c.get.ensures) c.in_err-member.ensures.judged)) in
     let step : (k : TypeFaultKind) (m : ℕ) → Offends s n e k m → OneOffends s n (trees (map tree_of c.args.terms.now)) k m =
     λ k m o. c.loop-term.invariant.offends k m (at_step (λ ts. OneOffends s n (trees (map tree_of ts)) k m) c.args.terms.now c.loop-term.term-index c.term-item.result c.term-item.is (omega arith) (inl o)) in
-    fault_from x (λ k m. OneOffends s n (trees (map tree_of c.args.terms.now)) k m) c.from_residual.result (if_fault x (λ k m. Offends s n e k m) (λ k m. OneOffends s n (trees (map tree_of c.args.terms.now)) k m) step (fault_of s n e x judged)) c.from_residual.ensures.0 c.from_residual.ensures.1
+    fault_from x (λ k m. OneOffends s n (trees (map tree_of c.args.terms.now)) k m) c.from_residual-in_err-member.result (if_fault x (λ k m. Offends s n e k m) (λ k m. OneOffends s n (trees (map tree_of c.args.terms.now)) k m) step (fault_of s n e x judged)) c.from_residual-in_err-member.ensures.0 c.from_residual-in_err-member.ensures.1
 
 pub lists::judge_all-member_type-requires : goal.lists::judge_all-member_type-requires
 lists::judge_all-member_type-requires t c =
@@ -200,20 +111,10 @@ lists::judge_all-member_type-requires t c =
     let n = member_need c.args.form in
     let e = tree_of c.term-item.result in
     let j = c.in_ok-member.member in
-    (judged_of s n e j (subst (λ z. Judges z n e (Ok j)) c.loop-term.invariant.same (subst (λ m. Judges (scope_of c.loop-term.scope) m e (Ok j)) c.member_need.ensures c.in_ok-member.ensures.judged))).met
+    (judged_of s n e j (subst (λ z. Judges z n e (Ok j)) c.loop-term.invariant.same (subst (λ m. Judges (scope_of c.loop-term.scope) m e (Ok j)) c.member_need.ensures (subst (λ y. Judges (scope_of c.loop-term.scope) c.member_need.result y (Ok j)) (ap tree_of c.get.ensures) c.in_ok-member.ensures.judged)))).met
 
-pub judge_term-returns-in_err-first-in-Chain-clause-judged : goal.judge_term-returns-in_err-first-in-Chain-clause-judged
-judge_term-returns-in_err-first-in-Chain-clause-judged t c =
-    first_fails (scope_of c.args.scope.now) c.args.need c.in-Chain.line (tree_of c.get-in-Chain.result.now) (tree_of c.in-Chain.first) (tree_of c.args.term.now) (tree.links (map tree.link_of c.in-Chain.links)) c.in_err-first-in-Chain.field-0.0 c.from_residual-in_err-first-in-Chain.result
-    (ap tree_of c.get-in-Chain.ensures) (ap tree_of c.in-Chain.is ∙ seen.of-Chain c.in-Chain.line c.in-Chain.first c.in-Chain.links) c.in_err-first-in-Chain.ensures.judged c.from_residual-in_err-first-in-Chain.ensures.0 c.from_residual-in_err-first-in-Chain.ensures.1
-
-pub judge_term-returns-in_ok-first-in-Chain-clause-judged : goal.judge_term-returns-in_ok-first-in-Chain-clause-judged
-judge_term-returns-in_ok-first-in-Chain-clause-judged t c =
-    first_holds (scope_of c.args.scope.now) (scope_of c.judge_term-in-Chain.new.scope) c.args.need c.in-Chain.line (tree_of c.get-in-Chain.result.now) (tree_of c.in-Chain.first) (tree_of c.args.term.now) c.in-Chain.links c.as_slice-in-Chain.result.now c.in_ok-first-in-Chain.first c.chain.result
-    c.in_ok-first-in-Chain.ensures.scope (ap tree_of c.get-in-Chain.ensures) c.as_slice-in-Chain.ensures (ap tree_of c.in-Chain.is ∙ seen.of-Chain c.in-Chain.line c.in-Chain.first c.in-Chain.links) c.in_ok-first-in-Chain.ensures.judged c.chain.ensures.judged
-
-pub chains::chain-returns-in_err-links-clause-judged : goal.chains::chain-returns-in_err-links-clause-judged
-chains::chain-returns-in_err-links-clause-judged t c = λ a h.
+pub chains::linked-returns-in_err-links-clause-judged : goal.chains::linked-returns-in_err-links-clause-judged
+chains::linked-returns-in_err-links-clause-judged t c = λ a h.
     let s = scope_of c.args.scope.now in
     let n = c.args.place.need in
     let ks = tree.links (map tree.link_of c.args.links.now) in
@@ -222,8 +123,8 @@ chains::chain-returns-in_err-links-clause-judged t c = λ a h.
     (if_fault x (λ k m. LinksOffend s a ks k m) (λ k m. Offends s n (tree.chain c.args.place.line a ks) k m) (λ k m o. inr (inl o)) (c.in_err-links.ensures.wrong a h.is_of (c.line-line.ensures ∙ ap line_of h.term ∙ line_kept s a)))
     c.from_residual.ensures.0 c.from_residual.ensures.1
 
-pub chains::chain-returns-clause-judged : goal.chains::chain-returns-clause-judged
-chains::chain-returns-clause-judged t c = λ a h.
+pub chains::linked-returns-clause-judged : goal.chains::linked-returns-clause-judged
+chains::linked-returns-clause-judged t c = λ a h.
     let s = scope_of c.args.scope.now in
     let ks = tree.links (map tree.link_of c.args.links.now) in
     let ok = c.in_ok-links.ensures.ok in
@@ -336,21 +237,21 @@ chains::judge_links-returns-in_err-relate-clause-wrong t c = λ a h l.
 pub binders::judge_part-returns-in-None-clause-judged : goal.binders::judge_part-returns-in-None-clause-judged
 binders::judge_part-returns-in-None-clause-judged t c =
     let s = scope_of c.args.scope.now in
-    subst (λ o. JudgesPart s c.args.need (part_tree o) (Ok None)) (sym c.in-None.is) (no_part s c.args.need)
+    subst (λ o. JudgesPart s c.args.need (part_tree o) (Ok None)) (sym c.in-None.is ∙ c.get.ensures) (no_part s c.args.need)
 
 pub binders::judge_part-returns-in_err-judged-in-Some-clause-judged : goal.binders::judge_part-returns-in_err-judged-in-Some-clause-judged
 binders::judge_part-returns-in_err-judged-in-Some-clause-judged t c =
     let s = scope_of c.args.scope.now in
     let x = c.in_err-judged-in-Some.field-0.0 in
-    subst (λ o. JudgesPart s c.args.need (part_tree o) c.from_residual.result) (sym c.in-Some.is)
-    (part_from s c.args.need (tree_of c.in-Some.term) x c.from_residual.result (subst (λ e. Judges s c.args.need e (Err x)) (ap tree_of c.get.ensures) c.in_err-judged-in-Some.ensures.judged) c.from_residual.ensures.0 c.from_residual.ensures.1)
+    subst (λ o. JudgesPart s c.args.need (part_tree o) c.from_residual.result) (sym c.in-Some.is ∙ c.get.ensures)
+    (part_from s c.args.need (tree_of c.in-Some.term) x c.from_residual.result (subst (λ y. Judges s c.args.need y (Err x)) (ap tree_of c.get-in-Some.ensures) c.in_err-judged-in-Some.ensures.judged) c.from_residual.ensures.0 c.from_residual.ensures.1)
 
 pub binders::judge_part-returns-in_ok-judged-in-Some-clause-judged : goal.binders::judge_part-returns-in_ok-judged-in-Some-clause-judged
 binders::judge_part-returns-in_ok-judged-in-Some-clause-judged t c =
     let s = scope_of c.args.scope.now in
     let j = c.in_ok-judged-in-Some.judged in
-    subst (λ o. JudgesPart s c.args.need (part_tree o) (Ok (Some j))) (sym c.in-Some.is)
-    (part_judged s c.args.need (tree_of c.in-Some.term) j (subst (λ e. Judges s c.args.need e (Ok j)) (ap tree_of c.get.ensures) c.in_ok-judged-in-Some.ensures.judged))
+    subst (λ o. JudgesPart s c.args.need (part_tree o) (Ok (Some j))) (sym c.in-Some.is ∙ c.get.ensures)
+    (part_judged s c.args.need (tree_of c.in-Some.term) j (subst (λ y. Judges s c.args.need y (Ok j)) (ap tree_of c.get-in-Some.ensures) c.in_ok-judged-in-Some.ensures.judged))
 
 pub binders::declare-returns-clause-ok : goal.binders::declare-returns-clause-ok
 binders::declare-returns-clause-ok t c =
@@ -424,7 +325,7 @@ binders::judge_sets-returns-clause-ok t c =
         all_apart (declared ds) (c.loop-decl.invariant.apart (at_end (λ xs. AreNew vs (declared (tree.var_decls (map tree.var_decl_of xs)))) all i (omega arith) tt)),
         subst (λ ws. Declare s ds ws) (append-nil vs) (c.loop-decl.invariant.declares [] (at_end (λ xs. Declare s (tree.var_decls (map tree.var_decl_of xs)) []) all i (omega arith) refl)),
       );
-      ranges = sym (ap resolved_trees.ranges (append-nil (map range_of c.loop-decl.ranges))) ∙ c.loop-decl.invariant.resolves [] (at_end (λ xs. resolved_trees.no_ranges ≡ resolved_ranges s (tree.var_decls (map tree.var_decl_of xs))) all i (omega arith) refl);
+      ranges = ap (λ rs. resolved_trees.ranges (map range_of rs)) c.in_ok-ranges.ensures ∙ sym (ap resolved_trees.ranges (append-nil (map range_of c.loop-decl.ranges))) ∙ c.loop-decl.invariant.resolves [] (at_end (λ xs. resolved_trees.no_ranges ≡ resolved_ranges s (tree.var_decls (map tree.var_decl_of xs))) all i (omega arith) refl);
     }
 
 pub binders::judge_sets-returns-in_err-set-clause-wrong : goal.binders::judge_sets-returns-in_err-set-clause-wrong
@@ -463,38 +364,97 @@ binders::judge_sets-declare_names-requires t c =
     let j = c.in_ok-set.set in
     (judged_of s need.Set e j (subst (λ z. Judges z need.Set e (Ok j)) c.loop-decl.invariant.same c.in_ok-set.ensures.judged)).met
 
-pub judge_term-returns-in_err-ranges-in-Quantified-clause-judged : goal.judge_term-returns-in_err-ranges-in-Quantified-clause-judged
-judge_term-returns-in_err-ranges-in-Quantified-clause-judged t c =
-    quantified_unbound (scope_of c.args.scope.now) c.args.need c.in-Quantified.line c.in-Quantified.quantifier c.in-Quantified.decls c.as_slice-in-Quantified.result.now (seen.part_of c.in-Quantified.constraint) (tree_of c.in-Quantified.body) (tree_of c.args.term.now) c.in_err-ranges-in-Quantified.field-0.0 c.from_residual-in_err-ranges-in-Quantified.result
-    c.as_slice-in-Quantified.ensures (ap tree_of c.in-Quantified.is ∙ seen.of-Quantified c.in-Quantified.line c.in-Quantified.quantifier c.in-Quantified.decls c.in-Quantified.constraint c.in-Quantified.body) c.in_err-ranges-in-Quantified.ensures.wrong c.from_residual-in_err-ranges-in-Quantified.ensures.0 c.from_residual-in_err-ranges-in-Quantified.ensures.1
+pub operands::binary-returns-in_err-left-clause-judged : goal.operands::binary-returns-in_err-left-clause-judged
+operands::binary-returns-in_err-left-clause-judged t c =
+    let s = scope_of c.args.scope.now in
+    let a = tree_of c.args.left.now in
+    let b = tree_of c.args.right.now in
+    from_part s s (left_need (rule_of c.args.op)) c.args.place.need a (binary_tree c.args.op c.args.place.line a b) c.in_err-left.field-0.0 c.from_residual.result (binary_left s c.args.place.need c.args.op c.args.place.line a b)
+    (subst (λ n. Judges s n a (Err c.in_err-left.field-0.0)) (c.left_need.ensures ∙ ap left_need c.rule-rule.ensures) c.in_err-left.ensures.judged) c.from_residual.ensures.0 c.from_residual.ensures.1
 
-pub judge_term-returns-in_ok-ranges-in-Quantified-clause-judged : goal.judge_term-returns-in_ok-ranges-in-Quantified-clause-judged
-judge_term-returns-in_ok-ranges-in-Quantified-clause-judged t c =
-    let ok = c.in_ok-ranges-in-Quantified.ensures.ok in
-    quantified_holds (scope_of c.args.scope.now) (scope_of c.declare.new.scope) (scope_of c.judge_part-constraint.new.scope) c.args.need c.in-Quantified.line c.in-Quantified.quantifier c.in-Quantified.decls c.as_slice-in-Quantified.result.now ok.0 c.in-Quantified.constraint c.judge_part-constraint.result
-    (tree_of c.get-in-Quantified.result.now) (tree_of c.in-Quantified.body) (tree_of c.args.term.now) c.judge_term-body.result c.in_ok-ranges-in-Quantified.ranges c.quantified.result
-    c.as_slice-in-Quantified.ensures (ap tree_of c.get-in-Quantified.ensures) (ap tree_of c.in-Quantified.is ∙ seen.of-Quantified c.in-Quantified.line c.in-Quantified.quantifier c.in-Quantified.decls c.in-Quantified.constraint c.in-Quantified.body)
-    ok.3 c.judge_part-constraint.ensures.scope ok.1 ok.2 c.judge_part-constraint.ensures.judged c.judge_term-body.ensures.judged c.quantified.ensures
+pub operands::binary-returns-in_err-right-clause-judged : goal.operands::binary-returns-in_err-right-clause-judged
+operands::binary-returns-in_err-right-clause-judged t c =
+    let s = scope_of c.args.scope.now in
+    let a = tree_of c.args.left.now in
+    let b = tree_of c.args.right.now in
+    from_part s s (right_need (rule_of c.args.op)) c.args.place.need b (binary_tree c.args.op c.args.place.line a b) c.in_err-right.field-0.0 c.from_residual-in_err-right.result (binary_right s c.args.place.need c.args.op c.args.place.line a b)
+    (subst (λ z. Judges z (right_need (rule_of c.args.op)) b (Err c.in_err-right.field-0.0)) c.in_ok-left.ensures.scope (subst (λ n. Judges (scope_of c.judge_term.new.scope) n b (Err c.in_err-right.field-0.0)) (c.right_need.ensures ∙ ap right_need c.rule-rule.ensures) c.in_err-right.ensures.judged)) c.from_residual-in_err-right.ensures.0 c.from_residual-in_err-right.ensures.1
 
-pub judge_term-returns-in_ok-ranges-in-Quantified-clause-scope : goal.judge_term-returns-in_ok-ranges-in-Quantified-clause-scope
-judge_term-returns-in_ok-ranges-in-Quantified-clause-scope t c =
-    let ok = c.in_ok-ranges-in-Quantified.ensures.ok in
+pub operands::binary-returns-clause-judged : goal.operands::binary-returns-clause-judged
+operands::binary-returns-clause-judged t c =
+    let s = scope_of c.args.scope.now in
+    let a = tree_of c.args.left.now in
+    let b = tree_of c.args.right.now in
+    c.with_operands.ensures s a b
+    (judged_of s (left_need (rule_of c.args.op)) a c.in_ok-left.left (subst (λ n. Judges s n a (Ok c.in_ok-left.left)) (c.left_need.ensures ∙ ap left_need c.rule-rule.ensures) c.in_ok-left.ensures.judged))
+    (judged_of s (right_need (rule_of c.args.op)) b c.in_ok-right.right (subst (λ z. Judges z (right_need (rule_of c.args.op)) b (Ok c.in_ok-right.right)) c.in_ok-left.ensures.scope (subst (λ n. Judges (scope_of c.judge_term.new.scope) n b (Ok c.in_ok-right.right)) (c.right_need.ensures ∙ ap right_need c.rule-rule.ensures) c.in_ok-right.ensures.judged)))
+
+pub empty_set-returns-in_err-of-clause-judged : goal.empty_set-returns-in_err-of-clause-judged
+empty_set-returns-in_err-of-clause-judged t c =
+    let s = scope_of c.args.scope.now in
+    let e = tree_of c.args.of.now in
+    from_part s s need.Set c.args.place.need e (tree.empty_set c.args.place.line e) c.in_err-of.field-0.0 c.from_residual.result (λ k m h. inl h) c.in_err-of.ensures.judged c.from_residual.ensures.0 c.from_residual.ensures.1
+
+pub empty_set-returns-clause-judged : goal.empty_set-returns-clause-judged
+empty_set-returns-clause-judged t c =
+    let s = scope_of c.args.scope.now in
+    let e = tree_of c.args.of.now in
+    c.empty_set_of.ensures s e (judged_of s need.Set e c.in_ok-of.of c.in_ok-of.ensures.judged)
+
+pub bracket-returns-in_err-inner-clause-judged : goal.bracket-returns-in_err-inner-clause-judged
+bracket-returns-in_err-inner-clause-judged t c =
+    let s = scope_of c.args.scope.now in
+    let e = tree_of c.args.inner.now in
+    from_part s s c.args.place.need c.args.place.need e (tree.bracket c.args.place.line e) c.in_err-inner.field-0.0 c.from_residual.result (λ k m h. inl h) c.in_err-inner.ensures.judged c.from_residual.ensures.0 c.from_residual.ensures.1
+
+pub bracket-returns-clause-judged : goal.bracket-returns-clause-judged
+bracket-returns-clause-judged t c =
+    let s = scope_of c.args.scope.now in
+    let e = tree_of c.args.inner.now in
+    c.bracketed.ensures s e (judged_of s c.args.place.need e c.in_ok-inner.inner c.in_ok-inner.ensures.judged)
+
+pub chains::chain-returns-in_err-first-clause-judged : goal.chains::chain-returns-in_err-first-clause-judged
+chains::chain-returns-in_err-first-clause-judged t c =
+    first_fails (scope_of c.args.scope.now) c.args.need c.in-Chain.line (tree_of c.get.result.now) (tree_of c.in-Chain.first) (tree_of c.args.term.now) (tree.links (map tree.link_of c.in-Chain.links)) c.in_err-first.field-0.0 c.from_residual.result
+    (ap tree_of c.get.ensures) (ap tree_of c.in-Chain.is ∙ seen.of-Chain c.in-Chain.line c.in-Chain.first c.in-Chain.links) c.in_err-first.ensures.judged c.from_residual.ensures.0 c.from_residual.ensures.1
+
+pub chains::chain-returns-clause-judged : goal.chains::chain-returns-clause-judged
+chains::chain-returns-clause-judged t c =
+    first_holds (scope_of c.args.scope.now) (scope_of c.judge_term.new.scope) c.args.need c.in-Chain.line (tree_of c.get.result.now) (tree_of c.in-Chain.first) (tree_of c.args.term.now) c.in-Chain.links c.as_slice.result.now c.in_ok-first.first c.linked.result
+    c.in_ok-first.ensures.scope (ap tree_of c.get.ensures) c.as_slice.ensures (ap tree_of c.in-Chain.is ∙ seen.of-Chain c.in-Chain.line c.in-Chain.first c.in-Chain.links) c.in_ok-first.ensures.judged c.linked.ensures.judged
+
+pub binders::quantified-returns-in_err-ranges-clause-judged : goal.binders::quantified-returns-in_err-ranges-clause-judged
+binders::quantified-returns-in_err-ranges-clause-judged t c =
+    quantified_unbound (scope_of c.args.scope.now) c.args.need c.in-Quantified.line c.in-Quantified.quantifier c.in-Quantified.decls c.as_slice.result.now (seen.part_of c.in-Quantified.constraint) (tree_of c.in-Quantified.body) (tree_of c.args.term.now) c.in_err-ranges.field-0.0 c.from_residual.result
+    c.as_slice.ensures (ap tree_of c.in-Quantified.is ∙ seen.of-Quantified c.in-Quantified.line c.in-Quantified.quantifier c.in-Quantified.decls c.in-Quantified.constraint c.in-Quantified.body) c.in_err-ranges.ensures.wrong c.from_residual.ensures.0 c.from_residual.ensures.1
+
+pub binders::quantified-returns-clause-judged : goal.binders::quantified-returns-clause-judged
+binders::quantified-returns-clause-judged t c =
+    let ok = c.in_ok-ranges.ensures.ok in
+    quantified_holds (scope_of c.args.scope.now) (scope_of c.declare.new.scope) (scope_of c.judge_part-constraint.new.scope) c.args.need c.in-Quantified.line c.in-Quantified.quantifier c.in-Quantified.decls c.as_slice.result.now ok.0 c.in-Quantified.constraint c.judge_part-constraint.result
+    (tree_of c.get.result.now) (tree_of c.in-Quantified.body) (tree_of c.args.term.now) c.judge_term-body.result c.in_ok-ranges.ranges c.with_body.result
+    c.as_slice.ensures (ap tree_of c.get.ensures) (ap tree_of c.in-Quantified.is ∙ seen.of-Quantified c.in-Quantified.line c.in-Quantified.quantifier c.in-Quantified.decls c.in-Quantified.constraint c.in-Quantified.body)
+    ok.3 c.judge_part-constraint.ensures.scope ok.1 ok.2 c.judge_part-constraint.ensures.judged c.judge_term-body.ensures.judged c.with_body.ensures
+
+pub binders::quantified-returns-clause-scope : goal.binders::quantified-returns-clause-scope
+binders::quantified-returns-clause-scope t c =
+    let ok = c.in_ok-ranges.ensures.ok in
     c.unbind.ensures (scope_of c.args.scope.now) ok.0 (c.judge_term-body.ensures.scope ∙ c.judge_part-constraint.ensures.scope ∙ ok.3) c.depth-outside.ensures
 
-pub judge_term-returns-in_err-ranges-in-Builder-clause-judged : goal.judge_term-returns-in_err-ranges-in-Builder-clause-judged
-judge_term-returns-in_err-ranges-in-Builder-clause-judged t c =
-    builder_unbound (scope_of c.args.scope.now) c.args.need c.in-Builder.line c.in-Builder.decls c.as_slice-in-Builder.result.now (seen.part_of c.in-Builder.filter) (seen.part_of c.in-Builder.member) (tree_of c.args.term.now) c.in_err-ranges-in-Builder.field-0.0 c.from_residual-in_err-ranges-in-Builder.result
-    c.as_slice-in-Builder.ensures (ap tree_of c.in-Builder.is ∙ seen.of-Builder c.in-Builder.line c.in-Builder.decls c.in-Builder.filter c.in-Builder.member) c.in_err-ranges-in-Builder.ensures.wrong c.from_residual-in_err-ranges-in-Builder.ensures.0 c.from_residual-in_err-ranges-in-Builder.ensures.1
+pub binders::builder-returns-in_err-ranges-clause-judged : goal.binders::builder-returns-in_err-ranges-clause-judged
+binders::builder-returns-in_err-ranges-clause-judged t c =
+    builder_unbound (scope_of c.args.scope.now) c.args.need c.in-Builder.line c.in-Builder.decls c.as_slice.result.now (seen.part_of c.in-Builder.filter) (seen.part_of c.in-Builder.member) (tree_of c.args.term.now) c.in_err-ranges.field-0.0 c.from_residual.result
+    c.as_slice.ensures (ap tree_of c.in-Builder.is ∙ seen.of-Builder c.in-Builder.line c.in-Builder.decls c.in-Builder.filter c.in-Builder.member) c.in_err-ranges.ensures.wrong c.from_residual.ensures.0 c.from_residual.ensures.1
 
-pub judge_term-returns-in_ok-ranges-in-Builder-clause-judged : goal.judge_term-returns-in_ok-ranges-in-Builder-clause-judged
-judge_term-returns-in_ok-ranges-in-Builder-clause-judged t c =
-    let ok = c.in_ok-ranges-in-Builder.ensures.ok in
-    builder_holds (scope_of c.args.scope.now) (scope_of c.declare-in-Builder.new.scope) (scope_of c.judge_part-filter.new.scope) (scope_of c.judge_part-member.new.scope) c.args.need c.in-Builder.line c.depth-outside-in-Builder.result c.in-Builder.decls c.as_slice-in-Builder.result.now ok.0 c.in-Builder.filter c.in-Builder.member
-    c.judge_part-filter.result c.judge_part-member.result c.row-row.result (tree_of c.args.term.now) c.in_ok-ranges-in-Builder.ranges c.built.result
-    c.as_slice-in-Builder.ensures (ap tree_of c.in-Builder.is ∙ seen.of-Builder c.in-Builder.line c.in-Builder.decls c.in-Builder.filter c.in-Builder.member)
-    ok.3 c.judge_part-filter.ensures.scope c.judge_part-member.ensures.scope c.depth-outside-in-Builder.ensures ok.1 ok.2 c.judge_part-filter.ensures.judged c.judge_part-member.ensures.judged c.row-row.ensures c.built.ensures
+pub binders::builder-returns-clause-judged : goal.binders::builder-returns-clause-judged
+binders::builder-returns-clause-judged t c =
+    let ok = c.in_ok-ranges.ensures.ok in
+    builder_holds (scope_of c.args.scope.now) (scope_of c.declare.new.scope) (scope_of c.judge_part-filter.new.scope) (scope_of c.judge_part-member.new.scope) c.args.need c.in-Builder.line c.depth-outside.result c.in-Builder.decls c.as_slice.result.now ok.0 c.in-Builder.filter c.in-Builder.member
+    c.judge_part-filter.result c.judge_part-member.result c.row-row.result (tree_of c.args.term.now) c.in_ok-ranges.ranges c.built.result
+    c.as_slice.ensures (ap tree_of c.in-Builder.is ∙ seen.of-Builder c.in-Builder.line c.in-Builder.decls c.in-Builder.filter c.in-Builder.member)
+    ok.3 c.judge_part-filter.ensures.scope c.judge_part-member.ensures.scope c.depth-outside.ensures ok.1 ok.2 c.judge_part-filter.ensures.judged c.judge_part-member.ensures.judged c.row-row.ensures c.built.ensures
 
-pub judge_term-returns-in_ok-ranges-in-Builder-clause-scope : goal.judge_term-returns-in_ok-ranges-in-Builder-clause-scope
-judge_term-returns-in_ok-ranges-in-Builder-clause-scope t c =
-    let ok = c.in_ok-ranges-in-Builder.ensures.ok in
-    c.unbind-in-Builder.ensures (scope_of c.args.scope.now) ok.0 (c.judge_part-member.ensures.scope ∙ c.judge_part-filter.ensures.scope ∙ ok.3) c.depth-outside-in-Builder.ensures
+pub binders::builder-returns-clause-scope : goal.binders::builder-returns-clause-scope
+binders::builder-returns-clause-scope t c =
+    let ok = c.in_ok-ranges.ensures.ok in
+    c.unbind.ensures (scope_of c.args.scope.now) ok.0 (c.judge_part-member.ensures.scope ∙ c.judge_part-filter.ensures.scope ∙ ok.3) c.depth-outside.ensures

@@ -1,4 +1,4 @@
-use Rattle.std.proofs.Common.{◌≡◌, Some, None, refl, sym, ap, ◌∙◌, subst, inl, Err}
+use Rattle.std.proofs.Common.{◌≡◌, Some, None, refl, sym, ap, ◌∙◌, subst, inl, true≢false, Err}
 use Rattle.zf_text.specs.Trees.{named}
 use Rattle.zf_type.specs.declared.fault.Refusal.TheVariants.{Fault}
 use Rattle.zf_type.specs.declared.fault.TypeFaultKind.TheVariants.{NotDeclared}
@@ -7,17 +7,27 @@ use Rattle.zf_type.specs.Resolving.{referent}
 use Rattle.zf_type.specs.Rules.{sort_of}
 use Rattle.zf_type.specs.Scopes.{scope_of, spelling, meant, meaning}
 use Rattle.zf_type.specs.Judging.{Judges}
-use Rattle.zf_type.proofs.Judging.{judges_err, from_memory}
+use Rattle.zf_type.proofs.Judging.{judges_ok, judges_err, from_memory}
 use Rattle.zf_type.proofs.ResolvedSeen.{of-Name}
 use Rattle.zf_type.proofs.judge.named.Goals as goal
 
 pub returns-in_err-reference : goal.returns-in_err-reference
 returns-in_err-reference c = from_memory (scope_of c.args.scope.now) c.args.need (named c.args.name.now) c.from_residual.result c.from_residual.ensures.0 c.from_residual.ensures.1
 
-pub returns-in-Some : goal.returns-in-Some
-returns-in-Some c =
+pub returns-else-not-meets : goal.returns-else-not-meets
+returns-else-not-meets c =
     let found : Some (c.in-Some.reference, sort_of c.in-Some.sort) ≡ meaning (scope_of c.args.scope.now) (spelling c.args.name.now) = sym (ap meant c.in-Some.is) ∙ c.in_ok-reference.ensures in
-    c.placed.ensures (scope_of c.args.scope.now) (named c.args.name.now) (c.in-Some.reference, sym found) (of-Name c.args.name.now.line c.in-Some.reference ∙ ap (λ o. reference c.args.name.now.line (referent o)) found)
+    judges_ok (scope_of c.args.scope.now) c.args.need (named c.args.name.now) _ (record {
+      is_of = (c.in-Some.reference, sym found);
+      met = c.meets.ensures.0 c.if-not-meets.false;
+      term = of-Name c.args.name.now.line c.in-Some.reference ∙ ap (λ o. reference c.args.name.now.line (referent o)) found;
+    })
+
+pub returns-then-not-meets : goal.returns-then-not-meets
+returns-then-not-meets c =
+    let s = scope_of c.args.scope.now in
+    let found : Some (c.in-Some.reference, sort_of c.in-Some.sort) ≡ meaning s (spelling c.args.name.now) = sym (ap meant c.in-Some.is) ∙ c.in_ok-reference.ensures in
+    judges_err s c.args.need (named c.args.name.now) c.misplaced.result (c.misplaced.ensures s (named c.args.name.now) (c.in-Some.reference, sym found) (λ m. true≢false (sym (c.meets.ensures.1 m) ∙ c.if-not-meets.true)) refl)
 
 pub returns-in-None : goal.returns-in-None
 returns-in-None c =

@@ -8,7 +8,7 @@ use Rattle.zf_type.proofs.type_text.+append.Goals.{append_parts-then-i-gt0+in_ok
 pub append_type-returns-in_ok-extend_from_slice-in-Power : goal.append_type-returns-in_ok-extend_from_slice-in-Power
 append_type-returns-in_ok-extend_from_slice-in-Power t c =
     both_written c.append_type.result _ _ _ (codes "\\power ") _ _ c.in_ok-extend_from_slice-in-Power.ensures.items c.append_type.ensures
-    (of_power c.args.ztype.now _ c.in-Power.is ∙ ap (λ m. codes "\\power " ++ type_text (type_of m)) (sym c.get-in-Power.ensures))
+    (of_power c.args.ztype.now _ c.in-Power.is ∙ ap (λ m. codes "\\power " ++ type_text (type_of m)) (sym c.get.ensures))
 
 pub append_type-returns-in_ok-append_parts-in-Product : goal.append_type-returns-in_ok-append_parts-in-Product
 append_type-returns-in_ok-append_parts-in-Product t c =

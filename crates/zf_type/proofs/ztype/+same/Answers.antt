@@ -27,13 +27,11 @@ same_all-loop-i-preserved t c =
 pub ZType::same-returns-in-Basic-Basic : goal.ZType::same-returns-in-Basic-Basic
 ZType::same-returns-in-Basic-Basic t c =
     let h = same_basics c.in-Basic-Basic.name c.in-Basic-Basic.other c.args.self.now c.args.other.now c.in-Basic-Basic.is-0 c.in-Basic-Basic.is-1 in
-    let l = c.get.ensures in
-    let r = c.get-in-Basic-Basic.ensures in
-    (λ b. h.1 (sym l ∙ c.same.ensures.0 b ∙ r), λ e. c.same.ensures.1 (l ∙ h.0 e ∙ sym r))
+    (λ b. h.1 (c.same.ensures.0 b), λ e. c.same.ensures.1 (h.0 e))
 
 pub ZType::same-returns-in-Power-Power : goal.ZType::same-returns-in-Power-Power
 ZType::same-returns-in-Power-Power t c =
     let h = same_powers c.in-Power-Power.member c.in-Power-Power.other c.args.self.now c.args.other.now c.in-Power-Power.is-0 c.in-Power-Power.is-1 in
-    let l = ap type_of c.get-in-Power-Power.ensures in
-    let r = ap type_of c.get-in-Power-Power-2.ensures in
+    let l = ap type_of c.get.ensures in
+    let r = ap type_of c.get-in-Power-Power.ensures in
     (λ b. h.1 (sym l ∙ c.same-in-Power-Power.ensures.0 b ∙ r), λ e. c.same-in-Power-Power.ensures.1 (l ∙ h.0 e ∙ sym r))

@@ -12,7 +12,7 @@ use Rattle.zf_type.specs.Rules.{IsSmall, typed}
 use Rattle.zf_type.specs.Scopes.{within}
 use Rattle.zf_type.specs.Types.{power, type_of}
 use Rattle.zf_type.specs.Typing.{row_type}
-use Rattle.zf_type.proofs.Judging.{from_memory, from_fault, if_fault, judges_err}
+use Rattle.zf_type.proofs.Judging.{from_memory, from_fault, if_fault, judges_ok, judges_err}
 use Rattle.zf_type.proofs.Quantified.{part_fault, part_of_judged, part_constrains}
 use Rattle.zf_type.proofs.ResolvedAlike.{part_within}
 use Rattle.zf_type.proofs.ResolvedSeen.{of-Builder}
@@ -63,6 +63,19 @@ returns-then-not-is_small c = λ s ds vs p e binds ranges hp he hr.
     subst (λ r. Judges s c.args.place.need whole (Err r)) (sym c.refused.ensures)
     (judges_err s c.args.place.need whole (Fault (record { kind = TooLarge; line = c.args.place.line })) (inr (inr (inl (vs, binds, inr (inr (u, shape.1, large, refl, refl)))))))
 
+pub returns-then-not-meets : goal.returns-then-not-meets
+returns-then-not-meets c = λ s ds vs p e binds same hp he hr.
+    let whole = tree.builder c.args.place.line ds p e in
+    let filter = part_of_judged (within s vs) need.Predicate p c.in_ok-condition.condition (subst (λ r. JudgesPart (within s vs) need.Predicate p r) c.in_ok-condition.was hp) in
+    let element = part_of_judged (within s vs) need.Expression e c.in_ok-element.element (subst (λ r. JudgesPart (within s vs) need.Expression e r) c.in_ok-element.was he) in
+    let row = subst (λ r. IfOk r (λ t. type_of t ≡ row_type vs)) c.in_ok-rows.was hr in
+    let shape = c.in_ok-shape.ensures (within s vs) vs e element row in
+    let u = type_of c.in_ok-shape.shape.ztype in
+    let small : IsSmall (power u) = subst IsSmall c.in_ok-set.ensures (c.is_small.ensures.0 c.if-not-is_small.false) in
+    judges_err s c.args.place.need whole c.misplaced.result (c.misplaced.ensures s whole
+    (vs, u, binds.0, binds.1, part_constrains (within s vs) p c.in_ok-condition.condition filter, shape.1, small, ap typed c.in_ok-set.ensures)
+    (λ m. true≢false (sym (c.meets.ensures.1 m) ∙ c.if-not-meets.true)) refl)
+
 pub returns : goal.returns
 returns c = λ s ds vs p e binds same hp he hr.
     let l = c.args.place.line in
@@ -72,9 +85,11 @@ returns c = λ s ds vs p e binds same hp he hr.
     let shape = c.in_ok-shape.ensures (within s vs) vs e element row in
     let u = type_of c.in_ok-shape.shape.ztype in
     let small : IsSmall (power u) = subst IsSmall c.in_ok-set.ensures (c.is_small.ensures.0 c.if-not-is_small.false) in
-    c.placed.ensures s (tree.builder l ds p e)
-    (vs, u, binds.0, binds.1, part_constrains (within s vs) p c.in_ok-condition.condition filter, shape.1, small, ap typed c.in_ok-set.ensures)
-    (of-Builder l c.args.ranges c.in_ok-condition_term.condition_term c.in_ok-shape.shape.term
-    ∙ ap (λ rs. builder l rs (part_of c.in_ok-condition_term.condition_term) (part_of c.in_ok-shape.shape.term)) same
-    ∙ ap (λ t. builder l (resolved_ranges s ds) t (part_of c.in_ok-shape.shape.term)) (c.in_ok-condition_term.ensures (within s vs) need.Predicate p filter ∙ sym (part_within s ds vs p binds.1))
-    ∙ ap (λ t. builder l (resolved_ranges s ds) (resolved_part (bound s ds) p) t) (shape.0 ∙ sym (part_within s ds vs e binds.1)))
+    judges_ok s c.args.place.need (tree.builder l ds p e) _ (record {
+      is_of = (vs, u, binds.0, binds.1, part_constrains (within s vs) p c.in_ok-condition.condition filter, shape.1, small, ap typed c.in_ok-set.ensures);
+      met = c.meets.ensures.0 c.if-not-meets.false;
+      term = of-Builder l c.args.ranges c.in_ok-condition_term.condition_term c.in_ok-shape.shape.term
+          ∙ ap (λ rs. builder l rs (part_of c.in_ok-condition_term.condition_term) (part_of c.in_ok-shape.shape.term)) same
+          ∙ ap (λ t. builder l (resolved_ranges s ds) t (part_of c.in_ok-shape.shape.term)) (c.in_ok-condition_term.ensures (within s vs) need.Predicate p filter ∙ sym (part_within s ds vs p binds.1))
+          ∙ ap (λ t. builder l (resolved_ranges s ds) (resolved_part (bound s ds) p) t) (shape.0 ∙ sym (part_within s ds vs e binds.1));
+    })

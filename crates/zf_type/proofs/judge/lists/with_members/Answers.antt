@@ -8,8 +8,9 @@ use Rattle.zf_type.specs.Offences.{Offends}
 use Rattle.zf_type.specs.Judging.{Judges, DiffersAt, listed_tree}
 use Rattle.zf_type.specs.ResolvedTrees.{listed, terms, resolved_of}
 use Rattle.zf_type.specs.Rules.{IsSmall}
+use Rattle.zf_type.specs.Shapes.{line_of}
 use Rattle.zf_type.specs.Types.{types, type_of}
-use Rattle.zf_type.proofs.Judging.{judges_err, if_fault, from_fault}
+use Rattle.zf_type.proofs.Judging.{judges_ok, judges_err, if_fault, from_fault}
 use Rattle.zf_type.proofs.Members.{list_differs, list_is, list_large, list_resolved}
 use Rattle.zf_type.proofs.ResolvedSeen.{of-Listed}
 use Rattle.zf_type.proofs.judge.lists.with_members.Goals as goal
@@ -34,8 +35,15 @@ returns-then-not-is_small c = λ s es h.
     (judges_err s c.args.place.need (listed_tree c.args.form c.args.place.line es) (Fault (record { kind = TooLarge; line = c.args.place.line }))
     (list_large c.args.form s c.args.place.need c.args.place.line es (types (map type_of c.args.members.types)) (type_of c.in_ok-ztype.ztype) h.are_of made large))
 
+pub returns-then-not-meets : goal.returns-then-not-meets
+returns-then-not-meets c = λ s es h.
+    let whole = listed_tree c.args.form c.args.place.line es in
+    judges_err s c.args.place.need whole c.misplaced.result (c.misplaced.ensures s whole (list_is c.args.form s c.args.place.line es (types (map type_of c.args.members.types)) (type_of c.in_ok-ztype.ztype) h.are_of c.in_ok-ztype.ensures.ok (c.is_small.ensures.0 c.if-not-is_small.false)) (λ m. true≢false (sym (c.meets.ensures.1 m) ∙ c.if-not-meets.true)) (ap line_of (list_resolved c.args.form s c.args.place.line es)))
+
 pub returns : goal.returns
 returns c = λ s es h.
-    c.placed.ensures s (listed_tree c.args.form c.args.place.line es)
-    (list_is c.args.form s c.args.place.line es (types (map type_of c.args.members.types)) (type_of c.in_ok-ztype.ztype) h.are_of c.in_ok-ztype.ensures.ok (c.is_small.ensures.0 c.if-not-is_small.false))
-    (of-Listed c.args.place.line c.args.form c.args.members.terms ∙ ap (listed c.args.place.line c.args.form) h.terms ∙ sym (list_resolved c.args.form s c.args.place.line es))
+    judges_ok s c.args.place.need (listed_tree c.args.form c.args.place.line es) _ (record {
+      is_of = list_is c.args.form s c.args.place.line es (types (map type_of c.args.members.types)) (type_of c.in_ok-ztype.ztype) h.are_of c.in_ok-ztype.ensures.ok (c.is_small.ensures.0 c.if-not-is_small.false);
+      met = c.meets.ensures.0 c.if-not-meets.false;
+      term = of-Listed c.args.place.line c.args.form c.args.members.terms ∙ ap (listed c.args.place.line c.args.form) h.terms ∙ sym (list_resolved c.args.form s c.args.place.line es);
+    })

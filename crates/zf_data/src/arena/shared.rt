@@ -1,0 +1,52 @@
+//! Values with several owners, in an arena.
+ghost use Rattle.std.specs.Prelude.{◌≡◌, IfOk};
+
+use bumpalo::Bump;
+use std::alloc::AllocError;
+use std::marker::Model;
+use std::mem::ManuallyDrop;
+use std::rc::Rc;
+
+/// An `Rc` in an arena that contracts see as the value in it.
+#[derive(Drop)]
+pub struct Shared<'a, T> {
+    pub inner: ManuallyDrop<Rc<T, &'a Bump>>,
+}
+
+impl<'a, T> Model for Shared<'a, T> {
+    ghost use Rattle.std.specs.Mem.{manually_drop_value};
+
+    ghost Value = { T };
+
+    ghost coded = { T.code };
+
+    ghost view = { λ s. (manually_drop_value s.inner).value };
+}
+
+impl<'a, T> Shared<'a, T> {
+    pub fn get(&self) -> &T
+        ensures { result.now ≡ self.now }
+    {
+        self.inner.as_ref()
+    }
+}
+
+impl<'a, T: Drop> Shared<'a, T> {
+    pub fn new(arena: &'a Bump, value: T) -> Result<Shared<'a, T>, AllocError>
+        ensures { IfOk result (λ s. s ≡ value) }
+    {
+        Ok(Shared {
+            inner: ManuallyDrop::new(Rc::new(arena, value)?),
+        })
+    }
+
+    /// One more owner of the value, which is not copied.
+    pub fn share(&self) -> Result<Shared<'a, T>, AllocError>
+        ensures { IfOk result (λ s. s ≡ self.now) }
+    {
+        let owner: &Rc<T, &'a Bump> = &self.inner;
+        Ok(Shared {
+            inner: ManuallyDrop::new(owner.clone()?),
+        })
+    }
+}
