@@ -20,9 +20,11 @@ use zf_text::reading::read_spec;
 use zf_text::tree::Spec;
 use zf_type::fault::TypeFault;
 
-/// What a source defines, and its faults of types.
+/// What a source defines, and its faults of types. Its trees stand in an arena of their own, which asks for its room while the
+/// symbols of the source still have theirs: what is made of the trees gets the room of the symbols.
 pub fn checked_in<'a>(
     alloc: Global,
+    trees: &'a Bump,
     arena: &'a Bump,
     file: &[u8],
     source: &'a [u8],
@@ -30,7 +32,7 @@ pub fn checked_in<'a>(
     ensures checks { IfOk result (λ c. Checks source.now (globals_of c.globals) c.faults) }
     ensures stop { IfErr result (λ s. IfAnswered s (UnreadAnswer file.now source.now)) }
 {
-    let spec = spec_in(alloc, arena, file, source)?;
+    let spec = spec_in(alloc, trees, file, source)?;
     let checked = check_spec(alloc, arena, &spec)?;
     Ok(checked)
 }

@@ -61,8 +61,9 @@ fn checked_text(
     ensures answer { IfOk result (λ p. Answer (Check types) file.now source.now p.0.items p.1) }
     ensures stop { IfErr result (λ s. IfAnswered s (Answer (Check types) file.now source.now)) }
 {
+    let trees = Bump::new(alloc);
     let arena = Bump::new(alloc);
-    let checked = checked_in(alloc, &arena, file, source)?;
+    let checked = checked_in(alloc, &trees, &arena, file, source)?;
     Ok(check_answer(alloc, types, file, &checked)?)
 }
 
@@ -78,8 +79,9 @@ fn prepare_show(
     ensures within { IfOk result (λ r. All (IsWithin (length r.ranges.items)) r.simple.tests) }
     ensures stop { IfErr result (λ s. IfAnswered s (Answer (Show name.now sizes.now) file.now source.now)) }
 {
+    let trees = Bump::new(alloc);
     let arena = Bump::new(alloc);
-    let globals = typed_in(alloc, &arena, file, source)?;
+    let globals = typed_in(alloc, &trees, &arena, file, source)?;
     prepare_over(alloc, &arena, name, sizes, file, &globals)
 }
 
@@ -110,6 +112,7 @@ fn prepare_over<'a>(
 /// What a source that is well typed defines.
 fn typed_in<'a>(
     alloc: Global,
+    trees: &'a Bump,
     arena: &'a Bump,
     file: &[u8],
     source: &'a [u8],
@@ -117,7 +120,7 @@ fn typed_in<'a>(
     ensures checks { IfOk result (λ g. Checks source.now (globals_of g) []) }
     ensures stop { IfErr result (AnswersShow file.now source.now) }
 {
-    let checked = checked_in(alloc, arena, file, source)?;
+    let checked = checked_in(alloc, trees, arena, file, source)?;
     if !checked.faults.as_slice().is_empty() {
         let lines = fault_lines(alloc, file, checked.faults.as_slice())?;
         return Err(Stop::Answered(lines, Status::BadSpec));

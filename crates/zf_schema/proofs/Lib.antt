@@ -12,6 +12,7 @@ pub mod Once
 pub mod Unchanged
 pub mod Globals
 pub mod Counting
+pub mod Low
 pub mod Merging
 pub mod Placing
 pub mod Monotony

@@ -120,7 +120,7 @@ fn membership<'a>(
             right,
         },
     )?;
-    Ok(Resolved::Chain(first, left, links))
+    Ok(Resolved::Chain(first, left, Boxed::new(arena, links)?))
 }
 
 /// Joined to the left by `\land`.

@@ -10,14 +10,14 @@ ghost use Rattle.zf_schema.specs.Limits.{IsWithin};
 ghost use Rattle.zf_schema.specs.SchemaOffences.{Stops};
 
 use crate::components::{agree, agrees, join, join_all};
-use crate::limits::{COMPONENTS_MAX, CONJUNCTS_MAX, HEIGHT_MAX, NODES_MAX, SETS_MAX};
+use crate::limits::{COMPONENTS_MAX, CONJUNCTS_MAX, NODES_MAX, SETS_MAX};
 use crate::room::{
-    after_all_nodes, after_all_sets, after_conjuncts, after_nodes, after_sets, are_low,
+    after_all_nodes, after_all_sets, after_conjuncts, after_nodes, after_sets, are_low, is_low,
 };
 use crate::stop::Stop;
 use bumpalo::Bump;
 use std::alloc::AllocError;
-use zf_data::arena::{Boxed, Items, Shared};
+use zf_data::arena::{Boxed, Items, Lasting};
 use zf_text::token::Relation;
 use zf_type::conjunct::Conjunct;
 use zf_type::globals::{Component, Flat};
@@ -57,12 +57,12 @@ impl<'a> Growing<'a> {
         if flat.conjuncts.len() > CONJUNCTS_MAX {
             return None;
         }
-        if !are_low(flat.conjuncts.as_slice()) {
-            return None;
-        }
         let sets_left = after_all_sets(flat.components.as_slice(), SETS_MAX)?;
         let behind_sets = after_all_nodes(flat.components.as_slice(), NODES_MAX)?;
         let nodes_left = after_conjuncts(flat.conjuncts.as_slice(), behind_sets)?;
+        if !are_low(flat.conjuncts.as_slice(), behind_sets - nodes_left) {
+            return None;
+        }
         Some(Growing {
             flat,
             sets_left,
@@ -116,7 +116,7 @@ impl<'a> Growing<'a> {
         if self.flat.conjuncts.len() >= CONJUNCTS_MAX {
             return Err(Stop::TooLarge);
         }
-        if !conjunct.is_within(HEIGHT_MAX) {
+        if !is_low(&conjunct, self.nodes_left - nodes_left) {
             return Err(Stop::TooLarge);
         }
         self.flat.conjuncts.push(conjunct)?;
@@ -147,7 +147,7 @@ impl<'a> Growing<'a> {
         &mut self,
         arena: &'a Bump,
         other: Growing<'a>,
-    ) -> Result<Shared<'a, Items<'a, usize>>, Stop>
+    ) -> Result<Lasting<'a, Items<'a, usize>>, Stop>
         requires before { IsGrowing self.old }
         requires further { IsGrowing other }
         ensures ok { OnOk result (IsNext (conjoined (schema_of self.old.flat) (schema_of other.entry.flat)) (schema_of self.new.flat)) }
@@ -164,7 +164,7 @@ impl<'a> Growing<'a> {
             conjuncts,
         } = other.flat;
         let places = join_all(&mut self.flat.components, arena, components)?;
-        let places = Shared::new(arena, places)?;
+        let places = Lasting::new(arena, places)?;
         take_moved(&mut self.flat.conjuncts, arena, conjuncts, &places)?;
         self.sets_left = left.0;
         self.nodes_left = left.1;
@@ -211,14 +211,14 @@ fn take_moved<'a>(
     conjuncts: &mut Items<'a, Conjunct<'a>>,
     arena: &'a Bump,
     further: Items<'a, Conjunct<'a>>,
-    places: &Shared<'a, Items<'a, usize>>,
+    places: &Lasting<'a, Items<'a, usize>>,
 ) -> Result<(), AllocError>
     ensures { OnOk result (map conjunct_of conjuncts.new ≡ map conjunct_of conjuncts.old ++ map (moved (place_in places.now)) (map conjunct_of further.entry)) }
 {
     if are_own(places.get().as_slice()) {
         return take_all(conjuncts, further);
     }
-    let numbering = Some(places.share()?);
+    let numbering = Some(places.share());
     take_numbered(conjuncts, arena, further, &numbering)
 }
 
@@ -227,7 +227,7 @@ fn take_numbered<'a>(
     conjuncts: &mut Items<'a, Conjunct<'a>>,
     arena: &'a Bump,
     further: Items<'a, Conjunct<'a>>,
-    places: &Option<Shared<'a, Items<'a, usize>>>,
+    places: &Option<Lasting<'a, Items<'a, usize>>>,
 ) -> Result<(), AllocError>
     ensures { OnOk result (map conjunct_of conjuncts.new ≡ map conjunct_of conjuncts.old ++ map (moved (numbering places.now)) (map conjunct_of further.entry)) }
 {
@@ -278,5 +278,8 @@ fn equality<'a>(
             right,
         },
     )?;
-    Conjunct::of(arena, Resolved::Chain(line, left, links))
+    Conjunct::of(
+        arena,
+        Resolved::Chain(line, left, Boxed::new(arena, links)?),
+    )
 }

@@ -13,7 +13,7 @@ use crate::growing::Growing;
 use crate::stop::Stop;
 use bumpalo::Bump;
 use std::alloc::AllocError;
-use zf_data::arena::{Items, Lent, Shared};
+use zf_data::arena::{Items, Lasting, Lent};
 use zf_text::tree::RefMark;
 use zf_type::conjunct::Conjunct;
 use zf_type::globals::{Component, Flat};
@@ -53,7 +53,7 @@ fn no_change<'a>(arena: &'a Bump, line: u32, flat: &Flat<'a>) -> Result<Growing<
 fn change<'a>(
     arena: &'a Bump,
     flat: &Flat<'a>,
-) -> Result<(Growing<'a>, Shared<'a, Items<'a, usize>>), Stop>
+) -> Result<(Growing<'a>, Lasting<'a, Items<'a, usize>>), Stop>
     ensures agree { IfOk result (λ p. Agree (schema_of flat.now).comps (decorated prime (schema_of flat.now)).comps) }
     ensures ok { IfOk result (λ p. IsNext (delta (schema_of flat.now)) (schema_of p.0.flat)) }
     ensures growing { IfOk result (λ p. IsGrowing p.0) }
@@ -159,7 +159,7 @@ fn decorated_component<'a>(
 ) -> Result<Component<'a>, AllocError>
     ensures { IfOk result (λ c. comp_of c ≡ comp (component.now.name ++ strokes.now) (comp_of component.now).type (comp_of component.now).sets) }
 {
-    let name = Lent::joined(arena, component.name.as_slice(), strokes)?;
+    let name = stroked(arena, &component.name, strokes)?;
     let ztype = component.ztype.share()?;
     let domains = component.domains.share()?;
     Ok(Component {
@@ -167,6 +167,16 @@ fn decorated_component<'a>(
         ztype,
         domains,
     })
+}
+
+/// A name with strokes at its end. Where there are none, it is not copied.
+fn stroked<'a>(arena: &'a Bump, name: &Lent<'a>, strokes: &[u8]) -> Result<Lent<'a>, AllocError>
+    ensures { IfOk result (λ t. t ≡ name.now ++ strokes.now) }
+{
+    if strokes.is_empty() {
+        return Ok(name.share());
+    }
+    Lent::joined(arena, name.as_slice(), strokes)
 }
 
 /// The same conjuncts.
@@ -178,7 +188,7 @@ fn shared<'a>(
 {
     let mut same = Items::with_room(arena, conjuncts.len())?;
     for conjunct in conjuncts {
-        same.push(conjunct.share()?)?;
+        same.push(conjunct.share())?;
     }
     Ok(same)
 }

@@ -27,7 +27,6 @@ use zf_type::globals::{Entry, Globals};
 use zf_type::infinite::extent_of;
 use zf_type::judge::judge;
 use zf_type::operator::Need;
-use zf_type::scope::spelled;
 
 /// Defines what the paragraph does, or leaves the globals as they were. Keeps the number of the next given set or free type.
 pub fn define<'a>(
@@ -78,7 +77,7 @@ pub fn define_box<'a>(
     ensures kept { OnErr result (globals_of globals.new ≡ globals_of globals.old) }
     ensures numbered { next_number (globals_of globals.new) ≡ next_number (globals_of globals.old) }
 {
-    let spelled = new_name(arena, globals, name)?;
+    let spelled = new_name(globals, name)?;
     let schema = text_of(arena, globals, decls, predicates)?;
     globals.define(spelled, Entry::Schema(schema))?;
     Ok(())
@@ -98,19 +97,14 @@ fn add<'a>(
     ensures begun { take (length (globals_of globals.old)) (globals_of globals.new) ≡ globals_of globals.old }
 {
     match paragraph {
-        Paragraph::Given(names) => add_given(arena, globals, next, names.as_slice()),
+        Paragraph::Given(names) => add_given(globals, next, names.as_slice()),
         Paragraph::Free(name, names) => add_free(arena, globals, next, name, names.as_slice()),
         Paragraph::Abbrev(name, term) => add_abbreviation(arena, globals, name, term),
         Paragraph::Defs(name, exp) => add_schema(arena, globals, name, exp),
     }
 }
 
-fn add_given<'a>(
-    arena: &'a Bump,
-    globals: &mut Globals<'a>,
-    first: usize,
-    names: &[Name<'a>],
-) -> Result<(), Refusal>
+fn add_given<'a>(globals: &mut Globals<'a>, first: usize, names: &[Name<'a>]) -> Result<(), Refusal>
     requires number { first ≡ next_number (globals_of globals.old) }
     requires small { first < 2 ^ 63 }
     ensures ok { OnOk result (Gives (globals_of globals.old) names.now (globals_of globals.new)) }
@@ -118,7 +112,7 @@ fn add_given<'a>(
     ensures begun { take (length (globals_of globals.old)) (globals_of globals.new) ≡ globals_of globals.old }
 {
     for (place, name) in names.iter().enumerate() {
-        add_name(arena, globals, name, Entry::Given(first + place))?;
+        add_name(globals, name, Entry::Given(first + place))?;
     }
     Ok(())
 }
@@ -136,12 +130,11 @@ fn add_free<'a>(
     ensures begun { take (length (globals_of globals.old)) (globals_of globals.new) ≡ globals_of globals.old }
 {
     let constructors = all_spelled(arena, names)?;
-    add_name(arena, globals, name, Entry::Free(number, constructors))?;
-    add_constructors(arena, globals, number, name, names)
+    add_name(globals, name, Entry::Free(number, constructors))?;
+    add_constructors(globals, number, name, names)
 }
 
 fn add_constructors<'a>(
-    arena: &'a Bump,
     globals: &mut Globals<'a>,
     number: usize,
     of_type: &Name<'a>,
@@ -151,10 +144,10 @@ fn add_constructors<'a>(
     ensures fault { IfErr result (λ e. IfFault e (λ kind line. OffendsConstructors (globals_of globals.old) number (spelling of_type.now) 0 names.now kind line)) }
     ensures begun { take (length (globals_of globals.old)) (globals_of globals.new) ≡ globals_of globals.old }
 {
-    let type_name = spelled(arena, of_type)?;
+    let type_name = of_type.spelled();
     for (place, name) in names.iter().enumerate() {
         let entry = Entry::Constructor(number, type_name.share(), place);
-        add_name(arena, globals, name, entry)?;
+        add_name(globals, name, entry)?;
     }
     Ok(())
 }
@@ -169,7 +162,7 @@ fn add_abbreviation<'a>(
     ensures fault { IfErr result (λ e. IfFault e (λ kind line. OffendsParagraph (globals_of globals.old) (text.abbreviation name.now (tree_of term.now)) kind line)) }
     ensures begun { take (length (globals_of globals.old)) (globals_of globals.new) ≡ globals_of globals.old }
 {
-    let spelled = new_name(arena, globals, name)?;
+    let spelled = new_name(globals, name)?;
     let entry = abbreviation_of(arena, globals, term)?;
     globals.define(spelled, entry)?;
     Ok(())
@@ -185,40 +178,31 @@ fn add_schema<'a>(
     ensures fault { IfErr result (λ e. IfFault e (λ kind line. OffendsParagraph (globals_of globals.old) (text.definition name.now (text.schema_of exp.now)) kind line)) }
     ensures begun { take (length (globals_of globals.old)) (globals_of globals.new) ≡ globals_of globals.old }
 {
-    let spelled = new_name(arena, globals, name)?;
+    let spelled = new_name(globals, name)?;
     let schema = schema_of_expression(exp, arena, globals)?;
     globals.define(spelled, Entry::Schema(schema))?;
     Ok(())
 }
 
 /// Defines one name.
-fn add_name<'a>(
-    arena: &'a Bump,
-    globals: &mut Globals<'a>,
-    name: &Name<'a>,
-    entry: Entry<'a>,
-) -> Result<(), Refusal>
+fn add_name<'a>(globals: &mut Globals<'a>, name: &Name<'a>, entry: Entry<'a>) -> Result<(), Refusal>
     ensures new { OnOk result (IsNew (globals_of globals.old) name.now) }
     ensures ok { OnOk result (globals_of globals.new ≡ with_global (globals_of globals.old) name.now (definition_of entry.entry)) }
     ensures fault { IfErr result (λ e. IfFault e (λ kind line. IsTaken (globals_of globals.old) name.now kind line)) }
     ensures kept { OnErr result (globals_of globals.new ≡ globals_of globals.old) }
 {
-    let spelled = new_name(arena, globals, name)?;
+    let spelled = new_name(globals, name)?;
     globals.define(spelled, entry)?;
     Ok(())
 }
 
 /// The name as spelled, if no global has it.
-fn new_name<'a>(
-    arena: &'a Bump,
-    globals: &Globals<'a>,
-    name: &Name<'a>,
-) -> Result<Lent<'a>, Refusal>
+fn new_name<'a>(globals: &Globals<'a>, name: &Name<'a>) -> Result<Lent<'a>, Refusal>
     ensures ok { IfOk result (λ t. t ≡ spelling name.now) }
     ensures new { OnOk result (IsNew (globals_of globals.now) name.now) }
     ensures fault { IfErr result (λ e. IfFault e (λ kind line. IsTaken (globals_of globals.now) name.now kind line)) }
 {
-    let spelled = spelled(arena, name)?;
+    let spelled = name.spelled();
     if !globals.is_new(spelled.as_slice()) {
         return Err(refused(TypeFaultKind::AlreadyDefined, name.line));
     }
@@ -230,7 +214,7 @@ fn all_spelled<'a>(arena: &'a Bump, names: &[Name<'a>]) -> Result<Items<'a, Lent
 {
     let mut all = Items::new(arena);
     for name in names {
-        all.push(spelled(arena, name)?)?;
+        all.push(name.spelled())?;
     }
     Ok(all)
 }

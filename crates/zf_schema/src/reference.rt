@@ -40,12 +40,12 @@ pub fn referred<'a>(
     ensures fault { IfErr result (λ e. IfFault e (OffendsRef (globals_of globals.now) reference.now)) }
 {
     let name = &reference.name;
-    let flat = match schema_named(globals, name.base.as_slice()) {
+    let flat = match schema_named(globals, name.base()) {
         Ok(flat) => flat,
         Err(kind) => return Err(refused(kind, name.line)),
     };
     match marked(arena, reference.mark, name.line, flat) {
-        Ok(growing) => Ok(decorate_own(arena, name.strokes.as_slice(), growing)?),
+        Ok(growing) => Ok(decorate_own(arena, name.strokes(), growing)?),
         Err(stop) => Err(stop.refusal(name.line)),
     }
 }

@@ -66,10 +66,25 @@ pub fn after_conjuncts(conjuncts: &[Conjunct<'_>], room: usize) -> Option<usize>
     Some(left)
 }
 
-/// Whether no conjunct is too high.
-pub fn are_low(conjuncts: &[Conjunct<'_>]) -> bool
+/// Whether a conjunct of so many nodes is not too high. None is higher than it has nodes, so few are looked at.
+pub fn is_low(conjunct: &Conjunct<'_>, count: usize) -> bool
+    requires { count ≡ nodes (conjunct_of conjunct.now) }
+    ensures { IsTrue result ↔ IsLow (conjunct_of conjunct.now) }
+{
+    if count <= HEIGHT_MAX {
+        return true;
+    }
+    conjunct.is_within(HEIGHT_MAX)
+}
+
+/// Whether none of the conjuncts, which have so many nodes, is too high.
+pub fn are_low(conjuncts: &[Conjunct<'_>], count: usize) -> bool
+    requires { count ≡ sum_by nodes (map conjunct_of conjuncts.now) }
     ensures { IsTrue result ↔ AllByRecursion IsLow (map conjunct_of conjuncts.now) }
 {
+    if count <= HEIGHT_MAX {
+        return true;
+    }
     for conjunct in conjuncts {
         if !conjunct.is_within(HEIGHT_MAX) {
             return false;

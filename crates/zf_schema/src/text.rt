@@ -20,7 +20,7 @@ use crate::growing::Growing;
 use crate::reference::referred;
 use bumpalo::Bump;
 use std::alloc::AllocError;
-use zf_data::arena::{Boxed, Items, Shared};
+use zf_data::arena::{Boxed, Items, Lasting, Shared};
 use zf_text::tree::{Decl, Name, SchemaRef, Term};
 use zf_type::conjunct::Conjunct;
 use zf_type::fault::Refusal;
@@ -28,7 +28,7 @@ use zf_type::globals::{Component, Domain, Flat, Globals};
 use zf_type::judge::{Judged, judge};
 use zf_type::operator::Need;
 use zf_type::resolved::Resolved;
-use zf_type::scope::{Scope, spelled};
+use zf_type::scope::Scope;
 use zf_type::ztype::ZType;
 
 /// The schema of these declarations, and then of these predicates over them.
@@ -114,7 +114,7 @@ fn declare_names<'a>(
     let Some(ztype) = sort.member() else {
         unreachable!();
     };
-    let set = Shared::new(arena, term)?;
+    let set = Lasting::new(arena, term)?;
     add_all(arena, growing, names, ztype, &set)
 }
 
@@ -143,7 +143,7 @@ fn add_all<'a>(
     growing: &mut Growing<'a>,
     names: &[Name<'a>],
     ztype: &ZType<'a>,
-    set: &Shared<'a, Resolved<'a>>,
+    set: &Lasting<'a, Resolved<'a>>,
 ) -> Result<(), Refusal>
     requires { IsGrowing growing.old }
     ensures ok { OnOk result (AddsAll (schema_of growing.old.flat) names.now (type_of ztype.now) (plain (resolved_of set.now)) (schema_of growing.new.flat)) }
@@ -162,7 +162,7 @@ fn add<'a>(
     growing: &mut Growing<'a>,
     name: &Name<'a>,
     ztype: &ZType<'a>,
-    set: &Shared<'a, Resolved<'a>>,
+    set: &Lasting<'a, Resolved<'a>>,
 ) -> Result<(), Refusal>
     requires { IsGrowing growing.old }
     ensures ok { OnOk result (Adds (schema_of growing.old.flat) (comp (spelling name.now) (type_of ztype.now) (plain (resolved_of set.now) ∷ [])) (schema_of growing.new.flat)) }
@@ -182,13 +182,13 @@ fn declared<'a>(
     arena: &'a Bump,
     name: &Name<'a>,
     ztype: &ZType<'a>,
-    set: &Shared<'a, Resolved<'a>>,
+    set: &Lasting<'a, Resolved<'a>>,
 ) -> Result<Component<'a>, AllocError>
     ensures { IfOk result (λ c. comp_of c ≡ comp (spelling name.now) (type_of ztype.now) (plain (resolved_of set.now) ∷ [])) }
 {
-    let name = spelled(arena, name)?;
+    let name = name.spelled();
     let ztype = ztype.share()?;
-    let domains = Items::of(arena, Domain::Plain(set.share()?))?;
+    let domains = Items::of(arena, Domain::Plain(set.share()))?;
     let domains = Shared::new(arena, domains)?;
     Ok(Component {
         name,

@@ -52,7 +52,7 @@ fn test_of(globals: &Globals, count: usize, term: &Resolved) -> Result<Test, Unr
     let Resolved::Chain(line, first, links) = term else {
         return Err(Unread::Form(term.line()));
     };
-    if links.len() != 1 {
+    if links.as_slice().len() != 1 {
         return Err(Unread::Form(*line));
     }
     linked(globals, count, *line, first.get(), &links.as_slice()[0])

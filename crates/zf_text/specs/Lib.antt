@@ -1,6 +1,7 @@
 pub mod Pieces
 pub mod Cuts
 pub mod Separators
+pub mod Names
 pub mod Trees
 pub mod Levels
 pub mod Height

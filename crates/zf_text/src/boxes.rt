@@ -11,7 +11,8 @@ use crate::next::{Mark, Next};
 use crate::paragraphs::ParagraphRule;
 use crate::tree::ZBox;
 use bumpalo::Bump;
-use zf_data::arena::Items;
+use std::alloc::Global;
+use zf_data::Items;
 
 /// A `zed` box, after its opening.
 #[tactic(auto, unfolding(crate::specs::BoxReading::read_zed))]
@@ -73,14 +74,15 @@ fn one_box<'a>(
 
 /// All boxes.
 fn boxes<'a>(
+    alloc: Global,
     arena: &'a Bump,
     tokens: &mut Cursor<'a, '_>,
     highest: u32,
-) -> Result<Items<'a, ZBox<'a>>, TextFault>
+) -> Result<Items<ZBox<'a>>, TextFault>
     requires { highest ≤ 1000 }
     ensures { Gives (spec.read_boxes highest tokens.old) result tokens.new }
 {
-    let mut boxes = Items::new(arena);
+    let mut boxes = Items::new(alloc);
     for _turn in 0..tokens.left() {
         if tokens.is_done() {
             return Ok(boxes);
@@ -94,14 +96,15 @@ fn boxes<'a>(
 /// All boxes, and nothing after them.
 #[tactic(auto, unfolding(crate::specs::BoxReading::read_all))]
 pub fn all<'a>(
+    alloc: Global,
     arena: &'a Bump,
     tokens: &mut Cursor<'a, '_>,
     highest: u32,
-) -> Result<Items<'a, ZBox<'a>>, TextFault>
+) -> Result<Items<ZBox<'a>>, TextFault>
     requires { highest ≤ 1000 }
     ensures { Gives (spec.read_all highest tokens.old) result tokens.new }
 {
-    let boxes = boxes(arena, tokens, highest)?;
+    let boxes = boxes(alloc, arena, tokens, highest)?;
     if !tokens.is_done() {
         return Err(tokens.unexpected());
     }

@@ -176,8 +176,8 @@ impl<'a, 'b> Cursor<'a, 'b> {
         match self.rest {
             [first, rest @ ..] if matches!(first.next, Next::Name) => {
                 let name = Name {
-                    base: Lent::new(first.base(self.text)),
-                    strokes: Lent::new(first.strokes(self.text)),
+                    spelled: Lent::new(first.spelled(self.text)),
+                    bare: first.amount,
                     line: first.line,
                 };
                 self.rest = rest;
@@ -206,9 +206,10 @@ impl<'a, 'b> Cursor<'a, 'b> {
     {
         match self.rest {
             [first, rest @ ..] if matches!(first.next, Next::BeginSchema) => {
+                let opened = first.opened(self.text);
                 let name = Name {
-                    base: Lent::new(first.opened(self.text)),
-                    strokes: Lent::new(&[]),
+                    spelled: Lent::new(opened),
+                    bare: opened.len(),
                     line: first.line,
                 };
                 self.rest = rest;

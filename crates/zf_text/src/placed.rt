@@ -33,14 +33,14 @@ fn between(text: &[u8], start: usize, stop: usize) -> &[u8]
 }
 
 /// The bytes before a place.
-fn front(text: &[u8], len: usize) -> &[u8]
+pub(crate) fn front(text: &[u8], len: usize) -> &[u8]
     ensures { result.now ≡ take len text.now }
 {
     text.split_at(len.min(text.len())).0
 }
 
 /// The bytes behind a place.
-fn back(text: &[u8], start: usize) -> &[u8]
+pub(crate) fn back(text: &[u8], start: usize) -> &[u8]
     ensures { result.now ≡ drop start text.now }
 {
     text.split_at(start.min(text.len())).1
@@ -48,7 +48,7 @@ fn back(text: &[u8], start: usize) -> &[u8]
 
 impl Placed {
     /// How the symbol is spelled.
-    fn spelled(self, text: &[u8]) -> &[u8]
+    pub fn spelled(self, text: &[u8]) -> &[u8]
         ensures { result.now ≡ spec.between self.start self.stop text.now }
     {
         between(text, self.start, self.stop)

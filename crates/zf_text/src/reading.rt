@@ -70,6 +70,7 @@ const HEIGHT_LIMIT: u32 = 128;
 
 /// The tree that reads the symbols of a text.
 fn parsed<'a>(
+    alloc: Global,
     arena: &'a Bump,
     text: &'a [u8],
     mut symbols: Vec<Placed>,
@@ -78,7 +79,7 @@ fn parsed<'a>(
 {
     reduce(&mut symbols);
     let mut cursor = Cursor::new(text, symbols.as_slice());
-    let boxes = all(arena, &mut cursor, HEIGHT_LIMIT)?;
+    let boxes = all(alloc, arena, &mut cursor, HEIGHT_LIMIT)?;
     Ok(Spec { boxes })
 }
 
@@ -87,7 +88,7 @@ pub fn parse<'a>(alloc: Global, arena: &'a Bump, tokens: &[Token]) -> Result<Spe
     ensures { Parses result tokens.now }
 {
     let Laid { text, symbols } = lay_out(alloc, arena, tokens)?;
-    parsed(arena, into_bump_slice(text), symbols)
+    parsed(alloc, arena, into_bump_slice(text), symbols)
 }
 
 /// The tree of a source: `scan`, and then `parse`.
@@ -99,7 +100,7 @@ pub fn read_spec<'a>(
     ensures { ReadsSpec result source.now }
 {
     let symbols = symbols(alloc, source)?;
-    parsed(arena, source, symbols)
+    parsed(alloc, arena, source, symbols)
 }
 
 /// A law: no tokens are read by two trees.

@@ -1,25 +1,58 @@
 //! The trees of a text.
-ghost use Rattle.std.specs.Prelude.{◌≡◌};
+ghost use Rattle.std.specs.Prelude.{◌≡◌, ◌++◌};
 ghost use Rattle.zf_text.specs.BoxReading as spec;
 
+use crate::placed::{back, front};
 use crate::token::{Arrow, Connective, Constant, Infix, Prefix, Quantifier, Relation};
+use std::marker::Model;
 use zf_data::arena::{Boxed, Items, Lent};
 
 /// A name, and the line where it stands.
 #[derive(Drop)]
 pub struct Name<'a> {
-    pub base: Lent<'a>,
-    /// The strokes, as spelled.
-    pub strokes: Lent<'a>,
+    /// The name with its strokes.
+    pub spelled: Lent<'a>,
+    /// How many of its bytes come before the strokes.
+    pub bare: usize,
     pub line: u32,
 }
 
+impl<'a> Model for Name<'a> {
+    ghost use Rattle.std.specs.Prelude.{take, drop};
+    ghost use Rattle.zf_text.specs.Names as names;
+
+    ghost Value = { names.Name };
+
+    ghost view = { λ n. record { base = take n.bare n.spelled; strokes = drop n.bare n.spelled; line = n.line } };
+}
+
 impl<'a> Name<'a> {
+    /// The name with its strokes, of which nothing is copied.
+    pub fn spelled(&self) -> Lent<'a>
+        ensures { result ≡ self.now.base ++ self.now.strokes }
+    {
+        self.spelled.share()
+    }
+
+    /// The name without its strokes.
+    pub fn base(&self) -> &'a [u8]
+        ensures { result.now ≡ self.now.base }
+    {
+        front(self.spelled.as_slice(), self.bare)
+    }
+
+    /// The strokes, as spelled.
+    pub fn strokes(&self) -> &'a [u8]
+        ensures { result.now ≡ self.now.strokes }
+    {
+        back(self.spelled.as_slice(), self.bare)
+    }
+
     /// Whether the name has no strokes.
     pub fn is_bare(&self) -> bool
         ensures { result ≡ spec.is_bare self.now.strokes }
     {
-        match self.strokes.as_slice() {
+        match self.strokes() {
             [] => true,
             [_, ..] => false,
         }
@@ -36,6 +69,9 @@ pub enum Sign {
 /// A part of a term that may be left out. It stands in a box, since few terms have one.
 pub type Part<'a> = Boxed<'a, Option<Boxed<'a, Term<'a>>>>;
 
+/// The operands of one node. A list stands in a box wherever a term has one, so that every term is small.
+pub type Terms<'a> = Boxed<'a, Items<'a, Boxed<'a, Term<'a>>>>;
+
 /// A term, with the line of its first token. Expressions and predicates share it.
 #[cycle(terms)]
 #[derive(Drop)]
@@ -46,8 +82,8 @@ pub enum Term<'a> {
     /// `\emptyset[E]`
     EmptySet(u32, Boxed<'a, Term<'a>>),
     Bracket(u32, Boxed<'a, Term<'a>>),
-    Tuple(u32, Items<'a, Boxed<'a, Term<'a>>>),
-    Display(u32, Items<'a, Boxed<'a, Term<'a>>>),
+    Tuple(u32, Terms<'a>),
+    Display(u32, Terms<'a>),
     /// A builder: the declarations, the filter, and the term.
     Builder(u32, Boxed<'a, Items<'a, VarDecl<'a>>>, Part<'a>, Part<'a>),
     Prefix(u32, Sign, Boxed<'a, Term<'a>>),
@@ -60,9 +96,9 @@ pub enum Term<'a> {
     Infix(u32, Infix, Boxed<'a, Term<'a>>, Boxed<'a, Term<'a>>),
     Arrow(u32, Arrow, Boxed<'a, Term<'a>>, Boxed<'a, Term<'a>>),
     /// `A \cross B ..`, one node
-    Product(u32, Items<'a, Boxed<'a, Term<'a>>>),
+    Product(u32, Terms<'a>),
     /// A chain of relations: the first operand, and the links.
-    Chain(u32, Boxed<'a, Term<'a>>, Items<'a, Link<'a>>),
+    Chain(u32, Boxed<'a, Term<'a>>, Boxed<'a, Items<'a, Link<'a>>>),
     Not(u32, Boxed<'a, Term<'a>>),
     Connective(u32, Connective, Boxed<'a, Term<'a>>, Boxed<'a, Term<'a>>),
     /// The declarations, the constraint, and the body.
@@ -141,5 +177,5 @@ pub enum ZBox<'a> {
 /// A whole text.
 #[derive(Drop)]
 pub struct Spec<'a> {
-    pub boxes: Items<'a, ZBox<'a>>,
+    pub boxes: zf_data::Items<ZBox<'a>>,
 }

@@ -59,7 +59,7 @@ abbrev mutual
   back (unary l op t) = v.Unary l op (back t)
   back (binary l op a b) = v.Binary l op (back a) (back b)
   back (chain l t ks) = v.Chain l (back t) (links_back ks)
-  back (quantified l q rs p t) = v.Quantified l q (ranges_back rs) (part_back p) (back t)
+  back (quantified l q rs p t) = v.Quantified q l (ranges_back rs) (part_back p) (back t)
 
   all_back : ResolvedTrees → List Resolved
   all_back no_terms = []
@@ -127,10 +127,10 @@ form_again (Resolved-F.Builder l rs (Some p) (Some t)) =
 form_again (Resolved-F.Unary l op e) = ap (v.Unary l op) e.1 ∙ sym (v.rolls-Unary l op e.0)
 form_again (Resolved-F.Binary l op a b) = ap (λ z. v.Binary l op z (back (resolved_of b.0))) a.1 ∙ ap (v.Binary l op a.0) b.1 ∙ sym (v.rolls-Binary l op a.0 b.0)
 form_again (Resolved-F.Chain l e ks) = ap (λ z. v.Chain l z (links_back (links (map resolved_link_of (map (λ e. e.0) ks))))) e.1 ∙ ap (v.Chain l e.0) (links_again ks) ∙ sym (v.rolls-Chain l e.0 (map (λ e. e.0) ks))
-form_again (Resolved-F.Quantified l q rs None t) =
-    ap (λ z. v.Quantified l q z None (back (resolved_of t.0))) (ranges_again rs) ∙ ap (v.Quantified l q (map (λ e. e.0) rs) None) t.1 ∙ sym (v.rolls-Quantified l q (map (λ e. e.0) rs) None t.0)
-form_again (Resolved-F.Quantified l q rs (Some p) t) =
-    ap (λ z. v.Quantified l q z (Some (back (resolved_of p.0))) (back (resolved_of t.0))) (ranges_again rs) ∙ ap (λ u. v.Quantified l q (map (λ e. e.0) rs) (Some u) (back (resolved_of t.0))) p.1 ∙ ap (v.Quantified l q (map (λ e. e.0) rs) (Some p.0)) t.1 ∙ sym (v.rolls-Quantified l q (map (λ e. e.0) rs) (Some p.0) t.0)
+form_again (Resolved-F.Quantified q l rs None t) =
+    ap (λ z. v.Quantified q l z None (back (resolved_of t.0))) (ranges_again rs) ∙ ap (v.Quantified q l (map (λ e. e.0) rs) None) t.1 ∙ sym (v.rolls-Quantified q l (map (λ e. e.0) rs) None t.0)
+form_again (Resolved-F.Quantified q l rs (Some p) t) =
+    ap (λ z. v.Quantified q l z (Some (back (resolved_of p.0))) (back (resolved_of t.0))) (ranges_again rs) ∙ ap (λ u. v.Quantified q l (map (λ e. e.0) rs) (Some u) (back (resolved_of t.0))) p.1 ∙ ap (v.Quantified q l (map (λ e. e.0) rs) (Some p.0)) t.1 ∙ sym (v.rolls-Quantified q l (map (λ e. e.0) rs) (Some p.0) t.0)
 
 again : (t : Resolved) → back (resolved_of t) ≡ t
 again = ind-Resolved IsSame IsSameRange IsSameLink

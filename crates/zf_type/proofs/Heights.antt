@@ -5,8 +5,8 @@ use Rattle.zf_type.specs.declared.resolved.ResolvedLink.{ResolvedLink}
 use Rattle.zf_type.specs.declared.resolved.Range.{Range}
 use Rattle.zf_type.specs.declared.resolved.Resolved.TheVariants as v
 use Rattle.zf_text.specs.declared.token.Quantifier.{Quantifier}
-use Rattle.zf_type.specs.ResolvedTrees.{ResolvedTree, reference, number, constant, empty_set, bracket, listed, builder, unary, binary, chain, quantified, terms, links, ranges, resolved_of, resolved_link_of, range_of, part_of}
-use Rattle.zf_type.specs.Shapes.{height, tallest, tallest_link, tallest_range, part_height}
+use Rattle.zf_type.specs.ResolvedTrees.{ResolvedTree, ResolvedTrees, ResolvedLinks, Ranges, ResolvedPart, reference, number, constant, empty_set, bracket, listed, builder, unary, binary, chain, quantified, no_terms, term, no_links, link, no_ranges, range, absent, present, terms, links, ranges, resolved_of, resolved_link_of, range_of, part_of}
+use Rattle.zf_type.specs.Shapes.{height, tallest, tallest_link, tallest_range, part_height, nodes, all_nodes, link_nodes, range_nodes, part_nodes}
 use Rattle.zf_type.proofs.ResolvedSeen.{of-Builder, of-Quantified, link-seen, range-seen}
 
 -- none is without height
@@ -23,10 +23,41 @@ some_height (binary l op a b) = omega arith
 some_height (chain l t ks) = omega arith
 some_height (quantified l q rs p t) = omega arith
 
+-- none is higher than it has nodes
+mutual
+  pub below_nodes : (t : ResolvedTree) → height t ≤ nodes t
+  below_nodes (reference l r) = omega arith
+  below_nodes (number l v) = omega arith
+  below_nodes (constant l c) = omega arith
+  below_nodes (empty_set l t) = omega (arith, below_nodes t)
+  below_nodes (bracket l t) = below_nodes t
+  below_nodes (listed l form ts) = omega (arith, below_all_nodes ts)
+  below_nodes (builder l rs p t) = omega (arith, below_range_nodes rs, below_part_nodes p, below_part_nodes t)
+  below_nodes (unary l op t) = omega (arith, below_nodes t)
+  below_nodes (binary l op a b) = omega (arith, below_nodes a, below_nodes b)
+  below_nodes (chain l t ks) = omega (arith, below_nodes t, below_link_nodes ks)
+  below_nodes (quantified l q rs p t) = omega (arith, below_range_nodes rs, below_part_nodes p, below_nodes t)
+
+  below_all_nodes : (ts : ResolvedTrees) → tallest ts ≤ all_nodes ts
+  below_all_nodes no_terms = omega arith
+  below_all_nodes (term t ts) = omega (arith, below_nodes t, below_all_nodes ts)
+
+  below_link_nodes : (ks : ResolvedLinks) → tallest_link ks ≤ link_nodes ks
+  below_link_nodes no_links = omega arith
+  below_link_nodes (link r t ks) = omega (arith, below_nodes t, below_link_nodes ks)
+
+  below_range_nodes : (rs : Ranges) → tallest_range rs ≤ range_nodes rs
+  below_range_nodes no_ranges = omega arith
+  below_range_nodes (range n t rs) = omega (arith, below_nodes t, below_range_nodes rs)
+
+  below_part_nodes : (p : ResolvedPart) → part_height p ≤ part_nodes p
+  below_part_nodes absent = omega arith
+  below_part_nodes (present t) = below_nodes t
+
 pub of_builder : (l : ℕ) (rs : List Range) (p t : Option Resolved) → height (resolved_of (v.Builder l rs p t)) ≡ max (max (tallest_range (ranges (map range_of rs))) (part_height (part_of p))) (part_height (part_of t)) + 1
 of_builder l rs p t = ap height (of-Builder l rs p t)
 
-pub of_quantified : (l : ℕ) (q : Quantifier) (rs : List Range) (p : Option Resolved) (t : Resolved) → height (resolved_of (v.Quantified l q rs p t)) ≡ max (max (tallest_range (ranges (map range_of rs))) (part_height (part_of p))) (height (resolved_of t)) + 1
+pub of_quantified : (l : ℕ) (q : Quantifier) (rs : List Range) (p : Option Resolved) (t : Resolved) → height (resolved_of (v.Quantified q l rs p t)) ≡ max (max (tallest_range (ranges (map range_of rs))) (part_height (part_of p))) (height (resolved_of t)) + 1
 of_quantified l q rs p t = ap height (of-Quantified l q rs p t)
 
 pub ruleset heights = (some_height, of_builder, of_quantified)
@@ -99,5 +130,5 @@ last_decides x y z whole lower highest r s b is step first has_first second has_
 pub is_builder : (l : ℕ) (rs : List Range) (p t : Option Resolved) (whole : Resolved) → whole ≡ v.Builder l rs p t → height (resolved_of whole) ≡ max (max (tallest_range (ranges (map range_of rs))) (part_height (part_of p))) (part_height (part_of t)) + 1
 is_builder l rs p t whole is = ap (λ w. height (resolved_of w)) is ∙ of_builder l rs p t
 
-pub is_quantified : (l : ℕ) (q : Quantifier) (rs : List Range) (p : Option Resolved) (t u whole : Resolved) → whole ≡ v.Quantified l q rs p t → u ≡ t → height (resolved_of whole) ≡ max (max (tallest_range (ranges (map range_of rs))) (part_height (part_of p))) (height (resolved_of u)) + 1
+pub is_quantified : (l : ℕ) (q : Quantifier) (rs : List Range) (p : Option Resolved) (t u whole : Resolved) → whole ≡ v.Quantified q l rs p t → u ≡ t → height (resolved_of whole) ≡ max (max (tallest_range (ranges (map range_of rs))) (part_height (part_of p))) (height (resolved_of u)) + 1
 is_quantified l q rs p t u whole is get = ap (λ w. height (resolved_of w)) is ∙ of_quantified l q rs p t ∙ ap (λ w. max (max (tallest_range (ranges (map range_of rs))) (part_height (part_of p))) (height (resolved_of w)) + 1) (sym get)

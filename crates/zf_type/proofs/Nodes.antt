@@ -65,7 +65,7 @@ ranges_more xs i x at l = rw add-one (ranges_next xs i x at l)
 pub of_builder : (l : ℕ) (rs : List Range) (p t : Option Resolved) (whole : Resolved) → whole ≡ v.Builder l rs p t → nodes (resolved_of whole) ≡ range_nodes (ranges (map range_of rs)) + part_nodes (part_of p) + part_nodes (part_of t) + 1
 of_builder l rs p t whole is = ap (λ w. nodes (resolved_of w)) is ∙ ap nodes (of-Builder l rs p t)
 
-pub of_quantified : (l : ℕ) (q : Quantifier) (rs : List Range) (p : Option Resolved) (t u whole : Resolved) → whole ≡ v.Quantified l q rs p t → u ≡ t → nodes (resolved_of whole) ≡ range_nodes (ranges (map range_of rs)) + part_nodes (part_of p) + nodes (resolved_of u) + 1
+pub of_quantified : (l : ℕ) (q : Quantifier) (rs : List Range) (p : Option Resolved) (t u whole : Resolved) → whole ≡ v.Quantified q l rs p t → u ≡ t → nodes (resolved_of whole) ≡ range_nodes (ranges (map range_of rs)) + part_nodes (part_of p) + nodes (resolved_of u) + 1
 of_quantified l q rs p t u whole is get = ap (λ w. nodes (resolved_of w)) is ∙ ap nodes (of-Quantified l q rs p t) ∙ ap (λ w. range_nodes (ranges (map range_of rs)) + part_nodes (part_of p) + nodes (resolved_of w) + 1) (sym get)
 
 -- what is left by the last of three parts

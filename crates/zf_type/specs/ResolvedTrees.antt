@@ -77,7 +77,7 @@ resolved_step (Resolved-F.Builder l rs p t) = builder l (ranges rs) (part p) (pa
 resolved_step (Resolved-F.Unary l op t) = unary l op t
 resolved_step (Resolved-F.Binary l op a b) = binary l op a b
 resolved_step (Resolved-F.Chain l t ks) = chain l t (links ks)
-resolved_step (Resolved-F.Quantified l q rs p t) = quantified l q (ranges rs) (part p) t
+resolved_step (Resolved-F.Quantified q l rs p t) = quantified l q (ranges rs) (part p) t
 
 abbrev pub resolved_link_step : ResolvedLink-F ResolvedTree (ℕ × ResolvedTree) (Relation × ResolvedTree) → Relation × ResolvedTree
 resolved_link_step k = (k.relation, k.right)

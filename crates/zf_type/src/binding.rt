@@ -12,7 +12,7 @@ ghost use Rattle.zf_type.specs.declared.fault.TypeFaultKind as faults;
 ghost use Rattle.zf_type.specs.declared.operator.Need.TheVariants as needs;
 
 use crate::fault::{Refusal, TypeFaultKind, refused};
-use crate::scope::{Scope, Variable, is_bound, spelled};
+use crate::scope::{Scope, Variable, is_bound};
 use crate::sort::Sort;
 use crate::ztype::{ZType, product_type};
 use bumpalo::Bump;
@@ -22,7 +22,6 @@ use zf_text::tree::Name;
 
 /// Adds variables of these names, which are members of a set of this sort.
 pub(crate) fn declare_names<'a>(
-    arena: &'a Bump,
     names: &[Name<'a>],
     set: &Sort<'a>,
     variables: &mut Vec<Variable<'a>>,
@@ -37,7 +36,7 @@ pub(crate) fn declare_names<'a>(
         unreachable!();
     };
     for name in names {
-        let variable = variable(arena, name, members)?;
+        let variable = variable(name, members)?;
         if is_bound(variables.as_slice(), variable.name.as_slice()) {
             return Err(refused(TypeFaultKind::LocalTwice, name.line));
         }
@@ -47,14 +46,10 @@ pub(crate) fn declare_names<'a>(
 }
 
 /// A variable of the name.
-fn variable<'a>(
-    arena: &'a Bump,
-    name: &Name<'a>,
-    ztype: &ZType<'a>,
-) -> Result<Variable<'a>, AllocError>
+fn variable<'a>(name: &Name<'a>, ztype: &ZType<'a>) -> Result<Variable<'a>, AllocError>
     ensures { IfOk result (λ v. variable_of v ≡ record { name = spelling name.now; type = type_of ztype.now }) }
 {
-    let name = spelled(arena, name)?;
+    let name = name.spelled();
     let ztype = ztype.share()?;
     Ok(Variable { name, ztype })
 }

@@ -7,14 +7,14 @@ ghost use Rattle.zf_type.specs.Shapes as spec;
 use crate::resolved::Resolved;
 use bumpalo::Bump;
 use std::alloc::AllocError;
-use zf_data::arena::{Items, Shared};
+use zf_data::arena::{Items, Lasting};
 
 /// A conjunct of a schema: a term, which is shared with the schemas that take in the schema, and the places of its components in
 /// this one, where they are others.
 #[derive(Drop)]
 pub struct Conjunct<'a> {
-    pub term: Shared<'a, Resolved<'a>>,
-    pub places: Option<Shared<'a, Items<'a, usize>>>,
+    pub term: Lasting<'a, Resolved<'a>>,
+    pub places: Option<Lasting<'a, Items<'a, usize>>>,
 }
 
 impl<'a> Conjunct<'a> {
@@ -22,25 +22,26 @@ impl<'a> Conjunct<'a> {
         ensures { IfOk result (λ c. conjunct_of c ≡ resolved_of term.entry) }
     {
         Ok(Conjunct {
-            term: Shared::new(arena, term)?,
+            term: Lasting::new(arena, term)?,
             places: None,
         })
     }
 
-    pub fn share(&self) -> Result<Conjunct<'a>, AllocError>
-        ensures { IfOk result (λ c. c ≡ self.now) }
+    /// The same conjunct, of which nothing is copied.
+    pub fn share(&self) -> Conjunct<'a>
+        ensures { result ≡ self.now }
     {
-        Ok(Conjunct {
-            term: self.term.share()?,
-            places: shared(&self.places)?,
-        })
+        Conjunct {
+            term: self.term.share(),
+            places: shared(&self.places),
+        }
     }
 
     /// The conjunct with its components numbered anew.
     pub fn moved(
         self,
         arena: &'a Bump,
-        places: &Option<Shared<'a, Items<'a, usize>>>,
+        places: &Option<Lasting<'a, Items<'a, usize>>>,
     ) -> Result<Conjunct<'a>, AllocError>
         ensures { IfOk result (λ c. conjunct_of c ≡ spec.moved (spec.numbering places.now) (conjunct_of self.entry)) }
     {
@@ -87,30 +88,30 @@ impl<'a> Conjunct<'a> {
 }
 
 fn shared<'a>(
-    places: &Option<Shared<'a, Items<'a, usize>>>,
-) -> Result<Option<Shared<'a, Items<'a, usize>>>, AllocError>
-    ensures { IfOk result (λ ps. ps ≡ places.now) }
+    places: &Option<Lasting<'a, Items<'a, usize>>>,
+) -> Option<Lasting<'a, Items<'a, usize>>>
+    ensures { result ≡ places.now }
 {
     match places {
-        None => Ok(None),
-        Some(places) => Ok(Some(places.share()?)),
+        None => None,
+        Some(places) => Some(places.share()),
     }
 }
 
 /// The one numbering, and then the other.
 fn composed<'a>(
     arena: &'a Bump,
-    first: &Option<Shared<'a, Items<'a, usize>>>,
-    then: &Option<Shared<'a, Items<'a, usize>>>,
-) -> Result<Option<Shared<'a, Items<'a, usize>>>, AllocError>
+    first: &Option<Lasting<'a, Items<'a, usize>>>,
+    then: &Option<Lasting<'a, Items<'a, usize>>>,
+) -> Result<Option<Lasting<'a, Items<'a, usize>>>, AllocError>
     ensures { IfOk result (λ ps. spec.numbering ps ≡ (λ (i : ℕ). spec.numbering then.now (spec.numbering first.now i))) }
 {
     match (first, then) {
-        (None, then) => shared(then),
-        (first, None) => shared(first),
+        (None, then) => Ok(shared(then)),
+        (first, None) => Ok(shared(first)),
         (Some(first), Some(then)) => {
             let places = both(arena, first.get().as_slice(), then.get().as_slice())?;
-            Ok(Some(Shared::new(arena, places)?))
+            Ok(Some(Lasting::new(arena, places)?))
         }
     }
 }

@@ -13,13 +13,13 @@ use bumpalo::Bump;
 use indexmap::IndexMap;
 use std::alloc::{AllocError, Global};
 use std::marker::Model;
-use zf_data::arena::{Items, Lent, Shared};
+use zf_data::arena::{Items, Lasting, Lent, Shared};
 
 /// A declared set of a component.
 #[derive(Drop)]
 pub enum Domain<'a> {
     /// The set that a declaration names.
-    Plain(Shared<'a, Resolved<'a>>),
+    Plain(Lasting<'a, Resolved<'a>>),
     /// All values of the type: of a component that one side of a disjunction lacks.
     Carrier(ZType<'a>),
     /// Both sides of a disjunction: what lies in all of the left or in all of the right.
@@ -70,7 +70,7 @@ impl<'a> Domain<'a> {
         ensures { IfOk result (λ d. d ≡ self.now) }
     {
         match self {
-            Domain::Plain(set) => Ok(Domain::Plain(set.share()?)),
+            Domain::Plain(set) => Ok(Domain::Plain(set.share())),
             Domain::Carrier(ztype) => Ok(Domain::Carrier(ztype.share()?)),
             Domain::Either(left, right) => Ok(Domain::Either(left.share()?, right.share()?)),
         }

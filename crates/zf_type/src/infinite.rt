@@ -7,7 +7,7 @@ ghost use Rattle.zf_type.specs.Scopes.{or_else};
 
 use crate::extent::{Extent, Infinite};
 use crate::globals::{Entry, Globals};
-use crate::resolved::{Part, Range, Reference, Resolved, ResolvedLink};
+use crate::resolved::{Links, Part, Range, Reference, Resolved, ResolvedLink, Terms};
 use zf_data::arena::{Boxed, Items};
 use zf_text::token::{Constant, Relation};
 
@@ -106,7 +106,7 @@ pub fn offending_within_after<'a>(
 }
 
 #[cycle(offending)]
-fn terms_offending<'a>(items: &Items<'a, Resolved<'a>>, globals: &Globals<'a>) -> Option<u32>
+fn terms_offending<'a>(items: &Terms<'a>, globals: &Globals<'a>) -> Option<u32>
     ensures { result ≡ spec.first (spec.all_offending (globals_of globals.now) (terms (map resolved_of items.now))) }
 {
     let mut line = None;
@@ -117,11 +117,7 @@ fn terms_offending<'a>(items: &Items<'a, Resolved<'a>>, globals: &Globals<'a>) -
 }
 
 #[cycle(offending)]
-fn links_after<'a>(
-    further: &Items<'a, ResolvedLink<'a>>,
-    found: Option<u32>,
-    globals: &Globals<'a>,
-) -> Option<u32>
+fn links_after<'a>(further: &Links<'a>, found: Option<u32>, globals: &Globals<'a>) -> Option<u32>
     ensures { result ≡ or_else found (spec.first (spec.links_offending (globals_of globals.now) (links (map resolved_link_of further.now)))) }
 {
     let mut line = found;

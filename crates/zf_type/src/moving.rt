@@ -3,7 +3,7 @@ ghost use Rattle.std.specs.Prelude.{◌≡◌, IfOk, map};
 ghost use Rattle.zf_type.specs.ResolvedTrees.{resolved_of, resolved_link_of, range_of, part_of};
 ghost use Rattle.zf_type.specs.Shapes as spec;
 
-use crate::resolved::{Part, Range, Reference, Resolved, ResolvedLink};
+use crate::resolved::{Links, Part, Range, Reference, Resolved, ResolvedLink, Terms};
 use bumpalo::Bump;
 use std::alloc::AllocError;
 use zf_data::arena::{Boxed, Items};
@@ -76,11 +76,11 @@ impl<'a> Resolved<'a> {
                 let further = moved_links(further, arena, places)?;
                 Ok(Resolved::Chain(*line, first, further))
             }
-            Resolved::Quantified(line, quantifier, variables, constraint, body) => {
+            Resolved::Quantified(quantifier, line, variables, constraint, body) => {
                 let variables = moved_ranges(variables, arena, places)?;
                 let constraint = moved_part(constraint, arena, places)?;
                 let body = Boxed::new(arena, body.get().moved(arena, places)?)?;
-                Ok(Resolved::Quantified(*line, *quantifier, variables, constraint, body))
+                Ok(Resolved::Quantified(*quantifier, *line, variables, constraint, body))
             }
         }
     }
@@ -88,32 +88,32 @@ impl<'a> Resolved<'a> {
 
 #[cycle(moved)]
 fn moved_terms<'a>(
-    items: &Items<'a, Resolved<'a>>,
+    items: &Terms<'a>,
     arena: &'a Bump,
     places: &[usize],
-) -> Result<Items<'a, Resolved<'a>>, AllocError>
+) -> Result<Terms<'a>, AllocError>
     ensures { IfOk result (λ s. map resolved_of s ≡ map (spec.moved (spec.place_in places.now)) (map resolved_of items.now)) }
 {
-    let mut moved = Items::with_room(arena, items.len())?;
+    let mut moved = Items::with_room(arena, items.as_slice().len())?;
     for term in items.as_slice() {
         moved.push(term.moved(arena, places)?)?;
     }
-    Ok(moved)
+    Boxed::new(arena, moved)
 }
 
 #[cycle(moved)]
 fn moved_links<'a>(
-    further: &Items<'a, ResolvedLink<'a>>,
+    further: &Links<'a>,
     arena: &'a Bump,
     places: &[usize],
-) -> Result<Items<'a, ResolvedLink<'a>>, AllocError>
+) -> Result<Links<'a>, AllocError>
     ensures { IfOk result (λ s. map resolved_link_of s ≡ map (spec.link_moved (spec.place_in places.now)) (map resolved_link_of further.now)) }
 {
-    let mut moved = Items::with_room(arena, further.len())?;
+    let mut moved = Items::with_room(arena, further.as_slice().len())?;
     for link in further.as_slice() {
         moved.push(moved_link(link, arena, places)?)?;
     }
-    Ok(moved)
+    Boxed::new(arena, moved)
 }
 
 #[cycle(moved)]

@@ -17,6 +17,12 @@ pub enum Reference {
 /// A part of a term that may be left out, in a box of its own: most terms have none, and stay small.
 pub type Part<'a> = Boxed<'a, Option<Boxed<'a, Resolved<'a>>>>;
 
+/// The operands of one node. A list stands in a box, so that every term is small.
+pub type Terms<'a> = Boxed<'a, Items<'a, Resolved<'a>>>;
+
+/// The further operands of a chain.
+pub type Links<'a> = Boxed<'a, Items<'a, ResolvedLink<'a>>>;
+
 /// A term, with the line of its first token.
 #[cycle(resolved)]
 #[derive(Drop)]
@@ -27,15 +33,15 @@ pub enum Resolved<'a> {
     /// `\emptyset[E]`
     EmptySet(u32, Boxed<'a, Resolved<'a>>),
     Bracket(u32, Boxed<'a, Resolved<'a>>),
-    Listed(u32, Listed, Items<'a, Resolved<'a>>),
+    Listed(u32, Listed, Terms<'a>),
     /// A builder: the ranges of its variables, the filter, and the term.
     Builder(u32, Boxed<'a, Items<'a, Range<'a>>>, Part<'a>, Part<'a>),
     Unary(u32, Unary, Boxed<'a, Resolved<'a>>),
     Binary(u32, Operator, Boxed<'a, Resolved<'a>>, Boxed<'a, Resolved<'a>>),
     /// A chain of relations: the first operand, and the further ones.
-    Chain(u32, Boxed<'a, Resolved<'a>>, Items<'a, ResolvedLink<'a>>),
+    Chain(u32, Boxed<'a, Resolved<'a>>, Links<'a>),
     /// The ranges of the variables, the constraint, and the body.
-    Quantified(u32, Quantifier, Boxed<'a, Items<'a, Range<'a>>>, Part<'a>, Boxed<'a, Resolved<'a>>),
+    Quantified(Quantifier, u32, Boxed<'a, Items<'a, Range<'a>>>, Part<'a>, Boxed<'a, Resolved<'a>>),
 }
 
 /// A further part of a chain.

@@ -41,8 +41,7 @@ impl<'a> Scope<'a, '_> {
     ) -> Result<Option<(Reference, Sort<'a>)>, AllocError>
         ensures { IfOk result (λ found. meant found ≡ spec.meaning (scope_of self.now) (spelling name.now)) }
     {
-        let name = spelled(arena, name)?;
-        self.meaning_of(arena, name.as_slice())
+        self.meaning_of(arena, name.spelled().as_slice())
     }
 
     fn meaning_of(
@@ -68,16 +67,6 @@ impl<'a> Scope<'a, '_> {
             None => Ok(None),
         }
     }
-}
-
-/// The name as spelled, with its strokes.
-pub fn spelled<'a>(arena: &'a Bump, name: &Name<'a>) -> Result<Lent<'a>, AllocError>
-    ensures { IfOk result (λ t. t ≡ spelling name.now) }
-{
-    if name.is_bare() {
-        return Ok(name.base.share());
-    }
-    Lent::joined(arena, name.base.as_slice(), name.strokes.as_slice())
 }
 
 /// The last variable of the name, with its place.

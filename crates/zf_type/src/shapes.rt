@@ -3,7 +3,7 @@ ghost use Rattle.std.specs.Prelude.{◌≡◌, ◌+◌, ◌<◌, ◌≤◌, ◌�
 ghost use Rattle.zf_type.specs.ResolvedTrees.{resolved_of, resolved_link_of, range_of, terms, links, ranges, part_of};
 ghost use Rattle.zf_type.specs.Shapes as spec;
 
-use crate::resolved::{Part, Range, Resolved, ResolvedLink};
+use crate::resolved::{Links, Part, Range, Resolved, ResolvedLink, Terms};
 use zf_data::arena::{Boxed, Items};
 
 impl<'a> Resolved<'a> {
@@ -23,7 +23,7 @@ impl<'a> Resolved<'a> {
             Resolved::Unary(line, _, _) => *line,
             Resolved::Binary(line, _, _, _) => *line,
             Resolved::Chain(line, _, _) => *line,
-            Resolved::Quantified(line, _, _, _, _) => *line,
+            Resolved::Quantified(_, line, _, _, _) => *line,
         }
     }
 
@@ -101,7 +101,7 @@ impl<'a> Resolved<'a> {
 
 #[cycle(room)]
 #[tactic(auto, using(crate::proofs::Nodes::terms_before))]
-fn room_after_terms<'a>(items: &Items<'a, Resolved<'a>>, room: usize) -> Option<usize>
+fn room_after_terms<'a>(items: &Terms<'a>, room: usize) -> Option<usize>
     ensures { MatchOption result (room < spec.all_nodes (terms (map resolved_of items.now))) (λ left. left + spec.all_nodes (terms (map resolved_of items.now)) ≡ room) }
 {
     let mut left = room;
@@ -113,7 +113,7 @@ fn room_after_terms<'a>(items: &Items<'a, Resolved<'a>>, room: usize) -> Option<
 
 #[cycle(room)]
 #[tactic(auto, using(crate::proofs::Nodes::links_before))]
-fn room_after_links<'a>(further: &Items<'a, ResolvedLink<'a>>, room: usize) -> Option<usize>
+fn room_after_links<'a>(further: &Links<'a>, room: usize) -> Option<usize>
     ensures { MatchOption result (room < spec.link_nodes (links (map resolved_link_of further.now))) (λ left. left + spec.link_nodes (links (map resolved_link_of further.now)) ≡ room) }
 {
     let mut left = room;
@@ -146,7 +146,7 @@ fn room_after_part<'a>(part: &Part<'a>, room: usize) -> Option<usize>
 }
 
 #[cycle(within)]
-fn are_terms_within<'a>(items: &Items<'a, Resolved<'a>>, highest: usize) -> bool
+fn are_terms_within<'a>(items: &Terms<'a>, highest: usize) -> bool
     ensures { IsTrue result ↔ spec.tallest (terms (map resolved_of items.now)) ≤ highest }
 {
     for term in items.as_slice() {
@@ -158,7 +158,7 @@ fn are_terms_within<'a>(items: &Items<'a, Resolved<'a>>, highest: usize) -> bool
 }
 
 #[cycle(within)]
-fn are_links_within<'a>(further: &Items<'a, ResolvedLink<'a>>, highest: usize) -> bool
+fn are_links_within<'a>(further: &Links<'a>, highest: usize) -> bool
     ensures { IsTrue result ↔ spec.tallest_link (links (map resolved_link_of further.now)) ≤ highest }
 {
     for link in further.as_slice() {

@@ -159,7 +159,7 @@ fn decoration_captures_nothing(rt: HostRuntime) -> Result<(), Fail> {
         return Err(Fail::new("other conjuncts"));
     };
     let term = conjunct.resolved(&arena)?;
-    let Resolved::Quantified(4, _, _, constraint, body) = &term else {
+    let Resolved::Quantified(_, 4, _, constraint, body) = &term else {
         return Err(Fail::new("another conjunct"));
     };
     assert!(rt; constraint.get().is_none());

@@ -31,7 +31,7 @@ fn a_text_has_a_tree(rt: HostRuntime) -> Result<(), Fail> {
             return Err(Fail::new("another paragraph"));
         };
         assert!(rt; sets.len() == 1 && name.line == 4);
-        assert_eq!(rt; name.base.as_slice(), b"S".as_slice());
+        assert_eq!(rt; name.base(), b"S".as_slice());
         let [decl] = decls.as_slice() else {
             return Err(Fail::new("other declarations"));
         };

@@ -102,8 +102,9 @@ impl<
         }
         let all = self.further(tokens, Mark::Comma, EXPRESSION, first)?;
         tokens.expect(Mark::CloseRound)?;
+        let terms = Boxed::new(self.arena, all.part)?;
         Ok(Tall {
-            part: Boxed::new(self.arena, Term::Tuple(line, all.part))?,
+            part: Boxed::new(self.arena, Term::Tuple(line, terms))?,
             height: all.height + 1,
         })
     }
@@ -150,8 +151,9 @@ impl<
         let first = self.term(tokens, EXPRESSION)?;
         let all = self.further(tokens, Mark::Comma, EXPRESSION, first)?;
         tokens.expect(Mark::CloseBrace)?;
+        let terms = Boxed::new(self.arena, all.part)?;
         Ok(Tall {
-            part: Boxed::new(self.arena, Term::Display(line, all.part))?,
+            part: Boxed::new(self.arena, Term::Display(line, terms))?,
             height: all.height + 1,
         })
     }

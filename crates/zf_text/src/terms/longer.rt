@@ -160,8 +160,9 @@ impl<
     {
         let line = line(left.part.get());
         let links = self.chain_links(tokens)?;
+        let further = Boxed::new(self.arena, links.part)?;
         Ok(Tall {
-            part: Boxed::new(self.arena, Term::Chain(line, left.part, links.part))?,
+            part: Boxed::new(self.arena, Term::Chain(line, left.part, further))?,
             height: left.height.max(links.height) + 1,
         })
     }
@@ -179,8 +180,9 @@ impl<
     {
         let line = line(left.part.get());
         let all = self.further(tokens, Mark::Cross, PRODUCT + 1, left)?;
+        let terms = Boxed::new(self.arena, all.part)?;
         Ok(Tall {
-            part: Boxed::new(self.arena, Term::Product(line, all.part))?,
+            part: Boxed::new(self.arena, Term::Product(line, terms))?,
             height: all.height + 1,
         })
     }

@@ -133,8 +133,8 @@ impl<'t, 'a> Printer<'t, 'a> {
     }
 
     fn name(&mut self, name: &Name<'_>) -> Result<(), Fail> {
-        let base = str::from_utf8(name.base.as_slice())?;
-        let strokes = str::from_utf8(name.strokes.as_slice())?;
+        let base = str::from_utf8(name.base())?;
+        let strokes = str::from_utf8(name.strokes())?;
         write!(self.text, " {base}")?;
         if !strokes.is_empty() {
             write!(self.text, "^{strokes}")?;

@@ -126,7 +126,7 @@ fn judge_sets<'a>(
     for decl in decls {
         let set = judge_boxed(&decl.set, arena, Need::Set, scope)?;
         let names = decl.names.as_slice();
-        declare_names(arena, names, &set.sort, &mut variables)?;
+        declare_names(names, &set.sort, &mut variables)?;
         ranges.push(Range {
             variables: names.len(),
             set: set.term,
@@ -174,7 +174,7 @@ fn with_body<'a>(
     }
     let filter = part_term(arena, condition)?;
     let inner = Boxed::new(arena, predicate.term)?;
-    let term = Resolved::Quantified(place.line, quantifier, ranges, filter, inner);
+    let term = Resolved::Quantified(quantifier, place.line, ranges, filter, inner);
     Ok(Judged { term, sort })
 }
 

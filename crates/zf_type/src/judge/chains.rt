@@ -146,6 +146,10 @@ fn with_links<'a>(
     if !sort.meets(place.need) {
         return Err(misplaced(&sort, place.need, place.line));
     }
-    let term = Resolved::Chain(place.line, Boxed::new(arena, first)?, links);
+    let term = Resolved::Chain(
+        place.line,
+        Boxed::new(arena, first)?,
+        Boxed::new(arena, links)?,
+    );
     Ok(Judged { term, sort })
 }

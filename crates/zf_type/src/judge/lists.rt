@@ -125,7 +125,7 @@ fn with_members<'a>(
     if !sort.meets(place.need) {
         return Err(misplaced(&sort, place.need, place.line));
     }
-    let term = Resolved::Listed(place.line, form, terms);
+    let term = Resolved::Listed(place.line, form, Boxed::new(arena, terms)?);
     Ok(Judged { term, sort })
 }
 

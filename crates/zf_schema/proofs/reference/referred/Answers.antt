@@ -1,15 +1,25 @@
+use Rattle.std.proofs.Common.{sym, ap, subst}
+use Rattle.zf_type.specs.declared.fault.TypeFaultKind.{TypeFaultKind}
 use Rattle.zf_type.specs.Definitions.{globals_of, schema_of}
 use Rattle.zf_schema.specs.Calculus.{marked, MarkAgrees}
+use Rattle.zf_schema.specs.Expressions.{IsNext}
 use Rattle.zf_schema.specs.SchemaOffences.{Stops, OffendsRef}
 use Rattle.zf_schema.proofs.Referring.{refers, cant_refer, refused_by}
 use Rattle.zf_schema.proofs.reference.referred.Goals as goal
 
 pub returns-in_ok-decorate_own-in-Ok-marked-clause-ok : goal.returns-in_ok-decorate_own-in-Ok-marked-clause-ok
 returns-in_ok-decorate_own-in-Ok-marked-clause-ok c =
-    refers (globals_of c.args.globals.now) c.args.reference.now c.as_slice.result.now c.as_slice-in-Ok-marked.result.now (schema_of c.in-Ok.flat.now) (schema_of c.in-Ok-marked.growing.flat) (schema_of c.in_ok-decorate_own-in-Ok-marked.field-0.flat) c.in-Ok.ensures.ok c.as_slice.ensures c.as_slice-in-Ok-marked.ensures c.in-Ok-marked.ensures.agree c.in-Ok-marked.ensures.ok c.in_ok-decorate_own-in-Ok-marked.ensures.ok
+    let r = c.args.reference.now in
+    let a = schema_of c.in-Ok.flat.now in
+    let m = schema_of c.in-Ok-marked.growing.flat in
+    let next = subst (λ l. IsNext (marked r.mark l a) m) (ap (λ n. n.line) c.name.view_is) c.in-Ok-marked.ensures.ok in
+    refers (globals_of c.args.globals.now) r c.base.result.now c.strokes.result.now a m (schema_of c.in_ok-decorate_own-in-Ok-marked.field-0.flat) c.in-Ok.ensures.ok c.base.ensures c.strokes.ensures c.in-Ok-marked.ensures.agree next c.in_ok-decorate_own-in-Ok-marked.ensures.ok
 
 pub returns-in-Err-marked-clause-fault : goal.returns-in-Err-marked-clause-fault
 returns-in-Err-marked-clause-fault c =
+    let g = globals_of c.args.globals.now in
     let r = c.args.reference.now in
     let a = schema_of c.in-Ok.flat.now in
-    rw c.refusal.ensures (refused_by c.in-Err-marked.stop r.name.line (Stops (MarkAgrees r.mark a) (marked r.mark r.name.line a)) (OffendsRef (globals_of c.args.globals.now) r) (cant_refer (globals_of c.args.globals.now) r c.as_slice.result.now a c.in-Ok.ensures.ok c.as_slice.ensures) c.in-Err-marked.ensures.err)
+    let line = c.name.inside.line in
+    let offends = subst (λ l. (k : TypeFaultKind) → Stops (MarkAgrees r.mark a) (marked r.mark l a) k → OffendsRef g r k l) (ap (λ n. n.line) (sym c.name.view_is)) (cant_refer g r c.base.result.now a c.in-Ok.ensures.ok c.base.ensures) in
+    rw c.refusal.ensures (refused_by c.in-Err-marked.stop line (Stops (MarkAgrees r.mark a) (marked r.mark line a)) (OffendsRef g r) offends c.in-Err-marked.ensures.err)

@@ -1,4 +1,6 @@
+use Rattle.std.proofs.Common.{sym, ap, subst}
 use Rattle.zf_text.specs.Trees.{include}
+use Rattle.zf_type.specs.declared.fault.TypeFaultKind.{TypeFaultKind}
 use Rattle.zf_type.specs.Definitions.{globals_of, schema_of}
 use Rattle.zf_schema.specs.Calculus.{Agree, conjoined}
 use Rattle.zf_schema.specs.SchemaOffences.{OffendsDecl, Stops}
@@ -12,7 +14,9 @@ returns-in-Err-clause-wrong c =
     let a = schema_of c.args.growing.now.flat in
     let b = schema_of c.in_ok-other.other.flat in
     let r = c.args.reference.now in
-    rw c.refusal.ensures (refused_by c.in-Err.stop r.name.line (Stops (Agree a.comps b.comps) (conjoined a b)) (OffendsDecl g a (include r)) (cant_include g a r b c.in_ok-other.ensures.ok) c.in-Err.ensures.err)
+    let stops = Stops (Agree a.comps b.comps) (conjoined a b) in
+    let offends = subst (λ l. (k : TypeFaultKind) → stops k → OffendsDecl g a (include r) k l) (ap (λ m. m.name.line) (sym c.reference.view_is)) (cant_include g a r b c.in_ok-other.ensures.ok) in
+    rw c.refusal.ensures (refused_by c.in-Err.stop _ stops (OffendsDecl g a (include r)) offends c.in-Err.ensures.err)
 
 pub returns-in-Ok-clause-ok : goal.returns-in-Ok-clause-ok
 returns-in-Ok-clause-ok c = (schema_of c.in_ok-other.other.flat, c.in_ok-other.ensures.ok, c.in-Ok.ensures.ok)

@@ -55,4 +55,4 @@ returns-then-is_bound-clause-repeated c =
     let found : IsBound v.name (map variable_of c.as_slice.result.now) = subst (λ x. IsBound x (map variable_of c.as_slice.result.now)) c.as_slice-in-loop-name.ensures (c.is_bound.ensures.0 c.if-is_bound.true) in
     let bound : IsBound (spelling n) old = subst (λ x. IsBound x old) named (subst (λ xs. IsBound v.name (map variable_of xs)) c.as_slice.ensures.value found) in
     subst (λ r. IfFault r (λ k m. (ns : List Name) → AreRepeated (map variable_of c.args.variables.now.items) (c.args.names.now ++ ns) k m)) (sym c.refused.ensures)
-    (λ ns. c.loop-name.invariant.repeated ns LocalTwice n.line (subst (λ xs. AreRepeated old (xs ++ ns) LocalTwice n.line) (sym ahead) (inl (bound, refl, refl))))
+    (λ ns. c.loop-name.invariant.repeated ns LocalTwice c.name.inside.line (subst (λ xs. AreRepeated old (xs ++ ns) LocalTwice c.name.inside.line) (sym ahead) (inl (bound, refl, ap (λ m. m.line) c.name.view_is))))

@@ -20,17 +20,17 @@ returns-else-not-meets c =
     judges_ok (scope_of c.args.scope.now) c.args.need (named c.args.name.now) _ (record {
       is_of = (c.in-Some.reference, sym found);
       met = c.meets.ensures.0 c.if-not-meets.false;
-      term = of-Name c.args.name.now.line c.in-Some.reference ∙ ap (λ o. reference c.args.name.now.line (referent o)) found;
+      term = of-Name c.name.inside.line c.in-Some.reference ∙ ap (λ n. reference n.line c.in-Some.reference) c.name.view_is ∙ ap (λ o. reference c.args.name.now.line (referent o)) found;
     })
 
 pub returns-then-not-meets : goal.returns-then-not-meets
 returns-then-not-meets c =
     let s = scope_of c.args.scope.now in
     let found : Some (c.in-Some.reference, sort_of c.in-Some.sort) ≡ meaning s (spelling c.args.name.now) = sym (ap meant c.in-Some.is) ∙ c.in_ok-reference.ensures in
-    judges_err s c.args.need (named c.args.name.now) c.misplaced.result (c.misplaced.ensures s (named c.args.name.now) (c.in-Some.reference, sym found) (λ m. true≢false (sym (c.meets.ensures.1 m) ∙ c.if-not-meets.true)) refl)
+    judges_err s c.args.need (named c.args.name.now) c.misplaced.result (c.misplaced.ensures s (named c.args.name.now) (c.in-Some.reference, sym found) (λ m. true≢false (sym (c.meets.ensures.1 m) ∙ c.if-not-meets.true)) (ap (λ n. n.line) (sym c.name.view_is)))
 
 pub returns-in-None : goal.returns-in-None
 returns-in-None c =
     let found : None ≡ meaning (scope_of c.args.scope.now) (spelling c.args.name.now) = sym (ap meant c.in-None.is) ∙ c.in_ok-reference.ensures in
     subst (λ r. Judges (scope_of c.args.scope.now) c.args.need (named c.args.name.now) (Err r)) (sym c.refused.ensures)
-    (judges_err (scope_of c.args.scope.now) c.args.need (named c.args.name.now) (Fault (record { kind = NotDeclared; line = c.args.name.now.line })) (inl (sym found, refl, refl)))
+    (judges_err (scope_of c.args.scope.now) c.args.need (named c.args.name.now) (Fault (record { kind = NotDeclared; line = c.name.inside.line })) (inl (sym found, refl, ap (λ n. n.line) c.name.view_is)))

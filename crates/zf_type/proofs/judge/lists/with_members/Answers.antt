@@ -10,7 +10,7 @@ use Rattle.zf_type.specs.ResolvedTrees.{listed, terms, resolved_of}
 use Rattle.zf_type.specs.Rules.{IsSmall}
 use Rattle.zf_type.specs.Shapes.{line_of}
 use Rattle.zf_type.specs.Types.{types, type_of}
-use Rattle.zf_type.proofs.Judging.{judges_ok, judges_err, if_fault, from_fault}
+use Rattle.zf_type.proofs.Judging.{from_memory, judges_ok, judges_err, if_fault, from_fault}
 use Rattle.zf_type.proofs.Members.{list_differs, list_is, list_large, list_resolved}
 use Rattle.zf_type.proofs.ResolvedSeen.{of-Listed}
 use Rattle.zf_type.proofs.judge.lists.with_members.Goals as goal
@@ -26,6 +26,9 @@ returns-in_err-ztype c = λ s es h.
     (λ k m d. list_differs c.args.form s c.args.place.need c.args.place.line es us rs k m h.are_of (ap (λ ts. terms (map resolved_of ts)) c.as_slice.ensures ∙ h.terms) d)
     c.in_err-ztype.ensures.wrong)
     c.from_residual.ensures.0 c.from_residual.ensures.1
+
+pub returns-in_err-new : goal.returns-in_err-new
+returns-in_err-new c = λ s es h. from_memory s c.args.place.need (listed_tree c.args.form c.args.place.line es) c.from_residual-in_err-new.result c.from_residual-in_err-new.ensures.0 c.from_residual-in_err-new.ensures.1
 
 pub returns-then-not-is_small : goal.returns-then-not-is_small
 returns-then-not-is_small c = λ s es h.
@@ -45,5 +48,5 @@ returns c = λ s es h.
     judges_ok s c.args.place.need (listed_tree c.args.form c.args.place.line es) _ (record {
       is_of = list_is c.args.form s c.args.place.line es (types (map type_of c.args.members.types)) (type_of c.in_ok-ztype.ztype) h.are_of c.in_ok-ztype.ensures.ok (c.is_small.ensures.0 c.if-not-is_small.false);
       met = c.meets.ensures.0 c.if-not-meets.false;
-      term = of-Listed c.args.place.line c.args.form c.args.members.terms ∙ ap (listed c.args.place.line c.args.form) h.terms ∙ sym (list_resolved c.args.form s c.args.place.line es);
+      term = of-Listed c.args.place.line c.args.form c.in_ok-new.field-0 ∙ ap (λ ts. listed c.args.place.line c.args.form (terms (map resolved_of ts))) c.in_ok-new.ensures ∙ ap (listed c.args.place.line c.args.form) h.terms ∙ sym (list_resolved c.args.form s c.args.place.line es);
     })

@@ -1,0 +1,47 @@
+-- It answers `Err`, whatever it is asked for.
+use Rattle.std.proofs.Common.{Err, false, [], ◌∷◌, refl, w64}
+use Rattle.std.proofs.raw_atomic.Walks.{proved}
+use Rattle.std.proofs.alloc.Calls.{Answer, answer_val, Answer-typed, Answer-err}
+use base.Fml.{ftrue, flft}
+use types.Kit.{‵, raw, ◌⊛◌, ◌$◌, ◌∵◌, !, qed, done, keep, move, split, join, fjoin, use0, suffices}
+use types.Part.{agg}
+use types.Run.{enter, lit, no_more, and_then, returns}
+use types.ByLocal.{alloc_all, pass_all, free_all, look_at, get, sets}
+use denote.Builtin.{usize, RefOf}
+use denote.Exit.{yes}
+use denote.Plain.{uint_vals, uint_Tells}
+use denote.RattleType.{owns}
+use denote.Ref.{shr_vals}
+use denote.Signature.{Slot, plain, types_at}
+use denote.Steps.{nothing}
+use denote.Triple.Walked.{Stays, walk_of, stay_dropped, Goes-dropped, ends_at}
+use Rattle.zf_data.specs.contracts.arena.nowhere.Nowhere as nowhere
+use Rattle.zf_data.specs.contracts.arena.nowhere.NowhereAllocator.allocate as f
+use Rattle.zf_data.proofs.arena.nowhere.NowhereAllocator.allocate.Statement.{statement}
+use Rattle.zf_data.proofs.arena.nowhere.NowhereAllocator.allocate.Code as code
+
+abbrev handle : Slot 1
+handle = RefOf (0 ∷ []) tt (plain (λ _. nowhere.the_row)) (λ _. tt)
+
+abbrev stayed : Stays f.ended.signature.params f.ended.kept
+stayed = (stay_dropped handle yes, (stay_dropped (plain (λ _. usize)) yes, (stay_dropped (plain (λ _. usize)) yes, tt)))
+
+pub allocate_spec : {M : Type 1} → statement M
+allocate_spec 𝓤 𝓛 𝓜 𝓡 wired =
+    let c = f.clauses 𝓛 𝓜.mem 𝓡.returns in let W = walk_of 𝓛 f.ended stayed c in
+    let number = Goes-dropped 𝓛 1 (plain (λ _. usize)) yes (λ κs x w. refl) in
+    proved 𝓛 f.ended stayed c 𝓜 𝓡 (Goes-dropped 𝓛 1 handle yes (λ κs x w. refl), (number, (number, tt)))
+    f.Key.name code.function (code.unfolded 𝓤 𝓛.H 𝓜 𝓡 wired)
+    (λ κs. (shr_vals, (uint_vals w64, (uint_vals w64, tt)))) (λ κs. ((λ r vs s. s.0), (uint_Tells w64, (uint_Tells w64, tt)))) (λ κs qs bounds a ty are.
+    let y : W.Ghost = ((κs, qs, bounds, a, (shr_vals a.0, (uint_vals w64 a.1.0, (uint_vals w64 a.1.1.0, tt)))), ty) in
+    qed 𝓛 (((‵ (flft κs.0 qs.0) ⊛ ‵ ftrue) ⊛ ‵ (owns (types_at f.ended.signature.params κs) a y.0.4)) ∷ raw ((c κs a).requires ty) ∷ []) ∵
+    split ! $ keep ! (0 ∷ []) $
+    enter ! _ _ _ _ _ $ alloc_all ! (λ l. pass_all ! refl ((tt, tt), ((tt, record { fits = are.1.0.1 }), ((tt, record { fits = are.1.1.0.1 }), tt))) $
+    sets ! (agg ! (no_more !)) refl (tt, tt) $
+    sets ! (agg ! (and_then ! (lit ! tt) (and_then ! (get ! refl) (no_more !)))) refl (Answer-typed false 0 0) $
+    returns ! (look_at ! 0 refl) $ free_all ! refl $
+    suffices ! _ (ends_at 𝓛 f.ended stayed c y (answer_val false 0 0) (Err (record {})) (tt, (tt, (tt, tt))) (tt, (tt, (tt, tt)))) $
+    -- [the tokens]
+    nothing ! $ use0 𝓛 (‵ (Answer.own_val (Err (record {})) (answer_val false 0 0 ∷ []))) (Answer-err 𝓛) $
+    nothing ! $ nothing ! $ fjoin ! $ nothing ! $ fjoin ! $ nothing ! $ fjoin ! $ join ! $
+    move ! (2 ∷ 0 ∷ []) $ join ! $ done !))
