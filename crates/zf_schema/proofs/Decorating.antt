@@ -1,10 +1,13 @@
--- Strokes change no size.
-use Rattle.std.proofs.Common.{◌≡◌, ℕ, Bool, true, ◌==◌, eqb-true, length, sym, List, [], ◌∷◌, ◌++◌, map, refl, ap, ◌∙◌, subst, arith, append-nil}
-use Rattle.std.proofs.lemmas.List.{length-map}
+-- Strokes change no size, and are added to one component after another.
+use Rattle.std.proofs.Common.{◌≡◌, ℕ, ◌+◌, ◌<◌, ◌≤◌, Bool, true, ◌==◌, eqb-true, length, sym, List, [], ◌∷◌, ◌++◌, map, take, drop, get_or, refl, ap, ◌∙◌, subst, arith, append-nil}
+use Rattle.std.proofs.Math.ListN.{set}
+use Rattle.std.proofs.lemmas.List.{length-map, get_or_default, take_all, drop_all, take_more_set, drop-set-lt}
 use Rattle.std.proofs.lemmas.List.Sums.{sum_by-cons}
 use Rattle.std.specs.List.{sum_by}
-use Rattle.zf_type.specs.Definitions.{Comp, Schema, DeclaredSet}
+use Rattle.zf_type.specs.declared.globals.Component.{Component}
+use Rattle.zf_type.specs.Definitions.{Comp, Schema, DeclaredSet, comp_of}
 use Rattle.zf_type.specs.SetShapes.{set_count, set_nodes}
+use Rattle.zf_type.proofs.Walk.{dropped, pushed}
 use Rattle.zf_schema.specs.Calculus.{comp, schema_of, decorated}
 use Rattle.zf_schema.specs.Growth.{HasLeft, counted}
 use Rattle.zf_schema.specs.Limits.{IsWithin}
@@ -75,3 +78,29 @@ unstroked [] none a set is = sym (undecorated a)
 unstroked (x ∷ strokes) none a set is =
     let both : length (x ∷ strokes) ≡ 0 = eqb-true (length (x ∷ strokes)) 0 (sym is ∙ set) in
     absurd (omega (arith, both))
+
+-- ---- one component after another
+
+-- the first have the strokes, the others will have them
+abbrev pub with_strokes_from : List ℕ → ℕ → List Component → List Comp
+with_strokes_from strokes i cs = map comp_of (take i cs) ++ map (stroked strokes) (map comp_of (drop i cs))
+
+pub one_more_stroked :
+    (strokes : List ℕ) (cs : List Component) (i : ℕ) (item : Component) (x : List ℕ) (whole : List Comp) → i < length cs → x ≡ (get_or cs i item).name ++ strokes
+    → with_strokes_from strokes i cs ≡ whole
+    → with_strokes_from strokes (i + 1) (set cs i (record { name = x; ztype = (get_or cs i item).ztype; domains = (get_or cs i item).domains })) ≡ whole
+one_more_stroked strokes cs i item x whole below e before =
+    let c = get_or cs i item in
+    let new : Component = record { name = x; ztype = c.ztype; domains = c.domains } in
+    let behind = map (stroked strokes) (map comp_of (drop (i + 1) cs)) in
+    ap (λ (ds : List Component). map comp_of (take (i + 1) (set cs i new)) ++ map (stroked strokes) (map comp_of ds)) (drop-set-lt (i + 1) cs i new (omega arith))
+    ∙ pushed comp_of (take i cs) (take (i + 1) (set cs i new)) new behind (take_more_set cs i new below)
+    ∙ ap (λ (y : List ℕ). map comp_of (take i cs) ++ comp y (comp_of c).type (comp_of c).sets ∷ behind) e
+    ∙ ap (λ (ds : List Component). map comp_of (take i cs) ++ map (stroked strokes) (map comp_of ds)) (sym (dropped cs i c below (sym (get_or_default cs i c item below))))
+    ∙ before
+
+pub all_stroked : (strokes : List ℕ) (cs : List Component) (i : ℕ) (whole : List Comp) → length cs ≤ i → with_strokes_from strokes i cs ≡ whole → map comp_of cs ≡ whole
+all_stroked strokes cs i whole past before =
+    ap (map comp_of) (sym (take_all i cs past)) ∙ sym (append-nil (map comp_of (take i cs)))
+    ∙ ap (λ (ds : List Component). map comp_of (take i cs) ++ map (stroked strokes) (map comp_of ds)) (sym (drop_all i cs past))
+    ∙ before

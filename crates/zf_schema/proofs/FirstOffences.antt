@@ -36,7 +36,7 @@ pub flat_step :
     → next ≡ or_else found (first (f (g x)))
     → whole ≡ or_else next (first (flat_map f (map g (drop (i + 1) xs))))
 flat_step f g xs i x whole found next at l =
-    line_step (λ ys. flat_map f (map g ys)) xs i x (f (g x)) whole found next at l (flat_map-cons f (g x) (map g (drop (i + 1) xs)))
+    line_step (λ ys. flat_map f (map g ys)) (λ ys. flat_map f (map g ys)) xs i x (f (g x)) whole found next at l (flat_map-cons f (g x) (map g (drop (i + 1) xs)))
 
 pub plain_step :
     (xs : List Domain) (i : ℕ) (x : Domain) (whole found next : Option ℕ)
@@ -45,7 +45,7 @@ pub plain_step :
     → next ≡ or_else found (first (plain_lines (set_of x)))
     → whole ≡ or_else next (first (all_plain_lines (sets_of (map set_of (drop (i + 1) xs)))))
 plain_step xs i x whole found next at l =
-    line_step (λ ds. all_plain_lines (sets_of (map set_of ds))) xs i x (plain_lines (set_of x)) whole found next at l refl
+    line_step (λ ds. all_plain_lines (sets_of (map set_of ds))) (λ ds. all_plain_lines (sets_of (map set_of ds))) xs i x (plain_lines (set_of x)) whole found next at l refl
 
 pub names_step :
     (g : List Defined) (xs : List Domain) (i : ℕ) (x : Domain) (whole found next : Option ℕ)
@@ -54,4 +54,4 @@ pub names_step :
     → next ≡ or_else found (first (set_lines g (set_of x)))
     → whole ≡ or_else next (first (all_set_lines g (sets_of (map set_of (drop (i + 1) xs)))))
 names_step g xs i x whole found next at l =
-    line_step (λ ds. all_set_lines g (sets_of (map set_of ds))) xs i x (set_lines g (set_of x)) whole found next at l refl
+    line_step (λ ds. all_set_lines g (sets_of (map set_of ds))) (λ ds. all_set_lines g (sets_of (map set_of ds))) xs i x (set_lines g (set_of x)) whole found next at l refl

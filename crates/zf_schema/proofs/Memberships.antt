@@ -9,25 +9,26 @@ use Rattle.zf_type.specs.declared.resolved.ResolvedLink.{ResolvedLink}
 use Rattle.zf_type.specs.declared.resolved.Resolved.TheVariants as v
 use Rattle.zf_type.specs.declared.globals.Domain.{Domain}
 use Rattle.zf_type.specs.declared.globals.Domain.TheVariants as domains
+use Rattle.zf_type.specs.declared.written.Written.{Written}
 use Rattle.zf_type.specs.declared.ztype.ZType.{ZType}
 use Rattle.zf_type.specs.Definitions.{DeclaredSet, set_of}
 use Rattle.zf_type.specs.ResolvedTrees.{ResolvedTree, reference, chain, links, link, no_links, resolved_of, resolved_link_of}
 use Rattle.zf_type.specs.Shapes.{line_of}
+use Rattle.zf_type.specs.Written.{written_of}
 use Rattle.zf_type.proofs.ResolvedSeen.{new_link, of-Name, of-Constant, of-Chain, of-link}
 use Rattle.zf_schema.specs.Calculus.{membership, joined}
 use Rattle.zf_type.proofs.SetsSeen.{of-Plain, of-Carrier, of-Either}
 use Rattle.zf_schema.specs.Growth.{is_member}
 
-pub member_seen : (l i : ℕ) (e f : Resolved) (t : Resolved) (ks : List ResolvedLink) → l ≡ line_of (resolved_of e) → f ≡ e → t ≡ v.Name l (Component i) → ks ≡ new_link Member f ∷ [] → resolved_of (v.Chain l t ks) ≡ is_member i (resolved_of e)
-member_seen l i e f t ks m d g h =
+pub member_seen : (l i : ℕ) (e t : Resolved) (ks : List ResolvedLink) → l ≡ line_of (resolved_of e) → t ≡ v.Name l (Component i) → ks ≡ new_link Member e ∷ [] → resolved_of (v.Chain l t ks) ≡ is_member i (resolved_of e)
+member_seen l i e t ks m g h =
     of-Chain l t ks
     ∙ ap (λ (u : ResolvedTree). chain l u (links (map resolved_link_of ks))) (ap resolved_of g ∙ of-Name l (Component i))
     ∙ ap (λ (ls : List ResolvedLink). chain l (reference l (Component i)) (links (map resolved_link_of ls))) h
-    ∙ ap (λ q. chain l (reference l (Component i)) (links (q ∷ []))) (of-link Member f)
-    ∙ ap (λ (u : Resolved). chain l (reference l (Component i)) (link Member (resolved_of u) no_links)) d
+    ∙ ap (λ q. chain l (reference l (Component i)) (links (q ∷ []))) (of-link Member e)
     ∙ ap (λ (n : ℕ). chain n (reference n (Component i)) (link Member (resolved_of e) no_links)) m
 
-pub pushed : (i : ℕ) (d : Domain) (s t : Resolved) (old new : List Resolved) → d ≡ domains.Plain s → resolved_of t ≡ is_member i (resolved_of s) → new ≡ old ++ t ∷ [] → map resolved_of new ≡ map resolved_of old ++ membership i (set_of d)
+pub pushed : (i : ℕ) (d : Domain) (s : Written) (t : Resolved) (old new : List Resolved) → d ≡ domains.Plain s → resolved_of t ≡ is_member i (written_of s) → new ≡ old ++ t ∷ [] → map resolved_of new ≡ map resolved_of old ++ membership i (set_of d)
 pushed i d s t old new e f h =
     ap (map resolved_of) h
     ∙ map-append resolved_of old (t ∷ [])

@@ -24,7 +24,7 @@ use Rattle.zf_schema.proofs.Named.{later_type, not_found, type_one_more}
 
 -- ---- one more component
 
-none_known : (x : List ℕ) (cs : List Comp) (c : Comp) → comp_named x cs ≡ None → bytes_eq c.name x ≡ false → comp_named x (with_comp cs c) ≡ None
+pub none_known : (x : List ℕ) (cs : List Comp) (c : Comp) → comp_named x cs ≡ None → bytes_eq c.name x ≡ false → comp_named x (with_comp cs c) ≡ None
 none_known x cs c unknown other =
     let more = type_one_more x cs c ∙ ap (λ o. or_else (type_found o) (if bytes_eq c.name x then Some c.type else None)) unknown in
     not_found (comp_named x (with_comp cs c)) (more ∙ ap (λ t. if t then Some c.type else None) other)

@@ -38,7 +38,7 @@ one_more_kept places i n at own before = below_more (λ (k : ℕ). get_or places
 pub none_moved : (places : List ℕ) (i : ℕ) → length places ≤ i → KeepsAll places i → (t : ResolvedTree) → moved (place_in places) t ≡ t
 none_moved places i past all t = ap (λ (f : ℕ → ℕ). moved f t) (in_full places (λ k. k) (λ k far. refl) (λ k l. all k (omega arith))) ∙ unmoved t
 
-all_same : (f : ResolvedTree → ResolvedTree) (ts : List ResolvedTree) → ((t : ResolvedTree) → f t ≡ t) → map f ts ≡ ts
+pub all_same : (f : ResolvedTree → ResolvedTree) (ts : List ResolvedTree) → ((t : ResolvedTree) → f t ≡ t) → map f ts ≡ ts
 all_same f [] same = refl
 all_same f (t ∷ ts) same = let here = same t in let rest = all_same f ts same in (cc)
 

@@ -1,6 +1,6 @@
 -- The schema calculus: what schemas are made of others by inclusion, decoration, `\Delta`, `\Xi`, conjunction and disjunction.
-use Rattle.std.specs.Prelude.{◌≡◌, ℕ, ◌+◌, ◌≤◌, List, [], ◌∷◌, ◌++◌, map, length, fold, flat_map, Option, Some, None, slice_get, if◌then◌else◌}
-use Rattle.std.specs.List.{AllByRecursion, sum_by}
+use Rattle.std.specs.Prelude.{◌≡◌, ℕ, ◌+◌, List, [], ◌∷◌, ◌++◌, map, fold, flat_map, Option, Some, None, slice_get, if◌then◌else◌}
+use Rattle.std.specs.List.{AllByRecursion}
 use Rattle.std.specs.Str.{bytes_eq}
 use Rattle.zf_text.specs.declared.token.Connective.TheVariants.{And, Or}
 use Rattle.zf_text.specs.declared.token.Constant.TheVariants.{True}
@@ -9,10 +9,10 @@ use Rattle.zf_text.specs.declared.tree.RefMark.{RefMark}
 use Rattle.zf_text.specs.declared.tree.RefMark.TheVariants.{Plain, Delta, Xi}
 use Rattle.zf_type.specs.declared.operator.Operator.TheVariants.{Connective}
 use Rattle.zf_type.specs.declared.resolved.Reference.TheVariants.{Component}
-use Rattle.zf_type.specs.Definitions.{Comp, Schema, DeclaredSet, plain, carrier, sides, DeclaredSets, no_sets, set, sets_of}
+use Rattle.zf_type.specs.Definitions.{Comp, Schema, DeclaredSet, plain, carrier, sides, sets_of}
 use Rattle.zf_type.specs.ResolvedTrees.{ResolvedTree, reference, constant, binary, chain, no_links, link}
 use Rattle.zf_type.specs.Scopes.{first_named}
-use Rattle.zf_type.specs.Shapes.{line_of, nodes, height, moved}
+use Rattle.zf_type.specs.Shapes.{line_of, moved}
 use Rattle.zf_type.specs.Types.{Ty}
 
 abbrev pub comp : List ℕ → Ty → List DeclaredSet → Comp

@@ -1,7 +1,7 @@
 -- The limits of a schema.
-use Rattle.std.specs.Prelude.{ℕ, ◌+◌, ◌≤◌, List, length}
+use Rattle.std.specs.Prelude.{ℕ, ◌+◌, ◌≤◌, length}
 use Rattle.std.specs.List.{AllByRecursion, sum_by}
-use Rattle.zf_type.specs.Definitions.{Comp, Schema, DeclaredSet}
+use Rattle.zf_type.specs.Definitions.{Schema}
 use Rattle.zf_type.specs.ResolvedTrees.{ResolvedTree}
 use Rattle.zf_type.specs.SetShapes.{set_count, set_nodes}
 use Rattle.zf_type.specs.Shapes.{nodes, height}

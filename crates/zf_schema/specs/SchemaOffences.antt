@@ -6,7 +6,7 @@ use Rattle.zf_text.specs.Trees.{Tree, DeclTree, vars, include, SchemaTree, schem
 use Rattle.zf_type.specs.declared.fault.TypeFaultKind.{TypeFaultKind}
 use Rattle.zf_type.specs.declared.fault.TypeFaultKind.TheVariants.{NotDeclared, ComponentClash, NotASchema, TooLarge}
 use Rattle.zf_type.specs.declared.operator.Need.TheVariants as need
-use Rattle.zf_type.specs.Definitions.{Comp, Schema, DeclaredSet, plain, Defined, Definition, given_set, free_type, constructor, abbreviation, schema}
+use Rattle.zf_type.specs.Definitions.{Schema, DeclaredSet, plain, Defined, Definition, given_set, free_type, constructor, abbreviation, schema}
 use Rattle.zf_type.specs.Offences.{Offends}
 use Rattle.zf_type.specs.ResolvedTrees.{ResolvedTree}
 use Rattle.zf_type.specs.Resolving.{resolved}

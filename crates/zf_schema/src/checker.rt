@@ -8,9 +8,10 @@ ghost use Rattle.zf_schema.specs.Runs.{Notes, Runs, RunsOne};
 
 use crate::paragraph::{define, define_box};
 use bumpalo::Bump;
+use bumpalo::collections::into_bump_slice;
 use std::alloc::{AllocError, Global};
 use zf_data::Items;
-use zf_data::arena::Boxed;
+use zf_data::arena::{Boxed, Items as ArenaItems};
 use zf_text::tree::{Decl, Name, Paragraph, Spec, Term, ZBox};
 use zf_type::fault::{Refusal, TypeFault};
 use zf_type::globals::Globals;
@@ -22,20 +23,21 @@ pub struct Checked<'a> {
     pub faults: Items<TypeFault>,
 }
 
-/// Checks a text. Each paragraph or box that is not well typed has one fault, and defines nothing.
+/// Checks a text. Each paragraph or box that is not well typed has one fault, and defines nothing. What the text defines keeps its
+/// terms, which stand in an arena as long.
 pub fn check_spec<'a>(
     alloc: Global,
     arena: &'a Bump,
-    spec: &Spec<'a>,
+    spec: Spec<'a>,
 ) -> Result<Checked<'a>, AllocError>
-    ensures { IfOk result (λ c. IsChecked (boxes_of spec.now) (globals_of c.globals) c.faults) }
+    ensures { IfOk result (λ c. IsChecked (boxes_of spec.entry) (globals_of c.globals) c.faults) }
 {
     let mut checked = Checked {
         globals: Globals::new(alloc),
         faults: Items::new(alloc),
     };
     let mut next = 0;
-    for each in spec.boxes.as_slice() {
+    for each in spec.boxes.items {
         check_box(arena, &mut checked, &mut next, each)?;
     }
     Ok(checked)
@@ -46,32 +48,32 @@ fn check_box<'a>(
     arena: &'a Bump,
     checked: &mut Checked<'a>,
     next: &mut usize,
-    each: &ZBox<'a>,
+    each: ZBox<'a>,
 ) -> Result<(), AllocError>
     requires { next.old ≡ next_number (globals_of checked.old.globals) }
-    ensures runs { OnOk result (Runs checked.old (items_in (box_of each.now)) checked.new) }
+    ensures runs { OnOk result (Runs checked.old (items_in (box_of each.entry)) checked.new) }
     ensures numbered { next.new ≡ next_number (globals_of checked.new.globals) }
 {
     match each {
-        ZBox::Zed(paragraphs) => check_paragraphs(arena, checked, next, paragraphs.as_slice()),
+        ZBox::Zed(paragraphs) => check_paragraphs(arena, checked, next, kept(paragraphs)),
         ZBox::SchemaBox(name, decls, predicates) => {
-            check_schema_box(
-                arena,
-                checked,
-                next,
-                name,
-                decls.as_slice(),
-                predicates.as_slice(),
-            )
+            check_schema_box(arena, checked, next, &name, kept(decls), kept(predicates))
         }
     }
+}
+
+/// The items, for as long as the arena that they stand in.
+fn kept<'a, T: Drop>(items: ArenaItems<'a, T>) -> &'a [T]
+    ensures { result.now ≡ items.entry }
+{
+    into_bump_slice(items.into_vec())
 }
 
 fn check_paragraphs<'a>(
     arena: &'a Bump,
     checked: &mut Checked<'a>,
     next: &mut usize,
-    paragraphs: &[Paragraph<'a>],
+    paragraphs: &'a [Paragraph<'a>],
 ) -> Result<(), AllocError>
     requires { next.old ≡ next_number (globals_of checked.old.globals) }
     ensures runs { OnOk result (Runs checked.old (map a_paragraph (map paragraph_of paragraphs.now)) checked.new) }
@@ -87,7 +89,7 @@ fn check_paragraph<'a>(
     arena: &'a Bump,
     checked: &mut Checked<'a>,
     next: &mut usize,
-    paragraph: &Paragraph<'a>,
+    paragraph: &'a Paragraph<'a>,
 ) -> Result<(), AllocError>
     requires { next.old ≡ next_number (globals_of checked.old.globals) }
     ensures runs { OnOk result (RunsOne checked.old (a_paragraph (paragraph_of paragraph.now)) checked.new) }
@@ -102,8 +104,8 @@ fn check_schema_box<'a>(
     checked: &mut Checked<'a>,
     next: &mut usize,
     name: &Name<'a>,
-    decls: &[Decl<'a>],
-    predicates: &[Boxed<'a, Term<'a>>],
+    decls: &'a [Decl<'a>],
+    predicates: &'a [Boxed<'a, Term<'a>>],
 ) -> Result<(), AllocError>
     requires { next.old ≡ next_number (globals_of checked.old.globals) }
     ensures runs { OnOk result (RunsOne checked.old (a_box name.now (map decl_of decls.now) (map tree_of predicates.now)) checked.new) }

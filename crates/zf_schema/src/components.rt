@@ -6,6 +6,7 @@ ghost use Rattle.zf_type.specs.Definitions.{Comp, comp_of};
 ghost use Rattle.zf_type.specs.Shapes.{place_in};
 ghost use Rattle.zf_schema.specs.Calculus as spec;
 ghost use Rattle.zf_schema.specs.Calculus.{Agrees, Agree, comp_named, new_place, with_comp, with_comps};
+ghost use Rattle.zf_schema.specs.SchemaLaws.{AreOnce};
 ghost use Rattle.zf_schema.specs.Growth.{AreAt, IfStopped, enriched, place_named};
 
 use crate::limits::COMPONENTS_MAX;
@@ -38,6 +39,19 @@ pub fn agrees<'a>(components: &[Component<'a>], component: &Component<'a>) -> bo
         Some((_, known)) => known.ztype.same(&component.ztype),
         None => true,
     }
+}
+
+/// Whether each component has a name of its own.
+pub fn are_apart(components: &[Component<'_>]) -> bool
+    ensures { IsTrue result → AreOnce (map comp_of components.now) }
+{
+    for place in 0..components.len() {
+        let name = components[place].name.as_slice();
+        if component_of(&components[place + 1..], name).is_some() {
+            return false;
+        }
+    }
+    true
 }
 
 /// Adds components, one after another, if there is room; answers where they are.

@@ -21,7 +21,7 @@ use bumpalo::Bump;
 use std::alloc::AllocError;
 use zf_data::arena::{Boxed, Items, Shared};
 use zf_text::token::{Connective, Constant, Relation};
-use zf_type::conjunct::Conjunct;
+use zf_type::conjunct::{Conjunct, Statement};
 use zf_type::globals::{Component, Domain, Domains, Flat};
 use zf_type::operator::Operator;
 use zf_type::resolved::{Reference, Resolved, ResolvedLink};
@@ -106,18 +106,17 @@ fn either_all<'a>(
 fn membership<'a>(
     arena: &'a Bump,
     place: usize,
-    set: &Resolved<'a>,
+    set: Resolved<'a>,
 ) -> Result<Resolved<'a>, AllocError>
-    ensures { IfOk result (λ t. resolved_of t ≡ is_member place (resolved_of set.now)) }
+    ensures { IfOk result (λ t. resolved_of t ≡ is_member place (resolved_of set.entry)) }
 {
     let first = set.line();
     let left = Boxed::new(arena, Resolved::Name(first, Reference::Component(place)))?;
-    let right = set.copy(arena)?;
     let links = Items::of(
         arena,
         ResolvedLink {
             relation: Relation::Member,
-            right,
+            right: set,
         },
     )?;
     Ok(Resolved::Chain(first, left, Boxed::new(arena, links)?))
@@ -178,7 +177,8 @@ fn push_membership<'a>(
 {
     match domain {
         Domain::Plain(set) => {
-            let term = membership(arena, place, set.get())?;
+            let set = set.get().resolved(arena)?;
+            let term = membership(arena, place, set)?;
             made.push(term)
         }
         Domain::Carrier(_) => Ok(()),
@@ -286,7 +286,7 @@ fn disjunction<'a>(
     let of_right = constraints(arena, right)?;
     let moved = moved_all(arena, of_right.as_slice(), places.as_slice())?;
     let whole = one_holds(arena, line, of_left.as_slice(), moved.as_slice())?;
-    let conjuncts = Items::of(arena, Conjunct::of(arena, whole)?)?;
+    let conjuncts = Items::of(arena, Conjunct::of(arena, Statement::Made(whole))?)?;
     Ok(Flat {
         components,
         conjuncts,

@@ -13,6 +13,7 @@ ghost use Rattle.zf_schema.specs.SchemaOffences.{OffendsSchema, StopsEither};
 use crate::disjunction::disjoin;
 use crate::growing::Growing;
 use crate::reference::referred;
+use crate::spare::Spare;
 use crate::stop::Stop;
 use crate::text::growing_text;
 use bumpalo::Bump;
@@ -22,7 +23,7 @@ use zf_type::globals::{Flat, Globals};
 
 /// The schema that the expression is.
 pub fn schema_of_expression<'a>(
-    exp: &SchemaExp<'a>,
+    exp: &'a SchemaExp<'a>,
     arena: &'a Bump,
     globals: &Globals<'a>,
 ) -> Result<Flat<'a>, Refusal>
@@ -35,7 +36,7 @@ pub fn schema_of_expression<'a>(
 /// The same schema, with what is left of the limits.
 #[tactic(auto, using(zf_text::proofs::SchemaSeen::seen))]
 fn growing_schema<'a>(
-    exp: &SchemaExp<'a>,
+    exp: &'a SchemaExp<'a>,
     arena: &'a Bump,
     globals: &Globals<'a>,
 ) -> Result<Growing<'a>, Refusal>
@@ -50,7 +51,7 @@ fn growing_schema<'a>(
             decls.as_slice(),
             predicates.as_slice(),
         ),
-        SchemaExp::Ref(reference) => referred(arena, globals, reference),
+        SchemaExp::Ref(reference) => referred(arena, globals, reference, Spare::none()),
         SchemaExp::Both(left, right) => {
             let of_left = growing_schema(left.get(), arena, globals)?;
             let of_right = growing_schema(right.get(), arena, globals)?;

@@ -11,7 +11,6 @@ use thiserror::Error;
 use zf_data::arena::Items;
 use zf_type::conjunct::Conjunct;
 use zf_type::globals::{Component, Domain, Flat, Globals};
-use zf_type::infinite::{direct, offending_after, offending_within_after};
 
 /// Why a schema has no events: the line of the first infinite set that would be searched.
 #[derive(Clone, Copy, Debug, PartialEq, Eq, Error)]
@@ -78,7 +77,7 @@ fn conjunct_after<'a>(
 ) -> Option<u32>
     ensures { result ≡ or_else found (first (extents.offending (globals_of globals.now) (conjunct_of conjunct.now))) }
 {
-    offending_after(conjunct.term.get(), found, globals)
+    conjunct.offending_after(found, globals)
 }
 
 /// The line of the first set of a declaration, if nothing bounds the component.
@@ -102,7 +101,7 @@ fn bounds<'a>(domain: &Domain<'a>, globals: &Globals<'a>) -> bool
     ensures { result ≡ spec.bounds (globals_of globals.now) (set_of domain.now) }
 {
     match domain {
-        Domain::Plain(set) => direct(set.get(), globals).is_none(),
+        Domain::Plain(set) => set.get().direct(globals).is_none(),
         Domain::Carrier(ztype) => !ztype.has_numbers(),
         Domain::Either(left, right) => one_bounds(left.get(), globals)
             && one_bounds(right.get(), globals),
@@ -173,7 +172,7 @@ fn names_after<'a>(domain: &Domain<'a>, found: Option<u32>, globals: &Globals<'a
     ensures { result ≡ or_else found (first (spec.set_lines (globals_of globals.now) (set_of domain.now))) }
 {
     match domain {
-        Domain::Plain(set) => offending_within_after(set.get(), found, globals),
+        Domain::Plain(set) => set.get().offending_within_after(found, globals),
         Domain::Carrier(_) => found,
         Domain::Either(left, right) => {
             let line = all_names_after(left.get(), found, globals);

@@ -9,17 +9,18 @@ ghost use Rattle.zf_schema.specs.Growth.{HasLeftBeside, IsGrowing, IfStopped, Is
 ghost use Rattle.zf_schema.specs.Limits.{IsWithin};
 ghost use Rattle.zf_schema.specs.SchemaOffences.{Stops};
 
-use crate::components::{agree, agrees, join, join_all};
+use crate::components::{agree, agrees, are_apart, join, join_all};
 use crate::limits::{COMPONENTS_MAX, CONJUNCTS_MAX, NODES_MAX, SETS_MAX};
 use crate::room::{
     after_all_nodes, after_all_sets, after_conjuncts, after_nodes, after_sets, are_low, is_low,
 };
+use crate::spare::Spare;
 use crate::stop::Stop;
 use bumpalo::Bump;
 use std::alloc::AllocError;
 use zf_data::arena::{Boxed, Items, Lasting};
 use zf_text::token::Relation;
-use zf_type::conjunct::Conjunct;
+use zf_type::conjunct::{Conjunct, Statement};
 use zf_type::globals::{Component, Flat};
 use zf_type::resolved::{Reference, Resolved, ResolvedLink};
 
@@ -32,19 +33,21 @@ pub struct Growing<'a> {
 }
 
 impl<'a> Growing<'a> {
-    /// The schema of no declarations.
-    pub fn new(arena: &'a Bump) -> Growing<'a>
-        ensures schema { schema_of result.flat ≡ nothing }
-        ensures growing { IsGrowing result }
+    /// The schema of no declarations, with room for what is expected of it.
+    pub fn with_room(arena: &'a Bump, spare: Spare) -> Result<Growing<'a>, AllocError>
+        ensures schema { IfOk result (λ g. schema_of g.flat ≡ nothing) }
+        ensures growing { IfOk result (λ g. IsGrowing g) }
     {
-        Growing {
+        let components = Items::with_room(arena, spare.components)?;
+        let conjuncts = Items::with_room(arena, spare.conjuncts)?;
+        Ok(Growing {
             flat: Flat {
-                components: Items::new(arena),
-                conjuncts: Items::new(arena),
+                components,
+                conjuncts,
             },
             sets_left: SETS_MAX,
             nodes_left: NODES_MAX,
-        }
+        })
     }
 
     /// A schema that was made elsewhere, if it is within the limits.
@@ -138,8 +141,29 @@ impl<'a> Growing<'a> {
         ) {
             return Err(Stop::Clash);
         }
+        if self.becomes(&other) {
+            *self = other;
+            return Ok(());
+        }
         self.merge(arena, other)?;
         Ok(())
+    }
+
+    /// Whether there is nothing yet, and the other schema can be taken in as it is.
+    fn becomes(&self, other: &Growing<'a>) -> bool
+        ensures { IsTrue result → schema_of other.now.flat ≡ conjoined (schema_of self.now.flat) (schema_of other.now.flat) }
+    {
+        if !self.is_nothing() {
+            return false;
+        }
+        are_apart(other.flat.components.as_slice())
+    }
+
+    /// Whether it has neither components nor conjuncts.
+    pub fn is_nothing(&self) -> bool
+        ensures { IsTrue result → schema_of self.now.flat ≡ nothing }
+    {
+        self.flat.components.as_slice().is_empty() && self.flat.conjuncts.as_slice().is_empty()
     }
 
     /// Another schema that is taken in, whatever types components of one name have; answers where its components are.
@@ -238,12 +262,17 @@ fn take_numbered<'a>(
     Ok(())
 }
 
+/// Further conjuncts as they are. Where there are none yet, nor room for these, the list itself is taken.
 fn take_all<'a>(
     conjuncts: &mut Items<'a, Conjunct<'a>>,
-    mut further: Items<'a, Conjunct<'a>>,
+    further: Items<'a, Conjunct<'a>>,
 ) -> Result<(), AllocError>
     ensures { OnOk result (conjuncts.new ≡ conjuncts.old ++ further.entry) }
 {
+    if conjuncts.len() == 0 && conjuncts.items.capacity() < further.len() {
+        *conjuncts = further;
+        return Ok(());
+    }
     conjuncts.append(further)
 }
 
@@ -278,8 +307,6 @@ fn equality<'a>(
             right,
         },
     )?;
-    Conjunct::of(
-        arena,
-        Resolved::Chain(line, left, Boxed::new(arena, links)?),
-    )
+    let statement = Statement::Made(Resolved::Chain(line, left, Boxed::new(arena, links)?));
+    Conjunct::of(arena, statement)
 }

@@ -14,6 +14,7 @@ mod marking;
 mod paragraph;
 mod reference;
 mod room;
+mod spare;
 mod stop;
 mod text;
 
@@ -23,5 +24,6 @@ pub use finiteness::{NotFinite, finite};
 pub use growing::Growing;
 pub use marking::decorate;
 pub use reference::refer;
+pub use spare::Spare;
 pub use stop::Stop;
 pub use text::text_of;

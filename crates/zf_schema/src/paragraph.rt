@@ -33,7 +33,7 @@ pub fn define<'a>(
     arena: &'a Bump,
     globals: &mut Globals<'a>,
     next: &mut usize,
-    paragraph: &Paragraph<'a>,
+    paragraph: &'a Paragraph<'a>,
 ) -> Result<(), Refusal>
     requires { next.old ≡ next_number (globals_of globals.old) }
     ensures ok { OnOk result (DefinesParagraph (globals_of globals.old) (paragraph_of paragraph.now) (globals_of globals.new)) }
@@ -69,8 +69,8 @@ pub fn define_box<'a>(
     arena: &'a Bump,
     globals: &mut Globals<'a>,
     name: &Name<'a>,
-    decls: &[Decl<'a>],
-    predicates: &[Boxed<'a, Term<'a>>],
+    decls: &'a [Decl<'a>],
+    predicates: &'a [Boxed<'a, Term<'a>>],
 ) -> Result<(), Refusal>
     ensures ok { OnOk result (Defines (globals_of globals.old) (a_box name.now (map decl_of decls.now) (map tree_of predicates.now)) (globals_of globals.new)) }
     ensures fault { IfErr result (λ e. IfFault e (λ kind line. OffendsItem (globals_of globals.old) (a_box name.now (map decl_of decls.now) (map tree_of predicates.now)) kind line)) }
@@ -88,7 +88,7 @@ fn add<'a>(
     arena: &'a Bump,
     globals: &mut Globals<'a>,
     next: usize,
-    paragraph: &Paragraph<'a>,
+    paragraph: &'a Paragraph<'a>,
 ) -> Result<(), Refusal>
     requires number { next ≡ next_number (globals_of globals.old) }
     requires small { next < 2 ^ 63 }
@@ -156,7 +156,7 @@ fn add_abbreviation<'a>(
     arena: &'a Bump,
     globals: &mut Globals<'a>,
     name: &Name<'a>,
-    term: &Boxed<'a, Term<'a>>,
+    term: &'a Boxed<'a, Term<'a>>,
 ) -> Result<(), Refusal>
     ensures ok { OnOk result (DefinesParagraph (globals_of globals.old) (text.abbreviation name.now (tree_of term.now)) (globals_of globals.new)) }
     ensures fault { IfErr result (λ e. IfFault e (λ kind line. OffendsParagraph (globals_of globals.old) (text.abbreviation name.now (tree_of term.now)) kind line)) }
@@ -172,7 +172,7 @@ fn add_schema<'a>(
     arena: &'a Bump,
     globals: &mut Globals<'a>,
     name: &Name<'a>,
-    exp: &SchemaExp<'a>,
+    exp: &'a SchemaExp<'a>,
 ) -> Result<(), Refusal>
     ensures ok { OnOk result (DefinesParagraph (globals_of globals.old) (text.definition name.now (text.schema_of exp.now)) (globals_of globals.new)) }
     ensures fault { IfErr result (λ e. IfFault e (λ kind line. OffendsParagraph (globals_of globals.old) (text.definition name.now (text.schema_of exp.now)) kind line)) }
@@ -223,16 +223,18 @@ fn all_spelled<'a>(arena: &'a Bump, names: &[Name<'a>]) -> Result<Items<'a, Lent
 fn abbreviation_of<'a>(
     arena: &'a Bump,
     globals: &Globals<'a>,
-    term: &Boxed<'a, Term<'a>>,
+    term: &'a Boxed<'a, Term<'a>>,
 ) -> Result<Entry<'a>, Refusal>
     ensures ok { IfOk result (λ e. (t : Ty) × IsOf (outside (globals_of globals.now)) (tree_of term.now) (typed t) × (definition_of e ≡ abbreviated (globals_of globals.now) t (resolved (outside (globals_of globals.now)) (tree_of term.now)))) }
     ensures fault { IfErr result (λ e. IfFault e (λ kind line. Offends (outside (globals_of globals.now)) need.Expression (tree_of term.now) kind line)) }
 {
-    let mut scope = scope_over(globals, &[]);
+    let references = Vec::new(*globals.entries.allocator());
+    let mut scope = scope_over(globals, &[], references);
     let judged = judge(term.get(), arena, Need::Expression, &mut scope)?;
     let Some(ztype) = judged.sort.into_type() else {
         unreachable!();
     };
-    let extent = extent_of(&judged.term, globals);
-    Ok(Entry::Abbrev(ztype, judged.term, extent))
+    let term = judged.term.resolved(arena)?;
+    let extent = extent_of(&term, globals);
+    Ok(Entry::Abbrev(ztype, term, extent))
 }

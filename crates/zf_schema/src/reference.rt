@@ -10,6 +10,7 @@ ghost use Rattle.zf_schema.specs.SchemaOffences.{IsNoSchema, OffendsRef};
 
 use crate::growing::Growing;
 use crate::marking::{decorate_own, marked};
+use crate::spare::Spare;
 use crate::stop::Stop;
 use bumpalo::Bump;
 use zf_text::tree::SchemaRef;
@@ -26,14 +27,15 @@ pub fn refer<'a>(
     ensures ok { IfOk result (λ f. Refers (globals_of globals.now) reference.now (schema_of f)) }
     ensures fault { IfErr result (λ e. IfFault e (OffendsRef (globals_of globals.now) reference.now)) }
 {
-    Ok(referred(arena, globals, reference)?.flat)
+    Ok(referred(arena, globals, reference, Spare::none())?.flat)
 }
 
-/// The same schema, with what is left of the limits.
+/// The same schema, with what is left of the limits, and with room for what is expected of it.
 pub fn referred<'a>(
     arena: &'a Bump,
     globals: &Globals<'a>,
     reference: &SchemaRef<'a>,
+    spare: Spare,
 ) -> Result<Growing<'a>, Refusal>
     ensures ok { IfOk result (λ g. Refers (globals_of globals.now) reference.now (schema_of g.flat)) }
     ensures growing { IfOk result (λ g. IsGrowing g) }
@@ -44,7 +46,7 @@ pub fn referred<'a>(
         Ok(flat) => flat,
         Err(kind) => return Err(refused(kind, name.line)),
     };
-    match marked(arena, reference.mark, name.line, flat) {
+    match marked(arena, reference.mark, name.line, flat, spare.behind(flat)) {
         Ok(growing) => Ok(decorate_own(arena, name.strokes(), growing)?),
         Err(stop) => Err(stop.refusal(name.line)),
     }

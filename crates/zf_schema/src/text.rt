@@ -4,12 +4,14 @@ ghost use Rattle.zf_text.specs.Trees.{decl_of, include, tree_of, vars};
 ghost use Rattle.zf_type.specs.Definitions.{comp_of, globals_of, plain, schema_of};
 ghost use Rattle.zf_type.specs.Offences.{Offends};
 ghost use Rattle.zf_type.specs.Refusals.{IfFault};
-ghost use Rattle.zf_type.specs.ResolvedTrees.{resolved_of};
 ghost use Rattle.zf_type.specs.Resolving.{resolved};
+ghost use Rattle.zf_type.specs.Rules as rules;
 ghost use Rattle.zf_type.specs.Rules.{Meets, sort_of};
 ghost use Rattle.zf_type.specs.Scopes.{scope_of, spelling};
 ghost use Rattle.zf_type.specs.Types.{type_of};
 ghost use Rattle.zf_type.specs.Typing.{IsOf};
+ghost use Rattle.zf_type.specs.Written.{written_of};
+ghost use Rattle.zf_type.specs.declared.operator.Need.TheVariants as needs;
 ghost use Rattle.zf_schema.specs.Calculus.{comp};
 ghost use Rattle.zf_schema.specs.Expressions.{Adds, AddsAll, ConstrainsOne, Constrains, Declares, DeclaresOne, IsNext, IsText, TakesAll};
 ghost use Rattle.zf_schema.specs.Growth.{CantAdd, CantTake, IsGrowing, constrained, over};
@@ -17,26 +19,31 @@ ghost use Rattle.zf_schema.specs.SchemaOffences.{OffendsConjuncts, OffendsDecl, 
 ghost use Rattle.zf_type.specs.Shapes as shape;
 
 use crate::growing::Growing;
+use crate::limits::{COMPONENTS_MAX, CONJUNCTS_MAX};
 use crate::reference::referred;
+use crate::spare::Spare;
 use bumpalo::Bump;
 use std::alloc::AllocError;
+use std::mem;
 use zf_data::arena::{Boxed, Items, Lasting, Shared};
 use zf_text::tree::{Decl, Name, SchemaRef, Term};
-use zf_type::conjunct::Conjunct;
+use zf_type::conjunct::{Conjunct, Statement};
+use zf_type::conjuncts::push_conjuncts;
 use zf_type::fault::Refusal;
 use zf_type::globals::{Component, Domain, Flat, Globals};
 use zf_type::judge::{Judged, judge};
 use zf_type::operator::Need;
-use zf_type::resolved::Resolved;
+use zf_type::resolved::Reference;
 use zf_type::scope::Scope;
+use zf_type::written::Written;
 use zf_type::ztype::ZType;
 
 /// The schema of these declarations, and then of these predicates over them.
 pub fn text_of<'a>(
     arena: &'a Bump,
     globals: &Globals<'a>,
-    decls: &[Decl<'a>],
-    predicates: &[Boxed<'a, Term<'a>>],
+    decls: &'a [Decl<'a>],
+    predicates: &'a [Boxed<'a, Term<'a>>],
 ) -> Result<Flat<'a>, Refusal>
     ensures ok { IfOk result (λ f. IsText (globals_of globals.now) (map decl_of decls.now) (map tree_of predicates.now) (schema_of f)) }
     ensures wrong { IfErr result (λ e. IfFault e (OffendsText (globals_of globals.now) (map decl_of decls.now) (map tree_of predicates.now))) }
@@ -48,17 +55,42 @@ pub fn text_of<'a>(
 pub fn growing_text<'a>(
     arena: &'a Bump,
     globals: &Globals<'a>,
-    decls: &[Decl<'a>],
-    predicates: &[Boxed<'a, Term<'a>>],
+    decls: &'a [Decl<'a>],
+    predicates: &'a [Boxed<'a, Term<'a>>],
 ) -> Result<Growing<'a>, Refusal>
     ensures ok { IfOk result (λ g. IsText (globals_of globals.now) (map decl_of decls.now) (map tree_of predicates.now) (schema_of g.flat)) }
     ensures growing { IfOk result (λ g. IsGrowing g) }
     ensures wrong { IfErr result (λ e. IfFault e (OffendsText (globals_of globals.now) (map decl_of decls.now) (map tree_of predicates.now))) }
 {
-    let mut growing = Growing::new(arena);
-    declare_all(arena, globals, &mut growing, decls)?;
-    constrain_all(arena, globals, &mut growing, predicates)?;
+    let spare = expected(decls, predicates);
+    let mut growing = Growing::with_room(arena, own_room(decls, spare))?;
+    let mut references = Vec::new(*globals.entries.allocator());
+    declare_all(arena, globals, &mut growing, &mut references, decls, spare)?;
+    constrain_all(arena, globals, &mut growing, &mut references, predicates)?;
     Ok(growing)
+}
+
+/// What is expected beside the schemas that are taken in, within the limits: a component for each name that is declared, and a conjunct
+/// for each predicate.
+fn expected(decls: &[Decl<'_>], predicates: &[Boxed<'_, Term<'_>>]) -> Spare {
+    let mut components = 0usize;
+    for decl in decls {
+        if let Decl::Vars(names, _) = decl {
+            components = components.saturating_add(names.len());
+        }
+    }
+    Spare {
+        components: components.min(COMPONENTS_MAX),
+        conjuncts: predicates.len().min(CONJUNCTS_MAX),
+    }
+}
+
+/// The room at the beginning: none where a schema comes first, which has the room then.
+fn own_room(decls: &[Decl<'_>], spare: Spare) -> Spare {
+    match decls {
+        [Decl::Include(_), ..] => Spare::none(),
+        _ => spare,
+    }
 }
 
 /// Takes in the declarations, one after another.
@@ -66,7 +98,9 @@ fn declare_all<'a>(
     arena: &'a Bump,
     globals: &Globals<'a>,
     growing: &mut Growing<'a>,
-    decls: &[Decl<'a>],
+    references: &mut Vec<Reference>,
+    decls: &'a [Decl<'a>],
+    spare: Spare,
 ) -> Result<(), Refusal>
     requires { IsGrowing growing.old }
     ensures ok { OnOk result (Declares (globals_of globals.now) (schema_of growing.old.flat) (map decl_of decls.now) (schema_of growing.new.flat)) }
@@ -74,7 +108,7 @@ fn declare_all<'a>(
     ensures wrong { IfErr result (λ e. IfFault e (OffendsDecls (globals_of globals.now) (schema_of growing.old.flat) (map decl_of decls.now))) }
 {
     for decl in decls {
-        declare(arena, globals, growing, decl)?;
+        declare(arena, globals, growing, references, decl, spare)?;
     }
     Ok(())
 }
@@ -84,7 +118,9 @@ fn declare<'a>(
     arena: &'a Bump,
     globals: &Globals<'a>,
     growing: &mut Growing<'a>,
-    decl: &Decl<'a>,
+    references: &mut Vec<Reference>,
+    decl: &'a Decl<'a>,
+    spare: Spare,
 ) -> Result<(), Refusal>
     requires { IsGrowing growing.old }
     ensures ok { OnOk result (DeclaresOne (globals_of globals.now) (schema_of growing.old.flat) (decl_of decl.now) (schema_of growing.new.flat)) }
@@ -92,8 +128,10 @@ fn declare<'a>(
     ensures wrong { IfErr result (λ e. IfFault e (OffendsDecl (globals_of globals.now) (schema_of growing.old.flat) (decl_of decl.now))) }
 {
     match decl {
-        Decl::Vars(names, set) => declare_names(arena, globals, growing, names.as_slice(), set),
-        Decl::Include(reference) => include(arena, globals, growing, reference),
+        Decl::Vars(names, set) => {
+            declare_names(arena, globals, growing, references, names.as_slice(), set)
+        }
+        Decl::Include(reference) => include(arena, globals, growing, reference, spare),
     }
 }
 
@@ -102,15 +140,16 @@ fn declare_names<'a>(
     arena: &'a Bump,
     globals: &Globals<'a>,
     growing: &mut Growing<'a>,
+    references: &mut Vec<Reference>,
     names: &[Name<'a>],
-    set: &Boxed<'a, Term<'a>>,
+    set: &'a Boxed<'a, Term<'a>>,
 ) -> Result<(), Refusal>
     requires { IsGrowing growing.old }
     ensures ok { OnOk result (DeclaresOne (globals_of globals.now) (schema_of growing.old.flat) (vars names.now (tree_of set.now)) (schema_of growing.new.flat)) }
     ensures growing { OnOk result (IsGrowing growing.new) }
     ensures wrong { IfErr result (λ e. IfFault e (OffendsDecl (globals_of globals.now) (schema_of growing.old.flat) (vars names.now (tree_of set.now)))) }
 {
-    let Judged { term, sort } = judge_over(arena, globals, &[], Need::Set, set)?;
+    let Judged { term, sort } = judge_over(arena, globals, &[], references, Need::Set, set)?;
     let Some(ztype) = sort.member() else {
         unreachable!();
     };
@@ -124,16 +163,26 @@ fn include<'a>(
     globals: &Globals<'a>,
     growing: &mut Growing<'a>,
     reference: &SchemaRef<'a>,
+    spare: Spare,
 ) -> Result<(), Refusal>
     requires { IsGrowing growing.old }
     ensures ok { OnOk result (DeclaresOne (globals_of globals.now) (schema_of growing.old.flat) (include reference.now) (schema_of growing.new.flat)) }
     ensures growing { OnOk result (IsGrowing growing.new) }
     ensures wrong { IfErr result (λ e. IfFault e (OffendsDecl (globals_of globals.now) (schema_of growing.old.flat) (include reference.now))) }
 {
-    let other = referred(arena, globals, reference)?;
+    let other = referred(arena, globals, reference, room_of(growing, spare))?;
     match growing.include(arena, other) {
         Ok(()) => Ok(()),
         Err(stop) => Err(stop.refusal(reference.name.line)),
+    }
+}
+
+/// The room of a schema that is taken in: none where it is added to what is there.
+fn room_of(growing: &Growing<'_>, spare: Spare) -> Spare {
+    if growing.is_nothing() {
+        spare
+    } else {
+        Spare::none()
     }
 }
 
@@ -143,12 +192,12 @@ fn add_all<'a>(
     growing: &mut Growing<'a>,
     names: &[Name<'a>],
     ztype: &ZType<'a>,
-    set: &Lasting<'a, Resolved<'a>>,
+    set: &Lasting<'a, Written<'a>>,
 ) -> Result<(), Refusal>
     requires { IsGrowing growing.old }
-    ensures ok { OnOk result (AddsAll (schema_of growing.old.flat) names.now (type_of ztype.now) (plain (resolved_of set.now)) (schema_of growing.new.flat)) }
+    ensures ok { OnOk result (AddsAll (schema_of growing.old.flat) names.now (type_of ztype.now) (plain (written_of set.now)) (schema_of growing.new.flat)) }
     ensures growing { OnOk result (IsGrowing growing.new) }
-    ensures wrong { IfErr result (λ e. IfFault e (OffendsNames (schema_of growing.old.flat) names.now (type_of ztype.now) (plain (resolved_of set.now)))) }
+    ensures wrong { IfErr result (λ e. IfFault e (OffendsNames (schema_of growing.old.flat) names.now (type_of ztype.now) (plain (written_of set.now)))) }
 {
     for name in names {
         add(arena, growing, name, ztype, set)?;
@@ -162,12 +211,12 @@ fn add<'a>(
     growing: &mut Growing<'a>,
     name: &Name<'a>,
     ztype: &ZType<'a>,
-    set: &Lasting<'a, Resolved<'a>>,
+    set: &Lasting<'a, Written<'a>>,
 ) -> Result<(), Refusal>
     requires { IsGrowing growing.old }
-    ensures ok { OnOk result (Adds (schema_of growing.old.flat) (comp (spelling name.now) (type_of ztype.now) (plain (resolved_of set.now) ∷ [])) (schema_of growing.new.flat)) }
+    ensures ok { OnOk result (Adds (schema_of growing.old.flat) (comp (spelling name.now) (type_of ztype.now) (plain (written_of set.now) ∷ [])) (schema_of growing.new.flat)) }
     ensures growing { OnOk result (IsGrowing growing.new) }
-    ensures wrong { IfErr result (λ e. IfFault e (CantAdd (schema_of growing.old.flat) name.now (type_of ztype.now) (plain (resolved_of set.now)))) }
+    ensures wrong { IfErr result (λ e. IfFault e (CantAdd (schema_of growing.old.flat) name.now (type_of ztype.now) (plain (written_of set.now)))) }
 {
     let component = declared(arena, name, ztype, set)?;
     match growing.add(component) {
@@ -182,9 +231,9 @@ fn declared<'a>(
     arena: &'a Bump,
     name: &Name<'a>,
     ztype: &ZType<'a>,
-    set: &Lasting<'a, Resolved<'a>>,
+    set: &Lasting<'a, Written<'a>>,
 ) -> Result<Component<'a>, AllocError>
-    ensures { IfOk result (λ c. comp_of c ≡ comp (spelling name.now) (type_of ztype.now) (plain (resolved_of set.now) ∷ [])) }
+    ensures { IfOk result (λ c. comp_of c ≡ comp (spelling name.now) (type_of ztype.now) (plain (written_of set.now) ∷ [])) }
 {
     let name = name.spelled();
     let ztype = ztype.share()?;
@@ -202,23 +251,33 @@ fn judge_over<'a>(
     arena: &'a Bump,
     globals: &Globals<'a>,
     components: &[Component<'a>],
+    references: &mut Vec<Reference>,
     need: Need,
-    term: &Boxed<'a, Term<'a>>,
+    term: &'a Boxed<'a, Term<'a>>,
 ) -> Result<Judged<'a>, Refusal>
     ensures sort { IfOk result (λ j. IsOf (over (globals_of globals.now) (map comp_of components.now)) (tree_of term.now) (sort_of j.sort)) }
     ensures met { IfOk result (λ j. Meets need (sort_of j.sort)) }
-    ensures term { IfOk result (λ j. resolved_of j.term ≡ resolved (over (globals_of globals.now) (map comp_of components.now)) (tree_of term.now)) }
+    ensures term { IfOk result (λ j. written_of j.term ≡ resolved (over (globals_of globals.now) (map comp_of components.now)) (tree_of term.now)) }
     ensures wrong { IfErr result (λ e. IfFault e (Offends (over (globals_of globals.now) (map comp_of components.now)) need (tree_of term.now))) }
 {
-    let mut scope = scope_over(globals, components);
-    judge(term.get(), arena, need, &mut scope)
+    let mut scope = scope_over(globals, components, taken(references));
+    let judged = judge(term.get(), arena, need, &mut scope);
+    *references = scope.references;
+    judged
 }
 
-/// The scope of the globals and these components, where no variable is bound.
+/// The list, for its room; an empty one stands in its place.
+fn taken(references: &mut Vec<Reference>) -> Vec<Reference> {
+    let alloc = *references.allocator();
+    mem::replace(references, Vec::new(alloc))
+}
+
+/// The scope of the globals and these components, where no variable is bound. The references are only lent their room.
 #[tactic(auto, unfolding(zf_type::specs::Scopes::scope_of))]
 pub fn scope_over<'a, 'b>(
     globals: &'b Globals<'a>,
     components: &'b [Component<'a>],
+    references: Vec<Reference>,
 ) -> Scope<'a, 'b>
     ensures { scope_of result ≡ over (globals_of globals.now) (map comp_of components.now) }
 {
@@ -226,6 +285,7 @@ pub fn scope_over<'a, 'b>(
         globals,
         components,
         locals: Vec::new(*globals.entries.allocator()),
+        references,
     }
 }
 
@@ -234,7 +294,8 @@ fn constrain_all<'a>(
     arena: &'a Bump,
     globals: &Globals<'a>,
     growing: &mut Growing<'a>,
-    predicates: &[Boxed<'a, Term<'a>>],
+    references: &mut Vec<Reference>,
+    predicates: &'a [Boxed<'a, Term<'a>>],
 ) -> Result<(), Refusal>
     requires { IsGrowing growing.old }
     ensures ok { OnOk result (Constrains (globals_of globals.now) (schema_of growing.old.flat) (map tree_of predicates.now) (schema_of growing.new.flat)) }
@@ -242,7 +303,7 @@ fn constrain_all<'a>(
     ensures wrong { IfErr result (λ e. IfFault e (OffendsPredicates (globals_of globals.now) (schema_of growing.old.flat) (map tree_of predicates.now))) }
 {
     for predicate in predicates {
-        constrain(arena, globals, growing, predicate)?;
+        constrain(arena, globals, growing, references, predicate)?;
     }
     Ok(())
 }
@@ -252,7 +313,8 @@ fn constrain<'a>(
     arena: &'a Bump,
     globals: &Globals<'a>,
     growing: &mut Growing<'a>,
-    predicate: &Boxed<'a, Term<'a>>,
+    references: &mut Vec<Reference>,
+    predicate: &'a Boxed<'a, Term<'a>>,
 ) -> Result<(), Refusal>
     requires { IsGrowing growing.old }
     ensures ok { OnOk result (ConstrainsOne (globals_of globals.now) (schema_of growing.old.flat) (tree_of predicate.now) (schema_of growing.new.flat)) }
@@ -260,19 +322,26 @@ fn constrain<'a>(
     ensures wrong { IfErr result (λ e. IfFault e (OffendsPredicate (globals_of globals.now) (schema_of growing.old.flat) (tree_of predicate.now))) }
 {
     let components = growing.flat.components.as_slice();
-    let judged = judge_over(arena, globals, components, Need::Predicate, predicate)?;
-    let conjuncts = conjuncts_of(arena, judged.term)?;
+    let conjuncts = conjuncts_over(arena, globals, components, references, predicate)?;
     take_all(arena, growing, conjuncts)
 }
 
-fn conjuncts_of<'a>(
+/// The conjuncts of a predicate where the globals and these components are in scope.
+fn conjuncts_over<'a>(
     arena: &'a Bump,
-    predicate: Resolved<'a>,
-) -> Result<Items<'a, Resolved<'a>>, AllocError>
-    ensures { IfOk result (λ ts. map resolved_of ts ≡ shape.conjuncts (resolved_of predicate.entry)) }
+    globals: &Globals<'a>,
+    components: &[Component<'a>],
+    references: &mut Vec<Reference>,
+    predicate: &'a Boxed<'a, Term<'a>>,
+) -> Result<Items<'a, Written<'a>>, Refusal>
+    ensures is { OnOk result (IsOf (over (globals_of globals.now) (map comp_of components.now)) (tree_of predicate.now) rules.predicate) }
+    ensures ok { IfOk result (λ ts. map written_of ts ≡ shape.conjuncts (resolved (over (globals_of globals.now) (map comp_of components.now)) (tree_of predicate.now))) }
+    ensures wrong { IfErr result (λ e. IfFault e (Offends (over (globals_of globals.now) (map comp_of components.now)) needs.Predicate (tree_of predicate.now))) }
 {
+    let mut scope = scope_over(globals, components, taken(references));
     let mut conjuncts = Items::new(arena);
-    predicate.push_conjuncts(&mut conjuncts)?;
+    push_conjuncts(predicate.get(), arena, &mut scope, &mut conjuncts)?;
+    *references = scope.references;
     Ok(conjuncts)
 }
 
@@ -280,12 +349,12 @@ fn conjuncts_of<'a>(
 fn take_all<'a>(
     arena: &'a Bump,
     growing: &mut Growing<'a>,
-    conjuncts: Items<'a, Resolved<'a>>,
+    conjuncts: Items<'a, Written<'a>>,
 ) -> Result<(), Refusal>
     requires { IsGrowing growing.old }
-    ensures ok { OnOk result (TakesAll (schema_of growing.old.flat) (map resolved_of conjuncts.entry) (schema_of growing.new.flat)) }
+    ensures ok { OnOk result (TakesAll (schema_of growing.old.flat) (map written_of conjuncts.entry) (schema_of growing.new.flat)) }
     ensures growing { OnOk result (IsGrowing growing.new) }
-    ensures wrong { IfErr result (λ e. IfFault e (OffendsConjuncts (schema_of growing.old.flat) (map resolved_of conjuncts.entry))) }
+    ensures wrong { IfErr result (λ e. IfFault e (OffendsConjuncts (schema_of growing.old.flat) (map written_of conjuncts.entry))) }
 {
     for conjunct in conjuncts.into_vec() {
         take(arena, growing, conjunct)?;
@@ -297,15 +366,15 @@ fn take_all<'a>(
 fn take<'a>(
     arena: &'a Bump,
     growing: &mut Growing<'a>,
-    conjunct: Resolved<'a>,
+    conjunct: Written<'a>,
 ) -> Result<(), Refusal>
     requires { IsGrowing growing.old }
-    ensures ok { OnOk result (IsNext (constrained (schema_of growing.old.flat) (resolved_of conjunct.entry ∷ [])) (schema_of growing.new.flat)) }
+    ensures ok { OnOk result (IsNext (constrained (schema_of growing.old.flat) (written_of conjunct.entry ∷ [])) (schema_of growing.new.flat)) }
     ensures growing { OnOk result (IsGrowing growing.new) }
-    ensures wrong { IfErr result (λ e. IfFault e (CantTake (schema_of growing.old.flat) (resolved_of conjunct.entry))) }
+    ensures wrong { IfErr result (λ e. IfFault e (CantTake (schema_of growing.old.flat) (written_of conjunct.entry))) }
 {
     let line = conjunct.line();
-    match growing.take(Conjunct::of(arena, conjunct)?) {
+    match growing.take(Conjunct::of(arena, Statement::Written(conjunct))?) {
         Ok(()) => Ok(()),
         Err(stop) => Err(stop.refusal(line)),
     }

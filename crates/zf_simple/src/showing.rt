@@ -29,7 +29,7 @@ pub fn simple_of<'a>(
     ensures given { IfOk result (λ s. All (λ c. Contains (spec.given_sets (globals_of globals.now)) c.set) s.components) }
 {
     check_abbreviations(globals)?;
-    let components = components_of(alloc, globals, schema.components.as_slice())?;
+    let components = components_of(alloc, arena, globals, schema.components.as_slice())?;
     let count = schema.components.len();
     let tests = tests_of(alloc, arena, globals, count, schema.conjuncts.as_slice())?;
     Ok(Simple { components, tests })

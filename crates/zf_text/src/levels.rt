@@ -1,7 +1,6 @@
 //! The levels of the grammar, the loosest first, and where symbols stand in them.
 ghost use Rattle.std.specs.Prelude.{◌≡◌, ◌≤◌};
 ghost use Rattle.zf_text.specs.Levels as levels;
-ghost use Rattle.zf_text.specs.Spelling as spelling;
 ghost use Rattle.zf_text.specs.TermReading as spec;
 ghost use Rattle.zf_text.specs.Trees.{tree_of};
 
@@ -127,34 +126,6 @@ pub fn level(term: &Term<'_>) -> u8
         Term::Tuple(_, _) => ATOM,
         Term::Display(_, _) => ATOM,
         Term::Builder(_, _, _, _) => ATOM,
-    }
-}
-
-/// The line of the first symbol.
-#[tactic(auto, using(crate::proofs::TermSeen::seen))]
-pub fn line(term: &Term<'_>) -> u32
-    ensures { result ≡ spelling.line_of (tree_of term.now) }
-{
-    match term {
-        Term::Name(name) => name.line,
-        Term::Number(line, _) => *line,
-        Term::Constant(line, _) => *line,
-        Term::EmptySet(line, _) => *line,
-        Term::Bracket(line, _) => *line,
-        Term::Tuple(line, _) => *line,
-        Term::Display(line, _) => *line,
-        Term::Builder(line, _, _, _) => *line,
-        Term::Prefix(line, _, _) => *line,
-        Term::Inverse(line, _) => *line,
-        Term::Image(line, _, _) => *line,
-        Term::Apply(line, _, _) => *line,
-        Term::Infix(line, _, _, _) => *line,
-        Term::Arrow(line, _, _, _) => *line,
-        Term::Product(line, _) => *line,
-        Term::Chain(line, _, _) => *line,
-        Term::Not(line, _) => *line,
-        Term::Connective(line, _, _, _) => *line,
-        Term::Quantified(_, line, _, _, _) => *line,
     }
 }
 

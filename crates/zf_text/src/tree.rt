@@ -1,6 +1,8 @@
 //! The trees of a text.
 ghost use Rattle.std.specs.Prelude.{◌≡◌, ◌++◌};
 ghost use Rattle.zf_text.specs.BoxReading as spec;
+ghost use Rattle.zf_text.specs.Spelling.{line_of};
+ghost use Rattle.zf_text.specs.Trees.{tree_of};
 
 use crate::placed::{back, front};
 use crate::token::{Arrow, Connective, Constant, Infix, Prefix, Quantifier, Relation};
@@ -103,6 +105,36 @@ pub enum Term<'a> {
     Connective(u32, Connective, Boxed<'a, Term<'a>>, Boxed<'a, Term<'a>>),
     /// The declarations, the constraint, and the body.
     Quantified(Quantifier, u32, Boxed<'a, Items<'a, VarDecl<'a>>>, Part<'a>, Boxed<'a, Term<'a>>),
+}
+
+impl<'a> Term<'a> {
+    /// The line of the first symbol.
+    #[tactic(auto, using(crate::proofs::TermSeen::seen))]
+    pub fn line(&self) -> u32
+        ensures { result ≡ line_of (tree_of self.now) }
+    {
+        match self {
+            Term::Name(name) => name.line,
+            Term::Number(line, _) => *line,
+            Term::Constant(line, _) => *line,
+            Term::EmptySet(line, _) => *line,
+            Term::Bracket(line, _) => *line,
+            Term::Tuple(line, _) => *line,
+            Term::Display(line, _) => *line,
+            Term::Builder(line, _, _, _) => *line,
+            Term::Prefix(line, _, _) => *line,
+            Term::Inverse(line, _) => *line,
+            Term::Image(line, _, _) => *line,
+            Term::Apply(line, _, _) => *line,
+            Term::Infix(line, _, _, _) => *line,
+            Term::Arrow(line, _, _, _) => *line,
+            Term::Product(line, _) => *line,
+            Term::Chain(line, _, _) => *line,
+            Term::Not(line, _) => *line,
+            Term::Connective(line, _, _, _) => *line,
+            Term::Quantified(_, line, _, _, _) => *line,
+        }
+    }
 }
 
 /// A further part of a chain.

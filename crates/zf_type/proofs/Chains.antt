@@ -7,13 +7,14 @@ use Rattle.zf_text.specs.declared.tree.Link.{Link}
 use Rattle.zf_text.specs.Trees.{Tree, Links, chain, link, links, tree_of, link_of}
 use Rattle.zf_text.proofs.TermSeen as seen
 use Rattle.zf_type.specs.declared.fault.Refusal.{Refusal}
-use Rattle.zf_type.specs.declared.judge.Judged.{Judged}
 use Rattle.zf_type.specs.declared.operator.Need.{Need}
 use Rattle.zf_type.specs.declared.operator.Need.TheVariants as need
-use Rattle.zf_type.specs.Judging.{IsJudged, Judges}
-use Rattle.zf_type.specs.Rules.{Sort, predicate, relation_rule, Takes}
+use Rattle.zf_type.specs.declared.sort.Sort as program
+use Rattle.zf_type.specs.Judging.{Judges}
+use Rattle.zf_type.specs.Rules.{Sort, predicate, Meets, relation_rule, Takes}
 use Rattle.zf_type.specs.Scopes.{Scope}
-use Rattle.zf_type.proofs.Judging.{judged_of, from_part}
+use Rattle.zf_type.specs.Typing.{IsOf, AreLinked}
+use Rattle.zf_type.proofs.Judging.{from_part}
 use Rattle.zf_type.proofs.Walk.{at_step}
 
 -- what a relation makes of two operands is a predicate
@@ -38,13 +39,10 @@ link_ahead P ks i k is l h =
     at_step (λ xs. P (links (map link_of xs))) ks i k is l (subst (λ p. P (link p.0 p.1 (links (map link_of (drop (i + 1) ks))))) (sym (link_seen k)) h)
 
 -- the first operand fails
-pub first_fails : (s : Scope) (n : Need) (l : ℕ) (a e f : Tree) (ks : Links) (x : Refusal) (r : Result Judged Refusal) → a ≡ e → f ≡ chain l e ks → Judges s need.Expression a (Err x) → IsErr r → IsErrAnd r (λ y. y ≡ x) → Judges s n f r
+pub first_fails : (s : Scope) (n : Need) (l : ℕ) (a e f : Tree) (ks : Links) (x : Refusal) (r : Result program.Sort Refusal) → a ≡ e → f ≡ chain l e ks → Judges s need.Expression a (Err x) → IsErr r → IsErrAnd r (λ y. y ≡ x) → Judges s n f r
 first_fails s n l a e f ks x r p q h g t =
     subst (λ d. Judges s n d r) (sym q) (from_part s s need.Expression n e (chain l e ks) x r (λ k m o. inl o) (subst (λ d. Judges s need.Expression d (Err x)) p h) g t)
 
--- the first operand is judged, and so is the whole
-pub first_holds : (s t : Scope) (n : Need) (l : ℕ) (a e f : Tree) (ks rest : List Link) (j : Judged) (r : Result Judged Refusal) → t ≡ s → a ≡ e → rest ≡ ks → f ≡ chain l e (links (map link_of ks)) → Judges s need.Expression a (Ok j) → ((d : Tree) → IsJudged t need.Expression d j → Judges t n (chain l d (links (map link_of rest))) r) → Judges s n f r
-first_holds s t n l a e f ks rest j r o p q u h step =
-    let first = subst (λ d. Judges s need.Expression d (Ok j)) p h in
-    let whole = step e (judged_of t need.Expression e j (subst (λ z. Judges z need.Expression e (Ok j)) (sym o) first)) in
-    subst (λ d. Judges s n d r) (sym u) (subst (λ m. Judges s n (chain l e (links (map link_of m))) r) q (subst (λ z. Judges z n (chain l e (links (map link_of rest))) r) o whole))
+-- the operands are judged, and so is the whole
+pub chain_is : (s : Scope) (l : ℕ) (e f : Tree) (ks : Links) (x : Sort) → f ≡ chain l e ks → IsOf s e x → Meets need.Expression x → AreLinked s x ks → IsOf s f predicate
+chain_is s l e f ks x p h m k = subst (λ d. IsOf s d predicate) (sym p) (m.0, subst (λ z. IsOf s e z) m.1 h, subst (λ z. AreLinked s z ks) m.1 k, refl)

@@ -29,14 +29,14 @@ first_of_both (x ∷ xs) ys = refl
 
 -- one item further: its lines come before those of the items behind it
 pub line_step :
-    {X : Type 0} (lines : List X → List ℕ) (xs : List X) (i : ℕ) (x : X) (here : List ℕ) (whole found next : Option ℕ)
+    {X : Type 0} (lines behind : List X → List ℕ) (xs : List X) (i : ℕ) (x : X) (here : List ℕ) (whole found next : Option ℕ)
     → x ≡ get_or xs i x → i < length xs
-    → lines (x ∷ drop (i + 1) xs) ≡ here ++ lines (drop (i + 1) xs)
+    → lines (x ∷ drop (i + 1) xs) ≡ here ++ behind (drop (i + 1) xs)
     → whole ≡ or_else found (first (lines (drop i xs)))
     → next ≡ or_else found (first here)
-    → whole ≡ or_else next (first (lines (drop (i + 1) xs)))
-line_step lines xs i x here whole found next at l parts before step =
-    let rest = lines (drop (i + 1) xs) in
+    → whole ≡ or_else next (first (behind (drop (i + 1) xs)))
+line_step lines behind xs i x here whole found next at l parts before step =
+    let rest = behind (drop (i + 1) xs) in
     before
     ∙ ap (λ ys. or_else found (first (lines ys))) (dropped xs i x l at)
     ∙ ap (λ ls. or_else found (first ls)) parts
@@ -51,7 +51,7 @@ pub terms_step :
     → whole ≡ or_else found (first (lines_of_terms g (drop i xs)))
     → next ≡ or_else found (first (offending g (resolved_of x)))
     → whole ≡ or_else next (first (lines_of_terms g (drop (i + 1) xs)))
-terms_step g xs i x whole found next at l = line_step (lines_of_terms g) xs i x (offending g (resolved_of x)) whole found next at l refl
+terms_step g xs i x whole found next at l = line_step (lines_of_terms g) (lines_of_terms g) xs i x (offending g (resolved_of x)) whole found next at l refl
 
 pub ranges_step :
     (g : List Defined) (xs : List Range) (i : ℕ) (x : Range) (whole found next : Option ℕ)
@@ -60,7 +60,7 @@ pub ranges_step :
     → next ≡ or_else found (first (offending g (resolved_of x.set)))
     → whole ≡ or_else next (first (lines_of_ranges g (drop (i + 1) xs)))
 ranges_step g xs i x whole found next at l =
-    line_step (lines_of_ranges g) xs i x (offending g (resolved_of x.set)) whole found next at l
+    line_step (lines_of_ranges g) (lines_of_ranges g) xs i x (offending g (resolved_of x.set)) whole found next at l
     (ap (λ r. ranges_offending g (ranges (r ∷ map range_of (drop (i + 1) xs)))) (range-seen x))
 
 abbrev ends : List ResolvedLink → Bool
@@ -76,7 +76,7 @@ pub links_step :
 links_step g xs i x last whole found next at l end =
     let t = resolved_of x.right in
     let rest = map resolved_link_of (drop (i + 1) xs) in
-    line_step (lines_of_links g) xs i x (unless (tested g x.relation last t) (offending g t)) whole found next at l
+    line_step (lines_of_links g) (lines_of_links g) xs i x (unless (tested g x.relation last t) (offending g t)) whole found next at l
     (ap (λ k. links_offending g (links (k ∷ rest))) (link-seen x) ∙ ap (λ b. unless (tested g x.relation b t) (offending g t) ++ links_offending g (links rest)) (sym end))
 
 ends_where : (ks : List ResolvedLink) → (length ks == 0) ≡ ends ks

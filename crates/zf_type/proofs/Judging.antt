@@ -1,6 +1,6 @@
 -- From the answers about the parts of a term to the answer about the term.
 use Rattle.std.proofs.Common.{◌≡◌, ℕ, Ok, Err, Option, Some, None, refl, sym, subst, inl, inr, true≢false}
-use Rattle.std.specs.Prelude.{Result, IfOk, IfErr, IsErr, IsErrAnd}
+use Rattle.std.specs.Prelude.{Result, IfOk, IfErr, IsErr, IsErrAnd, OnOk}
 use Rattle.zf_text.specs.declared.token.Prefix.TheVariants.{Power, Finset, Domain, Range, Size}
 use Rattle.zf_text.specs.declared.tree.Sign.TheVariants as sign
 use Rattle.zf_text.specs.Spelling as text
@@ -8,7 +8,6 @@ use Rattle.zf_text.specs.Trees.{Tree, named, numeral, constant, empty_set, brack
 use Rattle.zf_type.specs.declared.fault.Refusal.{Refusal}
 use Rattle.zf_type.specs.declared.fault.Refusal.TheVariants.{Fault, OutOfMemory}
 use Rattle.zf_type.specs.declared.fault.TypeFaultKind.{TypeFaultKind}
-use Rattle.zf_type.specs.declared.judge.Judged.{Judged}
 use Rattle.zf_type.specs.declared.operator.Need.{Need}
 use Rattle.zf_type.specs.declared.operator.Need.TheVariants as need
 use Rattle.zf_type.specs.declared.operator.Operator.{Operator}
@@ -20,7 +19,7 @@ use Rattle.zf_type.specs.declared.sort.Sort as program
 use Rattle.zf_type.specs.Judging.{IsJudged, Judges, unary_tree, binary_tree}
 use Rattle.zf_type.specs.Offences.{Offends, Misplaced, MakesTooLarge, Clash}
 use Rattle.zf_type.specs.Refusals.{IfFault}
-use Rattle.zf_type.specs.ResolvedTrees.{resolved_of, unary, binary}
+use Rattle.zf_type.specs.ResolvedTrees.{unary, binary}
 use Rattle.zf_type.specs.Shapes.{line_of}
 use Rattle.zf_type.specs.Resolving.{resolved}
 use Rattle.zf_type.specs.Rules.{Sort, a_schema, sort_of, pair, number, predicate, set_of, Meets, need_of, left_need, right_need, rule_of, UnaryTakes, Takes, IsMade, IsMadeOfOne, IsSmallSort}
@@ -33,7 +32,11 @@ pub if_fault : (r : Refusal) (P Q : TypeFaultKind → ℕ → Type 0) → ((k : 
 if_fault (Fault f) P Q step h = step f.kind f.line h
 if_fault OutOfMemory P Q step h = tt
 
-pub judged_of : (s : Scope) (n : Need) (e : Tree) (j : Judged) → Judges s n e (Ok j) → IsJudged s n e j
+pub on_ok : {T E : Type 0} (r : Result T E) (P : Type 0) → P → OnOk r P
+on_ok (Ok x) P h = h
+on_ok (Err x) P h = tt
+
+pub judged_of : (s : Scope) (n : Need) (e : Tree) (j : program.Sort) → Judges s n e (Ok j) → IsJudged s n e j
 unfolding Judges
 judged_of s n e j h = h.0
 
@@ -41,7 +44,7 @@ pub fault_of : (s : Scope) (n : Need) (e : Tree) (r : Refusal) → Judges s n e 
 unfolding Judges
 fault_of s n e r h = h.1
 
-pub judges_ok : (s : Scope) (n : Need) (e : Tree) (j : Judged) → IsJudged s n e j → Judges s n e (Ok j)
+pub judges_ok : (s : Scope) (n : Need) (e : Tree) (j : program.Sort) → IsJudged s n e j → Judges s n e (Ok j)
 unfolding Judges
 judges_ok s n e j h = (h, tt)
 
@@ -53,7 +56,7 @@ pub no_memory : (s : Scope) (n : Need) (e : Tree) → Judges s n e (Err OutOfMem
 unfolding Judges
 no_memory s n e = (tt, tt)
 
-pub from_memory : (s : Scope) (n : Need) (e : Tree) (r : Result Judged Refusal) → IsErr r → IsErrAnd r (λ x. x ≡ OutOfMemory) → Judges s n e r
+pub from_memory : (s : Scope) (n : Need) (e : Tree) (r : Result program.Sort Refusal) → IsErr r → IsErrAnd r (λ x. x ≡ OutOfMemory) → Judges s n e r
 from_memory s n e (Ok j) h g = absurd (true≢false (sym h))
 from_memory s n e (Err x) h g = subst (λ y. Judges s n e (Err y)) (sym g) (no_memory s n e)
 
@@ -61,7 +64,7 @@ from_memory s n e (Err x) h g = subst (λ y. Judges s n e (Err y)) (sym g) (no_m
 pub passed_on : (s t : Scope) (n m : Need) (e f : Tree) (r : Refusal) → ((k : TypeFaultKind) (l : ℕ) → Offends s n e k l → Offends t m f k l) → Judges s n e (Err r) → Judges t m f (Err r)
 passed_on s t n m e f r step h = judges_err t m f r (if_fault r (λ k l. Offends s n e k l) (λ k l. Offends t m f k l) step (fault_of s n e r h))
 
-pub from_part : (s t : Scope) (n m : Need) (e f : Tree) (x : Refusal) (r : Result Judged Refusal) → ((k : TypeFaultKind) (l : ℕ) → Offends s n e k l → Offends t m f k l) → Judges s n e (Err x) → IsErr r → IsErrAnd r (λ y. y ≡ x) → Judges t m f r
+pub from_part : (s t : Scope) (n m : Need) (e f : Tree) (x : Refusal) (r : Result program.Sort Refusal) → ((k : TypeFaultKind) (l : ℕ) → Offends s n e k l → Offends t m f k l) → Judges s n e (Err x) → IsErr r → IsErrAnd r (λ y. y ≡ x) → Judges t m f r
 from_part s t n m e f x (Ok j) step h p g = absurd (true≢false (sym p))
 from_part s t n m e f x (Err y) step h p g = subst (λ z. Judges t m f (Err z)) (sym g) (passed_on s t n m e f x step h)
 
@@ -128,6 +131,11 @@ unary_resolved s (Sign op) l e = refl
 unary_resolved s Inverse l e = refl
 unary_resolved s Not l e = refl
 
+pub unary_line : (op : Unary) (l : ℕ) (e : Tree) → l ≡ text.line_of (unary_tree op l e)
+unary_line (Sign op) l e = refl
+unary_line Inverse l e = refl
+unary_line Not l e = refl
+
 pub unary_operand : (s : Scope) (n : Need) (op : Unary) (l : ℕ) (e : Tree) (k : TypeFaultKind) (m : ℕ) → Offends s (need_of op) e k m → Offends s n (unary_tree op l e) k m
 unary_operand s n (Sign op) l e k m h = inl h
 unary_operand s n Inverse l e k m h = inl h
@@ -183,6 +191,13 @@ binary_resolved s (Connective op) l a b = refl
 binary_resolved s Application l a b = refl
 binary_resolved s Image l a b = refl
 
+pub binary_line : (op : Operator) (l : ℕ) (a b : Tree) → l ≡ text.line_of (binary_tree op l a b)
+binary_line (Function op) l a b = refl
+binary_line (Generic op) l a b = refl
+binary_line (Connective op) l a b = refl
+binary_line Application l a b = refl
+binary_line Image l a b = refl
+
 pub binary_left : (s : Scope) (n : Need) (op : Operator) (l : ℕ) (a b : Tree) (k : TypeFaultKind) (m : ℕ) → Offends s (left_need (rule_of op)) a k m → Offends s n (binary_tree op l a b) k m
 binary_left s n (Function op) l a b k m h = inl h
 binary_left s n (Generic op) l a b k m h = inl h
@@ -205,36 +220,38 @@ binary_clash s n Application l a b k m h = inr (inr (inl h))
 binary_clash s n Image l a b k m h = inr (inr (inl h))
 
 -- the left operand fails
-pub left_fails : (s : Scope) (n m : Need) (op : Operator) (l : ℕ) (a b c e : Tree) (x : Refusal) (r : Result Judged Refusal) → c ≡ a → m ≡ left_need (rule_of op) → e ≡ binary_tree op l a b → Judges s m c (Err x) → IsErr r → IsErrAnd r (λ y. y ≡ x) → Judges s n e r
+pub left_fails : (s : Scope) (n m : Need) (op : Operator) (l : ℕ) (a b c e : Tree) (x : Refusal) (r : Result program.Sort Refusal) → c ≡ a → m ≡ left_need (rule_of op) → e ≡ binary_tree op l a b → Judges s m c (Err x) → IsErr r → IsErrAnd r (λ y. y ≡ x) → Judges s n e r
 left_fails s n m op l a b c e x r p q t h f g =
     let left = subst (λ d. Judges s (left_need (rule_of op)) d (Err x)) p (subst (λ o. Judges s o c (Err x)) q h) in
     subst (λ d. Judges s n d r) (sym t) (from_part s s (left_need (rule_of op)) n a (binary_tree op l a b) x r (binary_left s n op l a b) left f g)
 
 -- the left operand is judged, and so is the whole
-pub left_holds : (s t : Scope) (n m : Need) (op : Operator) (l : ℕ) (a b c d e : Tree) (j : Judged) (r : Result Judged Refusal) → t ≡ s → c ≡ a → d ≡ b → m ≡ left_need (rule_of op) → e ≡ binary_tree op l a b → Judges s m c (Ok j) → ((f : Tree) → IsJudged t (left_need (rule_of op)) f j → Judges t n (binary_tree op l f d) r) → Judges s n e r
+pub left_holds : (s t : Scope) (n m : Need) (op : Operator) (l : ℕ) (a b c d e : Tree) (j : program.Sort) (r : Result program.Sort Refusal) → t ≡ s → c ≡ a → d ≡ b → m ≡ left_need (rule_of op) → e ≡ binary_tree op l a b → Judges s m c (Ok j) → ((f : Tree) → IsJudged t (left_need (rule_of op)) f j → Judges t n (binary_tree op l f d) r) → Judges s n e r
 left_holds s t n m op l a b c d e j r o p q u v h step =
     let left = subst (λ f. Judges s (left_need (rule_of op)) f (Ok j)) p (subst (λ w. Judges s w c (Ok j)) u h) in
     let whole = step a (judged_of t (left_need (rule_of op)) a j (subst (λ z. Judges z (left_need (rule_of op)) a (Ok j)) (sym o) left)) in
     subst (λ f. Judges s n f r) (sym v) (subst (λ f. Judges s n (binary_tree op l a f) r) q (subst (λ z. Judges z n (binary_tree op l a d) r) o whole))
 
+-- what holds of a term holds of it in brackets
+pub judges_bracket : (s : Scope) (n : Need) (l : ℕ) (e : Tree) (r : Result program.Sort Refusal) → Judges s n e r → Judges s n (bracket l e) r
+judges_bracket s n l e (Ok j) h =
+    let judged = judged_of s n e j h in
+    judges_ok s n (bracket l e) j (record { is_of = (judged.is_of, (λ is. no_schema n (sort_of j) judged.met is)); met = judged.met })
+judges_bracket s n l e (Err x) h = passed_on s s n n e (bracket l e) x (λ k m o. inl o) h
+
 -- ---- the clauses of the public call
 
-pub judges_sort : (s : Scope) (n : Need) (e : Tree) (r : Result Judged Refusal) → Judges s n e r → IfOk r (λ j. IsOf s e (sort_of j.sort))
+pub judges_sort : (s : Scope) (n : Need) (e : Tree) (r : Result program.Sort Refusal) → Judges s n e r → IfOk r (λ j. IsOf s e (sort_of j))
 unfolding Judges
 judges_sort s n e (Ok j) h = h.0.is_of
 judges_sort s n e (Err x) h = tt
 
-pub judges_met : (s : Scope) (n : Need) (e : Tree) (r : Result Judged Refusal) → Judges s n e r → IfOk r (λ j. Meets n (sort_of j.sort))
+pub judges_met : (s : Scope) (n : Need) (e : Tree) (r : Result program.Sort Refusal) → Judges s n e r → IfOk r (λ j. Meets n (sort_of j))
 unfolding Judges
 judges_met s n e (Ok j) h = h.0.met
 judges_met s n e (Err x) h = tt
 
-pub judges_term : (s : Scope) (n : Need) (e : Tree) (r : Result Judged Refusal) → Judges s n e r → IfOk r (λ j. resolved_of j.term ≡ resolved s e)
-unfolding Judges
-judges_term s n e (Ok j) h = h.0.term
-judges_term s n e (Err x) h = tt
-
-pub judges_wrong : (s : Scope) (n : Need) (e : Tree) (r : Result Judged Refusal) → Judges s n e r → IfErr r (λ x. IfFault x (λ k m. Offends s n e k m))
+pub judges_wrong : (s : Scope) (n : Need) (e : Tree) (r : Result program.Sort Refusal) → Judges s n e r → IfErr r (λ x. IfFault x (λ k m. Offends s n e k m))
 unfolding Judges
 judges_wrong s n e r h = h.1
 
@@ -242,6 +259,6 @@ pub fault_from : {T : Type 0} (x : Refusal) (P : TypeFaultKind → ℕ → Type 
 fault_from x P (Ok j) h p g = absurd (true≢false (sym p))
 fault_from x P (Err y) h p g = subst (λ z. IfFault z P) (sym g) h
 
-pub from_fault : (s : Scope) (n : Need) (e : Tree) (x : Refusal) (r : Result Judged Refusal) → IfFault x (λ k m. Offends s n e k m) → IsErr r → IsErrAnd r (λ y. y ≡ x) → Judges s n e r
+pub from_fault : (s : Scope) (n : Need) (e : Tree) (x : Refusal) (r : Result program.Sort Refusal) → IfFault x (λ k m. Offends s n e k m) → IsErr r → IsErrAnd r (λ y. y ≡ x) → Judges s n e r
 from_fault s n e x (Ok j) h p g = absurd (true≢false (sym p))
 from_fault s n e x (Err y) h p g = subst (λ z. Judges s n e (Err z)) (sym g) (judges_err s n e x h)

@@ -14,10 +14,15 @@ pub mod TypesSeen
 pub mod MovedLists
 pub mod Nodes
 pub mod Heights
+pub mod TextNodes
+pub mod TextHeights
+pub mod TextShapes
 pub mod FirstLines
+pub mod WrittenLines
 pub mod Conjunctions
 pub mod Copies
 pub mod Renumbered
+pub mod Filling
 pub mod Places
 pub mod SetsSeen
 pub mod Named

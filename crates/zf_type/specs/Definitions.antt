@@ -1,6 +1,8 @@
 -- What global names are defined as, as plain data, and how the program's globals are seen as it.
 use Rattle.std.specs.Prelude.{ℕ, List, [], ◌∷◌, map}
 use Rattle.zf_type.specs.declared.conjunct.Conjunct.{Conjunct}
+use Rattle.zf_type.specs.declared.conjunct.Statement.{Statement}
+use Rattle.zf_type.specs.declared.conjunct.Statement.TheVariants as statement
 use Rattle.zf_type.specs.declared.extent.Extent.{Extent}
 use Rattle.zf_type.specs.declared.globals.Component.{Component}
 use Rattle.zf_type.specs.declared.globals.Domain.{Domain, fold-Domain}
@@ -12,6 +14,7 @@ use Rattle.zf_type.specs.declared.globals.Globals.{Globals}
 use Rattle.zf_type.specs.ResolvedTrees.{ResolvedTree, resolved_of}
 use Rattle.zf_type.specs.Shapes.{moved, numbering}
 use Rattle.zf_type.specs.Types.{Ty, type_of}
+use Rattle.zf_type.specs.Written.{written_of}
 
 -- a declared set: that of a declaration, all values of a type, or the two sides of a disjunction
 mutual
@@ -55,7 +58,7 @@ sets_of [] = no_sets
 sets_of (d ∷ ds) = set d (sets_of ds)
 
 abbrev pub domain_step : Domain-F DeclaredSet → DeclaredSet
-domain_step (Domain-F.Plain t) = plain (resolved_of t)
+domain_step (Domain-F.Plain t) = plain (written_of t)
 domain_step (Domain-F.Carrier t) = carrier (type_of t)
 domain_step (Domain-F.Either left right) = sides (sets_of left) (sets_of right)
 
@@ -65,8 +68,12 @@ set_of = fold-Domain DeclaredSet domain_step
 abbrev pub comp_of : Component → Comp
 comp_of c = record { name = c.name; type = type_of c.ztype; sets = map set_of c.domains }
 
+abbrev pub statement_of : Statement → ResolvedTree
+statement_of (statement.Written w) = written_of w
+statement_of (statement.Made t) = resolved_of t
+
 abbrev pub conjunct_of : Conjunct → ResolvedTree
-conjunct_of c = moved (numbering c.places) (resolved_of c.term)
+conjunct_of c = moved (numbering c.places) (statement_of c.statement)
 
 abbrev pub schema_of : Flat → Schema
 schema_of f = record { comps = map comp_of f.components; conjuncts = map conjunct_of f.conjuncts }

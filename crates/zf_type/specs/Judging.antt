@@ -6,10 +6,9 @@ use Rattle.zf_text.specs.declared.tree.Term.TheVariants as form
 use Rattle.zf_text.specs.declared.tree.Link.{Link}
 use Rattle.zf_text.specs.declared.tree.VarDecl.{VarDecl}
 use Rattle.zf_text.specs.declared.token.Quantifier.{Quantifier}
+use Rattle.zf_text.specs.Spelling.{line_of}
 use Rattle.zf_text.specs.Trees.{Tree, tree_of, VarDecls, Perhaps, absent, present, Trees, no_trees, tree, tuple, display, product, prefixed, inverse, negated, image, applied, infixed, arrow, connected}
 use Rattle.zf_type.specs.declared.fault.Refusal.{Refusal}
-use Rattle.zf_type.specs.declared.judge.Judged.{Judged}
-use Rattle.zf_type.specs.declared.judge.lists.Members.{Members}
 use Rattle.zf_type.specs.declared.operator.Listed.{Listed}
 use Rattle.zf_type.specs.declared.operator.Listed.TheVariants.{Tuple, Display, Product}
 use Rattle.zf_type.specs.declared.operator.Need.{Need}
@@ -18,28 +17,24 @@ use Rattle.zf_type.specs.declared.operator.Operator.{Operator}
 use Rattle.zf_type.specs.declared.operator.Operator.TheVariants.{Function, Generic, Connective, Application, Image}
 use Rattle.zf_type.specs.declared.operator.Unary.{Unary}
 use Rattle.zf_type.specs.declared.operator.Unary.TheVariants.{Sign, Inverse, Not}
+use Rattle.zf_type.specs.declared.sort.Sort as program
 use Rattle.zf_type.specs.declared.fault.TypeFaultKind.{TypeFaultKind}
 use Rattle.zf_type.specs.declared.fault.TypeFaultKind.TheVariants.{LocalTwice}
-use Rattle.zf_type.specs.declared.judge.binders.Bound.{Bound}
 use Rattle.zf_type.specs.Offences.{Offends, PartOffends, SetsOffend, Repeats, IsRepeated}
 use Rattle.zf_type.specs.Refusals.{IfFault}
-use Rattle.zf_type.specs.ResolvedTrees.{ResolvedTree, terms, ranges, resolved_of, range_of}
-use Rattle.zf_type.specs.Shapes.{line_of}
-use Rattle.zf_type.specs.Resolving.{resolved, resolved_all, resolved_ranges}
 use Rattle.zf_type.specs.Rules.{Sort, typed, set_of, sort_of, Meets}
-use Rattle.zf_type.specs.Scopes.{Scope, Var, spelling, variable_of}
+use Rattle.zf_type.specs.Scopes.{Scope, Var, spelling}
 use Rattle.zf_type.specs.Types as t
-use Rattle.zf_type.specs.Types.{Ty, Tys, power, no_types, type, types, type_of}
-use Rattle.zf_type.specs.Typing.{IsOf, Binds, IsApart, declared}
+use Rattle.zf_type.specs.Types.{Ty, Tys, power, no_types, type}
+use Rattle.zf_type.specs.Typing.{IsOf, IsApart, declared}
 
--- the term is of this sort, which its place takes, and so resolved
-pub record IsJudged (s : Scope) (n : Need) (e : Tree) (j : Judged) : Type 0 where
-  pub is_of : IsOf s e (sort_of j.sort)
-  pub met : Meets n (sort_of j.sort)
-  pub term : resolved_of j.term ≡ resolved s e
+-- the term is of this sort, which its place takes
+pub record IsJudged (s : Scope) (n : Need) (e : Tree) (z : program.Sort) : Type 0 where
+  pub is_of : IsOf s e (sort_of z)
+  pub met : Meets n (sort_of z)
 
 -- the answer is what the term is, or an offence of it
-unfoldable pub Judges : Scope → Need → Tree → Result Judged Refusal → Type 0
+unfoldable pub Judges : Scope → Need → Tree → Result program.Sort Refusal → Type 0
 Judges s n e result = IfOk result (λ j. IsJudged s n e j) × IfErr result (λ r. IfFault r (λ k m. Offends s n e k m))
 
 -- the trees that share a form
@@ -88,11 +83,6 @@ abbrev pub AreMembers : Listed → Scope → Trees → Tys → Type 0
 AreMembers form s no_trees us = us ≡ no_types
 AreMembers form s (tree e es) us = (v : Ty) × (vs : Tys) × IsOf s e (member_sort form v) × AreMembers form s es vs × (us ≡ type v vs)
 
--- the terms are members of these types, and so resolved
-pub record AreJudged (form : Listed) (s : Scope) (es : Trees) (ms : Members) : Type 0 where
-  pub are_of : AreMembers form s es (types (map type_of ms.types))
-  pub terms : terms (map resolved_of ms.terms) ≡ resolved_all s es
-
 -- one type or more, all the same as this one
 abbrev pub AreAll : Tys → Ty → Type 0
 AreAll no_types u = ⊥
@@ -106,16 +96,16 @@ Makes Product us u = u ≡ power (t.product us)
 Makes Display us u = (v : Ty) × AreAll us v × (u ≡ power v)
 
 -- the line of a term whose type is another
-abbrev pub IsOther : Ty → List ResolvedTree → Tys → ℕ → Type 0
+abbrev pub IsOther : Ty → List Tree → Tys → ℕ → Type 0
 IsOther u [] us m = ⊥
-IsOther u (r ∷ rs) no_types m = ⊥
-IsOther u (r ∷ rs) (type v vs) m = ((u ≡ v → ⊥) × (m ≡ line_of r)) ⊎ IsOther u rs vs m
+IsOther u (e ∷ es) no_types m = ⊥
+IsOther u (e ∷ es) (type v vs) m = ((u ≡ v → ⊥) × (m ≡ line_of e)) ⊎ IsOther u es vs m
 
 -- of a term whose type is not that of the first; where there is none, that of the whole
-abbrev pub DiffersAt : (line : ℕ) → List ResolvedTree → Tys → ℕ → Type 0
+abbrev pub DiffersAt : (line : ℕ) → List Tree → Tys → ℕ → Type 0
 DiffersAt l [] us m = (us ≡ no_types) × (m ≡ l)
-DiffersAt l (r ∷ rs) no_types m = ⊥
-DiffersAt l (r ∷ rs) (type u us) m = IsOther u rs us m
+DiffersAt l (e ∷ es) no_types m = ⊥
+DiffersAt l (e ∷ es) (type u us) m = IsOther u es us m
 
 -- ---- parts that may be left out
 
@@ -123,14 +113,14 @@ abbrev pub part_tree : Option Term → Perhaps
 part_tree None = absent
 part_tree (Some t) = present (tree_of t)
 
--- the part is what its place takes, and so resolved, or it is left out
-abbrev pub IsPart : Scope → Need → Perhaps → Option Judged → Type 0
+-- the part is what its place takes, or it is left out
+abbrev pub IsPart : Scope → Need → Perhaps → Option program.Sort → Type 0
 IsPart s n absent None = Unit {0}
 IsPart s n absent (Some j) = ⊥
 IsPart s n (present e) None = ⊥
 IsPart s n (present e) (Some j) = IsJudged s n e j
 
-unfoldable pub JudgesPart : Scope → Need → Perhaps → Result (Option Judged) Refusal → Type 0
+unfoldable pub JudgesPart : Scope → Need → Perhaps → Result (Option program.Sort) Refusal → Type 0
 JudgesPart s n p result = IfOk result (λ o. IsPart s n p o) × IfErr result (λ r. IfFault r (λ k m. PartOffends s n p k m))
 
 -- ---- bound variables
@@ -149,11 +139,6 @@ AreNew vs (n ∷ ns) = (IsBound (spelling n) vs → ⊥) × IsApart n ns × AreN
 abbrev pub AreRepeated : List Var → List Name → TypeFaultKind → ℕ → Type 0
 AreRepeated vs [] k m = ⊥
 AreRepeated vs (n ∷ ns) k m = (IsBound (spelling n) vs × (k ≡ LocalTwice) × (m ≡ n.line)) ⊎ (IsRepeated n ns k m ⊎ AreRepeated vs ns k m)
-
--- the declarations bind these variables, and their sets are so resolved
-pub record AreBound (s : Scope) (ds : VarDecls) (b : Bound) : Type 0 where
-  pub binds : Binds s ds (map variable_of b.variables.items)
-  pub ranges : ranges (map range_of b.ranges) ≡ resolved_ranges s ds
 
 -- no variables are bound by declarations with this offence
 abbrev pub DeclarationsOffend : Scope → VarDecls → TypeFaultKind → ℕ → Type 0

@@ -9,6 +9,8 @@ pub mod Rules
 pub mod Scopes
 pub mod Typing
 pub mod Resolving
+pub mod Filling
+pub mod Written
 pub mod Offences
 pub mod Refusals
 pub mod Numbers

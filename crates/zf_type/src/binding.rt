@@ -68,6 +68,7 @@ pub(crate) fn bind<'a>(
 ) -> Result<(), AllocError>
     ensures ok { OnOk result (scope_of scope.new ≡ within (scope_of scope.old) (map variable_of variables.entry.items)) }
     ensures err { OnErr result (scope_of scope.new ≡ scope_of scope.old) }
+    ensures references { scope.new.references ≡ scope.old.references }
 {
     let mut variables = variables;
     scope.locals.append(&mut variables)?;
@@ -76,7 +77,8 @@ pub(crate) fn bind<'a>(
 
 /// Leaves in scope the variables that are bound outside.
 pub(crate) fn unbind(scope: &mut Scope<'_, '_>, outside: usize)
-    ensures { (s : spec.Scope) (vs : List Var) → scope_of scope.old ≡ within s vs → outside ≡ length s.locals → scope_of scope.new ≡ s }
+    ensures scope { (s : spec.Scope) (vs : List Var) → scope_of scope.old ≡ within s vs → outside ≡ length s.locals → scope_of scope.new ≡ s }
+    ensures references { scope.new.references ≡ scope.old.references }
 {
     scope.locals.truncate(outside);
 }

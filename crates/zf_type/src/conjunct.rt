@@ -1,28 +1,42 @@
 //! Conjuncts of schemas.
 ghost use Rattle.std.specs.Prelude.{◌≡◌, ◌+◌, ◌<◌, ◌≤◌, ◌↔◌, ℕ, IsTrue, IfOk, MatchOption};
-ghost use Rattle.zf_type.specs.Definitions.{conjunct_of};
+ghost use Rattle.zf_type.specs.Definitions.{conjunct_of, globals_of, statement_of};
+ghost use Rattle.zf_type.specs.Extents as extents;
 ghost use Rattle.zf_type.specs.ResolvedTrees.{resolved_of};
+ghost use Rattle.zf_type.specs.Scopes.{or_else};
 ghost use Rattle.zf_type.specs.Shapes as spec;
 
+use crate::globals::Globals;
+use crate::infinite::offending_after;
 use crate::resolved::Resolved;
+use crate::written::Written;
 use bumpalo::Bump;
 use std::alloc::AllocError;
 use zf_data::arena::{Items, Lasting};
 
-/// A conjunct of a schema: a term, which is shared with the schemas that take in the schema, and the places of its components in
+/// What a conjunct says.
+#[derive(Drop)]
+pub enum Statement<'a> {
+    /// A predicate of the text.
+    Written(Written<'a>),
+    /// A predicate that the schema calculus makes.
+    Made(Resolved<'a>),
+}
+
+/// A conjunct of a schema: a statement, which is shared with the schemas that take in the schema, and the places of its components in
 /// this one, where they are others.
 #[derive(Drop)]
 pub struct Conjunct<'a> {
-    pub term: Lasting<'a, Resolved<'a>>,
+    pub statement: Lasting<'a, Statement<'a>>,
     pub places: Option<Lasting<'a, Items<'a, usize>>>,
 }
 
 impl<'a> Conjunct<'a> {
-    pub fn of(arena: &'a Bump, term: Resolved<'a>) -> Result<Conjunct<'a>, AllocError>
-        ensures { IfOk result (λ c. conjunct_of c ≡ resolved_of term.entry) }
+    pub fn of(arena: &'a Bump, statement: Statement<'a>) -> Result<Conjunct<'a>, AllocError>
+        ensures { IfOk result (λ c. conjunct_of c ≡ statement_of statement.entry) }
     {
         Ok(Conjunct {
-            term: Lasting::new(arena, term)?,
+            statement: Lasting::new(arena, statement)?,
             places: None,
         })
     }
@@ -32,7 +46,7 @@ impl<'a> Conjunct<'a> {
         ensures { result ≡ self.now }
     {
         Conjunct {
-            term: self.term.share(),
+            statement: self.statement.share(),
             places: shared(&self.places),
         }
     }
@@ -47,7 +61,7 @@ impl<'a> Conjunct<'a> {
     {
         let places = composed(arena, &self.places, places)?;
         Ok(Conjunct {
-            term: self.term,
+            statement: self.statement,
             places,
         })
     }
@@ -57,7 +71,10 @@ impl<'a> Conjunct<'a> {
     pub fn line(&self) -> u32
         ensures { result ≡ spec.line_of (conjunct_of self.now) }
     {
-        self.term.get().line()
+        match self.statement.get() {
+            Statement::Written(term) => term.line(),
+            Statement::Made(term) => term.line(),
+        }
     }
 
     /// What is left of room for so many nodes, if the term has no more.
@@ -65,7 +82,10 @@ impl<'a> Conjunct<'a> {
     pub fn room_after(&self, room: usize) -> Option<usize>
         ensures { MatchOption result (room < spec.nodes (conjunct_of self.now)) (λ left. left + spec.nodes (conjunct_of self.now) ≡ room) }
     {
-        self.term.get().room_after(room)
+        match self.statement.get() {
+            Statement::Written(term) => term.room_after(room),
+            Statement::Made(term) => term.room_after(room),
+        }
     }
 
     /// Whether the term is no higher.
@@ -73,7 +93,21 @@ impl<'a> Conjunct<'a> {
     pub fn is_within(&self, highest: usize) -> bool
         ensures { IsTrue result ↔ spec.height (conjunct_of self.now) ≤ highest }
     {
-        self.term.get().is_within(highest)
+        match self.statement.get() {
+            Statement::Written(term) => term.is_within(highest),
+            Statement::Made(term) => term.is_within(highest),
+        }
+    }
+
+    /// The line that was found before, or that of the first name in the conjunct that offends.
+    #[tactic(auto, using(crate::proofs::Renumbered::same_offences))]
+    pub fn offending_after(&self, found: Option<u32>, globals: &Globals<'a>) -> Option<u32>
+        ensures { result ≡ or_else found (extents.first (extents.offending (globals_of globals.now) (conjunct_of self.now))) }
+    {
+        match self.statement.get() {
+            Statement::Written(term) => term.offending_after(found, globals),
+            Statement::Made(term) => offending_after(term, found, globals),
+        }
     }
 
     /// The term, by the places in the schema.
@@ -81,8 +115,30 @@ impl<'a> Conjunct<'a> {
         ensures { IfOk result (λ t. resolved_of t ≡ conjunct_of self.now) }
     {
         match &self.places {
-            None => self.term.get().copy(arena),
-            Some(places) => self.term.get().moved(arena, places.get().as_slice()),
+            None => self.statement.get().resolved(arena),
+            Some(places) => self.statement.get().moved(arena, places.get().as_slice()),
+        }
+    }
+}
+
+impl<'a> Statement<'a> {
+    /// The term of the statement.
+    fn resolved(&self, arena: &'a Bump) -> Result<Resolved<'a>, AllocError>
+        ensures { IfOk result (λ t. resolved_of t ≡ statement_of self.now) }
+    {
+        match self {
+            Statement::Written(term) => term.resolved(arena),
+            Statement::Made(term) => term.copy(arena),
+        }
+    }
+
+    /// The same, with its components numbered anew.
+    fn moved(&self, arena: &'a Bump, places: &[usize]) -> Result<Resolved<'a>, AllocError>
+        ensures { IfOk result (λ t. resolved_of t ≡ spec.moved (spec.place_in places.now) (statement_of self.now)) }
+    {
+        match self {
+            Statement::Written(term) => term.resolved(arena)?.moved(arena, places),
+            Statement::Made(term) => term.moved(arena, places),
         }
     }
 }

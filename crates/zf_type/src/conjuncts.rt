@@ -1,74 +1,116 @@
-//! The conjuncts of a predicate.
-ghost use Rattle.std.specs.Prelude.{◌≡◌, ◌++◌, OnOk, map};
-ghost use Rattle.zf_type.specs.ResolvedTrees.{resolved_of};
+//! The conjuncts of a predicate of the text.
+ghost use Rattle.std.specs.Prelude.{◌≡◌, ◌++◌, [], ◌∷◌, IfErr, OnOk, map};
+ghost use Rattle.zf_text.specs.Trees.{tree_of};
+ghost use Rattle.zf_type.specs.Offences.{Offends};
+ghost use Rattle.zf_type.specs.Refusals.{IfFault};
+ghost use Rattle.zf_type.specs.Resolving.{resolved};
+ghost use Rattle.zf_type.specs.Rules.{predicate};
+ghost use Rattle.zf_type.specs.Scopes.{scope_of};
 ghost use Rattle.zf_type.specs.Shapes as spec;
+ghost use Rattle.zf_type.specs.Typing.{IsOf};
+ghost use Rattle.zf_type.specs.Written.{is_conjunction, written_of};
+ghost use Rattle.zf_type.specs.declared.operator.Need.TheVariants as needs;
 
-use crate::operator::Operator;
-use crate::resolved::Resolved;
-use std::alloc::AllocError;
+use crate::fault::Refusal;
+use crate::judge::judge;
+use crate::operator::Need;
+use crate::scope::Scope;
+use crate::written::Written;
+use bumpalo::Bump;
 use zf_data::arena::Items;
 use zf_text::token::Connective;
+use zf_text::tree::Term;
 
-impl Operator {
-    fn is_and(self) -> bool
-        ensures { result ≡ spec.is_and self }
-    {
-        match self {
-            Operator::Connective(Connective::And) => true,
-            Operator::Connective(Connective::Or) => false,
-            Operator::Connective(Connective::Implies) => false,
-            Operator::Connective(Connective::Iff) => false,
-            Operator::Function(_) => false,
-            Operator::Generic(_) => false,
-            Operator::Application => false,
-            Operator::Image => false,
-        }
+/// Whether it is a conjunction, within brackets or without.
+#[tactic(auto, using(zf_text::proofs::TermSeen::seen))]
+fn is_conjunction(term: &Term<'_>) -> bool
+    ensures { result ≡ is_conjunction (tree_of term.now) }
+{
+    match term {
+        Term::Bracket(_, inner) => is_conjunction(inner.get()),
+        Term::Connective(_, connective, _, _) => *connective == Connective::And,
+        Term::Name(_)
+        | Term::Number(_, _)
+        | Term::Constant(_, _)
+        | Term::EmptySet(_, _)
+        | Term::Tuple(_, _)
+        | Term::Display(_, _)
+        | Term::Builder(_, _, _, _)
+        | Term::Prefix(_, _, _)
+        | Term::Inverse(_, _)
+        | Term::Image(_, _, _)
+        | Term::Apply(_, _, _)
+        | Term::Infix(_, _, _, _)
+        | Term::Arrow(_, _, _, _)
+        | Term::Product(_, _)
+        | Term::Chain(_, _, _)
+        | Term::Not(_, _)
+        | Term::Quantified(_, _, _, _, _) => false,
     }
 }
 
-impl<'a> Resolved<'a> {
-    /// Whether it is a conjunction, within brackets or without.
-    #[tactic(auto, using(crate::proofs::ResolvedSeen::seen))]
-    fn is_conjunction(&self) -> bool
-        ensures { result ≡ spec.is_conjunction (resolved_of self.now) }
-    {
-        match self {
-            Resolved::Name(_, _) => false,
-            Resolved::Number(_, _) => false,
-            Resolved::Constant(_, _) => false,
-            Resolved::EmptySet(_, _) => false,
-            Resolved::Bracket(_, inner) => inner.get().is_conjunction(),
-            Resolved::Listed(_, _, _) => false,
-            Resolved::Builder(_, _, _, _) => false,
-            Resolved::Unary(_, _, _) => false,
-            Resolved::Binary(_, op, _, _) => op.is_and(),
-            Resolved::Chain(_, _, _) => false,
-            Resolved::Quantified(_, _, _, _, _) => false,
+/// Adds the conjuncts of the predicate, where it is one.
+#[tactic(auto, using(zf_text::proofs::TermSeen::seen))]
+pub fn push_conjuncts<'a>(
+    term: &'a Term<'a>,
+    arena: &'a Bump,
+    scope: &mut Scope<'a, '_>,
+    conjuncts: &mut Items<'a, Written<'a>>,
+) -> Result<(), Refusal>
+    ensures is { OnOk result (IsOf (scope_of scope.old) (tree_of term.now) predicate) }
+    ensures ok { OnOk result (map written_of conjuncts.new ≡ map written_of conjuncts.old ++ spec.conjuncts (resolved (scope_of scope.old) (tree_of term.now))) }
+    ensures wrong { IfErr result (λ e. IfFault e (λ kind line. Offends (scope_of scope.old) needs.Predicate (tree_of term.now) kind line)) }
+    ensures scope { scope_of scope.new ≡ scope_of scope.old }
+{
+    match term {
+        Term::Bracket(_, inner) => {
+            if is_conjunction(inner.get()) {
+                push_conjuncts(inner.get(), arena, scope, conjuncts)
+            } else {
+                push_written(term, arena, scope, conjuncts)
+            }
         }
+        Term::Connective(_, connective, left, right) => {
+            if *connective == Connective::And {
+                push_conjuncts(left.get(), arena, scope, conjuncts)?;
+                push_conjuncts(right.get(), arena, scope, conjuncts)
+            } else {
+                push_written(term, arena, scope, conjuncts)
+            }
+        }
+        Term::Name(_)
+        | Term::Number(_, _)
+        | Term::Constant(_, _)
+        | Term::EmptySet(_, _)
+        | Term::Tuple(_, _)
+        | Term::Display(_, _)
+        | Term::Builder(_, _, _, _)
+        | Term::Prefix(_, _, _)
+        | Term::Inverse(_, _)
+        | Term::Image(_, _, _)
+        | Term::Apply(_, _, _)
+        | Term::Infix(_, _, _, _)
+        | Term::Arrow(_, _, _, _)
+        | Term::Product(_, _)
+        | Term::Chain(_, _, _)
+        | Term::Not(_, _)
+        | Term::Quantified(_, _, _, _, _) => { push_written(term, arena, scope, conjuncts) }
     }
+}
 
-    /// Adds the conjuncts of the predicate.
-    #[tactic(auto, using(crate::proofs::Conjunctions::split))]
-    pub fn push_conjuncts(self, conjuncts: &mut Items<'a, Resolved<'a>>) -> Result<(), AllocError>
-        ensures { OnOk result (map resolved_of conjuncts.new ≡ map resolved_of conjuncts.old ++ spec.conjuncts (resolved_of self.entry)) }
-    {
-        match self {
-            Resolved::Bracket(line, inner) => {
-                if inner.get().is_conjunction() {
-                    inner.into_inner().push_conjuncts(conjuncts)
-                } else {
-                    conjuncts.push(Resolved::Bracket(line, inner))
-                }
-            }
-            Resolved::Binary(line, op, left, right) => {
-                if op.is_and() {
-                    left.into_inner().push_conjuncts(conjuncts)?;
-                    right.into_inner().push_conjuncts(conjuncts)
-                } else {
-                    conjuncts.push(Resolved::Binary(line, op, left, right))
-                }
-            }
-            other => conjuncts.push(other),
-        }
-    }
+/// Adds the predicate itself, where it is one.
+fn push_written<'a>(
+    term: &'a Term<'a>,
+    arena: &'a Bump,
+    scope: &mut Scope<'a, '_>,
+    conjuncts: &mut Items<'a, Written<'a>>,
+) -> Result<(), Refusal>
+    ensures is { OnOk result (IsOf (scope_of scope.old) (tree_of term.now) predicate) }
+    ensures ok { OnOk result (map written_of conjuncts.new ≡ map written_of conjuncts.old ++ resolved (scope_of scope.old) (tree_of term.now) ∷ []) }
+    ensures wrong { IfErr result (λ e. IfFault e (λ kind line. Offends (scope_of scope.old) needs.Predicate (tree_of term.now) kind line)) }
+    ensures scope { scope_of scope.new ≡ scope_of scope.old }
+{
+    let judged = judge(term, arena, Need::Predicate, scope)?;
+    conjuncts.push(judged.term)?;
+    Ok(())
 }

@@ -172,7 +172,7 @@ fn part_after<'a>(part: &Part<'a>, found: Option<u32>, globals: &Globals<'a>) ->
 }
 
 /// The extent of what a name stands for.
-fn extent_named(globals: &Globals<'_>, reference: Reference) -> Extent
+pub(crate) fn extent_named(globals: &Globals<'_>, reference: Reference) -> Extent
     ensures { result ≡ spec.extent_named (globals_of globals.now) reference }
 {
     match reference {
@@ -185,7 +185,7 @@ fn extent_named(globals: &Globals<'_>, reference: Reference) -> Extent
     }
 }
 
-fn constant_set(constant: Constant) -> Option<Infinite>
+pub(crate) fn constant_set(constant: Constant) -> Option<Infinite>
     ensures { result ≡ spec.constant_set constant }
 {
     match constant {
@@ -198,7 +198,7 @@ fn constant_set(constant: Constant) -> Option<Infinite>
 }
 
 /// The line, if a name of this extent offends.
-fn name_line(line: u32, extent: Extent) -> Option<u32>
+pub(crate) fn name_line(line: u32, extent: Extent) -> Option<u32>
     ensures { result ≡ spec.first (spec.name_lines line extent) }
 {
     match extent {
@@ -209,7 +209,7 @@ fn name_line(line: u32, extent: Extent) -> Option<u32>
 }
 
 /// The line, if the constant offends.
-fn constant_line(line: u32, constant: Constant) -> Option<u32>
+pub(crate) fn constant_line(line: u32, constant: Constant) -> Option<u32>
     ensures { result ≡ spec.first (spec.constant_lines line (spec.constant_set constant)) }
 {
     match constant_set(constant) {
@@ -219,7 +219,7 @@ fn constant_line(line: u32, constant: Constant) -> Option<u32>
 }
 
 /// Whether it is `\in` or `\notin`.
-fn is_membership(relation: Relation) -> bool
+pub(crate) fn is_membership(relation: Relation) -> bool
     ensures { result ≡ spec.is_membership relation }
 {
     match relation {
@@ -238,7 +238,7 @@ fn is_membership(relation: Relation) -> bool
 
 impl Extent {
     /// The infinite set that a name of this extent stands for.
-    fn set(self) -> Option<Infinite>
+    pub(crate) fn set(self) -> Option<Infinite>
         ensures { result ≡ spec.extent_set self }
     {
         match self {

@@ -1,18 +1,19 @@
 //! What a term is by the typing rules, or an offence against them.
-ghost use Rattle.std.specs.Prelude.{◌≡◌, IfOk, IfErr};
+ghost use Rattle.std.specs.Prelude.{◌≡◌, ℕ, IfOk, IfErr, OnOk};
+ghost use Rattle.zf_text.specs.Spelling as text;
 ghost use Rattle.zf_text.specs.Trees as tree;
 ghost use Rattle.zf_text.specs.Trees.{Tree, named, numeral, tree_of};
-ghost use Rattle.zf_type.specs.Judging.{IsJudged, Judges};
+ghost use Rattle.zf_type.specs.Filling.{onto};
+ghost use Rattle.zf_type.specs.Judging.{Judges};
 ghost use Rattle.zf_type.specs.Offences.{Offends};
 ghost use Rattle.zf_type.specs.Refusals.{IfFault};
-ghost use Rattle.zf_type.specs.ResolvedTrees.{resolved_of};
 ghost use Rattle.zf_type.specs.Resolving.{resolved};
+ghost use Rattle.zf_type.specs.Rules as rules;
 ghost use Rattle.zf_type.specs.Rules.{Meets, sort_of};
 ghost use Rattle.zf_type.specs.Scopes as spec;
 ghost use Rattle.zf_type.specs.Scopes.{scope_of};
-ghost use Rattle.zf_type.specs.Shapes.{line_of};
 ghost use Rattle.zf_type.specs.Typing.{IsOf};
-ghost use Rattle.zf_type.specs.declared.operator.Need.TheVariants as needs;
+ghost use Rattle.zf_type.specs.Written.{written_of};
 
 mod binders;
 mod chains;
@@ -21,10 +22,10 @@ mod operands;
 
 use crate::fault::{Refusal, TypeFaultKind, refused};
 use crate::operator::{Listed, Need, Operator, Unary};
-use crate::resolved::Resolved;
 use crate::rules::constant_sort;
 use crate::scope::Scope;
 use crate::sort::Sort;
+use crate::written::Written;
 use crate::ztype::ZType;
 use binders::{builder, quantified};
 use bumpalo::Bump;
@@ -35,10 +36,10 @@ use zf_data::arena::Boxed;
 use zf_text::token::Constant;
 use zf_text::tree::{Name, Term};
 
-/// A term in which each name says what it stands for, and what the term is.
+/// A term as it is written, and what it is.
 #[derive(Drop)]
 pub struct Judged<'a> {
-    pub term: Resolved<'a>,
+    pub term: Written<'a>,
     pub sort: Sort<'a>,
 }
 
@@ -49,20 +50,23 @@ struct Place {
     line: u32,
 }
 
-/// What the term is where this is needed.
+/// What the term is where this is needed, and the term as it is written, with what its names stand for.
 pub fn judge<'a>(
-    term: &Term<'a>,
+    term: &'a Term<'a>,
     arena: &'a Bump,
     need: Need,
     scope: &mut Scope<'a, '_>,
 ) -> Result<Judged<'a>, Refusal>
     ensures sort { IfOk result (λ j. IsOf (scope_of scope.old) (tree_of term.now) (sort_of j.sort)) }
     ensures met { IfOk result (λ j. Meets need (sort_of j.sort)) }
-    ensures term { IfOk result (λ j. resolved_of j.term ≡ resolved (scope_of scope.old) (tree_of term.now)) }
+    ensures term { IfOk result (λ j. written_of j.term ≡ resolved (scope_of scope.old) (tree_of term.now)) }
     ensures wrong { IfErr result (λ e. IfFault e (λ kind line. Offends (scope_of scope.old) need (tree_of term.now) kind line)) }
     ensures scope { scope_of scope.new ≡ scope_of scope.old }
 {
-    judge_term(term, arena, need, scope)
+    scope.references.clear();
+    let sort = judge_term(term, arena, need, scope)?;
+    let term = Written::of(arena, term, scope.references.as_slice())?;
+    Ok(Judged { term, sort })
 }
 
 /// A term that stands in a box.
@@ -72,8 +76,9 @@ fn judge_boxed<'a>(
     arena: &'a Bump,
     need: Need,
     scope: &mut Scope<'a, '_>,
-) -> Result<Judged<'a>, Refusal>
+) -> Result<Sort<'a>, Refusal>
     ensures judged { Judges (scope_of scope.old) need (tree_of term.now) result }
+    ensures references { OnOk result (scope.new.references.items ≡ onto scope.old.references.items (resolved (scope_of scope.old) (tree_of term.now))) }
     ensures scope { scope_of scope.new ≡ scope_of scope.old }
 {
     judge_term(term.get(), arena, need, scope)
@@ -86,13 +91,14 @@ fn judge_term<'a>(
     arena: &'a Bump,
     need: Need,
     scope: &mut Scope<'a, '_>,
-) -> Result<Judged<'a>, Refusal>
+) -> Result<Sort<'a>, Refusal>
     ensures judged { Judges (scope_of scope.old) need (tree_of term.now) result }
+    ensures references { OnOk result (scope.new.references.items ≡ onto scope.old.references.items (resolved (scope_of scope.old) (tree_of term.now))) }
     ensures scope { scope_of scope.new ≡ scope_of scope.old }
 {
     match term {
         Term::Name(name) => named(arena, need, name, scope),
-        Term::Number(line, value) => number(need, *line, *value),
+        Term::Number(line, _) => number(need, *line),
         Term::Constant(line, constant) => constant_term(arena, need, *line, *constant),
         Term::EmptySet(line, of) => {
             let line = *line;
@@ -239,15 +245,14 @@ fn constant_term<'a>(
     need: Need,
     line: u32,
     constant: Constant,
-) -> Result<Judged<'a>, Refusal>
+) -> Result<Sort<'a>, Refusal>
     ensures { (s : spec.Scope) → Judges s need (tree.constant line constant) result }
 {
     let sort = constant_sort(arena, constant)?;
     if !sort.meets(need) {
         return Err(misplaced(&sort, need, line));
     }
-    let term = Resolved::Constant(line, constant);
-    Ok(Judged { term, sort })
+    Ok(sort)
 }
 
 #[cycle(judging)]
@@ -257,28 +262,16 @@ fn empty_set<'a>(
     arena: &'a Bump,
     place: Place,
     scope: &mut Scope<'a, '_>,
-) -> Result<Judged<'a>, Refusal>
+) -> Result<Sort<'a>, Refusal>
     ensures judged { Judges (scope_of scope.old) place.need (tree.empty_set place.line (tree_of of.now)) result }
+    ensures references { OnOk result (scope.new.references.items ≡ onto scope.old.references.items (resolved (scope_of scope.old) (tree.empty_set place.line (tree_of of.now)))) }
     ensures scope { scope_of scope.new ≡ scope_of scope.old }
 {
-    let of = judge_term(of, arena, Need::Set, scope)?;
-    empty_set_of(arena, place.need, place.line, of)
-}
-
-fn empty_set_of<'a>(
-    arena: &'a Bump,
-    need: Need,
-    line: u32,
-    of: Judged<'a>,
-) -> Result<Judged<'a>, Refusal>
-    ensures { (s : spec.Scope) (e : Tree) → IsJudged s needs.Set e of.entry → Judges s need (tree.empty_set line e) result }
-{
-    let Judged { term, sort } = of;
-    if !sort.meets(need) {
-        return Err(misplaced(&sort, need, line));
+    let sort = judge_term(of, arena, Need::Set, scope)?;
+    if !sort.meets(place.need) {
+        return Err(misplaced(&sort, place.need, place.line));
     }
-    let term = Resolved::EmptySet(line, Boxed::new(arena, term)?);
-    Ok(Judged { term, sort })
+    Ok(sort)
 }
 
 #[cycle(judging)]
@@ -288,25 +281,12 @@ fn bracket<'a>(
     arena: &'a Bump,
     place: Place,
     scope: &mut Scope<'a, '_>,
-) -> Result<Judged<'a>, Refusal>
+) -> Result<Sort<'a>, Refusal>
     ensures judged { Judges (scope_of scope.old) place.need (tree.bracket place.line (tree_of inner.now)) result }
+    ensures references { OnOk result (scope.new.references.items ≡ onto scope.old.references.items (resolved (scope_of scope.old) (tree.bracket place.line (tree_of inner.now)))) }
     ensures scope { scope_of scope.new ≡ scope_of scope.old }
 {
-    let inner = judge_term(inner, arena, place.need, scope)?;
-    bracketed(arena, place.need, place.line, inner)
-}
-
-fn bracketed<'a>(
-    arena: &'a Bump,
-    need: Need,
-    line: u32,
-    inner: Judged<'a>,
-) -> Result<Judged<'a>, Refusal>
-    ensures { (s : spec.Scope) (e : Tree) → IsJudged s need e inner.entry → Judges s need (tree.bracket line e) result }
-{
-    let Judged { term, sort } = inner;
-    let term = Resolved::Bracket(line, Boxed::new(arena, term)?);
-    Ok(Judged { term, sort })
+    judge_term(inner, arena, place.need, scope)
 }
 
 #[inline(never)]
@@ -314,38 +294,48 @@ fn named<'a>(
     arena: &'a Bump,
     need: Need,
     name: &Name<'a>,
-    scope: &Scope<'a, '_>,
-) -> Result<Judged<'a>, Refusal>
-    ensures { Judges (scope_of scope.now) need (named name.now) result }
+    scope: &mut Scope<'a, '_>,
+) -> Result<Sort<'a>, Refusal>
+    ensures judged { Judges (scope_of scope.old) need (named name.now) result }
+    ensures references { OnOk result (scope.new.references.items ≡ onto scope.old.references.items (resolved (scope_of scope.old) (named name.now))) }
+    ensures scope { scope_of scope.new ≡ scope_of scope.old }
 {
-    match scope.meaning(arena, name)? {
-        Some((reference, sort)) => {
-            if !sort.meets(need) {
-                return Err(misplaced(&sort, need, name.line));
-            }
-            let term = Resolved::Name(name.line, reference);
-            Ok(Judged { term, sort })
-        }
-        None => Err(refused(TypeFaultKind::NotDeclared, name.line)),
+    let Some((reference, sort)) = scope.meaning(arena, name)? else {
+        return Err(refused(TypeFaultKind::NotDeclared, name.line));
+    };
+    if !sort.meets(need) {
+        return Err(misplaced(&sort, need, name.line));
     }
+    scope.references.push(reference)?;
+    Ok(sort)
 }
 
 #[inline(never)]
-fn number<'a>(need: Need, line: u32, value: u64) -> Result<Judged<'a>, Refusal>
-    ensures { (s : spec.Scope) → Judges s need (numeral line value) result }
+fn number<'a>(need: Need, line: u32) -> Result<Sort<'a>, Refusal>
+    ensures { (s : spec.Scope) (value : ℕ) → Judges s need (numeral line value) result }
 {
     let sort = Sort::Typed(ZType::Int);
     if !sort.meets(need) {
         return Err(misplaced(&sort, need, line));
     }
-    let term = Resolved::Number(line, value);
-    Ok(Judged { term, sort })
+    Ok(sort)
+}
+
+/// A predicate that stands at this line.
+fn predicate<'a>(need: Need, line: u32) -> Result<Sort<'a>, Refusal>
+    ensures { (s : spec.Scope) (e : Tree) → IsOf s e rules.predicate → line ≡ text.line_of e → Judges s need e result }
+{
+    let sort = Sort::Predicate;
+    if !sort.meets(need) {
+        return Err(misplaced(&sort, need, line));
+    }
+    Ok(sort)
 }
 
 /// The refusal of a term of this sort and line, whose place does not take it.
 #[inline(never)]
 fn misplaced(sort: &Sort<'_>, need: Need, line: u32) -> Refusal
-    ensures { (s : spec.Scope) (e : Tree) → IsOf s e (sort_of sort.now) → (Meets need (sort_of sort.now) → ⊥) → line_of (resolved s e) ≡ line → IfFault result (λ kind m. Offends s need e kind m) }
+    ensures { (s : spec.Scope) (e : Tree) → IsOf s e (sort_of sort.now) → (Meets need (sort_of sort.now) → ⊥) → line ≡ text.line_of e → IfFault result (λ kind m. Offends s need e kind m) }
 {
     refused(sort.lack(need), line)
 }

@@ -3,7 +3,7 @@
 
 mod binding;
 pub mod conjunct;
-mod conjuncts;
+pub mod conjuncts;
 pub mod extent;
 pub mod fault;
 pub mod globals;
@@ -18,4 +18,5 @@ pub mod scope;
 mod shapes;
 pub mod sort;
 pub mod type_text;
+pub mod written;
 pub mod ztype;

@@ -12,7 +12,7 @@ ghost use Rattle.zf_text.specs.declared.tree.Term.TheVariants as term;
 use super::Grammar;
 use crate::cursor::Cursor;
 use crate::fault::TextFault;
-use crate::levels::{EXPRESSION, POSTFIX, PRODUCT, infix_level, line, right_place};
+use crate::levels::{EXPRESSION, POSTFIX, PRODUCT, infix_level, right_place};
 use crate::next::{Mark, Next};
 use crate::tall::Tall;
 use crate::token::{Arrow, Connective, Infix};
@@ -36,7 +36,7 @@ impl<
         ensures value { Gives (spec.longer_by (read_term self.now.below) left.entry (next.Connective connective) tokens.old) result tokens.new }
         ensures low { IfOk result (λ x. x.height ≤ self.now.below + 2) }
     {
-        let line = line(left.part.get());
+        let line = left.part.get().line();
         tokens.skip();
         let right = self.term(tokens, right_place(connective))?;
         Ok(Tall {
@@ -60,7 +60,7 @@ impl<
         ensures value { Gives (spec.longer_by (read_term self.now.below) left.entry (next.Arrow arrow) tokens.old) result tokens.new }
         ensures low { IfOk result (λ x. x.height ≤ self.now.below + 2) }
     {
-        let line = line(left.part.get());
+        let line = left.part.get().line();
         tokens.skip();
         let right = self.term(tokens, EXPRESSION)?;
         Ok(Tall {
@@ -81,7 +81,7 @@ impl<
         ensures value { Gives (spec.longer_by (read_term self.now.below) left.entry (next.Infix op) tokens.old) result tokens.new }
         ensures low { IfOk result (λ x. x.height ≤ self.now.below + 2) }
     {
-        let line = line(left.part.get());
+        let line = left.part.get().line();
         tokens.skip();
         let right = self.term(tokens, infix_level(op) + 1)?;
         Ok(Tall {
@@ -101,7 +101,7 @@ impl<
         ensures value { Gives (spec.with_right (read_term self.now.below) levels.postfix_level (term.Apply (line_of (tree_of left.entry.part))) left.entry tokens.old) result tokens.new }
         ensures low { IfOk result (λ x. x.height ≤ self.now.below + 2) }
     {
-        let line = line(left.part.get());
+        let line = left.part.get().line();
         let argument = self.term(tokens, POSTFIX)?;
         Ok(Tall {
             part: Boxed::new(self.arena, Term::Apply(line, left.part, argument.part))?,
@@ -119,7 +119,7 @@ impl<
         ensures low { IfOk result (λ x. x.height ≤ left.entry.height + 1) }
     {
         tokens.skip();
-        let line = line(left.part.get());
+        let line = left.part.get().line();
         Ok(Tall {
             part: Boxed::new(self.arena, Term::Inverse(line, left.part))?,
             height: left.height + 1,
@@ -137,7 +137,7 @@ impl<
         ensures value { Gives (spec.longer_by (read_term self.now.below) left.entry next.OpenImage tokens.old) result tokens.new }
         ensures low { IfOk result (λ x. x.height ≤ self.now.below + 2) }
     {
-        let line = line(left.part.get());
+        let line = left.part.get().line();
         tokens.skip();
         let set = self.term(tokens, EXPRESSION)?;
         tokens.expect(Mark::CloseImage)?;
@@ -158,7 +158,7 @@ impl<
         ensures value { Gives (spec.chained (read_term self.now.below) left.entry tokens.old) result tokens.new }
         ensures low { IfOk result (λ x. x.height ≤ self.now.below + 2) }
     {
-        let line = line(left.part.get());
+        let line = left.part.get().line();
         let links = self.chain_links(tokens)?;
         let further = Boxed::new(self.arena, links.part)?;
         Ok(Tall {
@@ -178,7 +178,7 @@ impl<
         ensures value { Gives (spec.product (read_term self.now.below) left.entry tokens.old) result tokens.new }
         ensures low { IfOk result (λ x. x.height ≤ self.now.below + 2) }
     {
-        let line = line(left.part.get());
+        let line = left.part.get().line();
         let all = self.further(tokens, Mark::Cross, PRODUCT + 1, left)?;
         let terms = Boxed::new(self.arena, all.part)?;
         Ok(Tall {

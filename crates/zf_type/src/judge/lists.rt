@@ -1,21 +1,21 @@
 //! What several terms make: tuples, displays and products.
-ghost use Rattle.std.specs.Prelude.{◌≡◌, IfOk, IfErr, length, map};
-ghost use Rattle.zf_text.specs.Trees.{Trees, tree_of, trees};
+ghost use Rattle.std.specs.Prelude.{◌≡◌, IfOk, IfErr, OnOk, length, map};
+ghost use Rattle.zf_text.specs.Trees.{tree_of, trees};
+ghost use Rattle.zf_type.specs.Filling.{all_onto, onto};
 ghost use Rattle.zf_type.specs.Judging as judging;
-ghost use Rattle.zf_type.specs.Judging.{AreJudged, DiffersAt, Judges, Makes, listed_tree, member_sort};
+ghost use Rattle.zf_type.specs.Judging.{AreMembers, DiffersAt, Judges, Makes, listed_tree, member_sort};
 ghost use Rattle.zf_type.specs.Offences.{OneOffends};
 ghost use Rattle.zf_type.specs.Refusals.{IfFault};
-ghost use Rattle.zf_type.specs.ResolvedTrees.{resolved_of};
+ghost use Rattle.zf_type.specs.Resolving.{resolved, resolved_all};
 ghost use Rattle.zf_type.specs.Rules.{Meets, sort_of};
 ghost use Rattle.zf_type.specs.Scopes as spec;
 ghost use Rattle.zf_type.specs.Scopes.{scope_of};
 ghost use Rattle.zf_type.specs.Types as tys;
 ghost use Rattle.zf_type.specs.Types.{Ty, power, type_of};
 
-use super::{Judged, Place, judge_term, misplaced};
+use super::{Place, judge_term, misplaced};
 use crate::fault::{Refusal, TypeFaultKind, refused};
 use crate::operator::{Listed, Need};
-use crate::resolved::Resolved;
 use crate::scope::Scope;
 use crate::sort::Sort;
 use crate::ztype::{ZType, product_type, set_type};
@@ -23,13 +23,6 @@ use bumpalo::Bump;
 use std::alloc::AllocError;
 use zf_data::arena::{Boxed, Items};
 use zf_text::tree::Term;
-
-/// The members of a list of terms, and the type of each; of a set the type of its members.
-#[derive(Drop)]
-struct Members<'a> {
-    terms: Items<'a, Resolved<'a>>,
-    types: Items<'a, ZType<'a>>,
-}
 
 /// What several terms make.
 #[cycle(judging)]
@@ -40,35 +33,34 @@ pub(super) fn listed<'a>(
     place: Place,
     form: Listed,
     scope: &mut Scope<'a, '_>,
-) -> Result<Judged<'a>, Refusal>
+) -> Result<Sort<'a>, Refusal>
     ensures judged { Judges (scope_of scope.old) place.need (listed_tree form place.line (trees (map tree_of terms.now))) result }
+    ensures references { OnOk result (scope.new.references.items ≡ onto scope.old.references.items (resolved (scope_of scope.old) (listed_tree form place.line (trees (map tree_of terms.now))))) }
     ensures scope { scope_of scope.new ≡ scope_of scope.old }
 {
-    let members = judge_all(terms, arena, form, scope)?;
-    with_members(arena, place, form, members)
+    let types = judge_all(terms, arena, form, scope)?;
+    with_members(arena, place, form, terms, types)
 }
 
+/// The type of each member; of a set the type of its members.
 #[cycle(judging)]
 fn judge_all<'a>(
     terms: &[Boxed<'a, Term<'a>>],
     arena: &'a Bump,
     form: Listed,
     scope: &mut Scope<'a, '_>,
-) -> Result<Members<'a>, Refusal>
-    ensures ok { IfOk result (λ ms. AreJudged form (scope_of scope.old) (trees (map tree_of terms.now)) ms) }
+) -> Result<Items<'a, ZType<'a>>, Refusal>
+    ensures ok { IfOk result (λ ts. AreMembers form (scope_of scope.old) (trees (map tree_of terms.now)) (tys.types (map type_of ts))) }
+    ensures references { OnOk result (scope.new.references.items ≡ all_onto scope.old.references.items (resolved_all (scope_of scope.old) (trees (map tree_of terms.now)))) }
     ensures wrong { IfErr result (λ e. IfFault e (λ kind line. OneOffends (scope_of scope.old) (judging.member_need form) (trees (map tree_of terms.now)) kind line)) }
     ensures scope { scope_of scope.new ≡ scope_of scope.old }
 {
-    let mut members = Members {
-        terms: Items::with_room(arena, terms.len())?,
-        types: Items::with_room(arena, terms.len())?,
-    };
+    let mut types = Items::with_room(arena, terms.len())?;
     for term in terms {
         let member = judge_term(term.get(), arena, member_need(form), scope)?;
-        members.terms.push(member.term)?;
-        members.types.push(member_type(form, member.sort)?)?;
+        types.push(member_type(form, member)?)?;
     }
-    Ok(members)
+    Ok(types)
 }
 
 fn member_need(form: Listed) -> Need
@@ -111,13 +103,13 @@ fn with_members<'a>(
     arena: &'a Bump,
     place: Place,
     form: Listed,
-    members: Members<'a>,
-) -> Result<Judged<'a>, Refusal>
-    requires { length members.terms ≡ length members.types }
-    ensures { (s : spec.Scope) (es : Trees) → AreJudged form s es members.entry → Judges s place.need (listed_tree form place.line es) result }
+    terms: &[Boxed<'a, Term<'a>>],
+    types: Items<'a, ZType<'a>>,
+) -> Result<Sort<'a>, Refusal>
+    requires { length terms.now ≡ length types }
+    ensures { (s : spec.Scope) → AreMembers form s (trees (map tree_of terms.now)) (tys.types (map type_of types.entry)) → Judges s place.need (listed_tree form place.line (trees (map tree_of terms.now))) result }
 {
-    let Members { terms, types } = members;
-    let ztype = made_of(arena, form, place.line, terms.as_slice(), types)?;
+    let ztype = made_of(arena, form, place.line, terms, types)?;
     if !ztype.is_small() {
         return Err(refused(TypeFaultKind::TooLarge, place.line));
     }
@@ -125,8 +117,7 @@ fn with_members<'a>(
     if !sort.meets(place.need) {
         return Err(misplaced(&sort, place.need, place.line));
     }
-    let term = Resolved::Listed(place.line, form, Boxed::new(arena, terms)?);
-    Ok(Judged { term, sort })
+    Ok(sort)
 }
 
 /// The type of what members of these types make.
@@ -135,12 +126,12 @@ fn made_of<'a>(
     arena: &'a Bump,
     form: Listed,
     line: u32,
-    terms: &[Resolved<'a>],
+    terms: &[Boxed<'a, Term<'a>>],
     types: Items<'a, ZType<'a>>,
 ) -> Result<ZType<'a>, Refusal>
     requires { length terms.now ≡ length types }
     ensures ok { IfOk result (λ t. Makes form (tys.types (map type_of types.entry)) (type_of t)) }
-    ensures wrong { IfErr result (λ e. IfFault e (λ kind m. (form ≡ Listed.Display) × (kind ≡ TypeFaultKind.Mismatch) × DiffersAt line (map resolved_of terms.now) (tys.types (map type_of types.entry)) m)) }
+    ensures wrong { IfErr result (λ e. IfFault e (λ kind m. (form ≡ Listed.Display) × (kind ≡ TypeFaultKind.Mismatch) × DiffersAt line (map tree_of terms.now) (tys.types (map type_of types.entry)) m)) }
 {
     match form {
         Listed::Tuple => Ok(product_type(arena, types)?),
@@ -154,19 +145,19 @@ fn made_of<'a>(
 fn set_of<'a>(
     arena: &'a Bump,
     line: u32,
-    terms: &[Resolved<'a>],
+    terms: &[Boxed<'a, Term<'a>>],
     types: &[ZType<'a>],
 ) -> Result<ZType<'a>, Refusal>
     requires { length terms.now ≡ length types.now }
     ensures ok { IfOk result (λ t. Makes Listed.Display (tys.types (map type_of types.now)) (type_of t)) }
-    ensures wrong { IfErr result (λ e. IfFault e (λ kind m. (kind ≡ TypeFaultKind.Mismatch) × DiffersAt line (map resolved_of terms.now) (tys.types (map type_of types.now)) m)) }
+    ensures wrong { IfErr result (λ e. IfFault e (λ kind m. (kind ≡ TypeFaultKind.Mismatch) × DiffersAt line (map tree_of terms.now) (tys.types (map type_of types.now)) m)) }
 {
     let Some(first) = types.first() else {
         return Err(refused(TypeFaultKind::Mismatch, line));
     };
     for place in 1..types.len() {
         if !first.same(&types[place]) {
-            return Err(refused(TypeFaultKind::Mismatch, terms[place].line()));
+            return Err(refused(TypeFaultKind::Mismatch, terms[place].get().line()));
         }
     }
     Ok(set_type(arena, first.share()?)?)

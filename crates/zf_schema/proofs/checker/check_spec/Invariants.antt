@@ -1,4 +1,5 @@
-use Rattle.std.proofs.Common.{◌≡◌, map, drop}
+use Rattle.std.proofs.Common.{◌≡◌, map}
+use Rattle.std.specs.Vec.Iter.{into_iter_items}
 use Rattle.zf_text.specs.Trees.{box_of}
 use Rattle.zf_type.specs.Definitions.{globals_of}
 use Rattle.zf_type.specs.Numbers.{next_number}
@@ -9,7 +10,7 @@ use Rattle.zf_schema.proofs.checker.check_spec.Given as goal
 
 abbrev pub invariant-loop-each : goal.invariant-loop-each
 invariant-loop-each l = record {
-  runs : (end : Checked) → Runs l.checked (items (map box_of (drop l.each-index l.each-items))) end
-      → IsChecked (map box_of l.each-items) (globals_of end.globals) end.faults;
+  runs : (end : Checked) → Runs l.checked (items (map box_of (into_iter_items l.each-iterator))) end
+      → IsChecked (map box_of (into_iter_items l.initial.each-iterator)) (globals_of end.globals) end.faults;
   numbered : l.next ≡ next_number (globals_of l.checked.globals);
 }

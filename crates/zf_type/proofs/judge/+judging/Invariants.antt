@@ -1,14 +1,12 @@
 use Rattle.std.proofs.Common.{◌≡◌, ℕ, List, [], ◌++◌, map, drop}
-use Rattle.zf_text.specs.declared.token.Relation.{Relation}
 use Rattle.zf_text.specs.Spelling.{line_of}
 use Rattle.zf_text.specs.Trees.{Tree, tree_of, trees, link_of, links, var_decl_of, var_decls}
 use Rattle.zf_type.specs.declared.fault.TypeFaultKind.{TypeFaultKind}
 use Rattle.zf_type.specs.Judging.{AreMembers, AreNew, AreRepeated, member_need}
 use Rattle.zf_type.specs.Offences.{OneOffends, LinksOffend, SetsOffend}
-use Rattle.zf_type.specs.ResolvedTrees as resolved_trees
+use Rattle.zf_type.specs.Filling.{all_onto, links_onto, ranges_onto}
 use Rattle.zf_type.specs.Rules.{sort_of}
 use Rattle.zf_type.specs.Typing.{IsOf, AreLinked, Declare, declared}
-use Rattle.zf_type.specs.ResolvedTrees.{resolved_link_of, range_of, ResolvedTree, terms, resolved_of}
 use Rattle.zf_type.specs.Resolving.{resolved_all, resolved_links, resolved_ranges}
 use Rattle.zf_type.specs.Scopes.{Var, scope_of, variable_of}
 use Rattle.zf_type.specs.Types.{Ty, types, type_of}
@@ -17,11 +15,9 @@ use Rattle.zf_type.proofs.judge.+judging.Given as goal
 abbrev pub invariant-lists::judge_all-loop-term : goal.invariant-lists::judge_all-loop-term
 invariant-lists::judge_all-loop-term l = record {
   same : scope_of l.scope ≡ scope_of l.initial.scope;
-  judged : (us : List Ty) (rs : List ResolvedTree)
-      → AreMembers l.form (scope_of l.initial.scope) (trees (map tree_of (drop l.term-index l.terms))) (types us)
-      → terms rs ≡ resolved_all (scope_of l.initial.scope) (trees (map tree_of (drop l.term-index l.terms)))
-      → AreMembers l.form (scope_of l.initial.scope) (trees (map tree_of l.terms)) (types (map type_of l.members.types ++ us))
-      × (terms (map resolved_of l.members.terms ++ rs) ≡ resolved_all (scope_of l.initial.scope) (trees (map tree_of l.terms)));
+  members : (us : List Ty) → AreMembers l.form (scope_of l.initial.scope) (trees (map tree_of (drop l.term-index l.terms))) (types us)
+      → AreMembers l.form (scope_of l.initial.scope) (trees (map tree_of l.terms)) (types (map type_of l.types ++ us));
+  refers : all_onto l.scope.references.items (resolved_all (scope_of l.initial.scope) (trees (map tree_of (drop l.term-index l.terms)))) ≡ all_onto l.initial.scope.references.items (resolved_all (scope_of l.initial.scope) (trees (map tree_of l.terms)));
   offends : (kind : TypeFaultKind) (line : ℕ) → OneOffends (scope_of l.initial.scope) (member_need l.form) (trees (map tree_of (drop l.term-index l.terms))) kind line → OneOffends (scope_of l.initial.scope) (member_need l.form) (trees (map tree_of l.terms)) kind line;
 }
 
@@ -29,8 +25,7 @@ abbrev pub invariant-chains::judge_links-loop-link : goal.invariant-chains::judg
 invariant-chains::judge_links-loop-link l = record {
   same : scope_of l.scope ≡ scope_of l.initial.scope;
   linked : AreLinked (scope_of l.initial.scope) (sort_of l.left.sort) (links (map link_of (drop l.link-index l.links))) → AreLinked (scope_of l.initial.scope) (sort_of l.initial.left.sort) (links (map link_of l.links));
-  resolves : (ks : List (Relation × ResolvedTree)) → resolved_trees.links ks ≡ resolved_links (scope_of l.initial.scope) (links (map link_of (drop l.link-index l.links)))
-      → resolved_trees.links (map resolved_link_of l.judged ++ ks) ≡ resolved_links (scope_of l.initial.scope) (links (map link_of l.links));
+  refers : links_onto l.scope.references.items (resolved_links (scope_of l.initial.scope) (links (map link_of (drop l.link-index l.links)))) ≡ links_onto l.initial.scope.references.items (resolved_links (scope_of l.initial.scope) (links (map link_of l.links)));
   offends : (a : Tree) → IsOf (scope_of l.initial.scope) a (sort_of l.initial.left.sort) → l.initial.left.line ≡ line_of a
       → (b : Tree) × IsOf (scope_of l.initial.scope) b (sort_of l.left.sort) × (l.left.line ≡ line_of b)
       × ((kind : TypeFaultKind) (line : ℕ) → LinksOffend (scope_of l.initial.scope) b (links (map link_of (drop l.link-index l.links))) kind line → LinksOffend (scope_of l.initial.scope) a (links (map link_of l.links)) kind line);
@@ -42,7 +37,6 @@ invariant-binders::judge_sets-loop-decl l = record {
   declares : (vs : List Var) → Declare (scope_of l.initial.scope) (var_decls (map var_decl_of (drop l.decl-index l.decls))) vs → Declare (scope_of l.initial.scope) (var_decls (map var_decl_of l.decls)) (map variable_of l.variables.items ++ vs);
   apart : AreNew (map variable_of l.variables.items) (declared (var_decls (map var_decl_of (drop l.decl-index l.decls)))) → AreNew [] (declared (var_decls (map var_decl_of l.decls)));
   repeated : (kind : TypeFaultKind) (line : ℕ) → AreRepeated (map variable_of l.variables.items) (declared (var_decls (map var_decl_of (drop l.decl-index l.decls)))) kind line → AreRepeated [] (declared (var_decls (map var_decl_of l.decls))) kind line;
-  resolves : (rs : List (ℕ × ResolvedTree)) → resolved_trees.ranges rs ≡ resolved_ranges (scope_of l.initial.scope) (var_decls (map var_decl_of (drop l.decl-index l.decls)))
-      → resolved_trees.ranges (map range_of l.ranges ++ rs) ≡ resolved_ranges (scope_of l.initial.scope) (var_decls (map var_decl_of l.decls));
+  refers : ranges_onto l.scope.references.items (resolved_ranges (scope_of l.initial.scope) (var_decls (map var_decl_of (drop l.decl-index l.decls)))) ≡ ranges_onto l.initial.scope.references.items (resolved_ranges (scope_of l.initial.scope) (var_decls (map var_decl_of l.decls)));
   offends : (kind : TypeFaultKind) (line : ℕ) → SetsOffend (scope_of l.initial.scope) (var_decls (map var_decl_of (drop l.decl-index l.decls))) kind line → SetsOffend (scope_of l.initial.scope) (var_decls (map var_decl_of l.decls)) kind line;
 }

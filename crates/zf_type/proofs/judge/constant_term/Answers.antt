@@ -1,7 +1,6 @@
 use Rattle.std.proofs.Common.{refl, sym, ◌∙◌, true≢false}
 use Rattle.zf_text.specs.Trees.{constant}
 use Rattle.zf_type.proofs.Judging.{from_memory, judges_ok, judges_err}
-use Rattle.zf_type.proofs.ResolvedSeen.{of-Constant}
 use Rattle.zf_type.proofs.judge.constant_term.Goals as goal
 
 pub returns-in_err-sort : goal.returns-in_err-sort
@@ -13,4 +12,4 @@ returns-then-not-meets c = λ s.
     judges_err s c.args.need whole c.misplaced.result (c.misplaced.ensures s whole c.in_ok-sort.ensures (λ m. true≢false (sym (c.meets.ensures.1 m) ∙ c.if-not-meets.true)) refl)
 
 pub returns : goal.returns
-returns c = λ s. judges_ok s c.args.need (constant c.args.line c.args.constant) _ (record { is_of = c.in_ok-sort.ensures; met = c.meets.ensures.0 c.if-not-meets.false; term = of-Constant c.args.line c.args.constant })
+returns c = λ s. judges_ok s c.args.need (constant c.args.line c.args.constant) _ (record { is_of = c.in_ok-sort.ensures; met = c.meets.ensures.0 c.if-not-meets.false })

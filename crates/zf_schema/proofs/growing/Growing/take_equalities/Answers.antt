@@ -1,4 +1,4 @@
-use Rattle.std.proofs.Common.{◌≡◌, arith, rules}
+use Rattle.std.proofs.Common.{arith, rules}
 use Rattle.std.proofs.lemmas.List.{get_or_default}
 use Rattle.zf_type.specs.Definitions.{schema_of, conjunct_of}
 use Rattle.zf_schema.proofs.Equalities.{stops_equalities}

@@ -1,8 +1,9 @@
 use Rattle.std.proofs.Common.{◌≡◌, map, refl, sym, ap, ◌∙◌, subst, arith, true≢false}
+use Rattle.zf_text.specs.Spelling.{line_of}
 use Rattle.zf_type.specs.declared.fault.TypeFaultKind.TheVariants.{Mismatch}
 use Rattle.zf_type.specs.Judging.{DiffersAt}
 use Rattle.zf_type.specs.Refusals.{IfFault}
-use Rattle.zf_type.specs.ResolvedTrees.{resolved_of}
+use Rattle.zf_text.specs.Trees.{tree_of}
 use Rattle.zf_type.specs.Types.{types, type_of, power}
 use Rattle.zf_type.proofs.Members.{none_first, differs_at, first_among, all_same}
 use Rattle.zf_type.proofs.judge.lists.set_of.Goals as goal
@@ -10,7 +11,7 @@ use Rattle.zf_type.proofs.judge.lists.set_of.Goals as goal
 pub returns-in_default : goal.returns-in_default
 returns-in_default c = record {
   ok = tt;
-  wrong = subst (λ r. IfFault r (λ k m. (k ≡ Mismatch) × DiffersAt c.args.line (map resolved_of c.args.terms.now) (types (map type_of c.args.types.now)) m)) (sym c.refused.ensures) (refl, none_first c.args.types.now c.args.terms.now c.args.line c.in_default.ensures.value c.requires);
+  wrong = subst (λ r. IfFault r (λ k m. (k ≡ Mismatch) × DiffersAt c.args.line (map tree_of c.args.terms.now) (types (map type_of c.args.types.now)) m)) (sym c.refused.ensures) (refl, none_first c.args.types.now c.args.terms.now c.args.line c.in_default.ensures.value c.requires);
 }
 
 pub returns-then-not-same : goal.returns-then-not-same
@@ -19,7 +20,7 @@ returns-then-not-same c =
     let at = differs_at c.args.types.now c.args.terms.now c.in-Some.first.now c.args.line c.loop-place.place c.index-types-place.result c.index-terms-place.result c.in-Some.ensures.value (omega (arith, c.loop-place.auto.place)) (omega arith) c.requires c.index-types-place.is c.index-terms-place.is other in
     record {
       ok = tt;
-      wrong = subst (λ r. IfFault r (λ k m. (k ≡ Mismatch) × DiffersAt c.args.line (map resolved_of c.args.terms.now) (types (map type_of c.args.types.now)) m)) (sym c.refused-then-not-same.ensures) (refl, subst (λ m. DiffersAt c.args.line (map resolved_of c.args.terms.now) (types (map type_of c.args.types.now)) m) (sym c.line.ensures) at);
+      wrong = subst (λ r. IfFault r (λ k m. (k ≡ Mismatch) × DiffersAt c.args.line (map tree_of c.args.terms.now) (types (map type_of c.args.types.now)) m)) (sym c.refused-then-not-same.ensures) (refl, subst (λ m. DiffersAt c.args.line (map tree_of c.args.terms.now) (types (map type_of c.args.types.now)) m) (ap (λ t. line_of (tree_of t)) (sym c.get.ensures) ∙ sym c.line.ensures) at);
     }
 
 pub returns : goal.returns
