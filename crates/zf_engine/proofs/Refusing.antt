@@ -9,11 +9,11 @@ use Rattle.zf_simple.specs.declared.simple.Simple.{Simple}
 use Rattle.zf_simple.specs.Bindings.{IsBindings}
 use Rattle.zf_simple.specs.Showing.{given_sets, simple_of}
 use Rattle.zf_simple.specs.Sizes.{AreSized, AreRanges}
-use Rattle.zf_text.specs.declared.fault.TextFault.{TextFault}
-use Rattle.zf_text.specs.Cuts.{IsWantOfMemory}
+use Rattle.zf_scan.specs.declared.fault.TextFault.{TextFault}
+use Rattle.zf_scan.specs.Cuts.{IsWantOfMemory}
 use Rattle.zf_text.specs.Parsing.{RefusesSource}
+use Rattle.zf_term.specs.Definitions.{Defined, Schema}
 use Rattle.zf_type.specs.declared.fault.TypeFault.{TypeFault}
-use Rattle.zf_type.specs.Definitions.{Defined, Schema}
 use Rattle.zf_engine.specs.declared.fault.Status.{Status}
 use Rattle.zf_engine.specs.declared.fault.Status.TheVariants.{Done, BadSpec}
 use Rattle.zf_engine.specs.declared.prepare.Ready.{Ready}

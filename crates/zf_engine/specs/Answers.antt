@@ -15,14 +15,14 @@ use Rattle.zf_simple.specs.declared.sizes.SizeFault.TheVariants.{NoSize, NotGive
 use Rattle.zf_simple.specs.Bindings.{IsBindings}
 use Rattle.zf_simple.specs.Showing.{given_sets, simple_of}
 use Rattle.zf_simple.specs.Sizes.{AreSized, AreRanges, IsRefusal}
-use Rattle.zf_text.specs.declared.fault.TextFault.{TextFault}
-use Rattle.zf_text.specs.declared.fault.TextFaultKind.TheVariants.{NotInProfile}
+use Rattle.zf_scan.specs.declared.fault.TextFault.{TextFault}
+use Rattle.zf_scan.specs.declared.fault.TextFaultKind.TheVariants.{NotInProfile}
 use Rattle.zf_text.specs.Parsing.{ReadsSource, RefusesSource}
 use Rattle.zf_text.specs.Trees.{BoxTree}
+use Rattle.zf_term.specs.Definitions.{Defined, Schema, schema}
+use Rattle.zf_term.specs.Extents.{first}
+use Rattle.zf_term.specs.FirstNamed.{first_named}
 use Rattle.zf_type.specs.declared.fault.TypeFault.{TypeFault}
-use Rattle.zf_type.specs.Definitions.{Defined, Schema, schema}
-use Rattle.zf_type.specs.Extents.{first}
-use Rattle.zf_type.specs.Scopes.{first_named}
 use Rattle.zf_engine.specs.declared.fault.Status.{Status}
 use Rattle.zf_engine.specs.declared.fault.Status.TheVariants.{Done, BadSpec, BadRequest}
 use Rattle.zf_engine.specs.Faults.{Gave, IsFront}

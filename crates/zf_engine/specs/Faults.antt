@@ -1,7 +1,7 @@
 -- What a run's reading and writing leave, by how it ended.
 use Rattle.std.specs.Prelude.{◌≡◌, ◌≤◌, ℕ, ◌+◌, ◌⊎◌, List, ◌++◌, length, Option, Result, Err}
 use Rattle.std.specs.Io.KnownBytes.{Appends, Consumes, IsAtEnd}
-use Rattle.zf_text.specs.declared.scan.TheConstants.{SOURCE_MAX}
+use Rattle.zf_scan.specs.declared.scan.TheConstants.{SOURCE_MAX}
 use Rattle.zf_engine.specs.declared.fault.RunFault.{RunFault}
 use Rattle.zf_engine.specs.declared.fault.RunFault.TheVariants.{ReadFailed, WriteFailed}
 

@@ -9,10 +9,10 @@ use Rattle.zf_simple.specs.Showing.{given_sets, simple_of}
 use Rattle.zf_simple.specs.Sizes.{IsRefusal}
 use Rattle.zf_simple.specs.declared.sizes.SizeFault.{SizeFault}
 use Rattle.zf_simple.specs.declared.sizes.SizeFault.TheVariants as size_faults
-use Rattle.zf_text.specs.declared.fault.TextFault.{TextFault}
-use Rattle.zf_text.specs.declared.fault.TextFaultKind.TheVariants as text_faults
-use Rattle.zf_type.specs.Definitions.{Defined, Schema}
-use Rattle.zf_type.specs.Extents.{first}
+use Rattle.zf_scan.specs.declared.fault.TextFault.{TextFault}
+use Rattle.zf_scan.specs.declared.fault.TextFaultKind.TheVariants as text_faults
+use Rattle.zf_term.specs.Definitions.{Defined, Schema}
+use Rattle.zf_term.specs.Extents.{first}
 use Rattle.zf_engine.specs.declared.fault.Status.{Status}
 use Rattle.zf_engine.specs.declared.fault.Status.TheVariants.{Done, BadSpec, BadRequest}
 use Rattle.zf_engine.specs.declared.stop.Stop.{Stop}

@@ -1,9 +1,9 @@
 -- The lines of an answer. Each ends in a newline byte.
 use Rattle.std.specs.Prelude.{ℕ, ◌+◌, List, [], ◌∷◌, ◌++◌, map, codes, decimal}
 use Rattle.std.specs.List.{flat_map, zip}
-use Rattle.zf_text.specs.declared.fault.TextFault.{TextFault}
-use Rattle.zf_text.specs.declared.fault.TextFaultKind.{TextFaultKind}
-use Rattle.zf_text.specs.declared.fault.TextFaultKind.TheVariants.{BadByte, UnknownCommand, NotInProfile, UnclosedBox, Unexpected, NumberTooLarge, TooDeep, TooLong, OutOfMemory}
+use Rattle.zf_scan.specs.declared.fault.TextFault.{TextFault}
+use Rattle.zf_scan.specs.declared.fault.TextFaultKind.{TextFaultKind}
+use Rattle.zf_scan.specs.declared.fault.TextFaultKind.TheVariants.{BadByte, UnknownCommand, NotInProfile, UnclosedBox, Unexpected, NumberTooLarge, TooDeep, TooLong, OutOfMemory}
 use Rattle.zf_simple.specs.declared.simple.Component.{Component}
 use Rattle.zf_type.specs.declared.fault.TypeFault.{TypeFault}
 use Rattle.zf_type.specs.declared.fault.TypeFaultKind.{TypeFaultKind}

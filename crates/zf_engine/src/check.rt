@@ -6,16 +6,16 @@ ghost use Rattle.zf_engine.specs.Stops.{IfAnswered, IsFaultLine};
 ghost use Rattle.zf_engine.specs.Texts.{type_fault_line};
 ghost use Rattle.zf_text.specs.Parsing.{ReadsSource};
 ghost use Rattle.zf_text.specs.Trees.{boxes_of};
-ghost use Rattle.zf_type.specs.Definitions.{globals_of};
+ghost use Rattle.zf_term.specs.Definitions.{globals_of};
 
 use crate::fault::Status;
 use crate::stop::Stop;
 use crate::texts;
 use bumpalo::Bump;
 use std::alloc::{AllocError, Global};
+use zf_scan::fault::{TextFault, TextFaultKind};
 use zf_schema::checker::{Checked, check_spec};
 use zf_schema::listing::listing;
-use zf_text::fault::{TextFault, TextFaultKind};
 use zf_text::reading::read_spec;
 use zf_text::tree::Spec;
 use zf_type::fault::TypeFault;

@@ -7,7 +7,7 @@ ghost use Rattle.zf_schema.specs.Finite.{IsFinite};
 ghost use Rattle.zf_simple.specs.Bindings.{IsWithin};
 ghost use Rattle.zf_simple.specs.Showing as showing;
 ghost use Rattle.zf_simple.specs.Sizes.{AreSized};
-ghost use Rattle.zf_type.specs.Definitions.{globals_of, schema_of};
+ghost use Rattle.zf_term.specs.Definitions.{globals_of, schema_of};
 
 use crate::check::{check_answer, checked_in, fault_lines};
 use crate::fault::Status;
@@ -16,14 +16,14 @@ use crate::texts;
 use bumpalo::Bump;
 use std::alloc::Global;
 use zf_command::job::{Job, Size};
+use zf_scan::fault::TextFaultKind;
 use zf_schema::finite;
 use zf_simple::given::given_sets;
 use zf_simple::showing::simple_of;
 use zf_simple::simple::Simple;
 use zf_simple::sizes::{SizeFault, check_sizes, ranges_of};
 use zf_simple::unread::Unread;
-use zf_text::fault::TextFaultKind;
-use zf_type::globals::{Flat, Globals};
+use zf_term::globals::{Flat, Globals};
 
 /// What the walk over the bindings of a schema is given.
 #[derive(Drop)]

@@ -7,7 +7,7 @@ use crate::counted::Counted;
 use crate::fault::RunFault;
 use std::alloc::Global;
 use std::io::Read;
-use zf_text::scan::SOURCE_MAX;
+use zf_scan::scan::SOURCE_MAX;
 
 const CHUNK: usize = 65_536;
 

@@ -4,7 +4,7 @@ ghost use Rattle.std.specs.Io.KnownBytes.{Keeps};
 ghost use Rattle.zf_engine.specs.Answers.{AnswersReader, AnswersSource, StopsInReader, StopsInSource};
 ghost use Rattle.zf_engine.specs.Counts.{device_of, failures_of};
 ghost use Rattle.zf_engine.specs.Faults.{GaveAtMost, read_failures, write_failures};
-ghost use Rattle.zf_text.specs.declared.scan.TheConstants.{SOURCE_MAX};
+ghost use Rattle.zf_scan.specs.declared.scan.TheConstants.{SOURCE_MAX};
 
 use crate::counted::Counted;
 use crate::fault::{RunFault, Status};

@@ -4,8 +4,8 @@ ghost use Rattle.zf_engine.specs.Texts as spec;
 
 use itoa::Buffer;
 use std::alloc::{AllocError, Global};
+use zf_scan::fault::{TextFault, TextFaultKind};
 use zf_simple::simple::Component;
-use zf_text::fault::{TextFault, TextFaultKind};
 use zf_type::fault::{TypeFault, TypeFaultKind};
 
 /// The text of a fault of a text.

@@ -2,7 +2,7 @@
 use Rattle.std.proofs.Common.{◌≡◌, ◌+◌, ◌≤◌, List, [], ◌∷◌, ◌++◌, length, take, sym, ap, ◌∙◌, arith}
 use Rattle.std.proofs.lemmas.List.{length-append, take-append-le, take-take}
 use Rattle.std.proofs.Math.Seq.{take-length}
-use Rattle.zf_type.specs.Definitions.{Defined}
+use Rattle.zf_term.specs.Definitions.{Defined}
 
 abbrev pub Begins : List Defined → List Defined → Type 0
 Begins g h = take (length g) h ≡ g

@@ -2,8 +2,8 @@
 use Rattle.std.proofs.Common.{◌≡◌, ℕ, IsTrue, Bool, true, false, if◌then◌else◌, List, [], ◌∷◌, ◌++◌, flat_map, refl, sym, ◌∙◌, true≢false}
 use Rattle.std.specs.List.{AllByRecursion}
 use Rattle.std.proofs.lemmas.List.Concat.{flat_map-cons}
-use Rattle.zf_type.specs.Definitions.{Comp, Schema, Defined, sets_of}
-use Rattle.zf_type.specs.Extents.{offending}
+use Rattle.zf_term.specs.Definitions.{Comp, Schema, Defined, sets_of}
+use Rattle.zf_term.specs.Extents.{offending}
 use Rattle.zf_schema.specs.Finite.{one_bounds, first_plain, unbounded, all_set_lines, comp_lines, infinite_lines, IsFinite, FiniteWithoutLines}
 
 both_none : (xs ys : List ℕ) → xs ++ ys ≡ [] → (xs ≡ []) × (ys ≡ [])

@@ -2,9 +2,9 @@
 use Rattle.std.proofs.Common.{◌≡◌, ℕ, Bool, true, false, if◌then◌else◌, List, [], ◌∷◌, ◌++◌, refl, sym, ap, ◌∙◌}
 use Rattle.std.proofs.lemmas.List.{append-nil, append_assoc}
 use Rattle.std.specs.Str.{bytes_eq}
-use Rattle.zf_type.specs.Definitions.{Comp}
-use Rattle.zf_type.specs.Types.{Ty}
-use Rattle.zf_schema.specs.Calculus.{comp, with_comp, with_comps, decorated, prime}
+use Rattle.zf_term.specs.Definitions.{Comp}
+use Rattle.zf_term.specs.Types.{Ty}
+use Rattle.zf_calculus.specs.Calculus.{comp, with_comp, with_comps, decorated, prime}
 use Rattle.zf_schema.specs.SchemaLaws.{signature, FirstKept}
 use Rattle.zf_schema.proofs.Decoration.{through}
 

@@ -2,11 +2,11 @@
 use Rattle.std.proofs.Common.{◌≡◌, ℕ, ◌+◌, ◌<◌, Option, Some, None, List, [], ◌∷◌, ◌++◌, length, map, drop, get_or, flat_map, refl, sym, ap, ◌∙◌}
 use Rattle.std.proofs.lemmas.List.Concat.{flat_map-cons}
 use Rattle.std.proofs.lemmas.Option.{none-some}
-use Rattle.zf_type.specs.declared.globals.Domain.{Domain}
-use Rattle.zf_type.specs.Definitions.{Defined, sets_of, set_of}
-use Rattle.zf_type.specs.Extents.{first}
-use Rattle.zf_type.specs.Scopes.{or_else}
-use Rattle.zf_type.proofs.FirstLines.{first_of_both, line_step}
+use Rattle.zf_term.specs.declared.globals.Domain.{Domain}
+use Rattle.zf_term.specs.Definitions.{Defined, sets_of, set_of}
+use Rattle.zf_term.specs.Extents.{first}
+use Rattle.zf_term.specs.FirstNamed.{or_else}
+use Rattle.zf_term.proofs.FirstLines.{first_of_both, line_step}
 use Rattle.zf_schema.specs.Finite.{plain_lines, all_plain_lines, first_or, set_lines, all_set_lines}
 
 -- what is found in the one, and then in the other

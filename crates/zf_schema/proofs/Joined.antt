@@ -3,11 +3,11 @@ use Rattle.std.proofs.Common.{◌≡◌, ℕ, zero, suc, Bool, true, false, if�
 use Rattle.std.proofs.lemmas.Option.{same_Some, none-some, slice_get-map}
 use Rattle.std.specs.Option.{option_map}
 use Rattle.std.specs.Str.{bytes_eq}
-use Rattle.zf_type.specs.Definitions.{Comp, sides, sets_of}
-use Rattle.zf_type.specs.Scopes.{or_else, later}
-use Rattle.zf_type.specs.Types.{Ty}
-use Rattle.zf_schema.specs.Calculus.{comp, comp_named, HasTypeOf, Agrees, Agree, with_comps, place_or, place_of, new_place, sets_on, either_comps}
-use Rattle.zf_schema.specs.SchemaLaws.{type_found, type_named, sets_found, AreOnce, StandsAt, TypesJoined, SetsJoined, PlacesCarried, TypesOfEither, SetsOfEither}
+use Rattle.zf_term.specs.Definitions.{Comp, sides, sets_of}
+use Rattle.zf_term.specs.FirstNamed.{or_else, later}
+use Rattle.zf_term.specs.Types.{Ty}
+use Rattle.zf_calculus.specs.Calculus.{comp, comp_named, HasTypeOf, Agrees, Agree, with_comps, place_or, place_of, new_place, sets_on, either_comps, AreOnce}
+use Rattle.zf_schema.specs.SchemaLaws.{type_found, type_named, sets_found, StandsAt, TypesJoined, SetsJoined, PlacesCarried, TypesOfEither, SetsOfEither}
 use Rattle.zf_schema.proofs.Named.{found, stands_there, joined_type, joined_sets, type_of_once}
 
 pub types_joined : TypesJoined

@@ -3,13 +3,13 @@ use Rattle.std.proofs.Common.{◌≡◌, ℕ, zero, suc, ◌+◌, Bool, true, fa
 use Rattle.std.proofs.lemmas.List.{append-nil, append_assoc}
 use Rattle.std.proofs.lemmas.Option.{same_Some, none-some}
 use Rattle.std.specs.Str.{bytes_eq}
-use Rattle.zf_type.specs.Definitions.{Comp}
-use Rattle.zf_type.specs.Scopes.{later, or_else}
-use Rattle.zf_type.specs.Types.{Ty}
-use Rattle.zf_type.proofs.Choices.{or_none, or_else_assoc}
-use Rattle.zf_type.proofs.SameNames.{is_same, is_itself, swapped}
-use Rattle.zf_schema.specs.Calculus.{comp, comp_named, with_comp, with_comps}
-use Rattle.zf_schema.specs.SchemaLaws.{type_found, type_named, sets_found, sets_named, AreOnce}
+use Rattle.zf_term.specs.Definitions.{Comp}
+use Rattle.zf_term.specs.FirstNamed.{later, or_else}
+use Rattle.zf_term.specs.Types.{Ty}
+use Rattle.zf_term.proofs.Choices.{or_none, or_else_assoc}
+use Rattle.zf_term.proofs.SameNames.{is_same, is_itself, swapped}
+use Rattle.zf_calculus.specs.Calculus.{comp, comp_named, with_comp, with_comps, AreOnce}
+use Rattle.zf_schema.specs.SchemaLaws.{type_found, type_named, sets_found, sets_named}
 
 -- ---- what is found
 

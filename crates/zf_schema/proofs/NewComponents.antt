@@ -3,12 +3,12 @@ use Rattle.std.proofs.Common.{◌≡◌, ℕ, ◌+◌, Bool, true, false, if◌t
 use Rattle.std.proofs.lemmas.List.{append-nil, append_assoc}
 use Rattle.std.proofs.lemmas.Option.{none-some}
 use Rattle.std.specs.Str.{bytes_eq}
-use Rattle.zf_type.specs.Definitions.{Comp}
-use Rattle.zf_type.specs.Scopes.{later, or_else}
-use Rattle.zf_schema.specs.Calculus.{comp, comp_named, with_comp, with_comps}
-use Rattle.zf_schema.specs.SchemaLaws.{signature, type_found, type_named, AreOnce, unless_found, new_comps, CompsJoined}
-use Rattle.zf_type.proofs.Choices.{or_none}
-use Rattle.zf_type.proofs.SameNames.{swapped}
+use Rattle.zf_term.specs.Definitions.{Comp}
+use Rattle.zf_term.specs.FirstNamed.{later, or_else}
+use Rattle.zf_calculus.specs.Calculus.{comp, comp_named, with_comp, with_comps, AreOnce}
+use Rattle.zf_schema.specs.SchemaLaws.{signature, type_found, type_named, unless_found, new_comps, CompsJoined}
+use Rattle.zf_term.proofs.Choices.{or_none}
+use Rattle.zf_term.proofs.SameNames.{swapped}
 use Rattle.zf_schema.proofs.Named.{type_one_more}
 
 -- ---- whether one is found

@@ -5,12 +5,12 @@ use Rattle.std.proofs.lemmas.List.Sums.{sum_by-cons}
 use Rattle.zf_text.specs.declared.tree.Name.{Name}
 use Rattle.zf_text.specs.Trees.{ParagraphTree, given, free, definition}
 use Rattle.zf_text.specs.Trees as text
-use Rattle.zf_type.specs.Definitions.{Defined, Definition, given_set, free_type, constructor, abbreviation, schema}
-use Rattle.zf_type.specs.Numbers.{has_elements, next_number}
+use Rattle.zf_term.specs.Definitions.{Defined, Definition, given_set, free_type, constructor, abbreviation, schema}
+use Rattle.zf_term.specs.Numbers.{has_elements, next_number}
 use Rattle.zf_type.specs.Resolving.{resolved}
 use Rattle.zf_type.specs.Scopes.{spelling}
 use Rattle.zf_schema.specs.Checking.{with_global, abbreviated, Gives, Constructs, DefinesParagraph}
-use Rattle.zf_schema.specs.Expressions.{outside}
+use Rattle.zf_calculus.specs.Expressions.{outside}
 use Rattle.zf_schema.specs.Runs.{elements}
 
 at_most_one : (d : Definition) → has_elements d ≤ 1

@@ -10,24 +10,21 @@ use Rattle.zf_text.specs.declared.tree.RefMark.{RefMark}
 use Rattle.zf_text.specs.declared.tree.RefMark.TheVariants.{Plain, Delta, Xi}
 use Rattle.zf_text.specs.declared.tree.SchemaRef.{SchemaRef}
 use Rattle.zf_text.specs.Trees.{Tree, DeclTree, vars, include, SchemaTree, schema_text, reference, both, either, schema_bracket}
-use Rattle.zf_type.specs.Definitions.{Comp, Schema, DeclaredSet, plain, Defined, schema}
-use Rattle.zf_type.specs.ResolvedTrees.{ResolvedTree}
+use Rattle.zf_term.specs.FirstNamed.{first_named, later}
+use Rattle.zf_term.specs.Definitions.{Comp, Schema, DeclaredSet, plain, Defined, schema}
+use Rattle.zf_term.specs.ResolvedTrees.{ResolvedTree}
+use Rattle.zf_term.specs.Shapes.{conjuncts}
+use Rattle.zf_term.specs.Types.{Ty}
 use Rattle.zf_type.specs.Resolving.{resolved}
-use Rattle.zf_type.specs.Scopes.{spelling, first_named, later, or_else}
-use Rattle.zf_type.specs.Shapes.{conjuncts}
-use Rattle.zf_type.specs.Types.{Ty}
-use Rattle.zf_schema.specs.Calculus.{nothing, comp, comp_named, with_comp, with_comps, decorated, marked, prime, either_comps}
-use Rattle.zf_schema.specs.Expressions.{outside, inside, Refers, AddsAll, DeclaresOne, Declares, TakesAll, Constrains, IsText, IsSchema}
-use Rattle.zf_schema.specs.SchemaLaws.{type_found, type_named, AreOnce, HasCompsOnce, HaveCompsOnce}
-use Rattle.zf_type.proofs.SameNames.{is_same, tests_alike, swapped}
-use Rattle.zf_schema.proofs.Named.{later_type, not_found, type_one_more}
+use Rattle.zf_type.specs.Scopes.{spelling}
+use Rattle.zf_calculus.specs.Calculus.{nothing, comp, comp_named, with_comp, with_comps, decorated, marked, prime, either_comps, AreOnce}
+use Rattle.zf_calculus.specs.Expressions.{outside, inside, Refers, AddsAll, DeclaresOne, Declares, TakesAll, Constrains, IsText, IsSchema}
+use Rattle.zf_schema.specs.SchemaLaws.{type_found, type_named, HasCompsOnce, HaveCompsOnce}
+use Rattle.zf_term.proofs.SameNames.{is_same, tests_alike, swapped}
+use Rattle.zf_calculus.proofs.Merging.{none_known}
+use Rattle.zf_schema.proofs.Named.{later_type, not_found}
 
 -- ---- one more component
-
-pub none_known : (x : List ℕ) (cs : List Comp) (c : Comp) → comp_named x cs ≡ None → bytes_eq c.name x ≡ false → comp_named x (with_comp cs c) ≡ None
-none_known x cs c unknown other =
-    let more = type_one_more x cs c ∙ ap (λ o. or_else (type_found o) (if bytes_eq c.name x then Some c.type else None)) unknown in
-    not_found (comp_named x (with_comp cs c)) (more ∙ ap (λ t. if t then Some c.type else None) other)
 
 pub one_more_once : (cs : List Comp) (c : Comp) → AreOnce cs → AreOnce (with_comp cs c)
 one_more_once [] c once = (refl, tt)

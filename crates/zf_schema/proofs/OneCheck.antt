@@ -2,8 +2,8 @@
 use Rattle.std.proofs.Common.{◌≡◌, ◌+◌, List, [], ◌∷◌, length, sym, ap, ◌∙◌, subst, inl, inr}
 use Rattle.std.proofs.lemmas.List.{length-append}
 use Rattle.zf_text.specs.Trees.{BoxTree}
+use Rattle.zf_term.specs.Definitions.{Defined}
 use Rattle.zf_type.specs.declared.fault.TypeFault.{TypeFault}
-use Rattle.zf_type.specs.Definitions.{Defined}
 use Rattle.zf_schema.specs.Checking.{Item, items, ChecksOne, Checks, IsChecked}
 use Rattle.zf_schema.proofs.OneDefinition.{one_definition}
 

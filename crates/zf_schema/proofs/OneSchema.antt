@@ -4,16 +4,17 @@ use Rattle.std.proofs.lemmas.Option.{same_Some}
 use Rattle.zf_text.specs.declared.tree.Name.{Name}
 use Rattle.zf_text.specs.declared.tree.SchemaRef.{SchemaRef}
 use Rattle.zf_text.specs.Trees.{Tree, DeclTree, vars, include, SchemaTree, schema_text, reference, both, either, schema_bracket}
-use Rattle.zf_type.specs.Definitions.{Comp, Schema, DeclaredSet, plain, Defined, schema}
-use Rattle.zf_type.specs.ResolvedTrees.{ResolvedTree}
+use Rattle.zf_term.specs.FirstNamed.{first_named}
+use Rattle.zf_term.specs.Definitions.{Comp, Schema, DeclaredSet, plain, Defined, schema}
+use Rattle.zf_term.specs.ResolvedTrees.{ResolvedTree}
+use Rattle.zf_term.specs.Shapes.{conjuncts}
+use Rattle.zf_term.specs.Types.{Ty}
 use Rattle.zf_type.specs.Resolving.{resolved}
 use Rattle.zf_type.specs.Rules.{set_of}
-use Rattle.zf_type.specs.Scopes.{spelling, first_named}
-use Rattle.zf_type.specs.Shapes.{conjuncts}
-use Rattle.zf_type.specs.Types.{Ty}
+use Rattle.zf_type.specs.Scopes.{spelling}
 use Rattle.zf_type.proofs.OneSort.{same_set, one_sort}
-use Rattle.zf_schema.specs.Calculus.{comp, nothing, conjoined, decorated, marked, disjoined}
-use Rattle.zf_schema.specs.Expressions.{outside, inside, Refers, Adds, AddsAll, Includes, DeclaresOne, Declares, TakesAll, ConstrainsOne, Constrains, IsText, IsSchema}
+use Rattle.zf_calculus.specs.Calculus.{comp, nothing, conjoined, decorated, marked, disjoined}
+use Rattle.zf_calculus.specs.Expressions.{outside, inside, Refers, Adds, AddsAll, Includes, DeclaresOne, Declares, TakesAll, ConstrainsOne, Constrains, IsText, IsSchema}
 
 -- ---- the base of a reference
 

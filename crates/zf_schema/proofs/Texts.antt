@@ -3,15 +3,15 @@ use Rattle.std.proofs.Common.{◌≡◌, inr, ℕ, ◌+◌, ◌<◌, ◌≤◌, 
 use Rattle.std.proofs.lemmas.List.{drop_all}
 use Rattle.zf_text.specs.declared.tree.SchemaRef.{SchemaRef}
 use Rattle.zf_text.specs.Trees.{include}
+use Rattle.zf_term.specs.Definitions.{Schema, Defined}
 use Rattle.zf_type.specs.declared.fault.Refusal.{Refusal}
 use Rattle.zf_type.specs.declared.fault.Refusal.TheVariants.{Fault, OutOfMemory}
 use Rattle.zf_type.specs.declared.fault.TypeFaultKind.{TypeFaultKind}
-use Rattle.zf_type.specs.Definitions.{Schema, Defined}
 use Rattle.zf_type.specs.Refusals.{IfFault}
-use Rattle.zf_schema.specs.Calculus.{Agree, conjoined}
-use Rattle.zf_schema.specs.Expressions.{Refers}
-use Rattle.zf_schema.specs.SchemaOffences.{OffendsDecl, Stops}
-use Rattle.zf_type.proofs.Walk.{dropped}
+use Rattle.zf_calculus.specs.Calculus.{Agree, conjoined}
+use Rattle.zf_calculus.specs.Expressions.{Refers}
+use Rattle.zf_calculus.specs.SchemaOffences.{OffendsDecl, Stops}
+use Rattle.zf_term.proofs.Walk.{dropped}
 
 -- what follows of each kind and line follows of the fault
 pub if_fault : (e : Refusal) (P Q : TypeFaultKind → ℕ → Type 0) → ((k : TypeFaultKind) (m : ℕ) → P k m → Q k m) → IfFault e P → IfFault e Q

@@ -2,9 +2,9 @@
 use Rattle.std.proofs.Common.{◌≡◌, ℕ, zero, suc, ◌+◌, List, [], ◌∷◌, ◌++◌, Some, slice_get, refl, ap, ◌∙◌, arith}
 use Rattle.std.proofs.lemmas.Option.{same_Some, none-some, slice_get-map}
 use Rattle.std.specs.Option.{option_map}
-use Rattle.zf_type.specs.Definitions.{Comp}
-use Rattle.zf_type.specs.Types.{Ty}
-use Rattle.zf_schema.specs.Calculus.{comp, with_comps, new_place, decorated, prime, unchanged, all_unchanged}
+use Rattle.zf_term.specs.Definitions.{Comp}
+use Rattle.zf_term.specs.Types.{Ty}
+use Rattle.zf_calculus.specs.Calculus.{comp, with_comps, new_place, decorated, prime, unchanged, all_unchanged}
 use Rattle.zf_schema.specs.SchemaLaws.{signature, StandsAt, XiEquates}
 use Rattle.zf_schema.proofs.FirstComponents.{more}
 use Rattle.zf_schema.proofs.Joined.{carried_place}

@@ -1,11 +1,11 @@
 -- Which schemas are finite: whose bindings are among those of finite sets, where each given set is finite.
 use Rattle.std.specs.Prelude.{◌≡◌, ◌↔◌, IsTrue, ℕ, Bool, true, false, not, ◌&&◌, ◌||◌, if◌then◌else◌, List, [], ◌∷◌, ◌++◌, flat_map, Option, Some, None}
 use Rattle.std.specs.List.{AllByRecursion}
-use Rattle.zf_type.specs.declared.extent.Infinite.{Infinite}
-use Rattle.zf_type.specs.Definitions.{Comp, Schema, DeclaredSet, plain, carrier, sides, DeclaredSets, no_sets, set, sets_of, Defined}
-use Rattle.zf_type.specs.Extents.{direct, offending, offending_within}
-use Rattle.zf_type.specs.Shapes.{line_of}
-use Rattle.zf_type.specs.Types.{has_numbers}
+use Rattle.zf_term.specs.declared.extent.Infinite.{Infinite}
+use Rattle.zf_term.specs.Definitions.{Comp, Schema, DeclaredSet, plain, carrier, sides, DeclaredSets, no_sets, set, sets_of, Defined}
+use Rattle.zf_term.specs.Extents.{direct, offending, offending_within}
+use Rattle.zf_term.specs.Shapes.{line_of}
+use Rattle.zf_term.specs.Types.{has_numbers}
 
 -- ---- what bounds a component
 

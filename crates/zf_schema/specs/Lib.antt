@@ -1,10 +1,5 @@
-pub mod Calculus
-pub mod Limits
 pub mod Finite
 pub mod Listing
-pub mod Expressions
-pub mod SchemaOffences
 pub mod Checking
-pub mod Growth
 pub mod SchemaLaws
 pub mod Runs

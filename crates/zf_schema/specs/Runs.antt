@@ -1,10 +1,10 @@
 -- How far a check of a text has come, for private contracts alone.
 use Rattle.std.specs.Prelude.{◌≡◌, ℕ, length, List, [], ◌∷◌, ◌++◌, Result, Ok, Err}
 use Rattle.zf_text.specs.Trees.{ParagraphTree, given, free, abbreviation, definition}
+use Rattle.zf_term.specs.Definitions.{globals_of}
 use Rattle.zf_type.specs.declared.fault.Refusal.{Refusal}
 use Rattle.zf_type.specs.declared.fault.Refusal.TheVariants.{Fault, OutOfMemory}
 use Rattle.zf_type.specs.declared.fault.TypeFault.{TypeFault}
-use Rattle.zf_type.specs.Definitions.{globals_of}
 use Rattle.zf_schema.specs.declared.checker.Checked.{Checked}
 use Rattle.zf_schema.specs.Checking.{Item, ChecksOne, Checks}
 

@@ -1,20 +1,20 @@
 -- What holds of every schema expression, of every item and of every text.
 use Rattle.std.specs.Prelude.{◌≡◌, ℕ, List, [], ◌∷◌, ◌++◌, map, length, slice_get, Option, Some, None}
 use Rattle.std.specs.List.{AllByRecursion}
-use Rattle.zf_text.specs.declared.token.Relation.TheVariants.{Equal}
+use Rattle.zf_scan.specs.declared.token.Relation.TheVariants.{Equal}
 use Rattle.zf_text.specs.declared.tree.RefMark.TheVariants.{Xi}
 use Rattle.zf_text.specs.Trees.{SchemaTree, BoxTree}
+use Rattle.zf_term.specs.declared.resolved.Reference.TheVariants.{Component}
+use Rattle.zf_term.specs.Definitions.{Comp, Schema, DeclaredSet, sides, sets_of, Defined, Definition, given_set, free_type, constructor, abbreviation, schema}
+use Rattle.zf_term.specs.ResolvedTrees.{reference, chain, no_links, link}
+use Rattle.zf_term.specs.FirstNamed.{or_else}
+use Rattle.zf_term.specs.Types.{Ty}
 use Rattle.zf_type.specs.declared.fault.TypeFault.{TypeFault}
 use Rattle.zf_type.specs.declared.fault.TypeFaultKind.{TypeFaultKind}
-use Rattle.zf_type.specs.declared.resolved.Reference.TheVariants.{Component}
-use Rattle.zf_type.specs.Definitions.{Comp, Schema, DeclaredSet, sides, sets_of, Defined, Definition, given_set, free_type, constructor, abbreviation, schema}
-use Rattle.zf_type.specs.ResolvedTrees.{reference, chain, no_links, link}
-use Rattle.zf_type.specs.Scopes.{or_else, first_named}
-use Rattle.zf_type.specs.Types.{Ty}
-use Rattle.zf_schema.specs.Calculus.{comp, comp_named, Agree, with_comps, new_place, conjoined, decorated, prime, delta, all_unchanged, xi, MarkAgrees, sets_on, disjoined}
+use Rattle.zf_calculus.specs.Calculus.{EachOnce, AreOnce, comp, comp_named, Agree, with_comps, new_place, conjoined, decorated, prime, delta, all_unchanged, xi, MarkAgrees, sets_on, disjoined}
 use Rattle.zf_schema.specs.Checking.{Item, Defines, OffendsItem, IsChecked}
-use Rattle.zf_schema.specs.Expressions.{IsSchema}
-use Rattle.zf_schema.specs.SchemaOffences.{OffendsSchema}
+use Rattle.zf_calculus.specs.Expressions.{IsSchema}
+use Rattle.zf_calculus.specs.SchemaOffences.{OffendsSchema}
 
 -- a schema expression is one schema at most
 abbrev pub OneSchema : Type 0
@@ -77,14 +77,6 @@ sets_found (Some p) = p.1.sets
 
 abbrev pub sets_named : List ℕ → List Comp → List DeclaredSet
 sets_named x cs = sets_found (comp_named x cs)
-
--- no two have one name
-abbrev pub EachOnce : {A : Type 0} → (A → List ℕ) → List A → Type 0
-EachOnce name [] = Unit {0}
-EachOnce name (a ∷ rest) = (first_named name (name a) rest ≡ None) × EachOnce name rest
-
-abbrev pub AreOnce : List Comp → Type 0
-AreOnce = EachOnce (λ c. c.name)
 
 -- the component, unless one is found, and the rest
 abbrev pub unless_found : Option (ℕ × Comp) → Comp → List Comp → List Comp

@@ -2,24 +2,24 @@
 ghost use Rattle.std.specs.Prelude.{◌≡◌, IfErr, IfOk, map};
 ghost use Rattle.zf_text.specs.Trees as tree;
 ghost use Rattle.zf_text.specs.Trees.{decl_of};
-ghost use Rattle.zf_type.specs.Definitions.{globals_of, schema_of};
+ghost use Rattle.zf_term.specs.Definitions.{globals_of, schema_of};
 ghost use Rattle.zf_type.specs.Refusals.{IfFault};
-ghost use Rattle.zf_schema.specs.Calculus.{Agree, conjoined, disjoined};
-ghost use Rattle.zf_schema.specs.Expressions.{IsNext, IsSchema};
-ghost use Rattle.zf_schema.specs.Growth.{CantConjoin, IsGrowing};
-ghost use Rattle.zf_schema.specs.SchemaOffences as spec;
-ghost use Rattle.zf_schema.specs.SchemaOffences.{OffendsSchema, StopsEither};
+ghost use Rattle.zf_calculus.specs.Calculus.{Agree, conjoined, disjoined};
+ghost use Rattle.zf_calculus.specs.Expressions.{IsNext, IsSchema};
+ghost use Rattle.zf_calculus.specs.Growth.{CantConjoin, IsGrowing};
+ghost use Rattle.zf_calculus.specs.SchemaOffences as spec;
+ghost use Rattle.zf_calculus.specs.SchemaOffences.{OffendsSchema, StopsEither};
 
-use crate::disjunction::disjoin;
-use crate::growing::Growing;
 use crate::reference::referred;
-use crate::spare::Spare;
-use crate::stop::Stop;
 use crate::text::growing_text;
 use bumpalo::Bump;
+use zf_calculus::disjunction::disjoin;
+use zf_calculus::growing::Growing;
+use zf_calculus::spare::Spare;
+use zf_calculus::stop::Stop;
+use zf_term::globals::{Flat, Globals};
 use zf_text::tree::{Decl, Name, SchemaExp};
 use zf_type::fault::Refusal;
-use zf_type::globals::{Flat, Globals};
 
 /// The schema that the expression is.
 pub fn schema_of_expression<'a>(

@@ -1,16 +1,16 @@
 //! Which schemas are finite.
 ghost use Rattle.std.specs.Prelude.{◌≡◌, OnOk, IfErr, Some, flat_map, map};
-ghost use Rattle.zf_type.specs.Definitions.{comp_of, conjunct_of, globals_of, schema_of, set_of, sets_of};
-ghost use Rattle.zf_type.specs.Extents.{first};
-ghost use Rattle.zf_type.specs.Extents as extents;
-ghost use Rattle.zf_type.specs.Scopes.{or_else};
+ghost use Rattle.zf_term.specs.Definitions.{comp_of, conjunct_of, globals_of, schema_of, set_of, sets_of};
+ghost use Rattle.zf_term.specs.Extents.{first};
+ghost use Rattle.zf_term.specs.Extents as extents;
+ghost use Rattle.zf_term.specs.FirstNamed.{or_else};
 ghost use Rattle.zf_schema.specs.Finite as spec;
 ghost use Rattle.zf_schema.specs.Finite.{IsFinite};
 
 use thiserror::Error;
 use zf_data::arena::Items;
-use zf_type::conjunct::Conjunct;
-use zf_type::globals::{Component, Domain, Flat, Globals};
+use zf_term::conjunct::Conjunct;
+use zf_term::globals::{Component, Domain, Flat, Globals};
 
 /// Why a schema has no events: the line of the first infinite set that would be searched.
 #[derive(Clone, Copy, Debug, PartialEq, Eq, Error)]
@@ -69,7 +69,7 @@ fn conjuncts_after<'a>(
     line
 }
 
-#[tactic(auto, using(zf_type::proofs::Renumbered::same_offences))]
+#[tactic(auto, using(zf_term::proofs::Renumbered::same_offences))]
 fn conjunct_after<'a>(
     conjunct: &Conjunct<'a>,
     found: Option<u32>,
@@ -96,7 +96,7 @@ fn unbounded_after<'a>(
 
 /// Whether the declared set bounds a component.
 #[cycle(bounds)]
-#[tactic(auto, using(zf_type::proofs::SetsSeen::seen))]
+#[tactic(auto, using(zf_term::proofs::SetsSeen::seen))]
 fn bounds<'a>(domain: &Domain<'a>, globals: &Globals<'a>) -> bool
     ensures { result ≡ spec.bounds (globals_of globals.now) (set_of domain.now) }
 {
@@ -131,7 +131,7 @@ fn first_plain<'a>(domains: &Items<'a, Domain<'a>>) -> u32
 }
 
 #[cycle(plain)]
-#[tactic(auto, using(zf_type::proofs::SetsSeen::seen, crate::proofs::FirstOffences::both_after))]
+#[tactic(auto, using(zf_term::proofs::SetsSeen::seen, crate::proofs::FirstOffences::both_after))]
 fn plain_after<'a>(domain: &Domain<'a>, found: Option<u32>) -> Option<u32>
     ensures { result ≡ or_else found (first (spec.plain_lines (set_of domain.now))) }
 {
@@ -167,7 +167,7 @@ fn all_plain_after<'a>(domains: &Items<'a, Domain<'a>>, found: Option<u32>) -> O
 
 /// The line of the first name in the declared set that offends.
 #[cycle(names)]
-#[tactic(auto, using(zf_type::proofs::SetsSeen::seen, crate::proofs::FirstOffences::both_after))]
+#[tactic(auto, using(zf_term::proofs::SetsSeen::seen, crate::proofs::FirstOffences::both_after))]
 fn names_after<'a>(domain: &Domain<'a>, found: Option<u32>, globals: &Globals<'a>) -> Option<u32>
     ensures { result ≡ or_else found (first (spec.set_lines (globals_of globals.now) (set_of domain.now))) }
 {

@@ -1,16 +1,16 @@
 //! What a text defines, as it is printed.
 ghost use Rattle.std.specs.Prelude.{◌≡◌, ◌++◌, codes, IfOk, OnOk, flat_map, map};
-ghost use Rattle.zf_type.specs.Definitions.{comp_of, definition_of, globals_of, schema_of};
-ghost use Rattle.zf_type.specs.TypeTexts.{type_text};
-ghost use Rattle.zf_type.specs.Types.{type_of};
+ghost use Rattle.zf_term.specs.Definitions.{comp_of, definition_of, globals_of, schema_of};
+ghost use Rattle.zf_term.specs.TypeTexts.{type_text};
+ghost use Rattle.zf_term.specs.Types.{type_of};
 ghost use Rattle.zf_schema.specs.Listing as spec;
 
 use std::alloc::{AllocError, Global};
 use zf_data::Text;
 use zf_data::arena::Lent;
-use zf_type::globals::{Component, Entry, Flat, Globals};
-use zf_type::type_text::append_type;
-use zf_type::ztype::ZType;
+use zf_term::globals::{Component, Entry, Flat, Globals};
+use zf_term::type_text::append_type;
+use zf_term::ztype::ZType;
 
 /// The text of all that is defined, in the order of definition.
 pub fn listing(alloc: Global, globals: &Globals) -> Result<Text, AllocError>

@@ -2,15 +2,15 @@
 ghost use Rattle.std.specs.Prelude.{◌≡◌, ◌<◌, ◌^◌, map, length, take, IfOk, IfErr, OnOk, OnErr};
 ghost use Rattle.zf_text.specs.Trees.{paragraph_of, schema_of, decl_of, tree_of};
 ghost use Rattle.zf_text.specs.Trees as text;
-ghost use Rattle.zf_type.specs.declared.operator.Need.TheVariants as need;
-ghost use Rattle.zf_type.specs.Definitions.{definition_of, globals_of};
+ghost use Rattle.zf_term.specs.declared.operator.Need.TheVariants as need;
+ghost use Rattle.zf_term.specs.Definitions.{definition_of, globals_of};
+ghost use Rattle.zf_term.specs.Numbers.{next_number};
+ghost use Rattle.zf_term.specs.Types.{Ty};
 ghost use Rattle.zf_type.specs.Offences.{Offends};
 ghost use Rattle.zf_type.specs.Resolving.{resolved};
 ghost use Rattle.zf_type.specs.Rules.{typed};
-ghost use Rattle.zf_type.specs.Numbers.{next_number};
-ghost use Rattle.zf_type.specs.Types.{Ty};
 ghost use Rattle.zf_type.specs.Typing.{IsOf};
-ghost use Rattle.zf_schema.specs.Expressions.{outside};
+ghost use Rattle.zf_calculus.specs.Expressions.{outside};
 ghost use Rattle.zf_type.specs.Refusals.{IfFault};
 ghost use Rattle.zf_type.specs.Scopes.{spelling};
 ghost use Rattle.zf_schema.specs.Runs as spec;
@@ -21,12 +21,12 @@ use crate::text::{scope_over, text_of};
 use bumpalo::Bump;
 use std::alloc::AllocError;
 use zf_data::arena::{Boxed, Items, Lent, Shared};
+use zf_term::globals::{Entry, Globals};
+use zf_term::infinite::extent_of;
+use zf_term::operator::Need;
 use zf_text::tree::{Decl, Name, Paragraph, SchemaExp, Term};
 use zf_type::fault::{Refusal, TypeFaultKind, refused};
-use zf_type::globals::{Entry, Globals};
-use zf_type::infinite::extent_of;
 use zf_type::judge::judge;
-use zf_type::operator::Need;
 
 /// Defines what the paragraph does, or leaves the globals as they were. Keeps the number of the next given set or free type.
 pub fn define<'a>(

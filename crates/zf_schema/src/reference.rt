@@ -1,21 +1,19 @@
 //! References to schemas.
 ghost use Rattle.std.specs.Prelude.{◌≡◌, ◌⊎◌, ℕ, IfErr, IfOk, MatchOption, Some, None};
-ghost use Rattle.zf_type.specs.Definitions.{Defined, definition_of, globals_of, schema, schema_of};
+ghost use Rattle.zf_term.specs.Definitions.{Defined, definition_of, globals_of, schema, schema_of};
+ghost use Rattle.zf_term.specs.FirstNamed.{first_named};
 ghost use Rattle.zf_type.specs.Refusals.{IfFault};
-ghost use Rattle.zf_type.specs.Scopes.{first_named};
-ghost use Rattle.zf_schema.specs.Expressions.{Refers};
-ghost use Rattle.zf_schema.specs.Growth as spec;
-ghost use Rattle.zf_schema.specs.Growth.{IsGrowing, IsNamed, LacksSchema};
-ghost use Rattle.zf_schema.specs.SchemaOffences.{IsNoSchema, OffendsRef};
+ghost use Rattle.zf_calculus.specs.Expressions.{Refers};
+ghost use Rattle.zf_calculus.specs.Growth.{IsGrowing, IsNamed, LacksSchema};
+ghost use Rattle.zf_calculus.specs.SchemaOffences.{IsNoSchema, OffendsRef};
 
-use crate::growing::Growing;
-use crate::marking::{decorate_own, marked};
-use crate::spare::Spare;
-use crate::stop::Stop;
 use bumpalo::Bump;
+use zf_calculus::growing::Growing;
+use zf_calculus::marking::{decorate_own, marked};
+use zf_calculus::spare::Spare;
+use zf_term::globals::{Entry, Flat, Globals};
 use zf_text::tree::SchemaRef;
 use zf_type::fault::{Refusal, TypeFaultKind, refused};
-use zf_type::globals::{Entry, Flat, Globals};
 use zf_type::scope::global_of;
 
 /// The schema that is referred to.
@@ -78,18 +76,5 @@ fn as_schema<'a, 'b>(entry: &'b Entry<'a>) -> Option<&'b Flat<'a>>
         | Entry::Free(_, _)
         | Entry::Constructor(_, _, _)
         | Entry::Abbrev(_, _, _) => None,
-    }
-}
-
-impl Stop {
-    /// The refusal at this line.
-    pub fn refusal(self, line: u32) -> Refusal
-        ensures { result ≡ spec.refusal_of self line }
-    {
-        match self {
-            Stop::Clash => refused(TypeFaultKind::ComponentClash, line),
-            Stop::TooLarge => refused(TypeFaultKind::TooLarge, line),
-            Stop::OutOfMemory => Refusal::OutOfMemory,
-        }
     }
 }

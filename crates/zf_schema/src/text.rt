@@ -1,42 +1,42 @@
 //! The schemas of boxes and of horizontal texts: declarations, and predicates over them.
 ghost use Rattle.std.specs.Prelude.{◌≡◌, ◌∷◌, [], IfErr, IfOk, OnOk, map};
 ghost use Rattle.zf_text.specs.Trees.{decl_of, include, tree_of, vars};
-ghost use Rattle.zf_type.specs.Definitions.{comp_of, globals_of, plain, schema_of};
+ghost use Rattle.zf_term.specs.Definitions.{comp_of, globals_of, plain, schema_of};
+ghost use Rattle.zf_term.specs.Types.{type_of};
+ghost use Rattle.zf_term.specs.Written.{written_of};
+ghost use Rattle.zf_term.specs.declared.operator.Need.TheVariants as needs;
 ghost use Rattle.zf_type.specs.Offences.{Offends};
 ghost use Rattle.zf_type.specs.Refusals.{IfFault};
 ghost use Rattle.zf_type.specs.Resolving.{resolved};
 ghost use Rattle.zf_type.specs.Rules as rules;
 ghost use Rattle.zf_type.specs.Rules.{Meets, sort_of};
 ghost use Rattle.zf_type.specs.Scopes.{scope_of, spelling};
-ghost use Rattle.zf_type.specs.Types.{type_of};
 ghost use Rattle.zf_type.specs.Typing.{IsOf};
-ghost use Rattle.zf_type.specs.Written.{written_of};
-ghost use Rattle.zf_type.specs.declared.operator.Need.TheVariants as needs;
-ghost use Rattle.zf_schema.specs.Calculus.{comp};
-ghost use Rattle.zf_schema.specs.Expressions.{Adds, AddsAll, ConstrainsOne, Constrains, Declares, DeclaresOne, IsNext, IsText, TakesAll};
-ghost use Rattle.zf_schema.specs.Growth.{CantAdd, CantTake, IsGrowing, constrained, over};
-ghost use Rattle.zf_schema.specs.SchemaOffences.{OffendsConjuncts, OffendsDecl, OffendsDecls, OffendsNames, OffendsPredicate, OffendsPredicates, OffendsText};
-ghost use Rattle.zf_type.specs.Shapes as shape;
+ghost use Rattle.zf_calculus.specs.Calculus.{comp};
+ghost use Rattle.zf_calculus.specs.Expressions.{Adds, AddsAll, ConstrainsOne, Constrains, Declares, DeclaresOne, IsNext, IsText, TakesAll};
+ghost use Rattle.zf_calculus.specs.Growth.{CantAdd, CantTake, IsGrowing, constrained, over};
+ghost use Rattle.zf_calculus.specs.SchemaOffences.{OffendsConjuncts, OffendsDecl, OffendsDecls, OffendsNames, OffendsPredicate, OffendsPredicates, OffendsText};
+ghost use Rattle.zf_term.specs.Shapes as shape;
 
-use crate::growing::Growing;
-use crate::limits::{COMPONENTS_MAX, CONJUNCTS_MAX};
 use crate::reference::referred;
-use crate::spare::Spare;
 use bumpalo::Bump;
 use std::alloc::AllocError;
 use std::mem;
+use zf_calculus::growing::Growing;
+use zf_calculus::limits::{COMPONENTS_MAX, CONJUNCTS_MAX};
+use zf_calculus::spare::Spare;
 use zf_data::arena::{Boxed, Items, Lasting, Shared};
+use zf_term::conjunct::{Conjunct, Statement};
+use zf_term::globals::{Component, Domain, Flat, Globals};
+use zf_term::operator::Need;
+use zf_term::resolved::Reference;
+use zf_term::written::Written;
+use zf_term::ztype::ZType;
 use zf_text::tree::{Decl, Name, SchemaRef, Term};
-use zf_type::conjunct::{Conjunct, Statement};
 use zf_type::conjuncts::push_conjuncts;
 use zf_type::fault::Refusal;
-use zf_type::globals::{Component, Domain, Flat, Globals};
 use zf_type::judge::{Judged, judge};
-use zf_type::operator::Need;
-use zf_type::resolved::Reference;
 use zf_type::scope::Scope;
-use zf_type::written::Written;
-use zf_type::ztype::ZType;
 
 /// The schema of these declarations, and then of these predicates over them.
 pub fn text_of<'a>(
@@ -226,7 +226,7 @@ fn add<'a>(
 }
 
 /// A component of this type that is declared to be in the set.
-#[tactic(auto, using(zf_type::proofs::SetsSeen::seen))]
+#[tactic(auto, using(zf_term::proofs::SetsSeen::seen))]
 fn declared<'a>(
     arena: &'a Bump,
     name: &Name<'a>,

@@ -1,12 +1,12 @@
 -- The terms in declared sets, each of which is read.
 use Rattle.std.proofs.Common.{◌≡◌, ℕ, ◌+◌, ◌<◌, List, ◌++◌, length, get_or, drop, map, Result, Ok, Err, sym, ap, ◌∙◌, append-nil}
 use Rattle.std.proofs.lemmas.List.{at_drop_more}
-use Rattle.zf_type.specs.declared.globals.Domain.{Domain}
-use Rattle.zf_type.specs.declared.globals.Domain.TheVariants as domain
-use Rattle.zf_type.specs.declared.ztype.ZType.{ZType}
-use Rattle.zf_type.specs.Definitions.{set_of, sets_of}
-use Rattle.zf_type.specs.ResolvedTrees.{ResolvedTree}
-use Rattle.zf_type.proofs.SetsSeen.{of-Carrier, of-Either}
+use Rattle.zf_term.specs.declared.globals.Domain.{Domain}
+use Rattle.zf_term.specs.declared.globals.Domain.TheVariants as domain
+use Rattle.zf_term.specs.declared.ztype.ZType.{ZType}
+use Rattle.zf_term.specs.Definitions.{set_of, sets_of}
+use Rattle.zf_term.specs.ResolvedTrees.{ResolvedTree}
+use Rattle.zf_term.proofs.SetsSeen.{of-Carrier, of-Either}
 use Rattle.zf_simple.specs.declared.unread.Unread.{Unread}
 use Rattle.zf_simple.specs.Showing.{Read, each, terms_in, terms_in_all}
 use Rattle.zf_simple.specs.Unread.{Gives, Adds, onto}

@@ -1,8 +1,8 @@
 -- Given sets among the globals.
 use Rattle.std.proofs.Common.{◌≡◌, ℕ, zero, suc, List, [], ◌∷◌, Option, Some, None, Vec, Global, sym, subst}
 use Rattle.std.specs.List.{Contains, cons_option}
-use Rattle.zf_type.specs.declared.globals.Entry.{Entry}
-use Rattle.zf_type.specs.Definitions.{Defined, definition_of}
+use Rattle.zf_term.specs.declared.globals.Entry.{Entry}
+use Rattle.zf_term.specs.Definitions.{Defined, definition_of}
 use Rattle.zf_simple.specs.Showing.{given_name, given_sets, set_at}
 use Rattle.zf_simple.proofs.Ascending.{Contains-head, Contains-later}
 

@@ -4,12 +4,12 @@ use Rattle.std.specs.List.{All, Contains}
 use Rattle.std.specs.Option.{option_and_then}
 use Rattle.std.specs.Prelude.{nat_lt, nat_eq, if◌then◌else◌}
 use Rattle.std.proofs.lemmas.Bool.{ltb-true}
-use Rattle.zf_text.specs.declared.token.Relation.{Relation}
-use Rattle.zf_type.specs.declared.resolved.Reference.{Reference}
-use Rattle.zf_type.specs.declared.resolved.Reference.TheVariants as names
-use Rattle.zf_type.specs.Definitions.{Comp, DeclaredSet, Defined, Schema, sets_of}
-use Rattle.zf_type.specs.ResolvedTrees.{ResolvedTree, chain, link, no_links}
-use Rattle.zf_type.specs.Shapes.{line_of}
+use Rattle.zf_scan.specs.declared.token.Relation.{Relation}
+use Rattle.zf_term.specs.declared.resolved.Reference.{Reference}
+use Rattle.zf_term.specs.declared.resolved.Reference.TheVariants as names
+use Rattle.zf_term.specs.Definitions.{Comp, DeclaredSet, Defined, Schema, sets_of}
+use Rattle.zf_term.specs.ResolvedTrees.{ResolvedTree, chain, link, no_links}
+use Rattle.zf_term.specs.Shapes.{line_of}
 use Rattle.zf_simple.specs.declared.side.Side.{Side}
 use Rattle.zf_simple.specs.declared.side.Side.TheVariants.{OfComponent, OfSet}
 use Rattle.zf_simple.specs.declared.simple.Component.{Component}

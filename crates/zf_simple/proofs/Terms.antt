@@ -1,16 +1,16 @@
 -- What the program's resolved terms are as names, and as equations of names.
 use Rattle.std.proofs.Common.{◌≡◌, ℕ, List, [], ◌∷◌, length, get_or, map, None, Err, refl, sym, ap, ◌∙◌, arith}
-use Rattle.zf_type.specs.declared.resolved.Reference.{Reference}
-use Rattle.zf_type.specs.declared.resolved.Resolved.{Resolved}
-use Rattle.zf_type.specs.declared.resolved.ResolvedLink.{ResolvedLink}
-use Rattle.zf_type.specs.declared.resolved.Range.{Range}
-use Rattle.zf_type.specs.declared.resolved.Resolved.TheOpen.{Resolved-F}
-use Rattle.zf_type.specs.declared.resolved.Resolved.TheViews.{out-Resolved, roll-out-Resolved}
-use Rattle.zf_type.specs.declared.resolved.Resolved.TheVariants as v
-use Rattle.zf_type.specs.Definitions.{Defined}
-use Rattle.zf_type.specs.ResolvedTrees.{ResolvedTree, chain, links, resolved_of, resolved_link_of}
-use Rattle.zf_type.specs.Shapes.{line_of}
-use Rattle.zf_type.proofs.ResolvedSeen.{form_of, rolled, opened, of-Chain, link-seen}
+use Rattle.zf_term.specs.declared.resolved.Reference.{Reference}
+use Rattle.zf_term.specs.declared.resolved.Resolved.{Resolved}
+use Rattle.zf_term.specs.declared.resolved.ResolvedLink.{ResolvedLink}
+use Rattle.zf_term.specs.declared.resolved.Range.{Range}
+use Rattle.zf_term.specs.declared.resolved.Resolved.TheOpen.{Resolved-F}
+use Rattle.zf_term.specs.declared.resolved.Resolved.TheViews.{out-Resolved, roll-out-Resolved}
+use Rattle.zf_term.specs.declared.resolved.Resolved.TheVariants as v
+use Rattle.zf_term.specs.Definitions.{Defined}
+use Rattle.zf_term.specs.ResolvedTrees.{ResolvedTree, chain, links, resolved_of, resolved_link_of}
+use Rattle.zf_term.specs.Shapes.{line_of}
+use Rattle.zf_term.proofs.ResolvedSeen.{form_of, rolled, opened, of-Chain, link-seen}
 use Rattle.zf_simple.specs.Showing.{reference_of, linked, test_of}
 
 seen : (t : Resolved) → resolved_of t ≡ form_of (out-Resolved t)

@@ -2,13 +2,13 @@
 use Rattle.std.specs.Prelude.{ℕ, Bool, true, false, nat_eq, nat_lt, if◌then◌else◌, List, [], ◌∷◌, ◌++◌, length, Option, Some, None, Result, Ok, Err, slice_get}
 use Rattle.std.specs.List.{filter_map}
 use Rattle.std.specs.Option.{option_and_then}
-use Rattle.zf_text.specs.declared.token.Relation.{Relation}
-use Rattle.zf_text.specs.declared.token.Relation.TheVariants.{Equal, NotEqual}
-use Rattle.zf_type.specs.declared.resolved.Reference.{Reference}
-use Rattle.zf_type.specs.declared.resolved.Reference.TheVariants as names
-use Rattle.zf_type.specs.Definitions.{DeclaredSet, plain, carrier, sides, DeclaredSets, no_sets, set, sets_of, Comp, Schema, Definition, given_set, free_type, constructor, abbreviation, schema, Defined}
-use Rattle.zf_type.specs.ResolvedTrees.{ResolvedTree, reference, chain, link, no_links}
-use Rattle.zf_type.specs.Shapes.{line_of}
+use Rattle.zf_scan.specs.declared.token.Relation.{Relation}
+use Rattle.zf_scan.specs.declared.token.Relation.TheVariants.{Equal, NotEqual}
+use Rattle.zf_term.specs.declared.resolved.Reference.{Reference}
+use Rattle.zf_term.specs.declared.resolved.Reference.TheVariants as names
+use Rattle.zf_term.specs.Definitions.{DeclaredSet, plain, carrier, sides, DeclaredSets, no_sets, set, sets_of, Comp, Schema, Definition, given_set, free_type, constructor, abbreviation, schema, Defined}
+use Rattle.zf_term.specs.ResolvedTrees.{ResolvedTree, reference, chain, link, no_links}
+use Rattle.zf_term.specs.Shapes.{line_of}
 use Rattle.zf_simple.specs.declared.side.Side.{Side}
 use Rattle.zf_simple.specs.declared.side.Side.TheVariants.{OfComponent, OfSet}
 use Rattle.zf_simple.specs.declared.simple.Component.{Component}

@@ -1,7 +1,7 @@
 //! The components of a schema, each in its given set.
 ghost use Rattle.std.specs.Prelude.{[], ◌∷◌, map};
-ghost use Rattle.zf_type.specs.Definitions.{comp_of, globals_of, set_of, sets_of};
-ghost use Rattle.zf_type.specs.ResolvedTrees.{resolved_of};
+ghost use Rattle.zf_term.specs.Definitions.{comp_of, globals_of, set_of, sets_of};
+ghost use Rattle.zf_term.specs.ResolvedTrees.{resolved_of};
 ghost use Rattle.zf_simple.specs.Showing as spec;
 ghost use Rattle.zf_simple.specs.Unread.{Adds, Gives};
 
@@ -11,8 +11,8 @@ use crate::unread::Unread;
 use bumpalo::Bump;
 use std::alloc::Global;
 use zf_data::{Items, Text};
-use zf_type::globals::{Component as Typed, Domain, Domains, Globals};
-use zf_type::resolved::Resolved;
+use zf_term::globals::{Component as Typed, Domain, Domains, Globals};
+use zf_term::resolved::Resolved;
 
 /// The components, each with the name of its given set.
 pub(crate) fn components_of<'a>(
@@ -64,7 +64,7 @@ fn common_set<'a>(
 
 /// Adds the given set that a declared set names, or those that its sides do.
 #[cycle(sets)]
-#[tactic(auto, using(zf_type::proofs::SetsSeen::seen))]
+#[tactic(auto, using(zf_term::proofs::SetsSeen::seen))]
 fn add_sets<'a>(
     domain: &Domain<'a>,
     alloc: Global,

@@ -1,7 +1,7 @@
 //! The conjuncts of a schema, as tests of its rows.
 ghost use Rattle.std.specs.Prelude.{◌≡◌, map};
-ghost use Rattle.zf_type.specs.Definitions.{conjunct_of, globals_of};
-ghost use Rattle.zf_type.specs.ResolvedTrees.{resolved_of};
+ghost use Rattle.zf_term.specs.Definitions.{conjunct_of, globals_of};
+ghost use Rattle.zf_term.specs.ResolvedTrees.{resolved_of};
 ghost use Rattle.zf_simple.specs.Showing as spec;
 ghost use Rattle.zf_simple.specs.Unread.{Gives};
 
@@ -12,10 +12,10 @@ use crate::unread::Unread;
 use bumpalo::Bump;
 use std::alloc::Global;
 use zf_data::Items;
-use zf_text::token::Relation;
-use zf_type::conjunct::Conjunct;
-use zf_type::globals::Globals;
-use zf_type::resolved::{Reference, Resolved, ResolvedLink};
+use zf_scan::token::Relation;
+use zf_term::conjunct::Conjunct;
+use zf_term::globals::Globals;
+use zf_term::resolved::{Reference, Resolved, ResolvedLink};
 
 /// The tests of a schema of `count` components.
 pub(crate) fn tests_of<'a>(

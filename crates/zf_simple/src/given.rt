@@ -1,14 +1,14 @@
 //! The given sets of a text, and the terms that name them.
 ghost use Rattle.std.specs.Prelude.{◌≡◌, ◌++◌, IfOk, OnOk};
 ghost use Rattle.std.specs.Option.{option_map, option_to_list};
-ghost use Rattle.zf_type.specs.Definitions.{definition_of, entry_of, globals_of};
-ghost use Rattle.zf_type.specs.ResolvedTrees.{resolved_of};
+ghost use Rattle.zf_term.specs.Definitions.{definition_of, entry_of, globals_of};
+ghost use Rattle.zf_term.specs.ResolvedTrees.{resolved_of};
 ghost use Rattle.zf_simple.specs.Showing as spec;
 
 use std::alloc::{AllocError, Global};
 use zf_data::{Items, Text};
-use zf_type::globals::{Entry, Globals};
-use zf_type::resolved::{Reference, Resolved};
+use zf_term::globals::{Entry, Globals};
+use zf_term::resolved::{Reference, Resolved};
 
 /// The names of the given sets, in the order of definition.
 pub fn given_sets(alloc: Global, globals: &Globals) -> Result<Items<Text>, AllocError>

@@ -1,7 +1,7 @@
 //! Which schemas can be shown.
 ghost use Rattle.std.specs.Prelude.{All, Contains, IfOk, length};
-ghost use Rattle.zf_type.specs.Definitions.{definition_of, globals_of, schema_of};
-ghost use Rattle.zf_type.specs.ResolvedTrees.{resolved_of};
+ghost use Rattle.zf_term.specs.Definitions.{definition_of, globals_of, schema_of};
+ghost use Rattle.zf_term.specs.ResolvedTrees.{resolved_of};
 ghost use Rattle.zf_simple.specs.Bindings.{IsWithin};
 ghost use Rattle.zf_simple.specs.Showing as spec;
 ghost use Rattle.zf_simple.specs.Unread.{Gives};
@@ -13,8 +13,8 @@ use crate::simple::Simple;
 use crate::unread::Unread;
 use bumpalo::Bump;
 use std::alloc::Global;
-use zf_type::globals::{Entry, Flat, Globals};
-use zf_type::resolved::Resolved;
+use zf_term::globals::{Entry, Flat, Globals};
+use zf_term::resolved::Resolved;
 
 /// The schema as one over given sets, or why it is none. Forms that cannot be shown are looked for in the terms of
 /// all abbreviations, then in the declared sets of the schema, then in its conjuncts.

@@ -3,13 +3,13 @@ use Rattle.std.proofs.Common.{◌≡◌, ℕ, zero, suc, ◌+◌, ◌≤◌, ◌
 use Rattle.std.specs.Prelude.{◌⊎◌, ◌||◌, nat_le, if◌then◌else◌}
 use Rattle.std.specs.List.{AllByRecursion}
 use Rattle.std.proofs.lemmas.Bool.{leb-true, leb-false, le-leb, lt-leb}
-use Rattle.zf_text.specs.declared.next.Mark.{Mark}
-use Rattle.zf_text.specs.declared.next.Mark.TheVariants as mark
-use Rattle.zf_text.specs.declared.next.Next as code
+use Rattle.zf_scan.specs.declared.next.Mark.{Mark}
+use Rattle.zf_scan.specs.declared.next.Mark.TheVariants as mark
+use Rattle.zf_scan.specs.declared.next.Next as code
 use Rattle.zf_text.specs.declared.tall.Tall.{Tall}
-use Rattle.zf_text.specs.declared.token.Kind.{Kind}
-use Rattle.zf_text.specs.declared.token.Kind.TheVariants as k
-use Rattle.zf_text.specs.declared.token.Separator.TheVariants.{Semicolon, NewLine, Also}
+use Rattle.zf_scan.specs.declared.token.Kind.{Kind}
+use Rattle.zf_scan.specs.declared.token.Kind.TheVariants as k
+use Rattle.zf_scan.specs.declared.token.Separator.TheVariants.{Semicolon, NewLine, Also}
 use Rattle.zf_text.specs.declared.tree.Decl.{Decl}
 use Rattle.zf_text.specs.declared.tree.Decl.TheVariants as decl
 use Rattle.zf_text.specs.declared.tree.Name.{Name}
@@ -20,8 +20,9 @@ use Rattle.zf_text.specs.declared.tree.Term.{Term}
 use Rattle.zf_text.specs.BoxReading.{items, new_ref, marked, ref_by, read_ref, variables, inclusion, is_declared, read_decl, read_decls, predicates}
 use Rattle.zf_text.specs.Height.{height, most, decl_height}
 use Rattle.zf_text.specs.Levels.{quantifier_level, expression_level, atom_level, IsAt, IsLevelled, DeclIsLevelled}
-use Rattle.zf_text.specs.Reading.{first, rest, next_of, is_mark, read_name, parted}
-use Rattle.zf_text.specs.Separators.{Symbol, symbol, separator}
+use Rattle.zf_scan.specs.Choosing.{next_of, is_mark}
+use Rattle.zf_text.specs.Reading.{first, rest, read_name, parted}
+use Rattle.zf_scan.specs.Separators.{Symbol, symbol, separator}
 use Rattle.zf_text.specs.Spelling.{Next, PartedBy, SpellsName, SpellsNames, Spells, SpellsMarked, SpellsRef, SpellsDecl, SpellsPredicates}
 use Rattle.zf_text.specs.TermReading.{Outcome, Parser, Refused, TooDeep, and_then, lift, expect, read_names, binds, tall, read_term}
 use Rattle.zf_text.specs.Trees.{Tree, DeclTree, vars, include, tree_of, decl_of}

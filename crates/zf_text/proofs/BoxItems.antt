@@ -3,13 +3,14 @@ use Rattle.std.proofs.Common.{◌≡◌, ℕ, zero, suc, ◌+◌, ◌≤◌, ◌
 use Rattle.std.specs.Prelude.{◌⊎◌, if◌then◌else◌}
 use Rattle.std.specs.List.{AllByRecursion}
 use Rattle.std.proofs.lemmas.List.{append-nil, map-append}
-use Rattle.zf_text.specs.declared.next.Mark.{Mark}
-use Rattle.zf_text.specs.declared.next.Next as code
+use Rattle.zf_scan.specs.declared.next.Mark.{Mark}
+use Rattle.zf_scan.specs.declared.next.Next as code
 use Rattle.zf_text.specs.declared.tall.Tall.{Tall}
 use Rattle.zf_text.specs.BoxReading.{with_item, items_from, items}
 use Rattle.zf_text.specs.Height.{most}
-use Rattle.zf_text.specs.Reading.{first, rest, next_of, is_mark}
-use Rattle.zf_text.specs.Separators.{Symbol}
+use Rattle.zf_scan.specs.Choosing.{next_of, is_mark}
+use Rattle.zf_text.specs.Reading.{first, rest}
+use Rattle.zf_scan.specs.Separators.{Symbol}
 use Rattle.zf_text.specs.Spelling.{Next, PartedBy}
 use Rattle.zf_text.specs.TermReading.{Outcome, Parser, TooDeep, and_then, tall}
 use Rattle.zf_text.proofs.Marks.{kind_of, marked, seen, passed, next_shorter}

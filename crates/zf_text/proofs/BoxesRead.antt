@@ -3,12 +3,12 @@ use Rattle.std.proofs.Common.{◌≡◌, ℕ, zero, suc, ◌+◌, ◌≤◌, ◌
 use Rattle.std.specs.Prelude.{if◌then◌else◌}
 use Rattle.std.specs.List.{AllByRecursion}
 use Rattle.std.proofs.lemmas.List.{append-nil, map-append}
-use Rattle.zf_text.specs.declared.next.Mark.TheVariants as mark
-use Rattle.zf_text.specs.declared.next.Next as code
+use Rattle.zf_scan.specs.declared.next.Mark.TheVariants as mark
+use Rattle.zf_scan.specs.declared.next.Next as code
 use Rattle.zf_text.specs.declared.tall.Tall.{Tall}
-use Rattle.zf_text.specs.declared.token.Kind.{Kind}
-use Rattle.zf_text.specs.declared.token.Kind.TheVariants as k
-use Rattle.zf_text.specs.declared.token.Separator.TheVariants.{Semicolon, NewLine, Also}
+use Rattle.zf_scan.specs.declared.token.Kind.{Kind}
+use Rattle.zf_scan.specs.declared.token.Kind.TheVariants as k
+use Rattle.zf_scan.specs.declared.token.Separator.TheVariants.{Semicolon, NewLine, Also}
 use Rattle.zf_text.specs.declared.tree.Decl.{Decl}
 use Rattle.zf_text.specs.declared.tree.Name.{Name}
 use Rattle.zf_text.specs.declared.tree.Paragraph.{Paragraph}
@@ -18,8 +18,9 @@ use Rattle.zf_text.specs.declared.tree.ZBox.TheVariants as zbox
 use Rattle.zf_text.specs.BoxReading.{items, read_decls, predicates, read_paragraph, read_zed, read_schema_box, box_by, read_box, boxes_from, read_boxes, read_all}
 use Rattle.zf_text.specs.Height.{height, most, decl_height, paragraph_height, box_height, highest}
 use Rattle.zf_text.specs.Levels.{quantifier_level, IsLevelled, DeclIsLevelled, ParagraphIsLevelled, BoxIsLevelled}
-use Rattle.zf_text.specs.Reading.{first, next_of, is_mark, is_end, read_opening}
-use Rattle.zf_text.specs.Separators.{Symbol, symbol, separator}
+use Rattle.zf_scan.specs.Choosing.{next_of, is_mark}
+use Rattle.zf_text.specs.Reading.{first, is_end, read_opening}
+use Rattle.zf_scan.specs.Separators.{Symbol, symbol, separator}
 use Rattle.zf_text.specs.Spelling.{Next, Starts, PartedBy, SpellsDecl, SpellsPredicates, SpellsParagraph, SpellsBox, SpellsBoxes}
 use Rattle.zf_text.specs.TermReading.{Outcome, Parser, and_then, lift, expect, binds}
 use Rattle.zf_text.specs.Trees.{Tree, DeclTree, ParagraphTree, BoxTree, zed, schema_box, decl_of, tree_of, paragraph_of, box_of}

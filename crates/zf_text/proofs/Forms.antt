@@ -1,6 +1,6 @@
 -- What a term is seen as, by its form, and what a link of a chain is.
 use Rattle.std.proofs.Common.{◌≡◌, List}
-use Rattle.zf_text.specs.declared.token.Relation.{Relation}
+use Rattle.zf_scan.specs.declared.token.Relation.{Relation}
 use Rattle.zf_text.specs.declared.tree.Name.{Name}
 use Rattle.zf_text.specs.declared.tree.Term.{Term}
 use Rattle.zf_text.specs.declared.tree.Link.{Link}

@@ -1,25 +1,9 @@
-pub mod Runs
-pub mod Numbers
-pub mod Texts
-pub mod Table
-pub mod Longest
-pub mod Closing
-pub mod First
-pub mod Same
-pub mod Spelled
 pub mod Cursored
-pub mod LaidOut
 pub mod Reducing
-pub mod Scanned
-mod ScanTurns
-pub mod Quiet
-pub mod Laws
 pub mod Turns
 pub mod Marks
 pub mod Parted
 pub mod Forms
-mod Fronts
-mod MarkedCommands
 pub mod NamesRead
 pub mod TermSeen
 pub mod TermSteps

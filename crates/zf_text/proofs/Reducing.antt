@@ -4,12 +4,12 @@ use Rattle.std.specs.Prelude.{◌||◌, if◌then◌else◌}
 use Rattle.std.proofs.Math.ListN.{set}
 use Rattle.std.proofs.Math.Seq.{take-append_seam}
 use Rattle.std.proofs.lemmas.List.{take_more_set, drop-set-lt, map-append, length-set, append-nil}
-use Rattle.zf_text.specs.declared.placed.Placed.{Placed}
-use Rattle.zf_text.specs.declared.token.Kind.{Kind}
-use Rattle.zf_text.specs.declared.token.Kind.TheVariants as k
-use Rattle.zf_text.specs.declared.token.Token.{Token}
-use Rattle.zf_text.specs.Placing.{kind_at, token_at, symbol_at, unplaced}
-use Rattle.zf_text.specs.Separators.{Symbol, symbol, separator, canonical, is_separator, opens, closes, starts_closed, reduced, reduced_after}
+use Rattle.zf_scan.specs.declared.placed.Placed.{Placed}
+use Rattle.zf_scan.specs.declared.token.Kind.{Kind}
+use Rattle.zf_scan.specs.declared.token.Kind.TheVariants as k
+use Rattle.zf_scan.specs.declared.token.Token.{Token}
+use Rattle.zf_scan.specs.Placing.{kind_at, token_at, symbol_at, unplaced}
+use Rattle.zf_scan.specs.Separators.{Symbol, symbol, separator, canonical, is_separator, opens, closes, starts_closed, reduced, reduced_after}
 
 -- ---- without places
 

@@ -3,13 +3,13 @@ use Rattle.std.proofs.Common.{◌≡◌, ℕ, zero, suc, ◌+◌, ◌-◌, ◌�
 use Rattle.std.specs.Prelude.{◌⊎◌, nat_le, if◌then◌else◌}
 use Rattle.std.specs.List.{AllByRecursion}
 use Rattle.std.proofs.lemmas.Bool.{leb-true, leb-false, le-leb, lt-leb}
-use Rattle.zf_text.specs.declared.next.Mark.TheVariants as mark
-use Rattle.zf_text.specs.declared.next.Next as code
+use Rattle.zf_scan.specs.declared.next.Mark.TheVariants as mark
+use Rattle.zf_scan.specs.declared.next.Next as code
 use Rattle.zf_text.specs.declared.tall.Tall.{Tall}
-use Rattle.zf_text.specs.declared.token.Connective.TheVariants.{And, Or, Implies, Iff}
-use Rattle.zf_text.specs.declared.token.Kind.{Kind}
-use Rattle.zf_text.specs.declared.token.Kind.TheVariants as k
-use Rattle.zf_text.specs.declared.token.Separator.TheVariants.{Semicolon, NewLine, Also}
+use Rattle.zf_scan.specs.declared.token.Connective.TheVariants.{And, Or, Implies, Iff}
+use Rattle.zf_scan.specs.declared.token.Kind.{Kind}
+use Rattle.zf_scan.specs.declared.token.Kind.TheVariants as k
+use Rattle.zf_scan.specs.declared.token.Separator.TheVariants.{Semicolon, NewLine, Also}
 use Rattle.zf_text.specs.declared.tree.Decl.{Decl}
 use Rattle.zf_text.specs.declared.tree.Name.{Name}
 use Rattle.zf_text.specs.declared.tree.RefMark.{RefMark}
@@ -21,8 +21,9 @@ use Rattle.zf_text.specs.declared.tree.Term.{Term}
 use Rattle.zf_text.specs.BoxReading.{items, new_ref, read_ref, read_decl, read_decls, predicates, is_and, is_or, joined, schema_bracket, schema_text, schema_part_by, schema_part, conjunction, disjunction, read_schema}
 use Rattle.zf_text.specs.Height.{height, most, decl_height, schema_height}
 use Rattle.zf_text.specs.Levels.{quantifier_level, IsLevelled, DeclIsLevelled, schema_level, SchemaIsLevelled}
-use Rattle.zf_text.specs.Reading.{first, rest, next_of, is_mark}
-use Rattle.zf_text.specs.Separators.{Symbol, symbol, separator}
+use Rattle.zf_scan.specs.Choosing.{next_of, is_mark}
+use Rattle.zf_text.specs.Reading.{first, rest}
+use Rattle.zf_scan.specs.Separators.{Symbol, symbol, separator}
 use Rattle.zf_text.specs.Spelling.{Next, PartedBy, Spells, SpellsMarked, SpellsRef, SpellsDecl, SpellsPredicates, IsOn, SpellsSchema}
 use Rattle.zf_text.specs.TermReading.{Outcome, Parser, TooDeep, and_then, expect, here, binds, tall}
 use Rattle.zf_text.specs.Trees.{Tree, DeclTree, SchemaTree, reference, both, either, tree_of, decl_of, schema_of}

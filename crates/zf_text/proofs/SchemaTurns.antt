@@ -1,13 +1,13 @@
 -- One turn of reading what goes on with a schema expression.
 use Rattle.std.proofs.Common.{◌≡◌, ℕ, suc, ◌+◌, ◌≤◌, ◌<◌, max, Bool, true, List, Result, Ok, Err, refl, ap, ◌∙◌}
 use Rattle.std.proofs.lemmas.Bool.{le-leb, lt-leb}
-use Rattle.zf_text.specs.declared.fault.TextFaultKind.{TextFaultKind}
-use Rattle.zf_text.specs.declared.next.Next as code
+use Rattle.zf_scan.specs.declared.fault.TextFaultKind.{TextFaultKind}
+use Rattle.zf_scan.specs.declared.next.Next as code
 use Rattle.zf_text.specs.declared.tall.Tall.{Tall}
 use Rattle.zf_text.specs.declared.tree.SchemaExp.{SchemaExp}
 use Rattle.zf_text.specs.BoxReading.{joined}
 use Rattle.zf_text.specs.Reading.{first, rest}
-use Rattle.zf_text.specs.Separators.{Symbol}
+use Rattle.zf_scan.specs.Separators.{Symbol}
 use Rattle.zf_text.specs.TermReading.{Parser, TooDeep, Fails, tall}
 use Rattle.zf_text.proofs.TermTurns.{fails_then}
 

@@ -6,7 +6,7 @@ use Rattle.zf_text.specs.declared.tree.Term.{Term}
 use Rattle.zf_text.specs.Height.{height}
 use Rattle.zf_text.specs.Levels.{IsAt}
 use Rattle.zf_text.specs.Reading.{first}
-use Rattle.zf_text.specs.Separators.{Symbol}
+use Rattle.zf_scan.specs.Separators.{Symbol}
 use Rattle.zf_text.specs.Spelling.{Spells}
 use Rattle.zf_text.specs.TermReading.{Outcome, Refused, TooDeep, binds, tall, read_term}
 use Rattle.zf_text.specs.Trees.{Tree, tree_of}

@@ -1,11 +1,11 @@
 -- What begins a term: what a levelled tree spells there is read.
 use Rattle.std.proofs.Common.{◌≡◌, ℕ, ◌+◌, ◌≤◌, List, ◌∷◌, Ok, true, false, refl, sym, ap, ◌∙◌, subst, arith}
 use Rattle.std.proofs.lemmas.Bool.{le-leb}
-use Rattle.zf_text.specs.declared.next.Mark.TheVariants as mark
+use Rattle.zf_scan.specs.declared.next.Mark.TheVariants as mark
 use Rattle.zf_text.specs.declared.tall.Tall.{Tall}
-use Rattle.zf_text.specs.declared.token.Constant.{Constant}
-use Rattle.zf_text.specs.declared.token.Kind.TheVariants as k
-use Rattle.zf_text.specs.declared.token.Quantifier.{Quantifier}
+use Rattle.zf_scan.specs.declared.token.Constant.{Constant}
+use Rattle.zf_scan.specs.declared.token.Kind.TheVariants as k
+use Rattle.zf_scan.specs.declared.token.Quantifier.{Quantifier}
 use Rattle.zf_text.specs.declared.tree.Name.{Name}
 use Rattle.zf_text.specs.declared.tree.Sign.{Sign}
 use Rattle.zf_text.specs.declared.tree.Sign.TheVariants as sign
@@ -13,8 +13,9 @@ use Rattle.zf_text.specs.declared.tree.Term.{Term}
 use Rattle.zf_text.specs.declared.tree.Term.TheVariants as term
 use Rattle.zf_text.specs.Height.{height, tallest}
 use Rattle.zf_text.specs.Levels.{quantifier_level, negation_level, expression_level, unary_level, sign_level, level, IsLevelled, AreAt}
-use Rattle.zf_text.specs.Reading.{first, next_of, is_mark}
-use Rattle.zf_text.specs.Separators.{Symbol, symbol}
+use Rattle.zf_scan.specs.Choosing.{next_of, is_mark}
+use Rattle.zf_text.specs.Reading.{first}
+use Rattle.zf_scan.specs.Separators.{Symbol, symbol}
 use Rattle.zf_text.specs.Spelling.{Spells}
 use Rattle.zf_text.specs.TermReading.{Outcome, binds, begins_decl, tall, enclosed, empty_set, round, display, builder, braced, under, quantified, beginning}
 use Rattle.zf_text.specs.Trees.{Tree, named, numeral, constant, bracket, tuple, prefixed, inverse, applied, infixed, arrow, chain, negated, connected, Trees, no_trees, tree, Links, no_links, link, VarDecls, no_decls, var_decl, Perhaps, absent, present, trees, links, var_decls, tree_of, link_of, var_decl_of}

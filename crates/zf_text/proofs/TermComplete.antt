@@ -1,18 +1,19 @@
 -- A levelled tree that spells symbols is what is read of them.
 use Rattle.std.proofs.Common.{◌≡◌, ℕ, zero, suc, ◌+◌, ◌-◌, ◌≤◌, ◌<◌, max, List, [], ◌∷◌, length, Ok, false, refl, sym, ap, ◌∙◌, subst, arith}
 use Rattle.std.proofs.lemmas.Bool.{le-leb, lt-leb}
-use Rattle.zf_text.specs.declared.next.Mark.TheVariants as mark
-use Rattle.zf_text.specs.declared.next.Next as code
-use Rattle.zf_text.specs.declared.next.Next.TheVariants as next
+use Rattle.zf_scan.specs.declared.next.Mark.TheVariants as mark
+use Rattle.zf_scan.specs.declared.next.Next as code
+use Rattle.zf_scan.specs.declared.next.Next.TheVariants as next
 use Rattle.zf_text.specs.declared.tall.Tall.{Tall}
-use Rattle.zf_text.specs.declared.token.Kind.TheVariants as k
-use Rattle.zf_text.specs.declared.token.Relation.{Relation}
+use Rattle.zf_scan.specs.declared.token.Kind.TheVariants as k
+use Rattle.zf_scan.specs.declared.token.Relation.{Relation}
 use Rattle.zf_text.specs.declared.tree.Term.{Term}
 use Rattle.zf_text.specs.declared.tree.Term.TheVariants as term
 use Rattle.zf_text.specs.Height.{height, tallest, tallest_link}
 use Rattle.zf_text.specs.Levels.{chain_level, expression_level, product_level, application_level, postfix_level, connective_level, infix_level, left_place, right_place, level, IsLevelled, AreAt, LinksAreLevelled}
-use Rattle.zf_text.specs.Reading.{first, is_mark}
-use Rattle.zf_text.specs.Separators.{Symbol, symbol}
+use Rattle.zf_scan.specs.Choosing.{is_mark}
+use Rattle.zf_text.specs.Reading.{first}
+use Rattle.zf_scan.specs.Separators.{Symbol, symbol}
 use Rattle.zf_text.specs.Spelling.{Next, line_of, Spells, SpellsFurther, SpellsLinks}
 use Rattle.zf_text.specs.TermReading.{Outcome, binds, place_before, tall, chain_links, beginning, with_right, image, chained, product, longer_by, climb, whole, read_term}
 use Rattle.zf_text.specs.Trees.{Tree, named, numeral, constant, bracket, tuple, prefixed, inverse, applied, infixed, arrow, chain, negated, connected, Trees, no_trees, tree, Links, no_links, link, VarDecls, no_decls, var_decl, Perhaps, absent, present, trees, links, var_decls, tree_of, link_of, var_decl_of}

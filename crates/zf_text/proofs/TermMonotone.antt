@@ -2,20 +2,21 @@
 use Rattle.std.proofs.Common.{◌≡◌, ℕ, zero, suc, ◌+◌, ◌≤◌, List, [], ◌∷◌, length, Ok, Err, Bool, true, false, refl, sym, ap, ◌∙◌, subst, arith, ⊎_elim, inl, inr}
 use Rattle.std.specs.Prelude.{◌⊎◌, nat_le, if◌then◌else◌}
 use Rattle.std.proofs.lemmas.Bool.{leb-true, le-leb}
-use Rattle.zf_text.specs.declared.next.Mark.{Mark}
-use Rattle.zf_text.specs.declared.next.Mark.TheVariants as mark
-use Rattle.zf_text.specs.declared.next.Next.{Next}
-use Rattle.zf_text.specs.declared.next.Next.TheVariants as next
+use Rattle.zf_scan.specs.declared.next.Mark.{Mark}
+use Rattle.zf_scan.specs.declared.next.Mark.TheVariants as mark
+use Rattle.zf_scan.specs.declared.next.Next.{Next}
+use Rattle.zf_scan.specs.declared.next.Next.TheVariants as next
 use Rattle.zf_text.specs.declared.tall.Tall.{Tall}
-use Rattle.zf_text.specs.declared.token.Infix.TheVariants.{Minus}
-use Rattle.zf_text.specs.declared.token.Quantifier.{Quantifier}
+use Rattle.zf_scan.specs.declared.token.Infix.TheVariants.{Minus}
+use Rattle.zf_scan.specs.declared.token.Quantifier.{Quantifier}
 use Rattle.zf_text.specs.declared.tree.Link.{Link}
 use Rattle.zf_text.specs.declared.tree.Sign.TheVariants as sign
 use Rattle.zf_text.specs.declared.tree.Term.{Term}
 use Rattle.zf_text.specs.declared.tree.VarDecl.{VarDecl}
 use Rattle.zf_text.specs.Levels.{quantifier_level, negation_level, expression_level, product_level, unary_level, sign_level, level}
-use Rattle.zf_text.specs.Reading.{first, rest, is_mark}
-use Rattle.zf_text.specs.Separators.{Symbol}
+use Rattle.zf_scan.specs.Choosing.{is_mark}
+use Rattle.zf_text.specs.Reading.{first, rest}
+use Rattle.zf_scan.specs.Separators.{Symbol}
 use Rattle.zf_text.specs.TermReading.{Outcome, Parser, Refused, TooDeep, and_then, expect, read_names, here, binds, place_before, begins_decl, tall, with_term, with_link, with_decl, further_from, further, links_by, links_from, chain_links, read_decl, decls_from, decls, part, enclosed, empty_set, round_by, round, display, builder, braced, under, quantified, beginning_by, beginning, with_right, image, chained, product, longer_by, climb, whole, read_term}
 use Rattle.zf_text.specs.Trees.{tree_of}
 

@@ -1,22 +1,23 @@
 -- Lists of parts: what levelled trees spell is read.
 use Rattle.std.proofs.Common.{◌≡◌, ℕ, zero, suc, ◌≤◌, ◌<◌, max, List, [], ◌∷◌, ◌++◌, length, Option, Some, None, Ok, Bool, true, false, refl, sym, ap, ◌∙◌, subst, arith, append_assoc}
 use Rattle.std.proofs.lemmas.List.{append-nil}
-use Rattle.zf_text.specs.declared.next.Mark.{Mark}
-use Rattle.zf_text.specs.declared.next.Mark.TheVariants as mark
-use Rattle.zf_text.specs.declared.next.Next as code
+use Rattle.zf_scan.specs.declared.next.Mark.{Mark}
+use Rattle.zf_scan.specs.declared.next.Mark.TheVariants as mark
+use Rattle.zf_scan.specs.declared.next.Next as code
 use Rattle.zf_text.specs.declared.tall.Tall.{Tall}
-use Rattle.zf_text.specs.declared.token.Kind.{Kind}
-use Rattle.zf_text.specs.declared.token.Kind.TheVariants as k
-use Rattle.zf_text.specs.declared.token.Relation.{Relation}
-use Rattle.zf_text.specs.declared.token.Separator.TheVariants.{Semicolon, NewLine, Also}
+use Rattle.zf_scan.specs.declared.token.Kind.{Kind}
+use Rattle.zf_scan.specs.declared.token.Kind.TheVariants as k
+use Rattle.zf_scan.specs.declared.token.Relation.{Relation}
+use Rattle.zf_scan.specs.declared.token.Separator.TheVariants.{Semicolon, NewLine, Also}
 use Rattle.zf_text.specs.declared.tree.Link.{Link}
 use Rattle.zf_text.specs.declared.tree.Name.{Name}
 use Rattle.zf_text.specs.declared.tree.Term.{Term}
 use Rattle.zf_text.specs.declared.tree.VarDecl.{VarDecl}
 use Rattle.zf_text.specs.Height.{height, tallest, tallest_link, tallest_set, part_height}
 use Rattle.zf_text.specs.Levels.{chain_level, expression_level, level, IsLevelled, AreAt, LinksAreLevelled, DeclsAreLevelled, PartIsAt}
-use Rattle.zf_text.specs.Reading.{first, rest, next_of, is_mark}
-use Rattle.zf_text.specs.Separators.{Symbol}
+use Rattle.zf_scan.specs.Choosing.{next_of, is_mark}
+use Rattle.zf_text.specs.Reading.{first, rest}
+use Rattle.zf_scan.specs.Separators.{Symbol}
 use Rattle.zf_text.specs.Spelling.{Next, SpellsNames, Spells, SpellsFurther, SpellsLinks, SpellsDecls, SpellsPart}
 use Rattle.zf_text.specs.TermReading.{Outcome, Parser, binds, begins_decl, tall, with_term, new_link, with_link, new_decl, with_decl, further_from, further, links_by, links_from, read_decl, decls_from, decls, part}
 use Rattle.zf_text.specs.Trees.{Tree, named, Trees, no_trees, tree, Links, no_links, link, VarDecls, no_decls, var_decl, Perhaps, absent, present, tree_of}

@@ -1,11 +1,11 @@
 -- What each form of term is seen as.
 use Rattle.std.proofs.Common.{◌≡◌, ℕ, List, map, Option, Some, None, sym, ap, ◌∙◌}
-use Rattle.zf_text.specs.declared.token.Arrow.{Arrow}
-use Rattle.zf_text.specs.declared.token.Connective.{Connective}
-use Rattle.zf_text.specs.declared.token.Constant.{Constant}
-use Rattle.zf_text.specs.declared.token.Infix.{Infix}
-use Rattle.zf_text.specs.declared.token.Quantifier.{Quantifier}
-use Rattle.zf_text.specs.declared.token.Relation.{Relation}
+use Rattle.zf_scan.specs.declared.token.Arrow.{Arrow}
+use Rattle.zf_scan.specs.declared.token.Connective.{Connective}
+use Rattle.zf_scan.specs.declared.token.Constant.{Constant}
+use Rattle.zf_scan.specs.declared.token.Infix.{Infix}
+use Rattle.zf_scan.specs.declared.token.Quantifier.{Quantifier}
+use Rattle.zf_scan.specs.declared.token.Relation.{Relation}
 use Rattle.zf_text.specs.declared.tree.Name.{Name}
 use Rattle.zf_text.specs.declared.tree.Sign.{Sign}
 use Rattle.zf_text.specs.declared.tree.Term.{Term}

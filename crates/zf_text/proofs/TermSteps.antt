@@ -2,13 +2,14 @@
 use Rattle.std.proofs.Common.{◌≡◌, ℕ, zero, suc, ◌≤◌, List, [], ◌∷◌, ◌++◌, length, Some, None, Ok, Err, Bool, true, false, refl, sym, ap, ◌∙◌, arith, append_assoc}
 use Rattle.std.proofs.lemmas.List.{append-nil}
 use Rattle.std.specs.Prelude.{if◌then◌else◌}
-use Rattle.zf_text.specs.declared.next.Mark.{Mark}
-use Rattle.zf_text.specs.declared.next.Mark.TheVariants as mark
-use Rattle.zf_text.specs.declared.token.Kind.TheVariants as k
+use Rattle.zf_scan.specs.declared.next.Mark.{Mark}
+use Rattle.zf_scan.specs.declared.next.Mark.TheVariants as mark
+use Rattle.zf_scan.specs.declared.token.Kind.TheVariants as k
 use Rattle.zf_text.specs.declared.tree.Name.{Name}
 use Rattle.zf_text.specs.Reading as basic
-use Rattle.zf_text.specs.Reading.{first, rest, is_mark, read_name}
-use Rattle.zf_text.specs.Separators.{Symbol}
+use Rattle.zf_scan.specs.Choosing.{is_mark}
+use Rattle.zf_text.specs.Reading.{first, rest, read_name}
+use Rattle.zf_scan.specs.Separators.{Symbol}
 use Rattle.zf_text.specs.Spelling.{Next, SpellsName, SpellsNames}
 use Rattle.zf_text.specs.TermReading.{Fault, Outcome, Parser, and_then, lift, expect, read_names}
 use Rattle.zf_text.proofs.Marks.{kind_of, expected, expects, seen, passed, next_shorter}

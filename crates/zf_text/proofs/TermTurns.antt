@@ -1,13 +1,13 @@
 -- One turn of reading what goes on with a term.
 use Rattle.std.proofs.Common.{◌≡◌, ℕ, suc, ◌≤◌, ◌<◌, List, Ok, Err, refl, ap}
 use Rattle.std.proofs.lemmas.Bool.{le-leb, lt-leb}
-use Rattle.zf_text.specs.declared.fault.TextFaultKind.{TextFaultKind}
-use Rattle.zf_text.specs.declared.fault.TextFaultKind.TheVariants as fault
+use Rattle.zf_scan.specs.declared.fault.TextFaultKind.{TextFaultKind}
+use Rattle.zf_scan.specs.declared.fault.TextFaultKind.TheVariants as fault
 use Rattle.zf_text.specs.declared.tall.Tall.{Tall}
 use Rattle.zf_text.specs.declared.tree.Term.{Term}
 use Rattle.zf_text.specs.Levels.{level}
 use Rattle.zf_text.specs.Reading.{first}
-use Rattle.zf_text.specs.Separators.{Symbol}
+use Rattle.zf_scan.specs.Separators.{Symbol}
 use Rattle.zf_text.specs.TermReading.{Outcome, Parser, TooDeep, and_then, Fails, binds, place_before, longer_by, climb}
 use Rattle.zf_text.specs.Trees.{tree_of}
 

@@ -2,11 +2,11 @@
 -- tighter one.
 use Rattle.std.specs.Prelude.{ℕ, ◌+◌, ◌≤◌, List, [], ◌∷◌, max}
 use Rattle.std.specs.List.{AllByRecursion}
-use Rattle.zf_text.specs.declared.token.Connective.{Connective}
-use Rattle.zf_text.specs.declared.token.Connective.TheVariants.{And, Or, Implies, Iff}
-use Rattle.zf_text.specs.declared.token.Infix.{Infix}
-use Rattle.zf_text.specs.declared.token.Infix.TheVariants.{Maplet, UpTo, Plus, Minus, Union, Difference, Times, Div, Mod, Intersection, Composition, Overriding, DomainRestriction, RangeRestriction, DomainSubtraction, RangeSubtraction}
-use Rattle.zf_text.specs.declared.token.Prefix.TheVariants.{Power, Finset, Domain, Range, Size}
+use Rattle.zf_scan.specs.declared.token.Connective.{Connective}
+use Rattle.zf_scan.specs.declared.token.Connective.TheVariants.{And, Or, Implies, Iff}
+use Rattle.zf_scan.specs.declared.token.Infix.{Infix}
+use Rattle.zf_scan.specs.declared.token.Infix.TheVariants.{Maplet, UpTo, Plus, Minus, Union, Difference, Times, Div, Mod, Intersection, Composition, Overriding, DomainRestriction, RangeRestriction, DomainSubtraction, RangeSubtraction}
+use Rattle.zf_scan.specs.declared.token.Prefix.TheVariants.{Power, Finset, Domain, Range, Size}
 use Rattle.zf_text.specs.declared.tree.Sign.{Sign}
 use Rattle.zf_text.specs.declared.tree.Sign.TheVariants as sign
 use Rattle.zf_text.specs.Trees.{Tree, named, numeral, constant, empty_set, bracket, tuple, display, builder, prefixed, inverse, image, applied, infixed, arrow, product, chain, negated, connected, quantified, Trees, no_trees, tree, Links, no_links, link, VarDecls, no_decls, var_decl, Perhaps, absent, present, DeclTree, vars, include, SchemaTree, schema_text, reference, both, either, schema_bracket, ParagraphTree, given, free, abbreviation, definition, BoxTree, zed, schema_box}

@@ -1,6 +1,3 @@
-pub mod Pieces
-pub mod Cuts
-pub mod Separators
 pub mod Names
 pub mod Trees
 pub mod Levels
@@ -8,10 +5,6 @@ pub mod Height
 pub mod Spelling
 pub mod Reads
 pub mod Parsing
-pub mod Steps
-pub mod Sights
-pub mod Placing
-pub mod Laying
 pub mod Reading
 pub mod TermReading
 pub mod BoxReading

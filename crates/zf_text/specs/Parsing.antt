@@ -1,11 +1,11 @@
 -- What reading the tokens of a text answers, and what reading a source does.
 use Rattle.std.specs.Prelude.{◌≡◌, ℕ, ◌⊎◌, ◌≤◌, List, Result, Ok, Err}
-use Rattle.zf_text.specs.declared.fault.TextFault.{TextFault}
-use Rattle.zf_text.specs.declared.fault.TextFaultKind.{TextFaultKind}
-use Rattle.zf_text.specs.declared.fault.TextFaultKind.TheVariants.{Unexpected, NotInProfile, TooDeep, OutOfMemory}
-use Rattle.zf_text.specs.declared.token.Token.{Token}
+use Rattle.zf_scan.specs.declared.fault.TextFault.{TextFault}
+use Rattle.zf_scan.specs.declared.fault.TextFaultKind.{TextFaultKind}
+use Rattle.zf_scan.specs.declared.fault.TextFaultKind.TheVariants.{Unexpected, NotInProfile, TooDeep, OutOfMemory}
+use Rattle.zf_scan.specs.declared.token.Token.{Token}
 use Rattle.zf_text.specs.declared.tree.Spec.{Spec}
-use Rattle.zf_text.specs.Cuts.{IsCutInto, HasFault, IsWantOfMemory}
+use Rattle.zf_scan.specs.Cuts.{IsCutInto, HasFault, IsWantOfMemory}
 use Rattle.zf_text.specs.Height.{highest, height_limit}
 use Rattle.zf_text.specs.Reads.{Reads}
 use Rattle.zf_text.specs.Trees.{BoxTree, boxes_of}

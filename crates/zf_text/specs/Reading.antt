@@ -1,53 +1,15 @@
 -- Reading symbols and names from left to right, as the parser does. No public clause rests on this file.
 use Rattle.std.specs.Prelude.{◌≡◌, ℕ, zero, suc, Bool, true, false, if◌then◌else◌, List, [], ◌∷◌, ◌++◌, length, Option, Some, None, Result, Ok, Err}
-use Rattle.zf_text.specs.declared.next.Next.{Next}
-use Rattle.zf_text.specs.declared.next.Next.TheVariants as next
-use Rattle.zf_text.specs.declared.next.Mark.{Mark}
-use Rattle.zf_text.specs.declared.next.Mark.TheVariants as mark
-use Rattle.zf_text.specs.declared.token.Kind.{Kind}
-use Rattle.zf_text.specs.declared.token.Kind.TheVariants as k
-use Rattle.zf_text.specs.declared.token.Separator.TheVariants.{Semicolon}
+use Rattle.zf_scan.specs.declared.next.Next.{Next}
+use Rattle.zf_scan.specs.declared.next.Next.TheVariants as next
+use Rattle.zf_scan.specs.declared.next.Mark.{Mark}
+use Rattle.zf_scan.specs.declared.token.Kind.{Kind}
+use Rattle.zf_scan.specs.declared.token.Kind.TheVariants as k
 use Rattle.zf_text.specs.declared.tree.Name.{Name}
-use Rattle.zf_text.specs.Separators.{Symbol}
+use Rattle.zf_scan.specs.Choosing.{next_of, is_mark}
+use Rattle.zf_scan.specs.Separators.{Symbol}
 
 -- ---- the next symbol
-
-abbrev pub next_of : Kind → Next
-next_of k.BeginZed = next.BeginZed
-next_of (k.BeginSchema name) = next.BeginSchema
-next_of k.EndBox = next.EndBox
-next_of (k.Name base strokes) = next.Name
-next_of (k.Number v) = next.Number
-next_of (k.Separator s) = next.Separator s
-next_of k.OpenRound = next.OpenRound
-next_of k.CloseRound = next.CloseRound
-next_of k.OpenSquare = next.OpenSquare
-next_of k.CloseSquare = next.CloseSquare
-next_of k.OpenBrace = next.OpenBrace
-next_of k.CloseBrace = next.CloseBrace
-next_of k.OpenImage = next.OpenImage
-next_of k.CloseImage = next.CloseImage
-next_of k.Comma = next.Comma
-next_of k.Colon = next.Colon
-next_of k.Bar = next.Bar
-next_of k.At = next.At
-next_of k.Abbreviates = next.Abbreviates
-next_of k.FreeType = next.FreeType
-next_of k.Defines = next.Defines
-next_of k.Where = next.Where
-next_of (k.Infix op) = next.Infix op
-next_of (k.Arrow a) = next.Arrow a
-next_of k.Cross = next.Cross
-next_of (k.Prefix s) = next.Prefix s
-next_of k.Inverse = next.Inverse
-next_of (k.Constant c) = next.Constant c
-next_of k.EmptySet = next.EmptySet
-next_of (k.Relation r) = next.Relation r
-next_of k.Not = next.Not
-next_of (k.Connective c) = next.Connective c
-next_of (k.Quantifier q) = next.Quantifier q
-next_of k.Delta = next.Delta
-next_of k.Xi = next.Xi
 
 abbrev pub first : List Symbol → Next
 first [] = next.End
@@ -60,34 +22,6 @@ rest (t ∷ ts) = ts
 abbrev pub is_end : Next → Bool
 is_end next.End = true
 is_end _ = false
-
-abbrev pub is_mark : Mark → Next → Bool
-is_mark mark.EndBox next.EndBox = true
-is_mark mark.EndBox _ = false
-is_mark mark.Separator (next.Separator Semicolon) = true
-is_mark mark.Separator _ = false
-is_mark mark.CloseRound next.CloseRound = true
-is_mark mark.CloseRound _ = false
-is_mark mark.OpenSquare next.OpenSquare = true
-is_mark mark.OpenSquare _ = false
-is_mark mark.CloseSquare next.CloseSquare = true
-is_mark mark.CloseSquare _ = false
-is_mark mark.CloseBrace next.CloseBrace = true
-is_mark mark.CloseBrace _ = false
-is_mark mark.CloseImage next.CloseImage = true
-is_mark mark.CloseImage _ = false
-is_mark mark.Comma next.Comma = true
-is_mark mark.Comma _ = false
-is_mark mark.Colon next.Colon = true
-is_mark mark.Colon _ = false
-is_mark mark.Bar next.Bar = true
-is_mark mark.Bar _ = false
-is_mark mark.At next.At = true
-is_mark mark.At _ = false
-is_mark mark.Where next.Where = true
-is_mark mark.Where _ = false
-is_mark mark.Cross next.Cross = true
-is_mark mark.Cross _ = false
 
 -- ---- a value and the symbols after it, or none
 

@@ -1,9 +1,9 @@
 -- When a tree reads the tokens of a text.
 use Rattle.std.specs.Prelude.{List}
 use Rattle.std.specs.List.{AllByRecursion}
-use Rattle.zf_text.specs.declared.token.Token.{Token}
+use Rattle.zf_scan.specs.declared.token.Token.{Token}
 use Rattle.zf_text.specs.Levels.{BoxIsLevelled}
-use Rattle.zf_text.specs.Separators.{reduced}
+use Rattle.zf_scan.specs.Separators.{reduced}
 use Rattle.zf_text.specs.Spelling.{SpellsBoxes}
 use Rattle.zf_text.specs.Trees.{BoxTree}
 

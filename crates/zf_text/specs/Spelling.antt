@@ -1,17 +1,17 @@
 -- The spelling of a tree, by the grammar of ZRM 6 read from the tree to its symbols: `Spells tree ts rest` says that the symbols `ts` begin with
 -- those of the tree, that `rest` follows them, and that each name and each term has the line of its first symbol.
 use Rattle.std.specs.Prelude.{◌≡◌, ℕ, List, [], ◌∷◌}
-use Rattle.zf_text.specs.declared.token.Kind.{Kind}
-use Rattle.zf_text.specs.declared.token.Kind.TheVariants as k
-use Rattle.zf_text.specs.declared.token.Infix.TheVariants.{Minus}
-use Rattle.zf_text.specs.declared.token.Connective.TheVariants.{And, Or}
+use Rattle.zf_scan.specs.declared.token.Kind.{Kind}
+use Rattle.zf_scan.specs.declared.token.Kind.TheVariants as k
+use Rattle.zf_scan.specs.declared.token.Infix.TheVariants.{Minus}
+use Rattle.zf_scan.specs.declared.token.Connective.TheVariants.{And, Or}
 use Rattle.zf_text.specs.declared.tree.RefMark.TheVariants.{Plain, Delta, Xi}
 use Rattle.zf_text.specs.declared.tree.RefMark.{RefMark}
 use Rattle.zf_text.specs.declared.tree.Name.{Name}
 use Rattle.zf_text.specs.declared.tree.SchemaRef.{SchemaRef}
 use Rattle.zf_text.specs.declared.tree.Sign.{Sign}
 use Rattle.zf_text.specs.declared.tree.Sign.TheVariants as sign
-use Rattle.zf_text.specs.Separators.{Symbol, symbol, separator}
+use Rattle.zf_scan.specs.Separators.{Symbol, symbol, separator}
 use Rattle.zf_text.specs.Trees.{Tree, named, numeral, constant, empty_set, bracket, tuple, display, builder, prefixed, inverse, image, applied, infixed, arrow, product, chain, negated, connected, quantified, Trees, no_trees, tree, Links, no_links, link, VarDecls, no_decls, var_decl, Perhaps, absent, present, DeclTree, vars, include, SchemaTree, schema_text, reference, both, either, schema_bracket, ParagraphTree, given, free, abbreviation, definition, BoxTree, zed, schema_box}
 
 -- the first symbol, with its line, and the rest

@@ -1,16 +1,16 @@
 -- Reading a term from left to right, as the parser does. No public clause rests on this file.
 use Rattle.std.specs.Prelude.{◌≡◌, ℕ, zero, suc, ◌+◌, max, nat_le, Bool, true, false, not, if◌then◌else◌, List, [], ◌∷◌, ◌++◌, length, Option, Some, None, Result, Ok, Err}
-use Rattle.zf_text.specs.declared.fault.TextFault.{TextFault}
-use Rattle.zf_text.specs.declared.fault.TextFaultKind.{TextFaultKind}
-use Rattle.zf_text.specs.declared.fault.TextFaultKind.TheVariants as fault
-use Rattle.zf_text.specs.declared.next.Mark.{Mark}
-use Rattle.zf_text.specs.declared.next.Mark.TheVariants as mark
-use Rattle.zf_text.specs.declared.next.Next.{Next}
-use Rattle.zf_text.specs.declared.next.Next.TheVariants as next
+use Rattle.zf_scan.specs.declared.fault.TextFault.{TextFault}
+use Rattle.zf_scan.specs.declared.fault.TextFaultKind.{TextFaultKind}
+use Rattle.zf_scan.specs.declared.fault.TextFaultKind.TheVariants as fault
+use Rattle.zf_scan.specs.declared.next.Mark.{Mark}
+use Rattle.zf_scan.specs.declared.next.Mark.TheVariants as mark
+use Rattle.zf_scan.specs.declared.next.Next.{Next}
+use Rattle.zf_scan.specs.declared.next.Next.TheVariants as next
 use Rattle.zf_text.specs.declared.tall.Tall.{Tall}
-use Rattle.zf_text.specs.declared.token.Infix.TheVariants.{Minus}
-use Rattle.zf_text.specs.declared.token.Quantifier.{Quantifier}
-use Rattle.zf_text.specs.declared.token.Relation.{Relation}
+use Rattle.zf_scan.specs.declared.token.Infix.TheVariants.{Minus}
+use Rattle.zf_scan.specs.declared.token.Quantifier.{Quantifier}
+use Rattle.zf_scan.specs.declared.token.Relation.{Relation}
 use Rattle.zf_text.specs.declared.tree.Link.{Link, roll-Link}
 use Rattle.zf_text.specs.declared.tree.Name.{Name}
 use Rattle.zf_text.specs.declared.tree.Sign.TheVariants as sign
@@ -18,9 +18,10 @@ use Rattle.zf_text.specs.declared.tree.Term.{Term}
 use Rattle.zf_text.specs.declared.tree.Term.TheVariants as term
 use Rattle.zf_text.specs.declared.tree.VarDecl.{VarDecl, roll-VarDecl}
 use Rattle.zf_text.specs.Levels.{quantifier_level, negation_level, chain_level, expression_level, product_level, unary_level, application_level, postfix_level, connective_level, infix_level, sign_level, left_place, right_place, level}
+use Rattle.zf_scan.specs.Choosing.{next_of, goes_on, ends_names, is_mark}
 use Rattle.zf_text.specs.Reading as basic
-use Rattle.zf_text.specs.Reading.{first, rest, is_mark, read_name, read_number}
-use Rattle.zf_text.specs.Separators.{Symbol}
+use Rattle.zf_text.specs.Reading.{first, rest, read_name, read_number}
+use Rattle.zf_scan.specs.Separators.{Symbol}
 use Rattle.zf_text.specs.Spelling.{line_of}
 use Rattle.zf_text.specs.Trees.{tree_of}
 
@@ -122,21 +123,10 @@ place_before next.Inverse = postfix_level
 place_before next.OpenImage = postfix_level
 place_before _ = application_level
 
--- whether the symbol goes on with a list of names; the test is whether a name is due
-abbrev pub goes_on : Bool → Next → Bool
-goes_on true next.Name = true
-goes_on false next.Comma = true
-goes_on _ _ = false
-
--- whether it ends the list as a colon does
-abbrev pub ends_names : Bool → Next → Bool
-ends_names false next.Colon = true
-ends_names _ _ = false
-
 -- whether names parted by commas and a colon come next, the first of them a name that is due or what follows a name
 abbrev pub begins_decl : Bool → List Symbol → Bool
 begins_decl due [] = false
-begins_decl due (t ∷ ts) = if goes_on due (basic.next_of t.kind) then begins_decl (not due) ts else ends_names due (basic.next_of t.kind)
+begins_decl due (t ∷ ts) = if goes_on due (next_of t.kind) then begins_decl (not due) ts else ends_names due (next_of t.kind)
 
 -- ---- parts with their heights
 

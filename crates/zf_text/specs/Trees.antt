@@ -1,11 +1,11 @@
 -- Trees as plain data, a form for each form of ZRM 6 that is read, and how the program's trees are seen as them.
 use Rattle.std.specs.Prelude.{ℕ, List, [], ◌∷◌, map, Option, Some, None}
-use Rattle.zf_text.specs.declared.token.Arrow.{Arrow}
-use Rattle.zf_text.specs.declared.token.Connective.{Connective}
-use Rattle.zf_text.specs.declared.token.Constant.{Constant}
-use Rattle.zf_text.specs.declared.token.Infix.{Infix}
-use Rattle.zf_text.specs.declared.token.Quantifier.{Quantifier}
-use Rattle.zf_text.specs.declared.token.Relation.{Relation}
+use Rattle.zf_scan.specs.declared.token.Arrow.{Arrow}
+use Rattle.zf_scan.specs.declared.token.Connective.{Connective}
+use Rattle.zf_scan.specs.declared.token.Constant.{Constant}
+use Rattle.zf_scan.specs.declared.token.Infix.{Infix}
+use Rattle.zf_scan.specs.declared.token.Quantifier.{Quantifier}
+use Rattle.zf_scan.specs.declared.token.Relation.{Relation}
 use Rattle.zf_text.specs.declared.tree.Name.{Name}
 use Rattle.zf_text.specs.declared.tree.Sign.{Sign}
 use Rattle.zf_text.specs.declared.tree.Term.{Term}

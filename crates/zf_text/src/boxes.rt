@@ -5,14 +5,14 @@ ghost use Rattle.zf_text.specs.TermReading.{Gives};
 
 use crate::cursor::Cursor;
 use crate::decls::{decls, predicates};
-use crate::fault::TextFault;
 use crate::items::items;
-use crate::next::{Mark, Next};
 use crate::paragraphs::ParagraphRule;
 use crate::tree::ZBox;
 use bumpalo::Bump;
 use std::alloc::Global;
 use zf_data::Items;
+use zf_scan::fault::TextFault;
+use zf_scan::next::{Mark, Next};
 
 /// A `zed` box, after its opening.
 #[tactic(auto, unfolding(crate::specs::BoxReading::read_zed))]

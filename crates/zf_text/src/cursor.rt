@@ -1,19 +1,20 @@
 //! The symbols of a text that are left to be read.
 ghost use Rattle.std.specs.Prelude.{◌≡◌, ◌⊎◌, true, length, map};
 ghost use Rattle.zf_text.specs.BoxReading as boxes;
+ghost use Rattle.zf_scan.specs.Choosing.{is_mark};
 ghost use Rattle.zf_text.specs.Reading as spec;
-ghost use Rattle.zf_text.specs.Placing.{symbol_at};
+ghost use Rattle.zf_scan.specs.Placing.{symbol_at};
 ghost use Rattle.zf_text.specs.TermReading as terms;
 ghost use Rattle.zf_text.specs.TermReading.{Gives};
-ghost use Rattle.zf_text.specs.declared.fault.TextFaultKind.TheVariants.{Unexpected, TooDeep};
+ghost use Rattle.zf_scan.specs.declared.fault.TextFaultKind.TheVariants.{Unexpected, TooDeep};
 
-use crate::fault::{TextFault, TextFaultKind};
-use crate::next::{Mark, Next};
-use crate::placed::Placed;
-use crate::token::Connective;
 use crate::tree::Name;
 use std::marker::Model;
 use zf_data::arena::Lent;
+use zf_scan::fault::{TextFault, TextFaultKind};
+use zf_scan::next::{Mark, Next};
+use zf_scan::placed::Placed;
+use zf_scan::token::Connective;
 
 /// A place in the reduced list of the symbols of a text, which contracts see as the symbols from there on.
 #[derive(Drop)]
@@ -24,8 +25,8 @@ pub struct Cursor<'a, 'b> {
 
 impl<'a, 'b> Model for Cursor<'a, 'b> {
     ghost use Rattle.std.specs.Prelude.{List, map};
-    ghost use Rattle.zf_text.specs.Separators.{Symbol};
-    ghost use Rattle.zf_text.specs.Placing.{symbol_at};
+    ghost use Rattle.zf_scan.specs.Separators.{Symbol};
+    ghost use Rattle.zf_scan.specs.Placing.{symbol_at};
 
     ghost Value = { List Symbol };
 
@@ -146,7 +147,7 @@ impl<'a, 'b> Cursor<'a, 'b> {
 
     /// Whether this symbol comes next.
     pub fn is_at(&self, mark: Mark) -> bool
-        ensures { result ≡ spec.is_mark mark (spec.first self.now) }
+        ensures { result ≡ is_mark mark (spec.first self.now) }
     {
         self.peek().is(mark)
     }

@@ -4,16 +4,16 @@ ghost use Rattle.zf_text.specs.BoxReading as spec;
 ghost use Rattle.zf_text.specs.TermReading.{Gives};
 
 use crate::cursor::Cursor;
-use crate::fault::TextFault;
 use crate::items::{Rule, items};
 use crate::levels::{EXPRESSION, QUANTIFIER};
 use crate::names::names;
-use crate::next::{Mark, Next};
 use crate::tall::Tall;
 use crate::terms::term;
 use crate::tree::{Decl, RefMark, SchemaRef, Term};
 use bumpalo::Bump;
 use zf_data::arena::{Boxed, Items};
+use zf_scan::fault::TextFault;
+use zf_scan::next::{Mark, Next};
 
 #[tactic(auto, unfolding(crate::specs::BoxReading::marked))]
 fn marked<'a>(tokens: &mut Cursor<'a, '_>, mark: RefMark) -> Result<SchemaRef<'a>, TextFault>

@@ -4,18 +4,18 @@ ghost use Rattle.zf_text.specs.BoxReading as spec;
 ghost use Rattle.zf_text.specs.TermReading.{Gives};
 
 use crate::cursor::Cursor;
-use crate::fault::TextFault;
-use crate::next::Mark;
 use crate::tall::Tall;
 use bumpalo::Bump;
 use zf_data::arena::Items;
+use zf_scan::fault::TextFault;
+use zf_scan::next::Mark;
 
 /// A rule of the grammar, which reads items of one type up to a height.
 pub trait Rule<'a> {
     type Item: Drop;
 
     ghost use Rattle.std.specs.Prelude.{ℕ, List, Result};
-    ghost use Rattle.zf_text.specs.Separators.{Symbol};
+    ghost use Rattle.zf_scan.specs.Separators.{Symbol};
     ghost use Rattle.zf_text.specs.TermReading.{Fault};
     ghost use Rattle.zf_text.specs.declared.tall.Tall.{Tall};
 

@@ -4,9 +4,9 @@ ghost use Rattle.zf_text.specs.Levels as levels;
 ghost use Rattle.zf_text.specs.TermReading as spec;
 ghost use Rattle.zf_text.specs.Trees.{tree_of};
 
-use crate::next::Next;
-use crate::token::{Connective, Infix, Prefix};
 use crate::tree::{Sign, Term};
+use zf_scan::next::Next;
+use zf_scan::token::{Connective, Infix, Prefix};
 
 /// A quantifier; the place of any term.
 pub const QUANTIFIER: u8 = 0;

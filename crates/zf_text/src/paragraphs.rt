@@ -4,16 +4,16 @@ ghost use Rattle.zf_text.specs.BoxReading as spec;
 ghost use Rattle.zf_text.specs.TermReading.{Gives};
 
 use crate::cursor::Cursor;
-use crate::fault::TextFault;
 use crate::items::Rule;
 use crate::levels::EXPRESSION;
 use crate::names::{names, parted_names};
-use crate::next::{Mark, Next};
 use crate::schemas::schema;
 use crate::tall::Tall;
 use crate::terms::term;
 use crate::tree::{Name, Paragraph};
 use bumpalo::Bump;
+use zf_scan::fault::TextFault;
+use zf_scan::next::{Mark, Next};
 
 /// Given sets, after the opening bracket.
 #[tactic(auto, unfolding(crate::specs::BoxReading::given))]

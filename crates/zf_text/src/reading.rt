@@ -1,24 +1,24 @@
 //! Trees out of tokens, and out of a source.
 ghost use Rattle.std.specs.Prelude.{◌≡◌, ◌≤◌, ◌<◌, ℕ, List, IfOk, length, map, slice_index_or, slice_set};
 ghost use Rattle.zf_text.specs.Parsing.{Parses, ReadsSpec};
-ghost use Rattle.zf_text.specs.Placing.{symbol_at, token_at, unplaced};
+ghost use Rattle.zf_scan.specs.Placing.{symbol_at, token_at, unplaced};
 ghost use Rattle.zf_text.specs.Reads.{Reads};
-ghost use Rattle.zf_text.specs.Separators.{reduced, starts_closed};
+ghost use Rattle.zf_scan.specs.Separators.{reduced, starts_closed};
 ghost use Rattle.zf_text.specs.Trees.{BoxTree};
-ghost use Rattle.zf_text.specs.declared.placed.Placed.{Placed};
-ghost use Rattle.zf_text.specs.declared.token.Token.{Token};
+ghost use Rattle.zf_scan.specs.declared.placed.Placed.{Placed};
+ghost use Rattle.zf_scan.specs.declared.token.Token.{Token};
 
 use crate::boxes::all;
 use crate::cursor::Cursor;
-use crate::fault::TextFault;
-use crate::laid::{Laid, lay_out};
-use crate::placed::Placed;
-use crate::scan::symbols;
-use crate::token::Token;
 use crate::tree::Spec;
 use bumpalo::Bump;
 use bumpalo::collections::into_bump_slice;
 use std::alloc::Global;
+use zf_scan::fault::TextFault;
+use zf_scan::laid::{Laid, lay_out};
+use zf_scan::placed::Placed;
+use zf_scan::scan::symbols;
+use zf_scan::token::Token;
 
 /// Whether a separator before these symbols is dropped.
 fn starts_closed(symbols: &[Placed]) -> bool

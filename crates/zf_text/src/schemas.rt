@@ -7,12 +7,12 @@ ghost use Rattle.zf_text.specs.TermReading.{Gives};
 
 use crate::cursor::Cursor;
 use crate::decls::{decls, predicates, reference};
-use crate::fault::TextFault;
-use crate::next::{Mark, Next};
 use crate::tall::Tall;
 use crate::tree::SchemaExp;
 use bumpalo::Bump;
 use zf_data::arena::Boxed;
+use zf_scan::fault::TextFault;
+use zf_scan::next::{Mark, Next};
 
 /// A schema text after its opening bracket, with parts up to the height `below`.
 #[tactic(auto, unfolding(crate::specs::BoxReading::schema_text))]

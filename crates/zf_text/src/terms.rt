@@ -9,12 +9,12 @@ mod longer;
 mod parts;
 
 use crate::cursor::Cursor;
-use crate::fault::TextFault;
 use crate::levels::{binds, level, place_before};
 use crate::tall::Tall;
 use crate::tree::Term;
 use bumpalo::Bump;
 use zf_data::arena::Boxed;
+use zf_scan::fault::TextFault;
 
 /// What the rules are given: how terms that stand one level deeper are read, up to the height `below`.
 #[derive(Clone, Copy)]

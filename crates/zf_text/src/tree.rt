@@ -4,10 +4,10 @@ ghost use Rattle.zf_text.specs.BoxReading as spec;
 ghost use Rattle.zf_text.specs.Spelling.{line_of};
 ghost use Rattle.zf_text.specs.Trees.{tree_of};
 
-use crate::placed::{back, front};
-use crate::token::{Arrow, Connective, Constant, Infix, Prefix, Quantifier, Relation};
 use std::marker::Model;
 use zf_data::arena::{Boxed, Items, Lent};
+use zf_scan::placed::{back, front};
+use zf_scan::token::{Arrow, Connective, Constant, Infix, Prefix, Quantifier, Relation};
 
 /// A name, and the line where it stands.
 #[derive(Drop)]

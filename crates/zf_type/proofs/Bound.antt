@@ -1,23 +1,20 @@
 -- Bound variables: names that are declared apart, and scopes with variables in them.
-use Rattle.std.proofs.Common.{◌≡◌, ℕ, ◌+◌, ◌<◌, if◌then◌else◌, Bool, true, false, List, [], ◌∷◌, ◌++◌, length, map, take, drop, get_or, Option, Some, None, Ok, Err, refl, sym, ap, ◌∙◌, subst, inl, inr, ⊎_elim, true≢false}
+use Rattle.std.proofs.Common.{◌≡◌, ℕ, ◌+◌, if◌then◌else◌, Bool, true, false, List, [], ◌∷◌, ◌++◌, length, map, take, Option, Some, None, Ok, Err, refl, sym, ap, ◌∙◌, inl, inr, ⊎_elim, true≢false}
 use Rattle.std.proofs.lemmas.List.{take-map, map-append, length-map}
 use Rattle.std.proofs.Math.Seq.{take-append_seam}
 use Rattle.std.proofs.lemmas.Slice.Eq.{bytes_eq-Decides}
 use Rattle.std.specs.Prelude.{◌⊎◌, Result, OnErr}
 use Rattle.std.specs.Str.{bytes_eq}
 use Rattle.zf_text.specs.declared.tree.Name.{Name}
-use Rattle.zf_text.specs.declared.tree.VarDecl.{VarDecl}
-use Rattle.zf_text.specs.Trees.{VarDecls, var_decl, var_decls, var_decl_of, tree_of}
-use Rattle.zf_text.proofs.TermSeen as seen
+use Rattle.zf_term.specs.FirstNamed.{later, or_else}
+use Rattle.zf_term.specs.Definitions.{comp_of, globals_of}
 use Rattle.zf_type.specs.declared.fault.TypeFaultKind.{TypeFaultKind}
 use Rattle.zf_type.specs.declared.scope.Scope as program
 use Rattle.zf_type.specs.declared.scope.Variable.{Variable}
-use Rattle.zf_type.specs.Definitions.{comp_of, globals_of}
 use Rattle.zf_type.specs.Judging.{IsBound, AreNew, AreRepeated}
 use Rattle.zf_type.specs.Offences.{IsRepeated, Repeats}
-use Rattle.zf_type.specs.Scopes.{Scope, Var, last_named, later, or_else, scope_of, spelling, variable_of, within}
+use Rattle.zf_type.specs.Scopes.{Scope, Var, last_named, scope_of, spelling, variable_of, within}
 use Rattle.zf_type.specs.Typing.{IsApart, AreApart}
-use Rattle.zf_type.proofs.Walk.{at_step}
 
 -- ---- the variable of a name
 
@@ -87,15 +84,6 @@ some_repeated [] k m h = h
 some_repeated (n ∷ ns) k m (inl b) = absurd b.0
 some_repeated (n ∷ ns) k m (inr (inl r)) = inl r
 some_repeated (n ∷ ns) k m (inr (inr r)) = inr (some_repeated ns k m r)
-
--- ---- declarations ahead
-
-decl_seen : (d : VarDecl) → var_decl_of d ≡ (d.names, tree_of d.set)
-decl_seen d = seen.of-decl d.names d.set
-
-pub decl_ahead : (P : VarDecls → Type 0) (ds : List VarDecl) (i : ℕ) (d : VarDecl) → d ≡ get_or ds i d → i < length ds → P (var_decl d.names (tree_of d.set) (var_decls (map var_decl_of (drop (i + 1) ds)))) → P (var_decls (map var_decl_of (drop i ds)))
-decl_ahead P ds i d is l h =
-    at_step (λ xs. P (var_decls (map var_decl_of xs))) ds i d is l (subst (λ p. P (var_decl p.0 p.1 (var_decls (map var_decl_of (drop (i + 1) ds))))) (sym (decl_seen d)) h)
 
 -- ---- scopes
 

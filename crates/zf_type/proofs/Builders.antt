@@ -5,16 +5,17 @@ use Rattle.zf_text.specs.declared.tree.Term.{Term}
 use Rattle.zf_text.specs.declared.tree.VarDecl.{VarDecl}
 use Rattle.zf_text.specs.Trees.{Tree, VarDecls, Perhaps, builder, var_decls, var_decl_of}
 use Rattle.zf_text.proofs.TermSeen as seen
+use Rattle.zf_term.specs.Written.{part_tree}
+use Rattle.zf_term.specs.declared.operator.Need.{Need}
+use Rattle.zf_term.specs.declared.operator.Need.TheVariants as need
+use Rattle.zf_term.specs.declared.ztype.ZType.{ZType}
+use Rattle.zf_term.specs.Types.{type_of}
 use Rattle.zf_type.specs.declared.fault.Refusal.{Refusal}
-use Rattle.zf_type.specs.declared.operator.Need.{Need}
-use Rattle.zf_type.specs.declared.operator.Need.TheVariants as need
 use Rattle.zf_type.specs.declared.sort.Sort as program
-use Rattle.zf_type.specs.declared.ztype.ZType.{ZType}
-use Rattle.zf_type.specs.Judging.{DeclarationsOffend, Judges, JudgesPart, part_tree}
+use Rattle.zf_type.specs.Judging.{DeclarationsOffend, Judges, JudgesPart}
 use Rattle.zf_type.specs.Offences.{Offends}
 use Rattle.zf_type.specs.Refusals.{IfFault}
 use Rattle.zf_type.specs.Scopes.{Scope, Var, within}
-use Rattle.zf_type.specs.Types.{type_of}
 use Rattle.zf_type.specs.Typing.{Binds, row_type}
 use Rattle.zf_type.proofs.Judging.{if_fault, from_fault}
 use Rattle.zf_type.proofs.Quantified.{part_same}

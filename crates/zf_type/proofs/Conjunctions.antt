@@ -1,15 +1,15 @@
 -- How predicates are split.
 use Rattle.std.proofs.Common.{◌≡◌, ℕ, true, false, Result, Ok, Err, OnOk, List, ◌∷◌, [], ◌++◌, append_assoc, refl, sym, ap, ◌∙◌}
-use Rattle.zf_text.specs.declared.token.Connective.{Connective}
-use Rattle.zf_text.specs.declared.token.Connective.TheVariants.{And, Or, Implies, Iff}
+use Rattle.zf_scan.specs.declared.token.Connective.{Connective}
+use Rattle.zf_scan.specs.declared.token.Connective.TheVariants.{And, Or, Implies, Iff}
 use Rattle.zf_text.specs.Trees as text
 use Rattle.zf_text.specs.Trees.{Tree}
+use Rattle.zf_term.specs.ResolvedTrees.{ResolvedTree, bracket}
+use Rattle.zf_term.specs.Shapes as shape
+use Rattle.zf_term.specs.Shapes.{conjuncts}
+use Rattle.zf_term.specs.Written.{is_conjunction}
 use Rattle.zf_type.specs.Resolving.{resolved}
-use Rattle.zf_type.specs.ResolvedTrees.{ResolvedTree, bracket}
 use Rattle.zf_type.specs.Scopes.{Scope}
-use Rattle.zf_type.specs.Shapes as shape
-use Rattle.zf_type.specs.Shapes.{conjuncts}
-use Rattle.zf_type.specs.Written.{is_conjunction}
 
 -- a predicate is a conjunction where the term is
 same_conjunction : (s : Scope) (e : Tree) → shape.is_conjunction (resolved s e) ≡ is_conjunction e

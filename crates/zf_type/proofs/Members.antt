@@ -4,19 +4,19 @@ use Rattle.std.specs.Prelude.{slice_get}
 use Rattle.zf_text.specs.declared.tree.Term.{Term}
 use Rattle.zf_text.specs.Spelling.{line_of}
 use Rattle.zf_text.specs.Trees.{Tree, Trees, no_trees, tree, trees, tree_of}
+use Rattle.zf_term.specs.Types.{Ty, Tys, no_types, type, types, type_of, IsSmall}
+use Rattle.zf_term.specs.declared.operator.Listed.{Listed}
+use Rattle.zf_term.specs.declared.operator.Listed.TheVariants.{Tuple, Display, Product}
+use Rattle.zf_term.specs.declared.operator.Need.{Need}
+use Rattle.zf_term.specs.declared.ztype.ZType.{ZType}
+use Rattle.zf_term.specs.ResolvedTrees.{listed}
 use Rattle.zf_type.specs.declared.fault.TypeFaultKind.{TypeFaultKind}
 use Rattle.zf_type.specs.declared.fault.TypeFaultKind.TheVariants.{Mismatch, TooLarge}
-use Rattle.zf_type.specs.declared.operator.Listed.{Listed}
-use Rattle.zf_type.specs.declared.operator.Listed.TheVariants.{Tuple, Display, Product}
-use Rattle.zf_type.specs.declared.operator.Need.{Need}
-use Rattle.zf_type.specs.declared.ztype.ZType.{ZType}
 use Rattle.zf_type.specs.Judging.{listed_tree, member_need, AreMembers, AreAll, Makes, IsOther, DiffersAt}
 use Rattle.zf_type.specs.Offences.{Offends, OneOffends, OneDiffers, Differ}
-use Rattle.zf_type.specs.ResolvedTrees.{listed}
 use Rattle.zf_type.specs.Resolving.{resolved, resolved_all}
-use Rattle.zf_type.specs.Rules.{typed, IsSmall}
+use Rattle.zf_type.specs.Rules.{typed}
 use Rattle.zf_type.specs.Scopes.{Scope}
-use Rattle.zf_type.specs.Types.{Ty, Tys, no_types, type, types, type_of}
 use Rattle.zf_type.specs.Typing.{IsOf, AreOf, AreSetsOf, AllAreOf}
 
 pub list_offends : (form : Listed) (s : Scope) (n : Need) (l : ℕ) (es : Trees) (k : TypeFaultKind) (m : ℕ) → OneOffends s (member_need form) es k m → Offends s n (listed_tree form l es) k m

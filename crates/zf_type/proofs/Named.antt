@@ -5,12 +5,13 @@ use Rattle.std.specs.Map.{keys_of}
 use Rattle.std.specs.Prelude.{Vec}
 use Rattle.std.proofs.lemmas.List.{take_more, length-take}
 use Rattle.std.proofs.lemmas.Slice.Eq.{bytes_eq-Decides}
-use Rattle.zf_type.specs.declared.resolved.Reference.TheVariants.{Component, Local, Global}
-use Rattle.zf_type.specs.declared.globals.Entry.{Entry}
-use Rattle.zf_type.specs.Definitions.{Comp, Defined, entry_of}
+use Rattle.zf_term.specs.FirstNamed.{first_named, later}
+use Rattle.zf_term.specs.declared.resolved.Reference.TheVariants.{Component, Local, Global}
+use Rattle.zf_term.specs.declared.globals.Entry.{Entry}
+use Rattle.zf_term.specs.Definitions.{Comp, Defined, entry_of}
+use Rattle.zf_term.proofs.SameNames.{swapped}
 use Rattle.zf_type.specs.Rules.{typed}
-use Rattle.zf_type.proofs.SameNames.{swapped}
-use Rattle.zf_type.specs.Scopes.{Scope, Var, first_named, last_named, later, meaning, global_sort}
+use Rattle.zf_type.specs.Scopes.{Scope, Var, last_named, meaning, global_sort}
 
 nothing_before : {A : Type 0} (b : Bool) (p : ℕ × A) (o : Option (ℕ × A)) → (if b then Some p else later o) ≡ None → (b ≡ false) × (o ≡ None)
 nothing_before true p o h = absurd (cc)

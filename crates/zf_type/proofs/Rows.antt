@@ -2,14 +2,14 @@
 use Rattle.std.proofs.Common.{◌≡◌, ℕ, ◌+◌, ◌<◌, ◌≤◌, List, [], ◌∷◌, ◌++◌, length, map, drop, get_or, refl, sym, ap, ◌∙◌}
 use Rattle.std.proofs.Math.Seq.{drop-append_seam}
 use Rattle.std.proofs.lemmas.List.{length-map, drop-map, drop_all}
+use Rattle.zf_term.specs.declared.ztype.ZType.{ZType}
+use Rattle.zf_term.specs.Types.{product, type, types, type_of}
+use Rattle.zf_term.proofs.Walk.{dropped}
 use Rattle.zf_type.specs.declared.scope.Scope as program
 use Rattle.zf_type.specs.declared.scope.Variable.{Variable}
-use Rattle.zf_type.specs.declared.ztype.ZType.{ZType}
 use Rattle.zf_type.specs.Judging.{var_type}
 use Rattle.zf_type.specs.Scopes.{Scope, Var, scope_of, variable_of, within}
-use Rattle.zf_type.specs.Types.{product, type, types, type_of}
 use Rattle.zf_type.specs.Typing.{row_type, types_of}
-use Rattle.zf_type.proofs.Walk.{dropped}
 
 -- ---- the type of a row, from the types of its variables
 

@@ -1,22 +1,24 @@
 -- What the parts of the checker of terms answer, for private contracts alone.
-use Rattle.std.specs.Prelude.{◌≡◌, ◌⊎◌, ℕ, List, [], ◌∷◌, map, Option, Some, None, Result, IfOk, IfErr}
+use Rattle.std.specs.Prelude.{◌≡◌, ◌⊎◌, ℕ, List, [], ◌∷◌, Option, Some, None, Result, IfOk, IfErr}
 use Rattle.zf_text.specs.declared.tree.Name.{Name}
 use Rattle.zf_text.specs.declared.tree.Term.{Term}
 use Rattle.zf_text.specs.declared.tree.Term.TheVariants as form
 use Rattle.zf_text.specs.declared.tree.Link.{Link}
 use Rattle.zf_text.specs.declared.tree.VarDecl.{VarDecl}
-use Rattle.zf_text.specs.declared.token.Quantifier.{Quantifier}
+use Rattle.zf_scan.specs.declared.token.Quantifier.{Quantifier}
 use Rattle.zf_text.specs.Spelling.{line_of}
-use Rattle.zf_text.specs.Trees.{Tree, tree_of, VarDecls, Perhaps, absent, present, Trees, no_trees, tree, tuple, display, product, prefixed, inverse, negated, image, applied, infixed, arrow, connected}
+use Rattle.zf_text.specs.Trees.{Tree, VarDecls, Perhaps, absent, present, Trees, no_trees, tree, tuple, display, product, prefixed, inverse, negated, image, applied, infixed, arrow, connected}
+use Rattle.zf_term.specs.declared.operator.Listed.{Listed}
+use Rattle.zf_term.specs.declared.operator.Listed.TheVariants.{Tuple, Display, Product}
+use Rattle.zf_term.specs.declared.operator.Need.{Need}
+use Rattle.zf_term.specs.declared.operator.Need.TheVariants as need
+use Rattle.zf_term.specs.declared.operator.Operator.{Operator}
+use Rattle.zf_term.specs.declared.operator.Operator.TheVariants.{Function, Generic, Connective, Application, Image}
+use Rattle.zf_term.specs.declared.operator.Unary.{Unary}
+use Rattle.zf_term.specs.declared.operator.Unary.TheVariants.{Sign, Inverse, Not}
+use Rattle.zf_term.specs.Types as t
+use Rattle.zf_term.specs.Types.{Ty, Tys, power, no_types, type}
 use Rattle.zf_type.specs.declared.fault.Refusal.{Refusal}
-use Rattle.zf_type.specs.declared.operator.Listed.{Listed}
-use Rattle.zf_type.specs.declared.operator.Listed.TheVariants.{Tuple, Display, Product}
-use Rattle.zf_type.specs.declared.operator.Need.{Need}
-use Rattle.zf_type.specs.declared.operator.Need.TheVariants as need
-use Rattle.zf_type.specs.declared.operator.Operator.{Operator}
-use Rattle.zf_type.specs.declared.operator.Operator.TheVariants.{Function, Generic, Connective, Application, Image}
-use Rattle.zf_type.specs.declared.operator.Unary.{Unary}
-use Rattle.zf_type.specs.declared.operator.Unary.TheVariants.{Sign, Inverse, Not}
 use Rattle.zf_type.specs.declared.sort.Sort as program
 use Rattle.zf_type.specs.declared.fault.TypeFaultKind.{TypeFaultKind}
 use Rattle.zf_type.specs.declared.fault.TypeFaultKind.TheVariants.{LocalTwice}
@@ -24,8 +26,6 @@ use Rattle.zf_type.specs.Offences.{Offends, PartOffends, SetsOffend, Repeats, Is
 use Rattle.zf_type.specs.Refusals.{IfFault}
 use Rattle.zf_type.specs.Rules.{Sort, typed, set_of, sort_of, Meets}
 use Rattle.zf_type.specs.Scopes.{Scope, Var, spelling}
-use Rattle.zf_type.specs.Types as t
-use Rattle.zf_type.specs.Types.{Ty, Tys, power, no_types, type}
 use Rattle.zf_type.specs.Typing.{IsOf, IsApart, declared}
 
 -- the term is of this sort, which its place takes
@@ -108,10 +108,6 @@ DiffersAt l (e ∷ es) no_types m = ⊥
 DiffersAt l (e ∷ es) (type u us) m = IsOther u es us m
 
 -- ---- parts that may be left out
-
-abbrev pub part_tree : Option Term → Perhaps
-part_tree None = absent
-part_tree (Some t) = present (tree_of t)
 
 -- the part is what its place takes, or it is left out
 abbrev pub IsPart : Scope → Need → Perhaps → Option program.Sort → Type 0

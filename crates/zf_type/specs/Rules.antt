@@ -1,28 +1,24 @@
 -- The rules of types: what the places of a symbol need, and how the types of its operands and of the whole belong together.
-use Rattle.std.specs.Prelude.{◌≡◌, ◌≤◌, Option, Some, None}
-use Rattle.zf_text.specs.declared.token.Constant.{Constant}
-use Rattle.zf_text.specs.declared.token.Constant.TheVariants.{True, False, Integers, Naturals, Positives}
-use Rattle.zf_text.specs.declared.token.Infix.{Infix}
-use Rattle.zf_text.specs.declared.token.Infix.TheVariants.{Maplet, UpTo, Plus, Minus, Union, Difference, Times, Div, Mod, Intersection, Composition, Overriding, DomainRestriction, RangeRestriction, DomainSubtraction, RangeSubtraction}
-use Rattle.zf_text.specs.declared.token.Prefix.{Prefix}
-use Rattle.zf_text.specs.declared.token.Prefix.TheVariants.{Power, Finset, Domain, Range, Size}
-use Rattle.zf_text.specs.declared.token.Relation.{Relation}
-use Rattle.zf_text.specs.declared.token.Relation.TheVariants.{Equal, NotEqual, Member, NotMember, Subset, ProperSubset, Less, AtMost, Greater, AtLeast}
+use Rattle.std.specs.Prelude.{◌≡◌, Option, Some, None}
+use Rattle.zf_scan.specs.declared.token.Constant.{Constant}
+use Rattle.zf_scan.specs.declared.token.Constant.TheVariants.{True, False, Integers, Naturals, Positives}
+use Rattle.zf_scan.specs.declared.token.Infix.TheVariants.{Minus, Overriding}
+use Rattle.zf_scan.specs.declared.token.Prefix.{Prefix}
+use Rattle.zf_scan.specs.declared.token.Prefix.TheVariants.{Power, Finset, Domain, Range, Size}
+use Rattle.zf_scan.specs.declared.token.Relation.{Relation}
 use Rattle.zf_text.specs.declared.tree.Sign.{Sign}
 use Rattle.zf_text.specs.declared.tree.Sign.TheVariants as sign
+use Rattle.zf_term.specs.Types.{Ty, int, power, type, type_of, pair, IsSmall}
+use Rattle.zf_term.specs.declared.operator.Need.{Need}
+use Rattle.zf_term.specs.declared.operator.Need.TheVariants as need
+use Rattle.zf_term.specs.declared.operator.Rule.{Rule}
+use Rattle.zf_term.specs.declared.operator.Rule.TheVariants as rule
+use Rattle.zf_term.specs.declared.operator.Unary.{Unary}
+use Rattle.zf_term.specs.declared.operator.Unary.TheVariants as unary
 use Rattle.zf_type.specs.declared.fault.TypeFaultKind.{TypeFaultKind}
 use Rattle.zf_type.specs.declared.fault.TypeFaultKind.TheVariants.{NotASet, NotANumber, NotARelation, NotAPredicate, NotAnExpression}
-use Rattle.zf_type.specs.declared.operator.Need.{Need}
-use Rattle.zf_type.specs.declared.operator.Need.TheVariants as need
-use Rattle.zf_type.specs.declared.operator.Operator.{Operator}
-use Rattle.zf_type.specs.declared.operator.Operator.TheVariants as operator
-use Rattle.zf_type.specs.declared.operator.Rule.{Rule}
-use Rattle.zf_type.specs.declared.operator.Rule.TheVariants as rule
-use Rattle.zf_type.specs.declared.operator.Unary.{Unary}
-use Rattle.zf_type.specs.declared.operator.Unary.TheVariants as unary
 use Rattle.zf_type.specs.declared.sort.Sort as program
 use Rattle.zf_type.specs.declared.sort.Sort.TheVariants.{Typed}
-use Rattle.zf_type.specs.Types.{Ty, int, power, product, no_types, type, nodes, type_of}
 
 -- what a term is: an expression of a type, a predicate, or the name of a schema
 pub data Sort : Type 0 where
@@ -41,15 +37,8 @@ number = typed int
 abbrev pub set_of : Ty → Sort
 set_of t = typed (power t)
 
-abbrev pub pair : Ty → Ty → Ty
-pair t u = product (type t (type u no_types))
-
 abbrev pub relation : Ty → Ty → Sort
 relation t u = set_of (pair t u)
-
--- a type within the limit
-abbrev pub IsSmall : Ty → Type 0
-IsSmall t = nodes t ≤ 256
 
 abbrev pub IsSmallSort : Sort → Type 0
 IsSmallSort (typed t) = IsSmall t
@@ -83,81 +72,6 @@ lack_of n (typed t) = lack n
 lack_of n predicate = untyped_lack n
 lack_of n a_schema = untyped_lack n
 
--- ---- the rule of each symbol
-
-abbrev pub function_rule : Infix → Rule
-function_rule Maplet = rule.Pairing
-function_rule UpTo = rule.Interval
-function_rule Plus = rule.Arithmetic
-function_rule Minus = rule.Arithmetic
-function_rule Times = rule.Arithmetic
-function_rule Div = rule.Arithmetic
-function_rule Mod = rule.Arithmetic
-function_rule Union = rule.SetFunction
-function_rule Intersection = rule.SetFunction
-function_rule Difference = rule.SetFunction
-function_rule Composition = rule.Composing
-function_rule Overriding = rule.Overriding
-function_rule DomainRestriction = rule.DomainRestricting
-function_rule DomainSubtraction = rule.DomainRestricting
-function_rule RangeRestriction = rule.RangeRestricting
-function_rule RangeSubtraction = rule.RangeRestricting
-
-abbrev pub rule_of : Operator → Rule
-rule_of (operator.Function op) = function_rule op
-rule_of (operator.Generic op) = rule.Relating
-rule_of (operator.Connective c) = rule.Connecting
-rule_of operator.Application = rule.Applying
-rule_of operator.Image = rule.Imaging
-
-abbrev pub relation_rule : Relation → Rule
-relation_rule Equal = rule.Equating
-relation_rule NotEqual = rule.Equating
-relation_rule Member = rule.Belonging
-relation_rule NotMember = rule.Belonging
-relation_rule Subset = rule.Including
-relation_rule ProperSubset = rule.Including
-relation_rule Less = rule.Comparing
-relation_rule AtMost = rule.Comparing
-relation_rule Greater = rule.Comparing
-relation_rule AtLeast = rule.Comparing
-
-abbrev pub left_need : Rule → Need
-left_need rule.Arithmetic = need.Number
-left_need rule.Interval = need.Number
-left_need rule.Pairing = need.Expression
-left_need rule.SetFunction = need.Set
-left_need rule.Overriding = need.Relation
-left_need rule.Composing = need.Relation
-left_need rule.DomainRestricting = need.Set
-left_need rule.RangeRestricting = need.Relation
-left_need rule.Relating = need.Set
-left_need rule.Applying = need.Relation
-left_need rule.Imaging = need.Relation
-left_need rule.Equating = need.Expression
-left_need rule.Belonging = need.Expression
-left_need rule.Including = need.Set
-left_need rule.Comparing = need.Number
-left_need rule.Connecting = need.Predicate
-
-abbrev pub right_need : Rule → Need
-right_need rule.Arithmetic = need.Number
-right_need rule.Interval = need.Number
-right_need rule.Pairing = need.Expression
-right_need rule.SetFunction = need.Set
-right_need rule.Overriding = need.Relation
-right_need rule.Composing = need.Relation
-right_need rule.DomainRestricting = need.Relation
-right_need rule.RangeRestricting = need.Set
-right_need rule.Relating = need.Set
-right_need rule.Applying = need.Expression
-right_need rule.Imaging = need.Set
-right_need rule.Equating = need.Expression
-right_need rule.Belonging = need.Set
-right_need rule.Including = need.Set
-right_need rule.Comparing = need.Number
-right_need rule.Connecting = need.Predicate
-
 -- the left operand, the right one, and the whole
 abbrev pub Takes : Rule → Sort → Sort → Sort → Type 0
 Takes rule.Arithmetic x y z = (x ≡ number) × (y ≡ number) × (z ≡ number)
@@ -181,22 +95,6 @@ Takes rule.Connecting x y z = (x ≡ predicate) × (y ≡ predicate) × (z ≡ p
 unfoldable pub IsMade : Rule → Sort → Sort → Option program.Sort → Type 0
 IsMade rule x y None = (z : Sort) → Takes rule x y z → ⊥
 IsMade rule x y (Some z) = Takes rule x y (sort_of z)
-
-abbrev pub prefix_need : Prefix → Need
-prefix_need Power = need.Set
-prefix_need Finset = need.Set
-prefix_need Size = need.Set
-prefix_need Domain = need.Relation
-prefix_need Range = need.Relation
-
-abbrev pub sign_need : Sign → Need
-sign_need sign.Minus = need.Number
-sign_need (sign.Symbol p) = prefix_need p
-
-abbrev pub need_of : Unary → Need
-need_of (unary.Sign s) = sign_need s
-need_of unary.Inverse = need.Relation
-need_of unary.Not = need.Predicate
 
 abbrev pub PrefixTakes : Prefix → Sort → Sort → Type 0
 PrefixTakes Power x z = (t : Ty) × (x ≡ set_of t) × (z ≡ set_of (power t))

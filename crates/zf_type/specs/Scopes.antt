@@ -2,14 +2,15 @@
 use Rattle.std.specs.Prelude.{ℕ, ◌+◌, if◌then◌else◌, List, [], ◌∷◌, ◌++◌, Option, Some, None, map}
 use Rattle.std.specs.Str.{bytes_eq}
 use Rattle.zf_text.specs.declared.tree.Name.{Name}
-use Rattle.zf_type.specs.declared.resolved.Reference.{Reference}
-use Rattle.zf_type.specs.declared.resolved.Reference.TheVariants.{Component, Local, Global}
+use Rattle.zf_term.specs.FirstNamed.{later, or_else, first_named}
+use Rattle.zf_term.specs.declared.resolved.Reference.{Reference}
+use Rattle.zf_term.specs.declared.resolved.Reference.TheVariants.{Component, Local, Global}
+use Rattle.zf_term.specs.Definitions.{comp_of, globals_of, Comp, Defined, Definition, given_set, free_type, constructor, abbreviation, schema}
+use Rattle.zf_term.specs.Types.{Ty, basic, type_of}
 use Rattle.zf_type.specs.declared.scope.Scope as program_scope
 use Rattle.zf_type.specs.declared.scope.Variable.{Variable}
-use Rattle.zf_type.specs.Definitions.{comp_of, globals_of, Comp, Defined, Definition, given_set, free_type, constructor, abbreviation, schema}
 use Rattle.zf_type.specs.declared.sort.Sort as program
 use Rattle.zf_type.specs.Rules.{Sort, typed, a_schema, set_of, sort_of}
-use Rattle.zf_type.specs.Types.{Ty, basic, type_of}
 
 -- two names are the same name where their spellings are equal
 abbrev pub spelling : Name → List ℕ
@@ -32,19 +33,6 @@ variable_of v = record { name = v.name; type = type_of v.ztype }
 -- the scope with further bound variables
 abbrev pub within : Scope → List Var → Scope
 within s vs = record { globals = s.globals; comps = s.comps; locals = s.locals ++ vs }
-
-abbrev pub later : {A : Type 0} → Option (ℕ × A) → Option (ℕ × A)
-later None = None
-later (Some p) = Some (p.0 + 1, p.1)
-
-abbrev pub or_else : {A : Type 0} → Option A → Option A → Option A
-or_else None other = other
-or_else (Some x) other = Some x
-
--- the first in the list that has the name, with its place
-abbrev pub first_named : {A : Type 0} → (A → List ℕ) → List ℕ → List A → Option (ℕ × A)
-first_named name x [] = None
-first_named name x (a ∷ rest) = if bytes_eq (name a) x then Some (0, a) else later (first_named name x rest)
 
 -- the last that has it
 abbrev pub last_named : {A : Type 0} → (A → List ℕ) → List ℕ → List A → Option (ℕ × A)

@@ -1,23 +1,23 @@
 //! Bound variables: how declarations bring them into scope, and how they leave it.
 ghost use Rattle.std.specs.Prelude.{◌≡◌, ℕ, IfOk, IfErr, OnOk, OnErr, List, ◌++◌, length, map};
 ghost use Rattle.zf_text.specs.declared.tree.Name as program;
+ghost use Rattle.zf_term.specs.Types.{Ty, type_of};
+ghost use Rattle.zf_term.specs.declared.operator.Need.TheVariants as needs;
 ghost use Rattle.zf_type.specs.Judging.{AreNew, AreRepeated, var_type};
 ghost use Rattle.zf_type.specs.Refusals.{IfFault};
 ghost use Rattle.zf_type.specs.Rules.{Meets, set_of, sort_of};
 ghost use Rattle.zf_type.specs.Scopes as spec;
 ghost use Rattle.zf_type.specs.Scopes.{Var, scope_of, spelling, variable_of, within};
-ghost use Rattle.zf_type.specs.Types.{Ty, type_of};
 ghost use Rattle.zf_type.specs.Typing as typing;
 ghost use Rattle.zf_type.specs.declared.fault.TypeFaultKind as faults;
-ghost use Rattle.zf_type.specs.declared.operator.Need.TheVariants as needs;
 
 use crate::fault::{Refusal, TypeFaultKind, refused};
 use crate::scope::{Scope, Variable, is_bound};
 use crate::sort::Sort;
-use crate::ztype::{ZType, product_type};
 use bumpalo::Bump;
 use std::alloc::AllocError;
 use zf_data::arena::Items;
+use zf_term::ztype::{ZType, product_type};
 use zf_text::tree::Name;
 
 /// Adds variables of these names, which are members of a set of this sort.
@@ -99,7 +99,7 @@ pub(crate) fn row<'a>(
     row_of(arena, types)
 }
 
-#[tactic(auto, using(crate::proofs::TypesSeen::seen))]
+#[tactic(auto, using(zf_term::proofs::TypesSeen::seen))]
 fn row_of<'a>(arena: &'a Bump, types: Items<'a, ZType<'a>>) -> Result<ZType<'a>, AllocError>
     ensures { IfOk result (λ t. (vs : List Var) → map type_of types.entry ≡ map var_type vs → type_of t ≡ typing.row_type vs) }
 {

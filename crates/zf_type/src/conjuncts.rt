@@ -1,24 +1,24 @@
 //! The conjuncts of a predicate of the text.
 ghost use Rattle.std.specs.Prelude.{◌≡◌, ◌++◌, [], ◌∷◌, IfErr, OnOk, map};
 ghost use Rattle.zf_text.specs.Trees.{tree_of};
+ghost use Rattle.zf_term.specs.Shapes as spec;
+ghost use Rattle.zf_term.specs.Written.{is_conjunction, written_of};
+ghost use Rattle.zf_term.specs.declared.operator.Need.TheVariants as needs;
 ghost use Rattle.zf_type.specs.Offences.{Offends};
 ghost use Rattle.zf_type.specs.Refusals.{IfFault};
 ghost use Rattle.zf_type.specs.Resolving.{resolved};
 ghost use Rattle.zf_type.specs.Rules.{predicate};
 ghost use Rattle.zf_type.specs.Scopes.{scope_of};
-ghost use Rattle.zf_type.specs.Shapes as spec;
 ghost use Rattle.zf_type.specs.Typing.{IsOf};
-ghost use Rattle.zf_type.specs.Written.{is_conjunction, written_of};
-ghost use Rattle.zf_type.specs.declared.operator.Need.TheVariants as needs;
 
 use crate::fault::Refusal;
 use crate::judge::judge;
-use crate::operator::Need;
 use crate::scope::Scope;
-use crate::written::Written;
 use bumpalo::Bump;
 use zf_data::arena::Items;
-use zf_text::token::Connective;
+use zf_scan::token::Connective;
+use zf_term::operator::Need;
+use zf_term::written::Written;
 use zf_text::tree::Term;
 
 /// Whether it is a conjunction, within brackets or without.

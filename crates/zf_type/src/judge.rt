@@ -3,7 +3,8 @@ ghost use Rattle.std.specs.Prelude.{◌≡◌, ℕ, IfOk, IfErr, OnOk};
 ghost use Rattle.zf_text.specs.Spelling as text;
 ghost use Rattle.zf_text.specs.Trees as tree;
 ghost use Rattle.zf_text.specs.Trees.{Tree, named, numeral, tree_of};
-ghost use Rattle.zf_type.specs.Filling.{onto};
+ghost use Rattle.zf_term.specs.Filling.{onto};
+ghost use Rattle.zf_term.specs.Written.{written_of};
 ghost use Rattle.zf_type.specs.Judging.{Judges};
 ghost use Rattle.zf_type.specs.Offences.{Offends};
 ghost use Rattle.zf_type.specs.Refusals.{IfFault};
@@ -13,7 +14,6 @@ ghost use Rattle.zf_type.specs.Rules.{Meets, sort_of};
 ghost use Rattle.zf_type.specs.Scopes as spec;
 ghost use Rattle.zf_type.specs.Scopes.{scope_of};
 ghost use Rattle.zf_type.specs.Typing.{IsOf};
-ghost use Rattle.zf_type.specs.Written.{written_of};
 
 mod binders;
 mod chains;
@@ -21,19 +21,19 @@ mod lists;
 mod operands;
 
 use crate::fault::{Refusal, TypeFaultKind, refused};
-use crate::operator::{Listed, Need, Operator, Unary};
 use crate::rules::constant_sort;
 use crate::scope::Scope;
 use crate::sort::Sort;
-use crate::written::Written;
-use crate::ztype::ZType;
 use binders::{builder, quantified};
 use bumpalo::Bump;
 use chains::chain;
 use lists::listed;
 use operands::{binary, unary};
 use zf_data::arena::Boxed;
-use zf_text::token::Constant;
+use zf_scan::token::Constant;
+use zf_term::operator::{Listed, Need, Operator, Unary};
+use zf_term::written::Written;
+use zf_term::ztype::ZType;
 use zf_text::tree::{Name, Term};
 
 /// A term as it is written, and what it is.

@@ -1,19 +1,20 @@
 //! The rules of types: what terms make together.
 ghost use Rattle.std.specs.Prelude.{◌≡◌, ◌↔◌, IsTrue, IfOk, MatchOption};
-ghost use Rattle.zf_text.specs.declared.token.Prefix.TheVariants as prefix;
+ghost use Rattle.zf_scan.specs.declared.token.Prefix.TheVariants as prefix;
 ghost use Rattle.zf_text.specs.declared.tree.Sign.TheVariants as sign;
-ghost use Rattle.zf_type.specs.declared.operator.Rule.TheVariants as rule;
-ghost use Rattle.zf_type.specs.declared.operator.Unary.TheVariants as unary;
+ghost use Rattle.zf_term.specs.Operators.{left_need};
+ghost use Rattle.zf_term.specs.declared.operator.Rule.TheVariants as rule;
+ghost use Rattle.zf_term.specs.declared.operator.Unary.TheVariants as unary;
+ghost use Rattle.zf_term.specs.Types.{int, type_of};
 ghost use Rattle.zf_type.specs.Rules as spec;
-ghost use Rattle.zf_type.specs.Rules.{IsMade, IsMadeOfOne, Meets, left_need, predicate, relation, set_of, sort_of};
-ghost use Rattle.zf_type.specs.Types.{int, type_of};
+ghost use Rattle.zf_type.specs.Rules.{IsMade, IsMadeOfOne, Meets, predicate, relation, set_of, sort_of};
 
-use crate::operator::{Need, Rule, Unary};
 use crate::sort::Sort;
-use crate::ztype::{ZType, pair_type, set_type};
 use bumpalo::Bump;
 use std::alloc::AllocError;
-use zf_text::token::{Constant, Prefix};
+use zf_scan::token::{Constant, Prefix};
+use zf_term::operator::{Need, Rule, Unary};
+use zf_term::ztype::{ZType, pair_type, set_type};
 use zf_text::tree::Sign;
 
 /// What two operands make by a rule, where it takes them together.
@@ -344,7 +345,7 @@ fn set_of_numbers<'a>(arena: &'a Bump) -> Result<Sort<'a>, AllocError>
     set_sort(arena, int_type())
 }
 
-#[tactic(auto, using(crate::proofs::TypesSeen::seen))]
+#[tactic(auto, using(zf_term::proofs::TypesSeen::seen))]
 fn int_type<'a>() -> ZType<'a>
     ensures { type_of result ≡ int }
 {

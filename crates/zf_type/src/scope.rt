@@ -1,19 +1,20 @@
 //! What names stand for.
 ghost use Rattle.std.specs.Prelude.{◌≡◌, ◌↔◌, IsTrue, IfOk, map};
 ghost use Rattle.std.specs.Str.{bytes_eq};
-ghost use Rattle.zf_type.specs.Definitions.{comp_of, entry_of, definition_of, globals_of};
+ghost use Rattle.zf_term.specs.FirstNamed.{first_named};
+ghost use Rattle.zf_term.specs.Definitions.{comp_of, entry_of, definition_of, globals_of};
 ghost use Rattle.zf_type.specs.Judging.{IsBound};
 ghost use Rattle.zf_type.specs.Rules.{sort_of};
 ghost use Rattle.zf_type.specs.Scopes as spec;
-ghost use Rattle.zf_type.specs.Scopes.{scope_of, variable_of, spelling, first_named, last_named, meant, found_as};
+ghost use Rattle.zf_type.specs.Scopes.{scope_of, variable_of, spelling, last_named, meant, found_as};
 
-use crate::globals::{Component, Entry, Globals};
-use crate::resolved::Reference;
 use crate::sort::Sort;
-use crate::ztype::ZType;
 use bumpalo::Bump;
 use std::alloc::AllocError;
 use zf_data::arena::{Lent, Shared};
+use zf_term::globals::{Component, Entry, Globals};
+use zf_term::resolved::Reference;
+use zf_term::ztype::ZType;
 use zf_text::tree::Name;
 
 /// A bound variable.
@@ -122,7 +123,7 @@ pub fn global_of<'a, 'b>(globals: &'b Globals<'a>, name: &[u8]) -> Option<(usize
 }
 
 /// What a global is.
-#[tactic(auto, using(crate::proofs::TypesSeen::seen))]
+#[tactic(auto, using(zf_term::proofs::TypesSeen::seen))]
 fn entry_sort<'a>(
     arena: &'a Bump,
     name: &'a [u8],
@@ -143,7 +144,7 @@ fn entry_sort<'a>(
 
 /// Whether the spellings are equal. Most that are not differ in their lengths.
 #[inline(always)]
-#[tactic(auto, using(crate::proofs::SameNames::lengths_differ))]
+#[tactic(auto, using(zf_term::proofs::SameNames::lengths_differ))]
 fn is_same(left: &[u8], right: &[u8]) -> bool
     ensures { result ≡ bytes_eq left.now right.now }
 {

@@ -1,12 +1,12 @@
 //! What a term can be.
 ghost use Rattle.std.specs.Prelude.{◌≡◌, ◌↔◌, IsTrue, IfOk, MatchOption};
+ghost use Rattle.zf_term.specs.Types.{Ty, type_of};
 ghost use Rattle.zf_type.specs.Rules.{IsSmallSort, Meets, lack, lack_of, untyped_lack, relation, set_of, sort_of, typed};
-ghost use Rattle.zf_type.specs.Types.{Ty, type_of};
 
 use crate::fault::TypeFaultKind;
-use crate::operator::Need;
-use crate::ztype::ZType;
 use std::alloc::AllocError;
+use zf_term::operator::Need;
+use zf_term::ztype::ZType;
 
 /// What a term is.
 #[derive(Drop)]

@@ -6,14 +6,14 @@ ghost use Rattle.zf_text.specs.TermReading.{Gives, read_term};
 
 use super::Grammar;
 use crate::cursor::Cursor;
-use crate::fault::TextFault;
 use crate::levels::EXPRESSION;
 use crate::names::names;
-use crate::next::{Mark, Next};
 use crate::tall::Tall;
 use crate::tree::{Link, Part, Term, VarDecl};
 use bumpalo::Bump;
 use zf_data::arena::{Boxed, Items};
+use zf_scan::fault::TextFault;
+use zf_scan::next::{Mark, Next};
 
 impl<
     'a,

@@ -1,7 +1,7 @@
 //! A text that is cut off anywhere is told to be cut off, or is read.
 use bumpalo::Bump;
 use std::test::Fail;
-use zf_text::fault::TextFaultKind;
+use zf_scan::fault::TextFaultKind;
 use zf_text::reading::read_spec;
 
 const BIRTHDAY_BOOK: &str = r"\begin{zed}

@@ -3,7 +3,7 @@ use crate::grammar::printed::printed;
 use bumpalo::Bump;
 use std::alloc::Global;
 use std::test::Fail;
-use zf_text::fault::{TextFault, TextFaultKind};
+use zf_scan::fault::{TextFault, TextFaultKind};
 use zf_text::reading::read_spec;
 
 /// Fails where the source has another tree, or none.

@@ -2,7 +2,7 @@
 use crate::repeated::repeated;
 use bumpalo::Bump;
 use std::test::Fail;
-use zf_text::fault::TextFaultKind;
+use zf_scan::fault::TextFaultKind;
 use zf_text::reading::read_spec;
 
 const BEFORE: (&str, usize) = ("\\begin{schema}{S}\na : A\n\\where\n", 1);

@@ -3,7 +3,7 @@ ghost use Rattle.std.specs.Prelude.{◌≡◌, IfOk, IfErr, OnOk, map};
 ghost use Rattle.zf_text.specs.Spelling as text;
 ghost use Rattle.zf_text.specs.Trees as tree;
 ghost use Rattle.zf_text.specs.Trees.{Tree, link_of, tree_of};
-ghost use Rattle.zf_type.specs.Filling.{links_onto, onto};
+ghost use Rattle.zf_term.specs.Filling.{links_onto, onto};
 ghost use Rattle.zf_type.specs.Judging.{IsChain, Judges};
 ghost use Rattle.zf_type.specs.Offences.{LinksOffend};
 ghost use Rattle.zf_type.specs.Refusals.{IfFault};
@@ -15,11 +15,11 @@ ghost use Rattle.zf_type.specs.Typing.{AreLinked, IsOf};
 
 use super::{judge_boxed, judge_term, predicate};
 use crate::fault::{Refusal, TypeFaultKind, refused};
-use crate::operator::{Need, Rule, relation_rule};
 use crate::rules::combine;
 use crate::scope::Scope;
 use crate::sort::Sort;
 use bumpalo::Bump;
+use zf_term::operator::{Need, Rule, relation_rule};
 use zf_text::tree::{Link, Term};
 
 /// The operand to the left of a link: what it is, and its line.

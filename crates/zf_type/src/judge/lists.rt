@@ -1,7 +1,9 @@
 //! What several terms make: tuples, displays and products.
 ghost use Rattle.std.specs.Prelude.{◌≡◌, IfOk, IfErr, OnOk, length, map};
 ghost use Rattle.zf_text.specs.Trees.{tree_of, trees};
-ghost use Rattle.zf_type.specs.Filling.{all_onto, onto};
+ghost use Rattle.zf_term.specs.Filling.{all_onto, onto};
+ghost use Rattle.zf_term.specs.Types as tys;
+ghost use Rattle.zf_term.specs.Types.{Ty, power, type_of};
 ghost use Rattle.zf_type.specs.Judging as judging;
 ghost use Rattle.zf_type.specs.Judging.{AreMembers, DiffersAt, Judges, Makes, listed_tree, member_sort};
 ghost use Rattle.zf_type.specs.Offences.{OneOffends};
@@ -10,18 +12,16 @@ ghost use Rattle.zf_type.specs.Resolving.{resolved, resolved_all};
 ghost use Rattle.zf_type.specs.Rules.{Meets, sort_of};
 ghost use Rattle.zf_type.specs.Scopes as spec;
 ghost use Rattle.zf_type.specs.Scopes.{scope_of};
-ghost use Rattle.zf_type.specs.Types as tys;
-ghost use Rattle.zf_type.specs.Types.{Ty, power, type_of};
 
 use super::{Place, judge_term, misplaced};
 use crate::fault::{Refusal, TypeFaultKind, refused};
-use crate::operator::{Listed, Need};
 use crate::scope::Scope;
 use crate::sort::Sort;
-use crate::ztype::{ZType, product_type, set_type};
 use bumpalo::Bump;
 use std::alloc::AllocError;
 use zf_data::arena::{Boxed, Items};
+use zf_term::operator::{Listed, Need};
+use zf_term::ztype::{ZType, product_type, set_type};
 use zf_text::tree::Term;
 
 /// What several terms make.
@@ -87,7 +87,7 @@ fn member_type<'a>(form: Listed, sort: Sort<'a>) -> Result<ZType<'a>, AllocError
 }
 
 /// The type of a set's members.
-#[tactic(auto, using(crate::proofs::TypesSeen::seen))]
+#[tactic(auto, using(zf_term::proofs::TypesSeen::seen))]
 fn element<'a>(ztype: &ZType<'a>) -> Result<ZType<'a>, AllocError>
     requires { (u : Ty) × (type_of ztype.now ≡ power u) }
     ensures { IfOk result (λ t. type_of ztype.now ≡ power (type_of t)) }
@@ -121,7 +121,7 @@ fn with_members<'a>(
 }
 
 /// The type of what members of these types make.
-#[tactic(auto, using(crate::proofs::TypesSeen::seen))]
+#[tactic(auto, using(zf_term::proofs::TypesSeen::seen))]
 fn made_of<'a>(
     arena: &'a Bump,
     form: Listed,
@@ -141,7 +141,7 @@ fn made_of<'a>(
 }
 
 /// The type of a set of these members.
-#[tactic(auto, using(crate::proofs::TypesSeen::seen))]
+#[tactic(auto, using(zf_term::proofs::TypesSeen::seen))]
 fn set_of<'a>(
     arena: &'a Bump,
     line: u32,

@@ -3,20 +3,21 @@ ghost use Rattle.std.specs.Prelude.{◌≡◌, ◌<◌, OnOk};
 ghost use Rattle.zf_text.specs.declared.tree.Term.{size-Term};
 ghost use Rattle.zf_text.specs.Spelling.{line_of};
 ghost use Rattle.zf_text.specs.Trees.{Tree, tree_of};
-ghost use Rattle.zf_type.specs.Filling.{onto};
+ghost use Rattle.zf_term.specs.Operators.{left_need, need_of, right_need, rule_of};
+ghost use Rattle.zf_term.specs.Filling.{onto};
 ghost use Rattle.zf_type.specs.Judging.{IsJudged, Judges, binary_tree, unary_tree};
 ghost use Rattle.zf_type.specs.Resolving.{resolved};
-ghost use Rattle.zf_type.specs.Rules.{Meets, left_need, need_of, right_need, rule_of, sort_of};
+ghost use Rattle.zf_type.specs.Rules.{Meets, sort_of};
 ghost use Rattle.zf_type.specs.Scopes as spec;
 ghost use Rattle.zf_type.specs.Scopes.{scope_of};
 
 use super::{Place, judge_term, misplaced};
 use crate::fault::{Refusal, TypeFaultKind, refused};
-use crate::operator::{Operator, Unary};
 use crate::rules::{apply, combine};
 use crate::scope::Scope;
 use crate::sort::Sort;
 use bumpalo::Bump;
+use zf_term::operator::{Operator, Unary};
 use zf_text::tree::Term;
 
 #[cycle(judging)]

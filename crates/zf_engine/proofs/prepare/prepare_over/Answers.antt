@@ -1,5 +1,5 @@
 use Rattle.std.proofs.Common.{rules, ◌∙◌, refl, inr, subst, ap, sym}
-use Rattle.zf_type.specs.Definitions.{schema_of, globals_of}
+use Rattle.zf_term.specs.Definitions.{schema_of, globals_of}
 use Rattle.zf_simple.specs.Sizes.{AreRanges, HaveSizes}
 use Rattle.zf_engine.specs.Answers.{no_schema}
 use Rattle.zf_engine.specs.Stops.{AnswersOver, IfAnswered, TellsForm, TellsInfinite, TellsMisfit}

@@ -2,7 +2,7 @@
 use Rattle.std.proofs.Common.{◌≡◌, ◌≤◌, ◌-◌, ◌+◌, vec_len}
 use Rattle.std.specs.Io.KnownBytes.{Consumes}
 use Rattle.zf_engine.specs.Counts.{device_of, failures_of}
-use Rattle.zf_text.specs.declared.scan.TheConstants.{SOURCE_MAX}
+use Rattle.zf_scan.specs.declared.scan.TheConstants.{SOURCE_MAX}
 use Rattle.zf_engine.proofs.reading.read_source.Given as goal
 
 abbrev pub invariant-loop-buffer : goal.invariant-loop-buffer

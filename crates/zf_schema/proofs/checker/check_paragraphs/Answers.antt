@@ -3,7 +3,7 @@ use Rattle.zf_text.specs.Trees.{paragraph_of}
 use Rattle.zf_schema.specs.Checking.{a_paragraph}
 use Rattle.zf_schema.specs.Runs.{Runs}
 use Rattle.zf_schema.proofs.Running.{run_none, run_step}
-use Rattle.zf_type.proofs.Walk.{at_step, at_end}
+use Rattle.zf_term.proofs.Walk.{at_step, at_end}
 use Rattle.zf_schema.proofs.checker.check_paragraphs.Goals as goal
 
 pub loop-paragraph-preserved : goal.loop-paragraph-preserved

@@ -1,7 +1,7 @@
 use Rattle.std.proofs.Common.{◌≡◌, map, drop}
 use Rattle.zf_text.specs.Trees.{paragraph_of}
-use Rattle.zf_type.specs.Definitions.{globals_of}
-use Rattle.zf_type.specs.Numbers.{next_number}
+use Rattle.zf_term.specs.Definitions.{globals_of}
+use Rattle.zf_term.specs.Numbers.{next_number}
 use Rattle.zf_schema.specs.declared.checker.Checked.{Checked}
 use Rattle.zf_schema.specs.Checking.{a_paragraph}
 use Rattle.zf_schema.specs.Runs.{Runs}

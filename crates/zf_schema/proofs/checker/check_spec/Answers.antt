@@ -1,9 +1,9 @@
-use Rattle.std.proofs.Common.{◌≡◌, [], ◌∷◌, sym, ap, ◌∙◌, map, subst}
+use Rattle.std.proofs.Common.{◌≡◌, [], sym, ap, ◌∙◌, map, subst}
 use Rattle.std.proofs.lemmas.List.{nil_from_length}
 use Rattle.std.specs.Vec.Iter.{into_iter_items}
 use Rattle.zf_text.specs.Trees.{box_of}
-use Rattle.zf_type.specs.Definitions.{globals_of}
-use Rattle.zf_type.specs.Numbers.{next_number}
+use Rattle.zf_term.specs.Definitions.{globals_of}
+use Rattle.zf_term.specs.Numbers.{next_number}
 use Rattle.zf_schema.specs.declared.checker.Checked.{Checked}
 use Rattle.zf_schema.specs.Checking.{items_in, items, IsChecked}
 use Rattle.zf_schema.specs.Runs.{Runs}

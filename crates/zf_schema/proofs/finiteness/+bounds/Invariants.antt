@@ -1,5 +1,5 @@
 use Rattle.std.proofs.Common.{◌≡◌, map, drop}
-use Rattle.zf_type.specs.Definitions.{globals_of, set_of, sets_of}
+use Rattle.zf_term.specs.Definitions.{globals_of, set_of, sets_of}
 use Rattle.zf_schema.specs.Finite.{one_bounds}
 use Rattle.zf_schema.proofs.finiteness.+bounds.Given as goal
 

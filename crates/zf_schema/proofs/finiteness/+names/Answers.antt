@@ -1,4 +1,4 @@
-use Rattle.zf_type.specs.Definitions.{globals_of}
+use Rattle.zf_term.specs.Definitions.{globals_of}
 use Rattle.zf_schema.proofs.FirstOffences.{names_step}
 use Rattle.zf_schema.proofs.finiteness.+names.Goals as goal
 

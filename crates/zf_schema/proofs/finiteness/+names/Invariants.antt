@@ -1,7 +1,7 @@
 use Rattle.std.proofs.Common.{◌≡◌, map, drop}
-use Rattle.zf_type.specs.Definitions.{globals_of, set_of, sets_of}
-use Rattle.zf_type.specs.Extents.{first}
-use Rattle.zf_type.specs.Scopes.{or_else}
+use Rattle.zf_term.specs.Definitions.{globals_of, set_of, sets_of}
+use Rattle.zf_term.specs.Extents.{first}
+use Rattle.zf_term.specs.FirstNamed.{or_else}
 use Rattle.zf_schema.specs.Finite.{all_set_lines}
 use Rattle.zf_schema.proofs.finiteness.+names.Given as goal
 

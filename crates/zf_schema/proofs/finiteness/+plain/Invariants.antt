@@ -1,7 +1,7 @@
 use Rattle.std.proofs.Common.{◌≡◌, map, drop}
-use Rattle.zf_type.specs.Definitions.{set_of, sets_of}
-use Rattle.zf_type.specs.Extents.{first}
-use Rattle.zf_type.specs.Scopes.{or_else}
+use Rattle.zf_term.specs.Definitions.{set_of, sets_of}
+use Rattle.zf_term.specs.Extents.{first}
+use Rattle.zf_term.specs.FirstNamed.{or_else}
 use Rattle.zf_schema.specs.Finite.{all_plain_lines}
 use Rattle.zf_schema.proofs.finiteness.+plain.Given as goal
 

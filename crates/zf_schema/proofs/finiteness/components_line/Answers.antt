@@ -1,4 +1,4 @@
-use Rattle.zf_type.specs.Definitions.{comp_of, globals_of}
+use Rattle.zf_term.specs.Definitions.{comp_of, globals_of}
 use Rattle.zf_schema.specs.Finite.{comp_lines}
 use Rattle.zf_schema.proofs.FirstOffences.{flat_step}
 use Rattle.zf_schema.proofs.finiteness.components_line.Goals as goal

@@ -1,7 +1,7 @@
 use Rattle.std.proofs.Common.{◌≡◌, map, drop, flat_map}
-use Rattle.zf_type.specs.Definitions.{comp_of, globals_of}
-use Rattle.zf_type.specs.Extents.{first}
-use Rattle.zf_type.specs.Scopes.{or_else}
+use Rattle.zf_term.specs.Definitions.{comp_of, globals_of}
+use Rattle.zf_term.specs.Extents.{first}
+use Rattle.zf_term.specs.FirstNamed.{or_else}
 use Rattle.zf_schema.specs.Finite.{comp_lines}
 use Rattle.zf_schema.proofs.finiteness.components_line.Given as goal
 

@@ -1,7 +1,7 @@
 use Rattle.std.proofs.Common.{◌++◌, map, flat_map, None, ap, ◌∙◌}
-use Rattle.zf_type.specs.Definitions.{comp_of, conjunct_of, globals_of, schema_of}
-use Rattle.zf_type.specs.Extents.{first, offending}
-use Rattle.zf_type.specs.Scopes.{or_else}
+use Rattle.zf_term.specs.Definitions.{comp_of, conjunct_of, globals_of, schema_of}
+use Rattle.zf_term.specs.Extents.{first, offending}
+use Rattle.zf_term.specs.FirstNamed.{or_else}
 use Rattle.zf_schema.specs.Finite.{comp_lines}
 use Rattle.zf_schema.proofs.FiniteSchemas.{is_finite}
 use Rattle.zf_schema.proofs.FirstOffences.{both_after, none_found}

@@ -1,6 +1,6 @@
-use Rattle.zf_type.specs.Definitions.{comp_of}
+use Rattle.zf_term.specs.Definitions.{comp_of}
 use Rattle.zf_schema.specs.Listing.{component_line}
-use Rattle.zf_type.proofs.PrintedTypes.{both}
+use Rattle.zf_term.proofs.PrintedTypes.{both}
 use Rattle.zf_schema.proofs.Lines.{next_line}
 use Rattle.zf_schema.proofs.listing.append_components.Goals as goal
 

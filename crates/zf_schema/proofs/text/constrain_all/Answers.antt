@@ -1,9 +1,9 @@
 use Rattle.std.proofs.Common.{ℕ, inl, inr, map, refl, rules}
 use Rattle.zf_text.specs.Trees.{tree_of}
+use Rattle.zf_term.specs.Definitions.{globals_of, schema_of}
 use Rattle.zf_type.specs.declared.fault.TypeFaultKind.{TypeFaultKind}
-use Rattle.zf_type.specs.Definitions.{globals_of, schema_of}
-use Rattle.zf_schema.specs.Expressions.{Constrains}
-use Rattle.zf_schema.specs.SchemaOffences.{OffendsPredicate, OffendsPredicates}
+use Rattle.zf_calculus.specs.Expressions.{Constrains}
+use Rattle.zf_calculus.specs.SchemaOffences.{OffendsPredicate, OffendsPredicates}
 use Rattle.zf_schema.proofs.Texts.{at_step, at_end, if_fault}
 use Rattle.zf_schema.proofs.text.constrain_all.Goals as goal
 

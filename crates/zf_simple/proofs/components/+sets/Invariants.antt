@@ -1,5 +1,5 @@
 use Rattle.std.proofs.Common.{◌≡◌, drop}
-use Rattle.zf_type.specs.Definitions.{globals_of}
+use Rattle.zf_term.specs.Definitions.{globals_of}
 use Rattle.zf_simple.specs.Showing.{each, as_set}
 use Rattle.zf_simple.specs.Unread.{onto}
 use Rattle.zf_simple.proofs.DeclaredSets.{terms_of}

@@ -1,5 +1,5 @@
 use Rattle.std.proofs.Common.{◌≡◌, map, drop}
-use Rattle.zf_type.specs.Definitions.{comp_of, globals_of}
+use Rattle.zf_term.specs.Definitions.{comp_of, globals_of}
 use Rattle.zf_simple.specs.Showing.{each, component_of}
 use Rattle.zf_simple.specs.Unread.{onto}
 use Rattle.zf_simple.proofs.components.components_of.Given as goal

@@ -1,6 +1,6 @@
 use Rattle.std.proofs.Common.{◌≡◌, get_or, length, sym, ap, ◌∙◌, subst, Err}
-use Rattle.zf_type.specs.Definitions.{globals_of}
-use Rattle.zf_type.specs.ResolvedTrees.{resolved_of}
+use Rattle.zf_term.specs.Definitions.{globals_of}
+use Rattle.zf_term.specs.ResolvedTrees.{resolved_of}
 use Rattle.zf_simple.specs.Showing.{linked, test_of}
 use Rattle.zf_simple.specs.Unread.{Gives}
 use Rattle.zf_simple.proofs.Terms.{no_chain, no_link, one_link}

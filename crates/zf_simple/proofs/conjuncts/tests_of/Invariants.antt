@@ -1,5 +1,5 @@
 use Rattle.std.proofs.Common.{◌≡◌, map, drop}
-use Rattle.zf_type.specs.Definitions.{conjunct_of, globals_of}
+use Rattle.zf_term.specs.Definitions.{conjunct_of, globals_of}
 use Rattle.zf_simple.specs.Showing.{each, test_of}
 use Rattle.zf_simple.specs.Unread.{onto}
 use Rattle.zf_simple.proofs.conjuncts.tests_of.Given as goal

@@ -1,6 +1,6 @@
 -- The names so far, and then those of what is ahead, are all.
 use Rattle.std.proofs.Common.{◌≡◌, ◌++◌, map}
-use Rattle.zf_type.specs.Definitions.{globals_of}
+use Rattle.zf_term.specs.Definitions.{globals_of}
 use Rattle.zf_simple.specs.Showing.{given_sets}
 use Rattle.zf_simple.proofs.Found.{global}
 use Rattle.zf_simple.proofs.given.given_sets.Given as goal

@@ -1,6 +1,6 @@
 use Rattle.std.proofs.Common.{sym, ap, ◌∙◌}
-use Rattle.zf_type.specs.ResolvedTrees.{resolved_of}
-use Rattle.zf_type.proofs.ResolvedSeen.{of-Name}
+use Rattle.zf_term.specs.ResolvedTrees.{resolved_of}
+use Rattle.zf_term.proofs.ResolvedSeen.{of-Name}
 use Rattle.zf_simple.specs.Showing.{reference_of}
 use Rattle.zf_simple.proofs.Terms.{no_name}
 use Rattle.zf_simple.proofs.given.reference_of.Goals as goal

@@ -1,6 +1,6 @@
 -- What is ahead decides.
 use Rattle.std.proofs.Common.{◌≡◌, map}
-use Rattle.zf_type.specs.Definitions.{globals_of}
+use Rattle.zf_term.specs.Definitions.{globals_of}
 use Rattle.zf_simple.specs.Showing.{every, allowed}
 use Rattle.zf_simple.proofs.Found.{global}
 use Rattle.zf_simple.proofs.showing.check_abbreviations.Given as goal

@@ -1,6 +1,6 @@
 use Rattle.std.proofs.Common.{◌≡◌, length, map, Err, sym, ◌∙◌, subst, rules}
 use Rattle.std.proofs.lemmas.List.{length-map}
-use Rattle.zf_type.specs.Definitions.{comp_of, conjunct_of, globals_of, schema_of}
+use Rattle.zf_term.specs.Definitions.{comp_of, conjunct_of, globals_of, schema_of}
 use Rattle.zf_simple.specs.Showing.{each, test_of}
 use Rattle.zf_simple.specs.Unread.{Gives}
 use Rattle.zf_simple.proofs.Sound.{made_of, tests_fail, are_within, are_given}

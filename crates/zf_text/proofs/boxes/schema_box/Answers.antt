@@ -1,8 +1,9 @@
 use Rattle.std.proofs.Common.{◌≡◌, true, refl, rules, arith}
 use Rattle.std.proofs.lemmas.Grind.{common_steps}
-use Rattle.zf_text.specs.declared.next.Mark.TheVariants as mark
+use Rattle.zf_scan.specs.declared.next.Mark.TheVariants as mark
 use Rattle.zf_text.specs.BoxReading.{read_schema_box}
-use Rattle.zf_text.specs.Reading.{first, is_mark}
+use Rattle.zf_scan.specs.Choosing.{is_mark}
+use Rattle.zf_text.specs.Reading.{first}
 use Rattle.zf_text.proofs.BoxDecls.{no_decls}
 use Rattle.zf_text.proofs.boxes.schema_box.Goals as goal
 

@@ -1,5 +1,5 @@
 use Rattle.std.proofs.Common.{◌∙◌, map, sym, ap}
-use Rattle.zf_text.specs.Placing.{symbol_at}
+use Rattle.zf_scan.specs.Placing.{symbol_at}
 use Rattle.zf_text.proofs.reading.parse.Goals as goal
 
 pub returns : goal.returns

@@ -2,8 +2,8 @@ use Rattle.std.proofs.Common.{◌≡◌, ◌∙◌, map, ap, Ok, subst, rules}
 use Rattle.zf_text.specs.BoxReading.{read_all}
 use Rattle.zf_text.specs.Height.{height_limit}
 use Rattle.zf_text.specs.Parsing.{Refuses}
-use Rattle.zf_text.specs.Placing.{symbol_at}
-use Rattle.zf_text.specs.Separators.{reduced}
+use Rattle.zf_scan.specs.Placing.{symbol_at}
+use Rattle.zf_scan.specs.Separators.{reduced}
 use Rattle.zf_text.specs.TermReading.{Fails}
 use Rattle.zf_text.proofs.Answers.{parsed, refused}
 use Rattle.zf_text.proofs.Reducing.{same_reduced}

@@ -1,5 +1,5 @@
 use Rattle.std.proofs.Common.{map}
-use Rattle.zf_text.specs.Placing.{token_at}
+use Rattle.zf_scan.specs.Placing.{token_at}
 use Rattle.zf_text.proofs.Answers.{reads_spec}
 use Rattle.zf_text.proofs.Reducing.{placeless}
 use Rattle.zf_text.proofs.reading.read_spec.Goals as goal

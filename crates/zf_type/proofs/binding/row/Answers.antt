@@ -1,11 +1,11 @@
 use Rattle.std.proofs.Common.{◌≡◌, List, [], ◌∷◌, length, map, drop, sym, ap, ◌∙◌, append-nil}
 use Rattle.std.proofs.lemmas.Result.{IfOk-weaker}
+use Rattle.zf_term.specs.Types.{type_of}
+use Rattle.zf_term.proofs.Walk.{pushed}
 use Rattle.zf_type.specs.Judging.{var_type}
 use Rattle.zf_type.specs.Scopes.{Scope, Var, scope_of, variable_of, within}
-use Rattle.zf_type.specs.Types.{type_of}
 use Rattle.zf_type.specs.Typing.{row_type}
 use Rattle.zf_type.proofs.Rows.{row_ahead, none_ahead, variables_within}
-use Rattle.zf_type.proofs.Walk.{pushed}
 use Rattle.zf_type.proofs.binding.row.Goals as goal
 
 pub loop-place-preserved : goal.loop-place-preserved

@@ -1,10 +1,10 @@
 use Rattle.std.proofs.Common.{rules, ◌≡◌, OnOk, ◌++◌, map, sym, ap, ◌∙◌, subst}
 use Rattle.zf_text.specs.Trees.{tree_of}
 use Rattle.zf_text.proofs.TermSeen as seen
+use Rattle.zf_term.specs.Shapes.{conjuncts}
+use Rattle.zf_term.specs.Written.{is_conjunction, written_of}
 use Rattle.zf_type.specs.Resolving.{resolved}
 use Rattle.zf_type.specs.Scopes.{scope_of}
-use Rattle.zf_type.specs.Shapes.{conjuncts}
-use Rattle.zf_type.specs.Written.{is_conjunction, written_of}
 use Rattle.zf_type.proofs.Conjunctions.{of_bracket, of_whole_bracket, of_both, both_pushed}
 use Rattle.zf_type.proofs.conjuncts.+push_conjuncts.Goals as goal
 

@@ -4,25 +4,27 @@ use Rattle.zf_text.specs.declared.tree.Name.{Name}
 use Rattle.zf_text.specs.Trees.{tree_of, trees}
 use Rattle.zf_text.specs.Trees as tree
 use Rattle.zf_text.proofs.TermSeen as seen
-use Rattle.zf_type.specs.declared.operator.Need.TheVariants as need
-use Rattle.zf_type.specs.declared.operator.Operator.TheVariants.{Function, Generic, Connective, Application, Image}
-use Rattle.zf_type.specs.Filling.{onto, all_onto, links_onto, part_onto, ranges_onto}
-use Rattle.zf_type.specs.Judging.{Judges, JudgesPart, part_tree, AreNew, AreRepeated, DeclarationsOffend, AreMembers, member_need, unary_tree, binary_tree, listed_tree}
+use Rattle.zf_term.specs.Operators.{relation_rule, left_need, right_need, rule_of, need_of}
+use Rattle.zf_term.proofs.Ahead.{decl_ahead, link_ahead}
+use Rattle.zf_term.specs.Written.{part_tree}
+use Rattle.zf_term.specs.declared.operator.Need.TheVariants as need
+use Rattle.zf_term.specs.Filling.{onto, all_onto, links_onto, part_onto, ranges_onto}
+use Rattle.zf_type.specs.Judging.{Judges, JudgesPart, AreNew, AreRepeated, DeclarationsOffend, AreMembers, member_need, unary_tree, binary_tree, listed_tree}
 use Rattle.zf_type.specs.declared.fault.TypeFaultKind.{TypeFaultKind}
 use Rattle.zf_type.specs.declared.fault.TypeFaultKind.TheVariants.{Mismatch}
 use Rattle.zf_type.specs.Offences.{Offends, OneOffends, LinksOffend, SetsOffend}
 use Rattle.zf_type.specs.Refusals.{IfFault}
 use Rattle.zf_type.specs.Resolving.{resolved, resolved_all, resolved_links, resolved_part, resolved_ranges}
 use Rattle.zf_text.specs.Spelling as text
-use Rattle.zf_type.specs.Types.{types, no_types, type_of}
+use Rattle.zf_term.specs.Types.{types, no_types, type_of}
+use Rattle.zf_term.proofs.Walk.{at_step, at_end, pushed}
 use Rattle.zf_type.specs.Typing.{IsOf, AreLinked, Declare, declared, variables}
 use Rattle.zf_type.proofs.Members.{list_offends, lengths, list_resolved}
-use Rattle.zf_type.proofs.Bound.{decl_ahead, all_apart, some_repeated}
+use Rattle.zf_type.proofs.Bound.{all_apart, some_repeated}
 use Rattle.zf_type.proofs.Builders.{builder_unbound, builder_holds}
 use Rattle.zf_type.proofs.Quantified.{no_part, part_judged, part_from, part_same, of_parts, quantified_unbound, quantified_holds, quantified_refers, builder_refers}
-use Rattle.zf_type.proofs.Chains.{compares, link_ahead, first_fails, chain_is}
-use Rattle.zf_type.proofs.Walk.{at_step, at_end, pushed}
-use Rattle.zf_type.specs.Rules.{Sort, predicate, sort_of, Meets, lack_of, relation_rule, Takes, left_need, right_need, rule_of, need_of}
+use Rattle.zf_type.proofs.Chains.{compares, first_fails, chain_is}
+use Rattle.zf_type.specs.Rules.{Sort, predicate, sort_of, Meets, lack_of, Takes}
 use Rattle.zf_type.specs.Scopes.{scope_of, variable_of, within}
 use Rattle.zf_type.proofs.Judging.{judged_of, judges_ok, judges_err, judges_bracket, if_fault, fault_of, fault_from, from_fault, from_part, on_ok, unary_operand, unary_resolved, binary_left, binary_right, binary_resolved}
 use Rattle.zf_type.proofs.judge.+judging.Goals as goal

@@ -1,6 +1,6 @@
-use Rattle.std.proofs.Common.{◌≡◌, [], refl, sym, ap, ◌∙◌, subst, Ok, Err}
+use Rattle.std.proofs.Common.{refl, ap, ◌∙◌, subst, Ok, Err}
 use Rattle.zf_text.specs.Trees.{tree_of}
-use Rattle.zf_type.specs.Filling.{filled, onto}
+use Rattle.zf_term.specs.Filling.{filled, onto}
 use Rattle.zf_type.specs.Judging.{Judges}
 use Rattle.zf_type.specs.Offences.{Offends}
 use Rattle.zf_type.specs.Resolving.{resolved}

@@ -1,8 +1,8 @@
 use Rattle.std.proofs.Common.{refl, sym, ap, ◌∙◌, true≢false}
 use Rattle.zf_text.specs.Trees.{numeral}
+use Rattle.zf_term.proofs.TypesSeen.{of-Int}
 use Rattle.zf_type.specs.Rules.{typed}
 use Rattle.zf_type.proofs.Judging.{judges_ok, judges_err}
-use Rattle.zf_type.proofs.TypesSeen.{of-Int}
 use Rattle.zf_type.proofs.judge.number.Goals as goal
 
 pub returns-then-not-meets : goal.returns-then-not-meets

@@ -1,8 +1,8 @@
 use Rattle.std.proofs.Common.{◌≡◌, None, map, arith, sym, ◌∙◌, ap, subst}
 use Rattle.std.specs.Str.{bytes_eq}
 use Rattle.std.proofs.lemmas.List.{take_all}
-use Rattle.zf_type.specs.Definitions.{comp_of}
-use Rattle.zf_type.specs.Scopes.{first_named}
+use Rattle.zf_term.specs.Definitions.{comp_of}
+use Rattle.zf_term.specs.FirstNamed.{first_named}
 use Rattle.zf_type.proofs.Named.{first_at, none_more}
 use Rattle.zf_type.proofs.scope.component_of.Goals as goal
 

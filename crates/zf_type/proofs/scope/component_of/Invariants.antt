@@ -1,6 +1,6 @@
 use Rattle.std.proofs.Common.{◌≡◌, map, take, None}
-use Rattle.zf_type.specs.Definitions.{comp_of}
-use Rattle.zf_type.specs.Scopes.{first_named}
+use Rattle.zf_term.specs.Definitions.{comp_of}
+use Rattle.zf_term.specs.FirstNamed.{first_named}
 use Rattle.zf_type.proofs.scope.component_of.Given as goal
 
 abbrev pub invariant-loop-place : goal.invariant-loop-place

@@ -3,7 +3,7 @@ use Rattle.std.specs.Map.{keys_of}
 use Rattle.std.proofs.lemmas.List.Quantifiers.{position-Some}
 use Rattle.std.proofs.lemmas.Option.{slice_get_within, get_or_from_slice_get}
 use Rattle.std.specs.Str.{bytes_eq}
-use Rattle.zf_type.proofs.Entries.{no_global}
+use Rattle.zf_term.proofs.Entries.{no_global}
 use Rattle.zf_type.proofs.Named.{entry_at, key_of}
 use Rattle.zf_type.proofs.scope.global_of.Goals as goal
 

@@ -1,14 +1,14 @@
 use Rattle.std.proofs.Common.{◌≡◌, refl, sym, ap, ◌∙◌, subst, inl, inr, true≢false, Err}
 use Rattle.std.specs.Prelude.{IfOk}
 use Rattle.zf_text.specs.Trees as tree
+use Rattle.zf_term.specs.Types.{power, type_of, IsSmall}
+use Rattle.zf_term.specs.declared.operator.Need.TheVariants as need
 use Rattle.zf_type.specs.declared.fault.Refusal.TheVariants.{Fault}
 use Rattle.zf_type.specs.declared.fault.TypeFaultKind.TheVariants.{TooLarge}
-use Rattle.zf_type.specs.declared.operator.Need.TheVariants as need
 use Rattle.zf_type.specs.Judging.{Judges, JudgesPart}
 use Rattle.zf_type.specs.Offences.{Offends, PartOffends}
-use Rattle.zf_type.specs.Rules.{IsSmall, typed}
+use Rattle.zf_type.specs.Rules.{typed}
 use Rattle.zf_type.specs.Scopes.{within}
-use Rattle.zf_type.specs.Types.{power, type_of}
 use Rattle.zf_type.specs.Typing.{row_type}
 use Rattle.zf_type.proofs.Judging.{from_memory, from_fault, if_fault, judges_ok, judges_err}
 use Rattle.zf_type.proofs.Quantified.{part_fault, part_of_judged, part_constrains}

@@ -1,15 +1,14 @@
-use Rattle.std.proofs.Common.{◌≡◌, sym, ap, ◌∙◌, subst, true≢false, Err}
+use Rattle.std.proofs.Common.{◌≡◌, sym, ◌∙◌, subst, true≢false, Err}
 use Rattle.std.proofs.Common.{map, ℕ}
 use Rattle.zf_text.specs.Trees.{tree_of, trees}
+use Rattle.zf_term.specs.declared.operator.Listed.TheVariants.{Display}
+use Rattle.zf_term.specs.Types.{types, type_of, IsSmall}
 use Rattle.zf_type.specs.declared.fault.Refusal.TheVariants.{Fault}
 use Rattle.zf_type.specs.declared.fault.TypeFaultKind.TheVariants.{TooLarge, Mismatch}
 use Rattle.zf_type.specs.declared.fault.TypeFaultKind.{TypeFaultKind}
-use Rattle.zf_type.specs.declared.operator.Listed.TheVariants.{Display}
 use Rattle.zf_type.specs.Offences.{Offends}
 use Rattle.zf_type.specs.Judging.{Judges, DiffersAt, listed_tree}
-use Rattle.zf_type.specs.Rules.{IsSmall}
-use Rattle.zf_type.specs.Types.{types, type_of}
-use Rattle.zf_type.proofs.Judging.{from_memory, judges_ok, judges_err, if_fault, from_fault}
+use Rattle.zf_type.proofs.Judging.{judges_ok, judges_err, if_fault, from_fault}
 use Rattle.zf_type.proofs.Members.{list_differs, list_is, list_large, list_line}
 use Rattle.zf_type.proofs.judge.lists.with_members.Goals as goal
 

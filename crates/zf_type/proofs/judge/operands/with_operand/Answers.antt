@@ -1,4 +1,4 @@
-use Rattle.std.proofs.Common.{refl, sym, ap, ◌∙◌, subst, true≢false, Err}
+use Rattle.std.proofs.Common.{refl, sym, ◌∙◌, subst, true≢false, Err}
 use Rattle.zf_type.specs.declared.fault.Refusal.TheVariants.{Fault}
 use Rattle.zf_type.specs.declared.fault.TypeFaultKind.TheVariants.{TooLarge}
 use Rattle.zf_type.specs.Judging.{Judges, unary_tree}

@@ -1,9 +1,9 @@
 use Rattle.std.proofs.Common.{Some, map, sym, ◌∙◌, ap}
-use Rattle.zf_type.specs.declared.resolved.Reference.TheVariants.{Component, Local, Global}
-use Rattle.zf_type.specs.Definitions.{comp_of, entry_of}
+use Rattle.zf_term.specs.declared.resolved.Reference.TheVariants.{Component, Local, Global}
+use Rattle.zf_term.specs.Definitions.{comp_of, entry_of}
+use Rattle.zf_term.specs.Types.{type_of}
 use Rattle.zf_type.specs.Rules.{typed}
 use Rattle.zf_type.specs.Scopes.{scope_of, variable_of, last_named}
-use Rattle.zf_type.specs.Types.{type_of}
 use Rattle.zf_type.proofs.Named.{means_local, means_component, means_global, means_nothing}
 use Rattle.zf_type.proofs.scope.Scope.meaning_of.Goals as goal
 

@@ -1,0 +1,19 @@
+-- Lists that are gone over from the front: what is counted, and what holds of each.
+use Rattle.std.proofs.Common.{◌≡◌, ℕ, zero, suc, ◌+◌, ◌<◌, List, [], ◌∷◌, length, map, drop, get_or, sym, ap, ◌∙◌, subst, arith}
+use Rattle.std.specs.List.{AllByRecursion, sum_by}
+use Rattle.std.proofs.lemmas.List.Sums.{sum_by-cons}
+use Rattle.zf_term.proofs.Walk.{dropped}
+
+-- what is counted of the rest is counted of its first, and of what is behind it
+pub counted_at : {X Y : Type 0} (f : Y → ℕ) (g : X → Y) (xs : List X) (i : ℕ) (x : X) → i < length xs → x ≡ get_or xs i x → sum_by f (map g (drop i xs)) ≡ f (g x) + sum_by f (map g (drop (i + 1) xs))
+counted_at f g xs i x l e = ap (λ ys. sum_by f (map g ys)) (dropped xs i x l e) ∙ sum_by-cons f (g x) (map g (drop (i + 1) xs))
+
+-- all of the rest, where its first and all behind it are
+pub all_at : {X Y : Type 0} (P : Y → Type 0) (g : X → Y) (xs : List X) (i : ℕ) (x : X) → i < length xs → x ≡ get_or xs i x → P (g x) → AllByRecursion P (map g (drop (i + 1) xs)) → AllByRecursion P (map g (drop i xs))
+all_at P g xs i x l e h r = subst (λ ys. AllByRecursion P (map g ys)) (sym (dropped xs i x l e)) (h, r)
+
+-- what holds of all holds of one
+pub one_of_all : {X Y : Type 0} (P : Y → Type 0) (g : X → Y) (xs : List X) (i : ℕ) (x : X) → i < length xs → x ≡ get_or xs i x → AllByRecursion P (map g xs) → P (g x)
+one_of_all P g [] i x l e h = absurd (omega arith)
+one_of_all P g (y ∷ ys) zero x l e h = subst (λ z. P (g z)) (sym e) h.0
+one_of_all P g (y ∷ ys) (suc i) x l e h = one_of_all P g ys i x (omega arith) e h.1

@@ -1,0 +1,48 @@
+-- The components of disjunctions.
+use Rattle.std.proofs.Common.{◌≡◌, inr, ℕ, ◌<◌, List, [], ◌∷◌, length, map, refl, sym, ap, ◌∙◌, subst, arith}
+use Rattle.std.proofs.lemmas.List.{length-map}
+use Rattle.zf_term.specs.declared.globals.Component.{Component}
+use Rattle.zf_term.specs.declared.globals.Domain.{Domain}
+use Rattle.zf_term.specs.declared.globals.Domain.TheVariants as v
+use Rattle.zf_term.specs.declared.globals.Flat.{Flat}
+use Rattle.zf_term.specs.declared.ztype.ZType.{ZType}
+use Rattle.zf_term.specs.Definitions.{Comp, Schema, DeclaredSet, sides, sets_of, set_of, comp_of, schema_of}
+use Rattle.zf_term.specs.Types.{type_of}
+use Rattle.zf_type.specs.declared.fault.TypeFaultKind.{TypeFaultKind}
+use Rattle.zf_type.specs.declared.fault.TypeFaultKind.TheVariants as kinds
+use Rattle.zf_calculus.specs.Calculus.{comp, comp_named, sets_on, with_comps, disjoined}
+use Rattle.zf_calculus.specs.Growth.{IsTooLarge, either_comp, disjoined_over}
+use Rattle.zf_calculus.specs.Expressions.{IsNext}
+use Rattle.zf_calculus.specs.Limits.{IsWithin}
+use Rattle.zf_calculus.specs.SchemaOffences.{Stops}
+use Rattle.zf_term.proofs.SetsSeen.{of-Either}
+use Rattle.zf_calculus.proofs.Merging.{none_shorter}
+use Rattle.zf_calculus.proofs.Placing.{TooMany}
+
+pub too_many : (cs ds : List Component) → 64 < length cs → TooMany (with_comps (map comp_of cs) (map comp_of ds)) kinds.TooLarge
+too_many cs ds l = (refl, λ w. omega (arith, none_shorter (map comp_of cs) (map comp_of ds), length-map cs comp_of))
+
+pub either_seen : (c : Component) (cs ds : List Comp) (name : List ℕ) (t : ZType) (domains left right : List Domain) → name ≡ c.name → t ≡ c.ztype → map set_of left ≡ sets_on (comp_named c.name cs) (type_of c.ztype) → map set_of right ≡ sets_on (comp_named c.name ds) (type_of c.ztype) → domains ≡ v.Either left right ∷ [] → comp_of (record { name = name; ztype = t; domains = domains }) ≡ either_comp cs ds (comp_of c)
+either_seen c cs ds name t domains left right e f l r h =
+    ap (λ (n : List ℕ). comp n (type_of t) (map set_of domains)) e
+    ∙ ap (λ (u : ZType). comp c.name (type_of u) (map set_of domains)) f
+    ∙ ap (λ (es : List Domain). comp c.name (type_of c.ztype) (map set_of es)) h
+    ∙ ap (λ (d : DeclaredSet). comp c.name (type_of c.ztype) (d ∷ [])) (of-Either left right)
+    ∙ ap (λ (xs : List DeclaredSet). comp c.name (type_of c.ztype) (sides (sets_of xs) (sets_of (map set_of right)) ∷ [])) l
+    ∙ ap (λ (xs : List DeclaredSet). comp c.name (type_of c.ztype) (sides (sets_of (sets_on (comp_named c.name cs) (type_of c.ztype))) (sets_of xs) ∷ [])) r
+
+pub disjunction_made : (l : ℕ) (left right flat : Flat) (all given cs ds : List Component) → schema_of flat ≡ disjoined_over (map comp_of given) l (schema_of left) (schema_of right) → given ≡ all → map comp_of all ≡ with_comps (map comp_of cs) (map comp_of ds) → cs ≡ left.components → ds ≡ right.components → schema_of flat ≡ disjoined l (schema_of left) (schema_of right)
+disjunction_made l left right flat all given cs ds made g whole e f =
+    let joined : map comp_of given ≡ with_comps (map comp_of left.components) (map comp_of right.components) =
+    ap (map comp_of) g
+    ∙ whole
+    ∙ ap (λ (xs : List Component). with_comps (map comp_of xs) (map comp_of ds)) e
+    ∙ ap (λ (xs : List Component). with_comps (map comp_of left.components) (map comp_of xs)) f
+    in
+    made ∙ ap (λ (xs : List Comp). disjoined_over xs l (schema_of left) (schema_of right)) joined
+
+pub stops_disjoining : (agree : Type 0) (a b : Schema) → a ≡ b → agree → (k : TypeFaultKind) → IsTooLarge a k → Stops agree b k
+stops_disjoining agree a b e ok k h = inr (h.0, ok, λ w. h.1 (subst IsWithin (sym e) w))
+
+pub next_disjoined : (a b c : Schema) → a ≡ b → IsNext a c → IsNext b c
+next_disjoined a b c e n = (n.0 ∙ e, subst IsWithin e n.1)

@@ -1,0 +1,46 @@
+-- That components lie in their declared sets.
+use Rattle.std.proofs.Common.{◌≡◌, ℕ, List, [], ◌∷◌, ◌++◌, length, map, sym, ap, ◌∙◌, arith}
+use Rattle.std.proofs.lemmas.List.{append-nil, map-append}
+use Rattle.zf_scan.specs.declared.token.Constant.TheVariants.{True}
+use Rattle.zf_scan.specs.declared.token.Relation.TheVariants.{Member}
+use Rattle.zf_term.specs.declared.resolved.Reference.TheVariants.{Component}
+use Rattle.zf_term.specs.declared.resolved.Resolved.{Resolved}
+use Rattle.zf_term.specs.declared.resolved.ResolvedLink.{ResolvedLink}
+use Rattle.zf_term.specs.declared.resolved.Resolved.TheVariants as v
+use Rattle.zf_term.specs.declared.globals.Domain.{Domain}
+use Rattle.zf_term.specs.declared.globals.Domain.TheVariants as domains
+use Rattle.zf_term.specs.declared.written.Written.{Written}
+use Rattle.zf_term.specs.declared.ztype.ZType.{ZType}
+use Rattle.zf_term.specs.Definitions.{DeclaredSet, set_of}
+use Rattle.zf_term.specs.ResolvedTrees.{ResolvedTree, reference, chain, links, link, no_links, resolved_of, resolved_link_of}
+use Rattle.zf_term.specs.Shapes.{line_of}
+use Rattle.zf_term.specs.Written.{written_of}
+use Rattle.zf_term.proofs.ResolvedSeen.{new_link, of-Name, of-Constant, of-Chain, of-link}
+use Rattle.zf_calculus.specs.Calculus.{membership, joined}
+use Rattle.zf_term.proofs.SetsSeen.{of-Plain, of-Carrier, of-Either}
+use Rattle.zf_calculus.specs.Growth.{is_member}
+
+pub member_seen : (l i : ℕ) (e t : Resolved) (ks : List ResolvedLink) → l ≡ line_of (resolved_of e) → t ≡ v.Name l (Component i) → ks ≡ new_link Member e ∷ [] → resolved_of (v.Chain l t ks) ≡ is_member i (resolved_of e)
+member_seen l i e t ks m g h =
+    of-Chain l t ks
+    ∙ ap (λ (u : ResolvedTree). chain l u (links (map resolved_link_of ks))) (ap resolved_of g ∙ of-Name l (Component i))
+    ∙ ap (λ (ls : List ResolvedLink). chain l (reference l (Component i)) (links (map resolved_link_of ls))) h
+    ∙ ap (λ q. chain l (reference l (Component i)) (links (q ∷ []))) (of-link Member e)
+    ∙ ap (λ (n : ℕ). chain n (reference n (Component i)) (link Member (resolved_of e) no_links)) m
+
+pub pushed : (i : ℕ) (d : Domain) (s : Written) (t : Resolved) (old new : List Resolved) → d ≡ domains.Plain s → resolved_of t ≡ is_member i (written_of s) → new ≡ old ++ t ∷ [] → map resolved_of new ≡ map resolved_of old ++ membership i (set_of d)
+pushed i d s t old new e f h =
+    ap (map resolved_of) h
+    ∙ map-append resolved_of old (t ∷ [])
+    ∙ ap (λ (u : ResolvedTree). map resolved_of old ++ u ∷ []) f
+    ∙ ap (λ (x : DeclaredSet). map resolved_of old ++ membership i x) (sym (ap set_of e ∙ of-Plain s))
+
+pub none_of_carrier : (i : ℕ) (d : Domain) (t : ZType) (old : List Resolved) → d ≡ domains.Carrier t → map resolved_of old ≡ map resolved_of old ++ membership i (set_of d)
+none_of_carrier i d t old e = sym (ap (λ (x : DeclaredSet). map resolved_of old ++ membership i x) (ap set_of e ∙ of-Carrier t) ∙ append-nil (map resolved_of old))
+
+pub none_of_sides : (i : ℕ) (d : Domain) (left right : List Domain) (old : List Resolved) → d ≡ domains.Either left right → map resolved_of old ≡ map resolved_of old ++ membership i (set_of d)
+none_of_sides i d left right old e = sym (ap (λ (x : DeclaredSet). map resolved_of old ++ membership i x) (ap set_of e ∙ of-Either left right) ∙ append-nil (map resolved_of old))
+
+pub none_joined : (l : ℕ) (ts : List Resolved) → length ts ≡ 0 → resolved_of (v.Constant l True) ≡ joined l (map resolved_of ts)
+none_joined l [] e = of-Constant l True
+none_joined l (t ∷ ts) e = absurd (omega arith)

@@ -1,0 +1,109 @@
+-- A schema that has grown is within the limits only if it was before.
+use Rattle.std.proofs.Common.{◌≡◌, ℕ, ◌+◌, ◌<◌, ◌≤◌, List, [], ◌∷◌, ◌++◌, length, arith, length-append}
+use Rattle.std.specs.List.{AllByRecursion, sum_by}
+use Rattle.std.proofs.lemmas.List.Sums.{sum_by-append, sum_by_push}
+use Rattle.zf_term.specs.Definitions.{Comp, Schema}
+use Rattle.zf_term.specs.ResolvedTrees.{ResolvedTree}
+use Rattle.zf_term.specs.SetShapes.{set_count, set_nodes}
+use Rattle.zf_term.specs.Shapes.{nodes, height}
+use Rattle.zf_calculus.specs.Calculus.{schema_of, with_comp, with_comps}
+use Rattle.zf_calculus.specs.Growth.{HasLeft, grown, constrained}
+use Rattle.zf_calculus.specs.Limits.{IsWithin, IsLow, all_nodes}
+use Rattle.zf_calculus.proofs.Merging.{counts_more, no_shorter}
+
+pub before_one : (cs : List Comp) (c : Comp) (ts : List ResolvedTree) → IsWithin (schema_of (with_comp cs c) ts) → IsWithin (schema_of cs ts)
+before_one cs c ts w =
+    let l = no_shorter cs c in
+    let s = counts_more set_count cs c in
+    let n = counts_more set_nodes cs c in
+    record {
+      comps = omega arith;
+      sets = omega arith;
+      conjuncts = w.conjuncts;
+      nodes = omega arith;
+      low = w.low;
+    }
+
+pub before_all : (cs ds : List Comp) (ts : List ResolvedTree) → IsWithin (schema_of (with_comps cs ds) ts) → IsWithin (schema_of cs ts)
+before_all cs [] ts w = w
+before_all cs (d ∷ ds) ts w = before_one cs d ts (before_all (with_comp cs d) ds ts w)
+
+first_low : (ts us : List ResolvedTree) → AllByRecursion IsLow (ts ++ us) → AllByRecursion IsLow ts
+first_low [] us h = tt
+first_low (t ∷ ts) us h = (h.0, first_low ts us h.1)
+
+pub before_conjuncts : (cs : List Comp) (ts us : List ResolvedTree) → IsWithin (schema_of cs (ts ++ us)) → IsWithin (schema_of cs ts)
+before_conjuncts cs ts us w =
+    let l = length-append ts us in
+    let n = sum_by-append nodes ts us in
+    record {
+      comps = w.comps;
+      sets = w.sets;
+      conjuncts = omega arith;
+      nodes = omega arith;
+      low = first_low ts us w.low;
+    }
+
+-- ---- what is left of the limits
+
+pub left_grown : (a : Schema) (c : Comp) (s n t m : ℕ) → HasLeft a s n → t + sum_by set_count c.sets ≡ s → m + sum_by set_nodes c.sets ≡ n → length (with_comp a.comps c) ≤ 64 → HasLeft (grown a c) t m
+left_grown a c s n t m h e f l =
+    let p = counts_more set_count a.comps c in
+    let q = counts_more set_nodes a.comps c in
+    let sets = h.sets in
+    let nodes = h.nodes in
+    record {
+      sets = omega arith;
+      nodes = omega arith;
+      within = record {
+        comps = l;
+        sets = omega arith;
+        conjuncts = h.within.conjuncts;
+        nodes = omega arith;
+        low = h.within.low;
+      };
+    }
+
+pub sets_passed : (a : Schema) (c : Comp) (s n : ℕ) → HasLeft a s n → s < sum_by set_count c.sets → IsWithin (grown a c) → ⊥
+sets_passed a c s n h e w = omega (arith, counts_more set_count a.comps c, h.sets, w.sets)
+
+pub nodes_passed : (a : Schema) (c : Comp) (s n : ℕ) → HasLeft a s n → n < sum_by set_nodes c.sets → IsWithin (grown a c) → ⊥
+nodes_passed a c s n h e w = omega (arith, counts_more set_nodes a.comps c, h.nodes, w.nodes)
+
+pub all_low : (ts us : List ResolvedTree) → AllByRecursion IsLow ts → AllByRecursion IsLow us → AllByRecursion IsLow (ts ++ us)
+all_low [] us h g = g
+all_low (t ∷ ts) us h g = (h.0, all_low ts us h.1 g)
+
+last_low : (ts : List ResolvedTree) (t : ResolvedTree) → AllByRecursion IsLow (ts ++ t ∷ []) → IsLow t
+last_low [] t h = h.0
+last_low (u ∷ ts) t h = last_low ts t h.1
+
+more_nodes : (a : Schema) (t : ResolvedTree) → all_nodes (constrained a (t ∷ [])) ≡ all_nodes a + nodes t
+more_nodes a t = omega (arith, sum_by_push nodes a.conjuncts t)
+
+pub left_taken : (a : Schema) (t : ResolvedTree) (s n m : ℕ) → HasLeft a s n → m + nodes t ≡ n → length a.conjuncts < 4096 → height t ≤ 256 → HasLeft (constrained a (t ∷ [])) s m
+left_taken a t s n m h e l low =
+    let p = more_nodes a t in
+    let q = length-append a.conjuncts (t ∷ []) in
+    let sets = h.sets in
+    let nodes = h.nodes in
+    record {
+      sets = h.sets;
+      nodes = omega arith;
+      within = record {
+        comps = h.within.comps;
+        sets = h.within.sets;
+        conjuncts = omega arith;
+        nodes = omega arith;
+        low = all_low a.conjuncts (t ∷ []) h.within.low (low, tt);
+      };
+    }
+
+pub term_passed : (a : Schema) (t : ResolvedTree) (s n : ℕ) → HasLeft a s n → n < nodes t → IsWithin (constrained a (t ∷ [])) → ⊥
+term_passed a t s n h e w = omega (arith, more_nodes a t, h.nodes, w.nodes)
+
+pub conjuncts_passed : (a : Schema) (t : ResolvedTree) → 4096 ≤ length a.conjuncts → IsWithin (constrained a (t ∷ [])) → ⊥
+conjuncts_passed a t e w = omega (arith, length-append a.conjuncts (t ∷ []), w.conjuncts)
+
+pub height_passed : (a : Schema) (t : ResolvedTree) → (height t ≤ 256 → ⊥) → IsWithin (constrained a (t ∷ [])) → ⊥
+height_passed a t e w = e (last_low a.conjuncts t w.low)

@@ -1,0 +1,60 @@
+-- The list of new places says where each component is.
+use Rattle.std.proofs.Common.{◌≡◌, ℕ, ◌+◌, ◌<◌, ◌≤◌, List, [], ◌∷◌, ◌++◌, length, map, get_or, Some, refl, sym, ap, ◌∙◌, subst, arith}
+use Rattle.std.proofs.lemmas.List.{get_or-map, length-map, map-append}
+use borrow.Author.Count.{below_more}
+use Rattle.std.proofs.lemmas.Option.{slice_get-get_or, slice_get_past}
+use Rattle.zf_term.specs.declared.conjunct.Conjunct.{Conjunct}
+use Rattle.zf_term.specs.declared.globals.Component.{Component}
+use Rattle.zf_term.specs.Definitions.{comp_of, conjunct_of}
+use Rattle.zf_term.specs.ResolvedTrees.{ResolvedTree}
+use Rattle.zf_term.specs.Shapes.{moved, place_in}
+use Rattle.zf_term.proofs.Walk.{pushed}
+use Rattle.zf_term.proofs.Places.{AreFirst, one_more, in_full, unmoved}
+use Rattle.zf_calculus.specs.Calculus.{comp_named, place_or, place_of, new_place}
+
+-- the places of the first components are known
+abbrev pub ArePlaces : List ℕ → List Component → List Component → Type 0
+ArePlaces places from among = AreFirst places (new_place (map comp_of from) (map comp_of among))
+
+at_place : (from among : List Component) (i : ℕ) (c : Component) → i < length from → c ≡ get_or from i c → new_place (map comp_of from) (map comp_of among) i ≡ place_or (comp_named c.name (map comp_of among)) i
+at_place from among i c l e =
+    ap (λ o. place_of o (map comp_of among) i) (slice_get-get_or (map comp_of from) i (comp_of c) (omega (arith, length-map from comp_of)) ∙ ap Some (get_or-map comp_of from i c (comp_of c) l ∙ ap comp_of (sym e)))
+
+pub one_place_more : (places : List ℕ) (from among : List Component) (i n : ℕ) (c : Component) → length places ≡ i → i < length from → c ≡ get_or from i c → n ≡ place_or (comp_named c.name (map comp_of among)) i → ArePlaces places from among → ArePlaces (places ++ n ∷ []) from among
+one_place_more places from among i n c m l e h = one_more places (new_place (map comp_of from) (map comp_of among)) n i m (h ∙ sym (at_place from among i c l e))
+
+pub all_places : (places : List ℕ) (from among : List Component) → length places ≡ length from → ArePlaces places from among → place_in places ≡ new_place (map comp_of from) (map comp_of among)
+all_places places from among l =
+    in_full places (new_place (map comp_of from) (map comp_of among)) (λ k past. ap (λ o. place_of o (map comp_of among) k) (slice_get_past (map comp_of from) k (omega (arith, length-map from comp_of))))
+
+-- ---- conjuncts
+
+abbrev pub KeepsAll : List ℕ → ℕ → Type 0
+KeepsAll places i = (k : ℕ) → k < i → get_or places k k ≡ k
+
+pub one_more_kept : (places : List ℕ) (i n : ℕ) → n ≡ get_or places i n → n ≡ i → KeepsAll places i → KeepsAll places (i + 1)
+one_more_kept places i n at own before = below_more (λ (k : ℕ). get_or places k k ≡ k) i before (subst (λ (m : ℕ). get_or places i m ≡ m) own (sym at))
+
+pub none_moved : (places : List ℕ) (i : ℕ) → length places ≤ i → KeepsAll places i → (t : ResolvedTree) → moved (place_in places) t ≡ t
+none_moved places i past all t = ap (λ (f : ℕ → ℕ). moved f t) (in_full places (λ k. k) (λ k far. refl) (λ k l. all k (omega arith))) ∙ unmoved t
+
+pub all_same : (f : ResolvedTree → ResolvedTree) (ts : List ResolvedTree) → ((t : ResolvedTree) → f t ≡ t) → map f ts ≡ ts
+all_same f [] same = refl
+all_same f (t ∷ ts) same = let here = same t in let rest = all_same f ts same in (cc)
+
+-- further conjuncts that keep their places
+pub taken_as_they_are : (f : ℕ → ℕ) (old new further : List Conjunct) → ((t : ResolvedTree) → moved f t ≡ t) → new ≡ old ++ further → map conjunct_of new ≡ map conjunct_of old ++ map (moved f) (map conjunct_of further)
+taken_as_they_are f old new further same made =
+    ap (map conjunct_of) made ∙ map-append conjunct_of old further ∙ ap (λ (ts : List ResolvedTree). map conjunct_of old ++ ts) (sym (all_same (moved f) (map conjunct_of further) same))
+
+-- one conjunct further
+pub taken_step :
+    (f : ℕ → ℕ) (xs ys ahead rest : List Conjunct) (x y : Conjunct) (whole : List ResolvedTree) → ahead ≡ x ∷ rest → conjunct_of y ≡ moved f (conjunct_of x) → ys ≡ xs ++ y ∷ []
+    → map conjunct_of xs ++ map (moved f) (map conjunct_of ahead) ≡ whole
+    → map conjunct_of ys ++ map (moved f) (map conjunct_of rest) ≡ whole
+taken_step f xs ys ahead rest x y whole step is push before =
+    let behind = map (moved f) (map conjunct_of rest) in
+    pushed conjunct_of xs ys y behind push
+    ∙ ap (λ (t : ResolvedTree). map conjunct_of xs ++ t ∷ behind) is
+    ∙ ap (λ (zs : List Conjunct). map conjunct_of xs ++ map (moved f) (map conjunct_of zs)) (sym step)
+    ∙ before

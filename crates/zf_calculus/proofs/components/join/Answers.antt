@@ -1,0 +1,46 @@
+use Rattle.std.proofs.Common.{◌≡◌, ◌≤◌, length, map, arith, rules}
+use Rattle.zf_term.specs.Definitions.{comp_of}
+use Rattle.zf_type.specs.declared.fault.TypeFaultKind.{TypeFaultKind}
+use Rattle.zf_type.specs.declared.fault.TypeFaultKind.TheVariants as kinds
+use Rattle.zf_calculus.specs.Calculus.{with_comp}
+use Rattle.zf_calculus.proofs.Merging.{named_below, joined_known, joined_new, length_known, length_new}
+use Rattle.zf_calculus.proofs.Placing.{placed_known, placed_new}
+use Rattle.zf_calculus.proofs.Stopping.{weaker}
+use Rattle.zf_calculus.proofs.components.join.Goals as goal
+
+pub gain-requires : goal.gain-requires
+gain-requires c = named_below c.as_slice-2.result.now c.as_slice.result.now c.args.components.now c.in-Some.place c.as_slice.ensures c.in-Some.ensures
+
+pub returns-in_ok-gain-in-Some-clause-ok : goal.returns-in_ok-gain-in-Some-clause-ok
+returns-in_ok-gain-in-Some-clause-ok c =
+    joined_known c.args.component c.as_slice-2.result.now c.as_slice.result.now c.args.components.now c.gain.new.components c.in-Some.place c.as_slice-2.ensures c.as_slice.ensures c.in-Some.ensures c.in_ok-gain-in-Some.ensures
+
+pub returns-in_ok-gain-in-Some-clause-room : goal.returns-in_ok-gain-in-Some-clause-room
+returns-in_ok-gain-in-Some-clause-room c =
+    let l = length_known c.args.component c.as_slice-2.result.now c.as_slice.result.now c.args.components.now c.in-Some.place c.as_slice-2.ensures c.as_slice.ensures c.in-Some.ensures in
+    omega (arith, c.requires)
+
+pub returns-in_ok-gain-in-Some-clause-place : goal.returns-in_ok-gain-in-Some-clause-place
+returns-in_ok-gain-in-Some-clause-place c =
+    placed_known c.args.component c.as_slice-2.result.now c.as_slice.result.now c.args.components.now c.in-Some.place c.as_slice-2.ensures c.as_slice.ensures c.in-Some.ensures
+
+pub returns-in_ok-add_new-in-None-clause-ok : goal.returns-in_ok-add_new-in-None-clause-ok
+returns-in_ok-add_new-in-None-clause-ok c =
+    joined_new c.args.component c.as_slice-2.result.now c.as_slice.result.now c.args.components.now c.add_new.new.components c.as_slice-2.ensures c.as_slice.ensures c.in-None.ensures c.in_ok-add_new-in-None.ensures.ok
+
+pub returns-in_ok-add_new-in-None-clause-place : goal.returns-in_ok-add_new-in-None-clause-place
+returns-in_ok-add_new-in-None-clause-place c =
+    placed_new c.args.component c.as_slice-2.result.now c.as_slice.result.now c.args.components.now c.len-place.result c.as_slice-2.ensures c.as_slice.ensures c.in-None.ensures c.len-place.ensures
+
+pub returns-in_ok-add_new-in-None-clause-room : goal.returns-in_ok-add_new-in-None-clause-room
+returns-in_ok-add_new-in-None-clause-room c =
+    let l = length_new c.args.component c.as_slice-2.result.now c.as_slice.result.now c.args.components.now c.as_slice-2.ensures c.as_slice.ensures c.in-None.ensures in
+    omega (arith, c.in_ok-add_new-in-None.ensures.room)
+
+pub returns-in_err-add_new-in-None-clause-err : goal.returns-in_err-add_new-in-None-clause-err
+returns-in_err-add_new-in-None-clause-err c =
+    let l = length_new c.args.component c.as_slice-2.result.now c.as_slice.result.now c.args.components.now c.as_slice-2.ensures c.as_slice.ensures c.in-None.ensures in
+    let step : (k : TypeFaultKind) → (k ≡ kinds.TooLarge) × (64 ≤ length c.args.components.now) → (k ≡ kinds.TooLarge) × (length (with_comp (map comp_of c.args.components.now) (comp_of c.args.component)) ≤ 64 → ⊥) =
+    λ k h. (h.0, λ w. omega (arith, h.1)) in
+    let fact = weaker _ _ _ step c.in_err-add_new-in-None.ensures.err in
+    search rules

@@ -1,0 +1,7 @@
+use Rattle.std.proofs.Common.{◌≡◌, map, take}
+use Rattle.zf_term.specs.Definitions.{comp_of}
+use Rattle.zf_calculus.specs.Growth.{either_comp}
+use Rattle.zf_calculus.proofs.disjunction.either_all.Given as goal
+
+abbrev pub invariant-loop-component : goal.invariant-loop-component
+invariant-loop-component l = map comp_of l.made ≡ map (either_comp (map comp_of l.left) (map comp_of l.right)) (map comp_of (take l.component-index l.components))

@@ -1,0 +1,11 @@
+use Rattle.std.proofs.Common.{refl, subst, List, map}
+use Rattle.zf_term.specs.declared.globals.Component.{Component}
+use Rattle.zf_term.specs.Definitions.{comp_of, schema_of}
+use Rattle.zf_calculus.specs.Calculus.{AreOnce}
+use Rattle.zf_calculus.proofs.Taken.{taken_whole}
+use Rattle.zf_calculus.proofs.growing.Growing.becomes.Goals as goal
+
+pub returns : goal.returns
+returns c apart =
+    let once = subst (λ (cs : List Component). AreOnce (map comp_of cs)) c.as_slice.ensures (c.are_apart.ensures apart) in
+    taken_whole (schema_of c.args.self.now.flat) (schema_of c.args.other.now.flat) (c.if-not-is_nothing.ensures refl) once

@@ -1,0 +1,8 @@
+use Rattle.std.proofs.Common.{◌≡◌, ◌+◌, map, drop}
+use Rattle.std.specs.List.{sum_by}
+use Rattle.zf_term.specs.Definitions.{conjunct_of}
+use Rattle.zf_term.specs.Shapes.{nodes}
+use Rattle.zf_calculus.proofs.room.after_conjuncts.Given as goal
+
+abbrev pub invariant-loop-conjunct : goal.invariant-loop-conjunct
+invariant-loop-conjunct l = l.left + sum_by nodes (map conjunct_of l.conjuncts) ≡ l.room + sum_by nodes (map conjunct_of (drop l.conjunct-index l.conjuncts))

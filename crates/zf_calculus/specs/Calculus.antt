@@ -1,0 +1,155 @@
+-- The schema calculus: what schemas are made of others by inclusion, decoration, `\Delta`, `\Xi`, conjunction and disjunction.
+use Rattle.std.specs.Prelude.{◌≡◌, ℕ, ◌+◌, List, [], ◌∷◌, ◌++◌, map, fold, flat_map, Option, Some, None, slice_get, if◌then◌else◌}
+use Rattle.std.specs.List.{AllByRecursion}
+use Rattle.std.specs.Str.{bytes_eq}
+use Rattle.zf_scan.specs.declared.token.Connective.TheVariants.{And, Or}
+use Rattle.zf_scan.specs.declared.token.Constant.TheVariants.{True}
+use Rattle.zf_scan.specs.declared.token.Relation.TheVariants.{Equal, Member}
+use Rattle.zf_text.specs.declared.tree.RefMark.{RefMark}
+use Rattle.zf_text.specs.declared.tree.RefMark.TheVariants.{Plain, Delta, Xi}
+use Rattle.zf_term.specs.declared.operator.Operator.TheVariants.{Connective}
+use Rattle.zf_term.specs.declared.resolved.Reference.TheVariants.{Component}
+use Rattle.zf_term.specs.Definitions.{Comp, Schema, DeclaredSet, plain, carrier, sides, sets_of}
+use Rattle.zf_term.specs.ResolvedTrees.{ResolvedTree, reference, constant, binary, chain, no_links, link}
+use Rattle.zf_term.specs.FirstNamed.{first_named}
+use Rattle.zf_term.specs.Shapes.{line_of, moved}
+use Rattle.zf_term.specs.Types.{Ty}
+
+abbrev pub comp : List ℕ → Ty → List DeclaredSet → Comp
+comp name type sets = record { name = name; type = type; sets = sets }
+
+abbrev pub schema_of : List Comp → List ResolvedTree → Schema
+schema_of comps conjuncts = record { comps = comps; conjuncts = conjuncts }
+
+-- the schema of no declarations
+abbrev pub nothing : Schema
+nothing = schema_of [] []
+
+abbrev pub comp_named : List ℕ → List Comp → Option (ℕ × Comp)
+comp_named = first_named (λ c. c.name)
+
+-- no two have one name
+abbrev pub EachOnce : {A : Type 0} → (A → List ℕ) → List A → Type 0
+EachOnce name [] = Unit {0}
+EachOnce name (a ∷ rest) = (first_named name (name a) rest ≡ None) × EachOnce name rest
+
+abbrev pub AreOnce : List Comp → Type 0
+AreOnce = EachOnce (λ c. c.name)
+
+-- ---- components of one name
+
+-- the component has the type of the one that has its name, if one has
+abbrev pub HasTypeOf : Option (ℕ × Comp) → Comp → Type 0
+HasTypeOf None c = Unit {0}
+HasTypeOf (Some p) c = p.1.type ≡ c.type
+
+abbrev pub Agrees : List Comp → Comp → Type 0
+Agrees cs c = HasTypeOf (comp_named c.name cs) c
+
+-- no component gets two types
+abbrev pub Agree : List Comp → List Comp → Type 0
+Agree cs ds = AllByRecursion (Agrees cs) ds
+
+-- one more component: one that is there already keeps its first place and gains the declared sets, a new one goes last
+abbrev pub with_comp : List Comp → Comp → List Comp
+with_comp [] c = c ∷ []
+with_comp (d ∷ ds) c = if bytes_eq d.name c.name then comp d.name d.type (d.sets ++ c.sets) ∷ ds else d ∷ with_comp ds c
+
+abbrev pub with_comps : List Comp → List Comp → List Comp
+with_comps = fold with_comp
+
+-- ---- conjunction and inclusion
+
+abbrev pub place_or : Option (ℕ × Comp) → ℕ → ℕ
+place_or None i = i
+place_or (Some p) i = p.0
+
+abbrev pub place_of : Option Comp → List Comp → ℕ → ℕ
+place_of None cs i = i
+place_of (Some c) cs i = place_or (comp_named c.name cs) i
+
+-- where the component that has this place among ds is among cs
+abbrev pub new_place : List Comp → List Comp → ℕ → ℕ
+new_place ds cs i = place_of (slice_get ds i) cs i
+
+-- the conjuncts of a schema of components ds, over the components cs
+abbrev pub carried : List Comp → List Comp → List ResolvedTree → List ResolvedTree
+carried ds cs ts = map (moved (new_place ds cs)) ts
+
+-- A's components, then those of B that are new; the declared sets and conjuncts of A, then those of B
+abbrev pub conjoined : Schema → Schema → Schema
+conjoined a b = schema_of (with_comps a.comps b.comps) (a.conjuncts ++ carried b.comps (with_comps a.comps b.comps) b.conjuncts)
+
+-- ---- decoration, `\Delta` and `\Xi`
+
+-- strokes are appended to the name of each component, and to nothing else
+abbrev pub decorated : List ℕ → Schema → Schema
+decorated strokes a = schema_of (map (λ c. comp (c.name ++ strokes) c.type c.sets) a.comps) a.conjuncts
+
+-- the stroke of a state after an operation
+abbrev pub prime : List ℕ
+prime = 39 ∷ []
+
+-- `S \land S'`
+abbrev pub delta : Schema → Schema
+delta a = conjoined a (decorated prime a)
+
+-- `x = x'`, for the component at a place
+abbrev pub unchanged : (line : ℕ) → List Comp → List Comp → ℕ → ResolvedTree
+unchanged l cs all i = chain l (reference l (Component i)) (link Equal (reference l (Component (new_place cs all i))) no_links)
+
+-- for each component from that place on
+abbrev pub all_unchanged : (line : ℕ) → List Comp → List Comp → ℕ → List Comp → List ResolvedTree
+all_unchanged l primed all i [] = []
+all_unchanged l primed all i (c ∷ cs) = unchanged l primed all i ∷ all_unchanged l primed all (i + 1) cs
+
+-- `\Delta S`, where no component changes
+abbrev pub xi : (line : ℕ) → Schema → Schema
+xi l a = schema_of (delta a).comps ((delta a).conjuncts ++ all_unchanged l (decorated prime a).comps (delta a).comps 0 a.comps)
+
+abbrev pub marked : RefMark → (line : ℕ) → Schema → Schema
+marked Plain l a = a
+marked Delta l a = delta a
+marked Xi l a = xi l a
+
+-- the components of S and of S' agree, where both are taken
+abbrev pub MarkAgrees : RefMark → Schema → Type 0
+MarkAgrees Plain a = Unit {0}
+MarkAgrees Delta a = Agree a.comps (decorated prime a).comps
+MarkAgrees Xi a = Agree a.comps (decorated prime a).comps
+
+-- ---- disjunction
+
+-- the declared sets of a component on a side; all values of its type where the side lacks it
+abbrev pub sets_on : Option (ℕ × Comp) → Ty → List DeclaredSet
+sets_on None t = carrier t ∷ []
+sets_on (Some p) t = p.1.sets
+
+abbrev pub either_comps : List Comp → List Comp → List Comp
+either_comps cs ds =
+    map (λ c. comp c.name c.type (sides (sets_of (sets_on (comp_named c.name cs) c.type)) (sets_of (sets_on (comp_named c.name ds) c.type)) ∷ []))
+    (with_comps cs ds)
+
+-- `x \in E`, of a declared set that a declaration names; other declared sets give no constraint
+abbrev pub membership : (place : ℕ) → DeclaredSet → List ResolvedTree
+membership i (plain e) = chain (line_of e) (reference (line_of e) (Component i)) (link Member e no_links) ∷ []
+membership i (carrier t) = []
+membership i (sides a b) = []
+
+abbrev pub memberships : (place : ℕ) → List Comp → List ResolvedTree
+memberships i [] = []
+memberships i (c ∷ cs) = flat_map (membership i) c.sets ++ memberships (i + 1) cs
+
+-- what a schema says of its components: that they lie in their declared sets, and its conjuncts
+abbrev pub constraints : Schema → List ResolvedTree
+constraints a = memberships 0 a.comps ++ a.conjuncts
+
+-- joined to the left by `\land`
+abbrev pub joined : (line : ℕ) → List ResolvedTree → ResolvedTree
+joined l [] = constant l True
+joined l (t ∷ ts) = fold (λ u v. binary (line_of u) (Connective And) u v) t ts
+
+abbrev pub disjoined : (line : ℕ) → Schema → Schema → Schema
+disjoined l a b =
+    schema_of (either_comps a.comps b.comps)
+    (binary l (Connective Or) (joined l (constraints a)) (joined l (carried b.comps (with_comps a.comps b.comps) (constraints b))) ∷ [])

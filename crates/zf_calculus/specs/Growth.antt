@@ -1,0 +1,151 @@
+-- A schema that grows within the limits, and what stops it.
+use Rattle.std.specs.Prelude.{◌≡◌, ◌⊎◌, ℕ, ◌+◌, ◌≤◌, ◌++◌, List, [], ◌∷◌, fold, length, map, Option, Some, None}
+use Rattle.std.specs.List.{sum_by}
+use Rattle.zf_scan.specs.declared.token.Relation.TheVariants.{Equal, Member}
+use Rattle.zf_scan.specs.declared.token.Connective.TheVariants.{And, Or}
+use Rattle.zf_term.specs.FirstNamed.{first_named}
+use Rattle.zf_term.specs.declared.operator.Operator.TheVariants.{Connective}
+use Rattle.zf_term.specs.declared.globals.Component.{Component}
+use Rattle.zf_term.specs.declared.globals.Domain.{Domain}
+use Rattle.zf_term.specs.declared.resolved.Reference.TheVariants as place
+use Rattle.zf_term.specs.Definitions.{Comp, Schema, DeclaredSet, sides, sets_of, Defined, schema, schema_of}
+use Rattle.zf_term.specs.ResolvedTrees.{ResolvedTree, reference, binary, chain, no_links, link}
+use Rattle.zf_term.specs.Shapes.{line_of}
+use Rattle.zf_type.specs.declared.fault.TypeFaultKind.{TypeFaultKind}
+use Rattle.zf_type.specs.declared.fault.TypeFaultKind.TheVariants.{ComponentClash, NotDeclared, NotASchema}
+use Rattle.zf_type.specs.declared.fault.TypeFaultKind.TheVariants as kind
+use Rattle.zf_type.specs.declared.fault.Refusal.{Refusal}
+use Rattle.zf_type.specs.declared.fault.Refusal.TheVariants.{Fault}
+use Rattle.zf_type.specs.declared.fault.Refusal.TheVariants as refusal
+use Rattle.zf_calculus.specs.declared.growing.Growing.{Growing}
+use Rattle.zf_calculus.specs.declared.stop.Stop.{Stop}
+use Rattle.zf_calculus.specs.declared.stop.Stop.TheVariants.{Clash, TooLarge, OutOfMemory}
+use Rattle.zf_calculus.specs.Calculus as calculus
+use Rattle.zf_calculus.specs.Calculus.{Agree, Agrees, with_comp, with_comps}
+use Rattle.zf_text.specs.declared.tree.Name.{Name}
+use Rattle.zf_term.specs.Types.{Ty}
+use Rattle.zf_type.specs.Scopes.{Scope, spelling}
+use Rattle.zf_calculus.specs.SchemaOffences.{IsNoSchema, Stops}
+use Rattle.zf_calculus.specs.Limits.{declared_sets, all_nodes, IsWithin}
+
+-- a schema within the limits, with what is left of two of them
+pub record HasLeft (a : Schema) (sets_left nodes_left : ℕ) : Type 0 where
+  pub sets : sets_left + declared_sets a ≡ 4096
+  pub nodes : nodes_left + all_nodes a ≡ 65536
+  pub within : IsWithin a
+
+abbrev pub IsGrowing : Growing → Type 0
+IsGrowing g = HasLeft (schema_of g.flat) g.sets_left g.nodes_left
+
+-- what is left of two of them beside another schema, once its components are joined
+abbrev pub HasLeftBeside : Schema → Schema → ℕ × ℕ → Type 0
+HasLeftBeside a b left = length (with_comps a.comps b.comps) ≤ 64 → HasLeft (calculus.conjoined a b) left.0 left.1
+
+-- the place of the first component that has the name
+abbrev pub place_found : Option (ℕ × Comp) → Option ℕ
+place_found None = None
+place_found (Some p) = Some p.0
+
+abbrev pub place_named : List ℕ → List Comp → Option ℕ
+place_named x cs = place_found (calculus.comp_named x cs)
+
+-- the components are at these places
+abbrev pub AreAt : List Comp → List ℕ → List Comp → Type 0
+AreAt all [] [] = Unit {0}
+AreAt all [] (c ∷ cs) = ⊥
+AreAt all (p ∷ ps) [] = ⊥
+AreAt all (p ∷ ps) (c ∷ cs) = (place_named c.name all ≡ Some p) × AreAt all ps cs
+
+-- the fact holds of the kind of fault, unless memory ran out
+abbrev pub IfStopped : Stop → (TypeFaultKind → Type 0) → Type 0
+IfStopped Clash P = P ComponentClash
+IfStopped TooLarge P = P kind.TooLarge
+IfStopped OutOfMemory P = Unit {0}
+
+-- a component with further declared sets
+abbrev pub enriched : Component → List Domain → Component
+enriched c domains = record { name = c.name; ztype = c.ztype; domains = c.domains ++ domains }
+
+-- the next schema passes a limit
+abbrev pub IsTooLarge : Schema → TypeFaultKind → Type 0
+IsTooLarge next k = (k ≡ kind.TooLarge) × (IsWithin next → ⊥)
+
+-- with one more component, whatever type one of its name has
+abbrev pub grown : Schema → Comp → Schema
+grown a c = calculus.schema_of (with_comp a.comps c) a.conjuncts
+
+-- with further conjuncts
+abbrev pub constrained : Schema → List ResolvedTree → Schema
+constrained a ts = calculus.schema_of a.comps (a.conjuncts ++ ts)
+
+-- what is counted of the declared sets of all components
+abbrev pub counted : (DeclaredSet → ℕ) → List Comp → ℕ
+counted f cs = sum_by (λ c. sum_by f c.sets) cs
+
+-- two components are equal
+abbrev pub equality : (line left right : ℕ) → ResolvedTree
+equality l i p = chain l (reference l (place.Component i)) (link Equal (reference l (place.Component p)) no_links)
+
+-- each component, from that place on, is equal to the one at the place in the list
+abbrev pub equalities : (line from : ℕ) → List ℕ → List ResolvedTree
+equalities l i [] = []
+equalities l i (p ∷ ps) = equality l i p ∷ equalities l (i + 1) ps
+
+-- the stop as a refusal at the line
+abbrev pub refusal_of : Stop → (line : ℕ) → Refusal
+refusal_of Clash l = Fault (record { kind = ComponentClash; line = l })
+refusal_of TooLarge l = Fault (record { kind = kind.TooLarge; line = l })
+refusal_of OutOfMemory l = refusal.OutOfMemory
+
+-- the global of the name is this schema
+abbrev pub IsNamed : List Defined → List ℕ → Schema → Type 0
+IsNamed g x a = (i : ℕ) × (first_named (λ d. d.name) x g ≡ Some (i, record { name = x; definition = schema a }))
+
+-- no global of the name is a schema
+abbrev pub LacksSchema : List Defined → List ℕ → TypeFaultKind → Type 0
+LacksSchema g x k =
+    ((k ≡ NotDeclared) × (first_named (λ d. d.name) x g ≡ None))
+    ⊎ ((k ≡ NotASchema) × (i : ℕ) × (d : Defined) × (first_named (λ e. e.name) x g ≡ Some (i, d)) × IsNoSchema d.definition)
+
+-- ---- disjunctions
+
+-- a component of a disjunction, with its declared sets on either side
+abbrev pub either_comp : List Comp → List Comp → Comp → Comp
+either_comp cs ds c = calculus.comp c.name c.type (sides (sets_of (calculus.sets_on (calculus.comp_named c.name cs) c.type)) (sets_of (calculus.sets_on (calculus.comp_named c.name ds) c.type)) ∷ [])
+
+-- the component is a member of the set
+abbrev pub is_member : (at : ℕ) → ResolvedTree → ResolvedTree
+is_member i e = chain (line_of e) (reference (line_of e) (place.Component i)) (link Member e no_links)
+
+abbrev pub both_hold : ResolvedTree → ResolvedTree → ResolvedTree
+both_hold u v = binary (line_of u) (Connective And) u v
+
+abbrev pub all_joined : ResolvedTree → List ResolvedTree → ResolvedTree
+all_joined = fold both_hold
+
+abbrev pub one_holds : (line : ℕ) → List ResolvedTree → List ResolvedTree → ResolvedTree
+one_holds l ts us = binary l (Connective Or) (calculus.joined l ts) (calculus.joined l us)
+
+-- the disjunction, over these components
+abbrev pub disjoined_over : List Comp → (line : ℕ) → Schema → Schema → Schema
+disjoined_over all l a b =
+    calculus.schema_of (map (either_comp a.comps b.comps) all)
+    (one_holds l (calculus.constraints a) (calculus.carried b.comps all (calculus.constraints b)) ∷ [])
+
+-- ---- texts and schema expressions
+
+-- the globals and these components are in scope
+abbrev pub over : List Defined → List Comp → Scope
+over g cs = record { globals = g; comps = cs; locals = [] }
+
+-- the name can't be declared to be in the set
+abbrev pub CantAdd : Schema → Name → Ty → DeclaredSet → TypeFaultKind → ℕ → Type 0
+CantAdd a n t d k m = (m ≡ n.line) × Stops (Agrees a.comps (calculus.comp (spelling n) t (d ∷ []))) (grown a (calculus.comp (spelling n) t (d ∷ []))) k
+
+-- the conjunct passes a limit
+abbrev pub CantTake : Schema → ResolvedTree → TypeFaultKind → ℕ → Type 0
+CantTake a t k m = (m ≡ line_of t) × IsTooLarge (constrained a (t ∷ [])) k
+
+-- the conjunction can't be: the fault has this line
+abbrev pub CantConjoin : (line : ℕ) → Schema → Schema → TypeFaultKind → ℕ → Type 0
+CantConjoin l a b k m = (m ≡ l) × Stops (Agree a.comps b.comps) (calculus.conjoined a b) k

@@ -1,0 +1,5 @@
+pub mod Calculus
+pub mod Limits
+pub mod Expressions
+pub mod SchemaOffences
+pub mod Growth

@@ -1,0 +1,312 @@
+//! Schemas that grow within the limits.
+ghost use Rattle.std.specs.Prelude.{◌≡◌, ◌∷◌, [], ◌++◌, IfErr, IfOk, IsTrue, MatchOption, OnOk, length, map};
+ghost use Rattle.zf_term.specs.Definitions.{comp_of, conjunct_of, schema_of};
+ghost use Rattle.zf_term.specs.ResolvedTrees.{ResolvedTree};
+ghost use Rattle.zf_term.specs.Shapes.{moved, numbering, place_in};
+ghost use Rattle.zf_calculus.specs.Calculus.{Agree, Agrees, conjoined, new_place, nothing};
+ghost use Rattle.zf_calculus.specs.Expressions.{Adds, Includes, IsNext};
+ghost use Rattle.zf_calculus.specs.Growth.{HasLeftBeside, IsGrowing, IfStopped, IsTooLarge, constrained, equalities, equality, grown};
+ghost use Rattle.zf_calculus.specs.Limits.{IsWithin};
+ghost use Rattle.zf_calculus.specs.SchemaOffences.{Stops};
+
+use crate::components::{agree, agrees, are_apart, join, join_all};
+use crate::limits::{COMPONENTS_MAX, CONJUNCTS_MAX, NODES_MAX, SETS_MAX};
+use crate::room::{
+    after_all_nodes, after_all_sets, after_conjuncts, after_nodes, after_sets, are_low, is_low,
+};
+use crate::spare::Spare;
+use crate::stop::Stop;
+use bumpalo::Bump;
+use std::alloc::AllocError;
+use zf_data::arena::{Boxed, Items, Lasting};
+use zf_scan::token::Relation;
+use zf_term::conjunct::{Conjunct, Statement};
+use zf_term::globals::{Component, Flat};
+use zf_term::resolved::{Reference, Resolved, ResolvedLink};
+
+/// A schema, with what is left of the limits, so that each step costs only what it adds.
+#[derive(Drop)]
+pub struct Growing<'a> {
+    pub flat: Flat<'a>,
+    pub sets_left: usize,
+    pub nodes_left: usize,
+}
+
+impl<'a> Growing<'a> {
+    /// The schema of no declarations, with room for what is expected of it.
+    pub fn with_room(arena: &'a Bump, spare: Spare) -> Result<Growing<'a>, AllocError>
+        ensures schema { IfOk result (λ g. schema_of g.flat ≡ nothing) }
+        ensures growing { IfOk result (λ g. IsGrowing g) }
+    {
+        let components = Items::with_room(arena, spare.components)?;
+        let conjuncts = Items::with_room(arena, spare.conjuncts)?;
+        Ok(Growing {
+            flat: Flat {
+                components,
+                conjuncts,
+            },
+            sets_left: SETS_MAX,
+            nodes_left: NODES_MAX,
+        })
+    }
+
+    /// A schema that was made elsewhere, if it is within the limits.
+    pub fn of(flat: Flat<'a>) -> Option<Growing<'a>>
+        ensures { MatchOption result (IsWithin (schema_of flat.entry) → ⊥) (λ g. (schema_of g.flat ≡ schema_of flat.entry) × IsGrowing g) }
+    {
+        if flat.components.len() > COMPONENTS_MAX {
+            return None;
+        }
+        if flat.conjuncts.len() > CONJUNCTS_MAX {
+            return None;
+        }
+        let sets_left = after_all_sets(flat.components.as_slice(), SETS_MAX)?;
+        let behind_sets = after_all_nodes(flat.components.as_slice(), NODES_MAX)?;
+        let nodes_left = after_conjuncts(flat.conjuncts.as_slice(), behind_sets)?;
+        if !are_low(flat.conjuncts.as_slice(), behind_sets - nodes_left) {
+            return None;
+        }
+        Some(Growing {
+            flat,
+            sets_left,
+            nodes_left,
+        })
+    }
+
+    /// One more component.
+    pub fn add(&mut self, component: Component<'a>) -> Result<(), Stop>
+        requires { IsGrowing self.old }
+        ensures ok { OnOk result (Adds (schema_of self.old.flat) (comp_of component.entry) (schema_of self.new.flat)) }
+        ensures growing { OnOk result (IsGrowing self.new) }
+        ensures err { IfErr result (λ e. IfStopped e (Stops (Agrees (schema_of self.old.flat).comps (comp_of component.entry)) (grown (schema_of self.old.flat) (comp_of component.entry)))) }
+    {
+        if !agrees(self.flat.components.as_slice(), &component) {
+            return Err(Stop::Clash);
+        }
+        self.grow(component)
+    }
+
+    /// One more component, whatever type one of its name has.
+    pub fn grow(&mut self, component: Component<'a>) -> Result<(), Stop>
+        requires { IsGrowing self.old }
+        ensures ok { OnOk result (IsNext (grown (schema_of self.old.flat) (comp_of component.entry)) (schema_of self.new.flat)) }
+        ensures growing { OnOk result (IsGrowing self.new) }
+        ensures err { IfErr result (λ e. IfStopped e (IsTooLarge (grown (schema_of self.old.flat) (comp_of component.entry)))) }
+    {
+        let Some(sets_left) = after_sets(component.domains.get().as_slice(), self.sets_left) else {
+            return Err(Stop::TooLarge);
+        };
+        let Some(nodes_left) = after_nodes(component.domains.get().as_slice(), self.nodes_left)
+        else {
+            return Err(Stop::TooLarge);
+        };
+        join(&mut self.flat.components, component)?;
+        self.sets_left = sets_left;
+        self.nodes_left = nodes_left;
+        Ok(())
+    }
+
+    /// One more conjunct.
+    pub fn take(&mut self, conjunct: Conjunct<'a>) -> Result<(), Stop>
+        requires { IsGrowing self.old }
+        ensures ok { OnOk result (IsNext (constrained (schema_of self.old.flat) (conjunct_of conjunct.entry ∷ [])) (schema_of self.new.flat)) }
+        ensures growing { OnOk result (IsGrowing self.new) }
+        ensures err { IfErr result (λ e. IfStopped e (IsTooLarge (constrained (schema_of self.old.flat) (conjunct_of conjunct.entry ∷ [])))) }
+    {
+        let Some(nodes_left) = conjunct.room_after(self.nodes_left) else {
+            return Err(Stop::TooLarge);
+        };
+        if self.flat.conjuncts.len() >= CONJUNCTS_MAX {
+            return Err(Stop::TooLarge);
+        }
+        if !is_low(&conjunct, self.nodes_left - nodes_left) {
+            return Err(Stop::TooLarge);
+        }
+        self.flat.conjuncts.push(conjunct)?;
+        self.nodes_left = nodes_left;
+        Ok(())
+    }
+
+    /// Another schema that is taken in: its components, and then its conjuncts.
+    pub fn include(&mut self, arena: &'a Bump, other: Growing<'a>) -> Result<(), Stop>
+        requires before { IsGrowing self.old }
+        requires further { IsGrowing other }
+        ensures ok { OnOk result (Includes (schema_of self.old.flat) (schema_of other.entry.flat) (schema_of self.new.flat)) }
+        ensures growing { OnOk result (IsGrowing self.new) }
+        ensures err { IfErr result (λ e. IfStopped e (Stops (Agree (schema_of self.old.flat).comps (schema_of other.entry.flat).comps) (conjoined (schema_of self.old.flat) (schema_of other.entry.flat)))) }
+    {
+        if !agree(
+            self.flat.components.as_slice(),
+            other.flat.components.as_slice(),
+        ) {
+            return Err(Stop::Clash);
+        }
+        if self.becomes(&other) {
+            *self = other;
+            return Ok(());
+        }
+        self.merge(arena, other)?;
+        Ok(())
+    }
+
+    /// Whether there is nothing yet, and the other schema can be taken in as it is.
+    fn becomes(&self, other: &Growing<'a>) -> bool
+        ensures { IsTrue result → schema_of other.now.flat ≡ conjoined (schema_of self.now.flat) (schema_of other.now.flat) }
+    {
+        if !self.is_nothing() {
+            return false;
+        }
+        are_apart(other.flat.components.as_slice())
+    }
+
+    /// Whether it has neither components nor conjuncts.
+    pub fn is_nothing(&self) -> bool
+        ensures { IsTrue result → schema_of self.now.flat ≡ nothing }
+    {
+        self.flat.components.as_slice().is_empty() && self.flat.conjuncts.as_slice().is_empty()
+    }
+
+    /// Another schema that is taken in, whatever types components of one name have; answers where its components are.
+    pub fn merge(
+        &mut self,
+        arena: &'a Bump,
+        other: Growing<'a>,
+    ) -> Result<Lasting<'a, Items<'a, usize>>, Stop>
+        requires before { IsGrowing self.old }
+        requires further { IsGrowing other }
+        ensures ok { OnOk result (IsNext (conjoined (schema_of self.old.flat) (schema_of other.entry.flat)) (schema_of self.new.flat)) }
+        ensures growing { OnOk result (IsGrowing self.new) }
+        ensures places { IfOk result (λ places. place_in places ≡ new_place (schema_of other.entry.flat).comps (schema_of self.new.flat).comps) }
+        ensures each { IfOk result (λ places. length places ≡ length (schema_of other.entry.flat).comps) }
+        ensures err { IfErr result (λ e. IfStopped e (IsTooLarge (conjoined (schema_of self.old.flat) (schema_of other.entry.flat)))) }
+    {
+        let Some(left) = self.left_beside(&other) else {
+            return Err(Stop::TooLarge);
+        };
+        let Flat {
+            components,
+            conjuncts,
+        } = other.flat;
+        let places = join_all(&mut self.flat.components, arena, components)?;
+        let places = Lasting::new(arena, places)?;
+        take_moved(&mut self.flat.conjuncts, arena, conjuncts, &places)?;
+        self.sets_left = left.0;
+        self.nodes_left = left.1;
+        Ok(places)
+    }
+
+    /// How many declared sets and nodes are left beside another schema, where there is room for it and its conjuncts.
+    fn left_beside(&self, other: &Growing<'a>) -> Option<(usize, usize)>
+        requires before { IsGrowing self.now }
+        requires further { IsGrowing other.now }
+        ensures { MatchOption result (IsWithin (conjoined (schema_of self.now.flat) (schema_of other.now.flat)) → ⊥) (HasLeftBeside (schema_of self.now.flat) (schema_of other.now.flat)) }
+    {
+        let sets_left = self.sets_left.checked_sub(SETS_MAX - other.sets_left)?;
+        let nodes_left = self.nodes_left.checked_sub(NODES_MAX - other.nodes_left)?;
+        if self.flat.conjuncts.len() + other.flat.conjuncts.len() > CONJUNCTS_MAX {
+            return None;
+        }
+        Some((sets_left, nodes_left))
+    }
+
+    /// That each component is equal to the one at the place in the list, one after another.
+    pub fn take_equalities(
+        &mut self,
+        arena: &'a Bump,
+        line: u32,
+        places: &[usize],
+    ) -> Result<(), Stop>
+        requires { IsGrowing self.old }
+        ensures ok { OnOk result (schema_of self.new.flat ≡ constrained (schema_of self.old.flat) (equalities line 0 places.now)) }
+        ensures growing { OnOk result (IsGrowing self.new) }
+        ensures err { IfErr result (λ e. IfStopped e (IsTooLarge (constrained (schema_of self.old.flat) (equalities line 0 places.now)))) }
+    {
+        for place in 0..places.len() {
+            let other = places[place];
+            let equality = equality(arena, line, place, other)?;
+            self.take(equality)?;
+        }
+        Ok(())
+    }
+}
+
+/// Further conjuncts, whose components are at these places.
+fn take_moved<'a>(
+    conjuncts: &mut Items<'a, Conjunct<'a>>,
+    arena: &'a Bump,
+    further: Items<'a, Conjunct<'a>>,
+    places: &Lasting<'a, Items<'a, usize>>,
+) -> Result<(), AllocError>
+    ensures { OnOk result (map conjunct_of conjuncts.new ≡ map conjunct_of conjuncts.old ++ map (moved (place_in places.now)) (map conjunct_of further.entry)) }
+{
+    if are_own(places.get().as_slice()) {
+        return take_all(conjuncts, further);
+    }
+    let numbering = Some(places.share());
+    take_numbered(conjuncts, arena, further, &numbering)
+}
+
+/// Further conjuncts, with their components numbered anew.
+fn take_numbered<'a>(
+    conjuncts: &mut Items<'a, Conjunct<'a>>,
+    arena: &'a Bump,
+    further: Items<'a, Conjunct<'a>>,
+    places: &Option<Lasting<'a, Items<'a, usize>>>,
+) -> Result<(), AllocError>
+    ensures { OnOk result (map conjunct_of conjuncts.new ≡ map conjunct_of conjuncts.old ++ map (moved (numbering places.now)) (map conjunct_of further.entry)) }
+{
+    conjuncts.make_room(further.len())?;
+    for conjunct in further.into_vec() {
+        conjuncts.push(conjunct.moved(arena, places)?)?;
+    }
+    Ok(())
+}
+
+/// Further conjuncts as they are. Where there are none yet, nor room for these, the list itself is taken.
+fn take_all<'a>(
+    conjuncts: &mut Items<'a, Conjunct<'a>>,
+    further: Items<'a, Conjunct<'a>>,
+) -> Result<(), AllocError>
+    ensures { OnOk result (conjuncts.new ≡ conjuncts.old ++ further.entry) }
+{
+    if conjuncts.len() == 0 && conjuncts.items.capacity() < further.len() {
+        *conjuncts = further;
+        return Ok(());
+    }
+    conjuncts.append(further)
+}
+
+/// Whether each place is its own number.
+fn are_own(places: &[usize]) -> bool
+    ensures { IsTrue result → (t : ResolvedTree) → moved (place_in places.now) t ≡ t }
+{
+    for (place, other) in places.iter().enumerate() {
+        if *other != place {
+            return false;
+        }
+    }
+    true
+}
+
+/// That two components are equal.
+#[tactic(auto, using(zf_term::proofs::ResolvedSeen::seen))]
+fn equality<'a>(
+    arena: &'a Bump,
+    line: u32,
+    place: usize,
+    other: usize,
+) -> Result<Conjunct<'a>, AllocError>
+    ensures { IfOk result (λ c. conjunct_of c ≡ equality line place other) }
+{
+    let left = Boxed::new(arena, Resolved::Name(line, Reference::Component(place)))?;
+    let right = Resolved::Name(line, Reference::Component(other));
+    let links = Items::of(
+        arena,
+        ResolvedLink {
+            relation: Relation::Equal,
+            right,
+        },
+    )?;
+    let statement = Statement::Made(Resolved::Chain(line, left, Boxed::new(arena, links)?));
+    Conjunct::of(arena, statement)
+}

@@ -1,0 +1,238 @@
+//! Decorated schemas, and those of operations on a state.
+ghost use Rattle.std.specs.Prelude.{◌≡◌, ◌++◌, ℕ, IfErr, IfOk, List, OnOk, length, map};
+ghost use Rattle.zf_term.specs.Definitions.{comp_of, schema_of};
+ghost use Rattle.zf_term.specs.Shapes.{place_in};
+ghost use Rattle.zf_calculus.specs.Calculus as spec;
+ghost use Rattle.zf_calculus.specs.Calculus.{Agree, MarkAgrees, comp, decorated, delta, new_place, prime, xi};
+ghost use Rattle.zf_calculus.specs.Expressions.{IsNext};
+ghost use Rattle.zf_calculus.specs.Growth.{IfStopped, IsGrowing, IsTooLarge};
+ghost use Rattle.zf_calculus.specs.SchemaOffences.{Stops};
+
+use crate::components::agree;
+use crate::growing::Growing;
+use crate::spare::Spare;
+use crate::stop::Stop;
+use bumpalo::Bump;
+use std::alloc::AllocError;
+use std::mem;
+use std::mem::ManuallyDrop;
+use zf_data::arena::{Items, Lasting, Lent};
+use zf_term::conjunct::Conjunct;
+use zf_term::globals::{Component, Flat};
+use zf_text::tree::RefMark;
+
+/// The schema as it is marked: itself, or it and its state after an operation, and then that no component changes.
+pub fn marked<'a>(
+    arena: &'a Bump,
+    mark: RefMark,
+    line: u32,
+    flat: &Flat<'a>,
+    spare: Spare,
+) -> Result<Growing<'a>, Stop>
+    ensures agree { IfOk result (λ g. MarkAgrees mark (schema_of flat.now)) }
+    ensures ok { IfOk result (λ g. IsNext (spec.marked mark line (schema_of flat.now)) (schema_of g.flat)) }
+    ensures growing { IfOk result (λ g. IsGrowing g) }
+    ensures err { IfErr result (λ e. IfStopped e (Stops (MarkAgrees mark (schema_of flat.now)) (spec.marked mark line (schema_of flat.now)))) }
+{
+    match mark {
+        RefMark::Plain => within(copy(arena, flat, spare)?),
+        RefMark::Delta => Ok(change(arena, flat, spare)?.0),
+        RefMark::Xi => no_change(arena, line, flat, spare),
+    }
+}
+
+/// A schema and its state after an operation, where no component changes.
+fn no_change<'a>(
+    arena: &'a Bump,
+    line: u32,
+    flat: &Flat<'a>,
+    spare: Spare,
+) -> Result<Growing<'a>, Stop>
+    ensures agree { IfOk result (λ g. Agree (schema_of flat.now).comps (decorated prime (schema_of flat.now)).comps) }
+    ensures ok { IfOk result (λ g. IsNext (xi line (schema_of flat.now)) (schema_of g.flat)) }
+    ensures growing { IfOk result (λ g. IsGrowing g) }
+    ensures err { IfErr result (λ e. IfStopped e (Stops (Agree (schema_of flat.now).comps (decorated prime (schema_of flat.now)).comps) (xi line (schema_of flat.now)))) }
+{
+    let spare = spare.and_conjuncts(flat.components.len());
+    let (mut growing, places) = change(arena, flat, spare)?;
+    growing.take_equalities(arena, line, places.get().as_slice())?;
+    Ok(growing)
+}
+
+/// A schema and its state after an operation, and where the components of that state are.
+fn change<'a>(
+    arena: &'a Bump,
+    flat: &Flat<'a>,
+    spare: Spare,
+) -> Result<(Growing<'a>, Lasting<'a, Items<'a, usize>>), Stop>
+    ensures agree { IfOk result (λ p. Agree (schema_of flat.now).comps (decorated prime (schema_of flat.now)).comps) }
+    ensures ok { IfOk result (λ p. IsNext (delta (schema_of flat.now)) (schema_of p.0.flat)) }
+    ensures growing { IfOk result (λ p. IsGrowing p.0) }
+    ensures places { IfOk result (λ p. place_in p.1 ≡ new_place (decorated prime (schema_of flat.now)).comps (delta (schema_of flat.now)).comps) }
+    ensures each { IfOk result (λ p. length p.1 ≡ length (schema_of flat.now).comps) }
+    ensures err { IfErr result (λ e. IfStopped e (Stops (Agree (schema_of flat.now).comps (decorated prime (schema_of flat.now)).comps) (delta (schema_of flat.now)))) }
+{
+    let after = decorate(arena, b"'", flat, Spare::none())?;
+    if !agree(flat.components.as_slice(), after.components.as_slice()) {
+        return Err(Stop::Clash);
+    }
+    let before = copy(arena, flat, spare.and(&after))?;
+    let mut growing = within(before)?;
+    let after = alike(&growing, after);
+    let places = growing.merge(arena, after)?;
+    Ok((growing, places))
+}
+
+/// The schema, if it is within the limits.
+pub fn within<'a>(flat: Flat<'a>) -> Result<Growing<'a>, Stop>
+    ensures ok { IfOk result (λ g. IsNext (schema_of flat.entry) (schema_of g.flat)) }
+    ensures growing { IfOk result (λ g. IsGrowing g) }
+    ensures err { IfErr result (λ e. IfStopped e (IsTooLarge (schema_of flat.entry))) }
+{
+    match Growing::of(flat) {
+        Some(growing) => Ok(growing),
+        None => Err(Stop::TooLarge),
+    }
+}
+
+/// The same schema, with room for what is expected of it.
+fn copy<'a>(arena: &'a Bump, flat: &Flat<'a>, spare: Spare) -> Result<Flat<'a>, AllocError>
+    ensures { IfOk result (λ f. schema_of f ≡ schema_of flat.now) }
+{
+    decorate(arena, b"", flat, spare)
+}
+
+/// A schema that is another one decorated, so that as much is left of the limits.
+fn alike<'a>(growing: &Growing<'a>, flat: Flat<'a>) -> Growing<'a>
+    requires limits { IsGrowing growing.now }
+    requires alike { (strokes : List ℕ) × (schema_of flat ≡ decorated strokes (schema_of growing.now.flat)) }
+    ensures same { result.flat ≡ flat.entry }
+    ensures growing { IsGrowing result }
+{
+    Growing {
+        flat,
+        sets_left: growing.sets_left,
+        nodes_left: growing.nodes_left,
+    }
+}
+
+/// The schema with strokes at the end of the name of each component, of which nothing else is copied.
+pub fn decorate_own<'a>(
+    arena: &'a Bump,
+    strokes: &[u8],
+    growing: Growing<'a>,
+) -> Result<Growing<'a>, AllocError>
+    requires { IsGrowing growing }
+    ensures ok { IfOk result (λ g. schema_of g.flat ≡ decorated strokes.now (schema_of growing.entry.flat)) }
+    ensures growing { IfOk result (λ g. IsGrowing g) }
+{
+    if strokes.is_empty() {
+        return Ok(growing);
+    }
+    let mut whole = growing;
+    add_strokes(arena, strokes, &mut whole.flat.components)?;
+    Ok(whole)
+}
+
+/// Strokes are added to the name of each component.
+fn add_strokes<'a>(
+    arena: &'a Bump,
+    strokes: &[u8],
+    components: &mut Items<'a, Component<'a>>,
+) -> Result<(), AllocError>
+    ensures { OnOk result (map comp_of components.new ≡ map (λ c. comp (c.name ++ strokes.now) c.type c.sets) (map comp_of components.old)) }
+{
+    let mut all = mem::replace(components, Items::new(arena)).into_vec();
+    let added = add_to_each(arena, strokes, all.as_mut_slice());
+    *components = Items {
+        items: ManuallyDrop::new(all),
+    };
+    added
+}
+
+fn add_to_each<'a>(
+    arena: &'a Bump,
+    strokes: &[u8],
+    components: &mut [Component<'a>],
+) -> Result<(), AllocError>
+    ensures { OnOk result (map comp_of components.new ≡ map (λ c. comp (c.name ++ strokes.now) c.type c.sets) (map comp_of components.old)) }
+{
+    for component in components.iter_mut() {
+        component.name = stroked(arena, &component.name, strokes)?;
+    }
+    Ok(())
+}
+
+/// A schema with strokes at the end of the name of each component, and with room for what is expected of it.
+pub fn decorate<'a>(
+    arena: &'a Bump,
+    strokes: &[u8],
+    flat: &Flat<'a>,
+    spare: Spare,
+) -> Result<Flat<'a>, AllocError>
+    ensures { IfOk result (λ f. schema_of f ≡ decorated strokes.now (schema_of flat.now)) }
+{
+    let components = decorated_components(arena, strokes, flat.components.as_slice(), spare)?;
+    let conjuncts = shared(arena, flat.conjuncts.as_slice(), spare)?;
+    Ok(Flat {
+        components,
+        conjuncts,
+    })
+}
+
+fn decorated_components<'a>(
+    arena: &'a Bump,
+    strokes: &[u8],
+    components: &[Component<'a>],
+    spare: Spare,
+) -> Result<Items<'a, Component<'a>>, AllocError>
+    ensures { IfOk result (λ cs. map comp_of cs ≡ map (λ c. comp (c.name ++ strokes.now) c.type c.sets) (map comp_of components.now)) }
+{
+    let mut made = Items::with_room(arena, components.len().saturating_add(spare.components))?;
+    for component in components {
+        made.push(decorated_component(arena, strokes, component)?)?;
+    }
+    Ok(made)
+}
+
+fn decorated_component<'a>(
+    arena: &'a Bump,
+    strokes: &[u8],
+    component: &Component<'a>,
+) -> Result<Component<'a>, AllocError>
+    ensures { IfOk result (λ c. comp_of c ≡ comp (component.now.name ++ strokes.now) (comp_of component.now).type (comp_of component.now).sets) }
+{
+    let name = stroked(arena, &component.name, strokes)?;
+    let ztype = component.ztype.share()?;
+    let domains = component.domains.share()?;
+    Ok(Component {
+        name,
+        ztype,
+        domains,
+    })
+}
+
+/// A name with strokes at its end. Where there are none, it is not copied.
+fn stroked<'a>(arena: &'a Bump, name: &Lent<'a>, strokes: &[u8]) -> Result<Lent<'a>, AllocError>
+    ensures { IfOk result (λ t. t ≡ name.now ++ strokes.now) }
+{
+    if strokes.is_empty() {
+        return Ok(name.share());
+    }
+    Lent::joined(arena, name.as_slice(), strokes)
+}
+
+/// The same conjuncts.
+fn shared<'a>(
+    arena: &'a Bump,
+    conjuncts: &[Conjunct<'a>],
+    spare: Spare,
+) -> Result<Items<'a, Conjunct<'a>>, AllocError>
+    ensures { IfOk result (λ cs. cs ≡ conjuncts.now) }
+{
+    let mut same = Items::with_room(arena, conjuncts.len().saturating_add(spare.conjuncts))?;
+    for conjunct in conjuncts {
+        same.push(conjunct.share())?;
+    }
+    Ok(same)
+}

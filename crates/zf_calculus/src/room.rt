@@ -1,0 +1,94 @@
+//! How much of the limits is left behind parts of a schema.
+ghost use Rattle.std.specs.Prelude.{◌≡◌, ◌+◌, ◌<◌, ◌↔◌, IsTrue, MatchOption, map};
+ghost use Rattle.std.specs.List.{AllByRecursion, sum_by};
+ghost use Rattle.zf_term.specs.Definitions.{comp_of, conjunct_of, set_of};
+ghost use Rattle.zf_term.specs.SetShapes.{set_count, set_nodes};
+ghost use Rattle.zf_term.specs.Shapes.{nodes};
+ghost use Rattle.zf_calculus.specs.Growth.{counted};
+ghost use Rattle.zf_calculus.specs.Limits.{IsLow};
+
+use crate::limits::HEIGHT_MAX;
+use zf_term::conjunct::Conjunct;
+use zf_term::globals::{Component, Domain};
+
+/// How much of the room for declared sets is left behind these, where there is enough.
+pub fn after_sets(domains: &[Domain<'_>], room: usize) -> Option<usize>
+    ensures { MatchOption result (room < sum_by set_count (map set_of domains.now)) (λ left. left + sum_by set_count (map set_of domains.now) ≡ room) }
+{
+    let mut left = room;
+    for domain in domains {
+        left = domain.room_after_sets(left)?;
+    }
+    Some(left)
+}
+
+/// How much of the room for nodes is left behind these, where there is enough.
+pub fn after_nodes(domains: &[Domain<'_>], room: usize) -> Option<usize>
+    ensures { MatchOption result (room < sum_by set_nodes (map set_of domains.now)) (λ left. left + sum_by set_nodes (map set_of domains.now) ≡ room) }
+{
+    let mut left = room;
+    for domain in domains {
+        left = domain.room_after_nodes(left)?;
+    }
+    Some(left)
+}
+
+/// The same of all declared sets of components.
+pub fn after_all_sets(components: &[Component<'_>], room: usize) -> Option<usize>
+    ensures { MatchOption result (room < counted set_count (map comp_of components.now)) (λ left. left + counted set_count (map comp_of components.now) ≡ room) }
+{
+    let mut left = room;
+    for component in components {
+        left = after_sets(component.domains.get().as_slice(), left)?;
+    }
+    Some(left)
+}
+
+/// The same of the nodes of all declared sets of components.
+pub fn after_all_nodes(components: &[Component<'_>], room: usize) -> Option<usize>
+    ensures { MatchOption result (room < counted set_nodes (map comp_of components.now)) (λ left. left + counted set_nodes (map comp_of components.now) ≡ room) }
+{
+    let mut left = room;
+    for component in components {
+        left = after_nodes(component.domains.get().as_slice(), left)?;
+    }
+    Some(left)
+}
+
+/// The same of the nodes of conjuncts.
+pub fn after_conjuncts(conjuncts: &[Conjunct<'_>], room: usize) -> Option<usize>
+    ensures { MatchOption result (room < sum_by nodes (map conjunct_of conjuncts.now)) (λ left. left + sum_by nodes (map conjunct_of conjuncts.now) ≡ room) }
+{
+    let mut left = room;
+    for conjunct in conjuncts {
+        left = conjunct.room_after(left)?;
+    }
+    Some(left)
+}
+
+/// Whether a conjunct of so many nodes is not too high. None is higher than it has nodes, so few are looked at.
+pub fn is_low(conjunct: &Conjunct<'_>, count: usize) -> bool
+    requires { count ≡ nodes (conjunct_of conjunct.now) }
+    ensures { IsTrue result ↔ IsLow (conjunct_of conjunct.now) }
+{
+    if count <= HEIGHT_MAX {
+        return true;
+    }
+    conjunct.is_within(HEIGHT_MAX)
+}
+
+/// Whether none of the conjuncts, which have so many nodes, is too high.
+pub fn are_low(conjuncts: &[Conjunct<'_>], count: usize) -> bool
+    requires { count ≡ sum_by nodes (map conjunct_of conjuncts.now) }
+    ensures { IsTrue result ↔ AllByRecursion IsLow (map conjunct_of conjuncts.now) }
+{
+    if count <= HEIGHT_MAX {
+        return true;
+    }
+    for conjunct in conjuncts {
+        if !conjunct.is_within(HEIGHT_MAX) {
+            return false;
+        }
+    }
+    true
+}

@@ -1,6 +1,0 @@
-//! What no contract says of the engine, shown by tests with devices that fail at a stated place.
-#![tactic(auto)]
-
-pub mod devices;
-#[cfg(test)]
-mod tests;

@@ -1,0 +1,178 @@
+//! A file of rows: command lines over sources, with what is written of them and the status.
+//!
+//! A line begins with a mark and a blank:
+//!
+//! | Mark | What is behind it |
+//! |---|---|
+//! | `#` | a remark |
+//! | `$` | the words of the command lines to come |
+//! | `=` | the status that they end with, and they write nothing |
+//! | `!` | a line that they write |
+//! | `>` | a file with the lines that they write |
+//! | `(` | a line before the sources to come; with nothing behind it, there is none |
+//! | `)` | a line behind them; with nothing behind it, there is none |
+//! | `|` | a line of the next source |
+//! | `<` | a file that the next source has the text of |
+//! | `*` | a number, and words that the next source has so many times, with no end of a line |
+//! | `?` | the last line of the next source: the row is run |
+//! | `.` | the row is run |
+use std::alloc::{AllocError, Global};
+use std::io::ErrorKind;
+use std::rt::Files;
+use std::{fs, io};
+use zf_command::asked::job_of;
+use zf_command::job::{Asked, UsageFault};
+use zf_engine::counted::Counted;
+use zf_engine::fault::Status;
+use zf_engine::run::run;
+
+/// What the lines so far say of the next row.
+#[derive(Drop)]
+pub struct Rows {
+    words: String,
+    status: String,
+    written: String,
+    before: String,
+    behind: String,
+    source: String,
+    as_written: u64,
+}
+
+impl Rows {
+    pub fn new(alloc: Global) -> Rows {
+        Rows {
+            words: String::new(alloc),
+            status: String::new(alloc),
+            written: String::new(alloc),
+            before: String::new(alloc),
+            behind: String::new(alloc),
+            source: String::new(alloc),
+            as_written: 0,
+        }
+    }
+
+    /// How many rows were as written.
+    pub fn as_written(&self) -> u64 {
+        self.as_written
+    }
+
+    /// Reads a line. Of a row that is not as written it gives what was found.
+    pub fn read<R: Files + AllocGlobal>(
+        &mut self,
+        rt: &R,
+        line: &str,
+    ) -> io::Result<Option<String>> {
+        let (mark, rest) = line.split_once(' ').unwrap_or((line, ""));
+        match mark {
+            "" | "#" => {}
+            "$" => replace(&mut self.words, rest)?,
+            "=" => {
+                replace(&mut self.status, rest)?;
+                self.written.clear();
+            }
+            "!" => push_line(&mut self.written, rest)?,
+            ">" => push_file(&mut self.written, rt, rest)?,
+            "(" => push_line_or_clear(&mut self.before, rest)?,
+            ")" => push_line_or_clear(&mut self.behind, rest)?,
+            "|" => push_line(&mut self.source, rest)?,
+            "<" => push_file(&mut self.source, rt, rest)?,
+            "*" => push_often(&mut self.source, rest)?,
+            "?" => {
+                push_line(&mut self.source, rest)?;
+                return self.run_row();
+            }
+            "." => return self.run_row(),
+            _ => return Err(io::Error::from(ErrorKind::InvalidData)),
+        }
+        Ok(None)
+    }
+
+    fn run_row(&mut self) -> io::Result<Option<String>> {
+        let alloc = *self.words.allocator();
+        let source = format!(in alloc; "{}{}{}", self.before, self.source, self.behind)?;
+        self.source.clear();
+        let mut written = Vec::new(alloc);
+        let status = status_of(alloc, self.words.as_str(), source.as_bytes(), &mut written)?;
+        if status == self.status.as_str() && written.as_slice() == self.written.as_bytes() {
+            self.as_written = self.as_written.saturating_add(1);
+            return Ok(None);
+        }
+        let Ok(written) = String::from_utf8(written) else {
+            return Err(io::Error::from(ErrorKind::InvalidData));
+        };
+        Ok(Some(format!(in alloc; "status {status}, written:\n{written}")?))
+    }
+}
+
+fn replace(text: &mut String, new: &str) -> Result<(), AllocError> {
+    text.clear();
+    text.push_str(new)
+}
+
+fn push_line(text: &mut String, line: &str) -> Result<(), AllocError> {
+    text.push_str(line)?;
+    text.push_str("\n")
+}
+
+fn push_line_or_clear(text: &mut String, line: &str) -> Result<(), AllocError> {
+    if line.is_empty() {
+        text.clear();
+        return Ok(());
+    }
+    push_line(text, line)
+}
+
+fn push_file<R: Files + AllocGlobal>(text: &mut String, rt: &R, file: &str) -> io::Result<()> {
+    let of_file = fs::read_to_string(rt, file)?;
+    text.push_str(of_file.as_str())?;
+    Ok(())
+}
+
+/// Pushes words behind a number so many times.
+fn push_often(text: &mut String, often: &str) -> io::Result<()> {
+    let Some((number, words)) = often.split_once(' ') else {
+        return Err(io::Error::from(ErrorKind::InvalidData));
+    };
+    let Ok(times) = number.parse::<usize>() else {
+        return Err(io::Error::from(ErrorKind::InvalidData));
+    };
+    for _turn in 0..times {
+        text.push_str(words)?;
+    }
+    Ok(())
+}
+
+/// What the words write over the source. The answer is the status.
+fn status_of(
+    alloc: Global,
+    words: &str,
+    source: &[u8],
+    written: &mut Vec<u8>,
+) -> io::Result<&'static str> {
+    let words: Vec<&str> = words.split_whitespace().collect(alloc)?;
+    match job_of(alloc, words.as_slice()) {
+        Ok(Asked::Work(file, job)) => {
+            let mut reader = Counted::new(source);
+            let mut writer = Counted::new(written);
+            match run(alloc, &job, file.as_str(), &mut reader, &mut writer) {
+                Ok(status) => Ok(number_of(status)),
+                Err(_) => Err(io::Error::from(ErrorKind::Other)),
+            }
+        }
+        Ok(Asked::Help(text)) => {
+            written.extend_from_slice(text.as_bytes())?;
+            Ok("0")
+        }
+        Err(UsageFault::BadWords) => Ok("2"),
+        Err(UsageFault::OutOfMemory) => Err(io::Error::from(ErrorKind::OutOfMemory)),
+    }
+}
+
+fn number_of(status: Status) -> &'static str {
+    match status {
+        Status::Done => "0",
+        Status::BadSpec => "1",
+        Status::BadRequest => "2",
+        Status::PastBounds => "3",
+    }
+}

@@ -1,0 +1,317 @@
+-- Outside the boxes: what is found at the front of a text is of the first kind that fits.
+use Rattle.std.proofs.Common.{◌≡◌, ℕ, ◌+◌, ◌≤◌, ◌<◌, ◌⊎◌, min, List, [], ◌∷◌, ◌++◌, length, take, drop, Bool, true, false, Option, Some, None, refl, sym, ap, ◌∙◌, subst, arith, ⊎_elim, inl, inr, append_assoc, take-append-drop, length-append, length-take-le}
+use Rattle.std.specs.Prelude.{◌||◌, not, ◌==◌, if◌then◌else◌, codes}
+use Rattle.std.specs.List.{list_all}
+use Rattle.std.specs.Option.{is_some}
+use Rattle.std.specs.Str.{bytes_eq}
+use Rattle.std.proofs.Math.Numerals.{one-add}
+use Rattle.std.proofs.lemmas.Bool.Decides.{nat_tests}
+use Rattle.zf_scan.specs.declared.fault.TextFaultKind.TheVariants as faults
+use Rattle.zf_scan.specs.declared.token.Kind.TheVariants.{BeginZed, BeginSchema}
+use Rattle.zf_scan.specs.Steps.{Found}
+use Rattle.zf_scan.specs.declared.pieces.Piece.{Piece}
+use Rattle.zf_scan.specs.declared.pieces.Piece.TheVariants.{Plain, Symbol, Refused}
+use Rattle.zf_scan.specs.declared.pieces.Run.TheVariants.{Base, Line}
+use Rattle.zf_scan.specs.Pieces.{is_letter, is_run, look_up, symbols, openings, is_base, OutsideKind, opening, schema, escape, remark, informal, SpellsOutside, turn}
+use Rattle.zf_scan.specs.Cuts.{StandsOutside}
+use Rattle.zf_scan.specs.Steps.{run_len, begins, plain, comment_found, base_len, has_no_name, schema_found, other_opening_found, opening_found, outside_found}
+use Rattle.zf_scan.proofs.Runs.{and_left, and_right, run_le, run_exact, run_within}
+use Rattle.zf_scan.proofs.Texts.{pick, eq_is, both, front_is, back_is, taken, front_le, head_is, tail_is, begins_is, is_begun, bytes_same}
+use Rattle.zf_scan.proofs.Table.{hit}
+use Rattle.zf_scan.proofs.Longest.{either, no_step, comment_text, base_text, base_within}
+
+abbrev Order : OutsideKind → ℕ → OutsideKind → ℕ → Type 0
+Order kind n other m = (turn kind < turn other) ⊎ ((turn kind ≡ turn other) × (m ≤ n))
+
+-- a piece at the front of a text, of the first kind that fits
+pub record At (s : List ℕ) (piece : Piece) (n : ℕ) : Type 0 where
+  pub some : 0 < n
+  pub within : n ≤ length s
+  pub stands : StandsOutside piece (take n s) (drop n s)
+
+abbrev pub Next : List ℕ → Found → Type 0
+Next s f = At s f.piece f.len
+
+abbrev Bound : List ℕ → OutsideKind → ℕ → Type 0
+Bound s kind n = (other : OutsideKind) (piece : Piece) (r rest : List ℕ) → SpellsOutside other piece r → s ≡ r ++ rest → Order kind n other (length r)
+
+at_from : (s : List ℕ) (piece : Piece) (n : ℕ) (kind : OutsideKind) → 0 < n → n ≤ length s → SpellsOutside kind piece (take n s) → Bound s kind n → At s piece n
+at_from s piece n kind some within spells bound = record {
+  some = some;
+  within = within;
+  stands = record {
+    kind = kind;
+    spells = spells;
+    first = λ other q r rest t e. ⊎_elim (λ k. inl k) (λ k. inr (k.0, omega (arith, length-take-le n s within, k.1))) (bound other q r rest t (sym (take-append-drop n s) ∙ e));
+  };
+}
+
+-- ---- openings
+
+abbrev is_opening : List ℕ → Bool
+is_opening p = bytes_eq p (codes "\\begin{zed}") || (bytes_eq p (codes "\\begin{schema}") || (bytes_eq p (codes "\\begin{axdef}") || (bytes_eq p (codes "\\begin{gendef}") || bytes_eq p (codes "\\begin{syntax}"))))
+
+all_open : list_all (λ row. is_opening row.0) openings ≡ true
+unfolding openings
+all_open = refl
+
+-- the cases of an opening
+by_opening : {C : Type 0} (r : List ℕ) (piece : Piece) → look_up r openings ≡ Some piece
+    → (r ≡ codes "\\begin{zed}" → C) → (r ≡ codes "\\begin{schema}" → C) → (r ≡ codes "\\begin{axdef}" → C) → (r ≡ codes "\\begin{gendef}" → C) → (r ≡ codes "\\begin{syntax}" → C) → C
+by_opening r piece h zed bare axdef gendef syntax =
+    either _ _ (hit is_opening openings r piece all_open h) (λ e. zed (bytes_same r _ e))
+    (λ f. either _ _ f (λ e. bare (bytes_same r _ e))
+    (λ f. either _ _ f (λ e. axdef (bytes_same r _ e))
+    (λ f. either _ _ f (λ e. gendef (bytes_same r _ e)) (λ e. syntax (bytes_same r _ e)))))
+
+-- a text that begins with r begins with what r begins with
+at_front : (s r rest front : List ℕ) (more : List ℕ) → s ≡ r ++ rest → r ≡ front ++ more → begins s front ≡ true
+at_front s r rest front more e f = is_begun s front (more ++ rest) (e ∙ ap (λ r. r ++ rest) f ∙ append_assoc front more rest)
+
+opening_begins : (s r rest : List ℕ) (piece : Piece) → look_up r openings ≡ Some piece → s ≡ r ++ rest → begins s (codes "\\begin{") ≡ true
+opening_begins s r rest piece h e = by_opening r piece h (at_front s r rest (codes "\\begin{") (codes "zed}") e) (at_front s r rest (codes "\\begin{") (codes "schema}") e) (at_front s r rest (codes "\\begin{") (codes "axdef}") e) (at_front s r rest (codes "\\begin{") (codes "gendef}") e) (at_front s r rest (codes "\\begin{") (codes "syntax}") e)
+
+pub opening_le : (r : List ℕ) (piece : Piece) → look_up r openings ≡ Some piece → length r ≤ 14
+opening_le r piece h = by_opening r piece h (λ e. omega (arith, ap length e)) (λ e. omega (arith, ap length e)) (λ e. omega (arith, ap length e)) (λ e. omega (arith, ap length e)) (λ e. omega (arith, ap length e))
+
+-- a schema's opening with its name
+pub schema_is : (s r rest name : List ℕ) → r ≡ codes "\\begin{schema}{" ++ name ++ codes "}" → s ≡ r ++ rest → s ≡ codes "\\begin{schema}{" ++ ((name ++ codes "}") ++ rest)
+schema_is s r rest name f e = e ∙ ap (λ r. r ++ rest) f
+
+schema_begins : (s r rest : List ℕ) (piece : Piece) → SpellsOutside schema piece r → s ≡ r ++ rest → begins s (codes "\\begin{schema}{") ≡ true
+schema_begins s r rest piece h e = is_begun s (codes "\\begin{schema}{") ((h.0 ++ codes "}") ++ rest) (schema_is s r rest h.0 h.1 e)
+
+wider : (s : List ℕ) → begins s (codes "\\begin{schema}{") ≡ true → begins s (codes "\\begin{") ≡ true
+wider s e = is_begun s (codes "\\begin{") (codes "schema}{" ++ drop 15 s) (begins_is s (codes "\\begin{schema}{") e)
+
+-- ---- informal text
+
+head_of : (b : ℕ) (bs front : List ℕ) (c : ℕ) (cs : List ℕ) → begins (b ∷ bs) front ≡ true → front ≡ c ∷ cs → b ≡ c
+head_of b bs front c cs e f = head_is b c bs (cs ++ drop (length front) (b ∷ bs)) (begins_is (b ∷ bs) front e ∙ ap (λ x. x ++ drop (length front) (b ∷ bs)) f)
+
+-- no opening and no escape where no backslash stands
+not_backslash : {C : Type 0} (b : ℕ) (bs : List ℕ) → (b == 92) ≡ false → b ≡ 92 → C
+not_backslash b bs f e = both (b == 92) (ap (λ b. b == 92) e) f
+
+escape_head : (b : ℕ) (bs r rest : List ℕ) (piece : Piece) → SpellsOutside escape piece r → b ∷ bs ≡ r ++ rest → b ≡ 92
+escape_head b bs r rest piece h e = ⊎_elim (λ k. head_is b 92 bs rest (e ∙ ap (λ r. r ++ rest) k)) (λ k. head_is b 92 bs (k.0 ∷ rest) (e ∙ ap (λ r. r ++ rest) k.1)) h.0
+
+opening_head : (b : ℕ) (bs r rest : List ℕ) (piece : Piece) → SpellsOutside opening piece r → b ∷ bs ≡ r ++ rest → b ≡ 92
+opening_head b bs r rest piece h e = head_of b bs (codes "\\begin{") 92 (codes "begin{") (opening_begins (b ∷ bs) r rest piece h e) refl
+
+schema_head : (b : ℕ) (bs r rest : List ℕ) (piece : Piece) → SpellsOutside schema piece r → b ∷ bs ≡ r ++ rest → b ≡ 92
+schema_head b bs r rest piece h e = head_of b bs (codes "\\begin{schema}{") 92 (codes "begin{schema}{") (schema_begins (b ∷ bs) r rest piece h e) refl
+
+plain_next : (b : ℕ) (bs : List ℕ) → (b == 92) ≡ false → (b == 37) ≡ false → Next (b ∷ bs) (plain 1)
+plain_next b bs backslash percent = at_from (b ∷ bs) Plain 1 informal (omega arith) (omega arith) (refl, refl) bound
+  where
+    bound : Bound (b ∷ bs) informal 1
+    bound opening piece r rest h e = not_backslash b bs backslash (opening_head b bs r rest piece h e)
+    bound schema piece r rest h e = not_backslash b bs backslash (schema_head b bs r rest piece h e)
+    bound escape piece r rest h e = not_backslash b bs backslash (escape_head b bs r rest piece h e)
+    bound remark piece r rest h e = absurd (both (b == 37) (ap (λ b. b == 37) (head_is b 37 bs (h.0.0 ++ rest) (e ∙ ap (λ r. r ++ rest) h.0.1))) percent)
+    bound informal piece r rest h e = inr (refl, omega (arith, h.0))
+
+comment_next : (bs : List ℕ) → Next (37 ∷ bs) (comment_found (37 ∷ bs))
+unfolding comment_found
+comment_next bs = at_from (37 ∷ bs) _ (1 + run_len Line bs) remark (omega arith) (omega (arith, run_within Line bs)) (comment_text bs, refl) bound
+  where
+    bound : Bound (37 ∷ bs) remark (1 + run_len Line bs)
+    bound opening piece r rest h e = let k = opening_head 37 bs r rest piece h e in absurd (omega (arith, k))
+    bound schema piece r rest h e = let k = schema_head 37 bs r rest piece h e in absurd (omega (arith, k))
+    bound escape piece r rest h e = let k = escape_head 37 bs r rest piece h e in absurd (omega (arith, k))
+    bound remark piece r rest h e =
+        let behind = tail_is 37 37 bs (h.0.0 ++ rest) (e ∙ ap (λ r. r ++ rest) h.0.1) in
+        inr (refl, omega (arith, ap length h.0.1, run_le Line h.0.0 rest h.0.2, ap (run_len Line) behind))
+    bound informal piece r rest h e = inl (omega arith)
+
+-- a backslash with the byte after it
+abbrev NoOpening : List ℕ → Type 0
+NoOpening s = (piece : Piece) (r rest : List ℕ) → look_up r openings ≡ Some piece → s ≡ r ++ rest → ⊥
+
+escape_text : (t : List ℕ) → SpellsOutside escape Plain (take (min (length (92 ∷ t)) 2) (92 ∷ t))
+escape_text [] = (inl refl, refl)
+escape_text (c ∷ cs) = let n : min (length (92 ∷ c ∷ cs)) 2 ≡ 2 = omega arith in rw n (inr (c, refl), refl)
+
+escape_next : (t : List ℕ) → NoOpening (92 ∷ t) → begins (92 ∷ t) (codes "\\begin{schema}{") ≡ false → Next (92 ∷ t) (plain (min (length (92 ∷ t)) 2))
+escape_next t none nameless = at_from (92 ∷ t) Plain (min (length (92 ∷ t)) 2) escape (omega arith) (omega arith) (escape_text t) bound
+  where
+    bound : Bound (92 ∷ t) escape (min (length (92 ∷ t)) 2)
+    bound opening piece r rest h e = absurd (none piece r rest h e)
+    bound schema piece r rest h e = absurd (both _ (schema_begins (92 ∷ t) r rest piece h e) nameless)
+    bound escape piece r rest h e = inr (refl, ⊎_elim (λ k. omega (arith, ap length k, front_le (92 ∷ t) r rest e)) (λ k. omega (arith, ap length k.1, front_le (92 ∷ t) r rest e)) h.0)
+    bound remark piece r rest h e = inl (omega arith)
+    bound informal piece r rest h e = inl (omega arith)
+
+-- ---- the openings of boxes
+
+-- the length bounds every opening
+opened : (s q : List ℕ) (piece : Piece) → 0 < length q → look_up q openings ≡ Some piece → begins s q ≡ true
+    → ((found : Piece) (r rest : List ℕ) → look_up r openings ≡ Some found → s ≡ r ++ rest → length r ≤ length q)
+    → ((found : Piece) (r rest : List ℕ) → SpellsOutside schema found r → s ≡ r ++ rest → length r ≤ length q)
+    → At s piece (length q)
+opened s q piece some listed e fixed named = at_from s piece (length q) opening some (front_le s q _ is) (ap (λ p. look_up p openings) (taken s q _ (length q) is refl) ∙ listed) bound
+  where
+    is : s ≡ q ++ drop (length q) s
+    is = begins_is s q e
+
+    bound : Bound s opening (length q)
+    bound opening piece r rest h e = inr (refl, fixed piece r rest h e)
+    bound schema piece r rest h e = inr (refl, named piece r rest h e)
+    bound escape piece r rest h e = inl (omega arith)
+    bound remark piece r rest h e = inl (omega arith)
+    bound informal piece r rest h e = inl (omega arith)
+
+nameless_bound : (s : List ℕ) (n : ℕ) → begins s (codes "\\begin{schema}{") ≡ false → (found : Piece) (r rest : List ℕ) → SpellsOutside schema found r → s ≡ r ++ rest → length r ≤ n
+nameless_bound s n nameless piece r rest h e = absurd (both _ (schema_begins s r rest piece h e) nameless)
+
+-- two openings do not begin one text
+apart : {C : Type 0} (s r rest q text : List ℕ) → s ≡ r ++ rest → r ≡ text → begins s q ≡ true → begins (text ++ rest) q ≡ false → C
+apart s r rest q text e f h g = both (begins (text ++ rest) q) (sym (ap (λ s. begins s q) (e ∙ ap (λ r. r ++ rest) f)) ∙ h) g
+
+zed_next : (s : List ℕ) → begins s (codes "\\begin{schema}{") ≡ false → begins s (codes "\\begin{zed}") ≡ true → At s (Symbol BeginZed) 11
+unfolding openings
+zed_next s nameless e = opened s (codes "\\begin{zed}") (Symbol BeginZed) (omega arith) refl e
+    (λ found r rest h f. by_opening r found h (λ g. omega (arith, ap length g)) (λ g. apart s r rest (codes "\\begin{zed}") _ f g e refl) (λ g. apart s r rest (codes "\\begin{zed}") _ f g e refl) (λ g. apart s r rest (codes "\\begin{zed}") _ f g e refl) (λ g. apart s r rest (codes "\\begin{zed}") _ f g e refl))
+    (nameless_bound s 11 nameless)
+
+axdef_next : (s : List ℕ) → begins s (codes "\\begin{schema}{") ≡ false → begins s (codes "\\begin{axdef}") ≡ true → At s (Refused faults.NotInProfile) 13
+unfolding openings
+axdef_next s nameless e = opened s (codes "\\begin{axdef}") (Refused faults.NotInProfile) (omega arith) refl e
+    (λ found r rest h f. by_opening r found h (λ g. omega (arith, ap length g)) (λ g. apart s r rest (codes "\\begin{axdef}") _ f g e refl) (λ g. omega (arith, ap length g)) (λ g. apart s r rest (codes "\\begin{axdef}") _ f g e refl) (λ g. apart s r rest (codes "\\begin{axdef}") _ f g e refl))
+    (nameless_bound s 13 nameless)
+
+gendef_next : (s : List ℕ) → begins s (codes "\\begin{schema}{") ≡ false → begins s (codes "\\begin{gendef}") ≡ true → At s (Refused faults.NotInProfile) 14
+unfolding openings
+gendef_next s nameless e = opened s (codes "\\begin{gendef}") (Refused faults.NotInProfile) (omega arith) refl e (λ found r rest h f. opening_le r found h) (nameless_bound s 14 nameless)
+
+syntax_next : (s : List ℕ) → begins s (codes "\\begin{schema}{") ≡ false → begins s (codes "\\begin{syntax}") ≡ true → At s (Refused faults.NotInProfile) 14
+unfolding openings
+syntax_next s nameless e = opened s (codes "\\begin{syntax}") (Refused faults.NotInProfile) (omega arith) refl e (λ found r rest h f. opening_le r found h) (nameless_bound s 14 nameless)
+
+unnamed_next : (s : List ℕ) → begins s (codes "\\begin{schema}") ≡ true → ((found : Piece) (r rest : List ℕ) → SpellsOutside schema found r → s ≡ r ++ rest → length r ≤ 14) → At s (Refused faults.BadByte) 14
+unfolding openings
+unnamed_next s e named = opened s (codes "\\begin{schema}") (Refused faults.BadByte) (omega arith) refl e (λ found r rest h f. opening_le r found h) named
+
+two_next : (t : List ℕ) → begins (92 ∷ t) (codes "\\begin{") ≡ true → begins (92 ∷ t) (codes "\\begin{schema}{") ≡ false → NoOpening (92 ∷ t) → Next (92 ∷ t) (plain 2)
+two_next t e nameless none =
+    let n : min (length (92 ∷ t)) 2 ≡ 2 = omega (arith, front_le (92 ∷ t) (codes "\\begin{") _ (begins_is (92 ∷ t) (codes "\\begin{") e)) in
+    subst (λ n. Next (92 ∷ t) (plain n)) n (escape_next t none nameless)
+
+other_next : (t : List ℕ) → begins (92 ∷ t) (codes "\\begin{") ≡ true → begins (92 ∷ t) (codes "\\begin{schema}{") ≡ false → Next (92 ∷ t) (other_opening_found (92 ∷ t))
+unfolding other_opening_found
+other_next t e nameless =
+    pick (Next (92 ∷ t)) (begins (92 ∷ t) (codes "\\begin{zed}")) _ _ (λ h. zed_next (92 ∷ t) nameless h)
+    (λ zed. pick (Next (92 ∷ t)) (begins (92 ∷ t) (codes "\\begin{schema}")) _ _ (λ h. unnamed_next (92 ∷ t) h (nameless_bound (92 ∷ t) 14 nameless))
+    (λ bare. pick (Next (92 ∷ t)) (begins (92 ∷ t) (codes "\\begin{axdef}")) _ _ (λ h. axdef_next (92 ∷ t) nameless h)
+    (λ axdef. pick (Next (92 ∷ t)) (begins (92 ∷ t) (codes "\\begin{gendef}")) _ _ (λ h. gendef_next (92 ∷ t) nameless h)
+    (λ gendef. pick (Next (92 ∷ t)) (begins (92 ∷ t) (codes "\\begin{syntax}")) _ _ (λ h. syntax_next (92 ∷ t) nameless h)
+    (λ syntax. two_next t e nameless (λ piece r rest h f. by_opening r piece h
+    (λ g. both _ (at_front (92 ∷ t) r rest (codes "\\begin{zed}") [] f g) zed)
+    (λ g. both _ (at_front (92 ∷ t) r rest (codes "\\begin{schema}") [] f g) bare)
+    (λ g. both _ (at_front (92 ∷ t) r rest (codes "\\begin{axdef}") [] f g) axdef)
+    (λ g. both _ (at_front (92 ∷ t) r rest (codes "\\begin{gendef}") [] f g) gendef)
+    (λ g. both _ (at_front (92 ∷ t) r rest (codes "\\begin{syntax}") [] f g) syntax)))))))
+
+-- ---- the opening of a schema box with its name
+
+not_zero : (n : ℕ) → 0 < n → (n == 0) ≡ false
+not_zero n h = grind (arith, nat_tests)
+
+pub named : (name rest : List ℕ) → is_base name ≡ true → look_up name symbols ≡ None → (base_len (name ++ 125 ∷ rest) ≡ length name) × (has_no_name (name ++ 125 ∷ rest) ≡ false)
+named [] rest h k = absurd (cc)
+named (c ∷ cs) rest h k =
+    let n : base_len (c ∷ cs ++ 125 ∷ rest) ≡ 1 + length cs = rw (and_left (is_letter c) (is_run Base cs) h) (ap (λ n. 1 + n) (run_exact Base cs (125 ∷ rest) (and_right (is_letter c) (is_run Base cs) h) (no_step 125 rest refl refl))) in
+    let long : base_len (c ∷ cs ++ 125 ∷ rest) ≡ length (c ∷ cs) = n ∙ one-add (length cs) in
+    let front : take (base_len (c ∷ cs ++ 125 ∷ rest)) (c ∷ cs ++ 125 ∷ rest) ≡ c ∷ cs = ap (λ n. take n (c ∷ cs ++ 125 ∷ rest)) long ∙ front_is (c ∷ cs) (125 ∷ rest) in
+    let back : drop (base_len (c ∷ cs ++ 125 ∷ rest)) (c ∷ cs ++ 125 ∷ rest) ≡ 125 ∷ rest = ap (λ n. drop n (c ∷ cs ++ 125 ∷ rest)) long ∙ back_is (c ∷ cs) (125 ∷ rest) in
+    let some : (base_len (c ∷ cs ++ 125 ∷ rest) == 0) ≡ false = not_zero (base_len (c ∷ cs ++ 125 ∷ rest)) (omega (arith, n)) in
+    let brace : begins (drop (base_len (c ∷ cs ++ 125 ∷ rest)) (c ∷ cs ++ 125 ∷ rest)) (codes "}") ≡ true = ap (λ s. begins s (codes "}")) back in
+    let free : is_some (look_up (take (base_len (c ∷ cs ++ 125 ∷ rest)) (c ∷ cs ++ 125 ∷ rest)) symbols) ≡ false = ap (λ p. is_some (look_up p symbols)) front ∙ ap is_some k in
+    (long, three _ _ _ some brace free)
+  where
+    three : (a b d : Bool) → a ≡ false → b ≡ true → d ≡ false → (a || (not b || d)) ≡ false
+    three a b d e f g = rw (e, f, g)
+
+schema_long : (s r rest : List ℕ) (piece : Piece) → SpellsOutside schema piece r → s ≡ r ++ rest → (length r ≡ 16 + base_len (drop 15 s)) × (has_no_name (drop 15 s) ≡ false)
+schema_long s r rest piece h e =
+    let behind : drop 15 s ≡ h.0 ++ 125 ∷ rest = ap (drop 15) (schema_is s r rest h.0 h.1 e) ∙ append_assoc h.0 (codes "}") rest in
+    let n = named h.0 rest h.2 h.3 in
+    (omega (arith, ap length h.1, length-append h.0 (codes "}"), n.0, ap base_len behind), ap has_no_name behind ∙ n.1)
+
+record Named (t : List ℕ) : Type 0 where
+  some : (base_len t == 0) ≡ false
+  brace : begins (drop (base_len t) t) (codes "}") ≡ true
+  free : look_up (take (base_len t) t) symbols ≡ None
+
+named_from : (t : List ℕ) → has_no_name t ≡ false → Named t
+named_from t h = by (base_len t == 0) (begins (drop (base_len t) t) (codes "}")) (look_up (take (base_len t) t) symbols) refl refl refl h
+  where
+    by : (a b : Bool) (o : Option Piece) → (base_len t == 0) ≡ a → begins (drop (base_len t) t) (codes "}") ≡ b → look_up (take (base_len t) t) symbols ≡ o → (a || (not b || is_some o)) ≡ false → Named t
+    by true b o e f g h = both true refl h
+    by false false o e f g h = both true refl h
+    by false true (Some piece) e f g h = both true refl h
+    by false true None e f g h = record { some = e; brace = f; free = g }
+
+name_text : (t : List ℕ) → (base_len t == 0) ≡ false → is_base (take (base_len t) t) ≡ true
+name_text [] h = absurd (both true refl h)
+name_text (b ∷ bs) h = by (is_letter b) refl
+  where
+    by : (l : Bool) → is_letter b ≡ l → is_base (take (base_len (b ∷ bs)) (b ∷ bs)) ≡ true
+    by true l = base_text b bs l
+    by false l = let n : base_len (b ∷ bs) ≡ 0 = rw l in absurd (both (base_len (b ∷ bs) == 0) (ap (λ n. n == 0) n) h)
+
+schema_text : (s : List ℕ) → begins s (codes "\\begin{schema}{") ≡ true → Named (drop 15 s)
+    → s ≡ (codes "\\begin{schema}{" ++ take (base_len (drop 15 s)) (drop 15 s) ++ codes "}") ++ drop 1 (drop (base_len (drop 15 s)) (drop 15 s))
+schema_text s e n =
+    let t = drop 15 s in
+    let behind : drop (base_len t) t ≡ codes "}" ++ drop 1 (drop (base_len t) t) = begins_is (drop (base_len t) t) (codes "}") n.brace in
+    let all : t ≡ take (base_len t) t ++ (codes "}" ++ drop 1 (drop (base_len t) t)) = sym (take-append-drop (base_len t) t) ∙ ap (λ x. take (base_len t) t ++ x) behind in
+    begins_is s (codes "\\begin{schema}{") e ∙ ap (λ t. codes "\\begin{schema}{" ++ t) (all ∙ sym (append_assoc (take (base_len t) t) (codes "}") (drop 1 (drop (base_len t) t))))
+
+named_next : (s : List ℕ) → begins s (codes "\\begin{schema}{") ≡ true → Named (drop 15 s) → At s (Symbol (BeginSchema (take (base_len (drop 15 s)) (drop 15 s)))) (16 + base_len (drop 15 s))
+named_next s e n = at_from s _ (16 + base_len t) schema (omega arith) (omega (arith, front_le s (codes "\\begin{schema}{" ++ take (base_len (drop 15 s)) (drop 15 s) ++ codes "}") (drop 1 (drop (base_len (drop 15 s)) (drop 15 s))) is, long)) (take (base_len t) t, taken s _ _ (16 + base_len t) is long, name_text t n.some, n.free, refl) bound
+  where
+    t : List ℕ
+    t = drop 15 s
+
+    is : s ≡ (codes "\\begin{schema}{" ++ take (base_len (drop 15 s)) (drop 15 s) ++ codes "}") ++ drop 1 (drop (base_len (drop 15 s)) (drop 15 s))
+    is = schema_text s e n
+
+    long : length (codes "\\begin{schema}{" ++ take (base_len (drop 15 s)) (drop 15 s) ++ codes "}") ≡ 16 + base_len (drop 15 s)
+    long = omega (arith, length-append (take (base_len (drop 15 s)) (drop 15 s)) (codes "}"), length-take-le (base_len (drop 15 s)) (drop 15 s) (base_within (drop 15 s)))
+
+    bound : Bound s schema (16 + base_len (drop 15 s))
+    bound opening piece r rest h e = inr (refl, omega (arith, opening_le r piece h))
+    bound schema piece r rest h e = inr (refl, omega (arith, (schema_long s r rest piece h e).0))
+    bound escape piece r rest h e = inl (omega arith)
+    bound remark piece r rest h e = inl (omega arith)
+    bound informal piece r rest h e = inl (omega arith)
+
+schema_next : (s : List ℕ) → begins s (codes "\\begin{schema}{") ≡ true → Next s (schema_found s)
+unfolding schema_found
+schema_next s e =
+    pick (Next s) (has_no_name (drop 15 s)) _ _
+    (λ h. unnamed_next s (is_begun s (codes "\\begin{schema}") (codes "{" ++ drop 15 s) (begins_is s (codes "\\begin{schema}{") e)) (λ found r rest k f. absurd (both _ h (schema_long s r rest found k f).1)))
+    (λ h. named_next s e (named_from (drop 15 s) h))
+
+-- ---- all
+
+opening_next : (t : List ℕ) → Next (92 ∷ t) (opening_found (92 ∷ t))
+unfolding opening_found
+opening_next t = by (begins (92 ∷ t) (codes "\\begin{")) refl
+  where
+    by : (z : Bool) → begins (92 ∷ t) (codes "\\begin{") ≡ z → Next (92 ∷ t) (if not z then plain (min (length (92 ∷ t)) 2) else (if begins (92 ∷ t) (codes "\\begin{schema}{") then schema_found (92 ∷ t) else other_opening_found (92 ∷ t)))
+    by false h = escape_next t (λ piece r rest k e. both _ (opening_begins (92 ∷ t) r rest piece k e) h) (nameless (begins (92 ∷ t) (codes "\\begin{schema}{")) refl)
+      where
+        nameless : (z : Bool) → begins (92 ∷ t) (codes "\\begin{schema}{") ≡ z → begins (92 ∷ t) (codes "\\begin{schema}{") ≡ false
+        nameless true e = both _ (wider (92 ∷ t) e) h
+        nameless false e = e
+    by true h = pick (Next (92 ∷ t)) (begins (92 ∷ t) (codes "\\begin{schema}{")) _ _ (λ e. schema_next (92 ∷ t) e) (λ e. other_next t h e)
+
+pub outside_next : (s : List ℕ) → 0 < length s → Next s (outside_found s)
+unfolding outside_found
+outside_next [] some = absurd (omega arith)
+outside_next (b ∷ bs) some =
+    pick (Next (b ∷ bs)) (b == 92) _ _ (λ e. subst (λ b. Next (b ∷ bs) (opening_found (b ∷ bs))) (sym (eq_is b 92 e)) (opening_next bs))
+    (λ backslash. pick (Next (b ∷ bs)) (b == 37) _ _ (λ e. subst (λ b. Next (b ∷ bs) (comment_found (b ∷ bs))) (sym (eq_is b 37 e)) (comment_next bs)) (λ percent. plain_next b bs backslash percent))

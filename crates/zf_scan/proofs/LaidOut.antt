@@ -1,0 +1,54 @@
+-- That tokens laid out in a text are its symbols.
+use Rattle.std.proofs.Common.{◌≡◌, ℕ, ◌+◌, ◌-◌, ◌≤◌, List, [], ◌∷◌, ◌++◌, length, take, drop, map, refl, sym, ap, ◌∙◌, arith, length-append, length-drop}
+use Rattle.std.proofs.Math.Seq.{take-append_seam, drop-append_seam}
+use Rattle.std.proofs.lemmas.List.{append-nil, map-append, take-append-le, drop-append-le}
+use Rattle.zf_scan.specs.declared.placed.Placed.{Placed}
+use Rattle.zf_scan.specs.declared.token.Kind.{Kind}
+use Rattle.zf_scan.specs.declared.token.Kind.TheVariants as k
+use Rattle.zf_scan.specs.declared.token.Token.{Token}
+use Rattle.zf_scan.specs.Laying.{spelling, amount, AreWithin, IsLaid}
+use Rattle.zf_scan.specs.Placing.{between, symbol_at, unplaced}
+use Rattle.zf_scan.specs.Choosing.{next_of}
+use Rattle.zf_scan.specs.Separators.{symbol}
+use Rattle.zf_scan.specs.Sights.{kind_of}
+
+between_kept : (start stop : ℕ) (text more : List ℕ) → start ≤ stop → stop ≤ length text → between start stop (text ++ more) ≡ between start stop text
+between_kept start stop text more h w =
+    ap (take (stop - start)) (drop-append-le start text more (omega arith)) ∙ take-append-le (stop - start) (drop start text) more (omega (arith, length-drop start text))
+
+kept : (text more : List ℕ) (ps : List Placed) → AreWithin (length text) ps → map (symbol_at (text ++ more)) ps ≡ map (symbol_at text) ps
+kept text more [] w = refl
+kept text more (p ∷ ps) w =
+    ap (λ t. symbol (kind_of p.next p.amount t) p.line ∷ map (symbol_at (text ++ more)) ps) (between_kept p.start p.stop text more w.0 w.1)
+    ∙ ap (λ ss. symbol_at text p ∷ ss) (kept text more ps w.2)
+
+within : (n m : ℕ) (ps : List Placed) (p : Placed) → AreWithin n ps → n ≤ m → p.start ≤ p.stop → p.stop ≤ m → AreWithin m (ps ++ p ∷ [])
+within n m [] p w h s e = (s, e, tt)
+within n m (q ∷ ps) p w h s e = (w.0, omega (arith, w.1), within n m ps p w.2 h s e)
+
+all_taken : (s : List ℕ) → take (length s) s ≡ s
+all_taken s = ap (take (length s)) (sym (append-nil s)) ∙ take-append_seam s []
+
+spelled : (kind : Kind) → kind_of (next_of kind) (amount kind) (spelling kind) ≡ kind
+spelled (k.BeginSchema base) = ap k.BeginSchema (all_taken base)
+spelled (k.Name base strokes) = ap (λ b. k.Name b (drop (length base) (base ++ strokes))) (take-append_seam base strokes) ∙ ap (k.Name base) (drop-append_seam base strokes)
+spelled _ = refl
+
+at_end : (text more : List ℕ) → between (length text) (length (text ++ more)) (text ++ more) ≡ more
+at_end text more =
+    let len : length (text ++ more) - length text ≡ length more = omega (arith, length-append text more) in
+    ap (λ n. take n (drop (length text) (text ++ more))) len ∙ ap (take (length more)) (drop-append_seam text more) ∙ all_taken more
+
+pub added : (text : List ℕ) (ps : List Placed) (tokens : List Token) (t : Token) → IsLaid text ps tokens
+    → IsLaid (text ++ spelling t.kind) (ps ++ record { next = next_of t.kind; line = t.line; start = length text; stop = length (text ++ spelling t.kind); amount = amount t.kind } ∷ []) (tokens ++ t ∷ [])
+added text ps tokens t l =
+    let more = spelling t.kind in
+    let p : Placed = record { next = next_of t.kind; line = t.line; start = length text; stop = length (text ++ more); amount = amount t.kind } in
+    let kind : kind_of (next_of t.kind) (amount t.kind) (between (length text) (length (text ++ more)) (text ++ more)) ≡ t.kind = ap (kind_of (next_of t.kind) (amount t.kind)) (at_end text more) ∙ spelled t.kind in
+    record {
+      same = map-append (symbol_at (text ++ more)) ps (p ∷ [])
+          ∙ ap (λ ss. ss ++ symbol_at (text ++ more) p ∷ []) (kept text more ps l.within ∙ l.same)
+          ∙ ap (λ kind. map unplaced tokens ++ symbol kind t.line ∷ []) kind
+          ∙ sym (map-append unplaced tokens (t ∷ []));
+      within = within (length text) (length (text ++ more)) ps p l.within (omega (arith, length-append text more)) (omega (arith, length-append text more)) (omega arith);
+    }

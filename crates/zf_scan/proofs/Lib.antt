@@ -1,0 +1,16 @@
+pub mod Runs
+pub mod Numbers
+pub mod Texts
+pub mod Table
+pub mod Longest
+pub mod Closing
+pub mod First
+pub mod Same
+pub mod Spelled
+pub mod LaidOut
+pub mod Scanned
+mod ScanTurns
+pub mod Quiet
+pub mod Laws
+mod Fronts
+mod MarkedCommands

@@ -1,0 +1,13 @@
+use Rattle.std.proofs.Common.{◌∙◌, rules}
+use Rattle.zf_scan.specs.Steps.{schema_found, found}
+use Rattle.zf_scan.specs.declared.pieces.Piece.TheVariants.{Symbol}
+use Rattle.zf_scan.specs.declared.token.Kind.TheVariants.{BeginSchema}
+use Rattle.std.proofs.Common.{◌≡◌, ◌+◌, take, drop}
+use Rattle.zf_scan.proofs.Spelled.{schema_told}
+use Rattle.zf_scan.proofs.outside.schema_at.Goals as goal
+
+pub returns : goal.returns
+unfolding schema_found
+returns c =
+    let found_is : found (Symbol (BeginSchema (take c.base_len-len.result (drop 15 c.args.rest.now)))) (16 + c.base_len-len.result) ≡ schema_found c.args.rest.now = search rules in
+    schema_told c.args.rest.now c.base_len-len.result ∙ found_is

@@ -1,0 +1,6 @@
+use Rattle.std.proofs.Common.{◌≡◌, ◌+◌, ◌≤◌, drop}
+use Rattle.zf_scan.specs.Cuts.{newlines}
+use Rattle.zf_scan.proofs.scan.newlines.Given as goal
+
+abbrev pub invariant-loop-b : goal.invariant-loop-b
+invariant-loop-b l = (l.n + newlines (drop l.b-index l.bytes) ≡ newlines l.bytes) × (l.n ≤ l.b-index)

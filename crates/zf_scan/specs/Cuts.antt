@@ -1,0 +1,144 @@
+-- When a source is cut, its tokens, and the fault of a source that is not cut.
+use Rattle.std.specs.Prelude.{◌≡◌, ℕ, ◌+◌, ◌≤◌, ◌<◌, ◌⊎◌, if◌then◌else◌, ◌==◌, List, [], ◌∷◌, ◌++◌, length, codes}
+use Rattle.zf_scan.specs.declared.fault.TextFault.{TextFault}
+use Rattle.zf_scan.specs.declared.fault.TextFaultKind.{TextFaultKind}
+use Rattle.zf_scan.specs.declared.fault.TextFaultKind.TheVariants.{BadByte, UnclosedBox, TooLong, OutOfMemory}
+use Rattle.zf_scan.specs.declared.pieces.Piece.{Piece}
+use Rattle.zf_scan.specs.declared.pieces.Piece.TheVariants.{Plain, Symbol, Refused}
+use Rattle.zf_scan.specs.declared.pieces.Place.{Place}
+use Rattle.zf_scan.specs.declared.pieces.Place.TheVariants as places
+use Rattle.zf_scan.specs.declared.scan.TheConstants.{SOURCE_MAX}
+use Rattle.zf_scan.specs.declared.token.Kind.TheVariants.{BeginZed, BeginSchema, EndBox}
+use Rattle.zf_scan.specs.declared.token.Token.{Token}
+use Rattle.zf_scan.specs.Pieces.{InsideKind, SpellsInside, OutsideKind, SpellsOutside, turn}
+
+-- inside a box that `end` closes, the piece that begins a text: none that begins there is longer
+pub record StandsInside (end : List ℕ) (piece : Piece) (p after : List ℕ) : Type 0 where
+  pub kind : InsideKind
+  pub spells : SpellsInside end kind piece p
+  pub longest : (other : InsideKind) (found : Piece) (r rest : List ℕ) → SpellsInside end other found r → p ++ after ≡ r ++ rest → length r ≤ length p
+
+-- outside: it is of the first kind that fits, and the longest of that kind
+pub record StandsOutside (piece : Piece) (p after : List ℕ) : Type 0 where
+  pub kind : OutsideKind
+  pub spells : SpellsOutside kind piece p
+  pub first : (other : OutsideKind) (found : Piece) (r rest : List ℕ) → SpellsOutside other found r → p ++ after ≡ r ++ rest → (turn kind < turn other) ⊎ ((turn kind ≡ turn other) × (length r ≤ length p))
+
+abbrev pub Stands : Place → Piece → List ℕ → List ℕ → Type 0
+Stands places.Outside piece p after = StandsOutside piece p after
+Stands (places.Zed line) piece p after = StandsInside (codes "\\end{zed}") piece p after
+Stands (places.Schema line) piece p after = StandsInside (codes "\\end{schema}") piece p after
+
+-- ---- places
+
+abbrev pub newlines : List ℕ → ℕ
+newlines [] = 0
+newlines (b ∷ bs) = (if b == 10 then 1 else 0) + newlines bs
+
+-- where a piece stands, with what is before it
+pub record Spot : Type 0 where
+  pub place : Place
+  pub before : List ℕ
+
+abbrev pub line_of : Spot → ℕ
+line_of spot = 1 + newlines spot.before
+
+abbrev pub start : Spot
+start = record { place = places.Outside; before = [] }
+
+-- the place behind a piece
+abbrev pub entered : Place → ℕ → Piece → Place
+entered place line Plain = place
+entered place line (Refused kind) = place
+entered place line (Symbol BeginZed) = places.Zed line
+entered place line (Symbol (BeginSchema name)) = places.Schema line
+entered place line (Symbol EndBox) = places.Outside
+entered place line (Symbol _) = place
+
+abbrev pub past : Spot → Piece × List ℕ → Spot
+past spot p = record { place = entered spot.place (line_of spot) p.0; before = spot.before ++ p.1 }
+
+-- ---- cuts
+
+abbrev pub IsRead : Piece → Type 0
+IsRead Plain = Unit {0}
+IsRead (Symbol kind) = Unit {0}
+IsRead (Refused kind) = ⊥
+
+-- pieces, each the one that stands at its spot, from one text to what is left of it
+abbrev pub Cuts : List (Piece × List ℕ) → Spot → List ℕ → Spot → List ℕ → Type 0
+Cuts [] spot source end rest = (spot ≡ end) × (source ≡ rest)
+Cuts (p ∷ ps) spot source end rest = (after : List ℕ) × (source ≡ p.1 ++ after) × Stands spot.place p.0 p.1 after × IsRead p.0 × Cuts ps (past spot p) after end rest
+
+abbrev pub tokens_of : Spot → Piece → List ℕ → List Token
+tokens_of spot Plain p = []
+tokens_of spot (Refused kind) p = []
+tokens_of spot (Symbol kind) p = record { kind = kind; start = length spot.before; stop = length spot.before + length p; line = line_of spot } ∷ []
+
+abbrev pub tokens_from : Spot → List (Piece × List ℕ) → List Token
+tokens_from spot [] = []
+tokens_from spot (p ∷ ps) = tokens_of spot p.0 p.1 ++ tokens_from (past spot p) ps
+
+-- a source that is cut, with its tokens
+pub record IsCutInto (source : List ℕ) (tokens : List Token) : Type 0 where
+  pub short : length source ≤ SOURCE_MAX
+  pub pieces : List (Piece × List ℕ)
+  pub end : Spot
+  pub cuts : Cuts pieces start source end []
+  pub closed : end.place ≡ places.Outside
+  pub told : tokens ≡ tokens_from start pieces
+
+abbrev pub IsUncut : List ℕ → Type 0
+IsUncut source = (tokens : List Token) → IsCutInto source tokens → ⊥
+
+-- ---- faults
+
+-- the line of the box's `\begin`
+abbrev pub begun : Place → ℕ
+begun places.Outside = 0
+begun (places.Zed line) = line
+begun (places.Schema line) = line
+
+abbrev pub fault_line : Place → ℕ → TextFaultKind → ℕ
+fault_line place line UnclosedBox = begun place
+fault_line place line _ = line
+
+-- no piece fits: one that is refused stands there, or none, or the source ends in a box
+abbrev pub Fails : Place → List ℕ → TextFaultKind → Type 0
+Fails place rest kind =
+    ((p after : List ℕ) × (rest ≡ p ++ after) × Stands place (Refused kind) p after)
+    ⊎ (((kind ≡ BadByte) × (0 < length rest) × ((piece : Piece) (p after : List ℕ) → rest ≡ p ++ after → Stands place piece p after → ⊥))
+    ⊎ ((kind ≡ UnclosedBox) × (rest ≡ []) × (place ≡ places.Outside → ⊥)))
+
+-- the first place where no piece fits
+pub record IsStuck (source : List ℕ) (fault : TextFault) : Type 0 where
+  pub short : length source ≤ SOURCE_MAX
+  pub pieces : List (Piece × List ℕ)
+  pub spot : Spot
+  pub rest : List ℕ
+  pub cuts : Cuts pieces start source spot rest
+  pub fails : Fails spot.place rest fault.kind
+  pub line : fault.line ≡ fault_line spot.place (line_of spot) fault.kind
+
+abbrev pub IsTooLong : List ℕ → TextFault → Type 0
+IsTooLong source fault = (SOURCE_MAX < length source) × (fault.kind ≡ TooLong) × (fault.line ≡ 0)
+
+abbrev pub HasFault : List ℕ → TextFault → Type 0
+HasFault source fault = IsTooLong source fault ⊎ IsStuck source fault
+
+abbrev pub IsWantOfMemory : TextFault → Type 0
+IsWantOfMemory fault = (fault.kind ≡ OutOfMemory) × (fault.line ≡ 0)
+
+-- ---- laws
+
+-- a source is cut in at most one way
+abbrev pub IsCutOnce : Type 0
+IsCutOnce = (source : List ℕ) (one two : List Token) → IsCutInto source one → IsCutInto source two → one ≡ two
+
+-- it has at most one fault
+abbrev pub FaultsOnce : Type 0
+FaultsOnce = (source : List ℕ) (one two : TextFault) → HasFault source one → HasFault source two → one ≡ two
+
+-- a source that is cut has none
+abbrev pub IsCutOrFaults : Type 0
+IsCutOrFaults = (source : List ℕ) (tokens : List Token) (fault : TextFault) → IsCutInto source tokens → HasFault source fault → ⊥

@@ -1,0 +1,69 @@
+-- What the scanner keeps of a piece, and the piece that it is kept of. Only clauses of what the parser calls rest on this file.
+use Rattle.std.specs.Prelude.{ℕ, List, take, drop, Option, Some, None}
+use Rattle.zf_scan.specs.declared.next.Next.{Next}
+use Rattle.zf_scan.specs.declared.next.Next.TheVariants as next
+use Rattle.zf_scan.specs.declared.pieces.Found.{Found}
+use Rattle.zf_scan.specs.declared.pieces.Piece.{Piece}
+use Rattle.zf_scan.specs.declared.pieces.Piece.TheVariants.{Plain, Symbol, Refused}
+use Rattle.zf_scan.specs.declared.pieces.Sight.{Sight}
+use Rattle.zf_scan.specs.declared.pieces.Sight.TheVariants as sight
+use Rattle.zf_scan.specs.declared.token.Kind.{Kind}
+use Rattle.zf_scan.specs.declared.token.Kind.TheVariants as k
+use Rattle.zf_scan.specs.Steps as steps
+
+-- `\begin{schema}{`
+abbrev pub opening_len : ℕ
+opening_len = 15
+
+-- the symbol of this spelling; the amount is the length of a name without strokes, or a number's value
+abbrev pub kind_of : Next → ℕ → List ℕ → Kind
+kind_of next.End amount text = k.EndBox
+kind_of next.BeginZed amount text = k.BeginZed
+kind_of next.BeginSchema amount text = k.BeginSchema (take amount (drop opening_len text))
+kind_of next.EndBox amount text = k.EndBox
+kind_of next.Name amount text = k.Name (take amount text) (drop amount text)
+kind_of next.Number amount text = k.Number amount
+kind_of (next.Separator s) amount text = k.Separator s
+kind_of next.OpenRound amount text = k.OpenRound
+kind_of next.CloseRound amount text = k.CloseRound
+kind_of next.OpenSquare amount text = k.OpenSquare
+kind_of next.CloseSquare amount text = k.CloseSquare
+kind_of next.OpenBrace amount text = k.OpenBrace
+kind_of next.CloseBrace amount text = k.CloseBrace
+kind_of next.OpenImage amount text = k.OpenImage
+kind_of next.CloseImage amount text = k.CloseImage
+kind_of next.Comma amount text = k.Comma
+kind_of next.Colon amount text = k.Colon
+kind_of next.Bar amount text = k.Bar
+kind_of next.At amount text = k.At
+kind_of next.Abbreviates amount text = k.Abbreviates
+kind_of next.FreeType amount text = k.FreeType
+kind_of next.Defines amount text = k.Defines
+kind_of next.Where amount text = k.Where
+kind_of (next.Infix op) amount text = k.Infix op
+kind_of (next.Arrow a) amount text = k.Arrow a
+kind_of next.Cross amount text = k.Cross
+kind_of (next.Prefix s) amount text = k.Prefix s
+kind_of next.Inverse amount text = k.Inverse
+kind_of (next.Constant c) amount text = k.Constant c
+kind_of next.EmptySet amount text = k.EmptySet
+kind_of (next.Relation r) amount text = k.Relation r
+kind_of next.Not amount text = k.Not
+kind_of (next.Connective c) amount text = k.Connective c
+kind_of (next.Quantifier q) amount text = k.Quantifier q
+kind_of next.Delta amount text = k.Delta
+kind_of next.Xi amount text = k.Xi
+
+abbrev pub piece_of : Sight → ℕ → List ℕ → Piece
+piece_of sight.Plain amount text = Plain
+piece_of (sight.Symbol next) amount text = Symbol (kind_of next amount text)
+piece_of (sight.Refused kind) amount text = Refused kind
+
+-- what a spelling is seen as
+abbrev pub seen : List ℕ → Option Sight → Option Piece
+seen text None = None
+seen text (Some sight) = Some (piece_of sight 0 text)
+
+-- what was found at the front of a text
+abbrev pub told : List ℕ → Found → steps.Found
+told s f = record { piece = piece_of f.sight f.amount (take f.len s); len = f.len }

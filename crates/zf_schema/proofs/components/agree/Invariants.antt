@@ -1,7 +1,0 @@
-use Rattle.std.proofs.Common.{map, drop}
-use Rattle.zf_type.specs.Definitions.{comp_of}
-use Rattle.zf_schema.specs.Calculus.{Agree}
-use Rattle.zf_schema.proofs.components.agree.Given as goal
-
-abbrev pub invariant-loop-other : goal.invariant-loop-other
-invariant-loop-other l = Agree (map comp_of l.components) (map comp_of (drop l.other-index l.others)) → Agree (map comp_of l.components) (map comp_of l.others)

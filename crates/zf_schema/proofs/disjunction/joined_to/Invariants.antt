@@ -1,7 +1,0 @@
-use Rattle.std.proofs.Common.{◌≡◌, map, drop}
-use Rattle.zf_type.specs.ResolvedTrees.{resolved_of}
-use Rattle.zf_schema.specs.Growth.{all_joined}
-use Rattle.zf_schema.proofs.disjunction.joined_to.Given as goal
-
-abbrev pub invariant-loop-term : goal.invariant-loop-term
-invariant-loop-term l = all_joined (resolved_of l.whole) (map resolved_of (drop l.term-index l.further)) ≡ all_joined (resolved_of l.initial.whole) (map resolved_of l.further)

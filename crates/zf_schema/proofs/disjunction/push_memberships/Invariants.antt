@@ -1,9 +1,0 @@
-use Rattle.std.proofs.Common.{◌≡◌, ◌++◌, map, drop}
-use Rattle.std.specs.Prelude.{flat_map}
-use Rattle.zf_type.specs.Definitions.{set_of}
-use Rattle.zf_type.specs.ResolvedTrees.{resolved_of}
-use Rattle.zf_schema.specs.Calculus.{membership}
-use Rattle.zf_schema.proofs.disjunction.push_memberships.Given as goal
-
-abbrev pub invariant-loop-domain : goal.invariant-loop-domain
-invariant-loop-domain l = map resolved_of l.made ++ flat_map (membership l.place) (map set_of (drop l.domain-index l.domains)) ≡ map resolved_of l.initial.made ++ flat_map (membership l.place) (map set_of l.domains)

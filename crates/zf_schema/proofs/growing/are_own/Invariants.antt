@@ -1,5 +1,0 @@
-use Rattle.zf_schema.proofs.Renumbering.{KeepsAll}
-use Rattle.zf_schema.proofs.growing.are_own.Given as goal
-
-abbrev pub invariant-loop-place : goal.invariant-loop-place
-invariant-loop-place l = KeepsAll l.places l.place

@@ -1,7 +1,0 @@
-use Rattle.std.proofs.Common.{◌≡◌, map}
-use Rattle.zf_type.specs.Definitions.{comp_of}
-use Rattle.zf_schema.proofs.Decorating.{stroked, with_strokes_from}
-use Rattle.zf_schema.proofs.marking.add_to_each.Given as goal
-
-abbrev pub invariant-loop-component : goal.invariant-loop-component
-invariant-loop-component l = with_strokes_from l.strokes l.component-index l.components ≡ map (stroked l.strokes) (map comp_of l.initial.components)

@@ -1,8 +1,0 @@
-use Rattle.std.proofs.Common.{◌≡◌, ◌+◌, map, drop}
-use Rattle.zf_type.specs.Definitions.{comp_of}
-use Rattle.zf_type.specs.SetShapes.{set_nodes}
-use Rattle.zf_schema.specs.Growth.{counted}
-use Rattle.zf_schema.proofs.room.after_all_nodes.Given as goal
-
-abbrev pub invariant-loop-component : goal.invariant-loop-component
-invariant-loop-component l = l.left + counted set_nodes (map comp_of l.components) ≡ l.room + counted set_nodes (map comp_of (drop l.component-index l.components))

@@ -1,8 +1,0 @@
-use Rattle.std.proofs.Common.{◌≡◌, ◌+◌, map, drop}
-use Rattle.std.specs.List.{sum_by}
-use Rattle.zf_type.specs.Definitions.{conjunct_of}
-use Rattle.zf_type.specs.Shapes.{nodes}
-use Rattle.zf_schema.proofs.room.after_conjuncts.Given as goal
-
-abbrev pub invariant-loop-conjunct : goal.invariant-loop-conjunct
-invariant-loop-conjunct l = l.left + sum_by nodes (map conjunct_of l.conjuncts) ≡ l.room + sum_by nodes (map conjunct_of (drop l.conjunct-index l.conjuncts))

@@ -1,8 +1,0 @@
-use Rattle.std.proofs.Common.{map, drop}
-use Rattle.std.specs.List.{AllByRecursion}
-use Rattle.zf_type.specs.Definitions.{conjunct_of}
-use Rattle.zf_schema.specs.Limits.{IsLow}
-use Rattle.zf_schema.proofs.room.are_low.Given as goal
-
-abbrev pub invariant-loop-conjunct : goal.invariant-loop-conjunct
-invariant-loop-conjunct l = AllByRecursion IsLow (map conjunct_of (drop l.conjunct-index l.conjuncts)) → AllByRecursion IsLow (map conjunct_of l.conjuncts)

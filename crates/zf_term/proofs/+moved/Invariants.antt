@@ -1,0 +1,13 @@
+use Rattle.std.proofs.Common.{◌≡◌, map, take}
+use Rattle.zf_term.specs.ResolvedTrees.{resolved_of, resolved_link_of, range_of}
+use Rattle.zf_term.specs.Shapes.{moved, link_moved, range_moved, place_in}
+use Rattle.zf_term.proofs.+moved.Given as goal
+
+abbrev pub invariant-moving::moved_terms-loop-term : goal.invariant-moving::moved_terms-loop-term
+invariant-moving::moved_terms-loop-term l = map resolved_of l.moved ≡ map (moved (place_in l.places)) (map resolved_of (take l.term-index l.term-items))
+
+abbrev pub invariant-moving::moved_links-loop-link : goal.invariant-moving::moved_links-loop-link
+invariant-moving::moved_links-loop-link l = map resolved_link_of l.moved ≡ map (link_moved (place_in l.places)) (map resolved_link_of (take l.link-index l.link-items))
+
+abbrev pub invariant-moving::moved_ranges-loop-range : goal.invariant-moving::moved_ranges-loop-range
+invariant-moving::moved_ranges-loop-range l = map range_of l.moved ≡ map (range_moved (place_in l.places)) (map range_of (take l.range-index l.range-items))

@@ -1,0 +1,90 @@
+-- What each form of resolved term is seen as.
+use Rattle.std.proofs.Common.{◌≡◌, ℕ, List, map, Option, Some, None, sym, ap, ◌∙◌}
+use Rattle.zf_scan.specs.declared.token.Constant.{Constant}
+use Rattle.zf_scan.specs.declared.token.Quantifier.{Quantifier}
+use Rattle.zf_scan.specs.declared.token.Relation.{Relation}
+use Rattle.zf_term.specs.declared.operator.Listed.{Listed}
+use Rattle.zf_term.specs.declared.operator.Operator.{Operator}
+use Rattle.zf_term.specs.declared.operator.Unary.{Unary}
+use Rattle.zf_term.specs.declared.resolved.Reference.{Reference}
+use Rattle.zf_term.specs.declared.resolved.Resolved.{Resolved}
+use Rattle.zf_term.specs.declared.resolved.ResolvedLink.{ResolvedLink}
+use Rattle.zf_term.specs.declared.resolved.Range.{Range}
+use Rattle.zf_term.specs.declared.resolved.Resolved.TheOpen.{Resolved-F}
+use Rattle.zf_term.specs.declared.resolved.Resolved.TheViews.{out-Resolved, roll-out-Resolved, roll-Resolved, roll-ResolvedLink, roll-Range}
+use Rattle.zf_term.specs.declared.resolved.Resolved.TheVariants as v
+use Rattle.zf_term.specs.declared.resolved.Resolved.TheFolds.{fold-roll-Resolved, fold-roll-ResolvedLink, fold-roll-Range, map-Resolved}
+use Rattle.zf_term.specs.ResolvedTrees.{ResolvedTree, reference, number, constant, empty_set, bracket, listed, builder, unary, binary, chain, quantified, terms, links, ranges, part_of, resolved_of, resolved_link_of, range_of, resolved_step, resolved_link_step, range_step}
+
+abbrev pub new_link : Relation → Resolved → ResolvedLink
+new_link r t = roll-ResolvedLink (record { relation = r; right = t })
+
+abbrev pub new_range : ℕ → Resolved → Range
+new_range n t = roll-Range (record { variables = n; set = t })
+
+-- one level of a term, seen
+abbrev pub form_of : Resolved-F Resolved Range ResolvedLink → ResolvedTree
+form_of x = resolved_step (map-Resolved Resolved Range ResolvedLink ResolvedTree (ℕ × ResolvedTree) (Relation × ResolvedTree) resolved_of range_of resolved_link_of x)
+
+pub rolled : (x : Resolved-F Resolved Range ResolvedLink) → resolved_of (roll-Resolved x) ≡ form_of x
+unfolding resolved_of range_of resolved_link_of
+rolled x = fold-roll-Resolved ResolvedTree (ℕ × ResolvedTree) (Relation × ResolvedTree) resolved_step range_step resolved_link_step x
+
+pub of-Name : (l : ℕ) (r : Reference) → resolved_of (v.Name l r) ≡ reference l r
+of-Name l r = ap resolved_of (sym (v.rolls-Name l r)) ∙ rolled (Resolved-F.Name l r)
+
+pub of-Number : (l n : ℕ) → resolved_of (v.Number l n) ≡ number l n
+of-Number l n = ap resolved_of (sym (v.rolls-Number l n)) ∙ rolled (Resolved-F.Number l n)
+
+pub of-Constant : (l : ℕ) (c : Constant) → resolved_of (v.Constant l c) ≡ constant l c
+of-Constant l c = ap resolved_of (sym (v.rolls-Constant l c)) ∙ rolled (Resolved-F.Constant l c)
+
+pub of-EmptySet : (l : ℕ) (t : Resolved) → resolved_of (v.EmptySet l t) ≡ empty_set l (resolved_of t)
+of-EmptySet l t = ap resolved_of (sym (v.rolls-EmptySet l t)) ∙ rolled (Resolved-F.EmptySet l t)
+
+pub of-Bracket : (l : ℕ) (t : Resolved) → resolved_of (v.Bracket l t) ≡ bracket l (resolved_of t)
+of-Bracket l t = ap resolved_of (sym (v.rolls-Bracket l t)) ∙ rolled (Resolved-F.Bracket l t)
+
+pub of-Listed : (l : ℕ) (form : Listed) (ts : List Resolved) → resolved_of (v.Listed l form ts) ≡ listed l form (terms (map resolved_of ts))
+of-Listed l form ts = ap resolved_of (sym (v.rolls-Listed l form ts)) ∙ rolled (Resolved-F.Listed l form ts)
+
+pub of-Builder : (l : ℕ) (rs : List Range) (p t : Option Resolved) → resolved_of (v.Builder l rs p t) ≡ builder l (ranges (map range_of rs)) (part_of p) (part_of t)
+of-Builder l rs None None = ap resolved_of (sym (v.rolls-Builder l rs None None)) ∙ rolled (Resolved-F.Builder l rs None None)
+of-Builder l rs None (Some t) = ap resolved_of (sym (v.rolls-Builder l rs None (Some t))) ∙ rolled (Resolved-F.Builder l rs None (Some t))
+of-Builder l rs (Some p) None = ap resolved_of (sym (v.rolls-Builder l rs (Some p) None)) ∙ rolled (Resolved-F.Builder l rs (Some p) None)
+of-Builder l rs (Some p) (Some t) = ap resolved_of (sym (v.rolls-Builder l rs (Some p) (Some t))) ∙ rolled (Resolved-F.Builder l rs (Some p) (Some t))
+
+pub of-Unary : (l : ℕ) (op : Unary) (t : Resolved) → resolved_of (v.Unary l op t) ≡ unary l op (resolved_of t)
+of-Unary l op t = ap resolved_of (sym (v.rolls-Unary l op t)) ∙ rolled (Resolved-F.Unary l op t)
+
+pub of-Binary : (l : ℕ) (op : Operator) (a b : Resolved) → resolved_of (v.Binary l op a b) ≡ binary l op (resolved_of a) (resolved_of b)
+of-Binary l op a b = ap resolved_of (sym (v.rolls-Binary l op a b)) ∙ rolled (Resolved-F.Binary l op a b)
+
+pub of-Chain : (l : ℕ) (t : Resolved) (ks : List ResolvedLink) → resolved_of (v.Chain l t ks) ≡ chain l (resolved_of t) (links (map resolved_link_of ks))
+of-Chain l t ks = ap resolved_of (sym (v.rolls-Chain l t ks)) ∙ rolled (Resolved-F.Chain l t ks)
+
+pub of-Quantified : (l : ℕ) (q : Quantifier) (rs : List Range) (p : Option Resolved) (t : Resolved) → resolved_of (v.Quantified q l rs p t) ≡ quantified l q (ranges (map range_of rs)) (part_of p) (resolved_of t)
+of-Quantified l q rs None t = ap resolved_of (sym (v.rolls-Quantified q l rs None t)) ∙ rolled (Resolved-F.Quantified q l rs None t)
+of-Quantified l q rs (Some p) t = ap resolved_of (sym (v.rolls-Quantified q l rs (Some p) t)) ∙ rolled (Resolved-F.Quantified q l rs (Some p) t)
+
+pub of-link : (r : Relation) (t : Resolved) → resolved_link_of (new_link r t) ≡ (r, resolved_of t)
+unfolding resolved_of resolved_link_of
+of-link r t = fold-roll-ResolvedLink ResolvedTree (ℕ × ResolvedTree) (Relation × ResolvedTree) resolved_step range_step resolved_link_step (record { relation = r; right = t })
+
+pub of-range : (n : ℕ) (t : Resolved) → range_of (new_range n t) ≡ (n, resolved_of t)
+unfolding resolved_of range_of
+of-range n t = fold-roll-Range ResolvedTree (ℕ × ResolvedTree) (Relation × ResolvedTree) resolved_step range_step resolved_link_step (record { variables = n; set = t })
+
+pub ruleset seen = (of-Name, of-Number, of-Constant, of-EmptySet, of-Bracket, of-Listed, of-Builder, of-Unary, of-Binary, of-Chain, of-Quantified)
+
+pub link-seen : (k : ResolvedLink) → resolved_link_of k ≡ (k.relation, resolved_of k.right)
+link-seen k = of-link k.relation k.right
+
+pub range-seen : (r : Range) → range_of r ≡ (r.variables, resolved_of r.set)
+range-seen r = of-range r.variables r.set
+
+pub ruleset parts_seen = (link-seen, range-seen)
+
+-- any term, by the form that it has
+pub opened : (t : Resolved) (x : Resolved-F Resolved Range ResolvedLink) → out-Resolved t ≡ x → t ≡ roll-Resolved x
+opened t x e = sym (roll-out-Resolved t) ∙ ap roll-Resolved e

@@ -1,0 +1,60 @@
+-- Types, without where they lie in memory (ZRM, 2.2).
+use Rattle.std.specs.Prelude.{ℕ, ◌+◌, Bool, true, false, ◌||◌, List, [], ◌∷◌, ◌≤◌}
+use Rattle.zf_term.specs.declared.ztype.ZType.{ZType, fold-ZType}
+use Rattle.zf_term.specs.declared.ztype.ZType.TheOpen.{ZType-F}
+
+mutual
+  pub data Ty : Type 0 where
+    int : Ty
+    basic : (name : List ℕ) → Ty
+    power : Ty → Ty
+    product : Tys → Ty
+
+  pub data Tys : Type 0 where
+    no_types : Tys
+    type : Ty → Tys → Tys
+
+abbrev pub types : List Ty → Tys
+types [] = no_types
+types (t ∷ ts) = type t (types ts)
+
+-- one level, with a type in the place of each type in it
+abbrev pub type_step : ZType-F Ty → Ty
+type_step ZType-F.Int = int
+type_step (ZType-F.Basic name) = basic name
+type_step (ZType-F.Power t) = power t
+type_step (ZType-F.Product ts) = product (types ts)
+
+unfoldable pub type_of : ZType → Ty
+type_of = fold-ZType Ty type_step
+
+abbrev pub pair : Ty → Ty → Ty
+pair t u = product (type t (type u no_types))
+
+-- the number of nodes: of `\num`, of basic types, of power sets and of products
+abbrev mutual
+  pub nodes : Ty → ℕ
+  nodes int = 1
+  nodes (basic name) = 1
+  nodes (power t) = nodes t + 1
+  nodes (product ts) = nodes_of_all ts + 1
+
+  pub nodes_of_all : Tys → ℕ
+  nodes_of_all no_types = 0
+  nodes_of_all (type t ts) = nodes t + nodes_of_all ts
+
+-- a type within the limit
+abbrev pub IsSmall : Ty → Type 0
+IsSmall t = nodes t ≤ 256
+
+-- numbers are parts of the values of the type
+abbrev mutual
+  pub has_numbers : Ty → Bool
+  has_numbers int = true
+  has_numbers (basic name) = false
+  has_numbers (power t) = has_numbers t
+  has_numbers (product ts) = have_numbers ts
+
+  pub have_numbers : Tys → Bool
+  have_numbers no_types = false
+  have_numbers (type t ts) = has_numbers t || have_numbers ts

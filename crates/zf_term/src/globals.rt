@@ -1,0 +1,221 @@
+//! What a text defines.
+ghost use Rattle.std.specs.Prelude.{◌≡◌, ◌+◌, ◌++◌, ◌^◌, ◌<◌, ◌↔◌, ℕ, [], ◌∷◌, None, Some, IsTrue, IfOk, MatchOption, OnOk, OnErr, length, map, slice_get, take};
+ghost use Rattle.zf_term.specs.Definitions as spec;
+ghost use Rattle.zf_term.specs.Definitions.{definition_of, globals_of, schema_of, set_of};
+ghost use Rattle.zf_term.specs.FirstNamed.{first_named};
+ghost use Rattle.zf_term.specs.SetShapes.{set_count, set_nodes, all_set_counts, all_set_nodes};
+
+use crate::conjunct::Conjunct;
+use crate::extent::Extent;
+use crate::resolved::Resolved;
+use crate::written::Written;
+use crate::ztype::ZType;
+use bumpalo::Bump;
+use indexmap::IndexMap;
+use std::alloc::{AllocError, Global};
+use std::marker::Model;
+use zf_data::arena::{Items, Lasting, Lent, Shared};
+
+/// A declared set of a component.
+#[derive(Drop)]
+pub enum Domain<'a> {
+    /// The set that a declaration names.
+    Plain(Lasting<'a, Written<'a>>),
+    /// All values of the type: of a component that one side of a disjunction lacks.
+    Carrier(ZType<'a>),
+    /// Both sides of a disjunction: what lies in all of the left or in all of the right.
+    Either(Domains<'a>, Domains<'a>),
+}
+
+/// Declared sets, which several components may share.
+pub type Domains<'a> = Shared<'a, Items<'a, Domain<'a>>>;
+
+/// A component of a schema, with its declared sets.
+#[derive(Drop)]
+pub struct Component<'a> {
+    /// The name as spelled, with its strokes.
+    pub name: Lent<'a>,
+    pub ztype: ZType<'a>,
+    pub domains: Domains<'a>,
+}
+
+/// A schema: its components in order, and the conjuncts of its property.
+#[derive(Drop)]
+pub struct Flat<'a> {
+    pub components: Items<'a, Component<'a>>,
+    pub conjuncts: Items<'a, Conjunct<'a>>,
+}
+
+/// What a global name is defined as. The number of a given set or free type is its place among them.
+#[derive(Drop)]
+pub enum Entry<'a> {
+    Given(usize),
+    /// A free type: its number, and its constructors.
+    Free(usize, Items<'a, Lent<'a>>),
+    /// A constructor: the number and the name of its free type, and its place in it.
+    Constructor(usize, Lent<'a>, usize),
+    /// An abbreviation: its type, its term, and the extent of that.
+    Abbrev(ZType<'a>, Resolved<'a>, Extent),
+    Schema(Flat<'a>),
+}
+
+/// The names that a text defines, in order.
+#[derive(Drop)]
+pub struct Globals<'a> {
+    pub entries: IndexMap<Vec<u8>, Entry<'a>>,
+}
+
+impl<'a> Domain<'a> {
+    /// The same declared set, of which nothing is copied.
+    pub fn share(&self) -> Result<Domain<'a>, AllocError>
+        ensures { IfOk result (λ d. d ≡ self.now) }
+    {
+        match self {
+            Domain::Plain(set) => Ok(Domain::Plain(set.share())),
+            Domain::Carrier(ztype) => Ok(Domain::Carrier(ztype.share()?)),
+            Domain::Either(left, right) => Ok(Domain::Either(left.share()?, right.share()?)),
+        }
+    }
+
+    /// What is left of room for so many declared sets, if there are no more in this.
+    #[cycle(sets)]
+    #[tactic(auto, using(crate::proofs::SetsSeen::seen))]
+    pub fn room_after_sets(&self, room: usize) -> Option<usize>
+        ensures { MatchOption result (room < set_count (set_of self.now)) (λ left. left + set_count (set_of self.now) ≡ room) }
+    {
+        match self {
+            Domain::Plain(_) => room.checked_sub(1),
+            Domain::Carrier(_) => room.checked_sub(1),
+            Domain::Either(left, right) => room_after_all_sets(
+                right.get(),
+                room_after_all_sets(left.get(), room)?,
+            ),
+        }
+    }
+
+    /// What is left of room for so many nodes, if the terms in this have no more.
+    #[cycle(nodes)]
+    #[tactic(auto, using(crate::proofs::SetsSeen::seen))]
+    pub fn room_after_nodes(&self, room: usize) -> Option<usize>
+        ensures { MatchOption result (room < set_nodes (set_of self.now)) (λ left. left + set_nodes (set_of self.now) ≡ room) }
+    {
+        match self {
+            Domain::Plain(set) => set.get().room_after(room),
+            Domain::Carrier(_) => Some(room),
+            Domain::Either(left, right) => room_after_all_nodes(
+                right.get(),
+                room_after_all_nodes(left.get(), room)?,
+            ),
+        }
+    }
+}
+
+/// As for one declared set.
+#[cycle(sets)]
+#[tactic(auto, using(crate::proofs::SetsSeen::counts_before))]
+pub fn room_after_all_sets<'a>(domains: &Items<'a, Domain<'a>>, room: usize) -> Option<usize>
+    ensures { MatchOption result (room < all_set_counts (map set_of domains.now)) (λ left. left + all_set_counts (map set_of domains.now) ≡ room) }
+{
+    let mut left = room;
+    for domain in domains.as_slice() {
+        left = domain.room_after_sets(left)?;
+    }
+    Some(left)
+}
+
+/// As for one declared set.
+#[cycle(nodes)]
+#[tactic(auto, using(crate::proofs::SetsSeen::nodes_before))]
+pub fn room_after_all_nodes<'a>(domains: &Items<'a, Domain<'a>>, room: usize) -> Option<usize>
+    ensures { MatchOption result (room < all_set_nodes (map set_of domains.now)) (λ left. left + all_set_nodes (map set_of domains.now) ≡ room) }
+{
+    let mut left = room;
+    for domain in domains.as_slice() {
+        left = domain.room_after_nodes(left)?;
+    }
+    Some(left)
+}
+
+impl<'a> Component<'a> {
+    /// The same component, of which nothing is copied.
+    pub fn share(&self) -> Result<Component<'a>, AllocError>
+        ensures { IfOk result (λ c. c ≡ self.now) }
+    {
+        let name = self.name.share();
+        let ztype = self.ztype.share()?;
+        let domains = self.domains.share()?;
+        Ok(Component {
+            name,
+            ztype,
+            domains,
+        })
+    }
+}
+
+impl<'a> Globals<'a> {
+    pub fn new(alloc: Global) -> Globals<'a>
+        ensures { globals_of result ≡ [] }
+    {
+        Globals {
+            entries: IndexMap::new(alloc),
+        }
+    }
+
+    /// How many names there are.
+    pub fn len(&self) -> usize
+        ensures len { result ≡ length (globals_of self.now) }
+        ensures small { result < 2 ^ 63 }
+    {
+        self.entries.len()
+    }
+
+    /// What the name is defined as.
+    pub fn entry(&self, name: &str) -> Option<&Entry<'a>>
+        ensures { MatchOption result (first_named (λ d. d.name) name.now (globals_of self.now) ≡ None) (λ e. (i : ℕ) × (first_named (λ d. d.name) name.now (globals_of self.now) ≡ Some (i, record { name = name.now; definition = definition_of e.now }))) }
+    {
+        self.entries.get(name.as_bytes())
+    }
+
+    /// The schema of this name.
+    pub fn schema(&self, name: &str) -> Option<&Flat<'a>>
+        ensures { MatchOption result ((i : ℕ) (a : spec.Schema) → first_named (λ d. d.name) name.now (globals_of self.now) ≡ Some (i, record { name = name.now; definition = spec.schema a }) → ⊥) (λ f. (i : ℕ) × (first_named (λ d. d.name) name.now (globals_of self.now) ≡ Some (i, record { name = name.now; definition = spec.schema (schema_of f.now) }))) }
+    {
+        match self.entry(name)? {
+            Entry::Schema(schema) => Some(schema),
+            _ => None,
+        }
+    }
+
+    /// The name at this place in the order of definition, and what it is defined as.
+    pub fn in_order(&self, place: usize) -> Option<(&[u8], &Entry<'a>)>
+        ensures { MatchOption result (slice_get (globals_of self.now) place ≡ None) (λ p. slice_get (globals_of self.now) place ≡ Some (record { name = p.0.now; definition = definition_of p.1.now })) }
+    {
+        let (name, entry) = self.entries.get_index(place)?;
+        Some((name.as_slice(), entry))
+    }
+
+    /// Whether no global has the name.
+    pub fn is_new(&self, name: &[u8]) -> bool
+        ensures { IsTrue result ↔ (first_named (λ d. d.name) name.now (globals_of self.now) ≡ None) }
+    {
+        !self.entries.contains_key(name)
+    }
+
+    /// Defines a name that is new.
+    pub fn define(&mut self, name: Lent<'a>, entry: Entry<'a>) -> Result<(), AllocError>
+        requires { first_named (λ d. d.name) name (globals_of self.old) ≡ None }
+        ensures ok { OnOk result (globals_of self.new ≡ globals_of self.old ++ record { name = name.entry; definition = definition_of entry.entry } ∷ []) }
+        ensures err { OnErr result (globals_of self.new ≡ globals_of self.old) }
+    {
+        let key = Vec::from_slice(*self.entries.allocator(), name.as_slice())?;
+        self.entries.insert(key, entry)?;
+        Ok(())
+    }
+
+    /// Keeps the first names.
+    pub fn truncate(&mut self, len: usize)
+        ensures { globals_of self.new ≡ take len (globals_of self.old) }
+    {
+        self.entries.truncate(len);
+    }
+}

@@ -1,0 +1,61 @@
+//! Resolved terms: terms in which each name says what it stands for.
+use crate::operator::{Listed, Operator, Unary};
+use zf_data::arena::{Boxed, Items};
+use zf_scan::token::{Constant, Quantifier, Relation};
+
+/// What a name stands for.
+#[derive(Clone, Copy, Debug, PartialEq, Eq)]
+pub enum Reference {
+    /// A component, by its place in the schema.
+    Component(usize),
+    /// A bound variable, by the number of those bound outside it.
+    Local(usize),
+    /// A global, by its place in the order of definition.
+    Global(usize),
+}
+
+/// A part of a term that may be left out, in a box of its own: most terms have none, and stay small.
+pub type Part<'a> = Boxed<'a, Option<Boxed<'a, Resolved<'a>>>>;
+
+/// The operands of one node. A list stands in a box, so that every term is small.
+pub type Terms<'a> = Boxed<'a, Items<'a, Resolved<'a>>>;
+
+/// The further operands of a chain.
+pub type Links<'a> = Boxed<'a, Items<'a, ResolvedLink<'a>>>;
+
+/// A term, with the line of its first token.
+#[cycle(resolved)]
+#[derive(Drop)]
+pub enum Resolved<'a> {
+    Name(u32, Reference),
+    Number(u32, u64),
+    Constant(u32, Constant),
+    /// `\emptyset[E]`
+    EmptySet(u32, Boxed<'a, Resolved<'a>>),
+    Bracket(u32, Boxed<'a, Resolved<'a>>),
+    Listed(u32, Listed, Terms<'a>),
+    /// A builder: the ranges of its variables, the filter, and the term.
+    Builder(u32, Boxed<'a, Items<'a, Range<'a>>>, Part<'a>, Part<'a>),
+    Unary(u32, Unary, Boxed<'a, Resolved<'a>>),
+    Binary(u32, Operator, Boxed<'a, Resolved<'a>>, Boxed<'a, Resolved<'a>>),
+    /// A chain of relations: the first operand, and the further ones.
+    Chain(u32, Boxed<'a, Resolved<'a>>, Links<'a>),
+    /// The ranges of the variables, the constraint, and the body.
+    Quantified(Quantifier, u32, Boxed<'a, Items<'a, Range<'a>>>, Part<'a>, Boxed<'a, Resolved<'a>>),
+}
+
+/// A further part of a chain.
+#[cycle(resolved)]
+#[derive(Drop)]
+pub struct ResolvedLink<'a> {
+    pub relation: Relation,
+    pub right: Resolved<'a>,
+}
+
+/// Bound variables: how many there are, and their declared set.
+#[cycle(resolved)]
+#[derive(Drop)]
+pub struct Range<'a> {
+    pub variables: usize,
+    pub set: Resolved<'a>,
+}

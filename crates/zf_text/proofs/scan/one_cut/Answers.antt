@@ -1,5 +1,0 @@
-use Rattle.zf_text.proofs.Laws.{is_cut_once, faults_once, is_cut_or_faults}
-use Rattle.zf_text.proofs.scan.one_cut.Goals as goal
-
-pub returns : goal.returns
-returns c = record { tokens = is_cut_once; fault = faults_once; apart = is_cut_or_faults }

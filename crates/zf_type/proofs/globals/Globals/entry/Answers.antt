@@ -1,5 +1,0 @@
-use Rattle.zf_type.proofs.Entries.{entry_found}
-use Rattle.zf_type.proofs.globals.Globals.entry.Goals as goal
-
-pub returns : goal.returns
-returns c = entry_found c.args.name.now c.args.self.now.entries.entries c.get.result (rw c.as_bytes.ensures.value at c.get.ensures.value)

@@ -1,6 +1,0 @@
-use Rattle.std.proofs.Common.{◌≡◌, map, take, length}
-use Rattle.zf_type.specs.Types.{type_of}
-use Rattle.zf_type.proofs.ztype.+same.Given as goal
-
-abbrev pub invariant-same_all-loop-i : goal.invariant-same_all-loop-i
-invariant-same_all-loop-i l = (take l.i (map type_of l.parts) ≡ take l.i (map type_of l.others)) × (length l.parts ≡ length l.others)

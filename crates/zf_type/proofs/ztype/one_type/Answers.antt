@@ -1,5 +1,0 @@
-use Rattle.zf_type.proofs.Injective as types
-use Rattle.zf_type.proofs.ztype.one_type.Goals as goal
-
-pub returns : goal.returns
-returns c = types.one_type
