@@ -30,6 +30,15 @@ impl<T> Items<T> {
         }
     }
 
+    /// The list of no items, with room for so many.
+    pub fn with_room(alloc: Global, room: usize) -> Result<Items<T>, AllocError>
+        ensures { IfOk result (λ s. s ≡ []) }
+    {
+        Ok(Items {
+            items: Vec::with_capacity(alloc, room)?,
+        })
+    }
+
     pub fn as_slice(&self) -> &[T]
         ensures { result.now ≡ self.now }
     {

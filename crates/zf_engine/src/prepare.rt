@@ -145,7 +145,7 @@ fn simple_in<'a>(
         Ok(simple) => Ok(simple),
         Err(Unread::Form(line)) => {
             let text = texts::text_fault_text(TextFaultKind::NotInProfile);
-            let line = texts::fault_line(alloc, file, line, text)?;
+            let line = texts::fault_line(alloc, file, u64::from(line), text)?;
             Err(Stop::Answered(line, Status::BadSpec))
         }
         Err(Unread::OutOfMemory) => Err(Stop::OutOfMemory),
@@ -194,7 +194,8 @@ fn check_end<'a>(
     match finite(schema, globals) {
         Ok(()) => Ok(()),
         Err(fault) => {
-            let line = texts::fault_line(alloc, file, fault.line, texts::not_finite_text())?;
+            let infinite = texts::not_finite_text();
+            let line = texts::fault_line(alloc, file, u64::from(fault.line), infinite)?;
             Err(Stop::Answered(line, Status::BadSpec))
         }
     }

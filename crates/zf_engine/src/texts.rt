@@ -53,7 +53,7 @@ pub fn not_finite_text() -> &'static [u8]
 }
 
 /// `FILE:LINE: TEXT`
-pub fn fault_line(alloc: Global, file: &[u8], line: u32, text: &[u8]) -> Result<Vec<u8>, AllocError>
+pub fn fault_line(alloc: Global, file: &[u8], line: u64, text: &[u8]) -> Result<Vec<u8>, AllocError>
     ensures { IfOk result (λ v. v.items ≡ spec.fault_line file.now line text.now) }
 {
     let mut number = Buffer::new();

@@ -32,9 +32,9 @@ pub enum TextFaultKind {
 /// A fault, with its line.
 #[derive(Clone, Copy, Debug, PartialEq, Eq)]
 pub struct TextFault {
-    pub kind: TextFaultKind,
     /// The line of the fault, from 1; 0 for `TooLong` and `OutOfMemory`.
-    pub line: u32,
+    pub line: u64,
+    pub kind: TextFaultKind,
 }
 
 impl TextFault {
@@ -44,7 +44,7 @@ impl TextFault {
     {
         TextFault {
             kind: TextFaultKind::NotInProfile,
-            line,
+            line: u64::from(line),
         }
     }
 }

@@ -136,7 +136,10 @@ fn fault_at(kind: TextFaultKind, place: Place, line: u32) -> TextFault
         TextFaultKind::UnclosedBox => begun(place),
         _ => line,
     };
-    TextFault { kind, line }
+    TextFault {
+        kind,
+        line: u64::from(line),
+    }
 }
 
 fn begun(place: Place) -> u32

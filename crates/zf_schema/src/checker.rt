@@ -32,8 +32,9 @@ pub fn check_spec<'a>(
 ) -> Result<Checked<'a>, AllocError>
     ensures { IfOk result (λ c. IsChecked (boxes_of spec.entry) (globals_of c.globals) c.faults) }
 {
+    let globals = Globals::with_room(alloc, spec.boxes.len())?;
     let mut checked = Checked {
-        globals: Globals::new(alloc),
+        globals,
         faults: Items::new(alloc),
     };
     let mut next = 0;

@@ -161,6 +161,15 @@ impl<'a> Globals<'a> {
         }
     }
 
+    /// No names, with room for so many.
+    pub fn with_room(alloc: Global, room: usize) -> Result<Globals<'a>, AllocError>
+        ensures { IfOk result (λ g. globals_of g ≡ []) }
+    {
+        Ok(Globals {
+            entries: IndexMap::with_capacity(alloc, room)?,
+        })
+    }
+
     /// How many names there are.
     pub fn len(&self) -> usize
         ensures len { result ≡ length (globals_of self.now) }

@@ -10,6 +10,7 @@ use Rattle.zf_scan.specs.declared.token.Kind.{Kind}
 use Rattle.zf_scan.specs.declared.token.Kind.TheVariants as k
 use Rattle.zf_scan.specs.declared.token.Quantifier.{Quantifier}
 use Rattle.zf_scan.specs.declared.token.Separator.TheVariants.{Semicolon, NewLine, Also}
+use Rattle.zf_text.specs.Names.{ident_of}
 use Rattle.zf_text.specs.declared.tree.Name.{Name}
 use Rattle.zf_text.specs.declared.tree.Sign.{Sign}
 use Rattle.zf_text.specs.declared.tree.Sign.TheVariants as sign
@@ -232,7 +233,7 @@ module _ (below : Reader) (n : ℕ) (ok : IsSound n below) where
   beginning_at : (least : ℕ) (kind : Kind) (line : ℕ) (ts us : List Symbol) (y : Tall Term) → least ≤ atom_level → beginning_by below least line (next_of kind) (symbol kind line ∷ ts) ≡ Ok (y, us) → Whole least y (symbol kind line ∷ ts) us
   beginning_at least (k.Name b s) line ts us y fits e =
       let name : Name = record { base = b; strokes = s; line = line } in
-      made (n + 1) least (named name) (term.Name name) 1 _ ts us y (of.of-Name name) e (record { fits = fits; levelled = tt; high = refl; low = omega arith; spelled = refl })
+      made (n + 1) least (named name) (term.Name line (ident_of name)) 1 _ ts us y (of.of-Name line (ident_of name)) e (record { fits = fits; levelled = tt; high = refl; low = omega arith; spelled = refl })
   beginning_at least (k.Number v) line ts us y fits e =
       made (n + 1) least (numeral line v) (term.Number line v) 1 _ ts us y (of.of-Number line v) e (record { fits = fits; levelled = tt; high = refl; low = omega arith; spelled = refl })
   beginning_at least (k.Constant c) line ts us y fits e =

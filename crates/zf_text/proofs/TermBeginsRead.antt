@@ -6,6 +6,7 @@ use Rattle.zf_text.specs.declared.tall.Tall.{Tall}
 use Rattle.zf_scan.specs.declared.token.Constant.{Constant}
 use Rattle.zf_scan.specs.declared.token.Kind.TheVariants as k
 use Rattle.zf_scan.specs.declared.token.Quantifier.{Quantifier}
+use Rattle.zf_text.specs.Names.{ident_of}
 use Rattle.zf_text.specs.declared.tree.Name.{Name}
 use Rattle.zf_text.specs.declared.tree.Sign.{Sign}
 use Rattle.zf_text.specs.declared.tree.Sign.TheVariants as sign
@@ -34,7 +35,7 @@ module _ (below : Reader) (n : ℕ) (ok : IsComplete n below) where
 
   pub name_begins : (least : ℕ) (m : Name) (ts us : List Symbol) → Spells (named m) ts us → IsRead (beginning below least ts) (named m) us
   unfolding beginning
-  name_begins least m ts us h = record { term = term.Name m; is = of.of-Name m; read = ap (beginning below least) h }
+  name_begins least m ts us h = record { term = term.Name m.line (ident_of m); is = of.of-Name m.line (ident_of m); read = ap (beginning below least) h }
 
   pub numeral_begins : (least l v : ℕ) (ts us : List Symbol) → Spells (numeral l v) ts us → IsRead (beginning below least ts) (numeral l v) us
   unfolding beginning

@@ -6,6 +6,7 @@ use Rattle.zf_scan.specs.declared.token.Constant.{Constant}
 use Rattle.zf_scan.specs.declared.token.Infix.{Infix}
 use Rattle.zf_scan.specs.declared.token.Quantifier.{Quantifier}
 use Rattle.zf_scan.specs.declared.token.Relation.{Relation}
+use Rattle.zf_text.specs.Names.{Ident, name_at}
 use Rattle.zf_text.specs.declared.tree.Name.{Name}
 use Rattle.zf_text.specs.declared.tree.Sign.{Sign}
 use Rattle.zf_text.specs.declared.tree.Term.{Term}
@@ -27,8 +28,8 @@ rolled : (x : Term-F Term Link VarDecl) → tree_of (roll-Term x) ≡ tree_step 
 unfolding tree_of link_of var_decl_of
 rolled x = fold-roll-Term Tree (Relation × Tree) (List Name × Tree) tree_step link_step decl_step x
 
-pub of-Name : (n : Name) → tree_of (v.Name n) ≡ named n
-of-Name n = ap tree_of (sym (v.rolls-Name n)) ∙ rolled (Term-F.Name n)
+pub of-Name : (l : ℕ) (i : Ident) → tree_of (v.Name l i) ≡ named (name_at l i)
+of-Name l i = ap tree_of (sym (v.rolls-Name l i)) ∙ rolled (Term-F.Name l i)
 
 pub of-Number : (l n : ℕ) → tree_of (v.Number l n) ≡ numeral l n
 of-Number l n = ap tree_of (sym (v.rolls-Number l n)) ∙ rolled (Term-F.Number l n)

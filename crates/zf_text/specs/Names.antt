@@ -1,7 +1,17 @@
--- A name as contracts see it: its base, its strokes as spelled, and its line.
+-- A name as contracts see it: its base, its strokes as spelled, and its line. An identifier is a name without its line.
 use Rattle.std.specs.Prelude.{ℕ, List}
 
 pub record Name : Type 0 where
   pub base : List ℕ
   pub strokes : List ℕ
   pub line : ℕ
+
+pub record Ident : Type 0 where
+  pub base : List ℕ
+  pub strokes : List ℕ
+
+abbrev pub ident_of : Name → Ident
+ident_of n = record { base = n.base; strokes = n.strokes }
+
+abbrev pub name_at : (line : ℕ) → Ident → Name
+name_at line i = record { base = i.base; strokes = i.strokes; line = line }

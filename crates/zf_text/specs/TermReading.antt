@@ -12,6 +12,7 @@ use Rattle.zf_scan.specs.declared.token.Infix.TheVariants.{Minus}
 use Rattle.zf_scan.specs.declared.token.Quantifier.{Quantifier}
 use Rattle.zf_scan.specs.declared.token.Relation.{Relation}
 use Rattle.zf_text.specs.declared.tree.Link.{Link, roll-Link}
+use Rattle.zf_text.specs.Names.{ident_of}
 use Rattle.zf_text.specs.declared.tree.Name.{Name}
 use Rattle.zf_text.specs.declared.tree.Sign.TheVariants as sign
 use Rattle.zf_text.specs.declared.tree.Term.{Term}
@@ -277,7 +278,7 @@ module _ (below : ℕ → Parser (Tall Term)) where
   if_at least place p = λ ts. if nat_le least place then p ts else Err Refused
 
   abbrev pub beginning_by : ℕ → ℕ → Next → Parser (Tall Term)
-  beginning_by least line next.Name = λ ts. and_then (lift (read_name ts)) (λ n us. Ok (tall (term.Name n) 1, us))
+  beginning_by least line next.Name = λ ts. and_then (lift (read_name ts)) (λ n us. Ok (tall (term.Name n.line (ident_of n)) 1, us))
   beginning_by least line next.Number = λ ts. and_then (lift (read_number ts)) (λ v us. Ok (tall (term.Number line v) 1, us))
   beginning_by least line (next.Constant c) = past (pure (tall (term.Constant line c) 1))
   beginning_by least line next.EmptySet = past (empty_set line)

@@ -6,6 +6,7 @@ use Rattle.zf_scan.specs.declared.token.Constant.{Constant}
 use Rattle.zf_scan.specs.declared.token.Infix.{Infix}
 use Rattle.zf_scan.specs.declared.token.Quantifier.{Quantifier}
 use Rattle.zf_scan.specs.declared.token.Relation.{Relation}
+use Rattle.zf_text.specs.Names.{name_at}
 use Rattle.zf_text.specs.declared.tree.Name.{Name}
 use Rattle.zf_text.specs.declared.tree.Sign.{Sign}
 use Rattle.zf_text.specs.declared.tree.Term.{Term}
@@ -111,7 +112,7 @@ perhaps (Some t) = present t
 
 -- one level, with a tree in the place of each term in it
 abbrev pub tree_step : Term-F Tree (Relation × Tree) (List Name × Tree) → Tree
-tree_step (Term-F.Name n) = named n
+tree_step (Term-F.Name l i) = named (name_at l i)
 tree_step (Term-F.Number l v) = numeral l v
 tree_step (Term-F.Constant l c) = constant l c
 tree_step (Term-F.EmptySet l t) = empty_set l t

@@ -14,6 +14,9 @@ use zf_data::Items;
 use zf_scan::fault::TextFault;
 use zf_scan::next::{Mark, Next};
 
+/// No box has fewer symbols: one begins it, one ends it, and no paragraph and no declaration has fewer than three.
+const SYMBOLS_MIN: usize = 5;
+
 /// A `zed` box, after its opening.
 #[tactic(auto, unfolding(crate::specs::BoxReading::read_zed))]
 fn zed<'a>(
@@ -82,7 +85,7 @@ fn boxes<'a>(
     requires { highest ≤ 1000 }
     ensures { Gives (spec.read_boxes highest tokens.old) result tokens.new }
 {
-    let mut boxes = Items::new(alloc);
+    let mut boxes = Items::with_room(alloc, tokens.left() / SYMBOLS_MIN)?;
     for _turn in 0..tokens.left() {
         if tokens.is_done() {
             return Ok(boxes);

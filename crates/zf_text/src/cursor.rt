@@ -85,7 +85,7 @@ impl<'a, 'b> Cursor<'a, 'b> {
     {
         TextFault {
             kind: TextFaultKind::Unexpected,
-            line: self.line(),
+            line: u64::from(self.line()),
         }
     }
 
@@ -95,7 +95,7 @@ impl<'a, 'b> Cursor<'a, 'b> {
     {
         TextFault {
             kind: TextFaultKind::TooDeep,
-            line: self.line(),
+            line: u64::from(self.line()),
         }
     }
 

@@ -118,7 +118,7 @@ pub fn level(term: &Term<'_>) -> u8
         Term::Apply(_, _, _) => APPLICATION,
         Term::Inverse(_, _) => POSTFIX,
         Term::Image(_, _, _) => POSTFIX,
-        Term::Name(_) => ATOM,
+        Term::Name(_, _) => ATOM,
         Term::Number(_, _) => ATOM,
         Term::Constant(_, _) => ATOM,
         Term::EmptySet(_, _) => ATOM,

@@ -1,6 +1,7 @@
 //! The trees of a text.
 ghost use Rattle.std.specs.Prelude.{◌≡◌, ◌++◌};
 ghost use Rattle.zf_text.specs.BoxReading as spec;
+ghost use Rattle.zf_text.specs.Names.{ident_of, name_at};
 ghost use Rattle.zf_text.specs.Spelling.{line_of};
 ghost use Rattle.zf_text.specs.Trees.{tree_of};
 
@@ -36,6 +37,16 @@ impl<'a> Name<'a> {
         self.spelled.share()
     }
 
+    /// The name without its line.
+    pub fn ident(&self) -> Ident<'a>
+        ensures { result ≡ ident_of self.now }
+    {
+        Ident {
+            spelled: self.spelled.share(),
+            bare: self.bare,
+        }
+    }
+
     /// The name without its strokes.
     pub fn base(&self) -> &'a [u8]
         ensures { result.now ≡ self.now.base }
@@ -61,6 +72,37 @@ impl<'a> Name<'a> {
     }
 }
 
+/// A name without its line, as a term has it.
+#[derive(Drop)]
+pub struct Ident<'a> {
+    /// The name with its strokes.
+    pub spelled: Lent<'a>,
+    /// How many of its bytes come before the strokes.
+    pub bare: usize,
+}
+
+impl<'a> Model for Ident<'a> {
+    ghost use Rattle.std.specs.Prelude.{take, drop};
+    ghost use Rattle.zf_text.specs.Names as names;
+
+    ghost Value = { names.Ident };
+
+    ghost view = { λ i. record { base = take i.bare i.spelled; strokes = drop i.bare i.spelled } };
+}
+
+impl<'a> Ident<'a> {
+    /// The name, which stands at the line.
+    pub fn at(&self, line: u32) -> Name<'a>
+        ensures { result ≡ name_at line self.now }
+    {
+        Name {
+            spelled: self.spelled.share(),
+            bare: self.bare,
+            line,
+        }
+    }
+}
+
 /// What stands before one term.
 #[derive(Clone, Copy, Debug, PartialEq, Eq)]
 pub enum Sign {
@@ -78,7 +120,7 @@ pub type Terms<'a> = Boxed<'a, Items<'a, Boxed<'a, Term<'a>>>>;
 #[cycle(terms)]
 #[derive(Drop)]
 pub enum Term<'a> {
-    Name(Name<'a>),
+    Name(u32, Ident<'a>),
     Number(u32, u64),
     Constant(u32, Constant),
     /// `\emptyset[E]`
@@ -114,7 +156,7 @@ impl<'a> Term<'a> {
         ensures { result ≡ line_of (tree_of self.now) }
     {
         match self {
-            Term::Name(name) => name.line,
+            Term::Name(line, _) => *line,
             Term::Number(line, _) => *line,
             Term::Constant(line, _) => *line,
             Term::EmptySet(line, _) => *line,

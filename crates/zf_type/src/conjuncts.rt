@@ -29,7 +29,7 @@ fn is_conjunction(term: &Term<'_>) -> bool
     match term {
         Term::Bracket(_, inner) => is_conjunction(inner.get()),
         Term::Connective(_, connective, _, _) => *connective == Connective::And,
-        Term::Name(_)
+        Term::Name(_, _)
         | Term::Number(_, _)
         | Term::Constant(_, _)
         | Term::EmptySet(_, _)
@@ -78,7 +78,7 @@ pub fn push_conjuncts<'a>(
                 push_written(term, arena, scope, conjuncts)
             }
         }
-        Term::Name(_)
+        Term::Name(_, _)
         | Term::Number(_, _)
         | Term::Constant(_, _)
         | Term::EmptySet(_, _)

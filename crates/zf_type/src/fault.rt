@@ -37,7 +37,7 @@ pub enum TypeFaultKind {
 #[derive(Clone, Copy, Debug, PartialEq, Eq)]
 pub struct TypeFault {
     pub kind: TypeFaultKind,
-    pub line: u32,
+    pub line: u64,
 }
 
 /// Why there is no answer: a fault, or memory ran out.
@@ -51,7 +51,10 @@ pub enum Refusal {
 pub fn refused(kind: TypeFaultKind, line: u32) -> Refusal
     ensures { result ≡ Refusal.Fault (record { kind = kind; line = line }) }
 {
-    Refusal::Fault(TypeFault { kind, line })
+    Refusal::Fault(TypeFault {
+        kind,
+        line: u64::from(line),
+    })
 }
 
 impl From<AllocError> for Refusal {

@@ -97,7 +97,7 @@ fn judge_term<'a>(
     ensures scope { scope_of scope.new ≡ scope_of scope.old }
 {
     match term {
-        Term::Name(name) => named(arena, need, name, scope),
+        Term::Name(line, name) => named(arena, need, &name.at(*line), scope),
         Term::Number(line, _) => number(need, *line),
         Term::Constant(line, constant) => constant_term(arena, need, *line, *constant),
         Term::EmptySet(line, of) => {

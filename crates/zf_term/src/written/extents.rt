@@ -21,7 +21,7 @@ pub fn direct(term: &Term<'_>, names: Names<'_>, globals: &Globals<'_>) -> Optio
     ensures { result ≡ spec.direct (globals_of globals.now) (filled names.entry.ahead.now (tree_of term.now)) }
 {
     match term {
-        Term::Name(_) => {
+        Term::Name(_, _) => {
             let mut names = names;
             extent_named(globals, names.next()).set()
         }
@@ -59,7 +59,7 @@ pub fn offending_after(
     ensures after { names.new.ahead.now ≡ after names.old.ahead.now (tree_of term.now) }
 {
     match term {
-        Term::Name(name) => found.or(name_line(name.line, extent_named(globals, names.next()))),
+        Term::Name(line, _) => found.or(name_line(*line, extent_named(globals, names.next()))),
         Term::Number(_, _) => found,
         Term::Constant(line, constant) => found.or(constant_line(*line, *constant)),
         Term::EmptySet(_, of) => {

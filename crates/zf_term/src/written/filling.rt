@@ -27,7 +27,7 @@ pub fn filled<'a>(
     ensures after { OnOk result (names.new.ahead.now ≡ spec.after names.old.ahead.now (tree_of term.now)) }
 {
     match term {
-        Term::Name(name) => Ok(Resolved::Name(name.line, names.next())),
+        Term::Name(line, _) => Ok(Resolved::Name(*line, names.next())),
         Term::Number(line, value) => Ok(Resolved::Number(*line, *value)),
         Term::Constant(line, constant) => Ok(Resolved::Constant(*line, *constant)),
         Term::EmptySet(line, of) => Ok(Resolved::EmptySet(*line, filled_box(of, arena, names)?)),

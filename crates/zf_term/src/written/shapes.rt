@@ -17,7 +17,7 @@ pub fn room_after(term: &Term<'_>, room: usize) -> Option<usize>
         return None;
     };
     match term {
-        Term::Name(_) => Some(rest),
+        Term::Name(_, _) => Some(rest),
         Term::Number(_, _) => Some(rest),
         Term::Constant(_, _) => Some(rest),
         Term::EmptySet(_, of) => room_after(of.get(), rest),
@@ -105,7 +105,7 @@ pub fn is_within(term: &Term<'_>, highest: usize) -> bool
         return false;
     };
     match term {
-        Term::Name(_) => true,
+        Term::Name(_, _) => true,
         Term::Number(_, _) => true,
         Term::Constant(_, _) => true,
         Term::EmptySet(_, of) => is_within(of.get(), lower),

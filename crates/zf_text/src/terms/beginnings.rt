@@ -29,7 +29,7 @@ impl<
     {
         let name = tokens.name()?;
         Ok(Tall {
-            part: Boxed::new(self.arena, Term::Name(name))?,
+            part: Boxed::new(self.arena, Term::Name(name.line, name.ident()))?,
             height: 1,
         })
     }

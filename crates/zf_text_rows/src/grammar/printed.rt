@@ -144,7 +144,7 @@ impl<'t, 'a> Printer<'t, 'a> {
 
     fn term(&mut self, term: &'t Term<'a>) -> Result<(), Fail> {
         match term {
-            Term::Name(name) => self.name(name),
+            Term::Name(line, name) => self.name(&name.at(*line)),
             Term::Number(line, value) => {
                 write!(self.text, " {value}")?;
                 self.at(*line)

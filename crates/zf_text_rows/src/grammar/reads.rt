@@ -35,7 +35,7 @@ pub fn refuses(alloc: Global, source: &str, fault: TextFault) -> Result<(), Fail
     }
 }
 
-pub fn unexpected(line: u32) -> TextFault {
+pub fn unexpected(line: u64) -> TextFault {
     TextFault {
         kind: TextFaultKind::Unexpected,
         line,

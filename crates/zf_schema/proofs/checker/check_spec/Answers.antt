@@ -13,9 +13,9 @@ use Rattle.zf_schema.proofs.checker.check_spec.Goals as goal
 pub loop-each-init : goal.loop-each-init
 loop-each-init c = record {
   runs = λ end runs.
-      let nothing : Checked = record { globals = c.new.result; faults = c.new-2.result } in
-      run_all nothing end (map box_of (into_iter_items c.into_iter-each-iterator.result)) c.new.ensures c.new-2.ensures runs;
-  numbered = sym (ap next_number c.new.ensures);
+      let nothing : Checked = record { globals = c.in_ok-globals.globals; faults = c.new.result } in
+      run_all nothing end (map box_of (into_iter_items c.into_iter-each-iterator.result)) c.in_ok-globals.ensures c.new.ensures runs;
+  numbered = sym (ap next_number c.in_ok-globals.ensures);
 }
 
 pub loop-each-preserved : goal.loop-each-preserved
