@@ -14,8 +14,8 @@ use zf_data::Items;
 use zf_scan::fault::TextFault;
 use zf_scan::next::{Mark, Next};
 
-/// No box has fewer symbols: one begins it, one ends it, and no paragraph and no declaration has fewer than three.
-const SYMBOLS_MIN: usize = 5;
+/// A box has mostly more symbols. Where a text has many smaller ones, the list of its boxes grows as it goes.
+const SYMBOLS_OF_A_BOX: usize = 5;
 
 /// A `zed` box, after its opening.
 #[tactic(auto, unfolding(crate::specs::BoxReading::read_zed))]
@@ -85,7 +85,7 @@ fn boxes<'a>(
     requires { highest ≤ 1000 }
     ensures { Gives (spec.read_boxes highest tokens.old) result tokens.new }
 {
-    let mut boxes = Items::with_room(alloc, tokens.left() / SYMBOLS_MIN)?;
+    let mut boxes = Items::with_room(alloc, tokens.left() / SYMBOLS_OF_A_BOX)?;
     for _turn in 0..tokens.left() {
         if tokens.is_done() {
             return Ok(boxes);
