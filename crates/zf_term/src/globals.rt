@@ -153,14 +153,6 @@ impl<'a> Component<'a> {
 }
 
 impl<'a> Globals<'a> {
-    pub fn new(alloc: Global) -> Globals<'a>
-        ensures { globals_of result ≡ [] }
-    {
-        Globals {
-            entries: IndexMap::new(alloc),
-        }
-    }
-
     /// No names, with room for so many.
     pub fn with_room(alloc: Global, room: usize) -> Result<Globals<'a>, AllocError>
         ensures { IfOk result (λ g. globals_of g ≡ []) }
