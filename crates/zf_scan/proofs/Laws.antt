@@ -12,9 +12,11 @@ use Rattle.zf_scan.specs.declared.pieces.Place.{Place}
 use Rattle.zf_scan.specs.declared.pieces.Place.TheVariants as places
 use Rattle.zf_scan.specs.declared.scan.TheConstants.{SOURCE_MAX}
 use Rattle.zf_scan.specs.declared.token.Token.{Token}
-use Rattle.zf_scan.specs.Cuts.{Stands, Spot, line_of, start, past, IsRead, Cuts, tokens_from, IsCutInto, IsUncut, fault_line, Fails, IsStuck, IsCutOnce, FaultsOnce, IsCutOrFaults}
+use Rattle.zf_scan.specs.Cuts.{IsWantOfMemory, Stands, Spot, line_of, start, past, IsRead, Cuts, tokens_from, IsCutInto, IsUncut, fault_line, Fails, IsStuck, IsCutOnce, FaultsOnce, IsCutOrFaults}
 use Rattle.zf_scan.proofs.Same.{same, stands_some}
-use Rattle.zf_scan.proofs.Scanned.{Before, Next}
+use Rattle.zf_scan.specs.Boxes.{Before, IsCutUpTo}
+use Rattle.zf_scan.specs.declared.scan.Border.{Border}
+use Rattle.zf_scan.proofs.Scanned.{Next}
 
 -- the second cut goes on where the first ends
 pub record GoesOn (ps qs : List (Piece × List ℕ)) (b : Spot) (rest : List ℕ) (c : Spot) (behind : List ℕ) : Type 0 where
@@ -71,6 +73,10 @@ uncut source fault s tokens c =
     ⊎_elim (λ g. goes_past s.spot c.end s.rest fault.kind g.more s.fails c.closed g.cuts) (λ g. ends_before s.spot c.end s.rest fault.kind g.more s.fails c.closed g.cuts)
     (compared s.pieces c.pieces start source s.spot s.rest c.end [] s.cuts c.cuts)
 
+pub uncut_then : (source : List ℕ) (fault : TextFault) → IsWantOfMemory fault ⊎ IsStuck source fault → IsWantOfMemory fault ⊎ IsUncut source
+uncut_then source fault (inl h) = inl h
+uncut_then source fault (inr s) = inr (uncut source fault s)
+
 -- ---- the ends of the loop
 
 pub finished : (source : List ℕ) (at line : ℕ) (place : Place) (tokens : List Token) → Before source at line place tokens → length source ≤ at → place ≡ places.Outside → length source ≤ SOURCE_MAX → IsCutInto source tokens
@@ -82,6 +88,9 @@ finished source at line place tokens b over out short = record {
   closed = sym b.place_is ∙ out;
   told = sym (append-nil tokens) ∙ sym (b.told []) ∙ ap (tokens_from start) (append-nil b.pieces);
 }
+
+pub cut_whole : (source : List ℕ) (border : Border) (tokens : List Token) → IsCutUpTo source border tokens → length source ≤ border.start → IsCutInto source tokens
+cut_whole source border tokens up over = finished source border.start border.line places.Outside tokens up.before over refl up.short
 
 pub stuck : (source : List ℕ) (at line : ℕ) (place : Place) (tokens : List Token) → Before source at line place tokens → length source ≤ SOURCE_MAX → (fault : TextFault) (kind : TextFaultKind) → fault.kind ≡ kind → fault.line ≡ fault_line place line kind
     → Fails place (drop at source) kind → IsStuck source fault

@@ -14,3 +14,4 @@ pub mod Quiet
 pub mod Laws
 mod Fronts
 mod MarkedCommands
+mod BoxParts

@@ -7,12 +7,13 @@ use Rattle.zf_scan.specs.declared.pieces.Place.{Place}
 use Rattle.zf_scan.specs.declared.pieces.Sight.TheVariants as sights
 use Rattle.zf_scan.specs.declared.placed.Placed.{Placed}
 use Rattle.zf_scan.specs.declared.token.Token.{Token}
+use Rattle.zf_scan.specs.Boxes.{Before}
 use Rattle.zf_scan.specs.Cuts.{IsRead, newlines, entered}
 use Rattle.zf_scan.specs.Placing.{token_at}
 use Rattle.zf_scan.specs.Sights.{kind_of, piece_of, told}
 use Rattle.zf_scan.specs.Steps.{Found, found, found_at}
 use Rattle.zf_scan.proofs.Quiet.{quiet}
-use Rattle.zf_scan.proofs.Scanned.{Before, StandsAt, Next, found_next, seen_at, goes, turned, moved, told_plain, told_symbol, placed_told}
+use Rattle.zf_scan.proofs.Scanned.{StandsAt, Next, found_next, seen_at, goes, turned, moved, told_plain, told_symbol, placed_told}
 
 -- what was seen stands there
 pub plain_stands : (place : Place) (s rest : List ℕ) (f : code.Found) → rest ≡ s → told rest f ≡ found_at place rest → 0 < length s → f.sight ≡ sights.Plain → StandsAt place s (told s f)
@@ -41,16 +42,17 @@ plain_read source at line place tokens b rest f e g some is lines n =
     let s = drop at source in
     plain_turn source at line place tokens b (told s f) (plain_stands place s rest f e g some is) (ap (λ sight. piece_of sight f.amount (take f.len s)) is) lines (n ∙ ap (λ t. newlines (take f.len t)) e)
 
-pub symbol_read : (source : List ℕ) (at line : ℕ) (place : Place) (symbols : List Placed) → Before source at line place (map (token_at source) symbols) → (rest : List ℕ) (f : code.Found) (next : symbol.Next) → rest ≡ drop at source → told rest f ≡ found_at place rest → 0 < length (drop at source) → f.sight ≡ sights.Symbol next
+pub symbol_read : (source : List ℕ) (at line : ℕ) (place : Place) (front : List Token) (symbols : List Placed) → Before source at line place (front ++ map (token_at source) symbols) → (rest : List ℕ) (f : code.Found) (next : symbol.Next) → rest ≡ drop at source → told rest f ≡ found_at place rest → 0 < length (drop at source) → f.sight ≡ sights.Symbol next
     → (more : List Placed) → more ≡ symbols ++ record { next = next; line = line; start = at; stop = at + f.len; amount = f.amount } ∷ []
-    → (behind : Place) → ((amount : ℕ) (text : List ℕ) → behind ≡ entered place line (Symbol (kind_of next amount text))) → Before source (at + f.len) line behind (map (token_at source) more)
-symbol_read source at line place symbols b rest f next e g some is more pushed behind place_is =
+    → (behind : Place) → ((amount : ℕ) (text : List ℕ) → behind ≡ entered place line (Symbol (kind_of next amount text))) → Before source (at + f.len) line behind (front ++ map (token_at source) more)
+symbol_read source at line place front symbols b rest f next e g some is more pushed behind place_is =
     let s = drop at source in
     let text = take f.len s in
     let kind = kind_of next f.amount text in
+    let tokens = front ++ map (token_at source) symbols in
     let a = symbol_stands place s rest f next e g some is in
     let piece : piece_of f.sight f.amount text ≡ Symbol kind = ap (λ sight. piece_of sight f.amount text) is in
     let silent : newlines text ≡ 0 = quiet place s (told s f) kind a piece in
     let same_line : line + newlines text ≡ line = omega (arith, silent) in
-    moved _ _ _ _ _ (turned source at line place (map (token_at source) symbols) b (told s f) a (subst IsRead (sym piece) tt)) _ _ _ same_line (ap (entered place line) piece ∙ sym (place_is f.amount text))
-    (told_symbol source at line place (map (token_at source) symbols) b (told s f) text kind piece (length-take-le f.len s a.within) ∙ placed_told source at f.len symbols next f.amount line ∙ ap (map (token_at source)) (sym pushed))
+    moved _ _ _ _ _ (turned source at line place tokens b (told s f) a (subst IsRead (sym piece) tt)) _ _ _ same_line (ap (entered place line) piece ∙ sym (place_is f.amount text))
+    (told_symbol source at line place tokens b (told s f) text kind piece (length-take-le f.len s a.within) ∙ placed_told source front at f.len symbols next f.amount line ∙ ap (λ ps. front ++ map (token_at source) ps) (sym pushed))

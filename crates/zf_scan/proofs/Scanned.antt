@@ -13,6 +13,7 @@ use Rattle.zf_scan.specs.declared.placed.Placed.{Placed}
 use Rattle.zf_scan.specs.declared.token.Kind.{Kind}
 use Rattle.zf_scan.specs.declared.token.Token.{Token}
 use Rattle.zf_scan.specs.Cuts.{Stands, newlines, Spot, line_of, start, entered, past, IsRead, Cuts, tokens_of, tokens_from}
+use Rattle.zf_scan.specs.Boxes.{Before}
 use Rattle.zf_scan.specs.Placing.{token_at}
 use Rattle.zf_scan.specs.Sights.{kind_of, told}
 use Rattle.zf_scan.specs.Steps.{Found, found_at}
@@ -63,15 +64,6 @@ newlines_le (x ∷ a) = by (x == 10) (newlines_le a)
     by : (t : Bool) → newlines a ≤ length a → (if t then 1 else 0) + newlines a ≤ length (x ∷ a)
     by true h = omega arith
     by false h = omega arith
-
-pub record Before (source : List ℕ) (at line : ℕ) (place : Place) (tokens : List Token) : Type 0 where
-  pub pieces : List (Piece × List ℕ)
-  pub spot : Spot
-  pub cuts : Cuts pieces start source spot (drop at source)
-  pub told : (qs : List (Piece × List ℕ)) → tokens_from start (pieces ++ qs) ≡ tokens ++ tokens_from spot qs
-  pub at_is : at ≡ length spot.before
-  pub line_is : line ≡ line_of spot
-  pub place_is : place ≡ spot.place
 
 pub begun : (source : List ℕ) → Before source 0 1 places.Outside []
 begun source = record { pieces = []; spot = start; cuts = (refl, refl); told = λ qs. refl; at_is = refl; line_is = refl; place_is = refl }
@@ -131,10 +123,11 @@ told_symbol source at line place tokens b f text kind e n =
     ∙ ap (λ t. one at t (line_of b.spot)) (ap (λ s. s + length text) (sym b.at_is) ∙ ap (λ n. at + n) n)
     ∙ ap (λ l. one at (at + f.len) l) (sym b.line_is)
 
-pub placed_told : (source : List ℕ) (at len : ℕ) (symbols : List Placed) (next : symbol.Next) (amount line : ℕ)
-    → map (token_at source) symbols ++ record { kind = kind_of next amount (take len (drop at source)); start = at; stop = at + len; line = line } ∷ []
-    ≡ map (token_at source) (symbols ++ record { next = next; line = line; start = at; stop = at + len; amount = amount } ∷ [])
-placed_told source at len symbols next amount line =
+pub placed_told : (source : List ℕ) (front : List Token) (at len : ℕ) (symbols : List Placed) (next : symbol.Next) (amount line : ℕ)
+    → (front ++ map (token_at source) symbols) ++ record { kind = kind_of next amount (take len (drop at source)); start = at; stop = at + len; line = line } ∷ []
+    ≡ front ++ map (token_at source) (symbols ++ record { next = next; line = line; start = at; stop = at + len; amount = amount } ∷ [])
+placed_told source front at len symbols next amount line =
     let same : len ≡ at + len - at = omega arith in
-    ap (λ n. map (token_at source) symbols ++ record { kind = kind_of next amount (take n (drop at source)); start = at; stop = at + len; line = line } ∷ []) same
-    ∙ sym (map-append (token_at source) symbols (record { next = next; line = line; start = at; stop = at + len; amount = amount } ∷ []))
+    append_assoc front (map (token_at source) symbols) (record { kind = kind_of next amount (take len (drop at source)); start = at; stop = at + len; line = line } ∷ [])
+    ∙ ap (λ n. front ++ (map (token_at source) symbols ++ record { kind = kind_of next amount (take n (drop at source)); start = at; stop = at + len; line = line } ∷ [])) same
+    ∙ ap (λ ts. front ++ ts) (sym (map-append (token_at source) symbols (record { next = next; line = line; start = at; stop = at + len; amount = amount } ∷ [])))

@@ -6,3 +6,4 @@ pub mod Sights
 pub mod Placing
 pub mod Laying
 pub mod Choosing
+pub mod Boxes

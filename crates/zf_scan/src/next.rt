@@ -1,5 +1,6 @@
 //! What comes next, for the rules of the grammar to choose by.
 ghost use Rattle.std.specs.Prelude.{◌≡◌, ℕ, List};
+ghost use Rattle.zf_scan.specs.Boxes.{ends_box};
 ghost use Rattle.zf_scan.specs.Choosing as spec;
 ghost use Rattle.zf_scan.specs.Separators as separators;
 ghost use Rattle.zf_scan.specs.Sights.{kind_of};
@@ -127,6 +128,13 @@ impl Next {
         ensures { (base : ℕ) (text : List ℕ) → result ≡ separators.is_separator (kind_of self base text) }
     {
         matches!(self, Next::Separator(_))
+    }
+
+    /// Whether this ends a box.
+    pub(crate) fn ends_box(self) -> bool
+        ensures { (base : ℕ) (text : List ℕ) → result ≡ ends_box (kind_of self base text) }
+    {
+        matches!(self, Next::EndBox | Next::End)
     }
 
     /// Whether a separator before or after this token is dropped.

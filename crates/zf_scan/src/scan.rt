@@ -1,5 +1,6 @@
 //! From bytes to tokens.
-ghost use Rattle.std.specs.Prelude.{◌≡◌, ◌≤◌, ◌⊎◌, ℕ, List, IsTrue, length, take, map, IfOk, IfErr};
+ghost use Rattle.std.specs.Prelude.{◌≡◌, ◌≤◌, ◌<◌, ◌⊎◌, ◌++◌, [], ℕ, List, IsTrue, length, take, map, IfOk, IfErr, OnOk};
+ghost use Rattle.zf_scan.specs.Boxes.{IsBorder, IsBoxAtMost, IsCutOn, IsCutUpTo};
 ghost use Rattle.zf_scan.specs.Cuts as cuts;
 ghost use Rattle.zf_scan.specs.Placing.{token_at};
 ghost use Rattle.zf_scan.specs.Sights.{kind_of, piece_of, told};
@@ -7,6 +8,7 @@ ghost use Rattle.zf_scan.specs.Steps as steps;
 ghost use Rattle.zf_scan.specs.declared.next.Next.{Next as NextSymbol};
 ghost use Rattle.zf_scan.specs.declared.pieces.Piece.TheVariants.{Plain, Symbol};
 ghost use Rattle.zf_scan.specs.declared.pieces.Sight.TheVariants as sights;
+ghost use Rattle.zf_scan.specs.declared.token.Token.{Token};
 
 use crate::fault::{TextFault, TextFaultKind};
 use crate::inside::inside_at;
@@ -15,25 +17,49 @@ use crate::outside::outside_at;
 use crate::pieces::{Found, Place, Sight, after, front};
 use crate::placed::Placed;
 use crate::token::Token;
-use std::alloc::Global;
+use std::alloc::{AllocError, Global};
 use zf_data::Items;
 
 /// The greatest length of a source.
 pub const SOURCE_MAX: usize = 1_048_576;
 
-/// The symbols of a source, with their places.
-pub fn symbols(alloc: Global, source: &[u8]) -> Result<Vec<Placed>, TextFault>
-    ensures cut { IfOk result (λ symbols. cuts.IsCutInto source.now (map (token_at source.now) symbols.items)) }
-    ensures fault { IfErr result (λ fault. cuts.IsWantOfMemory fault ⊎ cuts.HasFault source.now fault) }
-    ensures uncut { IfErr result (λ fault. cuts.IsWantOfMemory fault ⊎ cuts.IsUncut source.now) }
-{
-    if source.len() > SOURCE_MAX {
-        return Err(fault_at(TextFaultKind::TooLong, Place::Outside, 0));
+/// A place outside of all boxes, up to which a source is cut.
+#[derive(Clone, Copy, Debug)]
+pub struct Border {
+    pub line: u32,
+    pub start: usize,
+}
+
+impl Border {
+    /// The beginning of a source that is not too long.
+    pub fn of(source: &[u8]) -> Result<Border, TextFault>
+        ensures begun { IfOk result (λ border. IsCutUpTo source.now border []) }
+        ensures fault { IfErr result (λ fault. cuts.IsTooLong source.now fault) }
+    {
+        if source.len() > SOURCE_MAX {
+            return Err(fault_at(TextFaultKind::TooLong, Place::Outside, 0));
+        }
+        Ok(Border { line: 1, start: 0 })
     }
-    let mut symbols = Vec::new(alloc);
+}
+
+/// The symbols of the next box, with their places, instead of those in the list; none where no box is left. The border is then
+/// the one behind the box.
+pub fn next_box(
+    source: &[u8],
+    border: &mut Border,
+    symbols: &mut Vec<Placed>,
+) -> Result<(), TextFault>
+    requires { IsBorder source.now border.old }
+    ensures cut { OnOk result ((tokens : List Token) → IsCutUpTo source.now border.old tokens → IsCutUpTo source.now border.new (tokens ++ map (token_at source.now) symbols.new.items)) }
+    ensures one { OnOk result (IsBoxAtMost (map (token_at source.now) symbols.new.items)) }
+    ensures further { OnOk result (border.old.start < length source.now → border.old.start < border.new.start) }
+    ensures fault { IfErr result (λ fault. cuts.IsWantOfMemory fault ⊎ cuts.IsStuck source.now fault) }
+{
+    symbols.clear();
     let mut place = Place::Outside;
-    let mut line = 1;
-    let mut start = 0;
+    let mut line = border.line;
+    let mut start = border.start;
     while start < source.len() {
         let rest = after(source, start);
         if is_blank(place, rest) {
@@ -52,6 +78,13 @@ pub fn symbols(alloc: Global, source: &[u8]) -> Result<Vec<Placed>, TextFault>
                     stop: start + len,
                     amount,
                 })?;
+                if next.ends_box() {
+                    *border = Border {
+                        line,
+                        start: start + len,
+                    };
+                    return Ok(());
+                }
                 place = behind(place, line, next);
             }
             Sight::Refused(kind) => return Err(fault_at(kind, place, line)),
@@ -59,9 +92,25 @@ pub fn symbols(alloc: Global, source: &[u8]) -> Result<Vec<Placed>, TextFault>
         start += len;
     }
     match place {
-        Place::Outside => Ok(symbols),
+        Place::Outside => {
+            *border = Border { line, start };
+            Ok(())
+        }
         _ => Err(fault_at(TextFaultKind::UnclosedBox, place, line)),
     }
+}
+
+/// Whether the rest of a source is cut, behind the border; else the fault of the source. The list lends its room.
+pub fn cut_rest(source: &[u8], border: Border, symbols: &mut Vec<Placed>) -> Result<(), TextFault>
+    requires { IsBorder source.now border }
+    ensures cut { OnOk result ((tokens : List Token) → IsCutUpTo source.now border tokens → IsCutOn source.now tokens) }
+    ensures fault { IfErr result (λ fault. cuts.IsWantOfMemory fault ⊎ cuts.IsStuck source.now fault) }
+{
+    let mut border = border;
+    while border.start < source.len() {
+        next_box(source, &mut border, symbols)?;
+    }
+    Ok(())
 }
 
 /// The tokens of a source.
@@ -71,12 +120,29 @@ pub fn scan(alloc: Global, source: &[u8]) -> Result<Items<Token>, TextFault>
     ensures fault { IfErr result (λ fault. cuts.IsWantOfMemory fault ⊎ cuts.HasFault source.now fault) }
     ensures uncut { IfErr result (λ fault. cuts.IsWantOfMemory fault ⊎ cuts.IsUncut source.now) }
 {
-    let symbols = symbols(alloc, source)?;
+    let mut border = Border::of(source)?;
+    let mut symbols = Vec::new(alloc);
     let mut tokens = Items::new(alloc);
-    for i in 0..symbols.len() {
-        tokens.push(symbols[i].token(alloc, source)?)?;
+    while border.start < source.len() {
+        next_box(source, &mut border, &mut symbols)?;
+        push_tokens(alloc, source, symbols.as_slice(), &mut tokens)?;
     }
     Ok(tokens)
+}
+
+// Adds the tokens of symbols.
+fn push_tokens(
+    alloc: Global,
+    source: &[u8],
+    symbols: &[Placed],
+    tokens: &mut Items<Token>,
+) -> Result<(), AllocError>
+    ensures { OnOk result (tokens.new ≡ tokens.old ++ map (token_at source.now) symbols.now) }
+{
+    for symbol in symbols {
+        tokens.push(symbol.token(alloc, source)?)?;
+    }
+    Ok(())
 }
 
 // Whether a blank begins a text inside a box.

@@ -15,6 +15,7 @@ use zf_data::arena::{Boxed, Items as ArenaItems};
 use zf_term::globals::Globals;
 use zf_text::tree::{Decl, Name, Paragraph, Spec, Term, ZBox};
 use zf_type::fault::{Refusal, TypeFault};
+use zf_type::slate::Slate;
 
 /// What a text defines, and its faults in order.
 #[derive(Drop)]
@@ -38,8 +39,9 @@ pub fn check_spec<'a>(
         faults: Items::new(alloc),
     };
     let mut next = 0;
+    let mut slate = Slate::new(alloc, arena);
     for each in spec.boxes.items {
-        check_box(arena, &mut checked, &mut next, each)?;
+        check_box(arena, &mut checked, &mut next, &mut slate, each)?;
     }
     Ok(checked)
 }
@@ -49,6 +51,7 @@ fn check_box<'a>(
     arena: &'a Bump,
     checked: &mut Checked<'a>,
     next: &mut usize,
+    slate: &mut Slate<'a>,
     each: ZBox<'a>,
 ) -> Result<(), AllocError>
     requires { next.old ≡ next_number (globals_of checked.old.globals) }
@@ -56,9 +59,17 @@ fn check_box<'a>(
     ensures numbered { next.new ≡ next_number (globals_of checked.new.globals) }
 {
     match each {
-        ZBox::Zed(paragraphs) => check_paragraphs(arena, checked, next, kept(paragraphs)),
+        ZBox::Zed(paragraphs) => check_paragraphs(arena, checked, next, slate, kept(paragraphs)),
         ZBox::SchemaBox(name, decls, predicates) => {
-            check_schema_box(arena, checked, next, &name, kept(decls), kept(predicates))
+            check_schema_box(
+                arena,
+                checked,
+                next,
+                slate,
+                &name,
+                kept(decls),
+                kept(predicates),
+            )
         }
     }
 }
@@ -74,6 +85,7 @@ fn check_paragraphs<'a>(
     arena: &'a Bump,
     checked: &mut Checked<'a>,
     next: &mut usize,
+    slate: &mut Slate<'a>,
     paragraphs: &'a [Paragraph<'a>],
 ) -> Result<(), AllocError>
     requires { next.old ≡ next_number (globals_of checked.old.globals) }
@@ -81,7 +93,7 @@ fn check_paragraphs<'a>(
     ensures numbered { next.new ≡ next_number (globals_of checked.new.globals) }
 {
     for paragraph in paragraphs {
-        check_paragraph(arena, checked, next, paragraph)?;
+        check_paragraph(arena, checked, next, slate, paragraph)?;
     }
     Ok(())
 }
@@ -90,13 +102,14 @@ fn check_paragraph<'a>(
     arena: &'a Bump,
     checked: &mut Checked<'a>,
     next: &mut usize,
+    slate: &mut Slate<'a>,
     paragraph: &'a Paragraph<'a>,
 ) -> Result<(), AllocError>
     requires { next.old ≡ next_number (globals_of checked.old.globals) }
     ensures runs { OnOk result (RunsOne checked.old (a_paragraph (paragraph_of paragraph.now)) checked.new) }
     ensures numbered { next.new ≡ next_number (globals_of checked.new.globals) }
 {
-    let defined = define(arena, &mut checked.globals, next, paragraph);
+    let defined = define(arena, &mut checked.globals, next, slate, paragraph);
     note(&mut checked.faults, defined)
 }
 
@@ -104,6 +117,7 @@ fn check_schema_box<'a>(
     arena: &'a Bump,
     checked: &mut Checked<'a>,
     next: &mut usize,
+    slate: &mut Slate<'a>,
     name: &Name<'a>,
     decls: &'a [Decl<'a>],
     predicates: &'a [Boxed<'a, Term<'a>>],
@@ -112,7 +126,7 @@ fn check_schema_box<'a>(
     ensures runs { OnOk result (RunsOne checked.old (a_box name.now (map decl_of decls.now) (map tree_of predicates.now)) checked.new) }
     ensures numbered { next.new ≡ next_number (globals_of checked.new.globals) }
 {
-    let defined = define_box(arena, &mut checked.globals, name, decls, predicates);
+    let defined = define_box(arena, &mut checked.globals, slate, name, decls, predicates);
     note(&mut checked.faults, defined)
 }
 

@@ -20,17 +20,19 @@ use zf_calculus::stop::Stop;
 use zf_term::globals::{Flat, Globals};
 use zf_text::tree::{Decl, Name, SchemaExp};
 use zf_type::fault::Refusal;
+use zf_type::slate::Slate;
 
 /// The schema that the expression is.
 pub fn schema_of_expression<'a>(
     exp: &'a SchemaExp<'a>,
     arena: &'a Bump,
     globals: &Globals<'a>,
+    slate: &mut Slate<'a>,
 ) -> Result<Flat<'a>, Refusal>
     ensures ok { IfOk result (λ f. IsSchema (globals_of globals.now) (tree.schema_of exp.now) (schema_of f)) }
     ensures wrong { IfErr result (λ e. IfFault e (OffendsSchema (globals_of globals.now) (tree.schema_of exp.now))) }
 {
-    Ok(growing_schema(exp, arena, globals)?.flat)
+    Ok(growing_schema(exp, arena, globals, slate)?.flat)
 }
 
 /// The same schema, with what is left of the limits.
@@ -39,6 +41,7 @@ fn growing_schema<'a>(
     exp: &'a SchemaExp<'a>,
     arena: &'a Bump,
     globals: &Globals<'a>,
+    slate: &mut Slate<'a>,
 ) -> Result<Growing<'a>, Refusal>
     ensures ok { IfOk result (λ g. IsSchema (globals_of globals.now) (tree.schema_of exp.now) (schema_of g.flat)) }
     ensures growing { IfOk result (λ g. IsGrowing g) }
@@ -48,18 +51,19 @@ fn growing_schema<'a>(
         SchemaExp::Text(decls, predicates) => growing_text(
             arena,
             globals,
+            slate,
             decls.as_slice(),
             predicates.as_slice(),
         ),
         SchemaExp::Ref(reference) => referred(arena, globals, reference, Spare::none()),
         SchemaExp::Both(left, right) => {
-            let of_left = growing_schema(left.get(), arena, globals)?;
-            let of_right = growing_schema(right.get(), arena, globals)?;
+            let of_left = growing_schema(left.get(), arena, globals, slate)?;
+            let of_right = growing_schema(right.get(), arena, globals, slate)?;
             conjunction(arena, name_line(right.get()), of_left, of_right)
         }
         SchemaExp::Or(line, left, right) => {
-            let of_left = growing_schema(left.get(), arena, globals)?;
-            let of_right = growing_schema(right.get(), arena, globals)?;
+            let of_left = growing_schema(left.get(), arena, globals, slate)?;
+            let of_right = growing_schema(right.get(), arena, globals, slate)?;
             disjunction(
                 arena,
                 *line,
@@ -68,7 +72,7 @@ fn growing_schema<'a>(
                 &of_right.flat,
             )
         }
-        SchemaExp::Bracket(inner) => growing_schema(inner.get(), arena, globals),
+        SchemaExp::Bracket(inner) => growing_schema(inner.get(), arena, globals, slate),
     }
 }
 

@@ -27,12 +27,14 @@ use zf_term::operator::Need;
 use zf_text::tree::{Decl, Name, Paragraph, SchemaExp, Term};
 use zf_type::fault::{Refusal, TypeFaultKind, refused};
 use zf_type::judge::judge;
+use zf_type::slate::Slate;
 
 /// Defines what the paragraph does, or leaves the globals as they were. Keeps the number of the next given set or free type.
 pub fn define<'a>(
     arena: &'a Bump,
     globals: &mut Globals<'a>,
     next: &mut usize,
+    slate: &mut Slate<'a>,
     paragraph: &'a Paragraph<'a>,
 ) -> Result<(), Refusal>
     requires { next.old ≡ next_number (globals_of globals.old) }
@@ -42,7 +44,7 @@ pub fn define<'a>(
     ensures numbered { next.new ≡ next_number (globals_of globals.new) }
 {
     let count = globals.len();
-    let defined = add(arena, globals, *next, paragraph);
+    let defined = add(arena, globals, *next, slate, paragraph);
     if defined.is_err() {
         globals.truncate(count);
     } else {
@@ -68,6 +70,7 @@ fn elements(paragraph: &Paragraph<'_>) -> usize
 pub fn define_box<'a>(
     arena: &'a Bump,
     globals: &mut Globals<'a>,
+    slate: &mut Slate<'a>,
     name: &Name<'a>,
     decls: &'a [Decl<'a>],
     predicates: &'a [Boxed<'a, Term<'a>>],
@@ -78,7 +81,7 @@ pub fn define_box<'a>(
     ensures numbered { next_number (globals_of globals.new) ≡ next_number (globals_of globals.old) }
 {
     let spelled = new_name(globals, name)?;
-    let schema = text_of(arena, globals, decls, predicates)?;
+    let schema = text_of(arena, globals, slate, decls, predicates)?;
     globals.define(spelled, Entry::Schema(schema))?;
     Ok(())
 }
@@ -88,6 +91,7 @@ fn add<'a>(
     arena: &'a Bump,
     globals: &mut Globals<'a>,
     next: usize,
+    slate: &mut Slate<'a>,
     paragraph: &'a Paragraph<'a>,
 ) -> Result<(), Refusal>
     requires number { next ≡ next_number (globals_of globals.old) }
@@ -99,8 +103,8 @@ fn add<'a>(
     match paragraph {
         Paragraph::Given(names) => add_given(globals, next, names.as_slice()),
         Paragraph::Free(name, names) => add_free(arena, globals, next, name, names.as_slice()),
-        Paragraph::Abbrev(name, term) => add_abbreviation(arena, globals, name, term),
-        Paragraph::Defs(name, exp) => add_schema(arena, globals, name, exp),
+        Paragraph::Abbrev(name, term) => add_abbreviation(arena, globals, slate, name, term),
+        Paragraph::Defs(name, exp) => add_schema(arena, globals, slate, name, exp),
     }
 }
 
@@ -155,6 +159,7 @@ fn add_constructors<'a>(
 fn add_abbreviation<'a>(
     arena: &'a Bump,
     globals: &mut Globals<'a>,
+    slate: &mut Slate<'a>,
     name: &Name<'a>,
     term: &'a Boxed<'a, Term<'a>>,
 ) -> Result<(), Refusal>
@@ -163,7 +168,7 @@ fn add_abbreviation<'a>(
     ensures begun { take (length (globals_of globals.old)) (globals_of globals.new) ≡ globals_of globals.old }
 {
     let spelled = new_name(globals, name)?;
-    let entry = abbreviation_of(arena, globals, term)?;
+    let entry = abbreviation_of(arena, globals, slate, term)?;
     globals.define(spelled, entry)?;
     Ok(())
 }
@@ -171,6 +176,7 @@ fn add_abbreviation<'a>(
 fn add_schema<'a>(
     arena: &'a Bump,
     globals: &mut Globals<'a>,
+    slate: &mut Slate<'a>,
     name: &Name<'a>,
     exp: &'a SchemaExp<'a>,
 ) -> Result<(), Refusal>
@@ -179,7 +185,7 @@ fn add_schema<'a>(
     ensures begun { take (length (globals_of globals.old)) (globals_of globals.new) ≡ globals_of globals.old }
 {
     let spelled = new_name(globals, name)?;
-    let schema = schema_of_expression(exp, arena, globals)?;
+    let schema = schema_of_expression(exp, arena, globals, slate)?;
     globals.define(spelled, Entry::Schema(schema))?;
     Ok(())
 }
@@ -223,14 +229,16 @@ fn all_spelled<'a>(arena: &'a Bump, names: &[Name<'a>]) -> Result<Items<'a, Lent
 fn abbreviation_of<'a>(
     arena: &'a Bump,
     globals: &Globals<'a>,
+    slate: &mut Slate<'a>,
     term: &'a Boxed<'a, Term<'a>>,
 ) -> Result<Entry<'a>, Refusal>
     ensures ok { IfOk result (λ e. (t : Ty) × IsOf (outside (globals_of globals.now)) (tree_of term.now) (typed t) × (definition_of e ≡ abbreviated (globals_of globals.now) t (resolved (outside (globals_of globals.now)) (tree_of term.now)))) }
     ensures fault { IfErr result (λ e. IfFault e (λ kind line. Offends (outside (globals_of globals.now)) need.Expression (tree_of term.now) kind line)) }
 {
-    let references = Vec::new(*globals.entries.allocator());
-    let mut scope = scope_over(globals, &[], references);
-    let judged = judge(term.get(), arena, Need::Expression, &mut scope)?;
+    let mut scope = scope_over(globals, &[], slate);
+    let judged = judge(term.get(), arena, Need::Expression, &mut scope);
+    slate.take_back(scope);
+    let judged = judged?;
     let Some(ztype) = judged.sort.into_type() else {
         unreachable!();
     };

@@ -21,7 +21,6 @@ ghost use Rattle.zf_term.specs.Shapes as shape;
 use crate::reference::referred;
 use bumpalo::Bump;
 use std::alloc::AllocError;
-use std::mem;
 use zf_calculus::growing::Growing;
 use zf_calculus::limits::{COMPONENTS_MAX, CONJUNCTS_MAX};
 use zf_calculus::spare::Spare;
@@ -29,7 +28,6 @@ use zf_data::arena::{Boxed, Items, Lasting, Shared};
 use zf_term::conjunct::{Conjunct, Statement};
 use zf_term::globals::{Component, Domain, Flat, Globals};
 use zf_term::operator::Need;
-use zf_term::resolved::Reference;
 use zf_term::written::Written;
 use zf_term::ztype::ZType;
 use zf_text::tree::{Decl, Name, SchemaRef, Term};
@@ -37,24 +35,27 @@ use zf_type::conjuncts::push_conjuncts;
 use zf_type::fault::Refusal;
 use zf_type::judge::{Judged, judge};
 use zf_type::scope::Scope;
+use zf_type::slate::Slate;
 
 /// The schema of these declarations, and then of these predicates over them.
 pub fn text_of<'a>(
     arena: &'a Bump,
     globals: &Globals<'a>,
+    slate: &mut Slate<'a>,
     decls: &'a [Decl<'a>],
     predicates: &'a [Boxed<'a, Term<'a>>],
 ) -> Result<Flat<'a>, Refusal>
     ensures ok { IfOk result (λ f. IsText (globals_of globals.now) (map decl_of decls.now) (map tree_of predicates.now) (schema_of f)) }
     ensures wrong { IfErr result (λ e. IfFault e (OffendsText (globals_of globals.now) (map decl_of decls.now) (map tree_of predicates.now))) }
 {
-    Ok(growing_text(arena, globals, decls, predicates)?.flat)
+    Ok(growing_text(arena, globals, slate, decls, predicates)?.flat)
 }
 
 /// The same schema, with what is left of the limits.
 pub fn growing_text<'a>(
     arena: &'a Bump,
     globals: &Globals<'a>,
+    slate: &mut Slate<'a>,
     decls: &'a [Decl<'a>],
     predicates: &'a [Boxed<'a, Term<'a>>],
 ) -> Result<Growing<'a>, Refusal>
@@ -64,9 +65,8 @@ pub fn growing_text<'a>(
 {
     let spare = expected(decls, predicates);
     let mut growing = Growing::with_room(arena, own_room(decls, spare))?;
-    let mut references = Vec::new(*globals.entries.allocator());
-    declare_all(arena, globals, &mut growing, &mut references, decls, spare)?;
-    constrain_all(arena, globals, &mut growing, &mut references, predicates)?;
+    declare_all(arena, globals, &mut growing, slate, decls, spare)?;
+    constrain_all(arena, globals, &mut growing, slate, predicates)?;
     Ok(growing)
 }
 
@@ -98,7 +98,7 @@ fn declare_all<'a>(
     arena: &'a Bump,
     globals: &Globals<'a>,
     growing: &mut Growing<'a>,
-    references: &mut Vec<Reference>,
+    slate: &mut Slate<'a>,
     decls: &'a [Decl<'a>],
     spare: Spare,
 ) -> Result<(), Refusal>
@@ -108,7 +108,7 @@ fn declare_all<'a>(
     ensures wrong { IfErr result (λ e. IfFault e (OffendsDecls (globals_of globals.now) (schema_of growing.old.flat) (map decl_of decls.now))) }
 {
     for decl in decls {
-        declare(arena, globals, growing, references, decl, spare)?;
+        declare(arena, globals, growing, slate, decl, spare)?;
     }
     Ok(())
 }
@@ -118,7 +118,7 @@ fn declare<'a>(
     arena: &'a Bump,
     globals: &Globals<'a>,
     growing: &mut Growing<'a>,
-    references: &mut Vec<Reference>,
+    slate: &mut Slate<'a>,
     decl: &'a Decl<'a>,
     spare: Spare,
 ) -> Result<(), Refusal>
@@ -129,7 +129,7 @@ fn declare<'a>(
 {
     match decl {
         Decl::Vars(names, set) => {
-            declare_names(arena, globals, growing, references, names.as_slice(), set)
+            declare_names(arena, globals, growing, slate, names.as_slice(), set)
         }
         Decl::Include(reference) => include(arena, globals, growing, reference, spare),
     }
@@ -140,7 +140,7 @@ fn declare_names<'a>(
     arena: &'a Bump,
     globals: &Globals<'a>,
     growing: &mut Growing<'a>,
-    references: &mut Vec<Reference>,
+    slate: &mut Slate<'a>,
     names: &[Name<'a>],
     set: &'a Boxed<'a, Term<'a>>,
 ) -> Result<(), Refusal>
@@ -149,7 +149,7 @@ fn declare_names<'a>(
     ensures growing { OnOk result (IsGrowing growing.new) }
     ensures wrong { IfErr result (λ e. IfFault e (OffendsDecl (globals_of globals.now) (schema_of growing.old.flat) (vars names.now (tree_of set.now)))) }
 {
-    let Judged { term, sort } = judge_over(arena, globals, &[], references, Need::Set, set)?;
+    let Judged { term, sort } = judge_over(arena, globals, &[], slate, Need::Set, set)?;
     let Some(ztype) = sort.member() else {
         unreachable!();
     };
@@ -251,7 +251,7 @@ fn judge_over<'a>(
     arena: &'a Bump,
     globals: &Globals<'a>,
     components: &[Component<'a>],
-    references: &mut Vec<Reference>,
+    slate: &mut Slate<'a>,
     need: Need,
     term: &'a Boxed<'a, Term<'a>>,
 ) -> Result<Judged<'a>, Refusal>
@@ -260,32 +260,26 @@ fn judge_over<'a>(
     ensures term { IfOk result (λ j. written_of j.term ≡ resolved (over (globals_of globals.now) (map comp_of components.now)) (tree_of term.now)) }
     ensures wrong { IfErr result (λ e. IfFault e (Offends (over (globals_of globals.now) (map comp_of components.now)) need (tree_of term.now))) }
 {
-    let mut scope = scope_over(globals, components, taken(references));
+    let mut scope = scope_over(globals, components, slate);
     let judged = judge(term.get(), arena, need, &mut scope);
-    *references = scope.references;
+    slate.take_back(scope);
     judged
 }
 
-/// The list, for its room; an empty one stands in its place.
-fn taken(references: &mut Vec<Reference>) -> Vec<Reference> {
-    let alloc = *references.allocator();
-    mem::replace(references, Vec::new(alloc))
-}
-
-/// The scope of the globals and these components, where no variable is bound. The references are only lent their room.
+/// The scope of the globals and these components, where no variable is bound. The slate lends it its lists.
 #[tactic(auto, unfolding(zf_type::specs::Scopes::scope_of))]
 pub fn scope_over<'a, 'b>(
     globals: &'b Globals<'a>,
     components: &'b [Component<'a>],
-    references: Vec<Reference>,
+    slate: &mut Slate<'a>,
 ) -> Scope<'a, 'b>
     ensures { scope_of result ≡ over (globals_of globals.now) (map comp_of components.now) }
 {
     Scope {
         globals,
         components,
-        locals: Vec::new(*globals.entries.allocator()),
-        references,
+        locals: slate.take_locals(),
+        references: slate.take_references(),
     }
 }
 
@@ -294,7 +288,7 @@ fn constrain_all<'a>(
     arena: &'a Bump,
     globals: &Globals<'a>,
     growing: &mut Growing<'a>,
-    references: &mut Vec<Reference>,
+    slate: &mut Slate<'a>,
     predicates: &'a [Boxed<'a, Term<'a>>],
 ) -> Result<(), Refusal>
     requires { IsGrowing growing.old }
@@ -303,7 +297,7 @@ fn constrain_all<'a>(
     ensures wrong { IfErr result (λ e. IfFault e (OffendsPredicates (globals_of globals.now) (schema_of growing.old.flat) (map tree_of predicates.now))) }
 {
     for predicate in predicates {
-        constrain(arena, globals, growing, references, predicate)?;
+        constrain(arena, globals, growing, slate, predicate)?;
     }
     Ok(())
 }
@@ -313,7 +307,7 @@ fn constrain<'a>(
     arena: &'a Bump,
     globals: &Globals<'a>,
     growing: &mut Growing<'a>,
-    references: &mut Vec<Reference>,
+    slate: &mut Slate<'a>,
     predicate: &'a Boxed<'a, Term<'a>>,
 ) -> Result<(), Refusal>
     requires { IsGrowing growing.old }
@@ -322,42 +316,42 @@ fn constrain<'a>(
     ensures wrong { IfErr result (λ e. IfFault e (OffendsPredicate (globals_of globals.now) (schema_of growing.old.flat) (tree_of predicate.now))) }
 {
     let components = growing.flat.components.as_slice();
-    let conjuncts = conjuncts_over(arena, globals, components, references, predicate)?;
-    take_all(arena, growing, conjuncts)
+    push_over(arena, globals, components, slate, predicate)?;
+    take_all(arena, growing, slate.conjuncts.as_slice())
 }
 
-/// The conjuncts of a predicate where the globals and these components are in scope.
-fn conjuncts_over<'a>(
+/// Puts on the slate the conjuncts of a predicate where the globals and these components are in scope.
+fn push_over<'a>(
     arena: &'a Bump,
     globals: &Globals<'a>,
     components: &[Component<'a>],
-    references: &mut Vec<Reference>,
+    slate: &mut Slate<'a>,
     predicate: &'a Boxed<'a, Term<'a>>,
-) -> Result<Items<'a, Written<'a>>, Refusal>
+) -> Result<(), Refusal>
     ensures is { OnOk result (IsOf (over (globals_of globals.now) (map comp_of components.now)) (tree_of predicate.now) rules.predicate) }
-    ensures ok { IfOk result (λ ts. map written_of ts ≡ shape.conjuncts (resolved (over (globals_of globals.now) (map comp_of components.now)) (tree_of predicate.now))) }
+    ensures ok { OnOk result (map written_of slate.new.conjuncts ≡ shape.conjuncts (resolved (over (globals_of globals.now) (map comp_of components.now)) (tree_of predicate.now))) }
     ensures wrong { IfErr result (λ e. IfFault e (Offends (over (globals_of globals.now) (map comp_of components.now)) needs.Predicate (tree_of predicate.now))) }
 {
-    let mut scope = scope_over(globals, components, taken(references));
-    let mut conjuncts = Items::new(arena);
-    push_conjuncts(predicate.get(), arena, &mut scope, &mut conjuncts)?;
-    *references = scope.references;
-    Ok(conjuncts)
+    let mut scope = scope_over(globals, components, slate);
+    slate.conjuncts.clear();
+    let pushed = push_conjuncts(predicate.get(), arena, &mut scope, &mut slate.conjuncts);
+    slate.take_back(scope);
+    pushed
 }
 
 /// Takes the conjuncts, one after another.
 fn take_all<'a>(
     arena: &'a Bump,
     growing: &mut Growing<'a>,
-    conjuncts: Items<'a, Written<'a>>,
+    conjuncts: &[Written<'a>],
 ) -> Result<(), Refusal>
     requires { IsGrowing growing.old }
-    ensures ok { OnOk result (TakesAll (schema_of growing.old.flat) (map written_of conjuncts.entry) (schema_of growing.new.flat)) }
+    ensures ok { OnOk result (TakesAll (schema_of growing.old.flat) (map written_of conjuncts.now) (schema_of growing.new.flat)) }
     ensures growing { OnOk result (IsGrowing growing.new) }
-    ensures wrong { IfErr result (λ e. IfFault e (OffendsConjuncts (schema_of growing.old.flat) (map written_of conjuncts.entry))) }
+    ensures wrong { IfErr result (λ e. IfFault e (OffendsConjuncts (schema_of growing.old.flat) (map written_of conjuncts.now))) }
 {
-    for conjunct in conjuncts.into_vec() {
-        take(arena, growing, conjunct)?;
+    for conjunct in conjuncts {
+        take(arena, growing, *conjunct)?;
     }
     Ok(())
 }

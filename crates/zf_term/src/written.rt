@@ -22,7 +22,7 @@ use std::alloc::AllocError;
 use zf_text::tree::Term;
 
 /// A term of a text, with what its names stand for, from left to right.
-#[derive(Drop)]
+#[derive(Clone, Copy)]
 pub struct Written<'a> {
     pub term: &'a Term<'a>,
     pub references: &'a [Reference],

@@ -211,7 +211,8 @@ pub fn pair_type<'a>(
 ) -> Result<ZType<'a>, AllocError>
     ensures { IfOk result (λ t. type_of t ≡ pair (type_of first.entry) (type_of second.entry)) }
 {
-    let mut parts = Items::of(arena, first)?;
+    let mut parts = Items::with_room(arena, 2)?;
+    parts.push(first)?;
     parts.push(second)?;
     product_type(arena, parts)
 }

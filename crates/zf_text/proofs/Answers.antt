@@ -67,7 +67,7 @@ only_one a b tokens r s =
 
 -- ---- a source
 
-refuses_source : (kind : TextFaultKind) (line : ℕ) (source : List ℕ) (tokens : List Token) → IsCutInto source tokens → Refuses kind line tokens
+pub refuses_source : (kind : TextFaultKind) (line : ℕ) (source : List ℕ) (tokens : List Token) → IsCutInto source tokens → Refuses kind line tokens
     → IsWantOfMemory (record { kind = kind; line = line }) ⊎ RefusesSource source (record { kind = kind; line = line })
 refuses_source fault.OutOfMemory line source tokens cut h = inl (refl, h)
 refuses_source fault.Unexpected line source tokens cut h = inr (inr (tokens, cut, h, tt))

@@ -15,6 +15,7 @@ use Rattle.zf_text.specs.declared.tree.Paragraph.{Paragraph}
 use Rattle.zf_text.specs.declared.tree.Term.{Term}
 use Rattle.zf_text.specs.declared.tree.ZBox.{ZBox}
 use Rattle.zf_text.specs.declared.tree.ZBox.TheVariants as zbox
+use Rattle.zf_text.specs.BoxByBox.{SpellsUpTo}
 use Rattle.zf_text.specs.BoxReading.{items, read_decls, predicates, read_paragraph, read_zed, read_schema_box, box_by, read_box, boxes_from, read_boxes, read_all}
 use Rattle.zf_text.specs.Height.{height, most, decl_height, paragraph_height, box_height, highest}
 use Rattle.zf_text.specs.Levels.{quantifier_level, IsLevelled, DeclIsLevelled, ParagraphIsLevelled, BoxIsLevelled}
@@ -34,10 +35,10 @@ use Rattle.zf_text.proofs.ParagraphsRead.{EndsParagraph, paragraph_sound, paragr
 
 -- ---- a box that is read is there
 
-record BoxIsThere (n : ℕ) (b : ZBox) (ts us : List Symbol) : Type 0 where
-  levelled : BoxIsLevelled (box_of b)
-  low : box_height (box_of b) ≤ n
-  spelled : SpellsBox (box_of b) ts us
+pub record BoxIsThere (n : ℕ) (b : ZBox) (ts us : List Symbol) : Type 0 where
+  pub levelled : BoxIsLevelled (box_of b)
+  pub low : box_height (box_of b) ≤ n
+  pub spelled : SpellsBox (box_of b) ts us
 
 zed_sound : (n : ℕ) (begin ts us : List Symbol) (b : ZBox) → Next k.BeginZed begin ts → read_zed n ts ≡ Ok (b, us) → BoxIsThere n b begin us
 unfolding read_zed
@@ -74,14 +75,14 @@ box_at n (k.Separator NewLine) line ts us b e = schema_box_sound n _ us b e
 box_at n (k.Separator Also) line ts us b e = schema_box_sound n _ us b e
 box_at n kind line ts us b e = schema_box_sound n _ us b e
 
-box_sound : (n : ℕ) (ts us : List Symbol) (b : ZBox) → read_box n ts ≡ Ok (b, us) → BoxIsThere n b ts us
+pub box_sound : (n : ℕ) (ts us : List Symbol) (b : ZBox) → read_box n ts ≡ Ok (b, us) → BoxIsThere n b ts us
 unfolding read_box
 box_sound n [] us b e = schema_box_sound n [] us b e
 box_sound n (t ∷ ts) us b e = box_at n t.kind t.line ts us b e
 
 -- ---- a box that is there is read
 
-abbrev BoxIsRead : ℕ → BoxTree → Outcome ZBox → List Symbol → Type 0
+abbrev pub BoxIsRead : ℕ → BoxTree → Outcome ZBox → List Symbol → Type 0
 BoxIsRead n t o us = Answers (λ b. box_of b ≡ t) n (box_height t) o us
 
 separator_ends : EndsParagraph (next_of separator)
@@ -118,7 +119,7 @@ schema_box_answers n name ds ps ts us lev h =
     let same : schema_box m (map decl_of xs.part) (map tree_of ys.part) ≡ schema_box name ds ps = ap (λ m. schema_box m (map decl_of xs.part) (map tree_of ys.part)) m_is ∙ ap (λ ds. schema_box name ds (map tree_of ys.part)) sx.is ∙ ap (schema_box name ds) sy.is in
     then_answers Is n h (expect mark.EndBox c) _ tt us us (ok_expect mark.EndBox c us end) (done Is n h (zbox.SchemaBox m xs.part ys.part) us same (omega arith)))))
 
-box_answers : (n : ℕ) (t : BoxTree) (ts us : List Symbol) → BoxIsLevelled t → SpellsBox t ts us → BoxIsRead n t (read_box n ts) us
+pub box_answers : (n : ℕ) (t : BoxTree) (ts us : List Symbol) → BoxIsLevelled t → SpellsBox t ts us → BoxIsRead n t (read_box n ts) us
 unfolding read_box
 box_answers n (zed ps) ts us lev h =
     let (a, b, begin, all, end) = h in
@@ -134,11 +135,6 @@ box_shorter (schema_box n ds ps) ts us h =
     omega (arith, ap length h.4, decls_shorter ds h.0 h.1 h.5, predicates_shorter k.Where ps h.1 h.2 h.6, next_shorter h.2 us h.7)
 
 -- ---- a whole text
-
--- boxes one after another, up to some symbols
-abbrev SpellsUpTo : List BoxTree → List Symbol → List Symbol → Type 0
-SpellsUpTo [] ts us = ts ≡ us
-SpellsUpTo (b ∷ bs) ts us = (a : List Symbol) × SpellsBox b ts a × SpellsUpTo bs a us
 
 record AreUpTo (n : ℕ) (bs : List ZBox) (ts us : List Symbol) : Type 0 where
   levelled : AllByRecursion BoxIsLevelled (map box_of bs)
@@ -166,7 +162,7 @@ from_sound n (suc j) bs cs ts a us h e =
     let b = bind_ok (read_box n a) _ (cs, us) e in
     from_sound n j (bs ++ b.0 ∷ []) cs ts b.1 us (one_more n bs b.0 ts a b.1 h (box_sound n a b.1 b.0 b.2)) b.3)
 
-at_end : (ts : List Symbol) → is_end (first ts) ≡ true → ts ≡ []
+pub at_end : (ts : List Symbol) → is_end (first ts) ≡ true → ts ≡ []
 at_end [] e = refl
 at_end (t ∷ ts) e = absurd (no_end t.kind e)
   where
@@ -177,7 +173,7 @@ at_end (t ∷ ts) e = absurd (no_end t.kind e)
     no_end k.BeginZed e = cc
     no_end _ e = cc
 
-all_of : (bs : List BoxTree) (ts : List Symbol) → SpellsUpTo bs ts [] → SpellsBoxes bs ts
+pub all_of : (bs : List BoxTree) (ts : List Symbol) → SpellsUpTo bs ts [] → SpellsBoxes bs ts
 all_of [] ts h = h
 all_of (b ∷ bs) ts h = (h.0, h.1, all_of bs h.0 h.2)
 

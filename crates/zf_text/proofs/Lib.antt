@@ -18,6 +18,7 @@ pub mod TermBeginsRead
 pub mod TermComplete
 pub mod TermAnswers
 pub mod TermTurns
+pub mod TermsApart
 pub mod BoxItems
 pub mod BoxDecls
 pub mod SchemaSeen
@@ -25,4 +26,6 @@ pub mod SchemaTurns
 pub mod SchemaExps
 pub mod ParagraphsRead
 pub mod BoxesRead
+pub mod Apart
+mod BoxByBox
 pub mod Answers

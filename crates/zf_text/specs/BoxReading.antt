@@ -206,3 +206,7 @@ read_boxes height = λ ts. boxes_from height (length ts) [] ts
 -- all boxes, and nothing after them
 unfoldable pub read_all : ℕ → Parser (List ZBox)
 read_all height = λ ts. and_then (read_boxes height ts) (λ bs us. if is_end (first us) then Ok (bs, us) else Err Refused)
+
+-- one box, and nothing after it
+unfoldable pub read_only : ℕ → Parser ZBox
+read_only height = λ ts. and_then (read_box height ts) (λ b us. if is_end (first us) then Ok (b, us) else Err Refused)

@@ -8,4 +8,5 @@ pub mod Parsing
 pub mod Reading
 pub mod TermReading
 pub mod BoxReading
+pub mod BoxByBox
 pub mod Nests

@@ -113,3 +113,20 @@ pub fn all<'a>(
     }
     Ok(boxes)
 }
+
+/// One box, and nothing after it.
+#[tactic(auto, unfolding(crate::specs::BoxReading::read_only))]
+pub fn only<'a>(
+    arena: &'a Bump,
+    tokens: &mut Cursor<'a, '_>,
+    highest: u32,
+) -> Result<ZBox<'a>, TextFault>
+    requires { highest ≤ 1000 }
+    ensures { Gives (spec.read_only highest tokens.old) result tokens.new }
+{
+    let only = one_box(arena, tokens, highest)?;
+    if !tokens.is_done() {
+        return Err(tokens.unexpected());
+    }
+    Ok(only)
+}

@@ -1,6 +1,8 @@
 //! Trees out of tokens, and out of a source.
-ghost use Rattle.std.specs.Prelude.{◌≡◌, ◌≤◌, ◌<◌, ℕ, List, IfOk, length, map, slice_index_or, slice_set};
-ghost use Rattle.zf_text.specs.Parsing.{Parses, ReadsSpec};
+ghost use Rattle.std.specs.Prelude.{◌≡◌, ◌≤◌, ◌<◌, ◌⊎◌, ℕ, List, IfOk, IfErr, OnOk, length, map, slice_index_or, slice_set};
+ghost use Rattle.zf_text.specs.BoxByBox.{ReadsOneBox, ReadsUpTo};
+ghost use Rattle.zf_text.specs.Parsing.{Parses, ReadsSpec, RefusesSource};
+ghost use Rattle.zf_scan.specs.Cuts.{IsWantOfMemory};
 ghost use Rattle.zf_scan.specs.Placing.{symbol_at, token_at, unplaced};
 ghost use Rattle.zf_text.specs.Reads.{Reads};
 ghost use Rattle.zf_scan.specs.Separators.{reduced, starts_closed};
@@ -8,16 +10,17 @@ ghost use Rattle.zf_text.specs.Trees.{BoxTree};
 ghost use Rattle.zf_scan.specs.declared.placed.Placed.{Placed};
 ghost use Rattle.zf_scan.specs.declared.token.Token.{Token};
 
-use crate::boxes::all;
+use crate::boxes::{all, only};
 use crate::cursor::Cursor;
-use crate::tree::Spec;
+use crate::tree::{Spec, ZBox};
 use bumpalo::Bump;
 use bumpalo::collections::into_bump_slice;
 use std::alloc::Global;
+use zf_data::Items;
 use zf_scan::fault::TextFault;
 use zf_scan::laid::{Laid, lay_out};
 use zf_scan::placed::Placed;
-use zf_scan::scan::symbols;
+use zf_scan::scan::{Border, cut_rest, next_box};
 use zf_scan::token::Token;
 
 /// Whether a separator before these symbols is dropped.
@@ -91,7 +94,52 @@ pub fn parse<'a>(alloc: Global, arena: &'a Bump, tokens: &[Token]) -> Result<Spe
     parsed(alloc, arena, into_bump_slice(text), symbols)
 }
 
-/// The tree of a source: `scan`, and then `parse`.
+/// The box that the symbols are, and nothing behind it.
+fn only_box<'a>(
+    arena: &'a Bump,
+    text: &'a [u8],
+    symbols: &mut Vec<Placed>,
+) -> Result<ZBox<'a>, TextFault>
+    ensures { ReadsOneBox result (reduced (map (token_at text.now) symbols.old.items)) }
+{
+    reduce(symbols);
+    let mut cursor = Cursor::new(text, symbols.as_slice());
+    only(arena, &mut cursor, HEIGHT_LIMIT)
+}
+
+/// Adds the next box, if one is left. Where it is refused, the fault of a source that is not cut comes first.
+fn push_next<'a>(
+    arena: &'a Bump,
+    source: &'a [u8],
+    border: &mut Border,
+    symbols: &mut Vec<Placed>,
+    boxes: &mut Items<ZBox<'a>>,
+) -> Result<(), TextFault>
+    requires { ReadsUpTo source.now border.old boxes.old }
+    ensures ok { OnOk result (ReadsUpTo source.now border.new boxes.new) }
+    ensures further { OnOk result (border.old.start < length source.now → border.old.start < border.new.start) }
+    ensures wrong { IfErr result (λ fault. IsWantOfMemory fault ⊎ RefusesSource source.now fault) }
+{
+    next_box(source, border, symbols)?;
+    if symbols.as_slice().is_empty() {
+        return Ok(());
+    }
+    match only_box(arena, source, symbols) {
+        Ok(next) => {
+            boxes.push(next)?;
+            Ok(())
+        }
+        Err(fault) => {
+            cut_rest(source, *border, symbols)?;
+            Err(fault)
+        }
+    }
+}
+
+/// A box is mostly longer. Where a text has many shorter ones, the list of its boxes grows as it goes.
+const BYTES_OF_A_BOX: usize = 64;
+
+/// The tree of a source: `scan`, and then `parse`. It is made box by box, so that few symbols stand in memory.
 pub fn read_spec<'a>(
     alloc: Global,
     arena: &'a Bump,
@@ -99,8 +147,13 @@ pub fn read_spec<'a>(
 ) -> Result<Spec<'a>, TextFault>
     ensures { ReadsSpec result source.now }
 {
-    let symbols = symbols(alloc, source)?;
-    parsed(alloc, arena, source, symbols)
+    let mut border = Border::of(source)?;
+    let mut symbols = Vec::new(alloc);
+    let mut boxes = Items::with_room(alloc, source.len() / BYTES_OF_A_BOX)?;
+    while border.start < source.len() {
+        push_next(arena, source, &mut border, &mut symbols, &mut boxes)?;
+    }
+    Ok(Spec { boxes })
 }
 
 /// A law: no tokens are read by two trees.

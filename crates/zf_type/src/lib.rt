@@ -8,4 +8,5 @@ pub mod judge;
 pub mod laws;
 pub mod rules;
 pub mod scope;
+pub mod slate;
 pub mod sort;

@@ -109,6 +109,13 @@ impl<'a, T: Drop> Items<'a, T> {
         self.items.pop()
     }
 
+    /// Takes all items off. The room stays.
+    pub fn clear(&mut self)
+        ensures { self.new ≡ [] }
+    {
+        self.items.clear();
+    }
+
     /// Adds the items of the other list.
     pub fn append(&mut self, further: Items<'a, T>) -> Result<(), AllocError>
         ensures ok { OnOk result (self.new ≡ self.old ++ further.entry) }

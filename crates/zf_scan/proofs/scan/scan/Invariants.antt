@@ -1,7 +1,10 @@
-use Rattle.std.proofs.Common.{◌≡◌, ◌++◌, map, drop}
-use Rattle.zf_scan.specs.Placing.{token_at}
+use Rattle.std.proofs.Common.{length, ◌-◌}
+use Rattle.zf_scan.specs.Boxes.{IsCutUpTo}
 use Rattle.zf_scan.proofs.scan.scan.Given as goal
 
--- the tokens so far, and those of the symbols ahead, are the whole
-abbrev pub invariant-loop-i : goal.invariant-loop-i
-invariant-loop-i l = map (token_at l.source) l.symbols.items ≡ l.tokens ++ map (token_at l.source) (drop l.i l.symbols.items)
+-- the tokens so far are those up to the border
+abbrev pub invariant-loop-border : goal.invariant-loop-border
+invariant-loop-border l = IsCutUpTo l.source l.border l.tokens
+
+abbrev pub decreases-loop-border : goal.decreases-loop-border
+decreases-loop-border l = length l.source - l.border.start

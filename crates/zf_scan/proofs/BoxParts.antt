@@ -1,0 +1,178 @@
+-- What the list of the symbols of a box is while the scanner fills it.
+use Rattle.std.proofs.Common.{◌≡◌, ℕ, ◌≤◌, List, [], ◌∷◌, ◌++◌, length, take, drop, map, Bool, true, false, Some, refl, sym, ap, ◌∙◌, subst, inl, inr, append_assoc}
+use Rattle.std.proofs.lemmas.List.{append-nil}
+use Rattle.std.specs.Prelude.{if◌then◌else◌}
+use Rattle.std.specs.List.{list_all}
+use Rattle.std.specs.Str.{bytes_eq}
+use Rattle.zf_scan.specs.declared.fault.TextFaultKind.TheVariants.{NotInProfile}
+use Rattle.zf_scan.specs.declared.next.Next.{Next}
+use Rattle.zf_scan.specs.declared.next.Next.TheVariants as next
+use Rattle.zf_scan.specs.declared.pieces.Piece.{Piece}
+use Rattle.zf_scan.specs.declared.pieces.Piece.TheVariants.{Plain, Symbol, Refused}
+use Rattle.zf_scan.specs.declared.pieces.Place.{Place}
+use Rattle.zf_scan.specs.declared.pieces.Place.TheVariants.{Outside, Zed, Schema}
+use Rattle.zf_scan.specs.declared.scan.Border.{Border}
+use Rattle.zf_scan.specs.declared.token.Kind.{Kind}
+use Rattle.zf_scan.specs.declared.token.Kind.TheVariants.{BeginZed, BeginSchema, EndBox}
+use Rattle.zf_scan.specs.declared.token.Token.{Token}
+use Rattle.zf_scan.specs.Boxes.{IsCutUpTo, begins_box, ends_box, BeginsBox, EndsOnce, IsBox, IsBoxAtMost, Follows, IsCutOn}
+use Rattle.zf_scan.specs.Cuts.{entered}
+use Rattle.zf_scan.specs.Pieces.{look_up, openings, is_directive, OutsideKind, opening, schema, escape, remark, informal, SpellsOutside}
+use Rattle.zf_scan.specs.Sights.{kind_of}
+use Rattle.zf_scan.specs.Steps.{Found}
+use Rattle.zf_scan.proofs.Laws.{cut_whole}
+use Rattle.zf_scan.proofs.Runs.{and_left, and_right}
+use Rattle.zf_scan.proofs.Scanned.{StandsAt}
+
+-- ---- a symbol outside of a box begins one
+
+abbrev is_opening : Piece → Bool
+is_opening (Symbol kind) = begins_box kind
+is_opening _ = true
+
+all_open : list_all (λ row. is_opening row.1) openings ≡ true
+unfolding openings
+all_open = refl
+
+row_opens : (rows : List (List ℕ × Piece)) (p : List ℕ) (piece : Piece) → list_all (λ row. is_opening row.1) rows ≡ true → look_up p rows ≡ Some piece → is_opening piece ≡ true
+row_opens [] p piece all e = absurd (cc)
+row_opens (row ∷ rows) p piece all e = by (bytes_eq p row.0) refl (row_opens rows p piece (and_right (is_opening row.1) (list_all (λ row. is_opening row.1) rows) all))
+  where
+    by : (t : Bool) → bytes_eq p row.0 ≡ t → (look_up p rows ≡ Some piece → is_opening piece ≡ true) → is_opening piece ≡ true
+    by true f more =
+        let g : Some row.1 ≡ Some piece = rw f at e in
+        let same : row.1 ≡ piece = cc g in
+        ap is_opening (sym same) ∙ and_left (is_opening row.1) (list_all (λ row. is_opening row.1) rows) all
+    by false f more = let g : look_up p rows ≡ Some piece = rw f at e in more g
+
+no_remark : (p : List ℕ) (kind : Kind) (t : Bool) → Symbol kind ≡ (if t then Refused NotInProfile else Plain) → ⊥
+no_remark p kind true e = cc
+no_remark p kind false e = cc
+
+outside_begins : (form : OutsideKind) (kind : Kind) (p : List ℕ) → SpellsOutside form (Symbol kind) p → begins_box kind ≡ true
+outside_begins opening kind p h = row_opens openings p (Symbol kind) all_open h
+outside_begins schema kind p h =
+    let e = h.4 in
+    let same : kind ≡ BeginSchema h.0 = cc e in
+    ap begins_box same
+outside_begins escape kind p h = let e = h.1 in absurd (cc)
+outside_begins remark kind p h = absurd (no_remark p kind (is_directive p) h.1)
+outside_begins informal kind p h = let e = h.1 in absurd (cc)
+
+pub begins_there : (place : Place) (s : List ℕ) (f : Found) (kind : Kind) → StandsAt place s f → f.piece ≡ Symbol kind → place ≡ Outside → begins_box kind ≡ true
+begins_there Outside s f kind a e out = outside_begins a.stands.kind kind (take f.len s) (subst (λ piece. SpellsOutside a.stands.kind piece (take f.len s)) e a.stands.spells)
+begins_there (Zed line) s f kind a e out = absurd (cc)
+begins_there (Schema line) s f kind a e out = absurd (cc)
+
+-- the text doesn't matter to that
+abbrev begins_next : Next → Bool
+begins_next next.BeginZed = true
+begins_next next.BeginSchema = true
+begins_next _ = false
+
+begins_by : (next : Next) (a : ℕ) (s : List ℕ) → begins_box (kind_of next a s) ≡ begins_next next
+begins_by next.BeginZed a s = refl
+begins_by next.BeginSchema a s = refl
+begins_by _ a s = refl
+
+pub begins_same : (next : Next) (a b : ℕ) (s t : List ℕ) → begins_box (kind_of next a s) ≡ begins_box (kind_of next b t)
+begins_same next a b s t = begins_by next a s ∙ sym (begins_by next b t)
+
+-- ---- the list
+
+abbrev pub NoEnds : List Token → Type 0
+NoEnds [] = Unit {0}
+NoEnds (t ∷ ts) = (ends_box t.kind ≡ false) × NoEnds ts
+
+pub record IsOpen (tokens : List Token) : Type 0 where
+  pub begins : BeginsBox tokens
+  pub no_end : NoEnds tokens
+
+-- nothing outside of boxes; inside, the beginning of a box, without its end
+abbrev pub IsPart : Place → List Token → Type 0
+IsPart Outside tokens = tokens ≡ []
+IsPart (Zed line) tokens = IsOpen tokens
+IsPart (Schema line) tokens = IsOpen tokens
+
+begins_still : (ts us : List Token) → BeginsBox ts → BeginsBox (ts ++ us)
+begins_still [] us h = absurd h
+begins_still (t ∷ ts) us h = h
+
+no_more_ends : (ts : List Token) (t : Token) → NoEnds ts → ends_box t.kind ≡ false → NoEnds (ts ++ t ∷ [])
+no_more_ends [] t h e = (e, tt)
+no_more_ends (u ∷ ts) t h e = (h.0, no_more_ends ts t h.1 e)
+
+ends_last : (ts : List Token) (t : Token) → NoEnds ts → ends_box t.kind ≡ true → EndsOnce (ts ++ t ∷ [])
+ends_last [] t h e = e
+ends_last (u ∷ []) t h e = (h.0, e)
+ends_last (u ∷ (v ∷ ts)) t h e = (h.0, ends_last (v ∷ ts) t h.1 e)
+
+one_of_both : (kind : Kind) → begins_box kind ≡ true → ends_box kind ≡ true → ⊥
+one_of_both EndBox b e = cc
+one_of_both _ b e = cc
+
+is_inside : (place : Place) (ts : List Token) → IsOpen ts → (place ≡ Outside → ⊥) → IsPart place ts
+is_inside Outside ts open_ inside = absurd (inside refl)
+is_inside (Zed line) ts open_ inside = open_
+is_inside (Schema line) ts open_ inside = open_
+
+begun_inside : (line : ℕ) (kind : Kind) → begins_box kind ≡ true → entered Outside line (Symbol kind) ≡ Outside → ⊥
+begun_inside line BeginZed b e = cc
+begun_inside line (BeginSchema name) b e = cc
+begun_inside line _ b e = cc
+
+stays_inside : (place : Place) (line : ℕ) (kind : Kind) → ends_box kind ≡ false → (place ≡ Outside → ⊥) → entered place line (Symbol kind) ≡ Outside → ⊥
+stays_inside place line BeginZed e inside out = cc
+stays_inside place line (BeginSchema name) e inside out = cc
+stays_inside place line EndBox e inside out = cc
+stays_inside place line _ e inside out = inside out
+
+more_open : (ts : List Token) (t : Token) → IsOpen ts → ends_box t.kind ≡ false → IsOpen (ts ++ t ∷ [])
+more_open ts t o e = record { begins = begins_still ts (t ∷ []) o.begins; no_end = no_more_ends ts t o.no_end e }
+
+grows : (place : Place) (line : ℕ) (ts : List Token) (t : Token) → (place ≡ Outside → begins_box t.kind ≡ true) → ends_box t.kind ≡ false → IsPart place ts → IsPart (entered place line (Symbol t.kind)) (ts ++ t ∷ [])
+grows Outside line ts t opens e h =
+    subst (λ ts. IsPart (entered Outside line (Symbol t.kind)) (ts ++ t ∷ [])) (sym h)
+    (is_inside (entered Outside line (Symbol t.kind)) (t ∷ []) (record { begins = opens refl; no_end = (e, tt) }) (begun_inside line t.kind (opens refl)))
+grows (Zed l) line ts t opens e h = is_inside (entered (Zed l) line (Symbol t.kind)) (ts ++ t ∷ []) (more_open ts t h e) (stays_inside (Zed l) line t.kind e (λ out. cc))
+grows (Schema l) line ts t opens e h = is_inside (entered (Schema l) line (Symbol t.kind)) (ts ++ t ∷ []) (more_open ts t h e) (stays_inside (Schema l) line t.kind e (λ out. cc))
+
+-- a symbol that ends no box
+pub grown : (place : Place) (line : ℕ) (ts : List Token) (t : Token) → (place ≡ Outside → begins_box t.kind ≡ true) → ends_box t.kind ≡ false → IsPart place ts
+    → (behind : Place) (more : List Token) → behind ≡ entered place line (Symbol t.kind) → more ≡ ts ++ t ∷ [] → IsPart behind more
+grown place line ts t opens e h behind more place_is more_is =
+    subst (λ behind. IsPart behind more) (sym place_is) (subst (IsPart (entered place line (Symbol t.kind))) (sym more_is) (grows place line ts t opens e h))
+
+-- one that ends the box
+pub closed : (place : Place) (ts : List Token) (t : Token) → (place ≡ Outside → begins_box t.kind ≡ true) → ends_box t.kind ≡ true → IsPart place ts → IsBox (ts ++ t ∷ [])
+closed Outside ts t opens e h = absurd (one_of_both t.kind (opens refl) e)
+closed (Zed line) ts t opens e h = record { begins = begins_still ts (t ∷ []) h.begins; ends = ends_last ts t h.no_end e }
+closed (Schema line) ts t opens e h = record { begins = begins_still ts (t ∷ []) h.begins; ends = ends_last ts t h.no_end e }
+
+pub at_outside : (place : Place) (ts : List Token) → IsPart place ts → place ≡ Outside → ts ≡ []
+at_outside Outside ts h e = h
+at_outside (Zed line) ts h e = absurd (cc)
+at_outside (Schema line) ts h e = absurd (cc)
+
+pub ended_outside : (place : Place) (line : ℕ) (kind : Kind) → ends_box kind ≡ true → Outside ≡ entered place line (Symbol kind)
+ended_outside place line EndBox e = refl
+ended_outside place line _ e = cc
+
+-- ---- further boxes
+
+begins_too : (ts us : List Token) → Follows ts → IsBoxAtMost us → Follows (ts ++ us)
+begins_too ts us (inl none) (inl e) = inl (ap (λ ts. ts ++ us) none ∙ e)
+begins_too ts us (inl none) (inr b) = inr (subst (λ ts. BeginsBox (ts ++ us)) (sym none) b.begins)
+begins_too ts us (inr some) b = inr (begins_still ts us some)
+
+pub none_further : (source : List ℕ) (border : Border) (tokens : List Token) → IsCutUpTo source border tokens → (more : List Token) × Follows more × IsCutUpTo source border (tokens ++ more)
+none_further source border tokens up = ([], inl refl, subst (IsCutUpTo source border) (sym (append-nil tokens)) up)
+
+pub one_further : (source : List ℕ) (border : Border) (tokens : List Token) → (more : List Token) × Follows more × IsCutUpTo source border (tokens ++ more)
+    → (next : Border) (box : List Token) → IsBoxAtMost box → ((ts : List Token) → IsCutUpTo source border ts → IsCutUpTo source next (ts ++ box))
+    → (more : List Token) × Follows more × IsCutUpTo source next (tokens ++ more)
+one_further source border tokens h next box one step =
+    (h.0 ++ box, begins_too h.0 box h.1 one, subst (IsCutUpTo source next) (append_assoc tokens h.0 box) (step (tokens ++ h.0) h.2))
+
+pub all_further : (source : List ℕ) (border : Border) (tokens : List Token) → (more : List Token) × Follows more × IsCutUpTo source border (tokens ++ more) → length source ≤ border.start → IsCutOn source tokens
+all_further source border tokens h over = (h.0, h.1, cut_whole source border (tokens ++ h.0) h.2 over)

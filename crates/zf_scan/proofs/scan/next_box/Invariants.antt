@@ -1,0 +1,19 @@
+use Rattle.std.proofs.Common.{◌≤◌, ◌-◌, ◌++◌, List, length, map}
+use Rattle.zf_scan.specs.declared.scan.TheConstants.{SOURCE_MAX}
+use Rattle.zf_scan.specs.declared.token.Token.{Token}
+use Rattle.zf_scan.specs.Boxes.{Before, IsCutUpTo}
+use Rattle.zf_scan.specs.Placing.{token_at}
+use Rattle.zf_scan.proofs.BoxParts.{IsPart}
+use Rattle.zf_scan.proofs.scan.next_box.Given as goal
+
+abbrev pub invariant-loop-start : goal.invariant-loop-start
+invariant-loop-start l = record {
+  before : (tokens : List Token) → IsCutUpTo l.source l.initial.border tokens → Before l.source l.start l.line l.place (tokens ++ map (token_at l.source) l.symbols.items);
+  part : IsPart l.place (map (token_at l.source) l.symbols.items);
+  short : length l.source ≤ SOURCE_MAX;
+  within : l.start ≤ length l.source;
+  further : l.initial.border.start ≤ l.start;
+}
+
+abbrev pub decreases-loop-start : goal.decreases-loop-start
+decreases-loop-start l = length l.source - l.start
