@@ -7,7 +7,6 @@ pub mod fault;
 mod prepare;
 pub mod program;
 pub mod reading;
-mod room;
 pub mod run;
 mod show;
 mod stop;

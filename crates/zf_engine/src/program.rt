@@ -3,7 +3,6 @@ ghost use Rattle.std.specs.Prelude.{◌≡◌};
 
 use crate::counted::Counted;
 use crate::fault::{RunFault, Status};
-use crate::room::keep_freed_room;
 use crate::run::run;
 use std::convert::AsStr;
 use std::fs::File;
@@ -62,7 +61,6 @@ fn work_over<R: Print + Eprint + AllocGlobal, D: Read + Drop>(
     job: &Job,
     device: D,
 ) -> u8 {
-    keep_freed_room(rt.alloc());
     let mut reader = Counted::new(device);
     let mut writer = Counted::new(io::writer(rt));
     match run(rt.alloc(), job, file, &mut reader, &mut writer) {

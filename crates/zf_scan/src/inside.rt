@@ -30,7 +30,6 @@ fn closing(place: Place) -> &'static [u8]
 
 /// The piece at the front of a text in a box.
 #[tactic(auto, unfolding(crate::specs::Steps::inside_found))]
-#[inline(always)]
 pub fn inside_at(place: Place, rest: &[u8]) -> Found
     requires end_len { 2 ≤ length (steps.closing place) }
     requires end_second { slice_index_or (steps.closing place) 1 0 ≡ 101 }
@@ -50,7 +49,6 @@ pub fn inside_at(place: Place, rest: &[u8]) -> Found
 
 /// A comment, from its `%` on.
 #[tactic(auto, unfolding(crate::specs::Steps::comment_found))]
-#[inline(always)]
 pub fn comment_at(rest: &[u8]) -> Found
     requires { 0 < length rest.now }
     ensures { told rest.now result ≡ steps.comment_found rest.now }
@@ -74,7 +72,6 @@ fn is_directive(comment: &[u8]) -> bool
 }
 
 // A command, or the closing of the box. The most frequent ones are told by their second byte.
-#[inline(always)]
 fn command_at(place: Place, rest: &[u8]) -> Found
     requires end_len { 2 ≤ length (steps.closing place) }
     requires end_second { slice_index_or (steps.closing place) 1 0 ≡ 101 }
@@ -91,7 +88,6 @@ fn command_at(place: Place, rest: &[u8]) -> Found
 }
 
 #[tactic(auto, unfolding(crate::specs::Steps::command_found))]
-#[inline(always)]
 fn named_command_at(place: Place, rest: &[u8]) -> Found
     requires end_len { 2 ≤ length (steps.closing place) }
     requires end_second { slice_index_or (steps.closing place) 1 0 ≡ 101 }
@@ -111,7 +107,6 @@ fn named_command_at(place: Place, rest: &[u8]) -> Found
 }
 
 // Whether the box is closed here. Its end begins with `\e`.
-#[inline(always)]
 fn closes(end: &[u8], rest: &[u8]) -> bool
     requires end_len { 2 ≤ length end.now }
     requires end_second { slice_index_or end.now 1 0 ≡ 101 }
@@ -163,7 +158,6 @@ fn tail_len(rest: &[u8]) -> usize
 
 // A name, `true` or `false`.
 #[tactic(auto, unfolding(crate::specs::Steps::word_found))]
-#[inline(always)]
 fn word_at(rest: &[u8]) -> Found
     ensures { told rest.now result ≡ steps.word_found rest.now }
 {
@@ -181,7 +175,6 @@ fn word_at(rest: &[u8]) -> Found
 }
 
 // The piece of one spelling that a word is, if it is one.
-#[inline(always)]
 fn fixed_word(word: &[u8]) -> Option<Sight>
     ensures { seen word.now result ≡ look_up word.now symbols }
 {
@@ -207,7 +200,6 @@ pub fn base_len(rest: &[u8]) -> usize
 }
 
 #[tactic(auto, unfolding(crate::specs::Steps::number_found))]
-#[inline(always)]
 fn number_at(rest: &[u8]) -> Found
     ensures { told rest.now result ≡ steps.number_found rest.now }
 {

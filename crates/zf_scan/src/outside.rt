@@ -11,7 +11,6 @@ use crate::symbols::fixed;
 
 /// The piece at the front of a text outside the boxes.
 #[tactic(auto, unfolding(crate::specs::Steps::outside_found))]
-#[inline(always)]
 pub fn outside_at(rest: &[u8]) -> Found
     ensures { told rest.now result ≡ steps.outside_found rest.now }
 {

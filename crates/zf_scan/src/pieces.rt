@@ -36,7 +36,6 @@ pub struct Found {
 
 impl Found {
     /// A piece that is no name and no number.
-    #[inline(always)]
     pub fn of(sight: Sight, len: usize) -> Found
         ensures { result ≡ record { sight = sight; amount = 0; len = len } }
     {
@@ -131,7 +130,6 @@ pub fn run_len(run: Run, bytes: &[u8]) -> usize
 }
 
 /// Whether two texts are the same. The second is mostly a literal, so that the loop unrolls.
-#[inline(always)]
 pub fn same(a: &[u8], b: &[u8]) -> bool
     ensures { result ≡ bytes_eq a.now b.now }
 {
@@ -139,7 +137,6 @@ pub fn same(a: &[u8], b: &[u8]) -> bool
 }
 
 /// Whether a text begins with another.
-#[inline(always)]
 pub fn begins(bytes: &[u8], front: &[u8]) -> bool
     ensures value { result ≡ starts_with nat_eq bytes.now front.now }
     ensures room { IsTrue result → length front.now ≤ length bytes.now }

@@ -147,7 +147,6 @@ fn push_tokens(
 
 // Whether a blank begins a text inside a box.
 #[tactic(auto, unfolding(crate::specs::Steps::found_at, crate::specs::Steps::inside_found, crate::specs::Steps::symbol_found, crate::specs::Pieces::symbols))]
-#[inline(always)]
 fn is_blank(place: Place, rest: &[u8]) -> bool
     ensures { IsTrue result → steps.found_at place rest.now ≡ steps.found Plain 1 }
 {
@@ -158,7 +157,6 @@ fn is_blank(place: Place, rest: &[u8]) -> bool
 }
 
 // How many lines end in the first byte.
-#[inline(always)]
 fn ends_line(rest: &[u8]) -> u32
     ensures value { result ≡ cuts.newlines (take 1 rest.now) }
     ensures few { result ≤ 1 }
@@ -171,7 +169,6 @@ fn ends_line(rest: &[u8]) -> u32
 
 // The piece at the front of a text.
 #[tactic(auto, unfolding(crate::specs::Steps::found_at))]
-#[inline(always)]
 fn piece_at(place: Place, rest: &[u8]) -> Found
     ensures { told rest.now result ≡ steps.found_at place rest.now }
 {

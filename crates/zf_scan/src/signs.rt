@@ -11,7 +11,6 @@ use crate::token::{Infix, Relation};
 
 /// A symbol. The most frequent ones are told by their first bytes.
 #[tactic(auto, unfolding(crate::specs::Steps::symbol_found, crate::specs::Pieces::symbols))]
-#[inline(always)]
 pub fn symbol_at(rest: &[u8]) -> Found
     ensures { told rest.now result ≡ steps.symbol_found rest.now }
 {
@@ -36,7 +35,6 @@ pub fn symbol_at(rest: &[u8]) -> Found
 }
 
 #[tactic(auto, unfolding(crate::specs::Steps::symbol_found, crate::specs::Pieces::symbols))]
-#[inline(always)]
 fn colon_at(rest: &[u8]) -> Found
     ensures { (more : List ℕ) → rest.now ≡ 58 ∷ more → told rest.now result ≡ steps.symbol_found rest.now }
 {
@@ -47,7 +45,6 @@ fn colon_at(rest: &[u8]) -> Found
 }
 
 #[tactic(auto, unfolding(crate::specs::Steps::symbol_found, crate::specs::Pieces::symbols))]
-#[inline(always)]
 fn equals_at(rest: &[u8]) -> Found
     ensures { (more : List ℕ) → rest.now ≡ 61 ∷ more → told rest.now result ≡ steps.symbol_found rest.now }
 {
@@ -58,7 +55,6 @@ fn equals_at(rest: &[u8]) -> Found
 }
 
 #[tactic(auto, unfolding(crate::specs::Steps::symbol_found))]
-#[inline(always)]
 fn other_symbol_at(rest: &[u8]) -> Found
     requires { 0 < length rest.now }
     ensures { told rest.now result ≡ steps.symbol_found rest.now }

@@ -53,7 +53,6 @@ pub fn fixed(text: &[u8]) -> Option<Sight>
 }
 
 // The sight, where its text is this one.
-#[inline(always)]
 fn only(rest: &[u8], text: &[u8], sight: Sight) -> Option<Sight>
     ensures { result ≡ (if bytes_eq rest.now text.now then Some sight else None) }
 {

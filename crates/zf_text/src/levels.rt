@@ -130,6 +130,7 @@ pub fn level(term: &Term<'_>) -> u8
 }
 
 /// One more than the level at which the symbol goes on with the term before it; 0 where it does not.
+#[inline(always)]
 pub fn binds(next: Next) -> u8
     ensures { result ≡ spec.binds next }
 {
