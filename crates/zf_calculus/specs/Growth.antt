@@ -23,9 +23,13 @@ use Rattle.zf_calculus.specs.declared.stop.Stop.TheVariants.{Clash, TooLarge, Ou
 use Rattle.zf_calculus.specs.Calculus as calculus
 use Rattle.zf_calculus.specs.Calculus.{Agree, Agrees, with_comp, with_comps}
 use Rattle.zf_text.specs.declared.tree.Name.{Name}
+use Rattle.zf_text.specs.Trees.{Tree, DeclTree}
 use Rattle.zf_term.specs.Types.{Ty}
+use Rattle.zf_term.specs.declared.operator.Need.TheVariants as need
+use Rattle.zf_type.specs.Offences.{Offends}
 use Rattle.zf_type.specs.Scopes.{Scope, spelling}
-use Rattle.zf_calculus.specs.SchemaOffences.{IsNoSchema, Stops}
+use Rattle.zf_calculus.specs.Expressions.{inside}
+use Rattle.zf_calculus.specs.SchemaOffences.{IsNoSchema, Stops, OffendsAlone, OffendsAfter, ConstrainsTooMuch}
 use Rattle.zf_calculus.specs.Limits.{declared_sets, all_nodes, IsWithin}
 
 -- a schema within the limits, with what is left of two of them
@@ -149,3 +153,11 @@ CantTake a t k m = (m ≡ line_of t) × IsTooLarge (constrained a (t ∷ [])) k
 -- the conjunction can't be: the fault has this line
 abbrev pub CantConjoin : (line : ℕ) → Schema → Schema → TypeFaultKind → ℕ → Type 0
 CantConjoin l a b k m = (m ≡ l) × Stops (Agree a.comps b.comps) (calculus.conjoined a b) k
+
+-- the declaration can't be taken in
+abbrev pub CantDeclare : List Defined → Schema → DeclTree → TypeFaultKind → ℕ → Type 0
+CantDeclare g a d k m = OffendsAlone g d k m ⊎ OffendsAfter g a d k m
+
+-- the predicate can't be taken
+abbrev pub CantConstrain : List Defined → Schema → Tree → TypeFaultKind → ℕ → Type 0
+CantConstrain g a p k m = Offends (inside g a) need.Predicate p k m ⊎ ConstrainsTooMuch g a p k m

@@ -1,4 +1,4 @@
--- What is wrong with a schema expression or a box that is not well typed.
+-- What is wrong with a schema expression or a box that is not well typed. It has no order: clashes and limits alone hang on what stands before them.
 use Rattle.std.specs.Prelude.{◌≡◌, ◌⊎◌, ℕ, List, [], ◌∷◌, ◌++◌, None, Some}
 use Rattle.zf_text.specs.declared.tree.Name.{Name}
 use Rattle.zf_text.specs.declared.tree.SchemaRef.{SchemaRef}
@@ -19,6 +19,11 @@ use Rattle.zf_type.specs.Typing.{IsOf}
 use Rattle.zf_calculus.specs.Calculus.{comp, schema_of, nothing, Agrees, Agree, with_comp, conjoined, decorated, marked, MarkAgrees, disjoined}
 use Rattle.zf_calculus.specs.Expressions.{outside, inside, IsNext, Refers, Adds, DeclaresOne, Declares, ConstrainsOne, IsSchema}
 use Rattle.zf_calculus.specs.Limits.{IsWithin}
+
+-- it holds of one of them
+abbrev pub AnyByRecursion : {A : Type 0} → (A → Type 0) → List A → Type 0
+AnyByRecursion P [] = ⊥
+AnyByRecursion P (a ∷ rest) = P a ⊎ AnyByRecursion P rest
 
 -- why there is no next schema: a component gets two types, or a limit is passed
 abbrev pub Stops : Type 0 → Schema → TypeFaultKind → Type 0
@@ -49,16 +54,22 @@ OffendsNames a (n ∷ ns) t d k m =
     ((m ≡ n.line) × Stops (Agrees a.comps (comp (spelling n) t (d ∷ []))) (schema_of (with_comp a.comps (comp (spelling n) t (d ∷ []))) a.conjuncts) k)
     ⊎ ((mid : Schema) × Adds a (comp (spelling n) t (d ∷ [])) mid × OffendsNames mid ns t d k m)
 
-abbrev pub OffendsDecl : List Defined → Schema → DeclTree → TypeFaultKind → ℕ → Type 0
-OffendsDecl g a (vars ns e) k m =
-    Offends (outside g) need.Set e k m
-    ⊎ ((t : Ty) × IsOf (outside g) e (set_of t) × OffendsNames a ns t (plain (resolved (outside g) e)) k m)
-OffendsDecl g a (include r) k m =
-    OffendsRef g r k m ⊎ ((c : Schema) × Refers g r c × (m ≡ r.name.line) × Stops (Agree a.comps c.comps) (conjoined a c) k)
+-- what a declaration offends wherever it stands: its set is none, or its reference can't be taken
+abbrev pub OffendsAlone : List Defined → DeclTree → TypeFaultKind → ℕ → Type 0
+OffendsAlone g (vars ns e) k m = Offends (outside g) need.Set e k m
+OffendsAlone g (include r) k m = OffendsRef g r k m
+
+-- what it offends after those before it: a component gets two types, or a limit is passed
+abbrev pub OffendsAfter : List Defined → Schema → DeclTree → TypeFaultKind → ℕ → Type 0
+OffendsAfter g a (vars ns e) k m = (t : Ty) × IsOf (outside g) e (set_of t) × OffendsNames a ns t (plain (resolved (outside g) e)) k m
+OffendsAfter g a (include r) k m = (c : Schema) × Refers g r c × (m ≡ r.name.line) × Stops (Agree a.comps c.comps) (conjoined a c) k
+
+abbrev pub OneOffendsAfter : List Defined → Schema → List DeclTree → TypeFaultKind → ℕ → Type 0
+OneOffendsAfter g a [] k m = ⊥
+OneOffendsAfter g a (d ∷ ds) k m = OffendsAfter g a d k m ⊎ ((mid : Schema) × DeclaresOne g a d mid × OneOffendsAfter g mid ds k m)
 
 abbrev pub OffendsDecls : List Defined → Schema → List DeclTree → TypeFaultKind → ℕ → Type 0
-OffendsDecls g a [] k m = ⊥
-OffendsDecls g a (d ∷ ds) k m = OffendsDecl g a d k m ⊎ ((mid : Schema) × DeclaresOne g a d mid × OffendsDecls g mid ds k m)
+OffendsDecls g a ds k m = AnyByRecursion (λ d. OffendsAlone g d k m) ds ⊎ OneOffendsAfter g a ds k m
 
 -- one of the conjuncts passes a limit, after those before it
 abbrev pub OffendsConjuncts : Schema → List ResolvedTree → TypeFaultKind → ℕ → Type 0
@@ -67,15 +78,19 @@ OffendsConjuncts a (c ∷ cs) k m =
     ((k ≡ TooLarge) × (m ≡ line_of c) × (IsWithin (schema_of a.comps (a.conjuncts ++ c ∷ [])) → ⊥))
     ⊎ ((mid : Schema) × IsNext (schema_of a.comps (a.conjuncts ++ c ∷ [])) mid × OffendsConjuncts mid cs k m)
 
-abbrev pub OffendsPredicate : List Defined → Schema → Tree → TypeFaultKind → ℕ → Type 0
-OffendsPredicate g a p k m =
-    Offends (inside g a) need.Predicate p k m
-    ⊎ (IsOf (inside g a) p predicate × OffendsConjuncts a (conjuncts (resolved (inside g a) p)) k m)
+-- what a predicate offends after those before it
+abbrev pub ConstrainsTooMuch : List Defined → Schema → Tree → TypeFaultKind → ℕ → Type 0
+ConstrainsTooMuch g a p k m = IsOf (inside g a) p predicate × OffendsConjuncts a (conjuncts (resolved (inside g a) p)) k m
 
+abbrev pub OneConstrainsTooMuch : List Defined → Schema → List Tree → TypeFaultKind → ℕ → Type 0
+OneConstrainsTooMuch g a [] k m = ⊥
+OneConstrainsTooMuch g a (p ∷ ps) k m = ConstrainsTooMuch g a p k m ⊎ ((mid : Schema) × ConstrainsOne g a p mid × OneConstrainsTooMuch g mid ps k m)
+
+-- one that is no predicate offends wherever it stands
 abbrev pub OffendsPredicates : List Defined → Schema → List Tree → TypeFaultKind → ℕ → Type 0
-OffendsPredicates g a [] k m = ⊥
-OffendsPredicates g a (p ∷ ps) k m = OffendsPredicate g a p k m ⊎ ((mid : Schema) × ConstrainsOne g a p mid × OffendsPredicates g mid ps k m)
+OffendsPredicates g a ps k m = AnyByRecursion (λ p. Offends (inside g a) need.Predicate p k m) ps ⊎ OneConstrainsTooMuch g a ps k m
 
+-- predicates are judged over the components that the declarations make
 abbrev pub OffendsText : List Defined → List DeclTree → List Tree → TypeFaultKind → ℕ → Type 0
 OffendsText g ds ps k m = OffendsDecls g nothing ds k m ⊎ ((mid : Schema) × Declares g nothing ds mid × OffendsPredicates g mid ps k m)
 

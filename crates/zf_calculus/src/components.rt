@@ -138,27 +138,41 @@ fn enrich<'a>(
 ) -> Result<(), AllocError>
     ensures { OnOk result (component.new ≡ enriched component.old domains.entry) }
 {
-    component.domains = both(
-        arena,
-        component.domains.get().as_slice(),
-        domains.get().as_slice(),
-    )?;
+    let first = mem::replace(&mut component.domains, domains);
+    component.domains = both(arena, first, component.domains.get().as_slice())?;
     Ok(())
 }
 
-/// The declared sets of both lists, which are not copied.
+/// The declared sets of both lists. Where the first one has no other owner, it grows, so that a component that is declared often
+/// costs no more for each time.
 fn both<'a>(
     arena: &'a Bump,
-    first: &[Domain<'a>],
+    first: Domains<'a>,
     further: &[Domain<'a>],
 ) -> Result<Domains<'a>, AllocError>
-    ensures { IfOk result (λ ds. ds ≡ first.now ++ further.now) }
+    ensures { IfOk result (λ ds. ds ≡ first.entry ++ further.now) }
 {
-    let mut all = Items::with_room(arena, first.len())?;
-    add_shared(&mut all, first)?;
-    all.make_room(further.len())?;
+    let mut all = owned(arena, first)?;
     add_shared(&mut all, further)?;
     Shared::new(arena, all)
+}
+
+/// The list itself where it has no other owner, and else another one of the same declared sets.
+fn owned<'a>(arena: &'a Bump, domains: Domains<'a>) -> Result<Items<'a, Domain<'a>>, AllocError>
+    ensures { IfOk result (λ ds. ds ≡ domains.entry) }
+{
+    match domains.into_value() {
+        Ok(list) => Ok(list),
+        Err(shared) => copied(arena, shared.get().as_slice()),
+    }
+}
+
+fn copied<'a>(arena: &'a Bump, domains: &[Domain<'a>]) -> Result<Items<'a, Domain<'a>>, AllocError>
+    ensures { IfOk result (λ ds. ds ≡ domains.now) }
+{
+    let mut all = Items::with_room(arena, domains.len())?;
+    add_shared(&mut all, domains)?;
+    Ok(all)
 }
 
 fn add_shared<'a>(all: &mut Items<'a, Domain<'a>>, domains: &[Domain<'a>]) -> Result<(), AllocError>

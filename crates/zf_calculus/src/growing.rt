@@ -1,5 +1,5 @@
 //! Schemas that grow within the limits.
-ghost use Rattle.std.specs.Prelude.{◌≡◌, ◌∷◌, [], ◌++◌, IfErr, IfOk, IsTrue, MatchOption, OnOk, length, map};
+ghost use Rattle.std.specs.Prelude.{◌≡◌, ◌∷◌, [], ◌++◌, ◌↔◌, IfErr, IfOk, IsTrue, MatchOption, OnOk, length, map};
 ghost use Rattle.zf_term.specs.Definitions.{comp_of, conjunct_of, schema_of};
 ghost use Rattle.zf_term.specs.ResolvedTrees.{ResolvedTree};
 ghost use Rattle.zf_term.specs.Shapes.{moved, numbering, place_in};
@@ -161,7 +161,7 @@ impl<'a> Growing<'a> {
 
     /// Whether it has neither components nor conjuncts.
     pub fn is_nothing(&self) -> bool
-        ensures { IsTrue result → schema_of self.now.flat ≡ nothing }
+        ensures { IsTrue result ↔ (schema_of self.now.flat ≡ nothing) }
     {
         self.flat.components.as_slice().is_empty() && self.flat.conjuncts.as_slice().is_empty()
     }

@@ -85,6 +85,13 @@ pub fn are_low(conjuncts: &[Conjunct<'_>], count: usize) -> bool
     if count <= HEIGHT_MAX {
         return true;
     }
+    none_too_high(conjuncts)
+}
+
+/// Whether none of the conjuncts is too high, however many nodes they have. It descends no further than they may be high.
+pub fn none_too_high(conjuncts: &[Conjunct<'_>]) -> bool
+    ensures { IsTrue result ↔ AllByRecursion IsLow (map conjunct_of conjuncts.now) }
+{
     for conjunct in conjuncts {
         if !conjunct.is_within(HEIGHT_MAX) {
             return false;

@@ -1,3 +1,5 @@
+//! Tests of single calls, and of runs over devices.
+mod answers;
 mod calls;
 mod captures;
 mod finiteness;

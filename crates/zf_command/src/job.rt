@@ -12,6 +12,7 @@ pub struct Size {
     pub count: u64,
 }
 
+/// What is asked of a file.
 #[derive(Debug, Drop)]
 pub enum Job {
     /// The faults of types; then, if `types`, what is defined, with its types.
@@ -20,6 +21,7 @@ pub enum Job {
     Show { schema: Word, sizes: Items<Size> },
 }
 
+/// What the words of a command line ask for.
 #[derive(Debug, Drop)]
 pub enum Asked {
     /// The file, as it was given, and the job on it.

@@ -4,6 +4,15 @@ use Rattle.std.specs.Io.KnownBytes.{Appends, Consumes, IsAtEnd}
 use Rattle.zf_scan.specs.declared.scan.TheConstants.{SOURCE_MAX}
 use Rattle.zf_engine.specs.declared.fault.RunFault.{RunFault}
 use Rattle.zf_engine.specs.declared.fault.RunFault.TheVariants.{ReadFailed, WriteFailed}
+use Rattle.zf_engine.specs.declared.fault.Status.{Status}
+use Rattle.zf_engine.specs.declared.fault.Status.TheVariants.{Done, BadSpec, BadRequest, PastBounds}
+
+-- the status of a process
+abbrev pub number : Status → ℕ
+number Done = 0
+number BadSpec = 1
+number BadRequest = 2
+number PastBounds = 3
 
 -- the reader gave these bytes, and is at its end or gave one byte more than a source may have
 abbrev pub Gave : Option (List ℕ) → Option (List ℕ) → List ℕ → Type 0

@@ -1,5 +1,6 @@
 //! How a run ends: its statuses and its faults.
 ghost use Rattle.std.specs.Prelude.{◌≡◌};
+ghost use Rattle.zf_engine.specs.Faults as spec;
 ghost use Rattle.zf_engine.specs.declared.fault.RunFault.TheVariants.{OutOfMemory};
 
 use std::alloc::{AllocError, AllocFailed};
@@ -12,10 +13,24 @@ pub enum Status {
     Done,
     /// A fault in the specification, or a schema that is not finite.
     BadSpec,
-    /// The schema, the sizes or the row to start after do not fit the specification.
+    /// There is no such schema, or the sizes do not fit the given sets.
     BadRequest,
-    /// A binding or a declared set leaves the bounds.
+    /// A binding or a declared set leaves the bounds. No schema that is shown today does.
     PastBounds,
+}
+
+impl Status {
+    /// The status that a process ends with.
+    pub fn number(self) -> u8
+        ensures { result ≡ spec.number self }
+    {
+        match self {
+            Status::Done => 0,
+            Status::BadSpec => 1,
+            Status::BadRequest => 2,
+            Status::PastBounds => 3,
+        }
+    }
 }
 
 /// Why a run did not answer.

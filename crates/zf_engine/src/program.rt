@@ -2,7 +2,7 @@
 ghost use Rattle.std.specs.Prelude.{◌≡◌};
 
 use crate::counted::Counted;
-use crate::fault::{RunFault, Status};
+use crate::fault::RunFault;
 use crate::run::run;
 use std::convert::AsStr;
 use std::fs::File;
@@ -64,19 +64,10 @@ fn work_over<R: Print + Eprint + AllocGlobal, D: Read + Drop>(
     let mut reader = Counted::new(device);
     let mut writer = Counted::new(io::writer(rt));
     match run(rt.alloc(), job, file, &mut reader, &mut writer) {
-        Ok(status) => number_of(status),
+        Ok(status) => status.number(),
         Err(RunFault::ReadFailed) => complain(rt, "zf: read failed", 5),
         Err(RunFault::WriteFailed) => complain(rt, "zf: write failed", 5),
         Err(RunFault::OutOfMemory) => complain(rt, "zf: out of memory", 4),
-    }
-}
-
-fn number_of(status: Status) -> u8 {
-    match status {
-        Status::Done => 0,
-        Status::BadSpec => 1,
-        Status::BadRequest => 2,
-        Status::PastBounds => 3,
     }
 }
 

@@ -129,7 +129,7 @@ pub fn run_len(run: Run, bytes: &[u8]) -> usize
     }
 }
 
-/// Whether two texts are the same. The second is mostly a literal, so that the loop unrolls.
+/// Whether two texts are the same. The second is mostly a literal.
 pub fn same(a: &[u8], b: &[u8]) -> bool
     ensures { result ≡ bytes_eq a.now b.now }
 {

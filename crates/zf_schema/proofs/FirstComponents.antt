@@ -5,7 +5,7 @@ use Rattle.std.specs.Str.{bytes_eq}
 use Rattle.zf_term.specs.Definitions.{Comp}
 use Rattle.zf_term.specs.Types.{Ty}
 use Rattle.zf_calculus.specs.Calculus.{comp, with_comp, with_comps, decorated, prime}
-use Rattle.zf_schema.specs.SchemaLaws.{signature, FirstKept}
+use Rattle.zf_schema.specs.SchemaLaws.{signature, FirstKept, CompsOfEither}
 use Rattle.zf_schema.proofs.Decoration.{through}
 
 -- what more components add to the signature
@@ -26,6 +26,9 @@ more cs (d ∷ ds) =
     let first = one_more cs d in
     let rest = more (with_comp cs d) ds in
     (first.0 ++ rest.0, rest.1 ∙ ap (λ v. v ++ rest.0) first.1 ∙ append_assoc (signature cs) first.0 rest.0)
+
+pub comps_of_either : CompsOfEither
+comps_of_either l a b = through _ (λ c. (c.name, c.type)) (with_comps a.comps b.comps)
 
 pub first_kept : FirstKept
 first_kept l a b =

@@ -9,8 +9,11 @@ pub mod Joined
 pub mod Lines
 pub mod NewComponents
 pub mod Once
+pub mod Fronts
 pub mod Unchanged
 pub mod Globals
+pub mod WellTyped
+pub mod Extended
 pub mod Referring
 pub mod Running
 pub mod Beginning

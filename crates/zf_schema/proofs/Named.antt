@@ -4,7 +4,7 @@ use Rattle.std.proofs.lemmas.List.{append-nil, append_assoc}
 use Rattle.std.proofs.lemmas.Option.{same_Some, none-some}
 use Rattle.std.specs.Str.{bytes_eq}
 use Rattle.zf_term.specs.Definitions.{Comp}
-use Rattle.zf_term.specs.FirstNamed.{later, or_else}
+use Rattle.zf_term.specs.FirstNamed.{later, or_else, first_named}
 use Rattle.zf_term.specs.Types.{Ty}
 use Rattle.zf_term.proofs.Choices.{or_none, or_else_assoc}
 use Rattle.zf_term.proofs.SameNames.{is_same, is_itself, swapped}
@@ -30,25 +30,24 @@ pub found : (o : Option (ℕ × Comp)) (t : Ty) → type_found o ≡ Some t → 
 found None t e = absurd (none-some t e)
 found (Some p) t e = (p, refl, same_Some p.1.type t e)
 
-next_stands : (c : Comp) (cs : List Comp) (i : ℕ) (d : Comp) → slice_get cs i ≡ Some d → slice_get (c ∷ cs) (i + 1) ≡ Some d
-next_stands c cs i d e =
-    let next : suc i ≡ i + 1 = omega arith in
-    subst (λ n. slice_get (c ∷ cs) n ≡ Some d) next e
-
--- it stands at the place that is found, and has the name
-pub stands_there : (x : List ℕ) (cs : List Comp) (p : ℕ × Comp) → comp_named x cs ≡ Some p → (slice_get cs p.0 ≡ Some p.1) × (p.1.name ≡ x)
-stands_there x [] p e = absurd (none-some p e)
-stands_there x (c ∷ cs) p e = by (bytes_eq c.name x) refl (comp_named x cs) (stands_there x cs) e
+-- the first in a list that has a name stands at the place that is found
+pub named_there : {A : Type 0} (name : A → List ℕ) (x : List ℕ) (xs : List A) (p : ℕ × A) → first_named name x xs ≡ Some p → (slice_get xs p.0 ≡ Some p.1) × (name p.1 ≡ x)
+named_there name x [] p e = absurd (none-some p e)
+named_there {A} name x (y ∷ xs) p e = by (bytes_eq (name y) x) refl (first_named name x xs) (named_there name x xs) e
   where
     by :
-        (t : Bool) → bytes_eq c.name x ≡ t → (o : Option (ℕ × Comp)) → ((q : ℕ × Comp) → o ≡ Some q → (slice_get cs q.0 ≡ Some q.1) × (q.1.name ≡ x))
-        → (if t then Some (0, c) else later o) ≡ Some p → (slice_get (c ∷ cs) p.0 ≡ Some p.1) × (p.1.name ≡ x)
-    by true same o rest e = subst (λ q. (slice_get (c ∷ cs) q.0 ≡ Some q.1) × (q.1.name ≡ x)) (same_Some (0, c) p e) (refl, is_same c.name x same)
+        (t : Bool) → bytes_eq (name y) x ≡ t → (o : Option (ℕ × A)) → ((q : ℕ × A) → o ≡ Some q → (slice_get xs q.0 ≡ Some q.1) × (name q.1 ≡ x))
+        → (if t then Some (0, y) else later o) ≡ Some p → (slice_get (y ∷ xs) p.0 ≡ Some p.1) × (name p.1 ≡ x)
+    by true same o rest e = subst (λ (q : ℕ × A). (slice_get (y ∷ xs) q.0 ≡ Some q.1) × (name q.1 ≡ x)) (same_Some (0, y) p e) (refl, is_same (name y) x same)
     by false same None rest e = absurd (none-some p e)
     by false same (Some q) rest e =
         let there = rest q refl in
-        let next : slice_get (c ∷ cs) (q.0 + 1) ≡ Some q.1 = next_stands c cs q.0 q.1 there.0 in
-        subst (λ r. (slice_get (c ∷ cs) r.0 ≡ Some r.1) × (r.1.name ≡ x)) (same_Some (q.0 + 1, q.1) p e) (next, there.1)
+        let next : suc q.0 ≡ q.0 + 1 = omega arith in
+        let behind : slice_get (y ∷ xs) (q.0 + 1) ≡ Some q.1 = subst (λ n. slice_get (y ∷ xs) n ≡ Some q.1) next there.0 in
+        subst (λ (r : ℕ × A). (slice_get (y ∷ xs) r.0 ≡ Some r.1) × (name r.1 ≡ x)) (same_Some (q.0 + 1, q.1) p e) (behind, there.1)
+
+pub stands_there : (x : List ℕ) (cs : List Comp) (p : ℕ × Comp) → comp_named x cs ≡ Some p → (slice_get cs p.0 ≡ Some p.1) × (p.1.name ≡ x)
+stands_there = named_there (λ c. c.name)
 
 -- ---- one more component
 

@@ -10,14 +10,17 @@ use Rattle.zf_term.specs.ResolvedTrees.{ResolvedTree}
 use Rattle.zf_term.specs.Shapes.{conjuncts}
 use Rattle.zf_term.specs.Types.{Ty}
 use Rattle.zf_type.specs.declared.fault.TypeFaultKind.{TypeFaultKind}
+use Rattle.zf_type.specs.Offences.{Offends}
 use Rattle.zf_type.specs.Resolving.{resolved}
 use Rattle.zf_type.specs.Rules.{set_of, predicate}
 use Rattle.zf_type.specs.Scopes.{spelling}
 use Rattle.zf_type.proofs.NoOffence.{no_offence}
 use Rattle.zf_type.proofs.OneSort.{same_set, one_sort}
 use Rattle.zf_calculus.specs.Calculus.{comp, schema_of, nothing, Agrees, Agree, with_comp, conjoined, decorated, marked, MarkAgrees, disjoined}
-use Rattle.zf_calculus.specs.Expressions.{outside, inside, IsNext, Refers, AddsAll, Includes, DeclaresOne, Declares, TakesAll, ConstrainsOne, Constrains, IsText, IsSchema}
-use Rattle.zf_calculus.specs.SchemaOffences.{Stops, IsNoSchema, CantRefer, OffendsRef, OffendsNames, OffendsDecl, OffendsDecls, OffendsConjuncts, OffendsPredicate, OffendsPredicates, OffendsText, StopsEither, OffendsSchema, name_line}
+use Rattle.zf_calculus.specs.Expressions.{outside, inside, IsNext, Refers, AddsAll, Includes, DeclaresOne, Declares, TakesAll, Constrains, IsText, IsSchema}
+use Rattle.zf_calculus.specs.SchemaOffences.{Stops, IsNoSchema, CantRefer, OffendsRef, OffendsNames, AnyByRecursion, OffendsAlone, OffendsAfter, OneOffendsAfter, OffendsDecls, OffendsConjuncts, OneConstrainsTooMuch, OffendsPredicates, OffendsText, StopsEither, OffendsSchema, name_line}
+use Rattle.zf_schema.proofs.Once.{taken_comps}
+use Rattle.zf_schema.proofs.Texts.{same_judged}
 use Rattle.zf_schema.proofs.OneSchema.{one_base, one_reference, one_added, one_declaration, all_declared, one_constraint, one_schema}
 
 -- ---- what is next is not stopped
@@ -57,24 +60,35 @@ no_name_offends a (n ∷ ns) t s b k m p (inr o) =
     let mid = one_added a (comp (spelling n) t (s ∷ [])) p.0 o.0 p.1 o.1 in
     no_name_offends o.0 ns t s b k m (subst (λ v. AddsAll v ns t s b) mid p.2) o.2
 
-pub no_declaration_offence : (g : List Defined) (a : Schema) (d : DeclTree) (b : Schema) (k : TypeFaultKind) (m : ℕ) → DeclaresOne g a d b → OffendsDecl g a d k m → ⊥
-no_declaration_offence g a (vars ns e) b k m p (inl o) = no_offence (outside g) need.Set e (set_of p.0) k m p.1 (p.0, refl) o
-no_declaration_offence g a (vars ns e) b k m p (inr o) =
+no_offence_alone : (g : List Defined) (a : Schema) (d : DeclTree) (b : Schema) (k : TypeFaultKind) (m : ℕ) → DeclaresOne g a d b → OffendsAlone g d k m → ⊥
+no_offence_alone g a (vars ns e) b k m p o = no_offence (outside g) need.Set e (set_of p.0) k m p.1 (p.0, refl) o
+no_offence_alone g a (include r) b k m p o = no_reference_offence g r p.0 k m p.1 o
+
+no_offence_after : (g : List Defined) (a : Schema) (d : DeclTree) (b : Schema) (k : TypeFaultKind) (m : ℕ) → DeclaresOne g a d b → OffendsAfter g a d k m → ⊥
+no_offence_after g a (vars ns e) b k m p o =
     let type = same_set p.0 o.0 (one_sort (outside g) e (set_of p.0) (set_of o.0) p.1 o.1) in
     let set = plain (resolved (outside g) e) in
     no_name_offends a ns o.0 set b k m (subst (λ t. AddsAll a ns t set b) type p.2) o.2
-no_declaration_offence g a (include r) b k m p (inl o) = no_reference_offence g r p.0 k m p.1 o
-no_declaration_offence g a (include r) b k m p (inr o) =
+no_offence_after g a (include r) b k m p o =
     let included = one_reference g r p.0 o.0 p.1 o.1 in
     let taken = subst (λ c. Includes a c b) included p.2 in
     not_stopped (Agree a.comps o.0.comps) (conjoined a o.0) b k taken.0 taken.1 o.3
 
-pub no_declared_offence : (g : List Defined) (a : Schema) (ds : List DeclTree) (b : Schema) (k : TypeFaultKind) (m : ℕ) → Declares g a ds b → OffendsDecls g a ds k m → ⊥
-no_declared_offence g a [] b k m p o = o
-no_declared_offence g a (d ∷ ds) b k m p (inl o) = no_declaration_offence g a d p.0 k m p.1 o
-no_declared_offence g a (d ∷ ds) b k m p (inr o) =
+none_offends_alone : (g : List Defined) (a : Schema) (ds : List DeclTree) (b : Schema) (k : TypeFaultKind) (m : ℕ) → Declares g a ds b → AnyByRecursion (λ d. OffendsAlone g d k m) ds → ⊥
+none_offends_alone g a [] b k m p o = o
+none_offends_alone g a (d ∷ ds) b k m p (inl o) = no_offence_alone g a d p.0 k m p.1 o
+none_offends_alone g a (d ∷ ds) b k m p (inr o) = none_offends_alone g p.0 ds b k m p.2 o
+
+none_offends_after : (g : List Defined) (a : Schema) (ds : List DeclTree) (b : Schema) (k : TypeFaultKind) (m : ℕ) → Declares g a ds b → OneOffendsAfter g a ds k m → ⊥
+none_offends_after g a [] b k m p o = o
+none_offends_after g a (d ∷ ds) b k m p (inl o) = no_offence_after g a d p.0 k m p.1 o
+none_offends_after g a (d ∷ ds) b k m p (inr o) =
     let mid = one_declaration g a d p.0 o.0 p.1 o.1 in
-    no_declared_offence g o.0 ds b k m (subst (λ v. Declares g v ds b) mid p.2) o.2
+    none_offends_after g o.0 ds b k m (subst (λ v. Declares g v ds b) mid p.2) o.2
+
+pub no_declared_offence : (g : List Defined) (a : Schema) (ds : List DeclTree) (b : Schema) (k : TypeFaultKind) (m : ℕ) → Declares g a ds b → OffendsDecls g a ds k m → ⊥
+no_declared_offence g a ds b k m p (inl o) = none_offends_alone g a ds b k m p o
+no_declared_offence g a ds b k m p (inr o) = none_offends_after g a ds b k m p o
 
 -- ---- predicates
 
@@ -85,16 +99,23 @@ no_conjunct_offends a (c ∷ cs) b k m p (inr o) =
     let mid = p.1.0 ∙ sym o.1.0 in
     no_conjunct_offends o.0 cs b k m (subst (λ v. TakesAll v cs b) mid p.2) o.2
 
-pub no_predicate_offence : (g : List Defined) (a : Schema) (e : Tree) (b : Schema) (k : TypeFaultKind) (m : ℕ) → ConstrainsOne g a e b → OffendsPredicate g a e k m → ⊥
-no_predicate_offence g a e b k m p (inl o) = no_offence (inside g a) need.Predicate e predicate k m p.0 refl o
-no_predicate_offence g a e b k m p (inr o) = no_conjunct_offends a (conjuncts (resolved (inside g a) e)) b k m p.1 o.1
+all_are_predicates : (g : List Defined) (a : Schema) (es : List Tree) (b : Schema) (k : TypeFaultKind) (m : ℕ) → Constrains g a es b → AnyByRecursion (λ e. Offends (inside g a) need.Predicate e k m) es → ⊥
+all_are_predicates g a [] b k m p o = o
+all_are_predicates g a (e ∷ es) b k m p (inl o) = no_offence (inside g a) need.Predicate e predicate k m p.1.0 refl o
+all_are_predicates g a (e ∷ es) b k m p (inr o) =
+    let comps = taken_comps a (conjuncts (resolved (inside g a) e)) p.0 p.1.1 in
+    all_are_predicates g p.0 es b k m p.2 (same_judged g es a.comps p.0.comps k m (sym comps) o)
+
+none_is_too_much : (g : List Defined) (a : Schema) (es : List Tree) (b : Schema) (k : TypeFaultKind) (m : ℕ) → Constrains g a es b → OneConstrainsTooMuch g a es k m → ⊥
+none_is_too_much g a [] b k m p o = o
+none_is_too_much g a (e ∷ es) b k m p (inl o) = no_conjunct_offends a (conjuncts (resolved (inside g a) e)) p.0 k m p.1.1 o.1
+none_is_too_much g a (e ∷ es) b k m p (inr o) =
+    let mid = one_constraint g a e p.0 o.0 p.1 o.1 in
+    none_is_too_much g o.0 es b k m (subst (λ v. Constrains g v es b) mid p.2) o.2
 
 pub no_constraint_offence : (g : List Defined) (a : Schema) (es : List Tree) (b : Schema) (k : TypeFaultKind) (m : ℕ) → Constrains g a es b → OffendsPredicates g a es k m → ⊥
-no_constraint_offence g a [] b k m p o = o
-no_constraint_offence g a (e ∷ es) b k m p (inl o) = no_predicate_offence g a e p.0 k m p.1 o
-no_constraint_offence g a (e ∷ es) b k m p (inr o) =
-    let mid = one_constraint g a e p.0 o.0 p.1 o.1 in
-    no_constraint_offence g o.0 es b k m (subst (λ v. Constrains g v es b) mid p.2) o.2
+no_constraint_offence g a es b k m p (inl o) = all_are_predicates g a es b k m p o
+no_constraint_offence g a es b k m p (inr o) = none_is_too_much g a es b k m p o
 
 -- ---- boxes and schema expressions
 

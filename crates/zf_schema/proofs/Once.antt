@@ -113,7 +113,7 @@ declared_once g a [] b once p = subst (λ v. AreOnce v.comps) (sym p) once
 declared_once g a (d ∷ ds) b once p = declared_once g p.0 ds b (declaration_once g a d p.0 once p.1) p.2
 
 -- predicates change no component
-taken_comps : (a : Schema) (cs : List ResolvedTree) (b : Schema) → TakesAll a cs b → b.comps ≡ a.comps
+pub taken_comps : (a : Schema) (cs : List ResolvedTree) (b : Schema) → TakesAll a cs b → b.comps ≡ a.comps
 taken_comps a [] b p = ap (λ v. v.comps) p
 taken_comps a (c ∷ cs) b p = taken_comps p.0 cs b p.2 ∙ ap (λ v. v.comps) p.1.0
 

@@ -7,6 +7,7 @@ use Rattle.zf_term.specs.Types.{Ty}
 use Rattle.zf_calculus.specs.Calculus.{comp, with_comps, new_place, decorated, prime, unchanged, all_unchanged}
 use Rattle.zf_schema.specs.SchemaLaws.{signature, StandsAt, XiEquates}
 use Rattle.zf_schema.proofs.FirstComponents.{more}
+use Rattle.zf_schema.proofs.Fronts.{in_front}
 use Rattle.zf_schema.proofs.Joined.{carried_place}
 use Rattle.zf_schema.proofs.Once.{decorated_once}
 
@@ -21,12 +22,6 @@ equation_at l primed all k (d ∷ cs) zero c at =
 equation_at l primed all k (d ∷ cs) (suc i) c at =
     let next : k + 1 + i ≡ k + suc i = omega arith in
     equation_at l primed all (k + 1) cs i c at ∙ ap (λ n. Some (unchanged l primed all n)) next
-
--- what stands in a list stands in one that goes on
-in_front : {A : Type 0} (xs ys : List A) (i : ℕ) (x : A) → slice_get xs i ≡ Some x → slice_get (xs ++ ys) i ≡ Some x
-in_front [] ys i x at = absurd (none-some x at)
-in_front (y ∷ xs) ys zero x at = at
-in_front (y ∷ xs) ys (suc i) x at = in_front xs ys i x at
 
 -- a component of this signature
 of_signature : (cs : List Comp) (i : ℕ) (c : Comp) → slice_get (signature cs) i ≡ Some (c.name, c.type) → StandsAt cs i c

@@ -2,4 +2,5 @@ pub mod Finite
 pub mod Listing
 pub mod Checking
 pub mod SchemaLaws
+pub mod WellTypedGlobals
 pub mod Runs

@@ -116,6 +116,10 @@ PlacesCarried =
 abbrev pub TypesOfEither : Type 0
 TypesOfEither = (l : ℕ) (a b : Schema) (x : List ℕ) → type_named x (disjoined l a b).comps ≡ or_else (type_named x a.comps) (type_named x b.comps)
 
+-- it has the components that the conjunction has, of the same types
+abbrev pub CompsOfEither : Type 0
+CompsOfEither = (l : ℕ) (a b : Schema) → signature (disjoined l a b).comps ≡ signature (conjoined a b).comps
+
 -- a component has one declared set, whose sides are its declared sets in the one schema and in the other
 abbrev pub SetsOfEither : Type 0
 SetsOfEither =
@@ -151,6 +155,10 @@ HasCompsOnce (schema a) = AreOnce a.comps
 
 abbrev pub HaveCompsOnce : List Defined → Type 0
 HaveCompsOnce g = AllByRecursion (λ d. HasCompsOnce d.definition) g
+
+-- after such globals a name is one component of a schema expression at most
+abbrev pub CompsOnce : Type 0
+CompsOnce = (g : List Defined) (x : SchemaTree) (a : Schema) → HaveCompsOnce g → IsSchema g x a → AreOnce a.comps
 
 -- a name is defined once, and is one component of a schema at most
 abbrev pub NamesOnce : Type 0

@@ -12,7 +12,7 @@ use zf_data::arena::Items;
 use zf_term::conjunct::Conjunct;
 use zf_term::globals::{Component, Domain, Flat, Globals};
 
-/// Why a schema has no events: the line of the first infinite set that would be searched.
+/// Why a schema is not finite: the line of the first infinite set that would be searched.
 #[derive(Clone, Copy, Debug, PartialEq, Eq, Error)]
 #[error("not finite")]
 pub struct NotFinite {

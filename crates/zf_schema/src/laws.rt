@@ -1,6 +1,7 @@
 //! What holds of every schema expression, of every paragraph and box, and of every text.
 ghost use Rattle.zf_schema.specs.Finite.{FiniteWithoutLines};
-ghost use Rattle.zf_schema.specs.SchemaLaws.{CompsJoined, DecorationRenames, FirstKept, GlobalsKept, NamesOnce, NoItemOffence, NoSchemaOffence, OneCheck, OneDefinition, OneSchema, PlacesCarried, SetsJoined, SetsOfEither, TypesJoined, TypesOfEither, XiEquates};
+ghost use Rattle.zf_schema.specs.SchemaLaws.{CompsJoined, CompsOfEither, CompsOnce, DecorationRenames, FirstKept, GlobalsKept, NamesOnce, NoItemOffence, NoSchemaOffence, OneCheck, OneDefinition, OneSchema, PlacesCarried, SetsJoined, SetsOfEither, TypesJoined, TypesOfEither, XiEquates};
+ghost use Rattle.zf_schema.specs.WellTypedGlobals.{ExtentsKept, GlobalsWellTyped};
 
 /// After the same globals a schema expression is one schema at most.
 pub fn one_schema()
@@ -62,7 +63,12 @@ pub fn types_of_either()
     ensures { TypesOfEither }
 {}
 
-/// It has one declared set, with the declared sets of both schemas on its sides.
+/// A disjunction has the components of the conjunction.
+pub fn comps_of_either()
+    ensures { CompsOfEither }
+{}
+
+/// A component of it has one declared set, with the declared sets of both schemas on its sides.
 pub fn sets_of_either()
     ensures { SetsOfEither }
 {}
@@ -77,9 +83,24 @@ pub fn globals_kept()
     ensures { GlobalsKept }
 {}
 
+/// Where the globals have each name once, so has a schema expression: what the laws of conjunction and `\Xi` ask of their parts.
+pub fn comps_once()
+    ensures { CompsOnce }
+{}
+
 /// A name is defined once, and is one component of a schema at most.
 pub fn names_once()
     ensures { NamesOnce }
+{}
+
+/// Each global is made by the rules from those before it.
+pub fn globals_well_typed()
+    ensures { GlobalsWellTyped }
+{}
+
+/// The extent kept with an abbreviation stays that of its term, whatever is defined after it.
+pub fn extents_kept()
+    ensures { ExtentsKept }
 {}
 
 /// A schema is finite exactly where nothing makes it infinite.

@@ -12,5 +12,4 @@ mod text;
 
 pub use expression::schema_of_expression;
 pub use finiteness::{NotFinite, finite};
-pub use reference::refer;
 pub use text::text_of;

@@ -16,19 +16,7 @@ use zf_text::tree::SchemaRef;
 use zf_type::fault::{Refusal, TypeFaultKind, refused};
 use zf_type::scope::global_of;
 
-/// The schema that is referred to.
-pub fn refer<'a>(
-    arena: &'a Bump,
-    globals: &Globals<'a>,
-    reference: &SchemaRef<'a>,
-) -> Result<Flat<'a>, Refusal>
-    ensures ok { IfOk result (λ f. Refers (globals_of globals.now) reference.now (schema_of f)) }
-    ensures fault { IfErr result (λ e. IfFault e (OffendsRef (globals_of globals.now) reference.now)) }
-{
-    Ok(referred(arena, globals, reference, Spare::none())?.flat)
-}
-
-/// The same schema, with what is left of the limits, and with room for what is expected of it.
+/// The schema that is referred to, with what is left of the limits, and with room for what is expected of it.
 pub fn referred<'a>(
     arena: &'a Bump,
     globals: &Globals<'a>,

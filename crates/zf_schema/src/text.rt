@@ -14,8 +14,8 @@ ghost use Rattle.zf_type.specs.Scopes.{scope_of, spelling};
 ghost use Rattle.zf_type.specs.Typing.{IsOf};
 ghost use Rattle.zf_calculus.specs.Calculus.{comp};
 ghost use Rattle.zf_calculus.specs.Expressions.{Adds, AddsAll, ConstrainsOne, Constrains, Declares, DeclaresOne, IsNext, IsText, TakesAll};
-ghost use Rattle.zf_calculus.specs.Growth.{CantAdd, CantTake, IsGrowing, constrained, over};
-ghost use Rattle.zf_calculus.specs.SchemaOffences.{OffendsConjuncts, OffendsDecl, OffendsDecls, OffendsNames, OffendsPredicate, OffendsPredicates, OffendsText};
+ghost use Rattle.zf_calculus.specs.Growth.{CantAdd, CantConstrain, CantDeclare, CantTake, IsGrowing, constrained, over};
+ghost use Rattle.zf_calculus.specs.SchemaOffences.{OffendsConjuncts, OffendsDecls, OffendsNames, OffendsPredicates, OffendsText};
 ghost use Rattle.zf_term.specs.Shapes as shape;
 
 use crate::reference::referred;
@@ -125,7 +125,7 @@ fn declare<'a>(
     requires { IsGrowing growing.old }
     ensures ok { OnOk result (DeclaresOne (globals_of globals.now) (schema_of growing.old.flat) (decl_of decl.now) (schema_of growing.new.flat)) }
     ensures growing { OnOk result (IsGrowing growing.new) }
-    ensures wrong { IfErr result (λ e. IfFault e (OffendsDecl (globals_of globals.now) (schema_of growing.old.flat) (decl_of decl.now))) }
+    ensures wrong { IfErr result (λ e. IfFault e (CantDeclare (globals_of globals.now) (schema_of growing.old.flat) (decl_of decl.now))) }
 {
     match decl {
         Decl::Vars(names, set) => {
@@ -147,7 +147,7 @@ fn declare_names<'a>(
     requires { IsGrowing growing.old }
     ensures ok { OnOk result (DeclaresOne (globals_of globals.now) (schema_of growing.old.flat) (vars names.now (tree_of set.now)) (schema_of growing.new.flat)) }
     ensures growing { OnOk result (IsGrowing growing.new) }
-    ensures wrong { IfErr result (λ e. IfFault e (OffendsDecl (globals_of globals.now) (schema_of growing.old.flat) (vars names.now (tree_of set.now)))) }
+    ensures wrong { IfErr result (λ e. IfFault e (CantDeclare (globals_of globals.now) (schema_of growing.old.flat) (vars names.now (tree_of set.now)))) }
 {
     let Judged { term, sort } = judge_over(arena, globals, &[], slate, Need::Set, set)?;
     let Some(ztype) = sort.member() else {
@@ -168,7 +168,7 @@ fn include<'a>(
     requires { IsGrowing growing.old }
     ensures ok { OnOk result (DeclaresOne (globals_of globals.now) (schema_of growing.old.flat) (include reference.now) (schema_of growing.new.flat)) }
     ensures growing { OnOk result (IsGrowing growing.new) }
-    ensures wrong { IfErr result (λ e. IfFault e (OffendsDecl (globals_of globals.now) (schema_of growing.old.flat) (include reference.now))) }
+    ensures wrong { IfErr result (λ e. IfFault e (CantDeclare (globals_of globals.now) (schema_of growing.old.flat) (include reference.now))) }
 {
     let other = referred(arena, globals, reference, room_of(growing, spare))?;
     match growing.include(arena, other) {
@@ -313,7 +313,7 @@ fn constrain<'a>(
     requires { IsGrowing growing.old }
     ensures ok { OnOk result (ConstrainsOne (globals_of globals.now) (schema_of growing.old.flat) (tree_of predicate.now) (schema_of growing.new.flat)) }
     ensures growing { OnOk result (IsGrowing growing.new) }
-    ensures wrong { IfErr result (λ e. IfFault e (OffendsPredicate (globals_of globals.now) (schema_of growing.old.flat) (tree_of predicate.now))) }
+    ensures wrong { IfErr result (λ e. IfFault e (CantConstrain (globals_of globals.now) (schema_of growing.old.flat) (tree_of predicate.now))) }
 {
     let components = growing.flat.components.as_slice();
     push_over(arena, globals, components, slate, predicate)?;

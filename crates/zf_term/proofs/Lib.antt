@@ -16,6 +16,7 @@ pub mod TextShapes
 pub mod FirstLines
 pub mod WrittenLines
 pub mod Copies
+pub mod MovedReferences
 pub mod Renumbered
 pub mod Places
 pub mod SetsSeen

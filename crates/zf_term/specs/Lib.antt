@@ -10,3 +10,4 @@ pub mod Written
 pub mod Numbers
 pub mod Operators
 pub mod FirstNamed
+pub mod TermLaws

@@ -32,6 +32,7 @@ pub struct Conjunct<'a> {
 }
 
 impl<'a> Conjunct<'a> {
+    /// The statement, with its components at their own places.
     pub fn of(arena: &'a Bump, statement: Statement<'a>) -> Result<Conjunct<'a>, AllocError>
         ensures { IfOk result (λ c. conjunct_of c ≡ statement_of statement.entry) }
     {

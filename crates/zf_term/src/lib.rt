@@ -5,6 +5,7 @@ pub mod conjunct;
 pub mod extent;
 pub mod globals;
 pub mod infinite;
+pub mod laws;
 mod moving;
 pub mod operator;
 pub mod resolved;

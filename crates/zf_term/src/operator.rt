@@ -85,6 +85,7 @@ pub enum Rule {
 }
 
 impl Operator {
+    /// The rule of types that the symbol has.
     pub fn rule(self) -> Rule
         ensures { result ≡ spec.rule_of self }
     {
@@ -113,6 +114,7 @@ fn function_rule(op: Infix) -> Rule
     }
 }
 
+/// The rule of types of a link of a chain.
 pub fn relation_rule(relation: Relation) -> Rule
     ensures { result ≡ spec.relation_rule relation }
 {
@@ -127,6 +129,7 @@ pub fn relation_rule(relation: Relation) -> Rule
 }
 
 impl Rule {
+    /// What the left operand has to be.
     pub fn left_need(self) -> Need
         ensures { result ≡ spec.left_need self }
     {
@@ -145,6 +148,7 @@ impl Rule {
         }
     }
 
+    /// What the right operand has to be.
     pub fn right_need(self) -> Need
         ensures { result ≡ spec.right_need self }
     {

@@ -32,6 +32,7 @@ pub trait Rule<'a> {
         ensures low { IfOk result (λ x. x.height ≤ limit self.now) };
 }
 
+/// What the rule reads, once and again for as long as the mark parts it from what follows.
 pub fn items<'a, R: Rule<'a>>(
     arena: &'a Bump,
     tokens: &mut Cursor<'a, '_>,

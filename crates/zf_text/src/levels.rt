@@ -30,6 +30,7 @@ pub const POSTFIX: u8 = 18;
 
 pub const ATOM: u8 = 19;
 
+/// The higher the level, the more tightly a symbol binds.
 pub fn connective_level(connective: Connective) -> u8
     ensures value { result ≡ levels.connective_level connective }
     ensures small { result ≤ 4 }
@@ -54,6 +55,7 @@ fn left_place(connective: Connective) -> u8
     }
 }
 
+/// Where the right operand stands.
 pub fn right_place(connective: Connective) -> u8
     ensures { result ≡ levels.right_place connective }
 {

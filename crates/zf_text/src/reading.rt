@@ -139,7 +139,7 @@ fn push_next<'a>(
 /// A box is mostly longer. Where a text has many shorter ones, the list of its boxes grows as it goes.
 const BYTES_OF_A_BOX: usize = 64;
 
-/// The tree of a source: `scan`, and then `parse`. It is made box by box, so that few symbols stand in memory.
+/// The tree that `scan` and then `parse` give, made box by box, so that few symbols stand in memory.
 pub fn read_spec<'a>(
     alloc: Global,
     arena: &'a Bump,

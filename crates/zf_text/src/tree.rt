@@ -210,6 +210,7 @@ pub struct SchemaRef<'a> {
     pub name: Name<'a>,
 }
 
+/// A declaration: of components, or of all that a schema has.
 #[derive(Drop)]
 pub enum Decl<'a> {
     /// Components, and their declared set.
@@ -217,6 +218,7 @@ pub enum Decl<'a> {
     Include(SchemaRef<'a>),
 }
 
+/// A schema expression (ZRM 5.2).
 #[derive(Drop)]
 pub enum SchemaExp<'a> {
     /// `[ Decl; .. | Term; .. ]`
@@ -229,6 +231,7 @@ pub enum SchemaExp<'a> {
     Bracket(Boxed<'a, SchemaExp<'a>>),
 }
 
+/// A paragraph of a `zed` box (ZRM 3.2).
 #[derive(Drop)]
 pub enum Paragraph<'a> {
     /// `[ Name, .. ]`
@@ -241,6 +244,7 @@ pub enum Paragraph<'a> {
     Defs(Name<'a>, SchemaExp<'a>),
 }
 
+/// A box, which ends with its `\end`.
 #[derive(Drop)]
 pub enum ZBox<'a> {
     Zed(Items<'a, Paragraph<'a>>),

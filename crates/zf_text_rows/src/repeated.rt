@@ -11,7 +11,3 @@ pub fn repeated(alloc: Global, words: &[(&str, usize)]) -> Result<String, AllocE
     }
     Ok(text)
 }
-
-pub fn spaces(alloc: Global, times: usize) -> Result<String, AllocError> {
-    repeated(alloc, &[(" ", times)])
-}

@@ -2,11 +2,14 @@
 use std::test::Fail;
 use zf_engine::program::program;
 
-static STATUSES: [(&[&str], u8); 6] = [
+static STATUSES: [(&[&str], u8); 9] = [
     (&[], 2),
     (&["show", "s.tex"], 2),
     (&["show", "s.tex", "S", "NAME"], 2),
     (&["show", "--limit", "0", "s.tex", "S"], 2),
+    (&["check", "/dev/null"], 0),
+    (&["check", "/dev/zero"], 1),
+    (&["show", "/dev/null", "S"], 2),
     (&["show", "no/such/file.tex", "S"], 5),
     (&["show", "--help"], 0),
 ];

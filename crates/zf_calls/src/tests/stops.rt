@@ -2,7 +2,7 @@
 use crate::devices::{Endless, Failing, Limited};
 use crate::tests::runs::ended;
 use crate::tests::sources::{ONE, ONE_ANSWER};
-use std::io::{ErrorKind, Read};
+use std::io::ErrorKind;
 use std::test::Fail;
 use zf_engine::fault::{RunFault, Status};
 
@@ -74,23 +74,5 @@ fn spaces_without_end(rt: HostRuntime) -> Result<(), Fail> {
     let end = ended(rt.alloc(), WORDS, &mut reader, &mut written)?;
     assert!(rt; end == Ok(Status::BadSpec) && reader.given == 1_048_577);
     assert_eq!(rt; written.as_slice(), b"s.tex: source too long\n".as_slice());
-    Ok(())
-}
-
-/// The longest source, and one byte more.
-static LENGTHS: [(u64, &str, Status); 2] = [
-    (1_048_576, "zf: no schema S\n", Status::BadRequest),
-    (1_048_577, "s.tex: source too long\n", Status::BadSpec),
-];
-
-#[test]
-fn longest_source(rt: HostRuntime) -> Result<(), Fail> {
-    for (length, text, status) in &LENGTHS {
-        let mut written = Vec::new(rt.alloc());
-        let spaces = Endless { given: 0 }.take(*length);
-        let end = ended(rt.alloc(), WORDS, spaces, &mut written)?;
-        assert!(rt; end == Ok(*status), "{length}");
-        assert_eq!(rt; written.as_slice(), text.as_bytes());
-    }
     Ok(())
 }

@@ -1,5 +1,5 @@
 //! Values with several owners, in an arena.
-ghost use Rattle.std.specs.Prelude.{◌≡◌, IfOk};
+ghost use Rattle.std.specs.Prelude.{◌≡◌, IfOk, IfErr};
 
 use bumpalo::Bump;
 use std::alloc::AllocError;
@@ -38,6 +38,19 @@ impl<'a, T: Drop> Shared<'a, T> {
         Ok(Shared {
             inner: ManuallyDrop::new(Rc::new(arena, value)?),
         })
+    }
+
+    /// The value, where it has no other owner.
+    pub fn into_value(self) -> Result<T, Shared<'a, T>>
+        ensures ok { IfOk result (λ value. value ≡ self.entry) }
+        ensures err { IfErr result (λ shared. shared ≡ self.entry) }
+    {
+        match Rc::try_unwrap(ManuallyDrop::into_inner(self.inner)) {
+            Ok(value) => Ok(value),
+            Err(inner) => Err(Shared {
+                inner: ManuallyDrop::new(inner),
+            }),
+        }
     }
 
     /// One more owner of the value, which is not copied.

@@ -1,10 +1,11 @@
-use Rattle.std.proofs.Common.{ℕ, inl, inr, map, refl, rules}
+use Rattle.std.proofs.Common.{ℕ, map, refl, rules}
 use Rattle.zf_text.specs.Trees.{tree_of}
 use Rattle.zf_term.specs.Definitions.{globals_of, schema_of}
 use Rattle.zf_type.specs.declared.fault.TypeFaultKind.{TypeFaultKind}
 use Rattle.zf_calculus.specs.Expressions.{Constrains}
-use Rattle.zf_calculus.specs.SchemaOffences.{OffendsPredicate, OffendsPredicates}
-use Rattle.zf_schema.proofs.Texts.{at_step, at_end, if_fault}
+use Rattle.zf_calculus.specs.Growth.{CantConstrain}
+use Rattle.zf_calculus.specs.SchemaOffences.{OffendsPredicates}
+use Rattle.zf_schema.proofs.Texts.{at_step, at_end, if_fault, first_constrains, later_constrains}
 use Rattle.zf_schema.proofs.text.constrain_all.Goals as goal
 
 pub loop-predicate-preserved : goal.loop-predicate-preserved
@@ -15,15 +16,15 @@ loop-predicate-preserved c =
     record {
       growing = c.in_ok-constrain.ensures.growing;
       constrains = λ out r. c.loop-predicate.invariant.constrains out (at_step (λ ds. Constrains g a (map tree_of ds) out) c.args.predicates.now c.loop-predicate.predicate-index c.predicate-item.result c.predicate-item.is c.loop-predicate-test.true (b, c.in_ok-constrain.ensures.ok, r));
-      offends = λ k m o. c.loop-predicate.invariant.offends k m (at_step (λ ds. OffendsPredicates g a (map tree_of ds) k m) c.args.predicates.now c.loop-predicate.predicate-index c.predicate-item.result c.predicate-item.is c.loop-predicate-test.true (inr (b, c.in_ok-constrain.ensures.ok, o)));
+      offends = λ k m o. c.loop-predicate.invariant.offends k m (at_step (λ ds. OffendsPredicates g a (map tree_of ds) k m) c.args.predicates.now c.loop-predicate.predicate-index c.predicate-item.result c.predicate-item.is c.loop-predicate-test.true (later_constrains g a _ b _ k m c.in_ok-constrain.ensures.ok o));
     }
 
 pub returns-in_err-constrain-clause-wrong : goal.returns-in_err-constrain-clause-wrong
 returns-in_err-constrain-clause-wrong c =
     let g = globals_of c.args.globals.now in
     let a = schema_of c.loop-predicate.growing.flat in
-    let step : (k : TypeFaultKind) (m : ℕ) → OffendsPredicate g a (tree_of c.predicate-item.result) k m → OffendsPredicates g (schema_of c.args.growing.now.flat) (map tree_of c.args.predicates.now) k m =
-    λ k m o. c.loop-predicate.invariant.offends k m (at_step (λ ds. OffendsPredicates g a (map tree_of ds) k m) c.args.predicates.now c.loop-predicate.predicate-index c.predicate-item.result c.predicate-item.is c.loop-predicate-test.true (inl o)) in
+    let step : (k : TypeFaultKind) (m : ℕ) → CantConstrain g a (tree_of c.predicate-item.result) k m → OffendsPredicates g (schema_of c.args.growing.now.flat) (map tree_of c.args.predicates.now) k m =
+    λ k m o. c.loop-predicate.invariant.offends k m (at_step (λ ds. OffendsPredicates g a (map tree_of ds) k m) c.args.predicates.now c.loop-predicate.predicate-index c.predicate-item.result c.predicate-item.is c.loop-predicate-test.true (first_constrains g a _ _ k m o)) in
     let fact = if_fault _ _ _ step c.in_err-constrain.ensures.wrong in
     search rules
 

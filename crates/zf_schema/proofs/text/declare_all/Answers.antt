@@ -1,10 +1,11 @@
-use Rattle.std.proofs.Common.{ℕ, inl, inr, map, refl, rules}
+use Rattle.std.proofs.Common.{ℕ, map, refl, rules}
 use Rattle.zf_text.specs.Trees.{decl_of}
 use Rattle.zf_term.specs.Definitions.{globals_of, schema_of}
 use Rattle.zf_type.specs.declared.fault.TypeFaultKind.{TypeFaultKind}
 use Rattle.zf_calculus.specs.Expressions.{Declares}
-use Rattle.zf_calculus.specs.SchemaOffences.{OffendsDecl, OffendsDecls}
-use Rattle.zf_schema.proofs.Texts.{at_step, at_end, if_fault}
+use Rattle.zf_calculus.specs.Growth.{CantDeclare}
+use Rattle.zf_calculus.specs.SchemaOffences.{OffendsDecls}
+use Rattle.zf_schema.proofs.Texts.{at_step, at_end, if_fault, first_declares, later_declares}
 use Rattle.zf_schema.proofs.text.declare_all.Goals as goal
 
 pub loop-decl-preserved : goal.loop-decl-preserved
@@ -15,15 +16,15 @@ loop-decl-preserved c =
     record {
       growing = c.in_ok-declare.ensures.growing;
       declares = λ out r. c.loop-decl.invariant.declares out (at_step (λ ds. Declares g a (map decl_of ds) out) c.args.decls.now c.loop-decl.decl-index c.decl-item.result c.decl-item.is c.loop-decl-test.true (b, c.in_ok-declare.ensures.ok, r));
-      offends = λ k m o. c.loop-decl.invariant.offends k m (at_step (λ ds. OffendsDecls g a (map decl_of ds) k m) c.args.decls.now c.loop-decl.decl-index c.decl-item.result c.decl-item.is c.loop-decl-test.true (inr (b, c.in_ok-declare.ensures.ok, o)));
+      offends = λ k m o. c.loop-decl.invariant.offends k m (at_step (λ ds. OffendsDecls g a (map decl_of ds) k m) c.args.decls.now c.loop-decl.decl-index c.decl-item.result c.decl-item.is c.loop-decl-test.true (later_declares g a _ b _ k m c.in_ok-declare.ensures.ok o));
     }
 
 pub returns-in_err-declare-clause-wrong : goal.returns-in_err-declare-clause-wrong
 returns-in_err-declare-clause-wrong c =
     let g = globals_of c.args.globals.now in
     let a = schema_of c.loop-decl.growing.flat in
-    let step : (k : TypeFaultKind) (m : ℕ) → OffendsDecl g a (decl_of c.decl-item.result) k m → OffendsDecls g (schema_of c.args.growing.now.flat) (map decl_of c.args.decls.now) k m =
-    λ k m o. c.loop-decl.invariant.offends k m (at_step (λ ds. OffendsDecls g a (map decl_of ds) k m) c.args.decls.now c.loop-decl.decl-index c.decl-item.result c.decl-item.is c.loop-decl-test.true (inl o)) in
+    let step : (k : TypeFaultKind) (m : ℕ) → CantDeclare g a (decl_of c.decl-item.result) k m → OffendsDecls g (schema_of c.args.growing.now.flat) (map decl_of c.args.decls.now) k m =
+    λ k m o. c.loop-decl.invariant.offends k m (at_step (λ ds. OffendsDecls g a (map decl_of ds) k m) c.args.decls.now c.loop-decl.decl-index c.decl-item.result c.decl-item.is c.loop-decl-test.true (first_declares g a _ _ k m o)) in
     let fact = if_fault _ _ _ step c.in_err-declare.ensures.wrong in
     search rules
 

@@ -3,7 +3,8 @@ use Rattle.zf_text.specs.Trees.{include}
 use Rattle.zf_term.specs.Definitions.{globals_of, schema_of}
 use Rattle.zf_type.specs.declared.fault.TypeFaultKind.{TypeFaultKind}
 use Rattle.zf_calculus.specs.Calculus.{Agree, conjoined}
-use Rattle.zf_calculus.specs.SchemaOffences.{OffendsDecl, Stops}
+use Rattle.zf_calculus.specs.Growth.{CantDeclare}
+use Rattle.zf_calculus.specs.SchemaOffences.{Stops}
 use Rattle.zf_schema.proofs.Referring.{refused_by}
 use Rattle.zf_schema.proofs.Texts.{cant_include}
 use Rattle.zf_schema.proofs.text.include.Goals as goal
@@ -15,8 +16,8 @@ returns-in-Err-clause-wrong c =
     let b = schema_of c.in_ok-other.other.flat in
     let r = c.args.reference.now in
     let stops = Stops (Agree a.comps b.comps) (conjoined a b) in
-    let offends = subst (λ l. (k : TypeFaultKind) → stops k → OffendsDecl g a (include r) k l) (ap (λ m. m.name.line) (sym c.reference.view_is)) (cant_include g a r b c.in_ok-other.ensures.ok) in
-    rw c.refusal.ensures (refused_by c.in-Err.stop _ stops (OffendsDecl g a (include r)) offends c.in-Err.ensures.err)
+    let offends = subst (λ l. (k : TypeFaultKind) → stops k → CantDeclare g a (include r) k l) (ap (λ m. m.name.line) (sym c.reference.view_is)) (cant_include g a r b c.in_ok-other.ensures.ok) in
+    rw c.refusal.ensures (refused_by c.in-Err.stop _ stops (CantDeclare g a (include r)) offends c.in-Err.ensures.err)
 
 pub returns-in-Ok-clause-ok : goal.returns-in-Ok-clause-ok
 returns-in-Ok-clause-ok c = (schema_of c.in_ok-other.other.flat, c.in_ok-other.ensures.ok, c.in-Ok.ensures.ok)

@@ -2,7 +2,7 @@ use Rattle.std.proofs.Common.{map, drop}
 use Rattle.std.specs.List.{AllByRecursion}
 use Rattle.zf_term.specs.Definitions.{conjunct_of}
 use Rattle.zf_calculus.specs.Limits.{IsLow}
-use Rattle.zf_calculus.proofs.room.are_low.Given as goal
+use Rattle.zf_calculus.proofs.room.none_too_high.Given as goal
 
 abbrev pub invariant-loop-conjunct : goal.invariant-loop-conjunct
 invariant-loop-conjunct l = AllByRecursion IsLow (map conjunct_of (drop l.conjunct-index l.conjuncts)) → AllByRecursion IsLow (map conjunct_of l.conjuncts)
