@@ -1,16 +1,16 @@
 -- Bound variables: names that are declared apart, and scopes with variables in them.
-use Rattle.std.proofs.Common.{◌≡◌, ℕ, ◌+◌, if◌then◌else◌, Bool, true, false, List, [], ◌∷◌, ◌++◌, length, map, take, Option, Some, None, Ok, Err, refl, sym, ap, ◌∙◌, inl, inr, ⊎_elim, true≢false}
+use Rattle.std.proofs.Common.{◌≡◌, ℕ, if◌then◌else◌, Bool, true, false, List, [], ◌∷◌, ◌++◌, length, map, take, Option, Some, None, Ok, Err, refl, sym, ap, ◌∙◌, inl, inr, ⊎_elim, true≢false}
 use Rattle.std.proofs.lemmas.List.{take-map, map-append, length-map}
 use Rattle.std.proofs.Math.Seq.{take-append_seam}
 use Rattle.std.proofs.lemmas.Slice.Eq.{bytes_eq-Decides}
-use Rattle.std.specs.Prelude.{◌⊎◌, Result, OnErr}
+use Rattle.std.specs.Prelude.{◌⊎◌, Result, OnErr, OnOk}
 use Rattle.std.specs.Str.{bytes_eq}
 use Rattle.zf_text.specs.declared.tree.Name.{Name}
 use Rattle.zf_term.specs.FirstNamed.{later, or_else}
 use Rattle.zf_term.specs.Definitions.{comp_of, globals_of}
 use Rattle.zf_type.specs.declared.fault.TypeFaultKind.{TypeFaultKind}
 use Rattle.zf_type.specs.declared.scope.Scope as program
-use Rattle.zf_type.specs.declared.scope.Variable.{Variable}
+use Rattle.zf_type.specs.declared.variable.Variable.{Variable}
 use Rattle.zf_type.specs.Judging.{IsBound, AreNew, AreRepeated}
 use Rattle.zf_type.specs.Offences.{IsRepeated, Repeats}
 use Rattle.zf_type.specs.Scopes.{Scope, Var, last_named, scope_of, spelling, variable_of, within}
@@ -87,36 +87,40 @@ some_repeated (n ∷ ns) k m (inr (inr r)) = inr (some_repeated ns k m r)
 
 -- ---- scopes
 
-pub depth_of : (p : program.Scope) → length p.locals.items ≡ length (scope_of p).locals
+pub depth_of : (p : program.Scope) → length p.locals ≡ length (scope_of p).locals
 unfolding scope_of
-depth_of p = sym (length-map p.locals.items variable_of)
+depth_of p = sym (length-map p.locals variable_of)
 
-pub more_bound : (p q : program.Scope) (vs : List Variable) → q.globals ≡ p.globals → q.components ≡ p.components → q.locals.items ≡ p.locals.items ++ vs → scope_of q ≡ within (scope_of p) (map variable_of vs)
+pub more_bound : (p q : program.Scope) (vs : List Variable) → q.globals ≡ p.globals → q.components ≡ p.components → q.locals ≡ p.locals ++ vs → scope_of q ≡ within (scope_of p) (map variable_of vs)
 unfolding scope_of
 more_bound p q vs g c l =
-    let locals = ap (map variable_of) l ∙ map-append variable_of p.locals.items vs in
-    ap (λ x. record { globals = globals_of x.now; comps = map comp_of q.components.now; locals = map variable_of q.locals.items }) g
-    ∙ ap (λ x. record { globals = globals_of p.globals.now; comps = map comp_of x.now; locals = map variable_of q.locals.items }) c
+    let locals = ap (map variable_of) l ∙ map-append variable_of p.locals vs in
+    ap (λ x. record { globals = globals_of x.now; comps = map comp_of q.components.now; locals = map variable_of q.locals }) g
+    ∙ ap (λ x. record { globals = globals_of p.globals.now; comps = map comp_of x.now; locals = map variable_of q.locals }) c
     ∙ ap (λ x. record { globals = globals_of p.globals.now; comps = map comp_of p.components.now; locals = x }) locals
 
-pub same_bound : (p q : program.Scope) → q.globals ≡ p.globals → q.components ≡ p.components → q.locals.items ≡ p.locals.items → scope_of q ≡ scope_of p
+pub same_bound : (p q : program.Scope) → q.globals ≡ p.globals → q.components ≡ p.components → q.locals ≡ p.locals → scope_of q ≡ scope_of p
 unfolding scope_of
 same_bound p q g c l =
-    ap (λ x. record { globals = globals_of x.now; comps = map comp_of q.components.now; locals = map variable_of q.locals.items }) g
-    ∙ ap (λ x. record { globals = globals_of p.globals.now; comps = map comp_of x.now; locals = map variable_of q.locals.items }) c
+    ap (λ x. record { globals = globals_of x.now; comps = map comp_of q.components.now; locals = map variable_of q.locals }) g
+    ∙ ap (λ x. record { globals = globals_of p.globals.now; comps = map comp_of x.now; locals = map variable_of q.locals }) c
     ∙ ap (λ x. record { globals = globals_of p.globals.now; comps = map comp_of p.components.now; locals = map variable_of x }) l
 
 -- of a scope within another, as many variables as that one has are that one's
-pub less_bound : (p q : program.Scope) (s : Scope) (vs : List Var) (n : ℕ) → q.globals ≡ p.globals → q.components ≡ p.components → q.locals.items ≡ take n p.locals.items → scope_of p ≡ within s vs → n ≡ length s.locals → scope_of q ≡ s
+pub less_bound : (p q : program.Scope) (s : Scope) (vs : List Var) (n : ℕ) → q.globals ≡ p.globals → q.components ≡ p.components → q.locals ≡ take n p.locals → scope_of p ≡ within s vs → n ≡ length s.locals → scope_of q ≡ s
 unfolding scope_of
 less_bound p q s vs n g c l h e =
     let globals : globals_of q.globals.now ≡ s.globals = ap (λ x. globals_of x.now) g ∙ ap (λ z. z.globals) h in
     let comps : map comp_of q.components.now ≡ s.comps = ap (λ x. map comp_of x.now) c ∙ ap (λ z. z.comps) h in
-    let locals : map variable_of q.locals.items ≡ s.locals = ap (map variable_of) l ∙ sym (take-map variable_of n p.locals.items) ∙ ap (take n) (ap (λ z. z.locals) h) ∙ ap (λ k. take k (s.locals ++ vs)) e ∙ take-append_seam s.locals vs in
-    ap (λ x. record { globals = x; comps = map comp_of q.components.now; locals = map variable_of q.locals.items }) globals
-    ∙ ap (λ x. record { globals = s.globals; comps = x; locals = map variable_of q.locals.items }) comps
+    let locals : map variable_of q.locals ≡ s.locals = ap (map variable_of) l ∙ sym (take-map variable_of n p.locals) ∙ ap (take n) (ap (λ z. z.locals) h) ∙ ap (λ k. take k (s.locals ++ vs)) e ∙ take-append_seam s.locals vs in
+    ap (λ x. record { globals = x; comps = map comp_of q.components.now; locals = map variable_of q.locals }) globals
+    ∙ ap (λ x. record { globals = s.globals; comps = x; locals = map variable_of q.locals }) comps
     ∙ ap (λ x. record { globals = s.globals; comps = s.comps; locals = x }) locals
 
-pub on_err : {T E : Type 0} (r : Result T E) (P : Type 0) → P → OnErr r P
-on_err (Ok x) P h = tt
-on_err (Err x) P h = h
+pub err_then : {T E : Type 0} (r : Result T E) (P Q : Type 0) → (P → Q) → OnErr r P → OnErr r Q
+err_then (Ok x) P Q f h = tt
+err_then (Err x) P Q f h = f h
+
+pub ok_then : {T E : Type 0} (r : Result T E) (P Q : Type 0) → (P → Q) → OnOk r P → OnOk r Q
+ok_then (Ok x) P Q f h = f h
+ok_then (Err x) P Q f h = tt

@@ -9,6 +9,8 @@ pub mod Judging
 pub mod Members
 pub mod Chains
 pub mod Bound
+pub mod Halves
+pub mod Indexed
 pub mod Quantified
 pub mod Rows
 pub mod Builders

@@ -6,7 +6,7 @@ use Rattle.zf_term.specs.declared.ztype.ZType.{ZType}
 use Rattle.zf_term.specs.Types.{product, type, types, type_of}
 use Rattle.zf_term.proofs.Walk.{dropped}
 use Rattle.zf_type.specs.declared.scope.Scope as program
-use Rattle.zf_type.specs.declared.scope.Variable.{Variable}
+use Rattle.zf_type.specs.declared.variable.Variable.{Variable}
 use Rattle.zf_type.specs.Judging.{var_type}
 use Rattle.zf_type.specs.Scopes.{Scope, Var, scope_of, variable_of, within}
 use Rattle.zf_type.specs.Typing.{row_type, types_of}
@@ -34,6 +34,6 @@ pub none_ahead : (xs : List Variable) (i : ℕ) → length xs ≤ i → [] ≡ m
 none_ahead xs i h = ap (λ ys. map var_type (map variable_of ys)) (sym (drop_all i xs h))
 
 -- those behind the ones outside
-pub variables_within : (p : program.Scope) (s : Scope) (vs : List Var) (n : ℕ) → scope_of p ≡ within s vs → n ≡ length s.locals → map variable_of (drop n p.locals.items) ≡ vs
+pub variables_within : (p : program.Scope) (s : Scope) (vs : List Var) (n : ℕ) → scope_of p ≡ within s vs → n ≡ length s.locals → map variable_of (drop n p.locals) ≡ vs
 unfolding scope_of
-variables_within p s vs n h e = sym (drop-map variable_of n p.locals.items) ∙ ap (λ z. drop n z.locals) h ∙ ap (λ k. drop k (s.locals ++ vs)) e ∙ drop-append_seam s.locals vs
+variables_within p s vs n h e = sym (drop-map variable_of n p.locals) ∙ ap (λ z. drop n z.locals) h ∙ ap (λ k. drop k (s.locals ++ vs)) e ∙ drop-append_seam s.locals vs

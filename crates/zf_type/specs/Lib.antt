@@ -1,4 +1,5 @@
 pub mod Rules
+pub mod Buckets
 pub mod Scopes
 pub mod Typing
 pub mod Resolving

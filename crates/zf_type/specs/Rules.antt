@@ -2,13 +2,11 @@
 use Rattle.std.specs.Prelude.{◌≡◌, Option, Some, None}
 use Rattle.zf_scan.specs.declared.token.Constant.{Constant}
 use Rattle.zf_scan.specs.declared.token.Constant.TheVariants.{True, False, Integers, Naturals, Positives}
-use Rattle.zf_scan.specs.declared.token.Infix.TheVariants.{Minus, Overriding}
 use Rattle.zf_scan.specs.declared.token.Prefix.{Prefix}
 use Rattle.zf_scan.specs.declared.token.Prefix.TheVariants.{Power, Finset, Domain, Range, Size}
-use Rattle.zf_scan.specs.declared.token.Relation.{Relation}
 use Rattle.zf_text.specs.declared.tree.Sign.{Sign}
 use Rattle.zf_text.specs.declared.tree.Sign.TheVariants as sign
-use Rattle.zf_term.specs.Types.{Ty, int, power, type, type_of, pair, IsSmall}
+use Rattle.zf_term.specs.Types.{Ty, int, power, type_of, pair, IsSmall}
 use Rattle.zf_term.specs.declared.operator.Need.{Need}
 use Rattle.zf_term.specs.declared.operator.Need.TheVariants as need
 use Rattle.zf_term.specs.declared.operator.Rule.{Rule}

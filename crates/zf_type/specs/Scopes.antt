@@ -1,5 +1,5 @@
 -- What a name stands for: the innermost bound variable of that name, else the component, else the global.
-use Rattle.std.specs.Prelude.{ℕ, ◌+◌, if◌then◌else◌, List, [], ◌∷◌, ◌++◌, Option, Some, None, map}
+use Rattle.std.specs.Prelude.{ℕ, if◌then◌else◌, List, [], ◌∷◌, ◌++◌, Option, Some, None, map}
 use Rattle.std.specs.Str.{bytes_eq}
 use Rattle.zf_text.specs.declared.tree.Name.{Name}
 use Rattle.zf_term.specs.FirstNamed.{later, or_else, first_named}
@@ -8,7 +8,7 @@ use Rattle.zf_term.specs.declared.resolved.Reference.TheVariants.{Component, Loc
 use Rattle.zf_term.specs.Definitions.{comp_of, globals_of, Comp, Defined, Definition, given_set, free_type, constructor, abbreviation, schema}
 use Rattle.zf_term.specs.Types.{Ty, basic, type_of}
 use Rattle.zf_type.specs.declared.scope.Scope as program_scope
-use Rattle.zf_type.specs.declared.scope.Variable.{Variable}
+use Rattle.zf_type.specs.declared.variable.Variable.{Variable}
 use Rattle.zf_type.specs.declared.sort.Sort as program
 use Rattle.zf_type.specs.Rules.{Sort, typed, a_schema, set_of, sort_of}
 
@@ -70,7 +70,7 @@ meaning s x =
 -- ---- the program's answers as these
 
 unfoldable pub scope_of : program_scope.Scope → Scope
-scope_of s = record { globals = globals_of s.globals.now; comps = map comp_of s.components.now; locals = map variable_of s.locals.items }
+scope_of s = record { globals = globals_of s.globals.now; comps = map comp_of s.components.now; locals = map variable_of s.locals }
 
 -- what is found, with its place
 abbrev pub found_as : {A B : Type 0} → (A → B) → Option (ℕ × A) → Option (ℕ × B)

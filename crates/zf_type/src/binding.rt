@@ -12,8 +12,10 @@ ghost use Rattle.zf_type.specs.Typing as typing;
 ghost use Rattle.zf_type.specs.declared.fault.TypeFaultKind as faults;
 
 use crate::fault::{Refusal, TypeFaultKind, refused};
-use crate::scope::{Scope, Variable, is_bound};
+use crate::locals::Locals;
+use crate::scope::{Scope, is_bound};
 use crate::sort::Sort;
+use crate::variable::Variable;
 use bumpalo::Bump;
 use std::alloc::AllocError;
 use zf_data::arena::Items;
@@ -24,20 +26,20 @@ use zf_text::tree::Name;
 pub(crate) fn declare_names<'a>(
     names: &[Name<'a>],
     set: &Sort<'a>,
-    variables: &mut Vec<Variable<'a>>,
+    variables: &mut Locals<'a>,
 ) -> Result<(), Refusal>
     requires { Meets needs.Set (sort_of set.now) }
-    ensures ok { OnOk result ((u : Ty) × (sort_of set.now ≡ set_of u) × (map variable_of variables.new.items ≡ map variable_of variables.old.items ++ typing.variables names.now u)) }
-    ensures apart { OnOk result ((ns : List program.Name) → AreNew (map variable_of variables.new.items) ns → AreNew (map variable_of variables.old.items) (names.now ++ ns)) }
-    ensures later { OnOk result ((ns : List program.Name) (kind : faults.TypeFaultKind) (line : ℕ) → AreRepeated (map variable_of variables.new.items) ns kind line → AreRepeated (map variable_of variables.old.items) (names.now ++ ns) kind line) }
-    ensures repeated { IfErr result (λ e. IfFault e (λ kind line. (ns : List program.Name) → AreRepeated (map variable_of variables.old.items) (names.now ++ ns) kind line)) }
+    ensures ok { OnOk result ((u : Ty) × (sort_of set.now ≡ set_of u) × (map variable_of variables.new ≡ map variable_of variables.old ++ typing.variables names.now u)) }
+    ensures apart { OnOk result ((ns : List program.Name) → AreNew (map variable_of variables.new) ns → AreNew (map variable_of variables.old) (names.now ++ ns)) }
+    ensures later { OnOk result ((ns : List program.Name) (kind : faults.TypeFaultKind) (line : ℕ) → AreRepeated (map variable_of variables.new) ns kind line → AreRepeated (map variable_of variables.old) (names.now ++ ns) kind line) }
+    ensures repeated { IfErr result (λ e. IfFault e (λ kind line. (ns : List program.Name) → AreRepeated (map variable_of variables.old) (names.now ++ ns) kind line)) }
 {
     let Some(members) = set.member() else {
         unreachable!();
     };
     for name in names {
         let variable = variable(name, members)?;
-        if is_bound(variables.as_slice(), variable.name.as_slice()) {
+        if is_bound(variables, variable.name.as_slice()) {
             return Err(refused(TypeFaultKind::LocalTwice, name.line));
         }
         variables.push(variable)?;
@@ -58,21 +60,16 @@ fn variable<'a>(name: &Name<'a>, ztype: &ZType<'a>) -> Result<Variable<'a>, Allo
 pub(crate) fn depth(scope: &Scope<'_, '_>) -> usize
     ensures { result ≡ length (scope_of scope.now).locals }
 {
-    scope.locals.as_slice().len()
+    scope.locals.len()
 }
 
 /// Brings variables into scope, within those that are bound.
-pub(crate) fn bind<'a>(
-    scope: &mut Scope<'a, '_>,
-    variables: Vec<Variable<'a>>,
-) -> Result<(), AllocError>
-    ensures ok { OnOk result (scope_of scope.new ≡ within (scope_of scope.old) (map variable_of variables.entry.items)) }
+pub(crate) fn bind<'a>(scope: &mut Scope<'a, '_>, variables: Locals<'a>) -> Result<(), AllocError>
+    ensures ok { OnOk result (scope_of scope.new ≡ within (scope_of scope.old) (map variable_of variables.entry)) }
     ensures err { OnErr result (scope_of scope.new ≡ scope_of scope.old) }
     ensures references { scope.new.references ≡ scope.old.references }
 {
-    let mut variables = variables;
-    scope.locals.append(&mut variables)?;
-    Ok(())
+    scope.locals.append(variables)
 }
 
 /// Leaves in scope the variables that are bound outside.
@@ -91,10 +88,10 @@ pub(crate) fn row<'a>(
 ) -> Result<ZType<'a>, AllocError>
     ensures { IfOk result (λ t. (s : spec.Scope) (vs : List Var) → scope_of scope.now ≡ within s vs → outside ≡ length s.locals → type_of t ≡ typing.row_type vs) }
 {
-    let locals = scope.locals.as_slice();
+    let locals = &scope.locals;
     let mut types = Items::new(arena);
     for place in outside..locals.len() {
-        types.push(locals[place].ztype.share()?)?;
+        types.push(locals.get(place).ztype.share()?)?;
     }
     row_of(arena, types)
 }

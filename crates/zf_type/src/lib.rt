@@ -4,9 +4,13 @@
 mod binding;
 pub mod conjuncts;
 pub mod fault;
+mod index;
 pub mod judge;
 pub mod laws;
+pub mod locals;
 pub mod rules;
 pub mod scope;
 pub mod slate;
 pub mod sort;
+mod spelling;
+pub mod variable;

@@ -1,14 +1,15 @@
 //! What names stand for.
 ghost use Rattle.std.specs.Prelude.{◌≡◌, ◌↔◌, IsTrue, IfOk, map};
-ghost use Rattle.std.specs.Str.{bytes_eq};
 ghost use Rattle.zf_term.specs.FirstNamed.{first_named};
 ghost use Rattle.zf_term.specs.Definitions.{comp_of, entry_of, definition_of, globals_of};
 ghost use Rattle.zf_type.specs.Judging.{IsBound};
 ghost use Rattle.zf_type.specs.Rules.{sort_of};
 ghost use Rattle.zf_type.specs.Scopes as spec;
-ghost use Rattle.zf_type.specs.Scopes.{scope_of, variable_of, spelling, last_named, meant, found_as};
+ghost use Rattle.zf_type.specs.Scopes.{scope_of, variable_of, spelling, meant, found_as};
 
+use crate::locals::Locals;
 use crate::sort::Sort;
+use crate::spelling::is_same;
 use bumpalo::Bump;
 use std::alloc::AllocError;
 use zf_data::arena::{Lent, Shared};
@@ -17,20 +18,12 @@ use zf_term::resolved::Reference;
 use zf_term::ztype::ZType;
 use zf_text::tree::Name;
 
-/// A bound variable.
-#[derive(Drop)]
-pub struct Variable<'a> {
-    /// The name as spelled, with its strokes.
-    pub name: Lent<'a>,
-    pub ztype: ZType<'a>,
-}
-
 /// What is in scope; the variables that are bound last stand last.
 #[derive(Drop)]
 pub struct Scope<'a, 'b> {
     pub globals: &'b Globals<'a>,
     pub components: &'b [Component<'a>],
-    pub locals: Vec<Variable<'a>>,
+    pub locals: Locals<'a>,
     /// What the names of the terms that were judged stand for, from left to right.
     pub references: Vec<Reference>,
 }
@@ -54,7 +47,7 @@ impl<'a> Scope<'a, '_> {
     ) -> Result<Option<(Reference, Sort<'a>)>, AllocError>
         ensures { IfOk result (λ found. meant found ≡ spec.meaning (scope_of self.now) name.now) }
     {
-        if let Some((place, variable)) = local_of(self.locals.as_slice(), name) {
+        if let Some((place, variable)) = self.locals.find(name) {
             let sort = Sort::Typed(variable.ztype.share()?);
             return Ok(Some((Reference::Local(place), sort)));
         }
@@ -72,26 +65,11 @@ impl<'a> Scope<'a, '_> {
     }
 }
 
-/// The last variable of the name, with its place.
-fn local_of<'a, 'b>(locals: &'b [Variable<'a>], name: &[u8]) -> Option<(usize, &'b Variable<'a>)>
-    ensures { found_as (λ v. variable_of v.now) result ≡ last_named (λ v. v.name) name.now (map variable_of locals.now) }
-{
-    let mut place = locals.len();
-    while place > 0 {
-        place -= 1;
-        let variable = &locals[place];
-        if is_same(variable.name.as_slice(), name) {
-            return Some((place, variable));
-        }
-    }
-    None
-}
-
 /// Whether one of the variables has the name.
-pub(crate) fn is_bound(locals: &[Variable<'_>], name: &[u8]) -> bool
+pub(crate) fn is_bound(locals: &Locals<'_>, name: &[u8]) -> bool
     ensures { IsTrue result ↔ IsBound name.now (map variable_of locals.now) }
 {
-    match local_of(locals, name) {
+    match locals.find(name) {
         Some(_) => true,
         None => false,
     }
@@ -139,38 +117,5 @@ fn entry_sort<'a>(
         Entry::Constructor(_, of_type, _) => Ok(Sort::Typed(ZType::Basic(of_type.share()))),
         Entry::Abbrev(ztype, _, _) => Ok(Sort::Typed(ztype.share()?)),
         Entry::Schema(_) => Ok(Sort::Schema),
-    }
-}
-
-/// Whether the spellings are equal. Most that are not differ in their lengths.
-#[inline(always)]
-#[tactic(auto, using(zf_term::proofs::SameNames::lengths_differ))]
-fn is_same(left: &[u8], right: &[u8]) -> bool
-    ensures { result ≡ bytes_eq left.now right.now }
-{
-    if left.len() != right.len() {
-        return false;
-    }
-    are_same(left, right)
-}
-
-/// The same, byte by byte: names are short, and this costs less than a comparison of slices.
-fn are_same(left: &[u8], right: &[u8]) -> bool
-    ensures { result ≡ bytes_eq left.now right.now }
-{
-    let mut left = left;
-    let mut right = right;
-    loop {
-        let [first, more @ ..] = left else {
-            return right.is_empty();
-        };
-        let [second, further @ ..] = right else {
-            return false;
-        };
-        if *first != *second {
-            return false;
-        }
-        left = more;
-        right = further;
     }
 }

@@ -1,7 +1,8 @@
 //! Lists that are filled while terms are judged, and wiped before they are filled again: their room serves a whole text.
 ghost use Rattle.std.specs.Prelude.{◌≡◌, []};
 
-use crate::scope::{Scope, Variable};
+use crate::locals::Locals;
+use crate::scope::Scope;
 use bumpalo::Bump;
 use std::alloc::Global;
 use std::mem;
@@ -13,7 +14,7 @@ use zf_term::written::Written;
 #[derive(Drop)]
 pub struct Slate<'a> {
     pub references: Vec<Reference>,
-    pub locals: Vec<Variable<'a>>,
+    pub locals: Locals<'a>,
     pub conjuncts: Items<'a, Written<'a>>,
 }
 
@@ -21,22 +22,24 @@ impl<'a> Slate<'a> {
     pub fn new(alloc: Global, arena: &'a Bump) -> Slate<'a> {
         Slate {
             references: Vec::new(alloc),
-            locals: Vec::new(alloc),
+            locals: Locals::new(alloc),
             conjuncts: Items::new(arena),
         }
     }
 
     /// The list of references, with what was in it.
     pub fn take_references(&mut self) -> Vec<Reference> {
-        taken(&mut self.references)
+        let none = Vec::new(*self.references.allocator());
+        mem::replace(&mut self.references, none)
     }
 
     /// The list of bound variables, without any.
-    pub fn take_locals(&mut self) -> Vec<Variable<'a>>
-        ensures { result.items ≡ [] }
+    pub fn take_locals(&mut self) -> Locals<'a>
+        ensures { result ≡ [] }
     {
-        let mut locals = taken(&mut self.locals);
-        locals.clear();
+        let none = Locals::new(self.locals.allocator());
+        let mut locals = mem::replace(&mut self.locals, none);
+        locals.truncate(0);
         locals
     }
 
@@ -44,13 +47,8 @@ impl<'a> Slate<'a> {
     pub fn take_back(&mut self, scope: Scope<'a, '_>)
         ensures { self.new.conjuncts ≡ self.old.conjuncts }
     {
-        self.references = scope.references;
-        self.locals = scope.locals;
+        let mut scope = scope;
+        mem::swap(&mut self.references, &mut scope.references);
+        mem::swap(&mut self.locals, &mut scope.locals);
     }
-}
-
-/// The list; an empty one stands in its place.
-fn taken<T: Drop>(list: &mut Vec<T>) -> Vec<T> {
-    let alloc = *list.allocator();
-    mem::replace(list, Vec::new(alloc))
 }

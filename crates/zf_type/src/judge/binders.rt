@@ -17,7 +17,8 @@ ghost use Rattle.zf_type.specs.Typing.{Binds, Builds, row_type};
 use super::{Place, judge_boxed, judge_term, misplaced, predicate};
 use crate::binding::{bind, declare_names, depth, row, unbind};
 use crate::fault::{Refusal, TypeFaultKind, refused};
-use crate::scope::{Scope, Variable};
+use crate::locals::Locals;
+use crate::scope::Scope;
 use crate::sort::Sort;
 use bumpalo::Bump;
 use std::alloc::AllocError;
@@ -101,13 +102,13 @@ fn judge_sets<'a>(
     decls: &[VarDecl<'a>],
     arena: &'a Bump,
     scope: &mut Scope<'a, '_>,
-) -> Result<Vec<Variable<'a>>, Refusal>
-    ensures ok { IfOk result (λ vs. Binds (scope_of scope.old) (tree.var_decls (map var_decl_of decls.now)) (map variable_of vs.items)) }
+) -> Result<Locals<'a>, Refusal>
+    ensures ok { IfOk result (λ vs. Binds (scope_of scope.old) (tree.var_decls (map var_decl_of decls.now)) (map variable_of vs)) }
     ensures references { OnOk result (scope.new.references.items ≡ ranges_onto scope.old.references.items (resolved_ranges (scope_of scope.old) (tree.var_decls (map var_decl_of decls.now)))) }
     ensures wrong { IfErr result (λ e. IfFault e (λ kind line. DeclarationsOffend (scope_of scope.old) (tree.var_decls (map var_decl_of decls.now)) kind line)) }
     ensures scope { scope_of scope.new ≡ scope_of scope.old }
 {
-    let mut variables = Vec::new(*scope.locals.allocator());
+    let mut variables = Locals::new(scope.locals.allocator());
     for decl in decls {
         let set = judge_boxed(&decl.set, arena, Need::Set, scope)?;
         declare_names(decl.names.as_slice(), &set, &mut variables)?;

@@ -1,9 +1,9 @@
 use Rattle.std.proofs.Common.{refl}
-use Rattle.zf_type.proofs.Bound.{more_bound, same_bound, on_err}
+use Rattle.zf_type.proofs.Bound.{err_then, more_bound, ok_then, same_bound}
 use Rattle.zf_type.proofs.binding.bind.Goals as goal
 
-pub returns-in_err-append-clause-err : goal.returns-in_err-append-clause-err
-returns-in_err-append-clause-err c = on_err c.from_residual.result _ (same_bound c.args.scope.now _ refl refl c.in_err-append.ensures.items)
+pub returns-clause-err : goal.returns-clause-err
+returns-clause-err c = err_then c.append.result _ _ (λ e. same_bound c.args.scope.now _ refl refl e) c.append.ensures.err
 
 pub returns-clause-ok : goal.returns-clause-ok
-returns-clause-ok c = more_bound c.args.scope.now _ c.args.variables.items refl refl c.in_ok-append.ensures.items
+returns-clause-ok c = ok_then c.append.result _ _ (λ e. more_bound c.args.scope.now _ c.args.variables refl refl e) c.append.ensures.ok

@@ -17,18 +17,18 @@ loop-name-preserved c =
     let n = c.name-item.result in
     let u = type_of c.in-Some.members.now in
     let v = c.in_ok-variable.variable in
-    let old = map variable_of c.loop-name.variables.items in
+    let old = map variable_of c.loop-name.variables in
     let rest = drop (i + 1) c.args.names.now in
     let ahead = dropped c.args.names.now i n (omega arith) c.name-item.is in
     let is : variable_of v ≡ record { name = spelling n; type = u } = c.in_ok-variable.ensures ∙ ap (λ t. record { name = spelling n; type = t }) c.loop-name.invariant.kept in
     let named : v.name ≡ spelling n = ap (λ w. w.name) is in
-    let more : map variable_of c.push.new.self.items ≡ old ++ variable_of v ∷ [] = ap (map variable_of) c.in_ok-push.ensures.items ∙ map-append variable_of c.loop-name.variables.items (v ∷ []) in
+    let more : map variable_of c.push.new.self ≡ old ++ variable_of v ∷ [] = ap (map variable_of) c.in_ok-push.ensures.ok ∙ map-append variable_of c.loop-name.variables (v ∷ []) in
     let free : IsBound (spelling n) old → ⊥ = λ b.
-    true≢false (sym (c.is_bound.ensures.1 (subst (λ x. IsBound x (map variable_of c.as_slice.result.now)) (sym (c.as_slice-in-loop-name.ensures ∙ named)) (subst (λ xs. IsBound (spelling n) (map variable_of xs)) (sym c.as_slice.ensures.value) b))) ∙ c.if-is_bound.false) in
+    true≢false (sym (c.is_bound.ensures.1 (subst (λ x. IsBound x old) (sym (c.as_slice.ensures ∙ named)) b)) ∙ c.if-is_bound.false) in
     record {
       kept = c.loop-name.invariant.kept;
       adds =
-          pushed variable_of c.loop-name.variables.items c.push.new.self.items v (variables rest u) c.in_ok-push.ensures.items
+          pushed variable_of c.loop-name.variables c.push.new.self v (variables rest u) c.in_ok-push.ensures.ok
           ∙ ap (λ w. old ++ w ∷ variables rest u) is
           ∙ ap (λ xs. old ++ variables xs u) (sym ahead)
           ∙ c.loop-name.invariant.adds;
@@ -38,7 +38,7 @@ loop-name-preserved c =
 
 pub returns-clause-ok : goal.returns-clause-ok
 returns-clause-ok c =
-    let old = map variable_of c.loop-name.variables.items in (
+    let old = map variable_of c.loop-name.variables in (
       type_of c.in-Some.members.now,
       c.in-Some.ensures,
       sym (append-nil old) ∙ ap (λ xs. old ++ variables xs (type_of c.in-Some.members.now)) (sym (drop_all c.loop-name.name-index c.args.names.now (omega arith))) ∙ c.loop-name.invariant.adds,
@@ -49,10 +49,10 @@ returns-then-is_bound-clause-repeated c =
     let i = c.loop-name.name-index in
     let n = c.name-item.result in
     let v = c.in_ok-variable.variable in
-    let old = map variable_of c.loop-name.variables.items in
+    let old = map variable_of c.loop-name.variables in
     let ahead = dropped c.args.names.now i n (omega arith) c.name-item.is in
     let named : v.name ≡ spelling n = ap (λ w. w.name) c.in_ok-variable.ensures in
-    let found : IsBound v.name (map variable_of c.as_slice.result.now) = subst (λ x. IsBound x (map variable_of c.as_slice.result.now)) c.as_slice-in-loop-name.ensures (c.is_bound.ensures.0 c.if-is_bound.true) in
-    let bound : IsBound (spelling n) old = subst (λ x. IsBound x old) named (subst (λ xs. IsBound v.name (map variable_of xs)) c.as_slice.ensures.value found) in
-    subst (λ r. IfFault r (λ k m. (ns : List Name) → AreRepeated (map variable_of c.args.variables.now.items) (c.args.names.now ++ ns) k m)) (sym c.refused.ensures)
+    let found : IsBound v.name old = subst (λ x. IsBound x old) c.as_slice.ensures (c.is_bound.ensures.0 c.if-is_bound.true) in
+    let bound : IsBound (spelling n) old = subst (λ x. IsBound x old) named found in
+    subst (λ r. IfFault r (λ k m. (ns : List Name) → AreRepeated (map variable_of c.args.variables.now) (c.args.names.now ++ ns) k m)) (sym c.refused.ensures)
     (λ ns. c.loop-name.invariant.repeated ns LocalTwice c.name.inside.line (subst (λ xs. AreRepeated old (xs ++ ns) LocalTwice c.name.inside.line) (sym ahead) (inl (bound, refl, ap (λ m. m.line) c.name.view_is))))

@@ -1,32 +1,31 @@
-use Rattle.std.proofs.Common.{◌≡◌, List, [], ◌∷◌, length, map, drop, sym, ap, ◌∙◌, append-nil}
+use Rattle.std.proofs.Common.{◌≡◌, List, [], ◌∷◌, length, map, sym, ap, ◌∙◌, append-nil, arith}
 use Rattle.std.proofs.lemmas.Result.{IfOk-weaker}
 use Rattle.zf_term.specs.Types.{type_of}
 use Rattle.zf_term.proofs.Walk.{pushed}
 use Rattle.zf_type.specs.Judging.{var_type}
-use Rattle.zf_type.specs.Scopes.{Scope, Var, scope_of, variable_of, within}
+use Rattle.zf_type.specs.Scopes.{Scope, Var, scope_of, within}
 use Rattle.zf_type.specs.Typing.{row_type}
 use Rattle.zf_type.proofs.Rows.{row_ahead, none_ahead, variables_within}
 use Rattle.zf_type.proofs.binding.row.Goals as goal
 
 pub loop-place-preserved : goal.loop-place-preserved
 loop-place-preserved c =
-    let locals = c.as_slice-locals.result.now in
+    let locals = c.args.scope.now.locals in
     let i = c.loop-place.place in
-    let v = c.index-locals-place.result in
+    let v = c.get.result.now in
     let t = c.in_ok-share.field-0 in
     record {
       rows = λ us h.
           pushed type_of c.loop-place.types c.push.new.self t us c.in_ok-push.ensures.ok
-          ∙ c.loop-place.invariant.rows (type_of t ∷ us) (ap (λ u. type_of u ∷ us) (c.in_ok-share.ensures ∙ ap (λ w. w.ztype) (sym c.index-locals-place.is)) ∙ ap (λ rest. type_of v.ztype ∷ rest) h ∙ row_ahead locals i v c.index-locals-place.is c.loop-place-test.true);
+          ∙ c.loop-place.invariant.rows (type_of t ∷ us) (ap (λ u. type_of u ∷ us) c.in_ok-share.ensures ∙ ap (λ rest. type_of v.ztype ∷ rest) h ∙ row_ahead locals i v c.get.ensures (omega (arith, c.loop-place-test.true, c.len-place-end.ensures)));
     }
 
 pub returns : goal.returns
 returns c =
-    let locals = c.as_slice-locals.result.now in
+    let locals = c.args.scope.now.locals in
     IfOk-weaker c.row_of.result (λ t. (vs : List Var) → map type_of c.loop-place.types ≡ map var_type vs → type_of t ≡ row_type vs) (λ t. (s : Scope) (vs : List Var) → scope_of c.args.scope.now ≡ within s vs → c.args.outside ≡ length s.locals → type_of t ≡ row_type vs)
     (λ t of s vs h e. of vs
     (sym (append-nil (map type_of c.loop-place.types))
-    ∙ c.loop-place.invariant.rows [] (none_ahead locals c.loop-place.place c.loop-place-test.false)
-    ∙ ap (λ xs. map var_type (map variable_of (drop c.args.outside xs))) c.as_slice-locals.ensures.value
+    ∙ c.loop-place.invariant.rows [] (none_ahead locals c.loop-place.place (omega (arith, c.loop-place-test.false, c.len-place-end.ensures)))
     ∙ ap (map var_type) (variables_within c.args.scope.now s vs c.args.outside h e)))
     c.row_of.ensures

@@ -3,4 +3,4 @@ use Rattle.zf_type.proofs.Bound.{less_bound}
 use Rattle.zf_type.proofs.binding.unbind.Goals as goal
 
 pub returns-clause-scope : goal.returns-clause-scope
-returns-clause-scope c = λ s vs h e. less_bound c.args.scope.now _ s vs c.args.outside refl refl c.truncate.ensures.items h e
+returns-clause-scope c = λ s vs h e. less_bound c.args.scope.now _ s vs c.args.outside refl refl c.truncate.ensures h e

@@ -1,4 +1,4 @@
-use Rattle.std.proofs.Common.{◌≡◌, ℕ, List, length, Some, None, ◌+◌, [], ◌∷◌, ◌++◌, map, drop, refl, arith, append-nil, Ok, Err, sym, ap, ◌∙◌, subst, inl, inr, true≢false}
+use Rattle.std.proofs.Common.{◌≡◌, ℕ, List, Some, None, ◌+◌, [], ◌∷◌, ◌++◌, map, drop, refl, arith, append-nil, Ok, Err, sym, ap, ◌∙◌, subst, inl, inr, true≢false}
 use Rattle.std.proofs.lemmas.List.{length-map, append_assoc}
 use Rattle.zf_text.specs.declared.tree.Name.{Name}
 use Rattle.zf_text.specs.Trees.{tree_of, trees}
@@ -246,7 +246,7 @@ binders::judge_part-returns-in_ok-judged-in-Some-clause-judged t c =
 
 pub binders::declare-returns-clause-ok : goal.binders::declare-returns-clause-ok
 binders::declare-returns-clause-ok t c =
-    let vs = map variable_of c.in_ok-variables.variables.items in
+    let vs = map variable_of c.in_ok-variables.variables in
     (vs, c.in_ok-variables.ensures.ok, c.in_ok-bind.ensures.ok ∙ ap (λ z. within z vs) c.in_ok-variables.ensures.scope)
 
 pub binders::declare-returns-clause-references : goal.binders::declare-returns-clause-references
@@ -262,9 +262,9 @@ binders::judge_sets-loop-decl-init t c =
     let ds = tree.var_decls (map tree.var_decl_of c.args.decls.now) in
     record {
       same = refl;
-      declares = λ vs h. subst (λ xs. Declare s ds (map variable_of xs ++ vs)) (sym c.new-variables.ensures.items) h;
-      apart = λ h. subst (λ xs. AreNew (map variable_of xs) (declared ds)) c.new-variables.ensures.items h;
-      repeated = λ k m h. subst (λ xs. AreRepeated (map variable_of xs) (declared ds) k m) c.new-variables.ensures.items h;
+      declares = λ vs h. subst (λ xs. Declare s ds (map variable_of xs ++ vs)) (sym c.new-variables.ensures) h;
+      apart = λ h. subst (λ xs. AreNew (map variable_of xs) (declared ds)) c.new-variables.ensures h;
+      repeated = λ k m h. subst (λ xs. AreRepeated (map variable_of xs) (declared ds) k m) c.new-variables.ensures h;
       refers = refl;
       offends = λ k m o. o;
     }
@@ -277,7 +277,7 @@ binders::judge_sets-loop-decl-preserved t c =
     let d = c.decl-item.result in
     let e = tree_of d.set in
     let j = c.in_ok-set.set in
-    let old = map variable_of c.loop-decl.variables.items in
+    let old = map variable_of c.loop-decl.variables in
     let rest = tree.var_decls (map tree.var_decl_of (drop (i + 1) all)) in
     let judged = judged_of s need.Set e j (subst (λ z. Judges z need.Set e (Ok j)) c.loop-decl.invariant.same c.in_ok-set.ensures.judged) in
     let refs = c.loop-decl.scope.references.items in
@@ -306,7 +306,7 @@ binders::judge_sets-returns-clause-ok t c =
     let all = c.args.decls.now in
     let i = c.loop-decl.decl-index in
     let ds = tree.var_decls (map tree.var_decl_of all) in
-    let vs = map variable_of c.loop-decl.variables.items in (
+    let vs = map variable_of c.loop-decl.variables in (
       all_apart (declared ds) (c.loop-decl.invariant.apart (at_end (λ xs. AreNew vs (declared (tree.var_decls (map tree.var_decl_of xs)))) all i (omega arith) tt)),
       subst (λ ws. Declare s ds ws) (append-nil vs) (c.loop-decl.invariant.declares [] (at_end (λ xs. Declare s (tree.var_decls (map tree.var_decl_of xs)) []) all i (omega arith) refl)),
     )
@@ -338,7 +338,7 @@ binders::judge_sets-returns-in_err-declare_names-clause-wrong t c =
     let i = c.loop-decl.decl-index in
     let d = c.decl-item.result in
     let x = c.in_err-declare_names.field-0.0 in
-    let old = map variable_of c.loop-decl.variables.items in
+    let old = map variable_of c.loop-decl.variables in
     let rest = declared (tree.var_decls (map tree.var_decl_of (drop (i + 1) all))) in
     let P : TypeFaultKind → ℕ → Type 0 = λ k m. DeclarationsOffend s (tree.var_decls (map tree.var_decl_of all)) k m in
     let Q : TypeFaultKind → ℕ → Type 0 = λ k m. (ns : List Name) → AreRepeated old (c.as_slice.result.now ++ ns) k m in

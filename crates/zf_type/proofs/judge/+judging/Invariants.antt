@@ -34,9 +34,9 @@ invariant-chains::judge_links-loop-link l = record {
 abbrev pub invariant-binders::judge_sets-loop-decl : goal.invariant-binders::judge_sets-loop-decl
 invariant-binders::judge_sets-loop-decl l = record {
   same : scope_of l.scope ≡ scope_of l.initial.scope;
-  declares : (vs : List Var) → Declare (scope_of l.initial.scope) (var_decls (map var_decl_of (drop l.decl-index l.decls))) vs → Declare (scope_of l.initial.scope) (var_decls (map var_decl_of l.decls)) (map variable_of l.variables.items ++ vs);
-  apart : AreNew (map variable_of l.variables.items) (declared (var_decls (map var_decl_of (drop l.decl-index l.decls)))) → AreNew [] (declared (var_decls (map var_decl_of l.decls)));
-  repeated : (kind : TypeFaultKind) (line : ℕ) → AreRepeated (map variable_of l.variables.items) (declared (var_decls (map var_decl_of (drop l.decl-index l.decls)))) kind line → AreRepeated [] (declared (var_decls (map var_decl_of l.decls))) kind line;
+  declares : (vs : List Var) → Declare (scope_of l.initial.scope) (var_decls (map var_decl_of (drop l.decl-index l.decls))) vs → Declare (scope_of l.initial.scope) (var_decls (map var_decl_of l.decls)) (map variable_of l.variables ++ vs);
+  apart : AreNew (map variable_of l.variables) (declared (var_decls (map var_decl_of (drop l.decl-index l.decls)))) → AreNew [] (declared (var_decls (map var_decl_of l.decls)));
+  repeated : (kind : TypeFaultKind) (line : ℕ) → AreRepeated (map variable_of l.variables) (declared (var_decls (map var_decl_of (drop l.decl-index l.decls)))) kind line → AreRepeated [] (declared (var_decls (map var_decl_of l.decls))) kind line;
   refers : ranges_onto l.scope.references.items (resolved_ranges (scope_of l.initial.scope) (var_decls (map var_decl_of (drop l.decl-index l.decls)))) ≡ ranges_onto l.initial.scope.references.items (resolved_ranges (scope_of l.initial.scope) (var_decls (map var_decl_of l.decls)));
   offends : (kind : TypeFaultKind) (line : ℕ) → SetsOffend (scope_of l.initial.scope) (var_decls (map var_decl_of (drop l.decl-index l.decls))) kind line → SetsOffend (scope_of l.initial.scope) (var_decls (map var_decl_of l.decls)) kind line;
 }

@@ -1,9 +1,9 @@
-use Rattle.std.proofs.Common.{Some, map, sym, ◌∙◌, ap}
+use Rattle.std.proofs.Common.{Some, sym, ◌∙◌, ap}
 use Rattle.zf_term.specs.declared.resolved.Reference.TheVariants.{Component, Local, Global}
 use Rattle.zf_term.specs.Definitions.{comp_of, entry_of}
 use Rattle.zf_term.specs.Types.{type_of}
 use Rattle.zf_type.specs.Rules.{typed}
-use Rattle.zf_type.specs.Scopes.{scope_of, variable_of, last_named}
+use Rattle.zf_type.specs.Scopes.{scope_of, variable_of}
 use Rattle.zf_type.proofs.Named.{means_local, means_component, means_global, means_nothing}
 use Rattle.zf_type.proofs.scope.Scope.meaning_of.Goals as goal
 
@@ -11,24 +11,24 @@ pub returns-in-Some : goal.returns-in-Some
 unfolding scope_of
 returns-in-Some c =
     ap (λ t. Some (Local c.in-Some.place, typed (type_of t))) c.in_ok-share.ensures
-    ∙ sym (means_local (scope_of c.args.self.now) c.args.name.now c.in-Some.place (variable_of c.in-Some.variable.now) (c.in-Some.ensures ∙ ap (λ vs. last_named (λ u. u.name) c.args.name.now (map variable_of vs)) c.as_slice.ensures.value))
+    ∙ sym (means_local (scope_of c.args.self.now) c.args.name.now c.in-Some.place (variable_of c.in-Some.variable.now) (c.in-Some.ensures))
 
 pub returns-in-Some-component_of : goal.returns-in-Some-component_of
 unfolding scope_of
 returns-in-Some-component_of c =
-    let no_local = c.in_default.ensures ∙ ap (λ vs. last_named (λ u. u.name) c.args.name.now (map variable_of vs)) c.as_slice.ensures.value in
+    let no_local = c.in_default.ensures in
     ap (λ t. Some (Component c.in-Some-component_of.place, typed (type_of t))) c.in_ok-share-2.ensures
     ∙ sym (means_component (scope_of c.args.self.now) c.args.name.now c.in-Some-component_of.place (comp_of c.in-Some-component_of.component.now) no_local c.in-Some-component_of.ensures)
 
 pub returns-in_ok-sort-in-Some-global_of : goal.returns-in_ok-sort-in-Some-global_of
 unfolding scope_of
 returns-in_ok-sort-in-Some-global_of c =
-    let no_local = c.in_default.ensures ∙ ap (λ vs. last_named (λ u. u.name) c.args.name.now (map variable_of vs)) c.as_slice.ensures.value in
+    let no_local = c.in_default.ensures in
     ap (λ z. Some (Global c.in-Some-global_of.place, z)) c.in_ok-sort-in-Some-global_of.ensures
     ∙ sym (means_global (scope_of c.args.self.now) c.args.name.now c.in-Some-global_of.place (entry_of c.args.name.now c.in-Some-global_of.entry.now) no_local c.in_default-component_of.ensures c.in-Some-global_of.ensures)
 
 pub returns-in-None : goal.returns-in-None
 unfolding scope_of
 returns-in-None c =
-    let no_local = c.in_default.ensures ∙ ap (λ vs. last_named (λ u. u.name) c.args.name.now (map variable_of vs)) c.as_slice.ensures.value in
+    let no_local = c.in_default.ensures in
     sym (means_nothing (scope_of c.args.self.now) c.args.name.now no_local c.in_default-component_of.ensures c.in-None.ensures)

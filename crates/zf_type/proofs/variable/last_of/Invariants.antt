@@ -1,11 +1,11 @@
 use Rattle.std.proofs.Common.{◌≡◌, ◌≤◌, map, take, length}
 use Rattle.zf_type.specs.Scopes.{variable_of, last_named}
-use Rattle.zf_type.proofs.scope.local_of.Given as goal
+use Rattle.zf_type.proofs.variable.last_of.Given as goal
 
 abbrev pub invariant-loop-place : goal.invariant-loop-place
 invariant-loop-place l = record {
-  within : l.place ≤ length l.locals;
-  behind : last_named (λ v. v.name) l.name (map variable_of l.locals) ≡ last_named (λ v. v.name) l.name (map variable_of (take l.place l.locals));
+  within : l.place ≤ length l.variables;
+  behind : last_named (λ v. v.name) l.name (map variable_of l.variables) ≡ last_named (λ v. v.name) l.name (map variable_of (take l.place l.variables));
 }
 
 abbrev pub decreases-loop-place : goal.decreases-loop-place

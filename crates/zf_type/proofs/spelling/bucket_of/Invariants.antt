@@ -1,0 +1,9 @@
+use Rattle.std.proofs.Common.{◌≡◌, ◌<◌, drop}
+use Rattle.zf_type.specs.Buckets.{bucket_from, bucket}
+use Rattle.zf_type.proofs.spelling.bucket_of.Given as goal
+
+abbrev pub invariant-loop-byte : goal.invariant-loop-byte
+invariant-loop-byte l = record {
+  small : l.bucket < 4096;
+  ahead : bucket_from l.bucket (drop l.byte-index l.name) ≡ bucket l.name;
+}
