@@ -13,6 +13,7 @@ use Rattle.zf_scan.specs.declared.token.Kind.{Kind}
 use Rattle.zf_scan.specs.Cuts.{newlines}
 use Rattle.zf_scan.specs.Pieces.{is_letter, is_one, is_two, is_run, is_base, look_up, symbols, openings, InsideKind, fixed, closing, remark, name, numeral, unknown, SpellsInside, OutsideKind, opening, schema, escape, informal, SpellsOutside}
 use Rattle.zf_scan.specs.Steps.{Found}
+use Rattle.zf_scan.proofs.Alone.{differ}
 use Rattle.zf_scan.proofs.Runs.{and_left, and_right}
 use Rattle.zf_scan.proofs.Scanned.{StandsAt, newlines_append}
 use Rattle.zf_scan.proofs.Table.{hit}
@@ -140,13 +141,6 @@ no_word b u l t f = by (look_up (b ∷ u) symbols) refl
     by None e = e
     by (Some piece) e = absurd (both (may_begin (b ∷ u)) (hit may_begin symbols (b ∷ u) piece all_may e) (rw (l, t, f)))
 
-is_other : (b c : ℕ) → (b ≡ c → ⊥) → (b == c) ≡ false
-is_other b c other = by (b == c) refl
-  where
-    by : (t : Bool) → (b == c) ≡ t → (b == c) ≡ false
-    by true e = absurd (other (eq_is b c e))
-    by false e = e
-
 pub no_fixed_word : (p : List ℕ) → 1 ≤ length p → is_letter (slice_index_or p 0 0) ≡ true → (slice_index_or p 0 0 ≡ 116 → ⊥) → (slice_index_or p 0 0 ≡ 102 → ⊥) → look_up p symbols ≡ None
 no_fixed_word [] some l t f = absurd (omega arith)
-no_fixed_word (b ∷ u) some l t f = no_word b u l (is_other b 116 t) (is_other b 102 f)
+no_fixed_word (b ∷ u) some l t f = no_word b u l (differ b 116 t) (differ b 102 f)

@@ -10,7 +10,7 @@ use crate::token::{
 };
 
 /// The next symbol, without its text.
-#[derive(Clone, Copy, Debug)]
+#[derive(Clone, Copy)]
 pub enum Next {
     /// Nothing is left.
     End,
@@ -52,7 +52,7 @@ pub enum Next {
 }
 
 /// A symbol that a rule asks for by itself.
-#[derive(Clone, Copy, Debug)]
+#[derive(Clone, Copy)]
 pub enum Mark {
     EndBox,
     Separator,

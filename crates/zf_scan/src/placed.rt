@@ -11,7 +11,7 @@ use std::alloc::{AllocError, Global};
 use zf_data::Text;
 
 /// A symbol of a text. Its fields but `amount` are those of its token.
-#[derive(Clone, Copy, Debug)]
+#[derive(Clone, Copy)]
 pub struct Placed {
     pub next: Next,
     pub line: u32,

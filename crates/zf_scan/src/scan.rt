@@ -24,7 +24,7 @@ use zf_data::Items;
 pub const SOURCE_MAX: usize = 1_048_576;
 
 /// A place outside of all boxes, up to which a source is cut.
-#[derive(Clone, Copy, Debug)]
+#[derive(Clone, Copy)]
 pub struct Border {
     pub line: u32,
     pub start: usize,

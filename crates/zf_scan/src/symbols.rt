@@ -1,5 +1,5 @@
 //! The pieces of one spelling, by their first byte.
-#![tactic(auto, unfolding(crate::specs::Pieces::symbols))]
+#![tactic(auto)]
 
 ghost use Rattle.std.specs.Prelude.{◌≡◌, ◌∷◌, if◌then◌else◌, Some, None};
 ghost use Rattle.std.specs.Str.{bytes_eq};
@@ -21,7 +21,11 @@ pub fn fixed(text: &[u8]) -> Option<Sight>
     };
     match *first {
         b'\\' => command(rest),
-        b'\t' | b'\n' | b'\r' | b' ' | b'~' => only(rest, b"", Sight::Plain),
+        b'\t' => only(rest, b"", Sight::Plain),
+        b'\n' => only(rest, b"", Sight::Plain),
+        b'\r' => only(rest, b"", Sight::Plain),
+        b' ' => only(rest, b"", Sight::Plain),
+        b'~' => only(rest, b"", Sight::Plain),
         b';' => only(
             rest,
             b"",
@@ -47,7 +51,8 @@ pub fn fixed(text: &[u8]) -> Option<Sight>
             b"alse",
             Sight::Symbol(Next::Constant(Constant::False)),
         ),
-        b'{' | b'}' => only(rest, b"", Sight::Refused(TextFaultKind::NotInProfile)),
+        b'{' => only(rest, b"", Sight::Refused(TextFaultKind::NotInProfile)),
+        b'}' => only(rest, b"", Sight::Refused(TextFaultKind::NotInProfile)),
         _ => None,
     }
 }
@@ -59,6 +64,7 @@ fn only(rest: &[u8], text: &[u8], sight: Sight) -> Option<Sight>
     if same(rest, text) { Some(sight) } else { None }
 }
 
+#[tactic(auto, unfolding(crate::specs::Pieces::symbols))]
 fn colons(rest: &[u8]) -> Option<Sight>
     ensures { seen (58 ∷ rest.now) result ≡ look_up (58 ∷ rest.now) symbols }
 {
@@ -71,6 +77,7 @@ fn colons(rest: &[u8]) -> Option<Sight>
     }
 }
 
+#[tactic(auto, unfolding(crate::specs::Pieces::symbols))]
 fn equals(rest: &[u8]) -> Option<Sight>
     ensures { seen (61 ∷ rest.now) result ≡ look_up (61 ∷ rest.now) symbols }
 {
@@ -91,7 +98,11 @@ fn command(text: &[u8]) -> Option<Sight>
         return None;
     };
     match *first {
-        b',' | b':' | b';' | b'!' | b' ' => only(rest, b"", Sight::Plain),
+        b',' => only(rest, b"", Sight::Plain),
+        b':' => only(rest, b"", Sight::Plain),
+        b';' => only(rest, b"", Sight::Plain),
+        b'!' => only(rest, b"", Sight::Plain),
+        b' ' => only(rest, b"", Sight::Plain),
         b'\\' => only(
             rest,
             b"",

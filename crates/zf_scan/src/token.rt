@@ -144,7 +144,7 @@ pub enum Quantifier {
 }
 
 /// What a token is.
-#[derive(Debug, Drop)]
+#[derive(Drop)]
 pub enum Kind {
     /// `\begin{zed}`
     BeginZed,
@@ -210,7 +210,7 @@ pub enum Kind {
 }
 
 /// A token, with its place in the source and its line.
-#[derive(Debug, Drop)]
+#[derive(Drop)]
 pub struct Token {
     pub kind: Kind,
     /// The place of its first byte, from 0.

@@ -1,5 +1,5 @@
 -- What an outcome of the rules says of the trees that read the tokens.
-use Rattle.std.proofs.Common.{◌≡◌, ℕ, ◌≤◌, max, List, [], ◌∷◌, Result, Ok, Err, map, inl, inr, sym, ◌∙◌, ap, arith, refl}
+use Rattle.std.proofs.Common.{◌≡◌, ℕ, ◌≤◌, max, List, [], Result, Ok, Err, map, inl, inr, sym, ◌∙◌, ap, arith, refl}
 use Rattle.std.specs.Prelude.{◌⊎◌}
 use Rattle.zf_scan.specs.declared.fault.TextFault.{TextFault}
 use Rattle.zf_scan.specs.declared.fault.TextFaultKind.{TextFaultKind}
@@ -13,7 +13,7 @@ use Rattle.zf_text.specs.Height.{highest, height_limit}
 use Rattle.zf_text.specs.Parsing.{ReadsLow, Refuses, Parses, ReadsSpec, RefusesSource}
 use Rattle.zf_text.specs.Reads.{Reads}
 use Rattle.zf_scan.specs.Separators.{Symbol, reduced}
-use Rattle.zf_text.specs.TermReading.{Outcome, Refused, TooDeep, Fails}
+use Rattle.zf_text.specs.TermReading.{Refused, TooDeep, Fails}
 use Rattle.zf_text.specs.Trees.{BoxTree, box_of}
 use Rattle.zf_text.proofs.BoxesRead.{AreRead, all_sound, all_answers}
 use Rattle.zf_text.proofs.TermSteps.{ok_pair}

@@ -1,5 +1,5 @@
 -- A source that is read box by box: what the boxes so far are, and what one that is refused says of the whole.
-use Rattle.std.proofs.Common.{◌≡◌, ℕ, ◌≤◌, max, List, [], ◌∷◌, ◌++◌, length, map, Result, Ok, Err, Bool, true, false, refl, sym, ap, ◌∙◌, subst, inl, inr, arith, append_assoc}
+use Rattle.std.proofs.Common.{◌≡◌, ℕ, ◌≤◌, List, [], ◌∷◌, ◌++◌, length, map, Result, Ok, Err, Bool, true, false, refl, sym, ap, ◌∙◌, subst, inl, inr, arith, append_assoc}
 use Rattle.std.specs.Prelude.{◌⊎◌, ◌||◌, ◌==◌, if◌then◌else◌}
 use Rattle.std.specs.List.{AllByRecursion}
 use Rattle.std.proofs.lemmas.List.{append-nil, map-append}
@@ -13,7 +13,7 @@ use Rattle.zf_scan.specs.declared.token.Kind.TheVariants as k
 use Rattle.zf_scan.specs.declared.token.Token.{Token}
 use Rattle.zf_scan.specs.Boxes as tokens
 use Rattle.zf_scan.specs.Boxes.{IsCutUpTo, IsCutOn, IsBoxAtMost, BeginsBox, Follows, begins_box, ends_box}
-use Rattle.zf_scan.specs.Cuts.{IsCutInto, IsWantOfMemory}
+use Rattle.zf_scan.specs.Cuts.{IsWantOfMemory}
 use Rattle.zf_scan.specs.Placing.{token_at}
 use Rattle.zf_scan.specs.Separators.{Symbol, canonical, symbol_of, is_separator, opens, closes, starts_closed, reduced, reduced_after}
 use Rattle.zf_scan.proofs.Laws.{cut_whole}
@@ -23,11 +23,11 @@ use Rattle.zf_text.specs.BoxByBox.{ReadsBox, RefusesBox, ReadsOneBox, SpellsUpTo
 use Rattle.zf_text.specs.BoxReading.{read_box, read_only}
 use Rattle.zf_text.specs.Height.{box_height, highest, height_limit}
 use Rattle.zf_text.specs.Levels.{BoxIsLevelled}
-use Rattle.zf_text.specs.Parsing.{ReadsLow, ReadsSource, Refuses, RefusesSource}
+use Rattle.zf_text.specs.Parsing.{ReadsSource, Refuses, RefusesSource}
 use Rattle.zf_text.specs.Reading.{first, is_end}
 use Rattle.zf_text.specs.Reads.{Reads}
 use Rattle.zf_text.specs.Spelling.{SpellsBox, SpellsBoxes}
-use Rattle.zf_text.specs.TermReading.{Refused, TooDeep, Fails, Gives, and_then}
+use Rattle.zf_text.specs.TermReading.{Refused, TooDeep, Fails, Gives}
 use Rattle.zf_text.specs.Trees.{BoxTree, box_of}
 use Rattle.zf_text.proofs.Answers.{refuses_source}
 use Rattle.zf_text.proofs.Apart.{EndsOnce, box_before, box_apart}

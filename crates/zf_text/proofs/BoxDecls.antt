@@ -1,8 +1,8 @@
 -- Schema references, declarations and predicates: what is read is spelled, and what is spelled is read.
-use Rattle.std.proofs.Common.{◌≡◌, ℕ, zero, suc, ◌+◌, ◌≤◌, ◌<◌, max, Bool, true, false, List, [], ◌∷◌, ◌++◌, length, map, Result, Ok, Err, inl, inr, refl, sym, ap, ◌∙◌, subst, arith}
-use Rattle.std.specs.Prelude.{◌⊎◌, ◌||◌, nat_le, if◌then◌else◌}
+use Rattle.std.proofs.Common.{◌≡◌, ℕ, ◌+◌, ◌≤◌, Bool, true, false, List, [], ◌∷◌, length, map, Ok, Err, inl, inr, refl, sym, ap, ◌∙◌, subst, arith}
+use Rattle.std.specs.Prelude.{◌||◌, nat_le, if◌then◌else◌}
 use Rattle.std.specs.List.{AllByRecursion}
-use Rattle.std.proofs.lemmas.Bool.{leb-true, leb-false, le-leb, lt-leb}
+use Rattle.std.proofs.lemmas.Bool.{leb-true, leb-false}
 use Rattle.zf_scan.specs.declared.next.Mark.{Mark}
 use Rattle.zf_scan.specs.declared.next.Mark.TheVariants as mark
 use Rattle.zf_scan.specs.declared.next.Next as code
@@ -24,7 +24,7 @@ use Rattle.zf_scan.specs.Choosing.{next_of, is_mark}
 use Rattle.zf_text.specs.Reading.{first, rest, read_name, parted}
 use Rattle.zf_scan.specs.Separators.{Symbol, symbol, separator}
 use Rattle.zf_text.specs.Spelling.{Next, PartedBy, SpellsName, SpellsNames, Spells, SpellsMarked, SpellsRef, SpellsDecl, SpellsPredicates}
-use Rattle.zf_text.specs.TermReading.{Outcome, Parser, Refused, TooDeep, and_then, lift, expect, read_names, binds, tall, read_term}
+use Rattle.zf_text.specs.TermReading.{Outcome, Refused, TooDeep, lift, expect, read_names, binds, tall, read_term}
 use Rattle.zf_text.specs.Trees.{Tree, DeclTree, vars, include, tree_of, decl_of}
 use Rattle.zf_text.proofs.Marks as marks
 use Rattle.zf_text.proofs.Marks.{kind_of, seen, passed, next_shorter}
@@ -33,7 +33,7 @@ use Rattle.zf_text.proofs.TermAnswers.{Answered, term_answers}
 use Rattle.zf_text.proofs.TermFirsts.{term_shorter}
 use Rattle.zf_text.proofs.TermSound.{term_sound}
 use Rattle.zf_text.proofs.TermSteps.{ok_pair, bind_ok, if_ok, if_cases, expect_ok, name_ok, names_ok, ok_expect, ok_names}
-use Rattle.zf_text.proofs.BoxItems.{IsThere, IsRead, IsTooHigh, Answers, Seen, and_answers, then_answers, if_true, if_false, done, items_sound, items_answers, items_shorter}
+use Rattle.zf_text.proofs.BoxItems.{IsThere, Answers, Seen, and_answers, then_answers, if_true, if_false, done, items_sound, items_answers, items_shorter}
 
 -- ---- terms
 

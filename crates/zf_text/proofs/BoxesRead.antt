@@ -1,34 +1,28 @@
 -- Boxes and whole texts: what is read is spelled, and what is spelled is read.
-use Rattle.std.proofs.Common.{◌≡◌, ℕ, zero, suc, ◌+◌, ◌≤◌, ◌<◌, max, Bool, true, false, List, [], ◌∷◌, ◌++◌, length, map, Result, Ok, Err, refl, sym, ap, ◌∙◌, subst, arith, append_assoc}
-use Rattle.std.specs.Prelude.{if◌then◌else◌}
+use Rattle.std.proofs.Common.{◌≡◌, ℕ, zero, suc, ◌+◌, ◌≤◌, max, true, false, List, [], ◌∷◌, ◌++◌, length, map, Ok, refl, sym, ap, ◌∙◌, subst, arith, append_assoc}
 use Rattle.std.specs.List.{AllByRecursion}
 use Rattle.std.proofs.lemmas.List.{append-nil, map-append}
 use Rattle.zf_scan.specs.declared.next.Mark.TheVariants as mark
-use Rattle.zf_scan.specs.declared.next.Next as code
-use Rattle.zf_text.specs.declared.tall.Tall.{Tall}
 use Rattle.zf_scan.specs.declared.token.Kind.{Kind}
 use Rattle.zf_scan.specs.declared.token.Kind.TheVariants as k
 use Rattle.zf_scan.specs.declared.token.Separator.TheVariants.{Semicolon, NewLine, Also}
-use Rattle.zf_text.specs.declared.tree.Decl.{Decl}
 use Rattle.zf_text.specs.declared.tree.Name.{Name}
-use Rattle.zf_text.specs.declared.tree.Paragraph.{Paragraph}
-use Rattle.zf_text.specs.declared.tree.Term.{Term}
 use Rattle.zf_text.specs.declared.tree.ZBox.{ZBox}
 use Rattle.zf_text.specs.declared.tree.ZBox.TheVariants as zbox
 use Rattle.zf_text.specs.BoxByBox.{SpellsUpTo}
 use Rattle.zf_text.specs.BoxReading.{items, read_decls, predicates, read_paragraph, read_zed, read_schema_box, box_by, read_box, boxes_from, read_boxes, read_all}
 use Rattle.zf_text.specs.Height.{height, most, decl_height, paragraph_height, box_height, highest}
-use Rattle.zf_text.specs.Levels.{quantifier_level, IsLevelled, DeclIsLevelled, ParagraphIsLevelled, BoxIsLevelled}
+use Rattle.zf_text.specs.Levels.{quantifier_level, ParagraphIsLevelled, BoxIsLevelled}
 use Rattle.zf_scan.specs.Choosing.{next_of, is_mark}
 use Rattle.zf_text.specs.Reading.{first, is_end, read_opening}
 use Rattle.zf_scan.specs.Separators.{Symbol, symbol, separator}
-use Rattle.zf_text.specs.Spelling.{Next, Starts, PartedBy, SpellsDecl, SpellsPredicates, SpellsParagraph, SpellsBox, SpellsBoxes}
-use Rattle.zf_text.specs.TermReading.{Outcome, Parser, and_then, lift, expect, binds}
+use Rattle.zf_text.specs.Spelling.{Next, PartedBy, SpellsParagraph, SpellsBox, SpellsBoxes}
+use Rattle.zf_text.specs.TermReading.{Outcome, lift, expect, binds}
 use Rattle.zf_text.specs.Trees.{Tree, DeclTree, ParagraphTree, BoxTree, zed, schema_box, decl_of, tree_of, paragraph_of, box_of}
 use Rattle.zf_text.proofs.Marks.{next_shorter}
 use Rattle.zf_text.proofs.NamesRead.{opening_ok}
 use Rattle.zf_text.proofs.TermSteps.{ok_pair, bind_ok, if_ok, if_cases, expect_ok, ok_expect}
-use Rattle.zf_text.proofs.BoxItems.{IsThere, Answers, Seen, and_answers, then_answers, if_true, if_false, done, most_append, items_sound, items_answers, items_shorter}
+use Rattle.zf_text.proofs.BoxItems.{Answers, Seen, and_answers, then_answers, if_true, if_false, done, most_append, items_sound, items_answers, items_shorter}
 use Rattle.zf_text.proofs.BoxDecls.{Stops, not_at, decls_sound, decls_answers, decls_shorter, predicates_sound, predicates_answers, predicates_shorter}
 use Rattle.zf_text.proofs.SchemaExps.{begins}
 use Rattle.zf_text.proofs.ParagraphsRead.{EndsParagraph, paragraph_sound, paragraph_answers, paragraph_shorter}

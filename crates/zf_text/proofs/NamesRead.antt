@@ -1,5 +1,5 @@
 -- Names: what is read is spelled, and what is spelled is read.
-use Rattle.std.proofs.Common.{◌≡◌, ℕ, zero, suc, ◌+◌, ◌≤◌, false, List, [], ◌∷◌, ◌++◌, length, Option, Some, None, Result, Ok, refl, sym, ap, ◌∙◌, subst, arith, append_assoc}
+use Rattle.std.proofs.Common.{◌≡◌, ℕ, zero, suc, ◌+◌, ◌≤◌, false, List, [], ◌∷◌, ◌++◌, length, Some, None, Ok, refl, sym, ap, ◌∙◌, subst, arith, append_assoc}
 use Rattle.std.proofs.lemmas.List.{append-nil}
 use Rattle.zf_scan.specs.declared.next.Mark.{Mark}
 use Rattle.zf_scan.specs.declared.next.Mark.TheVariants as mark
@@ -11,7 +11,7 @@ use Rattle.zf_scan.specs.Choosing.{is_mark}
 use Rattle.zf_text.specs.Reading.{first, rest, name_by, read_name, opening_by, read_opening, parted, parted_from}
 use Rattle.zf_scan.specs.Separators.{Symbol, symbol}
 use Rattle.zf_text.specs.Spelling.{Next, Starts, PartedBy, SpellsName, SpellsNames}
-use Rattle.zf_text.specs.TermReading.{Outcome, lift}
+use Rattle.zf_text.specs.TermReading.{lift}
 use Rattle.zf_text.proofs.Marks.{kind_of, seen, passed, next_shorter}
 use Rattle.zf_text.proofs.Parted.{some_is, parted_sound}
 

@@ -1,6 +1,5 @@
 -- Paragraphs: what is read is spelled, and what is spelled is read.
-use Rattle.std.proofs.Common.{◌≡◌, ℕ, ◌+◌, ◌≤◌, Bool, true, false, List, [], ◌∷◌, length, Result, Ok, Err, refl, sym, ap, ◌∙◌, subst, arith}
-use Rattle.std.specs.Prelude.{if◌then◌else◌}
+use Rattle.std.proofs.Common.{◌≡◌, ℕ, ◌≤◌, true, false, List, [], ◌∷◌, length, Ok, refl, sym, ap, ◌∙◌, subst, arith}
 use Rattle.zf_scan.specs.declared.next.Mark.TheVariants as mark
 use Rattle.zf_scan.specs.declared.next.Next as code
 use Rattle.zf_text.specs.declared.tall.Tall.{Tall}
@@ -10,14 +9,14 @@ use Rattle.zf_scan.specs.declared.token.Separator.TheVariants.{Semicolon, NewLin
 use Rattle.zf_text.specs.declared.tree.Name.{Name}
 use Rattle.zf_text.specs.declared.tree.Paragraph.{Paragraph}
 use Rattle.zf_text.specs.declared.tree.Paragraph.TheVariants as paragraph
-use Rattle.zf_text.specs.BoxReading.{is_and, is_or, given, free_type, abbreviation, is_bare, definition, named_by, named, read_schema, read_paragraph}
+use Rattle.zf_text.specs.BoxReading.{given, free_type, abbreviation, is_bare, definition, named_by, named, read_schema, read_paragraph}
 use Rattle.zf_text.specs.Height.{height, schema_height, paragraph_height}
 use Rattle.zf_text.specs.Levels.{expression_level, IsAt, SchemaIsLevelled, ParagraphIsLevelled}
 use Rattle.zf_scan.specs.Choosing.{next_of, is_mark}
 use Rattle.zf_text.specs.Reading.{first, rest, read_name, parted}
-use Rattle.zf_scan.specs.Separators.{Symbol, symbol, separator}
+use Rattle.zf_scan.specs.Separators.{Symbol, symbol}
 use Rattle.zf_text.specs.Spelling.{Next, PartedBy, SpellsName, SpellsNames, Spells, SpellsSchema, SpellsParagraph}
-use Rattle.zf_text.specs.TermReading.{Outcome, Parser, and_then, lift, expect, read_names, binds, tall, read_term}
+use Rattle.zf_text.specs.TermReading.{Outcome, lift, expect, read_names, binds, tall, read_term}
 use Rattle.zf_text.specs.Trees.{Tree, SchemaTree, ParagraphTree, tree_of, schema_of, paragraph_of}
 use Rattle.zf_text.specs.Trees as shape
 use Rattle.zf_text.proofs.Marks.{marked, seen, passed, next_shorter}

@@ -1,12 +1,11 @@
 -- Items parted by a symbol: what is read is spelled.
-use Rattle.std.proofs.Common.{◌≡◌, ℕ, zero, suc, ◌+◌, ◌≤◌, Bool, true, false, List, [], ◌∷◌, ◌++◌, length, map, Option, Some, None, refl, sym, ap, ◌∙◌, subst, arith}
-use Rattle.std.specs.List.{AllByRecursion}
+use Rattle.std.proofs.Common.{◌≡◌, ℕ, zero, suc, Bool, true, false, List, [], ◌∷◌, ◌++◌, length, Some, None, refl, subst}
 use Rattle.zf_scan.specs.declared.next.Mark.{Mark}
 use Rattle.zf_scan.specs.Separators.{Symbol}
 use Rattle.zf_text.specs.Spelling.{Next, PartedBy}
 use Rattle.zf_scan.specs.Choosing.{is_mark}
-use Rattle.zf_text.specs.Reading.{Outcome, Parser, and_then, first, rest, parted, parted_from}
-use Rattle.zf_text.proofs.Marks.{kind_of, marked, seen, passed, next_shorter, bound}
+use Rattle.zf_text.specs.Reading.{Outcome, Parser, first, rest, parted, parted_from}
+use Rattle.zf_text.proofs.Marks.{kind_of, marked, bound}
 
 pub some_is : {A : Type 0} (xs ys : A) (ts us : List Symbol) → ◌≡◌ {A = Outcome A} (Some (xs, ts)) (Some (ys, us)) → (xs ≡ ys) × (ts ≡ us)
 some_is xs ys ts us e =

@@ -1,12 +1,11 @@
 -- Reading what holds terms, from left to right, as the parser does. No public clause rests on this file.
-use Rattle.std.specs.Prelude.{◌≡◌, ℕ, zero, suc, ◌+◌, max, nat_le, Bool, true, false, ◌||◌, if◌then◌else◌, List, [], ◌∷◌, ◌++◌, length, Result, Ok, Err}
+use Rattle.std.specs.Prelude.{ℕ, zero, suc, ◌+◌, max, nat_le, Bool, true, false, ◌||◌, if◌then◌else◌, List, [], ◌∷◌, ◌++◌, length, Ok, Err}
 use Rattle.zf_scan.specs.declared.next.Mark.{Mark}
 use Rattle.zf_scan.specs.declared.next.Mark.TheVariants as mark
 use Rattle.zf_scan.specs.declared.next.Next.{Next}
 use Rattle.zf_scan.specs.declared.next.Next.TheVariants as next
 use Rattle.zf_text.specs.declared.tall.Tall.{Tall}
-use Rattle.zf_scan.specs.declared.token.Connective.{Connective}
-use Rattle.zf_scan.specs.declared.token.Connective.TheVariants.{And, Or, Implies, Iff}
+use Rattle.zf_scan.specs.declared.token.Connective.TheVariants.{And, Or}
 use Rattle.zf_text.specs.declared.tree.Name.{Name}
 use Rattle.zf_text.specs.declared.tree.Term.{Term}
 use Rattle.zf_text.specs.declared.tree.RefMark.TheVariants.{Plain, Delta, Xi}
@@ -25,7 +24,7 @@ use Rattle.zf_text.specs.Reading as basic
 use Rattle.zf_scan.specs.Choosing.{is_mark}
 use Rattle.zf_text.specs.Reading.{first, rest, is_end, read_name, read_opening}
 use Rattle.zf_scan.specs.Separators.{Symbol}
-use Rattle.zf_text.specs.TermReading.{Outcome, Parser, Refused, TooDeep, and_then, ◌>>=◌, ◌>>◌, past, pure, refuse, too_deep, lift, expect, read_names, here, tall, read_term}
+use Rattle.zf_text.specs.TermReading.{Parser, Refused, TooDeep, and_then, ◌>>=◌, ◌>>◌, past, pure, refuse, too_deep, lift, expect, read_names, here, tall, read_term}
 
 -- ---- one or more items with their heights, parted by a symbol; the number bounds the turns
 

@@ -1,6 +1,6 @@
 -- The levels of the grammar (the binding powers of ZRM 6), the loosest first, and the trees whose children all stand at their level or a
 -- tighter one.
-use Rattle.std.specs.Prelude.{ℕ, ◌+◌, ◌≤◌, List, [], ◌∷◌, max}
+use Rattle.std.specs.Prelude.{ℕ, ◌+◌, ◌≤◌}
 use Rattle.std.specs.List.{AllByRecursion}
 use Rattle.zf_scan.specs.declared.token.Connective.{Connective}
 use Rattle.zf_scan.specs.declared.token.Connective.TheVariants.{And, Or, Implies, Iff}
