@@ -1,0 +1,313 @@
+//! Trees as texts: the name of a form and then its parts, in round brackets, with a blank before each.
+use std::alloc::Global;
+use std::fmt::Display;
+use std::{fmt, io};
+use zf_data::arena::Boxed;
+use zf_text::tree::{
+    Decl, Link, Name, Paragraph, Part, SchemaExp, SchemaRef, Sign, Spec, Term, VarDecl, ZBox,
+};
+
+/// The text of the boxes; with lines, that of each name and term stands behind it and `@`.
+pub fn printed(alloc: Global, spec: &Spec<'_>, has_lines: bool) -> io::Result<String> {
+    let mut printer = Printer {
+        text: String::new(alloc),
+        has_lines,
+    };
+    for zbox in spec.boxes.as_slice() {
+        printer.zbox(zbox)?;
+    }
+    Ok(printer.text)
+}
+
+/// The text so far.
+#[derive(Drop)]
+struct Printer {
+    text: String,
+    has_lines: bool,
+}
+
+impl Printer {
+    fn open(&mut self, form: &str) -> fmt::Result {
+        Ok(write!(self.text, " ({form}")?)
+    }
+
+    fn close(&mut self) -> fmt::Result {
+        Ok(self.text.push_str(")")?)
+    }
+
+    /// A word that has a line: a name, or a bracket with the name of a form.
+    fn word<W: Display + Drop>(&mut self, word: W, line: u32) -> fmt::Result {
+        write!(self.text, " {word}")?;
+        self.at(line)
+    }
+
+    fn at(&mut self, line: u32) -> fmt::Result {
+        if self.has_lines {
+            write!(self.text, "@{line}")?;
+        }
+        Ok(())
+    }
+
+    fn name(&mut self, name: &Name<'_>) -> fmt::Result {
+        write!(self.text, " {}", text_of(name.base())?)?;
+        if !name.is_bare() {
+            write!(self.text, "^{}", text_of(name.strokes())?)?;
+        }
+        self.at(name.line)
+    }
+
+    fn names(&mut self, names: &[Name<'_>]) -> fmt::Result {
+        for name in names {
+            self.name(name)?;
+        }
+        Ok(())
+    }
+
+    #[cycle(terms)]
+    fn term(&mut self, term: &Term<'_>) -> fmt::Result {
+        match term {
+            Term::Name(line, name) => self.name(&name.at(*line)),
+            Term::Number(line, value) => self.word(*value, *line),
+            Term::Constant(line, constant) => self.word(format_args!("{constant:?}"), *line),
+            Term::EmptySet(line, set) => {
+                self.word("(EmptySet", *line)?;
+                self.last(set.get())
+            }
+            Term::Bracket(line, term) => {
+                self.word("(Bracket", *line)?;
+                self.last(term.get())
+            }
+            Term::Tuple(line, terms) => {
+                self.word("(Tuple", *line)?;
+                self.all(terms.as_slice())
+            }
+            Term::Display(line, terms) => {
+                self.word("(Display", *line)?;
+                self.all(terms.as_slice())
+            }
+            Term::Builder(line, decls, filter, term) => {
+                self.word("(Builder", *line)?;
+                self.bound(decls.as_slice())?;
+                self.optional("|", filter)?;
+                self.optional("@", term)?;
+                self.close()
+            }
+            Term::Prefix(line, Sign::Symbol(prefix), term) => {
+                self.word(format_args!("({prefix:?}"), *line)?;
+                self.last(term.get())
+            }
+            Term::Prefix(line, Sign::Minus, term) => {
+                self.word("(Minus", *line)?;
+                self.last(term.get())
+            }
+            Term::Inverse(line, term) => {
+                self.word("(Inverse", *line)?;
+                self.last(term.get())
+            }
+            Term::Image(line, relation, set) => {
+                self.word("(Image", *line)?;
+                self.term(relation.get())?;
+                self.last(set.get())
+            }
+            Term::Apply(line, function, argument) => {
+                self.word("(Apply", *line)?;
+                self.term(function.get())?;
+                self.last(argument.get())
+            }
+            Term::Infix(line, op, left, right) => {
+                self.word(format_args!("({op:?}"), *line)?;
+                self.term(left.get())?;
+                self.last(right.get())
+            }
+            Term::Arrow(line, arrow, left, right) => {
+                self.word(format_args!("({arrow:?}"), *line)?;
+                self.term(left.get())?;
+                self.last(right.get())
+            }
+            Term::Product(line, terms) => {
+                self.word("(Product", *line)?;
+                self.all(terms.as_slice())
+            }
+            Term::Chain(line, first, links) => {
+                self.word("(Chain", *line)?;
+                self.term(first.get())?;
+                self.links(links.as_slice())?;
+                self.close()
+            }
+            Term::Not(line, term) => {
+                self.word("(Not", *line)?;
+                self.last(term.get())
+            }
+            Term::Connective(line, connective, left, right) => {
+                self.word(format_args!("({connective:?}"), *line)?;
+                self.term(left.get())?;
+                self.last(right.get())
+            }
+            Term::Quantified(quantifier, line, decls, filter, body) => {
+                self.word(format_args!("({quantifier:?}"), *line)?;
+                self.bound(decls.as_slice())?;
+                self.optional("|", filter)?;
+                self.open("@")?;
+                self.last(body.get())?;
+                self.close()
+            }
+        }
+    }
+
+    /// The last part of a form.
+    #[cycle(terms)]
+    fn last(&mut self, term: &Term<'_>) -> fmt::Result {
+        self.term(term)?;
+        self.close()
+    }
+
+    /// All parts of a form.
+    #[cycle(terms)]
+    fn all<'a>(&mut self, terms: &[Boxed<'a, Term<'a>>]) -> fmt::Result {
+        for term in terms {
+            self.term(term.get())?;
+        }
+        self.close()
+    }
+
+    /// A part behind a mark, if it is there.
+    #[cycle(terms)]
+    fn optional(&mut self, mark: &str, part: &Part<'_>) -> fmt::Result {
+        match part.get() {
+            None => Ok(()),
+            Some(term) => {
+                self.open(mark)?;
+                self.last(term.get())
+            }
+        }
+    }
+
+    #[cycle(terms)]
+    fn links(&mut self, links: &[Link<'_>]) -> fmt::Result {
+        for link in links {
+            write!(self.text, " ({:?}", link.relation)?;
+            self.last(link.right.get())?;
+        }
+        Ok(())
+    }
+
+    #[cycle(terms)]
+    fn bound(&mut self, decls: &[VarDecl<'_>]) -> fmt::Result {
+        for decl in decls {
+            self.open(":")?;
+            self.names(decl.names.as_slice())?;
+            self.last(decl.set.get())?;
+        }
+        Ok(())
+    }
+
+    fn predicates<'a>(&mut self, predicates: &[Boxed<'a, Term<'a>>]) -> fmt::Result {
+        for predicate in predicates {
+            self.open("|")?;
+            self.last(predicate.get())?;
+        }
+        Ok(())
+    }
+
+    fn reference(&mut self, reference: &SchemaRef<'_>) -> fmt::Result {
+        write!(self.text, " ({:?}", reference.mark)?;
+        self.name(&reference.name)?;
+        self.close()
+    }
+
+    fn decls(&mut self, decls: &[Decl<'_>]) -> fmt::Result {
+        for decl in decls {
+            match decl {
+                Decl::Vars(names, set) => {
+                    self.open(":")?;
+                    self.names(names.as_slice())?;
+                    self.last(set.get())?;
+                }
+                Decl::Include(reference) => self.reference(reference)?,
+            }
+        }
+        Ok(())
+    }
+
+    fn schema(&mut self, schema: &SchemaExp<'_>) -> fmt::Result {
+        match schema {
+            SchemaExp::Text(decls, predicates) => {
+                self.open("Text")?;
+                self.decls(decls.as_slice())?;
+                self.predicates(predicates.as_slice())?;
+                self.close()
+            }
+            SchemaExp::Ref(reference) => self.reference(reference),
+            SchemaExp::Both(left, right) => {
+                self.open("Both")?;
+                self.schema(left.get())?;
+                self.schema(right.get())?;
+                self.close()
+            }
+            SchemaExp::Or(line, left, right) => {
+                self.word("(Or", *line)?;
+                self.schema(left.get())?;
+                self.schema(right.get())?;
+                self.close()
+            }
+            SchemaExp::Bracket(inner) => {
+                self.open("Bracket")?;
+                self.schema(inner.get())?;
+                self.close()
+            }
+        }
+    }
+
+    fn paragraph(&mut self, paragraph: &Paragraph<'_>) -> fmt::Result {
+        match paragraph {
+            Paragraph::Given(names) => {
+                self.open("Given")?;
+                self.names(names.as_slice())?;
+                self.close()
+            }
+            Paragraph::Free(name, constructors) => {
+                self.open("Free")?;
+                self.name(name)?;
+                self.names(constructors.as_slice())?;
+                self.close()
+            }
+            Paragraph::Abbrev(name, term) => {
+                self.open("Abbrev")?;
+                self.name(name)?;
+                self.last(term.get())
+            }
+            Paragraph::Defs(name, schema) => {
+                self.open("Defs")?;
+                self.name(name)?;
+                self.schema(schema)?;
+                self.close()
+            }
+        }
+    }
+
+    fn zbox(&mut self, zbox: &ZBox<'_>) -> fmt::Result {
+        match zbox {
+            ZBox::Zed(paragraphs) => {
+                self.open("Zed")?;
+                for paragraph in paragraphs.as_slice() {
+                    self.paragraph(paragraph)?;
+                }
+                self.close()
+            }
+            ZBox::SchemaBox(name, decls, predicates) => {
+                self.open("Schema")?;
+                self.name(name)?;
+                self.decls(decls.as_slice())?;
+                self.predicates(predicates.as_slice())?;
+                self.close()
+            }
+        }
+    }
+}
+
+fn text_of(bytes: &[u8]) -> Result<&str, fmt::Error> {
+    match str::from_utf8(bytes) {
+        Ok(text) => Ok(text),
+        Err(_) => Err(fmt::Error),
+    }
+}
