@@ -13,6 +13,7 @@ use Rattle.zf_type.specs.declared.fault.TypeFaultKind.{TypeFaultKind}
 use Rattle.zf_type.specs.declared.fault.TypeFaultKind.TheVariants as kinds
 use Rattle.zf_calculus.specs.Calculus.{comp, comp_named, new_place, place_of, place_or, with_comp, with_comps}
 use Rattle.zf_calculus.specs.Growth.{AreAt, place_found, place_named}
+use Rattle.zf_calculus.specs.Limits.{AreFew}
 use Rattle.zf_calculus.proofs.Merging.{none_shorter, nothing_before}
 
 -- ---- one more component
@@ -129,7 +130,7 @@ all_placed all places ahead first none before =
 
 -- more components than a schema can have
 abbrev pub TooMany : List Comp → TypeFaultKind → Type 0
-TooMany cs k = (k ≡ kinds.TooLarge) × (length cs ≤ 64 → ⊥)
+TooMany cs k = (k ≡ kinds.TooLarge) × (AreFew cs → ⊥)
 
 pub stops_joining : (cs all : List Comp) (c : Component) (ahead rest : List Component) → ahead ≡ c ∷ rest → with_comps cs (map comp_of ahead) ≡ all → (k : TypeFaultKind) → TooMany (with_comp cs (comp_of c)) k → TooMany all k
 stops_joining cs all c ahead rest step whole k h =

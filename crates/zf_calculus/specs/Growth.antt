@@ -30,12 +30,12 @@ use Rattle.zf_type.specs.Offences.{Offends}
 use Rattle.zf_type.specs.Scopes.{Scope, spelling}
 use Rattle.zf_calculus.specs.Expressions.{inside}
 use Rattle.zf_calculus.specs.SchemaOffences.{IsNoSchema, Stops, OffendsAlone, OffendsAfter, ConstrainsTooMuch}
-use Rattle.zf_calculus.specs.Limits.{declared_sets, all_nodes, IsWithin}
+use Rattle.zf_calculus.specs.Limits.{AreFew, declared_sets, all_nodes, sets_max, nodes_max, IsWithin}
 
 -- a schema within the limits, with what is left of two of them
 pub record HasLeft (a : Schema) (sets_left nodes_left : ℕ) : Type 0 where
-  pub sets : sets_left + declared_sets a ≡ 4096
-  pub nodes : nodes_left + all_nodes a ≡ 65536
+  pub sets : sets_left + declared_sets a ≡ sets_max
+  pub nodes : nodes_left + all_nodes a ≡ nodes_max
   pub within : IsWithin a
 
 abbrev pub IsGrowing : Growing → Type 0
@@ -43,7 +43,7 @@ IsGrowing g = HasLeft (schema_of g.flat) g.sets_left g.nodes_left
 
 -- what is left of two of them beside another schema, once its components are joined
 abbrev pub HasLeftBeside : Schema → Schema → ℕ × ℕ → Type 0
-HasLeftBeside a b left = length (with_comps a.comps b.comps) ≤ 64 → HasLeft (calculus.conjoined a b) left.0 left.1
+HasLeftBeside a b left = AreFew (with_comps a.comps b.comps) → HasLeft (calculus.conjoined a b) left.0 left.1
 
 -- the place of the first component that has the name
 abbrev pub place_found : Option (ℕ × Comp) → Option ℕ

@@ -1,10 +1,25 @@
 -- The limits of a schema.
-use Rattle.std.specs.Prelude.{ℕ, ◌+◌, ◌≤◌, length}
+use Rattle.std.specs.Prelude.{ℕ, ◌+◌, ◌≤◌, List, length}
 use Rattle.std.specs.List.{AllByRecursion, sum_by}
-use Rattle.zf_term.specs.Definitions.{Schema}
+use Rattle.zf_term.specs.Definitions.{Comp, Schema}
 use Rattle.zf_term.specs.ResolvedTrees.{ResolvedTree}
 use Rattle.zf_term.specs.SetShapes.{set_count, set_nodes}
 use Rattle.zf_term.specs.Shapes.{nodes, height}
+
+abbrev pub components_max : ℕ
+components_max = 64
+
+abbrev pub sets_max : ℕ
+sets_max = 4096
+
+abbrev pub conjuncts_max : ℕ
+conjuncts_max = 4096
+
+abbrev pub nodes_max : ℕ
+nodes_max = 65536
+
+abbrev pub height_max : ℕ
+height_max = 256
 
 -- how many declared sets there are; a set that is declared for two components counts twice
 abbrev pub declared_sets : Schema → ℕ
@@ -15,11 +30,14 @@ abbrev pub all_nodes : Schema → ℕ
 all_nodes a = sum_by (λ c. sum_by set_nodes c.sets) a.comps + sum_by nodes a.conjuncts
 
 abbrev pub IsLow : ResolvedTree → Type 0
-IsLow t = height t ≤ 256
+IsLow t = height t ≤ height_max
+
+abbrev pub AreFew : List Comp → Type 0
+AreFew cs = length cs ≤ components_max
 
 pub record IsWithin (a : Schema) : Type 0 where
-  pub comps : length a.comps ≤ 64
-  pub sets : declared_sets a ≤ 4096
-  pub conjuncts : length a.conjuncts ≤ 4096
-  pub nodes : all_nodes a ≤ 65536
+  pub comps : AreFew a.comps
+  pub sets : declared_sets a ≤ sets_max
+  pub conjuncts : length a.conjuncts ≤ conjuncts_max
+  pub nodes : all_nodes a ≤ nodes_max
   pub low : AllByRecursion IsLow a.conjuncts

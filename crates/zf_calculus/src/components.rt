@@ -7,6 +7,7 @@ ghost use Rattle.zf_type.specs.declared.fault.TypeFaultKind.TheVariants as kinds
 ghost use Rattle.zf_calculus.specs.Calculus as spec;
 ghost use Rattle.zf_calculus.specs.Calculus.{Agrees, Agree, comp_named, new_place, with_comp, with_comps, AreOnce};
 ghost use Rattle.zf_calculus.specs.Growth.{AreAt, IfStopped, enriched, place_named};
+ghost use Rattle.zf_calculus.specs.Limits.{AreFew, components_max};
 
 use crate::limits::COMPONENTS_MAX;
 use crate::stop::Stop;
@@ -42,7 +43,7 @@ pub fn agrees<'a>(components: &[Component<'a>], component: &Component<'a>) -> bo
 
 /// Whether each component has a name of its own.
 pub fn are_apart(components: &[Component<'_>]) -> bool
-    ensures { IsTrue result → AreOnce (map comp_of components.now) }
+    ensures { IsTrue result ↔ AreOnce (map comp_of components.now) }
 {
     for place in 0..components.len() {
         let name = components[place].name.as_slice();
@@ -59,11 +60,11 @@ pub fn join_all<'a>(
     arena: &'a Bump,
     further: Items<'a, Component<'a>>,
 ) -> Result<Items<'a, usize>, Stop>
-    requires { length (map comp_of components.old) ≤ 64 }
+    requires { AreFew (map comp_of components.old) }
     ensures ok { OnOk result (map comp_of components.new ≡ with_comps (map comp_of components.old) (map comp_of further.entry)) }
     ensures places { IfOk result (λ places. AreAt (map comp_of components.new) places (map comp_of further.entry)) }
-    ensures room { OnOk result (length (with_comps (map comp_of components.old) (map comp_of further.entry)) ≤ 64) }
-    ensures err { IfErr result (λ e. IfStopped e (λ kind. (kind ≡ kinds.TooLarge) × (length (with_comps (map comp_of components.old) (map comp_of further.entry)) ≤ 64 → ⊥))) }
+    ensures room { OnOk result (AreFew (with_comps (map comp_of components.old) (map comp_of further.entry))) }
+    ensures err { IfErr result (λ e. IfStopped e (λ kind. (kind ≡ kinds.TooLarge) × (AreFew (with_comps (map comp_of components.old) (map comp_of further.entry)) → ⊥))) }
 {
     let mut places = Items::with_room(arena, further.len())?;
     for component in further.into_vec() {
@@ -77,11 +78,11 @@ pub fn join<'a>(
     components: &mut Items<'a, Component<'a>>,
     component: Component<'a>,
 ) -> Result<usize, Stop>
-    requires { length (map comp_of components.old) ≤ 64 }
+    requires { AreFew (map comp_of components.old) }
     ensures ok { OnOk result (map comp_of components.new ≡ with_comp (map comp_of components.old) (comp_of component.entry)) }
     ensures place { IfOk result (λ place. place_named component.entry.name (with_comp (map comp_of components.old) (comp_of component.entry)) ≡ Some place) }
-    ensures room { OnOk result (length (with_comp (map comp_of components.old) (comp_of component.entry)) ≤ 64) }
-    ensures err { IfErr result (λ e. IfStopped e (λ kind. (kind ≡ kinds.TooLarge) × (length (with_comp (map comp_of components.old) (comp_of component.entry)) ≤ 64 → ⊥))) }
+    ensures room { OnOk result (AreFew (with_comp (map comp_of components.old) (comp_of component.entry))) }
+    ensures err { IfErr result (λ e. IfStopped e (λ kind. (kind ≡ kinds.TooLarge) × (AreFew (with_comp (map comp_of components.old) (comp_of component.entry)) → ⊥))) }
 {
     match place_of(components.as_slice(), component.name.as_slice()) {
         Some(place) => {
@@ -102,8 +103,8 @@ fn add_new<'a>(
     component: Component<'a>,
 ) -> Result<(), Stop>
     ensures ok { OnOk result (components.new ≡ components.old ++ component.entry ∷ []) }
-    ensures room { OnOk result (length components.old < 64) }
-    ensures err { IfErr result (λ e. IfStopped e (λ kind. (kind ≡ kinds.TooLarge) × (64 ≤ length components.old))) }
+    ensures room { OnOk result (length components.old < components_max) }
+    ensures err { IfErr result (λ e. IfStopped e (λ kind. (kind ≡ kinds.TooLarge) × (components_max ≤ length components.old))) }
 {
     if components.len() >= COMPONENTS_MAX {
         return Err(Stop::TooLarge);

@@ -10,6 +10,7 @@ ghost use Rattle.zf_calculus.specs.Calculus as spec;
 ghost use Rattle.zf_calculus.specs.Calculus.{Agree, comp_named, disjoined, with_comps};
 ghost use Rattle.zf_calculus.specs.Expressions.{IsNext};
 ghost use Rattle.zf_calculus.specs.Growth.{IfStopped, IsGrowing, all_joined, both_hold, disjoined_over, either_comp, is_member, one_holds};
+ghost use Rattle.zf_calculus.specs.Limits.{AreFew};
 ghost use Rattle.zf_calculus.specs.SchemaOffences.{Stops};
 
 use crate::components::{agree, component_copies, join_all, new_places};
@@ -35,7 +36,7 @@ fn all_components<'a>(
     right: &[Component<'a>],
 ) -> Result<Items<'a, Component<'a>>, Stop>
     ensures ok { IfOk result (λ cs. map comp_of cs ≡ with_comps (map comp_of left.now) (map comp_of right.now)) }
-    ensures err { IfErr result (λ e. IfStopped e (λ k. (k ≡ kinds.TooLarge) × (length (with_comps (map comp_of left.now) (map comp_of right.now)) ≤ 64 → ⊥))) }
+    ensures err { IfErr result (λ e. IfStopped e (λ k. (k ≡ kinds.TooLarge) × (AreFew (with_comps (map comp_of left.now) (map comp_of right.now)) → ⊥))) }
 {
     if left.len() > COMPONENTS_MAX {
         return Err(Stop::TooLarge);

@@ -19,7 +19,11 @@ pub struct Slate<'a> {
 }
 
 impl<'a> Slate<'a> {
-    pub fn new(alloc: Global, arena: &'a Bump) -> Slate<'a> {
+    pub fn new(alloc: Global, arena: &'a Bump) -> Slate<'a>
+        ensures references { result.references.items ≡ [] }
+        ensures locals { result.locals ≡ [] }
+        ensures conjuncts { result.conjuncts ≡ [] }
+    {
         Slate {
             references: Vec::new(alloc),
             locals: Locals::new(alloc),
@@ -28,7 +32,9 @@ impl<'a> Slate<'a> {
     }
 
     /// The list of references, with what was in it.
-    pub fn take_references(&mut self) -> Vec<Reference> {
+    pub fn take_references(&mut self) -> Vec<Reference>
+        ensures { result.items ≡ self.old.references.items }
+    {
         let none = Vec::new(*self.references.allocator());
         mem::replace(&mut self.references, none)
     }
@@ -45,7 +51,9 @@ impl<'a> Slate<'a> {
 
     /// Takes the lists of a scope back.
     pub fn take_back(&mut self, scope: Scope<'a, '_>)
-        ensures { self.new.conjuncts ≡ self.old.conjuncts }
+        ensures references { self.new.references ≡ scope.entry.references }
+        ensures locals { self.new.locals ≡ scope.entry.locals }
+        ensures conjuncts { self.new.conjuncts ≡ self.old.conjuncts }
     {
         let mut scope = scope;
         mem::swap(&mut self.references, &mut scope.references);

@@ -1,7 +1,8 @@
-use Rattle.std.proofs.Common.{◌≡◌, ◌≤◌, length, map}
+use Rattle.std.proofs.Common.{◌≡◌, map}
 use Rattle.std.specs.Vec.Iter.{into_iter_items}
 use Rattle.zf_term.specs.Definitions.{comp_of}
 use Rattle.zf_calculus.specs.Calculus.{with_comps}
+use Rattle.zf_calculus.specs.Limits.{AreFew}
 use Rattle.zf_calculus.proofs.Placing.{ArePlaced}
 use Rattle.zf_calculus.proofs.components.join_all.Given as goal
 
@@ -10,7 +11,7 @@ invariant-loop-component l =
     let first = into_iter_items l.initial.component-iterator in
     let all = with_comps (map comp_of l.initial.components) (map comp_of first) in
     record {
-      room : length (map comp_of l.components) ≤ 64;
+      room : AreFew (map comp_of l.components);
       whole : with_comps (map comp_of l.components) (map comp_of (into_iter_items l.component-iterator)) ≡ all;
       places : ArePlaced all l.places (into_iter_items l.component-iterator) first;
     }

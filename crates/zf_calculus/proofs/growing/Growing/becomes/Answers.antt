@@ -7,5 +7,5 @@ use Rattle.zf_calculus.proofs.growing.Growing.becomes.Goals as goal
 
 pub returns : goal.returns
 returns c apart =
-    let once = subst (λ (cs : List Component). AreOnce (map comp_of cs)) c.as_slice.ensures (c.are_apart.ensures apart) in
+    let once = subst (λ (cs : List Component). AreOnce (map comp_of cs)) c.as_slice.ensures (c.are_apart.ensures.0 apart) in
     taken_whole (schema_of c.args.self.now.flat) (schema_of c.args.other.now.flat) (c.if-not-is_nothing.ensures.0 refl) once
