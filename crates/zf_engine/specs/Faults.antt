@@ -1,6 +1,8 @@
--- What a run's reading and writing leave, by how it ended.
+-- The statuses of a process, and what a run's reading and writing leave, by how it ended.
 use Rattle.std.specs.Prelude.{◌≡◌, ◌≤◌, ℕ, ◌+◌, ◌⊎◌, List, ◌++◌, length, Option, Result, Err}
 use Rattle.std.specs.Io.KnownBytes.{Appends, Consumes, IsAtEnd}
+use Rattle.zf_command.specs.declared.job.UsageFault.{UsageFault}
+use Rattle.zf_command.specs.declared.job.UsageFault.TheVariants.{BadWords, OutOfMemory}
 use Rattle.zf_scan.specs.declared.scan.TheConstants.{SOURCE_MAX}
 use Rattle.zf_engine.specs.declared.fault.RunFault.{RunFault}
 use Rattle.zf_engine.specs.declared.fault.RunFault.TheVariants.{ReadFailed, WriteFailed}
@@ -13,6 +15,15 @@ number Done = 0
 number BadSpec = 1
 number BadRequest = 2
 number PastBounds = 3
+
+-- and where its words are refused
+abbrev pub refused_number : UsageFault → ℕ
+refused_number BadWords = 2
+refused_number OutOfMemory = 4
+
+-- the greatest: a file can't be opened, or a read or a write failed
+abbrev pub number_max : ℕ
+number_max = 5
 
 -- the reader gave these bytes, and is at its end or gave one byte more than a source may have
 abbrev pub Gave : Option (List ℕ) → Option (List ℕ) → List ℕ → Type 0

@@ -1,5 +1,6 @@
 //! All that the program does: words in, a status out.
-ghost use Rattle.std.specs.Prelude.{◌≡◌};
+ghost use Rattle.std.specs.Prelude.{◌≡◌, ◌≤◌};
+ghost use Rattle.zf_engine.specs.Faults.{number_max, refused_number};
 
 use crate::counted::Counted;
 use crate::fault::RunFault;
@@ -13,10 +14,9 @@ use zf_command::asked::job_of;
 use zf_command::job::{Asked, Job, UsageFault};
 
 /// Does what the words after the program's own name ask for. The answer is the status.
-pub fn program<R: Files + Input + Print + Eprint + AllocGlobal, S: AsStr>(
-    rt: &R,
-    words: &[S],
-) -> u8 {
+pub fn program<R: Files + Input + Print + Eprint + AllocGlobal, S: AsStr>(rt: &R, words: &[S]) -> u8
+    ensures { result ≤ number_max }
+{
     match job_of(rt.alloc(), words) {
         Ok(Asked::Work(file, job)) => work(rt, file.as_str(), &job),
         Ok(Asked::Help(text)) => help(rt, text.as_str()),
@@ -25,7 +25,9 @@ pub fn program<R: Files + Input + Print + Eprint + AllocGlobal, S: AsStr>(
 }
 
 /// Says why words are refused. The answer is the status.
-pub fn refuse<R: Eprint>(rt: &R, fault: UsageFault) -> u8 {
+pub fn refuse<R: Eprint>(rt: &R, fault: UsageFault) -> u8
+    ensures { result ≡ refused_number fault }
+{
     match fault {
         UsageFault::BadWords => complain(rt, "zf: bad arguments", 2),
         UsageFault::OutOfMemory => complain(rt, "zf: out of memory", 4),
@@ -33,7 +35,9 @@ pub fn refuse<R: Eprint>(rt: &R, fault: UsageFault) -> u8 {
 }
 
 /// Writes the text of help.
-fn help<R: Print + Eprint>(rt: &R, text: &str) -> u8 {
+fn help<R: Print + Eprint>(rt: &R, text: &str) -> u8
+    ensures { result ≤ number_max }
+{
     match rt.print(text) {
         Ok(()) => 0,
         Err(_) => complain(rt, "zf: write failed", 5),
@@ -41,7 +45,9 @@ fn help<R: Print + Eprint>(rt: &R, text: &str) -> u8 {
 }
 
 /// Does the job on the file, which is standard input where it is `-`.
-fn work<R: Files + Input + Print + Eprint + AllocGlobal>(rt: &R, file: &str, job: &Job) -> u8 {
+fn work<R: Files + Input + Print + Eprint + AllocGlobal>(rt: &R, file: &str, job: &Job) -> u8
+    ensures { result ≤ number_max }
+{
     if file == "-" {
         return work_over(rt, file, job, rt.reader());
     }
@@ -60,7 +66,9 @@ fn work_over<R: Print + Eprint + AllocGlobal, D: Read + Drop>(
     file: &str,
     job: &Job,
     device: D,
-) -> u8 {
+) -> u8
+    ensures { result ≤ number_max }
+{
     let mut reader = Counted::new(device);
     let mut writer = Counted::new(io::writer(rt));
     match run(rt.alloc(), job, file, &mut reader, &mut writer) {
