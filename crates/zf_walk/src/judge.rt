@@ -1,0 +1,40 @@
+//! What is asked of rows.
+ghost use Rattle.std.specs.Prelude.{◌≡◌, ◌<◌, ◌≤◌, ℕ, List, length, IfOk};
+ghost use Rattle.zf_walk.specs.declared.judge.Truth.{Truth};
+ghost use Rattle.zf_walk.specs.Conjuncts.{Conjuncts, HaveOneTruth, KeepTruths};
+
+use crate::row::Row;
+use std::alloc::AllocError;
+
+/// What a conjunct comes to on a row.
+#[derive(Clone, Copy, Debug, PartialEq, Eq)]
+pub enum Truth {
+    True,
+    False,
+    /// It can't be told.
+    Out,
+}
+
+/// The conjuncts that rows are to meet, by their places.
+pub trait Judge<V> {
+    ghost conjuncts: { Self → Conjuncts V };
+
+    /// How many conjuncts there are.
+    fn count(&self) -> usize
+        ensures { result ≡ (conjuncts self.now).number };
+
+    /// How many first components a conjunct needs.
+    fn due(&self, conjunct: usize) -> usize
+        requires { conjunct < (conjuncts self.now).number }
+        ensures { result ≡ (conjuncts self.now).due conjunct };
+
+    /// The truth of a conjunct on a row that has what it needs.
+    fn judge<R: Row<V>>(&self, conjunct: usize, row: &R) -> Result<Truth, AllocError>
+        requires conjunct { conjunct < (conjuncts self.now).number }
+        requires due { (conjuncts self.now).due conjunct ≤ length (R.values row.now) }
+        ensures { IfOk result ((conjuncts self.now).says conjunct (R.values row.now)) };
+
+    ghost one_truth: { (j : Self) → HaveOneTruth (conjuncts j) };
+
+    ghost kept: { (j : Self) → KeepTruths (conjuncts j) };
+}
