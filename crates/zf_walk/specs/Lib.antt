@@ -5,3 +5,6 @@ pub mod Events
 pub mod Tests
 pub mod Progress
 pub mod Laws
+pub mod Places
+pub mod Steps
+pub mod Walks

@@ -1,13 +1,20 @@
 //! The walk over the rows of some ranges that conjuncts don't refuse, in ascending order, with the exact number of its tests.
 #![tactic(auto)]
 
+mod agenda;
 mod judge;
+mod moves;
 mod picked;
+mod place;
 mod range;
+mod reach;
 mod row;
 mod step;
+mod steps;
+mod walk;
 
 pub use judge::{Judge, Truth};
 pub use range::Range;
 pub use row::Row;
 pub use step::Step;
+pub use walk::Walk;

@@ -1,0 +1,123 @@
+//! Walks.
+ghost use Rattle.std.specs.Prelude.{◌≡◌, ◌<◌, ◌≤◌, ℕ, length, IfOk, OnOk, OnErr, IsSomeAnd, IfSome, slice_get};
+ghost use Rattle.std.specs.Option.{option_copied};
+ghost use Rattle.zf_walk.specs.Rows.{TiesAreEqual, AreAscending, HasLength};
+ghost use Rattle.zf_walk.specs.Events.{Event, IsEvent};
+ghost use Rattle.zf_walk.specs.Tests.{IsNumberOfTests, IsBound};
+ghost use Rattle.zf_walk.specs.Progress.{AreDueWithin, beginning, ended, IsAhead, SameProblem, SameAhead, Advances, AreTests};
+
+use crate::agenda::Agenda;
+use crate::judge::Judge;
+use crate::picked::pick;
+use crate::place::Place;
+use crate::range::Range;
+use crate::reach::admit;
+use crate::step::Step;
+use crate::steps::next_answer;
+use std::alloc::{AllocError, Global};
+use std::marker::Model;
+
+/// A walk over the rows of some ranges, in ascending order.
+#[derive(Drop)]
+pub struct Walk<'a, V: Ord, J: Judge<V>> {
+    judge: &'a J,
+    ranges: &'a [Range<V>],
+    after: Option<&'a [V]>,
+    agenda: Agenda,
+    place: Place,
+    /// Whether the place is that of a row that the last step gave.
+    given: bool,
+}
+
+impl<'a, V: Ord, J: Judge<V>> Model for Walk<'a, V, J> {
+    ghost use Rattle.std.specs.Option.{option_copied};
+    ghost use Rattle.zf_walk.specs.Progress.{Progress};
+    ghost use Rattle.zf_walk.specs.Walks.{view_of, IsStanding};
+
+    ghost Value = { Progress V J };
+
+    ghost view = { λ w. view_of w.judge.now w.ranges.now (option_copied w.after) w.place w.given };
+
+    ghost invariant = { λ w. IsStanding V.cmp (J.conjuncts w.judge.now) w.ranges.now (option_copied w.after) w.agenda w.place w.given };
+}
+
+impl<'a, V: Ord, J: Judge<V>> Walk<'a, V, J> {
+    /// Stands before the first event. The named row need not lie in the ranges.
+    pub fn start(
+        alloc: Global,
+        judge: &'a J,
+        ranges: &'a [Range<V>],
+        after: Option<&'a [V]>,
+    ) -> Result<Walk<'a, V, J>, AllocError>
+        requires ascending { AreAscending V.cmp ranges.now }
+        requires ties { TiesAreEqual V.cmp }
+        requires named { HasLength (option_copied after) (length ranges.now) }
+        requires due { AreDueWithin (J.conjuncts judge.now) (length ranges.now) }
+        ensures problem { IfOk result (λ w. (w.judge ≡ judge.now) × (w.ranges ≡ ranges.now) × (w.after ≡ option_copied after.entry)) }
+        ensures events { IfOk result (λ w. SameAhead V.cmp (J.conjuncts judge.now) ranges.now (option_copied after.entry) beginning w.ahead) }
+        ensures first { IfOk result (λ w. (w.last ≡ None) × (w.tests ≡ 0)) }
+    {
+        let agenda = Agenda::new(alloc, judge, ranges.len())?;
+        let places = vec![in alloc; 0; ranges.len()]?;
+        let outs = vec![in alloc; false; ranges.len() + 1]?;
+        let mut place = Place {
+            places,
+            outs,
+            depth: 0,
+            conjunct: 0,
+            fresh: true,
+            tests: 0,
+        };
+        admit(judge, ranges, after, &agenda, &mut place);
+        Ok(Walk {
+            judge,
+            ranges,
+            after,
+            agenda,
+            place,
+            given: false,
+        })
+    }
+
+    /// Goes on to the next row that is not False.
+    pub fn advance(&mut self) -> Result<Step, AllocError>
+        ensures problem { SameProblem self.old self.new }
+        ensures answer { IfOk result (λ step. Advances V.cmp (J.conjuncts self.old.judge) step self.old self.new) }
+        ensures tests { OnOk result (AreTests V.cmp (J.conjuncts self.old.judge) self.new self.new.last) }
+        ensures refused { OnErr result (SameAhead V.cmp (J.conjuncts self.old.judge) self.old.ranges self.old.after self.old.ahead self.new.ahead × (self.new.last ≡ None)) }
+        ensures no_test_lost { self.old.tests ≤ self.new.tests }
+        ensures ended { self.old.ahead ≡ ended → result ≡ Ok Step.End }
+    {
+        self.given = false;
+        match next_answer(self.judge, self.ranges, self.after, &self.agenda, &mut self.place)? {
+            Step::Holds => {
+                self.given = true;
+                Ok(Step::Holds)
+            }
+            Step::Breaks => {
+                self.given = true;
+                Ok(Step::Breaks)
+            }
+            Step::End => Ok(Step::End),
+        }
+    }
+
+    /// How many tests were finished.
+    pub fn tests(&self) -> u64
+        ensures count { result ≡ self.now.tests }
+        ensures before_events { (e : Event V) (number : ℕ) → IsEvent V.cmp (J.conjuncts self.now.judge) self.now.ranges self.now.after e → IsAhead V.cmp self.now.ahead e.row
+            → IsNumberOfTests V.cmp (J.conjuncts self.now.judge) self.now.ranges self.now.after (Some e.row) number → result ≤ number }
+        ensures before_end { (number : ℕ) → IsNumberOfTests V.cmp (J.conjuncts self.now.judge) self.now.ranges self.now.after None number → result ≤ number }
+        ensures within_bound { (bound : ℕ) → IsBound (J.conjuncts self.now.judge) self.now.ranges bound → result ≤ bound }
+    {
+        self.place.tests
+    }
+
+    /// A value of the row that the last step gave.
+    pub fn value(&self, i: usize) -> &'a V
+        requires { IsSomeAnd self.now.last (λ row. i < length row) }
+        ensures { IfSome self.now.last (λ row. slice_get row i ≡ Some result.now) }
+    {
+        pick(self.ranges, &self.place.places[..self.place.depth], i)
+    }
+}
