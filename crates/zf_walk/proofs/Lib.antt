@@ -1,0 +1,5 @@
+pub mod Lists
+pub mod Order
+pub mod Picks
+pub mod Reaching
+pub mod Moving

@@ -1,0 +1,211 @@
+-- The order of rows, value by value, over any totally ordered values.
+use Rattle.std.proofs.Common.{◌≡◌, ℕ, zero, suc, ◌+◌, ◌<◌, ◌≤◌, Bool, true, false, ◌⊎◌, List, [], ◌∷◌, ◌++◌, length, get_or, take, drop, refl, sym, ap, ◌∙◌, subst, arith, inl, inr}
+use Rattle.std.specs.Prelude.{Contains, AllPairs}
+use Rattle.std.specs.declared.cmp.Ordering.{Ordering}
+use Rattle.std.specs.declared.cmp.Ordering.TheVariants.{Less, Equal, Greater}
+use Rattle.std.specs.Cmp.{IsTotalOrder}
+use Rattle.std.specs.Cmp.Lexicographic.{slice_cmp}
+use Rattle.std.specs.Ordering.{ordering_reverse, ordering_then}
+use Rattle.std.proofs.lemmas.Bool.{false≢true, cases_order}
+use Rattle.std.proofs.lemmas.Cmp.{tied_itself, alike_right}
+use Rattle.std.proofs.lemmas.List.{get_or_default}
+use Rattle.zf_walk.specs.Rows.{TiesAreEqual, IsRowOf, IsFrontOf}
+use Rattle.zf_walk.specs.Places.{first_of, reaches, under, is_due}
+
+-- x stands at place i
+pub record IsNth {V : Type 0} (range : List V) (i : ℕ) (x : V) : Type 0 where
+  pub within : i < length range
+  pub is : get_or range i x ≡ x
+
+pub nth : {V : Type 0} (range : List V) (x : V) → Contains range x → (k : ℕ) × IsNth range k x
+nth range x (k, h, e) = (k, record { within = h; is = e })
+
+-- at any total order
+module _ {V : Type 0} (cmp : V → V → Ordering) (o : IsTotalOrder cmp) where
+  abbrev pub IsRange : List V → Type 0
+  IsRange range = AllPairs (λ v w. cmp v w ≡ Less) range
+
+  pub greater-from : (x y : V) → cmp x y ≡ Less → cmp y x ≡ Greater
+  greater-from x y e = o.antisymm y x ∙ ap ordering_reverse e
+
+  pub less-at : (range : List V) (i k : ℕ) (x v : V) → IsRange range → IsNth range i x → IsNth range k v → i < k → cmp x v ≡ Less
+  less-at range i k x v r n m l =
+      let p : cmp (get_or range i x) (get_or range k x) ≡ Less = r i k x l m.within in
+      let e : get_or range i x ≡ x = n.is in
+      let f : get_or range k x ≡ v = get_or_default range k x v m.within ∙ m.is in cc
+
+  pub tied-at : (range : List V) (i k : ℕ) (x v : V) → IsNth range i x → IsNth range k v → i ≡ k → cmp x v ≡ Equal
+  tied-at range i k x v n m l =
+      let e : get_or range i x ≡ x = n.is in
+      let f : get_or range k v ≡ v = m.is in
+      let g : get_or range i x ≡ get_or range i v = get_or_default range i x v n.within in
+      let same : x ≡ v = cc in
+      let t : cmp v v ≡ Equal = tied_itself o v in cc
+
+  pub greater-at : (range : List V) (i k : ℕ) (x v : V) → IsRange range → IsNth range i x → IsNth range k v → k < i → cmp x v ≡ Greater
+  greater-at range i k x v r n m l = greater-from v x (less-at range k i v x r m n l)
+
+  -- rows and tests under a path
+
+  pub reaches-push : (here : Bool) (path : List V) (x : V) (row : List V) → reaches cmp here (path ++ x ∷ []) row ≡ under cmp path (reaches cmp here (x ∷ [])) row
+  reaches-push here [] x row = refl
+  reaches-push here (y ∷ path) x [] = refl
+  reaches-push here (y ∷ path) x (v ∷ row) = ap (first_of (cmp y v)) (reaches-push here path x row)
+
+  pub reaches-under : (here : Bool) (path : List V) (row : List V) → reaches cmp here path row ≡ under cmp path (λ _. here) row
+  reaches-under here [] row = refl
+  reaches-under here (y ∷ path) [] = refl
+  reaches-under here (y ∷ path) (v ∷ row) = ap (first_of (cmp y v)) (reaches-under here path row)
+
+  pub under-push : (path : List V) (test : List V → Bool) (x : V) (row : List V) → under cmp (path ++ x ∷ []) test row ≡ under cmp path (under cmp (x ∷ []) test) row
+  under-push [] test x row = refl
+  under-push (y ∷ path) test x [] = refl
+  under-push (y ∷ path) test x (v ∷ row) = ap (first_of (cmp y v)) (under-push path test x row)
+
+  -- tests that agree on the rows of the later ranges
+  pub under-agree : (path : List V) (f g : List V → Bool) (ranges : List (List V)) (row : List V) → IsRowOf ranges row
+      → ((tail : List V) → IsRowOf (drop (length path) ranges) tail → f tail ≡ g tail) → under cmp path f row ≡ under cmp path g row
+  under-agree [] f g ranges row m h = h row m
+  under-agree (x ∷ path) f g ranges [] m h = refl
+  under-agree (x ∷ path) f g [] (v ∷ row) m h = absurd m
+  under-agree (x ∷ path) f g (range ∷ ranges) (v ∷ row) m h = ap (first_of (cmp x v)) (under-agree path f g ranges row m.1 h)
+
+  -- the same for rows of the first ranges
+  pub under-front : (path : List V) (f g : List V → Bool) (ranges : List (List V)) (row : List V) → IsFrontOf ranges row
+      → ((tail : List V) → IsFrontOf (drop (length path) ranges) tail → f tail ≡ g tail) → under cmp path f row ≡ under cmp path g row
+  under-front [] f g ranges row m h = h row m
+  under-front (x ∷ path) f g ranges [] m h = refl
+  under-front (x ∷ path) f g [] (v ∷ row) m h = absurd m
+  under-front (x ∷ path) f g (range ∷ ranges) (v ∷ row) m h = ap (first_of (cmp x v)) (under-front path f g ranges row m.1 h)
+
+  pub under-at : (path : List V) (f : List V → Bool) (tail : List V) → under cmp path f (path ++ tail) ≡ f tail
+  under-at [] f tail = refl
+  under-at (x ∷ path) f tail = let e : cmp x x ≡ Equal = tied_itself o x in rw e (under-at path f tail)
+
+  -- One range: at its first place all rows are ahead, past one place is from the next one on, past the last one none is ahead.
+  module _ (range : List V) (r : IsRange range) (v : V) (m : Contains range v) where
+    pub at-first : (x : V) (rest : Bool) → IsNth range 0 x → (cmp x v ≡ Equal → rest ≡ true) → first_of (cmp x v) rest ≡ true
+    at-first x rest n h = go (nth range v m) where
+      go : ((k : ℕ) × IsNth range k v) → first_of (cmp x v) rest ≡ true
+      go (zero, w) = let e : cmp x v ≡ Equal = tied-at range 0 0 x v n w refl in rw (e, h e) refl
+      go (suc k, w) = let e : cmp x v ≡ Less = less-at range 0 (suc k) x v r n w (omega arith) in rw e refl
+
+    pub at-next : (i : ℕ) (x y : V) → IsNth range i x → IsNth range (i + 1) y → first_of (cmp x v) false ≡ first_of (cmp y v) true
+    at-next i x y n n' = go (nth range v m) where
+      go : ((k : ℕ) × IsNth range k v) → first_of (cmp x v) false ≡ first_of (cmp y v) true
+      go (k, w) = elim (cases_order k (i + 1)) [
+        | inl e ↦ let a : cmp x v ≡ Less = less-at range i k x v r n w (omega arith) in
+            let b : cmp y v ≡ Equal = tied-at range (i + 1) k y v n' w (sym e) in rw (a, b) refl
+        | inr other ↦ elim other [
+          | inl less ↦ let b : cmp y v ≡ Greater = greater-at range (i + 1) k y v r n' w less in
+              elim (cases_order k i) [
+                | inl e ↦ let a : cmp x v ≡ Equal = tied-at range i k x v n w (sym e) in rw (a, b) refl
+                | inr rest ↦ elim rest [
+                  | inl before ↦ let a : cmp x v ≡ Greater = greater-at range i k x v r n w before in rw (a, b) refl
+                  | inr over ↦ absurd (omega arith)
+                ]
+              ]
+          | inr more ↦ let a : cmp x v ≡ Less = less-at range i k x v r n w (omega arith) in
+              let b : cmp y v ≡ Less = less-at range (i + 1) k y v r n' w more in rw (a, b) refl
+        ]
+      ]
+
+    pub at-last : (i : ℕ) (x : V) → IsNth range i x → length range ≡ i + 1 → first_of (cmp x v) false ≡ false
+    at-last i x n l = go (nth range v m) where
+      go : ((k : ℕ) × IsNth range k v) → first_of (cmp x v) false ≡ false
+      go (k, w) = elim (cases_order k i) [
+        | inl e ↦ let a : cmp x v ≡ Equal = tied-at range i k x v n w (sym e) in rw a refl
+        | inr other ↦ elim other [
+          | inl less ↦ let a : cmp x v ≡ Greater = greater-at range i k x v r n w less in rw a refl
+          | inr more ↦ let z : k < length range = w.within in absurd (omega arith)
+        ]
+      ]
+
+  -- the order on whole rows, and on rows cut to one length
+
+  pub reaches-cmp : (here : Bool) (a b : List V) → length a ≡ length b → reaches cmp here a b ≡ first_of (slice_cmp cmp a b) here
+  reaches-cmp here [] [] l = refl
+  reaches-cmp here [] (v ∷ b) l = absurd (omega arith)
+  reaches-cmp here (x ∷ a) [] l = absurd (omega arith)
+  reaches-cmp here (x ∷ a) (v ∷ b) l = go (cmp x v) (reaches-cmp here a b (omega arith)) where
+    go : (r : Ordering) → reaches cmp here a b ≡ first_of (slice_cmp cmp a b) here → first_of r (reaches cmp here a b) ≡ first_of (ordering_then r (slice_cmp cmp a b)) here
+    go Less ih = refl
+    go Equal ih = ih
+    go Greater ih = refl
+
+  -- a path looks at as many values as it has
+  pub reaches-take : (here : Bool) (path row : List V) → reaches cmp here path (take (length path) row) ≡ reaches cmp here path row
+  reaches-take here [] row = refl
+  reaches-take here (x ∷ path) [] = refl
+  reaches-take here (x ∷ path) (v ∷ row) = ap (first_of (cmp x v)) (reaches-take here path row)
+
+  -- a shorter row is not past a whole one that begins with it
+  pub reaches-front : (whole row : List V) → length row ≤ length whole → reaches cmp false (take (length row) whole) row ≡ reaches cmp false whole row
+  reaches-front [] [] l = refl
+  reaches-front [] (v ∷ row) l = absurd (omega arith)
+  reaches-front (x ∷ whole) [] l = refl
+  reaches-front (x ∷ whole) (v ∷ row) l = ap (first_of (cmp x v)) (reaches-front whole row (omega arith))
+
+  pub reaches-both : (path row : List V) → reaches cmp false path row ≡ true → reaches cmp true path row ≡ true
+  reaches-both [] row h = absurd (false≢true h)
+  reaches-both (x ∷ path) [] h = h
+  reaches-both (x ∷ path) (v ∷ row) h = go (cmp x v) (reaches-both path row) h where
+    go : (q : Ordering) → (reaches cmp false path row ≡ true → reaches cmp true path row ≡ true) → first_of q (reaches cmp false path row) ≡ true → first_of q (reaches cmp true path row) ≡ true
+    go Less ih k = refl
+    go Equal ih k = ih k
+    go Greater ih k = k
+
+  -- what comes after a row that is ahead is ahead
+  pub further : (here : Bool) (j c : ℕ) (road whole row : List V) → reaches cmp here road whole ≡ true → reaches cmp false whole row ≡ true → under cmp road (is_due here j c) row ≡ true
+  further false j c [] whole row a b = absurd (false≢true a)
+  further true j c [] [] row a b = absurd (false≢true b)
+  further true j c [] (v ∷ whole) [] a b = absurd (false≢true b)
+  further true j c [] (v ∷ whole) (w ∷ row) a b = refl
+  further here j c (y ∷ road) [] row a b = absurd (false≢true a)
+  further here j c (y ∷ road) (v ∷ whole) [] a b = absurd (false≢true b)
+  further here j c (y ∷ road) (v ∷ whole) (w ∷ row) a b = go (cmp y v) (cmp v w) refl refl a b (further here j c road whole row) where
+    go : (p q : Ordering) → cmp y v ≡ p → cmp v w ≡ q → first_of p (reaches cmp here road whole) ≡ true → first_of q (reaches cmp false whole row) ≡ true
+        → (reaches cmp here road whole ≡ true → reaches cmp false whole row ≡ true → under cmp road (is_due here j c) row ≡ true) → first_of (cmp y w) (under cmp road (is_due here j c) row) ≡ true
+    go Less Less e f k l ih = let g : cmp y w ≡ Less = o.trans y v w e f in rw g refl
+    go Less Equal e f k l ih = let g : cmp y w ≡ Less = sym (alike_right o v w y f) ∙ e in rw g refl
+    go Equal Less e f k l ih = let g : cmp y w ≡ Less = o.congr y v w e ∙ f in rw g refl
+    go Equal Equal e f k l ih = let g : cmp y w ≡ Equal = o.congr y v w e ∙ f in rw g (ih k l)
+    go Greater q e f k l ih = absurd (false≢true k)
+    go Less Greater e f k l ih = absurd (false≢true l)
+    go Equal Greater e f k l ih = absurd (false≢true l)
+
+  -- where values that tie are one
+  module _ (ties : TiesAreEqual cmp) where
+    -- a row that only `here` tells apart begins with the path
+    pub begins : (path row : List V) → reaches cmp true path row ≡ true → (reaches cmp false path row ≡ true) ⊎ (path ++ drop (length path) row ≡ row)
+    begins [] row h = inr refl
+    begins (x ∷ path) [] h = absurd (false≢true h)
+    begins (x ∷ path) (v ∷ row) h = go (cmp x v) refl h (begins path row) where
+      go : (q : Ordering) → cmp x v ≡ q → first_of q (reaches cmp true path row) ≡ true → (reaches cmp true path row ≡ true → (reaches cmp false path row ≡ true) ⊎ (path ++ drop (length path) row ≡ row))
+          → (first_of q (reaches cmp false path row) ≡ true) ⊎ (x ∷ (path ++ drop (length path) row) ≡ v ∷ row)
+      go Less e k ih = inl refl
+      go Equal e k ih = elim (ih k) [ inl past ↦ inl past | inr same ↦ inr (let q : x ≡ v = ties x v e in cc) ]
+      go Greater e k ih = inl k
+
+    -- a row that two tests under a path tell apart begins with the path
+    pub under-differs : (path : List V) (f g : List V → Bool) (row : List V) → under cmp path f row ≡ true → under cmp path g row ≡ false
+        → (tail : List V) × (path ++ tail ≡ row) × (f tail ≡ true) × (g tail ≡ false)
+    under-differs [] f g row a b = (row, refl, a, b)
+    under-differs (x ∷ path) f g [] a b = absurd (false≢true a)
+    under-differs (x ∷ path) f g (v ∷ row) a b = go (cmp x v) refl a b (under-differs path f g row) where
+      go : (q : Ordering) → cmp x v ≡ q → first_of q (under cmp path f row) ≡ true → first_of q (under cmp path g row) ≡ false
+          → (under cmp path f row ≡ true → under cmp path g row ≡ false → (tail : List V) × (path ++ tail ≡ row) × (f tail ≡ true) × (g tail ≡ false))
+          → (tail : List V) × (x ∷ (path ++ tail) ≡ v ∷ row) × (f tail ≡ true) × (g tail ≡ false)
+      go Less e k l ih = absurd (false≢true (sym l))
+      go Equal e k l ih = let d = ih k l in let q : x ≡ v = ties x v e in let p : path ++ d.0 ≡ row = d.1 in (d.0, cc, d.2, d.3)
+      go Greater e k l ih = absurd (false≢true k)
+
+    pub slice-ties : (a b : List V) → slice_cmp cmp a b ≡ Equal → a ≡ b
+    slice-ties [] [] h = refl
+    slice-ties [] (v ∷ b) h = cc
+    slice-ties (x ∷ a) [] h = cc
+    slice-ties (x ∷ a) (v ∷ b) h = go (cmp x v) refl h (slice-ties a b) where
+      go : (q : Ordering) → cmp x v ≡ q → ordering_then q (slice_cmp cmp a b) ≡ Equal → (slice_cmp cmp a b ≡ Equal → a ≡ b) → x ∷ a ≡ v ∷ b
+      go Less e k ih = cc
+      go Equal e k ih = let q : x ≡ v = ties x v e in let p : a ≡ b = ih k in cc
+      go Greater e k ih = cc
