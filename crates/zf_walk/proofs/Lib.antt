@@ -3,3 +3,6 @@ pub mod Order
 pub mod Picks
 pub mod Reaching
 pub mod Moving
+pub mod Counting
+pub mod Truths
+pub mod Knowing

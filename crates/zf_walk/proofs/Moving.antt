@@ -151,20 +151,20 @@ same-path ranges p q ps d = ap (λ is. picked ranges (take q.depth is)) ps ∙ a
 
 -- ---- what the definitions give at a known place
 
-pub steps-of : {V : Type 0} (n : ℕ) (ranges : List (List V)) (p : Place) (b : Bool) (j k : ℕ) (is : List ℕ) → p.fresh ≡ b → p.conjunct ≡ j → p.depth ≡ k → take p.depth p.places.items ≡ is
+pub steps_left-of : {V : Type 0} (n : ℕ) (ranges : List (List V)) (p : Place) (b : Bool) (j k : ℕ) (is : List ℕ) → p.fresh ≡ b → p.conjunct ≡ j → p.depth ≡ k → take p.depth p.places.items ≡ is
     → steps_left n ranges p ≡ cond b (below n (drop k ranges) - j) 1 + above n ranges is
-steps-of n ranges p b j k is f c d e =
+steps_left-of n ranges p b j k is f c d e =
     ap (λ h. cond h (below n (drop p.depth ranges) - p.conjunct) 1 + above n ranges (take p.depth p.places.items)) f
     ∙ ap (λ i. cond b (below n (drop p.depth ranges) - i) 1 + above n ranges (take p.depth p.places.items)) c
     ∙ ap (λ i. cond b (below n (drop i ranges) - j) 1 + above n ranges (take p.depth p.places.items)) d
     ∙ ap (λ js. cond b (below n (drop k ranges) - j) 1 + above n ranges js) e
 
-pub reach-of : {V : Type 0} (cmp : V → V → Ordering) (ranges : List (List V)) (p : Place) (b : Bool) (road row : List V) → p.fresh ≡ b → path ranges p ≡ road → reaches cmp p.fresh (path ranges p) row ≡ reaches cmp b road row
-reach-of cmp ranges p b road row f e = ap (λ c. reaches cmp c (path ranges p) row) f ∙ ap (λ r. reaches cmp b r row) e
+pub reaches-of : {V : Type 0} (cmp : V → V → Ordering) (ranges : List (List V)) (p : Place) (b : Bool) (road row : List V) → p.fresh ≡ b → path ranges p ≡ road → reaches cmp p.fresh (path ranges p) row ≡ reaches cmp b road row
+reaches-of cmp ranges p b road row f e = ap (λ c. reaches cmp c (path ranges p) row) f ∙ ap (λ r. reaches cmp b r row) e
 
-pub ahead-of : {V : Type 0} (cmp : V → V → Ordering) (ranges : List (List V)) (p : Place) (b : Bool) (j : ℕ) (road row : List V) (c : ℕ) → p.fresh ≡ b → p.conjunct ≡ j → path ranges p ≡ road
+pub is_ahead-of : {V : Type 0} (cmp : V → V → Ordering) (ranges : List (List V)) (p : Place) (b : Bool) (j : ℕ) (road row : List V) (c : ℕ) → p.fresh ≡ b → p.conjunct ≡ j → path ranges p ≡ road
     → is_ahead cmp ranges p row c ≡ under cmp road (is_due b j c) row
-ahead-of cmp ranges p b j road row c f e r =
+is_ahead-of cmp ranges p b j road row c f e r =
     ap (λ h. under cmp (path ranges p) (is_due h p.conjunct c) row) f ∙ ap (λ i. under cmp (path ranges p) (is_due b i c) row) e ∙ ap (λ w. under cmp w (is_due b j c) row) r
 
 -- ---- how far the walk has to go
@@ -209,11 +209,11 @@ module _ {V : Type 0} (cmp : V → V → Ordering) (o : IsTotalOrder cmp) (n : �
       let r = asc p.depth [] h in
       record {
         at = bound-at ranges p at q p.depth 0 x le h b nth;
-        same = λ row m. reach-of cmp ranges p true (path ranges p) row f refl ∙ sym (reaches-first cmp o ranges (path ranges p) range later split r row m x nth) ∙ sym (reach-of cmp ranges q true (path ranges p ++ x ∷ []) row b.fresh there);
-        pairs = λ row c m l. ahead-of cmp ranges p true n (path ranges p) row c f cn refl ∙ ahead-first cmp o ranges (path ranges p) range later split r row m c n x l nth ∙ sym (ahead-of cmp ranges q true 0 (path ranges p ++ x ∷ []) row c b.fresh b.conjunct there);
+        same = λ row m. reaches-of cmp ranges p true (path ranges p) row f refl ∙ sym (reaches-first cmp o ranges (path ranges p) range later split r row m x nth) ∙ sym (reaches-of cmp ranges q true (path ranges p ++ x ∷ []) row b.fresh there);
+        pairs = λ row c m l. is_ahead-of cmp ranges p true n (path ranges p) row c f cn refl ∙ ahead-first cmp o ranges (path ranges p) range later split r row m c n x l nth ∙ sym (is_ahead-of cmp ranges q true 0 (path ranges p ++ x ∷ []) row c b.fresh b.conjunct there);
         smaller =
-            let a = steps-of n ranges p true n p.depth (take p.depth p.places.items) f cn refl refl in
-            let z = steps-of n ranges q true 0 (p.depth + 1) (take p.depth p.places.items ++ 0 ∷ []) b.fresh b.conjunct b.depth stairs in
+            let a = steps_left-of n ranges p true n p.depth (take p.depth p.places.items) f cn refl refl in
+            let z = steps_left-of n ranges q true 0 (p.depth + 1) (take p.depth p.places.items ++ 0 ∷ []) b.fresh b.conjunct b.depth stairs in
             let e : below n (drop p.depth ranges) ≡ n + 2 + length range * below n later = ap (below n) (drop_more ranges p.depth [] h) in
             omega (arith, a, z, e, above-more p.depth 0 le h, peel (length range) (length range - suc 0) (below n later) (let w : 0 < length range = nth.within in omega arith));
         front = λ i l. same-fronts p.depth 0 b.places i (let d = b.depth in omega arith);
@@ -234,11 +234,11 @@ module _ {V : Type 0} (cmp : V → V → Ordering) (o : IsTotalOrder cmp) (n : �
       let stairs : take q.depth q.places.items ≡ take p.depth p.places.items = ap (λ k. take k q.places.items) b.depth ∙ ap (take p.depth) b.places in
       record {
         at = fewer-at ranges p q at b.places (let d = b.depth in omega arith);
-        same = λ row m. reach-of cmp ranges p true (path ranges p) row f refl ∙ reaches-empty cmp o ranges (path ranges p) range later split r row m l ∙ sym (reach-of cmp ranges q false (path ranges p) row b.fresh there);
-        pairs = λ row c m w. ahead-of cmp ranges p true n (path ranges p) row c f cn refl ∙ ahead-empty cmp o ranges (path ranges p) range later split r row m c n w l ∙ sym (ahead-of cmp ranges q false n (path ranges p) row c b.fresh (b.conjunct ∙ cn) there);
+        same = λ row m. reaches-of cmp ranges p true (path ranges p) row f refl ∙ reaches-empty cmp o ranges (path ranges p) range later split r row m l ∙ sym (reaches-of cmp ranges q false (path ranges p) row b.fresh there);
+        pairs = λ row c m w. is_ahead-of cmp ranges p true n (path ranges p) row c f cn refl ∙ ahead-empty cmp o ranges (path ranges p) range later split r row m c n w l ∙ sym (is_ahead-of cmp ranges q false n (path ranges p) row c b.fresh (b.conjunct ∙ cn) there);
         smaller =
-            let a = steps-of n ranges p true n p.depth (take p.depth p.places.items) f cn refl refl in
-            let z = steps-of n ranges q false n p.depth (take p.depth p.places.items) b.fresh (b.conjunct ∙ cn) b.depth stairs in
+            let a = steps_left-of n ranges p true n p.depth (take p.depth p.places.items) f cn refl refl in
+            let z = steps_left-of n ranges q false n p.depth (take p.depth p.places.items) b.fresh (b.conjunct ∙ cn) b.depth stairs in
             omega (arith, a, z, enough n (drop p.depth ranges));
         front = λ i l. ap (take i) b.places;
         enters = λ e. absurd (false≢true (sym b.fresh ∙ e));
@@ -263,15 +263,15 @@ module _ {V : Type 0} (cmp : V → V → Ordering) (o : IsTotalOrder cmp) (n : �
       let x = was.0 in
       record {
         at = bound-at ranges p at q k (i + 1) y le h b nth;
-        same = λ row m. reach-of cmp ranges p false (front ranges p k ++ x ∷ []) row f was.2
+        same = λ row m. reaches-of cmp ranges p false (front ranges p k ++ x ∷ []) row f was.2
             ∙ reaches-next cmp o ranges (front ranges p k) range later split r row m i x y was.1 nth
-            ∙ sym (reach-of cmp ranges q true (front ranges p k ++ y ∷ []) row b.fresh there);
-        pairs = λ row c m w. ahead-of cmp ranges p false p.conjunct (front ranges p k ++ x ∷ []) row c f refl was.2
+            ∙ sym (reaches-of cmp ranges q true (front ranges p k ++ y ∷ []) row b.fresh there);
+        pairs = λ row c m w. is_ahead-of cmp ranges p false p.conjunct (front ranges p k ++ x ∷ []) row c f refl was.2
             ∙ ahead-next cmp o ranges (front ranges p k) range later split r row m c i x y p.conjunct was.1 nth
-            ∙ sym (ahead-of cmp ranges q true 0 (front ranges p k ++ y ∷ []) row c b.fresh b.conjunct there);
+            ∙ sym (is_ahead-of cmp ranges q true 0 (front ranges p k ++ y ∷ []) row c b.fresh b.conjunct there);
         smaller =
-            let a = steps-of n ranges p false p.conjunct (k + 1) (take k p.places.items ++ i ∷ []) f refl e was.3 in
-            let z = steps-of n ranges q true 0 (k + 1) (take k p.places.items ++ (i + 1) ∷ []) b.fresh b.conjunct b.depth stairs in
+            let a = steps_left-of n ranges p false p.conjunct (k + 1) (take k p.places.items ++ i ∷ []) f refl e was.3 in
+            let z = steps_left-of n ranges q true 0 (k + 1) (take k p.places.items ++ (i + 1) ∷ []) b.fresh b.conjunct b.depth stairs in
             let w : i + 1 < length range = nth.within in
             omega (arith, a, z, above-more k i le h, above-more k (i + 1) le h, peel (length range - suc i) (length range - suc (i + 1)) (below n later) (omega arith));
         front = λ j l. same-fronts k (i + 1) b.places j (let d = b.depth in omega arith);
@@ -300,15 +300,15 @@ module _ {V : Type 0} (cmp : V → V → Ordering) (o : IsTotalOrder cmp) (n : �
       let stairs : take q.depth q.places.items ≡ take k p.places.items = ap (λ j. take j q.places.items) d ∙ ap (take k) ps in
       record {
         at = fewer-at ranges p q at ps (omega arith);
-        same = λ row m. reach-of cmp ranges p false (front ranges p k ++ x ∷ []) row f was.2
+        same = λ row m. reaches-of cmp ranges p false (front ranges p k ++ x ∷ []) row f was.2
             ∙ reaches-last cmp o ranges (front ranges p k) range later split r row m i x nth last
-            ∙ sym (reach-of cmp ranges q false (front ranges p k) row g there);
-        pairs = λ row c m w. ahead-of cmp ranges p false p.conjunct (front ranges p k ++ x ∷ []) row c f refl was.2
+            ∙ sym (reaches-of cmp ranges q false (front ranges p k) row g there);
+        pairs = λ row c m w. is_ahead-of cmp ranges p false p.conjunct (front ranges p k ++ x ∷ []) row c f refl was.2
             ∙ ahead-last cmp o ranges (front ranges p k) range later split r row m c i x p.conjunct nth last
-            ∙ sym (ahead-of cmp ranges q false p.conjunct (front ranges p k) row c g cs there);
+            ∙ sym (is_ahead-of cmp ranges q false p.conjunct (front ranges p k) row c g cs there);
         smaller =
-            let a = steps-of n ranges p false p.conjunct (k + 1) (take k p.places.items ++ i ∷ []) f refl e was.3 in
-            let z = steps-of n ranges q false p.conjunct k (take k p.places.items) g cs d stairs in
+            let a = steps_left-of n ranges p false p.conjunct (k + 1) (take k p.places.items ++ i ∷ []) f refl e was.3 in
+            let z = steps_left-of n ranges q false p.conjunct k (take k p.places.items) g cs d stairs in
             omega (arith, a, z, above-more k i le h);
         front = λ j l. ap (take j) ps;
         enters = λ e. absurd (false≢true (sym g ∙ e));
