@@ -31,10 +31,6 @@ due-between : {V : Type 0} (j i c : ℕ) (tail : List V) → is_due true j c tai
 due-between j i c [] a b = (refl, leb-true j c a, leb-false i c b)
 due-between j i c (v ∷ tail) a b = absurd (false≢true (sym b))
 
-picked-nil : {V : Type 0} (ranges : List (List V)) → picked ranges [] ≡ []
-picked-nil [] = refl
-picked-nil (r ∷ ranges) = refl
-
 -- what the order, the conjuncts and the named row are known to be
 pub record Setting {V : Type 0} (cmp : V → V → Ordering) (s : Conjuncts V) (ranges : List (List V)) (after : Option (List V)) : Type 0 where
   pub total : IsTotalOrder cmp

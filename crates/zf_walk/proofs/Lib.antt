@@ -6,3 +6,4 @@ pub mod Moving
 pub mod Counting
 pub mod Truths
 pub mod Knowing
+pub mod Stepping

@@ -25,6 +25,10 @@ AreWithin-take ranges places n w = record {
       subst (λ i. i < length (get_or ranges k [])) (sym (get_or-take n places k 0 a)) (w.each k b);
 }
 
+pub picked-nil : {V : Type 0} (ranges : List (List V)) → picked ranges [] ≡ []
+picked-nil [] = refl
+picked-nil (r ∷ ranges) = refl
+
 -- one value more
 pub picked-cons : {V : Type 0} (r : List V) (ranges : List (List V)) (i : ℕ) (places : List ℕ) → AreWithin (r ∷ ranges) (i ∷ places)
     → (x : V) × IsNth r i x × (picked (r ∷ ranges) (i ∷ places) ≡ x ∷ picked ranges places)
@@ -64,10 +68,7 @@ AreWithin-push (r ∷ ranges) (j ∷ places) i x w h n =
 pub picked-push : {V : Type 0} (ranges : List (List V)) (places : List ℕ) (i : ℕ) (x : V) → AreWithin ranges places → length places < length ranges → IsNth (get_or ranges (length places) []) i x
     → picked ranges (places ++ i ∷ []) ≡ picked ranges places ++ x ∷ []
 picked-push [] places i x w h n = absurd (omega arith)
-picked-push {V} (r ∷ ranges) [] i x w h n = let e = slice_get-nth r i x n in rw e (ap (λ xs. x ∷ xs) (none ranges)) where
-  none : (rs : List (List V)) → picked rs [] ≡ []
-  none [] = refl
-  none (r ∷ rs) = refl
+picked-push (r ∷ ranges) [] i x w h n = let e = slice_get-nth r i x n in rw e (ap (λ xs. x ∷ xs) (picked-nil ranges))
 picked-push (r ∷ ranges) (j ∷ places) i x w h n =
     let c = picked-cons r ranges j places w in
     let e = slice_get-nth r j c.0 c.1 in
