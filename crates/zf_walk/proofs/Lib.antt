@@ -7,3 +7,4 @@ pub mod Counting
 pub mod Truths
 pub mod Knowing
 pub mod Stepping
+pub mod Answering
