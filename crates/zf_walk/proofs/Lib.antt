@@ -8,3 +8,4 @@ pub mod Truths
 pub mod Knowing
 pub mod Stepping
 pub mod Answering
+pub mod LawProofs

@@ -2,6 +2,7 @@
 use Rattle.std.specs.Prelude.{◌≡◌, ◌↔◌, ℕ, ◌≤◌, List, [], ◌∷◌, ◌++◌, Option, Some}
 use Rattle.std.specs.declared.cmp.Ordering.{Ordering}
 use Rattle.zf_walk.specs.Conjuncts.{Conjuncts}
+use Rattle.zf_walk.specs.Rows.{TiesAreEqual}
 use Rattle.zf_walk.specs.Events.{Event, IsEvents}
 use Rattle.zf_walk.specs.Tests.{IsNumberOfTests, IsBound}
 use Rattle.zf_walk.specs.Progress.{Ahead, beginning, Takes, IsNoneAhead, IsRest}
@@ -23,7 +24,7 @@ StartsWithAll {V} cmp s = (ranges : List (List V)) (after : Option (List V)) (ev
 
 -- What was ahead is the event that is taken, and then what is ahead now.
 abbrev pub TakesFirst : {V : Type 0} → (V → V → Ordering) → Conjuncts V → Type 0
-TakesFirst {V} cmp s = (ranges : List (List V)) (after : Option (List V)) (old new : Ahead V) (e : Event V) → Takes cmp s ranges after old e new
+TakesFirst {V} cmp s = TiesAreEqual cmp → (ranges : List (List V)) (after : Option (List V)) (old new : Ahead V) (e : Event V) → Takes cmp s ranges after old e new
     → (rest : List (Event V)) → IsRest cmp s ranges after old (e ∷ rest) ↔ IsRest cmp s ranges after new rest
 
 -- Where no event is ahead the list is empty.
