@@ -3,6 +3,7 @@
 
 mod agenda;
 mod judge;
+pub mod laws;
 mod moves;
 mod picked;
 mod place;

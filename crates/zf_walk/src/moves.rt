@@ -49,8 +49,9 @@ pub fn retreat<V: Ord>(ranges: &[Range<V>], place: &mut Place)
 {
     let depth = place.depth - 1;
     let range = &ranges[depth];
+    let count = range.values.len();
     let next = place.places[depth] + 1;
-    if next < range.values.len() {
+    if next < count {
         bind(place, depth, next);
     } else {
         place.depth = depth;

@@ -1,7 +1,18 @@
-use Rattle.std.proofs.Common.{rules, ◌≡◌, ◌<◌, length, slice_get, ℕ, ◌+◌, ◌-◌, ◌*◌, ◌≤◌, ◌/◌, ◌%◌, Bool, true, false, nat_eq, nat_lt, List, [], ◌∷◌, ◌++◌, slice_index_or, slice_set, bit_and, bit_or, Fits, w8, w32, w64, Bor, MutBor}
-use Rattle.zf_walk.specs.Picked.{AreWithin, picked}
+use Rattle.std.proofs.Common.{◌≡◌, ◌<◌, ℕ, [], length, get_or, refl, sym, ap, ◌∙◌, subst, arith}
+use Rattle.std.specs.Prelude.{slice_get}
+use Rattle.std.proofs.lemmas.List.{get_or_default}
+use Rattle.std.proofs.lemmas.Option.{slice_get_read}
+use Rattle.zf_walk.proofs.Picks.{slice_get-picked}
 use Rattle.zf_walk.proofs.picked.pick.Goals as goal
 
--- src/picked.rt:52:1
 pub returns : goal.returns
-returns g c = ?
+returns g c =
+    let ranges = c.args.ranges.now in
+    let i = c.args.i in
+    let k = get_or c.args.places.now i 0 in
+    let items = c.range.inside.values.items in
+    let near : i < length ranges = omega (arith, c.requires.within.few, c.requires.index) in
+    let range : get_or ranges i [] ≡ items = get_or_default ranges i [] c.index-ranges-i.result near ∙ sym c.index-ranges-i.is ∙ sym c.range.view_is in
+    let inside : k < length items = subst (λ r. k < length r) range (c.requires.within.each i c.requires.index) in
+    slice_get-picked ranges c.args.places.now i c.requires.within c.requires.index
+    ∙ ap (λ r. slice_get r k) range ∙ slice_get_read items (length items) k c.index.result.now refl inside c.index.ensures

@@ -1,10 +1,8 @@
-use Rattle.std.proofs.Common.{◌≡◌, ◌+◌, ◌<◌, ◌≤◌, length, ℕ, ◌-◌, ◌*◌}
-use Rattle.std.specs.Option.{option_copied}
-use Rattle.zf_walk.specs.Rows.{HasLength}
-use Rattle.zf_walk.specs.Picked.{AreWithin, picked}
-use Rattle.zf_walk.specs.Places.{IsAt, IsAgenda, is_reached, reaches}
-use Rattle.zf_walk.specs.Steps.{Admits}
+use Rattle.std.proofs.Common.{◌≡◌, drop}
+use Rattle.zf_walk.specs.Picked.{picked}
+use Rattle.zf_walk.specs.Places.{reaches}
 use Rattle.zf_walk.proofs.reach.reaches.Given as goal
 
+-- what is left decides
 abbrev pub invariant-loop-i : goal.invariant-loop-i
-invariant-loop-i g l = ?
+invariant-loop-i g l = reaches g.V.Ord.cmp l.here (drop l.i l.named) (drop l.i (picked l.ranges l.places)) ≡ reaches g.V.Ord.cmp l.here l.named (picked l.ranges l.places)

@@ -1,7 +1,7 @@
-use Rattle.std.proofs.Common.{rules, ◌≡◌, ◌<◌, length, slice_get, ℕ, ◌+◌, ◌-◌, ◌*◌, ◌≤◌, ◌/◌, ◌%◌, Bool, true, false, nat_eq, nat_lt, List, [], ◌∷◌, ◌++◌, slice_index_or, slice_set, bit_and, bit_or, Fits, w8, w32, w64, Bor, MutBor}
-use Rattle.zf_walk.specs.Picked.{AreWithin, picked}
+use Rattle.std.proofs.Common.{◌<◌, length, sym, ap, ◌∙◌, subst}
+use Rattle.zf_walk.proofs.Picks.{length-picked}
 use Rattle.zf_walk.proofs.picked.PickedRow.get.Goals as goal
 
--- src/picked.rt:47:9
 pub pick-requires-clause-index : goal.pick-requires-clause-index
-pick-requires-clause-index g c = ?
+pick-requires-clause-index g c =
+    subst (λ n. c.args.i < n) (sym (ap length c.self.view_is) ∙ length-picked c.self.inside.ranges.now c.self.inside.places.now c.self.invariant) c.requires

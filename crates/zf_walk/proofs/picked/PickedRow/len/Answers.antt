@@ -1,7 +1,6 @@
-use Rattle.std.proofs.Common.{rules, ◌≡◌, ◌<◌, length, slice_get, ℕ, ◌+◌, ◌-◌, ◌*◌, ◌≤◌, ◌/◌, ◌%◌, Bool, true, false, nat_eq, nat_lt, List, [], ◌∷◌, ◌++◌, slice_index_or, slice_set, bit_and, bit_or, Fits, w8, w32, w64, Bor, MutBor}
-use Rattle.zf_walk.specs.Picked.{AreWithin, picked}
+use Rattle.std.proofs.Common.{length, sym, ap, ◌∙◌}
+use Rattle.zf_walk.proofs.Picks.{length-picked}
 use Rattle.zf_walk.proofs.picked.PickedRow.len.Goals as goal
 
--- src/picked.rt:42:5
 pub returns : goal.returns
-returns g c = ?
+returns g c = sym (length-picked c.self.inside.ranges.now c.self.inside.places.now c.self.invariant) ∙ ap length c.self.view_is
