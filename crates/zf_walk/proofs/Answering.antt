@@ -15,10 +15,10 @@ use Rattle.zf_walk.specs.Conjuncts.{Conjuncts, IsTruthOf}
 use Rattle.zf_walk.specs.Rows.{ComesAfter}
 use Rattle.zf_walk.specs.Events.{Event, IsEvent}
 use Rattle.zf_walk.specs.Tests.{IsWalked, IsPair, IsUpTo, IsNumber, IsNumberOfTests, IsBound, cut}
-use Rattle.zf_walk.specs.Progress.{Ahead, IsAhead, AreDueWithin, Takes, IsNoneAhead, beginning, past, ended}
+use Rattle.zf_walk.specs.Progress.{Ahead, IsAhead, AreDueWithin, Takes, IsNoneAhead, SameAhead, beginning, past, ended}
 use Rattle.zf_walk.specs.Picked.{AreWithin, picked}
 use Rattle.zf_walk.specs.Places.{reaches, is_reached, under, is_due, is_ahead, IsSoFar, IsDone, IsAt, Knows, IsReady, Stands, front, path, ahead_of, is_over}
-use Rattle.zf_walk.specs.Steps.{Passes, KeepsEvents, Gives, up_to, Answers}
+use Rattle.zf_walk.specs.Steps.{Passes, KeepsEvents, GoesOn, Gives, up_to, Answers, Keeps}
 use Rattle.zf_walk.proofs.Order.{reaches-under, further}
 use Rattle.zf_walk.proofs.Picks.{picked-nil, IsFrontOf-picked, IsRowOf-front, IsRowOf-length, IsFrontOf-length}
 use Rattle.zf_walk.proofs.Reaching.{IsLater-from, IsUpTo-from, IsUpTo-to, IsAhead-from, IsAhead-to}
@@ -188,6 +188,60 @@ module _ {V : Type 0} {cmp : V → V → Ordering} {s : Conjuncts V} {ranges : L
       counts = counts;
       tests = let z = b.tests in omega arith;
     }
+
+  -- ---- what follows a walk that goes on
+
+  ahead-from : (p : Place) → IsAt ranges p → (e : Event V) → IsEvent cmp s ranges after e → reaches cmp p.fresh (path ranges p) e.row ≡ true → IsAhead cmp (ahead_of ranges p) e.row
+  ahead-from p at e ev h = IsAhead-from cmp given.total given.ties p.fresh (path ranges p) e.row
+      (let l = IsRowOf-length ranges e.row ev.within in omega (arith, length-front ranges p at p.depth (omega arith), at.shallow)) h
+
+  ahead-to : (p : Place) → IsAt ranges p → (e : Event V) → IsEvent cmp s ranges after e → IsAhead cmp (ahead_of ranges p) e.row → reaches cmp p.fresh (path ranges p) e.row ≡ true
+  ahead-to p at e ev h = IsAhead-to cmp given.total given.ties p.fresh (path ranges p) e.row
+      (let l = IsRowOf-length ranges e.row ev.within in omega (arith, length-front ranges p at p.depth (omega arith), at.shallow)) h
+
+  -- the same events are ahead, in the words of the definitions
+  pub SameAhead-from : (p q : Place) → IsAt ranges p → IsAt ranges q → KeepsEvents cmp s ranges after p q → SameAhead cmp s ranges after (ahead_of ranges p) (ahead_of ranges q)
+  SameAhead-from p q at bt same e ev = (
+    (λ a. ahead-from q bt e ev (sym (same e ev) ∙ ahead-to p at e ev a)),
+    (λ a. ahead-from p at e ev (same e ev ∙ ahead-to q bt e ev a)),
+  )
+
+  pub SameAhead-beginning : (p q : Place) → p.depth ≡ 0 → p.fresh ≡ true → IsAt ranges q → KeepsEvents cmp s ranges after p q → SameAhead cmp s ranges after beginning (ahead_of ranges q)
+  SameAhead-beginning p q d f bt same e ev = (
+    (λ _. ahead-from q bt e ev (sym (same e ev) ∙ start-reaches cmp s ranges after p d f e.row)),
+    (λ _. inr (refl, refl)),
+  )
+
+  takes-on : (a b c : Ahead V) (e : Event V) → SameAhead cmp s ranges after a b → Takes cmp s ranges after b e c → Takes cmp s ranges after a e c
+  takes-on a b c e same t = record {
+    event = t.event;
+    ahead = (same e t.event).1 t.ahead;
+    first = λ f ev h. t.first f ev ((same f ev).0 h);
+    passed = t.passed;
+  }
+
+  gives-on : (p q r : Place) (step : Step) → SameAhead cmp s ranges after (ahead_of ranges p) (ahead_of ranges q) → Gives cmp s ranges after q step r → Gives cmp s ranges after p step r
+  gives-on p q r Holds same g = (takes-on (ahead_of ranges p) (ahead_of ranges q) (ahead_of ranges r) (record { row = path ranges r; truth = True }) same g.0, g.1)
+  gives-on p q r Breaks same g = (takes-on (ahead_of ranges p) (ahead_of ranges q) (ahead_of ranges r) (record { row = path ranges r; truth = Out }) same g.0, g.1)
+  gives-on p q r End same g = ((λ e ev a. g.0 e ev ((same e ev).0 a)), g.1, g.2)
+
+  pub answers-on : (p q r : Place) (step : Step) → IsAt ranges p → Keeps cmp s ranges after p q → Answers cmp s ranges after q step r → Answers cmp s ranges after p step r
+  answers-on p q r step at k a = record {
+    stands = a.stands;
+    gives = gives-on p q r step (SameAhead-from p q at (k.stands).at k.same) a.gives;
+    counts = a.counts;
+    tests = let x = k.tests in let y = a.tests in omega arith;
+  }
+
+  pub Keeps-itself : (p : Place) → Stands cmp s ranges after p → Keeps cmp s ranges after p p
+  Keeps-itself p st = record { stands = st; same = λ e ev. refl; tests = omega arith }
+
+  pub Keeps-on : (p q r : Place) → Keeps cmp s ranges after p q → GoesOn cmp s ranges after q r × IsReady cmp s ranges after r → Keeps cmp s ranges after p r
+  Keeps-on p q r k go = let on = go.0 in record {
+    stands = record { at = on.at; knows = on.knows; ready = go.1 };
+    same = λ e ev. k.same e ev ∙ on.same e ev;
+    tests = let x = k.tests in let y = on.tests in omega arith;
+  }
 
   -- ---- the number of tests at any time
 

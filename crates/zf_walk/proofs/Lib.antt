@@ -9,3 +9,4 @@ pub mod Knowing
 pub mod Stepping
 pub mod Answering
 pub mod LawProofs
+pub mod Agendas

@@ -4,7 +4,7 @@ use Rattle.std.specs.Prelude.{AllPairs}
 use Rattle.std.specs.declared.cmp.Ordering.{Ordering}
 use Rattle.std.specs.declared.cmp.Ordering.TheVariants.{Less}
 use Rattle.std.specs.Cmp.{IsTotalOrder}
-use Rattle.std.proofs.lemmas.List.{take-set-le, take_more_set, length-take-le, drop_more, length-set, take_more, take-take, get_or-take}
+use Rattle.std.proofs.lemmas.List.{take-set-le, take_more_set, length-take-le, drop_more, length-set, take_more, take-take, get_or-take, get_or_default}
 use Rattle.std.proofs.lemmas.Bool.{false≢true}
 use Rattle.std.proofs.lemmas.Bool.Decides.{nat_tests}
 use Rattle.zf_walk.specs.declared.place.Place.{Place}
@@ -148,6 +148,10 @@ fewer-at ranges p q at ps d = record {
 
 pub same-path : {V : Type 0} (ranges : List (List V)) (p q : Place) → q.places.items ≡ p.places.items → q.depth ≡ p.depth → path ranges q ≡ path ranges p
 same-path ranges p q ps d = ap (λ is. picked ranges (take q.depth is)) ps ∙ ap (λ k. picked ranges (take k p.places.items)) d
+
+-- the range that the code reads
+pub range-is : {V : Type 0} (ranges : List (List V)) (k : ℕ) (r : List V) → k < length ranges → r ≡ get_or ranges k r → get_or ranges k [] ≡ r
+range-is ranges k r h e = get_or_default ranges k [] r h ∙ sym e
 
 -- ---- what the definitions give at a known place
 

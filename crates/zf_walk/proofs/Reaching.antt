@@ -1,13 +1,14 @@
 -- What the order value by value says in the words of the definitions.
-use Rattle.std.proofs.Common.{◌≡◌, ℕ, zero, suc, ◌+◌, ◌<◌, ◌≤◌, Bool, true, false, ltb, ◌⊎◌, List, [], ◌∷◌, ◌++◌, length, take, Option, Some, None, refl, sym, ap, ◌∙◌, subst, arith, inl, inr, length-append}
-use Rattle.std.specs.Prelude.{◌≢◌, IsTrue}
+use Rattle.std.proofs.Common.{◌≡◌, ℕ, zero, suc, ◌+◌, ◌<◌, ◌≤◌, Bool, true, false, ltb, ◌⊎◌, List, [], ◌∷◌, ◌++◌, length, get_or, take, drop, Option, Some, None, refl, sym, ap, ◌∙◌, subst, arith, inl, inr, length-append}
+use Rattle.std.specs.Prelude.{◌≢◌, IsTrue, slice_get}
 use Rattle.std.specs.declared.cmp.Ordering.{Ordering}
 use Rattle.std.specs.declared.cmp.Ordering.TheVariants.{Less, Equal, Greater}
 use Rattle.std.specs.Cmp.{IsTotalOrder}
 use Rattle.std.specs.Cmp.Lexicographic.{slice_cmp, lists_total}
 use Rattle.std.proofs.lemmas.Bool.{false≢true, cases_eq, lt-ltb, le-ltb}
 use Rattle.std.proofs.lemmas.Cmp.{tied_itself}
-use Rattle.std.proofs.lemmas.List.{take_all, length-take-le, take-take, nil_from_length, append-nil}
+use Rattle.std.proofs.lemmas.List.{take_all, length-take-le, take-take, nil_from_length, append-nil, drop_more}
+use Rattle.std.proofs.lemmas.Option.{slice_get_within, get_or_from_slice_get}
 use Rattle.zf_walk.specs.Rows.{TiesAreEqual, ComesAfter, IsLater, HasLength}
 use Rattle.zf_walk.specs.Tests.{IsReached, IsUpTo}
 use Rattle.zf_walk.specs.Progress.{Ahead, IsAhead}
@@ -40,6 +41,14 @@ of-not_greater Equal h = refl
 of-not_greater Greater h = absurd (h refl)
 
 module _ {V : Type 0} (cmp : V → V → Ordering) (o : IsTotalOrder cmp) where
+  -- one value of both
+  pub reaches-drop : (here : Bool) (named row : List V) (i : ℕ) (x v : V) → i < length named → x ≡ get_or named i x → slice_get row i ≡ Some v
+      → reaches cmp here (drop i named) (drop i row) ≡ first_of (cmp x v) (reaches cmp here (drop (i + 1) named) (drop (i + 1) row))
+  reaches-drop here named row i x v l e f =
+      let n : drop i named ≡ x ∷ drop (i + 1) named = drop_more named i x l ∙ ap (λ y. y ∷ drop (i + 1) named) (sym e) in
+      let r : drop i row ≡ v ∷ drop (i + 1) row = drop_more row i v (slice_get_within row i v f) ∙ ap (λ y. y ∷ drop (i + 1) row) (get_or_from_slice_get row i v v f) in
+      ap (λ ys. reaches cmp here ys (drop i row)) n ∙ ap (λ ys. reaches cmp here (x ∷ drop (i + 1) named) ys) r
+
   -- of rows of one length
   pub comes-reaches : (a b : List V) → length a ≡ length b → ComesAfter cmp a b → reaches cmp false a b ≡ true
   comes-reaches a b l h = reaches-cmp cmp o false a b l ∙ ap (λ q. first_of q false) h

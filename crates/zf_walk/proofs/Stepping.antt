@@ -17,14 +17,14 @@ use Rattle.zf_walk.specs.Tests.{IsWalked, IsUpTo, IsNumber, IsNumberOfTests, cut
 use Rattle.zf_walk.specs.Progress.{Ahead, IsAhead, AreDueWithin, Takes, IsNoneAhead, past, ended}
 use Rattle.zf_walk.specs.Picked.{picked}
 use Rattle.zf_walk.specs.Places.{reaches, is_reached, under, is_due, is_ahead, IsSoFar, IsNextDue, IsAt, Knows, IsReady, Stands, front, path, ahead_of, steps_left, is_over}
-use Rattle.zf_walk.specs.Steps.{Passes, Enters, Backs, Moves, Leaves, Tests, KeepsEvents, GoesOn, Gives, up_to, Answers}
+use Rattle.zf_walk.specs.Steps.{Passes, Enters, Backs, Moves, Admits, Leaves, Tests, KeepsEvents, GoesOn, Gives, up_to, Answers}
 use Rattle.zf_walk.proofs.Order.{reaches-under}
 use Rattle.zf_walk.proofs.Picks.{picked-nil, picked-push, nth-at, IsFrontOf-picked, IsRowOf-front, IsRowOf-length, IsFrontOf-length}
 use Rattle.zf_walk.proofs.Reaching.{IsLater-from, IsUpTo-from, IsUpTo-to}
 use Rattle.zf_walk.proofs.Counting.{cut-more, number-same}
 use Rattle.zf_walk.proofs.Truths.{truth_so, so_far-at, so_far-skip, so_far-deeper, so_far-true, so_far-out, IsTruthOf-so_far, IsTruthOf-false, IsTruthOf-only}
 use Rattle.zf_walk.proofs.Moving.{length-front, fewer-at, same-path, last-value, is_ahead-of}
-use Rattle.zf_walk.proofs.Knowing.{Setting, Walked, Before, Done, counted-of, counted-to, counted-past, counted-skip, counted-more, walked-here, left-behind, stays, earlier-kept, now-of, smaller-next, smaller-past}
+use Rattle.zf_walk.proofs.Knowing.{Setting, Walked, Before, Done, counted-of, counted-to, counted-past, counted-skip, counted-more, walked-here, left-behind, stays, earlier-kept, now-of, smaller-next, smaller-past, admitted}
 
 module _ {V : Type 0} {cmp : V → V → Ordering} {s : Conjuncts V} {ranges : List (List V)} {after : Option (List V)} (given : Setting cmp s ranges after) where
   -- a move of the place
@@ -186,3 +186,18 @@ module _ {V : Type 0} {cmp : V → V → Ordering} {s : Conjuncts V} {ranges : L
           (λ i v. ap (λ os. get_or os i false) w.1 ∙ get_or-set_other p.outs.items p.depth i true false (λ d. omega arith))
           (so_far-out s p.depth p.conjunct (path ranges p) (get_or p.outs.items p.depth false) l (ready.due f l) h (k.now f))
       go False h w = refused h w.0 w.1
+
+  -- a move to a row, and its entering
+  pub goes-entered : (p mid q : Place) → IsAt ranges p → Knows cmp s ranges after p → (p.fresh ≡ true → p.conjunct ≡ s.number) → Moves cmp s.number ranges p mid → Admits cmp s ranges after mid q
+      → GoesOn cmp s ranges after p q × IsReady cmp s ranges after q
+  goes-entered p mid q at k done m a =
+      let go = goes-moved p mid at k done m in
+      let b = admitted given mid q m.at go.knows (λ f. let en = m.enters f in let w = en.1 in w.none) a in
+      (record {
+        at = b.at;
+        knows = b.knows;
+        same = λ e ev. go.same e ev ∙ b.same e ev;
+        smaller = let x = go.smaller in let y = b.no_more in omega arith;
+        tests = let x = go.tests in let y = b.tests in omega arith;
+      },
+      b.ready)

@@ -1,19 +1,21 @@
-use Rattle.std.proofs.Common.{rules, ◌≡◌, ◌+◌, ◌<◌, ◌≤◌, length, ℕ, ◌-◌, ◌*◌, ◌/◌, ◌%◌, Bool, true, false, nat_eq, nat_lt, List, [], ◌∷◌, ◌++◌, slice_index_or, slice_set, bit_and, bit_or, Fits, w8, w32, w64, Bor, MutBor}
-use Rattle.std.specs.Option.{option_copied}
-use Rattle.zf_walk.specs.Rows.{HasLength}
-use Rattle.zf_walk.specs.Picked.{AreWithin, picked}
-use Rattle.zf_walk.specs.Places.{IsAt, IsAgenda, is_reached, reaches}
-use Rattle.zf_walk.specs.Steps.{Admits}
+use Rattle.std.proofs.Common.{◌≡◌, sym, ap, ◌∙◌}
+use Rattle.zf_walk.specs.Picked.{picked}
+use Rattle.zf_walk.specs.Places.{first_of, reaches}
+use Rattle.std.proofs.Common.{drop, ◌+◌}
+use Rattle.zf_walk.proofs.Reaching.{reaches-drop}
 use Rattle.zf_walk.proofs.reach.reaches.Goals as goal
 
--- src/reach.rt:24:31
 pub returns-in-Less : goal.returns-in-Less
-returns-in-Less g c = ?
+returns-in-Less g c =
+    let step = reaches-drop g.V.Ord.cmp g.met.V.Ord.total c.args.here c.args.named.now (picked c.args.ranges.now c.args.places.now) c.loop-i.i c.index-named-i.result c.pick.result.now c.loop-i-test.true c.index-named-i.is c.pick.ensures in
+    ap (λ q. first_of q (reaches g.V.Ord.cmp c.args.here (drop (c.loop-i.i + 1) c.args.named.now) (drop (c.loop-i.i + 1) (picked c.args.ranges.now c.args.places.now)))) c.in-Less.ensures ∙ sym step ∙ c.loop-i.invariant
 
--- src/reach.rt:25:34
 pub returns-in-Greater : goal.returns-in-Greater
-returns-in-Greater g c = ?
+returns-in-Greater g c =
+    let step = reaches-drop g.V.Ord.cmp g.met.V.Ord.total c.args.here c.args.named.now (picked c.args.ranges.now c.args.places.now) c.loop-i.i c.index-named-i.result c.pick.result.now c.loop-i-test.true c.index-named-i.is c.pick.ensures in
+    ap (λ q. first_of q (reaches g.V.Ord.cmp c.args.here (drop (c.loop-i.i + 1) c.args.named.now) (drop (c.loop-i.i + 1) (picked c.args.ranges.now c.args.places.now)))) c.in-Greater.ensures ∙ sym step ∙ c.loop-i.invariant
 
--- src/reach.rt:22:5
 pub loop-i-preserved : goal.loop-i-preserved
-loop-i-preserved g c = ?
+loop-i-preserved g c =
+    let step = reaches-drop g.V.Ord.cmp g.met.V.Ord.total c.args.here c.args.named.now (picked c.args.ranges.now c.args.places.now) c.loop-i.i c.index-named-i.result c.pick.result.now c.loop-i-test.true c.index-named-i.is c.pick.ensures in
+    ap (λ q. first_of q (reaches g.V.Ord.cmp c.args.here (drop (c.loop-i.i + 1) c.args.named.now) (drop (c.loop-i.i + 1) (picked c.args.ranges.now c.args.places.now)))) c.in-Equal.ensures ∙ sym step ∙ c.loop-i.invariant

@@ -1,33 +1,55 @@
-use Rattle.std.proofs.Common.{rules, ◌≡◌, ◌+◌, ◌<◌, length, IsTrue, IfOk, OnOk, OnErr, ℕ, ◌-◌, ◌*◌, ◌≤◌, ◌/◌, ◌%◌, Bool, true, false, nat_eq, nat_lt, List, [], ◌∷◌, ◌++◌, slice_index_or, slice_set, bit_and, bit_or, Fits, w8, w32, w64, Bor, MutBor}
+use Rattle.std.proofs.Common.{◌≡◌, ◌<◌, ◌≤◌, ◌+◌, ℕ, Bool, true, false, length, get_or, refl, sym, ap, ◌∙◌, subst, arith}
 use Rattle.std.specs.Option.{option_copied}
-use Rattle.zf_walk.specs.Places.{IsAgenda, IsAt, IsSound, Stands, is_over}
-use Rattle.zf_walk.specs.Steps.{Tests, Goes, Answers, Keeps}
+use Rattle.std.proofs.lemmas.Bool.{false≢true}
+use Rattle.std.proofs.lemmas.List.{get_or_default}
+use Rattle.zf_walk.specs.declared.place.Place.{Place}
+use Rattle.zf_walk.specs.Steps.{Moves, Passes}
+use Rattle.zf_walk.proofs.Knowing.{Setting}
+use Rattle.zf_walk.proofs.Stepping.{goes-entered, goes-tested}
+use Rattle.zf_walk.proofs.Answering.{answers-over, answers-whole}
 use Rattle.zf_walk.proofs.steps.step_on.Goals as goal
 
--- src/steps.rt:62:13
 pub returns-then-place-eq0-clause-goes : goal.returns-then-place-eq0-clause-goes
-returns-then-place-eq0-clause-goes g c = ?
+returns-then-place-eq0-clause-goes g c =
+    let given : Setting g.V.Ord.cmp (g.J.Judge.conjuncts c.args.judge.now) c.args.ranges.now (option_copied c.args.after) = record {
+      total = g.met.V.Ord.total; ties = c.requires.sound.ties; one_truth = g.met.J.Judge.one_truth c.args.judge.now; kept = g.met.J.Judge.kept c.args.judge.now; named = c.requires.sound.named } in
+    answers-over given c.args.place.now c.requires.stands c.if-not-place.true c.if-place-eq0.true
 
--- src/steps.rt:65:9
 pub admit-requires-clause-at : goal.admit-requires-clause-at
-admit-requires-clause-at g c = ?
+admit-requires-clause-at g c = let m = c.retreat.ensures 0 in m.at
 
--- src/steps.rt:66:9
 pub returns-then-not-place-clause-goes : goal.returns-then-not-place-clause-goes
-returns-then-not-place-clause-goes g c = ?
+returns-then-not-place-clause-goes g c =
+    let given : Setting g.V.Ord.cmp (g.J.Judge.conjuncts c.args.judge.now) c.args.ranges.now (option_copied c.args.after) = record {
+      total = g.met.V.Ord.total; ties = c.requires.sound.ties; one_truth = g.met.J.Judge.one_truth c.args.judge.now; kept = g.met.J.Judge.kept c.args.judge.now; named = c.requires.sound.named } in
+    let st = c.requires.stands in
+    let s = g.J.Judge.conjuncts c.args.judge.now in
+    goes-entered given c.args.place.now c.retreat.new.place c.admit.new.place st.at st.knows (λ e. absurd (false≢true (sym c.if-not-place.true ∙ e))) (c.retreat.ensures s.number) c.admit.ensures
 
--- src/steps.rt:70:9
 pub returns-then-place-len-clause-goes : goal.returns-then-place-len-clause-goes
-returns-then-place-len-clause-goes g c = ?
+returns-then-place-len-clause-goes g c =
+    let given : Setting g.V.Ord.cmp (g.J.Judge.conjuncts c.args.judge.now) c.args.ranges.now (option_copied c.args.after) = record {
+      total = g.met.V.Ord.total; ties = c.requires.sound.ties; one_truth = g.met.J.Judge.one_truth c.args.judge.now; kept = g.met.J.Judge.kept c.args.judge.now; named = c.requires.sound.named } in
+    let st = c.requires.stands in
+    let p : Place = c.args.place.now in
+    let s = g.J.Judge.conjuncts c.args.judge.now in
+    let l : p.conjunct < s.number = omega (arith, c.requires.sound.agenda.all_nexts, c.len.ensures) in
+    goes-tested given p c.test_next.new.place st.at st.knows st.ready c.if-not-place.false l c.in_ok-test_next.ensures.ok
 
--- src/steps.rt:75:9
 pub returns-then-place-ranges-clause-goes : goal.returns-then-place-ranges-clause-goes
-returns-then-place-ranges-clause-goes g c = ?
+returns-then-place-ranges-clause-goes g c =
+    let given : Setting g.V.Ord.cmp (g.J.Judge.conjuncts c.args.judge.now) c.args.ranges.now (option_copied c.args.after) = record {
+      total = g.met.V.Ord.total; ties = c.requires.sound.ties; one_truth = g.met.J.Judge.one_truth c.args.judge.now; kept = g.met.J.Judge.kept c.args.judge.now; named = c.requires.sound.named } in
+    let st = c.requires.stands in
+    let p : Place = c.args.place.now in
+    let s = g.J.Judge.conjuncts c.args.judge.now in
+    let few : p.conjunct ≤ s.number = st.knows.conjuncts in
+    let done : p.conjunct ≡ s.number = omega (arith, c.requires.sound.agenda.all_nexts, c.len.ensures) in
+    goes-entered given p c.descend.new.place c.admit-then-place-ranges.new.place st.at st.knows (λ _. done)
+    (subst (λ n. Moves g.V.Ord.cmp n c.args.ranges.now p c.descend.new.place) done c.descend.ensures) c.admit-then-place-ranges.ensures
 
--- src/steps.rt:47:1
 pub returns-then-index-clause-goes : goal.returns-then-index-clause-goes
 returns-then-index-clause-goes g c = ?
 
--- src/steps.rt:47:1
 pub returns-else-index-clause-goes : goal.returns-else-index-clause-goes
 returns-else-index-clause-goes g c = ?
