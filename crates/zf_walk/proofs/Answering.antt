@@ -74,6 +74,14 @@ module _ {V : Type 0} {cmp : V → V → Ordering} {s : Conjuncts V} {ranges : L
   none-ahead row (inl e) = let z : Equal ≡ Less = e in cc
   none-ahead row (inr a) = false≢true a.0
 
+  -- a walk that has ended is over
+  pub over-from : (p : Place) → IsAt ranges p → ahead_of ranges p ≡ ended → is_over p ≡ true
+  over-from p at e =
+      let none : path ranges p ≡ [] = ap (λ a. a.path) e in
+      let f : p.fresh ≡ false = ap (λ a. a.here) e in
+      let d : p.depth ≡ 0 = sym (length-front ranges p at p.depth (omega arith)) ∙ ap length none in
+      ap (λ b. cond b false (eqb p.depth 0)) f ∙ ap (λ i. eqb i 0) d
+
   pub answers-over : (p : Place) → Stands cmp s ranges after p → p.fresh ≡ false → p.depth ≡ 0 → Answers cmp s ranges after p End p
   answers-over p st f d =
       let k = st.knows in

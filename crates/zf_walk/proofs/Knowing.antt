@@ -9,6 +9,7 @@ use Rattle.std.proofs.lemmas.List.{length-replicate, get_or-replicate, get_or-se
 use Rattle.zf_walk.specs.declared.judge.Truth.{Truth}
 use Rattle.zf_walk.specs.declared.judge.Truth.TheVariants.{True, False, Out}
 use Rattle.zf_walk.specs.declared.place.Place.{Place}
+use Rattle.zf_walk.specs.declared.agenda.Agenda.{Agenda}
 use Rattle.zf_walk.specs.declared.step.Step.{Step}
 use Rattle.zf_walk.specs.declared.step.Step.TheVariants.{Holds, Breaks, End}
 use Rattle.zf_walk.specs.Conjuncts.{Conjuncts, HaveOneTruth, KeepTruths, IsTruthOf}
@@ -17,7 +18,7 @@ use Rattle.zf_walk.specs.Events.{Event, IsEvent}
 use Rattle.zf_walk.specs.Tests.{IsCandidate, IsPair, IsWalked, IsUpTo, IsNumber, IsNumberOfTests, cut}
 use Rattle.zf_walk.specs.Progress.{Ahead, IsAhead, AreDueWithin, Takes, IsNoneAhead, past, ended}
 use Rattle.zf_walk.specs.Picked.{AreWithin, picked}
-use Rattle.zf_walk.specs.Places.{reaches, is_reached, under, is_due, is_ahead, IsNextDue, IsAgenda, IsTested, IsSoFar, IsDone, IsAt, Knows, IsReady, Stands, front, path, ahead_of, below, above, steps_left, is_over}
+use Rattle.zf_walk.specs.Places.{reaches, is_reached, under, is_due, is_ahead, IsNextDue, IsAgenda, IsTested, IsSoFar, IsDone, IsAt, Knows, IsReady, Stands, IsSound, front, path, ahead_of, below, above, steps_left, is_over}
 use Rattle.zf_walk.specs.Steps.{Passes, Enters, Backs, Moves, Awaits, Begins, Admits, Leaves, Tests, KeepsEvents, GoesOn, Gives, up_to, Answers}
 use Rattle.zf_walk.proofs.Order.{reaches-both, reaches-under, begins, under-differs, under-at}
 use Rattle.zf_walk.proofs.Picks.{IsFrontOf-picked, IsRowOf-front, IsRowOf-length, IsFrontOf-length, nothing-more}
@@ -38,6 +39,9 @@ pub record Setting {V : Type 0} (cmp : V → V → Ordering) (s : Conjuncts V) (
   pub one_truth : HaveOneTruth s
   pub kept : KeepTruths s
   pub named : HasLength after (length ranges)
+
+pub setting-of : {V : Type 0} {cmp : V → V → Ordering} {s : Conjuncts V} {ranges : List (List V)} {after : Option (List V)} {a : Agenda} → IsTotalOrder cmp → HaveOneTruth s → KeepTruths s → IsSound cmp s ranges after a → Setting cmp s ranges after
+setting-of o one keep sound = record { total = o; ties = sound.ties; one_truth = one; kept = keep; named = sound.named }
 
 module _ {V : Type 0} {cmp : V → V → Ordering} {s : Conjuncts V} {ranges : List (List V)} {after : Option (List V)} (given : Setting cmp s ranges after) where
   abbrev pub Walked : List V × ℕ → Type 0

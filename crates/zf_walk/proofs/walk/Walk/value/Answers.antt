@@ -1,11 +1,19 @@
-use Rattle.std.proofs.Common.{rules, ◌≡◌, ◌<◌, ◌≤◌, ℕ, length, IfOk, OnOk, OnErr, IsSomeAnd, IfSome, slice_get, ◌+◌, ◌-◌, ◌*◌, ◌/◌, ◌%◌, Bool, true, false, nat_eq, nat_lt, List, [], ◌∷◌, ◌++◌, slice_index_or, slice_set, bit_and, bit_or, Fits, w8, w32, w64, Bor, MutBor}
-use Rattle.std.specs.Option.{option_copied}
-use Rattle.zf_walk.specs.Rows.{TiesAreEqual, AreAscending, HasLength}
-use Rattle.zf_walk.specs.Events.{Event, IsEvent}
-use Rattle.zf_walk.specs.Tests.{IsNumberOfTests, IsBound}
-use Rattle.zf_walk.specs.Progress.{AreDueWithin, beginning, ended, IsAhead, SameProblem, SameAhead, Advances, AreTests}
+use Rattle.std.proofs.Common.{◌≡◌, ◌<◌, ℕ, Bool, true, false, cond, List, length, take, Option, Some, None, refl, sym, ap, ◌∙◌, subst, arith}
+use Rattle.std.specs.Prelude.{IsSomeAnd}
+use Rattle.zf_walk.specs.Places.{path}
+use Rattle.zf_walk.proofs.Moving.{length-front}
+use Rattle.zf_walk.proofs.Picks.{length-picked}
 use Rattle.zf_walk.proofs.walk.Walk.value.Goals as goal
 
--- src/walk.rt:121:9
+last-long : {V : Type 0} (given : Bool) (row : List V) (i : ℕ) → IsSomeAnd (cond given (Some row) None) (λ r. i < length r) → i < length row
+last-long true row i h = h
+last-long false row i h = absurd h
+
 pub pick-requires-clause-index : goal.pick-requires-clause-index
-pick-requires-clause-index g c = ?
+pick-requires-clause-index g c =
+    let w = c.self.inside in
+    let at = c.self.invariant.stands.at in
+    let h = subst (λ z. IsSomeAnd z.last (λ row. c.args.i < length row)) (sym c.self.view_is) c.requires in
+    let long = last-long w.given (path w.ranges.now w.place) c.args.i h in
+    subst (λ is. c.args.i < length (take w.place.depth is)) (sym c.deref.ensures.value)
+    (subst (λ n. c.args.i < n) (length-picked w.ranges.now (take w.place.depth w.place.places.items) at.within) long)
