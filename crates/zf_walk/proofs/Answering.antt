@@ -15,7 +15,7 @@ use Rattle.zf_walk.specs.Conjuncts.{Conjuncts, IsTruthOf}
 use Rattle.zf_walk.specs.Rows.{ComesAfter}
 use Rattle.zf_walk.specs.Events.{Event, IsEvent}
 use Rattle.zf_walk.specs.Tests.{IsWalked, IsPair, IsUpTo, IsNumber, IsNumberOfTests, IsBound, cut}
-use Rattle.zf_walk.specs.Progress.{Ahead, IsAhead, AreDueWithin, Takes, IsNoneAhead, SameAhead, beginning, past, ended}
+use Rattle.zf_walk.specs.Progress.{Ahead, IsAhead, AreDueWithin, Takes, IsNoneAhead, AreAllAhead, SameAhead, past, ended}
 use Rattle.zf_walk.specs.Picked.{AreWithin, picked}
 use Rattle.zf_walk.specs.Places.{reaches, is_reached, under, is_due, is_ahead, IsSoFar, IsDone, IsAt, Knows, IsReady, Stands, front, path, ahead_of, is_over}
 use Rattle.zf_walk.specs.Steps.{Passes, KeepsEvents, GoesOn, Gives, up_to, Answers, Keeps}
@@ -214,11 +214,8 @@ module _ {V : Type 0} {cmp : V → V → Ordering} {s : Conjuncts V} {ranges : L
     (λ a. ahead-from p at e ev (same e ev ∙ ahead-to q bt e ev a)),
   )
 
-  pub SameAhead-beginning : (p q : Place) → p.depth ≡ 0 → p.fresh ≡ true → IsAt ranges q → KeepsEvents cmp s ranges after p q → SameAhead cmp s ranges after beginning (ahead_of ranges q)
-  SameAhead-beginning p q d f bt same e ev = (
-    (λ _. ahead-from q bt e ev (sym (same e ev) ∙ start-reaches cmp s ranges after p d f e.row)),
-    (λ _. inr (refl, refl)),
-  )
+  pub AreAllAhead-start : (p q : Place) → p.depth ≡ 0 → p.fresh ≡ true → IsAt ranges q → KeepsEvents cmp s ranges after p q → AreAllAhead cmp s ranges after (ahead_of ranges q)
+  AreAllAhead-start p q d f bt same e ev = ahead-from q bt e ev (sym (same e ev) ∙ start-reaches cmp s ranges after p d f e.row)
 
   takes-on : (a b c : Ahead V) (e : Event V) → SameAhead cmp s ranges after a b → Takes cmp s ranges after b e c → Takes cmp s ranges after a e c
   takes-on a b c e same t = record {

@@ -13,7 +13,7 @@ use Rattle.zf_walk.specs.Conjuncts.{Conjuncts}
 use Rattle.zf_walk.specs.Rows.{TiesAreEqual, ComesAfter, IsLater}
 use Rattle.zf_walk.specs.Events.{Event, IsEvent, IsEvents}
 use Rattle.zf_walk.specs.Tests.{IsWalked, IsUpTo, IsPair}
-use Rattle.zf_walk.specs.Progress.{Ahead, IsAhead, beginning, past, Takes, IsNoneAhead, IsRest}
+use Rattle.zf_walk.specs.Progress.{Ahead, IsAhead, past, Takes, IsNoneAhead, IsRest}
 use Rattle.zf_walk.specs.Laws.{HasOneList, Resumes, StartsWithAll, TakesFirst, EndsWithNone, StaysWithinBound}
 use Rattle.zf_walk.proofs.Lists.{Contains-head, Contains-later, Contains-cases, Contains-nil, Contains-right, Contains-either, AllPairs-nil, AllPairs-cons, AllPairs-head, AllPairs-tail, AllPairs-back, AllPairs-across, AllPairs-unique}
 use Rattle.zf_walk.proofs.Order.{slice-ties}
@@ -89,9 +89,9 @@ module _ {V : Type 0} (cmp : V → V → Ordering) (o : IsTotalOrder cmp) where
         }
 
     pub starts_with_all : StartsWithAll cmp s
-    starts_with_all ranges after events = (
-      (λ r. record { ascending = r.ascending; members = λ e. ((λ m. ((r.members e).0 m).0), (λ i. (r.members e).1 (i, inr (refl, refl)))) }),
-      (λ r. record { ascending = r.ascending; members = λ e. ((λ m. ((r.members e).0 m, inr (refl, refl))), (λ i. (r.members e).1 i.0)) }),
+    starts_with_all ranges after a all events = (
+      (λ r. record { ascending = r.ascending; members = λ e. ((λ m. ((r.members e).0 m).0), (λ i. (r.members e).1 (i, all e i))) }),
+      (λ r. record { ascending = r.ascending; members = λ e. ((λ m. let i = (r.members e).0 m in (i, all e i)), (λ i. (r.members e).1 i.0)) }),
     )
 
     pub ends_with_none : EndsWithNone cmp s

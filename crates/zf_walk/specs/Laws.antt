@@ -5,7 +5,7 @@ use Rattle.zf_walk.specs.Conjuncts.{Conjuncts}
 use Rattle.zf_walk.specs.Rows.{TiesAreEqual}
 use Rattle.zf_walk.specs.Events.{Event, IsEvents}
 use Rattle.zf_walk.specs.Tests.{IsNumberOfTests, IsBound}
-use Rattle.zf_walk.specs.Progress.{Ahead, beginning, Takes, IsNoneAhead, IsRest}
+use Rattle.zf_walk.specs.Progress.{Ahead, AreAllAhead, Takes, IsNoneAhead, IsRest}
 
 -- There is one list of the events.
 abbrev pub HasOneList : {V : Type 0} → (V → V → Ordering) → Conjuncts V → Type 0
@@ -17,10 +17,10 @@ abbrev pub Resumes : {V : Type 0} → (V → V → Ordering) → Conjuncts V →
 Resumes {V} cmp s = (ranges : List (List V)) (after : Option (List V)) (front : List (Event V)) (e : Event V) (rest : List (Event V))
     → IsEvents cmp s ranges after (front ++ e ∷ rest) → IsEvents cmp s ranges (Some e.row) rest
 
--- At the beginning the events are ahead.
+-- Where every event is ahead the list of those ahead is the list of the events.
 abbrev pub StartsWithAll : {V : Type 0} → (V → V → Ordering) → Conjuncts V → Type 0
-StartsWithAll {V} cmp s = (ranges : List (List V)) (after : Option (List V)) (events : List (Event V))
-    → IsRest cmp s ranges after beginning events ↔ IsEvents cmp s ranges after events
+StartsWithAll {V} cmp s = (ranges : List (List V)) (after : Option (List V)) (a : Ahead V) → AreAllAhead cmp s ranges after a
+    → (events : List (Event V)) → IsRest cmp s ranges after a events ↔ IsEvents cmp s ranges after events
 
 -- What was ahead is the event that is taken, and then what is ahead now.
 abbrev pub TakesFirst : {V : Type 0} → (V → V → Ordering) → Conjuncts V → Type 0

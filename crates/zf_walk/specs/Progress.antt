@@ -21,10 +21,6 @@ pub record Ahead (V : Type 0) : Type 0 where
 abbrev pub IsAhead : {V : Type 0} → (V → V → Ordering) → Ahead V → List V → Type 0
 IsAhead cmp a row = ComesAfter cmp a.path (take (length a.path) row) ⊎ (IsTrue a.here × (take (length a.path) row ≡ a.path))
 
--- all rows
-abbrev pub beginning : {V : Type 0} → Ahead V
-beginning = record { path = []; here = true }
-
 -- those greater than this one
 abbrev pub past : {V : Type 0} → List V → Ahead V
 past row = record { path = row; here = false }
@@ -55,6 +51,11 @@ pub record Takes {V : Type 0} (cmp : V → V → Ordering) (s : Conjuncts V) (ra
   pub first : (f : Event V) → IsEvent cmp s ranges after f → IsAhead cmp old f.row → (f ≡ e) ⊎ ComesAfter cmp e.row f.row
   pub passed : new ≡ past e.row
 
+-- every event is ahead
+abbrev pub AreAllAhead : {V : Type 0} → (V → V → Ordering) → Conjuncts V → List (List V) → Option (List V) → Ahead V → Type 0
+AreAllAhead {V} cmp s ranges after a = (e : Event V) → IsEvent cmp s ranges after e → IsAhead cmp a e.row
+
+-- no event is ahead
 abbrev pub IsNoneAhead : {V : Type 0} → (V → V → Ordering) → Conjuncts V → List (List V) → Option (List V) → Ahead V → Type 0
 IsNoneAhead {V} cmp s ranges after a = (e : Event V) → IsEvent cmp s ranges after e → IsAhead cmp a e.row → ⊥
 

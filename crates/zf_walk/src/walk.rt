@@ -1,10 +1,10 @@
 //! Walks.
-ghost use Rattle.std.specs.Prelude.{◌≡◌, ◌<◌, ◌≤◌, ℕ, length, IfOk, OnOk, OnErr, IsSomeAnd, IfSome, slice_get};
+ghost use Rattle.std.specs.Prelude.{◌≡◌, ◌<◌, ◌≤◌, ℕ, length, IfOk, OnOk, OnErr, IsSomeAnd, IfSome, slice_get, unwrap_or, []};
 ghost use Rattle.std.specs.Option.{option_copied};
 ghost use Rattle.zf_walk.specs.Rows.{TiesAreEqual, AreAscending, HasLength};
 ghost use Rattle.zf_walk.specs.Events.{Event, IsEvent};
 ghost use Rattle.zf_walk.specs.Tests.{IsNumberOfTests, IsBound};
-ghost use Rattle.zf_walk.specs.Progress.{AreDueWithin, beginning, ended, IsAhead, SameProblem, SameAhead, Advances, AreTests};
+ghost use Rattle.zf_walk.specs.Progress.{AreDueWithin, ended, IsAhead, AreAllAhead, SameProblem, SameAhead, Advances, AreTests};
 
 use crate::agenda::Agenda;
 use crate::judge::Judge;
@@ -12,6 +12,7 @@ use crate::picked::pick;
 use crate::place::Place;
 use crate::range::Range;
 use crate::reach::admit;
+use crate::row::Row;
 use crate::step::Step;
 use crate::steps::next_answer;
 use std::alloc::{AllocError, Global};
@@ -54,7 +55,7 @@ impl<'a, V: Ord, J: Judge<V>> Walk<'a, V, J> {
         requires named { HasLength (option_copied after) (length ranges.now) }
         requires due { AreDueWithin (J.conjuncts judge.now) (length ranges.now) }
         ensures problem { IfOk result (λ w. (w.judge ≡ judge.now) × (w.ranges ≡ ranges.now) × (w.after ≡ option_copied after.entry)) }
-        ensures events { IfOk result (λ w. SameAhead V.cmp (J.conjuncts judge.now) ranges.now (option_copied after.entry) beginning w.ahead) }
+        ensures events { IfOk result (λ w. AreAllAhead V.cmp (J.conjuncts judge.now) ranges.now (option_copied after.entry) w.ahead) }
         ensures first { IfOk result (λ w. (w.last ≡ None) × (w.tests ≡ 0)) }
     {
         let agenda = Agenda::new(alloc, judge, ranges.len())?;
@@ -119,5 +120,18 @@ impl<'a, V: Ord, J: Judge<V>> Walk<'a, V, J> {
         ensures { IfSome self.now.last (λ row. slice_get row i ≡ Some result.now) }
     {
         pick(self.ranges, &self.place.places[..self.place.depth], i)
+    }
+}
+
+/// The row that the last step gave; no values where it gave none.
+impl<'a, V: Ord, J: Judge<V>> Row<V> for Walk<'a, V, J> {
+    ghost values = { λ w. unwrap_or w.last [] };
+
+    fn len(&self) -> usize {
+        if self.given { self.place.depth } else { 0 }
+    }
+
+    fn get(&self, i: usize) -> &V {
+        self.value(i)
     }
 }

@@ -4,7 +4,7 @@ use Rattle.std.proofs.lemmas.Bool.{false≢true}
 use Rattle.zf_walk.specs.declared.place.Place.{Place}
 use Rattle.zf_walk.specs.Places.{IsSound}
 use Rattle.zf_walk.proofs.Knowing.{setting-of, admitted}
-use Rattle.zf_walk.proofs.Answering.{IsAt-start, Knows-start, SameAhead-beginning}
+use Rattle.zf_walk.proofs.Answering.{IsAt-start, Knows-start, AreAllAhead-start}
 use Rattle.zf_walk.proofs.walk.Walk.start.Goals as goal
 
 pub invariant_of-result : goal.invariant_of-result
@@ -31,4 +31,4 @@ returns-clause-events g c =
     let places : length c.in_ok-places.places.items ≡ length ranges = search rules in
     let outs : c.in_ok-outs.outs.items ≡ replicate (length ranges + 1) false = search rules in
     let a = admitted given p c.admit.new.place (IsAt-start ranges p refl places) (Knows-start g.V.Ord.cmp s ranges after p refl refl refl refl outs) (λ _. refl) c.admit.ensures in
-    SameAhead-beginning given p c.admit.new.place refl refl a.at a.same
+    AreAllAhead-start given p c.admit.new.place refl refl a.at a.same

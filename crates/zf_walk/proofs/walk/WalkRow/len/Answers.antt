@@ -1,0 +1,12 @@
+use Rattle.std.proofs.Common.{◌≡◌, ◌≤◌, true, cond, [], length, Some, None, sym, ap, ◌∙◌, arith}
+use Rattle.std.specs.Prelude.{unwrap_or}
+use Rattle.zf_walk.specs.Places.{path}
+use Rattle.zf_walk.proofs.Moving.{length-front}
+use Rattle.zf_walk.proofs.walk.WalkRow.len.Goals as goal
+
+pub returns-then-self : goal.returns-then-self
+returns-then-self g c =
+    let w = c.self.inside in
+    sym (length-front w.ranges.now w.place c.self.invariant.stands.at w.place.depth (omega arith))
+    ∙ sym (ap (λ b. length (unwrap_or (cond b (Some (path w.ranges.now w.place)) None) [])) c.if-self.true)
+    ∙ ap (λ z. length (unwrap_or z.last [])) c.self.view_is
