@@ -22,7 +22,11 @@ module _ {V : Type 0} (s : Conjuncts V) (n : ℕ) where
     all_nexts = ap length f ∙ length-replicate s.number s.number;
     few = omega arith;
     firsts = λ k h. subst (IsNextDue s k s.number) (sym (ap (λ xs. get_or xs k 0) e ∙ get_or-replicate (n + 1) k s.number 0 (omega arith))) (record {
-      from = omega arith; within = omega arith; none = λ c l m. absurd (omega arith); here = λ l. absurd (omega arith) });
+      from = omega arith;
+      within = omega arith;
+      none = λ c l m. absurd (omega arith);
+      here = λ l. absurd (omega arith);
+    });
     nexts = λ d l m. absurd (omega arith);
   }
 
@@ -35,11 +39,11 @@ module _ {V : Type 0} (s : Conjuncts V) (n : ℕ) where
       | inl e ↦ let at : get_or (set firsts (s.due j) j) k 0 ≡ j = ap (λ i. get_or (set firsts (s.due j) j) i 0) e ∙ get_or-set_same firsts (s.due j) j 0 (omega (arith, h.all_firsts)) in
           subst (IsNextDue s k j) (sym at) (record { from = omega arith; within = omega arith; none = λ c a b. absurd (omega arith); here = λ _. sym e })
       | inr ne ↦ subst (IsNextDue s k j) (sym (get_or-set_other firsts (s.due j) k j 0 ne)) (let w = h.firsts k m in record {
-          from = let z = w.from in omega arith;
-          within = w.within;
-          none = λ c a b. elim (cases_eq c j) [ inl e ↦ λ q. ne (sym q ∙ ap s.due e) | inr other ↦ w.none c (omega arith) b ];
-          here = w.here;
-        })
+        from = let z = w.from in omega arith;
+        within = w.within;
+        none = λ c a b. elim (cases_eq c j) [ inl e ↦ λ q. ne (sym q ∙ ap s.due e) | inr other ↦ w.none c (omega arith) b ];
+        here = w.here;
+      })
     ];
     nexts = λ e a b. elim (cases_eq e j) [
       | inl same ↦ let at : get_or (set nexts j (get_or firsts (s.due j) 0)) e 0 ≡ get_or firsts (s.due j) 0 =

@@ -90,8 +90,12 @@ module _ {V : Type 0} {cmp : V → V → Ordering} {s : Conjuncts V} {ranges : L
       record {
         stands = st;
         gives = ((λ e ev a. none-ahead e.row (subst (λ w. IsAhead cmp w e.row) over a)), over, ap (λ b. cond b false (eqb p.depth 0)) f ∙ ap (λ i. eqb i 0) d);
-        counts = (n.0, number-same (Done given p) (λ x. IsWalked cmp s ranges after x × IsUpTo cmp None x.0) n.0
-            (λ x w. (w.0, tt)) (λ x w. (w.0, is_ahead-of cmp ranges p false p.conjunct [] x.0 x.1 f refl (over-path p d))) n.1, n.2);
+        counts = (
+          n.0,
+          number-same (Done given p) (λ x. IsWalked cmp s ranges after x × IsUpTo cmp None x.0) n.0
+              (λ x w. (w.0, tt)) (λ x w. (w.0, is_ahead-of cmp ranges p false p.conjunct [] x.0 x.1 f refl (over-path p d))) n.1,
+          n.2,
+        );
         tests = omega arith;
       }
 
@@ -257,12 +261,15 @@ module _ {V : Type 0} {cmp : V → V → Ordering} {s : Conjuncts V} {ranges : L
       let l : length e.row ≡ length ranges = IsRowOf-length ranges e.row ev.within in
       let here : reaches cmp p.fresh (path ranges p) e.row ≡ true = IsAhead-to cmp given.total given.ties p.fresh (path ranges p) e.row (omega (arith, length-front ranges p at p.depth (omega arith), at.shallow)) a in
       let le = number-le (Done given p) (λ x. IsWalked cmp s ranges after x × IsUpTo cmp (Some e.row) x.0) n.0 number n.1 it
-          (λ x w. (w.0, IsUpTo-from cmp given.total e.row x.0
-          (let pair = (w.0).is_pair in let c = pair.candidate in let z = IsFrontOf-length ranges x.0 c.front in omega arith)
-          (elim (cases_Bool (reaches cmp false e.row x.0)) [
-            | inl y ↦ absurd (false≢true (sym w.1 ∙ further cmp given.total p.fresh p.conjunct x.1 (path ranges p) e.row x.0 here y))
-            | inr z ↦ z
-          ]))) in
+      (λ x w. (
+        w.0,
+        IsUpTo-from cmp given.total e.row x.0
+            (let pair = (w.0).is_pair in let c = pair.candidate in let z = IsFrontOf-length ranges x.0 c.front in omega arith)
+            (elim (cases_Bool (reaches cmp false e.row x.0)) [
+              | inl y ↦ absurd (false≢true (sym w.1 ∙ further cmp given.total p.fresh p.conjunct x.1 (path ranges p) e.row x.0 here y))
+              | inr z ↦ z
+            ]),
+      )) in
       let t : p.tests ≡ cut n.0 = n.2 in omega (arith, cut-le n.0)
 
   pub tests-before_end : (p : Place) → Knows cmp s ranges after p → (number : ℕ) → IsNumberOfTests cmp s ranges after None number → p.tests ≤ number

@@ -63,12 +63,13 @@ module _ {V : Type 0} (cmp : V → V → Ordering) (o : IsTotalOrder cmp) where
   pub IsReached-from : (after : Option (List V)) (n : ℕ) (row : List V) → HasLength after n → length row ≤ n → is_reached cmp after n row ≡ true → IsReached cmp after n row
   IsReached-from None n row l s h = tt
   IsReached-from (Some named) n row l s h =
-      let told = front-told named row (ltb (length row) n) (omega arith) in
-      (not_greater-of (slice_cmp cmp (take (length row) named) row) (ltb (length row) n) (sym told ∙ h),
-      λ e. let whole : ltb (length row) n ≡ false = le-ltb (length row) n (omega arith) in
-      let same : take (length row) named ≡ named = take_all (length row) named (omega arith) in
-      subst (λ t. slice_cmp cmp t row ≡ Less) same
-      (less-of (slice_cmp cmp (take (length row) named) row) (ap (λ b. first_of (slice_cmp cmp (take (length row) named) row) b) (sym whole) ∙ sym told ∙ h)))
+      let told = front-told named row (ltb (length row) n) (omega arith) in (
+        not_greater-of (slice_cmp cmp (take (length row) named) row) (ltb (length row) n) (sym told ∙ h),
+        λ e. let whole : ltb (length row) n ≡ false = le-ltb (length row) n (omega arith) in
+            let same : take (length row) named ≡ named = take_all (length row) named (omega arith) in
+            subst (λ t. slice_cmp cmp t row ≡ Less) same
+            (less-of (slice_cmp cmp (take (length row) named) row) (ap (λ b. first_of (slice_cmp cmp (take (length row) named) row) b) (sym whole) ∙ sym told ∙ h)),
+      )
 
   pub is_reached-from : (after : Option (List V)) (n : ℕ) (row : List V) → HasLength after n → length row ≤ n → IsReached cmp after n row → is_reached cmp after n row ≡ true
   is_reached-from None n row l s h = refl

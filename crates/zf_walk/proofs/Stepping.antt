@@ -122,26 +122,29 @@ module _ {V : Type 0} {cmp : V → V → Ordering} {s : Conjuncts V} {ranges : L
         → IsSoFar s p.depth (p.conjunct + 1) (path ranges p) b → GoesOn cmp s ranges after p q × IsReady cmp s ranges after q
     on b g out all others h =
         let w = test.awaits in
-        let n = k.counted in
-        (record {
-          at = place;
-          knows = record {
-            conjuncts = let z = next in z.within;
-            all_outs = all ∙ k.all_outs;
-            earlier = earlier-kept given p q k w.places w.depth others;
-            now = λ _. now-of given q p.depth q.conjunct (path ranges p) b w.depth refl same out (so_far-skip s p.depth (p.conjunct + 1) q.conjunct (path ranges p) b next h);
-            counted = (n.0 + 1,
-              counted-to given q true q.conjunct (path ranges p) (n.0 + 1) g refl same (counted-skip given (path ranges p) (p.conjunct + 1) q.conjunct (n.0 + 1) (subst (λ d. IsNextDue s d (p.conjunct + 1) q.conjunct) (sym len) next) more),
-              counts);
-          };
-          same = stays given p q f g same;
-          smaller = let z = next in smaller-next given p q f g l w.places w.depth z.from;
-          tests = grows;
-        },
-        record {
-          reached = λ _. ap (is_reached cmp after (length ranges)) same ∙ ready.reached f;
-          due = λ _ m. let z = next in z.here m ∙ sym w.depth;
-        })
+        let n = k.counted in (
+          record {
+            at = place;
+            knows = record {
+              conjuncts = let z = next in z.within;
+              all_outs = all ∙ k.all_outs;
+              earlier = earlier-kept given p q k w.places w.depth others;
+              now = λ _. now-of given q p.depth q.conjunct (path ranges p) b w.depth refl same out (so_far-skip s p.depth (p.conjunct + 1) q.conjunct (path ranges p) b next h);
+              counted = (
+                n.0 + 1,
+                counted-to given q true q.conjunct (path ranges p) (n.0 + 1) g refl same (counted-skip given (path ranges p) (p.conjunct + 1) q.conjunct (n.0 + 1) (subst (λ d. IsNextDue s d (p.conjunct + 1) q.conjunct) (sym len) next) more),
+                counts,
+              );
+            };
+            same = stays given p q f g same;
+            smaller = let z = next in smaller-next given p q f g l w.places w.depth z.from;
+            tests = grows;
+          },
+          record {
+            reached = λ _. ap (is_reached cmp after (length ranges)) same ∙ ready.reached f;
+            due = λ _ m. let z = next in z.here m ∙ sym w.depth;
+          },
+        )
 
     -- the row is refused
     refused : s.says p.conjunct (path ranges p) False → q.fresh ≡ false → q.outs.items ≡ p.outs.items → GoesOn cmp s ranges after p q × IsReady cmp s ranges after q
@@ -149,26 +152,29 @@ module _ {V : Type 0} {cmp : V → V → Ordering} {s : Conjuncts V} {ranges : L
         let w = test.awaits in
         let n = k.counted in
         let due : s.due p.conjunct ≤ length (path ranges p) = let e = ready.due f l in omega (arith, len) in
-        let refuted : (tail : List V) → s.says p.conjunct (path ranges p ++ tail) False = λ tail. given.kept p.conjunct (path ranges p) tail False l due no' in
-        (record {
-          at = place;
-          knows = record {
-            conjuncts = let z = next in z.within;
-            all_outs = ap length os ∙ k.all_outs;
-            earlier = earlier-kept given p q k w.places w.depth (λ i v. ap (λ o. get_or o i false) os);
-            now = λ v. absurd (false≢true (sym g ∙ v));
-            counted = (n.0 + 1,
-              counted-to given q false q.conjunct (path ranges p) (n.0 + 1) g refl same (counted-past given (path ranges p) (p.conjunct + 1) q.conjunct (n.0 + 1) (stop refuted) more),
-              counts);
-          };
-          same = left-behind given p q f g same (λ e tail ev is.
-              ev.not_false (IsTruthOf-false s given.one_truth e.row p.conjunct e.truth l
-              (let z : length (path ranges p ++ tail) ≡ length e.row = ap length is in omega (arith, length-append (path ranges p) tail))
-              (subst (λ r. s.says p.conjunct r False) is (refuted tail)) ev.truth_of));
-          smaller = smaller-past given p q f g k.conjuncts w.places w.depth;
-          tests = grows;
-        },
-        record { reached = λ e. absurd (false≢true (sym g ∙ e)); due = λ e. absurd (false≢true (sym g ∙ e)) }) where
+        let refuted : (tail : List V) → s.says p.conjunct (path ranges p ++ tail) False = λ tail. given.kept p.conjunct (path ranges p) tail False l due no' in (
+          record {
+            at = place;
+            knows = record {
+              conjuncts = let z = next in z.within;
+              all_outs = ap length os ∙ k.all_outs;
+              earlier = earlier-kept given p q k w.places w.depth (λ i v. ap (λ o. get_or o i false) os);
+              now = λ v. absurd (false≢true (sym g ∙ v));
+              counted = (
+                n.0 + 1,
+                counted-to given q false q.conjunct (path ranges p) (n.0 + 1) g refl same (counted-past given (path ranges p) (p.conjunct + 1) q.conjunct (n.0 + 1) (stop refuted) more),
+                counts,
+              );
+            };
+            same = left-behind given p q f g same (λ e tail ev is.
+                ev.not_false (IsTruthOf-false s given.one_truth e.row p.conjunct e.truth l
+                (let z : length (path ranges p ++ tail) ≡ length e.row = ap length is in omega (arith, length-append (path ranges p) tail))
+                (subst (λ r. s.says p.conjunct r False) is (refuted tail)) ev.truth_of));
+            smaller = smaller-past given p q f g k.conjuncts w.places w.depth;
+            tests = grows;
+          },
+          record { reached = λ e. absurd (false≢true (sym g ∙ e)); due = λ e. absurd (false≢true (sym g ∙ e)) },
+        ) where
           stop : ((tail : List V) → s.says p.conjunct (path ranges p ++ tail) False) → (tail : List V) (c : ℕ) → Walked given (path ranges p ++ tail, c) → is_due true (p.conjunct + 1) c tail ≡ true → ⊥
           stop r [] c v u = let e = leb-true (p.conjunct + 1) c u in
               v.first p.conjunct (omega arith) (ready.due f l ∙ sym len ∙ ap length (sym (append-nil (path ranges p)))) (r [])
@@ -192,12 +198,13 @@ module _ {V : Type 0} {cmp : V → V → Ordering} {s : Conjuncts V} {ranges : L
       → GoesOn cmp s ranges after p q × IsReady cmp s ranges after q
   goes-entered p mid q at k done m a =
       let go = goes-moved p mid at k done m in
-      let b = admitted given mid q m.at go.knows (λ f. let en = m.enters f in let w = en.1 in w.none) a in
-      (record {
-        at = b.at;
-        knows = b.knows;
-        same = λ e ev. go.same e ev ∙ b.same e ev;
-        smaller = let x = go.smaller in let y = b.no_more in omega arith;
-        tests = let x = go.tests in let y = b.tests in omega arith;
-      },
-      b.ready)
+      let b = admitted given mid q m.at go.knows (λ f. let en = m.enters f in let w = en.1 in w.none) a in (
+        record {
+          at = b.at;
+          knows = b.knows;
+          same = λ e ev. go.same e ev ∙ b.same e ev;
+          smaller = let x = go.smaller in let y = b.no_more in omega arith;
+          tests = let x = go.tests in let y = b.tests in omega arith;
+        },
+        b.ready,
+      )

@@ -15,7 +15,11 @@ impl Agenda {
     ghost use Rattle.zf_walk.specs.Progress.{AreDueWithin};
     ghost use Rattle.zf_walk.specs.Places.{IsAgenda};
 
-    pub fn new<V, J: Judge<V>>(alloc: Global, judge: &J, components: usize) -> Result<Agenda, AllocError>
+    pub fn new<V, J: Judge<V>>(
+        alloc: Global,
+        judge: &J,
+        components: usize,
+    ) -> Result<Agenda, AllocError>
         requires due { AreDueWithin (J.conjuncts judge.now) components }
         requires room { components + 1 < 2 ^ 64 }
         ensures { IfOk result (IsAgenda (J.conjuncts judge.now) components) }

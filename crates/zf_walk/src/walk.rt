@@ -90,7 +90,13 @@ impl<'a, V: Ord, J: Judge<V>> Walk<'a, V, J> {
         ensures ended { self.old.ahead ≡ ended → result ≡ Ok Step.End }
     {
         self.given = false;
-        match next_answer(self.judge, self.ranges, self.after, &self.agenda, &mut self.place)? {
+        match next_answer(
+            self.judge,
+            self.ranges,
+            self.after,
+            &self.agenda,
+            &mut self.place,
+        )? {
             Step::Holds => {
                 self.given = true;
                 Ok(Step::Holds)
