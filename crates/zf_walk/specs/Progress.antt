@@ -7,7 +7,7 @@ use Rattle.zf_walk.specs.declared.step.Step.TheVariants.{Holds, Breaks, End}
 use Rattle.zf_walk.specs.Conjuncts.{Conjuncts}
 use Rattle.zf_walk.specs.Rows.{ComesAfter}
 use Rattle.zf_walk.specs.Events.{Event, IsEvent}
-use Rattle.zf_walk.specs.Tests.{IsNumberOfTests, cut}
+use Rattle.zf_walk.specs.Tests.{IsNumberOfTests, IsBound, cut}
 
 -- each conjunct needs at most so many values
 abbrev pub AreDueWithin : {V : Type 0} → Conjuncts V → ℕ → Type 0
@@ -72,6 +72,12 @@ Advances cmp s End old new = (new.last ≡ None) × IsNoneAhead cmp s old.ranges
 -- the tests so far are those up to this row, or up to the end
 abbrev pub AreTests : {V J : Type 0} → (V → V → Ordering) → Conjuncts V → Progress V J → Option (List V) → Type 0
 AreTests cmp s b whole = (number : ℕ) × IsNumberOfTests cmp s b.ranges b.after whole number × (b.tests ≡ cut number)
+
+-- so many tests are no more than those up to any event that is ahead, those up to the end, and all that there are
+pub record IsBounded {V J : Type 0} (cmp : V → V → Ordering) (s : Conjuncts V) (b : Progress V J) (tests : ℕ) : Type 0 where
+  pub before_events : (e : Event V) (number : ℕ) → IsEvent cmp s b.ranges b.after e → IsAhead cmp b.ahead e.row → IsNumberOfTests cmp s b.ranges b.after (Some e.row) number → tests ≤ number
+  pub before_end : (number : ℕ) → IsNumberOfTests cmp s b.ranges b.after None number → tests ≤ number
+  pub within_bound : (bound : ℕ) → IsBound s b.ranges bound → tests ≤ bound
 
 -- the strictly ascending list whose members are exactly the events that are ahead
 pub record IsRest {V : Type 0} (cmp : V → V → Ordering) (s : Conjuncts V) (ranges : List (List V)) (after : Option (List V)) (a : Ahead V) (events : List (Event V)) : Type 0 where

@@ -10,7 +10,7 @@ use Rattle.zf_walk.specs.Conjuncts.{Conjuncts}
 use Rattle.zf_walk.specs.Rows.{IsRowOf, IsFrontOf}
 use Rattle.zf_walk.specs.Events.{Event, IsEvent}
 use Rattle.zf_walk.specs.Tests.{IsNumberOfTests, cut}
-use Rattle.zf_walk.specs.Progress.{Takes, IsNoneAhead, ended}
+use Rattle.zf_walk.specs.Progress.{Takes, IsNoneAhead, AreAllAhead, ended}
 use Rattle.zf_walk.specs.Places.{reaches, is_reached, is_ahead, IsNextDue, IsAt, Knows, IsReady, Stands, front, path, ahead_of, steps_left, is_over}
 
 -- the rows that begin with the path are passed, and nothing else changes
@@ -126,3 +126,9 @@ pub record Keeps {V : Type 0} (cmp : V → V → Ordering) (s : Conjuncts V) (ra
   pub stands : Stands cmp s ranges after new
   pub same : KeepsEvents cmp s ranges after old new
   pub tests : old.tests ≤ new.tests
+
+-- Where a walk begins: every event is ahead, and nothing is tested.
+pub record IsBeginning {V : Type 0} (cmp : V → V → Ordering) (s : Conjuncts V) (ranges : List (List V)) (after : Option (List V)) (p : Place) : Type 0 where
+  pub stands : Stands cmp s ranges after p
+  pub all : AreAllAhead cmp s ranges after (ahead_of ranges p)
+  pub tests : p.tests ≡ 0

@@ -2,6 +2,7 @@
 #![tactic(auto)]
 
 mod agenda;
+mod beginning;
 mod judge;
 pub mod laws;
 mod moves;

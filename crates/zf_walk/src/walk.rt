@@ -1,28 +1,26 @@
 //! Walks.
-ghost use Rattle.std.specs.Prelude.{◌≡◌, ◌<◌, ◌≤◌, ℕ, length, IfOk, OnOk, OnErr, IsSomeAnd, IfSome, slice_get, unwrap_or, []};
+ghost use Rattle.std.specs.Prelude.{◌≡◌, ◌<◌, ◌≤◌, length, IfOk, OnOk, OnErr, IsSomeAnd, IfSome, slice_get, unwrap_or, []};
 ghost use Rattle.std.specs.Option.{option_copied};
 ghost use Rattle.zf_walk.specs.Rows.{TiesAreEqual, AreAscending, HasLength};
-ghost use Rattle.zf_walk.specs.Events.{Event, IsEvent};
-ghost use Rattle.zf_walk.specs.Tests.{IsNumberOfTests, IsBound};
-ghost use Rattle.zf_walk.specs.Progress.{AreDueWithin, ended, IsAhead, AreAllAhead, SameProblem, SameAhead, Advances, AreTests};
+ghost use Rattle.zf_walk.specs.Progress.{AreDueWithin, ended, AreAllAhead, SameProblem, SameAhead, Advances, AreTests, IsBounded};
 
 use crate::agenda::Agenda;
+use crate::beginning::first_place;
 use crate::judge::Judge;
 use crate::picked::pick;
 use crate::place::Place;
 use crate::range::Range;
-use crate::reach::admit;
 use crate::row::Row;
 use crate::step::Step;
 use crate::steps::next_answer;
 use std::alloc::{AllocError, Global};
 use std::marker::Model;
 
-/// A walk over the rows of some ranges, in ascending order.
+/// A walk over the rows of some ranges, in ascending order. It takes no memory of its own once it stands.
 #[derive(Drop)]
 pub struct Walk<'a, V: Ord, J: Judge<V>> {
-    judge: &'a J,
-    ranges: &'a [Range<V>],
+    judge: J,
+    ranges: Vec<Range<V>>,
     after: Option<&'a [V]>,
     agenda: Agenda,
     place: Place,
@@ -37,39 +35,29 @@ impl<'a, V: Ord, J: Judge<V>> Model for Walk<'a, V, J> {
 
     ghost Value = { Progress V J };
 
-    ghost view = { λ w. view_of w.judge.now w.ranges.now (option_copied w.after) w.place w.given };
+    ghost view = { λ w. view_of w.judge w.ranges.items (option_copied w.after) w.place w.given };
 
-    ghost invariant = { λ w. IsStanding V.cmp (J.conjuncts w.judge.now) w.ranges.now (option_copied w.after) w.agenda w.place w.given };
+    ghost invariant = { λ w. IsStanding V.cmp (J.conjuncts w.judge) w.ranges.items (option_copied w.after) w.agenda w.place w.given };
 }
 
-impl<'a, V: Ord, J: Judge<V>> Walk<'a, V, J> {
+impl<'a, V: Ord + Drop, J: Judge<V> + Drop> Walk<'a, V, J> {
     /// Stands before the first event. The named row need not lie in the ranges.
     pub fn start(
         alloc: Global,
-        judge: &'a J,
-        ranges: &'a [Range<V>],
+        judge: J,
+        ranges: Vec<Range<V>>,
         after: Option<&'a [V]>,
     ) -> Result<Walk<'a, V, J>, AllocError>
-        requires ascending { AreAscending V.cmp ranges.now }
+        requires ascending { AreAscending V.cmp ranges.items }
         requires ties { TiesAreEqual V.cmp }
-        requires named { HasLength (option_copied after) (length ranges.now) }
-        requires due { AreDueWithin (J.conjuncts judge.now) (length ranges.now) }
-        ensures problem { IfOk result (λ w. (w.judge ≡ judge.now) × (w.ranges ≡ ranges.now) × (w.after ≡ option_copied after.entry)) }
-        ensures events { IfOk result (λ w. AreAllAhead V.cmp (J.conjuncts judge.now) ranges.now (option_copied after.entry) w.ahead) }
+        requires named { HasLength (option_copied after) (length ranges.items) }
+        requires due { AreDueWithin (J.conjuncts judge) (length ranges.items) }
+        ensures problem { IfOk result (λ w. (w.judge ≡ judge) × (w.ranges ≡ ranges.items) × (w.after ≡ option_copied after.entry)) }
+        ensures events { IfOk result (λ w. AreAllAhead V.cmp (J.conjuncts judge) ranges.items (option_copied after.entry) w.ahead) }
         ensures first { IfOk result (λ w. (w.last ≡ None) × (w.tests ≡ 0)) }
     {
-        let agenda = Agenda::new(alloc, judge, ranges.len())?;
-        let places = vec![in alloc; 0; ranges.len()]?;
-        let outs = vec![in alloc; false; ranges.len() + 1]?;
-        let mut place = Place {
-            places,
-            outs,
-            depth: 0,
-            conjunct: 0,
-            fresh: true,
-            tests: 0,
-        };
-        admit(judge, ranges, after, &agenda, &mut place);
+        let agenda = Agenda::new(alloc, &judge, ranges.len())?;
+        let place = first_place(alloc, &judge, &ranges, after, &agenda)?;
         Ok(Walk {
             judge,
             ranges,
@@ -79,7 +67,9 @@ impl<'a, V: Ord, J: Judge<V>> Walk<'a, V, J> {
             given: false,
         })
     }
+}
 
+impl<'a, V: Ord, J: Judge<V>> Walk<'a, V, J> {
     /// Goes on to the next row that is not False.
     pub fn advance(&mut self) -> Result<Step, AllocError>
         ensures problem { SameProblem self.old self.new }
@@ -91,8 +81,8 @@ impl<'a, V: Ord, J: Judge<V>> Walk<'a, V, J> {
     {
         self.given = false;
         match next_answer(
-            self.judge,
-            self.ranges,
+            &self.judge,
+            &self.ranges,
             self.after,
             &self.agenda,
             &mut self.place,
@@ -112,20 +102,17 @@ impl<'a, V: Ord, J: Judge<V>> Walk<'a, V, J> {
     /// How many tests were finished.
     pub fn tests(&self) -> u64
         ensures count { result ≡ self.now.tests }
-        ensures before_events { (e : Event V) (number : ℕ) → IsEvent V.cmp (J.conjuncts self.now.judge) self.now.ranges self.now.after e → IsAhead V.cmp self.now.ahead e.row
-            → IsNumberOfTests V.cmp (J.conjuncts self.now.judge) self.now.ranges self.now.after (Some e.row) number → result ≤ number }
-        ensures before_end { (number : ℕ) → IsNumberOfTests V.cmp (J.conjuncts self.now.judge) self.now.ranges self.now.after None number → result ≤ number }
-        ensures within_bound { (bound : ℕ) → IsBound (J.conjuncts self.now.judge) self.now.ranges bound → result ≤ bound }
+        ensures bounded { IsBounded V.cmp (J.conjuncts self.now.judge) self.now result }
     {
         self.place.tests
     }
 
     /// A value of the row that the last step gave.
-    pub fn value(&self, i: usize) -> &'a V
+    pub fn value(&self, i: usize) -> &V
         requires { IsSomeAnd self.now.last (λ row. i < length row) }
         ensures { IfSome self.now.last (λ row. slice_get row i ≡ Some result.now) }
     {
-        pick(self.ranges, &self.place.places[..self.place.depth], i)
+        pick(&self.ranges, &self.place.places[..self.place.depth], i)
     }
 }
 

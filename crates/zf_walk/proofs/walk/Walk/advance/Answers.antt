@@ -1,5 +1,7 @@
 use Rattle.std.proofs.Common.{◌≡◌, Result, Ok, Err, refl, sym, ap, ◌∙◌, subst}
 use Rattle.std.specs.Result.{OnErr}
+use Rattle.std.specs.Option.{option_copied}
+use Rattle.zf_walk.specs.Steps.{Keeps}
 use Rattle.zf_walk.proofs.Knowing.{setting-of}
 use Rattle.zf_walk.proofs.Answering.{SameAhead-from, over-from}
 use Rattle.zf_walk.proofs.walk.Walk.advance.Goals as goal
@@ -12,13 +14,13 @@ pub returns-in_err-next_answer-clause-refused : goal.returns-in_err-next_answer-
 returns-in_err-next_answer-clause-refused g c =
     let w = c.self.inside in
     let st = c.self.invariant.stands in
-    let given = setting-of g.met.V.Ord.total (g.met.J.Judge.one_truth w.judge.now) (g.met.J.Judge.kept w.judge.now) c.self.invariant.sound in
-    let keeps = c.in_err-next_answer.ensures.refused in
+    let given = setting-of g.met.V.Ord.total (g.met.J.Judge.one_truth w.judge) (g.met.J.Judge.kept w.judge) c.self.invariant.sound in
+    let keeps = subst (λ rs. Keeps g.V.Ord.cmp (g.J.Judge.conjuncts w.judge) rs (option_copied w.after) w.place c.next_answer.new.place) c.deref.ensures.value c.in_err-next_answer.ensures.refused in
     rw (← c.self.view_is) (on_err c.from_residual.result _ (SameAhead-from given w.place c.next_answer.new.place st.at keeps.stands.at keeps.same, refl))
 
 pub returns-in_err-next_answer-clause-ended : goal.returns-in_err-next_answer-clause-ended
 returns-in_err-next_answer-clause-ended g c =
     let w = c.self.inside in
     let st = c.self.invariant.stands in
-    let given = setting-of g.met.V.Ord.total (g.met.J.Judge.one_truth w.judge.now) (g.met.J.Judge.kept w.judge.now) c.self.invariant.sound in
+    let given = setting-of g.met.V.Ord.total (g.met.J.Judge.one_truth w.judge) (g.met.J.Judge.kept w.judge) c.self.invariant.sound in
     rw (← c.self.view_is) (λ e. let never = c.in_err-next_answer.ensures.over (over-from given w.place st.at e) in cc)

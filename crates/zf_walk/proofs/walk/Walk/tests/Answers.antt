@@ -1,24 +1,18 @@
+use Rattle.std.specs.Option.{option_copied}
+use Rattle.zf_walk.specs.Progress.{IsBounded}
+use Rattle.zf_walk.specs.Walks.{view_of}
 use Rattle.zf_walk.proofs.Answering.{tests-before_event, tests-before_end, tests-within_bound}
 use Rattle.zf_walk.proofs.Knowing.{setting-of}
 use Rattle.zf_walk.proofs.walk.Walk.tests.Goals as goal
 
-pub returns-clause-before_events : goal.returns-clause-before_events
-returns-clause-before_events g c =
+pub returns-clause-bounded : goal.returns-clause-bounded
+returns-clause-bounded g c =
     let w = c.self.inside in
     let st = c.self.invariant.stands in
-    let given = setting-of g.met.V.Ord.total (g.met.J.Judge.one_truth w.judge.now) (g.met.J.Judge.kept w.judge.now) c.self.invariant.sound in
-    rw (← c.self.view_is) (tests-before_event given w.place st.at st.knows)
-
-pub returns-clause-before_end : goal.returns-clause-before_end
-returns-clause-before_end g c =
-    let w = c.self.inside in
-    let st = c.self.invariant.stands in
-    let given = setting-of g.met.V.Ord.total (g.met.J.Judge.one_truth w.judge.now) (g.met.J.Judge.kept w.judge.now) c.self.invariant.sound in
-    rw (← c.self.view_is) (tests-before_end given w.place st.knows)
-
-pub returns-clause-within_bound : goal.returns-clause-within_bound
-returns-clause-within_bound g c =
-    let w = c.self.inside in
-    let st = c.self.invariant.stands in
-    let given = setting-of g.met.V.Ord.total (g.met.J.Judge.one_truth w.judge.now) (g.met.J.Judge.kept w.judge.now) c.self.invariant.sound in
-    rw (← c.self.view_is) (tests-within_bound given w.place st.knows)
+    let given = setting-of g.met.V.Ord.total (g.met.J.Judge.one_truth w.judge) (g.met.J.Judge.kept w.judge) c.self.invariant.sound in
+    let bounded : IsBounded g.V.Ord.cmp (g.J.Judge.conjuncts w.judge) (view_of w.judge w.ranges.items (option_copied w.after) w.place w.given) w.place.tests = record {
+      before_events = tests-before_event given w.place st.at st.knows;
+      before_end = tests-before_end given w.place st.knows;
+      within_bound = tests-within_bound given w.place st.knows;
+    } in
+    rw (← c.self.view_is) bounded

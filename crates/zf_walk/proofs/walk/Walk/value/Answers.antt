@@ -14,6 +14,6 @@ pick-requires-clause-index g c =
     let w = c.self.inside in
     let at = c.self.invariant.stands.at in
     let h = subst (λ z. IsSomeAnd z.last (λ row. c.args.i < length row)) (sym c.self.view_is) c.requires in
-    let long = last-long w.given (path w.ranges.now w.place) c.args.i h in
-    subst (λ is. c.args.i < length (take w.place.depth is)) (sym c.deref.ensures.value)
-    (subst (λ n. c.args.i < n) (length-picked w.ranges.now (take w.place.depth w.place.places.items) at.within) long)
+    let long = last-long w.given (path w.ranges.items w.place) c.args.i h in
+    subst (λ is. c.args.i < length (take w.place.depth is)) (sym c.deref-2.ensures.value)
+    (subst (λ n. c.args.i < n) (length-picked w.ranges.items (take w.place.depth w.place.places.items) at.within) long)

@@ -7,6 +7,6 @@ use Rattle.zf_walk.proofs.walk.WalkRow.len.Goals as goal
 pub returns-then-self : goal.returns-then-self
 returns-then-self g c =
     let w = c.self.inside in
-    sym (length-front w.ranges.now w.place c.self.invariant.stands.at w.place.depth (omega arith))
-    ∙ sym (ap (λ b. length (unwrap_or (cond b (Some (path w.ranges.now w.place)) None) [])) c.if-self.true)
+    sym (length-front w.ranges.items w.place c.self.invariant.stands.at w.place.depth (omega arith))
+    ∙ sym (ap (λ b. length (unwrap_or (cond b (Some (path w.ranges.items w.place)) None) [])) c.if-self.true)
     ∙ ap (λ z. length (unwrap_or z.last [])) c.self.view_is
