@@ -1,31 +1,25 @@
 -- What is known of a place after each kind of step.
-use Rattle.std.proofs.Common.{◌≡◌, ℕ, zero, suc, ◌+◌, ◌-◌, ◌^◌, ◌<◌, ◌≤◌, min, Bool, true, false, cond, ◌⊎◌, List, [], ◌∷◌, ◌++◌, length, get_or, set, take, drop, replicate, Option, Some, None, refl, sym, ap, ◌∙◌, inl, inr, arith, subst, length-append}
-use Rattle.std.specs.Prelude.{◌≢◌, Contains, IsTrue}
+use Rattle.std.proofs.Common.{◌≡◌, ℕ, ◌+◌, ◌<◌, ◌≤◌, Bool, true, false, List, [], ◌∷◌, ◌++◌, length, get_or, take, drop, Option, refl, sym, ap, ◌∙◌, inl, inr, arith, subst}
 use Rattle.std.specs.declared.cmp.Ordering.{Ordering}
 use Rattle.std.specs.Cmp.{IsTotalOrder}
-use Rattle.std.proofs.lemmas.Bool.{false≢true, cases_eq, cases_Bool, leb-true, leb-false, le-leb, lt-leb}
+use Rattle.std.proofs.lemmas.Bool.{false≢true, cases_Bool, leb-true, leb-false}
 use Rattle.std.proofs.lemmas.Bool.Decides.{nat_tests}
-use Rattle.std.proofs.lemmas.List.{length-replicate, get_or-replicate, get_or-set_same, get_or-set_other, length-set, take_more, take_all, append-nil}
-use Rattle.zf_walk.specs.declared.judge.Truth.{Truth}
-use Rattle.zf_walk.specs.declared.judge.Truth.TheVariants.{True, False, Out}
+use Rattle.std.proofs.lemmas.List.{append-nil}
 use Rattle.zf_walk.specs.declared.place.Place.{Place}
 use Rattle.zf_walk.specs.declared.agenda.Agenda.{Agenda}
-use Rattle.zf_walk.specs.declared.step.Step.{Step}
-use Rattle.zf_walk.specs.declared.step.Step.TheVariants.{Holds, Breaks, End}
-use Rattle.zf_walk.specs.Conjuncts.{Conjuncts, HaveOneTruth, KeepTruths, IsTruthOf}
-use Rattle.zf_walk.specs.Rows.{TiesAreEqual, AreAscending, HasLength, IsRowOf, IsFrontOf, IsLater, ComesAfter}
+use Rattle.zf_walk.specs.Conjuncts.{Conjuncts, HaveOneTruth, KeepTruths}
+use Rattle.zf_walk.specs.Rows.{TiesAreEqual, HasLength}
 use Rattle.zf_walk.specs.Events.{Event, IsEvent}
-use Rattle.zf_walk.specs.Tests.{IsCandidate, IsPair, IsWalked, IsUpTo, IsNumber, IsNumberOfTests, cut}
-use Rattle.zf_walk.specs.Progress.{Ahead, IsAhead, AreDueWithin, Takes, IsNoneAhead, past, ended}
-use Rattle.zf_walk.specs.Picked.{AreWithin, picked}
-use Rattle.zf_walk.specs.Places.{reaches, is_reached, under, is_due, is_ahead, IsNextDue, IsAgenda, IsTested, IsSoFar, IsDone, IsAt, Knows, IsReady, Stands, IsSound, front, path, ahead_of, below, above, steps_left, is_over}
-use Rattle.zf_walk.specs.Steps.{Passes, Enters, Backs, Moves, Awaits, Begins, Admits, Leaves, Tests, KeepsEvents, GoesOn, Gives, up_to, Answers}
-use Rattle.zf_walk.proofs.Order.{reaches-both, reaches-under, begins, under-differs, under-at}
-use Rattle.zf_walk.proofs.Picks.{IsFrontOf-picked, IsRowOf-front, IsRowOf-length, IsFrontOf-length, nothing-more}
-use Rattle.zf_walk.proofs.Reaching.{IsReached-from, is_reached-from, IsLater-from, later-reached, IsUpTo-from, IsUpTo-to, unreached, IsAhead-to}
-use Rattle.zf_walk.proofs.Counting.{cut-more, number-same, number-more, number-none}
-use Rattle.zf_walk.proofs.Truths.{truth_so, so_far-at, so_far-skip, so_far-deeper, so_far-true, so_far-out, so_far-none, so_far-clean, IsTruthOf-so_far, IsTruthOf-false, IsTruthOf-only}
-use Rattle.zf_walk.proofs.Moving.{within-front, length-front, fewer-at, same-path, steps_left-of, reaches-of, is_ahead-of, enough}
+use Rattle.zf_walk.specs.Tests.{IsWalked, IsNumber}
+use Rattle.zf_walk.specs.Picked.{picked}
+use Rattle.zf_walk.specs.Places.{reaches, is_reached, under, is_due, IsNextDue, IsSoFar, IsDone, IsAt, Knows, IsReady, IsSound, front, path, steps_left}
+use Rattle.zf_walk.specs.Steps.{Passes, Begins, Admits, KeepsEvents}
+use Rattle.zf_walk.proofs.Order.{reaches-both, begins, under-differs, under-at}
+use Rattle.zf_walk.proofs.Picks.{IsFrontOf-picked, IsRowOf-length, IsFrontOf-length}
+use Rattle.zf_walk.proofs.Reaching.{IsReached-from, is_reached-from, later-reached, unreached}
+use Rattle.zf_walk.proofs.Counting.{number-same, number-more}
+use Rattle.zf_walk.proofs.Truths.{so_far-at, so_far-skip, so_far-clean}
+use Rattle.zf_walk.proofs.Moving.{length-front, fewer-at, same-path, steps_left-of, reaches-of, is_ahead-of, enough}
 
 -- of the tests at a path, two conjuncts at hand differ at those between them
 due-between : {V : Type 0} (j i c : ℕ) (tail : List V) → is_due true j c tail ≡ true → is_due true i c tail ≡ false → (tail ≡ []) × (j ≤ c) × (c < i)

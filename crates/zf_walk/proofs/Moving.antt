@@ -1,5 +1,5 @@
 -- The moves of a walk: the same rows and tests are ahead, and fewer steps.
-use Rattle.std.proofs.Common.{◌≡◌, ℕ, zero, suc, ◌+◌, ◌-◌, ◌*◌, ◌<◌, ◌≤◌, Bool, true, false, cond, leb, List, [], ◌∷◌, ◌++◌, length, get_or, set, drop, take, refl, sym, ap, ◌∙◌, arith, subst}
+use Rattle.std.proofs.Common.{◌≡◌, ℕ, suc, ◌+◌, ◌-◌, ◌*◌, ◌<◌, ◌≤◌, Bool, true, false, cond, List, [], ◌∷◌, ◌++◌, length, get_or, set, drop, take, refl, sym, ap, ◌∙◌, arith, subst}
 use Rattle.std.specs.Prelude.{AllPairs}
 use Rattle.std.specs.declared.cmp.Ordering.{Ordering}
 use Rattle.std.specs.declared.cmp.Ordering.TheVariants.{Less}
@@ -11,7 +11,7 @@ use Rattle.zf_walk.specs.declared.place.Place.{Place}
 use Rattle.zf_walk.specs.Rows.{AreAscending, IsRowOf, IsFrontOf}
 use Rattle.zf_walk.specs.Picked.{AreWithin, picked}
 use Rattle.zf_walk.specs.Places.{first_of, reaches, under, is_due, is_ahead, IsAt, front, path, below, above, steps_left}
-use Rattle.zf_walk.specs.Steps.{Passes, Binds, Enters, Backs, Moves}
+use Rattle.zf_walk.specs.Steps.{Passes, Binds, Moves}
 use Rattle.zf_walk.proofs.Order.{IsNth, reaches-push, reaches-under, under-push, under-agree, under-front, at-first, at-next, at-last}
 use Rattle.zf_walk.proofs.Picks.{nth-at, AreWithin-take, AreWithin-push, length-picked, picked-push}
 

@@ -1,6 +1,6 @@
 -- What the order value by value says in the words of the definitions.
-use Rattle.std.proofs.Common.{◌≡◌, ℕ, zero, suc, ◌+◌, ◌<◌, ◌≤◌, Bool, true, false, ltb, ◌⊎◌, List, [], ◌∷◌, ◌++◌, length, get_or, take, drop, Option, Some, None, refl, sym, ap, ◌∙◌, subst, arith, inl, inr, length-append}
-use Rattle.std.specs.Prelude.{◌≢◌, IsTrue, slice_get}
+use Rattle.std.proofs.Common.{◌≡◌, ℕ, ◌+◌, ◌<◌, ◌≤◌, Bool, true, false, ltb, List, [], ◌∷◌, ◌++◌, length, get_or, take, drop, Option, Some, None, refl, sym, ap, ◌∙◌, subst, arith, inl, inr, length-append}
+use Rattle.std.specs.Prelude.{◌≢◌, slice_get}
 use Rattle.std.specs.declared.cmp.Ordering.{Ordering}
 use Rattle.std.specs.declared.cmp.Ordering.TheVariants.{Less, Equal, Greater}
 use Rattle.std.specs.Cmp.{IsTotalOrder}
@@ -11,7 +11,7 @@ use Rattle.std.proofs.lemmas.List.{take_all, length-take-le, take-take, nil_from
 use Rattle.std.proofs.lemmas.Option.{slice_get_within, get_or_from_slice_get}
 use Rattle.zf_walk.specs.Rows.{TiesAreEqual, ComesAfter, IsLater, HasLength}
 use Rattle.zf_walk.specs.Tests.{IsReached, IsUpTo}
-use Rattle.zf_walk.specs.Progress.{Ahead, IsAhead}
+use Rattle.zf_walk.specs.Progress.{IsAhead}
 use Rattle.zf_walk.specs.Places.{first_of, reaches, is_reached}
 use Rattle.zf_walk.proofs.Order.{reaches-cmp, reaches-take, reaches-front, slice-ties}
 

@@ -1,29 +1,19 @@
 -- The steps of a walk: to another place, to another conjunct, or to an answer.
-use Rattle.std.proofs.Common.{◌≡◌, ℕ, zero, suc, ◌+◌, ◌-◌, ◌^◌, ◌<◌, ◌≤◌, min, Bool, true, false, cond, eqb, ◌⊎◌, List, [], ◌∷◌, ◌++◌, length, get_or, set, take, drop, replicate, Option, Some, None, refl, sym, ap, ◌∙◌, inl, inr, arith, subst, length-append}
-use Rattle.std.specs.Prelude.{◌≢◌, IsTrue}
+use Rattle.std.proofs.Common.{◌≡◌, ℕ, ◌+◌, ◌<◌, ◌≤◌, Bool, true, false, List, [], ◌∷◌, ◌++◌, length, get_or, Option, refl, sym, ap, ◌∙◌, inl, inr, arith, subst, length-append}
 use Rattle.std.specs.declared.cmp.Ordering.{Ordering}
-use Rattle.std.specs.Cmp.Lexicographic.{slice_cmp}
 use Rattle.std.proofs.lemmas.Bool.{false≢true, cases_eq, cases_Bool, leb-true}
-use Rattle.std.proofs.lemmas.List.{length-replicate, get_or-replicate, get_or-set_same, get_or-set_other, length-set, take_all, take_more, append-nil}
+use Rattle.std.proofs.lemmas.List.{get_or-set_same, get_or-set_other, length-set, append-nil}
 use Rattle.zf_walk.specs.declared.judge.Truth.{Truth}
 use Rattle.zf_walk.specs.declared.judge.Truth.TheVariants.{True, False, Out}
 use Rattle.zf_walk.specs.declared.place.Place.{Place}
-use Rattle.zf_walk.specs.declared.step.Step.{Step}
-use Rattle.zf_walk.specs.declared.step.Step.TheVariants.{Holds, Breaks, End}
-use Rattle.zf_walk.specs.Conjuncts.{Conjuncts, IsTruthOf}
-use Rattle.zf_walk.specs.Rows.{ComesAfter}
-use Rattle.zf_walk.specs.Events.{Event, IsEvent}
-use Rattle.zf_walk.specs.Tests.{IsWalked, IsUpTo, IsNumber, IsNumberOfTests, cut}
-use Rattle.zf_walk.specs.Progress.{Ahead, IsAhead, AreDueWithin, Takes, IsNoneAhead, past, ended}
+use Rattle.zf_walk.specs.Conjuncts.{Conjuncts}
+use Rattle.zf_walk.specs.Tests.{IsWalked, IsNumber, cut}
 use Rattle.zf_walk.specs.Picked.{picked}
-use Rattle.zf_walk.specs.Places.{reaches, is_reached, under, is_due, is_ahead, IsSoFar, IsNextDue, IsAt, Knows, IsReady, Stands, front, path, ahead_of, steps_left, is_over}
-use Rattle.zf_walk.specs.Steps.{Passes, Enters, Backs, Moves, Admits, Leaves, Tests, KeepsEvents, GoesOn, Gives, up_to, Answers}
-use Rattle.zf_walk.proofs.Order.{reaches-under}
-use Rattle.zf_walk.proofs.Picks.{picked-nil, picked-push, nth-at, IsFrontOf-picked, IsRowOf-front, IsRowOf-length, IsFrontOf-length}
-use Rattle.zf_walk.proofs.Reaching.{IsLater-from, IsUpTo-from, IsUpTo-to}
+use Rattle.zf_walk.specs.Places.{is_reached, is_due, is_ahead, IsSoFar, IsNextDue, IsAt, Knows, IsReady, front, path}
+use Rattle.zf_walk.specs.Steps.{Enters, Moves, Admits, Leaves, Tests, GoesOn}
 use Rattle.zf_walk.proofs.Counting.{cut-more, number-same}
-use Rattle.zf_walk.proofs.Truths.{truth_so, so_far-at, so_far-skip, so_far-deeper, so_far-true, so_far-out, IsTruthOf-so_far, IsTruthOf-false, IsTruthOf-only}
-use Rattle.zf_walk.proofs.Moving.{length-front, fewer-at, same-path, last-value, is_ahead-of}
+use Rattle.zf_walk.proofs.Truths.{so_far-at, so_far-skip, so_far-deeper, so_far-true, so_far-out, IsTruthOf-false}
+use Rattle.zf_walk.proofs.Moving.{length-front, fewer-at, same-path, last-value}
 use Rattle.zf_walk.proofs.Knowing.{Setting, Walked, Before, Done, counted-of, counted-to, counted-past, counted-skip, counted-more, walked-here, left-behind, stays, earlier-kept, now-of, smaller-next, smaller-past, admitted}
 
 module _ {V : Type 0} {cmp : V → V → Ordering} {s : Conjuncts V} {ranges : List (List V)} {after : Option (List V)} (given : Setting cmp s ranges after) where

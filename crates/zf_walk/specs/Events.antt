@@ -1,5 +1,5 @@
 -- What a walk is to find: the rows of the ranges that come after the named one and are not False, each with its truth.
-use Rattle.std.specs.Prelude.{◌≡◌, ◌≢◌, ◌↔◌, List, Option, Contains, AllPairs}
+use Rattle.std.specs.Prelude.{◌≢◌, ◌↔◌, List, Option, Contains, AllPairs}
 use Rattle.std.specs.declared.cmp.Ordering.{Ordering}
 use Rattle.zf_walk.specs.declared.judge.Truth.{Truth}
 use Rattle.zf_walk.specs.declared.judge.Truth.TheVariants.{False}

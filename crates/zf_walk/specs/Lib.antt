@@ -1,10 +1,10 @@
 pub mod Conjuncts
-pub mod Picked
 pub mod Rows
 pub mod Events
 pub mod Tests
 pub mod Progress
 pub mod Laws
+pub mod Picked
 pub mod Places
 pub mod Steps
 pub mod Walks

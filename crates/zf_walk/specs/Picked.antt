@@ -1,4 +1,4 @@
--- Rows by the places of their values in ranges.
+-- Rows by the places of their values in ranges: for private contracts and the model of `Walk` alone.
 use Rattle.std.specs.Prelude.{ℕ, ◌<◌, ◌≤◌, List, [], ◌∷◌, ◌++◌, length, slice_get, slice_index, slice_index_or}
 use Rattle.std.specs.Option.{option_to_list}
 

@@ -1,5 +1,5 @@
 -- What a walk is seen as, and what its steps do.
-use Rattle.std.specs.Prelude.{◌≡◌, ◌⊎◌, ◌↔◌, ℕ, ◌<◌, ◌≤◌, Bool, true, false, List, [], length, take, Option, Some, None, Contains, AllPairs, IsTrue}
+use Rattle.std.specs.Prelude.{◌≡◌, ◌⊎◌, ◌↔◌, ℕ, ◌<◌, ◌≤◌, Bool, false, List, [], length, take, Option, Some, None, Contains, AllPairs, IsTrue}
 use Rattle.std.specs.declared.cmp.Ordering.{Ordering}
 use Rattle.zf_walk.specs.declared.judge.Truth.TheVariants.{True, Out}
 use Rattle.zf_walk.specs.declared.step.Step.{Step}

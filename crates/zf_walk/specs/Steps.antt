@@ -1,5 +1,5 @@
 -- What the steps of a walk do to its place: for private contracts alone.
-use Rattle.std.specs.Prelude.{◌≡◌, ◌≢◌, ◌⊎◌, ℕ, ◌+◌, ◌-◌, ◌<◌, ◌≤◌, Bool, true, false, List, [], length, take, slice_set, slice_index_or, Option, Some, None}
+use Rattle.std.specs.Prelude.{◌≡◌, ◌⊎◌, ℕ, ◌+◌, ◌<◌, ◌≤◌, true, false, List, length, take, slice_set, slice_index_or, Option, Some, None}
 use Rattle.std.specs.declared.cmp.Ordering.{Ordering}
 use Rattle.zf_walk.specs.declared.judge.Truth.{Truth}
 use Rattle.zf_walk.specs.declared.judge.Truth.TheVariants.{True, False, Out}
@@ -11,7 +11,7 @@ use Rattle.zf_walk.specs.Rows.{IsRowOf, IsFrontOf}
 use Rattle.zf_walk.specs.Events.{Event, IsEvent}
 use Rattle.zf_walk.specs.Tests.{IsNumberOfTests, cut}
 use Rattle.zf_walk.specs.Progress.{Takes, IsNoneAhead, AreAllAhead, ended}
-use Rattle.zf_walk.specs.Places.{reaches, is_reached, is_ahead, IsNextDue, IsAt, Knows, IsReady, Stands, front, path, ahead_of, steps_left, is_over}
+use Rattle.zf_walk.specs.Places.{reaches, is_reached, is_ahead, IsNextDue, IsAt, Knows, IsReady, Stands, path, ahead_of, steps_left, is_over}
 
 -- the rows that begin with the path are passed, and nothing else changes
 pub record Passes (old new : Place) : Type 0 where

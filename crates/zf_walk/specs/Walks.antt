@@ -1,5 +1,5 @@
 -- How a walk is seen, and what always holds of one: for the model of `Walk` alone.
-use Rattle.std.specs.Prelude.{◌≡◌, ℕ, Bool, true, cond, List, length, Option, Some, None}
+use Rattle.std.specs.Prelude.{◌≡◌, Bool, true, cond, List, length, Option, Some, None}
 use Rattle.std.specs.declared.cmp.Ordering.{Ordering}
 use Rattle.zf_walk.specs.declared.place.Place.{Place}
 use Rattle.zf_walk.specs.declared.agenda.Agenda.{Agenda}

@@ -1,4 +1,4 @@
-use Rattle.std.proofs.Common.{◌≡◌, ◌+◌, ℕ, true, false, length, replicate, refl, rules}
+use Rattle.std.proofs.Common.{◌≡◌, ◌+◌, true, false, length, replicate, refl, rules}
 use Rattle.std.specs.Option.{option_copied}
 use Rattle.zf_walk.specs.declared.place.Place.{Place}
 use Rattle.zf_walk.proofs.Knowing.{setting-of, admitted}

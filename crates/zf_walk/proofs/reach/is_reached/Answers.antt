@@ -1,4 +1,4 @@
-use Rattle.std.proofs.Common.{◌≡◌, Some, ltb, length, take, sym, ap, ◌∙◌}
+use Rattle.std.proofs.Common.{ltb, length, take, sym, ap, ◌∙◌}
 use Rattle.std.specs.Option.{option_copied}
 use Rattle.zf_walk.specs.Picked.{picked}
 use Rattle.zf_walk.specs.Places.{reaches, is_reached}

@@ -1,4 +1,4 @@
-use Rattle.std.proofs.Common.{◌≡◌, sym, ap, ◌∙◌}
+use Rattle.std.proofs.Common.{sym, ap, ◌∙◌}
 use Rattle.zf_walk.specs.Picked.{picked}
 use Rattle.zf_walk.specs.Places.{first_of, reaches}
 use Rattle.std.proofs.Common.{drop, ◌+◌}

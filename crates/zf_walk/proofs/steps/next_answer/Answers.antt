@@ -1,4 +1,4 @@
-use Rattle.std.proofs.Common.{◌≡◌, subst}
+use Rattle.std.proofs.Common.{subst}
 use Rattle.std.specs.Option.{option_copied}
 use Rattle.zf_walk.specs.Steps.{Goes}
 use Rattle.zf_walk.proofs.Knowing.{setting-of}

@@ -1,4 +1,4 @@
-use Rattle.std.proofs.Common.{◌≡◌, ◌≤◌, ℕ, length, take, refl, sym, ap, ◌∙◌, subst, arith}
+use Rattle.std.proofs.Common.{length, take, ap, ◌∙◌, arith}
 use Rattle.zf_walk.specs.declared.place.Place.{Place}
 use Rattle.zf_walk.specs.Picked.{picked}
 use Rattle.zf_walk.proofs.Moving.{length-front}

@@ -1,4 +1,4 @@
-use Rattle.std.proofs.Common.{◌≡◌, Result, Ok, Err, refl, sym, ap, ◌∙◌, subst}
+use Rattle.std.proofs.Common.{Result, Ok, Err, refl, subst}
 use Rattle.std.specs.Result.{OnErr}
 use Rattle.std.specs.Option.{option_copied}
 use Rattle.zf_walk.specs.Steps.{Keeps}

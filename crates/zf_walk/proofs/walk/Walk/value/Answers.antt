@@ -1,7 +1,6 @@
-use Rattle.std.proofs.Common.{◌≡◌, ◌<◌, ℕ, Bool, true, false, cond, List, length, take, Option, Some, None, refl, sym, ap, ◌∙◌, subst, arith}
+use Rattle.std.proofs.Common.{◌<◌, ℕ, Bool, true, false, cond, List, length, take, Some, None, sym, subst}
 use Rattle.std.specs.Prelude.{IsSomeAnd}
 use Rattle.zf_walk.specs.Places.{path}
-use Rattle.zf_walk.proofs.Moving.{length-front}
 use Rattle.zf_walk.proofs.Picks.{length-picked}
 use Rattle.zf_walk.proofs.walk.Walk.value.Goals as goal
 

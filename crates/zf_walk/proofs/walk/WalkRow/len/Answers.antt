@@ -1,4 +1,4 @@
-use Rattle.std.proofs.Common.{◌≡◌, ◌≤◌, true, cond, [], length, Some, None, sym, ap, ◌∙◌, arith}
+use Rattle.std.proofs.Common.{cond, [], length, Some, None, sym, ap, ◌∙◌, arith}
 use Rattle.std.specs.Prelude.{unwrap_or}
 use Rattle.zf_walk.specs.Places.{path}
 use Rattle.zf_walk.proofs.Moving.{length-front}
