@@ -12,7 +12,7 @@ pub enum Infinite {
 }
 
 /// How a term contains infinite sets.
-#[derive(Clone, Copy, PartialEq, Eq)]
+#[derive(Clone, Copy)]
 pub enum Extent {
     /// The term is one of them.
     Infinite(Infinite),

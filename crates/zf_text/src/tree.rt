@@ -104,7 +104,7 @@ impl<'a> Ident<'a> {
 }
 
 /// What stands before one term.
-#[derive(Clone, Copy, PartialEq, Eq)]
+#[derive(Clone, Copy)]
 pub enum Sign {
     Symbol(Prefix),
     Minus,
@@ -196,7 +196,7 @@ pub struct VarDecl<'a> {
 }
 
 /// How the schema of a reference is taken.
-#[derive(Clone, Copy, PartialEq, Eq)]
+#[derive(Clone, Copy, Debug)]
 pub enum RefMark {
     Plain,
     Delta,

@@ -34,7 +34,7 @@ pub enum TypeFaultKind {
 }
 
 /// A fault, with the line of the first token of the offending term or name.
-#[derive(Clone, Copy, PartialEq, Eq)]
+#[derive(Clone, Copy)]
 pub struct TypeFault {
     pub kind: TypeFaultKind,
     pub line: u64,
