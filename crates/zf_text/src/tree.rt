@@ -196,7 +196,7 @@ pub struct VarDecl<'a> {
 }
 
 /// How the schema of a reference is taken.
-#[derive(Clone, Copy, Debug, PartialEq, Eq)]
+#[derive(Clone, Copy, Debug)]
 pub enum RefMark {
     Plain,
     Delta,
