@@ -3,7 +3,7 @@ ghost use Rattle.std.specs.Prelude.{◌≡◌, List, Ok, IfOk};
 ghost use Rattle.zf_scan.specs.Separators.{Symbol};
 ghost use Rattle.zf_scan.specs.declared.fault.TextFaultKind.TheVariants.{TooDeep};
 ghost use Rattle.zf_text.specs.TermReading as spec;
-ghost use Rattle.zf_text.specs.TermReading.{Gives, Outcome};
+ghost use Rattle.zf_text.specs.TermReading.{Gives};
 
 use crate::tree::Term;
 use bumpalo::Bump;
