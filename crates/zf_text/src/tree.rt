@@ -1,6 +1,6 @@
 //! The trees of a text.
 ghost use Rattle.std.specs.Prelude.{◌≡◌, ◌++◌};
-ghost use Rattle.zf_text.specs.BoxReading as spec;
+ghost use Rattle.zf_text.specs.Names as spec;
 ghost use Rattle.zf_text.specs.Names.{ident_of, name_at};
 ghost use Rattle.zf_text.specs.Spelling.{line_of};
 ghost use Rattle.zf_text.specs.Trees.{tree_of};
