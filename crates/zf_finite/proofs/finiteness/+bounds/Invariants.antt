@@ -1,7 +1,7 @@
 use Rattle.std.proofs.Common.{◌≡◌, map, drop}
 use Rattle.zf_term.specs.Definitions.{globals_of, set_of, sets_of}
-use Rattle.zf_schema.specs.Finite.{one_bounds}
-use Rattle.zf_schema.proofs.finiteness.+bounds.Given as goal
+use Rattle.zf_finite.specs.Finite.{one_bounds}
+use Rattle.zf_finite.proofs.finiteness.+bounds.Given as goal
 
 abbrev pub invariant-one_bounds-loop-domain : goal.invariant-one_bounds-loop-domain
 invariant-one_bounds-loop-domain l =

@@ -2,7 +2,7 @@ use Rattle.std.proofs.Common.{◌≡◌, map, drop, flat_map}
 use Rattle.zf_term.specs.Definitions.{conjunct_of, globals_of}
 use Rattle.zf_term.specs.Extents.{first, offending}
 use Rattle.zf_term.specs.FirstNamed.{or_else}
-use Rattle.zf_schema.proofs.finiteness.conjuncts_after.Given as goal
+use Rattle.zf_finite.proofs.finiteness.conjuncts_after.Given as goal
 
 abbrev pub invariant-loop-conjunct : goal.invariant-loop-conjunct
 invariant-loop-conjunct l =

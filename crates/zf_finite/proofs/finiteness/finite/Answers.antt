@@ -2,10 +2,10 @@ use Rattle.std.proofs.Common.{◌++◌, map, flat_map, None, ap, ◌∙◌}
 use Rattle.zf_term.specs.Definitions.{comp_of, conjunct_of, globals_of, schema_of}
 use Rattle.zf_term.specs.Extents.{first, offending}
 use Rattle.zf_term.specs.FirstNamed.{or_else}
-use Rattle.zf_schema.specs.Finite.{comp_lines}
-use Rattle.zf_schema.proofs.FiniteSchemas.{is_finite}
-use Rattle.zf_schema.proofs.FirstOffences.{both_after, none_found}
-use Rattle.zf_schema.proofs.finiteness.finite.Goals as goal
+use Rattle.zf_finite.specs.Finite.{comp_lines}
+use Rattle.zf_finite.proofs.FiniteSchemas.{is_finite}
+use Rattle.zf_finite.proofs.FirstOffences.{both_after, none_found}
+use Rattle.zf_finite.proofs.finiteness.finite.Goals as goal
 
 pub returns-in-None-clause-ok : goal.returns-in-None-clause-ok
 returns-in-None-clause-ok c =

@@ -1,7 +1,7 @@
 use Rattle.zf_term.specs.Definitions.{comp_of, globals_of}
-use Rattle.zf_schema.specs.Finite.{comp_lines}
-use Rattle.zf_schema.proofs.FirstOffences.{flat_step}
-use Rattle.zf_schema.proofs.finiteness.components_line.Goals as goal
+use Rattle.zf_finite.specs.Finite.{comp_lines}
+use Rattle.zf_finite.proofs.FirstOffences.{flat_step}
+use Rattle.zf_finite.proofs.finiteness.components_line.Goals as goal
 
 pub loop-component-preserved : goal.loop-component-preserved
 loop-component-preserved c =

@@ -7,7 +7,7 @@ use Rattle.zf_term.specs.Definitions.{Defined, sets_of, set_of}
 use Rattle.zf_term.specs.Extents.{first}
 use Rattle.zf_term.specs.FirstNamed.{or_else}
 use Rattle.zf_term.proofs.FirstLines.{first_of_both, line_step}
-use Rattle.zf_schema.specs.Finite.{plain_lines, all_plain_lines, first_or, set_lines, all_set_lines}
+use Rattle.zf_finite.specs.Finite.{plain_lines, all_plain_lines, first_or, set_lines, all_set_lines}
 
 -- what is found in the one, and then in the other
 pub both_after : (xs ys : List ℕ) (found a b : Option ℕ) → a ≡ or_else found (first xs) → b ≡ or_else a (first ys) → b ≡ or_else found (first (xs ++ ys))

@@ -1,7 +1,7 @@
 use Rattle.zf_term.specs.Definitions.{conjunct_of, globals_of}
 use Rattle.zf_term.specs.Extents.{offending}
-use Rattle.zf_schema.proofs.FirstOffences.{flat_step}
-use Rattle.zf_schema.proofs.finiteness.conjuncts_after.Goals as goal
+use Rattle.zf_finite.proofs.FirstOffences.{flat_step}
+use Rattle.zf_finite.proofs.finiteness.conjuncts_after.Goals as goal
 
 pub loop-conjunct-preserved : goal.loop-conjunct-preserved
 loop-conjunct-preserved c =

@@ -4,8 +4,8 @@ ghost use Rattle.zf_term.specs.Definitions.{comp_of, conjunct_of, globals_of, sc
 ghost use Rattle.zf_term.specs.Extents.{first};
 ghost use Rattle.zf_term.specs.Extents as extents;
 ghost use Rattle.zf_term.specs.FirstNamed.{or_else};
-ghost use Rattle.zf_schema.specs.Finite as spec;
-ghost use Rattle.zf_schema.specs.Finite.{IsFinite};
+ghost use Rattle.zf_finite.specs.Finite as spec;
+ghost use Rattle.zf_finite.specs.Finite.{IsFinite};
 
 use thiserror::Error;
 use zf_data::arena::Items;
