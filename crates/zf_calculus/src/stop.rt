@@ -6,7 +6,7 @@ use std::alloc::{AllocError, AllocFailed};
 use zf_type::fault::{Refusal, TypeFaultKind, refused};
 
 /// Why there is no next schema.
-#[derive(Debug, Drop)]
+#[derive(Drop)]
 pub enum Stop {
     /// A component gets two types.
     Clash,

@@ -6,14 +6,14 @@ use thiserror::Error;
 use zf_data::{Items, Word};
 
 /// A size word: the name and the size of a given set.
-#[derive(Debug, Drop)]
+#[derive(Drop)]
 pub struct Size {
     pub name: Word,
     pub count: u64,
 }
 
 /// What is asked of a file.
-#[derive(Debug, Drop)]
+#[derive(Drop)]
 pub enum Job {
     /// The faults of types; then, if `types`, what is defined, with its types.
     Check { types: bool },
@@ -22,7 +22,7 @@ pub enum Job {
 }
 
 /// What the words of a command line ask for.
-#[derive(Debug, Drop)]
+#[derive(Drop)]
 pub enum Asked {
     /// The file, as it was given, and the job on it.
     Work(Word, Job),

@@ -4,7 +4,7 @@ use Rattle.std.specs.List.{flat_map}
 use Rattle.zf_command.specs.declared.job.Job.{Job}
 use Rattle.zf_command.specs.declared.job.Job.TheVariants.{Check, Show}
 use Rattle.zf_command.specs.declared.job.Size.{Size}
-use Rattle.zf_schema.specs.Finite.{IsFinite}
+use Rattle.zf_finite.specs.Finite.{IsFinite}
 use Rattle.zf_simple.specs.declared.simple.Simple.{Simple}
 use Rattle.zf_simple.specs.Bindings.{IsBindings}
 use Rattle.zf_simple.specs.Showing.{given_sets, simple_of}

@@ -6,7 +6,7 @@ use Rattle.zf_command.specs.declared.job.Job.{Job}
 use Rattle.zf_command.specs.declared.job.Job.TheVariants.{Check, Show}
 use Rattle.zf_command.specs.declared.job.Size.{Size}
 use Rattle.zf_schema.specs.Checking.{IsChecked}
-use Rattle.zf_schema.specs.Finite.{IsFinite, infinite_lines}
+use Rattle.zf_finite.specs.Finite.{IsFinite, infinite_lines}
 use Rattle.zf_schema.specs.Listing.{listing}
 use Rattle.zf_simple.specs.declared.simple.Component.{Component}
 use Rattle.zf_simple.specs.declared.simple.Simple.{Simple}

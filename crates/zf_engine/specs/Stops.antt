@@ -3,7 +3,7 @@ use Rattle.std.specs.Prelude.{◌≡◌, ◌≢◌, ℕ, List, [], Some, Err}
 use Rattle.zf_command.specs.declared.job.Job.{Job}
 use Rattle.zf_command.specs.declared.job.Job.TheVariants.{Check, Show}
 use Rattle.zf_command.specs.declared.job.Size.{Size}
-use Rattle.zf_schema.specs.Finite.{infinite_lines}
+use Rattle.zf_finite.specs.Finite.{infinite_lines}
 use Rattle.zf_simple.specs.Bindings.{IsBindings}
 use Rattle.zf_simple.specs.Showing.{given_sets, simple_of}
 use Rattle.zf_simple.specs.Sizes.{IsRefusal}

@@ -3,7 +3,7 @@ ghost use Rattle.std.specs.Prelude.{◌≡◌, ℕ, List, [], IfOk, IfErr, All, 
 ghost use Rattle.zf_command.specs.declared.job.Job.TheVariants.{Check, Show};
 ghost use Rattle.zf_engine.specs.Answers.{Answer, Checks};
 ghost use Rattle.zf_engine.specs.Stops.{AnswersOver, AnswersShow, IfAnswered, IsMisfit, ShowsBindings, ShowsJob, TellsForm, TellsInfinite, TellsMisfit};
-ghost use Rattle.zf_schema.specs.Finite.{IsFinite};
+ghost use Rattle.zf_finite.specs.Finite.{IsFinite};
 ghost use Rattle.zf_simple.specs.Bindings.{IsWithin};
 ghost use Rattle.zf_simple.specs.Showing as showing;
 ghost use Rattle.zf_simple.specs.Sizes.{AreSized};
@@ -16,8 +16,8 @@ use crate::texts;
 use bumpalo::Bump;
 use std::alloc::Global;
 use zf_command::job::{Job, Size};
+use zf_finite::finite;
 use zf_scan::fault::TextFaultKind;
-use zf_schema::finite;
 use zf_simple::given::given_sets;
 use zf_simple::showing::simple_of;
 use zf_simple::simple::Simple;

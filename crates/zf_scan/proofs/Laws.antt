@@ -12,7 +12,7 @@ use Rattle.zf_scan.specs.declared.pieces.Place.{Place}
 use Rattle.zf_scan.specs.declared.pieces.Place.TheVariants as places
 use Rattle.zf_scan.specs.declared.scan.TheConstants.{SOURCE_MAX}
 use Rattle.zf_scan.specs.declared.token.Token.{Token}
-use Rattle.zf_scan.specs.Cuts.{IsWantOfMemory, Stands, Spot, line_of, start, past, IsRead, Cuts, tokens_from, IsCutInto, IsUncut, fault_line, Fails, IsStuck, IsCutOnce, FaultsOnce, IsCutOrFaults}
+use Rattle.zf_scan.specs.Cuts.{IsWantOfMemory, Stands, Spot, line_of, start, past, IsRead, Cuts, tokens_from, IsCutInto, IsUncut, fault_line, Fails, IsStuck, IsCutOnce, FaultsOnce, IsNotBoth}
 use Rattle.zf_scan.proofs.Same.{same, stands_some}
 use Rattle.zf_scan.specs.Boxes.{Before, IsCutUpTo}
 use Rattle.zf_scan.specs.declared.scan.Border.{Border}
@@ -123,11 +123,11 @@ one_end ps qs b c g = by g.more g.cuts g.all
 pub is_cut_once : IsCutOnce
 is_cut_once source one two c d =
     let same : c.pieces ≡ d.pieces = ⊎_elim (λ g. sym (one_end c.pieces d.pieces c.end d.end g)) (λ g. one_end d.pieces c.pieces d.end c.end g) (compared c.pieces d.pieces start source c.end [] d.end [] c.cuts d.cuts) in
-    c.told ∙ ap (tokens_from start) same ∙ sym d.told
+    (same, c.told ∙ ap (tokens_from start) same ∙ sym d.told)
 
-pub is_cut_or_faults : IsCutOrFaults
-is_cut_or_faults source tokens fault c (inl t) = omega (arith, c.short, t.0)
-is_cut_or_faults source tokens fault c (inr s) = uncut source fault s tokens c
+pub is_not_both : IsNotBoth
+is_not_both source tokens fault c (inl t) = omega (arith, c.short, t.0)
+is_not_both source tokens fault c (inr s) = uncut source fault s tokens c
 
 fails_once : (place : Place) (rest : List ℕ) (k l : TextFaultKind) → Fails place rest k → Fails place rest l → k ≡ l
 fails_once place rest k l (inl f) (inl g) = let e = (same place (Refused k) (Refused l) f.0 g.0 f.1 g.1 f.3 g.3 (sym f.2 ∙ g.2)).piece in cc e

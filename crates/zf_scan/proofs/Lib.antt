@@ -13,6 +13,7 @@ pub mod Scanned
 mod ScanTurns
 pub mod Quiet
 pub mod Laws
+mod Everywhere
 mod Fronts
 mod MarkedCommands
 mod BoxParts

@@ -131,14 +131,18 @@ IsWantOfMemory fault = (fault.kind ≡ OutOfMemory) × (fault.line ≡ 0)
 
 -- ---- laws
 
--- a source is cut in at most one way
+-- a source is cut in at most one way: its pieces are the same, and so its tokens
 abbrev pub IsCutOnce : Type 0
-IsCutOnce = (source : List ℕ) (one two : List Token) → IsCutInto source one → IsCutInto source two → one ≡ two
+IsCutOnce = (source : List ℕ) (one two : List Token) (c : IsCutInto source one) (d : IsCutInto source two) → (c.pieces ≡ d.pieces) × (one ≡ two)
 
 -- it has at most one fault
 abbrev pub FaultsOnce : Type 0
 FaultsOnce = (source : List ℕ) (one two : TextFault) → HasFault source one → HasFault source two → one ≡ two
 
--- a source that is cut has none
+-- it is cut, or it has a fault
 abbrev pub IsCutOrFaults : Type 0
-IsCutOrFaults = (source : List ℕ) (tokens : List Token) (fault : TextFault) → IsCutInto source tokens → HasFault source fault → ⊥
+IsCutOrFaults = (source : List ℕ) → ((tokens : List Token) × IsCutInto source tokens) ⊎ ((fault : TextFault) × HasFault source fault)
+
+-- and never both
+abbrev pub IsNotBoth : Type 0
+IsNotBoth = (source : List ℕ) (tokens : List Token) (fault : TextFault) → IsCutInto source tokens → HasFault source fault → ⊥

@@ -229,9 +229,10 @@ fn newlines(bytes: &[u8]) -> u32
     n
 }
 
-/// A source is cut in at most one way, or it has one fault: laws of the definitions, and no code.
+/// A source is cut in one way, or it has one fault: laws of the definitions, and no code.
 pub fn one_cut()
-    ensures tokens { cuts.IsCutOnce }
+    ensures pieces { cuts.IsCutOnce }
     ensures fault { cuts.FaultsOnce }
-    ensures apart { cuts.IsCutOrFaults }
+    ensures some { cuts.IsCutOrFaults }
+    ensures apart { cuts.IsNotBoth }
 {}

@@ -2,7 +2,7 @@
 use zf_data::Text;
 
 /// A run of one or more of these parts paragraphs, declarations or predicates.
-#[derive(Clone, Copy, Debug, PartialEq, Eq)]
+#[derive(Clone, Copy)]
 pub enum Separator {
     /// `;`
     Semicolon,
@@ -13,7 +13,7 @@ pub enum Separator {
 }
 
 /// A function symbol between two expressions.
-#[derive(Clone, Copy, Debug, PartialEq, Eq)]
+#[derive(Clone, Copy, Debug)]
 pub enum Infix {
     /// `\mapsto`
     Maplet,
@@ -50,7 +50,7 @@ pub enum Infix {
 }
 
 /// A generic symbol between two sets: the relations or functions from one to the other.
-#[derive(Clone, Copy, Debug, PartialEq, Eq)]
+#[derive(Clone, Copy, Debug)]
 pub enum Arrow {
     /// `\rel`
     Relation,
@@ -65,7 +65,7 @@ pub enum Arrow {
 }
 
 /// A symbol before one expression. The minus sign before an expression is `Infix::Minus` as a token.
-#[derive(Clone, Copy, Debug, PartialEq, Eq)]
+#[derive(Clone, Copy, Debug)]
 pub enum Prefix {
     /// `\power`
     Power,
@@ -80,7 +80,7 @@ pub enum Prefix {
 }
 
 /// A symbol that is a term by itself.
-#[derive(Clone, Copy, Debug, PartialEq, Eq)]
+#[derive(Clone, Copy, Debug)]
 pub enum Constant {
     /// `true`
     True,
@@ -95,7 +95,7 @@ pub enum Constant {
 }
 
 /// A relation between two expressions.
-#[derive(Clone, Copy, Debug, PartialEq, Eq)]
+#[derive(Clone, Copy, Debug)]
 pub enum Relation {
     /// `=`
     Equal,
@@ -120,7 +120,7 @@ pub enum Relation {
 }
 
 /// A connective between two predicates; `\land` and `\lor` also stand between schema expressions.
-#[derive(Clone, Copy, Debug, PartialEq, Eq)]
+#[derive(Clone, Copy, Debug)]
 pub enum Connective {
     /// `\land`
     And,
@@ -133,7 +133,7 @@ pub enum Connective {
 }
 
 /// A quantifier.
-#[derive(Clone, Copy, Debug, PartialEq, Eq)]
+#[derive(Clone, Copy, Debug)]
 pub enum Quantifier {
     /// `\forall`
     ForAll,

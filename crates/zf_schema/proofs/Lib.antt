@@ -18,6 +18,4 @@ pub mod Referring
 pub mod Running
 pub mod Beginning
 pub mod Texts
-pub mod FirstOffences
 pub mod Numbering
-pub mod FiniteSchemas

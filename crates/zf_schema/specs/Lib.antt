@@ -1,4 +1,3 @@
-pub mod Finite
 pub mod Listing
 pub mod Checking
 pub mod SchemaLaws

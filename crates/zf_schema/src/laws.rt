@@ -1,5 +1,4 @@
 //! What holds of every schema expression, of every paragraph and box, and of every text.
-ghost use Rattle.zf_schema.specs.Finite.{FiniteWithoutLines};
 ghost use Rattle.zf_schema.specs.SchemaLaws.{CompsJoined, CompsOfEither, CompsOnce, DecorationRenames, FirstKept, GlobalsKept, NamesOnce, NoItemOffence, NoSchemaOffence, OneCheck, OneDefinition, OneSchema, PlacesCarried, SetsJoined, SetsOfEither, TypesJoined, TypesOfEither, XiEquates};
 ghost use Rattle.zf_schema.specs.WellTypedGlobals.{ExtentsKept, GlobalsWellTyped};
 
@@ -101,9 +100,4 @@ pub fn globals_well_typed()
 /// The extent kept with an abbreviation stays that of its term, whatever is defined after it.
 pub fn extents_kept()
     ensures { ExtentsKept }
-{}
-
-/// A schema is finite exactly where nothing makes it infinite.
-pub fn finite_without_lines()
-    ensures { FiniteWithoutLines }
 {}

@@ -3,7 +3,6 @@
 
 pub mod checker;
 mod expression;
-mod finiteness;
 pub mod laws;
 pub mod listing;
 mod paragraph;
@@ -11,5 +10,4 @@ mod reference;
 mod text;
 
 pub use expression::schema_of_expression;
-pub use finiteness::{NotFinite, finite};
 pub use text::text_of;

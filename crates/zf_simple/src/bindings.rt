@@ -15,7 +15,7 @@ pub fn one_list()
 {}
 
 /// How far a walk has come.
-#[derive(Clone, Copy, Debug, PartialEq, Eq)]
+#[derive(Clone, Copy, PartialEq, Eq)]
 enum Stage {
     /// Its row is still ahead.
     Fresh,

@@ -1,7 +1,7 @@
 //! The sides of a conjunct.
 
 /// What a name in a conjunct stands for.
-#[derive(Clone, Copy, Debug, PartialEq, Eq)]
+#[derive(Clone, Copy, PartialEq, Eq)]
 pub enum Side {
     /// A component, by its place.
     OfComponent(usize),

@@ -1,7 +1,7 @@
 //! Infinite sets, and how a term contains them.
 
 /// A set that no search goes through.
-#[derive(Clone, Copy, Debug, PartialEq, Eq)]
+#[derive(Clone, Copy, PartialEq, Eq)]
 pub enum Infinite {
     /// `\num`
     Num,
@@ -12,7 +12,7 @@ pub enum Infinite {
 }
 
 /// How a term contains infinite sets.
-#[derive(Clone, Copy, Debug, PartialEq, Eq)]
+#[derive(Clone, Copy)]
 pub enum Extent {
     /// The term is one of them.
     Infinite(Infinite),

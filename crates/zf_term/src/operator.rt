@@ -6,7 +6,7 @@ use zf_scan::token::{Arrow, Connective, Infix, Prefix, Relation};
 use zf_text::tree::Sign;
 
 /// What stands between two terms.
-#[derive(Clone, Copy, Debug, PartialEq, Eq)]
+#[derive(Clone, Copy)]
 pub enum Operator {
     Function(Infix),
     Generic(Arrow),
@@ -18,7 +18,7 @@ pub enum Operator {
 }
 
 /// What is applied to one term.
-#[derive(Clone, Copy, Debug, PartialEq, Eq)]
+#[derive(Clone, Copy)]
 pub enum Unary {
     Sign(Sign),
     /// `\inv`
@@ -28,7 +28,7 @@ pub enum Unary {
 }
 
 /// What makes one term out of several.
-#[derive(Clone, Copy, Debug, PartialEq, Eq)]
+#[derive(Clone, Copy)]
 pub enum Listed {
     Tuple,
     /// `\{ .. \}`
@@ -38,7 +38,7 @@ pub enum Listed {
 }
 
 /// What a place of a term needs.
-#[derive(Clone, Copy, Debug, PartialEq, Eq)]
+#[derive(Clone, Copy)]
 pub enum Need {
     Expression,
     Number,
@@ -48,7 +48,7 @@ pub enum Need {
 }
 
 /// How the types of two operands and of what is made of them belong together.
-#[derive(Clone, Copy, Debug, PartialEq, Eq)]
+#[derive(Clone, Copy)]
 pub enum Rule {
     /// Of two numbers a number.
     Arithmetic,

@@ -4,7 +4,7 @@ use zf_data::arena::{Boxed, Items};
 use zf_scan::token::{Constant, Quantifier, Relation};
 
 /// What a name stands for.
-#[derive(Clone, Copy, Debug, PartialEq, Eq)]
+#[derive(Clone, Copy, PartialEq, Eq)]
 pub enum Reference {
     /// A component, by its place in the schema.
     Component(usize),

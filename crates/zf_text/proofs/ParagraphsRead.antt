@@ -9,7 +9,8 @@ use Rattle.zf_scan.specs.declared.token.Separator.TheVariants.{Semicolon, NewLin
 use Rattle.zf_text.specs.declared.tree.Name.{Name}
 use Rattle.zf_text.specs.declared.tree.Paragraph.{Paragraph}
 use Rattle.zf_text.specs.declared.tree.Paragraph.TheVariants as paragraph
-use Rattle.zf_text.specs.BoxReading.{given, free_type, abbreviation, is_bare, definition, named_by, named, read_schema, read_paragraph}
+use Rattle.zf_text.specs.Names.{is_bare}
+use Rattle.zf_text.specs.BoxReading.{given, free_type, abbreviation, definition, named_by, named, read_schema, read_paragraph}
 use Rattle.zf_text.specs.Height.{height, schema_height, paragraph_height}
 use Rattle.zf_text.specs.Levels.{expression_level, IsAt, SchemaIsLevelled, ParagraphIsLevelled}
 use Rattle.zf_scan.specs.Choosing.{next_of, is_mark}

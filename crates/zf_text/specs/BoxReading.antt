@@ -20,6 +20,7 @@ use Rattle.zf_text.specs.declared.tree.Paragraph.TheVariants as paragraph
 use Rattle.zf_text.specs.declared.tree.ZBox.{ZBox}
 use Rattle.zf_text.specs.declared.tree.ZBox.TheVariants as zbox
 use Rattle.zf_text.specs.Levels.{quantifier_level, expression_level}
+use Rattle.zf_text.specs.Names.{is_bare}
 use Rattle.zf_text.specs.Reading as basic
 use Rattle.zf_scan.specs.Choosing.{is_mark}
 use Rattle.zf_text.specs.Reading.{first, rest, is_end, read_name, read_opening}
@@ -152,10 +153,6 @@ unfoldable pub abbreviation : ℕ → Name → Parser (Tall Paragraph)
 abbreviation height n = do
   x ← read_term height expression_level
   pure (tall (paragraph.Abbrev n x.part) x.height)
-
-abbrev pub is_bare : List ℕ → Bool
-is_bare [] = true
-is_bare (s ∷ ss) = false
 
 unfoldable pub definition : ℕ → Name → Parser (Tall Paragraph)
 definition height n = λ ts. if is_bare n.strokes then and_then (read_schema height ts) (λ x us. Ok (tall (paragraph.Defs n x.part) x.height, us)) else Err Refused

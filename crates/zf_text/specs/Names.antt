@@ -1,5 +1,5 @@
 -- A name as contracts see it: its base, its strokes as spelled, and its line. An identifier is a name without its line.
-use Rattle.std.specs.Prelude.{ℕ, List}
+use Rattle.std.specs.Prelude.{ℕ, Bool, true, false, List, [], ◌∷◌}
 
 pub record Name : Type 0 where
   pub base : List ℕ
@@ -15,3 +15,8 @@ ident_of n = record { base = n.base; strokes = n.strokes }
 
 abbrev pub name_at : (line : ℕ) → Ident → Name
 name_at line i = record { base = i.base; strokes = i.strokes; line = line }
+
+-- it has no strokes
+abbrev pub is_bare : List ℕ → Bool
+is_bare [] = true
+is_bare (s ∷ ss) = false

@@ -6,7 +6,7 @@ ghost use Rattle.zf_text.specs.Reading as spec;
 ghost use Rattle.zf_scan.specs.Placing.{symbol_at};
 ghost use Rattle.zf_text.specs.TermReading as terms;
 ghost use Rattle.zf_text.specs.TermReading.{Gives};
-ghost use Rattle.zf_scan.specs.declared.fault.TextFaultKind.TheVariants.{Unexpected, TooDeep};
+ghost use Rattle.zf_scan.specs.declared.fault.TextFaultKind.TheVariants.{Unexpected};
 
 use crate::tree::Name;
 use std::marker::Model;
@@ -85,16 +85,6 @@ impl<'a, 'b> Cursor<'a, 'b> {
     {
         TextFault {
             kind: TextFaultKind::Unexpected,
-            line: u64::from(self.line()),
-        }
-    }
-
-    /// The term to which the next symbol belongs is too high.
-    pub fn too_deep(&self) -> TextFault
-        ensures { result.kind ≡ TooDeep }
-    {
-        TextFault {
-            kind: TextFaultKind::TooDeep,
             line: u64::from(self.line()),
         }
     }

@@ -7,7 +7,7 @@ use crate::cursor::Cursor;
 use crate::items::{Rule, items};
 use crate::levels::{EXPRESSION, QUANTIFIER};
 use crate::names::names;
-use crate::tall::Tall;
+use crate::tall::{Tall, too_deep};
 use crate::terms::term;
 use crate::tree::{Decl, RefMark, SchemaRef, Term};
 use bumpalo::Bump;
@@ -69,7 +69,7 @@ fn inclusion<'a>(tokens: &mut Cursor<'a, '_>, highest: u32) -> Result<Tall<Decl<
 {
     let schema = reference(tokens)?;
     if highest < 1 {
-        return Err(tokens.too_deep());
+        return Err(too_deep(schema.name.line));
     }
     Ok(Tall {
         part: Decl::Include(schema),

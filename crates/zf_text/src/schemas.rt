@@ -7,7 +7,7 @@ ghost use Rattle.zf_text.specs.TermReading.{Gives};
 
 use crate::cursor::Cursor;
 use crate::decls::{decls, predicates, reference};
-use crate::tall::Tall;
+use crate::tall::{Tall, too_deep};
 use crate::tree::SchemaExp;
 use bumpalo::Bump;
 use zf_data::arena::Boxed;
@@ -98,6 +98,7 @@ impl<
         ensures value { Gives (spec.conjunction self.now.below (read_schema self.now.below) tokens.old) result tokens.new }
         ensures low { IfOk result (λ x. x.height ≤ self.now.below + 1) }
     {
+        let line = tokens.line();
         let mut left = self.part(tokens)?;
         for _turn in 0..tokens.left() {
             if !tokens.is_and() {
@@ -107,7 +108,7 @@ impl<
             let right = self.part(tokens)?;
             let height = left.height.max(right.height) + 1;
             if height > self.below + 1 {
-                return Err(tokens.too_deep());
+                return Err(too_deep(line));
             }
             let first = Boxed::new(self.arena, left.part)?;
             let second = Boxed::new(self.arena, right.part)?;
@@ -135,7 +136,7 @@ impl<
             let right = self.conjunction(tokens)?;
             let height = left.height.max(right.height) + 1;
             if height > self.below + 1 {
-                return Err(tokens.too_deep());
+                return Err(too_deep(line));
             }
             let first = Boxed::new(self.arena, left.part)?;
             let second = Boxed::new(self.arena, right.part)?;
@@ -159,7 +160,7 @@ pub fn schema<'a>(
     ensures low { IfOk result (λ x. x.height ≤ highest) }
 {
     if highest == 0 {
-        return Err(tokens.too_deep());
+        return Err(too_deep(tokens.line()));
     }
     Schemas {
         arena,

@@ -10,7 +10,7 @@ mod parts;
 
 use crate::cursor::Cursor;
 use crate::levels::{binds, level, place_before};
-use crate::tall::Tall;
+use crate::tall::{Tall, too_deep};
 use crate::tree::Term;
 use bumpalo::Bump;
 use zf_data::arena::Boxed;
@@ -53,6 +53,7 @@ impl<
         ensures value { Gives (spec.climb (read_term self.now.below) (self.now.below + 1) least (self.now.below + 1) left.entry tokens.old) result tokens.new }
         ensures low { IfOk result (λ x. x.height ≤ self.now.below + 1) }
     {
+        let line = left.part.get().line();
         for _turn in 0..self.below + 1 {
             let after = tokens.peek();
             if binds(after) <= least {
@@ -63,10 +64,10 @@ impl<
             }
             left = self.longer(tokens, left, after)?;
             if left.height > self.below + 1 {
-                return Err(tokens.too_deep());
+                return Err(too_deep(line));
             }
         }
-        Err(tokens.too_deep())
+        Err(too_deep(line))
     }
 
     #[tactic(auto, unfolding(crate::specs::TermReading::whole, crate::specs::TermReading::climb))]
@@ -100,7 +101,7 @@ pub fn term<'a>(
     ensures low { IfOk result (λ x. x.height ≤ highest) }
 {
     if highest == 0 {
-        return Err(tokens.too_deep());
+        return Err(too_deep(tokens.line()));
     }
     Grammar {
         arena,

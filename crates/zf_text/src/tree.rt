@@ -1,6 +1,6 @@
 //! The trees of a text.
 ghost use Rattle.std.specs.Prelude.{◌≡◌, ◌++◌};
-ghost use Rattle.zf_text.specs.BoxReading as spec;
+ghost use Rattle.zf_text.specs.Names as spec;
 ghost use Rattle.zf_text.specs.Names.{ident_of, name_at};
 ghost use Rattle.zf_text.specs.Spelling.{line_of};
 ghost use Rattle.zf_text.specs.Trees.{tree_of};
@@ -104,7 +104,7 @@ impl<'a> Ident<'a> {
 }
 
 /// What stands before one term.
-#[derive(Clone, Copy, Debug, PartialEq, Eq)]
+#[derive(Clone, Copy)]
 pub enum Sign {
     Symbol(Prefix),
     Minus,
@@ -196,7 +196,7 @@ pub struct VarDecl<'a> {
 }
 
 /// How the schema of a reference is taken.
-#[derive(Clone, Copy, Debug, PartialEq, Eq)]
+#[derive(Clone, Copy, Debug)]
 pub enum RefMark {
     Plain,
     Delta,

@@ -34,14 +34,14 @@ pub enum TypeFaultKind {
 }
 
 /// A fault, with the line of the first token of the offending term or name.
-#[derive(Clone, Copy, Debug, PartialEq, Eq)]
+#[derive(Clone, Copy)]
 pub struct TypeFault {
     pub kind: TypeFaultKind,
     pub line: u64,
 }
 
 /// Why there is no answer: a fault, or memory ran out.
-#[derive(Debug, Drop)]
+#[derive(Drop)]
 pub enum Refusal {
     Fault(TypeFault),
     OutOfMemory,

@@ -2,8 +2,8 @@
 use bumpalo::Bump;
 use std::alloc::Global;
 use std::test::Fail;
+use zf_finite::{NotFinite, finite};
 use zf_schema::checker::check_spec;
-use zf_schema::{NotFinite, finite};
 use zf_term::extent::Infinite;
 use zf_term::globals::Entry;
 use zf_term::infinite::direct;

@@ -10,10 +10,9 @@ ghost use Rattle.zf_text.specs.declared.tree.Term.TheVariants as term;
 use super::Grammar;
 use crate::cursor::Cursor;
 use crate::levels::{EXPRESSION, NEGATION, QUANTIFIER, UNARY, level, sign_level};
-use crate::tall::Tall;
+use crate::tall::{Tall, boxed};
 use crate::tree::{Sign, Term};
 use bumpalo::Bump;
-use std::alloc::AllocError;
 use zf_data::arena::Boxed;
 use zf_scan::fault::TextFault;
 use zf_scan::next::{Mark, Next};
@@ -28,10 +27,7 @@ impl<
         ensures low { IfOk result (λ x. x.height ≤ self.now.below + 1) }
     {
         let name = tokens.name()?;
-        Ok(Tall {
-            part: Boxed::new(self.arena, Term::Name(name.line, name.ident()))?,
-            height: 1,
-        })
+        boxed(self.arena, Term::Name(name.line, name.ident()), 1)
     }
 
     fn number(
@@ -43,23 +39,20 @@ impl<
         ensures low { IfOk result (λ x. x.height ≤ self.now.below + 1) }
     {
         let number = tokens.number()?;
-        Ok(Tall {
-            part: Boxed::new(self.arena, Term::Number(line, number))?,
-            height: 1,
-        })
+        boxed(self.arena, Term::Number(line, number), 1)
     }
 
     fn constant(
         &self,
+        tokens: &mut Cursor<'a, '_>,
         line: u32,
         constant: Constant,
-    ) -> Result<Tall<Boxed<'a, Term<'a>>>, AllocError>
-        ensures { IfOk result (λ x. x ≡ spec.tall (term.Constant line constant) 1) }
+    ) -> Result<Tall<Boxed<'a, Term<'a>>>, TextFault>
+        ensures value { Gives (spec.beginning_by (read_term self.now.below) 0 line (next.Constant constant) tokens.old) result tokens.new }
+        ensures low { IfOk result (λ x. x.height ≤ self.now.below + 1) }
     {
-        Ok(Tall {
-            part: Boxed::new(self.arena, Term::Constant(line, constant))?,
-            height: 1,
-        })
+        tokens.skip();
+        boxed(self.arena, Term::Constant(line, constant), 1)
     }
 
     /// After `\emptyset`.
@@ -79,10 +72,7 @@ impl<
         tokens.skip();
         let set = self.term(tokens, EXPRESSION)?;
         tokens.expect(Mark::CloseSquare)?;
-        Ok(Tall {
-            part: Boxed::new(self.arena, Term::EmptySet(line, set.part))?,
-            height: set.height + 1,
-        })
+        boxed(self.arena, Term::EmptySet(line, set.part), set.height + 1)
     }
 
     /// After `(` and a term that a comma follows.
@@ -103,10 +93,7 @@ impl<
         let all = self.further(tokens, Mark::Comma, EXPRESSION, first)?;
         tokens.expect(Mark::CloseRound)?;
         let terms = Boxed::new(self.arena, all.part)?;
-        Ok(Tall {
-            part: Boxed::new(self.arena, Term::Tuple(line, terms))?,
-            height: all.height + 1,
-        })
+        boxed(self.arena, Term::Tuple(line, terms), all.height + 1)
     }
 
     /// After `(`.
@@ -124,10 +111,11 @@ impl<
         match tokens.peek() {
             Next::CloseRound => {
                 tokens.skip();
-                Ok(Tall {
-                    part: Boxed::new(self.arena, Term::Bracket(line, inner.part))?,
-                    height: inner.height + 1,
-                })
+                boxed(
+                    self.arena,
+                    Term::Bracket(line, inner.part),
+                    inner.height + 1,
+                )
             }
             Next::Comma => self.tuple(tokens, line, inner),
             _ => Err(tokens.unexpected()),
@@ -152,10 +140,7 @@ impl<
         let all = self.further(tokens, Mark::Comma, EXPRESSION, first)?;
         tokens.expect(Mark::CloseBrace)?;
         let terms = Boxed::new(self.arena, all.part)?;
-        Ok(Tall {
-            part: Boxed::new(self.arena, Term::Display(line, terms))?,
-            height: all.height + 1,
-        })
+        boxed(self.arena, Term::Display(line, terms), all.height + 1)
     }
 
     /// After `\{`, where a declaration begins.
@@ -174,13 +159,11 @@ impl<
         let filter = self.part(tokens, Mark::Bar, QUANTIFIER)?;
         let value = self.part(tokens, Mark::At, EXPRESSION)?;
         tokens.expect(Mark::CloseBrace)?;
-        Ok(Tall {
-            part: Boxed::new(
-                self.arena,
-                Term::Builder(line, bound, filter.part, value.part),
-            )?,
-            height: decls.height.max(filter.height).max(value.height) + 1,
-        })
+        boxed(
+            self.arena,
+            Term::Builder(line, bound, filter.part, value.part),
+            decls.height.max(filter.height).max(value.height) + 1,
+        )
     }
 
     /// After `\{`.
@@ -214,10 +197,11 @@ impl<
         ensures low { IfOk result (λ x. x.height ≤ self.now.below + 1) }
     {
         let operand = self.term(tokens, sign_level(sign))?;
-        Ok(Tall {
-            part: Boxed::new(self.arena, Term::Prefix(line, sign, operand.part))?,
-            height: operand.height + 1,
-        })
+        boxed(
+            self.arena,
+            Term::Prefix(line, sign, operand.part),
+            operand.height + 1,
+        )
     }
 
     /// After `\lnot`.
@@ -232,10 +216,11 @@ impl<
         ensures low { IfOk result (λ x. x.height ≤ self.now.below + 1) }
     {
         let operand = self.term(tokens, NEGATION)?;
-        Ok(Tall {
-            part: Boxed::new(self.arena, Term::Not(line, operand.part))?,
-            height: operand.height + 1,
-        })
+        boxed(
+            self.arena,
+            Term::Not(line, operand.part),
+            operand.height + 1,
+        )
     }
 
     /// After the quantifier.
@@ -256,10 +241,11 @@ impl<
         tokens.expect(Mark::At)?;
         let body = self.term(tokens, QUANTIFIER)?;
         let term = Term::Quantified(quantifier, line, bound, constraint.part, body.part);
-        Ok(Tall {
-            part: Boxed::new(self.arena, term)?,
-            height: decls.height.max(constraint.height).max(body.height) + 1,
-        })
+        boxed(
+            self.arena,
+            term,
+            decls.height.max(constraint.height).max(body.height) + 1,
+        )
     }
 
     /// What stands first in a term at this place.
@@ -277,10 +263,7 @@ impl<
         match tokens.peek() {
             Next::Name => self.name(tokens),
             Next::Number => self.number(tokens, line),
-            Next::Constant(constant) => {
-                tokens.skip();
-                Ok(self.constant(line, constant)?)
-            }
+            Next::Constant(constant) => self.constant(tokens, line, constant),
             Next::EmptySet => {
                 tokens.skip();
                 self.empty_set(tokens, line)

@@ -1,0 +1,57 @@
+-- The first line in components and declared sets, and how it is found from the front.
+use Rattle.std.proofs.Common.{◌≡◌, ℕ, ◌+◌, ◌<◌, Option, Some, None, List, [], ◌∷◌, ◌++◌, length, map, drop, get_or, flat_map, refl, sym, ap, ◌∙◌}
+use Rattle.std.proofs.lemmas.List.Concat.{flat_map-cons}
+use Rattle.std.proofs.lemmas.Option.{none-some}
+use Rattle.zf_term.specs.declared.globals.Domain.{Domain}
+use Rattle.zf_term.specs.Definitions.{Defined, sets_of, set_of}
+use Rattle.zf_term.specs.Extents.{first}
+use Rattle.zf_term.specs.FirstNamed.{or_else}
+use Rattle.zf_term.proofs.FirstLines.{first_of_both, line_step}
+use Rattle.zf_finite.specs.Finite.{plain_lines, all_plain_lines, first_or, set_lines, all_set_lines}
+
+-- what is found in the one, and then in the other
+pub both_after : (xs ys : List ℕ) (found a b : Option ℕ) → a ≡ or_else found (first xs) → b ≡ or_else a (first ys) → b ≡ or_else found (first (xs ++ ys))
+both_after xs ys None a b e h = h ∙ ap (λ o. or_else o (first ys)) e ∙ sym (first_of_both xs ys)
+both_after xs ys (Some l) a b e h = h ∙ ap (λ o. or_else o (first ys)) e
+
+-- where nothing is found, there is nothing
+pub none_found : (xs : List ℕ) → None ≡ first xs → xs ≡ []
+none_found [] e = refl
+none_found (l ∷ ls) e = absurd (none-some l e)
+
+pub or_found : (xs : List ℕ) (l : ℕ) → Some l ≡ first xs → l ≡ first_or xs 0
+or_found [] l e = absurd (none-some l (sym e))
+or_found (x ∷ xs) l e = cc
+
+pub or_none : (xs : List ℕ) → None ≡ first xs → 0 ≡ first_or xs 0
+or_none [] e = refl
+or_none (l ∷ ls) e = absurd (none-some l e)
+
+-- ---- one item further
+
+pub flat_step :
+    {X Y : Type 0} (f : Y → List ℕ) (g : X → Y) (xs : List X) (i : ℕ) (x : X) (whole found next : Option ℕ)
+    → x ≡ get_or xs i x → i < length xs
+    → whole ≡ or_else found (first (flat_map f (map g (drop i xs))))
+    → next ≡ or_else found (first (f (g x)))
+    → whole ≡ or_else next (first (flat_map f (map g (drop (i + 1) xs))))
+flat_step f g xs i x whole found next at l =
+    line_step (λ ys. flat_map f (map g ys)) (λ ys. flat_map f (map g ys)) xs i x (f (g x)) whole found next at l (flat_map-cons f (g x) (map g (drop (i + 1) xs)))
+
+pub plain_step :
+    (xs : List Domain) (i : ℕ) (x : Domain) (whole found next : Option ℕ)
+    → x ≡ get_or xs i x → i < length xs
+    → whole ≡ or_else found (first (all_plain_lines (sets_of (map set_of (drop i xs)))))
+    → next ≡ or_else found (first (plain_lines (set_of x)))
+    → whole ≡ or_else next (first (all_plain_lines (sets_of (map set_of (drop (i + 1) xs)))))
+plain_step xs i x whole found next at l =
+    line_step (λ ds. all_plain_lines (sets_of (map set_of ds))) (λ ds. all_plain_lines (sets_of (map set_of ds))) xs i x (plain_lines (set_of x)) whole found next at l refl
+
+pub names_step :
+    (g : List Defined) (xs : List Domain) (i : ℕ) (x : Domain) (whole found next : Option ℕ)
+    → x ≡ get_or xs i x → i < length xs
+    → whole ≡ or_else found (first (all_set_lines g (sets_of (map set_of (drop i xs)))))
+    → next ≡ or_else found (first (set_lines g (set_of x)))
+    → whole ≡ or_else next (first (all_set_lines g (sets_of (map set_of (drop (i + 1) xs)))))
+names_step g xs i x whole found next at l =
+    line_step (λ ds. all_set_lines g (sets_of (map set_of ds))) (λ ds. all_set_lines g (sets_of (map set_of ds))) xs i x (set_lines g (set_of x)) whole found next at l refl

@@ -1,0 +1,2 @@
+pub mod FirstOffences
+pub mod FiniteSchemas

@@ -1,0 +1,8 @@
+use Rattle.zf_term.specs.Definitions.{conjunct_of, globals_of}
+use Rattle.zf_term.specs.Extents.{offending}
+use Rattle.zf_finite.proofs.FirstOffences.{flat_step}
+use Rattle.zf_finite.proofs.finiteness.conjuncts_after.Goals as goal
+
+pub loop-conjunct-preserved : goal.loop-conjunct-preserved
+loop-conjunct-preserved c =
+    flat_step (offending (globals_of c.args.globals.now)) conjunct_of _ _ _ _ _ _ c.conjunct-item.is c.loop-conjunct-test.true c.loop-conjunct.invariant c.conjunct_after-line.ensures

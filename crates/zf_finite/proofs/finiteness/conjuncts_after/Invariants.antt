@@ -1,0 +1,10 @@
+use Rattle.std.proofs.Common.{◌≡◌, map, drop, flat_map}
+use Rattle.zf_term.specs.Definitions.{conjunct_of, globals_of}
+use Rattle.zf_term.specs.Extents.{first, offending}
+use Rattle.zf_term.specs.FirstNamed.{or_else}
+use Rattle.zf_finite.proofs.finiteness.conjuncts_after.Given as goal
+
+abbrev pub invariant-loop-conjunct : goal.invariant-loop-conjunct
+invariant-loop-conjunct l =
+    or_else l.fn.found (first (flat_map (offending (globals_of l.globals)) (map conjunct_of l.conjuncts)))
+    ≡ or_else l.line (first (flat_map (offending (globals_of l.globals)) (map conjunct_of (drop l.conjunct-index l.conjuncts))))
