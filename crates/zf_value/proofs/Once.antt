@@ -202,6 +202,7 @@ one_on_numbers (Some a) None P f o p h k = h ∙ sym k
 one_on_numbers None y P f o p h k = h ∙ sym k
 
 pub one_Applied : (f : List Value) (x : Value) → HasOne (op.IsApplied f x)
+unfolding op.IsApplied
 one_Applied f x (Is v) (Is w) h k = ap Is (k.1 v h.0)
 one_Applied f x (Is v) Undefined h k = absurd (k v h)
 one_Applied f x Undefined (Is w) h k = absurd (h w k)
