@@ -1,12 +1,13 @@
 -- The derived order is that of values, and values that tie are one.
-use Rattle.std.proofs.Common.{◌≡◌, List, [], ◌∷◌, map, refl, sym, ap, ◌∙◌, Ordering, Less, Equal, Greater}
-use Rattle.std.specs.Ordering.{ordering_then}
+use Rattle.std.proofs.Common.{true, IsTrue, ◌↔◌, subst, ◌≡◌, List, [], ◌∷◌, map, refl, sym, ap, ◌∙◌, Ordering, Less, Equal, Greater}
+use Rattle.std.specs.Ordering.{ordering_then, is_eq}
+use Rattle.std.proofs.lemmas.Cmp.{tied_itself}
 use Rattle.std.specs.Cmp.Lexicographic.{slice_cmp}
 use Rattle.std.proofs.lemmas.Map.Lookups.{exact_unsigned, exact_signed}
 use Rattle.zf_value.specs.declared.value.Value.{Value, out-Value, roll-Value, ind-Value, map-Value, roll-out-Value, out-roll-Value}
 use Rattle.zf_value.specs.declared.value.Value.TheOpen.{Value-F}
 use Rattle.zf_value.specs.contracts.value.ValueOrd.TheImpl.{ghosts}
-use Rattle.zf_value.specs.contracts.value.ValueOrd.TheImpl.Laws.{is}
+use Rattle.zf_value.specs.contracts.value.ValueOrd.TheImpl.Laws.{is, total-law}
 use Rattle.zf_value.specs.Order.{level_order}
 
 abbrev pub cmp : Value → Value → Ordering
@@ -67,3 +68,11 @@ pub exact : (v w : Value) → cmp v w ≡ Equal → v ≡ w
 exact = ind-Value Exact (λ x y is w h.
     let same = exact_layers y x (out-Value w) is (sym (cmp_rolled x (out-Value w)) ∙ ap (cmp (roll-Value x)) (roll-out-Value w) ∙ h) in
     ap roll-Value same ∙ roll-out-Value w)
+
+pub is_eq_true : (o : Ordering) → is_eq o ≡ true → o ≡ Equal
+is_eq_true Less h = (cc)
+is_eq_true Equal h = refl
+is_eq_true Greater h = (cc)
+
+pub ties : (v w : Value) → IsTrue (is_eq (cmp v w)) ↔ (v ≡ w)
+ties v w = (λ b. exact v w (is_eq_true (cmp v w) b), λ e. ap is_eq (subst (λ u. cmp v u ≡ Equal) e (tied_itself total-law v)))

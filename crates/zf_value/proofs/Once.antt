@@ -1,6 +1,5 @@
 -- Each operation has one outcome at most.
 use Rattle.std.proofs.Common.{◌≡◌, ◌↔◌, ℤ, ◌≤◌, List, [], ◌∷◌, Option, Some, None, length, refl, sym, ap, ◌∙◌, subst, inl, inr, ⊎_elim, Ordering, Less, Equal, Greater, arith}
-use Rattle.std.proofs.lemmas.Cmp.{tied_itself}
 use Rattle.std.specs.Ordering.{ordering_reverse}
 use Rattle.zf_value.specs.declared.value.Value.{Value, SetOf}
 use Rattle.zf_value.specs.declared.value.Outcome.{Outcome}
@@ -9,17 +8,11 @@ use Rattle.zf_value.specs.contracts.value.ValueOrd.TheImpl.Laws.{total-law}
 use Rattle.zf_value.specs.Sets.{value_order, IsMember, Every, IsAscending, IsSetOf}
 use Rattle.zf_value.specs.Numbers.{IsNumber, OnNumber, OnNumbers, IsNegation, IsSum, IsDifference, IsProduct, IsInterval}
 use Rattle.zf_value.specs.Operations as op
+use Rattle.zf_value.proofs.Among.{every_at, not_below_itself}
 use Rattle.zf_value.proofs.Exact.{exact}
 
 abbrev pub HasOne : (Outcome → Type 0) → Type 0
 HasOne P = (o p : Outcome) → P o → P p → o ≡ p
-
-every_at : (P : Value → Type 0) (xs : List Value) (z : Value) → Every P xs → IsMember z xs → P z
-every_at P [] z h m = absurd m
-every_at P (x ∷ xs) z h m = ⊎_elim (λ s. subst P s h.0) (λ n. every_at P xs z h.1 n) m
-
-not_below_itself : (x : Value) → value_order x x ≡ Less → ⊥
-not_below_itself x e = let t = tied_itself total-law x in (cc)
 
 not_both : (x y : Value) → value_order x y ≡ Less → value_order y x ≡ Less → ⊥
 not_both x y e f = let r = total-law.antisymm x y ∙ ap ordering_reverse f in (cc)

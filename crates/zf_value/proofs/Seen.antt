@@ -1,7 +1,8 @@
 -- What the views of a value are at each of its forms. They do not compute in other crates.
-use Rattle.std.proofs.Common.{◌≡◌, ℤ, List, Some, ap}
-use Rattle.zf_value.specs.declared.value.Value.{Value, Int, Tuple, SetOf}
-use Rattle.zf_value.specs.declared.value.Value.TheVariants.{outs-Int, outs-Tuple, outs-SetOf}
+use Rattle.std.proofs.Common.{◌≡◌, ℤ, List, [], Some, refl, sym, ap, ◌∙◌}
+use Rattle.zf_value.specs.declared.value.Value.{Value, Int, Tuple, SetOf, out-Value, roll-Value, roll-out-Value}
+use Rattle.zf_value.specs.declared.value.Value.TheOpen.{Value-F}
+use Rattle.zf_value.specs.declared.value.Value.TheVariants.{outs-Int, outs-Tuple, outs-SetOf, rolls-SetOf}
 use Rattle.zf_value.specs.Numbers.{number_at, number_of}
 use Rattle.zf_value.specs.Sets.{members_at, members, parts_at, parts}
 
@@ -16,3 +17,13 @@ parts-Tuple xs = ap parts_at (outs-Tuple xs)
 
 pub parts-SetOf : (xs : List Value) → parts (SetOf xs) ≡ xs
 parts-SetOf xs = ap parts_at (outs-SetOf xs)
+
+members_none : (v : Value) (x : Value-F Value) → out-Value v ≡ x → ((xs : List Value) → v ≡ SetOf xs → ⊥) → members v ≡ []
+members_none v (Value-F.SetOf xs) e h = absurd (h xs (sym (roll-out-Value v) ∙ ap roll-Value e ∙ rolls-SetOf xs))
+members_none v (Value-F.Int n) e h = ap members_at e
+members_none v (Value-F.Elem t i) e h = ap members_at e
+members_none v (Value-F.Tuple xs) e h = ap members_at e
+
+-- what is no set has no members
+pub no_members : (v : Value) → ((xs : List Value) → v ≡ SetOf xs → ⊥) → members v ≡ []
+no_members v h = members_none v (out-Value v) refl h

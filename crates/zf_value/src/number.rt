@@ -4,7 +4,7 @@ ghost use Rattle.zf_value.specs.Numbers.{IsNegation, IsSum, IsDifference, IsProd
 ghost use Rattle.zf_value.specs.Sets.{IsRegularOutcome};
 
 use crate::SET_MAX;
-use crate::items::Items;
+use crate::set::set_of;
 use crate::value::{Outcome, Value};
 use std::alloc::{AllocError, Global};
 
@@ -52,14 +52,20 @@ pub fn modulus(a: i64, b: i64) -> Outcome
     ensures is { IsModulus a b result }
     ensures regular { IsRegularOutcome result }
 {
-    Outcome::Undefined
+    if b == 0 {
+        return Outcome::Undefined;
+    }
+    number_or_out(a.checked_rem_euclid(b))
 }
 
 /// Whether `from \upto to` has more members than a set may have.
 pub fn is_interval_out(from: i64, to: i64) -> bool
     ensures { IsTrue result ↔ IsInterval from to Outcome.Out }
 {
-    false
+    match from.checked_add(SET_MAX as i64) {
+        Some(past) => past <= to,
+        None => false,
+    }
 }
 
 /// Whether the value is one of the numbers from the one to the other.
@@ -77,7 +83,14 @@ pub fn interval(alloc: Global, from: i64, to: i64) -> Result<Outcome, AllocError
     ensures is { IfOk result (IsInterval from to) }
     ensures regular { IfOk result IsRegularOutcome }
 {
-    Err(AllocError)
+    if is_interval_out(from, to) {
+        return Ok(Outcome::Out);
+    }
+    let mut members = Vec::new(alloc);
+    for n in from..=to {
+        members.push(Value::Int(n))?;
+    }
+    set_of(alloc, members)
 }
 
 /// The number, or out where there is none of 64 bits.

@@ -1,10 +1,16 @@
 //! The operations on relations. A relation is a set of pairs; what is no pair relates nothing.
-ghost use Rattle.std.specs.Prelude.{◌≡◌, IfOk, IfSome, MatchOption};
-ghost use Rattle.zf_value.specs.Operations.{IsDomain, IsRange, IsInverse, IsImage, IsComposition, IsOverriding, IsDomainRestriction, IsDomainSubtraction, IsRangeRestriction, IsRangeSubtraction, IsApplied};
-ghost use Rattle.zf_value.specs.Sets.{IsRegular, IsRegularSet, IsRegularOutcome};
+ghost use Rattle.std.specs.Bool.{OnTrue};
+ghost use Rattle.std.specs.Prelude.{◌≡◌, IfOk, IfSome, OnOk, MatchOption};
+ghost use Rattle.zf_value.specs.Operations.{pair, IsDisplay, IsDomain, IsRange, IsInverse, IsImage, IsComposition, IsOverriding, IsDomainRestriction, IsDomainSubtraction, IsRangeRestriction, IsRangeSubtraction, IsApplied};
+ghost use Rattle.zf_value.specs.Sets.{IsAscending, IsRegular, IsRegularSet, IsRegularOutcome};
+ghost use Rattle.zf_value.specs.Steps.{HaveSameMembers, AreRelated, AddsPairs, place_beside as place};
 
+use crate::SET_MAX;
+use crate::part::{Keep, Part, parts, selected};
+use crate::set::{copy_onto, display, make_ascending, tuple_of_two};
 use crate::value::{Outcome, Value};
 use std::alloc::{AllocError, Global};
+use std::cmp::Ordering;
 
 /// `\dom r`.
 pub fn domain(alloc: Global, r: &[Value]) -> Result<Outcome, AllocError>
@@ -12,7 +18,7 @@ pub fn domain(alloc: Global, r: &[Value]) -> Result<Outcome, AllocError>
     ensures is { IfOk result (IsDomain r.now) }
     ensures regular { IfOk result IsRegularOutcome }
 {
-    Err(AllocError)
+    display(alloc, parts(alloc, r, Part::First)?)
 }
 
 /// `\ran r`.
@@ -21,7 +27,7 @@ pub fn range(alloc: Global, r: &[Value]) -> Result<Outcome, AllocError>
     ensures is { IfOk result (IsRange r.now) }
     ensures regular { IfOk result IsRegularOutcome }
 {
-    Err(AllocError)
+    display(alloc, parts(alloc, r, Part::Second)?)
 }
 
 /// `r \inv`.
@@ -30,7 +36,13 @@ pub fn inverse(alloc: Global, r: &[Value]) -> Result<Outcome, AllocError>
     ensures is { IfOk result (IsInverse r.now) }
     ensures regular { IfOk result IsRegularOutcome }
 {
-    Err(AllocError)
+    let mut values = Vec::new(alloc);
+    for z in r {
+        if let Some((x, y)) = z.pair() {
+            values.push(pair_of(alloc, y, x)?)?;
+        }
+    }
+    display(alloc, values)
 }
 
 /// `r \limg a \rimg`.
@@ -40,7 +52,10 @@ pub fn image(alloc: Global, r: &[Value], a: &[Value]) -> Result<Outcome, AllocEr
     ensures is { IfOk result (IsImage r.now a.now) }
     ensures regular { IfOk result IsRegularOutcome }
 {
-    Err(AllocError)
+    display(
+        alloc,
+        selected(alloc, r, Part::First, Keep::Members, a, Part::Second)?,
+    )
 }
 
 /// `r \comp q`.
@@ -50,7 +65,16 @@ pub fn composition(alloc: Global, r: &[Value], q: &[Value]) -> Result<Outcome, A
     ensures is { IfOk result (IsComposition r.now q.now) }
     ensures regular { IfOk result IsRegularOutcome }
 {
-    Err(AllocError)
+    let mut values = Vec::new(alloc);
+    for z in r {
+        if let Some((x, y)) = z.pair() {
+            pair_all(alloc, &mut values, x, related(q, y))?;
+            if is_too_many(&mut values)? {
+                return Ok(Outcome::Out);
+            }
+        }
+    }
+    display(alloc, values)
 }
 
 /// `r \oplus q`.
@@ -60,7 +84,18 @@ pub fn overriding(alloc: Global, r: &[Value], q: &[Value]) -> Result<Outcome, Al
     ensures is { IfOk result (IsOverriding r.now q.now) }
     ensures regular { IfOk result IsRegularOutcome }
 {
-    Err(AllocError)
+    let mut firsts = parts(alloc, q, Part::First)?;
+    make_ascending(&mut firsts)?;
+    let mut values = selected(
+        alloc,
+        r,
+        Part::First,
+        Keep::Others,
+        firsts.as_slice(),
+        Part::Whole,
+    )?;
+    copy_onto(alloc, &mut values, q)?;
+    display(alloc, values)
 }
 
 /// `a \dres r`.
@@ -70,7 +105,10 @@ pub fn domain_restriction(alloc: Global, a: &[Value], r: &[Value]) -> Result<Out
     ensures is { IfOk result (IsDomainRestriction a.now r.now) }
     ensures regular { IfOk result IsRegularOutcome }
 {
-    Err(AllocError)
+    display(
+        alloc,
+        selected(alloc, r, Part::First, Keep::Members, a, Part::Whole)?,
+    )
 }
 
 /// `a \ndres r`.
@@ -80,7 +118,10 @@ pub fn domain_subtraction(alloc: Global, a: &[Value], r: &[Value]) -> Result<Out
     ensures is { IfOk result (IsDomainSubtraction a.now r.now) }
     ensures regular { IfOk result IsRegularOutcome }
 {
-    Err(AllocError)
+    display(
+        alloc,
+        selected(alloc, r, Part::First, Keep::Others, a, Part::Whole)?,
+    )
 }
 
 /// `r \rres b`.
@@ -90,7 +131,10 @@ pub fn range_restriction(alloc: Global, r: &[Value], b: &[Value]) -> Result<Outc
     ensures is { IfOk result (IsRangeRestriction r.now b.now) }
     ensures regular { IfOk result IsRegularOutcome }
 {
-    Err(AllocError)
+    display(
+        alloc,
+        selected(alloc, r, Part::Second, Keep::Members, b, Part::Whole)?,
+    )
 }
 
 /// `r \nrres b`.
@@ -100,7 +144,10 @@ pub fn range_subtraction(alloc: Global, r: &[Value], b: &[Value]) -> Result<Outc
     ensures is { IfOk result (IsRangeSubtraction r.now b.now) }
     ensures regular { IfOk result IsRegularOutcome }
 {
-    Err(AllocError)
+    display(
+        alloc,
+        selected(alloc, r, Part::Second, Keep::Others, b, Part::Whole)?,
+    )
 }
 
 /// What the relation takes the value to, if that is one value alone.
@@ -109,5 +156,75 @@ pub fn applied<'a>(f: &'a [Value], x: &Value) -> Option<&'a Value>
     ensures is { MatchOption result (IsApplied f.now x.now Outcome.Undefined) (λ y. IsApplied f.now x.now (Outcome.Is y.now)) }
     ensures regular { IfSome result (λ y. IsRegular y.now) }
 {
-    None
+    let mut found = None;
+    for z in related(f, x) {
+        if let Some((_, y)) = z.pair() {
+            if found.is_some() {
+                return None;
+            }
+            found = Some(y);
+        }
+    }
+    found
+}
+
+// ---- steps
+
+/// The members that begin with the value.
+fn related<'a>(r: &'a [Value], x: &Value) -> &'a [Value]
+    requires { IsAscending r.now }
+    ensures { AreRelated r.now x.now result.now }
+{
+    let start = r.partition_point(|z| place_beside(x, z).is_lt());
+    let end = r.partition_point(|z| place_beside(x, z).is_le());
+    &r[start..end]
+}
+
+/// Where the value stands beside the tuples that begin with x.
+fn place_beside(x: &Value, z: &Value) -> Ordering
+    ensures { result ≡ place x.now z.now }
+{
+    match z {
+        Value::Int(_) | Value::Elem(_, _) => Ordering::Less,
+        Value::Tuple(items) => match items.as_slice() {
+            [] => Ordering::Less,
+            [y, ..] => y.cmp(x),
+        },
+        Value::SetOf(_) => Ordering::Greater,
+    }
+}
+
+fn pair_of(alloc: Global, x: &Value, y: &Value) -> Result<Value, AllocError>
+    ensures { IfOk result (λ v. v ≡ pair x.now y.now) }
+{
+    tuple_of_two(alloc, x.copy(alloc)?, y.copy(alloc)?)
+}
+
+/// Adds the pairs of x with the seconds of these.
+fn pair_all(
+    alloc: Global,
+    values: &mut Vec<Value>,
+    x: &Value,
+    pairs: &[Value],
+) -> Result<(), AllocError>
+    ensures { OnOk result (AddsPairs x.now pairs.now values.old.items values.new.items) }
+{
+    for z in pairs {
+        if let Some((_, y)) = z.pair() {
+            values.push(pair_of(alloc, x, y)?)?;
+        }
+    }
+    Ok(())
+}
+
+/// Whether these are known to be more than a set may have. Drops repeats where there are many.
+fn is_too_many(values: &mut Vec<Value>) -> Result<bool, AllocError>
+    ensures members { OnOk result (HaveSameMembers values.old.items values.new.items) }
+    ensures out { IfOk result (λ b. OnTrue b (IsDisplay values.new.items Outcome.Out)) }
+{
+    if values.len() <= 2 * SET_MAX {
+        return Ok(false);
+    }
+    make_ascending(values)?;
+    Ok(values.len() > SET_MAX)
 }
