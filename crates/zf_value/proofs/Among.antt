@@ -1,11 +1,11 @@
 -- Members of lists, and lists in order.
-use Rattle.std.proofs.Common.{◌≡◌, ◌⊎◌, ◌↔◌, ℕ, zero, suc, ◌+◌, ◌<◌, ◌≤◌, List, [], ◌∷◌, ◌++◌, length, take, drop, get_or, refl, sym, ap, ◌∙◌, subst, inl, inr, ⊎_elim, Ordering, Less, Equal, Greater, arith, add-one}
+use Rattle.std.proofs.Common.{IsTrue, false, ◌≡◌, ◌⊎◌, ◌↔◌, ℕ, zero, suc, ◌+◌, ◌<◌, ◌≤◌, List, [], ◌∷◌, ◌++◌, length, take, drop, get_or, refl, sym, ap, ◌∙◌, subst, inl, inr, ⊎_elim, Ordering, Less, Equal, Greater, arith, add-one}
 use Rattle.std.specs.List.{Contains, AllByRecursion}
 use Rattle.std.specs.List.Sorted.{IsStrictlySortedBy}
 use Rattle.std.proofs.lemmas.Cmp.{tied_itself}
 use Rattle.zf_value.specs.declared.value.Value.{Value}
 use Rattle.zf_value.specs.contracts.value.ValueOrd.TheImpl.Laws.{total-law}
-use Rattle.zf_value.specs.Sets.{value_order, IsMember, Every, IsAscending}
+use Rattle.zf_value.specs.Sets.{value_order, IsMember, Every, IsAscending, AreAmong}
 
 -- ---- each of a list
 
@@ -37,9 +37,10 @@ pub members-take_more : (xs : List Value) (i : ℕ) (x : Value) → x ≡ get_or
 members-take_more [] i x e l z = absurd (omega arith)
 members-take_more (y ∷ ys) zero x e l z = (λ m. ⊎_elim (λ s. inr (e ∙ s)) (λ n. absurd n) m, λ m. ⊎_elim (λ n. absurd n) (λ s. inl (sym e ∙ s)) m)
 members-take_more (y ∷ ys) (suc i) x e l z =
-    let rest = members-take_more ys i x e (omega arith) z in
-    (λ m. ⊎_elim (λ s. inl (inl s)) (λ n. ⊎_elim (λ a. inl (inr a)) (λ b. inr b) (rest.0 n)) m,
-      λ m. ⊎_elim (λ n. ⊎_elim (λ s. inl s) (λ a. inr (rest.1 (inl a))) n) (λ b. inr (rest.1 (inr b))) m)
+    let rest = members-take_more ys i x e (omega arith) z in (
+      λ m. ⊎_elim (λ s. inl (inl s)) (λ n. ⊎_elim (λ a. inl (inr a)) (λ b. inr b) (rest.0 n)) m,
+      λ m. ⊎_elim (λ n. ⊎_elim (λ s. inl s) (λ a. inr (rest.1 (inl a))) n) (λ b. inr (rest.1 (inr b))) m,
+    )
 
 pub take_all : (n : ℕ) (xs : List Value) → length xs ≤ n → take n xs ≡ xs
 take_all zero [] l = refl
@@ -50,9 +51,10 @@ take_all (suc n) (x ∷ xs) l = ap (λ ys. x ∷ ys) (take_all n xs (omega arith
 pub members-append : (xs ys : List Value) (z : Value) → IsMember z (xs ++ ys) ↔ (IsMember z xs ⊎ IsMember z ys)
 members-append [] ys z = (λ m. inr m, λ m. ⊎_elim (λ n. absurd n) (λ n. n) m)
 members-append (x ∷ xs) ys z =
-    let rest = members-append xs ys z in
-    (λ m. ⊎_elim (λ s. inl (inl s)) (λ n. ⊎_elim (λ a. inl (inr a)) (λ b. inr b) (rest.0 n)) m,
-      λ m. ⊎_elim (λ n. ⊎_elim (λ s. inl s) (λ a. inr (rest.1 (inl a))) n) (λ b. inr (rest.1 (inr b))) m)
+    let rest = members-append xs ys z in (
+      λ m. ⊎_elim (λ s. inl (inl s)) (λ n. ⊎_elim (λ a. inl (inr a)) (λ b. inr b) (rest.0 n)) m,
+      λ m. ⊎_elim (λ n. ⊎_elim (λ s. inl s) (λ a. inr (rest.1 (inl a))) n) (λ b. inr (rest.1 (inr b))) m,
+    )
 
 pub members-push : (xs : List Value) (y z : Value) → IsMember z (xs ++ y ∷ []) ↔ (IsMember z xs ⊎ (y ≡ z))
 members-push xs y z =
@@ -112,3 +114,20 @@ ascending-push (x ∷ xs) y h b = (every_push (λ z. value_order x z ≡ Less) x
     every_push : (P : Value → Type 0) (ys : List Value) (z : Value) → Every P ys → P z → Every P (ys ++ z ∷ [])
     every_push P [] z g p = (p, tt)
     every_push P (u ∷ us) z g p = (g.0, every_push P us z g.1 p)
+
+-- ---- lists whose members are among others
+
+pub among_none : (set : List Value) → AreAmong [] set
+unfolding AreAmong
+among_none set = λ z m. absurd m
+
+pub among_more : (xs set : List Value) (i : ℕ) (x : Value) → x ≡ get_or xs i x → i < length xs → AreAmong (take i xs) set → IsMember x set → AreAmong (take (i + 1) xs) set
+unfolding AreAmong
+among_more xs set i x e l h m = rw add-one (λ z n. ⊎_elim (λ a. h z a) (λ s. subst (λ u. IsMember u set) s m) ((members-take_more xs i x e l z).0 n))
+
+pub among_all : (xs set : List Value) (i : ℕ) → length xs ≤ i → AreAmong (take i xs) set → AreAmong xs set
+among_all xs set i l h = subst (λ ys. AreAmong ys set) (take_all i xs l) h
+
+pub not_among : (xs set : List Value) (i : ℕ) (x : Value) → x ≡ get_or xs i x → i < length xs → (IsMember x set → ⊥) → IsTrue false ↔ AreAmong xs set
+unfolding AreAmong
+not_among xs set i x e l n = (λ f. (cc), λ h. absurd (n (h x (member_at xs i x e l))))

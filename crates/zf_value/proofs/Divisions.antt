@@ -1,7 +1,9 @@
 -- A quotient and a remainder are the only ones.
-use Rattle.std.proofs.Common.{◌≡◌, ◌⊎◌, ℕ, zero, suc, ◌+◌, ◌*◌, ◌-◌, ◌≤◌, ℤ, refl, sym, ap, ◌∙◌, subst, inl, inr, ⊎_elim, arith}
-use Rattle.std.specs.Prelude.{pos, negsuc, ◌+ℤ◌, ◌*ℤ◌}
+use Rattle.std.proofs.Common.{◌≡◌, ◌⊎◌, ℕ, zero, suc, ◌+◌, ◌*◌, ◌-◌, ◌<◌, ◌≤◌, ℤ, refl, sym, ap, ◌∙◌, subst, inl, inr, ⊎_elim, arith}
+use Rattle.std.specs.Prelude.{pos, negsuc, ◌+ℤ◌, ◌-ℤ◌, ◌*ℤ◌}
 use Rattle.std.proofs.lemmas.Int.{ints}
+use Rattle.std.specs.Int.RustNames.{int_div, int_rem, unsigned_abs}
+use Rattle.std.proofs.lemmas.Int.{quot-rem, rem_below}
 use lib.IntN.{zero-*ℤ, +ℤ-suc_ℤ, suc_ℤ-*ℤ}
 use Rattle.zf_value.specs.Numbers.{IsNumber, IsRemainder, IsDivision, IsQuotient, IsModulus, DivisionsTell}
 use Rattle.zf_value.proofs.Once.{HasOne, one_number}
@@ -20,6 +22,45 @@ none_of_zero r h = ⊎_elim (λ m. omega (arith, ints, m.0, m.1)) (λ m. omega (
 no_remainder : (a b q r : ℤ) → b ≡ pos 0 → IsDivision a b q r → ⊥
 no_remainder a b q r e h = none_of_zero r (subst (λ x. IsRemainder x r) e h.1)
 
+past : (n : ℕ) (q b : ℤ) → (q +ℤ pos n) *ℤ b ≡ pos n *ℤ b +ℤ q *ℤ b
+past zero q b =
+    let a : q +ℤ pos zero ≡ q = omega (arith, ints) in
+    let m = zero-*ℤ b in
+    ap (λ x. x *ℤ b) a ∙ omega (arith, ints, m)
+past (suc n) q b =
+    let a = +ℤ-suc_ℤ q (pos n) in
+    let x = suc_ℤ-*ℤ (q +ℤ pos n) b in
+    let y = suc_ℤ-*ℤ (pos n) b in
+    let z = past n q b in
+    ap (λ u. u *ℤ b) a ∙ omega (arith, ints, x, y, z)
+
+above_zero : (b : ℤ) → (b ≡ pos 0 → ⊥) → 0 < unsigned_abs b
+above_zero (pos zero) n = absurd (n refl)
+above_zero (pos (suc m)) n = omega arith
+above_zero (negsuc m) n = omega arith
+
+-- ---- the quotient and remainder of the machine, which round towards 0
+
+-- where what is left lies between 0 and b, they round down
+pub down : (a b : ℤ) → IsRemainder b (int_rem a b) → IsDivision a b (int_div a b) (int_rem a b)
+down a b h = (sym (quot-rem a b), h)
+
+-- elsewhere the quotient is one less
+within : (b r : ℤ) → unsigned_abs r < unsigned_abs b → (IsRemainder b r → ⊥) → IsRemainder b (r +ℤ b)
+within (pos m) (pos n) l h = absurd (h (inl (omega (arith, ints), omega (arith, ints, l))))
+within (pos m) (negsuc n) l h = inl (omega (arith, ints, l), omega (arith, ints, l))
+within (negsuc m) (pos n) l h = inr (omega (arith, ints, l), omega (arith, ints, l))
+within (negsuc m) (negsuc n) l h = absurd (h (inr (omega (arith, ints, l), omega (arith, ints, l))))
+
+pub up : (a b : ℤ) → (b ≡ pos 0 → ⊥) → (IsRemainder b (int_rem a b) → ⊥) → IsDivision a b (int_div a b -ℤ pos 1) (int_rem a b +ℤ b)
+up a b n h =
+    let q = int_div a b -ℤ pos 1 in
+    let s : int_div a b ≡ q +ℤ pos 1 = omega (arith, ints) in
+    let m : int_div a b *ℤ b ≡ pos 1 *ℤ b +ℤ q *ℤ b = ap (λ u. u *ℤ b) s ∙ past 1 q b in
+    let one : pos 1 *ℤ b ≡ b = omega (arith, ints) in
+    let whole = quot-rem a b in
+    (omega (arith, ints, m, one, whole), within b (int_rem a b) (rem_below a b (above_zero b n)) h)
+
 -- ---- one quotient
 
 larger : (m n : ℕ) → suc m ≤ suc n * suc m
@@ -33,18 +74,6 @@ apart (pos (suc m)) r t (pos (suc n)) h k e = absurd (omega (arith, ints, larger
 apart (pos (suc m)) r t (negsuc n) h k e = absurd (omega (arith, ints, larger m n, h, k, e))
 apart (negsuc m) r t (pos (suc n)) h k e = absurd (omega (arith, ints, larger m n, h, k, e))
 apart (negsuc m) r t (negsuc n) h k e = absurd (omega (arith, ints, larger m n, h, k, e))
-
-past : (n : ℕ) (q b : ℤ) → (q +ℤ pos n) *ℤ b ≡ pos n *ℤ b +ℤ q *ℤ b
-past zero q b =
-    let a : q +ℤ pos zero ≡ q = omega (arith, ints) in
-    let m = zero-*ℤ b in
-    ap (λ x. x *ℤ b) a ∙ omega (arith, ints, m)
-past (suc n) q b =
-    let a = +ℤ-suc_ℤ q (pos n) in
-    let x = suc_ℤ-*ℤ (q +ℤ pos n) b in
-    let y = suc_ℤ-*ℤ (pos n) b in
-    let z = past n q b in
-    ap (λ u. u *ℤ b) a ∙ omega (arith, ints, x, y, z)
 
 ahead : (n : ℕ) (a b q r s t : ℤ) → s ≡ q +ℤ pos n → IsDivision a b q r → IsDivision a b s t → (q ≡ s) × (r ≡ t)
 ahead n a b q r s t e h k =
@@ -60,7 +89,7 @@ order zero y = inl (omega arith)
 order (suc x) zero = inr (omega arith)
 order (suc x) (suc y) = ⊎_elim (λ l. inl (omega (arith, l))) (λ l. inr (omega (arith, l))) (order x y)
 
-either_way : (q s : ℤ) → ((n : ℕ) × (s ≡ q +ℤ pos n)) ⊎ ((n : ℕ) × (q ≡ s +ℤ pos n))
+pub either_way : (q s : ℤ) → ((n : ℕ) × (s ≡ q +ℤ pos n)) ⊎ ((n : ℕ) × (q ≡ s +ℤ pos n))
 either_way (pos x) (pos y) = ⊎_elim (λ l. inl (y - x, omega (arith, ints, l))) (λ l. inr (x - y, omega (arith, ints, l))) (order x y)
 either_way (pos x) (negsuc y) = inr (x + suc y, omega (arith, ints))
 either_way (negsuc x) (pos y) = inl (y + suc x, omega (arith, ints))

@@ -20,17 +20,19 @@ gathered_none G out e w = (λ m. absurd (subst (IsMember w) e m), λ g. absurd g
 pub gathered_more : (G : Value → Value → Type 0) (xs : List Value) (i : ℕ) (x : Value) (out new : List Value) → x ≡ get_or xs i x → i < length xs → IsGathered G (take i xs) out → ((w : Value) → IsMember w new ↔ (IsMember w out ⊎ G x w)) → IsGathered G (take (i + 1) xs) new
 unfolding IsGathered
 gathered_more G xs i x out new e l h f w =
-    rw add-one
-    (λ m. ⊎_elim (λ a. let g = (h w).0 a in (g.0, (members-take_more xs i x e l g.0).1 (inl g.1), g.2)) (λ b. (x, (members-take_more xs i x e l x).1 (inr refl), b)) ((f w).0 m),
-      λ g. (f w).1 (⊎_elim (λ a. inl ((h w).1 (g.0, a, g.2))) (λ s. inr (subst (λ z. G z w) (sym s) g.2)) ((members-take_more xs i x e l g.0).0 g.1)))
+    rw add-one (
+      λ m. ⊎_elim (λ a. let g = (h w).0 a in (g.0, (members-take_more xs i x e l g.0).1 (inl g.1), g.2)) (λ b. (x, (members-take_more xs i x e l x).1 (inr refl), b)) ((f w).0 m),
+      λ g. (f w).1 (⊎_elim (λ a. inl ((h w).1 (g.0, a, g.2))) (λ s. inr (subst (λ z. G z w) (sym s) g.2)) ((members-take_more xs i x e l g.0).0 g.1)),
+    )
 
 -- it gives one value, or none
 pub gathered_push : (G : Value → Value → Type 0) (xs : List Value) (i : ℕ) (x : Value) (out new : List Value) (v : Value) → x ≡ get_or xs i x → i < length xs → IsGathered G (take i xs) out → ((w : Value) → G x w ↔ (v ≡ w)) → new ≡ out ++ v ∷ [] → IsGathered G (take (i + 1) xs) new
 gathered_push G xs i x out new v e l h f s =
     gathered_more G xs i x out new e l h (λ w.
-    let both = members-push out v w in
-    (λ m. ⊎_elim (λ a. inl a) (λ b. inr ((f w).1 b)) (both.0 (subst (IsMember w) s m)),
-      λ m. subst (IsMember w) (sym s) (both.1 (⊎_elim (λ a. inl a) (λ b. inr ((f w).0 b)) m))))
+    let both = members-push out v w in (
+      λ m. ⊎_elim (λ a. inl a) (λ b. inr ((f w).1 b)) (both.0 (subst (IsMember w) s m)),
+      λ m. subst (IsMember w) (sym s) (both.1 (⊎_elim (λ a. inl a) (λ b. inr ((f w).0 b)) m)),
+    ))
 
 pub gathered_pass : (G : Value → Value → Type 0) (xs : List Value) (i : ℕ) (x : Value) (out : List Value) → x ≡ get_or xs i x → i < length xs → IsGathered G (take i xs) out → ((w : Value) → G x w → ⊥) → IsGathered G (take (i + 1) xs) out
 gathered_pass G xs i x out e l h f = gathered_more G xs i x out out e l h (λ w. (λ m. inl m, λ m. ⊎_elim (λ a. a) (λ g. absurd (f w g)) m))

@@ -51,10 +51,13 @@ equal_is x y e = exact x y (is_eq_true (value_order x y) (sym (order_laws.matche
 pub sorted_out : (xs sorted ys : List Value) → IsPermutation xs sorted → IsSorted value_order sorted → IsFiltered (DiffersFromLast equality.ghosts.eq) [] sorted ys → IsAscending ys × HaveSameMembers xs ys
 unfolding HaveSameMembers
 sorted_out xs sorted ys moved order kept =
-    let is : ys ≡ dedup equality.ghosts.eq sorted = dedup_is _ _ _ kept in
-    (subst IsAscending (sym is) (ascending _ (IsStrictlySortedBy-dedup order_laws.total-law order_laws.matches_eq-law sorted order)),
-      λ z. (λ m. subst (IsMember z) (sym is) (member _ z (Contains-dedup equal_laws.laws-law equal_is sorted z (Contains-permutation _ _ z moved (contained _ z m)))),
-        λ m. member _ z (Contains-permutation _ _ z (IsPermutation-sym _ _ moved) (Contains-from_dedup _ _ z (contained _ z (subst (IsMember z) is m))))))
+    let is : ys ≡ dedup equality.ghosts.eq sorted = dedup_is _ _ _ kept in (
+      subst IsAscending (sym is) (ascending _ (IsStrictlySortedBy-dedup order_laws.total-law order_laws.matches_eq-law sorted order)),
+      λ z. (
+        λ m. subst (IsMember z) (sym is) (member _ z (Contains-dedup equal_laws.laws-law equal_is sorted z (Contains-permutation _ _ z moved (contained _ z m)))),
+        λ m. member _ z (Contains-permutation _ _ z (IsPermutation-sym _ _ moved) (Contains-from_dedup _ _ z (contained _ z (subst (IsMember z) is m)))),
+      ),
+    )
 
 -- an ascending list, made a set
 pub made_here : (items xs : List Value) → items ≡ xs → IsAscending xs → length xs ≤ SET_MAX → IsDisplay xs (Is (SetOf items))

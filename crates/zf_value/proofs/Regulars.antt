@@ -68,7 +68,7 @@ unfolding IsRegular
 ascends xs h = h [] xs refl
 
 pub regular_set : (xs : List Value) → IsRegular (SetOf xs) → IsRegularSet xs
-regular_set xs h = record { ascending = ascends xs h; regular = subst AreRegular (parts-SetOf xs) (regular_parts (SetOf xs) h); }
+regular_set xs h = record { ascending = ascends xs h; regular = subst AreRegular (parts-SetOf xs) (regular_parts (SetOf xs) h) }
 
 pub regular_member : (xs : List Value) (z : Value) → AreRegular xs → IsMember z xs → IsRegular z
 unfolding AreRegular
@@ -79,7 +79,7 @@ unfolding AreRegular
 are_regular xs f = every_from IsRegular xs f
 
 pub regular_none : IsRegularSet []
-regular_none = record { ascending = tt; regular = are_regular [] (λ z m. absurd m); }
+regular_none = record { ascending = tt; regular = are_regular [] (λ z m. absurd m) }
 
 pub regular-pair : (x y : Value) → IsRegular x → IsRegular y → IsRegular (pair x y)
 regular-pair x y h k = regular-Tuple (x ∷ y ∷ []) (are_regular (x ∷ y ∷ []) (λ z m. ⊎_elim (λ s. subst IsRegular s h) (λ n. ⊎_elim (λ s. subst IsRegular s k) (λ o. absurd o) n) m))
@@ -93,7 +93,7 @@ regular_pair x y h =
 
 -- a set of regular values
 pub regular_outcome : (P : Value → Type 0) (o : Outcome) → ((z : Value) → P z → IsRegular z) → IsSetOf P o → IsRegularOutcome o
-regular_outcome P (Is v) f h = subst IsRegular (sym h.1) (regular-SetOf h.0 (record { ascending = h.2; regular = are_regular h.0 (λ z m. f z ((h.4 z).0 m)); }))
+regular_outcome P (Is v) f h = subst IsRegular (sym h.1) (regular-SetOf h.0 (record { ascending = h.2; regular = are_regular h.0 (λ z m. f z ((h.4 z).0 m)) }))
 regular_outcome P Undefined f h = tt
 regular_outcome P Out f h = tt
 

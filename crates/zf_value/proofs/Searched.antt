@@ -47,6 +47,7 @@ found z xs (Err i) h l s =
     before u zero = inr (omega arith)
     before zero (suc v) = inl (omega arith)
     before (suc u) (suc v) = ⊎_elim (λ k. inl (omega (arith, k))) (λ k. inr (omega (arith, k))) (before u v)
+
     neither : (k : ℕ) → get_or xs k z ≡ z → (0 ≤ k → k < i → value_order (get_or xs k z) z ≡ Less) → (i ≤ k → k < length xs → value_order (get_or xs k z) z ≡ Greater) → (k < i) ⊎ (i ≤ k) → k < length xs → ⊥
     neither k e low high b q =
         let t = tied_itself total-law z in

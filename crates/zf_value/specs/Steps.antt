@@ -1,5 +1,5 @@
 -- What the steps of the operations say. No public clause rests on this file.
-use Rattle.std.specs.Prelude.{◌≡◌, ◌⊎◌, ◌↔◌, List, [], ◌∷◌, Option, MatchOption}
+use Rattle.std.specs.Prelude.{◌≡◌, ◌⊎◌, ◌↔◌, ℤ, Vec, List, [], ◌∷◌, Option, MatchOption}
 use Rattle.std.specs.declared.cmp.Ordering.{Ordering}
 use Rattle.std.specs.declared.cmp.Ordering.TheVariants.{Less, Equal, Greater}
 use Rattle.zf_value.specs.declared.part.Keep.{Keep}
@@ -9,7 +9,9 @@ use Rattle.zf_value.specs.declared.part.Part.TheVariants.{Whole, First, Second}
 use Rattle.zf_value.specs.declared.value.Value.{Value, Tuple, out-Value}
 use Rattle.zf_value.specs.declared.value.Value.TheOpen.{Value-F}
 use Rattle.zf_value.specs.Operations.{pair, Relates}
-use Rattle.zf_value.specs.Sets.{IsMember, value_order}
+use Rattle.zf_value.specs.Sets.{IsMember, IsAscending, value_order}
+use Rattle.zf_value.specs.Numbers.{IsBetweenNumbers}
+use Rattle.std.specs.declared.alloc.Global.{Global}
 use denote.Ref.{Bor}
 
 -- the lists have the same members
@@ -23,6 +25,11 @@ GivesJust P r = MatchOption r ((v : Value) → P v → ⊥) (λ w. (v : Value) �
 -- the members of `out` are what the members of `xs` give
 unfoldable pub IsGathered : (Value → Value → Type 0) → List Value → List Value → Type 0
 IsGathered G xs out = (w : Value) → IsMember w out ↔ ((z : Value) × IsMember z xs × G z w)
+
+-- the list is ascending, and has the numbers from the one to the other
+pub record ListsNumbers (a b : ℤ) (v : Vec Value Global) : Type 0 where
+  pub ascending : IsAscending v.items
+  pub members : (z : Value) → IsMember z v.items ↔ IsBetweenNumbers a b z
 
 -- ---- parts of members
 

@@ -97,5 +97,9 @@ fn selected_of<'a>(
     ensures { GivesJust (IsSelected test keep set.now given z.now) result }
 {
     let p = test.of(z)?;
-    if keep.keeps(p, set) { given.of(z) } else { None }
+    if keep.keeps(p, set) {
+        given.of(z)
+    } else {
+        None
+    }
 }

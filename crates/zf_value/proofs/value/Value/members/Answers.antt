@@ -8,4 +8,4 @@ pub returns-in-SetOf-clause-regular : goal.returns-in-SetOf-clause-regular
 returns-in-SetOf-clause-regular c h = subst IsRegularSet (sym c.as_slice.ensures) (regular_set _ (subst IsRegular c.in-SetOf.is h))
 
 pub returns-in_default : goal.returns-in_default
-returns-in_default c = record { is = sym (no_members _ c.in_default.not-SetOf); regular = λ h. regular_none; }
+returns-in_default c = record { is = sym (no_members _ c.in_default.not-SetOf); regular = λ h. regular_none }

@@ -1,0 +1,126 @@
+-- The numbers from one to another, in order.
+use Rattle.std.proofs.Common.{◌≡◌, ◌⊎◌, ◌↔◌, ℕ, zero, suc, ◌+◌, ◌<◌, ◌≤◌, ℤ, List, [], ◌∷◌, ◌++◌, length, refl, sym, ap, ◌∙◌, subst, inl, inr, ⊎_elim, Option, Some, None, Ordering, Less, Equal, Result, Vec, Global, IsTrue, true, false, arith, add-one, length-append}
+use Rattle.std.specs.Prelude.{pos, negsuc, ◌+ℤ◌, ◌-ℤ◌, ◌≤ℤ◌, ◌<ℤ◌}
+use Rattle.std.proofs.lemmas.Int.{ints}
+use Rattle.std.specs.Cmp.{int_cmp_is}
+use Rattle.std.specs.Ordering.{int_cmp}
+use Rattle.std.specs.Result.{IfOk}
+use Rattle.std.specs.declared.alloc.AllocError.{AllocError}
+use Rattle.zf_value.specs.declared.TheConstants.{SET_MAX}
+use Rattle.zf_value.specs.declared.value.Value.{Value, Int, out-Value}
+use Rattle.zf_value.specs.declared.value.Value.TheOpen.{Value-F}
+use Rattle.zf_value.specs.declared.value.Value.TheVariants.{outs-Int}
+use Rattle.zf_value.specs.declared.value.Outcome.{Outcome}
+use Rattle.zf_value.specs.declared.value.Outcome.TheVariants.{Is, Undefined, Out}
+use Rattle.zf_value.specs.Numbers.{number_of, IsBetweenNumbers, IsInterval}
+use Rattle.zf_value.specs.Operations.{IsDisplay}
+use Rattle.zf_value.specs.Order.{level_order}
+use Rattle.zf_value.specs.Sets.{value_order, IsMember, Every, IsAscending, IsRegular}
+use Rattle.zf_value.proofs.Among.{every_from, every_at, members-push, ascending-push}
+use Rattle.zf_value.specs.Steps.{ListsNumbers}
+use Rattle.zf_value.proofs.Divisions.{either_way}
+use Rattle.zf_value.proofs.Exact.{cmp_is}
+use Rattle.zf_value.proofs.Listed.{IsMade}
+use Rattle.zf_value.proofs.Making.{made, too_many}
+use Rattle.zf_value.proofs.Once.{no_longer}
+use Rattle.zf_value.proofs.Regulars.{regular-Int, regular_made}
+use Rattle.zf_value.proofs.Seen.{number_of-Int}
+
+abbrev pub number_list : ℤ → ℕ → List Value
+number_list a zero = []
+number_list a (suc k) = number_list a k ++ Int (a +ℤ pos k) ∷ []
+
+some_same : (x y : ℤ) → Some x ≡ Some y → x ≡ y
+some_same x y e = (cc)
+
+pub same_number : (m n : ℤ) → Int m ≡ Int n → m ≡ n
+same_number m n e = some_same m n (sym (number_of-Int m) ∙ ap number_of e ∙ number_of-Int n)
+
+number_below : (m n : ℤ) → m <ℤ n → value_order (Int m) (Int n) ≡ Less
+number_below m n l =
+    cmp_is (Int m) (Int n) ∙ ap (λ x. level_order value_order x (out-Value (Int n))) (outs-Int m) ∙ ap (level_order value_order (Value-F.Int m)) (outs-Int n) ∙ sym (int_cmp_is m n Less l)
+
+-- the first k numbers from a on
+abbrev IsListed : ℤ → ℕ → Value → Type 0
+IsListed a k z = (i : ℕ) × (z ≡ Int (a +ℤ pos i)) × (i < k)
+
+listed : (a : ℤ) (k : ℕ) (z : Value) → IsMember z (number_list a k) ↔ IsListed a k z
+listed a zero z = (λ m. absurd m, λ p. absurd (omega (arith, p.2)))
+listed a (suc k) z =
+    let rest = listed a k z in
+    let both = members-push (number_list a k) (Int (a +ℤ pos k)) z in
+    (λ m. ⊎_elim (λ n. let p = rest.0 n in (p.0, p.1, omega (arith, p.2))) (λ e. (k, sym e, omega arith)) (both.0 m),
+      λ p. both.1 (⊎_elim (λ l. inl (rest.1 (p.0, p.1, l))) (λ e. inr (sym (p.1 ∙ ap (λ i. Int (a +ℤ pos i)) e))) (before p.0 k (omega (arith, p.2)))))
+  where
+    before : (u v : ℕ) → u ≤ v → (u < v) ⊎ (u ≡ v)
+    before zero zero b = inr refl
+    before zero (suc v) b = inl (omega arith)
+    before (suc u) zero b = absurd (omega arith)
+    before (suc u) (suc v) b = ⊎_elim (λ s. inl (omega (arith, s))) (λ e. inr (ap suc e)) (before u v (omega arith))
+
+pub ascending-number_list : (a : ℤ) (k : ℕ) → IsAscending (number_list a k)
+ascending-number_list a zero = tt
+ascending-number_list a (suc k) =
+    ascending-push (number_list a k) (Int (a +ℤ pos k)) (ascending-number_list a k)
+    (every_from (λ x. value_order x (Int (a +ℤ pos k)) ≡ Less) (number_list a k) (λ z m. let p = (listed a k z).0 m in subst (λ u. value_order u (Int (a +ℤ pos k)) ≡ Less) (sym p.1) (number_below (a +ℤ pos p.0) (a +ℤ pos k) (omega (arith, ints, p.2)))))
+
+length-number_list : (a : ℤ) (k : ℕ) → length (number_list a k) ≡ k
+length-number_list a zero = refl
+length-number_list a (suc k) = let rest = length-number_list a k in omega (arith, rest, length-append (number_list a k) (Int (a +ℤ pos k) ∷ []))
+
+-- a number at least a is so much more
+more_than : (a n : ℤ) → a ≤ℤ n → (i : ℕ) × (n ≡ a +ℤ pos i)
+more_than a n l = ⊎_elim (λ p. p) (λ p. (0, omega (arith, ints, p.1))) (either_way a n)
+
+-- the first k numbers from a on are those to b
+pub numbers_between : (a b : ℤ) (k : ℕ) → (a +ℤ pos k) ≡ (b +ℤ pos 1) → (z : Value) → IsMember z (number_list a k) ↔ IsBetweenNumbers a b z
+unfolding IsBetweenNumbers
+numbers_between a b k e z =
+    (λ m. let p = (listed a k z).0 m in (a +ℤ pos p.0, p.1, omega (arith, ints), omega (arith, ints, p.2, e)),
+      λ p. let q = more_than a p.0 p.2 in (listed a k z).1 (q.0, p.1 ∙ ap Int q.1, omega (arith, ints, q.1, p.3, e)))
+
+pub number_more : (a n : ℤ) (k : ℕ) (old new : List Value) → n ≡ a +ℤ pos k → old ≡ number_list a k → new ≡ old ++ Int n ∷ [] → new ≡ number_list a (suc k)
+number_more a n k old new e o s = s ∙ ap (λ xs. xs ++ Int n ∷ []) o ∙ ap (λ m. number_list a k ++ Int m ∷ []) e
+
+none_between : (a b : ℤ) → b <ℤ a → (z : Value) → IsMember z [] ↔ IsBetweenNumbers a b z
+unfolding IsBetweenNumbers
+none_between a b l z = (λ m. absurd m, λ p. absurd (omega (arith, ints, l, p.2, p.3)))
+
+pub lists_none : (a b : ℤ) (v : Vec Value Global) → v.items ≡ [] → b <ℤ a → ListsNumbers a b v
+lists_none a b v e l = record { ascending = subst IsAscending (sym e) tt; members = λ z. subst (λ xs. IsMember z xs ↔ IsBetweenNumbers a b z) (sym e) (none_between a b l z); }
+
+-- the first k numbers, and the last
+pub lists_all : (a b : ℤ) (k : ℕ) (old : List Value) (v : Vec Value Global) → b ≡ a +ℤ pos k → old ≡ number_list a k → v.items ≡ old ++ Int b ∷ [] → ListsNumbers a b v
+lists_all a b k old v e o n =
+    let all : v.items ≡ number_list a (suc k) = number_more a b k old v.items e o n in
+    let past : (a +ℤ pos (suc k)) ≡ (b +ℤ pos 1) = omega (arith, ints, e) in
+    record { ascending = subst IsAscending (sym all) (ascending-number_list a (suc k)); members = λ z. subst (λ xs. IsMember z xs ↔ IsBetweenNumbers a b z) (sym all) (numbers_between a b (suc k) past z); }
+
+pub interval_made : (a b : ℤ) (v : Vec Value Global) (r : Result Outcome AllocError) → ListsNumbers a b v → IfOk r (IsDisplay v.items) → IsMade (IsInterval a b) r
+unfolding IsInterval IsBetweenNumbers
+interval_made a b v r h d =
+    let is = made (IsBetweenNumbers a b) v.items r h.members d in
+    record { is = is; regular = regular_made (IsBetweenNumbers a b) r (λ z p. subst IsRegular (sym p.1) (regular-Int p.0)) is; }
+
+-- ---- out of size
+
+out_by : (k : ℕ) (a b : ℤ) → SET_MAX < k → (a +ℤ pos k) ≡ (b +ℤ pos 1) → IsInterval a b Out
+unfolding IsInterval
+out_by k a b l e = too_many (IsBetweenNumbers a b) (number_list a k) (ascending-number_list a k) (omega (arith, l, length-number_list a k)) (λ z m. (numbers_between a b k e z).0 m)
+
+pub interval_out : (a b : ℤ) → (a +ℤ pos SET_MAX) ≤ℤ b → IsInterval a b Out
+interval_out a b l =
+    let more = more_than a (b +ℤ pos 1) (omega (arith, ints, l)) in
+    let e : (a +ℤ pos more.0) ≡ (b +ℤ pos 1) = sym more.1 in
+    out_by more.0 a b (omega (arith, ints, l, e)) e
+
+pub interval_not_out : (a b : ℤ) → IsInterval a b Out → (a +ℤ pos SET_MAX) ≤ℤ b
+unfolding IsInterval
+interval_not_out a b h =
+    ⊎_elim (λ p.
+      let e : (a +ℤ pos p.0) ≡ (b +ℤ pos 1) = sym p.1 in
+      let q = no_longer (number_list a p.0) h.0 (ascending-number_list a p.0) h.1 (λ z m. (numbers_between a b p.0 e z).1 (every_at (IsBetweenNumbers a b) h.0 z h.3 m)) in
+      omega (arith, ints, e, q, h.2, length-number_list a p.0)) (λ p.
+      let l : b <ℤ a = omega (arith, ints, p.1) in
+      let q = no_longer [] h.0 tt h.1 (λ z m. (none_between a b l z).1 (every_at (IsBetweenNumbers a b) h.0 z h.3 m)) in
+      absurd (omega (arith, q, h.2))) (either_way a (b +ℤ pos 1))
