@@ -2,6 +2,7 @@
 use Rattle.std.proofs.Common.{◌≡◌, ◌⊎◌, ◌↔◌, ℕ, zero, suc, ◌+◌, ◌<◌, ◌≤◌, ℤ, List, [], ◌∷◌, ◌++◌, length, refl, sym, ap, ◌∙◌, subst, inl, inr, ⊎_elim, Option, Some, None, Ordering, Less, Equal, Result, Vec, Global, IsTrue, true, false, arith, add-one, length-append}
 use Rattle.std.specs.Prelude.{pos, negsuc, ◌+ℤ◌, ◌-ℤ◌, ◌≤ℤ◌, ◌<ℤ◌}
 use Rattle.std.proofs.lemmas.Int.{ints}
+use lib.Signed.{le_z}
 use Rattle.std.specs.Cmp.{int_cmp_is}
 use Rattle.std.specs.Ordering.{int_cmp}
 use Rattle.std.specs.Result.{IfOk}
@@ -24,7 +25,7 @@ use Rattle.zf_value.proofs.Listed.{IsMade}
 use Rattle.zf_value.proofs.Making.{made, too_many}
 use Rattle.zf_value.proofs.Once.{no_longer}
 use Rattle.zf_value.proofs.Regulars.{regular-Int, regular_made}
-use Rattle.zf_value.proofs.Seen.{number_of-Int}
+use Rattle.zf_value.proofs.Seen.{number_of-Int, is_Int, no_Int}
 
 abbrev pub number_list : ℤ → ℕ → List Value
 number_list a zero = []
@@ -96,6 +97,9 @@ lists_all a b k old v e o n =
     let past : (a +ℤ pos (suc k)) ≡ (b +ℤ pos 1) = omega (arith, ints, e) in
     record { ascending = subst IsAscending (sym all) (ascending-number_list a (suc k)); members = λ z. subst (λ xs. IsMember z xs ↔ IsBetweenNumbers a b z) (sym all) (numbers_between a b (suc k) past z); }
 
+pub lists_same : (a b x y : ℤ) (v : Vec Value Global) → a ≡ x → b ≡ y → ListsNumbers a b v → ListsNumbers x y v
+lists_same a b x y v e f h = subst (λ n. ListsNumbers n y v) e (subst (λ n. ListsNumbers a n v) f h)
+
 pub interval_made : (a b : ℤ) (v : Vec Value Global) (r : Result Outcome AllocError) → ListsNumbers a b v → IfOk r (IsDisplay v.items) → IsMade (IsInterval a b) r
 unfolding IsInterval IsBetweenNumbers
 interval_made a b v r h d =
@@ -124,3 +128,21 @@ interval_not_out a b h =
       let l : b <ℤ a = omega (arith, ints, p.1) in
       let q = no_longer [] h.0 tt h.1 (λ z m. (none_between a b l z).1 (every_at (IsBetweenNumbers a b) h.0 z h.3 m)) in
       absurd (omega (arith, q, h.2))) (either_way a (b +ℤ pos 1))
+
+-- ---- one number
+
+pub between_last : (a b n x y m : ℤ) (z : Value) → x ≡ a → y ≡ b → m ≡ n → Some n ≡ number_of z → le_z x m ≡ true → IsTrue (le_z m y) ↔ IsBetweenNumbers a b z
+unfolding IsBetweenNumbers
+between_last a b n x y m z e f g h l =
+    let is = is_Int z n h in
+    (λ t. (n, is, grind (arith, ints, e, f, g, l, t), grind (arith, ints, e, f, g, l, t)),
+      λ p. let k = same_number n p.0 (sym is ∙ p.1) in grind (arith, ints, e, f, g, k, p.3))
+
+pub between_first : (a b n x m : ℤ) (z : Value) → x ≡ a → m ≡ n → Some n ≡ number_of z → le_z x m ≡ false → IsTrue (le_z x m) ↔ IsBetweenNumbers a b z
+unfolding IsBetweenNumbers
+between_first a b n x m z e g h l =
+    (λ t. (cc), λ p. let k = same_number n p.0 (sym (is_Int z n h) ∙ p.1) in grind (arith, ints, e, g, k, p.2))
+
+pub between_none : (a b : ℤ) (z : Value) → None ≡ number_of z → IsTrue false ↔ IsBetweenNumbers a b z
+unfolding IsBetweenNumbers
+between_none a b z h = (λ t. (cc), λ p. absurd (no_Int z p.0 h p.1))

@@ -1,8 +1,8 @@
 -- What the views of a value are at each of its forms. They do not compute in other crates.
-use Rattle.std.proofs.Common.{◌≡◌, ℤ, List, [], Some, refl, sym, ap, ◌∙◌}
+use Rattle.std.proofs.Common.{◌≡◌, ℤ, List, [], Option, Some, None, refl, sym, ap, ◌∙◌}
 use Rattle.zf_value.specs.declared.value.Value.{Value, Int, Tuple, SetOf, out-Value, roll-Value, roll-out-Value}
 use Rattle.zf_value.specs.declared.value.Value.TheOpen.{Value-F}
-use Rattle.zf_value.specs.declared.value.Value.TheVariants.{outs-Int, outs-Tuple, outs-SetOf, rolls-SetOf}
+use Rattle.zf_value.specs.declared.value.Value.TheVariants.{outs-Int, outs-Tuple, outs-SetOf, rolls-Int, rolls-SetOf}
 use Rattle.zf_value.specs.Numbers.{number_at, number_of}
 use Rattle.zf_value.specs.Sets.{members_at, members, parts_at, parts}
 
@@ -27,3 +27,22 @@ members_none v (Value-F.Tuple xs) e h = ap members_at e
 -- what is no set has no members
 pub no_members : (v : Value) → ((xs : List Value) → v ≡ SetOf xs → ⊥) → members v ≡ []
 no_members v h = members_none v (out-Value v) refl h
+
+some_same : (m n : ℤ) → Some m ≡ Some n → m ≡ n
+some_same m n e = (cc)
+
+number_seen : (v : Value) (x : Value-F Value) (n : ℤ) → out-Value v ≡ x → Some n ≡ number_at x → v ≡ Int n
+number_seen v (Value-F.Int m) n e h = sym (roll-out-Value v) ∙ ap roll-Value e ∙ rolls-Int m ∙ ap Int (some_same m n (sym h))
+number_seen v (Value-F.Elem t i) n e h = (cc)
+number_seen v (Value-F.Tuple xs) n e h = (cc)
+number_seen v (Value-F.SetOf xs) n e h = (cc)
+
+-- what has a number is that number
+pub is_Int : (v : Value) (n : ℤ) → Some n ≡ number_of v → v ≡ Int n
+is_Int v n h = number_seen v (out-Value v) n refl h
+
+pub no_Int : (v : Value) (n : ℤ) → None ≡ number_of v → v ≡ Int n → ⊥
+no_Int v n h e = none_some n (h ∙ ap number_of e ∙ number_of-Int n)
+  where
+    none_some : (m : ℤ) → None ≡ Some m → ⊥
+    none_some m k = (cc)

@@ -50,7 +50,7 @@ pub fn quotient(a: i64, b: i64) -> Outcome
     }
     let q = a / b;
     if !is_remainder(b, a % b) {
-        return Outcome::Is(Value::Int(q - 1));
+        return number_or_out(q.checked_sub(1));
     }
     Outcome::Is(Value::Int(q))
 }
