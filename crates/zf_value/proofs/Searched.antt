@@ -17,7 +17,7 @@ use Rattle.zf_value.proofs.Among.{below_at, contained, member}
 
 -- ---- a value among others
 
-index_below : (z a b : Value) (o : Ordering) → value_order b z ≡ o → value_order a b ≡ Less → ordering_index (value_order a z) ≤ ordering_index o
+pub index_below : (z a b : Value) (o : Ordering) → value_order b z ≡ o → value_order a b ≡ Less → ordering_index (value_order a z) ≤ ordering_index o
 index_below z a b Less e l = let k = total-law.trans a b z l e in rw k (omega arith)
 index_below z a b Equal e l = let k : value_order a z ≡ Less = subst (λ u. value_order a u ≡ Less) (exact b z e) l in rw k (omega arith)
 index_below z a b Greater e l = at (value_order a z)

@@ -1,6 +1,6 @@
 //! The operations on relations. A relation is a set of pairs; what is no pair relates nothing.
 ghost use Rattle.std.specs.Bool.{OnTrue};
-ghost use Rattle.std.specs.Prelude.{◌≡◌, IfOk, IfSome, OnOk, MatchOption};
+ghost use Rattle.std.specs.Prelude.{◌≡◌, ◌≤◌, length, slice_range, IfOk, IfSome, OnOk, MatchOption};
 ghost use Rattle.zf_value.specs.Operations.{pair, IsDisplay, IsDomain, IsRange, IsInverse, IsImage, IsComposition, IsOverriding, IsDomainRestriction, IsDomainSubtraction, IsRangeRestriction, IsRangeSubtraction, IsApplied};
 ghost use Rattle.zf_value.specs.Sets.{IsAscending, IsRegular, IsRegularSet, IsRegularOutcome};
 ghost use Rattle.zf_value.specs.Steps.{HaveSameMembers, AreRelated, AddsPairs, place_beside as place};
@@ -175,9 +175,20 @@ fn related<'a>(r: &'a [Value], x: &Value) -> &'a [Value]
     requires { IsAscending r.now }
     ensures { AreRelated r.now x.now result.now }
 {
+    let (start, end) = stretch(r, x);
+    &r[start..end]
+}
+
+/// From where to where the members begin with the value.
+fn stretch(r: &[Value], x: &Value) -> (usize, usize)
+    requires { IsAscending r.now }
+    ensures order { result.0 ≤ result.1 }
+    ensures bound { result.1 ≤ length r.now }
+    ensures related { AreRelated r.now x.now (slice_range r.now result.0 result.1) }
+{
     let start = r.partition_point(|z| place_beside(x, z).is_lt());
     let end = r.partition_point(|z| place_beside(x, z).is_le());
-    &r[start..end]
+    (start, end)
 }
 
 /// Where the value stands beside the tuples that begin with x.
