@@ -61,12 +61,17 @@ members-push xs y z =
     let both = members-append xs (y ∷ []) z in
     (λ m. ⊎_elim (λ a. inl a) (λ b. inr (⊎_elim (λ s. s) (λ n. absurd n) b)) (both.0 m), λ m. both.1 (⊎_elim (λ a. inl a) (λ s. inr (inl s)) m))
 
+pub before_in : (xs : List Value) (i : ℕ) (z : Value) → IsMember z (take i xs) → IsMember z xs
+before_in xs zero z m = absurd m
+before_in [] (suc i) z m = absurd m
+before_in (x ∷ xs) (suc i) z m = ⊎_elim (λ s. inl s) (λ n. inr (before_in xs i z n)) m
+
 -- between the two words for a member
 pub contained : (xs : List Value) (z : Value) → IsMember z xs → Contains xs z
 contained [] z m = absurd m
 contained (x ∷ xs) z m = ⊎_elim (λ s. (0, omega arith, s)) (λ n. let c = contained xs z n in (suc c.0, omega (arith, c.1), c.2)) m
 
-contained_at : (xs : List Value) (k : ℕ) (z : Value) → k < length xs → get_or xs k z ≡ z → IsMember z xs
+pub contained_at : (xs : List Value) (k : ℕ) (z : Value) → k < length xs → get_or xs k z ≡ z → IsMember z xs
 contained_at xs k z l e = member_at xs k z (sym e) l
 
 pub member : (xs : List Value) (z : Value) → Contains xs z → IsMember z xs
@@ -90,6 +95,11 @@ pub ascending-take : (n : ℕ) (xs : List Value) → IsAscending xs → IsAscend
 ascending-take zero xs h = tt
 ascending-take (suc n) [] h = tt
 ascending-take (suc n) (x ∷ xs) h = (every-take (λ y. value_order x y ≡ Less) n xs h.0, ascending-take n xs h.1)
+
+pub ascending-drop : (n : ℕ) (xs : List Value) → IsAscending xs → IsAscending (drop n xs)
+ascending-drop zero xs h = h
+ascending-drop (suc n) [] h = tt
+ascending-drop (suc n) (x ∷ xs) h = ascending-drop n xs h.1
 
 -- what stands before in an ascending list is less
 pub below_at : (xs : List Value) (i j : ℕ) (d : Value) → IsAscending xs → i < j → j < length xs → value_order (get_or xs i d) (get_or xs j d) ≡ Less

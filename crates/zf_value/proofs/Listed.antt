@@ -21,7 +21,7 @@ IsMade P r = record { is : IfOk r P; regular : IfOk r IsRegularOutcome }
 
 -- ---- regular outcomes
 
-related_regular : (r : List Value) (x y : Value) → AreRegular r → Relates r x y → IsRegular x × IsRegular y
+pub related_regular : (r : List Value) (x y : Value) → AreRegular r → Relates r x y → IsRegular x × IsRegular y
 related_regular r x y h m = regular_pair x y (regular_member r (pair x y) h m)
 
 pair_of_regular : (r : List Value) (P : Value → Value → Type 0) (z : Value) → AreRegular r → IsPairOf r P z → IsRegular z

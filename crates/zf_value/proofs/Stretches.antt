@@ -14,7 +14,7 @@ use Rattle.zf_value.specs.Operations.{pair, Relates}
 use Rattle.zf_value.specs.Order.{level_order}
 use Rattle.zf_value.specs.Sets.{value_order, IsMember, IsAscending}
 use Rattle.zf_value.specs.Steps.{place_of_first, place_at, place_beside, AreRelated}
-use Rattle.zf_value.proofs.Among.{contained, member}
+use Rattle.zf_value.proofs.Among.{contained, member, ascending-take, ascending-drop}
 use Rattle.zf_value.proofs.Exact.{cmp_is, exact}
 use Rattle.zf_value.proofs.Searched.{index_below, rising}
 
@@ -116,8 +116,8 @@ from_part r i j k z l a b e =
     let s : i + (k - i) ≡ k = omega (arith, a) in
     member _ z (k - i, omega (arith, n, l, length-take (j - i) (drop i r), length-drop i r), get_or-take (j - i) (drop i r) (k - i) z n ∙ get_or-drop i r (k - i) z ∙ ap (λ n. get_or r n z) s ∙ e)
 
-pub related_between : (x : Value) (r : List Value) (i j : ℕ) → IsStart x r i → IsEnd x r j → j ≤ length r → AreRelated r x (take (j - i) (drop i r))
-related_between x r i j s e l = record { first = first; same = λ y. (λ m. let p = in_part r i j (pair x y) l m in member r (pair x y) (p.0, omega (arith, p.2, l), p.3), λ m. back y (contained r (pair x y) m)); }
+pub related_between : (x : Value) (r : List Value) (i j : ℕ) → IsAscending r → IsStart x r i → IsEnd x r j → j ≤ length r → AreRelated r x (take (j - i) (drop i r))
+related_between x r i j h s e l = record { ascending = ascending-take (j - i) (drop i r) (ascending-drop i r h); first = first; same = λ y. (λ m. let p = in_part r i j (pair x y) l m in member r (pair x y) (p.0, omega (arith, p.2, l), p.3), λ m. back y (contained r (pair x y) m)); }
   where
     first : (u y : Value) → IsMember (pair u y) (take (j - i) (drop i r)) → u ≡ x
     first u y m =

@@ -64,6 +64,7 @@ place_beside x z = place_at x (out-Value z)
 
 -- the pairs of the relation that begin with x are those of the list, and the list has no others
 pub record AreRelated (r : List Value) (x : Value) (ys : List Value) : Type 0 where
+  pub ascending : IsAscending ys
   pub first : (u y : Value) → Relates ys u y → u ≡ x
   pub same : (y : Value) → Relates ys x y ↔ Relates r x y
 

@@ -12,5 +12,5 @@ returns c =
     record {
       order = in_order _ _ _ _ start end c.partition_point-start.ensures.bound;
       bound = c.partition_point-end.ensures.bound;
-      related = related_between _ _ _ _ start end c.partition_point-end.ensures.bound;
+      related = related_between _ _ _ _ c.requires start end c.partition_point-end.ensures.bound;
     }
