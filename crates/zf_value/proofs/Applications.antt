@@ -56,7 +56,7 @@ pub only_one : (f xs : List Value) (x : Value) (i : ℕ) (r : Option (Bor Value)
 unfolding IsApplied
 only_one f xs x i None g h l o =
     let all : IsOnly xs None = subst (λ ys. IsOnly ys None) (take_all i xs l) o in
-    record { is = λ y only. all x y ((h.same y).1 only.0); regular = tt; }
+    record { is = λ y only. all x y ((h.same y).1 only.0); regular = tt }
 only_one f xs x i (Some w) g h l o =
     let all : IsOnly xs (Some w) = subst (λ ys. IsOnly ys (Some w)) (take_all i xs l) o in
     let u_is = h.first all.0 w.now all.1 in

@@ -49,9 +49,10 @@ listed : (a : ℤ) (k : ℕ) (z : Value) → IsMember z (number_list a k) ↔ Is
 listed a zero z = (λ m. absurd m, λ p. absurd (omega (arith, p.2)))
 listed a (suc k) z =
     let rest = listed a k z in
-    let both = members-push (number_list a k) (Int (a +ℤ pos k)) z in
-    (λ m. ⊎_elim (λ n. let p = rest.0 n in (p.0, p.1, omega (arith, p.2))) (λ e. (k, sym e, omega arith)) (both.0 m),
-      λ p. both.1 (⊎_elim (λ l. inl (rest.1 (p.0, p.1, l))) (λ e. inr (sym (p.1 ∙ ap (λ i. Int (a +ℤ pos i)) e))) (before p.0 k (omega (arith, p.2)))))
+    let both = members-push (number_list a k) (Int (a +ℤ pos k)) z in (
+      λ m. ⊎_elim (λ n. let p = rest.0 n in (p.0, p.1, omega (arith, p.2))) (λ e. (k, sym e, omega arith)) (both.0 m),
+      λ p. both.1 (⊎_elim (λ l. inl (rest.1 (p.0, p.1, l))) (λ e. inr (sym (p.1 ∙ ap (λ i. Int (a +ℤ pos i)) e))) (before p.0 k (omega (arith, p.2)))),
+    )
   where
     before : (u v : ℕ) → u ≤ v → (u < v) ⊎ (u ≡ v)
     before zero zero b = inr refl
@@ -76,9 +77,10 @@ more_than a n l = ⊎_elim (λ p. p) (λ p. (0, omega (arith, ints, p.1))) (eith
 -- the first k numbers from a on are those to b
 pub numbers_between : (a b : ℤ) (k : ℕ) → (a +ℤ pos k) ≡ (b +ℤ pos 1) → (z : Value) → IsMember z (number_list a k) ↔ IsBetweenNumbers a b z
 unfolding IsBetweenNumbers
-numbers_between a b k e z =
-    (λ m. let p = (listed a k z).0 m in (a +ℤ pos p.0, p.1, omega (arith, ints), omega (arith, ints, p.2, e)),
-      λ p. let q = more_than a p.0 p.2 in (listed a k z).1 (q.0, p.1 ∙ ap Int q.1, omega (arith, ints, q.1, p.3, e)))
+numbers_between a b k e z = (
+  λ m. let p = (listed a k z).0 m in (a +ℤ pos p.0, p.1, omega (arith, ints), omega (arith, ints, p.2, e)),
+  λ p. let q = more_than a p.0 p.2 in (listed a k z).1 (q.0, p.1 ∙ ap Int q.1, omega (arith, ints, q.1, p.3, e)),
+)
 
 pub number_more : (a n : ℤ) (k : ℕ) (old new : List Value) → n ≡ a +ℤ pos k → old ≡ number_list a k → new ≡ old ++ Int n ∷ [] → new ≡ number_list a (suc k)
 number_more a n k old new e o s = s ∙ ap (λ xs. xs ++ Int n ∷ []) o ∙ ap (λ m. number_list a k ++ Int m ∷ []) e
@@ -88,14 +90,14 @@ unfolding IsBetweenNumbers
 none_between a b l z = (λ m. absurd m, λ p. absurd (omega (arith, ints, l, p.2, p.3)))
 
 pub lists_none : (a b : ℤ) (v : Vec Value Global) → v.items ≡ [] → b <ℤ a → ListsNumbers a b v
-lists_none a b v e l = record { ascending = subst IsAscending (sym e) tt; members = λ z. subst (λ xs. IsMember z xs ↔ IsBetweenNumbers a b z) (sym e) (none_between a b l z); }
+lists_none a b v e l = record { ascending = subst IsAscending (sym e) tt; members = λ z. subst (λ xs. IsMember z xs ↔ IsBetweenNumbers a b z) (sym e) (none_between a b l z) }
 
 -- the first k numbers, and the last
 pub lists_all : (a b : ℤ) (k : ℕ) (old : List Value) (v : Vec Value Global) → b ≡ a +ℤ pos k → old ≡ number_list a k → v.items ≡ old ++ Int b ∷ [] → ListsNumbers a b v
 lists_all a b k old v e o n =
     let all : v.items ≡ number_list a (suc k) = number_more a b k old v.items e o n in
     let past : (a +ℤ pos (suc k)) ≡ (b +ℤ pos 1) = omega (arith, ints, e) in
-    record { ascending = subst IsAscending (sym all) (ascending-number_list a (suc k)); members = λ z. subst (λ xs. IsMember z xs ↔ IsBetweenNumbers a b z) (sym all) (numbers_between a b (suc k) past z); }
+    record { ascending = subst IsAscending (sym all) (ascending-number_list a (suc k)); members = λ z. subst (λ xs. IsMember z xs ↔ IsBetweenNumbers a b z) (sym all) (numbers_between a b (suc k) past z) }
 
 pub lists_same : (a b x y : ℤ) (v : Vec Value Global) → a ≡ x → b ≡ y → ListsNumbers a b v → ListsNumbers x y v
 lists_same a b x y v e f h = subst (λ n. ListsNumbers n y v) e (subst (λ n. ListsNumbers a n v) f h)
@@ -104,7 +106,7 @@ pub interval_made : (a b : ℤ) (v : Vec Value Global) (r : Result Outcome Alloc
 unfolding IsInterval IsBetweenNumbers
 interval_made a b v r h d =
     let is = made (IsBetweenNumbers a b) v.items r h.members d in
-    record { is = is; regular = regular_made (IsBetweenNumbers a b) r (λ z p. subst IsRegular (sym p.1) (regular-Int p.0)) is; }
+    record { is = is; regular = regular_made (IsBetweenNumbers a b) r (λ z p. subst IsRegular (sym p.1) (regular-Int p.0)) is }
 
 -- ---- out of size
 
@@ -122,21 +124,22 @@ pub interval_not_out : (a b : ℤ) → IsInterval a b Out → (a +ℤ pos SET_MA
 unfolding IsInterval
 interval_not_out a b h =
     ⊎_elim (λ p.
-      let e : (a +ℤ pos p.0) ≡ (b +ℤ pos 1) = sym p.1 in
-      let q = no_longer (number_list a p.0) h.0 (ascending-number_list a p.0) h.1 (λ z m. (numbers_between a b p.0 e z).1 (every_at (IsBetweenNumbers a b) h.0 z h.3 m)) in
-      omega (arith, ints, e, q, h.2, length-number_list a p.0)) (λ p.
-      let l : b <ℤ a = omega (arith, ints, p.1) in
-      let q = no_longer [] h.0 tt h.1 (λ z m. (none_between a b l z).1 (every_at (IsBetweenNumbers a b) h.0 z h.3 m)) in
-      absurd (omega (arith, q, h.2))) (either_way a (b +ℤ pos 1))
+    let e : (a +ℤ pos p.0) ≡ (b +ℤ pos 1) = sym p.1 in
+    let q = no_longer (number_list a p.0) h.0 (ascending-number_list a p.0) h.1 (λ z m. (numbers_between a b p.0 e z).1 (every_at (IsBetweenNumbers a b) h.0 z h.3 m)) in
+    omega (arith, ints, e, q, h.2, length-number_list a p.0)) (λ p.
+    let l : b <ℤ a = omega (arith, ints, p.1) in
+    let q = no_longer [] h.0 tt h.1 (λ z m. (none_between a b l z).1 (every_at (IsBetweenNumbers a b) h.0 z h.3 m)) in
+    absurd (omega (arith, q, h.2))) (either_way a (b +ℤ pos 1))
 
 -- ---- one number
 
 pub between_last : (a b n x y m : ℤ) (z : Value) → x ≡ a → y ≡ b → m ≡ n → Some n ≡ number_of z → le_z x m ≡ true → IsTrue (le_z m y) ↔ IsBetweenNumbers a b z
 unfolding IsBetweenNumbers
 between_last a b n x y m z e f g h l =
-    let is = is_Int z n h in
-    (λ t. (n, is, grind (arith, ints, e, f, g, l, t), grind (arith, ints, e, f, g, l, t)),
-      λ p. let k = same_number n p.0 (sym is ∙ p.1) in grind (arith, ints, e, f, g, k, p.3))
+    let is = is_Int z n h in (
+      λ t. (n, is, grind (arith, ints, e, f, g, l, t), grind (arith, ints, e, f, g, l, t)),
+      λ p. let k = same_number n p.0 (sym is ∙ p.1) in grind (arith, ints, e, f, g, k, p.3),
+    )
 
 pub between_first : (a b n x m : ℤ) (z : Value) → x ≡ a → m ≡ n → Some n ≡ number_of z → le_z x m ≡ false → IsTrue (le_z x m) ↔ IsBetweenNumbers a b z
 unfolding IsBetweenNumbers

@@ -115,7 +115,11 @@ fn is_too_wide(from: i64, to: i64) -> bool
 fn is_remainder(b: i64, r: i64) -> bool
     ensures { IsTrue result ↔ IsRemainder b r }
 {
-    if 0 < b { 0 <= r && r < b } else { b < r && r <= 0 }
+    if 0 < b {
+        0 <= r && r < b
+    } else {
+        b < r && r <= 0
+    }
 }
 
 /// The numbers from the one to the other.

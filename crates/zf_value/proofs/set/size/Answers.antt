@@ -16,4 +16,4 @@ returns-in-Ok-clause-regular c = regular-Int _
 
 pub returns-in-Err : goal.returns-in-Err
 unfolding IsSize
-returns-in-Err c = record { is = c.in-Err.ensures; regular = tt; }
+returns-in-Err c = record { is = c.in-Err.ensures; regular = tt }
