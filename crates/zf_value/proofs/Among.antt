@@ -3,6 +3,7 @@ use Rattle.std.proofs.Common.{IsTrue, false, ◌≡◌, ◌⊎◌, ◌↔◌, �
 use Rattle.std.specs.List.{Contains, AllByRecursion}
 use Rattle.std.specs.List.Sorted.{IsStrictlySortedBy}
 use Rattle.std.proofs.lemmas.Cmp.{tied_itself}
+use Rattle.std.proofs.lemmas.List.Elements.{Contains-get_or}
 use Rattle.zf_value.specs.declared.value.Value.{Value}
 use Rattle.zf_value.specs.contracts.value.ValueOrd.TheImpl.Laws.{total-law}
 use Rattle.zf_value.specs.Sets.{value_order, IsMember, Every, IsAscending, AreAmong}
@@ -105,15 +106,7 @@ ascending-drop (suc n) (x ∷ xs) h = ascending-drop n xs h.1
 pub below_at : (xs : List Value) (i j : ℕ) (d : Value) → IsAscending xs → i < j → j < length xs → value_order (get_or xs i d) (get_or xs j d) ≡ Less
 below_at [] i j d h l m = absurd (omega arith)
 below_at (x ∷ xs) i zero d h l m = absurd (omega arith)
-below_at (x ∷ xs) zero (suc j) d h l m = every_at (λ y. value_order x y ≡ Less) xs _ h.0 (contained_get xs j d (omega arith))
-  where
-    contained_get : (ys : List Value) (k : ℕ) (e : Value) → k < length ys → IsMember (get_or ys k e) ys
-    contained_get ys k e b = member ys _ (k, b, get_or_any ys k e b)
-      where
-        get_or_any : (zs : List Value) (n : ℕ) (u : Value) → n < length zs → get_or zs n (get_or zs n u) ≡ get_or zs n u
-        get_or_any [] n u q = absurd (omega arith)
-        get_or_any (z ∷ zs) zero u q = refl
-        get_or_any (z ∷ zs) (suc n) u q = get_or_any zs n u (omega arith)
+below_at (x ∷ xs) zero (suc j) d h l m = every_at (λ y. value_order x y ≡ Less) xs _ h.0 (member xs _ (Contains-get_or xs j d (omega arith)))
 below_at (x ∷ xs) (suc i) (suc j) d h l m = below_at xs i j d h.1 (omega arith) (omega arith)
 
 -- an ascending list with one more at its end

@@ -1,6 +1,7 @@
 -- A quotient and a remainder are the only ones.
 use Rattle.std.proofs.Common.{◌≡◌, ◌⊎◌, ℕ, zero, suc, ◌+◌, ◌*◌, ◌-◌, ◌<◌, ◌≤◌, ℤ, refl, sym, ap, ◌∙◌, subst, inl, inr, ⊎_elim, arith}
 use Rattle.std.specs.Prelude.{pos, negsuc, ◌+ℤ◌, ◌-ℤ◌, ◌*ℤ◌}
+use Rattle.std.proofs.lemmas.Bool.{cases_lt}
 use Rattle.std.proofs.lemmas.Int.{ints}
 use Rattle.std.specs.Int.RustNames.{int_div, int_rem, unsigned_abs}
 use Rattle.std.proofs.lemmas.Int.{quot-rem, rem_below}
@@ -86,9 +87,7 @@ ahead n a b q r s t e h k =
 
 -- one number is another, or greater, or less, by a natural number
 order : (x y : ℕ) → (x ≤ y) ⊎ (y ≤ x)
-order zero y = inl (omega arith)
-order (suc x) zero = inr (omega arith)
-order (suc x) (suc y) = ⊎_elim (λ l. inl (omega (arith, l))) (λ l. inr (omega (arith, l))) (order x y)
+order x y = ⊎_elim (λ l. inl (omega (arith, l))) (λ l. inr l) (cases_lt x y)
 
 pub either_way : (q s : ℤ) → ((n : ℕ) × (s ≡ q +ℤ pos n)) ⊎ ((n : ℕ) × (q ≡ s +ℤ pos n))
 either_way (pos x) (pos y) = ⊎_elim (λ l. inl (y - x, omega (arith, ints, l))) (λ l. inr (x - y, omega (arith, ints, l))) (order x y)

@@ -58,11 +58,8 @@ past_fits a b f g l = between_fits a (a +ℤ pos SET_MAX) b f g (omega (arith, i
 
 -- ---- quotients and remainders
 
-zero_same : (b : ℤ) → FitsSigned w64 b → of_z w64 b ≡ 0 → b ≡ pos 0
-zero_same b f e = sym (same b f) ∙ ap (to_z w64) e
-
-pub undefined_by : (b : ℤ) → FitsSigned w64 b → of_z w64 b ≡ 0 → b ≡ pos 0
-undefined_by b f e = zero_same b f e
+pub is_zero : (b : ℤ) → FitsSigned w64 b → of_z w64 b ≡ 0 → b ≡ pos 0
+is_zero b f e = sym (same b f) ∙ ap (to_z w64) e
 
 pub not_zero : (b : ℤ) → (of_z w64 b ≡ 0 → ⊥) → b ≡ pos 0 → ⊥
 not_zero b n e = n (ap (of_z w64) e)

@@ -17,7 +17,8 @@ use Rattle.zf_value.specs.Numbers.{number_of, IsBetweenNumbers, IsInterval}
 use Rattle.zf_value.specs.Operations.{IsDisplay}
 use Rattle.zf_value.specs.Order.{level_order}
 use Rattle.zf_value.specs.Sets.{value_order, IsMember, Every, IsAscending, IsRegular}
-use Rattle.zf_value.proofs.Among.{every_from, every_at, members-push, ascending-push}
+use Rattle.zf_value.proofs.Among.{every_at}
+use Rattle.zf_value.proofs.Counted.{first, members-first, ascending-first, length-first}
 use Rattle.zf_value.specs.Steps.{ListsNumbers}
 use Rattle.zf_value.proofs.Divisions.{either_way}
 use Rattle.zf_value.proofs.Exact.{cmp_is}
@@ -25,50 +26,24 @@ use Rattle.zf_value.proofs.Listed.{IsMade}
 use Rattle.zf_value.proofs.Making.{made, too_many}
 use Rattle.zf_value.proofs.Once.{no_longer}
 use Rattle.zf_value.proofs.Regulars.{regular-Int, regular_made}
-use Rattle.zf_value.proofs.Seen.{number_of-Int, is_Int, no_Int}
+use Rattle.zf_value.proofs.Seen.{is_Int, no_Int, same_number}
 
+-- the first k numbers from a on
 abbrev pub number_list : ℤ → ℕ → List Value
-number_list a zero = []
-number_list a (suc k) = number_list a k ++ Int (a +ℤ pos k) ∷ []
-
-some_same : (x y : ℤ) → Some x ≡ Some y → x ≡ y
-some_same x y e = (cc)
-
-pub same_number : (m n : ℤ) → Int m ≡ Int n → m ≡ n
-same_number m n e = some_same m n (sym (number_of-Int m) ∙ ap number_of e ∙ number_of-Int n)
+number_list a k = first (λ i. Int (a +ℤ pos i)) k
 
 number_below : (m n : ℤ) → m <ℤ n → value_order (Int m) (Int n) ≡ Less
 number_below m n l =
     cmp_is (Int m) (Int n) ∙ ap (λ x. level_order value_order x (out-Value (Int n))) (outs-Int m) ∙ ap (level_order value_order (Value-F.Int m)) (outs-Int n) ∙ sym (int_cmp_is m n Less l)
 
--- the first k numbers from a on
-abbrev IsListed : ℤ → ℕ → Value → Type 0
-IsListed a k z = (i : ℕ) × (z ≡ Int (a +ℤ pos i)) × (i < k)
+number_rises : (a : ℤ) (i j : ℕ) → i < j → value_order (Int (a +ℤ pos i)) (Int (a +ℤ pos j)) ≡ Less
+number_rises a i j l = number_below (a +ℤ pos i) (a +ℤ pos j) (omega (arith, ints, l))
 
-listed : (a : ℤ) (k : ℕ) (z : Value) → IsMember z (number_list a k) ↔ IsListed a k z
-listed a zero z = (λ m. absurd m, λ p. absurd (omega (arith, p.2)))
-listed a (suc k) z =
-    let rest = listed a k z in
-    let both = members-push (number_list a k) (Int (a +ℤ pos k)) z in (
-      λ m. ⊎_elim (λ n. let p = rest.0 n in (p.0, p.1, omega (arith, p.2))) (λ e. (k, sym e, omega arith)) (both.0 m),
-      λ p. both.1 (⊎_elim (λ l. inl (rest.1 (p.0, p.1, l))) (λ e. inr (sym (p.1 ∙ ap (λ i. Int (a +ℤ pos i)) e))) (before p.0 k (omega (arith, p.2)))),
-    )
-  where
-    before : (u v : ℕ) → u ≤ v → (u < v) ⊎ (u ≡ v)
-    before zero zero b = inr refl
-    before zero (suc v) b = inl (omega arith)
-    before (suc u) zero b = absurd (omega arith)
-    before (suc u) (suc v) b = ⊎_elim (λ s. inl (omega (arith, s))) (λ e. inr (ap suc e)) (before u v (omega arith))
-
-pub ascending-number_list : (a : ℤ) (k : ℕ) → IsAscending (number_list a k)
-ascending-number_list a zero = tt
-ascending-number_list a (suc k) =
-    ascending-push (number_list a k) (Int (a +ℤ pos k)) (ascending-number_list a k)
-    (every_from (λ x. value_order x (Int (a +ℤ pos k)) ≡ Less) (number_list a k) (λ z m. let p = (listed a k z).0 m in subst (λ u. value_order u (Int (a +ℤ pos k)) ≡ Less) (sym p.1) (number_below (a +ℤ pos p.0) (a +ℤ pos k) (omega (arith, ints, p.2)))))
+ascending-number_list : (a : ℤ) (k : ℕ) → IsAscending (number_list a k)
+ascending-number_list a k = ascending-first (λ i. Int (a +ℤ pos i)) (number_rises a) k
 
 length-number_list : (a : ℤ) (k : ℕ) → length (number_list a k) ≡ k
-length-number_list a zero = refl
-length-number_list a (suc k) = let rest = length-number_list a k in omega (arith, rest, length-append (number_list a k) (Int (a +ℤ pos k) ∷ []))
+length-number_list a k = length-first (λ i. Int (a +ℤ pos i)) k
 
 -- a number at least a is so much more
 more_than : (a n : ℤ) → a ≤ℤ n → (i : ℕ) × (n ≡ a +ℤ pos i)
@@ -78,8 +53,8 @@ more_than a n l = ⊎_elim (λ p. p) (λ p. (0, omega (arith, ints, p.1))) (eith
 pub numbers_between : (a b : ℤ) (k : ℕ) → (a +ℤ pos k) ≡ (b +ℤ pos 1) → (z : Value) → IsMember z (number_list a k) ↔ IsBetweenNumbers a b z
 unfolding IsBetweenNumbers
 numbers_between a b k e z = (
-  λ m. let p = (listed a k z).0 m in (a +ℤ pos p.0, p.1, omega (arith, ints), omega (arith, ints, p.2, e)),
-  λ p. let q = more_than a p.0 p.2 in (listed a k z).1 (q.0, p.1 ∙ ap Int q.1, omega (arith, ints, q.1, p.3, e)),
+  λ m. let p = (members-first (λ i. Int (a +ℤ pos i)) k z).0 m in (a +ℤ pos p.0, p.1, omega (arith, ints), omega (arith, ints, p.2, e)),
+  λ p. let q = more_than a p.0 p.2 in (members-first (λ i. Int (a +ℤ pos i)) k z).1 (q.0, p.1 ∙ ap Int q.1, omega (arith, ints, q.1, p.3, e)),
 )
 
 pub number_more : (a n : ℤ) (k : ℕ) (old new : List Value) → n ≡ a +ℤ pos k → old ≡ number_list a k → new ≡ old ++ Int n ∷ [] → new ≡ number_list a (suc k)

@@ -1,5 +1,5 @@
 -- Each operation has one outcome at most.
-use Rattle.std.proofs.Common.{◌≡◌, ◌↔◌, ℤ, ◌≤◌, List, [], ◌∷◌, Option, Some, None, length, refl, sym, ap, ◌∙◌, subst, inl, inr, ⊎_elim, Ordering, Less, Equal, Greater, arith}
+use Rattle.std.proofs.Common.{◌≡◌, ◌↔◌, ℕ, ℤ, ◌≤◌, List, [], ◌∷◌, Option, Some, None, length, refl, sym, ap, ◌∙◌, subst, inl, inr, ⊎_elim, Ordering, Less, Equal, Greater, arith}
 use Rattle.std.specs.Ordering.{ordering_reverse}
 use Rattle.zf_value.specs.declared.value.Value.{Value, SetOf}
 use Rattle.zf_value.specs.declared.value.Outcome.{Outcome}
@@ -88,6 +88,10 @@ one_Cross a o p h k = one_set _ o p h k
 pub one_Power : (a : List Value) → HasOne (op.IsPower a)
 unfolding op.IsPower
 one_Power a o p h k = one_set _ o p h k
+
+pub one_Elements : (n k : ℕ) → HasOne (op.AreElements n k)
+unfolding op.AreElements
+one_Elements n k o p h e = one_set _ o p h e
 
 pub one_Domain : (a : List Value) → HasOne (op.IsDomain a)
 unfolding op.IsDomain

@@ -5,6 +5,7 @@ use Rattle.std.specs.Ordering.{ordering_index, ordering_then, is_lt, is_le}
 use Rattle.std.specs.Cmp.Lexicographic.{slice_cmp}
 use Rattle.std.specs.List.{Contains}
 use Rattle.std.specs.List.Sorted.{IsBinarySearchResult, IsSearchInRange, IsNonDecreasingBy}
+use Rattle.std.proofs.lemmas.Bool.{cases_lt}
 use Rattle.std.proofs.lemmas.Cmp.{tied_itself}
 use Rattle.zf_value.specs.declared.value.Value.{Value, out-Value}
 use Rattle.zf_value.specs.declared.value.Value.TheOpen.{Value-F}
@@ -29,25 +30,20 @@ index_below z a b Greater e l = at (value_order a z)
 
 -- what rises with the order of values rises along an ascending list
 pub rising : (n : Value → ℕ) (xs : List Value) → IsAscending xs → ((a b : Value) → value_order a b ≡ Less → n a ≤ n b) → IsNonDecreasingBy n xs
-rising n xs h f i j d l m = ⊎_elim (λ s. f _ _ (below_at xs i j d h s m)) (λ e. let k : n (get_or xs i d) ≡ n (get_or xs j d) = ap (λ u. n (get_or xs u d)) e in omega (arith, k)) (before i j l)
-  where
-    before : (u v : ℕ) → u ≤ v → (u < v) ⊎ (u ≡ v)
-    before zero zero b = inr refl
-    before zero (suc v) b = inl (omega arith)
-    before (suc u) zero b = absurd (omega arith)
-    before (suc u) (suc v) b = ⊎_elim (λ s. inl (omega (arith, s))) (λ e. inr (ap suc e)) (before u v (omega arith))
+rising n xs h f i j d l m =
+    ⊎_elim (λ s. f _ _ (below_at xs i j d h s m))
+    (λ g.
+      let e : i ≡ j = omega (arith, l, g) in
+      let k : n (get_or xs i d) ≡ n (get_or xs j d) = ap (λ u. n (get_or xs u d)) e in
+      omega (arith, k))
+    (cases_lt i j)
 
 pub found : (z : Value) (xs : List Value) (r : Result ℕ ℕ) → IsAscending xs → IsSearchInRange r (length xs) → IsBinarySearchResult (λ y. value_order y z) xs r → IsTrue (is_ok r) ↔ IsMember z xs
 found z xs (Ok i) h l s = (λ b. member xs z (i, l, exact _ z (s z)), λ m. refl)
 found z xs (Err i) h l s =
     let apart = s (rising (λ y. ordering_index (value_order y z)) xs h (λ a b k. index_below z a b _ refl k)) in
-    (λ b. (cc), λ m. let c = contained xs z m in absurd (neither c.0 c.2 (apart.0 c.0 z) (apart.1 c.0 z) (before c.0 i) c.1))
+    (λ b. (cc), λ m. let c = contained xs z m in absurd (neither c.0 c.2 (apart.0 c.0 z) (apart.1 c.0 z) (cases_lt c.0 i) c.1))
   where
-    before : (u v : ℕ) → (u < v) ⊎ (v ≤ u)
-    before u zero = inr (omega arith)
-    before zero (suc v) = inl (omega arith)
-    before (suc u) (suc v) = ⊎_elim (λ k. inl (omega (arith, k))) (λ k. inr (omega (arith, k))) (before u v)
-
     neither : (k : ℕ) → get_or xs k z ≡ z → (0 ≤ k → k < i → value_order (get_or xs k z) z ≡ Less) → (i ≤ k → k < length xs → value_order (get_or xs k z) z ≡ Greater) → (k < i) ⊎ (i ≤ k) → k < length xs → ⊥
     neither k e low high b q =
         let t = tied_itself total-law z in

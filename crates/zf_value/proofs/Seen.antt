@@ -1,8 +1,8 @@
 -- What the views of a value are at each of its forms. They do not compute in other crates.
-use Rattle.std.proofs.Common.{◌≡◌, ℤ, List, [], Option, Some, None, refl, sym, ap, ◌∙◌}
-use Rattle.zf_value.specs.declared.value.Value.{Value, Int, Tuple, SetOf, out-Value, roll-Value, roll-out-Value}
+use Rattle.std.proofs.Common.{◌≡◌, ℕ, ℤ, List, [], Option, Some, None, refl, sym, ap, ◌∙◌}
+use Rattle.zf_value.specs.declared.value.Value.{Value, Int, Elem, Tuple, SetOf, out-Value, roll-Value, roll-out-Value}
 use Rattle.zf_value.specs.declared.value.Value.TheOpen.{Value-F}
-use Rattle.zf_value.specs.declared.value.Value.TheVariants.{outs-Int, outs-Tuple, outs-SetOf, rolls-Int, rolls-SetOf}
+use Rattle.zf_value.specs.declared.value.Value.TheVariants.{outs-Int, outs-Elem, outs-Tuple, outs-SetOf, rolls-Int, rolls-SetOf}
 use Rattle.zf_value.specs.Numbers.{number_at, number_of}
 use Rattle.zf_value.specs.Sets.{members_at, members, parts_at, parts}
 
@@ -28,11 +28,11 @@ members_none v (Value-F.Tuple xs) e h = ap members_at e
 pub no_members : (v : Value) → ((xs : List Value) → v ≡ SetOf xs → ⊥) → members v ≡ []
 no_members v h = members_none v (out-Value v) refl h
 
-some_same : (m n : ℤ) → Some m ≡ Some n → m ≡ n
-some_same m n e = (cc)
+pub same_some : {A : Type 0} (x y : A) → Some x ≡ Some y → x ≡ y
+same_some x y e = (cc)
 
 number_seen : (v : Value) (x : Value-F Value) (n : ℤ) → out-Value v ≡ x → Some n ≡ number_at x → v ≡ Int n
-number_seen v (Value-F.Int m) n e h = sym (roll-out-Value v) ∙ ap roll-Value e ∙ rolls-Int m ∙ ap Int (some_same m n (sym h))
+number_seen v (Value-F.Int m) n e h = sym (roll-out-Value v) ∙ ap roll-Value e ∙ rolls-Int m ∙ ap Int (same_some m n (sym h))
 number_seen v (Value-F.Elem t i) n e h = (cc)
 number_seen v (Value-F.Tuple xs) n e h = (cc)
 number_seen v (Value-F.SetOf xs) n e h = (cc)
@@ -46,3 +46,20 @@ no_Int v n h e = none_some n (h ∙ ap number_of e ∙ number_of-Int n)
   where
     none_some : (m : ℤ) → None ≡ Some m → ⊥
     none_some m k = (cc)
+
+-- ---- what tells one form from another
+
+pub same_number : (m n : ℤ) → Int m ≡ Int n → m ≡ n
+same_number m n e = same_some m n (sym (number_of-Int m) ∙ ap number_of e ∙ number_of-Int n)
+
+-- the number of the type of an element, and its place
+abbrev element_at : Value-F Value → Option (ℕ × ℕ)
+element_at (Value-F.Elem t i) = Some (t, i)
+element_at (Value-F.Int n) = None
+element_at (Value-F.Tuple xs) = None
+element_at (Value-F.SetOf xs) = None
+
+pub same_element : (t i u j : ℕ) → Elem t i ≡ Elem u j → (t ≡ u) × (i ≡ j)
+same_element t i u j e =
+    let s = same_some (t, i) (u, j) (sym (ap element_at (outs-Elem t i)) ∙ ap (λ v. element_at (out-Value v)) e ∙ ap element_at (outs-Elem u j)) in
+    (ap (λ p. p.0) s, ap (λ p. p.1) s)

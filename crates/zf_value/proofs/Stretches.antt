@@ -1,6 +1,7 @@
 -- Where the pairs of an ascending relation that begin with one value stand.
 use Rattle.std.proofs.Common.{◌≡◌, ◌⊎◌, ◌↔◌, ℕ, zero, suc, ◌+◌, ◌-◌, ◌<◌, ◌≤◌, List, [], ◌∷◌, length, take, drop, get_or, refl, sym, ap, ◌∙◌, subst, inl, inr, ⊎_elim, Bool, true, false, Ordering, Less, Equal, Greater, arith, length-take, length-drop}
 use Rattle.std.proofs.lemmas.List.{get_or-take, get_or-drop}
+use Rattle.std.proofs.lemmas.Bool.{cases_lt}
 use Rattle.std.proofs.lemmas.Cmp.{tied_itself}
 use Rattle.std.specs.Ordering.{ordering_index, ordering_then, is_lt, is_le}
 use Rattle.std.specs.Cmp.Lexicographic.{slice_cmp}
@@ -80,18 +81,13 @@ IsStart x r i = IsPartitionPoint (λ z. is_lt (place_beside x z) ≡ true) (λ z
 abbrev pub IsEnd : Value → List Value → ℕ → Type 0
 IsEnd x r i = IsPartitionPoint (λ z. is_le (place_beside x z) ≡ true) (λ z. is_le (place_beside x z) ≡ false) r i
 
-before : (u v : ℕ) → (u < v) ⊎ (v ≤ u)
-before u zero = inr (omega arith)
-before zero (suc v) = inl (omega arith)
-before (suc u) (suc v) = ⊎_elim (λ k. inl (omega (arith, k))) (λ k. inr (omega (arith, k))) (before u v)
-
 lt_is_le : (o : Ordering) → is_lt o ≡ true → is_le o ≡ false → ⊥
 lt_is_le Less e f = (cc)
 lt_is_le Equal e f = (cc)
 lt_is_le Greater e f = (cc)
 
 pub in_order : (x : Value) (r : List Value) (i j : ℕ) → IsStart x r i → IsEnd x r j → i ≤ length r → i ≤ j
-in_order x r i j s e l = ⊎_elim (λ k. absurd (lt_is_le _ (s.0 j x (omega arith) k) (e.1 j x (omega arith) (omega (arith, k, l))))) (λ k. k) (before j i)
+in_order x r i j s e l = ⊎_elim (λ k. absurd (lt_is_le _ (s.0 j x (omega arith) k) (e.1 j x (omega arith) (omega (arith, k, l))))) (λ k. k) (cases_lt j i)
 
 -- ---- what stands between them
 
@@ -128,7 +124,7 @@ related_between x r i j h s e l = record { ascending = ascending-take (j - i) (d
     back : (y : Value) → Contains r (pair x y) → IsMember (pair x y) (take (j - i) (drop i r))
     back y c =
         let at : place_beside x (get_or r c.0 (pair x y)) ≡ Equal = ap (place_beside x) c.2 ∙ pair_place x x y ∙ tied_itself total-law x in
-        from_part r i j c.0 (pair x y) l (⊎_elim (λ k. absurd (no_start (s.0 c.0 (pair x y) (omega arith) k) at)) (λ k. k) (before c.0 i)) (⊎_elim (λ k. k) (λ k. absurd (no_end (e.1 c.0 (pair x y) k c.1) at)) (before c.0 j)) c.2
+        from_part r i j c.0 (pair x y) l (⊎_elim (λ k. absurd (no_start (s.0 c.0 (pair x y) (omega arith) k) at)) (λ k. k) (cases_lt c.0 i)) (⊎_elim (λ k. k) (λ k. absurd (no_end (e.1 c.0 (pair x y) k c.1) at)) (cases_lt c.0 j)) c.2
       where
         no_start : {o : Ordering} → is_lt o ≡ true → o ≡ Equal → ⊥
         no_start {o} a b = let f : is_lt o ≡ false = ap is_lt b in (cc)

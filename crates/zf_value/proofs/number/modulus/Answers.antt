@@ -2,12 +2,12 @@ use Rattle.std.proofs.Common.{rules, ◌≡◌, ◌∙◌, ap, sym, inl, refl, t
 use Rattle.std.specs.Prelude.{ℤ, FitsSigned, ◌+ℤ◌}
 use Rattle.std.specs.Int.RustNames.{int_rem}
 use Rattle.zf_value.specs.Numbers.{IsModulus}
-use Rattle.zf_value.proofs.Exactly.{same, both_same, undefined_by, not_zero, remainder_same, remainder_fits, modulus_down, modulus_up}
+use Rattle.zf_value.proofs.Exactly.{same, both_same, is_zero, not_zero, remainder_same, remainder_fits, modulus_down, modulus_up}
 use Rattle.zf_value.proofs.number.modulus.Goals as goal
 
 pub returns-then-b-eq0-clause-is : goal.returns-then-b-eq0-clause-is
 unfolding IsModulus
-returns-then-b-eq0-clause-is c = inl (undefined_by c.args.b c.ranges.b c.if-b-eq0.true, refl)
+returns-then-b-eq0-clause-is c = inl (is_zero c.args.b c.ranges.b c.if-b-eq0.true, refl)
 
 pub returns-then-not-is_remainder : goal.returns-then-not-is_remainder
 returns-then-not-is_remainder c =

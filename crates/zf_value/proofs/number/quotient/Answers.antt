@@ -3,12 +3,12 @@ use Rattle.std.specs.Prelude.{ℤ, pos, negsuc, FitsSigned, ◌-ℤ◌}
 use Rattle.std.specs.Int.RustNames.{int_div, int_rem}
 use Rattle.std.proofs.lemmas.Int.{quot_is, rem_is}
 use Rattle.zf_value.specs.Numbers.{IsQuotient, IsNegation}
-use Rattle.zf_value.proofs.Exactly.{checked, same, both_same, undefined_by, not_zero, remainder_same, quotient_down, quotient_up, quotient_negated}
+use Rattle.zf_value.proofs.Exactly.{checked, same, both_same, is_zero, not_zero, remainder_same, quotient_down, quotient_up, quotient_negated}
 use Rattle.zf_value.proofs.number.quotient.Goals as goal
 
 pub returns-then-b-eq0-clause-is : goal.returns-then-b-eq0-clause-is
 unfolding IsQuotient
-returns-then-b-eq0-clause-is c = inl (undefined_by c.args.b c.ranges.b c.if-b-eq0.true, refl)
+returns-then-b-eq0-clause-is c = inl (is_zero c.args.b c.ranges.b c.if-b-eq0.true, refl)
 
 pub returns-then-b-eqminus1 : goal.returns-then-b-eqminus1
 returns-then-b-eqminus1 c =
