@@ -1,5 +1,5 @@
 -- What composition and overriding list.
-use Rattle.std.proofs.Common.{◌≡◌, ◌⊎◌, ◌↔◌, ℕ, zero, suc, ◌+◌, ◌<◌, ◌≤◌, List, [], ◌∷◌, ◌++◌, length, take, get_or, Bool, true, false, ltb, refl, sym, ap, ◌∙◌, subst, inl, inr, ⊎_elim, Result, arith, add-one}
+use Rattle.std.proofs.Common.{◌≡◌, ◌⊎◌, ◌↔◌, ℕ, ◌+◌, ◌<◌, ◌≤◌, List, [], ◌∷◌, ◌++◌, length, take, get_or, Bool, true, false, ltb, refl, sym, ap, ◌∙◌, subst, inl, inr, ⊎_elim, Result, arith, add-one}
 use Rattle.std.specs.Bool.{OnTrue}
 use Rattle.std.specs.Result.{IfOk}
 use Rattle.std.proofs.lemmas.Bool.{ltb-true}
@@ -11,10 +11,10 @@ use Rattle.zf_value.specs.declared.value.Value.{Value}
 use Rattle.zf_value.specs.declared.value.Outcome.{Outcome}
 use Rattle.zf_value.specs.declared.value.Outcome.TheVariants.{Out}
 use Rattle.zf_value.specs.Operations.{pair, Relates, IsInDomain, IsPairOf, IsDisplay, IsComposition, IsOverriding}
-use Rattle.zf_value.specs.Sets.{IsMember, IsAscending, IsSetOf, IsRegular, IsRegularSet, IsRegularOutcome}
+use Rattle.zf_value.specs.Sets.{IsMember, IsAscending, IsRegular, IsRegularSet}
 use Rattle.zf_value.specs.Steps.{HaveSameMembers, IsGathered, IsPartOf, IsSelected, AreRelated, AddsPairs}
 use Rattle.zf_value.proofs.Among.{members-append, members-push, members-take_more, take_all, every_also, before_in}
-use Rattle.zf_value.proofs.Gathered.{same_pair, gathered_more, gathered_pass, gathered_same}
+use Rattle.zf_value.proofs.Gathered.{same_pair, gathered_more, gathered_pass}
 use Rattle.zf_value.proofs.Listed.{IsMade, related_regular, in_domain, by_first}
 use Rattle.zf_value.proofs.Making.{made, made_gathered, too_many}
 use Rattle.zf_value.proofs.Regulars.{regular_member, regular-pair, regular_made}

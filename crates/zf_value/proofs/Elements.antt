@@ -1,5 +1,5 @@
 -- The elements of a type, in order.
-use Rattle.std.proofs.Common.{◌≡◌, ◌⊎◌, ◌↔◌, ℕ, zero, suc, ◌+◌, ◌<◌, ◌≤◌, List, [], ◌∷◌, ◌++◌, length, refl, sym, ap, ◌∙◌, subst, inl, inr, ⊎_elim, Option, Some, None, Ordering, Less, Equal, Result, IsTrue, true, false, ltb, eqb, arith, add-one, length-append}
+use Rattle.std.proofs.Common.{◌≡◌, ◌↔◌, ℕ, ◌+◌, ◌<◌, List, [], ◌∷◌, ◌++◌, refl, sym, ap, ◌∙◌, subst, Ordering, Less, Equal, Result, IsTrue, false, ltb, eqb, arith, add-one}
 use Rattle.std.specs.Cmp.{nat_cmp_is}
 use Rattle.std.specs.Ordering.{ordering_then, nat_cmp}
 use Rattle.std.proofs.lemmas.Bool.{ltb-true, lt-ltb, eqb-true}
@@ -13,7 +13,7 @@ use Rattle.zf_value.specs.declared.value.Value.TheOpen.{Value-F}
 use Rattle.zf_value.specs.declared.value.Value.TheVariants.{outs-Elem}
 use Rattle.zf_value.specs.Operations.{IsElement, AreElements, IsDisplay}
 use Rattle.zf_value.specs.Order.{level_order}
-use Rattle.zf_value.specs.Sets.{value_order, IsMember, Every, IsAscending, IsRegular}
+use Rattle.zf_value.specs.Sets.{value_order, IsMember, IsAscending, IsRegular}
 use Rattle.zf_value.proofs.Counted.{first, members-first, ascending-first, length-first}
 use Rattle.zf_value.proofs.Exact.{cmp_is}
 use Rattle.zf_value.proofs.Listed.{IsMade}

@@ -1,7 +1,7 @@
 -- What a loop collects of the members of a list.
-use Rattle.std.proofs.Common.{◌≡◌, ◌⊎◌, ◌↔◌, ℕ, zero, suc, ◌+◌, ◌<◌, ◌≤◌, List, [], ◌∷◌, ◌++◌, length, take, get_or, refl, sym, ap, ◌∙◌, subst, inl, inr, ⊎_elim, Option, Some, None, Bool, true, false, not, IsTrue, arith, add-one}
+use Rattle.std.proofs.Common.{◌≡◌, ◌⊎◌, ◌↔◌, ℕ, ◌+◌, ◌<◌, ◌≤◌, List, [], ◌∷◌, ◌++◌, length, take, get_or, refl, sym, ap, ◌∙◌, subst, inl, inr, ⊎_elim, Option, Some, None, Bool, true, false, not, IsTrue, add-one}
 use denote.Ref.{Bor}
-use Rattle.zf_value.specs.declared.value.Value.{Value, Tuple}
+use Rattle.zf_value.specs.declared.value.Value.{Value}
 use Rattle.zf_value.specs.Operations.{pair}
 use Rattle.zf_value.specs.Sets.{IsMember, parts}
 use Rattle.zf_value.specs.Steps.{IsGathered, GivesJust, HaveSameMembers, IsPartOf, IsKept, IsSelected}

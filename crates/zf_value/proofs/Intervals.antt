@@ -1,10 +1,9 @@
 -- The numbers from one to another, in order.
-use Rattle.std.proofs.Common.{◌≡◌, ◌⊎◌, ◌↔◌, ℕ, zero, suc, ◌+◌, ◌<◌, ◌≤◌, ℤ, List, [], ◌∷◌, ◌++◌, length, refl, sym, ap, ◌∙◌, subst, inl, inr, ⊎_elim, Option, Some, None, Ordering, Less, Equal, Result, Vec, Global, IsTrue, true, false, arith, add-one, length-append}
-use Rattle.std.specs.Prelude.{pos, negsuc, ◌+ℤ◌, ◌-ℤ◌, ◌≤ℤ◌, ◌<ℤ◌}
+use Rattle.std.proofs.Common.{◌≡◌, ◌↔◌, ℕ, suc, ◌<◌, ℤ, List, [], ◌∷◌, ◌++◌, length, sym, ap, ◌∙◌, subst, ⊎_elim, Some, None, Less, Result, Vec, Global, IsTrue, true, false, arith}
+use Rattle.std.specs.Prelude.{pos, ◌+ℤ◌, ◌≤ℤ◌, ◌<ℤ◌}
 use Rattle.std.proofs.lemmas.Int.{ints}
 use lib.Signed.{le_z}
 use Rattle.std.specs.Cmp.{int_cmp_is}
-use Rattle.std.specs.Ordering.{int_cmp}
 use Rattle.std.specs.Result.{IfOk}
 use Rattle.std.specs.declared.alloc.AllocError.{AllocError}
 use Rattle.zf_value.specs.declared.TheConstants.{SET_MAX}
@@ -12,11 +11,11 @@ use Rattle.zf_value.specs.declared.value.Value.{Value, Int, out-Value}
 use Rattle.zf_value.specs.declared.value.Value.TheOpen.{Value-F}
 use Rattle.zf_value.specs.declared.value.Value.TheVariants.{outs-Int}
 use Rattle.zf_value.specs.declared.value.Outcome.{Outcome}
-use Rattle.zf_value.specs.declared.value.Outcome.TheVariants.{Is, Undefined, Out}
+use Rattle.zf_value.specs.declared.value.Outcome.TheVariants.{Out}
 use Rattle.zf_value.specs.Numbers.{number_of, IsBetweenNumbers, IsInterval}
 use Rattle.zf_value.specs.Operations.{IsDisplay}
 use Rattle.zf_value.specs.Order.{level_order}
-use Rattle.zf_value.specs.Sets.{value_order, IsMember, Every, IsAscending, IsRegular}
+use Rattle.zf_value.specs.Sets.{value_order, IsMember, IsAscending, IsRegular}
 use Rattle.zf_value.proofs.Among.{every_at}
 use Rattle.zf_value.proofs.Counted.{first, members-first, ascending-first, length-first}
 use Rattle.zf_value.specs.Steps.{ListsNumbers}

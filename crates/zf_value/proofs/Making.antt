@@ -1,5 +1,5 @@
 -- The one way in which sets are made: from an ascending list of the values that pass.
-use Rattle.std.proofs.Common.{true, ◌≡◌, ◌⊎◌, ◌↔◌, ℕ, zero, suc, ◌+◌, ◌<◌, ◌≤◌, List, [], ◌∷◌, length, take, refl, sym, ap, ◌∙◌, subst, inl, inr, ⊎_elim, arith, add-one, length-take}
+use Rattle.std.proofs.Common.{true, ◌≡◌, ◌↔◌, ℕ, ◌+◌, ◌<◌, ◌≤◌, List, [], length, take, sym, ap, ◌∙◌, subst, arith, length-take}
 use Rattle.std.specs.Result.{IfOk}
 use Rattle.std.proofs.lemmas.Result.{IfOk-weaker}
 use Rattle.std.specs.List.Sorted.{IsPermutation, IsSorted}
@@ -18,7 +18,7 @@ use Rattle.zf_value.specs.contracts.value.ValuePartialEq.TheImpl as equality
 use Rattle.zf_value.specs.contracts.value.ValueEq.TheImpl.Laws as equal_laws
 use Rattle.zf_value.specs.contracts.value.ValueOrd.TheImpl.Laws as order_laws
 use Rattle.zf_value.specs.Operations.{IsDisplay}
-use Rattle.zf_value.specs.Sets.{value_order, IsMember, Every, IsAscending, IsSetOf}
+use Rattle.zf_value.specs.Sets.{value_order, IsMember, IsAscending, IsSetOf}
 use Rattle.zf_value.specs.Steps.{HaveSameMembers, IsGathered}
 use Rattle.zf_value.proofs.Exact.{exact, is_eq_true}
 use Rattle.zf_value.proofs.Among.{every_from, every_also, every-take, ascending, ascending-take, contained, member}

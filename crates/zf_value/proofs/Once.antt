@@ -5,7 +5,7 @@ use Rattle.zf_value.specs.declared.value.Value.{Value, SetOf}
 use Rattle.zf_value.specs.declared.value.Outcome.{Outcome}
 use Rattle.zf_value.specs.declared.value.Outcome.TheVariants.{Is, Undefined, Out}
 use Rattle.zf_value.specs.contracts.value.ValueOrd.TheImpl.Laws.{total-law}
-use Rattle.zf_value.specs.Sets.{value_order, IsMember, Every, IsAscending, IsSetOf}
+use Rattle.zf_value.specs.Sets.{value_order, IsMember, IsAscending, IsSetOf}
 use Rattle.zf_value.specs.Numbers.{IsNumber, OnNumber, OnNumbers, IsNegation, IsSum, IsDifference, IsProduct, IsInterval}
 use Rattle.zf_value.specs.Operations as op
 use Rattle.zf_value.proofs.Among.{every_at, not_below_itself}

@@ -1,5 +1,5 @@
 -- Regular values: what makes one, and what one holds.
-use Rattle.std.proofs.Common.{◌≡◌, ◌⊎◌, ◌↔◌, ℤ, ℕ, zero, suc, List, [], ◌∷◌, Option, Some, None, refl, sym, ap, ◌∙◌, subst, inl, inr, ⊎_elim, Bool, true, false}
+use Rattle.std.proofs.Common.{◌≡◌, ℤ, ℕ, zero, suc, List, [], ◌∷◌, Some, refl, sym, ap, ◌∙◌, subst, inl, inr, ⊎_elim, Bool, true, false}
 use Rattle.std.specs.Prelude.{slice_get, Result}
 use Rattle.std.specs.Result.{IfOk}
 use Rattle.std.specs.declared.alloc.AllocError.{AllocError}
@@ -11,7 +11,7 @@ use Rattle.zf_value.specs.declared.value.Outcome.{Outcome}
 use Rattle.zf_value.specs.declared.value.Outcome.TheVariants.{Is, Undefined, Out}
 use Rattle.zf_value.specs.Numbers.{IsNumber}
 use Rattle.zf_value.specs.Operations.{pair, IsDisplay}
-use Rattle.zf_value.specs.Sets.{IsMember, Every, IsAscending, IsSetOf, parts_at, parts, Reaches, IsRegular, AreRegular, IsRegularSet, IsRegularOutcome, members}
+use Rattle.zf_value.specs.Sets.{IsMember, Every, IsAscending, IsSetOf, parts_at, parts, IsRegular, AreRegular, IsRegularSet, IsRegularOutcome, members}
 use Rattle.zf_value.proofs.Among.{every_from, every_at}
 use Rattle.zf_value.proofs.Seen.{parts-Tuple, parts-SetOf, members-SetOf}
 

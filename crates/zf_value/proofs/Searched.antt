@@ -1,19 +1,14 @@
 -- Where a binary search in an ascending list ends.
-use Rattle.std.proofs.Common.{◌≡◌, ◌⊎◌, ◌↔◌, ℕ, zero, suc, ◌+◌, ◌-◌, ◌<◌, ◌≤◌, List, [], ◌∷◌, length, take, drop, get_or, refl, sym, ap, ◌∙◌, subst, inl, inr, ⊎_elim, Result, Ok, Err, IsTrue, true, false, Ordering, Less, Equal, Greater, arith, add-one}
+use Rattle.std.proofs.Common.{◌≡◌, ◌⊎◌, ◌↔◌, ℕ, ◌<◌, ◌≤◌, List, length, get_or, refl, ap, subst, ⊎_elim, Result, Ok, Err, IsTrue, Ordering, Less, Equal, Greater, arith}
 use Rattle.std.specs.Result.{is_ok}
-use Rattle.std.specs.Ordering.{ordering_index, ordering_then, is_lt, is_le}
-use Rattle.std.specs.Cmp.Lexicographic.{slice_cmp}
-use Rattle.std.specs.List.{Contains}
+use Rattle.std.specs.Ordering.{ordering_index}
 use Rattle.std.specs.List.Sorted.{IsBinarySearchResult, IsSearchInRange, IsNonDecreasingBy}
 use Rattle.std.proofs.lemmas.Bool.{cases_lt}
 use Rattle.std.proofs.lemmas.Cmp.{tied_itself}
-use Rattle.zf_value.specs.declared.value.Value.{Value, out-Value}
-use Rattle.zf_value.specs.declared.value.Value.TheOpen.{Value-F}
+use Rattle.zf_value.specs.declared.value.Value.{Value}
 use Rattle.zf_value.specs.contracts.value.ValueOrd.TheImpl.Laws.{total-law}
-use Rattle.zf_value.specs.Order.{level_order}
 use Rattle.zf_value.specs.Sets.{value_order, IsMember, IsAscending}
-use Rattle.zf_value.specs.Steps.{place_of_first, place_at, place_beside}
-use Rattle.zf_value.proofs.Exact.{cmp_is, exact}
+use Rattle.zf_value.proofs.Exact.{exact}
 use Rattle.zf_value.proofs.Among.{below_at, contained, member}
 
 -- ---- a value among others
@@ -33,9 +28,9 @@ pub rising : (n : Value → ℕ) (xs : List Value) → IsAscending xs → ((a b 
 rising n xs h f i j d l m =
     ⊎_elim (λ s. f _ _ (below_at xs i j d h s m))
     (λ g.
-      let e : i ≡ j = omega (arith, l, g) in
-      let k : n (get_or xs i d) ≡ n (get_or xs j d) = ap (λ u. n (get_or xs u d)) e in
-      omega (arith, k))
+    let e : i ≡ j = omega (arith, l, g) in
+    let k : n (get_or xs i d) ≡ n (get_or xs j d) = ap (λ u. n (get_or xs u d)) e in
+    omega (arith, k))
     (cases_lt i j)
 
 pub found : (z : Value) (xs : List Value) (r : Result ℕ ℕ) → IsAscending xs → IsSearchInRange r (length xs) → IsBinarySearchResult (λ y. value_order y z) xs r → IsTrue (is_ok r) ↔ IsMember z xs

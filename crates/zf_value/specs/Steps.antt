@@ -1,12 +1,12 @@
 -- What the steps of the operations say. No public clause rests on this file.
 use Rattle.std.specs.Prelude.{◌≡◌, ◌⊎◌, ◌↔◌, ℤ, Vec, List, [], ◌∷◌, Option, MatchOption}
 use Rattle.std.specs.declared.cmp.Ordering.{Ordering}
-use Rattle.std.specs.declared.cmp.Ordering.TheVariants.{Less, Equal, Greater}
+use Rattle.std.specs.declared.cmp.Ordering.TheVariants.{Less, Greater}
 use Rattle.zf_value.specs.declared.part.Keep.{Keep}
 use Rattle.zf_value.specs.declared.part.Keep.TheVariants.{Members, Others}
 use Rattle.zf_value.specs.declared.part.Part.{Part}
 use Rattle.zf_value.specs.declared.part.Part.TheVariants.{Whole, First, Second}
-use Rattle.zf_value.specs.declared.value.Value.{Value, Tuple, out-Value}
+use Rattle.zf_value.specs.declared.value.Value.{Value, out-Value}
 use Rattle.zf_value.specs.declared.value.Value.TheOpen.{Value-F}
 use Rattle.zf_value.specs.Operations.{pair, Relates}
 use Rattle.zf_value.specs.Sets.{IsMember, IsAscending, value_order}

@@ -1,5 +1,3 @@
-use Rattle.std.proofs.Common.{sym, subst, arith}
-use Rattle.zf_value.specs.Steps.{ListsNumbers}
 use Rattle.zf_value.proofs.Exactly.{same, wide}
 use Rattle.zf_value.proofs.Intervals.{interval_out, interval_made, lists_same}
 use Rattle.zf_value.proofs.number.interval.Goals as goal

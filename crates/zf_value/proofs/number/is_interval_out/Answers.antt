@@ -1,6 +1,4 @@
-use Rattle.std.proofs.Common.{sym, subst}
-use Rattle.std.specs.Prelude.{ℤ, pos, ◌+ℤ◌, ◌≤ℤ◌}
-use Rattle.zf_value.specs.declared.TheConstants.{SET_MAX}
+use Rattle.std.proofs.Common.{sym}
 use Rattle.zf_value.proofs.Exactly.{same, wide}
 use Rattle.zf_value.proofs.Intervals.{interval_out, interval_not_out}
 use Rattle.zf_value.proofs.number.is_interval_out.Goals as goal

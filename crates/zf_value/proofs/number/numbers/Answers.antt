@@ -1,5 +1,5 @@
-use Rattle.std.proofs.Common.{◌≡◌, ℕ, suc, ◌+◌, arith, sym, ◌∙◌, to_z, of_z, w64}
-use Rattle.std.specs.Prelude.{ℤ, pos, ◌+ℤ◌, ◌<ℤ◌, ◌≤ℤ◌}
+use Rattle.std.proofs.Common.{◌≡◌, suc, arith, to_z, of_z, w64}
+use Rattle.std.specs.Prelude.{pos, ◌+ℤ◌, ◌<ℤ◌}
 use Rattle.std.proofs.lemmas.Int.{ints}
 use Rattle.zf_value.proofs.Exactly.{same}
 use Rattle.zf_value.proofs.Intervals.{lists_none, lists_all, lists_same, number_more}

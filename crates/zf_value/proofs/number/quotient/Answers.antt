@@ -1,9 +1,9 @@
-use Rattle.std.proofs.Common.{rules, ◌≡◌, ◌∙◌, ap, sym, subst, inl, refl, arith, to_z, of_z, w64}
-use Rattle.std.specs.Prelude.{ℤ, pos, negsuc, FitsSigned, ◌-ℤ◌}
-use Rattle.std.specs.Int.RustNames.{int_div, int_rem}
+use Rattle.std.proofs.Common.{rules, ◌∙◌, ap, sym, subst, inl, refl, to_z, w64}
+use Rattle.std.specs.Prelude.{ℤ, pos, FitsSigned, ◌-ℤ◌}
+use Rattle.std.specs.Int.RustNames.{int_div}
 use Rattle.std.proofs.lemmas.Int.{quot_is, rem_is}
 use Rattle.zf_value.specs.Numbers.{IsQuotient, IsNegation}
-use Rattle.zf_value.proofs.Exactly.{checked, same, both_same, is_zero, not_zero, remainder_same, quotient_down, quotient_up, quotient_negated}
+use Rattle.zf_value.proofs.Exactly.{checked, same, is_zero, not_zero, remainder_same, quotient_down, quotient_up, quotient_negated}
 use Rattle.zf_value.proofs.number.quotient.Goals as goal
 
 pub returns-then-b-eq0-clause-is : goal.returns-then-b-eq0-clause-is

@@ -1,6 +1,5 @@
-use Rattle.std.proofs.Common.{sym, subst, take, ◌∙◌, Option, Bor}
-use Rattle.zf_value.specs.declared.value.Value.{Value}
-use Rattle.zf_value.proofs.Applications.{IsOnly, only_none, only_pass, only_first, only_twice, only_one}
+use Rattle.std.proofs.Common.{sym, subst, ◌∙◌}
+use Rattle.zf_value.proofs.Applications.{IsOnly, only_pass, only_first, only_twice, only_one}
 use Rattle.zf_value.proofs.relation.applied.Goals as goal
 use Rattle.zf_value.proofs.relation.applied.Goals.{in-Some+else-is_some, in_default}
 

@@ -1,5 +1,4 @@
-use Rattle.std.proofs.Common.{◌≡◌, ◌↔◌, IsTrue, refl, subst, sym, inl, inr, ⊎_elim, add-one, ap, ◌∙◌}
-use Rattle.zf_value.specs.Sets.{AreAmong, IsMember}
+use Rattle.std.proofs.Common.{refl}
 use Rattle.zf_value.proofs.Among.{among_none, among_more, not_among, among_all}
 use Rattle.zf_value.proofs.set.are_among.Goals as goal
 

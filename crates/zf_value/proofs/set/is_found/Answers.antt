@@ -1,4 +1,4 @@
-use Rattle.std.proofs.Common.{◌≡◌, ◌↔◌, IsTrue, sym, subst}
+use Rattle.std.proofs.Common.{◌↔◌, IsTrue, sym, subst}
 use Rattle.zf_value.specs.Sets.{IsMember}
 use Rattle.zf_value.proofs.Searched.{found}
 use Rattle.zf_value.proofs.set.is_found.Goals as goal

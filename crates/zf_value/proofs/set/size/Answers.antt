@@ -1,4 +1,4 @@
-use Rattle.std.proofs.Common.{◌≡◌, ℤ, pos, sym, subst, ◌∙◌, length, to_z, of_z, w64, FitsSigned}
+use Rattle.std.proofs.Common.{sym, subst, ◌∙◌, w64, FitsSigned}
 use Rattle.std.proofs.lemmas.Int.{to_z-of_z}
 use Rattle.zf_value.specs.Operations.{IsSize}
 use Rattle.zf_value.proofs.Regulars.{regular-Int}

@@ -1,4 +1,4 @@
-use Rattle.std.proofs.Common.{◌≡◌, ◌++◌, [], ap, ◌∙◌, refl}
+use Rattle.std.proofs.Common.{◌++◌, ap, ◌∙◌}
 use Rattle.zf_value.proofs.Listed.{union_made}
 use Rattle.zf_value.proofs.set.union.Goals as goal
 

@@ -1,5 +1,5 @@
-use Rattle.std.proofs.Common.{◌≡◌, sym, subst, ap, ◌∙◌}
-use Rattle.zf_value.specs.Sets.{IsRegular, IsRegularSet, members}
+use Rattle.std.proofs.Common.{sym, subst}
+use Rattle.zf_value.specs.Sets.{IsRegular, IsRegularSet}
 use Rattle.zf_value.proofs.Regulars.{regular_set, regular_none}
 use Rattle.zf_value.proofs.Seen.{no_members}
 use Rattle.zf_value.proofs.value.Value.members.Goals as goal
