@@ -15,7 +15,7 @@ use Rattle.zf_value.specs.Sets.{IsMember, IsAscending, IsRegular, IsRegularSet}
 use Rattle.zf_value.specs.Steps.{HaveSameMembers, IsGathered, IsPartOf, IsSelected, AreRelated, AddsPairs}
 use Rattle.zf_value.proofs.Among.{members-append, members-push, members-take_more, take_all, every_also, before_in}
 use Rattle.zf_value.proofs.Gathered.{same_pair, gathered_more, gathered_pass}
-use Rattle.zf_value.proofs.Listed.{IsMade, related_regular, in_domain, by_first}
+use Rattle.zf_value.proofs.Listed.{IsMade, related_regular, pair_of_regular, in_domain, by_first}
 use Rattle.zf_value.proofs.Making.{made, made_gathered, too_many}
 use Rattle.zf_value.proofs.Regulars.{regular_member, regular-pair, regular_made}
 
@@ -113,4 +113,4 @@ overriding_made r q firsts ordered kept all o h k f s g e d =
       λ m. subst (IsMember w) (sym e) (both.1 (⊎_elim (λ b. inr b) (λ p. inl ((g w).1 ((by_first Others ordered r w).1 (p.0, p.1, p.2, p.3, λ i. p.4 ((in_firsts p.0).0 i))))) m)),
     ) in
     let is = made P all o lists d in
-    record { is = is; regular = regular_made P o (λ z m. ⊎_elim (λ b. regular_member q z k.regular b) (λ p. subst IsRegular (sym p.2) (regular_member r (pair p.0 p.1) h.regular p.3)) m) is }
+    record { is = is; regular = regular_made P o (λ z m. ⊎_elim (λ b. regular_member q z k.regular b) (λ p. pair_of_regular r (λ x y. IsInDomain q x → ⊥) z h.regular p) m) is }

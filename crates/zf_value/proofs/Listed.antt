@@ -24,7 +24,7 @@ IsMade P r = record { is : IfOk r P; regular : IfOk r IsRegularOutcome }
 pub related_regular : (r : List Value) (x y : Value) → AreRegular r → Relates r x y → IsRegular x × IsRegular y
 related_regular r x y h m = regular_pair x y (regular_member r (pair x y) h m)
 
-pair_of_regular : (r : List Value) (P : Value → Value → Type 0) (z : Value) → AreRegular r → IsPairOf r P z → IsRegular z
+pub pair_of_regular : (r : List Value) (P : Value → Value → Type 0) (z : Value) → AreRegular r → IsPairOf r P z → IsRegular z
 pair_of_regular r P z h p = subst IsRegular (sym p.2) (regular_member r (pair p.0 p.1) h p.3)
 
 regular-Union : (a b : List Value) (z : Value) → AreRegular a → AreRegular b → IsMember z a ⊎ IsMember z b → IsRegular z
@@ -77,12 +77,20 @@ range_made r all o h g d =
 abbrev pub IsTurned : Value → Value → Type 0
 IsTurned z w = (x y : Value) × (z ≡ pair x y) × (w ≡ pair y x)
 
+abbrev IsInversePair : List Value → Value → Type 0
+IsInversePair r z = (x y : Value) × (z ≡ pair y x) × Relates r x y
+
+in_inverse : (r : List Value) (w : Value) → ((z : Value) × IsMember z r × IsTurned z w) ↔ IsInversePair r w
+in_inverse r w = (λ s. (s.2.0, s.2.1, s.2.3, subst (λ u. IsMember u r) s.2.2 s.1), λ p. (pair p.0 p.1, p.3, (p.0, p.1, refl, p.2)))
+
+inverse_regular : (r : List Value) (z : Value) → AreRegular r → IsInversePair r z → IsRegular z
+inverse_regular r z h p = let k = related_regular r p.0 p.1 h p.3 in subst IsRegular (sym p.2) (regular-pair p.1 p.0 k.1 k.0)
+
 pub inverse_made : (r all : List Value) (o : Result Outcome AllocError) → IsRegularSet r → IsGathered IsTurned r all → IfOk o (IsDisplay all) → IsMade (IsInverse r) o
 unfolding IsInverse
 inverse_made r all o h g d =
-    let is = made_gathered _ (λ z. (x y : Value) × (z ≡ pair y x) × Relates r x y) r all o g
-    (λ w. (λ s. (s.2.0, s.2.1, s.2.3, subst (λ u. IsMember u r) s.2.2 s.1), λ p. (pair p.0 p.1, p.3, (p.0, p.1, refl, p.2)))) d in
-    record { is = is; regular = regular_made _ o (λ z p. let k = related_regular r p.0 p.1 h.regular p.3 in subst IsRegular (sym p.2) (regular-pair p.1 p.0 k.1 k.0)) is }
+    let is = made_gathered IsTurned (IsInversePair r) r all o g (in_inverse r) d in
+    record { is = is; regular = regular_made (IsInversePair r) o (λ z p. inverse_regular r z h.regular p) is }
 
 turned : (z : Value) (x y : Value) → z ≡ pair x y → (w : Value) → IsTurned z w ↔ (pair y x ≡ w)
 turned z x y e w =
