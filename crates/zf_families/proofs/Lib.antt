@@ -6,3 +6,5 @@ pub mod Comparisons
 pub mod Power
 pub mod Cross
 pub mod Functions
+pub mod FunctionLaws
+pub mod Families
