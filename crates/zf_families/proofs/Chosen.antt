@@ -18,7 +18,7 @@ in_extensions : (f : Value → List Value → Bool) (layer : List Value) (rows :
 in_extensions f layer rows r t =
     subst (λ u. In u (extensions f layer rows)) t.2
     (in_flat_map (extended f rows) layer t.0 (t.0 ∷ t.1) (member_in t.0 layer t.3)
-      (in_map (λ s. t.0 ∷ s) (filter (f t.0) rows) t.1 (in_filter (f t.0) rows t.1 t.4 t.5)))
+    (in_map (λ s. t.0 ∷ s) (filter (f t.0) rows) t.1 (in_filter (f t.0) rows t.1 t.4 t.5)))
 
 in_from_extensions : (f : Value → List Value → Bool) (layer : List Value) (rows : List (List Value)) (r : List Value) → In r (extensions f layer rows) → Takes f layer (λ s. In s rows) r
 in_from_extensions f layer rows r m =
@@ -30,7 +30,6 @@ in_from_extensions f layer rows r m =
 module _ (f : Value → List Value → Bool) (layer : Value → List Value) (Good : List Value → Type 0) (Q : List Value → List Value → Type 0)
     (rest : (x : Value) (xs : List Value) → Good (x ∷ xs) → Good xs)
     (none : (r : List Value) → Q [] r ↔ ([] ≡ r)) where
-
   pub in_whole : ((x : Value) (xs r : List Value) → Good (x ∷ xs) → Q (x ∷ xs) r ↔ Takes f (layer x) (Q xs) r)
       → (a r : List Value) → Good a → In r (whole f (map layer a)) ↔ Q a r
   in_whole step [] r g = (λ m. (none r).1 (⊎_elim (λ e. e) (λ n. absurd n) m), λ q. inl ((none r).0 q))
@@ -46,17 +45,16 @@ module _ (f : Value → List Value → Bool) (layer : Value → List Value) (Goo
   in_some step (x ∷ xs) r g =
       let h = in_some step xs in
       let rows = [] ∷ some f (map layer xs) in
-      let from : In r rows → Q (x ∷ xs) r = λ m. (step x xs r g).1 (inr ((h r (rest x xs g)).0 m)) in
-      (
+      let from : In r rows → Q (x ∷ xs) r = λ m. (step x xs r g).1 (inr ((h r (rest x xs g)).0 m)) in (
         λ m. ⊎_elim
-        (λ e. from (inl e))
-        (λ n. ⊎_elim
-          (λ l. (step x xs r g).1 (inl (takes_weaker f (layer x) (λ s. In s rows) (Q xs) r (λ s. (h s (rest x xs g)).0) (in_from_extensions f (layer x) rows r l))))
-          (λ k. from (inr k))
-          (in_either (extensions f (layer x) rows) (some f (map layer xs)) r n))
-        m,
+            (λ e. from (inl e))
+            (λ n. ⊎_elim
+            (λ l. (step x xs r g).1 (inl (takes_weaker f (layer x) (λ s. In s rows) (Q xs) r (λ s. (h s (rest x xs g)).0) (in_from_extensions f (layer x) rows r l))))
+            (λ k. from (inr k))
+            (in_either (extensions f (layer x) rows) (some f (map layer xs)) r n))
+            m,
         λ q. ⊎_elim
-        (λ t. inr (in_left (extensions f (layer x) rows) (some f (map layer xs)) r (in_extensions f (layer x) rows r (takes_weaker f (layer x) (Q xs) (λ s. In s rows) r (λ s. (h s (rest x xs g)).1) t))))
-        (λ k. ⊎_elim (λ e. inl e) (λ n. inr (in_right (extensions f (layer x) rows) (some f (map layer xs)) r n)) ((h r (rest x xs g)).1 k))
-        ((step x xs r g).0 q),
+            (λ t. inr (in_left (extensions f (layer x) rows) (some f (map layer xs)) r (in_extensions f (layer x) rows r (takes_weaker f (layer x) (Q xs) (λ s. In s rows) r (λ s. (h s (rest x xs g)).1) t))))
+            (λ k. ⊎_elim (λ e. inl e) (λ n. inr (in_right (extensions f (layer x) rows) (some f (map layer xs)) r n)) ((h r (rest x xs g)).1 k))
+            ((step x xs r g).0 q),
       )

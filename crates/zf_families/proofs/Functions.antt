@@ -12,7 +12,7 @@ use Rattle.zf_value.proofs.Exact.{exact}
 use Rattle.zf_value.proofs.Seen.{parts-Tuple}
 use Rattle.zf_families.specs.Selections.{whole, some, fits_any, fits_apart, pairs, second}
 use Rattle.zf_families.proofs.Lists.{Each, In, each_map}
-use Rattle.zf_families.proofs.Rows.{IsLadder, ordered_some, ordered_whole}
+use Rattle.zf_families.proofs.InOrder.{IsLadder, ordered_some, ordered_whole}
 use Rattle.zf_families.proofs.Told.{Tells, set_order}
 use Rattle.zf_families.proofs.Chosen.{Takes, in_some, in_whole}
 use Rattle.zf_families.proofs.Comparisons.{every_at, every, every_map, member_map, from_member_map, not_itself, not_both, below_rest, pair_parts, first_below, pairs_ascending}
@@ -33,7 +33,6 @@ pub record IsLaw (f : Value → List Value → Bool) (Law : List Value → Type 
   pub more : (x y : Value) (r : List Value) → IsFree r x → Law r → f (pair x y) r ≡ true → Law (pair x y ∷ r)
 
 module _ (b : List Value) (f : Value → List Value → Bool) (Law : List Value → Type 0) (law : IsLaw f Law) where
-
   abbrev Goes : List Value → List Value → Type 0
   Goes a r = IsAscending r × IsBetween a b r × Law r
 
@@ -48,31 +47,40 @@ module _ (b : List Value) (f : Value → List Value → Bool) (Law : List Value 
   first_case : (x : Value) (xs : List Value) (y : Value) (s : List Value) → IsAscending (x ∷ xs) → IsMember y b → Goes (x ∷ xs) (pair x y ∷ s) → Takes f (pairs b x) (Goes xs) (pair x y ∷ s)
   first_case x xs y s g m h =
       let between : IsBetween xs b s = λ z n.
-        let q = h.1 z (inr n) in
-        (q.0, q.1, q.2, ⊎_elim
-          (λ e.
+      let q = h.1 z (inr n) in (
+        q.0,
+        q.1,
+        q.2,
+        ⊎_elim
+            (λ e.
             let there : IsMember (pair x q.1) (pair x y ∷ s) = inr (subst (λ u. IsMember u s) (q.2 ∙ ap (λ u. pair u q.1) (sym e)) n) in
             let same : y ≡ q.1 = law.functional (pair x y ∷ s) h.2 x y q.1 (inl refl) there in
             absurd (not_itself z (subst (λ u. value_order u z ≡ Less) (ap (pair x) same ∙ ap (λ u. pair u q.1) e ∙ sym q.2) (below_rest (pair x y) s z h.0 n))))
-          (λ k. k) q.3, q.4) in
+            (λ k. k) q.3,
+        q.4,
+      ) in
       let alone = free x xs s g between in
       (pair x y, s, refl, member_map (pair x) b y m, (h.0.1, between, law.less x y s alone h.2), law.fits xs b x y s alone between h.2)
 
   later_case : (x : Value) (xs : List Value) (p y : Value) (s : List Value) → IsAscending (x ∷ xs) → IsMember p xs → Goes (x ∷ xs) (pair p y ∷ s) → Goes xs (pair p y ∷ s)
   later_case x xs p y s g m h =
-      let low = below_rest x xs p g m in
-      (
+      let low = below_rest x xs p g m in (
         h.0,
         λ z n.
-        let q = h.1 z n in
-        (q.0, q.1, q.2, ⊎_elim
-          (λ e.
-            let under : value_order z (pair p y) ≡ Less = subst (λ u. value_order u (pair p y) ≡ Less) (ap (λ u. pair u q.1) e ∙ sym q.2) (first_below x q.1 p y low) in
-            absurd (⊎_elim
-              (λ k. not_itself z (subst (λ u. value_order z u ≡ Less) k under))
-              (λ k. not_both z (pair p y) under (below_rest (pair p y) s z h.0 k))
-              n))
-          (λ k. k) q.3, q.4),
+            let q = h.1 z n in (
+              q.0,
+              q.1,
+              q.2,
+              ⊎_elim
+                  (λ e.
+                  let under : value_order z (pair p y) ≡ Less = subst (λ u. value_order u (pair p y) ≡ Less) (ap (λ u. pair u q.1) e ∙ sym q.2) (first_below x q.1 p y low) in
+                  absurd (⊎_elim
+                  (λ k. not_itself z (subst (λ u. value_order z u ≡ Less) k under))
+                  (λ k. not_both z (pair p y) under (below_rest (pair p y) s z h.0 k))
+                  n))
+                  (λ k. k) q.3,
+              q.4,
+            ),
         h.2,
       )
 
@@ -83,8 +91,8 @@ module _ (b : List Value) (f : Value → List Value → Bool) (Law : List Value 
       let h' : Goes (x ∷ xs) (pair q.0 q.1 ∷ s) = subst (λ u. Goes (x ∷ xs) (u ∷ s)) q.2 h in
       ⊎_elim
       (λ e.
-        let h'' : Goes (x ∷ xs) (pair x q.1 ∷ s) = subst (λ u. Goes (x ∷ xs) (pair u q.1 ∷ s)) (sym e) h' in
-        inl (subst (λ u. Takes f (pairs b x) (Goes xs) (u ∷ s)) (ap (λ u. pair u q.1) e ∙ sym q.2) (first_case x xs q.1 s g q.4 h'')))
+      let h'' : Goes (x ∷ xs) (pair x q.1 ∷ s) = subst (λ u. Goes (x ∷ xs) (pair u q.1 ∷ s)) (sym e) h' in
+      inl (subst (λ u. Takes f (pairs b x) (Goes xs) (u ∷ s)) (ap (λ u. pair u q.1) e ∙ sym q.2) (first_case x xs q.1 s g q.4 h'')))
       (λ n. inr (subst (λ u. Goes xs (u ∷ s)) (sym q.2) (later_case x xs q.0 q.1 s g n h')))
       q.3
 
@@ -98,9 +106,12 @@ module _ (b : List Value) (f : Value → List Value → Bool) (Law : List Value 
       let s = t.1 in
       let fits : f (pair x y.0) s ≡ true = subst (λ u. f u s ≡ true) (sym y.1) t.5 in
       subst (Goes (x ∷ xs)) (ap (λ u. u ∷ s) y.1 ∙ t.2) (
-        (every (λ z. value_order (pair x y.0) z ≡ Less) s (λ z m.
-          let q = t.4.1 z m in
-          subst (λ u. value_order (pair x y.0) u ≡ Less) (sym q.2) (first_below x y.0 q.0 q.1 (below_rest x xs q.0 g q.3))), t.4.0),
+        (
+          every (λ z. value_order (pair x y.0) z ≡ Less) s (λ z m.
+              let q = t.4.1 z m in
+              subst (λ u. value_order (pair x y.0) u ≡ Less) (sym q.2) (first_below x y.0 q.0 q.1 (below_rest x xs q.0 g q.3))),
+          t.4.0,
+        ),
         λ z m. ⊎_elim (λ e. (x, y.0, sym e, inl refl, y.2)) (λ n. wider x xs s t.4.1 z n) m,
         law.more x y.0 s (free x xs s g t.4.1) t.4.2 fits,
       )
@@ -116,24 +127,32 @@ module _ (b : List Value) (f : Value → List Value → Bool) (Law : List Value 
   all_to : (x : Value) (xs r : List Value) → IsAscending (x ∷ xs) → GoesAll (x ∷ xs) r → Takes f (pairs b x) (GoesAll xs) r
   all_to x xs r g h = ⊎_elim
       (λ t.
-        let y = from_member_map (pair x) b t.0 t.3 in
-        (t.0, t.1, t.2, t.3, (t.4, λ u m.
-          let v = h.1 u (inr m) in
-          let there : IsMember (pair u v.0) (t.0 ∷ t.1) = subst (IsMember (pair u v.0)) (sym t.2) v.1 in
-          ⊎_elim
-          (λ e. absurd (not_itself x (subst (λ w. value_order x w ≡ Less) (sym (pair_parts x y.0 u v.0 (y.1 ∙ e)).0) (below_rest x xs u g m))))
-          (λ n. (v.0, n)) there), t.5))
+      let y = from_member_map (pair x) b t.0 t.3 in (
+        t.0,
+        t.1,
+        t.2,
+        t.3,
+        (
+          t.4,
+          λ u m.
+              let v = h.1 u (inr m) in
+              let there : IsMember (pair u v.0) (t.0 ∷ t.1) = subst (IsMember (pair u v.0)) (sym t.2) v.1 in
+              ⊎_elim
+              (λ e. absurd (not_itself x (subst (λ w. value_order x w ≡ Less) (sym (pair_parts x y.0 u v.0 (y.1 ∙ e)).0) (below_rest x xs u g m))))
+              (λ n. (v.0, n)) there,
+        ),
+        t.5,
+      ))
       (λ k. let v = h.1 x (inl refl) in absurd (free x xs r g k.1 v.0 v.1))
       (step_to x xs r g h.0)
 
   all_from : (x : Value) (xs r : List Value) → IsAscending (x ∷ xs) → Takes f (pairs b x) (GoesAll xs) r → GoesAll (x ∷ xs) r
   all_from x xs r g t =
-      let y = from_member_map (pair x) b t.0 t.3 in
-      (
+      let y = from_member_map (pair x) b t.0 t.3 in (
         step_from x xs r g (inl (t.0, t.1, t.2, t.3, t.4.0, t.5)),
         subst (λ u. IsTotal (x ∷ xs) u) t.2 (λ u m. ⊎_elim
-          (λ e. (y.0, inl (sym y.1 ∙ ap (λ w. pair w y.0) e)))
-          (λ n. let v = t.4.1 u n in (v.0, inr v.1)) m),
+            (λ e. (y.0, inl (sym y.1 ∙ ap (λ w. pair w y.0) e)))
+            (λ n. let v = t.4.1 u n in (v.0, inr v.1)) m),
       )
 
   -- ---- what is told

@@ -1,10 +1,10 @@
 pub mod Lists
-pub mod Rows
+pub mod InOrder
 pub mod Told
 pub mod Chosen
 pub mod Comparisons
-pub mod Power
-pub mod Cross
+pub mod Subsets
+pub mod Tuples
 pub mod Functions
 pub mod FunctionLaws
 pub mod Families

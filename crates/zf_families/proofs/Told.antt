@@ -13,7 +13,7 @@ use Rattle.zf_value.proofs.Exact.{cmp_is}
 use Rattle.zf_value.proofs.Seen.{parts-Tuple, members-SetOf}
 use Rattle.zf_value.proofs.Once.{one_set}
 use Rattle.zf_families.proofs.Lists.{Each, In, IsOrdered, each_at, each_map, ordered_map, ordered_take, each_take, in_map, in_from_map}
-use Rattle.zf_families.proofs.Rows.{Below}
+use Rattle.zf_families.proofs.InOrder.{Below}
 
 pub set_order : (r s : List Value) → value_order (SetOf r) (SetOf s) ≡ row_order r s
 set_order r s = cmp_is (SetOf r) (SetOf s) ∙ ap (λ u. level_order value_order u (out-Value (SetOf s))) (outs-SetOf r) ∙ ap (λ u. level_order value_order (Value-F.SetOf r) u) (outs-SetOf s)

@@ -1,10 +1,13 @@
 -- Rows that take an item of each of some layers. No public clause rests on this file.
-use Rattle.std.specs.Prelude.{Bool, true, not, List, [], ◌∷◌, ◌++◌, map, filter, get_or}
+use Rattle.std.specs.Prelude.{Bool, true, not, List, [], ◌∷◌, ◌++◌, map, filter}
 use Rattle.std.specs.List.{flat_map, list_all}
 use Rattle.std.specs.Ordering.{is_eq}
-use Rattle.zf_value.specs.declared.value.Value.{Value}
-use Rattle.zf_value.specs.Sets.{value_order, parts}
+use Rattle.zf_value.specs.declared.value.Value.{Value, out-Value}
+use Rattle.zf_value.specs.declared.value.Value.TheOpen.{Value-F}
+use Rattle.zf_value.specs.Sets.{value_order}
 use Rattle.zf_value.specs.Operations.{pair}
+use Rattle.zf_families.specs.declared.rows.Fits.{Fits}
+use Rattle.zf_families.specs.declared.rows.Fits.TheVariants.{Any, Apart}
 
 -- p before each of the rows that it fits
 abbrev pub extended : (Value → List Value → Bool) → List (List Value) → Value → List (List Value)
@@ -36,10 +39,18 @@ singles a = map (λ x. x ∷ []) a
 abbrev pub pairs : List Value → Value → List Value
 pairs b x = map (pair x) b
 
--- what stands at the second place of a pair
-abbrev pub second : Value → Value
-second v = get_or (parts v) 1 v
+-- the second of a pair; of what is no pair, that itself
+abbrev pub second_at : Value → Value-F Value → Value
+second_at v (Value-F.Tuple (x ∷ y ∷ [])) = y
+second_at v _ = v
 
--- no other second is that of p
+abbrev pub second : Value → Value
+second v = second_at v (out-Value v)
+
+-- the second of p is that of no item of the row
 abbrev pub fits_apart : Value → List Value → Bool
 fits_apart p r = list_all (λ q. not (is_eq (value_order (second p) (second q)))) r
+
+abbrev pub fitting : Fits → Value → List Value → Bool
+fitting Any = fits_any
+fitting Apart = fits_apart

@@ -48,7 +48,7 @@ ordered_extensions f rows [] a h = tt
 ordered_extensions f rows (p ∷ layer) a h =
     ordered_append Below (extended f rows p) (extensions f layer rows) (ordered_extended f rows p h) (ordered_extensions f rows layer a.1 h)
     (each_extended (λ x. Each (Below x) (extensions f layer rows)) f rows p
-      (λ r. each_extension (Below (p ∷ r)) f rows layer (every_weaker (λ q. value_order p q ≡ Less) (λ q. (s : List Value) → Below (p ∷ r) (q ∷ s)) layer (λ q l s. below_first p q r s l) a.0)))
+    (λ r. each_extension (Below (p ∷ r)) f rows layer (every_weaker (λ q. value_order p q ≡ Less) (λ q. (s : List Value) → Below (p ∷ r) (q ∷ s)) layer (λ q l s. below_first p q r s l) a.0)))
 
 pub ordered_whole : (f : Value → List Value → Bool) (layers : List (List Value)) → Each IsAscending layers → IsOrdered Below (whole f layers)
 ordered_whole f [] h = (tt, tt)
@@ -65,18 +65,21 @@ ordered_some f layers h = (first layers, rest layers h)
     nothing : (xs : List Value) → Every (λ p. (r : List Value) → Below [] (p ∷ r)) xs
     nothing [] = tt
     nothing (x ∷ xs) = (λ r. refl, nothing xs)
+
     nothings : (ls : List (List Value)) → Each (Every (λ p. (r : List Value) → Below [] (p ∷ r))) ls
     nothings [] = tt
     nothings (l ∷ ls) = (nothing l, nothings ls)
+
     first : (ls : List (List Value)) → Each (Below []) (some f ls)
     first ls = each_some (Below []) f ls (nothings ls)
+
     rest : (ls : List (List Value)) → IsLadder ls → IsOrdered Below (some f ls)
     rest [] g = tt
     rest (l ∷ ls) g =
         ordered_append Below (extensions f l ([] ∷ some f ls)) (some f ls)
         (ordered_extensions f ([] ∷ some f ls) l g.0 (first ls, rest ls g.2)) (rest ls g.2)
         (each_extension (λ x. Each (Below x) (some f ls)) f ([] ∷ some f ls) l
-          (every_weaker (λ p. Each (Every (λ q. value_order p q ≡ Less)) ls) (λ p. (r : List Value) → Each (Below (p ∷ r)) (some f ls)) l
-            (λ p b r. each_some (Below (p ∷ r)) f ls (each_weaker (Every (λ q. value_order p q ≡ Less)) (Every (λ q. (s : List Value) → Below (p ∷ r) (q ∷ s))) ls
-              (λ ys. every_weaker (λ q. value_order p q ≡ Less) (λ q. (s : List Value) → Below (p ∷ r) (q ∷ s)) ys (λ q e s. below_first p q r s e)) b))
-            g.1))
+        (every_weaker (λ p. Each (Every (λ q. value_order p q ≡ Less)) ls) (λ p. (r : List Value) → Each (Below (p ∷ r)) (some f ls)) l
+        (λ p b r. each_some (Below (p ∷ r)) f ls (each_weaker (Every (λ q. value_order p q ≡ Less)) (Every (λ q. (s : List Value) → Below (p ∷ r) (q ∷ s))) ls
+        (λ ys. every_weaker (λ q. value_order p q ≡ Less) (λ q. (s : List Value) → Below (p ∷ r) (q ∷ s)) ys (λ q e s. below_first p q r s e)) b))
+        g.1))

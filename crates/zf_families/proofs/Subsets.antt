@@ -5,7 +5,7 @@ use Rattle.zf_value.specs.Sets.{value_order, IsMember, Every, IsAscending, AreAm
 use Rattle.zf_value.specs.Operations.{IsSubset}
 use Rattle.zf_families.specs.Selections.{some, fits_any, singles}
 use Rattle.zf_families.proofs.Lists.{Each, In, each_map}
-use Rattle.zf_families.proofs.Rows.{IsLadder, ordered_some}
+use Rattle.zf_families.proofs.InOrder.{IsLadder, ordered_some}
 use Rattle.zf_families.proofs.Told.{Tells, set_order, member_in}
 use Rattle.zf_families.proofs.Chosen.{Takes, in_some}
 use Rattle.zf_families.proofs.Comparisons.{every_at, every, not_itself, not_both, below_rest}
@@ -17,23 +17,29 @@ rest : (x : Value) (xs : List Value) → IsAscending (x ∷ xs) → IsAscending 
 rest x xs h = h.1
 
 none : (r : List Value) → Chooses [] r ↔ ([] ≡ r)
+unfolding AreAmong
 none [] = (λ h. refl, λ e. (tt, λ z m. m))
 none (p ∷ s) = (λ h. absurd (h.1 p (inl refl)), λ e. (cc))
 
 step_to : (x : Value) (xs r : List Value) → IsAscending (x ∷ xs) → Chooses (x ∷ xs) r → Takes fits_any (x ∷ []) (Chooses xs) r ⊎ Chooses xs r
+unfolding AreAmong
 step_to x xs [] g h = inr (tt, λ z m. absurd m)
 step_to x xs (p ∷ s) g h = ⊎_elim
     (λ e. inl (p, s, refl, inl e, (h.0.1, λ z m. ⊎_elim (λ k. absurd (not_itself p (subst (λ u. value_order p u ≡ Less) (sym k ∙ e) (below_rest p s z h.0 m)))) (λ n. n) (h.1 z (inr m))), refl))
     (λ n. let low = below_rest x xs p g n in
-      inr (h.0, λ z m. ⊎_elim
-        (λ k. absurd (⊎_elim
+    inr (
+      h.0,
+      λ z m. ⊎_elim
+          (λ k. absurd (⊎_elim
           (λ e. not_itself x (subst (λ u. value_order x u ≡ Less) (e ∙ sym k) low))
           (λ l. not_both x p low (subst (λ u. value_order p u ≡ Less) (sym k) (below_rest p s z h.0 l)))
           m))
-        (λ k. k) (h.1 z m)))
+          (λ k. k) (h.1 z m),
+    ))
     (h.1 p (inl refl))
 
 step_from : (x : Value) (xs r : List Value) → IsAscending (x ∷ xs) → Takes fits_any (x ∷ []) (Chooses xs) r ⊎ Chooses xs r → Chooses (x ∷ xs) r
+unfolding AreAmong
 step_from x xs r g (inl t) =
     let same : x ≡ t.0 = ⊎_elim (λ e. e) (λ n. absurd n) t.3 in
     subst (Chooses (x ∷ xs)) t.2 (

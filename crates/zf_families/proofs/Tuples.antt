@@ -5,7 +5,7 @@ use Rattle.zf_value.specs.Sets.{IsMember, Every, IsAscending, members}
 use Rattle.zf_value.specs.Operations.{AreFrom}
 use Rattle.zf_families.specs.Selections.{whole, fits_any}
 use Rattle.zf_families.proofs.Lists.{Each, In, each_map}
-use Rattle.zf_families.proofs.Rows.{ordered_whole}
+use Rattle.zf_families.proofs.InOrder.{ordered_whole}
 use Rattle.zf_families.proofs.Told.{Tells, tuple_order}
 use Rattle.zf_families.proofs.Chosen.{Takes, in_whole}
 
