@@ -8,3 +8,4 @@ pub mod Tuples
 pub mod Functions
 pub mod FunctionLaws
 pub mod Families
+pub mod Counts

@@ -1,12 +1,20 @@
 -- The subsets of a set are the rows that take some of its members.
-use Rattle.std.proofs.Common.{◌≡◌, ◌⊎◌, ◌↔◌, Bool, true, List, [], ◌∷◌, ◌++◌, map, refl, sym, ap, ◌∙◌, subst, inl, inr, ⊎_elim, Ordering, Less}
+use Rattle.std.proofs.Common.{◌≡◌, ◌⊎◌, ◌↔◌, ℕ, suc, ◌+◌, ◌^◌, min, ltb, length, Result, Bool, true, List, [], ◌∷◌, ◌++◌, map, refl, sym, ap, ◌∙◌, subst, inl, inr, ⊎_elim, Ordering, Less}
+use Rattle.std.specs.Prelude.{IsTrue}
+use Rattle.std.specs.Result.{IfOk}
+use Rattle.std.specs.declared.alloc.AllocError.{AllocError}
 use Rattle.zf_value.specs.declared.value.Value.{Value, SetOf}
-use Rattle.zf_value.specs.Sets.{value_order, IsMember, Every, IsAscending, AreAmong}
-use Rattle.zf_value.specs.Operations.{IsSubset}
+use Rattle.zf_value.specs.declared.value.Outcome.{Outcome}
+use Rattle.zf_value.specs.declared.value.Outcome.TheVariants.{Is, Out}
+use Rattle.zf_value.specs.declared.TheConstants.{SET_MAX}
+use Rattle.zf_value.proofs.Regulars.{regular_made, regular-SetOf, are_regular, regular_member}
+use Rattle.zf_families.proofs.Counts.{length_some, sizes_same}
+use Rattle.zf_value.specs.Sets.{value_order, IsMember, Every, IsAscending, AreAmong, IsRegular, IsRegularSet, IsRegularOutcome}
+use Rattle.zf_value.specs.Operations.{IsSubset, IsPower}
 use Rattle.zf_families.specs.Selections.{some, fits_any, singles}
 use Rattle.zf_families.proofs.Lists.{Each, In, each_map}
 use Rattle.zf_families.proofs.InOrder.{IsLadder, ordered_some}
-use Rattle.zf_families.proofs.Told.{Tells, set_order, member_in}
+use Rattle.zf_families.proofs.Told.{Tells, set_order, out_by_size, built_result}
 use Rattle.zf_families.proofs.Chosen.{Takes, in_some}
 use Rattle.zf_families.proofs.Comparisons.{every_at, every, not_itself, not_both, below_rest}
 
@@ -65,3 +73,17 @@ power_told a h =
       passes = λ r m. let q = (chosen r h).0 m in (r, refl, q.0, q.1);
       found = λ z p. (p.0, sym p.1, (chosen p.0 h).1 (p.2, p.3));
     }
+
+pub power_out : (a : List Value) → IsRegularSet a → (count : ℕ) → count ≡ min (2 ^ length a) (SET_MAX + 1) → IsTrue (ltb SET_MAX count) ↔ IsPower a Out
+unfolding IsPower
+power_out a h count e =
+    let size : length ([] ∷ some fits_any (singles a)) ≡ 2 ^ length a = length_some (singles a) ∙ sizes_same suc 1 (λ x. x ∷ []) a (λ x. refl) in
+    out_by_size SetOf (IsSubset a) ([] ∷ some fits_any (singles a)) (power_told a h.ascending) (2 ^ length a) count size e
+
+pub power_built : (a : List Value) → IsRegularSet a → (IsPower a Out → ⊥) → (rows : List (List Value)) → rows ≡ [] ∷ some fits_any (singles a) → (r : Result Outcome AllocError) → IfOk r (λ o. o ≡ Is (SetOf (map SetOf rows))) → IfOk r (IsPower a)
+unfolding IsPower
+power_built a h few rows e r k = built_result SetOf (IsSubset a) ([] ∷ some fits_any (singles a)) rows (power_told a h.ascending) few e r k
+
+pub power_regular : (a : List Value) → IsRegularSet a → (r : Result Outcome AllocError) → IfOk r (IsPower a) → IfOk r IsRegularOutcome
+unfolding IsPower AreAmong
+power_regular a h r k = regular_made (IsSubset a) r (λ z p. subst IsRegular (sym p.1) (regular-SetOf p.0 (record { ascending = p.2; regular = are_regular p.0 (λ u m. regular_member a u h.regular (p.3 u m)); }))) k

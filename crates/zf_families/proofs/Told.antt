@@ -1,5 +1,10 @@
 -- A test that a list of rows answers makes the set of these rows, or is out where they are too many.
-use Rattle.std.proofs.Common.{◌≡◌, ◌⊎◌, ◌↔◌, ℕ, zero, suc, ◌+◌, ◌≤◌, List, [], ◌∷◌, map, length, take, min, refl, sym, ap, ◌∙◌, subst, inl, inr, ⊎_elim, Ordering, Less, arith}
+use Rattle.std.proofs.Common.{◌≡◌, ◌⊎◌, ◌↔◌, ℕ, zero, suc, ◌+◌, ◌≤◌, ltb, List, [], ◌∷◌, map, length, take, min, Result, refl, sym, ap, ◌∙◌, subst, inl, inr, ⊎_elim, Ordering, Less, arith}
+use Rattle.std.specs.Prelude.{IsTrue}
+use Rattle.std.specs.Result.{IfOk}
+use Rattle.std.specs.declared.alloc.AllocError.{AllocError}
+use Rattle.std.proofs.lemmas.Bool.{ltb-true, lt-ltb, cases_lt}
+use Rattle.std.proofs.lemmas.Result.{IfOk-weaker}
 use Rattle.std.proofs.lemmas.List.{length-map, length-take-le}
 use Rattle.zf_value.specs.declared.value.Value.{Value, SetOf, Tuple, out-Value}
 use Rattle.zf_value.specs.declared.value.Value.TheOpen.{Value-F}
@@ -84,3 +89,17 @@ told_out make P rows t h = many make P rows (SET_MAX + 1) t h
 -- where the rows are not too many, it is not out
 pub told_in : (make : List Value → Value) (P : Value → Type 0) (rows : List (List Value)) → Tells make P rows → length rows ≤ SET_MAX → IsSetOf P Out → ⊥
 told_in make P rows t h o = let e = one_set P (Is (SetOf (map make rows))) Out (told make P rows t h) o in (cc)
+
+-- ---- a size that is counted, and a set that is built
+
+pub out_by_size : (make : List Value → Value) (P : Value → Type 0) (rows : List (List Value)) → Tells make P rows → (n count : ℕ) → length rows ≡ n → count ≡ min n (SET_MAX + 1) → IsTrue (ltb SET_MAX count) ↔ IsSetOf P Out
+out_by_size make P rows t n count e h = (
+  λ g. let l = ltb-true SET_MAX count g in told_out make P rows t (omega (arith, e, h, l)),
+  λ o. lt-ltb SET_MAX count (⊎_elim (λ l. omega (arith, e, h, l)) (λ l. absurd (told_in make P rows t l o)) (cases_lt SET_MAX (length rows))),
+)
+
+built : (make : List Value → Value) (P : Value → Type 0) (rows : List (List Value)) → Tells make P rows → (IsSetOf P Out → ⊥) → IsSetOf P (Is (SetOf (map make rows)))
+built make P rows t few = ⊎_elim (λ l. absurd (few (told_out make P rows t (omega (arith, l))))) (λ l. told make P rows t l) (cases_lt SET_MAX (length rows))
+
+pub built_result : (make : List Value → Value) (P : Value → Type 0) (rows these : List (List Value)) → Tells make P rows → (IsSetOf P Out → ⊥) → these ≡ rows → (r : Result Outcome AllocError) → IfOk r (λ o. o ≡ Is (SetOf (map make these))) → IfOk r (IsSetOf P)
+built_result make P rows these t few e r h = IfOk-weaker r (λ o. o ≡ Is (SetOf (map make these))) (IsSetOf P) (λ o q. subst (IsSetOf P) (ap (λ rs. Is (SetOf (map make rs))) (sym e) ∙ sym q) (built make P rows t few)) h

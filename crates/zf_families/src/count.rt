@@ -15,7 +15,7 @@ pub fn power(base: usize, exponent: usize) -> usize
     ensures { result ≡ min (base ^ exponent) (SET_MAX + 1) }
 {
     let mut count = 1;
-    for _ in 0..exponent {
+    for _turn in 0..exponent {
         count = product(count, base);
     }
     count

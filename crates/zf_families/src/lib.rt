@@ -2,8 +2,5 @@
 #![tactic(auto)]
 
 mod count;
-pub mod cross;
-pub mod function;
-pub mod injection;
 pub mod power;
 mod rows;

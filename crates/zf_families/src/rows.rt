@@ -1,5 +1,5 @@
 //! Rows that take an item of each of some layers, and the sets that are made of them.
-ghost use Rattle.std.specs.Prelude.{◌≡◌, [], ◌∷◌, ◌++◌, map, IfOk, OnOk};
+ghost use Rattle.std.specs.Prelude.{◌≡◌, ◌<◌, [], ◌∷◌, ◌++◌, map, drop, vec_len, IfOk, OnOk};
 ghost use Rattle.std.specs.List.{flat_map};
 ghost use Rattle.zf_value.specs.Operations.{pair};
 ghost use Rattle.zf_families.specs.Selections as rows;
@@ -18,57 +18,52 @@ pub enum Fits {
 }
 
 /// The rows that take one item of each layer.
-pub fn whole_rows(
-    alloc: Global,
-    fits: Fits,
-    layers: &[Items<Value>],
-) -> Result<Vec<Items<Value>>, AllocError>
+pub fn whole_rows(alloc: Global, fits: Fits, layers: &[Items<Value>]) -> Result<Vec<Items<Value>>, AllocError>
     ensures { IfOk result (λ rows. rows.items ≡ whole (fitting fits) layers.now) }
 {
-    let mut rows = Vec::new(alloc);
-    rows.push(Items::of(alloc, Vec::new(alloc))?)?;
+    let mut rows = one_row(alloc)?;
     let mut place = layers.len();
     while place > 0 {
         place -= 1;
         let mut next = Vec::new(alloc);
-        extend(
-            alloc,
-            fits,
-            layers[place].as_slice(),
-            rows.as_slice(),
-            &mut next,
-        )?;
+        extend(alloc, fits, layers[place].as_slice(), rows.as_slice(), &mut next)?;
         rows = next;
     }
     Ok(rows)
 }
 
 /// The rows that take at most one item of each layer, the empty row first.
-pub fn some_rows(
-    alloc: Global,
-    fits: Fits,
-    layers: &[Items<Value>],
-) -> Result<Vec<Items<Value>>, AllocError>
+pub fn some_rows(alloc: Global, fits: Fits, layers: &[Items<Value>]) -> Result<Vec<Items<Value>>, AllocError>
     ensures { IfOk result (λ rows. rows.items ≡ [] ∷ some (fitting fits) layers.now) }
 {
-    let mut rows = Vec::new(alloc);
-    rows.push(Items::of(alloc, Vec::new(alloc))?)?;
+    let mut rows = one_row(alloc)?;
     let mut place = layers.len();
     while place > 0 {
         place -= 1;
-        let mut next = Vec::new(alloc);
-        next.push(Items::of(alloc, Vec::new(alloc))?)?;
-        extend(
-            alloc,
-            fits,
-            layers[place].as_slice(),
-            rows.as_slice(),
-            &mut next,
-        )?;
-        append_rest(rows, &mut next)?;
-        rows = next;
+        rows = with_more(alloc, fits, layers[place].as_slice(), rows)?;
     }
     Ok(rows)
+}
+
+/// The empty row alone.
+fn one_row(alloc: Global) -> Result<Vec<Items<Value>>, AllocError>
+    ensures { IfOk result (λ rows. rows.items ≡ [] ∷ []) }
+{
+    let mut rows = Vec::new(alloc);
+    rows.push(Items::of(alloc, Vec::new(alloc))?)?;
+    Ok(rows)
+}
+
+/// The empty row, the rows that begin in the layer, and the others of these.
+fn with_more(alloc: Global, fits: Fits, layer: &[Value], mut rows: Vec<Items<Value>>) -> Result<Vec<Items<Value>>, AllocError>
+    requires { 0 < vec_len rows }
+    ensures { IfOk result (λ next. next.items ≡ [] ∷ (extensions (fitting fits) layer.now rows.items ++ drop 1 rows.items)) }
+{
+    let mut next = one_row(alloc)?;
+    extend(alloc, fits, layer, rows.as_slice(), &mut next)?;
+    let mut others = rows.split_off(1)?;
+    next.append(&mut others)?;
+    Ok(next)
 }
 
 /// Puts each item of the layer before each of the rows that it fits, behind what is there.
@@ -101,18 +96,6 @@ fn extend_by(
         if is_fit(fits, p, row.as_slice()) {
             next.push(begun(alloc, p, row.as_slice())?)?;
         }
-    }
-    Ok(())
-}
-
-/// Puts all rows but the first behind what is there.
-fn append_rest(rows: Vec<Items<Value>>, next: &mut Vec<Items<Value>>) -> Result<(), AllocError>
-    ensures { OnOk result (next.new.items ≡ next.old.items ++ drop 1 rows.items) }
-{
-    let mut rows = rows.into_iter();
-    let _ = rows.next();
-    for row in rows {
-        next.push(row)?;
     }
     Ok(())
 }
