@@ -1,10 +1,11 @@
 -- How many rows there are, and counts that go no further than one more than a limit.
-use Rattle.std.proofs.Common.{◌≡◌, ℕ, zero, suc, ◌+◌, ◌*◌, ◌^◌, ◌<◌, ◌≤◌, ◌⊎◌, true, List, [], ◌∷◌, ◌++◌, map, length, min, refl, sym, ap, ◌∙◌, ⊎_elim, arith}
+use Rattle.std.proofs.Common.{◌≡◌, ℕ, zero, suc, ◌+◌, ◌*◌, ◌^◌, ◌<◌, ◌≤◌, ◌⊎◌, true, List, [], ◌∷◌, ◌++◌, map, length, take, get_or, min, refl, sym, ap, ◌∙◌, ⊎_elim, arith}
 use Rattle.std.specs.List.{filter}
 use Rattle.std.proofs.lemmas.Bool.{cases_lt}
-use Rattle.std.proofs.lemmas.List.{length-map, length-append}
-use Rattle.std.proofs.Math.Nat.{pow-zero, pow-succ'}
+use Rattle.std.proofs.lemmas.List.{length-map, length-append, map_more}
+use Rattle.std.proofs.Math.Nat.{pow-zero, pow-succ', mul_assoc}
 use Rattle.zf_value.specs.declared.value.Value.{Value}
+use Rattle.zf_value.specs.Sets.{members}
 use Rattle.zf_families.specs.Selections.{extended, extensions, whole, some, fits_any}
 
 -- counting on from a count that was cut gives what counting on and cutting gives
@@ -50,3 +51,15 @@ length_some (l ∷ ls) =
 pub sizes_same : (more : ℕ → ℕ) (n : ℕ) (layer : Value → List Value) (a : List Value) → ((x : Value) → length (layer x) ≡ n) → sizes more (map layer a) ≡ more n ^ length a
 sizes_same more n layer [] h = sym (pow-zero (more n))
 sizes_same more n layer (x ∷ a) h = ap (λ k. more k * sizes more (map layer a)) (h x) ∙ ap (λ k. more n * k) (sizes_same more n layer a h) ∙ sym (pow-succ' (more n) (length a))
+
+pub sizes_push : (more : ℕ → ℕ) (ls : List (List Value)) (l : List Value) → sizes more (ls ++ l ∷ []) ≡ sizes more ls * more (length l)
+sizes_push more [] l = grind arith
+sizes_push more (k ∷ ls) l = ap (λ n. more (length k) * n) (sizes_push more ls l) ∙ sym (mul_assoc (more (length k)) (sizes more ls) (more (length l)))
+
+-- one more set of a product is counted
+pub count_more : (sets : List Value) (i : ℕ) (x : Value) (count next c : ℕ) → i < length sets → x ≡ get_or sets i x → count ≡ min (sizes (λ n. n) (map members (take i sets))) c → next ≡ min (count * length (members x)) c → next ≡ min (sizes (λ n. n) (map members (take (i + 1) sets))) c
+count_more sets i x count next c h e k n =
+    let taken : map members (take (i + 1) sets) ≡ map members (take i sets) ++ members x ∷ [] =
+      map_more members sets i x h ∙ ap (λ y. map members (take i sets) ++ members y ∷ []) (sym e) in
+    n ∙ ap (λ m. min (m * length (members x)) c) k ∙ min_product (sizes (λ m. m) (map members (take i sets))) (length (members x)) c
+    ∙ sym (ap (λ m. min m c) (ap (sizes (λ m. m)) taken ∙ sizes_push (λ m. m) (map members (take i sets)) (members x)))

@@ -1,12 +1,22 @@
 -- The tuples of a product are the rows that take a member of each set.
-use Rattle.std.proofs.Common.{◌≡◌, ◌⊎◌, ◌↔◌, Bool, true, List, [], ◌∷◌, ◌++◌, map, refl, sym, ap, ◌∙◌, subst, inl, inr, ⊎_elim, Ordering, Less}
-use Rattle.zf_value.specs.declared.value.Value.{Value, Tuple}
-use Rattle.zf_value.specs.Sets.{IsMember, Every, IsAscending, members}
-use Rattle.zf_value.specs.Operations.{AreFrom}
+use Rattle.std.proofs.Common.{◌≡◌, ◌⊎◌, ◌↔◌, ℕ, ◌+◌, min, ltb, length, Result, Bool, true, List, [], ◌∷◌, ◌++◌, map, refl, sym, ap, ◌∙◌, subst, inl, inr, ⊎_elim, Ordering, Less}
+use Rattle.std.specs.Prelude.{IsTrue}
+use Rattle.std.specs.Result.{IfOk}
+use Rattle.std.specs.declared.alloc.AllocError.{AllocError}
+use Rattle.zf_value.specs.declared.value.Value.{Value, Tuple, SetOf, out-Value, roll-Value, roll-out-Value}
+use Rattle.zf_value.specs.declared.value.Value.TheOpen.{Value-F}
+use Rattle.zf_value.specs.declared.value.Value.TheVariants.{rolls-SetOf}
+use Rattle.zf_value.specs.declared.value.Outcome.{Outcome}
+use Rattle.zf_value.specs.declared.value.Outcome.TheVariants.{Is, Out}
+use Rattle.zf_value.specs.declared.TheConstants.{SET_MAX}
+use Rattle.zf_value.proofs.Regulars.{regular_made, regular-Tuple, regular_set, regular_none, regular_member}
+use Rattle.zf_families.proofs.Counts.{sizes, length_whole}
+use Rattle.zf_value.specs.Sets.{IsMember, Every, IsAscending, members_at, members, IsRegular, AreRegular, IsRegularSet, IsRegularOutcome}
+use Rattle.zf_value.specs.Operations.{AreFrom, IsCross}
 use Rattle.zf_families.specs.Selections.{whole, fits_any}
 use Rattle.zf_families.proofs.Lists.{Each, In, each_map}
 use Rattle.zf_families.proofs.InOrder.{ordered_whole}
-use Rattle.zf_families.proofs.Told.{Tells, tuple_order}
+use Rattle.zf_families.proofs.Told.{Tells, tuple_order, out_by_size, built_result}
 use Rattle.zf_families.proofs.Chosen.{Takes, in_whole}
 
 abbrev From : List Value → List Value → Type 0
@@ -37,3 +47,46 @@ cross_told sets h =
       passes = λ r m. (r, refl, (chosen r tt).0 m);
       found = λ z p. (p.0, sym p.1, (chosen p.0 tt).1 p.2);
     }
+
+-- ---- sets that are regular
+
+members_seen : (v : Value) (x : Value-F Value) → out-Value v ≡ x → IsRegular v → IsRegularSet (members v)
+members_seen v (Value-F.SetOf xs) e h = subst IsRegularSet (sym (ap members_at e)) (regular_set xs (subst IsRegular (sym (roll-out-Value v) ∙ ap roll-Value e ∙ rolls-SetOf xs) h))
+members_seen v (Value-F.Int n) e h = subst IsRegularSet (sym (ap members_at e)) regular_none
+members_seen v (Value-F.Elem t i) e h = subst IsRegularSet (sym (ap members_at e)) regular_none
+members_seen v (Value-F.Tuple xs) e h = subst IsRegularSet (sym (ap members_at e)) regular_none
+
+pub regular_members : (v : Value) → IsRegular v → IsRegularSet (members v)
+regular_members v h = members_seen v (out-Value v) refl h
+
+all_ascending : (sets : List Value) → Every IsRegular sets → Every (λ s. IsAscending (members s)) sets
+all_ascending [] h = tt
+all_ascending (s ∷ sets) h = (let r = regular_members s h.0 in r.ascending, all_ascending sets h.1)
+
+ascending_sets : (sets : List Value) → AreRegular sets → Every (λ s. IsAscending (members s)) sets
+unfolding AreRegular
+ascending_sets sets h = all_ascending sets h
+
+parts_regular : (vs sets : List Value) → Every IsRegular sets → AreFrom vs sets → Every IsRegular vs
+parts_regular [] [] h f = tt
+parts_regular [] (s ∷ sets) h f = absurd f
+parts_regular (v ∷ vs) [] h f = absurd f
+parts_regular (v ∷ vs) (s ∷ sets) h f = (let r = regular_members s h.0 in regular_member (members s) v r.regular f.0, parts_regular vs sets h.1 f.1)
+
+from_regular : (vs sets : List Value) → AreRegular sets → AreFrom vs sets → AreRegular vs
+unfolding AreRegular
+from_regular vs sets h f = parts_regular vs sets h f
+
+pub cross_out : (sets : List Value) → AreRegular sets → (count : ℕ) → count ≡ min (sizes (λ n. n) (map members sets)) (SET_MAX + 1) → IsTrue (ltb SET_MAX count) ↔ IsCross sets Out
+unfolding IsCross
+cross_out sets h count e =
+    out_by_size Tuple (λ z. (vs : List Value) × (z ≡ Tuple vs) × AreFrom vs sets) (whole fits_any (map members sets)) (cross_told sets (ascending_sets sets h)) (sizes (λ n. n) (map members sets)) count (length_whole (map members sets)) e
+
+pub cross_built : (sets : List Value) → AreRegular sets → (IsCross sets Out → ⊥) → (rows : List (List Value)) → rows ≡ whole fits_any (map members sets) → (r : Result Outcome AllocError) → IfOk r (λ o. o ≡ Is (SetOf (map Tuple rows))) → IfOk r (IsCross sets)
+unfolding IsCross
+cross_built sets h few rows e r k =
+    built_result Tuple (λ z. (vs : List Value) × (z ≡ Tuple vs) × AreFrom vs sets) (whole fits_any (map members sets)) rows (cross_told sets (ascending_sets sets h)) few e r k
+
+pub cross_regular : (sets : List Value) → AreRegular sets → (r : Result Outcome AllocError) → IfOk r (IsCross sets) → IfOk r IsRegularOutcome
+unfolding IsCross
+cross_regular sets h r k = regular_made (λ z. (vs : List Value) × (z ≡ Tuple vs) × AreFrom vs sets) r (λ z p. subst IsRegular (sym p.1) (regular-Tuple p.0 (from_regular p.0 sets h p.2))) k

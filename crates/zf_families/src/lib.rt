@@ -2,5 +2,6 @@
 #![tactic(auto)]
 
 mod count;
+pub mod cross;
 pub mod power;
 mod rows;

@@ -112,6 +112,17 @@ fn begun(alloc: Global, p: &Value, row: &[Value]) -> Result<Items<Value>, AllocE
     Items::of(alloc, items)
 }
 
+/// The list of these values.
+pub fn copied(alloc: Global, values: &[Value]) -> Result<Items<Value>, AllocError>
+    ensures { IfOk result (λ r. r ≡ values.now) }
+{
+    let mut items = Vec::new(alloc);
+    for value in values {
+        items.push(value.copy(alloc)?)?;
+    }
+    Items::of(alloc, items)
+}
+
 fn is_fit(fits: Fits, p: &Value, row: &[Value]) -> bool
     ensures { result ≡ fitting fits p.now row.now }
 {

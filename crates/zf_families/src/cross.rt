@@ -1,0 +1,49 @@
+//! Products.
+ghost use Rattle.std.specs.Prelude.{◌≡◌, ◌↔◌, IsTrue, IfOk, map};
+ghost use Rattle.zf_value.specs.Operations.{IsCross};
+ghost use Rattle.zf_value.specs.Sets.{AreRegular, IsRegularOutcome, members};
+
+use crate::count;
+use crate::rows::{Fits, copied, set_of_tuples, whole_rows};
+use std::alloc::{AllocError, Global};
+use zf_value::SET_MAX;
+use zf_value::items::Items;
+use zf_value::lent::Lent;
+use zf_value::value::{Outcome, Value};
+
+/// `s_1 \cross s_2 \cross ..`, of sets.
+pub fn cross(alloc: Global, sets: &[Lent<'_>]) -> Result<Outcome, AllocError>
+    requires { AreRegular sets.now }
+    ensures is { IfOk result (IsCross sets.now) }
+    ensures regular { IfOk result IsRegularOutcome }
+{
+    if is_cross_out(sets) {
+        return Ok(Outcome::Out);
+    }
+    let layers = member_layers(alloc, sets)?;
+    let rows = whole_rows(alloc, Fits::Any, layers.as_slice())?;
+    set_of_tuples(alloc, rows)
+}
+
+/// Whether the product has more members than a set may have.
+pub fn is_cross_out(sets: &[Lent<'_>]) -> bool
+    requires { AreRegular sets.now }
+    ensures { IsTrue result ↔ IsCross sets.now Outcome.Out }
+{
+    let mut size = 1;
+    for set in sets {
+        size = count::product(size, set.get().members().len());
+    }
+    size > SET_MAX
+}
+
+/// The members of each set.
+fn member_layers(alloc: Global, sets: &[Lent<'_>]) -> Result<Vec<Items<Value>>, AllocError>
+    ensures { IfOk result (λ layers. layers.items ≡ map members sets.now) }
+{
+    let mut layers = Vec::new(alloc);
+    for set in sets {
+        layers.push(copied(alloc, set.get().members())?)?;
+    }
+    Ok(layers)
+}
