@@ -9,3 +9,4 @@ pub mod Functions
 pub mod FunctionLaws
 pub mod Families
 pub mod Counts
+pub mod Relations
