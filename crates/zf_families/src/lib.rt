@@ -3,5 +3,6 @@
 
 mod count;
 pub mod cross;
+pub mod function;
 pub mod power;
 mod rows;

@@ -49,8 +49,15 @@ pub fn some_rows(alloc: Global, fits: Fits, layers: &[Items<Value>]) -> Result<V
 fn one_row(alloc: Global) -> Result<Vec<Items<Value>>, AllocError>
     ensures { IfOk result (λ rows. rows.items ≡ [] ∷ []) }
 {
+    one_row_of(alloc, Vec::new(alloc))
+}
+
+/// The row alone.
+pub fn one_row_of(alloc: Global, row: Vec<Value>) -> Result<Vec<Items<Value>>, AllocError>
+    ensures { IfOk result (λ rows. rows.items ≡ row.items ∷ []) }
+{
     let mut rows = Vec::new(alloc);
-    rows.push(Items::of(alloc, Vec::new(alloc))?)?;
+    rows.push(Items::of(alloc, row)?)?;
     Ok(rows)
 }
 
