@@ -10,3 +10,4 @@ pub mod FunctionLaws
 pub mod Families
 pub mod Counts
 pub mod Relations
+pub mod Tested

@@ -4,5 +4,6 @@
 mod count;
 pub mod cross;
 pub mod function;
+mod members;
 pub mod power;
 mod rows;

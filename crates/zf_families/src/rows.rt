@@ -140,7 +140,7 @@ fn is_fit(fits: Fits, p: &Value, row: &[Value]) -> bool
 }
 
 /// Whether the second of the pair is that of no pair of the row.
-fn is_apart(p: &Value, row: &[Value]) -> bool
+pub fn is_apart(p: &Value, row: &[Value]) -> bool
     ensures { result ≡ rows.fits_apart p.now row.now }
 {
     for q in row {
