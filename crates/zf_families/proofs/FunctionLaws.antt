@@ -48,7 +48,7 @@ second-pair x y = ap (second_at (pair x y)) (outs-Tuple (x ∷ y ∷ []))
 abbrev pub IsUnused : List Value → Value → Type 0
 IsUnused r y = (u : Value) → Relates r u y → ⊥
 
-unused_from : (x y : Value) (r : List Value) → fits_apart (pair x y) r ≡ true → IsUnused r y
+pub unused_from : (x y : Value) (r : List Value) → fits_apart (pair x y) r ≡ true → IsUnused r y
 unused_from x y [] e u m = absurd m
 unused_from x y (q ∷ r) e u m =
     let both = and_parts (not (is_eq (value_order (second (pair x y)) (second q)))) (fits_apart (pair x y) r) e in
@@ -64,7 +64,7 @@ not_eq Less f = refl
 not_eq Equal f = absurd (f refl)
 not_eq Greater f = refl
 
-unused_to : (a b : List Value) (x y : Value) (r : List Value) → IsBetween a b r → IsUnused r y → fits_apart (pair x y) r ≡ true
+pub unused_to : (a b : List Value) (x y : Value) (r : List Value) → IsBetween a b r → IsUnused r y → fits_apart (pair x y) r ≡ true
 unused_to a b x y [] h f = refl
 unused_to a b x y (q ∷ r) h f =
     let p = h q (inl refl) in
@@ -74,7 +74,7 @@ unused_to a b x y (q ∷ r) h f =
     f p.0 (inl (p.2 ∙ ap (pair p.0) (sym one)))))
     (unused_to a b x y r (λ z m. h z (inr m)) (λ u m. f u (inr m)))
 
-injective_more : (x y : Value) (r : List Value) → IsUnused r y → IsInjective r → IsInjective (pair x y ∷ r)
+pub injective_more : (x y : Value) (r : List Value) → IsUnused r y → IsInjective r → IsInjective (pair x y ∷ r)
 injective_more x y r unused h u v w m n = ⊎_elim
     (λ e. ⊎_elim
     (λ k. sym (pair_parts x y u w e).0 ∙ (pair_parts x y v w k).0)

@@ -33,7 +33,7 @@ pub record IsLaw (f : Value → List Value → Bool) (Law : List Value → Type 
   pub more : (x y : Value) (r : List Value) → IsFree r x → Law r → f (pair x y) r ≡ true → Law (pair x y ∷ r)
 
 module _ (b : List Value) (f : Value → List Value → Bool) (Law : List Value → Type 0) (law : IsLaw f Law) where
-  abbrev Goes : List Value → List Value → Type 0
+  abbrev pub Goes : List Value → List Value → Type 0
   Goes a r = IsAscending r × IsBetween a b r × Law r
 
   none : (r : List Value) → Goes [] r ↔ ([] ≡ r)
@@ -118,13 +118,13 @@ module _ (b : List Value) (f : Value → List Value → Bool) (Law : List Value 
 
   -- ---- total ones
 
-  abbrev GoesAll : List Value → List Value → Type 0
+  abbrev pub GoesAll : List Value → List Value → Type 0
   GoesAll a r = Goes a r × IsTotal a r
 
-  none_all : (r : List Value) → GoesAll [] r ↔ ([] ≡ r)
+  pub none_all : (r : List Value) → GoesAll [] r ↔ ([] ≡ r)
   none_all r = (λ h. (none r).0 h.0, λ e. ((none r).1 e, λ x m. absurd m))
 
-  all_to : (x : Value) (xs r : List Value) → IsAscending (x ∷ xs) → GoesAll (x ∷ xs) r → Takes f (pairs b x) (GoesAll xs) r
+  pub all_to : (x : Value) (xs r : List Value) → IsAscending (x ∷ xs) → GoesAll (x ∷ xs) r → Takes f (pairs b x) (GoesAll xs) r
   all_to x xs r g h = ⊎_elim
       (λ t.
       let y = from_member_map (pair x) b t.0 t.3 in (
@@ -146,7 +146,7 @@ module _ (b : List Value) (f : Value → List Value → Bool) (Law : List Value 
       (λ k. let v = h.1 x (inl refl) in absurd (free x xs r g k.1 v.0 v.1))
       (step_to x xs r g h.0)
 
-  all_from : (x : Value) (xs r : List Value) → IsAscending (x ∷ xs) → Takes f (pairs b x) (GoesAll xs) r → GoesAll (x ∷ xs) r
+  pub all_from : (x : Value) (xs r : List Value) → IsAscending (x ∷ xs) → Takes f (pairs b x) (GoesAll xs) r → GoesAll (x ∷ xs) r
   all_from x xs r g t =
       let y = from_member_map (pair x) b t.0 t.3 in (
         step_from x xs r g (inl (t.0, t.1, t.2, t.3, t.4.0, t.5)),

@@ -11,3 +11,4 @@ pub mod Families
 pub mod Counts
 pub mod Relations
 pub mod Tested
+pub mod Belonging

@@ -4,7 +4,7 @@ use Rattle.std.specs.Ordering.{is_lt}
 use Rattle.zf_value.specs.declared.value.Value.{Value, out-Value}
 use Rattle.zf_value.specs.declared.value.Value.TheOpen.{Value-F}
 use Rattle.zf_value.specs.Sets.{value_order, IsMember}
-use Rattle.zf_value.specs.Operations.{pair}
+use Rattle.zf_value.specs.Operations.{pair, IsBetween, IsFunctional, IsInjective}
 use Rattle.zf_families.specs.Selections.{fits_apart}
 
 -- a pair of members of the two sets
@@ -40,3 +40,11 @@ firsts_rise (z ∷ w ∷ r) = is_lt (value_order (first z) (first w)) && firsts_
 abbrev pub seconds_apart : List Value → Bool
 seconds_apart [] = true
 seconds_apart (z ∷ r) = fits_apart z r && seconds_apart r
+
+-- a function between two sets, by its pairs
+unfoldable pub IsFunctionFrom : List Value → List Value → List Value → Type 0
+IsFunctionFrom a b r = IsBetween a b r × IsFunctional r
+
+-- an injection between two sets, by its pairs
+unfoldable pub IsInjectionFrom : List Value → List Value → List Value → Type 0
+IsInjectionFrom a b r = IsBetween a b r × (IsFunctional r × IsInjective r)

@@ -1,10 +1,12 @@
 //! Relations and functions from a set to a set.
 ghost use Rattle.std.specs.Prelude.{◌≡◌, ◌∷◌, [], ◌↔◌, IsTrue, IfOk, map};
 ghost use Rattle.zf_value.specs.Operations.{pair, AreRelations, ArePartialFunctions, AreTotalFunctions};
-ghost use Rattle.zf_value.specs.Sets.{IsRegularSet, IsRegularOutcome};
+ghost use Rattle.zf_value.specs.Sets.{IsRegular, IsRegularSet, IsRegularOutcome};
+ghost use Rattle.zf_families.specs.Families.{IsRelation, IsPartialFunction, IsTotalFunction};
 ghost use Rattle.zf_families.specs.Selections.{whole, fits_any, pairs};
 
 use crate::count;
+use crate::members::{is_between, is_function, is_graph};
 use crate::rows::{Fits, one_row_of, pair, pair_layers, product, set_of_sets, single_layers, some_rows, whole_rows};
 use std::alloc::{AllocError, Global};
 use zf_value::SET_MAX;
@@ -37,6 +39,19 @@ pub fn are_relations_out(a: &[Value], b: &[Value]) -> bool
     count::power(2, pairs) > SET_MAX
 }
 
+/// Whether the value is a relation from a to b.
+pub fn is_relation(v: &Value, a: &[Value], b: &[Value]) -> bool
+    requires value { IsRegular v.now }
+    requires from { IsRegularSet a.now }
+    requires to { IsRegularSet b.now }
+    ensures { IsTrue result ↔ IsRelation a.now b.now v.now }
+{
+    match v {
+        Value::SetOf(r) => is_between(r.as_slice(), a, b),
+        _ => false,
+    }
+}
+
 /// `a \pfun b`.
 pub fn partial_functions(alloc: Global, a: &[Value], b: &[Value]) -> Result<Outcome, AllocError>
     requires from { IsRegularSet a.now }
@@ -61,6 +76,19 @@ pub fn are_partial_functions_out(a: &[Value], b: &[Value]) -> bool
     count::power(b.len() + 1, a.len()) > SET_MAX
 }
 
+/// Whether the value is a partial function from a to b.
+pub fn is_partial_function(v: &Value, a: &[Value], b: &[Value]) -> bool
+    requires value { IsRegular v.now }
+    requires from { IsRegularSet a.now }
+    requires to { IsRegularSet b.now }
+    ensures { IsTrue result ↔ IsPartialFunction a.now b.now v.now }
+{
+    match v {
+        Value::SetOf(r) => is_function(r.as_slice(), a, b),
+        _ => false,
+    }
+}
+
 /// `a \fun b`.
 pub fn total_functions(alloc: Global, a: &[Value], b: &[Value]) -> Result<Outcome, AllocError>
     requires from { IsRegularSet a.now }
@@ -82,6 +110,19 @@ pub fn are_total_functions_out(a: &[Value], b: &[Value]) -> bool
     ensures { IsTrue result ↔ AreTotalFunctions a.now b.now Outcome.Out }
 {
     count::power(b.len(), a.len()) > SET_MAX
+}
+
+/// Whether the value is a function from all of a to b.
+pub fn is_total_function(v: &Value, a: &[Value], b: &[Value]) -> bool
+    requires value { IsRegular v.now }
+    requires from { IsRegularSet a.now }
+    requires to { IsRegularSet b.now }
+    ensures { IsTrue result ↔ IsTotalFunction a.now b.now v.now }
+{
+    match v {
+        Value::SetOf(r) => is_graph(r.as_slice(), a, b),
+        _ => false,
+    }
 }
 
 /// The functions as rows of pairs. To one member there is one, which is not built pair by pair from shorter ones.

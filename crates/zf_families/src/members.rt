@@ -1,9 +1,9 @@
 //! What the members of a relation are, tested without building anything.
 ghost use Rattle.std.specs.Prelude.{◌≡◌, ◌↔◌, IsTrue};
 ghost use Rattle.zf_value.specs.Operations.{IsBetween};
-ghost use Rattle.zf_value.specs.Sets.{IsRegularSet};
+ghost use Rattle.zf_value.specs.Sets.{IsAscending, IsRegularSet};
 ghost use Rattle.zf_families.specs.Tests as tests;
-ghost use Rattle.zf_families.specs.Tests.{IsPairFrom, IsPairOn, IsGraph, firsts_rise, seconds_apart};
+ghost use Rattle.zf_families.specs.Tests.{IsPairFrom, IsPairOn, IsGraph, IsFunctionFrom, IsInjectionFrom, firsts_rise, seconds_apart};
 
 use crate::rows::is_apart;
 use zf_value::set::is_member;
@@ -61,7 +61,7 @@ fn is_pair_on(z: &Value, x: &Value, b: &[Value]) -> bool
 }
 
 /// Whether each of the pairs has a greater first than the one before it.
-pub fn do_firsts_rise(r: &[Value]) -> bool
+fn do_firsts_rise(r: &[Value]) -> bool
     ensures { result ≡ firsts_rise r.now }
 {
     for place in 1..r.len() {
@@ -95,4 +95,24 @@ pub fn are_seconds_apart(r: &[Value]) -> bool
         }
     }
     true
+}
+
+/// Whether the pairs are a function between the two sets.
+pub fn is_function(r: &[Value], a: &[Value], b: &[Value]) -> bool
+    requires pairs { IsAscending r.now }
+    requires from { IsRegularSet a.now }
+    requires to { IsRegularSet b.now }
+    ensures { IsTrue result ↔ IsFunctionFrom a.now b.now r.now }
+{
+    is_between(r, a, b) && do_firsts_rise(r)
+}
+
+/// Whether the pairs are an injection between the two sets.
+pub fn is_injection(r: &[Value], a: &[Value], b: &[Value]) -> bool
+    requires pairs { IsAscending r.now }
+    requires from { IsRegularSet a.now }
+    requires to { IsRegularSet b.now }
+    ensures { IsTrue result ↔ IsInjectionFrom a.now b.now r.now }
+{
+    is_function(r, a, b) && are_seconds_apart(r)
 }
