@@ -6,8 +6,8 @@ use Rattle.std.proofs.lemmas.Bool.{and_parts, and_from, false≢true, both_ways}
 use Rattle.zf_value.specs.declared.value.Value.{Value, SetOf}
 use Rattle.zf_value.specs.declared.value.Value.TheVariants.{outs-Tuple}
 use Rattle.zf_value.specs.contracts.value.ValueOrd.TheImpl.Laws.{total-law}
-use Rattle.zf_value.specs.Sets.{value_order, IsMember, Every, IsAscending, IsRegular, members}
-use Rattle.zf_value.specs.Operations.{pair, IsBetween, IsFunctional, IsInjective, IsTotal, IsRelationThat}
+use Rattle.zf_value.specs.Sets.{value_order, IsMember, Every, IsAscending, AreAmong, IsRegular, members}
+use Rattle.zf_value.specs.Operations.{pair, IsSubset, IsBetween, IsFunctional, IsInjective, IsTotal, IsRelationThat}
 use Rattle.zf_value.proofs.Exact.{exact}
 use Rattle.zf_value.proofs.Seen.{members-SetOf}
 use Rattle.zf_value.proofs.Regulars.{regular_set}
@@ -196,3 +196,12 @@ function_at a b r v t e h k = relation_at IsFunctional a b r v t e h k
 pub injection_at : (a b r : List Value) (v : Value) (t : Bool) → v ≡ SetOf r → IsRegular v → IsTrue t ↔ IsInjectionFrom a b r → IsTrue t ↔ IsRelationThat (λ r. IsFunctional r × IsInjective r) a b v
 unfolding IsInjectionFrom
 injection_at a b r v t e h k = relation_at (λ r. IsFunctional r × IsInjective r) a b r v t e h k
+
+pub subset_at : (a r : List Value) (v : Value) (t : Bool) → v ≡ SetOf r → IsRegular v → IsTrue t ↔ AreAmong r a → IsTrue t ↔ IsSubset a v
+subset_at a r v t e h k = (
+  λ g. (r, e, ascending_pairs v r e h, k.0 g),
+  λ p. k.1 (subst (λ s. AreAmong s a) (same_pairs p.0 r (sym p.1 ∙ e)) p.3),
+)
+
+pub no_subset : (a : List Value) (v : Value) → ((r : List Value) → v ≡ SetOf r → ⊥) → IsTrue false ↔ IsSubset a v
+no_subset a v h = (λ e. absurd (false≢true e), λ p. absurd (h p.0 p.1))

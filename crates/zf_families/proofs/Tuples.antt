@@ -1,5 +1,5 @@
 -- The tuples of a product are the rows that take a member of each set.
-use Rattle.std.proofs.Common.{◌≡◌, ◌⊎◌, ◌↔◌, ℕ, ◌+◌, min, ltb, length, Result, Bool, true, List, [], ◌∷◌, ◌++◌, map, refl, sym, ap, ◌∙◌, subst, inl, inr, ⊎_elim, Ordering, Less}
+use Rattle.std.proofs.Common.{◌≡◌, ◌⊎◌, ◌↔◌, ℕ, suc, ◌+◌, ◌<◌, min, ltb, length, get_or, Result, Bool, false, true, List, [], ◌∷◌, ◌++◌, map, refl, sym, ap, ◌∙◌, subst, inl, inr, ⊎_elim, Ordering, Less}
 use Rattle.std.specs.Prelude.{IsTrue}
 use Rattle.std.specs.Result.{IfOk}
 use Rattle.std.specs.declared.alloc.AllocError.{AllocError}
@@ -11,8 +11,12 @@ use Rattle.zf_value.specs.declared.value.Outcome.TheVariants.{Is, Out}
 use Rattle.zf_value.specs.declared.TheConstants.{SET_MAX}
 use Rattle.zf_value.proofs.Regulars.{regular_made, regular-Tuple, regular_set, regular_none, regular_member}
 use Rattle.zf_families.proofs.Counts.{sizes, length_whole}
-use Rattle.zf_value.specs.Sets.{IsMember, Every, IsAscending, members_at, members, IsRegular, AreRegular, IsRegularSet, IsRegularOutcome}
+use Rattle.zf_value.specs.Sets.{IsMember, Every, IsAscending, members_at, members, parts, IsRegular, AreRegular, IsRegularSet, IsRegularOutcome}
 use Rattle.zf_value.specs.Operations.{AreFrom, IsCross}
+use Rattle.zf_value.proofs.Seen.{parts-Tuple}
+use Rattle.zf_value.proofs.Among.{member_at}
+use Rattle.std.proofs.lemmas.Bool.{false≢true}
+use Rattle.zf_families.specs.Families.{IsTupleFrom}
 use Rattle.zf_families.specs.Selections.{whole, fits_any}
 use Rattle.zf_families.proofs.Lists.{Each, In, each_map}
 use Rattle.zf_families.proofs.InOrder.{ordered_whole}
@@ -90,3 +94,25 @@ cross_built sets h few rows e r k =
 pub cross_regular : (sets : List Value) → AreRegular sets → (r : Result Outcome AllocError) → IfOk r (IsCross sets) → IfOk r IsRegularOutcome
 unfolding IsCross
 cross_regular sets h r k = regular_made (λ z. (vs : List Value) × (z ≡ Tuple vs) × AreFrom vs sets) r (λ z p. subst IsRegular (sym p.1) (regular-Tuple p.0 (from_regular p.0 sets h p.2))) k
+
+-- ---- tests of tuples
+
+same_parts : (r s : List Value) → Tuple r ≡ Tuple s → r ≡ s
+same_parts r s e = sym (parts-Tuple r) ∙ ap parts e ∙ parts-Tuple s
+
+pub tuple_at : (sets r : List Value) (v : Value) (t : Bool) → v ≡ Tuple r → IsTrue t ↔ AreFrom r sets → IsTrue t ↔ IsTupleFrom sets v
+unfolding IsTupleFrom
+tuple_at sets r v t e k = (λ g. (r, e, k.0 g), λ p. k.1 (subst (λ s. AreFrom s sets) (same_parts p.0 r (sym p.1 ∙ e)) p.2))
+
+pub no_tuple : (sets : List Value) (v : Value) → ((r : List Value) → v ≡ Tuple r → ⊥) → IsTrue false ↔ IsTupleFrom sets v
+unfolding IsTupleFrom
+no_tuple sets v h = (λ e. absurd (false≢true e), λ p. absurd (h p.0 p.1))
+
+pub as_many : (vs sets : List Value) → AreFrom vs sets → length vs ≡ length sets
+as_many [] [] f = refl
+as_many [] (s ∷ sets) f = absurd f
+as_many (v ∷ vs) [] f = absurd f
+as_many (v ∷ vs) (s ∷ sets) f = ap suc (as_many vs sets f.1)
+
+pub regular_at : (sets : List Value) (i : ℕ) (s : Value) → AreRegular sets → s ≡ get_or sets i s → i < length sets → IsRegular s
+regular_at sets i s h e l = regular_member sets s h (member_at sets i s e l)

@@ -1,7 +1,8 @@
 //! Products.
 ghost use Rattle.std.specs.Prelude.{◌≡◌, ◌↔◌, IsTrue, IfOk, map};
-ghost use Rattle.zf_value.specs.Operations.{IsCross};
+ghost use Rattle.zf_value.specs.Operations.{IsCross, AreFrom};
 ghost use Rattle.zf_value.specs.Sets.{AreRegular, IsRegularOutcome, members};
+ghost use Rattle.zf_families.specs.Families.{IsTupleFrom};
 
 use crate::count;
 use crate::rows::{Fits, copied, set_of_tuples, whole_rows};
@@ -9,6 +10,7 @@ use std::alloc::{AllocError, Global};
 use zf_value::SET_MAX;
 use zf_value::items::Items;
 use zf_value::lent::Lent;
+use zf_value::set::is_member;
 use zf_value::value::{Outcome, Value};
 
 /// `s_1 \cross s_2 \cross ..`, of sets.
@@ -46,4 +48,31 @@ fn member_layers(alloc: Global, sets: &[Lent<'_>]) -> Result<Vec<Items<Value>>, 
         layers.push(copied(alloc, set.get().members())?)?;
     }
     Ok(layers)
+}
+
+/// Whether the value is a tuple of members of these sets.
+pub fn is_in_cross(v: &Value, sets: &[Lent<'_>]) -> bool
+    requires { AreRegular sets.now }
+    ensures { IsTrue result ↔ IsTupleFrom sets.now v.now }
+{
+    match v {
+        Value::Tuple(parts) => are_from(parts.as_slice(), sets),
+        _ => false,
+    }
+}
+
+/// Whether each is a member of the set at its place.
+fn are_from(parts: &[Value], sets: &[Lent<'_>]) -> bool
+    requires { AreRegular sets.now }
+    ensures { IsTrue result ↔ AreFrom parts.now sets.now }
+{
+    if parts.len() != sets.len() {
+        return false;
+    }
+    for place in 0..parts.len() {
+        if !is_member(&parts[place], sets[place].get().members()) {
+            return false;
+        }
+    }
+    true
 }
