@@ -12,3 +12,4 @@ pub mod Counts
 pub mod Relations
 pub mod Tested
 pub mod Belonging
+pub mod InjectionCounts
