@@ -11,6 +11,7 @@ use Rattle.zf_value.specs.contracts.value.ValueOrd.TheImpl.Laws.{total-law}
 use Rattle.zf_value.specs.Sets.{value_order, IsMember, Every, IsAscending}
 use Rattle.zf_value.specs.Operations.{pair}
 use Rattle.zf_families.specs.Selections.{extended, extensions, whole, some, fits_apart, pairs, second}
+use Rattle.zf_families.specs.Counts.{falling, chances}
 use Rattle.zf_families.proofs.FunctionLaws.{second-pair}
 use Rattle.zf_families.proofs.Comparisons.{every, every_at, below_rest}
 
@@ -138,16 +139,6 @@ ascending_others y (v ∷ b) h = elim (is_other y v) as (λ t. IsAscending (cond
 ]
 
 -- ---- counts
-
--- n, n - 1, .. as often as is said, multiplied
-abbrev pub falling : ℕ → ℕ → ℕ
-falling n zero = 1
-falling n (suc k) = n * falling (n - 1) k
-
--- how many injections go from some of so many to n
-abbrev pub chances : ℕ → ℕ → ℕ
-chances zero n = 1
-chances (suc k) n = chances k n + n * chances k (n - 1)
 
 length_fitting : (x : Value) (b : List Value) (rows : List (List Value)) (n : ℕ) → ((y : Value) → IsMember y b → length (filter (fits_apart (pair x y)) rows) ≡ n) → length (extensions fits_apart (pairs b x) rows) ≡ length b * n
 length_fitting x [] rows n h = grind arith

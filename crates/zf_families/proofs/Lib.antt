@@ -13,3 +13,4 @@ pub mod Relations
 pub mod Tested
 pub mod Belonging
 pub mod InjectionCounts
+pub mod Chances

@@ -1,5 +1,7 @@
 //! How many members a set has, counted no further than one more than a set may have.
-ghost use Rattle.std.specs.Prelude.{◌≡◌, ◌+◌, ◌*◌, ◌^◌, ◌≤◌, min};
+ghost use Rattle.std.specs.Prelude.{◌≡◌, ◌+◌, ◌*◌, ◌^◌, ◌<◌, ◌≤◌, min, length};
+ghost use Rattle.zf_families.specs.Counts as counts;
+ghost use Rattle.zf_families.specs.Counts.{stepped};
 
 use zf_value::SET_MAX;
 
@@ -19,4 +21,43 @@ pub fn power(base: usize, exponent: usize) -> usize
         count = product(count, base);
     }
     count
+}
+
+/// So many, one less, and so on, as often as is said, times each other.
+pub fn falling(from: usize, turns: usize) -> usize
+    ensures { result ≡ min (counts.falling from turns) (SET_MAX + 1) }
+{
+    let mut count = 1;
+    for turn in 0..turns {
+        count = product(count, from.saturating_sub(turn));
+    }
+    count
+}
+
+/// How far chances are counted: where both sides have so many, there are too many.
+const REACH: usize = 18;
+
+/// How many injections go from some of so many to so many others.
+pub fn chances(from: usize, to: usize) -> usize
+    ensures { result ≡ min (counts.chances from to) (SET_MAX + 1) }
+{
+    if from >= REACH && to >= REACH {
+        return SET_MAX + 1;
+    }
+    let mut reached = [1; REACH];
+    for _turn in 0..from {
+        step(&mut reached, to);
+    }
+    reached[0]
+}
+
+/// Of the chances to so many, one less, and so on, those from one more.
+fn step(reached: &mut [usize], to: usize)
+    requires { 0 < length reached.old }
+    ensures { reached.new ≡ stepped to reached.old }
+{
+    for used in 0..reached.len() - 1 {
+        let further = product(reached[used + 1], to.saturating_sub(used));
+        reached[used] = reached[used].saturating_add(further).min(SET_MAX + 1);
+    }
 }

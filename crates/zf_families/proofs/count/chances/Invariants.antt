@@ -1,0 +1,7 @@
+use Rattle.std.proofs.Common.{◌≡◌, ◌+◌, ◌-◌, ◌<◌, min, length, take, drop, ◌++◌}
+use Rattle.zf_value.specs.declared.TheConstants.{SET_MAX}
+use Rattle.zf_families.proofs.Chances.{AreChances}
+use Rattle.zf_families.proofs.count.chances.Given as goal
+
+abbrev pub invariant-loop-turn : goal.invariant-loop-turn
+invariant-loop-turn l = (length l.reached ≡ 18) × AreChances l._turn l.to l.reached
