@@ -16,14 +16,14 @@ use Rattle.zf_families.proofs.FunctionLaws.{second-pair}
 use Rattle.zf_families.proofs.Comparisons.{every, every_at, below_rest}
 
 -- two values are two
-abbrev is_other : Value → Value → Bool
+abbrev pub is_other : Value → Value → Bool
 is_other y v = not (is_eq (value_order y v))
 
 -- the members but y
 abbrev others : Value → List Value → List Value
 others y b = filter (is_other y) b
 
-seconds : (x y u v : Value) → not (is_eq (value_order (second (pair x y)) (second (pair u v)))) ≡ is_other y v
+pub seconds : (x y u v : Value) → not (is_eq (value_order (second (pair x y)) (second (pair u v)))) ≡ is_other y v
 seconds x y u v = ap (λ p. not (is_eq (value_order p (second (pair u v))))) (second-pair x y) ∙ ap (λ p. not (is_eq (value_order y p))) (second-pair u v)
 
 -- ---- filters
@@ -47,7 +47,7 @@ filter_map_agree p q g h (x ∷ xs) =
       | false ↦ filter_map_agree p q g h xs
     ]
 
-filter_map_none : {X Y : Type 0} (p : Y → Bool) (g : X → Y) → ((x : X) → p (g x) ≡ false) → (xs : List X) → filter p (map g xs) ≡ []
+pub filter_map_none : {X Y : Type 0} (p : Y → Bool) (g : X → Y) → ((x : X) → p (g x) ≡ false) → (xs : List X) → filter p (map g xs) ≡ []
 filter_map_none p g h [] = refl
 filter_map_none p g h (x ∷ xs) = ap (λ b. cond b (g x ∷ filter p (map g xs)) (filter p (map g xs))) (h x) ∙ filter_map_none p g h xs
 
@@ -95,7 +95,7 @@ module _ (x y : Value) where
 
 -- ---- how many others there are
 
-other_itself : (y : Value) → is_other y y ≡ false
+pub other_itself : (y : Value) → is_other y y ≡ false
 other_itself y = ap (λ o. not (is_eq o)) (tied_itself total-law y)
 
 other_less : (o : Ordering) → o ≡ Less → not (is_eq o) ≡ true

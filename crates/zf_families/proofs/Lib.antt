@@ -14,3 +14,4 @@ pub mod Tested
 pub mod Belonging
 pub mod InjectionCounts
 pub mod Chances
+pub mod Injections

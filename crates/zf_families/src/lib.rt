@@ -4,6 +4,7 @@
 mod count;
 pub mod cross;
 pub mod function;
+pub mod injection;
 mod members;
 pub mod power;
 mod rows;
