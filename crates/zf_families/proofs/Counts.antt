@@ -6,6 +6,7 @@ use Rattle.std.proofs.lemmas.List.{length-map, length-append, map_more}
 use Rattle.std.proofs.Math.Nat.{pow-zero, pow-succ', mul_assoc}
 use Rattle.zf_value.specs.declared.value.Value.{Value}
 use Rattle.zf_value.specs.Sets.{members}
+use Rattle.zf_families.specs.Counts.{sizes}
 use Rattle.zf_families.specs.Selections.{extended, extensions, whole, some, fits_any}
 
 -- counting on from a count that was cut gives what counting on and cutting gives
@@ -18,11 +19,6 @@ min_product m (suc n) c = ⊎_elim
       let b : c ≤ c * suc n = grind arith in
       ap (λ k. min (k * suc n) c) e ∙ omega (arith, a, b))
     (cases_lt m c)
-
--- how many rows take one item of each of so many layers
-abbrev pub sizes : (ℕ → ℕ) → List (List Value) → ℕ
-sizes more [] = 1
-sizes more (l ∷ ls) = more (length l) * sizes more ls
 
 length_kept : (rows : List (List Value)) → length (filter (λ r. true) rows) ≡ length rows
 length_kept [] = refl

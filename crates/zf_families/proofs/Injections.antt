@@ -1,5 +1,6 @@
 -- What the rows of injections are, and how many there are.
-use Rattle.std.proofs.Common.{◌≡◌, ◌⊎◌, ◌↔◌, ℕ, suc, ◌+◌, ◌<◌, ◌≤◌, Bool, true, false, not, cond, min, ltb, length, get_or, Result, List, [], ◌∷◌, ◌++◌, map, refl, sym, ap, ◌∙◌, arith}
+use Rattle.std.proofs.Common.{◌≡◌, ◌⊎◌, ◌↔◌, ℕ, zero, suc, ◌+◌, ◌-◌, ◌*◌, ◌<◌, ◌≤◌, Bool, true, false, not, cond, min, ltb, length, get_or, Result, List, [], ◌∷◌, ◌++◌, map, refl, sym, ap, ◌∙◌, arith}
+use Rattle.std.proofs.lemmas.List.{nil_from_length}
 use Rattle.std.specs.Prelude.{IsTrue}
 use Rattle.std.specs.Result.{IfOk}
 use Rattle.std.specs.List.{filter}
@@ -72,6 +73,15 @@ total_injections_built a b h k few rows e r g =
 pub total_injections_regular : (a b : List Value) → IsRegularSet a → IsRegularSet b → (r : Result Outcome AllocError) → IfOk r (AreTotalInjections a b) → IfOk r IsRegularOutcome
 unfolding AreTotalInjections
 total_injections_regular a b h k r g = regular_made (IsRelationThat (λ r. IsFunctional r × IsInjective r × IsTotal a r) a b) r (relation_regular (λ r. IsFunctional r × IsInjective r × IsTotal a r) a b h k) g
+
+falling_none : (n k : ℕ) → n < k → falling n k ≡ 0
+falling_none n zero h = absurd (omega arith)
+falling_none zero (suc k) h = grind arith
+falling_none (suc n) (suc k) h = let e : falling (suc n - 1) k ≡ 0 = falling_none (suc n - 1) k (omega arith) in ap (λ m. suc n * m) e ∙ grind arith
+
+-- from a larger set there is none
+pub no_injections : (a b : List Value) → IsRegularSet b → length b < length a → injection_rows a b ≡ []
+no_injections a b h l = nil_from_length (injection_rows a b) (length_injections a b h.ascending ∙ falling_none (length b) (length a) l)
 
 -- ---- to one member
 

@@ -1,5 +1,6 @@
 -- The tuples of a product are the rows that take a member of each set.
-use Rattle.std.proofs.Common.{◌≡◌, ◌⊎◌, ◌↔◌, ℕ, suc, ◌+◌, ◌<◌, min, ltb, length, get_or, Result, Bool, false, true, List, [], ◌∷◌, ◌++◌, map, refl, sym, ap, ◌∙◌, subst, inl, inr, ⊎_elim, Ordering, Less}
+use Rattle.std.proofs.Common.{◌≡◌, ◌⊎◌, ◌↔◌, ℕ, suc, ◌+◌, ◌<◌, min, ltb, length, get_or, Result, Bool, false, true, List, [], ◌∷◌, ◌++◌, map, refl, sym, ap, ◌∙◌, subst, inl, inr, ⊎_elim, Ordering, Less, arith}
+use Rattle.std.proofs.lemmas.List.{nil_from_length}
 use Rattle.std.specs.Prelude.{IsTrue}
 use Rattle.std.specs.Result.{IfOk}
 use Rattle.std.specs.declared.alloc.AllocError.{AllocError}
@@ -10,7 +11,8 @@ use Rattle.zf_value.specs.declared.value.Outcome.{Outcome}
 use Rattle.zf_value.specs.declared.value.Outcome.TheVariants.{Is, Out}
 use Rattle.zf_value.specs.declared.TheConstants.{SET_MAX}
 use Rattle.zf_value.proofs.Regulars.{regular_made, regular-Tuple, regular_set, regular_none, regular_member}
-use Rattle.zf_families.proofs.Counts.{sizes, length_whole}
+use Rattle.zf_families.specs.Counts.{sizes}
+use Rattle.zf_families.proofs.Counts.{length_whole}
 use Rattle.zf_value.specs.Sets.{IsMember, Every, IsAscending, members_at, members, parts, IsRegular, AreRegular, IsRegularSet, IsRegularOutcome}
 use Rattle.zf_value.specs.Operations.{AreFrom, IsCross}
 use Rattle.zf_value.proofs.Seen.{parts-Tuple}
@@ -94,6 +96,10 @@ cross_built sets h few rows e r k =
 pub cross_regular : (sets : List Value) → AreRegular sets → (r : Result Outcome AllocError) → IfOk r (IsCross sets) → IfOk r IsRegularOutcome
 unfolding IsCross
 cross_regular sets h r k = regular_made (λ z. (vs : List Value) × (z ≡ Tuple vs) × AreFrom vs sets) r (λ z p. subst IsRegular (sym p.1) (regular-Tuple p.0 (from_regular p.0 sets h p.2))) k
+
+-- where the product is empty there is no row
+pub no_tuples : (sets : List Value) (size c : ℕ) → size ≡ min (sizes (λ n. n) (map members sets)) (c + 1) → size ≡ 0 → whole fits_any (map members sets) ≡ []
+no_tuples sets size c e z = let l = length_whole (map members sets) in nil_from_length (whole fits_any (map members sets)) (omega (arith, e, z, l))
 
 -- ---- tests of tuples
 

@@ -1,6 +1,12 @@
--- How many injections there are, as numbers. No public clause rests on this file.
-use Rattle.std.specs.Prelude.{ℕ, zero, suc, ◌+◌, ◌-◌, ◌*◌, min, List, [], ◌∷◌}
+-- How many rows and injections there are. No public clause rests on this file.
+use Rattle.std.specs.Prelude.{ℕ, zero, suc, ◌+◌, ◌-◌, ◌*◌, min, List, [], ◌∷◌, length}
+use Rattle.zf_value.specs.declared.value.Value.{Value}
 use Rattle.zf_value.specs.declared.TheConstants.{SET_MAX}
+
+-- the sizes of these layers, each counted as is said, multiplied
+abbrev pub sizes : (ℕ → ℕ) → List (List Value) → ℕ
+sizes more [] = 1
+sizes more (l ∷ ls) = more (length l) * sizes more ls
 
 -- n, n - 1, .. as often as is said, multiplied
 abbrev pub falling : ℕ → ℕ → ℕ

@@ -3,7 +3,7 @@ ghost use Rattle.std.specs.Prelude.{◌≡◌, [], ◌∷◌, ◌↔◌, IsTrue,
 ghost use Rattle.zf_value.specs.Operations.{pair, ArePartialInjections, AreTotalInjections};
 ghost use Rattle.zf_value.specs.Sets.{IsRegular, IsRegularSet, IsRegularOutcome};
 ghost use Rattle.zf_families.specs.Families.{IsPartialInjection, IsTotalInjection};
-ghost use Rattle.zf_families.specs.Selections.{some, fits_apart, pairs};
+ghost use Rattle.zf_families.specs.Selections.{whole, some, fits_apart, pairs};
 
 use crate::count;
 use crate::members::{are_seconds_apart, is_graph, is_injection};
@@ -59,8 +59,7 @@ pub fn total_injections(alloc: Global, a: &[Value], b: &[Value]) -> Result<Outco
     if are_total_injections_out(a, b) {
         return Ok(Outcome::Out);
     }
-    let layers = pair_layers(alloc, a, b)?;
-    let rows = whole_rows(alloc, Fits::Apart, layers.as_slice())?;
+    let rows = total_rows(alloc, a, b)?;
     set_of_sets(alloc, rows)
 }
 
@@ -95,6 +94,18 @@ fn partial_rows(alloc: Global, a: &[Value], b: &[Value]) -> Result<Vec<Items<Val
     }
     let layers = pair_layers(alloc, a, b)?;
     some_rows(alloc, Fits::Apart, layers.as_slice())
+}
+
+/// The total injections as rows of pairs. From a larger set there are none, however many a part of it would make.
+fn total_rows(alloc: Global, a: &[Value], b: &[Value]) -> Result<Vec<Items<Value>>, AllocError>
+    requires { IsRegularSet b.now }
+    ensures { IfOk result (λ rows. rows.items ≡ whole fits_apart (map (pairs b.now) a.now)) }
+{
+    if a.len() > b.len() {
+        return Ok(Vec::new(alloc));
+    }
+    let layers = pair_layers(alloc, a, b)?;
+    whole_rows(alloc, Fits::Apart, layers.as_slice())
 }
 
 /// The empty row, and for each member the pair alone that takes it to the one value.

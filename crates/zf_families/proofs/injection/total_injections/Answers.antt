@@ -6,7 +6,7 @@ use Rattle.zf_families.proofs.injection.total_injections.Goals as goal
 
 pub returns-clause-is : goal.returns-clause-is
 returns-clause-is c =
-    let rows : c.in_ok-rows.rows.items ≡ injection_rows c.args.a.now c.args.b.now = cc (c.in_ok-rows.ensures, c.in_ok-layers.ensures, c.as_slice.ensures.value) in
+    let rows : c.in_ok-rows.rows.items ≡ injection_rows c.args.a.now c.args.b.now = cc (c.in_ok-rows.ensures) in
     total_injections_built c.args.a.now c.args.b.now c.requires.from c.requires.to (iff_false c.are_total_injections_out.ensures c.if-are_total_injections_out.false) c.in_ok-rows.rows.items rows c.set_of_sets.result c.set_of_sets.ensures
 
 pub returns-clause-regular : goal.returns-clause-regular
