@@ -1,5 +1,5 @@
 -- What the tests of pairs say of functions and injections.
-use Rattle.std.proofs.Common.{◌≡◌, ◌⊎◌, ◌↔◌, Bool, true, false, not, ◌&&◌, List, [], ◌∷◌, map, refl, sym, ap, ◌∙◌, subst, inl, inr, ⊎_elim, Ordering, Less, Equal, Greater}
+use Rattle.std.proofs.Common.{◌≡◌, ◌↔◌, Bool, true, false, List, [], ◌∷◌, refl, sym, ap, ◌∙◌, subst, inl, inr, ⊎_elim, Ordering, Less, Equal, Greater}
 use Rattle.std.specs.Prelude.{IsTrue}
 use Rattle.std.specs.Ordering.{is_lt, ordering_reverse}
 use Rattle.std.proofs.lemmas.Bool.{and_parts, and_from, false≢true, both_ways}
@@ -14,9 +14,8 @@ use Rattle.zf_value.proofs.Regulars.{regular_set}
 use Rattle.zf_families.specs.Selections.{fits_any, fits_apart, pairs}
 use Rattle.zf_families.specs.Tests.{IsPairOn, IsGraph, IsFunctionFrom, IsInjectionFrom, first_at, first, firsts_rise, seconds_apart}
 use Rattle.zf_families.proofs.Comparisons.{every_at, not_itself, not_both, below_rest, pair_parts, first_below, member_map}
-use Rattle.zf_families.proofs.Functions.{IsFree, Goes, GoesAll, none_all, all_to, all_from}
+use Rattle.zf_families.proofs.Functions.{GoesAll, none_all, all_to, all_from}
 use Rattle.zf_families.proofs.FunctionLaws.{functions, IsUnused, unused_from, unused_to, injective_more}
-use Rattle.zf_families.proofs.Chosen.{Takes}
 use Rattle.zf_families.proofs.Comparisons.{from_member_map}
 
 -- ---- firsts

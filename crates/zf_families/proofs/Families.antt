@@ -1,5 +1,5 @@
 -- What the rows of functions and injections are, and how many there are.
-use Rattle.std.proofs.Common.{◌≡◌, ◌⊎◌, ◌↔◌, ℕ, suc, ◌+◌, ◌^◌, ◌<◌, ◌≤◌, min, ltb, length, get_or, Result, List, [], ◌∷◌, ◌++◌, map, refl, sym, ap, ◌∙◌, arith}
+use Rattle.std.proofs.Common.{◌≡◌, ◌↔◌, ℕ, suc, ◌+◌, ◌^◌, ◌<◌, ◌≤◌, min, ltb, length, get_or, Result, List, [], ◌∷◌, map, refl, sym, ap, ◌∙◌, arith}
 use Rattle.std.specs.Prelude.{IsTrue}
 use Rattle.std.specs.Result.{IfOk}
 use Rattle.std.specs.declared.alloc.AllocError.{AllocError}
@@ -8,15 +8,15 @@ use Rattle.zf_value.specs.declared.value.Value.{Value, SetOf}
 use Rattle.zf_value.specs.declared.value.Outcome.{Outcome}
 use Rattle.zf_value.specs.declared.value.Outcome.TheVariants.{Is, Out}
 use Rattle.zf_value.specs.declared.TheConstants.{SET_MAX}
-use Rattle.zf_value.specs.Sets.{IsAscending, IsRegularSet, IsRegularOutcome}
-use Rattle.zf_value.specs.Operations.{pair, IsFunctional, IsInjective, IsTotal, IsRelationThat, ArePartialFunctions, AreTotalFunctions, ArePartialInjections, AreTotalInjections}
+use Rattle.zf_value.specs.Sets.{IsRegularSet, IsRegularOutcome}
+use Rattle.zf_value.specs.Operations.{pair, IsFunctional, IsTotal, IsRelationThat, ArePartialFunctions, AreTotalFunctions}
 use Rattle.zf_value.proofs.Regulars.{regular_made}
-use Rattle.zf_families.specs.Selections.{whole, some, fits_any, fits_apart, pairs}
-use Rattle.zf_families.proofs.Told.{Tells, out_by_size, built_result}
+use Rattle.zf_families.specs.Selections.{whole, some, fits_any, pairs}
+use Rattle.zf_families.proofs.Told.{out_by_size, built_result}
 use Rattle.zf_families.proofs.Counts.{length_some, length_whole, sizes_same}
 use Rattle.zf_families.proofs.Relations.{relation_regular}
 use Rattle.zf_families.proofs.Functions.{partial_told, total_told}
-use Rattle.zf_families.proofs.FunctionLaws.{functions, injections}
+use Rattle.zf_families.proofs.FunctionLaws.{functions}
 
 abbrev pub partial_rows : List Value → List Value → List (List Value)
 partial_rows a b = [] ∷ some fits_any (map (pairs b) a)

@@ -1,16 +1,14 @@
 -- The laws of functions and of injections, and which pairs fit.
-use Rattle.std.proofs.Common.{◌≡◌, ◌⊎◌, ◌↔◌, Bool, true, false, not, List, [], ◌∷◌, ◌++◌, map, refl, sym, ap, ◌∙◌, subst, inl, inr, ⊎_elim, get_or, zero, suc, Ordering, Less, Equal, Greater}
-use Rattle.std.specs.List.{list_all, flat_map}
+use Rattle.std.proofs.Common.{◌≡◌, true, not, List, [], ◌∷◌, refl, sym, ap, ◌∙◌, subst, inl, inr, ⊎_elim, Ordering, Less, Equal, Greater}
 use Rattle.std.specs.Ordering.{is_eq}
 use Rattle.std.proofs.lemmas.Bool.{and_parts, and_from, false≢true}
 use Rattle.std.proofs.lemmas.Cmp.{tied_itself}
-use Rattle.zf_value.specs.declared.value.Value.{Value, SetOf}
+use Rattle.zf_value.specs.declared.value.Value.{Value}
 use Rattle.zf_value.specs.declared.value.Value.TheVariants.{outs-Tuple}
 use Rattle.zf_value.specs.contracts.value.ValueOrd.TheImpl.Laws.{total-law}
-use Rattle.zf_value.specs.Sets.{value_order, IsMember, parts}
+use Rattle.zf_value.specs.Sets.{value_order, IsMember}
 use Rattle.zf_value.specs.Operations.{pair, Relates, IsBetween, IsFunctional, IsInjective}
 use Rattle.zf_value.proofs.Exact.{exact}
-use Rattle.zf_value.proofs.Seen.{parts-Tuple}
 use Rattle.zf_families.specs.Selections.{fits_any, fits_apart, second_at, second}
 use Rattle.zf_families.proofs.Comparisons.{pair_parts}
 use Rattle.zf_families.proofs.Functions.{IsFree, IsLaw}

@@ -1,21 +1,14 @@
 -- The functions from a set to a set are the rows that take pairs with ascending firsts.
-use Rattle.std.proofs.Common.{◌≡◌, ◌⊎◌, ◌↔◌, Bool, true, false, not, List, [], ◌∷◌, ◌++◌, map, refl, sym, ap, ◌∙◌, subst, inl, inr, ⊎_elim, Ordering, Less, Equal, Greater}
-use Rattle.std.specs.List.{list_all}
-use Rattle.std.specs.Ordering.{is_eq}
-use Rattle.std.proofs.lemmas.Bool.{and_parts, and_from, false≢true}
-use Rattle.std.proofs.lemmas.Cmp.{tied_itself}
+use Rattle.std.proofs.Common.{◌≡◌, ◌⊎◌, ◌↔◌, Bool, true, List, [], ◌∷◌, map, refl, sym, ap, ◌∙◌, subst, inl, inr, ⊎_elim, Less}
 use Rattle.zf_value.specs.declared.value.Value.{Value, SetOf}
-use Rattle.zf_value.specs.contracts.value.ValueOrd.TheImpl.Laws.{total-law}
-use Rattle.zf_value.specs.Sets.{value_order, IsMember, Every, IsAscending, parts}
-use Rattle.zf_value.specs.Operations.{pair, Relates, IsBetween, IsFunctional, IsInjective, IsTotal, IsRelationThat, IsInDomain}
-use Rattle.zf_value.proofs.Exact.{exact}
-use Rattle.zf_value.proofs.Seen.{parts-Tuple}
-use Rattle.zf_families.specs.Selections.{whole, some, fits_any, fits_apart, pairs, second}
-use Rattle.zf_families.proofs.Lists.{Each, In, each_map}
+use Rattle.zf_value.specs.Sets.{value_order, IsMember, Every, IsAscending}
+use Rattle.zf_value.specs.Operations.{pair, Relates, IsBetween, IsFunctional, IsTotal, IsRelationThat}
+use Rattle.zf_families.specs.Selections.{whole, some, pairs}
+use Rattle.zf_families.proofs.Lists.{Each, each_map}
 use Rattle.zf_families.proofs.InOrder.{IsLadder, ordered_some, ordered_whole}
 use Rattle.zf_families.proofs.Told.{Tells, set_order}
 use Rattle.zf_families.proofs.Chosen.{Takes, in_some, in_whole}
-use Rattle.zf_families.proofs.Comparisons.{every_at, every, every_map, member_map, from_member_map, not_itself, not_both, below_rest, pair_parts, first_below, pairs_ascending}
+use Rattle.zf_families.proofs.Comparisons.{every, every_map, member_map, from_member_map, not_itself, not_both, below_rest, pair_parts, first_below, pairs_ascending}
 
 rest : (x : Value) (xs : List Value) → IsAscending (x ∷ xs) → IsAscending xs
 rest x xs h = h.1

@@ -1,13 +1,13 @@
 -- The rows that are told are ascending, and are those that take their items of the layers.
-use Rattle.std.proofs.Common.{◌≡◌, ◌⊎◌, ◌↔◌, Bool, true, List, [], ◌∷◌, ◌++◌, map, length, refl, sym, ap, ◌∙◌, subst, inl, inr, ⊎_elim, Ordering, Less, Equal, Greater, arith}
-use Rattle.std.specs.List.{filter, flat_map}
+use Rattle.std.proofs.Common.{◌≡◌, Bool, List, [], ◌∷◌, refl, ap, ◌∙◌, Less}
+use Rattle.std.specs.List.{filter}
 use Rattle.std.specs.Ordering.{ordering_then}
 use Rattle.std.proofs.lemmas.Cmp.{tied_itself}
 use Rattle.zf_value.specs.declared.value.Value.{Value}
 use Rattle.zf_value.specs.contracts.value.ValueOrd.TheImpl.Laws.{total-law}
-use Rattle.zf_value.specs.Sets.{value_order, row_order, IsMember, Every, IsAscending}
+use Rattle.zf_value.specs.Sets.{value_order, row_order, Every, IsAscending}
 use Rattle.zf_families.specs.Selections.{extended, extensions, whole, some}
-use Rattle.zf_families.proofs.Lists.{Each, In, IsOrdered, each_append, each_filter, each_map, each_weaker, each_at, ordered_append, ordered_filter, ordered_map, in_left, in_right, in_either, in_map, in_from_map, in_filter, in_from_filter, in_flat_map, in_from_flat_map}
+use Rattle.zf_families.proofs.Lists.{Each, IsOrdered, each_append, each_map, each_weaker, ordered_append, ordered_filter, ordered_map}
 
 abbrev pub Below : List Value → List Value → Type 0
 Below r s = row_order r s ≡ Less

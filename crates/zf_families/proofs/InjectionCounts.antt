@@ -1,8 +1,7 @@
 -- How many injections there are.
-use Rattle.std.proofs.Common.{◌≡◌, ◌⊎◌, ℕ, zero, suc, ◌+◌, ◌-◌, ◌*◌, ◌^◌, ◌<◌, ◌≤◌, Bool, true, false, not, ◌&&◌, cond, min, length, List, [], ◌∷◌, ◌++◌, map, refl, sym, ap, ◌∙◌, subst, inl, inr, ⊎_elim, Ordering, Less, Equal, Greater, arith}
-use Rattle.std.specs.List.{filter, flat_map}
+use Rattle.std.proofs.Common.{◌≡◌, ℕ, suc, ◌+◌, ◌-◌, ◌*◌, Bool, true, false, not, ◌&&◌, cond, length, List, [], ◌∷◌, ◌++◌, map, refl, ap, ◌∙◌, subst, inl, inr, ⊎_elim, Ordering, Less, Equal, Greater, arith}
+use Rattle.std.specs.List.{filter}
 use Rattle.std.specs.Ordering.{is_eq, ordering_reverse}
-use Rattle.std.proofs.lemmas.Bool.{cases_lt, cases_Bool, false≢true}
 use Rattle.std.proofs.lemmas.Cmp.{tied_itself}
 use Rattle.std.proofs.lemmas.List.{length-map, length-append}
 use Rattle.std.proofs.lemmas.List.Elements.{filter-append}
@@ -13,7 +12,7 @@ use Rattle.zf_value.specs.Operations.{pair}
 use Rattle.zf_families.specs.Selections.{extended, extensions, whole, some, fits_apart, pairs, second}
 use Rattle.zf_families.specs.Counts.{falling, chances}
 use Rattle.zf_families.proofs.FunctionLaws.{second-pair}
-use Rattle.zf_families.proofs.Comparisons.{every, every_at, below_rest}
+use Rattle.zf_families.proofs.Comparisons.{below_rest}
 
 -- two values are two
 abbrev pub is_other : Value → Value → Bool

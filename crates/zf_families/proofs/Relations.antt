@@ -1,5 +1,5 @@
 -- The relations from a set to a set are the subsets of the product.
-use Rattle.std.proofs.Common.{◌≡◌, ◌⊎◌, ◌↔◌, ℕ, zero, suc, ◌+◌, ◌*◌, ◌^◌, ◌<◌, ◌≤◌, min, ltb, length, Result, List, [], ◌∷◌, ◌++◌, map, refl, sym, ap, ◌∙◌, subst, inl, inr, ⊎_elim, Ordering, Less, arith}
+use Rattle.std.proofs.Common.{◌≡◌, ◌⊎◌, ◌↔◌, ℕ, zero, suc, ◌+◌, ◌*◌, ◌^◌, ◌<◌, min, ltb, length, Result, List, [], ◌∷◌, ◌++◌, map, refl, sym, ap, ◌∙◌, subst, inl, inr, ⊎_elim, Less, arith}
 use Rattle.std.specs.Prelude.{IsTrue}
 use Rattle.std.specs.Result.{IfOk}
 use Rattle.std.specs.List.{flat_map}
@@ -12,13 +12,13 @@ use Rattle.zf_value.specs.declared.value.Outcome.{Outcome}
 use Rattle.zf_value.specs.declared.value.Outcome.TheVariants.{Is, Out}
 use Rattle.zf_value.specs.declared.TheConstants.{SET_MAX}
 use Rattle.zf_value.specs.Sets.{value_order, IsMember, Every, IsAscending, AreAmong, IsRegular, IsRegularSet, IsRegularOutcome}
-use Rattle.zf_value.specs.Operations.{pair, IsSubset, IsBetween, IsRelationThat, AreRelations}
+use Rattle.zf_value.specs.Operations.{pair, IsRelationThat, AreRelations}
 use Rattle.zf_value.proofs.Regulars.{regular_made, regular-SetOf, regular-pair, are_regular, regular_member}
 use Rattle.zf_families.specs.Selections.{some, fits_any, pairs, singles}
 use Rattle.zf_families.proofs.Told.{Tells, out_by_size, built_result}
 use Rattle.zf_families.proofs.Counts.{length_some, sizes_same}
 use Rattle.zf_families.proofs.Subsets.{power_told}
-use Rattle.zf_families.proofs.Comparisons.{every, every_at, member_map, from_member_map, below_rest, first_below, pairs_ascending}
+use Rattle.zf_families.proofs.Comparisons.{every, member_map, from_member_map, below_rest, first_below, pairs_ascending}
 
 abbrev pub product_of : List Value → List Value → List Value
 product_of a b = flat_map (pairs b) a

@@ -1,5 +1,5 @@
 -- The subsets of a set are the rows that take some of its members.
-use Rattle.std.proofs.Common.{◌≡◌, ◌⊎◌, ◌↔◌, ℕ, suc, ◌+◌, ◌^◌, min, ltb, length, Result, Bool, true, List, [], ◌∷◌, ◌++◌, map, refl, sym, ap, ◌∙◌, subst, inl, inr, ⊎_elim, Ordering, Less}
+use Rattle.std.proofs.Common.{◌≡◌, ◌⊎◌, ◌↔◌, ℕ, suc, ◌+◌, ◌^◌, min, ltb, length, Result, List, [], ◌∷◌, map, refl, sym, ◌∙◌, subst, inl, inr, ⊎_elim, Less}
 use Rattle.std.specs.Prelude.{IsTrue}
 use Rattle.std.specs.Result.{IfOk}
 use Rattle.std.specs.declared.alloc.AllocError.{AllocError}
@@ -9,14 +9,14 @@ use Rattle.zf_value.specs.declared.value.Outcome.TheVariants.{Is, Out}
 use Rattle.zf_value.specs.declared.TheConstants.{SET_MAX}
 use Rattle.zf_value.proofs.Regulars.{regular_made, regular-SetOf, are_regular, regular_member}
 use Rattle.zf_families.proofs.Counts.{length_some, sizes_same}
-use Rattle.zf_value.specs.Sets.{value_order, IsMember, Every, IsAscending, AreAmong, IsRegular, IsRegularSet, IsRegularOutcome}
+use Rattle.zf_value.specs.Sets.{value_order, Every, IsAscending, AreAmong, IsRegular, IsRegularSet, IsRegularOutcome}
 use Rattle.zf_value.specs.Operations.{IsSubset, IsPower}
 use Rattle.zf_families.specs.Selections.{some, fits_any, singles}
-use Rattle.zf_families.proofs.Lists.{Each, In, each_map}
+use Rattle.zf_families.proofs.Lists.{Each, each_map}
 use Rattle.zf_families.proofs.InOrder.{IsLadder, ordered_some}
 use Rattle.zf_families.proofs.Told.{Tells, set_order, out_by_size, built_result}
 use Rattle.zf_families.proofs.Chosen.{Takes, in_some}
-use Rattle.zf_families.proofs.Comparisons.{every_at, every, not_itself, not_both, below_rest}
+use Rattle.zf_families.proofs.Comparisons.{every, not_itself, not_both, below_rest}
 
 abbrev Chooses : List Value → List Value → Type 0
 Chooses a r = IsAscending r × AreAmong r a

@@ -1,5 +1,5 @@
 -- A test that a list of rows answers makes the set of these rows, or is out where they are too many.
-use Rattle.std.proofs.Common.{◌≡◌, ◌⊎◌, ◌↔◌, ℕ, zero, suc, ◌+◌, ◌≤◌, ltb, List, [], ◌∷◌, map, length, take, min, Result, refl, sym, ap, ◌∙◌, subst, inl, inr, ⊎_elim, Ordering, Less, arith}
+use Rattle.std.proofs.Common.{◌≡◌, ◌↔◌, ℕ, zero, suc, ◌+◌, ◌≤◌, ltb, List, [], ◌∷◌, map, length, take, min, Result, refl, sym, ap, ◌∙◌, subst, inl, inr, ⊎_elim, Less, arith}
 use Rattle.std.specs.Prelude.{IsTrue}
 use Rattle.std.specs.Result.{IfOk}
 use Rattle.std.specs.declared.alloc.AllocError.{AllocError}
@@ -15,9 +15,8 @@ use Rattle.zf_value.specs.declared.TheConstants.{SET_MAX}
 use Rattle.zf_value.specs.Order.{level_order}
 use Rattle.zf_value.specs.Sets.{value_order, row_order, IsMember, Every, IsAscending, IsSetOf}
 use Rattle.zf_value.proofs.Exact.{cmp_is}
-use Rattle.zf_value.proofs.Seen.{parts-Tuple, members-SetOf}
 use Rattle.zf_value.proofs.Once.{one_set}
-use Rattle.zf_families.proofs.Lists.{Each, In, IsOrdered, each_at, each_map, ordered_map, ordered_take, each_take, in_map, in_from_map}
+use Rattle.zf_families.proofs.Lists.{Each, In, IsOrdered, ordered_map, ordered_take, in_map, in_from_map}
 use Rattle.zf_families.proofs.InOrder.{Below}
 
 pub set_order : (r s : List Value) → value_order (SetOf r) (SetOf s) ≡ row_order r s

@@ -1,5 +1,5 @@
 -- The tuples of a product are the rows that take a member of each set.
-use Rattle.std.proofs.Common.{◌≡◌, ◌⊎◌, ◌↔◌, ℕ, suc, ◌+◌, ◌<◌, min, ltb, length, get_or, Result, Bool, false, true, List, [], ◌∷◌, ◌++◌, map, refl, sym, ap, ◌∙◌, subst, inl, inr, ⊎_elim, Ordering, Less, arith}
+use Rattle.std.proofs.Common.{◌≡◌, ◌↔◌, ℕ, suc, ◌+◌, ◌<◌, min, ltb, length, get_or, Result, Bool, false, List, [], ◌∷◌, map, refl, sym, ap, ◌∙◌, subst, arith}
 use Rattle.std.proofs.lemmas.List.{nil_from_length}
 use Rattle.std.specs.Prelude.{IsTrue}
 use Rattle.std.specs.Result.{IfOk}
@@ -13,14 +13,14 @@ use Rattle.zf_value.specs.declared.TheConstants.{SET_MAX}
 use Rattle.zf_value.proofs.Regulars.{regular_made, regular-Tuple, regular_set, regular_none, regular_member}
 use Rattle.zf_families.specs.Counts.{sizes}
 use Rattle.zf_families.proofs.Counts.{length_whole}
-use Rattle.zf_value.specs.Sets.{IsMember, Every, IsAscending, members_at, members, parts, IsRegular, AreRegular, IsRegularSet, IsRegularOutcome}
+use Rattle.zf_value.specs.Sets.{Every, IsAscending, members_at, members, parts, IsRegular, AreRegular, IsRegularSet, IsRegularOutcome}
 use Rattle.zf_value.specs.Operations.{AreFrom, IsCross}
 use Rattle.zf_value.proofs.Seen.{parts-Tuple}
 use Rattle.zf_value.proofs.Among.{member_at}
 use Rattle.std.proofs.lemmas.Bool.{false≢true}
 use Rattle.zf_families.specs.Families.{IsTupleFrom}
 use Rattle.zf_families.specs.Selections.{whole, fits_any}
-use Rattle.zf_families.proofs.Lists.{Each, In, each_map}
+use Rattle.zf_families.proofs.Lists.{Each, each_map}
 use Rattle.zf_families.proofs.InOrder.{ordered_whole}
 use Rattle.zf_families.proofs.Told.{Tells, tuple_order, out_by_size, built_result}
 use Rattle.zf_families.proofs.Chosen.{Takes, in_whole}

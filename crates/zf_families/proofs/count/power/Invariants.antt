@@ -1,4 +1,4 @@
-use Rattle.std.proofs.Common.{◌≡◌, ◌+◌, ◌^◌, ◌≤◌, true, [], ◌∷◌, ◌++◌, map, take, drop, length, min}
+use Rattle.std.proofs.Common.{◌≡◌, ◌+◌, ◌^◌, min}
 use Rattle.zf_value.specs.declared.TheConstants.{SET_MAX}
 use Rattle.zf_families.proofs.count.power.Given as goal
 

@@ -1,5 +1,4 @@
-use Rattle.std.proofs.Common.{◌≡◌, ◌+◌, ◌-◌, ◌<◌, min, length, take, drop, ◌++◌}
-use Rattle.zf_value.specs.declared.TheConstants.{SET_MAX}
+use Rattle.std.proofs.Common.{◌≡◌, ◌-◌, ◌<◌, length, take, drop, ◌++◌}
 use Rattle.zf_families.specs.Counts.{stepped}
 use Rattle.zf_families.proofs.count.step.Given as goal
 

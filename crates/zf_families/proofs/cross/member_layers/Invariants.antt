@@ -1,4 +1,4 @@
-use Rattle.std.proofs.Common.{◌≡◌, ◌+◌, map, take, drop, length, min}
+use Rattle.std.proofs.Common.{◌≡◌, map, take}
 use Rattle.zf_value.specs.Sets.{members}
 use Rattle.zf_families.proofs.cross.member_layers.Given as goal
 

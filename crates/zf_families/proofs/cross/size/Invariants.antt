@@ -1,4 +1,4 @@
-use Rattle.std.proofs.Common.{◌≡◌, ◌+◌, map, take, drop, length, min}
+use Rattle.std.proofs.Common.{◌≡◌, ◌+◌, map, take, min}
 use Rattle.zf_value.specs.Sets.{members}
 use Rattle.zf_value.specs.declared.TheConstants.{SET_MAX}
 use Rattle.zf_families.specs.Counts.{sizes}

@@ -1,4 +1,4 @@
-use Rattle.std.proofs.Common.{◌≡◌, sym, ap, ◌∙◌}
+use Rattle.std.proofs.Common.{sym, ap, ◌∙◌}
 use Rattle.zf_value.specs.declared.value.Value.{SetOf}
 use Rattle.zf_value.specs.Operations.{IsFunctional, IsTotal}
 use Rattle.zf_families.specs.Families.{IsTotalFunction}

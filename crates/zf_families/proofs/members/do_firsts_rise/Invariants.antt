@@ -1,4 +1,4 @@
-use Rattle.std.proofs.Common.{◌≡◌, ◌↔◌, ◌-◌, take, drop, length}
+use Rattle.std.proofs.Common.{◌≡◌, ◌-◌, drop}
 use Rattle.zf_families.specs.Tests.{firsts_rise}
 use Rattle.zf_families.proofs.members.do_firsts_rise.Given as goal
 

@@ -1,4 +1,4 @@
-use Rattle.std.proofs.Common.{◌≡◌, ◌↔◌, ◌-◌, take, drop, length}
+use Rattle.std.proofs.Common.{◌↔◌, drop}
 use Rattle.zf_families.specs.Tests.{IsGraph}
 use Rattle.zf_families.proofs.members.is_graph.Given as goal
 

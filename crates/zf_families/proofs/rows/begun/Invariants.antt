@@ -1,4 +1,4 @@
-use Rattle.std.proofs.Common.{◌≡◌, ◌+◌, ◌^◌, ◌≤◌, true, [], ◌∷◌, ◌++◌, map, take, drop, length, min}
+use Rattle.std.proofs.Common.{◌≡◌, ◌∷◌, take}
 use Rattle.zf_families.proofs.rows.begun.Given as goal
 
 abbrev pub invariant-loop-q : goal.invariant-loop-q

@@ -1,4 +1,4 @@
-use Rattle.std.proofs.Common.{◌≡◌, ◌+◌, map, take, drop, length, min}
+use Rattle.std.proofs.Common.{◌≡◌, take}
 use Rattle.zf_families.proofs.rows.copied.Given as goal
 
 abbrev pub invariant-loop-value : goal.invariant-loop-value

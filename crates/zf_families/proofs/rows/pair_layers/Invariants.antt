@@ -1,5 +1,5 @@
-use Rattle.std.proofs.Common.{◌≡◌, ◌+◌, ◌^◌, ◌≤◌, true, [], ◌∷◌, ◌++◌, map, take, drop, length, min}
-use Rattle.zf_families.specs.Selections.{fitting, extended, extensions, whole, some, singles, pairs, fits_apart}
+use Rattle.std.proofs.Common.{◌≡◌, map, take}
+use Rattle.zf_families.specs.Selections.{pairs}
 use Rattle.zf_families.proofs.rows.pair_layers.Given as goal
 
 abbrev pub invariant-loop-x : goal.invariant-loop-x

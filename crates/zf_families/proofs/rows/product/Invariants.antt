@@ -1,5 +1,5 @@
-use Rattle.std.proofs.Common.{◌≡◌, ◌+◌, ◌^◌, ◌≤◌, true, [], ◌∷◌, ◌++◌, map, take, drop, length, min}
-use Rattle.zf_families.specs.Selections.{fitting, extended, extensions, whole, some, singles, pairs, fits_apart}
+use Rattle.std.proofs.Common.{◌≡◌, take}
+use Rattle.zf_families.specs.Selections.{pairs}
 use Rattle.std.specs.List.{flat_map}
 use Rattle.zf_families.proofs.rows.product.Given as goal
 

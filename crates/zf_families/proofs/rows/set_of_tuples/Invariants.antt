@@ -1,4 +1,4 @@
-use Rattle.std.proofs.Common.{◌≡◌, ◌+◌, ◌^◌, ◌≤◌, true, [], ◌∷◌, ◌++◌, map, take, drop, length, min}
+use Rattle.std.proofs.Common.{◌≡◌, ◌++◌, map}
 use Rattle.std.specs.Vec.Iter.{into_iter_items}
 use Rattle.zf_value.specs.declared.value.Value.{Tuple}
 use Rattle.zf_families.proofs.rows.set_of_tuples.Given as goal

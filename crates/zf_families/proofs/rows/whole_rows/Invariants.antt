@@ -1,5 +1,5 @@
-use Rattle.std.proofs.Common.{◌≡◌, ◌+◌, ◌^◌, ◌≤◌, true, [], ◌∷◌, ◌++◌, map, take, drop, length, min}
-use Rattle.zf_families.specs.Selections.{fitting, extended, extensions, whole, some, singles, pairs, fits_apart}
+use Rattle.std.proofs.Common.{◌≡◌, ◌≤◌, drop, length}
+use Rattle.zf_families.specs.Selections.{fitting, whole}
 use Rattle.zf_families.proofs.rows.whole_rows.Given as goal
 
 abbrev pub invariant-loop-place : goal.invariant-loop-place
