@@ -11,9 +11,10 @@ use Rattle.zf_value.specs.Operations.{pair, IsSubset, IsBetween, IsFunctional, I
 use Rattle.zf_value.proofs.Exact.{exact}
 use Rattle.zf_value.proofs.Seen.{members-SetOf}
 use Rattle.zf_value.proofs.Regulars.{regular_set}
+use Rattle.zf_value.proofs.Among.{every_at, not_below_itself}
 use Rattle.zf_families.specs.Selections.{fits_any, fits_apart, pairs}
 use Rattle.zf_families.specs.Tests.{IsPairOn, IsGraph, IsFunctionFrom, IsInjectionFrom, first_at, first, firsts_rise, seconds_apart}
-use Rattle.zf_families.proofs.Comparisons.{every_at, not_itself, not_both, below_rest, pair_parts, first_below, member_map}
+use Rattle.zf_families.proofs.Comparisons.{not_both, below_rest, pair_parts, first_below, member_map}
 use Rattle.zf_families.proofs.Functions.{GoesAll, none_all, all_to, all_from}
 use Rattle.zf_families.proofs.FunctionLaws.{functions, IsUnused, unused_from, unused_to, injective_more}
 use Rattle.zf_families.proofs.Comparisons.{from_member_map}
@@ -48,7 +49,7 @@ functional_from [] h u v w m n = absurd m
 functional_from (z ∷ r) h u v w m n =
     let low = lower z r h in
     let same : (y : Value) → z ≡ pair u y → (t : Value) → IsMember (pair u t) r → ⊥ = λ y e t k.
-      not_itself u (subst (λ p. value_order p u ≡ Less) (ap first e ∙ first-pair u y) (subst (λ p. value_order (first z) p ≡ Less) (first-pair u t) (every_at (λ p. value_order (first z) (first p) ≡ Less) r (pair u t) low k))) in
+      not_below_itself u (subst (λ p. value_order p u ≡ Less) (ap first e ∙ first-pair u y) (subst (λ p. value_order (first z) p ≡ Less) (first-pair u t) (every_at (λ p. value_order (first z) (first p) ≡ Less) r (pair u t) low k))) in
     ⊎_elim
     (λ e. ⊎_elim (λ k. (pair_parts u v u w (sym e ∙ k)).1) (λ k. absurd (same v e w k)) n)
     (λ l. ⊎_elim (λ k. absurd (same w k v l)) (λ k. functional_from r (rise_rest z r h) u v w l k) n)
@@ -75,7 +76,7 @@ functional_to a b (z ∷ w ∷ r) h k f =
         let x : p.0 ≡ q.0 = exact p.0 q.0 e in
         let there : IsMember (pair p.0 q.1) (z ∷ w ∷ r) = inr (inl (q.2 ∙ ap (λ u. pair u q.1) (sym x))) in
         let y : p.1 ≡ q.1 = f p.0 p.1 q.1 (inl p.2) there in
-        not_itself z (subst (λ u. value_order z u ≡ Less) (q.2 ∙ ap (λ u. pair u q.1) (sym x) ∙ ap (pair p.0) (sym y) ∙ sym p.2) low))
+        not_below_itself z (subst (λ u. value_order z u ≡ Less) (q.2 ∙ ap (λ u. pair u q.1) (sym x) ∙ ap (pair p.0) (sym y) ∙ sym p.2) low))
       (λ e.
         let up : value_order q.0 p.0 ≡ Less = total-law.antisymm q.0 p.0 ∙ ap ordering_reverse e in
         not_both z w low (subst (λ u. value_order u z ≡ Less) (sym q.2) (subst (λ u. value_order (pair q.0 q.1) u ≡ Less) (sym p.2) (first_below q.0 q.1 p.0 p.1 up)))))
@@ -102,7 +103,7 @@ apart_to a b (z ∷ r) h k f =
     let p = k z (inl refl) in
     let unused : IsUnused r p.1 = λ u m.
       let same : u ≡ p.0 = f u p.0 p.1 (inr m) (inl p.2) in
-      not_itself z (subst (λ w. value_order z w ≡ Less) (ap (λ w. pair w p.1) same ∙ sym p.2) (below_rest z r (pair u p.1) h m)) in
+      not_below_itself z (subst (λ w. value_order z w ≡ Less) (ap (λ w. pair w p.1) same ∙ sym p.2) (below_rest z r (pair u p.1) h m)) in
     and_from (fits_apart z r) (seconds_apart r)
     (subst (λ u. fits_apart u r ≡ true) (sym p.2) (unused_to a b p.0 p.1 r (tail_between a b z r k) unused))
     (apart_to a b r h.1 (tail_between a b z r k) (λ u v w m n. f u v w (inr m) (inr n)))

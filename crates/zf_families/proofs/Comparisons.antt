@@ -8,15 +8,8 @@ use Rattle.zf_value.specs.Sets.{value_order, row_order, IsMember, Every, IsAscen
 use Rattle.zf_value.specs.Operations.{pair}
 use Rattle.zf_value.proofs.Seen.{parts-Tuple}
 use Rattle.zf_value.specs.Sets.{parts}
+use Rattle.zf_value.proofs.Among.{every_from, every_at, not_below_itself}
 use Rattle.zf_families.proofs.Told.{tuple_order}
-
-pub every_at : (P : Value → Type 0) (xs : List Value) (z : Value) → Every P xs → IsMember z xs → P z
-every_at P [] z h m = absurd m
-every_at P (x ∷ xs) z h m = ⊎_elim (λ s. subst P s h.0) (λ n. every_at P xs z h.1 n) m
-
-pub every : (P : Value → Type 0) (xs : List Value) → ((z : Value) → IsMember z xs → P z) → Every P xs
-every P [] h = tt
-every P (x ∷ xs) h = (h x (inl refl), every P xs (λ z m. h z (inr m)))
 
 pub every_map : (P : Value → Type 0) (f : Value → Value) (xs : List Value) → Every (λ x. P (f x)) xs → Every P (map f xs)
 every_map P f [] h = tt
@@ -30,9 +23,6 @@ pub from_member_map : (f : Value → Value) (xs : List Value) (z : Value) → Is
 from_member_map f [] z m = absurd m
 from_member_map f (y ∷ xs) z m = ⊎_elim (λ s. (y, s, inl refl)) (λ n. let q = from_member_map f xs z n in (q.0, q.1, inr q.2)) m
 
-pub not_itself : (x : Value) → value_order x x ≡ Less → ⊥
-not_itself x e = let t = tied_itself total-law x in (cc)
-
 pub not_both : (x y : Value) → value_order x y ≡ Less → value_order y x ≡ Less → ⊥
 not_both x y e f = let r = total-law.antisymm x y ∙ ap ordering_reverse f in (cc)
 
@@ -41,7 +31,7 @@ pub below_rest : (x : Value) (xs : List Value) (z : Value) → IsAscending (x �
 below_rest x xs z h m = every_at (λ y. value_order x y ≡ Less) xs z h.0 m
 
 pub not_in_rest : (x : Value) (xs : List Value) → IsAscending (x ∷ xs) → IsMember x xs → ⊥
-not_in_rest x xs h m = not_itself x (below_rest x xs x h m)
+not_in_rest x xs h m = not_below_itself x (below_rest x xs x h m)
 
 -- ---- pairs
 
@@ -61,6 +51,6 @@ second_below x y v h =
 pub pairs_ascending : (x : Value) (b : List Value) → IsAscending b → IsAscending (map (pair x) b)
 pairs_ascending x [] h = tt
 pairs_ascending x (y ∷ b) h = (
-  every_map (λ z. value_order (pair x y) z ≡ Less) (pair x) b (every (λ v. value_order (pair x y) (pair x v) ≡ Less) b (λ v m. second_below x y v (below_rest y b v h m))),
+  every_map (λ z. value_order (pair x y) z ≡ Less) (pair x) b (every_from (λ v. value_order (pair x y) (pair x v) ≡ Less) b (λ v m. second_below x y v (below_rest y b v h m))),
   pairs_ascending x b h.1,
 )

@@ -3,12 +3,13 @@ use Rattle.std.proofs.Common.{◌≡◌, ◌⊎◌, ◌↔◌, Bool, true, List,
 use Rattle.zf_value.specs.declared.value.Value.{Value, SetOf}
 use Rattle.zf_value.specs.Sets.{value_order, IsMember, Every, IsAscending}
 use Rattle.zf_value.specs.Operations.{pair, Relates, IsBetween, IsFunctional, IsTotal, IsRelationThat}
+use Rattle.zf_value.proofs.Among.{every_from, not_below_itself}
 use Rattle.zf_families.specs.Selections.{whole, some, pairs}
 use Rattle.zf_families.proofs.Lists.{Each, each_map}
 use Rattle.zf_families.proofs.InOrder.{IsLadder, ordered_some, ordered_whole}
 use Rattle.zf_families.proofs.Told.{Tells, set_order}
 use Rattle.zf_families.proofs.Chosen.{Takes, in_some, in_whole}
-use Rattle.zf_families.proofs.Comparisons.{every, every_map, member_map, from_member_map, not_itself, not_both, below_rest, pair_parts, first_below, pairs_ascending}
+use Rattle.zf_families.proofs.Comparisons.{every_map, member_map, from_member_map, not_both, below_rest, pair_parts, first_below, pairs_ascending}
 
 rest : (x : Value) (xs : List Value) → IsAscending (x ∷ xs) → IsAscending xs
 rest x xs h = h.1
@@ -35,7 +36,7 @@ module _ (b : List Value) (f : Value → List Value → Bool) (Law : List Value 
 
   -- where all pairs of r come from xs, all of which are above x, nothing is related to x
   free : (x : Value) (xs r : List Value) → IsAscending (x ∷ xs) → IsBetween xs b r → IsFree r x
-  free x xs r g h y m = let q = h (pair x y) m in not_itself x (below_rest x xs x g (subst (λ u. IsMember u xs) (sym (pair_parts x y q.0 q.1 q.2).0) q.3))
+  free x xs r g h y m = let q = h (pair x y) m in not_below_itself x (below_rest x xs x g (subst (λ u. IsMember u xs) (sym (pair_parts x y q.0 q.1 q.2).0) q.3))
 
   first_case : (x : Value) (xs : List Value) (y : Value) (s : List Value) → IsAscending (x ∷ xs) → IsMember y b → Goes (x ∷ xs) (pair x y ∷ s) → Takes f (pairs b x) (Goes xs) (pair x y ∷ s)
   first_case x xs y s g m h =
@@ -48,7 +49,7 @@ module _ (b : List Value) (f : Value → List Value → Bool) (Law : List Value 
             (λ e.
             let there : IsMember (pair x q.1) (pair x y ∷ s) = inr (subst (λ u. IsMember u s) (q.2 ∙ ap (λ u. pair u q.1) (sym e)) n) in
             let same : y ≡ q.1 = law.functional (pair x y ∷ s) h.2 x y q.1 (inl refl) there in
-            absurd (not_itself z (subst (λ u. value_order u z ≡ Less) (ap (pair x) same ∙ ap (λ u. pair u q.1) e ∙ sym q.2) (below_rest (pair x y) s z h.0 n))))
+            absurd (not_below_itself z (subst (λ u. value_order u z ≡ Less) (ap (pair x) same ∙ ap (λ u. pair u q.1) e ∙ sym q.2) (below_rest (pair x y) s z h.0 n))))
             (λ k. k) q.3,
         q.4,
       ) in
@@ -68,7 +69,7 @@ module _ (b : List Value) (f : Value → List Value → Bool) (Law : List Value 
                   (λ e.
                   let under : value_order z (pair p y) ≡ Less = subst (λ u. value_order u (pair p y) ≡ Less) (ap (λ u. pair u q.1) e ∙ sym q.2) (first_below x q.1 p y low) in
                   absurd (⊎_elim
-                  (λ k. not_itself z (subst (λ u. value_order z u ≡ Less) k under))
+                  (λ k. not_below_itself z (subst (λ u. value_order z u ≡ Less) k under))
                   (λ k. not_both z (pair p y) under (below_rest (pair p y) s z h.0 k))
                   n))
                   (λ k. k) q.3,
@@ -100,7 +101,7 @@ module _ (b : List Value) (f : Value → List Value → Bool) (Law : List Value 
       let fits : f (pair x y.0) s ≡ true = subst (λ u. f u s ≡ true) (sym y.1) t.5 in
       subst (Goes (x ∷ xs)) (ap (λ u. u ∷ s) y.1 ∙ t.2) (
         (
-          every (λ z. value_order (pair x y.0) z ≡ Less) s (λ z m.
+          every_from (λ z. value_order (pair x y.0) z ≡ Less) s (λ z m.
               let q = t.4.1 z m in
               subst (λ u. value_order (pair x y.0) u ≡ Less) (sym q.2) (first_below x y.0 q.0 q.1 (below_rest x xs q.0 g q.3))),
           t.4.0,
@@ -131,7 +132,7 @@ module _ (b : List Value) (f : Value → List Value → Bool) (Law : List Value 
               let v = h.1 u (inr m) in
               let there : IsMember (pair u v.0) (t.0 ∷ t.1) = subst (IsMember (pair u v.0)) (sym t.2) v.1 in
               ⊎_elim
-              (λ e. absurd (not_itself x (subst (λ w. value_order x w ≡ Less) (sym (pair_parts x y.0 u v.0 (y.1 ∙ e)).0) (below_rest x xs u g m))))
+              (λ e. absurd (not_below_itself x (subst (λ w. value_order x w ≡ Less) (sym (pair_parts x y.0 u v.0 (y.1 ∙ e)).0) (below_rest x xs u g m))))
               (λ n. (v.0, n)) there,
         ),
         t.5,
@@ -155,13 +156,13 @@ module _ (b : List Value) (f : Value → List Value → Bool) (Law : List Value 
     where
       lift : (us : List Value) → Every (λ u. value_order x u ≡ Less) us → Each (λ u. Every (λ q. value_order (pair x y) q ≡ Less) (pairs b u)) us
       lift [] k = tt
-      lift (u ∷ us) k = (every_map (λ q. value_order (pair x y) q ≡ Less) (pair u) b (every (λ v. value_order (pair x y) (pair u v) ≡ Less) b (λ v m. first_below x y u v k.0)), lift us k.1)
+      lift (u ∷ us) k = (every_map (λ q. value_order (pair x y) q ≡ Less) (pair u) b (every_from (λ v. value_order (pair x y) (pair u v) ≡ Less) b (λ v m. first_below x y u v k.0)), lift us k.1)
 
   ladder : (a : List Value) → IsAscending a → IsAscending b → IsLadder (map (pairs b) a)
   ladder [] h k = tt
   ladder (x ∷ a) h k = (
     pairs_ascending x b k,
-    every_map (λ p. Each (Every (λ q. value_order p q ≡ Less)) (map (pairs b) a)) (pair x) b (every (λ y. Each (Every (λ q. value_order (pair x y) q ≡ Less)) (map (pairs b) a)) b (λ y m. above x a h.0 y)),
+    every_map (λ p. Each (Every (λ q. value_order p q ≡ Less)) (map (pairs b) a)) (pair x) b (every_from (λ y. Each (Every (λ q. value_order (pair x y) q ≡ Less)) (map (pairs b) a)) b (λ y m. above x a h.0 y)),
     ladder a h.1 k,
   )
 

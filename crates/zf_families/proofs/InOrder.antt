@@ -6,6 +6,7 @@ use Rattle.std.proofs.lemmas.Cmp.{tied_itself}
 use Rattle.zf_value.specs.declared.value.Value.{Value}
 use Rattle.zf_value.specs.contracts.value.ValueOrd.TheImpl.Laws.{total-law}
 use Rattle.zf_value.specs.Sets.{value_order, row_order, Every, IsAscending}
+use Rattle.zf_value.proofs.Among.{every_also}
 use Rattle.zf_families.specs.Selections.{extended, extensions, whole, some}
 use Rattle.zf_families.proofs.Lists.{Each, IsOrdered, each_append, each_map, each_weaker, ordered_append, ordered_filter, ordered_map}
 
@@ -34,10 +35,6 @@ pub each_some : (P : List Value → Type 0) (f : Value → List Value → Bool) 
 each_some P f [] h = tt
 each_some P f (l ∷ ls) h = each_append P (extensions f l ([] ∷ some f ls)) (some f ls) (each_extension P f ([] ∷ some f ls) l h.0) (each_some P f ls h.1)
 
-every_weaker : (P Q : Value → Type 0) (xs : List Value) → ((x : Value) → P x → Q x) → Every P xs → Every Q xs
-every_weaker P Q [] f h = tt
-every_weaker P Q (x ∷ xs) f h = (f x h.0, every_weaker P Q xs f h.1)
-
 -- ---- order
 
 ordered_extended : (f : Value → List Value → Bool) (rows : List (List Value)) (p : Value) → IsOrdered Below rows → IsOrdered Below (extended f rows p)
@@ -48,7 +45,7 @@ ordered_extensions f rows [] a h = tt
 ordered_extensions f rows (p ∷ layer) a h =
     ordered_append Below (extended f rows p) (extensions f layer rows) (ordered_extended f rows p h) (ordered_extensions f rows layer a.1 h)
     (each_extended (λ x. Each (Below x) (extensions f layer rows)) f rows p
-    (λ r. each_extension (Below (p ∷ r)) f rows layer (every_weaker (λ q. value_order p q ≡ Less) (λ q. (s : List Value) → Below (p ∷ r) (q ∷ s)) layer (λ q l s. below_first p q r s l) a.0)))
+    (λ r. each_extension (Below (p ∷ r)) f rows layer (every_also (λ q. value_order p q ≡ Less) (λ q. (s : List Value) → Below (p ∷ r) (q ∷ s)) layer (λ q l s. below_first p q r s l) a.0)))
 
 pub ordered_whole : (f : Value → List Value → Bool) (layers : List (List Value)) → Each IsAscending layers → IsOrdered Below (whole f layers)
 ordered_whole f [] h = (tt, tt)
@@ -79,7 +76,7 @@ ordered_some f layers h = (first layers, rest layers h)
         ordered_append Below (extensions f l ([] ∷ some f ls)) (some f ls)
         (ordered_extensions f ([] ∷ some f ls) l g.0 (first ls, rest ls g.2)) (rest ls g.2)
         (each_extension (λ x. Each (Below x) (some f ls)) f ([] ∷ some f ls) l
-        (every_weaker (λ p. Each (Every (λ q. value_order p q ≡ Less)) ls) (λ p. (r : List Value) → Each (Below (p ∷ r)) (some f ls)) l
+        (every_also (λ p. Each (Every (λ q. value_order p q ≡ Less)) ls) (λ p. (r : List Value) → Each (Below (p ∷ r)) (some f ls)) l
         (λ p b r. each_some (Below (p ∷ r)) f ls (each_weaker (Every (λ q. value_order p q ≡ Less)) (Every (λ q. (s : List Value) → Below (p ∷ r) (q ∷ s))) ls
-        (λ ys. every_weaker (λ q. value_order p q ≡ Less) (λ q. (s : List Value) → Below (p ∷ r) (q ∷ s)) ys (λ q e s. below_first p q r s e)) b))
+        (λ ys. every_also (λ q. value_order p q ≡ Less) (λ q. (s : List Value) → Below (p ∷ r) (q ∷ s)) ys (λ q e s. below_first p q r s e)) b))
         g.1))

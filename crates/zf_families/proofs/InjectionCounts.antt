@@ -10,7 +10,7 @@ use Rattle.zf_value.specs.contracts.value.ValueOrd.TheImpl.Laws.{total-law}
 use Rattle.zf_value.specs.Sets.{value_order, IsMember, Every, IsAscending}
 use Rattle.zf_value.specs.Operations.{pair}
 use Rattle.zf_families.specs.Selections.{extended, extensions, whole, some, fits_apart, pairs, second}
-use Rattle.zf_families.specs.Counts.{falling, chances}
+use Rattle.zf_families.specs.Counts.{falling, partial_injection_count}
 use Rattle.zf_families.proofs.FunctionLaws.{second-pair}
 use Rattle.zf_families.proofs.Comparisons.{below_rest}
 
@@ -155,13 +155,13 @@ length_injections (x ∷ a) b h =
     length_fitting x b (whole fits_apart (map (pairs b) a)) (falling (length b - 1) (length a)) (λ y m.
       ap length (free_whole x y a b) ∙ length_injections a (others y b) (ascending_others y b h) ∙ ap (λ n. falling n (length a)) (one_less y b h m))
 
-pub length_partial_injections : (a b : List Value) → IsAscending b → length ([] ∷ some fits_apart (map (pairs b) a)) ≡ chances (length a) (length b)
+pub length_partial_injections : (a b : List Value) → IsAscending b → length ([] ∷ some fits_apart (map (pairs b) a)) ≡ partial_injection_count (length a) (length b)
 length_partial_injections [] b h = refl
 length_partial_injections (x ∷ a) b h =
     let rows = some fits_apart (map (pairs b) a) in
-    let here : length (extensions fits_apart (pairs b x) ([] ∷ rows)) ≡ length b * chances (length a) (length b - 1) =
-      length_fitting x b ([] ∷ rows) (chances (length a) (length b - 1)) (λ y m.
-        ap (λ rs. suc (length rs)) (free_some x y a b) ∙ length_partial_injections a (others y b) (ascending_others y b h) ∙ ap (chances (length a)) (one_less y b h m)) in
-    let rest : suc (length rows) ≡ chances (length a) (length b) = length_partial_injections a b h in
+    let here : length (extensions fits_apart (pairs b x) ([] ∷ rows)) ≡ length b * partial_injection_count (length a) (length b - 1) =
+      length_fitting x b ([] ∷ rows) (partial_injection_count (length a) (length b - 1)) (λ y m.
+        ap (λ rs. suc (length rs)) (free_some x y a b) ∙ length_partial_injections a (others y b) (ascending_others y b h) ∙ ap (partial_injection_count (length a)) (one_less y b h m)) in
+    let rest : suc (length rows) ≡ partial_injection_count (length a) (length b) = length_partial_injections a b h in
     let all : length (extensions fits_apart (pairs b x) ([] ∷ rows) ++ rows) ≡ length (extensions fits_apart (pairs b x) ([] ∷ rows)) + length rows = length-append (extensions fits_apart (pairs b x) ([] ∷ rows)) rows in
     omega (arith, here, rest, all)

@@ -13,7 +13,7 @@ use Rattle.zf_value.specs.Sets.{IsAscending, IsRegularSet, IsRegularOutcome}
 use Rattle.zf_value.specs.Operations.{pair, IsFunctional, IsInjective, IsTotal, IsRelationThat, ArePartialInjections, AreTotalInjections}
 use Rattle.zf_value.proofs.Regulars.{regular_made}
 use Rattle.zf_families.specs.Selections.{whole, some, fits_apart, pairs}
-use Rattle.zf_families.specs.Counts.{falling, chances}
+use Rattle.zf_families.specs.Counts.{falling, partial_injection_count}
 use Rattle.zf_families.proofs.Told.{Tells, out_by_size, built_result}
 use Rattle.zf_families.proofs.InjectionCounts.{length_injections, length_partial_injections, filter_map_none, seconds, other_itself}
 use Rattle.zf_families.proofs.Relations.{relation_regular}
@@ -32,10 +32,10 @@ IsInjection r = IsFunctional r × IsInjective r
 
 -- ---- partial injections
 
-pub partial_injections_out : (a b : List Value) → IsRegularSet a → IsRegularSet b → (count : ℕ) → count ≡ min (chances (length a) (length b)) (SET_MAX + 1) → IsTrue (ltb SET_MAX count) ↔ ArePartialInjections a b Out
+pub partial_injections_out : (a b : List Value) → IsRegularSet a → IsRegularSet b → (count : ℕ) → count ≡ min (partial_injection_count (length a) (length b)) (SET_MAX + 1) → IsTrue (ltb SET_MAX count) ↔ ArePartialInjections a b Out
 unfolding ArePartialInjections
 partial_injections_out a b h k count e =
-    out_by_size SetOf (IsRelationThat IsInjection a b) (partial_injection_rows a b) (partial_told b fits_apart IsInjection injections a h.ascending k.ascending) (chances (length a) (length b)) count
+    out_by_size SetOf (IsRelationThat IsInjection a b) (partial_injection_rows a b) (partial_told b fits_apart IsInjection injections a h.ascending k.ascending) (partial_injection_count (length a) (length b)) count
     (length_partial_injections a b k.ascending) e
 
 pub partial_injections_built : (a b : List Value) → IsRegularSet a → IsRegularSet b → (ArePartialInjections a b Out → ⊥) → (rows : List (List Value)) → rows ≡ partial_injection_rows a b → (r : Result Outcome AllocError) → IfOk r (λ o. o ≡ Is (SetOf (map SetOf rows))) → IfOk r (ArePartialInjections a b)

@@ -13,5 +13,5 @@ pub mod Relations
 pub mod Tested
 pub mod Belonging
 pub mod InjectionCounts
-pub mod Chances
+pub mod CutCounts
 pub mod Injections

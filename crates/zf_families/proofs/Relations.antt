@@ -14,11 +14,13 @@ use Rattle.zf_value.specs.declared.TheConstants.{SET_MAX}
 use Rattle.zf_value.specs.Sets.{value_order, IsMember, Every, IsAscending, AreAmong, IsRegular, IsRegularSet, IsRegularOutcome}
 use Rattle.zf_value.specs.Operations.{pair, IsRelationThat, AreRelations}
 use Rattle.zf_value.proofs.Regulars.{regular_made, regular-SetOf, regular-pair, are_regular, regular_member}
+use Rattle.zf_value.proofs.Among.{every_from, members-append}
+use Rattle.zf_families.specs.Tests.{IsPairFrom}
 use Rattle.zf_families.specs.Selections.{some, fits_any, pairs, singles}
 use Rattle.zf_families.proofs.Told.{Tells, out_by_size, built_result}
 use Rattle.zf_families.proofs.Counts.{length_some, sizes_same}
 use Rattle.zf_families.proofs.Subsets.{power_told}
-use Rattle.zf_families.proofs.Comparisons.{every, member_map, from_member_map, below_rest, first_below, pairs_ascending}
+use Rattle.zf_families.proofs.Comparisons.{member_map, from_member_map, below_rest, first_below, pairs_ascending}
 
 abbrev pub product_of : List Value → List Value → List Value
 product_of a b = flat_map (pairs b) a
@@ -30,40 +32,26 @@ every_append P (x ∷ xs) ys h k = (h.0, every_append P xs ys h.1 k)
 ascending_append : (xs ys : List Value) → IsAscending xs → IsAscending ys → ((x y : Value) → IsMember x xs → IsMember y ys → value_order x y ≡ Less) → IsAscending (xs ++ ys)
 ascending_append [] ys h k f = k
 ascending_append (x ∷ xs) ys h k f = (
-  every_append (λ y. value_order x y ≡ Less) xs ys h.0 (every (λ y. value_order x y ≡ Less) ys (λ y m. f x y (inl refl) m)),
+  every_append (λ y. value_order x y ≡ Less) xs ys h.0 (every_from (λ y. value_order x y ≡ Less) ys (λ y m. f x y (inl refl) m)),
   ascending_append xs ys h.1 k (λ z y m n. f z y (inr m) n),
 )
 
-member_left : (xs ys : List Value) (z : Value) → IsMember z xs → IsMember z (xs ++ ys)
-member_left [] ys z m = absurd m
-member_left (x ∷ xs) ys z m = ⊎_elim (λ s. inl s) (λ n. inr (member_left xs ys z n)) m
-
-member_right : (xs ys : List Value) (z : Value) → IsMember z ys → IsMember z (xs ++ ys)
-member_right [] ys z m = m
-member_right (x ∷ xs) ys z m = inr (member_right xs ys z m)
-
-member_either : (xs ys : List Value) (z : Value) → IsMember z (xs ++ ys) → IsMember z xs ⊎ IsMember z ys
-member_either [] ys z m = inr m
-member_either (x ∷ xs) ys z m = ⊎_elim (λ s. inl (inl s)) (λ n. ⊎_elim (λ l. inl (inr l)) (λ r. inr r) (member_either xs ys z n)) m
-
--- a pair of members of the two
-abbrev IsPairFrom : List Value → List Value → Value → Type 0
-IsPairFrom a b z = (x y : Value) × (z ≡ pair x y) × IsMember x a × IsMember y b
-
 product_to : (a b : List Value) (z : Value) → IsMember z (product_of a b) → IsPairFrom a b z
+unfolding IsPairFrom
 product_to [] b z m = absurd m
 product_to (x ∷ a) b z m = ⊎_elim
     (λ l. let q = from_member_map (pair x) b z l in (x, q.0, sym q.1, inl refl, q.2))
     (λ r. let q = product_to a b z r in (q.0, q.1, q.2, inr q.3, q.4))
-    (member_either (pairs b x) (product_of a b) z m)
+    ((members-append (pairs b x) (product_of a b) z).0 m)
 
 product_from : (a b : List Value) (x y : Value) → IsMember x a → IsMember y b → IsMember (pair x y) (product_of a b)
 product_from [] b x y m n = absurd m
 product_from (u ∷ a) b x y m n = ⊎_elim
-    (λ e. member_left (pairs b u) (product_of a b) (pair x y) (subst (λ w. IsMember (pair x y) (pairs b w)) (sym e) (member_map (pair x) b y n)))
-    (λ k. member_right (pairs b u) (product_of a b) (pair x y) (product_from a b x y k n)) m
+    (λ e. (members-append (pairs b u) (product_of a b) (pair x y)).1 (inl (subst (λ w. IsMember (pair x y) (pairs b w)) (sym e) (member_map (pair x) b y n))))
+    (λ k. (members-append (pairs b u) (product_of a b) (pair x y)).1 (inr (product_from a b x y k n))) m
 
 pub product_ascending : (a b : List Value) → IsAscending a → IsAscending b → IsAscending (product_of a b)
+unfolding IsPairFrom
 product_ascending [] b h k = tt
 product_ascending (x ∷ a) b h k =
     ascending_append (pairs b x) (product_of a b) (pairs_ascending x b k) (product_ascending a b h.1 k)
@@ -73,7 +61,7 @@ product_ascending (x ∷ a) b h k =
       subst (λ w. value_order w v ≡ Less) p.1 (subst (λ w. value_order (pair x p.0) w ≡ Less) (sym q.2) (first_below x p.0 q.0 q.1 (below_rest x a q.0 h q.3))))
 
 relations_told : (a b : List Value) → IsAscending a → IsAscending b → Tells SetOf (IsRelationThat (λ r. Unit {0}) a b) ([] ∷ some fits_any (singles (product_of a b)))
-unfolding AreAmong
+unfolding AreAmong IsPairFrom
 relations_told a b h k =
     let t = power_told (product_of a b) (product_ascending a b h k) in
     record {

@@ -8,6 +8,7 @@ use Rattle.zf_value.specs.declared.value.Outcome.{Outcome}
 use Rattle.zf_value.specs.declared.value.Outcome.TheVariants.{Is, Out}
 use Rattle.zf_value.specs.declared.TheConstants.{SET_MAX}
 use Rattle.zf_value.proofs.Regulars.{regular_made, regular-SetOf, are_regular, regular_member}
+use Rattle.zf_value.proofs.Among.{every_from, not_below_itself}
 use Rattle.zf_families.proofs.Counts.{length_some, sizes_same}
 use Rattle.zf_value.specs.Sets.{value_order, Every, IsAscending, AreAmong, IsRegular, IsRegularSet, IsRegularOutcome}
 use Rattle.zf_value.specs.Operations.{IsSubset, IsPower}
@@ -16,7 +17,7 @@ use Rattle.zf_families.proofs.Lists.{Each, each_map}
 use Rattle.zf_families.proofs.InOrder.{IsLadder, ordered_some}
 use Rattle.zf_families.proofs.Told.{Tells, set_order, out_by_size, built_result}
 use Rattle.zf_families.proofs.Chosen.{Takes, in_some}
-use Rattle.zf_families.proofs.Comparisons.{every, not_itself, not_both, below_rest}
+use Rattle.zf_families.proofs.Comparisons.{not_both, below_rest}
 
 abbrev Chooses : List Value → List Value → Type 0
 Chooses a r = IsAscending r × AreAmong r a
@@ -33,13 +34,13 @@ step_to : (x : Value) (xs r : List Value) → IsAscending (x ∷ xs) → Chooses
 unfolding AreAmong
 step_to x xs [] g h = inr (tt, λ z m. absurd m)
 step_to x xs (p ∷ s) g h = ⊎_elim
-    (λ e. inl (p, s, refl, inl e, (h.0.1, λ z m. ⊎_elim (λ k. absurd (not_itself p (subst (λ u. value_order p u ≡ Less) (sym k ∙ e) (below_rest p s z h.0 m)))) (λ n. n) (h.1 z (inr m))), refl))
+    (λ e. inl (p, s, refl, inl e, (h.0.1, λ z m. ⊎_elim (λ k. absurd (not_below_itself p (subst (λ u. value_order p u ≡ Less) (sym k ∙ e) (below_rest p s z h.0 m)))) (λ n. n) (h.1 z (inr m))), refl))
     (λ n. let low = below_rest x xs p g n in
     inr (
       h.0,
       λ z m. ⊎_elim
           (λ k. absurd (⊎_elim
-          (λ e. not_itself x (subst (λ u. value_order x u ≡ Less) (e ∙ sym k) low))
+          (λ e. not_below_itself x (subst (λ u. value_order x u ≡ Less) (e ∙ sym k) low))
           (λ l. not_both x p low (subst (λ u. value_order p u ≡ Less) (sym k) (below_rest p s z h.0 l)))
           m))
           (λ k. k) (h.1 z m),
@@ -51,7 +52,7 @@ unfolding AreAmong
 step_from x xs r g (inl t) =
     let same : x ≡ t.0 = ⊎_elim (λ e. e) (λ n. absurd n) t.3 in
     subst (Chooses (x ∷ xs)) t.2 (
-      (every (λ z. value_order t.0 z ≡ Less) t.1 (λ z m. subst (λ u. value_order u z ≡ Less) same (below_rest x xs z g (t.4.1 z m))), t.4.0),
+      (every_from (λ z. value_order t.0 z ≡ Less) t.1 (λ z m. subst (λ u. value_order u z ≡ Less) same (below_rest x xs z g (t.4.1 z m))), t.4.0),
       λ z m. ⊎_elim (λ e. inl (same ∙ e)) (λ n. inr (t.4.1 z n)) m,
     )
 step_from x xs r g (inr h) = (h.0, λ z m. inr (h.1 z m))

@@ -13,12 +13,12 @@ abbrev pub falling : ℕ → ℕ → ℕ
 falling n zero = 1
 falling n (suc k) = n * falling (n - 1) k
 
--- how many injections go from some of k to n
-abbrev pub chances : ℕ → ℕ → ℕ
-chances zero n = 1
-chances (suc k) n = chances k n + n * chances k (n - 1)
+-- how many partial injections go from k to n
+abbrev pub partial_injection_count : ℕ → ℕ → ℕ
+partial_injection_count zero n = 1
+partial_injection_count (suc k) n = partial_injection_count k n + n * partial_injection_count k (n - 1)
 
--- of the chances from some of k to n, n - 1, .. those from some of k + 1, each cut
+-- where these are the counts of partial injections from k to n, n - 1, .. those from k + 1, each cut
 abbrev pub stepped : ℕ → List ℕ → List ℕ
 stepped n [] = []
 stepped n (c ∷ []) = c ∷ []

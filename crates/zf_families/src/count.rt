@@ -23,7 +23,7 @@ pub fn power(base: usize, exponent: usize) -> usize
     count
 }
 
-/// So many, one less, and so on, as often as is said, times each other.
+/// So many, one less, and so on, as often as is said, times each other: how many injections there are.
 pub fn falling(from: usize, turns: usize) -> usize
     ensures { result ≡ min (counts.falling from turns) (SET_MAX + 1) }
 {
@@ -34,12 +34,12 @@ pub fn falling(from: usize, turns: usize) -> usize
     count
 }
 
-/// How far chances are counted: where both sides have so many, there are too many.
+/// Where both sets have so many members, there are more partial injections than are counted.
 const REACH: usize = 18;
 
-/// How many injections go from some of so many to so many others.
-pub fn chances(from: usize, to: usize) -> usize
-    ensures { result ≡ min (counts.chances from to) (SET_MAX + 1) }
+/// How many partial injections go from so many to so many.
+pub fn partial_injections(from: usize, to: usize) -> usize
+    ensures { result ≡ min (counts.partial_injection_count from to) (SET_MAX + 1) }
 {
     if from >= REACH && to >= REACH {
         return SET_MAX + 1;
@@ -51,7 +51,7 @@ pub fn chances(from: usize, to: usize) -> usize
     reached[0]
 }
 
-/// Of the chances to so many, one less, and so on, those from one more.
+/// Of how many partial injections go to so many, to one less, and so on: how many do from one more.
 fn step(reached: &mut [usize], to: usize)
     requires { 0 < length reached.old }
     ensures { reached.new ≡ stepped to reached.old }

@@ -33,7 +33,7 @@ pub fn are_partial_injections_out(a: &[Value], b: &[Value]) -> bool
     requires to { IsRegularSet b.now }
     ensures { IsTrue result ↔ ArePartialInjections a.now b.now Outcome.Out }
 {
-    count::chances(a.len(), b.len()) > SET_MAX
+    count::partial_injections(a.len(), b.len()) > SET_MAX
 }
 
 /// Whether the value is a partial injection from a to b.

@@ -1,6 +1,6 @@
 use Rattle.std.proofs.Common.{◌+◌, ◌*◌, ◌∙◌, ap, min}
 use Rattle.zf_value.specs.declared.TheConstants.{SET_MAX}
-use Rattle.zf_families.proofs.Chances.{falling_turn}
+use Rattle.zf_families.proofs.CutCounts.{falling_turn}
 use Rattle.zf_families.proofs.count.falling.Goals as goal
 
 pub loop-turn-preserved : goal.loop-turn-preserved

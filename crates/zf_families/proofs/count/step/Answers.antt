@@ -1,5 +1,5 @@
 use Rattle.std.proofs.Common.{sym, ◌∙◌, arith}
-use Rattle.zf_families.proofs.Chances.{step_end}
+use Rattle.zf_families.proofs.CutCounts.{step_end}
 use Rattle.zf_families.proofs.count.step.Goals as goal
 
 pub returns : goal.returns
