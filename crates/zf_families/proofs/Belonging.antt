@@ -49,7 +49,7 @@ functional_from [] h u v w m n = absurd m
 functional_from (z ∷ r) h u v w m n =
     let low = lower z r h in
     let same : (y : Value) → z ≡ pair u y → (t : Value) → IsMember (pair u t) r → ⊥ = λ y e t k.
-      not_below_itself u (subst (λ p. value_order p u ≡ Less) (ap first e ∙ first-pair u y) (subst (λ p. value_order (first z) p ≡ Less) (first-pair u t) (every_at (λ p. value_order (first z) (first p) ≡ Less) r (pair u t) low k))) in
+    not_below_itself u (subst (λ p. value_order p u ≡ Less) (ap first e ∙ first-pair u y) (subst (λ p. value_order (first z) p ≡ Less) (first-pair u t) (every_at (λ p. value_order (first z) (first p) ≡ Less) r (pair u t) low k))) in
     ⊎_elim
     (λ e. ⊎_elim (λ k. (pair_parts u v u w (sym e ∙ k)).1) (λ k. absurd (same v e w k)) n)
     (λ l. ⊎_elim (λ k. absurd (same w k v l)) (λ k. functional_from r (rise_rest z r h) u v w l k) n)
@@ -68,18 +68,18 @@ functional_to a b (z ∷ w ∷ r) h k f =
     let p = k z (inl refl) in
     let q = k w (inr (inl refl)) in
     let firsts : value_order (first z) (first w) ≡ value_order p.0 q.0 =
-      ap (λ u. value_order (first u) (first w)) p.2 ∙ ap (λ u. value_order (first (pair p.0 p.1)) (first u)) q.2 ∙ ap (λ u. value_order u (first (pair q.0 q.1))) (first-pair p.0 p.1) ∙ ap (value_order p.0) (first-pair q.0 q.1) in
+    ap (λ u. value_order (first u) (first w)) p.2 ∙ ap (λ u. value_order (first (pair p.0 p.1)) (first u)) q.2 ∙ ap (λ u. value_order u (first (pair q.0 q.1))) (first-pair p.0 p.1) ∙ ap (value_order p.0) (first-pair q.0 q.1) in
     let low : value_order z w ≡ Less = h.0.0 in
     and_from (is_lt (value_order (first z) (first w))) (firsts_rise (w ∷ r))
     (cases (value_order p.0 q.0) firsts refl
-      (λ e.
-        let x : p.0 ≡ q.0 = exact p.0 q.0 e in
-        let there : IsMember (pair p.0 q.1) (z ∷ w ∷ r) = inr (inl (q.2 ∙ ap (λ u. pair u q.1) (sym x))) in
-        let y : p.1 ≡ q.1 = f p.0 p.1 q.1 (inl p.2) there in
-        not_below_itself z (subst (λ u. value_order z u ≡ Less) (q.2 ∙ ap (λ u. pair u q.1) (sym x) ∙ ap (pair p.0) (sym y) ∙ sym p.2) low))
-      (λ e.
-        let up : value_order q.0 p.0 ≡ Less = total-law.antisymm q.0 p.0 ∙ ap ordering_reverse e in
-        not_both z w low (subst (λ u. value_order u z ≡ Less) (sym q.2) (subst (λ u. value_order (pair q.0 q.1) u ≡ Less) (sym p.2) (first_below q.0 q.1 p.0 p.1 up)))))
+    (λ e.
+    let x : p.0 ≡ q.0 = exact p.0 q.0 e in
+    let there : IsMember (pair p.0 q.1) (z ∷ w ∷ r) = inr (inl (q.2 ∙ ap (λ u. pair u q.1) (sym x))) in
+    let y : p.1 ≡ q.1 = f p.0 p.1 q.1 (inl p.2) there in
+    not_below_itself z (subst (λ u. value_order z u ≡ Less) (q.2 ∙ ap (λ u. pair u q.1) (sym x) ∙ ap (pair p.0) (sym y) ∙ sym p.2) low))
+    (λ e.
+    let up : value_order q.0 p.0 ≡ Less = total-law.antisymm q.0 p.0 ∙ ap ordering_reverse e in
+    not_both z w low (subst (λ u. value_order u z ≡ Less) (sym q.2) (subst (λ u. value_order (pair q.0 q.1) u ≡ Less) (sym p.2) (first_below q.0 q.1 p.0 p.1 up)))))
     (functional_to a b (w ∷ r) h.1 (tail_between a b z (w ∷ r) k) (functional_rest z (w ∷ r) f))
   where
     cases : (o : Ordering) → value_order (first z) (first w) ≡ o → o ≡ o → (o ≡ Equal → ⊥) → (o ≡ Greater → ⊥) → is_lt (value_order (first z) (first w)) ≡ true
@@ -102,8 +102,8 @@ apart_to a b [] h k f = refl
 apart_to a b (z ∷ r) h k f =
     let p = k z (inl refl) in
     let unused : IsUnused r p.1 = λ u m.
-      let same : u ≡ p.0 = f u p.0 p.1 (inr m) (inl p.2) in
-      not_below_itself z (subst (λ w. value_order z w ≡ Less) (ap (λ w. pair w p.1) same ∙ sym p.2) (below_rest z r (pair u p.1) h m)) in
+    let same : u ≡ p.0 = f u p.0 p.1 (inr m) (inl p.2) in
+    not_below_itself z (subst (λ w. value_order z w ≡ Less) (ap (λ w. pair w p.1) same ∙ sym p.2) (below_rest z r (pair u p.1) h m)) in
     and_from (fits_apart z r) (seconds_apart r)
     (subst (λ u. fits_apart u r ≡ true) (sym p.2) (unused_to a b p.0 p.1 r (tail_between a b z r k) unused))
     (apart_to a b r h.1 (tail_between a b z r k) (λ u v w m n. f u v w (inr m) (inr n)))
@@ -157,8 +157,8 @@ pub relation_at : (P : List Value → Type 0) (a b r : List Value) (v : Value) (
 relation_at P a b r v t e h k = (
   λ g. let p = k.0 g in (r, e, ascending_pairs v r e h, p.0, p.1),
   λ p.
-  let same : p.0 ≡ r = same_pairs p.0 r (sym p.1 ∙ e) in
-  k.1 (subst (λ s. IsBetween a b s × P s) same (p.3, p.4)),
+      let same : p.0 ≡ r = same_pairs p.0 r (sym p.1 ∙ e) in
+      k.1 (subst (λ s. IsBetween a b s × P s) same (p.3, p.4)),
 )
 
 pub no_relation : (P : List Value → Type 0) (a b : List Value) (v : Value) → ((r : List Value) → v ≡ SetOf r → ⊥) → IsTrue false ↔ IsRelationThat P a b v

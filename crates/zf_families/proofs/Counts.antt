@@ -15,9 +15,9 @@ min_product m zero c = grind arith
 min_product m (suc n) c = ⊎_elim
     (λ h. let e : min m c ≡ m = omega arith in ap (λ k. min (k * suc n) c) e)
     (λ h. let e : min m c ≡ c = omega arith in
-      let a : m ≤ m * suc n = grind arith in
-      let b : c ≤ c * suc n = grind arith in
-      ap (λ k. min (k * suc n) c) e ∙ omega (arith, a, b))
+    let a : m ≤ m * suc n = grind arith in
+    let b : c ≤ c * suc n = grind arith in
+    ap (λ k. min (k * suc n) c) e ∙ omega (arith, a, b))
     (cases_lt m c)
 
 length_kept : (rows : List (List Value)) → length (filter (λ r. true) rows) ≡ length rows
@@ -56,6 +56,6 @@ sizes_push more (k ∷ ls) l = ap (λ n. more (length k) * n) (sizes_push more l
 pub count_more : (sets : List Value) (i : ℕ) (x : Value) (count next c : ℕ) → i < length sets → x ≡ get_or sets i x → count ≡ min (sizes (λ n. n) (map members (take i sets))) c → next ≡ min (count * length (members x)) c → next ≡ min (sizes (λ n. n) (map members (take (i + 1) sets))) c
 count_more sets i x count next c h e k n =
     let taken : map members (take (i + 1) sets) ≡ map members (take i sets) ++ members x ∷ [] =
-      map_more members sets i x h ∙ ap (λ y. map members (take i sets) ++ members y ∷ []) (sym e) in
+    map_more members sets i x h ∙ ap (λ y. map members (take i sets) ++ members y ∷ []) (sym e) in
     n ∙ ap (λ m. min (m * length (members x)) c) k ∙ min_product (sizes (λ m. m) (map members (take i sets))) (length (members x)) c
     ∙ sym (ap (λ m. min m c) (ap (sizes (λ m. m)) taken ∙ sizes_push (λ m. m) (map members (take i sets)) (members x)))

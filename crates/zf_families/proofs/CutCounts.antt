@@ -40,10 +40,10 @@ one_step k n c d left f g h = at (SET_MAX + 1) f g
     at : (m : ℕ) → (min k n ≤ suc left → c ≡ min (partial_injection_count k n) m) → (min k (n - 1) ≤ left → d ≡ min (partial_injection_count k (n - 1)) m) → min (c + min (d * n) m) m ≡ min (partial_injection_count k n + n * partial_injection_count k (n - 1)) m
     at m f g = ⊎_elim
         (λ l.
-          let zero_n : n ≡ 0 = omega arith in
-          ap (λ u. min (u + min (d * n) m) m) (f (omega arith)) ∙ ap (λ u. min (min (partial_injection_count k n) m + u) m) (none_left d n m (partial_injection_count k (n - 1)) zero_n) ∙ omega arith)
+        let zero_n : n ≡ 0 = omega arith in
+        ap (λ u. min (u + min (d * n) m) m) (f (omega arith)) ∙ ap (λ u. min (min (partial_injection_count k n) m + u) m) (none_left d n m (partial_injection_count k (n - 1)) zero_n) ∙ omega arith)
         (λ l.
-          ap (λ u. min (u + min (d * n) m) m) (f (omega arith)) ∙ ap (λ u. min (min (partial_injection_count k n) m + min (u * n) m) m) (g (omega arith)) ∙ min_sum (partial_injection_count k n) (partial_injection_count k (n - 1)) n m)
+        ap (λ u. min (u + min (d * n) m) m) (f (omega arith)) ∙ ap (λ u. min (min (partial_injection_count k n) m + min (u * n) m) m) (g (omega arith)) ∙ min_sum (partial_injection_count k n) (partial_injection_count k (n - 1)) n m)
         (cases_lt n 1)
 
 pub counts_turn : (k n : ℕ) (cs : List ℕ) → AreCutCounts k n cs → AreCutCounts (suc k) n (stepped n cs)
@@ -57,6 +57,7 @@ counts_turn k n (c ∷ d ∷ cs) h = (λ l. one_step k n c d (length cs) h.0 h.1
     long : (m : ℕ) (x : ℕ) (xs : List ℕ) → length (stepped m (x ∷ xs)) ≡ suc (length xs)
     long m x [] = refl
     long m x (y ∷ ys) = ap suc (long (m - 1) y ys)
+
     same : min (suc k) n ≤ length (stepped (n - 1) (d ∷ cs)) → min (suc k) n ≤ suc (length cs)
     same l = let e = long (n - 1) d cs in omega (arith, e, l)
 

@@ -42,7 +42,7 @@ filter_map_agree p q g h [] = refl
 filter_map_agree p q g h (x ∷ xs) =
     ap (λ b. cond b (g x ∷ filter p (map g xs)) (filter p (map g xs))) (h x)
     ∙ elim (q x) as (λ b. cond b (g x ∷ filter p (map g xs)) (filter p (map g xs)) ≡ map g (cond b (x ∷ filter q xs) (filter q xs))) [
-      true ↦ ap (λ ys. g x ∷ ys) (filter_map_agree p q g h xs)
+      | true ↦ ap (λ ys. g x ∷ ys) (filter_map_agree p q g h xs)
       | false ↦ filter_map_agree p q g h xs
     ]
 
@@ -53,7 +53,6 @@ filter_map_none p g h (x ∷ xs) = ap (λ b. cond b (g x ∷ filter p (map g xs)
 -- ---- rows without a second are the rows to the other members
 
 module _ (x y : Value) where
-
   abbrev free : List Value → Bool
   free = fits_apart (pair x y)
 
@@ -76,7 +75,7 @@ module _ (x y : Value) where
       ∙ ap (λ rs. rs ++ filter free (extensions fits_apart (pairs b u) rows)) (free_extended u v rows)
       ∙ ap (λ rs. cond (is_other y v) (extended fits_apart (filter free rows) (pair u v)) [] ++ rs) (free_extensions u b rows)
       ∙ elim (is_other y v) as (λ t. cond t (extended fits_apart (filter free rows) (pair u v)) [] ++ extensions fits_apart (pairs (others y b) u) (filter free rows) ≡ extensions fits_apart (pairs (cond t (v ∷ others y b) (others y b)) u) (filter free rows)) [
-        true ↦ refl
+        | true ↦ refl
         | false ↦ refl
       ]
 
@@ -115,25 +114,25 @@ length_others : (y : Value) (b : List Value) → IsAscending b → IsMember y b 
 length_others y [] h m = absurd m
 length_others y (v ∷ b) h m = ⊎_elim
     (λ s.
-      let same : is_other y v ≡ false = ap (is_other y) s ∙ other_itself y in
-      let low : Every (λ w. value_order y w ≡ Less) b = subst (λ u. Every (λ w. value_order u w ≡ Less) b) s h.0 in
-      ap suc (ap length (ap (λ t. cond t (v ∷ others y b) (others y b)) same ∙ all_others y b low)))
+    let same : is_other y v ≡ false = ap (is_other y) s ∙ other_itself y in
+    let low : Every (λ w. value_order y w ≡ Less) b = subst (λ u. Every (λ w. value_order u w ≡ Less) b) s h.0 in
+    ap suc (ap length (ap (λ t. cond t (v ∷ others y b) (others y b)) same ∙ all_others y b low)))
     (λ n.
-      let up : value_order y v ≡ Greater = total-law.antisymm y v ∙ ap ordering_reverse (below_rest v b y h n) in
-      ap suc (ap length (ap (λ t. cond t (v ∷ others y b) (others y b)) (other_greater (value_order y v) up)) ∙ length_others y b h.1 n))
+    let up : value_order y v ≡ Greater = total-law.antisymm y v ∙ ap ordering_reverse (below_rest v b y h n) in
+    ap suc (ap length (ap (λ t. cond t (v ∷ others y b) (others y b)) (other_greater (value_order y v) up)) ∙ length_others y b h.1 n))
     m
 
 every_others : (P : Value → Type 0) (y : Value) (b : List Value) → Every P b → Every P (others y b)
 every_others P y [] h = tt
 every_others P y (v ∷ b) h = elim (is_other y v) as (λ t. Every P (cond t (v ∷ others y b) (others y b))) [
-  true ↦ (h.0, every_others P y b h.1)
+  | true ↦ (h.0, every_others P y b h.1)
   | false ↦ every_others P y b h.1
 ]
 
 ascending_others : (y : Value) (b : List Value) → IsAscending b → IsAscending (others y b)
 ascending_others y [] h = tt
 ascending_others y (v ∷ b) h = elim (is_other y v) as (λ t. IsAscending (cond t (v ∷ others y b) (others y b))) [
-  true ↦ (every_others (λ w. value_order v w ≡ Less) y b h.0, ascending_others y b h.1)
+  | true ↦ (every_others (λ w. value_order v w ≡ Less) y b h.0, ascending_others y b h.1)
   | false ↦ ascending_others y b h.1
 ]
 
@@ -153,15 +152,15 @@ pub length_injections : (a b : List Value) → IsAscending b → length (whole f
 length_injections [] b h = refl
 length_injections (x ∷ a) b h =
     length_fitting x b (whole fits_apart (map (pairs b) a)) (falling (length b - 1) (length a)) (λ y m.
-      ap length (free_whole x y a b) ∙ length_injections a (others y b) (ascending_others y b h) ∙ ap (λ n. falling n (length a)) (one_less y b h m))
+    ap length (free_whole x y a b) ∙ length_injections a (others y b) (ascending_others y b h) ∙ ap (λ n. falling n (length a)) (one_less y b h m))
 
 pub length_partial_injections : (a b : List Value) → IsAscending b → length ([] ∷ some fits_apart (map (pairs b) a)) ≡ partial_injection_count (length a) (length b)
 length_partial_injections [] b h = refl
 length_partial_injections (x ∷ a) b h =
     let rows = some fits_apart (map (pairs b) a) in
     let here : length (extensions fits_apart (pairs b x) ([] ∷ rows)) ≡ length b * partial_injection_count (length a) (length b - 1) =
-      length_fitting x b ([] ∷ rows) (partial_injection_count (length a) (length b - 1)) (λ y m.
-        ap (λ rs. suc (length rs)) (free_some x y a b) ∙ length_partial_injections a (others y b) (ascending_others y b h) ∙ ap (partial_injection_count (length a)) (one_less y b h m)) in
+    length_fitting x b ([] ∷ rows) (partial_injection_count (length a) (length b - 1)) (λ y m.
+    ap (λ rs. suc (length rs)) (free_some x y a b) ∙ length_partial_injections a (others y b) (ascending_others y b h) ∙ ap (partial_injection_count (length a)) (one_less y b h m)) in
     let rest : suc (length rows) ≡ partial_injection_count (length a) (length b) = length_partial_injections a b h in
     let all : length (extensions fits_apart (pairs b x) ([] ∷ rows) ++ rows) ≡ length (extensions fits_apart (pairs b x) ([] ∷ rows)) + length rows = length-append (extensions fits_apart (pairs b x) ([] ∷ rows)) rows in
     omega (arith, here, rest, all)

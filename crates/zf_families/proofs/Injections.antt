@@ -94,7 +94,7 @@ some_alone [] y = refl
 some_alone (x ∷ a) y =
     let rest = some fits_apart (map (pairs (y ∷ [])) a) in
     let none : filter (fits_apart (pair x y)) rest ≡ [] =
-      ap (filter (fits_apart (pair x y))) (some_alone a y) ∙ filter_map_none (fits_apart (pair x y)) (λ u. pair u y ∷ []) (λ u. taken u) a in
+    ap (filter (fits_apart (pair x y))) (some_alone a y) ∙ filter_map_none (fits_apart (pair x y)) (λ u. pair u y ∷ []) (λ u. taken u) a in
     ap (λ rs. (map (λ r. pair x y ∷ r) ([] ∷ rs) ++ []) ++ rest) none ∙ ap (λ rs. (pair x y ∷ []) ∷ rs) (some_alone a y)
   where
     taken : (u : Value) → fits_apart (pair x y) (pair u y ∷ []) ≡ false

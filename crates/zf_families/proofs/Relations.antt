@@ -1,5 +1,5 @@
 -- The relations from a set to a set are the subsets of the product.
-use Rattle.std.proofs.Common.{◌≡◌, ◌⊎◌, ◌↔◌, ℕ, zero, suc, ◌+◌, ◌*◌, ◌^◌, ◌<◌, min, ltb, length, Result, List, [], ◌∷◌, ◌++◌, map, refl, sym, ap, ◌∙◌, subst, inl, inr, ⊎_elim, Less, arith}
+use Rattle.std.proofs.Common.{◌≡◌, ◌↔◌, ℕ, zero, suc, ◌+◌, ◌*◌, ◌^◌, ◌<◌, min, ltb, length, Result, List, [], ◌∷◌, ◌++◌, map, refl, sym, ap, ◌∙◌, subst, inl, inr, ⊎_elim, Less, arith}
 use Rattle.std.specs.Prelude.{IsTrue}
 use Rattle.std.specs.Result.{IfOk}
 use Rattle.std.specs.List.{flat_map}
@@ -56,9 +56,9 @@ product_ascending [] b h k = tt
 product_ascending (x ∷ a) b h k =
     ascending_append (pairs b x) (product_of a b) (pairs_ascending x b k) (product_ascending a b h.1 k)
     (λ u v m n.
-      let p = from_member_map (pair x) b u m in
-      let q = product_to a b v n in
-      subst (λ w. value_order w v ≡ Less) p.1 (subst (λ w. value_order (pair x p.0) w ≡ Less) (sym q.2) (first_below x p.0 q.0 q.1 (below_rest x a q.0 h q.3))))
+    let p = from_member_map (pair x) b u m in
+    let q = product_to a b v n in
+    subst (λ w. value_order w v ≡ Less) p.1 (subst (λ w. value_order (pair x p.0) w ≡ Less) (sym q.2) (first_below x p.0 q.0 q.1 (below_rest x a q.0 h q.3))))
 
 relations_told : (a b : List Value) → IsAscending a → IsAscending b → Tells SetOf (IsRelationThat (λ r. Unit {0}) a b) ([] ∷ some fits_any (singles (product_of a b)))
 unfolding AreAmong IsPairFrom
@@ -86,16 +86,16 @@ min_power : (n c : ℕ) → min (2 ^ min n c) c ≡ min (2 ^ n) c
 min_power n c = ⊎_elim
     (λ l. let e : min n c ≡ n = omega arith in ap (λ k. min (2 ^ k) c) e)
     (λ l. let e : min n c ≡ c = omega arith in
-      let p : c < 2 ^ c = lt_two_pow c in
-      let q : n < 2 ^ n = lt_two_pow n in
-      ap (λ k. min (2 ^ k) c) e ∙ omega (arith, p, q))
+    let p : c < 2 ^ c = lt_two_pow c in
+    let q : n < 2 ^ n = lt_two_pow n in
+    ap (λ k. min (2 ^ k) c) e ∙ omega (arith, p, q))
     (cases_lt n c)
 
 pub relations_out : (a b : List Value) → IsRegularSet a → IsRegularSet b → (size count : ℕ) → size ≡ min (length a * length b) (SET_MAX + 1) → count ≡ min (2 ^ size) (SET_MAX + 1) → IsTrue (ltb SET_MAX count) ↔ AreRelations a b Out
 unfolding AreRelations
 relations_out a b h k size count e f =
     let all : length ([] ∷ some fits_any (singles (product_of a b))) ≡ 2 ^ (length a * length b) =
-      length_some (singles (product_of a b)) ∙ sizes_same suc 1 (λ x. x ∷ []) (product_of a b) (λ x. refl) ∙ ap (λ n. 2 ^ n) (length_product a b) in
+    length_some (singles (product_of a b)) ∙ sizes_same suc 1 (λ x. x ∷ []) (product_of a b) (λ x. refl) ∙ ap (λ n. 2 ^ n) (length_product a b) in
     out_by_size SetOf (IsRelationThat (λ r. Unit {0}) a b) ([] ∷ some fits_any (singles (product_of a b))) (relations_told a b h.ascending k.ascending) (2 ^ (length a * length b)) count all
     (f ∙ ap (λ n. min (2 ^ n) (SET_MAX + 1)) e ∙ min_power (length a * length b) (SET_MAX + 1))
 
@@ -106,9 +106,12 @@ relations_built a b h k few rows e r g = built_result SetOf (IsRelationThat (λ 
 -- a relation between regular sets is regular
 pub relation_regular : (P : List Value → Type 0) (a b : List Value) → IsRegularSet a → IsRegularSet b → (z : Value) → IsRelationThat P a b z → IsRegular z
 relation_regular P a b h k z p =
-    subst IsRegular (sym p.1) (regular-SetOf p.0 (record { ascending = p.2; regular = are_regular p.0 (λ u m.
-      let q = p.3 u m in
-      subst IsRegular (sym q.2) (regular-pair q.0 q.1 (regular_member a q.0 h.regular q.3) (regular_member b q.1 k.regular q.4))); }))
+    subst IsRegular (sym p.1) (regular-SetOf p.0 (record {
+      ascending = p.2;
+      regular = are_regular p.0 (λ u m.
+          let q = p.3 u m in
+          subst IsRegular (sym q.2) (regular-pair q.0 q.1 (regular_member a q.0 h.regular q.3) (regular_member b q.1 k.regular q.4)));
+    }))
 
 pub relations_regular : (a b : List Value) → IsRegularSet a → IsRegularSet b → (r : Result Outcome AllocError) → IfOk r (AreRelations a b) → IfOk r IsRegularOutcome
 unfolding AreRelations

@@ -87,4 +87,4 @@ power_built a h few rows e r k = built_result SetOf (IsSubset a) ([] ∷ some fi
 
 pub power_regular : (a : List Value) → IsRegularSet a → (r : Result Outcome AllocError) → IfOk r (IsPower a) → IfOk r IsRegularOutcome
 unfolding IsPower AreAmong
-power_regular a h r k = regular_made (IsSubset a) r (λ z p. subst IsRegular (sym p.1) (regular-SetOf p.0 (record { ascending = p.2; regular = are_regular p.0 (λ u m. regular_member a u h.regular (p.3 u m)); }))) k
+power_regular a h r k = regular_made (IsSubset a) r (λ z p. subst IsRegular (sym p.1) (regular-SetOf p.0 (record { ascending = p.2; regular = are_regular p.0 (λ u m. regular_member a u h.regular (p.3 u m)) }))) k

@@ -7,7 +7,9 @@ ghost use Rattle.zf_families.specs.Selections.{whole, fits_any, pairs};
 
 use crate::count;
 use crate::members::{is_between, is_function, is_graph};
-use crate::rows::{Fits, one_row_of, pair, pair_layers, product, set_of_sets, single_layers, some_rows, whole_rows};
+use crate::rows::{
+    Fits, one_row_of, pair, pair_layers, product, set_of_sets, single_layers, some_rows, whole_rows,
+};
 use std::alloc::{AllocError, Global};
 use zf_value::SET_MAX;
 use zf_value::items::Items;

@@ -18,7 +18,11 @@ pub enum Fits {
 }
 
 /// The rows that take one item of each layer.
-pub fn whole_rows(alloc: Global, fits: Fits, layers: &[Items<Value>]) -> Result<Vec<Items<Value>>, AllocError>
+pub fn whole_rows(
+    alloc: Global,
+    fits: Fits,
+    layers: &[Items<Value>],
+) -> Result<Vec<Items<Value>>, AllocError>
     ensures { IfOk result (λ rows. rows.items ≡ whole (fitting fits) layers.now) }
 {
     let mut rows = one_row(alloc)?;
@@ -26,14 +30,24 @@ pub fn whole_rows(alloc: Global, fits: Fits, layers: &[Items<Value>]) -> Result<
     while place > 0 {
         place -= 1;
         let mut next = Vec::new(alloc);
-        extend(alloc, fits, layers[place].as_slice(), rows.as_slice(), &mut next)?;
+        extend(
+            alloc,
+            fits,
+            layers[place].as_slice(),
+            rows.as_slice(),
+            &mut next,
+        )?;
         rows = next;
     }
     Ok(rows)
 }
 
 /// The rows that take at most one item of each layer, the empty row first.
-pub fn some_rows(alloc: Global, fits: Fits, layers: &[Items<Value>]) -> Result<Vec<Items<Value>>, AllocError>
+pub fn some_rows(
+    alloc: Global,
+    fits: Fits,
+    layers: &[Items<Value>],
+) -> Result<Vec<Items<Value>>, AllocError>
     ensures { IfOk result (λ rows. rows.items ≡ [] ∷ some (fitting fits) layers.now) }
 {
     let mut rows = one_row(alloc)?;
@@ -62,7 +76,12 @@ pub fn one_row_of(alloc: Global, row: Vec<Value>) -> Result<Vec<Items<Value>>, A
 }
 
 /// The empty row, the rows that begin in the layer, and the others of these.
-fn with_more(alloc: Global, fits: Fits, layer: &[Value], mut rows: Vec<Items<Value>>) -> Result<Vec<Items<Value>>, AllocError>
+fn with_more(
+    alloc: Global,
+    fits: Fits,
+    layer: &[Value],
+    mut rows: Vec<Items<Value>>,
+) -> Result<Vec<Items<Value>>, AllocError>
     requires { 0 < vec_len rows }
     ensures { IfOk result (λ next. next.items ≡ [] ∷ (extensions (fitting fits) layer.now rows.items ++ drop 1 rows.items)) }
 {
