@@ -1,0 +1,70 @@
+-- What the rows of functions and injections are, and how many there are.
+use Rattle.std.proofs.Common.{◌≡◌, ◌↔◌, ℕ, suc, ◌+◌, ◌^◌, ◌<◌, ◌≤◌, min, ltb, length, get_or, Result, List, [], ◌∷◌, map, refl, sym, ap, ◌∙◌, arith}
+use Rattle.std.specs.Prelude.{IsTrue}
+use Rattle.std.specs.Result.{IfOk}
+use Rattle.std.specs.declared.alloc.AllocError.{AllocError}
+use Rattle.std.proofs.lemmas.List.{length-map}
+use Rattle.zf_value.specs.declared.value.Value.{Value, SetOf}
+use Rattle.zf_value.specs.declared.value.Outcome.{Outcome}
+use Rattle.zf_value.specs.declared.value.Outcome.TheVariants.{Is, Out}
+use Rattle.zf_value.specs.declared.TheConstants.{SET_MAX}
+use Rattle.zf_value.specs.Sets.{IsRegularSet, IsRegularOutcome}
+use Rattle.zf_value.specs.Operations.{pair, IsFunctional, IsTotal, IsRelationThat, ArePartialFunctions, AreTotalFunctions}
+use Rattle.zf_value.proofs.Regulars.{regular_made}
+use Rattle.zf_families.specs.Selections.{whole, some, fits_any, pairs}
+use Rattle.zf_families.proofs.Told.{out_by_size, built_result}
+use Rattle.zf_families.proofs.Counts.{length_some, length_whole, sizes_same}
+use Rattle.zf_families.proofs.Relations.{relation_regular}
+use Rattle.zf_families.proofs.Functions.{partial_told, total_told}
+use Rattle.zf_families.proofs.FunctionLaws.{functions}
+
+abbrev pub partial_rows : List Value → List Value → List (List Value)
+partial_rows a b = [] ∷ some fits_any (map (pairs b) a)
+
+abbrev pub total_rows : List Value → List Value → List (List Value)
+total_rows a b = whole fits_any (map (pairs b) a)
+
+-- ---- partial functions
+
+pub partial_functions_out : (a b : List Value) → IsRegularSet a → IsRegularSet b → (count : ℕ) → count ≡ min (suc (length b) ^ length a) (SET_MAX + 1) → IsTrue (ltb SET_MAX count) ↔ ArePartialFunctions a b Out
+unfolding ArePartialFunctions
+partial_functions_out a b h k count e =
+    out_by_size SetOf (IsRelationThat IsFunctional a b) (partial_rows a b) (partial_told b fits_any IsFunctional functions a h.ascending k.ascending) (suc (length b) ^ length a) count
+    (length_some (map (pairs b) a) ∙ sizes_same suc (length b) (pairs b) a (λ x. length-map b (pair x))) e
+
+pub partial_functions_built : (a b : List Value) → IsRegularSet a → IsRegularSet b → (ArePartialFunctions a b Out → ⊥) → (rows : List (List Value)) → rows ≡ partial_rows a b → (r : Result Outcome AllocError) → IfOk r (λ o. o ≡ Is (SetOf (map SetOf rows))) → IfOk r (ArePartialFunctions a b)
+unfolding ArePartialFunctions
+partial_functions_built a b h k few rows e r g = built_result SetOf (IsRelationThat IsFunctional a b) (partial_rows a b) rows (partial_told b fits_any IsFunctional functions a h.ascending k.ascending) few e r g
+
+pub partial_functions_regular : (a b : List Value) → IsRegularSet a → IsRegularSet b → (r : Result Outcome AllocError) → IfOk r (ArePartialFunctions a b) → IfOk r IsRegularOutcome
+unfolding ArePartialFunctions
+partial_functions_regular a b h k r g = regular_made (IsRelationThat IsFunctional a b) r (relation_regular IsFunctional a b h k) g
+
+-- ---- total functions
+
+pub total_functions_out : (a b : List Value) → IsRegularSet a → IsRegularSet b → (count : ℕ) → count ≡ min (length b ^ length a) (SET_MAX + 1) → IsTrue (ltb SET_MAX count) ↔ AreTotalFunctions a b Out
+unfolding AreTotalFunctions
+total_functions_out a b h k count e =
+    out_by_size SetOf (IsRelationThat (λ r. IsFunctional r × IsTotal a r) a b) (total_rows a b) (total_told b fits_any IsFunctional functions a h.ascending k.ascending) (length b ^ length a) count
+    (length_whole (map (pairs b) a) ∙ sizes_same (λ n. n) (length b) (pairs b) a (λ x. length-map b (pair x))) e
+
+pub total_functions_built : (a b : List Value) → IsRegularSet a → IsRegularSet b → (AreTotalFunctions a b Out → ⊥) → (rows : List (List Value)) → rows ≡ total_rows a b → (r : Result Outcome AllocError) → IfOk r (λ o. o ≡ Is (SetOf (map SetOf rows))) → IfOk r (AreTotalFunctions a b)
+unfolding AreTotalFunctions
+total_functions_built a b h k few rows e r g = built_result SetOf (IsRelationThat (λ r. IsFunctional r × IsTotal a r) a b) (total_rows a b) rows (total_told b fits_any IsFunctional functions a h.ascending k.ascending) few e r g
+
+pub total_functions_regular : (a b : List Value) → IsRegularSet a → IsRegularSet b → (r : Result Outcome AllocError) → IfOk r (AreTotalFunctions a b) → IfOk r IsRegularOutcome
+unfolding AreTotalFunctions
+total_functions_regular a b h k r g = regular_made (IsRelationThat (λ r. IsFunctional r × IsTotal a r) a b) r (relation_regular (λ r. IsFunctional r × IsTotal a r) a b h k) g
+
+-- of functions to one member there is one, which is constant
+pub constant : (a : List Value) (y : Value) → whole fits_any (map (pairs (y ∷ [])) a) ≡ map (λ x. pair x y) a ∷ []
+constant [] y = refl
+constant (x ∷ a) y = let rest = constant a y in cc
+
+pub alone : (b : List Value) (y : Value) → 1 ≤ length b → length b < 2 → y ≡ get_or b 0 y → b ≡ y ∷ []
+alone [] y h k e = absurd (omega arith)
+alone (x ∷ []) y h k e = ap (λ u. u ∷ []) (sym e)
+alone (x ∷ u ∷ b) y h k e = absurd (omega arith)
+
+pub constant_rows : (a b : List Value) (y : Value) (row : List Value) → 1 ≤ length b → length b < 2 → y ≡ get_or b 0 y → row ≡ map (λ x. pair x y) a → row ∷ [] ≡ total_rows a b
+constant_rows a b y row h k e r = ap (λ s. s ∷ []) r ∙ sym (constant a y) ∙ ap (total_rows a) (sym (alone b y h k e))

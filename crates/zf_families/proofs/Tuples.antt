@@ -1,0 +1,124 @@
+-- The tuples of a product are the rows that take a member of each set.
+use Rattle.std.proofs.Common.{◌≡◌, ◌↔◌, ℕ, suc, ◌+◌, ◌<◌, min, ltb, length, get_or, Result, Bool, false, List, [], ◌∷◌, map, refl, sym, ap, ◌∙◌, subst, arith}
+use Rattle.std.proofs.lemmas.List.{nil_from_length}
+use Rattle.std.specs.Prelude.{IsTrue}
+use Rattle.std.specs.Result.{IfOk}
+use Rattle.std.specs.declared.alloc.AllocError.{AllocError}
+use Rattle.zf_value.specs.declared.value.Value.{Value, Tuple, SetOf, out-Value, roll-Value, roll-out-Value}
+use Rattle.zf_value.specs.declared.value.Value.TheOpen.{Value-F}
+use Rattle.zf_value.specs.declared.value.Value.TheVariants.{rolls-SetOf}
+use Rattle.zf_value.specs.declared.value.Outcome.{Outcome}
+use Rattle.zf_value.specs.declared.value.Outcome.TheVariants.{Is, Out}
+use Rattle.zf_value.specs.declared.TheConstants.{SET_MAX}
+use Rattle.zf_value.proofs.Regulars.{regular_made, regular-Tuple, regular_set, regular_none, regular_member}
+use Rattle.zf_families.specs.Counts.{sizes}
+use Rattle.zf_families.proofs.Counts.{length_whole}
+use Rattle.zf_value.specs.Sets.{Every, IsAscending, members_at, members, parts, IsRegular, AreRegular, IsRegularSet, IsRegularOutcome}
+use Rattle.zf_value.specs.Operations.{AreFrom, IsCross}
+use Rattle.zf_value.proofs.Seen.{parts-Tuple}
+use Rattle.zf_value.proofs.Among.{member_at}
+use Rattle.std.proofs.lemmas.Bool.{false≢true}
+use Rattle.zf_families.specs.Families.{IsTupleFrom}
+use Rattle.zf_families.specs.Selections.{whole, fits_any}
+use Rattle.zf_families.proofs.Lists.{Each, each_map}
+use Rattle.zf_families.proofs.InOrder.{ordered_whole}
+use Rattle.zf_families.proofs.Told.{Tells, tuple_order, out_by_size, built_result}
+use Rattle.zf_families.proofs.Chosen.{Takes, in_whole}
+
+abbrev From : List Value → List Value → Type 0
+From sets r = AreFrom r sets
+
+none : (r : List Value) → From [] r ↔ ([] ≡ r)
+none [] = (λ h. refl, λ e. tt)
+none (p ∷ s) = (λ h. absurd h, λ e. (cc))
+
+step_to : (x : Value) (xs r : List Value) → From (x ∷ xs) r → Takes fits_any (members x) (From xs) r
+step_to x xs [] h = absurd h
+step_to x xs (p ∷ s) h = (p, s, refl, h.0, h.1, refl)
+
+step_from : (x : Value) (xs r : List Value) → Takes fits_any (members x) (From xs) r → From (x ∷ xs) r
+step_from x xs r t = subst (From (x ∷ xs)) t.2 (t.3, t.4)
+
+each_members : (sets : List Value) → Every (λ s. IsAscending (members s)) sets → Each (λ s. IsAscending (members s)) sets
+each_members [] h = tt
+each_members (s ∷ sets) h = (h.0, each_members sets h.1)
+
+pub cross_told : (sets : List Value) → Every (λ s. IsAscending (members s)) sets
+    → Tells Tuple (λ z. (vs : List Value) × (z ≡ Tuple vs) × AreFrom vs sets) (whole fits_any (map members sets))
+cross_told sets h =
+    let chosen = in_whole fits_any members (λ a. Unit {0}) From (λ x xs g. tt) none (λ x xs r g. (step_to x xs r, step_from x xs r)) sets in
+    record {
+      kept = tuple_order;
+      ordered = ordered_whole fits_any (map members sets) (each_map IsAscending members sets (each_members sets h));
+      passes = λ r m. (r, refl, (chosen r tt).0 m);
+      found = λ z p. (p.0, sym p.1, (chosen p.0 tt).1 p.2);
+    }
+
+-- ---- sets that are regular
+
+members_seen : (v : Value) (x : Value-F Value) → out-Value v ≡ x → IsRegular v → IsRegularSet (members v)
+members_seen v (Value-F.SetOf xs) e h = subst IsRegularSet (sym (ap members_at e)) (regular_set xs (subst IsRegular (sym (roll-out-Value v) ∙ ap roll-Value e ∙ rolls-SetOf xs) h))
+members_seen v (Value-F.Int n) e h = subst IsRegularSet (sym (ap members_at e)) regular_none
+members_seen v (Value-F.Elem t i) e h = subst IsRegularSet (sym (ap members_at e)) regular_none
+members_seen v (Value-F.Tuple xs) e h = subst IsRegularSet (sym (ap members_at e)) regular_none
+
+pub regular_members : (v : Value) → IsRegular v → IsRegularSet (members v)
+regular_members v h = members_seen v (out-Value v) refl h
+
+all_ascending : (sets : List Value) → Every IsRegular sets → Every (λ s. IsAscending (members s)) sets
+all_ascending [] h = tt
+all_ascending (s ∷ sets) h = (let r = regular_members s h.0 in r.ascending, all_ascending sets h.1)
+
+ascending_sets : (sets : List Value) → AreRegular sets → Every (λ s. IsAscending (members s)) sets
+unfolding AreRegular
+ascending_sets sets h = all_ascending sets h
+
+parts_regular : (vs sets : List Value) → Every IsRegular sets → AreFrom vs sets → Every IsRegular vs
+parts_regular [] [] h f = tt
+parts_regular [] (s ∷ sets) h f = absurd f
+parts_regular (v ∷ vs) [] h f = absurd f
+parts_regular (v ∷ vs) (s ∷ sets) h f = (let r = regular_members s h.0 in regular_member (members s) v r.regular f.0, parts_regular vs sets h.1 f.1)
+
+from_regular : (vs sets : List Value) → AreRegular sets → AreFrom vs sets → AreRegular vs
+unfolding AreRegular
+from_regular vs sets h f = parts_regular vs sets h f
+
+pub cross_out : (sets : List Value) → AreRegular sets → (count : ℕ) → count ≡ min (sizes (λ n. n) (map members sets)) (SET_MAX + 1) → IsTrue (ltb SET_MAX count) ↔ IsCross sets Out
+unfolding IsCross
+cross_out sets h count e =
+    out_by_size Tuple (λ z. (vs : List Value) × (z ≡ Tuple vs) × AreFrom vs sets) (whole fits_any (map members sets)) (cross_told sets (ascending_sets sets h)) (sizes (λ n. n) (map members sets)) count (length_whole (map members sets)) e
+
+pub cross_built : (sets : List Value) → AreRegular sets → (IsCross sets Out → ⊥) → (rows : List (List Value)) → rows ≡ whole fits_any (map members sets) → (r : Result Outcome AllocError) → IfOk r (λ o. o ≡ Is (SetOf (map Tuple rows))) → IfOk r (IsCross sets)
+unfolding IsCross
+cross_built sets h few rows e r k =
+    built_result Tuple (λ z. (vs : List Value) × (z ≡ Tuple vs) × AreFrom vs sets) (whole fits_any (map members sets)) rows (cross_told sets (ascending_sets sets h)) few e r k
+
+pub cross_regular : (sets : List Value) → AreRegular sets → (r : Result Outcome AllocError) → IfOk r (IsCross sets) → IfOk r IsRegularOutcome
+unfolding IsCross
+cross_regular sets h r k = regular_made (λ z. (vs : List Value) × (z ≡ Tuple vs) × AreFrom vs sets) r (λ z p. subst IsRegular (sym p.1) (regular-Tuple p.0 (from_regular p.0 sets h p.2))) k
+
+-- where the product is empty there is no row
+pub no_tuples : (sets : List Value) (size c : ℕ) → size ≡ min (sizes (λ n. n) (map members sets)) (c + 1) → size ≡ 0 → whole fits_any (map members sets) ≡ []
+no_tuples sets size c e z = let l = length_whole (map members sets) in nil_from_length (whole fits_any (map members sets)) (omega (arith, e, z, l))
+
+-- ---- tests of tuples
+
+same_parts : (r s : List Value) → Tuple r ≡ Tuple s → r ≡ s
+same_parts r s e = sym (parts-Tuple r) ∙ ap parts e ∙ parts-Tuple s
+
+pub tuple_at : (sets r : List Value) (v : Value) (t : Bool) → v ≡ Tuple r → IsTrue t ↔ AreFrom r sets → IsTrue t ↔ IsTupleFrom sets v
+unfolding IsTupleFrom
+tuple_at sets r v t e k = (λ g. (r, e, k.0 g), λ p. k.1 (subst (λ s. AreFrom s sets) (same_parts p.0 r (sym p.1 ∙ e)) p.2))
+
+pub no_tuple : (sets : List Value) (v : Value) → ((r : List Value) → v ≡ Tuple r → ⊥) → IsTrue false ↔ IsTupleFrom sets v
+unfolding IsTupleFrom
+no_tuple sets v h = (λ e. absurd (false≢true e), λ p. absurd (h p.0 p.1))
+
+pub as_many : (vs sets : List Value) → AreFrom vs sets → length vs ≡ length sets
+as_many [] [] f = refl
+as_many [] (s ∷ sets) f = absurd f
+as_many (v ∷ vs) [] f = absurd f
+as_many (v ∷ vs) (s ∷ sets) f = ap suc (as_many vs sets f.1)
+
+pub regular_at : (sets : List Value) (i : ℕ) (s : Value) → AreRegular sets → s ≡ get_or sets i s → i < length sets → IsRegular s
+regular_at sets i s h e l = regular_member sets s h (member_at sets i s e l)

@@ -1,0 +1,7 @@
+use Rattle.std.proofs.Common.{◌≡◌, ◌+◌, min}
+use Rattle.zf_value.specs.declared.TheConstants.{SET_MAX}
+use Rattle.zf_families.specs.Counts.{falling}
+use Rattle.zf_families.proofs.count.falling.Given as goal
+
+abbrev pub invariant-loop-turn : goal.invariant-loop-turn
+invariant-loop-turn l = l.count ≡ min (falling l.from l.turn) (SET_MAX + 1)

@@ -1,0 +1,6 @@
+use Rattle.std.proofs.Common.{◌≡◌, ◌+◌, ◌^◌, min}
+use Rattle.zf_value.specs.declared.TheConstants.{SET_MAX}
+use Rattle.zf_families.proofs.count.power.Given as goal
+
+abbrev pub invariant-loop-turn : goal.invariant-loop-turn
+invariant-loop-turn l = l.count ≡ min (l.base ^ l._turn) (SET_MAX + 1)

@@ -1,0 +1,6 @@
+use Rattle.std.proofs.Common.{◌↔◌, drop}
+use Rattle.zf_value.specs.Operations.{AreFrom}
+use Rattle.zf_families.proofs.cross.are_from.Given as goal
+
+abbrev pub invariant-loop-place : goal.invariant-loop-place
+invariant-loop-place l = AreFrom l.parts l.sets ↔ AreFrom (drop l.place l.parts) (drop l.place l.sets)

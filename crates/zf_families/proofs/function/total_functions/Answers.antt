@@ -1,0 +1,13 @@
+use Rattle.std.proofs.Common.{◌≡◌}
+use Rattle.zf_families.proofs.Families.{total_rows}
+use Rattle.std.proofs.lemmas.Bool.{iff_false}
+use Rattle.zf_families.proofs.Families.{total_functions_built, total_functions_regular}
+use Rattle.zf_families.proofs.function.total_functions.Goals as goal
+
+pub returns-clause-is : goal.returns-clause-is
+returns-clause-is c =
+    let rows : c.in_ok-rows.rows.items ≡ total_rows c.args.a.now c.args.b.now = cc (c.in_ok-rows.ensures) in
+    total_functions_built c.args.a.now c.args.b.now c.requires.from c.requires.to (iff_false c.are_total_functions_out.ensures c.if-are_total_functions_out.false) c.in_ok-rows.rows.items rows c.set_of_sets.result c.set_of_sets.ensures
+
+pub returns-clause-regular : goal.returns-clause-regular
+returns-clause-regular c = total_functions_regular c.args.a.now c.args.b.now c.requires.from c.requires.to c.set_of_sets.result (returns-clause-is c)

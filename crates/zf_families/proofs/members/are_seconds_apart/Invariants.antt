@@ -1,0 +1,6 @@
+use Rattle.std.proofs.Common.{◌≡◌, drop}
+use Rattle.zf_families.specs.Tests.{seconds_apart}
+use Rattle.zf_families.proofs.members.are_seconds_apart.Given as goal
+
+abbrev pub invariant-loop-place : goal.invariant-loop-place
+invariant-loop-place l = seconds_apart l.r ≡ seconds_apart (drop l.place l.r)

@@ -1,0 +1,6 @@
+use Rattle.std.proofs.Common.{take}
+use Rattle.zf_value.specs.Operations.{IsBetween}
+use Rattle.zf_families.proofs.members.is_between.Given as goal
+
+abbrev pub invariant-loop-z : goal.invariant-loop-z
+invariant-loop-z l = IsBetween l.a l.b (take l.z-index l.r)

@@ -1,0 +1,6 @@
+use Rattle.std.proofs.Common.{◌≡◌, ◌++◌, take}
+use Rattle.zf_families.specs.Selections.{fitting, extensions}
+use Rattle.zf_families.proofs.rows.extend.Given as goal
+
+abbrev pub invariant-loop-p : goal.invariant-loop-p
+invariant-loop-p l = l.next.items ≡ l.initial.next.items ++ extensions (fitting l.fits) (take l.p-index l.layer) l.rows

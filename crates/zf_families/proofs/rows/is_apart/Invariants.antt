@@ -1,0 +1,6 @@
+use Rattle.std.proofs.Common.{◌≡◌, true, take}
+use Rattle.zf_families.specs.Selections.{fits_apart}
+use Rattle.zf_families.proofs.rows.is_apart.Given as goal
+
+abbrev pub invariant-loop-q : goal.invariant-loop-q
+invariant-loop-q l = fits_apart l.p (take l.q-index l.row) ≡ true

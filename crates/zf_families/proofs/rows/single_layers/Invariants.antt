@@ -1,0 +1,6 @@
+use Rattle.std.proofs.Common.{◌≡◌, take}
+use Rattle.zf_families.specs.Selections.{singles}
+use Rattle.zf_families.proofs.rows.single_layers.Given as goal
+
+abbrev pub invariant-loop-x : goal.invariant-loop-x
+invariant-loop-x l = l.layers.items ≡ singles (take l.x-index l.a)

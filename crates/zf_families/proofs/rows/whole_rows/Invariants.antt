@@ -1,0 +1,9 @@
+use Rattle.std.proofs.Common.{◌≡◌, ◌≤◌, drop, length}
+use Rattle.zf_families.specs.Selections.{fitting, whole}
+use Rattle.zf_families.proofs.rows.whole_rows.Given as goal
+
+abbrev pub invariant-loop-place : goal.invariant-loop-place
+invariant-loop-place l = (l.place ≤ length l.layers) × (l.rows.items ≡ whole (fitting l.fits) (drop l.place l.layers))
+
+abbrev pub decreases-loop-place : goal.decreases-loop-place
+decreases-loop-place l = l.place

@@ -1,0 +1,4 @@
+pub mod Families
+pub mod Selections
+pub mod Tests
+pub mod Counts

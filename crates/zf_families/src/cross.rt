@@ -1,0 +1,97 @@
+//! Products.
+ghost use Rattle.std.specs.Prelude.{◌≡◌, ◌+◌, ◌↔◌, IsTrue, IfOk, map, min};
+ghost use Rattle.zf_value.specs.Operations.{IsCross, AreFrom};
+ghost use Rattle.zf_value.specs.Sets.{AreRegular, IsRegularOutcome, members};
+ghost use Rattle.zf_families.specs.Counts.{sizes};
+ghost use Rattle.zf_families.specs.Families.{IsTupleFrom};
+ghost use Rattle.zf_families.specs.Selections.{whole, fits_any};
+
+use crate::count;
+use crate::rows::{Fits, copied, set_of_tuples, whole_rows};
+use std::alloc::{AllocError, Global};
+use zf_value::SET_MAX;
+use zf_value::items::Items;
+use zf_value::lent::Lent;
+use zf_value::set::is_member;
+use zf_value::value::{Outcome, Value};
+
+/// `s_1 \cross s_2 \cross ..`, of sets.
+pub fn cross(alloc: Global, sets: &[Lent<'_>]) -> Result<Outcome, AllocError>
+    requires { AreRegular sets.now }
+    ensures is { IfOk result (IsCross sets.now) }
+    ensures regular { IfOk result IsRegularOutcome }
+{
+    if is_cross_out(sets) {
+        return Ok(Outcome::Out);
+    }
+    let rows = tuple_rows(alloc, sets)?;
+    set_of_tuples(alloc, rows)
+}
+
+/// Whether the product has more members than a set may have.
+pub fn is_cross_out(sets: &[Lent<'_>]) -> bool
+    requires { AreRegular sets.now }
+    ensures { IsTrue result ↔ IsCross sets.now Outcome.Out }
+{
+    size(sets) > SET_MAX
+}
+
+/// Whether the value is a tuple of members of these sets.
+pub fn is_in_cross(v: &Value, sets: &[Lent<'_>]) -> bool
+    requires { AreRegular sets.now }
+    ensures { IsTrue result ↔ IsTupleFrom sets.now v.now }
+{
+    match v {
+        Value::Tuple(parts) => are_from(parts.as_slice(), sets),
+        _ => false,
+    }
+}
+
+/// Whether each is a member of the set at its place.
+fn are_from(parts: &[Value], sets: &[Lent<'_>]) -> bool
+    requires { AreRegular sets.now }
+    ensures { IsTrue result ↔ AreFrom parts.now sets.now }
+{
+    if parts.len() != sets.len() {
+        return false;
+    }
+    for place in 0..parts.len() {
+        if !is_member(&parts[place], sets[place].get().members()) {
+            return false;
+        }
+    }
+    true
+}
+
+/// How many members the product has, counted no further than one more than a set may have.
+fn size(sets: &[Lent<'_>]) -> usize
+    ensures { result ≡ min (sizes (λ n. n) (map members sets.now)) (SET_MAX + 1) }
+{
+    let mut size = 1;
+    for set in sets {
+        size = count::product(size, set.get().members().len());
+    }
+    size
+}
+
+/// The tuples as rows. Where a set is empty there are none, however many the others would make.
+fn tuple_rows(alloc: Global, sets: &[Lent<'_>]) -> Result<Vec<Items<Value>>, AllocError>
+    ensures { IfOk result (λ rows. rows.items ≡ whole fits_any (map members sets.now)) }
+{
+    if size(sets) == 0 {
+        return Ok(Vec::new(alloc));
+    }
+    let layers = member_layers(alloc, sets)?;
+    whole_rows(alloc, Fits::Any, layers.as_slice())
+}
+
+/// The members of each set.
+fn member_layers(alloc: Global, sets: &[Lent<'_>]) -> Result<Vec<Items<Value>>, AllocError>
+    ensures { IfOk result (λ layers. layers.items ≡ map members sets.now) }
+{
+    let mut layers = Vec::new(alloc);
+    for set in sets {
+        layers.push(copied(alloc, set.get().members())?)?;
+    }
+    Ok(layers)
+}

@@ -1,0 +1,190 @@
+//! The operations that make tuples and sets.
+ghost use Rattle.std.specs.Prelude.{◌≡◌, ◌↔◌, ◌++◌, IsTrue, IfOk, OnOk};
+ghost use Rattle.zf_value.specs.Operations.{pair, IsPair, IsTuple, IsEmptySet, IsElement, AreElements, IsDisplay, IsUnion, IsIntersection, IsSetDifference, IsSize};
+ghost use Rattle.zf_value.specs.Sets.{IsMember, IsAscending, AreAmong, IsRegular, AreRegular, IsRegularSet, IsRegularOutcome};
+ghost use Rattle.zf_value.specs.Steps.{HaveSameMembers};
+
+use crate::SET_MAX;
+use crate::items::Items;
+use crate::part::{Keep, Part, selected};
+use crate::value::{Outcome, Value};
+use std::alloc::{AllocError, Global};
+
+/// `x \mapsto y`.
+pub fn pair(alloc: Global, x: Value, y: Value) -> Result<Outcome, AllocError>
+    ensures is { IfOk result (IsPair x y) }
+    ensures regular { IsRegular x → IsRegular y → IfOk result IsRegularOutcome }
+{
+    Ok(Outcome::Is(tuple_of_two(alloc, x, y)?))
+}
+
+pub fn tuple(alloc: Global, values: Vec<Value>) -> Result<Outcome, AllocError>
+    ensures is { IfOk result (IsTuple values.items) }
+    ensures regular { AreRegular values.items → IfOk result IsRegularOutcome }
+{
+    Ok(Outcome::Is(Value::Tuple(Items::of(alloc, values)?)))
+}
+
+pub fn empty_set(alloc: Global) -> Result<Outcome, AllocError>
+    ensures is { IfOk result IsEmptySet }
+    ensures regular { IfOk result IsRegularOutcome }
+{
+    Ok(Outcome::Is(Value::SetOf(Items::of(alloc, Vec::new(alloc))?)))
+}
+
+/// The set of these values, in any order and with repeats.
+pub fn display(alloc: Global, mut values: Vec<Value>) -> Result<Outcome, AllocError>
+    ensures is { IfOk result (IsDisplay values.items) }
+    ensures regular { AreRegular values.items → IfOk result IsRegularOutcome }
+{
+    make_ascending(&mut values)?;
+    set_of(alloc, values)
+}
+
+/// The elements of the type of this number, which has so many.
+pub fn elements(alloc: Global, number: u32, count: u64) -> Result<Outcome, AllocError>
+    ensures is { IfOk result (AreElements number count) }
+    ensures regular { IfOk result IsRegularOutcome }
+{
+    if count > SET_MAX as u64 {
+        return Ok(Outcome::Out);
+    }
+    let mut members = Vec::new(alloc);
+    for index in 0..count {
+        members.push(Value::Elem(number, index))?;
+    }
+    set_of(alloc, members)
+}
+
+/// Whether the value is one of the elements of the type of this number, which has so many.
+pub fn is_element(z: &Value, number: u32, count: u64) -> bool
+    ensures { IsTrue result ↔ IsElement number count z.now }
+{
+    match z {
+        Value::Elem(n, i) => *n == number && *i < count,
+        _ => false,
+    }
+}
+
+pub fn is_member(z: &Value, set: &[Value]) -> bool
+    requires { IsRegularSet set.now }
+    ensures { IsTrue result ↔ IsMember z.now set.now }
+{
+    is_found(z, set)
+}
+
+/// Whether each of these is a member of the set.
+pub fn are_among(values: &[Value], set: &[Value]) -> bool
+    requires { IsRegularSet set.now }
+    ensures { IsTrue result ↔ AreAmong values.now set.now }
+{
+    for z in values {
+        if !is_member(z, set) {
+            return false;
+        }
+    }
+    true
+}
+
+pub fn union(alloc: Global, a: &[Value], b: &[Value]) -> Result<Outcome, AllocError>
+    requires a { IsRegularSet a.now }
+    requires b { IsRegularSet b.now }
+    ensures is { IfOk result (IsUnion a.now b.now) }
+    ensures regular { IfOk result IsRegularOutcome }
+{
+    let mut values = Vec::with_capacity(alloc, a.len())?;
+    copy_onto(alloc, &mut values, a)?;
+    copy_onto(alloc, &mut values, b)?;
+    display(alloc, values)
+}
+
+pub fn intersection(alloc: Global, a: &[Value], b: &[Value]) -> Result<Outcome, AllocError>
+    requires a { IsRegularSet a.now }
+    requires b { IsRegularSet b.now }
+    ensures is { IfOk result (IsIntersection a.now b.now) }
+    ensures regular { IfOk result IsRegularOutcome }
+{
+    display(
+        alloc,
+        selected(alloc, a, Part::Whole, Keep::Members, b, Part::Whole)?,
+    )
+}
+
+/// `a \setminus b`.
+pub fn set_difference(alloc: Global, a: &[Value], b: &[Value]) -> Result<Outcome, AllocError>
+    requires a { IsRegularSet a.now }
+    requires b { IsRegularSet b.now }
+    ensures is { IfOk result (IsSetDifference a.now b.now) }
+    ensures regular { IfOk result IsRegularOutcome }
+{
+    display(
+        alloc,
+        selected(alloc, a, Part::Whole, Keep::Others, b, Part::Whole)?,
+    )
+}
+
+/// `\# a`.
+pub fn size(a: &[Value]) -> Outcome
+    ensures is { IsSize a.now result }
+    ensures regular { IsRegularOutcome result }
+{
+    match i64::try_from(a.len()) {
+        Ok(n) => Outcome::Is(Value::Int(n)),
+        Err(_) => Outcome::Out,
+    }
+}
+
+// ---- steps
+
+/// Whether the value is among these.
+pub(crate) fn is_found(z: &Value, values: &[Value]) -> bool
+    requires { IsAscending values.now }
+    ensures { IsTrue result ↔ IsMember z.now values.now }
+{
+    values.binary_search(z).is_ok()
+}
+
+/// Sorts the values, and drops repeats.
+pub(crate) fn make_ascending(values: &mut Vec<Value>) -> Result<(), AllocError>
+    ensures ascending { OnOk result (IsAscending values.new.items) }
+    ensures members { OnOk result (HaveSameMembers values.old.items values.new.items) }
+{
+    values.sort()?;
+    values.dedup();
+    Ok(())
+}
+
+/// The set of these members.
+pub(crate) fn set_of(alloc: Global, members: Vec<Value>) -> Result<Outcome, AllocError>
+    requires { IsAscending members.items }
+    ensures { IfOk result (IsDisplay members.items) }
+{
+    if members.len() > SET_MAX {
+        return Ok(Outcome::Out);
+    }
+    Ok(Outcome::Is(Value::SetOf(Items::of(alloc, members)?)))
+}
+
+/// Copies the values behind the others.
+pub(crate) fn copy_onto(
+    alloc: Global,
+    values: &mut Vec<Value>,
+    others: &[Value],
+) -> Result<(), AllocError>
+    ensures { OnOk result (values.new.items ≡ values.old.items ++ others.now) }
+{
+    for z in others {
+        values.push(z.copy(alloc)?)?;
+    }
+    Ok(())
+}
+
+/// The pair of these values.
+pub(crate) fn tuple_of_two(alloc: Global, x: Value, y: Value) -> Result<Value, AllocError>
+    ensures { IfOk result (λ v. v ≡ pair x y) }
+{
+    let mut values = Vec::with_capacity(alloc, 2)?;
+    values.push(x)?;
+    values.push(y)?;
+    Ok(Value::Tuple(Items::of(alloc, values)?))
+}
