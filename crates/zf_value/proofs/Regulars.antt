@@ -1,5 +1,5 @@
 -- Regular values: what makes one, and what one holds.
-use Rattle.std.proofs.Common.{◌≡◌, ℤ, ℕ, zero, suc, List, [], ◌∷◌, Some, refl, sym, ap, ◌∙◌, subst, inl, inr, ⊎_elim, Bool, true, false}
+use Rattle.std.proofs.Common.{◌≡◌, ℤ, ℕ, zero, suc, List, [], ◌∷◌, ◌++◌, Some, refl, sym, ap, ◌∙◌, subst, inl, inr, ⊎_elim, Bool, true, false}
 use Rattle.std.specs.Prelude.{slice_get, Result}
 use Rattle.std.specs.Result.{IfOk}
 use Rattle.std.specs.declared.alloc.AllocError.{AllocError}
@@ -12,7 +12,7 @@ use Rattle.zf_value.specs.declared.value.Outcome.TheVariants.{Is, Undefined, Out
 use Rattle.zf_value.specs.Numbers.{IsNumber}
 use Rattle.zf_value.specs.Operations.{pair, IsDisplay}
 use Rattle.zf_value.specs.Sets.{IsMember, Every, IsAscending, IsSetOf, parts_at, parts, IsRegular, AreRegular, IsRegularSet, IsRegularOutcome, members}
-use Rattle.zf_value.proofs.Among.{every_from, every_at}
+use Rattle.zf_value.proofs.Among.{every_from, every_at, members-push}
 use Rattle.zf_value.proofs.Seen.{parts-Tuple, parts-SetOf, members-SetOf}
 
 abbrev is_set_at : Value-F Value → Bool
@@ -78,8 +78,15 @@ pub are_regular : (xs : List Value) → ((z : Value) → IsMember z xs → IsReg
 unfolding AreRegular
 are_regular xs f = every_from IsRegular xs f
 
+-- a list that grows
+pub regular-nothing : AreRegular []
+regular-nothing = are_regular [] (λ z m. absurd m)
+
+pub regular-push : (xs : List Value) (v : Value) → AreRegular xs → IsRegular v → AreRegular (xs ++ v ∷ [])
+regular-push xs v h k = are_regular (xs ++ v ∷ []) (λ z m. ⊎_elim (λ n. regular_member xs z h n) (λ s. subst IsRegular s k) ((members-push xs v z).0 m))
+
 pub regular_none : IsRegularSet []
-regular_none = record { ascending = tt; regular = are_regular [] (λ z m. absurd m) }
+regular_none = record { ascending = tt; regular = regular-nothing }
 
 pub regular-pair : (x y : Value) → IsRegular x → IsRegular y → IsRegular (pair x y)
 regular-pair x y h k = regular-Tuple (x ∷ y ∷ []) (are_regular (x ∷ y ∷ []) (λ z m. ⊎_elim (λ s. subst IsRegular s h) (λ n. ⊎_elim (λ s. subst IsRegular s k) (λ o. absurd o) n) m))
