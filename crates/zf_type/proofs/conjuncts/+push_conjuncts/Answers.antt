@@ -31,7 +31,7 @@ returns-in_ok-push_conjuncts-in-Connective-clause-ok t c =
     let a = tree_of c.in-Connective.left in
     let b = tree_of c.in-Connective.right in
     let is = ap tree_of c.in-Connective.is ∙ seen.of-Connective c.in-Connective.field-0 c.in-Connective.connective c.in-Connective.left c.in-Connective.right in
-    let first = c.in_ok-push_conjuncts-in-Connective.ensures.ok ∙ ap (λ w. map written_of c.args.conjuncts.now ++ conjuncts (resolved s (tree_of w))) c.get-then-eq.ensures in
-    let here = ap (λ y. conjuncts (resolved y (tree_of c.get-then-eq-2.result.now))) c.in_ok-push_conjuncts-in-Connective.ensures.scope ∙ ap (λ w. conjuncts (resolved s (tree_of w))) c.get-then-eq-2.ensures in
-    let second = subst (λ ts. OnOk c.push_conjuncts-then-eq-2.result (map written_of c.push_conjuncts-then-eq-2.new.conjuncts ≡ map written_of c.push_conjuncts-then-eq.new.conjuncts ++ ts)) here c.push_conjuncts-then-eq-2.ensures.ok in
-    both_pushed c.push_conjuncts-then-eq-2.result _ _ _ _ _ _ first second (of_both s c.in-Connective.field-0 c.in-Connective.connective a b (tree_of c.args.term.now) is (search rules))
+    let first = c.in_ok-push_conjuncts-in-Connective.ensures.ok ∙ ap (λ w. map written_of c.args.conjuncts.now ++ conjuncts (resolved s (tree_of w))) c.get-then-connective-eq0.ensures in
+    let here = ap (λ y. conjuncts (resolved y (tree_of c.get-then-connective-eq0-2.result.now))) c.in_ok-push_conjuncts-in-Connective.ensures.scope ∙ ap (λ w. conjuncts (resolved s (tree_of w))) c.get-then-connective-eq0-2.ensures in
+    let second = subst (λ ts. OnOk c.push_conjuncts-then-connective-eq0-2.result (map written_of c.push_conjuncts-then-connective-eq0-2.new.conjuncts ≡ map written_of c.push_conjuncts-then-connective-eq0.new.conjuncts ++ ts)) here c.push_conjuncts-then-connective-eq0-2.ensures.ok in
+    both_pushed c.push_conjuncts-then-connective-eq0-2.result _ _ _ _ _ _ first second (of_both s c.in-Connective.field-0 c.in-Connective.connective a b (tree_of c.args.term.now) is (search rules))
