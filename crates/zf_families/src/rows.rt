@@ -130,7 +130,7 @@ fn extend_by(
 fn begun(alloc: Global, p: &Value, row: &[Value]) -> Result<Items<Value>, AllocError>
     ensures { IfOk result (λ r. r ≡ p.now ∷ row.now) }
 {
-    let mut items = Vec::new(alloc);
+    let mut items = Vec::with_capacity(alloc, row.len() + 1)?;
     items.push(p.copy(alloc)?)?;
     for q in row {
         items.push(q.copy(alloc)?)?;
@@ -142,7 +142,7 @@ fn begun(alloc: Global, p: &Value, row: &[Value]) -> Result<Items<Value>, AllocE
 pub fn copied(alloc: Global, values: &[Value]) -> Result<Items<Value>, AllocError>
     ensures { IfOk result (λ r. r ≡ values.now) }
 {
-    let mut items = Vec::new(alloc);
+    let mut items = Vec::with_capacity(alloc, values.len())?;
     for value in values {
         items.push(value.copy(alloc)?)?;
     }
@@ -236,7 +236,7 @@ fn append_pairs(
 pub fn pair(alloc: Global, x: &Value, y: &Value) -> Result<Value, AllocError>
     ensures { IfOk result (λ p. p ≡ pair x.now y.now) }
 {
-    let mut parts = Vec::new(alloc);
+    let mut parts = Vec::with_capacity(alloc, 2)?;
     parts.push(x.copy(alloc)?)?;
     parts.push(y.copy(alloc)?)?;
     Ok(Value::Tuple(Items::of(alloc, parts)?))
