@@ -1,0 +1,5 @@
+pub mod Dues
+pub mod Rows
+pub mod Judging
+pub mod Listing
+pub mod EventLaws
