@@ -5,4 +5,7 @@ pub mod DeclaredSets
 pub mod Ranges
 pub mod Events
 pub mod Parts
+pub mod Filters
+pub mod Components
+pub mod Starts
 pub mod Searches

@@ -1,6 +1,8 @@
 -- What declared sets leave of values. No public clause rests on this.
-use Rattle.std.specs.Prelude.{◌≡◌, ◌⊎◌, ◌↔◌, List, [], ◌∷◌, ◌++◌}
-use Rattle.zf_term.specs.Definitions.{DeclaredSet, DeclaredSets}
+use Rattle.std.specs.Prelude.{◌≡◌, ◌⊎◌, ◌↔◌, ℕ, ◌<◌, true, List, [], ◌∷◌, ◌++◌, length, get_or}
+use Rattle.zf_term.specs.declared.globals.Domain.{Domain}
+use Rattle.zf_finite.specs.Finite.{bounds}
+use Rattle.zf_term.specs.Definitions.{Defined, DeclaredSet, DeclaredSets, set_of}
 use Rattle.zf_value.specs.declared.value.Value.{Value}
 use Rattle.zf_value.specs.Sets.{IsMember, IsAscending, AreRegular, members}
 use Rattle.zf_value.specs.declared.value.Outcome.{Outcome}
@@ -52,3 +54,8 @@ IsIn outcome.Out v = ⊥
 abbrev pub Tells : Lack → Type 0 → Type 0
 Tells Out P = P
 Tells OutOfMemory P = Unit {0}
+
+-- the declared set at this place bounds
+pub record BoundsAt (g : List Defined) (ds : List Domain) (place : ℕ) : Type 0 where
+  pub within : place < length ds
+  pub bounds : (x : Domain) → x ≡ get_or ds place x → bounds g (set_of x) ≡ true
