@@ -1,0 +1,4 @@
+pub mod TextsSeen
+pub mod Words
+pub mod Spelled
+pub mod OneFront

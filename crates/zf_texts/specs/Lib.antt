@@ -1,0 +1,7 @@
+pub mod Spellings
+pub mod ValueTexts
+pub mod BindingTexts
+pub mod Clear
+pub mod Laws
+pub mod Readings
+pub mod Steps
