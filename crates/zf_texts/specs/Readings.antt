@@ -5,6 +5,8 @@ use Rattle.zf_value.specs.declared.value.Value.{Value}
 use Rattle.zf_value.specs.Sets.{AreRegular}
 use Rattle.zf_meaning.specs.Environments.{Environment}
 use Rattle.zf_meaning.specs.Rows.{IsRow}
+use Rattle.zf_texts.specs.declared.fault.AfterFault.{AfterFault}
+use Rattle.zf_texts.specs.declared.fault.AfterFault.TheVariants.{NotABinding, OutOfMemory}
 use Rattle.zf_texts.specs.declared.spelling.Spelling.{Spelling}
 use Rattle.zf_texts.specs.BindingTexts.{binding_text}
 use Rattle.zf_texts.specs.Clear.{AreClear}
@@ -16,5 +18,10 @@ pub record IsLineOf (ss : List Spelling) (e : Environment) (cs : List Comp) (tex
   pub line : text ≡ binding_text ss cs vs
 
 -- the line of no row of the schema's types
-abbrev pub IsNoLine : List Spelling → Environment → List Comp → List ℕ → Type 0
-IsNoLine ss e cs line = AreClear ss e.sizes → (vs : List Value) → IsRow e cs vs → line ≡ binding_text ss cs vs → ⊥
+unfoldable pub IsNoLine : List Spelling → Environment → List Comp → List ℕ → Type 0
+IsNoLine ss e cs text = AreClear ss e.sizes → (vs : List Value) → IsRow e cs vs → text ≡ binding_text ss cs vs → ⊥
+
+-- what a misfit tells. Its place, and want of memory, say nothing.
+abbrev pub IfMisfit : Type 0 → AfterFault → Type 0
+IfMisfit P (NotABinding place) = P
+IfMisfit P OutOfMemory = Unit {0}

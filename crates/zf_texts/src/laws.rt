@@ -1,0 +1,17 @@
+//! Laws of the texts.
+ghost use Rattle.zf_texts.specs.Laws.{OneValue, OneEnd, OneRow};
+
+/// Values of one type with one text are one.
+pub fn one_value()
+    ensures { OneValue }
+{}
+
+/// A text begins with the text of one value of a type alone.
+pub fn one_end()
+    ensures { OneEnd }
+{}
+
+/// Rows of one schema with one line are one.
+pub fn one_row()
+    ensures { OneRow }
+{}
