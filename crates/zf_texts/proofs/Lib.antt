@@ -1,7 +1,11 @@
 pub mod TextsSeen
-pub mod Words
+pub mod WordRuns
 pub mod Spelled
 pub mod OneFront
 pub mod OneRow
 pub mod Printing
 pub mod Reading
+pub mod Numbers
+pub mod Ascending
+pub mod SoFar
+pub mod SpelledTypes

@@ -14,7 +14,7 @@ use Rattle.zf_texts.specs.ValueTexts.{parted, later_parts, value_text}
 use Rattle.zf_texts.specs.Clear.{is_in_word, Ends, AreClear}
 use Rattle.zf_texts.specs.Steps.{EndsAs, is_opening, Closes}
 use Rattle.zf_texts.proofs.TextsSeen.{of-Int, of-Elem, of-Tuple, of-SetOf}
-use Rattle.zf_texts.proofs.Words.{AreInWord, one_run, never, signed_in_word}
+use Rattle.zf_texts.proofs.WordRuns.{AreInWord, one_run, never, signed_in_word}
 use Rattle.std.proofs.lemmas.Fmt.{decimal_nonempty, signed_decimal_injective}
 use Rattle.std.specs.Int.Signed.{mag}
 use Rattle.std.proofs.lemmas.List.{append_assoc}
@@ -49,7 +49,7 @@ signed_word (negsuc n) fits = (signed_in_word (negsuc n) fits, omega arith)
 pub word_of_number : (ss : List Spelling) (e : Environment) (v : Value) → IsOfType e int v → IsWord (value_text ss v)
 word_of_number ss e v (n, is, fits) = subst IsWord (sym (ap (value_text ss) is ∙ of-Int ss n)) (signed_word n fits)
 
-magnitude : (n : ℤ) → FitsSigned w64 n → mag n < 2 ^ 63
+pub magnitude : (n : ℤ) → FitsSigned w64 n → mag n < 2 ^ 63
 magnitude (pos n) fits = omega (arith, fits)
 magnitude (negsuc n) fits = omega (arith, fits)
 

@@ -1,5 +1,5 @@
 -- What is still to be printed of several parts.
-use Rattle.std.proofs.Common.{◌≡◌, ℕ, zero, suc, ◌+◌, ◌<◌, ◌≤◌, List, [], ◌∷◌, ◌++◌, length, map, drop, get_or, refl, sym, ap, ◌∙◌, arith, codes, Option, Some, None, append_assoc, append-nil}
+use Rattle.std.proofs.Common.{◌≡◌, ℕ, zero, suc, ◌+◌, ◌<◌, ◌≤◌, List, [], ◌∷◌, ◌++◌, length, map, drop, get_or, refl, sym, ap, ◌∙◌, arith, codes, Option, Some, None, append_assoc, append-nil, add-one, Result, Ok, Err, OnOk, is_ok, if◌then◌else◌}
 use Rattle.std.specs.Prelude.{slice_get}
 use Rattle.std.proofs.lemmas.List.{drop_more}
 use Rattle.zf_term.specs.Definitions.{Comp, Defined}
@@ -44,3 +44,64 @@ front n t ts c = ap (λ l. l ++ c) (goes_on-first n t ts) ∙ append_assoc (sepa
 
 pub map-drop : (f : Value → List ℕ) (xs : List Value) (i : ℕ) (x : Value) → x ≡ get_or xs i x → i < length xs → map f (drop i xs) ≡ f x ∷ map f (drop (i + 1) xs)
 map-drop f xs i x at l = ap (map f) (drop_more xs i x l ∙ ap (λ y. y ∷ drop (i + 1) xs) (sym at))
+
+-- ---- the spellings of the globals from a place on
+
+pub spellings-none : (g : List Defined) (i : ℕ) → slice_get g i ≡ None → spellings (drop (suc i) g) ≡ spellings (drop i g)
+spellings-none [] zero h = refl
+spellings-none [] (suc i) h = refl
+spellings-none (d ∷ g) zero h = (cc)
+spellings-none (d ∷ g) (suc i) h = spellings-none g i h
+
+pub spellings-some : (g : List Defined) (i : ℕ) (d : Defined) → slice_get g i ≡ Some d → spellings (drop i g) ≡ with_spelling d.name d.definition (spellings (drop (suc i) g))
+spellings-some [] i d h = (cc)
+spellings-some (b ∷ g) zero d h =
+    let same : b ≡ d = (cc) in
+    ap (λ x. with_spelling x.name x.definition (spellings g)) same
+spellings-some (b ∷ g) (suc i) d h = spellings-some g i d h
+
+-- ---- the components of a line
+
+pub texts-nil : (ss : List Spelling) (cs : List Comp) → component_texts ss cs [] ≡ []
+texts-nil ss [] = refl
+texts-nil ss (c ∷ cs) = refl
+
+pub comps-drop : (cs : List Component) (i : ℕ) (c : Component) → c ≡ get_or cs i c → i < length cs → map comp_of (drop i cs) ≡ comp_of c ∷ map comp_of (drop (i + 1) cs)
+comps-drop cs i c at l = ap (map comp_of) (drop_more cs i c l ∙ ap (λ y. y ∷ drop (i + 1) cs) (sym at))
+
+drop-get : (vs : List Value) (i : ℕ) (v : Value) → slice_get vs i ≡ Some v → drop i vs ≡ v ∷ drop (suc i) vs
+drop-get [] i v h = (cc)
+drop-get (w ∷ vs) zero v h =
+    let same : w ≡ v = (cc) in
+    ap (λ x. x ∷ vs) same
+drop-get (w ∷ vs) (suc i) v h = drop-get vs i v h
+
+pub values-drop : (vs : List Value) (i : ℕ) (v : Value) → slice_get vs i ≡ Some v → drop i vs ≡ v ∷ drop (i + 1) vs
+values-drop vs i v h = drop-get vs i v h ∙ ap (λ n. v ∷ drop n vs) (sym (add-one i))
+
+-- ---- where printing begins and ends
+
+pub begun : (old opening parts closing text : List ℕ) → text ≡ old ++ opening → text ++ (parts ++ closing) ≡ old ++ (opening ++ parts ++ closing)
+begun old opening parts closing text e = ap (λ l. l ++ (parts ++ closing)) e ∙ simp append_assoc refl
+
+pub drop-end : {A : Type 0} (n : ℕ) (xs : List A) → length xs ≤ n → drop n xs ≡ []
+drop-end zero [] l = refl
+drop-end zero (x ∷ xs) l = absurd (omega arith)
+drop-end (suc n) [] l = refl
+drop-end (suc n) (x ∷ xs) l = drop-end n xs (omega arith)
+
+pub finished : {T E : Type 0} (r : Result T E) (text new closing whole other : List ℕ) (n : ℕ) (ts : List (List ℕ)) → ts ≡ [] → text ++ (goes_on n ts ++ closing) ≡ whole → new ≡ (if is_ok r then text ++ closing else other) → OnOk r (new ≡ whole)
+finished (Err e) text new closing whole other n ts none h i = tt
+finished (Ok x) text new closing whole other n ts none h i =
+    i ∙ ap (λ l. text ++ (l ++ closing)) (sym (ap (goes_on n) none ∙ goes_on-nil n)) ∙ h
+
+pub line-ended : (text whole : List ℕ) (n : ℕ) (ts : List (List ℕ)) → ts ≡ [] → text ++ goes_on n ts ≡ whole → text ≡ whole
+line-ended text whole n ts none h =
+    let nothing : (l : List ℕ) → l ++ [] ≡ l = append-nil in
+    sym (nothing text) ∙ ap (λ l. text ++ l) (sym (ap (goes_on n) none ∙ goes_on-nil n)) ∙ h
+
+pub texts-drop : (ss : List Spelling) (all cs : List Component) (vs : List Value) (i : ℕ) (c : Component) (v : Value) → cs ≡ all → c ≡ get_or cs i c → i < length cs → slice_get vs i ≡ Some v
+    → component_texts ss (map comp_of (drop i all)) (drop i vs) ≡ component_text ss (comp_of c) v ∷ component_texts ss (map comp_of (drop (i + 1) all)) (drop (i + 1) vs)
+texts-drop ss all cs vs i c v same at l g =
+    ap (λ m. component_texts ss (map comp_of (drop i m)) (drop i vs)) (sym same) ∙ ap (λ m. component_texts ss m (drop i vs)) (comps-drop cs i c at l)
+    ∙ ap (component_texts ss (comp_of c ∷ map comp_of (drop (i + 1) cs))) (values-drop vs i v g) ∙ ap (λ m. component_text ss (comp_of c) v ∷ component_texts ss (map comp_of (drop (i + 1) m)) (drop (i + 1) vs)) same

@@ -7,7 +7,7 @@ use Rattle.zf_texts.specs.declared.spelling.Spelling.{Spelling}
 use Rattle.zf_texts.specs.declared.spelling.Spelling.TheVariants.{Numbered, Named}
 use Rattle.zf_texts.specs.Spellings.{or_empty, spelled}
 use Rattle.zf_texts.specs.Clear.{IsName, AreNames, IsNoneOf, AreApart, IsClear}
-use Rattle.zf_texts.proofs.Words.{AreInWord, name_in_word, decimal_in_word, append_in_word}
+use Rattle.zf_texts.proofs.WordRuns.{AreInWord, name_in_word, decimal_in_word, append_in_word}
 
 abbrev pub IsWord : List ℕ → Type 0
 IsWord w = AreInWord w × (0 < length w)

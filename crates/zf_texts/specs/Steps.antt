@@ -78,6 +78,10 @@ pub record IsSpelledType (ss : List Spelling) (e : Environment) (name : List ℕ
   pub size : slice_get e.sizes n ≡ Some k
   pub spelling : slice_get ss n ≡ Some s
 
+-- the type of this number has no elements
+unfoldable pub HasNoElements : List Spelling → Environment → ℕ → Type 0
+HasNoElements ss e n = AreClear ss e.sizes → (k : ℕ) → slice_get e.sizes n ≡ Some k → ⊥
+
 -- no element of the type is spelled
 unfoldable pub IsNoSpelledType : List Spelling → Environment → List ℕ → Type 0
 IsNoSpelledType ss e name = AreClear ss e.sizes → (v : Value) → IsElement e (type_number e name) v → ⊥

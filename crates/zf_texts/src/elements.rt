@@ -7,7 +7,7 @@ ghost use Rattle.zf_term.specs.FirstNamed.{first_named};
 ghost use Rattle.zf_term.specs.Types.{basic};
 ghost use Rattle.zf_texts.specs.Readings.{IfMisfit};
 ghost use Rattle.zf_texts.specs.Spellings.{spelled, or_empty};
-ghost use Rattle.zf_texts.specs.Steps.{IsValueAt, IsNoValue, IsSpelledType, IsNoSpelledType, SpellsNone};
+ghost use Rattle.zf_texts.specs.Steps.{IsValueAt, IsNoValue, IsSpelledType, IsNoSpelledType, HasNoElements, SpellsNone};
 
 use crate::fault::AfterFault;
 use crate::spelling::Spelling;
@@ -47,13 +47,30 @@ fn spelled_type<'s>(
 ) -> Option<(u32, u64, &'s Spelling)>
     ensures { MatchOption result (IsNoSpelledType spellings.now (environment_of env.now) name.now) (λ p. IsSpelledType spellings.now (environment_of env.now) name.now p.0 p.1 p.2.now) }
 {
-    let number = number_named(env.globals(), name)?;
-    let Ok(number) = u32::try_from(number) else {
-        return None;
-    };
-    let count = env.size(number)?;
-    let spelling = spellings.get(number as usize)?;
-    Some((number, count, spelling))
+    match number_named(env.globals(), name) {
+        Some(number) => sized_type(number, env, spellings),
+        None => None,
+    }
+}
+
+/// The number of a type in 32 bits, how many elements it has, and how they are spelled.
+fn sized_type<'s>(
+    number: usize,
+    env: &Env<'_, '_>,
+    spellings: &'s [Spelling],
+) -> Option<(u32, u64, &'s Spelling)>
+    ensures { MatchOption result (HasNoElements spellings.now (environment_of env.now) number) (λ p. (number ≡ p.0) × (slice_get (environment_of env.now).sizes p.0 ≡ Some p.1) × (slice_get spellings.now p.0 ≡ Some p.2.now)) }
+{
+    match u32::try_from(number) {
+        Ok(number) => match env.size(number) {
+            Some(count) => match spellings.get(number as usize) {
+                Some(spelling) => Some((number, count, spelling)),
+                None => None,
+            },
+            None => None,
+        },
+        Err(_) => None,
+    }
 }
 
 /// The number of the given set or free type of this name.
@@ -92,9 +109,33 @@ fn place_among(word: &[u8], spelling: &Spelling, count: u64) -> Option<u64>
 fn numbered(word: &[u8], name: &[u8], count: u64) -> Option<u64>
     ensures { MatchOption result ((i : ℕ) → i < count → word.now ≡ name.now ++ codes "." ++ decimal (i + 1) → ⊥) (λ i. (i < count) × (word.now ≡ name.now ++ codes "." ++ decimal (i + 1))) }
 {
-    let digits = behind(behind(word, name)?, b".")?;
-    let number = unsigned(digits)?;
-    if number == 0 || number > count {
+    match behind(word, name) {
+        Some(rest) => match behind(rest, b".") {
+            Some(digits) => counted(digits, count),
+            None => None,
+        },
+        None => None,
+    }
+}
+
+/// The place of the number that the digits are, among the first so many.
+fn counted(digits: &[u8], count: u64) -> Option<u64>
+    ensures { MatchOption result ((i : ℕ) → i < count → digits.now ≡ decimal (i + 1) → ⊥) (λ i. (i < count) × (digits.now ≡ decimal (i + 1))) }
+{
+    match unsigned(digits) {
+        Some(number) => place_of(number, count),
+        None => None,
+    }
+}
+
+/// The place of a number from 1 to the count.
+fn place_of(number: u64, count: u64) -> Option<u64>
+    ensures { MatchOption result ((i : ℕ) → i < count → number ≡ i + 1 → ⊥) (λ i. (i < count) × (number ≡ i + 1)) }
+{
+    if number == 0 {
+        return None;
+    }
+    if number > count {
         return None;
     }
     Some(number - 1)
@@ -138,7 +179,7 @@ fn is_front(word: &[u8], spelling: &Spelling) -> bool {
 
 fn is_numbered_front(word: &[u8], name: &[u8]) -> bool {
     match word.strip_prefix(name) {
-        Some(digits) => digits.is_empty() || digits == b".",
+        Some(digits) => digits.is_empty() || digits == b".".as_slice(),
         None => name.starts_with(word),
     }
 }

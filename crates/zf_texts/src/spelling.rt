@@ -1,5 +1,5 @@
 //! How elements are spelled.
-ghost use Rattle.std.specs.Prelude.{◌≡◌, ◌++◌, ℕ, List, IfOk, OnOk};
+ghost use Rattle.std.specs.Prelude.{◌≡◌, ◌+◌, ◌++◌, ℕ, List, drop, IfOk, OnOk};
 ghost use Rattle.zf_term.specs.Definitions.{definition_of, globals_of};
 ghost use Rattle.zf_texts.specs.declared.spelling.Spelling as declared;
 ghost use Rattle.zf_texts.specs.Spellings.{with_spelling, spellings};
@@ -24,11 +24,24 @@ pub fn spellings_of(alloc: Global, globals: &Globals<'_>) -> Result<Vec<Spelling
 {
     let mut made = Vec::new(alloc);
     for place in 0..globals.len() {
-        if let Some((name, entry)) = globals.in_order(place) {
-            add(alloc, &mut made, name, entry)?;
-        }
+        add_at(alloc, &mut made, globals, place)?;
     }
     Ok(made)
+}
+
+/// Adds the spelling of the global at this place, if it has elements.
+fn add_at(
+    alloc: Global,
+    made: &mut Vec<Spelling>,
+    globals: &Globals<'_>,
+    place: usize,
+) -> Result<(), AllocError>
+    ensures { OnOk result (made.new.items ++ spellings (drop (place + 1) (globals_of globals.now)) ≡ made.old.items ++ spellings (drop place (globals_of globals.now))) }
+{
+    match globals.in_order(place) {
+        Some((name, entry)) => add(alloc, made, name, entry),
+        None => Ok(()),
+    }
 }
 
 /// Adds the spelling of what is defined, if it has elements.

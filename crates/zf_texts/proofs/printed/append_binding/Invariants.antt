@@ -1,0 +1,12 @@
+-- What is still to be printed.
+use Rattle.std.proofs.Common.{◌≡◌, ◌≤◌, ◌++◌, map, drop, length}
+use Rattle.zf_term.specs.Definitions.{comp_of}
+use Rattle.zf_texts.specs.BindingTexts.{component_texts, binding_text}
+use Rattle.zf_texts.specs.Steps.{goes_on}
+use Rattle.zf_texts.proofs.printed.append_binding.Given as goal
+
+abbrev pub invariant-loop-place : goal.invariant-loop-place
+invariant-loop-place g l =
+    (l.place ≤ length (g.R.Row.values l.row))
+    × (l.text.items ++ goes_on l.place (component_texts l.spellings (map comp_of (drop l.place l.flat.components)) (drop l.place (g.R.Row.values l.row)))
+      ≡ l.fn.text.items ++ binding_text l.spellings (map comp_of l.flat.components) (g.R.Row.values l.row))

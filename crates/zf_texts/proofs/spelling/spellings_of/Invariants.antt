@@ -1,0 +1,7 @@
+use Rattle.std.proofs.Common.{◌≡◌, ◌++◌, drop}
+use Rattle.zf_term.specs.Definitions.{globals_of}
+use Rattle.zf_texts.specs.Spellings.{spellings}
+use Rattle.zf_texts.proofs.spelling.spellings_of.Given as goal
+
+abbrev pub invariant-loop-place : goal.invariant-loop-place
+invariant-loop-place l = l.made.items ++ spellings (drop l.place (globals_of l.globals)) ≡ spellings (globals_of l.globals)
