@@ -1,5 +1,5 @@
 -- When a list stays ascending with one more value behind it.
-use Rattle.std.proofs.Common.{◌≡◌, ℕ, ◌-◌, List, [], ◌∷◌, ◌++◌, length, Less, Option, Some, None, refl, sym, ap, ◌∙◌}
+use Rattle.std.proofs.Common.{◌≡◌, ◌↔◌, IsTrue, Bool, true, false, Ordering, Equal, Greater, is_lt, ℕ, ◌-◌, List, [], ◌∷◌, ◌++◌, length, Less, Option, Some, None, refl, sym, ap, ◌∙◌}
 use Rattle.std.specs.Prelude.{slice_get}
 use Rattle.zf_value.specs.declared.value.Value.{Value}
 use Rattle.zf_value.specs.contracts.value.ValueOrd.TheImpl.Laws.{total-law}
@@ -45,3 +45,14 @@ last_under [] l v g h = (cc)
 last_under (x ∷ xs) l v g h =
     let last = same_some (last_of x xs) l (sym (last_got x xs) ∙ g) in
     ap (λ y. value_order y v) (sym last) ∙ last_below x xs v h
+
+less : (o : Ordering) → is_lt o ≡ true → o ≡ Less
+less Less e = refl
+less Equal e = (cc)
+less Greater e = (cc)
+
+pub above_iff : (xs : List Value) (l v : Value) (o : Ordering) (b : Bool) → slice_get xs (length xs - 1) ≡ Some l → IsAscending xs → o ≡ value_order l v → b ≡ is_lt o → IsTrue b ↔ IsAscending (xs ++ v ∷ [])
+above_iff xs l v o b g h c t = (
+    λ s. above_last xs l v g h (sym c ∙ less o (sym t ∙ s)),
+    λ up. t ∙ ap is_lt (c ∙ last_under xs l v g up),
+  )

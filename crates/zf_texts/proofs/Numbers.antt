@@ -1,5 +1,5 @@
 -- Words that are the texts of numbers.
-use Rattle.std.proofs.Common.{◌≡◌, ℕ, ℤ, pos, negsuc, ◌+◌, ◌<◌, ◌≤◌, ◌^◌, List, [], ◌∷◌, ◌++◌, length, refl, sym, ap, ◌∙◌, subst, arith, Result, Ok, Err}
+use Rattle.std.proofs.Common.{◌≡◌, ℕ, ℤ, pos, negsuc, ◌+◌, ◌<◌, ◌≤◌, ◌^◌, List, [], ◌∷◌, ◌++◌, length, refl, sym, ap, ◌∙◌, subst, arith, Result, Ok, Err, Bool, true, false}
 use Rattle.std.specs.Prelude.{decimal, FitsSigned, IsUtf8}
 use Rattle.std.specs.Fmt.{signed_decimal}
 use Rattle.std.specs.Int.{w64}
@@ -38,3 +38,6 @@ signed_other word r m is p differs n fits e = differs (ap signed_decimal (same_o
 
 pub unsigned_other : {E : Type 0} (word : List ℕ) (r : Result ℕ E) (m : ℕ) → r ≡ Ok m → ParsesUnsigned 64 10 word r → (decimal m ≡ word → ⊥) → (n : ℕ) → n < 2 ^ 64 → word ≡ decimal n → ⊥
 unsigned_other word r m is p differs n fits e = differs (ap decimal (same_ok r m n is (unsigned_parsed word n r fits e p)) ∙ sym e)
+
+pub never_both : (b : Bool) → b ≡ true → b ≡ false → ⊥
+never_both b t f = (cc)

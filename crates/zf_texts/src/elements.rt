@@ -1,5 +1,5 @@
 //! Elements by their spellings.
-ghost use Rattle.std.specs.Prelude.{◌≡◌, ◌+◌, ◌≤◌, ◌<◌, ◌++◌, ℕ, Some, List, length, drop, codes, decimal, slice_get, IfOk, IfErr, MatchOption};
+ghost use Rattle.std.specs.Prelude.{◌≡◌, ◌+◌, ◌≤◌, ◌<◌, ◌^◌, ◌++◌, ℕ, Some, List, length, drop, codes, decimal, slice_get, IfOk, IfErr, MatchOption};
 ghost use Rattle.zf_meaning.specs.Environments.{definition_number, found_number, type_number};
 ghost use Rattle.zf_meaning.specs.Envs.{environment_of};
 ghost use Rattle.zf_term.specs.Definitions.{definition_of, globals_of};
@@ -130,7 +130,8 @@ fn counted(digits: &[u8], count: u64) -> Option<u64>
 
 /// The place of a number from 1 to the count.
 fn place_of(number: u64, count: u64) -> Option<u64>
-    ensures { MatchOption result ((i : ℕ) → i < count → number ≡ i + 1 → ⊥) (λ i. (i < count) × (number ≡ i + 1)) }
+    ensures place { MatchOption result ((i : ℕ) → i < count → number ≡ i + 1 → ⊥) (λ i. (i < count) × (number ≡ i + 1)) }
+    ensures small { number < 2 ^ 64 }
 {
     if number == 0 {
         return None;
