@@ -1,5 +1,5 @@
 -- When a list stays ascending with one more value behind it.
-use Rattle.std.proofs.Common.{◌≡◌, ◌↔◌, IsTrue, Bool, true, false, Ordering, Equal, Greater, is_lt, ℕ, ◌-◌, List, [], ◌∷◌, ◌++◌, length, Less, Option, Some, None, refl, sym, ap, ◌∙◌}
+use Rattle.std.proofs.Common.{◌≡◌, ◌↔◌, IsTrue, Bool, true, false, Ordering, Equal, Greater, is_lt, ℕ, ◌-◌, List, [], ◌∷◌, ◌++◌, length, Less, Option, Some, None, refl, sym, ap, ◌∙◌, arith}
 use Rattle.std.specs.Prelude.{slice_get}
 use Rattle.zf_value.specs.declared.value.Value.{Value}
 use Rattle.zf_value.specs.contracts.value.ValueOrd.TheImpl.Laws.{total-law}
@@ -34,16 +34,19 @@ last_got x (y ∷ ys) = last_got y ys
 same_some : {A : Type 0} (x y : A) → Some x ≡ Some y → x ≡ y
 same_some x y e = (cc)
 
+before : (x : Value) (xs : List Value) → length (x ∷ xs) - 1 ≡ length xs
+before x xs = omega arith
+
 pub above_last : (xs : List Value) (l v : Value) → slice_get xs (length xs - 1) ≡ Some l → IsAscending xs → value_order l v ≡ Less → IsAscending (xs ++ v ∷ [])
 above_last [] l v g h o = (tt, tt)
 above_last (x ∷ xs) l v g h o =
-    let last = same_some (last_of x xs) l (sym (last_got x xs) ∙ g) in
+    let last = same_some (last_of x xs) l (sym (last_got x xs) ∙ ap (slice_get (x ∷ xs)) (sym (before x xs)) ∙ g) in
     ascending_push (x ∷ xs) v h (below_last x xs v h (ap (λ y. value_order y v) last ∙ o))
 
 pub last_under : (xs : List Value) (l v : Value) → slice_get xs (length xs - 1) ≡ Some l → IsAscending (xs ++ v ∷ []) → value_order l v ≡ Less
 last_under [] l v g h = (cc)
 last_under (x ∷ xs) l v g h =
-    let last = same_some (last_of x xs) l (sym (last_got x xs) ∙ g) in
+    let last = same_some (last_of x xs) l (sym (last_got x xs) ∙ ap (slice_get (x ∷ xs)) (sym (before x xs)) ∙ g) in
     ap (λ y. value_order y v) (sym last) ∙ last_below x xs v h
 
 less : (o : Ordering) → is_lt o ≡ true → o ≡ Less

@@ -9,3 +9,4 @@ pub mod Numbers
 pub mod Ascending
 pub mod SoFar
 pub mod SpelledTypes
+pub mod WordsAt

@@ -1,5 +1,6 @@
 -- Words that are the texts of numbers.
-use Rattle.std.proofs.Common.{◌≡◌, ℕ, ℤ, pos, negsuc, ◌+◌, ◌<◌, ◌≤◌, ◌^◌, List, [], ◌∷◌, ◌++◌, length, refl, sym, ap, ◌∙◌, subst, arith, Result, Ok, Err, Bool, true, false}
+use Rattle.std.proofs.Common.{◌≡◌, ℕ, ℤ, pos, negsuc, ◌+◌, ◌<◌, ◌≤◌, ◌^◌, List, [], ◌∷◌, ◌++◌, length, refl, sym, ap, ◌∙◌, subst, arith, Result, Ok, Err, Bool, true, false, to_z, of_z}
+use Rattle.zf_value.proofs.Exactly.{same}
 use Rattle.std.specs.Prelude.{decimal, FitsSigned, IsUtf8}
 use Rattle.std.specs.Fmt.{signed_decimal}
 use Rattle.std.specs.Int.{w64}
@@ -41,3 +42,11 @@ unsigned_other word r m is p differs n fits e = differs (ap decimal (same_ok r m
 
 pub never_both : (b : Bool) → b ≡ true → b ≡ false → ⊥
 never_both b t f = (cc)
+
+pub parsed_fits : {E : Type 0} (word : List ℕ) (r : Result ℤ E) (m : ℤ) → r ≡ Ok m → ParsesSigned w64 10 word r → FitsSigned w64 m
+parsed_fits word r m is p =
+    let at = subst (ParsesSigned w64 10 word) is p in
+    subst (FitsSigned w64) (sym at.1) at.0.1
+
+pub printed_same : {E : Type 0} (word : List ℕ) (r : Result ℤ E) (m : ℤ) → r ≡ Ok m → ParsesSigned w64 10 word r → signed_decimal (to_z w64 (of_z w64 m)) ≡ signed_decimal m
+printed_same word r m is p = ap signed_decimal (same m (parsed_fits word r m is p))

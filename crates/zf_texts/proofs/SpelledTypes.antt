@@ -142,6 +142,6 @@ pub among_named : (r : Option ℕ) (s : Spelling) (word : List ℕ) (names : Lis
     → MatchOption r (SpellsNone s count word) (λ i. (i < count) × (word ≡ spelled s i))
 unfolding SpellsNone
 among_named None s word names count is h = λ clear i l q.
-    let few = (subst (λ x. IsClear x count) is clear).1.1 in
+    let few = (subst (λ x. IsClear x count) is clear).2 in
     h i l (omega arith) (q ∙ ap (λ x. spelled x i) is)
 among_named (Some i) s word names count is h = (h.0, h.1 ∙ ap (λ x. spelled x i) (sym is))
