@@ -17,10 +17,10 @@ use crate::gathered::Gathered;
 use crate::global_outcome::type_set;
 use crate::symbols::on_several;
 use std::alloc::{AllocError, Global};
+use zf_families::power::power;
 use zf_term::globals::{Entry, Globals};
 use zf_term::operator::Listed;
 use zf_term::ztype::ZType;
-use crate::stubs::power;
 use zf_value::value::Outcome;
 
 /// The set of all values of a type.

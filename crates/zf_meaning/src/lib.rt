@@ -13,7 +13,6 @@ mod relation;
 pub mod row;
 mod rows;
 pub mod sizes;
-mod stubs;
 mod symbols;
 mod tally;
 pub mod value;

@@ -2,6 +2,7 @@
 ghost use Rattle.std.specs.Prelude.{◌≡◌, IfOk};
 ghost use Rattle.zf_value.specs.Sets.{AreRegular, IsRegular, IsRegularOutcome};
 ghost use Rattle.zf_value.specs.Numbers.{number_of, OnNumbers};
+ghost use Rattle.zf_value.specs.Operations.{IsCross};
 ghost use Rattle.zf_meaning.specs.Arithmetic.{NumbersOutcome};
 ghost use Rattle.zf_meaning.specs.Found.{found_outcome};
 ghost use Rattle.zf_meaning.specs.Gathered.{several_of};
@@ -10,11 +11,15 @@ ghost use Rattle.zf_meaning.specs.Symbols.{InfixOutcome, ArrowOutcome, BinaryOut
 
 use crate::found::Found;
 use crate::gathered::{Gathered, Lack};
-use crate::stubs;
 use std::alloc::{AllocError, Global};
+use zf_families::cross::cross;
+use zf_families::function::{partial_functions, relations, total_functions};
+use zf_families::injection::{partial_injections, total_injections};
+use zf_families::power::power;
 use zf_scan::token::{Arrow, Infix, Prefix};
 use zf_term::operator::{Listed, Operator, Unary};
 use zf_text::tree::Sign;
+use zf_value::lent::Lent;
 use zf_value::number::{difference, interval, modulus, negation, product, quotient, sum};
 use zf_value::relation::{
     applied, composition, domain, domain_restriction, domain_subtraction, image, inverse,
@@ -82,8 +87,29 @@ fn listed(alloc: Global, form: Listed, values: Vec<Value>) -> Result<Outcome, Al
     match form {
         Listed::Tuple => tuple(alloc, values),
         Listed::Display => display(alloc, values),
-        Listed::Product => stubs::cross(alloc, &values),
+        Listed::Product => product_of(alloc, &values),
     }
+}
+
+/// The product of the values, which are sets.
+fn product_of(alloc: Global, values: &[Value]) -> Result<Outcome, AllocError>
+    requires { AreRegular values.now }
+    ensures is { IfOk result (IsCross values.now) }
+    ensures regular { IfOk result IsRegularOutcome }
+{
+    let sets = lent(alloc, values)?;
+    cross(alloc, sets.as_slice())
+}
+
+/// The values, lent.
+fn lent<'v>(alloc: Global, values: &'v [Value]) -> Result<Vec<Lent<'v>>, AllocError>
+    ensures { IfOk result (λ sets. sets.items ≡ values.now) }
+{
+    let mut sets = Vec::with_capacity(alloc, values.len())?;
+    for value in values {
+        sets.push(Lent::lent(value))?;
+    }
+    Ok(sets)
 }
 
 fn binary(alloc: Global, op: Operator, v: &Value, w: &Value) -> Result<Outcome, AllocError>
@@ -94,7 +120,7 @@ fn binary(alloc: Global, op: Operator, v: &Value, w: &Value) -> Result<Outcome, 
 {
     match op {
         Operator::Function(infix) => function(alloc, infix, v, w),
-        Operator::Generic(arrow) => relations(alloc, arrow, v, w),
+        Operator::Generic(kind) => arrow(alloc, kind, v, w),
         Operator::Connective(_) => Ok(Outcome::Undefined),
         Operator::Application => application(alloc, v, w),
         Operator::Image => image(alloc, v.members(), w.members()),
@@ -120,8 +146,8 @@ fn prefixed(alloc: Global, op: Prefix, v: &Value) -> Result<Outcome, AllocError>
     ensures regular { IfOk result IsRegularOutcome }
 {
     match op {
-        Prefix::Power => stubs::power(alloc, v.members()),
-        Prefix::Finset => stubs::power(alloc, v.members()),
+        Prefix::Power => power(alloc, v.members()),
+        Prefix::Finset => power(alloc, v.members()),
         Prefix::Domain => domain(alloc, v.members()),
         Prefix::Range => range(alloc, v.members()),
         Prefix::Size => Ok(size(v.members())),
@@ -202,17 +228,17 @@ fn arithmetic(alloc: Global, op: Infix, a: i64, b: i64) -> Result<Outcome, Alloc
     }
 }
 
-fn relations(alloc: Global, op: Arrow, v: &Value, w: &Value) -> Result<Outcome, AllocError>
+fn arrow(alloc: Global, op: Arrow, v: &Value, w: &Value) -> Result<Outcome, AllocError>
     requires v { IsRegular v.now }
     requires w { IsRegular w.now }
     ensures is { IfOk result (ArrowOutcome op v.now w.now) }
     ensures regular { IfOk result IsRegularOutcome }
 {
     match op {
-        Arrow::Relation => stubs::relations(alloc, v.members(), w.members()),
-        Arrow::PartialFunction => stubs::partial_functions(alloc, v.members(), w.members()),
-        Arrow::TotalFunction => stubs::total_functions(alloc, v.members(), w.members()),
-        Arrow::PartialInjection => stubs::partial_injections(alloc, v.members(), w.members()),
-        Arrow::TotalInjection => stubs::total_injections(alloc, v.members(), w.members()),
+        Arrow::Relation => relations(alloc, v.members(), w.members()),
+        Arrow::PartialFunction => partial_functions(alloc, v.members(), w.members()),
+        Arrow::TotalFunction => total_functions(alloc, v.members(), w.members()),
+        Arrow::PartialInjection => partial_injections(alloc, v.members(), w.members()),
+        Arrow::TotalInjection => total_injections(alloc, v.members(), w.members()),
     }
 }
