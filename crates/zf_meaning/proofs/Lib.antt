@@ -18,3 +18,4 @@ pub mod Linking
 pub mod Turns
 pub mod Binding
 pub mod CarrierLists
+pub mod InRow

@@ -13,8 +13,7 @@ use Rattle.std.specs.declared.cmp.Ordering.TheVariants.{Less}
 use Rattle.zf_value.proofs.Among.{every_at, members-push, members-append, not_below_itself}
 use Rattle.zf_value.proofs.Regulars.{regular-Tuple, regular_set, regular_none, regular_member, are_regular}
 use Rattle.zf_meaning.specs.declared.env.Env.{Env}
-use Rattle.zf_meaning.specs.Environments.{value_or, outcome_or}
-use Rattle.zf_meaning.specs.Envs.{environment_of}
+use Rattle.zf_meaning.specs.Environments.{value_or}
 use Rattle.zf_meaning.specs.Meaning.{row_value}
 use Rattle.zf_meaning.specs.Places.{seen}
 use Rattle.zf_meaning.specs.Regular.{AreRegularOutcomes}
@@ -22,9 +21,6 @@ use Rattle.zf_meaning.specs.Scopes.{scope_of, IsRegularScope}
 use Rattle.zf_meaning.proofs.AllRows.{AreDistinct, HaveDistinct}
 
 -- ---- lists
-
-pub regular-push : (xs : List Value) (x : Value) → AreRegular xs → IsRegular x → AreRegular (xs ++ x ∷ [])
-regular-push xs x h k = are_regular (xs ++ x ∷ []) (λ z m. ⊎_elim (λ n. regular_member xs z h n) (λ e. subst IsRegular e k) ((members-push xs x z).0 m))
 
 pub regular-append : (xs ys : List Value) → AreRegular xs → AreRegular ys → AreRegular (xs ++ ys)
 regular-append xs ys h k = are_regular (xs ++ ys) (λ z m. ⊎_elim (λ n. regular_member xs z h n) (λ n. regular_member ys z k n) ((members-append xs ys z).0 m))
@@ -49,6 +45,15 @@ unfolding AreRegularOutcomes
 regular-outcome [] i o h e = (cc)
 regular-outcome (p ∷ os) zero o h e = let s : p ≡ o = (cc) in subst IsRegularOutcome s h.0
 regular-outcome (p ∷ os) (suc i) o h e = regular-outcome os i o h.1 e
+
+pub regular-outcomes-none : (os : List Outcome) → os ≡ [] → AreRegularOutcomes os
+unfolding AreRegularOutcomes
+regular-outcomes-none os e = subst AreRegularOutcomes (sym e) tt
+
+pub regular-outcomes-push : (os : List Outcome) (o : Outcome) → AreRegularOutcomes os → IsRegularOutcome o → AreRegularOutcomes (os ++ o ∷ [])
+unfolding AreRegularOutcomes
+regular-outcomes-push [] o h k = (k, tt)
+regular-outcomes-push (p ∷ os) o h k = (h.0, regular-outcomes-push os o h.1 k)
 
 -- ---- sets
 
@@ -85,7 +90,6 @@ pub regular-scope : (env : Env) (row : List Value) (locals bound : List (Bor Val
 regular-scope env row locals bound vs h r e = record {
   row = h.row;
   locals = subst AreRegular (sym e) (regular-append (seen locals) vs h.locals r);
-  globals = h.globals;
 }
 
 -- ---- names
@@ -93,10 +97,6 @@ regular-scope env row locals bound vs h r e = record {
 pub regular-value_or : (xs : List Value) (i : ℕ) (o : Option Value) → slice_get xs i ≡ o → AreRegular xs → IsRegularOutcome (value_or o)
 regular-value_or xs i None e h = tt
 regular-value_or xs i (Some v) e h = regular-found xs i v h e
-
-pub regular-outcome_or : (os : List Outcome) (i : ℕ) (o : Option Outcome) → slice_get os i ≡ o → AreRegularOutcomes os → IsRegularOutcome (outcome_or o)
-regular-outcome_or os i None e h = tt
-regular-outcome_or os i (Some p) e h = regular-outcome os i p h e
 
 pub regular-seen : (xs : List (Bor Value)) (i : ℕ) (x : Bor Value) → i < length xs → x ≡ get_or xs i x → AreRegular (seen xs) → IsRegular x.now
 regular-seen [] i x l e h = absurd (omega arith)
@@ -166,5 +166,5 @@ pub regular-rest : (n : ℕ) (xs : List (Bor Value)) → AreRegular (seen xs) �
 regular-rest n xs h = subst AreRegular (sym (seen-rest n xs)) (are_regular (drop n (seen xs)) (λ z m. regular_member (seen xs) z h (later_member n (seen xs) z m)))
 
 -- where no variable is bound
-pub regular-start : (env : Env) (row : List Value) (locals : List (Bor Value)) → locals ≡ [] → AreRegular row → AreRegularOutcomes (environment_of env).outcomes → IsRegularScope (scope_of env row locals)
-regular-start env row locals e h k = record { row = h; locals = regular-nothing (seen locals) (ap seen e); globals = k }
+pub regular-start : (env : Env) (row : List Value) (locals : List (Bor Value)) → locals ≡ [] → AreRegular row → IsRegularScope (scope_of env row locals)
+regular-start env row locals e h = record { row = h; locals = regular-nothing (seen locals) (ap seen e) }

@@ -5,20 +5,16 @@ use Rattle.std.proofs.Math.Seq.{take-append_seam}
 use Rattle.std.proofs.lemmas.List.{take-append-le}
 use Rattle.zf_term.specs.Definitions.{Defined}
 use Rattle.zf_value.specs.declared.value.Outcome.{Outcome}
-use Rattle.zf_value.specs.Sets.{IsRegularOutcome}
 use Rattle.zf_meaning.specs.Environments.{Environment, before}
 use Rattle.zf_meaning.specs.GlobalOutcomes.{IsOutcomeOf, IsWorkedOut, AreWorkedOut}
-use Rattle.zf_meaning.specs.Regular.{AreRegularOutcomes}
 
 -- the globals before this place are worked out
 pub record AreWorkedOutTo (n : ℕ) (e : Environment) : Type 0 where
   pub count : length e.outcomes ≡ n
   pub each : (i : ℕ) (d : Defined) → i < n → slice_get e.globals i ≡ Some d → IsWorkedOut e i d
-  pub regular : AreRegularOutcomes e.outcomes
 
 pub none-worked_out : (e : Environment) → e.outcomes ≡ [] → AreWorkedOutTo 0 e
-unfolding AreRegularOutcomes
-none-worked_out e h = record { count = ap length h; each = λ i d l g. absurd (omega arith); regular = subst AreRegularOutcomes (sym h) tt }
+none-worked_out e h = record { count = ap length h; each = λ i d l g. absurd (omega arith) }
 
 get_last : (xs : List Outcome) (o : Outcome) → slice_get (xs ++ o ∷ []) (length xs) ≡ Some o
 get_last [] o = refl
@@ -28,11 +24,6 @@ get_before : (xs ys : List Outcome) (i : ℕ) → i < length xs → slice_get (x
 get_before [] ys i h = absurd (omega arith)
 get_before (x ∷ xs) ys zero h = refl
 get_before (x ∷ xs) ys (suc i) h = get_before xs ys i (omega arith)
-
-regular_more : (xs : List Outcome) (o : Outcome) → AreRegularOutcomes xs → IsRegularOutcome o → AreRegularOutcomes (xs ++ o ∷ [])
-unfolding AreRegularOutcomes
-regular_more [] o h k = (k, tt)
-regular_more (x ∷ xs) o h k = (h.0, regular_more xs o h.1 k)
 
 below_or_at : (i n : ℕ) → i < n + 1 → (i < n) ⊎ (i ≡ n)
 below_or_at zero zero h = inr refl
@@ -47,8 +38,8 @@ further e o = record { globals = e.globals; sizes = e.sizes; outcomes = e.outcom
 same_before : (e : Environment) (o : Outcome) (i : ℕ) → i < length e.outcomes → before (further e o) i ≡ before e i
 same_before e o i l = ap (λ os. record { globals = e.globals; sizes = e.sizes; outcomes = os }) (take-append-le i e.outcomes (o ∷ []) (omega arith))
 
-pub one-worked_out : (n : ℕ) (e : Environment) (o : Outcome) → AreWorkedOutTo n e → ((d : Defined) → slice_get e.globals n ≡ Some d → IsOutcomeOf e d.definition o) → IsRegularOutcome o → AreWorkedOutTo (n + 1) (further e o)
-one-worked_out n e o h f r = record {
+pub one-worked_out : (n : ℕ) (e : Environment) (o : Outcome) → AreWorkedOutTo n e → ((d : Defined) → slice_get e.globals n ≡ Some d → IsOutcomeOf e d.definition o) → AreWorkedOutTo (n + 1) (further e o)
+one-worked_out n e o h f = record {
   count = length-append e.outcomes (o ∷ []) ∙ ap (λ k. k + 1) h.count;
   each = λ i d l g. ⊎_elim
       (λ b. let w = h.each i d b g in let k : i < length e.outcomes = omega (arith, h.count) in
@@ -57,7 +48,6 @@ one-worked_out n e o h f r = record {
         let all : before (further e o) i ≡ e = ap (λ os. record { globals = e.globals; sizes = e.sizes; outcomes = os }) (ap (λ k. take k (e.outcomes ++ o ∷ [])) m ∙ take-append_seam e.outcomes (o ∷ [])) in
         (o, ap (slice_get (e.outcomes ++ o ∷ [])) m ∙ get_last e.outcomes o, subst (λ x. IsOutcomeOf x d.definition o) (sym all) (f d (ap (slice_get e.globals) (sym a) ∙ g))))
       (below_or_at i n l);
-  regular = regular_more e.outcomes o h.regular r;
 }
 
 got_below : (xs : List Defined) (i : ℕ) (d : Defined) → slice_get xs i ≡ Some d → i < length xs

@@ -4,4 +4,4 @@ use Rattle.zf_meaning.specs.declared.env.Env.{Env}
 use Rattle.zf_meaning.specs.Environments.{Environment}
 
 abbrev pub environment_of : Env → Environment
-environment_of e = record { globals = globals_of e.globals.now; sizes = e.sizes.items; outcomes = e.outcomes.items }
+environment_of e = record { globals = globals_of e.globals.now; sizes = e.sizes.items; outcomes = e.outcomes }

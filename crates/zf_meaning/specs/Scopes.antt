@@ -7,14 +7,12 @@ use Rattle.zf_meaning.specs.declared.env.Env.{Env}
 use Rattle.zf_meaning.specs.Environments.{Context}
 use Rattle.zf_meaning.specs.Envs.{environment_of}
 use Rattle.zf_meaning.specs.Places.{seen}
-use Rattle.zf_meaning.specs.Regular.{AreRegularOutcomes}
 
 -- what a row and bound variables give
 abbrev pub scope_of : Env → List Value → List (Bor Value) → Context
 scope_of e row locals = record { environment = environment_of e; row = row; locals = seen locals }
 
--- what names stand for is regular
+-- what is bound is regular
 pub record IsRegularScope (c : Context) : Type 0 where
   pub row : AreRegular c.row
   pub locals : AreRegular c.locals
-  pub globals : AreRegularOutcomes c.environment.outcomes

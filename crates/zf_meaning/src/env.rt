@@ -3,10 +3,11 @@ ghost use Rattle.std.specs.Prelude.{◌≡◌, None, Some, IfOk, IfErr, MatchOpt
 ghost use Rattle.zf_term.specs.Definitions.{globals_of};
 ghost use Rattle.zf_meaning.specs.Envs.{environment_of};
 ghost use Rattle.zf_meaning.specs.GlobalOutcomes.{IsEnvironment, AreWorkedOut};
-ghost use Rattle.zf_meaning.specs.Regular.{AreRegularOutcomes};
+ghost use Rattle.zf_value.specs.Sets.{IsRegularOutcome};
 ghost use Rattle.zf_meaning.specs.Sizes.{given_sets, AreComplete, IsRefusal};
 
 use crate::global_outcome::outcome_at;
+use crate::outcomes::Outcomes;
 use crate::sizes::{Size, SizeFault, check_sizes, given_names, sizes_of};
 use std::alloc::{AllocError, Global};
 use zf_term::globals::Globals;
@@ -17,7 +18,7 @@ use zf_value::value::Outcome;
 pub struct Env<'g, 'a> {
     globals: &'g Globals<'a>,
     sizes: Vec<u64>,
-    outcomes: Vec<Outcome>,
+    outcomes: Outcomes,
 }
 
 impl<'g, 'a> Env<'g, 'a> {
@@ -29,7 +30,6 @@ impl<'g, 'a> Env<'g, 'a> {
     ) -> Result<Env<'g, 'a>, SizeFault>
         ensures complete { OnOk result (AreComplete (given_sets (globals_of globals.now)) sizes.now) }
         ensures is { IfOk result (λ e. IsEnvironment (globals_of globals.now) sizes.now (environment_of e)) }
-        ensures regular { IfOk result (λ e. AreRegularOutcomes (environment_of e).outcomes) }
         ensures refused { IfErr result (IsRefusal (given_sets (globals_of globals.now)) sizes.now) }
     {
         check_sizes(alloc, &given_names(alloc, globals)?, sizes)?;
@@ -52,7 +52,8 @@ impl<'g, 'a> Env<'g, 'a> {
 
     /// The outcome of the global at this place.
     pub(crate) fn outcome(&self, place: usize) -> Option<&Outcome>
-        ensures { MatchOption result (slice_get (environment_of self.now).outcomes place ≡ None) (λ o. slice_get (environment_of self.now).outcomes place ≡ Some o.now) }
+        ensures is { MatchOption result (slice_get (environment_of self.now).outcomes place ≡ None) (λ o. slice_get (environment_of self.now).outcomes place ≡ Some o.now) }
+        ensures regular { MatchOption result (Unit {0}) (λ o. IsRegularOutcome o.now) }
     {
         self.outcomes.get(place)
     }
@@ -71,12 +72,11 @@ fn worked_out<'g, 'a>(
     ensures globals { IfOk result (λ e. (environment_of e).globals ≡ globals_of globals.now) }
     ensures sizes { IfOk result (λ e. (environment_of e).sizes ≡ sizes.items) }
     ensures outcomes { IfOk result (λ e. AreWorkedOut (environment_of e)) }
-    ensures regular { IfOk result (λ e. AreRegularOutcomes (environment_of e).outcomes) }
 {
     let mut env = Env {
         globals,
         sizes,
-        outcomes: Vec::new(alloc),
+        outcomes: Outcomes::new(alloc),
     };
     for place in 0..globals.len() {
         let outcome = outcome_at(&env, place)?;

@@ -128,7 +128,8 @@ fn local<'v>(locals: &[&'v Value], place: usize) -> Option<&'v Value>
 }
 
 fn global<'v>(env: &'v Env<'_, '_>, place: usize) -> Found<'v>
-    ensures { found_outcome result ≡ spec.outcome_or (slice_get (environment_of env.now).outcomes place) }
+    ensures is { found_outcome result ≡ spec.outcome_or (slice_get (environment_of env.now).outcomes place) }
+    ensures regular { IsRegularOutcome (found_outcome result) }
 {
     match env.outcome(place) {
         Some(outcome) => Found::seen(outcome),

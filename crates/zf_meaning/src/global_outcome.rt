@@ -6,7 +6,6 @@ ghost use Rattle.zf_meaning.specs.Environments as spec;
 ghost use Rattle.zf_meaning.specs.Environments.{IsTypeSet};
 ghost use Rattle.zf_meaning.specs.Envs.{environment_of};
 ghost use Rattle.zf_meaning.specs.GlobalOutcomes.{IsOutcomeOf};
-ghost use Rattle.zf_meaning.specs.Regular.{AreRegularOutcomes};
 
 use crate::env::Env;
 use crate::value::value_of;
@@ -17,7 +16,6 @@ use zf_value::value::{Outcome, Value};
 
 /// The outcome of the global at this place, by those that are worked out.
 pub(crate) fn outcome_at(env: &Env<'_, '_>, place: usize) -> Result<Outcome, AllocError>
-    requires { AreRegularOutcomes (environment_of env.now).outcomes }
     ensures is { (d : Defined) → slice_get (environment_of env.now).globals place ≡ Some d → IfOk result (IsOutcomeOf (environment_of env.now) d.definition) }
     ensures regular { IfOk result IsRegularOutcome }
 {
@@ -28,7 +26,6 @@ pub(crate) fn outcome_at(env: &Env<'_, '_>, place: usize) -> Result<Outcome, All
 }
 
 fn outcome_of<'a>(env: &Env<'_, 'a>, entry: &Entry<'a>) -> Result<Outcome, AllocError>
-    requires { AreRegularOutcomes (environment_of env.now).outcomes }
     ensures is { IfOk result (IsOutcomeOf (environment_of env.now) (definition_of entry.now)) }
     ensures regular { IfOk result IsRegularOutcome }
 {

@@ -9,6 +9,7 @@ mod found;
 mod gathered;
 mod global_outcome;
 pub mod laws;
+mod outcomes;
 mod relation;
 pub mod row;
 mod rows;

@@ -29,7 +29,8 @@ use Rattle.zf_meaning.specs.Rowed.{row_of}
 use Rattle.zf_meaning.specs.Scopes.{scope_of, IsRegularScope}
 use Rattle.zf_meaning.proofs.Gathering.{gather-begun, gather-more, gather-all, ranges-begun, ranges-more, ranges-all, drop-past}
 use Rattle.zf_meaning.proofs.Linking.{link-more, link-false, link-all, chain-told}
-use Rattle.zf_meaning.proofs.Regulars.{regular-nothing, regular-push, regular-rest, seen-rest}
+use Rattle.zf_value.proofs.Regulars.{regular-push}
+use Rattle.zf_meaning.proofs.Regulars.{regular-nothing, regular-rest, seen-rest}
 use Rattle.zf_meaning.proofs.evaluate.+meaning.Goals as goal
 
 pub operands::gather-loop-term-init : goal.operands::gather-loop-term-init

@@ -1,6 +1,6 @@
 use Rattle.std.proofs.Common.{refl, sym, ◌∙◌, subst}
 use Rattle.zf_value.specs.Sets.{IsRegularOutcome}
-use Rattle.zf_meaning.proofs.Regulars.{regular-value_or, regular-outcome_or}
+use Rattle.zf_meaning.proofs.Regulars.{regular-value_or}
 use Rattle.zf_meaning.proofs.evaluate.named.Goals as goal
 
 pub returns-in-Component-clause-regular : goal.returns-in-Component-clause-regular
@@ -9,5 +9,3 @@ returns-in-Component-clause-regular g c = subst IsRegularOutcome (sym (c.lent.en
 pub returns-in-Local-clause-regular : goal.returns-in-Local-clause-regular
 returns-in-Local-clause-regular g c = subst IsRegularOutcome (sym (c.lent-in-Local.ensures ∙ c.local.ensures)) (regular-value_or _ _ _ refl c.requires.locals)
 
-pub returns-in-Global-clause-regular : goal.returns-in-Global-clause-regular
-returns-in-Global-clause-regular g c = subst IsRegularOutcome (sym c.global.ensures) (regular-outcome_or _ _ _ refl c.requires.globals)
