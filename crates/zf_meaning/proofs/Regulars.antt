@@ -1,6 +1,9 @@
 -- Regular values: what names stand for, the rows of ranges, and that their members are distinct.
-use Rattle.std.proofs.Common.{◌≡◌, ◌⊎◌, ℕ, zero, suc, List, [], ◌∷◌, ◌++◌, map, Option, Some, None, replicate, refl, sym, ap, ◌∙◌, subst, inl, inr, ⊎_elim, ◌<◌, length, take, drop, get_or, arith, ◌-◌, add-one, ◌+◌, ◌≤◌}
-use Rattle.std.specs.Prelude.{slice_get}
+use Rattle.std.proofs.Common.{◌≡◌, ◌⊎◌, ℕ, zero, suc, List, [], ◌∷◌, ◌++◌, map, Option, Some, None, replicate, refl, sym, ap, ◌∙◌, subst, inl, inr, ⊎_elim, ◌<◌, length, take, drop, get_or, ltb, arith, ◌-◌, add-one, ◌+◌, ◌≤◌}
+use Rattle.std.specs.Prelude.{slice_get, MatchOption, IfSome}
+use Rattle.std.specs.Option.{is_some}
+use Rattle.std.proofs.lemmas.Bool.{ltb-true}
+use Rattle.std.proofs.lemmas.Option.{slice_get_read}
 use denote.Bor.{Bor}
 use Rattle.zf_value.specs.declared.value.Value.{Value, Tuple, SetOf, out-Value, roll-Value, roll-out-Value}
 use Rattle.zf_value.specs.declared.value.Value.TheOpen.{Value-F}
@@ -54,6 +57,10 @@ pub regular-outcomes-push : (os : List Outcome) (o : Outcome) → AreRegularOutc
 unfolding AreRegularOutcomes
 regular-outcomes-push [] o h k = (k, tt)
 regular-outcomes-push (p ∷ os) o h k = (h.0, regular-outcomes-push os o h.1 k)
+
+pub regular-got : (os ys : List Outcome) (i : ℕ) (r : Option (Bor Outcome)) → ys ≡ os → is_some r ≡ ltb i (length ys) → IfSome r (λ o. o.now ≡ get_or ys i o.now) → AreRegularOutcomes os → MatchOption r (Unit {0}) (λ o. IsRegularOutcome o.now)
+regular-got os ys i None e l g h = tt
+regular-got os ys i (Some o) e l g h = regular-outcome ys i o.now (subst AreRegularOutcomes (sym e) h) (slice_get_read ys (length ys) i o.now refl (ltb-true i (length ys) (sym l)) g)
 
 -- ---- sets
 
