@@ -1,10 +1,8 @@
 -- All rows: they are those that take a value from each range, and none stands twice among them.
-use Rattle.std.proofs.Common.{◌≡◌, ◌⊎◌, List, [], ◌∷◌, ◌++◌, map, refl, sym, ap, ◌∙◌, subst, inl, inr, ⊎_elim}
+use Rattle.std.proofs.Common.{◌≡◌, ◌⊎◌, List, [], ◌∷◌, ◌++◌, map, refl, sym, ap, subst, inl, inr, ⊎_elim}
 use Rattle.zf_value.specs.declared.value.Value.{Value}
 use Rattle.zf_value.specs.Operations.{AreFrom}
-use Rattle.zf_value.specs.Sets.{IsMember, IsAscending, Every, members, value_order}
-use Rattle.std.specs.declared.cmp.Ordering.TheVariants.{Less}
-use Rattle.zf_value.proofs.Once.{HasOne}
+use Rattle.zf_value.specs.Sets.{IsMember, members}
 use Rattle.zf_meaning.specs.Places.{headed, all_rows}
 
 -- the row is among these

@@ -1,12 +1,11 @@
 -- Quantified predicates and builders, by their parts.
-use Rattle.std.proofs.Common.{◌≡◌, ℕ, List, [], map, Option, refl, sym, ap, ◌∙◌, subst}
+use Rattle.std.proofs.Common.{◌≡◌, ℕ, List, map, Option, sym, ap, ◌∙◌, subst}
 use Rattle.zf_scan.specs.declared.token.Quantifier.{Quantifier}
 use Rattle.zf_term.specs.declared.resolved.Range.{Range}
 use Rattle.zf_term.specs.declared.resolved.Resolved.{Resolved}
-use Rattle.zf_term.specs.declared.resolved.Resolved.TheOpen.{Resolved-F}
 use Rattle.zf_term.specs.declared.resolved.Resolved.TheViews.{out-Resolved}
 use Rattle.zf_term.specs.declared.resolved.Resolved.TheVariants as v
-use Rattle.zf_term.specs.ResolvedTrees.{ResolvedTree, quantified, builder, ranges, range_of, part_of, resolved_of}
+use Rattle.zf_term.specs.ResolvedTrees.{ranges, range_of, part_of, resolved_of}
 use Rattle.zf_term.proofs.ResolvedSeen.{of-Quantified, of-Builder}
 use Rattle.zf_value.specs.declared.value.Outcome.{Outcome}
 use Rattle.zf_value.specs.declared.value.Truth.{Truth}

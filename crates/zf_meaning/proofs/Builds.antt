@@ -1,16 +1,16 @@
 -- What a builder has built of the rows that are done.
-use Rattle.std.proofs.Common.{◌≡◌, ◌⊎◌, ◌↔◌, Bool, true, false, List, [], ◌∷◌, ◌++◌, refl, sym, ap, ◌∙◌, subst, inl, inr, ⊎_elim}
+use Rattle.std.proofs.Common.{◌≡◌, ◌↔◌, true, false, List, [], ◌∷◌, ◌++◌, refl, sym, subst, inl, inr, ⊎_elim}
 use Rattle.zf_value.specs.declared.value.Value.{Value}
 use Rattle.zf_value.specs.declared.value.Outcome.{Outcome}
 use Rattle.zf_value.specs.declared.value.Outcome.TheVariants.{Is, Undefined, Out}
 use Rattle.zf_value.specs.declared.value.Truth.{Truth}
 use Rattle.zf_value.specs.declared.value.Truth.TheVariants as truth
 use Rattle.zf_value.specs.Operations.{IsDisplay}
-use Rattle.zf_value.specs.Sets.{IsMember, IsSetOf}
+use Rattle.zf_value.specs.Sets.{IsMember}
 use Rattle.zf_value.proofs.Among.{members-push}
 use Rattle.zf_value.proofs.Making.{same_set}
-use Rattle.zf_meaning.specs.Building.{AddsValue, AddsRow}
-use Rattle.zf_meaning.specs.Meaning.{IsBuiltBy, IsWithinBounds, IsOutOfBounds, IsBuiltOver}
+use Rattle.zf_meaning.specs.Building.{AddsRow}
+use Rattle.zf_meaning.specs.Meaning.{IsBuiltBy, IsWithinBounds, IsBuiltOver}
 use Rattle.zf_meaning.proofs.AllRows.{IsAmong}
 
 -- each test has one answer
@@ -47,7 +47,7 @@ pub built-more : (F : List Value → Truth → Type 0) (T : List Value → Outco
 built-more F T done old new v f g a h =
     ⊎_elim (λ x. subst (HasBuilt F T (v ∷ done)) (sym x.1) (passed F T done old v (inl x.0) (λ z p q. let d = f v _ _ x.0 p in (cc)) h))
     (λ x. ⊎_elim (λ y. subst (HasBuilt F T (v ∷ done)) (sym y.1) (passed F T done old v (inr (x.0, inl y.0)) (λ z p q. let d = g v _ _ y.0 q in (cc)) h))
-      (λ y. subst (HasBuilt F T (v ∷ done)) (sym y.2) (added F T done old v y.0 g x.0 y.1 h)) x.1) a
+    (λ y. subst (HasBuilt F T (v ∷ done)) (sym y.2) (added F T done old v y.0 g x.0 y.1 h)) x.1) a
 
 -- out by a row that R admits
 pub built-out : (R : List Value → Type 0) (F : List Value → Truth → Type 0) (T : List Value → Outcome → Type 0) (old new : List Value) (v : List Value) → R v → AddsRow (F v) (T v) old new false → IsBuiltOver R F T Out

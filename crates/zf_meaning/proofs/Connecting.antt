@@ -1,5 +1,5 @@
 -- What connectives tell of the truths of their sides.
-use Rattle.std.proofs.Common.{◌≡◌, Option, Some, refl, sym, ap, ◌∙◌, subst, inl, inr}
+use Rattle.std.proofs.Common.{◌≡◌, Some, refl, sym, subst, inl, inr}
 use Rattle.zf_scan.specs.declared.token.Connective.{Connective}
 use Rattle.zf_scan.specs.declared.token.Connective.TheVariants.{And, Or, Implies, Iff}
 use Rattle.zf_scan.specs.declared.token.Quantifier.{Quantifier}

@@ -4,7 +4,7 @@ use Rattle.std.proofs.lemmas.List.{drop_more, map-append}
 use denote.Bor.{Bor}
 use Rattle.zf_term.specs.declared.resolved.Resolved.{Resolved}
 use Rattle.zf_term.specs.declared.resolved.Range.{Range}
-use Rattle.zf_term.specs.ResolvedTrees.{ResolvedTrees, terms, Ranges, ranges, resolved_of, range_of}
+use Rattle.zf_term.specs.ResolvedTrees.{terms, ranges, resolved_of, range_of}
 use Rattle.zf_term.proofs.ResolvedSeen.{range-seen}
 use Rattle.zf_value.specs.declared.value.Value.{Value}
 use Rattle.zf_value.specs.declared.value.Outcome.{Outcome}
@@ -121,7 +121,7 @@ pub ranges-more : (c : Context) (all : List Range) (i : ℕ) (t : Range) (l k : 
 ranges-more c all i t l k vs ws x h e g o f w s r =
     let split : drop i all ≡ t ∷ drop (i + 1) all = drop_more all i t h ∙ ap (λ y. y ∷ drop (i + 1) all) (sym e) in
     let seen : HaveRanges c (ranges (range_of t ∷ map range_of (drop (i + 1) all))) (repeated t.variables x s) =
-        subst (λ p. HaveRanges c (ranges (p ∷ map range_of (drop (i + 1) all))) (repeated t.variables x s)) (sym (range-seen t)) (x, s, o, r, refl) in
+    subst (λ p. HaveRanges c (ranges (p ∷ map range_of (drop (i + 1) all))) (repeated t.variables x s)) (sym (range-seen t)) (x, s, o, r, refl) in
     let one = g (repeated t.variables x s) (subst (λ ts. HaveRanges c (ranges (map range_of ts)) (repeated t.variables x s)) (sym split) seen) in
     rw (f, w) (subst (HaveRanges c (ranges (map range_of all))) (joined-repeated l vs t.variables x s) one)
 

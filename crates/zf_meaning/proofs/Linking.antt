@@ -1,5 +1,5 @@
 -- The links of a chain, one after another.
-use Rattle.std.proofs.Common.{◌≡◌, ℕ, ◌+◌, ◌<◌, ◌≤◌, List, [], ◌∷◌, length, map, drop, get_or, refl, sym, ap, ◌∙◌, subst, inl}
+use Rattle.std.proofs.Common.{◌≡◌, ℕ, ◌+◌, ◌<◌, ◌≤◌, List, ◌∷◌, length, map, drop, get_or, refl, sym, ap, ◌∙◌, subst, inl}
 use Rattle.std.specs.Prelude.{Result}
 use Rattle.std.specs.Result.{IfOk}
 use Rattle.std.specs.declared.alloc.AllocError.{AllocError}
@@ -28,8 +28,8 @@ here c all i k x y p u l e o h r =
     let rest = links (map resolved_link_of (drop (i + 1) all)) in
     let split : drop i all ≡ k ∷ drop (i + 1) all = drop_more all i k l ∙ ap (λ z. z ∷ drop (i + 1) all) (sym e) in
     let seen : AreLinked c x (links (resolved_link_of k ∷ map resolved_link_of (drop (i + 1) all))) (conjunction p u) =
-        subst (λ z. AreLinked c x (links (z ∷ map resolved_link_of (drop (i + 1) all))) (conjunction p u)) (sym (link-seen k))
-        (y, o, conjoined p u (λ w. IsLink (infinite_right c k.relation (resolved_of k.right)) k.relation x y w) (λ w. AreLinked c y rest w) h r) in
+    subst (λ z. AreLinked c x (links (z ∷ map resolved_link_of (drop (i + 1) all))) (conjunction p u)) (sym (link-seen k))
+    (y, o, conjoined p u (λ w. IsLink (infinite_right c k.relation (resolved_of k.right)) k.relation x y w) (λ w. AreLinked c y rest w) h r) in
     subst (λ ks. AreLinked c x (links (map resolved_link_of ks)) (conjunction p u)) (sym split) seen
 
 pub link-more : (c : Context) (all : List ResolvedLink) (i : ℕ) (k : ResolvedLink) (x y first : Outcome) (t p s : Truth) → i < length all → k ≡ get_or all i k → LinksTo c all (drop i all) x first t → HasOutcome c (resolved_of k.right) y
@@ -44,8 +44,8 @@ link-false c all i k x y first t p l e f o h d =
     let rest = links (map resolved_link_of (drop (i + 1) all)) in
     let split : drop i all ≡ k ∷ drop (i + 1) all = drop_more all i k l ∙ ap (λ z. z ∷ drop (i + 1) all) (sym e) in
     let seen : AreLinked c x (links (resolved_link_of k ∷ map resolved_link_of (drop (i + 1) all))) False =
-        subst (λ z. AreLinked c x (links (z ∷ map resolved_link_of (drop (i + 1) all))) False) (sym (link-seen k))
-        (y, o, inl (subst (IsLink (infinite_right c k.relation (resolved_of k.right)) k.relation x y) d h)) in
+    subst (λ z. AreLinked c x (links (z ∷ map resolved_link_of (drop (i + 1) all))) False) (sym (link-seen k))
+    (y, o, inl (subst (IsLink (infinite_right c k.relation (resolved_of k.right)) k.relation x y) d h)) in
     subst (AreLinked c first (links (map resolved_link_of all))) (conjunction-false t) (f False (subst (λ ks. AreLinked c x (links (map resolved_link_of ks)) False) (sym split) seen))
 
 pub link-all : (c : Context) (all : List ResolvedLink) (n : ℕ) (x first : Outcome) (t : Truth) → length all ≤ n → LinksTo c all (drop n all) x first t → AreLinked c first (links (map resolved_link_of all)) t

@@ -1,5 +1,5 @@
 -- One row after another: the first, and the next.
-use Rattle.std.proofs.Common.{◌≡◌, ℕ, zero, suc, ◌+◌, ◌-◌, ◌<◌, ◌≤◌, List, [], ◌∷◌, ◌++◌, length, map, get_or, take, drop, set, replicate, eqb, Bool, true, false, refl, sym, ap, ◌∙◌, arith, subst, inl, inr, append-nil, length-append, append_assoc}
+use Rattle.std.proofs.Common.{◌≡◌, ℕ, zero, suc, ◌+◌, ◌<◌, ◌≤◌, List, [], ◌∷◌, ◌++◌, length, get_or, take, drop, set, replicate, eqb, true, false, refl, sym, ap, ◌∙◌, arith, subst, inl, inr, append-nil, length-append, append_assoc}
 use denote.Bor.{Bor}
 use Rattle.std.specs.List.{All, list_any}
 use Rattle.std.proofs.lemmas.Bool.{false≢true, or_cases, or_parts, or_left, or_right}

@@ -1,19 +1,18 @@
 -- Regular values: what names stand for, the rows of ranges, and that their members are distinct.
-use Rattle.std.proofs.Common.{◌≡◌, ◌⊎◌, ℕ, zero, suc, List, [], ◌∷◌, ◌++◌, map, Option, Some, None, replicate, refl, sym, ap, ◌∙◌, subst, inl, inr, ⊎_elim, ◌<◌, length, take, drop, get_or, ltb, arith, ◌-◌, add-one, ◌+◌, ◌≤◌}
+use Rattle.std.proofs.Common.{◌≡◌, ℕ, zero, suc, List, [], ◌∷◌, ◌++◌, Option, Some, None, replicate, refl, sym, ap, ◌∙◌, subst, inl, inr, ⊎_elim, ◌<◌, length, take, drop, get_or, ltb, arith, ◌-◌, add-one, ◌+◌, ◌≤◌}
 use Rattle.std.specs.Prelude.{slice_get, MatchOption, IfSome}
 use Rattle.std.specs.Option.{is_some}
 use Rattle.std.proofs.lemmas.Bool.{ltb-true}
 use Rattle.std.proofs.lemmas.Option.{slice_get_read}
 use denote.Bor.{Bor}
-use Rattle.zf_value.specs.declared.value.Value.{Value, Tuple, SetOf, out-Value, roll-Value, roll-out-Value}
+use Rattle.zf_value.specs.declared.value.Value.{Value, Tuple, out-Value, roll-Value, roll-out-Value}
 use Rattle.zf_value.specs.declared.value.Value.TheOpen.{Value-F}
 use Rattle.zf_value.specs.declared.value.Value.TheVariants.{rolls-SetOf}
 use Rattle.zf_value.specs.declared.value.Outcome.{Outcome}
-use Rattle.zf_value.specs.declared.value.Outcome.TheVariants.{Is, Undefined, Out}
 use Rattle.zf_value.specs.Operations.{AreFrom}
-use Rattle.zf_value.specs.Sets.{IsMember, IsAscending, Every, IsRegular, AreRegular, IsRegularSet, IsRegularOutcome, members_at, members, value_order}
+use Rattle.zf_value.specs.Sets.{IsMember, IsAscending, IsRegular, AreRegular, IsRegularSet, IsRegularOutcome, members_at, members, value_order}
 use Rattle.std.specs.declared.cmp.Ordering.TheVariants.{Less}
-use Rattle.zf_value.proofs.Among.{every_at, members-push, members-append, not_below_itself}
+use Rattle.zf_value.proofs.Among.{every_at, members-append, not_below_itself}
 use Rattle.zf_value.proofs.Regulars.{regular-Tuple, regular_set, regular_none, regular_member, are_regular}
 use Rattle.zf_meaning.specs.declared.env.Env.{Env}
 use Rattle.zf_meaning.specs.Environments.{value_or}

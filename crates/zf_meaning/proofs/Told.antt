@@ -1,5 +1,5 @@
 -- What is known of the rows that a quantifier has met, and what follows for all rows.
-use Rattle.std.proofs.Common.{◌≡◌, ◌⊎◌, Bool, true, false, List, [], ◌∷◌, ◌++◌, refl, sym, ap, ◌∙◌, subst, inl, inr, ⊎_elim}
+use Rattle.std.proofs.Common.{◌≡◌, ◌⊎◌, Bool, true, false, List, [], ◌∷◌, refl, sym, ◌∙◌, subst, inl, inr, ⊎_elim}
 use Rattle.zf_scan.specs.declared.token.Quantifier.{Quantifier}
 use Rattle.zf_scan.specs.declared.token.Quantifier.TheVariants.{ForAll, Exists, ExistsOne}
 use Rattle.zf_value.specs.declared.value.Value.{Value}
@@ -7,8 +7,8 @@ use Rattle.zf_value.specs.declared.value.Truth.{Truth}
 use Rattle.zf_value.specs.declared.value.Truth.TheVariants.{True, False, Out}
 use Rattle.zf_meaning.specs.declared.tally.Tally.{Tally}
 use Rattle.zf_meaning.specs.Tallies.{none, with, is_settled, when_settled, when_over, truth_by}
-use Rattle.zf_meaning.specs.Truths.{IsForAll, IsExists, HasTwo, IsExistsOne, IsOver}
-use Rattle.zf_meaning.proofs.AllRows.{IsAmong, among-append}
+use Rattle.zf_meaning.specs.Truths.{HasTwo, IsExistsOne, IsOver}
+use Rattle.zf_meaning.proofs.AllRows.{IsAmong}
 
 abbrev pub EachOne : (List Value → Truth → Type 0) → Type 0
 EachOne P = (vs : List Value) (t u : Truth) → P vs t → P vs u → t ≡ u

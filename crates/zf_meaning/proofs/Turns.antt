@@ -1,16 +1,15 @@
 -- One turn of a walk over rows, for a quantifier and for a builder.
-use Rattle.std.proofs.Common.{◌≡◌, ◌<◌, Bool, true, false, List, [], ◌∷◌, ◌++◌, length, drop, refl, sym, ap, ◌∙◌, subst, arith}
+use Rattle.std.proofs.Common.{◌≡◌, ◌<◌, Bool, true, false, List, [], length, ap, subst, arith}
 use Rattle.std.specs.Bool.{MatchBool}
 use Rattle.zf_scan.specs.declared.token.Quantifier.{Quantifier}
 use Rattle.zf_term.specs.ResolvedTrees.{ResolvedTree, ResolvedPart}
 use Rattle.zf_value.specs.declared.value.Value.{Value}
-use Rattle.zf_value.specs.declared.value.Outcome.{Outcome}
 use Rattle.zf_value.specs.declared.value.Truth.{Truth}
 use Rattle.zf_meaning.specs.declared.rows.Rows.{Rows}
 use Rattle.zf_meaning.specs.Building.{AddsRow}
 use Rattle.zf_meaning.specs.Environments.{Context, within}
 use Rattle.zf_meaning.specs.Meaning.{IsConstraint, IsTruth, Builds}
-use Rattle.zf_meaning.specs.Rowed.{ahead, row_of, IsNext}
+use Rattle.zf_meaning.specs.Rowed.{ahead, IsNext}
 use Rattle.zf_meaning.specs.Truths.{IsTold}
 use Rattle.zf_meaning.proofs.Builds.{IsSingle}
 use Rattle.zf_meaning.proofs.Told.{EachOne}

@@ -1,5 +1,5 @@
 -- A term has one outcome at most, and one truth.
-use Rattle.std.proofs.Common.{◌≡◌, ◌⊎◌, ℕ, zero, suc, ℤ, List, [], ◌∷◌, Option, Some, None, refl, sym, ap, ◌∙◌, subst, inl, inr, ⊎_elim}
+use Rattle.std.proofs.Common.{◌≡◌, List, Option, Some, None, refl, sym, ◌∙◌, subst, ⊎_elim}
 use Rattle.std.specs.Prelude.{pos}
 use Rattle.zf_scan.specs.declared.token.Arrow.{Arrow}
 use Rattle.zf_scan.specs.declared.token.Arrow.TheVariants as arrow
@@ -27,16 +27,15 @@ use Rattle.zf_value.specs.declared.value.Outcome.{Outcome}
 use Rattle.zf_value.specs.declared.value.Outcome.TheVariants.{Is, Undefined, Out}
 use Rattle.zf_value.specs.declared.value.Truth.{Truth}
 use Rattle.zf_value.specs.declared.value.Truth.TheVariants as truth
-use Rattle.zf_value.specs.Numbers.{number_of, IsNegation, IsSum, IsDifference, IsProduct, IsQuotient, IsModulus, IsInterval}
+use Rattle.zf_value.specs.Numbers.{IsNegation, IsSum, IsDifference, IsProduct, IsQuotient, IsModulus, IsInterval}
 use Rattle.zf_value.specs.Operations.{AreFrom}
-use Rattle.zf_value.specs.Sets.{members}
 use Rattle.zf_value.proofs.Once as once
 use Rattle.zf_value.proofs.Once.{HasOne, one_set, one_number, one_on_number, one_on_numbers}
 use Rattle.zf_value.proofs.Divisions.{one_Quotient, one_Modulus}
 use Rattle.zf_meaning.specs.Environments.{Context, within}
 use Rattle.zf_meaning.specs.Outcomes.{OnOne, OnBoth, Several, values, one_undefined, one_out, OnSeveral}
 use Rattle.zf_meaning.specs.Symbols.{InfixOutcome, ArrowOutcome, BinaryOutcome, PrefixOutcome, SignOutcome, UnaryOutcome, ListedOutcome, Holds, HoldsOf}
-use Rattle.zf_meaning.specs.Truths.{Tells, IsAtom, IsTest, opposite, IsConjunction, IsDisjunction, IsEquivalence, IsConnected, IsTold, IsForAll, IsExists, HasTwo, IsExistsOne, IsOver, IsQuantified}
+use Rattle.zf_meaning.specs.Truths.{Tells, IsAtom, IsTest, opposite, IsConjunction, IsDisjunction, IsEquivalence, IsConnected, IsTold, IsForAll, IsExists, IsExistsOne, IsOver, IsQuantified}
 use Rattle.zf_meaning.specs.Meaning.{HasOutcome, HaveOutcomes, HaveRanges, Builds, IsConstraint, IsTruth, AreLinked, IsLink, infinite_right, IsBuiltBy, IsWithinBounds, IsOutOfBounds, IsBuiltOver, IsBuilt}
 
 one_infix : (op : Infix) (v w : Value) → HasOne (InfixOutcome op v w)

@@ -1,5 +1,5 @@
 -- A walk over the rows of sets, with what it binds.
-use Rattle.std.proofs.Common.{◌≡◌, ◌⊎◌, List, [], ◌∷◌, ◌++◌, length, map, drop, refl, sym, ap, ◌∙◌, subst, inl, inr, ⊎_elim, ◌≤◌, arith, length-append}
+use Rattle.std.proofs.Common.{◌≡◌, List, [], ◌∷◌, ◌++◌, length, map, drop, refl, sym, ap, ◌∙◌, subst, ⊎_elim, ◌≤◌, arith, length-append}
 use denote.Bor.{Bor}
 use Rattle.zf_term.specs.ResolvedTrees.{ResolvedTree, ResolvedPart}
 use Rattle.zf_scan.specs.declared.token.Quantifier.{Quantifier}

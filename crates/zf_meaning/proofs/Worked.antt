@@ -1,7 +1,6 @@
 -- Worked rows, as a check of the definitions.
-use Rattle.std.proofs.Common.{◌≡◌, ◌⊎◌, ℕ, List, [], ◌∷◌, refl, inl, inr, arith}
-use Rattle.std.specs.Prelude.{pos, negsuc}
-use Rattle.std.proofs.lemmas.Int.{ints}
+use Rattle.std.proofs.Common.{[], refl, inl, arith}
+use Rattle.std.specs.Prelude.{pos}
 use Rattle.zf_scan.specs.declared.token.Constant.TheVariants.{Integers}
 use Rattle.zf_scan.specs.declared.token.Infix.TheVariants.{Div}
 use Rattle.zf_scan.specs.declared.token.Prefix.TheVariants.{Size}
@@ -10,7 +9,7 @@ use Rattle.zf_text.specs.declared.tree.Sign.TheVariants.{Symbol}
 use Rattle.zf_term.specs.declared.operator.Operator.TheVariants.{Function}
 use Rattle.zf_term.specs.declared.operator.Unary.TheVariants.{Sign}
 use Rattle.zf_term.specs.ResolvedTrees.{ResolvedTree, number, constant, empty_set, unary, binary, chain, no_links, link}
-use Rattle.zf_value.specs.declared.value.Value.{Value, Int, SetOf}
+use Rattle.zf_value.specs.declared.value.Value.{Int, SetOf}
 use Rattle.zf_value.specs.declared.value.Outcome.TheVariants.{Is, Undefined, Out}
 use Rattle.zf_value.specs.declared.value.Truth.TheVariants.{True, False}
 use Rattle.zf_value.specs.Numbers.{IsQuotient}

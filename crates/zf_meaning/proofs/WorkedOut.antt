@@ -1,5 +1,5 @@
 -- The outcomes of globals are worked out one after another.
-use Rattle.std.proofs.Common.{◌≡◌, ◌⊎◌, ℕ, zero, suc, ◌+◌, ◌<◌, List, [], ◌∷◌, ◌++◌, Option, Some, None, length, take, refl, sym, ap, ◌∙◌, subst, inl, inr, ⊎_elim, arith, length-append}
+use Rattle.std.proofs.Common.{◌≡◌, ◌⊎◌, ℕ, zero, suc, ◌+◌, ◌<◌, List, [], ◌∷◌, ◌++◌, Some, length, take, refl, sym, ap, ◌∙◌, subst, inl, inr, ⊎_elim, arith, length-append}
 use Rattle.std.specs.Prelude.{slice_get}
 use Rattle.std.proofs.Math.Seq.{take-append_seam}
 use Rattle.std.proofs.lemmas.List.{take-append-le}
@@ -43,10 +43,10 @@ one-worked_out n e o h f = record {
   count = length-append e.outcomes (o ∷ []) ∙ ap (λ k. k + 1) h.count;
   each = λ i d l g. ⊎_elim
       (λ b. let w = h.each i d b g in let k : i < length e.outcomes = omega (arith, h.count) in
-        (w.0, get_before e.outcomes (o ∷ []) i k ∙ w.1, subst (λ x. IsOutcomeOf x d.definition w.0) (sym (same_before e o i k)) w.2))
+      (w.0, get_before e.outcomes (o ∷ []) i k ∙ w.1, subst (λ x. IsOutcomeOf x d.definition w.0) (sym (same_before e o i k)) w.2))
       (λ a. let m : i ≡ length e.outcomes = a ∙ sym h.count in
-        let all : before (further e o) i ≡ e = ap (λ os. record { globals = e.globals; sizes = e.sizes; outcomes = os }) (ap (λ k. take k (e.outcomes ++ o ∷ [])) m ∙ take-append_seam e.outcomes (o ∷ [])) in
-        (o, ap (slice_get (e.outcomes ++ o ∷ [])) m ∙ get_last e.outcomes o, subst (λ x. IsOutcomeOf x d.definition o) (sym all) (f d (ap (slice_get e.globals) (sym a) ∙ g))))
+      let all : before (further e o) i ≡ e = ap (λ os. record { globals = e.globals; sizes = e.sizes; outcomes = os }) (ap (λ k. take k (e.outcomes ++ o ∷ [])) m ∙ take-append_seam e.outcomes (o ∷ [])) in
+      (o, ap (slice_get (e.outcomes ++ o ∷ [])) m ∙ get_last e.outcomes o, subst (λ x. IsOutcomeOf x d.definition o) (sym all) (f d (ap (slice_get e.globals) (sym a) ∙ g))))
       (below_or_at i n l);
 }
 

@@ -1,12 +1,12 @@
 -- What names stand for: the globals with the sizes of given sets and free types, and what a row and bound variables give.
-use Rattle.std.specs.Prelude.{◌≡◌, ℕ, ◌<◌, ◌^◌, nat_lt, if◌then◌else◌, List, [], ◌++◌, take, Option, Some, None, slice_get}
+use Rattle.std.specs.Prelude.{◌≡◌, ℕ, ◌^◌, nat_lt, if◌then◌else◌, List, [], ◌++◌, take, Option, Some, None, slice_get}
 use Rattle.zf_term.specs.declared.resolved.Reference.{Reference}
 use Rattle.zf_term.specs.declared.resolved.Reference.TheVariants.{Component, Local, Global}
 use Rattle.zf_term.specs.Definitions.{Defined, Definition, given_set, free_type, constructor, abbreviation, schema}
 use Rattle.zf_term.specs.FirstNamed.{first_named}
 use Rattle.zf_value.specs.declared.value.Value.{Value, Elem}
 use Rattle.zf_value.specs.declared.value.Outcome.{Outcome}
-use Rattle.zf_value.specs.declared.value.Outcome.TheVariants.{Is, Undefined, Out}
+use Rattle.zf_value.specs.declared.value.Outcome.TheVariants.{Is, Undefined}
 use Rattle.zf_value.specs.Operations.{AreElements}
 
 -- the globals, how many elements each given set and free type has, in order of definition, and the outcome of each global, by its place

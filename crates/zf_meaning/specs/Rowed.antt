@@ -1,5 +1,5 @@
 -- Where a walk over rows is. No public clause rests on this.
-use Rattle.std.specs.Prelude.{◌≡◌, ◌+◌, List, ◌∷◌, ◌++◌, length}
+use Rattle.std.specs.Prelude.{◌≡◌, List, ◌∷◌, ◌++◌}
 use Rattle.zf_value.specs.declared.value.Value.{Value}
 use Rattle.zf_meaning.specs.declared.rows.Rows.{Rows}
 use Rattle.zf_meaning.specs.Places.{seen, all_rows, rows_after, picked, ArePlaces}

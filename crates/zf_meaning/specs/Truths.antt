@@ -1,5 +1,5 @@
 -- Truth in three values: atoms, connectives and quantifiers, with no order among their parts.
-use Rattle.std.specs.Prelude.{◌≡◌, ◌⊎◌, List, [], ◌∷◌}
+use Rattle.std.specs.Prelude.{◌≡◌, ◌⊎◌, List}
 use Rattle.zf_scan.specs.declared.token.Connective.{Connective}
 use Rattle.zf_scan.specs.declared.token.Connective.TheVariants as connective
 use Rattle.zf_scan.specs.declared.token.Quantifier.{Quantifier}

@@ -14,7 +14,12 @@ use zf_value::set::{are_among, is_member};
 use zf_value::value::{Truth, Value};
 
 /// The truth of a link between two outcomes, where the right one may be an infinite set instead.
-pub(crate) fn link(infinite: Option<Infinite>, relation: Relation, x: &Found<'_>, y: &Found<'_>) -> Truth
+pub(crate) fn link(
+    infinite: Option<Infinite>,
+    relation: Relation,
+    x: &Found<'_>,
+    y: &Found<'_>,
+) -> Truth
     requires x { IsRegularOutcome (found_outcome x.now) }
     requires y { IsRegularOutcome (found_outcome y.now) }
     ensures { IsLink infinite relation (found_outcome x.now) (found_outcome y.now) result }

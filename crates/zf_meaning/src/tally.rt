@@ -93,12 +93,6 @@ fn when_over(quantifier: Quantifier, has_true: bool) -> Truth
     match quantifier {
         Quantifier::ForAll => Truth::True,
         Quantifier::Exists => Truth::False,
-        Quantifier::ExistsOne => {
-            if has_true {
-                Truth::True
-            } else {
-                Truth::False
-            }
-        }
+        Quantifier::ExistsOne => { if has_true { Truth::True } else { Truth::False } }
     }
 }

@@ -155,13 +155,7 @@ pub(super) fn builder<'v, 'a, R: Row>(
     match declared.lack {
         Lack::Out => Ok(Found::Out),
         Lack::Undefined => empty_set(env.allocator()),
-        Lack::Nothing => Ok(Found::own(built_over(
-            term,
-            &declared.sets,
-            &*row,
-            &*locals,
-            &*env,
-        )?)),
+        Lack::Nothing => Ok(Found::own(built_over(term, &declared.sets, &*row, &*locals, &*env)?)),
     }
 }
 

@@ -16,7 +16,7 @@ use crate::found::Found;
 use crate::gathered::Lack;
 use crate::row::Row;
 use std::alloc::{AllocError, Global};
-use zf_term::resolved::{Range};
+use zf_term::resolved::Range;
 use zf_value::lent::Lent;
 use zf_value::value::Value;
 

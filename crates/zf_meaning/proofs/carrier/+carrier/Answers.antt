@@ -1,7 +1,6 @@
 use Rattle.std.proofs.Common.{sym, subst}
 use Rattle.zf_term.specs.Types.{type_of}
 use Rattle.zf_value.specs.Sets.{IsRegularOutcome}
-use Rattle.zf_value.proofs.Regulars.{are_regular}
 use Rattle.zf_meaning.specs.Carriers.{IsCarrier}
 use Rattle.zf_meaning.specs.Envs.{environment_of}
 use Rattle.zf_meaning.specs.Found.{found_outcome}

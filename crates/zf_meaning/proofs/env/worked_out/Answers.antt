@@ -1,5 +1,4 @@
 use Rattle.std.proofs.Common.{◌+◌, List, length, refl, sym, ap, subst, arith}
-use Rattle.zf_term.specs.Definitions.{globals_of}
 use Rattle.zf_value.specs.declared.value.Outcome.{Outcome}
 use Rattle.zf_meaning.specs.Environments.{Environment}
 use Rattle.zf_meaning.specs.Envs.{environment_of}

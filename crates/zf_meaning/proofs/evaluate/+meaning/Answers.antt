@@ -1,6 +1,5 @@
-use Rattle.std.proofs.Common.{◌≡◌, List, [], ◌∷◌, length, map, drop, refl, sym, ap, ◌∙◌, subst, arith}
+use Rattle.std.proofs.Common.{[], ◌∷◌, length, map, drop, refl, sym, ap, ◌∙◌, subst}
 use Rattle.std.proofs.lemmas.Result.{IfOk-weaker}
-use Rattle.zf_scan.specs.declared.token.Quantifier.{Quantifier}
 use Rattle.zf_term.specs.ResolvedTrees.{resolved_of, part_of}
 use Rattle.zf_term.specs.ResolvedTrees as tree
 use Rattle.zf_term.proofs.ResolvedSeen.{of-Unary, of-Binary, of-Listed, of-Chain}
@@ -14,13 +13,13 @@ use Rattle.zf_meaning.specs.Gathered.{several_by}
 use Rattle.zf_meaning.specs.RangeSets.{declared_of}
 use Rattle.zf_meaning.specs.Truths.{IsConnected, IsTold, IsOver, IsQuantified}
 use Rattle.zf_meaning.specs.Tallies.{truth_by, is_settled}
-use Rattle.zf_meaning.proofs.Binding.{same-quantifier, same-constraint, same-body, quantified-told, builder-has}
+use Rattle.zf_meaning.proofs.Binding.{same-quantifier, same-constraint, quantified-told, builder-has}
 use Rattle.zf_meaning.proofs.Builds.{nothing, built-more, built-out, built-all}
 use Rattle.zf_meaning.proofs.Connecting.{decided-told, told-by}
 use Rattle.zf_meaning.proofs.Told.{IsTallied, none-tallied, one-more, settled-truth, told-of-all}
 use Rattle.zf_meaning.proofs.Turns.{moved, stuck, fewer, adds-here, told-here, one-filter, one-term, one-told}
 use Rattle.zf_meaning.proofs.Walking.{walk-begun, walk-next, walk-ended, walk-row, walk-done, walk-new, no-row, none-from, scope-row, bound-row, walk-scope, outside-bound, FilterIn, TermIn, ToldIn}
-use Rattle.zf_value.specs.Sets.{AreRegular, IsRegular}
+use Rattle.zf_value.specs.Sets.{AreRegular}
 use Rattle.zf_meaning.specs.Found.{found_outcome}
 use Rattle.zf_meaning.specs.Meaning.{HasOutcome, IsTruth, IsConstraint, Builds, IsBuilt, IsBuiltOver, IsLink, row_value}
 use Rattle.zf_meaning.specs.Places.{seen}
@@ -88,9 +87,11 @@ chains::linked-returns-then-is_false g t c =
     link-false (scope_of c.args.env.now row c.args.locals.now) c.args.links.now c.loop-link.link-index c.link-item.result (found_outcome c.loop-link.left) (found_outcome c.in_ok-right.right) (found_outcome c.args.first) c.loop-link.truth c.link-told.result c.loop-link-test.true c.link-item.is c.loop-link.invariant.linked c.in_ok-right.ensures.is told (c.is_false.ensures.0 c.if-is_false.true)
 
 pub binders::over_rows-loop-rows-init : goal.binders::over_rows-loop-rows-init
-binders::over_rows-loop-rows-init g t c =
-    ([], walk-begun c.in-Some.rows (seen c.args.locals.now) (spread c.args.sets.now) (seen c.in_ok-lists_of.field-0.items) c.in_ok-lists_of.ensures c.requires.sets (rw c.in-Some.is at c.in_ok-rows.ensures),
-      λ q n rs p e is. subst (IsTallied (ToldIn (scope_of c.args.env.now (g.R.Row.values c.args.row.now) c.args.locals.now) q (part_of p) (resolved_of e)) []) (sym c.none-tally.ensures) (none-tallied (ToldIn (scope_of c.args.env.now (g.R.Row.values c.args.row.now) c.args.locals.now) q (part_of p) (resolved_of e))))
+binders::over_rows-loop-rows-init g t c = (
+  [],
+  walk-begun c.in-Some.rows (seen c.args.locals.now) (spread c.args.sets.now) (seen c.in_ok-lists_of.field-0.items) c.in_ok-lists_of.ensures c.requires.sets (rw c.in-Some.is at c.in_ok-rows.ensures),
+  λ q n rs p e is. subst (IsTallied (ToldIn (scope_of c.args.env.now (g.R.Row.values c.args.row.now) c.args.locals.now) q (part_of p) (resolved_of e)) []) (sym c.none-tally.ensures) (none-tallied (ToldIn (scope_of c.args.env.now (g.R.Row.values c.args.row.now) c.args.locals.now) q (part_of p) (resolved_of e))),
+)
 
 pub binders::over_rows-loop-rows-preserved : goal.binders::over_rows-loop-rows-preserved
 binders::over_rows-loop-rows-preserved g t c =
@@ -98,19 +99,24 @@ binders::over_rows-loop-rows-preserved g t c =
     let row = row_of c.loop-rows.rows in
     let inv = c.loop-rows.invariant in
     let next = moved outside c.loop-rows.rows c.advance.new.self c.in_ok-advance.field-0 c.if-not-branch.false (c.in_ok-advance.ensures outside inv.1.at) in
-    let here = scope-row c.args.env.now (g.R.Row.values c.args.row.now) c.args.locals.now c.bound.result.now row (ap seen c.bound.ensures ∙ inv.1.at.1) in
-    (row ∷ inv.0, walk-next c.loop-rows.rows c.advance.new.self outside (spread c.args.sets.now) inv.0 inv.1 next,
+    let here = scope-row c.args.env.now (g.R.Row.values c.args.row.now) c.args.locals.now c.bound.result.now row (ap seen c.bound.ensures ∙ inv.1.at.1) in (
+      row ∷ inv.0,
+      walk-next c.loop-rows.rows c.advance.new.self outside (spread c.args.sets.now) inv.0 inv.1 next,
       λ q n rs p e is. subst (IsTallied (ToldIn (scope_of c.args.env.now (g.R.Row.values c.args.row.now) c.args.locals.now) q (part_of p) (resolved_of e)) (row ∷ inv.0)) (sym c.with-tally.ensures)
-        (one-more (ToldIn (scope_of c.args.env.now (g.R.Row.values c.args.row.now) c.args.locals.now) q (part_of p) (resolved_of e)) inv.0 c.loop-rows.tally row c.in_ok-told_at.field-0 (one-told (scope_of c.args.env.now (g.R.Row.values c.args.row.now) c.args.locals.now) q (part_of p) (resolved_of e)) (walk-new c.loop-rows.rows outside (spread c.args.sets.now) inv.0 inv.1)
-          (told-here _ (scope_of c.args.env.now (g.R.Row.values c.args.row.now) c.args.locals.now) row q (part_of p) (resolved_of e) c.in_ok-told_at.field-0 here (c.in_ok-told_at.ensures q n rs p e is)) (inv.2 q n rs p e is)))
+          (one-more (ToldIn (scope_of c.args.env.now (g.R.Row.values c.args.row.now) c.args.locals.now) q (part_of p) (resolved_of e)) inv.0 c.loop-rows.tally row c.in_ok-told_at.field-0 (one-told (scope_of c.args.env.now (g.R.Row.values c.args.row.now) c.args.locals.now) q (part_of p) (resolved_of e)) (walk-new c.loop-rows.rows outside (spread c.args.sets.now) inv.0 inv.1)
+          (told-here _ (scope_of c.args.env.now (g.R.Row.values c.args.row.now) c.args.locals.now) row q (part_of p) (resolved_of e) c.in_ok-told_at.field-0 here (c.in_ok-told_at.ensures q n rs p e is)) (inv.2 q n rs p e is)),
+    )
 
 pub binders::over_rows-loop-rows-smaller : goal.binders::over_rows-loop-rows-smaller
 binders::over_rows-loop-rows-smaller g t c = fewer (seen c.args.locals.now) c.loop-rows.rows c.advance.new.self (moved (seen c.args.locals.now) c.loop-rows.rows c.advance.new.self c.in_ok-advance.field-0 c.if-not-branch.false (c.in_ok-advance.ensures (seen c.args.locals.now) c.loop-rows.invariant.1.at))
 
 pub binders::built_over-loop-rows-init : goal.binders::built_over-loop-rows-init
-binders::built_over-loop-rows-init g t c =
-    ([], walk-begun c.in-Some.rows (seen c.args.locals.now) (spread c.args.sets.now) (seen c.in_ok-lists_of.field-0.items) c.in_ok-lists_of.ensures c.requires.sets (rw c.in-Some.is at c.in_ok-rows.ensures),
-      regular-nothing c.new-built.result.items c.new-built.ensures.items, λ n rs p e is. nothing (FilterIn (scope_of c.args.env.now (g.R.Row.values c.args.row.now) c.args.locals.now) (part_of p)) (TermIn (scope_of c.args.env.now (g.R.Row.values c.args.row.now) c.args.locals.now) (part_of e)) c.new-built.result.items c.new-built.ensures.items)
+binders::built_over-loop-rows-init g t c = (
+  [],
+  walk-begun c.in-Some.rows (seen c.args.locals.now) (spread c.args.sets.now) (seen c.in_ok-lists_of.field-0.items) c.in_ok-lists_of.ensures c.requires.sets (rw c.in-Some.is at c.in_ok-rows.ensures),
+  regular-nothing c.new-built.result.items c.new-built.ensures.items,
+  λ n rs p e is. nothing (FilterIn (scope_of c.args.env.now (g.R.Row.values c.args.row.now) c.args.locals.now) (part_of p)) (TermIn (scope_of c.args.env.now (g.R.Row.values c.args.row.now) c.args.locals.now) (part_of e)) c.new-built.result.items c.new-built.ensures.items,
+)
 
 pub binders::built_over-loop-rows-preserved : goal.binders::built_over-loop-rows-preserved
 binders::built_over-loop-rows-preserved g t c =
@@ -119,10 +125,13 @@ binders::built_over-loop-rows-preserved g t c =
     let inv = c.loop-rows.invariant in
     let next = moved outside c.loop-rows.rows c.advance.new.self c.in_ok-advance.field-0 c.if-not-branch-2.false (c.in_ok-advance.ensures outside inv.1.at) in
     let bound = ap seen c.bound.ensures ∙ inv.1.at.1 in
-    let here = scope-row c.args.env.now (g.R.Row.values c.args.row.now) c.args.locals.now c.bound.result.now row bound in
-    (row ∷ inv.0, walk-next c.loop-rows.rows c.advance.new.self outside (spread c.args.sets.now) inv.0 inv.1 next, c.in_ok-add_row.ensures.regular,
+    let here = scope-row c.args.env.now (g.R.Row.values c.args.row.now) c.args.locals.now c.bound.result.now row bound in (
+      row ∷ inv.0,
+      walk-next c.loop-rows.rows c.advance.new.self outside (spread c.args.sets.now) inv.0 inv.1 next,
+      c.in_ok-add_row.ensures.regular,
       λ n rs p e is. built-more (FilterIn (scope_of c.args.env.now (g.R.Row.values c.args.row.now) c.args.locals.now) (part_of p)) (TermIn (scope_of c.args.env.now (g.R.Row.values c.args.row.now) c.args.locals.now) (part_of e)) inv.0 c.loop-rows.built.items c.add_row.new.built.items row (one-filter (scope_of c.args.env.now (g.R.Row.values c.args.row.now) c.args.locals.now) (part_of p)) (one-term (scope_of c.args.env.now (g.R.Row.values c.args.row.now) c.args.locals.now) (part_of e))
-        (adds-here _ (scope_of c.args.env.now (g.R.Row.values c.args.row.now) c.args.locals.now) row _ (part_of p) (part_of e) c.loop-rows.built.items c.add_row.new.built.items c.in_ok-add_row.field-0 true here (bound-row c.args.locals.now c.bound.result.now row bound) c.if-not-branch.false (c.in_ok-add_row.ensures.is n rs p e is)) (inv.3 n rs p e is))
+          (adds-here _ (scope_of c.args.env.now (g.R.Row.values c.args.row.now) c.args.locals.now) row _ (part_of p) (part_of e) c.loop-rows.built.items c.add_row.new.built.items c.in_ok-add_row.field-0 true here (bound-row c.args.locals.now c.bound.result.now row bound) c.if-not-branch.false (c.in_ok-add_row.ensures.is n rs p e is)) (inv.3 n rs p e is),
+    )
 
 pub binders::built_over-loop-rows-smaller : goal.binders::built_over-loop-rows-smaller
 binders::built_over-loop-rows-smaller g t c = fewer (seen c.args.locals.now) c.loop-rows.rows c.advance.new.self (moved (seen c.args.locals.now) c.loop-rows.rows c.advance.new.self c.in_ok-advance.field-0 c.if-not-branch-2.false (c.in_ok-advance.ensures (seen c.args.locals.now) c.loop-rows.invariant.1.at))
@@ -137,7 +146,7 @@ binders::builder-returns-clause-is g t c =
     let built = subst (λ xs. IsBuilt (several_by Nothing (spread xs)) (FilterIn (scope_of c.args.env.now (g.R.Row.values c.args.row.now) c.args.locals.now) (part_of i.field-2)) (TermIn (scope_of c.args.env.now (g.R.Row.values c.args.row.now) c.args.locals.now) (part_of i.field-3)) c.in_ok-built_over-in-Nothing.field-0) c.deref.ensures.value (c.in_ok-built_over-in-Nothing.ensures.is i.field-0 i.ranges i.field-2 i.field-3 i.is) in
     builder-has (scope_of c.args.env.now (g.R.Row.values c.args.row.now) c.args.locals.now) c.args.term.now i.field-0 i.ranges c.as_slice.result.now i.field-2 i.field-3 (declared_of d) (found_outcome c.own.result) i.is c.as_slice.ensures c.in_ok-declared.ensures.is
     (subst (λ o. IsBuilt (declared_of d) (FilterIn (scope_of c.args.env.now (g.R.Row.values c.args.row.now) c.args.locals.now) (part_of i.field-2)) (TermIn (scope_of c.args.env.now (g.R.Row.values c.args.row.now) c.args.locals.now) (part_of i.field-3)) o) (sym c.own.ensures)
-      (subst (λ k. IsBuilt (several_by k (spread d.sets.items)) (FilterIn (scope_of c.args.env.now (g.R.Row.values c.args.row.now) c.args.locals.now) (part_of i.field-2)) (TermIn (scope_of c.args.env.now (g.R.Row.values c.args.row.now) c.args.locals.now) (part_of i.field-3)) c.in_ok-built_over-in-Nothing.field-0) (sym c.in-Nothing.is) built))
+    (subst (λ k. IsBuilt (several_by k (spread d.sets.items)) (FilterIn (scope_of c.args.env.now (g.R.Row.values c.args.row.now) c.args.locals.now) (part_of i.field-2)) (TermIn (scope_of c.args.env.now (g.R.Row.values c.args.row.now) c.args.locals.now) (part_of i.field-3)) c.in_ok-built_over-in-Nothing.field-0) (sym c.in-Nothing.is) built))
 
 pub binders::builder-returns-in-Out-clause-is : goal.binders::builder-returns-in-Out-clause-is
 binders::builder-returns-in-Out-clause-is g t c =
@@ -152,14 +161,14 @@ binders::builder-returns-in-Undefined-clause-is g t c =
     let d = c.in_ok-declared.declared in
     IfOk-weaker c.empty_set.result (λ o. IsEmptySet (found_outcome o)) (λ o. HasOutcome (scope_of c.args.env.now (g.R.Row.values c.args.row.now) c.args.locals.now) (resolved_of c.args.term.now) (found_outcome o))
     (λ o h. builder-has (scope_of c.args.env.now (g.R.Row.values c.args.row.now) c.args.locals.now) c.args.term.now i.field-0 i.ranges c.as_slice.result.now i.field-2 i.field-3 (declared_of d) (found_outcome o) i.is c.as_slice.ensures c.in_ok-declared.ensures.is
-      (subst (λ k. IsBuilt (several_by k (spread d.sets.items)) (FilterIn (scope_of c.args.env.now (g.R.Row.values c.args.row.now) c.args.locals.now) (part_of i.field-2)) (TermIn (scope_of c.args.env.now (g.R.Row.values c.args.row.now) c.args.locals.now) (part_of i.field-3)) (found_outcome o)) (sym c.in-Undefined.is) h)) c.empty_set.ensures.is
+    (subst (λ k. IsBuilt (several_by k (spread d.sets.items)) (FilterIn (scope_of c.args.env.now (g.R.Row.values c.args.row.now) c.args.locals.now) (part_of i.field-2)) (TermIn (scope_of c.args.env.now (g.R.Row.values c.args.row.now) c.args.locals.now) (part_of i.field-3)) (found_outcome o)) (sym c.in-Undefined.is) h)) c.empty_set.ensures.is
 
 pub binders::built_over-add_row-requires : goal.binders::built_over-add_row-requires
 binders::built_over-add_row-requires g t c =
     let outside : length c.args.locals.now ≤ length c.bound.result.now = outside-bound c.args.locals.now c.bound.result.now (row_of c.loop-rows.rows) (ap seen c.bound.ensures ∙ c.loop-rows.invariant.1.at.1) in
     let built : AreRegular c.loop-rows.built.items = c.loop-rows.invariant.2 in
     let regular : IsRegularScope (scope_of c.args.env.now (g.R.Row.values c.args.row.now) c.bound.result.now) =
-        walk-scope c.args.env.now (g.R.Row.values c.args.row.now) c.args.locals.now c.bound.result.now c.loop-rows.rows (spread c.args.sets.now) c.loop-rows.invariant.0 c.bound.ensures c.requires.sets c.requires.regular c.loop-rows.invariant.1 in
+    walk-scope c.args.env.now (g.R.Row.values c.args.row.now) c.args.locals.now c.bound.result.now c.loop-rows.rows (spread c.args.sets.now) c.loop-rows.invariant.0 c.bound.ensures c.requires.sets c.requires.regular c.loop-rows.invariant.1 in
     search (rules, outside, built, regular)
 
 pub binders::built_over-returns-in_default-clause-is : goal.binders::built_over-returns-in_default-clause-is
@@ -184,7 +193,7 @@ binders::built_over-returns-then-not-branch-2-clause-is g t c =
     let here = scope-row c.args.env.now (g.R.Row.values c.args.row.now) c.args.locals.now c.bound.result.now row bound in
     let none = stuck outside c.loop-rows.rows c.advance.new.self c.in_ok-advance.field-0 c.if-not-branch-2.true (c.in_ok-advance.ensures outside inv.1.at) in
     let built = built-more (FilterIn (scope_of c.args.env.now (g.R.Row.values c.args.row.now) c.args.locals.now) (part_of p)) (TermIn (scope_of c.args.env.now (g.R.Row.values c.args.row.now) c.args.locals.now) (part_of e)) inv.0 c.loop-rows.built.items c.add_row.new.built.items row (one-filter (scope_of c.args.env.now (g.R.Row.values c.args.row.now) c.args.locals.now) (part_of p)) (one-term (scope_of c.args.env.now (g.R.Row.values c.args.row.now) c.args.locals.now) (part_of e))
-        (adds-here _ (scope_of c.args.env.now (g.R.Row.values c.args.row.now) c.args.locals.now) row _ (part_of p) (part_of e) c.loop-rows.built.items c.add_row.new.built.items c.in_ok-add_row.field-0 true here (bound-row c.args.locals.now c.bound.result.now row bound) c.if-not-branch.false (c.in_ok-add_row.ensures.is n rs p e is)) (inv.3 n rs p e is) in
+    (adds-here _ (scope_of c.args.env.now (g.R.Row.values c.args.row.now) c.args.locals.now) row _ (part_of p) (part_of e) c.loop-rows.built.items c.add_row.new.built.items c.in_ok-add_row.field-0 true here (bound-row c.args.locals.now c.bound.result.now row bound) c.if-not-branch.false (c.in_ok-add_row.ensures.is n rs p e is)) (inv.3 n rs p e is) in
     IfOk-weaker c.display-then-not-branch-2.result (IsDisplay c.add_row.new.built.items) (IsBuiltOver (λ vs. AreFrom vs ss) (FilterIn (scope_of c.args.env.now (g.R.Row.values c.args.row.now) c.args.locals.now) (part_of p)) (TermIn (scope_of c.args.env.now (g.R.Row.values c.args.row.now) c.args.locals.now) (part_of e)))
     (λ o h. built-all (λ vs. AreFrom vs ss) (FilterIn (scope_of c.args.env.now (g.R.Row.values c.args.row.now) c.args.locals.now) (part_of p)) (TermIn (scope_of c.args.env.now (g.R.Row.values c.args.row.now) c.args.locals.now) (part_of e)) (row ∷ inv.0) c.add_row.new.built.items o (walk-ended c.loop-rows.rows outside ss inv.0 inv.1 none) (walk-done c.loop-rows.rows outside ss inv.0 inv.1) built h) c.display-then-not-branch-2.ensures.is
 
@@ -229,11 +238,11 @@ binders::over_rows-returns-then-is_settled g t c =
     let here = scope-row c.args.env.now (g.R.Row.values c.args.row.now) c.args.locals.now c.bound.result.now row (ap seen c.bound.ensures ∙ inv.1.at.1) in
     let sq = same-quantifier i.quantifier q i.field-1 l i.field-2 rs i.field-3 p i.field-4 e (sym i.is ∙ is) in
     let tallied : IsTallied (ToldIn (scope_of c.args.env.now (g.R.Row.values c.args.row.now) c.args.locals.now) q (part_of p) (resolved_of e)) (row ∷ inv.0) c.with-tally.result = subst (IsTallied (ToldIn (scope_of c.args.env.now (g.R.Row.values c.args.row.now) c.args.locals.now) q (part_of p) (resolved_of e)) (row ∷ inv.0)) (sym c.with-tally.ensures)
-        (one-more (ToldIn (scope_of c.args.env.now (g.R.Row.values c.args.row.now) c.args.locals.now) q (part_of p) (resolved_of e)) inv.0 c.loop-rows.tally row c.in_ok-told_at.field-0 (one-told (scope_of c.args.env.now (g.R.Row.values c.args.row.now) c.args.locals.now) q (part_of p) (resolved_of e)) (walk-new c.loop-rows.rows outside ss inv.0 inv.1)
-          (told-here _ (scope_of c.args.env.now (g.R.Row.values c.args.row.now) c.args.locals.now) row q (part_of p) (resolved_of e) c.in_ok-told_at.field-0 here (c.in_ok-told_at.ensures q l rs p e is)) (inv.2 q l rs p e is)) in
+    (one-more (ToldIn (scope_of c.args.env.now (g.R.Row.values c.args.row.now) c.args.locals.now) q (part_of p) (resolved_of e)) inv.0 c.loop-rows.tally row c.in_ok-told_at.field-0 (one-told (scope_of c.args.env.now (g.R.Row.values c.args.row.now) c.args.locals.now) q (part_of p) (resolved_of e)) (walk-new c.loop-rows.rows outside ss inv.0 inv.1)
+    (told-here _ (scope_of c.args.env.now (g.R.Row.values c.args.row.now) c.args.locals.now) row q (part_of p) (resolved_of e) c.in_ok-told_at.field-0 here (c.in_ok-told_at.ensures q l rs p e is)) (inv.2 q l rs p e is)) in
     subst (IsOver q (λ vs. AreFrom vs ss) (ToldIn (scope_of c.args.env.now (g.R.Row.values c.args.row.now) c.args.locals.now) q (part_of p) (resolved_of e))) (sym (c.truth-then-is_settled.ensures ∙ ap (λ z. truth_by z c.with-tally.result) sq))
     (settled-truth q (λ vs. AreFrom vs ss) (ToldIn (scope_of c.args.env.now (g.R.Row.values c.args.row.now) c.args.locals.now) q (part_of p) (resolved_of e)) (row ∷ inv.0) c.with-tally.result (walk-done c.loop-rows.rows outside ss inv.0 inv.1) tallied
-      (ap (λ z. is_settled z c.with-tally.result) (sym sq) ∙ sym c.is_settled.ensures ∙ c.if-is_settled.true))
+    (ap (λ z. is_settled z c.with-tally.result) (sym sq) ∙ sym c.is_settled.ensures ∙ c.if-is_settled.true))
 
 pub binders::over_rows-returns-then-not-branch : goal.binders::over_rows-returns-then-not-branch
 binders::over_rows-returns-then-not-branch g t c =
@@ -246,8 +255,8 @@ binders::over_rows-returns-then-not-branch g t c =
     let here = scope-row c.args.env.now (g.R.Row.values c.args.row.now) c.args.locals.now c.bound.result.now row (ap seen c.bound.ensures ∙ inv.1.at.1) in
     let sq = same-quantifier i.quantifier q i.field-1 l i.field-2 rs i.field-3 p i.field-4 e (sym i.is ∙ is) in
     let tallied : IsTallied (ToldIn (scope_of c.args.env.now (g.R.Row.values c.args.row.now) c.args.locals.now) q (part_of p) (resolved_of e)) (row ∷ inv.0) c.with-tally.result = subst (IsTallied (ToldIn (scope_of c.args.env.now (g.R.Row.values c.args.row.now) c.args.locals.now) q (part_of p) (resolved_of e)) (row ∷ inv.0)) (sym c.with-tally.ensures)
-        (one-more (ToldIn (scope_of c.args.env.now (g.R.Row.values c.args.row.now) c.args.locals.now) q (part_of p) (resolved_of e)) inv.0 c.loop-rows.tally row c.in_ok-told_at.field-0 (one-told (scope_of c.args.env.now (g.R.Row.values c.args.row.now) c.args.locals.now) q (part_of p) (resolved_of e)) (walk-new c.loop-rows.rows outside ss inv.0 inv.1)
-          (told-here _ (scope_of c.args.env.now (g.R.Row.values c.args.row.now) c.args.locals.now) row q (part_of p) (resolved_of e) c.in_ok-told_at.field-0 here (c.in_ok-told_at.ensures q l rs p e is)) (inv.2 q l rs p e is)) in
+    (one-more (ToldIn (scope_of c.args.env.now (g.R.Row.values c.args.row.now) c.args.locals.now) q (part_of p) (resolved_of e)) inv.0 c.loop-rows.tally row c.in_ok-told_at.field-0 (one-told (scope_of c.args.env.now (g.R.Row.values c.args.row.now) c.args.locals.now) q (part_of p) (resolved_of e)) (walk-new c.loop-rows.rows outside ss inv.0 inv.1)
+    (told-here _ (scope_of c.args.env.now (g.R.Row.values c.args.row.now) c.args.locals.now) row q (part_of p) (resolved_of e) c.in_ok-told_at.field-0 here (c.in_ok-told_at.ensures q l rs p e is)) (inv.2 q l rs p e is)) in
     let none = stuck outside c.loop-rows.rows c.advance.new.self c.in_ok-advance.field-0 c.if-not-branch.true (c.in_ok-advance.ensures outside inv.1.at) in
     subst (IsOver q (λ vs. AreFrom vs ss) (ToldIn (scope_of c.args.env.now (g.R.Row.values c.args.row.now) c.args.locals.now) q (part_of p) (resolved_of e))) (sym (c.truth-then-not-branch.ensures ∙ ap (λ z. truth_by z c.with-tally.result) sq))
     (told-of-all q (λ vs. AreFrom vs ss) (ToldIn (scope_of c.args.env.now (g.R.Row.values c.args.row.now) c.args.locals.now) q (part_of p) (resolved_of e)) (row ∷ inv.0) c.with-tally.result (walk-ended c.loop-rows.rows outside ss inv.0 inv.1 none) (walk-done c.loop-rows.rows outside ss inv.0 inv.1) tallied)
@@ -255,7 +264,7 @@ binders::over_rows-returns-then-not-branch g t c =
 pub binders::over_rows-told_at-requires : goal.binders::over_rows-told_at-requires
 binders::over_rows-told_at-requires g t c =
     let regular : IsRegularScope (scope_of c.args.env.now (g.R.Row.values c.args.row.now) c.bound.result.now) =
-        walk-scope c.args.env.now (g.R.Row.values c.args.row.now) c.args.locals.now c.bound.result.now c.loop-rows.rows (spread c.args.sets.now) c.loop-rows.invariant.0 c.bound.ensures c.requires.sets c.requires.regular c.loop-rows.invariant.1 in
+    walk-scope c.args.env.now (g.R.Row.values c.args.row.now) c.args.locals.now c.bound.result.now c.loop-rows.rows (spread c.args.sets.now) c.loop-rows.invariant.0 c.bound.ensures c.requires.sets c.requires.regular c.loop-rows.invariant.1 in
     search (rules, regular)
 
 pub binders::quantified-returns-in-Out : goal.binders::quantified-returns-in-Out
@@ -282,7 +291,7 @@ binders::quantified-returns g t c =
     let P = ToldIn (scope_of c.args.env.now (g.R.Row.values c.args.row.now) c.args.locals.now) i.quantifier (part_of i.field-3) (resolved_of i.field-4) in
     IfOk-weaker c.over_rows.result (IsOver i.quantifier (λ vs. AreFrom vs (spread c.deref.result.now)) P) (IsTruth (scope_of c.args.env.now (g.R.Row.values c.args.row.now) c.args.locals.now) (resolved_of c.args.term.now))
     (λ u h. quantified-told (scope_of c.args.env.now (g.R.Row.values c.args.row.now) c.args.locals.now) c.args.term.now i.quantifier i.field-1 i.ranges c.as_slice.result.now i.field-3 i.field-4 (declared_of d) u i.is c.as_slice.ensures c.in_ok-declared.ensures.is
-      (subst (λ k. IsQuantified i.quantifier (several_by k (spread d.sets.items)) P u) (sym c.in-Nothing.is) (subst (λ xs. IsOver i.quantifier (λ vs. AreFrom vs (spread xs)) P u) c.deref.ensures.value h)))
+    (subst (λ k. IsQuantified i.quantifier (several_by k (spread d.sets.items)) P u) (sym c.in-Nothing.is) (subst (λ xs. IsOver i.quantifier (λ vs. AreFrom vs (spread xs)) P u) c.deref.ensures.value h)))
     (c.over_rows.ensures i.quantifier i.field-1 i.ranges i.field-3 i.field-4 i.is)
 
 pub binders::told_at-returns-in-Some : goal.binders::told_at-returns-in-Some
@@ -293,8 +302,8 @@ binders::told_at-returns-in-Some g t c =
     let sq = same-quantifier i.quantifier q i.field-1 l i.field-2 rs i.constraint p i.body e same in
     let sp = same-constraint i.quantifier q i.field-1 l i.field-2 rs i.constraint p i.body e same in
     let told = told-by i.quantifier (λ a. IsConstraint (scope_of c.args.env.now (g.R.Row.values c.args.row.now) c.args.bound.now) (part_of i.constraint) a) (λ b. IsTruth (scope_of c.args.env.now (g.R.Row.values c.args.row.now) c.args.bound.now) (resolved_of e) b) c.in-Some.decided
-        (subst (λ k. IsConnected k (λ a. IsConstraint (scope_of c.args.env.now (g.R.Row.values c.args.row.now) c.args.bound.now) (part_of i.constraint) a) (λ b. IsTruth (scope_of c.args.env.now (g.R.Row.values c.args.row.now) c.args.bound.now) (resolved_of e) b) c.in-Some.decided) c.connective_of-connective.ensures
-        (decided-told c.connective_of-connective.result c.in_ok-p.p c.in-Some.decided (λ a. IsConstraint (scope_of c.args.env.now (g.R.Row.values c.args.row.now) c.args.bound.now) (part_of i.constraint) a) (λ b. IsTruth (scope_of c.args.env.now (g.R.Row.values c.args.row.now) c.args.bound.now) (resolved_of e) b) c.in_ok-p.ensures (sym c.in-Some.ensures))) in
+    (subst (λ k. IsConnected k (λ a. IsConstraint (scope_of c.args.env.now (g.R.Row.values c.args.row.now) c.args.bound.now) (part_of i.constraint) a) (λ b. IsTruth (scope_of c.args.env.now (g.R.Row.values c.args.row.now) c.args.bound.now) (resolved_of e) b) c.in-Some.decided) c.connective_of-connective.ensures
+    (decided-told c.connective_of-connective.result c.in_ok-p.p c.in-Some.decided (λ a. IsConstraint (scope_of c.args.env.now (g.R.Row.values c.args.row.now) c.args.bound.now) (part_of i.constraint) a) (λ b. IsTruth (scope_of c.args.env.now (g.R.Row.values c.args.row.now) c.args.bound.now) (resolved_of e) b) c.in_ok-p.ensures (sym c.in-Some.ensures))) in
     subst (λ z. IsTold z (λ a. IsConstraint (scope_of c.args.env.now (g.R.Row.values c.args.row.now) c.args.bound.now) (part_of p) a) (λ b. IsTruth (scope_of c.args.env.now (g.R.Row.values c.args.row.now) c.args.bound.now) (resolved_of e) b) c.in-Some.decided) sq
     (subst (λ z. IsTold i.quantifier (λ a. IsConstraint (scope_of c.args.env.now (g.R.Row.values c.args.row.now) c.args.bound.now) (part_of z) a) (λ b. IsTruth (scope_of c.args.env.now (g.R.Row.values c.args.row.now) c.args.bound.now) (resolved_of e) b) c.in-Some.decided) sp told)
 
@@ -337,4 +346,3 @@ truth-returns-in-Unary g t c =
     subst (λ d. IfOk c.not.result (IsTruth (scope_of c.args.env.now (g.R.Row.values c.args.row.now) c.args.locals.now) d))
     (ap (λ x. tree.unary i.field-0 i.op (resolved_of x)) c.get-in-Unary.ensures ∙ sym (ap resolved_of i.is ∙ of-Unary i.field-0 i.op i.of))
     (c.not.ensures c.in-Unary.field-0)
-

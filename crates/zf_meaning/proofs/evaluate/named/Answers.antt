@@ -8,4 +8,3 @@ returns-in-Component-clause-regular g c = subst IsRegularOutcome (sym (c.lent.en
 
 pub returns-in-Local-clause-regular : goal.returns-in-Local-clause-regular
 returns-in-Local-clause-regular g c = subst IsRegularOutcome (sym (c.lent-in-Local.ensures ∙ c.local.ensures)) (regular-value_or _ _ _ refl c.requires.locals)
-

@@ -1,5 +1,4 @@
-use Rattle.std.proofs.Common.{◌≡◌, ◌<◌, [], length, take, get_or, refl, sym, ap, ◌∙◌, arith, append_assoc}
-use Rattle.zf_meaning.specs.Places.{seen, picked}
+use Rattle.std.proofs.Common.{◌<◌, [], length, ap, arith}
 use Rattle.zf_meaning.proofs.NextRow.{ArePlaces-at, ArePlaces-length, seen-length, seen-at, bind-more, picked-none}
 use Rattle.zf_meaning.proofs.rows.bind.Goals as goal
 

@@ -1,4 +1,4 @@
-use Rattle.std.proofs.Common.{◌≡◌, sym, ◌∙◌}
+use Rattle.std.proofs.Common.{sym, ◌∙◌}
 use Rattle.zf_meaning.proofs.NextRow.{empty-at}
 use Rattle.zf_meaning.proofs.rows.has_empty.Goals as goal
 

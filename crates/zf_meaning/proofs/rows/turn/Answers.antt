@@ -1,4 +1,4 @@
-use Rattle.std.proofs.Common.{◌-◌, ◌<◌, [], arith, length, ap, refl}
+use Rattle.std.proofs.Common.{◌-◌, ◌<◌, [], arith, length, ap}
 use Rattle.zf_meaning.proofs.NextRow.{ArePlaces-at, ArePlaces-set, ArePlaces-length, seen-length, seen-at, turned-here, past-here, zeros-here, none-here}
 use Rattle.zf_meaning.proofs.rows.turn.Goals as goal
 

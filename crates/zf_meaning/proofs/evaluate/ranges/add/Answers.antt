@@ -1,4 +1,4 @@
-use Rattle.std.proofs.Common.{◌≡◌, refl, sym, ap, ◌∙◌, subst}
+use Rattle.std.proofs.Common.{refl, sym, ap, ◌∙◌, subst}
 use Rattle.zf_value.specs.Sets.{AreRegular}
 use Rattle.zf_meaning.specs.declared.evaluate.ranges.Spread.{Spread}
 use Rattle.zf_meaning.specs.RangeSets.{spread}

@@ -1,4 +1,4 @@
-use Rattle.std.proofs.Common.{sym, ◌∙◌, subst}
+use Rattle.std.proofs.Common.{sym, subst}
 use Rattle.zf_value.specs.Sets.{AreRegular, IsRegular}
 use Rattle.zf_value.proofs.Regulars.{regular-push}
 use Rattle.zf_meaning.proofs.gathered.Gathered.add.Goals as goal

@@ -1,5 +1,3 @@
-use Rattle.std.proofs.Common.{sym, subst}
-use Rattle.zf_meaning.specs.Regular.{AreRegularOutcomes}
 use Rattle.zf_meaning.proofs.Regulars.{regular-outcomes-push}
 use Rattle.zf_meaning.proofs.outcomes.Outcomes.push.Goals as goal
 
