@@ -70,7 +70,7 @@ fn basic_carrier(name: &[u8], env: &Env<'_, '_>) -> Result<Outcome, AllocError>
 }
 
 /// The number of the given set or free type of this name.
-fn number_named(globals: &Globals<'_>, name: &[u8]) -> Option<usize>
+pub fn number_named(globals: &Globals<'_>, name: &[u8]) -> Option<usize>
     ensures { result ≡ found_number (first_named (λ d. d.name) name.now (globals_of globals.now)) }
 {
     match globals.entries.get(name) {
