@@ -1,0 +1,9 @@
+pub mod Dues
+pub mod Rows
+pub mod Judging
+pub mod Listing
+pub mod EventLaws
+pub mod Numbers
+pub mod Single
+pub mod Sides
+pub mod Comps

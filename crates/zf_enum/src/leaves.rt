@@ -1,0 +1,91 @@
+//! The values of a declared set that is no disjunction.
+ghost use Rattle.std.specs.Prelude.{◌≡◌, true, IfOk, IfErr};
+ghost use Rattle.zf_term.specs.Definitions.{plain, carrier};
+ghost use Rattle.zf_term.specs.Types.{type_of};
+ghost use Rattle.zf_term.specs.Written.{written_of};
+ghost use Rattle.zf_value.specs.Sets.{IsRegularSet};
+ghost use Rattle.zf_meaning.specs.Envs.{environment_of};
+ghost use Rattle.zf_finite.specs.Finite as spec;
+ghost use Rattle.zf_enum.specs.DeclaredSets.{IsSetOut};
+ghost use Rattle.zf_enum.specs.Parts.{Narrows, IsAllOf, Tells};
+
+use crate::filters::InNumbers;
+use crate::kept::kept;
+use crate::lack::Lack;
+use crate::members::{members_among, members_of};
+use crate::stubs::{carrier_of, of_type, value_of};
+use bumpalo::Bump;
+use std::alloc::Global;
+use zf_meaning::env::Env;
+use zf_term::written::Written;
+use zf_term::ztype::ZType;
+use zf_value::value::Value;
+
+/// The members of a set that a declaration names, which is no infinite one.
+pub(crate) fn of_plain<'a>(
+    alloc: Global,
+    arena: &'a Bump,
+    set: &Written<'a>,
+    env: &Env<'_, 'a>,
+) -> Result<Vec<Value>, Lack>
+    requires { spec.bounds (environment_of env.now).globals (plain (written_of set.now)) ≡ true }
+    ensures is { IfOk result (λ xs. IsAllOf (environment_of env.now) (plain (written_of set.now)) xs.items) }
+    ensures out { IfErr result (λ lack. Tells lack (IsSetOut (environment_of env.now) (plain (written_of set.now)))) }
+{
+    let term = set.resolved(arena)?;
+    let outcome = value_of(&term, env)?;
+    members_of(alloc, &outcome)
+}
+
+/// The members of the carrier of a type without numbers.
+pub(crate) fn of_carrier<'a>(
+    alloc: Global,
+    ztype: &ZType<'a>,
+    env: &Env<'_, 'a>,
+) -> Result<Vec<Value>, Lack>
+    requires { spec.bounds (environment_of env.now).globals (carrier (type_of ztype.now)) ≡ true }
+    ensures is { IfOk result (λ xs. IsAllOf (environment_of env.now) (carrier (type_of ztype.now)) xs.items) }
+    ensures out { IfErr result (λ lack. Tells lack (IsSetOut (environment_of env.now) (carrier (type_of ztype.now)))) }
+{
+    let outcome = carrier_of(ztype, env)?;
+    members_of(alloc, &outcome)
+}
+
+/// Those of the values that lie in the set that a declaration names.
+pub(crate) fn among_plain<'a>(
+    alloc: Global,
+    arena: &'a Bump,
+    values: &[Value],
+    set: &Written<'a>,
+    env: &Env<'_, 'a>,
+) -> Result<Vec<Value>, Lack>
+    requires { IsRegularSet values.now }
+    ensures is { IfOk result (λ xs. Narrows (environment_of env.now) (plain (written_of set.now)) values.now xs.items) }
+    ensures out { IfErr result (λ lack. Tells lack (IsSetOut (environment_of env.now) (plain (written_of set.now)))) }
+{
+    if let Some(infinite) = set.direct(env.globals()) {
+        let test = InNumbers { set: infinite };
+        return Ok(kept(alloc, values, &test)?);
+    }
+    let term = set.resolved(arena)?;
+    let outcome = value_of(&term, env)?;
+    members_among(alloc, values, outcome)
+}
+
+/// Those of the values that lie in the carrier of the type, or, where numbers are parts of them, are of the type.
+pub(crate) fn among_carrier<'a>(
+    alloc: Global,
+    values: &[Value],
+    ztype: &ZType<'a>,
+    env: &Env<'_, 'a>,
+) -> Result<Vec<Value>, Lack>
+    requires { IsRegularSet values.now }
+    ensures is { IfOk result (λ xs. Narrows (environment_of env.now) (carrier (type_of ztype.now)) values.now xs.items) }
+    ensures out { IfErr result (λ lack. Tells lack (IsSetOut (environment_of env.now) (carrier (type_of ztype.now)))) }
+{
+    if ztype.has_numbers() {
+        return Ok(of_type(alloc, values, ztype, env)?);
+    }
+    let outcome = carrier_of(ztype, env)?;
+    members_among(alloc, values, outcome)
+}
