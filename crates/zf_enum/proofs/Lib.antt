@@ -7,3 +7,5 @@ pub mod Numbers
 pub mod Single
 pub mod Sides
 pub mod Comps
+pub mod Lacks
+pub mod Typed

@@ -1,13 +1,13 @@
 -- Ascending lists of exactly the values that pass.
-use Rattle.std.proofs.Common.{◌≡◌, ◌⊎◌, ◌↔◌, ℕ, zero, suc, ◌+◌, ◌<◌, ◌≤◌, List, [], ◌∷◌, ◌++◌, length, take, get_or, refl, sym, ap, ◌∙◌, subst, inl, inr, ⊎_elim, add-one, arith}
+use Rattle.std.proofs.Common.{◌≡◌, ◌⊎◌, ◌↔◌, ℕ, zero, suc, ◌+◌, ◌<◌, ◌≤◌, List, [], ◌∷◌, ◌++◌, length, take, get_or, sym, subst, inl, inr, ⊎_elim, add-one, arith}
 use Rattle.std.specs.declared.cmp.Ordering.TheVariants.{Less}
 use Rattle.zf_value.specs.declared.value.Value.{Value}
-use Rattle.zf_value.specs.Sets.{value_order, IsMember, Every, IsAscending, IsRegular, AreRegular, IsRegularSet, members}
+use Rattle.zf_value.specs.Sets.{value_order, IsMember, IsAscending, IsRegular, AreRegular, IsRegularSet, members}
 use Rattle.zf_value.proofs.Among.{every_from, every_at, member_at, members-take_more, members-push, members-append, take_all, ascending-push}
 use Rattle.zf_value.proofs.Regulars.{regular_member, are_regular}
 use Rattle.zf_value.specs.Steps.{HaveSameMembers}
 use Rattle.zf_value.specs.declared.value.Outcome.{Outcome}
-use Rattle.zf_value.specs.declared.value.Outcome.TheVariants.{Is, Undefined, Out}
+use Rattle.zf_value.specs.declared.value.Outcome.TheVariants.{Is, Undefined}
 use Rattle.zf_enum.specs.Parts.{Lists, Grows, IsListed, IsIn}
 
 -- the same values pass

@@ -1,5 +1,5 @@
 -- What a declared set that is no disjunction holds, by its outcome.
-use Rattle.std.proofs.Common.{◌≡◌, ◌↔◌, Bool, true, false, not, List, Option, Some, None, refl, sym, ap, ◌∙◌, subst}
+use Rattle.std.proofs.Common.{◌≡◌, ◌↔◌, Bool, true, false, not, List, Option, Some, None, refl, ap, subst}
 use Rattle.zf_term.specs.declared.extent.Infinite.{Infinite}
 use Rattle.zf_term.specs.Definitions.{plain, carrier}
 use Rattle.zf_term.specs.Extents.{direct}
@@ -94,3 +94,12 @@ carrier_is_out e t o n h q = carrier_out e t (has_numbers t) o n h q
 pub numberless : (b : Bool) → not b ≡ true → b ≡ false
 numberless true n = (cc)
 numberless false n = refl
+
+-- ---- what `direct` told
+
+pub no_infinite : (d : Option Infinite) → ((s : Infinite) → d ≡ Some s → ⊥) → d ≡ None
+no_infinite None h = refl
+no_infinite (Some s) h = absurd (h s refl)
+
+pub none_is_none : (d : Option Infinite) → d ≡ None → is_none d ≡ true
+none_is_none d h = ap is_none h

@@ -1,5 +1,5 @@
 -- What lies in the declared sets of a component, and which of them are out.
-use Rattle.std.specs.Prelude.{◌≡◌, ◌⊎◌, Bool, true, false, List, Option, Some, None}
+use Rattle.std.specs.Prelude.{◌⊎◌, Bool, true, false, Option, Some, None}
 use Rattle.zf_term.specs.declared.extent.Infinite.{Infinite}
 use Rattle.zf_term.specs.Definitions.{DeclaredSet, plain, carrier, sides, DeclaredSets, no_sets, set}
 use Rattle.zf_term.specs.Extents.{direct}

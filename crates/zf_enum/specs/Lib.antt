@@ -9,3 +9,4 @@ pub mod Filters
 pub mod Components
 pub mod Starts
 pub mod Searches
+pub mod OfTypes

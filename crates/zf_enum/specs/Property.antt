@@ -11,7 +11,8 @@ use Rattle.zf_value.specs.declared.value.Truth.TheVariants as truth
 use Rattle.zf_walk.specs.declared.judge.Truth as walk
 use Rattle.zf_walk.specs.declared.judge.Truth.TheVariants.{True, False, Out}
 use Rattle.zf_walk.specs.Conjuncts.{Conjuncts}
-use Rattle.zf_meaning.specs.Environments.{Environment, Context}
+use Rattle.zf_meaning.specs.Environments.{Environment}
+use Rattle.zf_meaning.specs.InRow.{in_row}
 use Rattle.zf_meaning.specs.Meaning.{IsTruth}
 
 -- ---- how many first components a term needs
@@ -36,13 +37,9 @@ due_of (Some t) = due t
 
 -- ---- truths
 
--- the values of the first components
-abbrev pub on_row : Environment → List Value → Context
-on_row e row = record { environment = e; row = row; locals = [] }
-
 abbrev pub HasTruth : Environment → List Value → Option ResolvedTree → Truth → Type 0
 HasTruth e row None t = ⊥
-HasTruth e row (Some p) t = IsTruth (on_row e row) p t
+HasTruth e row (Some p) t = IsTruth (in_row e row) p t
 
 -- the truth of a predicate that a walk calls so
 abbrev pub told : walk.Truth → Truth

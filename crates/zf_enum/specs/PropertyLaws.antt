@@ -15,7 +15,8 @@ use Rattle.zf_meaning.specs.Environments.{Environment}
 use Rattle.zf_meaning.specs.Laws.{AreBelow, UsesFirst, IsBelow}
 use Rattle.zf_meaning.proofs.Unique.{one_truth}
 use Rattle.zf_meaning.proofs.Stays.{truths_stay}
-use Rattle.zf_enum.specs.Property.{place_named, greatest_place, due, due_of, on_row, HasTruth, told, property}
+use Rattle.zf_meaning.specs.InRow.{in_row}
+use Rattle.zf_enum.specs.Property.{place_named, greatest_place, due, due_of, HasTruth, told, property}
 
 -- ---- a term uses the components that are due
 
@@ -48,7 +49,7 @@ one_told t u e = sym (walked-told t) ∙ ap walked e ∙ walked-told u
 
 one_of : (e : Environment) (row : List Value) (p : Option ResolvedTree) (t u : Truth) → HasTruth e row p t → HasTruth e row p u → t ≡ u
 one_of e row None t u a b = absurd a
-one_of e row (Some p) t u a b = one_truth (on_row e row) p t u a b
+one_of e row (Some p) t u a b = one_truth (in_row e row) p t u a b
 
 pub has_one_truth : (e : Environment) (ts : List ResolvedTree) → HaveOneTruth (property e ts)
 has_one_truth e ts c row t u l d a b = one_told t u (one_of e row (slice_get ts c) (told t) (told u) a b)
@@ -57,7 +58,7 @@ has_one_truth e ts c row t u l d a b = one_told t u (one_of e row (slice_get ts 
 
 kept_by : (e : Environment) (row more : List Value) (p : Option ResolvedTree) (t : Truth) → due_of p ≤ length row → HasTruth e row p t → HasTruth e (row ++ more) p t
 kept_by e row more None t d a = absurd a
-kept_by e row more (Some p) t d a = (truths_stay (on_row e row) more p t (uses_first p (length row) d)).0 a
+kept_by e row more (Some p) t d a = (truths_stay (in_row e row) more p t (uses_first p (length row) d)).0 a
 
 pub keeps_truths : (e : Environment) (ts : List ResolvedTree) → KeepTruths (property e ts)
 keeps_truths e ts c row more t l d a = kept_by e row more (slice_get ts c) (told t) d a

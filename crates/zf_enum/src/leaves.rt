@@ -3,8 +3,10 @@ ghost use Rattle.std.specs.Prelude.{◌≡◌, true, IfOk, IfErr};
 ghost use Rattle.zf_term.specs.Definitions.{plain, carrier};
 ghost use Rattle.zf_term.specs.Types.{type_of};
 ghost use Rattle.zf_term.specs.Written.{written_of};
-ghost use Rattle.zf_value.specs.Sets.{IsRegularSet};
+ghost use Rattle.zf_value.specs.Sets.{IsRegularSet, IsRegularOutcome};
+ghost use Rattle.zf_meaning.specs.Environments.{globally};
 ghost use Rattle.zf_meaning.specs.Envs.{environment_of};
+ghost use Rattle.zf_meaning.specs.Meaning.{HasOutcome};
 ghost use Rattle.zf_finite.specs.Finite as spec;
 ghost use Rattle.zf_enum.specs.DeclaredSets.{IsSetOut};
 ghost use Rattle.zf_enum.specs.Parts.{Narrows, IsAllOf, Tells};
@@ -13,13 +15,16 @@ use crate::filters::InNumbers;
 use crate::kept::kept;
 use crate::lack::Lack;
 use crate::members::{members_among, members_of};
-use crate::stubs::{carrier_of, of_type, value_of};
+use crate::of_type::OfType;
 use bumpalo::Bump;
-use std::alloc::Global;
+use std::alloc::{AllocError, Global};
+use zf_meaning::carrier::carrier_of;
 use zf_meaning::env::Env;
+use zf_meaning::value::value_of;
+use zf_term::resolved::Resolved;
 use zf_term::written::Written;
 use zf_term::ztype::ZType;
-use zf_value::value::Value;
+use zf_value::value::{Outcome, Value};
 
 /// The members of a set that a declaration names, which is no infinite one.
 pub(crate) fn of_plain<'a>(
@@ -32,9 +37,22 @@ pub(crate) fn of_plain<'a>(
     ensures is { IfOk result (λ xs. IsAllOf (environment_of env.now) (plain (written_of set.now)) xs.items) }
     ensures out { IfErr result (λ lack. Tells lack (IsSetOut (environment_of env.now) (plain (written_of set.now)))) }
 {
-    let term = set.resolved(arena)?;
-    let outcome = value_of(&term, env)?;
+    let outcome = outcome_of(arena, set, env)?;
     members_of(alloc, &outcome)
+}
+
+/// The outcome of the set that a declaration names. No component is in scope there.
+fn outcome_of<'a>(
+    arena: &'a Bump,
+    set: &Written<'a>,
+    env: &Env<'_, 'a>,
+) -> Result<Outcome, AllocError>
+    ensures is { IfOk result (HasOutcome (globally (environment_of env.now)) (written_of set.now)) }
+    ensures regular { IfOk result IsRegularOutcome }
+{
+    let term: Resolved<'a> = set.resolved(arena)?;
+    let none: &[Value] = &[];
+    value_of(&term, &none, env)
 }
 
 /// The members of the carrier of a type without numbers.
@@ -67,8 +85,7 @@ pub(crate) fn among_plain<'a>(
         let test = InNumbers { set: infinite };
         return Ok(kept(alloc, values, &test)?);
     }
-    let term = set.resolved(arena)?;
-    let outcome = value_of(&term, env)?;
+    let outcome = outcome_of(arena, set, env)?;
     members_among(alloc, values, outcome)
 }
 
@@ -84,7 +101,8 @@ pub(crate) fn among_carrier<'a>(
     ensures out { IfErr result (λ lack. Tells lack (IsSetOut (environment_of env.now) (carrier (type_of ztype.now)))) }
 {
     if ztype.has_numbers() {
-        return Ok(of_type(alloc, values, ztype, env)?);
+        let test = OfType { ztype, env };
+        return Ok(kept(alloc, values, &test)?);
     }
     let outcome = carrier_of(ztype, env)?;
     members_among(alloc, values, outcome)

@@ -12,12 +12,12 @@ mod lack;
 pub mod laws;
 mod leaves;
 mod members;
+mod of_type;
 mod property;
 mod ranges;
 mod shown;
 mod start;
 mod start_fault;
-mod stubs;
 
 pub use bindings::Bindings;
 pub use known::Known;
