@@ -1,12 +1,17 @@
 -- Several declared sets, one after another, and the two sides of a disjunction.
-use Rattle.std.proofs.Common.{◌≡◌, ◌⊎◌, ◌↔◌, ℕ, zero, suc, ◌+◌, ◌<◌, ◌≤◌, List, [], ◌∷◌, length, map, take, drop, get_or, refl, sym, ap, ◌∙◌, subst, inl, inr, ⊎_elim, add-one, arith}
+use Rattle.std.proofs.Common.{◌≡◌, true, ◌⊎◌, ◌↔◌, ℕ, zero, suc, ◌+◌, ◌-◌, ◌<◌, ◌≤◌, List, [], ◌∷◌, length, map, take, drop, get_or, refl, sym, ap, ◌∙◌, subst, inl, inr, ⊎_elim, add-one, arith}
+use Rattle.std.proofs.lemmas.Bool.{and_parts}
+use Rattle.std.proofs.lemmas.List.{length-drop}
 use Rattle.zf_term.specs.declared.globals.Domain.{Domain}
-use Rattle.zf_term.specs.Definitions.{DeclaredSet, DeclaredSets, sides, set_of, sets_of}
+use Rattle.zf_term.specs.declared.globals.Domain.TheVariants as domain
+use Rattle.zf_term.specs.Definitions.{Defined, DeclaredSet, DeclaredSets, sides, set_of, sets_of}
+use Rattle.zf_term.proofs.SetsSeen.{of-Either}
+use Rattle.zf_finite.specs.Finite.{bounds, one_bounds}
 use Rattle.zf_value.specs.declared.value.Value.{Value}
 use Rattle.zf_value.specs.Sets.{IsMember, IsRegularSet}
 use Rattle.zf_meaning.specs.Environments.{Environment}
 use Rattle.zf_enum.specs.DeclaredSets.{IsInSet, IsInSets, IsSetOut, IsOneOut}
-use Rattle.zf_enum.specs.Parts.{Lists, Narrows, NarrowsAll, IsAllOf, IsAllOfEach}
+use Rattle.zf_enum.specs.Parts.{Lists, Narrows, NarrowsAll, IsAllOf, IsAllOfEach, BoundsAt}
 use Rattle.zf_enum.proofs.Listing.{lists_same}
 
 abbrev pub front : ℕ → List Domain → DeclaredSets
@@ -65,6 +70,10 @@ narrows_end e xs i vs found l h = subst (λ ys. NarrowsAll e (whole ys) vs found
 
 -- ---- before, at and behind a place
 
+-- the slice behind a place
+pub rest : (xs : List Domain) (i : ℕ) → take (length xs - (i + 1)) (drop (i + 1) xs) ≡ drop (suc i) xs
+rest xs i = rw add-one (all_taken (drop (suc i) xs) (length xs - suc i) (omega (arith, length-drop (suc i) xs)))
+
 in_parts : (e : Environment) (xs : List Domain) (i : ℕ) (x : Domain) → x ≡ get_or xs i x → i < length xs → (v : Value) → IsInSets e (whole xs) v ↔ ((IsInSet e (set_of x) v × IsInSets e (front i xs) v) × IsInSets e (back (suc i) xs) v)
 in_parts e [] i x at l v = absurd (omega arith)
 in_parts e (y ∷ ys) zero x at l v = (λ h. ((subst (λ z. IsInSet e (set_of z) v) (sym at) h.0, tt), h.1), λ h. (subst (λ z. IsInSet e (set_of z) v) at h.0.0, h.1))
@@ -120,3 +129,12 @@ some_of_sides e left right vs ls ms ns h k m = (
   )) m,
   either e left right h.1 k.1,
 )
+
+-- where a disjunction bounds, both of its sides do
+pub sides_bound : (g : List Defined) (d : Domain) (left right : List Domain) → d ≡ domain.Either left right → bounds g (set_of d) ≡ true → (one_bounds g (sets_of (map set_of left)) ≡ true) × (one_bounds g (sets_of (map set_of right)) ≡ true)
+sides_bound g d left right is b =
+    and_parts (one_bounds g (sets_of (map set_of left))) (one_bounds g (sets_of (map set_of right))) (subst (λ (s : DeclaredSet). bounds g s ≡ true) (ap set_of is ∙ of-Either left right) b)
+
+-- the place of a set that bounds, by the same globals
+pub bounds_at : (g h : List Defined) (xs : List Domain) (place : ℕ) → g ≡ h → (one_bounds g (whole xs) ≡ true → BoundsAt g xs place) → one_bounds h (whole xs) ≡ true → BoundsAt h xs place
+bounds_at g h xs place e f b = subst (λ (k : List Defined). BoundsAt k xs place) e (f (subst (λ (k : List Defined). one_bounds k (whole xs) ≡ true) (sym e) b))

@@ -7,17 +7,16 @@ ghost use Rattle.zf_enum.specs.Parts.{BoundsAt};
 use zf_data::arena::Items;
 use zf_term::globals::{Domain, Globals};
 
-/// The place of the first declared set that bounds.
+/// The place of the first declared set that bounds, or their number where none does.
 pub(crate) fn first_bounding<'a>(domains: &[Domain<'a>], globals: &Globals<'a>) -> usize
-    requires { spec.one_bounds (globals_of globals.now) (sets_of (map set_of domains.now)) ≡ true }
-    ensures { BoundsAt (globals_of globals.now) domains.now result }
+    ensures { spec.one_bounds (globals_of globals.now) (sets_of (map set_of domains.now)) ≡ true → BoundsAt (globals_of globals.now) domains.now result }
 {
     for place in 0..domains.len() {
         if bounds(&domains[place], globals) {
             return place;
         }
     }
-    unreachable!()
+    domains.len()
 }
 
 /// Whether the declared set bounds a component.

@@ -49,7 +49,7 @@ fn range_at<'a>(
     ensures is { IfOk result (IsOneRange (environment_of env.now) (comp_of component.now)) }
     ensures refused { IfErr result (IsOutBy (environment_of env.now) (comp_of component.now) place) }
 {
-    match range(alloc, arena, component.domains.get(), env) {
+    match range(alloc, arena, component.domains.get().as_slice(), env) {
         Ok(values) => Ok(Range {
             values: known(alloc, values)?,
         }),

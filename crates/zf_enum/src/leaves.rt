@@ -33,9 +33,9 @@ pub(crate) fn of_plain<'a>(
     set: &Written<'a>,
     env: &Env<'_, 'a>,
 ) -> Result<Vec<Value>, Lack>
-    requires { spec.bounds (environment_of env.now).globals (plain (written_of set.now)) ≡ true }
-    ensures is { IfOk result (λ xs. IsAllOf (environment_of env.now) (plain (written_of set.now)) xs.items) }
-    ensures out { IfErr result (λ lack. Tells lack (IsSetOut (environment_of env.now) (plain (written_of set.now)))) }
+    ensures is { spec.bounds (environment_of env.now).globals (plain (written_of set.now)) ≡ true → IfOk result (λ xs. IsAllOf (environment_of env.now) (plain (written_of set.now)) xs.items) }
+    ensures regular { IfOk result (λ xs. IsRegularSet xs.items) }
+    ensures out { spec.bounds (environment_of env.now).globals (plain (written_of set.now)) ≡ true → IfErr result (λ lack. Tells lack (IsSetOut (environment_of env.now) (plain (written_of set.now)))) }
 {
     let outcome = outcome_of(arena, set, env)?;
     members_of(alloc, &outcome)
@@ -61,9 +61,9 @@ pub(crate) fn of_carrier<'a>(
     ztype: &ZType<'a>,
     env: &Env<'_, 'a>,
 ) -> Result<Vec<Value>, Lack>
-    requires { spec.bounds (environment_of env.now).globals (carrier (type_of ztype.now)) ≡ true }
-    ensures is { IfOk result (λ xs. IsAllOf (environment_of env.now) (carrier (type_of ztype.now)) xs.items) }
-    ensures out { IfErr result (λ lack. Tells lack (IsSetOut (environment_of env.now) (carrier (type_of ztype.now)))) }
+    ensures is { spec.bounds (environment_of env.now).globals (carrier (type_of ztype.now)) ≡ true → IfOk result (λ xs. IsAllOf (environment_of env.now) (carrier (type_of ztype.now)) xs.items) }
+    ensures regular { IfOk result (λ xs. IsRegularSet xs.items) }
+    ensures out { spec.bounds (environment_of env.now).globals (carrier (type_of ztype.now)) ≡ true → IfErr result (λ lack. Tells lack (IsSetOut (environment_of env.now) (carrier (type_of ztype.now)))) }
 {
     let outcome = carrier_of(ztype, env)?;
     members_of(alloc, &outcome)

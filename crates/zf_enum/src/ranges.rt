@@ -13,28 +13,30 @@ use crate::leaves::{among_carrier, among_plain, of_carrier, of_plain};
 use crate::members::{copied, merged};
 use bumpalo::Bump;
 use std::alloc::Global;
-use zf_data::arena::Items;
 use zf_meaning::env::Env;
-use zf_term::globals::{Domain, Globals};
+use zf_term::globals::Domain;
 use zf_value::value::Value;
 
-/// The values that lie in each of the declared sets, of which one bounds.
+/// The values that lie in each of the declared sets, of which one bounds; none where none does.
 #[cycle(listing)]
 pub(crate) fn range<'a>(
     alloc: Global,
     arena: &'a Bump,
-    domains: &Items<'a, Domain<'a>>,
+    domains: &[Domain<'a>],
     env: &Env<'_, 'a>,
 ) -> Result<Vec<Value>, Lack>
-    requires { spec.one_bounds (environment_of env.now).globals (sets_of (map set_of domains.now)) ≡ true }
-    ensures is { IfOk result (λ xs. IsAllOfEach (environment_of env.now) (sets_of (map set_of domains.now)) xs.items) }
-    ensures out { IfErr result (λ lack. Tells lack (IsOneOut (environment_of env.now) (sets_of (map set_of domains.now)))) }
+    ensures is { spec.one_bounds (environment_of env.now).globals (sets_of (map set_of domains.now)) ≡ true → IfOk result (λ xs. IsAllOfEach (environment_of env.now) (sets_of (map set_of domains.now)) xs.items) }
+    ensures regular { IfOk result (λ xs. IsRegularSet xs.items) }
+    ensures out { spec.one_bounds (environment_of env.now).globals (sets_of (map set_of domains.now)) ≡ true → IfErr result (λ lack. Tells lack (IsOneOut (environment_of env.now) (sets_of (map set_of domains.now)))) }
 {
-    let all = domains.as_slice();
-    let place = first_bounding(all, env.globals());
-    let found = values(alloc, arena, &all[place], env)?;
-    let found = narrowed(alloc, arena, &all[..place], found, env)?;
-    narrowed(alloc, arena, &all[place + 1..], found, env)
+    let place = first_bounding(domains, env.globals());
+    if place >= domains.len() {
+        return Ok(Vec::new(alloc));
+    }
+    let found = values(alloc, arena, &domains[place], env)?;
+    let found = narrowed(alloc, arena, &domains[..place], found, env)?;
+    let found = narrowed(alloc, arena, &domains[place + 1..], found, env)?;
+    Ok(found)
 }
 
 /// The values that lie in a declared set that bounds.
@@ -46,16 +48,16 @@ fn values<'a>(
     domain: &Domain<'a>,
     env: &Env<'_, 'a>,
 ) -> Result<Vec<Value>, Lack>
-    requires { spec.bounds (environment_of env.now).globals (set_of domain.now) ≡ true }
-    ensures is { IfOk result (λ xs. IsAllOf (environment_of env.now) (set_of domain.now) xs.items) }
-    ensures out { IfErr result (λ lack. Tells lack (IsSetOut (environment_of env.now) (set_of domain.now))) }
+    ensures is { spec.bounds (environment_of env.now).globals (set_of domain.now) ≡ true → IfOk result (λ xs. IsAllOf (environment_of env.now) (set_of domain.now) xs.items) }
+    ensures regular { IfOk result (λ xs. IsRegularSet xs.items) }
+    ensures out { spec.bounds (environment_of env.now).globals (set_of domain.now) ≡ true → IfErr result (λ lack. Tells lack (IsSetOut (environment_of env.now) (set_of domain.now))) }
 {
     match domain {
         Domain::Plain(set) => of_plain(alloc, arena, set.get(), env),
         Domain::Carrier(ztype) => of_carrier(alloc, ztype, env),
         Domain::Either(left, right) => {
-            let left = range(alloc, arena, left.get(), env)?;
-            let right = range(alloc, arena, right.get(), env)?;
+            let left = range(alloc, arena, left.get().as_slice(), env)?;
+            let right = range(alloc, arena, right.get().as_slice(), env)?;
             Ok(merged(left, right)?)
         }
     }
