@@ -9,3 +9,5 @@ pub mod Sides
 pub mod Comps
 pub mod Lacks
 pub mod Typed
+pub mod Resolved
+pub mod Started
