@@ -49,10 +49,10 @@ narrows_none e xs vs found s h =
 next : (e : Environment) (xs : List Domain) (i : ℕ) (x : Domain) (vs found new : List Value) → x ≡ get_or xs i x → i < length xs → NarrowsAll e (front i xs) vs found → Narrows e (set_of x) found new → NarrowsAll e (front (suc i) xs) vs new
 next e xs i x vs found new at l h k = (
   lists_same (λ v. IsMember v found × IsInSet e (set_of x) v) (λ v. IsMember v vs × IsInSets e (front (suc i) xs) v) new
-  (λ v. (
-    λ m. let a = (h.0.members v).0 m.0 in (a.0, (in_next e xs i x at l v).1 (a.1, m.1)),
-    λ m. let b = (in_next e xs i x at l v).0 m.1 in ((h.0.members v).1 (m.0, b.0), b.1),
-  )) k.0,
+      (λ v. (
+        λ m. let a = (h.0.members v).0 m.0 in (a.0, (in_next e xs i x at l v).1 (a.1, m.1)),
+        λ m. let b = (in_next e xs i x at l v).0 m.1 in ((h.0.members v).1 (m.0, b.0), b.1),
+      )) k.0,
   λ o. ⊎_elim h.1 k.1 (out_next e xs i x at l o),
 )
 
@@ -101,10 +101,10 @@ out_behind e (y ∷ ys) (suc i) h = inr (out_behind e ys i h)
 pub all_of_each : (e : Environment) (xs : List Domain) (i : ℕ) (x : Domain) (ls ms ns : List Value) → x ≡ get_or xs i x → i < length xs → IsAllOf e (set_of x) ls → NarrowsAll e (front i xs) ls ms → NarrowsAll e (back (suc i) xs) ms ns → IsAllOfEach e (whole xs) ns
 all_of_each e xs i x ls ms ns at l h k m = (
   lists_same (λ v. IsMember v ms × IsInSets e (back (suc i) xs) v) (IsInSets e (whole xs)) ns
-  (λ v. (
-    λ n. let a = (k.0.members v).0 n.0 in (in_parts e xs i x at l v).1 (((h.0.members v).0 a.0, a.1), n.1),
-    λ n. let p = (in_parts e xs i x at l v).0 n in ((k.0.members v).1 ((h.0.members v).1 p.0.0, p.0.1), p.1),
-  )) m.0,
+      (λ v. (
+        λ n. let a = (k.0.members v).0 n.0 in (in_parts e xs i x at l v).1 (((h.0.members v).0 a.0, a.1), n.1),
+        λ n. let p = (in_parts e xs i x at l v).0 n in ((k.0.members v).1 ((h.0.members v).1 p.0.0, p.0.1), p.1),
+      )) m.0,
   λ o. ⊎_elim h.1 (λ p. ⊎_elim k.1 m.1 p) (out_parts e xs i x at l o),
 )
 
@@ -116,17 +116,17 @@ either e left right h k o = ⊎_elim h k o
 pub all_of_sides : (e : Environment) (left right : DeclaredSets) (ls ms ns : List Value) → IsAllOfEach e left ls → IsAllOfEach e right ms → Lists (λ v. IsMember v ls ⊎ IsMember v ms) ns → IsAllOf e (sides left right) ns
 all_of_sides e left right ls ms ns h k m = (
   lists_same (λ v. IsMember v ls ⊎ IsMember v ms) (IsInSet e (sides left right)) ns
-  (λ v. (λ n. ⊎_elim (λ p. inl ((h.0.members v).0 p)) (λ p. inr ((k.0.members v).0 p)) n, λ n. ⊎_elim (λ p. inl ((h.0.members v).1 p)) (λ p. inr ((k.0.members v).1 p)) n)) m,
+      (λ v. (λ n. ⊎_elim (λ p. inl ((h.0.members v).0 p)) (λ p. inr ((k.0.members v).0 p)) n, λ n. ⊎_elim (λ p. inl ((h.0.members v).1 p)) (λ p. inr ((k.0.members v).1 p)) n)) m,
   either e left right h.1 k.1,
 )
 
 pub some_of_sides : (e : Environment) (left right : DeclaredSets) (vs ls ms ns : List Value) → NarrowsAll e left vs ls → NarrowsAll e right vs ms → Lists (λ v. IsMember v ls ⊎ IsMember v ms) ns → Narrows e (sides left right) vs ns
 some_of_sides e left right vs ls ms ns h k m = (
   lists_same (λ v. IsMember v ls ⊎ IsMember v ms) (λ v. IsMember v vs × IsInSet e (sides left right) v) ns
-  (λ v. (
-    λ n. ⊎_elim (λ p. let a = (h.0.members v).0 p in (a.0, inl a.1)) (λ p. let a = (k.0.members v).0 p in (a.0, inr a.1)) n,
-    λ n. ⊎_elim (λ p. inl ((h.0.members v).1 (n.0, p))) (λ p. inr ((k.0.members v).1 (n.0, p))) n.1,
-  )) m,
+      (λ v. (
+        λ n. ⊎_elim (λ p. let a = (h.0.members v).0 p in (a.0, inl a.1)) (λ p. let a = (k.0.members v).0 p in (a.0, inr a.1)) n,
+        λ n. ⊎_elim (λ p. inl ((h.0.members v).1 (n.0, p))) (λ p. inr ((k.0.members v).1 (n.0, p))) n.1,
+      )) m,
   either e left right h.1 k.1,
 )
 

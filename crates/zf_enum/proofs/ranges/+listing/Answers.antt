@@ -31,7 +31,7 @@ pub range-returns-in_err-found-3-clause-out : goal.range-returns-in_err-found-3-
 range-returns-in_err-found-3-clause-out t c b =
     passed c.in_err-found-3.field-0.0 c.from_residual-in_err-found-3.result _ _ c.from_residual-in_err-found-3.ensures.1
     (λ o. out_behind (environment_of c.args.env.now) c.args.domains.now (suc c.first_bounding-place.result)
-      (subst (λ (ds : List Domain). IsOneOut (environment_of c.args.env.now) (sets_of (map set_of ds))) (rest c.args.domains.now c.first_bounding-place.result) o))
+    (subst (λ (ds : List Domain). IsOneOut (environment_of c.args.env.now) (sets_of (map set_of ds))) (rest c.args.domains.now c.first_bounding-place.result) o))
     c.in_err-found-3.ensures.out
 
 pub range-returns-clause-is : goal.range-returns-clause-is
