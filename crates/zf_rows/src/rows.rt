@@ -5,7 +5,8 @@
 //! | Mark | What is behind it |
 //! |---|---|
 //! | `#` | a remark |
-//! | `$` | the words of the command lines to come |
+//! | `$` | the words of the command lines to come, parted by blanks |
+//! | `+` | a further word of those, which may have blanks |
 //! | `=` | the status that they end with, and they write nothing |
 //! | `!` | a line that they write |
 //! | `>` | a file with the lines that they write |
@@ -30,6 +31,7 @@ use zf_engine::run::run;
 #[derive(Drop)]
 pub struct Rows {
     words: String,
+    further: String,
     status: String,
     written: String,
     before: String,
@@ -42,6 +44,7 @@ impl Rows {
     pub fn new(alloc: Global) -> Rows {
         Rows {
             words: String::new(alloc),
+            further: String::new(alloc),
             status: String::new(alloc),
             written: String::new(alloc),
             before: String::new(alloc),
@@ -65,7 +68,11 @@ impl Rows {
         let (mark, rest) = line.split_once(' ').unwrap_or((line, ""));
         match mark {
             "" | "#" => {}
-            "$" => replace(&mut self.words, rest)?,
+            "$" => {
+                replace(&mut self.words, rest)?;
+                self.further.clear();
+            }
+            "+" => push_line(&mut self.further, rest)?,
             "=" => {
                 replace(&mut self.status, rest)?;
                 self.written.clear();
@@ -92,7 +99,11 @@ impl Rows {
         let source = format!(in alloc; "{}{}{}", self.before, self.source, self.behind)?;
         self.source.clear();
         let mut written = Vec::new(alloc);
-        let status = status_of(alloc, self.words.as_str(), source.as_bytes(), &mut written)?;
+        let mut words: Vec<&str> = self.words.split_whitespace().collect(alloc)?;
+        for word in self.further.lines() {
+            words.push(word)?;
+        }
+        let status = status_of(alloc, words.as_slice(), source.as_bytes(), &mut written)?;
         if status == self.status.as_str() && written.as_slice() == self.written.as_bytes() {
             self.as_written = self.as_written.saturating_add(1);
             return Ok(None);
@@ -145,12 +156,11 @@ fn push_often(text: &mut String, often: &str) -> io::Result<()> {
 /// What the words write over the source. The answer is the status.
 fn status_of(
     alloc: Global,
-    words: &str,
+    words: &[&str],
     source: &[u8],
     written: &mut Vec<u8>,
 ) -> io::Result<&'static str> {
-    let words: Vec<&str> = words.split_whitespace().collect(alloc)?;
-    match job_of(alloc, words.as_slice()) {
+    match job_of(alloc, words) {
         Ok(Asked::Work(file, job)) => {
             let mut reader = Counted::new(source);
             let mut writer = Counted::new(written);

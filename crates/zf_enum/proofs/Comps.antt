@@ -1,0 +1,78 @@
+-- The ranges of components, one more at a time, and the first component that is out.
+use Rattle.std.proofs.Common.{◌≡◌, ℕ, zero, suc, ◌+◌, ◌<◌, ◌≤◌, List, [], ◌∷◌, ◌++◌, length, map, take, get_or, Option, Some, None, Result, Ok, Err, refl, sym, ap, ◌∙◌, subst, add-one, arith}
+use Rattle.std.specs.Prelude.{slice_get}
+use Rattle.std.specs.Prelude.{IfErr, IsErrAnd}
+use Rattle.std.specs.List.{AllByRecursion}
+use Rattle.std.proofs.lemmas.List.{length-map}
+use Rattle.zf_term.specs.declared.globals.Component.{Component}
+use Rattle.zf_term.specs.Definitions.{Comp, comp_of, sets_of}
+use Rattle.zf_value.specs.declared.value.Value.{Value}
+use Rattle.zf_meaning.specs.Environments.{Environment}
+use Rattle.zf_enum.specs.DeclaredSets.{IsOneOut}
+use Rattle.zf_enum.specs.Ranges.{IsRange, AreRanges, IsOutAt, IsNoneOut, IsFirstOut}
+use Rattle.zf_enum.specs.Components.{IsOneRange, AreAllRanges, IsOutBy}
+use Rattle.zf_enum.specs.declared.start_fault.StartFault.{StartFault}
+use Rattle.zf_enum.specs.declared.start_fault.StartFault.TheVariants.{DeclaredOut, OutOfMemory}
+use Rattle.zf_enum.specs.Starts.{Refuses}
+
+ranges_next : (e : Environment) (cs : List Comp) (i : ℕ) (c : Comp) (ranges : List (List Value)) (xs : List Value) → slice_get cs i ≡ Some c → AreRanges e (take i cs) ranges → IsRange e c xs → AreRanges e (take (suc i) cs) (ranges ++ xs ∷ [])
+ranges_next e [] i c ranges xs g h k = (cc)
+ranges_next e (d ∷ ds) zero c [] xs g h k = let s : c ≡ d = (cc) in (subst (λ z. IsRange e z xs) s k, tt)
+ranges_next e (d ∷ ds) zero c (r ∷ rs) xs g h k = absurd h
+ranges_next e (d ∷ ds) (suc i) c [] xs g h k = absurd h
+ranges_next e (d ∷ ds) (suc i) c (r ∷ rs) xs g h k = (h.0, ranges_next e ds i c rs xs g h.1 k)
+
+none_next : (e : Environment) (cs : List Comp) (i : ℕ) (c : Comp) → slice_get cs i ≡ Some c → IsNoneOut e (take i cs) → (IsOneOut e (sets_of c.sets) → ⊥) → IsNoneOut e (take (suc i) cs)
+none_next e [] i c g h k place o = (cc (o.1))
+none_next e (d ∷ ds) zero c g h k zero o = let s : o.0 ≡ c = (cc (o.1)) in k (subst (λ z. IsOneOut e (sets_of z.sets)) s o.2)
+none_next e (d ∷ ds) zero c g h k (suc place) o = (cc (o.1))
+none_next e (d ∷ ds) (suc i) c g h k zero o = h zero o
+none_next e (d ∷ ds) (suc i) c g h k (suc place) o = none_next e ds i c g (λ p q. h (suc p) q) k place o
+
+pub all_next : (e : Environment) (cs : List Comp) (i : ℕ) (c : Comp) (ranges : List (List Value)) (xs : List Value) → slice_get cs i ≡ Some c → AreAllRanges e (take i cs) ranges → IsOneRange e c xs → AreAllRanges e (take (i + 1) cs) (ranges ++ xs ∷ [])
+all_next e cs i c ranges xs g h k = rw add-one (ranges_next e cs i c ranges xs g h.0 k.0, none_next e cs i c g h.1 k.1)
+
+taken : (cs : List Comp) (i k : ℕ) → k < i → slice_get (take i cs) k ≡ slice_get cs k
+taken [] zero k l = absurd (omega arith)
+taken [] (suc i) k l = refl
+taken (c ∷ cs) zero k l = absurd (omega arith)
+taken (c ∷ cs) (suc i) zero l = refl
+taken (c ∷ cs) (suc i) (suc k) l = taken cs i k (omega arith)
+
+pub first_out : (e : Environment) (cs : List Comp) (i : ℕ) (c : Comp) → slice_get cs i ≡ Some c → IsNoneOut e (take i cs) → IsOneOut e (sets_of c.sets) → IsFirstOut e cs i
+first_out e cs i c g h o = record {
+  here = (c, g, o);
+  first = λ k l p. h k (p.0, taken cs i k l ∙ p.1, p.2);
+}
+
+-- ---- the loop over components
+
+pub comp_at : (xs : List Component) (i : ℕ) (x : Component) → x ≡ get_or xs i x → i < length xs → slice_get (map comp_of xs) i ≡ Some (comp_of x)
+comp_at [] i x at l = absurd (omega arith)
+comp_at (y ∷ ys) zero x at l = ap (λ z. Some (comp_of z)) (sym at)
+comp_at (y ∷ ys) (suc i) x at l = comp_at ys i x at (omega arith)
+
+pub all_at : (P : Comp → Type 0) (cs : List Comp) (i : ℕ) (c : Comp) → slice_get cs i ≡ Some c → AllByRecursion P cs → P c
+all_at P [] i c g h = (cc)
+all_at P (d ∷ ds) zero c g h = let same : d ≡ c = (cc) in subst P same h.0
+all_at P (d ∷ ds) (suc i) c g h = all_at P ds i c g h.1
+
+pub none_yet : (e : Environment) (cs : List Comp) (rs : List (List Value)) → rs ≡ [] → AreAllRanges e (take 0 cs) rs
+none_yet e cs rs s = subst (λ (ys : List (List Value)). AreAllRanges e [] ys) (sym s) (tt, λ place o. (cc (o.1)))
+
+whole : (cs : List Comp) (i : ℕ) → length cs ≤ i → take i cs ≡ cs
+whole [] zero l = refl
+whole [] (suc i) l = refl
+whole (c ∷ cs) zero l = absurd (omega arith)
+whole (c ∷ cs) (suc i) l = ap (λ ds. c ∷ ds) (whole cs i (omega arith))
+
+pub all_done : (e : Environment) (xs : List Component) (i : ℕ) (rs : List (List Value)) → length xs ≤ i → AreAllRanges e (take i (map comp_of xs)) rs → AreAllRanges e (map comp_of xs) rs
+all_done e xs i rs l h = subst (λ (ds : List Comp). AreAllRanges e ds rs) (whole (map comp_of xs) i (rw (length-map xs comp_of) l)) h
+
+refuses : (e : Environment) (cs : List Comp) (i : ℕ) (c : Comp) (f : StartFault) → slice_get cs i ≡ Some c → IsNoneOut e (take i cs) → IsOutBy e c i f → Refuses e cs f
+refuses e cs i c (DeclaredOut place) g n h = subst (λ k. IsFirstOut e cs k) (sym h.0) (first_out e cs i c g n h.1)
+refuses e cs i c OutOfMemory g n h = tt
+
+pub refused : {X : Type 0} (e : Environment) (cs : List Comp) (i : ℕ) (c : Comp) (f : StartFault) (r : Result X StartFault) → IsErrAnd r (λ y. y ≡ f) → slice_get cs i ≡ Some c → IsNoneOut e (take i cs) → IsOutBy e c i f → IfErr r (Refuses e cs)
+refused e cs i c f (Ok x) is g n h = tt
+refused e cs i c f (Err y) is g n h = subst (Refuses e cs) (sym is) (refuses e cs i c f g n h)

@@ -1,0 +1,13 @@
+pub mod Dues
+pub mod Rows
+pub mod Judging
+pub mod Listing
+pub mod EventLaws
+pub mod Numbers
+pub mod Single
+pub mod Sides
+pub mod Comps
+pub mod Lacks
+pub mod Typed
+pub mod Resolved
+pub mod Started

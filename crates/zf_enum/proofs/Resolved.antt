@@ -1,0 +1,29 @@
+-- The terms of conjuncts, one after another.
+use Rattle.std.proofs.Common.{◌≡◌, ℕ, zero, suc, ◌+◌, ◌<◌, ◌≤◌, List, [], ◌∷◌, ◌++◌, length, map, take, get_or, refl, sym, ap, ap₂, ◌∙◌, subst, add-one, arith}
+use Rattle.zf_term.specs.declared.conjunct.Conjunct.{Conjunct}
+use Rattle.zf_term.specs.declared.resolved.Resolved.{Resolved}
+use Rattle.zf_term.specs.Definitions.{conjunct_of}
+use Rattle.zf_term.specs.ResolvedTrees.{ResolvedTree, resolved_of}
+
+pushed : (ts : List Resolved) (t : Resolved) → map resolved_of (ts ++ t ∷ []) ≡ map resolved_of ts ++ resolved_of t ∷ []
+pushed [] t = refl
+pushed (u ∷ ts) t = ap (λ rs. resolved_of u ∷ rs) (pushed ts t)
+
+front : (cs : List Conjunct) (i : ℕ) (c : Conjunct) → c ≡ get_or cs i c → i < length cs → map conjunct_of (take (suc i) cs) ≡ map conjunct_of (take i cs) ++ conjunct_of c ∷ []
+front [] i c at l = absurd (omega arith)
+front (d ∷ ds) zero c at l = ap (λ z. conjunct_of z ∷ []) (sym at)
+front (d ∷ ds) (suc i) c at l = ap (λ rs. conjunct_of d ∷ rs) (front ds i c at (omega arith))
+
+pub one_more : (ts : List Resolved) (cs : List Conjunct) (i : ℕ) (c : Conjunct) (t : Resolved) → c ≡ get_or cs i c → i < length cs → map resolved_of ts ≡ map conjunct_of (take i cs) → resolved_of t ≡ conjunct_of c
+    → map resolved_of (ts ++ t ∷ []) ≡ map conjunct_of (take (i + 1) cs)
+one_more ts cs i c t at l h e =
+    rw add-one (pushed ts t ∙ ap₂ (λ (rs : List ResolvedTree) (r : ResolvedTree). rs ++ r ∷ []) h e ∙ sym (front cs i c at l))
+
+whole : (cs : List Conjunct) (i : ℕ) → length cs ≤ i → take i cs ≡ cs
+whole [] zero l = refl
+whole [] (suc i) l = refl
+whole (c ∷ cs) zero l = absurd (omega arith)
+whole (c ∷ cs) (suc i) l = ap (λ ds. c ∷ ds) (whole cs i (omega arith))
+
+pub all_done : (ts : List Resolved) (cs : List Conjunct) (i : ℕ) → length cs ≤ i → map resolved_of ts ≡ map conjunct_of (take i cs) → map resolved_of ts ≡ map conjunct_of cs
+all_done ts cs i l h = h ∙ ap (map conjunct_of) (whole cs i l)

@@ -1,0 +1,105 @@
+-- What a declared set that is no disjunction holds, by its outcome.
+use Rattle.std.proofs.Common.{◌≡◌, ◌↔◌, Bool, true, false, not, List, Option, Some, None, refl, ap, subst}
+use Rattle.zf_term.specs.declared.extent.Infinite.{Infinite}
+use Rattle.zf_term.specs.Definitions.{plain, carrier}
+use Rattle.zf_term.specs.Extents.{direct}
+use Rattle.zf_term.specs.ResolvedTrees.{ResolvedTree}
+use Rattle.zf_term.specs.Types.{Ty, has_numbers}
+use Rattle.zf_value.specs.declared.value.Value.{Value}
+use Rattle.zf_value.specs.declared.value.Outcome.{Outcome}
+use Rattle.zf_value.specs.declared.value.Outcome.TheVariants.{Is, Undefined, Out}
+use Rattle.zf_value.specs.Sets.{IsMember, members}
+use Rattle.zf_meaning.specs.Environments.{Environment, globally}
+use Rattle.zf_meaning.specs.Carriers.{IsCarrier}
+use Rattle.zf_meaning.specs.Meaning.{HasOutcome}
+use Rattle.zf_meaning.specs.Rows.{IsOfType}
+use Rattle.zf_meaning.specs.Symbols as symbols
+use Rattle.zf_meaning.proofs.Environments.{one_carrier}
+use Rattle.zf_meaning.proofs.Unique.{one_outcome}
+use Rattle.zf_finite.specs.Finite.{is_none, bounds}
+use Rattle.zf_enum.specs.DeclaredSets.{IsInOne, IsInPlain, IsInCarrier, IsPlainOut, IsCarrierOut, IsSetOut}
+use Rattle.zf_enum.specs.Parts.{Lists, Narrows, IsAllOf, IsListed, IsIn}
+use Rattle.zf_enum.proofs.Listing.{lists_same}
+
+-- ---- by an outcome that is the only one
+
+in_one : (P : Outcome → Type 0) (o : Outcome) → P o → ((p : Outcome) → P p → o ≡ p) → (v : Value) → IsIn o v ↔ IsInOne P v
+in_one P (Is w) h one v = (λ m. (w, h, m), λ k. let same : k.0 ≡ w = (cc (one (Is k.0) k.1)) in subst (λ z. IsMember v (members z)) same k.2)
+in_one P Undefined h one v = (λ m. absurd m, λ k. (cc (one (Is k.0) k.1)))
+in_one P Out h one v = (λ m. absurd m, λ k. (cc (one (Is k.0) k.1)))
+
+among : (P Q : Value → Type 0) (xs : List Value) → ((v : Value) → P v ↔ Q v) → (v : Value) → (IsMember v xs × P v) ↔ (IsMember v xs × Q v)
+among P Q xs f v = (λ k. (k.0, (f v).0 k.1), λ k. (k.0, (f v).1 k.1))
+
+-- ---- the set of a declaration
+
+all_of : (e : Environment) (t : ResolvedTree) (d : Option Infinite) (o : Outcome) (xs : List Value) → is_none d ≡ true → HasOutcome (globally e) t o → IsListed o (IsIn o) xs → Lists (IsInPlain e d t) xs × (IsPlainOut e d t → ⊥)
+all_of e t None o xs n h k = (lists_same (IsIn o) (IsInPlain e None t) xs (in_one (HasOutcome (globally e) t) o h (λ p q. one_outcome (globally e) t o p h q)) k.lists, λ q. k.within (one_outcome (globally e) t o Out h q))
+all_of e t (Some s) o xs n h k = (cc)
+
+pub all_of_plain : (e : Environment) (t : ResolvedTree) (o : Outcome) (xs : List Value) → bounds e.globals (plain t) ≡ true → HasOutcome (globally e) t o → IsListed o (IsIn o) xs → IsAllOf e (plain t) xs
+all_of_plain e t o xs n h k = all_of e t (direct e.globals t) o xs n h k
+
+some_of : (e : Environment) (t : ResolvedTree) (d : Option Infinite) (o : Outcome) (xs ys : List Value) → d ≡ None → HasOutcome (globally e) t o → IsListed o (λ v. IsMember v xs × IsIn o v) ys → Lists (λ v. IsMember v xs × IsInPlain e d t v) ys × (IsPlainOut e d t → ⊥)
+some_of e t None o xs ys n h k = (lists_same _ (λ v. IsMember v xs × IsInPlain e None t v) ys (among (IsIn o) (IsInPlain e None t) xs (in_one (HasOutcome (globally e) t) o h (λ p q. one_outcome (globally e) t o p h q))) k.lists, λ q. k.within (one_outcome (globally e) t o Out h q))
+some_of e t (Some s) o xs ys n h k = (cc)
+
+pub some_of_plain : (e : Environment) (t : ResolvedTree) (o : Outcome) (xs ys : List Value) → direct e.globals t ≡ None → HasOutcome (globally e) t o → IsListed o (λ v. IsMember v xs × IsIn o v) ys → Narrows e (plain t) xs ys
+some_of_plain e t o xs ys n h k = some_of e t (direct e.globals t) o xs ys n h k
+
+numbers_of : (e : Environment) (t : ResolvedTree) (d : Option Infinite) (s : Infinite) (xs ys : List Value) → d ≡ Some s → Lists (λ v. IsMember v xs × symbols.IsIn s v) ys → Lists (λ v. IsMember v xs × IsInPlain e d t v) ys × (IsPlainOut e d t → ⊥)
+numbers_of e t None s xs ys n k = (cc)
+numbers_of e t (Some r) s xs ys n k = let same : s ≡ r = (cc) in (subst (λ z. Lists (λ v. IsMember v xs × symbols.IsIn z v) ys) same k, λ q. q)
+
+pub numbers_of_plain : (e : Environment) (t : ResolvedTree) (s : Infinite) (xs ys : List Value) → direct e.globals t ≡ Some s → Lists (λ v. IsMember v xs × symbols.IsIn s v) ys → Narrows e (plain t) xs ys
+numbers_of_plain e t s xs ys n k = numbers_of e t (direct e.globals t) s xs ys n k
+
+plain_out : (e : Environment) (t : ResolvedTree) (d : Option Infinite) (o : Outcome) → is_none d ≡ true → HasOutcome (globally e) t o → o ≡ Out → IsPlainOut e d t
+plain_out e t None o n h q = subst (HasOutcome (globally e) t) q h
+plain_out e t (Some s) o n h q = (cc)
+
+pub plain_is_out : (e : Environment) (t : ResolvedTree) (o : Outcome) → is_none (direct e.globals t) ≡ true → HasOutcome (globally e) t o → o ≡ Out → IsSetOut e (plain t)
+plain_is_out e t o n h q = plain_out e t (direct e.globals t) o n h q
+
+-- ---- the carrier of a type
+
+all_in : (e : Environment) (t : Ty) (b : Bool) (o : Outcome) (xs : List Value) → b ≡ false → IsCarrier e t o → IsListed o (IsIn o) xs → Lists (IsInCarrier e b t) xs × (IsCarrierOut e b t → ⊥)
+all_in e t true o xs n h k = (cc)
+all_in e t false o xs n h k = (lists_same (IsIn o) (IsInCarrier e false t) xs (in_one (IsCarrier e t) o h (λ p q. one_carrier e t o p h q)) k.lists, λ q. k.within (one_carrier e t o Out h q))
+
+pub all_of_carrier : (e : Environment) (t : Ty) (o : Outcome) (xs : List Value) → has_numbers t ≡ false → IsCarrier e t o → IsListed o (IsIn o) xs → IsAllOf e (carrier t) xs
+all_of_carrier e t o xs n h k = all_in e t (has_numbers t) o xs n h k
+
+some_in : (e : Environment) (t : Ty) (b : Bool) (o : Outcome) (xs ys : List Value) → b ≡ false → IsCarrier e t o → IsListed o (λ v. IsMember v xs × IsIn o v) ys → Lists (λ v. IsMember v xs × IsInCarrier e b t v) ys × (IsCarrierOut e b t → ⊥)
+some_in e t true o xs ys n h k = (cc)
+some_in e t false o xs ys n h k = (lists_same _ (λ v. IsMember v xs × IsInCarrier e false t v) ys (among (IsIn o) (IsInCarrier e false t) xs (in_one (IsCarrier e t) o h (λ p q. one_carrier e t o p h q))) k.lists, λ q. k.within (one_carrier e t o Out h q))
+
+pub some_of_carrier : (e : Environment) (t : Ty) (o : Outcome) (xs ys : List Value) → has_numbers t ≡ false → IsCarrier e t o → IsListed o (λ v. IsMember v xs × IsIn o v) ys → Narrows e (carrier t) xs ys
+some_of_carrier e t o xs ys n h k = some_in e t (has_numbers t) o xs ys n h k
+
+typed_in : (e : Environment) (t : Ty) (b : Bool) (xs ys : List Value) → b ≡ true → Lists (λ v. IsMember v xs × IsOfType e t v) ys → Lists (λ v. IsMember v xs × IsInCarrier e b t v) ys × (IsCarrierOut e b t → ⊥)
+typed_in e t true xs ys n k = (k, λ q. q)
+typed_in e t false xs ys n k = (cc)
+
+pub typed_of_carrier : (e : Environment) (t : Ty) (xs ys : List Value) → has_numbers t ≡ true → Lists (λ v. IsMember v xs × IsOfType e t v) ys → Narrows e (carrier t) xs ys
+typed_of_carrier e t xs ys n k = typed_in e t (has_numbers t) xs ys n k
+
+carrier_out : (e : Environment) (t : Ty) (b : Bool) (o : Outcome) → b ≡ false → IsCarrier e t o → o ≡ Out → IsCarrierOut e b t
+carrier_out e t true o n h q = (cc)
+carrier_out e t false o n h q = subst (IsCarrier e t) q h
+
+pub carrier_is_out : (e : Environment) (t : Ty) (o : Outcome) → has_numbers t ≡ false → IsCarrier e t o → o ≡ Out → IsSetOut e (carrier t)
+carrier_is_out e t o n h q = carrier_out e t (has_numbers t) o n h q
+
+pub numberless : (b : Bool) → not b ≡ true → b ≡ false
+numberless true n = (cc)
+numberless false n = refl
+
+-- ---- what `direct` told
+
+pub no_infinite : (d : Option Infinite) → ((s : Infinite) → d ≡ Some s → ⊥) → d ≡ None
+no_infinite None h = refl
+no_infinite (Some s) h = absurd (h s refl)
+
+pub none_is_none : (d : Option Infinite) → d ≡ None → is_none d ≡ true
+none_is_none d h = ap is_none h

@@ -1,0 +1,49 @@
+-- What a walk asks of ranges and conjuncts, of those of a schema.
+use Rattle.std.proofs.Common.{◌≡◌, ℕ, zero, suc, ◌<◌, List, [], ◌∷◌, length, refl, sym, ap, subst, ⊎_elim, Option, Some, None, arith}
+use Rattle.std.specs.Prelude.{Contains, AllPairs}
+use Rattle.std.specs.declared.cmp.Ordering.TheVariants.{Less}
+use Rattle.zf_term.specs.Definitions.{Comp}
+use Rattle.zf_term.specs.ResolvedTrees.{ResolvedTree}
+use Rattle.zf_value.specs.declared.value.Value.{Value}
+use Rattle.zf_value.specs.Sets.{value_order, Every, IsAscending}
+use Rattle.zf_walk.specs.Progress.{AreDueWithin, Ahead, AreAllAhead}
+use Rattle.zf_walk.specs.Rows.{AreAscending, HasLength}
+use Rattle.zf_walk.proofs.Lists.{AllPairs-nil, AllPairs-cons, Contains-cases, Contains-nil}
+use Rattle.zf_meaning.specs.Environments.{Environment}
+use Rattle.zf_enum.specs.Property.{property}
+use Rattle.zf_enum.specs.Ranges.{AreRanges}
+
+abbrev Below : Value → Value → Type 0
+Below v w = value_order v w ≡ Less
+
+every_contained : (P : Value → Type 0) (xs : List Value) (y : Value) → Every P xs → Contains xs y → P y
+every_contained P [] y h m = absurd (Contains-nil y m)
+every_contained P (x ∷ xs) y h m = ⊎_elim (λ s. subst P s h.0) (λ n. every_contained P xs y h.1 n) (Contains-cases x xs y m)
+
+ascending_pairs : (xs : List Value) → IsAscending xs → AllPairs Below xs
+ascending_pairs [] h = AllPairs-nil Below
+ascending_pairs (x ∷ xs) h = AllPairs-cons Below x xs (λ y m. every_contained (Below x) xs y h.0 m) (ascending_pairs xs h.1)
+
+module _ (e : Environment) where
+  pub ranges_ascend : (cs : List Comp) (rs : List (List Value)) → AreRanges e cs rs → AreAscending value_order rs
+  ranges_ascend [] [] h k d l = absurd (omega arith)
+  ranges_ascend [] (xs ∷ rs) h k d l = absurd h
+  ranges_ascend (c ∷ cs) [] h k d l = absurd h
+  ranges_ascend (c ∷ cs) (xs ∷ rs) h zero d l = ascending_pairs xs h.0.ascending
+  ranges_ascend (c ∷ cs) (xs ∷ rs) h (suc k) d l = ranges_ascend cs rs h.1 k d (omega arith)
+
+  as_many : (cs : List Comp) (rs : List (List Value)) → AreRanges e cs rs → length cs ≡ length rs
+  as_many [] [] h = refl
+  as_many [] (xs ∷ rs) h = absurd h
+  as_many (c ∷ cs) [] h = absurd h
+  as_many (c ∷ cs) (xs ∷ rs) h = ap suc (as_many cs rs h.1)
+
+  pub named_within : (cs : List Comp) (rs : List (List Value)) (after : Option (List Value)) → AreRanges e cs rs → HasLength after (length cs) → HasLength after (length rs)
+  named_within cs rs after h n = subst (HasLength after) (as_many cs rs h) n
+
+  pub due_within : (cs : List Comp) (rs : List (List Value)) (ps ts : List ResolvedTree) → AreRanges e cs rs → ts ≡ ps → AreDueWithin (property e ps) (length cs) → AreDueWithin (property e ts) (length rs)
+  due_within cs rs ps ts h same d = subst (AreDueWithin (property e ts)) (as_many cs rs h) (subst (λ (us : List ResolvedTree). AreDueWithin (property e us) (length cs)) (sym same) d)
+
+  pub ahead_of : (ps ts : List ResolvedTree) (rs ws : List (List Value)) (after : Option (List Value)) (a : Ahead Value) → ts ≡ ps → ws ≡ rs → AreAllAhead value_order (property e ts) rs after a → AreAllAhead value_order (property e ps) ws after a
+  ahead_of ps ts rs ws after a same there h =
+      subst (λ (us : List ResolvedTree). AreAllAhead value_order (property e us) ws after a) same (subst (λ (vs : List (List Value)). AreAllAhead value_order (property e ts) vs after a) (sym there) h)

@@ -1,0 +1,107 @@
+-- Tests of the type of a value, form by form.
+use Rattle.std.proofs.Common.{◌≡◌, ◌↔◌, ℕ, zero, suc, ◌+◌, ◌<◌, ◌≤◌, Bool, false, List, [], ◌∷◌, length, map, drop, get_or, refl, sym, ap, ◌∙◌, subst, add-one, arith}
+use Rattle.std.specs.Prelude.{IsTrue}
+use Rattle.std.proofs.lemmas.Bool.{false≢true}
+use Rattle.zf_term.specs.declared.ztype.ZType.{ZType}
+use Rattle.zf_term.specs.Types.{Ty, Tys, types, type_of, power, product}
+use Rattle.zf_value.specs.declared.value.Value.{Value, Tuple, SetOf}
+use Rattle.zf_value.specs.Sets.{Every, IsRegular, AreRegular, members, parts}
+use Rattle.zf_value.proofs.Regulars.{regular_set, regular_member, regular_parts}
+use Rattle.zf_value.proofs.Seen.{members-SetOf, parts-Tuple}
+use Rattle.zf_value.proofs.Among.{member_at}
+use Rattle.zf_meaning.specs.Environments.{Environment}
+use Rattle.zf_meaning.specs.Rows.{IsOfType, AreOfTypes}
+use Rattle.zf_enum.specs.OfTypes.{AreAllOf}
+
+pub never : (P : Type 0) → (P → ⊥) → IsTrue false ↔ P
+never P h = (λ e. absurd (false≢true e), λ p. absurd (h p))
+
+same_members : (xs ys : List Value) → SetOf xs ≡ SetOf ys → xs ≡ ys
+same_members xs ys e = sym (members-SetOf xs) ∙ ap members e ∙ members-SetOf ys
+
+same_parts : (xs ys : List Value) → Tuple xs ≡ Tuple ys → xs ≡ ys
+same_parts xs ys e = sym (parts-Tuple xs) ∙ ap parts e ∙ parts-Tuple ys
+
+pub set_at : (e : Environment) (t : Ty) (xs : List Value) (v : Value) (b : Bool) → v ≡ SetOf xs → IsRegular v → (AreRegular xs → IsTrue b ↔ AreAllOf e t xs) → IsTrue b ↔ IsOfType e (power t) v
+set_at e t xs v b is r h =
+    let regular = regular_set xs (subst IsRegular is r) in
+    let told = h regular.regular in (
+      λ k. let all = told.0 k in (xs, is, regular.ascending, all.0, all.1),
+      λ p. told.1 (subst (AreAllOf e t) (same_members p.0 xs (sym p.1 ∙ is)) (p.3, p.4)),
+    )
+
+pub no_set : (e : Environment) (t : Ty) (v : Value) → ((xs : List Value) → v ≡ SetOf xs → ⊥) → IsTrue false ↔ IsOfType e (power t) v
+no_set e t v h = never (IsOfType e (power t) v) (λ p. h p.0 p.1)
+
+pub tuple_at : (e : Environment) (ts : Tys) (xs : List Value) (v : Value) (b : Bool) → v ≡ Tuple xs → IsRegular v → (AreRegular xs → IsTrue b ↔ AreOfTypes e ts xs) → IsTrue b ↔ IsOfType e (product ts) v
+tuple_at e ts xs v b is r h =
+    let regular = subst AreRegular (ap parts is ∙ parts-Tuple xs) (regular_parts v r) in
+    let told = h regular in (
+      λ k. (xs, is, told.0 k),
+      λ p. told.1 (subst (AreOfTypes e ts) (same_parts p.0 xs (sym p.1 ∙ is)) p.2),
+    )
+
+pub no_tuple : (e : Environment) (ts : Tys) (v : Value) → ((xs : List Value) → v ≡ Tuple xs → ⊥) → IsTrue false ↔ IsOfType e (product ts) v
+no_tuple e ts v h = never (IsOfType e (product ts) v) (λ p. h p.0 p.1)
+
+nothing : {A : Type 0} (xs : List A) (i : ℕ) → length xs ≤ i → drop i xs ≡ []
+nothing [] zero l = refl
+nothing [] (suc i) l = refl
+nothing (x ∷ xs) zero l = absurd (omega arith)
+nothing (x ∷ xs) (suc i) l = nothing xs i (omega arith)
+
+pub as_many : (e : Environment) (ts : List ZType) (xs : List Value) → AreOfTypes e (types (map type_of ts)) xs → length xs ≡ length ts
+as_many e [] xs h = ap length h
+as_many e (t ∷ ts) xs h = ap length h.2 ∙ ap suc (as_many e ts h.1 h.4)
+
+pub regular_at : (xs : List Value) (i : ℕ) (x : Value) → AreRegular xs → x ≡ get_or xs i x → i < length xs → IsRegular x
+regular_at xs i x h e l = regular_member xs x h (member_at xs i x e l)
+
+module _ (P : Value → Type 0) where
+  next : (xs : List Value) (i : ℕ) (x : Value) → x ≡ get_or xs i x → i < length xs → Every P (drop i xs) ↔ (P x × Every P (drop (suc i) xs))
+  next [] i x at l = absurd (omega arith)
+  next (y ∷ ys) zero x at l = (λ h. (subst P (sym at) h.0, h.1), λ h. (subst P at h.0, h.1))
+  next (y ∷ ys) (suc i) x at l = next ys i x at (omega arith)
+
+  pub every_next : (xs : List Value) (i : ℕ) (x : Value) → x ≡ get_or xs i x → i < length xs → P x → Every P xs ↔ Every P (drop i xs) → Every P xs ↔ Every P (drop (i + 1) xs)
+  every_next xs i x at l p h = rw add-one (let n = next xs i x at l in (λ k. (n.0 (h.0 k)).1, λ k. h.1 (n.1 (p, k))))
+
+  pub every_not : (xs : List Value) (i : ℕ) (x : Value) → x ≡ get_or xs i x → i < length xs → (P x → ⊥) → Every P xs ↔ Every P (drop i xs) → Every P xs → ⊥
+  every_not xs i x at l p h k = p ((next xs i x at l).0 (h.0 k)).0
+
+  past : (xs : List Value) (i : ℕ) → length xs ≤ i → Every P (drop i xs)
+  past [] zero l = tt
+  past [] (suc i) l = tt
+  past (y ∷ ys) zero l = absurd (omega arith)
+  past (y ∷ ys) (suc i) l = past ys i (omega arith)
+
+  pub every_end : (xs : List Value) (i : ℕ) → length xs ≤ i → Every P xs ↔ Every P (drop i xs) → Every P xs
+  every_end xs i l h = h.1 (past xs i l)
+
+module _ (e : Environment) where
+  abbrev Fit : List ZType → List Value → Type 0
+  Fit ts xs = AreOfTypes e (types (map type_of ts)) xs
+
+  step : (ts : List ZType) (xs : List Value) (i : ℕ) (t : ZType) (x : Value) → t ≡ get_or ts i t → x ≡ get_or xs i x → i < length ts → i < length xs → Fit (drop i ts) (drop i xs) ↔ (IsOfType e (type_of t) x × Fit (drop (suc i) ts) (drop (suc i) xs))
+  step [] xs i t x a b l m = absurd (omega arith)
+  step (u ∷ ts) [] i t x a b l m = absurd (omega arith)
+  step (u ∷ ts) (y ∷ ys) zero t x a b l m = (
+    λ h. let same = heads y ys h.0 h.1 h.2 in (subst (λ z. IsOfType e (type_of t) z) (sym b) (subst (λ s. IsOfType e (type_of s) y) (sym a) (subst (IsOfType e (type_of u)) (sym same.0) h.3)), subst (Fit ts) (sym same.1) h.4),
+    λ h. (y, ys, refl, subst (λ s. IsOfType e (type_of s) y) a (subst (IsOfType e (type_of t)) b h.0), h.1),
+  )
+    where
+      heads : (v : Value) (vs : List Value) (w : Value) (ws : List Value) → v ∷ vs ≡ w ∷ ws → (v ≡ w) × (vs ≡ ws)
+      heads v vs w ws h = (cc, cc)
+  step (u ∷ ts) (y ∷ ys) (suc i) t x a b l m = step ts ys i t x a b (omega arith) (omega arith)
+
+  pub fit_next : (ts : List ZType) (xs : List Value) (i : ℕ) (t : ZType) (x : Value) → t ≡ get_or ts i t → x ≡ get_or xs i x → i < length ts → i < length xs → IsOfType e (type_of t) x → Fit ts xs ↔ Fit (drop i ts) (drop i xs) → Fit ts xs ↔ Fit (drop (i + 1) ts) (drop (i + 1) xs)
+  fit_next ts xs i t x a b l m p h = rw add-one (let n = step ts xs i t x a b l m in (λ k. (n.0 (h.0 k)).1, λ k. h.1 (n.1 (p, k))))
+
+  pub fit_not : (ts : List ZType) (xs : List Value) (i : ℕ) (t : ZType) (x : Value) → t ≡ get_or ts i t → x ≡ get_or xs i x → i < length ts → i < length xs → (IsOfType e (type_of t) x → ⊥) → Fit ts xs ↔ Fit (drop i ts) (drop i xs) → Fit ts xs → ⊥
+  fit_not ts xs i t x a b l m p h k = p ((step ts xs i t x a b l m).0 (h.0 k)).0
+
+  gone : (ts : List ZType) (xs : List Value) (i : ℕ) → length ts ≤ i → length xs ≤ i → Fit (drop i ts) (drop i xs)
+  gone ts xs i l m = subst (λ us. Fit us (drop i xs)) (sym (nothing ts i l)) (nothing xs i m)
+
+  pub fit_end : (ts : List ZType) (xs : List Value) (i : ℕ) → length ts ≤ i → length xs ≤ i → Fit ts xs ↔ Fit (drop i ts) (drop i xs) → Fit ts xs
+  fit_end ts xs i l m h = h.1 (gone ts xs i l m)

@@ -1,0 +1,46 @@
+-- A search begins before all events of the schema.
+use Rattle.std.proofs.Common.{◌≡◌, List, map, ap, sym, subst, ◌∙◌}
+use Rattle.std.specs.Option.{option_copied}
+use Rattle.zf_term.specs.declared.globals.Component.{Component}
+use Rattle.zf_term.specs.Definitions.{comp_of, conjunct_of, schema_of}
+use Rattle.zf_term.specs.ResolvedTrees.{resolved_of}
+use Rattle.zf_value.specs.declared.value.Value.{Value}
+use Rattle.zf_meaning.specs.Envs.{environment_of}
+use Rattle.zf_enum.specs.declared.property.Property.{Property}
+use Rattle.zf_enum.specs.Components.{AreAllRanges}
+use Rattle.zf_enum.specs.Ranges.{AreRanges}
+use Rattle.zf_enum.proofs.Started.{ranges_ascend, named_within, due_within, ahead_of}
+use Rattle.zf_enum.proofs.bindings.Bindings.start.Goals as goal
+
+pub over-requires-clause-ascending : goal.over-requires-clause-ascending
+over-requires-clause-ascending c = ranges_ascend (environment_of c.args.env.now) _ c.in_ok-ranges.ranges.items c.in_ok-ranges.ensures.is.0
+
+pub over-requires-clause-named : goal.over-requires-clause-named
+over-requires-clause-named c =
+    let e = environment_of c.args.env.now in
+    let all = subst (λ (ds : List Component). AreAllRanges e (map comp_of ds) c.in_ok-ranges.ranges.items) c.as_slice.ensures c.in_ok-ranges.ensures.is in
+    named_within e (schema_of c.args.flat.now).comps c.in_ok-ranges.ranges.items (option_copied c.args.after) all.0 c.requires.named
+
+pub over-requires-clause-due : goal.over-requires-clause-due
+over-requires-clause-due c =
+    let e = environment_of c.args.env.now in
+    let all = subst (λ (ds : List Component). AreAllRanges e (map comp_of ds) c.in_ok-ranges.ranges.items) c.as_slice.ensures c.in_ok-ranges.ensures.is in
+    due_within e (schema_of c.args.flat.now).comps c.in_ok-ranges.ranges.items (schema_of c.args.flat.now).conjuncts (map resolved_of c.in_ok-conjuncts.conjuncts.items) all.0
+    (c.in_ok-conjuncts.ensures ∙ ap (map conjunct_of) c.as_slice-2.ensures) c.requires.due
+
+pub returns-clause-begins : goal.returns-clause-begins
+returns-clause-begins c =
+    let e = environment_of c.args.env.now in
+    let s = schema_of c.args.flat.now in
+    let all = subst (λ (ds : List Component). AreAllRanges e (map comp_of ds) c.in_ok-ranges.ranges.items) c.as_slice.ensures c.in_ok-ranges.ensures.is in
+    let conjuncts = c.in_ok-conjuncts.ensures ∙ ap (map conjunct_of) c.as_slice-2.ensures in
+    let walk = c.in_ok-over.field-0.walk in
+    record {
+      environment = ap (λ (j : Property). environment_of j.env.now) c.in_ok-over.ensures.problem.0;
+      conjuncts = ap (λ (j : Property). map resolved_of j.conjuncts.items) c.in_ok-over.ensures.problem.0 ∙ conjuncts;
+      ranges = subst (λ (rs : List (List Value)). AreRanges e s.comps rs) (sym c.in_ok-over.ensures.problem.1) all.0;
+      named = c.in_ok-over.ensures.problem.2;
+      none_out = all.1;
+      ahead = ahead_of e s.conjuncts (map resolved_of c.in_ok-conjuncts.conjuncts.items) c.in_ok-ranges.ranges.items walk.ranges (option_copied c.args.after) walk.ahead conjuncts c.in_ok-over.ensures.problem.1 c.in_ok-over.ensures.events;
+      first = c.in_ok-over.ensures.first;
+    }

@@ -1,0 +1,8 @@
+use Rattle.std.proofs.Common.{◌≡◌, map, drop}
+use Rattle.zf_term.specs.Definitions.{globals_of, set_of, sets_of}
+use Rattle.zf_finite.specs.Finite.{one_bounds}
+use Rattle.zf_enum.proofs.bounding.+bounds.Given as goal
+
+abbrev pub invariant-one_bounds-loop-domain : goal.invariant-one_bounds-loop-domain
+invariant-one_bounds-loop-domain l =
+    one_bounds (globals_of l.globals) (sets_of (map set_of l.domains)) ≡ one_bounds (globals_of l.globals) (sets_of (map set_of (drop l.domain-index l.domain-items)))

@@ -1,0 +1,7 @@
+use Rattle.std.proofs.Common.{take}
+use Rattle.zf_value.specs.Sets.{IsMember}
+use Rattle.zf_enum.specs.Parts.{Lists}
+use Rattle.zf_enum.proofs.kept.kept.Given as goal
+
+abbrev pub invariant-loop-value : goal.invariant-loop-value
+invariant-loop-value g l = Lists (λ v. IsMember v (take l.value-index l.values) × g.T.Test.passes l.test v) l.out.items

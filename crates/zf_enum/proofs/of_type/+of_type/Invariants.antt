@@ -1,0 +1,14 @@
+use Rattle.std.proofs.Common.{◌↔◌, map, drop}
+use Rattle.zf_term.specs.Types.{type_of, types}
+use Rattle.zf_value.specs.Sets.{AreRegular, Every}
+use Rattle.zf_meaning.specs.Envs.{environment_of}
+use Rattle.zf_meaning.specs.Rows.{IsOfType, AreOfTypes}
+use Rattle.zf_enum.proofs.of_type.+of_type.Given as goal
+
+abbrev pub invariant-are_all_of-loop-value : goal.invariant-are_all_of-loop-value
+invariant-are_all_of-loop-value l =
+    AreRegular l.values → Every (λ z. IsOfType (environment_of l.env) (type_of l.ztype) z) l.values ↔ Every (λ z. IsOfType (environment_of l.env) (type_of l.ztype) z) (drop l.value-index l.values)
+
+abbrev pub invariant-are_each_of-loop-place : goal.invariant-are_each_of-loop-place
+invariant-are_each_of-loop-place l =
+    AreRegular l.values → AreOfTypes (environment_of l.env) (types (map type_of l.ztypes)) l.values ↔ AreOfTypes (environment_of l.env) (types (map type_of (drop l.place l.ztypes))) (drop l.place l.values)

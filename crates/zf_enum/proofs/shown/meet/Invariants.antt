@@ -1,0 +1,6 @@
+use Rattle.std.proofs.Common.{take}
+use Rattle.zf_value.specs.Sets.{AreRegular}
+use Rattle.zf_enum.proofs.shown.meet.Given as goal
+
+abbrev pub invariant-loop-place : goal.invariant-loop-place
+invariant-loop-place g l = AreRegular (take l.place (g.R.Row.values l.row))

@@ -1,0 +1,61 @@
+-- What lies in the declared sets of a component, and which of them are out.
+use Rattle.std.specs.Prelude.{◌⊎◌, Bool, true, false, Option, Some, None}
+use Rattle.zf_term.specs.declared.extent.Infinite.{Infinite}
+use Rattle.zf_term.specs.Definitions.{DeclaredSet, plain, carrier, sides, DeclaredSets, no_sets, set}
+use Rattle.zf_term.specs.Extents.{direct}
+use Rattle.zf_term.specs.ResolvedTrees.{ResolvedTree}
+use Rattle.zf_term.specs.Types.{Ty, has_numbers}
+use Rattle.zf_value.specs.declared.value.Value.{Value}
+use Rattle.zf_value.specs.declared.value.Outcome.{Outcome}
+use Rattle.zf_value.specs.declared.value.Outcome.TheVariants.{Is, Out}
+use Rattle.zf_value.specs.Sets.{IsMember, members}
+use Rattle.zf_meaning.specs.Environments.{Environment, globally}
+use Rattle.zf_meaning.specs.Meaning.{HasOutcome}
+use Rattle.zf_meaning.specs.Rows.{IsOfType}
+use Rattle.zf_meaning.specs.Carriers.{IsCarrier}
+use Rattle.zf_meaning.specs.Symbols.{IsIn}
+
+-- a member of the set that has such an outcome; what is undefined has no members
+abbrev pub IsInOne : (Outcome → Type 0) → Value → Type 0
+IsInOne P v = (w : Value) × P (Is w) × IsMember v (members w)
+
+-- a direct infinite set only filters
+abbrev pub IsInPlain : Environment → Option Infinite → ResolvedTree → Value → Type 0
+IsInPlain e (Some s) t v = IsIn s v
+IsInPlain e None t v = IsInOne (HasOutcome (globally e) t) v
+
+-- so does a type of which numbers are parts
+abbrev pub IsInCarrier : Environment → (numbers : Bool) → Ty → Value → Type 0
+IsInCarrier e true t v = IsOfType e t v
+IsInCarrier e false t v = IsInOne (IsCarrier e t) v
+
+abbrev mutual
+  pub IsInSet : Environment → DeclaredSet → Value → Type 0
+  IsInSet e (plain t) v = IsInPlain e (direct e.globals t) t v
+  IsInSet e (carrier t) v = IsInCarrier e (has_numbers t) t v
+  IsInSet e (sides ds es) v = IsInSets e ds v ⊎ IsInSets e es v
+
+  -- in each of them
+  pub IsInSets : Environment → DeclaredSets → Value → Type 0
+  IsInSets e no_sets v = Unit {0}
+  IsInSets e (set d ds) v = IsInSet e d v × IsInSets e ds v
+
+-- ---- declared sets that are out
+
+abbrev pub IsPlainOut : Environment → Option Infinite → ResolvedTree → Type 0
+IsPlainOut e (Some s) t = ⊥
+IsPlainOut e None t = HasOutcome (globally e) t Out
+
+abbrev pub IsCarrierOut : Environment → (numbers : Bool) → Ty → Type 0
+IsCarrierOut e true t = ⊥
+IsCarrierOut e false t = IsCarrier e t Out
+
+abbrev mutual
+  pub IsSetOut : Environment → DeclaredSet → Type 0
+  IsSetOut e (plain t) = IsPlainOut e (direct e.globals t) t
+  IsSetOut e (carrier t) = IsCarrierOut e (has_numbers t) t
+  IsSetOut e (sides ds es) = IsOneOut e ds ⊎ IsOneOut e es
+
+  pub IsOneOut : Environment → DeclaredSets → Type 0
+  IsOneOut e no_sets = ⊥
+  IsOneOut e (set d ds) = IsSetOut e d ⊎ IsOneOut e ds

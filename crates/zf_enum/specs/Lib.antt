@@ -1,0 +1,12 @@
+pub mod Property
+pub mod PropertyLaws
+pub mod Dues
+pub mod DeclaredSets
+pub mod Ranges
+pub mod Events
+pub mod Parts
+pub mod Filters
+pub mod Components
+pub mod Starts
+pub mod Searches
+pub mod OfTypes

@@ -1,0 +1,16 @@
+-- Which values are of a type, form by form. No public clause rests on this.
+use Rattle.std.specs.Prelude.{◌≡◌, ◌≤◌, ℤ, List, length, FitsSigned}
+use Rattle.std.specs.Int.{w64}
+use Rattle.zf_term.specs.Types.{Ty}
+use Rattle.zf_value.specs.declared.TheConstants.{SET_MAX}
+use Rattle.zf_value.specs.declared.value.Value.{Value, Int}
+use Rattle.zf_value.specs.Sets.{Every}
+use Rattle.zf_meaning.specs.Environments.{Environment}
+use Rattle.zf_meaning.specs.Rows.{IsOfType}
+
+abbrev pub IsNumberHere : Value → Type 0
+IsNumberHere v = (n : ℤ) × (v ≡ Int n) × FitsSigned w64 n
+
+-- no more values than a set may have, each of the type
+abbrev pub AreAllOf : Environment → Ty → List Value → Type 0
+AreAllOf e t xs = (length xs ≤ SET_MAX) × Every (λ z. IsOfType e t z) xs

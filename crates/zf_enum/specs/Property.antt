@@ -1,0 +1,56 @@
+-- The property of a schema in an environment, as the conjuncts of a walk.
+use Rattle.std.specs.Prelude.{ℕ, ◌+◌, max, List, [], ◌∷◌, length, Option, Some, None, slice_get}
+use Rattle.zf_term.specs.declared.resolved.Reference.{Reference}
+use Rattle.zf_term.specs.declared.resolved.Reference.TheVariants.{Component, Local, Global}
+use Rattle.zf_term.specs.Definitions.{Schema}
+use Rattle.zf_term.specs.ResolvedTrees.{ResolvedTree}
+use Rattle.zf_term.specs.TermLaws.{references}
+use Rattle.zf_value.specs.declared.value.Value.{Value}
+use Rattle.zf_value.specs.declared.value.Truth.{Truth}
+use Rattle.zf_value.specs.declared.value.Truth.TheVariants as truth
+use Rattle.zf_walk.specs.declared.judge.Truth as walk
+use Rattle.zf_walk.specs.declared.judge.Truth.TheVariants.{True, False, Out}
+use Rattle.zf_walk.specs.Conjuncts.{Conjuncts}
+use Rattle.zf_meaning.specs.Environments.{Environment}
+use Rattle.zf_meaning.specs.InRow.{in_row}
+use Rattle.zf_meaning.specs.Meaning.{IsTruth}
+
+-- ---- how many first components a term needs
+
+-- the place of a component, from 1
+abbrev pub place_named : Reference → ℕ
+place_named (Component i) = i + 1
+place_named (Local i) = 0
+place_named (Global i) = 0
+
+abbrev pub greatest_place : List Reference → ℕ
+greatest_place [] = 0
+greatest_place (r ∷ rs) = max (place_named r) (greatest_place rs)
+
+-- the greatest place, from 1, of a component that the term names; 0 where it names none
+abbrev pub due : ResolvedTree → ℕ
+due t = greatest_place (references t)
+
+abbrev pub due_of : Option ResolvedTree → ℕ
+due_of None = 0
+due_of (Some t) = due t
+
+-- ---- truths
+
+abbrev pub HasTruth : Environment → List Value → Option ResolvedTree → Truth → Type 0
+HasTruth e row None t = ⊥
+HasTruth e row (Some p) t = IsTruth (in_row e row) p t
+
+-- the truth of a predicate that a walk calls so
+abbrev pub told : walk.Truth → Truth
+told True = truth.True
+told False = truth.False
+told Out = truth.Out
+
+-- the conjuncts, each with the number of components that it needs and its truth on a row
+abbrev pub property : Environment → List ResolvedTree → Conjuncts Value
+property e ts = record {
+  number = length ts;
+  due = λ c. due_of (slice_get ts c);
+  says = λ c row t. HasTruth e row (slice_get ts c) (told t);
+}

@@ -1,0 +1,64 @@
+-- The property of a schema has one truth on a row, and keeps it on longer ones. No public clause rests on this.
+use Rattle.std.proofs.Common.{◌≡◌, ℕ, ◌+◌, ◌<◌, ◌≤◌, max, List, [], ◌∷◌, ◌++◌, length, Option, Some, None, refl, sym, ap, ◌∙◌, arith}
+use Rattle.std.specs.Prelude.{slice_get}
+use Rattle.zf_term.specs.declared.resolved.Reference.{Reference}
+use Rattle.zf_term.specs.declared.resolved.Reference.TheVariants.{Component, Local, Global}
+use Rattle.zf_term.specs.ResolvedTrees.{ResolvedTree}
+use Rattle.zf_term.specs.TermLaws.{references}
+use Rattle.zf_value.specs.declared.value.Value.{Value}
+use Rattle.zf_value.specs.declared.value.Truth.{Truth}
+use Rattle.zf_value.specs.declared.value.Truth.TheVariants as truth
+use Rattle.zf_walk.specs.declared.judge.Truth as walk
+use Rattle.zf_walk.specs.declared.judge.Truth.TheVariants.{True, False, Out}
+use Rattle.zf_walk.specs.Conjuncts.{Conjuncts, HaveOneTruth, KeepTruths}
+use Rattle.zf_meaning.specs.Environments.{Environment}
+use Rattle.zf_meaning.specs.Laws.{AreBelow, UsesFirst, IsBelow}
+use Rattle.zf_meaning.proofs.Unique.{one_truth}
+use Rattle.zf_meaning.proofs.Stays.{truths_stay}
+use Rattle.zf_meaning.specs.InRow.{in_row}
+use Rattle.zf_enum.specs.Property.{place_named, greatest_place, due, due_of, HasTruth, told, property}
+
+-- ---- a term uses the components that are due
+
+below : (r : Reference) (k : ℕ) → place_named r ≤ k → IsBelow k r
+below (Component i) k h = omega arith
+below (Local i) k h = tt
+below (Global i) k h = tt
+
+are_below : (rs : List Reference) (k : ℕ) → greatest_place rs ≤ k → AreBelow k rs
+are_below [] k h = tt
+are_below (r ∷ rs) k h = (below r k (omega arith), are_below rs k (omega arith))
+
+pub uses_first : (t : ResolvedTree) (k : ℕ) → due t ≤ k → UsesFirst k t
+uses_first t k h = are_below (references t) k h
+
+-- ---- one truth
+
+abbrev walked : Truth → walk.Truth
+walked truth.True = True
+walked truth.False = False
+walked truth.Out = Out
+
+walked-told : (t : walk.Truth) → walked (told t) ≡ t
+walked-told True = refl
+walked-told False = refl
+walked-told Out = refl
+
+one_told : (t u : walk.Truth) → told t ≡ told u → t ≡ u
+one_told t u e = sym (walked-told t) ∙ ap walked e ∙ walked-told u
+
+one_of : (e : Environment) (row : List Value) (p : Option ResolvedTree) (t u : Truth) → HasTruth e row p t → HasTruth e row p u → t ≡ u
+one_of e row None t u a b = absurd a
+one_of e row (Some p) t u a b = one_truth (in_row e row) p t u a b
+
+pub has_one_truth : (e : Environment) (ts : List ResolvedTree) → HaveOneTruth (property e ts)
+has_one_truth e ts c row t u l d a b = one_told t u (one_of e row (slice_get ts c) (told t) (told u) a b)
+
+-- ---- kept truths
+
+kept_by : (e : Environment) (row more : List Value) (p : Option ResolvedTree) (t : Truth) → due_of p ≤ length row → HasTruth e row p t → HasTruth e (row ++ more) p t
+kept_by e row more None t d a = absurd a
+kept_by e row more (Some p) t d a = (truths_stay (in_row e row) more p t (uses_first p (length row) d)).0 a
+
+pub keeps_truths : (e : Environment) (ts : List ResolvedTree) → KeepTruths (property e ts)
+keeps_truths e ts c row more t l d a = kept_by e row more (slice_get ts c) (told t) d a

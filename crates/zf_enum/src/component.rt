@@ -1,0 +1,71 @@
+//! The ranges of components.
+ghost use Rattle.std.specs.Prelude.{◌≡◌, IsTrue, IfOk, IfErr, map};
+ghost use Rattle.std.specs.List.{AllByRecursion};
+ghost use Rattle.zf_term.specs.Definitions.{comp_of, sets_of};
+ghost use Rattle.zf_value.specs.Sets.{AreRegular};
+ghost use Rattle.zf_finite.specs.Finite.{one_bounds};
+ghost use Rattle.zf_meaning.specs.Envs.{environment_of};
+ghost use Rattle.zf_enum.specs.Components.{AreAllRanges, IsOneRange, IsOutBy};
+ghost use Rattle.zf_enum.specs.Starts.{Refuses};
+
+use crate::known::Known;
+use crate::lack::Lack;
+use crate::ranges::range;
+use crate::start_fault::StartFault;
+use bumpalo::Bump;
+use std::alloc::{AllocError, Global};
+use zf_meaning::env::Env;
+use zf_term::globals::Component;
+use zf_value::value::Value;
+use zf_walk::Range;
+
+/// The range of each component.
+pub(crate) fn ranges<'a>(
+    alloc: Global,
+    arena: &'a Bump,
+    components: &[Component<'a>],
+    env: &Env<'_, 'a>,
+) -> Result<Vec<Range<Known>>, StartFault>
+    requires { AllByRecursion (λ c. IsTrue (one_bounds (environment_of env.now).globals (sets_of c.sets))) (map comp_of components.now) }
+    ensures is { IfOk result (λ rs. AreAllRanges (environment_of env.now) (map comp_of components.now) rs.items) }
+    ensures refused { IfErr result (Refuses (environment_of env.now) (map comp_of components.now)) }
+{
+    let mut ranges = Vec::with_capacity(alloc, components.len())?;
+    for place in 0..components.len() {
+        ranges.push(range_at(alloc, arena, &components[place], place, env)?)?;
+    }
+    Ok(ranges)
+}
+
+/// The range of the component at this place.
+fn range_at<'a>(
+    alloc: Global,
+    arena: &'a Bump,
+    component: &Component<'a>,
+    place: usize,
+    env: &Env<'_, 'a>,
+) -> Result<Range<Known>, StartFault>
+    requires { IsTrue (one_bounds (environment_of env.now).globals (sets_of (comp_of component.now).sets)) }
+    ensures is { IfOk result (IsOneRange (environment_of env.now) (comp_of component.now)) }
+    ensures refused { IfErr result (IsOutBy (environment_of env.now) (comp_of component.now) place) }
+{
+    match range(alloc, arena, component.domains.get().as_slice(), env) {
+        Ok(values) => Ok(Range {
+            values: known(alloc, values)?,
+        }),
+        Err(Lack::Out) => Err(StartFault::DeclaredOut(place)),
+        Err(Lack::OutOfMemory) => Err(StartFault::OutOfMemory),
+    }
+}
+
+/// The same values, known to be regular.
+fn known(alloc: Global, values: Vec<Value>) -> Result<Vec<Known>, AllocError>
+    requires { AreRegular values.items }
+    ensures { IfOk result (λ known. known.items ≡ values.items) }
+{
+    let mut known = Vec::with_capacity(alloc, values.len())?;
+    for value in values {
+        known.push(Known::new(value))?;
+    }
+    Ok(known)
+}

@@ -1,0 +1,36 @@
+//! Declared sets that only filter.
+ghost use Rattle.std.specs.Prelude.{◌↔◌, IsTrue};
+ghost use Rattle.zf_enum.specs.Filters.{IsFrom};
+
+use crate::kept::Test;
+use zf_term::extent::Infinite;
+use zf_value::value::Value;
+
+/// Whether a value is in an infinite set.
+#[derive(Drop)]
+pub(crate) struct InNumbers {
+    pub(crate) set: Infinite,
+}
+
+impl Test for InNumbers {
+    ghost use Rattle.zf_meaning.specs.Symbols.{IsIn};
+
+    ghost passes = { λ t v. IsIn t.set v };
+
+    fn admits(&self, value: &Value) -> bool {
+        match value.number() {
+            Some(n) => is_from(self.set, n),
+            None => false,
+        }
+    }
+}
+
+fn is_from(set: Infinite, n: i64) -> bool
+    ensures { IsTrue result ↔ IsFrom set n }
+{
+    match set {
+        Infinite::Num => true,
+        Infinite::Nat => n >= 0,
+        Infinite::Nat1 => n >= 1,
+    }
+}

@@ -1,0 +1,93 @@
+//! Regular values.
+ghost use Rattle.std.specs.Prelude.{◌≡◌, ◌∷◌};
+ghost use Rattle.zf_value.specs.Sets.{IsRegular};
+
+use std::cmp::Ordering;
+use std::marker::Model;
+use zf_value::value::Value;
+
+/// A value in which the list of each set is ascending.
+#[derive(Debug, Drop)]
+pub struct Known {
+    value: Value,
+}
+
+impl Model for Known {
+    ghost use Rattle.zf_value.specs.declared.value.Value.{Value as Plain};
+    ghost use Rattle.zf_value.specs.Sets.{IsRegular};
+    ghost use Rattle.zf_value.specs.contracts.value.Value as stored;
+    ghost use Rattle.std.specs.Coded.{codes};
+
+    ghost Value = { Plain };
+
+    ghost coded = { Prim.hlevel (codes, stored.the_row.coded) };
+
+    ghost view = { λ k. k.value };
+
+    ghost invariant = { λ k. IsRegular k.value };
+}
+
+impl Known {
+    pub fn new(value: Value) -> Known
+        requires { IsRegular value }
+        ensures { result ≡ value }
+    {
+        Known { value }
+    }
+
+    pub fn value(&self) -> &Value
+        ensures is { result.now ≡ self.now }
+        ensures regular { IsRegular self.now }
+    {
+        &self.value
+    }
+}
+
+impl PartialEq for Known {
+    ghost use Rattle.zf_value.specs.contracts.value.ValuePartialEq.TheImpl as of_values;
+    ghost use Rattle.zf_value.specs.contracts.value.ValuePartialEq.TheImpl.Laws as proved;
+
+    ghost eq = { of_values.ghosts.eq };
+
+    ghost laws = { proved.laws-law };
+
+    fn eq(&self, other: &Known) -> bool {
+        self.value == other.value
+    }
+}
+
+impl Eq for Known {
+    ghost use Rattle.zf_value.specs.contracts.value.ValueEq.TheImpl.Laws as proved;
+
+    ghost laws = { proved.laws-law };
+}
+
+impl PartialOrd for Known {
+    ghost use Rattle.zf_value.specs.contracts.value.ValuePartialOrd.TheImpl as of_values;
+    ghost use Rattle.zf_value.specs.contracts.value.ValuePartialOrd.TheImpl.Laws as proved;
+
+    ghost partial_cmp = { of_values.ghosts.partial_cmp };
+
+    ghost laws = { proved.laws-law };
+
+    fn partial_cmp(&self, other: &Known) -> Option<Ordering> {
+        self.value.partial_cmp(&other.value)
+    }
+}
+
+impl Ord for Known {
+    ghost use Rattle.zf_value.specs.contracts.value.ValueOrd.TheImpl as of_values;
+    ghost use Rattle.zf_value.specs.contracts.value.ValueOrd.TheImpl.Laws as proved;
+
+    ghost cmp = { of_values.ghosts.cmp };
+
+    ghost total = { proved.total-law };
+
+    ghost matches_partial_cmp = { proved.matches_partial_cmp-law };
+
+    ghost matches_eq = { proved.matches_eq-law };
+
+    fn cmp(&self, other: &Known) -> Ordering {
+        self.value.cmp(&other.value)
+    }
+}

@@ -1,0 +1,109 @@
+//! The values of a declared set that is no disjunction.
+ghost use Rattle.std.specs.Prelude.{◌≡◌, true, IfOk, IfErr};
+ghost use Rattle.zf_term.specs.Definitions.{plain, carrier};
+ghost use Rattle.zf_term.specs.Types.{type_of};
+ghost use Rattle.zf_term.specs.Written.{written_of};
+ghost use Rattle.zf_value.specs.Sets.{IsRegularSet, IsRegularOutcome};
+ghost use Rattle.zf_meaning.specs.Environments.{globally};
+ghost use Rattle.zf_meaning.specs.Envs.{environment_of};
+ghost use Rattle.zf_meaning.specs.Meaning.{HasOutcome};
+ghost use Rattle.zf_finite.specs.Finite as spec;
+ghost use Rattle.zf_enum.specs.DeclaredSets.{IsSetOut};
+ghost use Rattle.zf_enum.specs.Parts.{Narrows, IsAllOf, Tells};
+
+use crate::filters::InNumbers;
+use crate::kept::kept;
+use crate::lack::Lack;
+use crate::members::{members_among, members_of};
+use crate::of_type::OfType;
+use bumpalo::Bump;
+use std::alloc::{AllocError, Global};
+use zf_meaning::carrier::carrier_of;
+use zf_meaning::env::Env;
+use zf_meaning::value::value_of;
+use zf_term::resolved::Resolved;
+use zf_term::written::Written;
+use zf_term::ztype::ZType;
+use zf_value::value::{Outcome, Value};
+
+/// The members of a set that a declaration names, which is no infinite one.
+pub(crate) fn of_plain<'a>(
+    alloc: Global,
+    arena: &'a Bump,
+    set: &Written<'a>,
+    env: &Env<'_, 'a>,
+) -> Result<Vec<Value>, Lack>
+    ensures is { spec.bounds (environment_of env.now).globals (plain (written_of set.now)) ≡ true → IfOk result (λ xs. IsAllOf (environment_of env.now) (plain (written_of set.now)) xs.items) }
+    ensures regular { IfOk result (λ xs. IsRegularSet xs.items) }
+    ensures out { spec.bounds (environment_of env.now).globals (plain (written_of set.now)) ≡ true → IfErr result (λ lack. Tells lack (IsSetOut (environment_of env.now) (plain (written_of set.now)))) }
+{
+    let outcome = outcome_of(arena, set, env)?;
+    members_of(alloc, &outcome)
+}
+
+/// The outcome of the set that a declaration names. No component is in scope there.
+fn outcome_of<'a>(
+    arena: &'a Bump,
+    set: &Written<'a>,
+    env: &Env<'_, 'a>,
+) -> Result<Outcome, AllocError>
+    ensures is { IfOk result (HasOutcome (globally (environment_of env.now)) (written_of set.now)) }
+    ensures regular { IfOk result IsRegularOutcome }
+{
+    let term: Resolved<'a> = set.resolved(arena)?;
+    let none: &[Value] = &[];
+    value_of(&term, &none, env)
+}
+
+/// The members of the carrier of a type without numbers.
+pub(crate) fn of_carrier<'a>(
+    alloc: Global,
+    ztype: &ZType<'a>,
+    env: &Env<'_, 'a>,
+) -> Result<Vec<Value>, Lack>
+    ensures is { spec.bounds (environment_of env.now).globals (carrier (type_of ztype.now)) ≡ true → IfOk result (λ xs. IsAllOf (environment_of env.now) (carrier (type_of ztype.now)) xs.items) }
+    ensures regular { IfOk result (λ xs. IsRegularSet xs.items) }
+    ensures out { spec.bounds (environment_of env.now).globals (carrier (type_of ztype.now)) ≡ true → IfErr result (λ lack. Tells lack (IsSetOut (environment_of env.now) (carrier (type_of ztype.now)))) }
+{
+    let outcome = carrier_of(ztype, env)?;
+    members_of(alloc, &outcome)
+}
+
+/// Those of the values that lie in the set that a declaration names.
+pub(crate) fn among_plain<'a>(
+    alloc: Global,
+    arena: &'a Bump,
+    values: &[Value],
+    set: &Written<'a>,
+    env: &Env<'_, 'a>,
+) -> Result<Vec<Value>, Lack>
+    requires { IsRegularSet values.now }
+    ensures is { IfOk result (λ xs. Narrows (environment_of env.now) (plain (written_of set.now)) values.now xs.items) }
+    ensures out { IfErr result (λ lack. Tells lack (IsSetOut (environment_of env.now) (plain (written_of set.now)))) }
+{
+    if let Some(infinite) = set.direct(env.globals()) {
+        let test = InNumbers { set: infinite };
+        return Ok(kept(alloc, values, &test)?);
+    }
+    let outcome = outcome_of(arena, set, env)?;
+    members_among(alloc, values, outcome)
+}
+
+/// Those of the values that lie in the carrier of the type, or, where numbers are parts of them, are of the type.
+pub(crate) fn among_carrier<'a>(
+    alloc: Global,
+    values: &[Value],
+    ztype: &ZType<'a>,
+    env: &Env<'_, 'a>,
+) -> Result<Vec<Value>, Lack>
+    requires { IsRegularSet values.now }
+    ensures is { IfOk result (λ xs. Narrows (environment_of env.now) (carrier (type_of ztype.now)) values.now xs.items) }
+    ensures out { IfErr result (λ lack. Tells lack (IsSetOut (environment_of env.now) (carrier (type_of ztype.now)))) }
+{
+    if ztype.has_numbers() {
+        let test = OfType { ztype, env };
+        return Ok(kept(alloc, values, &test)?);
+    }
+    let outcome = carrier_of(ztype, env)?;
+    members_among(alloc, values, outcome)
+}

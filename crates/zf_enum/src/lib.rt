@@ -1,0 +1,25 @@
+//! The bindings of a schema in an environment: the ranges of its components, and the walk over their rows.
+#![tactic(auto)]
+
+mod bindings;
+mod bounding;
+mod component;
+mod due;
+mod filters;
+mod kept;
+mod known;
+mod lack;
+pub mod laws;
+mod leaves;
+mod members;
+mod of_type;
+mod property;
+mod ranges;
+mod shown;
+mod start;
+mod start_fault;
+
+pub use bindings::Bindings;
+pub use known::Known;
+pub use property::Property;
+pub use start_fault::StartFault;

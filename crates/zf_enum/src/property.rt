@@ -1,0 +1,63 @@
+//! The property of a schema in an environment, as the judge of a walk.
+ghost use Rattle.std.specs.Prelude.{◌≡◌, ◌<◌, ◌^◌, ℕ, map, slice_get};
+ghost use Rattle.zf_term.specs.ResolvedTrees.{resolved_of};
+ghost use Rattle.zf_enum.specs.Property.{due_of, told};
+
+use crate::due::due;
+use crate::known::Known;
+use crate::shown::{Shown, meet};
+use std::alloc::AllocError;
+use zf_meaning::env::Env;
+use zf_meaning::value::truth_of;
+use zf_term::resolved::Resolved;
+use zf_value::value;
+use zf_walk::{Judge, Row, Truth};
+
+/// The conjuncts of a schema, in an environment.
+#[derive(Drop)]
+pub struct Property<'e, 'g, 'a> {
+    pub conjuncts: Vec<Resolved<'a>>,
+    pub env: &'e Env<'g, 'a>,
+    ghost small: { (c : ℕ) → due_of (slice_get (map resolved_of conjuncts.items) c) < 2 ^ 64 },
+}
+
+impl<'e, 'g, 'a> Judge<Known> for Property<'e, 'g, 'a> {
+    ghost use Rattle.std.specs.Prelude.{map};
+    ghost use Rattle.zf_term.specs.ResolvedTrees.{resolved_of};
+    ghost use Rattle.zf_meaning.specs.Envs.{environment_of};
+    ghost use Rattle.zf_enum.specs.Property as spec;
+    ghost use Rattle.zf_enum.specs.PropertyLaws.{has_one_truth, keeps_truths};
+
+    ghost conjuncts = { λ j. spec.property (environment_of j.env.now) (map resolved_of j.conjuncts.items) };
+
+    ghost one_truth = { λ j. has_one_truth (environment_of j.env.now) (map resolved_of j.conjuncts.items) };
+
+    ghost kept = { λ j. keeps_truths (environment_of j.env.now) (map resolved_of j.conjuncts.items) };
+
+    fn count(&self) -> usize {
+        self.conjuncts.len()
+    }
+
+    fn due(&self, conjunct: usize) -> usize {
+        due(&self.conjuncts[conjunct])
+    }
+
+    #[tactic(auto, using(crate::proofs::Judging::has_truth))]
+    fn judge<R: Row<Known>>(&self, conjunct: usize, row: &R) -> Result<Truth, AllocError> {
+        meet(row);
+        let shown = Shown { row };
+        let truth = truth_of(&self.conjuncts[conjunct], &shown, self.env)?;
+        Ok(walked(truth))
+    }
+}
+
+/// What a walk calls a truth.
+fn walked(truth: value::Truth) -> Truth
+    ensures { told result ≡ truth }
+{
+    match truth {
+        value::Truth::True => Truth::True,
+        value::Truth::False => Truth::False,
+        value::Truth::Out => Truth::Out,
+    }
+}

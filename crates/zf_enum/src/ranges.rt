@@ -1,0 +1,110 @@
+//! The values that lie in declared sets.
+ghost use Rattle.std.specs.Prelude.{◌≡◌, ◌≤◌, ◌<◌, true, IfOk, IfErr, MatchOption, length, map, slice_get};
+ghost use Rattle.zf_term.specs.Definitions.{globals_of, set_of, sets_of};
+ghost use Rattle.zf_value.specs.Sets.{IsRegularSet};
+ghost use Rattle.zf_meaning.specs.Envs.{environment_of};
+ghost use Rattle.zf_finite.specs.Finite as spec;
+ghost use Rattle.zf_enum.specs.DeclaredSets.{IsSetOut, IsOneOut};
+ghost use Rattle.zf_enum.specs.Parts.{Narrows, NarrowsAll, IsAllOf, IsAllOfEach, Tells};
+
+use crate::bounding::first_bounding;
+use crate::lack::Lack;
+use crate::leaves::{among_carrier, among_plain, of_carrier, of_plain};
+use crate::members::{copied, merged};
+use bumpalo::Bump;
+use std::alloc::Global;
+use zf_meaning::env::Env;
+use zf_term::globals::Domain;
+use zf_value::value::Value;
+
+/// The values that lie in each of the declared sets, of which one bounds; none where none does.
+#[cycle(listing)]
+pub(crate) fn range<'a>(
+    alloc: Global,
+    arena: &'a Bump,
+    domains: &[Domain<'a>],
+    env: &Env<'_, 'a>,
+) -> Result<Vec<Value>, Lack>
+    ensures is { spec.one_bounds (environment_of env.now).globals (sets_of (map set_of domains.now)) ≡ true → IfOk result (λ xs. IsAllOfEach (environment_of env.now) (sets_of (map set_of domains.now)) xs.items) }
+    ensures regular { IfOk result (λ xs. IsRegularSet xs.items) }
+    ensures out { spec.one_bounds (environment_of env.now).globals (sets_of (map set_of domains.now)) ≡ true → IfErr result (λ lack. Tells lack (IsOneOut (environment_of env.now) (sets_of (map set_of domains.now)))) }
+{
+    let place = first_bounding(domains, env.globals());
+    if place >= domains.len() {
+        return Ok(Vec::new(alloc));
+    }
+    let found = values(alloc, arena, &domains[place], env)?;
+    let found = narrowed(alloc, arena, &domains[..place], found, env)?;
+    let found = narrowed(alloc, arena, &domains[place + 1..], found, env)?;
+    Ok(found)
+}
+
+/// The values that lie in a declared set that bounds.
+#[cycle(listing)]
+#[tactic(auto, using(zf_term::proofs::SetsSeen::seen))]
+fn values<'a>(
+    alloc: Global,
+    arena: &'a Bump,
+    domain: &Domain<'a>,
+    env: &Env<'_, 'a>,
+) -> Result<Vec<Value>, Lack>
+    ensures is { spec.bounds (environment_of env.now).globals (set_of domain.now) ≡ true → IfOk result (λ xs. IsAllOf (environment_of env.now) (set_of domain.now) xs.items) }
+    ensures regular { IfOk result (λ xs. IsRegularSet xs.items) }
+    ensures out { spec.bounds (environment_of env.now).globals (set_of domain.now) ≡ true → IfErr result (λ lack. Tells lack (IsSetOut (environment_of env.now) (set_of domain.now))) }
+{
+    match domain {
+        Domain::Plain(set) => of_plain(alloc, arena, set.get(), env),
+        Domain::Carrier(ztype) => of_carrier(alloc, ztype, env),
+        Domain::Either(left, right) => {
+            let left = range(alloc, arena, left.get().as_slice(), env)?;
+            let right = range(alloc, arena, right.get().as_slice(), env)?;
+            Ok(merged(left, right)?)
+        }
+    }
+}
+
+/// Those of the values that lie in each of the declared sets.
+#[cycle(narrowing)]
+fn narrowed<'a>(
+    alloc: Global,
+    arena: &'a Bump,
+    domains: &[Domain<'a>],
+    values: Vec<Value>,
+    env: &Env<'_, 'a>,
+) -> Result<Vec<Value>, Lack>
+    requires { IsRegularSet values.items }
+    ensures is { IfOk result (λ xs. NarrowsAll (environment_of env.now) (sets_of (map set_of domains.now)) values.items xs.items) }
+    ensures out { IfErr result (λ lack. Tells lack (IsOneOut (environment_of env.now) (sets_of (map set_of domains.now)))) }
+{
+    let mut found = values;
+    for domain in domains {
+        found = narrowed_by(alloc, arena, domain, found, env)?;
+    }
+    Ok(found)
+}
+
+/// Those of the values that lie in the declared set.
+#[cycle(narrowing)]
+#[tactic(auto, using(zf_term::proofs::SetsSeen::seen))]
+fn narrowed_by<'a>(
+    alloc: Global,
+    arena: &'a Bump,
+    domain: &Domain<'a>,
+    values: Vec<Value>,
+    env: &Env<'_, 'a>,
+) -> Result<Vec<Value>, Lack>
+    requires { IsRegularSet values.items }
+    ensures is { IfOk result (λ xs. Narrows (environment_of env.now) (set_of domain.now) values.items xs.items) }
+    ensures out { IfErr result (λ lack. Tells lack (IsSetOut (environment_of env.now) (set_of domain.now))) }
+{
+    match domain {
+        Domain::Plain(set) => among_plain(alloc, arena, &values, set.get(), env),
+        Domain::Carrier(ztype) => among_carrier(alloc, &values, ztype, env),
+        Domain::Either(left, right) => {
+            let others = copied(alloc, &values)?;
+            let left = narrowed(alloc, arena, left.get().as_slice(), values, env)?;
+            let right = narrowed(alloc, arena, right.get().as_slice(), others, env)?;
+            Ok(merged(left, right)?)
+        }
+    }
+}

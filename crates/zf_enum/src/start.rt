@@ -1,0 +1,59 @@
+//! Where a search begins.
+ghost use Rattle.std.specs.Prelude.{◌≡◌, length, IfOk, IfErr, map};
+ghost use Rattle.std.specs.Option.{option_copied};
+ghost use Rattle.zf_term.specs.Definitions.{conjunct_of, schema_of};
+ghost use Rattle.zf_term.specs.ResolvedTrees.{resolved_of};
+ghost use Rattle.zf_finite.specs.Finite.{IsFinite};
+ghost use Rattle.zf_walk.specs.Progress.{AreDueWithin};
+ghost use Rattle.zf_walk.specs.Rows.{HasLength};
+ghost use Rattle.zf_meaning.specs.Envs.{environment_of};
+ghost use Rattle.zf_enum.specs.Property.{property};
+ghost use Rattle.zf_enum.specs.Starts.{Refuses, Begins};
+
+use crate::bindings::Bindings;
+use crate::component::ranges;
+use crate::known::Known;
+use crate::property::Property;
+use crate::start_fault::StartFault;
+use bumpalo::Bump;
+use std::alloc::{AllocError, Global};
+use zf_meaning::env::Env;
+use zf_term::conjunct::Conjunct;
+use zf_term::globals::Flat;
+use zf_term::resolved::Resolved;
+
+impl<'s, 'e, 'g, 'a> Bindings<'s, 'e, 'g, 'a> {
+    /// Stands before the first event of the schema. The named row need not lie in the ranges.
+    pub fn start(
+        alloc: Global,
+        arena: &'a Bump,
+        flat: &Flat<'a>,
+        env: &'e Env<'g, 'a>,
+        after: Option<&'s [Known]>,
+    ) -> Result<Bindings<'s, 'e, 'g, 'a>, StartFault>
+        requires finite { IsFinite (environment_of env.now).globals (schema_of flat.now) }
+        requires named { HasLength (option_copied after) (length (schema_of flat.now).comps) }
+        requires due { AreDueWithin (property (environment_of env.now) (schema_of flat.now).conjuncts) (length (schema_of flat.now).comps) }
+        ensures begins { IfOk result (λ b. Begins (environment_of env.now) (schema_of flat.now) (option_copied after.entry) b) }
+        ensures refused { IfErr result (Refuses (environment_of env.now) (schema_of flat.now).comps) }
+    {
+        let ranges = ranges(alloc, arena, flat.components.as_slice(), env)?;
+        let conjuncts = resolved(alloc, arena, flat.conjuncts.as_slice())?;
+        Ok(Bindings::over(alloc, Property { conjuncts, env }, ranges, after)?)
+    }
+}
+
+/// The terms of the conjuncts, by the places in the schema.
+fn resolved<'a>(
+    alloc: Global,
+    arena: &'a Bump,
+    conjuncts: &[Conjunct<'a>],
+) -> Result<Vec<Resolved<'a>>, AllocError>
+    ensures { IfOk result (λ terms. map resolved_of terms.items ≡ map conjunct_of conjuncts.now) }
+{
+    let mut terms = Vec::with_capacity(alloc, conjuncts.len())?;
+    for conjunct in conjuncts {
+        terms.push(conjunct.resolved(arena)?)?;
+    }
+    Ok(terms)
+}

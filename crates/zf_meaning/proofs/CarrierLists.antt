@@ -1,0 +1,50 @@
+-- The carriers of several types, one after another.
+use Rattle.std.proofs.Common.{◌≡◌, ℕ, ◌+◌, ◌<◌, List, [], ◌∷◌, length, map, drop, get_or, refl, sym, ap, ◌∙◌, subst, Option, Some, None}
+use Rattle.std.specs.Prelude.{MatchOption}
+use denote.Bor.{Bor}
+use Rattle.std.proofs.lemmas.List.{drop_more}
+use Rattle.zf_term.specs.declared.globals.Entry.{Entry}
+use Rattle.zf_term.specs.Definitions.{Defined, definition_of}
+use Rattle.zf_term.specs.FirstNamed.{first_named}
+use Rattle.zf_value.specs.Sets.{IsMember, AreRegular}
+use Rattle.zf_value.proofs.Regulars.{are_regular}
+use Rattle.zf_term.specs.declared.ztype.ZType.{ZType}
+use Rattle.zf_term.specs.Types.{types, type_of}
+use Rattle.zf_value.specs.declared.value.Value.{Value}
+use Rattle.zf_value.specs.declared.value.Outcome.{Outcome}
+use Rattle.zf_meaning.specs.declared.gathered.Lack.{Lack}
+use Rattle.zf_meaning.specs.declared.gathered.Lack.TheVariants.{Nothing}
+use Rattle.zf_meaning.specs.Carriers.{IsCarrier, AreCarriers}
+use Rattle.zf_meaning.specs.Environments.{Environment, definition_number, found_number}
+use Rattle.zf_meaning.specs.Gathered.{lack_with, values_with, several_by}
+use Rattle.zf_meaning.specs.Outcomes.{Several, values, one_more}
+use Rattle.zf_meaning.proofs.Gathering.{joined, joined-begun, joined-all, joined-more}
+
+abbrev pub CarriersTo : Environment → List ZType → List ZType → Lack → List Value → Type 0
+CarriersTo e all rest l vs = (s : Several) → AreCarriers e (types (map type_of rest)) s → AreCarriers e (types (map type_of all)) (joined l vs s)
+
+pub carriers-begun : (e : Environment) (all : List ZType) (l : Lack) (vs : List Value) → l ≡ Nothing → vs ≡ [] → CarriersTo e all all l vs
+carriers-begun e all l vs f g s h = rw (f, g) (subst (AreCarriers e (types (map type_of all))) (sym (joined-begun s)) h)
+
+pub carriers-more : (e : Environment) (all : List ZType) (i : ℕ) (t : ZType) (l k : Lack) (vs ws : List Value) (x : Outcome) → i < length all → t ≡ get_or all i t → CarriersTo e all (drop i all) l vs → IsCarrier e (type_of t) x → k ≡ lack_with l x → ws ≡ values_with vs x → CarriersTo e all (drop (i + 1) all) k ws
+carriers-more e all i t l k vs ws x h d g o f w s r =
+    let split : drop i all ≡ t ∷ drop (i + 1) all = drop_more all i t h ∙ ap (λ y. y ∷ drop (i + 1) all) (sym d) in
+    let one = g (one_more x s) (subst (λ ts. AreCarriers e (types (map type_of ts)) (one_more x s)) (sym split) (x, s, o, r, refl)) in
+    rw (f, w) (subst (AreCarriers e (types (map type_of all))) (joined-more l vs x s) one)
+
+pub carriers-all : (e : Environment) (all rest : List ZType) (l : Lack) (vs : List Value) → rest ≡ [] → CarriersTo e all rest l vs → AreCarriers e (types (map type_of all)) (several_by l vs)
+carriers-all e all rest l vs d g = subst (AreCarriers e (types (map type_of all))) (joined-all l vs) (g (values []) (subst (λ ts. AreCarriers e (types (map type_of ts)) (values [])) (sym d) refl))
+
+pub no-values : (xs : List Value) → xs ≡ [] → AreRegular xs
+no-values xs e = are_regular xs (λ z m. absurd (subst (IsMember z) e m))
+
+-- ---- the number of a type by name
+
+abbrev number_by : Option (Bor Entry) → Option ℕ
+number_by None = None
+number_by (Some e) = definition_number (definition_of e.now)
+
+pub named_number : (g : List Defined) (name : List ℕ) (r : Option (Bor Entry)) → MatchOption r (first_named (λ d. d.name) name g ≡ None) (λ e. (i : ℕ) × (first_named (λ d. d.name) name g ≡ Some (i, record { name = name; definition = definition_of e.now })))
+    → (o : Option ℕ) → o ≡ number_by r → o ≡ found_number (first_named (λ d. d.name) name g)
+named_number g name None h o e = e ∙ sym (ap found_number h)
+named_number g name (Some x) h o e = e ∙ sym (ap found_number h.1)

@@ -1,0 +1,97 @@
+-- A type has one carrier, and globals at the same sizes have one list of outcomes.
+use Rattle.std.proofs.Common.{◌≡◌, ℕ, zero, suc, ◌<◌, ◌≤◌, List, [], ◌∷◌, Option, Some, None, length, take, refl, sym, ap, ◌∙◌, subst, arith}
+use Rattle.std.specs.Prelude.{slice_get}
+use Rattle.zf_term.specs.Definitions.{Definition, given_set, free_type, constructor, abbreviation, schema}
+use Rattle.zf_term.specs.Types.{Ty, int, basic, power, product, Tys, no_types, type}
+use Rattle.zf_value.specs.declared.value.Outcome.{Outcome}
+use Rattle.zf_value.specs.Operations.{AreElements, IsPower, IsCross}
+use Rattle.zf_value.specs.Sets.{members}
+use Rattle.zf_value.proofs.Once as once
+use Rattle.zf_value.proofs.Once.{HasOne, one_set}
+use Rattle.zf_meaning.specs.Environments.{Environment, AreElementsIf, element_count, type_number, before, globally}
+use Rattle.zf_meaning.specs.Outcomes.{OnOne, Several, OnSeveral}
+use Rattle.zf_meaning.specs.Carriers.{IsTypeSetIf, IsCarrier, AreCarriers}
+use Rattle.zf_meaning.specs.GlobalOutcomes.{IsOutcomeOf, AreWorkedOut}
+use Rattle.zf_meaning.proofs.Unique.{one_outcome, one_on_one, one_on_several}
+
+one_elements : (n k : ℕ) → HasOne (AreElements n k)
+unfolding AreElements
+one_elements n k o p h m = one_set _ o p h m
+
+one_elements_if : (n : ℕ) (k : Option ℕ) → HasOne (AreElementsIf n k)
+one_elements_if n None o p h m = h ∙ sym m
+one_elements_if n (Some k) o p h m = one_elements n k o p h m
+
+one_type_set : (e : Environment) (n : Option ℕ) → HasOne (IsTypeSetIf e n)
+one_type_set e None o p h m = h ∙ sym m
+one_type_set e (Some n) o p h m = one_elements_if n (element_count e n) o p h m
+
+mutual
+  pub one_carrier : (e : Environment) (t : Ty) (o p : Outcome) → IsCarrier e t o → IsCarrier e t p → o ≡ p
+  one_carrier e int o p h k = h ∙ sym k
+  one_carrier e (basic name) o p h k = one_type_set e (type_number e name) o p h k
+  one_carrier e (power t) o p h k =
+      let x = one_carrier e t h.0 k.0 h.1 k.1 in
+      one_on_one k.0 (λ v. IsPower (members v)) (λ v. once.one_Power (members v)) o p (subst (λ u. OnOne u (λ v. IsPower (members v)) o) x h.2) k.2
+  one_carrier e (product ts) o p h k =
+      let s = one_carriers e ts h.0 k.0 h.1 k.1 in
+      one_on_several k.0 IsCross once.one_Cross o p (subst (λ u. OnSeveral u IsCross o) s h.2) k.2
+
+  one_carriers : (e : Environment) (ts : Tys) (s r : Several) → AreCarriers e ts s → AreCarriers e ts r → s ≡ r
+  one_carriers e no_types s r h k = h ∙ sym k
+  one_carriers e (type t ts) s r h k =
+      let x = one_carrier e t h.0 k.0 h.2 k.2 in
+      let y = one_carriers e ts h.1 k.1 h.3 k.3 in
+      (cc)
+
+-- ---- outcomes of globals
+
+one_outcome_of : (e : Environment) (d : Definition) → HasOne (IsOutcomeOf e d)
+one_outcome_of e (given_set n) o p h k = one_elements_if n (element_count e n) o p h k
+one_outcome_of e (free_type n names) o p h k = one_elements_if n (element_count e n) o p h k
+one_outcome_of e (constructor n of_type place) o p h k = h ∙ sym k
+one_outcome_of e (abbreviation t r x) o p h k = one_outcome (globally e) r o p h k
+one_outcome_of e (schema a) o p h k = h ∙ sym k
+
+found : {A : Type 0} (xs : List A) (i : ℕ) → i < length xs → (x : A) × (slice_get xs i ≡ Some x)
+found [] i h = absurd (omega arith)
+found (x ∷ xs) zero h = (x, refl)
+found (x ∷ xs) (suc i) h = found xs i (omega arith)
+
+-- two lists that are alike up to a place and at it
+take_more : {A : Type 0} (xs ys : List A) (n : ℕ) → take n xs ≡ take n ys → slice_get xs n ≡ slice_get ys n → take (suc n) xs ≡ take (suc n) ys
+take_more [] [] n h k = refl
+take_more [] (y ∷ ys) zero h k = (cc)
+take_more [] (y ∷ ys) (suc n) h k = (cc)
+take_more (x ∷ xs) [] zero h k = (cc)
+take_more (x ∷ xs) [] (suc n) h k = (cc)
+take_more (x ∷ xs) (y ∷ ys) zero h k = (cc)
+take_more (x ∷ xs) (y ∷ ys) (suc n) h k =
+    let a : x ≡ y = (cc) in
+    let b : take n xs ≡ take n ys = (cc) in
+    let c = take_more xs ys n b k in
+    (cc)
+
+take_all : {A : Type 0} (xs : List A) (n : ℕ) → n ≡ length xs → take n xs ≡ xs
+take_all [] zero h = refl
+take_all [] (suc n) h = refl
+take_all (x ∷ xs) zero h = absurd (omega arith)
+take_all (x ∷ xs) (suc n) h = ap (λ ys. x ∷ ys) (take_all xs n (omega arith))
+
+same_before : (e f : Environment) (n : ℕ) → e.globals ≡ f.globals → e.sizes ≡ f.sizes → take n e.outcomes ≡ take n f.outcomes → before e n ≡ before f n
+same_before e f n g s t = λ i. record { globals = g i; sizes = s i; outcomes = t i }
+
+fronts : (e f : Environment) → e.globals ≡ f.globals → e.sizes ≡ f.sizes → AreWorkedOut e → AreWorkedOut f → (n : ℕ) → n ≤ length e.globals → take n e.outcomes ≡ take n f.outcomes
+fronts e f g s h k zero l = refl
+fronts e f g s h k (suc n) l =
+    let rest = fronts e f g s h k n (omega (arith, l)) in
+    let d = found e.globals n (omega (arith, l)) in
+    let a = h.1 n d.0 d.1 in
+    let b = k.1 n d.0 (ap (λ x. slice_get x n) (sym g) ∙ d.1) in
+    let o = one_outcome_of (before f n) d.0.definition a.0 b.0 (subst (λ x. IsOutcomeOf x d.0.definition a.0) (same_before e f n g s rest) a.2) b.2 in
+    take_more e.outcomes f.outcomes n rest (a.1 ∙ ap Some o ∙ sym b.1)
+
+pub one_environment : (e f : Environment) → e.globals ≡ f.globals → e.sizes ≡ f.sizes → AreWorkedOut e → AreWorkedOut f → e.outcomes ≡ f.outcomes
+one_environment e f g s h k =
+    let n = length e.globals in
+    sym (take_all e.outcomes n (sym h.0)) ∙ fronts e f g s h k n (omega arith) ∙ take_all f.outcomes n (ap length g ∙ sym k.0)

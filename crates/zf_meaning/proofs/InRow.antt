@@ -1,0 +1,32 @@
+-- Where no variable is bound, a scope is the context of its row.
+use Rattle.std.proofs.Common.{◌≡◌, List, [], ap, sym, subst}
+use Rattle.std.specs.Prelude.{Result}
+use Rattle.std.specs.Result.{IfOk}
+use Rattle.std.specs.declared.alloc.AllocError.{AllocError}
+use Rattle.std.proofs.lemmas.Result.{IfOk-weaker}
+use denote.Bor.{Bor}
+use Rattle.zf_term.specs.ResolvedTrees.{ResolvedTree}
+use Rattle.zf_value.specs.declared.value.Value.{Value}
+use Rattle.zf_value.specs.declared.value.Outcome.{Outcome}
+use Rattle.zf_value.specs.declared.value.Truth.{Truth}
+use Rattle.zf_value.specs.Sets.{IsRegularOutcome}
+use Rattle.zf_meaning.specs.declared.env.Env.{Env}
+use Rattle.zf_meaning.specs.Envs.{environment_of}
+use Rattle.zf_meaning.specs.InRow.{in_row}
+use Rattle.zf_meaning.specs.Meaning.{HasOutcome, IsTruth}
+use Rattle.zf_meaning.specs.Scopes.{scope_of}
+use Rattle.zf_meaning.specs.Places.{seen}
+
+none-bound : (env : Env) (row : List Value) (locals : List (Bor Value)) → locals ≡ [] → scope_of env row locals ≡ in_row (environment_of env) row
+none-bound env row locals e = ap (λ ls. record { environment = environment_of env; row = row; locals = seen ls }) e
+
+pub outcome-in-row : (env : Env) (row : List Value) (locals : List (Bor Value)) (t : ResolvedTree) (x : Outcome) (r : Result Outcome AllocError) → locals ≡ [] → HasOutcome (scope_of env row locals) t x → IfOk r (λ o. o ≡ x) → IfOk r (HasOutcome (in_row (environment_of env) row) t)
+outcome-in-row env row locals t x r e h k =
+    let here = subst (λ c. HasOutcome c t x) (none-bound env row locals e) h in
+    IfOk-weaker r (λ o. o ≡ x) (HasOutcome (in_row (environment_of env) row) t) (λ o q. subst (HasOutcome (in_row (environment_of env) row) t) (sym q) here) k
+
+pub truth-in-row : (env : Env) (row : List Value) (locals : List (Bor Value)) (t : ResolvedTree) (r : Result Truth AllocError) → locals ≡ [] → IfOk r (IsTruth (scope_of env row locals) t) → IfOk r (IsTruth (in_row (environment_of env) row) t)
+truth-in-row env row locals t r e h = subst (λ c. IfOk r (IsTruth c t)) (none-bound env row locals e) h
+
+pub regular-copy : (x : Outcome) (r : Result Outcome AllocError) → IsRegularOutcome x → IfOk r (λ o. o ≡ x) → IfOk r IsRegularOutcome
+regular-copy x r h k = IfOk-weaker r (λ o. o ≡ x) IsRegularOutcome (λ o q. subst IsRegularOutcome (sym q) h) k

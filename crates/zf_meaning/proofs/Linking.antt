@@ -1,0 +1,61 @@
+-- The links of a chain, one after another.
+use Rattle.std.proofs.Common.{◌≡◌, ℕ, ◌+◌, ◌<◌, ◌≤◌, List, ◌∷◌, length, map, drop, get_or, refl, sym, ap, ◌∙◌, subst, inl}
+use Rattle.std.specs.Prelude.{Result}
+use Rattle.std.specs.Result.{IfOk}
+use Rattle.std.specs.declared.alloc.AllocError.{AllocError}
+use Rattle.std.proofs.lemmas.List.{drop_more}
+use Rattle.std.proofs.lemmas.Result.{IfOk-weaker}
+use Rattle.zf_term.specs.declared.resolved.Resolved.{Resolved}
+use Rattle.zf_term.specs.declared.resolved.ResolvedLink.{ResolvedLink}
+use Rattle.zf_term.specs.ResolvedTrees.{ResolvedTree, chain, links, resolved_of, resolved_link_of}
+use Rattle.zf_term.proofs.ResolvedSeen.{link-seen}
+use Rattle.zf_value.specs.declared.value.Outcome.{Outcome}
+use Rattle.zf_value.specs.declared.value.Truth.{Truth}
+use Rattle.zf_value.specs.declared.value.Truth.TheVariants.{True, False}
+use Rattle.zf_meaning.specs.Connected.{conjunction}
+use Rattle.zf_meaning.specs.Environments.{Context}
+use Rattle.zf_meaning.specs.Meaning.{HasOutcome, IsTruth, AreLinked, IsLink, infinite_right}
+use Rattle.zf_meaning.proofs.Connecting.{conjoined, conjunction-assoc, conjunction-true, conjunction-false}
+use Rattle.zf_meaning.proofs.Gathering.{drop-past}
+
+-- the truth of all links is that of those before, and of the rest
+abbrev pub LinksTo : Context → List ResolvedLink → List ResolvedLink → Outcome → Outcome → Truth → Type 0
+LinksTo c all rest x first t = (u : Truth) → AreLinked c x (links (map resolved_link_of rest)) u → AreLinked c first (links (map resolved_link_of all)) (conjunction t u)
+
+here : (c : Context) (all : List ResolvedLink) (i : ℕ) (k : ResolvedLink) (x y : Outcome) (p u : Truth) → i < length all → k ≡ get_or all i k → HasOutcome c (resolved_of k.right) y → IsLink (infinite_right c k.relation (resolved_of k.right)) k.relation x y p
+    → AreLinked c y (links (map resolved_link_of (drop (i + 1) all))) u → AreLinked c x (links (map resolved_link_of (drop i all))) (conjunction p u)
+here c all i k x y p u l e o h r =
+    let rest = links (map resolved_link_of (drop (i + 1) all)) in
+    let split : drop i all ≡ k ∷ drop (i + 1) all = drop_more all i k l ∙ ap (λ z. z ∷ drop (i + 1) all) (sym e) in
+    let seen : AreLinked c x (links (resolved_link_of k ∷ map resolved_link_of (drop (i + 1) all))) (conjunction p u) =
+    subst (λ z. AreLinked c x (links (z ∷ map resolved_link_of (drop (i + 1) all))) (conjunction p u)) (sym (link-seen k))
+    (y, o, conjoined p u (λ w. IsLink (infinite_right c k.relation (resolved_of k.right)) k.relation x y w) (λ w. AreLinked c y rest w) h r) in
+    subst (λ ks. AreLinked c x (links (map resolved_link_of ks)) (conjunction p u)) (sym split) seen
+
+pub link-more : (c : Context) (all : List ResolvedLink) (i : ℕ) (k : ResolvedLink) (x y first : Outcome) (t p s : Truth) → i < length all → k ≡ get_or all i k → LinksTo c all (drop i all) x first t → HasOutcome c (resolved_of k.right) y
+    → IsLink (infinite_right c k.relation (resolved_of k.right)) k.relation x y p → s ≡ conjunction t p → LinksTo c all (drop (i + 1) all) y first s
+link-more c all i k x y first t p s l e f o h d u r =
+    subst (AreLinked c first (links (map resolved_link_of all))) (conjunction-assoc t p u ∙ ap (λ w. conjunction w u) (sym d)) (f (conjunction p u) (here c all i k x y p u l e o h r))
+
+-- a link that is false
+pub link-false : (c : Context) (all : List ResolvedLink) (i : ℕ) (k : ResolvedLink) (x y first : Outcome) (t p : Truth) → i < length all → k ≡ get_or all i k → LinksTo c all (drop i all) x first t → HasOutcome c (resolved_of k.right) y
+    → IsLink (infinite_right c k.relation (resolved_of k.right)) k.relation x y p → p ≡ False → AreLinked c first (links (map resolved_link_of all)) False
+link-false c all i k x y first t p l e f o h d =
+    let rest = links (map resolved_link_of (drop (i + 1) all)) in
+    let split : drop i all ≡ k ∷ drop (i + 1) all = drop_more all i k l ∙ ap (λ z. z ∷ drop (i + 1) all) (sym e) in
+    let seen : AreLinked c x (links (resolved_link_of k ∷ map resolved_link_of (drop (i + 1) all))) False =
+    subst (λ z. AreLinked c x (links (z ∷ map resolved_link_of (drop (i + 1) all))) False) (sym (link-seen k))
+    (y, o, inl (subst (IsLink (infinite_right c k.relation (resolved_of k.right)) k.relation x y) d h)) in
+    subst (AreLinked c first (links (map resolved_link_of all))) (conjunction-false t) (f False (subst (λ ks. AreLinked c x (links (map resolved_link_of ks)) False) (sym split) seen))
+
+pub link-all : (c : Context) (all : List ResolvedLink) (n : ℕ) (x first : Outcome) (t : Truth) → length all ≤ n → LinksTo c all (drop n all) x first t → AreLinked c first (links (map resolved_link_of all)) t
+link-all c all n x first t l f =
+    subst (AreLinked c first (links (map resolved_link_of all))) (conjunction-true t) (f True (subst (λ ks. AreLinked c x (links (map resolved_link_of ks)) True) (sym (drop-past n all l)) refl))
+
+-- a whole chain
+pub chain-told : (c : Context) (d : ResolvedTree) (l : ℕ) (t a : Resolved) (ks sl : List ResolvedLink) (x : Outcome) (r : Result Truth AllocError) → d ≡ chain l (resolved_of t) (links (map resolved_link_of ks)) → a ≡ t → sl ≡ ks → HasOutcome c (resolved_of a) x
+    → IfOk r (AreLinked c x (links (map resolved_link_of sl))) → IfOk r (IsTruth c d)
+chain-told c d l t a ks sl x r e f g h k =
+    let o = subst (λ z. HasOutcome c (resolved_of z) x) f h in
+    subst (λ z. IfOk r (IsTruth c z)) (sym e)
+    (IfOk-weaker r (AreLinked c x (links (map resolved_link_of ks))) (IsTruth c (chain l (resolved_of t) (links (map resolved_link_of ks)))) (λ u q. (x, o, q)) (subst (λ zs. IfOk r (AreLinked c x (links (map resolved_link_of zs)))) g k))

@@ -1,0 +1,36 @@
+-- Worked rows, as a check of the definitions.
+use Rattle.std.proofs.Common.{[], refl, inl, arith}
+use Rattle.std.specs.Prelude.{pos}
+use Rattle.zf_scan.specs.declared.token.Constant.TheVariants.{Integers}
+use Rattle.zf_scan.specs.declared.token.Infix.TheVariants.{Div}
+use Rattle.zf_scan.specs.declared.token.Prefix.TheVariants.{Size}
+use Rattle.zf_scan.specs.declared.token.Relation.TheVariants.{Member, NotMember}
+use Rattle.zf_text.specs.declared.tree.Sign.TheVariants.{Symbol}
+use Rattle.zf_term.specs.declared.operator.Operator.TheVariants.{Function}
+use Rattle.zf_term.specs.declared.operator.Unary.TheVariants.{Sign}
+use Rattle.zf_term.specs.ResolvedTrees.{ResolvedTree, number, constant, empty_set, unary, binary, chain, no_links, link}
+use Rattle.zf_value.specs.declared.value.Value.{Int, SetOf}
+use Rattle.zf_value.specs.declared.value.Outcome.TheVariants.{Is, Undefined, Out}
+use Rattle.zf_value.specs.declared.value.Truth.TheVariants.{True, False}
+use Rattle.zf_value.specs.Numbers.{IsQuotient}
+use Rattle.zf_value.specs.Operations.{IsSize}
+use Rattle.zf_value.proofs.Seen.{number_of-Int, members-SetOf}
+use Rattle.zf_meaning.specs.Environments.{Context}
+use Rattle.zf_meaning.specs.Meaning.{HasOutcome, IsTruth}
+
+one_by_zero : ResolvedTree
+one_by_zero = binary 1 (Function Div) (number 1 1) (number 1 0)
+
+undefined : (c : Context) → HasOutcome c one_by_zero Undefined
+unfolding IsQuotient one_by_zero
+undefined c = (Is (Int (pos 1)), Is (Int (pos 0)), (refl, record { sfits = omega arith }), (refl, record { sfits = omega arith }), rw (number_of-Int (pos 1), number_of-Int (pos 0)) (inl (refl, refl)))
+
+not_in_integers : (c : Context) → IsTruth c (chain 1 one_by_zero (link NotMember (constant 1 Integers) no_links)) False
+not_in_integers c = (Undefined, undefined c, (Out, refl, inl refl))
+
+one_in_integers : (c : Context) → IsTruth c (chain 1 (number 1 1) (link Member (constant 1 Integers) no_links)) True
+one_in_integers c = (Is (Int (pos 1)), (refl, record { sfits = omega arith }), (Out, refl, ((pos 1, refl), refl)))
+
+none : (c : Context) → HasOutcome c (unary 1 (Sign (Symbol Size)) (empty_set 1 (constant 1 Integers))) (Is (Int (pos 0)))
+unfolding IsSize
+none c = (Is (SetOf []), refl, rw (members-SetOf []) (refl, record { sfits = omega arith }))

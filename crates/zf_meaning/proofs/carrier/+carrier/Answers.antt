@@ -1,0 +1,27 @@
+use Rattle.std.proofs.Common.{sym, subst}
+use Rattle.zf_term.specs.Types.{type_of}
+use Rattle.zf_value.specs.Sets.{IsRegularOutcome}
+use Rattle.zf_meaning.specs.Carriers.{IsCarrier}
+use Rattle.zf_meaning.specs.Envs.{environment_of}
+use Rattle.zf_meaning.specs.Found.{found_outcome}
+use Rattle.zf_meaning.proofs.CarrierLists.{carriers-begun, carriers-more, carriers-all, no-values}
+use Rattle.zf_meaning.proofs.Gathering.{drop-past}
+use Rattle.zf_meaning.proofs.carrier.+carrier.Goals as goal
+
+pub carriers_of-loop-part-init : goal.carriers_of-loop-part-init
+carriers_of-loop-part-init t c = record {
+  gathers = carriers-begun (environment_of c.args.env.now) c.args.parts.now c.new-gathered.result.lack c.new-gathered.result.values.items c.new-gathered.ensures.lack c.new-gathered.ensures.values;
+  regular = no-values c.new-gathered.result.values.items c.new-gathered.ensures.values;
+}
+
+pub carriers_of-loop-part-preserved : goal.carriers_of-loop-part-preserved
+carriers_of-loop-part-preserved t c =
+    let is = subst (IsCarrier (environment_of c.args.env.now) (type_of c.part-item.result)) (sym c.own.ensures) c.in_ok-carrier.ensures.is in
+    record {
+      gathers = carriers-more (environment_of c.args.env.now) c.args.parts.now c.loop-part.part-index c.part-item.result c.loop-part.gathered.lack c.add.new.self.lack c.loop-part.gathered.values.items c.add.new.self.values.items (found_outcome c.own.result) c.loop-part-test.true c.part-item.is c.loop-part.invariant.gathers is c.in_ok-add.ensures.is.0 c.in_ok-add.ensures.is.1;
+      regular = c.in_ok-add.ensures.regular c.loop-part.invariant.regular (subst IsRegularOutcome (sym c.own.ensures) c.in_ok-carrier.ensures.regular);
+    }
+
+pub carriers_of-returns-clause-is : goal.carriers_of-returns-clause-is
+carriers_of-returns-clause-is t c =
+    carriers-all (environment_of c.args.env.now) c.args.parts.now _ c.loop-part.gathered.lack c.loop-part.gathered.values.items (drop-past c.loop-part.part-index c.args.parts.now c.loop-part-test.false) c.loop-part.invariant.gathers

@@ -1,0 +1,11 @@
+use Rattle.std.proofs.Common.{drop}
+use Rattle.zf_value.specs.Sets.{AreRegular}
+use Rattle.zf_meaning.specs.Envs.{environment_of}
+use Rattle.zf_meaning.proofs.CarrierLists.{CarriersTo}
+use Rattle.zf_meaning.proofs.carrier.+carrier.Given as goal
+
+abbrev pub invariant-carriers_of-loop-part : goal.invariant-carriers_of-loop-part
+invariant-carriers_of-loop-part l = record {
+  gathers : CarriersTo (environment_of l.env) l.parts (drop l.part-index l.parts) l.gathered.lack l.gathered.values.items;
+  regular : AreRegular l.gathered.values.items;
+}

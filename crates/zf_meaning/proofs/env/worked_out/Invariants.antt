@@ -1,0 +1,12 @@
+use Rattle.std.proofs.Common.{◌≡◌}
+use Rattle.zf_term.specs.Definitions.{globals_of}
+use Rattle.zf_meaning.specs.Envs.{environment_of}
+use Rattle.zf_meaning.proofs.WorkedOut.{AreWorkedOutTo}
+use Rattle.zf_meaning.proofs.env.worked_out.Given as goal
+
+abbrev pub invariant-loop-place : goal.invariant-loop-place
+invariant-loop-place l = record {
+  globals : globals_of l.env.globals.now ≡ globals_of l.globals;
+  sizes : l.env.sizes.items ≡ l.initial.env.sizes.items;
+  outcomes : AreWorkedOutTo l.place (environment_of l.env);
+}

@@ -1,0 +1,348 @@
+use Rattle.std.proofs.Common.{[], ◌∷◌, length, map, drop, refl, sym, ap, ◌∙◌, subst}
+use Rattle.std.proofs.lemmas.Result.{IfOk-weaker}
+use Rattle.zf_term.specs.ResolvedTrees.{resolved_of, part_of}
+use Rattle.zf_term.specs.ResolvedTrees as tree
+use Rattle.zf_term.proofs.ResolvedSeen.{of-Unary, of-Binary, of-Listed, of-Chain}
+use Rattle.std.specs.Result.{IfOk}
+use Rattle.std.proofs.Common.{true, false, rules, ◌≤◌}
+use Rattle.zf_value.specs.declared.value.Outcome.TheVariants as outcome
+use Rattle.zf_value.specs.declared.value.Truth.TheVariants.{Out}
+use Rattle.zf_value.specs.Operations.{AreFrom, IsDisplay, IsEmptySet}
+use Rattle.zf_meaning.specs.declared.gathered.Lack.TheVariants.{Nothing}
+use Rattle.zf_meaning.specs.Gathered.{several_by}
+use Rattle.zf_meaning.specs.RangeSets.{declared_of}
+use Rattle.zf_meaning.specs.Truths.{IsConnected, IsTold, IsOver, IsQuantified}
+use Rattle.zf_meaning.specs.Tallies.{truth_by, is_settled}
+use Rattle.zf_meaning.proofs.Binding.{same-quantifier, same-constraint, quantified-told, builder-has}
+use Rattle.zf_meaning.proofs.Builds.{nothing, built-more, built-out, built-all}
+use Rattle.zf_meaning.proofs.Connecting.{decided-told, told-by}
+use Rattle.zf_meaning.proofs.Told.{IsTallied, none-tallied, one-more, settled-truth, told-of-all}
+use Rattle.zf_meaning.proofs.Turns.{moved, stuck, fewer, adds-here, told-here, one-filter, one-term, one-told}
+use Rattle.zf_meaning.proofs.Walking.{walk-begun, walk-next, walk-ended, walk-row, walk-done, walk-new, no-row, none-from, scope-row, bound-row, walk-scope, outside-bound, FilterIn, TermIn, ToldIn}
+use Rattle.zf_value.specs.Sets.{AreRegular}
+use Rattle.zf_meaning.specs.Found.{found_outcome}
+use Rattle.zf_meaning.specs.Meaning.{HasOutcome, IsTruth, IsConstraint, Builds, IsBuilt, IsBuiltOver, IsLink, row_value}
+use Rattle.zf_meaning.specs.Places.{seen}
+use Rattle.zf_meaning.specs.RangeSets.{spread}
+use Rattle.zf_meaning.specs.Rowed.{row_of}
+use Rattle.zf_meaning.specs.Scopes.{scope_of, IsRegularScope}
+use Rattle.zf_meaning.proofs.Gathering.{gather-begun, gather-more, gather-all, ranges-begun, ranges-more, ranges-all, drop-past}
+use Rattle.zf_meaning.proofs.Linking.{link-more, link-false, link-all, chain-told}
+use Rattle.zf_value.proofs.Regulars.{regular-push}
+use Rattle.zf_meaning.proofs.Regulars.{regular-nothing, regular-rest, seen-rest}
+use Rattle.zf_meaning.proofs.evaluate.+meaning.Goals as goal
+
+pub operands::gather-loop-term-init : goal.operands::gather-loop-term-init
+operands::gather-loop-term-init g t c = record {
+  gathers = gather-begun (scope_of c.args.env.now (g.R.Row.values c.args.row.now) c.args.locals.now) c.args.terms.now c.args.terms.now c.new-gathered.result.lack c.new-gathered.result.values.items refl c.new-gathered.ensures.lack c.new-gathered.ensures.values;
+  regular = regular-nothing c.new-gathered.result.values.items c.new-gathered.ensures.values;
+}
+
+pub operands::gather-loop-term-preserved : goal.operands::gather-loop-term-preserved
+operands::gather-loop-term-preserved g t c = record {
+  gathers = gather-more (scope_of c.args.env.now (g.R.Row.values c.args.row.now) c.args.locals.now) c.args.terms.now c.loop-term.term-index c.term-item.result c.loop-term.gathered.lack c.add.new.self.lack c.loop-term.gathered.values.items c.add.new.self.values.items (found_outcome c.in_ok-found.found) c.loop-term-test.true c.term-item.is c.loop-term.invariant.gathers c.in_ok-found.ensures.is c.in_ok-add.ensures.is.0 c.in_ok-add.ensures.is.1;
+  regular = c.in_ok-add.ensures.regular c.loop-term.invariant.regular c.in_ok-found.ensures.regular;
+}
+
+pub operands::gather-returns-clause-is : goal.operands::gather-returns-clause-is
+operands::gather-returns-clause-is g t c =
+    gather-all (scope_of c.args.env.now (g.R.Row.values c.args.row.now) c.args.locals.now) c.args.terms.now _ c.loop-term.gathered.lack c.loop-term.gathered.values.items (drop-past c.loop-term.term-index c.args.terms.now c.loop-term-test.false) c.loop-term.invariant.gathers
+
+pub ranges::declared_sets-loop-range-init : goal.ranges::declared_sets-loop-range-init
+ranges::declared_sets-loop-range-init g t c = record {
+  gathers = ranges-begun (scope_of c.args.env.now (g.R.Row.values c.args.row.now) c.args.locals.now) c.args.ranges.now c.args.ranges.now _ (spread c.new.result.items) refl refl (ap spread c.new.ensures.items);
+  regular = regular-nothing (spread c.new.result.items) (ap spread c.new.ensures.items);
+}
+
+pub ranges::declared_sets-loop-range-preserved : goal.ranges::declared_sets-loop-range-preserved
+ranges::declared_sets-loop-range-preserved g t c = record {
+  gathers = ranges-more (scope_of c.args.env.now (g.R.Row.values c.args.row.now) c.args.locals.now) c.args.ranges.now c.loop-range.range-index c.range-item.result c.loop-range.declared.lack c.add.new.declared.lack (spread c.loop-range.declared.sets.items) (spread c.add.new.declared.sets.items) (found_outcome c.in_ok-found.found) c.loop-range-test.true c.range-item.is c.loop-range.invariant.gathers c.in_ok-found.ensures.is c.in_ok-add.ensures.is.0 c.in_ok-add.ensures.is.1;
+  regular = c.in_ok-add.ensures.regular c.loop-range.invariant.regular c.in_ok-found.ensures.regular;
+}
+
+pub ranges::declared_sets-returns-clause-is : goal.ranges::declared_sets-returns-clause-is
+ranges::declared_sets-returns-clause-is g t c =
+    ranges-all (scope_of c.args.env.now (g.R.Row.values c.args.row.now) c.args.locals.now) c.args.ranges.now _ c.loop-range.declared.lack (spread c.loop-range.declared.sets.items) (drop-past c.loop-range.range-index c.args.ranges.now c.loop-range-test.false) c.loop-range.invariant.gathers
+
+pub chains::linked-loop-link-init : goal.chains::linked-loop-link-init
+chains::linked-loop-link-init g t c = record { linked = λ u h. h; regular = c.requires.first }
+
+pub chains::linked-loop-link-preserved : goal.chains::linked-loop-link-preserved
+chains::linked-loop-link-preserved g t c =
+    let row = g.R.Row.values c.args.row.now in
+    let told = subst (λ i. IsLink i c.link-item.result.relation (found_outcome c.loop-link.left) (found_outcome c.in_ok-right.right) c.link-told.result) (c.infinite_right-infinite.ensures row (seen c.args.locals.now)) c.link-told.ensures in
+    record {
+      linked = link-more (scope_of c.args.env.now row c.args.locals.now) c.args.links.now c.loop-link.link-index c.link-item.result (found_outcome c.loop-link.left) (found_outcome c.in_ok-right.right) (found_outcome c.args.first) c.loop-link.truth c.link-told.result c.conjunction-truth.result c.loop-link-test.true c.link-item.is c.loop-link.invariant.linked c.in_ok-right.ensures.is told c.conjunction-truth.ensures;
+      regular = c.in_ok-right.ensures.regular;
+    }
+
+pub chains::linked-returns : goal.chains::linked-returns
+chains::linked-returns g t c =
+    link-all (scope_of c.args.env.now (g.R.Row.values c.args.row.now) c.args.locals.now) c.args.links.now c.loop-link.link-index (found_outcome c.loop-link.left) (found_outcome c.args.first) c.loop-link.truth c.loop-link-test.false c.loop-link.invariant.linked
+
+pub chains::linked-returns-then-is_false : goal.chains::linked-returns-then-is_false
+chains::linked-returns-then-is_false g t c =
+    let row = g.R.Row.values c.args.row.now in
+    let told = subst (λ i. IsLink i c.link-item.result.relation (found_outcome c.loop-link.left) (found_outcome c.in_ok-right.right) c.link-told.result) (c.infinite_right-infinite.ensures row (seen c.args.locals.now)) c.link-told.ensures in
+    link-false (scope_of c.args.env.now row c.args.locals.now) c.args.links.now c.loop-link.link-index c.link-item.result (found_outcome c.loop-link.left) (found_outcome c.in_ok-right.right) (found_outcome c.args.first) c.loop-link.truth c.link-told.result c.loop-link-test.true c.link-item.is c.loop-link.invariant.linked c.in_ok-right.ensures.is told (c.is_false.ensures.0 c.if-is_false.true)
+
+pub binders::over_rows-loop-rows-init : goal.binders::over_rows-loop-rows-init
+binders::over_rows-loop-rows-init g t c = (
+  [],
+  walk-begun c.in-Some.rows (seen c.args.locals.now) (spread c.args.sets.now) (seen c.in_ok-lists_of.field-0.items) c.in_ok-lists_of.ensures c.requires.sets (rw c.in-Some.is at c.in_ok-rows.ensures),
+  λ q n rs p e is. subst (IsTallied (ToldIn (scope_of c.args.env.now (g.R.Row.values c.args.row.now) c.args.locals.now) q (part_of p) (resolved_of e)) []) (sym c.none-tally.ensures) (none-tallied (ToldIn (scope_of c.args.env.now (g.R.Row.values c.args.row.now) c.args.locals.now) q (part_of p) (resolved_of e))),
+)
+
+pub binders::over_rows-loop-rows-preserved : goal.binders::over_rows-loop-rows-preserved
+binders::over_rows-loop-rows-preserved g t c =
+    let outside = seen c.args.locals.now in
+    let row = row_of c.loop-rows.rows in
+    let inv = c.loop-rows.invariant in
+    let next = moved outside c.loop-rows.rows c.advance.new.self c.in_ok-advance.field-0 c.if-not-branch.false (c.in_ok-advance.ensures outside inv.1.at) in
+    let here = scope-row c.args.env.now (g.R.Row.values c.args.row.now) c.args.locals.now c.bound.result.now row (ap seen c.bound.ensures ∙ inv.1.at.1) in (
+      row ∷ inv.0,
+      walk-next c.loop-rows.rows c.advance.new.self outside (spread c.args.sets.now) inv.0 inv.1 next,
+      λ q n rs p e is. subst (IsTallied (ToldIn (scope_of c.args.env.now (g.R.Row.values c.args.row.now) c.args.locals.now) q (part_of p) (resolved_of e)) (row ∷ inv.0)) (sym c.with-tally.ensures)
+          (one-more (ToldIn (scope_of c.args.env.now (g.R.Row.values c.args.row.now) c.args.locals.now) q (part_of p) (resolved_of e)) inv.0 c.loop-rows.tally row c.in_ok-told_at.field-0 (one-told (scope_of c.args.env.now (g.R.Row.values c.args.row.now) c.args.locals.now) q (part_of p) (resolved_of e)) (walk-new c.loop-rows.rows outside (spread c.args.sets.now) inv.0 inv.1)
+          (told-here _ (scope_of c.args.env.now (g.R.Row.values c.args.row.now) c.args.locals.now) row q (part_of p) (resolved_of e) c.in_ok-told_at.field-0 here (c.in_ok-told_at.ensures q n rs p e is)) (inv.2 q n rs p e is)),
+    )
+
+pub binders::over_rows-loop-rows-smaller : goal.binders::over_rows-loop-rows-smaller
+binders::over_rows-loop-rows-smaller g t c = fewer (seen c.args.locals.now) c.loop-rows.rows c.advance.new.self (moved (seen c.args.locals.now) c.loop-rows.rows c.advance.new.self c.in_ok-advance.field-0 c.if-not-branch.false (c.in_ok-advance.ensures (seen c.args.locals.now) c.loop-rows.invariant.1.at))
+
+pub binders::built_over-loop-rows-init : goal.binders::built_over-loop-rows-init
+binders::built_over-loop-rows-init g t c = (
+  [],
+  walk-begun c.in-Some.rows (seen c.args.locals.now) (spread c.args.sets.now) (seen c.in_ok-lists_of.field-0.items) c.in_ok-lists_of.ensures c.requires.sets (rw c.in-Some.is at c.in_ok-rows.ensures),
+  regular-nothing c.new-built.result.items c.new-built.ensures.items,
+  λ n rs p e is. nothing (FilterIn (scope_of c.args.env.now (g.R.Row.values c.args.row.now) c.args.locals.now) (part_of p)) (TermIn (scope_of c.args.env.now (g.R.Row.values c.args.row.now) c.args.locals.now) (part_of e)) c.new-built.result.items c.new-built.ensures.items,
+)
+
+pub binders::built_over-loop-rows-preserved : goal.binders::built_over-loop-rows-preserved
+binders::built_over-loop-rows-preserved g t c =
+    let outside = seen c.args.locals.now in
+    let row = row_of c.loop-rows.rows in
+    let inv = c.loop-rows.invariant in
+    let next = moved outside c.loop-rows.rows c.advance.new.self c.in_ok-advance.field-0 c.if-not-branch-2.false (c.in_ok-advance.ensures outside inv.1.at) in
+    let bound = ap seen c.bound.ensures ∙ inv.1.at.1 in
+    let here = scope-row c.args.env.now (g.R.Row.values c.args.row.now) c.args.locals.now c.bound.result.now row bound in (
+      row ∷ inv.0,
+      walk-next c.loop-rows.rows c.advance.new.self outside (spread c.args.sets.now) inv.0 inv.1 next,
+      c.in_ok-add_row.ensures.regular,
+      λ n rs p e is. built-more (FilterIn (scope_of c.args.env.now (g.R.Row.values c.args.row.now) c.args.locals.now) (part_of p)) (TermIn (scope_of c.args.env.now (g.R.Row.values c.args.row.now) c.args.locals.now) (part_of e)) inv.0 c.loop-rows.built.items c.add_row.new.built.items row (one-filter (scope_of c.args.env.now (g.R.Row.values c.args.row.now) c.args.locals.now) (part_of p)) (one-term (scope_of c.args.env.now (g.R.Row.values c.args.row.now) c.args.locals.now) (part_of e))
+          (adds-here _ (scope_of c.args.env.now (g.R.Row.values c.args.row.now) c.args.locals.now) row _ (part_of p) (part_of e) c.loop-rows.built.items c.add_row.new.built.items c.in_ok-add_row.field-0 true here (bound-row c.args.locals.now c.bound.result.now row bound) c.if-not-branch.false (c.in_ok-add_row.ensures.is n rs p e is)) (inv.3 n rs p e is),
+    )
+
+pub binders::built_over-loop-rows-smaller : goal.binders::built_over-loop-rows-smaller
+binders::built_over-loop-rows-smaller g t c = fewer (seen c.args.locals.now) c.loop-rows.rows c.advance.new.self (moved (seen c.args.locals.now) c.loop-rows.rows c.advance.new.self c.in_ok-advance.field-0 c.if-not-branch-2.false (c.in_ok-advance.ensures (seen c.args.locals.now) c.loop-rows.invariant.1.at))
+
+pub binders::add_member-returns-in_ok-push-in-Is-clause-regular : goal.binders::add_member-returns-in_ok-push-in-Is-clause-regular
+binders::add_member-returns-in_ok-push-in-Is-clause-regular g t c = subst AreRegular (sym c.in_ok-push-in-Is.ensures.items) (regular-push c.args.built.now.items c.in-Is.value c.requires.built (rw c.in-Is.is at c.in_ok-value.ensures.regular))
+
+pub binders::builder-returns-clause-is : goal.binders::builder-returns-clause-is
+binders::builder-returns-clause-is g t c =
+    let i = c.in-Builder in
+    let d = c.in_ok-declared.declared in
+    let built = subst (λ xs. IsBuilt (several_by Nothing (spread xs)) (FilterIn (scope_of c.args.env.now (g.R.Row.values c.args.row.now) c.args.locals.now) (part_of i.field-2)) (TermIn (scope_of c.args.env.now (g.R.Row.values c.args.row.now) c.args.locals.now) (part_of i.field-3)) c.in_ok-built_over-in-Nothing.field-0) c.deref.ensures.value (c.in_ok-built_over-in-Nothing.ensures.is i.field-0 i.ranges i.field-2 i.field-3 i.is) in
+    builder-has (scope_of c.args.env.now (g.R.Row.values c.args.row.now) c.args.locals.now) c.args.term.now i.field-0 i.ranges c.as_slice.result.now i.field-2 i.field-3 (declared_of d) (found_outcome c.own.result) i.is c.as_slice.ensures c.in_ok-declared.ensures.is
+    (subst (λ o. IsBuilt (declared_of d) (FilterIn (scope_of c.args.env.now (g.R.Row.values c.args.row.now) c.args.locals.now) (part_of i.field-2)) (TermIn (scope_of c.args.env.now (g.R.Row.values c.args.row.now) c.args.locals.now) (part_of i.field-3)) o) (sym c.own.ensures)
+    (subst (λ k. IsBuilt (several_by k (spread d.sets.items)) (FilterIn (scope_of c.args.env.now (g.R.Row.values c.args.row.now) c.args.locals.now) (part_of i.field-2)) (TermIn (scope_of c.args.env.now (g.R.Row.values c.args.row.now) c.args.locals.now) (part_of i.field-3)) c.in_ok-built_over-in-Nothing.field-0) (sym c.in-Nothing.is) built))
+
+pub binders::builder-returns-in-Out-clause-is : goal.binders::builder-returns-in-Out-clause-is
+binders::builder-returns-in-Out-clause-is g t c =
+    let i = c.in-Builder in
+    let d = c.in_ok-declared.declared in
+    builder-has (scope_of c.args.env.now (g.R.Row.values c.args.row.now) c.args.locals.now) c.args.term.now i.field-0 i.ranges c.as_slice.result.now i.field-2 i.field-3 (declared_of d) _ i.is c.as_slice.ensures c.in_ok-declared.ensures.is
+    (subst (λ k. IsBuilt (several_by k (spread d.sets.items)) (FilterIn (scope_of c.args.env.now (g.R.Row.values c.args.row.now) c.args.locals.now) (part_of i.field-2)) (TermIn (scope_of c.args.env.now (g.R.Row.values c.args.row.now) c.args.locals.now) (part_of i.field-3)) outcome.Out) (sym c.in-Out.is) refl)
+
+pub binders::builder-returns-in-Undefined-clause-is : goal.binders::builder-returns-in-Undefined-clause-is
+binders::builder-returns-in-Undefined-clause-is g t c =
+    let i = c.in-Builder in
+    let d = c.in_ok-declared.declared in
+    IfOk-weaker c.empty_set.result (λ o. IsEmptySet (found_outcome o)) (λ o. HasOutcome (scope_of c.args.env.now (g.R.Row.values c.args.row.now) c.args.locals.now) (resolved_of c.args.term.now) (found_outcome o))
+    (λ o h. builder-has (scope_of c.args.env.now (g.R.Row.values c.args.row.now) c.args.locals.now) c.args.term.now i.field-0 i.ranges c.as_slice.result.now i.field-2 i.field-3 (declared_of d) (found_outcome o) i.is c.as_slice.ensures c.in_ok-declared.ensures.is
+    (subst (λ k. IsBuilt (several_by k (spread d.sets.items)) (FilterIn (scope_of c.args.env.now (g.R.Row.values c.args.row.now) c.args.locals.now) (part_of i.field-2)) (TermIn (scope_of c.args.env.now (g.R.Row.values c.args.row.now) c.args.locals.now) (part_of i.field-3)) (found_outcome o)) (sym c.in-Undefined.is) h)) c.empty_set.ensures.is
+
+pub binders::built_over-add_row-requires : goal.binders::built_over-add_row-requires
+binders::built_over-add_row-requires g t c =
+    let outside : length c.args.locals.now ≤ length c.bound.result.now = outside-bound c.args.locals.now c.bound.result.now (row_of c.loop-rows.rows) (ap seen c.bound.ensures ∙ c.loop-rows.invariant.1.at.1) in
+    let built : AreRegular c.loop-rows.built.items = c.loop-rows.invariant.2 in
+    let regular : IsRegularScope (scope_of c.args.env.now (g.R.Row.values c.args.row.now) c.bound.result.now) =
+    walk-scope c.args.env.now (g.R.Row.values c.args.row.now) c.args.locals.now c.bound.result.now c.loop-rows.rows (spread c.args.sets.now) c.loop-rows.invariant.0 c.bound.ensures c.requires.sets c.requires.regular c.loop-rows.invariant.1 in
+    search (rules, outside, built, regular)
+
+pub binders::built_over-returns-in_default-clause-is : goal.binders::built_over-returns-in_default-clause-is
+binders::built_over-returns-in_default-clause-is g t c =
+    λ n rs p e is.
+    let ss = spread c.args.sets.now in
+    let none = rw c.in_default.is at c.in_ok-rows.ensures in
+    IfOk-weaker c.display.result (IsDisplay c.new-built.result.items) (IsBuiltOver (λ vs. AreFrom vs ss) (FilterIn (scope_of c.args.env.now (g.R.Row.values c.args.row.now) c.args.locals.now) (part_of p)) (TermIn (scope_of c.args.env.now (g.R.Row.values c.args.row.now) c.args.locals.now) (part_of e)))
+    (λ o h. built-all (λ vs. AreFrom vs ss) (FilterIn (scope_of c.args.env.now (g.R.Row.values c.args.row.now) c.args.locals.now) (part_of p)) (TermIn (scope_of c.args.env.now (g.R.Row.values c.args.row.now) c.args.locals.now) (part_of e)) [] c.new-built.result.items o (no-row ss (seen c.in_ok-lists_of.field-0.items) c.in_ok-lists_of.ensures none) (none-from ss) (nothing (FilterIn (scope_of c.args.env.now (g.R.Row.values c.args.row.now) c.args.locals.now) (part_of p)) (TermIn (scope_of c.args.env.now (g.R.Row.values c.args.row.now) c.args.locals.now) (part_of e)) c.new-built.result.items c.new-built.ensures.items) h) c.display.ensures.is
+
+pub binders::built_over-returns-in_default-clause-regular : goal.binders::built_over-returns-in_default-clause-regular
+binders::built_over-returns-in_default-clause-regular g t c = c.display.ensures.regular (regular-nothing c.new-built.result.items c.new-built.ensures.items)
+
+pub binders::built_over-returns-then-not-branch-2-clause-is : goal.binders::built_over-returns-then-not-branch-2-clause-is
+binders::built_over-returns-then-not-branch-2-clause-is g t c =
+    λ n rs p e is.
+    let outside = seen c.args.locals.now in
+    let ss = spread c.args.sets.now in
+    let row = row_of c.loop-rows.rows in
+    let inv = c.loop-rows.invariant in
+    let bound = ap seen c.bound.ensures ∙ inv.1.at.1 in
+    let here = scope-row c.args.env.now (g.R.Row.values c.args.row.now) c.args.locals.now c.bound.result.now row bound in
+    let none = stuck outside c.loop-rows.rows c.advance.new.self c.in_ok-advance.field-0 c.if-not-branch-2.true (c.in_ok-advance.ensures outside inv.1.at) in
+    let built = built-more (FilterIn (scope_of c.args.env.now (g.R.Row.values c.args.row.now) c.args.locals.now) (part_of p)) (TermIn (scope_of c.args.env.now (g.R.Row.values c.args.row.now) c.args.locals.now) (part_of e)) inv.0 c.loop-rows.built.items c.add_row.new.built.items row (one-filter (scope_of c.args.env.now (g.R.Row.values c.args.row.now) c.args.locals.now) (part_of p)) (one-term (scope_of c.args.env.now (g.R.Row.values c.args.row.now) c.args.locals.now) (part_of e))
+    (adds-here _ (scope_of c.args.env.now (g.R.Row.values c.args.row.now) c.args.locals.now) row _ (part_of p) (part_of e) c.loop-rows.built.items c.add_row.new.built.items c.in_ok-add_row.field-0 true here (bound-row c.args.locals.now c.bound.result.now row bound) c.if-not-branch.false (c.in_ok-add_row.ensures.is n rs p e is)) (inv.3 n rs p e is) in
+    IfOk-weaker c.display-then-not-branch-2.result (IsDisplay c.add_row.new.built.items) (IsBuiltOver (λ vs. AreFrom vs ss) (FilterIn (scope_of c.args.env.now (g.R.Row.values c.args.row.now) c.args.locals.now) (part_of p)) (TermIn (scope_of c.args.env.now (g.R.Row.values c.args.row.now) c.args.locals.now) (part_of e)))
+    (λ o h. built-all (λ vs. AreFrom vs ss) (FilterIn (scope_of c.args.env.now (g.R.Row.values c.args.row.now) c.args.locals.now) (part_of p)) (TermIn (scope_of c.args.env.now (g.R.Row.values c.args.row.now) c.args.locals.now) (part_of e)) (row ∷ inv.0) c.add_row.new.built.items o (walk-ended c.loop-rows.rows outside ss inv.0 inv.1 none) (walk-done c.loop-rows.rows outside ss inv.0 inv.1) built h) c.display-then-not-branch-2.ensures.is
+
+pub binders::built_over-returns-then-not-branch-clause-is : goal.binders::built_over-returns-then-not-branch-clause-is
+binders::built_over-returns-then-not-branch-clause-is g t c =
+    λ n rs p e is.
+    let outside = seen c.args.locals.now in
+    let row = row_of c.loop-rows.rows in
+    let inv = c.loop-rows.invariant in
+    let bound = ap seen c.bound.ensures ∙ inv.1.at.1 in
+    let here = scope-row c.args.env.now (g.R.Row.values c.args.row.now) c.args.locals.now c.bound.result.now row bound in
+    built-out (λ vs. AreFrom vs (spread c.args.sets.now)) (FilterIn (scope_of c.args.env.now (g.R.Row.values c.args.row.now) c.args.locals.now) (part_of p)) (TermIn (scope_of c.args.env.now (g.R.Row.values c.args.row.now) c.args.locals.now) (part_of e)) c.loop-rows.built.items c.add_row.new.built.items row (walk-row c.loop-rows.rows outside (spread c.args.sets.now) inv.0 inv.1)
+    (adds-here _ (scope_of c.args.env.now (g.R.Row.values c.args.row.now) c.args.locals.now) row _ (part_of p) (part_of e) c.loop-rows.built.items c.add_row.new.built.items c.in_ok-add_row.field-0 false here (bound-row c.args.locals.now c.bound.result.now row bound) c.if-not-branch.true (c.in_ok-add_row.ensures.is n rs p e is))
+
+pub binders::member_outcome-returns-in_ok-value_of_row-in-None-clause-is : goal.binders::member_outcome-returns-in_ok-value_of_row-in-None-clause-is
+binders::member_outcome-returns-in_ok-value_of_row-in-None-clause-is g t c =
+    subst (λ m. Builds (scope_of c.args.env.now (g.R.Row.values c.args.row.now) c.args.bound.now) (drop c.args.outside (seen c.args.bound.now)) (part_of m) (outcome.Is c.in_ok-value_of_row-in-None.field-0)) (sym c.in-None.is ∙ c.get.ensures)
+    (ap outcome.Is (c.in_ok-value_of_row-in-None.ensures.is ∙ ap row_value (seen-rest c.args.outside c.args.bound.now)))
+
+pub binders::member_outcome-value_of_row-requires : goal.binders::member_outcome-value_of_row-requires
+binders::member_outcome-value_of_row-requires g t c = regular-rest c.args.outside c.args.bound.now c.requires.regular.locals
+
+pub binders::over_rows-returns-in_default-2 : goal.binders::over_rows-returns-in_default-2
+binders::over_rows-returns-in_default-2 g t c =
+    λ q l rs p e is.
+    let i = c.in-Quantified in
+    let ss = spread c.args.sets.now in
+    let sq = same-quantifier i.quantifier q i.field-1 l i.field-2 rs i.field-3 p i.field-4 e (sym i.is ∙ is) in
+    let none = rw c.in_default-2.is at c.in_ok-rows.ensures in
+    let tallied = subst (IsTallied (ToldIn (scope_of c.args.env.now (g.R.Row.values c.args.row.now) c.args.locals.now) q (part_of p) (resolved_of e)) []) (sym c.none-tally.ensures) (none-tallied (ToldIn (scope_of c.args.env.now (g.R.Row.values c.args.row.now) c.args.locals.now) q (part_of p) (resolved_of e))) in
+    subst (IsOver q (λ vs. AreFrom vs ss) (ToldIn (scope_of c.args.env.now (g.R.Row.values c.args.row.now) c.args.locals.now) q (part_of p) (resolved_of e))) (sym (c.truth.ensures ∙ ap (λ z. truth_by z c.none-tally.result) sq))
+    (told-of-all q (λ vs. AreFrom vs ss) (ToldIn (scope_of c.args.env.now (g.R.Row.values c.args.row.now) c.args.locals.now) q (part_of p) (resolved_of e)) [] c.none-tally.result (no-row ss (seen c.in_ok-lists_of.field-0.items) c.in_ok-lists_of.ensures none) (none-from ss) tallied)
+
+pub binders::over_rows-returns-then-is_settled : goal.binders::over_rows-returns-then-is_settled
+binders::over_rows-returns-then-is_settled g t c =
+    λ q l rs p e is.
+    let i = c.in-Quantified in
+    let outside = seen c.args.locals.now in
+    let ss = spread c.args.sets.now in
+    let row = row_of c.loop-rows.rows in
+    let inv = c.loop-rows.invariant in
+    let here = scope-row c.args.env.now (g.R.Row.values c.args.row.now) c.args.locals.now c.bound.result.now row (ap seen c.bound.ensures ∙ inv.1.at.1) in
+    let sq = same-quantifier i.quantifier q i.field-1 l i.field-2 rs i.field-3 p i.field-4 e (sym i.is ∙ is) in
+    let tallied : IsTallied (ToldIn (scope_of c.args.env.now (g.R.Row.values c.args.row.now) c.args.locals.now) q (part_of p) (resolved_of e)) (row ∷ inv.0) c.with-tally.result = subst (IsTallied (ToldIn (scope_of c.args.env.now (g.R.Row.values c.args.row.now) c.args.locals.now) q (part_of p) (resolved_of e)) (row ∷ inv.0)) (sym c.with-tally.ensures)
+    (one-more (ToldIn (scope_of c.args.env.now (g.R.Row.values c.args.row.now) c.args.locals.now) q (part_of p) (resolved_of e)) inv.0 c.loop-rows.tally row c.in_ok-told_at.field-0 (one-told (scope_of c.args.env.now (g.R.Row.values c.args.row.now) c.args.locals.now) q (part_of p) (resolved_of e)) (walk-new c.loop-rows.rows outside ss inv.0 inv.1)
+    (told-here _ (scope_of c.args.env.now (g.R.Row.values c.args.row.now) c.args.locals.now) row q (part_of p) (resolved_of e) c.in_ok-told_at.field-0 here (c.in_ok-told_at.ensures q l rs p e is)) (inv.2 q l rs p e is)) in
+    subst (IsOver q (λ vs. AreFrom vs ss) (ToldIn (scope_of c.args.env.now (g.R.Row.values c.args.row.now) c.args.locals.now) q (part_of p) (resolved_of e))) (sym (c.truth-then-is_settled.ensures ∙ ap (λ z. truth_by z c.with-tally.result) sq))
+    (settled-truth q (λ vs. AreFrom vs ss) (ToldIn (scope_of c.args.env.now (g.R.Row.values c.args.row.now) c.args.locals.now) q (part_of p) (resolved_of e)) (row ∷ inv.0) c.with-tally.result (walk-done c.loop-rows.rows outside ss inv.0 inv.1) tallied
+    (ap (λ z. is_settled z c.with-tally.result) (sym sq) ∙ sym c.is_settled.ensures ∙ c.if-is_settled.true))
+
+pub binders::over_rows-returns-then-not-branch : goal.binders::over_rows-returns-then-not-branch
+binders::over_rows-returns-then-not-branch g t c =
+    λ q l rs p e is.
+    let i = c.in-Quantified in
+    let outside = seen c.args.locals.now in
+    let ss = spread c.args.sets.now in
+    let row = row_of c.loop-rows.rows in
+    let inv = c.loop-rows.invariant in
+    let here = scope-row c.args.env.now (g.R.Row.values c.args.row.now) c.args.locals.now c.bound.result.now row (ap seen c.bound.ensures ∙ inv.1.at.1) in
+    let sq = same-quantifier i.quantifier q i.field-1 l i.field-2 rs i.field-3 p i.field-4 e (sym i.is ∙ is) in
+    let tallied : IsTallied (ToldIn (scope_of c.args.env.now (g.R.Row.values c.args.row.now) c.args.locals.now) q (part_of p) (resolved_of e)) (row ∷ inv.0) c.with-tally.result = subst (IsTallied (ToldIn (scope_of c.args.env.now (g.R.Row.values c.args.row.now) c.args.locals.now) q (part_of p) (resolved_of e)) (row ∷ inv.0)) (sym c.with-tally.ensures)
+    (one-more (ToldIn (scope_of c.args.env.now (g.R.Row.values c.args.row.now) c.args.locals.now) q (part_of p) (resolved_of e)) inv.0 c.loop-rows.tally row c.in_ok-told_at.field-0 (one-told (scope_of c.args.env.now (g.R.Row.values c.args.row.now) c.args.locals.now) q (part_of p) (resolved_of e)) (walk-new c.loop-rows.rows outside ss inv.0 inv.1)
+    (told-here _ (scope_of c.args.env.now (g.R.Row.values c.args.row.now) c.args.locals.now) row q (part_of p) (resolved_of e) c.in_ok-told_at.field-0 here (c.in_ok-told_at.ensures q l rs p e is)) (inv.2 q l rs p e is)) in
+    let none = stuck outside c.loop-rows.rows c.advance.new.self c.in_ok-advance.field-0 c.if-not-branch.true (c.in_ok-advance.ensures outside inv.1.at) in
+    subst (IsOver q (λ vs. AreFrom vs ss) (ToldIn (scope_of c.args.env.now (g.R.Row.values c.args.row.now) c.args.locals.now) q (part_of p) (resolved_of e))) (sym (c.truth-then-not-branch.ensures ∙ ap (λ z. truth_by z c.with-tally.result) sq))
+    (told-of-all q (λ vs. AreFrom vs ss) (ToldIn (scope_of c.args.env.now (g.R.Row.values c.args.row.now) c.args.locals.now) q (part_of p) (resolved_of e)) (row ∷ inv.0) c.with-tally.result (walk-ended c.loop-rows.rows outside ss inv.0 inv.1 none) (walk-done c.loop-rows.rows outside ss inv.0 inv.1) tallied)
+
+pub binders::over_rows-told_at-requires : goal.binders::over_rows-told_at-requires
+binders::over_rows-told_at-requires g t c =
+    let regular : IsRegularScope (scope_of c.args.env.now (g.R.Row.values c.args.row.now) c.bound.result.now) =
+    walk-scope c.args.env.now (g.R.Row.values c.args.row.now) c.args.locals.now c.bound.result.now c.loop-rows.rows (spread c.args.sets.now) c.loop-rows.invariant.0 c.bound.ensures c.requires.sets c.requires.regular c.loop-rows.invariant.1 in
+    search (rules, regular)
+
+pub binders::quantified-returns-in-Out : goal.binders::quantified-returns-in-Out
+binders::quantified-returns-in-Out g t c =
+    let i = c.in-Quantified in
+    let d = c.in_ok-declared.declared in
+    quantified-told (scope_of c.args.env.now (g.R.Row.values c.args.row.now) c.args.locals.now) c.args.term.now i.quantifier i.field-1 i.ranges c.as_slice.result.now i.field-3 i.field-4 (declared_of d) _ i.is c.as_slice.ensures c.in_ok-declared.ensures.is
+    (subst (λ k. IsQuantified i.quantifier (several_by k (spread d.sets.items)) (ToldIn (scope_of c.args.env.now (g.R.Row.values c.args.row.now) c.args.locals.now) i.quantifier (part_of i.field-3) (resolved_of i.field-4)) Out) (sym c.in-Out.is) refl)
+
+pub binders::quantified-returns-in-Undefined : goal.binders::quantified-returns-in-Undefined
+binders::quantified-returns-in-Undefined g t c =
+    let i = c.in-Quantified in
+    let d = c.in_ok-declared.declared in
+    let P = ToldIn (scope_of c.args.env.now (g.R.Row.values c.args.row.now) c.args.locals.now) i.quantifier (part_of i.field-3) (resolved_of i.field-4) in
+    let tallied = subst (IsTallied P []) (sym c.none.ensures) (none-tallied P) in
+    let told = subst (IsOver i.quantifier (λ vs. ⊥) P) (sym c.truth.ensures) (told-of-all i.quantifier (λ vs. ⊥) P [] c.none.result (λ vs r. absurd r) (λ vs m. m) tallied) in
+    quantified-told (scope_of c.args.env.now (g.R.Row.values c.args.row.now) c.args.locals.now) c.args.term.now i.quantifier i.field-1 i.ranges c.as_slice.result.now i.field-3 i.field-4 (declared_of d) c.truth.result i.is c.as_slice.ensures c.in_ok-declared.ensures.is
+    (subst (λ k. IsQuantified i.quantifier (several_by k (spread d.sets.items)) P c.truth.result) (sym c.in-Undefined.is) told)
+
+pub binders::quantified-returns : goal.binders::quantified-returns
+binders::quantified-returns g t c =
+    let i = c.in-Quantified in
+    let d = c.in_ok-declared.declared in
+    let P = ToldIn (scope_of c.args.env.now (g.R.Row.values c.args.row.now) c.args.locals.now) i.quantifier (part_of i.field-3) (resolved_of i.field-4) in
+    IfOk-weaker c.over_rows.result (IsOver i.quantifier (λ vs. AreFrom vs (spread c.deref.result.now)) P) (IsTruth (scope_of c.args.env.now (g.R.Row.values c.args.row.now) c.args.locals.now) (resolved_of c.args.term.now))
+    (λ u h. quantified-told (scope_of c.args.env.now (g.R.Row.values c.args.row.now) c.args.locals.now) c.args.term.now i.quantifier i.field-1 i.ranges c.as_slice.result.now i.field-3 i.field-4 (declared_of d) u i.is c.as_slice.ensures c.in_ok-declared.ensures.is
+    (subst (λ k. IsQuantified i.quantifier (several_by k (spread d.sets.items)) P u) (sym c.in-Nothing.is) (subst (λ xs. IsOver i.quantifier (λ vs. AreFrom vs (spread xs)) P u) c.deref.ensures.value h)))
+    (c.over_rows.ensures i.quantifier i.field-1 i.ranges i.field-3 i.field-4 i.is)
+
+pub binders::told_at-returns-in-Some : goal.binders::told_at-returns-in-Some
+binders::told_at-returns-in-Some g t c =
+    λ q l rs p e is.
+    let i = c.in-Quantified in
+    let same = sym i.is ∙ is in
+    let sq = same-quantifier i.quantifier q i.field-1 l i.field-2 rs i.constraint p i.body e same in
+    let sp = same-constraint i.quantifier q i.field-1 l i.field-2 rs i.constraint p i.body e same in
+    let told = told-by i.quantifier (λ a. IsConstraint (scope_of c.args.env.now (g.R.Row.values c.args.row.now) c.args.bound.now) (part_of i.constraint) a) (λ b. IsTruth (scope_of c.args.env.now (g.R.Row.values c.args.row.now) c.args.bound.now) (resolved_of e) b) c.in-Some.decided
+    (subst (λ k. IsConnected k (λ a. IsConstraint (scope_of c.args.env.now (g.R.Row.values c.args.row.now) c.args.bound.now) (part_of i.constraint) a) (λ b. IsTruth (scope_of c.args.env.now (g.R.Row.values c.args.row.now) c.args.bound.now) (resolved_of e) b) c.in-Some.decided) c.connective_of-connective.ensures
+    (decided-told c.connective_of-connective.result c.in_ok-p.p c.in-Some.decided (λ a. IsConstraint (scope_of c.args.env.now (g.R.Row.values c.args.row.now) c.args.bound.now) (part_of i.constraint) a) (λ b. IsTruth (scope_of c.args.env.now (g.R.Row.values c.args.row.now) c.args.bound.now) (resolved_of e) b) c.in_ok-p.ensures (sym c.in-Some.ensures))) in
+    subst (λ z. IsTold z (λ a. IsConstraint (scope_of c.args.env.now (g.R.Row.values c.args.row.now) c.args.bound.now) (part_of p) a) (λ b. IsTruth (scope_of c.args.env.now (g.R.Row.values c.args.row.now) c.args.bound.now) (resolved_of e) b) c.in-Some.decided) sq
+    (subst (λ z. IsTold i.quantifier (λ a. IsConstraint (scope_of c.args.env.now (g.R.Row.values c.args.row.now) c.args.bound.now) (part_of z) a) (λ b. IsTruth (scope_of c.args.env.now (g.R.Row.values c.args.row.now) c.args.bound.now) (resolved_of e) b) c.in-Some.decided) sp told)
+
+pub chains::chain-returns : goal.chains::chain-returns
+chains::chain-returns g t c =
+    let i = c.in-Chain in
+    chain-told (scope_of c.args.env.now (g.R.Row.values c.args.row.now) c.args.locals.now) (resolved_of c.args.term.now) i.field-0 i.first c.get.result.now i.links c.as_slice.result.now (found_outcome c.in_ok-first.first) c.linked.result (ap resolved_of i.is ∙ of-Chain i.field-0 i.first i.links) c.get.ensures c.as_slice.ensures c.in_ok-first.ensures.is c.linked.ensures
+
+pub outcome-returns-in-Binary-clause-is : goal.outcome-returns-in-Binary-clause-is
+outcome-returns-in-Binary-clause-is g t c =
+    let i = c.in-Binary in
+    subst (λ d. IfOk c.binary.result (λ o. HasOutcome (scope_of c.args.env.now (g.R.Row.values c.args.row.now) c.args.locals.now) d (found_outcome o)))
+    (ap (λ x. tree.binary i.field-0 i.op (resolved_of x) (resolved_of c.get-in-Binary-2.result.now)) c.get-in-Binary.ensures ∙ ap (λ x. tree.binary i.field-0 i.op (resolved_of i.left) (resolved_of x)) c.get-in-Binary-2.ensures ∙ sym (ap resolved_of i.is ∙ of-Binary i.field-0 i.op i.left i.right))
+    (c.binary.ensures.is c.in-Binary.field-0)
+
+pub outcome-returns-in-Listed-clause-is : goal.outcome-returns-in-Listed-clause-is
+outcome-returns-in-Listed-clause-is g t c =
+    let i = c.in-Listed in
+    subst (λ d. IfOk c.listed.result (λ o. HasOutcome (scope_of c.args.env.now (g.R.Row.values c.args.row.now) c.args.locals.now) d (found_outcome o)))
+    (ap (λ xs. tree.listed i.field-0 i.form (tree.terms (map resolved_of xs))) c.as_slice.ensures ∙ sym (ap resolved_of i.is ∙ of-Listed i.field-0 i.form i.terms))
+    (c.listed.ensures.is c.in-Listed.field-0)
+
+pub outcome-returns-in-Unary-clause-is : goal.outcome-returns-in-Unary-clause-is
+outcome-returns-in-Unary-clause-is g t c =
+    let i = c.in-Unary in
+    subst (λ d. IfOk c.unary.result (λ o. HasOutcome (scope_of c.args.env.now (g.R.Row.values c.args.row.now) c.args.locals.now) d (found_outcome o)))
+    (ap (λ x. tree.unary i.field-0 i.op (resolved_of x)) c.get-in-Unary.ensures ∙ sym (ap resolved_of i.is ∙ of-Unary i.field-0 i.op i.of))
+    (c.unary.ensures.is c.in-Unary.field-0)
+
+pub truth-returns-in-Binary : goal.truth-returns-in-Binary
+truth-returns-in-Binary g t c =
+    let i = c.in-Binary in
+    subst (λ d. IfOk c.connective.result (IsTruth (scope_of c.args.env.now (g.R.Row.values c.args.row.now) c.args.locals.now) d))
+    (ap (λ x. tree.binary i.field-0 i.op (resolved_of x) (resolved_of c.get-in-Binary-2.result.now)) c.get-in-Binary.ensures ∙ ap (λ x. tree.binary i.field-0 i.op (resolved_of i.left) (resolved_of x)) c.get-in-Binary-2.ensures ∙ sym (ap resolved_of i.is ∙ of-Binary i.field-0 i.op i.left i.right))
+    (c.connective.ensures c.in-Binary.field-0)
+
+pub truth-returns-in-Unary : goal.truth-returns-in-Unary
+truth-returns-in-Unary g t c =
+    let i = c.in-Unary in
+    subst (λ d. IfOk c.not.result (IsTruth (scope_of c.args.env.now (g.R.Row.values c.args.row.now) c.args.locals.now) d))
+    (ap (λ x. tree.unary i.field-0 i.op (resolved_of x)) c.get-in-Unary.ensures ∙ sym (ap resolved_of i.is ∙ of-Unary i.field-0 i.op i.of))
+    (c.not.ensures c.in-Unary.field-0)

@@ -1,0 +1,56 @@
+use Rattle.std.proofs.Common.{◌≡◌, ℕ, List, Option, length, map, drop}
+use Rattle.zf_scan.specs.declared.token.Quantifier.{Quantifier}
+use Rattle.zf_term.specs.declared.resolved.Range.{Range}
+use Rattle.zf_term.specs.declared.resolved.Resolved.{Resolved}
+use Rattle.zf_term.specs.declared.resolved.Resolved.TheVariants as form
+use Rattle.zf_term.specs.ResolvedTrees.{resolved_of, resolved_link_of, part_of, links}
+use Rattle.zf_value.specs.declared.value.Value.{Value}
+use Rattle.zf_value.specs.declared.value.Truth.{Truth}
+use Rattle.zf_value.specs.Sets.{AreRegular, IsRegularOutcome}
+use Rattle.zf_meaning.specs.Connected.{conjunction}
+use Rattle.zf_meaning.specs.Found.{found_outcome}
+use Rattle.zf_meaning.specs.Meaning.{AreLinked}
+use Rattle.zf_meaning.specs.Places.{seen}
+use Rattle.zf_meaning.specs.RangeSets.{spread}
+use Rattle.zf_meaning.specs.Rowed.{ahead}
+use Rattle.zf_meaning.specs.Scopes.{scope_of}
+use Rattle.zf_meaning.proofs.Builds.{HasBuilt}
+use Rattle.zf_meaning.proofs.Gathering.{GathersTo, RangesTo}
+use Rattle.zf_meaning.proofs.Told.{IsTallied}
+use Rattle.zf_meaning.proofs.Walking.{WalksOver, FilterIn, TermIn, ToldIn}
+use Rattle.zf_meaning.proofs.evaluate.+meaning.Given as goal
+
+abbrev pub invariant-binders::built_over-loop-rows : goal.invariant-binders::built_over-loop-rows
+invariant-binders::built_over-loop-rows g l =
+    (done : List (List Value)) × WalksOver l.rows (seen l.locals) (spread l.sets) done × AreRegular l.built.items
+    × ((n : ℕ) (rs : List Range) (p e : Option Resolved) → l.term ≡ form.Builder n rs p e → HasBuilt (FilterIn (scope_of l.env (g.R.Row.values l.row) l.locals) (part_of p)) (TermIn (scope_of l.env (g.R.Row.values l.row) l.locals) (part_of e)) done l.built.items)
+
+abbrev pub decreases-binders::built_over-loop-rows : goal.decreases-binders::built_over-loop-rows
+decreases-binders::built_over-loop-rows g l = length (ahead l.rows)
+
+abbrev pub invariant-binders::over_rows-loop-rows : goal.invariant-binders::over_rows-loop-rows
+invariant-binders::over_rows-loop-rows g l =
+    (done : List (List Value)) × WalksOver l.rows (seen l.locals) (spread l.sets) done
+    × ((q : Quantifier) (n : ℕ) (rs : List Range) (p : Option Resolved) (e : Resolved) → l.term ≡ form.Quantified q n rs p e → IsTallied (ToldIn (scope_of l.env (g.R.Row.values l.row) l.locals) q (part_of p) (resolved_of e)) done l.tally)
+
+abbrev pub decreases-binders::over_rows-loop-rows : goal.decreases-binders::over_rows-loop-rows
+decreases-binders::over_rows-loop-rows g l = length (ahead l.rows)
+
+abbrev pub invariant-chains::linked-loop-link : goal.invariant-chains::linked-loop-link
+invariant-chains::linked-loop-link g l = record {
+  linked : (u : Truth) → AreLinked (scope_of l.env (g.R.Row.values l.row) l.locals) (found_outcome l.left) (links (map resolved_link_of (drop l.link-index l.links))) u
+      → AreLinked (scope_of l.env (g.R.Row.values l.row) l.locals) (found_outcome l.initial.left) (links (map resolved_link_of l.links)) (conjunction l.truth u);
+  regular : IsRegularOutcome (found_outcome l.left);
+}
+
+abbrev pub invariant-operands::gather-loop-term : goal.invariant-operands::gather-loop-term
+invariant-operands::gather-loop-term g l = record {
+  gathers : GathersTo (scope_of l.env (g.R.Row.values l.row) l.locals) l.terms (drop l.term-index l.terms) l.gathered.lack l.gathered.values.items;
+  regular : AreRegular l.gathered.values.items;
+}
+
+abbrev pub invariant-ranges::declared_sets-loop-range : goal.invariant-ranges::declared_sets-loop-range
+invariant-ranges::declared_sets-loop-range g l = record {
+  gathers : RangesTo (scope_of l.env (g.R.Row.values l.row) l.locals) l.ranges (drop l.range-index l.ranges) l.declared.lack (spread l.declared.sets.items);
+  regular : AreRegular (spread l.declared.sets.items);
+}

@@ -1,0 +1,6 @@
+use Rattle.std.proofs.Common.{◌≡◌, take}
+use Rattle.zf_meaning.specs.Places.{seen}
+use Rattle.zf_meaning.proofs.evaluate.binders.value_of_row.Given as goal
+
+abbrev pub invariant-loop-value : goal.invariant-loop-value
+invariant-loop-value l = l.copies.items ≡ take l.value-index (seen l.values)

@@ -1,0 +1,7 @@
+use Rattle.std.proofs.Common.{sym, subst}
+use Rattle.zf_value.specs.Sets.{IsRegular}
+use Rattle.zf_value.proofs.Regulars.{regular-Int}
+use Rattle.zf_meaning.proofs.evaluate.number.Goals as goal
+
+pub returns-in-Ok-clause-regular : goal.returns-in-Ok-clause-regular
+returns-in-Ok-clause-regular c = subst IsRegular (sym c.own.ensures) (regular-Int _)

@@ -1,0 +1,7 @@
+use Rattle.std.proofs.Common.{◌≡◌, eqb, false, length, take}
+use Rattle.std.specs.List.{list_any}
+use Rattle.zf_meaning.specs.Places.{seen}
+use Rattle.zf_meaning.proofs.rows.has_empty.Given as goal
+
+abbrev pub invariant-loop-list : goal.invariant-loop-list
+invariant-loop-list l = list_any (λ xs. eqb (length xs) 0) (seen (take l.list-index l.lists)) ≡ false

@@ -1,0 +1,16 @@
+-- Which form a term has. No public clause rests on this.
+use Rattle.std.specs.Prelude.{◌≡◌, ℕ, List, Option}
+use Rattle.zf_scan.specs.declared.token.Quantifier.{Quantifier}
+use Rattle.zf_term.specs.declared.resolved.Resolved.{Resolved}
+use Rattle.zf_term.specs.declared.resolved.Resolved.TheVariants as form
+use Rattle.zf_term.specs.declared.resolved.ResolvedLink.{ResolvedLink}
+use Rattle.zf_term.specs.declared.resolved.Range.{Range}
+
+abbrev pub IsChain : Resolved → Type 0
+IsChain t = (l : ℕ) × (a : Resolved) × (ks : List ResolvedLink) × (t ≡ form.Chain l a ks)
+
+abbrev pub IsQuantified : Resolved → Type 0
+IsQuantified t = (q : Quantifier) × (l : ℕ) × (rs : List Range) × (p : Option Resolved) × (e : Resolved) × (t ≡ form.Quantified q l rs p e)
+
+abbrev pub IsBuilder : Resolved → Type 0
+IsBuilder t = (l : ℕ) × (rs : List Range) × (p e : Option Resolved) × (t ≡ form.Builder l rs p e)

@@ -1,0 +1,138 @@
+-- What terms mean: the outcome of an expression and the truth of a predicate, as relations.
+-- They are total: an expression that typing rules out is undefined, and a predicate false.
+use Rattle.std.specs.Prelude.{◌≡◌, ◌⊎◌, pos, if◌then◌else◌, List, [], ◌∷◌, Option, Some, None}
+use Rattle.zf_scan.specs.declared.token.Constant.{Constant}
+use Rattle.zf_scan.specs.declared.token.Constant.TheVariants as constants
+use Rattle.zf_scan.specs.declared.token.Relation.{Relation}
+use Rattle.zf_term.specs.declared.extent.Infinite.{Infinite}
+use Rattle.zf_term.specs.declared.operator.Operator.TheVariants.{Connective}
+use Rattle.zf_term.specs.declared.operator.Unary.TheVariants.{Not}
+use Rattle.zf_term.specs.Extents.{direct, is_membership}
+use Rattle.zf_term.specs.ResolvedTrees.{ResolvedTree, reference, number, constant, empty_set, bracket, listed, builder, unary, binary, chain, quantified, ResolvedTrees, no_terms, term, ResolvedLinks, no_links, link, Ranges, no_ranges, range, ResolvedPart, absent, present}
+use Rattle.zf_value.specs.declared.value.Value.{Value, Tuple}
+use Rattle.zf_value.specs.declared.value.Outcome.{Outcome}
+use Rattle.zf_value.specs.declared.value.Outcome.TheVariants.{Is, Undefined, Out}
+use Rattle.zf_value.specs.declared.value.Truth.{Truth}
+use Rattle.zf_value.specs.declared.value.Truth.TheVariants as truth
+use Rattle.zf_value.specs.Numbers.{IsNumber}
+use Rattle.zf_value.specs.Operations.{AreFrom, IsEmptySet}
+use Rattle.zf_value.specs.Sets.{IsSetOf}
+use Rattle.zf_meaning.specs.Environments.{Context, within, outcome_in}
+use Rattle.zf_meaning.specs.Outcomes.{OnOne, OnBoth, Several, values, one_undefined, one_out, one_more, repeated, OnSeveral}
+use Rattle.zf_meaning.specs.Symbols.{BinaryOutcome, UnaryOutcome, ListedOutcome, Holds, HoldsOf}
+use Rattle.zf_meaning.specs.Truths.{IsAtom, IsTest, opposite, IsConjunction, IsConnected, IsTold, IsQuantified}
+
+-- ---- constants
+
+-- an infinite set is out as a value
+abbrev pub constant_outcome : Constant → Outcome
+constant_outcome constants.True = Undefined
+constant_outcome constants.False = Undefined
+constant_outcome constants.Integers = Out
+constant_outcome constants.Naturals = Out
+constant_outcome constants.Positives = Out
+
+abbrev pub constant_truth : Constant → Truth
+constant_truth constants.True = truth.True
+constant_truth constants.False = truth.False
+constant_truth constants.Integers = truth.False
+constant_truth constants.Naturals = truth.False
+constant_truth constants.Positives = truth.False
+
+-- ---- links of a chain
+
+-- the infinite set that a link tests for, if the whole right side of a membership is one
+abbrev pub infinite_right : Context → Relation → ResolvedTree → Option Infinite
+infinite_right c r t = if is_membership r then direct c.environment.globals t else None
+
+-- the truth of a link between two outcomes, where the right one may be an infinite set instead
+abbrev pub IsLink : Option Infinite → Relation → Outcome → Outcome → Truth → Type 0
+IsLink None r x y t = IsAtom x y (Holds r) t
+IsLink (Some s) r x y t = IsTest x (HoldsOf s r) t
+
+-- ---- builders, over the rows that R admits, where F and T say the truth of a row's filter and the outcome of its term
+
+-- what a builder without a term builds: the one variable, or the tuple of all
+abbrev pub row_value : List Value → Value
+row_value (v ∷ []) = v
+row_value vs = Tuple vs
+
+-- the value is that of the term in a row where the filter is true
+abbrev pub IsBuiltBy : (List Value → Type 0) → (List Value → Truth → Type 0) → (List Value → Outcome → Type 0) → Value → Type 0
+IsBuiltBy R F T z = (vs : List Value) × R vs × F vs truth.True × T vs (Is z)
+
+-- the filter is false, or it is true and the term is not out
+abbrev pub IsWithinBounds : (List Value → Truth → Type 0) → (List Value → Outcome → Type 0) → List Value → Type 0
+IsWithinBounds F T vs = F vs truth.False ⊎ (F vs truth.True × (T vs Undefined ⊎ ((z : Value) × T vs (Is z))))
+
+-- the filter is out, or it is true and the term is out
+abbrev pub IsOutOfBounds : (List Value → Truth → Type 0) → (List Value → Outcome → Type 0) → List Value → Type 0
+IsOutOfBounds F T vs = F vs truth.Out ⊎ (F vs truth.True × T vs Out)
+
+abbrev pub IsBuiltOver : (List Value → Type 0) → (List Value → Truth → Type 0) → (List Value → Outcome → Type 0) → Outcome → Type 0
+IsBuiltOver R F T (Is v) = ((vs : List Value) → R vs → IsWithinBounds F T vs) × IsSetOf (IsBuiltBy R F T) (Is v)
+IsBuiltOver R F T Undefined = ⊥
+IsBuiltOver R F T Out = ((vs : List Value) × R vs × IsOutOfBounds F T vs) ⊎ IsSetOf (IsBuiltBy R F T) Out
+
+-- out where a range is out, else over no row where one is undefined
+abbrev pub IsBuilt : Several → (List Value → Truth → Type 0) → (List Value → Outcome → Type 0) → Outcome → Type 0
+IsBuilt one_out F T o = o ≡ Out
+IsBuilt one_undefined F T o = IsEmptySet o
+IsBuilt (values ss) F T o = IsBuiltOver (λ vs. AreFrom vs ss) F T o
+
+-- ---- terms
+
+abbrev mutual
+  -- o is the outcome of the expression
+  pub HasOutcome : Context → ResolvedTree → Outcome → Type 0
+  HasOutcome c (reference l r) o = o ≡ outcome_in c r
+  HasOutcome c (number l n) o = IsNumber (pos n) o
+  HasOutcome c (constant l k) o = o ≡ constant_outcome k
+  HasOutcome c (empty_set l t) o = IsEmptySet o
+  HasOutcome c (bracket l t) o = HasOutcome c t o
+  HasOutcome c (listed l form ts) o = (s : Several) × HaveOutcomes c ts s × OnSeveral s (ListedOutcome form) o
+  HasOutcome c (builder l rs p t) o = (s : Several) × HaveRanges c rs s × IsBuilt s (λ vs u. IsConstraint (within c vs) p u) (λ vs x. Builds (within c vs) vs t x) o
+  HasOutcome c (unary l op t) o = (x : Outcome) × HasOutcome c t x × OnOne x (UnaryOutcome op) o
+  HasOutcome c (binary l op a b) o = (x y : Outcome) × HasOutcome c a x × HasOutcome c b y × OnBoth x y (BinaryOutcome op) o
+  HasOutcome c (chain l t ks) o = o ≡ Undefined
+  HasOutcome c (quantified l q rs p t) o = o ≡ Undefined
+
+  -- the terms have these values
+  pub HaveOutcomes : Context → ResolvedTrees → Several → Type 0
+  HaveOutcomes c no_terms s = s ≡ values []
+  HaveOutcomes c (term t ts) s = (x : Outcome) × (r : Several) × HasOutcome c t x × HaveOutcomes c ts r × (s ≡ one_more x r)
+
+  -- the declared sets have these values, one for each variable
+  pub HaveRanges : Context → Ranges → Several → Type 0
+  HaveRanges c no_ranges s = s ≡ values []
+  HaveRanges c (range n t rs) s = (x : Outcome) × (r : Several) × HasOutcome c t x × HaveRanges c rs r × (s ≡ repeated n x r)
+
+  -- the outcome of the term of a builder, in the row of its variables
+  pub Builds : Context → List Value → ResolvedPart → Outcome → Type 0
+  Builds c vs absent o = o ≡ Is (row_value vs)
+  Builds c vs (present t) o = HasOutcome c t o
+
+  -- u is the truth of a filter or constraint
+  pub IsConstraint : Context → ResolvedPart → Truth → Type 0
+  IsConstraint c absent u = u ≡ truth.True
+  IsConstraint c (present t) u = IsTruth c t u
+
+  -- u is the truth of the predicate
+  pub IsTruth : Context → ResolvedTree → Truth → Type 0
+  IsTruth c (constant l k) u = u ≡ constant_truth k
+  IsTruth c (bracket l t) u = IsTruth c t u
+  IsTruth c (unary l Not t) u = IsTruth c t (opposite u)
+  IsTruth c (binary l (Connective k) a b) u = IsConnected k (λ p. IsTruth c a p) (λ q. IsTruth c b q) u
+  IsTruth c (chain l t ks) u = (x : Outcome) × HasOutcome c t x × AreLinked c x ks u
+  IsTruth c (quantified l q rs p t) u = (s : Several) × HaveRanges c rs s × IsQuantified q s (λ vs w. IsTold q (λ a. IsConstraint (within c vs) p a) (λ b. IsTruth (within c vs) t b) w) u
+  IsTruth c _ u = u ≡ truth.False
+
+  -- u is the truth of what is left of a chain, behind an operand of this outcome: the conjunction of its links
+  pub AreLinked : Context → Outcome → ResolvedLinks → Truth → Type 0
+  AreLinked c x no_links u = u ≡ truth.True
+  AreLinked c x (link r t ks) u = (y : Outcome) × HasOutcome c t y × IsConjunction (λ p. IsLink (infinite_right c r t) r x y p) (λ q. AreLinked c y ks q) u
+
+-- the truth of a whole binding is the conjunction of the schema's conjuncts
+abbrev pub IsTruthOfAll : Context → List ResolvedTree → Truth → Type 0
+IsTruthOfAll c [] u = u ≡ truth.True
+IsTruthOfAll c (t ∷ ts) u = IsConjunction (λ p. IsTruth c t p) (λ q. IsTruthOfAll c ts q) u

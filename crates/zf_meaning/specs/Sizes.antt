@@ -1,0 +1,94 @@
+-- The sizes of given sets and free types: which stated sizes are accepted, what is refused first, and what the sizes then are.
+use Rattle.std.specs.Prelude.{◌≡◌, ℕ, ◌<◌, ◌≤◌, List, [], ◌∷◌, ◌++◌, length, map, All, Contains}
+use Rattle.zf_term.specs.Definitions.{Defined, Definition, given_set, free_type, constructor, abbreviation, schema}
+use Rattle.zf_value.specs.declared.TheConstants.{SET_MAX}
+use Rattle.zf_meaning.specs.declared.sizes.Size.{Size}
+use Rattle.zf_meaning.specs.declared.sizes.SizeFault.{SizeFault}
+use Rattle.zf_meaning.specs.declared.sizes.SizeFault.TheVariants.{NoSize, NotGiven, SizeTwice, SizeTooLarge, OutOfMemory}
+
+-- the name of a given set, before others
+abbrev pub with_given : List ℕ → Definition → List (List ℕ) → List (List ℕ)
+with_given name (given_set n) names = name ∷ names
+with_given name (free_type n constructors) names = names
+with_given name (constructor n of_type place) names = names
+with_given name (abbreviation t r x) names = names
+with_given name (schema a) names = names
+
+-- the given sets, in order of definition
+abbrev pub given_sets : List Defined → List (List ℕ)
+given_sets [] = []
+given_sets (d ∷ g) = with_given d.name d.definition (given_sets g)
+
+-- the names that sizes are stated for
+abbrev pub names : List Size → List (List ℕ)
+names sizes = map (λ s. s.name) sizes
+
+-- ---- what is accepted
+
+-- A size is accepted after the earlier ones: it is that of a given set, none of them is, and it is not too large.
+pub record IsAccepted (sets : List (List ℕ)) (earlier : List Size) (size : Size) : Type 0 where
+  pub given : Contains sets size.name
+  pub first : ¬ (Contains (names earlier) size.name)
+  pub small : size.count ≤ SET_MAX
+
+-- Each size is accepted after those before it.
+abbrev pub AreAccepted : List (List ℕ) → List Size → Type 0
+AreAccepted sets sizes = (earlier : List Size) (size : Size) (later : List Size) → sizes ≡ earlier ++ size ∷ later → IsAccepted sets earlier size
+
+-- All sizes are accepted, and each given set has one.
+pub record AreComplete (sets : List (List ℕ)) (sizes : List Size) : Type 0 where
+  pub accepted : AreAccepted sets sizes
+  pub sized : All (λ set. Contains (names sizes) set) sets
+
+-- ---- what is refused
+
+-- The fault of a size after the earlier ones. Want of memory says nothing.
+abbrev pub Refuses : List (List ℕ) → List Size → Size → SizeFault → Type 0
+Refuses sets earlier size (NotGiven name) = (name ≡ size.name) × ¬ (Contains sets name)
+Refuses sets earlier size (SizeTwice name) = (name ≡ size.name) × Contains sets name × Contains (names earlier) name
+Refuses sets earlier size (SizeTooLarge name) = (name ≡ size.name) × Contains sets name × ¬ (Contains (names earlier) name) × (SET_MAX < size.count)
+Refuses sets earlier size (NoSize name) = ⊥
+Refuses sets earlier size OutOfMemory = Unit {0}
+
+-- The fault is that of the first size that is not accepted.
+pub record RefusesSize (sets : List (List ℕ)) (sizes : List Size) (fault : SizeFault) : Type 0 where
+  pub earlier : List Size
+  pub size : Size
+  pub later : List Size
+  pub split : sizes ≡ earlier ++ size ∷ later
+  pub accepted : AreAccepted sets earlier
+  pub refused : Refuses sets earlier size fault
+
+-- All sizes are accepted, and this is the first given set that has none.
+pub record LacksSize (sets : List (List ℕ)) (sizes : List Size) (name : List ℕ) : Type 0 where
+  pub accepted : AreAccepted sets sizes
+  pub earlier : List (List ℕ)
+  pub later : List (List ℕ)
+  pub split : sets ≡ earlier ++ name ∷ later
+  pub sized : All (λ set. Contains (names sizes) set) earlier
+  pub lacking : ¬ (Contains (names sizes) name)
+
+-- The first fault of the sizes. Want of memory says nothing.
+abbrev pub IsRefusal : List (List ℕ) → List Size → SizeFault → Type 0
+IsRefusal sets sizes (NoSize name) = LacksSize sets sizes name
+IsRefusal sets sizes OutOfMemory = Unit {0}
+IsRefusal sets sizes fault = RefusesSize sets sizes fault
+
+-- ---- the sizes
+
+-- the size is stated for the name
+abbrev pub IsStated : List Size → List ℕ → ℕ → Type 0
+IsStated sizes name count = Contains sizes (record { name = name; count = count })
+
+-- a given set has the size that is stated, a free type as many elements as constructors; R says what the sizes of later ones are
+abbrev pub AddsSize : List Size → List ℕ → Definition → (List ℕ → Type 0) → List ℕ → Type 0
+AddsSize stated name (given_set n) R sizes = (count : ℕ) × (later : List ℕ) × IsStated stated name count × R later × (sizes ≡ count ∷ later)
+AddsSize stated name (free_type n names) R sizes = (later : List ℕ) × R later × (sizes ≡ length names ∷ later)
+AddsSize stated name (constructor n of_type place) R sizes = R sizes
+AddsSize stated name (abbreviation t r x) R sizes = R sizes
+AddsSize stated name (schema a) R sizes = R sizes
+
+-- how many elements each given set and free type has, in order of definition
+abbrev pub AreSizes : List Size → List Defined → List ℕ → Type 0
+AreSizes stated [] sizes = sizes ≡ []
+AreSizes stated (d ∷ g) sizes = AddsSize stated d.name d.definition (λ later. AreSizes stated g later) sizes

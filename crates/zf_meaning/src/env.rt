@@ -1,0 +1,86 @@
+//! Environments: the globals, with the sizes of given sets and free types, and the outcome of each.
+ghost use Rattle.std.specs.Prelude.{◌≡◌, None, Some, IfOk, IfErr, MatchOption, OnOk, slice_get};
+ghost use Rattle.zf_term.specs.Definitions.{globals_of};
+ghost use Rattle.zf_meaning.specs.Envs.{environment_of};
+ghost use Rattle.zf_meaning.specs.GlobalOutcomes.{IsEnvironment, AreWorkedOut};
+ghost use Rattle.zf_value.specs.Sets.{IsRegularOutcome};
+ghost use Rattle.zf_meaning.specs.Sizes.{given_sets, AreComplete, IsRefusal};
+
+use crate::global_outcome::outcome_at;
+use crate::outcomes::Outcomes;
+use crate::sizes::{Size, SizeFault, check_sizes, given_names, sizes_of};
+use std::alloc::{AllocError, Global};
+use zf_term::globals::Globals;
+use zf_value::value::Outcome;
+
+/// The globals of a text at stated sizes. The outcome of each abbreviation is worked out once.
+#[derive(Drop)]
+pub struct Env<'g, 'a> {
+    globals: &'g Globals<'a>,
+    sizes: Vec<u64>,
+    outcomes: Outcomes,
+}
+
+impl<'g, 'a> Env<'g, 'a> {
+    /// The globals at these sizes of the given sets.
+    pub fn new(
+        alloc: Global,
+        globals: &'g Globals<'a>,
+        sizes: &[Size],
+    ) -> Result<Env<'g, 'a>, SizeFault>
+        ensures complete { OnOk result (AreComplete (given_sets (globals_of globals.now)) sizes.now) }
+        ensures is { IfOk result (λ e. IsEnvironment (globals_of globals.now) sizes.now (environment_of e)) }
+        ensures refused { IfErr result (IsRefusal (given_sets (globals_of globals.now)) sizes.now) }
+    {
+        check_sizes(alloc, &given_names(alloc, globals)?, sizes)?;
+        let sizes = sizes_of(alloc, globals, sizes)?;
+        Ok(worked_out(alloc, globals, sizes)?)
+    }
+
+    pub fn globals(&self) -> &'g Globals<'a>
+        ensures { globals_of result.now ≡ (environment_of self.now).globals }
+    {
+        self.globals
+    }
+
+    /// How many elements the given set or free type of this number has.
+    pub fn size(&self, number: u32) -> Option<u64>
+        ensures { result ≡ slice_get (environment_of self.now).sizes number }
+    {
+        self.sizes.get(number as usize).copied()
+    }
+
+    /// The outcome of the global at this place.
+    pub(crate) fn outcome(&self, place: usize) -> Option<&Outcome>
+        ensures is { MatchOption result (slice_get (environment_of self.now).outcomes place ≡ None) (λ o. slice_get (environment_of self.now).outcomes place ≡ Some o.now) }
+        ensures regular { MatchOption result (Unit {0}) (λ o. IsRegularOutcome o.now) }
+    {
+        self.outcomes.get(place)
+    }
+
+    pub(crate) fn allocator(&self) -> Global {
+        *self.sizes.allocator()
+    }
+}
+
+/// The outcomes of the globals at these sizes, each by those before it.
+fn worked_out<'g, 'a>(
+    alloc: Global,
+    globals: &'g Globals<'a>,
+    sizes: Vec<u64>,
+) -> Result<Env<'g, 'a>, AllocError>
+    ensures globals { IfOk result (λ e. (environment_of e).globals ≡ globals_of globals.now) }
+    ensures sizes { IfOk result (λ e. (environment_of e).sizes ≡ sizes.items) }
+    ensures outcomes { IfOk result (λ e. AreWorkedOut (environment_of e)) }
+{
+    let mut env = Env {
+        globals,
+        sizes,
+        outcomes: Outcomes::new(alloc),
+    };
+    for place in 0..globals.len() {
+        let outcome = outcome_at(&env, place)?;
+        env.outcomes.push(outcome)?;
+    }
+    Ok(env)
+}

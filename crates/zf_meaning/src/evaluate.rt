@@ -1,0 +1,180 @@
+//! The evaluator: the outcome of an expression, and the truth of a predicate.
+ghost use Rattle.std.specs.Prelude.{◌≡◌, IfOk, pos, slice_get};
+ghost use Rattle.zf_term.specs.ResolvedTrees.{resolved_of};
+ghost use Rattle.zf_value.specs.Numbers.{IsNumber};
+ghost use Rattle.zf_value.specs.Operations.{IsEmptySet};
+ghost use Rattle.zf_value.specs.Sets.{IsRegularOutcome};
+ghost use Rattle.zf_meaning.specs.Environments as spec;
+ghost use Rattle.zf_meaning.specs.Envs.{environment_of};
+ghost use Rattle.zf_meaning.specs.Found.{found_of, found_outcome};
+ghost use Rattle.zf_meaning.specs.Meaning as meaning;
+ghost use Rattle.zf_meaning.specs.Meaning.{HasOutcome, IsTruth};
+ghost use Rattle.zf_meaning.specs.Places.{seen};
+ghost use Rattle.zf_meaning.specs.Scopes.{scope_of, IsRegularScope};
+
+mod binders;
+mod chains;
+mod operands;
+mod ranges;
+
+use crate::env::Env;
+use crate::found::Found;
+use crate::row::Row;
+use binders::{builder, quantified};
+use chains::chain;
+use operands::{binary, connective, listed, not, unary};
+use std::alloc::{AllocError, Global};
+use zf_scan::token::Constant;
+use zf_term::operator::{Operator, Unary};
+use zf_term::resolved::{Reference, Resolved};
+use zf_value::lent::Lent;
+use zf_value::set;
+use zf_value::value::{Outcome, Truth, Value};
+
+/// The outcome of an expression.
+#[cycle(meaning)]
+#[tactic(auto, using(zf_term::proofs::ResolvedSeen::seen))]
+pub(crate) fn outcome<'v, 'a, R: Row>(
+    term: &Resolved<'a>,
+    row: &'v R,
+    locals: &[&'v Value],
+    env: &'v Env<'_, 'a>,
+) -> Result<Found<'v>, AllocError>
+    requires { IsRegularScope (scope_of env.now (R.values row.now) locals.now) }
+    ensures is { IfOk result (λ o. HasOutcome (scope_of env.now (R.values row.now) locals.now) (resolved_of term.now) (found_outcome o)) }
+    ensures regular { IfOk result (λ o. IsRegularOutcome (found_outcome o)) }
+{
+    match term {
+        Resolved::Name(_, reference) => Ok(named(*reference, row, locals, env)),
+        Resolved::Number(_, value) => Ok(number(*value)),
+        Resolved::Constant(_, constant) => Ok(constant_outcome(*constant)),
+        Resolved::EmptySet(_, _) => empty_set(env.allocator()),
+        Resolved::Bracket(_, inner) => outcome(inner.get(), row, locals, env),
+        Resolved::Listed(_, form, terms) => listed(terms.as_slice(), *form, row, locals, env),
+        Resolved::Builder(_, _, _, _) => builder(term, row, locals, env),
+        Resolved::Unary(_, op, of) => unary(of.get(), *op, row, locals, env),
+        Resolved::Binary(_, op, left, right) => {
+            binary(term, *op, left.get(), right.get(), row, locals, env)
+        }
+        Resolved::Chain(_, _, _) => Ok(Found::Undefined),
+        Resolved::Quantified(_, _, _, _, _) => Ok(Found::Undefined),
+    }
+}
+
+/// The truth of a predicate.
+#[cycle(meaning)]
+#[tactic(auto, using(zf_term::proofs::ResolvedSeen::seen))]
+pub(crate) fn truth<'v, 'a, R: Row>(
+    term: &Resolved<'a>,
+    row: &'v R,
+    locals: &[&'v Value],
+    env: &'v Env<'_, 'a>,
+) -> Result<Truth, AllocError>
+    requires { IsRegularScope (scope_of env.now (R.values row.now) locals.now) }
+    ensures { IfOk result (IsTruth (scope_of env.now (R.values row.now) locals.now) (resolved_of term.now)) }
+{
+    match term {
+        Resolved::Constant(_, constant) => Ok(constant_truth(*constant)),
+        Resolved::Bracket(_, inner) => truth(inner.get(), row, locals, env),
+        Resolved::Unary(_, op, of) => not(of.get(), *op, row, locals, env),
+        Resolved::Binary(_, op, left, right) => {
+            connective(term, *op, left.get(), right.get(), row, locals, env)
+        }
+        Resolved::Chain(_, _, _) => chain(term, row, locals, env),
+        Resolved::Quantified(_, _, _, _, _) => quantified(term, row, locals, env),
+        Resolved::Name(_, _) => Ok(Truth::False),
+        Resolved::Number(_, _) => Ok(Truth::False),
+        Resolved::EmptySet(_, _) => Ok(Truth::False),
+        Resolved::Listed(_, _, _) => Ok(Truth::False),
+        Resolved::Builder(_, _, _, _) => Ok(Truth::False),
+    }
+}
+
+fn named<'v, 'a, R: Row>(
+    reference: Reference,
+    row: &'v R,
+    locals: &[&'v Value],
+    env: &'v Env<'_, 'a>,
+) -> Found<'v>
+    requires { IsRegularScope (scope_of env.now (R.values row.now) locals.now) }
+    ensures is { found_outcome result ≡ spec.outcome_in (scope_of env.now (R.values row.now) locals.now) reference }
+    ensures regular { IsRegularOutcome (found_outcome result) }
+{
+    match reference {
+        Reference::Component(place) => Found::lent(component(row, place)),
+        Reference::Local(place) => Found::lent(local(locals, place)),
+        Reference::Global(place) => global(env, place),
+    }
+}
+
+fn component<R: Row>(row: &R, place: usize) -> Option<&Value>
+    ensures { found_of result ≡ spec.value_or (slice_get (R.values row.now) place) }
+{
+    if place < row.len() {
+        Some(row.get(place))
+    } else {
+        None
+    }
+}
+
+fn local<'v>(locals: &[&'v Value], place: usize) -> Option<&'v Value>
+    ensures { found_of result ≡ spec.value_or (slice_get (seen locals.now) place) }
+{
+    if place < locals.len() {
+        Some(locals[place])
+    } else {
+        None
+    }
+}
+
+fn global<'v>(env: &'v Env<'_, '_>, place: usize) -> Found<'v>
+    ensures is { found_outcome result ≡ spec.outcome_or (slice_get (environment_of env.now).outcomes place) }
+    ensures regular { IsRegularOutcome (found_outcome result) }
+{
+    match env.outcome(place) {
+        Some(outcome) => Found::seen(outcome),
+        None => Found::Undefined,
+    }
+}
+
+fn number<'v>(value: u64) -> Found<'v>
+    ensures is { IsNumber (pos value) (found_outcome result) }
+    ensures regular { IsRegularOutcome (found_outcome result) }
+{
+    match i64::try_from(value) {
+        Ok(n) => Found::Is(Lent::own(Value::Int(n))),
+        Err(_) => Found::Out,
+    }
+}
+
+fn constant_outcome<'v>(constant: Constant) -> Found<'v>
+    ensures { found_outcome result ≡ meaning.constant_outcome constant }
+{
+    match constant {
+        Constant::True => Found::Undefined,
+        Constant::False => Found::Undefined,
+        Constant::Integers => Found::Out,
+        Constant::Naturals => Found::Out,
+        Constant::Positives => Found::Out,
+    }
+}
+
+fn constant_truth(constant: Constant) -> Truth
+    ensures { result ≡ meaning.constant_truth constant }
+{
+    match constant {
+        Constant::True => Truth::True,
+        Constant::False => Truth::False,
+        Constant::Integers => Truth::False,
+        Constant::Naturals => Truth::False,
+        Constant::Positives => Truth::False,
+    }
+}
+
+/// The set without members.
+fn empty_set<'v>(alloc: Global) -> Result<Found<'v>, AllocError>
+    ensures is { IfOk result (λ o. IsEmptySet (found_outcome o)) }
+    ensures regular { IfOk result (λ o. IsRegularOutcome (found_outcome o)) }
+{
+    Ok(Found::own(set::empty_set(alloc)?))
+}

@@ -1,0 +1,282 @@
+//! What binds variables: quantified predicates and builders.
+ghost use Rattle.std.specs.Prelude.{◌≡◌, ◌≤◌, ℕ, List, Option, IfOk, length, drop, map};
+ghost use Rattle.std.specs.Bool.{MatchBool};
+ghost use Rattle.zf_scan.specs.declared.token.Quantifier.{Quantifier};
+ghost use Rattle.zf_term.specs.declared.resolved.Range as range;
+ghost use Rattle.zf_term.specs.declared.resolved.Resolved as resolved;
+ghost use Rattle.zf_term.specs.declared.resolved.Resolved.TheVariants as form;
+ghost use Rattle.zf_term.specs.ResolvedTrees.{resolved_of, part_of};
+ghost use Rattle.zf_value.specs.declared.value.Truth.TheVariants as truths;
+ghost use Rattle.zf_value.specs.Operations.{AreFrom};
+ghost use Rattle.zf_value.specs.Sets.{AreRegular, IsRegular, IsRegularOutcome};
+ghost use Rattle.zf_meaning.specs.Building.{AddsRow, AddsValue};
+ghost use Rattle.zf_meaning.specs.RangeSets.{spread};
+ghost use Rattle.zf_meaning.specs.Environments.{within};
+ghost use Rattle.zf_meaning.specs.Forms.{IsQuantified, IsBuilder};
+ghost use Rattle.zf_meaning.specs.Found.{found_outcome};
+ghost use Rattle.zf_meaning.specs.Meaning.{HasOutcome, IsTruth, IsConstraint, Builds, IsBuiltOver, row_value};
+ghost use Rattle.zf_meaning.specs.Places.{seen};
+ghost use Rattle.zf_meaning.specs.Scopes.{scope_of, IsRegularScope};
+ghost use Rattle.zf_meaning.specs.Truths.{IsTold, IsOver};
+
+use super::ranges::{Spread, declared_sets, lists_of};
+use super::{empty_set, outcome, truth};
+use crate::connected::{connected, connective_of, decided};
+use crate::env::Env;
+use crate::found::Found;
+use crate::gathered::Lack;
+use crate::row::Row;
+use crate::rows::Rows;
+use crate::tally::Tally;
+use std::alloc::{AllocError, Global};
+use zf_term::resolved::{Part, Resolved};
+use zf_value::items::Items;
+use zf_value::set;
+use zf_value::value::{Outcome, Truth, Value};
+
+/// A quantified predicate.
+#[cycle(meaning)]
+#[inline(never)]
+pub(super) fn quantified<'v, 'a, R: Row>(
+    term: &Resolved<'a>,
+    row: &'v R,
+    locals: &[&'v Value],
+    env: &'v Env<'_, 'a>,
+) -> Result<Truth, AllocError>
+    requires form { IsQuantified term.now }
+    requires regular { IsRegularScope (scope_of env.now (R.values row.now) locals.now) }
+    ensures { IfOk result (IsTruth (scope_of env.now (R.values row.now) locals.now) (resolved_of term.now)) }
+{
+    let Resolved::Quantified(quantifier, _, ranges, _, _) = term else {
+        unreachable!();
+    };
+    let declared = declared_sets(ranges.as_slice(), row, locals, env)?;
+    match declared.lack {
+        Lack::Out => Ok(Truth::Out),
+        Lack::Undefined => Ok(Tally::none().truth(*quantifier)),
+        Lack::Nothing => over_rows(term, &declared.sets, &*row, &*locals, &*env),
+    }
+}
+
+/// What a quantifier tells of all rows of its ranges.
+#[cycle(meaning)]
+fn over_rows<'v, 'a, R: Row>(
+    term: &Resolved<'a>,
+    sets: &'v [Spread<'_>],
+    row: &'v R,
+    locals: &[&'v Value],
+    env: &'v Env<'_, 'a>,
+) -> Result<Truth, AllocError>
+    requires form { IsQuantified term.now }
+    requires sets { AreRegular (spread sets.now) }
+    requires regular { IsRegularScope (scope_of env.now (R.values row.now) locals.now) }
+    ensures { (q : Quantifier) (l : ℕ) (rs : List range.Range) (p : Option resolved.Resolved) (e : resolved.Resolved) → term.now ≡ form.Quantified q l rs p e
+        → IfOk result (IsOver q (λ vs. AreFrom vs (spread sets.now)) (λ vs w. IsTold q (λ a. IsConstraint (within (scope_of env.now (R.values row.now) locals.now) vs) (part_of p) a) (λ b. IsTruth (within (scope_of env.now (R.values row.now) locals.now) vs) (resolved_of e) b) w)) }
+{
+    let Resolved::Quantified(quantifier, _, _, _, _) = term else {
+        unreachable!();
+    };
+    let alloc = env.allocator();
+    let mut tally = Tally::none();
+    let Some(mut rows) = Rows::first(alloc, locals, lists_of(alloc, sets)?)? else {
+        return Ok(tally.truth(*quantifier));
+    };
+    loop {
+        tally = tally.with(told_at(term, &*row, rows.bound(), &*env)?);
+        if tally.is_settled(*quantifier) {
+            return Ok(tally.truth(*quantifier));
+        }
+        if !rows.advance()? {
+            return Ok(tally.truth(*quantifier));
+        }
+    }
+}
+
+/// What a quantifier tells of the row that is bound.
+#[cycle(meaning)]
+fn told_at<'v, 'a, R: Row>(
+    term: &Resolved<'a>,
+    row: &'v R,
+    bound: &[&'v Value],
+    env: &'v Env<'_, 'a>,
+) -> Result<Truth, AllocError>
+    requires form { IsQuantified term.now }
+    requires regular { IsRegularScope (scope_of env.now (R.values row.now) bound.now) }
+    ensures { (q : Quantifier) (l : ℕ) (rs : List range.Range) (p : Option resolved.Resolved) (e : resolved.Resolved) → term.now ≡ form.Quantified q l rs p e
+        → IfOk result (IsTold q (λ a. IsConstraint (scope_of env.now (R.values row.now) bound.now) (part_of p) a) (λ b. IsTruth (scope_of env.now (R.values row.now) bound.now) (resolved_of e) b)) }
+{
+    let Resolved::Quantified(quantifier, _, _, constraint, body) = term else {
+        unreachable!();
+    };
+    let connective = connective_of(*quantifier);
+    let p = constraint_truth(constraint, row, bound, env)?;
+    if let Some(decided) = decided(connective, p) {
+        return Ok(decided);
+    }
+    let q = truth(body.get(), row, bound, env)?;
+    Ok(connected(connective, p, q))
+}
+
+/// The truth of a filter or constraint.
+#[cycle(meaning)]
+fn constraint_truth<'v, 'a, R: Row>(
+    part: &Part<'a>,
+    row: &'v R,
+    bound: &[&'v Value],
+    env: &'v Env<'_, 'a>,
+) -> Result<Truth, AllocError>
+    requires { IsRegularScope (scope_of env.now (R.values row.now) bound.now) }
+    ensures { IfOk result (IsConstraint (scope_of env.now (R.values row.now) bound.now) (part_of part.now)) }
+{
+    match part.get() {
+        None => Ok(Truth::True),
+        Some(term) => truth(term.get(), row, bound, env),
+    }
+}
+
+/// A builder.
+#[cycle(meaning)]
+#[inline(never)]
+pub(super) fn builder<'v, 'a, R: Row>(
+    term: &Resolved<'a>,
+    row: &'v R,
+    locals: &[&'v Value],
+    env: &'v Env<'_, 'a>,
+) -> Result<Found<'v>, AllocError>
+    requires form { IsBuilder term.now }
+    requires regular { IsRegularScope (scope_of env.now (R.values row.now) locals.now) }
+    ensures is { IfOk result (λ o. HasOutcome (scope_of env.now (R.values row.now) locals.now) (resolved_of term.now) (found_outcome o)) }
+    ensures regular { IfOk result (λ o. IsRegularOutcome (found_outcome o)) }
+{
+    let Resolved::Builder(_, ranges, _, _) = term else {
+        unreachable!();
+    };
+    let declared = declared_sets(ranges.as_slice(), row, locals, env)?;
+    match declared.lack {
+        Lack::Out => Ok(Found::Out),
+        Lack::Undefined => empty_set(env.allocator()),
+        Lack::Nothing => Ok(Found::own(built_over(term, &declared.sets, &*row, &*locals, &*env)?)),
+    }
+}
+
+/// What a builder builds of all rows of its ranges.
+#[cycle(meaning)]
+fn built_over<'v, 'a, R: Row>(
+    term: &Resolved<'a>,
+    sets: &'v [Spread<'_>],
+    row: &'v R,
+    locals: &[&'v Value],
+    env: &'v Env<'_, 'a>,
+) -> Result<Outcome, AllocError>
+    requires form { IsBuilder term.now }
+    requires sets { AreRegular (spread sets.now) }
+    requires regular { IsRegularScope (scope_of env.now (R.values row.now) locals.now) }
+    ensures is { (l : ℕ) (rs : List range.Range) (p e : Option resolved.Resolved) → term.now ≡ form.Builder l rs p e
+        → IfOk result (IsBuiltOver (λ vs. AreFrom vs (spread sets.now)) (λ vs u. IsConstraint (within (scope_of env.now (R.values row.now) locals.now) vs) (part_of p) u) (λ vs x. Builds (within (scope_of env.now (R.values row.now) locals.now) vs) vs (part_of e) x)) }
+    ensures regular { IfOk result IsRegularOutcome }
+{
+    let alloc = env.allocator();
+    let mut built = Vec::new(alloc);
+    let Some(mut rows) = Rows::first(alloc, locals, lists_of(alloc, sets)?)? else {
+        return set::display(alloc, built);
+    };
+    loop {
+        if !add_row(term, &mut built, locals.len(), &*row, rows.bound(), &*env)? {
+            return Ok(Outcome::Out);
+        }
+        if !rows.advance()? {
+            return set::display(alloc, built);
+        }
+    }
+}
+
+/// Adds what is built of the row that is bound, behind so many variables outside. False where that is out.
+#[cycle(meaning)]
+fn add_row<'v, 'a, R: Row>(
+    term: &Resolved<'a>,
+    built: &mut Vec<Value>,
+    outside: usize,
+    row: &'v R,
+    bound: &[&'v Value],
+    env: &'v Env<'_, 'a>,
+) -> Result<bool, AllocError>
+    requires form { IsBuilder term.now }
+    requires outside { outside ≤ length bound.now }
+    requires built { AreRegular built.old.items }
+    requires regular { IsRegularScope (scope_of env.now (R.values row.now) bound.now) }
+    ensures is { (l : ℕ) (rs : List range.Range) (p e : Option resolved.Resolved) → term.now ≡ form.Builder l rs p e
+        → IfOk result (AddsRow (λ u. IsConstraint (scope_of env.now (R.values row.now) bound.now) (part_of p) u) (λ x. Builds (scope_of env.now (R.values row.now) bound.now) (drop outside (seen bound.now)) (part_of e) x) built.old.items built.new.items) }
+    ensures regular { AreRegular built.new.items }
+{
+    let Resolved::Builder(_, _, filter, member) = term else {
+        unreachable!();
+    };
+    match constraint_truth(filter, row, bound, env)? {
+        Truth::False => Ok(true),
+        Truth::Out => Ok(false),
+        Truth::True => add_member(member, built, outside, row, bound, env),
+    }
+}
+
+/// Adds the value of a builder's term, where it has one. False where that is out.
+#[cycle(meaning)]
+fn add_member<'v, 'a, R: Row>(
+    member: &Part<'a>,
+    built: &mut Vec<Value>,
+    outside: usize,
+    row: &'v R,
+    bound: &[&'v Value],
+    env: &'v Env<'_, 'a>,
+) -> Result<bool, AllocError>
+    requires outside { outside ≤ length bound.now }
+    requires built { AreRegular built.old.items }
+    requires regular { IsRegularScope (scope_of env.now (R.values row.now) bound.now) }
+    ensures is { IfOk result (AddsValue (λ x. Builds (scope_of env.now (R.values row.now) bound.now) (drop outside (seen bound.now)) (part_of member.now) x) built.old.items built.new.items) }
+    ensures regular { AreRegular built.new.items }
+{
+    match member_outcome(member, outside, row, bound, env)? {
+        Outcome::Is(value) => {
+            built.push(value)?;
+            Ok(true)
+        }
+        Outcome::Undefined => Ok(true),
+        Outcome::Out => Ok(false),
+    }
+}
+
+/// The outcome of a builder's term.
+#[cycle(meaning)]
+fn member_outcome<'v, 'a, R: Row>(
+    member: &Part<'a>,
+    outside: usize,
+    row: &'v R,
+    bound: &[&'v Value],
+    env: &'v Env<'_, 'a>,
+) -> Result<Outcome, AllocError>
+    requires outside { outside ≤ length bound.now }
+    requires regular { IsRegularScope (scope_of env.now (R.values row.now) bound.now) }
+    ensures is { IfOk result (Builds (scope_of env.now (R.values row.now) bound.now) (drop outside (seen bound.now)) (part_of member.now)) }
+    ensures regular { IfOk result IsRegularOutcome }
+{
+    let alloc = env.allocator();
+    match member.get() {
+        None => Ok(Outcome::Is(value_of_row(alloc, &bound[outside..])?)),
+        Some(term) => outcome(term.get(), row, bound, env)?.into_outcome(alloc),
+    }
+}
+
+/// What a builder without a term builds: the one variable, or the tuple of all.
+fn value_of_row(alloc: Global, values: &[&Value]) -> Result<Value, AllocError>
+    requires { AreRegular (seen values.now) }
+    ensures is { IfOk result (λ v. v ≡ row_value (seen values.now)) }
+    ensures regular { IfOk result IsRegular }
+{
+    if values.len() == 1 {
+        return values[0].copy(alloc);
+    }
+    let mut copies = Vec::new(alloc);
+    for value in values {
+        copies.push(value.copy(alloc)?)?;
+    }
+    Ok(Value::Tuple(Items::of(alloc, copies)?))
+}

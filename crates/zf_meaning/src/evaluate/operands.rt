@@ -1,0 +1,150 @@
+//! Symbols with their operands.
+ghost use Rattle.std.specs.Prelude.{◌≡◌, ◌<◌, ℕ, IfOk, map};
+ghost use Rattle.zf_term.specs.ResolvedTrees as tree;
+ghost use Rattle.zf_term.specs.ResolvedTrees.{resolved_of};
+ghost use Rattle.zf_term.specs.declared.resolved.Resolved.{size-Resolved};
+ghost use Rattle.zf_value.specs.Sets.{AreRegular, IsRegularOutcome};
+ghost use Rattle.zf_meaning.specs.Found.{found_outcome};
+ghost use Rattle.zf_meaning.specs.Gathered.{several_of};
+ghost use Rattle.zf_meaning.specs.Meaning.{HasOutcome, HaveOutcomes, IsTruth};
+ghost use Rattle.zf_meaning.specs.Scopes.{scope_of, IsRegularScope};
+
+use super::{outcome, truth};
+use crate::connected::{connected, decided, opposite};
+use crate::env::Env;
+use crate::found::Found;
+use crate::gathered::Gathered;
+use crate::row::Row;
+use crate::symbols::{on_both, on_one, on_several};
+use std::alloc::AllocError;
+use zf_term::operator::{Listed, Operator, Unary};
+use zf_term::resolved::Resolved;
+use zf_value::value::{Truth, Value};
+
+/// A symbol before or behind a term.
+#[cycle(meaning)]
+#[inline(never)]
+pub(super) fn unary<'v, 'a, R: Row>(
+    of: &Resolved<'a>,
+    op: Unary,
+    row: &'v R,
+    locals: &[&'v Value],
+    env: &'v Env<'_, 'a>,
+) -> Result<Found<'v>, AllocError>
+    requires { IsRegularScope (scope_of env.now (R.values row.now) locals.now) }
+    ensures is { (line : ℕ) → IfOk result (λ o. HasOutcome (scope_of env.now (R.values row.now) locals.now) (tree.unary line op (resolved_of of.now)) (found_outcome o)) }
+    ensures regular { IfOk result (λ o. IsRegularOutcome (found_outcome o)) }
+{
+    let operand = outcome(of, row, locals, env)?;
+    Ok(Found::own(on_one(env.allocator(), op, &operand)?))
+}
+
+/// A symbol between two terms.
+#[cycle(meaning)]
+#[inline(never)]
+pub(super) fn binary<'v, 'a, R: Row>(
+    whole: &Resolved<'a>,
+    op: Operator,
+    left: &Resolved<'a>,
+    right: &Resolved<'a>,
+    row: &'v R,
+    locals: &[&'v Value],
+    env: &'v Env<'_, 'a>,
+) -> Result<Found<'v>, AllocError>
+    requires left { size-Resolved left.now < size-Resolved whole.now }
+    requires right { size-Resolved right.now < size-Resolved whole.now }
+    requires regular { IsRegularScope (scope_of env.now (R.values row.now) locals.now) }
+    ensures is { (line : ℕ) → IfOk result (λ o. HasOutcome (scope_of env.now (R.values row.now) locals.now) (tree.binary line op (resolved_of left.now) (resolved_of right.now)) (found_outcome o)) }
+    ensures regular { IfOk result (λ o. IsRegularOutcome (found_outcome o)) }
+{
+    let x = outcome(left, row, locals, env)?;
+    let y = outcome(right, row, locals, env)?;
+    Ok(Found::own(on_both(env.allocator(), op, &x, &y)?))
+}
+
+/// What several terms make.
+#[cycle(meaning)]
+#[inline(never)]
+pub(super) fn listed<'v, 'a, R: Row>(
+    terms: &[Resolved<'a>],
+    form: Listed,
+    row: &'v R,
+    locals: &[&'v Value],
+    env: &'v Env<'_, 'a>,
+) -> Result<Found<'v>, AllocError>
+    requires { IsRegularScope (scope_of env.now (R.values row.now) locals.now) }
+    ensures is { (line : ℕ) → IfOk result (λ o. HasOutcome (scope_of env.now (R.values row.now) locals.now) (tree.listed line form (tree.terms (map resolved_of terms.now))) (found_outcome o)) }
+    ensures regular { IfOk result (λ o. IsRegularOutcome (found_outcome o)) }
+{
+    let gathered = gather(terms, row, locals, env)?;
+    Ok(Found::own(on_several(env.allocator(), form, gathered)?))
+}
+
+/// The values of the terms.
+#[cycle(meaning)]
+fn gather<'v, 'a, R: Row>(
+    terms: &[Resolved<'a>],
+    row: &'v R,
+    locals: &[&'v Value],
+    env: &'v Env<'_, 'a>,
+) -> Result<Gathered, AllocError>
+    requires { IsRegularScope (scope_of env.now (R.values row.now) locals.now) }
+    ensures is { IfOk result (λ s. HaveOutcomes (scope_of env.now (R.values row.now) locals.now) (tree.terms (map resolved_of terms.now)) (several_of s)) }
+    ensures regular { IfOk result (λ s. AreRegular s.values.items) }
+{
+    let alloc = env.allocator();
+    let mut gathered = Gathered::new(alloc);
+    for term in terms {
+        let found = outcome(term, row, locals, env)?;
+        gathered.add(alloc, found)?;
+    }
+    Ok(gathered)
+}
+
+/// A symbol before or behind a term, as a predicate.
+#[cycle(meaning)]
+#[inline(never)]
+pub(super) fn not<'v, 'a, R: Row>(
+    of: &Resolved<'a>,
+    op: Unary,
+    row: &'v R,
+    locals: &[&'v Value],
+    env: &'v Env<'_, 'a>,
+) -> Result<Truth, AllocError>
+    requires { IsRegularScope (scope_of env.now (R.values row.now) locals.now) }
+    ensures { (line : ℕ) → IfOk result (IsTruth (scope_of env.now (R.values row.now) locals.now) (tree.unary line op (resolved_of of.now))) }
+{
+    match op {
+        Unary::Not => Ok(opposite(truth(of, row, locals, env)?)),
+        Unary::Sign(_) => Ok(Truth::False),
+        Unary::Inverse => Ok(Truth::False),
+    }
+}
+
+/// A symbol between two terms, as a predicate.
+#[cycle(meaning)]
+#[inline(never)]
+pub(super) fn connective<'v, 'a, R: Row>(
+    whole: &Resolved<'a>,
+    op: Operator,
+    left: &Resolved<'a>,
+    right: &Resolved<'a>,
+    row: &'v R,
+    locals: &[&'v Value],
+    env: &'v Env<'_, 'a>,
+) -> Result<Truth, AllocError>
+    requires left { size-Resolved left.now < size-Resolved whole.now }
+    requires right { size-Resolved right.now < size-Resolved whole.now }
+    requires regular { IsRegularScope (scope_of env.now (R.values row.now) locals.now) }
+    ensures { (line : ℕ) → IfOk result (IsTruth (scope_of env.now (R.values row.now) locals.now) (tree.binary line op (resolved_of left.now) (resolved_of right.now))) }
+{
+    let Operator::Connective(connective) = op else {
+        return Ok(Truth::False);
+    };
+    let p = truth(left, row, locals, env)?;
+    if let Some(decided) = decided(connective, p) {
+        return Ok(decided);
+    }
+    let q = truth(right, row, locals, env)?;
+    Ok(connected(connective, p, q))
+}

@@ -1,0 +1,66 @@
+//! The values of several terms.
+ghost use Rattle.std.specs.Prelude.{◌≡◌, [], OnOk};
+ghost use Rattle.zf_value.specs.Sets.{AreRegular, IsRegularOutcome};
+ghost use Rattle.zf_meaning.specs.Found.{found_outcome};
+ghost use Rattle.zf_meaning.specs.Gathered as spec;
+
+use crate::found::Found;
+use std::alloc::{AllocError, Global};
+use zf_value::value::Value;
+
+/// What stands in the way of several values.
+#[derive(Clone, Copy, Debug, PartialEq, Eq)]
+pub(crate) enum Lack {
+    Nothing,
+    /// One is undefined, and none is out.
+    Undefined,
+    /// One is out.
+    Out,
+}
+
+/// The values of several terms, of which some may have none.
+#[derive(Drop)]
+pub(crate) struct Gathered {
+    pub values: Vec<Value>,
+    pub lack: Lack,
+}
+
+impl Gathered {
+    ghost use Rattle.zf_meaning.specs.Gathered as spec;
+
+    pub(crate) fn new(alloc: Global) -> Gathered
+        ensures values { result.values.items ≡ [] }
+        ensures lack { result.lack ≡ Lack.Nothing }
+    {
+        Gathered {
+            values: Vec::new(alloc),
+            lack: Lack::Nothing,
+        }
+    }
+
+    /// Adds the outcome of a further term.
+    pub(crate) fn add(&mut self, alloc: Global, found: Found<'_>) -> Result<(), AllocError>
+        ensures is { OnOk result (spec.Adds self.old (found_outcome found.entry) self.new) }
+        ensures regular { AreRegular self.old.values.items → IsRegularOutcome (found_outcome found.entry) → OnOk result (AreRegular self.new.values.items) }
+    {
+        match found {
+            Found::Is(value) => self.values.push(value.into_value(alloc)?)?,
+            Found::Undefined => self.lack = self.lack.or_undefined(),
+            Found::Out => self.lack = Lack::Out,
+        }
+        Ok(())
+    }
+}
+
+impl Lack {
+    /// The lack where a further value is undefined.
+    pub(crate) fn or_undefined(self) -> Lack
+        ensures { result ≡ spec.or_undefined self }
+    {
+        match self {
+            Lack::Nothing => Lack::Undefined,
+            Lack::Undefined => Lack::Undefined,
+            Lack::Out => Lack::Out,
+        }
+    }
+}

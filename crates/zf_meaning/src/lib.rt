@@ -1,0 +1,19 @@
+//! What terms mean: environments, the outcomes of expressions and the truths of predicates in a row, and carriers of types.
+#![tactic(auto)]
+
+pub mod carrier;
+mod connected;
+pub mod env;
+mod evaluate;
+mod found;
+mod gathered;
+mod global_outcome;
+pub mod laws;
+mod outcomes;
+mod relation;
+pub mod row;
+mod rows;
+pub mod sizes;
+mod symbols;
+mod tally;
+pub mod value;

@@ -1,0 +1,143 @@
+//! What relations say of the outcomes of their sides.
+ghost use Rattle.std.specs.Prelude.{◌≡◌, ◌↔◌, if◌then◌else◌, IsTrue};
+ghost use Rattle.zf_value.specs.Sets.{AreAmong, IsRegular, IsRegularOutcome, IsRegularSet};
+ghost use Rattle.zf_meaning.specs.Arithmetic.{AreOrdered, IsFrom};
+ghost use Rattle.zf_meaning.specs.Found.{found_outcome};
+ghost use Rattle.zf_meaning.specs.Meaning.{IsLink};
+ghost use Rattle.zf_meaning.specs.Symbols.{Compares, Holds, HoldsOf, IsIn};
+ghost use Rattle.zf_meaning.specs.Truths.{IsAtom, IsTest};
+
+use crate::found::Found;
+use zf_scan::token::Relation;
+use zf_term::extent::Infinite;
+use zf_value::set::{are_among, is_member};
+use zf_value::value::{Truth, Value};
+
+/// The truth of a link between two outcomes, where the right one may be an infinite set instead.
+pub(crate) fn link(
+    infinite: Option<Infinite>,
+    relation: Relation,
+    x: &Found<'_>,
+    y: &Found<'_>,
+) -> Truth
+    requires x { IsRegularOutcome (found_outcome x.now) }
+    requires y { IsRegularOutcome (found_outcome y.now) }
+    ensures { IsLink infinite relation (found_outcome x.now) (found_outcome y.now) result }
+{
+    match infinite {
+        None => atom(relation, x, y),
+        Some(set) => test(set, relation, x),
+    }
+}
+
+fn atom(relation: Relation, x: &Found<'_>, y: &Found<'_>) -> Truth
+    requires x { IsRegularOutcome (found_outcome x.now) }
+    requires y { IsRegularOutcome (found_outcome y.now) }
+    ensures { IsAtom (found_outcome x.now) (found_outcome y.now) (Holds relation) result }
+{
+    match (x, y) {
+        (Found::Out, _) => Truth::Out,
+        (_, Found::Out) => Truth::Out,
+        (Found::Undefined, _) => Truth::False,
+        (_, Found::Undefined) => Truth::False,
+        (Found::Is(v), Found::Is(w)) => told(holds(relation, v.get(), w.get())),
+    }
+}
+
+fn test(set: Infinite, relation: Relation, x: &Found<'_>) -> Truth
+    ensures { IsTest (found_outcome x.now) (HoldsOf set relation) result }
+{
+    match x {
+        Found::Out => Truth::Out,
+        Found::Undefined => Truth::False,
+        Found::Is(v) => told(holds_of(set, relation, v.get())),
+    }
+}
+
+/// The truth of what holds or doesn't.
+fn told(holds: bool) -> Truth
+    ensures { result ≡ (if holds then Truth.True else Truth.False) }
+{
+    if holds { Truth::True } else { Truth::False }
+}
+
+/// Whether the relation holds between two values.
+fn holds(relation: Relation, v: &Value, w: &Value) -> bool
+    requires v { IsRegular v.now }
+    requires w { IsRegular w.now }
+    ensures { IsTrue result ↔ Holds relation v.now w.now }
+{
+    match relation {
+        Relation::Equal => v.equals(w),
+        Relation::NotEqual => !v.equals(w),
+        Relation::Member => is_member(v, w.members()),
+        Relation::NotMember => !is_member(v, w.members()),
+        Relation::Subset => are_among(v.members(), w.members()),
+        Relation::ProperSubset => is_proper(v.members(), w.members()),
+        Relation::Less => compares(relation, v, w),
+        Relation::AtMost => compares(relation, v, w),
+        Relation::Greater => compares(relation, v, w),
+        Relation::AtLeast => compares(relation, v, w),
+    }
+}
+
+fn is_proper(values: &[Value], set: &[Value]) -> bool
+    requires values { IsRegularSet values.now }
+    requires set { IsRegularSet set.now }
+    ensures { IsTrue result ↔ (AreAmong values.now set.now × (AreAmong set.now values.now → ⊥)) }
+{
+    are_among(values, set) && !are_among(set, values)
+}
+
+/// Whether both are numbers in this order.
+fn compares(relation: Relation, v: &Value, w: &Value) -> bool
+    ensures { IsTrue result ↔ Compares (AreOrdered relation) v.now w.now }
+{
+    match (v.number(), w.number()) {
+        (Some(m), Some(n)) => are_ordered(relation, m, n),
+        _ => false,
+    }
+}
+
+fn are_ordered(relation: Relation, m: i64, n: i64) -> bool
+    ensures { IsTrue result ↔ AreOrdered relation m n }
+{
+    match relation {
+        Relation::Less => m < n,
+        Relation::AtMost => m <= n,
+        Relation::Greater => m > n,
+        Relation::AtLeast => m >= n,
+        _ => false,
+    }
+}
+
+/// What a relation says of a value and an infinite set.
+fn holds_of(set: Infinite, relation: Relation, v: &Value) -> bool
+    ensures { IsTrue result ↔ HoldsOf set relation v.now }
+{
+    match relation {
+        Relation::Member => is_in(set, v),
+        Relation::NotMember => !is_in(set, v),
+        _ => false,
+    }
+}
+
+/// Whether the value is in the infinite set.
+fn is_in(set: Infinite, v: &Value) -> bool
+    ensures { IsTrue result ↔ IsIn set v.now }
+{
+    match v.number() {
+        Some(n) => is_from(set, n),
+        None => false,
+    }
+}
+
+fn is_from(set: Infinite, n: i64) -> bool
+    ensures { IsTrue result ↔ IsFrom set n }
+{
+    match set {
+        Infinite::Num => true,
+        Infinite::Nat => n >= 0,
+        Infinite::Nat1 => n >= 1,
+    }
+}

@@ -1,0 +1,121 @@
+//! The rows of ranges, one after another.
+ghost use Rattle.std.specs.Prelude.{◌≡◌, ◌==◌, ◌+◌, ◌<◌, ◌≤◌, [], ◌∷◌, ◌++◌, IfOk, OnOk, MatchOption, List, length, slice_index_or};
+ghost use Rattle.std.specs.Bool.{MatchBool};
+ghost use Rattle.std.specs.List.{list_any};
+ghost use Rattle.zf_value.specs.declared.value.Value as value;
+ghost use Rattle.zf_meaning.specs.Places.{seen, all_rows, rows_after, picked, ArePlaces};
+ghost use Rattle.zf_meaning.specs.Rowed.{ahead, IsAt, IsFirst, IsNext};
+
+use std::alloc::{AllocError, Global};
+use zf_value::value::Value;
+
+/// A row of ranges, behind the variables that are bound outside.
+#[derive(Drop)]
+pub(crate) struct Rows<'v> {
+    lists: Vec<&'v [Value]>,
+    places: Vec<usize>,
+    bound: Vec<&'v Value>,
+}
+
+impl<'v> Rows<'v> {
+    /// The first row, if there is one.
+    pub(crate) fn first(
+        alloc: Global,
+        outside: &[&'v Value],
+        lists: Vec<&'v [Value]>,
+    ) -> Result<Option<Rows<'v>>, AllocError>
+        ensures { IfOk result (λ r. MatchOption r (all_rows (seen lists.entry.items) ≡ []) (IsFirst (seen outside.now) (seen lists.entry.items))) }
+    {
+        if has_empty(&lists) {
+            return Ok(None);
+        }
+        let places = vec![in alloc; 0; lists.len()]?;
+        let mut bound = Vec::from_slice(alloc, outside)?;
+        bind(&lists, &places, &mut bound)?;
+        Ok(Some(Rows {
+            lists,
+            places,
+            bound,
+        }))
+    }
+
+    /// The variables that are bound.
+    pub(crate) fn bound(&self) -> &[&'v Value]
+        ensures { result.now ≡ self.now.bound.items }
+    {
+        self.bound.as_slice()
+    }
+
+    /// Goes to the next row, if there is one.
+    pub(crate) fn advance(&mut self) -> Result<bool, AllocError>
+        requires { (outside : List value.Value) × IsAt self.old outside }
+        ensures { (outside : List value.Value) → IsAt self.old outside → IfOk result (λ moved. MatchBool moved (IsNext outside self.old self.new) (ahead self.old ≡ [])) }
+    {
+        let outside = self.bound.len() - self.places.len();
+        if !turn(&self.lists, &mut self.places) {
+            return Ok(false);
+        }
+        self.bound.truncate(outside);
+        bind(&self.lists, &self.places, &mut self.bound)?;
+        Ok(true)
+    }
+}
+
+/// Whether one of the lists has no values.
+fn has_empty(lists: &[&[Value]]) -> bool
+    ensures { result ≡ list_any (λ xs. length xs == 0) (seen lists.now) }
+{
+    for list in lists {
+        if list.is_empty() {
+            return true;
+        }
+    }
+    false
+}
+
+/// Turns to the next row: the last place that can goes up by one, and those after it begin again.
+fn turn(lists: &[&[Value]], places: &mut [usize]) -> bool
+    requires { ArePlaces (seen lists.now) places.old }
+    ensures places { ArePlaces (seen lists.now) places.new }
+    ensures turned { MatchBool result (rows_after (seen lists.now) places.old ≡ picked (seen lists.now) places.new ∷ rows_after (seen lists.now) places.new) (rows_after (seen lists.now) places.old ≡ []) }
+{
+    for i in (0..places.len()).rev() {
+        if let Some(next) = next_place(lists[i], places[i]) {
+            places[i] = next;
+            return true;
+        }
+        places[i] = 0;
+    }
+    false
+}
+
+/// Binds the values at the places.
+fn bind<'v>(
+    lists: &[&'v [Value]],
+    places: &[usize],
+    bound: &mut Vec<&'v Value>,
+) -> Result<(), AllocError>
+    requires { ArePlaces (seen lists.now) places.now }
+    ensures { OnOk result (seen bound.new.items ≡ seen bound.old.items ++ picked (seen lists.now) places.now) }
+{
+    for i in 0..places.len() {
+        bound.push(value_at(lists[i], places[i]))?;
+    }
+    Ok(())
+}
+
+fn value_at<'v>(list: &'v [Value], place: usize) -> &'v Value
+    requires { place < length list.now }
+    ensures { result.now ≡ slice_index_or list.now place result.now }
+{
+    &list[place]
+}
+
+/// The next place in the list, if there is one.
+fn next_place(list: &[Value], place: usize) -> Option<usize>
+    requires { place < length list.now }
+    ensures { MatchOption result (length list.now ≤ place + 1) (λ next. (place + 1 ≡ next) × (next < length list.now)) }
+{
+    let next = place + 1;
+    if next < list.len() { Some(next) } else { None }
+}

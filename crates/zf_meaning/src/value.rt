@@ -1,0 +1,49 @@
+//! What terms mean in a row.
+ghost use Rattle.std.specs.Prelude.{◌≡◌, [], IfOk};
+ghost use Rattle.zf_term.specs.ResolvedTrees.{resolved_of};
+ghost use Rattle.zf_value.specs.Sets.{AreRegular, IsRegularOutcome};
+ghost use Rattle.zf_meaning.specs.InRow.{in_row};
+ghost use Rattle.zf_meaning.specs.Envs.{environment_of};
+ghost use Rattle.zf_meaning.specs.Meaning.{HasOutcome, IsTruth};
+
+use crate::env::Env;
+use crate::evaluate::{outcome, truth};
+use crate::row::Row;
+use std::alloc::AllocError;
+use zf_term::resolved::Resolved;
+use zf_value::value::{Outcome, Truth, Value};
+
+/// The outcome of an expression in a row.
+pub fn value_of<'a, R: Row>(
+    term: &Resolved<'a>,
+    row: &R,
+    env: &Env<'_, 'a>,
+) -> Result<Outcome, AllocError>
+    requires { AreRegular (R.values row.now) }
+    ensures is { IfOk result (HasOutcome (in_row (environment_of env.now) (R.values row.now)) (resolved_of term.now)) }
+    ensures regular { IfOk result IsRegularOutcome }
+{
+    let none = no_variables();
+    let found = outcome(term, &*row, none, &*env)?;
+    found.into_outcome(env.allocator())
+}
+
+/// The truth of a predicate in a row.
+pub fn truth_of<'a, R: Row>(
+    term: &Resolved<'a>,
+    row: &R,
+    env: &Env<'_, 'a>,
+) -> Result<Truth, AllocError>
+    requires { AreRegular (R.values row.now) }
+    ensures { IfOk result (IsTruth (in_row (environment_of env.now) (R.values row.now)) (resolved_of term.now)) }
+{
+    let none = no_variables();
+    truth(term, &*row, none, &*env)
+}
+
+/// The bound variables outside of all quantifiers and builders.
+fn no_variables<'v>() -> &'v [&'v Value]
+    ensures { result.now ≡ [] }
+{
+    &[]
+}
