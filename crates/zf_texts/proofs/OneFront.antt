@@ -1,5 +1,5 @@
 -- A text begins with the text of one value of a type alone.
-use Rattle.std.proofs.Common.{◌≡◌, ◌≢◌, ℕ, ℤ, pos, negsuc, zero, suc, ◌+◌, ◌<◌, ◌≤◌, ◌^◌, List, [], ◌∷◌, ◌++◌, map, length, refl, sym, ap, ◌∙◌, subst, true, false, arith, codes, Option, Some, None}
+use Rattle.std.proofs.Common.{◌≡◌, ℕ, ℤ, pos, negsuc, ◌<◌, ◌^◌, List, [], ◌∷◌, ◌++◌, map, refl, sym, ap, ◌∙◌, subst, true, false, arith, codes, Option, Some, None}
 use Rattle.std.specs.Prelude.{slice_get, FitsSigned}
 use Rattle.std.specs.Fmt.{signed_decimal}
 use Rattle.std.specs.Int.{w64}
@@ -9,12 +9,12 @@ use Rattle.zf_value.specs.Sets.{Every}
 use Rattle.zf_meaning.specs.Environments.{Environment, type_number}
 use Rattle.zf_meaning.specs.Rows.{IsElement, IsOfType, AreOfTypes}
 use Rattle.zf_texts.specs.declared.spelling.Spelling.{Spelling}
-use Rattle.zf_texts.specs.Spellings.{spelled, spelled_if, element_text}
+use Rattle.zf_texts.specs.Spellings.{spelled, spelled_if}
 use Rattle.zf_texts.specs.ValueTexts.{parted, later_parts, value_text}
 use Rattle.zf_texts.specs.Clear.{is_in_word, Ends, AreClear}
 use Rattle.zf_texts.specs.Steps.{EndsAs, is_opening, Closes}
 use Rattle.zf_texts.proofs.TextsSeen.{of-Int, of-Elem, of-Tuple, of-SetOf}
-use Rattle.zf_texts.proofs.WordRuns.{AreInWord, one_run, never, signed_in_word}
+use Rattle.zf_texts.proofs.WordRuns.{one_run, never, signed_in_word}
 use Rattle.std.proofs.lemmas.Fmt.{decimal_nonempty, signed_decimal_injective}
 use Rattle.std.specs.Int.Signed.{mag}
 use Rattle.std.proofs.lemmas.List.{append_assoc}

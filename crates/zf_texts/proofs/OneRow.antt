@@ -1,5 +1,5 @@
 -- Rows of one schema with one line are one.
-use Rattle.std.proofs.Common.{◌≡◌, ℕ, List, [], ◌∷◌, ◌++◌, map, refl, sym, ap, ◌∙◌, codes}
+use Rattle.std.proofs.Common.{◌≡◌, ℕ, List, [], ◌∷◌, ◌++◌, refl, sym, ap, ◌∙◌, codes}
 use Rattle.zf_term.specs.Definitions.{Comp}
 use Rattle.std.proofs.lemmas.List.{append_assoc}
 use Rattle.zf_value.specs.declared.value.Value.{Value}

@@ -1,5 +1,5 @@
 -- What is still to be printed of several parts.
-use Rattle.std.proofs.Common.{◌≡◌, ℕ, zero, suc, ◌+◌, ◌<◌, ◌≤◌, List, [], ◌∷◌, ◌++◌, length, map, drop, get_or, refl, sym, ap, ◌∙◌, arith, codes, Option, Some, None, append_assoc, append-nil, add-one, Result, Ok, Err, OnOk, is_ok, if◌then◌else◌}
+use Rattle.std.proofs.Common.{◌≡◌, ℕ, zero, suc, ◌+◌, ◌<◌, ◌≤◌, List, [], ◌∷◌, ◌++◌, length, map, drop, get_or, refl, sym, ap, ◌∙◌, arith, Some, None, append_assoc, append-nil, add-one, Result, Ok, Err, OnOk, is_ok, if◌then◌else◌}
 use Rattle.std.specs.Prelude.{slice_get}
 use Rattle.std.proofs.lemmas.List.{drop_more}
 use Rattle.zf_term.specs.Definitions.{Comp, Defined}
@@ -8,7 +8,7 @@ use Rattle.zf_term.specs.Definitions.{comp_of}
 use Rattle.zf_value.specs.declared.value.Value.{Value}
 use Rattle.zf_texts.specs.declared.spelling.Spelling.{Spelling}
 use Rattle.zf_texts.specs.Spellings.{with_spelling, spellings}
-use Rattle.zf_texts.specs.ValueTexts.{parted, later_parts, value_text}
+use Rattle.zf_texts.specs.ValueTexts.{later_parts}
 use Rattle.zf_texts.specs.BindingTexts.{component_text, component_texts}
 use Rattle.zf_texts.specs.Steps.{separator, goes_on}
 

@@ -1,5 +1,5 @@
 -- Spellings that are clear: words, and each of one element.
-use Rattle.std.proofs.Common.{◌≡◌, ℕ, zero, suc, ◌+◌, ◌<◌, ◌≤◌, ◌^◌, List, [], ◌∷◌, ◌++◌, length, refl, sym, ap, ◌∙◌, subst, true, arith, codes, Option, Some, None}
+use Rattle.std.proofs.Common.{◌≡◌, ℕ, zero, suc, ◌+◌, ◌<◌, List, [], ◌∷◌, ◌++◌, length, refl, sym, ap, arith, codes}
 use Rattle.std.specs.Prelude.{decimal, slice_get}
 use Rattle.std.proofs.lemmas.List.{length-append}
 use Rattle.std.proofs.lemmas.Fmt.{decimal_injective}
@@ -21,9 +21,10 @@ longer : (v w : List ℕ) → 0 < length v → 0 < length (v ++ w)
 longer v w l = let n = length-append v w in omega arith
 
 pub spelled_word : (s : Spelling) (k i : ℕ) → IsClear s k → i < k → IsWord (spelled s i)
-spelled_word (Numbered name) k i c l =
-    (append_in_word (name ++ codes ".") (decimal (i + 1)) (append_in_word name (codes ".") (name_in_word name c.0.1) refl) (decimal_in_word (i + 1) (omega arith)),
-      longer (name ++ codes ".") (decimal (i + 1)) (longer name (codes ".") c.0.0))
+spelled_word (Numbered name) k i c l = (
+  append_in_word (name ++ codes ".") (decimal (i + 1)) (append_in_word name (codes ".") (name_in_word name c.0.1) refl) (decimal_in_word (i + 1) (omega arith)),
+  longer (name ++ codes ".") (decimal (i + 1)) (longer name (codes ".") c.0.0),
+)
 spelled_word (Named names) k i c l =
     let n = name_at names i c.0 (omega arith) in
     (name_in_word (or_empty (slice_get names i)) n.1, n.0)

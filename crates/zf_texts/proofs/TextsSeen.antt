@@ -1,5 +1,5 @@
 -- What each form of value is printed as.
-use Rattle.std.proofs.Common.{◌≡◌, ℕ, ℤ, List, ◌++◌, map, codes, refl, sym, ap, ◌∙◌}
+use Rattle.std.proofs.Common.{◌≡◌, ℕ, ℤ, List, ◌++◌, map, codes, sym, ap, ◌∙◌}
 use Rattle.std.specs.Fmt.{signed_decimal}
 use Rattle.zf_value.specs.declared.value.Value.{Value, Int, Elem, Tuple, SetOf, roll-Value, fold-roll-Value, map-Value}
 use Rattle.zf_value.specs.declared.value.Value.TheOpen.{Value-F}

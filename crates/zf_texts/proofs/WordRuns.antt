@@ -1,14 +1,14 @@
 -- Words, and where they end.
-use Rattle.std.proofs.Common.{◌≡◌, ℕ, ℤ, pos, negsuc, zero, suc, ◌+◌, ◌<◌, ◌≤◌, ◌^◌, List, [], ◌∷◌, ◌++◌, length, refl, sym, ap, ◌∙◌, subst, Bool, true, false, ◌||◌, ◌&&◌, IsTrue, arith, codes}
-use Rattle.std.specs.Prelude.{decimal, FitsSigned, ◌==◌, nat_le}
+use Rattle.std.proofs.Common.{◌≡◌, ℕ, ℤ, pos, negsuc, suc, ◌<◌, ◌^◌, List, [], ◌∷◌, ◌++◌, refl, sym, ap, ◌∙◌, Bool, true, false, ◌||◌, ◌&&◌, arith}
+use Rattle.std.specs.Prelude.{decimal, FitsSigned}
 use Rattle.std.specs.Fmt.{signed_decimal}
 use Rattle.std.specs.Int.{w64, IsInRange}
 use Rattle.std.specs.List.{list_all}
 use Rattle.std.specs.Str.Parse.{AllDigits}
 use Rattle.std.specs.Char.{digit_value}
 use Rattle.std.proofs.lemmas.Str.Parse.{digit_from_value}
-use Rattle.std.proofs.lemmas.Fmt.{decimal_is_IsNumeral, decimal_injective, signed_decimal_injective, decimal_nonempty}
-use Rattle.zf_scan.specs.Pieces.{is_letter, is_digit}
+use Rattle.std.proofs.lemmas.Fmt.{decimal_is_IsNumeral}
+use Rattle.zf_scan.specs.Pieces.{is_digit}
 use Rattle.zf_texts.specs.Clear.{is_in_name, is_in_word, Ends}
 
 abbrev pub AreInWord : List ℕ → Type 0

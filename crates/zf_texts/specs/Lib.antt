@@ -3,5 +3,4 @@ pub mod ValueTexts
 pub mod BindingTexts
 pub mod Clear
 pub mod Laws
-pub mod Readings
 pub mod Steps

@@ -128,11 +128,7 @@ fn append_element(
     }
 }
 
-fn append_spelled(
-    text: &mut Vec<u8>,
-    spelling: &Spelling,
-    place: u64,
-) -> Result<(), AllocError>
+fn append_spelled(text: &mut Vec<u8>, spelling: &Spelling, place: u64) -> Result<(), AllocError>
     ensures { OnOk result (text.new.items ≡ text.old.items ++ spelled spelling.now place) }
 {
     match spelling {

@@ -1,4 +1,4 @@
-use Rattle.std.proofs.Common.{◌≡◌, ◌++◌, [], map, drop, refl, sym, ap, ◌∙◌, arith, length}
+use Rattle.std.proofs.Common.{◌++◌, map, sym, ap, ◌∙◌, arith}
 use Rattle.zf_texts.specs.Steps.{goes_on}
 use Rattle.zf_texts.specs.ValueTexts.{parted, value_text}
 use Rattle.zf_texts.proofs.Printing.{begun, map-drop, drop-end, ahead-more, finished}

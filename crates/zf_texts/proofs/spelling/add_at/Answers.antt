@@ -1,4 +1,4 @@
-use Rattle.std.proofs.Common.{◌≡◌, ◌++◌, ◌+◌, drop, suc, refl, sym, ap, ◌∙◌, add-one}
+use Rattle.std.proofs.Common.{◌++◌, drop, suc, sym, ap, ◌∙◌, add-one}
 use Rattle.std.proofs.lemmas.Result.{on_ok_weaker}
 use Rattle.zf_term.specs.Definitions.{globals_of}
 use Rattle.zf_texts.specs.Spellings.{spellings}
