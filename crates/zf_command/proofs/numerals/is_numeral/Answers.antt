@@ -2,7 +2,7 @@
 use Rattle.std.proofs.Common.{arith}
 use Rattle.std.proofs.lemmas.Bool.Decides.{nat_tests}
 use Rattle.zf_command.proofs.Numbers.{digits_by_index}
-use Rattle.zf_command.proofs.sizes.is_numeral.Goals as goal
+use Rattle.zf_command.proofs.numerals.is_numeral.Goals as goal
 
 pub returns-then-not-is_empty : goal.returns-then-not-is_empty
 returns-then-not-is_empty c =
