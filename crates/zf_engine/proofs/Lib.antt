@@ -1,3 +1,4 @@
 pub mod Separated
 pub mod Refusing
 pub mod Parts
+pub mod Behind

@@ -1,5 +1,6 @@
 pub mod Counts
 pub mod Faults
 pub mod Texts
+pub mod Searches
 pub mod Answers
 pub mod Stops
