@@ -2,3 +2,4 @@ pub mod Separated
 pub mod Refusing
 pub mod Parts
 pub mod Behind
+pub mod Within
