@@ -3,3 +3,4 @@ pub mod Refusing
 pub mod Parts
 pub mod Behind
 pub mod Within
+pub mod OwnComponents
