@@ -4,3 +4,4 @@ pub mod Parts
 pub mod Behind
 pub mod Within
 pub mod OwnComponents
+pub mod DueWithin

@@ -244,7 +244,7 @@ own_disjoined l a b h k =
 abbrev pub AreOwn : List Defined → Type 0
 AreOwn g = (i : ℕ) (name : List ℕ) (a : Schema) → slice_get g i ≡ Some (record { name = name; definition = schema a }) → IsOwn a
 
-named_at : (x : List ℕ) (g : List Defined) (p : ℕ × Defined) → first_named (λ d. d.name) x g ≡ Some p → slice_get g p.0 ≡ Some p.1
+pub named_at : (x : List ℕ) (g : List Defined) (p : ℕ × Defined) → first_named (λ d. d.name) x g ≡ Some p → slice_get g p.0 ≡ Some p.1
 named_at x [] p e = absurd (none-some p e)
 named_at x (d ∷ g) p e = by (bytes_eq d.name x) (first_named (λ d. d.name) x g) (λ q. named_at x g q) e
   where
