@@ -1,8 +1,8 @@
 -- The events that a walk has passed: they are those up to its last answer.
-use Rattle.std.proofs.Common.{◌≡◌, ℕ, zero, suc, ◌⊎◌, List, [], ◌∷◌, ◌++◌, length, take, Option, Some, None, refl, sym, ap, ◌∙◌, inl, inr, arith, subst}
-use Rattle.std.specs.Prelude.{◌↔◌, Contains, AllPairs, IsTrue}
+use Rattle.std.proofs.Common.{◌≡◌, ◌⊎◌, List, [], ◌∷◌, ◌++◌, length, take, Option, Some, None, sym, ap, ◌∙◌, inl, inr, arith, subst}
+use Rattle.std.specs.Prelude.{Contains, AllPairs}
 use Rattle.std.specs.declared.cmp.Ordering.{Ordering}
-use Rattle.std.specs.declared.cmp.Ordering.TheVariants.{Less, Equal, Greater}
+use Rattle.std.specs.declared.cmp.Ordering.TheVariants.{Less, Greater}
 use Rattle.std.specs.Cmp.{IsTotalOrder}
 use Rattle.std.specs.Cmp.Lexicographic.{slice_cmp, lists_total}
 use Rattle.std.specs.Ordering.{ordering_reverse}
@@ -11,7 +11,6 @@ use Rattle.std.proofs.lemmas.List.{take_all}
 use Rattle.zf_walk.specs.Conjuncts.{Conjuncts}
 use Rattle.zf_walk.specs.Rows.{ComesAfter}
 use Rattle.zf_walk.specs.Events.{Event, IsEvent}
-use Rattle.zf_walk.specs.Tests.{IsUpTo}
 use Rattle.zf_walk.specs.Progress.{Ahead, IsAhead, past, Takes, AreAllAhead, IsNoneAhead, SameAhead}
 use Rattle.zf_walk.proofs.Lists.{Contains-head, Contains-cases, Contains-nil, Contains-left, Contains-right, Contains-either, AllPairs-nil, AllPairs-cons, AllPairs-head, AllPairs-tail, AllPairs-across}
 use Rattle.zf_walk.proofs.Picks.{IsRowOf-length}

@@ -5,3 +5,5 @@ pub mod Behind
 pub mod Within
 pub mod OwnComponents
 pub mod DueWithin
+pub mod Growing
+pub mod Telling

@@ -1,5 +1,5 @@
 -- The conjuncts of each schema that a text defines name its own components alone.
-use Rattle.std.proofs.Common.{◌≡◌, ℕ, zero, suc, ◌+◌, ◌<◌, ◌≤◌, Bool, true, false, if◌then◌else◌, List, [], ◌∷◌, ◌++◌, length, map, Option, Some, None, refl, sym, ap, ◌∙◌, subst, arith}
+use Rattle.std.proofs.Common.{◌≡◌, ℕ, zero, suc, ◌+◌, ◌<◌, ◌≤◌, Bool, true, false, if◌then◌else◌, List, [], ◌∷◌, ◌++◌, length, map, Option, Some, None, refl, sym, subst, arith}
 use Rattle.std.specs.Prelude.{flat_map, fold, slice_get}
 use Rattle.std.proofs.lemmas.List.{length-map}
 use Rattle.std.proofs.lemmas.Option.{none-some, same_Some}
@@ -24,7 +24,7 @@ use Rattle.zf_type.specs.Resolving.{resolved}
 use Rattle.zf_type.specs.Scopes.{spelling}
 use Rattle.zf_type.proofs.Filling.{onto_behind}
 use Rattle.zf_calculus.specs.Calculus.{nothing, comp, comp_named, with_comp, with_comps, place_or, place_of, new_place, conjoined, carried, decorated, prime, delta, all_unchanged, xi, marked, either_comps, membership, memberships, constraints, joined, disjoined}
-use Rattle.zf_calculus.specs.Expressions.{outside, inside, Refers, AddsAll, DeclaresOne, Declares, TakesAll, Constrains, IsText, IsSchema}
+use Rattle.zf_calculus.specs.Expressions.{outside, inside, Refers, AddsAll, DeclaresOne, Declares, TakesAll, Constrains, IsSchema}
 use Rattle.zf_enum.specs.Property.{greatest_place, due}
 use Rattle.zf_engine.proofs.Within.{joins, first_below, resolved_within, AreDue, due_joined, due_longer, due_both, conjuncts_due, moved_due}
 
@@ -165,8 +165,8 @@ carried_due cs ds ts k = all_moved_due (length ds) (length (with_comps cs ds)) (
 own_conjoined : (a b : Schema) → IsOwn a → IsOwn b → IsOwn (conjoined a b)
 own_conjoined a b h k = (
   due_joined (length (with_comps a.comps b.comps)) a.conjuncts (carried b.comps (with_comps a.comps b.comps) b.conjuncts)
-  (due_longer (length a.comps) (length (with_comps a.comps b.comps)) a.conjuncts (longer_all a.comps b.comps) h.0)
-  (carried_due a.comps b.comps b.conjuncts k.0),
+      (due_longer (length a.comps) (length (with_comps a.comps b.comps)) a.conjuncts (longer_all a.comps b.comps) h.0)
+      (carried_due a.comps b.comps b.conjuncts k.0),
   closed_all a.comps b.comps h.1 k.1,
 )
 
@@ -187,10 +187,10 @@ own_xi : (l : ℕ) (a : Schema) → IsOwn a → IsOwn (xi l a)
 own_xi l a h =
     let d = own_delta a h in (
       due_joined (length (delta a).comps) (delta a).conjuncts (all_unchanged l (decorated prime a).comps (delta a).comps 0 a.comps) d.0
-      (unchanged_due (length (delta a).comps) l (decorated prime a).comps (delta a).comps 0 a.comps (λ j m. (
-        let g = longer_all a.comps (decorated prime a).comps in omega (arith, m, g),
-        new_place_within a.comps (decorated prime a).comps j (let e = length-map a.comps (λ c. comp (c.name ++ prime) c.type c.sets) in omega (arith, m, e)),
-      ))),
+          (unchanged_due (length (delta a).comps) l (decorated prime a).comps (delta a).comps 0 a.comps (λ j m. (
+            let g = longer_all a.comps (decorated prime a).comps in omega (arith, m, g),
+            new_place_within a.comps (decorated prime a).comps j (let e = length-map a.comps (λ c. comp (c.name ++ prime) c.type c.sets) in omega (arith, m, e)),
+          ))),
       d.1,
     )
 
@@ -231,10 +231,12 @@ own_disjoined l a b h k =
     let all = with_comps a.comps b.comps in
     let n = length (either_comps a.comps b.comps) in
     let same : n ≡ length all = length-map all _ in (
-      (due_both n (joined l (constraints a)) (joined l (carried b.comps all (constraints b)))
-        (joined_due n l (constraints a) (due_longer (length a.comps) n (constraints a) (let g = longer_all a.comps b.comps in omega (arith, g, same)) (constraints_due a h)))
-        (joined_due n l (carried b.comps all (constraints b)) (due_longer (length all) n (carried b.comps all (constraints b)) (omega (arith, same)) (carried_due a.comps b.comps (constraints b) (constraints_due b k)))),
-        tt),
+      (
+        due_both n (joined l (constraints a)) (joined l (carried b.comps all (constraints b)))
+            (joined_due n l (constraints a) (due_longer (length a.comps) n (constraints a) (let g = longer_all a.comps b.comps in omega (arith, g, same)) (constraints_due a h)))
+            (joined_due n l (carried b.comps all (constraints b)) (due_longer (length all) n (carried b.comps all (constraints b)) (omega (arith, same)) (carried_due a.comps b.comps (constraints b) (constraints_due b k)))),
+        tt,
+      ),
       closed_sides _ all (λ c. (tt, tt)),
     )
 
