@@ -1,4 +1,4 @@
--- The command line, as the literals that `clap` reads words by: `check [-t] FILE` and `show FILE SCHEMA [NAME=SIZE]...`.
+-- The command line, as the literals that `clap` reads words by: `check [-t] FILE` and `show [--after TEXT] [--limit N] [--tests] FILE SCHEMA [NAME=SIZE]...`.
 use Rattle.std.specs.Prelude.{◌≡◌, Some, codes, true, false}
 use Rattle.clap.specs.Words.{App, Rule, Text, app_of, new_app, new_rule, rule_of, with_rule, with_subcommand}
 use Rattle.clap.specs.declared.builder.ArgAction.TheVariants.{Append, SetTrue}
@@ -18,13 +18,25 @@ sizes_rule = record (new_rule (codes "NAME=SIZE")) { action = Some Append }
 abbrev pub types_rule : Rule
 types_rule = record (new_rule (codes "types")) { short = Some 116; action = Some SetTrue }
 
+-- `[--NAME VALUE]`, with one name for its value in the text of help
+abbrev pub option_rule : Text → Rule
+option_rule name = record (new_rule name) { long = Some name; value_names = 1 }
+
+-- `[--tests]`
+abbrev pub tests_rule : Rule
+tests_rule = record (new_rule (codes "tests")) { long = Some (codes "tests"); action = Some SetTrue }
+
 -- `check [-t] FILE`
 abbrev pub check_app : App
 check_app = with_rule (with_rule (new_app (codes "check")) types_rule) (required_rule (codes "FILE"))
 
--- `show FILE SCHEMA [NAME=SIZE]...`
+-- the options of `show`
+abbrev pub show_options : App
+show_options = with_rule (with_rule (with_rule (new_app (codes "show")) (option_rule (codes "after"))) (option_rule (codes "limit"))) tests_rule
+
+-- `show [--after TEXT] [--limit N] [--tests] FILE SCHEMA [NAME=SIZE]...`
 abbrev pub show_app : App
-show_app = with_rule (with_rule (with_rule (new_app (codes "show")) (required_rule (codes "FILE"))) (required_rule (codes "SCHEMA"))) sizes_rule
+show_app = with_rule (with_rule (with_rule show_options (required_rule (codes "FILE"))) (required_rule (codes "SCHEMA"))) sizes_rule
 
 -- `zf`, which wants a subcommand, and whose words do not begin with its own name
 abbrev pub zf_top : App

@@ -1,5 +1,5 @@
 -- What a job is read from: the matches that `clap` makes of the words.
-use Rattle.std.specs.Prelude.{◌≡◌, ◌≢◌, ◌⊎◌, ◌++◌, ◌-◌, ◌^◌, ℕ, Bool, false, List, [], Some, codes, min, unwrap_or}
+use Rattle.std.specs.Prelude.{◌≡◌, ◌≢◌, ◌⊎◌, ◌++◌, ◌-◌, ◌^◌, ◌≤◌, ℕ, Bool, false, List, [], Option, Some, None, IsSomeAnd, codes, min, unwrap_or}
 use Rattle.std.specs.Option.{option_map_or}
 use Rattle.std.specs.Str.{bytes_eq}
 use Rattle.std.specs.List.{All, AllZip, Contains}
@@ -12,6 +12,7 @@ use Rattle.zf_command.specs.declared.job.Asked.TheVariants.{Help, Work}
 use Rattle.zf_command.specs.declared.job.Job.{Job}
 use Rattle.zf_command.specs.declared.job.Job.TheVariants.{Check, Show}
 use Rattle.zf_command.specs.declared.job.Size.{Size}
+use Rattle.zf_command.specs.declared.limit.TheConstants.{LIMIT_MAX}
 use Rattle.zf_command.specs.Apps.{zf_app}
 
 -- the value of an argument, and the values of one that may be given more than once
@@ -44,20 +45,37 @@ IsBadSize word = (size : Size) → ReadsSize word size → ⊥
 abbrev pub HasBadSize : List Text → Type 0
 HasBadSize words = (word : Text) × Contains words word × IsBadSize word
 
+-- the digits spell a limit
+abbrev pub ReadsLimit : Text → ℕ → Type 0
+ReadsLimit digits n = ReadsNumber digits n × (1 ≤ n) × (n ≤ LIMIT_MAX)
+
+abbrev pub IsBadLimit : Text → Type 0
+IsBadLimit digits = (n : ℕ) → ReadsLimit digits n → ⊥
+
+-- the limit of the option's value, where it was given
+abbrev pub IsLimit : Option Text → Option ℕ → Type 0
+IsLimit None limit = limit ≡ None
+IsLimit (Some digits) limit = IsSomeAnd limit (ReadsLimit digits)
+
+abbrev pub HasBadLimit : Option Text → Type 0
+HasBadLimit None = ⊥
+HasBadLimit (Some digits) = IsBadLimit digits
+
 -- the job is `check` where the subcommand has this name, else `show`, read from the matches of its arguments
 abbrev pub IsJob : Text → List Row → Job → Type 0
 IsJob name rows (Check types) = (name ≡ codes "check") × (types ≡ is_flagged (codes "types") rows)
-IsJob name rows (Show schema sizes) =
+IsJob name rows (Show schema sizes after limit tests) =
     (name ≢ codes "check") × (schema ≡ value_of (codes "SCHEMA") rows) × AllZip ReadsSize (values_of (codes "NAME=SIZE") rows) sizes
+    × (after ≡ first_of (codes "after") rows) × IsLimit (first_of (codes "limit") rows) limit × (tests ≡ is_flagged (codes "tests") rows)
 
 -- the matches of the subcommand of this name ask for the work
 abbrev pub Asks : Text → List Row → Asked → Type 0
 Asks name rows (Work file job) = (file ≡ value_of (codes "FILE") rows) × IsJob name rows job
 Asks name rows (Help text) = ⊥
 
--- a size word among the matches has another form
+-- a size word among the matches has another form, or the limit has
 abbrev pub Refuses : List Row → Type 0
-Refuses rows = HasBadSize (values_of (codes "NAME=SIZE") rows)
+Refuses rows = HasBadSize (values_of (codes "NAME=SIZE") rows) ⊎ HasBadLimit (first_of (codes "limit") rows)
 
 -- `clap` takes the words, which name this subcommand, and the rows are its matches
 abbrev pub AreMatches : List Text → Text → List Row → Type 0
@@ -72,6 +90,6 @@ IsAsked words (Work file job) = (name : Text) × (rows : List Row) × AreMatches
 abbrev pub IsRefusedByClap : List Text → Type 0
 IsRefusedByClap words = (cause : ErrorKind) × IsAmong cause (fault_of zf_app words) × (cause ≢ OutOfMemory) × (cause ≢ DisplayHelp)
 
--- the words are refused: by `clap`, or since a size word among its matches has another form
+-- the words are refused: by `clap`, or since a size word or the limit among its matches has another form
 abbrev pub IsRefused : List Text → Type 0
 IsRefused words = IsRefusedByClap words ⊎ ((name : Text) × (rows : List Row) × AreMatches words name rows × Refuses rows)

@@ -1,18 +1,20 @@
 //! What the words of a command line ask for.
-ghost use Rattle.std.specs.Prelude.{◌≡◌, IfOk, IsErrOf, map};
-ghost use Rattle.clap.specs.Words.{found_of, rows_of};
-ghost use Rattle.zf_command.specs.Jobs.{IsAsked, IsRefused, IsJob, Asks, Refuses};
+ghost use Rattle.std.specs.Prelude.{◌≡◌, IfOk, IsErrOf, codes, map};
+ghost use Rattle.std.specs.List.{AllZip};
+ghost use Rattle.clap.specs.Words.{found_of, first_of, rows_of};
+ghost use Rattle.zf_command.specs.Jobs.{IsAsked, IsRefused, IsJob, IsLimit, Asks, Refuses, ReadsSize, HasBadSize, HasBadLimit, values_of};
 ghost use Rattle.zf_command.specs.declared.job.UsageFault.TheVariants.{BadWords};
 
 use crate::command::zf;
-use crate::job::{Asked, Job, UsageFault};
-use crate::matches::{all_in, is_flagged, value_in};
+use crate::job::{Asked, Job, Size, UsageFault};
+use crate::limit::limit_of;
+use crate::matches::{all_in, first_in, is_flagged, option_in, value_in};
 use crate::sizes::sizes_of;
 use clap::ArgMatches;
 use clap::error::ErrorKind;
 use std::alloc::Global;
 use std::convert::AsStr;
-use zf_data::Word;
+use zf_data::{Items, Word};
 
 /// What the words after the program's own name ask for.
 pub fn job_of<S: AsStr>(alloc: Global, words: &[S]) -> Result<Asked, UsageFault>
@@ -55,7 +57,30 @@ fn job_in(alloc: Global, name: &str, matches: &ArgMatches<'_>) -> Result<Job, Us
         return Ok(Job::Check { types });
     }
     let schema = value_in(alloc, matches, "SCHEMA")?;
+    let sizes = sizes_in(alloc, matches)?;
+    let after = option_in(alloc, matches, "after")?;
+    let limit = limit_in(matches)?;
+    let tests = is_flagged(matches, "tests");
+    Ok(Job::Show {
+        schema,
+        sizes,
+        after,
+        limit,
+        tests,
+    })
+}
+
+fn sizes_in(alloc: Global, matches: &ArgMatches<'_>) -> Result<Items<Size>, UsageFault>
+    ensures read { IfOk result (λ sizes. AllZip ReadsSize (values_of (codes "NAME=SIZE") (rows_of (found_of matches.now))) sizes) }
+    ensures refused { IsErrOf result BadWords → HasBadSize (values_of (codes "NAME=SIZE") (rows_of (found_of matches.now))) }
+{
     let words = all_in(matches, "NAME=SIZE").unwrap_or(&[]);
-    let sizes = sizes_of(alloc, words)?;
-    Ok(Job::Show { schema, sizes })
+    sizes_of(alloc, words)
+}
+
+fn limit_in(matches: &ArgMatches<'_>) -> Result<Option<u64>, UsageFault>
+    ensures read { IfOk result (λ limit. IsLimit (first_of (codes "limit") (rows_of (found_of matches.now))) limit) }
+    ensures refused { IsErrOf result BadWords → HasBadLimit (first_of (codes "limit") (rows_of (found_of matches.now))) }
+{
+    limit_of(first_in(matches, "limit"))
 }

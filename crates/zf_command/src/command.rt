@@ -1,6 +1,6 @@
 //! The command that `clap` is given, one small function for each argument.
 ghost use Rattle.std.specs.Prelude.{◌≡◌, IfOk, codes};
-ghost use Rattle.zf_command.specs.Apps.{IsArg, IsCommand, IsTop, check_app, required_rule, show_app, sizes_rule, types_rule, zf_app, zf_top};
+ghost use Rattle.zf_command.specs.Apps.{IsArg, IsCommand, IsTop, check_app, option_rule, required_rule, show_app, sizes_rule, tests_rule, types_rule, zf_app, zf_top};
 
 use clap::{Arg, ArgAction, Command};
 use std::alloc::{AllocError, Global};
@@ -38,12 +38,15 @@ fn check_command<'a>(alloc: Global) -> Result<Command<'a>, AllocError>
     Ok(command)
 }
 
-/// `show FILE SCHEMA [NAME=SIZE]...`
+/// `show [--after TEXT] [--limit N] [--tests] FILE SCHEMA [NAME=SIZE]...`
 fn show_command<'a>(alloc: Global) -> Result<Command<'a>, AllocError>
     ensures { IfOk result (λ c. IsCommand c show_app) }
 {
     let command = Command::new(alloc, "show")
         .about("Writes the bindings of a schema, one a line")
+        .arg(after_arg(alloc))?
+        .arg(limit_arg(alloc))?
+        .arg(tests_arg(alloc))?
         .arg(file_arg(alloc))?
         .arg(schema_arg(alloc))?
         .arg(sizes_arg(alloc))?;
@@ -57,6 +60,33 @@ fn types_arg<'a>(alloc: Global) -> Arg<'a>
         .short('t')
         .action(ArgAction::SetTrue)
         .help("Writes also what is defined, with its types")
+}
+
+fn after_arg<'a>(alloc: Global) -> Arg<'a>
+    ensures { IsArg result (option_rule (codes "after")) }
+{
+    Arg::new(alloc, "after")
+        .long("after")
+        .value_name("TEXT")
+        .help("Writes only what comes after this binding, a line of another run or one like it")
+}
+
+fn limit_arg<'a>(alloc: Global) -> Arg<'a>
+    ensures { IsArg result (option_rule (codes "limit")) }
+{
+    Arg::new(alloc, "limit")
+        .long("limit")
+        .value_name("N")
+        .help("Writes at most so many bindings, 1 to 1000000000")
+}
+
+fn tests_arg<'a>(alloc: Global) -> Arg<'a>
+    ensures { IsArg result tests_rule }
+{
+    Arg::new(alloc, "tests")
+        .long("tests")
+        .action(ArgAction::SetTrue)
+        .help("Writes also how many tests of predicates were finished")
 }
 
 fn file_arg<'a>(alloc: Global) -> Arg<'a>

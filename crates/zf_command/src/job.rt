@@ -16,9 +16,18 @@ pub struct Size {
 #[derive(Drop)]
 pub enum Job {
     /// The faults of types; then, if `types`, what is defined, with its types.
-    Check { types: bool },
-    /// The bindings of the schema, where the given sets have these sizes.
-    Show { schema: Word, sizes: Items<Size> },
+    Check {
+        types: bool,
+    },
+    /// The bindings of the schema, where the given sets have these sizes: those that come after the named one,
+    /// at most as many as the limit says; then, if `tests`, how many tests were finished.
+    Show {
+        schema: Word,
+        sizes: Items<Size>,
+        after: Option<Word>,
+        limit: Option<u64>,
+        tests: bool,
+    },
 }
 
 /// What the words of a command line ask for.

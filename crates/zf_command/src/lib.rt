@@ -4,5 +4,7 @@
 pub mod asked;
 mod command;
 pub mod job;
+pub mod limit;
 mod matches;
+mod numerals;
 mod sizes;

@@ -14,6 +14,20 @@ pub fn value_in(alloc: Global, matches: &ArgMatches<'_>, id: &str) -> Result<Wor
     Word::of(alloc, first_in(matches, id).unwrap_or(""))
 }
 
+/// The value of an option, if it was given.
+pub fn option_in(
+    alloc: Global,
+    matches: &ArgMatches<'_>,
+    id: &str,
+) -> Result<Option<Word>, AllocError>
+    ensures { IfOk result (λ w. w ≡ first_of id.now (rows_of (found_of matches.now))) }
+{
+    match first_in(matches, id) {
+        Some(value) => Ok(Some(Word::of(alloc, value)?)),
+        None => Ok(None),
+    }
+}
+
 /// Whether an argument that is a flag was given.
 pub fn is_flagged(matches: &ArgMatches<'_>, id: &str) -> bool
     ensures { result ≡ is_flagged id.now (rows_of (found_of matches.now)) }
@@ -24,7 +38,8 @@ pub fn is_flagged(matches: &ArgMatches<'_>, id: &str) -> bool
     }
 }
 
-fn first_in<'a>(matches: &ArgMatches<'a>, id: &str) -> Option<&'a str>
+/// The first value of an argument, if it was given.
+pub fn first_in<'a>(matches: &ArgMatches<'a>, id: &str) -> Option<&'a str>
     ensures { option_map (λ v. v.now) result ≡ first_of id.now (rows_of (found_of matches.now)) }
 {
     matches.get_str(id)

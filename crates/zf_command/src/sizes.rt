@@ -1,12 +1,11 @@
 //! Size words: `NAME=SIZE`.
-ghost use Rattle.std.specs.Prelude.{◌≡◌, ◌↔◌, IfOk, IsErrOf, IsTrue, MatchOption, EachIndex, map, slice_index};
-ghost use Rattle.std.specs.Int.{IsInRange};
+ghost use Rattle.std.specs.Prelude.{◌≡◌, IfOk, IsErrOf, MatchOption, map};
 ghost use Rattle.std.specs.List.{AllZip};
-ghost use Rattle.std.specs.Str.Parse.{IsNumeral};
-ghost use Rattle.zf_command.specs.Jobs.{HasBadSize, IsBadSize, ReadsNumber, ReadsSize};
+ghost use Rattle.zf_command.specs.Jobs.{HasBadSize, IsBadSize, ReadsSize};
 ghost use Rattle.zf_command.specs.declared.job.UsageFault.TheVariants.{BadWords};
 
 use crate::job::{Size, UsageFault};
+use crate::numerals::number_of;
 use std::alloc::Global;
 use zf_data::{Items, Word};
 
@@ -46,30 +45,4 @@ fn parts_of(word: &str) -> Option<(&str, u64)>
         return None;
     }
     Some((name, number_of(digits)?))
-}
-
-/// The number that a text of digits spells.
-fn number_of(digits: &str) -> Option<u64>
-    ensures { MatchOption result (¬ (IsNumeral 10 digits.now)) (λ n. ReadsNumber digits.now n) }
-{
-    if !is_numeral(digits) {
-        return None;
-    }
-    match digits.parse::<u64>() {
-        Ok(number) => Some(number),
-        Err(_) => Some(u64::MAX),
-    }
-}
-
-/// Whether the text is one digit or more, and nothing else.
-fn is_numeral(text: &str) -> bool
-    ensures { IsTrue result ↔ IsNumeral 10 text.now }
-{
-    !text.is_empty() && has_only_digits(text.as_bytes())
-}
-
-fn has_only_digits(bytes: &[u8]) -> bool
-    ensures { IsTrue result ↔ EachIndex bytes.now (λ k. IsInRange 48 57 (slice_index bytes.now k)) }
-{
-    bytes.iter().all(|b| b.is_ascii_digit())
 }

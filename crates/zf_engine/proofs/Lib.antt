@@ -1,3 +1,6 @@
-pub mod Separated
 pub mod Refusing
 pub mod Parts
+pub mod Within
+pub mod OwnComponents
+pub mod DueWithin
+pub mod Limits

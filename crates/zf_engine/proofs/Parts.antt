@@ -1,64 +1,78 @@
 -- How the parts of an answer that are written come together.
-use Rattle.std.proofs.Common.{◌≡◌, ◌++◌, ℕ, List, [], Option, Some, Bool, true, false, Result, Ok, Err, OnErr, refl, sym, ap, ◌∙◌, append_assoc, append-nil, inl, inr, codes}
-use Rattle.std.specs.Bool.{MatchBool}
-use Rattle.std.specs.List.{flat_map}
+use Rattle.std.proofs.Common.{◌≡◌, ◌⊎◌, ◌++◌, ℕ, List, [], ◌∷◌, Option, Some, None, Bool, Result, Ok, Err, IfOk, OnErr, refl, sym, ap, ◌∙◌, append_assoc, append-nil, inl, inr, subst}
 use Rattle.std.specs.Io.KnownBytes.{Appends, Keeps}
 use Rattle.std.proofs.KnownBytes.{Appends-trans, Appends-kept, Appends-nil}
 use Rattle.zf_command.specs.declared.job.Job.{Job}
-use Rattle.zf_simple.specs.Bindings.{Walk, Gives, Ends}
-use Rattle.zf_simple.specs.declared.simple.Component.{Component}
-use Rattle.zf_engine.specs.declared.fault.Status.{Status}
-use Rattle.zf_engine.specs.Answers.{Answer, AnswersReader, AnswersSource, StopsInSource, StopsInReader, show_text}
-use Rattle.zf_engine.specs.Faults.{AppendsFront, Gave}
-use Rattle.zf_engine.specs.Texts.{binding_line}
+use Rattle.zf_command.specs.declared.job.Job.TheVariants.{Show}
+use Rattle.zf_term.specs.Definitions.{Defined, Schema}
+use Rattle.zf_value.specs.declared.value.Value.{Value}
+use Rattle.zf_meaning.specs.Environments.{Environment}
+use Rattle.zf_texts.specs.declared.spelling.Spelling.{Spelling}
+use Rattle.zf_texts.specs.Spellings.{spellings}
+use Rattle.zf_enum.specs.declared.bindings.Bindings.{Bindings}
+use Rattle.zf_enum.specs.Starts.{Begins}
+use Rattle.zf_lines.specs.declared.fault.RunFault.{RunFault}
+use Rattle.zf_lines.specs.declared.fault.Status.{Status}
+use Rattle.zf_engine.specs.declared.stop.Stop.{Stop}
+use Rattle.zf_engine.specs.declared.stop.Stop.TheVariants.{Answered, OutOfMemory}
+use Rattle.zf_engine.specs.Answers.{Answer, AnswersReader, AnswersSource, IsAsked, IsNamedRow, IsSearch, Request, ShowAnswer, ShowBegins, StopsInSource, StopsInReader}
+use Rattle.zf_walk.specs.Events.{Event}
+use Rattle.zf_lines.specs.Faults.{AppendsFront}
+use Rattle.zf_engine.specs.Faults.{Gave}
+use Rattle.zf_lines.specs.Searches.{HasEvents, IsBegun, IsTestsLine, IsWritten}
+use Rattle.zf_lines.specs.Shown.{IsSome, Lists, StopsShown, WritesAll, searched}
+use Rattle.zf_lines.specs.Texts.{binding_line}
+use Rattle.zf_engine.specs.Stops.{AnswersRequest, Shows, Tells}
 
-pub always_on_err : {T E : Type 0} (r : Result T E) {Q : Type 0} → Q → OnErr r Q
-always_on_err (Ok x) q = tt
-always_on_err (Err e) q = q
+-- ---- answers that are whole
 
-pub weaker_on_err : {T E : Type 0} (r : Result T E) {P Q : Type 0} → (P → Q) → OnErr r P → OnErr r Q
-weaker_on_err (Ok x) f h = tt
-weaker_on_err (Err e) f h = f h
+pub told : (r : Request) (file source : List ℕ) (stop : Stop) (a b : Option (List ℕ)) (result : Result Status RunFault) → AnswersRequest r file source stop → Tells stop a b result
+    → Shows r file source a b result
+told r file source (Answered text status) a b (Ok given) answer (same, written) =
+    (text.items, subst (λ s. Answer (Show r.name r.sizes r.after r.limit r.tests) file source text.items s) same answer, written)
+told r file source (Answered text status) a b (Err fault) answer (f, front, written) = (f, inr (inl (text.items, status, answer, front)), written)
+told r file source OutOfMemory a b (Ok given) answer h = absurd h
+told r file source OutOfMemory a b (Err fault) answer h = ([], inl refl, h)
 
--- a front was written, and then some of the next line
-pub front_more : (a b c : Option (List ℕ)) (text front tail line rest : List ℕ) → text ≡ front ++ tail → Appends a b front
-    → tail ≡ line ++ rest → AppendsFront b c line → AppendsFront a c text
-front_more a b c text front tail line rest whole written next (f, (r, split), more) = (
-  front ++ f,
-  (r ++ rest, whole ∙ ap (λ l. front ++ l) (next ∙ ap (λ l. l ++ rest) split ∙ append_assoc f r rest) ∙ sym (append_assoc front f (r ++ rest))),
-  Appends-trans a b c front f written more,
-)
+-- ---- the lines of a search
 
--- a front was written, and nothing more
-pub front_alone : (a b : Option (List ℕ)) (text front tail : List ℕ) → text ≡ front ++ tail → Appends a b front → AppendsFront a b text
-front_alone a b text front tail whole written = (front, (tail, whole), written)
+module _ (r : Request) (file source : List ℕ) (a : Schema) (b : Bindings) (ss : List Spelling) (e : Environment) (after : Option (List Value))
+    (is : IsAsked r source e.globals a e) (named : IsNamedRow e a.comps r.after after) (begins : Begins e a after b) (spelled : ss ≡ spellings e.globals) where
+  search_of : IsSearch r source e.globals a e after
+  search_of = record { asked = is; named = named; none_out = begins.none_out }
 
--- ---- the lines of a walk
+  listed : (last : Option (List Value)) (events : List (Event Value)) → Lists a b last events → HasEvents e a after last events
+  listed last events h = subst (λ f. HasEvents f a after last events) begins.environment (subst (λ n. HasEvents (searched b) a n last events) begins.named h)
 
--- the line of a step is the front of what is ahead
-pub line_first : (components : List Component) (old new : Walk) (row line : List ℕ) (found : Bool) → found ≡ true → MatchBool found (Gives old new) (Ends old new)
-    → new.last ≡ Some row → line ≡ binding_line components row → show_text components old.rest ≡ line ++ show_text components new.rest
-line_first components old new row line true is gives last same =
-    let row_is : gives.0 ≡ row = some_same gives.0 row (sym gives.2 ∙ last) in
-    ap (show_text components) gives.1
-    ∙ append_assoc (binding_line components gives.0) (flat_map (binding_line components) new.rest) (codes "end\n")
-    ∙ ap (λ l. l ++ show_text components new.rest) (ap (binding_line components) row_is ∙ sym same)
-  where
-    some_same : (x y : List ℕ) → ◌≡◌ {A = Option (List ℕ)} (Some x) (Some y) → x ≡ y
-    some_same x y e = cc
-line_first components old new row line false is gives last same = absurd (cc)
+  whole_answer : (text : List ℕ) (status : Status) → WritesAll (binding_line ss a.comps) r.limit r.tests a b text status → ShowAnswer r file source text status
+  whole_answer text status w = ShowAnswer.bindings e.globals a e after w.last w.events w.written w.counted search_of
+      (listed w.last w.events w.listed)
+      (subst (λ k. IsWritten (binding_line k a.comps) r.limit w.events w.last w.written status) spelled w.ends)
+      (subst (λ f. IsTestsLine r.tests f a after w.last w.counted) begins.environment (subst (λ n. IsTestsLine r.tests (searched b) a n w.last w.counted) begins.named w.numbered))
+      w.whole
 
-pub end_last : (components : List Component) (old new : Walk) (found : Bool) → found ≡ false → MatchBool found (Gives old new) (Ends old new)
-    → show_text components old.rest ≡ codes "end\n"
-end_last components old new false is ends = ap (show_text components) ends.0
-end_last components old new true is ends = absurd (cc)
+  first_lines : (text : List ℕ) → IsSome (binding_line ss a.comps) r.limit a b text → (text ≡ []) ⊎ ShowBegins r source text
+  first_lines text (inl none) = inl none
+  first_lines text (inr (events, last, some, begun)) =
+      inr (ShowBegins.bindings e.globals a e after last events search_of (listed last events some) (subst (λ k. IsBegun (binding_line k a.comps) r.limit events last text) spelled begun))
+
+  stops_early : (text : List ℕ) (old new : Option (List ℕ)) → (text ≡ []) ⊎ ShowBegins r source text → AppendsFront old new text
+      → StopsInSource (Show r.name r.sizes r.after r.limit r.tests) file source old new
+  stops_early text old new (inl none) (f, (rest, split), written) = (f, inl (nothing f rest (sym split ∙ none)), written) where
+    nothing : (xs ys : List ℕ) → xs ++ ys ≡ [] → xs ≡ []
+    nothing [] ys k = refl
+    nothing (x ∷ xs) ys k = cc
+  stops_early text old new (inr begins) (f, front, written) = (f, inr (inr (text, begins, front)), written)
+
+  -- what is written of the search is the answer of the request, or a part of it
+  pub shown : (old new : Option (List ℕ)) (result : Result Status RunFault)
+      → IfOk result (λ status. (text : List ℕ) × WritesAll (binding_line ss a.comps) r.limit r.tests a b text status × Appends old new text)
+      → OnErr result (StopsShown (binding_line ss a.comps) r.limit r.tests a b old new) → Shows r file source old new result
+  shown old new (Ok status) (text, w, written) stops = (text, inr (whole_answer text status w), written)
+  shown old new (Err fault) all (inl (text, some, front)) = stops_early text old new (first_lines text some) front
+  shown old new (Err fault) all (inr (text, status, w, (f, front, written))) = (f, inr (inl (text, status, inr (whole_answer text status w), front)), written)
 
 -- ---- answers
-
--- some front of an answer was written
-pub stops_in : (job : Job) (file source text : List ℕ) (status : Status) (a b : Option (List ℕ)) → Answer job file source text status
-    → AppendsFront a b text → StopsInSource job file source a b
-stops_in job file source text status a b answer (f, front, written) = (f, inr (text, status, answer, front), written)
 
 pub stops_unwritten : (job : Job) (file source : List ℕ) (a : Option (List ℕ)) → StopsInSource job file source a a
 stops_unwritten job file source a = ([], inl refl, Appends-nil a)
@@ -71,7 +85,7 @@ stops_reading job file source given left a b gave (written, part, appended) = (w
 pub stops_whole : (job : Job) (file source : List ℕ) (status : Status) (a b c : Option (List ℕ)) → AnswersSource job file source a b status
     → Keeps b c → StopsInSource job file source a c
 stops_whole job file source status a b c (text, answer, appended) kept =
-    (text, inr (text, status, answer, ([], sym (append-nil text))), Appends-kept a b c text appended kept)
+    (text, inr (inl (text, status, answer, ([], sym (append-nil text)))), Appends-kept a b c text appended kept)
 
 -- the same, where the flush did not fail
 pub answers_kept : (job : Job) (file source : List ℕ) (status : Status) (given left a b c : Option (List ℕ)) → Gave given left source → AnswersSource job file source a b status

@@ -1,32 +1,39 @@
 -- What a run writes and answers, by the first case that applies.
-use Rattle.std.specs.Prelude.{◌≡◌, ◌≢◌, ◌⊎◌, ℕ, Bool, if◌then◌else◌, List, [], ◌∷◌, ◌++◌, codes, Option, Some, Ok, Err}
+use Rattle.std.specs.Prelude.{◌≡◌, ◌≢◌, ◌⊎◌, ℕ, ◌<◌, Bool, true, false, if◌then◌else◌, List, [], ◌∷◌, ◌++◌, map, Option, Some, None, IsSomeAnd, slice_get}
 use Rattle.std.specs.List.{flat_map}
 use Rattle.std.specs.Io.KnownBytes.{Appends}
 use Rattle.zf_command.specs.declared.job.Job.{Job}
 use Rattle.zf_command.specs.declared.job.Job.TheVariants.{Check, Show}
-use Rattle.zf_command.specs.declared.job.Size.{Size}
+use Rattle.zf_command.specs.declared.job.Size as command
 use Rattle.zf_schema.specs.Checking.{IsChecked}
-use Rattle.zf_finite.specs.Finite.{IsFinite, infinite_lines}
 use Rattle.zf_schema.specs.Listing.{listing}
-use Rattle.zf_simple.specs.declared.simple.Component.{Component}
-use Rattle.zf_simple.specs.declared.simple.Simple.{Simple}
-use Rattle.zf_simple.specs.declared.sizes.SizeFault.{SizeFault}
-use Rattle.zf_simple.specs.declared.sizes.SizeFault.TheVariants.{NoSize, NotGiven, SizeTwice, SizeTooLarge, OutOfMemory}
-use Rattle.zf_simple.specs.Bindings.{IsBindings}
-use Rattle.zf_simple.specs.Showing.{given_sets, simple_of}
-use Rattle.zf_simple.specs.Sizes.{AreSized, AreRanges, IsRefusal}
+use Rattle.zf_finite.specs.Finite.{IsFinite, infinite_lines}
 use Rattle.zf_scan.specs.declared.fault.TextFault.{TextFault}
-use Rattle.zf_scan.specs.declared.fault.TextFaultKind.TheVariants.{NotInProfile}
 use Rattle.zf_text.specs.Parsing.{ReadsSource, RefusesSource}
 use Rattle.zf_text.specs.Trees.{BoxTree}
-use Rattle.zf_term.specs.Definitions.{Defined, Schema, schema}
+use Rattle.zf_term.specs.Definitions.{Comp, Defined, Schema, schema}
 use Rattle.zf_term.specs.Extents.{first}
 use Rattle.zf_term.specs.FirstNamed.{first_named}
 use Rattle.zf_type.specs.declared.fault.TypeFault.{TypeFault}
-use Rattle.zf_engine.specs.declared.fault.Status.{Status}
-use Rattle.zf_engine.specs.declared.fault.Status.TheVariants.{Done, BadSpec, BadRequest}
-use Rattle.zf_engine.specs.Faults.{Gave, IsFront}
-use Rattle.zf_engine.specs.Texts.{text_fault_text, text_fault_line, type_fault_line, fault_line, not_finite_text, no_schema_line, no_size_line, not_given_line, size_twice_line, size_too_large_line, binding_line}
+use Rattle.zf_value.specs.declared.value.Value.{Value}
+use Rattle.zf_walk.specs.Events.{Event}
+use Rattle.zf_meaning.specs.declared.sizes.Size.{Size}
+use Rattle.zf_meaning.specs.declared.sizes.SizeFault.{SizeFault}
+use Rattle.zf_meaning.specs.declared.sizes.SizeFault.TheVariants.{NoSize, NotGiven, SizeTwice, SizeTooLarge, OutOfMemory}
+use Rattle.zf_meaning.specs.Environments.{Environment}
+use Rattle.zf_meaning.specs.GlobalOutcomes.{IsEnvironment}
+use Rattle.zf_meaning.specs.Rows.{IsRow}
+use Rattle.zf_meaning.specs.Sizes.{given_sets, AreComplete, IsRefusal}
+use Rattle.zf_enum.specs.Ranges.{IsFirstOut, IsNoneOut}
+use Rattle.zf_texts.specs.BindingTexts.{binding_text}
+use Rattle.zf_texts.specs.Spellings.{spellings}
+use Rattle.zf_lines.specs.declared.fault.Status.{Status}
+use Rattle.zf_lines.specs.declared.fault.Status.TheVariants.{Done, BadSpec, BadRequest, PastBounds}
+use Rattle.zf_lines.specs.Faults.{IsFront}
+use Rattle.zf_lines.specs.Texts.{binding_line}
+use Rattle.zf_engine.specs.Faults.{Gave}
+use Rattle.zf_lines.specs.Searches.{HasEvents, IsTestsLine, IsWritten, IsBegun}
+use Rattle.zf_engine.specs.Texts.{text_fault_line, type_fault_line, fault_line, not_finite_text, no_schema_line, no_size_line, not_given_line, size_twice_line, size_too_large_line, not_a_binding_line, declared_out_line}
 
 -- a tree reads the source; it defines these globals, and has these faults of types
 pub record Checks (source : List ℕ) (globals : List Defined) (faults : List TypeFault) : Type 0 where
@@ -43,6 +50,8 @@ pub record HasSchema (source name : List ℕ) (globals : List Defined) (a : Sche
   pub checks : Checks source globals []
   pub named : IsNamed globals name a
 
+-- ---- `check`
+
 -- a text with a fault is a bad specification
 abbrev pub check_status : List TypeFault → Status
 check_status [] = Done
@@ -57,6 +66,22 @@ abbrev pub CheckAnswer : (types : Bool) → (file source text : List ℕ) → St
 CheckAnswer types file source text status =
     (globals : List Defined) × (faults : List TypeFault) × Checks source globals faults × (text ≡ check_text types file globals faults) × (status ≡ check_status faults)
 
+-- ---- what `show` is asked for
+
+pub record Request : Type 0 where
+  pub name : List ℕ
+  pub sizes : List command.Size
+  pub after : Option (List ℕ)
+  pub limit : Option ℕ
+  pub tests : Bool
+
+abbrev pub stated_size : command.Size → Size
+stated_size s = record { name = s.name; count = s.count }
+
+-- the sizes that are stated
+abbrev pub stated : List command.Size → List Size
+stated sizes = map stated_size sizes
+
 abbrev pub size_fault_line : SizeFault → List ℕ
 size_fault_line (NoSize name) = no_size_line name
 size_fault_line (NotGiven name) = not_given_line name
@@ -64,39 +89,87 @@ size_fault_line (SizeTwice name) = size_twice_line name
 size_fault_line (SizeTooLarge name) = size_too_large_line name
 size_fault_line OutOfMemory = []
 
--- the lines of the bindings, and the last line
-abbrev pub show_text : List Component → List (List ℕ) → List ℕ
-show_text components rows = flat_map (binding_line components) rows ++ codes "end\n"
+-- the schema that is asked for is finite, and this is the environment at the stated sizes
+pub record IsAsked (r : Request) (source : List ℕ) (globals : List Defined) (a : Schema) (e : Environment) : Type 0 where
+  pub has_schema : HasSchema source r.name globals a
+  pub complete : AreComplete (given_sets globals) (stated r.sizes)
+  pub environment : IsEnvironment globals (stated r.sizes) e
+  pub finite : IsFinite globals a
+
+-- the text is the line of this row of the schema's types
+abbrev pub IsLineOf : Environment → List Comp → List ℕ → List Value → Type 0
+IsLineOf e comps text row = IsRow e comps row × (text ≡ binding_text (spellings e.globals) comps row)
+
+-- the row that the search comes after, if one is named
+abbrev pub IsNamedRow : Environment → List Comp → Option (List ℕ) → Option (List Value) → Type 0
+IsNamedRow e comps None after = after ≡ None
+IsNamedRow e comps (Some text) after = IsSomeAnd after (IsLineOf e comps text)
+
+-- a text is given that is the line of no such row
+abbrev pub NamesNoRow : Environment → List Comp → Option (List ℕ) → Type 0
+NamesNoRow e comps None = ⊥
+NamesNoRow e comps (Some text) = (row : List Value) → IsLineOf e comps text row → ⊥
+
+-- the search goes over the events of the schema after the named row, and no declared set is out
+pub record IsSearch (r : Request) (source : List ℕ) (globals : List Defined) (a : Schema) (e : Environment) (after : Option (List Value)) : Type 0 where
+  pub asked : IsAsked r source globals a e
+  pub named : IsNamedRow e a.comps r.after after
+  pub none_out : IsNoneOut e a.comps
+
+-- ---- `show`
 
 -- the answer of `show` for a source that is read, with the refusals in their order
-pub data ShowAnswer (name : List ℕ) (sizes : List Size) (file source text : List ℕ) (status : Status) : Type 0 where
+pub data ShowAnswer (r : Request) (file source text : List ℕ) (status : Status) : Type 0 where
   ill_typed : (globals : List Defined) (faults : List TypeFault) → Checks source globals faults → faults ≢ [] → text ≡ flat_map (type_fault_line file) faults
-      → status ≡ BadSpec → ShowAnswer name sizes file source text status
-  no_schema : (globals : List Defined) → Checks source globals [] → ((a : Schema) → IsNamed globals name a → ⊥) → text ≡ no_schema_line name
-      → status ≡ BadRequest → ShowAnswer name sizes file source text status
-  other_form : (globals : List Defined) (a : Schema) (line : ℕ) → HasSchema source name globals a → simple_of globals a ≡ Err line
-      → text ≡ fault_line file line (text_fault_text NotInProfile) → status ≡ BadSpec → ShowAnswer name sizes file source text status
-  bad_sizes : (globals : List Defined) (a : Schema) (simple : Simple) (fault : SizeFault) → HasSchema source name globals a → simple_of globals a ≡ Ok simple
-      → IsRefusal (given_sets globals) sizes fault → fault ≢ OutOfMemory → text ≡ size_fault_line fault → status ≡ BadRequest
-      → ShowAnswer name sizes file source text status
-  not_finite : (globals : List Defined) (a : Schema) (simple : Simple) (line : ℕ) → HasSchema source name globals a → simple_of globals a ≡ Ok simple
-      → AreSized (given_sets globals) sizes → first (infinite_lines globals a) ≡ Some line → text ≡ fault_line file line not_finite_text → status ≡ BadSpec
-      → ShowAnswer name sizes file source text status
-  bindings : (globals : List Defined) (a : Schema) (simple : Simple) (ranges : List ℕ) (rows : List (List ℕ)) → HasSchema source name globals a
-      → simple_of globals a ≡ Ok simple → AreSized (given_sets globals) sizes → IsFinite globals a → AreRanges sizes simple.components ranges
-      → IsBindings ranges simple.tests rows → text ≡ show_text simple.components rows → status ≡ Done → ShowAnswer name sizes file source text status
+      → status ≡ BadSpec → ShowAnswer r file source text status
+  no_schema : (globals : List Defined) → Checks source globals [] → ((a : Schema) → IsNamed globals r.name a → ⊥) → text ≡ no_schema_line r.name
+      → status ≡ BadRequest → ShowAnswer r file source text status
+  bad_sizes : (globals : List Defined) (a : Schema) (fault : SizeFault) → HasSchema source r.name globals a → IsRefusal (given_sets globals) (stated r.sizes) fault
+      → fault ≢ OutOfMemory → text ≡ size_fault_line fault → status ≡ BadRequest → ShowAnswer r file source text status
+  not_finite : (globals : List Defined) (a : Schema) (line : ℕ) → HasSchema source r.name globals a → AreComplete (given_sets globals) (stated r.sizes)
+      → first (infinite_lines globals a) ≡ Some line → text ≡ fault_line file line not_finite_text → status ≡ BadSpec → ShowAnswer r file source text status
+  not_a_binding : (globals : List Defined) (a : Schema) (e : Environment) (place : ℕ) → IsAsked r source globals a e → NamesNoRow e a.comps r.after
+      → text ≡ not_a_binding_line place → status ≡ BadRequest → ShowAnswer r file source text status
+  declared_out : (globals : List Defined) (a : Schema) (e : Environment) (after : Option (List Value)) (place : ℕ) (c : Comp) → IsAsked r source globals a e
+      → IsNamedRow e a.comps r.after after → IsFirstOut e a.comps place → slice_get a.comps place ≡ Some c → text ≡ declared_out_line c.name
+      → status ≡ PastBounds → ShowAnswer r file source text status
+  bindings : (globals : List Defined) (a : Schema) (e : Environment) (after last : Option (List Value)) (events : List (Event Value)) (lines counted : List ℕ)
+      → IsSearch r source globals a e after → HasEvents e a after last events → IsWritten (binding_line (spellings globals) a.comps) r.limit events last lines status
+      → IsTestsLine r.tests e a after last counted → text ≡ lines ++ counted → ShowAnswer r file source text status
+
+-- the first lines that `show` writes: those of the first bindings
+pub data ShowBegins (r : Request) (source text : List ℕ) : Type 0 where
+  bindings : (globals : List Defined) (a : Schema) (e : Environment) (after last : Option (List Value)) (events : List (Event Value))
+      → IsSearch r source globals a e after → HasEvents e a after last events → IsBegun (binding_line (spellings globals) a.comps) r.limit events last text
+      → ShowBegins r source text
+
+-- ---- jobs
+
+-- a limit is at least 1
+abbrev pub IsLimited : Job → Type 0
+IsLimited (Check types) = Unit {0}
+IsLimited (Show name sizes after None tests) = Unit {0}
+IsLimited (Show name sizes after (Some limit) tests) = 0 < limit
 
 -- the answer for a source with a fault of its text. Which fault of the grammar is told, and on which line, is open.
 abbrev pub UnreadAnswer : (file source text : List ℕ) → Status → Type 0
 UnreadAnswer file source text status = (fault : TextFault) × RefusesSource source fault × (text ≡ text_fault_line file fault) × (status ≡ BadSpec)
 
+abbrev pub request : List ℕ → List command.Size → Option (List ℕ) → Option ℕ → Bool → Request
+request name sizes after limit tests = record { name = name; sizes = sizes; after = after; limit = limit; tests = tests }
+
 abbrev pub JobAnswer : Job → (file source text : List ℕ) → Status → Type 0
 JobAnswer (Check types) file source text status = CheckAnswer types file source text status
-JobAnswer (Show name sizes) file source text status = ShowAnswer name sizes file source text status
+JobAnswer (Show name sizes after limit tests) file source text status = ShowAnswer (request name sizes after limit tests) file source text status
 
 -- the text and the status that answer a job on a source
 abbrev pub Answer : Job → (file source text : List ℕ) → Status → Type 0
 Answer job file source text status = UnreadAnswer file source text status ⊎ JobAnswer job file source text status
+
+-- the text is what an answer begins with, whatever follows
+abbrev pub JobBegins : Job → (source text : List ℕ) → Type 0
+JobBegins (Check types) source text = ⊥
+JobBegins (Show name sizes after limit tests) source text = ShowBegins (request name sizes after limit tests) source text
 
 -- ---- what a run leaves
 
@@ -104,9 +177,11 @@ Answer job file source text status = UnreadAnswer file source text status ⊎ Jo
 abbrev pub AnswersSource : Job → List ℕ → List ℕ → Option (List ℕ) → Option (List ℕ) → Status → Type 0
 AnswersSource job file source old new status = (text : List ℕ) × Answer job file source text status × Appends old new text
 
--- nothing was written, or the front of an answer for the source
+-- nothing was written, or the front of an answer for the source, or of its first lines
 abbrev pub IsPartOfAnswer : Job → List ℕ → List ℕ → List ℕ → Type 0
-IsPartOfAnswer job file source written = (written ≡ []) ⊎ ((text : List ℕ) × (status : Status) × Answer job file source text status × IsFront text written)
+IsPartOfAnswer job file source written =
+    (written ≡ []) ⊎ (((text : List ℕ) × (status : Status) × Answer job file source text status × IsFront text written)
+    ⊎ ((text : List ℕ) × JobBegins job source text × IsFront text written))
 
 abbrev pub StopsInSource : Job → List ℕ → List ℕ → Option (List ℕ) → Option (List ℕ) → Type 0
 StopsInSource job file source old new = (written : List ℕ) × IsPartOfAnswer job file source written × Appends old new written

@@ -1,25 +1,29 @@
--- What the steps before the first binding ensure. No public clause rests on this file.
-use Rattle.std.specs.Prelude.{◌≡◌, ◌≢◌, ℕ, List, [], Some, Err}
-use Rattle.zf_command.specs.declared.job.Job.{Job}
-use Rattle.zf_command.specs.declared.job.Job.TheVariants.{Check, Show}
-use Rattle.zf_command.specs.declared.job.Size.{Size}
+-- What the steps of an answer ensure. No public clause rests on this file.
+use Rattle.std.specs.Prelude.{◌≡◌, ◌≢◌, ℕ, List, [], Option, Some, Result, Ok, Err, option_map, slice_get}
+use Rattle.std.specs.Io.KnownBytes.{Appends}
+use Rattle.zf_command.specs.declared.job.Job.TheVariants.{Show}
 use Rattle.zf_finite.specs.Finite.{infinite_lines}
-use Rattle.zf_simple.specs.Bindings.{IsBindings}
-use Rattle.zf_simple.specs.Showing.{given_sets, simple_of}
-use Rattle.zf_simple.specs.Sizes.{IsRefusal}
-use Rattle.zf_simple.specs.declared.sizes.SizeFault.{SizeFault}
-use Rattle.zf_simple.specs.declared.sizes.SizeFault.TheVariants as size_faults
 use Rattle.zf_scan.specs.declared.fault.TextFault.{TextFault}
 use Rattle.zf_scan.specs.declared.fault.TextFaultKind.TheVariants as text_faults
-use Rattle.zf_term.specs.Definitions.{Defined, Schema}
+use Rattle.zf_term.specs.Definitions.{Comp, Defined, Schema}
 use Rattle.zf_term.specs.Extents.{first}
-use Rattle.zf_engine.specs.declared.fault.Status.{Status}
-use Rattle.zf_engine.specs.declared.fault.Status.TheVariants.{Done, BadSpec, BadRequest}
+use Rattle.zf_meaning.specs.declared.sizes.Size.{Size}
+use Rattle.zf_meaning.specs.declared.sizes.SizeFault.{SizeFault}
+use Rattle.zf_meaning.specs.declared.sizes.SizeFault.TheVariants as size_faults
+use Rattle.zf_meaning.specs.Environments.{Environment}
+use Rattle.zf_meaning.specs.Sizes.{given_sets, IsRefusal}
+use Rattle.zf_enum.specs.Ranges.{IsFirstOut}
+use Rattle.zf_lines.specs.declared.fault.RunFault.{RunFault}
+use Rattle.zf_lines.specs.declared.fault.Status.{Status}
+use Rattle.zf_lines.specs.declared.fault.Status.TheVariants.{BadSpec, BadRequest, PastBounds}
+use Rattle.zf_engine.specs.declared.request.Request as program
 use Rattle.zf_engine.specs.declared.stop.Stop.{Stop}
 use Rattle.zf_engine.specs.declared.stop.Stop.TheVariants.{Answered, OutOfMemory}
-use Rattle.zf_engine.specs.declared.prepare.Ready.{Ready}
-use Rattle.zf_engine.specs.Answers.{Answer, Checks, ShowAnswer, show_text, size_fault_line}
-use Rattle.zf_engine.specs.Texts.{fault_line, not_finite_text, text_fault_line, text_fault_text}
+use Rattle.zf_engine.specs.Answers.{Answer, AnswersSource, Checks, NamesNoRow, Request, StopsInSource, size_fault_line}
+use Rattle.zf_lines.specs.Faults.{AppendsFront}
+use Rattle.zf_engine.specs.Texts.{declared_out_line, fault_line, not_a_binding_line, not_finite_text, text_fault_line}
+
+-- ---- answers that are whole
 
 -- the fact holds of the text and the status of an answer, unless memory ran out
 abbrev pub IfAnswered : Stop → (List ℕ → Status → Type 0) → Type 0
@@ -32,10 +36,6 @@ IsFaultLine file fault text status = (fault.kind ≢ text_faults.OutOfMemory) ×
 abbrev pub IsMisfit : SizeFault → List ℕ → Status → Type 0
 IsMisfit fault text status = (fault ≢ size_faults.OutOfMemory) × (text ≡ size_fault_line fault) × (status ≡ BadRequest)
 
--- the answer names the line of a form that can't be shown
-abbrev pub TellsForm : List Defined → Schema → (file : List ℕ) → List ℕ → Status → Type 0
-TellsForm g a file text status = (line : ℕ) × (simple_of g a ≡ Err line) × (text ≡ fault_line file line (text_fault_text text_faults.NotInProfile)) × (status ≡ BadSpec)
-
 -- the answer tells what is wrong with the sizes
 abbrev pub TellsMisfit : List Defined → List Size → List ℕ → Status → Type 0
 TellsMisfit g sizes text status = (fault : SizeFault) × IsRefusal (given_sets g) sizes fault × IsMisfit fault text status
@@ -45,20 +45,45 @@ abbrev pub TellsInfinite : List Defined → Schema → (file : List ℕ) → Lis
 TellsInfinite g a file text status =
     (line : ℕ) × (first (infinite_lines g a) ≡ Some line) × (text ≡ fault_line file line not_finite_text) × (status ≡ BadSpec)
 
--- whatever schema is asked for, this is the answer
+-- the answer tells a place of a text that is the line of no row
+abbrev pub TellsPlace : ℕ → List ℕ → Status → Type 0
+TellsPlace place text status = (text ≡ not_a_binding_line place) × (status ≡ BadRequest)
+
+abbrev pub TellsNoRow : Environment → List Comp → Option (List ℕ) → List ℕ → Status → Type 0
+TellsNoRow e comps after text status = NamesNoRow e comps after × ((place : ℕ) × TellsPlace place text status)
+
+-- the answer names the component at a place
+abbrev pub TellsComponent : List Comp → ℕ → List ℕ → Status → Type 0
+TellsComponent comps place text status = (c : Comp) × (slice_get comps place ≡ Some c) × (text ≡ declared_out_line c.name) × (status ≡ PastBounds)
+
+-- the answer names the first component with a declared set that is out
+abbrev pub TellsOut : Environment → List Comp → List ℕ → Status → Type 0
+TellsOut e comps text status = (place : ℕ) × IsFirstOut e comps place × TellsComponent comps place text status
+
+-- what is asked for, as the definitions have it
+abbrev pub request_of : program.Request → Request
+request_of r = record { name = r.name.now; sizes = r.sizes.now; after = option_map (λ t. t.now) r.after; limit = r.limit; tests = r.tests }
+
+-- this answers the request
+abbrev pub AnswersRequest : Request → (file source : List ℕ) → Stop → Type 0
+AnswersRequest r file source stop = IfAnswered stop (Answer (Show r.name r.sizes r.after r.limit r.tests) file source)
+
+-- whatever is asked for, this is the answer
 abbrev pub AnswersShow : (file source : List ℕ) → Stop → Type 0
-AnswersShow file source stop = (name : List ℕ) (sizes : List Size) → IfAnswered stop (Answer (Show name sizes) file source)
+AnswersShow file source stop = (r : Request) → AnswersRequest r file source stop
 
 -- the same of a source that is well typed and defines these globals
-abbrev pub AnswersOver : List Defined → (name : List ℕ) → List Size → (file : List ℕ) → Stop → Type 0
-AnswersOver g name sizes file stop = (source : List ℕ) → Checks source g [] → IfAnswered stop (Answer (Show name sizes) file source)
+abbrev pub AnswersOver : List Defined → Request → (file : List ℕ) → Stop → Type 0
+AnswersOver g r file stop = (source : List ℕ) → Checks source g [] → AnswersRequest r file source stop
 
--- the lines of the bindings over these ranges are the answer
-unfoldable pub ShowsBindings : List ℕ → List Size → List ℕ → List ℕ → Ready → Type 0
-ShowsBindings name sizes file source ready =
-    (rows : List (List ℕ)) → IsBindings ready.ranges.items ready.simple.tests rows → ShowAnswer name sizes file source (show_text ready.simple.components rows) Done
+-- the answer is written, or a front of it
+abbrev pub Tells : Stop → Option (List ℕ) → Option (List ℕ) → Result Status RunFault → Type 0
+Tells (Answered text status) old new (Ok given) = (status ≡ given) × Appends old new text.items
+Tells (Answered text status) old new (Err fault) = AppendsFront old new text.items
+Tells OutOfMemory old new (Ok given) = ⊥
+Tells OutOfMemory old new (Err fault) = Appends old new []
 
--- the same for a job; `check` looks for no binding
-abbrev pub ShowsJob : Job → List ℕ → List ℕ → Ready → Type 0
-ShowsJob (Check types) file source ready = ⊥
-ShowsJob (Show name sizes) file source ready = ShowsBindings name sizes file source ready
+-- the answer of the request is written, or a part of it
+abbrev pub Shows : Request → (file source : List ℕ) → Option (List ℕ) → Option (List ℕ) → Result Status RunFault → Type 0
+Shows r file source old new (Ok status) = AnswersSource (Show r.name r.sizes r.after r.limit r.tests) file source old new status
+Shows r file source old new (Err fault) = StopsInSource (Show r.name r.sizes r.after r.limit r.tests) file source old new

@@ -1,10 +1,8 @@
--- The lines of an answer. Each ends in a newline byte.
-use Rattle.std.specs.Prelude.{ℕ, ◌+◌, List, [], ◌∷◌, ◌++◌, map, codes, decimal}
-use Rattle.std.specs.List.{flat_map, zip}
+-- The lines of refusals. Each ends in a newline byte.
+use Rattle.std.specs.Prelude.{ℕ, List, ◌++◌, codes, decimal}
 use Rattle.zf_scan.specs.declared.fault.TextFault.{TextFault}
 use Rattle.zf_scan.specs.declared.fault.TextFaultKind.{TextFaultKind}
 use Rattle.zf_scan.specs.declared.fault.TextFaultKind.TheVariants.{BadByte, UnknownCommand, NotInProfile, UnclosedBox, Unexpected, NumberTooLarge, TooDeep, TooLong, OutOfMemory}
-use Rattle.zf_simple.specs.declared.simple.Component.{Component}
 use Rattle.zf_type.specs.declared.fault.TypeFault.{TypeFault}
 use Rattle.zf_type.specs.declared.fault.TypeFaultKind.{TypeFaultKind}
 use Rattle.zf_type.specs.declared.fault.TypeFaultKind.TheVariants.{NotDeclared, AlreadyDefined, Mismatch, NotASet, NotANumber, NotARelation, NotAPredicate, NotAnExpression, ComponentClash, NotASchema, LocalTwice, TooLarge}
@@ -66,22 +64,9 @@ size_twice_line name = codes "zf: two sizes for " ++ name ++ codes "\n"
 abbrev pub size_too_large_line : List ℕ → List ℕ
 size_too_large_line name = codes "zf: size of " ++ name ++ codes " is too large\n"
 
--- the texts, with `, ` between each two
-abbrev pub separated : List (List ℕ) → List ℕ
-separated [] = []
-separated (text ∷ texts) = text ++ flat_map (λ next. codes ", " ++ next) texts
+-- the place, from 0, of the first byte of what does not fit
+abbrev pub not_a_binding_line : ℕ → List ℕ
+not_a_binding_line place = codes "zf: after: not a binding at byte " ++ decimal place ++ codes "\n"
 
--- the element at a place, from 0, of a given set: it is printed from 1
-abbrev pub element_text : List ℕ → ℕ → List ℕ
-element_text set place = set ++ codes "." ++ decimal (place + 1)
-
--- `x == v`, for a component and the place of its element
-abbrev pub component_text : Component × ℕ → List ℕ
-component_text (c, place) = c.name ++ codes " == " ++ element_text c.set place
-
--- the binding of the components to the elements at the places of the row
-abbrev pub binding_text : List Component → List ℕ → List ℕ
-binding_text components row = separated (map component_text (zip components row))
-
-abbrev pub binding_line : List Component → List ℕ → List ℕ
-binding_line components row = binding_text components row ++ codes "\n"
+abbrev pub declared_out_line : List ℕ → List ℕ
+declared_out_line name = codes "out of bounds in the declaration of " ++ name ++ codes "\n"

@@ -8,7 +8,7 @@ ghost use Rattle.zf_text.specs.Parsing.{ReadsSource};
 ghost use Rattle.zf_text.specs.Trees.{boxes_of};
 ghost use Rattle.zf_term.specs.Definitions.{globals_of};
 
-use crate::fault::Status;
+use zf_lines::fault::Status;
 use crate::stop::Stop;
 use crate::texts;
 use bumpalo::Bump;

@@ -1,14 +1,15 @@
 //! From the bytes of a reader to the bytes of a writer.
 #![tactic(auto)]
 
+mod answer;
+mod asked;
+mod begin;
 mod check;
-pub mod counted;
-pub mod fault;
-mod prepare;
+mod named;
 pub mod program;
-pub mod reading;
+mod reading;
+mod request;
 pub mod run;
-mod show;
 mod stop;
-pub mod texts;
-pub mod writing;
+mod texts;
+mod typed;

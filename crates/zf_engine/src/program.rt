@@ -1,9 +1,10 @@
 //! All that the program does: words in, a status out.
 ghost use Rattle.std.specs.Prelude.{◌≡◌, ◌≤◌};
+ghost use Rattle.zf_engine.specs.Answers.{IsLimited};
 ghost use Rattle.zf_engine.specs.Faults.{number_max, refused_number};
 
-use crate::counted::Counted;
-use crate::fault::RunFault;
+use zf_lines::counted::Counted;
+use zf_lines::fault::RunFault;
 use crate::run::run;
 use std::convert::AsStr;
 use std::fs::File;
@@ -46,6 +47,7 @@ fn help<R: Print + Eprint>(rt: &R, text: &str) -> u8
 
 /// Does the job on the file, which is standard input where it is `-`.
 fn work<R: Files + Input + Print + Eprint + AllocGlobal>(rt: &R, file: &str, job: &Job) -> u8
+    requires { IsLimited job.now }
     ensures { result ≤ number_max }
 {
     if file == "-" {
@@ -67,6 +69,7 @@ fn work_over<R: Print + Eprint + AllocGlobal, D: Read + Drop>(
     job: &Job,
     device: D,
 ) -> u8
+    requires { IsLimited job.now }
     ensures { result ≤ number_max }
 {
     let mut reader = Counted::new(device);

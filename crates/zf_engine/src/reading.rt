@@ -1,10 +1,11 @@
 //! The loop that reads a source.
 ghost use Rattle.std.specs.Prelude.{◌≡◌, ◌≤◌, ◌+◌, IfOk, vec_len};
-ghost use Rattle.zf_engine.specs.Counts.{device_of, failures_of};
-ghost use Rattle.zf_engine.specs.Faults.{Gave, GaveAtMost, read_failures, write_failures};
+ghost use Rattle.zf_lines.specs.Counts.{device_of, failures_of};
+ghost use Rattle.zf_engine.specs.Faults.{Gave, GaveAtMost};
+ghost use Rattle.zf_lines.specs.Faults.{read_failures, write_failures};
 
-use crate::counted::Counted;
-use crate::fault::RunFault;
+use zf_lines::counted::Counted;
+use zf_lines::fault::RunFault;
 use std::alloc::Global;
 use std::io::Read;
 use zf_scan::scan::SOURCE_MAX;

@@ -1,50 +1,19 @@
 //! A run: it reads a source, and writes the answer of a job.
 ghost use Rattle.std.specs.Prelude.{◌≡◌, ◌+◌, OnErr, IfOk, IsErrOf};
 ghost use Rattle.std.specs.Io.KnownBytes.{Keeps};
-ghost use Rattle.zf_engine.specs.Answers.{AnswersReader, AnswersSource, StopsInReader, StopsInSource};
-ghost use Rattle.zf_engine.specs.Counts.{device_of, failures_of};
-ghost use Rattle.zf_engine.specs.Faults.{GaveAtMost, read_failures, write_failures};
+ghost use Rattle.zf_engine.specs.Answers.{AnswersReader, IsLimited, StopsInReader};
+ghost use Rattle.zf_lines.specs.Counts.{device_of, failures_of};
+ghost use Rattle.zf_engine.specs.Faults.{GaveAtMost};
+ghost use Rattle.zf_lines.specs.Faults.{read_failures, write_failures};
 ghost use Rattle.zf_scan.specs.declared.scan.TheConstants.{SOURCE_MAX};
 
-use crate::counted::Counted;
-use crate::fault::{RunFault, Status};
-use crate::prepare::{Ready, prepare};
+use crate::answer::answer;
+use zf_lines::counted::Counted;
+use zf_lines::fault::{RunFault, Status};
 use crate::reading::read_source;
-use crate::show::show;
-use crate::stop::Stop;
-use crate::writing::write_text;
 use std::alloc::Global;
 use std::io::{Read, Write};
 use zf_command::job::Job;
-use zf_simple::bindings::Bindings;
-
-/// Writes the answer of a job for a source, as it is found.
-fn answer<W: Write>(
-    alloc: Global,
-    job: &Job,
-    file_name: &str,
-    source: &[u8],
-    writer: &mut Counted<W>,
-) -> Result<Status, RunFault>
-    requires { failures_of writer.old ≡ 0 }
-    ensures answered { IfOk result (λ status. AnswersSource job.now file_name.now source.now (W.contents (device_of writer.old)) (W.contents (device_of writer.new)) status) }
-    ensures stopped { OnErr result (StopsInSource job.now file_name.now source.now (W.contents (device_of writer.old)) (W.contents (device_of writer.new))) }
-    ensures count { failures_of writer.new ≡ write_failures result }
-    ensures unread { read_failures result ≡ 0 }
-{
-    let ready = match prepare(alloc, job, file_name, source) {
-        Ok(ready) => ready,
-        Err(Stop::Answered(text, status)) => {
-            write_text(writer, &text)?;
-            return Ok(status);
-        }
-        Err(Stop::OutOfMemory) => return Err(RunFault::OutOfMemory),
-    };
-    let Ready { simple, ranges } = ready;
-    let mut bindings = Bindings::start(alloc, ranges, simple.tests.as_slice())?;
-    show(alloc, simple.components.as_slice(), &mut bindings, writer)?;
-    Ok(Status::Done)
-}
 
 /// Reads a source, of which it reads no more than one byte past the greatest length, and writes the answer of a
 /// job. Each line is written before the next is looked for, and all is flushed once at the end. No call of a
@@ -58,6 +27,7 @@ pub fn run<R: Read, W: Write>(
 ) -> Result<Status, RunFault>
     requires unfailed_reader { failures_of reader.old ≡ 0 }
     requires unfailed_writer { failures_of writer.old ≡ 0 }
+    requires limited { IsLimited job.now }
     ensures answered { IfOk result (λ status. AnswersReader job.now file_name.now
         (R.remaining (device_of reader.old)) (R.remaining (device_of reader.new))
         (W.contents (device_of writer.old)) (W.contents (device_of writer.new)) status) }

@@ -2,7 +2,7 @@
 ghost use Rattle.std.specs.Prelude.{◌≡◌};
 ghost use Rattle.zf_engine.specs.declared.stop.Stop.TheVariants.{OutOfMemory};
 
-use crate::fault::Status;
+use zf_lines::fault::Status;
 use std::alloc::{AllocError, AllocFailed};
 
 /// Why no binding is looked for.

@@ -1,11 +1,10 @@
-//! The lines of an answer, each with its newline.
-ghost use Rattle.std.specs.Prelude.{◌≡◌, ◌++◌, IfOk, OnErr, OnOk, length, take};
+//! The lines of refusals, each with its newline.
+ghost use Rattle.std.specs.Prelude.{◌≡◌, ◌++◌, IfOk};
 ghost use Rattle.zf_engine.specs.Texts as spec;
 
 use itoa::Buffer;
 use std::alloc::{AllocError, Global};
 use zf_scan::fault::{TextFault, TextFaultKind};
-use zf_simple::simple::Component;
 use zf_type::fault::{TypeFault, TypeFaultKind};
 
 /// The text of a fault of a text.
@@ -135,55 +134,22 @@ pub fn size_too_large_line(alloc: Global, name: &[u8]) -> Result<Vec<u8>, AllocE
     around(alloc, b"zf: size of ", name, b" is too large\n")
 }
 
-/// Appends `x == NAME.k` for a component and a place from 0.
-#[inline]
-fn append_component(line: &mut Vec<u8>, component: &Component, place: u64) -> Result<(), AllocError>
-    ensures ok { OnOk result (line.new.items ≡ line.old.items ++ spec.component_text (component.now, place)) }
-    ensures kept { take (length line.old.items) line.new.items ≡ line.old.items }
+/// `zf: after: not a binding at byte K`
+pub fn not_a_binding_line(alloc: Global, place: usize) -> Result<Vec<u8>, AllocError>
+    ensures { IfOk result (λ v. v.items ≡ spec.not_a_binding_line place) }
 {
     let mut number = Buffer::new();
-    line.extend_from_slice(component.name.as_slice())?;
-    line.extend_from_slice(b" == ")?;
-    line.extend_from_slice(component.set.as_slice())?;
-    line.extend_from_slice(b".")?;
-    line.extend_from_slice(number.format(u128::from(place) + 1).as_bytes())
+    around(
+        alloc,
+        b"zf: after: not a binding at byte ",
+        number.format(place as u64).as_bytes(),
+        b"\n",
+    )
 }
 
-/// Appends the binding. A refusal leaves a part of it.
-fn append_binding(
-    line: &mut Vec<u8>,
-    components: &[Component],
-    row: &[u64],
-) -> Result<(), AllocError>
-    ensures ok { OnOk result (line.new.items ≡ line.old.items ++ spec.binding_text components.now row.now) }
-    ensures kept { take (length line.old.items) line.new.items ≡ line.old.items }
+/// `out of bounds in the declaration of x`
+pub fn declared_out_line(alloc: Global, name: &[u8]) -> Result<Vec<u8>, AllocError>
+    ensures { IfOk result (λ v. v.items ≡ spec.declared_out_line name.now) }
 {
-    for i in 0..components.len().min(row.len()) {
-        if i > 0 {
-            line.extend_from_slice(b", ")?;
-        }
-        append_component(line, &components[i], row[i])?;
-    }
-    Ok(())
-}
-
-/// Appends `x == NAME.1, y == NAME.2` and a newline, for components and a row of places from 0. A refusal leaves
-/// the line as it was.
-pub fn append_binding_line(
-    line: &mut Vec<u8>,
-    components: &[Component],
-    row: &[u64],
-) -> Result<(), AllocError>
-    ensures ok { OnOk result (line.new.items ≡ line.old.items ++ spec.binding_line components.now row.now) }
-    ensures err { OnErr result (line.new.items ≡ line.old.items) }
-{
-    let start = line.len();
-    let mut result = append_binding(line, components, row);
-    if result.is_ok() {
-        result = line.extend_from_slice(b"\n");
-    }
-    if result.is_err() {
-        line.truncate(start);
-    }
-    result
+    around(alloc, b"out of bounds in the declaration of ", name, b"\n")
 }

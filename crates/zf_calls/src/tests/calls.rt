@@ -2,7 +2,7 @@
 use crate::devices::{Failing, Limited};
 use std::io::{ErrorKind, Read, Write};
 use std::test::Fail;
-use zf_engine::counted::Counted;
+use zf_lines::counted::Counted;
 
 static ERRORS: [ErrorKind; 3] = [
     ErrorKind::Interrupted,

@@ -4,8 +4,8 @@ use std::io::{Read, Write};
 use std::test::Fail;
 use zf_command::asked::job_of;
 use zf_command::job::Asked;
-use zf_engine::counted::Counted;
-use zf_engine::fault::{RunFault, Status};
+use zf_lines::counted::Counted;
+use zf_lines::fault::{RunFault, Status};
 use zf_engine::run::run;
 
 /// How a run of the words ends.

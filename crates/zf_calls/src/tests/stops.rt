@@ -4,7 +4,7 @@ use crate::tests::runs::ended;
 use crate::tests::sources::{ONE, ONE_ANSWER};
 use std::io::ErrorKind;
 use std::test::Fail;
-use zf_engine::fault::{RunFault, Status};
+use zf_lines::fault::{RunFault, Status};
 
 const WORDS: &[&str] = &["show", "s.tex", "S", "NAME=2"];
 

@@ -1,0 +1,36 @@
+//! The limit of `show`: how many bindings are written at most.
+ghost use Rattle.std.specs.Prelude.{IfOk, IsErrOf, MatchOption};
+ghost use Rattle.zf_command.specs.Jobs.{HasBadLimit, IsBadLimit, IsLimit, ReadsLimit};
+ghost use Rattle.zf_command.specs.declared.job.UsageFault.TheVariants.{BadWords};
+ghost use Rattle.std.specs.Prelude.{option_map};
+
+use crate::job::UsageFault;
+use crate::numerals::number_of;
+
+/// The greatest limit.
+pub const LIMIT_MAX: u64 = 1_000_000_000;
+
+/// The limit of the option's value, if it was given.
+pub fn limit_of(digits: Option<&str>) -> Result<Option<u64>, UsageFault>
+    ensures read { IfOk result (λ limit. IsLimit (option_map (λ d. d.now) digits.entry) limit) }
+    ensures refused { IsErrOf result BadWords → HasBadLimit (option_map (λ d. d.now) digits.entry) }
+{
+    match digits {
+        None => Ok(None),
+        Some(digits) => match read_limit(digits) {
+            Some(limit) => Ok(Some(limit)),
+            None => Err(UsageFault::BadWords),
+        },
+    }
+}
+
+/// The limit that a text of digits spells.
+fn read_limit(digits: &str) -> Option<u64>
+    ensures { MatchOption result (IsBadLimit digits.now) (λ n. ReadsLimit digits.now n) }
+{
+    let limit = number_of(digits)?;
+    if 1 <= limit && limit <= LIMIT_MAX {
+        return Some(limit);
+    }
+    None
+}

@@ -1,0 +1,211 @@
+//! What is written of a job on a source.
+ghost use Rattle.std.specs.Prelude.{◌≡◌, ℕ, List, [], IfOk, IfErr, OnErr};
+ghost use Rattle.std.specs.Option.{option_copied};
+ghost use Rattle.zf_command.specs.declared.job.Job.TheVariants.{Check};
+ghost use Rattle.zf_engine.specs.Answers.{Answer, AnswersSource, Checks, IsAsked, IsLimited, IsNamedRow, StopsInSource};
+ghost use Rattle.zf_lines.specs.Counts.{device_of, failures_of};
+ghost use Rattle.zf_lines.specs.Faults.{read_failures, write_failures};
+ghost use Rattle.zf_engine.specs.Stops.{IfAnswered, Shows, Tells, request_of};
+ghost use Rattle.zf_lines.specs.Shown.{HasLimit};
+ghost use Rattle.zf_meaning.specs.Envs.{environment_of};
+ghost use Rattle.zf_term.specs.Definitions.{globals_of, schema_of};
+ghost use Rattle.zf_texts.specs.Spellings.{spellings};
+
+use crate::asked::{Asked, asked_in};
+use crate::begin::begin;
+use crate::check::{check_answer, checked_in};
+use zf_lines::counted::Counted;
+use zf_lines::fault::{RunFault, Status};
+use crate::named::named_row;
+use crate::request::Request;
+use zf_lines::show::show;
+use crate::stop::Stop;
+use crate::typed::typed_in;
+use zf_lines::writing::write_text;
+use bumpalo::Bump;
+use std::alloc::Global;
+use std::io::Write;
+use zf_command::job::Job;
+use zf_enum::Known;
+use zf_meaning::env::Env;
+use zf_term::globals::{Flat, Globals};
+use zf_texts::{Spelling, spellings_of};
+
+/// Writes the answer of a job for a source, as it is found.
+pub fn answer<W: Write>(
+    alloc: Global,
+    job: &Job,
+    file_name: &str,
+    source: &[u8],
+    writer: &mut Counted<W>,
+) -> Result<Status, RunFault>
+    requires unfailed { failures_of writer.old ≡ 0 }
+    requires limited { IsLimited job.now }
+    ensures answered { IfOk result (λ status. AnswersSource job.now file_name.now source.now (W.contents (device_of writer.old)) (W.contents (device_of writer.new)) status) }
+    ensures stopped { OnErr result (StopsInSource job.now file_name.now source.now (W.contents (device_of writer.old)) (W.contents (device_of writer.new))) }
+    ensures count { failures_of writer.new ≡ write_failures result }
+    ensures unread { read_failures result ≡ 0 }
+{
+    let file = file_name.as_bytes();
+    match job {
+        Job::Check { types } => tell(checked(alloc, *types, file, source), writer),
+        Job::Show {
+            schema,
+            sizes,
+            after,
+            limit,
+            tests,
+        } => {
+            let request = Request {
+                name: schema.as_str(),
+                sizes: sizes.as_slice(),
+                after: match after {
+                    Some(text) => Some(text.as_str()),
+                    None => None,
+                },
+                limit: *limit,
+                tests: *tests,
+            };
+            show_source(alloc, &request, file, source, writer)
+        }
+    }
+}
+
+/// The answer of `check`.
+fn checked(alloc: Global, types: bool, file: &[u8], source: &[u8]) -> Stop
+    ensures { IfAnswered result (Answer (Check types) file.now source.now) }
+{
+    match checked_text(alloc, types, file, source) {
+        Ok((text, status)) => Stop::Answered(text, status),
+        Err(stop) => stop,
+    }
+}
+
+fn checked_text(
+    alloc: Global,
+    types: bool,
+    file: &[u8],
+    source: &[u8],
+) -> Result<(Vec<u8>, Status), Stop>
+    ensures answer { IfOk result (λ p. Answer (Check types) file.now source.now p.0.items p.1) }
+    ensures stop { IfErr result (λ s. IfAnswered s (Answer (Check types) file.now source.now)) }
+{
+    let trees = Bump::new(alloc);
+    let arena = Bump::new(alloc);
+    let checked = checked_in(alloc, &trees, &arena, file, source)?;
+    Ok(check_answer(alloc, types, file, &checked)?)
+}
+
+/// Writes an answer that is whole.
+fn tell<W: Write>(stop: Stop, writer: &mut Counted<W>) -> Result<Status, RunFault>
+    requires { failures_of writer.old ≡ 0 }
+    ensures told { Tells stop (W.contents (device_of writer.old)) (W.contents (device_of writer.new)) result }
+    ensures count { failures_of writer.new ≡ write_failures result }
+    ensures unread { read_failures result ≡ 0 }
+{
+    match stop {
+        Stop::Answered(text, status) => {
+            write_text(writer, &text)?;
+            Ok(status)
+        }
+        Stop::OutOfMemory => Err(RunFault::OutOfMemory),
+    }
+}
+
+/// Writes the answer of `show` for a source.
+fn show_source<W: Write>(
+    alloc: Global,
+    request: &Request<'_>,
+    file: &[u8],
+    source: &[u8],
+    writer: &mut Counted<W>,
+) -> Result<Status, RunFault>
+    requires unfailed { failures_of writer.old ≡ 0 }
+    requires limited { HasLimit request.now.limit }
+    ensures shows { Shows (request_of request.now) file.now source.now (W.contents (device_of writer.old)) (W.contents (device_of writer.new)) result }
+    ensures count { failures_of writer.new ≡ write_failures result }
+    ensures unread { read_failures result ≡ 0 }
+{
+    let trees = Bump::new(alloc);
+    let arena = Bump::new(alloc);
+    match typed_in(alloc, &trees, &arena, file, source) {
+        Ok(globals) => show_globals(alloc, &arena, &globals, request, file, writer),
+        Err(stop) => tell(stop, writer),
+    }
+}
+
+/// Writes the answer of `show` for a source that is well typed and defines these globals.
+fn show_globals<'a, W: Write>(
+    alloc: Global,
+    arena: &'a Bump,
+    globals: &Globals<'a>,
+    request: &Request<'_>,
+    file: &[u8],
+    writer: &mut Counted<W>,
+) -> Result<Status, RunFault>
+    requires unfailed { failures_of writer.old ≡ 0 }
+    requires limited { HasLimit request.now.limit }
+    requires checks { (source : List ℕ) × Checks source (globals_of globals.now) [] }
+    ensures shows { (source : List ℕ) → Checks source (globals_of globals.now) [] → Shows (request_of request.now) file.now source (W.contents (device_of writer.old)) (W.contents (device_of writer.new)) result }
+    ensures count { failures_of writer.new ≡ write_failures result }
+    ensures unread { read_failures result ≡ 0 }
+{
+    match asked_in(alloc, globals, request, file) {
+        Ok(Asked { schema, env }) => show_schema(alloc, arena, schema, &env, request, writer),
+        Err(stop) => tell(stop, writer),
+    }
+}
+
+/// Writes the answer of `show` for a finite schema in an environment.
+fn show_schema<'a, W: Write>(
+    alloc: Global,
+    arena: &'a Bump,
+    schema: &Flat<'a>,
+    env: &Env<'_, 'a>,
+    request: &Request<'_>,
+    writer: &mut Counted<W>,
+) -> Result<Status, RunFault>
+    requires unfailed { failures_of writer.old ≡ 0 }
+    requires limited { HasLimit request.now.limit }
+    requires asked { (source : List ℕ) × IsAsked (request_of request.now) source (environment_of env.now).globals (schema_of schema.now) (environment_of env.now) }
+    ensures shows { (file source : List ℕ) → IsAsked (request_of request.now) source (environment_of env.now).globals (schema_of schema.now) (environment_of env.now) → Shows (request_of request.now) file source (W.contents (device_of writer.old)) (W.contents (device_of writer.new)) result }
+    ensures count { failures_of writer.new ≡ write_failures result }
+    ensures unread { read_failures result ≡ 0 }
+{
+    let elements = spellings_of(alloc, env.globals())?;
+    match named_row(alloc, schema, env, &elements, request.after) {
+        Ok(Some(row)) => show_after(alloc, arena, schema, env, &elements, Some(&row), request, writer),
+        Ok(None) => show_after(alloc, arena, schema, env, &elements, None, request, writer),
+        Err(stop) => tell(stop, writer),
+    }
+}
+
+/// Writes the answer of `show` for what comes after a row, if one is named.
+fn show_after<'a, W: Write>(
+    alloc: Global,
+    arena: &'a Bump,
+    schema: &Flat<'a>,
+    env: &Env<'_, 'a>,
+    elements: &[Spelling],
+    after: Option<&[Known]>,
+    request: &Request<'_>,
+    writer: &mut Counted<W>,
+) -> Result<Status, RunFault>
+    requires unfailed { failures_of writer.old ≡ 0 }
+    requires limited { HasLimit request.now.limit }
+    requires elements { elements.now ≡ spellings (environment_of env.now).globals }
+    requires asked { (source : List ℕ) × IsAsked (request_of request.now) source (environment_of env.now).globals (schema_of schema.now) (environment_of env.now) }
+    requires named { IsNamedRow (environment_of env.now) (schema_of schema.now).comps (request_of request.now).after (option_copied after) }
+    ensures shows { (file source : List ℕ) → IsAsked (request_of request.now) source (environment_of env.now).globals (schema_of schema.now) (environment_of env.now) → Shows (request_of request.now) file source (W.contents (device_of writer.old)) (W.contents (device_of writer.new)) result }
+    ensures count { failures_of writer.new ≡ write_failures result }
+    ensures unread { read_failures result ≡ 0 }
+{
+    match begin(alloc, arena, schema, env, after) {
+        Ok(found) => {
+            let mut bindings = found;
+            let limit = request.limit;
+            show(alloc, schema, elements, &mut bindings, limit, request.tests, writer)
+        }
+        Err(stop) => tell(stop, writer),
+    }
+}

@@ -1,0 +1,64 @@
+//! The binding that a search comes after.
+ghost use Rattle.std.specs.Prelude.{◌≡◌, IfOk, IfErr, option_map};
+ghost use Rattle.zf_engine.specs.Answers.{IsLineOf, IsNamedRow, NamesNoRow};
+ghost use Rattle.zf_engine.specs.Stops.{IfAnswered, TellsNoRow, TellsPlace};
+ghost use Rattle.zf_meaning.specs.Envs.{environment_of};
+ghost use Rattle.zf_term.specs.Definitions.{schema_of};
+ghost use Rattle.zf_texts.specs.Clear.{AreClear};
+ghost use Rattle.zf_texts.specs.Spellings.{spellings};
+
+use zf_lines::fault::Status;
+use crate::stop::Stop;
+use crate::texts;
+use std::alloc::Global;
+use zf_enum::{Known, all_known};
+use zf_meaning::env::Env;
+use zf_term::globals::Flat;
+use zf_texts::{AfterFault, Spelling, read_binding};
+
+/// The row that is named, if one is. The answer where the text is no line of a row.
+pub fn named_row(
+    alloc: Global,
+    flat: &Flat<'_>,
+    env: &Env<'_, '_>,
+    elements: &[Spelling],
+    after: Option<&str>,
+) -> Result<Option<Vec<Known>>, Stop>
+    requires { elements.now ≡ spellings (environment_of env.now).globals }
+    ensures named { IfOk result (λ row. IsNamedRow (environment_of env.now) (schema_of flat.now).comps (option_map (λ t. t.now) after.entry) (option_map (λ v. v.items) row)) }
+    ensures stop { IfErr result (λ s. AreClear elements.now (environment_of env.now).sizes → IfAnswered s (TellsNoRow (environment_of env.now) (schema_of flat.now).comps (option_map (λ t. t.now) after.entry))) }
+{
+    match after {
+        None => Ok(None),
+        Some(text) => Ok(Some(row_of(alloc, flat, env, elements, text)?)),
+    }
+}
+
+/// The row whose line the text is.
+fn row_of(
+    alloc: Global,
+    flat: &Flat<'_>,
+    env: &Env<'_, '_>,
+    elements: &[Spelling],
+    text: &str,
+) -> Result<Vec<Known>, Stop>
+    requires { elements.now ≡ spellings (environment_of env.now).globals }
+    ensures named { IfOk result (λ row. IsLineOf (environment_of env.now) (schema_of flat.now).comps text.now row.items) }
+    ensures stop { IfErr result (λ s. AreClear elements.now (environment_of env.now).sizes → IfAnswered s (TellsNoRow (environment_of env.now) (schema_of flat.now).comps (Some text.now))) }
+{
+    match read_binding(alloc, text.as_bytes(), flat, env, elements) {
+        Ok(row) => Ok(all_known(alloc, row)?),
+        Err(AfterFault::NotABinding(place)) => Err(not_a_binding(alloc, place)),
+        Err(AfterFault::OutOfMemory) => Err(Stop::OutOfMemory),
+    }
+}
+
+/// The answer for a text that does not fit at a place.
+fn not_a_binding(alloc: Global, place: usize) -> Stop
+    ensures { IfAnswered result (TellsPlace place) }
+{
+    match texts::not_a_binding_line(alloc, place) {
+        Ok(line) => Stop::Answered(line, Status::BadRequest),
+        Err(_) => Stop::OutOfMemory,
+    }
+}

@@ -1,0 +1,8 @@
+pub mod Fronts
+pub mod Behind
+pub mod Growing
+pub mod Telling
+pub mod Fewer
+pub mod Lines
+pub mod Searching
+pub mod Standing

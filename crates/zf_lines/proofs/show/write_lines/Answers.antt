@@ -1,0 +1,59 @@
+use Rattle.std.proofs.Common.{rules, ◌≡◌}
+use Rattle.zf_term.specs.Definitions.{schema_of}
+use Rattle.zf_value.specs.Sets.{value_order}
+use Rattle.zf_walk.specs.Progress.{Advances}
+use Rattle.zf_enum.specs.Searches.{judged}
+use Rattle.zf_lines.specs.Texts.{binding_line}
+use Rattle.zf_lines.proofs.Fronts.{always_on_err}
+use Rattle.zf_lines.proofs.Searching.{goes_on}
+use Rattle.zf_lines.proofs.Standing.{stands_first, stops_here, stops_in_line, goes_on_line, ends_at_limit, ends_out, ends_at_end}
+use Rattle.zf_lines.proofs.show.write_lines.Goals as goal
+
+pub lines-init : goal.lines-init
+lines-init g c = (stands_first _ _ _ _ c.requires.start _ c.requires.limited, c.requires.unfailed)
+
+pub returns-in_err-advance-clause-err : goal.returns-in_err-advance-clause-err
+returns-in_err-advance-clause-err g c = always_on_err _ (stops_here _ _ _ _ c.requires.start _ _ _ _ c.lines.invariant.0)
+
+pub returns-in_err-advance-clause-count : goal.returns-in_err-advance-clause-count
+returns-in_err-advance-clause-count g c = let none = c.lines.invariant.1 in search rules
+
+pub write_binding-requires : goal.write_binding-requires
+write_binding-requires g c = c.lines.invariant.1
+
+pub returns-in_err-write_binding-in-Holds-clause-err :
+    goal.returns-in_err-write_binding-in-Holds-clause-err
+returns-in_err-write_binding-in-Holds-clause-err g c =
+    always_on_err _ (stops_in_line _ _ _ _ c.requires.start _ c.advance.new.self _ _ _ c.lines.invariant.0 (rw c.in-Holds.is at c.in_ok-advance.ensures.answer) _ c.in_err-write_binding-in-Holds.ensures.err)
+
+pub one_less-left-requires : goal.one_less-left-requires
+one_less-left-requires g c = c.lines.invariant.0.some
+
+pub returns-then-is_spent-clause-ok : goal.returns-then-is_spent-clause-ok
+returns-then-is_spent-clause-ok g c =
+    ends_at_limit _ _ _ _ c.requires.start _ _ _ _ _ c.lines.invariant.0 (rw c.in-Holds.is at c.in_ok-advance.ensures.answer) c.advance.ensures.problem _ _ c.one_less-left.ensures
+    c.in_ok-write_binding-in-Holds.ensures.ok c.requires.limited (search rules) c.in_ok-advance.ensures.tests
+
+pub lines-smaller : goal.lines-smaller
+lines-smaller g c = goes_on _ _ c.requires.start _ _ c.lines.invariant.0.same c.advance.ensures.problem (rw c.in-Holds.is at c.in_ok-advance.ensures.answer)
+
+pub lines-preserved : goal.lines-preserved
+lines-preserved g c = (
+    goes_on_line _ _ _ _ c.requires.start _ _ _ _ _ c.lines.invariant.0 (rw c.in-Holds.is at c.in_ok-advance.ensures.answer) c.advance.ensures.problem _ _ c.one_less-left.ensures
+    c.in_ok-write_binding-in-Holds.ensures.ok (search rules),
+    (search rules),
+  )
+
+pub returns-in-Breaks-clause-ok : goal.returns-in-Breaks-clause-ok
+returns-in-Breaks-clause-ok g c =
+    ends_out _ _ _ _ c.requires.start _ _ _ _ _ c.lines.invariant.0 c.advance.ensures.problem c.in_ok-advance.ensures.tests (rw c.in-Breaks.is at c.in_ok-advance.ensures.answer)
+
+pub returns-in-Breaks-clause-count : goal.returns-in-Breaks-clause-count
+returns-in-Breaks-clause-count g c = c.lines.invariant.1
+
+pub returns-in-End-clause-ok : goal.returns-in-End-clause-ok
+returns-in-End-clause-ok g c =
+    ends_at_end _ _ _ _ c.requires.start _ _ _ _ _ c.lines.invariant.0 c.advance.ensures.problem c.in_ok-advance.ensures.tests (rw c.in-End.is at c.in_ok-advance.ensures.answer)
+
+pub returns-in-End-clause-count : goal.returns-in-End-clause-count
+returns-in-End-clause-count g c = c.lines.invariant.1

@@ -1,0 +1,76 @@
+-- What is written of a search for bindings: the lines of its events up to the last one that is written, and how it ends there.
+use Rattle.std.specs.Prelude.{◌≡◌, ◌↔◌, ℕ, Bool, true, false, ◌<◌, ◌≤◌, List, [], ◌∷◌, ◌++◌, length, codes, Option, Some, None, Contains, All, AllPairs}
+use Rattle.std.specs.List.{flat_map}
+use Rattle.std.specs.declared.cmp.Ordering.{Ordering}
+use Rattle.zf_walk.specs.declared.judge.Truth.TheVariants.{True, Out}
+use Rattle.zf_walk.specs.Conjuncts.{Conjuncts}
+use Rattle.zf_walk.specs.Rows.{ComesAfter}
+use Rattle.zf_walk.specs.Events.{Event, IsEvent}
+use Rattle.zf_walk.specs.Tests.{IsUpTo, cut}
+use Rattle.zf_term.specs.Definitions.{Schema}
+use Rattle.zf_value.specs.declared.value.Value.{Value}
+use Rattle.zf_value.specs.Sets.{value_order}
+use Rattle.zf_meaning.specs.Environments.{Environment}
+use Rattle.zf_enum.specs.Events.{AreTests}
+use Rattle.zf_enum.specs.Property.{property}
+use Rattle.zf_enum.specs.Ranges.{AreRanges}
+use Rattle.zf_lines.specs.Texts.{tests_line}
+use Rattle.zf_lines.specs.declared.fault.Status.{Status}
+use Rattle.zf_lines.specs.declared.fault.Status.TheVariants.{Done, PastBounds}
+
+-- the strictly ascending list whose members are exactly the events up to a whole row, or all where there is none
+pub record AreEventsUpTo {V : Type 0} (cmp : V → V → Ordering) (s : Conjuncts V) (ranges : List (List V)) (after whole : Option (List V)) (events : List (Event V)) : Type 0 where
+  pub ascending : AllPairs (λ (e f : Event V). ComesAfter cmp e.row f.row) events
+  pub members : (e : Event V) → Contains events e ↔ (IsEvent cmp s ranges after e × IsUpTo cmp whole e.row)
+
+abbrev pub Hold : {V : Type 0} → List (Event V) → Type 0
+Hold events = All (λ e. e.truth ≡ True) events
+
+-- one line an event
+abbrev pub lines : {V : Type 0} → (List V → List ℕ) → List (Event V) → List ℕ
+lines line events = flat_map (λ e. line e.row) events
+
+-- the last line where the next event is out
+abbrev pub out_line : {V : Type 0} → (List V → List ℕ) → List V → List ℕ
+out_line line row = codes "out of bounds at: " ++ line row
+
+-- so many are fewer than the limit, if there is one
+abbrev pub IsBelow : Option ℕ → ℕ → Type 0
+IsBelow None n = Unit {0}
+IsBelow (Some limit) n = n < limit
+
+-- The text and the status of events up to the last one that is written: the limit is reached, or the last one is out, or no event is left.
+pub data IsWritten {V : Type 0} (line : List V → List ℕ) (limit : Option ℕ) (events : List (Event V)) (last : Option (List V)) (text : List ℕ) (status : Status) : Type 0 where
+  pauses : (front : List (Event V)) (e : Event V) → events ≡ front ++ e ∷ [] → last ≡ Some e.row → Hold events → limit ≡ Some (length events)
+      → text ≡ lines line events ++ codes "more\n" → status ≡ Done → IsWritten line limit events last text status
+  breaks : (front : List (Event V)) (e : Event V) → events ≡ front ++ e ∷ [] → last ≡ Some e.row → Hold front → e.truth ≡ Out → IsBelow limit (length front)
+      → text ≡ lines line front ++ out_line line e.row → status ≡ PastBounds → IsWritten line limit events last text status
+  ends : last ≡ None → Hold events → IsBelow limit (length events) → text ≡ lines line events ++ codes "end\n" → status ≡ Done
+      → IsWritten line limit events last text status
+
+-- the first lines of it: those of events up to a row, all of which hold and are no more than the limit
+abbrev pub IsWithin : Option ℕ → ℕ → Type 0
+IsWithin None n = Unit {0}
+IsWithin (Some limit) n = n ≤ limit
+
+pub record IsBegun {V : Type 0} (line : List V → List ℕ) (limit : Option ℕ) (events : List (Event V)) (last : Option (List V)) (text : List ℕ) : Type 0 where
+  pub front : List (Event V)
+  pub event : Event V
+  pub listed : events ≡ front ++ event ∷ []
+  pub up_to : last ≡ Some event.row
+  pub hold : Hold events
+  pub within : IsWithin limit (length events)
+  pub written : text ≡ lines line events
+
+-- ---- of a schema
+
+-- the events of a schema up to a whole row, or all of them
+pub record HasEvents (e : Environment) (a : Schema) (after whole : Option (List Value)) (events : List (Event Value)) : Type 0 where
+  pub ranges : List (List Value)
+  pub of_components : AreRanges e a.comps ranges
+  pub listed : AreEventsUpTo value_order (property e a.conjuncts) ranges after whole events
+
+-- the line of the number of tests up to a whole row, or of all, if it is asked for
+abbrev pub IsTestsLine : (tests : Bool) → Environment → Schema → (after whole : Option (List Value)) → List ℕ → Type 0
+IsTestsLine false e a after whole text = text ≡ []
+IsTestsLine true e a after whole text = (number : ℕ) × AreTests e a after whole number × (text ≡ tests_line (cut number))

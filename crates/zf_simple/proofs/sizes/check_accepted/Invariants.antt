@@ -1,6 +1,0 @@
-use Rattle.std.proofs.Common.{take}
-use Rattle.zf_simple.specs.Sizes.{AreAccepted}
-use Rattle.zf_simple.proofs.sizes.check_accepted.Given as goal
-
-abbrev pub invariant-loop-i : goal.invariant-loop-i
-invariant-loop-i l = AreAccepted l.sets (take l.i l.sizes)

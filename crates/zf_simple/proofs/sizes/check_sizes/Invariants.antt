@@ -1,8 +1,0 @@
-use Rattle.std.proofs.Common.{take}
-use Rattle.std.specs.List.{All, Contains}
-use Rattle.zf_simple.specs.Sizes.{names}
-use Rattle.zf_simple.proofs.sizes.check_sizes.Given as goal
-
--- The sets so far have sizes.
-abbrev pub invariant-loop-set : goal.invariant-loop-set
-invariant-loop-set l = All (λ set. Contains (names l.sizes) set) (take l.set-index l.sets)

@@ -1,7 +1,0 @@
-use Rattle.std.proofs.Common.{take}
-use Rattle.std.specs.List.{Contains}
-use Rattle.zf_simple.specs.Sizes.{names}
-use Rattle.zf_simple.proofs.sizes.count_of.Given as goal
-
-abbrev pub invariant-loop-size : goal.invariant-loop-size
-invariant-loop-size l = ¬ (Contains (names (take l.size-index l.sizes)) l.name)
