@@ -1,0 +1,69 @@
+-- The types of a text, at sizes of its given sets, have clear spellings.
+use Rattle.std.proofs.Common.{◌≡◌, ℕ, zero, suc, ◌+◌, ◌^◌, ◌<◌, List, [], ◌∷◌, ◌++◌, length, take, drop, drop-cons, Some, slice_get, refl, sym, ap, ◌∙◌, subst, arith}
+use Rattle.std.proofs.lemmas.List.{take-append-drop}
+use Rattle.std.proofs.lemmas.List.Sums.{sum_by-cons}
+use Rattle.std.proofs.lemmas.Option.{same_Some, none-some}
+use Rattle.zf_term.specs.Definitions.{Defined, Definition, given_set, free_type, constructor, abbreviation, schema}
+use Rattle.zf_term.specs.Numbers.{has_elements, next_number}
+use Rattle.zf_meaning.specs.declared.sizes.Size.{Size}
+use Rattle.zf_meaning.specs.Sizes.{given_sets, AreComplete, IsStated, AddsSize, AreSizes}
+use Rattle.zf_texts.specs.declared.spelling.Spelling.{Spelling}
+use Rattle.zf_texts.specs.declared.spelling.Spelling.TheVariants.{Numbered, Named}
+use Rattle.zf_texts.specs.Clear.{IsClear}
+use Rattle.zf_texts.specs.Spellings.{with_spelling, spellings}
+use Rattle.zf_names.specs.Laws.{GlobalsAreClear}
+use Rattle.zf_names.proofs.Named.{IsTypeNamed, AreTypesNamed, types_named}
+
+-- ---- the stated sizes
+
+stated_small : (sets : List (List ℕ)) (stated : List Size) → AreComplete sets stated → (name : List ℕ) (count : ℕ) → IsStated stated name count → count < 2 ^ 64
+stated_small sets stated complete name count h =
+    let size : Size = record { name = name; count = count } in
+    let there : drop h.0 stated ≡ size ∷ drop (suc h.0) stated = drop-cons stated h.0 size h.1 ∙ ap (λ s. s ∷ drop (suc h.0) stated) h.2 in
+    let split : stated ≡ take h.0 stated ++ size ∷ drop (suc h.0) stated = sym (take-append-drop h.0 stated) ∙ ap (λ r. take h.0 stated ++ r) there in
+    omega (arith, (complete.accepted (take h.0 stated) size (drop (suc h.0) stated) split).small)
+
+-- ---- the sizes of the types
+
+-- each size has its spelling
+abbrev Tells : List Spelling → List ℕ → Type 0
+Tells ss ks = (n k : ℕ) → slice_get ks n ≡ Some k → (s : Spelling) × (slice_get ss n ≡ Some s) × IsClear s k
+
+tells_more : (s : Spelling) (k : ℕ) (ss : List Spelling) (ks : List ℕ) → IsClear s k → Tells ss ks → Tells (s ∷ ss) (k ∷ ks)
+tells_more s k ss ks clear more zero j at = (s, refl, subst (IsClear s) (same_Some k j at) clear)
+tells_more s k ss ks clear more (suc n) j at = more n j at
+
+-- and so many there are
+abbrev IsTold : List Spelling → ℕ → List ℕ → Type 0
+IsTold ss total ks = Tells ss ks × (length ks ≡ total)
+
+one_told : (s : Spelling) (k : ℕ) (ss : List Spelling) (total : ℕ) (ks later : List ℕ) → IsClear s k → IsTold ss total later → ks ≡ k ∷ later → IsTold (s ∷ ss) (1 + total) ks
+one_told s k ss total ks later clear more e = (subst (Tells (s ∷ ss)) (sym e) (tells_more s k ss later clear more.0), omega (arith, ap length e, more.1))
+
+abbrev AreSmall : List Size → Type 0
+AreSmall stated = (name : List ℕ) (count : ℕ) → IsStated stated name count → count < 2 ^ 64
+
+type_told :
+    (stated : List Size) → AreSmall stated → (name : List ℕ) (d : Definition) (R : List ℕ → Type 0) (ss : List Spelling) (total : ℕ) → IsTypeNamed name d
+    → ((later : List ℕ) → R later → IsTold ss total later) → (ks : List ℕ) → AddsSize stated name d R ks → IsTold (with_spelling name d ss) (has_elements d + total) ks
+type_told stated small name (given_set n) R ss total named more ks p = one_told (Numbered name) p.0 ss total ks p.1 (named, small name p.0 p.2) (more p.1 p.3) p.4
+type_told stated small name (free_type n names) R ss total named more ks p =
+    one_told (Named names) (length names) ss total ks p.0 (named.0, named.1, omega arith) (more p.0 p.1) p.2
+type_told stated small name (constructor n of_type place) R ss total named more ks p = let told = more ks p in (told.0, omega (arith, told.1))
+type_told stated small name (abbreviation t r x) R ss total named more ks p = let told = more ks p in (told.0, omega (arith, told.1))
+type_told stated small name (schema a) R ss total named more ks p = let told = more ks p in (told.0, omega (arith, told.1))
+
+types_told : (stated : List Size) → AreSmall stated → (g : List Defined) (ks : List ℕ) → AreTypesNamed g → AreSizes stated g ks → IsTold (spellings g) (next_number g) ks
+types_told stated small [] ks named p = (λ n k at. absurd (none-some k (ap (λ ks. slice_get ks n) (sym p) ∙ at)), ap length p)
+types_told stated small (d ∷ g) ks named p =
+    let sum = sum_by-cons (λ (x : Defined). has_elements x.definition) d g in
+    let told = type_told stated small d.name d.definition (λ later. AreSizes stated g later) (spellings g) (next_number g) named.0 (λ later q. types_told stated small g later named.1 q) ks p in
+    (told.0, told.1 ∙ sym sum)
+
+-- ---- the law
+
+pub globals_clear : GlobalsAreClear
+globals_clear boxes source globals faults stated e reads checked complete environment =
+    let named = types_named boxes source globals faults reads checked in
+    let told = types_told stated (stated_small (given_sets globals) stated complete) globals e.sizes named.0 environment.1 in
+    record { numbers = omega (arith, named.1, told.1, reads.1.short); spelled = told.0 }

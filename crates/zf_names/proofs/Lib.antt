@@ -1,0 +1,8 @@
+pub mod Bytes
+pub mod Pieces
+pub mod Tokens
+pub mod Fronts
+pub mod Spelled
+pub mod Apart
+pub mod Named
+pub mod Clear
