@@ -1,5 +1,5 @@
 -- When a list stays ascending with one more value behind it.
-use Rattle.std.proofs.Common.{◌≡◌, ◌↔◌, IsTrue, Bool, true, false, Ordering, Equal, Greater, is_lt, ℕ, ◌-◌, List, [], ◌∷◌, ◌++◌, length, Less, Option, Some, None, refl, sym, ap, ◌∙◌, arith}
+use Rattle.std.proofs.Common.{◌≡◌, ◌↔◌, IsTrue, Bool, true, Ordering, Equal, Greater, is_lt, ◌-◌, List, [], ◌∷◌, ◌++◌, length, Less, Some, refl, sym, ap, ◌∙◌, arith}
 use Rattle.std.specs.Prelude.{slice_get}
 use Rattle.zf_value.specs.declared.value.Value.{Value}
 use Rattle.zf_value.specs.contracts.value.ValueOrd.TheImpl.Laws.{total-law}
@@ -56,6 +56,6 @@ less Greater e = (cc)
 
 pub above_iff : (xs : List Value) (l v : Value) (o : Ordering) (b : Bool) → slice_get xs (length xs - 1) ≡ Some l → IsAscending xs → o ≡ value_order l v → b ≡ is_lt o → IsTrue b ↔ IsAscending (xs ++ v ∷ [])
 above_iff xs l v o b g h c t = (
-    λ s. above_last xs l v g h (sym c ∙ less o (sym t ∙ s)),
-    λ up. t ∙ ap is_lt (c ∙ last_under xs l v g up),
-  )
+  λ s. above_last xs l v g h (sym c ∙ less o (sym t ∙ s)),
+  λ up. t ∙ ap is_lt (c ∙ last_under xs l v g up),
+)

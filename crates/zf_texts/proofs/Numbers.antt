@@ -1,10 +1,9 @@
 -- Words that are the texts of numbers.
-use Rattle.std.proofs.Common.{◌≡◌, ℕ, ℤ, pos, negsuc, ◌+◌, ◌<◌, ◌≤◌, ◌^◌, List, [], ◌∷◌, ◌++◌, length, refl, sym, ap, ◌∙◌, subst, arith, Result, Ok, Err, Bool, true, false, to_z, of_z}
+use Rattle.std.proofs.Common.{◌≡◌, ℕ, ℤ, ◌<◌, ◌^◌, List, sym, ap, ◌∙◌, subst, Result, Ok, Err, Bool, true, false, to_z, of_z}
 use Rattle.zf_value.proofs.Exactly.{same}
 use Rattle.std.specs.Prelude.{decimal, FitsSigned, IsUtf8}
 use Rattle.std.specs.Fmt.{signed_decimal}
 use Rattle.std.specs.Int.{w64}
-use Rattle.std.specs.Int.Signed.{mag}
 use Rattle.std.specs.Str.Parse.{ParsesSigned, ParsesUnsigned}
 use Rattle.std.proofs.lemmas.Fmt.{parse-signed_decimal, parse-decimal, IsAscii-signed, IsAscii-decimal}
 use Rattle.std.proofs.lemmas.Str.{IsUtf8-from_ascii}

@@ -1,5 +1,5 @@
 -- One turn more of what reads the components of a line, the parts of a tuple, the members of a set.
-use Rattle.std.proofs.Common.{◌≡◌, ℕ, suc, ◌+◌, ◌-◌, ◌<◌, ◌≤◌, List, [], ◌∷◌, ◌++◌, length, map, drop, get_or, refl, sym, ap, ◌∙◌, subst, arith, codes}
+use Rattle.std.proofs.Common.{◌≡◌, ℕ, ◌+◌, ◌<◌, ◌≤◌, List, [], ◌∷◌, ◌++◌, length, map, drop, get_or, sym, ap, ◌∙◌, subst, arith, codes}
 use Rattle.std.proofs.lemmas.List.{append_assoc, drop_more, length-append, length-drop}
 use Rattle.zf_term.specs.declared.ztype.ZType.{ZType}
 use Rattle.zf_term.specs.declared.globals.Component.{Component}
@@ -16,7 +16,7 @@ use Rattle.zf_texts.specs.Steps.{separator, IsItem, IsNoItem, IsValueAt, IsNoVal
 use Rattle.zf_texts.proofs.Printing.{comps-drop, drop-end}
 use Rattle.zf_texts.proofs.Reading.{parts_unseparated, parts_unread, parts_unclosed, members_unseparated, members_unread, members_full}
 use Rattle.zf_texts.proofs.RegularRows.{regular_values}
-use Rattle.zf_texts.proofs.SoFar.{RowSoFar, row_begun, row_unseparated, row_unread, row_behind, row_more, row_all, PartsSoFar, parts_more, parts_all, MembersSoFar, members_more, members_all}
+use Rattle.zf_texts.proofs.SoFar.{RowSoFar, row_unseparated, row_unread, row_behind, row_more, row_all, PartsSoFar, parts_more, parts_all, MembersSoFar, members_more, members_all}
 
 types-drop : (ts : List ZType) (i : ℕ) (t : ZType) → t ≡ get_or ts i t → i < length ts → types (map type_of (drop i ts)) ≡ type (type_of t) (types (map type_of (drop (i + 1) ts)))
 types-drop ts i t at l = ap (λ l. types (map type_of l)) (drop_more ts i t l ∙ ap (λ y. y ∷ drop (i + 1) ts) (sym at))
@@ -29,9 +29,9 @@ comps-end cs i l = ap (map comp_of) (drop-end i cs l)
 
 closed : (bytes : List ℕ) (place at end : ℕ) (parts item : List ℕ) → drop place bytes ≡ parts ++ drop at bytes → IsItem bytes at item end → IsItem bytes place (parts ++ item) end
 closed bytes place at end parts item h k = record {
-    stands = h ∙ ap (λ l. parts ++ l) k.stands ∙ sym (append_assoc parts item (drop end bytes));
-    within = k.within
-  }
+  stands = h ∙ ap (λ l. parts ++ l) k.stands ∙ sym (append_assoc parts item (drop end bytes));
+  within = k.within;
+}
 
 pub pushed : (vs new : List Value) (v : Value) (n : ℕ) → length vs ≡ n → new ≡ vs ++ v ∷ [] → length new ≡ n + 1
 pushed vs new v n counted is =

@@ -1,17 +1,16 @@
 -- What follows a part that was read, of a tuple or of a set.
-use Rattle.std.proofs.Common.{◌≡◌, ℕ, zero, suc, ◌+◌, ◌<◌, ◌≤◌, List, [], ◌∷◌, ◌++◌, length, map, drop, get_or, refl, sym, ap, ◌∙◌, subst, arith, codes, Option, Some, None, Less}
-use Rattle.std.proofs.lemmas.List.{append_assoc, append-nil, length-append}
+use Rattle.std.proofs.Common.{◌≡◌, ℕ, suc, ◌+◌, List, [], ◌∷◌, ◌++◌, length, map, refl, sym, ap, ◌∙◌, subst, arith, codes, Less}
+use Rattle.std.proofs.lemmas.List.{append_assoc, length-append}
 use Rattle.zf_term.specs.Types.{Ty, Tys, no_types, type}
 use Rattle.zf_value.specs.declared.TheConstants.{SET_MAX}
 use Rattle.zf_value.specs.declared.value.Value.{Value}
 use Rattle.zf_value.specs.Sets.{Every, IsAscending, value_order}
 use Rattle.zf_meaning.specs.Environments.{Environment}
-use Rattle.zf_meaning.specs.Rows.{IsOfType, AreOfTypes}
+use Rattle.zf_meaning.specs.Rows.{IsOfType}
 use Rattle.zf_texts.specs.declared.spelling.Spelling.{Spelling}
-use Rattle.zf_texts.specs.ValueTexts.{parted, later_parts, value_text}
-use Rattle.zf_texts.specs.Clear.{AreClear}
-use Rattle.zf_texts.specs.Steps.{EndsAs, Closes, separator, goes_on, IsItem, IsNoItem, IsValueAt, IsNoValue, AreNoParts, AreMembers, AreNoMembers, IsNoNext}
-use Rattle.zf_texts.proofs.OneFront.{ends_as, ends_later, one_front, begins_no_closing}
+use Rattle.zf_texts.specs.ValueTexts.{later_parts, value_text}
+use Rattle.zf_texts.specs.Steps.{EndsAs, separator, goes_on, IsNoItem, IsNoValue, AreNoParts, AreMembers, AreNoMembers, IsNoNext}
+use Rattle.zf_texts.proofs.OneFront.{ends_as, ends_later, one_front}
 use Rattle.zf_texts.proofs.Printing.{goes_on-nil, front, goes_on-later}
 use Rattle.zf_texts.proofs.Spelled.{cancel}
 

@@ -1,12 +1,11 @@
 -- Values of a type are regular.
-use Rattle.std.proofs.Common.{◌≡◌, ℕ, List, [], ◌∷◌, sym, subst, Option, Some, None}
-use Rattle.zf_term.specs.Definitions.{Comp}
-use Rattle.zf_term.specs.Types.{Ty, Tys, int, basic, power, product, no_types, type, types}
+use Rattle.std.proofs.Common.{ℕ, List, [], ◌∷◌, sym, subst, Option, Some, None}
+use Rattle.zf_term.specs.Types.{Ty, Tys, int, basic, power, product, no_types, type}
 use Rattle.zf_value.specs.declared.value.Value.{Value}
 use Rattle.zf_value.specs.Sets.{Every, IsRegular, AreRegular}
 use Rattle.zf_value.proofs.Regulars.{regular-Int, regular-Elem, regular-Tuple, regular-SetOf, regular-nothing}
 use Rattle.zf_meaning.specs.Environments.{Environment, type_number}
-use Rattle.zf_meaning.specs.Rows.{IsElement, IsOfType, AreOfTypes, IsRow}
+use Rattle.zf_meaning.specs.Rows.{IsElement, IsOfType, AreOfTypes}
 
 every_regular : (P : Value → Type 0) (f : (v : Value) → P v → IsRegular v) (vs : List Value) → Every P vs → AreRegular vs
 unfolding AreRegular

@@ -1,5 +1,5 @@
 -- What is read so far of the components of a line, the parts of a tuple, the members of a set.
-use Rattle.std.proofs.Common.{◌≡◌, ℕ, zero, suc, ◌+◌, ◌<◌, ◌≤◌, List, [], ◌∷◌, ◌++◌, length, map, drop, refl, sym, ap, ◌∙◌, subst, arith, codes}
+use Rattle.std.proofs.Common.{◌≡◌, ℕ, suc, ◌+◌, ◌<◌, List, [], ◌∷◌, ◌++◌, length, map, refl, sym, ap, ◌∙◌, subst, arith, codes}
 use Rattle.std.proofs.lemmas.List.{append_assoc, append-nil, length-append}
 use Rattle.zf_term.specs.Definitions.{Comp}
 use Rattle.zf_term.specs.Types.{Ty, Tys, no_types, type}
@@ -11,9 +11,8 @@ use Rattle.zf_meaning.specs.Rows.{IsOfType, AreOfTypes, IsRow}
 use Rattle.zf_texts.specs.declared.spelling.Spelling.{Spelling}
 use Rattle.zf_texts.specs.ValueTexts.{parted, later_parts, value_text}
 use Rattle.zf_texts.specs.BindingTexts.{component_text, component_texts, binding_text}
-use Rattle.zf_texts.specs.Clear.{AreClear}
 use Rattle.zf_texts.specs.Readings.{IsNoLine}
-use Rattle.zf_texts.specs.Steps.{EndsAs, separator, goes_on, IsNoItem, IsNoValue, AreNoParts, AreMembers, AreNoMembers, IsNoComponent, IsNoRest}
+use Rattle.zf_texts.specs.Steps.{EndsAs, separator, goes_on, IsNoItem, AreNoParts, AreMembers, AreNoMembers, IsNoComponent, IsNoRest}
 use Rattle.zf_texts.proofs.OneFront.{ends_as}
 use Rattle.zf_texts.proofs.OneRow.{one_component, ends_parts}
 use Rattle.zf_texts.proofs.Printing.{goes_on-nil, goes_on-first, front, goes_on-later}
@@ -57,11 +56,11 @@ module _ (ss : List Spelling) (e : Environment) where
   pub row_more : (all : List Comp) (c : Comp) (cs : List Comp) (bytes : List ℕ) (n m : ℕ) (vs : List Value) (here mid more : List ℕ) (v : Value) → RowSoFar all (c ∷ cs) bytes n vs here
       → m ≡ suc n → here ≡ separator n ++ mid → mid ≡ component_text ss c v ++ more → IsOfType e c.type v → EndsAs c.type more → RowSoFar all cs bytes m (vs ++ v ∷ []) more
   row_more all c cs bytes n m vs here mid more v r next b x k ends = record {
-      whole = λ ws h q.
-          let line : here ≡ goes_on n (component_texts ss (c ∷ cs) (v ∷ ws)) = b ∙ ap (λ l. separator n ++ l) (x ∙ ap (λ l. component_text ss c v ++ l) (q ∙ goes_on-later n m (component_texts ss cs ws) next)) ∙ sym (goes_on-first n (component_text ss c v) (component_texts ss cs ws)) in
-          subst (λ l. IsRow e all l × (bytes ≡ binding_text ss all l)) (sym (append_assoc vs (v ∷ []) ws)) (r.whole (v ∷ ws) (v, ws, refl, k, h) line);
-      none = λ h. r.none (row_next c cs n m here mid more v next b x k ends h)
-    }
+    whole = λ ws h q.
+        let line : here ≡ goes_on n (component_texts ss (c ∷ cs) (v ∷ ws)) = b ∙ ap (λ l. separator n ++ l) (x ∙ ap (λ l. component_text ss c v ++ l) (q ∙ goes_on-later n m (component_texts ss cs ws) next)) ∙ sym (goes_on-first n (component_text ss c v) (component_texts ss cs ws)) in
+        subst (λ l. IsRow e all l × (bytes ≡ binding_text ss all l)) (sym (append_assoc vs (v ∷ []) ws)) (r.whole (v ∷ ws) (v, ws, refl, k, h) line);
+    none = λ h. r.none (row_next c cs n m here mid more v next b x k ends h);
+  }
 
   pub row_all : (all : List Comp) (bytes : List ℕ) (n : ℕ) (vs : List Value) (more : List ℕ) → RowSoFar all [] bytes n vs more → more ≡ [] → IsRow e all vs × (bytes ≡ binding_text ss all vs)
   row_all all bytes n vs more r none = subst (λ l. IsRow e all l × (bytes ≡ binding_text ss all l)) (append-nil vs) (r.whole [] refl (none ∙ sym (goes_on-nil n)))
@@ -78,11 +77,11 @@ module _ (ss : List Spelling) (e : Environment) where
   pub parts_more : (all : Tys) (t : Ty) (ts : Tys) (bytes : List ℕ) (n m : ℕ) (vs : List Value) (here mid more : List ℕ) (v : Value) → PartsSoFar all (type t ts) bytes n vs here
       → m ≡ suc n → here ≡ separator n ++ mid → mid ≡ value_text ss v ++ more → IsOfType e t v → EndsAs t more → PartsSoFar all ts bytes m (vs ++ v ∷ []) more
   parts_more all t ts bytes n m vs here mid more v r next b x k ends = record {
-      whole = λ ws rest h q.
-          let line : here ≡ goes_on n (map (value_text ss) (v ∷ ws)) ++ rest = b ∙ ap (λ l. separator n ++ l) (x ∙ ap (λ l. value_text ss v ++ l) (q ∙ ap (λ l. l ++ rest) (goes_on-later n m (map (value_text ss) ws) next))) ∙ sym (front n (value_text ss v) (map (value_text ss) ws) rest) in
-          subst (λ l. AreOfTypes e all l × (bytes ≡ parted (map (value_text ss) l) ++ rest)) (sym (append_assoc vs (v ∷ []) ws)) (r.whole (v ∷ ws) rest (v, ws, refl, k, h) line);
-      none = λ h. r.none (parts_next ss e t ts n m here mid more v next b x k ends h)
-    }
+    whole = λ ws rest h q.
+        let line : here ≡ goes_on n (map (value_text ss) (v ∷ ws)) ++ rest = b ∙ ap (λ l. separator n ++ l) (x ∙ ap (λ l. value_text ss v ++ l) (q ∙ ap (λ l. l ++ rest) (goes_on-later n m (map (value_text ss) ws) next))) ∙ sym (front n (value_text ss v) (map (value_text ss) ws) rest) in
+        subst (λ l. AreOfTypes e all l × (bytes ≡ parted (map (value_text ss) l) ++ rest)) (sym (append_assoc vs (v ∷ []) ws)) (r.whole (v ∷ ws) rest (v, ws, refl, k, h) line);
+    none = λ h. r.none (parts_next ss e t ts n m here mid more v next b x k ends h);
+  }
 
   pub parts_all : (all : Tys) (bytes : List ℕ) (n : ℕ) (vs : List Value) (more : List ℕ) → PartsSoFar all no_types bytes n vs more → AreOfTypes e all vs × (bytes ≡ parted (map (value_text ss) vs) ++ more)
   parts_all all bytes n vs more r = subst (λ l. AreOfTypes e all l × (bytes ≡ parted (map (value_text ss) l) ++ more)) (append-nil vs) (r.whole [] more refl (ap (λ l. l ++ more) (sym (goes_on-nil n))))
@@ -111,7 +110,7 @@ module _ (ss : List Spelling) (e : Environment) where
         whole = λ ws rest q.
             let line : here ≡ goes_on (length vs) (map (value_text ss) (v ∷ ws)) ++ rest = b ∙ ap (λ l. separator (length vs) ++ l) (x ∙ ap (λ l. value_text ss v ++ l) (q ∙ ap (λ l. l ++ rest) (goes_on-later (length vs) (length (vs ++ v ∷ [])) (map (value_text ss) ws) next))) ∙ sym (front (length vs) (value_text ss v) (map (value_text ss) ws) rest) in
             subst (λ l. bytes ≡ parted (map (value_text ss) l) ++ rest) (sym (append_assoc vs (v ∷ []) ws)) (r.whole (v ∷ ws) rest line);
-        none = λ h. r.none (members_next ss e t vs here mid more v ahead b x k ends h)
+        none = λ h. r.none (members_next ss e t vs here mid more v ahead b x k ends h);
       }
 
   pub members_all : (t : Ty) (bytes : List ℕ) (vs : List Value) (more : List ℕ) → MembersSoFar t bytes vs more → bytes ≡ parted (map (value_text ss) vs) ++ more

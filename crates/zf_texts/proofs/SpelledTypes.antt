@@ -13,7 +13,7 @@ use Rattle.zf_meaning.specs.Rows.{IsElement}
 use Rattle.zf_texts.specs.declared.spelling.Spelling.{Spelling}
 use Rattle.zf_texts.specs.declared.spelling.Spelling.TheVariants.{Numbered, Named}
 use Rattle.zf_texts.specs.Spellings.{or_empty, spelled}
-use Rattle.zf_texts.specs.Clear.{AreClear, IsClear}
+use Rattle.zf_texts.specs.Clear.{IsClear}
 use Rattle.zf_texts.proofs.Spelled.{cancel}
 use Rattle.zf_texts.specs.Steps.{IsNoItem, HasNoElements, IsSpelledType, IsNoSpelledType, SpellsNone}
 

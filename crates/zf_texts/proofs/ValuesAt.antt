@@ -1,5 +1,5 @@
 -- Values of each form at a place of a line, and where none stands.
-use Rattle.std.proofs.Common.{◌≡◌, ℕ, ℤ, ◌+◌, ◌<◌, List, [], ◌∷◌, ◌++◌, length, map, drop, refl, sym, ap, ◌∙◌, subst, codes, Option, Some, None}
+use Rattle.std.proofs.Common.{◌≡◌, ℕ, ℤ, ◌+◌, ◌<◌, List, [], ◌++◌, length, map, drop, refl, sym, ap, ◌∙◌, subst, codes, Some}
 use Rattle.std.specs.Prelude.{slice_get, FitsSigned}
 use Rattle.std.specs.Fmt.{signed_decimal}
 use Rattle.std.specs.Int.{w64}
@@ -7,13 +7,13 @@ use Rattle.std.proofs.lemmas.List.{append_assoc}
 use Rattle.zf_term.specs.Definitions.{Comp}
 use Rattle.zf_term.specs.Types.{Ty, Tys, int, basic, power, product}
 use Rattle.zf_value.specs.declared.value.Value.{Value, Int, Elem, Tuple, SetOf}
-use Rattle.zf_meaning.specs.Environments.{Environment, type_number}
+use Rattle.zf_meaning.specs.Environments.{Environment}
 use Rattle.zf_meaning.specs.Rows.{IsElement}
 use Rattle.zf_texts.specs.declared.spelling.Spelling.{Spelling}
 use Rattle.zf_texts.specs.Spellings.{spelled, spelled_if}
 use Rattle.zf_texts.specs.ValueTexts.{parted, value_text}
 use Rattle.zf_texts.specs.BindingTexts.{component_text}
-use Rattle.zf_texts.specs.Clear.{Ends, IsClear, AreClear}
+use Rattle.zf_texts.specs.Clear.{IsClear}
 use Rattle.zf_texts.specs.Steps.{IsWordAt, IsItem, IsNoItem, IsValueAt, IsNoValue, IsSpelledType, IsNoSpelledType, SpellsNone, ArePartsAt, AreNoParts, AreMembersAt, AreNoMembers, IsNoComponent}
 use Rattle.zf_texts.proofs.Spelled.{cancel, spelled_word}
 use Rattle.zf_texts.proofs.TextsSeen.{of-Int, of-Elem, of-Tuple, of-SetOf}
@@ -21,15 +21,15 @@ use Rattle.zf_texts.proofs.WordRuns.{AreInWord, one_run, signed_in_word}
 
 pub joined : (bytes : List ℕ) (place middle end : ℕ) (item other : List ℕ) → IsItem bytes place item middle → IsItem bytes middle other end → IsItem bytes place (item ++ other) end
 joined bytes place middle end item other h k = record {
-    stands = h.stands ∙ ap (λ l. item ++ l) k.stands ∙ sym (append_assoc item other (drop end bytes));
-    within = k.within
-  }
+  stands = h.stands ∙ ap (λ l. item ++ l) k.stands ∙ sym (append_assoc item other (drop end bytes));
+  within = k.within;
+}
 
 word_item : (bytes : List ℕ) (place : ℕ) (word text : List ℕ) → IsWordAt bytes place word → word ≡ text → IsItem bytes place text (place + length word)
 word_item bytes place word text h is = record {
-    stands = h.stands ∙ ap (λ l. l ++ drop (place + length word) bytes) is;
-    within = h.within
-  }
+  stands = h.stands ∙ ap (λ l. l ++ drop (place + length word) bytes) is;
+  within = h.within;
+}
 
 module _ (ss : List Spelling) (e : Environment) where
   -- ---- numbers
@@ -39,10 +39,10 @@ module _ (ss : List Spelling) (e : Environment) where
 
   pub number_at : (bytes : List ℕ) (place : ℕ) (word : List ℕ) (n m : ℤ) → m ≡ n → FitsSigned w64 n → word ≡ signed_decimal n → IsWordAt bytes place word → IsValueAt ss e int bytes place (Int m) (place + length word)
   number_at bytes place word n m same fits is h = record {
-      value = (n, ap Int same, fits);
-      stands = word_item bytes place word (value_text ss (Int m)) h (is ∙ sym (number_text (Int m) n (ap Int same)));
-      ends = h.ends
-    }
+    value = (n, ap Int same, fits);
+    stands = word_item bytes place word (value_text ss (Int m)) h (is ∙ sym (number_text (Int m) n (ap Int same)));
+    ends = h.ends;
+  }
 
   pub no_number : (bytes : List ℕ) (place : ℕ) (word : List ℕ) → IsWordAt bytes place word → ((n : ℤ) → FitsSigned w64 n → word ≡ signed_decimal n → ⊥) → IsNoValue ss e int (drop place bytes)
   unfolding IsNoValue
@@ -58,10 +58,10 @@ module _ (ss : List Spelling) (e : Environment) where
 
   pub element_at : (name bytes : List ℕ) (place : ℕ) (word : List ℕ) (n k i : ℕ) (s : Spelling) → IsSpelledType ss e name n k s → i < k → word ≡ spelled s i → IsWordAt bytes place word → IsValueAt ss e (basic name) bytes place (Elem n i) (place + length word)
   element_at name bytes place word n k i s h less is at = record {
-      value = subst (λ o. IsElement e o (Elem n i)) (sym h.number) (k, i, h.size, less, refl);
-      stands = word_item bytes place word (value_text ss (Elem n i)) at (is ∙ sym (element_text n i (Elem n i) s refl h.spelling));
-      ends = at.ends
-    }
+    value = subst (λ o. IsElement e o (Elem n i)) (sym h.number) (k, i, h.size, less, refl);
+    stands = word_item bytes place word (value_text ss (Elem n i)) at (is ∙ sym (element_text n i (Elem n i) s refl h.spelling));
+    ends = at.ends;
+  }
 
   pub untyped : (name bytes : List ℕ) → IsNoSpelledType ss e name → IsNoValue ss e (basic name) bytes
   unfolding IsNoSpelledType IsNoValue
@@ -90,10 +90,10 @@ module _ (ss : List Spelling) (e : Environment) where
 
   pub tuple_at : (ts : Tys) (bytes : List ℕ) (place start end : ℕ) (vs ws : List Value) → ws ≡ vs → IsItem bytes place (codes "(") start → ArePartsAt ss e ts bytes start vs end → IsValueAt ss e (product ts) bytes place (Tuple ws) end
   tuple_at ts bytes place start end vs ws same h k = record {
-      value = (vs, ap Tuple same, k.values);
-      stands = subst (λ l. IsItem bytes place l end) (sym (ap (λ l. value_text ss (Tuple l)) same ∙ of-Tuple ss vs)) (joined bytes place start end (codes "(") (parted (map (value_text ss) vs) ++ codes ")") h k.stand);
-      ends = tt
-    }
+    value = (vs, ap Tuple same, k.values);
+    stands = subst (λ l. IsItem bytes place l end) (sym (ap (λ l. value_text ss (Tuple l)) same ∙ of-Tuple ss vs)) (joined bytes place start end (codes "(") (parted (map (value_text ss) vs) ++ codes ")") h k.stand);
+    ends = tt;
+  }
 
   pub tuple_unopened : (ts : Tys) (bytes : List ℕ) → IsNoItem (codes "(") bytes → IsNoValue ss e (product ts) bytes
   unfolding IsNoItem IsNoValue
@@ -110,10 +110,10 @@ module _ (ss : List Spelling) (e : Environment) where
 
   pub set_at : (t : Ty) (bytes : List ℕ) (place start end : ℕ) (vs ws : List Value) → ws ≡ vs → IsItem bytes place (codes "{") start → AreMembersAt ss e t bytes start vs end → IsValueAt ss e (power t) bytes place (SetOf ws) end
   set_at t bytes place start end vs ws same h k = record {
-      value = (vs, ap SetOf same, k.members.ascending, k.members.few, k.members.values);
-      stands = subst (λ l. IsItem bytes place l end) (sym (ap (λ l. value_text ss (SetOf l)) same ∙ of-SetOf ss vs)) (joined bytes place start end (codes "{") (parted (map (value_text ss) vs) ++ codes "}") h k.stand);
-      ends = tt
-    }
+    value = (vs, ap SetOf same, k.members.ascending, k.members.few, k.members.values);
+    stands = subst (λ l. IsItem bytes place l end) (sym (ap (λ l. value_text ss (SetOf l)) same ∙ of-SetOf ss vs)) (joined bytes place start end (codes "{") (parted (map (value_text ss) vs) ++ codes "}") h k.stand);
+    ends = tt;
+  }
 
   pub set_unopened : (t : Ty) (bytes : List ℕ) → IsNoItem (codes "{") bytes → IsNoValue ss e (power t) bytes
   unfolding IsNoItem IsNoValue

@@ -1,5 +1,5 @@
 -- The longest word at a place.
-use Rattle.std.proofs.Common.{◌≡◌, ℕ, zero, suc, ◌+◌, ◌-◌, ◌<◌, ◌≤◌, List, [], ◌∷◌, ◌++◌, length, take, drop, get_or, refl, sym, ap, ◌∙◌, subst, Bool, true, false, ◌&&◌, arith}
+use Rattle.std.proofs.Common.{◌≡◌, ℕ, zero, suc, ◌+◌, ◌-◌, ◌<◌, ◌≤◌, List, [], ◌∷◌, ◌++◌, length, take, drop, get_or, refl, sym, ap, ◌∙◌, subst, true, false, ◌&&◌, arith}
 use Rattle.std.specs.List.{list_all}
 use Rattle.std.proofs.lemmas.List.{take-append-drop, drop_more, length-drop}
 use Rattle.zf_texts.specs.Clear.{is_in_word, Ends}
@@ -59,5 +59,5 @@ word_ended bs place end l k h f =
       stands = sym (take-append-drop (end - place) (drop place bs)) ∙ ap (λ r. take (end - place) (drop place bs) ++ r) behind;
       within = omega (arith, at);
       in_word = h;
-      ends = subst Ends (sym first) f
+      ends = subst Ends (sym first) f;
     }

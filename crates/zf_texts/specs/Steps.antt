@@ -1,5 +1,5 @@
 -- What the steps of printing and reading say. No public clause rests on this file.
-use Rattle.std.specs.Prelude.{◌≡◌, ℕ, suc, zero, ◌+◌, ◌≤◌, Bool, true, false, ◌||◌, ◌<◌, ◌==◌, List, [], ◌∷◌, ◌++◌, length, map, drop, codes, Option, Some, None, slice_get}
+use Rattle.std.specs.Prelude.{◌≡◌, ℕ, suc, zero, ◌+◌, ◌≤◌, Bool, true, false, ◌||◌, ◌<◌, ◌==◌, List, [], ◌∷◌, ◌++◌, length, map, drop, codes, Some, slice_get}
 use Rattle.std.specs.List.{list_all}
 use Rattle.zf_term.specs.Definitions.{Comp}
 use Rattle.zf_term.specs.Types.{Ty, int, basic, power, product, Tys}

@@ -1,5 +1,6 @@
 //! Why a line is not read.
 ghost use Rattle.std.specs.Prelude.{◌≡◌};
+
 use std::alloc::{AllocError, AllocFailed};
 use thiserror::Error;
 

@@ -61,7 +61,14 @@ fn read_component(
     if !stands(text, behind_name, b" == ") {
         return Err(AfterFault::NotABinding(misfit(text, place, behind_name)));
     }
-    read_value(alloc, text, behind_name + 4, &component.ztype, env, spellings)
+    read_value(
+        alloc,
+        text,
+        behind_name + 4,
+        &component.ztype,
+        env,
+        spellings,
+    )
 }
 
 /// The place of a name that goes on behind it, or else of what follows it.

@@ -1,4 +1,4 @@
-use Rattle.std.proofs.Common.{refl, sym, ap, ◌∙◌, arith, subst}
+use Rattle.std.proofs.Common.{sym, ◌∙◌, arith, subst}
 use Rattle.zf_meaning.specs.Envs.{environment_of}
 use Rattle.zf_texts.specs.Steps.{HasNoElements}
 use Rattle.zf_texts.proofs.SpelledTypes.{too_large, unsized, unspelled}

@@ -1,4 +1,4 @@
-use Rattle.std.proofs.Common.{refl, sym, ap, ◌∙◌}
+use Rattle.std.proofs.Common.{sym, ap, ◌∙◌}
 use Rattle.zf_meaning.specs.Environments.{found_number}
 use Rattle.zf_meaning.specs.Envs.{environment_of}
 use Rattle.zf_term.specs.FirstNamed.{first_named}

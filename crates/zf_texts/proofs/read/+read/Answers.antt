@@ -1,4 +1,4 @@
-use Rattle.std.proofs.Common.{rules, ◌≡◌, ◌<◌, ◌≤◌, List, length, map, refl, sym, ap, ◌∙◌, subst, arith}
+use Rattle.std.proofs.Common.{rules, map, sym, subst, arith}
 use Rattle.zf_meaning.specs.Envs.{environment_of}
 use Rattle.zf_term.specs.Types.{types, type_of}
 use Rattle.zf_value.specs.Sets.{IsAscending}
@@ -33,7 +33,7 @@ read_members-returns-in_err-value-clause-refused t c =
 pub read_members-loop-count-preserved : goal.read_members-loop-count-preserved
 read_members-loop-count-preserved t c =
     let all = one_member c.args.spellings.now (environment_of c.args.env.now) (type_of c.args.member.now) c.args.text.now c.args.place c.loop-count.at c.in_ok-start.start c.in_ok-value.end c.loop-count.members.items c.deref.result.now c.push.new.self.items c.in_ok-value.value c.loop-count.count
-      c.loop-count.invariant.1 c.loop-count-test.true c.deref.ensures.value c.loop-count.invariant.2 c.if-stands.ensures c.in_ok-start.ensures.read c.in_ok-value.ensures.read c.in_ok-push.ensures.items in
+    c.loop-count.invariant.1 c.loop-count-test.true c.deref.ensures.value c.loop-count.invariant.2 c.if-stands.ensures c.in_ok-start.ensures.read c.in_ok-value.ensures.read c.in_ok-push.ensures.items in
     (c.in_ok-value.ensures.read.value.stands.within, pushed c.loop-count.members.items c.push.new.self.items c.in_ok-value.value c.loop-count.count c.loop-count.invariant.1 c.in_ok-push.ensures.items, all)
 
 pub read_members-returns-in_err-end-clause-refused : goal.read_members-returns-in_err-end-clause-refused
@@ -76,10 +76,10 @@ read_parts-returns-in_err-value-clause-refused t c =
 
 pub read_parts-loop-count-preserved : goal.read_parts-loop-count-preserved
 read_parts-loop-count-preserved t c = (
-    c.in_ok-value.ensures.read.stands.within,
-    one_part c.args.spellings.now (environment_of c.args.env.now) (types (map type_of c.args.parts.now)) c.args.parts.now c.loop-count.count c.index-parts-count.result c.args.text.now c.args.place c.loop-count.at c.in_ok-start.start c.in_ok-value.end c.loop-count.values.items c.push.new.self.items c.in_ok-value.value
+  c.in_ok-value.ensures.read.stands.within,
+  one_part c.args.spellings.now (environment_of c.args.env.now) (types (map type_of c.args.parts.now)) c.args.parts.now c.loop-count.count c.index-parts-count.result c.args.text.now c.args.place c.loop-count.at c.in_ok-start.start c.in_ok-value.end c.loop-count.values.items c.push.new.self.items c.in_ok-value.value
       c.index-parts-count.is c.loop-count-test.true c.loop-count.invariant.1 c.in_ok-start.ensures.read c.in_ok-value.ensures.read c.in_ok-push.ensures.items,
-  )
+)
 
 pub read_parts-returns-in_err-end-clause-refused : goal.read_parts-returns-in_err-end-clause-refused
 read_parts-returns-in_err-end-clause-refused t c =

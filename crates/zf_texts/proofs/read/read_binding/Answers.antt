@@ -1,4 +1,4 @@
-use Rattle.std.proofs.Common.{◌≡◌, ◌<◌, ◌≤◌, List, length, map, refl, sym, ap, ◌∙◌, subst, arith}
+use Rattle.std.proofs.Common.{List, length, map, sym, ap, subst, arith}
 use Rattle.zf_meaning.specs.Envs.{environment_of}
 use Rattle.zf_term.specs.Definitions.{comp_of}
 use Rattle.zf_value.specs.declared.value.Value.{Value}
@@ -29,10 +29,11 @@ returns-in_err-value-clause-refused c =
 
 pub loop-count-preserved : goal.loop-count-preserved
 loop-count-preserved c =
-    let long = ap length c.as_slice-components.ensures in
-    (c.in_ok-value.ensures.read.stands.within,
+    let long = ap length c.as_slice-components.ensures in (
+      c.in_ok-value.ensures.read.stands.within,
       one_component c.args.spellings.now (environment_of c.args.env.now) c.args.flat.now.components c.loop-count.count c.index-components-count.result c.args.text.now c.loop-count.place c.in_ok-start.start c.in_ok-value.end c.loop-count.row.items c.push.new.self.items c.in_ok-value.value
-      (rw c.as_slice-components.ensures at c.index-components-count.is) (omega (arith, long, c.loop-count-test.true)) c.loop-count.invariant.1 c.in_ok-start.ensures.read c.in_ok-value.ensures.read c.in_ok-push.ensures.items)
+          (rw c.as_slice-components.ensures at c.index-components-count.is) (omega (arith, long, c.loop-count-test.true)) c.loop-count.invariant.1 c.in_ok-start.ensures.read c.in_ok-value.ensures.read c.in_ok-push.ensures.items,
+    )
 
 pub returns-then-place-text-clause-refused : goal.returns-then-place-text-clause-refused
 returns-then-place-text-clause-refused c =
