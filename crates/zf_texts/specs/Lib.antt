@@ -3,4 +3,5 @@ pub mod ValueTexts
 pub mod BindingTexts
 pub mod Clear
 pub mod Laws
+pub mod Readings
 pub mod Steps

@@ -1,9 +1,15 @@
-//! The texts of values and of bindings.
+//! The texts of values and of bindings, and their reading back: what is printed is read as what it was printed of.
 #![tactic(auto)]
 
+mod elements;
+mod fault;
 pub mod laws;
 mod printed;
+mod read;
 mod spelling;
+mod words;
 
+pub use fault::AfterFault;
 pub use printed::{append_binding, append_value, binding_text};
+pub use read::read_binding;
 pub use spelling::{Spelling, spellings_of};

@@ -1,0 +1,11 @@
+-- What is read so far.
+use Rattle.std.proofs.Common.{◌≤◌, map, drop, length}
+use Rattle.zf_meaning.specs.Envs.{environment_of}
+use Rattle.zf_term.specs.Definitions.{comp_of}
+use Rattle.zf_texts.proofs.SoFar.{RowSoFar}
+use Rattle.zf_texts.proofs.read.read_binding.Given as goal
+
+abbrev pub invariant-loop-count : goal.invariant-loop-count
+invariant-loop-count l =
+    (l.place ≤ length l.text)
+    × RowSoFar l.spellings (environment_of l.env) (map comp_of l.flat.components) (map comp_of (drop l.count l.flat.components)) l.text l.count l.row.items (drop l.place l.text)
