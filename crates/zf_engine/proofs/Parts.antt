@@ -1,9 +1,12 @@
 -- How the parts of an answer that are written come together.
 use Rattle.std.proofs.Common.{◌≡◌, ◌⊎◌, ◌++◌, ℕ, List, [], ◌∷◌, Option, Some, None, Bool, Result, Ok, Err, IfOk, OnErr, refl, sym, ap, ◌∙◌, append_assoc, append-nil, inl, inr, subst}
+use Rattle.std.specs.Result.{IsErr}
+use Rattle.std.proofs.lemmas.Bool.{false≢true}
 use Rattle.std.specs.Io.KnownBytes.{Appends, Keeps}
 use Rattle.std.proofs.KnownBytes.{Appends-trans, Appends-kept, Appends-nil}
 use Rattle.zf_command.specs.declared.job.Job.{Job}
 use Rattle.zf_command.specs.declared.job.Job.TheVariants.{Show}
+use Rattle.zf_command.specs.declared.job.Size.{Size}
 use Rattle.zf_term.specs.Definitions.{Defined, Schema}
 use Rattle.zf_value.specs.declared.value.Value.{Value}
 use Rattle.zf_meaning.specs.Environments.{Environment}
@@ -22,7 +25,7 @@ use Rattle.zf_engine.specs.Faults.{Gave}
 use Rattle.zf_lines.specs.Searches.{HasEvents, IsBegun, IsTestsLine, IsWritten}
 use Rattle.zf_lines.specs.Shown.{IsSome, Lists, StopsShown, WritesAll, searched}
 use Rattle.zf_lines.specs.Texts.{binding_line}
-use Rattle.zf_engine.specs.Stops.{AnswersRequest, Shows, Tells}
+use Rattle.zf_engine.specs.Stops.{AnswersRequest, IfAnswered, Shows, Tells}
 
 -- ---- answers that are whole
 
@@ -33,6 +36,37 @@ told r file source (Answered text status) a b (Ok given) answer (same, written) 
 told r file source (Answered text status) a b (Err fault) answer (f, front, written) = (f, inr (inl (text.items, status, answer, front)), written)
 told r file source OutOfMemory a b (Ok given) answer h = absurd h
 told r file source OutOfMemory a b (Err fault) answer h = ([], inl refl, h)
+
+-- a front of it, where the writer failed
+pub told_stops : (job other : Job) (file bytes source : List ℕ) (stop : Stop) (a b : Option (List ℕ)) (result : Result Status RunFault) → job ≡ other → bytes ≡ file
+    → IfAnswered stop (Answer other bytes source) → Tells stop a b result → OnErr result (StopsInSource job file source a b)
+told_stops job other file bytes source stop a b (Ok given) same is answer h = tt
+told_stops job other file bytes source (Answered text status) a b (Err fault) same is answer (f, front, written) =
+    (f, inr (inl (text.items, status, subst (λ j. Answer j file source text.items status) (sym same) (subst (λ n. Answer other n source text.items status) is answer), front)), written)
+told_stops job other file bytes source OutOfMemory a b (Err fault) same is answer h = ([], inl refl, h)
+
+-- nothing was written
+pub stopped : (r : Request) (file source : List ℕ) (a : Option (List ℕ)) (result : Result Status RunFault) → IsErr result → Shows r file source a a result
+stopped r file source a (Ok status) h = absurd (false≢true h)
+stopped r file source a (Err fault) h = ([], inl refl, Appends-nil a)
+
+-- what is shown for the request is the job's
+pub shows_ok : (r : Request) (job : Job) (file bytes source : List ℕ) (a b : Option (List ℕ)) (result : Result Status RunFault) → job ≡ Show r.name r.sizes r.after r.limit r.tests → bytes ≡ file
+    → Shows r bytes source a b result → IfOk result (λ status. AnswersSource job file source a b status)
+shows_ok r job file bytes source a b (Ok status) same is h =
+    subst (λ j. AnswersSource j file source a b status) (sym same) (subst (λ n. AnswersSource (Show r.name r.sizes r.after r.limit r.tests) n source a b status) is h)
+shows_ok r job file bytes source a b (Err fault) same is h = tt
+
+pub shows_err : (r : Request) (job : Job) (file bytes source : List ℕ) (a b : Option (List ℕ)) (result : Result Status RunFault) → job ≡ Show r.name r.sizes r.after r.limit r.tests → bytes ≡ file
+    → Shows r bytes source a b result → OnErr result (StopsInSource job file source a b)
+shows_err r job file bytes source a b (Ok status) same is h = tt
+shows_err r job file bytes source a b (Err fault) same is h =
+    subst (λ j. StopsInSource j file source a b) (sym same) (subst (λ n. StopsInSource (Show r.name r.sizes r.after r.limit r.tests) n source a b) is h)
+
+pub same_job : {job : Job} {name given : List ℕ} {sizes stated : List Size} {after text : Option (List ℕ)} {limit : Option ℕ} {tests : Bool} → given ≡ name → stated ≡ sizes → text ≡ after
+    → job ≡ Show name sizes after limit tests → job ≡ Show given stated text limit tests
+same_job {job} {name} {given} {sizes} {stated} {after} {text} {limit} {tests} e f g h =
+    h ∙ ap (λ n. Show n sizes after limit tests) (sym e) ∙ ap (λ s. Show given s after limit tests) (sym f) ∙ ap (λ t. Show given stated t limit tests) (sym g)
 
 -- ---- the lines of a search
 

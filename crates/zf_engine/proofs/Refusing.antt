@@ -1,24 +1,33 @@
 -- The steps before the first binding make answers: refusals, in their order.
-use Rattle.std.proofs.Common.{◌≡◌, ◌⊎◌, ◌≢◌, ℕ, List, [], Bool, ◌==◌, false, true, length, Option, Result, Ok, Err, IfErr, refl, sym, ap, ◌∙◌, subst, inl, inr}
+use Rattle.std.proofs.Common.{◌≡◌, ◌⊎◌, ◌≢◌, ℕ, List, [], ◌∷◌, Bool, ◌==◌, false, true, length, Option, Some, Result, Ok, Err, IfErr, refl, sym, ap, ◌∙◌, arith, subst, inl, inr}
 use Rattle.std.specs.Prelude.{slice_get}
 use Rattle.std.specs.List.{flat_map}
+use Rattle.std.proofs.lemmas.Bool.{eqb-true}
 use Rattle.zf_command.specs.declared.job.Job.{Job}
 use Rattle.zf_finite.specs.Finite.{IsFinite}
 use Rattle.zf_scan.specs.declared.fault.TextFault.{TextFault}
 use Rattle.zf_scan.specs.Cuts.{IsWantOfMemory}
 use Rattle.zf_text.specs.Parsing.{RefusesSource}
-use Rattle.zf_term.specs.Definitions.{Defined, Schema}
+use Rattle.zf_term.specs.Definitions.{Comp, Defined, Schema}
 use Rattle.zf_type.specs.declared.fault.TypeFault.{TypeFault}
+use Rattle.zf_schema.specs.WellTypedGlobals.{AreWellTyped}
+use Rattle.zf_schema.proofs.WellTyped.{globals_well_typed}
 use Rattle.zf_value.specs.declared.value.Value.{Value}
 use Rattle.zf_meaning.specs.Environments.{Environment}
 use Rattle.zf_meaning.specs.GlobalOutcomes.{IsEnvironment}
 use Rattle.zf_meaning.specs.Sizes.{given_sets, AreComplete}
+use Rattle.zf_texts.specs.declared.spelling.Spelling.{Spelling}
+use Rattle.zf_texts.specs.BindingTexts.{binding_text}
+use Rattle.zf_texts.specs.Clear.{AreClear}
+use Rattle.zf_texts.specs.Readings.{IsNoLine}
+use Rattle.zf_texts.specs.Spellings.{spellings}
+use Rattle.zf_names.proofs.Clear.{globals_clear}
 use Rattle.zf_lines.specs.declared.fault.Status.{Status}
 use Rattle.zf_lines.specs.declared.fault.Status.TheVariants.{BadSpec}
 use Rattle.zf_engine.specs.declared.stop.Stop.{Stop}
 use Rattle.zf_engine.specs.declared.stop.Stop.TheVariants.{Answered, OutOfMemory}
 use Rattle.zf_engine.specs.Answers.{Answer, Checks, HasSchema, IsAsked, IsNamed, IsNamedRow, Request, ShowAnswer, UnreadAnswer, stated}
-use Rattle.zf_engine.specs.Stops.{AnswersOver, AnswersRequest, AnswersShow, IfAnswered, IsFaultLine, TellsInfinite, TellsMisfit, TellsNoRow, TellsOut}
+use Rattle.zf_engine.specs.Stops.{AnswersOver, AnswersRequest, AnswersShow, IfAnswered, IsFaultLine, TellsInfinite, TellsMisfit, TellsNoRow, TellsOut, TellsPlace}
 use Rattle.zf_engine.specs.Texts.{type_fault_line}
 
 pub weaker : (stop : Stop) {P Q : List ℕ → Status → Type 0} → ((text : List ℕ) (status : Status) → P text status → Q text status) → IfAnswered stop P → IfAnswered stop Q
@@ -52,6 +61,29 @@ some_of xs b unset test none =
     let both : false ≡ true = sym unset ∙ test ∙ ap (λ xs. length xs == 0) none in
     cc
 
+pub none_of : {A : Type 0} (xs : List A) (b : Bool) → b ≡ true → b ≡ (length xs == 0) → xs ≡ []
+none_of [] b set test = refl
+none_of (x ∷ xs) b set test =
+    let some : (length (x ∷ xs) == 0) ≡ true = sym test ∙ set in
+    let l : length (x ∷ xs) ≡ 0 = eqb-true (length (x ∷ xs)) 0 some in absurd (omega (arith, l))
+
+-- what a source that is read and checked defines is well typed
+pub well_typed : (source : List ℕ) (globals : List Defined) {faults : List TypeFault} → Checks source globals faults → AreWellTyped globals
+well_typed source globals {faults} checks = globals_well_typed checks.boxes globals faults checks.judged
+
+-- where spellings are clear, a text that is no line names no row
+pub no_row_told : (ss : List Spelling) (e : Environment) (comps : List Comp) (text bytes : List ℕ) (stop : Stop) (place : ℕ) → ss ≡ spellings e.globals → bytes ≡ text → IsNoLine ss e comps bytes
+    → IfAnswered stop (TellsPlace place) → AreClear ss e.sizes → IfAnswered stop (TellsNoRow e comps (Some text))
+unfolding IsNoLine
+no_row_told ss e comps text bytes stop place same is none told clear =
+    weaker stop (λ written status t. ((λ row line. none clear row line.0 (is ∙ line.1 ∙ ap (λ k. binding_text k comps row) (sym same))), (place, t))) told
+
+-- the spellings of what is asked for are clear
+pub clear_of : (r : Request) (source : List ℕ) (a : Schema) (e : Environment) → IsAsked r source e.globals a e → (ss : List Spelling) → ss ≡ spellings e.globals → AreClear ss e.sizes
+clear_of r source a e is ss same =
+    let checks = is.has_schema.checks in
+    subst (λ k. AreClear k e.sizes) (sym same) (globals_clear checks.boxes source e.globals [] (stated r.sizes) e checks.reads checks.judged is.complete is.environment)
+
 -- ---- the refusals of a schema
 
 module _ (r : Request) (file source : List ℕ) (g : List Defined) (a : Schema) where
@@ -73,4 +105,4 @@ module _ (r : Request) (file source : List ℕ) (g : List Defined) (a : Schema) 
     no_row_answers stop h = weaker stop (λ text status t. inr (ShowAnswer.not_a_binding g a e t.1.0 is t.0 t.1.1.0 t.1.1.1)) h
 
     pub out_answers : (after : Option (List Value)) → IsNamedRow e a.comps r.after after → (stop : Stop) → IfAnswered stop (TellsOut e a.comps) → AnswersRequest r file source stop
-    out_answers after named stop h = weaker stop (λ text status t. inr (ShowAnswer.declared_out g a e after t.0 t.2.0 is named t.1 t.2.1 t.2.2.0 t.2.2.1)) h
+    out_answers after named stop h = weaker stop (λ text status t. inr (ShowAnswer.declared_out g a e after t.0 t.2.0 is named t.1 t.2.1 t.2.2 t.2.3)) h

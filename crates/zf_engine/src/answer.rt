@@ -1,5 +1,5 @@
 //! What is written of a job on a source.
-ghost use Rattle.std.specs.Prelude.{◌≡◌, ℕ, List, [], IfOk, IfErr, OnErr};
+ghost use Rattle.std.specs.Prelude.{◌≡◌, ℕ, List, [], IfOk, IfErr, OnErr, option_map};
 ghost use Rattle.std.specs.Option.{option_copied};
 ghost use Rattle.zf_command.specs.declared.job.Job.TheVariants.{Check};
 ghost use Rattle.zf_engine.specs.Answers.{Answer, AnswersSource, Checks, IsAsked, IsLimited, IsNamedRow, StopsInSource};
@@ -14,19 +14,20 @@ ghost use Rattle.zf_texts.specs.Spellings.{spellings};
 use crate::asked::{Asked, asked_in};
 use crate::begin::begin;
 use crate::check::{check_answer, checked_in};
-use zf_lines::counted::Counted;
-use zf_lines::fault::{RunFault, Status};
 use crate::named::named_row;
 use crate::request::Request;
-use zf_lines::show::show;
 use crate::stop::Stop;
 use crate::typed::typed_in;
-use zf_lines::writing::write_text;
 use bumpalo::Bump;
 use std::alloc::Global;
 use std::io::Write;
 use zf_command::job::Job;
+use zf_data::Word;
 use zf_enum::Known;
+use zf_lines::counted::Counted;
+use zf_lines::fault::{RunFault, Status};
+use zf_lines::show::show;
+use zf_lines::writing::write_text;
 use zf_meaning::env::Env;
 use zf_term::globals::{Flat, Globals};
 use zf_texts::{Spelling, spellings_of};
@@ -59,15 +60,22 @@ pub fn answer<W: Write>(
             let request = Request {
                 name: schema.as_str(),
                 sizes: sizes.as_slice(),
-                after: match after {
-                    Some(text) => Some(text.as_str()),
-                    None => None,
-                },
+                after: text_in(after),
                 limit: *limit,
                 tests: *tests,
             };
             show_source(alloc, &request, file, source, writer)
         }
+    }
+}
+
+/// The text of a word, if there is one.
+fn text_in(word: &Option<Word>) -> Option<&str>
+    ensures { option_map (λ t. t.now) result ≡ word.now }
+{
+    match word {
+        Some(text) => Some(text.as_str()),
+        None => None,
     }
 }
 
@@ -174,7 +182,16 @@ fn show_schema<'a, W: Write>(
 {
     let elements = spellings_of(alloc, env.globals())?;
     match named_row(alloc, schema, env, &elements, request.after) {
-        Ok(Some(row)) => show_after(alloc, arena, schema, env, &elements, Some(&row), request, writer),
+        Ok(Some(row)) => show_after(
+            alloc,
+            arena,
+            schema,
+            env,
+            &elements,
+            Some(&row),
+            request,
+            writer,
+        ),
         Ok(None) => show_after(alloc, arena, schema, env, &elements, None, request, writer),
         Err(stop) => tell(stop, writer),
     }
@@ -204,7 +221,15 @@ fn show_after<'a, W: Write>(
         Ok(found) => {
             let mut bindings = found;
             let limit = request.limit;
-            show(alloc, schema, elements, &mut bindings, limit, request.tests, writer)
+            show(
+                alloc,
+                schema,
+                elements,
+                &mut bindings,
+                limit,
+                request.tests,
+                writer,
+            )
         }
         Err(stop) => tell(stop, writer),
     }

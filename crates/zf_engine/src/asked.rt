@@ -1,5 +1,6 @@
 //! The schema that is asked for, in the environment of the stated sizes.
 ghost use Rattle.std.specs.Prelude.{◌≡◌, ℕ, List, [], IfOk, IfErr, OnOk};
+ghost use Rattle.zf_engine.specs.Answers as spec;
 ghost use Rattle.zf_engine.specs.Answers.{Checks, IsAsked, stated};
 ghost use Rattle.zf_engine.specs.Stops.{AnswersOver, IfAnswered, IsMisfit, TellsInfinite, TellsMisfit, request_of};
 ghost use Rattle.zf_finite.specs.Finite.{IsFinite};
@@ -8,7 +9,6 @@ ghost use Rattle.zf_meaning.specs.GlobalOutcomes.{IsEnvironment};
 ghost use Rattle.zf_meaning.specs.Sizes.{given_sets, AreComplete};
 ghost use Rattle.zf_term.specs.Definitions.{globals_of, schema_of};
 
-use zf_lines::fault::Status;
 use crate::request::Request;
 use crate::stop::Stop;
 use crate::texts;
@@ -16,6 +16,7 @@ use std::alloc::{AllocError, Global};
 use zf_command::job::Size;
 use zf_data::Text;
 use zf_finite::finite;
+use zf_lines::fault::Status;
 use zf_meaning::env::Env;
 use zf_meaning::sizes::{Size as StatedSize, SizeFault};
 use zf_term::globals::{Flat, Globals};
@@ -75,7 +76,7 @@ fn stated_sizes(alloc: Global, sizes: &[Size]) -> Result<Vec<StatedSize>, AllocE
 }
 
 fn stated_size(alloc: Global, size: &Size) -> Result<StatedSize, AllocError>
-    ensures { IfOk result (λ made. (made.name ≡ size.now.name) × (made.count ≡ size.now.count)) }
+    ensures { IfOk result (λ made. made ≡ spec.stated_size size.now) }
 {
     Ok(StatedSize {
         name: Text::of(alloc, size.name.as_bytes())?,

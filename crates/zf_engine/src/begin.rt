@@ -10,12 +10,12 @@ ghost use Rattle.zf_term.specs.Definitions.{schema_of};
 ghost use Rattle.zf_walk.specs.Progress.{AreDueWithin};
 ghost use Rattle.zf_walk.specs.Rows.{HasLength};
 
-use zf_lines::fault::Status;
 use crate::stop::Stop;
 use crate::texts;
 use bumpalo::Bump;
 use std::alloc::Global;
 use zf_enum::{Bindings, Known, StartFault};
+use zf_lines::fault::Status;
 use zf_meaning::env::Env;
 use zf_term::globals::Flat;
 

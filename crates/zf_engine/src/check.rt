@@ -8,11 +8,11 @@ ghost use Rattle.zf_text.specs.Parsing.{ReadsSource};
 ghost use Rattle.zf_text.specs.Trees.{boxes_of};
 ghost use Rattle.zf_term.specs.Definitions.{globals_of};
 
-use zf_lines::fault::Status;
 use crate::stop::Stop;
 use crate::texts;
 use bumpalo::Bump;
 use std::alloc::{AllocError, Global};
+use zf_lines::fault::Status;
 use zf_scan::fault::{TextFault, TextFaultKind};
 use zf_schema::checker::{Checked, check_spec};
 use zf_schema::listing::listing;

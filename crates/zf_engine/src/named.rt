@@ -7,11 +7,11 @@ ghost use Rattle.zf_term.specs.Definitions.{schema_of};
 ghost use Rattle.zf_texts.specs.Clear.{AreClear};
 ghost use Rattle.zf_texts.specs.Spellings.{spellings};
 
-use zf_lines::fault::Status;
 use crate::stop::Stop;
 use crate::texts;
 use std::alloc::Global;
 use zf_enum::{Known, all_known};
+use zf_lines::fault::Status;
 use zf_meaning::env::Env;
 use zf_term::globals::Flat;
 use zf_texts::{AfterFault, Spelling, read_binding};

@@ -3,8 +3,6 @@ ghost use Rattle.std.specs.Prelude.{◌≡◌, ◌≤◌};
 ghost use Rattle.zf_engine.specs.Answers.{IsLimited};
 ghost use Rattle.zf_engine.specs.Faults.{number_max, refused_number};
 
-use zf_lines::counted::Counted;
-use zf_lines::fault::RunFault;
 use crate::run::run;
 use std::convert::AsStr;
 use std::fs::File;
@@ -13,6 +11,8 @@ use std::io::Read;
 use std::rt::Files;
 use zf_command::asked::job_of;
 use zf_command::job::{Asked, Job, UsageFault};
+use zf_lines::counted::Counted;
+use zf_lines::fault::RunFault;
 
 /// Does what the words after the program's own name ask for. The answer is the status.
 pub fn program<R: Files + Input + Print + Eprint + AllocGlobal, S: AsStr>(rt: &R, words: &[S]) -> u8

@@ -4,10 +4,10 @@ ghost use Rattle.zf_lines.specs.Counts.{device_of, failures_of};
 ghost use Rattle.zf_engine.specs.Faults.{Gave, GaveAtMost};
 ghost use Rattle.zf_lines.specs.Faults.{read_failures, write_failures};
 
-use zf_lines::counted::Counted;
-use zf_lines::fault::RunFault;
 use std::alloc::Global;
 use std::io::Read;
+use zf_lines::counted::Counted;
+use zf_lines::fault::RunFault;
 use zf_scan::scan::SOURCE_MAX;
 
 const CHUNK: usize = 65_536;

@@ -8,12 +8,12 @@ ghost use Rattle.zf_lines.specs.Faults.{read_failures, write_failures};
 ghost use Rattle.zf_scan.specs.declared.scan.TheConstants.{SOURCE_MAX};
 
 use crate::answer::answer;
-use zf_lines::counted::Counted;
-use zf_lines::fault::{RunFault, Status};
 use crate::reading::read_source;
 use std::alloc::Global;
 use std::io::{Read, Write};
 use zf_command::job::Job;
+use zf_lines::counted::Counted;
+use zf_lines::fault::{RunFault, Status};
 
 /// Reads a source, of which it reads no more than one byte past the greatest length, and writes the answer of a
 /// job. Each line is written before the next is looked for, and all is flushed once at the end. No call of a

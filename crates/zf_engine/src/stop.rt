@@ -2,8 +2,8 @@
 ghost use Rattle.std.specs.Prelude.{◌≡◌};
 ghost use Rattle.zf_engine.specs.declared.stop.Stop.TheVariants.{OutOfMemory};
 
-use zf_lines::fault::Status;
 use std::alloc::{AllocError, AllocFailed};
+use zf_lines::fault::Status;
 
 /// Why no binding is looked for.
 #[derive(Drop)]

@@ -5,10 +5,10 @@ ghost use Rattle.zf_engine.specs.Stops.{AnswersShow};
 ghost use Rattle.zf_term.specs.Definitions.{globals_of};
 
 use crate::check::{checked_in, fault_lines};
-use zf_lines::fault::Status;
 use crate::stop::Stop;
 use bumpalo::Bump;
 use std::alloc::Global;
+use zf_lines::fault::Status;
 use zf_term::globals::Globals;
 
 /// What a source that is well typed defines.

@@ -74,7 +74,7 @@ module _ (line : List Value → List ℕ) (limit : Option ℕ) (s : Conjuncts Va
       first_more = inr (
         up_to_last value_order s ranges after order_laws.total-law h.events taken (subst (λ a. Behind value_order s ranges after a grown) t.passed all_behind),
         subst (λ text. IsBegun line limit grown (Some row) text) (sym (one_more_line line h.events taken))
-        (begun line limit h.events taken (lines line h.events) all_hold (below limit left (length h.events) h.counted some) refl),
+            (begun line limit h.events taken (lines line h.events) all_hold (below limit left (length h.events) h.counted some) refl),
       )
 
       pub one_line : (less : Option ℕ) (later : Option (List ℕ)) → left ≡ option_map (λ n. n + 1) less → Appends new later (line row) → HasLines next less (Some row) old later

@@ -12,5 +12,5 @@ returns-in_ok-extend_from_slice-in-Out c =
     let row = values_of c.args.bindings.now in
     weaker_on_ok c.append_binding_line.result
     (λ e. e ∙ ap (λ l. l ++ line row) c.in_ok-extend_from_slice-in-Out.ensures.items ∙ append_assoc c.args.line.now.items (codes "out of bounds at: ") (line row)
-        ∙ ap (λ k. c.args.line.now.items ++ last_text line k row) (sym c.in-Out.is))
+    ∙ ap (λ k. c.args.line.now.items ++ last_text line k row) (sym c.in-Out.is))
     c.append_binding_line.ensures

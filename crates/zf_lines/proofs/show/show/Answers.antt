@@ -17,8 +17,12 @@ returns-in_err-append_end-clause-err g c =
 pub returns-in_err-write_text-clause-err : goal.returns-in_err-write_text-clause-err
 returns-in_err-write_text-clause-err g c =
     let is = c.in_ok-append_end.ensures ∙ ap (λ (l : List ℕ). l ++ (last_text (binding_line c.args.elements.now (schema_of c.args.flat.now).comps) c.in_ok-ending.ending (values_of c.write_lines.new.bindings) ++ counted_text c.args.tests c.write_lines.new.bindings)) c.clear.ensures.items in
-    always_on_err _ (inr (_, _, all_text _ _ c.requires.start _ _ c.args.tests _ _ _ _ c.in_ok-ending.ensures.ok c.append_end.new.line.items is,
-        front_behind _ _ _ _ _ c.in_ok-ending.ensures.ok.written (rw c.deref.ensures.value at c.in_err-write_text.ensures.err)))
+    always_on_err _ (inr (
+      _,
+      _,
+      all_text _ _ c.requires.start _ _ c.args.tests _ _ _ _ c.in_ok-ending.ensures.ok c.append_end.new.line.items is,
+      front_behind _ _ _ _ _ c.in_ok-ending.ensures.ok.written (rw c.deref.ensures.value at c.in_err-write_text.ensures.err),
+    ))
 
 pub returns-clause-ok : goal.returns-clause-ok
 returns-clause-ok g c =

@@ -39,10 +39,10 @@ lines-smaller g c = goes_on _ _ c.requires.start _ _ c.lines.invariant.0.same c.
 
 pub lines-preserved : goal.lines-preserved
 lines-preserved g c = (
-    goes_on_line _ _ _ _ c.requires.start _ _ _ _ _ c.lines.invariant.0 (rw c.in-Holds.is at c.in_ok-advance.ensures.answer) c.advance.ensures.problem _ _ c.one_less-left.ensures
-    c.in_ok-write_binding-in-Holds.ensures.ok (search rules),
-    (search rules),
-  )
+  goes_on_line _ _ _ _ c.requires.start _ _ _ _ _ c.lines.invariant.0 (rw c.in-Holds.is at c.in_ok-advance.ensures.answer) c.advance.ensures.problem _ _ c.one_less-left.ensures
+      c.in_ok-write_binding-in-Holds.ensures.ok (search rules),
+  (search rules),
+)
 
 pub returns-in-Breaks-clause-ok : goal.returns-in-Breaks-clause-ok
 returns-in-Breaks-clause-ok g c =

@@ -1,0 +1,19 @@
+-- The row that is named has a value of each component.
+use Rattle.std.proofs.Common.{◌≡◌, ℕ, ◌+◌, List, [], ◌∷◌, length, map, Option, Some, None, ap, ◌∙◌, arith}
+use Rattle.zf_term.specs.Definitions.{Comp}
+use Rattle.zf_value.specs.declared.value.Value.{Value}
+use Rattle.zf_walk.specs.Rows.{HasLength}
+use Rattle.zf_meaning.specs.Environments.{Environment}
+use Rattle.zf_meaning.specs.Rows.{IsRow}
+use Rattle.zf_engine.specs.Answers.{IsNamedRow}
+
+row_length : (e : Environment) (comps : List Comp) (row : List Value) → IsRow e comps row → length row ≡ length comps
+row_length e [] row h = ap (λ (vs : List Value). length vs) h
+row_length e (c ∷ comps) row (v, vs, is, of_type, rest) =
+    let ih : length vs ≡ length comps = row_length e comps vs rest in
+    let l : length row ≡ length (v ∷ vs) = ap (λ (ws : List Value). length ws) is in omega (arith, ih, l)
+
+pub named_length : (e : Environment) (comps : List Comp) (text : Option (List ℕ)) (after : Option (List Value)) → IsNamedRow e comps text after → HasLength after (length comps)
+named_length e comps text None h = tt
+named_length e comps None (Some row) h = cc
+named_length e comps (Some text) (Some row) h = row_length e comps row h.0

@@ -1,0 +1,28 @@
+use Rattle.std.proofs.Common.{◌∙◌, ap, inr, refl}
+use Rattle.zf_meaning.specs.Envs.{environment_of}
+use Rattle.zf_term.specs.Definitions.{globals_of, schema_of}
+use Rattle.zf_engine.specs.Answers.{ShowAnswer, stated}
+use Rattle.zf_engine.specs.Stops.{AnswersOver, IfAnswered, TellsInfinite, TellsMisfit, request_of}
+use Rattle.zf_engine.specs.Texts.{no_schema_line}
+use Rattle.zf_engine.proofs.Refusing.{asked, has_schema, infinite_answers, misfit_answers, weaker_err}
+use Rattle.std.proofs.Common.{rules}
+use Rattle.zf_engine.proofs.asked.asked_in.Goals as goal
+
+pub returns-in_default-clause-stop : goal.returns-in_default-clause-stop
+returns-in_default-clause-stop c = λ source checks.
+    inr (ShowAnswer.no_schema (globals_of c.args.globals.now) checks (λ a named. c.in_default.ensures named.0 a named.1) (c.in_ok-line.ensures ∙ ap no_schema_line c.as_bytes.ensures.value) refl)
+
+pub returns-in_err-env-clause-stop : goal.returns-in_err-env-clause-stop
+returns-in_err-env-clause-stop c =
+    weaker_err _ (λ s. IfAnswered s (TellsMisfit (globals_of c.args.globals.now) (stated (request_of c.args.request.now).sizes))) (AnswersOver (globals_of c.args.globals.now) (request_of c.args.request.now) c.args.file.now)
+    (λ stop told source checks. misfit_answers (request_of c.args.request.now) c.args.file.now source _ _ (has_schema (request_of c.args.request.now) c.args.file.now source _ _ checks c.in-Some.ensures) stop told) (search rules)
+
+pub returns-in_err-check_end-clause-stop : goal.returns-in_err-check_end-clause-stop
+returns-in_err-check_end-clause-stop c =
+    weaker_err _ (λ s. IfAnswered s (TellsInfinite (globals_of c.args.globals.now) (schema_of c.in-Some.schema.now) c.args.file.now)) (AnswersOver (globals_of c.args.globals.now) (request_of c.args.request.now) c.args.file.now)
+    (λ stop told source checks. infinite_answers (request_of c.args.request.now) c.args.file.now source _ _ (has_schema (request_of c.args.request.now) c.args.file.now source _ _ checks c.in-Some.ensures) c.in_ok-env.ensures.complete stop told) (search rules)
+
+pub returns-clause-asked : goal.returns-clause-asked
+returns-clause-asked c = λ source checks.
+    asked (request_of c.args.request.now) c.args.file.now source _ _ (environment_of c.in_ok-env.env) (has_schema (request_of c.args.request.now) c.args.file.now source _ _ checks c.in-Some.ensures)
+    c.in_ok-env.ensures.complete c.in_ok-env.ensures.is c.in_ok-check_end.ensures.ok

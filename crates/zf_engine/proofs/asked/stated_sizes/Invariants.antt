@@ -1,0 +1,6 @@
+use Rattle.std.proofs.Common.{◌≡◌, map, take}
+use Rattle.zf_engine.specs.Answers.{stated_size}
+use Rattle.zf_engine.proofs.asked.stated_sizes.Given as goal
+
+abbrev pub invariant-loop-size : goal.invariant-loop-size
+invariant-loop-size l = l.made.items ≡ map stated_size (take l.size-index l.sizes)

@@ -1,0 +1,17 @@
+use Rattle.std.proofs.Common.{◌≡◌, List, length, get_or, refl, sym, ap, ◌∙◌, arith, subst}
+use Rattle.std.proofs.lemmas.List.{length-map}
+use Rattle.zf_term.specs.declared.globals.Component.{Component}
+use Rattle.zf_term.specs.Definitions.{comp_of}
+use Rattle.zf_enum.proofs.Comps.{comp_at}
+use Rattle.zf_engine.specs.Texts.{declared_out_line}
+use Rattle.zf_engine.proofs.begin.declared_out.Goals as goal
+
+pub returns-in-Ok : goal.returns-in-Ok
+returns-in-Ok c =
+    let x = c.index-as_slice-place.result in
+    let at : x ≡ get_or c.args.flat.now.components c.args.place x = subst (λ (xs : List Component). x ≡ get_or xs c.args.place x) c.as_slice.ensures c.index-as_slice-place.is in (
+      comp_of x,
+      comp_at c.args.flat.now.components c.args.place x at (omega (arith, c.requires, length-map c.args.flat.now.components comp_of)),
+      c.in-Ok.ensures ∙ ap declared_out_line c.as_slice-2.ensures,
+      refl,
+    )
