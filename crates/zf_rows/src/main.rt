@@ -8,16 +8,27 @@ use std::process::ExitCode;
 use std::rt::Files;
 use std::{fs, io};
 
-static NAMES: [&str; 9] = [
+static NAMES: [&str; 20] = [
     "answers",
     "calculus",
     "command_lines",
+    "disjunction",
     "examples",
+    "large",
     "limits",
+    "meaning",
     "names",
-    "not_yet",
+    "order",
+    "out_of_bounds",
+    "ranges",
     "refusals",
+    "resuming",
+    "sessions",
+    "small",
+    "tests",
+    "truths",
     "types",
+    "values",
 ];
 
 fn main(rt: HostRuntime) -> ExitCode {
