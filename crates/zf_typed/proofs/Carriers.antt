@@ -1,5 +1,5 @@
 -- The carrier of a type is a set of values of the type.
-use Rattle.std.proofs.Common.{◌≡◌, ℕ, List, [], ◌∷◌, Option, Some, None, refl, sym, ap, subst}
+use Rattle.std.proofs.Common.{◌≡◌, ℕ, List, Option, Some, None, refl, subst}
 use Rattle.zf_term.specs.Types.{Ty, int, basic, power, product, Tys, no_types, type}
 use Rattle.zf_value.specs.declared.value.Value.{Value}
 use Rattle.zf_value.specs.declared.value.Outcome.TheVariants.{Is}

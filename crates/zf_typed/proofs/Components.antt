@@ -5,7 +5,7 @@ use Rattle.std.specs.Str.{bytes_eq}
 use Rattle.std.proofs.lemmas.Option.{same_Some, none-some}
 use Rattle.zf_text.specs.declared.tree.RefMark.{RefMark}
 use Rattle.zf_text.specs.declared.tree.RefMark.TheVariants.{Plain, Delta, Xi}
-use Rattle.zf_term.specs.Definitions.{Comp, Schema, DeclaredSet, Defined, sides, sets_of}
+use Rattle.zf_term.specs.Definitions.{Comp, Schema, DeclaredSet, Defined, sets_of}
 use Rattle.zf_term.specs.FirstNamed.{later, or_else}
 use Rattle.zf_term.specs.Types.{Ty}
 use Rattle.zf_term.proofs.Choices.{or_none}
@@ -15,7 +15,7 @@ use Rattle.zf_calculus.proofs.Merging.{nothing_before}
 use Rattle.zf_schema.specs.SchemaLaws.{type_found, type_named}
 use Rattle.zf_schema.proofs.Named.{named_there, type_one_more, joined_type, type_of_once}
 use Rattle.zf_schema.proofs.Once.{decorated_once, joined_once}
-use Rattle.zf_typed.proofs.DeclaredSets.{IsSome, IsSetFor, AreSetsFor}
+use Rattle.zf_typed.proofs.DeclaredSets.{IsSome, AreSetsFor}
 
 -- the component has declared sets, and they are sets for its type
 abbrev pub IsCompFor : List Defined → Comp → Type 0

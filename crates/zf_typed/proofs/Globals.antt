@@ -4,15 +4,12 @@ use Rattle.std.specs.Prelude.{slice_get, nat_lt}
 use Rattle.std.proofs.lemmas.List.Sums.{sum_by-cons}
 use Rattle.std.proofs.lemmas.Option.{same_Some, none-some}
 use Rattle.std.specs.Str.{bytes_eq}
-use Rattle.zf_text.specs.Trees.{Tree}
-use Rattle.zf_term.specs.declared.extent.Extent.{Extent}
 use Rattle.zf_term.specs.Definitions.{Comp, Defined, Definition, given_set, free_type, constructor, abbreviation, schema}
 use Rattle.zf_term.specs.FirstNamed.{later, first_named}
 use Rattle.zf_term.specs.Numbers.{has_elements, next_number}
-use Rattle.zf_term.specs.ResolvedTrees.{ResolvedTree}
-use Rattle.zf_term.specs.Types.{Ty, basic, power, types, no_types}
+use Rattle.zf_term.specs.Types.{basic, power, types}
 use Rattle.zf_term.proofs.SameNames.{is_same, is_itself}
-use Rattle.zf_type.specs.Scopes.{Scope, Var}
+use Rattle.zf_type.specs.Scopes.{Var}
 use Rattle.zf_type.specs.Rules.{typed}
 use Rattle.zf_type.specs.Typing.{types_of}
 use Rattle.zf_calculus.specs.Calculus.{EachOnce}

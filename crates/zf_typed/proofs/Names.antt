@@ -7,7 +7,6 @@ use Rattle.zf_term.specs.declared.resolved.Reference.{Reference}
 use Rattle.zf_term.specs.declared.resolved.Reference.TheVariants.{Component, Local, Global}
 use Rattle.zf_term.specs.Definitions.{Comp, Defined}
 use Rattle.zf_term.specs.FirstNamed.{later, or_else, first_named}
-use Rattle.zf_term.specs.Types.{Ty, type}
 use Rattle.zf_type.specs.Rules.{Sort, typed}
 use Rattle.zf_type.specs.Scopes.{Scope, Var, last_named, global_sort, with_local, with_comp, with_global, meaning}
 use Rattle.zf_type.specs.Scopes as scopes

@@ -1,15 +1,13 @@
 -- Values of types: the sets, pairs and tuples that are made of them, and the parts that these have.
-use Rattle.std.proofs.Common.{◌≡◌, ℕ, ◌≤◌, ℤ, List, [], ◌∷◌, ◌++◌, length, replicate, refl, sym, ap, ◌∙◌, subst, inl, inr, ⊎_elim, zero, suc}
-use Rattle.std.specs.Prelude.{FitsSigned}
-use Rattle.std.specs.Int.{w64}
-use Rattle.zf_term.specs.Types.{Ty, int, basic, power, product, Tys, no_types, type, pair}
+use Rattle.std.proofs.Common.{◌≡◌, ◌≤◌, ℤ, List, [], ◌∷◌, length, refl, sym, ap, ◌∙◌, subst}
+use Rattle.zf_term.specs.Types.{Ty, int, power, product, Tys, no_types, type, pair}
 use Rattle.zf_value.specs.declared.TheConstants.{SET_MAX}
-use Rattle.zf_value.specs.declared.value.Value.{Value, Int, Tuple, SetOf}
+use Rattle.zf_value.specs.declared.value.Value.{Value, Tuple}
 use Rattle.zf_value.specs.declared.value.Outcome.TheVariants.{Is}
 use Rattle.zf_value.specs.Numbers.{IsNumber}
 use Rattle.zf_value.specs.Operations as op
-use Rattle.zf_value.specs.Operations.{Relates, AreFrom}
-use Rattle.zf_value.specs.Sets.{IsMember, Every, IsAscending, IsSetOf, members, parts}
+use Rattle.zf_value.specs.Operations.{Relates}
+use Rattle.zf_value.specs.Sets.{IsMember, IsAscending, IsSetOf, members, parts}
 use Rattle.zf_value.proofs.Among.{every_from, every_at}
 use Rattle.zf_value.proofs.Seen.{members-SetOf, parts-Tuple}
 use Rattle.zf_meaning.specs.Environments.{Environment}

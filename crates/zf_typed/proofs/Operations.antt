@@ -1,5 +1,5 @@
 -- What each symbol makes of values of the types that it takes is a value of the type that it gives.
-use Rattle.std.proofs.Common.{◌≡◌, ◌⊎◌, ℕ, ◌≤◌, ℤ, List, [], ◌∷◌, length, Some, refl, sym, ap, ◌∙◌, subst, inl, inr, ⊎_elim, arith}
+use Rattle.std.proofs.Common.{◌≡◌, ◌⊎◌, ℕ, ℤ, List, Some, sym, ap, ◌∙◌, subst, ⊎_elim, arith}
 use Rattle.std.specs.Prelude.{pos, negsuc, ◌≤ℤ◌, FitsSigned, Option, None}
 use Rattle.std.specs.Int.{w64}
 use Rattle.std.proofs.lemmas.Int.{ints}
@@ -15,10 +15,10 @@ use Rattle.zf_term.specs.declared.operator.Unary.TheVariants as unary
 use Rattle.zf_term.specs.Operators.{rule_of, function_rule}
 use Rattle.zf_term.specs.Types.{Ty, int, power, pair}
 use Rattle.zf_type.specs.Rules.{Sort, typed, predicate, a_schema, number, set_of, relation, Takes, PrefixTakes, UnaryTakes}
-use Rattle.zf_value.specs.declared.value.Value.{Value, Int}
+use Rattle.zf_value.specs.declared.value.Value.{Value}
 use Rattle.zf_value.specs.declared.value.Outcome.{Outcome}
-use Rattle.zf_value.specs.declared.value.Outcome.TheVariants.{Is, Undefined, Out}
-use Rattle.zf_value.specs.Numbers.{number_of, IsNumber, OnNumber, OnNumbers, IsNegation, IsSum, IsDifference, IsProduct, IsQuotient, IsModulus, IsBetweenNumbers, IsInterval}
+use Rattle.zf_value.specs.declared.value.Outcome.TheVariants.{Is, Undefined}
+use Rattle.zf_value.specs.Numbers.{number_of, OnNumber, OnNumbers, IsNegation, IsSum, IsDifference, IsProduct, IsQuotient, IsModulus, IsBetweenNumbers, IsInterval}
 use Rattle.zf_value.specs.Operations as op
 use Rattle.zf_value.specs.Operations.{Relates, IsPairOf, IsInDomain, IsInRange, IsUnion, IsIntersection, IsSetDifference, IsSize, IsDomain, IsRange, IsInverse, IsImage, IsComposition, IsOverriding, IsDomainRestriction, IsDomainSubtraction, IsRangeRestriction, IsRangeSubtraction, IsApplied}
 use Rattle.zf_value.specs.Sets.{IsMember, IsSetOf, members}

@@ -1,5 +1,5 @@
 -- Sets of relations, functions and subsets are sets of sets of the type.
-use Rattle.std.proofs.Common.{◌≡◌, ℕ, ◌≤◌, List, [], ◌∷◌, length, refl, sym, ap, ◌∙◌, subst, inl, inr, ⊎_elim, arith}
+use Rattle.std.proofs.Common.{◌≡◌, ◌≤◌, List, [], ◌∷◌, length, refl, sym, ap, ◌∙◌, subst, ⊎_elim, arith}
 use Rattle.zf_scan.specs.declared.token.Arrow.{Arrow}
 use Rattle.zf_scan.specs.declared.token.Arrow.TheVariants as arrow
 use Rattle.zf_term.specs.Types.{Ty, power, pair}
@@ -7,7 +7,7 @@ use Rattle.zf_value.specs.declared.TheConstants.{SET_MAX}
 use Rattle.zf_value.specs.declared.value.Value.{Value, SetOf}
 use Rattle.zf_value.specs.declared.value.Outcome.TheVariants.{Is}
 use Rattle.zf_value.specs.Operations as op
-use Rattle.zf_value.specs.Operations.{Relates, IsSubset, IsPower, IsBetween, IsFunctional, IsInjective, IsTotal, IsRelationThat, AreRelations, ArePartialFunctions, AreTotalFunctions, ArePartialInjections, AreTotalInjections}
+use Rattle.zf_value.specs.Operations.{IsSubset, IsPower, IsBetween, IsFunctional, IsInjective, IsTotal, IsRelationThat, AreRelations, ArePartialFunctions, AreTotalFunctions, ArePartialInjections, AreTotalInjections}
 use Rattle.zf_value.specs.Sets.{IsMember, IsAscending, IsSetOf, AreAmong, members}
 use Rattle.zf_value.proofs.Among.{every_from}
 use Rattle.zf_value.proofs.Once as once

@@ -1,18 +1,18 @@
 -- The rows of a schema's ranges are rows of its types.
-use Rattle.std.proofs.Common.{◌≡◌, ℕ, List, [], ◌∷◌, Option, Some, refl, sym, subst}
+use Rattle.std.proofs.Common.{◌≡◌, ℕ, List, [], ◌∷◌, Some, refl, sym, subst}
 use Rattle.std.specs.Prelude.{slice_get}
-use Rattle.zf_term.specs.Definitions.{Comp, Schema, Defined, schema, sets_of}
+use Rattle.zf_term.specs.Definitions.{Comp, Defined, schema, sets_of}
 use Rattle.zf_schema.specs.WellTypedGlobals.{AreWellTyped}
-use Rattle.zf_schema.specs.SchemaLaws.{AreDefinedOnce}
+use Rattle.zf_schema.proofs.Globals.{names_once}
+use Rattle.zf_schema.proofs.WellTyped.{globals_well_typed}
 use Rattle.zf_value.specs.declared.value.Value.{Value}
 use Rattle.zf_value.specs.declared.value.Outcome.{Outcome}
 use Rattle.zf_value.proofs.Among.{member}
 use Rattle.zf_meaning.specs.Environments.{Environment}
-use Rattle.zf_meaning.specs.GlobalOutcomes.{IsEnvironment}
 use Rattle.zf_meaning.specs.Rows.{IsRow}
 use Rattle.zf_walk.specs.Rows.{IsRowOf}
 use Rattle.zf_enum.specs.Ranges.{AreRanges}
-use Rattle.zf_typed.specs.RowLaws.{RowsTyped, EventsTyped}
+use Rattle.zf_typed.specs.RowLaws.{RowsTyped, EventsTyped, EventsOfTextsTyped}
 use Rattle.zf_typed.proofs.Components.{AreCompsFor}
 use Rattle.zf_typed.proofs.DeclaredSets.{listed_typed}
 use Rattle.zf_typed.proofs.Globals.{globals_typed}
@@ -38,3 +38,7 @@ rows_typed g stated e place name a ranges row well once env at r m =
 
 pub events_typed : EventsTyped
 events_typed g stated e place name a ranges after x well once env at r is = rows_typed g stated e place name a ranges x.row well once env at r is.within
+
+pub events_of_texts_typed : EventsOfTextsTyped
+events_of_texts_typed boxes g faults stated e place name a ranges after x checked env at r is =
+    events_typed g stated e place name a ranges after x (globals_well_typed boxes g faults checked) (names_once boxes g faults checked).0 env at r is

@@ -1,5 +1,5 @@
 -- The declared sets of each schema that is defined are sets for its components.
-use Rattle.std.proofs.Common.{◌≡◌, ℕ, zero, suc, ◌<◌, List, [], ◌∷◌, ◌++◌, take, Some, refl, sym, ap, ◌∙◌, subst, arith}
+use Rattle.std.proofs.Common.{◌≡◌, ℕ, zero, suc, ◌<◌, List, [], ◌∷◌, take, Some, refl, sym, subst, arith}
 use Rattle.std.specs.Prelude.{slice_get}
 use Rattle.std.specs.List.{AllByRecursion}
 use Rattle.std.proofs.lemmas.Option.{same_Some, none-some}
@@ -10,7 +10,7 @@ use Rattle.zf_term.specs.Definitions.{Schema, DeclaredSet, plain, Defined, Defin
 use Rattle.zf_term.specs.Types.{Ty}
 use Rattle.zf_type.specs.Resolving.{resolved}
 use Rattle.zf_type.specs.Scopes.{spelling}
-use Rattle.zf_calculus.specs.Calculus.{nothing, comp, marked, AreOnce}
+use Rattle.zf_calculus.specs.Calculus.{nothing, comp, marked}
 use Rattle.zf_calculus.specs.Expressions.{outside, Refers, AddsAll, DeclaresOne, Declares, IsSchema}
 use Rattle.zf_schema.specs.SchemaLaws.{HasCompsOnce, HaveCompsOnce}
 use Rattle.zf_schema.specs.WellTypedGlobals.{IsMadeAfter, AreWellTyped}

@@ -1,5 +1,5 @@
 -- The outcome of a well typed term is of its type, where each value that is bound is of its own.
-use Rattle.std.proofs.Common.{◌≡◌, ℕ, zero, suc, ◌≤◌, List, [], ◌∷◌, ◌++◌, length, replicate, refl, sym, ap, ◌∙◌, subst, inl, inr, ⊎_elim, Some, arith}
+use Rattle.std.proofs.Common.{◌≡◌, ℕ, List, [], ◌∷◌, ◌++◌, length, replicate, refl, sym, ap, ◌∙◌, subst, ⊎_elim, arith}
 use Rattle.std.specs.Prelude.{pos}
 use Rattle.zf_scan.specs.declared.token.Constant.{Constant}
 use Rattle.zf_scan.specs.declared.token.Constant.TheVariants as constants
@@ -16,7 +16,7 @@ use Rattle.zf_term.specs.ResolvedTrees.{ResolvedTree, ResolvedPart}
 use Rattle.zf_term.specs.Types.{Ty, Tys, power, no_types, type}
 use Rattle.zf_term.specs.Types as t
 use Rattle.zf_type.specs.Resolving.{referent, bound, resolved, resolved_all, resolved_ranges, resolved_part}
-use Rattle.zf_type.specs.Rules.{Sort, typed, predicate, number, set_of, Takes, UnaryTakes, constant_sort}
+use Rattle.zf_type.specs.Rules.{Sort, typed, predicate, number, set_of, Takes, UnaryTakes}
 use Rattle.zf_type.specs.Scopes.{Scope, Var, spelling}
 use Rattle.zf_type.specs.Scopes as scopes
 use Rattle.zf_type.specs.Typing.{IsOf, AreOf, AreSetsOf, AllAreOf, Declare, types_of, row_type, variables}
@@ -28,7 +28,7 @@ use Rattle.zf_value.specs.declared.value.Outcome.{Outcome}
 use Rattle.zf_value.specs.declared.value.Outcome.TheVariants.{Is, Undefined, Out}
 use Rattle.zf_value.specs.declared.value.Truth.{Truth}
 use Rattle.zf_value.specs.Operations.{AreFrom, IsDisplay, IsCross}
-use Rattle.zf_value.specs.Sets.{IsMember, members}
+use Rattle.zf_value.specs.Sets.{IsMember}
 use Rattle.zf_meaning.specs.Environments.{Environment, Context, within, outcome_in}
 use Rattle.zf_meaning.specs.Meaning.{HasOutcome, HaveOutcomes, HaveRanges, IsBuilt, IsBuiltBy, constant_outcome, row_value, IsConstraint}
 use Rattle.zf_meaning.specs.Meaning as meaning
@@ -36,7 +36,7 @@ use Rattle.zf_meaning.specs.Outcomes.{OnOne, OnBoth, Several, values, one_undefi
 use Rattle.zf_meaning.specs.Rows.{IsOfType, AreOfTypes}
 use Rattle.zf_meaning.specs.Symbols.{BinaryOutcome, UnaryOutcome, ListedOutcome}
 use Rattle.zf_typed.proofs.Names.{Fits, fits_within, named_typed}
-use Rattle.zf_typed.proofs.OfTypes.{AreMembers, members_of, a_set, a_number, first_of_types}
+use Rattle.zf_typed.proofs.OfTypes.{members_of, a_set, a_number, first_of_types}
 use Rattle.zf_typed.proofs.Operations.{IsOfSort, sorted, binary, unary_made}
 
 -- ---- outcomes that are values, by those of the operands

@@ -1,6 +1,6 @@
 //! Laws of the definitions.
 ghost use Rattle.zf_typed.specs.OutcomeLaws.{OutcomesTyped};
-ghost use Rattle.zf_typed.specs.RowLaws.{RowsTyped, EventsTyped};
+ghost use Rattle.zf_typed.specs.RowLaws.{RowsTyped, EventsTyped, EventsOfTextsTyped};
 
 /// The outcome of an expression is of the expression's type.
 pub fn outcomes_typed()
@@ -11,4 +11,5 @@ pub fn outcomes_typed()
 pub fn rows_typed()
     ensures rows { RowsTyped }
     ensures events { EventsTyped }
+    ensures texts { EventsOfTextsTyped }
 {}
