@@ -2,21 +2,19 @@
 ghost use Rattle.std.specs.Prelude.{◌≡◌, IsTrue, IfOk, IfErr, map};
 ghost use Rattle.std.specs.List.{AllByRecursion};
 ghost use Rattle.zf_term.specs.Definitions.{comp_of, sets_of};
-ghost use Rattle.zf_value.specs.Sets.{AreRegular};
 ghost use Rattle.zf_finite.specs.Finite.{one_bounds};
 ghost use Rattle.zf_meaning.specs.Envs.{environment_of};
 ghost use Rattle.zf_enum.specs.Components.{AreAllRanges, IsOneRange, IsOutBy};
 ghost use Rattle.zf_enum.specs.Starts.{Refuses};
 
-use crate::known::Known;
+use crate::known::{Known, all_known};
 use crate::lack::Lack;
 use crate::ranges::range;
 use crate::start_fault::StartFault;
 use bumpalo::Bump;
-use std::alloc::{AllocError, Global};
+use std::alloc::Global;
 use zf_meaning::env::Env;
 use zf_term::globals::Component;
-use zf_value::value::Value;
 use zf_walk::Range;
 
 /// The range of each component.
@@ -51,21 +49,9 @@ fn range_at<'a>(
 {
     match range(alloc, arena, component.domains.get().as_slice(), env) {
         Ok(values) => Ok(Range {
-            values: known(alloc, values)?,
+            values: all_known(alloc, values)?,
         }),
         Err(Lack::Out) => Err(StartFault::DeclaredOut(place)),
         Err(Lack::OutOfMemory) => Err(StartFault::OutOfMemory),
     }
-}
-
-/// The same values, known to be regular.
-fn known(alloc: Global, values: Vec<Value>) -> Result<Vec<Known>, AllocError>
-    requires { AreRegular values.items }
-    ensures { IfOk result (λ known. known.items ≡ values.items) }
-{
-    let mut known = Vec::with_capacity(alloc, values.len())?;
-    for value in values {
-        known.push(Known::new(value))?;
-    }
-    Ok(known)
 }

@@ -1,7 +1,8 @@
 //! Regular values.
-ghost use Rattle.std.specs.Prelude.{◌≡◌, ◌∷◌};
-ghost use Rattle.zf_value.specs.Sets.{IsRegular};
+ghost use Rattle.std.specs.Prelude.{◌≡◌, IfOk};
+ghost use Rattle.zf_value.specs.Sets.{IsRegular, AreRegular};
 
+use std::alloc::{AllocError, Global};
 use std::cmp::Ordering;
 use std::marker::Model;
 use zf_value::value::Value;
@@ -90,4 +91,16 @@ impl Ord for Known {
     fn cmp(&self, other: &Known) -> Ordering {
         self.value.cmp(&other.value)
     }
+}
+
+/// The same values, known to be regular.
+pub fn all_known(alloc: Global, values: Vec<Value>) -> Result<Vec<Known>, AllocError>
+    requires { AreRegular values.items }
+    ensures { IfOk result (λ known. known.items ≡ values.items) }
+{
+    let mut known = Vec::with_capacity(alloc, values.len())?;
+    for value in values {
+        known.push(Known::new(value))?;
+    }
+    Ok(known)
 }

@@ -20,6 +20,6 @@ mod start;
 mod start_fault;
 
 pub use bindings::Bindings;
-pub use known::Known;
+pub use known::{Known, all_known};
 pub use property::Property;
 pub use start_fault::StartFault;

@@ -4,7 +4,7 @@ use Rattle.zf_value.specs.declared.value.Value.{Value}
 use Rattle.zf_value.specs.Sets.{IsMember}
 use Rattle.zf_value.proofs.Among.{members-append}
 use Rattle.zf_value.proofs.Regulars.{regular_member}
-use Rattle.zf_enum.proofs.component.known.Goals as goal
+use Rattle.zf_enum.proofs.known.all_known.Goals as goal
 
 pub new-requires : goal.new-requires
 new-requires c =
