@@ -1,0 +1,36 @@
+-- The carrier of a type is a set of values of the type.
+use Rattle.std.proofs.Common.{◌≡◌, ℕ, List, Option, Some, None, refl, subst}
+use Rattle.zf_term.specs.Types.{Ty, int, basic, power, product, Tys, no_types, type}
+use Rattle.zf_value.specs.declared.value.Value.{Value}
+use Rattle.zf_value.specs.declared.value.Outcome.TheVariants.{Is}
+use Rattle.zf_value.specs.Operations.{IsPower, IsCross}
+use Rattle.zf_value.specs.Sets.{members}
+use Rattle.zf_meaning.specs.Carriers.{IsCarrier, AreCarriers, IsTypeSetIf}
+use Rattle.zf_meaning.specs.Environments.{Environment, type_number}
+use Rattle.zf_meaning.specs.Outcomes.{values}
+use Rattle.zf_meaning.specs.Rows.{IsOfType, AreOfTypes}
+use Rattle.zf_typed.proofs.Globals.{type_set_typed}
+use Rattle.zf_typed.proofs.OfTypes.{members_of}
+use Rattle.zf_typed.proofs.Relations.{a_power}
+use Rattle.zf_typed.proofs.Terms.{one, several, all_values, powers, cross_typed}
+
+mutual
+  pub carrier_typed : (e : Environment) (t : Ty) (v : Value) → IsCarrier e t (Is v) → IsOfType e (power t) v
+  carrier_typed e int v h = absurd (cc)
+  carrier_typed e (basic name) v h = go (type_number e name) refl h
+    where
+      go : (o : Option ℕ) → type_number e name ≡ o → IsTypeSetIf e o (Is v) → IsOfType e (power (basic name)) v
+      go None at p = absurd (cc)
+      go (Some n) at p = type_set_typed e name n v at p
+  carrier_typed e (power t) v h =
+      let q = one h.0 (λ w. IsPower (members w)) v h.2 in
+      a_power e t (members q.0) v (members_of e t q.0 (carrier_typed e t q.0 (subst (IsCarrier e t) q.1 h.1))) q.2
+  carrier_typed e (product ts) v h =
+      let q = several h.0 IsCross v h.2 in
+      cross_typed e ts q.0 v (carriers_typed e ts q.0 (subst (AreCarriers e ts) q.1 h.1)) q.2
+
+  carriers_typed : (e : Environment) (ts : Tys) (vs : List Value) → AreCarriers e ts (values vs) → AreOfTypes e (powers ts) vs
+  carriers_typed e no_types vs h = cc
+  carriers_typed e (type t ts) vs h =
+      let q = all_values h.0 h.1 vs h.4 in
+      (q.0, q.1, q.4, carrier_typed e t q.0 (subst (IsCarrier e t) q.2 h.2), carriers_typed e ts q.1 (subst (AreCarriers e ts) q.3 h.3))

@@ -1,0 +1,183 @@
+-- The outcomes of globals are of their types.
+use Rattle.std.proofs.Common.{◌≡◌, ℕ, zero, suc, ◌+◌, ◌<◌, ◌^◌, Bool, true, false, if◌then◌else◌, List, [], ◌∷◌, length, take, map, Option, Some, None, refl, sym, ap, ◌∙◌, subst, arith, add-one}
+use Rattle.std.specs.Prelude.{slice_get, nat_lt}
+use Rattle.std.proofs.lemmas.List.Sums.{sum_by-cons}
+use Rattle.std.proofs.lemmas.Option.{same_Some, none-some}
+use Rattle.std.specs.Str.{bytes_eq}
+use Rattle.zf_term.specs.Definitions.{Comp, Defined, Definition, given_set, free_type, constructor, abbreviation, schema}
+use Rattle.zf_term.specs.FirstNamed.{later, first_named}
+use Rattle.zf_term.specs.Numbers.{has_elements, next_number}
+use Rattle.zf_term.specs.Types.{basic, power, types}
+use Rattle.zf_term.proofs.SameNames.{is_same, is_itself}
+use Rattle.zf_type.specs.Scopes.{Var}
+use Rattle.zf_type.specs.Rules.{typed}
+use Rattle.zf_type.specs.Typing.{types_of}
+use Rattle.zf_calculus.specs.Calculus.{EachOnce}
+use Rattle.zf_calculus.specs.Expressions.{outside}
+use Rattle.zf_schema.specs.SchemaLaws.{AreDefinedOnce}
+use Rattle.zf_schema.specs.WellTypedGlobals.{IsMadeAfter, AreWellTyped}
+use Rattle.zf_value.specs.declared.value.Value.{Value, Elem}
+use Rattle.zf_value.specs.declared.value.Outcome.{Outcome}
+use Rattle.zf_value.specs.declared.value.Outcome.TheVariants.{Is, Undefined}
+use Rattle.zf_value.specs.Operations.{AreElements}
+use Rattle.zf_value.specs.Operations as op
+use Rattle.zf_meaning.specs.declared.sizes.Size.{Size}
+use Rattle.zf_meaning.specs.Environments.{Environment, Context, before, globally, type_number, found_number, definition_number, AreElementsIf, IsTypeSet, element}
+use Rattle.zf_meaning.specs.GlobalOutcomes.{IsOutcomeOf, AreWorkedOut, IsEnvironment}
+use Rattle.zf_meaning.specs.Meaning.{HasOutcome}
+use Rattle.zf_meaning.specs.Rows.{IsOfType, AreOfTypes, IsElement, IsFrontOfRow}
+use Rattle.zf_meaning.specs.Sizes.{AreSizes}
+use Rattle.zf_typed.specs.OutcomeLaws.{scope, context, OutcomesTyped}
+use Rattle.zf_typed.proofs.Names.{HasValues, Fits}
+use Rattle.zf_typed.proofs.OfTypes.{a_set, first_of_types}
+use Rattle.zf_typed.proofs.Terms.{term_typed}
+
+-- ---- lists
+
+pub in_front : {A : Type 0} (i j : ℕ) (xs : List A) (x : A) → slice_get (take i xs) j ≡ Some x → (j < i) × (slice_get xs j ≡ Some x)
+in_front zero j xs x e = absurd (none-some x e)
+in_front (suc i) j [] x e = absurd (none-some x e)
+in_front (suc i) zero (y ∷ xs) x e = (omega arith, e)
+in_front (suc i) (suc j) (y ∷ xs) x e = let ih = in_front i j xs x e in let l = ih.0 in (omega (arith, l), ih.1)
+
+-- what stands in a list of things of names of their own is the first of its name
+pub first_at : {A : Type 0} (name : A → List ℕ) (xs : List A) (i : ℕ) (x : A) → EachOnce name xs → slice_get xs i ≡ Some x → first_named name (name x) xs ≡ Some (i, x)
+first_at name [] i x once at = absurd (none-some x at)
+first_at {A} name (y ∷ xs) zero x once at = go (bytes_eq (name y) (name x)) (subst (λ z. bytes_eq (name y) (name z) ≡ true) (same_Some y x at) (is_itself (name y)))
+  where
+    go : (b : Bool) → b ≡ true → (if b then Some (0, y) else later (first_named name (name x) xs)) ≡ Some (0, x)
+    go true e = ap (λ z. Some (0, z)) (same_Some y x at)
+    go false e = absurd (cc)
+first_at {A} name (y ∷ xs) (suc i) x once at = go (bytes_eq (name y) (name x)) refl (first_at name xs i x once.1 at)
+  where
+    go : (b : Bool) → bytes_eq (name y) (name x) ≡ b → first_named name (name x) xs ≡ Some (i, x) → (if b then Some (0, y) else later (first_named name (name x) xs)) ≡ Some (suc i, x)
+    go true e found = absurd (none-some (i, x) (sym once.0 ∙ ap (λ n. first_named name n xs) (is_same (name y) (name x) e) ∙ found))
+    go false e found = ap later found ∙ ap (λ n. Some (n, x)) (add-one i)
+
+-- ---- the sizes of free types
+
+none_more : (n : ℕ) → 0 + n ≡ n
+none_more n = omega arith
+
+size_more : (k n : ℕ) (sizes : List ℕ) (m : ℕ) → slice_get sizes n ≡ Some m → slice_get (k ∷ sizes) (1 + n) ≡ Some m
+size_more k n sizes m e = subst (λ i. slice_get (k ∷ sizes) i ≡ Some m) (let l : suc n ≡ 1 + n = omega arith in l) e
+
+pub size_at : (stated : List Size) (g : List Defined) (sizes : List ℕ) (i : ℕ) (name : List ℕ) (n : ℕ) (names : List (List ℕ)) → AreSizes stated g sizes → slice_get g i ≡ Some (record { name = name; definition = free_type n names }) → slice_get sizes (next_number (take i g)) ≡ Some (length names)
+size_at stated [] sizes i name n names h at = absurd (none-some _ at)
+size_at stated (d ∷ g) sizes zero name n names h at = here d (same_Some d _ at) h
+  where
+    here : (d : Defined) → d ≡ record { name = name; definition = free_type n names } → AreSizes stated (d ∷ g) sizes → slice_get sizes 0 ≡ Some (length names)
+    here d e k = ap (λ s. slice_get s 0) (subst (λ (x : Defined). AreSizes stated (x ∷ g) sizes) e k).2
+size_at stated (d ∷ g) sizes (suc i) name n names h at = by d.definition (λ later k. size_at stated g later i name n names k at) h
+  where
+    by :
+        (x : Definition) → ((later : List ℕ) → AreSizes stated g later → slice_get later (next_number (take i g)) ≡ Some (length names))
+        → AreSizes stated (record { name = d.name; definition = x } ∷ g) sizes → slice_get sizes (next_number (record { name = d.name; definition = x } ∷ take i g)) ≡ Some (length names)
+    by (given_set m) ih k =
+        ap (slice_get sizes) (sum_by-cons (λ d. has_elements d.definition) (record { name = d.name; definition = given_set m }) (take i g))
+        ∙ ap (λ xs. slice_get xs (1 + next_number (take i g))) k.4 ∙ size_more k.0 (next_number (take i g)) k.1 (length names) (ih k.1 k.3)
+    by (free_type m ns) ih k =
+        ap (slice_get sizes) (sum_by-cons (λ d. has_elements d.definition) (record { name = d.name; definition = free_type m ns }) (take i g))
+        ∙ ap (λ xs. slice_get xs (1 + next_number (take i g))) k.2 ∙ size_more (length ns) (next_number (take i g)) k.0 (length names) (ih k.0 k.1)
+    by (constructor m t p) ih k =
+        ap (slice_get sizes) (sum_by-cons (λ d. has_elements d.definition) (record { name = d.name; definition = constructor m t p }) (take i g) ∙ none_more (next_number (take i g))) ∙ ih sizes k
+    by (abbreviation t r x) ih k =
+        ap (slice_get sizes) (sum_by-cons (λ d. has_elements d.definition) (record { name = d.name; definition = abbreviation t r x }) (take i g) ∙ none_more (next_number (take i g))) ∙ ih sizes k
+    by (schema a) ih k =
+        ap (slice_get sizes) (sum_by-cons (λ d. has_elements d.definition) (record { name = d.name; definition = schema a }) (take i g) ∙ none_more (next_number (take i g))) ∙ ih sizes k
+
+-- ---- elements
+
+element_typed : (e : Environment) (name : List ℕ) (n m i : ℕ) (v : Value) → type_number e name ≡ Some n → slice_get e.sizes n ≡ Some m → i < m → v ≡ Elem n i → IsOfType e (basic name) v
+element_typed e name n m i v number size l is = subst (λ o. IsElement e o v) (sym number) (m, i, size, l, is)
+
+set_typed : (e : Environment) (name : List ℕ) (n m : ℕ) (v : Value) → type_number e name ≡ Some n → slice_get e.sizes n ≡ Some m → AreElements n m (Is v) → IsOfType e (power (basic name)) v
+unfolding AreElements op.IsElement
+set_typed e name n m v number size h = a_set e (basic name) (op.IsElement n m) v h (λ z p. element_typed e name n m p.0 z number size p.2 p.1)
+
+never_undefined : {A : Type 0} (v : Value) → Is v ≡ Undefined → A
+never_undefined v h = absurd (cc)
+
+pub type_set_typed : (e : Environment) (name : List ℕ) (n : ℕ) (v : Value) → type_number e name ≡ Some n → IsTypeSet e n (Is v) → IsOfType e (power (basic name)) v
+type_set_typed e name n v number h = go (nat_lt n (2 ^ 32)) (slice_get e.sizes n) refl h
+  where
+    go : (b : Bool) (k : Option ℕ) → slice_get e.sizes n ≡ k → AreElementsIf n (if b then k else None) (Is v) → IsOfType e (power (basic name)) v
+    go false k at p = never_undefined v p
+    go true None at p = never_undefined v p
+    go true (Some m) at p = set_typed e name n m v number at p
+
+is_element : (n i : ℕ) (v : Value) → Is v ≡ element n i → v ≡ Elem n i
+is_element n i v h = go (nat_lt n (2 ^ 32)) h
+  where
+    go : (b : Bool) → Is v ≡ (if b then Is (Elem n i) else Undefined) → v ≡ Elem n i
+    go true p = cc
+    go false p = never_undefined v p
+
+below : {A : Type 0} (xs : List A) (i : ℕ) (x : A) → slice_get xs i ≡ Some x → i < length xs
+below [] i x e = absurd (none-some x e)
+below (y ∷ xs) zero x e = omega arith
+below (y ∷ xs) (suc i) x e = let l = below xs i x e in omega (arith, l)
+
+-- ---- globals
+
+-- the outcomes of the globals before this place are of their types
+abbrev AreTypedBelow : Environment → ℕ → Type 0
+AreTypedBelow e n = (i : ℕ) (d : Defined) (o : Outcome) → i < n → slice_get e.globals i ≡ Some d → slice_get e.outcomes i ≡ Some o → HasValues e d o
+
+module _ (e : Environment) (stated : List Size) (well : AreWellTyped e.globals) (once : AreDefinedOnce e.globals) (sizes : AreSizes stated e.globals e.sizes) where
+  number_of_type : (i : ℕ) (d : Defined) (n : ℕ) → slice_get e.globals i ≡ Some d → definition_number d.definition ≡ Some n → type_number e d.name ≡ Some n
+  number_of_type i d n at number = ap found_number (first_at (λ x. x.name) e.globals i d once at) ∙ number
+
+  constructor_typed : (i : ℕ) (name : List ℕ) (n : ℕ) (of_type : List ℕ) (place : ℕ) (v : Value) → IsMadeAfter (take i e.globals) name (constructor n of_type place) → Is v ≡ element n place → IsOfType e (basic of_type) v
+  constructor_typed i name n of_type place v made h =
+      let whole : Defined = record { name = of_type; definition = free_type n made.1 } in
+      let there = in_front i made.0 e.globals whole made.2 in
+      let number = number_of_type made.0 whole n there.1 refl in
+      let size = ap (slice_get e.sizes) (well made.0 whole there.1) ∙ size_at stated e.globals e.sizes made.0 of_type n made.1 sizes there.1 in
+      element_typed e of_type n (length made.1) place v number size (below made.1 place name made.3) (is_element n place v h)
+
+  fits_before : (n : ℕ) → AreTypedBelow e n → (c : Context) → c.environment.outcomes ≡ take n e.outcomes → c.locals ≡ [] → Fits e (outside (take n e.globals)) c
+  fits_before n before c outcomes locals = record {
+    globals = λ i d o at there. let p = in_front n i e.globals d at in let q = in_front n i e.outcomes o (subst (λ os. slice_get os i ≡ Some o) outcomes there) in before i d o p.0 p.1 q.1;
+    comps = λ i d v at there. absurd (none-some d at);
+    locals = locals;
+  }
+
+  definition_typed : (i : ℕ) (name : List ℕ) (x : Definition) (o : Outcome) → AreTypedBelow e i → slice_get e.globals i ≡ Some (record { name = name; definition = x }) → IsMadeAfter (take i e.globals) name x → IsOutcomeOf (before e i) x o → HasValues e (record { name = name; definition = x }) o
+  definition_typed i name (given_set n) o ahead at made h v is = type_set_typed e name n v (number_of_type i (record { name = name; definition = given_set n }) n at refl) (subst (IsTypeSet e n) is h)
+  definition_typed i name (free_type n names) o ahead at made h v is = type_set_typed e name n v (number_of_type i (record { name = name; definition = free_type n names }) n at refl) (subst (IsTypeSet e n) is h)
+  definition_typed i name (constructor n of_type place) o ahead at made h v is = constructor_typed i name n of_type place v made (sym is ∙ h)
+  definition_typed i name (abbreviation t r x) o ahead at made h v is =
+      term_typed e (outside (take i e.globals)) (globally (before e i)) made.0 (typed t) v (fits_before i ahead (globally (before e i)) refl refl) made.1
+      (subst (λ q. HasOutcome (globally (before e i)) q (Is v)) made.2 (subst (HasOutcome (globally (before e i)) r) is h))
+  definition_typed i name (schema a) o ahead at made h v is = tt
+
+  typed_below : AreWorkedOut e → (n : ℕ) → AreTypedBelow e n
+  typed_below worked zero i d o l at there = absurd (omega (arith, l))
+  typed_below worked (suc n) i d o l at there =
+      let w = worked.1 i d at in
+      definition_typed i d.name d.definition o (λ j k q m. typed_below worked n j k q (omega (arith, l, m))) at (well i d at) (subst (IsOutcomeOf (before e i) d.definition) (same_Some w.0 o (sym w.1 ∙ there)) w.2)
+
+pub globals_typed : (e : Environment) (g : List Defined) (stated : List Size) → AreWellTyped g → AreDefinedOnce g → IsEnvironment g stated e → (i : ℕ) (d : Defined) (o : Outcome) → slice_get g i ≡ Some d → slice_get e.outcomes i ≡ Some o → HasValues e d o
+globals_typed e g stated well once h i d o at there =
+    typed_below e stated (subst AreWellTyped (sym h.0) well) (subst AreDefinedOnce (sym h.0) once) (subst (λ x. AreSizes stated x e.sizes) (sym h.0) h.1) h.2 (suc i) i d o (omega arith) (subst (λ x. slice_get x i ≡ Some d) (sym h.0) at) there
+
+-- ---- scopes
+
+row_at : (e : Environment) (cs : List Comp) (vs : List Value) (i : ℕ) (d : Comp) (v : Value) → AreOfTypes e (types (map (λ c. c.type) (take (length vs) cs))) vs → slice_get cs i ≡ Some d → slice_get vs i ≡ Some v → IsOfType e d.type v
+row_at e cs [] i d v h a b = absurd (none-some v b)
+row_at e [] (w ∷ ws) i d v h a b = absurd (none-some d a)
+row_at e (c ∷ cs) (w ∷ ws) zero d v h a b =
+    subst (λ (x : Comp). IsOfType e x.type v) (same_Some c d a) (subst (IsOfType e c.type) (same_Some w v b) (first_of_types e c.type (types (map (λ c. c.type) (take (length ws) cs))) w ws h).0)
+row_at e (c ∷ cs) (w ∷ ws) (suc i) d v h a b = row_at e cs ws i d v (first_of_types e c.type (types (map (λ c. c.type) (take (length ws) cs))) w ws h).1 a b
+
+pub fits_all : (e : Environment) (g : List Defined) (stated : List Size) (n : ℕ) (comps : List Comp) (variables : List Var) (row locals : List Value) → AreWellTyped g → AreDefinedOnce g → IsEnvironment g stated e → IsFrontOfRow e comps row → AreOfTypes e (types_of variables) locals → Fits e (scope g n comps variables) (context e row locals)
+fits_all e g stated n comps variables row locals well once env r l = record {
+  globals = λ i d o at there. let p = in_front n i g d at in globals_typed e g stated well once env i d o p.1 there;
+  comps = λ i d v at there. row_at e comps row i d v r at there;
+  locals = l;
+}
+
+pub outcomes_typed : OutcomesTyped
+outcomes_typed g stated e n comps variables row locals t u v well once env r l is h =
+    term_typed e (scope g n comps variables) (context e row locals) t (typed u) v (fits_all e g stated n comps variables row locals well once env r l) is h

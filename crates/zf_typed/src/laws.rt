@@ -1,0 +1,15 @@
+//! Laws of the definitions.
+ghost use Rattle.zf_typed.specs.OutcomeLaws.{OutcomesTyped};
+ghost use Rattle.zf_typed.specs.RowLaws.{RowsTyped, EventsTyped, EventsOfTextsTyped};
+
+/// The outcome of an expression is of the expression's type.
+pub fn outcomes_typed()
+    ensures { OutcomesTyped }
+{}
+
+/// The rows of a schema's ranges, and so those of its events, have the types of its components.
+pub fn rows_typed()
+    ensures rows { RowsTyped }
+    ensures events { EventsTyped }
+    ensures texts { EventsOfTextsTyped }
+{}
