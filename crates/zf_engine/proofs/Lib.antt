@@ -3,5 +3,4 @@ pub mod Parts
 pub mod Within
 pub mod OwnComponents
 pub mod DueWithin
-pub mod Limits
 pub mod NamedRows
