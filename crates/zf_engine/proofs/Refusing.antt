@@ -1,6 +1,5 @@
 -- The steps before the first binding make answers: refusals, in their order.
 use Rattle.std.proofs.Common.{◌≡◌, ◌⊎◌, ◌≢◌, ℕ, List, [], ◌∷◌, Bool, ◌==◌, false, true, length, Option, Some, Result, Ok, Err, IfErr, refl, sym, ap, ◌∙◌, arith, subst, inl, inr}
-use Rattle.std.specs.Prelude.{slice_get}
 use Rattle.std.specs.List.{flat_map}
 use Rattle.std.proofs.lemmas.Bool.{eqb-true}
 use Rattle.zf_command.specs.declared.job.Job.{Job}
@@ -27,7 +26,7 @@ use Rattle.zf_lines.specs.declared.fault.Status.TheVariants.{BadSpec}
 use Rattle.zf_engine.specs.declared.stop.Stop.{Stop}
 use Rattle.zf_engine.specs.declared.stop.Stop.TheVariants.{Answered, OutOfMemory}
 use Rattle.zf_engine.specs.Answers.{Answer, Checks, HasSchema, IsAsked, IsNamed, IsNamedRow, Request, ShowAnswer, UnreadAnswer, stated}
-use Rattle.zf_engine.specs.Stops.{AnswersOver, AnswersRequest, AnswersShow, IfAnswered, IsFaultLine, TellsInfinite, TellsMisfit, TellsNoRow, TellsOut, TellsPlace}
+use Rattle.zf_engine.specs.Stops.{AnswersRequest, AnswersShow, IfAnswered, IsFaultLine, TellsInfinite, TellsMisfit, TellsNoRow, TellsOut, TellsPlace}
 use Rattle.zf_engine.specs.Texts.{type_fault_line}
 
 pub weaker : (stop : Stop) {P Q : List ℕ → Status → Type 0} → ((text : List ℕ) (status : Status) → P text status → Q text status) → IfAnswered stop P → IfAnswered stop Q

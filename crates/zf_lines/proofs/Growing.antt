@@ -1,9 +1,7 @@
 -- The lines of a search grow with each event that is written.
-use Rattle.std.proofs.Common.{◌≡◌, ℕ, ◌+◌, List, [], ◌∷◌, ◌++◌, length, codes, Option, Some, None, refl, sym, ap, ◌∙◌, append_assoc, append-nil, arith, length-append, subst}
-use Rattle.zf_walk.specs.declared.judge.Truth.TheVariants.{Out}
+use Rattle.std.proofs.Common.{◌≡◌, ℕ, ◌+◌, List, [], ◌∷◌, ◌++◌, length, Option, Some, None, refl, sym, ap, ◌∙◌, append_assoc, append-nil, arith, length-append, subst}
 use Rattle.zf_walk.specs.Events.{Event}
-use Rattle.zf_lines.specs.declared.fault.Status.TheVariants.{Done, PastBounds}
-use Rattle.zf_lines.specs.Searches.{Hold, lines, IsBelow, IsWithin, IsWritten, IsBegun}
+use Rattle.zf_lines.specs.Searches.{Hold, lines, IsBelow, IsWithin, IsBegun}
 
 module _ {V : Type 0} (line : List V → List ℕ) where
   pub one_more_line : (front : List (Event V)) (e : Event V) → lines line (front ++ e ∷ []) ≡ lines line front ++ line e.row

@@ -1,11 +1,11 @@
 -- What the steps of a search say of its schema, wherever it stands.
-use Rattle.std.proofs.Common.{◌≡◌, ◌⊎◌, ◌<◌, ℕ, Bool, true, false, codes, List, [], ◌∷◌, ◌++◌, Option, Some, refl, sym, ap, ◌∙◌, append_assoc, inl, inr, subst}
+use Rattle.std.proofs.Common.{◌≡◌, ◌<◌, ℕ, Bool, true, false, codes, List, [], ◌++◌, Option, Some, refl, sym, ap, ◌∙◌, append_assoc, inl, inr, subst}
 use Rattle.std.specs.Prelude.{unwrap_or}
 use Rattle.std.specs.Io.KnownBytes.{Appends}
 use Rattle.zf_term.specs.Definitions.{Schema}
 use Rattle.zf_value.specs.declared.value.Value.{Value}
 use Rattle.zf_value.specs.Sets.{value_order}
-use Rattle.zf_walk.specs.declared.step.Step.TheVariants.{Holds, Breaks, End}
+use Rattle.zf_walk.specs.declared.step.Step.TheVariants.{Holds, Breaks}
 use Rattle.zf_walk.specs.declared.judge.Truth.TheVariants.{True, Out}
 use Rattle.zf_walk.specs.Conjuncts.{Conjuncts}
 use Rattle.zf_walk.specs.Events.{Event}
@@ -16,14 +16,13 @@ use Rattle.zf_enum.specs.Ranges.{AreRanges}
 use Rattle.zf_enum.specs.Searches.{judged}
 use Rattle.zf_lines.specs.declared.ending.Ending as ending
 use Rattle.zf_lines.specs.declared.ending.Ending.TheVariants as endings
-use Rattle.zf_lines.specs.declared.fault.Status.{Status}
 use Rattle.zf_lines.specs.Faults.{AppendsFront}
 use Rattle.zf_lines.specs.Searches.{AreEventsUpTo, IsTestsLine, IsWritten, lines, out_line}
 use Rattle.zf_lines.specs.Shown.{IsAtStart, Lists, StopsLines, WritesAll, searched, values_of}
 use Rattle.zf_lines.specs.Ends.{EndsBy, IsEnd, counted_text, ending_status, last_text}
 use Rattle.zf_lines.specs.Texts.{tests_line}
 use Rattle.zf_lines.proofs.Fewer.{ahead_count, one_fewer}
-use Rattle.zf_lines.proofs.Lines.{HasLines, IsFirst}
+use Rattle.zf_lines.proofs.Lines.{IsFirst}
 use Rattle.zf_lines.proofs.Telling.{tests_told}
 use Rattle.zf_value.specs.contracts.value.ValueOrd.TheImpl.Laws as order_laws
 

@@ -1,5 +1,5 @@
 -- Where the loop over the lines of a search stands.
-use Rattle.std.proofs.Common.{◌≡◌, ◌<◌, ℕ, ◌+◌, List, [], ◌∷◌, ◌++◌, Option, Some, None, refl, sym, ap, subst}
+use Rattle.std.proofs.Common.{◌≡◌, ℕ, ◌+◌, List, [], ◌∷◌, ◌++◌, Option, Some, None, refl, sym, ap, subst}
 use Rattle.std.specs.Prelude.{option_map, unwrap_or}
 use Rattle.std.specs.Io.KnownBytes.{Appends}
 use Rattle.zf_term.specs.Definitions.{Schema}
@@ -7,7 +7,6 @@ use Rattle.zf_value.specs.declared.value.Value.{Value}
 use Rattle.zf_value.specs.Sets.{value_order}
 use Rattle.zf_walk.specs.declared.step.Step.TheVariants.{Holds, Breaks, End}
 use Rattle.zf_walk.specs.declared.judge.Truth.TheVariants.{True, Out}
-use Rattle.zf_walk.specs.Events.{Event}
 use Rattle.zf_walk.specs.Progress.{SameProblem, Advances, AreTests, Takes}
 use Rattle.zf_enum.specs.declared.bindings.Bindings.{Bindings}
 use Rattle.zf_enum.specs.Property.{property}
@@ -15,7 +14,6 @@ use Rattle.zf_enum.specs.Searches.{judged}
 use Rattle.zf_lines.specs.Ends.{EndsBy}
 use Rattle.zf_lines.specs.Faults.{AppendsFront}
 use Rattle.zf_lines.specs.Shown.{HasLimit, IsAtStart, StopsLines, searched, values_of}
-use Rattle.zf_lines.specs.Ends as ends
 use Rattle.zf_lines.specs.declared.ending.Ending.TheVariants as endings
 use Rattle.zf_lines.proofs.Lines as lines
 use Rattle.zf_lines.proofs.Lines.{HasLines}

@@ -1,4 +1,4 @@
-use Rattle.std.proofs.Common.{[], ◌∙◌, length, ap, ◌==◌, inr, subst}
+use Rattle.std.proofs.Common.{◌∙◌, length, ap, ◌==◌, inr, subst}
 use Rattle.std.specs.List.{flat_map}
 use Rattle.zf_term.specs.Definitions.{globals_of}
 use Rattle.zf_engine.specs.Answers.{Checks}

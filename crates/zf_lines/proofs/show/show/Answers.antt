@@ -3,7 +3,6 @@ use Rattle.std.proofs.Common.{◌++◌, List, ℕ, inr, refl, sym, ap, ◌∙◌
 use Rattle.std.proofs.KnownBytes.{Appends-trans}
 use Rattle.zf_term.specs.Definitions.{schema_of}
 use Rattle.zf_lines.specs.Ends.{counted_text, last_text}
-use Rattle.zf_lines.specs.Searches.{lines}
 use Rattle.zf_lines.specs.Shown.{values_of}
 use Rattle.zf_lines.specs.Texts.{binding_line}
 use Rattle.zf_lines.proofs.Fronts.{always_on_err, front_behind, front_longer, front_whole}

@@ -1,9 +1,4 @@
-use Rattle.std.proofs.Common.{rules, ◌≡◌}
-use Rattle.zf_term.specs.Definitions.{schema_of}
-use Rattle.zf_value.specs.Sets.{value_order}
-use Rattle.zf_walk.specs.Progress.{Advances}
-use Rattle.zf_enum.specs.Searches.{judged}
-use Rattle.zf_lines.specs.Texts.{binding_line}
+use Rattle.std.proofs.Common.{rules}
 use Rattle.zf_lines.proofs.Fronts.{always_on_err}
 use Rattle.zf_lines.proofs.Searching.{goes_on}
 use Rattle.zf_lines.proofs.Standing.{stands_first, stops_here, stops_in_line, goes_on_line, ends_at_limit, ends_out, ends_at_end}
