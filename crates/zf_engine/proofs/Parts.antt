@@ -108,9 +108,6 @@ module _ (r : Request) (file source : List ℕ) (a : Schema) (b : Bindings) (ss 
 
 -- ---- answers
 
-pub stops_unwritten : (job : Job) (file source : List ℕ) (a : Option (List ℕ)) → StopsInSource job file source a a
-stops_unwritten job file source a = ([], inl refl, Appends-nil a)
-
 pub stops_reading : (job : Job) (file source : List ℕ) (given left a b : Option (List ℕ)) → Gave given left source
     → StopsInSource job file source a b → StopsInReader job file given left a b
 stops_reading job file source given left a b gave (written, part, appended) = (written, appended, inr (source, gave, part))

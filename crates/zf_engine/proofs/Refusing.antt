@@ -44,13 +44,6 @@ unread_answers file source fault OutOfMemory (inr refuses) h = tt
 unread_answers file source fault (Answered text status) (inl memory) h = absurd (h.0 memory.0)
 unread_answers file source fault (Answered text status) (inr refuses) h = (fault, refuses, h.1, h.2)
 
--- an answer for a source that can't be read answers every job
-pub answers_any : (job : Job) (file source : List ℕ) (stop : Stop) → IfAnswered stop (UnreadAnswer file source) → IfAnswered stop (Answer job file source)
-answers_any job file source stop h = weaker stop (λ text status unread. inl unread) h
-
-pub answers_show : (file source : List ℕ) (stop : Stop) → IfAnswered stop (UnreadAnswer file source) → AnswersShow file source stop
-answers_show file source stop h = λ r. weaker stop (λ text status unread. inl unread) h
-
 pub ill_typed_answers : (file source text : List ℕ) (globals : List Defined) (faults : List TypeFault) → Checks source globals faults → faults ≢ []
     → text ≡ flat_map (type_fault_line file) faults → (r : Request) → ShowAnswer r file source text BadSpec
 ill_typed_answers file source text globals faults checks some is r = ShowAnswer.ill_typed globals faults checks some is refl

@@ -1,16 +1,12 @@
 -- Texts that are written one behind the other, and fronts of them.
-use Rattle.std.proofs.Common.{◌++◌, ℕ, List, [], Option, Result, Ok, Err, OnOk, OnErr, refl, sym, ap, ◌∙◌, append_assoc, append-nil}
+use Rattle.std.proofs.Common.{◌++◌, ℕ, List, [], Option, Result, Ok, Err, OnOk, OnErr, sym, ap, ◌∙◌, append_assoc, append-nil}
 use Rattle.std.specs.Io.KnownBytes.{Appends}
-use Rattle.std.proofs.KnownBytes.{Appends-trans, Appends-nil}
+use Rattle.std.proofs.KnownBytes.{Appends-trans}
 use Rattle.zf_lines.specs.Faults.{AppendsFront}
 
 pub always_on_err : {T E : Type 0} (r : Result T E) {Q : Type 0} → Q → OnErr r Q
 always_on_err (Ok x) q = tt
 always_on_err (Err e) q = q
-
-pub weaker_on_err : {T E : Type 0} (r : Result T E) {P Q : Type 0} → (P → Q) → OnErr r P → OnErr r Q
-weaker_on_err (Ok x) f h = tt
-weaker_on_err (Err e) f h = f h
 
 pub weaker_on_ok : {T E : Type 0} (r : Result T E) {P Q : Type 0} → (P → Q) → OnOk r P → OnOk r Q
 weaker_on_ok (Ok x) f h = f h
@@ -28,7 +24,3 @@ front_longer a b text more (f, (rest, split), written) = (f, (rest ++ more, ap (
 -- all of a text
 pub front_whole : (a b : Option (List ℕ)) (text : List ℕ) → Appends a b text → AppendsFront a b text
 front_whole a b text written = (text, ([], sym (append-nil text)), written)
-
--- nothing
-pub front_none : (a : Option (List ℕ)) (text : List ℕ) → AppendsFront a a text
-front_none a text = ([], (text, refl), Appends-nil a)
