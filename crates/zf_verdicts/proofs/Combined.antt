@@ -1,5 +1,5 @@
 -- What operands that are what their places need make, by the rule of their symbol, or that the rule does not take them together.
-use Rattle.std.proofs.Common.{◌≡◌, ◌⊎◌, refl, inl, inr, subst}
+use Rattle.std.proofs.Common.{◌⊎◌, refl, inl, inr}
 use Rattle.zf_scan.specs.declared.token.Prefix.{Prefix}
 use Rattle.zf_scan.specs.declared.token.Prefix.TheVariants.{Power, Finset, Domain, Range, Size}
 use Rattle.zf_scan.specs.declared.token.Relation.{Relation}
@@ -11,7 +11,7 @@ use Rattle.zf_term.specs.declared.operator.Rule.{Rule}
 use Rattle.zf_term.specs.declared.operator.Rule.TheVariants as rule
 use Rattle.zf_term.specs.declared.operator.Unary.{Unary}
 use Rattle.zf_term.specs.declared.operator.Unary.TheVariants as unary
-use Rattle.zf_term.specs.Types.{Ty, int, power, pair}
+use Rattle.zf_term.specs.Types.{int, power, pair}
 use Rattle.zf_type.specs.Rules.{Sort, typed, predicate, number, set_of, relation, Meets, Takes, PrefixTakes, SignTakes, UnaryTakes}
 use Rattle.zf_verdicts.proofs.Decided.{Decided, same_type, both}
 

@@ -1,5 +1,5 @@
 -- What can be decided: whether names, types and sorts are the same, whether types are small, and what a place takes.
-use Rattle.std.proofs.Common.{◌≡◌, ◌⊎◌, ℕ, ◌<◌, ◌≤◌, Bool, true, false, List, [], ◌∷◌, refl, sym, ◌∙◌, inl, inr, arith}
+use Rattle.std.proofs.Common.{◌≡◌, ◌⊎◌, ℕ, ◌<◌, ◌≤◌, Bool, true, false, List, [], ◌∷◌, refl, inl, inr, arith}
 use Rattle.std.specs.Bool.{Decides}
 use Rattle.std.specs.Str.{bytes_eq}
 use Rattle.std.specs.List.{AllByRecursion}
@@ -10,13 +10,12 @@ use Rattle.zf_text.specs.declared.tree.Name.{Name}
 use Rattle.zf_term.specs.declared.operator.Need.{Need}
 use Rattle.zf_term.specs.declared.operator.Need.TheVariants as need
 use Rattle.zf_term.specs.Types.{Ty, int, basic, power, product, Tys, no_types, type, IsSmall, nodes}
-use Rattle.zf_type.specs.declared.fault.TypeFaultKind.{TypeFaultKind}
 use Rattle.zf_type.specs.declared.fault.TypeFaultKind.TheVariants.{LocalTwice}
 use Rattle.zf_type.specs.Rules.{Sort, typed, predicate, a_schema, number, set_of, relation, IsSmallSort, Meets}
 use Rattle.zf_type.specs.Scopes.{spelling}
 use Rattle.zf_type.specs.Typing.{IsApart, AreApart}
 use Rattle.zf_type.specs.Offences.{IsRepeated, Repeats}
-use Rattle.zf_verdicts.specs.Laws.{HasOne}
+use Rattle.zf_verdicts.specs.Laws.{SomeOffence}
 
 abbrev pub Decided : Type 0 → Type 0
 Decided P = P ⊎ (P → ⊥)
@@ -135,20 +134,20 @@ meets need.Predicate x = is_predicate x
 
 -- ---- names that are declared
 
-pub is_apart : (n : Name) (ms : List Name) → IsApart n ms ⊎ HasOne (IsRepeated n ms)
+pub is_apart : (n : Name) (ms : List Name) → IsApart n ms ⊎ SomeOffence (IsRepeated n ms)
 is_apart n [] = inl tt
 is_apart n (m ∷ ms) = by (same_bytes (spelling n) (spelling m)) (is_apart n ms)
   where
-    by : Decided (spelling n ≡ spelling m) → IsApart n ms ⊎ HasOne (IsRepeated n ms) → IsApart n (m ∷ ms) ⊎ HasOne (IsRepeated n (m ∷ ms))
+    by : Decided (spelling n ≡ spelling m) → IsApart n ms ⊎ SomeOffence (IsRepeated n ms) → IsApart n (m ∷ ms) ⊎ SomeOffence (IsRepeated n (m ∷ ms))
     by (inl e) rest = inr (LocalTwice, m.line, inl (e, refl, refl))
     by (inr e) (inl apart) = inl (e, apart)
     by (inr e) (inr o) = inr (o.0, o.1, inr o.2)
 
-pub are_apart : (ns : List Name) → AreApart ns ⊎ HasOne (Repeats ns)
+pub are_apart : (ns : List Name) → AreApart ns ⊎ SomeOffence (Repeats ns)
 are_apart [] = inl tt
 are_apart (n ∷ ns) = by (is_apart n ns) (are_apart ns)
   where
-    by : IsApart n ns ⊎ HasOne (IsRepeated n ns) → AreApart ns ⊎ HasOne (Repeats ns) → AreApart (n ∷ ns) ⊎ HasOne (Repeats (n ∷ ns))
+    by : IsApart n ns ⊎ SomeOffence (IsRepeated n ns) → AreApart ns ⊎ SomeOffence (Repeats ns) → AreApart (n ∷ ns) ⊎ SomeOffence (Repeats (n ∷ ns))
     by (inr o) rest = inr (o.0, o.1, inl o.2)
     by (inl apart) (inl rest) = inl (apart, rest)
     by (inl apart) (inr o) = inr (o.0, o.1, inr o.2)

@@ -10,7 +10,7 @@ use Rattle.zf_calculus.specs.Calculus.{comp_named, HasTypeOf, Agrees, Agree, dec
 use Rattle.zf_calculus.specs.Expressions.{IsNext}
 use Rattle.zf_calculus.specs.Limits.{components_max, sets_max, conjuncts_max, nodes_max, height_max, declared_sets, all_nodes, IsLow, IsWithin}
 use Rattle.zf_calculus.specs.SchemaOffences.{Stops}
-use Rattle.zf_verdicts.specs.Laws.{HasOne}
+use Rattle.zf_verdicts.specs.Laws.{SomeOffence}
 use Rattle.zf_verdicts.proofs.Decided.{Decided, both, decided_as, decided_all, at_most, same_type}
 
 pub is_within : (a : Schema) → Decided (IsWithin a)
@@ -51,9 +51,9 @@ next_or_stopped Agreed next (inl agreed) = by (is_within next)
     by (inr large) = inr (TooLarge, inr (refl, agreed, large))
 
 -- where a stop has a line
-pub next_at : (line : ℕ) (Agreed : Type 0) (next : Schema) → Decided Agreed → ((b : Schema) × (Agreed × IsNext next b)) ⊎ HasOne (λ k m. (m ≡ line) × Stops Agreed next k)
+pub next_at : (line : ℕ) (Agreed : Type 0) (next : Schema) → Decided Agreed → ((b : Schema) × (Agreed × IsNext next b)) ⊎ SomeOffence (λ k m. (m ≡ line) × Stops Agreed next k)
 next_at line Agreed next agreed = by (next_or_stopped Agreed next agreed)
   where
-    by : (Agreed × IsNext next next) ⊎ ((k : TypeFaultKind) × Stops Agreed next k) → ((b : Schema) × (Agreed × IsNext next b)) ⊎ HasOne (λ k m. (m ≡ line) × Stops Agreed next k)
+    by : (Agreed × IsNext next next) ⊎ ((k : TypeFaultKind) × Stops Agreed next k) → ((b : Schema) × (Agreed × IsNext next b)) ⊎ SomeOffence (λ k m. (m ≡ line) × Stops Agreed next k)
     by (inl p) = inl (next, p)
     by (inr o) = inr (o.0, line, (refl, o.1))

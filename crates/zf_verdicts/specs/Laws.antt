@@ -14,24 +14,24 @@ use Rattle.zf_calculus.specs.SchemaOffences.{OffendsText, OffendsSchema}
 use Rattle.zf_schema.specs.Checking.{Item, Defines, OffendsItem, IsChecked}
 
 -- there is an offence: one of some kind, at some line
-abbrev pub HasOne : (TypeFaultKind → ℕ → Type 0) → Type 0
-HasOne offends = (kind : TypeFaultKind) × (line : ℕ) × offends kind line
+abbrev pub SomeOffence : (TypeFaultKind → ℕ → Type 0) → Type 0
+SomeOffence offends = (kind : TypeFaultKind) × (line : ℕ) × offends kind line
 
 -- a term has a sort that its place takes, or an offence there
 abbrev pub EveryTermIsJudged : Type 0
-EveryTermIsJudged = (s : Scope) (n : Need) (e : Tree) → ((x : Sort) × IsOf s e x × Meets n x) ⊎ HasOne (Offends s n e)
+EveryTermIsJudged = (s : Scope) (n : Need) (e : Tree) → ((x : Sort) × IsOf s e x × Meets n x) ⊎ SomeOffence (Offends s n e)
 
 -- declarations with predicates are a schema, or have an offence
 abbrev pub EverySchemaTextIsJudged : Type 0
-EverySchemaTextIsJudged = (g : List Defined) (ds : List DeclTree) (ps : List Tree) → ((a : Schema) × IsText g ds ps a) ⊎ HasOne (OffendsText g ds ps)
+EverySchemaTextIsJudged = (g : List Defined) (ds : List DeclTree) (ps : List Tree) → ((a : Schema) × IsText g ds ps a) ⊎ SomeOffence (OffendsText g ds ps)
 
 -- a schema expression is a schema, or has an offence
 abbrev pub EverySchemaIsJudged : Type 0
-EverySchemaIsJudged = (g : List Defined) (x : SchemaTree) → ((a : Schema) × IsSchema g x a) ⊎ HasOne (OffendsSchema g x)
+EverySchemaIsJudged = (g : List Defined) (x : SchemaTree) → ((a : Schema) × IsSchema g x a) ⊎ SomeOffence (OffendsSchema g x)
 
 -- a paragraph or box makes globals of those before it, or has an offence
 abbrev pub EveryItemIsJudged : Type 0
-EveryItemIsJudged = (g : List Defined) (item : Item) → ((h : List Defined) × Defines g item h) ⊎ HasOne (OffendsItem g item)
+EveryItemIsJudged = (g : List Defined) (item : Item) → ((h : List Defined) × Defines g item h) ⊎ SomeOffence (OffendsItem g item)
 
 -- a text defines globals and has faults: none for what is well typed, and one that is an offence for each paragraph or box that is not
 abbrev pub EveryTextHasAVerdict : Type 0
