@@ -134,7 +134,7 @@ meets need.Predicate x = is_predicate x
 
 -- ---- names that are declared
 
-pub is_apart : (n : Name) (ms : List Name) → IsApart n ms ⊎ SomeOffence (IsRepeated n ms)
+is_apart : (n : Name) (ms : List Name) → IsApart n ms ⊎ SomeOffence (IsRepeated n ms)
 is_apart n [] = inl tt
 is_apart n (m ∷ ms) = by (same_bytes (spelling n) (spelling m)) (is_apart n ms)
   where
