@@ -7,3 +7,5 @@ pub mod Truths
 pub mod Builders
 pub mod Terms
 pub mod Carriers
+pub mod StatedSizes
+pub mod Environments

@@ -13,7 +13,7 @@ use Rattle.zf_total.proofs.Values.{same_value, decided_member, listed_members, l
 
 -- ---- elements
 
-listed_below : (k : ℕ) → Listed (λ (i : ℕ). i < k)
+pub listed_below : (k : ℕ) → Listed (λ (i : ℕ). i < k)
 listed_below zero = listed_none (λ (i : ℕ). i < zero) (λ i l. omega arith)
 listed_below (suc k) = listed_same (listed_either (listed_below k) (listed_one k)) (λ i. (λ h. ⊎_elim (λ l. omega arith) (λ e. omega arith) h, λ l. last i k l))
   where

@@ -1,5 +1,5 @@
 //! Laws of the definitions.
-ghost use Rattle.zf_total.specs.Laws.{EveryOutcome, EveryTruth, EveryCarrier};
+ghost use Rattle.zf_total.specs.Laws.{EveryOutcome, EveryTruth, EveryCarrier, SizesAreJudged, EveryEnvironment};
 
 /// Every expression has an outcome.
 pub fn every_outcome()
@@ -14,4 +14,14 @@ pub fn every_truth()
 /// Every type has a carrier.
 pub fn every_carrier()
     ensures { EveryCarrier }
+{}
+
+/// Stated sizes are complete, or they are refused.
+pub fn sizes_judged()
+    ensures { SizesAreJudged }
+{}
+
+/// Globals at complete sizes have an environment.
+pub fn every_environment()
+    ensures { EveryEnvironment }
 {}
