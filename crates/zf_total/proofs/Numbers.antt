@@ -17,9 +17,9 @@ use Rattle.zf_total.proofs.Sets.{set_of}
 
 -- ---- what is decided
 
-fits : (w : Width) (n : ℤ) → Decided (FitsSigned w n)
-fits w (pos n) = elim (cases_lt n (2 ^ hbits w)) [ inl l ↦ inl (record { sfits = l }) | inr l ↦ inr (λ f. omega (arith, f.sfits)) ]
-fits w (negsuc n) = elim (cases_lt n (2 ^ hbits w)) [ inl l ↦ inl (record { sfits = l }) | inr l ↦ inr (λ f. omega (arith, f.sfits)) ]
+pub decided_fits : (w : Width) (n : ℤ) → Decided (FitsSigned w n)
+decided_fits w (pos n) = elim (cases_lt n (2 ^ hbits w)) [ inl l ↦ inl (record { sfits = l }) | inr l ↦ inr (λ f. omega (arith, f.sfits)) ]
+decided_fits w (negsuc n) = elim (cases_lt n (2 ^ hbits w)) [ inl l ↦ inl (record { sfits = l }) | inr l ↦ inr (λ f. omega (arith, f.sfits)) ]
 
 pub decided_below : (a b : ℤ) → Decided (a <ℤ b)
 decided_below a b = by_lt_z a b (λ l. inl l) (λ m. inr (λ l. omega (arith, ints, l, m)))
@@ -33,7 +33,7 @@ same_number a b = by_lt_z a b (λ l. inr (λ e. omega (arith, ints, l, e))) (λ 
 -- ---- outcomes
 
 pub some_number : (n : ℤ) → HasSome (IsNumber n)
-some_number n = ⊎_elim (λ f. (Is (Int n), (refl, f))) (λ f. (Out, f)) (fits w64 n)
+some_number n = ⊎_elim (λ f. (Is (Int n), (refl, f))) (λ f. (Out, f)) (decided_fits w64 n)
 
 pub some_negation : (a : ℤ) → HasSome (IsNegation a)
 unfolding IsNegation
