@@ -1,5 +1,5 @@
 -- Stated sizes are complete, or one fault of theirs is the first.
-use Rattle.std.proofs.Common.{◌≡◌, ℕ, zero, suc, ◌+◌, ◌<◌, ◌≤◌, ◌⊎◌, List, [], ◌∷◌, ◌++◌, length, get_or, take, map, refl, sym, ap, ◌∙◌, subst, inl, inr, ⊎_elim, arith}
+use Rattle.std.proofs.Common.{◌≡◌, ℕ, zero, suc, ◌+◌, ◌<◌, ◌≤◌, ◌⊎◌, List, [], ◌∷◌, length, get_or, take, refl, ap, subst, inl, inr, ⊎_elim, arith}
 use Rattle.std.specs.Prelude.{◌≢◌, All, Contains}
 use Rattle.std.proofs.lemmas.Bool.{cases_eq, cases_lt}
 use Rattle.std.proofs.lemmas.List.Elements.{All-nil}
@@ -9,7 +9,7 @@ use Rattle.zf_term.specs.Definitions.{Defined, Definition, given_set, free_type,
 use Rattle.zf_meaning.specs.declared.sizes.Size.{Size}
 use Rattle.zf_meaning.specs.declared.sizes.SizeFault.{SizeFault}
 use Rattle.zf_meaning.specs.declared.sizes.SizeFault.TheVariants.{NoSize, NotGiven, SizeTwice, SizeTooLarge, OutOfMemory}
-use Rattle.zf_meaning.specs.Sizes.{with_given, given_sets, names, IsAccepted, AreAccepted, AreComplete, Refuses, LacksSize, IsRefusal, IsStated, AddsSize, AreSizes}
+use Rattle.zf_meaning.specs.Sizes.{with_given, given_sets, names, IsAccepted, AreAccepted, AreComplete, Refuses, IsRefusal, IsStated, AddsSize, AreSizes}
 use Rattle.zf_meaning.proofs.Accepting.{AreAccepted-none, AreAccepted-more, refusal-at, lack-at, sized-more}
 use Rattle.zf_total.proofs.Listed.{HasSome, Decided, decided_in, decided_lists}
 
