@@ -1,6 +1,6 @@
 -- What is written of a list of events: up to the last one that is written, or all.
-use Rattle.std.proofs.Common.{◌≡◌, ◌⊎◌, ◌↔◌, ℕ, ◌+◌, ◌<◌, ◌≤◌, List, [], ◌∷◌, ◌++◌, length, take, refl, sym, ap, ◌∙◌, subst, inl, inr, ⊎_elim, Option, Some, None, append_assoc, append-nil, length-append, arith}
-use Rattle.std.specs.Prelude.{◌≢◌, Contains, All, AllPairs, codes}
+use Rattle.std.proofs.Common.{◌≡◌, ◌⊎◌, ℕ, ◌+◌, List, [], ◌∷◌, ◌++◌, length, take, refl, sym, ap, ◌∙◌, subst, inl, inr, ⊎_elim, Option, Some, None, append_assoc, append-nil, length-append, arith}
+use Rattle.std.specs.Prelude.{◌≢◌, Contains, AllPairs, codes}
 use Rattle.std.specs.declared.cmp.Ordering.{Ordering}
 use Rattle.std.specs.declared.cmp.Ordering.TheVariants.{Less, Greater}
 use Rattle.std.specs.Cmp.{IsTotalOrder}
@@ -14,13 +14,11 @@ use Rattle.zf_walk.specs.declared.judge.Truth.TheVariants.{True, False, Out}
 use Rattle.zf_walk.specs.Conjuncts.{Conjuncts}
 use Rattle.zf_walk.specs.Events.{Event, IsEvent, IsEvents}
 use Rattle.zf_walk.specs.Rows.{ComesAfter}
-use Rattle.zf_walk.specs.Tests.{IsUpTo}
 use Rattle.zf_walk.proofs.Lists.{Contains-head, Contains-later, Contains-cases, Contains-nil, Contains-left, Contains-right, Contains-either, AllPairs-nil, AllPairs-cons, AllPairs-head, AllPairs-tail, AllPairs-across, AllPairs-back}
 use Rattle.zf_walk.proofs.Picks.{IsRowOf-length}
 use Rattle.zf_lines.specs.declared.fault.Status.{Status}
 use Rattle.zf_lines.specs.declared.fault.Status.TheVariants.{Done, PastBounds}
 use Rattle.zf_lines.specs.Searches.{AreEventsUpTo, Hold, lines, out_line, IsBelow, IsWritten, pauses, breaks, ends}
-use Rattle.zf_total.proofs.Listed.{HasSome}
 
 -- ---- a list of events is cut behind one of them, or not
 
@@ -97,15 +95,18 @@ module _ {V : Type 0} (cmp : V → V → Ordering) (order : IsTotalOrder cmp) (s
   never_both : (a b : List V) → ComesAfter cmp a b → ComesAfter cmp b a → ⊥
   never_both a b h k = let e : slice_cmp cmp a b ≡ Greater = (lists_total order).antisymm a b ∙ ap ordering_reverse k in let f : Less ≡ Greater = sym h ∙ e in (cc)
 
-  -- of rows of the ranges one is up to another exactly where it does not come after it
+  -- the row of one event has as many values as that of another
   up_to_of : (e f : Event V) → IsEvent cmp s ranges after e → IsEvent cmp s ranges after f → take (length f.row) e.row ≡ e.row
   up_to_of e f h k = take_all (length f.row) e.row (let a = IsRowOf-length ranges e.row h.within in let b = IsRowOf-length ranges f.row k.within in omega arith)
 
-  front_ascending : (front rest : List (Event V)) (e : Event V) → AllPairs (λ (e f : Event V). ComesAfter cmp e.row f.row) (front ++ e ∷ rest) → AllPairs (λ (e f : Event V). ComesAfter cmp e.row f.row) (front ++ e ∷ [])
-  front_ascending [] rest e h = AllPairs-cons (λ (e f : Event V). ComesAfter cmp e.row f.row) e [] (λ f m. absurd (Contains-nil f m)) (AllPairs-nil (λ (e f : Event V). ComesAfter cmp e.row f.row))
-  front_ascending (x ∷ front) rest e h = AllPairs-cons (λ (e f : Event V). ComesAfter cmp e.row f.row) x (front ++ e ∷ [])
-      (λ f m. AllPairs-head (λ (e f : Event V). ComesAfter cmp e.row f.row) x (front ++ e ∷ rest) h f (⊎_elim (λ a. Contains-left front (e ∷ rest) f a) (λ b. Contains-right front (e ∷ rest) f (first f b)) (Contains-either front (e ∷ []) f m)))
-      (front_ascending front rest e (AllPairs-tail (λ (e f : Event V). ComesAfter cmp e.row f.row) x (front ++ e ∷ rest) h))
+  abbrev IsBefore : Event V → Event V → Type 0
+  IsBefore e f = ComesAfter cmp e.row f.row
+
+  front_ascending : (front rest : List (Event V)) (e : Event V) → AllPairs IsBefore (front ++ e ∷ rest) → AllPairs IsBefore (front ++ e ∷ [])
+  front_ascending [] rest e h = AllPairs-cons IsBefore e [] (λ f m. absurd (Contains-nil f m)) (AllPairs-nil IsBefore)
+  front_ascending (x ∷ front) rest e h = AllPairs-cons IsBefore x (front ++ e ∷ [])
+      (λ f m. AllPairs-head IsBefore x (front ++ e ∷ rest) h f (⊎_elim (λ a. Contains-left front (e ∷ rest) f a) (λ b. Contains-right front (e ∷ rest) f (first f b)) (Contains-either front (e ∷ []) f m)))
+      (front_ascending front rest e (AllPairs-tail IsBefore x (front ++ e ∷ rest) h))
     where
       first : (f : Event V) → Contains (e ∷ []) f → Contains (e ∷ rest) f
       first f m = ⊎_elim (λ q. subst (Contains (e ∷ rest)) q (Contains-head e rest)) (λ n. absurd (Contains-nil f n)) (Contains-cases e [] f m)
@@ -127,7 +128,7 @@ module _ {V : Type 0} (cmp : V → V → Ordering) (order : IsTotalOrder cmp) (s
 
       not_after : (f : Event V) → Contains (front ++ e ∷ []) f → ComesAfter cmp e.row f.row → ⊥
       not_after f m c =
-          ⊎_elim (λ a. never_both f.row e.row (AllPairs-across (λ (e f : Event V). ComesAfter cmp e.row f.row) front (e ∷ rest) h.ascending f e a (Contains-head e rest)) c)
+          ⊎_elim (λ a. never_both f.row e.row (AllPairs-across IsBefore front (e ∷ rest) h.ascending f e a (Contains-head e rest)) c)
           (λ b. let q = subst (λ (g : Event V). ComesAfter cmp e.row g.row) (sym (alone f b)) c in never_both e.row e.row q q) (Contains-either front (e ∷ []) f m)
 
       back : (f : Event V) → IsEvent cmp s ranges after f → (ComesAfter cmp e.row f.row → ⊥) → Contains (front ++ e ∷ []) f
@@ -136,7 +137,7 @@ module _ {V : Type 0} (cmp : V → V → Ordering) (order : IsTotalOrder cmp) (s
           (λ b. ⊎_elim (λ q. Contains-right front (e ∷ []) f (subst (Contains (e ∷ [])) q (Contains-head e []))) (λ k. absurd (n (after_it f k))) (Contains-cases e rest f b)) (Contains-either front (e ∷ rest) f ((h.members f).1 i))
         where
           after_it : (f : Event V) → Contains rest f → ComesAfter cmp e.row f.row
-          after_it f k = AllPairs-head (λ (e f : Event V). ComesAfter cmp e.row f.row) e rest (AllPairs-back (λ (e f : Event V). ComesAfter cmp e.row f.row) front (e ∷ rest) h.ascending) f k
+          after_it f k = AllPairs-head IsBefore e rest (AllPairs-back IsBefore front (e ∷ rest) h.ascending) f k
 
   pub cut_events : (all : List (Event V)) (last : Option (List V)) (events : List (Event V)) → IsEvents cmp s ranges after all → IsCut all last events → AreEventsUpTo cmp s ranges after last events
   cut_events all last events h (inl c) =

@@ -1,5 +1,5 @@
 -- What lies in declared sets is decided, and where they are bounded it is listed.
-use Rattle.std.proofs.Common.{◌≡◌, ◌⊎◌, ◌↔◌, Bool, true, false, not, ◌&&◌, ◌||◌, refl, sym, ap, ◌∙◌, subst, inl, inr, ⊎_elim, Option, Some, None}
+use Rattle.std.proofs.Common.{◌≡◌, Bool, true, false, not, subst, inl, inr, ⊎_elim, Option, Some, None}
 use Rattle.std.proofs.lemmas.Bool.{and_parts, or_cases}
 use Rattle.zf_term.specs.declared.extent.Infinite.{Infinite}
 use Rattle.zf_term.specs.Definitions.{DeclaredSet, plain, carrier, sides, DeclaredSets, no_sets, set}
@@ -14,11 +14,10 @@ use Rattle.zf_value.specs.Sets.{IsMember, members}
 use Rattle.zf_meaning.specs.Environments.{Environment, globally}
 use Rattle.zf_meaning.specs.Meaning.{HasOutcome}
 use Rattle.zf_meaning.specs.Carriers.{IsCarrier}
-use Rattle.zf_meaning.specs.Symbols.{IsIn}
 use Rattle.zf_meaning.proofs.Environments.{one_carrier}
 use Rattle.zf_meaning.proofs.Unique.{one_outcome}
 use Rattle.zf_enum.specs.DeclaredSets.{IsInOne, IsInPlain, IsInCarrier, IsInSet, IsInSets, IsPlainOut, IsCarrierOut, IsSetOut, IsOneOut}
-use Rattle.zf_total.proofs.Listed.{HasSome, Decided, decided_both, decided_either, decided_in, Listed, listed_same, listed_none, listed_either, listed_kept}
+use Rattle.zf_total.proofs.Listed.{Decided, decided_both, decided_either, decided_in, Listed, listed_same, listed_none, listed_either, listed_kept}
 use Rattle.zf_total.proofs.Carriers.{some_carrier}
 use Rattle.zf_total.proofs.Terms.{some_outcome}
 use Rattle.zf_total.proofs.Truths.{decided_is_in}

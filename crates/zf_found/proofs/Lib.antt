@@ -1,4 +1,3 @@
-pub mod Orders
 pub mod Rows
 pub mod Tests
 pub mod Cuts

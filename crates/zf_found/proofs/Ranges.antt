@@ -1,35 +1,18 @@
 -- The first component that is out, and the ranges of bounded ones.
-use Rattle.std.proofs.Common.{◌≡◌, ◌⊎◌, ℕ, zero, suc, ◌<◌, List, [], ◌∷◌, length, refl, sym, ap, subst, inl, inr, ⊎_elim, Option, Some, None, arith}
+use Rattle.std.proofs.Common.{◌≡◌, ◌⊎◌, ℕ, zero, suc, ◌<◌, List, [], ◌∷◌, length, refl, subst, inl, inr, ⊎_elim, Option, Some, None, arith}
 use Rattle.std.specs.Prelude.{slice_get, IsTrue}
 use Rattle.std.specs.List.{AllByRecursion}
 use Rattle.zf_term.specs.Definitions.{Comp, sets_of}
 use Rattle.zf_finite.specs.Finite.{one_bounds}
-use Rattle.zf_value.specs.declared.value.Value.{Value}
 use Rattle.zf_meaning.specs.Environments.{Environment}
-use Rattle.zf_enum.specs.DeclaredSets.{IsInSets, IsOneOut}
+use Rattle.zf_enum.specs.DeclaredSets.{IsOneOut}
 use Rattle.zf_enum.specs.Ranges.{IsRange, AreRanges, IsOutAt, IsNoneOut, IsFirstOut}
 use Rattle.zf_total.proofs.Listed.{HasSome, Decided}
+use Rattle.zf_total.proofs.Naturals.{first_or_none}
 use Rattle.zf_total.proofs.Sets.{ordered}
 use Rattle.zf_found.proofs.DeclaredSets.{decided_one_out, listed_in_sets}
 
 -- ---- the first that is out
-
--- the first number of which Q holds, or none below k
-first_or_none : (Q : ℕ → Type 0) → ((n : ℕ) → Decided (Q n)) → (k : ℕ) → ((n : ℕ) × Q n × ((m : ℕ) → m < n → Q m → ⊥)) ⊎ ((m : ℕ) → m < k → Q m → ⊥)
-first_or_none Q d zero = inr (λ m l q. omega arith)
-first_or_none Q d (suc k) = elim (first_or_none Q d k) [
-  | inl h ↦ inl h
-  | inr g ↦ ⊎_elim (λ q. inl (k, q, g)) (λ n. inr (λ m l q. below m n g l q)) (d k)
-]
-  where
-    last : (m n : ℕ) → m < suc n → (m < n) ⊎ (n ≡ m)
-    last zero zero l = inr refl
-    last zero (suc n) l = inl (omega arith)
-    last (suc m) zero l = absurd (omega arith)
-    last (suc m) (suc n) l = ⊎_elim (λ h. inl (omega arith)) (λ e. inr (ap suc e)) (last m n (omega arith))
-
-    below : (m : ℕ) → (Q k → ⊥) → ((m : ℕ) → m < k → Q m → ⊥) → m < suc k → Q m → ⊥
-    below m n g l q = ⊎_elim (λ h. g m h q) (λ e. n (subst Q (sym e) q)) (last m k l)
 
 got_below : {A : Type 0} (xs : List A) (i : ℕ) (x : A) → slice_get xs i ≡ Some x → i < length xs
 got_below [] i x h = absurd (cc)

@@ -1,6 +1,6 @@
 -- Rows of finite ranges, the truth of each, and the list of the events.
-use Rattle.std.proofs.Common.{◌≡◌, ◌⊎◌, ◌↔◌, ℕ, ◌<◌, List, [], ◌∷◌, length, take, map, refl, sym, ap, ◌∙◌, subst, inl, inr, ⊎_elim, Option, Some, None, arith}
-use Rattle.std.specs.Prelude.{◌≢◌, Contains, AllPairs}
+use Rattle.std.proofs.Common.{◌≡◌, ◌⊎◌, ◌↔◌, ℕ, ◌<◌, List, [], ◌∷◌, map, refl, sym, ap, subst, inl, inr, ⊎_elim, Option, Some, None}
+use Rattle.std.specs.Prelude.{◌≢◌, Contains}
 use Rattle.std.specs.declared.cmp.Ordering.{Ordering}
 use Rattle.std.specs.declared.cmp.Ordering.TheVariants.{Less, Equal, Greater}
 use Rattle.std.specs.Cmp.{IsTotalOrder}
@@ -11,9 +11,9 @@ use Rattle.zf_walk.specs.Conjuncts.{Conjuncts, IsTruthOf}
 use Rattle.zf_walk.specs.Events.{Event, IsEvent, IsEvents}
 use Rattle.zf_walk.specs.Rows.{TiesAreEqual, ComesAfter, IsLater, IsRowOf, IsFrontOf}
 use Rattle.zf_walk.proofs.Order.{slice-ties}
-use Rattle.zf_total.proofs.Listed.{HasSome, Decided, decided_not, Listed, listed_same, listed_none, listed_one, listed_either, listed_image, listed_kept, listed_pairs, one_or_all, swapped}
-use Rattle.zf_total.proofs.Operations.{listed_below}
-use Rattle.zf_found.proofs.Orders.{Ordered, ordered, Contains-map, Contains-mapped, AllPairs-mapped}
+use Rattle.zf_total.proofs.Listed.{HasSome, Decided, decided_not, Listed, listed_same, listed_one, listed_either, listed_image, listed_kept, listed_pairs, one_or_all, swapped}
+use Rattle.zf_total.proofs.Naturals.{listed_below}
+use Rattle.zf_total.proofs.Orders.{in_order, Contains-map, Contains-mapped, AllPairs-mapped}
 
 -- ---- what is decided
 
@@ -132,7 +132,7 @@ module _ {V : Type 0} (s : Conjuncts V) (told : AreTold s) where
 
     pub some_events : HasSome (IsEvents cmp s ranges after)
     some_events =
-        let rows = ordered (slice_cmp cmp) (lists_total order) (slice-ties cmp order ties) found in (
+        let rows = in_order (slice_cmp cmp) (lists_total order) (slice-ties cmp order ties) found in (
           map event_of rows.list,
           record {
             ascending = AllPairs-mapped event_of (λ e f. ComesAfter cmp e.row f.row) rows.list rows.ascending;

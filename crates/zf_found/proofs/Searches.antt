@@ -1,5 +1,5 @@
 -- The property of a schema has one truth on each row, so a search has events and a number of tests.
-use Rattle.std.proofs.Common.{◌≡◌, ◌⊎◌, ℕ, zero, suc, ◌<◌, List, [], ◌∷◌, length, refl, sym, ap, ◌∙◌, subst, inl, inr, ⊎_elim, Option, Some, None, Bool, true, false, arith}
+use Rattle.std.proofs.Common.{◌≡◌, ℕ, zero, suc, ◌<◌, List, [], ◌∷◌, length, refl, subst, inl, inr, ⊎_elim, Option, Some, None, Bool, true, false, arith}
 use Rattle.std.specs.Prelude.{slice_get}
 use Rattle.zf_term.specs.Definitions.{Schema}
 use Rattle.zf_term.specs.ResolvedTrees.{ResolvedTree}
@@ -11,12 +11,13 @@ use Rattle.zf_value.specs.Sets.{value_order}
 use Rattle.zf_value.proofs.Exact.{exact}
 use Rattle.zf_walk.specs.declared.judge.Truth as walk
 use Rattle.zf_walk.specs.declared.judge.Truth.TheVariants.{True, False, Out}
-use Rattle.zf_walk.specs.Events.{Event}
+use Rattle.zf_walk.specs.Events.{Event, IsEvents}
 use Rattle.zf_walk.specs.Tests.{cut}
 use Rattle.zf_meaning.specs.Environments.{Environment}
 use Rattle.zf_meaning.specs.InRow.{in_row}
 use Rattle.zf_meaning.specs.Meaning.{IsTruth}
 use Rattle.zf_meaning.proofs.Unique.{one_truth}
+use Rattle.zf_enum.specs.Events.{AreEvents, IsBoundOf}
 use Rattle.zf_enum.specs.Property.{HasTruth, told, property}
 use Rattle.zf_enum.specs.Ranges.{AreRanges}
 use Rattle.zf_lines.specs.declared.fault.Status.{Status}
@@ -27,7 +28,7 @@ use Rattle.zf_total.proofs.Terms.{some_truth}
 use Rattle.zf_total.proofs.Values.{same_value}
 use Rattle.zf_found.proofs.Cuts.{some_written, cut_events, not_false}
 use Rattle.zf_found.proofs.Rows.{AreTold, same_truth, some_events}
-use Rattle.zf_found.proofs.Tests.{some_number_of_tests}
+use Rattle.zf_found.proofs.Tests.{some_bound, some_number_of_tests}
 
 -- ---- one truth
 
@@ -74,16 +75,27 @@ property_told e ts = record {
 
 -- ---- searches
 
+events_of : (e : Environment) (a : Schema) (ranges : List (List Value)) (after : Option (List Value)) → HasSome (IsEvents value_order (property e a.conjuncts) ranges after)
+events_of e a ranges after = some_events (property e a.conjuncts) (property_told e a.conjuncts) value_order total-law exact ranges after
+
+pub some_list : (e : Environment) (a : Schema) (ranges : List (List Value)) (after : Option (List Value)) → AreRanges e a.comps ranges → HasSome (AreEvents e a after)
+some_list e a ranges after r = let all = events_of e a ranges after in (all.0, record { ranges = ranges; of_components = r; listed = all.1 })
+
+pub some_bound_of : (e : Environment) (a : Schema) (ranges : List (List Value)) → AreRanges e a.comps ranges → HasSome (IsBoundOf e a)
+some_bound_of e a ranges r =
+    let n = some_bound value_order (property e a.conjuncts) (property_told e a.conjuncts) ranges same_value in
+    (n.0, record { ranges = ranges; of_components = r; counted = n.1 })
+
 pub some_search : (e : Environment) (a : Schema) (ranges : List (List Value)) (after : Option (List Value)) (limit : Option ℕ) (line : List Value → List ℕ) → AreRanges e a.comps ranges → IsBelow limit 0
     → (last : Option (List Value)) × (events : List (Event Value)) × (text : List ℕ) × (status : Status) × HasEvents e a after last events × IsWritten line limit events last text status
 some_search e a ranges after limit line r l =
     let s = property e a.conjuncts in
-    let all = some_events s (property_told e a.conjuncts) value_order total-law exact ranges after in
+    let all = events_of e a ranges after in
     let w = some_written line limit all.0 l (not_false value_order total-law s ranges after all.0 all.1) in
     (w.last, w.events, w.text, w.status, record { ranges = ranges; of_components = r; listed = cut_events value_order total-law s ranges after all.0 w.last w.events all.1 w.cut }, w.written)
 
 pub some_tests_line : (e : Environment) (a : Schema) (ranges : List (List Value)) (after last : Option (List Value)) (tests : Bool) → AreRanges e a.comps ranges → HasSome (IsTestsLine tests e a after last)
 some_tests_line e a ranges after last false r = ([], refl)
 some_tests_line e a ranges after last true r =
-    let n = some_number_of_tests value_order (property e a.conjuncts) (property_told e a.conjuncts) ranges after last same_value in
+    let n = some_number_of_tests value_order (property e a.conjuncts) (property_told e a.conjuncts) ranges same_value after last in
     (tests_line (cut n.0), (n.0, record { ranges = ranges; of_components = r; counted = n.1 }, refl))

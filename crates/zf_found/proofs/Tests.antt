@@ -1,21 +1,16 @@
 -- The number of the tests of a walk.
-use Rattle.std.proofs.Common.{◌≡◌, ◌⊎◌, ◌↔◌, ℕ, ◌<◌, List, length, take, refl, sym, ap, subst, inl, inr, Option, Some, None, arith}
-use Rattle.std.specs.Prelude.{◌≢◌, Contains, AllPairs}
+use Rattle.std.proofs.Common.{◌≡◌, ℕ, ◌<◌, List, length, take, refl, ap, inl, Option, Some, None}
 use Rattle.std.specs.declared.cmp.Ordering.{Ordering}
 use Rattle.std.specs.declared.cmp.Ordering.TheVariants.{Less, Greater}
 use Rattle.std.specs.Cmp.Lexicographic.{slice_cmp}
-use Rattle.std.proofs.lemmas.Bool.{cases_eq, cases_lt}
+use Rattle.std.proofs.lemmas.Bool.{cases_eq}
 use Rattle.zf_walk.specs.declared.judge.Truth.TheVariants.{False}
 use Rattle.zf_walk.specs.Conjuncts.{Conjuncts}
-use Rattle.zf_walk.specs.Rows.{ComesAfter, IsFrontOf}
-use Rattle.zf_walk.specs.Tests.{IsCandidate, IsPair, IsReached, IsWalked, IsUpTo, IsNumber, IsNumberOfTests}
+use Rattle.zf_walk.specs.Tests.{IsPair, IsReached, IsWalked, IsUpTo, IsNumber, IsNumberOfTests, IsBound}
 use Rattle.zf_total.proofs.Listed.{HasSome, Decided, decided_both, decided_not, decided_then, decided_same, decided_all, decided_lists, Listed, listed_same, listed_kept, listed_pairs}
-use Rattle.zf_total.proofs.Operations.{listed_below}
-use Rattle.zf_found.proofs.Orders.{distinct_of}
+use Rattle.zf_total.proofs.Naturals.{decided_lt, listed_below}
+use Rattle.zf_total.proofs.Orders.{distinct_of}
 use Rattle.zf_found.proofs.Rows.{AreTold, same_ordering, fronts_of}
-
-decided_lt : (m n : ℕ) → Decided (m < n)
-decided_lt m n = elim (cases_lt m n) [ inl l ↦ inl l | inr l ↦ inr (λ k. omega arith) ]
 
 same_pair : {A B : Type 0} → ((x y : A) → Decided (x ≡ y)) → ((x y : B) → Decided (x ≡ y)) → (p q : A × B) → Decided (p ≡ q)
 same_pair f g p q = decided_same (λ e. (λ i. (e.0 i, e.1 i))) (λ e. (ap (λ r. r.0) e, ap (λ r. r.1) e)) (decided_both (f p.0 q.0) (g p.1 q.1))
@@ -52,18 +47,23 @@ module _ {V : Type 0} (cmp : V → V → Ordering) where
     decided_unbroken : (row : List V) (c : ℕ) → Decided (IsUnbroken row c)
     decided_unbroken row c = decided_all (λ d. s.due d ≡ length row → s.says d row False → ⊥) (listed_below c) (λ d. decided_then (cases_eq (s.due d) (length row)) (decided_not (told.decided d row False)))
 
-    module _ (ranges : List (List V)) (after whole : Option (List V)) where
-      abbrev IsTest : List V × ℕ → Type 0
-      IsTest p = (IsKept p.0 × (s.due p.1 ≡ length p.0)) × (IsUnbroken p.0 p.1 × (IsReached cmp after (length ranges) p.0 × IsUpTo cmp whole p.0))
+    module _ (ranges : List (List V)) where
+      listed_due : Listed (λ (p : List V × ℕ). IsPair s ranges p)
+      listed_due =
+          listed_same (listed_kept (λ (p : List V × ℕ). IsKept p.0 × (s.due p.1 ≡ length p.0)) (listed_pairs (λ row c. c < s.number) (fronts_of ranges) (λ row. listed_below s.number)) (λ p. decided_both (decided_kept p.0) (cases_eq (s.due p.1) (length p.0)))) (λ p. (
+            λ h. record { candidate = record { front = h.0.0; kept = h.1.0 }; conjunct = h.0.1; due = h.1.1 },
+            λ h. let c = h.candidate in ((c.front, h.conjunct), (c.kept, h.due)),
+          ))
 
-      decided_test : (p : List V × ℕ) → Decided (IsTest p)
-      decided_test p = decided_both (decided_both (decided_kept p.0) (cases_eq (s.due p.1) (length p.0))) (decided_both (decided_unbroken p.0 p.1) (decided_both (decided_reached after (length ranges) p.0) (decided_up_to whole p.0)))
+      listed_tests : (after whole : Option (List V)) → Listed (λ (p : List V × ℕ). IsWalked cmp s ranges after p × IsUpTo cmp whole p.0)
+      listed_tests after whole =
+          listed_same (listed_kept (λ (p : List V × ℕ). IsUnbroken p.0 p.1 × (IsReached cmp after (length ranges) p.0 × IsUpTo cmp whole p.0)) listed_due (λ p. decided_both (decided_unbroken p.0 p.1) (decided_both (decided_reached after (length ranges) p.0) (decided_up_to whole p.0)))) (λ p. (
+            λ h. (record { is_pair = h.0; first = h.1.0; reached = h.1.1.0 }, h.1.1.1),
+            λ h. let w = h.0 in (w.is_pair, (w.first, (w.reached, h.1))),
+          ))
 
-      listed_tests : Listed (λ (p : List V × ℕ). IsWalked cmp s ranges after p × IsUpTo cmp whole p.0)
-      listed_tests = listed_same (listed_kept IsTest (listed_pairs (λ row c. c < s.number) (fronts_of ranges) (λ row. listed_below s.number)) decided_test) (λ p. (
-        λ h. (record { is_pair = record { candidate = record { front = h.0.0; kept = h.1.0.0 }; conjunct = h.0.1; due = h.1.0.1 }; first = h.1.1.0; reached = h.1.1.1.0 }, h.1.1.1.1),
-        λ h. let w = h.0 in let i = w.is_pair in let c = i.candidate in ((c.front, i.conjunct), ((c.kept, i.due), (w.first, (w.reached, h.1)))),
-      ))
+      pub some_bound : ((v w : V) → Decided (v ≡ w)) → HasSome (IsBound s ranges)
+      some_bound same = some_count same (λ (p : List V × ℕ). IsPair s ranges p) listed_due
 
-      pub some_number_of_tests : ((v w : V) → Decided (v ≡ w)) → HasSome (IsNumberOfTests cmp s ranges after whole)
-      some_number_of_tests same = some_count same (λ (p : List V × ℕ). IsWalked cmp s ranges after p × IsUpTo cmp whole p.0) listed_tests
+      pub some_number_of_tests : ((v w : V) → Decided (v ≡ w)) → (after whole : Option (List V)) → HasSome (IsNumberOfTests cmp s ranges after whole)
+      some_number_of_tests same after whole = some_count same (λ (p : List V × ℕ). IsWalked cmp s ranges after p × IsUpTo cmp whole p.0) (listed_tests after whole)

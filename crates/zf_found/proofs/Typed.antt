@@ -1,9 +1,8 @@
 -- Whether a value is of a type is decided.
-use Rattle.std.proofs.Common.{◌≡◌, ◌⊎◌, ◌↔◌, ℕ, ◌<◌, ◌≤◌, ℤ, List, [], ◌∷◌, length, refl, sym, ap, ◌∙◌, subst, inl, inr, ⊎_elim, Option, Some, None, arith}
+use Rattle.std.proofs.Common.{◌≡◌, ℕ, ◌<◌, ◌≤◌, ℤ, List, [], ◌∷◌, length, refl, sym, ap, ◌∙◌, subst, inl, inr, Option, Some, None}
 use Rattle.std.specs.Prelude.{slice_get, FitsSigned}
 use Rattle.std.specs.Int.{w64}
 use Rattle.std.specs.declared.cmp.Ordering.TheVariants.{Less}
-use Rattle.std.proofs.lemmas.Bool.{cases_lt}
 use Rattle.zf_term.specs.Types.{Ty, int, basic, power, product, Tys, no_types, type}
 use Rattle.zf_value.specs.declared.TheConstants.{SET_MAX}
 use Rattle.zf_value.specs.declared.value.Value.{Value, Int, Elem, Tuple, SetOf}
@@ -13,7 +12,7 @@ use Rattle.zf_meaning.specs.Environments.{Environment, type_number}
 use Rattle.zf_meaning.specs.Rows.{IsElement, IsOfType, AreOfTypes}
 use Rattle.zf_total.proofs.Listed.{Decided, decided_both, decided_same, decided_some}
 use Rattle.zf_total.proofs.Numbers.{decided_fits, number_or_not}
-use Rattle.zf_total.proofs.Operations.{listed_below}
+use Rattle.zf_total.proofs.Naturals.{decided_le, listed_below}
 use Rattle.zf_total.proofs.Values.{same_value, same_row}
 use Rattle.zf_found.proofs.Rows.{same_ordering}
 
@@ -24,9 +23,6 @@ decided_every P d (x ∷ xs) = decided_both (d x) (decided_every P d xs)
 decided_ascending : (xs : List Value) → Decided (IsAscending xs)
 decided_ascending [] = inl tt
 decided_ascending (x ∷ xs) = decided_both (decided_every (λ y. value_order x y ≡ Less) (λ y. same_ordering (value_order x y) Less) xs) (decided_ascending xs)
-
-decided_le : (m n : ℕ) → Decided (m ≤ n)
-decided_le m n = elim (cases_lt n m) [ inl l ↦ inr (λ k. omega arith) | inr l ↦ inl l ]
 
 number_here : (v : Value) → Decided ((n : ℤ) × (v ≡ Int n) × FitsSigned w64 n)
 number_here v = elim (number_or_not v) [

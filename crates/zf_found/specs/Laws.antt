@@ -6,6 +6,7 @@ use Rattle.zf_finite.specs.Finite.{one_bounds}
 use Rattle.zf_value.specs.declared.value.Value.{Value}
 use Rattle.zf_walk.specs.Events.{Event}
 use Rattle.zf_meaning.specs.Environments.{Environment}
+use Rattle.zf_enum.specs.Events.{AreEvents, IsBoundOf}
 use Rattle.zf_enum.specs.Ranges.{AreRanges, IsNoneOut, IsFirstOut}
 use Rattle.zf_lines.specs.declared.fault.Status.{Status}
 use Rattle.zf_lines.specs.Searches.{HasEvents, IsBelow, IsWritten, IsTestsLine}
@@ -18,6 +19,10 @@ OutIsDecided = (e : Environment) (cs : List Comp) → ((place : ℕ) × IsFirstO
 abbrev pub EveryRange : Type 0
 EveryRange = (e : Environment) (cs : List Comp) → AllByRecursion (λ c. IsTrue (one_bounds e.globals (sets_of c.sets))) cs → (ranges : List (List Value)) × AreRanges e cs ranges
 
+-- Where there are ranges, there is the list of the events after any row.
+abbrev pub EveryEvent : Type 0
+EveryEvent = (e : Environment) (a : Schema) (ranges : List (List Value)) (after : Option (List Value)) → AreRanges e a.comps ranges → (events : List (Event Value)) × AreEvents e a after events
+
 -- Where there are ranges, each search has events, after any row and up to any limit from 1 on, and something to write of them.
 abbrev pub EverySearch : Type 0
 EverySearch =
@@ -27,3 +32,7 @@ EverySearch =
 -- Up to any row, or to the end, it has a number of tests.
 abbrev pub EveryNumberOfTests : Type 0
 EveryNumberOfTests = (e : Environment) (a : Schema) (ranges : List (List Value)) (after last : Option (List Value)) (tests : Bool) → AreRanges e a.comps ranges → (text : List ℕ) × IsTestsLine tests e a after last text
+
+-- The tests of all searches have a bound.
+abbrev pub EveryBound : Type 0
+EveryBound = (e : Environment) (a : Schema) (ranges : List (List Value)) → AreRanges e a.comps ranges → (bound : ℕ) × IsBoundOf e a bound

@@ -1,5 +1,5 @@
 //! Laws of the definitions.
-ghost use Rattle.zf_found.specs.Laws.{OutIsDecided, EveryRange, EverySearch, EveryNumberOfTests};
+ghost use Rattle.zf_found.specs.Laws.{OutIsDecided, EveryRange, EveryEvent, EverySearch, EveryNumberOfTests, EveryBound};
 
 /// One component is the first that is out, or none is.
 pub fn out_decided()
@@ -11,8 +11,14 @@ pub fn every_range()
     ensures { EveryRange }
 {}
 
-/// A search has events and something to write of them, and a number of tests.
+/// Over ranges there is the list of the events, and each search has some of them, and something to write.
 pub fn every_search()
-    ensures events { EverySearch }
+    ensures events { EveryEvent }
+    ensures searches { EverySearch }
+{}
+
+/// Each search has a number of tests, and all have a bound.
+pub fn every_number()
     ensures tests { EveryNumberOfTests }
+    ensures bound { EveryBound }
 {}

@@ -1,4 +1,6 @@
 pub mod Listed
+pub mod Orders
+pub mod Naturals
 pub mod Values
 pub mod Sets
 pub mod Numbers

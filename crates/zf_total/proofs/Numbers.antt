@@ -1,5 +1,5 @@
 -- Numbers: each operation on them has an outcome.
-use Rattle.std.proofs.Common.{◌≡◌, ◌⊎◌, ◌↔◌, ℕ, zero, suc, ◌+◌, ◌^◌, ◌<◌, ℤ, Option, Some, None, refl, sym, ap, ◌∙◌, subst, inl, inr, ⊎_elim, arith}
+use Rattle.std.proofs.Common.{◌≡◌, ◌⊎◌, ℕ, zero, suc, ◌^◌, ℤ, Option, Some, None, refl, sym, inl, inr, ⊎_elim, arith}
 use Rattle.std.specs.Prelude.{pos, negsuc, ◌+ℤ◌, ◌-ℤ◌, ◌≤ℤ◌, ◌<ℤ◌, neg_ℤ, FitsSigned}
 use Rattle.std.specs.Int.{w64, Width}
 use Rattle.std.specs.Int.RustNames.{int_div, int_rem}
@@ -9,10 +9,10 @@ use mir.Val.{hbits}
 use Rattle.zf_value.specs.declared.value.Value.{Value, Int}
 use Rattle.zf_value.specs.declared.value.Outcome.{Outcome}
 use Rattle.zf_value.specs.declared.value.Outcome.TheVariants.{Is, Undefined, Out}
-use Rattle.zf_value.specs.Numbers.{number_of, IsNumber, OnNumber, OnNumbers, IsRemainder, IsDivision, IsNegation, IsSum, IsDifference, IsProduct, IsQuotient, IsModulus, IsBetweenNumbers, IsInterval}
+use Rattle.zf_value.specs.Numbers.{number_of, IsNumber, OnNumber, OnNumbers, IsDivision, IsNegation, IsSum, IsDifference, IsProduct, IsQuotient, IsModulus, IsBetweenNumbers, IsInterval}
 use Rattle.zf_value.proofs.Divisions.{down, up}
 use Rattle.zf_value.proofs.Seen.{is_Int, no_Int}
-use Rattle.zf_total.proofs.Listed.{HasSome, Decided, decided_both, decided_either, decided_same, Listed, listed_same, listed_none, listed_one, listed_either, listed_image}
+use Rattle.zf_total.proofs.Listed.{HasSome, Decided, decided_both, decided_either, Listed, listed_same, listed_none, listed_one, listed_either, listed_image}
 use Rattle.zf_total.proofs.Sets.{set_of}
 
 -- ---- what is decided

@@ -1,27 +1,17 @@
 -- Sets and relations: each operation on them has an outcome.
-use Rattle.std.proofs.Common.{◌≡◌, ◌⊎◌, ◌↔◌, ℕ, zero, suc, ◌<◌, List, [], ◌∷◌, length, refl, sym, ap, ◌∙◌, subst, inl, inr, ⊎_elim, arith}
+use Rattle.std.proofs.Common.{◌≡◌, ℕ, List, length, refl, sym, subst, inl, inr, ⊎_elim}
 use Rattle.std.specs.Prelude.{pos}
 use Rattle.zf_value.specs.declared.value.Value.{Value, Elem, Tuple, SetOf}
-use Rattle.zf_value.specs.declared.value.Outcome.{Outcome}
-use Rattle.zf_value.specs.declared.value.Outcome.TheVariants.{Is, Undefined, Out}
-use Rattle.zf_value.specs.Operations.{pair, AreFrom, IsElement, AreElements, IsDisplay, IsUnion, IsIntersection, IsSetDifference, IsSize, IsCross, IsSubset, IsPower, Relates, IsInDomain, IsInRange, IsDomain, IsRange, IsInverse, IsImage, IsComposition, IsPairOf, IsOverriding, IsDomainRestriction, IsDomainSubtraction, IsRangeRestriction, IsRangeSubtraction, RelatesOnly, IsApplied, IsBetween, IsFunctional, IsInjective, IsTotal, IsRelationThat, AreRelations, ArePartialFunctions, AreTotalFunctions, ArePartialInjections, AreTotalInjections}
+use Rattle.zf_value.specs.declared.value.Outcome.TheVariants.{Is, Undefined}
+use Rattle.zf_value.specs.Operations.{pair, IsElement, AreElements, IsDisplay, IsUnion, IsIntersection, IsSetDifference, IsSize, IsCross, IsPower, Relates, IsInDomain, IsInRange, IsDomain, IsRange, IsInverse, IsImage, IsComposition, IsPairOf, IsOverriding, IsDomainRestriction, IsDomainSubtraction, IsRangeRestriction, IsRangeSubtraction, IsApplied, IsBetween, IsFunctional, IsInjective, IsTotal, IsRelationThat, AreRelations, ArePartialFunctions, AreTotalFunctions, ArePartialInjections, AreTotalInjections}
 use Rattle.zf_value.specs.Sets.{IsMember, IsAscending, AreAmong, IsSetOf}
-use Rattle.zf_total.proofs.Listed.{HasSome, Decided, decided_both, decided_not, decided_then, decided_same, decided_some, decided_all, decided_in, Listed, listed_same, listed_none, listed_one, listed_either, listed_image, listed_kept, listed_pairs}
+use Rattle.zf_total.proofs.Listed.{HasSome, Decided, decided_both, decided_not, decided_then, decided_same, decided_some, decided_all, decided_in, Listed, listed_same, listed_either, listed_image, listed_kept, listed_pairs}
+use Rattle.zf_total.proofs.Naturals.{listed_below}
 use Rattle.zf_total.proofs.Numbers.{some_number}
 use Rattle.zf_total.proofs.Sets.{set_of, listed_parts}
 use Rattle.zf_total.proofs.Values.{same_value, decided_member, listed_members, listed_rows, listed_related}
 
 -- ---- elements
-
-pub listed_below : (k : ℕ) → Listed (λ (i : ℕ). i < k)
-listed_below zero = listed_none (λ (i : ℕ). i < zero) (λ i l. omega arith)
-listed_below (suc k) = listed_same (listed_either (listed_below k) (listed_one k)) (λ i. (λ h. ⊎_elim (λ l. omega arith) (λ e. omega arith) h, λ l. last i k l))
-  where
-    last : (i n : ℕ) → i < suc n → (i < n) ⊎ (n ≡ i)
-    last zero zero l = inr refl
-    last zero (suc n) l = inl (omega arith)
-    last (suc i) zero l = absurd (omega arith)
-    last (suc i) (suc n) l = ⊎_elim (λ m. inl (omega arith)) (λ e. inr (ap suc e)) (last i n (omega arith))
 
 pub some_elements : (n k : ℕ) → HasSome (AreElements n k)
 unfolding AreElements IsElement

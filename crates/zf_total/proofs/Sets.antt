@@ -1,16 +1,18 @@
 -- Sets: what a list has is a set, or is out.
-use Rattle.std.proofs.Common.{◌≡◌, ◌⊎◌, ◌↔◌, ℕ, ◌+◌, ◌<◌, ◌≤◌, List, [], ◌∷◌, length, take, refl, sym, ap, ◌∙◌, subst, inl, inr, ⊎_elim, Ordering, Less, Equal, Greater, arith, length-take}
+use Rattle.std.proofs.Common.{◌≡◌, ◌⊎◌, ◌↔◌, ℕ, ◌+◌, ◌≤◌, List, [], ◌∷◌, length, take, refl, sym, ap, subst, inl, inr, ⊎_elim, Less, arith, length-take}
+use Rattle.std.specs.Prelude.{AllPairs}
 use Rattle.std.proofs.lemmas.Bool.{cases_lt}
+use Rattle.zf_walk.proofs.Lists.{AllPairs-head, AllPairs-tail}
 use Rattle.zf_value.specs.contracts.value.ValueOrd.TheImpl.Laws.{total-law}
 use Rattle.zf_value.specs.declared.TheConstants.{SET_MAX}
 use Rattle.zf_value.specs.declared.value.Value.{Value, SetOf}
-use Rattle.zf_value.specs.declared.value.Outcome.{Outcome}
-use Rattle.zf_value.specs.declared.value.Outcome.TheVariants.{Is, Undefined, Out}
+use Rattle.zf_value.specs.declared.value.Outcome.TheVariants.{Is, Out}
 use Rattle.zf_value.specs.Sets.{value_order, IsMember, Every, IsAscending, AreAmong, IsSetOf}
-use Rattle.zf_value.proofs.Among.{every_from, every_at, every-take, every_also, ascending-take, contained, member, not_below_itself}
+use Rattle.zf_value.proofs.Among.{every_from, every_at, every-take, ascending-take, contained, member, not_below_itself}
 use Rattle.zf_value.proofs.Exact.{exact}
-use Rattle.zf_total.proofs.Listed.{HasSome, Decided, Listed, listed_same, listed_one, listed_either, listed_image}
-use Rattle.zf_total.proofs.Values.{below_from_above, same_value}
+use Rattle.zf_total.proofs.Listed.{HasSome, Listed, listed_same, listed_one, listed_either, listed_image}
+use Rattle.zf_total.proofs.Orders.{in_order}
+use Rattle.zf_total.proofs.Values.{same_value}
 
 -- ---- in order
 
@@ -20,44 +22,15 @@ pub record Ordered (P : Value → Type 0) : Type 0 where
   pub ascending : IsAscending list
   pub members : (z : Value) → IsMember z list ↔ P z
 
-above_rest : (x y : Value) (ys : List Value) → value_order x y ≡ Less → Every (λ z. value_order y z ≡ Less) ys → Every (λ z. value_order x z ≡ Less) ys
-above_rest x y ys l h = every_also (λ z. value_order y z ≡ Less) (λ z. value_order x z ≡ Less) ys (λ z m. total-law.trans x y z l m) h
-
-inserted : (x : Value) (ys : List Value) → IsAscending ys → Ordered (λ z. (x ≡ z) ⊎ IsMember z ys)
-inserted x [] h = record { list = x ∷ []; ascending = (tt, tt); members = λ z. (λ m. m, λ m. m) }
-inserted x (y ∷ ys) h = at (value_order x y) refl (inserted x ys h.1)
-  where
-    at : (o : Ordering) → value_order x y ≡ o → Ordered (λ z. (x ≡ z) ⊎ IsMember z ys) → Ordered (λ z. (x ≡ z) ⊎ IsMember z (y ∷ ys))
-    at Less e r = record { list = x ∷ y ∷ ys; ascending = ((e, above_rest x y ys e h.0), h); members = λ z. (λ m. m, λ m. m) }
-    at Equal e r = record { list = y ∷ ys; ascending = h; members = λ z. (λ m. inr m, λ m. ⊎_elim (λ s. inl (sym (exact x y e) ∙ s)) (λ n. n) m) }
-    at Greater e r = record {
-      list = y ∷ r.list;
-      ascending = (every_from (λ z. value_order y z ≡ Less) r.list (λ z m. ⊎_elim (λ s. subst (λ u. value_order y u ≡ Less) s (below_from_above x y e)) (λ n. every_at (λ u. value_order y u ≡ Less) ys z h.0 n) ((r.members z).0 m)), r.ascending);
-      members = λ z. (
-        λ m. ⊎_elim (λ s. inr (inl s)) (λ n. ⊎_elim (λ s. inl s) (λ k. inr (inr k)) ((r.members z).0 n)) m,
-        λ m. ⊎_elim (λ s. inr ((r.members z).1 (inl s))) (λ n. ⊎_elim (λ s. inl s) (λ k. inr ((r.members z).1 (inr k))) n) m,
-      );
-    }
-
--- the members of a list in order
-pub ordered_members : (xs : List Value) → Ordered (λ z. IsMember z xs)
-ordered_members [] = record { list = []; ascending = tt; members = λ z. (λ m. m, λ m. m) }
-ordered_members (x ∷ xs) =
-    let rest = ordered_members xs in
-    let whole = inserted x rest.list rest.ascending in
-    record {
-      list = whole.list;
-      ascending = whole.ascending;
-      members = λ z. (
-        λ m. ⊎_elim (λ s. inl s) (λ n. inr ((rest.members z).0 n)) ((whole.members z).0 m),
-        λ m. (whole.members z).1 (⊎_elim (λ s. inl s) (λ n. inr ((rest.members z).1 n)) m),
-      );
-    }
+ascending_from : (xs : List Value) → AllPairs (λ x y. value_order x y ≡ Less) xs → IsAscending xs
+ascending_from [] h = tt
+ascending_from (x ∷ xs) h =
+    (every_from (λ y. value_order x y ≡ Less) xs (λ y m. AllPairs-head (λ x y. value_order x y ≡ Less) x xs h y (contained xs y m)), ascending_from xs (AllPairs-tail (λ x y. value_order x y ≡ Less) x xs h))
 
 pub ordered : {P : Value → Type 0} → Listed P → Ordered P
 ordered h =
-    let o = ordered_members h.list in
-    record { list = o.list; ascending = o.ascending; members = λ z. (λ m. (h.members z).0 (contained h.list z ((o.members z).0 m)), λ p. (o.members z).1 (member h.list z ((h.members z).1 p))) }
+    let o = in_order value_order total-law exact h in
+    record { list = o.list; ascending = ascending_from o.list o.ascending; members = λ z. (λ m. (o.members z).0 (contained o.list z m), λ p. member o.list z ((o.members z).1 p)) }
 
 -- ---- sets
 

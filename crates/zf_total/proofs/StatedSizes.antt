@@ -1,5 +1,5 @@
 -- Stated sizes are complete, or one fault of theirs is the first.
-use Rattle.std.proofs.Common.{◌≡◌, ℕ, zero, suc, ◌+◌, ◌<◌, ◌≤◌, ◌⊎◌, List, [], ◌∷◌, ◌++◌, length, get_or, take, map, refl, sym, ap, ◌∙◌, subst, inl, inr, ⊎_elim, arith}
+use Rattle.std.proofs.Common.{◌≡◌, ℕ, zero, suc, ◌+◌, ◌<◌, ◌≤◌, ◌⊎◌, List, [], ◌∷◌, length, get_or, take, refl, ap, subst, inl, inr, ⊎_elim, arith}
 use Rattle.std.specs.Prelude.{◌≢◌, All, Contains}
 use Rattle.std.proofs.lemmas.Bool.{cases_eq, cases_lt}
 use Rattle.std.proofs.lemmas.List.Elements.{All-nil}
@@ -9,7 +9,7 @@ use Rattle.zf_term.specs.Definitions.{Defined, Definition, given_set, free_type,
 use Rattle.zf_meaning.specs.declared.sizes.Size.{Size}
 use Rattle.zf_meaning.specs.declared.sizes.SizeFault.{SizeFault}
 use Rattle.zf_meaning.specs.declared.sizes.SizeFault.TheVariants.{NoSize, NotGiven, SizeTwice, SizeTooLarge, OutOfMemory}
-use Rattle.zf_meaning.specs.Sizes.{with_given, given_sets, names, IsAccepted, AreAccepted, AreComplete, Refuses, LacksSize, IsRefusal, IsStated, AddsSize, AreSizes}
+use Rattle.zf_meaning.specs.Sizes.{with_given, given_sets, names, IsAccepted, AreAccepted, AreComplete, Refuses, IsRefusal, IsStated, AddsSize, AreSizes}
 use Rattle.zf_meaning.proofs.Accepting.{AreAccepted-none, AreAccepted-more, refusal-at, lack-at, sized-more}
 use Rattle.zf_total.proofs.Listed.{HasSome, Decided, decided_in, decided_lists}
 
@@ -58,9 +58,6 @@ all_accepted_or_not sets sizes (suc n) i e h =
     let s = nth sizes i l in
     ⊎_elim (λ a. all_accepted_or_not sets sizes n (i + 1) (omega arith) (AreAccepted-more sets sizes i s.0 l s.1 h a)) (λ f. inr (f.0, refusal-at sets sizes i s.0 f.0 l s.1 h f.1, f.2))
     (accepted_or_not sets (take i sizes) s.0)
-
-abbrev HasSize : List Size → List ℕ → Type 0
-HasSize sizes set = Contains (names sizes) set
 
 all_sized_or_not : (sets : List (List ℕ)) (sizes : List Size) (n i : ℕ) → i + n ≡ length sets → AreAccepted sets sizes → All (λ set. Contains (names sizes) set) (take i sets)
     → All (λ set. Contains (names sizes) set) sets ⊎ IsRefused sets sizes

@@ -1,5 +1,5 @@
 -- Each expression has an outcome, and each predicate a truth.
-use Rattle.std.proofs.Common.{◌≡◌, List, [], refl, Option, Some, None}
+use Rattle.std.proofs.Common.{List, [], refl}
 use Rattle.std.specs.Prelude.{pos}
 use Rattle.zf_scan.specs.declared.token.Arrow.{Arrow}
 use Rattle.zf_scan.specs.declared.token.Arrow.TheVariants as arrow
@@ -19,11 +19,9 @@ use Rattle.zf_term.specs.ResolvedTrees.{ResolvedTree, reference, number, constan
 use Rattle.zf_value.specs.declared.value.Value.{Value, Tuple, SetOf}
 use Rattle.zf_value.specs.declared.value.Outcome.{Outcome}
 use Rattle.zf_value.specs.declared.value.Outcome.TheVariants.{Is, Undefined, Out}
-use Rattle.zf_value.specs.declared.value.Truth.{Truth}
 use Rattle.zf_value.specs.declared.value.Truth.TheVariants as truth
-use Rattle.zf_value.specs.Numbers.{number_of, IsNegation, IsSum, IsDifference, IsProduct, IsQuotient, IsModulus, IsInterval}
+use Rattle.zf_value.specs.Numbers.{IsNegation, IsSum, IsDifference, IsProduct, IsQuotient, IsModulus, IsInterval}
 use Rattle.zf_value.specs.Operations.{pair}
-use Rattle.zf_value.specs.Sets.{members}
 use Rattle.zf_meaning.specs.Environments.{Context, within, outcome_in}
 use Rattle.zf_meaning.specs.Outcomes.{OnOne, OnBoth, Several, values, one_undefined, one_out, one_more, repeated, OnSeveral}
 use Rattle.zf_meaning.specs.Symbols.{InfixOutcome, ArrowOutcome, BinaryOutcome, PrefixOutcome, SignOutcome, UnaryOutcome, ListedOutcome}

@@ -1,5 +1,5 @@
 -- Atoms, connectives and quantifiers have a truth.
-use Rattle.std.proofs.Common.{◌≡◌, ◌⊎◌, ℤ, List, refl, sym, ap, ◌∙◌, subst, inl, inr, ⊎_elim, Option, Some, None}
+use Rattle.std.proofs.Common.{◌≡◌, ◌⊎◌, ℤ, List, refl, sym, ◌∙◌, subst, inl, inr, ⊎_elim, Option, Some, None}
 use Rattle.std.specs.Prelude.{pos, ◌≤ℤ◌, ◌<ℤ◌}
 use Rattle.zf_scan.specs.declared.token.Connective.{Connective}
 use Rattle.zf_scan.specs.declared.token.Connective.TheVariants as connective
@@ -15,7 +15,7 @@ use Rattle.zf_value.specs.declared.value.Outcome.TheVariants as outcome
 use Rattle.zf_value.specs.declared.value.Truth.{Truth}
 use Rattle.zf_value.specs.declared.value.Truth.TheVariants.{True, False, Out}
 use Rattle.zf_value.specs.Operations.{AreFrom}
-use Rattle.zf_value.specs.Sets.{IsMember, AreAmong, members}
+use Rattle.zf_value.specs.Sets.{members}
 use Rattle.zf_value.proofs.Seen.{same_number}
 use Rattle.zf_meaning.specs.Meaning.{IsLink}
 use Rattle.zf_meaning.specs.Outcomes.{Several, values, one_undefined, one_out}

@@ -1,5 +1,5 @@
 -- Lists in order, and lists without repeats, of what a list has.
-use Rattle.std.proofs.Common.{◌≡◌, ◌⊎◌, ◌↔◌, ℕ, List, [], ◌∷◌, map, refl, sym, ap, ◌∙◌, subst, inl, inr, ⊎_elim}
+use Rattle.std.proofs.Common.{◌≡◌, ◌⊎◌, ◌↔◌, List, [], ◌∷◌, map, refl, sym, ap, ◌∙◌, subst, inl, inr, ⊎_elim}
 use Rattle.std.specs.Prelude.{◌≢◌, Contains, AllPairs}
 use Rattle.std.specs.declared.cmp.Ordering.{Ordering}
 use Rattle.std.specs.declared.cmp.Ordering.TheVariants.{Less, Equal, Greater}
@@ -11,7 +11,7 @@ use Rattle.zf_total.proofs.Listed.{Decided, decided_in, Listed}
 -- ---- in order
 
 -- the ascending list of those of which P holds
-pub record Ordered {A : Type 0} (cmp : A → A → Ordering) (P : A → Type 0) : Type 0 where
+pub record InOrder {A : Type 0} (cmp : A → A → Ordering) (P : A → Type 0) : Type 0 where
   pub list : List A
   pub ascending : AllPairs (λ a b. cmp a b ≡ Less) list
   pub members : (x : A) → Contains list x ↔ P x
@@ -20,7 +20,7 @@ module _ {A : Type 0} (cmp : A → A → Ordering) (order : IsTotalOrder cmp) (t
   below : (x y : A) → cmp x y ≡ Greater → cmp y x ≡ Less
   below x y e = order.antisymm y x ∙ ap ordering_reverse e
 
-  inserted : (x : A) (ys : List A) → AllPairs (λ a b. cmp a b ≡ Less) ys → Ordered cmp (λ z. (x ≡ z) ⊎ Contains ys z)
+  inserted : (x : A) (ys : List A) → AllPairs (λ a b. cmp a b ≡ Less) ys → InOrder cmp (λ z. (x ≡ z) ⊎ Contains ys z)
   inserted x [] h = record {
     list = x ∷ [];
     ascending = AllPairs-cons (λ a b. cmp a b ≡ Less) x [] (λ y m. absurd (Contains-nil y m)) h;
@@ -28,7 +28,7 @@ module _ {A : Type 0} (cmp : A → A → Ordering) (order : IsTotalOrder cmp) (t
   }
   inserted x (y ∷ ys) h = at (cmp x y) refl (inserted x ys (AllPairs-tail (λ a b. cmp a b ≡ Less) y ys h))
     where
-      at : (o : Ordering) → cmp x y ≡ o → Ordered cmp (λ z. (x ≡ z) ⊎ Contains ys z) → Ordered cmp (λ z. (x ≡ z) ⊎ Contains (y ∷ ys) z)
+      at : (o : Ordering) → cmp x y ≡ o → InOrder cmp (λ z. (x ≡ z) ⊎ Contains ys z) → InOrder cmp (λ z. (x ≡ z) ⊎ Contains (y ∷ ys) z)
       at Less e r = record {
         list = x ∷ y ∷ ys;
         ascending = AllPairs-cons (λ a b. cmp a b ≡ Less) x (y ∷ ys) (λ z m. ⊎_elim (λ s. subst (λ u. cmp x u ≡ Less) s e) (λ n. order.trans x y z e (AllPairs-head (λ a b. cmp a b ≡ Less) y ys h z n)) (Contains-cases y ys z m)) h;
@@ -48,10 +48,10 @@ module _ {A : Type 0} (cmp : A → A → Ordering) (order : IsTotalOrder cmp) (t
         );
       }
 
-  in_order : (xs : List A) → Ordered cmp (Contains xs)
-  in_order [] = record { list = []; ascending = AllPairs-nil (λ a b. cmp a b ≡ Less); members = λ z. (λ m. m, λ m. m) }
-  in_order (x ∷ xs) =
-      let rest = in_order xs in
+  ordered_list : (xs : List A) → InOrder cmp (Contains xs)
+  ordered_list [] = record { list = []; ascending = AllPairs-nil (λ a b. cmp a b ≡ Less); members = λ z. (λ m. m, λ m. m) }
+  ordered_list (x ∷ xs) =
+      let rest = ordered_list xs in
       let whole = inserted x rest.list rest.ascending in
       record {
         list = whole.list;
@@ -62,9 +62,9 @@ module _ {A : Type 0} (cmp : A → A → Ordering) (order : IsTotalOrder cmp) (t
         );
       }
 
-  pub ordered : {P : A → Type 0} → Listed P → Ordered cmp P
-  ordered h =
-      let o = in_order h.list in
+  pub in_order : {P : A → Type 0} → Listed P → InOrder cmp P
+  in_order h =
+      let o = ordered_list h.list in
       record { list = o.list; ascending = o.ascending; members = λ z. (λ m. (h.members z).0 ((o.members z).0 m), λ p. (o.members z).1 ((h.members z).1 p)) }
 
 -- ---- without repeats
