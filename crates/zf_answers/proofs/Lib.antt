@@ -8,3 +8,5 @@ pub mod Stages
 pub mod OneAnswer
 pub mod Shown
 pub mod EverySource
+pub mod ListedValues
+pub mod NamedRows

@@ -23,7 +23,7 @@ use Rattle.zf_engine.specs.Answers.{Answer, CheckAnswer, Checks, IsNamedRow, Job
 use Rattle.zf_engine.specs.Texts.{declared_out_line, fault_line, not_finite_text, type_fault_line}
 use Rattle.zf_answers.specs.Laws.{AreAlike, AreOfSame, OneStatus, OneText, ShowsEvents}
 use Rattle.zf_answers.proofs.OneSource.{none_and_some, one_checked, one_named, one_refused, some_and_none, unread}
-use Rattle.zf_answers.proofs.OneSearch.{clear_at, not_infinite, one_environment_at, one_first_out, one_named_row, one_search, one_tests_line}
+use Rattle.zf_answers.proofs.OneSearch.{clear_at, not_infinite, one_environment_at, one_first_out, one_named_row, one_shown}
 use Rattle.zf_answers.proofs.OneRefusal.{none_refused, one_refusal}
 use Rattle.zf_answers.proofs.Stages.{AtFiniteness, AtNamedRow, AtSchema, AtSearch, AtSizes, AtTypes, HasNoRow, HasSetOut, staged}
 
@@ -45,12 +45,6 @@ module _ (r : Request) (file source one two : List ℕ) (s t : Status) where
   module _ (g : List Defined) (checks : Checks source g []) where
     module _ (a : Schema) (complete : AreComplete (given_sets g) (stated r.sizes)) where
       module _ (e : Environment) (is : IsEnvironment g (stated r.sizes) e) where
-        one_shown : (after : Option (List Value)) → ShowsEvents r g a e after one s → ShowsEvents r g a e after two t → IsOne file source one two s t
-        one_shown after x y =
-            let end = one_search e a after (binding_line (spellings g) a.comps) r.limit x.events y.events x.last y.last x.lines y.lines s t x.listed y.listed x.ends y.ends in
-            let counted = one_tests_line r.tests e a after y.last x.counted y.counted (subst (λ last. IsTestsLine r.tests e a after last x.counted) end.lasts x.numbered) y.numbered in
-            of_same file source one two s t end.statuses (x.whole ∙ ap (λ l. l ++ x.counted) end.texts ∙ ap (λ c. y.lines ++ c) counted ∙ sym y.whole)
-
         one_at_search : (after : Option (List Value)) → AtSearch r file source one s g a e after → AtSearch r file source two t g a e after → IsOne file source one two s t
         one_at_search after (inl x) (inl y) =
             let place = one_first_out e a.comps x.place y.place x.first_out y.first_out in
@@ -58,7 +52,7 @@ module _ (r : Request) (file source one two : List ℕ) (s t : Status) where
             of_same file source one two s t (x.past ∙ sym y.past) (x.told ∙ ap (λ (c : Comp). declared_out_line c.name) component ∙ sym y.told)
         one_at_search after (inl x) (inr y) = absurd (y.0 x.place x.first_out.here)
         one_at_search after (inr x) (inl y) = absurd (x.0 y.place y.first_out.here)
-        one_at_search after (inr x) (inr y) = one_shown after x.1 y.1
+        one_at_search after (inr x) (inr y) = let same = one_shown r g a e after one two s t x.1 y.1 in of_same file source one two s t same.1 same.0
 
         one_at_row : AtNamedRow r file source one s g a e → AtNamedRow r file source two t g a e → IsOne file source one two s t
         one_at_row (inl x) (inl y) = (x.bad ∙ sym y.bad, AreAlike.no_binding x.place y.place x.told y.told)

@@ -37,8 +37,9 @@ use Rattle.zf_texts.proofs.OneRow.{one_row}
 use Rattle.zf_names.proofs.Clear.{globals_clear}
 use Rattle.zf_lines.specs.declared.fault.Status.{Status}
 use Rattle.zf_lines.specs.Searches.{AreEventsUpTo, HasEvents, IsTestsLine, IsWritten}
-use Rattle.zf_lines.specs.Texts.{tests_line}
-use Rattle.zf_engine.specs.Answers.{Checks, IsNamedRow, stated}
+use Rattle.zf_lines.specs.Texts.{binding_line, tests_line}
+use Rattle.zf_engine.specs.Answers.{Checks, IsNamedRow, Request}
+use Rattle.zf_answers.specs.Laws.{ShowsEvents}
 use Rattle.zf_answers.proofs.OneEnding.{AreOneEnd, TellsOneTruth, one_ending}
 use Rattle.zf_answers.proofs.OneRefusal.{one_sizes}
 
@@ -106,7 +107,7 @@ tells_one e ts c row t u h k = sym (walked_told t) ∙ ap walked (one_of (slice_
     one_of None t u a b = absurd a
     one_of (Some p) t u a b = one_truth (in_row e row) p t u a b
 
-pub one_search : (e : Environment) (a : Schema) (after : Option (List Value)) (line : List Value → List ℕ) (limit : Option ℕ) (xs ys : List (Event Value)) (last mast : Option (List Value))
+one_search : (e : Environment) (a : Schema) (after : Option (List Value)) (line : List Value → List ℕ) (limit : Option ℕ) (xs ys : List (Event Value)) (last mast : Option (List Value))
     (text other : List ℕ) (status mtatus : Status)
     → HasEvents e a after last xs → HasEvents e a after mast ys → IsWritten line limit xs last text status → IsWritten line limit ys mast other mtatus → AreOneEnd line limit last mast text other status mtatus
 one_search e a after line limit xs ys last mast text other status mtatus h k w v =
@@ -127,6 +128,16 @@ one_number e a after whole m n h k =
     omega (arith, le, ge)
 
 -- the line of the number of tests is one
-pub one_tests_line : (tests : Bool) (e : Environment) (a : Schema) (after whole : Option (List Value)) (one two : List ℕ) → IsTestsLine tests e a after whole one → IsTestsLine tests e a after whole two → one ≡ two
+one_tests_line : (tests : Bool) (e : Environment) (a : Schema) (after whole : Option (List Value)) (one two : List ℕ) → IsTestsLine tests e a after whole one → IsTestsLine tests e a after whole two → one ≡ two
 one_tests_line false e a after whole one two h k = h ∙ sym k
 one_tests_line true e a after whole one two h k = h.2 ∙ ap (λ n. tests_line (cut n)) (one_number e a after whole h.0 k.0 h.1 k.1) ∙ sym k.2
+
+-- ---- the answer
+
+-- events are shown in one way
+pub one_shown : (r : Request) (g : List Defined) (a : Schema) (e : Environment) (after : Option (List Value)) (one two : List ℕ) (s t : Status)
+    → ShowsEvents r g a e after one s → ShowsEvents r g a e after two t → (one ≡ two) × (s ≡ t)
+one_shown r g a e after one two s t x y =
+    let end = one_search e a after (binding_line (spellings g) a.comps) r.limit x.events y.events x.last y.last x.lines y.lines s t x.listed y.listed x.ends y.ends in
+    let counted = one_tests_line r.tests e a after y.last x.counted y.counted (subst (λ last. IsTestsLine r.tests e a after last x.counted) end.lasts x.numbered) y.numbered in
+    (x.whole ∙ ap (λ l. l ++ x.counted) end.texts ∙ ap (λ c. y.lines ++ c) counted ∙ sym y.whole, end.statuses)

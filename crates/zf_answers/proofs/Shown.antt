@@ -24,9 +24,9 @@ use Rattle.zf_lines.specs.declared.fault.Status.{Status}
 use Rattle.zf_lines.specs.Texts.{binding_line}
 use Rattle.zf_engine.specs.Answers.{IsNamedRow, NamesNoRow, Request, stated}
 use Rattle.zf_answers.specs.Bindings.{IsBinding, IsInDoubt, IsOutOfBounds, Satisfies, ShowsBindings}
-use Rattle.zf_answers.specs.Laws.{AnswersRequest, EachBindingIsShown, EventsAreShown, IsGranted, ShowsEvents}
+use Rattle.zf_answers.specs.Laws.{AnswersRequest, EachBindingIsShown, EventsAreShown, IsGranted, IsShownInOneWay, ShowsEvents}
 use Rattle.zf_answers.proofs.OneSource.{unread, one_checked, none_and_some, one_named, some_and_none}
-use Rattle.zf_answers.proofs.OneSearch.{clear_at, not_infinite, one_environment_at, one_named_row}
+use Rattle.zf_answers.proofs.OneSearch.{clear_at, not_infinite, one_environment_at, one_named_row, one_shown}
 use Rattle.zf_answers.proofs.OneRefusal.{none_refused}
 use Rattle.zf_answers.proofs.Stages.{AtFiniteness, AtNamedRow, AtSchema, AtSearch, AtSizes, AtTypes, staged}
 use Rattle.zf_answers.proofs.WrittenRows.{AreWritten, with_truth, written_rows}
@@ -75,6 +75,10 @@ module _ (r : Request) (file source : List ℕ) (g : List Defined) (a : Schema) 
 
 pub events_are_shown : EventsAreShown
 events_are_shown r file source g a e after text status granted answer = shown r file source g a e after text status granted answer
+
+pub is_shown_in_one_way : IsShownInOneWay
+is_shown_in_one_way r file source g a e after one two s t granted x y =
+    one_shown r g a e after one two s t (shown r file source g a e after one s granted x) (shown r file source g a e after two t granted y)
 
 -- ---- the bindings
 

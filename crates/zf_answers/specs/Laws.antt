@@ -9,7 +9,7 @@ use Rattle.zf_scan.specs.declared.token.Token.{Token}
 use Rattle.zf_scan.specs.Cuts.{IsCutInto}
 use Rattle.zf_text.specs.Parsing.{IsGrammarFault, ReadsSource, Refuses, RefusesSource}
 use Rattle.zf_text.specs.Trees.{BoxTree}
-use Rattle.zf_term.specs.Definitions.{Defined, Schema}
+use Rattle.zf_term.specs.Definitions.{Comp, Defined, Schema}
 use Rattle.zf_type.specs.declared.fault.TypeFault.{TypeFault}
 use Rattle.zf_schema.specs.Checking.{Item, OffendsItem}
 use Rattle.zf_value.specs.declared.value.Value.{Value}
@@ -22,7 +22,7 @@ use Rattle.zf_texts.specs.Spellings.{spellings}
 use Rattle.zf_lines.specs.declared.fault.Status.{Status}
 use Rattle.zf_lines.specs.Searches.{HasEvents, IsTestsLine, IsWritten}
 use Rattle.zf_lines.specs.Texts.{binding_line}
-use Rattle.zf_engine.specs.Answers.{Answer, Checks, HasSchema, IsNamedRow, Request, stated}
+use Rattle.zf_engine.specs.Answers.{Answer, Checks, HasSchema, IsNamedRow, NamesNoRow, Request, stated}
 use Rattle.zf_engine.specs.Texts.{not_a_binding_line, text_fault_line, type_fault_line}
 use Rattle.zf_answers.specs.Bindings.{ShowsBindings}
 
@@ -48,6 +48,12 @@ abbrev pub EachBindingIsShown : Type 0
 EachBindingIsShown =
     (r : Request) (file source : List ℕ) (globals : List Defined) (a : Schema) (e : Environment) (after : Option (List Value)) (text : List ℕ) (status : Status)
     → IsGranted r source globals a e after → AnswersRequest r file source text status → ShowsBindings r globals a e after text status
+
+-- So there is one answer.
+abbrev pub IsShownInOneWay : Type 0
+IsShownInOneWay =
+    (r : Request) (file source : List ℕ) (globals : List Defined) (a : Schema) (e : Environment) (after : Option (List Value)) (one two : List ℕ) (s t : Status)
+    → IsGranted r source globals a e after → AnswersRequest r file source one s → AnswersRequest r file source two t → (one ≡ two) × (s ≡ t)
 
 -- the text and the status of the schema's events after the named row, as the contract of the lines has them
 pub record ShowsEvents (r : Request) (globals : List Defined) (a : Schema) (e : Environment) (after : Option (List Value)) (text : List ℕ) (status : Status) : Type 0 where
@@ -100,8 +106,12 @@ pub data AreAlike (file source one two : List ℕ) : Type 0 where
 abbrev pub OneText : Type 0
 OneText = (job : Job) (file source one two : List ℕ) (s t : Status) → Answer job file source one s → Answer job file source two t → AreAlike file source one two
 
--- ---- every source
+-- ---- what is always one of two
 
 -- Each source is read by a tree, or is refused with a fault.
 abbrev pub EverySourceIsRead : Type 0
 EverySourceIsRead = (source : List ℕ) → ((boxes : List BoxTree) × ReadsSource boxes source) ⊎ ((fault : TextFault) × RefusesSource source fault)
+
+-- A text is the line of a row of the components' types, or of none; where no text is given no row is named.
+abbrev pub EveryLineIsJudged : Type 0
+EveryLineIsJudged = (e : Environment) (comps : List Comp) (text : Option (List ℕ)) → ((after : Option (List Value)) × IsNamedRow e comps text after) ⊎ NamesNoRow e comps text

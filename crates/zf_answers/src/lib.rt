@@ -1,12 +1,13 @@
 //! Laws over what is answered, above the answers of the engine: each source has one answer, and that of `show` has each binding once.
 #![tactic(auto)]
 
-ghost use Rattle.zf_answers.specs.Laws.{EachBindingIsShown, EventsAreShown, EverySourceIsRead, OneStatus, OneText};
+ghost use Rattle.zf_answers.specs.Laws.{EachBindingIsShown, EventsAreShown, EveryLineIsJudged, EverySourceIsRead, IsShownInOneWay, OneStatus, OneText};
 
 /// What `show` answers, where nothing stands in its way: the line of each binding, once, in ascending order.
 pub fn each_binding_is_shown()
     ensures bindings { EachBindingIsShown }
     ensures events { EventsAreShown }
+    ensures one { IsShownInOneWay }
 {}
 
 /// A source has one status for a job, and one text, but for what is left open.
@@ -21,3 +22,8 @@ pub fn every_source_is_read()
 {
     zf_scan::scan::one_cut();
 }
+
+/// A text is the line of a row of the components' types, or of none.
+pub fn every_line_is_judged()
+    ensures { EveryLineIsJudged }
+{}
