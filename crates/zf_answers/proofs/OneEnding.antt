@@ -1,8 +1,7 @@
 -- Of one search there is one list of events up to where the lines end, one text of it and one status.
 use Rattle.std.proofs.Common.{◌≡◌, ℕ, ◌+◌, ◌<◌, ◌≤◌, ◌⊎◌, List, [], ◌∷◌, ◌++◌, length, take, Option, Some, None, refl, sym, ap, ◌∙◌, inl, inr, arith, subst}
-use Rattle.std.specs.Prelude.{◌≢◌, Contains, All, AllPairs}
+use Rattle.std.specs.Prelude.{Contains, AllPairs}
 use Rattle.std.proofs.lemmas.List.Elements.{All-contains}
-use Rattle.std.proofs.lemmas.Option.{same_Some}
 use Rattle.std.specs.declared.cmp.Ordering.{Ordering}
 use Rattle.std.specs.declared.cmp.Ordering.TheVariants.{Less, Equal, Greater}
 use Rattle.std.specs.Cmp.{IsTotalOrder}
@@ -15,7 +14,7 @@ use Rattle.zf_walk.specs.Conjuncts.{Conjuncts, IsTruthOf}
 use Rattle.zf_walk.specs.Rows.{TiesAreEqual, ComesAfter}
 use Rattle.zf_walk.specs.Events.{Event, IsEvent}
 use Rattle.zf_walk.specs.Tests.{IsUpTo}
-use Rattle.zf_walk.proofs.Lists.{Contains-head, Contains-left, Contains-right, AllPairs-across}
+use Rattle.zf_walk.proofs.Lists.{Contains-head, Contains-right, AllPairs-across}
 use Rattle.zf_walk.proofs.Order.{slice-ties}
 use Rattle.zf_walk.proofs.Picks.{IsRowOf-length}
 use Rattle.zf_lines.specs.declared.fault.Status.{Status}

@@ -1,5 +1,5 @@
 -- What is asked for is one environment and one named row, and its search has one text and one status.
-use Rattle.std.proofs.Common.{◌≡◌, ℕ, ◌<◌, ◌≤◌, ◌⊎◌, Bool, true, false, List, [], ◌∷◌, ◌++◌, Option, Some, None, refl, sym, ap, ◌∙◌, inl, inr, arith, subst}
+use Rattle.std.proofs.Common.{◌≡◌, ℕ, ◌<◌, ◌⊎◌, Bool, true, false, List, ◌++◌, Option, Some, None, refl, sym, ap, ◌∙◌, inl, inr, arith, subst}
 use Rattle.std.specs.Prelude.{slice_get}
 use Rattle.std.proofs.lemmas.Bool.{cases_order}
 use Rattle.zf_finite.specs.Finite.{infinite_lines, IsFinite}
@@ -29,7 +29,7 @@ use Rattle.zf_meaning.proofs.Environments.{one_environment}
 use Rattle.zf_meaning.proofs.Unique.{one_truth}
 use Rattle.zf_enum.specs.Events.{AreTests}
 use Rattle.zf_enum.specs.Property.{HasTruth, told, property}
-use Rattle.zf_enum.specs.Ranges.{AreRanges, IsFirstOut}
+use Rattle.zf_enum.specs.Ranges.{IsFirstOut}
 use Rattle.zf_enum.proofs.EventLaws.{one_ranges}
 use Rattle.zf_texts.specs.Clear.{AreClear}
 use Rattle.zf_texts.specs.Spellings.{spellings}

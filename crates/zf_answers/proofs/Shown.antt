@@ -1,7 +1,6 @@
 -- What `show` answers where nothing stands in the way of a request.
-use Rattle.std.proofs.Common.{◌≡◌, ◌≢◌, ◌↔◌, ℕ, zero, suc, ◌<◌, ◌≤◌, ◌⊎◌, List, [], ◌∷◌, ◌++◌, length, get_or, Option, Some, None, refl, sym, ap, ◌∙◌, inl, inr, arith, subst}
+use Rattle.std.proofs.Common.{◌↔◌, ℕ, zero, suc, ◌<◌, ◌⊎◌, List, [], ◌∷◌, ◌++◌, length, Option, Some, None, sym, ap, ◌∙◌, inl, inr, arith, subst}
 use Rattle.std.specs.Prelude.{Contains, All, slice_get}
-use Rattle.std.specs.List.{flat_map}
 use Rattle.std.proofs.lemmas.List.Elements.{All-nil, All-cons, All-head, All-tail}
 use Rattle.zf_term.specs.Definitions.{Defined, Schema}
 use Rattle.zf_term.specs.ResolvedTrees.{ResolvedTree}
@@ -11,7 +10,7 @@ use Rattle.zf_value.specs.declared.value.Truth.TheVariants as truth
 use Rattle.zf_value.specs.contracts.value.ValueOrd.TheImpl.Laws as order_laws
 use Rattle.zf_value.specs.Sets.{value_order}
 use Rattle.zf_value.proofs.Exact.{exact}
-use Rattle.zf_walk.specs.declared.judge.Truth.TheVariants.{True, False, Out}
+use Rattle.zf_walk.specs.declared.judge.Truth.TheVariants.{True, Out}
 use Rattle.zf_walk.specs.Events.{IsEvent}
 use Rattle.zf_walk.proofs.Lists.{Contains-head, Contains-later, Contains-cases, Contains-nil}
 use Rattle.zf_meaning.specs.Environments.{Environment}
@@ -23,13 +22,13 @@ use Rattle.zf_texts.specs.Spellings.{spellings}
 use Rattle.zf_lines.specs.declared.fault.Status.{Status}
 use Rattle.zf_lines.specs.Texts.{binding_line}
 use Rattle.zf_engine.specs.Answers.{IsNamedRow, NamesNoRow, Request, stated}
-use Rattle.zf_answers.specs.Bindings.{IsBinding, IsInDoubt, IsOutOfBounds, Satisfies, ShowsBindings}
+use Rattle.zf_answers.specs.Bindings.{IsBinding, IsInDoubt, ShowsBindings}
 use Rattle.zf_answers.specs.Laws.{AnswersRequest, EachBindingIsShown, EventsAreShown, IsGranted, IsShownInOneWay, ShowsEvents}
-use Rattle.zf_answers.proofs.OneSource.{unread, one_checked, none_and_some, one_named, some_and_none}
+use Rattle.zf_answers.proofs.OneSource.{unread, one_checked, one_named, some_and_none}
 use Rattle.zf_answers.proofs.OneSearch.{clear_at, not_infinite, one_environment_at, one_named_row, one_shown}
 use Rattle.zf_answers.proofs.OneRefusal.{none_refused}
 use Rattle.zf_answers.proofs.Stages.{AtFiniteness, AtNamedRow, AtSchema, AtSearch, AtSizes, AtTypes, staged}
-use Rattle.zf_answers.proofs.WrittenRows.{AreWritten, with_truth, written_rows}
+use Rattle.zf_answers.proofs.WrittenRows.{with_truth, written_rows}
 
 -- ---- the events
 

@@ -1,5 +1,5 @@
 -- An answer of `show` by its stages: at each it is refused, or goes on with what the next one stands on.
-use Rattle.std.proofs.Common.{◌≡◌, ◌≢◌, ℕ, ◌⊎◌, List, [], ◌++◌, Option, Some, inl, inr, subst, sym}
+use Rattle.std.proofs.Common.{◌≡◌, ◌≢◌, ℕ, ◌⊎◌, List, [], Option, Some, inl, inr}
 use Rattle.std.specs.Prelude.{slice_get}
 use Rattle.std.specs.List.{flat_map}
 use Rattle.zf_finite.specs.Finite.{infinite_lines, IsFinite}
@@ -14,7 +14,7 @@ use Rattle.zf_meaning.specs.GlobalOutcomes.{IsEnvironment}
 use Rattle.zf_meaning.specs.Sizes.{given_sets, AreComplete, IsRefusal}
 use Rattle.zf_enum.specs.Ranges.{IsFirstOut, IsNoneOut}
 use Rattle.zf_lines.specs.declared.fault.Status.{Status}
-use Rattle.zf_lines.specs.declared.fault.Status.TheVariants.{Done, BadSpec, BadRequest, PastBounds}
+use Rattle.zf_lines.specs.declared.fault.Status.TheVariants.{BadSpec, BadRequest, PastBounds}
 use Rattle.zf_engine.specs.Answers.{Checks, IsNamed, IsNamedRow, NamesNoRow, Request, ShowAnswer, size_fault_line, stated}
 use Rattle.zf_engine.specs.Texts.{declared_out_line, fault_line, no_schema_line, not_a_binding_line, not_finite_text, type_fault_line}
 use Rattle.zf_answers.specs.Laws.{ShowsEvents}
