@@ -1,0 +1,7 @@
+pub mod Rows
+pub mod Tests
+pub mod Cuts
+pub mod Typed
+pub mod DeclaredSets
+pub mod Ranges
+pub mod Searches

@@ -1,0 +1,41 @@
+-- The first component that is out, and the ranges of bounded ones.
+use Rattle.std.proofs.Common.{◌≡◌, ◌⊎◌, ℕ, zero, suc, ◌<◌, List, [], ◌∷◌, length, refl, subst, inl, inr, ⊎_elim, Option, Some, None, arith}
+use Rattle.std.specs.Prelude.{slice_get, IsTrue}
+use Rattle.std.specs.List.{AllByRecursion}
+use Rattle.zf_term.specs.Definitions.{Comp, sets_of}
+use Rattle.zf_finite.specs.Finite.{one_bounds}
+use Rattle.zf_meaning.specs.Environments.{Environment}
+use Rattle.zf_enum.specs.DeclaredSets.{IsOneOut}
+use Rattle.zf_enum.specs.Ranges.{IsRange, AreRanges, IsOutAt, IsNoneOut, IsFirstOut}
+use Rattle.zf_total.proofs.Listed.{HasSome, Decided}
+use Rattle.zf_total.proofs.Naturals.{first_or_none}
+use Rattle.zf_total.proofs.Sets.{ordered}
+use Rattle.zf_found.proofs.DeclaredSets.{decided_one_out, listed_in_sets}
+
+-- ---- the first that is out
+
+got_below : {A : Type 0} (xs : List A) (i : ℕ) (x : A) → slice_get xs i ≡ Some x → i < length xs
+got_below [] i x h = absurd (cc)
+got_below (y ∷ xs) zero x h = omega arith
+got_below (y ∷ xs) (suc i) x h = let l = got_below xs i x h in omega arith
+
+out_at_or_not : (e : Environment) (x : Option Comp) → Decided ((c : Comp) × (x ≡ Some c) × IsOneOut e (sets_of c.sets))
+out_at_or_not e None = inr (λ h. let s = h.1 in (cc))
+out_at_or_not e (Some c) = elim (decided_one_out e (sets_of c.sets)) [
+  | inl o ↦ inl (c, refl, o)
+  | inr n ↦ inr (λ h. let s = h.1 in let same : h.0 ≡ c = (cc) in n (subst (λ (d : Comp). IsOneOut e (sets_of d.sets)) same h.2))
+]
+
+pub first_out_or_none : (e : Environment) (cs : List Comp) → ((place : ℕ) × IsFirstOut e cs place) ⊎ IsNoneOut e cs
+first_out_or_none e cs =
+    ⊎_elim (λ h. inl (h.0, record { here = h.1; first = h.2 })) (λ g. inr (λ place o. g place (got_below cs place o.0 o.1) o))
+    (first_or_none (IsOutAt e cs) (λ place. out_at_or_not e (slice_get cs place)) (length cs))
+
+-- ---- ranges
+
+some_range : (e : Environment) (c : Comp) → IsTrue (one_bounds e.globals (sets_of c.sets)) → HasSome (IsRange e c)
+some_range e c b = let o = ordered (listed_in_sets e (sets_of c.sets) b) in (o.list, record { ascending = o.ascending; members = o.members })
+
+pub some_ranges : (e : Environment) (cs : List Comp) → AllByRecursion (λ c. IsTrue (one_bounds e.globals (sets_of c.sets))) cs → HasSome (AreRanges e cs)
+some_ranges e [] h = ([], tt)
+some_ranges e (c ∷ cs) h = let xs = some_range e c h.0 in let rest = some_ranges e cs h.1 in (xs.0 ∷ rest.0, (xs.1, rest.1))

@@ -1,0 +1,101 @@
+-- The property of a schema has one truth on each row, so a search has events and a number of tests.
+use Rattle.std.proofs.Common.{◌≡◌, ◌⊎◌, ℕ, zero, suc, ◌<◌, List, [], ◌∷◌, length, refl, subst, inl, inr, ⊎_elim, Option, Some, None, Bool, true, false, arith}
+use Rattle.std.specs.Prelude.{slice_get}
+use Rattle.zf_term.specs.Definitions.{Schema}
+use Rattle.zf_term.specs.ResolvedTrees.{ResolvedTree}
+use Rattle.zf_value.specs.contracts.value.ValueOrd.TheImpl.Laws.{total-law}
+use Rattle.zf_value.specs.declared.value.Value.{Value}
+use Rattle.zf_value.specs.declared.value.Truth.{Truth}
+use Rattle.zf_value.specs.declared.value.Truth.TheVariants as truth
+use Rattle.zf_value.specs.Sets.{value_order}
+use Rattle.zf_value.proofs.Exact.{exact}
+use Rattle.zf_walk.specs.declared.judge.Truth as walk
+use Rattle.zf_walk.specs.declared.judge.Truth.TheVariants.{True, False, Out}
+use Rattle.zf_walk.specs.Events.{Event, IsEvents}
+use Rattle.zf_walk.specs.Tests.{cut}
+use Rattle.zf_meaning.specs.Environments.{Environment}
+use Rattle.zf_meaning.specs.InRow.{in_row}
+use Rattle.zf_meaning.specs.Meaning.{IsTruth}
+use Rattle.zf_meaning.proofs.Unique.{one_truth}
+use Rattle.zf_enum.specs.Events.{AreEvents, IsBoundOf}
+use Rattle.zf_enum.specs.Property.{HasTruth, told, property}
+use Rattle.zf_enum.specs.Ranges.{AreRanges}
+use Rattle.zf_lines.specs.declared.fault.Status.{Status}
+use Rattle.zf_lines.specs.Searches.{HasEvents, IsBelow, IsWritten, IsTestsLine}
+use Rattle.zf_lines.specs.Texts.{tests_line}
+use Rattle.zf_total.proofs.Listed.{HasSome, Decided}
+use Rattle.zf_total.proofs.Terms.{some_truth}
+use Rattle.zf_total.proofs.Values.{same_value}
+use Rattle.zf_found.proofs.Cuts.{some_written, cut_events, not_false}
+use Rattle.zf_found.proofs.Rows.{AreTold, same_truth, some_events}
+use Rattle.zf_found.proofs.Tests.{some_bound, some_number_of_tests}
+
+-- ---- one truth
+
+-- as a walk calls a truth
+walked_of : (P : Truth → Type 0) (u : Truth) → P u → HasSome (λ (t : walk.Truth). P (told t))
+walked_of P truth.True h = (True, h)
+walked_of P truth.False h = (False, h)
+walked_of P truth.Out h = (Out, h)
+
+same_told : (t u : walk.Truth) → told t ≡ told u → t ≡ u
+same_told True True e = refl
+same_told True False e = absurd (cc)
+same_told True Out e = absurd (cc)
+same_told False True e = absurd (cc)
+same_told False False e = refl
+same_told False Out e = absurd (cc)
+same_told Out True e = absurd (cc)
+same_told Out False e = absurd (cc)
+same_told Out Out e = refl
+
+some_of : (e : Environment) (row : List Value) (p : Option ResolvedTree) (q : ResolvedTree) → p ≡ Some q → HasSome (λ t. HasTruth e row p (told t))
+some_of e row None q s = absurd (cc)
+some_of e row (Some p) q s = let u = some_truth (in_row e row) p in walked_of (IsTruth (in_row e row) p) u.0 u.1
+
+one_of : (e : Environment) (row : List Value) (p : Option ResolvedTree) (t u : walk.Truth) → HasTruth e row p (told t) → HasTruth e row p (told u) → t ≡ u
+one_of e row None t u h k = absurd h
+one_of e row (Some p) t u h k = same_told t u (one_truth (in_row e row) p (told t) (told u) h k)
+
+decided_of : (e : Environment) (row : List Value) (p : Option ResolvedTree) (t : walk.Truth) → Decided (HasTruth e row p (told t))
+decided_of e row None t = inr (λ h. h)
+decided_of e row (Some p) t = let u = some_of e row (Some p) p refl in ⊎_elim (λ s. inl (subst (λ x. HasTruth e row (Some p) (told x)) s u.1)) (λ n. inr (λ h. n (one_of e row (Some p) u.0 t u.1 h))) (same_truth u.0 t)
+
+got : {A : Type 0} (xs : List A) (i : ℕ) → i < length xs → (x : A) × (slice_get xs i ≡ Some x)
+got [] i l = absurd (omega arith)
+got (x ∷ xs) zero l = (x, refl)
+got (x ∷ xs) (suc i) l = got xs i (omega arith)
+
+property_told : (e : Environment) (ts : List ResolvedTree) → AreTold (property e ts)
+property_told e ts = record {
+  some = λ c row l. let p = got ts c l in some_of e row (slice_get ts c) p.0 p.1;
+  one = λ c row t u h k. one_of e row (slice_get ts c) t u h k;
+  decided = λ c row t. decided_of e row (slice_get ts c) t;
+}
+
+-- ---- searches
+
+events_of : (e : Environment) (a : Schema) (ranges : List (List Value)) (after : Option (List Value)) → HasSome (IsEvents value_order (property e a.conjuncts) ranges after)
+events_of e a ranges after = some_events (property e a.conjuncts) (property_told e a.conjuncts) value_order total-law exact ranges after
+
+pub some_list : (e : Environment) (a : Schema) (ranges : List (List Value)) (after : Option (List Value)) → AreRanges e a.comps ranges → HasSome (AreEvents e a after)
+some_list e a ranges after r = let all = events_of e a ranges after in (all.0, record { ranges = ranges; of_components = r; listed = all.1 })
+
+pub some_bound_of : (e : Environment) (a : Schema) (ranges : List (List Value)) → AreRanges e a.comps ranges → HasSome (IsBoundOf e a)
+some_bound_of e a ranges r =
+    let n = some_bound value_order (property e a.conjuncts) (property_told e a.conjuncts) ranges same_value in
+    (n.0, record { ranges = ranges; of_components = r; counted = n.1 })
+
+pub some_search : (e : Environment) (a : Schema) (ranges : List (List Value)) (after : Option (List Value)) (limit : Option ℕ) (line : List Value → List ℕ) → AreRanges e a.comps ranges → IsBelow limit 0
+    → (last : Option (List Value)) × (events : List (Event Value)) × (text : List ℕ) × (status : Status) × HasEvents e a after last events × IsWritten line limit events last text status
+some_search e a ranges after limit line r l =
+    let s = property e a.conjuncts in
+    let all = events_of e a ranges after in
+    let w = some_written line limit all.0 l (not_false value_order total-law s ranges after all.0 all.1) in
+    (w.last, w.events, w.text, w.status, record { ranges = ranges; of_components = r; listed = cut_events value_order total-law s ranges after all.0 w.last w.events all.1 w.cut }, w.written)
+
+pub some_tests_line : (e : Environment) (a : Schema) (ranges : List (List Value)) (after last : Option (List Value)) (tests : Bool) → AreRanges e a.comps ranges → HasSome (IsTestsLine tests e a after last)
+some_tests_line e a ranges after last false r = ([], refl)
+some_tests_line e a ranges after last true r =
+    let n = some_number_of_tests value_order (property e a.conjuncts) (property_told e a.conjuncts) ranges same_value after last in
+    (tests_line (cut n.0), (n.0, record { ranges = ranges; of_components = r; counted = n.1 }, refl))

@@ -1,0 +1,38 @@
+-- A search that can begin has all that is asked of it: a component that is out or none, ranges, events, and a number of tests.
+use Rattle.std.specs.Prelude.{◌⊎◌, IsTrue, ℕ, Bool, List, Option}
+use Rattle.std.specs.List.{AllByRecursion}
+use Rattle.zf_term.specs.Definitions.{Comp, Schema, sets_of}
+use Rattle.zf_finite.specs.Finite.{one_bounds}
+use Rattle.zf_value.specs.declared.value.Value.{Value}
+use Rattle.zf_walk.specs.Events.{Event}
+use Rattle.zf_meaning.specs.Environments.{Environment}
+use Rattle.zf_enum.specs.Events.{AreEvents, IsBoundOf}
+use Rattle.zf_enum.specs.Ranges.{AreRanges, IsNoneOut, IsFirstOut}
+use Rattle.zf_lines.specs.declared.fault.Status.{Status}
+use Rattle.zf_lines.specs.Searches.{HasEvents, IsBelow, IsWritten, IsTestsLine}
+
+-- One component is the first with a declared set that is out, or none has one.
+abbrev pub OutIsDecided : Type 0
+OutIsDecided = (e : Environment) (cs : List Comp) → ((place : ℕ) × IsFirstOut e cs place) ⊎ IsNoneOut e cs
+
+-- Components that are bounded have ranges. Those of a finite schema are.
+abbrev pub EveryRange : Type 0
+EveryRange = (e : Environment) (cs : List Comp) → AllByRecursion (λ c. IsTrue (one_bounds e.globals (sets_of c.sets))) cs → (ranges : List (List Value)) × AreRanges e cs ranges
+
+-- Where there are ranges, there is the list of the events after any row.
+abbrev pub EveryEvent : Type 0
+EveryEvent = (e : Environment) (a : Schema) (ranges : List (List Value)) (after : Option (List Value)) → AreRanges e a.comps ranges → (events : List (Event Value)) × AreEvents e a after events
+
+-- Where there are ranges, each search has events, after any row and up to any limit from 1 on, and something to write of them.
+abbrev pub EverySearch : Type 0
+EverySearch =
+    (e : Environment) (a : Schema) (ranges : List (List Value)) (after : Option (List Value)) (limit : Option ℕ) (line : List Value → List ℕ) → AreRanges e a.comps ranges → IsBelow limit 0
+    → (last : Option (List Value)) × (events : List (Event Value)) × (text : List ℕ) × (status : Status) × HasEvents e a after last events × IsWritten line limit events last text status
+
+-- Up to any row, or to the end, it has a number of tests.
+abbrev pub EveryNumberOfTests : Type 0
+EveryNumberOfTests = (e : Environment) (a : Schema) (ranges : List (List Value)) (after last : Option (List Value)) (tests : Bool) → AreRanges e a.comps ranges → (text : List ℕ) × IsTestsLine tests e a after last text
+
+-- The tests of all searches have a bound.
+abbrev pub EveryBound : Type 0
+EveryBound = (e : Environment) (a : Schema) (ranges : List (List Value)) → AreRanges e a.comps ranges → (bound : ℕ) × IsBoundOf e a bound

@@ -1,0 +1,4 @@
+//! Laws of searches: what a search for bindings is to find is there.
+#![tactic(auto)]
+
+pub mod laws;

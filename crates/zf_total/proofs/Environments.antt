@@ -1,0 +1,44 @@
+-- Globals at complete sizes have an environment.
+use Rattle.std.proofs.Common.{◌≡◌, ℕ, zero, suc, ◌+◌, List, [], length, refl, subst, Option, Some, None, arith}
+use Rattle.std.specs.Prelude.{slice_get}
+use Rattle.zf_term.specs.Definitions.{Defined, Definition, given_set, free_type, constructor, abbreviation, schema}
+use Rattle.zf_value.specs.declared.value.Outcome.{Outcome}
+use Rattle.zf_value.specs.declared.value.Outcome.TheVariants.{Undefined}
+use Rattle.zf_meaning.specs.declared.sizes.Size.{Size}
+use Rattle.zf_meaning.specs.Environments.{Environment, element, globally}
+use Rattle.zf_meaning.specs.GlobalOutcomes.{IsOutcomeOf, AreWorkedOut, IsEnvironment}
+use Rattle.zf_meaning.specs.Sizes.{given_sets, AreComplete}
+use Rattle.zf_meaning.proofs.WorkedOut.{AreWorkedOutTo, none-worked_out, further, one-worked_out, all-worked_out}
+use Rattle.zf_total.proofs.Listed.{HasSome}
+use Rattle.zf_total.proofs.Carriers.{some_type_set}
+use Rattle.zf_total.proofs.Terms.{some_outcome}
+use Rattle.zf_total.proofs.StatedSizes.{some_sizes}
+
+some_outcome_of : (e : Environment) (d : Definition) → HasSome (IsOutcomeOf e d)
+some_outcome_of e (given_set n) = some_type_set e n
+some_outcome_of e (free_type n names) = some_type_set e n
+some_outcome_of e (constructor n of_type place) = (element n place, refl)
+some_outcome_of e (abbreviation t r x) = some_outcome (globally e) r
+some_outcome_of e (schema a) = (Undefined, refl)
+
+-- that of the global at a place, if there is one
+some_outcome_at : (e : Environment) (x : Option Defined) → HasSome (λ o. (d : Defined) → x ≡ Some d → IsOutcomeOf e d.definition o)
+some_outcome_at e None = (Undefined, λ d s. absurd (cc))
+some_outcome_at e (Some it) = let o = some_outcome_of e it.definition in (o.0, λ d s. let same : it ≡ d = cc in subst (λ (d : Defined). IsOutcomeOf e d.definition o.0) same o.1)
+
+abbrev at_sizes : List Defined → List ℕ → List Outcome → Environment
+at_sizes g sizes outcomes = record { globals = g; sizes = sizes; outcomes = outcomes }
+
+-- the outcomes of the rest, one after another
+worked_out : (g : List Defined) (sizes : List ℕ) (n i : ℕ) (outcomes : List Outcome) → i + n ≡ length g → AreWorkedOutTo i (at_sizes g sizes outcomes) → (all : List Outcome) × AreWorkedOut (at_sizes g sizes all)
+worked_out g sizes zero i outcomes e h = (outcomes, all-worked_out i (at_sizes g sizes outcomes) (omega arith) h)
+worked_out g sizes (suc n) i outcomes e h =
+    let before = at_sizes g sizes outcomes in
+    let o = some_outcome_at before (slice_get g i) in
+    worked_out g sizes n (i + 1) (further before o.0).outcomes (omega arith) (one-worked_out i before o.0 h o.1)
+
+pub some_environment : (g : List Defined) (stated : List Size) → AreComplete (given_sets g) stated → HasSome (IsEnvironment g stated)
+some_environment g stated h =
+    let sizes = some_sizes stated g h in
+    let all = worked_out g sizes.0 (length g) 0 [] (omega arith) (none-worked_out (at_sizes g sizes.0 []) refl) in
+    (at_sizes g sizes.0 all.0, (refl, sizes.1, all.1))

@@ -1,0 +1,13 @@
+pub mod Listed
+pub mod Orders
+pub mod Naturals
+pub mod Values
+pub mod Sets
+pub mod Numbers
+pub mod Operations
+pub mod Truths
+pub mod Builders
+pub mod Terms
+pub mod Carriers
+pub mod StatedSizes
+pub mod Environments

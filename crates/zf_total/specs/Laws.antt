@@ -1,0 +1,35 @@
+-- Everything has a meaning: there is an outcome, a truth, a carrier, an environment. That there is no second one are laws of `zf_meaning`.
+use Rattle.std.specs.Prelude.{◌≢◌, ◌⊎◌, ℕ, List}
+use Rattle.zf_term.specs.Definitions.{Defined}
+use Rattle.zf_term.specs.ResolvedTrees.{ResolvedTree}
+use Rattle.zf_term.specs.Types.{Ty}
+use Rattle.zf_value.specs.declared.value.Outcome.{Outcome}
+use Rattle.zf_value.specs.declared.value.Truth.{Truth}
+use Rattle.zf_meaning.specs.declared.sizes.Size.{Size}
+use Rattle.zf_meaning.specs.declared.sizes.SizeFault.{SizeFault}
+use Rattle.zf_meaning.specs.declared.sizes.SizeFault.TheVariants.{OutOfMemory}
+use Rattle.zf_meaning.specs.Carriers.{IsCarrier}
+use Rattle.zf_meaning.specs.Environments.{Environment, Context}
+use Rattle.zf_meaning.specs.GlobalOutcomes.{IsEnvironment}
+use Rattle.zf_meaning.specs.Meaning.{HasOutcome, IsTruth}
+use Rattle.zf_meaning.specs.Sizes.{given_sets, AreComplete, IsRefusal}
+
+-- Every expression has an outcome: a value, undefined, or out.
+abbrev pub EveryOutcome : Type 0
+EveryOutcome = (c : Context) (t : ResolvedTree) → (o : Outcome) × HasOutcome c t o
+
+-- Every predicate has a truth: true, false, or out.
+abbrev pub EveryTruth : Type 0
+EveryTruth = (c : Context) (t : ResolvedTree) → (u : Truth) × IsTruth c t u
+
+-- Every type has a carrier.
+abbrev pub EveryCarrier : Type 0
+EveryCarrier = (e : Environment) (t : Ty) → (o : Outcome) × IsCarrier e t o
+
+-- Stated sizes are complete, or they are refused for a fault of their own.
+abbrev pub SizesAreJudged : Type 0
+SizesAreJudged = (sets : List (List ℕ)) (sizes : List Size) → AreComplete sets sizes ⊎ ((fault : SizeFault) × IsRefusal sets sizes fault × (fault ≢ OutOfMemory))
+
+-- Globals at complete sizes have an environment.
+abbrev pub EveryEnvironment : Type 0
+EveryEnvironment = (g : List Defined) (stated : List Size) → AreComplete (given_sets g) stated → (e : Environment) × IsEnvironment g stated e
