@@ -1,0 +1,72 @@
+-- What operands that are what their places need make, by the rule of their symbol, or that the rule does not take them together.
+use Rattle.std.proofs.Common.{◌⊎◌, refl, inl, inr}
+use Rattle.zf_scan.specs.declared.token.Prefix.{Prefix}
+use Rattle.zf_scan.specs.declared.token.Prefix.TheVariants.{Power, Finset, Domain, Range, Size}
+use Rattle.zf_scan.specs.declared.token.Relation.{Relation}
+use Rattle.zf_scan.specs.declared.token.Relation.TheVariants.{Equal, NotEqual, Member, NotMember, Subset, ProperSubset, Less, AtMost, Greater, AtLeast}
+use Rattle.zf_text.specs.declared.tree.Sign.{Sign}
+use Rattle.zf_text.specs.declared.tree.Sign.TheVariants as sign
+use Rattle.zf_term.specs.Operators.{left_need, right_need, relation_rule, prefix_need, sign_need, need_of}
+use Rattle.zf_term.specs.declared.operator.Rule.{Rule}
+use Rattle.zf_term.specs.declared.operator.Rule.TheVariants as rule
+use Rattle.zf_term.specs.declared.operator.Unary.{Unary}
+use Rattle.zf_term.specs.declared.operator.Unary.TheVariants as unary
+use Rattle.zf_term.specs.Types.{int, power, pair}
+use Rattle.zf_type.specs.Rules.{Sort, typed, predicate, number, set_of, relation, Meets, Takes, PrefixTakes, SignTakes, UnaryTakes}
+use Rattle.zf_verdicts.proofs.Decided.{Decided, same_type, both}
+
+-- the rule takes the two together, or nothing is a whole of them
+abbrev pub AreCombined : Rule → Sort → Sort → Type 0
+AreCombined r x y = ((z : Sort) × Takes r x y z) ⊎ ((z : Sort) → Takes r x y z → ⊥)
+
+where_so : {P C : Type 0} {D : Sort → Type 0} → (P → C) → ((z : Sort) → D z → P) → Decided P → C ⊎ ((z : Sort) → D z → ⊥)
+where_so f g (inl p) = inl (f p)
+where_so f g (inr p) = inr (λ z d. p (g z d))
+
+pub combined : (r : Rule) (x y : Sort) → Meets (left_need r) x → Meets (right_need r) y → AreCombined r x y
+combined rule.Arithmetic x y p q = inl (number, (p, q, refl))
+combined rule.Interval x y p q = inl (set_of int, (p, q, refl))
+combined rule.Pairing x y p q = inl (typed (pair p.0 q.0), (p.0, q.0, p.1, q.1, refl))
+combined rule.SetFunction x y p q = where_so (λ e. (set_of p.0, (p.0, p.1, (cc), refl))) (λ z w. (cc)) (same_type p.0 q.0)
+combined rule.Overriding x y p q = where_so (λ e. (relation p.0 p.1, (p.0, p.1, p.2, (cc), refl))) (λ z w. ((cc), (cc))) (both (same_type p.0 q.0) (same_type p.1 q.1))
+combined rule.Composing x y p q = where_so (λ e. (relation p.0 q.1, (p.0, p.1, q.1, p.2, (cc), refl))) (λ z w. (cc)) (same_type p.1 q.0)
+combined rule.DomainRestricting x y p q = where_so (λ e. (relation p.0 q.1, (p.0, q.1, p.1, (cc), refl))) (λ z w. (cc)) (same_type p.0 q.0)
+combined rule.RangeRestricting x y p q = where_so (λ e. (relation p.0 p.1, (p.0, p.1, p.2, (cc), refl))) (λ z w. (cc)) (same_type p.1 q.0)
+combined rule.Relating x y p q = inl (set_of (power (pair p.0 q.0)), (p.0, q.0, p.1, q.1, refl))
+combined rule.Applying x y p q = where_so (λ e. (typed p.1, (p.0, p.1, p.2, (cc), refl))) (λ z w. (cc)) (same_type p.0 q.0)
+combined rule.Imaging x y p q = where_so (λ e. (set_of p.1, (p.0, p.1, p.2, (cc), refl))) (λ z w. (cc)) (same_type p.0 q.0)
+combined rule.Equating x y p q = where_so (λ e. (predicate, (p.0, p.1, (cc), refl))) (λ z w. (cc)) (same_type p.0 q.0)
+combined rule.Belonging x y p q = where_so (λ e. (predicate, (p.0, p.1, (cc), refl))) (λ z w. (cc)) (same_type p.0 q.0)
+combined rule.Including x y p q = where_so (λ e. (predicate, (p.0, p.1, (cc), refl))) (λ z w. (cc)) (same_type p.0 q.0)
+combined rule.Comparing x y p q = inl (predicate, (p, q, refl))
+combined rule.Connecting x y p q = inl (predicate, (p, q, refl))
+
+prefixed : (op : Prefix) (x : Sort) → Meets (prefix_need op) x → (z : Sort) × PrefixTakes op x z
+prefixed Power x p = (set_of (power p.0), (p.0, p.1, refl))
+prefixed Finset x p = (set_of (power p.0), (p.0, p.1, refl))
+prefixed Size x p = (number, (p.0, p.1, refl))
+prefixed Domain x p = (set_of p.0, (p.0, p.1, p.2, refl))
+prefixed Range x p = (set_of p.1, (p.0, p.1, p.2, refl))
+
+signed : (op : Sign) (x : Sort) → Meets (sign_need op) x → (z : Sort) × SignTakes op x z
+signed sign.Minus x p = (number, (p, refl))
+signed (sign.Symbol op) x p = prefixed op x p
+
+-- one operand that is what its place needs always makes something
+pub made : (op : Unary) (x : Sort) → Meets (need_of op) x → (z : Sort) × UnaryTakes op x z
+made (unary.Sign op) x p = signed op x p
+made unary.Inverse x p = (relation p.1 p.0, (p.0, p.1, p.2, refl))
+made unary.Not x p = (predicate, (p, refl))
+
+-- what the symbol of a relation makes is a predicate
+pub relates : (r : Relation) (x y z : Sort) → Takes (relation_rule r) x y z → Takes (relation_rule r) x y predicate
+relates Equal x y z p = (p.0, p.1, p.2, refl)
+relates NotEqual x y z p = (p.0, p.1, p.2, refl)
+relates Member x y z p = (p.0, p.1, p.2, refl)
+relates NotMember x y z p = (p.0, p.1, p.2, refl)
+relates Subset x y z p = (p.0, p.1, p.2, refl)
+relates ProperSubset x y z p = (p.0, p.1, p.2, refl)
+relates Less x y z p = (p.0, p.1, refl)
+relates AtMost x y z p = (p.0, p.1, refl)
+relates Greater x y z p = (p.0, p.1, refl)
+relates AtLeast x y z p = (p.0, p.1, refl)

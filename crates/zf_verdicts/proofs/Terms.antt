@@ -1,0 +1,286 @@
+-- A term has a sort that its place takes, or an offence there: its parts are judged first.
+use Rattle.std.proofs.Common.{◌≡◌, ◌⊎◌, ℕ, List, [], ◌++◌, Option, Some, None, refl, sym, subst, inl, inr}
+use Rattle.zf_text.specs.declared.tree.Name.{Name}
+use Rattle.zf_text.specs.Spelling.{line_of}
+use Rattle.zf_text.specs.Trees.{Tree, named, numeral, constant, empty_set, bracket, tuple, display, builder, prefixed, inverse, image, applied, infixed, arrow, product, chain, negated, connected, quantified, Trees, no_trees, tree, Links, no_links, link, VarDecls, no_decls, var_decl, Perhaps, absent, present}
+use Rattle.zf_scan.specs.declared.token.Quantifier.{Quantifier}
+use Rattle.zf_scan.specs.declared.token.Relation.{Relation}
+use Rattle.zf_term.specs.Operators.{left_need, right_need, rule_of, relation_rule, need_of}
+use Rattle.zf_term.specs.declared.operator.Need.{Need}
+use Rattle.zf_term.specs.declared.operator.Need.TheVariants as need
+use Rattle.zf_term.specs.declared.operator.Operator.TheVariants.{Function, Generic, Connective, Application, Image}
+use Rattle.zf_term.specs.declared.operator.Rule.{Rule}
+use Rattle.zf_term.specs.declared.operator.Unary.{Unary}
+use Rattle.zf_term.specs.declared.operator.Unary.TheVariants as unary
+use Rattle.zf_term.specs.declared.resolved.Reference.{Reference}
+use Rattle.zf_term.specs.Types as t
+use Rattle.zf_term.specs.Types.{Ty, power, Tys, no_types, type, IsSmall}
+use Rattle.zf_type.specs.declared.fault.TypeFaultKind.{TypeFaultKind}
+use Rattle.zf_type.specs.declared.fault.TypeFaultKind.TheVariants.{NotDeclared, Mismatch, TooLarge}
+use Rattle.zf_type.specs.Rules.{Sort, typed, predicate, a_schema, number, set_of, IsSmallSort, Meets, lack_of, Takes, UnaryTakes, constant_sort}
+use Rattle.zf_type.specs.Scopes.{Scope, Var, spelling, within, meaning}
+use Rattle.zf_type.specs.Typing.{variables, declared, row_type, AreApart, IsOf, AreOf, AreSetsOf, AllAreOf, AreLinked, Declare, Constrains, Builds}
+use Rattle.zf_type.specs.Offences.{Misplaced, Clash, MakesTooLarge, Repeats, OneDiffers, Differ, Offends, OneOffends, LinksOffend, SetsOffend, PartOffends}
+use Rattle.zf_verdicts.specs.Laws.{SomeOffence}
+use Rattle.zf_verdicts.proofs.Combined.{AreCombined, combined, made, relates}
+use Rattle.zf_verdicts.proofs.Decided.{Decided, same_type, is_small, is_small_sort, meets, are_apart}
+
+abbrev pub IsJudged : Scope → Need → Tree → Type 0
+IsJudged s n e = ((x : Sort) × IsOf s e x × Meets n x) ⊎ SomeOffence (Offends s n e)
+
+-- ---- a term whose sort is known: its place takes it, or it is misplaced
+
+module _ (s : Scope) (n : Need) (e : Tree) where
+  placed : (x : Sort) → IsOf s e x → ((k : TypeFaultKind) (m : ℕ) → Misplaced s n e k m → Offends s n e k m) → IsJudged s n e
+  placed x p offends = by (meets n x)
+    where
+      by : Decided (Meets n x) → IsJudged s n e
+      by (inl h) = inl (x, p, h)
+      by (inr h) = inr (lack_of n x, line_of e, offends (lack_of n x) (line_of e) (x, p, h, refl, refl))
+
+-- ---- forms, from what is judged of their parts
+
+of_name : (s : Scope) (n : Need) (x : Name) (o : Option (Reference × Sort)) → meaning s (spelling x) ≡ o → IsJudged s n (named x)
+of_name s n x None e = inr (NotDeclared, x.line, inl (e, refl, refl))
+of_name s n x (Some r) e = placed s n (named x) r.1 (r.0, e) (λ k m o. inr o)
+
+of_empty_set : (s : Scope) (n : Need) (l : ℕ) (e : Tree) → IsJudged s need.Set e → IsJudged s n (empty_set l e)
+of_empty_set s n l e (inl p) = placed s n (empty_set l e) (set_of p.2.0) (p.2.0, subst (IsOf s e) p.2.1 p.1, refl) (λ k m o. inr o)
+of_empty_set s n l e (inr o) = inr (o.0, o.1, inl o.2)
+
+not_a_schema : (n : Need) (x : Sort) → Meets n x → x ≡ a_schema → ⊥
+not_a_schema need.Expression x p e = (cc)
+not_a_schema need.Number x p e = (cc)
+not_a_schema need.Set x p e = (cc)
+not_a_schema need.Relation x p e = (cc)
+not_a_schema need.Predicate x p e = (cc)
+
+of_bracket : (s : Scope) (n : Need) (l : ℕ) (e : Tree) → IsJudged s n e → IsJudged s n (bracket l e)
+of_bracket s n l e (inl p) = inl (p.0, (p.1, not_a_schema n p.0 p.2), p.2)
+of_bracket s n l e (inr o) = inr (o.0, o.1, inl o.2)
+
+of_tuple : (s : Scope) (n : Need) (l : ℕ) (es : Trees) → ((us : Tys) × AreOf s es us) ⊎ SomeOffence (OneOffends s need.Expression es) → IsJudged s n (tuple l es)
+of_tuple s n l es (inr o) = inr (o.0, o.1, inl o.2)
+of_tuple s n l es (inl p) = by (is_small (t.product p.0))
+  where
+    by : Decided (IsSmall (t.product p.0)) → IsJudged s n (tuple l es)
+    by (inl small) = placed s n (tuple l es) (typed (t.product p.0)) (p.0, p.1, small, refl) (λ k m o. inr (inr o))
+    by (inr large) = inr (TooLarge, l, inr (inl (p.0, p.1, large, refl, refl)))
+
+of_product : (s : Scope) (n : Need) (l : ℕ) (es : Trees) → ((us : Tys) × AreSetsOf s es us) ⊎ SomeOffence (OneOffends s need.Set es) → IsJudged s n (product l es)
+of_product s n l es (inr o) = inr (o.0, o.1, inl o.2)
+of_product s n l es (inl p) = by (is_small (power (t.product p.0)))
+  where
+    by : Decided (IsSmall (power (t.product p.0))) → IsJudged s n (product l es)
+    by (inl small) = placed s n (product l es) (set_of (t.product p.0)) (p.0, p.1, small, refl) (λ k m o. inr (inr o))
+    by (inr large) = inr (TooLarge, l, inr (inl (p.0, p.1, large, refl, refl)))
+
+-- the members of a display have the type of the first, or one has another
+alike : (s : Scope) (u : Ty) (e : Tree) (es : Trees) (us : Tys) → IsOf s e (typed u) → AreOf s es us → AllAreOf s (tree e es) u ⊎ SomeOffence (OneDiffers s u es)
+alike s u e no_trees us p q = inl p
+alike s u e (tree f fs) us p q = by (same_type u q.0) (λ h. alike s u f fs q.1 (subst (λ v. IsOf s f (typed v)) (sym h) q.2) q.3)
+  where
+    then : AllAreOf s (tree f fs) u ⊎ SomeOffence (OneDiffers s u fs) → AllAreOf s (tree e (tree f fs)) u ⊎ SomeOffence (OneDiffers s u (tree f fs))
+    then (inl all) = inl (p, all)
+    then (inr o) = inr (o.0, o.1, inr o.2)
+
+    by : Decided (u ≡ q.0) → (u ≡ q.0 → AllAreOf s (tree f fs) u ⊎ SomeOffence (OneDiffers s u fs)) → AllAreOf s (tree e (tree f fs)) u ⊎ SomeOffence (OneDiffers s u (tree f fs))
+    by (inl h) rest = then (rest h)
+    by (inr h) rest = inr (Mismatch, line_of f, inl (q.0, q.2, h, refl, refl))
+
+all_alike : (s : Scope) (l : ℕ) (es : Trees) (us : Tys) → AreOf s es us → ((u : Ty) × AllAreOf s es u) ⊎ SomeOffence (Differ s l es)
+all_alike s l no_trees us p = inr (Mismatch, l, (refl, refl))
+all_alike s l (tree e es) us p = by (alike s p.0 e es p.1 p.2 p.3)
+  where
+    by : AllAreOf s (tree e es) p.0 ⊎ SomeOffence (OneDiffers s p.0 es) → ((u : Ty) × AllAreOf s (tree e es) u) ⊎ SomeOffence (Differ s l (tree e es))
+    by (inl all) = inl (p.0, all)
+    by (inr o) = inr (o.0, o.1, (p.0, p.2, o.2))
+
+of_display : (s : Scope) (n : Need) (l : ℕ) (es : Trees) → ((us : Tys) × AreOf s es us) ⊎ SomeOffence (OneOffends s need.Expression es) → IsJudged s n (display l es)
+of_display s n l es (inr o) = inr (o.0, o.1, inl o.2)
+of_display s n l es (inl p) = by (all_alike s l es p.0 p.1)
+  where
+    sized : (u : Ty) → AllAreOf s es u → Decided (IsSmall (power u)) → IsJudged s n (display l es)
+    sized u all (inl small) = placed s n (display l es) (set_of u) (u, all, small, refl) (λ k m o. inr (inr (inr o)))
+    sized u all (inr large) = inr (TooLarge, l, inr (inr (inl (u, all, large, refl, refl))))
+
+    by : ((u : Ty) × AllAreOf s es u) ⊎ SomeOffence (Differ s l es) → IsJudged s n (display l es)
+    by (inl a) = sized a.0 a.1 (is_small (power a.0))
+    by (inr o) = inr (o.0, o.1, inr (inl o.2))
+
+-- one operand
+module _ (s : Scope) (n : Need) (op : Unary) (l : ℕ) (a whole : Tree) where
+  of_one :
+      ((z : Sort) → (x : Sort) × IsOf s a x × UnaryTakes op x z × IsSmallSort z → IsOf s whole z)
+      → ((k : TypeFaultKind) (m : ℕ) → Offends s (need_of op) a k m ⊎ (MakesTooLarge s op l a k m ⊎ Misplaced s n whole k m) → Offends s n whole k m)
+      → IsJudged s (need_of op) a → IsJudged s n whole
+  of_one is offends (inr o) = inr (o.0, o.1, offends o.0 o.1 (inl o.2))
+  of_one is offends (inl p) = by (made op p.0 p.2)
+    where
+      sized : (z : Sort) → UnaryTakes op p.0 z → Decided (IsSmallSort z) → IsJudged s n whole
+      sized z w (inl small) = placed s n whole z (is z (p.0, p.1, w, small)) (λ k m o. offends k m (inr (inr o)))
+      sized z w (inr large) = inr (TooLarge, l, offends TooLarge l (inr (inl (p.0, z, p.1, w, large, refl, refl))))
+
+      by : (z : Sort) × UnaryTakes op p.0 z → IsJudged s n whole
+      by w = sized w.0 w.1 (is_small_sort w.0)
+
+-- two operands
+module _ (s : Scope) (n : Need) (r : Rule) (l : ℕ) (a b whole : Tree) where
+  of_two :
+      ((z : Sort) → (x y : Sort) × IsOf s a x × IsOf s b y × Takes r x y z × IsSmallSort z → IsOf s whole z)
+      → ((k : TypeFaultKind) (m : ℕ) → Offends s (left_need r) a k m ⊎ (Offends s (right_need r) b k m ⊎ (Clash s r l a b k m ⊎ Misplaced s n whole k m)) → Offends s n whole k m)
+      → IsJudged s (left_need r) a → IsJudged s (right_need r) b → IsJudged s n whole
+  of_two is offends (inr o) right = inr (o.0, o.1, offends o.0 o.1 (inl o.2))
+  of_two is offends (inl p) (inr o) = inr (o.0, o.1, offends o.0 o.1 (inr (inl o.2)))
+  of_two is offends (inl p) (inl q) = by (combined r p.0 q.0 p.2 q.2)
+    where
+      sized : (z : Sort) → Takes r p.0 q.0 z → Decided (IsSmallSort z) → IsJudged s n whole
+      sized z w (inl small) = placed s n whole z (is z (p.0, q.0, p.1, q.1, w, small)) (λ k m o. offends k m (inr (inr (inr o))))
+      sized z w (inr large) = inr (TooLarge, l, offends TooLarge l (inr (inr (inl (inr (p.0, q.0, z, p.1, q.1, w, large, refl, refl))))))
+
+      by : AreCombined r p.0 q.0 → IsJudged s n whole
+      by (inl w) = sized w.0 w.1 (is_small_sort w.0)
+      by (inr none) = inr (Mismatch, line_of b, offends Mismatch (line_of b) (inr (inr (inl (inl (p.0, q.0, p.1, q.1, p.2, q.2, none, refl, refl))))))
+
+-- a chain behind an operand
+module _ (s : Scope) (left : Tree) (x : Sort) (r : Relation) (e : Tree) (ks : Links) where
+  of_link :
+      IsOf s left x → Decided (Meets (left_need (relation_rule r)) x) → IsJudged s (right_need (relation_rule r)) e
+      → ((y : Sort) → IsOf s e y → AreLinked s y ks ⊎ SomeOffence (LinksOffend s e ks))
+      → AreLinked s x (link r e ks) ⊎ SomeOffence (LinksOffend s left (link r e ks))
+  of_link p (inr h) right rest = inr (lack_of (left_need (relation_rule r)) x, line_of left, inl (x, p, h, refl, refl))
+  of_link p (inl h) (inr o) rest = inr (o.0, o.1, inr (inl o.2))
+  of_link p (inl h) (inl q) rest = by (combined (relation_rule r) x q.0 h q.2)
+    where
+      linked : (z : Sort) → Takes (relation_rule r) x q.0 z → AreLinked s q.0 ks ⊎ SomeOffence (LinksOffend s e ks) → AreLinked s x (link r e ks) ⊎ SomeOffence (LinksOffend s left (link r e ks))
+      linked z w (inl links) = inl (q.0, q.1, relates r x q.0 z w, links)
+      linked z w (inr o) = inr (o.0, o.1, inr (inr (inr o.2)))
+
+      by : AreCombined (relation_rule r) x q.0 → AreLinked s x (link r e ks) ⊎ SomeOffence (LinksOffend s left (link r e ks))
+      by (inl w) = linked w.0 w.1 (rest q.0 q.1)
+      by (inr none) = inr (Mismatch, line_of e, inr (inr (inl (x, q.0, p, q.1, h, q.2, none, refl, refl))))
+
+of_chain :
+    (s : Scope) (n : Need) (l : ℕ) (e : Tree) (ks : Links) → IsJudged s need.Expression e
+    → ((x : Sort) → IsOf s e x → AreLinked s x ks ⊎ SomeOffence (LinksOffend s e ks)) → IsJudged s n (chain l e ks)
+of_chain s n l e ks (inr o) rest = inr (o.0, o.1, inl o.2)
+of_chain s n l e ks (inl p) rest = let is = subst (IsOf s e) p.2.1 p.1 in by is (rest (typed p.2.0) is)
+  where
+    by : IsOf s e (typed p.2.0) → AreLinked s (typed p.2.0) ks ⊎ SomeOffence (LinksOffend s e ks) → IsJudged s n (chain l e ks)
+    by is (inl links) = placed s n (chain l e ks) predicate (p.2.0, is, links, refl) (λ k m o. inr (inr o))
+    by is (inr o) = inr (o.0, o.1, inr (inl o.2))
+
+-- what binds variables: a builder
+module _ (s : Scope) (n : Need) (l : ℕ) (ds : VarDecls) (p e : Perhaps) where
+  of_builder :
+      AreApart (declared ds) ⊎ SomeOffence (Repeats (declared ds)) → ((vs : List Var) × Declare s ds vs) ⊎ SomeOffence (SetsOffend s ds)
+      → ((w : Scope) → Constrains w p ⊎ SomeOffence (PartOffends w need.Predicate p))
+      → ((w : Scope) (vs : List Var) → ((u : Ty) × Builds w vs e u) ⊎ SomeOffence (PartOffends w need.Expression e))
+      → IsJudged s n (builder l ds p e)
+  of_builder (inr o) sets constraint term = inr (o.0, o.1, inl o.2)
+  of_builder (inl apart) (inr o) constraint term = inr (o.0, o.1, inr (inl o.2))
+  of_builder (inl apart) (inl d) constraint term = by (constraint (within s d.0)) (term (within s d.0) d.0)
+    where
+      sized : Constrains (within s d.0) p → (u : Ty) → Builds (within s d.0) d.0 e u → Decided (IsSmall (power u)) → IsJudged s n (builder l ds p e)
+      sized c u b (inl small) = placed s n (builder l ds p e) (set_of u) (d.0, u, apart, d.1, c, b, small, refl) (λ k m o. inr (inr (inr o)))
+      sized c u b (inr large) = inr (TooLarge, l, inr (inr (inl (d.0, (apart, d.1), inr (inr (u, b, large, refl, refl))))))
+
+      by : Constrains (within s d.0) p ⊎ SomeOffence (PartOffends (within s d.0) need.Predicate p) → ((u : Ty) × Builds (within s d.0) d.0 e u) ⊎ SomeOffence (PartOffends (within s d.0) need.Expression e) → IsJudged s n (builder l ds p e)
+      by (inr o) term = inr (o.0, o.1, inr (inr (inl (d.0, (apart, d.1), inl o.2))))
+      by (inl c) (inr o) = inr (o.0, o.1, inr (inr (inl (d.0, (apart, d.1), inr (inl o.2)))))
+      by (inl c) (inl b) = sized c b.0 b.1 (is_small (power b.0))
+
+-- a quantifier
+module _ (s : Scope) (n : Need) (l : ℕ) (q : Quantifier) (ds : VarDecls) (p : Perhaps) (e : Tree) where
+  of_quantifier :
+      AreApart (declared ds) ⊎ SomeOffence (Repeats (declared ds)) → ((vs : List Var) × Declare s ds vs) ⊎ SomeOffence (SetsOffend s ds)
+      → ((w : Scope) → Constrains w p ⊎ SomeOffence (PartOffends w need.Predicate p))
+      → ((w : Scope) → IsJudged w need.Predicate e)
+      → IsJudged s n (quantified l q ds p e)
+  of_quantifier (inr o) sets constraint body = inr (o.0, o.1, inl o.2)
+  of_quantifier (inl apart) (inr o) constraint body = inr (o.0, o.1, inr (inl o.2))
+  of_quantifier (inl apart) (inl d) constraint body = by (constraint (within s d.0)) (body (within s d.0))
+    where
+      by : Constrains (within s d.0) p ⊎ SomeOffence (PartOffends (within s d.0) need.Predicate p) → IsJudged (within s d.0) need.Predicate e → IsJudged s n (quantified l q ds p e)
+      by (inr o) body = inr (o.0, o.1, inr (inr (inl (d.0, (apart, d.1), inl o.2))))
+      by (inl c) (inr o) = inr (o.0, o.1, inr (inr (inl (d.0, (apart, d.1), inr o.2))))
+      by (inl c) (inl b) = placed s n (quantified l q ds p e) predicate (d.0, apart, d.1, c, subst (IsOf (within s d.0) e) b.2 b.1, refl) (λ k m o. inr (inr (inr o)))
+
+-- ---- lists of parts, from what is judged of the first and of the rest
+
+first_of_row :
+    (s : Scope) (e : Tree) (es : Trees) → IsJudged s need.Expression e → ((us : Tys) × AreOf s es us) ⊎ SomeOffence (OneOffends s need.Expression es)
+    → ((us : Tys) × AreOf s (tree e es) us) ⊎ SomeOffence (OneOffends s need.Expression (tree e es))
+first_of_row s e es (inr o) rest = inr (o.0, o.1, inl o.2)
+first_of_row s e es (inl p) (inr o) = inr (o.0, o.1, inr o.2)
+first_of_row s e es (inl p) (inl q) = inl (type p.2.0 q.0, (p.2.0, q.0, subst (IsOf s e) p.2.1 p.1, q.1, refl))
+
+first_of_sets :
+    (s : Scope) (e : Tree) (es : Trees) → IsJudged s need.Set e → ((us : Tys) × AreSetsOf s es us) ⊎ SomeOffence (OneOffends s need.Set es)
+    → ((us : Tys) × AreSetsOf s (tree e es) us) ⊎ SomeOffence (OneOffends s need.Set (tree e es))
+first_of_sets s e es (inr o) rest = inr (o.0, o.1, inl o.2)
+first_of_sets s e es (inl p) (inr o) = inr (o.0, o.1, inr o.2)
+first_of_sets s e es (inl p) (inl q) = inl (type p.2.0 q.0, (p.2.0, q.0, subst (IsOf s e) p.2.1 p.1, q.1, refl))
+
+first_declared :
+    (s : Scope) (ns : List Name) (e : Tree) (ds : VarDecls) → IsJudged s need.Set e → ((vs : List Var) × Declare s ds vs) ⊎ SomeOffence (SetsOffend s ds)
+    → ((vs : List Var) × Declare s (var_decl ns e ds) vs) ⊎ SomeOffence (SetsOffend s (var_decl ns e ds))
+first_declared s ns e ds (inr o) rest = inr (o.0, o.1, inl o.2)
+first_declared s ns e ds (inl p) (inr o) = inr (o.0, o.1, inr o.2)
+first_declared s ns e ds (inl p) (inl q) = inl (variables ns p.2.0 ++ q.0, (p.2.0, q.0, subst (IsOf s e) p.2.1 p.1, q.1, refl))
+
+of_constraint : (s : Scope) (e : Tree) → IsJudged s need.Predicate e → Constrains s (present e) ⊎ SomeOffence (PartOffends s need.Predicate (present e))
+of_constraint s e (inl p) = inl (subst (IsOf s e) p.2 p.1)
+of_constraint s e (inr o) = inr o
+
+of_built : (s : Scope) (vs : List Var) (e : Tree) → IsJudged s need.Expression e → ((u : Ty) × Builds s vs (present e) u) ⊎ SomeOffence (PartOffends s need.Expression (present e))
+of_built s vs e (inl p) = inl (p.2.0, subst (IsOf s e) p.2.1 p.1)
+of_built s vs e (inr o) = inr o
+
+-- ---- every term
+
+mutual
+  pub judged : (s : Scope) (n : Need) (e : Tree) → IsJudged s n e
+  judged s n (named x) = of_name s n x (meaning s (spelling x)) refl
+  judged s n (numeral l v) = placed s n (numeral l v) number refl (λ k m o. o)
+  judged s n (constant l c) = placed s n (constant l c) (constant_sort c) refl (λ k m o. o)
+  judged s n (empty_set l e) = of_empty_set s n l e (judged s need.Set e)
+  judged s n (bracket l e) = of_bracket s n l e (judged s n e)
+  judged s n (tuple l es) = of_tuple s n l es (row_judged s es)
+  judged s n (display l es) = of_display s n l es (row_judged s es)
+  judged s n (builder l ds p e) = of_builder s n l ds p e (are_apart (declared ds)) (sets_judged s ds) (λ w. constraint_judged w p) (λ w vs. built_judged w vs e)
+  judged s n (prefixed l op e) = of_one s n (unary.Sign op) l e (prefixed l op e) (λ z p. p) (λ k m o. o) (judged s (need_of (unary.Sign op)) e)
+  judged s n (inverse l e) = of_one s n unary.Inverse l e (inverse l e) (λ z p. p) (λ k m o. o) (judged s (need_of unary.Inverse) e)
+  judged s n (negated l e) = of_one s n unary.Not l e (negated l e) (λ z p. p) (λ k m o. o) (judged s (need_of unary.Not) e)
+  judged s n (image l a b) = of_two s n (rule_of Image) l a b (image l a b) (λ z p. p) (λ k m o. o) (judged s (left_need (rule_of Image)) a) (judged s (right_need (rule_of Image)) b)
+  judged s n (applied l a b) = of_two s n (rule_of Application) l a b (applied l a b) (λ z p. p) (λ k m o. o) (judged s (left_need (rule_of Application)) a) (judged s (right_need (rule_of Application)) b)
+  judged s n (infixed l op a b) = of_two s n (rule_of (Function op)) l a b (infixed l op a b) (λ z p. p) (λ k m o. o) (judged s (left_need (rule_of (Function op))) a) (judged s (right_need (rule_of (Function op))) b)
+  judged s n (arrow l op a b) = of_two s n (rule_of (Generic op)) l a b (arrow l op a b) (λ z p. p) (λ k m o. o) (judged s (left_need (rule_of (Generic op))) a) (judged s (right_need (rule_of (Generic op))) b)
+  judged s n (connected l op a b) = of_two s n (rule_of (Connective op)) l a b (connected l op a b) (λ z p. p) (λ k m o. o) (judged s (left_need (rule_of (Connective op))) a) (judged s (right_need (rule_of (Connective op))) b)
+  judged s n (product l es) = of_product s n l es (sets_row_judged s es)
+  judged s n (chain l e ks) = of_chain s n l e ks (judged s need.Expression e) (λ x p. links_judged s e x ks p)
+  judged s n (quantified l q ds p e) = of_quantifier s n l q ds p e (are_apart (declared ds)) (sets_judged s ds) (λ w. constraint_judged w p) (λ w. judged w need.Predicate e)
+
+  row_judged : (s : Scope) (es : Trees) → ((us : Tys) × AreOf s es us) ⊎ SomeOffence (OneOffends s need.Expression es)
+  row_judged s no_trees = inl (no_types, refl)
+  row_judged s (tree e es) = first_of_row s e es (judged s need.Expression e) (row_judged s es)
+
+  sets_row_judged : (s : Scope) (es : Trees) → ((us : Tys) × AreSetsOf s es us) ⊎ SomeOffence (OneOffends s need.Set es)
+  sets_row_judged s no_trees = inl (no_types, refl)
+  sets_row_judged s (tree e es) = first_of_sets s e es (judged s need.Set e) (sets_row_judged s es)
+
+  links_judged : (s : Scope) (left : Tree) (x : Sort) (ks : Links) → IsOf s left x → AreLinked s x ks ⊎ SomeOffence (LinksOffend s left ks)
+  links_judged s left x no_links p = inl tt
+  links_judged s left x (link r e ks) p = of_link s left x r e ks p (meets (left_need (relation_rule r)) x) (judged s (right_need (relation_rule r)) e) (λ y q. links_judged s e y ks q)
+
+  sets_judged : (s : Scope) (ds : VarDecls) → ((vs : List Var) × Declare s ds vs) ⊎ SomeOffence (SetsOffend s ds)
+  sets_judged s no_decls = inl ([], refl)
+  sets_judged s (var_decl ns e ds) = first_declared s ns e ds (judged s need.Set e) (sets_judged s ds)
+
+  constraint_judged : (s : Scope) (p : Perhaps) → Constrains s p ⊎ SomeOffence (PartOffends s need.Predicate p)
+  constraint_judged s absent = inl tt
+  constraint_judged s (present e) = of_constraint s e (judged s need.Predicate e)
+
+  built_judged : (s : Scope) (vs : List Var) (e : Perhaps) → ((u : Ty) × Builds s vs e u) ⊎ SomeOffence (PartOffends s need.Expression e)
+  built_judged s vs absent = inl (row_type vs, refl)
+  built_judged s vs (present e) = of_built s vs e (judged s need.Expression e)
