@@ -10,3 +10,4 @@ pub mod Shown
 pub mod EverySource
 pub mod ListedValues
 pub mod NamedRows
+pub mod EveryAnswer

@@ -22,7 +22,7 @@ use Rattle.zf_texts.specs.Spellings.{spellings}
 use Rattle.zf_lines.specs.declared.fault.Status.{Status}
 use Rattle.zf_lines.specs.Searches.{HasEvents, IsTestsLine, IsWritten}
 use Rattle.zf_lines.specs.Texts.{binding_line}
-use Rattle.zf_engine.specs.Answers.{Answer, Checks, HasSchema, IsNamedRow, NamesNoRow, Request, stated}
+use Rattle.zf_engine.specs.Answers.{Answer, Checks, HasSchema, IsLimited, IsNamedRow, NamesNoRow, Request, stated}
 use Rattle.zf_engine.specs.Texts.{not_a_binding_line, text_fault_line, type_fault_line}
 use Rattle.zf_answers.specs.Bindings.{ShowsBindings}
 
@@ -115,3 +115,9 @@ EverySourceIsRead = (source : List ℕ) → ((boxes : List BoxTree) × ReadsSour
 -- A text is the line of a row of the components' types, or of none; where no text is given no row is named.
 abbrev pub EveryLineIsJudged : Type 0
 EveryLineIsJudged = (e : Environment) (comps : List Comp) (text : Option (List ℕ)) → ((after : Option (List Value)) × IsNamedRow e comps text after) ⊎ NamesNoRow e comps text
+
+-- ---- every request
+
+-- Each request, with a limit of at least 1 if it has one, has an answer.
+abbrev pub EveryRequestIsAnswered : Type 0
+EveryRequestIsAnswered = (job : Job) (file source : List ℕ) → IsLimited job → (text : List ℕ) × (status : Status) × Answer job file source text status

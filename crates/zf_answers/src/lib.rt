@@ -1,7 +1,7 @@
 //! Laws over what is answered, above the answers of the engine: each source has one answer, and that of `show` has each binding once.
 #![tactic(auto)]
 
-ghost use Rattle.zf_answers.specs.Laws.{EachBindingIsShown, EventsAreShown, EveryLineIsJudged, EverySourceIsRead, IsShownInOneWay, OneStatus, OneText};
+ghost use Rattle.zf_answers.specs.Laws.{EachBindingIsShown, EventsAreShown, EveryLineIsJudged, EveryRequestIsAnswered, EverySourceIsRead, IsShownInOneWay, OneStatus, OneText};
 
 /// What `show` answers, where nothing stands in its way: the line of each binding, once, in ascending order.
 pub fn each_binding_is_shown()
@@ -27,3 +27,10 @@ pub fn every_source_is_read()
 pub fn every_line_is_judged()
     ensures { EveryLineIsJudged }
 {}
+
+/// Each request has an answer.
+pub fn every_request_is_answered()
+    ensures { EveryRequestIsAnswered }
+{
+    every_source_is_read();
+}
