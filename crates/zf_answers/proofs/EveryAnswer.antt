@@ -1,5 +1,5 @@
 -- Each request has an answer: it is refused at a stage, or what is asked for is searched.
-use Rattle.std.proofs.Common.{◌≡◌, ◌≢◌, ℕ, ◌+◌, ◌⊎◌, IsTrue, Bool, true, false, if◌then◌else◌, List, [], ◌∷◌, ◌++◌, Option, Some, None, refl, sym, ap, ◌∙◌, inl, inr, subst}
+use Rattle.std.proofs.Common.{◌≡◌, ℕ, ◌+◌, ◌⊎◌, IsTrue, Bool, true, false, if◌then◌else◌, List, [], ◌∷◌, ◌++◌, Option, Some, None, refl, sym, ap, ◌∙◌, inl, inr, subst}
 use Rattle.std.specs.Str.{bytes_eq}
 use Rattle.std.specs.List.{AllByRecursion, flat_map}
 use Rattle.std.proofs.lemmas.Option.{same_Some, none-some}
@@ -8,7 +8,7 @@ use Rattle.zf_command.specs.declared.job.Job.TheVariants.{Check, Show}
 use Rattle.zf_command.specs.declared.job.Size as command
 use Rattle.zf_scan.specs.declared.fault.TextFault.{TextFault}
 use Rattle.zf_text.specs.Parsing.{ReadsSource, RefusesSource}
-use Rattle.zf_finite.specs.Finite.{infinite_lines, IsFinite, one_bounds}
+use Rattle.zf_finite.specs.Finite.{infinite_lines, one_bounds}
 use Rattle.zf_finite.proofs.FiniteSchemas.{finite_without_lines}
 use Rattle.zf_text.specs.Trees.{BoxTree}
 use Rattle.zf_term.specs.Definitions.{Comp, Defined, Definition, Schema, given_set, free_type, constructor, abbreviation, schema, sets_of}
@@ -16,24 +16,18 @@ use Rattle.zf_term.specs.Extents.{first}
 use Rattle.zf_term.specs.FirstNamed.{first_named, later}
 use Rattle.zf_term.proofs.SameNames.{is_same}
 use Rattle.zf_type.specs.declared.fault.TypeFault.{TypeFault}
-use Rattle.zf_schema.specs.Checking.{IsChecked}
 use Rattle.zf_value.specs.declared.value.Value.{Value}
-use Rattle.zf_walk.specs.Events.{Event}
-use Rattle.zf_meaning.specs.declared.sizes.Size.{Size}
-use Rattle.zf_meaning.specs.declared.sizes.SizeFault.{SizeFault}
-use Rattle.zf_meaning.specs.declared.sizes.SizeFault.TheVariants as size_faults
 use Rattle.zf_meaning.specs.Environments.{Environment}
-use Rattle.zf_meaning.specs.GlobalOutcomes.{IsEnvironment}
-use Rattle.zf_meaning.specs.Sizes.{given_sets, AreComplete, IsRefusal}
-use Rattle.zf_enum.specs.Ranges.{AreRanges, IsFirstOut, IsNoneOut}
+use Rattle.zf_meaning.specs.Sizes.{given_sets, AreComplete}
+use Rattle.zf_enum.specs.Ranges.{IsNoneOut}
 use Rattle.zf_texts.specs.Spellings.{spellings}
 use Rattle.zf_lines.specs.declared.fault.Status.{Status}
 use Rattle.zf_lines.specs.declared.fault.Status.TheVariants.{BadRequest, BadSpec, PastBounds}
-use Rattle.zf_lines.specs.Searches.{HasEvents, IsBelow, IsTestsLine, IsWritten}
+use Rattle.zf_lines.specs.Searches.{IsBelow}
 use Rattle.zf_lines.specs.Texts.{binding_line}
-use Rattle.zf_engine.specs.Answers.{Answer, Checks, HasSchema, IsAsked, IsLimited, IsNamed, IsNamedRow, IsSearch, JobAnswer, NamesNoRow, Request, ShowAnswer, check_status, check_text, request, size_fault_line, stated}
+use Rattle.zf_engine.specs.Answers.{Answer, Checks, HasSchema, IsAsked, IsLimited, IsNamed, IsNamedRow, IsSearch, JobAnswer, Request, ShowAnswer, check_status, check_text, request, size_fault_line, stated}
 use Rattle.zf_engine.specs.Texts.{declared_out_line, fault_line, no_schema_line, not_a_binding_line, not_finite_text, text_fault_line, type_fault_line}
-use Rattle.zf_answers.specs.Laws.{EveryLineIsJudged, EveryRequestIsAnswered, EverySourceIsRead}
+use Rattle.zf_answers.specs.Laws.{EveryRequestIsAnswered, EverySourceIsRead}
 use Rattle.zf_answers.proofs.NamedRows.{every_line_is_judged}
 use Rattle.zf_found.proofs.Ranges.{first_out_or_none, some_ranges}
 use Rattle.zf_found.proofs.Searches.{some_search, some_tests_line}

@@ -98,22 +98,22 @@ module _ (r : Request) (file source one two : List ℕ) (s t : Status) where
 
 alike_faults : (file source : List ℕ) (g : List Defined) (es fs : List TypeFault) (listed one two : List ℕ) (s t : Status) → Checks source g es → Checks source g fs → AreOfSame es fs
     → one ≡ flat_map (type_fault_line file) es ++ listed → two ≡ flat_map (type_fault_line file) fs ++ listed → s ≡ check_status es → t ≡ check_status fs → IsOne file source one two s t
-alike_faults file source g [] [] listed one two s t p q same told uold done eone = of_same file source one two s t (done ∙ sym eone) (told ∙ sym uold)
-alike_faults file source g [] (f ∷ fs) listed one two s t p q same told uold done eone = absurd same
-alike_faults file source g (e ∷ es) [] listed one two s t p q same told uold done eone = absurd same
-alike_faults file source g (e ∷ es) (f ∷ fs) listed one two s t p q same told uold done eone = (done ∙ sym eone, AreAlike.types g (e ∷ es) (f ∷ fs) listed p q (λ none. cc) same told uold)
+alike_faults file source g [] [] listed one two s t p q same told other_told done other_done = of_same file source one two s t (done ∙ sym other_done) (told ∙ sym other_told)
+alike_faults file source g [] (f ∷ fs) listed one two s t p q same told other_told done other_done = absurd same
+alike_faults file source g (e ∷ es) [] listed one two s t p q same told other_told done other_done = absurd same
+alike_faults file source g (e ∷ es) (f ∷ fs) listed one two s t p q same told other_told done other_done = (done ∙ sym other_done, AreAlike.types g (e ∷ es) (f ∷ fs) listed p q (λ none. cc) same told other_told)
 
 one_check_answer : (types : Bool) (file source one two : List ℕ) (s t : Status) → CheckAnswer types file source one s → CheckAnswer types file source two t → IsOne file source one two s t
-one_check_answer types file source one two s t (g, es, p, told, done) (h, fs, q, uold, eone) =
+one_check_answer types file source one two s t (g, es, p, told, done) (h, fs, q, other_told, other_done) =
     let c = one_checked source g h es fs p q in
     alike_faults file source h es fs (if types then listing h else []) one two s t (subst (λ h. Checks source h es) c.0 p) q c.1
-    (told ∙ ap (λ h. check_text types file h es) c.0) uold done eone
+    (told ∙ ap (λ h. check_text types file h es) c.0) other_told done other_done
 
 -- ---- answers of a job
 
 -- what is read is not refused
 read_unread : (job : Job) (file source one two : List ℕ) (s t : Status) → UnreadAnswer file source one s → JobAnswer job file source two t → ⊥
-read_unread (Check types) file source one two s t (fault, refused, told, bad) (g, es, p, uold, done) = unread source fault p.boxes refused p.reads
+read_unread (Check types) file source one two s t (fault, refused, told, bad) (g, es, p, other_told, done) = unread source fault p.boxes refused p.reads
 read_unread (Show name sizes after limit tests) file source one two s t (fault, refused, told, bad) answer =
     go (staged (request name sizes after limit tests) file source two t answer)
   where
@@ -122,9 +122,9 @@ read_unread (Show name sizes after limit tests) file source one two s t (fault, 
     go (inr x) = let checks = x.1 in unread source fault checks.boxes refused checks.reads
 
 one_unread : (file source one two : List ℕ) (s t : Status) → UnreadAnswer file source one s → UnreadAnswer file source two t → IsOne file source one two s t
-one_unread file source one two s t (e, refused, told, bad) (f, sefused, uold, cad) = (
-  bad ∙ sym cad,
-  elim (one_refused file source one two e f refused sefused told uold) [
+one_unread file source one two s t (e, refused, told, bad) (f, other_refused, other_told, other_bad) = (
+  bad ∙ sym other_bad,
+  elim (one_refused file source one two e f refused other_refused told other_told) [
     | inl same ↦ AreAlike.same same
     | inr both ↦ AreAlike.grammar both.0 both.1
   ],

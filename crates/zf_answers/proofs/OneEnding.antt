@@ -56,34 +56,34 @@ module _ {V : Type 0} (line : List V → List ℕ) (limit : Option ℕ) where
       All-front (λ x. x.truth ≡ True) us b.0 (subst Hold b.1 hold)
   hold_before events last text status (IsWritten.ends none hold below told done) us m vs q = All-front (λ x. x.truth ≡ True) us (m ∷ vs) (subst Hold q hold)
 
-  pub record AreOneEnd (last mast : Option (List V)) (text other : List ℕ) (status mtatus : Status) : Type 0 where
-    pub lasts : last ≡ mast
+  pub record AreOneEnd (last other_last : Option (List V)) (text other : List ℕ) (status other_status : Status) : Type 0 where
+    pub lasts : last ≡ other_last
     pub texts : text ≡ other
-    pub statuses : status ≡ mtatus
+    pub statuses : status ≡ other_status
 
   -- the same events end in one way
-  pub one_end : (events : List (Event V)) (last mast : Option (List V)) (text other : List ℕ) (status mtatus : Status)
-      → IsWritten line limit events last text status → IsWritten line limit events mast other mtatus → AreOneEnd last mast text other status mtatus
-  one_end events last mast text other status mtatus (IsWritten.pauses front e is up hold reached told done) (IsWritten.pauses gront f js vp iold seached uold eone) =
-      let same = same_last front gront e f (sym is ∙ js) in
-      record { lasts = up ∙ ap (λ (x : Event V). Some x.row) same.1 ∙ sym vp; texts = told ∙ sym uold; statuses = done ∙ sym eone }
-  one_end events last mast text other status mtatus (IsWritten.pauses front e is up hold reached told done) (IsWritten.breaks gront f js vp iold out below uold past) =
-      absurd (held events f hold (subst (λ es. Contains es f) (sym js) (last_of gront f)) out)
-  one_end events last mast text other status mtatus (IsWritten.pauses front e is up hold reached told done) (IsWritten.ends none iold below uold eone) =
+  pub one_end : (events : List (Event V)) (last other_last : Option (List V)) (text other : List ℕ) (status other_status : Status)
+      → IsWritten line limit events last text status → IsWritten line limit events other_last other other_status → AreOneEnd last other_last text other status other_status
+  one_end events last other_last text other status other_status (IsWritten.pauses front e is up hold reached told done) (IsWritten.pauses other_front f other_is other_up other_hold other_reached other_told other_done) =
+      let same = same_last front other_front e f (sym is ∙ other_is) in
+      record { lasts = up ∙ ap (λ (x : Event V). Some x.row) same.1 ∙ sym other_up; texts = told ∙ sym other_told; statuses = done ∙ sym other_done }
+  one_end events last other_last text other status other_status (IsWritten.pauses front e is up hold reached told done) (IsWritten.breaks other_front f other_is other_up other_hold out below other_told past) =
+      absurd (held events f hold (subst (λ es. Contains es f) (sym other_is) (last_of other_front f)) out)
+  one_end events last other_last text other status other_status (IsWritten.pauses front e is up hold reached told done) (IsWritten.ends none other_hold below other_told other_done) =
       absurd (let b : length events < length events = subst (λ l. IsBelow l (length events)) reached below in omega arith)
-  one_end events last mast text other status mtatus (IsWritten.breaks front e is up hold out below told past) (IsWritten.pauses gront f js vp iold seached uold eone) =
-      absurd (held events e iold (subst (λ es. Contains es e) (sym is) (last_of front e)) out)
-  one_end events last mast text other status mtatus (IsWritten.breaks front e is up hold out below told past) (IsWritten.breaks gront f js vp iold put celow uold qast) =
-      let same = same_last front gront e f (sym is ∙ js) in
-      record { lasts = up ∙ ap (λ (x : Event V). Some x.row) same.1 ∙ sym vp; texts = cc; statuses = past ∙ sym qast }
-  one_end events last mast text other status mtatus (IsWritten.breaks front e is up hold out below told past) (IsWritten.ends none iold celow uold eone) =
-      absurd (held events e iold (subst (λ es. Contains es e) (sym is) (last_of front e)) out)
-  one_end events last mast text other status mtatus (IsWritten.ends none hold below told done) (IsWritten.pauses gront f js vp iold seached uold eone) =
-      absurd (let b : length events < length events = subst (λ l. IsBelow l (length events)) seached below in omega arith)
-  one_end events last mast text other status mtatus (IsWritten.ends none hold below told done) (IsWritten.breaks gront f js vp iold out celow uold past) =
-      absurd (held events f hold (subst (λ es. Contains es f) (sym js) (last_of gront f)) out)
-  one_end events last mast text other status mtatus (IsWritten.ends none hold below told done) (IsWritten.ends mone iold celow uold eone) =
-      record { lasts = none ∙ sym mone; texts = told ∙ sym uold; statuses = done ∙ sym eone }
+  one_end events last other_last text other status other_status (IsWritten.breaks front e is up hold out below told past) (IsWritten.pauses other_front f other_is other_up other_hold other_reached other_told other_done) =
+      absurd (held events e other_hold (subst (λ es. Contains es e) (sym is) (last_of front e)) out)
+  one_end events last other_last text other status other_status (IsWritten.breaks front e is up hold out below told past) (IsWritten.breaks other_front f other_is other_up other_hold other_out other_below other_told other_past) =
+      let same = same_last front other_front e f (sym is ∙ other_is) in
+      record { lasts = up ∙ ap (λ (x : Event V). Some x.row) same.1 ∙ sym other_up; texts = cc; statuses = past ∙ sym other_past }
+  one_end events last other_last text other status other_status (IsWritten.breaks front e is up hold out below told past) (IsWritten.ends none other_hold other_below other_told other_done) =
+      absurd (held events e other_hold (subst (λ es. Contains es e) (sym is) (last_of front e)) out)
+  one_end events last other_last text other status other_status (IsWritten.ends none hold below told done) (IsWritten.pauses other_front f other_is other_up other_hold other_reached other_told other_done) =
+      absurd (let b : length events < length events = subst (λ l. IsBelow l (length events)) other_reached below in omega arith)
+  one_end events last other_last text other status other_status (IsWritten.ends none hold below told done) (IsWritten.breaks other_front f other_is other_up other_hold out other_below other_told past) =
+      absurd (held events f hold (subst (λ es. Contains es f) (sym other_is) (last_of other_front f)) out)
+  one_end events last other_last text other status other_status (IsWritten.ends none hold below told done) (IsWritten.ends other_none other_hold other_below other_told other_done) =
+      record { lasts = none ∙ sym other_none; texts = told ∙ sym other_told; statuses = done ∙ sym other_done }
 
 -- ---- the truth of a whole row is one
 
@@ -137,7 +137,7 @@ module _ {V : Type 0} (cmp : V → V → Ordering) (o : IsTotalOrder cmp) (ties 
   up_to_before (Some whole) a b l c u = λ less. u (subst (λ n. slice_cmp cmp (take n whole) b ≡ Less) l ((lists_total o).trans (take (length a) whole) a b less c))
 
   module _ (s : Conjuncts V) (one : TellsOneTruth s) (ranges : List (List V)) (after : Option (List V)) where
-    module _ (xs ys : List (Event V)) (last mast : Option (List V)) (h : AreEventsUpTo cmp s ranges after last xs) (k : AreEventsUpTo cmp s ranges after mast ys) where
+    module _ (xs ys : List (Event V)) (last other_last : Option (List V)) (h : AreEventsUpTo cmp s ranges after last xs) (k : AreEventsUpTo cmp s ranges after other_last ys) where
       is_x : (x : Event V) → Contains xs x → IsEvent cmp s ranges after x
       is_x x m = ((h.members x).0 m).0
 
@@ -152,30 +152,30 @@ module _ {V : Type 0} (cmp : V → V → Ordering) (o : IsTotalOrder cmp) (ties 
       pub begins : ((more : List (Event V)) × (ys ≡ xs ++ more)) ⊎ ((more : List (Event V)) × (xs ≡ ys ++ more))
       begins = one_begins Follows (λ x y r q. never_both x.row y.row r q) xs ys h.ascending k.ascending
           (λ x y m n. elim (rows_compared x.row y.row) [ inl e ↦ inl (same_event s one cmp ranges after x y (is_x x m) (is_y y n) e) | inr r ↦ inr r ])
-          (λ x y m n r. (k.members x).1 (is_x x m, up_to_before mast x.row y.row (as_long x y (is_x x m) (is_y y n)) r ((k.members y).0 n).1))
+          (λ x y m n r. (k.members x).1 (is_x x m, up_to_before other_last x.row y.row (as_long x y (is_x x m) (is_y y n)) r ((k.members y).0 n).1))
           (λ x y m n r. (h.members y).1 (is_y y n, up_to_before last y.row x.row (as_long y x (is_y y n) (is_x x m)) r ((h.members x).0 m).1))
 
       -- where the lines end at the end of the first list, the second is no longer
-      pub no_more : (line : List V → List ℕ) (limit : Option ℕ) (text other : List ℕ) (status mtatus : Status) (more : List (Event V)) → ys ≡ xs ++ more
-          → IsWritten line limit xs last text status → IsWritten line limit ys mast other mtatus → more ≡ []
-      no_more line limit text other status mtatus [] q w v = refl
-      no_more line limit text other status mtatus (m ∷ more) q (IsWritten.pauses front e is up hold reached told done) v =
-          let f : length ys ≤ length xs = subst (λ l. IsWithin l (length ys)) reached (few line limit ys mast other mtatus v) in
+      pub no_more : (line : List V → List ℕ) (limit : Option ℕ) (text other : List ℕ) (status other_status : Status) (more : List (Event V)) → ys ≡ xs ++ more
+          → IsWritten line limit xs last text status → IsWritten line limit ys other_last other other_status → more ≡ []
+      no_more line limit text other status other_status [] q w v = refl
+      no_more line limit text other status other_status (m ∷ more) q (IsWritten.pauses front e is up hold reached told done) v =
+          let f : length ys ≤ length xs = subst (λ l. IsWithin l (length ys)) reached (few line limit ys other_last other other_status v) in
           nothing_more xs (m ∷ more) (subst (λ zs. length zs ≤ length xs) q f)
-      no_more line limit text other status mtatus (m ∷ more) q (IsWritten.breaks front e is up hold out below told past) v =
-          absurd (held line limit xs e (hold_before line limit ys mast other mtatus v xs m more q) (subst (λ es. Contains es e) (sym is) (last_of line limit front e)) out)
-      no_more line limit text other status mtatus (m ∷ more) q (IsWritten.ends none hold below told done) v =
+      no_more line limit text other status other_status (m ∷ more) q (IsWritten.breaks front e is up hold out below told past) v =
+          absurd (held line limit xs e (hold_before line limit ys other_last other other_status v xs m more q) (subst (λ es. Contains es e) (sym is) (last_of line limit front e)) out)
+      no_more line limit text other status other_status (m ∷ more) q (IsWritten.ends none hold below told done) v =
           let n : Contains ys m = subst (λ zs. Contains zs m) (sym q) (Contains-right xs (m ∷ more) m (Contains-head m more)) in
           let there : Contains xs m = (h.members m).1 (is_y m n, subst (λ w. IsUpTo cmp w m.row) (sym none) tt) in
           absurd (never_itself m.row (AllPairs-across Follows xs (m ∷ more) (subst (λ zs. AllPairs Follows zs) q k.ascending) m m there (Contains-head m more)))
 
     -- there is one list of events up to where the lines end
-    pub one_list_up_to : (line : List V → List ℕ) (limit : Option ℕ) (xs ys : List (Event V)) (last mast : Option (List V)) (text other : List ℕ) (status mtatus : Status)
-        → AreEventsUpTo cmp s ranges after last xs → AreEventsUpTo cmp s ranges after mast ys
-        → IsWritten line limit xs last text status → IsWritten line limit ys mast other mtatus → xs ≡ ys
-    one_list_up_to line limit xs ys last mast text other status mtatus h k w v = elim (begins xs ys last mast h k) [
-      | inl m ↦ sym (m.1 ∙ whole xs m.0 (no_more xs ys last mast h k line limit text other status mtatus m.0 m.1 w v))
-      | inr m ↦ m.1 ∙ whole ys m.0 (no_more ys xs mast last k h line limit other text mtatus status m.0 m.1 v w)
+    pub one_list_up_to : (line : List V → List ℕ) (limit : Option ℕ) (xs ys : List (Event V)) (last other_last : Option (List V)) (text other : List ℕ) (status other_status : Status)
+        → AreEventsUpTo cmp s ranges after last xs → AreEventsUpTo cmp s ranges after other_last ys
+        → IsWritten line limit xs last text status → IsWritten line limit ys other_last other other_status → xs ≡ ys
+    one_list_up_to line limit xs ys last other_last text other status other_status h k w v = elim (begins xs ys last other_last h k) [
+      | inl m ↦ sym (m.1 ∙ whole xs m.0 (no_more xs ys last other_last h k line limit text other status other_status m.0 m.1 w v))
+      | inr m ↦ m.1 ∙ whole ys m.0 (no_more ys xs other_last last k h line limit other text other_status status m.0 m.1 v w)
     ]
       where
         whole : (zs more : List (Event V)) → more ≡ [] → zs ++ more ≡ zs
@@ -185,9 +185,9 @@ module _ {V : Type 0} (cmp : V → V → Ordering) (o : IsTotalOrder cmp) (ties 
             nil_right [] = refl
             nil_right (z ∷ zs) = ap (λ us. z ∷ us) (nil_right zs)
 
-    pub one_ending : (line : List V → List ℕ) (limit : Option ℕ) (xs ys : List (Event V)) (last mast : Option (List V)) (text other : List ℕ) (status mtatus : Status)
-        → AreEventsUpTo cmp s ranges after last xs → AreEventsUpTo cmp s ranges after mast ys
-        → IsWritten line limit xs last text status → IsWritten line limit ys mast other mtatus → AreOneEnd line limit last mast text other status mtatus
-    one_ending line limit xs ys last mast text other status mtatus h k w v =
-        one_end line limit xs last mast text other status mtatus w
-        (subst (λ es. IsWritten line limit es mast other mtatus) (sym (one_list_up_to line limit xs ys last mast text other status mtatus h k w v)) v)
+    pub one_ending : (line : List V → List ℕ) (limit : Option ℕ) (xs ys : List (Event V)) (last other_last : Option (List V)) (text other : List ℕ) (status other_status : Status)
+        → AreEventsUpTo cmp s ranges after last xs → AreEventsUpTo cmp s ranges after other_last ys
+        → IsWritten line limit xs last text status → IsWritten line limit ys other_last other other_status → AreOneEnd line limit last other_last text other status other_status
+    one_ending line limit xs ys last other_last text other status other_status h k w v =
+        one_end line limit xs last other_last text other status other_status w
+        (subst (λ es. IsWritten line limit es other_last other other_status) (sym (one_list_up_to line limit xs ys last other_last text other status other_status h k w v)) v)

@@ -9,22 +9,22 @@ use Rattle.zf_meaning.specs.declared.sizes.Size.{Size}
 use Rattle.zf_meaning.specs.declared.sizes.SizeFault.{SizeFault}
 use Rattle.zf_meaning.specs.declared.sizes.SizeFault.TheVariants.{NoSize, NotGiven, SizeTwice, SizeTooLarge, OutOfMemory}
 use Rattle.zf_meaning.specs.Sizes.{names, IsAccepted, AreAccepted, AreComplete, Refuses, RefusesSize, LacksSize, IsRefusal, IsStated, AddsSize, AreSizes}
-use Rattle.zf_answers.proofs.Rows.{Contains-map}
+use Rattle.zf_total.proofs.Orders.{Contains-map}
 
 -- ---- two places of one list
 
 -- they are one, or the element at one of them stands before the other
-pub two_places : {X : Type 0} (front : List X) (x : X) (rest gront : List X) (y : X) (sest : List X) → front ++ x ∷ rest ≡ gront ++ y ∷ sest
-    → ((front ≡ gront) × (x ≡ y)) ⊎ (((mid : List X) × (gront ≡ front ++ x ∷ mid)) ⊎ ((mid : List X) × (front ≡ gront ++ y ∷ mid)))
-two_places [] x rest [] y sest e = inl (refl, cc)
-two_places [] x rest (w ∷ gront) y sest e = let h : w ≡ x = cc in inr (inl (gront, ap (λ z. z ∷ gront) h))
-two_places (v ∷ front) x rest [] y sest e = let h : v ≡ y = cc in inr (inr (front, ap (λ z. z ∷ front) h))
-two_places {X} (v ∷ front) x rest (w ∷ gront) y sest e =
+pub two_places : {X : Type 0} (front : List X) (x : X) (rest other_front : List X) (y : X) (other_rest : List X) → front ++ x ∷ rest ≡ other_front ++ y ∷ other_rest
+    → ((front ≡ other_front) × (x ≡ y)) ⊎ (((mid : List X) × (other_front ≡ front ++ x ∷ mid)) ⊎ ((mid : List X) × (front ≡ other_front ++ y ∷ mid)))
+two_places [] x rest [] y other_rest e = inl (refl, cc)
+two_places [] x rest (w ∷ other_front) y other_rest e = let h : w ≡ x = cc in inr (inl (other_front, ap (λ z. z ∷ other_front) h))
+two_places (v ∷ front) x rest [] y other_rest e = let h : v ≡ y = cc in inr (inr (front, ap (λ z. z ∷ front) h))
+two_places {X} (v ∷ front) x rest (w ∷ other_front) y other_rest e =
     let head : v ≡ w = cc in
-    let tail : front ++ x ∷ rest ≡ gront ++ y ∷ sest = cc in
-    elim (two_places front x rest gront y sest tail) [
+    let tail : front ++ x ∷ rest ≡ other_front ++ y ∷ other_rest = cc in
+    elim (two_places front x rest other_front y other_rest tail) [
       | inl p ↦ inl (ap (λ z. z ∷ front) head ∙ ap (λ zs. w ∷ zs) p.0, p.1)
-      | inr (inl p) ↦ inr (inl (p.0, ap (λ z. z ∷ gront) (sym head) ∙ ap (λ zs. v ∷ zs) p.1))
+      | inr (inl p) ↦ inr (inl (p.0, ap (λ z. z ∷ other_front) (sym head) ∙ ap (λ zs. v ∷ zs) p.1))
       | inr (inr p) ↦ inr (inr (p.0, ap (λ z. z ∷ front) head ∙ ap (λ zs. w ∷ zs) p.1))
     ]
 
@@ -51,23 +51,23 @@ not_accepted sets earlier size OutOfMemory some r a = some refl
 -- one size is refused in one way
 one_way : (sets : List (List ℕ)) (earlier : List Size) (size : Size) (one two : SizeFault) → one ≢ OutOfMemory → two ≢ OutOfMemory
     → Refuses sets earlier size one → Refuses sets earlier size two → one ≡ two
-one_way sets earlier size OutOfMemory two some tome r q = absurd (some refl)
-one_way sets earlier size (NoSize n) two some tome r q = absurd r
-one_way sets earlier size (NotGiven n) OutOfMemory some tome r q = absurd (tome refl)
-one_way sets earlier size (NotGiven n) (NoSize m) some tome r q = absurd q
-one_way sets earlier size (NotGiven n) (NotGiven m) some tome r q = ap NotGiven (r.0 ∙ sym q.0)
-one_way sets earlier size (NotGiven n) (SizeTwice m) some tome r q = absurd (r.1 (subst (Contains sets) (q.0 ∙ sym r.0) q.1))
-one_way sets earlier size (NotGiven n) (SizeTooLarge m) some tome r q = absurd (r.1 (subst (Contains sets) (q.0 ∙ sym r.0) q.1))
-one_way sets earlier size (SizeTwice n) OutOfMemory some tome r q = absurd (tome refl)
-one_way sets earlier size (SizeTwice n) (NoSize m) some tome r q = absurd q
-one_way sets earlier size (SizeTwice n) (NotGiven m) some tome r q = absurd (q.1 (subst (Contains sets) (r.0 ∙ sym q.0) r.1))
-one_way sets earlier size (SizeTwice n) (SizeTwice m) some tome r q = ap SizeTwice (r.0 ∙ sym q.0)
-one_way sets earlier size (SizeTwice n) (SizeTooLarge m) some tome r q = absurd (q.2 (subst (Contains (names earlier)) (r.0 ∙ sym q.0) r.2))
-one_way sets earlier size (SizeTooLarge n) OutOfMemory some tome r q = absurd (tome refl)
-one_way sets earlier size (SizeTooLarge n) (NoSize m) some tome r q = absurd q
-one_way sets earlier size (SizeTooLarge n) (NotGiven m) some tome r q = absurd (q.1 (subst (Contains sets) (r.0 ∙ sym q.0) r.1))
-one_way sets earlier size (SizeTooLarge n) (SizeTwice m) some tome r q = absurd (r.2 (subst (Contains (names earlier)) (q.0 ∙ sym r.0) q.2))
-one_way sets earlier size (SizeTooLarge n) (SizeTooLarge m) some tome r q = ap SizeTooLarge (r.0 ∙ sym q.0)
+one_way sets earlier size OutOfMemory two some other_some r q = absurd (some refl)
+one_way sets earlier size (NoSize n) two some other_some r q = absurd r
+one_way sets earlier size (NotGiven n) OutOfMemory some other_some r q = absurd (other_some refl)
+one_way sets earlier size (NotGiven n) (NoSize m) some other_some r q = absurd q
+one_way sets earlier size (NotGiven n) (NotGiven m) some other_some r q = ap NotGiven (r.0 ∙ sym q.0)
+one_way sets earlier size (NotGiven n) (SizeTwice m) some other_some r q = absurd (r.1 (subst (Contains sets) (q.0 ∙ sym r.0) q.1))
+one_way sets earlier size (NotGiven n) (SizeTooLarge m) some other_some r q = absurd (r.1 (subst (Contains sets) (q.0 ∙ sym r.0) q.1))
+one_way sets earlier size (SizeTwice n) OutOfMemory some other_some r q = absurd (other_some refl)
+one_way sets earlier size (SizeTwice n) (NoSize m) some other_some r q = absurd q
+one_way sets earlier size (SizeTwice n) (NotGiven m) some other_some r q = absurd (q.1 (subst (Contains sets) (r.0 ∙ sym q.0) r.1))
+one_way sets earlier size (SizeTwice n) (SizeTwice m) some other_some r q = ap SizeTwice (r.0 ∙ sym q.0)
+one_way sets earlier size (SizeTwice n) (SizeTooLarge m) some other_some r q = absurd (q.2 (subst (Contains (names earlier)) (r.0 ∙ sym q.0) r.2))
+one_way sets earlier size (SizeTooLarge n) OutOfMemory some other_some r q = absurd (other_some refl)
+one_way sets earlier size (SizeTooLarge n) (NoSize m) some other_some r q = absurd q
+one_way sets earlier size (SizeTooLarge n) (NotGiven m) some other_some r q = absurd (q.1 (subst (Contains sets) (r.0 ∙ sym q.0) r.1))
+one_way sets earlier size (SizeTooLarge n) (SizeTwice m) some other_some r q = absurd (r.2 (subst (Contains (names earlier)) (q.0 ∙ sym r.0) q.2))
+one_way sets earlier size (SizeTooLarge n) (SizeTooLarge m) some other_some r q = ap SizeTooLarge (r.0 ∙ sym q.0)
 
 -- a size is refused, or a given set has none
 abbrev IsOfEither : List (List ℕ) → List Size → SizeFault → Type 0
@@ -81,10 +81,10 @@ of_either sets sizes (SizeTooLarge name) some r = inl r
 of_either sets sizes OutOfMemory some r = absurd (some refl)
 
 same_refused : (sets : List (List ℕ)) (sizes : List Size) (one two : SizeFault) → one ≢ OutOfMemory → two ≢ OutOfMemory → RefusesSize sets sizes one → RefusesSize sets sizes two → one ≡ two
-same_refused sets sizes one two some tome r q = elim (two_places r.earlier r.size r.later q.earlier q.size q.later (sym r.split ∙ q.split)) [
-  | inl p ↦ one_way sets q.earlier q.size one two some tome (subst (λ s. Refuses sets q.earlier s one) p.1 (subst (λ es. Refuses sets es r.size one) p.0 r.refused)) q.refused
+same_refused sets sizes one two some other_some r q = elim (two_places r.earlier r.size r.later q.earlier q.size q.later (sym r.split ∙ q.split)) [
+  | inl p ↦ one_way sets q.earlier q.size one two some other_some (subst (λ s. Refuses sets q.earlier s one) p.1 (subst (λ es. Refuses sets es r.size one) p.0 r.refused)) q.refused
   | inr (inl p) ↦ absurd (not_accepted sets r.earlier r.size one some r.refused (q.accepted r.earlier r.size p.0 p.1))
-  | inr (inr p) ↦ absurd (not_accepted sets q.earlier q.size two tome q.refused (r.accepted q.earlier q.size p.0 p.1))
+  | inr (inr p) ↦ absurd (not_accepted sets q.earlier q.size two other_some q.refused (r.accepted q.earlier q.size p.0 p.1))
 ]
 
 lacks_refused : (sets : List (List ℕ)) (sizes : List Size) (name : List ℕ) (fault : SizeFault) → fault ≢ OutOfMemory → AreAccepted sets sizes → RefusesSize sets sizes fault → ⊥
@@ -101,12 +101,12 @@ same_lacking sets sizes n m r q = elim (two_places r.earlier n r.later q.earlier
 
 -- sizes that don't fit have one first fault
 pub one_refusal : (sets : List (List ℕ)) (sizes : List Size) (one two : SizeFault) → one ≢ OutOfMemory → two ≢ OutOfMemory → IsRefusal sets sizes one → IsRefusal sets sizes two → one ≡ two
-one_refusal sets sizes one two some tome r q = go (of_either sets sizes one some r) (of_either sets sizes two tome q)
+one_refusal sets sizes one two some other_some r q = go (of_either sets sizes one some r) (of_either sets sizes two other_some q)
   where
     go : IsOfEither sets sizes one → IsOfEither sets sizes two → one ≡ two
-    go (inl x) (inl y) = same_refused sets sizes one two some tome x y
+    go (inl x) (inl y) = same_refused sets sizes one two some other_some x y
     go (inl x) (inr y) = absurd (lacks_refused sets sizes y.0 one some y.2.accepted x)
-    go (inr x) (inl y) = absurd (lacks_refused sets sizes x.0 two tome x.2.accepted y)
+    go (inr x) (inl y) = absurd (lacks_refused sets sizes x.0 two other_some x.2.accepted y)
     go (inr x) (inr y) = x.1 ∙ ap NoSize (same_lacking sets sizes x.0 y.0 x.2 y.2) ∙ sym y.1
 
 -- sizes that fit have none
@@ -126,15 +126,15 @@ none_refused sets sizes fault complete some r = go (of_either sets sizes fault s
 one_stated : (sets : List (List ℕ)) (stated : List Size) → AreAccepted sets stated → (name : List ℕ) (k l : ℕ) → IsStated stated name k → IsStated stated name l → k ≡ l
 one_stated sets stated all name k l h g =
     let size : Size = record { name = name; count = k } in
-    let tize : Size = record { name = name; count = l } in
+    let other_size : Size = record { name = name; count = l } in
     let p = placed stated size h in
-    let q = placed stated tize g in
+    let q = placed stated other_size g in
     let named : (before mid : List Size) (s : Size) → (s.name ≡ name) → Contains (names (before ++ s ∷ mid)) name =
     λ before mid s e. subst (Contains (names (before ++ s ∷ mid))) e (Contains-map (λ (s : Size). s.name) (before ++ s ∷ mid) s (Contains-right before (s ∷ mid) s (Contains-head s mid))) in
-    elim (two_places p.0 size p.1 q.0 tize q.1 (sym p.2 ∙ q.2)) [
+    elim (two_places p.0 size p.1 q.0 other_size q.1 (sym p.2 ∙ q.2)) [
       | inl r ↦ ap (λ (s : Size). s.count) r.1
-      | inr (inl r) ↦ absurd ((all q.0 tize q.1 q.2).first (subst (λ es. Contains (names es) name) (sym r.1) (named p.0 r.0 size refl)))
-      | inr (inr r) ↦ absurd ((all p.0 size p.1 p.2).first (subst (λ es. Contains (names es) name) (sym r.1) (named q.0 r.0 tize refl)))
+      | inr (inl r) ↦ absurd ((all q.0 other_size q.1 q.2).first (subst (λ es. Contains (names es) name) (sym r.1) (named p.0 r.0 size refl)))
+      | inr (inr r) ↦ absurd ((all p.0 size p.1 p.2).first (subst (λ es. Contains (names es) name) (sym r.1) (named q.0 r.0 other_size refl)))
     ]
 
 abbrev HasOneSize : List Size → Type 0

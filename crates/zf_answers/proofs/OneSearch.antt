@@ -107,13 +107,13 @@ tells_one e ts c row t u h k = sym (walked_told t) ∙ ap walked (one_of (slice_
     one_of None t u a b = absurd a
     one_of (Some p) t u a b = one_truth (in_row e row) p t u a b
 
-one_search : (e : Environment) (a : Schema) (after : Option (List Value)) (line : List Value → List ℕ) (limit : Option ℕ) (xs ys : List (Event Value)) (last mast : Option (List Value))
-    (text other : List ℕ) (status mtatus : Status)
-    → HasEvents e a after last xs → HasEvents e a after mast ys → IsWritten line limit xs last text status → IsWritten line limit ys mast other mtatus → AreOneEnd line limit last mast text other status mtatus
-one_search e a after line limit xs ys last mast text other status mtatus h k w v =
+one_search : (e : Environment) (a : Schema) (after : Option (List Value)) (line : List Value → List ℕ) (limit : Option ℕ) (xs ys : List (Event Value)) (last other_last : Option (List Value))
+    (text other : List ℕ) (status other_status : Status)
+    → HasEvents e a after last xs → HasEvents e a after other_last ys → IsWritten line limit xs last text status → IsWritten line limit ys other_last other other_status → AreOneEnd line limit last other_last text other status other_status
+one_search e a after line limit xs ys last other_last text other status other_status h k w v =
     let same : k.ranges ≡ h.ranges = one_ranges e a k.ranges h.ranges k.of_components h.of_components in
-    one_ending value_order order_laws.total-law exact (property e a.conjuncts) (tells_one e a.conjuncts) h.ranges after line limit xs ys last mast text other status mtatus
-    h.listed (subst (λ ranges. AreEventsUpTo value_order (property e a.conjuncts) ranges after mast ys) same k.listed) w v
+    one_ending value_order order_laws.total-law exact (property e a.conjuncts) (tells_one e a.conjuncts) h.ranges after line limit xs ys last other_last text other status other_status
+    h.listed (subst (λ ranges. AreEventsUpTo value_order (property e a.conjuncts) ranges after other_last ys) same k.listed) w v
 
 -- ---- the tests
 

@@ -44,12 +44,12 @@ unread source fault boxes (inr f) r =
 -- a source is refused with one fault, or with faults of the grammar
 pub one_refused : (file source one two : List ℕ) (e f : TextFault) → RefusesSource source e → RefusesSource source f → one ≡ text_fault_line file e → two ≡ text_fault_line file f
     → (one ≡ two) ⊎ (TellsGrammar file source one × TellsGrammar file source two)
-one_refused file source one two e f (inl p) (inl q) told uold = inl (told ∙ ap (text_fault_line file) (faults_once source e f p q) ∙ sym uold)
-one_refused file source one two e f (inl p) (inr q) told uold = absurd (is_not_both source q.0 e q.1 p)
-one_refused file source one two e f (inr p) (inl q) told uold = absurd (is_not_both source p.0 f p.1 q)
-one_refused file source one two e f (inr p) (inr q) told uold = inr (
+one_refused file source one two e f (inl p) (inl q) told other_told = inl (told ∙ ap (text_fault_line file) (faults_once source e f p q) ∙ sym other_told)
+one_refused file source one two e f (inl p) (inr q) told other_told = absurd (is_not_both source q.0 e q.1 p)
+one_refused file source one two e f (inr p) (inl q) told other_told = absurd (is_not_both source p.0 f p.1 q)
+one_refused file source one two e f (inr p) (inr q) told other_told = inr (
   record { fault = e; tokens = p.0; cut = p.1; kind = p.3; refused = p.2; told = told },
-  record { fault = f; tokens = q.0; cut = q.1; kind = q.3; refused = q.2; told = uold },
+  record { fault = f; tokens = q.0; cut = q.1; kind = q.3; refused = q.2; told = other_told },
 )
 
 -- ---- what it defines

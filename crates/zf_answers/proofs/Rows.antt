@@ -1,8 +1,8 @@
 -- Lists of rows, and of events: what stands in a front, at the end, and the order of two lists that ascend.
-use Rattle.std.proofs.Common.{◌≡◌, zero, suc, ◌≤◌, ◌⊎◌, List, [], ◌∷◌, ◌++◌, length, map, refl, sym, ap, ◌∙◌, inl, inr, arith, subst}
+use Rattle.std.proofs.Common.{◌≡◌, zero, suc, ◌≤◌, ◌⊎◌, List, [], ◌∷◌, ◌++◌, length, refl, sym, ap, ◌∙◌, inl, inr, arith, subst}
 use Rattle.std.specs.Prelude.{Contains, All, AllPairs}
 use Rattle.std.proofs.lemmas.List.Elements.{All-head, All-tail}
-use Rattle.zf_walk.proofs.Lists.{Contains-head, Contains-later, Contains-cases, Contains-nil, Contains-left, AllPairs-nil, AllPairs-cons, AllPairs-head, AllPairs-tail}
+use Rattle.zf_walk.proofs.Lists.{Contains-head, Contains-later, Contains-cases, Contains-left, AllPairs-nil, AllPairs-cons, AllPairs-head, AllPairs-tail}
 
 -- ---- fronts
 
@@ -76,26 +76,3 @@ module _ {X : Type 0} (R : X → X → Type 0) where
           → ((more : List X) × (y ∷ ys ≡ x ∷ (xs ++ more))) ⊎ ((more : List X) × (x ∷ xs ≡ y ∷ (ys ++ more)))
       on same (inl m) = inl (m.0, ap (λ z. z ∷ ys) (sym same) ∙ ap (λ zs. x ∷ zs) m.1)
       on same (inr m) = inr (m.0, ap (λ z. z ∷ xs) same ∙ ap (λ zs. y ∷ zs) m.1)
-
--- ---- what a map has
-
-module _ {X Y : Type 0} (f : X → Y) where
-  pub Contains-map : (xs : List X) (x : X) → Contains xs x → Contains (map f xs) (f x)
-  Contains-map [] x m = absurd (Contains-nil x m)
-  Contains-map (y ∷ xs) x m = elim (Contains-cases y xs x m) [
-    | inl e ↦ subst (λ z. Contains (f y ∷ map f xs) (f z)) e (Contains-head (f y) (map f xs))
-    | inr n ↦ Contains-later (f y) (map f xs) (f x) (Contains-map xs x n)
-  ]
-
-  pub map-Contains : (xs : List X) (y : Y) → Contains (map f xs) y → (x : X) × Contains xs x × (f x ≡ y)
-  map-Contains [] y m = absurd (Contains-nil y m)
-  map-Contains (x ∷ xs) y m = elim (Contains-cases (f x) (map f xs) y m) [
-    | inl e ↦ (x, Contains-head x xs, e)
-    | inr n ↦ let ih = map-Contains xs y n in (ih.0, Contains-later x xs ih.0 ih.1, ih.2)
-  ]
-
-  pub AllPairs-map : (R : Y → Y → Type 0) (xs : List X) → AllPairs (λ a b. R (f a) (f b)) xs → AllPairs R (map f xs)
-  AllPairs-map R [] o = AllPairs-nil R
-  AllPairs-map R (x ∷ xs) o = AllPairs-cons R (f x) (map f xs)
-      (λ y m. let c = map-Contains xs y m in subst (R (f x)) c.2 (AllPairs-head (λ a b. R (f a) (f b)) x xs o c.0 c.1))
-      (AllPairs-map R xs (AllPairs-tail (λ a b. R (f a) (f b)) x xs o))

@@ -18,7 +18,8 @@ use Rattle.zf_walk.proofs.Picks.{IsRowOf-length}
 use Rattle.zf_lines.specs.declared.fault.Status.{Status}
 use Rattle.zf_lines.specs.Searches.{AreEventsUpTo, Hold, lines, out_line, IsBelow, IsWritten}
 use Rattle.zf_answers.specs.Bindings.{IsBefore, IsNotPast, EndsLines}
-use Rattle.zf_answers.proofs.Rows.{AllPairs-front, Contains-map, map-Contains, AllPairs-map}
+use Rattle.zf_total.proofs.Orders.{AllPairs-mapped, Contains-map, Contains-mapped}
+use Rattle.zf_answers.proofs.Rows.{AllPairs-front}
 use Rattle.zf_answers.proofs.OneEnding.{rows_compared, never_both, never_itself}
 
 abbrev pub with_truth : {V : Type 0} → List V → Truth → Event V
@@ -80,7 +81,7 @@ module _ {V : Type 0} (cmp : V → V → Ordering) (o : IsTotalOrder cmp) (ties 
       from_held : HasLength last (length ranges) → (held : List (Event V)) → Hold held → ((e : Event V) → Contains held e → Contains events e)
           → (row : List V) → Contains (map (λ (e : Event V). e.row) held) row → Found row × IsNotPast cmp last row
       from_held l held hold all row m =
-          let c = map-Contains (λ (e : Event V). e.row) held row m in
+          let c = Contains-mapped (λ (e : Event V). e.row) held row m in
           let t = All-contains (λ (x : Event V). x.truth ≡ True) held c.0 hold c.1 in
           subst (λ r. Found r × IsNotPast cmp last r) c.2 (found_of l c.0 (all c.0 c.1) t)
 
@@ -118,10 +119,10 @@ module _ {V : Type 0} (cmp : V → V → Ordering) (o : IsTotalOrder cmp) (ties 
           ]
 
       ascends : AllPairs (ComesAfter cmp) (map (λ (e : Event V). e.row) events)
-      ascends = AllPairs-map (λ (e : Event V). e.row) (ComesAfter cmp) events h.ascending
+      ascends = AllPairs-mapped (λ (e : Event V). e.row) (ComesAfter cmp) events h.ascending
 
       front_ascends : (front : List (Event V)) (e : Event V) → events ≡ front ++ e ∷ [] → AllPairs (ComesAfter cmp) (map (λ (e : Event V). e.row) front)
-      front_ascends front e is = AllPairs-map (λ (e : Event V). e.row) (ComesAfter cmp) front
+      front_ascends front e is = AllPairs-mapped (λ (e : Event V). e.row) (ComesAfter cmp) front
           (AllPairs-front (λ (e f : Event V). ComesAfter cmp e.row f.row) front (e ∷ []) (subst (AllPairs (λ (e f : Event V). ComesAfter cmp e.row f.row)) is h.ascending))
 
       module _ (line : List V → List ℕ) (limit : Option ℕ) where
