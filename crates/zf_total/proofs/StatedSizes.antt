@@ -59,9 +59,6 @@ all_accepted_or_not sets sizes (suc n) i e h =
     ⊎_elim (λ a. all_accepted_or_not sets sizes n (i + 1) (omega arith) (AreAccepted-more sets sizes i s.0 l s.1 h a)) (λ f. inr (f.0, refusal-at sets sizes i s.0 f.0 l s.1 h f.1, f.2))
     (accepted_or_not sets (take i sizes) s.0)
 
-abbrev HasSize : List Size → List ℕ → Type 0
-HasSize sizes set = Contains (names sizes) set
-
 all_sized_or_not : (sets : List (List ℕ)) (sizes : List Size) (n i : ℕ) → i + n ≡ length sets → AreAccepted sets sizes → All (λ set. Contains (names sizes) set) (take i sets)
     → All (λ set. Contains (names sizes) set) sets ⊎ IsRefused sets sizes
 all_sized_or_not sets sizes zero i e a h = inl (subst (λ xs. All (λ set. Contains (names sizes) set) xs) (whole sets i (omega arith)) h)
