@@ -1,0 +1,150 @@
+-- Each request has an answer: it is refused at a stage, or what is asked for is searched.
+use Rattle.std.proofs.Common.{◌≡◌, ℕ, ◌+◌, ◌⊎◌, IsTrue, Bool, true, false, if◌then◌else◌, List, [], ◌∷◌, ◌++◌, Option, Some, None, refl, sym, ap, ◌∙◌, inl, inr, subst}
+use Rattle.std.specs.Str.{bytes_eq}
+use Rattle.std.specs.List.{AllByRecursion, flat_map}
+use Rattle.std.proofs.lemmas.Option.{same_Some, none-some}
+use Rattle.zf_command.specs.declared.job.Job.{Job}
+use Rattle.zf_command.specs.declared.job.Job.TheVariants.{Check, Show}
+use Rattle.zf_command.specs.declared.job.Size as command
+use Rattle.zf_scan.specs.declared.fault.TextFault.{TextFault}
+use Rattle.zf_text.specs.Parsing.{ReadsSource, RefusesSource}
+use Rattle.zf_finite.specs.Finite.{infinite_lines, one_bounds}
+use Rattle.zf_finite.proofs.FiniteSchemas.{finite_without_lines}
+use Rattle.zf_text.specs.Trees.{BoxTree}
+use Rattle.zf_term.specs.Definitions.{Comp, Defined, Definition, Schema, given_set, free_type, constructor, abbreviation, schema, sets_of}
+use Rattle.zf_term.specs.Extents.{first}
+use Rattle.zf_term.specs.FirstNamed.{first_named, later}
+use Rattle.zf_term.proofs.SameNames.{is_same}
+use Rattle.zf_type.specs.declared.fault.TypeFault.{TypeFault}
+use Rattle.zf_value.specs.declared.value.Value.{Value}
+use Rattle.zf_meaning.specs.Environments.{Environment}
+use Rattle.zf_meaning.specs.Sizes.{given_sets, AreComplete}
+use Rattle.zf_enum.specs.Ranges.{IsNoneOut}
+use Rattle.zf_texts.specs.Spellings.{spellings}
+use Rattle.zf_lines.specs.declared.fault.Status.{Status}
+use Rattle.zf_lines.specs.declared.fault.Status.TheVariants.{BadRequest, BadSpec, PastBounds}
+use Rattle.zf_lines.specs.Searches.{IsBelow}
+use Rattle.zf_lines.specs.Texts.{binding_line}
+use Rattle.zf_engine.specs.Answers.{Answer, Checks, HasSchema, IsAsked, IsLimited, IsNamed, IsNamedRow, IsSearch, JobAnswer, Request, ShowAnswer, check_status, check_text, request, size_fault_line, stated}
+use Rattle.zf_engine.specs.Texts.{declared_out_line, fault_line, no_schema_line, not_a_binding_line, not_finite_text, text_fault_line, type_fault_line}
+use Rattle.zf_answers.specs.Laws.{EveryRequestIsAnswered, EverySourceIsRead}
+use Rattle.zf_answers.proofs.NamedRows.{every_line_is_judged}
+use Rattle.zf_found.proofs.Ranges.{first_out_or_none, some_ranges}
+use Rattle.zf_found.proofs.Searches.{some_search, some_tests_line}
+use Rattle.zf_total.proofs.Environments.{some_environment}
+use Rattle.zf_total.proofs.StatedSizes.{complete_or_refused}
+use Rattle.zf_verdicts.proofs.Items.{text_has_verdict}
+
+-- ---- the name
+
+-- the global that is found has the name
+found_named : (x : List ℕ) (g : List Defined) (p : ℕ × Defined) → first_named (λ d. d.name) x g ≡ Some p → p.1.name ≡ x
+found_named x [] p e = absurd (none-some p e)
+found_named x (d ∷ g) p e = by (bytes_eq d.name x) refl (first_named (λ d. d.name) x g) (λ q. found_named x g q) e
+  where
+    by : (t : Bool) → bytes_eq d.name x ≡ t → (o : Option (ℕ × Defined)) → ((q : ℕ × Defined) → o ≡ Some q → q.1.name ≡ x) → (if t then Some (0, d) else later o) ≡ Some p → p.1.name ≡ x
+    by true same o rest e = subst (λ (q : ℕ × Defined). q.1.name ≡ x) (same_Some (0, d) p e) (is_same d.name x same)
+    by false same None rest e = absurd (none-some p e)
+    by false same (Some q) rest e = subst (λ (r : ℕ × Defined). r.1.name ≡ x) (same_Some (q.0 + 1, q.1) p e) (rest q refl)
+
+-- a definition is a schema, or none
+schema_or_none : (d : Definition) → ((a : Schema) × (d ≡ schema a)) ⊎ ((a : Schema) → d ≡ schema a → ⊥)
+schema_or_none (schema a) = inl (a, refl)
+schema_or_none (given_set n) = inr (λ a e. cc)
+schema_or_none (free_type n names) = inr (λ a e. cc)
+schema_or_none (constructor n of_type place) = inr (λ a e. cc)
+schema_or_none (abbreviation t r x) = inr (λ a e. cc)
+
+-- a name is that of a schema, or of none
+named_or_none : (g : List Defined) (name : List ℕ) → ((a : Schema) × IsNamed g name a) ⊎ ((a : Schema) → IsNamed g name a → ⊥)
+named_or_none g name = by (first_named (λ d. d.name) name g) refl
+  where
+    by : (o : Option (ℕ × Defined)) → first_named (λ d. d.name) name g ≡ o → ((a : Schema) × IsNamed g name a) ⊎ ((a : Schema) → IsNamed g name a → ⊥)
+    by None there = inr (λ a n. let z : None ≡ Some (n.0, record { name = name; definition = schema a }) = sym there ∙ n.1 in cc)
+    by (Some p) there = of (schema_or_none p.1.definition)
+      where
+        of : ((a : Schema) × (p.1.definition ≡ schema a)) ⊎ ((a : Schema) → p.1.definition ≡ schema a → ⊥) → ((a : Schema) × IsNamed g name a) ⊎ ((a : Schema) → IsNamed g name a → ⊥)
+        of (inl s) =
+            let whole : p.1 ≡ record { name = name; definition = schema s.0 } =
+            ap (λ (n : List ℕ). record { name = n; definition = p.1.definition }) (found_named name g p there) ∙ ap (λ (d : Definition). record { name = name; definition = d }) s.1 in
+            inl (s.0, (p.0, there ∙ ap (λ (d : Defined). Some (p.0, d)) whole))
+        of (inr none) = inr (λ a n. none a (ap (λ (q : ℕ × Defined). q.1.definition) (same_Some p (n.0, record { name = name; definition = schema a }) (sym there ∙ n.1))))
+
+-- ---- answers of `show`, the last stage first
+
+abbrev IsShown : Request → (file source : List ℕ) → Type 0
+IsShown r file source = (text : List ℕ) × (status : Status) × ShowAnswer r file source text status
+
+module _ (r : Request) (file source : List ℕ) (limited : IsBelow r.limit 0) where
+  module _ (g : List Defined) where
+    module _ (a : Schema) where
+      module _ (e : Environment) (asked : IsAsked r source g a e) where
+        some_bindings : (after : Option (List Value)) → IsNamedRow e a.comps r.after after → IsNoneOut e a.comps → IsShown r file source
+        some_bindings after named none_out =
+            let finite = asked.finite in
+            let environment = asked.environment in
+            let bounded = subst (λ h. AllByRecursion (λ (c : Comp). IsTrue (one_bounds h (sets_of c.sets))) a.comps) (sym environment.0) finite.bounded in
+            let ranges = some_ranges e a.comps bounded in
+            let s = some_search e a ranges.0 after r.limit (binding_line (spellings g) a.comps) ranges.1 limited in
+            let counted = some_tests_line e a ranges.0 after s.0 r.tests ranges.1 in
+            let search : IsSearch r source g a e after = record { asked = asked; named = named; none_out = none_out } in
+            (s.2 ++ counted.0, s.3, ShowAnswer.bindings g a e after s.0 s.1 s.2 counted.0 search s.4 s.5 counted.1 refl)
+
+        some_at_sets : (after : Option (List Value)) → IsNamedRow e a.comps r.after after → IsShown r file source
+        some_at_sets after named = elim (first_out_or_none e a.comps) [
+          | inl out ↦ let here = out.1.here in (declared_out_line here.0.name, PastBounds, ShowAnswer.declared_out g a e after out.0 here.0 asked named out.1 here.1 refl refl)
+          | inr none ↦ some_bindings after named none
+        ]
+
+        some_at_row : IsShown r file source
+        some_at_row = elim (every_line_is_judged e a.comps r.after) [
+          | inl named ↦ some_at_sets named.0 named.1
+          | inr none ↦ (not_a_binding_line 0, BadRequest, ShowAnswer.not_a_binding g a e 0 asked none refl refl)
+        ]
+
+      some_at_finiteness : HasSchema source r.name g a → AreComplete (given_sets g) (stated r.sizes) → IsShown r file source
+      some_at_finiteness has complete = by (infinite_lines g a) refl
+        where
+          by : (lines : List ℕ) → infinite_lines g a ≡ lines → IsShown r file source
+          by [] none =
+              let e = some_environment g (stated r.sizes) complete in
+              some_at_row e.0 (record { has_schema = has; complete = complete; environment = e.1; finite = (finite_without_lines g a).1 none })
+          by (line ∷ lines) some = (fault_line file line not_finite_text, BadSpec, ShowAnswer.not_finite g a line has complete (ap first some) refl refl)
+
+      some_at_sizes : HasSchema source r.name g a → IsShown r file source
+      some_at_sizes has = elim (complete_or_refused (given_sets g) (stated r.sizes)) [
+        | inl complete ↦ some_at_finiteness has complete
+        | inr bad ↦ (size_fault_line bad.0, BadRequest, ShowAnswer.bad_sizes g a bad.0 has bad.1 bad.2 refl refl)
+      ]
+
+    some_at_schema : Checks source g [] → IsShown r file source
+    some_at_schema checks = elim (named_or_none g r.name) [
+      | inl named ↦ some_at_sizes named.0 (record { checks = checks; named = named.1 })
+      | inr none ↦ (no_schema_line r.name, BadRequest, ShowAnswer.no_schema g checks none refl refl)
+    ]
+
+  some_at_types : (g : List Defined) (faults : List TypeFault) → Checks source g faults → IsShown r file source
+  some_at_types g [] checks = some_at_schema g checks
+  some_at_types g (fault ∷ faults) checks = (flat_map (type_fault_line file) (fault ∷ faults), BadSpec, ShowAnswer.ill_typed g (fault ∷ faults) checks (λ none. cc) refl refl)
+
+-- ---- answers of a job
+
+limited_of : (name : List ℕ) (sizes : List command.Size) (after : Option (List ℕ)) (limit : Option ℕ) (tests : Bool) → IsLimited (Show name sizes after limit tests) → IsBelow limit 0
+limited_of name sizes after None tests h = tt
+limited_of name sizes after (Some limit) tests h = h
+
+some_of_job : (job : Job) (file source : List ℕ) → IsLimited job → (g : List Defined) (faults : List TypeFault) → Checks source g faults
+    → (text : List ℕ) × (status : Status) × JobAnswer job file source text status
+some_of_job (Check types) file source limited g faults checks = (check_text types file g faults, check_status faults, (g, faults, checks, refl, refl))
+some_of_job (Show name sizes after limit tests) file source limited g faults checks =
+    some_at_types (request name sizes after limit tests) file source (limited_of name sizes after limit tests limited) g faults checks
+
+pub every_request_is_answered : EverySourceIsRead → EveryRequestIsAnswered
+every_request_is_answered every_source job file source limited = by (every_source source)
+  where
+    by : ((boxes : List BoxTree) × ReadsSource boxes source) ⊎ ((fault : TextFault) × RefusesSource source fault) → (text : List ℕ) × (status : Status) × Answer job file source text status
+    by (inl read) =
+        let judged = text_has_verdict read.0 in
+        let answer = some_of_job job file source limited judged.0 judged.1 (record { boxes = read.0; reads = read.1; judged = judged.2 }) in
+        (answer.0, answer.1, inr answer.2)
+    by (inr refused) = (text_fault_line file refused.0, BadSpec, inl (refused.0, refused.1, refl, refl))

@@ -1,0 +1,13 @@
+pub mod Rows
+pub mod OneEnding
+pub mod WrittenRows
+pub mod OneRefusal
+pub mod OneSource
+pub mod OneSearch
+pub mod Stages
+pub mod OneAnswer
+pub mod Shown
+pub mod EverySource
+pub mod ListedValues
+pub mod NamedRows
+pub mod EveryAnswer

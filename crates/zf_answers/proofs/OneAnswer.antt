@@ -1,0 +1,149 @@
+-- Two answers of one job on one source have one status, and one text but for what is left open.
+use Rattle.std.proofs.Common.{◌≡◌, ℕ, Bool, if◌then◌else◌, List, [], ◌∷◌, ◌++◌, Option, Some, None, sym, ap, ◌∙◌, inl, inr, subst}
+use Rattle.std.specs.Prelude.{slice_get}
+use Rattle.std.specs.List.{flat_map}
+use Rattle.std.proofs.lemmas.List.{append-nil}
+use Rattle.std.proofs.lemmas.Option.{same_Some}
+use Rattle.zf_command.specs.declared.job.Job.{Job}
+use Rattle.zf_command.specs.declared.job.Job.TheVariants.{Check, Show}
+use Rattle.zf_schema.specs.Listing.{listing}
+use Rattle.zf_term.specs.Definitions.{Comp, Defined, Schema}
+use Rattle.zf_type.specs.declared.fault.TypeFault.{TypeFault}
+use Rattle.zf_value.specs.declared.value.Value.{Value}
+use Rattle.zf_meaning.specs.Environments.{Environment}
+use Rattle.zf_meaning.specs.Sizes.{given_sets, AreComplete}
+use Rattle.zf_meaning.specs.GlobalOutcomes.{IsEnvironment}
+use Rattle.zf_lines.specs.declared.fault.Status.{Status}
+use Rattle.zf_engine.specs.Answers.{Answer, CheckAnswer, Checks, IsNamedRow, JobAnswer, NamesNoRow, Request, UnreadAnswer, check_status, check_text, request, size_fault_line, stated}
+use Rattle.zf_engine.specs.Texts.{declared_out_line, fault_line, not_finite_text, type_fault_line}
+use Rattle.zf_answers.specs.Laws.{AreAlike, AreOfSame, OneStatus, OneText}
+use Rattle.zf_answers.proofs.OneSource.{none_and_some, one_checked, one_named, one_refused, some_and_none, unread}
+use Rattle.zf_answers.proofs.OneSearch.{clear_at, not_infinite, one_environment_at, one_first_out, one_named_row, one_shown}
+use Rattle.zf_answers.proofs.OneRefusal.{none_refused, one_refusal}
+use Rattle.zf_answers.proofs.Stages.{AtFiniteness, AtNamedRow, AtSchema, AtSearch, AtSizes, AtTypes, staged}
+
+-- one status, and texts that are alike
+abbrev IsOne : (file source one two : List ℕ) → (s t : Status) → Type 0
+IsOne file source one two s t = (s ≡ t) × AreAlike file source one two
+
+of_same : (file source one two : List ℕ) (s t : Status) → s ≡ t → one ≡ two → IsOne file source one two s t
+of_same file source one two s t e f = (e, AreAlike.same f)
+
+no_named_row : (e : Environment) (comps : List Comp) (text : Option (List ℕ)) (after : Option (List Value)) → NamesNoRow e comps text → IsNamedRow e comps text after → ⊥
+no_named_row e comps None after none named = none
+no_named_row e comps (Some text) None none named = named
+no_named_row e comps (Some text) (Some row) none named = none row named
+
+-- ---- answers of `show`, stage by stage
+
+module _ (r : Request) (file source one two : List ℕ) (s t : Status) where
+  module _ (g : List Defined) (checks : Checks source g []) where
+    module _ (a : Schema) (complete : AreComplete (given_sets g) (stated r.sizes)) where
+      module _ (e : Environment) (is : IsEnvironment g (stated r.sizes) e) where
+        one_at_search : (after : Option (List Value)) → AtSearch r file source one s g a e after → AtSearch r file source two t g a e after → IsOne file source one two s t
+        one_at_search after (inl x) (inl y) =
+            let place = one_first_out e a.comps x.place y.place x.first_out y.first_out in
+            let component = same_Some x.component y.component (sym x.there ∙ ap (slice_get a.comps) place ∙ y.there) in
+            of_same file source one two s t (x.past ∙ sym y.past) (x.told ∙ ap (λ (c : Comp). declared_out_line c.name) component ∙ sym y.told)
+        one_at_search after (inl x) (inr y) = absurd (y.0 x.place x.first_out.here)
+        one_at_search after (inr x) (inl y) = absurd (x.0 y.place y.first_out.here)
+        one_at_search after (inr x) (inr y) = let same = one_shown r g a e after one two s t x.1 y.1 in of_same file source one two s t same.1 same.0
+
+        one_at_row : AtNamedRow r file source one s g a e → AtNamedRow r file source two t g a e → IsOne file source one two s t
+        one_at_row (inl x) (inl y) = (x.bad ∙ sym y.bad, AreAlike.no_binding x.place y.place x.told y.told)
+        one_at_row (inl x) (inr y) = absurd (no_named_row e a.comps r.after y.0 x.none y.1)
+        one_at_row (inr x) (inl y) = absurd (no_named_row e a.comps r.after x.0 y.none x.1)
+        one_at_row (inr x) (inr y) =
+            let row = one_named_row e a.comps r.after x.0 y.0 (clear_at source g [] (stated r.sizes) e checks complete is) x.1 y.1 in
+            one_at_search y.0 (subst (AtSearch r file source one s g a e) row x.2) y.2
+
+      one_at_finiteness : AtFiniteness r file source one s g a → AtFiniteness r file source two t g a → IsOne file source one two s t
+      one_at_finiteness (inl x) (inl y) =
+          let line = same_Some x.line y.line (sym x.first_line ∙ y.first_line) in
+          of_same file source one two s t (x.bad ∙ sym y.bad) (x.told ∙ ap (λ n. fault_line file n not_finite_text) line ∙ sym y.told)
+      one_at_finiteness (inl x) (inr y) = absurd (not_infinite g a x.line y.0 x.first_line)
+      one_at_finiteness (inr x) (inl y) = absurd (not_infinite g a y.line x.0 y.first_line)
+      one_at_finiteness (inr x) (inr y) =
+          let u = x.1 in
+          let v = y.1 in
+          let environment = one_environment_at g (stated r.sizes) u.0 v.0 complete u.1 v.1 in
+          one_at_row v.0 v.1 (subst (AtNamedRow r file source one s g a) environment u.2) v.2
+
+    one_at_sizes : (a : Schema) → AtSizes r file source one s g a → AtSizes r file source two t g a → IsOne file source one two s t
+    one_at_sizes a (inl x) (inl y) =
+        let fault = one_refusal (given_sets g) (stated r.sizes) x.fault y.fault x.some y.some x.refused y.refused in
+        of_same file source one two s t (x.bad ∙ sym y.bad) (x.told ∙ ap size_fault_line fault ∙ sym y.told)
+    one_at_sizes a (inl x) (inr y) = absurd (none_refused (given_sets g) (stated r.sizes) x.fault y.0 x.some x.refused)
+    one_at_sizes a (inr x) (inl y) = absurd (none_refused (given_sets g) (stated r.sizes) y.fault x.0 y.some y.refused)
+    one_at_sizes a (inr x) (inr y) = one_at_finiteness a y.0 x.1 y.1
+
+    one_at_schema : AtSchema r file source one s g → AtSchema r file source two t g → IsOne file source one two s t
+    one_at_schema (inl x) (inl y) = of_same file source one two s t (x.bad ∙ sym y.bad) (x.told ∙ sym y.told)
+    one_at_schema (inl x) (inr y) = absurd (x.none y.0 y.1)
+    one_at_schema (inr x) (inl y) = absurd (y.none x.0 x.1)
+    one_at_schema (inr x) (inr y) = one_at_sizes y.0 (subst (AtSizes r file source one s g) (one_named g r.name x.0 y.0 x.1 y.1) x.2) y.2
+
+  one_at_types : AtTypes r file source one s → AtTypes r file source two t → IsOne file source one two s t
+  one_at_types (inl x) (inl y) =
+      let c = one_checked source x.globals y.globals x.faults y.faults x.checks y.checks in (
+        x.bad ∙ sym y.bad,
+        AreAlike.types y.globals x.faults y.faults [] (subst (λ h. Checks source h x.faults) c.0 x.checks) y.checks x.some c.1
+            (x.told ∙ sym (append-nil (flat_map (type_fault_line file) x.faults))) (y.told ∙ sym (append-nil (flat_map (type_fault_line file) y.faults))),
+      )
+  one_at_types (inl x) (inr y) = absurd (some_and_none x.faults x.some (one_checked source x.globals y.0 x.faults [] x.checks y.1).1)
+  one_at_types (inr x) (inl y) = absurd (none_and_some y.faults y.some (one_checked source x.0 y.globals [] y.faults x.1 y.checks).1)
+  one_at_types (inr x) (inr y) = one_at_schema y.0 y.1 (subst (AtSchema r file source one s) (one_checked source x.0 y.0 [] [] x.1 y.1).0 x.2) y.2
+
+-- ---- answers of `check`
+
+alike_faults : (file source : List ℕ) (g : List Defined) (es fs : List TypeFault) (listed one two : List ℕ) (s t : Status) → Checks source g es → Checks source g fs → AreOfSame es fs
+    → one ≡ flat_map (type_fault_line file) es ++ listed → two ≡ flat_map (type_fault_line file) fs ++ listed → s ≡ check_status es → t ≡ check_status fs → IsOne file source one two s t
+alike_faults file source g [] [] listed one two s t p q same told other_told done other_done = of_same file source one two s t (done ∙ sym other_done) (told ∙ sym other_told)
+alike_faults file source g [] (f ∷ fs) listed one two s t p q same told other_told done other_done = absurd same
+alike_faults file source g (e ∷ es) [] listed one two s t p q same told other_told done other_done = absurd same
+alike_faults file source g (e ∷ es) (f ∷ fs) listed one two s t p q same told other_told done other_done = (done ∙ sym other_done, AreAlike.types g (e ∷ es) (f ∷ fs) listed p q (λ none. cc) same told other_told)
+
+one_check_answer : (types : Bool) (file source one two : List ℕ) (s t : Status) → CheckAnswer types file source one s → CheckAnswer types file source two t → IsOne file source one two s t
+one_check_answer types file source one two s t (g, es, p, told, done) (h, fs, q, other_told, other_done) =
+    let c = one_checked source g h es fs p q in
+    alike_faults file source h es fs (if types then listing h else []) one two s t (subst (λ h. Checks source h es) c.0 p) q c.1
+    (told ∙ ap (λ h. check_text types file h es) c.0) other_told done other_done
+
+-- ---- answers of a job
+
+-- what is read is not refused
+read_unread : (job : Job) (file source one two : List ℕ) (s t : Status) → UnreadAnswer file source one s → JobAnswer job file source two t → ⊥
+read_unread (Check types) file source one two s t (fault, refused, told, bad) (g, es, p, other_told, done) = unread source fault p.boxes refused p.reads
+read_unread (Show name sizes after limit tests) file source one two s t (fault, refused, told, bad) answer =
+    go (staged (request name sizes after limit tests) file source two t answer)
+  where
+    go : AtTypes (request name sizes after limit tests) file source two t → ⊥
+    go (inl x) = let checks = x.checks in unread source fault checks.boxes refused checks.reads
+    go (inr x) = let checks = x.1 in unread source fault checks.boxes refused checks.reads
+
+one_unread : (file source one two : List ℕ) (s t : Status) → UnreadAnswer file source one s → UnreadAnswer file source two t → IsOne file source one two s t
+one_unread file source one two s t (e, refused, told, bad) (f, other_refused, other_told, other_bad) = (
+  bad ∙ sym other_bad,
+  elim (one_refused file source one two e f refused other_refused told other_told) [
+    | inl same ↦ AreAlike.same same
+    | inr both ↦ AreAlike.grammar both.0 both.1
+  ],
+)
+
+one_job_answer : (job : Job) (file source one two : List ℕ) (s t : Status) → JobAnswer job file source one s → JobAnswer job file source two t → IsOne file source one two s t
+one_job_answer (Check types) file source one two s t x y = one_check_answer types file source one two s t x y
+one_job_answer (Show name sizes after limit tests) file source one two s t x y =
+    let r = request name sizes after limit tests in
+    one_at_types r file source one two s t (staged r file source one s x) (staged r file source two t y)
+
+pub one_answer : (job : Job) (file source one two : List ℕ) (s t : Status) → Answer job file source one s → Answer job file source two t → IsOne file source one two s t
+one_answer job file source one two s t (inl x) (inl y) = one_unread file source one two s t x y
+one_answer job file source one two s t (inl x) (inr y) = absurd (read_unread job file source one two s t x y)
+one_answer job file source one two s t (inr x) (inl y) = absurd (read_unread job file source two one t s y x)
+one_answer job file source one two s t (inr x) (inr y) = one_job_answer job file source one two s t x y
+
+pub one_status : OneStatus
+one_status job file source one two s t x y = (one_answer job file source one two s t x y).0
+
+pub one_text : OneText
+one_text job file source one two s t x y = (one_answer job file source one two s t x y).1

@@ -1,0 +1,143 @@
+-- What is asked for is one environment and one named row, and its search has one text and one status.
+use Rattle.std.proofs.Common.{◌≡◌, ℕ, ◌<◌, ◌⊎◌, Bool, true, false, List, ◌++◌, Option, Some, None, refl, sym, ap, ◌∙◌, inl, inr, arith, subst}
+use Rattle.std.specs.Prelude.{slice_get}
+use Rattle.std.proofs.lemmas.Bool.{cases_order}
+use Rattle.zf_finite.specs.Finite.{infinite_lines, IsFinite}
+use Rattle.zf_finite.proofs.FiniteSchemas.{finite_without_lines}
+use Rattle.zf_term.specs.Definitions.{Comp, Defined, Schema}
+use Rattle.zf_term.specs.Extents.{first}
+use Rattle.zf_term.specs.ResolvedTrees.{ResolvedTree}
+use Rattle.zf_type.specs.declared.fault.TypeFault.{TypeFault}
+use Rattle.zf_value.specs.declared.value.Outcome.{Outcome}
+use Rattle.zf_value.specs.declared.value.Truth.{Truth}
+use Rattle.zf_value.specs.declared.value.Truth.TheVariants as truth
+use Rattle.zf_value.specs.declared.value.Value.{Value}
+use Rattle.zf_value.specs.contracts.value.ValueOrd.TheImpl.Laws as order_laws
+use Rattle.zf_value.specs.Sets.{value_order}
+use Rattle.zf_value.proofs.Exact.{exact}
+use Rattle.zf_walk.specs.declared.judge.Truth as walk
+use Rattle.zf_walk.specs.declared.judge.Truth.TheVariants.{True, False, Out}
+use Rattle.zf_walk.specs.Events.{Event}
+use Rattle.zf_walk.specs.Tests.{IsNumberOfTests, IsUpTo, IsWalked, cut}
+use Rattle.zf_walk.proofs.Counting.{number-le}
+use Rattle.zf_meaning.specs.declared.sizes.Size.{Size}
+use Rattle.zf_meaning.specs.Environments.{Environment}
+use Rattle.zf_meaning.specs.GlobalOutcomes.{IsEnvironment}
+use Rattle.zf_meaning.specs.InRow.{in_row}
+use Rattle.zf_meaning.specs.Sizes.{given_sets, AreComplete}
+use Rattle.zf_meaning.proofs.Environments.{one_environment}
+use Rattle.zf_meaning.proofs.Unique.{one_truth}
+use Rattle.zf_enum.specs.Events.{AreTests}
+use Rattle.zf_enum.specs.Property.{HasTruth, told, property}
+use Rattle.zf_enum.specs.Ranges.{IsFirstOut}
+use Rattle.zf_enum.proofs.EventLaws.{one_ranges}
+use Rattle.zf_texts.specs.Clear.{AreClear}
+use Rattle.zf_texts.specs.Spellings.{spellings}
+use Rattle.zf_texts.proofs.OneRow.{one_row}
+use Rattle.zf_names.proofs.Clear.{globals_clear}
+use Rattle.zf_lines.specs.declared.fault.Status.{Status}
+use Rattle.zf_lines.specs.Searches.{AreEventsUpTo, HasEvents, IsTestsLine, IsWritten}
+use Rattle.zf_lines.specs.Texts.{binding_line, tests_line}
+use Rattle.zf_engine.specs.Answers.{Checks, IsNamedRow, Request}
+use Rattle.zf_answers.specs.Laws.{ShowsEvents}
+use Rattle.zf_answers.proofs.OneEnding.{AreOneEnd, TellsOneTruth, one_ending}
+use Rattle.zf_answers.proofs.OneRefusal.{one_sizes}
+
+-- ---- finiteness
+
+-- a schema that is finite has no line that makes it infinite
+pub not_infinite : (g : List Defined) (a : Schema) (line : ℕ) → IsFinite g a → first (infinite_lines g a) ≡ Some line → ⊥
+not_infinite g a line finite e = let none : None ≡ Some line = sym (ap first ((finite_without_lines g a).0 finite)) ∙ e in cc
+
+-- ---- the environment
+
+-- sizes that fit make one environment
+pub one_environment_at : (g : List Defined) (sizes : List Size) (e f : Environment) → AreComplete (given_sets g) sizes → IsEnvironment g sizes e → IsEnvironment g sizes f → e ≡ f
+one_environment_at g sizes e f complete p q =
+    let globals = p.0 ∙ sym q.0 in
+    let counts = one_sizes (given_sets g) sizes complete g e.sizes f.sizes p.1 q.1 in
+    let outcomes = one_environment e f globals counts p.2 q.2 in
+    ap (λ (x : List Defined). record { globals = x; sizes = e.sizes; outcomes = e.outcomes }) globals
+    ∙ ap (λ (x : List ℕ). record { globals = f.globals; sizes = x; outcomes = e.outcomes }) counts
+    ∙ ap (λ (x : List Outcome). record { globals = f.globals; sizes = f.sizes; outcomes = x }) outcomes
+
+-- ---- the named row
+
+pub clear_at : (source : List ℕ) (g : List Defined) (faults : List TypeFault) (sizes : List Size) (e : Environment) → Checks source g faults → AreComplete (given_sets g) sizes → IsEnvironment g sizes e
+    → AreClear (spellings e.globals) e.sizes
+clear_at source g faults sizes e checks complete is =
+    subst (λ h. AreClear (spellings h) e.sizes) (sym is.0) (globals_clear checks.boxes source g faults sizes e checks.reads checks.judged complete is)
+
+-- where spellings are clear a text names one row
+pub one_named_row : (e : Environment) (comps : List Comp) (text : Option (List ℕ)) (one two : Option (List Value)) → AreClear (spellings e.globals) e.sizes
+    → IsNamedRow e comps text one → IsNamedRow e comps text two → one ≡ two
+one_named_row e comps None one two clear p q = p ∙ sym q
+one_named_row e comps (Some text) None two clear p q = absurd p
+one_named_row e comps (Some text) (Some x) None clear p q = absurd q
+one_named_row e comps (Some text) (Some x) (Some y) clear p q = ap Some (one_row (spellings e.globals) e clear comps x y p.0 q.0 (sym p.1 ∙ q.1))
+
+-- ---- declared sets
+
+-- there is one first component with a declared set that is out
+pub one_first_out : (e : Environment) (comps : List Comp) (i j : ℕ) → IsFirstOut e comps i → IsFirstOut e comps j → i ≡ j
+one_first_out e comps i j p q = go (cases_order i j)
+  where
+    go : (i ≡ j) ⊎ ((i < j) ⊎ (j < i)) → i ≡ j
+    go (inl e) = e
+    go (inr (inl l)) = absurd (q.first i l p.here)
+    go (inr (inr l)) = absurd (p.first j l q.here)
+
+-- ---- the events
+
+abbrev walked : Truth → walk.Truth
+walked truth.True = True
+walked truth.False = False
+walked truth.Out = Out
+
+walked_told : (t : walk.Truth) → walked (told t) ≡ t
+walked_told True = refl
+walked_told False = refl
+walked_told Out = refl
+
+-- a conjunct has one truth in a row
+pub tells_one : (e : Environment) (ts : List ResolvedTree) → TellsOneTruth (property e ts)
+tells_one e ts c row t u h k = sym (walked_told t) ∙ ap walked (one_of (slice_get ts c) (told t) (told u) h k) ∙ walked_told u
+  where
+    one_of : (p : Option ResolvedTree) (t u : Truth) → HasTruth e row p t → HasTruth e row p u → t ≡ u
+    one_of None t u a b = absurd a
+    one_of (Some p) t u a b = one_truth (in_row e row) p t u a b
+
+one_search : (e : Environment) (a : Schema) (after : Option (List Value)) (line : List Value → List ℕ) (limit : Option ℕ) (xs ys : List (Event Value)) (last other_last : Option (List Value))
+    (text other : List ℕ) (status other_status : Status)
+    → HasEvents e a after last xs → HasEvents e a after other_last ys → IsWritten line limit xs last text status → IsWritten line limit ys other_last other other_status → AreOneEnd line limit last other_last text other status other_status
+one_search e a after line limit xs ys last other_last text other status other_status h k w v =
+    let same : k.ranges ≡ h.ranges = one_ranges e a k.ranges h.ranges k.of_components h.of_components in
+    one_ending value_order order_laws.total-law exact (property e a.conjuncts) (tells_one e a.conjuncts) h.ranges after line limit xs ys last other_last text other status other_status
+    h.listed (subst (λ ranges. AreEventsUpTo value_order (property e a.conjuncts) ranges after other_last ys) same k.listed) w v
+
+-- ---- the tests
+
+one_number : (e : Environment) (a : Schema) (after whole : Option (List Value)) (m n : ℕ) → AreTests e a after whole m → AreTests e a after whole n → m ≡ n
+one_number e a after whole m n h k =
+    let same : k.ranges ≡ h.ranges = one_ranges e a k.ranges h.ranges k.of_components h.of_components in
+    let counted : IsNumberOfTests value_order (property e a.conjuncts) h.ranges after whole n =
+    subst (λ ranges. IsNumberOfTests value_order (property e a.conjuncts) ranges after whole n) same k.counted in
+    let P : List Value × ℕ → Type 0 = λ pair. IsWalked value_order (property e a.conjuncts) h.ranges after pair × IsUpTo value_order whole pair.0 in
+    let le = number-le P P m n h.counted counted (λ x p. p) in
+    let ge = number-le P P n m counted h.counted (λ x p. p) in
+    omega (arith, le, ge)
+
+-- the line of the number of tests is one
+one_tests_line : (tests : Bool) (e : Environment) (a : Schema) (after whole : Option (List Value)) (one two : List ℕ) → IsTestsLine tests e a after whole one → IsTestsLine tests e a after whole two → one ≡ two
+one_tests_line false e a after whole one two h k = h ∙ sym k
+one_tests_line true e a after whole one two h k = h.2 ∙ ap (λ n. tests_line (cut n)) (one_number e a after whole h.0 k.0 h.1 k.1) ∙ sym k.2
+
+-- ---- the answer
+
+-- events are shown in one way
+pub one_shown : (r : Request) (g : List Defined) (a : Schema) (e : Environment) (after : Option (List Value)) (one two : List ℕ) (s t : Status)
+    → ShowsEvents r g a e after one s → ShowsEvents r g a e after two t → (one ≡ two) × (s ≡ t)
+one_shown r g a e after one two s t x y =
+    let end = one_search e a after (binding_line (spellings g) a.comps) r.limit x.events y.events x.last y.last x.lines y.lines s t x.listed y.listed x.ends y.ends in
+    let counted = one_tests_line r.tests e a after y.last x.counted y.counted (subst (λ last. IsTestsLine r.tests e a after last x.counted) end.lasts x.numbered) y.numbered in
+    (x.whole ∙ ap (λ l. l ++ x.counted) end.texts ∙ ap (λ c. y.lines ++ c) counted ∙ sym y.whole, end.statuses)

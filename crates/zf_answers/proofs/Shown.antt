@@ -1,0 +1,167 @@
+-- What `show` answers where nothing stands in the way of a request.
+use Rattle.std.proofs.Common.{◌↔◌, ℕ, zero, suc, ◌<◌, ◌⊎◌, List, [], ◌∷◌, ◌++◌, length, Option, Some, None, sym, ap, ◌∙◌, inl, inr, arith, subst}
+use Rattle.std.specs.Prelude.{Contains, All, slice_get}
+use Rattle.std.proofs.lemmas.List.Elements.{All-nil, All-cons, All-head, All-tail}
+use Rattle.zf_term.specs.Definitions.{Defined, Schema}
+use Rattle.zf_term.specs.ResolvedTrees.{ResolvedTree}
+use Rattle.zf_value.specs.declared.value.Value.{Value}
+use Rattle.zf_value.specs.declared.value.Truth.{Truth}
+use Rattle.zf_value.specs.declared.value.Truth.TheVariants as truth
+use Rattle.zf_value.specs.contracts.value.ValueOrd.TheImpl.Laws as order_laws
+use Rattle.zf_value.specs.Sets.{value_order}
+use Rattle.zf_value.proofs.Exact.{exact}
+use Rattle.zf_walk.specs.declared.judge.Truth.TheVariants.{True, Out}
+use Rattle.zf_walk.specs.Events.{IsEvent}
+use Rattle.zf_walk.proofs.Lists.{Contains-head, Contains-later, Contains-cases, Contains-nil}
+use Rattle.zf_meaning.specs.Environments.{Environment}
+use Rattle.zf_meaning.specs.InRow.{in_row}
+use Rattle.zf_meaning.specs.Meaning.{IsTruth}
+use Rattle.zf_meaning.specs.Sizes.{given_sets}
+use Rattle.zf_enum.specs.Property.{HasTruth, property}
+use Rattle.zf_texts.specs.Spellings.{spellings}
+use Rattle.zf_lines.specs.declared.fault.Status.{Status}
+use Rattle.zf_lines.specs.Texts.{binding_line}
+use Rattle.zf_engine.specs.Answers.{IsNamedRow, NamesNoRow, Request, stated}
+use Rattle.zf_answers.specs.Bindings.{IsBinding, IsInDoubt, ShowsBindings}
+use Rattle.zf_answers.specs.Laws.{AnswersRequest, EachBindingIsShown, EventsAreShown, IsGranted, IsShownInOneWay, ShowsEvents}
+use Rattle.zf_answers.proofs.OneSource.{unread, one_checked, one_named, some_and_none}
+use Rattle.zf_answers.proofs.OneSearch.{clear_at, not_infinite, one_environment_at, one_named_row, one_shown}
+use Rattle.zf_answers.proofs.OneRefusal.{none_refused}
+use Rattle.zf_answers.proofs.Stages.{AtFiniteness, AtNamedRow, AtSchema, AtSearch, AtSizes, AtTypes, staged}
+use Rattle.zf_answers.proofs.WrittenRows.{with_truth, written_rows}
+
+-- ---- the events
+
+module _ (r : Request) (file source : List ℕ) (g : List Defined) (a : Schema) (e : Environment) (after : Option (List Value)) (text : List ℕ) (status : Status) (granted : IsGranted r source g a e after) where
+  searched : AtSearch r file source text status g a e after → ShowsEvents r g a e after text status
+  searched (inl out) = absurd (granted.none_out out.place out.first_out.here)
+  searched (inr shows) = shows.1
+
+  named_row : AtNamedRow r file source text status g a e → ShowsEvents r g a e after text status
+  named_row (inl none) = absurd (is_named r.after after none.none granted.named)
+    where
+      is_named : (text : Option (List ℕ)) (after : Option (List Value)) → NamesNoRow e a.comps text → IsNamedRow e a.comps text after → ⊥
+      is_named None after none named = none
+      is_named (Some text) None none named = named
+      is_named (Some text) (Some row) none named = none row named
+  named_row (inr there) =
+      let clear = clear_at source g [] (stated r.sizes) e granted.has_schema.checks granted.complete granted.environment in
+      searched (subst (AtSearch r file source text status g a e) (one_named_row e a.comps r.after there.0 after clear there.1 granted.named) there.2)
+
+  finite : AtFiniteness r file source text status g a → ShowsEvents r g a e after text status
+  finite (inl infinite) = absurd (not_infinite g a infinite.line granted.finite infinite.first_line)
+  finite (inr ends) =
+      let f = ends.1 in
+      named_row (subst (AtNamedRow r file source text status g a) (one_environment_at g (stated r.sizes) f.0 e granted.complete f.1 granted.environment) f.2)
+
+  sized : AtSizes r file source text status g a → ShowsEvents r g a e after text status
+  sized (inl bad) = absurd (none_refused (given_sets g) (stated r.sizes) bad.fault granted.complete bad.some bad.refused)
+  sized (inr fits) = finite fits.1
+
+  schema_named : AtSchema r file source text status g → ShowsEvents r g a e after text status
+  schema_named (inl none) = absurd (none.none a granted.has_schema.named)
+  schema_named (inr has) = sized (subst (AtSizes r file source text status g) (one_named g r.name has.0 a has.1 granted.has_schema.named) has.2)
+
+  typed : AtTypes r file source text status → ShowsEvents r g a e after text status
+  typed (inl bad) = absurd (some_and_none bad.faults bad.some (one_checked source bad.globals g bad.faults [] bad.checks granted.has_schema.checks).1)
+  typed (inr well) = schema_named (subst (AtSchema r file source text status) (one_checked source well.0 g [] [] well.1 granted.has_schema.checks).0 well.2)
+
+  shown : AnswersRequest r file source text status → ShowsEvents r g a e after text status
+  shown (inl (fault, refused, told, bad)) =
+      let checks = granted.has_schema.checks in
+      absurd (unread source fault checks.boxes refused checks.reads)
+  shown (inr answer) = typed (staged r file source text status answer)
+
+pub events_are_shown : EventsAreShown
+events_are_shown r file source g a e after text status granted answer = shown r file source g a e after text status granted answer
+
+pub is_shown_in_one_way : IsShownInOneWay
+is_shown_in_one_way r file source g a e after one two s t granted x y =
+    one_shown r g a e after one two s t (shown r file source g a e after one s granted x) (shown r file source g a e after two t granted y)
+
+-- ---- the bindings
+
+module _ (e : Environment) (row : List Value) where
+  says_all : (t : Truth) (ts : List ResolvedTree) → All (λ p. IsTruth (in_row e row) p t) ts → (c : ℕ) → c < length ts → HasTruth e row (slice_get ts c) t
+  says_all t [] h c l = absurd (omega arith)
+  says_all t (p ∷ ts) h zero l = All-head (λ p. IsTruth (in_row e row) p t) p ts h
+  says_all t (p ∷ ts) h (suc c) l = says_all t ts (All-tail (λ p. IsTruth (in_row e row) p t) p ts h) c (omega arith)
+
+  all_said : (t : Truth) (ts : List ResolvedTree) → ((c : ℕ) → c < length ts → HasTruth e row (slice_get ts c) t) → All (λ p. IsTruth (in_row e row) p t) ts
+  all_said t [] h = All-nil (λ p. IsTruth (in_row e row) p t)
+  all_said t (p ∷ ts) h = All-cons (λ p. IsTruth (in_row e row) p t) p ts (h zero (omega arith)) (all_said t ts (λ c l. h (suc c) (omega arith)))
+
+  says_either : (t u : Truth) (ts : List ResolvedTree) → All (λ p. IsTruth (in_row e row) p t ⊎ IsTruth (in_row e row) p u) ts
+      → (c : ℕ) → c < length ts → HasTruth e row (slice_get ts c) t ⊎ HasTruth e row (slice_get ts c) u
+  says_either t u [] h c l = absurd (omega arith)
+  says_either t u (p ∷ ts) h zero l = All-head (λ p. IsTruth (in_row e row) p t ⊎ IsTruth (in_row e row) p u) p ts h
+  says_either t u (p ∷ ts) h (suc c) l = says_either t u ts (All-tail (λ p. IsTruth (in_row e row) p t ⊎ IsTruth (in_row e row) p u) p ts h) c (omega arith)
+
+  either_said : (t u : Truth) (ts : List ResolvedTree) → ((c : ℕ) → c < length ts → HasTruth e row (slice_get ts c) t ⊎ HasTruth e row (slice_get ts c) u)
+      → All (λ p. IsTruth (in_row e row) p t ⊎ IsTruth (in_row e row) p u) ts
+  either_said t u [] h = All-nil (λ p. IsTruth (in_row e row) p t ⊎ IsTruth (in_row e row) p u)
+  either_said t u (p ∷ ts) h =
+      All-cons (λ p. IsTruth (in_row e row) p t ⊎ IsTruth (in_row e row) p u) p ts (h zero (omega arith)) (either_said t u ts (λ c l. h (suc c) (omega arith)))
+
+  says_one : (t : Truth) (ts : List ResolvedTree) (p : ResolvedTree) → Contains ts p → IsTruth (in_row e row) p t → (c : ℕ) × (c < length ts) × HasTruth e row (slice_get ts c) t
+  says_one t [] p m h = absurd (Contains-nil p m)
+  says_one t (q ∷ ts) p m h = elim (Contains-cases q ts p m) [
+    | inl is ↦ (zero, omega arith, subst (λ q. IsTruth (in_row e row) q t) (sym is) h)
+    | inr n ↦ let ih = says_one t ts p n h in let l = ih.1 in (suc ih.0, omega (arith, l), ih.2)
+  ]
+
+  one_said : (t : Truth) (ts : List ResolvedTree) (c : ℕ) → c < length ts → HasTruth e row (slice_get ts c) t → (p : ResolvedTree) × Contains ts p × IsTruth (in_row e row) p t
+  one_said t [] c l h = absurd (omega arith)
+  one_said t (q ∷ ts) zero l h = (q, Contains-head q ts, h)
+  one_said t (q ∷ ts) (suc c) l h = let ih = one_said t ts c (omega arith) h in (ih.0, Contains-later q ts ih.0 ih.1, ih.2)
+
+-- a row that satisfies the schema is an event that holds
+binding_event : (e : Environment) (a : Schema) (ranges : List (List Value)) (after : Option (List Value)) (row : List Value)
+    → IsBinding e a ranges after row ↔ IsEvent value_order (property e a.conjuncts) ranges after (with_truth row True)
+binding_event e a ranges after row = (
+  λ b. record { within = b.within; later = b.later; truth_of = says_all e row truth.True a.conjuncts b.satisfies; not_false = λ q. cc },
+  λ i. record { within = i.within; later = i.later; satisfies = all_said e row truth.True a.conjuncts i.truth_of },
+)
+
+-- one of which it is not known is an event that is out
+doubt_event : (e : Environment) (a : Schema) (ranges : List (List Value)) (after : Option (List Value)) (row : List Value)
+    → IsInDoubt e a ranges after row ↔ IsEvent value_order (property e a.conjuncts) ranges after (with_truth row Out)
+doubt_event e a ranges after row = (
+  λ b. record {
+    within = b.within;
+    later = b.later;
+    truth_of = (says_either e row truth.True truth.Out a.conjuncts b.out.0, (let w = b.out.1 in says_one e row truth.Out a.conjuncts w.0 w.1 w.2));
+    not_false = λ q. cc;
+  },
+  λ i. let t = i.truth_of in
+      record {
+        within = i.within;
+        later = i.later;
+        out = (either_said e row truth.True truth.Out a.conjuncts t.0, (let w = t.1 in one_said e row truth.Out a.conjuncts w.0 w.1 w.2));
+      },
+)
+
+bindings_of : (r : Request) (g : List Defined) (a : Schema) (e : Environment) (after : Option (List Value)) (text : List ℕ) (status : Status) → ShowsEvents r g a e after text status
+    → ShowsBindings r g a e after text status
+bindings_of r g a e after text status s =
+    let listed = s.listed in
+    let line = binding_line (spellings g) a.comps in
+    let w = written_rows value_order order_laws.total-law exact (property e a.conjuncts) listed.ranges after (IsBinding e a listed.ranges after) (IsInDoubt e a listed.ranges after)
+    (binding_event e a listed.ranges after) (doubt_event e a listed.ranges after) s.events s.last listed.listed line r.limit s.lines status s.ends in
+    record {
+      ranges = listed.ranges;
+      of_components = listed.of_components;
+      rows = w.rows;
+      last = s.last;
+      members = w.members;
+      ascending = w.ascending;
+      certain = w.certain;
+      final = w.final;
+      counted = s.counted;
+      ending = w.ending;
+      numbered = s.numbered;
+      written = s.whole ∙ ap (λ t. t ++ s.counted) w.whole;
+    }
+
+pub each_binding_is_shown : EachBindingIsShown
+each_binding_is_shown r file source g a e after text status granted answer = bindings_of r g a e after text status (events_are_shown r file source g a e after text status granted answer)

@@ -1,0 +1,147 @@
+-- An answer of `show` by its stages: at each it is refused, or goes on with what the next one stands on.
+use Rattle.std.proofs.Common.{◌≡◌, ◌≢◌, ℕ, ◌⊎◌, List, [], Option, Some, inl, inr}
+use Rattle.std.specs.Prelude.{slice_get}
+use Rattle.std.specs.List.{flat_map}
+use Rattle.zf_finite.specs.Finite.{infinite_lines, IsFinite}
+use Rattle.zf_term.specs.Definitions.{Comp, Defined, Schema}
+use Rattle.zf_term.specs.Extents.{first}
+use Rattle.zf_type.specs.declared.fault.TypeFault.{TypeFault}
+use Rattle.zf_value.specs.declared.value.Value.{Value}
+use Rattle.zf_meaning.specs.declared.sizes.SizeFault.{SizeFault}
+use Rattle.zf_meaning.specs.declared.sizes.SizeFault.TheVariants as size_faults
+use Rattle.zf_meaning.specs.Environments.{Environment}
+use Rattle.zf_meaning.specs.GlobalOutcomes.{IsEnvironment}
+use Rattle.zf_meaning.specs.Sizes.{given_sets, AreComplete, IsRefusal}
+use Rattle.zf_enum.specs.Ranges.{IsFirstOut, IsNoneOut}
+use Rattle.zf_lines.specs.declared.fault.Status.{Status}
+use Rattle.zf_lines.specs.declared.fault.Status.TheVariants.{BadSpec, BadRequest, PastBounds}
+use Rattle.zf_engine.specs.Answers.{Checks, IsNamed, IsNamedRow, NamesNoRow, Request, ShowAnswer, size_fault_line, stated}
+use Rattle.zf_engine.specs.Texts.{declared_out_line, fault_line, no_schema_line, not_a_binding_line, not_finite_text, type_fault_line}
+use Rattle.zf_answers.specs.Laws.{ShowsEvents}
+
+module _ (r : Request) (file source text : List ℕ) (status : Status) where
+  -- ---- the refusals
+
+  pub record IsIllTyped : Type 0 where
+    pub globals : List Defined
+    pub faults : List TypeFault
+    pub checks : Checks source globals faults
+    pub some : faults ≢ []
+    pub told : text ≡ flat_map (type_fault_line file) faults
+    pub bad : status ≡ BadSpec
+
+  pub record HasNoSchema (g : List Defined) : Type 0 where
+    pub none : (a : Schema) → IsNamed g r.name a → ⊥
+    pub told : text ≡ no_schema_line r.name
+    pub bad : status ≡ BadRequest
+
+  pub record HasBadSizes (g : List Defined) : Type 0 where
+    pub fault : SizeFault
+    pub refused : IsRefusal (given_sets g) (stated r.sizes) fault
+    pub some : fault ≢ size_faults.OutOfMemory
+    pub told : text ≡ size_fault_line fault
+    pub bad : status ≡ BadRequest
+
+  pub record IsInfinite (g : List Defined) (a : Schema) : Type 0 where
+    pub line : ℕ
+    pub first_line : first (infinite_lines g a) ≡ Some line
+    pub told : text ≡ fault_line file line not_finite_text
+    pub bad : status ≡ BadSpec
+
+  pub record HasNoRow (a : Schema) (e : Environment) : Type 0 where
+    pub place : ℕ
+    pub none : NamesNoRow e a.comps r.after
+    pub told : text ≡ not_a_binding_line place
+    pub bad : status ≡ BadRequest
+
+  pub record HasSetOut (a : Schema) (e : Environment) : Type 0 where
+    pub place : ℕ
+    pub component : Comp
+    pub first_out : IsFirstOut e a.comps place
+    pub there : slice_get a.comps place ≡ Some component
+    pub told : text ≡ declared_out_line component.name
+    pub past : status ≡ PastBounds
+
+  -- ---- the stages, the last one first
+
+  -- what the request asks for is searched
+  abbrev pub AtSearch : List Defined → Schema → Environment → Option (List Value) → Type 0
+  AtSearch g a e after = HasSetOut a e ⊎ (IsNoneOut e a.comps × ShowsEvents r g a e after text status)
+
+  abbrev pub AtNamedRow : List Defined → Schema → Environment → Type 0
+  AtNamedRow g a e = HasNoRow a e ⊎ ((after : Option (List Value)) × IsNamedRow e a.comps r.after after × AtSearch g a e after)
+
+  abbrev pub AtFiniteness : List Defined → Schema → Type 0
+  AtFiniteness g a = IsInfinite g a ⊎ (IsFinite g a × ((e : Environment) × IsEnvironment g (stated r.sizes) e × AtNamedRow g a e))
+
+  abbrev pub AtSizes : List Defined → Schema → Type 0
+  AtSizes g a = HasBadSizes g ⊎ (AreComplete (given_sets g) (stated r.sizes) × AtFiniteness g a)
+
+  abbrev pub AtSchema : List Defined → Type 0
+  AtSchema g = HasNoSchema g ⊎ ((a : Schema) × IsNamed g r.name a × AtSizes g a)
+
+  abbrev pub AtTypes : Type 0
+  AtTypes = IsIllTyped ⊎ ((g : List Defined) × Checks source g [] × AtSchema g)
+
+  -- each answer stands at one of them
+  pub staged : ShowAnswer r file source text status → AtTypes
+  staged (ShowAnswer.ill_typed g faults checks some told bad) = inl (record { globals = g; faults = faults; checks = checks; some = some; told = told; bad = bad })
+  staged (ShowAnswer.no_schema g checks none told bad) = inr (g, checks, inl (record { none = none; told = told; bad = bad }))
+  staged (ShowAnswer.bad_sizes g a fault has refused some told bad) =
+      inr (g, has.checks, inr (a, has.named, inl (record { fault = fault; refused = refused; some = some; told = told; bad = bad })))
+  staged (ShowAnswer.not_finite g a line has complete first_line told bad) =
+      inr (g, has.checks, inr (a, has.named, inr (complete, inl (record { line = line; first_line = first_line; told = told; bad = bad }))))
+  staged (ShowAnswer.not_a_binding g a e place asked none told bad) =
+      let has = asked.has_schema in
+      inr (g, has.checks, inr (a, has.named, inr (asked.complete, inr (asked.finite, (e, asked.environment, inl (record { place = place; none = none; told = told; bad = bad }))))))
+  staged (ShowAnswer.declared_out g a e after place c asked named first_out there told past) =
+      let has = asked.has_schema in
+      inr (
+        g,
+        has.checks,
+        inr (
+          a,
+          has.named,
+          inr (
+            asked.complete,
+            inr (
+              asked.finite,
+              (
+                e,
+                asked.environment,
+                inr (
+                  after,
+                  named,
+                  inl (record { place = place; component = c; first_out = first_out; there = there; told = told; past = past }),
+                ),
+              ),
+            ),
+          ),
+        ),
+      )
+  staged (ShowAnswer.bindings g a e after last events lines counted search listed written numbered whole) =
+      let asked = search.asked in
+      let has = asked.has_schema in
+      inr (
+        g,
+        has.checks,
+        inr (
+          a,
+          has.named,
+          inr (
+            asked.complete,
+            inr (
+              asked.finite,
+              (
+                e,
+                asked.environment,
+                inr (
+                  after,
+                  search.named,
+                  inr (search.none_out, record { last = last; events = events; lines = lines; counted = counted; listed = listed; ends = written; numbered = numbered; whole = whole }),
+                ),
+              ),
+            ),
+          ),
+        ),
+      )

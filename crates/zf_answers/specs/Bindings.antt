@@ -1,0 +1,89 @@
+-- What `show` writes of a schema, in the words of its bindings: which rows have a line, in which order, and what ends the lines.
+use Rattle.std.specs.Prelude.{◌≡◌, ◌↔◌, ◌⊎◌, ℕ, List, [], ◌∷◌, ◌++◌, length, codes, Option, Some, None, Contains, All, AllPairs}
+use Rattle.std.specs.List.{flat_map}
+use Rattle.std.specs.declared.cmp.Ordering.{Ordering}
+use Rattle.zf_term.specs.Definitions.{Defined, Schema}
+use Rattle.zf_term.specs.ResolvedTrees.{ResolvedTree}
+use Rattle.zf_value.specs.declared.value.Value.{Value}
+use Rattle.zf_value.specs.declared.value.Truth.TheVariants.{True, Out}
+use Rattle.zf_value.specs.Sets.{value_order}
+use Rattle.zf_walk.specs.Rows.{ComesAfter, IsLater, IsRowOf}
+use Rattle.zf_meaning.specs.Environments.{Environment}
+use Rattle.zf_meaning.specs.InRow.{in_row}
+use Rattle.zf_meaning.specs.Meaning.{IsTruth}
+use Rattle.zf_enum.specs.Ranges.{AreRanges}
+use Rattle.zf_texts.specs.Spellings.{spellings}
+use Rattle.zf_lines.specs.declared.fault.Status.{Status}
+use Rattle.zf_lines.specs.declared.fault.Status.TheVariants.{Done, PastBounds}
+use Rattle.zf_lines.specs.Searches.{IsBelow, IsTestsLine, out_line}
+use Rattle.zf_lines.specs.Texts.{binding_line}
+use Rattle.zf_engine.specs.Answers.{Request}
+
+-- ---- rows
+
+-- each conjunct of the schema's property is true in the row
+abbrev pub Satisfies : Environment → Schema → List Value → Type 0
+Satisfies e a row = All (λ p. IsTruth (in_row e row) p True) a.conjuncts
+
+-- none is false in it, and one is out of bounds: whether the row satisfies the schema is not known
+abbrev pub IsOutOfBounds : Environment → Schema → List Value → Type 0
+IsOutOfBounds e a row = All (λ p. IsTruth (in_row e row) p True ⊎ IsTruth (in_row e row) p Out) a.conjuncts × ((p : ResolvedTree) × Contains a.conjuncts p × IsTruth (in_row e row) p Out)
+
+-- a row that is asked for: it has a value of each range, comes after the named row, if one is named, and satisfies the schema
+pub record IsBinding (e : Environment) (a : Schema) (ranges : List (List Value)) (after : Option (List Value)) (row : List Value) : Type 0 where
+  pub within : IsRowOf ranges row
+  pub later : IsLater value_order after row
+  pub satisfies : Satisfies e a row
+
+-- the same of a row of which it is not known
+pub record IsInDoubt (e : Environment) (a : Schema) (ranges : List (List Value)) (after : Option (List Value)) (row : List Value) : Type 0 where
+  pub within : IsRowOf ranges row
+  pub later : IsLater value_order after row
+  pub out : IsOutOfBounds e a row
+
+-- ---- the last row that is looked at, or none where all are
+
+-- the row comes before it
+abbrev pub IsBefore : {V : Type 0} → (V → V → Ordering) → Option (List V) → List V → Type 0
+IsBefore cmp None row = Unit {0}
+IsBefore cmp (Some last) row = ComesAfter cmp row last
+
+-- the row is it, or comes before it
+abbrev pub IsNotPast : {V : Type 0} → (V → V → Ordering) → Option (List V) → List V → Type 0
+IsNotPast cmp None row = Unit {0}
+IsNotPast cmp (Some last) row = (row ≡ last) ⊎ ComesAfter cmp row last
+
+-- ---- the end
+
+-- The last line and the status, by why no further row is written.
+pub data EndsLines {V : Type 0} (InDoubt : List V → Type 0) (line : List V → List ℕ) (limit : Option ℕ) (rows : List (List V)) (last : Option (List V)) (final : List ℕ) (status : Status) : Type 0 where
+  -- as many as the limit are written, and the last of them is the last that is looked at
+  enough : (front : List (List V)) (row : List V) → rows ≡ front ++ row ∷ [] → last ≡ Some row → limit ≡ Some (length rows)
+      → final ≡ codes "more\n" → status ≡ Done → EndsLines InDoubt line limit rows last final status
+  -- fewer are, and the next one is out of bounds
+  out : (row : List V) → last ≡ Some row → InDoubt row → IsBelow limit (length rows)
+      → final ≡ out_line line row → status ≡ PastBounds → EndsLines InDoubt line limit rows last final status
+  -- fewer are, and all were looked at
+  complete : last ≡ None → IsBelow limit (length rows)
+      → final ≡ codes "end\n" → status ≡ Done → EndsLines InDoubt line limit rows last final status
+
+-- The text and the status of `show` for a schema among these globals, in this environment, after the named row.
+pub record ShowsBindings (r : Request) (globals : List Defined) (a : Schema) (e : Environment) (after : Option (List Value)) (text : List ℕ) (status : Status) : Type 0 where
+  -- the range of each component: the values that lie in all its declared sets
+  pub ranges : List (List Value)
+  pub of_components : AreRanges e a.comps ranges
+  -- the rows that have a line, and the last one that is looked at
+  pub rows : List (List Value)
+  pub last : Option (List Value)
+  -- they are exactly the bindings up to there
+  pub members : (row : List Value) → Contains rows row ↔ (IsBinding e a ranges after row × IsNotPast value_order last row)
+  -- each comes after those before it, so each has one line
+  pub ascending : AllPairs (ComesAfter value_order) rows
+  -- before the last one there is none of which it is not known
+  pub certain : (row : List Value) → IsInDoubt e a ranges after row → IsBefore value_order last row → ⊥
+  -- their lines, the last line, and the number of tests, if it is asked for
+  pub final : List ℕ
+  pub counted : List ℕ
+  pub ending : EndsLines (IsInDoubt e a ranges after) (binding_line (spellings globals) a.comps) r.limit rows last final status
+  pub numbered : IsTestsLine r.tests e a after last counted
+  pub written : text ≡ flat_map (binding_line (spellings globals) a.comps) rows ++ final ++ counted
