@@ -11,3 +11,20 @@ x : NAME
 
 /// What is written of `ONE` where the given set has two elements.
 pub const ONE_ANSWER: &str = "x == NAME.1\nx == NAME.2\nend\n";
+
+/// A state of two components.
+pub const BOOK: &str = r"\begin{zed}
+[NAME, DATE]
+\end{zed}
+\begin{schema}{BirthdayBook}
+known : \power NAME; birthday : NAME \pfun DATE
+\where
+known = \dom birthday
+\end{schema}
+";
+
+/// A schema of more bindings than can be looked at.
+pub const WIDE: &str = r"\begin{schema}{S}
+a, b, c, d : 0 \upto 4000
+\end{schema}
+";

@@ -1,7 +1,7 @@
 //! Runs over devices that fail, or that give or take a few bytes at a time.
 use crate::devices::{Endless, Failing, Limited};
 use crate::tests::runs::ended;
-use crate::tests::sources::{ONE, ONE_ANSWER};
+use crate::tests::sources::{ONE, ONE_ANSWER, WIDE};
 use std::io::ErrorKind;
 use std::test::Fail;
 use zf_lines::fault::{RunFault, Status};
@@ -44,6 +44,19 @@ fn writer_fails_after_a_line(rt: HostRuntime) -> Result<(), Fail> {
     assert!(rt; end == Err(RunFault::WriteFailed));
     assert_eq!(rt; writer.taken.as_slice(), b"x == NAME.1\n".as_slice());
     assert!(rt; writer.writes == 2 && writer.flushes == 0);
+    Ok(())
+}
+
+/// A writer that takes nothing, by an error or without one. The first line is written before the second binding is looked for.
+#[test]
+fn writer_takes_nothing(rt: HostRuntime) -> Result<(), Fail> {
+    for (room, step) in [(0, MANY), (MANY, 0)] {
+        let mut writer = Limited::new(rt.alloc(), room, step, ErrorKind::BrokenPipe);
+        let words = &["show", "s.tex", "S"];
+        let end = ended(rt.alloc(), words, WIDE.as_bytes(), &mut writer)?;
+        assert!(rt; end == Err(RunFault::WriteFailed));
+        assert!(rt; writer.taken.is_empty() && writer.writes == 1 && writer.flushes == 0);
+    }
     Ok(())
 }
 
