@@ -1,5 +1,10 @@
 //! A search goes on where memory was refused: the steps are the same, and each finished test counts once.
 //! `bench/refuse-growths` refuses each growth of this test in turn.
+ghost use Rattle.std.specs.Prelude.{IfOk};
+ghost use Rattle.zf_meaning.specs.Envs.{environment_of};
+ghost use Rattle.zf_schema.specs.WellTypedGlobals.{AreWellTyped};
+ghost use Rattle.zf_term.specs.Definitions.{globals_of};
+
 use bumpalo::Bump;
 use std::alloc::{AllocError, Global};
 use std::test::Fail;
@@ -41,7 +46,7 @@ fn steps(rt: HostRuntime) -> Result<(), Fail> {
     let name = Text::of(rt.alloc(), b"NAME")?;
     let env = Env::new(rt.alloc(), &globals, &[Size { name, count: 2 }])?;
     for (name, holding, tests) in SCHEMAS {
-        let mut search = begun(rt.alloc(), &arena, &globals, &env, name)?;
+        let mut search = begun(rt.alloc(), &arena, &env, name)?;
         for place in 0..holding {
             assert!(rt; next(&mut search) == Ok(Step::Holds), "{name} at {place}");
         }
@@ -60,7 +65,10 @@ fn next(search: &mut Bindings<'_, '_, '_, '_>) -> Result<Step, AllocError> {
     }
 }
 
-fn globals_in<'a>(alloc: Global, arena: &'a Bump) -> Result<Globals<'a>, Fail> {
+/// What the source defines.
+fn globals_in<'a>(alloc: Global, arena: &'a Bump) -> Result<Globals<'a>, Fail>
+    ensures { IfOk result (λ g. AreWellTyped (globals_of g)) }
+{
     let spec = read_spec(alloc, arena, SOURCE.as_bytes())?;
     let checked = check_spec(alloc, arena, spec)?;
     Ok(checked.globals)
@@ -70,14 +78,18 @@ fn globals_in<'a>(alloc: Global, arena: &'a Bump) -> Result<Globals<'a>, Fail> {
 fn begun<'e, 'g, 'a>(
     alloc: Global,
     arena: &'a Bump,
-    globals: &Globals<'a>,
     env: &'e Env<'g, 'a>,
     name: &str,
-) -> Result<Bindings<'e, 'e, 'g, 'a>, Fail> {
-    let schema = globals.schema(name).ok_or("no schema")?;
-    if finite(schema, globals).is_err() {
+) -> Result<Bindings<'e, 'e, 'g, 'a>, Fail>
+    requires { AreWellTyped (environment_of env.now).globals }
+{
+    let globals = env.globals();
+    let Some(schema) = globals.schema(name) else {
+        return Err(Fail::new("no schema"));
+    };
+    let Ok(()) = finite(schema, globals) else {
         return Err(Fail::new("not finite"));
-    }
+    };
     match Bindings::start(alloc, arena, schema, env, None) {
         Ok(bindings) => Ok(bindings),
         Err(StartFault::OutOfMemory) => Err(Fail::new("out of memory")),
