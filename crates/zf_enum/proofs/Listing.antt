@@ -86,9 +86,3 @@ lists_merged ls rs both ys h k e asc same =
 
 pub listed_none : (o : Outcome) (out : List Value) → o ≡ Undefined → out ≡ [] → IsListed o (IsIn o) out
 listed_none o out e n = subst (λ p. IsListed p (IsIn p) out) (sym e) (record { within = λ k. (cc); lists = lists_none (IsIn Undefined) out n (λ v k. k) })
-
-pub listed_among_none : (o : Outcome) (xs out : List Value) → o ≡ Undefined → out ≡ [] → IsListed o (λ v. IsMember v xs × IsIn o v) out
-listed_among_none o xs out e n = subst (λ p. IsListed p (λ v. IsMember v xs × IsIn p v) out) (sym e) (record { within = λ k. (cc); lists = lists_none (λ v. IsMember v xs × IsIn Undefined v) out n (λ v k. k.1) })
-
-pub listed_among_set : (o : Outcome) (w : Value) (xs out : List Value) → o ≡ Is w → Lists (λ v. IsMember v xs × IsMember v (members w)) out → IsListed o (λ v. IsMember v xs × IsIn o v) out
-listed_among_set o w xs out e h = subst (λ p. IsListed p (λ v. IsMember v xs × IsIn p v) out) (sym e) (record { within = λ k. (cc); lists = h })

@@ -1,5 +1,5 @@
 -- What a declared set that is no disjunction holds, by its outcome.
-use Rattle.std.proofs.Common.{◌≡◌, ◌↔◌, Bool, true, false, not, List, Option, Some, None, refl, ap, subst}
+use Rattle.std.proofs.Common.{◌≡◌, ◌↔◌, Bool, true, false, not, List, Option, Some, None, refl, sym, ap, subst}
 use Rattle.zf_term.specs.declared.extent.Infinite.{Infinite}
 use Rattle.zf_term.specs.Definitions.{plain, carrier}
 use Rattle.zf_term.specs.Extents.{direct}
@@ -14,11 +14,14 @@ use Rattle.zf_meaning.specs.Carriers.{IsCarrier}
 use Rattle.zf_meaning.specs.Meaning.{HasOutcome}
 use Rattle.zf_meaning.specs.Rows.{IsOfType}
 use Rattle.zf_meaning.specs.Symbols as symbols
+use Rattle.zf_meaning.specs.declared.described.Described.{Described}
+use Rattle.zf_meaning.specs.Described.{Describes, IsDescribed, IsInDescribed, IsRegularDescribed}
+use Rattle.zf_meaning.proofs.Tests.{there_is}
 use Rattle.zf_meaning.proofs.Environments.{one_carrier}
 use Rattle.zf_meaning.proofs.Unique.{one_outcome}
 use Rattle.zf_finite.specs.Finite.{is_none, bounds}
 use Rattle.zf_enum.specs.DeclaredSets.{IsInOne, IsInPlain, IsInCarrier, IsPlainOut, IsCarrierOut, IsSetOut}
-use Rattle.zf_enum.specs.Parts.{Lists, Narrows, IsAllOf, IsListed, IsIn}
+use Rattle.zf_enum.specs.Parts.{Lists, Filters, Narrows, IsAllOf, IsListed, IsIn}
 use Rattle.zf_enum.proofs.Listing.{lists_same}
 
 -- ---- by an outcome that is the only one
@@ -30,6 +33,14 @@ in_one P Out h one v = (λ m. absurd m, λ k. (cc (one (Is k.0) k.1)))
 
 among : (P Q : Value → Type 0) (xs : List Value) → ((v : Value) → P v ↔ Q v) → (v : Value) → (IsMember v xs × P v) ↔ (IsMember v xs × Q v)
 among P Q xs f v = (λ k. (k.0, (f v).0 k.1), λ k. (k.0, (f v).1 k.1))
+
+-- what is described by the only outcome of which S says so, and filters values
+listed : (S : Outcome → Type 0) (d : Described) (xs ys : List Value) → ((p q : Outcome) → S p → S q → p ≡ q) → Describes S d → IsRegularDescribed d → Filters d xs ys → (o : Outcome) × S o × IsListed o (λ v. IsMember v xs × IsIn o v) ys
+unfolding Describes IsInDescribed
+listed S d xs ys one f r h =
+    let o = there_is d r h.1 in
+    let same = in_one (IsDescribed d) o.0 o.1 (λ p q. one o.0 p (f o.0 o.1) (f p q)) in
+    (o.0, f o.0 o.1, record { within = λ e. h.1 (subst (IsDescribed d) e o.1); lists = lists_same _ (λ v. IsMember v xs × IsIn o.0 v) ys (among (IsInDescribed d) (IsIn o.0) xs (λ v. ((same v).1, (same v).0))) h.0 })
 
 -- ---- the set of a declaration
 
@@ -44,8 +55,13 @@ some_of : (e : Environment) (t : ResolvedTree) (d : Option Infinite) (o : Outcom
 some_of e t None o xs ys n h k = (lists_same _ (λ v. IsMember v xs × IsInPlain e None t v) ys (among (IsIn o) (IsInPlain e None t) xs (in_one (HasOutcome (globally e) t) o h (λ p q. one_outcome (globally e) t o p h q))) k.lists, λ q. k.within (one_outcome (globally e) t o Out h q))
 some_of e t (Some s) o xs ys n h k = (cc)
 
-pub some_of_plain : (e : Environment) (t : ResolvedTree) (o : Outcome) (xs ys : List Value) → direct e.globals t ≡ None → HasOutcome (globally e) t o → IsListed o (λ v. IsMember v xs × IsIn o v) ys → Narrows e (plain t) xs ys
+some_of_plain : (e : Environment) (t : ResolvedTree) (o : Outcome) (xs ys : List Value) → direct e.globals t ≡ None → HasOutcome (globally e) t o → IsListed o (λ v. IsMember v xs × IsIn o v) ys → Narrows e (plain t) xs ys
 some_of_plain e t o xs ys n h k = some_of e t (direct e.globals t) o xs ys n h k
+
+pub filtered_by_plain : (e : Environment) (t : ResolvedTree) (d : Described) (xs ys : List Value) → direct e.globals t ≡ None → Describes (HasOutcome (globally e) t) d → IsRegularDescribed d → Filters d xs ys → Narrows e (plain t) xs ys
+filtered_by_plain e t d xs ys n f r h =
+    let l = listed (HasOutcome (globally e) t) d xs ys (λ p q. one_outcome (globally e) t p q) f r h in
+    some_of_plain e t l.0 xs ys n l.1 l.2
 
 numbers_of : (e : Environment) (t : ResolvedTree) (d : Option Infinite) (s : Infinite) (xs ys : List Value) → d ≡ Some s → Lists (λ v. IsMember v xs × symbols.IsIn s v) ys → Lists (λ v. IsMember v xs × IsInPlain e d t v) ys × (IsPlainOut e d t → ⊥)
 numbers_of e t None s xs ys n k = (cc)
@@ -61,6 +77,10 @@ plain_out e t (Some s) o n h q = (cc)
 pub plain_is_out : (e : Environment) (t : ResolvedTree) (o : Outcome) → is_none (direct e.globals t) ≡ true → HasOutcome (globally e) t o → o ≡ Out → IsSetOut e (plain t)
 plain_is_out e t o n h q = plain_out e t (direct e.globals t) o n h q
 
+pub described_is_out : (e : Environment) (t : ResolvedTree) (d : Described) → is_none (direct e.globals t) ≡ true → Describes (HasOutcome (globally e) t) d → IsDescribed d Out → IsSetOut e (plain t)
+unfolding Describes
+described_is_out e t d n f h = plain_is_out e t Out n (f Out h) refl
+
 -- ---- the carrier of a type
 
 all_in : (e : Environment) (t : Ty) (b : Bool) (o : Outcome) (xs : List Value) → b ≡ false → IsCarrier e t o → IsListed o (IsIn o) xs → Lists (IsInCarrier e b t) xs × (IsCarrierOut e b t → ⊥)
@@ -74,8 +94,18 @@ some_in : (e : Environment) (t : Ty) (b : Bool) (o : Outcome) (xs ys : List Valu
 some_in e t true o xs ys n h k = (cc)
 some_in e t false o xs ys n h k = (lists_same _ (λ v. IsMember v xs × IsInCarrier e false t v) ys (among (IsIn o) (IsInCarrier e false t) xs (in_one (IsCarrier e t) o h (λ p q. one_carrier e t o p h q))) k.lists, λ q. k.within (one_carrier e t o Out h q))
 
-pub some_of_carrier : (e : Environment) (t : Ty) (o : Outcome) (xs ys : List Value) → has_numbers t ≡ false → IsCarrier e t o → IsListed o (λ v. IsMember v xs × IsIn o v) ys → Narrows e (carrier t) xs ys
+some_of_carrier : (e : Environment) (t : Ty) (o : Outcome) (xs ys : List Value) → has_numbers t ≡ false → IsCarrier e t o → IsListed o (λ v. IsMember v xs × IsIn o v) ys → Narrows e (carrier t) xs ys
 some_of_carrier e t o xs ys n h k = some_in e t (has_numbers t) o xs ys n h k
+
+-- what is described as the one outcome
+pub one_described : (S : Outcome → Type 0) (o : Outcome) (d : Described) → S o → Describes (λ p. p ≡ o) d → Describes S d
+unfolding Describes
+one_described S o d s f p h = subst S (sym (f p h)) s
+
+pub filtered_by_carrier : (e : Environment) (t : Ty) (d : Described) (xs ys : List Value) → has_numbers t ≡ false → Describes (IsCarrier e t) d → IsRegularDescribed d → Filters d xs ys → Narrows e (carrier t) xs ys
+filtered_by_carrier e t d xs ys n f r h =
+    let l = listed (IsCarrier e t) d xs ys (λ p q. one_carrier e t p q) f r h in
+    some_of_carrier e t l.0 xs ys n l.1 l.2
 
 typed_in : (e : Environment) (t : Ty) (b : Bool) (xs ys : List Value) → b ≡ true → Lists (λ v. IsMember v xs × IsOfType e t v) ys → Lists (λ v. IsMember v xs × IsInCarrier e b t v) ys × (IsCarrierOut e b t → ⊥)
 typed_in e t true xs ys n k = (k, λ q. q)
@@ -94,6 +124,10 @@ carrier_is_out e t o n h q = carrier_out e t (has_numbers t) o n h q
 pub numberless : (b : Bool) → not b ≡ true → b ≡ false
 numberless true n = (cc)
 numberless false n = refl
+
+pub described_carrier_is_out : (e : Environment) (t : Ty) (d : Described) → has_numbers t ≡ false → Describes (IsCarrier e t) d → IsDescribed d Out → IsSetOut e (carrier t)
+unfolding Describes
+described_carrier_is_out e t d n f h = carrier_is_out e t Out n (f Out h) refl
 
 -- ---- what `direct` told
 

@@ -10,6 +10,8 @@ use Rattle.zf_value.specs.declared.value.Outcome.TheVariants.{Is, Undefined}
 use Rattle.zf_value.specs.declared.value.Outcome.TheVariants as outcome
 use Rattle.zf_enum.specs.declared.lack.Lack.{Lack}
 use Rattle.zf_enum.specs.declared.lack.Lack.TheVariants.{Out, OutOfMemory}
+use Rattle.zf_meaning.specs.declared.described.Described.{Described}
+use Rattle.zf_meaning.specs.Described.{IsDescribed, IsInDescribed}
 use Rattle.zf_meaning.specs.Environments.{Environment}
 use Rattle.zf_enum.specs.DeclaredSets.{IsInSet, IsInSets, IsSetOut, IsOneOut}
 
@@ -43,6 +45,10 @@ IsAllOfEach e ds xs = Lists (IsInSets e ds) xs × (IsOneOut e ds → ⊥)
 pub record IsListed (o : Outcome) (P : Value → Type 0) (xs : List Value) : Type 0 where
   pub within : o ≡ outcome.Out → ⊥
   pub lists : Lists P xs
+
+-- the values of xs that lie in what is described, which is not out
+abbrev pub Filters : Described → List Value → List Value → Type 0
+Filters d xs ys = Lists (λ v. IsMember v xs × IsInDescribed d v) ys × (IsDescribed d outcome.Out → ⊥)
 
 -- a member of the set that this is; what is undefined has none
 abbrev pub IsIn : Outcome → Value → Type 0

@@ -17,6 +17,8 @@ impl Test for InNumbers {
 
     ghost passes = { λ t v. IsIn t.set v };
 
+    ghost ready = { λ t. Unit {0} };
+
     fn admits(&self, value: &Value) -> bool {
         match value.number() {
             Some(n) => is_from(self.set, n),

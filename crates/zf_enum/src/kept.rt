@@ -16,8 +16,12 @@ pub(crate) trait Test {
     /// What passes.
     ghost passes: { Self → value.Value → Type 0 };
 
+    /// When it may be asked.
+    ghost ready: { Self → Type 0 };
+
     fn admits(&self, value: &Value) -> bool
-        requires { IsRegular value.now }
+        requires ready { ready self.now }
+        requires value { IsRegular value.now }
         ensures { IsTrue result ↔ passes self.now value.now };
 }
 
@@ -27,7 +31,8 @@ pub(crate) fn kept<T: Test>(
     values: &[Value],
     test: &T,
 ) -> Result<Vec<Value>, AllocError>
-    requires { IsRegularSet values.now }
+    requires values { IsRegularSet values.now }
+    requires ready { T.ready test.now }
     ensures { IfOk result (λ out. Lists (λ v. IsMember v values.now × T.passes test.now v) out.items) }
 {
     let mut out = Vec::new(alloc);
@@ -44,7 +49,8 @@ fn keep<T: Test>(
     value: &Value,
     test: &T,
 ) -> Result<(), AllocError>
-    requires { IsRegular value.now }
+    requires value { IsRegular value.now }
+    requires ready { T.ready test.now }
     ensures { OnOk result (Grows (T.passes test.now) value.now out.old.items out.new.items) }
 {
     if test.admits(value) {

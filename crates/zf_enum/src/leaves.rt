@@ -19,8 +19,9 @@ use crate::of_type::OfType;
 use bumpalo::Bump;
 use std::alloc::{AllocError, Global};
 use zf_meaning::carrier::carrier_of;
+use zf_meaning::described::Described;
 use zf_meaning::env::Env;
-use zf_meaning::value::value_of;
+use zf_meaning::value::{described_in, value_of};
 use zf_term::resolved::Resolved;
 use zf_term::written::Written;
 use zf_term::ztype::ZType;
@@ -85,8 +86,10 @@ pub(crate) fn among_plain<'a>(
         let test = InNumbers { set: infinite };
         return Ok(kept(alloc, values, &test)?);
     }
-    let outcome = outcome_of(arena, set, env)?;
-    members_among(alloc, values, outcome)
+    let term: Resolved<'a> = set.resolved(arena)?;
+    let none: &[Value] = &[];
+    let described = described_in(&term, &none, env)?;
+    members_among(alloc, values, &described)
 }
 
 /// Those of the values that lie in the carrier of the type, or, where numbers are parts of them, are of the type.
@@ -104,6 +107,6 @@ pub(crate) fn among_carrier<'a>(
         let test = OfType { ztype, env };
         return Ok(kept(alloc, values, &test)?);
     }
-    let outcome = carrier_of(ztype, env)?;
-    members_among(alloc, values, outcome)
+    let carrier = Described::of(carrier_of(ztype, env)?);
+    members_among(alloc, values, &carrier)
 }

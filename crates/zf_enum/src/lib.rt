@@ -18,6 +18,7 @@ mod ranges;
 mod shown;
 mod start;
 mod start_fault;
+mod weight;
 
 pub use bindings::Bindings;
 pub use known::{Known, all_known};

@@ -2,28 +2,31 @@
 ghost use Rattle.std.specs.Prelude.{◌≡◌, ◌↔◌, ◌++◌, ◌⊎◌, IsTrue, IfOk, IfErr, OnOk};
 ghost use Rattle.zf_value.specs.declared.value.Outcome.TheVariants as outcome;
 ghost use Rattle.zf_value.specs.Sets.{IsMember, IsRegularSet, IsRegularOutcome};
-ghost use Rattle.zf_enum.specs.Parts.{Lists, IsListed, IsIn, Tells};
+ghost use Rattle.zf_meaning.specs.Described.{IsDescribed, IsRegularDescribed};
+ghost use Rattle.zf_enum.specs.Parts.{Lists, Filters, IsListed, IsIn, Tells};
 
 use crate::kept::{Test, kept};
-use crate::known::Known;
 use crate::lack::Lack;
 use std::alloc::{AllocError, Global};
-use zf_value::set::is_member;
+use zf_meaning::described::Described;
 use zf_value::value::{Outcome, Value};
 
-/// Whether a value is a member of a set.
+/// Whether a value is a member of a set, which need not be there.
 #[derive(Drop)]
-pub(crate) struct InSet {
-    pub(crate) set: Known,
+pub(crate) struct InSet<'d, 'v> {
+    pub(crate) set: &'d Described<'v>,
 }
 
-impl Test for InSet {
-    ghost use Rattle.zf_value.specs.Sets.{IsMember, members};
+impl<'d, 'v> Test for InSet<'d, 'v> {
+    ghost use Rattle.zf_value.specs.declared.value.Outcome.TheVariants.{Out};
+    ghost use Rattle.zf_meaning.specs.Described.{IsDescribed, IsInDescribed, IsRegularDescribed};
 
-    ghost passes = { λ t v. IsMember v (members t.set) };
+    ghost passes = { λ t v. IsInDescribed t.set.now v };
+
+    ghost ready = { λ t. IsRegularDescribed t.set.now × (IsDescribed t.set.now Out → ⊥) };
 
     fn admits(&self, value: &Value) -> bool {
-        is_member(value, self.set.value().members())
+        self.set.has(value)
     }
 }
 
@@ -31,23 +34,18 @@ impl Test for InSet {
 pub(crate) fn members_among(
     alloc: Global,
     values: &[Value],
-    of: Outcome,
+    of: &Described<'_>,
 ) -> Result<Vec<Value>, Lack>
     requires values { IsRegularSet values.now }
-    requires of { IsRegularOutcome of }
-    ensures is { IfOk result (λ out. IsListed of (λ v. IsMember v values.now × IsIn of v) out.items) }
-    ensures out { IfErr result (λ lack. Tells lack (of ≡ outcome.Out)) }
+    requires of { IsRegularDescribed of.now }
+    ensures is { IfOk result (λ out. Filters of.now values.now out.items) }
+    ensures out { IfErr result (λ lack. Tells lack (IsDescribed of.now outcome.Out)) }
 {
-    match of {
-        Outcome::Is(set) => {
-            let test = InSet {
-                set: Known::new(set),
-            };
-            Ok(kept(alloc, values, &test)?)
-        }
-        Outcome::Undefined => Ok(Vec::new(alloc)),
-        Outcome::Out => Err(Lack::Out),
+    if of.is_out() {
+        return Err(Lack::Out);
     }
+    let test = InSet { set: of };
+    Ok(kept(alloc, values, &test)?)
 }
 
 /// The members. What is undefined has none.

@@ -29,6 +29,8 @@ impl<'t, 'e, 'g, 'a> Test for OfType<'t, 'e, 'g, 'a> {
 
     ghost passes = { λ t v. IsOfType (environment_of t.env.now) (type_of t.ztype.now) v };
 
+    ghost ready = { λ t. Unit {0} };
+
     fn admits(&self, value: &Value) -> bool {
         is_of_type(self.ztype, value, self.env)
     }

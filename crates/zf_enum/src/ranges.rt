@@ -7,7 +7,7 @@ ghost use Rattle.zf_finite.specs.Finite as spec;
 ghost use Rattle.zf_enum.specs.DeclaredSets.{IsSetOut, IsOneOut};
 ghost use Rattle.zf_enum.specs.Parts.{Narrows, NarrowsAll, IsAllOf, IsAllOfEach, Tells};
 
-use crate::bounding::first_bounding;
+use crate::bounding::lightest_bounding;
 use crate::lack::Lack;
 use crate::leaves::{among_carrier, among_plain, of_carrier, of_plain};
 use crate::members::{copied, merged};
@@ -29,7 +29,7 @@ pub(crate) fn range<'a>(
     ensures regular { IfOk result (λ xs. IsRegularSet xs.items) }
     ensures out { spec.one_bounds (environment_of env.now).globals (sets_of (map set_of domains.now)) ≡ true → IfErr result (λ lack. Tells lack (IsOneOut (environment_of env.now) (sets_of (map set_of domains.now)))) }
 {
-    let place = first_bounding(domains, env.globals());
+    let place = lightest_bounding(arena, domains, env)?;
     if place >= domains.len() {
         return Ok(Vec::new(alloc));
     }

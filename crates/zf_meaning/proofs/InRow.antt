@@ -11,6 +11,8 @@ use Rattle.zf_value.specs.declared.value.Outcome.{Outcome}
 use Rattle.zf_value.specs.declared.value.Truth.{Truth}
 use Rattle.zf_value.specs.Sets.{IsRegularOutcome}
 use Rattle.zf_meaning.specs.declared.env.Env.{Env}
+use Rattle.zf_meaning.specs.declared.described.Described.{Described}
+use Rattle.zf_meaning.specs.Described.{Describes}
 use Rattle.zf_meaning.specs.Envs.{environment_of}
 use Rattle.zf_meaning.specs.InRow.{in_row}
 use Rattle.zf_meaning.specs.Meaning.{HasOutcome, IsTruth}
@@ -27,6 +29,9 @@ outcome-in-row env row locals t x r e h k =
 
 pub truth-in-row : (env : Env) (row : List Value) (locals : List (Bor Value)) (t : ResolvedTree) (r : Result Truth AllocError) → locals ≡ [] → IfOk r (IsTruth (scope_of env row locals) t) → IfOk r (IsTruth (in_row (environment_of env) row) t)
 truth-in-row env row locals t r e h = subst (λ c. IfOk r (IsTruth c t)) (none-bound env row locals e) h
+
+pub described-in-row : (env : Env) (row : List Value) (locals : List (Bor Value)) (t : ResolvedTree) (r : Result Described AllocError) → locals ≡ [] → IfOk r (Describes (HasOutcome (scope_of env row locals) t)) → IfOk r (Describes (HasOutcome (in_row (environment_of env) row) t))
+described-in-row env row locals t r e h = subst (λ c. IfOk r (Describes (HasOutcome c t))) (none-bound env row locals e) h
 
 pub regular-copy : (x : Outcome) (r : Result Outcome AllocError) → IsRegularOutcome x → IfOk r (λ o. o ≡ x) → IfOk r IsRegularOutcome
 regular-copy x r h k = IfOk-weaker r (λ o. o ≡ x) IsRegularOutcome (λ o q. subst IsRegularOutcome (sym q) h) k

@@ -6,6 +6,8 @@ pub mod NextRow
 pub mod AllRows
 pub mod Told
 pub mod Regulars
+pub mod Tests
+pub mod Operands
 pub mod Gathering
 pub mod Connecting
 pub mod Midway

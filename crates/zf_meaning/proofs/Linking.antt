@@ -1,5 +1,5 @@
 -- The links of a chain, one after another.
-use Rattle.std.proofs.Common.{◌≡◌, ℕ, ◌+◌, ◌<◌, ◌≤◌, List, ◌∷◌, length, map, drop, get_or, refl, sym, ap, ◌∙◌, subst, inl}
+use Rattle.std.proofs.Common.{◌≡◌, ℕ, ◌+◌, ◌<◌, ◌≤◌, List, ◌∷◌, length, map, drop, get_or, Option, None, refl, sym, ap, ◌∙◌, subst, inl}
 use Rattle.std.specs.Prelude.{Result}
 use Rattle.std.specs.Result.{IfOk}
 use Rattle.std.specs.declared.alloc.AllocError.{AllocError}
@@ -12,7 +12,12 @@ use Rattle.zf_term.proofs.ResolvedSeen.{link-seen}
 use Rattle.zf_value.specs.declared.value.Outcome.{Outcome}
 use Rattle.zf_value.specs.declared.value.Truth.{Truth}
 use Rattle.zf_value.specs.declared.value.Truth.TheVariants.{True, False}
+use Rattle.zf_scan.specs.declared.token.Relation.{Relation}
+use Rattle.zf_term.specs.declared.extent.Infinite.{Infinite}
+use Rattle.zf_meaning.specs.declared.described.Described.{Described}
 use Rattle.zf_meaning.specs.Connected.{conjunction}
+use Rattle.zf_meaning.specs.Described.{Describes, IsDescribed, IsTruthIn}
+use Rattle.zf_meaning.specs.Linked.{IsLastLink}
 use Rattle.zf_meaning.specs.Environments.{Context}
 use Rattle.zf_meaning.specs.Meaning.{HasOutcome, IsTruth, AreLinked, IsLink, infinite_right}
 use Rattle.zf_meaning.proofs.Connecting.{conjoined, conjunction-assoc, conjunction-true, conjunction-false}
@@ -51,6 +56,23 @@ link-false c all i k x y first t p l e f o h d =
 pub link-all : (c : Context) (all : List ResolvedLink) (n : ℕ) (x first : Outcome) (t : Truth) → length all ≤ n → LinksTo c all (drop n all) x first t → AreLinked c first (links (map resolved_link_of all)) t
 link-all c all n x first t l f =
     subst (AreLinked c first (links (map resolved_link_of all))) (conjunction-true t) (f True (subst (λ ks. AreLinked c x (links (map resolved_link_of ks)) True) (sym (drop-past n all l)) refl))
+
+-- the last link
+pub link-last : (c : Context) (all : List ResolvedLink) (i : ℕ) (k : ResolvedLink) (x first : Outcome) (t p s : Truth) → i < length all → k ≡ get_or all i k → length all ≤ i + 1 → LinksTo c all (drop i all) x first t
+    → IsLastLink c k.relation (resolved_of k.right) x p → s ≡ conjunction t p → AreLinked c first (links (map resolved_link_of all)) s
+unfolding IsLastLink
+link-last c all i k x first t p s l e m f h q =
+    let r = subst (λ ks. AreLinked c h.0 (links (map resolved_link_of ks)) True) (sym (drop-past (i + 1) all m)) refl in
+    let told = subst (AreLinked c x (links (map resolved_link_of (drop i all)))) (conjunction-true p) (here c all i k x h.0 p True l e h.1 h.2 r) in
+    subst (AreLinked c first (links (map resolved_link_of all))) (sym q) (f p told)
+
+pub last-described : (c : Context) (r : Relation) (t : ResolvedTree) (x : Outcome) (d : Described) (i : Option Infinite) (u : Truth) → i ≡ infinite_right c r t → i ≡ None → Describes (HasOutcome c t) d → IsTruthIn (IsDescribed d) r x u → IsLastLink c r t x u
+unfolding IsLastLink Describes IsTruthIn
+last-described c r t x d i u e n f h = (h.0, f h.0 h.1, subst (λ j. IsLink j r x h.0 u) (sym n ∙ e) h.2)
+
+pub last-worked : (c : Context) (r : Relation) (t : ResolvedTree) (x y : Outcome) (i : Option Infinite) (u : Truth) → i ≡ infinite_right c r t → HasOutcome c t y → IsLink i r x y u → IsLastLink c r t x u
+unfolding IsLastLink
+last-worked c r t x y i u e h k = (y, h, subst (λ j. IsLink j r x y u) e k)
 
 -- a whole chain
 pub chain-told : (c : Context) (d : ResolvedTree) (l : ℕ) (t a : Resolved) (ks sl : List ResolvedLink) (x : Outcome) (r : Result Truth AllocError) → d ≡ chain l (resolved_of t) (links (map resolved_link_of ks)) → a ≡ t → sl ≡ ks → HasOutcome c (resolved_of a) x

@@ -15,6 +15,8 @@ pub mod Regular
 pub mod Places
 pub mod Rowed
 pub mod Found
+pub mod Described
+pub mod Linked
 pub mod Scopes
 pub mod Forms
 pub mod Gathered

@@ -3,9 +3,10 @@
 
 pub mod carrier;
 mod connected;
+pub mod described;
 pub mod env;
 mod evaluate;
-mod found;
+pub mod found;
 mod gathered;
 mod global_outcome;
 pub mod laws;

@@ -30,7 +30,7 @@ pub(crate) fn link(
     }
 }
 
-fn atom(relation: Relation, x: &Found<'_>, y: &Found<'_>) -> Truth
+pub(crate) fn atom(relation: Relation, x: &Found<'_>, y: &Found<'_>) -> Truth
     requires x { IsRegularOutcome (found_outcome x.now) }
     requires y { IsRegularOutcome (found_outcome y.now) }
     ensures { IsAtom (found_outcome x.now) (found_outcome y.now) (Holds relation) result }

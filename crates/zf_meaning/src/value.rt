@@ -2,11 +2,14 @@
 ghost use Rattle.std.specs.Prelude.{◌≡◌, [], IfOk};
 ghost use Rattle.zf_term.specs.ResolvedTrees.{resolved_of};
 ghost use Rattle.zf_value.specs.Sets.{AreRegular, IsRegularOutcome};
+ghost use Rattle.zf_meaning.specs.Described.{Describes, IsRegularDescribed};
 ghost use Rattle.zf_meaning.specs.InRow.{in_row};
 ghost use Rattle.zf_meaning.specs.Envs.{environment_of};
 ghost use Rattle.zf_meaning.specs.Meaning.{HasOutcome, IsTruth};
 
+use crate::described::Described;
 use crate::env::Env;
+use crate::evaluate::memberships::described;
 use crate::evaluate::{outcome, truth};
 use crate::row::Row;
 use std::alloc::AllocError;
@@ -26,6 +29,20 @@ pub fn value_of<'a, R: Row>(
     let none = no_variables();
     let found = outcome(term, &*row, none, &*env)?;
     found.into_outcome(env.allocator())
+}
+
+/// What an expression comes to in a row; a set need not be built for it.
+pub fn described_in<'v, 'a, R: Row>(
+    term: &Resolved<'a>,
+    row: &'v R,
+    env: &'v Env<'_, 'a>,
+) -> Result<Described<'v>, AllocError>
+    requires { AreRegular (R.values row.now) }
+    ensures is { IfOk result (Describes (HasOutcome (in_row (environment_of env.now) (R.values row.now)) (resolved_of term.now))) }
+    ensures regular { IfOk result IsRegularDescribed }
+{
+    let none = no_variables();
+    described(term, row, none, env)
 }
 
 /// The truth of a predicate in a row.

@@ -1,18 +1,22 @@
 //! Chains of relations.
-ghost use Rattle.std.specs.Prelude.{◌≡◌, ◌↔◌, IfOk, IsTrue, List, map};
+ghost use Rattle.std.specs.Prelude.{◌≡◌, ◌↔◌, IfOk, IsTrue, List, None, map};
 ghost use Rattle.zf_term.specs.ResolvedTrees as tree;
 ghost use Rattle.zf_term.specs.ResolvedTrees.{resolved_of, resolved_link_of};
 ghost use Rattle.zf_value.specs.declared.value.Value as value;
 ghost use Rattle.zf_value.specs.Sets.{IsRegularOutcome};
+ghost use Rattle.zf_term.specs.Extents.{is_membership};
 ghost use Rattle.zf_meaning.specs.Envs.{environment_of};
 ghost use Rattle.zf_meaning.specs.Found.{found_outcome};
+ghost use Rattle.zf_meaning.specs.Linked.{IsLastLink};
 ghost use Rattle.zf_meaning.specs.Meaning.{IsTruth, AreLinked};
 ghost use Rattle.zf_meaning.specs.Forms.{IsChain};
 ghost use Rattle.zf_meaning.specs.Meaning as spec;
 ghost use Rattle.zf_meaning.specs.Scopes.{scope_of, IsRegularScope};
 
+use super::memberships::described;
 use super::outcome;
 use crate::connected::conjunction;
+use crate::described::membership;
 use crate::env::Env;
 use crate::found::Found;
 use crate::relation;
@@ -59,7 +63,12 @@ fn linked<'v, 'a, R: Row>(
 {
     let mut left = first;
     let mut truth = Truth::True;
-    for link in links {
+    for place in 0..links.len() {
+        let link = &links[place];
+        if place + 1 == links.len() {
+            let told = last_link(&link.right, link.relation, &left, row, locals, env)?;
+            return Ok(conjunction(truth, told));
+        }
         let right = outcome(&link.right, row, locals, env)?;
         let infinite = infinite_right(link.relation, &link.right, env);
         let told = relation::link(infinite, link.relation, &left, &right);
@@ -70,6 +79,40 @@ fn linked<'v, 'a, R: Row>(
         left = right;
     }
     Ok(truth)
+}
+
+/// The truth of the last link of a chain. A set that is only tested for a member there is not built.
+#[cycle(meaning)]
+fn last_link<'v, 'a, R: Row>(
+    right: &Resolved<'a>,
+    relation: Relation,
+    left: &Found<'v>,
+    row: &'v R,
+    locals: &[&'v Value],
+    env: &'v Env<'_, 'a>,
+) -> Result<Truth, AllocError>
+    requires left { IsRegularOutcome (found_outcome left.now) }
+    requires regular { IsRegularScope (scope_of env.now (R.values row.now) locals.now) }
+    ensures { IfOk result (IsLastLink (scope_of env.now (R.values row.now) locals.now) relation (resolved_of right.now) (found_outcome left.now)) }
+{
+    let infinite = infinite_right(relation, right, env);
+    if is_finite_membership(relation, infinite) {
+        let set = described(right, row, locals, env)?;
+        return Ok(membership(relation, left, &set));
+    }
+    let right = outcome(right, row, locals, env)?;
+    Ok(relation::link(infinite, relation, left, &right))
+}
+
+/// Whether a link tests for a member of a set that is no infinite one.
+fn is_finite_membership(relation: Relation, infinite: Option<Infinite>) -> bool
+    ensures { IsTrue result → IsTrue (is_membership relation) × (infinite ≡ None) }
+{
+    match (relation, infinite) {
+        (Relation::Member, None) => true,
+        (Relation::NotMember, None) => true,
+        _ => false,
+    }
 }
 
 /// The infinite set that a link tests for, if the whole right side of a membership is one.

@@ -82,7 +82,7 @@ pub(super) fn listed<'v, 'a, R: Row>(
 
 /// The values of the terms.
 #[cycle(meaning)]
-fn gather<'v, 'a, R: Row>(
+pub(super) fn gather<'v, 'a, R: Row>(
     terms: &[Resolved<'a>],
     row: &'v R,
     locals: &[&'v Value],

@@ -3,7 +3,7 @@ use Rattle.std.proofs.lemmas.Result.{IfOk-weaker}
 use Rattle.zf_term.specs.Types.{type_of}
 use Rattle.zf_meaning.specs.Envs.{environment_of}
 use Rattle.zf_enum.proofs.Lacks.{told}
-use Rattle.zf_enum.proofs.Single.{some_of_carrier, typed_of_carrier, carrier_is_out}
+use Rattle.zf_enum.proofs.Single.{filtered_by_carrier, typed_of_carrier, described_carrier_is_out, one_described}
 use Rattle.zf_enum.proofs.leaves.among_carrier.Goals as goal
 
 pub returns-then-has_numbers-clause-is : goal.returns-then-has_numbers-clause-is
@@ -12,8 +12,12 @@ returns-then-has_numbers-clause-is c =
 
 pub returns-clause-is : goal.returns-clause-is
 returns-clause-is c =
-    IfOk-weaker c.members_among.result _ _ (λ xs listed. some_of_carrier (environment_of c.args.env.now) (type_of c.args.ztype.now) c.in_ok-outcome.outcome c.args.values.now xs.items (sym c.has_numbers.ensures ∙ c.if-has_numbers.false) c.in_ok-outcome.ensures.is listed) c.members_among.ensures.is
+    let e = environment_of c.args.env.now in
+    let t = type_of c.args.ztype.now in
+    IfOk-weaker c.members_among.result _ _ (λ xs h. filtered_by_carrier e t c.of-carrier.result c.args.values.now xs.items (sym c.has_numbers.ensures ∙ c.if-has_numbers.false) ? ? h) c.members_among.ensures.is
 
 pub returns-clause-out : goal.returns-clause-out
 returns-clause-out c =
-    told c.members_among.result _ _ (carrier_is_out (environment_of c.args.env.now) (type_of c.args.ztype.now) c.in_ok-outcome.outcome (sym c.has_numbers.ensures ∙ c.if-has_numbers.false) c.in_ok-outcome.ensures.is) c.members_among.ensures.out
+    let e = environment_of c.args.env.now in
+    let t = type_of c.args.ztype.now in
+    told c.members_among.result _ _ (described_carrier_is_out e t c.of-carrier.result (sym c.has_numbers.ensures ∙ c.if-has_numbers.false) ?) c.members_among.ensures.out

@@ -4,8 +4,9 @@ use Rattle.zf_term.specs.Definitions.{Defined}
 use Rattle.zf_term.specs.Extents.{direct}
 use Rattle.zf_term.specs.Written.{written_of}
 use Rattle.zf_meaning.specs.Envs.{environment_of}
+use Rattle.zf_value.proofs.Regulars.{regular-nothing}
 use Rattle.zf_enum.proofs.Lacks.{told}
-use Rattle.zf_enum.proofs.Single.{some_of_plain, numbers_of_plain, plain_is_out, no_infinite, none_is_none}
+use Rattle.zf_enum.proofs.Single.{filtered_by_plain, numbers_of_plain, described_is_out, no_infinite, none_is_none}
 use Rattle.zf_enum.proofs.leaves.among_plain.Goals as goal
 
 pub returns-in-Some-clause-is : goal.returns-in-Some-clause-is
@@ -13,12 +14,15 @@ returns-in-Some-clause-is c =
     let known = subst (λ (g : List Defined). direct g (written_of c.args.set.now) ≡ Some c.in-Some.infinite) c.globals.ensures (sym c.direct.ensures ∙ c.in-Some.is) in
     numbers_of_plain (environment_of c.args.env.now) (written_of c.args.set.now) c.in-Some.infinite c.args.values.now c.in_ok-kept.field-0.items known c.in_ok-kept.ensures
 
+pub described_in-requires : goal.described_in-requires
+described_in-requires c = regular-nothing
+
 pub returns-clause-is : goal.returns-clause-is
 returns-clause-is c =
     let none = subst (λ (g : List Defined). direct g (written_of c.args.set.now) ≡ None) c.globals.ensures (sym c.direct.ensures ∙ no_infinite c.direct.result c.in_default.not-Some) in
-    IfOk-weaker c.members_among.result _ _ (λ xs listed. some_of_plain (environment_of c.args.env.now) (written_of c.args.set.now) c.in_ok-outcome.outcome c.args.values.now xs.items none c.in_ok-outcome.ensures.is listed) c.members_among.ensures.is
+    IfOk-weaker c.members_among.result _ _ (λ xs h. filtered_by_plain (environment_of c.args.env.now) (written_of c.args.set.now) c.in_ok-described.described c.args.values.now xs.items none ? c.in_ok-described.ensures.regular h) c.members_among.ensures.is
 
 pub returns-clause-out : goal.returns-clause-out
 returns-clause-out c =
     let none = subst (λ (g : List Defined). direct g (written_of c.args.set.now) ≡ None) c.globals.ensures (sym c.direct.ensures ∙ no_infinite c.direct.result c.in_default.not-Some) in
-    told c.members_among.result _ _ (plain_is_out (environment_of c.args.env.now) (written_of c.args.set.now) c.in_ok-outcome.outcome (none_is_none _ none) c.in_ok-outcome.ensures.is) c.members_among.ensures.out
+    told c.members_among.result _ _ (described_is_out (environment_of c.args.env.now) (written_of c.args.set.now) c.in_ok-described.described (none_is_none _ none) ?) c.members_among.ensures.out

@@ -16,31 +16,31 @@ use Rattle.zf_enum.proofs.ranges.+listing.Goals as goal
 pub range-returns-in_err-found-clause-out : goal.range-returns-in_err-found-clause-out
 range-returns-in_err-found-clause-out t c b =
     let e = environment_of c.args.env.now in
-    let at = bounds_at (globals_of c.globals.result.now) e.globals c.args.domains.now c.first_bounding-place.result c.globals.ensures c.first_bounding-place.ensures b in
+    let at = c.in_ok-place.ensures b in
     passed c.in_err-found.field-0.0 c.from_residual.result _ _ c.from_residual.ensures.1
-    (out_at e c.args.domains.now c.first_bounding-place.result c.index-domains-place.result c.index-domains-place.is at.within)
+    (out_at e c.args.domains.now c.in_ok-place.place c.index-domains-place.result c.index-domains-place.is at.within)
     (c.in_err-found.ensures.out (at.bounds c.index-domains-place.result c.index-domains-place.is))
 
 pub range-returns-in_err-found-2-clause-out : goal.range-returns-in_err-found-2-clause-out
 range-returns-in_err-found-2-clause-out t c b =
     passed c.in_err-found-2.field-0.0 c.from_residual-in_err-found-2.result _ _ c.from_residual-in_err-found-2.ensures.1
-    (out_before (environment_of c.args.env.now) c.args.domains.now c.first_bounding-place.result)
+    (out_before (environment_of c.args.env.now) c.args.domains.now c.in_ok-place.place)
     c.in_err-found-2.ensures.out
 
 pub range-returns-in_err-found-3-clause-out : goal.range-returns-in_err-found-3-clause-out
 range-returns-in_err-found-3-clause-out t c b =
     passed c.in_err-found-3.field-0.0 c.from_residual-in_err-found-3.result _ _ c.from_residual-in_err-found-3.ensures.1
-    (λ o. out_behind (environment_of c.args.env.now) c.args.domains.now (suc c.first_bounding-place.result)
-    (subst (λ (ds : List Domain). IsOneOut (environment_of c.args.env.now) (sets_of (map set_of ds))) (rest c.args.domains.now c.first_bounding-place.result) o))
+    (λ o. out_behind (environment_of c.args.env.now) c.args.domains.now (suc c.in_ok-place.place)
+    (subst (λ (ds : List Domain). IsOneOut (environment_of c.args.env.now) (sets_of (map set_of ds))) (rest c.args.domains.now c.in_ok-place.place) o))
     c.in_err-found-3.ensures.out
 
 pub range-returns-clause-is : goal.range-returns-clause-is
 range-returns-clause-is t c b =
     let e = environment_of c.args.env.now in
-    let at = bounds_at (globals_of c.globals.result.now) e.globals c.args.domains.now c.first_bounding-place.result c.globals.ensures c.first_bounding-place.ensures b in
-    all_of_each e c.args.domains.now c.first_bounding-place.result c.index-domains-place.result c.in_ok-found.found.items c.in_ok-found-2.found.items c.in_ok-found-3.found.items c.index-domains-place.is at.within
+    let at = c.in_ok-place.ensures b in
+    all_of_each e c.args.domains.now c.in_ok-place.place c.index-domains-place.result c.in_ok-found.found.items c.in_ok-found-2.found.items c.in_ok-found-3.found.items c.index-domains-place.is at.within
     (c.in_ok-found.ensures.is (at.bounds c.index-domains-place.result c.index-domains-place.is)) c.in_ok-found-2.ensures.is
-    (subst (λ (ds : List Domain). NarrowsAll e (sets_of (map set_of ds)) c.in_ok-found-2.found.items c.in_ok-found-3.found.items) (rest c.args.domains.now c.first_bounding-place.result) c.in_ok-found-3.ensures.is)
+    (subst (λ (ds : List Domain). NarrowsAll e (sets_of (map set_of ds)) c.in_ok-found-2.found.items c.in_ok-found-3.found.items) (rest c.args.domains.now c.in_ok-place.place) c.in_ok-found-3.ensures.is)
 
 pub values-returns-in_ok-merged-in-Either-clause-is : goal.values-returns-in_ok-merged-in-Either-clause-is
 values-returns-in_ok-merged-in-Either-clause-is t c b =

@@ -4,7 +4,7 @@ use Rattle.zf_term.specs.ResolvedTrees.{resolved_of, part_of}
 use Rattle.zf_term.specs.ResolvedTrees as tree
 use Rattle.zf_term.proofs.ResolvedSeen.{of-Unary, of-Binary, of-Listed, of-Chain}
 use Rattle.std.specs.Result.{IfOk}
-use Rattle.std.proofs.Common.{true, false, rules, ◌≤◌}
+use Rattle.std.proofs.Common.{true, false, rules, arith, ◌≤◌}
 use Rattle.zf_value.specs.declared.value.Outcome.TheVariants as outcome
 use Rattle.zf_value.specs.declared.value.Truth.TheVariants.{Out}
 use Rattle.zf_value.specs.Operations.{AreFrom, IsDisplay, IsEmptySet}
@@ -19,7 +19,7 @@ use Rattle.zf_meaning.proofs.Connecting.{decided-told, told-by}
 use Rattle.zf_meaning.proofs.Told.{IsTallied, none-tallied, one-more, settled-truth, told-of-all}
 use Rattle.zf_meaning.proofs.Turns.{moved, stuck, fewer, adds-here, told-here, one-filter, one-term, one-told}
 use Rattle.zf_meaning.proofs.Walking.{walk-begun, walk-next, walk-ended, walk-row, walk-done, walk-new, no-row, none-from, scope-row, bound-row, walk-scope, outside-bound, FilterIn, TermIn, ToldIn}
-use Rattle.zf_value.specs.Sets.{AreRegular}
+use Rattle.zf_value.specs.Sets.{AreRegular, IsRegularOutcome}
 use Rattle.zf_meaning.specs.Found.{found_outcome}
 use Rattle.zf_meaning.specs.Meaning.{HasOutcome, IsTruth, IsConstraint, Builds, IsBuilt, IsBuiltOver, IsLink, row_value}
 use Rattle.zf_meaning.specs.Places.{seen}
@@ -27,7 +27,12 @@ use Rattle.zf_meaning.specs.RangeSets.{spread}
 use Rattle.zf_meaning.specs.Rowed.{row_of}
 use Rattle.zf_meaning.specs.Scopes.{scope_of, IsRegularScope}
 use Rattle.zf_meaning.proofs.Gathering.{gather-begun, gather-more, gather-all, ranges-begun, ranges-more, ranges-all, drop-past}
-use Rattle.zf_meaning.proofs.Linking.{link-more, link-false, link-all, chain-told}
+use Rattle.zf_meaning.specs.declared.described.Described.TheVariants.{Arrows}
+use Rattle.zf_meaning.specs.Described.{Describes}
+use Rattle.zf_meaning.specs.Gathered.{several_of}
+use Rattle.zf_meaning.proofs.Tests.{plain-describes}
+use Rattle.zf_meaning.proofs.Operands.{power-told, both-told, arrows-told, interval-told, product-told}
+use Rattle.zf_meaning.proofs.Linking.{link-more, link-false, link-all, link-last, last-described, last-worked, chain-told}
 use Rattle.zf_value.proofs.Regulars.{regular-push}
 use Rattle.zf_meaning.proofs.Regulars.{regular-nothing, regular-rest, seen-rest}
 use Rattle.zf_meaning.proofs.evaluate.+meaning.Goals as goal
@@ -64,27 +69,110 @@ pub ranges::declared_sets-returns-clause-is : goal.ranges::declared_sets-returns
 ranges::declared_sets-returns-clause-is g t c =
     ranges-all (scope_of c.args.env.now (g.R.Row.values c.args.row.now) c.args.locals.now) c.args.ranges.now _ c.loop-range.declared.lack (spread c.loop-range.declared.sets.items) (drop-past c.loop-range.range-index c.args.ranges.now c.loop-range-test.false) c.loop-range.invariant.gathers
 
-pub chains::linked-loop-link-init : goal.chains::linked-loop-link-init
-chains::linked-loop-link-init g t c = record { linked = λ u h. h; regular = c.requires.first }
+pub chains::linked-loop-place-init : goal.chains::linked-loop-place-init
+chains::linked-loop-place-init g t c = record { linked = λ u h. h; regular = c.requires.first }
 
-pub chains::linked-loop-link-preserved : goal.chains::linked-loop-link-preserved
-chains::linked-loop-link-preserved g t c =
+pub chains::linked-loop-place-preserved : goal.chains::linked-loop-place-preserved
+chains::linked-loop-place-preserved g t c =
     let row = g.R.Row.values c.args.row.now in
-    let told = subst (λ i. IsLink i c.link-item.result.relation (found_outcome c.loop-link.left) (found_outcome c.in_ok-right.right) c.link-told.result) (c.infinite_right-infinite.ensures row (seen c.args.locals.now)) c.link-told.ensures in
+    let k = c.index-links-place.result in
+    let told = subst (λ i. IsLink i k.relation (found_outcome c.loop-place.left) (found_outcome c.in_ok-right.right) c.link-told.result) (c.infinite_right-infinite.ensures row (seen c.args.locals.now)) c.link-told.ensures in
     record {
-      linked = link-more (scope_of c.args.env.now row c.args.locals.now) c.args.links.now c.loop-link.link-index c.link-item.result (found_outcome c.loop-link.left) (found_outcome c.in_ok-right.right) (found_outcome c.args.first) c.loop-link.truth c.link-told.result c.conjunction-truth.result c.loop-link-test.true c.link-item.is c.loop-link.invariant.linked c.in_ok-right.ensures.is told c.conjunction-truth.ensures;
+      linked = link-more (scope_of c.args.env.now row c.args.locals.now) c.args.links.now c.loop-place.place k (found_outcome c.loop-place.left) (found_outcome c.in_ok-right.right) (found_outcome c.args.first) c.loop-place.truth c.link-told.result c.conjunction-truth.result c.loop-place-test.true c.index-links-place.is c.loop-place.invariant.linked c.in_ok-right.ensures.is told c.conjunction-truth.ensures;
       regular = c.in_ok-right.ensures.regular;
     }
 
 pub chains::linked-returns : goal.chains::linked-returns
 chains::linked-returns g t c =
-    link-all (scope_of c.args.env.now (g.R.Row.values c.args.row.now) c.args.locals.now) c.args.links.now c.loop-link.link-index (found_outcome c.loop-link.left) (found_outcome c.args.first) c.loop-link.truth c.loop-link-test.false c.loop-link.invariant.linked
+    link-all (scope_of c.args.env.now (g.R.Row.values c.args.row.now) c.args.locals.now) c.args.links.now c.loop-place.place (found_outcome c.loop-place.left) (found_outcome c.args.first) c.loop-place.truth c.loop-place-test.false c.loop-place.invariant.linked
 
 pub chains::linked-returns-then-is_false : goal.chains::linked-returns-then-is_false
 chains::linked-returns-then-is_false g t c =
     let row = g.R.Row.values c.args.row.now in
-    let told = subst (λ i. IsLink i c.link-item.result.relation (found_outcome c.loop-link.left) (found_outcome c.in_ok-right.right) c.link-told.result) (c.infinite_right-infinite.ensures row (seen c.args.locals.now)) c.link-told.ensures in
-    link-false (scope_of c.args.env.now row c.args.locals.now) c.args.links.now c.loop-link.link-index c.link-item.result (found_outcome c.loop-link.left) (found_outcome c.in_ok-right.right) (found_outcome c.args.first) c.loop-link.truth c.link-told.result c.loop-link-test.true c.link-item.is c.loop-link.invariant.linked c.in_ok-right.ensures.is told (c.is_false.ensures.0 c.if-is_false.true)
+    let k = c.index-links-place.result in
+    let told = subst (λ i. IsLink i k.relation (found_outcome c.loop-place.left) (found_outcome c.in_ok-right.right) c.link-told.result) (c.infinite_right-infinite.ensures row (seen c.args.locals.now)) c.link-told.ensures in
+    link-false (scope_of c.args.env.now row c.args.locals.now) c.args.links.now c.loop-place.place k (found_outcome c.loop-place.left) (found_outcome c.in_ok-right.right) (found_outcome c.args.first) c.loop-place.truth c.link-told.result c.loop-place-test.true c.index-links-place.is c.loop-place.invariant.linked c.in_ok-right.ensures.is told (c.is_false.ensures.0 c.if-is_false.true)
+
+pub chains::linked-returns-then-place-links : goal.chains::linked-returns-then-place-links
+chains::linked-returns-then-place-links g t c =
+    let k = c.index-links-place.result in
+    link-last (scope_of c.args.env.now (g.R.Row.values c.args.row.now) c.args.locals.now) c.args.links.now c.loop-place.place k (found_outcome c.loop-place.left) (found_outcome c.args.first) c.loop-place.truth c.in_ok-told.told c.conjunction.result c.loop-place-test.true c.index-links-place.is (omega arith) c.loop-place.invariant.linked c.in_ok-told.ensures c.conjunction.ensures
+
+pub chains::last_link-returns-then-is_finite_membership : goal.chains::last_link-returns-then-is_finite_membership
+chains::last_link-returns-then-is_finite_membership g t c =
+    let row = g.R.Row.values c.args.row.now in
+    last-described (scope_of c.args.env.now (g.R.Row.values c.args.row.now) c.args.locals.now) c.args.relation (resolved_of c.args.right.now) (found_outcome c.args.left.now) c.in_ok-set.set c.infinite_right-infinite.result c.membership.result (c.infinite_right-infinite.ensures row (seen c.args.locals.now)) (c.is_finite_membership.ensures c.if-is_finite_membership.true).1 c.in_ok-set.ensures.is c.membership.ensures
+
+pub chains::last_link-returns : goal.chains::last_link-returns
+chains::last_link-returns g t c =
+    let row = g.R.Row.values c.args.row.now in
+    last-worked (scope_of c.args.env.now (g.R.Row.values c.args.row.now) c.args.locals.now) c.args.relation (resolved_of c.args.right.now) (found_outcome c.args.left.now) (found_outcome c.in_ok-right.right) c.infinite_right-infinite.result c.link.result (c.infinite_right-infinite.ensures row (seen c.args.locals.now)) c.in_ok-right.ensures.is c.link.ensures
+
+pub memberships::described-returns-in-Listed-clause-is : goal.memberships::described-returns-in-Listed-clause-is
+memberships::described-returns-in-Listed-clause-is g t c =
+    let i = c.in-Listed in
+    subst (λ d. IfOk c.many.result (Describes (HasOutcome (scope_of c.args.env.now (g.R.Row.values c.args.row.now) c.args.locals.now) d)))
+    (ap (λ xs. tree.listed i.field-0 i.form (tree.terms (map resolved_of xs))) c.as_slice.ensures ∙ sym (ap resolved_of i.is ∙ of-Listed i.field-0 i.form i.terms))
+    (c.many.ensures.is i.field-0)
+
+pub memberships::described-returns-in-Unary-clause-is : goal.memberships::described-returns-in-Unary-clause-is
+memberships::described-returns-in-Unary-clause-is g t c =
+    let i = c.in-Unary in
+    subst (λ d. IfOk c.of_one.result (Describes (HasOutcome (scope_of c.args.env.now (g.R.Row.values c.args.row.now) c.args.locals.now) d)))
+    (ap (λ x. tree.unary i.field-0 i.op (resolved_of x)) c.get-in-Unary.ensures ∙ sym (ap resolved_of i.is ∙ of-Unary i.field-0 i.op i.of))
+    (c.of_one.ensures.is i.field-0)
+
+pub memberships::described-returns-in-Binary-clause-is : goal.memberships::described-returns-in-Binary-clause-is
+memberships::described-returns-in-Binary-clause-is g t c =
+    let i = c.in-Binary in
+    subst (λ d. IfOk c.of_both.result (Describes (HasOutcome (scope_of c.args.env.now (g.R.Row.values c.args.row.now) c.args.locals.now) d)))
+    (ap (λ x. tree.binary i.field-0 i.op (resolved_of x) (resolved_of c.get-in-Binary-2.result.now)) c.get-in-Binary.ensures ∙ ap (λ x. tree.binary i.field-0 i.op (resolved_of i.left) (resolved_of x)) c.get-in-Binary-2.ensures ∙ sym (ap resolved_of i.is ∙ of-Binary i.field-0 i.op i.left i.right))
+    (c.of_both.ensures.is i.field-0)
+
+pub memberships::described-returns-in_ok-outcome-in_default : goal.memberships::described-returns-in_ok-outcome-in_default
+memberships::described-returns-in_ok-outcome-in_default g t c =
+    let o = c.in_ok-outcome-in_default in
+    record { is = plain-describes (HasOutcome (scope_of c.args.env.now (g.R.Row.values c.args.row.now) c.args.locals.now) (resolved_of c.args.term.now)) o.field-0 o.ensures.is; regular = o.ensures.regular }
+
+pub memberships::many-returns-in-Product-clause-is : goal.memberships::many-returns-in-Product-clause-is
+memberships::many-returns-in-Product-clause-is g t c =
+    λ line. product-told (scope_of c.args.env.now (g.R.Row.values c.args.row.now) c.args.locals.now) line c.args.form (tree.terms (map resolved_of c.args.terms.now)) (several_of c.in_ok-gathered.gathered) c.product_of.result c.in-Product.is c.in_ok-gathered.ensures.is c.product_of.ensures.is
+
+pub memberships::many-returns-in_ok-on_several-in_default : goal.memberships::many-returns-in_ok-on_several-in_default
+memberships::many-returns-in_ok-on_several-in_default g t c =
+    let o = c.in_ok-on_several-in_default in
+    record {
+      is = λ line. plain-describes (HasOutcome (scope_of c.args.env.now (g.R.Row.values c.args.row.now) c.args.locals.now) (tree.listed line c.args.form (tree.terms (map resolved_of c.args.terms.now)))) c.own.result
+          (subst (HasOutcome (scope_of c.args.env.now (g.R.Row.values c.args.row.now) c.args.locals.now) (tree.listed line c.args.form (tree.terms (map resolved_of c.args.terms.now)))) (sym c.own.ensures) (several_of c.in_ok-gathered.gathered, c.in_ok-gathered.ensures.is, o.ensures.is));
+      regular = subst IsRegularOutcome (sym c.own.ensures) o.ensures.regular;
+    }
+
+pub memberships::of_both-returns-in-Generic-clause-is : goal.memberships::of_both-returns-in-Generic-clause-is
+memberships::of_both-returns-in-Generic-clause-is g t c =
+    λ line. both-told (scope_of c.args.env.now (g.R.Row.values c.args.row.now) c.args.locals.now) line c.args.op (resolved_of c.args.left.now) (resolved_of c.args.right.now) (found_outcome c.in_ok-x.x) (found_outcome c.in_ok-y.y) c.in-Some.v.now c.in-Some.w.now (Arrows c.in-Generic.kind c.in_ok-copy.field-0 c.in_ok-copy-2.field-0) c.in_ok-x.ensures.is c.in_ok-y.ensures.is (search rules) (search rules)
+        (arrows-told c.args.op c.in-Generic.kind c.in-Some.v.now c.in-Some.w.now c.in_ok-copy.field-0 c.in_ok-copy-2.field-0 c.in-Generic.is c.in_ok-copy.ensures c.in_ok-copy-2.ensures)
+
+pub memberships::of_both-returns-then-is_interval : goal.memberships::of_both-returns-then-is_interval
+memberships::of_both-returns-then-is_interval g t c =
+    record {
+      is = λ line. both-told (scope_of c.args.env.now (g.R.Row.values c.args.row.now) c.args.locals.now) line c.args.op (resolved_of c.args.left.now) (resolved_of c.args.right.now) (found_outcome c.in_ok-x.x) (found_outcome c.in_ok-y.y) c.in-Some.v.now c.in-Some.w.now c.interval_between.result c.in_ok-x.ensures.is c.in_ok-y.ensures.is (search rules) (search rules)
+          (interval-told c.args.op c.in-Some.v.now c.in-Some.w.now c.interval_between.result (c.is_interval.ensures c.if-is_interval.true) c.interval_between.ensures.is);
+      regular = c.interval_between.ensures.regular;
+    }
+
+pub memberships::of_both-returns-clause-is : goal.memberships::of_both-returns-clause-is
+memberships::of_both-returns-clause-is g t c =
+    λ line. plain-describes (HasOutcome (scope_of c.args.env.now (g.R.Row.values c.args.row.now) c.args.locals.now) (tree.binary line c.args.op (resolved_of c.args.left.now) (resolved_of c.args.right.now))) c.own.result
+        (subst (HasOutcome (scope_of c.args.env.now (g.R.Row.values c.args.row.now) c.args.locals.now) (tree.binary line c.args.op (resolved_of c.args.left.now) (resolved_of c.args.right.now))) (sym c.own.ensures) (found_outcome c.in_ok-x.x, found_outcome c.in_ok-y.y, c.in_ok-x.ensures.is, c.in_ok-y.ensures.is, c.in_ok-on_both.ensures.is))
+
+pub memberships::of_one-returns-then-is_power-clause-is : goal.memberships::of_one-returns-then-is_power-clause-is
+memberships::of_one-returns-then-is_power-clause-is g t c =
+    λ line. power-told (scope_of c.args.env.now (g.R.Row.values c.args.row.now) c.args.locals.now) line c.args.op (resolved_of c.args.of.now) (found_outcome c.in_ok-operand.operand) c.power_of.result (c.is_power.ensures c.if-is_power.true) c.in_ok-operand.ensures.is c.power_of.ensures.is
+
+pub memberships::of_one-returns-clause-is : goal.memberships::of_one-returns-clause-is
+memberships::of_one-returns-clause-is g t c =
+    λ line. plain-describes (HasOutcome (scope_of c.args.env.now (g.R.Row.values c.args.row.now) c.args.locals.now) (tree.unary line c.args.op (resolved_of c.args.of.now))) c.own.result
+        (subst (HasOutcome (scope_of c.args.env.now (g.R.Row.values c.args.row.now) c.args.locals.now) (tree.unary line c.args.op (resolved_of c.args.of.now))) (sym c.own.ensures) (found_outcome c.in_ok-operand.operand, c.in_ok-operand.ensures.is, c.in_ok-on_one.ensures.is))
 
 pub binders::over_rows-loop-rows-init : goal.binders::over_rows-loop-rows-init
 binders::over_rows-loop-rows-init g t c = (

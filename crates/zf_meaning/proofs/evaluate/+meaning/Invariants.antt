@@ -36,9 +36,9 @@ invariant-binders::over_rows-loop-rows g l =
 abbrev pub decreases-binders::over_rows-loop-rows : goal.decreases-binders::over_rows-loop-rows
 decreases-binders::over_rows-loop-rows g l = length (ahead l.rows)
 
-abbrev pub invariant-chains::linked-loop-link : goal.invariant-chains::linked-loop-link
-invariant-chains::linked-loop-link g l = record {
-  linked : (u : Truth) → AreLinked (scope_of l.env (g.R.Row.values l.row) l.locals) (found_outcome l.left) (links (map resolved_link_of (drop l.link-index l.links))) u
+abbrev pub invariant-chains::linked-loop-place : goal.invariant-chains::linked-loop-place
+invariant-chains::linked-loop-place g l = record {
+  linked : (u : Truth) → AreLinked (scope_of l.env (g.R.Row.values l.row) l.locals) (found_outcome l.left) (links (map resolved_link_of (drop l.place l.links))) u
       → AreLinked (scope_of l.env (g.R.Row.values l.row) l.locals) (found_outcome l.initial.left) (links (map resolved_link_of l.links)) (conjunction l.truth u);
   regular : IsRegularOutcome (found_outcome l.left);
 }

@@ -1,0 +1,72 @@
+//! How many values a declared set may have, as far as it can be told without listing them. It decides what is listed first, and nothing that is found.
+use bumpalo::Bump;
+use std::alloc::AllocError;
+use zf_meaning::described::Described;
+use zf_meaning::env::Env;
+use zf_meaning::found::Found;
+use zf_meaning::value::described_in;
+use zf_term::globals::Domain;
+use zf_term::resolved::Resolved;
+use zf_term::written::Written;
+use zf_value::lent::Lent;
+use zf_value::value::Value;
+
+/// The weight of a declared set; the greatest where it is not known.
+pub(crate) fn weight<'a>(
+    arena: &'a Bump,
+    domain: &Domain<'a>,
+    env: &Env<'_, 'a>,
+) -> Result<usize, AllocError> {
+    match domain {
+        Domain::Plain(set) => plain_weight(arena, set.get(), env),
+        Domain::Carrier(_) => Ok(usize::MAX),
+        Domain::Either(_, _) => Ok(usize::MAX),
+    }
+}
+
+fn plain_weight<'a>(
+    arena: &'a Bump,
+    set: &Written<'a>,
+    env: &Env<'_, 'a>,
+) -> Result<usize, AllocError> {
+    let term: Resolved<'a> = set.resolved(arena)?;
+    let none: &[Value] = &[];
+    let described = described_in(&term, &none, env)?;
+    Ok(weight_of(&described))
+}
+
+fn weight_of(set: &Described<'_>) -> usize {
+    match set {
+        Described::Plain(found) => found_weight(found),
+        Described::Power(of) => 2usize.saturating_pow(exponent(of)),
+        Described::Arrows(_, from, to) => {
+            to.members().len().saturating_add(1).saturating_pow(exponent(from))
+        }
+        Described::Interval(from, to) => usize::try_from(to.saturating_sub(*from)).unwrap_or(0),
+        Described::Product(sets) => product_weight(sets.as_slice()),
+    }
+}
+
+fn found_weight(found: &Found<'_>) -> usize {
+    match found {
+        Found::Is(set) => set.get().members().len(),
+        Found::Undefined => 0,
+        Found::Out => usize::MAX,
+    }
+}
+
+/// How many members the set has, counted no further than 64.
+fn exponent(set: &Value) -> u32 {
+    match u32::try_from(set.members().len()) {
+        Ok(count) => count.min(64),
+        Err(_) => 64,
+    }
+}
+
+fn product_weight(sets: &[Lent<'_>]) -> usize {
+    let mut weight: usize = 1;
+    for set in sets {
+        weight = weight.saturating_mul(set.get().members().len());
+    }
+    weight
+}

@@ -1,0 +1,9 @@
+use Rattle.std.proofs.Common.{sym, subst}
+use Rattle.zf_meaning.specs.Described.{IsDescribed, IsTruthIn}
+use Rattle.zf_meaning.specs.Found.{found_outcome}
+use Rattle.zf_meaning.proofs.Tests.{in-plain}
+use Rattle.zf_meaning.proofs.described.membership.Goals as goal
+
+pub returns-in-Plain : goal.returns-in-Plain
+returns-in-Plain c =
+    subst (λ d. IsTruthIn (IsDescribed d) c.args.relation (found_outcome c.args.x.now) c.atom.result) (sym c.in-Plain.is) (in-plain c.in-Plain.found c.args.relation (found_outcome c.args.x.now) c.atom.result c.atom.ensures)

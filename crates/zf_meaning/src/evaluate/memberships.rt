@@ -1,0 +1,157 @@
+//! Sets on the right of a membership, which need not be built.
+ghost use Rattle.std.specs.Prelude.{◌≡◌, ◌⊎◌, ◌<◌, ℕ, IfOk, IfSome, IsTrue, map};
+ghost use Rattle.zf_scan.specs.declared.token.Infix.TheVariants as infixes;
+ghost use Rattle.zf_scan.specs.declared.token.Prefix.TheVariants as prefixes;
+ghost use Rattle.zf_text.specs.declared.tree.Sign.TheVariants as sign;
+ghost use Rattle.zf_term.specs.declared.operator.Operator.TheVariants as operator;
+ghost use Rattle.zf_term.specs.declared.operator.Unary.TheVariants as unaries;
+ghost use Rattle.zf_value.specs.declared.value.Outcome.TheVariants.{Is};
+ghost use Rattle.zf_meaning.specs.Found.{found_outcome};
+ghost use Rattle.zf_term.specs.ResolvedTrees as tree;
+ghost use Rattle.zf_term.specs.ResolvedTrees.{resolved_of};
+ghost use Rattle.zf_term.specs.declared.resolved.Resolved.{size-Resolved};
+ghost use Rattle.zf_meaning.specs.Described.{Describes, IsRegularDescribed};
+ghost use Rattle.zf_meaning.specs.Meaning.{HasOutcome};
+ghost use Rattle.zf_meaning.specs.Scopes.{scope_of, IsRegularScope};
+
+use super::operands::gather;
+use super::outcome;
+use crate::described::{Described, interval_between, power_of, product_of};
+use crate::env::Env;
+use crate::found::Found;
+use crate::row::Row;
+use crate::symbols::{on_both, on_one, on_several};
+use std::alloc::AllocError;
+use zf_scan::token::{Infix, Prefix};
+use zf_term::operator::{Listed, Operator, Unary};
+use zf_term::resolved::Resolved;
+use zf_text::tree::Sign;
+use zf_value::value::Value;
+
+/// What an expression comes to. A set of a family is told by the values that it is made of.
+#[cycle(meaning)]
+#[tactic(auto, using(zf_term::proofs::ResolvedSeen::seen))]
+pub(crate) fn described<'v, 'a, R: Row>(
+    term: &Resolved<'a>,
+    row: &'v R,
+    locals: &[&'v Value],
+    env: &'v Env<'_, 'a>,
+) -> Result<Described<'v>, AllocError>
+    requires { IsRegularScope (scope_of env.now (R.values row.now) locals.now) }
+    ensures is { IfOk result (Describes (HasOutcome (scope_of env.now (R.values row.now) locals.now) (resolved_of term.now))) }
+    ensures regular { IfOk result IsRegularDescribed }
+{
+    match term {
+        Resolved::Bracket(_, inner) => described(inner.get(), row, locals, env),
+        Resolved::Listed(_, form, terms) => many(terms.as_slice(), *form, row, locals, env),
+        Resolved::Unary(_, op, of) => of_one(of.get(), *op, row, locals, env),
+        Resolved::Binary(_, op, left, right) => {
+            of_both(term, *op, left.get(), right.get(), row, locals, env)
+        }
+        _ => Ok(Described::Plain(outcome(term, row, locals, env)?)),
+    }
+}
+
+/// A symbol before or behind a term.
+#[cycle(meaning)]
+#[inline(never)]
+fn of_one<'v, 'a, R: Row>(
+    of: &Resolved<'a>,
+    op: Unary,
+    row: &'v R,
+    locals: &[&'v Value],
+    env: &'v Env<'_, 'a>,
+) -> Result<Described<'v>, AllocError>
+    requires { IsRegularScope (scope_of env.now (R.values row.now) locals.now) }
+    ensures is { (line : ℕ) → IfOk result (Describes (HasOutcome (scope_of env.now (R.values row.now) locals.now) (tree.unary line op (resolved_of of.now)))) }
+    ensures regular { IfOk result IsRegularDescribed }
+{
+    let operand = outcome(of, row, locals, env)?;
+    let alloc = env.allocator();
+    if is_power(op) {
+        return power_of(alloc, operand);
+    }
+    Ok(Described::Plain(Found::own(on_one(alloc, op, &operand)?)))
+}
+
+/// A symbol between two terms.
+#[cycle(meaning)]
+#[inline(never)]
+fn of_both<'v, 'a, R: Row>(
+    whole: &Resolved<'a>,
+    op: Operator,
+    left: &Resolved<'a>,
+    right: &Resolved<'a>,
+    row: &'v R,
+    locals: &[&'v Value],
+    env: &'v Env<'_, 'a>,
+) -> Result<Described<'v>, AllocError>
+    requires left { size-Resolved left.now < size-Resolved whole.now }
+    requires right { size-Resolved right.now < size-Resolved whole.now }
+    requires regular { IsRegularScope (scope_of env.now (R.values row.now) locals.now) }
+    ensures is { (line : ℕ) → IfOk result (Describes (HasOutcome (scope_of env.now (R.values row.now) locals.now) (tree.binary line op (resolved_of left.now) (resolved_of right.now)))) }
+    ensures regular { IfOk result IsRegularDescribed }
+{
+    let x = outcome(left, row, locals, env)?;
+    let y = outcome(right, row, locals, env)?;
+    let alloc = env.allocator();
+    if let Some((v, w)) = values(&x, &y) {
+        if let Operator::Generic(kind) = op {
+            return Ok(Described::Arrows(kind, v.copy(alloc)?, w.copy(alloc)?));
+        }
+        if is_interval(op) {
+            return Ok(interval_between(v, w));
+        }
+    }
+    Ok(Described::Plain(Found::own(on_both(alloc, op, &x, &y)?)))
+}
+
+/// Both values, if both outcomes are values.
+fn values<'f>(x: &'f Found<'_>, y: &'f Found<'_>) -> Option<(&'f Value, &'f Value)>
+    ensures { IfSome result (λ both. (found_outcome x.now ≡ Is both.0.now) × (found_outcome y.now ≡ Is both.1.now)) }
+{
+    match (x, y) {
+        (Found::Is(v), Found::Is(w)) => Some((v.get(), w.get())),
+        _ => None,
+    }
+}
+
+fn is_power(op: Unary) -> bool
+    ensures { IsTrue result → (op ≡ unaries.Sign (sign.Symbol prefixes.Power)) ⊎ (op ≡ unaries.Sign (sign.Symbol prefixes.Finset)) }
+{
+    match op {
+        Unary::Sign(Sign::Symbol(Prefix::Power)) => true,
+        Unary::Sign(Sign::Symbol(Prefix::Finset)) => true,
+        _ => false,
+    }
+}
+
+fn is_interval(op: Operator) -> bool
+    ensures { IsTrue result → op ≡ operator.Function infixes.UpTo }
+{
+    match op {
+        Operator::Function(Infix::UpTo) => true,
+        _ => false,
+    }
+}
+
+/// What several terms make.
+#[cycle(meaning)]
+#[inline(never)]
+fn many<'v, 'a, R: Row>(
+    terms: &[Resolved<'a>],
+    form: Listed,
+    row: &'v R,
+    locals: &[&'v Value],
+    env: &'v Env<'_, 'a>,
+) -> Result<Described<'v>, AllocError>
+    requires { IsRegularScope (scope_of env.now (R.values row.now) locals.now) }
+    ensures is { (line : ℕ) → IfOk result (Describes (HasOutcome (scope_of env.now (R.values row.now) locals.now) (tree.listed line form (tree.terms (map resolved_of terms.now))))) }
+    ensures regular { IfOk result IsRegularDescribed }
+{
+    let gathered = gather(terms, row, locals, env)?;
+    match form {
+        Listed::Product => product_of(env.allocator(), gathered),
+        _ => Ok(Described::Plain(Found::own(on_several(env.allocator(), form, gathered)?))),
+    }
+}
