@@ -40,7 +40,10 @@ fn weight_of(set: &Described<'_>) -> usize {
         Described::Plain(found) => found_weight(found),
         Described::Power(of) => 2usize.saturating_pow(exponent(of)),
         Described::Arrows(_, from, to) => {
-            to.members().len().saturating_add(1).saturating_pow(exponent(from))
+            to.members()
+                .len()
+                .saturating_add(1)
+                .saturating_pow(exponent(from))
         }
         Described::Interval(from, to) => usize::try_from(to.saturating_sub(*from)).unwrap_or(0),
         Described::Product(sets) => product_weight(sets.as_slice()),

@@ -74,10 +74,7 @@ pub(crate) fn interval_between<'v>(v: &Value, w: &Value) -> Described<'v>
 }
 
 /// The product of the values, which are sets.
-pub(crate) fn product_of<'v>(
-    alloc: Global,
-    gathered: Gathered,
-) -> Result<Described<'v>, AllocError>
+pub(crate) fn product_of<'v>(alloc: Global, gathered: Gathered) -> Result<Described<'v>, AllocError>
     requires { AreRegular gathered.values.items }
     ensures is { IfOk result (Describes (OnSeveral (several_of gathered) IsCross)) }
     ensures regular { IfOk result IsRegularDescribed }

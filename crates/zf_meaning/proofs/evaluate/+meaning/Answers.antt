@@ -150,7 +150,7 @@ memberships::many-returns-in_ok-on_several-in_default g t c =
 pub memberships::of_both-returns-in-Generic-clause-is : goal.memberships::of_both-returns-in-Generic-clause-is
 memberships::of_both-returns-in-Generic-clause-is g t c =
     λ line. both-told (scope_of c.args.env.now (g.R.Row.values c.args.row.now) c.args.locals.now) line c.args.op (resolved_of c.args.left.now) (resolved_of c.args.right.now) (found_outcome c.in_ok-x.x) (found_outcome c.in_ok-y.y) c.in-Some.v.now c.in-Some.w.now (Arrows c.in-Generic.kind c.in_ok-copy.field-0 c.in_ok-copy-2.field-0) c.in_ok-x.ensures.is c.in_ok-y.ensures.is (search rules) (search rules)
-        (arrows-told c.args.op c.in-Generic.kind c.in-Some.v.now c.in-Some.w.now c.in_ok-copy.field-0 c.in_ok-copy-2.field-0 c.in-Generic.is c.in_ok-copy.ensures c.in_ok-copy-2.ensures)
+    (arrows-told c.args.op c.in-Generic.kind c.in-Some.v.now c.in-Some.w.now c.in_ok-copy.field-0 c.in_ok-copy-2.field-0 c.in-Generic.is c.in_ok-copy.ensures c.in_ok-copy-2.ensures)
 
 pub memberships::of_both-returns-then-is_interval : goal.memberships::of_both-returns-then-is_interval
 memberships::of_both-returns-then-is_interval g t c =
@@ -163,7 +163,7 @@ memberships::of_both-returns-then-is_interval g t c =
 pub memberships::of_both-returns-clause-is : goal.memberships::of_both-returns-clause-is
 memberships::of_both-returns-clause-is g t c =
     λ line. plain-describes (HasOutcome (scope_of c.args.env.now (g.R.Row.values c.args.row.now) c.args.locals.now) (tree.binary line c.args.op (resolved_of c.args.left.now) (resolved_of c.args.right.now))) c.own.result
-        (subst (HasOutcome (scope_of c.args.env.now (g.R.Row.values c.args.row.now) c.args.locals.now) (tree.binary line c.args.op (resolved_of c.args.left.now) (resolved_of c.args.right.now))) (sym c.own.ensures) (found_outcome c.in_ok-x.x, found_outcome c.in_ok-y.y, c.in_ok-x.ensures.is, c.in_ok-y.ensures.is, c.in_ok-on_both.ensures.is))
+    (subst (HasOutcome (scope_of c.args.env.now (g.R.Row.values c.args.row.now) c.args.locals.now) (tree.binary line c.args.op (resolved_of c.args.left.now) (resolved_of c.args.right.now))) (sym c.own.ensures) (found_outcome c.in_ok-x.x, found_outcome c.in_ok-y.y, c.in_ok-x.ensures.is, c.in_ok-y.ensures.is, c.in_ok-on_both.ensures.is))
 
 pub memberships::of_one-returns-then-is_power-clause-is : goal.memberships::of_one-returns-then-is_power-clause-is
 memberships::of_one-returns-then-is_power-clause-is g t c =
@@ -172,7 +172,7 @@ memberships::of_one-returns-then-is_power-clause-is g t c =
 pub memberships::of_one-returns-clause-is : goal.memberships::of_one-returns-clause-is
 memberships::of_one-returns-clause-is g t c =
     λ line. plain-describes (HasOutcome (scope_of c.args.env.now (g.R.Row.values c.args.row.now) c.args.locals.now) (tree.unary line c.args.op (resolved_of c.args.of.now))) c.own.result
-        (subst (HasOutcome (scope_of c.args.env.now (g.R.Row.values c.args.row.now) c.args.locals.now) (tree.unary line c.args.op (resolved_of c.args.of.now))) (sym c.own.ensures) (found_outcome c.in_ok-operand.operand, c.in_ok-operand.ensures.is, c.in_ok-on_one.ensures.is))
+    (subst (HasOutcome (scope_of c.args.env.now (g.R.Row.values c.args.row.now) c.args.locals.now) (tree.unary line c.args.op (resolved_of c.args.of.now))) (sym c.own.ensures) (found_outcome c.in_ok-operand.operand, c.in_ok-operand.ensures.is, c.in_ok-on_one.ensures.is))
 
 pub binders::over_rows-loop-rows-init : goal.binders::over_rows-loop-rows-init
 binders::over_rows-loop-rows-init g t c = (
