@@ -1,6 +1,7 @@
 use Rattle.std.proofs.Common.{sym, ◌∙◌}
 use Rattle.std.proofs.lemmas.Result.{IfOk-weaker}
 use Rattle.zf_term.specs.Types.{type_of}
+use Rattle.zf_meaning.specs.Carriers.{IsCarrier}
 use Rattle.zf_meaning.specs.Envs.{environment_of}
 use Rattle.zf_enum.proofs.Lacks.{told}
 use Rattle.zf_enum.proofs.Single.{filtered_by_carrier, typed_of_carrier, described_carrier_is_out, one_described}
@@ -14,10 +15,14 @@ pub returns-clause-is : goal.returns-clause-is
 returns-clause-is c =
     let e = environment_of c.args.env.now in
     let t = type_of c.args.ztype.now in
-    IfOk-weaker c.members_among.result _ _ (λ xs h. filtered_by_carrier e t c.of-carrier.result c.args.values.now xs.items (sym c.has_numbers.ensures ∙ c.if-has_numbers.false) ? ? h) c.members_among.ensures.is
+    let o = c.in_ok-carrier_of in
+    IfOk-weaker c.members_among.result _ _
+    (λ xs h. filtered_by_carrier e t c.of-carrier.result c.args.values.now xs.items (sym c.has_numbers.ensures ∙ c.if-has_numbers.false) (one_described (IsCarrier e t) o.field-0 c.of-carrier.result o.ensures.is c.of-carrier.ensures.is) (c.of-carrier.ensures.regular o.ensures.regular) h)
+    c.members_among.ensures.is
 
 pub returns-clause-out : goal.returns-clause-out
 returns-clause-out c =
     let e = environment_of c.args.env.now in
     let t = type_of c.args.ztype.now in
-    told c.members_among.result _ _ (described_carrier_is_out e t c.of-carrier.result (sym c.has_numbers.ensures ∙ c.if-has_numbers.false) ?) c.members_among.ensures.out
+    let o = c.in_ok-carrier_of in
+    told c.members_among.result _ _ (described_carrier_is_out e t c.of-carrier.result (sym c.has_numbers.ensures ∙ c.if-has_numbers.false) (one_described (IsCarrier e t) o.field-0 c.of-carrier.result o.ensures.is c.of-carrier.ensures.is)) c.members_among.ensures.out

@@ -1,9 +1,12 @@
-use Rattle.std.proofs.Common.{◌≡◌, List, Some, None, sym, ◌∙◌, subst}
+use Rattle.std.proofs.Common.{◌≡◌, List, Some, None, rules, sym, ◌∙◌, subst}
 use Rattle.std.proofs.lemmas.Result.{IfOk-weaker}
 use Rattle.zf_term.specs.Definitions.{Defined}
 use Rattle.zf_term.specs.Extents.{direct}
 use Rattle.zf_term.specs.Written.{written_of}
+use Rattle.zf_meaning.specs.Described.{Describes}
+use Rattle.zf_meaning.specs.Environments.{globally}
 use Rattle.zf_meaning.specs.Envs.{environment_of}
+use Rattle.zf_meaning.specs.Meaning.{HasOutcome}
 use Rattle.zf_value.proofs.Regulars.{regular-nothing}
 use Rattle.zf_enum.proofs.Lacks.{told}
 use Rattle.zf_enum.proofs.Single.{filtered_by_plain, numbers_of_plain, described_is_out, no_infinite, none_is_none}
@@ -20,9 +23,11 @@ described_in-requires c = regular-nothing
 pub returns-clause-is : goal.returns-clause-is
 returns-clause-is c =
     let none = subst (λ (g : List Defined). direct g (written_of c.args.set.now) ≡ None) c.globals.ensures (sym c.direct.ensures ∙ no_infinite c.direct.result c.in_default.not-Some) in
-    IfOk-weaker c.members_among.result _ _ (λ xs h. filtered_by_plain (environment_of c.args.env.now) (written_of c.args.set.now) c.in_ok-described.described c.args.values.now xs.items none ? c.in_ok-described.ensures.regular h) c.members_among.ensures.is
+    let is : Describes (HasOutcome (globally (environment_of c.args.env.now)) (written_of c.args.set.now)) c.in_ok-described.described = search rules in
+    IfOk-weaker c.members_among.result _ _ (λ xs h. filtered_by_plain (environment_of c.args.env.now) (written_of c.args.set.now) c.in_ok-described.described c.args.values.now xs.items none is c.in_ok-described.ensures.regular h) c.members_among.ensures.is
 
 pub returns-clause-out : goal.returns-clause-out
 returns-clause-out c =
     let none = subst (λ (g : List Defined). direct g (written_of c.args.set.now) ≡ None) c.globals.ensures (sym c.direct.ensures ∙ no_infinite c.direct.result c.in_default.not-Some) in
-    told c.members_among.result _ _ (described_is_out (environment_of c.args.env.now) (written_of c.args.set.now) c.in_ok-described.described (none_is_none _ none) ?) c.members_among.ensures.out
+    let is : Describes (HasOutcome (globally (environment_of c.args.env.now)) (written_of c.args.set.now)) c.in_ok-described.described = search rules in
+    told c.members_among.result _ _ (described_is_out (environment_of c.args.env.now) (written_of c.args.set.now) c.in_ok-described.described (none_is_none _ none) is) c.members_among.ensures.out

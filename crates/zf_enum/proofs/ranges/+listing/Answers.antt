@@ -1,7 +1,7 @@
 -- The values that lie in each of several declared sets.
 use Rattle.std.proofs.Common.{◌≡◌, true, suc, List, map, sym, ap, ◌∙◌, subst, rules}
 use Rattle.zf_term.specs.declared.globals.Domain.{Domain}
-use Rattle.zf_term.specs.Definitions.{DeclaredSet, globals_of, set_of, sets_of}
+use Rattle.zf_term.specs.Definitions.{DeclaredSet, set_of, sets_of}
 use Rattle.zf_term.proofs.SetsSeen.{of-Either}
 use Rattle.zf_finite.specs.Finite as spec
 use Rattle.zf_value.specs.Sets.{IsRegularSet}
@@ -10,14 +10,14 @@ use Rattle.zf_meaning.specs.Envs.{environment_of}
 use Rattle.zf_enum.specs.DeclaredSets.{IsOneOut}
 use Rattle.zf_enum.specs.Parts.{NarrowsAll, IsAllOf, IsAllOfEach}
 use Rattle.zf_enum.proofs.Lacks.{passed}
-use Rattle.zf_enum.proofs.Sides.{rest, sides_bound, bounds_at, out_at, out_before, out_behind, all_of_each, all_of_sides}
+use Rattle.zf_enum.proofs.Sides.{rest, sides_bound, out_at, out_before, out_behind, all_of_each, all_of_sides}
 use Rattle.zf_enum.proofs.ranges.+listing.Goals as goal
 
 pub range-returns-in_err-found-clause-out : goal.range-returns-in_err-found-clause-out
 range-returns-in_err-found-clause-out t c b =
     let e = environment_of c.args.env.now in
     let at = c.in_ok-place.ensures b in
-    passed c.in_err-found.field-0.0 c.from_residual.result _ _ c.from_residual.ensures.1
+    passed c.in_err-found.field-0.0 c.from_residual-in_err-found.result _ _ c.from_residual-in_err-found.ensures.1
     (out_at e c.args.domains.now c.in_ok-place.place c.index-domains-place.result c.index-domains-place.is at.within)
     (c.in_err-found.ensures.out (at.bounds c.index-domains-place.result c.index-domains-place.is))
 
