@@ -1,6 +1,6 @@
 //! What terms and types come to, by calls in a row without values.
 use bumpalo::Bump;
-use std::alloc::Global;
+use std::alloc::{AllocError, Global};
 use std::test::Fail;
 use zf_data::Text;
 use zf_meaning::carrier::carrier_of;
@@ -9,6 +9,7 @@ use zf_meaning::sizes::Size;
 use zf_meaning::value::{truth_of, value_of};
 use zf_schema::checker::check_spec;
 use zf_term::globals::{Entry, Globals};
+use zf_term::resolved::Resolved;
 use zf_text::reading::read_spec;
 use zf_value::value::{Outcome, Truth, Value};
 
@@ -39,12 +40,11 @@ fn values_and_truths(rt: HostRuntime) -> Result<(), Fail> {
     let arena = Bump::new(rt.alloc());
     let globals = globals_in(rt.alloc(), &arena)?;
     let env = env_in(rt.alloc(), &globals, 1)?;
-    let none: &[Value] = &[];
     for (name, wanted) in VALUES {
         let Some(Entry::Abbrev(_, term, _)) = globals.entry(name) else {
             return Err(Fail::new(name));
         };
-        let outcome = value_of(term, &none, &env)?;
+        let outcome = outcome_of(term, &env)?;
         assert!(rt; is_outcome(rt.alloc(), &outcome, wanted)?, "{name}");
     }
     let schema = globals.schema("S").ok_or("no schema")?;
@@ -52,7 +52,7 @@ fn values_and_truths(rt: HostRuntime) -> Result<(), Fail> {
     assert!(rt; conjuncts.len() == TRUTHS.len());
     for (conjunct, wanted) in conjuncts.iter().zip(TRUTHS) {
         let term = conjunct.resolved(&arena)?;
-        assert!(rt; truth_of(&term, &none, &env)? == wanted);
+        assert!(rt; truth_in(&term, &env)? == wanted);
     }
     Ok(())
 }
@@ -84,11 +84,10 @@ fn copies(rt: HostRuntime) -> Result<(), Fail> {
     let arena = Bump::new(rt.alloc());
     let globals = globals_in(rt.alloc(), &arena)?;
     let env = env_in(rt.alloc(), &globals, 1)?;
-    let none: &[Value] = &[];
     let Some(Entry::Abbrev(_, term, _)) = globals.entry("Pair") else {
         return Err(Fail::new("no abbreviation"));
     };
-    let Outcome::Is(pair) = value_of(term, &none, &env)? else {
+    let Outcome::Is(pair) = outcome_of(term, &env)? else {
         return Err(Fail::new("no set"));
     };
     let copy = pair.copy(rt.alloc())?;
@@ -101,6 +100,16 @@ fn globals_in<'a>(alloc: Global, arena: &'a Bump) -> Result<Globals<'a>, Fail> {
     let spec = read_spec(alloc, arena, SOURCE.as_bytes())?;
     let checked = check_spec(alloc, arena, spec)?;
     Ok(checked.globals)
+}
+
+fn outcome_of<'a>(term: &Resolved<'a>, env: &Env<'_, 'a>) -> Result<Outcome, AllocError> {
+    let none: &[Value] = &[];
+    value_of(term, &none, env)
+}
+
+fn truth_in<'a>(term: &Resolved<'a>, env: &Env<'_, 'a>) -> Result<Truth, AllocError> {
+    let none: &[Value] = &[];
+    truth_of(term, &none, env)
 }
 
 fn env_in<'g, 'a>(
