@@ -2,7 +2,6 @@
 use Rattle.std.proofs.Common.{◌≡◌, ◌⊎◌, ◌≢◌, ℕ, List, [], ◌∷◌, Bool, ◌==◌, false, true, length, Option, Some, Result, Ok, Err, IfErr, refl, sym, ap, ◌∙◌, arith, subst, inl, inr}
 use Rattle.std.specs.List.{flat_map}
 use Rattle.std.proofs.lemmas.Bool.{eqb-true}
-use Rattle.zf_command.specs.declared.job.Job.{Job}
 use Rattle.zf_finite.specs.Finite.{IsFinite}
 use Rattle.zf_scan.specs.declared.fault.TextFault.{TextFault}
 use Rattle.zf_scan.specs.Cuts.{IsWantOfMemory}
@@ -25,8 +24,8 @@ use Rattle.zf_lines.specs.declared.fault.Status.{Status}
 use Rattle.zf_lines.specs.declared.fault.Status.TheVariants.{BadSpec}
 use Rattle.zf_engine.specs.declared.stop.Stop.{Stop}
 use Rattle.zf_engine.specs.declared.stop.Stop.TheVariants.{Answered, OutOfMemory}
-use Rattle.zf_engine.specs.Answers.{Answer, Checks, HasSchema, IsAsked, IsNamed, IsNamedRow, Request, ShowAnswer, UnreadAnswer, stated}
-use Rattle.zf_engine.specs.Stops.{AnswersRequest, AnswersShow, IfAnswered, IsFaultLine, TellsInfinite, TellsMisfit, TellsNoRow, TellsOut, TellsPlace}
+use Rattle.zf_engine.specs.Answers.{Checks, HasSchema, IsAsked, IsNamed, IsNamedRow, Request, ShowAnswer, UnreadAnswer, stated}
+use Rattle.zf_engine.specs.Stops.{AnswersRequest, IfAnswered, IsFaultLine, TellsInfinite, TellsMisfit, TellsNoRow, TellsOut, TellsPlace}
 use Rattle.zf_engine.specs.Texts.{type_fault_line}
 
 pub weaker : (stop : Stop) {P Q : List ℕ → Status → Type 0} → ((text : List ℕ) (status : Status) → P text status → Q text status) → IfAnswered stop P → IfAnswered stop Q

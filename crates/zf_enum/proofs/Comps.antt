@@ -1,5 +1,5 @@
 -- The ranges of components, one more at a time, and the first component that is out.
-use Rattle.std.proofs.Common.{◌≡◌, ℕ, zero, suc, ◌+◌, ◌<◌, ◌≤◌, List, [], ◌∷◌, ◌++◌, length, map, take, get_or, Option, Some, None, Result, Ok, Err, refl, sym, ap, ◌∙◌, subst, add-one, arith}
+use Rattle.std.proofs.Common.{◌≡◌, ℕ, zero, suc, ◌+◌, ◌<◌, ◌≤◌, List, [], ◌∷◌, ◌++◌, length, map, take, get_or, Some, Result, Ok, Err, refl, sym, ap, ◌∙◌, subst, add-one, arith}
 use Rattle.std.specs.Prelude.{slice_get}
 use Rattle.std.specs.Prelude.{IfErr, IsErrAnd}
 use Rattle.std.specs.List.{AllByRecursion}
@@ -9,7 +9,7 @@ use Rattle.zf_term.specs.Definitions.{Comp, comp_of, sets_of}
 use Rattle.zf_value.specs.declared.value.Value.{Value}
 use Rattle.zf_meaning.specs.Environments.{Environment}
 use Rattle.zf_enum.specs.DeclaredSets.{IsOneOut}
-use Rattle.zf_enum.specs.Ranges.{IsRange, AreRanges, IsOutAt, IsNoneOut, IsFirstOut}
+use Rattle.zf_enum.specs.Ranges.{IsRange, AreRanges, IsNoneOut, IsFirstOut}
 use Rattle.zf_enum.specs.Components.{IsOneRange, AreAllRanges, IsOutBy}
 use Rattle.zf_enum.specs.declared.start_fault.StartFault.{StartFault}
 use Rattle.zf_enum.specs.declared.start_fault.StartFault.TheVariants.{DeclaredOut, OutOfMemory}

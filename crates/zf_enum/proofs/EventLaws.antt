@@ -1,17 +1,17 @@
 -- One list of ranges, one list of events; resuming, and the bound.
-use Rattle.std.proofs.Common.{◌≡◌, ◌↔◌, ℕ, List, [], ◌∷◌, refl, sym, ap, ◌∙◌, subst}
-use Rattle.zf_term.specs.Definitions.{Comp, sets_of}
+use Rattle.std.proofs.Common.{◌≡◌, List, [], ◌∷◌, refl, ap, ◌∙◌, subst}
+use Rattle.zf_term.specs.Definitions.{Comp}
 use Rattle.zf_value.specs.declared.value.Value.{Value}
 use Rattle.zf_value.specs.contracts.value.ValueOrd.TheImpl.Laws as order_laws
-use Rattle.zf_value.specs.Sets.{value_order, IsMember}
+use Rattle.zf_value.specs.Sets.{value_order}
 use Rattle.zf_value.proofs.Once as once
 use Rattle.zf_walk.specs.Events.{IsEvents}
-use Rattle.zf_walk.specs.Tests.{IsBound, IsNumberOfTests}
+use Rattle.zf_walk.specs.Tests.{IsBound}
 use Rattle.zf_walk.proofs.LawProofs as walk
 use Rattle.zf_meaning.specs.Environments.{Environment}
 use Rattle.zf_enum.specs.Property.{property}
 use Rattle.zf_enum.specs.Ranges.{IsRange, AreRanges}
-use Rattle.zf_enum.specs.Events.{AreEvents, AreTests, IsBoundOf, OneRanges, OneEvents, EventsResume, TestsAreBound}
+use Rattle.zf_enum.specs.Events.{OneRanges, OneEvents, EventsResume, TestsAreBound}
 
 one_range : (e : Environment) (c : Comp) (xs ys : List Value) → IsRange e c xs → IsRange e c ys → xs ≡ ys
 one_range e c xs ys h k = once.one_list xs ys h.ascending k.ascending (λ z. (λ m. (k.members z).1 ((h.members z).0 m), λ m. (h.members z).1 ((k.members z).0 m)))

@@ -7,7 +7,7 @@ use Rattle.zf_value.proofs.Among.{every_from, every_at, member_at, members-take_
 use Rattle.zf_value.proofs.Regulars.{regular_member, are_regular}
 use Rattle.zf_value.specs.Steps.{HaveSameMembers}
 use Rattle.zf_value.specs.declared.value.Outcome.{Outcome}
-use Rattle.zf_value.specs.declared.value.Outcome.TheVariants.{Is, Undefined}
+use Rattle.zf_value.specs.declared.value.Outcome.TheVariants.{Undefined}
 use Rattle.zf_enum.specs.Parts.{Lists, Grows, IsListed, IsIn}
 
 -- the same values pass

@@ -1,5 +1,5 @@
 -- Numbers in infinite sets.
-use Rattle.std.proofs.Common.{◌≡◌, ◌↔◌, ℤ, pos, Bool, Option, Some, None, IsTrue, sym, ap, ◌∙◌, subst}
+use Rattle.std.proofs.Common.{◌≡◌, ◌↔◌, ℤ, pos, Bool, Some, None, IsTrue, ap, subst}
 use Rattle.std.specs.Prelude.{◌≤ℤ◌}
 use Rattle.zf_term.specs.declared.extent.Infinite.{Infinite}
 use Rattle.zf_term.specs.declared.extent.Infinite.TheVariants.{Num, Nat, Nat1}

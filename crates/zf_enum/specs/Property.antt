@@ -2,7 +2,6 @@
 use Rattle.std.specs.Prelude.{ℕ, ◌+◌, max, List, [], ◌∷◌, length, Option, Some, None, slice_get}
 use Rattle.zf_term.specs.declared.resolved.Reference.{Reference}
 use Rattle.zf_term.specs.declared.resolved.Reference.TheVariants.{Component, Local, Global}
-use Rattle.zf_term.specs.Definitions.{Schema}
 use Rattle.zf_term.specs.ResolvedTrees.{ResolvedTree}
 use Rattle.zf_term.specs.TermLaws.{references}
 use Rattle.zf_value.specs.declared.value.Value.{Value}

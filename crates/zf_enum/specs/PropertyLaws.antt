@@ -1,5 +1,5 @@
 -- The property of a schema has one truth on a row, and keeps it on longer ones. No public clause rests on this.
-use Rattle.std.proofs.Common.{◌≡◌, ℕ, ◌+◌, ◌<◌, ◌≤◌, max, List, [], ◌∷◌, ◌++◌, length, Option, Some, None, refl, sym, ap, ◌∙◌, arith}
+use Rattle.std.proofs.Common.{◌≡◌, ℕ, ◌≤◌, List, [], ◌∷◌, ◌++◌, length, Option, Some, None, refl, sym, ap, ◌∙◌, arith}
 use Rattle.std.specs.Prelude.{slice_get}
 use Rattle.zf_term.specs.declared.resolved.Reference.{Reference}
 use Rattle.zf_term.specs.declared.resolved.Reference.TheVariants.{Component, Local, Global}
@@ -10,7 +10,7 @@ use Rattle.zf_value.specs.declared.value.Truth.{Truth}
 use Rattle.zf_value.specs.declared.value.Truth.TheVariants as truth
 use Rattle.zf_walk.specs.declared.judge.Truth as walk
 use Rattle.zf_walk.specs.declared.judge.Truth.TheVariants.{True, False, Out}
-use Rattle.zf_walk.specs.Conjuncts.{Conjuncts, HaveOneTruth, KeepTruths}
+use Rattle.zf_walk.specs.Conjuncts.{HaveOneTruth, KeepTruths}
 use Rattle.zf_meaning.specs.Environments.{Environment}
 use Rattle.zf_meaning.specs.Laws.{AreBelow, UsesFirst, IsBelow}
 use Rattle.zf_meaning.proofs.Unique.{one_truth}

@@ -23,7 +23,7 @@ use Rattle.zf_value.specs.Operations.{IsCross, IsPower}
 use Rattle.zf_value.specs.Sets.{members}
 use Rattle.zf_meaning.specs.declared.described.Described.{Described}
 use Rattle.zf_meaning.specs.declared.described.Described.TheVariants.{Arrows}
-use Rattle.zf_meaning.specs.Described.{Describes, IsDescribed}
+use Rattle.zf_meaning.specs.Described.{Describes}
 use Rattle.zf_meaning.specs.Environments.{Context}
 use Rattle.zf_meaning.specs.Meaning.{HasOutcome, HaveOutcomes}
 use Rattle.zf_meaning.specs.Outcomes.{OnOne, OnBoth, Several, OnSeveral}

@@ -1,6 +1,6 @@
 -- Sets that are told by what they are made of: each that is not out is there, and its members are told.
-use Rattle.std.proofs.Common.{◌≡◌, ◌↔◌, ◌≢◌, ◌≤◌, ◌<◌, ℕ, Bool, true, false, ℤ, Option, Some, None, List, [], ◌∷◌, ◌+◌, length, map, Ok, refl, sym, ap, ◌∙◌, subst, inl, inr, ⊎_elim, Less, arith, IsTrue, Vec, Global}
-use Rattle.std.specs.Prelude.{pos, ◌+ℤ◌, ◌≤ℤ◌, ◌<ℤ◌}
+use Rattle.std.proofs.Common.{◌≡◌, ◌↔◌, ◌≤◌, ◌<◌, ℕ, Bool, true, false, ℤ, Option, Some, None, List, [], ◌∷◌, map, Ok, refl, sym, ap, ◌∙◌, subst, ⊎_elim, Less, arith, IsTrue, Vec, Global}
+use Rattle.std.specs.Prelude.{pos, ◌+ℤ◌, ◌<ℤ◌}
 use Rattle.std.proofs.lemmas.Int.{ints}
 use Rattle.std.specs.Cmp.{int_cmp_is}
 use Rattle.zf_scan.specs.declared.token.Arrow.{Arrow}
@@ -26,8 +26,8 @@ use Rattle.zf_value.specs.declared.value.Truth.TheVariants as truth
 use Rattle.zf_value.specs.Numbers.{OnNumbers, IsInterval, IsBetweenNumbers}
 use Rattle.zf_value.specs.Operations.{IsSubset, IsPower, IsCross, AreFrom, AreRelations, ArePartialFunctions, AreTotalFunctions, ArePartialInjections, AreTotalInjections}
 use Rattle.zf_value.specs.Order.{level_order}
-use Rattle.zf_value.specs.Sets.{IsMember, IsSetOf, IsRegular, AreRegular, IsRegularSet, IsAscending, members, value_order}
-use Rattle.zf_value.proofs.Counted.{first, ascending-first, length-first}
+use Rattle.zf_value.specs.Sets.{IsMember, IsSetOf, IsRegular, AreRegular, IsRegularSet, members, value_order}
+use Rattle.zf_value.proofs.Counted.{ascending-first, length-first}
 use Rattle.zf_value.proofs.Divisions.{either_way}
 use Rattle.std.proofs.lemmas.Bool.{cases_lt}
 use Rattle.zf_value.proofs.Exact.{cmp_is}

@@ -1,12 +1,11 @@
 -- The values that each declared set leaves.
 use Rattle.std.proofs.Common.{◌≡◌, List, map, sym, ap, ◌∙◌, subst, rules}
-use Rattle.std.proofs.lemmas.Result.{err_from_is_err_and}
 use Rattle.zf_term.specs.declared.globals.Domain.{Domain}
 use Rattle.zf_term.specs.Definitions.{DeclaredSet, set_of, sets_of}
 use Rattle.zf_term.proofs.SetsSeen.{of-Either}
 use Rattle.zf_value.specs.declared.value.Value.{Value}
 use Rattle.zf_meaning.specs.Envs.{environment_of}
-use Rattle.zf_enum.specs.Parts.{Narrows, NarrowsAll, Lists}
+use Rattle.zf_enum.specs.Parts.{Narrows, NarrowsAll}
 use Rattle.zf_enum.proofs.Lacks.{passed}
 use Rattle.zf_enum.proofs.Sides.{narrows_next, out_at, some_of_sides}
 use Rattle.zf_enum.proofs.ranges.+narrowing.Goals as goal

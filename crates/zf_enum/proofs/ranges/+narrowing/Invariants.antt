@@ -1,4 +1,3 @@
-use Rattle.std.proofs.Common.{take}
 use Rattle.zf_meaning.specs.Envs.{environment_of}
 use Rattle.zf_enum.specs.Parts.{NarrowsAll}
 use Rattle.zf_enum.proofs.Sides.{front}

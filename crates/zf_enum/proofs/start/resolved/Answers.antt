@@ -1,4 +1,4 @@
-use Rattle.std.proofs.Common.{◌≡◌, ◌+◌, List, ap, map, take, subst, sym}
+use Rattle.std.proofs.Common.{◌≡◌, ◌+◌, List, map, take, subst, sym}
 use Rattle.zf_term.specs.declared.resolved.Resolved.{Resolved}
 use Rattle.zf_term.specs.Definitions.{conjunct_of}
 use Rattle.zf_term.specs.ResolvedTrees.{resolved_of}

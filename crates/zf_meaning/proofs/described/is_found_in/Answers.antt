@@ -1,5 +1,5 @@
-use Rattle.std.proofs.Common.{sym, ap, ◌∙◌, subst, true, false, IsTrue, ◌↔◌}
-use Rattle.zf_meaning.specs.declared.found.Found.TheVariants.{Is, Undefined, Out}
+use Rattle.std.proofs.Common.{ap, subst, IsTrue, ◌↔◌}
+use Rattle.zf_meaning.specs.declared.found.Found.TheVariants.{Undefined, Out}
 use Rattle.zf_value.specs.Sets.{IsMember, members}
 use Rattle.zf_meaning.proofs.Tests.{in-found, in-no-set}
 use Rattle.zf_meaning.specs.Found.{found_outcome}

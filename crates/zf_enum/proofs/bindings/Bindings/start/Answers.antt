@@ -1,5 +1,5 @@
 -- A search begins before all events of the schema.
-use Rattle.std.proofs.Common.{◌≡◌, List, map, ap, sym, subst, ◌∙◌}
+use Rattle.std.proofs.Common.{List, map, ap, sym, subst, ◌∙◌}
 use Rattle.std.specs.Option.{option_copied}
 use Rattle.zf_term.specs.declared.globals.Component.{Component}
 use Rattle.zf_term.specs.Definitions.{comp_of, conjunct_of, schema_of}

@@ -1,0 +1,98 @@
+//! A search goes on where memory was refused: the steps are the same, and each finished test counts once.
+//! `bench/refuse-growths` refuses each growth of this test in turn.
+ghost use Rattle.std.specs.Prelude.{IfOk};
+ghost use Rattle.zf_meaning.specs.Envs.{environment_of};
+ghost use Rattle.zf_schema.specs.WellTypedGlobals.{AreWellTyped};
+ghost use Rattle.zf_term.specs.Definitions.{globals_of};
+
+use bumpalo::Bump;
+use std::alloc::{AllocError, Global};
+use std::test::Fail;
+use zf_data::Text;
+use zf_enum::{Bindings, StartFault};
+use zf_finite::finite;
+use zf_meaning::env::Env;
+use zf_meaning::sizes::Size;
+use zf_schema::checker::check_spec;
+use zf_term::globals::Globals;
+use zf_text::reading::read_spec;
+use zf_walk::Step;
+
+const SOURCE: &str = r"\begin{zed}
+[NAME]
+\end{zed}
+\begin{schema}{Names}
+x : NAME
+\end{schema}
+\begin{schema}{Bounded}
+x : 0 \upto 2; y : 0 \upto 1
+\where
+x * 9223372036854775807 \geq 0 \\ y < 0 \lor x < 2
+\end{schema}
+\begin{schema}{Sets}
+x, y : 0 \upto 1
+\where
+\{x\} \cup \{y\} = 0 \upto 1
+\end{schema}
+";
+
+/// Schemas, how many bindings hold, and the number of tests at the end.
+static SCHEMAS: [(&str, u64, u64); 3] = [("Names", 2, 0), ("Bounded", 4, 9), ("Sets", 2, 4)];
+
+#[test]
+fn steps(rt: HostRuntime) -> Result<(), Fail> {
+    let arena = Bump::new(rt.alloc());
+    let globals = globals_in(rt.alloc(), &arena)?;
+    let name = Text::of(rt.alloc(), b"NAME")?;
+    let env = Env::new(rt.alloc(), &globals, &[Size { name, count: 2 }])?;
+    for (name, holding, tests) in SCHEMAS {
+        let mut search = begun(rt.alloc(), &arena, &env, name)?;
+        for place in 0..holding {
+            assert!(rt; next(&mut search) == Ok(Step::Holds), "{name} at {place}");
+        }
+        assert!(rt; next(&mut search) == Ok(Step::End), "{name}");
+        assert!(rt; search.tests() == tests, "{name}");
+        assert!(rt; next(&mut search) == Ok(Step::End), "{name}");
+    }
+    Ok(())
+}
+
+/// The next step, which is asked for once more where memory is refused.
+fn next(search: &mut Bindings<'_, '_, '_, '_>) -> Result<Step, AllocError> {
+    match search.advance() {
+        Ok(step) => Ok(step),
+        Err(_) => search.advance(),
+    }
+}
+
+/// What the source defines.
+fn globals_in<'a>(alloc: Global, arena: &'a Bump) -> Result<Globals<'a>, Fail>
+    ensures { IfOk result (λ g. AreWellTyped (globals_of g)) }
+{
+    let spec = read_spec(alloc, arena, SOURCE.as_bytes())?;
+    let checked = check_spec(alloc, arena, spec)?;
+    Ok(checked.globals)
+}
+
+/// The search for the bindings of a schema.
+fn begun<'e, 'g, 'a>(
+    alloc: Global,
+    arena: &'a Bump,
+    env: &'e Env<'g, 'a>,
+    name: &str,
+) -> Result<Bindings<'e, 'e, 'g, 'a>, Fail>
+    requires { AreWellTyped (environment_of env.now).globals }
+{
+    let globals = env.globals();
+    let Some(schema) = globals.schema(name) else {
+        return Err(Fail::new("no schema"));
+    };
+    let Ok(()) = finite(schema, globals) else {
+        return Err(Fail::new("not finite"));
+    };
+    match Bindings::start(alloc, arena, schema, env, None) {
+        Ok(bindings) => Ok(bindings),
+        Err(StartFault::OutOfMemory) => Err(Fail::new("out of memory")),
+        Err(StartFault::DeclaredOut(_)) => Err(Fail::new("a declared set is out")),
+    }
+}
