@@ -9,7 +9,7 @@ use Rattle.std.specs.Cmp.Lexicographic.{slice_cmp, lists_total}
 use Rattle.std.specs.Ordering.{ordering_reverse}
 use Rattle.std.proofs.lemmas.List.{length-append}
 use Rattle.zf_walk.specs.declared.judge.Truth.{Truth}
-use Rattle.zf_walk.specs.declared.judge.Truth.TheVariants.{True, False, Out}
+use Rattle.zf_walk.specs.declared.judge.Truth.TheVariants.{True, Out}
 use Rattle.zf_walk.specs.Conjuncts.{Conjuncts, IsTruthOf}
 use Rattle.zf_walk.specs.Rows.{TiesAreEqual, ComesAfter}
 use Rattle.zf_walk.specs.Events.{Event, IsEvent}
@@ -19,6 +19,7 @@ use Rattle.zf_walk.proofs.Order.{slice-ties}
 use Rattle.zf_walk.proofs.Picks.{IsRowOf-length}
 use Rattle.zf_lines.specs.declared.fault.Status.{Status}
 use Rattle.zf_lines.specs.Searches.{AreEventsUpTo, Hold, IsBelow, IsWithin, IsWritten}
+use Rattle.zf_found.proofs.Rows.{AreTold, one_truth_of}
 use Rattle.zf_answers.proofs.Rows.{nothing_more, before_last, same_last, All-front, one_begins}
 
 -- ---- what is written of events
@@ -85,29 +86,12 @@ module _ {V : Type 0} (line : List V → List ℕ) (limit : Option ℕ) where
   one_end events last other_last text other status other_status (IsWritten.ends none hold below told done) (IsWritten.ends other_none other_hold other_below other_told other_done) =
       record { lasts = none ∙ sym other_none; texts = told ∙ sym other_told; statuses = done ∙ sym other_done }
 
--- ---- the truth of a whole row is one
+-- ---- the event of a row is one
 
-abbrev pub TellsOneTruth : {V : Type 0} → Conjuncts V → Type 0
-TellsOneTruth {V} s = (c : ℕ) (row : List V) (t u : Truth) → s.says c row t → s.says c row u → t ≡ u
-
-module _ {V : Type 0} (s : Conjuncts V) (one : TellsOneTruth s) where
-  only_false : (row : List V) (c : ℕ) (t : Truth) → c < s.number → s.says c row False → IsTruthOf s row t → t ≡ False
-  only_false row c False m f h = refl
-  only_false row c True m f h = one c row True False (h c m) f
-  only_false row c Out m f h = elim (h.0 c m) [ inl w ↦ absurd (let e : True ≡ False = one c row True False w f in cc) | inr w ↦ one c row Out False w f ]
-
-  pub one_truth_of : (row : List V) (t u : Truth) → IsTruthOf s row t → IsTruthOf s row u → t ≡ u
-  one_truth_of row False u h k = sym (only_false row h.0 u h.1 h.2 k)
-  one_truth_of row True False h k = only_false row k.0 True k.1 k.2 h
-  one_truth_of row Out False h k = only_false row k.0 Out k.1 k.2 h
-  one_truth_of row True True h k = refl
-  one_truth_of row Out Out h k = refl
-  one_truth_of row True Out h k = let w = k.1 in one w.0 row True Out (h w.0 w.1) w.2
-  one_truth_of row Out True h k = let w = h.1 in one w.0 row Out True w.2 (k w.0 w.1)
-
+module _ {V : Type 0} (s : Conjuncts V) (told : AreTold s) where
   pub same_event : (cmp : V → V → Ordering) (ranges : List (List V)) (after : Option (List V)) (e f : Event V) → IsEvent cmp s ranges after e → IsEvent cmp s ranges after f → e.row ≡ f.row → e ≡ f
   same_event cmp ranges after e f h k q =
-      let t : e.truth ≡ f.truth = one_truth_of f.row e.truth f.truth (subst (λ r. IsTruthOf s r e.truth) q h.truth_of) k.truth_of in
+      let t : e.truth ≡ f.truth = one_truth_of s told f.row e.truth f.truth (subst (λ r. IsTruthOf s r e.truth) q h.truth_of) k.truth_of in
       ap (λ r. record { row = r; truth = e.truth }) q ∙ ap (λ (u : Truth). record { row = f.row; truth = u }) t
 
 -- ---- events up to a row
@@ -136,7 +120,7 @@ module _ {V : Type 0} (cmp : V → V → Ordering) (o : IsTotalOrder cmp) (ties 
   up_to_before None a b l c u = tt
   up_to_before (Some whole) a b l c u = λ less. u (subst (λ n. slice_cmp cmp (take n whole) b ≡ Less) l ((lists_total o).trans (take (length a) whole) a b less c))
 
-  module _ (s : Conjuncts V) (one : TellsOneTruth s) (ranges : List (List V)) (after : Option (List V)) where
+  module _ (s : Conjuncts V) (told : AreTold s) (ranges : List (List V)) (after : Option (List V)) where
     module _ (xs ys : List (Event V)) (last other_last : Option (List V)) (h : AreEventsUpTo cmp s ranges after last xs) (k : AreEventsUpTo cmp s ranges after other_last ys) where
       is_x : (x : Event V) → Contains xs x → IsEvent cmp s ranges after x
       is_x x m = ((h.members x).0 m).0
@@ -151,7 +135,7 @@ module _ {V : Type 0} (cmp : V → V → Ordering) (o : IsTotalOrder cmp) (ties 
       -- one of the lists begins with the other
       pub begins : ((more : List (Event V)) × (ys ≡ xs ++ more)) ⊎ ((more : List (Event V)) × (xs ≡ ys ++ more))
       begins = one_begins Follows (λ x y r q. never_both x.row y.row r q) xs ys h.ascending k.ascending
-          (λ x y m n. elim (rows_compared x.row y.row) [ inl e ↦ inl (same_event s one cmp ranges after x y (is_x x m) (is_y y n) e) | inr r ↦ inr r ])
+          (λ x y m n. elim (rows_compared x.row y.row) [ inl e ↦ inl (same_event s told cmp ranges after x y (is_x x m) (is_y y n) e) | inr r ↦ inr r ])
           (λ x y m n r. (k.members x).1 (is_x x m, up_to_before other_last x.row y.row (as_long x y (is_x x m) (is_y y n)) r ((k.members y).0 n).1))
           (λ x y m n r. (h.members y).1 (is_y y n, up_to_before last y.row x.row (as_long y x (is_y y n) (is_x x m)) r ((h.members x).0 m).1))
 

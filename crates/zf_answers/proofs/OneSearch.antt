@@ -1,34 +1,26 @@
 -- What is asked for is one environment and one named row, and its search has one text and one status.
-use Rattle.std.proofs.Common.{◌≡◌, ℕ, ◌<◌, ◌⊎◌, Bool, true, false, List, ◌++◌, Option, Some, None, refl, sym, ap, ◌∙◌, inl, inr, arith, subst}
-use Rattle.std.specs.Prelude.{slice_get}
+use Rattle.std.proofs.Common.{◌≡◌, ℕ, ◌<◌, ◌⊎◌, Bool, true, false, List, ◌++◌, Option, Some, None, sym, ap, ◌∙◌, inl, inr, arith, subst}
 use Rattle.std.proofs.lemmas.Bool.{cases_order}
 use Rattle.zf_finite.specs.Finite.{infinite_lines, IsFinite}
 use Rattle.zf_finite.proofs.FiniteSchemas.{finite_without_lines}
 use Rattle.zf_term.specs.Definitions.{Comp, Defined, Schema}
 use Rattle.zf_term.specs.Extents.{first}
-use Rattle.zf_term.specs.ResolvedTrees.{ResolvedTree}
 use Rattle.zf_type.specs.declared.fault.TypeFault.{TypeFault}
 use Rattle.zf_value.specs.declared.value.Outcome.{Outcome}
-use Rattle.zf_value.specs.declared.value.Truth.{Truth}
-use Rattle.zf_value.specs.declared.value.Truth.TheVariants as truth
 use Rattle.zf_value.specs.declared.value.Value.{Value}
 use Rattle.zf_value.specs.contracts.value.ValueOrd.TheImpl.Laws as order_laws
 use Rattle.zf_value.specs.Sets.{value_order}
 use Rattle.zf_value.proofs.Exact.{exact}
-use Rattle.zf_walk.specs.declared.judge.Truth as walk
-use Rattle.zf_walk.specs.declared.judge.Truth.TheVariants.{True, False, Out}
 use Rattle.zf_walk.specs.Events.{Event}
 use Rattle.zf_walk.specs.Tests.{IsNumberOfTests, IsUpTo, IsWalked, cut}
 use Rattle.zf_walk.proofs.Counting.{number-le}
 use Rattle.zf_meaning.specs.declared.sizes.Size.{Size}
 use Rattle.zf_meaning.specs.Environments.{Environment}
 use Rattle.zf_meaning.specs.GlobalOutcomes.{IsEnvironment}
-use Rattle.zf_meaning.specs.InRow.{in_row}
 use Rattle.zf_meaning.specs.Sizes.{given_sets, AreComplete}
 use Rattle.zf_meaning.proofs.Environments.{one_environment}
-use Rattle.zf_meaning.proofs.Unique.{one_truth}
 use Rattle.zf_enum.specs.Events.{AreTests}
-use Rattle.zf_enum.specs.Property.{HasTruth, told, property}
+use Rattle.zf_enum.specs.Property.{property}
 use Rattle.zf_enum.specs.Ranges.{IsFirstOut}
 use Rattle.zf_enum.proofs.EventLaws.{one_ranges}
 use Rattle.zf_texts.specs.Clear.{AreClear}
@@ -38,9 +30,10 @@ use Rattle.zf_names.proofs.Clear.{globals_clear}
 use Rattle.zf_lines.specs.declared.fault.Status.{Status}
 use Rattle.zf_lines.specs.Searches.{AreEventsUpTo, HasEvents, IsTestsLine, IsWritten}
 use Rattle.zf_lines.specs.Texts.{binding_line, tests_line}
+use Rattle.zf_found.proofs.Searches.{property_told}
 use Rattle.zf_engine.specs.Answers.{Checks, IsNamedRow, Request}
 use Rattle.zf_answers.specs.Laws.{ShowsEvents}
-use Rattle.zf_answers.proofs.OneEnding.{AreOneEnd, TellsOneTruth, one_ending}
+use Rattle.zf_answers.proofs.OneEnding.{AreOneEnd, one_ending}
 use Rattle.zf_answers.proofs.OneRefusal.{one_sizes}
 
 -- ---- finiteness
@@ -89,30 +82,12 @@ one_first_out e comps i j p q = go (cases_order i j)
 
 -- ---- the events
 
-abbrev walked : Truth → walk.Truth
-walked truth.True = True
-walked truth.False = False
-walked truth.Out = Out
-
-walked_told : (t : walk.Truth) → walked (told t) ≡ t
-walked_told True = refl
-walked_told False = refl
-walked_told Out = refl
-
--- a conjunct has one truth in a row
-pub tells_one : (e : Environment) (ts : List ResolvedTree) → TellsOneTruth (property e ts)
-tells_one e ts c row t u h k = sym (walked_told t) ∙ ap walked (one_of (slice_get ts c) (told t) (told u) h k) ∙ walked_told u
-  where
-    one_of : (p : Option ResolvedTree) (t u : Truth) → HasTruth e row p t → HasTruth e row p u → t ≡ u
-    one_of None t u a b = absurd a
-    one_of (Some p) t u a b = one_truth (in_row e row) p t u a b
-
 one_search : (e : Environment) (a : Schema) (after : Option (List Value)) (line : List Value → List ℕ) (limit : Option ℕ) (xs ys : List (Event Value)) (last other_last : Option (List Value))
     (text other : List ℕ) (status other_status : Status)
     → HasEvents e a after last xs → HasEvents e a after other_last ys → IsWritten line limit xs last text status → IsWritten line limit ys other_last other other_status → AreOneEnd line limit last other_last text other status other_status
 one_search e a after line limit xs ys last other_last text other status other_status h k w v =
     let same : k.ranges ≡ h.ranges = one_ranges e a k.ranges h.ranges k.of_components h.of_components in
-    one_ending value_order order_laws.total-law exact (property e a.conjuncts) (tells_one e a.conjuncts) h.ranges after line limit xs ys last other_last text other status other_status
+    one_ending value_order order_laws.total-law exact (property e a.conjuncts) (property_told e a.conjuncts) h.ranges after line limit xs ys last other_last text other status other_status
     h.listed (subst (λ ranges. AreEventsUpTo value_order (property e a.conjuncts) ranges after other_last ys) same k.listed) w v
 
 -- ---- the tests

@@ -66,7 +66,7 @@ got [] i l = absurd (omega arith)
 got (x ∷ xs) zero l = (x, refl)
 got (x ∷ xs) (suc i) l = got xs i (omega arith)
 
-property_told : (e : Environment) (ts : List ResolvedTree) → AreTold (property e ts)
+pub property_told : (e : Environment) (ts : List ResolvedTree) → AreTold (property e ts)
 property_told e ts = record {
   some = λ c row l. let p = got ts c l in some_of e row (slice_get ts c) p.0 p.1;
   one = λ c row t u h k. one_of e row (slice_get ts c) t u h k;

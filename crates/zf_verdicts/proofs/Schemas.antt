@@ -1,5 +1,5 @@
 -- References, declarations, predicates and schema expressions are a schema, or have an offence.
-use Rattle.std.proofs.Common.{◌≡◌, ◌⊎◌, ℕ, List, [], ◌∷◌, ◌++◌, Option, Some, None, refl, ap, ◌∙◌, subst, inl, inr}
+use Rattle.std.proofs.Common.{◌≡◌, ◌⊎◌, ℕ, List, [], ◌∷◌, ◌++◌, Option, Some, None, refl, subst, inl, inr}
 use Rattle.zf_text.specs.declared.tree.Name.{Name}
 use Rattle.zf_text.specs.declared.tree.SchemaRef.{SchemaRef}
 use Rattle.zf_text.specs.Trees.{Tree, DeclTree, vars, include, SchemaTree, schema_text, reference, both, either, schema_bracket}
@@ -20,6 +20,7 @@ use Rattle.zf_calculus.specs.Calculus.{comp, schema_of, nothing, Agrees, Agree, 
 use Rattle.zf_calculus.specs.Expressions.{outside, inside, IsNext, Refers, Adds, AddsAll, Includes, DeclaresOne, Declares, TakesAll, ConstrainsOne, Constrains, IsText, IsSchema}
 use Rattle.zf_calculus.specs.Limits.{IsWithin}
 use Rattle.zf_calculus.specs.SchemaOffences.{AnyByRecursion, Stops, IsNoSchema, OffendsRef, OffendsNames, OffendsAlone, OffendsAfter, OffendsDecls, OffendsConjuncts, OffendsPredicates, OffendsText, OffendsSchema, name_line}
+use Rattle.zf_schema.proofs.Once.{taken_comps}
 use Rattle.zf_verdicts.specs.Laws.{SomeOffence}
 use Rattle.zf_verdicts.proofs.Decided.{Decided}
 use Rattle.zf_verdicts.proofs.Limits.{is_within, agrees, agree, mark_agrees, next_or_stopped, next_at}
@@ -145,16 +146,11 @@ conjuncts_judged a (c ∷ cs) =
     then_rest (IsNext next) (λ mid b. TakesAll mid cs b) (λ k m. (k ≡ TooLarge) × (m ≡ line_of c) × (IsWithin next → ⊥)) (λ mid k m. OffendsConjuncts mid cs k m)
     (conjunct_judged (line_of c) next) (λ mid. conjuncts_judged mid cs)
 
--- conjuncts leave the components as they are
-same_comps : (a : Schema) (cs : List ResolvedTree) (b : Schema) → TakesAll a cs b → b.comps ≡ a.comps
-same_comps a [] b p = ap (λ v. v.comps) p
-same_comps a (c ∷ cs) b p = same_comps p.0 cs b p.2 ∙ ap (λ v. v.comps) p.1.0
-
 later_constrained :
     (g : List Defined) (a mid : Schema) (p : Tree) (ps : List Tree) (k : TypeFaultKind) (m : ℕ)
     → ConstrainsOne g a p mid → OffendsPredicates g mid ps k m → OffendsPredicates g a (p ∷ ps) k m
 later_constrained g a mid p ps k m q (inl o) =
-    let comps = same_comps a (conjuncts (resolved (inside g a) p)) mid q.1 in
+    let comps = taken_comps a (conjuncts (resolved (inside g a) p)) mid q.1 in
     inl (inr (subst (λ cs. AnyByRecursion (λ e. Offends (record { globals = g; comps = cs; locals = [] }) need.Predicate e k m) ps) comps o))
 later_constrained g a mid p ps k m q (inr o) = inr (inr (mid, q, o))
 
