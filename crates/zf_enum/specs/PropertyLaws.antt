@@ -47,12 +47,13 @@ walked-told Out = refl
 one_told : (t u : walk.Truth) → told t ≡ told u → t ≡ u
 one_told t u e = sym (walked-told t) ∙ ap walked e ∙ walked-told u
 
-one_of : (e : Environment) (row : List Value) (p : Option ResolvedTree) (t u : Truth) → HasTruth e row p t → HasTruth e row p u → t ≡ u
-one_of e row None t u a b = absurd a
-one_of e row (Some p) t u a b = one_truth (in_row e row) p t u a b
+-- what stands at a place has one truth in a row
+pub one_truth_in : (e : Environment) (row : List Value) (p : Option ResolvedTree) (t u : walk.Truth) → HasTruth e row p (told t) → HasTruth e row p (told u) → t ≡ u
+one_truth_in e row None t u a b = absurd a
+one_truth_in e row (Some p) t u a b = one_told t u (one_truth (in_row e row) p (told t) (told u) a b)
 
 pub has_one_truth : (e : Environment) (ts : List ResolvedTree) → HaveOneTruth (property e ts)
-has_one_truth e ts c row t u l d a b = one_told t u (one_of e row (slice_get ts c) (told t) (told u) a b)
+has_one_truth e ts c row t u l d a b = one_truth_in e row (slice_get ts c) t u a b
 
 -- ---- kept truths
 

@@ -16,9 +16,9 @@ use Rattle.zf_walk.specs.Tests.{cut}
 use Rattle.zf_meaning.specs.Environments.{Environment}
 use Rattle.zf_meaning.specs.InRow.{in_row}
 use Rattle.zf_meaning.specs.Meaning.{IsTruth}
-use Rattle.zf_meaning.proofs.Unique.{one_truth}
 use Rattle.zf_enum.specs.Events.{AreEvents, IsBoundOf}
 use Rattle.zf_enum.specs.Property.{HasTruth, told, property}
+use Rattle.zf_enum.specs.PropertyLaws.{one_truth_in}
 use Rattle.zf_enum.specs.Ranges.{AreRanges}
 use Rattle.zf_lines.specs.declared.fault.Status.{Status}
 use Rattle.zf_lines.specs.Searches.{HasEvents, IsBelow, IsWritten, IsTestsLine}
@@ -38,28 +38,13 @@ walked_of P truth.True h = (True, h)
 walked_of P truth.False h = (False, h)
 walked_of P truth.Out h = (Out, h)
 
-same_told : (t u : walk.Truth) → told t ≡ told u → t ≡ u
-same_told True True e = refl
-same_told True False e = absurd (cc)
-same_told True Out e = absurd (cc)
-same_told False True e = absurd (cc)
-same_told False False e = refl
-same_told False Out e = absurd (cc)
-same_told Out True e = absurd (cc)
-same_told Out False e = absurd (cc)
-same_told Out Out e = refl
-
 some_of : (e : Environment) (row : List Value) (p : Option ResolvedTree) (q : ResolvedTree) → p ≡ Some q → HasSome (λ t. HasTruth e row p (told t))
 some_of e row None q s = absurd (cc)
 some_of e row (Some p) q s = let u = some_truth (in_row e row) p in walked_of (IsTruth (in_row e row) p) u.0 u.1
 
-one_of : (e : Environment) (row : List Value) (p : Option ResolvedTree) (t u : walk.Truth) → HasTruth e row p (told t) → HasTruth e row p (told u) → t ≡ u
-one_of e row None t u h k = absurd h
-one_of e row (Some p) t u h k = same_told t u (one_truth (in_row e row) p (told t) (told u) h k)
-
 decided_of : (e : Environment) (row : List Value) (p : Option ResolvedTree) (t : walk.Truth) → Decided (HasTruth e row p (told t))
 decided_of e row None t = inr (λ h. h)
-decided_of e row (Some p) t = let u = some_of e row (Some p) p refl in ⊎_elim (λ s. inl (subst (λ x. HasTruth e row (Some p) (told x)) s u.1)) (λ n. inr (λ h. n (one_of e row (Some p) u.0 t u.1 h))) (same_truth u.0 t)
+decided_of e row (Some p) t = let u = some_of e row (Some p) p refl in ⊎_elim (λ s. inl (subst (λ x. HasTruth e row (Some p) (told x)) s u.1)) (λ n. inr (λ h. n (one_truth_in e row (Some p) u.0 t u.1 h))) (same_truth u.0 t)
 
 got : {A : Type 0} (xs : List A) (i : ℕ) → i < length xs → (x : A) × (slice_get xs i ≡ Some x)
 got [] i l = absurd (omega arith)
@@ -69,7 +54,7 @@ got (x ∷ xs) (suc i) l = got xs i (omega arith)
 pub property_told : (e : Environment) (ts : List ResolvedTree) → AreTold (property e ts)
 property_told e ts = record {
   some = λ c row l. let p = got ts c l in some_of e row (slice_get ts c) p.0 p.1;
-  one = λ c row t u h k. one_of e row (slice_get ts c) t u h k;
+  one = λ c row t u h k. one_truth_in e row (slice_get ts c) t u h k;
   decided = λ c row t. decided_of e row (slice_get ts c) t;
 }
 
