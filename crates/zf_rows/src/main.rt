@@ -8,7 +8,7 @@ use std::process::ExitCode;
 use std::rt::Files;
 use std::{fs, io};
 
-static NAMES: [&str; 20] = [
+static NAMES: [&str; 21] = [
     "answers",
     "calculus",
     "command_lines",
@@ -28,6 +28,7 @@ static NAMES: [&str; 20] = [
     "tests",
     "truths",
     "types",
+    "usual_z",
     "values",
 ];
 
