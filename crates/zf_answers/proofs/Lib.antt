@@ -11,3 +11,8 @@ pub mod EverySource
 pub mod ListedValues
 pub mod NamedRows
 pub mod EveryAnswer
+pub mod FirstLines
+pub mod EarlyStops
+pub mod Joined
+pub mod RunsFollow
+pub mod NamedLines

@@ -34,10 +34,10 @@ within_of (Some l) m n le h = omega arith
 
 module _ {V : Type 0} (line : List V → List ℕ) (limit : Option ℕ) where
   -- an event that is out does not hold
-  held : (events : List (Event V)) (e : Event V) → Hold events → Contains events e → e.truth ≡ Out → ⊥
+  pub held : (events : List (Event V)) (e : Event V) → Hold events → Contains events e → e.truth ≡ Out → ⊥
   held events e h m out = let t : e.truth ≡ True = All-contains (λ (x : Event V). x.truth ≡ True) events e h m in let c : True ≡ Out = sym t ∙ out in cc
 
-  last_of : (front : List (Event V)) (e : Event V) → Contains (front ++ e ∷ []) e
+  pub last_of : (front : List (Event V)) (e : Event V) → Contains (front ++ e ∷ []) e
   last_of front e = Contains-right front (e ∷ []) e (Contains-head e [])
 
   -- no more events than the limit are written, or told as out
@@ -97,7 +97,7 @@ module _ {V : Type 0} (s : Conjuncts V) (told : AreTold s) where
 -- ---- events up to a row
 
 module _ {V : Type 0} (cmp : V → V → Ordering) (o : IsTotalOrder cmp) (ties : TiesAreEqual cmp) where
-  abbrev Follows : Event V → Event V → Type 0
+  abbrev pub Follows : Event V → Event V → Type 0
   Follows e f = ComesAfter cmp e.row f.row
 
   pub never_both : (a b : List V) → ComesAfter cmp a b → ComesAfter cmp b a → ⊥

@@ -116,7 +116,7 @@ module _ (e : Environment) (row : List Value) where
   one_said t (q ∷ ts) (suc c) l h = let ih = one_said t ts c (omega arith) h in (ih.0, Contains-later q ts ih.0 ih.1, ih.2)
 
 -- a row that satisfies the schema is an event that holds
-binding_event : (e : Environment) (a : Schema) (ranges : List (List Value)) (after : Option (List Value)) (row : List Value)
+pub binding_event : (e : Environment) (a : Schema) (ranges : List (List Value)) (after : Option (List Value)) (row : List Value)
     → IsBinding e a ranges after row ↔ IsEvent value_order (property e a.conjuncts) ranges after (with_truth row True)
 binding_event e a ranges after row = (
   λ b. record { within = b.within; later = b.later; truth_of = says_all e row truth.True a.conjuncts b.satisfies; not_false = λ q. cc },
@@ -124,7 +124,7 @@ binding_event e a ranges after row = (
 )
 
 -- one of which it is not known is an event that is out
-doubt_event : (e : Environment) (a : Schema) (ranges : List (List Value)) (after : Option (List Value)) (row : List Value)
+pub doubt_event : (e : Environment) (a : Schema) (ranges : List (List Value)) (after : Option (List Value)) (row : List Value)
     → IsInDoubt e a ranges after row ↔ IsEvent value_order (property e a.conjuncts) ranges after (with_truth row Out)
 doubt_event e a ranges after row = (
   λ b. record {

@@ -39,12 +39,12 @@ module _ {V : Type 0} (cmp : V → V → Ordering) (o : IsTotalOrder cmp) (ties 
   before_not_past None row h = tt
   before_not_past (Some last) row h = inr h
 
-  up_to : (last : Option (List V)) (n : ℕ) (row : List V) → HasLength last n → length row ≡ n → IsNotPast cmp last row → IsUpTo cmp last row
+  pub up_to : (last : Option (List V)) (n : ℕ) (row : List V) → HasLength last n → length row ≡ n → IsNotPast cmp last row → IsUpTo cmp last row
   up_to None n row l m h = tt
   up_to (Some last) n row l m (inl e) = λ less. never_itself cmp o ties row (subst (λ r. ComesAfter cmp r row) (take_all (length row) last (omega arith) ∙ sym e) less)
   up_to (Some last) n row l m (inr c) = λ less. never_both cmp o ties last row (subst (λ r. ComesAfter cmp r row) (take_all (length row) last (omega arith)) less) c
 
-  not_past : (last : Option (List V)) (n : ℕ) (row : List V) → HasLength last n → length row ≡ n → IsUpTo cmp last row → IsNotPast cmp last row
+  pub not_past : (last : Option (List V)) (n : ℕ) (row : List V) → HasLength last n → length row ≡ n → IsUpTo cmp last row → IsNotPast cmp last row
   not_past None n row l m h = tt
   not_past (Some last) n row l m h = elim (rows_compared cmp o ties last row) [
     | inl e ↦ inl (sym e)

@@ -1,2 +1,5 @@
 pub mod Bindings
 pub mod Laws
+pub mod Runs
+pub mod NamedLines
+pub mod Limits

@@ -2,6 +2,9 @@
 #![tactic(auto)]
 
 ghost use Rattle.zf_answers.specs.Laws.{EachBindingIsShown, EventsAreShown, EveryLineIsJudged, EveryRequestIsAnswered, EverySourceIsRead, IsShownInOneWay, OneStatus, OneText};
+ghost use Rattle.zf_answers.specs.Limits.{LimitsAre};
+ghost use Rattle.zf_answers.specs.NamedLines.{OneRowOfALine, RefusedLinesAreOfNoRow};
+ghost use Rattle.zf_answers.specs.Runs.{FirstLinesAreAFront, PartsAreFronts, RunsMakeOne};
 
 /// What `show` answers, where nothing stands in its way: the line of each binding, once, in ascending order.
 pub fn each_binding_is_shown()
@@ -34,3 +37,29 @@ pub fn every_request_is_answered()
 {
     every_source_is_read();
 }
+
+/// Whatever a run that stops early has written is a front of an answer.
+pub fn first_lines_are_a_front()
+    ensures lines { FirstLinesAreAFront }
+    ensures parts { PartsAreFronts }
+{
+    every_request_is_answered();
+}
+
+/// The lines of a run with a limit, and what the run after the last of them answers, are what one run answers.
+pub fn runs_make_one()
+    ensures { RunsMakeOne }
+{
+    zf_resuming::lines_are_rows();
+}
+
+/// A line is that of one row of a schema's types, and a text is refused exactly where it is that of none.
+pub fn lines_name_rows()
+    ensures one { OneRowOfALine }
+    ensures none { RefusedLinesAreOfNoRow }
+{}
+
+/// The limits that the definitions take from the code are these numbers.
+pub fn limits_are()
+    ensures { LimitsAre }
+{}

@@ -2,3 +2,4 @@ pub mod Commands
 pub mod Numbers
 pub mod Refusals
 pub mod SizeWords
+pub mod Excluded

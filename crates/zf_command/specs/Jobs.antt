@@ -73,9 +73,9 @@ abbrev pub Asks : Text → List Row → Asked → Type 0
 Asks name rows (Work file job) = (file ≡ value_of (codes "FILE") rows) × IsJob name rows job
 Asks name rows (Help text) = ⊥
 
--- a size word among the matches has another form, or the limit has
-abbrev pub Refuses : List Row → Type 0
-Refuses rows = HasBadSize (values_of (codes "NAME=SIZE") rows) ⊎ HasBadLimit (first_of (codes "limit") rows)
+-- the subcommand is `show`, and a size word among its matches has another form, or the limit has
+abbrev pub Refuses : Text → List Row → Type 0
+Refuses name rows = (name ≢ codes "check") × (HasBadSize (values_of (codes "NAME=SIZE") rows) ⊎ HasBadLimit (first_of (codes "limit") rows))
 
 -- `clap` takes the words, which name this subcommand, and the rows are its matches
 abbrev pub AreMatches : List Text → Text → List Row → Type 0
@@ -92,4 +92,4 @@ IsRefusedByClap words = (cause : ErrorKind) × IsAmong cause (fault_of zf_app wo
 
 -- the words are refused: by `clap`, or since a size word or the limit among its matches has another form
 abbrev pub IsRefused : List Text → Type 0
-IsRefused words = IsRefusedByClap words ⊎ ((name : Text) × (rows : List Row) × AreMatches words name rows × Refuses rows)
+IsRefused words = IsRefusedByClap words ⊎ ((name : Text) × (rows : List Row) × AreMatches words name rows × Refuses name rows)

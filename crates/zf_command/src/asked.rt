@@ -41,7 +41,7 @@ pub fn job_of<S: AsStr>(alloc: Global, words: &[S]) -> Result<Asked, UsageFault>
 /// The file and the job of the matches of the subcommand of this name.
 fn work_in(alloc: Global, name: &str, matches: &ArgMatches<'_>) -> Result<Asked, UsageFault>
     ensures asked { IfOk result (Asks name.now (rows_of (found_of matches.now))) }
-    ensures refused { IsErrOf result BadWords → Refuses (rows_of (found_of matches.now)) }
+    ensures refused { IsErrOf result BadWords → Refuses name.now (rows_of (found_of matches.now)) }
 {
     let file = value_in(alloc, matches, "FILE")?;
     let job = job_in(alloc, name, matches)?;
@@ -50,7 +50,7 @@ fn work_in(alloc: Global, name: &str, matches: &ArgMatches<'_>) -> Result<Asked,
 
 fn job_in(alloc: Global, name: &str, matches: &ArgMatches<'_>) -> Result<Job, UsageFault>
     ensures asked { IfOk result (IsJob name.now (rows_of (found_of matches.now))) }
-    ensures refused { IsErrOf result BadWords → Refuses (rows_of (found_of matches.now)) }
+    ensures refused { IsErrOf result BadWords → Refuses name.now (rows_of (found_of matches.now)) }
 {
     if name == "check" {
         let types = is_flagged(matches, "types");

@@ -11,3 +11,4 @@ pub mod DeclaredSets
 pub mod Components
 pub mod Schemas
 pub mod Rows
+pub mod ExactCarriers

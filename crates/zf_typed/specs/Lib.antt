@@ -1,2 +1,3 @@
 pub mod OutcomeLaws
 pub mod RowLaws
+pub mod CarrierLaws

@@ -1,4 +1,5 @@
 //! Laws of the definitions.
+ghost use Rattle.zf_typed.specs.CarrierLaws.{CarriersAreExact, CarriersAreOutcomes};
 ghost use Rattle.zf_typed.specs.OutcomeLaws.{OutcomesTyped};
 ghost use Rattle.zf_typed.specs.RowLaws.{RowsTyped, EventsTyped, EventsOfTextsTyped};
 
@@ -12,4 +13,10 @@ pub fn rows_typed()
     ensures rows { RowsTyped }
     ensures events { EventsTyped }
     ensures texts { EventsOfTextsTyped }
+{}
+
+/// The carrier of a type, where it is a set, has exactly the values of the type; it is the outcome of the expression that spells the type.
+pub fn carriers_exact()
+    ensures members { CarriersAreExact }
+    ensures outcomes { CarriersAreOutcomes }
 {}

@@ -1,5 +1,5 @@
 -- Which part of the matches refuses a job.
-use Rattle.std.proofs.Common.{◌≡◌, Err, ◌∙◌, ap, sym, inl, inr}
+use Rattle.std.proofs.Common.{◌≡◌, Err, ◌∙◌, ap, sym, inl, inr, rules}
 use Rattle.std.proofs.lemmas.Result.{err_from_is_err_and}
 use Rattle.zf_command.specs.declared.job.UsageFault.{UsageFault}
 use Rattle.zf_command.specs.declared.job.UsageFault.TheVariants.{BadWords}
@@ -11,7 +11,7 @@ returns-in_err-sizes-clause-refused c =
     λ e.
     let raised = sym p.1 ∙ e in
     let fault : c.in_err-sizes.field-0.0 ≡ BadWords = sym p.2 ∙ (cc raised) in
-    inl (c.in_err-sizes.ensures.refused (ap (λ (f : UsageFault). Err f) fault))
+    (search rules, inl (c.in_err-sizes.ensures.refused (ap (λ (f : UsageFault). Err f) fault)))
 
 pub returns-in_err-limit-clause-refused : goal.returns-in_err-limit-clause-refused
 returns-in_err-limit-clause-refused c =
@@ -19,4 +19,4 @@ returns-in_err-limit-clause-refused c =
     λ e.
     let raised = sym p.1 ∙ e in
     let fault : c.in_err-limit.field-0.0 ≡ BadWords = sym p.2 ∙ (cc raised) in
-    inr (c.in_err-limit.ensures.refused (ap (λ (f : UsageFault). Err f) fault))
+    (search rules, inr (c.in_err-limit.ensures.refused (ap (λ (f : UsageFault). Err f) fault)))

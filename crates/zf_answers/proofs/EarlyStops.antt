@@ -1,0 +1,72 @@
+-- What a run that stops early has written is a front of an answer.
+use Rattle.std.proofs.Common.{◌≡◌, ℕ, List, ◌++◌, Option, sym, ap, ◌∙◌, append_assoc, inl, inr, subst}
+use Rattle.zf_command.specs.declared.job.Job.{Job}
+use Rattle.zf_command.specs.declared.job.Job.TheVariants.{Check, Show}
+use Rattle.zf_term.specs.Definitions.{Defined, Schema}
+use Rattle.zf_value.specs.declared.value.Value.{Value}
+use Rattle.zf_value.specs.contracts.value.ValueOrd.TheImpl.Laws as order_laws
+use Rattle.zf_value.specs.Sets.{value_order}
+use Rattle.zf_value.proofs.Exact.{exact}
+use Rattle.zf_walk.specs.Events.{Event}
+use Rattle.zf_meaning.specs.Environments.{Environment}
+use Rattle.zf_enum.specs.Property.{property}
+use Rattle.zf_enum.proofs.EventLaws.{one_ranges}
+use Rattle.zf_texts.specs.Spellings.{spellings}
+use Rattle.zf_lines.specs.declared.fault.Status.{Status}
+use Rattle.zf_lines.specs.Faults.{IsFront}
+use Rattle.zf_lines.specs.Searches.{AreEventsUpTo, HasEvents, IsBegun, lines}
+use Rattle.zf_lines.specs.Texts.{binding_line}
+use Rattle.zf_found.proofs.Searches.{property_told}
+use Rattle.zf_engine.specs.Answers.{Answer, IsSearch, JobBegins, Request, ShowBegins, request}
+use Rattle.zf_answers.specs.Laws.{EveryRequestIsAnswered, IsGranted, ShowsEvents}
+use Rattle.zf_answers.specs.Runs.{FirstLinesAreAFront, PartsAreFronts}
+use Rattle.zf_answers.proofs.FirstLines.{first_lines}
+use Rattle.zf_answers.proofs.Shown.{events_are_shown}
+
+-- nothing stands in the way of a search
+pub granted : (r : Request) (source : List ℕ) (g : List Defined) (a : Schema) (e : Environment) (after : Option (List Value)) → IsSearch r source g a e after → IsGranted r source g a e after
+granted r source g a e after search = record {
+  has_schema = search.asked.has_schema;
+  complete = search.asked.complete;
+  environment = search.asked.environment;
+  finite = search.asked.finite;
+  named = search.named;
+  none_out = search.none_out;
+}
+
+front_shown : (r : Request) (g : List Defined) (a : Schema) (e : Environment) (after last : Option (List Value)) (events : List (Event Value)) (first text : List ℕ) (status : Status)
+    → HasEvents e a after last events → IsBegun (binding_line (spellings g) a.comps) r.limit events last first → ShowsEvents r g a e after text status → IsFront text first
+front_shown r g a e after last events first text status listed begun shown =
+    let there = shown.listed in
+    let same : there.ranges ≡ listed.ranges = one_ranges e a there.ranges listed.ranges there.of_components listed.of_components in
+    let line = binding_line (spellings g) a.comps in
+    let front = first_lines value_order order_laws.total-law exact (property e a.conjuncts) (property_told e a.conjuncts) listed.ranges after line r.limit events shown.events last shown.last
+    listed.listed (subst (λ ranges. AreEventsUpTo value_order (property e a.conjuncts) ranges after shown.last shown.events) same there.listed) begun.hold begun.within
+    shown.lines status shown.ends in (
+      front.0 ++ shown.counted,
+      shown.whole ∙ ap (λ t. t ++ shown.counted) front.1 ∙ append_assoc (lines line events) front.0 shown.counted ∙ ap (λ t. t ++ (front.0 ++ shown.counted)) (sym begun.written),
+    )
+
+pub first_lines_are_a_front : FirstLinesAreAFront
+first_lines_are_a_front r file source first text status (ShowBegins.bindings g a e after last events search listed begun) answer =
+    front_shown r g a e after last events first text status listed begun (events_are_shown r file source g a e after text status (granted r source g a e after search) answer)
+
+-- ---- whatever is written
+
+-- a front of a front
+front_again : (text front written : List ℕ) → IsFront text front → IsFront front written → IsFront text written
+front_again text front written p q = (q.0 ++ p.0, p.1 ∙ ap (λ t. t ++ p.0) q.1 ∙ append_assoc written q.0 p.0)
+
+begun_front : (job : Job) (file source first text : List ℕ) (status : Status) → JobBegins job source first → Answer job file source text status → IsFront text first
+begun_front (Check types) file source first text status begins answer = absurd begins
+begun_front (Show name sizes after limit tests) file source first text status begins answer =
+    first_lines_are_a_front (request name sizes after limit tests) file source first text status begins answer
+
+pub parts_are_fronts : EveryRequestIsAnswered → PartsAreFronts
+parts_are_fronts every job file source written limited (inl none) =
+    let (text, status, answer) = every job file source limited in
+    (text, status, answer, (text, ap (λ t. t ++ text) (sym none)))
+parts_are_fronts every job file source written limited (inr (inl part)) = part
+parts_are_fronts every job file source written limited (inr (inr (first, begins, front))) =
+    let (text, status, answer) = every job file source limited in
+    (text, status, answer, front_again text first written (begun_front job file source first text status begins answer) front)

@@ -1,0 +1,27 @@
+-- A line is that of one row, and what is told of a text that is refused is that it is the line of none.
+use Rattle.std.proofs.Common.{◌≡◌, ℕ, List, [], sym, ap, ◌∙◌, subst}
+use Rattle.zf_term.specs.Definitions.{Defined, Schema}
+use Rattle.zf_meaning.specs.declared.sizes.Size.{Size}
+use Rattle.zf_meaning.specs.Environments.{Environment}
+use Rattle.zf_texts.specs.BindingTexts.{binding_text}
+use Rattle.zf_texts.specs.Clear.{AreClear}
+use Rattle.zf_texts.specs.Readings.{IsNoLine}
+use Rattle.zf_texts.specs.Spellings.{spellings}
+use Rattle.zf_texts.proofs.OneRow.{one_row}
+use Rattle.zf_answers.specs.NamedLines.{IsSchemaAt, OneRowOfALine, RefusedLinesAreOfNoRow}
+use Rattle.zf_answers.proofs.OneSearch.{clear_at}
+
+clear_there : (source name : List ℕ) (sizes : List Size) (g : List Defined) (a : Schema) (e : Environment) → IsSchemaAt source name sizes g a e → AreClear (spellings e.globals) e.sizes
+clear_there source name sizes g a e at = clear_at source g [] sizes e at.has_schema.checks at.complete at.environment
+
+pub one_row_of_a_line : OneRowOfALine
+one_row_of_a_line source name sizes g a e text row other at one two =
+    one_row (spellings e.globals) e (clear_there source name sizes g a e at) a.comps row other one.0 two.0 (sym one.1 ∙ two.1)
+
+pub refused_lines_are_of_no_row : RefusedLinesAreOfNoRow
+unfolding IsNoLine
+refused_lines_are_of_no_row source name sizes g a e text at =
+    let same : spellings e.globals ≡ spellings g = ap spellings at.environment.0 in (
+      λ none row line. none (subst (λ ss. AreClear ss e.sizes) same (clear_there source name sizes g a e at)) row line.0 (line.1 ∙ ap (λ ss. binding_text ss a.comps row) same),
+      λ none clear row is line. none row (is, line ∙ ap (λ ss. binding_text ss a.comps row) (sym same)),
+    )

@@ -1,0 +1,147 @@
+-- Runs that follow each other make one.
+use Rattle.std.proofs.Common.{◌≡◌, ◌↔◌, ℕ, Bool, false, List, [], ◌∷◌, ◌++◌, length, map, Option, Some, None, refl, sym, ap, ◌∙◌, append-nil, codes, inr, subst}
+use Rattle.std.specs.Prelude.{Contains}
+use Rattle.std.specs.List.{flat_map}
+use Rattle.std.proofs.lemmas.List.{length-map}
+use Rattle.std.proofs.lemmas.List.Folds.{flat_map-map}
+use Rattle.zf_term.specs.Definitions.{Defined, Schema}
+use Rattle.zf_value.specs.declared.value.Value.{Value}
+use Rattle.zf_value.specs.contracts.value.ValueOrd.TheImpl.Laws as order_laws
+use Rattle.zf_value.specs.Sets.{value_order}
+use Rattle.zf_value.proofs.Exact.{exact}
+use Rattle.zf_walk.specs.declared.judge.Truth.TheVariants.{True}
+use Rattle.zf_walk.specs.Events.{Event}
+use Rattle.zf_meaning.specs.Environments.{Environment}
+use Rattle.zf_enum.specs.Property.{property}
+use Rattle.zf_enum.proofs.EventLaws.{one_ranges}
+use Rattle.zf_texts.specs.BindingTexts.{binding_text}
+use Rattle.zf_texts.specs.Spellings.{spellings}
+use Rattle.zf_lines.specs.declared.fault.Status.{Status}
+use Rattle.zf_lines.specs.Searches.{AreEventsUpTo, HasEvents, Hold, IsTestsLine, IsWritten, lines}
+use Rattle.zf_lines.specs.Texts.{binding_line}
+use Rattle.zf_found.proofs.Searches.{property_told}
+use Rattle.zf_engine.specs.Answers.{IsLineOf, IsSearch, Request, ShowAnswer}
+use Rattle.zf_resuming.specs.Laws.{LinesAreRows}
+use Rattle.zf_answers.specs.Bindings.{EndsLines, IsInDoubt, IsBinding, IsNotPast, IsBefore, ShowsBindings}
+use Rattle.zf_answers.specs.Laws.{AnswersRequest, IsGranted, ShowsEvents}
+use Rattle.zf_answers.specs.Runs.{RunsMakeOne, limited, resumed, together}
+use Rattle.zf_answers.proofs.Joined.{both_listed, both_written, last_event, last_is_event, rows_are_events, rows_hold}
+use Rattle.zf_answers.proofs.Shown.{binding_event, doubt_event, events_are_shown}
+use Rattle.zf_answers.proofs.WrittenRows.{with_truth}
+
+-- ---- a run that pauses
+
+not_more : (t : List ℕ) → codes "out of bounds at: " ++ t ≡ codes "more\n" → ⊥
+not_more t e = cc
+
+-- where the last line is `more`, as many rows as the limit are written, and the last of them is the last that was looked at
+paused : {V : Type 0} (InDoubt : List V → Type 0) (line : List V → List ℕ) (limit : Option ℕ) (rows : List (List V)) (last : Option (List V)) (final : List ℕ) (status : Status) (row : List V)
+    → EndsLines InDoubt line limit rows last final status → final ≡ codes "more\n" → last ≡ Some row → ((front : List (List V)) × (rows ≡ front ++ row ∷ [])) × (limit ≡ Some (length rows))
+paused InDoubt line limit rows last final status row (EndsLines.enough front r split up reached told done) more at =
+    let same : r ≡ row = (let q : Some r ≡ Some row = sym up ∙ at in cc) in
+    ((front, subst (λ x. rows ≡ front ++ x ∷ []) same split), reached)
+paused InDoubt line limit rows last final status row (EndsLines.out r up doubt below told past) more at = absurd (not_more (line r) (sym told ∙ more))
+paused InDoubt line limit rows last final status row (EndsLines.complete none below told done) more at = absurd (let q : None ≡ Some row = sym none ∙ at in cc)
+
+-- ---- both runs
+
+module _ (resuming : LinesAreRows) (r : Request) (n : ℕ) (limit : Option ℕ) (file source : List ℕ) (g : List Defined) (a : Schema) (e : Environment) (after : Option (List Value))
+    (first second : List ℕ) (s t : Status) (run : ShowsBindings (limited (Some n) r) g a e after first s) (row : List Value) (granted : IsGranted r source g a e after)
+    (untold : r.tests ≡ false) (more : run.final ≡ codes "more\n") (at : run.last ≡ Some row) where
+  abbrev line : List Value → List ℕ
+  line = binding_line (spellings g) a.comps
+
+  abbrev next : Request
+  next = resumed (binding_text (spellings g) a.comps row) limit r
+
+  as_many : ((front : List (List Value)) × (run.rows ≡ front ++ row ∷ [])) × (Some n ≡ Some (length run.rows))
+  as_many = paused (IsInDoubt e a run.ranges after) line (Some n) run.rows run.last run.final s row run.ending more at
+
+  members : (x : List Value) → Contains run.rows x ↔ (IsBinding e a run.ranges after x × IsNotPast value_order (Some row) x)
+  members = subst (λ last. (x : List Value) → Contains run.rows x ↔ (IsBinding e a run.ranges after x × IsNotPast value_order last x)) at run.members
+
+  certain : (x : List Value) → IsInDoubt e a run.ranges after x → IsBefore value_order (Some row) x → ⊥
+  certain = subst (λ last. (x : List Value) → IsInDoubt e a run.ranges after x → IsBefore value_order last x → ⊥) at run.certain
+
+  abbrev events : List (Event Value)
+  events = map (λ x. with_truth x True) run.rows
+
+  listed : AreEventsUpTo value_order (property e a.conjuncts) run.ranges after (Some row) events
+  listed = rows_are_events value_order order_laws.total-law exact (property e a.conjuncts) run.ranges after (property_told e a.conjuncts) (IsBinding e a run.ranges after) (IsInDoubt e a run.ranges after)
+      (binding_event e a run.ranges after) (doubt_event e a run.ranges after) run.rows as_many.0.0 row as_many.0.1 members run.ascending certain
+
+  row_event : (x : Event Value) × Contains events x × (x.row ≡ row)
+  row_event = last_is_event value_order order_laws.total-law exact (property e a.conjuncts) run.ranges after (property_told e a.conjuncts) (IsBinding e a run.ranges after) (IsInDoubt e a run.ranges after)
+      (binding_event e a run.ranges after) (doubt_event e a run.ranges after) run.rows as_many.0.0 row as_many.0.1 members run.ascending certain
+
+  hold : Hold events
+  hold = rows_hold value_order order_laws.total-law exact (property e a.conjuncts) run.ranges after (property_told e a.conjuncts) (IsBinding e a run.ranges after) (IsInDoubt e a run.ranges after)
+      (binding_event e a run.ranges after) (doubt_event e a run.ranges after) run.rows as_many.0.0 row as_many.0.1 members run.ascending certain
+
+  search : IsSearch r source g a e after
+  search = record {
+    asked = record { has_schema = granted.has_schema; complete = granted.complete; environment = granted.environment; finite = granted.finite };
+    named = granted.named;
+    none_out = granted.none_out;
+  }
+
+  -- the text of the last row names it
+  named : IsLineOf e a.comps (binding_text (spellings g) a.comps row) row
+  named =
+      let has : HasEvents e a after (Some row) events = record { ranges = run.ranges; of_components = run.of_components; listed = listed } in
+      let line_of = resuming r source g a e after (Some row) events row_event.0 search has row_event.1 in
+      subst (λ h. IsLineOf e a.comps (binding_text (spellings h) a.comps row) row) granted.environment.0
+      (subst (λ x. IsLineOf e a.comps (binding_text (spellings e.globals) a.comps x) x) row_event.2 line_of)
+
+  next_granted : IsGranted next source g a e (Some row)
+  next_granted = record {
+    has_schema = record { checks = granted.has_schema.checks; named = granted.has_schema.named };
+    complete = granted.complete;
+    environment = granted.environment;
+    finite = granted.finite;
+    named = named;
+    none_out = granted.none_out;
+  }
+
+  no_tests : (tests : Bool) (start last : Option (List Value)) (counted : List ℕ) → tests ≡ false → IsTestsLine tests e a start last counted → counted ≡ []
+  no_tests tests start last counted none told = subst (λ b. IsTestsLine b e a start last counted) none told
+
+  module _ (shown : ShowsEvents next g a e (Some row) second t) where
+    same_ranges : shown.listed.ranges ≡ run.ranges
+    same_ranges = let there = shown.listed in one_ranges e a there.ranges run.ranges there.of_components run.of_components
+
+    there_listed : AreEventsUpTo value_order (property e a.conjuncts) run.ranges (Some row) shown.last shown.events
+    there_listed = let there = shown.listed in subst (λ ranges. AreEventsUpTo value_order (property e a.conjuncts) ranges (Some row) shown.last shown.events) same_ranges there.listed
+
+    both_have : HasEvents e a after shown.last (events ++ shown.events)
+    both_have = record {
+      ranges = run.ranges;
+      of_components = run.of_components;
+      listed = both_listed value_order order_laws.total-law exact (property e a.conjuncts) run.ranges after row shown.last events shown.events listed there_listed row_event
+          (last_event line limit shown.events shown.last shown.lines t shown.ends);
+    }
+
+    limits : together (length events) limit ≡ together n limit
+    limits = ap (λ k. together k limit) (length-map run.rows (λ x. with_truth x True) ∙ (let q : Some n ≡ Some (length run.rows) = as_many.1 in cc))
+
+    both_end : IsWritten line (together n limit) (events ++ shown.events) shown.last (lines line events ++ shown.lines) t
+    both_end = subst (λ l. IsWritten line l (events ++ shown.events) shown.last (lines line events ++ shown.lines) t) limits
+        (both_written line limit events shown.events shown.last shown.lines t hold shown.ends)
+
+    text_of_both : flat_map line run.rows ++ second ≡ (lines line events ++ shown.lines) ++ []
+    text_of_both =
+        let none : shown.counted ≡ [] = no_tests r.tests (Some row) shown.last shown.counted untold shown.numbered in
+        let text : second ≡ shown.lines = shown.whole ∙ ap (λ c. shown.lines ++ c) none ∙ append-nil shown.lines in
+        ap (λ u. flat_map line run.rows ++ u) text ∙ ap (λ u. u ++ shown.lines) (sym (flat_map-map (λ (x : Event Value). line x.row) (λ x. with_truth x True) run.rows))
+        ∙ sym (append-nil (lines line events ++ shown.lines))
+
+    both_shown : AnswersRequest (limited (together n limit) r) file source (flat_map line run.rows ++ second) t
+    both_shown = inr (ShowAnswer.bindings g a e after shown.last (events ++ shown.events) (lines line events ++ shown.lines) []
+        (record { asked = record { has_schema = record { checks = granted.has_schema.checks; named = granted.has_schema.named }; complete = granted.complete; environment = granted.environment; finite = granted.finite }; named = granted.named; none_out = granted.none_out })
+        both_have both_end (subst (λ b. IsTestsLine b e a after shown.last []) (sym untold) refl) text_of_both)
+
+pub runs_make_one : LinesAreRows → RunsMakeOne
+runs_make_one resuming r n limit file source g a e after first second s t run row granted untold more at answer =
+    both_shown resuming r n limit file source g a e after first second s t run row granted untold more at
+    (events_are_shown (resumed (binding_text (spellings g) a.comps row) limit r) file source g a e (Some row) second t
+    (next_granted resuming r n limit file source g a e after first second s t run row granted untold more at) answer)

@@ -1,0 +1,36 @@
+-- Words that are refused ask for no work.
+use Rattle.std.proofs.Common.{◌≡◌, ℕ, zero, suc, List, [], ◌∷◌, Option, Some, None, sym, ◌∙◌, arith, inl, inr, subst, codes}
+use Rattle.std.specs.List.{AllZip, Contains}
+use Rattle.std.proofs.lemmas.Option.{same_Some}
+use Rattle.clap.specs.Words.{IsAmong, Row, Text, first_of}
+use Rattle.zf_command.specs.declared.job.Asked.TheVariants.{Work}
+use Rattle.zf_command.specs.declared.job.Job.{Job}
+use Rattle.zf_command.specs.declared.job.Job.TheVariants.{Check, Show}
+use Rattle.zf_command.specs.declared.job.Size.{Size}
+use Rattle.zf_command.specs.Jobs.{HasBadLimit, IsAsked, IsJob, IsLimit, IsRefused, ReadsSize, Refuses, values_of}
+
+-- each word of which the sizes are read is one
+size_of : (words : List Text) (sizes : List Size) (word : Text) → AllZip ReadsSize words sizes → Contains words word → (size : Size) × ReadsSize word size
+size_of [] sizes word all (k, h, e) = absurd (omega arith)
+size_of (w ∷ words) [] word all m = absurd all
+size_of (w ∷ words) (z ∷ sizes) word all (zero, h, e) = (z, subst (λ v. ReadsSize v z) e all.0)
+size_of (w ∷ words) (z ∷ sizes) word all (suc k, h, e) = size_of words sizes word all.1 (k, omega arith, e)
+
+-- a limit that is read is not bad
+no_bad_limit : (given : Option Text) (limit : Option ℕ) → HasBadLimit given → IsLimit given limit → ⊥
+no_bad_limit None limit bad is = bad
+no_bad_limit (Some digits) None bad is = is
+no_bad_limit (Some digits) (Some n) bad is = bad n is
+
+not_both : (name : Text) (rows : List Row) (job : Job) → Refuses name rows → IsJob name rows job → ⊥
+not_both name rows (Check types) (other, bad) (is, flagged) = other is
+not_both name rows (Show schema sizes after limit tests) (other, inl (word, among, bad)) (named, is, read, asked, bound, flagged) =
+    let size = size_of (values_of (codes "NAME=SIZE") rows) sizes word read among in bad size.0 size.1
+not_both name rows (Show schema sizes after limit tests) (other, inr bad) (named, is, read, asked, bound, flagged) =
+    no_bad_limit (first_of (codes "limit") rows) limit bad bound
+
+pub refused_ask_no_work : (words : List Text) (file : Text) (job : Job) → IsRefused words → IsAsked words (Work file job) → ⊥
+refused_ask_no_work words file job (inl (cause, among, memory, help)) (name, rows, are, asks) = subst (IsAmong cause) are.0 among
+refused_ask_no_work words file job (inr (name, rows, are, refuses)) (other, others, matched, asks) =
+    let same : (name, rows) ≡ (other, others) = same_Some (name, rows) (other, others) (sym are.1 ∙ matched.1) in
+    not_both other others job (subst (λ (p : Text × List Row). Refuses p.0 p.1) same refuses) asks.1

@@ -1,0 +1,52 @@
+-- What the carrier of a type is: the set of exactly the type's values, and the outcome of the expression that spells the type.
+use Rattle.std.specs.Prelude.{◌≡◌, ◌↔◌, ℕ, List, Some}
+use Rattle.zf_scan.specs.declared.token.Constant.TheVariants.{Integers}
+use Rattle.zf_scan.specs.declared.token.Prefix.TheVariants.{Power}
+use Rattle.zf_text.specs.declared.tree.Sign.TheVariants.{Symbol}
+use Rattle.zf_term.specs.declared.operator.Listed.TheVariants.{Product}
+use Rattle.zf_term.specs.declared.operator.Unary.TheVariants.{Sign}
+use Rattle.zf_term.specs.declared.resolved.Reference.TheVariants.{Global}
+use Rattle.zf_term.specs.Definitions.{Defined}
+use Rattle.zf_term.specs.FirstNamed.{first_named}
+use Rattle.zf_term.specs.ResolvedTrees.{ResolvedTree, reference, constant, listed, unary, ResolvedTrees, no_terms, term}
+use Rattle.zf_term.specs.Types.{Ty, int, basic, power, product, Tys, no_types, type}
+use Rattle.zf_value.specs.declared.value.Value.{Value}
+use Rattle.zf_value.specs.declared.value.Outcome.{Outcome}
+use Rattle.zf_value.specs.declared.value.Outcome.TheVariants.{Is}
+use Rattle.zf_value.specs.Sets.{IsMember, members}
+use Rattle.zf_meaning.specs.declared.sizes.Size.{Size}
+use Rattle.zf_meaning.specs.Carriers.{IsCarrier}
+use Rattle.zf_meaning.specs.Environments.{Environment, definition_number, globally}
+use Rattle.zf_meaning.specs.GlobalOutcomes.{IsEnvironment}
+use Rattle.zf_meaning.specs.Meaning.{HasOutcome}
+use Rattle.zf_meaning.specs.Rows.{IsOfType}
+
+-- ---- its members
+
+-- A carrier that is a value is a set of values of the type, and has each of them.
+abbrev pub CarriersAreExact : Type 0
+CarriersAreExact = (e : Environment) (t : Ty) (v : Value) → IsCarrier e t (Is v) → IsOfType e (power t) v × ((z : Value) → IsMember z (members v) ↔ IsOfType e t z)
+
+-- ---- as an outcome
+
+-- the global at this place is the given set or free type of the name
+abbrev pub IsTypeAt : List Defined → (name : List ℕ) → (place : ℕ) → Type 0
+IsTypeAt g name place = (d : Defined) × (n : ℕ) × (first_named (λ d. d.name) name g ≡ Some (place, d)) × (definition_number d.definition ≡ Some n)
+
+-- the expression spells the type, by `\num`, given sets, free types, power sets and products
+abbrev mutual
+  pub Spells : List Defined → Ty → ResolvedTree → Type 0
+  Spells g int x = (line : ℕ) × (x ≡ constant line Integers)
+  Spells g (basic name) x = (line place : ℕ) × IsTypeAt g name place × (x ≡ reference line (Global place))
+  Spells g (power t) x = (line : ℕ) × (y : ResolvedTree) × Spells g t y × (x ≡ unary line (Sign (Symbol Power)) y)
+  Spells g (product ts) x = (line : ℕ) × (ys : ResolvedTrees) × SpellAll g ts ys × (x ≡ listed line Product ys)
+
+  pub SpellAll : List Defined → Tys → ResolvedTrees → Type 0
+  SpellAll g no_types ys = ys ≡ no_terms
+  SpellAll g (type t ts) ys = (z : ResolvedTree) × (zs : ResolvedTrees) × Spells g t z × SpellAll g ts zs × (ys ≡ term z zs)
+
+-- The carrier of a type is the outcome of each expression that spells it.
+abbrev pub CarriersAreOutcomes : Type 0
+CarriersAreOutcomes =
+    (g : List Defined) (stated : List Size) (e : Environment) (t : Ty) (x : ResolvedTree) (o : Outcome)
+    → IsEnvironment g stated e → Spells g t x → IsCarrier e t o ↔ HasOutcome (globally e) x o
