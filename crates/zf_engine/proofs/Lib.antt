@@ -4,3 +4,4 @@ pub mod Within
 pub mod OwnComponents
 pub mod DueWithin
 pub mod NamedRows
+pub mod Statuses

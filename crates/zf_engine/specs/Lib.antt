@@ -2,3 +2,4 @@ pub mod Faults
 pub mod Texts
 pub mod Answers
 pub mod Stops
+pub mod Statuses

@@ -1,7 +1,8 @@
 //! All that the program does: words in, a status out.
-ghost use Rattle.std.specs.Prelude.{◌≡◌, ◌≤◌};
+ghost use Rattle.std.specs.Prelude.{◌≡◌, ◌≤◌, ◌⊎◌, map};
 ghost use Rattle.zf_engine.specs.Answers.{IsLimited};
 ghost use Rattle.zf_engine.specs.Faults.{number_max, refused_number};
+ghost use Rattle.zf_engine.specs.Statuses.{IsStatus, IsStatusOfRefused, IsWorkStatus};
 
 use crate::run::run;
 use std::convert::AsStr;
@@ -16,7 +17,9 @@ use zf_lines::fault::RunFault;
 
 /// Does what the words after the program's own name ask for. The answer is the status.
 pub fn program<R: Files + Input + Print + Eprint + AllocGlobal, S: AsStr>(rt: &R, words: &[S]) -> u8
-    ensures { result ≤ number_max }
+    ensures bound { result ≤ number_max }
+    ensures status { IsStatus (map S.text words.now) result }
+    ensures refused { IsStatusOfRefused (map S.text words.now) result }
 {
     match job_of(rt.alloc(), words) {
         Ok(Asked::Work(file, job)) => work(rt, file.as_str(), &job),
@@ -37,7 +40,7 @@ pub fn refuse<R: Eprint>(rt: &R, fault: UsageFault) -> u8
 
 /// Writes the text of help.
 fn help<R: Print + Eprint>(rt: &R, text: &str) -> u8
-    ensures { result ≤ number_max }
+    ensures { (result ≡ 0) ⊎ (result ≡ 5) }
 {
     match rt.print(text) {
         Ok(()) => 0,
@@ -48,7 +51,7 @@ fn help<R: Print + Eprint>(rt: &R, text: &str) -> u8
 /// Does the job on the file, which is standard input where it is `-`.
 fn work<R: Files + Input + Print + Eprint + AllocGlobal>(rt: &R, file: &str, job: &Job) -> u8
     requires { IsLimited job.now }
-    ensures { result ≤ number_max }
+    ensures { IsWorkStatus job.now file.now result }
 {
     if file == "-" {
         return work_over(rt, file, job, rt.reader());
@@ -70,7 +73,7 @@ fn work_over<R: Print + Eprint + AllocGlobal, D: Read + Drop>(
     device: D,
 ) -> u8
     requires { IsLimited job.now }
-    ensures { result ≤ number_max }
+    ensures { IsWorkStatus job.now file.now result }
 {
     let mut reader = Counted::new(device);
     let mut writer = Counted::new(io::writer(rt));

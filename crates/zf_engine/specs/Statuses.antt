@@ -1,0 +1,35 @@
+-- The status that a process ends with, by what its words ask for.
+use Rattle.std.specs.Prelude.{◌≡◌, ◌⊎◌, ℕ, List, []}
+use Rattle.zf_command.specs.declared.job.Asked.TheVariants.{Help, Work}
+use Rattle.zf_command.specs.declared.job.Job.{Job}
+use Rattle.zf_command.specs.Jobs.{IsAsked, IsRefused}
+use Rattle.zf_lines.specs.declared.fault.Status.{Status}
+use Rattle.zf_lines.specs.Faults.{number}
+use Rattle.zf_engine.specs.Answers.{Answer}
+
+-- the number of the status of an answer of the job on some source: which bytes the file has is not known here
+abbrev pub IsAnswered : Job → (file : List ℕ) → ℕ → Type 0
+IsAnswered job file n = (source text : List ℕ) × (status : Status) × Answer job file source text status × (n ≡ number status)
+
+-- the work is answered; or memory ran out, which is 4; or the file can't be opened, or a read or a write failed, which is 5
+abbrev pub IsWorkStatus : Job → (file : List ℕ) → ℕ → Type 0
+IsWorkStatus job file n = IsAnswered job file n ⊎ ((n ≡ 4) ⊎ (n ≡ 5))
+
+-- The status of words after the program's own name.
+pub data IsStatus (words : List (List ℕ)) (n : ℕ) : Type 0 where
+  -- the words are refused
+  refused : IsRefused words → n ≡ 2 → IsStatus words n
+  -- their help is written, or its write failed
+  helped : (text : List ℕ) → IsAsked words (Help text) → (n ≡ 0) ⊎ (n ≡ 5) → IsStatus words n
+  -- they ask for work
+  worked : (file : List ℕ) (job : Job) → IsAsked words (Work file job) → IsWorkStatus job file n → IsStatus words n
+  -- memory ran out before it was known what they ask for
+  unread : n ≡ 4 → IsStatus words n
+
+-- `clap` may answer the words with help
+abbrev pub AsksForHelp : List (List ℕ) → Type 0
+AsksForHelp words = IsAsked words (Help [])
+
+-- the words are refused, and no help is asked for, so the status is 2, or 4 where memory ran out
+abbrev pub IsStatusOfRefused : List (List ℕ) → ℕ → Type 0
+IsStatusOfRefused words n = IsRefused words → (AsksForHelp words → ⊥) → (n ≡ 2) ⊎ (n ≡ 4)
