@@ -1,8 +1,8 @@
 //! The operations that make tuples and sets.
-ghost use Rattle.std.specs.Prelude.{◌≡◌, ◌↔◌, ◌++◌, IsTrue, IfOk, OnOk};
+ghost use Rattle.std.specs.Bool.{MatchBool};
+ghost use Rattle.std.specs.Prelude.{◌≡◌, ◌↔◌, ◌*◌, ◌≤◌, ◌++◌, length, IsTrue, IfOk, OnOk};
 ghost use Rattle.zf_value.specs.Operations.{pair, IsPair, IsTuple, IsEmptySet, IsElement, AreElements, IsDisplay, IsUnion, IsIntersection, IsSetDifference, IsSize};
-ghost use Rattle.zf_value.specs.Sets.{IsMember, IsAscending, AreAmong, IsRegular, AreRegular, IsRegularSet, IsRegularOutcome};
-ghost use Rattle.zf_value.specs.Steps.{HaveSameMembers};
+ghost use Rattle.zf_value.specs.Sets.{IsMember, IsAscending, AreAmong, HaveSameMembers, IsRegular, AreRegular, IsRegularSet, IsRegularOutcome};
 
 use crate::SET_MAX;
 use crate::items::Items;
@@ -39,6 +39,19 @@ pub fn display(alloc: Global, mut values: Vec<Value>) -> Result<Outcome, AllocEr
 {
     make_ascending(&mut values)?;
     set_of(alloc, values)
+}
+
+/// Whether these are known to have more different values than a set may have. Drops repeats where there are many.
+/// What gathers values asks this after each step, so that it never holds more than a few times as many.
+pub fn is_too_many(values: &mut Vec<Value>) -> Result<bool, AllocError>
+    ensures members { OnOk result (HaveSameMembers values.old.items values.new.items) }
+    ensures told { IfOk result (λ b. MatchBool b (IsDisplay values.new.items Outcome.Out) (length values.new.items ≤ 2 * SET_MAX)) }
+{
+    if values.len() <= 2 * SET_MAX {
+        return Ok(false);
+    }
+    make_ascending(values)?;
+    Ok(values.len() > SET_MAX)
 }
 
 /// The elements of the type of this number, which has so many.
