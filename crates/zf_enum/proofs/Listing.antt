@@ -2,10 +2,9 @@
 use Rattle.std.proofs.Common.{◌≡◌, ◌⊎◌, ◌↔◌, ℕ, zero, suc, ◌+◌, ◌<◌, ◌≤◌, List, [], ◌∷◌, ◌++◌, length, take, get_or, sym, subst, inl, inr, ⊎_elim, add-one, arith}
 use Rattle.std.specs.declared.cmp.Ordering.TheVariants.{Less}
 use Rattle.zf_value.specs.declared.value.Value.{Value}
-use Rattle.zf_value.specs.Sets.{value_order, IsMember, IsAscending, IsRegular, AreRegular, IsRegularSet, members}
+use Rattle.zf_value.specs.Sets.{value_order, IsMember, IsAscending, HaveSameMembers, IsRegular, AreRegular, IsRegularSet, members}
 use Rattle.zf_value.proofs.Among.{every_from, every_at, member_at, members-take_more, members-push, members-append, take_all, ascending-push}
 use Rattle.zf_value.proofs.Regulars.{regular_member, are_regular}
-use Rattle.zf_value.specs.Steps.{HaveSameMembers}
 use Rattle.zf_value.specs.declared.value.Outcome.{Outcome}
 use Rattle.zf_value.specs.declared.value.Outcome.TheVariants.{Undefined}
 use Rattle.zf_enum.specs.Parts.{Lists, Grows, IsListed, IsIn}

@@ -6,8 +6,8 @@ use Rattle.zf_value.specs.declared.value.Outcome.TheVariants.{Is, Undefined, Out
 use Rattle.zf_value.specs.declared.value.Truth.{Truth}
 use Rattle.zf_value.specs.declared.value.Truth.TheVariants as truth
 use Rattle.zf_value.specs.Operations.{IsDisplay}
-use Rattle.zf_value.specs.Sets.{IsMember}
-use Rattle.zf_value.proofs.Among.{members-push}
+use Rattle.zf_value.specs.Sets.{IsMember, HaveSameMembers}
+use Rattle.zf_value.proofs.Among.{members-push, every_also}
 use Rattle.zf_value.proofs.Making.{same_set}
 use Rattle.zf_meaning.specs.Building.{AddsRow}
 use Rattle.zf_meaning.specs.Meaning.{IsBuiltBy, IsWithinBounds, IsBuiltOver}
@@ -52,6 +52,15 @@ built-more F T done old new v f g a h =
 -- out by a row that R admits
 pub built-out : (R : List Value → Type 0) (F : List Value → Truth → Type 0) (T : List Value → Outcome → Type 0) (old new : List Value) (v : List Value) → R v → AddsRow (F v) (T v) old new false → IsBuiltOver R F T Out
 built-out R F T old new v r a = inl (v, r, a)
+
+pub built-same : (F : List Value → Truth → Type 0) (T : List Value → Outcome → Type 0) (done : List (List Value)) (old new : List Value) → HaveSameMembers old new → HasBuilt F T done old → HasBuilt F T done new
+unfolding HaveSameMembers
+built-same F T done old new s h = record { within = h.within; members = λ z. (λ m. (h.members z).0 ((s z).1 m), λ p. (s z).0 ((h.members z).1 p)) }
+
+-- out by the values of the rows that are done, which are more than a set may have
+pub built-too-many : (R : List Value → Type 0) (F : List Value → Truth → Type 0) (T : List Value → Outcome → Type 0) (done : List (List Value)) (built : List Value) → ((vs : List Value) → IsAmong vs done → R vs) → HasBuilt F T done built → IsDisplay built Out → IsBuiltOver R F T Out
+unfolding IsDisplay
+built-too-many R F T done built s h d = inr (d.0, d.1, d.2, every_also (λ z. IsMember z built) (IsBuiltBy R F T) d.0 (λ z m. let p = (h.members z).0 m in (p.0, s p.0 p.1, p.2, p.3)) d.3)
 
 -- of all rows
 pub built-all : (R : List Value → Type 0) (F : List Value → Truth → Type 0) (T : List Value → Outcome → Type 0) (done : List (List Value)) (built : List Value) (o : Outcome) → ((vs : List Value) → R vs → IsAmong vs done) → ((vs : List Value) → IsAmong vs done → R vs) → HasBuilt F T done built → IsDisplay built o → IsBuiltOver R F T o

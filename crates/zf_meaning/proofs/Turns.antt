@@ -1,5 +1,5 @@
 -- One turn of a walk over rows, for a quantifier and for a builder.
-use Rattle.std.proofs.Common.{◌≡◌, ◌<◌, Bool, true, false, List, [], length, ap, subst, arith}
+use Rattle.std.proofs.Common.{◌≡◌, ◌<◌, Bool, true, false, List, [], ◌∷◌, length, ap, subst, arith}
 use Rattle.std.specs.Bool.{MatchBool}
 use Rattle.zf_scan.specs.declared.token.Quantifier.{Quantifier}
 use Rattle.zf_term.specs.ResolvedTrees.{ResolvedTree, ResolvedPart}
@@ -11,7 +11,7 @@ use Rattle.zf_meaning.specs.Environments.{Context, within}
 use Rattle.zf_meaning.specs.Meaning.{IsConstraint, IsTruth, Builds}
 use Rattle.zf_meaning.specs.Rowed.{ahead, IsNext}
 use Rattle.zf_meaning.specs.Truths.{IsTold}
-use Rattle.zf_meaning.proofs.Builds.{IsSingle}
+use Rattle.zf_meaning.proofs.Builds.{IsSingle, HasBuilt, built-more}
 use Rattle.zf_meaning.proofs.Told.{EachOne}
 use Rattle.zf_meaning.proofs.Unique.{one_constraint, one_build, one_truth, one_told_of}
 use Rattle.zf_meaning.proofs.Walking.{FilterIn, TermIn, ToldIn}
@@ -40,6 +40,11 @@ one-filter c p vs x y h k = one_constraint (within c vs) p x y h k
 
 pub one-term : (c : Context) (e : ResolvedPart) → IsSingle (TermIn c e)
 one-term c e vs x y h k = one_build (within c vs) vs e x y h k
+
+-- what a builder has built, with what the row that is bound adds
+pub built-here : (d c : Context) (vs ws : List Value) (p e : ResolvedPart) (done : List (List Value)) (old new : List Value) (b : Bool) → d ≡ within c vs → ws ≡ vs → b ≡ true → AddsRow (λ u. IsConstraint d p u) (λ x. Builds d ws e x) old new b → HasBuilt (FilterIn c p) (TermIn c e) done old → HasBuilt (FilterIn c p) (TermIn c e) (vs ∷ done) new
+built-here d c vs ws p e done old new b s w t a h =
+    built-more (FilterIn c p) (TermIn c e) done old new vs (one-filter c p) (one-term c e) (adds-here d c vs ws p e old new b true s w t a) h
 
 pub one-told : (c : Context) (q : Quantifier) (p : ResolvedPart) (e : ResolvedTree) → EachOne (ToldIn c q p e)
 one-told c q p e vs x y h k = one_told_of q (λ a. IsConstraint (within c vs) p a) (λ b. IsTruth (within c vs) e b) (λ a b. one_constraint (within c vs) p a b) (λ a b. one_truth (within c vs) e a b) x y h k

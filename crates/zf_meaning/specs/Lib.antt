@@ -7,7 +7,6 @@ pub mod Sizes
 pub mod GlobalOutcomes
 pub mod Rows
 pub mod Carriers
-pub mod DeclaredRanges
 pub mod Laws
 pub mod Envs
 pub mod InRow

@@ -131,8 +131,3 @@ abbrev mutual
   pub AreLinked : Context → Outcome → ResolvedLinks → Truth → Type 0
   AreLinked c x no_links u = u ≡ truth.True
   AreLinked c x (link r t ks) u = (y : Outcome) × HasOutcome c t y × IsConjunction (λ p. IsLink (infinite_right c r t) r x y p) (λ q. AreLinked c y ks q) u
-
--- the truth of a whole binding is the conjunction of the schema's conjuncts
-abbrev pub IsTruthOfAll : Context → List ResolvedTree → Truth → Type 0
-IsTruthOfAll c [] u = u ≡ truth.True
-IsTruthOfAll c (t ∷ ts) u = IsConjunction (λ p. IsTruth c t p) (λ q. IsTruthOfAll c ts q) u

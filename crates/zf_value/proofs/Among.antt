@@ -1,9 +1,15 @@
 -- Members of lists, and lists in order.
-use Rattle.std.proofs.Common.{IsTrue, false, ◌≡◌, ◌⊎◌, ◌↔◌, ℕ, zero, suc, ◌+◌, ◌<◌, ◌≤◌, List, [], ◌∷◌, ◌++◌, length, take, drop, get_or, refl, sym, ap, ◌∙◌, subst, inl, inr, ⊎_elim, Less, arith, add-one}
-use Rattle.std.specs.List.{Contains, AllByRecursion}
+use Rattle.std.proofs.Common.{IsTrue, true, false, ◌≡◌, ◌⊎◌, ◌↔◌, ℕ, zero, suc, ◌+◌, ◌-◌, ◌<◌, ◌≤◌, List, [], ◌∷◌, ◌++◌, length, take, drop, get_or, refl, sym, ap, ◌∙◌, subst, inl, inr, ⊎_elim, Less, arith, add-one}
+use Rattle.std.specs.List.{Contains, AllByRecursion, AllAdjacentBelow}
+use Rattle.std.specs.Ordering.{is_lt}
+use Rattle.std.specs.declared.cmp.Ordering.{Ordering}
+use Rattle.std.specs.declared.cmp.Ordering.TheVariants.{Equal, Greater}
 use Rattle.std.specs.List.Sorted.{IsStrictlySortedBy}
 use Rattle.std.proofs.lemmas.Cmp.{tied_itself}
+use Rattle.std.proofs.lemmas.List.{get_or_default}
 use Rattle.std.proofs.lemmas.List.Elements.{Contains-get_or}
+use Rattle.std.proofs.lemmas.List.Sorted.{all_adjacent_more}
+use Rattle.std.proofs.lemmas.Map.Keys.{sorted_from_all_adjacent}
 use Rattle.zf_value.specs.declared.value.Value.{Value}
 use Rattle.zf_value.specs.contracts.value.ValueOrd.TheImpl.Laws.{total-law}
 use Rattle.zf_value.specs.Sets.{value_order, IsMember, Every, IsAscending, AreAmong}
@@ -108,6 +114,28 @@ below_at [] i j d h l m = absurd (omega arith)
 below_at (x ∷ xs) i zero d h l m = absurd (omega arith)
 below_at (x ∷ xs) zero (suc j) d h l m = every_at (λ y. value_order x y ≡ Less) xs _ h.0 (member xs _ (Contains-get_or xs j d (omega arith)))
 below_at (x ∷ xs) (suc i) (suc j) d h l m = below_at xs i j d h.1 (omega arith) (omega arith)
+
+-- ---- a list of which each value was compared with the next
+
+abbrev pub IsBefore : Value → Value → Type 0
+IsBefore x y = value_order x y ≡ Less
+
+is_less : (o : Ordering) → is_lt o ≡ true → o ≡ Less
+is_less Less e = refl
+is_less Equal e = (cc)
+is_less Greater e = (cc)
+
+pub adjacent_more : (xs : List Value) (i : ℕ) (x y : Value) (o : Ordering) → 1 ≤ i → i < length xs → x ≡ get_or xs (i - 1) x → y ≡ get_or xs i y → o ≡ value_order x y → is_lt o ≡ true → AllAdjacentBelow IsBefore xs i → AllAdjacentBelow IsBefore xs (i + 1)
+adjacent_more xs i x y o p l e f s t h =
+    all_adjacent_more xs IsBefore i (omega (arith, p)) h (λ d.
+    let at_x : get_or xs (i - 1) d ≡ x = get_or_default xs (i - 1) d x (omega (arith, p, l)) ∙ sym e in
+    let at_y : get_or xs i d ≡ y = get_or_default xs i d y l ∙ sym f in
+    let both : value_order x y ≡ Less = sym s ∙ is_less o t in
+    rw (at_x, at_y) both)
+
+pub ascending_by_adjacent : (xs : List Value) (n : ℕ) → length xs ≤ n → AllAdjacentBelow IsBefore xs n → IsAscending xs
+ascending_by_adjacent [] n l h = tt
+ascending_by_adjacent (x ∷ xs) n l h = ascending (x ∷ xs) (sorted_from_all_adjacent total-law (x ∷ xs) x (λ k m. h k x (omega (arith, l, m))))
 
 -- an ascending list with one more at its end
 pub ascending-push : (xs : List Value) (y : Value) → IsAscending xs → Every (λ x. value_order x y ≡ Less) xs → IsAscending (xs ++ y ∷ [])

@@ -1,22 +1,19 @@
 -- What composition and overriding list.
-use Rattle.std.proofs.Common.{◌≡◌, ◌⊎◌, ◌↔◌, ℕ, ◌+◌, ◌<◌, ◌≤◌, List, [], ◌∷◌, ◌++◌, length, take, get_or, Bool, true, false, ltb, refl, sym, ap, ◌∙◌, subst, inl, inr, ⊎_elim, Result, arith, add-one}
-use Rattle.std.specs.Bool.{OnTrue}
+use Rattle.std.proofs.Common.{◌≡◌, ◌⊎◌, ◌↔◌, ℕ, ◌+◌, ◌<◌, ◌≤◌, List, [], ◌∷◌, ◌++◌, length, take, get_or, refl, sym, ap, ◌∙◌, subst, inl, inr, ⊎_elim, Result, add-one}
 use Rattle.std.specs.Result.{IfOk}
-use Rattle.std.proofs.lemmas.Bool.{ltb-true}
 use Rattle.std.specs.declared.alloc.AllocError.{AllocError}
-use Rattle.zf_value.specs.declared.TheConstants.{SET_MAX}
 use Rattle.zf_value.specs.declared.part.Keep.TheVariants.{Others}
 use Rattle.zf_value.specs.declared.part.Part.TheVariants.{Whole, First}
 use Rattle.zf_value.specs.declared.value.Value.{Value}
 use Rattle.zf_value.specs.declared.value.Outcome.{Outcome}
 use Rattle.zf_value.specs.declared.value.Outcome.TheVariants.{Out}
 use Rattle.zf_value.specs.Operations.{pair, Relates, IsInDomain, IsPairOf, IsDisplay, IsComposition, IsOverriding}
-use Rattle.zf_value.specs.Sets.{IsMember, IsAscending, IsRegular, IsRegularSet}
-use Rattle.zf_value.specs.Steps.{HaveSameMembers, IsGathered, IsPartOf, IsSelected, AreRelated, AddsPairs}
+use Rattle.zf_value.specs.Sets.{IsMember, HaveSameMembers, IsRegular, IsRegularSet}
+use Rattle.zf_value.specs.Steps.{IsGathered, IsPartOf, IsSelected, AreRelated, AddsPairs}
 use Rattle.zf_value.proofs.Among.{members-append, members-push, members-take_more, take_all, every_also, before_in}
 use Rattle.zf_value.proofs.Gathered.{same_pair, gathered_more, gathered_pass}
 use Rattle.zf_value.proofs.Listed.{IsMade, related_regular, pair_of_regular, in_domain, by_first}
-use Rattle.zf_value.proofs.Making.{made, made_gathered, too_many}
+use Rattle.zf_value.proofs.Making.{made, made_gathered}
 use Rattle.zf_value.proofs.Regulars.{regular_member, regular-pair, regular_made}
 
 -- ---- the pairs of one value
@@ -84,21 +81,6 @@ composition_made r q all o h k g d =
 pub composition_out : (r q all : List Value) (i : ℕ) → IsGathered (Composes q) (take i r) all → IsDisplay all Out → IsComposition r q Out
 unfolding IsComposition IsGathered IsDisplay
 composition_out r q all i g d = (d.0, d.1, d.2, every_also (λ z. IsMember z all) (IsComposed r q) d.0 (λ w m. let s = (g w).0 m in (composed q r w).0 (s.0, before_in r i s.0 s.1, s.2)) d.3)
-
-pub same_list : (xs : List Value) → HaveSameMembers xs xs
-unfolding HaveSameMembers
-same_list xs z = (λ m. m, λ m. m)
-
-displayed_out : (xs : List Value) → IsAscending xs → SET_MAX < length xs → IsDisplay xs Out
-unfolding IsDisplay
-displayed_out xs h l = too_many (λ z. IsMember z xs) xs h l (λ z m. m)
-
-pub out_if_longer : (xs : List Value) (n : ℕ) → n ≡ length xs → IsAscending xs → OnTrue (ltb SET_MAX n) (IsDisplay xs Out)
-out_if_longer xs n e h = at (ltb SET_MAX n) refl
-  where
-    at : (b : Bool) → ltb SET_MAX n ≡ b → OnTrue b (IsDisplay xs Out)
-    at true f = let l = ltb-true SET_MAX n f in displayed_out xs h (omega (arith, l, e))
-    at false f = tt
 
 -- ---- overriding
 

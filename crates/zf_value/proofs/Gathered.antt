@@ -3,8 +3,8 @@ use Rattle.std.proofs.Common.{◌≡◌, ◌⊎◌, ◌↔◌, ℕ, ◌+◌, ◌
 use denote.Ref.{Bor}
 use Rattle.zf_value.specs.declared.value.Value.{Value}
 use Rattle.zf_value.specs.Operations.{pair}
-use Rattle.zf_value.specs.Sets.{IsMember, parts}
-use Rattle.zf_value.specs.Steps.{IsGathered, GivesJust, HaveSameMembers, IsPartOf, IsKept, IsSelected}
+use Rattle.zf_value.specs.Sets.{IsMember, HaveSameMembers, parts}
+use Rattle.zf_value.specs.Steps.{IsGathered, GivesJust, IsPartOf, IsKept, IsSelected}
 use Rattle.zf_value.specs.declared.part.Keep.{Keep}
 use Rattle.zf_value.specs.declared.part.Keep.TheVariants.{Members, Others}
 use Rattle.zf_value.specs.declared.part.Part.{Part}

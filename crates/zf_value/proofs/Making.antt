@@ -1,6 +1,8 @@
 -- The one way in which sets are made: from an ascending list of the values that pass.
-use Rattle.std.proofs.Common.{true, ◌≡◌, ◌↔◌, ℕ, ◌+◌, ◌<◌, ◌≤◌, List, [], length, take, sym, ap, ◌∙◌, subst, arith, length-take}
+use Rattle.std.proofs.Common.{Bool, true, false, ltb, ◌≡◌, ◌↔◌, ℕ, ◌+◌, ◌*◌, ◌<◌, ◌≤◌, List, [], length, take, refl, sym, ap, ◌∙◌, subst, arith, length-take}
+use Rattle.std.specs.Bool.{MatchBool}
 use Rattle.std.specs.Result.{IfOk}
+use Rattle.std.proofs.lemmas.Bool.{ltb-true, ltb-false}
 use Rattle.std.proofs.lemmas.Result.{IfOk-weaker}
 use Rattle.std.specs.List.Sorted.{IsPermutation, IsSorted}
 use Rattle.std.specs.List.Retain.{IsFiltered, DiffersFromLast}
@@ -18,8 +20,8 @@ use Rattle.zf_value.specs.contracts.value.ValuePartialEq.TheImpl as equality
 use Rattle.zf_value.specs.contracts.value.ValueEq.TheImpl.Laws as equal_laws
 use Rattle.zf_value.specs.contracts.value.ValueOrd.TheImpl.Laws as order_laws
 use Rattle.zf_value.specs.Operations.{IsDisplay}
-use Rattle.zf_value.specs.Sets.{value_order, IsMember, IsAscending, IsSetOf}
-use Rattle.zf_value.specs.Steps.{HaveSameMembers, IsGathered}
+use Rattle.zf_value.specs.Sets.{value_order, IsMember, IsAscending, HaveSameMembers, IsSetOf}
+use Rattle.zf_value.specs.Steps.{IsGathered}
 use Rattle.zf_value.proofs.Exact.{exact, is_eq_true}
 use Rattle.zf_value.proofs.Among.{every_from, every_also, every-take, ascending, ascending-take, contained, member}
 
@@ -63,6 +65,29 @@ sorted_out xs sorted ys moved order kept =
 pub made_here : (items xs : List Value) → items ≡ xs → IsAscending xs → length xs ≤ SET_MAX → IsDisplay xs (Is (SetOf items))
 unfolding IsDisplay
 made_here items xs e h l = (xs, ap SetOf e, h, l, λ z. (λ m. m, λ m. m))
+
+displayed_out : (xs : List Value) → IsAscending xs → SET_MAX < length xs → IsDisplay xs Out
+unfolding IsDisplay
+displayed_out xs h l = too_many (λ z. IsMember z xs) xs h l (λ z m. m)
+
+no_more_than_twice : (m n : ℕ) → m ≤ n → m ≤ 2 * n
+no_more_than_twice m n h = omega (arith, h)
+
+-- out where the list is longer than a set may be
+pub out_or_few : (xs : List Value) (n : ℕ) → n ≡ length xs → IsAscending xs → MatchBool (ltb SET_MAX n) (IsDisplay xs Out) (length xs ≤ 2 * SET_MAX)
+out_or_few xs n e h = at (ltb SET_MAX n) refl
+  where
+    at : (b : Bool) → ltb SET_MAX n ≡ b → MatchBool b (IsDisplay xs Out) (length xs ≤ 2 * SET_MAX)
+    at true f = let l = ltb-true SET_MAX n f in displayed_out xs h (omega (arith, l, e))
+    at false f = let l = ltb-false SET_MAX n f in no_more_than_twice (length xs) SET_MAX (omega (arith, l, e))
+
+pub out_told : (xs : List Value) (b : Bool) → b ≡ true → MatchBool b (IsDisplay xs Out) (length xs ≤ 2 * SET_MAX) → IsDisplay xs Out
+out_told xs true e h = h
+out_told xs false e h = (cc)
+
+pub same_list : (xs : List Value) → HaveSameMembers xs xs
+unfolding HaveSameMembers
+same_list xs z = (λ m. m, λ m. m)
 
 -- a set made of a list is made of another with the same members
 pub made_same : (xs ys : List Value) (r : Result Outcome AllocError) → HaveSameMembers xs ys → IfOk r (IsDisplay ys) → IfOk r (IsDisplay xs)

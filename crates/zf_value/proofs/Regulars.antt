@@ -11,7 +11,7 @@ use Rattle.zf_value.specs.declared.value.Outcome.{Outcome}
 use Rattle.zf_value.specs.declared.value.Outcome.TheVariants.{Is, Undefined, Out}
 use Rattle.zf_value.specs.Numbers.{IsNumber}
 use Rattle.zf_value.specs.Operations.{pair, IsDisplay}
-use Rattle.zf_value.specs.Sets.{IsMember, Every, IsAscending, IsSetOf, parts_at, parts, IsRegular, AreRegular, IsRegularSet, IsRegularOutcome, members}
+use Rattle.zf_value.specs.Sets.{IsMember, Every, IsAscending, HaveSameMembers, IsSetOf, parts_at, parts, IsRegular, AreRegular, IsRegularSet, IsRegularOutcome, members}
 use Rattle.zf_value.proofs.Among.{every_from, every_at, members-push}
 use Rattle.zf_value.proofs.Seen.{parts-Tuple, parts-SetOf, members-SetOf}
 
@@ -77,6 +77,10 @@ regular_member xs z h m = every_at IsRegular xs z h m
 pub are_regular : (xs : List Value) → ((z : Value) → IsMember z xs → IsRegular z) → AreRegular xs
 unfolding AreRegular
 are_regular xs f = every_from IsRegular xs f
+
+pub regular_same : (xs ys : List Value) → HaveSameMembers xs ys → AreRegular xs → AreRegular ys
+unfolding HaveSameMembers
+regular_same xs ys s h = are_regular ys (λ z m. regular_member xs z h ((s z).1 m))
 
 -- a list that grows
 pub regular-nothing : AreRegular []

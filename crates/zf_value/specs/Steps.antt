@@ -14,10 +14,6 @@ use Rattle.zf_value.specs.Numbers.{IsBetweenNumbers}
 use Rattle.std.specs.declared.alloc.Global.{Global}
 use denote.Ref.{Bor}
 
--- the lists have the same members
-unfoldable pub HaveSameMembers : List Value → List Value → Type 0
-HaveSameMembers xs ys = (z : Value) → IsMember z xs ↔ IsMember z ys
-
 -- the values that pass are w alone, or none
 unfoldable pub GivesJust : (Value → Type 0) → Option (Bor Value) → Type 0
 GivesJust P r = MatchOption r ((v : Value) → P v → ⊥) (λ w. (v : Value) → P v ↔ (w.now ≡ v))

@@ -1,13 +1,11 @@
 //! The operations on relations. A relation is a set of pairs; what is no pair relates nothing.
-ghost use Rattle.std.specs.Bool.{OnTrue};
 ghost use Rattle.std.specs.Prelude.{◌≡◌, ◌≤◌, length, slice_range, IfOk, IfSome, OnOk, MatchOption};
-ghost use Rattle.zf_value.specs.Operations.{pair, IsDisplay, IsDomain, IsRange, IsInverse, IsImage, IsComposition, IsOverriding, IsDomainRestriction, IsDomainSubtraction, IsRangeRestriction, IsRangeSubtraction, IsApplied};
+ghost use Rattle.zf_value.specs.Operations.{pair, IsDomain, IsRange, IsInverse, IsImage, IsComposition, IsOverriding, IsDomainRestriction, IsDomainSubtraction, IsRangeRestriction, IsRangeSubtraction, IsApplied};
 ghost use Rattle.zf_value.specs.Sets.{IsAscending, IsRegular, IsRegularSet, IsRegularOutcome};
-ghost use Rattle.zf_value.specs.Steps.{HaveSameMembers, AreRelated, AddsPairs, place_beside as place};
+ghost use Rattle.zf_value.specs.Steps.{AreRelated, AddsPairs, place_beside as place};
 
-use crate::SET_MAX;
 use crate::part::{Keep, Part, parts, selected};
-use crate::set::{copy_onto, display, make_ascending, tuple_of_two};
+use crate::set::{copy_onto, display, is_too_many, make_ascending, tuple_of_two};
 use crate::value::{Outcome, Value};
 use std::alloc::{AllocError, Global};
 use std::cmp::Ordering;
@@ -226,16 +224,4 @@ fn pair_all(
         }
     }
     Ok(())
-}
-
-/// Whether these are known to be more than a set may have. Drops repeats where there are many.
-fn is_too_many(values: &mut Vec<Value>) -> Result<bool, AllocError>
-    ensures members { OnOk result (HaveSameMembers values.old.items values.new.items) }
-    ensures out { IfOk result (λ b. OnTrue b (IsDisplay values.new.items Outcome.Out)) }
-{
-    if values.len() <= 2 * SET_MAX {
-        return Ok(false);
-    }
-    make_ascending(values)?;
-    Ok(values.len() > SET_MAX)
 }

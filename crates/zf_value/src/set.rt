@@ -1,8 +1,8 @@
 //! The operations that make tuples and sets.
-ghost use Rattle.std.specs.Prelude.{◌≡◌, ◌↔◌, ◌++◌, IsTrue, IfOk, OnOk};
+ghost use Rattle.std.specs.Bool.{MatchBool};
+ghost use Rattle.std.specs.Prelude.{◌≡◌, true, ◌↔◌, ◌*◌, ◌≤◌, ◌++◌, length, IsTrue, IfOk, OnOk};
 ghost use Rattle.zf_value.specs.Operations.{pair, IsPair, IsTuple, IsEmptySet, IsElement, AreElements, IsDisplay, IsUnion, IsIntersection, IsSetDifference, IsSize};
-ghost use Rattle.zf_value.specs.Sets.{IsMember, IsAscending, AreAmong, IsRegular, AreRegular, IsRegularSet, IsRegularOutcome};
-ghost use Rattle.zf_value.specs.Steps.{HaveSameMembers};
+ghost use Rattle.zf_value.specs.Sets.{IsMember, IsAscending, AreAmong, HaveSameMembers, IsRegular, AreRegular, IsRegularSet, IsRegularOutcome};
 
 use crate::SET_MAX;
 use crate::items::Items;
@@ -39,6 +39,19 @@ pub fn display(alloc: Global, mut values: Vec<Value>) -> Result<Outcome, AllocEr
 {
     make_ascending(&mut values)?;
     set_of(alloc, values)
+}
+
+/// Whether these are known to have more different values than a set may have. Drops repeats where there are many.
+/// What gathers values asks this after each step, so that it never holds more than a few times as many.
+pub fn is_too_many(values: &mut Vec<Value>) -> Result<bool, AllocError>
+    ensures members { OnOk result (HaveSameMembers values.old.items values.new.items) }
+    ensures told { IfOk result (λ b. MatchBool b (IsDisplay values.new.items Outcome.Out) (length values.new.items ≤ 2 * SET_MAX)) }
+{
+    if values.len() <= 2 * SET_MAX {
+        return Ok(false);
+    }
+    make_ascending(values)?;
+    Ok(values.len() > SET_MAX)
 }
 
 /// The elements of the type of this number, which has so many.
@@ -136,6 +149,9 @@ pub fn size(a: &[Value]) -> Outcome
 
 // ---- steps
 
+/// Half of the least room of which some is given back.
+const SPARE: usize = 8;
+
 /// Whether the value is among these.
 pub(crate) fn is_found(z: &Value, values: &[Value]) -> bool
     requires { IsAscending values.now }
@@ -149,20 +165,47 @@ pub(crate) fn make_ascending(values: &mut Vec<Value>) -> Result<(), AllocError>
     ensures ascending { OnOk result (IsAscending values.new.items) }
     ensures members { OnOk result (HaveSameMembers values.old.items values.new.items) }
 {
+    if is_ascending(values.as_slice()) {
+        return Ok(());
+    }
     values.sort()?;
     values.dedup();
     Ok(())
 }
 
+/// Whether each value is less than the next.
+fn is_ascending(values: &[Value]) -> bool
+    ensures { result ≡ true → IsAscending values.now }
+{
+    for place in 1..values.len() {
+        if !values[place - 1].cmp(&values[place]).is_lt() {
+            return false;
+        }
+    }
+    true
+}
+
 /// The set of these members.
-pub(crate) fn set_of(alloc: Global, members: Vec<Value>) -> Result<Outcome, AllocError>
+pub(crate) fn set_of(alloc: Global, mut members: Vec<Value>) -> Result<Outcome, AllocError>
     requires { IsAscending members.items }
     ensures { IfOk result (IsDisplay members.items) }
 {
     if members.len() > SET_MAX {
         return Ok(Outcome::Out);
     }
+    give_room_back(&mut members);
     Ok(Outcome::Is(Value::SetOf(Items::of(alloc, members)?)))
+}
+
+/// Gives room back where values fill less than half of it: what is gathered for a set may be many more values than its
+/// members.
+fn give_room_back(values: &mut Vec<Value>)
+    ensures { values.new.items ≡ values.old.items }
+{
+    let half = values.capacity() / 2;
+    if half >= SPARE && values.len() < half {
+        values.shrink_to_fit();
+    }
 }
 
 /// Copies the values behind the others.

@@ -184,6 +184,9 @@ fn built_over<'v, 'a, R: Row>(
         if !add_row(term, &mut built, locals.len(), &*row, rows.bound(), &*env)? {
             return Ok(Outcome::Out);
         }
+        if set::is_too_many(&mut built)? {
+            return Ok(Outcome::Out);
+        }
         if !rows.advance()? {
             return set::display(alloc, built);
         }

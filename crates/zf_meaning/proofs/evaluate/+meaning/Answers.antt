@@ -14,10 +14,10 @@ use Rattle.zf_meaning.specs.RangeSets.{declared_of}
 use Rattle.zf_meaning.specs.Truths.{IsConnected, IsTold, IsOver, IsQuantified}
 use Rattle.zf_meaning.specs.Tallies.{truth_by, is_settled}
 use Rattle.zf_meaning.proofs.Binding.{same-quantifier, same-constraint, quantified-told, builder-has}
-use Rattle.zf_meaning.proofs.Builds.{nothing, built-more, built-out, built-all}
+use Rattle.zf_meaning.proofs.Builds.{nothing, built-same, built-too-many, built-out, built-all}
 use Rattle.zf_meaning.proofs.Connecting.{decided-told, told-by}
 use Rattle.zf_meaning.proofs.Told.{IsTallied, none-tallied, one-more, settled-truth, told-of-all}
-use Rattle.zf_meaning.proofs.Turns.{moved, stuck, fewer, adds-here, told-here, one-filter, one-term, one-told}
+use Rattle.zf_meaning.proofs.Turns.{moved, stuck, fewer, adds-here, told-here, built-here, one-told}
 use Rattle.zf_meaning.proofs.Walking.{walk-begun, walk-next, walk-ended, walk-row, walk-done, walk-new, no-row, none-from, scope-row, bound-row, walk-scope, outside-bound, FilterIn, TermIn, ToldIn}
 use Rattle.zf_value.specs.Sets.{AreRegular, IsRegularOutcome}
 use Rattle.zf_meaning.specs.Found.{found_outcome}
@@ -33,7 +33,8 @@ use Rattle.zf_meaning.specs.Gathered.{several_of}
 use Rattle.zf_meaning.proofs.Tests.{plain-describes}
 use Rattle.zf_meaning.proofs.Operands.{power-told, both-told, arrows-told, interval-told, product-told}
 use Rattle.zf_meaning.proofs.Linking.{link-more, link-false, link-all, link-last, last-described, last-worked, chain-told}
-use Rattle.zf_value.proofs.Regulars.{regular-push}
+use Rattle.zf_value.proofs.Making.{out_told}
+use Rattle.zf_value.proofs.Regulars.{regular-push, regular_same}
 use Rattle.zf_meaning.proofs.Regulars.{regular-nothing, regular-rest, seen-rest}
 use Rattle.zf_meaning.proofs.evaluate.+meaning.Goals as goal
 
@@ -213,12 +214,13 @@ binders::built_over-loop-rows-preserved g t c =
     let inv = c.loop-rows.invariant in
     let next = moved outside c.loop-rows.rows c.advance.new.self c.in_ok-advance.field-0 c.if-not-branch-2.false (c.in_ok-advance.ensures outside inv.1.at) in
     let bound = ap seen c.bound.ensures ∙ inv.1.at.1 in
-    let here = scope-row c.args.env.now (g.R.Row.values c.args.row.now) c.args.locals.now c.bound.result.now row bound in (
+    let here = scope-row c.args.env.now (g.R.Row.values c.args.row.now) c.args.locals.now c.bound.result.now row bound in
+    let same = c.in_ok-is_too_many.ensures.members in (
       row ∷ inv.0,
       walk-next c.loop-rows.rows c.advance.new.self outside (spread c.args.sets.now) inv.0 inv.1 next,
-      c.in_ok-add_row.ensures.regular,
-      λ n rs p e is. built-more (FilterIn (scope_of c.args.env.now (g.R.Row.values c.args.row.now) c.args.locals.now) (part_of p)) (TermIn (scope_of c.args.env.now (g.R.Row.values c.args.row.now) c.args.locals.now) (part_of e)) inv.0 c.loop-rows.built.items c.add_row.new.built.items row (one-filter (scope_of c.args.env.now (g.R.Row.values c.args.row.now) c.args.locals.now) (part_of p)) (one-term (scope_of c.args.env.now (g.R.Row.values c.args.row.now) c.args.locals.now) (part_of e))
-          (adds-here _ (scope_of c.args.env.now (g.R.Row.values c.args.row.now) c.args.locals.now) row _ (part_of p) (part_of e) c.loop-rows.built.items c.add_row.new.built.items c.in_ok-add_row.field-0 true here (bound-row c.args.locals.now c.bound.result.now row bound) c.if-not-branch.false (c.in_ok-add_row.ensures.is n rs p e is)) (inv.3 n rs p e is),
+      regular_same _ _ same c.in_ok-add_row.ensures.regular,
+      λ n rs p e is. built-same (FilterIn (scope_of c.args.env.now (g.R.Row.values c.args.row.now) c.args.locals.now) (part_of p)) (TermIn (scope_of c.args.env.now (g.R.Row.values c.args.row.now) c.args.locals.now) (part_of e)) (row ∷ inv.0) c.add_row.new.built.items c.is_too_many.new.values.items same
+          (built-here _ (scope_of c.args.env.now (g.R.Row.values c.args.row.now) c.args.locals.now) row _ (part_of p) (part_of e) inv.0 c.loop-rows.built.items c.add_row.new.built.items c.in_ok-add_row.field-0 here (bound-row c.args.locals.now c.bound.result.now row bound) c.if-not-branch.false (c.in_ok-add_row.ensures.is n rs p e is) (inv.3 n rs p e is)),
     )
 
 pub binders::built_over-loop-rows-smaller : goal.binders::built_over-loop-rows-smaller
@@ -280,10 +282,26 @@ binders::built_over-returns-then-not-branch-2-clause-is g t c =
     let bound = ap seen c.bound.ensures ∙ inv.1.at.1 in
     let here = scope-row c.args.env.now (g.R.Row.values c.args.row.now) c.args.locals.now c.bound.result.now row bound in
     let none = stuck outside c.loop-rows.rows c.advance.new.self c.in_ok-advance.field-0 c.if-not-branch-2.true (c.in_ok-advance.ensures outside inv.1.at) in
-    let built = built-more (FilterIn (scope_of c.args.env.now (g.R.Row.values c.args.row.now) c.args.locals.now) (part_of p)) (TermIn (scope_of c.args.env.now (g.R.Row.values c.args.row.now) c.args.locals.now) (part_of e)) inv.0 c.loop-rows.built.items c.add_row.new.built.items row (one-filter (scope_of c.args.env.now (g.R.Row.values c.args.row.now) c.args.locals.now) (part_of p)) (one-term (scope_of c.args.env.now (g.R.Row.values c.args.row.now) c.args.locals.now) (part_of e))
-    (adds-here _ (scope_of c.args.env.now (g.R.Row.values c.args.row.now) c.args.locals.now) row _ (part_of p) (part_of e) c.loop-rows.built.items c.add_row.new.built.items c.in_ok-add_row.field-0 true here (bound-row c.args.locals.now c.bound.result.now row bound) c.if-not-branch.false (c.in_ok-add_row.ensures.is n rs p e is)) (inv.3 n rs p e is) in
-    IfOk-weaker c.display-then-not-branch-2.result (IsDisplay c.add_row.new.built.items) (IsBuiltOver (λ vs. AreFrom vs ss) (FilterIn (scope_of c.args.env.now (g.R.Row.values c.args.row.now) c.args.locals.now) (part_of p)) (TermIn (scope_of c.args.env.now (g.R.Row.values c.args.row.now) c.args.locals.now) (part_of e)))
-    (λ o h. built-all (λ vs. AreFrom vs ss) (FilterIn (scope_of c.args.env.now (g.R.Row.values c.args.row.now) c.args.locals.now) (part_of p)) (TermIn (scope_of c.args.env.now (g.R.Row.values c.args.row.now) c.args.locals.now) (part_of e)) (row ∷ inv.0) c.add_row.new.built.items o (walk-ended c.loop-rows.rows outside ss inv.0 inv.1 none) (walk-done c.loop-rows.rows outside ss inv.0 inv.1) built h) c.display-then-not-branch-2.ensures.is
+    let built = built-same (FilterIn (scope_of c.args.env.now (g.R.Row.values c.args.row.now) c.args.locals.now) (part_of p)) (TermIn (scope_of c.args.env.now (g.R.Row.values c.args.row.now) c.args.locals.now) (part_of e)) (row ∷ inv.0) c.add_row.new.built.items c.is_too_many.new.values.items c.in_ok-is_too_many.ensures.members
+    (built-here _ (scope_of c.args.env.now (g.R.Row.values c.args.row.now) c.args.locals.now) row _ (part_of p) (part_of e) inv.0 c.loop-rows.built.items c.add_row.new.built.items c.in_ok-add_row.field-0 here (bound-row c.args.locals.now c.bound.result.now row bound) c.if-not-branch.false (c.in_ok-add_row.ensures.is n rs p e is) (inv.3 n rs p e is)) in
+    IfOk-weaker c.display-then-not-branch-2.result (IsDisplay c.is_too_many.new.values.items) (IsBuiltOver (λ vs. AreFrom vs ss) (FilterIn (scope_of c.args.env.now (g.R.Row.values c.args.row.now) c.args.locals.now) (part_of p)) (TermIn (scope_of c.args.env.now (g.R.Row.values c.args.row.now) c.args.locals.now) (part_of e)))
+    (λ o h. built-all (λ vs. AreFrom vs ss) (FilterIn (scope_of c.args.env.now (g.R.Row.values c.args.row.now) c.args.locals.now) (part_of p)) (TermIn (scope_of c.args.env.now (g.R.Row.values c.args.row.now) c.args.locals.now) (part_of e)) (row ∷ inv.0) c.is_too_many.new.values.items o (walk-ended c.loop-rows.rows outside ss inv.0 inv.1 none) (walk-done c.loop-rows.rows outside ss inv.0 inv.1) built h) c.display-then-not-branch-2.ensures.is
+
+pub binders::built_over-returns-then-not-branch-2-clause-regular : goal.binders::built_over-returns-then-not-branch-2-clause-regular
+binders::built_over-returns-then-not-branch-2-clause-regular g t c = c.display-then-not-branch-2.ensures.regular (regular_same _ _ c.in_ok-is_too_many.ensures.members c.in_ok-add_row.ensures.regular)
+
+pub binders::built_over-returns-then-branch-clause-is : goal.binders::built_over-returns-then-branch-clause-is
+binders::built_over-returns-then-branch-clause-is g t c =
+    λ n rs p e is.
+    let outside = seen c.args.locals.now in
+    let ss = spread c.args.sets.now in
+    let row = row_of c.loop-rows.rows in
+    let inv = c.loop-rows.invariant in
+    let bound = ap seen c.bound.ensures ∙ inv.1.at.1 in
+    let here = scope-row c.args.env.now (g.R.Row.values c.args.row.now) c.args.locals.now c.bound.result.now row bound in
+    let built = built-same (FilterIn (scope_of c.args.env.now (g.R.Row.values c.args.row.now) c.args.locals.now) (part_of p)) (TermIn (scope_of c.args.env.now (g.R.Row.values c.args.row.now) c.args.locals.now) (part_of e)) (row ∷ inv.0) c.add_row.new.built.items c.is_too_many.new.values.items c.in_ok-is_too_many.ensures.members
+    (built-here _ (scope_of c.args.env.now (g.R.Row.values c.args.row.now) c.args.locals.now) row _ (part_of p) (part_of e) inv.0 c.loop-rows.built.items c.add_row.new.built.items c.in_ok-add_row.field-0 here (bound-row c.args.locals.now c.bound.result.now row bound) c.if-not-branch.false (c.in_ok-add_row.ensures.is n rs p e is) (inv.3 n rs p e is)) in
+    built-too-many (λ vs. AreFrom vs ss) (FilterIn (scope_of c.args.env.now (g.R.Row.values c.args.row.now) c.args.locals.now) (part_of p)) (TermIn (scope_of c.args.env.now (g.R.Row.values c.args.row.now) c.args.locals.now) (part_of e)) (row ∷ inv.0) c.is_too_many.new.values.items (walk-done c.loop-rows.rows outside ss inv.0 inv.1) built (out_told _ _ c.if-branch.true c.in_ok-is_too_many.ensures.told)
 
 pub binders::built_over-returns-then-not-branch-clause-is : goal.binders::built_over-returns-then-not-branch-clause-is
 binders::built_over-returns-then-not-branch-clause-is g t c =

@@ -1,11 +1,9 @@
 use Rattle.std.proofs.Common.{◌+◌, sym, subst, take, Vec, Global}
-use Rattle.std.specs.Bool.{OnTrue}
-use Rattle.zf_value.specs.declared.value.Outcome.TheVariants.{Out}
 use Rattle.zf_value.specs.declared.value.Value.{Value}
-use Rattle.zf_value.specs.Operations.{IsDisplay}
 use Rattle.zf_value.specs.Steps.{IsGathered}
 use Rattle.zf_value.proofs.Compositions.{Composes, composed_more, composed_pass, composition_made, composition_out}
 use Rattle.zf_value.proofs.Gathered.{gathered_none, gathered_same, gathered_all}
+use Rattle.zf_value.proofs.Making.{out_told}
 use Rattle.zf_value.proofs.relation.composition.Goals as goal
 use Rattle.zf_value.proofs.relation.composition.Goals.{in-Some+in_ok-pair_all+in_ok-is_too_many+else-branch, in_default}
 
@@ -16,7 +14,7 @@ pub returns-then-branch-clause-is : goal.returns-then-branch-clause-is
 returns-then-branch-clause-is c =
     let more = composed_more _ _ c.loop-z.z-index _ _ _ _ _ _ c.z-item.is c.loop-z-test.true c.in-Some.ensures.is c.related.ensures c.in_ok-pair_all.ensures c.loop-z.invariant in
     composition_out _ _ _ (c.loop-z.z-index + 1) (gathered_same _ _ _ _ c.in_ok-is_too_many.ensures.members more)
-    (subst (λ b. OnTrue b (IsDisplay c.is_too_many.new.values.items Out)) c.if-branch.true c.in_ok-is_too_many.ensures.out)
+    (out_told _ _ c.if-branch.true c.in_ok-is_too_many.ensures.told)
 
 pub loop-z-preserved : goal.loop-z-preserved
 loop-z-preserved c =
