@@ -1,39 +1,46 @@
--- How many first components a term needs, form by form. No public clause rests on this.
-use Rattle.std.specs.Prelude.{ℕ, ◌+◌, max, Option, Some, None}
+-- The last component up to a place that a term names, form by form. No public clause rests on this.
+use Rattle.std.specs.Prelude.{ℕ, ◌+◌, max, nat_le, cond, Option, Some, None}
+use Rattle.zf_term.specs.declared.resolved.Reference.{Reference}
+use Rattle.zf_term.specs.declared.resolved.Reference.TheVariants.{Component, Local, Global}
 use Rattle.zf_term.specs.ResolvedTrees.{ResolvedTree, reference, number, constant, empty_set, bracket, listed, builder, unary, binary, chain, quantified, ResolvedTrees, no_terms, term, ResolvedLinks, no_links, link, Ranges, no_ranges, range, ResolvedPart, absent, present}
-use Rattle.zf_enum.specs.Property.{place_named}
 
 -- the place after the last one, if there is one
 abbrev pub place_after : Option ℕ → ℕ
 place_after None = 0
 place_after (Some i) = i + 1
 
+-- the place of a component, from 1, if it is one up to place m
+abbrev pub place_up_to : ℕ → Reference → ℕ
+place_up_to m (Component i) = cond (nat_le i m) (i + 1) 0
+place_up_to m (Local i) = 0
+place_up_to m (Global i) = 0
+
 abbrev mutual
-  pub need : ResolvedTree → ℕ
-  need (reference l r) = place_named r
-  need (number l n) = 0
-  need (constant l k) = 0
-  need (empty_set l t) = need t
-  need (bracket l t) = need t
-  need (listed l form ts) = all_need ts
-  need (builder l rs p t) = max (max (ranges_need rs) (part_need p)) (part_need t)
-  need (unary l op t) = need t
-  need (binary l op a b) = max (need a) (need b)
-  need (chain l t ks) = max (need t) (links_need ks)
-  need (quantified l q rs p t) = max (max (ranges_need rs) (part_need p)) (need t)
+  pub need : ℕ → ResolvedTree → ℕ
+  need m (reference l r) = place_up_to m r
+  need m (number l n) = 0
+  need m (constant l k) = 0
+  need m (empty_set l t) = need m t
+  need m (bracket l t) = need m t
+  need m (listed l form ts) = all_need m ts
+  need m (builder l rs p t) = max (max (ranges_need m rs) (part_need m p)) (part_need m t)
+  need m (unary l op t) = need m t
+  need m (binary l op a b) = max (need m a) (need m b)
+  need m (chain l t ks) = max (need m t) (links_need m ks)
+  need m (quantified l q rs p t) = max (max (ranges_need m rs) (part_need m p)) (need m t)
 
-  pub all_need : ResolvedTrees → ℕ
-  all_need no_terms = 0
-  all_need (term t ts) = max (need t) (all_need ts)
+  pub all_need : ℕ → ResolvedTrees → ℕ
+  all_need m no_terms = 0
+  all_need m (term t ts) = max (need m t) (all_need m ts)
 
-  pub links_need : ResolvedLinks → ℕ
-  links_need no_links = 0
-  links_need (link r t ks) = max (need t) (links_need ks)
+  pub links_need : ℕ → ResolvedLinks → ℕ
+  links_need m no_links = 0
+  links_need m (link r t ks) = max (need m t) (links_need m ks)
 
-  pub ranges_need : Ranges → ℕ
-  ranges_need no_ranges = 0
-  ranges_need (range n t rs) = max (need t) (ranges_need rs)
+  pub ranges_need : ℕ → Ranges → ℕ
+  ranges_need m no_ranges = 0
+  ranges_need m (range n t rs) = max (need m t) (ranges_need m rs)
 
-  pub part_need : ResolvedPart → ℕ
-  part_need absent = 0
-  part_need (present t) = need t
+  pub part_need : ℕ → ResolvedPart → ℕ
+  part_need m absent = 0
+  part_need m (present t) = need m t

@@ -1,6 +1,7 @@
--- The property of a schema has one truth on a row, and keeps it on longer ones. No public clause rests on this.
-use Rattle.std.proofs.Common.{◌≡◌, ℕ, ◌≤◌, List, [], ◌∷◌, ◌++◌, length, Option, Some, None, refl, sym, ap, ◌∙◌, arith}
+-- The property of a schema has one truth on a row, keeps it on longer ones, and has it on each row that agrees in what is used. No public clause rests on this.
+use Rattle.std.proofs.Common.{◌≡◌, ℕ, ◌≤◌, Bool, true, false, cond, List, [], ◌∷◌, ◌++◌, length, Option, Some, None, refl, sym, ap, ◌∙◌, subst, arith}
 use Rattle.std.specs.Prelude.{slice_get}
+use Rattle.std.proofs.lemmas.Bool.{eq-eqb}
 use Rattle.zf_term.specs.declared.resolved.Reference.{Reference}
 use Rattle.zf_term.specs.declared.resolved.Reference.TheVariants.{Component, Local, Global}
 use Rattle.zf_term.specs.ResolvedTrees.{ResolvedTree}
@@ -10,13 +11,14 @@ use Rattle.zf_value.specs.declared.value.Truth.{Truth}
 use Rattle.zf_value.specs.declared.value.Truth.TheVariants as truth
 use Rattle.zf_walk.specs.declared.judge.Truth as walk
 use Rattle.zf_walk.specs.declared.judge.Truth.TheVariants.{True, False, Out}
-use Rattle.zf_walk.specs.Conjuncts.{HaveOneTruth, KeepTruths}
+use Rattle.zf_walk.specs.Conjuncts.{HaveOneTruth, KeepTruths, FollowUsed}
 use Rattle.zf_meaning.specs.Environments.{Environment}
 use Rattle.zf_meaning.specs.Laws.{AreBelow, UsesFirst, IsBelow}
 use Rattle.zf_meaning.proofs.Unique.{one_truth}
 use Rattle.zf_meaning.proofs.Stays.{truths_stay}
+use Rattle.zf_meaning.proofs.SameRows.{AgreeAt, Agree, same_truth}
 use Rattle.zf_meaning.specs.InRow.{in_row}
-use Rattle.zf_enum.specs.Property.{place_named, greatest_place, due, due_of, HasTruth, told, property}
+use Rattle.zf_enum.specs.Property.{place_named, greatest_place, due, due_of, is_component, is_among, uses_of, HasTruth, told, property}
 
 -- ---- a term uses the components that are due
 
@@ -63,3 +65,32 @@ kept_by e row more (Some p) t d a = (truths_stay (in_row e row) more p t (uses_f
 
 pub keeps_truths : (e : Environment) (ts : List ResolvedTree) → KeepTruths (property e ts)
 keeps_truths e ts c row more t l d a = kept_by e row more (slice_get ts c) (told t) d a
+
+-- ---- what is used
+
+first_among : (k : ℕ) (r : Reference) (rs : List Reference) → is_component k r ≡ true → is_among k (r ∷ rs) ≡ true
+first_among k r rs e = ap (λ b. cond b true (is_among k rs)) e
+
+true_later : (b c : Bool) → c ≡ true → cond b true c ≡ true
+true_later true c e = refl
+true_later false c e = e
+
+agree_at : (row other : List Value) (r : Reference) → ((k : ℕ) → is_component k r ≡ true → slice_get row k ≡ slice_get other k) → AgreeAt row other r
+agree_at row other (Component i) h = h i (eq-eqb i i refl)
+agree_at row other (Local i) h = tt
+agree_at row other (Global i) h = tt
+
+-- rows that agree in the components that are used agree at each reference
+agree : (row other : List Value) (rs : List Reference) → ((k : ℕ) → is_among k rs ≡ true → slice_get row k ≡ slice_get other k) → Agree row other rs
+agree row other [] h = tt
+agree row other (r ∷ rs) h = (
+  agree_at row other r (λ k e. h k (first_among k r rs e)),
+  agree row other rs (λ k e. h k (true_later (is_component k r) (is_among k rs) e)),
+)
+
+followed_by : (e : Environment) (row other : List Value) (p : Option ResolvedTree) (t : Truth) → ((k : ℕ) → uses_of p k ≡ true → slice_get row k ≡ slice_get other k) → HasTruth e row p t → HasTruth e other p t
+followed_by e row other None t h a = absurd a
+followed_by e row other (Some p) t h a = subst (λ X. X) (same_truth (in_row e row) other [] p (agree row other (references p) h) t) a
+
+pub follows_used : (e : Environment) (ts : List ResolvedTree) → FollowUsed (property e ts)
+follows_used e ts c row other t l d b h a = followed_by e row other (slice_get ts c) (told t) h a

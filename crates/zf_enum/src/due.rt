@@ -1,73 +1,82 @@
-//! How many first components a term needs.
+//! Which components a term needs.
 ghost use Rattle.std.specs.Prelude.{◌≡◌, ◌<◌, ◌^◌, max, map};
 ghost use Rattle.zf_term.specs.ResolvedTrees.{resolved_of, resolved_link_of, range_of, terms, links, ranges, part_of};
 ghost use Rattle.zf_enum.specs.Property as spec;
-ghost use Rattle.zf_enum.specs.Dues.{place_after, need, all_need, links_need, ranges_need, part_need};
+ghost use Rattle.zf_enum.specs.Dues.{place_after, place_up_to, need, all_need, links_need, ranges_need, part_need};
 
 use zf_data::arena::{Boxed, Items};
 use zf_term::resolved::{Links, Part, Range, Reference, Resolved, Terms};
 
 /// The greatest place, from 1, of a component that the term names.
-#[tactic(auto, using(crate::proofs::Dues::due_need))]
 pub(crate) fn due(term: &Resolved<'_>) -> usize
     requires { spec.due (resolved_of term.now) < 2 ^ 64 }
     ensures { result ≡ spec.due (resolved_of term.now) }
 {
-    match last_after(term, None) {
+    match last_up_to(term, usize::MAX, None) {
         None => 0,
         Some(place) => place + 1,
     }
 }
 
-/// The last component, of one that was found before and those that the term names.
+/// Whether the term names a component.
+pub(crate) fn uses(term: &Resolved<'_>, component: usize) -> bool
+    ensures { result ≡ spec.uses (resolved_of term.now) component }
+{
+    match last_up_to(term, component, None) {
+        None => false,
+        Some(place) => place == component,
+    }
+}
+
+/// The last component, of one that was found before and those up to a bound that the term names.
 #[cycle(last)]
 #[tactic(auto, using(zf_term::proofs::ResolvedSeen::seen))]
-fn last_after(term: &Resolved<'_>, found: Option<usize>) -> Option<usize>
-    ensures { place_after result ≡ max (place_after found) (need (resolved_of term.now)) }
+fn last_up_to(term: &Resolved<'_>, bound: usize, found: Option<usize>) -> Option<usize>
+    ensures { place_after result ≡ max (place_after found) (need bound (resolved_of term.now)) }
 {
     match term {
-        Resolved::Name(_, reference) => later(*reference, found),
+        Resolved::Name(_, reference) => later(*reference, bound, found),
         Resolved::Number(_, _) => found,
         Resolved::Constant(_, _) => found,
-        Resolved::EmptySet(_, of) => last_after(of.get(), found),
-        Resolved::Bracket(_, inner) => last_after(inner.get(), found),
-        Resolved::Listed(_, _, items) => last_of_terms(items, found),
+        Resolved::EmptySet(_, of) => last_up_to(of.get(), bound, found),
+        Resolved::Bracket(_, inner) => last_up_to(inner.get(), bound, found),
+        Resolved::Listed(_, _, items) => last_of_terms(items, bound, found),
         Resolved::Builder(_, variables, filter, term) => {
-            let last = last_of_ranges(variables, found);
-            last_of_part(term, last_of_part(filter, last))
+            let last = last_of_ranges(variables, bound, found);
+            last_of_part(term, bound, last_of_part(filter, bound, last))
         }
-        Resolved::Unary(_, _, of) => last_after(of.get(), found),
+        Resolved::Unary(_, _, of) => last_up_to(of.get(), bound, found),
         Resolved::Binary(_, _, left, right) => {
-            last_after(right.get(), last_after(left.get(), found))
+            last_up_to(right.get(), bound, last_up_to(left.get(), bound, found))
         }
         Resolved::Chain(_, first, further) => {
-            last_of_links(further, last_after(first.get(), found))
+            last_of_links(further, bound, last_up_to(first.get(), bound, found))
         }
         Resolved::Quantified(_, _, variables, constraint, body) => {
-            let last = last_of_ranges(variables, found);
-            last_after(body.get(), last_of_part(constraint, last))
+            let last = last_of_ranges(variables, bound, found);
+            last_up_to(body.get(), bound, last_of_part(constraint, bound, last))
         }
     }
 }
 
 #[cycle(last)]
-fn last_of_terms(items: &Terms<'_>, found: Option<usize>) -> Option<usize>
-    ensures { place_after result ≡ max (place_after found) (all_need (terms (map resolved_of items.now))) }
+fn last_of_terms(items: &Terms<'_>, bound: usize, found: Option<usize>) -> Option<usize>
+    ensures { place_after result ≡ max (place_after found) (all_need bound (terms (map resolved_of items.now))) }
 {
     let mut last = found;
     for term in items.as_slice() {
-        last = last_after(term, last);
+        last = last_up_to(term, bound, last);
     }
     last
 }
 
 #[cycle(last)]
-fn last_of_links(further: &Links<'_>, found: Option<usize>) -> Option<usize>
-    ensures { place_after result ≡ max (place_after found) (links_need (links (map resolved_link_of further.now))) }
+fn last_of_links(further: &Links<'_>, bound: usize, found: Option<usize>) -> Option<usize>
+    ensures { place_after result ≡ max (place_after found) (links_need bound (links (map resolved_link_of further.now))) }
 {
     let mut last = found;
     for link in further.as_slice() {
-        last = last_after(&link.right, last);
+        last = last_up_to(&link.right, bound, last);
     }
     last
 }
@@ -75,36 +84,38 @@ fn last_of_links(further: &Links<'_>, found: Option<usize>) -> Option<usize>
 #[cycle(last)]
 fn last_of_ranges<'a>(
     variables: &Boxed<'a, Items<'a, Range<'a>>>,
+    bound: usize,
     found: Option<usize>,
 ) -> Option<usize>
-    ensures { place_after result ≡ max (place_after found) (ranges_need (ranges (map range_of variables.now))) }
+    ensures { place_after result ≡ max (place_after found) (ranges_need bound (ranges (map range_of variables.now))) }
 {
     let mut last = found;
     for range in variables.as_slice() {
-        last = last_after(&range.set, last);
+        last = last_up_to(&range.set, bound, last);
     }
     last
 }
 
 #[cycle(last)]
-fn last_of_part(part: &Part<'_>, found: Option<usize>) -> Option<usize>
-    ensures { place_after result ≡ max (place_after found) (part_need (part_of part.now)) }
+fn last_of_part(part: &Part<'_>, bound: usize, found: Option<usize>) -> Option<usize>
+    ensures { place_after result ≡ max (place_after found) (part_need bound (part_of part.now)) }
 {
     match part.get() {
         None => found,
-        Some(term) => last_after(term.get(), found),
+        Some(term) => last_up_to(term.get(), bound, found),
     }
 }
 
-/// The later one of a component that was found before and what a name stands for, if that is one.
-fn later(reference: Reference, found: Option<usize>) -> Option<usize>
-    ensures { place_after result ≡ max (place_after found) (spec.place_named reference) }
+/// The later one of a component that was found before and what a name stands for, if that is one up to a bound.
+fn later(reference: Reference, bound: usize, found: Option<usize>) -> Option<usize>
+    ensures { place_after result ≡ max (place_after found) (place_up_to bound reference) }
 {
     match reference {
-        Reference::Component(place) => match found {
+        Reference::Component(place) if place <= bound => match found {
             Some(other) if other >= place => Some(other),
             _ => Some(place),
         },
+        Reference::Component(_) => found,
         Reference::Local(_) => found,
         Reference::Global(_) => found,
     }

@@ -3,7 +3,7 @@ ghost use Rattle.std.specs.Prelude.{◌≡◌, ◌<◌, ◌^◌, ℕ, map, slice
 ghost use Rattle.zf_term.specs.ResolvedTrees.{resolved_of};
 ghost use Rattle.zf_enum.specs.Property.{due_of, told};
 
-use crate::due::due;
+use crate::due::{due, uses};
 use crate::known::Known;
 use crate::shown::{Shown, meet};
 use std::alloc::AllocError;
@@ -26,7 +26,7 @@ impl<'e, 'g, 'a> Judge<Known> for Property<'e, 'g, 'a> {
     ghost use Rattle.zf_term.specs.ResolvedTrees.{resolved_of};
     ghost use Rattle.zf_meaning.specs.Envs.{environment_of};
     ghost use Rattle.zf_enum.specs.Property as spec;
-    ghost use Rattle.zf_enum.specs.PropertyLaws.{has_one_truth, keeps_truths};
+    ghost use Rattle.zf_enum.specs.PropertyLaws.{has_one_truth, keeps_truths, follows_used};
 
     ghost conjuncts = { λ j. spec.property (environment_of j.env.now) (map resolved_of j.conjuncts.items) };
 
@@ -34,12 +34,18 @@ impl<'e, 'g, 'a> Judge<Known> for Property<'e, 'g, 'a> {
 
     ghost kept = { λ j. keeps_truths (environment_of j.env.now) (map resolved_of j.conjuncts.items) };
 
+    ghost follow_used = { λ j. follows_used (environment_of j.env.now) (map resolved_of j.conjuncts.items) };
+
     fn count(&self) -> usize {
         self.conjuncts.len()
     }
 
     fn due(&self, conjunct: usize) -> usize {
         due(&self.conjuncts[conjunct])
+    }
+
+    fn uses(&self, conjunct: usize, component: usize) -> bool {
+        uses(&self.conjuncts[conjunct], component)
     }
 
     #[tactic(auto, using(crate::proofs::Judging::has_truth))]

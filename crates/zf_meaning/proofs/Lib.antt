@@ -1,4 +1,5 @@
 pub mod Unique
+pub mod SameRows
 pub mod Stays
 pub mod Environments
 pub mod Worked

@@ -10,3 +10,5 @@ pub mod Stepping
 pub mod Answering
 pub mod LawProofs
 pub mod Agendas
+pub mod Numbering
+pub mod Telling

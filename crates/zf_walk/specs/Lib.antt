@@ -6,5 +6,6 @@ pub mod Progress
 pub mod Laws
 pub mod Picked
 pub mod Places
+pub mod Tables
 pub mod Steps
 pub mod Walks

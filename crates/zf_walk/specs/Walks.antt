@@ -3,9 +3,11 @@ use Rattle.std.specs.Prelude.{◌≡◌, Bool, true, cond, List, length, Option,
 use Rattle.std.specs.declared.cmp.Ordering.{Ordering}
 use Rattle.zf_walk.specs.declared.place.Place.{Place}
 use Rattle.zf_walk.specs.declared.agenda.Agenda.{Agenda}
+use Rattle.zf_walk.specs.declared.table.Table.{Table}
 use Rattle.zf_walk.specs.Conjuncts.{Conjuncts}
 use Rattle.zf_walk.specs.Progress.{Progress}
 use Rattle.zf_walk.specs.Places.{IsSound, Stands, path, ahead_of}
+use Rattle.zf_walk.specs.Tables.{AreTrue}
 
 abbrev pub view_of : {V J : Type 0} → J → List (List V) → Option (List V) → Place → Bool → Progress V J
 view_of judge ranges after p given = record {
@@ -17,7 +19,8 @@ view_of judge ranges after p given = record {
   tests = p.tests;
 }
 
-pub record IsStanding {V : Type 0} (cmp : V → V → Ordering) (s : Conjuncts V) (ranges : List (List V)) (after : Option (List V)) (a : Agenda) (p : Place) (given : Bool) : Type 0 where
+pub record IsStanding {V : Type 0} (cmp : V → V → Ordering) (s : Conjuncts V) (ranges : List (List V)) (after : Option (List V)) (a : Agenda) (tables : List (Option Table)) (p : Place) (given : Bool) : Type 0 where
   pub sound : IsSound cmp s ranges after a
   pub stands : Stands cmp s ranges after p
+  pub known : AreTrue s ranges tables
   pub whole : given ≡ true → p.depth ≡ length ranges

@@ -1,7 +1,7 @@
 //! What is asked of rows.
 ghost use Rattle.std.specs.Prelude.{◌≡◌, ◌<◌, ◌≤◌, ℕ, List, length, IfOk};
 ghost use Rattle.zf_walk.specs.declared.judge.Truth.{Truth};
-ghost use Rattle.zf_walk.specs.Conjuncts.{Conjuncts, HaveOneTruth, KeepTruths};
+ghost use Rattle.zf_walk.specs.Conjuncts.{Conjuncts, HaveOneTruth, KeepTruths, FollowUsed};
 
 use crate::row::Row;
 use std::alloc::AllocError;
@@ -28,6 +28,11 @@ pub trait Judge<V> {
         requires { conjunct < (conjuncts self.now).number }
         ensures { result ≡ (conjuncts self.now).due conjunct };
 
+    /// Whether a conjunct uses a component.
+    fn uses(&self, conjunct: usize, component: usize) -> bool
+        requires { conjunct < (conjuncts self.now).number }
+        ensures { result ≡ (conjuncts self.now).uses conjunct component };
+
     /// The truth of a conjunct on a row that has what it needs.
     fn judge<R: Row<V>>(&self, conjunct: usize, row: &R) -> Result<Truth, AllocError>
         requires conjunct { conjunct < (conjuncts self.now).number }
@@ -37,4 +42,6 @@ pub trait Judge<V> {
     ghost one_truth: { (j : Self) → HaveOneTruth (conjuncts j) };
 
     ghost kept: { (j : Self) → KeepTruths (conjuncts j) };
+
+    ghost follow_used: { (j : Self) → FollowUsed (conjuncts j) };
 }

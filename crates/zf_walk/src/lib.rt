@@ -3,6 +3,7 @@
 
 mod agenda;
 mod beginning;
+mod entry;
 mod judge;
 pub mod laws;
 mod moves;
@@ -13,6 +14,8 @@ mod reach;
 mod row;
 mod step;
 mod steps;
+mod table;
+mod tables;
 mod walk;
 
 pub use judge::{Judge, Truth};

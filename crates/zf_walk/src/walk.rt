@@ -13,6 +13,7 @@ use crate::range::Range;
 use crate::row::Row;
 use crate::step::Step;
 use crate::steps::next_answer;
+use crate::tables::Tables;
 use std::alloc::{AllocError, Global};
 use std::marker::Model;
 
@@ -23,6 +24,7 @@ pub struct Walk<'a, V: Ord, J: Judge<V>> {
     ranges: Vec<Range<V>>,
     after: Option<&'a [V]>,
     agenda: Agenda,
+    tables: Tables,
     place: Place,
     /// Whether the place is that of a row that the last step gave.
     given: bool,
@@ -37,7 +39,7 @@ impl<'a, V: Ord, J: Judge<V>> Model for Walk<'a, V, J> {
 
     ghost view = { λ w. view_of w.judge w.ranges.items (option_copied w.after) w.place w.given };
 
-    ghost invariant = { λ w. IsStanding V.cmp (J.conjuncts w.judge) w.ranges.items (option_copied w.after) w.agenda w.place w.given };
+    ghost invariant = { λ w. IsStanding V.cmp (J.conjuncts w.judge) w.ranges.items (option_copied w.after) w.agenda w.tables.each.items w.place w.given };
 }
 
 impl<'a, V: Ord + Drop, J: Judge<V> + Drop> Walk<'a, V, J> {
@@ -58,11 +60,13 @@ impl<'a, V: Ord + Drop, J: Judge<V> + Drop> Walk<'a, V, J> {
     {
         let agenda = Agenda::new(alloc, &judge, ranges.len())?;
         let place = first_place(alloc, &judge, &ranges, after, &agenda)?;
+        let tables = Tables::new(alloc, &judge, &ranges)?;
         Ok(Walk {
             judge,
             ranges,
             after,
             agenda,
+            tables,
             place,
             given: false,
         })
@@ -85,6 +89,7 @@ impl<'a, V: Ord, J: Judge<V>> Walk<'a, V, J> {
             &self.ranges,
             self.after,
             &self.agenda,
+            &mut self.tables,
             &mut self.place,
         )? {
             Step::Holds => {

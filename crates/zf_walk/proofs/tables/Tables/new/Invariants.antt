@@ -1,0 +1,6 @@
+use Rattle.zf_walk.specs.Tables.{AreTables}
+use Rattle.zf_walk.proofs.tables.Tables.new.Given as goal
+
+-- The tables of the conjuncts so far.
+abbrev pub invariant-loop-conjunct : goal.invariant-loop-conjunct
+invariant-loop-conjunct g l = AreTables (g.J.Judge.conjuncts l.judge) l.ranges l.conjunct l.each.items

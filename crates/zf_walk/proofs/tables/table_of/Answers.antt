@@ -1,0 +1,56 @@
+use Rattle.std.proofs.Common.{◌≡◌, ◌+◌, ◌*◌, ℕ, List, [], ◌∷◌, ◌++◌, Vec, Global, refl, sym, ap, ◌∙◌, subst, arith}
+use Rattle.zf_walk.specs.declared.table.Used.{Used}
+use Rattle.zf_walk.specs.declared.table.Table.{Table}
+use Rattle.zf_walk.specs.Tables.{AreUsed, combinations}
+use Rattle.zf_walk.proofs.Telling.{used-none, used-more, used-skip, combinations-more, table-new}
+use Rattle.zf_walk.proofs.tables.table_of.Goals as goal
+use Rattle.zf_walk.proofs.tables.table_of.Goals.{then-uses+else-not-have_room+in_ok-push, else-uses+then-count-gt1, else-uses+else-count-gt1}
+
+pub loop-component-init : goal.loop-component-init
+loop-component-init g c =
+    let uses = (g.J.Judge.conjuncts c.args.judge.now).uses c.args.conjunct in
+    record {
+      used = subst (λ (us : List Used). AreUsed c.args.ranges.now uses 0 us) (sym c.new-used.ensures.items) (used-none c.args.ranges.now uses);
+      product = ap combinations c.new-used.ensures.items;
+      small = omega arith;
+    }
+
+pub loop-component-preserved : goal.loop-component-preserved
+loop-component-preserved g c =
+    let uses = (g.J.Judge.conjuncts c.args.judge.now).uses c.args.conjunct in
+    let ranges = c.args.ranges.now in
+    let n = c.loop-component.component in
+    let us = c.loop-component.used.items in
+    let u : Used = record { component = n; count = c.count_of-count.result } in
+    elim c.if-uses.branch [
+      | then-uses+else-not-have_room+in_ok-push w ↦
+          let items : c.if-uses.used.items ≡ us ++ u ∷ [] = ap (λ (v : Vec Used Global). v.items) w.used-is ∙ w.in_ok-push.ensures.items in
+          record {
+            used = subst (λ (vs : List Used). AreUsed ranges uses (n + 1) vs) (sym items) (used-more ranges uses n us u refl c.count_of-count.ensures c.loop-component.invariant.used);
+            product = ap combinations items ∙ combinations-more us u ∙ ap (λ (m : ℕ). m * u.count) c.loop-component.invariant.product ∙ sym w.combinations-is;
+            small = omega (arith, w.combinations-is, w.have_room.ensures w.if-not-have_room.false);
+          }
+      | else-uses+then-count-gt1 w ↦
+          let items : c.if-uses.used.items ≡ us = ap (λ (v : Vec Used Global). v.items) w.used-is in
+          record {
+            used = subst (λ (vs : List Used). AreUsed ranges uses (n + 1) vs) (sym items) (used-skip ranges uses n us (sym c.uses.ensures ∙ w.if-uses.false) c.loop-component.invariant.used);
+            product = ap combinations items ∙ c.loop-component.invariant.product ∙ sym w.combinations-is;
+            small = omega (arith, w.combinations-is, c.loop-component.invariant.small);
+          }
+      | else-uses+else-count-gt1 w ↦
+          let items : c.if-uses.used.items ≡ us = ap (λ (v : Vec Used Global). v.items) w.used-is in
+          record {
+            used = subst (λ (vs : List Used). AreUsed ranges uses (n + 1) vs) (sym items) (used-skip ranges uses n us (sym c.uses.ensures ∙ w.if-uses.false) c.loop-component.invariant.used);
+            product = ap combinations items ∙ c.loop-component.invariant.product ∙ sym w.combinations-is;
+            small = omega (arith, w.combinations-is, c.loop-component.invariant.small);
+          }
+    ]
+
+pub returns : goal.returns
+returns g c =
+    let s = g.J.Judge.conjuncts c.args.judge.now in
+    let t : Table = record { used = c.loop-component.used; entries = c.in_ok-entries.entries } in
+    let all : c.loop-component.component ≡ s.due c.args.conjunct = omega (arith, c.due-due.ensures) in
+    table-new s c.args.ranges.now c.args.conjunct t
+    (subst (λ (n : ℕ). AreUsed c.args.ranges.now (s.uses c.args.conjunct) n c.loop-component.used.items) all c.loop-component.invariant.used)
+    (omega (arith, c.loop-component.invariant.product)) c.in_ok-entries.ensures.items

@@ -1,0 +1,142 @@
+//! What is known of the truths of all conjuncts.
+ghost use Rattle.std.specs.Prelude.{◌≡◌, ◌*◌, ◌<◌, ◌≤◌, length, [], slice_index_or, IsTrue, IfOk, IfSome};
+ghost use Rattle.zf_walk.specs.Progress.{AreDueWithin};
+ghost use Rattle.zf_walk.specs.Picked.{AreWithin, picked};
+ghost use Rattle.zf_walk.specs.Tables.{AreTrue, Fits, IsTableOf, MayKeep, known_in};
+
+use crate::judge::{Judge, Truth};
+use crate::picked::Picked;
+use crate::range::Range;
+use crate::table::{Table, Used};
+use std::alloc::{AllocError, Global};
+
+/// How many truths all tables together have room for, a byte each.
+const ROOM: usize = 1048576;
+
+/// For each conjunct its table, if it has one.
+#[derive(Drop)]
+pub struct Tables {
+    pub each: Vec<Option<Table>>,
+}
+
+impl Tables {
+    /// Tables in which nothing is known yet.
+    pub fn new<V, J: Judge<V>>(
+        alloc: Global,
+        judge: &J,
+        ranges: &[Range<V>],
+    ) -> Result<Tables, AllocError>
+        requires { AreDueWithin (J.conjuncts judge.now) (length ranges.now) }
+        ensures { IfOk result (λ ts. AreTrue (J.conjuncts judge.now) ranges.now ts.each.items) }
+    {
+        let count = judge.count();
+        let mut each = Vec::with_capacity(alloc, count)?;
+        let mut room = ROOM;
+        for conjunct in 0..count {
+            let table = table_of(alloc, judge, ranges, conjunct, &mut room)?;
+            each.push(table)?;
+        }
+        Ok(Tables { each })
+    }
+
+    /// The truth of a conjunct on the row at these places: looked up where it is known, and else worked out and kept.
+    pub fn truth_of<V, J: Judge<V>>(
+        &mut self,
+        judge: &J,
+        ranges: &[Range<V>],
+        conjunct: usize,
+        places: &[usize],
+    ) -> Result<Truth, AllocError>
+        requires conjunct { conjunct < (J.conjuncts judge.now).number }
+        requires due { (J.conjuncts judge.now).due conjunct ≡ length places.now }
+        requires within { AreWithin ranges.now places.now }
+        requires known { AreTrue (J.conjuncts judge.now) ranges.now self.old.each.items }
+        ensures says { IfOk result ((J.conjuncts judge.now).says conjunct (picked ranges.now places.now)) }
+        ensures known { AreTrue (J.conjuncts judge.now) ranges.now self.new.each.items }
+    {
+        if let Some(truth) = find_in(&self.each[conjunct], places) {
+            return Ok(truth);
+        }
+        let row = Picked::new(ranges, places);
+        let truth = judge.judge(conjunct, &row)?;
+        keep_in(&mut self.each[conjunct], places, truth);
+        Ok(truth)
+    }
+}
+
+/// The truth on the row at these places, if there is a table and it is known.
+fn find_in(table: &Option<Table>, places: &[usize]) -> Option<Truth>
+    requires { IfSome table.now (Fits places.now) }
+    ensures { result ≡ known_in table.now places.now }
+{
+    match table {
+        None => None,
+        Some(table) => table.find(places),
+    }
+}
+
+/// Keeps the truth on the row at these places, if there is a table with room for it.
+fn keep_in(table: &mut Option<Table>, places: &[usize], truth: Truth)
+    requires { IfSome table.old (Fits places.now) }
+    ensures { MayKeep places.now truth table.old table.new }
+{
+    match table {
+        None => {}
+        Some(table) => table.keep(places, truth),
+    }
+}
+
+/// A table for a conjunct that can meet the same values in more than one row, if there is room for all their combinations.
+fn table_of<V, J: Judge<V>>(
+    alloc: Global,
+    judge: &J,
+    ranges: &[Range<V>],
+    conjunct: usize,
+    room: &mut usize,
+) -> Result<Option<Table>, AllocError>
+    requires conjunct { conjunct < (J.conjuncts judge.now).number }
+    requires due { (J.conjuncts judge.now).due conjunct ≤ length ranges.now }
+    ensures { IfOk result (λ table. IfSome table (IsTableOf (J.conjuncts judge.now) ranges.now conjunct)) }
+{
+    if *room == 0 {
+        return Ok(None);
+    }
+    let due = judge.due(conjunct);
+    let mut used = Vec::new(alloc);
+    let mut combinations = 1;
+    let mut repeats = false;
+    for component in 0..due {
+        let count = count_of(ranges, component);
+        if judge.uses(conjunct, component) {
+            if !have_room(combinations, count, *room) {
+                return Ok(None);
+            }
+            used.push(Used { component, count })?;
+            combinations *= count;
+        } else if count > 1 {
+            repeats = true;
+        }
+    }
+    if !repeats {
+        return Ok(None);
+    }
+    let entries = Vec::with_capacity(alloc, combinations)?;
+    *room -= combinations;
+    Ok(Some(Table { used, entries }))
+}
+
+/// How many values a component may have.
+fn count_of<V>(ranges: &[Range<V>], component: usize) -> usize
+    requires { component < length ranges.now }
+    ensures { result ≡ length (slice_index_or ranges.now component []) }
+{
+    let range = &ranges[component];
+    range.values.len()
+}
+
+/// Whether there is room for so many combinations with each of these values, of which there are some.
+fn have_room(combinations: usize, count: usize, room: usize) -> bool
+    ensures { IsTrue result → combinations * count ≤ room }
+{
+    count > 0 && combinations <= room / count
+}
