@@ -180,7 +180,7 @@ above-nil : {V : Type 0} (n : ℕ) (rs : List (List V)) → above n rs [] ≡ 0
 above-nil n [] = refl
 above-nil n (r ∷ rs) = refl
 
-above-push : {V : Type 0} (n : ℕ) (ranges : List (List V)) (places : List ℕ) (i : ℕ) (range : List V) (later : List (List V)) → drop (length places) ranges ≡ range ∷ later
+pub above-push : {V : Type 0} (n : ℕ) (ranges : List (List V)) (places : List ℕ) (i : ℕ) (range : List V) (later : List (List V)) → drop (length places) ranges ≡ range ∷ later
     → above n ranges (places ++ i ∷ []) ≡ above n ranges places + ((length range - suc i) * below n later + 1)
 above-push n [] [] i range later e = cc
 above-push n [] (j ∷ places) i range later e = cc

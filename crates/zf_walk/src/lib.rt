@@ -18,8 +18,11 @@ mod table;
 mod tables;
 mod walk;
 
+pub use agenda::Agenda;
 pub use judge::{Judge, Truth};
+pub use picked::{Picked, pick};
 pub use range::Range;
+pub use reach::is_reached;
 pub use row::Row;
 pub use step::Step;
 pub use walk::Walk;

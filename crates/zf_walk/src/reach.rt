@@ -30,7 +30,7 @@ fn reaches<V: Ord>(here: bool, named: &[V], ranges: &[Range<V>], places: &[usize
 }
 
 /// Whether a row is not less than the front of the named one, or, with all values, is greater.
-fn is_reached<V: Ord>(after: Option<&[V]>, ranges: &[Range<V>], places: &[usize]) -> bool
+pub fn is_reached<V: Ord>(after: Option<&[V]>, ranges: &[Range<V>], places: &[usize]) -> bool
     requires within { AreWithin ranges.now places.now }
     requires named { HasLength (option_copied after) (length ranges.now) }
     ensures { result ≡ is_reached V.cmp (option_copied after.entry) (length ranges.now) (picked ranges.now places.now) }

@@ -1,0 +1,7 @@
+pub mod Groves
+pub mod Knowing
+pub mod TreeTruths
+pub mod Numbers
+pub mod Forgetting
+pub mod Moving
+pub mod Stepping

@@ -1,0 +1,12 @@
+use Rattle.std.proofs.Common.{cond, [], length, Some, None, sym, ap, ◌∙◌}
+use Rattle.std.specs.Prelude.{unwrap_or}
+use Rattle.zf_plan.specs.Places.{path}
+use Rattle.zf_plan.proofs.Moving.{length-path}
+use Rattle.zf_plan.proofs.search.SearchRow.len.Goals as goal
+
+pub returns-then-self : goal.returns-then-self
+returns-then-self g c =
+    let w = c.self.inside in
+    sym (length-path w.ranges.items w.place c.self.invariant.stands.at)
+    ∙ sym (ap (λ b. length (unwrap_or (cond b (Some (path w.ranges.items w.place)) None) [])) c.if-self.true)
+    ∙ ap (λ z. length (unwrap_or z.last [])) c.self.view_is

@@ -1,0 +1,16 @@
+use Rattle.std.proofs.Common.{subst}
+use Rattle.std.specs.Option.{option_copied}
+use Rattle.zf_plan.specs.Trees.{planted}
+use Rattle.zf_plan.specs.Groves.{trees_of}
+use Rattle.zf_plan.specs.Places.{Goes}
+use Rattle.zf_plan.proofs.Stepping.{setting-of, gives-on, SameAhead-from}
+use Rattle.zf_plan.proofs.steps.next_answer.Goals as goal
+
+pub returns-in-Some-clause-gives : goal.returns-in-Some-clause-gives
+returns-in-Some-clause-gives g c =
+    let given = setting-of g.met.V.Ord.total (g.met.J.Judge.one_truth c.args.judge.now) (g.met.J.Judge.kept c.args.judge.now) c.requires.sound in
+    let st = c.requires.stands in
+    let now = c.loop-answer.invariant in
+    let here = now.0 in
+    gives-on given c.args.place.now c.loop-answer.place c.step_on.new.place c.in-Some.answer (SameAhead-from given c.args.place.now c.loop-answer.place st.at here.at now.1)
+    (subst (λ found. Goes g.V.Ord.cmp (planted (g.J.Judge.conjuncts c.args.judge.now) (trees_of c.args.forest.now)) c.args.ranges.now (option_copied c.args.after) c.loop-answer.place found c.step_on.new.place) c.in-Some.is c.in_ok-answer.ensures.goes)

@@ -1,0 +1,16 @@
+use Rattle.std.proofs.Common.{◌≡◌, true}
+use Rattle.std.specs.Option.{option_copied}
+use Rattle.zf_plan.specs.Trees.{planted}
+use Rattle.zf_plan.specs.Groves.{trees_of}
+use Rattle.zf_plan.specs.Places.{Stands, KeepsEvents, steps_left, is_over}
+use Rattle.zf_plan.proofs.steps.next_answer.Given as goal
+
+-- The same events are ahead, and a search that is over stays so.
+abbrev pub invariant-loop-answer : goal.invariant-loop-answer
+invariant-loop-answer g l =
+    Stands (g.J.Judge.conjuncts l.judge) l.ranges l.place l.told
+    × KeepsEvents g.V.Ord.cmp (planted (g.J.Judge.conjuncts l.judge) (trees_of l.forest)) l.ranges (option_copied l.after) l.initial.place l.place
+    × (is_over l.initial.place ≡ true → is_over l.place ≡ true)
+
+abbrev pub decreases-loop-answer : goal.decreases-loop-answer
+decreases-loop-answer g l = steps_left l.ranges l.place

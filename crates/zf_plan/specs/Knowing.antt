@@ -1,0 +1,57 @@
+-- What is known of leaves and trees at a row: for private contracts and the model of `Search` alone.
+use Rattle.std.specs.Prelude.{◌≡◌, ℕ, ◌<◌, ◌≤◌, List, ◌++◌, length, take, slice_index_or, Option, Some, None}
+use Rattle.zf_walk.specs.declared.judge.Truth.{Truth}
+use Rattle.zf_walk.specs.declared.judge.Truth.TheVariants.{True, False, Out}
+use Rattle.zf_walk.specs.Conjuncts.{Conjuncts}
+use Rattle.zf_walk.specs.Picked.{picked}
+use Rattle.zf_plan.specs.Trees.{Tree, opposite, IsTreeTruth, due_of, tree_at}
+
+-- what was told of a leaf that needs no more values than there are is its truth on those that it needs
+pub record Tells {V : Type 0} (l : Conjuncts V) (ranges : List (List V)) (places : List ℕ) (told : List (Option Truth)) : Type 0 where
+  pub all : length told ≡ l.number
+  pub right : (c : ℕ) (t : Truth) → c < l.number → l.due c ≤ length places → slice_index_or told c None ≡ Some t → l.says c (picked ranges (take (l.due c) places)) t
+
+-- the truth of a tree on every row that begins with this one
+abbrev pub IsSettled : {V : Type 0} → Conjuncts V → Tree → List V → Truth → Type 0
+IsSettled {V} l tree row t = (more : List V) → IsTreeTruth l tree (row ++ more) t
+
+-- the tree is settled, or it needs more values
+abbrev pub IsKnown : {V : Type 0} → Conjuncts V → Tree → List V → Option Truth → Type 0
+IsKnown l tree row (Some t) = IsSettled l tree row t
+IsKnown l tree row None = length row < due_of l tree
+
+-- what is known of a negation, of a conjunction and of a disjunction from what is known of the sides
+abbrev pub known_not : Option Truth → Option Truth
+known_not None = None
+known_not (Some t) = Some (opposite t)
+
+abbrev pub known_both : Option Truth → Option Truth → Option Truth
+known_both (Some False) b = Some False
+known_both None (Some False) = Some False
+known_both None None = None
+known_both None (Some True) = None
+known_both None (Some Out) = None
+known_both (Some True) b = b
+known_both (Some Out) None = None
+known_both (Some Out) (Some False) = Some False
+known_both (Some Out) (Some True) = Some Out
+known_both (Some Out) (Some Out) = Some Out
+
+abbrev pub known_either : Option Truth → Option Truth → Option Truth
+known_either a b = known_not (known_both (known_not a) (known_not b))
+
+-- the truth of two conjuncts
+abbrev pub conjoined : Truth → Truth → Truth
+conjoined True u = u
+conjoined False u = False
+conjoined Out True = Out
+conjoined Out False = False
+conjoined Out Out = Out
+
+-- one of the conjuncts is False on every row that begins with this one
+abbrev pub IsRefuted : {V : Type 0} → Conjuncts V → List Tree → List V → Type 0
+IsRefuted l trees row = (j : ℕ) × (j < length trees) × IsSettled l (tree_at trees j) row False
+
+-- each of these is less
+abbrev pub AreBelow : ℕ → List ℕ → Type 0
+AreBelow n js = (i : ℕ) → i < length js → slice_index_or js i 0 < n

@@ -1,0 +1,108 @@
+-- Where a search is, and what its steps do: for private contracts and the model of `Search` alone.
+use Rattle.std.specs.Prelude.{◌≡◌, ◌⊎◌, ℕ, ◌+◌, ◌<◌, ◌≤◌, Bool, true, false, cond, eqb, ◌||◌, nat_eq, List, [], length, take, drop, slice_index_or, slice_set, Option, Some, None}
+use Rattle.std.specs.declared.cmp.Ordering.{Ordering}
+use Rattle.zf_walk.specs.declared.judge.Truth.{Truth}
+use Rattle.zf_walk.specs.declared.judge.Truth.TheVariants.{True, Out}
+use Rattle.zf_walk.specs.declared.step.Step.{Step}
+use Rattle.zf_walk.specs.declared.step.Step.TheVariants.{Holds, Breaks, End}
+use Rattle.zf_walk.specs.Conjuncts.{Conjuncts}
+use Rattle.zf_walk.specs.Rows.{TiesAreEqual, AreAscending, HasLength}
+use Rattle.zf_walk.specs.Events.{Event, IsEvent}
+use Rattle.zf_walk.specs.Progress.{Ahead, AreDueWithin, Takes, IsNoneAhead, ended}
+use Rattle.zf_walk.specs.Picked.{AreWithin, picked}
+use Rattle.zf_walk.specs.Places.{IsAgenda, reaches, is_reached, below, above}
+use Rattle.zf_plan.specs.declared.place.Place.{Place}
+use Rattle.zf_plan.specs.declared.plan.Plan.{Plan}
+use Rattle.zf_plan.specs.Trees.{Tree, leaf, negated, both, either, HaveLeavesWithin}
+use Rattle.zf_plan.specs.Knowing.{Tells, IsRefuted, AreBelow}
+
+-- ---- plans
+
+-- whether a tree has a leaf that needs so many values
+abbrev pub touches : {V : Type 0} → Conjuncts V → ℕ → Tree → Bool
+touches l due (leaf c) = nat_eq (l.due c) due
+touches l due (negated a) = touches l due a
+touches l due (both a b) = touches l due a || touches l due b
+touches l due (either a b) = touches l due a || touches l due b
+
+pub record IsPlan {V : Type 0} (l : Conjuncts V) (count n : ℕ) (plan : Plan) : Type 0 where
+  pub agenda : IsAgenda l n plan.agenda
+  pub all : length plan.touched.items ≡ n + 1
+  pub touched : (k : ℕ) → k ≤ n → AreBelow count (slice_index_or plan.touched.items k [])
+
+-- ---- places
+
+pub record IsAt {V : Type 0} (ranges : List (List V)) (p : Place) : Type 0 where
+  pub all_places : length p.places.items ≡ length ranges
+  pub shallow : p.depth ≤ length ranges
+  pub within : AreWithin ranges (take p.depth p.places.items)
+
+-- the places of the values that are bound
+abbrev pub bound : Place → List ℕ
+bound p = take p.depth p.places.items
+
+abbrev pub path : {V : Type 0} → List (List V) → Place → List V
+path ranges p = picked ranges (bound p)
+
+abbrev pub ahead_of : {V : Type 0} → List (List V) → Place → Ahead V
+ahead_of ranges p = record { path = path ranges p; here = p.fresh }
+
+-- what holds between two steps
+pub record Stands {V : Type 0} (l : Conjuncts V) (ranges : List (List V)) (p : Place) (told : List (Option Truth)) : Type 0 where
+  pub at : IsAt ranges p
+  pub tells : Tells l ranges (bound p) told
+
+-- what holds of what a search goes over
+pub record IsSound {V : Type 0} (cmp : V → V → Ordering) (l : Conjuncts V) (trees : List Tree) (ranges : List (List V)) (after : Option (List V)) (planned : Plan) : Type 0 where
+  pub ascending : AreAscending cmp ranges
+  pub ties : TiesAreEqual cmp
+  pub named : HasLength after (length ranges)
+  pub due : AreDueWithin l (length ranges)
+  pub leaves : HaveLeavesWithin l.number trees
+  pub plan : IsPlan l (length trees) (length ranges) planned
+
+-- how many steps are left
+abbrev pub steps_left : {V : Type 0} → List (List V) → Place → ℕ
+steps_left ranges p = cond p.fresh (below 0 (drop p.depth ranges)) 1 + above 0 ranges (bound p)
+
+-- whether there is nothing to be tried any more
+abbrev pub is_over : Place → Bool
+is_over p = cond p.fresh false (eqb p.depth 0)
+
+-- ---- moves
+
+-- nothing is kept of the leaves that need k values, and what is kept of others is what it was
+pub record Forgets {V : Type 0} (l : Conjuncts V) (k : ℕ) (old new : List (Option Truth)) : Type 0 where
+  pub all : length new ≡ length old
+  pub kept : (c : ℕ) (t : Truth) → c < l.number → slice_index_or new c None ≡ Some t → slice_index_or old c None ≡ Some t
+  pub none : (c : ℕ) → c < l.number → l.due c ≡ k → slice_index_or new c None ≡ None
+
+-- the value at place i of range k is bound as the last one, or where the range ends before it the row before it is passed
+abbrev pub Lands : ℕ → ℕ → ℕ → Place → Place → Type 0
+Lands end k i old new = ((i < end) × (new.places.items ≡ slice_set old.places.items k i) × (new.depth ≡ k + 1) × (new.fresh ≡ true))
+    ⊎ ((end ≤ i) × (new.places.items ≡ old.places.items) × (new.depth ≡ k) × (new.fresh ≡ false))
+
+-- ---- steps
+
+-- no event begins with this row: the named row comes after all that do, or a conjunct is False on them
+abbrev pub IsHopeless : {V : Type 0} → (V → V → Ordering) → Conjuncts V → List Tree → ℕ → Option (List V) → List V → Type 0
+IsHopeless cmp l trees n after row = (is_reached cmp after n row ≡ false) ⊎ IsRefuted l trees row
+
+-- the same events are ahead
+abbrev pub KeepsEvents : {V : Type 0} → (V → V → Ordering) → Conjuncts V → List (List V) → Option (List V) → Place → Place → Type 0
+KeepsEvents {V} cmp s ranges after old new = (e : Event V) → IsEvent cmp s ranges after e → reaches cmp old.fresh (path ranges old) e.row ≡ reaches cmp new.fresh (path ranges new) e.row
+
+-- A step that goes on: the same events are ahead, and fewer steps.
+pub record GoesOn {V : Type 0} (cmp : V → V → Ordering) (s : Conjuncts V) (ranges : List (List V)) (after : Option (List V)) (old new : Place) : Type 0 where
+  pub same : KeepsEvents cmp s ranges after old new
+  pub smaller : steps_left ranges new < steps_left ranges old
+
+-- the row is given, or there is none
+abbrev pub Gives : {V : Type 0} → (V → V → Ordering) → Conjuncts V → List (List V) → Option (List V) → Place → Step → Place → Type 0
+Gives cmp s ranges after old Holds new = Takes cmp s ranges after (ahead_of ranges old) (record { row = path ranges new; truth = True }) (ahead_of ranges new) × (new.depth ≡ length ranges)
+Gives cmp s ranges after old Breaks new = Takes cmp s ranges after (ahead_of ranges old) (record { row = path ranges new; truth = Out }) (ahead_of ranges new) × (new.depth ≡ length ranges)
+Gives cmp s ranges after old End new = IsNoneAhead cmp s ranges after (ahead_of ranges old) × (ahead_of ranges new ≡ ended) × (is_over new ≡ true)
+
+abbrev pub Goes : {V : Type 0} → (V → V → Ordering) → Conjuncts V → List (List V) → Option (List V) → Place → Option Step → Place → Type 0
+Goes cmp s ranges after old None new = GoesOn cmp s ranges after old new
+Goes cmp s ranges after old (Some step) new = Gives cmp s ranges after old step new

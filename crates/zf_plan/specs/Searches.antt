@@ -1,0 +1,25 @@
+-- How a search is seen, and what always holds of one: for the model of `Search` alone.
+use Rattle.std.specs.Prelude.{◌≡◌, Bool, true, cond, List, length, Option, Some, None}
+use Rattle.std.specs.declared.cmp.Ordering.{Ordering}
+use Rattle.zf_walk.specs.declared.judge.Truth.{Truth}
+use Rattle.zf_walk.specs.Conjuncts.{Conjuncts}
+use Rattle.zf_plan.specs.declared.place.Place.{Place}
+use Rattle.zf_plan.specs.declared.plan.Plan.{Plan}
+use Rattle.zf_plan.specs.Groves.{Grove, trees_of}
+use Rattle.zf_plan.specs.Progress.{Progress}
+use Rattle.zf_plan.specs.Places.{IsSound, Stands, path, ahead_of}
+
+abbrev pub view_of : {V J : Type 0} → J → Grove → List (List V) → Option (List V) → Place → Bool → Progress V J
+view_of judge forest ranges after p given = record {
+  judge = judge;
+  forest = forest;
+  ranges = ranges;
+  after = after;
+  last = cond given (Some (path ranges p)) None;
+  ahead = ahead_of ranges p;
+}
+
+pub record IsStanding {V : Type 0} (cmp : V → V → Ordering) (l : Conjuncts V) (forest : Grove) (ranges : List (List V)) (after : Option (List V)) (planned : Plan) (p : Place) (told : List (Option Truth)) (given : Bool) : Type 0 where
+  pub sound : IsSound cmp l (trees_of forest) ranges after planned
+  pub stands : Stands l ranges p told
+  pub whole : given ≡ true → p.depth ≡ length ranges

@@ -1,0 +1,87 @@
+//! The moves of a search, whatever the conjuncts say.
+ghost use Rattle.std.specs.Prelude.{◌≡◌, ◌+◌, ◌-◌, ◌<◌, ◌≤◌, [], length, slice_index_or};
+ghost use Rattle.zf_walk.specs.Places.{IsAgenda};
+ghost use Rattle.zf_plan.specs.Places.{IsAt, Forgets, Lands};
+
+use crate::place::Place;
+use zf_walk::{Agenda, Judge, Range, Truth};
+
+/// Goes to the value at place `i` of range `k`, or past the row before it where the range ends before.
+fn land(place: &mut Place, k: usize, i: usize, end: usize)
+    requires { k < length place.old.places.items }
+    ensures { Lands end k i place.old place.new }
+{
+    if i < end {
+        place.places[k] = i;
+        place.depth = k + 1;
+        place.fresh = true;
+    } else {
+        place.depth = k;
+        place.fresh = false;
+    }
+}
+
+/// Goes to the first value of the next range, or past the row where that is empty.
+pub fn descend<V, J: Judge<V>>(
+    judge: &J,
+    ranges: &[Range<V>],
+    agenda: &Agenda,
+    place: &mut Place,
+    told: &mut [Option<Truth>],
+)
+    requires agenda { IsAgenda (J.conjuncts judge.now) (length ranges.now) agenda.now }
+    requires at { IsAt ranges.now place.old }
+    requires deeper { place.old.depth < length ranges.now }
+    requires all { length told.old ≡ (J.conjuncts judge.now).number }
+    ensures forgets { Forgets (J.conjuncts judge.now) (place.old.depth + 1) told.old told.new }
+    ensures lands { Lands (length (slice_index_or ranges.now place.old.depth [])) place.old.depth 0 place.old place.new }
+{
+    let depth = place.depth;
+    let range = &ranges[depth];
+    let end = range.values.len();
+    forget(judge, agenda, ranges.len(), depth + 1, told);
+    land(place, depth, 0, end);
+}
+
+/// Goes to the next value of the last range, or past the row before it.
+pub fn retreat<V, J: Judge<V>>(
+    judge: &J,
+    ranges: &[Range<V>],
+    agenda: &Agenda,
+    place: &mut Place,
+    told: &mut [Option<Truth>],
+)
+    requires agenda { IsAgenda (J.conjuncts judge.now) (length ranges.now) agenda.now }
+    requires at { IsAt ranges.now place.old }
+    requires below { 0 < place.old.depth }
+    requires all { length told.old ≡ (J.conjuncts judge.now).number }
+    ensures forgets { Forgets (J.conjuncts judge.now) place.old.depth told.old told.new }
+    ensures lands { Lands (length (slice_index_or ranges.now (place.old.depth - 1) [])) (place.old.depth - 1) (slice_index_or place.old.places.items (place.old.depth - 1) 0 + 1) place.old place.new }
+{
+    let last = place.depth - 1;
+    let range = &ranges[last];
+    let end = range.values.len();
+    let next = place.places[last] + 1;
+    forget(judge, agenda, ranges.len(), last + 1, told);
+    land(place, last, next, end);
+}
+
+/// Forgets the truths of the leaves that need so many values.
+fn forget<V, J: Judge<V>>(
+    judge: &J,
+    agenda: &Agenda,
+    components: usize,
+    due: usize,
+    told: &mut [Option<Truth>],
+)
+    requires agenda { IsAgenda (J.conjuncts judge.now) components agenda.now }
+    requires due { due ≤ components }
+    requires all { length told.old ≡ (J.conjuncts judge.now).number }
+    ensures { Forgets (J.conjuncts judge.now) due told.old told.new }
+{
+    let mut leaf = agenda.firsts[due];
+    while leaf < told.len() {
+        told[leaf] = None;
+        leaf = agenda.nexts[leaf];
+    }
+}

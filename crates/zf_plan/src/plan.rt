@@ -1,0 +1,80 @@
+//! Which leaves and which conjuncts a value that is bound concerns.
+ghost use Rattle.std.specs.Prelude.{◌≡◌, ◌+◌, ◌^◌, ◌<◌, length, IfOk};
+ghost use Rattle.zf_walk.specs.Progress.{AreDueWithin};
+ghost use Rattle.zf_plan.specs.Trees.{tree_at, HasLeavesWithin, HaveLeavesWithin};
+ghost use Rattle.zf_plan.specs.Groves.{trees_made, trees_of};
+ghost use Rattle.zf_plan.specs.Knowing.{AreBelow};
+ghost use Rattle.zf_plan.specs.Places.{touches, IsPlan};
+
+use crate::forest::Forest;
+use crate::listed::Listed;
+use crate::node::Node;
+use std::alloc::{AllocError, Global};
+use zf_walk::{Agenda, Judge};
+
+/// The leaves by how many values they need, and for each number of values the conjuncts that have a leaf which needs so many.
+#[derive(Drop)]
+pub struct Plan {
+    pub agenda: Agenda,
+    pub touched: Vec<Listed>,
+}
+
+impl Plan {
+    #[tactic(auto, using(crate::proofs::Numbers::all_below_push))]
+    pub fn new<V, J: Judge<V>>(
+        alloc: Global,
+        judge: &J,
+        forest: &Forest,
+        components: usize,
+    ) -> Result<Plan, AllocError>
+        requires due { AreDueWithin (J.conjuncts judge.now) components }
+        requires leaves { HaveLeavesWithin (J.conjuncts judge.now).number (trees_of forest.now) }
+        requires room { components + 1 < 2 ^ 64 }
+        ensures { IfOk result (IsPlan (J.conjuncts judge.now) (length (trees_of forest.now)) components) }
+    {
+        let agenda = Agenda::new(alloc, judge, components)?;
+        let mut touched = Vec::new(alloc);
+        for due in 0..components + 1 {
+            touched.push(touched_at(alloc, judge, forest, due)?)?;
+        }
+        Ok(Plan { agenda, touched })
+    }
+}
+
+/// The conjuncts that have a leaf which needs so many values.
+#[tactic(auto, using(crate::proofs::Numbers::below_push))]
+fn touched_at<V, J: Judge<V>>(
+    alloc: Global,
+    judge: &J,
+    forest: &Forest,
+    due: usize,
+) -> Result<Listed, AllocError>
+    requires { HaveLeavesWithin (J.conjuncts judge.now).number (trees_of forest.now) }
+    ensures { IfOk result (AreBelow (length (trees_of forest.now))) }
+{
+    let mut numbers = Vec::new(alloc);
+    for conjunct in 0..forest.count() {
+        if is_touched(judge, forest, forest.root(conjunct), due) {
+            numbers.push(conjunct)?;
+        }
+    }
+    Ok(Listed { numbers })
+}
+
+/// Whether a tree has a leaf that needs so many values.
+fn is_touched<V, J: Judge<V>>(judge: &J, forest: &Forest, part: usize, due: usize) -> bool
+    requires part { part < length (trees_made forest.now) }
+    requires leaves { HasLeavesWithin (J.conjuncts judge.now).number (tree_at (trees_made forest.now) part) }
+    ensures { result ≡ touches (J.conjuncts judge.now) due (tree_at (trees_made forest.now) part) }
+{
+    match forest.node(part) {
+        Node::Leaf(of) => judge.due(of) == due,
+        Node::Not(of) => is_touched(judge, forest, of, due),
+        Node::And(left, right) => {
+            is_touched(judge, forest, left, due) || is_touched(judge, forest, right, due)
+        }
+        Node::Or(left, right) => {
+            is_touched(judge, forest, left, due) || is_touched(judge, forest, right, due)
+        }
+    }
+}

@@ -1,0 +1,134 @@
+//! Searches.
+ghost use Rattle.std.specs.Prelude.{◌≡◌, ◌<◌, length, IfOk, OnErr, IsSomeAnd, IfSome, slice_get, unwrap_or, []};
+ghost use Rattle.std.specs.Option.{option_copied};
+ghost use Rattle.zf_walk.specs.Rows.{TiesAreEqual, AreAscending, HasLength};
+ghost use Rattle.zf_walk.specs.Progress.{AreDueWithin, ended, AreAllAhead, SameAhead};
+ghost use Rattle.zf_plan.specs.Trees.{planted, HaveLeavesWithin};
+ghost use Rattle.zf_plan.specs.Groves.{trees_of};
+ghost use Rattle.zf_plan.specs.Progress.{SameProblem, Advances};
+
+use crate::forest::Forest;
+use crate::place::Place;
+use crate::plan::Plan;
+use crate::steps::next_answer;
+use std::alloc::{AllocError, Global};
+use std::marker::Model;
+use zf_walk::{Judge, Range, Row, Step, Truth, pick};
+
+/// A search over the rows of some ranges, in ascending order, for those on which no conjunct is False. It passes over rows that hold none, and takes no memory of its own once it stands.
+#[derive(Drop)]
+pub struct Search<'a, V: Ord, J: Judge<V>> {
+    judge: J,
+    forest: Forest,
+    ranges: Vec<Range<V>>,
+    after: Option<&'a [V]>,
+    plan: Plan,
+    place: Place,
+    /// For each leaf its truth on the bound values, where it was asked for.
+    told: Vec<Option<Truth>>,
+    /// Whether the place is that of a row that the last step gave.
+    given: bool,
+}
+
+impl<'a, V: Ord, J: Judge<V>> Model for Search<'a, V, J> {
+    ghost use Rattle.std.specs.Option.{option_copied};
+    ghost use Rattle.zf_plan.specs.Progress.{Progress};
+    ghost use Rattle.zf_plan.specs.Searches.{view_of, IsStanding};
+
+    ghost Value = { Progress V J };
+
+    ghost view = { λ w. view_of w.judge w.forest w.ranges.items (option_copied w.after) w.place w.given };
+
+    ghost invariant = { λ w. IsStanding V.cmp (J.conjuncts w.judge) w.forest w.ranges.items (option_copied w.after) w.plan w.place w.told.items w.given };
+}
+
+impl<'a, V: Ord + Drop, J: Judge<V> + Drop> Search<'a, V, J> {
+    /// Stands before the first event. The named row need not lie in the ranges.
+    pub fn start(
+        alloc: Global,
+        judge: J,
+        forest: Forest,
+        ranges: Vec<Range<V>>,
+        after: Option<&'a [V]>,
+    ) -> Result<Search<'a, V, J>, AllocError>
+        requires ascending { AreAscending V.cmp ranges.items }
+        requires ties { TiesAreEqual V.cmp }
+        requires named { HasLength (option_copied after) (length ranges.items) }
+        requires due { AreDueWithin (J.conjuncts judge) (length ranges.items) }
+        requires leaves { HaveLeavesWithin (J.conjuncts judge).number (trees_of forest) }
+        ensures problem { IfOk result (λ w. (w.judge ≡ judge) × (w.forest ≡ forest) × (w.ranges ≡ ranges.items) × (w.after ≡ option_copied after.entry)) }
+        ensures events { IfOk result (λ w. AreAllAhead V.cmp (planted (J.conjuncts judge) (trees_of forest)) ranges.items (option_copied after.entry) w.ahead) }
+        ensures first { IfOk result (λ w. w.last ≡ None) }
+    {
+        let plan = Plan::new(alloc, &judge, &forest, ranges.len())?;
+        let places = vec![in alloc; 0; ranges.len()]?;
+        let told = vec![in alloc; None; judge.count()]?;
+        let place = Place {
+            places,
+            depth: 0,
+            fresh: true,
+        };
+        Ok(Search {
+            judge,
+            forest,
+            ranges,
+            after,
+            plan,
+            place,
+            told,
+            given: false,
+        })
+    }
+}
+
+impl<'a, V: Ord, J: Judge<V>> Search<'a, V, J> {
+    /// Goes on to the next row that is not False.
+    pub fn advance(&mut self) -> Result<Step, AllocError>
+        ensures problem { SameProblem self.old self.new }
+        ensures answer { IfOk result (λ step. Advances V.cmp (planted (J.conjuncts self.old.judge) (trees_of self.old.forest)) step self.old self.new) }
+        ensures refused { OnErr result (SameAhead V.cmp (planted (J.conjuncts self.old.judge) (trees_of self.old.forest)) self.old.ranges self.old.after self.old.ahead self.new.ahead × (self.new.last ≡ None)) }
+        ensures ended { self.old.ahead ≡ ended → result ≡ Ok Step.End }
+    {
+        self.given = false;
+        match next_answer(
+            &self.judge,
+            &self.forest,
+            &self.ranges,
+            self.after,
+            &self.plan,
+            &mut self.place,
+            &mut self.told,
+        )? {
+            Step::Holds => {
+                self.given = true;
+                Ok(Step::Holds)
+            }
+            Step::Breaks => {
+                self.given = true;
+                Ok(Step::Breaks)
+            }
+            Step::End => Ok(Step::End),
+        }
+    }
+
+    /// A value of the row that the last step gave.
+    pub fn value(&self, i: usize) -> &V
+        requires { IsSomeAnd self.now.last (λ row. i < length row) }
+        ensures { IfSome self.now.last (λ row. slice_get row i ≡ Some result.now) }
+    {
+        pick(&self.ranges, &self.place.places[..self.place.depth], i)
+    }
+}
+
+/// The row that the last step gave; no values where it gave none.
+impl<'a, V: Ord, J: Judge<V>> Row<V> for Search<'a, V, J> {
+    ghost values = { λ w. unwrap_or w.last [] };
+
+    fn len(&self) -> usize {
+        if self.given { self.place.depth } else { 0 }
+    }
+
+    fn get(&self, i: usize) -> &V {
+        self.value(i)
+    }
+}
