@@ -1,4 +1,4 @@
-use Rattle.std.proofs.Common.{◌≡◌, ◌<◌, length, get_or, ap, ◌∙◌, subst, arith}
+use Rattle.std.proofs.Common.{◌<◌, length, get_or, ap, ◌∙◌, subst, arith}
 use Rattle.zf_lines.proofs.Parts.{all_columns, more_columns}
 use Rattle.zf_lines.proofs.column.columns_of.Goals as goal
 
