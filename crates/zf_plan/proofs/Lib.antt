@@ -3,5 +3,6 @@ pub mod Knowing
 pub mod TreeTruths
 pub mod Numbers
 pub mod Forgetting
+pub mod Narrowing
 pub mod Moving
 pub mod Stepping

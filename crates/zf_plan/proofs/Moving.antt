@@ -96,7 +96,7 @@ module _ {V : Type 0} (ranges : List (List V)) (p : Place) (at : IsAt ranges p) 
   length-places : (i : ℕ) → i ≤ p.depth → length (take i p.places.items) ≡ i
   length-places i h = length-take-le i p.places.items (omega (arith, at.all_places, at.shallow))
 
-  length-front : (i : ℕ) → i ≤ p.depth → length (picked ranges (take i p.places.items)) ≡ i
+  pub length-front : (i : ℕ) → i ≤ p.depth → length (picked ranges (take i p.places.items)) ≡ i
   length-front i h = length-picked ranges (take i p.places.items) (within-front i h) ∙ length-places i h
 
   pub length-bound : length (bound p) ≡ p.depth

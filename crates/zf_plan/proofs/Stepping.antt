@@ -1,11 +1,11 @@
 -- The steps of a search: rows that hold no event are passed, and a whole row is an answer.
-use Rattle.std.proofs.Common.{◌≡◌, ℕ, ◌+◌, ◌<◌, ◌≤◌, true, false, cond, eqb, ◌⊎◌, List, [], ◌++◌, length, get_or, drop, take, replicate, Option, None, inl, inr, refl, sym, ap, ◌∙◌, arith, subst}
+use Rattle.std.proofs.Common.{◌≡◌, ℕ, ◌+◌, ◌<◌, ◌≤◌, true, false, cond, eqb, ◌⊎◌, List, [], ◌∷◌, ◌++◌, length, get_or, set, drop, take, replicate, Option, None, inl, inr, refl, sym, ap, ◌∙◌, arith, subst, append_assoc, length-append}
 use Rattle.std.specs.Prelude.{◌≢◌}
 use Rattle.std.specs.declared.cmp.Ordering.{Ordering}
 use Rattle.std.specs.declared.cmp.Ordering.TheVariants.{Less, Equal}
 use Rattle.std.specs.Cmp.{IsTotalOrder}
-use Rattle.std.proofs.lemmas.Bool.{false≢true}
-use Rattle.std.proofs.lemmas.List.{take_all, length-replicate, get_or-replicate}
+use Rattle.std.proofs.lemmas.Bool.{false≢true, cases_eq}
+use Rattle.std.proofs.lemmas.List.{take_all, take-take, length-take-le, length-replicate, get_or-replicate, length-set, get_or-set_same, get_or-set_other}
 use Rattle.zf_walk.specs.declared.judge.Truth.{Truth}
 use Rattle.zf_walk.specs.declared.judge.Truth.TheVariants.{True, False, Out}
 use Rattle.zf_walk.specs.declared.step.Step.{Step}
@@ -17,7 +17,7 @@ use Rattle.zf_walk.specs.Progress.{Ahead, IsAhead, AreDueWithin, Takes, AreAllAh
 use Rattle.zf_walk.specs.Picked.{AreWithin, picked}
 use Rattle.zf_walk.specs.Places.{reaches, is_reached, below, above}
 use Rattle.zf_walk.proofs.Order.{reaches-under}
-use Rattle.zf_walk.proofs.Picks.{picked-nil, IsFrontOf-picked, IsRowOf-front, IsRowOf-length}
+use Rattle.zf_walk.proofs.Picks.{picked-nil, slice_get-nth, IsFrontOf-picked, IsRowOf-front, IsRowOf-length}
 use Rattle.zf_walk.proofs.Reaching.{IsLater-from, later-reached, unreached, IsAhead-from, IsAhead-to}
 use Rattle.zf_walk.proofs.Truths.{IsTruthOf-false, IsTruthOf-only}
 use Rattle.zf_walk.proofs.Moving.{enough}
@@ -25,9 +25,10 @@ use Rattle.zf_plan.specs.declared.place.Place.{Place}
 use Rattle.zf_plan.specs.declared.plan.Plan.{Plan}
 use Rattle.zf_plan.specs.Trees.{Tree, planted}
 use Rattle.zf_plan.specs.Knowing.{Tells}
-use Rattle.zf_plan.specs.Places.{IsAt, bound, path, ahead_of, Stands, IsSound, steps_left, is_over, IsHopeless, Forgets, Lands, KeepsEvents, GoesOn, Gives}
+use Rattle.zf_plan.specs.Choosing.{IsChoice}
+use Rattle.zf_plan.specs.Places.{IsAt, bound, path, ahead_of, Stands, IsSound, steps_left, is_over, IsHopeless, Forgets, LandsNext, KeepsEvents, GoesOn, Gives}
 use Rattle.zf_plan.proofs.TreeTruths.{planted-one, planted-kept, planted-due}
-use Rattle.zf_plan.proofs.Moving.{same-under, length-bound, length-path, IsFrom, from-fresh, from-past, landed, tells-landed}
+use Rattle.zf_plan.proofs.Moving.{same-under, length-front, length-bound, length-path, IsFrom, from-fresh, from-past, landed, tells-landed}
 
 -- what the order, the leaves and what is gone over are known to be
 pub record Setting {V : Type 0} (cmp : V → V → Ordering) (l : Conjuncts V) (trees : List Tree) (ranges : List (List V)) (after : Option (List V)) (planned : Plan) : Type 0 where
@@ -46,32 +47,6 @@ module _ {V : Type 0} {cmp : V → V → Ordering} {l : Conjuncts V} {trees : Li
   keep : KeepTruths (planted l trees)
   keep = planted-kept l given.kept trees (given.sound).leaves
 
-  -- ---- moves
-
-  -- to a place of range k, where the leaves that need one value more are forgotten
-  moves : (p q : Place) (old told : List (Option Truth)) (k f : ℕ) → Stands l ranges p old → (near : k < length ranges) → k ≤ p.depth → IsFrom cmp ranges p k (picked ranges (take k p.places.items)) f
-      → Forgets l (k + 1) old told → Lands (length (get_or ranges k [])) k f p q → GoesOn cmp (planted l trees) ranges after p q × Stands l ranges q told
-  moves p q old told k f st near deep from g lands =
-      let h = landed cmp given.total (given.sound).ties ranges (given.sound).ascending p st.at k near (planted l trees) after deep f f (omega arith) from q (λ e ev m v tail a b n w. absurd (omega arith)) lands in (
-        record { same = h.same; smaller = h.smaller },
-        record {
-          at = h.at;
-          tells = tells-landed l ranges k (bound p) (bound q) old told st.tells g (omega (arith, length-bound ranges p st.at)) (omega (arith, length-bound ranges q h.at, h.deep)) h.fronts;
-        },
-      )
-
-  pub descends : (p q : Place) (old told : List (Option Truth)) → Stands l ranges p old → p.fresh ≡ true → p.depth < length ranges → Forgets l (p.depth + 1) old told → Lands (length (get_or ranges p.depth [])) p.depth 0 p q
-      → GoesOn cmp (planted l trees) ranges after p q × Stands l ranges q told
-  descends p q old told st f near g lands =
-      moves p q old told p.depth 0 st near (omega arith) (from-fresh cmp given.total (given.sound).ties ranges (given.sound).ascending p st.at p.depth near f refl) g lands
-
-  pub retreats : (p q : Place) (old told : List (Option Truth)) (k : ℕ) → Stands l ranges p old → p.fresh ≡ false → p.depth ≡ k + 1 → Forgets l (k + 1) old told → Lands (length (get_or ranges k [])) k (get_or p.places.items k 0 + 1) p q
-      → GoesOn cmp (planted l trees) ranges after p q × Stands l ranges q told
-  retreats p q old told k st f d g lands =
-      let at = st.at in
-      let near : k < length ranges = omega (arith, at.shallow) in
-      moves p q old told k (get_or p.places.items k 0 + 1) st near (omega arith) (from-past cmp given.total (given.sound).ties ranges (given.sound).ascending p at k near f d) g lands
-
   -- ---- rows that hold no event
 
   hopeless-none : (road : List V) → length road ≤ length ranges → IsHopeless cmp l trees (length ranges) after road → (e : Event V) (tail : List V) → IsEvent cmp (planted l trees) ranges after e → road ++ tail ≡ e.row → ⊥
@@ -84,9 +59,69 @@ module _ {V : Type 0} {cmp : V → V → Ordering} {l : Conjuncts V} {trees : Li
       let m = IsRowOf-length ranges e.row ev.within in
       ev.not_false (IsTruthOf-false (planted l trees) one e.row r.0 e.truth r.1 (let d = due r.0 r.1 in omega arith) (subst (λ row. (planted l trees).says r.0 row False) is (r.2 tail)) ev.truth_of)
 
-  pub passes : (p q : Place) (told : List (Option Truth)) → Stands l ranges p told → p.fresh ≡ true → q.fresh ≡ false → q.places.items ≡ p.places.items → q.depth ≡ p.depth
+  -- ---- moves
+
+  -- to a chosen place of range k, where the leaves that need one value more are forgotten
+  moves : (p q : Place) (old told : List (Option Truth)) (choices : List (Option (List ℕ))) (k f : ℕ) → IsAt ranges p → Tells l ranges (bound p) old → length choices ≡ length ranges
+      → ((j : ℕ) → j ≤ k → IsChoice l trees (picked ranges (take j p.places.items)) (get_or ranges j []) (get_or choices j None)) → (near : k < length ranges) → k ≤ p.depth
+      → IsFrom cmp ranges p k (picked ranges (take k p.places.items)) f → Forgets l (k + 1) old told → LandsNext (length (get_or ranges k [])) (get_or choices k None) k f p q
+      → GoesOn cmp (planted l trees) ranges after p q × Stands l trees ranges q told choices
+  moves p q old told choices k f at tells long chosen near deep from g next =
+      let road = picked ranges (take k p.places.items) in
+      let n = next.1 in
+      let short : length (take k p.places.items) ≡ k = length-take-le k p.places.items (omega (arith, at.all_places)) in
+      let h = landed cmp given.total (given.sound).ties ranges (given.sound).ascending p at k near (planted l trees) after deep f next.0 n.up from q
+      (λ e ev m v tail a b w is. hopeless-none (road ++ v ∷ []) (omega (arith, length-append road (v ∷ []), length-front ranges p at k deep))
+      (inr (chosen k (omega arith) m v (slice_get-nth (get_or ranges k []) m v w) (n.skipped m a b))) e tail ev (append_assoc road (v ∷ []) tail ∙ is)) next.2 in (
+        record { same = h.same; smaller = h.smaller },
+        record {
+          at = h.at;
+          tells = tells-landed l ranges k (bound p) (bound q) old told tells g (omega (arith, length-bound ranges p at)) (omega (arith, length-bound ranges q h.at, h.deep)) h.fronts;
+          all_choices = long;
+          chosen = λ j m.
+              let low : j ≤ k = omega (arith, h.deep) in
+              let same : take j p.places.items ≡ take j q.places.items = sym (take-take j p.depth p.places.items (omega arith)) ∙ sym (h.fronts j low) ∙ take-take j q.depth q.places.items (omega arith) in
+              subst (λ is. IsChoice l trees (picked ranges is) (get_or ranges j []) (get_or choices j None)) same (chosen j low);
+        },
+      )
+
+  pub descends : (p q : Place) (first old told : List (Option Truth)) (choices : List (Option (List ℕ))) (choice : Option (List ℕ)) → Stands l trees ranges p first choices → Tells l ranges (bound p) old
+      → IsChoice l trees (path ranges p) (get_or ranges p.depth []) choice → p.fresh ≡ true → p.depth < length ranges → Forgets l (p.depth + 1) old told
+      → LandsNext (length (get_or ranges p.depth [])) (get_or (set choices p.depth choice) p.depth None) p.depth 0 p q
+      → GoesOn cmp (planted l trees) ranges after p q × Stands l trees ranges q told (set choices p.depth choice)
+  descends p q first old told choices choice st tells here f near g lands =
+      let at = st.at in
+      let inside : p.depth < length choices = omega (arith, st.all_choices) in
+      moves p q old told (set choices p.depth choice) p.depth 0 at tells (length-set choices p.depth choice ∙ st.all_choices)
+      (λ j h. elim (cases_eq j p.depth) [
+        | inl e ↦
+            let is : get_or (set choices p.depth choice) j None ≡ choice = ap (λ i. get_or (set choices p.depth choice) i None) e ∙ get_or-set_same choices p.depth choice None inside in
+            subst (IsChoice l trees (picked ranges (take j p.places.items)) (get_or ranges j [])) (sym is) (subst (λ i. IsChoice l trees (picked ranges (take i p.places.items)) (get_or ranges i []) choice) (sym e) here)
+        | inr ne ↦
+            subst (IsChoice l trees (picked ranges (take j p.places.items)) (get_or ranges j [])) (sym (get_or-set_other choices p.depth j choice None ne)) (st.chosen j (omega arith))
+      ])
+      near (omega arith) (from-fresh cmp given.total (given.sound).ties ranges (given.sound).ascending p at p.depth near f refl) g lands
+
+  pub retreats : (p q : Place) (old told : List (Option Truth)) (choices : List (Option (List ℕ))) (k : ℕ) → Stands l trees ranges p old choices → p.fresh ≡ false → p.depth ≡ k + 1 → Forgets l (k + 1) old told
+      → LandsNext (length (get_or ranges k [])) (get_or choices k None) k (get_or p.places.items k 0 + 1) p q → GoesOn cmp (planted l trees) ranges after p q × Stands l trees ranges q told choices
+  retreats p q old told choices k st f d g lands =
+      let at = st.at in
+      let near : k < length ranges = omega (arith, at.shallow) in
+      moves p q old told choices k (get_or p.places.items k 0 + 1) at st.tells st.all_choices (λ j h. st.chosen j (omega arith)) near (omega arith)
+      (from-past cmp given.total (given.sound).ties ranges (given.sound).ascending p at k near f d) g lands
+
+  -- where no choice was made
+  pub unchosen : (p : Place) (first told : List (Option Truth)) (choices : List (Option (List ℕ))) (choice : Option (List ℕ)) → Stands l trees ranges p first choices → Tells l ranges (bound p) told → Stands l trees ranges p told (set choices p.depth choice)
+  unchosen p first told choices choice st tells = record {
+    at = st.at;
+    tells = tells;
+    all_choices = length-set choices p.depth choice ∙ st.all_choices;
+    chosen = λ j m. subst (IsChoice l trees (picked ranges (take j p.places.items)) (get_or ranges j [])) (sym (get_or-set_other choices p.depth j choice None (λ e. omega arith))) (st.chosen j m);
+  }
+
+  pub passes : (p q : Place) (told : List (Option Truth)) (choices : List (Option (List ℕ))) → Stands l trees ranges p told choices → p.fresh ≡ true → q.fresh ≡ false → q.places.items ≡ p.places.items → q.depth ≡ p.depth
       → IsHopeless cmp l trees (length ranges) after (path ranges p) → GoesOn cmp (planted l trees) ranges after p q
-  passes p q told st f g ps d h =
+  passes p q told choices st f g ps d h =
       let at = st.at in
       let same : path ranges q ≡ path ranges p = ap (λ is. picked ranges (take q.depth is)) ps ∙ ap (λ k. picked ranges (take k p.places.items)) d in
       let stairs : bound q ≡ bound p = ap (λ is. take q.depth is) ps ∙ ap (λ k. take k p.places.items) d in
@@ -101,20 +136,6 @@ module _ {V : Type 0} {cmp : V → V → Ordering} {l : Conjuncts V} {trees : Li
             let z : steps_left ranges q ≡ 1 + above 0 ranges (bound p) =
             ap (λ b. cond b (below 0 (drop q.depth ranges)) 1 + above 0 ranges (bound q)) g ∙ ap (λ is. 1 + above 0 ranges is) stairs in
             omega (arith, a, z, enough 0 (drop p.depth ranges));
-      }
-
-  -- the same values are bound
-  pub stands-past : (p q : Place) (told : List (Option Truth)) → q.places.items ≡ p.places.items → q.depth ≡ p.depth → Stands l ranges p told → Stands l ranges q told
-  stands-past p q told ps d st =
-      let at = st.at in
-      let stairs : bound q ≡ bound p = ap (λ is. take q.depth is) ps ∙ ap (λ k. take k p.places.items) d in
-      record {
-        at = record {
-          all_places = ap length ps ∙ at.all_places;
-          shallow = omega (arith, at.shallow);
-          within = subst (AreWithin ranges) (sym stairs) at.within;
-        };
-        tells = subst (λ is. Tells l ranges is told) (sym stairs) st.tells;
       }
 
   -- a whole row on which a conjunct is False
@@ -219,8 +240,9 @@ pub setting-of : {V : Type 0} {cmp : V → V → Ordering} {l : Conjuncts V} {tr
 setting-of o one keep sound = record { total = o; one_truth = one; kept = keep; sound = sound }
 
 -- no value is bound and nothing is told
-pub stands-first : {V : Type 0} (l : Conjuncts V) (ranges : List (List V)) (p : Place) (told : List (Option Truth)) → p.depth ≡ 0 → length p.places.items ≡ length ranges → told ≡ replicate l.number None → Stands l ranges p told
-stands-first l ranges p told d long e = record {
+pub stands-first : {V : Type 0} (l : Conjuncts V) (trees : List Tree) (ranges : List (List V)) (p : Place) (told : List (Option Truth)) (choices : List (Option (List ℕ))) → p.depth ≡ 0 → length p.places.items ≡ length ranges
+    → told ≡ replicate l.number None → length choices ≡ length ranges → Stands l trees ranges p told choices
+stands-first l trees ranges p told choices d long e all = record {
   at = record {
     all_places = long;
     shallow = omega arith;
@@ -230,8 +252,16 @@ stands-first l ranges p told d long e = record {
     all = ap length e ∙ length-replicate l.number None;
     right = λ c t m n f. absurd (let z : get_or told c None ≡ None = ap (λ xs. get_or xs c None) e ∙ get_or-replicate l.number c None None m in cc);
   };
+  all_choices = all;
+  chosen = λ k m. absurd (omega arith);
 }
 
 -- what was told at a list of places that is the bound one
-pub stands-told : {V : Type 0} (l : Conjuncts V) (ranges : List (List V)) (p : Place) (old told : List (Option Truth)) (all : List ℕ) → all ≡ p.places.items → Stands l ranges p old → Tells l ranges (take p.depth all) told → Stands l ranges p told
-stands-told l ranges p old told all e st h = record { at = st.at; tells = subst (λ is. Tells l ranges (take p.depth is) told) e h }
+pub stands-told : {V : Type 0} (l : Conjuncts V) (trees : List Tree) (ranges : List (List V)) (p : Place) (old told : List (Option Truth)) (choices : List (Option (List ℕ))) (all : List ℕ) → all ≡ p.places.items → Stands l trees ranges p old choices
+    → Tells l ranges (take p.depth all) told → Stands l trees ranges p told choices
+stands-told l trees ranges p old told choices all e st h = record {
+  at = st.at;
+  tells = subst (λ is. Tells l ranges (take p.depth is) told) e h;
+  all_choices = st.all_choices;
+  chosen = st.chosen;
+}

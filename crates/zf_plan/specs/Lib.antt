@@ -1,7 +1,9 @@
 pub mod Trees
 pub mod Groves
+pub mod Choices
 pub mod Progress
 pub mod Laws
 pub mod Knowing
+pub mod Choosing
 pub mod Places
 pub mod Searches

@@ -15,6 +15,7 @@ use Rattle.zf_plan.specs.declared.place.Place.{Place}
 use Rattle.zf_plan.specs.declared.plan.Plan.{Plan}
 use Rattle.zf_plan.specs.Trees.{Tree, leaf, negated, both, either, HaveLeavesWithin}
 use Rattle.zf_plan.specs.Knowing.{Tells, IsRefuted, AreBelow}
+use Rattle.zf_plan.specs.Choosing.{IsChoice, IsNextChoice}
 
 -- ---- plans
 
@@ -25,10 +26,15 @@ touches l due (negated a) = touches l due a
 touches l due (both a b) = touches l due a || touches l due b
 touches l due (either a b) = touches l due a || touches l due b
 
+-- for each number up to n a list of numbers below another
+pub record AreListed (count n : ℕ) (lists : List (List ℕ)) : Type 0 where
+  pub all : length lists ≡ n + 1
+  pub below : (k : ℕ) → k < length lists → AreBelow count (slice_index_or lists k [])
+
 pub record IsPlan {V : Type 0} (l : Conjuncts V) (count n : ℕ) (plan : Plan) : Type 0 where
   pub agenda : IsAgenda l n plan.agenda
-  pub all : length plan.touched.items ≡ n + 1
-  pub touched : (k : ℕ) → k ≤ n → AreBelow count (slice_index_or plan.touched.items k [])
+  pub touched : AreListed count n plan.touched.items
+  pub narrowing : AreListed count n plan.narrowing.items
 
 -- ---- places
 
@@ -47,10 +53,12 @@ path ranges p = picked ranges (bound p)
 abbrev pub ahead_of : {V : Type 0} → List (List V) → Place → Ahead V
 ahead_of ranges p = record { path = path ranges p; here = p.fresh }
 
--- what holds between two steps
-pub record Stands {V : Type 0} (l : Conjuncts V) (ranges : List (List V)) (p : Place) (told : List (Option Truth)) : Type 0 where
+-- what holds between two steps: what was told is right, and for each value that is bound what was chosen of its range
+pub record Stands {V : Type 0} (l : Conjuncts V) (trees : List Tree) (ranges : List (List V)) (p : Place) (told : List (Option Truth)) (choices : List (Option (List ℕ))) : Type 0 where
   pub at : IsAt ranges p
   pub tells : Tells l ranges (bound p) told
+  pub all_choices : length choices ≡ length ranges
+  pub chosen : (k : ℕ) → k < p.depth → IsChoice l trees (picked ranges (take k p.places.items)) (slice_index_or ranges k []) (slice_index_or choices k None)
 
 -- what holds of what a search goes over
 pub record IsSound {V : Type 0} (cmp : V → V → Ordering) (l : Conjuncts V) (trees : List Tree) (ranges : List (List V)) (after : Option (List V)) (planned : Plan) : Type 0 where
@@ -81,6 +89,10 @@ pub record Forgets {V : Type 0} (l : Conjuncts V) (k : ℕ) (old new : List (Opt
 abbrev pub Lands : ℕ → ℕ → ℕ → Place → Place → Type 0
 Lands end k i old new = ((i < end) × (new.places.items ≡ slice_set old.places.items k i) × (new.depth ≡ k + 1) × (new.fresh ≡ true))
     ⊎ ((end ≤ i) × (new.places.items ≡ old.places.items) × (new.depth ≡ k) × (new.fresh ≡ false))
+
+-- to the next chosen place from one on
+abbrev pub LandsNext : ℕ → Option (List ℕ) → ℕ → ℕ → Place → Place → Type 0
+LandsNext end choice k from old new = (next : ℕ) × IsNextChoice choice from next × Lands end k next old new
 
 -- ---- steps
 

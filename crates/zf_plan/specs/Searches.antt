@@ -1,5 +1,5 @@
 -- How a search is seen, and what always holds of one: for the model of `Search` alone.
-use Rattle.std.specs.Prelude.{◌≡◌, Bool, true, cond, List, length, Option, Some, None}
+use Rattle.std.specs.Prelude.{◌≡◌, ℕ, Bool, true, cond, List, length, Option, Some, None}
 use Rattle.std.specs.declared.cmp.Ordering.{Ordering}
 use Rattle.zf_walk.specs.declared.judge.Truth.{Truth}
 use Rattle.zf_walk.specs.Conjuncts.{Conjuncts}
@@ -19,7 +19,7 @@ view_of judge forest ranges after p given = record {
   ahead = ahead_of ranges p;
 }
 
-pub record IsStanding {V : Type 0} (cmp : V → V → Ordering) (l : Conjuncts V) (forest : Grove) (ranges : List (List V)) (after : Option (List V)) (planned : Plan) (p : Place) (told : List (Option Truth)) (given : Bool) : Type 0 where
+pub record IsStanding {V : Type 0} (cmp : V → V → Ordering) (l : Conjuncts V) (forest : Grove) (ranges : List (List V)) (after : Option (List V)) (planned : Plan) (p : Place) (told : List (Option Truth)) (choices : List (Option (List ℕ))) (given : Bool) : Type 0 where
   pub sound : IsSound cmp l (trees_of forest) ranges after planned
-  pub stands : Stands l ranges p told
+  pub stands : Stands l (trees_of forest) ranges p told choices
   pub whole : given ≡ true → p.depth ≡ length ranges

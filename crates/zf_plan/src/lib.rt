@@ -1,8 +1,11 @@
-//! The search over the rows of some ranges that passes over what holds no event: conjuncts are trees over leaves, and a tree that the first values settle as False ends the rows that begin with them.
+//! The search over the rows of some ranges that passes over what holds no event: conjuncts are trees over leaves, and a tree that the first values settle as False ends the rows that begin with them, and of a component only those values are tried that the trees leave.
 #![tactic(auto)]
 
+mod choice;
+mod choosing;
 mod evaluating;
 mod forest;
+mod guide;
 mod known;
 pub mod laws;
 mod listed;
@@ -14,4 +17,5 @@ mod search;
 mod steps;
 
 pub use forest::Forest;
+pub use guide::{Guide, Narrowed};
 pub use search::Search;

@@ -1,8 +1,9 @@
 //! The moves of a search, whatever the conjuncts say.
-ghost use Rattle.std.specs.Prelude.{◌≡◌, ◌+◌, ◌-◌, ◌<◌, ◌≤◌, [], length, slice_index_or};
+ghost use Rattle.std.specs.Prelude.{◌≡◌, ◌+◌, ◌-◌, ◌<◌, ◌≤◌, [], length, slice_index_or, None};
 ghost use Rattle.zf_walk.specs.Places.{IsAgenda};
-ghost use Rattle.zf_plan.specs.Places.{IsAt, Forgets, Lands};
+ghost use Rattle.zf_plan.specs.Places.{IsAt, Forgets, Lands, LandsNext};
 
+use crate::choice::Choice;
 use crate::place::Place;
 use zf_walk::{Agenda, Judge, Range, Truth};
 
@@ -21,11 +22,12 @@ fn land(place: &mut Place, k: usize, i: usize, end: usize)
     }
 }
 
-/// Goes to the first value of the next range, or past the row where that is empty.
+/// Goes to the first chosen value of the next range, or past the row where there is none.
 pub fn descend<V, J: Judge<V>>(
     judge: &J,
     ranges: &[Range<V>],
     agenda: &Agenda,
+    choices: &[Choice],
     place: &mut Place,
     told: &mut [Option<Truth>],
 )
@@ -33,21 +35,25 @@ pub fn descend<V, J: Judge<V>>(
     requires at { IsAt ranges.now place.old }
     requires deeper { place.old.depth < length ranges.now }
     requires all { length told.old ≡ (J.conjuncts judge.now).number }
+    requires choices { length choices.now ≡ length ranges.now }
     ensures forgets { Forgets (J.conjuncts judge.now) (place.old.depth + 1) told.old told.new }
-    ensures lands { Lands (length (slice_index_or ranges.now place.old.depth [])) place.old.depth 0 place.old place.new }
+    ensures lands { LandsNext (length (slice_index_or ranges.now place.old.depth [])) (slice_index_or choices.now place.old.depth None) place.old.depth 0 place.old place.new }
 {
     let depth = place.depth;
     let range = &ranges[depth];
     let end = range.values.len();
+    let choice = &choices[depth];
+    let next = choice.next(0, end);
     forget(judge, agenda, ranges.len(), depth + 1, told);
-    land(place, depth, 0, end);
+    land(place, depth, next, end);
 }
 
-/// Goes to the next value of the last range, or past the row before it.
+/// Goes to the next chosen value of the last range, or past the row before it.
 pub fn retreat<V, J: Judge<V>>(
     judge: &J,
     ranges: &[Range<V>],
     agenda: &Agenda,
+    choices: &[Choice],
     place: &mut Place,
     told: &mut [Option<Truth>],
 )
@@ -55,13 +61,16 @@ pub fn retreat<V, J: Judge<V>>(
     requires at { IsAt ranges.now place.old }
     requires below { 0 < place.old.depth }
     requires all { length told.old ≡ (J.conjuncts judge.now).number }
+    requires choices { length choices.now ≡ length ranges.now }
     ensures forgets { Forgets (J.conjuncts judge.now) place.old.depth told.old told.new }
-    ensures lands { Lands (length (slice_index_or ranges.now (place.old.depth - 1) [])) (place.old.depth - 1) (slice_index_or place.old.places.items (place.old.depth - 1) 0 + 1) place.old place.new }
+    ensures lands { LandsNext (length (slice_index_or ranges.now (place.old.depth - 1) [])) (slice_index_or choices.now (place.old.depth - 1) None) (place.old.depth - 1) (slice_index_or place.old.places.items (place.old.depth - 1) 0 + 1) place.old place.new }
 {
     let last = place.depth - 1;
     let range = &ranges[last];
     let end = range.values.len();
-    let next = place.places[last] + 1;
+    let from = place.places[last] + 1;
+    let choice = &choices[last];
+    let next = choice.next(from, end);
     forget(judge, agenda, ranges.len(), last + 1, told);
     land(place, last, next, end);
 }

@@ -4,24 +4,25 @@ ghost use Rattle.zf_walk.specs.Progress.{AreDueWithin};
 ghost use Rattle.zf_plan.specs.Trees.{tree_at, HasLeavesWithin, HaveLeavesWithin};
 ghost use Rattle.zf_plan.specs.Groves.{trees_made, trees_of};
 ghost use Rattle.zf_plan.specs.Knowing.{AreBelow};
-ghost use Rattle.zf_plan.specs.Places.{touches, IsPlan};
+ghost use Rattle.zf_plan.specs.Places.{touches, AreListed, IsPlan};
 
 use crate::forest::Forest;
+use crate::guide::Guide;
 use crate::listed::Listed;
 use crate::node::Node;
 use std::alloc::{AllocError, Global};
 use zf_walk::{Agenda, Judge};
 
-/// The leaves by how many values they need, and for each number of values the conjuncts that have a leaf which needs so many.
+/// The leaves by how many values they need, and for each number of values the conjuncts that have a leaf which needs so many, and those that have one which narrows the last of them.
 #[derive(Drop)]
 pub struct Plan {
     pub agenda: Agenda,
     pub touched: Vec<Listed>,
+    pub narrowing: Vec<Listed>,
 }
 
 impl Plan {
-    #[tactic(auto, using(crate::proofs::Numbers::all_below_push))]
-    pub fn new<V, J: Judge<V>>(
+    pub fn new<V, J: Guide<V>>(
         alloc: Global,
         judge: &J,
         forest: &Forest,
@@ -33,12 +34,33 @@ impl Plan {
         ensures { IfOk result (IsPlan (J.conjuncts judge.now) (length (trees_of forest.now)) components) }
     {
         let agenda = Agenda::new(alloc, judge, components)?;
-        let mut touched = Vec::new(alloc);
-        for due in 0..components + 1 {
-            touched.push(touched_at(alloc, judge, forest, due)?)?;
-        }
-        Ok(Plan { agenda, touched })
+        let touched = all_touched(alloc, judge, forest, components)?;
+        let narrowing = all_narrowing(alloc, judge, forest, components)?;
+        Ok(Plan {
+            agenda,
+            touched,
+            narrowing,
+        })
     }
+}
+
+/// For each number of values the conjuncts that have a leaf which needs so many.
+#[tactic(auto, using(crate::proofs::Numbers::all_below_push))]
+fn all_touched<V, J: Judge<V>>(
+    alloc: Global,
+    judge: &J,
+    forest: &Forest,
+    components: usize,
+) -> Result<Vec<Listed>, AllocError>
+    requires leaves { HaveLeavesWithin (J.conjuncts judge.now).number (trees_of forest.now) }
+    requires room { components + 1 < 2 ^ 64 }
+    ensures { IfOk result (λ lists. AreListed (length (trees_of forest.now)) components lists.items) }
+{
+    let mut touched = Vec::new(alloc);
+    for due in 0..components + 1 {
+        touched.push(touched_at(alloc, judge, forest, due)?)?;
+    }
+    Ok(touched)
 }
 
 /// The conjuncts that have a leaf which needs so many values.
@@ -75,6 +97,62 @@ fn is_touched<V, J: Judge<V>>(judge: &J, forest: &Forest, part: usize, due: usiz
         }
         Node::Or(left, right) => {
             is_touched(judge, forest, left, due) || is_touched(judge, forest, right, due)
+        }
+    }
+}
+
+/// For each number of values the conjuncts that have a leaf which narrows the last of them.
+#[tactic(auto, using(crate::proofs::Numbers::all_below_push))]
+fn all_narrowing<V, J: Guide<V>>(
+    alloc: Global,
+    judge: &J,
+    forest: &Forest,
+    components: usize,
+) -> Result<Vec<Listed>, AllocError>
+    requires leaves { HaveLeavesWithin (J.conjuncts judge.now).number (trees_of forest.now) }
+    requires room { components + 1 < 2 ^ 64 }
+    ensures { IfOk result (λ lists. AreListed (length (trees_of forest.now)) components lists.items) }
+{
+    let mut narrowing = Vec::new(alloc);
+    for due in 0..components + 1 {
+        narrowing.push(narrowing_at(alloc, judge, forest, due)?)?;
+    }
+    Ok(narrowing)
+}
+
+/// The conjuncts that have a leaf which narrows the last of so many values.
+#[tactic(auto, using(crate::proofs::Numbers::below_push))]
+fn narrowing_at<V, J: Guide<V>>(
+    alloc: Global,
+    judge: &J,
+    forest: &Forest,
+    due: usize,
+) -> Result<Listed, AllocError>
+    requires { HaveLeavesWithin (J.conjuncts judge.now).number (trees_of forest.now) }
+    ensures { IfOk result (AreBelow (length (trees_of forest.now))) }
+{
+    let mut numbers = Vec::new(alloc);
+    for conjunct in 0..forest.count() {
+        if is_narrowing(judge, forest, forest.root(conjunct), due) {
+            numbers.push(conjunct)?;
+        }
+    }
+    Ok(Listed { numbers })
+}
+
+/// Whether a tree has a leaf that narrows the last of so many values, and that no negation is over.
+fn is_narrowing<V, J: Guide<V>>(judge: &J, forest: &Forest, part: usize, due: usize) -> bool
+    requires part { part < length (trees_made forest.now) }
+    requires leaves { HasLeavesWithin (J.conjuncts judge.now).number (tree_at (trees_made forest.now) part) }
+{
+    match forest.node(part) {
+        Node::Leaf(of) => judge.due(of) == due && judge.narrows(of),
+        Node::Not(_) => false,
+        Node::And(left, right) => {
+            is_narrowing(judge, forest, left, due) || is_narrowing(judge, forest, right, due)
+        }
+        Node::Or(left, right) => {
+            is_narrowing(judge, forest, left, due) && is_narrowing(judge, forest, right, due)
         }
     }
 }

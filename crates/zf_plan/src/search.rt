@@ -7,17 +7,19 @@ ghost use Rattle.zf_plan.specs.Trees.{planted, HaveLeavesWithin};
 ghost use Rattle.zf_plan.specs.Groves.{trees_of};
 ghost use Rattle.zf_plan.specs.Progress.{SameProblem, Advances};
 
+use crate::choice::{Choice, all_chosen};
 use crate::forest::Forest;
+use crate::guide::Guide;
 use crate::place::Place;
 use crate::plan::Plan;
 use crate::steps::next_answer;
 use std::alloc::{AllocError, Global};
 use std::marker::Model;
-use zf_walk::{Judge, Range, Row, Step, Truth, pick};
+use zf_walk::{Range, Row, Step, Truth, pick};
 
 /// A search over the rows of some ranges, in ascending order, for those on which no conjunct is False. It passes over rows that hold none, and takes no memory of its own once it stands.
 #[derive(Drop)]
-pub struct Search<'a, V: Ord, J: Judge<V>> {
+pub struct Search<'a, V: Ord, J: Guide<V>> {
     judge: J,
     forest: Forest,
     ranges: Vec<Range<V>>,
@@ -26,11 +28,13 @@ pub struct Search<'a, V: Ord, J: Judge<V>> {
     place: Place,
     /// For each leaf its truth on the bound values, where it was asked for.
     told: Vec<Option<Truth>>,
+    /// For each range which of its values are tried.
+    choices: Vec<Choice>,
     /// Whether the place is that of a row that the last step gave.
     given: bool,
 }
 
-impl<'a, V: Ord, J: Judge<V>> Model for Search<'a, V, J> {
+impl<'a, V: Ord, J: Guide<V>> Model for Search<'a, V, J> {
     ghost use Rattle.std.specs.Option.{option_copied};
     ghost use Rattle.zf_plan.specs.Progress.{Progress};
     ghost use Rattle.zf_plan.specs.Searches.{view_of, IsStanding};
@@ -39,10 +43,10 @@ impl<'a, V: Ord, J: Judge<V>> Model for Search<'a, V, J> {
 
     ghost view = { λ w. view_of w.judge w.forest w.ranges.items (option_copied w.after) w.place w.given };
 
-    ghost invariant = { λ w. IsStanding V.cmp (J.conjuncts w.judge) w.forest w.ranges.items (option_copied w.after) w.plan w.place w.told.items w.given };
+    ghost invariant = { λ w. IsStanding V.cmp (J.conjuncts w.judge) w.forest w.ranges.items (option_copied w.after) w.plan w.place w.told.items w.choices.items w.given };
 }
 
-impl<'a, V: Ord + Drop, J: Judge<V> + Drop> Search<'a, V, J> {
+impl<'a, V: Ord + Drop, J: Guide<V> + Drop> Search<'a, V, J> {
     /// Stands before the first event. The named row need not lie in the ranges.
     pub fn start(
         alloc: Global,
@@ -63,6 +67,7 @@ impl<'a, V: Ord + Drop, J: Judge<V> + Drop> Search<'a, V, J> {
         let plan = Plan::new(alloc, &judge, &forest, ranges.len())?;
         let places = vec![in alloc; 0; ranges.len()]?;
         let told = vec![in alloc; None; judge.count()]?;
+        let choices = all_chosen(alloc, ranges.len())?;
         let place = Place {
             places,
             depth: 0,
@@ -76,12 +81,13 @@ impl<'a, V: Ord + Drop, J: Judge<V> + Drop> Search<'a, V, J> {
             plan,
             place,
             told,
+            choices,
             given: false,
         })
     }
 }
 
-impl<'a, V: Ord, J: Judge<V>> Search<'a, V, J> {
+impl<'a, V: Ord, J: Guide<V>> Search<'a, V, J> {
     /// Goes on to the next row that is not False.
     pub fn advance(&mut self) -> Result<Step, AllocError>
         ensures problem { SameProblem self.old self.new }
@@ -98,6 +104,7 @@ impl<'a, V: Ord, J: Judge<V>> Search<'a, V, J> {
             &self.plan,
             &mut self.place,
             &mut self.told,
+            &mut self.choices,
         )? {
             Step::Holds => {
                 self.given = true;
@@ -121,7 +128,7 @@ impl<'a, V: Ord, J: Judge<V>> Search<'a, V, J> {
 }
 
 /// The row that the last step gave; no values where it gave none.
-impl<'a, V: Ord, J: Judge<V>> Row<V> for Search<'a, V, J> {
+impl<'a, V: Ord, J: Guide<V>> Row<V> for Search<'a, V, J> {
     ghost values = { λ w. unwrap_or w.last [] };
 
     fn len(&self) -> usize {

@@ -1,23 +1,27 @@
 //! The steps of a search.
-ghost use Rattle.std.specs.Prelude.{◌≡◌, true, length, IsTrue, IsFalse, IfOk, OnErr};
+ghost use Rattle.std.specs.Prelude.{◌≡◌, ◌<◌, true, [], length, slice_index_or, IsTrue, IsFalse, IfOk, OnOk, OnErr};
 ghost use Rattle.std.specs.Option.{option_copied};
 ghost use Rattle.zf_walk.specs.Picked.{AreWithin, picked};
 ghost use Rattle.zf_walk.specs.Places.{is_reached};
-ghost use Rattle.zf_plan.specs.Trees.{planted};
+ghost use Rattle.zf_plan.specs.Trees.{planted, HaveLeavesWithin};
 ghost use Rattle.zf_plan.specs.Groves.{trees_of};
 ghost use Rattle.zf_plan.specs.Knowing.{Tells};
-ghost use Rattle.zf_plan.specs.Places.{IsSound, IsHopeless, Stands, Goes, Gives, KeepsEvents, is_over};
+ghost use Rattle.zf_plan.specs.Choosing.{IsChoice};
+ghost use Rattle.zf_plan.specs.Places.{IsPlan, IsSound, IsHopeless, Stands, Goes, Gives, KeepsEvents, is_over};
 
+use crate::choice::Choice;
+use crate::choosing::choose;
 use crate::evaluating::{is_refuted, truth_of_all};
 use crate::forest::Forest;
+use crate::guide::Guide;
 use crate::moves::{descend, retreat};
 use crate::place::Place;
 use crate::plan::Plan;
 use std::alloc::AllocError;
-use zf_walk::{Judge, Range, Step, Truth, is_reached};
+use zf_walk::{Range, Step, Truth, is_reached};
 
 /// Whether it is known that the rows which begin with the bound values hold no event.
-fn is_hopeless<V: Ord, J: Judge<V>>(
+fn is_hopeless<V: Ord, J: Guide<V>>(
     judge: &J,
     forest: &Forest,
     ranges: &[Range<V>],
@@ -40,8 +44,38 @@ fn is_hopeless<V: Ord, J: Judge<V>>(
     is_refuted(judge, forest, ranges, places, &touched.numbers, told)
 }
 
+/// Chooses the values of the next range that are tried.
+fn choose_next<V, J: Guide<V>>(
+    judge: &J,
+    forest: &Forest,
+    ranges: &[Range<V>],
+    plan: &Plan,
+    places: &[usize],
+    told: &mut [Option<Truth>],
+    choice: &mut Choice,
+) -> Result<(), AllocError>
+    requires plan { IsPlan (J.conjuncts judge.now) (length (trees_of forest.now)) (length ranges.now) plan.now }
+    requires leaves { HaveLeavesWithin (J.conjuncts judge.now).number (trees_of forest.now) }
+    requires within { AreWithin ranges.now places.now }
+    requires deeper { length places.now < length ranges.now }
+    requires tells { Tells (J.conjuncts judge.now) ranges.now places.now told.old }
+    ensures tells { Tells (J.conjuncts judge.now) ranges.now places.now told.new }
+    ensures choice { OnOk result (IsChoice (J.conjuncts judge.now) (trees_of forest.now) (picked ranges.now places.now) (slice_index_or ranges.now (length places.now) []) choice.new) }
+{
+    let narrowing = &plan.narrowing[places.len() + 1];
+    choose(
+        judge,
+        forest,
+        ranges,
+        places,
+        &narrowing.numbers,
+        told,
+        choice,
+    )
+}
+
 /// One step: to another place, or to an answer.
-fn step_on<V: Ord, J: Judge<V>>(
+fn step_on<V: Ord, J: Guide<V>>(
     judge: &J,
     forest: &Forest,
     ranges: &[Range<V>],
@@ -49,10 +83,11 @@ fn step_on<V: Ord, J: Judge<V>>(
     plan: &Plan,
     place: &mut Place,
     told: &mut [Option<Truth>],
+    choices: &mut [Choice],
 ) -> Result<Option<Step>, AllocError>
     requires sound { IsSound V.cmp (J.conjuncts judge.now) (trees_of forest.now) ranges.now (option_copied after) plan.now }
-    requires stands { Stands (J.conjuncts judge.now) ranges.now place.old told.old }
-    ensures stands { Stands (J.conjuncts judge.now) ranges.now place.new told.new }
+    requires stands { Stands (J.conjuncts judge.now) (trees_of forest.now) ranges.now place.old told.old choices.old }
+    ensures stands { Stands (J.conjuncts judge.now) (trees_of forest.now) ranges.now place.new told.new choices.new }
     ensures goes { IfOk result (λ found. Goes V.cmp (planted (J.conjuncts judge.now) (trees_of forest.now)) ranges.now (option_copied after.entry) place.old found place.new) }
     ensures err { OnErr result (place.new ≡ place.old) }
     ensures over { IsTrue (is_over place.old) → result ≡ Ok (Some Step.End) }
@@ -61,7 +96,7 @@ fn step_on<V: Ord, J: Judge<V>>(
         if place.depth == 0 {
             return Ok(Some(Step::End));
         }
-        retreat(judge, ranges, &plan.agenda, place, told);
+        retreat(judge, ranges, &plan.agenda, choices, place, told);
         return Ok(None);
     }
     let depth = place.depth;
@@ -79,7 +114,16 @@ fn step_on<V: Ord, J: Judge<V>>(
         return Ok(None);
     }
     if depth < ranges.len() {
-        descend(judge, ranges, &plan.agenda, place, told);
+        choose_next(
+            judge,
+            forest,
+            ranges,
+            plan,
+            &place.places[..depth],
+            told,
+            &mut choices[depth],
+        )?;
+        descend(judge, ranges, &plan.agenda, choices, place, told);
         return Ok(None);
     }
     let truth = truth_of_all(judge, forest, ranges, &place.places[..depth], told)?;
@@ -92,7 +136,7 @@ fn step_on<V: Ord, J: Judge<V>>(
 }
 
 /// Steps until there is an answer.
-pub fn next_answer<V: Ord, J: Judge<V>>(
+pub fn next_answer<V: Ord, J: Guide<V>>(
     judge: &J,
     forest: &Forest,
     ranges: &[Range<V>],
@@ -100,16 +144,17 @@ pub fn next_answer<V: Ord, J: Judge<V>>(
     plan: &Plan,
     place: &mut Place,
     told: &mut [Option<Truth>],
+    choices: &mut [Choice],
 ) -> Result<Step, AllocError>
     requires sound { IsSound V.cmp (J.conjuncts judge.now) (trees_of forest.now) ranges.now (option_copied after) plan.now }
-    requires stands { Stands (J.conjuncts judge.now) ranges.now place.old told.old }
-    ensures stands { Stands (J.conjuncts judge.now) ranges.now place.new told.new }
+    requires stands { Stands (J.conjuncts judge.now) (trees_of forest.now) ranges.now place.old told.old choices.old }
+    ensures stands { Stands (J.conjuncts judge.now) (trees_of forest.now) ranges.now place.new told.new choices.new }
     ensures gives { IfOk result (λ step. Gives V.cmp (planted (J.conjuncts judge.now) (trees_of forest.now)) ranges.now (option_copied after.entry) place.old step place.new) }
     ensures refused { OnErr result (KeepsEvents V.cmp (planted (J.conjuncts judge.now) (trees_of forest.now)) ranges.now (option_copied after.entry) place.old place.new) }
     ensures over { IsTrue (is_over place.old) → result ≡ Ok Step.End }
 {
     loop {
-        if let Some(answer) = step_on(judge, forest, ranges, after, plan, place, told)? {
+        if let Some(answer) = step_on(judge, forest, ranges, after, plan, place, told, choices)? {
             return Ok(answer);
         }
     }

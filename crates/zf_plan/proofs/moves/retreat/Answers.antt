@@ -1,7 +1,8 @@
-use Rattle.std.proofs.Common.{◌≡◌, ◌<◌, ◌+◌, ◌-◌, [], length, get_or, sym, ap, ◌∙◌, subst, arith}
+use Rattle.std.proofs.Common.{◌≡◌, ◌<◌, ◌+◌, ◌-◌, [], length, get_or, None, sym, ap, ◌∙◌, subst, arith}
 use Rattle.std.proofs.lemmas.List.{get_or_default}
 use Rattle.zf_walk.proofs.Moving.{range-is}
 use Rattle.zf_plan.specs.declared.place.Place.{Place}
+use Rattle.zf_plan.specs.Choosing.{IsNextChoice}
 use Rattle.zf_plan.specs.Places.{Lands}
 use Rattle.zf_plan.proofs.moves.retreat.Goals as goal
 
@@ -15,4 +16,8 @@ returns-clause-lands g c =
     let range = range-is c.args.ranges.now k c.index-ranges-last.result near c.index-ranges-last.is in
     let end : c.len-end.result ≡ length (get_or c.args.ranges.now k []) = omega (arith, c.len-end.ensures, v.ok.0, ap length c.range.view_is, ap length range) in
     let i : c.index.result.now ≡ get_or p.places.items k 0 = c.index.ensures ∙ sym (get_or_default p.places.items k 0 c.index.result.now held) in
-    subst (λ n. Lands n k (get_or p.places.items k 0 + 1) p c.land.new.place) end (subst (λ j. Lands c.len-end.result k (j + 1) p c.land.new.place) i c.land.ensures)
+    let choice : c.index-choices-last.result ≡ get_or c.args.choices.now k None = c.index-choices-last.is ∙ sym (get_or_default c.args.choices.now k None c.index-choices-last.result (omega (arith, near, c.requires.choices))) in (
+      c.next-next.result,
+      subst (λ j. IsNextChoice (get_or c.args.choices.now k None) (j + 1) c.next-next.result) i (subst (λ h. IsNextChoice h (c.index.result.now + 1) c.next-next.result) choice c.next-next.ensures),
+      subst (λ n. Lands n k c.next-next.result p c.land.new.place) end c.land.ensures,
+    )

@@ -8,7 +8,7 @@ use Rattle.zf_plan.proofs.steps.next_answer.Given as goal
 -- The same events are ahead, and a search that is over stays so.
 abbrev pub invariant-loop-answer : goal.invariant-loop-answer
 invariant-loop-answer g l =
-    Stands (g.J.Judge.conjuncts l.judge) l.ranges l.place l.told
+    Stands (g.J.Judge.conjuncts l.judge) (trees_of l.forest) l.ranges l.place l.told l.choices
     × KeepsEvents g.V.Ord.cmp (planted (g.J.Judge.conjuncts l.judge) (trees_of l.forest)) l.ranges (option_copied l.after) l.initial.place l.place
     × (is_over l.initial.place ≡ true → is_over l.place ≡ true)
 

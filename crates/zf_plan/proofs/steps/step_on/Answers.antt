@@ -1,4 +1,4 @@
-use Rattle.std.proofs.Common.{◌≡◌, ◌-◌, true, false, length, take, refl, subst, arith}
+use Rattle.std.proofs.Common.{◌≡◌, ◌-◌, true, false, [], length, get_or, take, refl, ap, ◌∙◌, subst, arith}
 use Rattle.std.specs.Option.{option_copied}
 use Rattle.zf_walk.specs.declared.judge.Truth.TheVariants.{True, False, Out}
 use Rattle.zf_walk.specs.Conjuncts.{IsTruthOf}
@@ -7,8 +7,11 @@ use Rattle.zf_walk.specs.Places.{is_reached}
 use Rattle.zf_plan.specs.declared.place.Place.{Place}
 use Rattle.zf_plan.specs.Trees.{planted}
 use Rattle.zf_plan.specs.Groves.{trees_of}
-use Rattle.zf_plan.specs.Places.{IsHopeless, Forgets}
-use Rattle.zf_plan.proofs.Stepping.{setting-of, descends, retreats, passes, stands-told, refuted-whole, gives-end, takes-whole}
+use Rattle.zf_plan.specs.Knowing.{Tells}
+use Rattle.zf_plan.specs.Choosing.{IsChoice}
+use Rattle.zf_plan.specs.Places.{IsHopeless, Forgets, path}
+use Rattle.zf_plan.proofs.Moving.{length-bound}
+use Rattle.zf_plan.proofs.Stepping.{setting-of, descends, retreats, passes, refuted-whole, gives-end, takes-whole}
 use Rattle.zf_plan.proofs.steps.step_on.Goals as goal
 
 pub returns-then-place-eq0-clause-goes : goal.returns-then-place-eq0-clause-goes
@@ -20,7 +23,7 @@ pub returns-then-not-place-clause-goes : goal.returns-then-not-place-clause-goes
 returns-then-not-place-clause-goes g c =
     let given = setting-of g.met.V.Ord.total (g.met.J.Judge.one_truth c.args.judge.now) (g.met.J.Judge.kept c.args.judge.now) c.requires.sound in
     let p : Place = c.args.place.now in
-    let r = retreats given p c.retreat.new.place c.args.told.now c.retreat.new.told (p.depth - 1) c.requires.stands c.if-not-place.true (omega arith)
+    let r = retreats given p c.retreat.new.place c.args.told.now c.retreat.new.told c.args.choices.now (p.depth - 1) c.requires.stands c.if-not-place.true (omega arith)
     (subst (λ n. Forgets (g.J.Judge.conjuncts c.args.judge.now) n c.args.told.now c.retreat.new.told) (omega arith) c.retreat.ensures.forgets) c.retreat.ensures.lands in
     r.0
 
@@ -28,7 +31,7 @@ pub returns-then-not-place-clause-stands : goal.returns-then-not-place-clause-st
 returns-then-not-place-clause-stands g c =
     let given = setting-of g.met.V.Ord.total (g.met.J.Judge.one_truth c.args.judge.now) (g.met.J.Judge.kept c.args.judge.now) c.requires.sound in
     let p : Place = c.args.place.now in
-    let r = retreats given p c.retreat.new.place c.args.told.now c.retreat.new.told (p.depth - 1) c.requires.stands c.if-not-place.true (omega arith)
+    let r = retreats given p c.retreat.new.place c.args.told.now c.retreat.new.told c.args.choices.now (p.depth - 1) c.requires.stands c.if-not-place.true (omega arith)
     (subst (λ n. Forgets (g.J.Judge.conjuncts c.args.judge.now) n c.args.told.now c.retreat.new.told) (omega arith) c.retreat.ensures.forgets) c.retreat.ensures.lands in
     r.1
 
@@ -40,15 +43,18 @@ returns-then-hopeless-clause-goes g c =
     let q : Place = record p { fresh = false } in
     let h = subst (λ is. IsHopeless g.V.Ord.cmp l (trees_of c.args.forest.now) (length c.args.ranges.now) (option_copied c.args.after) (picked c.args.ranges.now (take p.depth is))) c.deref.ensures.value
     (c.in_ok-hopeless.ensures.hopeless c.if-hopeless.true) in
-    passes given p q c.args.told.now c.requires.stands c.if-not-place.false refl refl refl h
+    passes given p q c.args.told.now c.args.choices.now c.requires.stands c.if-not-place.false refl refl refl h
 
 pub returns-then-depth-ranges-clause-goes : goal.returns-then-depth-ranges-clause-goes
 returns-then-depth-ranges-clause-goes g c =
     let given = setting-of g.met.V.Ord.total (g.met.J.Judge.one_truth c.args.judge.now) (g.met.J.Judge.kept c.args.judge.now) c.requires.sound in
     let l = g.J.Judge.conjuncts c.args.judge.now in
     let p : Place = c.args.place.now in
-    let st = stands-told l c.args.ranges.now p c.args.told.now c.is_hopeless.new.told c.deref.result.now c.deref.ensures.value c.requires.stands c.in_ok-hopeless.ensures.tells in
-    let r = descends given p c.descend.new.place c.is_hopeless.new.told c.descend.new.told st c.if-not-place.false c.if-depth-ranges.true c.descend.ensures.forgets c.descend.ensures.lands in
+    let tells = subst (λ is. Tells l c.args.ranges.now (take p.depth is) c.choose_next.new.told) c.deref-then-depth-ranges.ensures.value c.in_ok-choose_next.ensures.tells in
+    let long : length (take p.depth c.deref-then-depth-ranges.result.now) ≡ p.depth = ap (λ is. length (take p.depth is)) c.deref-then-depth-ranges.ensures.value ∙ length-bound c.args.ranges.now p c.requires.stands.at in
+    let choice = subst (λ n. IsChoice l (trees_of c.args.forest.now) (path c.args.ranges.now p) (get_or c.args.ranges.now n []) c.choose_next.new.choice) long
+    (subst (λ is. IsChoice l (trees_of c.args.forest.now) (picked c.args.ranges.now (take p.depth is)) (get_or c.args.ranges.now (length (take p.depth c.deref-then-depth-ranges.result.now)) []) c.choose_next.new.choice) c.deref-then-depth-ranges.ensures.value c.in_ok-choose_next.ensures.choice) in
+    let r = descends given p c.descend.new.place c.args.told.now c.choose_next.new.told c.descend.new.told c.args.choices.now c.choose_next.new.choice c.requires.stands tells choice c.if-not-place.false c.if-depth-ranges.true c.descend.ensures.forgets c.descend.ensures.lands in
     r.0
 
 pub returns-then-depth-ranges-clause-stands : goal.returns-then-depth-ranges-clause-stands
@@ -56,8 +62,11 @@ returns-then-depth-ranges-clause-stands g c =
     let given = setting-of g.met.V.Ord.total (g.met.J.Judge.one_truth c.args.judge.now) (g.met.J.Judge.kept c.args.judge.now) c.requires.sound in
     let l = g.J.Judge.conjuncts c.args.judge.now in
     let p : Place = c.args.place.now in
-    let st = stands-told l c.args.ranges.now p c.args.told.now c.is_hopeless.new.told c.deref.result.now c.deref.ensures.value c.requires.stands c.in_ok-hopeless.ensures.tells in
-    let r = descends given p c.descend.new.place c.is_hopeless.new.told c.descend.new.told st c.if-not-place.false c.if-depth-ranges.true c.descend.ensures.forgets c.descend.ensures.lands in
+    let tells = subst (λ is. Tells l c.args.ranges.now (take p.depth is) c.choose_next.new.told) c.deref-then-depth-ranges.ensures.value c.in_ok-choose_next.ensures.tells in
+    let long : length (take p.depth c.deref-then-depth-ranges.result.now) ≡ p.depth = ap (λ is. length (take p.depth is)) c.deref-then-depth-ranges.ensures.value ∙ length-bound c.args.ranges.now p c.requires.stands.at in
+    let choice = subst (λ n. IsChoice l (trees_of c.args.forest.now) (path c.args.ranges.now p) (get_or c.args.ranges.now n []) c.choose_next.new.choice) long
+    (subst (λ is. IsChoice l (trees_of c.args.forest.now) (picked c.args.ranges.now (take p.depth is)) (get_or c.args.ranges.now (length (take p.depth c.deref-then-depth-ranges.result.now)) []) c.choose_next.new.choice) c.deref-then-depth-ranges.ensures.value c.in_ok-choose_next.ensures.choice) in
+    let r = descends given p c.descend.new.place c.args.told.now c.choose_next.new.told c.descend.new.told c.args.choices.now c.choose_next.new.choice c.requires.stands tells choice c.if-not-place.false c.if-depth-ranges.true c.descend.ensures.forgets c.descend.ensures.lands in
     r.1
 
 pub returns-in-True-clause-goes : goal.returns-in-True-clause-goes
@@ -90,4 +99,4 @@ returns-in-False-clause-goes g c =
     let q : Place = record p { fresh = false } in
     let truth = subst (λ is. IsTruthOf (planted l (trees_of c.args.forest.now)) (picked c.args.ranges.now (take p.depth is)) False) c.deref-2.ensures.value
     (subst (IsTruthOf (planted l (trees_of c.args.forest.now)) (picked c.args.ranges.now (take p.depth c.deref-2.result.now))) c.in-False.is c.in_ok-truth.ensures.truth) in
-    passes given p q c.args.told.now c.requires.stands c.if-not-place.false refl refl refl (refuted-whole given p c.requires.stands.at c.if-depth-ranges.false truth)
+    passes given p q c.args.told.now c.args.choices.now c.requires.stands c.if-not-place.false refl refl refl (refuted-whole given p c.requires.stands.at c.if-depth-ranges.false truth)

@@ -17,7 +17,7 @@ returns-in_err-next_answer-clause-refused g c =
     let l = g.J.Judge.conjuncts w.judge in
     let st = c.self.invariant.stands in
     let given = setting-of g.met.V.Ord.total (g.met.J.Judge.one_truth w.judge) (g.met.J.Judge.kept w.judge) c.self.invariant.sound in
-    let here = subst (λ rs. Stands l rs c.next_answer.new.place c.next_answer.new.told) c.deref.ensures.value c.in_err-next_answer.ensures.stands in
+    let here = subst (λ rs. Stands l (trees_of w.forest) rs c.next_answer.new.place c.next_answer.new.told c.next_answer.new.choices) c.deref.ensures.value c.in_err-next_answer.ensures.stands in
     let same = subst (λ rs. KeepsEvents g.V.Ord.cmp (planted l (trees_of w.forest)) rs (option_copied w.after) w.place c.next_answer.new.place) c.deref.ensures.value c.in_err-next_answer.ensures.refused in
     rw (← c.self.view_is) (on_err c.from_residual.result _ (SameAhead-from given w.place c.next_answer.new.place st.at here.at same, refl))
 

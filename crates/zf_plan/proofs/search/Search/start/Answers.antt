@@ -25,7 +25,7 @@ invariant_of-result g c =
         leaves = c.requires.leaves;
         plan = subst (λ k. IsPlan l (length (trees_of c.args.forest)) k c.in_ok-plan.plan) n c.in_ok-plan.ensures;
       };
-      stands = stands-first l ranges p c.in_ok-told.told.items refl places (nothing ∙ ap (λ k. replicate k None) c.count.ensures);
+      stands = stands-first l (trees_of c.args.forest) ranges p c.in_ok-told.told.items c.in_ok-choices.choices.items refl places (nothing ∙ ap (λ k. replicate k None) c.count.ensures) (c.in_ok-choices.ensures ∙ (omega (arith, c.len-3.ensures, c.args.ranges.ok.0)));
       whole = λ e. absurd (false≢true e);
     }
 

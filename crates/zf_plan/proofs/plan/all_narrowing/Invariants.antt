@@ -1,8 +1,8 @@
 use Rattle.std.proofs.Common.{◌≡◌, ◌<◌, ℕ, [], length, get_or}
 use Rattle.zf_plan.specs.Groves.{trees_of}
 use Rattle.zf_plan.specs.Knowing.{AreBelow}
-use Rattle.zf_plan.proofs.plan.Plan.new.Given as goal
+use Rattle.zf_plan.proofs.plan.all_narrowing.Given as goal
 
 -- There is a list of conjuncts for each number so far.
 abbrev pub invariant-loop-due : goal.invariant-loop-due
-invariant-loop-due g l = (length l.touched.items ≡ l.due) × ((k : ℕ) → k < length l.touched.items → AreBelow (length (trees_of l.forest)) (get_or l.touched.items k []))
+invariant-loop-due g l = (length l.narrowing.items ≡ l.due) × ((k : ℕ) → k < length l.narrowing.items → AreBelow (length (trees_of l.forest)) (get_or l.narrowing.items k []))

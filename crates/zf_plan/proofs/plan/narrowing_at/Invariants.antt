@@ -1,0 +1,8 @@
+use Rattle.std.proofs.Common.{length}
+use Rattle.zf_plan.specs.Groves.{trees_of}
+use Rattle.zf_plan.specs.Knowing.{AreBelow}
+use Rattle.zf_plan.proofs.plan.narrowing_at.Given as goal
+
+-- They are conjuncts.
+abbrev pub invariant-loop-conjunct : goal.invariant-loop-conjunct
+invariant-loop-conjunct g l = AreBelow (length (trees_of l.forest)) l.numbers.items

@@ -1,0 +1,13 @@
+use Rattle.std.proofs.Common.{◌≡◌, ◌<◌, ◌+◌, [], length, get_or, sym, ◌∙◌, subst, arith}
+use Rattle.std.proofs.lemmas.List.{get_or_default}
+use Rattle.zf_plan.specs.Groves.{trees_of}
+use Rattle.zf_plan.specs.Knowing.{AreBelow}
+use Rattle.zf_plan.proofs.steps.choose_next.Goals as goal
+
+pub choose-requires-clause-conjuncts : goal.choose-requires-clause-conjuncts
+choose-requires-clause-conjuncts g c =
+    let lists = c.args.plan.now.narrowing.items in
+    let k = length c.args.places.now + 1 in
+    let inside : k < length lists = omega (arith, c.requires.plan.narrowing.all, c.requires.deeper) in
+    let list : get_or lists k [] ≡ c.deref.result.now = get_or_default lists k [] c.index-narrowing.result.now inside ∙ sym c.index-narrowing.ensures ∙ sym c.narrowing.view_is ∙ sym c.deref.ensures.value in
+    subst (AreBelow (length (trees_of c.args.forest.now))) list (c.requires.plan.narrowing.below k inside)
