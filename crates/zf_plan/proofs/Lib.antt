@@ -5,3 +5,4 @@ pub mod Numbers
 pub mod Forgetting
 pub mod Moving
 pub mod Stepping
+pub mod Alike

@@ -1,6 +1,7 @@
 pub mod Trees
 pub mod Groves
 pub mod Progress
+pub mod Alike
 pub mod Laws
 pub mod Knowing
 pub mod Places
