@@ -1,5 +1,5 @@
 //! The search for the bindings of a schema.
-ghost use Rattle.std.specs.Prelude.{◌≡◌, ◌<◌, ◌≤◌, length, IfOk, OnOk, OnErr, IsSomeAnd, IfSome, slice_get, unwrap_or, []};
+ghost use Rattle.std.specs.Prelude.{◌≡◌, ◌<◌, ◌≤◌, length, IfOk, OnOk, OnErr, IsSomeAnd, IfSome, slice_get, slice_index_or, unwrap_or, []};
 ghost use Rattle.std.specs.Option.{option_copied};
 ghost use Rattle.zf_value.specs.Sets.{value_order};
 ghost use Rattle.zf_walk.specs.Rows.{AreAscending, HasLength};
@@ -64,6 +64,14 @@ impl<'s, 'e, 'g, 'a> Bindings<'s, 'e, 'g, 'a> {
         ensures { IfSome self.now.walk.last (λ row. slice_get row i ≡ Some result.now) }
     {
         self.walk.value(i).value()
+    }
+
+    /// The place, in the range of its component, of a value of the binding that the last step gave.
+    pub fn place(&self, i: usize) -> usize
+        requires { IsSomeAnd self.now.walk.last (λ row. i < length row) }
+        ensures { IfSome self.now.walk.last (λ row. slice_get row i ≡ slice_get (slice_index_or self.now.walk.ranges i []) result) }
+    {
+        self.walk.place(i)
     }
 }
 

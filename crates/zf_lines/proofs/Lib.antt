@@ -6,3 +6,5 @@ pub mod Fewer
 pub mod Lines
 pub mod Searching
 pub mod Standing
+pub mod Keeping
+pub mod Parts

@@ -1,6 +1,7 @@
 //! The lines of the bindings, each written before the next is looked for.
 ghost use Rattle.std.specs.Prelude.{◌≡◌, ◌+◌, ◌++◌, ℕ, List, Some, IfOk, OnOk, OnErr, MatchBool, option_map};
 ghost use Rattle.std.specs.Io.KnownBytes.{Appends};
+ghost use Rattle.zf_lines.specs.Columns.{AreColumns};
 ghost use Rattle.zf_lines.specs.Counts.{device_of, failures_of};
 ghost use Rattle.zf_lines.specs.Faults.{AppendsFront, read_failures, write_failures};
 ghost use Rattle.zf_lines.specs.Ends.{EndsBy, counted_text, last_text};
@@ -8,9 +9,11 @@ ghost use Rattle.zf_lines.specs.Shown.{HasLimit, IsAtStart, StopsLines, StopsSho
 ghost use Rattle.zf_lines.specs.Texts.{binding_line};
 ghost use Rattle.zf_term.specs.Definitions.{schema_of};
 
+use crate::column::{Column, columns_of};
 use crate::counted::Counted;
 use crate::ending::Ending;
 use crate::fault::{RunFault, Status};
+use crate::kept::append_kept_line;
 use crate::texts::{append_binding_line, append_tests_line};
 use crate::writing::write_text;
 use std::alloc::{AllocError, Global};
@@ -40,7 +43,7 @@ pub fn show<W: Write>(
     ensures unread { read_failures result ≡ 0 }
 {
     let mut line = Vec::new(alloc);
-    let ending = write_lines(&mut line, flat, elements, bindings, limit, writer)?;
+    let ending = write_lines(alloc, &mut line, flat, elements, bindings, limit, writer)?;
     line.clear();
     append_end(&mut line, flat, elements, bindings, ending, tests)?;
     write_text(writer, &line)?;
@@ -49,6 +52,7 @@ pub fn show<W: Write>(
 
 /// Writes the lines of the bindings that are ahead, up to the limit or the first one that leaves the bounds.
 fn write_lines<W: Write>(
+    alloc: Global,
     line: &mut Vec<u8>,
     flat: &Flat<'_>,
     elements: &[Spelling],
@@ -64,11 +68,12 @@ fn write_lines<W: Write>(
     ensures count { failures_of writer.new ≡ write_failures result }
     ensures unread { read_failures result ≡ 0 }
 {
+    let mut columns = columns_of(alloc, flat)?;
     let mut left = limit;
     'lines: loop {
         match bindings.advance()? {
             Step::Holds => {
-                write_binding(line, flat, elements, bindings, writer)?;
+                write_binding(line, &mut columns, flat, elements, bindings, writer)?;
                 left = one_less(left);
                 if is_spent(left) {
                     return Ok(Ending::More);
@@ -104,19 +109,22 @@ fn is_spent(left: Option<u64>) -> bool
 /// Writes the line of the binding that the last step gave.
 fn write_binding<W: Write>(
     line: &mut Vec<u8>,
+    columns: &mut Vec<Column>,
     flat: &Flat<'_>,
     elements: &[Spelling],
     bindings: &Bindings<'_, '_, '_, '_>,
     writer: &mut Counted<W>,
 ) -> Result<(), RunFault>
-    requires { failures_of writer.old ≡ 0 }
+    requires unfailed { failures_of writer.old ≡ 0 }
+    requires columns { AreColumns elements.now (schema_of flat.now).comps bindings.now.walk.ranges columns.old.items }
     ensures ok { OnOk result (Appends (W.contents (device_of writer.old)) (W.contents (device_of writer.new)) (binding_line elements.now (schema_of flat.now).comps (values_of bindings.now))) }
+    ensures columns { OnOk result (AreColumns elements.now (schema_of flat.now).comps bindings.now.walk.ranges columns.new.items) }
     ensures err { OnErr result (AppendsFront (W.contents (device_of writer.old)) (W.contents (device_of writer.new)) (binding_line elements.now (schema_of flat.now).comps (values_of bindings.now))) }
     ensures count { failures_of writer.new ≡ write_failures result }
     ensures unread { read_failures result ≡ 0 }
 {
     line.clear();
-    append_binding_line(line, flat, elements, bindings)?;
+    append_kept_line(line, columns, flat, elements, bindings)?;
     write_text(writer, line)
 }
 

@@ -197,13 +197,13 @@ pub(crate) fn set_of(alloc: Global, mut members: Vec<Value>) -> Result<Outcome, 
     Ok(Outcome::Is(Value::SetOf(Items::of(alloc, members)?)))
 }
 
-/// Gives room back where values fill less than half of it: what is gathered for a set may be many more values than its
+/// Gives room back where values fill no more than half of it: what is gathered for a set may be many more values than its
 /// members.
 fn give_room_back(values: &mut Vec<Value>)
     ensures { values.new.items ≡ values.old.items }
 {
     let half = values.capacity() / 2;
-    if half >= SPARE && values.len() < half {
+    if half >= SPARE && values.len() <= half {
         values.shrink_to_fit();
     }
 }

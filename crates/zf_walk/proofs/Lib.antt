@@ -1,6 +1,7 @@
 pub mod Lists
 pub mod Order
 pub mod Picks
+pub mod Given
 pub mod Reaching
 pub mod Moving
 pub mod Counting

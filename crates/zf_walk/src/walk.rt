@@ -1,5 +1,5 @@
 //! Walks.
-ghost use Rattle.std.specs.Prelude.{◌≡◌, ◌<◌, ◌≤◌, length, IfOk, OnOk, OnErr, IsSomeAnd, IfSome, slice_get, unwrap_or, []};
+ghost use Rattle.std.specs.Prelude.{◌≡◌, ◌<◌, ◌≤◌, length, IfOk, OnOk, OnErr, IsSomeAnd, IfSome, slice_get, slice_index_or, unwrap_or, []};
 ghost use Rattle.std.specs.Option.{option_copied};
 ghost use Rattle.zf_walk.specs.Rows.{TiesAreEqual, AreAscending, HasLength};
 ghost use Rattle.zf_walk.specs.Progress.{AreDueWithin, ended, AreAllAhead, SameProblem, SameAhead, Advances, AreTests, IsBounded};
@@ -118,6 +118,14 @@ impl<'a, V: Ord, J: Judge<V>> Walk<'a, V, J> {
         ensures { IfSome self.now.last (λ row. slice_get row i ≡ Some result.now) }
     {
         pick(&self.ranges, &self.place.places[..self.place.depth], i)
+    }
+
+    /// The place, in its range, of a value of the row that the last step gave.
+    pub fn place(&self, i: usize) -> usize
+        requires { IsSomeAnd self.now.last (λ row. i < length row) }
+        ensures { IfSome self.now.last (λ row. slice_get row i ≡ slice_get (slice_index_or self.now.ranges i []) result) }
+    {
+        self.place.places[i]
     }
 }
 

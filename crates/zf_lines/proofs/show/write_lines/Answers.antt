@@ -1,11 +1,20 @@
-use Rattle.std.proofs.Common.{rules}
+use Rattle.std.proofs.Common.{sym, subst, rules}
+use Rattle.zf_term.specs.Definitions.{schema_of}
+use Rattle.zf_lines.specs.Columns.{AreColumns}
 use Rattle.zf_lines.proofs.Fronts.{always_on_err}
 use Rattle.zf_lines.proofs.Searching.{goes_on}
 use Rattle.zf_lines.proofs.Standing.{stands_first, stops_here, stops_in_line, goes_on_line, ends_at_limit, ends_out, ends_at_end}
 use Rattle.zf_lines.proofs.show.write_lines.Goals as goal
 
+pub returns-in_err-columns-clause-err : goal.returns-in_err-columns-clause-err
+returns-in_err-columns-clause-err g c =
+    always_on_err _ (stops_here _ _ _ _ c.requires.start _ _ _ _ (stands_first _ _ _ _ c.requires.start _ c.requires.limited))
+
+pub returns-in_err-columns-clause-count : goal.returns-in_err-columns-clause-count
+returns-in_err-columns-clause-count g c = let none = c.requires.unfailed in search rules
+
 pub lines-init : goal.lines-init
-lines-init g c = (stands_first _ _ _ _ c.requires.start _ c.requires.limited, c.requires.unfailed)
+lines-init g c = (stands_first _ _ _ _ c.requires.start _ c.requires.limited, c.requires.unfailed, c.in_ok-columns.ensures _ _)
 
 pub returns-in_err-advance-clause-err : goal.returns-in_err-advance-clause-err
 returns-in_err-advance-clause-err g c = always_on_err _ (stops_here _ _ _ _ c.requires.start _ _ _ _ c.lines.invariant.0)
@@ -13,8 +22,12 @@ returns-in_err-advance-clause-err g c = always_on_err _ (stops_here _ _ _ _ c.re
 pub returns-in_err-advance-clause-count : goal.returns-in_err-advance-clause-count
 returns-in_err-advance-clause-count g c = let none = c.lines.invariant.1 in search rules
 
-pub write_binding-requires : goal.write_binding-requires
-write_binding-requires g c = c.lines.invariant.1
+pub write_binding-requires-clause-unfailed : goal.write_binding-requires-clause-unfailed
+write_binding-requires-clause-unfailed g c = c.lines.invariant.1
+
+pub write_binding-requires-clause-columns : goal.write_binding-requires-clause-columns
+write_binding-requires-clause-columns g c =
+    subst (λ ranges. AreColumns c.args.elements.now (schema_of c.args.flat.now).comps ranges c.lines.columns.items) (sym c.advance.ensures.problem.ranges) c.lines.invariant.2
 
 pub returns-in_err-write_binding-in-Holds-clause-err :
     goal.returns-in_err-write_binding-in-Holds-clause-err
@@ -37,6 +50,7 @@ lines-preserved g c = (
   goes_on_line _ _ _ _ c.requires.start _ _ _ _ _ c.lines.invariant.0 (rw c.in-Holds.is at c.in_ok-advance.ensures.answer) c.advance.ensures.problem _ _ c.one_less-left.ensures
       c.in_ok-write_binding-in-Holds.ensures.ok (search rules),
   (search rules),
+  c.in_ok-write_binding-in-Holds.ensures.columns,
 )
 
 pub returns-in-Breaks-clause-ok : goal.returns-in-Breaks-clause-ok

@@ -1,6 +1,7 @@
 use Rattle.std.proofs.Common.{◌≡◌}
 use Rattle.zf_term.specs.Definitions.{schema_of}
 use Rattle.zf_value.specs.Sets.{value_order}
+use Rattle.zf_lines.specs.Columns.{AreColumns}
 use Rattle.zf_lines.specs.Counts.{device_of, failures_of}
 use Rattle.zf_lines.specs.Texts.{binding_line}
 use Rattle.zf_lines.proofs.Fewer.{ahead_count}
@@ -11,6 +12,7 @@ abbrev pub invariant-lines : goal.invariant-lines
 invariant-lines g l =
     Standing (binding_line l.elements (schema_of l.flat).comps) l.fn.limit (schema_of l.flat) l.initial.bindings l.bindings l.left (g.W.Write.contents (device_of l.initial.writer)) (g.W.Write.contents (device_of l.writer))
     × (failures_of l.writer ≡ 0)
+    × AreColumns l.elements (schema_of l.flat).comps l.bindings.walk.ranges l.columns.items
 
 abbrev pub decreases-lines : goal.decreases-lines
 decreases-lines g l = ahead_count value_order l.bindings.walk.ranges l.bindings.walk.ahead

@@ -1,0 +1,32 @@
+-- The row that a step gave, by the places of its values.
+use Rattle.std.proofs.Common.{◌≡◌, ◌<◌, ℕ, Bool, true, false, cond, List, [], length, get_or, take, Some, None, sym, ap, ◌∙◌, subst, arith}
+use Rattle.std.specs.Prelude.{IsSomeAnd, IfSome, slice_get}
+use Rattle.std.proofs.lemmas.List.{length-take, get_or-take, get_or_default}
+use Rattle.zf_walk.specs.declared.place.Place.{Place}
+use Rattle.zf_walk.specs.Places.{IsAt, path}
+use Rattle.zf_walk.proofs.Picks.{length-picked, slice_get-picked}
+
+last-long : {V : Type 0} (given : Bool) (row : List V) (i : ℕ) → IsSomeAnd (cond given (Some row) None) (λ r. i < length r) → i < length row
+last-long true row i h = h
+last-long false row i h = absurd h
+
+of-last : {V : Type 0} (given : Bool) (row : List V) (P : List V → Type 0) → P row → IfSome (cond given (Some row) None) P
+of-last true row P p = p
+of-last false row P p = tt
+
+module _ {V : Type 0} (ranges : List (List V)) (p : Place) (given : Bool) (i : ℕ) (at : IsAt ranges p) (h : IsSomeAnd (cond given (Some (path ranges p)) None) (λ row. i < length row)) where
+  -- each value has a place
+  pub placed : i < length (take p.depth p.places.items)
+  placed = subst (λ n. i < n) (length-picked ranges (take p.depth p.places.items) at.within) (last-long given (path ranges p) i h)
+
+  pub placed_deep : i < p.depth
+  placed_deep = let l = placed in omega (arith, length-take p.depth p.places.items)
+
+  pub placed_at : i < length p.places.items
+  placed_at = let l = placed in omega (arith, length-take p.depth p.places.items)
+
+  -- and stands at it in its range
+  pub stands_there : (q : ℕ) → q ≡ get_or p.places.items i q → IfSome (cond given (Some (path ranges p)) None) (λ row. slice_get row i ≡ slice_get (get_or ranges i []) q)
+  stands_there q e = of-last given (path ranges p) (λ row. slice_get row i ≡ slice_get (get_or ranges i []) q)
+      (slice_get-picked ranges (take p.depth p.places.items) i at.within placed
+      ∙ ap (slice_get (get_or ranges i [])) (get_or-take p.depth p.places.items i 0 placed_deep ∙ get_or_default p.places.items i 0 q placed_at ∙ sym e))
