@@ -11,3 +11,4 @@ pub mod Lacks
 pub mod Typed
 pub mod Resolved
 pub mod Started
+pub mod Planted

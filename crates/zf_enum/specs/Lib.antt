@@ -10,3 +10,4 @@ pub mod Components
 pub mod Starts
 pub mod Searches
 pub mod OfTypes
+pub mod Planting

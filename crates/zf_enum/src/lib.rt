@@ -13,6 +13,7 @@ pub mod laws;
 mod leaves;
 mod members;
 mod of_type;
+mod planting;
 mod property;
 mod ranges;
 mod shown;

@@ -6,3 +6,4 @@ pub mod Forgetting
 pub mod Narrowing
 pub mod Moving
 pub mod Stepping
+pub mod Alike

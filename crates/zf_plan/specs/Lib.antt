@@ -2,6 +2,7 @@ pub mod Trees
 pub mod Groves
 pub mod Choices
 pub mod Progress
+pub mod Alike
 pub mod Laws
 pub mod Knowing
 pub mod Choosing

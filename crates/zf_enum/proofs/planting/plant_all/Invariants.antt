@@ -1,0 +1,9 @@
+use Rattle.std.proofs.Common.{map, take}
+use Rattle.zf_term.specs.Definitions.{conjunct_of}
+use Rattle.zf_plan.specs.Groves.{trees_of}
+use Rattle.zf_enum.specs.Planting.{ArePlanted}
+use Rattle.zf_enum.proofs.planting.plant_all.Given as goal
+
+-- the conjuncts so far are planted
+abbrev pub invariant-loop-conjunct : goal.invariant-loop-conjunct
+invariant-loop-conjunct l = ArePlanted (map conjunct_of (take l.conjunct-index l.conjuncts)) l.leaves.items (trees_of l.forest)

@@ -1,0 +1,19 @@
+use Rattle.std.proofs.Common.{◌≡◌, ℕ, List, ◌∷◌, [], ◌++◌, length, sym, subst, arith}
+use Rattle.std.proofs.lemmas.Result.{IfOk-weaker}
+use Rattle.zf_term.specs.declared.resolved.Resolved.{Resolved}
+use Rattle.zf_term.specs.ResolvedTrees.{resolved_of}
+use Rattle.zf_plan.specs.Trees.{leaf}
+use Rattle.zf_plan.specs.Groves.{Grows}
+use Rattle.zf_enum.specs.Planting.{Plants}
+use Rattle.zf_enum.proofs.Planted.{plants_leaf}
+use Rattle.zf_enum.proofs.planting.plant_leaf.Goals as goal
+
+pub returns : goal.returns
+returns c =
+    let xs = c.args.leaves.now.items in
+    let x = c.in_ok-copy.field-0 in
+    let next : c.len-leaf.result ≡ length xs = omega (arith, c.len-leaf.ensures, c.args.leaves.now.ok.0) in
+    IfOk-weaker c.leaf.result _ _
+    (λ place r. subst (λ (ys : List Resolved). Plants xs c.args.forest.now (resolved_of c.args.term.now) place ys c.leaf.new.self) (sym c.in_ok-push.ensures.items)
+    (subst (λ (z : Resolved). Plants xs c.args.forest.now (resolved_of z) place (xs ++ x ∷ []) c.leaf.new.self) c.in_ok-copy.ensures
+    (plants_leaf xs c.args.forest.now c.leaf.new.self x place (subst (λ (n : ℕ). Grows c.args.forest.now (leaf n) place c.leaf.new.self) next r)))) c.leaf.ensures.ok

@@ -1,0 +1,111 @@
+//! Predicates as trees over their parts that are no connectives.
+ghost use Rattle.std.specs.Prelude.{◌≡◌, IfOk, OnOk, map};
+ghost use Rattle.zf_term.specs.Definitions.{conjunct_of};
+ghost use Rattle.zf_term.specs.ResolvedTrees.{resolved_of};
+ghost use Rattle.zf_plan.specs.Groves.{trees_of};
+ghost use Rattle.zf_enum.specs.Planting.{Plants, PlantsNext, ArePlanted};
+
+use bumpalo::Bump;
+use std::alloc::{AllocError, Global};
+use zf_plan::Forest;
+use zf_scan::token::Connective;
+use zf_term::conjunct::Conjunct;
+use zf_term::operator::{Operator, Unary};
+use zf_term::resolved::Resolved;
+
+/// The parts of predicates that are no connectives, and the trees over them that are the predicates.
+#[derive(Drop)]
+pub(crate) struct Planting<'a> {
+    pub(crate) leaves: Vec<Resolved<'a>>,
+    pub(crate) forest: Forest,
+}
+
+/// Plants the conjuncts of a schema.
+pub(crate) fn plant_all<'a>(
+    alloc: Global,
+    arena: &'a Bump,
+    conjuncts: &[Conjunct<'a>],
+) -> Result<Planting<'a>, AllocError>
+    ensures { IfOk result (λ planting. ArePlanted (map conjunct_of conjuncts.now) planting.leaves.items (trees_of planting.forest)) }
+{
+    let mut leaves = Vec::new(alloc);
+    let mut forest = Forest::new(alloc);
+    for conjunct in conjuncts {
+        plant_next(conjunct, arena, &mut leaves, &mut forest)?;
+    }
+    Ok(Planting { leaves, forest })
+}
+
+/// Plants a conjunct as the next tree.
+fn plant_next<'a>(
+    conjunct: &Conjunct<'a>,
+    arena: &'a Bump,
+    leaves: &mut Vec<Resolved<'a>>,
+    forest: &mut Forest,
+) -> Result<(), AllocError>
+    ensures { OnOk result (PlantsNext leaves.old.items forest.old (conjunct_of conjunct.now) leaves.new.items forest.new) }
+{
+    let term = conjunct.resolved(arena)?;
+    let place = plant(&term, arena, leaves, forest)?;
+    forest.take(place)
+}
+
+/// Plants a predicate: its parts that are no connectives become leaves. Its tree is answered by its place.
+#[cycle(planting)]
+#[tactic(auto, using(zf_term::proofs::ResolvedSeen::seen))]
+fn plant<'a>(
+    term: &Resolved<'a>,
+    arena: &'a Bump,
+    leaves: &mut Vec<Resolved<'a>>,
+    forest: &mut Forest,
+) -> Result<usize, AllocError>
+    ensures { IfOk result (λ place. Plants leaves.old.items forest.old (resolved_of term.now) place leaves.new.items forest.new) }
+{
+    match term {
+        Resolved::Bracket(_, inner) => plant(inner.get(), arena, leaves, forest),
+        Resolved::Unary(_, op, of) => match op {
+            Unary::Not => {
+                let of = plant(of.get(), arena, leaves, forest)?;
+                forest.not(of)
+            }
+            _ => plant_leaf(term, arena, leaves, forest),
+        },
+        Resolved::Binary(_, op, left, right) => match op {
+            Operator::Connective(connective) => match connective {
+                Connective::And => {
+                    let left = plant(left.get(), arena, leaves, forest)?;
+                    let right = plant(right.get(), arena, leaves, forest)?;
+                    forest.and(left, right)
+                }
+                Connective::Or => {
+                    let left = plant(left.get(), arena, leaves, forest)?;
+                    let right = plant(right.get(), arena, leaves, forest)?;
+                    forest.or(left, right)
+                }
+                Connective::Implies => {
+                    let left = plant(left.get(), arena, leaves, forest)?;
+                    let left = forest.not(left)?;
+                    let right = plant(right.get(), arena, leaves, forest)?;
+                    forest.or(left, right)
+                }
+                Connective::Iff => plant_leaf(term, arena, leaves, forest),
+            },
+            _ => plant_leaf(term, arena, leaves, forest),
+        },
+        _ => plant_leaf(term, arena, leaves, forest),
+    }
+}
+
+/// Plants a predicate as one leaf.
+fn plant_leaf<'a>(
+    term: &Resolved<'a>,
+    arena: &'a Bump,
+    leaves: &mut Vec<Resolved<'a>>,
+    forest: &mut Forest,
+) -> Result<usize, AllocError>
+    ensures { IfOk result (λ place. Plants leaves.old.items forest.old (resolved_of term.now) place leaves.new.items forest.new) }
+{
+    let leaf = leaves.len();
+    leaves.push(term.copy(arena)?)?;
+    forest.leaf(leaf)
+}
