@@ -9,9 +9,10 @@ use crate::shown::{Shown, meet};
 use std::alloc::AllocError;
 use zf_meaning::env::Env;
 use zf_meaning::value::truth_of;
+use zf_plan::{Guide, Narrowed};
 use zf_term::resolved::Resolved;
 use zf_value::value;
-use zf_walk::{Judge, Row, Truth};
+use zf_walk::{Judge, Range, Row, Truth};
 
 /// The conjuncts of a schema, in an environment.
 #[derive(Drop)]
@@ -54,6 +55,22 @@ impl<'e, 'g, 'a> Judge<Known> for Property<'e, 'g, 'a> {
         let shown = Shown { row };
         let truth = truth_of(&self.conjuncts[conjunct], &shown, self.env)?;
         Ok(walked(truth))
+    }
+}
+
+/// Each value of a range is tried: no predicate is asked which ones it leaves.
+impl<'e, 'g, 'a> Guide<Known> for Property<'e, 'g, 'a> {
+    fn narrows(&self, _leaf: usize) -> bool {
+        false
+    }
+
+    fn narrowed<R: Row<Known>>(
+        &self,
+        _leaf: usize,
+        _row: &R,
+        _range: &Range<Known>,
+    ) -> Result<Narrowed, AllocError> {
+        Ok(Narrowed::All)
     }
 }
 

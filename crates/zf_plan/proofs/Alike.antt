@@ -26,7 +26,8 @@ module _ {V : Type 0} (cmp : V → V → Ordering) (s r : Conjuncts V) (same : S
   truth_of row True h = λ c l. (same.says c (within c l) row True).0 (h c (within c l))
   truth_of row Out h = (
     λ c l. ⊎_elim (λ a. inl ((same.says c (within c l) row True).0 a)) (λ a. inr ((same.says c (within c l) row Out).0 a)) (h.0 c (within c l)),
-    (h.1.0, subst (λ n. h.1.0 < n) same.number h.1.1, (same.says h.1.0 h.1.1 row Out).0 h.1.2))
+    (h.1.0, subst (λ n. h.1.0 < n) same.number h.1.1, (same.says h.1.0 h.1.1 row Out).0 h.1.2),
+  )
 
   pub event_of : (ranges : List (List V)) (after : Option (List V)) (e : Event V) → IsEvent cmp s ranges after e → IsEvent cmp r ranges after e
   event_of ranges after e h = record { within = h.within; later = h.later; truth_of = truth_of e.row e.truth h.truth_of; not_false = h.not_false }
