@@ -1,5 +1,5 @@
 -- What is planted of a predicate has its truths.
-use Rattle.std.proofs.Common.{◌≡◌, ◌⊎◌, ⊎_elim, inl, inr, ◌↔◌, ℕ, zero, suc, ◌+◌, ◌<◌, ◌≤◌, max, List, [], ◌∷◌, ◌++◌, length, map, Option, Some, None, refl, sym, ap, ◌∙◌, subst, arith}
+use Rattle.std.proofs.Common.{◌≡◌, ◌⊎◌, ⊎_elim, inl, inr, ◌↔◌, ℕ, zero, suc, ◌+◌, ◌<◌, ◌≤◌, max, List, [], ◌∷◌, ◌++◌, length, map, Some, refl, sym, ap, ◌∙◌, subst, arith}
 use Rattle.std.specs.Prelude.{slice_get, unwrap_or, All}
 use Rattle.zf_scan.specs.declared.token.Connective as connective
 use Rattle.zf_scan.specs.declared.token.Connective.TheVariants as connectives
@@ -10,7 +10,7 @@ use Rattle.zf_term.specs.declared.operator.Unary.TheVariants.{Not}
 use Rattle.zf_term.specs.declared.resolved.Resolved.{Resolved}
 use Rattle.zf_term.specs.declared.resolved.Resolved.TheVariants as form
 use Rattle.zf_term.proofs.ResolvedSeen.{of-Unary, of-Binary}
-use Rattle.zf_term.specs.ResolvedTrees.{ResolvedTree, resolved_of, bracket, unary, binary}
+use Rattle.zf_term.specs.ResolvedTrees.{ResolvedTree, resolved_of, unary, binary}
 use Rattle.zf_value.specs.declared.value.Value.{Value}
 use Rattle.zf_value.specs.declared.value.Truth as value
 use Rattle.zf_walk.specs.declared.judge.Truth.{Truth}
@@ -23,7 +23,7 @@ use Rattle.zf_meaning.specs.InRow.{in_row}
 use Rattle.zf_meaning.specs.Meaning.{IsTruth}
 use Rattle.zf_meaning.specs.Truths.{IsConjunction, IsDisjunction}
 use Rattle.zf_meaning.specs.Truths as meaning
-use Rattle.zf_enum.specs.Property.{due, due_of, told, property, HasTruth}
+use Rattle.zf_enum.specs.Property.{due, told, property, HasTruth}
 use Rattle.zf_enum.specs.Planting.{IsPlanted, NeedWithin, Plants, ArePlanted, PlantsNext}
 use Rattle.zf_enum.proofs.Dues.{due_need}
 
@@ -40,12 +40,13 @@ both_same P Q R S f g True = (λ h. ((f True).0 h.0, (g True).0 h.1), λ h. ((f 
 both_same P Q R S f g False = (⊎_elim (λ a. inl ((f False).0 a)) (λ b. inr ((g False).0 b)), ⊎_elim (λ a. inl ((f False).1 a)) (λ b. inr ((g False).1 b)))
 both_same P Q R S f g Out = (
   λ h. ⊎_elim
-    (λ p. inl ((f Out).0 p, ⊎_elim (λ q. inl ((g True).0 q)) (λ q. inr ((g Out).0 q)) h.1))
-    (λ q. ⊎_elim (λ p. inr ((f True).0 p, (g Out).0 q)) (λ p. inl ((f Out).0 p, inr ((g Out).0 q))) h.0)
-    h.2,
+      (λ p. inl ((f Out).0 p, ⊎_elim (λ q. inl ((g True).0 q)) (λ q. inr ((g Out).0 q)) h.1))
+      (λ q. ⊎_elim (λ p. inr ((f True).0 p, (g Out).0 q)) (λ p. inl ((f Out).0 p, inr ((g Out).0 q))) h.0)
+      h.2,
   ⊎_elim
-    (λ h. (inr ((f Out).1 h.0), ⊎_elim (λ q. inl ((g True).1 q)) (λ q. inr ((g Out).1 q)) h.1, inl ((f Out).1 h.0)))
-    (λ h. (inl ((f True).1 h.0), inr ((g Out).1 h.1), inr ((g Out).1 h.1))))
+      (λ h. (inr ((f Out).1 h.0), ⊎_elim (λ q. inl ((g True).1 q)) (λ q. inr ((g Out).1 q)) h.1, inl ((f Out).1 h.0)))
+      (λ h. (inl ((f True).1 h.0), inr ((g Out).1 h.1), inr ((g Out).1 h.1))),
+)
 
 either_same : (P Q : Truth → Type 0) (R S : value.Truth → Type 0) → ((t : Truth) → P t ↔ R (told t)) → ((t : Truth) → Q t ↔ S (told t))
     → (t : Truth) → IsOfEither P Q t ↔ IsDisjunction R S (told t)
@@ -53,12 +54,13 @@ either_same P Q R S f g True = (⊎_elim (λ a. inl ((f True).0 a)) (λ b. inr (
 either_same P Q R S f g False = (λ h. ((f False).0 h.0, (g False).0 h.1), λ h. ((f False).1 h.0, (g False).1 h.1))
 either_same P Q R S f g Out = (
   λ h. ⊎_elim
-    (λ p. inl ((f Out).0 p, ⊎_elim (λ q. inl ((g False).0 q)) (λ q. inr ((g Out).0 q)) h.1))
-    (λ q. ⊎_elim (λ p. inr ((f False).0 p, (g Out).0 q)) (λ p. inl ((f Out).0 p, inr ((g Out).0 q))) h.0)
-    h.2,
+      (λ p. inl ((f Out).0 p, ⊎_elim (λ q. inl ((g False).0 q)) (λ q. inr ((g Out).0 q)) h.1))
+      (λ q. ⊎_elim (λ p. inr ((f False).0 p, (g Out).0 q)) (λ p. inl ((f Out).0 p, inr ((g Out).0 q))) h.0)
+      h.2,
   ⊎_elim
-    (λ h. (inr ((f Out).1 h.0), ⊎_elim (λ q. inl ((g False).1 q)) (λ q. inr ((g Out).1 q)) h.1, inl ((f Out).1 h.0)))
-    (λ h. (inl ((f False).1 h.0), inr ((g Out).1 h.1), inr ((g Out).1 h.1))))
+      (λ h. (inr ((f Out).1 h.0), ⊎_elim (λ q. inl ((g False).1 q)) (λ q. inr ((g Out).1 q)) h.1, inl ((f Out).1 h.0)))
+      (λ h. (inl ((f False).1 h.0), inr ((g Out).1 h.1), inr ((g Out).1 h.1))),
+)
 
 -- ---- further leaves change no truth
 
@@ -87,14 +89,16 @@ truths_stay e xs ys row (leaf c) t l =
 truths_stay e xs ys row (negated a) t l = truths_stay e xs ys row a (opposite t) l
 truths_stay e xs ys row (both a b) t l =
     let more = property e (map resolved_of (xs ++ ys)) in
-    let few = property e (map resolved_of xs) in
-    (both_kept (IsTreeTruth more a row) (IsTreeTruth more b row) (IsTreeTruth few a row) (IsTreeTruth few b row) (λ u. (truths_stay e xs ys row a u l.0).0) (λ u. (truths_stay e xs ys row b u l.1).0) t,
-    both_kept (IsTreeTruth few a row) (IsTreeTruth few b row) (IsTreeTruth more a row) (IsTreeTruth more b row) (λ u. (truths_stay e xs ys row a u l.0).1) (λ u. (truths_stay e xs ys row b u l.1).1) t)
+    let few = property e (map resolved_of xs) in (
+      both_kept (IsTreeTruth more a row) (IsTreeTruth more b row) (IsTreeTruth few a row) (IsTreeTruth few b row) (λ u. (truths_stay e xs ys row a u l.0).0) (λ u. (truths_stay e xs ys row b u l.1).0) t,
+      both_kept (IsTreeTruth few a row) (IsTreeTruth few b row) (IsTreeTruth more a row) (IsTreeTruth more b row) (λ u. (truths_stay e xs ys row a u l.0).1) (λ u. (truths_stay e xs ys row b u l.1).1) t,
+    )
 truths_stay e xs ys row (either a b) t l =
     let more = property e (map resolved_of (xs ++ ys)) in
-    let few = property e (map resolved_of xs) in
-    (either_kept (IsTreeTruth more a row) (IsTreeTruth more b row) (IsTreeTruth few a row) (IsTreeTruth few b row) (λ u. (truths_stay e xs ys row a u l.0).0) (λ u. (truths_stay e xs ys row b u l.1).0) t,
-    either_kept (IsTreeTruth few a row) (IsTreeTruth few b row) (IsTreeTruth more a row) (IsTreeTruth more b row) (λ u. (truths_stay e xs ys row a u l.0).1) (λ u. (truths_stay e xs ys row b u l.1).1) t)
+    let few = property e (map resolved_of xs) in (
+      either_kept (IsTreeTruth more a row) (IsTreeTruth more b row) (IsTreeTruth few a row) (IsTreeTruth few b row) (λ u. (truths_stay e xs ys row a u l.0).0) (λ u. (truths_stay e xs ys row b u l.1).0) t,
+      either_kept (IsTreeTruth few a row) (IsTreeTruth few b row) (IsTreeTruth more a row) (IsTreeTruth more b row) (λ u. (truths_stay e xs ys row a u l.0).1) (λ u. (truths_stay e xs ys row b u l.1).1) t,
+    )
 
 longer : (xs ys : List Resolved) → length (map resolved_of xs) ≤ length (map resolved_of (xs ++ ys))
 longer [] ys = omega arith
@@ -225,14 +229,16 @@ pub plants_both : (xs ys zs : List Resolved) (g h i j : Grove) (p q r : Resolved
     → due p ≤ due r → due q ≤ due r → Plants xs g r place zs j
 plants_both xs ys zs g h i j p q r a b place tree u v w f dp dq =
     let first : IsPlanted (map resolved_of zs) p (tree_at (trees_made i) a) =
-        subst (λ ls. IsPlanted (map resolved_of ls) p (tree_at (trees_made i) a)) (sym v.leaves.1)
-        (subst (λ ts. IsPlanted (map resolved_of (ys ++ v.leaves.0)) p (tree_at ts a)) (sym v.trees.1)
-        (subst (λ t. IsPlanted (map resolved_of (ys ++ v.leaves.0)) p t) (sym (tree_stays (trees_made h) v.trees.0 a u.within)) (planted_more ys v.leaves.0 p (tree_at (trees_made h) a) u.planted))) in
+    subst (λ ls. IsPlanted (map resolved_of ls) p (tree_at (trees_made i) a)) (sym v.leaves.1)
+    (subst (λ ts. IsPlanted (map resolved_of (ys ++ v.leaves.0)) p (tree_at ts a)) (sym v.trees.1)
+    (subst (λ t. IsPlanted (map resolved_of (ys ++ v.leaves.0)) p t) (sym (tree_stays (trees_made h) v.trees.0 a u.within)) (planted_more ys v.leaves.0 p (tree_at (trees_made h) a) u.planted))) in
     record {
       leaves = (u.leaves.0 ++ v.leaves.0, v.leaves.1 ∙ ap (λ l. l ++ v.leaves.0) u.leaves.1 ∙ assoc xs u.leaves.0 v.leaves.0);
-      trees = (u.trees.0 ++ (v.trees.0 ++ tree ∷ []),
+      trees = (
+        u.trees.0 ++ (v.trees.0 ++ tree ∷ []),
         w.made ∙ ap (λ ts. ts ++ tree ∷ []) (v.trees.1 ∙ ap (λ ts. ts ++ v.trees.0) u.trees.1 ∙ assoc (trees_made g) u.trees.0 v.trees.0)
-        ∙ assoc (trees_made g) (u.trees.0 ++ v.trees.0) (tree ∷ []) ∙ ap (λ ts. trees_made g ++ ts) (assoc u.trees.0 v.trees.0 (tree ∷ [])));
+            ∙ assoc (trees_made g) (u.trees.0 ++ v.trees.0) (tree ∷ []) ∙ ap (λ ts. trees_made g ++ ts) (assoc u.trees.0 v.trees.0 (tree ∷ [])),
+      );
       within = grown_within i j tree place w;
       planted = subst (λ t. IsPlanted (map resolved_of zs) r t) (sym (grown i j tree place w)) (f first v.planted);
       conjuncts = w.trees ∙ v.conjuncts ∙ u.conjuncts;
@@ -330,8 +336,8 @@ next_planted xs ys g h i p a u v ps k =
     record {
       number = ap length trees ∙ pushed_length (trees_of g) ps (tree_at (trees_made h) a) p k.number;
       each = λ c q e. subst (λ ts. IsPlanted (map resolved_of ys) q (tree_at ts c)) (sym trees)
-        (each_pushed (IsPlanted (map resolved_of ys)) ps (trees_of g) p (tree_at (trees_made h) a) k.number
-        (λ d r f. subst (λ ls. IsPlanted (map resolved_of ls) r (tree_at (trees_of g) d)) (sym u.leaves.1) (planted_more xs u.leaves.0 r (tree_at (trees_of g) d) (k.each d r f))) u.planted c q e);
+          (each_pushed (IsPlanted (map resolved_of ys)) ps (trees_of g) p (tree_at (trees_made h) a) k.number
+          (λ d r f. subst (λ ls. IsPlanted (map resolved_of ls) r (tree_at (trees_of g) d)) (sym u.leaves.1) (planted_more xs u.leaves.0 r (tree_at (trees_of g) d) (k.each d r f))) u.planted c q e);
       needs = λ n b. u.needs n (k.needs n (fewer_need n ps p b)) (last_needs n ps p b);
     }
 
