@@ -1,5 +1,5 @@
 -- What is planted of a predicate has its truths.
-use Rattle.std.proofs.Common.{◌≡◌, ◌⊎◌, ⊎_elim, inl, inr, ◌↔◌, ℕ, zero, suc, ◌+◌, ◌<◌, ◌≤◌, max, List, [], ◌∷◌, ◌++◌, length, map, Option, Some, None, refl, sym, ap, ◌∙◌, subst, arith}
+use Rattle.std.proofs.Common.{◌≡◌, ◌⊎◌, ⊎_elim, inl, inr, ◌↔◌, ℕ, zero, suc, ◌+◌, ◌<◌, ◌≤◌, max, List, [], ◌∷◌, ◌++◌, length, map, Some, refl, sym, ap, ◌∙◌, subst, arith}
 use Rattle.std.specs.Prelude.{slice_get, unwrap_or, All}
 use Rattle.zf_scan.specs.declared.token.Connective as connective
 use Rattle.zf_scan.specs.declared.token.Connective.TheVariants as connectives
@@ -10,7 +10,7 @@ use Rattle.zf_term.specs.declared.operator.Unary.TheVariants.{Not}
 use Rattle.zf_term.specs.declared.resolved.Resolved.{Resolved}
 use Rattle.zf_term.specs.declared.resolved.Resolved.TheVariants as form
 use Rattle.zf_term.proofs.ResolvedSeen.{of-Unary, of-Binary}
-use Rattle.zf_term.specs.ResolvedTrees.{ResolvedTree, resolved_of, bracket, unary, binary}
+use Rattle.zf_term.specs.ResolvedTrees.{ResolvedTree, resolved_of, unary, binary}
 use Rattle.zf_value.specs.declared.value.Value.{Value}
 use Rattle.zf_value.specs.declared.value.Truth as value
 use Rattle.zf_walk.specs.declared.judge.Truth.{Truth}
@@ -23,7 +23,7 @@ use Rattle.zf_meaning.specs.InRow.{in_row}
 use Rattle.zf_meaning.specs.Meaning.{IsTruth}
 use Rattle.zf_meaning.specs.Truths.{IsConjunction, IsDisjunction}
 use Rattle.zf_meaning.specs.Truths as meaning
-use Rattle.zf_enum.specs.Property.{due, due_of, told, property, HasTruth}
+use Rattle.zf_enum.specs.Property.{due, told, property, HasTruth}
 use Rattle.zf_enum.specs.Planting.{IsPlanted, NeedWithin, Plants, ArePlanted, PlantsNext}
 use Rattle.zf_enum.proofs.Dues.{due_need}
 

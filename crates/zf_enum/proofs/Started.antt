@@ -1,6 +1,6 @@
 -- What a walk asks of ranges and conjuncts, of those of a schema.
-use Rattle.std.proofs.Common.{◌≡◌, zero, suc, List, [], ◌∷◌, length, refl, sym, ap, subst, ⊎_elim, Option, arith}
-use Rattle.std.specs.Prelude.{Contains, AllPairs}
+use Rattle.std.proofs.Common.{◌≡◌, ℕ, ◌<◌, ◌≤◌, zero, suc, List, [], ◌∷◌, length, refl, sym, ap, subst, ⊎_elim, Option, arith}
+use Rattle.std.specs.Prelude.{Contains, AllPairs, slice_get}
 use Rattle.std.specs.declared.cmp.Ordering.TheVariants.{Less}
 use Rattle.zf_term.specs.Definitions.{Comp}
 use Rattle.zf_term.specs.ResolvedTrees.{ResolvedTree}
@@ -10,7 +10,8 @@ use Rattle.zf_walk.specs.Progress.{AreDueWithin, Ahead, AreAllAhead}
 use Rattle.zf_walk.specs.Rows.{AreAscending, HasLength}
 use Rattle.zf_walk.proofs.Lists.{AllPairs-nil, AllPairs-cons, Contains-cases, Contains-nil}
 use Rattle.zf_meaning.specs.Environments.{Environment}
-use Rattle.zf_enum.specs.Property.{property}
+use Rattle.zf_enum.specs.Property.{due_of, property}
+use Rattle.zf_enum.specs.Planting.{NeedWithin}
 use Rattle.zf_enum.specs.Ranges.{AreRanges}
 
 abbrev Below : Value → Value → Type 0
@@ -24,19 +25,28 @@ ascending_pairs : (xs : List Value) → IsAscending xs → AllPairs Below xs
 ascending_pairs [] h = AllPairs-nil Below
 ascending_pairs (x ∷ xs) h = AllPairs-cons Below x xs (λ y m. every_contained (Below x) xs y h.0 m) (ascending_pairs xs h.1)
 
+need_at_all : (n : ℕ) (ps : List ResolvedTree) → ((c : ℕ) → c < length ps → due_of (slice_get ps c) ≤ n) → NeedWithin n ps
+need_at_all n [] h c = omega arith
+need_at_all n (p ∷ ps) h zero = h zero (omega arith)
+need_at_all n (p ∷ ps) h (suc c) = need_at_all n ps (λ d l. h (suc d) (omega (arith, l))) c
+
 module _ (e : Environment) where
+  as_many : (cs : List Comp) (rs : List (List Value)) → AreRanges e cs rs → length cs ≡ length rs
+  as_many [] [] h = refl
+  as_many [] (xs ∷ rs) h = absurd h
+  as_many (c ∷ cs) [] h = absurd h
+  as_many (c ∷ cs) (xs ∷ rs) h = ap suc (as_many cs rs h.1)
+
+  -- so many components are due
+  pub needs_within : (cs : List Comp) (rs : List (List Value)) (ps : List ResolvedTree) → AreRanges e cs rs → AreDueWithin (property e ps) (length cs) → NeedWithin (length rs) ps
+  needs_within cs rs ps h d = subst (λ n. NeedWithin n ps) (as_many cs rs h) (need_at_all (length cs) ps d)
+
   pub ranges_ascend : (cs : List Comp) (rs : List (List Value)) → AreRanges e cs rs → AreAscending value_order rs
   ranges_ascend [] [] h k d l = absurd (omega arith)
   ranges_ascend [] (xs ∷ rs) h k d l = absurd h
   ranges_ascend (c ∷ cs) [] h k d l = absurd h
   ranges_ascend (c ∷ cs) (xs ∷ rs) h zero d l = ascending_pairs xs h.0.ascending
   ranges_ascend (c ∷ cs) (xs ∷ rs) h (suc k) d l = ranges_ascend cs rs h.1 k d (omega arith)
-
-  as_many : (cs : List Comp) (rs : List (List Value)) → AreRanges e cs rs → length cs ≡ length rs
-  as_many [] [] h = refl
-  as_many [] (xs ∷ rs) h = absurd h
-  as_many (c ∷ cs) [] h = absurd h
-  as_many (c ∷ cs) (xs ∷ rs) h = ap suc (as_many cs rs h.1)
 
   pub named_within : (cs : List Comp) (rs : List (List Value)) (after : Option (List Value)) → AreRanges e cs rs → HasLength after (length cs) → HasLength after (length rs)
   named_within cs rs after h n = subst (HasLength after) (as_many cs rs h) n

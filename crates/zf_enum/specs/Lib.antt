@@ -11,3 +11,4 @@ pub mod Starts
 pub mod Searches
 pub mod OfTypes
 pub mod Planting
+pub mod Instances

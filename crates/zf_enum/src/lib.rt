@@ -6,6 +6,7 @@ mod bounding;
 mod component;
 mod due;
 mod filters;
+mod instances;
 mod kept;
 mod known;
 mod lack;
@@ -22,6 +23,7 @@ mod start_fault;
 mod weight;
 
 pub use bindings::Bindings;
+pub use instances::Instances;
 pub use known::{Known, all_known};
 pub use property::Property;
 pub use start_fault::StartFault;
