@@ -1,5 +1,5 @@
 -- What is to be found by conjuncts that say the same is the same.
-use Rattle.std.proofs.Common.{◌⊎◌, ⊎_elim, inl, inr, ◌↔◌, ℕ, ◌<◌, List, Option, sym, subst}
+use Rattle.std.proofs.Common.{◌≡◌, ◌⊎◌, ⊎_elim, inl, inr, ◌↔◌, ℕ, ◌<◌, List, Option, sym, subst}
 use Rattle.std.specs.declared.cmp.Ordering.{Ordering}
 use Rattle.zf_walk.specs.declared.judge.Truth.{Truth}
 use Rattle.zf_walk.specs.declared.judge.Truth.TheVariants.{True, False, Out}
