@@ -6,7 +6,8 @@ use Rattle.std.specs.List.{AllByRecursion, sum_by}
 use Rattle.zf_term.specs.Definitions.{Comp, Schema, DeclaredSet}
 use Rattle.zf_term.specs.ResolvedTrees.{ResolvedTree}
 use Rattle.zf_term.specs.SetShapes.{set_count, set_nodes}
-use Rattle.zf_term.specs.Shapes.{moved, nodes, place_in}
+use Rattle.zf_reference.specs.Numbering.{place_in}
+use Rattle.zf_term.specs.Shapes.{moved, nodes}
 use Rattle.zf_term.proofs.Renumbered.{same_height, same_nodes}
 use Rattle.zf_calculus.specs.Calculus.{conjoined, new_place, schema_of, with_comp, with_comps}
 use Rattle.zf_calculus.specs.Growth.{AreAt, HasLeft, counted}

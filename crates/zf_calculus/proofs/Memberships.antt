@@ -3,7 +3,7 @@ use Rattle.std.proofs.Common.{◌≡◌, ℕ, List, [], ◌∷◌, ◌++◌, len
 use Rattle.std.proofs.lemmas.List.{append-nil, map-append}
 use Rattle.zf_scan.specs.declared.token.Constant.TheVariants.{True}
 use Rattle.zf_scan.specs.declared.token.Relation.TheVariants.{Member}
-use Rattle.zf_term.specs.declared.resolved.Reference.TheVariants.{Component}
+use Rattle.zf_reference.specs.declared.reference.Reference.TheVariants.{Component}
 use Rattle.zf_term.specs.declared.resolved.Resolved.{Resolved}
 use Rattle.zf_term.specs.declared.resolved.ResolvedLink.{ResolvedLink}
 use Rattle.zf_term.specs.declared.resolved.Resolved.TheVariants as v

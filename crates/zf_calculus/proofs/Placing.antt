@@ -6,7 +6,7 @@ use Rattle.std.specs.Str.{bytes_eq}
 use Rattle.zf_term.specs.declared.globals.Component.{Component}
 use Rattle.zf_term.specs.Definitions.{Comp, comp_of}
 use Rattle.zf_term.specs.FirstNamed.{later}
-use Rattle.zf_term.specs.Shapes.{place_in}
+use Rattle.zf_reference.specs.Numbering.{place_in}
 use Rattle.zf_term.proofs.Places.{in_full}
 use Rattle.zf_term.proofs.SameNames.{is_itself}
 use Rattle.zf_type.specs.declared.fault.TypeFaultKind.{TypeFaultKind}

@@ -7,7 +7,8 @@ use Rattle.zf_term.specs.declared.conjunct.Conjunct.{Conjunct}
 use Rattle.zf_term.specs.declared.globals.Component.{Component}
 use Rattle.zf_term.specs.Definitions.{comp_of, conjunct_of}
 use Rattle.zf_term.specs.ResolvedTrees.{ResolvedTree}
-use Rattle.zf_term.specs.Shapes.{moved, place_in}
+use Rattle.zf_reference.specs.Numbering.{place_in}
+use Rattle.zf_term.specs.Shapes.{moved}
 use Rattle.zf_term.proofs.Walk.{pushed}
 use Rattle.zf_term.proofs.Places.{AreFirst, one_more, in_full, unmoved}
 use Rattle.zf_calculus.specs.Calculus.{comp_named, place_or, place_of, new_place}

@@ -8,7 +8,7 @@ use Rattle.zf_scan.specs.declared.token.Relation.TheVariants.{Equal, Member}
 use Rattle.zf_text.specs.declared.tree.RefMark.{RefMark}
 use Rattle.zf_text.specs.declared.tree.RefMark.TheVariants.{Plain, Delta, Xi}
 use Rattle.zf_term.specs.declared.operator.Operator.TheVariants.{Connective}
-use Rattle.zf_term.specs.declared.resolved.Reference.TheVariants.{Component}
+use Rattle.zf_reference.specs.declared.reference.Reference.TheVariants.{Component}
 use Rattle.zf_term.specs.Definitions.{Comp, Schema, DeclaredSet, plain, carrier, sides, sets_of}
 use Rattle.zf_term.specs.ResolvedTrees.{ResolvedTree, reference, constant, binary, chain, no_links, link}
 use Rattle.zf_term.specs.FirstNamed.{first_named}

@@ -7,7 +7,7 @@ use Rattle.zf_term.specs.FirstNamed.{first_named}
 use Rattle.zf_term.specs.declared.operator.Operator.TheVariants.{Connective}
 use Rattle.zf_term.specs.declared.globals.Component.{Component}
 use Rattle.zf_term.specs.declared.globals.Domain.{Domain}
-use Rattle.zf_term.specs.declared.resolved.Reference.TheVariants as place
+use Rattle.zf_reference.specs.declared.reference.Reference.TheVariants as place
 use Rattle.zf_term.specs.Definitions.{Comp, Schema, DeclaredSet, sides, sets_of, Defined, schema, schema_of}
 use Rattle.zf_term.specs.ResolvedTrees.{ResolvedTree, reference, binary, chain, no_links, link}
 use Rattle.zf_term.specs.Shapes.{line_of}

@@ -2,7 +2,7 @@
 ghost use Rattle.std.specs.Prelude.{◌≡◌, ◌++◌, ◌∷◌, [], ◌<◌, ◌≤◌, ◌↔◌, IsTrue, IfErr, IfOk, OnOk, MatchOption, Some, None, map, length, slice_index_or, slice_set};
 ghost use Rattle.zf_term.specs.declared.globals.Component.{Component};
 ghost use Rattle.zf_term.specs.Definitions.{Comp, comp_of};
-ghost use Rattle.zf_term.specs.Shapes.{place_in};
+ghost use Rattle.zf_reference.specs.Numbering.{place_in};
 ghost use Rattle.zf_type.specs.declared.fault.TypeFaultKind.TheVariants as kinds;
 ghost use Rattle.zf_calculus.specs.Calculus as spec;
 ghost use Rattle.zf_calculus.specs.Calculus.{Agrees, Agree, comp_named, new_place, with_comp, with_comps, AreOnce};

@@ -2,7 +2,7 @@
 ghost use Rattle.std.specs.Prelude.{◌≡◌, ◌++◌, ◌∷◌, ◌≤◌, IfErr, IfOk, OnOk, flat_map, length, map};
 ghost use Rattle.zf_term.specs.Definitions.{comp_of, conjunct_of, schema_of, set_of};
 ghost use Rattle.zf_term.specs.ResolvedTrees.{resolved_of};
-ghost use Rattle.zf_term.specs.Shapes.{place_in};
+ghost use Rattle.zf_reference.specs.Numbering.{place_in};
 ghost use Rattle.zf_term.specs.Shapes as shape;
 ghost use Rattle.zf_term.specs.Types.{type_of};
 ghost use Rattle.zf_type.specs.declared.fault.TypeFaultKind.TheVariants as kinds;
@@ -22,11 +22,12 @@ use crate::stop::Stop;
 use bumpalo::Bump;
 use std::alloc::AllocError;
 use zf_data::arena::{Boxed, Items, Shared};
+use zf_reference::reference::Reference;
 use zf_scan::token::{Connective, Constant, Relation};
 use zf_term::conjunct::{Conjunct, Statement};
 use zf_term::globals::{Component, Domain, Domains, Flat};
 use zf_term::operator::Operator;
-use zf_term::resolved::{Reference, Resolved, ResolvedLink};
+use zf_term::resolved::{Resolved, ResolvedLink};
 use zf_type::scope::component_of;
 
 /// The components of the left side, and those of the right side that are new.

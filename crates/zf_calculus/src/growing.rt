@@ -2,7 +2,8 @@
 ghost use Rattle.std.specs.Prelude.{◌≡◌, ◌∷◌, [], ◌++◌, ◌↔◌, IfErr, IfOk, IsTrue, MatchOption, OnOk, length, map};
 ghost use Rattle.zf_term.specs.Definitions.{comp_of, conjunct_of, schema_of};
 ghost use Rattle.zf_term.specs.ResolvedTrees.{ResolvedTree};
-ghost use Rattle.zf_term.specs.Shapes.{moved, numbering, place_in};
+ghost use Rattle.zf_reference.specs.Numbering.{place_in};
+ghost use Rattle.zf_term.specs.Shapes.{moved, numbering};
 ghost use Rattle.zf_calculus.specs.Calculus.{Agree, Agrees, conjoined, new_place, nothing};
 ghost use Rattle.zf_calculus.specs.Expressions.{Adds, Includes, IsNext};
 ghost use Rattle.zf_calculus.specs.Growth.{HasLeftBeside, IsGrowing, IfStopped, IsTooLarge, constrained, equalities, equality, grown};
@@ -19,10 +20,11 @@ use crate::stop::Stop;
 use bumpalo::Bump;
 use std::alloc::AllocError;
 use zf_data::arena::{Boxed, Items, Lasting};
+use zf_reference::reference::Reference;
 use zf_scan::token::Relation;
 use zf_term::conjunct::{Conjunct, Statement};
 use zf_term::globals::{Component, Flat};
-use zf_term::resolved::{Reference, Resolved, ResolvedLink};
+use zf_term::resolved::{Resolved, ResolvedLink};
 
 /// A schema, with what is left of the limits, so that each step costs only what it adds.
 #[derive(Drop)]

@@ -12,7 +12,7 @@ use Rattle.zf_text.specs.declared.tree.SchemaRef.{SchemaRef}
 use Rattle.zf_text.specs.Trees.{Tree, DeclTree, vars, include, SchemaTree, schema_text, both, either, schema_bracket}
 use Rattle.zf_text.specs.Trees as text
 use Rattle.zf_term.specs.declared.operator.Operator.TheVariants.{Connective}
-use Rattle.zf_term.specs.declared.resolved.Reference.TheVariants.{Component}
+use Rattle.zf_reference.specs.declared.reference.Reference.TheVariants.{Component}
 use Rattle.zf_term.specs.Definitions.{Comp, Schema, DeclaredSet, plain, carrier, sides, Defined, schema}
 use Rattle.zf_term.specs.FirstNamed.{first_named, later}
 use Rattle.zf_term.specs.ResolvedTrees.{ResolvedTree, binary}

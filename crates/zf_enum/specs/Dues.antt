@@ -1,7 +1,7 @@
 -- The last component up to a place that a term names, form by form. No public clause rests on this.
 use Rattle.std.specs.Prelude.{ℕ, ◌+◌, max, nat_le, cond, Option, Some, None}
-use Rattle.zf_term.specs.declared.resolved.Reference.{Reference}
-use Rattle.zf_term.specs.declared.resolved.Reference.TheVariants.{Component, Local, Global}
+use Rattle.zf_reference.specs.declared.reference.Reference.{Reference}
+use Rattle.zf_reference.specs.declared.reference.Reference.TheVariants.{Component, Local, Global}
 use Rattle.zf_term.specs.ResolvedTrees.{ResolvedTree, reference, number, constant, empty_set, bracket, listed, builder, unary, binary, chain, quantified, ResolvedTrees, no_terms, term, ResolvedLinks, no_links, link, Ranges, no_ranges, range, ResolvedPart, absent, present}
 
 -- the place after the last one, if there is one

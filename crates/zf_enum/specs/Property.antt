@@ -1,7 +1,7 @@
 -- The property of a schema in an environment, as the conjuncts of a walk.
 use Rattle.std.specs.Prelude.{ℕ, ◌+◌, max, Bool, true, false, cond, eqb, List, [], ◌∷◌, length, Option, Some, None, slice_get}
-use Rattle.zf_term.specs.declared.resolved.Reference.{Reference}
-use Rattle.zf_term.specs.declared.resolved.Reference.TheVariants.{Component, Local, Global}
+use Rattle.zf_reference.specs.declared.reference.Reference.{Reference}
+use Rattle.zf_reference.specs.declared.reference.Reference.TheVariants.{Component, Local, Global}
 use Rattle.zf_term.specs.ResolvedTrees.{ResolvedTree}
 use Rattle.zf_term.specs.TermLaws.{references}
 use Rattle.zf_value.specs.declared.value.Value.{Value}

@@ -2,8 +2,8 @@
 use Rattle.std.proofs.Common.{◌≡◌, ℕ, ◌≤◌, Bool, true, false, cond, List, [], ◌∷◌, ◌++◌, length, Option, Some, None, refl, sym, ap, ◌∙◌, subst, arith}
 use Rattle.std.specs.Prelude.{slice_get}
 use Rattle.std.proofs.lemmas.Bool.{eq-eqb}
-use Rattle.zf_term.specs.declared.resolved.Reference.{Reference}
-use Rattle.zf_term.specs.declared.resolved.Reference.TheVariants.{Component, Local, Global}
+use Rattle.zf_reference.specs.declared.reference.Reference.{Reference}
+use Rattle.zf_reference.specs.declared.reference.Reference.TheVariants.{Component, Local, Global}
 use Rattle.zf_term.specs.ResolvedTrees.{ResolvedTree}
 use Rattle.zf_term.specs.TermLaws.{references}
 use Rattle.zf_value.specs.declared.value.Value.{Value}

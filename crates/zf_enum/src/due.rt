@@ -5,7 +5,8 @@ ghost use Rattle.zf_enum.specs.Property as spec;
 ghost use Rattle.zf_enum.specs.Dues.{place_after, place_up_to, need, all_need, links_need, ranges_need, part_need};
 
 use zf_data::arena::{Boxed, Items};
-use zf_term::resolved::{Links, Part, Range, Reference, Resolved, Terms};
+use zf_reference::reference::Reference;
+use zf_term::resolved::{Links, Part, Range, Resolved, Terms};
 
 /// The greatest place, from 1, of a component that the term names.
 pub(crate) fn due(term: &Resolved<'_>) -> usize

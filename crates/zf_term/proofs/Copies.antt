@@ -1,7 +1,7 @@
 -- A term is known by how it is seen.
 use Rattle.std.proofs.Common.{◌≡◌, ℕ, Option, Some, None, List, [], ◌∷◌, map, refl, sym, ap, ◌∙◌, subst}
 use Rattle.zf_scan.specs.declared.token.Relation.{Relation}
-use Rattle.zf_term.specs.declared.resolved.Reference.TheVariants.{Component, Local, Global}
+use Rattle.zf_reference.specs.declared.reference.Reference.TheVariants.{Component, Local, Global}
 use Rattle.zf_term.specs.declared.resolved.Resolved.{Resolved}
 use Rattle.zf_term.specs.declared.resolved.ResolvedLink.{ResolvedLink}
 use Rattle.zf_term.specs.declared.resolved.Range.{Range}
@@ -10,7 +10,8 @@ use Rattle.zf_term.specs.declared.resolved.Resolved.TheFolds.{ind-Resolved, map-
 use Rattle.zf_term.specs.declared.resolved.Resolved.TheVariants as v
 use Rattle.zf_term.specs.declared.resolved.Resolved.TheViews.{roll-Resolved, roll-Range, roll-ResolvedLink}
 use Rattle.zf_term.specs.ResolvedTrees.{ResolvedTree, reference, number, constant, empty_set, bracket, listed, builder, unary, binary, chain, quantified, ResolvedTrees, no_terms, term, ResolvedLinks, no_links, link, Ranges, no_ranges, range, ResolvedPart, absent, present, terms, links, ranges, resolved_of, resolved_link_of, range_of}
-use Rattle.zf_term.specs.Shapes.{moved, all_moved, links_moved, ranges_moved, part_moved, place_in}
+use Rattle.zf_reference.specs.Numbering.{place_in}
+use Rattle.zf_term.specs.Shapes.{moved, all_moved, links_moved, ranges_moved, part_moved}
 use Rattle.zf_term.proofs.ResolvedSeen.{form_of, rolled, new_link, new_range, of-link, of-range}
 
 -- by an empty list nothing is numbered anew

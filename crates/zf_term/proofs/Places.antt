@@ -8,7 +8,8 @@ use Rattle.zf_term.specs.declared.conjunct.Conjunct.{Conjunct}
 use Rattle.zf_term.specs.declared.conjunct.Statement.{Statement}
 use Rattle.zf_term.specs.Definitions.{conjunct_of, statement_of}
 use Rattle.zf_term.specs.ResolvedTrees.{ResolvedTree}
-use Rattle.zf_term.specs.Shapes.{moved, numbering, place_in}
+use Rattle.zf_reference.specs.Numbering.{place_in}
+use Rattle.zf_term.specs.Shapes.{moved, numbering}
 use Rattle.zf_term.proofs.Copies.{stays}
 use Rattle.zf_term.proofs.Renumbered.{at_once}
 

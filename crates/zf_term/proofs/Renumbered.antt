@@ -1,12 +1,13 @@
 -- What a term keeps when its components are numbered anew, and that it can be done at once.
 use Rattle.std.proofs.Common.{◌≡◌, ℕ, ◌+◌, List, None, ◌&&◌, if◌then◌else◌, refl, ap, ◌∙◌}
 use Rattle.zf_scan.specs.declared.token.Relation.{Relation}
-use Rattle.zf_term.specs.declared.resolved.Reference.{Reference}
-use Rattle.zf_term.specs.declared.resolved.Reference.TheVariants.{Component, Local, Global}
+use Rattle.zf_reference.specs.declared.reference.Reference.{Reference}
+use Rattle.zf_reference.specs.declared.reference.Reference.TheVariants.{Component, Local, Global}
 use Rattle.zf_term.specs.Definitions.{Defined}
 use Rattle.zf_term.specs.Extents.{direct, extent_named, extent_set, is_last, is_membership, name_lines, links_offending, all_offending, offending, part_offending, ranges_offending, tested}
 use Rattle.zf_term.specs.ResolvedTrees.{ResolvedTree, reference, number, constant, empty_set, bracket, listed, builder, unary, binary, chain, quantified, ResolvedTrees, no_terms, term, ResolvedLinks, no_links, link, Ranges, no_ranges, range, ResolvedPart, absent, present}
-use Rattle.zf_term.specs.Shapes.{all_moved, all_nodes, height, line_of, link_nodes, links_moved, moved, nodes, part_height, part_moved, part_nodes, range_nodes, ranges_moved, renumbered, tallest, tallest_link, tallest_range}
+use Rattle.zf_reference.specs.Numbering.{renumbered}
+use Rattle.zf_term.specs.Shapes.{all_moved, all_nodes, height, line_of, link_nodes, links_moved, moved, nodes, part_height, part_moved, part_nodes, range_nodes, ranges_moved, tallest, tallest_link, tallest_range}
 
 -- ---- one after the other
 

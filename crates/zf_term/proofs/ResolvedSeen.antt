@@ -6,7 +6,7 @@ use Rattle.zf_scan.specs.declared.token.Relation.{Relation}
 use Rattle.zf_term.specs.declared.operator.Listed.{Listed}
 use Rattle.zf_term.specs.declared.operator.Operator.{Operator}
 use Rattle.zf_term.specs.declared.operator.Unary.{Unary}
-use Rattle.zf_term.specs.declared.resolved.Reference.{Reference}
+use Rattle.zf_reference.specs.declared.reference.Reference.{Reference}
 use Rattle.zf_term.specs.declared.resolved.Resolved.{Resolved}
 use Rattle.zf_term.specs.declared.resolved.ResolvedLink.{ResolvedLink}
 use Rattle.zf_term.specs.declared.resolved.Range.{Range}

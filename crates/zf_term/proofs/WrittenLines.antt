@@ -7,7 +7,7 @@ use Rattle.zf_text.specs.declared.tree.Term.{Term}
 use Rattle.zf_text.specs.declared.tree.VarDecl.{VarDecl}
 use Rattle.zf_text.specs.Trees.{link_of, links, tree_of, trees, var_decl_of, var_decls}
 use Rattle.zf_text.proofs.TermSeen.{of-link, of-decl}
-use Rattle.zf_term.specs.declared.resolved.Reference.{Reference}
+use Rattle.zf_reference.specs.declared.reference.Reference.{Reference}
 use Rattle.zf_term.specs.Definitions.{Defined}
 use Rattle.zf_term.specs.Extents.{first, unless, tested, is_last, offending, all_offending, links_offending, ranges_offending}
 use Rattle.zf_term.specs.Filling.{after, after_all, after_links, after_ranges, all_filled, filled, links_filled, ranges_filled}

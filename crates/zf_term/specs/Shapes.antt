@@ -1,11 +1,10 @@
 -- The shape of resolved terms: their nodes, their height, their conjuncts, and their components numbered anew.
-use Rattle.std.specs.Prelude.{ℕ, ◌+◌, max, Bool, true, false, if◌then◌else◌, List, [], ◌∷◌, ◌++◌, get_or, Option, Some, None}
+use Rattle.std.specs.Prelude.{ℕ, ◌+◌, max, Bool, true, false, if◌then◌else◌, List, [], ◌∷◌, ◌++◌, Option, Some, None}
 use Rattle.zf_scan.specs.declared.token.Connective.TheVariants.{And, Or, Implies, Iff}
 use Rattle.zf_scan.specs.declared.token.Relation.{Relation}
 use Rattle.zf_term.specs.declared.operator.Operator.{Operator}
 use Rattle.zf_term.specs.declared.operator.Operator.TheVariants as operator
-use Rattle.zf_term.specs.declared.resolved.Reference.{Reference}
-use Rattle.zf_term.specs.declared.resolved.Reference.TheVariants.{Component, Local, Global}
+use Rattle.zf_reference.specs.Numbering.{renumbered, place_in}
 use Rattle.zf_term.specs.ResolvedTrees.{ResolvedTree, reference, number, constant, empty_set, bracket, listed, builder, unary, binary, chain, quantified, ResolvedTrees, no_terms, term, ResolvedLinks, no_links, link, Ranges, no_ranges, range, ResolvedPart, absent, present}
 
 -- the line of the first token
@@ -87,15 +86,6 @@ abbrev mutual
   part_height (present t) = height t
 
 -- ---- components numbered anew
-
-abbrev pub renumbered : (ℕ → ℕ) → Reference → Reference
-renumbered f (Component i) = Component (f i)
-renumbered f (Local i) = Local i
-renumbered f (Global i) = Global i
-
--- the number at this place of the list, or the place itself where there is none
-abbrev pub place_in : List ℕ → ℕ → ℕ
-place_in places i = get_or places i i
 
 -- by a list, where there is one
 abbrev pub numbering : Option (List ℕ) → ℕ → ℕ

@@ -1,10 +1,11 @@
 -- What holds of every resolved term.
 use Rattle.std.specs.Prelude.{◌≡◌, ℕ, List, [], map}
-use Rattle.zf_term.specs.declared.resolved.Reference.{Reference}
-use Rattle.zf_term.specs.declared.resolved.Reference.TheVariants.{Component, Local, Global}
+use Rattle.zf_reference.specs.declared.reference.Reference.{Reference}
+use Rattle.zf_reference.specs.declared.reference.Reference.TheVariants.{Component, Local, Global}
 use Rattle.zf_term.specs.ResolvedTrees.{ResolvedTree}
 use Rattle.zf_term.specs.Filling.{onto}
-use Rattle.zf_term.specs.Shapes.{moved, renumbered}
+use Rattle.zf_reference.specs.Numbering.{renumbered}
+use Rattle.zf_term.specs.Shapes.{moved}
 
 -- what the names of a term stand for, from left to right
 abbrev pub references : ResolvedTree → List Reference

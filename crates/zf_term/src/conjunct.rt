@@ -5,6 +5,7 @@ ghost use Rattle.zf_term.specs.Extents as extents;
 ghost use Rattle.zf_term.specs.ResolvedTrees.{resolved_of};
 ghost use Rattle.zf_term.specs.FirstNamed.{or_else};
 ghost use Rattle.zf_term.specs.Shapes as spec;
+ghost use Rattle.zf_reference.specs.Numbering as numbers;
 
 use crate::globals::Globals;
 use crate::infinite::offending_after;
@@ -13,6 +14,7 @@ use crate::written::Written;
 use bumpalo::Bump;
 use std::alloc::AllocError;
 use zf_data::arena::{Items, Lasting};
+use zf_reference::reference::place_in;
 
 /// What a conjunct says.
 #[derive(Drop)]
@@ -135,7 +137,7 @@ impl<'a> Statement<'a> {
 
     /// The same, with its components numbered anew.
     fn moved(&self, arena: &'a Bump, places: &[usize]) -> Result<Resolved<'a>, AllocError>
-        ensures { IfOk result (λ t. resolved_of t ≡ spec.moved (spec.place_in places.now) (statement_of self.now)) }
+        ensures { IfOk result (λ t. resolved_of t ≡ spec.moved (numbers.place_in places.now) (statement_of self.now)) }
     {
         match self {
             Statement::Written(term) => term.resolved(arena)?.moved(arena, places),
@@ -178,21 +180,11 @@ fn both<'a>(
     first: &[usize],
     then: &[usize],
 ) -> Result<Items<'a, usize>, AllocError>
-    ensures { IfOk result (λ ps. spec.place_in ps ≡ (λ (i : ℕ). spec.place_in then.now (spec.place_in first.now i))) }
+    ensures { IfOk result (λ ps. numbers.place_in ps ≡ (λ (i : ℕ). numbers.place_in then.now (numbers.place_in first.now i))) }
 {
     let mut places = Items::with_room(arena, first.len().max(then.len()))?;
     for place in 0..first.len().max(then.len()) {
         places.push(place_in(then, place_in(first, place)))?;
     }
     Ok(places)
-}
-
-/// The number at the place, or the place itself where there is none.
-fn place_in(places: &[usize], place: usize) -> usize
-    ensures { result ≡ spec.place_in places.now place }
-{
-    match places.get(place) {
-        Some(other) => *other,
-        None => place,
-    }
 }

@@ -7,8 +7,9 @@ ghost use Rattle.zf_term.specs.FirstNamed.{or_else};
 
 use crate::extent::{Extent, Infinite};
 use crate::globals::{Entry, Globals};
-use crate::resolved::{Links, Part, Range, Reference, Resolved, ResolvedLink, Terms};
+use crate::resolved::{Links, Part, Range, Resolved, ResolvedLink, Terms};
 use zf_data::arena::{Boxed, Items};
+use zf_reference::reference::Reference;
 use zf_scan::token::{Constant, Relation};
 
 /// The infinite set that the term is, within brackets or without.

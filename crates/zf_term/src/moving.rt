@@ -2,27 +2,12 @@
 ghost use Rattle.std.specs.Prelude.{◌≡◌, IfOk, map};
 ghost use Rattle.zf_term.specs.ResolvedTrees.{resolved_of, resolved_link_of, range_of, part_of};
 ghost use Rattle.zf_term.specs.Shapes as spec;
+ghost use Rattle.zf_reference.specs.Numbering as numbers;
 
-use crate::resolved::{Links, Part, Range, Reference, Resolved, ResolvedLink, Terms};
+use crate::resolved::{Links, Part, Range, Resolved, ResolvedLink, Terms};
 use bumpalo::Bump;
 use std::alloc::AllocError;
 use zf_data::arena::{Boxed, Items};
-
-impl Reference {
-    /// The same, with the component numbered anew where the list has a number for it.
-    fn moved(self, places: &[usize]) -> Reference
-        ensures { result ≡ spec.renumbered (spec.place_in places.now) self }
-    {
-        match self {
-            Reference::Component(place) => match places.get(place) {
-                Some(moved) => Reference::Component(*moved),
-                None => self,
-            },
-            Reference::Local(_) => self,
-            Reference::Global(_) => self,
-        }
-    }
-}
 
 impl<'a> Resolved<'a> {
     #[tactic(auto, using(crate::proofs::Copies::copied))]
@@ -36,7 +21,7 @@ impl<'a> Resolved<'a> {
     #[cycle(moved)]
     #[tactic(auto, using(crate::proofs::ResolvedSeen::seen, crate::proofs::MovedLists::lists))]
     pub fn moved(&self, arena: &'a Bump, places: &[usize]) -> Result<Resolved<'a>, AllocError>
-        ensures { IfOk result (λ t. resolved_of t ≡ spec.moved (spec.place_in places.now) (resolved_of self.now)) }
+        ensures { IfOk result (λ t. resolved_of t ≡ spec.moved (numbers.place_in places.now) (resolved_of self.now)) }
     {
         match self {
             Resolved::Name(line, reference) => Ok(Resolved::Name(*line, reference.moved(places))),
@@ -92,7 +77,7 @@ fn moved_terms<'a>(
     arena: &'a Bump,
     places: &[usize],
 ) -> Result<Terms<'a>, AllocError>
-    ensures { IfOk result (λ s. map resolved_of s ≡ map (spec.moved (spec.place_in places.now)) (map resolved_of items.now)) }
+    ensures { IfOk result (λ s. map resolved_of s ≡ map (spec.moved (numbers.place_in places.now)) (map resolved_of items.now)) }
 {
     let mut moved = Items::with_room(arena, items.as_slice().len())?;
     for term in items.as_slice() {
@@ -107,7 +92,7 @@ fn moved_links<'a>(
     arena: &'a Bump,
     places: &[usize],
 ) -> Result<Links<'a>, AllocError>
-    ensures { IfOk result (λ s. map resolved_link_of s ≡ map (spec.link_moved (spec.place_in places.now)) (map resolved_link_of further.now)) }
+    ensures { IfOk result (λ s. map resolved_link_of s ≡ map (spec.link_moved (numbers.place_in places.now)) (map resolved_link_of further.now)) }
 {
     let mut moved = Items::with_room(arena, further.as_slice().len())?;
     for link in further.as_slice() {
@@ -123,7 +108,7 @@ fn moved_link<'a>(
     arena: &'a Bump,
     places: &[usize],
 ) -> Result<ResolvedLink<'a>, AllocError>
-    ensures { IfOk result (λ k. resolved_link_of k ≡ spec.link_moved (spec.place_in places.now) (resolved_link_of link.now)) }
+    ensures { IfOk result (λ k. resolved_link_of k ≡ spec.link_moved (numbers.place_in places.now) (resolved_link_of link.now)) }
 {
     Ok(ResolvedLink {
         relation: link.relation,
@@ -137,7 +122,7 @@ fn moved_ranges<'a>(
     arena: &'a Bump,
     places: &[usize],
 ) -> Result<Boxed<'a, Items<'a, Range<'a>>>, AllocError>
-    ensures { IfOk result (λ s. map range_of s ≡ map (spec.range_moved (spec.place_in places.now)) (map range_of variables.now)) }
+    ensures { IfOk result (λ s. map range_of s ≡ map (spec.range_moved (numbers.place_in places.now)) (map range_of variables.now)) }
 {
     let mut moved = Items::with_room(arena, variables.as_slice().len())?;
     for range in variables.as_slice() {
@@ -153,7 +138,7 @@ fn moved_range<'a>(
     arena: &'a Bump,
     places: &[usize],
 ) -> Result<Range<'a>, AllocError>
-    ensures { IfOk result (λ r. range_of r ≡ spec.range_moved (spec.place_in places.now) (range_of range.now)) }
+    ensures { IfOk result (λ r. range_of r ≡ spec.range_moved (numbers.place_in places.now) (range_of range.now)) }
 {
     Ok(Range {
         variables: range.variables,
@@ -167,7 +152,7 @@ fn moved_part<'a>(
     arena: &'a Bump,
     places: &[usize],
 ) -> Result<Part<'a>, AllocError>
-    ensures { IfOk result (λ p. part_of p ≡ spec.part_moved (spec.place_in places.now) (part_of part.now)) }
+    ensures { IfOk result (λ p. part_of p ≡ spec.part_moved (numbers.place_in places.now) (part_of part.now)) }
 {
     match part.get() {
         None => Boxed::new(arena, None),

@@ -1,18 +1,8 @@
 //! Resolved terms: terms in which each name says what it stands for.
 use crate::operator::{Listed, Operator, Unary};
 use zf_data::arena::{Boxed, Items};
+use zf_reference::reference::Reference;
 use zf_scan::token::{Constant, Quantifier, Relation};
-
-/// What a name stands for.
-#[derive(Clone, Copy, PartialEq, Eq)]
-pub enum Reference {
-    /// A component, by its place in the schema.
-    Component(usize),
-    /// A bound variable, by the number of those bound outside it.
-    Local(usize),
-    /// A global, by its place in the order of definition.
-    Global(usize),
-}
 
 /// A part of a term that may be left out, in a box of its own: most terms have none, and stay small.
 pub type Part<'a> = Boxed<'a, Option<Boxed<'a, Resolved<'a>>>>;

@@ -15,10 +15,11 @@ mod shapes;
 
 use crate::extent::Infinite;
 use crate::globals::Globals;
-use crate::resolved::{Reference, Resolved};
+use crate::resolved::Resolved;
 use bumpalo::Bump;
 use filling::filled;
 use std::alloc::AllocError;
+use zf_reference::reference::Reference;
 use zf_text::tree::Term;
 
 /// A term of a text, with what its names stand for, from left to right.

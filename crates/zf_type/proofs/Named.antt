@@ -6,7 +6,7 @@ use Rattle.std.specs.Prelude.{Vec}
 use Rattle.std.proofs.lemmas.List.{take_more, length-take}
 use Rattle.std.proofs.lemmas.Slice.Eq.{bytes_eq-Decides}
 use Rattle.zf_term.specs.FirstNamed.{first_named, later}
-use Rattle.zf_term.specs.declared.resolved.Reference.TheVariants.{Component, Local, Global}
+use Rattle.zf_reference.specs.declared.reference.Reference.TheVariants.{Component, Local, Global}
 use Rattle.zf_term.specs.declared.globals.Entry.{Entry}
 use Rattle.zf_term.specs.Definitions.{Comp, Defined, entry_of}
 use Rattle.zf_term.proofs.SameNames.{swapped}

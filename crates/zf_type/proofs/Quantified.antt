@@ -9,7 +9,7 @@ use Rattle.zf_text.proofs.TermSeen as seen
 use Rattle.zf_term.specs.Written.{part_tree}
 use Rattle.zf_term.specs.declared.operator.Need.{Need}
 use Rattle.zf_term.specs.declared.operator.Need.TheVariants as need
-use Rattle.zf_term.specs.declared.resolved.Reference.{Reference}
+use Rattle.zf_reference.specs.declared.reference.Reference.{Reference}
 use Rattle.zf_term.specs.Filling.{onto, part_onto, ranges_onto}
 use Rattle.zf_type.specs.declared.fault.Refusal.{Refusal}
 use Rattle.zf_type.specs.declared.sort.Sort as program

@@ -8,8 +8,8 @@ use Rattle.zf_text.specs.Trees.{Tree, Trees, no_trees, tree, Links, VarDecls, no
 use Rattle.zf_term.specs.FirstNamed.{later, or_else, first_named}
 use Rattle.zf_term.specs.declared.operator.Listed.TheVariants.{Tuple, Display, Product}
 use Rattle.zf_term.specs.declared.operator.Unary.TheVariants.{Sign, Inverse, Not}
-use Rattle.zf_term.specs.declared.resolved.Reference.{Reference}
-use Rattle.zf_term.specs.declared.resolved.Reference.TheVariants.{Local}
+use Rattle.zf_reference.specs.declared.reference.Reference.{Reference}
+use Rattle.zf_reference.specs.declared.reference.Reference.TheVariants.{Local}
 use Rattle.zf_term.specs.Definitions.{Comp, Defined}
 use Rattle.zf_term.specs.ResolvedTrees.{reference, empty_set, bracket, listed, unary, present}
 use Rattle.zf_term.specs.Types.{Ty, int}

@@ -5,8 +5,8 @@ use Rattle.zf_text.specs.Trees.{Tree, Trees, no_trees, tree, Links, VarDecls, no
 use Rattle.zf_term.specs.declared.operator.Listed.TheVariants.{Tuple, Display, Product}
 use Rattle.zf_term.specs.declared.operator.Operator.TheVariants.{Function, Generic, Connective, Application, Image}
 use Rattle.zf_term.specs.declared.operator.Unary.TheVariants.{Sign, Inverse, Not}
-use Rattle.zf_term.specs.declared.resolved.Reference.{Reference}
-use Rattle.zf_term.specs.declared.resolved.Reference.TheVariants.{Global}
+use Rattle.zf_reference.specs.declared.reference.Reference.{Reference}
+use Rattle.zf_reference.specs.declared.reference.Reference.TheVariants.{Global}
 use Rattle.zf_term.specs.ResolvedTrees.{ResolvedTree, reference, number, constant, empty_set, bracket, listed, builder, unary, binary, chain, quantified, ResolvedTrees, no_terms, term, ResolvedLinks, no_links, link, Ranges, no_ranges, range, ResolvedPart, absent, present}
 use Rattle.zf_term.specs.Types.{int}
 use Rattle.zf_type.specs.Rules.{Sort}

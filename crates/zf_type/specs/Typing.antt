@@ -6,7 +6,7 @@ use Rattle.zf_term.specs.Operators.{rule_of, relation_rule}
 use Rattle.zf_term.specs.Types.{Ty, power, Tys, no_types, type, IsSmall}
 use Rattle.zf_term.specs.declared.operator.Operator.TheVariants.{Function, Generic, Connective, Application, Image}
 use Rattle.zf_term.specs.declared.operator.Unary.TheVariants.{Sign, Inverse, Not}
-use Rattle.zf_term.specs.declared.resolved.Reference.{Reference}
+use Rattle.zf_reference.specs.declared.reference.Reference.{Reference}
 use Rattle.zf_term.specs.Types as t
 use Rattle.zf_type.specs.Rules.{Sort, typed, predicate, a_schema, number, set_of, IsSmallSort, Takes, UnaryTakes, constant_sort}
 use Rattle.zf_type.specs.Scopes.{Scope, Var, spelling, within, meaning}

@@ -13,8 +13,8 @@ use crate::spelling::is_same;
 use bumpalo::Bump;
 use std::alloc::AllocError;
 use zf_data::arena::{Lent, Shared};
+use zf_reference::reference::Reference;
 use zf_term::globals::{Component, Entry, Globals};
-use zf_term::resolved::Reference;
 use zf_term::ztype::ZType;
 use zf_text::tree::Name;
 

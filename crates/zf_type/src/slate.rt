@@ -7,7 +7,7 @@ use bumpalo::Bump;
 use std::alloc::Global;
 use std::mem;
 use zf_data::arena::Items;
-use zf_term::resolved::Reference;
+use zf_reference::reference::Reference;
 use zf_term::written::Written;
 
 /// The lists that a scope is given, and the conjuncts of one predicate.

@@ -7,7 +7,7 @@ use Rattle.zf_scan.specs.declared.token.Constant.TheVariants as constants
 use Rattle.zf_text.specs.Trees as text
 use Rattle.zf_text.specs.Trees.{Tree}
 use Rattle.zf_term.specs.declared.extent.Infinite.{Infinite}
-use Rattle.zf_term.specs.declared.resolved.Reference.{Reference}
+use Rattle.zf_reference.specs.declared.reference.Reference.{Reference}
 use Rattle.zf_term.specs.Definitions.{Defined, Definition, given_set, free_type, constructor, abbreviation, schema}
 use Rattle.zf_term.specs.Extents.{direct, constant_set, definition_extent, extent_found, extent_named, extent_set, extent_by, offending}
 use Rattle.zf_term.specs.FirstNamed.{first_named}

@@ -5,7 +5,7 @@ use Rattle.zf_scan.specs.declared.token.Prefix.TheVariants.{Power}
 use Rattle.zf_text.specs.declared.tree.Sign.TheVariants.{Symbol}
 use Rattle.zf_term.specs.declared.operator.Listed.TheVariants.{Product}
 use Rattle.zf_term.specs.declared.operator.Unary.TheVariants.{Sign}
-use Rattle.zf_term.specs.declared.resolved.Reference.TheVariants.{Global}
+use Rattle.zf_reference.specs.declared.reference.Reference.TheVariants.{Global}
 use Rattle.zf_term.specs.Definitions.{Defined}
 use Rattle.zf_term.specs.FirstNamed.{first_named}
 use Rattle.zf_term.specs.ResolvedTrees.{ResolvedTree, reference, constant, listed, unary, ResolvedTrees, no_terms, term}

@@ -12,7 +12,7 @@ use Rattle.zf_term.specs.declared.operator.Operator.TheVariants.{Function, Gener
 use Rattle.zf_term.specs.declared.operator.Rule.{Rule}
 use Rattle.zf_term.specs.declared.operator.Unary.{Unary}
 use Rattle.zf_term.specs.declared.operator.Unary.TheVariants as unary
-use Rattle.zf_term.specs.declared.resolved.Reference.{Reference}
+use Rattle.zf_reference.specs.declared.reference.Reference.{Reference}
 use Rattle.zf_term.specs.Types as t
 use Rattle.zf_term.specs.Types.{Ty, power, Tys, no_types, type, IsSmall}
 use Rattle.zf_type.specs.declared.fault.TypeFaultKind.{TypeFaultKind}

@@ -1,6 +1,7 @@
 use Rattle.std.proofs.Common.{◌≡◌, map, take}
 use Rattle.zf_term.specs.ResolvedTrees.{resolved_of, resolved_link_of, range_of}
-use Rattle.zf_term.specs.Shapes.{moved, link_moved, range_moved, place_in}
+use Rattle.zf_reference.specs.Numbering.{place_in}
+use Rattle.zf_term.specs.Shapes.{moved, link_moved, range_moved}
 use Rattle.zf_term.proofs.+moved.Given as goal
 
 abbrev pub invariant-moving::moved_terms-loop-term : goal.invariant-moving::moved_terms-loop-term

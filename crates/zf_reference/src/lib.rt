@@ -1,0 +1,4 @@
+//! What a name stands for, and how components are numbered anew.
+#![tactic(auto)]
+
+pub mod reference;
