@@ -1,5 +1,5 @@
 -- What is to be found by conjuncts that say the same is the same.
-use Rattle.std.proofs.Common.{◌≡◌, ◌⊎◌, ⊎_elim, inl, inr, ◌↔◌, ℕ, ◌<◌, List, Option, sym, subst}
+use Rattle.std.proofs.Common.{◌≡◌, ◌⊎◌, ⊎_elim, inl, inr, ◌↔◌, ℕ, ◌<◌, List, Option, refl, sym, subst}
 use Rattle.std.specs.declared.cmp.Ordering.{Ordering}
 use Rattle.zf_walk.specs.declared.judge.Truth.{Truth}
 use Rattle.zf_walk.specs.declared.judge.Truth.TheVariants.{True, False, Out}
@@ -7,9 +7,11 @@ use Rattle.zf_walk.specs.declared.step.Step.{Step}
 use Rattle.zf_walk.specs.declared.step.Step.TheVariants.{Holds, Breaks, End}
 use Rattle.zf_walk.specs.Conjuncts.{Conjuncts, IsTruthOf}
 use Rattle.zf_walk.specs.Events.{Event, IsEvent}
-use Rattle.zf_walk.specs.Progress.{Ahead, Takes, AreAllAhead, IsNoneAhead, SameAhead}
+use Rattle.zf_walk.specs.Progress.{Ahead, Stage, Takes, AreAllAhead, IsNoneAhead, SameAhead, Advances}
 use Rattle.zf_plan.specs.Alike.{SayTheSame}
-use Rattle.zf_plan.specs.Progress.{Progress, Advances}
+
+pub itself : {V : Type 0} → (s : Conjuncts V) → SayTheSame s s
+itself s = record { number = refl; says = λ c l row t. ((λ h. h), (λ h. h)) }
 
 pub turned : {V : Type 0} → (s r : Conjuncts V) → SayTheSame s r → SayTheSame r s
 turned s r h = record {
@@ -54,7 +56,7 @@ module _ {V : Type 0} (cmp : V → V → Ordering) (s r : Conjuncts V) (same : S
   pub takes : (a : Ahead V) (e : Event V) (b : Ahead V) → Takes cmp s ranges after a e b → Takes cmp r ranges after a e b
   takes a e b h = record { event = there e h.event; ahead = h.ahead; first = λ f ev. h.first f (back f ev); passed = h.passed }
 
-pub advances : {V J : Type 0} (cmp : V → V → Ordering) (s r : Conjuncts V) → SayTheSame s r → (step : Step) (old new : Progress V J) → Advances cmp s step old new → Advances cmp r step old new
+pub advances : {V : Type 0} (cmp : V → V → Ordering) (s r : Conjuncts V) → SayTheSame s r → (step : Step) (old new : Stage V) → Advances cmp s step old new → Advances cmp r step old new
 advances cmp s r same Holds old new h = (h.0, h.1, takes cmp s r same old.ranges old.after old.ahead (record { row = h.0; truth = True }) new.ahead h.2)
 advances cmp s r same Breaks old new h = (h.0, h.1, takes cmp s r same old.ranges old.after old.ahead (record { row = h.0; truth = Out }) new.ahead h.2)
 advances cmp s r same End old new h = (h.0, none_ahead cmp s r same old.ranges old.after old.ahead h.1, h.2)

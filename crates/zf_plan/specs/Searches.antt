@@ -13,10 +13,7 @@ abbrev pub view_of : {V J : Type 0} → J → Grove → List (List V) → Option
 view_of judge forest ranges after p given = record {
   judge = judge;
   forest = forest;
-  ranges = ranges;
-  after = after;
-  last = cond given (Some (path ranges p)) None;
-  ahead = ahead_of ranges p;
+  stage = record { ranges = ranges; after = after; last = cond given (Some (path ranges p)) None; ahead = ahead_of ranges p };
 }
 
 pub record IsStanding {V : Type 0} (cmp : V → V → Ordering) (l : Conjuncts V) (forest : Grove) (ranges : List (List V)) (after : Option (List V)) (planned : Plan) (p : Place) (told : List (Option Truth)) (choices : List (Option (List ℕ))) (given : Bool) : Type 0 where

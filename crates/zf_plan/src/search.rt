@@ -1,11 +1,11 @@
 //! Searches.
-ghost use Rattle.std.specs.Prelude.{◌≡◌, ◌<◌, length, IfOk, OnErr, IsSomeAnd, IfSome, slice_get, unwrap_or, []};
+ghost use Rattle.std.specs.Prelude.{◌≡◌, ◌<◌, length, IfOk, OnErr, IsSomeAnd, IfSome, slice_get, slice_index_or, unwrap_or, []};
 ghost use Rattle.std.specs.Option.{option_copied};
 ghost use Rattle.zf_walk.specs.Rows.{TiesAreEqual, AreAscending, HasLength};
-ghost use Rattle.zf_walk.specs.Progress.{AreDueWithin, ended, AreAllAhead, SameAhead};
+ghost use Rattle.zf_walk.specs.Progress.{AreDueWithin, ended, AreAllAhead, Advances, Stays};
 ghost use Rattle.zf_plan.specs.Trees.{planted, HaveLeavesWithin};
 ghost use Rattle.zf_plan.specs.Groves.{trees_of};
-ghost use Rattle.zf_plan.specs.Progress.{SameProblem, Advances};
+ghost use Rattle.zf_plan.specs.Progress.{SameProblem};
 
 use crate::choice::{Choice, all_chosen};
 use crate::forest::Forest;
@@ -60,9 +60,9 @@ impl<'a, V: Ord + Drop, J: Guide<V> + Drop> Search<'a, V, J> {
         requires named { HasLength (option_copied after) (length ranges.items) }
         requires due { AreDueWithin (J.conjuncts judge) (length ranges.items) }
         requires leaves { HaveLeavesWithin (J.conjuncts judge).number (trees_of forest) }
-        ensures problem { IfOk result (λ w. (w.judge ≡ judge) × (w.forest ≡ forest) × (w.ranges ≡ ranges.items) × (w.after ≡ option_copied after.entry)) }
-        ensures events { IfOk result (λ w. AreAllAhead V.cmp (planted (J.conjuncts judge) (trees_of forest)) ranges.items (option_copied after.entry) w.ahead) }
-        ensures first { IfOk result (λ w. w.last ≡ None) }
+        ensures problem { IfOk result (λ w. (w.judge ≡ judge) × (w.forest ≡ forest) × (w.stage.ranges ≡ ranges.items) × (w.stage.after ≡ option_copied after.entry)) }
+        ensures events { IfOk result (λ w. AreAllAhead V.cmp (planted (J.conjuncts judge) (trees_of forest)) ranges.items (option_copied after.entry) w.stage.ahead) }
+        ensures first { IfOk result (λ w. w.stage.last ≡ None) }
     {
         let plan = Plan::new(alloc, &judge, &forest, ranges.len())?;
         let places = vec![in alloc; 0; ranges.len()]?;
@@ -91,9 +91,9 @@ impl<'a, V: Ord, J: Guide<V>> Search<'a, V, J> {
     /// Goes on to the next row that is not False.
     pub fn advance(&mut self) -> Result<Step, AllocError>
         ensures problem { SameProblem self.old self.new }
-        ensures answer { IfOk result (λ step. Advances V.cmp (planted (J.conjuncts self.old.judge) (trees_of self.old.forest)) step self.old self.new) }
-        ensures refused { OnErr result (SameAhead V.cmp (planted (J.conjuncts self.old.judge) (trees_of self.old.forest)) self.old.ranges self.old.after self.old.ahead self.new.ahead × (self.new.last ≡ None)) }
-        ensures ended { self.old.ahead ≡ ended → result ≡ Ok Step.End }
+        ensures answer { IfOk result (λ step. Advances V.cmp (planted (J.conjuncts self.old.judge) (trees_of self.old.forest)) step self.old.stage self.new.stage) }
+        ensures refused { OnErr result (Stays V.cmp (planted (J.conjuncts self.old.judge) (trees_of self.old.forest)) self.old.stage self.new.stage) }
+        ensures ended { self.old.stage.ahead ≡ ended → result ≡ Ok Step.End }
     {
         self.given = false;
         match next_answer(
@@ -120,16 +120,24 @@ impl<'a, V: Ord, J: Guide<V>> Search<'a, V, J> {
 
     /// A value of the row that the last step gave.
     pub fn value(&self, i: usize) -> &V
-        requires { IsSomeAnd self.now.last (λ row. i < length row) }
-        ensures { IfSome self.now.last (λ row. slice_get row i ≡ Some result.now) }
+        requires { IsSomeAnd self.now.stage.last (λ row. i < length row) }
+        ensures { IfSome self.now.stage.last (λ row. slice_get row i ≡ Some result.now) }
     {
         pick(&self.ranges, &self.place.places[..self.place.depth], i)
+    }
+
+    /// The place, in its range, of a value of the row that the last step gave.
+    pub fn place(&self, i: usize) -> usize
+        requires { IsSomeAnd self.now.stage.last (λ row. i < length row) }
+        ensures { IfSome self.now.stage.last (λ row. slice_get row i ≡ slice_get (slice_index_or self.now.stage.ranges i []) result) }
+    {
+        self.place.places[i]
     }
 }
 
 /// The row that the last step gave; no values where it gave none.
 impl<'a, V: Ord, J: Guide<V>> Row<V> for Search<'a, V, J> {
-    ghost values = { λ w. unwrap_or w.last [] };
+    ghost values = { λ w. unwrap_or w.stage.last [] };
 
     fn len(&self) -> usize {
         if self.given { self.place.depth } else { 0 }

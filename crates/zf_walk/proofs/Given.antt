@@ -2,8 +2,7 @@
 use Rattle.std.proofs.Common.{◌≡◌, ◌<◌, ℕ, Bool, true, false, cond, List, [], length, get_or, take, Some, None, sym, ap, ◌∙◌, subst, arith}
 use Rattle.std.specs.Prelude.{IsSomeAnd, IfSome, slice_get}
 use Rattle.std.proofs.lemmas.List.{length-take, get_or-take, get_or_default}
-use Rattle.zf_walk.specs.declared.place.Place.{Place}
-use Rattle.zf_walk.specs.Places.{IsAt, path}
+use Rattle.zf_walk.specs.Picked.{AreWithin, picked}
 use Rattle.zf_walk.proofs.Picks.{length-picked, slice_get-picked}
 
 last-long : {V : Type 0} (given : Bool) (row : List V) (i : ℕ) → IsSomeAnd (cond given (Some row) None) (λ r. i < length r) → i < length row
@@ -14,19 +13,20 @@ of-last : {V : Type 0} (given : Bool) (row : List V) (P : List V → Type 0) →
 of-last true row P p = p
 of-last false row P p = tt
 
-module _ {V : Type 0} (ranges : List (List V)) (p : Place) (given : Bool) (i : ℕ) (at : IsAt ranges p) (h : IsSomeAnd (cond given (Some (path ranges p)) None) (λ row. i < length row)) where
+module _ {V : Type 0} (ranges : List (List V)) (places : List ℕ) (depth : ℕ) (given : Bool) (i : ℕ) (within : AreWithin ranges (take depth places))
+    (h : IsSomeAnd (cond given (Some (picked ranges (take depth places))) None) (λ row. i < length row)) where
   -- each value has a place
-  pub placed : i < length (take p.depth p.places.items)
-  placed = subst (λ n. i < n) (length-picked ranges (take p.depth p.places.items) at.within) (last-long given (path ranges p) i h)
+  pub placed : i < length (take depth places)
+  placed = subst (λ n. i < n) (length-picked ranges (take depth places) within) (last-long given (picked ranges (take depth places)) i h)
 
-  pub placed_deep : i < p.depth
-  placed_deep = let l = placed in omega (arith, length-take p.depth p.places.items)
+  pub placed_deep : i < depth
+  placed_deep = let l = placed in omega (arith, length-take depth places)
 
-  pub placed_at : i < length p.places.items
-  placed_at = let l = placed in omega (arith, length-take p.depth p.places.items)
+  pub placed_at : i < length places
+  placed_at = let l = placed in omega (arith, length-take depth places)
 
   -- and stands at it in its range
-  pub stands_there : (q : ℕ) → q ≡ get_or p.places.items i q → IfSome (cond given (Some (path ranges p)) None) (λ row. slice_get row i ≡ slice_get (get_or ranges i []) q)
-  stands_there q e = of-last given (path ranges p) (λ row. slice_get row i ≡ slice_get (get_or ranges i []) q)
-      (slice_get-picked ranges (take p.depth p.places.items) i at.within placed
-      ∙ ap (slice_get (get_or ranges i [])) (get_or-take p.depth p.places.items i 0 placed_deep ∙ get_or_default p.places.items i 0 q placed_at ∙ sym e))
+  pub stands_there : (q : ℕ) → q ≡ get_or places i q → IfSome (cond given (Some (picked ranges (take depth places))) None) (λ row. slice_get row i ≡ slice_get (get_or ranges i []) q)
+  stands_there q e = of-last given (picked ranges (take depth places)) (λ row. slice_get row i ≡ slice_get (get_or ranges i []) q)
+      (slice_get-picked ranges (take depth places) i within placed
+      ∙ ap (slice_get (get_or ranges i [])) (get_or-take depth places i 0 placed_deep ∙ get_or_default places i 0 q placed_at ∙ sym e))

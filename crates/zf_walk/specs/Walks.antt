@@ -12,10 +12,7 @@ use Rattle.zf_walk.specs.Tables.{AreTrue}
 abbrev pub view_of : {V J : Type 0} → J → List (List V) → Option (List V) → Place → Bool → Progress V J
 view_of judge ranges after p given = record {
   judge = judge;
-  ranges = ranges;
-  after = after;
-  last = cond given (Some (path ranges p)) None;
-  ahead = ahead_of ranges p;
+  stage = record { ranges = ranges; after = after; last = cond given (Some (path ranges p)) None; ahead = ahead_of ranges p };
   tests = p.tests;
 }
 

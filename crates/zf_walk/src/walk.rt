@@ -2,7 +2,7 @@
 ghost use Rattle.std.specs.Prelude.{◌≡◌, ◌<◌, ◌≤◌, length, IfOk, OnOk, OnErr, IsSomeAnd, IfSome, slice_get, slice_index_or, unwrap_or, []};
 ghost use Rattle.std.specs.Option.{option_copied};
 ghost use Rattle.zf_walk.specs.Rows.{TiesAreEqual, AreAscending, HasLength};
-ghost use Rattle.zf_walk.specs.Progress.{AreDueWithin, ended, AreAllAhead, SameProblem, SameAhead, Advances, AreTests, IsBounded};
+ghost use Rattle.zf_walk.specs.Progress.{AreDueWithin, ended, AreAllAhead, SameProblem, Advances, Stays, AreTests, IsBounded};
 
 use crate::agenda::Agenda;
 use crate::beginning::first_place;
@@ -54,9 +54,9 @@ impl<'a, V: Ord + Drop, J: Judge<V> + Drop> Walk<'a, V, J> {
         requires ties { TiesAreEqual V.cmp }
         requires named { HasLength (option_copied after) (length ranges.items) }
         requires due { AreDueWithin (J.conjuncts judge) (length ranges.items) }
-        ensures problem { IfOk result (λ w. (w.judge ≡ judge) × (w.ranges ≡ ranges.items) × (w.after ≡ option_copied after.entry)) }
-        ensures events { IfOk result (λ w. AreAllAhead V.cmp (J.conjuncts judge) ranges.items (option_copied after.entry) w.ahead) }
-        ensures first { IfOk result (λ w. (w.last ≡ None) × (w.tests ≡ 0)) }
+        ensures problem { IfOk result (λ w. (w.judge ≡ judge) × (w.stage.ranges ≡ ranges.items) × (w.stage.after ≡ option_copied after.entry)) }
+        ensures events { IfOk result (λ w. AreAllAhead V.cmp (J.conjuncts judge) ranges.items (option_copied after.entry) w.stage.ahead) }
+        ensures first { IfOk result (λ w. (w.stage.last ≡ None) × (w.tests ≡ 0)) }
     {
         let agenda = Agenda::new(alloc, &judge, ranges.len())?;
         let place = first_place(alloc, &judge, &ranges, after, &agenda)?;
@@ -77,11 +77,11 @@ impl<'a, V: Ord, J: Judge<V>> Walk<'a, V, J> {
     /// Goes on to the next row that is not False.
     pub fn advance(&mut self) -> Result<Step, AllocError>
         ensures problem { SameProblem self.old self.new }
-        ensures answer { IfOk result (λ step. Advances V.cmp (J.conjuncts self.old.judge) step self.old self.new) }
-        ensures tests { OnOk result (AreTests V.cmp (J.conjuncts self.old.judge) self.new self.new.last) }
-        ensures refused { OnErr result (SameAhead V.cmp (J.conjuncts self.old.judge) self.old.ranges self.old.after self.old.ahead self.new.ahead × (self.new.last ≡ None)) }
+        ensures answer { IfOk result (λ step. Advances V.cmp (J.conjuncts self.old.judge) step self.old.stage self.new.stage) }
+        ensures tests { OnOk result (AreTests V.cmp (J.conjuncts self.old.judge) self.new self.new.stage.last) }
+        ensures refused { OnErr result (Stays V.cmp (J.conjuncts self.old.judge) self.old.stage self.new.stage) }
         ensures no_test_lost { self.old.tests ≤ self.new.tests }
-        ensures ended { self.old.ahead ≡ ended → result ≡ Ok Step.End }
+        ensures ended { self.old.stage.ahead ≡ ended → result ≡ Ok Step.End }
     {
         self.given = false;
         match next_answer(
@@ -114,16 +114,16 @@ impl<'a, V: Ord, J: Judge<V>> Walk<'a, V, J> {
 
     /// A value of the row that the last step gave.
     pub fn value(&self, i: usize) -> &V
-        requires { IsSomeAnd self.now.last (λ row. i < length row) }
-        ensures { IfSome self.now.last (λ row. slice_get row i ≡ Some result.now) }
+        requires { IsSomeAnd self.now.stage.last (λ row. i < length row) }
+        ensures { IfSome self.now.stage.last (λ row. slice_get row i ≡ Some result.now) }
     {
         pick(&self.ranges, &self.place.places[..self.place.depth], i)
     }
 
     /// The place, in its range, of a value of the row that the last step gave.
     pub fn place(&self, i: usize) -> usize
-        requires { IsSomeAnd self.now.last (λ row. i < length row) }
-        ensures { IfSome self.now.last (λ row. slice_get row i ≡ slice_get (slice_index_or self.now.ranges i []) result) }
+        requires { IsSomeAnd self.now.stage.last (λ row. i < length row) }
+        ensures { IfSome self.now.stage.last (λ row. slice_get row i ≡ slice_get (slice_index_or self.now.stage.ranges i []) result) }
     {
         self.place.places[i]
     }
@@ -131,7 +131,7 @@ impl<'a, V: Ord, J: Judge<V>> Walk<'a, V, J> {
 
 /// The row that the last step gave; no values where it gave none.
 impl<'a, V: Ord, J: Judge<V>> Row<V> for Walk<'a, V, J> {
-    ghost values = { λ w. unwrap_or w.last [] };
+    ghost values = { λ w. unwrap_or w.stage.last [] };
 
     fn len(&self) -> usize {
         if self.given { self.place.depth } else { 0 }

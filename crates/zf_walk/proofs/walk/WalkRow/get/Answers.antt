@@ -11,7 +11,7 @@ of-some None i v h k = absurd (omega arith)
 of-some (Some row) i v h k = k
 
 pub value-requires : goal.value-requires
-value-requires g c = some-long c.args.self.now.last c.args.i c.requires
+value-requires g c = some-long c.args.self.now.stage.last c.args.i c.requires
 
 pub returns : goal.returns
-returns g c = of-some c.args.self.now.last c.args.i c.value.result.now c.requires c.value.ensures
+returns g c = of-some c.args.self.now.stage.last c.args.i c.value.result.now c.requires c.value.ensures

@@ -9,4 +9,4 @@ returns-then-self g c =
     let w = c.self.inside in
     sym (length-front w.ranges.items w.place c.self.invariant.stands.at w.place.depth (omega arith))
     ∙ sym (ap (λ b. length (unwrap_or (cond b (Some (path w.ranges.items w.place)) None) [])) c.if-self.true)
-    ∙ ap (λ z. length (unwrap_or z.last [])) c.self.view_is
+    ∙ ap (λ z. length (unwrap_or z.stage.last [])) c.self.view_is
