@@ -1,5 +1,5 @@
 //! What is written of a job on a source.
-ghost use Rattle.std.specs.Prelude.{◌≡◌, ℕ, List, [], IfOk, IfErr, OnErr, option_map};
+ghost use Rattle.std.specs.Prelude.{◌≡◌, ℕ, List, [], true, IfOk, IfErr, OnErr, option_map};
 ghost use Rattle.std.specs.Option.{option_copied};
 ghost use Rattle.zf_command.specs.declared.job.Job.TheVariants.{Check};
 ghost use Rattle.zf_engine.specs.Answers.{Answer, AnswersSource, Checks, IsAsked, IsLimited, IsNamedRow, StopsInSource};
@@ -12,7 +12,7 @@ ghost use Rattle.zf_term.specs.Definitions.{globals_of, schema_of};
 ghost use Rattle.zf_texts.specs.Spellings.{spellings};
 
 use crate::asked::{Asked, asked_in};
-use crate::begin::begin;
+use crate::begin::{begin, begin_counting};
 use crate::check::{check_answer, checked_in};
 use crate::named::named_row;
 use crate::request::Request;
@@ -26,7 +26,7 @@ use zf_data::Word;
 use zf_enum::Known;
 use zf_lines::counted::Counted;
 use zf_lines::fault::{RunFault, Status};
-use zf_lines::show::show;
+use zf_lines::show::{show, show_with_tests};
 use zf_lines::writing::write_text;
 use zf_meaning::env::Env;
 use zf_term::globals::{Flat, Globals};
@@ -217,17 +217,48 @@ fn show_after<'a, W: Write>(
     ensures count { failures_of writer.new ≡ write_failures result }
     ensures unread { read_failures result ≡ 0 }
 {
+    if request.tests {
+        return count_after(alloc, arena, schema, env, elements, after, request, writer);
+    }
     match begin(alloc, arena, schema, env, after) {
         Ok(found) => {
+            let mut search = found;
+            show(alloc, schema, elements, &mut search, request.limit, writer)
+        }
+        Err(stop) => tell(stop, writer),
+    }
+}
+
+/// The same of a request that asks for the number of tests.
+fn count_after<'a, W: Write>(
+    alloc: Global,
+    arena: &'a Bump,
+    schema: &Flat<'a>,
+    env: &Env<'_, 'a>,
+    elements: &[Spelling],
+    after: Option<&[Known]>,
+    request: &Request<'_>,
+    writer: &mut Counted<W>,
+) -> Result<Status, RunFault>
+    requires unfailed { failures_of writer.old ≡ 0 }
+    requires limited { HasLimit request.now.limit }
+    requires counted { request.now.tests ≡ true }
+    requires elements { elements.now ≡ spellings (environment_of env.now).globals }
+    requires asked { (source : List ℕ) × IsAsked (request_of request.now) source (environment_of env.now).globals (schema_of schema.now) (environment_of env.now) }
+    requires named { IsNamedRow (environment_of env.now) (schema_of schema.now).comps (request_of request.now).after (option_copied after) }
+    ensures shows { (file source : List ℕ) → IsAsked (request_of request.now) source (environment_of env.now).globals (schema_of schema.now) (environment_of env.now) → Shows (request_of request.now) file source (W.contents (device_of writer.old)) (W.contents (device_of writer.new)) result }
+    ensures count { failures_of writer.new ≡ write_failures result }
+    ensures unread { read_failures result ≡ 0 }
+{
+    match begin_counting(alloc, arena, schema, env, after) {
+        Ok(found) => {
             let mut bindings = found;
-            let limit = request.limit;
-            show(
+            show_with_tests(
                 alloc,
                 schema,
                 elements,
                 &mut bindings,
-                limit,
-                request.tests,
+                request.limit,
                 writer,
             )
         }

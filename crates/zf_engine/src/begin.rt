@@ -3,8 +3,10 @@ ghost use Rattle.std.specs.Prelude.{◌<◌, length, IfOk, IfErr};
 ghost use Rattle.std.specs.Option.{option_copied};
 ghost use Rattle.zf_engine.specs.Stops.{IfAnswered, TellsComponent, TellsOut};
 ghost use Rattle.zf_enum.specs.Property.{property};
-ghost use Rattle.zf_enum.specs.Starts.{Begins};
+ghost use Rattle.zf_enum.specs.Searches.{planted_goal};
+ghost use Rattle.zf_enum.specs.Starts.{Begins, BeginsCounting, Refuses};
 ghost use Rattle.zf_finite.specs.Finite.{IsFinite};
+ghost use Rattle.zf_meaning.specs.Environments.{Environment};
 ghost use Rattle.zf_meaning.specs.Envs.{environment_of};
 ghost use Rattle.zf_term.specs.Definitions.{schema_of};
 ghost use Rattle.zf_walk.specs.Progress.{AreDueWithin};
@@ -14,13 +16,33 @@ use crate::stop::Stop;
 use crate::texts;
 use bumpalo::Bump;
 use std::alloc::Global;
-use zf_enum::{Bindings, Known, StartFault};
+use zf_enum::{Bindings, Instances, Known, StartFault};
 use zf_lines::fault::Status;
 use zf_meaning::env::Env;
 use zf_term::globals::Flat;
 
-/// The search for the bindings of the schema that come after the named one.
+/// The search for the bindings of the schema that come after the named one. It counts no tests.
 pub fn begin<'s, 'e, 'g, 'a>(
+    alloc: Global,
+    arena: &'a Bump,
+    flat: &Flat<'a>,
+    env: &'e Env<'g, 'a>,
+    after: Option<&'s [Known]>,
+) -> Result<Instances<'s, 'e, 'g, 'a>, Stop>
+    requires finite { IsFinite (environment_of env.now).globals (schema_of flat.now) }
+    requires named { HasLength (option_copied after) (length (schema_of flat.now).comps) }
+    requires due { AreDueWithin (property (environment_of env.now) (schema_of flat.now).conjuncts) (length (schema_of flat.now).comps) }
+    ensures begins { IfOk result (λ i. Begins (environment_of env.now) (schema_of flat.now) (option_copied after.entry) (planted_goal i.search) i.search.stage) }
+    ensures stop { IfErr result (λ s. IfAnswered s (TellsOut (environment_of env.now) (schema_of flat.now).comps)) }
+{
+    match Instances::start(alloc, arena, flat, env, after) {
+        Ok(instances) => Ok(instances),
+        Err(fault) => Err(not_begun(alloc, flat, fault)),
+    }
+}
+
+/// The same search, which counts its tests.
+pub fn begin_counting<'s, 'e, 'g, 'a>(
     alloc: Global,
     arena: &'a Bump,
     flat: &Flat<'a>,
@@ -30,13 +52,23 @@ pub fn begin<'s, 'e, 'g, 'a>(
     requires finite { IsFinite (environment_of env.now).globals (schema_of flat.now) }
     requires named { HasLength (option_copied after) (length (schema_of flat.now).comps) }
     requires due { AreDueWithin (property (environment_of env.now) (schema_of flat.now).conjuncts) (length (schema_of flat.now).comps) }
-    ensures begins { IfOk result (λ b. Begins (environment_of env.now) (schema_of flat.now) (option_copied after.entry) b) }
+    ensures begins { IfOk result (λ b. BeginsCounting (environment_of env.now) (schema_of flat.now) (option_copied after.entry) b) }
     ensures stop { IfErr result (λ s. IfAnswered s (TellsOut (environment_of env.now) (schema_of flat.now).comps)) }
 {
     match Bindings::start(alloc, arena, flat, env, after) {
         Ok(bindings) => Ok(bindings),
-        Err(StartFault::DeclaredOut(place)) => Err(declared_out(alloc, flat, place)),
-        Err(StartFault::OutOfMemory) => Err(Stop::OutOfMemory),
+        Err(fault) => Err(not_begun(alloc, flat, fault)),
+    }
+}
+
+/// The answer where no search is begun.
+fn not_begun(alloc: Global, flat: &Flat<'_>, fault: StartFault) -> Stop
+    requires { (e : Environment) × Refuses e (schema_of flat.now).comps fault }
+    ensures { (e : Environment) → Refuses e (schema_of flat.now).comps fault → IfAnswered result (TellsOut e (schema_of flat.now).comps) }
+{
+    match fault {
+        StartFault::DeclaredOut(place) => declared_out(alloc, flat, place),
+        StartFault::OutOfMemory => Stop::OutOfMemory,
     }
 }
 

@@ -9,6 +9,8 @@ use Rattle.zf_value.specs.Sets.{value_order, Every, IsAscending}
 use Rattle.zf_walk.specs.Progress.{AreDueWithin, Ahead, AreAllAhead}
 use Rattle.zf_walk.specs.Rows.{AreAscending, HasLength}
 use Rattle.zf_walk.proofs.Lists.{AllPairs-nil, AllPairs-cons, Contains-cases, Contains-nil}
+use Rattle.zf_plan.specs.Alike.{SayTheSame}
+use Rattle.zf_plan.proofs.Alike.{itself}
 use Rattle.zf_meaning.specs.Environments.{Environment}
 use Rattle.zf_enum.specs.Property.{due_of, property}
 use Rattle.zf_enum.specs.Planting.{NeedWithin}
@@ -29,6 +31,11 @@ need_at_all : (n : ℕ) (ps : List ResolvedTree) → ((c : ℕ) → c < length p
 need_at_all n [] h c = omega arith
 need_at_all n (p ∷ ps) h zero = h zero (omega arith)
 need_at_all n (p ∷ ps) h (suc c) = need_at_all n ps (λ d l. h (suc d) (omega (arith, l))) c
+
+-- the same predicates in the same environment
+pub say_alike : (d e : Environment) (ts ps : List ResolvedTree) → d ≡ e → ts ≡ ps → SayTheSame (property d ts) (property e ps)
+say_alike d e ts ps here same =
+    subst (λ (f : Environment). SayTheSame (property d ts) (property f ps)) here (subst (λ (us : List ResolvedTree). SayTheSame (property d ts) (property d us)) same (itself (property d ts)))
 
 module _ (e : Environment) where
   as_many : (cs : List Comp) (rs : List (List Value)) → AreRanges e cs rs → length cs ≡ length rs

@@ -1,13 +1,14 @@
 //! The search for the bindings of a schema.
-ghost use Rattle.std.specs.Prelude.{◌≡◌, ◌<◌, ◌≤◌, length, IfOk, OnOk, OnErr, IsSomeAnd, IfSome, slice_get, slice_index_or, unwrap_or, []};
+ghost use Rattle.std.specs.Prelude.{◌≡◌, ◌≤◌, length, IfOk, OnOk, OnErr};
 ghost use Rattle.std.specs.Option.{option_copied};
 ghost use Rattle.zf_value.specs.Sets.{value_order};
 ghost use Rattle.zf_walk.specs.Rows.{AreAscending, HasLength};
-ghost use Rattle.zf_walk.specs.Progress.{AreDueWithin, ended, AreAllAhead, SameProblem, SameAhead, Advances, AreTests, IsBounded};
+ghost use Rattle.zf_walk.specs.Progress.{AreDueWithin, ended, AreAllAhead, SameProblem, Advances, Stays, AreTests, IsBounded};
 ghost use Rattle.zf_enum.specs.Searches.{judged};
 
 use crate::known::Known;
 use crate::property::Property;
+use crate::search::Search;
 use std::alloc::{AllocError, Global};
 use zf_meaning::row::Row;
 use zf_value::value::Value;
@@ -30,9 +31,9 @@ impl<'s, 'e, 'g, 'a> Bindings<'s, 'e, 'g, 'a> {
         requires ascending { AreAscending value_order ranges.items }
         requires named { HasLength (option_copied after) (length ranges.items) }
         requires due { AreDueWithin (judged property) (length ranges.items) }
-        ensures problem { IfOk result (λ b. (b.walk.judge ≡ property.entry) × (b.walk.ranges ≡ ranges.items) × (b.walk.after ≡ option_copied after.entry)) }
-        ensures events { IfOk result (λ b. AreAllAhead value_order (judged property.entry) ranges.items (option_copied after.entry) b.walk.ahead) }
-        ensures first { IfOk result (λ b. (b.walk.last ≡ None) × (b.walk.tests ≡ 0)) }
+        ensures problem { IfOk result (λ b. (b.walk.judge ≡ property.entry) × (b.walk.stage.ranges ≡ ranges.items) × (b.walk.stage.after ≡ option_copied after.entry)) }
+        ensures events { IfOk result (λ b. AreAllAhead value_order (judged property.entry) ranges.items (option_copied after.entry) b.walk.stage.ahead) }
+        ensures first { IfOk result (λ b. (b.walk.stage.last ≡ None) × (b.walk.tests ≡ 0)) }
     {
         let walk = Walk::start(alloc, property, ranges, after)?;
         Ok(Bindings { walk })
@@ -41,11 +42,11 @@ impl<'s, 'e, 'g, 'a> Bindings<'s, 'e, 'g, 'a> {
     /// Goes on to the next binding that is not False.
     pub fn advance(&mut self) -> Result<Step, AllocError>
         ensures problem { SameProblem self.old.walk self.new.walk }
-        ensures answer { IfOk result (λ step. Advances value_order (judged self.old.walk.judge) step self.old.walk self.new.walk) }
-        ensures tests { OnOk result (AreTests value_order (judged self.old.walk.judge) self.new.walk self.new.walk.last) }
-        ensures refused { OnErr result (SameAhead value_order (judged self.old.walk.judge) self.old.walk.ranges self.old.walk.after self.old.walk.ahead self.new.walk.ahead × (self.new.walk.last ≡ None)) }
+        ensures answer { IfOk result (λ step. Advances value_order (judged self.old.walk.judge) step self.old.walk.stage self.new.walk.stage) }
+        ensures tests { OnOk result (AreTests value_order (judged self.old.walk.judge) self.new.walk self.new.walk.stage.last) }
+        ensures refused { OnErr result (Stays value_order (judged self.old.walk.judge) self.old.walk.stage self.new.walk.stage) }
         ensures no_test_lost { self.old.walk.tests ≤ self.new.walk.tests }
-        ensures ended { self.old.walk.ahead ≡ ended → result ≡ Ok Step.End }
+        ensures ended { self.old.walk.stage.ahead ≡ ended → result ≡ Ok Step.End }
     {
         self.walk.advance()
     }
@@ -57,29 +58,13 @@ impl<'s, 'e, 'g, 'a> Bindings<'s, 'e, 'g, 'a> {
     {
         self.walk.tests()
     }
-
-    /// A value of the binding that the last step gave.
-    pub fn value(&self, i: usize) -> &Value
-        requires { IsSomeAnd self.now.walk.last (λ row. i < length row) }
-        ensures { IfSome self.now.walk.last (λ row. slice_get row i ≡ Some result.now) }
-    {
-        self.walk.value(i).value()
-    }
-
-    /// The place, in the range of its component, of a value of the binding that the last step gave.
-    pub fn place(&self, i: usize) -> usize
-        requires { IsSomeAnd self.now.walk.last (λ row. i < length row) }
-        ensures { IfSome self.now.walk.last (λ row. slice_get row i ≡ slice_get (slice_index_or self.now.walk.ranges i []) result) }
-    {
-        self.walk.place(i)
-    }
 }
 
 /// The binding that the last step gave; no values where it gave none.
 impl<'s, 'e, 'g, 'a> Row for Bindings<'s, 'e, 'g, 'a> {
     ghost use Rattle.std.specs.Prelude.{unwrap_or, []};
 
-    ghost values = { λ b. unwrap_or b.walk.last [] };
+    ghost values = { λ b. unwrap_or b.walk.stage.last [] };
 
     fn len(&self) -> usize {
         zf_walk::Row::len(&self.walk)
@@ -87,5 +72,28 @@ impl<'s, 'e, 'g, 'a> Row for Bindings<'s, 'e, 'g, 'a> {
 
     fn get(&self, place: usize) -> &Value {
         zf_walk::Row::get(&self.walk, place).value()
+    }
+}
+
+impl<'s, 'e, 'g, 'a> Search for Bindings<'s, 'e, 'g, 'a> {
+    ghost use Rattle.std.proofs.Common.{refl};
+    ghost use Rattle.zf_value.specs.Sets.{value_order};
+    ghost use Rattle.zf_walk.specs.Progress.{AreTests};
+    ghost use Rattle.zf_enum.specs.Searches.{counted_goal, judged};
+
+    ghost goal = { λ b. counted_goal b.walk };
+
+    ghost stage = { λ b. b.walk.stage };
+
+    ghost Counts = { λ b. AreTests value_order (judged b.walk.judge) b.walk b.walk.stage.last };
+
+    ghost given = { λ b. refl };
+
+    fn advance(&mut self) -> Result<Step, AllocError> {
+        self.walk.advance()
+    }
+
+    fn place(&self, i: usize) -> usize {
+        self.walk.place(i)
     }
 }

@@ -8,7 +8,7 @@ ghost use Rattle.zf_walk.specs.Progress.{AreDueWithin};
 ghost use Rattle.zf_walk.specs.Rows.{HasLength};
 ghost use Rattle.zf_meaning.specs.Envs.{environment_of};
 ghost use Rattle.zf_enum.specs.Property.{property};
-ghost use Rattle.zf_enum.specs.Starts.{Refuses, Begins};
+ghost use Rattle.zf_enum.specs.Starts.{Refuses, BeginsCounting};
 
 use crate::bindings::Bindings;
 use crate::component::ranges;
@@ -34,7 +34,7 @@ impl<'s, 'e, 'g, 'a> Bindings<'s, 'e, 'g, 'a> {
         requires finite { IsFinite (environment_of env.now).globals (schema_of flat.now) }
         requires named { HasLength (option_copied after) (length (schema_of flat.now).comps) }
         requires due { AreDueWithin (property (environment_of env.now) (schema_of flat.now).conjuncts) (length (schema_of flat.now).comps) }
-        ensures begins { IfOk result (λ b. Begins (environment_of env.now) (schema_of flat.now) (option_copied after.entry) b) }
+        ensures begins { IfOk result (λ b. BeginsCounting (environment_of env.now) (schema_of flat.now) (option_copied after.entry) b) }
         ensures refused { IfErr result (Refuses (environment_of env.now) (schema_of flat.now).comps) }
     {
         let ranges = ranges(alloc, arena, flat.components.as_slice(), env)?;

@@ -9,7 +9,7 @@ use Rattle.zf_meaning.specs.Envs.{environment_of}
 use Rattle.zf_enum.specs.declared.property.Property.{Property}
 use Rattle.zf_enum.specs.Components.{AreAllRanges}
 use Rattle.zf_enum.specs.Ranges.{AreRanges}
-use Rattle.zf_enum.proofs.Started.{ranges_ascend, named_within, due_within, ahead_of}
+use Rattle.zf_enum.proofs.Started.{ranges_ascend, named_within, due_within, ahead_of, say_alike}
 use Rattle.zf_enum.proofs.bindings.Bindings.start.Goals as goal
 
 pub over-requires-clause-ascending : goal.over-requires-clause-ascending
@@ -35,12 +35,19 @@ returns-clause-begins c =
     let all = subst (λ (ds : List Component). AreAllRanges e (map comp_of ds) c.in_ok-ranges.ranges.items) c.as_slice.ensures c.in_ok-ranges.ensures.is in
     let conjuncts = c.in_ok-conjuncts.ensures ∙ ap (map conjunct_of) c.as_slice-2.ensures in
     let walk = c.in_ok-over.field-0.walk in
+    let problem = c.in_ok-over.ensures.problem in
+    let here = ap (λ (j : Property). environment_of j.env.now) problem.0 in
+    let these = ap (λ (j : Property). map resolved_of j.conjuncts.items) problem.0 ∙ conjuncts in
     record {
-      environment = ap (λ (j : Property). environment_of j.env.now) c.in_ok-over.ensures.problem.0;
-      conjuncts = ap (λ (j : Property). map resolved_of j.conjuncts.items) c.in_ok-over.ensures.problem.0 ∙ conjuncts;
-      ranges = subst (λ (rs : List (List Value)). AreRanges e s.comps rs) (sym c.in_ok-over.ensures.problem.1) all.0;
-      named = c.in_ok-over.ensures.problem.2;
-      none_out = all.1;
-      ahead = ahead_of e s.conjuncts (map resolved_of c.in_ok-conjuncts.conjuncts.items) c.in_ok-ranges.ranges.items walk.ranges (option_copied c.args.after) walk.ahead conjuncts c.in_ok-over.ensures.problem.1 c.in_ok-over.ensures.events;
-      first = c.in_ok-over.ensures.first;
+      begins = record {
+        environment = here;
+        same = say_alike _ e _ s.conjuncts here these;
+        ranges = subst (λ (rs : List (List Value)). AreRanges e s.comps rs) (sym problem.1) all.0;
+        named = problem.2;
+        none_out = all.1;
+        ahead = ahead_of e s.conjuncts (map resolved_of c.in_ok-conjuncts.conjuncts.items) c.in_ok-ranges.ranges.items walk.stage.ranges (option_copied c.args.after) walk.stage.ahead conjuncts problem.1 c.in_ok-over.ensures.events;
+        first = c.in_ok-over.ensures.first.0;
+      };
+      conjuncts = these;
+      untested = c.in_ok-over.ensures.first.1;
     }

@@ -1,5 +1,5 @@
 -- A search begins before all events of the schema.
-use Rattle.std.proofs.Common.{List, length, map, sym, subst}
+use Rattle.std.proofs.Common.{List, length, map, ap, sym, subst}
 use Rattle.std.specs.Option.{option_copied}
 use Rattle.zf_term.specs.declared.conjunct.Conjunct.{Conjunct}
 use Rattle.zf_term.specs.declared.globals.Component.{Component}
@@ -64,13 +64,14 @@ returns-clause-begins c =
     let same = say_the_same s.conjuncts p.leaves.items (trees_of p.forest) are_planted e in
     let search = c.in_ok-search.search in
     let problem = c.in_ok-search.ensures.problem in
-    let ahead = all_ahead value_order (planted (property e (map resolved_of p.leaves.items)) (trees_of p.forest)) (property e s.conjuncts) same rs (option_copied c.args.after) search.ahead c.in_ok-search.ensures.events in
+    let ahead = all_ahead value_order (planted (property e (map resolved_of p.leaves.items)) (trees_of p.forest)) (property e s.conjuncts) same rs (option_copied c.args.after) search.stage.ahead c.in_ok-search.ensures.events in
     record {
+      environment = ap (λ (j : Property). environment_of j.env.now) problem.0;
       same = subst (λ (j : Property). SayTheSame (planted (judged j) (trees_of search.forest)) (property e s.conjuncts)) (sym problem.0)
           (subst (λ (f : Grove). SayTheSame (planted (property e (map resolved_of p.leaves.items)) (trees_of f)) (property e s.conjuncts)) (sym problem.1) same);
       ranges = subst (λ (ws : List (List Value)). AreRanges e s.comps ws) (sym problem.2) all.0;
       named = problem.3;
       none_out = all.1;
-      ahead = subst (λ (ws : List (List Value)). AreAllAhead value_order (property e s.conjuncts) ws (option_copied c.args.after) search.ahead) (sym problem.2) ahead;
+      ahead = subst (λ (ws : List (List Value)). AreAllAhead value_order (property e s.conjuncts) ws (option_copied c.args.after) search.stage.ahead) (sym problem.2) ahead;
       first = c.in_ok-search.ensures.first;
     }

@@ -1,0 +1,41 @@
+//! What a search for the bindings of a schema does, whether it counts its tests or not.
+ghost use Rattle.std.specs.Prelude.{◌≡◌, ◌<◌, length, IfOk, OnOk, OnErr, IsSomeAnd, IfSome, slice_get, slice_index_or, unwrap_or, []};
+ghost use Rattle.zf_value.specs.Sets.{value_order};
+ghost use Rattle.zf_walk.specs.Progress.{ended, SameRanges, Advances, Stays};
+ghost use Rattle.zf_enum.specs.Searches.{conjuncts_of};
+
+use std::alloc::AllocError;
+use zf_meaning::row::Row;
+use zf_walk::Step;
+
+/// The bindings of a schema that are not False, one after another in ascending order. It is also the binding that the last step gave; no values where it gave none.
+pub trait Search: Row {
+    ghost use Rattle.zf_value.specs.declared.value.Value as value;
+    ghost use Rattle.zf_walk.specs.Progress.{Stage};
+    ghost use Rattle.zf_enum.specs.Searches.{Goal};
+
+    /// What it goes by.
+    ghost goal: { Self → Goal };
+
+    /// Where it stands.
+    ghost stage: { Self → Stage value.Value };
+
+    /// What is right of its number of tests after a step.
+    ghost Counts: { Self → Type 0 };
+
+    ghost given: { (s : Self) → Self.values s ≡ unwrap_or (stage s).last [] };
+
+    /// Goes on to the next binding that is not False.
+    fn advance(&mut self) -> Result<Step, AllocError>
+        ensures goal { goal self.new ≡ goal self.old }
+        ensures ranges { SameRanges (stage self.old) (stage self.new) }
+        ensures answer { IfOk result (λ step. Advances value_order (conjuncts_of (goal self.old)) step (stage self.old) (stage self.new)) }
+        ensures counts { OnOk result (Counts self.new) }
+        ensures refused { OnErr result (Stays value_order (conjuncts_of (goal self.old)) (stage self.old) (stage self.new)) }
+        ensures ended { (stage self.old).ahead ≡ ended → result ≡ Ok Step.End };
+
+    /// The place, in the range of its component, of a value of the binding that the last step gave.
+    fn place(&self, i: usize) -> usize
+        requires { IsSomeAnd (stage self.now).last (λ row. i < length row) }
+        ensures { IfSome (stage self.now).last (λ row. slice_get row i ≡ slice_get (slice_index_or (stage self.now).ranges i []) result) };
+}
