@@ -9,7 +9,7 @@ use crate::shown::{Shown, meet};
 use std::alloc::AllocError;
 use zf_meaning::env::Env;
 use zf_meaning::value::truth_of;
-use zf_plan::{Guide, Narrowed};
+use zf_plan::Guide;
 use zf_term::resolved::Resolved;
 use zf_value::value;
 use zf_walk::{Judge, Range, Row, Truth};
@@ -60,17 +60,18 @@ impl<'e, 'g, 'a> Judge<Known> for Property<'e, 'g, 'a> {
 
 /// Each value of a range is tried: no predicate is asked which ones it leaves.
 impl<'e, 'g, 'a> Guide<Known> for Property<'e, 'g, 'a> {
-    fn narrows(&self, _leaf: usize) -> bool {
+    fn narrows(&self, _leaf: usize, _component: usize) -> bool {
         false
     }
 
-    fn narrowed<R: Row<Known>>(
+    fn narrow(
         &self,
         _leaf: usize,
-        _row: &R,
-        _range: &Range<Known>,
-    ) -> Result<Narrowed, AllocError> {
-        Ok(Narrowed::All)
+        _ranges: &[Range<Known>],
+        _places: &[usize],
+        _gathered: &mut Vec<usize>,
+    ) -> Result<bool, AllocError> {
+        Ok(false)
     }
 }
 

@@ -23,8 +23,6 @@ pub trait Search: Row {
     /// What is right of its number of tests after a step.
     ghost Counts: { Self → Type 0 };
 
-    ghost given: { (s : Self) → Self.values s ≡ unwrap_or (stage s).last [] };
-
     /// Goes on to the next binding that is not False.
     fn advance(&mut self) -> Result<Step, AllocError>
         ensures goal { goal self.new ≡ goal self.old }
@@ -38,4 +36,6 @@ pub trait Search: Row {
     fn place(&self, i: usize) -> usize
         requires { IsSomeAnd (stage self.now).last (λ row. i < length row) }
         ensures { IfSome (stage self.now).last (λ row. slice_get row i ≡ slice_get (slice_index_or (stage self.now).ranges i []) result) };
+
+    ghost given: { (s : Self) → Self.Row.values s ≡ unwrap_or (stage s).last [] };
 }
