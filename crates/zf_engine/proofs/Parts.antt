@@ -12,7 +12,7 @@ use Rattle.zf_value.specs.declared.value.Value.{Value}
 use Rattle.zf_meaning.specs.Environments.{Environment}
 use Rattle.zf_texts.specs.declared.spelling.Spelling.{Spelling}
 use Rattle.zf_texts.specs.Spellings.{spellings}
-use Rattle.zf_enum.specs.declared.bindings.Bindings.{Bindings}
+use Rattle.zf_enum.specs.Searches.{Goal}
 use Rattle.zf_enum.specs.Starts.{Begins}
 use Rattle.zf_lines.specs.declared.fault.RunFault.{RunFault}
 use Rattle.zf_lines.specs.declared.fault.Status.{Status}
@@ -20,10 +20,11 @@ use Rattle.zf_engine.specs.declared.stop.Stop.{Stop}
 use Rattle.zf_engine.specs.declared.stop.Stop.TheVariants.{Answered, OutOfMemory}
 use Rattle.zf_engine.specs.Answers.{Answer, AnswersReader, AnswersSource, IsAsked, IsNamedRow, IsSearch, Request, ShowAnswer, ShowBegins, StopsInSource, StopsInReader}
 use Rattle.zf_walk.specs.Events.{Event}
+use Rattle.zf_walk.specs.Progress.{Stage}
 use Rattle.zf_lines.specs.Faults.{AppendsFront}
 use Rattle.zf_engine.specs.Faults.{Gave}
 use Rattle.zf_lines.specs.Searches.{HasEvents, IsBegun, IsTestsLine, IsWritten}
-use Rattle.zf_lines.specs.Shown.{IsSome, Lists, StopsShown, WritesAll, searched}
+use Rattle.zf_lines.specs.Shown.{IsSome, StopsShown, WritesAll}
 use Rattle.zf_lines.specs.Texts.{binding_line}
 use Rattle.zf_engine.specs.Stops.{AnswersRequest, IfAnswered, Shows, Tells}
 
@@ -70,22 +71,22 @@ same_job {job} {name} {given} {sizes} {stated} {after} {text} {limit} {tests} e 
 
 -- ---- the lines of a search
 
-module _ (r : Request) (file source : List ℕ) (a : Schema) (b : Bindings) (ss : List Spelling) (e : Environment) (after : Option (List Value))
-    (is : IsAsked r source e.globals a e) (named : IsNamedRow e a.comps r.after after) (begins : Begins e a after b) (spelled : ss ≡ spellings e.globals) where
+module _ (r : Request) (file source : List ℕ) (a : Schema) (g : Goal) (b : Stage Value) (ss : List Spelling) (e : Environment) (after : Option (List Value))
+    (is : IsAsked r source e.globals a e) (named : IsNamedRow e a.comps r.after after) (begins : Begins e a after g b) (spelled : ss ≡ spellings e.globals) where
   search_of : IsSearch r source e.globals a e after
   search_of = record { asked = is; named = named; none_out = begins.none_out }
 
-  listed : (last : Option (List Value)) (events : List (Event Value)) → Lists a b last events → HasEvents e a after last events
-  listed last events h = subst (λ f. HasEvents f a after last events) begins.environment (subst (λ n. HasEvents (searched b) a n last events) begins.named h)
+  listed : (last : Option (List Value)) (events : List (Event Value)) → HasEvents g.environment a b.after last events → HasEvents e a after last events
+  listed last events h = subst (λ f. HasEvents f a after last events) begins.environment (subst (λ n. HasEvents g.environment a n last events) begins.named h)
 
-  whole_answer : (text : List ℕ) (status : Status) → WritesAll (binding_line ss a.comps) r.limit r.tests a b text status → ShowAnswer r file source text status
-  whole_answer text status w = ShowAnswer.bindings e.globals a e after w.last w.events w.written w.counted search_of
+  whole_answer : (tests : Bool) (text : List ℕ) (status : Status) → tests ≡ r.tests → WritesAll (binding_line ss a.comps) r.limit tests g.environment a b.after text status → ShowAnswer r file source text status
+  whole_answer tests text status same w = ShowAnswer.bindings e.globals a e after w.last w.events w.written w.counted search_of
       (listed w.last w.events w.listed)
       (subst (λ k. IsWritten (binding_line k a.comps) r.limit w.events w.last w.written status) spelled w.ends)
-      (subst (λ f. IsTestsLine r.tests f a after w.last w.counted) begins.environment (subst (λ n. IsTestsLine r.tests (searched b) a n w.last w.counted) begins.named w.numbered))
+      (subst (λ t. IsTestsLine t e a after w.last w.counted) same (subst (λ f. IsTestsLine tests f a after w.last w.counted) begins.environment (subst (λ n. IsTestsLine tests g.environment a n w.last w.counted) begins.named w.numbered)))
       w.whole
 
-  first_lines : (text : List ℕ) → IsSome (binding_line ss a.comps) r.limit a b text → (text ≡ []) ⊎ ShowBegins r source text
+  first_lines : (text : List ℕ) → IsSome (binding_line ss a.comps) r.limit g.environment a b.after text → (text ≡ []) ⊎ ShowBegins r source text
   first_lines text (inl none) = inl none
   first_lines text (inr (events, last, some, begun)) =
       inr (ShowBegins.bindings e.globals a e after last events search_of (listed last events some) (subst (λ k. IsBegun (binding_line k a.comps) r.limit events last text) spelled begun))
@@ -99,12 +100,12 @@ module _ (r : Request) (file source : List ℕ) (a : Schema) (b : Bindings) (ss 
   stops_early text old new (inr begins) (f, front, written) = (f, inr (inr (text, begins, front)), written)
 
   -- what is written of the search is the answer of the request, or a part of it
-  pub shown : (old new : Option (List ℕ)) (result : Result Status RunFault)
-      → IfOk result (λ status. (text : List ℕ) × WritesAll (binding_line ss a.comps) r.limit r.tests a b text status × Appends old new text)
-      → OnErr result (StopsShown (binding_line ss a.comps) r.limit r.tests a b old new) → Shows r file source old new result
-  shown old new (Ok status) (text, w, written) stops = (text, inr (whole_answer text status w), written)
-  shown old new (Err fault) all (inl (text, some, front)) = stops_early text old new (first_lines text some) front
-  shown old new (Err fault) all (inr (text, status, w, (f, front, written))) = (f, inr (inl (text, status, inr (whole_answer text status w), front)), written)
+  pub shown : (tests : Bool) (old new : Option (List ℕ)) (result : Result Status RunFault) → tests ≡ r.tests
+      → IfOk result (λ status. (text : List ℕ) × WritesAll (binding_line ss a.comps) r.limit tests g.environment a b.after text status × Appends old new text)
+      → OnErr result (StopsShown (binding_line ss a.comps) r.limit tests g.environment a b.after old new) → Shows r file source old new result
+  shown tests old new (Ok status) same (text, w, written) stops = (text, inr (whole_answer tests text status same w), written)
+  shown tests old new (Err fault) same all (inl (text, some, front)) = stops_early text old new (first_lines text some) front
+  shown tests old new (Err fault) same all (inr (text, status, w, (f, front, written))) = (f, inr (inl (text, status, inr (whole_answer tests text status same w), front)), written)
 
 -- ---- answers
 

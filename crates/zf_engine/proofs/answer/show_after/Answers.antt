@@ -1,6 +1,8 @@
+use Rattle.std.proofs.Common.{false, sym}
 use Rattle.std.specs.Option.{option_copied}
 use Rattle.zf_meaning.specs.Envs.{environment_of}
 use Rattle.zf_term.specs.Definitions.{schema_of}
+use Rattle.zf_enum.specs.Searches.{planted_goal}
 use Rattle.zf_engine.specs.Stops.{request_of}
 use Rattle.zf_engine.proofs.DueWithin.{due_within}
 use Rattle.zf_engine.proofs.NamedRows.{named_length}
@@ -18,8 +20,8 @@ begin-requires-clause-due g c =
 
 pub returns-in-Ok-clause-shows : goal.returns-in-Ok-clause-shows
 returns-in-Ok-clause-shows g c = λ file source is.
-    shown (request_of c.args.request.now) file source (schema_of c.args.schema.now) c.in-Ok.found c.args.elements.now (environment_of c.args.env.now) (option_copied c.args.after)
-    is c.requires.named c.in-Ok.ensures.begins c.requires.elements _ _ _ c.show.ensures.ok c.show.ensures.err
+    shown (request_of c.args.request.now) file source (schema_of c.args.schema.now) (planted_goal c.in-Ok.found.search) c.in-Ok.found.search.stage c.args.elements.now (environment_of c.args.env.now) (option_copied c.args.after)
+    is c.requires.named c.in-Ok.ensures.begins c.requires.elements false _ _ _ ? c.show.ensures.ok c.show.ensures.err
 
 pub returns-in-Err-clause-shows : goal.returns-in-Err-clause-shows
 returns-in-Err-clause-shows g c = λ file source is.

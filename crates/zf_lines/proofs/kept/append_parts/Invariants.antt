@@ -4,12 +4,11 @@ use Rattle.zf_term.specs.Definitions.{comp_of}
 use Rattle.zf_texts.specs.BindingTexts.{component_texts, binding_text}
 use Rattle.zf_texts.specs.Steps.{goes_on}
 use Rattle.zf_lines.specs.Columns.{AreColumns}
-use Rattle.zf_lines.specs.Shown.{values_of}
 use Rattle.zf_lines.proofs.kept.append_parts.Given as goal
 
 abbrev pub invariant-loop-place : goal.invariant-loop-place
-invariant-loop-place l =
-    (l.place ≤ length (values_of l.bindings))
-    × AreColumns l.elements (map comp_of l.flat.components) l.bindings.walk.ranges l.columns.items
-    × (l.line.items ++ goes_on l.place (component_texts l.elements (map comp_of (drop l.place l.flat.components)) (drop l.place (values_of l.bindings)))
-    ≡ l.fn.line.items ++ binding_text l.elements (map comp_of l.flat.components) (values_of l.bindings))
+invariant-loop-place g l =
+    (l.place ≤ length (g.S.Row.values l.search))
+    × AreColumns l.elements (map comp_of l.flat.components) (g.S.Search.stage l.search).ranges l.columns.items
+    × (l.line.items ++ goes_on l.place (component_texts l.elements (map comp_of (drop l.place l.flat.components)) (drop l.place (g.S.Row.values l.search)))
+    ≡ l.fn.line.items ++ binding_text l.elements (map comp_of l.flat.components) (g.S.Row.values l.search))

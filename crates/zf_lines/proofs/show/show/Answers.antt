@@ -2,29 +2,33 @@
 use Rattle.std.proofs.Common.{◌++◌, List, ℕ, inr, refl, sym, ap, ◌∙◌}
 use Rattle.std.proofs.KnownBytes.{Appends-trans}
 use Rattle.zf_term.specs.Definitions.{schema_of}
-use Rattle.zf_lines.specs.Ends.{counted_text, last_text}
-use Rattle.zf_lines.specs.Shown.{values_of}
+use Rattle.zf_lines.specs.Ends.{last_text}
 use Rattle.zf_lines.specs.Texts.{binding_line}
 use Rattle.zf_lines.proofs.Fronts.{always_on_err, front_behind, front_longer, front_whole}
-use Rattle.zf_lines.proofs.Searching.{all_text}
+use Rattle.zf_lines.proofs.Searching.{untold_text}
 use Rattle.zf_lines.proofs.show.show.Goals as goal
 
-pub returns-in_err-append_end-clause-err : goal.returns-in_err-append_end-clause-err
-returns-in_err-append_end-clause-err g c =
-    always_on_err _ (inr (_, _, all_text _ _ c.requires.start _ _ c.args.tests _ _ _ _ c.in_ok-ending.ensures.ok _ refl, front_longer _ _ _ _ (front_whole _ _ _ c.in_ok-ending.ensures.ok.written)))
-
-pub returns-in_err-write_text-clause-err : goal.returns-in_err-write_text-clause-err
-returns-in_err-write_text-clause-err g c =
-    let is = c.in_ok-append_end.ensures ∙ ap (λ (l : List ℕ). l ++ (last_text (binding_line c.args.elements.now (schema_of c.args.flat.now).comps) c.in_ok-ending.ending (values_of c.write_lines.new.bindings) ++ counted_text c.args.tests c.write_lines.new.bindings)) c.clear.ensures.items in
+pub returns-in_err-append_last-clause-err : goal.returns-in_err-append_last-clause-err
+returns-in_err-append_last-clause-err g c =
     always_on_err _ (inr (
       _,
       _,
-      all_text _ _ c.requires.start _ _ c.args.tests _ _ _ _ c.in_ok-ending.ensures.ok c.append_end.new.line.items is,
+      untold_text _ _ _ _ _ _ _ _ _ _ c.in_ok-ending.ensures.ok _ (g.met.S.Search.given c.write_lines.new.search) refl,
+      front_longer _ _ _ _ (front_whole _ _ _ c.in_ok-ending.ensures.ok.written),
+    ))
+
+pub returns-in_err-write_text-clause-err : goal.returns-in_err-write_text-clause-err
+returns-in_err-write_text-clause-err g c =
+    let is = c.in_ok-append_last.ensures ∙ ap (λ (l : List ℕ). l ++ last_text (binding_line c.args.elements.now (schema_of c.args.flat.now).comps) c.in_ok-ending.ending (g.S.Row.values c.write_lines.new.search)) c.clear.ensures.items in
+    always_on_err _ (inr (
+      _,
+      _,
+      untold_text _ _ _ _ _ _ _ _ _ _ c.in_ok-ending.ensures.ok c.append_last.new.line.items (g.met.S.Search.given c.write_lines.new.search) is,
       front_behind _ _ _ _ _ c.in_ok-ending.ensures.ok.written (rw c.deref.ensures.value at c.in_err-write_text.ensures.err),
     ))
 
 pub returns-clause-ok : goal.returns-clause-ok
 returns-clause-ok g c =
-    let is = c.in_ok-append_end.ensures ∙ ap (λ (l : List ℕ). l ++ (last_text (binding_line c.args.elements.now (schema_of c.args.flat.now).comps) c.in_ok-ending.ending (values_of c.write_lines.new.bindings) ++ counted_text c.args.tests c.write_lines.new.bindings)) c.clear.ensures.items in
-    let whole = all_text _ _ c.requires.start _ _ c.args.tests _ _ _ _ c.in_ok-ending.ensures.ok c.append_end.new.line.items is in
+    let is = c.in_ok-append_last.ensures ∙ ap (λ (l : List ℕ). l ++ last_text (binding_line c.args.elements.now (schema_of c.args.flat.now).comps) c.in_ok-ending.ending (g.S.Row.values c.write_lines.new.search)) c.clear.ensures.items in
+    let whole = untold_text _ _ _ _ _ _ _ _ _ _ c.in_ok-ending.ensures.ok c.append_last.new.line.items (g.met.S.Search.given c.write_lines.new.search) is in
     (_, (rw (sym c.status.ensures) at whole), Appends-trans _ _ _ _ _ c.in_ok-ending.ensures.ok.written (rw c.deref.ensures.value at c.in_ok-write_text.ensures.ok))

@@ -10,9 +10,9 @@ use Rattle.zf_lines.proofs.show.write_lines.Given as goal
 
 abbrev pub invariant-lines : goal.invariant-lines
 invariant-lines g l =
-    Standing (binding_line l.elements (schema_of l.flat).comps) l.fn.limit (schema_of l.flat) l.initial.bindings l.bindings l.left (g.W.Write.contents (device_of l.initial.writer)) (g.W.Write.contents (device_of l.writer))
+    Standing (binding_line l.elements (schema_of l.flat).comps) l.fn.limit (schema_of l.flat) (g.S.Search.goal l.initial.search) (g.S.Search.stage l.initial.search) (g.S.Search.goal l.search) (g.S.Search.stage l.search) l.left (g.W.Write.contents (device_of l.initial.writer)) (g.W.Write.contents (device_of l.writer))
     × (failures_of l.writer ≡ 0)
-    × AreColumns l.elements (schema_of l.flat).comps l.bindings.walk.ranges l.columns.items
+    × AreColumns l.elements (schema_of l.flat).comps (g.S.Search.stage l.search).ranges l.columns.items
 
 abbrev pub decreases-lines : goal.decreases-lines
-decreases-lines g l = ahead_count value_order l.bindings.walk.ranges l.bindings.walk.ahead
+decreases-lines g l = ahead_count value_order (g.S.Search.stage l.search).ranges (g.S.Search.stage l.search).ahead

@@ -1,0 +1,30 @@
+use Rattle.std.proofs.Common.{true, sym}
+use Rattle.std.specs.Option.{option_copied}
+use Rattle.zf_meaning.specs.Envs.{environment_of}
+use Rattle.zf_term.specs.Definitions.{schema_of}
+use Rattle.zf_enum.specs.Searches.{counted_goal}
+use Rattle.zf_engine.specs.Stops.{request_of}
+use Rattle.zf_engine.proofs.DueWithin.{due_within}
+use Rattle.zf_engine.proofs.NamedRows.{named_length}
+use Rattle.zf_engine.proofs.Parts.{shown, told}
+use Rattle.zf_engine.proofs.Refusing.{out_answers, well_typed}
+use Rattle.zf_engine.proofs.answer.count_after.Goals as goal
+
+pub begin_counting-requires-clause-named : goal.begin_counting-requires-clause-named
+begin_counting-requires-clause-named g c = named_length _ _ _ _ c.requires.named
+
+pub begin_counting-requires-clause-due : goal.begin_counting-requires-clause-due
+begin_counting-requires-clause-due g c =
+    let is = c.requires.asked.1 in
+    due_within (environment_of c.args.env.now) (environment_of c.args.env.now).globals (request_of c.args.request.now).name (schema_of c.args.schema.now) (well_typed _ _ is.has_schema.checks) is.has_schema.named
+
+pub returns-in-Ok-clause-shows : goal.returns-in-Ok-clause-shows
+returns-in-Ok-clause-shows g c = λ file source is.
+    shown (request_of c.args.request.now) file source (schema_of c.args.schema.now) (counted_goal c.in-Ok.found.walk) c.in-Ok.found.walk.stage c.args.elements.now (environment_of c.args.env.now) (option_copied c.args.after)
+    is c.requires.named c.in-Ok.ensures.begins.begins c.requires.elements true _ _ _ (sym c.requires.counted) c.show_with_tests.ensures.ok c.show_with_tests.ensures.err
+
+pub returns-in-Err-clause-shows : goal.returns-in-Err-clause-shows
+returns-in-Err-clause-shows g c = λ file source is.
+    told (request_of c.args.request.now) file source c.in-Err.stop _ _ _
+    (out_answers (request_of c.args.request.now) file source _ (schema_of c.args.schema.now) (environment_of c.args.env.now) is (option_copied c.args.after) c.requires.named c.in-Err.stop c.in-Err.ensures.stop)
+    c.tell.ensures.told
