@@ -9,7 +9,7 @@ use bumpalo::Bump;
 use std::alloc::{AllocError, Global};
 use std::test::Fail;
 use zf_data::Text;
-use zf_enum::{Bindings, StartFault};
+use zf_enum::{Bindings, Instances, Search, StartFault};
 use zf_finite::finite;
 use zf_meaning::env::Env;
 use zf_meaning::sizes::Size;
@@ -57,8 +57,26 @@ fn steps(rt: HostRuntime) -> Result<(), Fail> {
     Ok(())
 }
 
+/// A search that counts no tests finds the same.
+#[test]
+fn uncounted_steps(rt: HostRuntime) -> Result<(), Fail> {
+    let arena = Bump::new(rt.alloc());
+    let globals = globals_in(rt.alloc(), &arena)?;
+    let name = Text::of(rt.alloc(), b"NAME")?;
+    let env = Env::new(rt.alloc(), &globals, &[Size { name, count: 2 }])?;
+    for (name, holding, _) in SCHEMAS {
+        let mut search = begun_uncounted(rt.alloc(), &arena, &env, name)?;
+        for place in 0..holding {
+            assert!(rt; next(&mut search) == Ok(Step::Holds), "{name} at {place}");
+        }
+        assert!(rt; next(&mut search) == Ok(Step::End), "{name}");
+        assert!(rt; next(&mut search) == Ok(Step::End), "{name}");
+    }
+    Ok(())
+}
+
 /// The next step, which is asked for once more where memory is refused.
-fn next(search: &mut Bindings<'_, '_, '_, '_>) -> Result<Step, AllocError> {
+fn next<S: Search>(search: &mut S) -> Result<Step, AllocError> {
     match search.advance() {
         Ok(step) => Ok(step),
         Err(_) => search.advance(),
@@ -92,6 +110,29 @@ fn begun<'e, 'g, 'a>(
     };
     match Bindings::start(alloc, arena, schema, env, None) {
         Ok(bindings) => Ok(bindings),
+        Err(StartFault::OutOfMemory) => Err(Fail::new("out of memory")),
+        Err(StartFault::DeclaredOut(_)) => Err(Fail::new("a declared set is out")),
+    }
+}
+
+/// The same of one that counts no tests.
+fn begun_uncounted<'e, 'g, 'a>(
+    alloc: Global,
+    arena: &'a Bump,
+    env: &'e Env<'g, 'a>,
+    name: &str,
+) -> Result<Instances<'e, 'e, 'g, 'a>, Fail>
+    requires { AreWellTyped (environment_of env.now).globals }
+{
+    let globals = env.globals();
+    let Some(schema) = globals.schema(name) else {
+        return Err(Fail::new("no schema"));
+    };
+    let Ok(()) = finite(schema, globals) else {
+        return Err(Fail::new("not finite"));
+    };
+    match Instances::start(alloc, arena, schema, env, None) {
+        Ok(instances) => Ok(instances),
         Err(StartFault::OutOfMemory) => Err(Fail::new("out of memory")),
         Err(StartFault::DeclaredOut(_)) => Err(Fail::new("a declared set is out")),
     }
