@@ -1,6 +1,8 @@
 -- Two ascending lists, merged.
-use Rattle.std.proofs.Common.{◌≡◌, ◌⊎◌, ◌↔◌, ℕ, zero, suc, ◌+◌, ◌<◌, ◌≤◌, List, [], ◌∷◌, ◌++◌, length, take, drop, get_or, refl, sym, ap, ◌∙◌, subst, inl, inr, ⊎_elim, Less, Equal, Greater, arith, add-one}
-use Rattle.std.proofs.Math.Seq.{drop-cons}
+use Rattle.std.proofs.Common.{◌≡◌, ◌⊎◌, ◌↔◌, ℕ, suc, ◌+◌, ◌<◌, ◌≤◌, List, [], ◌∷◌, ◌++◌, length, take, drop, get_or, sym, ap, ◌∙◌, subst, inl, inr, ⊎_elim, Less, Equal, Greater, arith, add-one}
+use Rattle.std.proofs.Math.Seq.{drop-cons, append_snoc}
+use Rattle.std.proofs.lemmas.List.{append-nil, take-append-drop}
+use Rattle.std.proofs.Math.ListN.{drop_of_length-le}
 use Rattle.zf_value.specs.declared.value.Value.{Value}
 use Rattle.zf_value.specs.contracts.value.ValueOrd.TheImpl.Laws.{total-law}
 use Rattle.zf_value.specs.Sets.{value_order, IsMember, Every, IsAscending}
@@ -25,10 +27,6 @@ merging_none a b out e h k = subst (IsMerging a b 0 0) (sym e) (record { left = 
 below_all : (x y : Value) (ys : List Value) → value_order x y ≡ Less → Every (λ z. value_order y z ≡ Less) ys → Every (λ z. value_order x z ≡ Less) ys
 below_all x y ys l h = every_from _ ys (λ z m. total-law.trans x y z l (every_at _ ys z h m))
 
-append_push : (xs : List Value) (x : Value) (ys : List Value) → (xs ++ x ∷ []) ++ ys ≡ xs ++ x ∷ ys
-append_push [] x ys = refl
-append_push (z ∷ xs) x ys = ap (λ us. z ∷ us) (append_push xs x ys)
-
 every_put : (P : Value → Type 0) (out : List Value) (x : Value) (xs ys : List Value) → Every P (out ++ x ∷ xs) → Every P (out ++ ys) → Every P ((out ++ x ∷ []) ++ ys)
 every_put P [] x xs ys h k = (h.0, k)
 every_put P (z ∷ out) x xs ys h k = (h.0, every_put P out x xs ys h.1 k.1)
@@ -44,7 +42,7 @@ at_place xs i x e l = rw add-one (drop-cons xs i x l ∙ ap (λ y. y ∷ drop (s
 
 -- the next of the list itself
 same_left : (out xs : List Value) (i : ℕ) (x : Value) → x ≡ get_or xs i x → i < length xs → IsAscending (out ++ drop i xs) → IsAscending ((out ++ x ∷ []) ++ drop (i + 1) xs)
-same_left out xs i x e l h = subst IsAscending (ap (λ ys. out ++ ys) (at_place xs i x e l) ∙ sym (append_push out x (drop (i + 1) xs))) h
+same_left out xs i x e l h = subst IsAscending (ap (λ ys. out ++ ys) (at_place xs i x e l) ∙ sym (append_snoc out x (drop (i + 1) xs))) h
 
 -- the next of the other list, which is less
 other_left : (out xs ys : List Value) (i j : ℕ) (x y : Value) → x ≡ get_or xs i x → i < length xs → y ≡ get_or ys j y → j < length ys → value_order x y ≡ Less → IsAscending (out ++ drop i xs) → IsAscending (out ++ drop j ys) → IsAscending ((out ++ x ∷ []) ++ drop j ys)
@@ -67,7 +65,7 @@ joined_turned : (a b out : List Value) → IsJoined a b out → IsJoined b a out
 unfolding IsJoined
 joined_turned a b out h w = (λ m. ⊎_elim (λ p. inr p) (λ q. inl q) ((h w).0 m), λ m. (h w).1 (⊎_elim (λ p. inr p) (λ q. inl q) m))
 
-pub merging_turned : (a b : List Value) (i j : ℕ) (out : List Value) → IsMerging a b i j out → IsMerging b a j i out
+merging_turned : (a b : List Value) (i j : ℕ) (out : List Value) → IsMerging a b i j out → IsMerging b a j i out
 merging_turned a b i j out h = record { left = h.right; right = h.left; joined = joined_turned (take i a) (take j b) out h.joined; in_a = h.in_b; in_b = h.in_a }
 
 merging_left : (a b : List Value) (i j : ℕ) (out : List Value) (x y : Value) → x ≡ get_or a i x → i < length a → y ≡ get_or b j y → j < length b → value_order x y ≡ Less → IsMerging a b i j out → IsMerging a b (i + 1) j (out ++ x ∷ [])
@@ -99,7 +97,7 @@ joined_both a b out i j x e l f m h w =
     let first = members-take_more a i x e l w in
     let second = members-take_more b j x f m w in
     let push = members-push out x w in
-    rw add-one (
+    rw (add-one i, add-one j) (
       λ n. ⊎_elim (λ p. ⊎_elim (λ q. inl (first.1 (inl q))) (λ q. inr (second.1 (inl q))) ((h w).0 p)) (λ s. inl (first.1 (inr s))) (push.0 n),
       λ n. ⊎_elim (λ p. ⊎_elim (λ q. push.1 (inl ((h w).1 (inl q)))) (λ s. push.1 (inr s)) (first.0 p)) (λ p. ⊎_elim (λ q. push.1 (inl ((h w).1 (inr q)))) (λ s. push.1 (inr s)) (second.0 p)) n,
     )
@@ -123,12 +121,7 @@ merging_equal a b i j out new x y v e l f m o k n h =
 -- ---- the end
 
 members-parts : (xs : List Value) (n : ℕ) (w : Value) → IsMember w xs ↔ (IsMember w (take n xs) ⊎ IsMember w (drop n xs))
-members-parts xs n w = subst (λ us. IsMember w us ↔ (IsMember w (take n xs) ⊎ IsMember w (drop n xs))) (take_drop n xs) (members-append (take n xs) (drop n xs) w)
-  where
-    take_drop : (k : ℕ) (us : List Value) → take k us ++ drop k us ≡ us
-    take_drop zero us = refl
-    take_drop (suc k) [] = refl
-    take_drop (suc k) (u ∷ us) = ap (λ vs. u ∷ vs) (take_drop k us)
+members-parts xs n w = subst (λ us. IsMember w us ↔ (IsMember w (take n xs) ⊎ IsMember w (drop n xs))) (take-append-drop n xs) (members-append (take n xs) (drop n xs) w)
 
 -- what is left of both comes behind
 merged_joined : (a b : List Value) (i j : ℕ) (out : List Value) → IsJoined (take i a) (take j b) out → IsJoined a b ((out ++ drop i a) ++ drop j b)
@@ -142,20 +135,10 @@ merged_joined a b i j out h w =
       λ m. ⊎_elim (λ n. all.1 (inl (⊎_elim (λ p. some.1 (inl ((h w).1 (inl p)))) (λ p. some.1 (inr p)) (first.0 n)))) (λ n. ⊎_elim (λ p. all.1 (inl (some.1 (inl ((h w).1 (inr p)))))) (λ p. all.1 (inr p)) (second.0 n)) m,
     )
 
-none_left : (n : ℕ) (xs : List Value) → length xs ≤ n → drop n xs ≡ []
-none_left zero [] l = refl
-none_left zero (x ∷ xs) l = absurd (omega (arith, l))
-none_left (suc n) [] l = refl
-none_left (suc n) (x ∷ xs) l = none_left n xs (omega (arith, l))
-
-append_none : (xs : List Value) → xs ++ [] ≡ xs
-append_none [] = refl
-append_none (x ∷ xs) = ap (λ us. x ∷ us) (append_none xs)
-
 merged_ascending : (a b : List Value) (i j : ℕ) (out : List Value) → (length a ≤ i) ⊎ (length b ≤ j) → IsMerging a b i j out → IsAscending ((out ++ drop i a) ++ drop j b)
 merged_ascending a b i j out d h =
-    ⊎_elim (λ l. subst (λ us. IsAscending (us ++ drop j b)) (sym (ap (λ us. out ++ us) (none_left i a l) ∙ append_none out)) h.right)
-    (λ l. subst IsAscending (sym (ap (λ us. (out ++ drop i a) ++ us) (none_left j b l) ∙ append_none (out ++ drop i a))) h.left) d
+    ⊎_elim (λ l. subst (λ us. IsAscending (us ++ drop j b)) (sym (ap (λ us. out ++ us) (drop_of_length-le a l) ∙ append-nil out)) h.right)
+    (λ l. subst IsAscending (sym (ap (λ us. (out ++ drop i a) ++ us) (drop_of_length-le b l) ∙ append-nil (out ++ drop i a))) h.left) d
 
 pub merged_all : (a b : List Value) (i j : ℕ) (out first all : List Value) → (length a ≤ i) ⊎ (length b ≤ j) → IsMerging a b i j out → first ≡ out ++ drop i a → all ≡ first ++ drop j b → IsAscending all × IsJoined a b all
 merged_all a b i j out first all d h e f =

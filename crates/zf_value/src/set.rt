@@ -196,18 +196,20 @@ fn merged(alloc: Global, a: &[Value], b: &[Value]) -> Result<Vec<Value>, AllocEr
     let mut i = 0;
     let mut j = 0;
     while i < a.len() && j < b.len() {
-        match a[i].order(&b[j]) {
+        let x = &a[i];
+        let y = &b[j];
+        match x.order(y) {
             Ordering::Less => {
-                values.push(a[i].copy(alloc)?)?;
+                values.push(x.copy(alloc)?)?;
                 i += 1;
             }
             Ordering::Equal => {
-                values.push(a[i].copy(alloc)?)?;
+                values.push(x.copy(alloc)?)?;
                 i += 1;
                 j += 1;
             }
             Ordering::Greater => {
-                values.push(b[j].copy(alloc)?)?;
+                values.push(y.copy(alloc)?)?;
                 j += 1;
             }
         }
