@@ -2,4 +2,5 @@ pub mod Faults
 pub mod Texts
 pub mod Answers
 pub mod Stops
+pub mod Begun
 pub mod Statuses

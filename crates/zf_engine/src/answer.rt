@@ -12,7 +12,7 @@ ghost use Rattle.zf_term.specs.Definitions.{globals_of, schema_of};
 ghost use Rattle.zf_texts.specs.Spellings.{spellings};
 
 use crate::asked::{Asked, asked_in};
-use crate::begin::{begin, begin_counting};
+use crate::begin::{Begun, begin, begin_counting};
 use crate::check::{check_answer, checked_in};
 use crate::named::named_row;
 use crate::request::Request;
@@ -221,7 +221,11 @@ fn show_after<'a, W: Write>(
         return count_after(alloc, arena, schema, env, elements, after, request, writer);
     }
     match begin(alloc, arena, schema, env, after) {
-        Ok(found) => {
+        Ok(Begun::Walked(found)) => {
+            let mut search = found;
+            show(alloc, schema, elements, &mut search, request.limit, writer)
+        }
+        Ok(Begun::Planted(found)) => {
             let mut search = found;
             show(alloc, schema, elements, &mut search, request.limit, writer)
         }

@@ -1,6 +1,7 @@
 //! The search for the bindings of a schema, or the answer where none is begun.
 ghost use Rattle.std.specs.Prelude.{◌<◌, length, IfOk, IfErr};
 ghost use Rattle.std.specs.Option.{option_copied};
+ghost use Rattle.zf_engine.specs.Begun.{IsBegun};
 ghost use Rattle.zf_engine.specs.Stops.{IfAnswered, TellsComponent, TellsOut};
 ghost use Rattle.zf_enum.specs.Property.{property};
 ghost use Rattle.zf_enum.specs.Searches.{planted_goal};
@@ -16,13 +17,43 @@ use crate::stop::Stop;
 use crate::texts;
 use bumpalo::Bump;
 use std::alloc::Global;
-use zf_enum::{Bindings, Instances, Known, StartFault};
+use zf_enum::{Bindings, Instances, Known, StartFault, has_sides};
 use zf_lines::fault::Status;
 use zf_meaning::env::Env;
 use zf_term::globals::Flat;
 
-/// The search for the bindings of the schema that come after the named one. It counts no tests.
+/// A search whose tests nobody asks for.
+#[derive(Drop)]
+pub enum Begun<'s, 'e, 'g, 'a> {
+    /// It tests each conjunct as a whole.
+    Walked(Bindings<'s, 'e, 'g, 'a>),
+    /// It tests the sides of each conjunct apart.
+    Planted(Instances<'s, 'e, 'g, 'a>),
+}
+
+/// The search for the bindings of the schema that come after the named one.
 pub fn begin<'s, 'e, 'g, 'a>(
+    alloc: Global,
+    arena: &'a Bump,
+    flat: &Flat<'a>,
+    env: &'e Env<'g, 'a>,
+    after: Option<&'s [Known]>,
+) -> Result<Begun<'s, 'e, 'g, 'a>, Stop>
+    requires finite { IsFinite (environment_of env.now).globals (schema_of flat.now) }
+    requires named { HasLength (option_copied after) (length (schema_of flat.now).comps) }
+    requires due { AreDueWithin (property (environment_of env.now) (schema_of flat.now).conjuncts) (length (schema_of flat.now).comps) }
+    ensures begins { IfOk result (IsBegun (environment_of env.now) (schema_of flat.now) (option_copied after.entry)) }
+    ensures stop { IfErr result (λ s. IfAnswered s (TellsOut (environment_of env.now) (schema_of flat.now).comps)) }
+{
+    if has_sides(alloc, arena, flat)? {
+        Ok(Begun::Planted(begin_planted(alloc, arena, flat, env, after)?))
+    } else {
+        Ok(Begun::Walked(begin_counting(alloc, arena, flat, env, after)?))
+    }
+}
+
+/// The search that tests sides apart.
+fn begin_planted<'s, 'e, 'g, 'a>(
     alloc: Global,
     arena: &'a Bump,
     flat: &Flat<'a>,
@@ -41,7 +72,7 @@ pub fn begin<'s, 'e, 'g, 'a>(
     }
 }
 
-/// The same search, which counts its tests.
+/// The search that counts its tests.
 pub fn begin_counting<'s, 'e, 'g, 'a>(
     alloc: Global,
     arena: &'a Bump,

@@ -10,6 +10,7 @@ use std::alloc::{AllocError, Global};
 use zf_plan::Forest;
 use zf_scan::token::Connective;
 use zf_term::conjunct::Conjunct;
+use zf_term::globals::Flat;
 use zf_term::operator::{Operator, Unary};
 use zf_term::resolved::Resolved;
 
@@ -18,6 +19,12 @@ use zf_term::resolved::Resolved;
 pub(crate) struct Planting<'a> {
     pub(crate) leaves: Vec<Resolved<'a>>,
     pub(crate) forest: Forest,
+}
+
+/// Whether some conjunct of the schema has two sides, which a search over trees asks apart. No contract says so: it decides how is searched, and nothing that is found.
+pub fn has_sides<'a>(alloc: Global, arena: &'a Bump, flat: &Flat<'a>) -> Result<bool, AllocError> {
+    let planting = plant_all(alloc, arena, flat.conjuncts.as_slice())?;
+    Ok(planting.leaves.len() > flat.conjuncts.len())
 }
 
 /// Plants the conjuncts of a schema.
