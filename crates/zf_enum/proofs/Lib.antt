@@ -12,3 +12,6 @@ pub mod Typed
 pub mod Resolved
 pub mod Started
 pub mod Planted
+pub mod Fixed
+pub mod Candidates
+pub mod Standing

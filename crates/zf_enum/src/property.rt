@@ -3,13 +3,15 @@ ghost use Rattle.std.specs.Prelude.{◌≡◌, ◌<◌, ◌^◌, ℕ, map, slice
 ghost use Rattle.zf_term.specs.ResolvedTrees.{resolved_of};
 ghost use Rattle.zf_enum.specs.Property.{due_of, told};
 
+use crate::candidates::gather_candidates;
 use crate::due::{due, uses};
+use crate::fixing::fixing;
 use crate::known::Known;
 use crate::shown::{Shown, meet};
 use std::alloc::AllocError;
 use zf_meaning::env::Env;
 use zf_meaning::value::truth_of;
-use zf_plan::{Guide, Narrowed};
+use zf_plan::Guide;
 use zf_term::resolved::Resolved;
 use zf_value::value;
 use zf_walk::{Judge, Range, Row, Truth};
@@ -58,19 +60,23 @@ impl<'e, 'g, 'a> Judge<Known> for Property<'e, 'g, 'a> {
     }
 }
 
-/// Each value of a range is tried: no predicate is asked which ones it leaves.
+/// An equation of a component with an expression leaves the expression's values.
 impl<'e, 'g, 'a> Guide<Known> for Property<'e, 'g, 'a> {
-    fn narrows(&self, _leaf: usize) -> bool {
-        false
+    fn narrows(&self, leaf: usize, component: usize) -> bool {
+        fixing(&self.conjuncts[leaf], component).is_some()
     }
 
-    fn narrowed<R: Row<Known>>(
+    fn narrow(
         &self,
-        _leaf: usize,
-        _row: &R,
-        _range: &Range<Known>,
-    ) -> Result<Narrowed, AllocError> {
-        Ok(Narrowed::All)
+        leaf: usize,
+        ranges: &[Range<Known>],
+        places: &[usize],
+        gathered: &mut Vec<usize>,
+    ) -> Result<bool, AllocError> {
+        match fixing(&self.conjuncts[leaf], places.len()) {
+            None => Ok(false),
+            Some(side) => gather_candidates(side, ranges, places, self.env, gathered),
+        }
     }
 }
 

@@ -1,6 +1,6 @@
 -- The steps of a search: rows that hold no event are passed, and a whole row is an answer.
-use Rattle.std.proofs.Common.{◌≡◌, ℕ, ◌+◌, ◌<◌, ◌≤◌, true, false, cond, eqb, ◌⊎◌, List, [], ◌∷◌, ◌++◌, length, get_or, set, drop, take, replicate, Option, None, inl, inr, refl, sym, ap, ◌∙◌, arith, subst, append_assoc, length-append}
-use Rattle.std.specs.Prelude.{◌≢◌}
+use Rattle.std.proofs.Common.{◌≡◌, ℕ, ◌+◌, ◌<◌, ◌≤◌, true, false, cond, eqb, ◌⊎◌, List, [], ◌∷◌, ◌++◌, length, get_or, set, drop, take, replicate, Option, Some, None, inl, inr, refl, sym, ap, ◌∙◌, arith, subst, append_assoc, length-append}
+use Rattle.std.specs.Prelude.{◌≢◌, slice_get}
 use Rattle.std.specs.declared.cmp.Ordering.{Ordering}
 use Rattle.std.specs.declared.cmp.Ordering.TheVariants.{Less, Equal}
 use Rattle.std.specs.Cmp.{IsTotalOrder}
@@ -11,7 +11,7 @@ use Rattle.zf_walk.specs.declared.judge.Truth.TheVariants.{True, False, Out}
 use Rattle.zf_walk.specs.declared.step.Step.{Step}
 use Rattle.zf_walk.specs.declared.step.Step.TheVariants.{Holds, Breaks, End}
 use Rattle.zf_walk.specs.Conjuncts.{Conjuncts, HaveOneTruth, KeepTruths, IsTruthOf}
-use Rattle.zf_walk.specs.Rows.{ComesAfter}
+use Rattle.zf_walk.specs.Rows.{ComesAfter, IsRowOf}
 use Rattle.zf_walk.specs.Events.{Event, IsEvent}
 use Rattle.zf_walk.specs.Progress.{Ahead, IsAhead, AreDueWithin, Takes, AreAllAhead, SameAhead, ended}
 use Rattle.zf_walk.specs.Picked.{AreWithin, picked}
@@ -25,7 +25,7 @@ use Rattle.zf_plan.specs.declared.place.Place.{Place}
 use Rattle.zf_plan.specs.declared.plan.Plan.{Plan}
 use Rattle.zf_plan.specs.Trees.{Tree, planted}
 use Rattle.zf_plan.specs.Knowing.{Tells}
-use Rattle.zf_plan.specs.Choosing.{IsChoice}
+use Rattle.zf_plan.specs.Choosing.{IsChosen, IsChoice}
 use Rattle.zf_plan.specs.Places.{IsAt, bound, path, ahead_of, Stands, IsSound, steps_left, is_over, IsHopeless, Forgets, LandsNext, KeepsEvents, GoesOn, Gives}
 use Rattle.zf_plan.proofs.TreeTruths.{planted-one, planted-kept, planted-due}
 use Rattle.zf_plan.proofs.Moving.{same-under, length-front, length-bound, length-path, IsFrom, from-fresh, from-past, landed, tells-landed}
@@ -59,11 +59,18 @@ module _ {V : Type 0} {cmp : V → V → Ordering} {l : Conjuncts V} {trees : Li
       let m = IsRowOf-length ranges e.row ev.within in
       ev.not_false (IsTruthOf-false (planted l trees) one e.row r.0 e.truth r.1 (let d = due r.0 r.1 in omega arith) (subst (λ row. (planted l trees).says r.0 row False) is (r.2 tail)) ev.truth_of)
 
+  -- a value that is not chosen begins no event
+  unchosen-none : (row range : List V) (choice : Option (List ℕ)) (i : ℕ) (v : V) → IsChoice l trees ranges row range choice → slice_get range i ≡ Some v → (IsChosen choice i → ⊥) → (e : Event V) (tail : List V) → IsEvent cmp (planted l trees) ranges after e → row ++ v ∷ tail ≡ e.row → ⊥
+  unchosen-none row range choice i v chosen at out e tail ev is =
+      let m = IsRowOf-length ranges e.row ev.within in
+      let r = chosen i v tail at out (subst (IsRowOf ranges) (sym is) ev.within) in
+      ev.not_false (IsTruthOf-false (planted l trees) one e.row r.0 e.truth r.1 (let d = due r.0 r.1 in omega arith) (subst (λ row. (planted l trees).says r.0 row False) is r.2) ev.truth_of)
+
   -- ---- moves
 
   -- to a chosen place of range k, where the leaves that need one value more are forgotten
   moves : (p q : Place) (old told : List (Option Truth)) (choices : List (Option (List ℕ))) (k f : ℕ) → IsAt ranges p → Tells l ranges (bound p) old → length choices ≡ length ranges
-      → ((j : ℕ) → j ≤ k → IsChoice l trees (picked ranges (take j p.places.items)) (get_or ranges j []) (get_or choices j None)) → (near : k < length ranges) → k ≤ p.depth
+      → ((j : ℕ) → j ≤ k → IsChoice l trees ranges (picked ranges (take j p.places.items)) (get_or ranges j []) (get_or choices j None)) → (near : k < length ranges) → k ≤ p.depth
       → IsFrom cmp ranges p k (picked ranges (take k p.places.items)) f → Forgets l (k + 1) old told → LandsNext (length (get_or ranges k [])) (get_or choices k None) k f p q
       → GoesOn cmp (planted l trees) ranges after p q × Stands l trees ranges q told choices
   moves p q old told choices k f at tells long chosen near deep from g next =
@@ -71,8 +78,7 @@ module _ {V : Type 0} {cmp : V → V → Ordering} {l : Conjuncts V} {trees : Li
       let n = next.1 in
       let short : length (take k p.places.items) ≡ k = length-take-le k p.places.items (omega (arith, at.all_places)) in
       let h = landed cmp given.total (given.sound).ties ranges (given.sound).ascending p at k near (planted l trees) after deep f next.0 n.up from q
-      (λ e ev m v tail a b w is. hopeless-none (road ++ v ∷ []) (omega (arith, length-append road (v ∷ []), length-front ranges p at k deep))
-      (inr (chosen k (omega arith) m v (slice_get-nth (get_or ranges k []) m v w) (n.skipped m a b))) e tail ev (append_assoc road (v ∷ []) tail ∙ is)) next.2 in (
+      (λ e ev m v tail a b w is. unchosen-none road (get_or ranges k []) (get_or choices k None) m v (chosen k (omega arith)) (slice_get-nth (get_or ranges k []) m v w) (n.skipped m a b) e tail ev is) next.2 in (
         record { same = h.same; smaller = h.smaller },
         record {
           at = h.at;
@@ -81,12 +87,12 @@ module _ {V : Type 0} {cmp : V → V → Ordering} {l : Conjuncts V} {trees : Li
           chosen = λ j m.
               let low : j ≤ k = omega (arith, h.deep) in
               let same : take j p.places.items ≡ take j q.places.items = sym (take-take j p.depth p.places.items (omega arith)) ∙ sym (h.fronts j low) ∙ take-take j q.depth q.places.items (omega arith) in
-              subst (λ is. IsChoice l trees (picked ranges is) (get_or ranges j []) (get_or choices j None)) same (chosen j low);
+              subst (λ is. IsChoice l trees ranges (picked ranges is) (get_or ranges j []) (get_or choices j None)) same (chosen j low);
         },
       )
 
   pub descends : (p q : Place) (first old told : List (Option Truth)) (choices : List (Option (List ℕ))) (choice : Option (List ℕ)) → Stands l trees ranges p first choices → Tells l ranges (bound p) old
-      → IsChoice l trees (path ranges p) (get_or ranges p.depth []) choice → p.fresh ≡ true → p.depth < length ranges → Forgets l (p.depth + 1) old told
+      → IsChoice l trees ranges (path ranges p) (get_or ranges p.depth []) choice → p.fresh ≡ true → p.depth < length ranges → Forgets l (p.depth + 1) old told
       → LandsNext (length (get_or ranges p.depth [])) (get_or (set choices p.depth choice) p.depth None) p.depth 0 p q
       → GoesOn cmp (planted l trees) ranges after p q × Stands l trees ranges q told (set choices p.depth choice)
   descends p q first old told choices choice st tells here f near g lands =
@@ -96,9 +102,9 @@ module _ {V : Type 0} {cmp : V → V → Ordering} {l : Conjuncts V} {trees : Li
       (λ j h. elim (cases_eq j p.depth) [
         | inl e ↦
             let is : get_or (set choices p.depth choice) j None ≡ choice = ap (λ i. get_or (set choices p.depth choice) i None) e ∙ get_or-set_same choices p.depth choice None inside in
-            subst (IsChoice l trees (picked ranges (take j p.places.items)) (get_or ranges j [])) (sym is) (subst (λ i. IsChoice l trees (picked ranges (take i p.places.items)) (get_or ranges i []) choice) (sym e) here)
+            subst (IsChoice l trees ranges (picked ranges (take j p.places.items)) (get_or ranges j [])) (sym is) (subst (λ i. IsChoice l trees ranges (picked ranges (take i p.places.items)) (get_or ranges i []) choice) (sym e) here)
         | inr ne ↦
-            subst (IsChoice l trees (picked ranges (take j p.places.items)) (get_or ranges j [])) (sym (get_or-set_other choices p.depth j choice None ne)) (st.chosen j (omega arith))
+            subst (IsChoice l trees ranges (picked ranges (take j p.places.items)) (get_or ranges j [])) (sym (get_or-set_other choices p.depth j choice None ne)) (st.chosen j (omega arith))
       ])
       near (omega arith) (from-fresh cmp given.total (given.sound).ties ranges (given.sound).ascending p at p.depth near f refl) g lands
 
@@ -116,7 +122,7 @@ module _ {V : Type 0} {cmp : V → V → Ordering} {l : Conjuncts V} {trees : Li
     at = st.at;
     tells = tells;
     all_choices = length-set choices p.depth choice ∙ st.all_choices;
-    chosen = λ j m. subst (IsChoice l trees (picked ranges (take j p.places.items)) (get_or ranges j [])) (sym (get_or-set_other choices p.depth j choice None (λ e. omega arith))) (st.chosen j m);
+    chosen = λ j m. subst (IsChoice l trees ranges (picked ranges (take j p.places.items)) (get_or ranges j [])) (sym (get_or-set_other choices p.depth j choice None (λ e. omega arith))) (st.chosen j m);
   }
 
   pub passes : (p q : Place) (told : List (Option Truth)) (choices : List (Option (List ℕ))) → Stands l trees ranges p told choices → p.fresh ≡ true → q.fresh ≡ false → q.places.items ≡ p.places.items → q.depth ≡ p.depth

@@ -58,7 +58,7 @@ pub record Stands {V : Type 0} (l : Conjuncts V) (trees : List Tree) (ranges : L
   pub at : IsAt ranges p
   pub tells : Tells l ranges (bound p) told
   pub all_choices : length choices ≡ length ranges
-  pub chosen : (k : ℕ) → k < p.depth → IsChoice l trees (picked ranges (take k p.places.items)) (slice_index_or ranges k []) (slice_index_or choices k None)
+  pub chosen : (k : ℕ) → k < p.depth → IsChoice l trees ranges (picked ranges (take k p.places.items)) (slice_index_or ranges k []) (slice_index_or choices k None)
 
 -- what holds of what a search goes over
 pub record IsSound {V : Type 0} (cmp : V → V → Ordering) (l : Conjuncts V) (trees : List Tree) (ranges : List (List V)) (after : Option (List V)) (planned : Plan) : Type 0 where

@@ -1,53 +1,24 @@
 //! How the values of a range are chosen that are tried.
 ghost use Rattle.std.specs.Prelude.{◌≡◌, ◌<◌, ◌≤◌, [], length, slice_index_or, IsTrue, IfOk, OnOk, Some};
 ghost use Rattle.zf_walk.specs.Picked.{AreWithin, picked};
-ghost use Rattle.zf_plan.specs.Trees.{leaf, tree_at, HasLeavesWithin, HaveLeavesWithin};
+ghost use Rattle.zf_walk.specs.Progress.{AreDueWithin};
+ghost use Rattle.zf_walk.specs.Rows.{AreAscending};
+ghost use Rattle.zf_plan.specs.Trees.{tree_at, HasLeavesWithin, HaveLeavesWithin};
 ghost use Rattle.zf_plan.specs.Groves.{trees_made, trees_of};
 ghost use Rattle.zf_plan.specs.Knowing.{Tells, AreBelow};
-ghost use Rattle.zf_plan.specs.Choosing.{Narrows, IsChoice, StaysIn};
+ghost use Rattle.zf_plan.specs.Choices.{StaysIn};
+ghost use Rattle.zf_plan.specs.Choosing.{Narrows, IsChoice};
 
 use crate::choice::Choice;
 use crate::evaluating::evaluate;
 use crate::forest::Forest;
-use crate::guide::{Guide, Narrowed};
+use crate::guide::Guide;
 use crate::node::Node;
 use std::alloc::AllocError;
-use zf_walk::{Picked, Range, Truth};
-
-/// Gathers the places that a leaf leaves to the next component. Answers false where it doesn't say.
-fn narrow<V, J: Guide<V>>(
-    judge: &J,
-    ranges: &[Range<V>],
-    places: &[usize],
-    of: usize,
-    gathered: &mut Vec<usize>,
-) -> Result<bool, AllocError>
-    requires of { of < (J.conjuncts judge.now).number }
-    requires within { AreWithin ranges.now places.now }
-    requires deeper { length places.now < length ranges.now }
-    ensures stay { StaysIn gathered.old.items gathered.new.items }
-    ensures narrows { IfOk result (λ found. IsTrue found → Narrows (J.conjuncts judge.now) (leaf of) (picked ranges.now places.now) (slice_index_or ranges.now (length places.now) []) gathered.new.items) }
-{
-    if judge.due(of) != places.len() + 1 {
-        return Ok(false);
-    }
-    if !judge.narrows(of) {
-        return Ok(false);
-    }
-    let row = Picked::new(ranges, places);
-    let range = &ranges[places.len()];
-    match judge.narrowed(of, &row, range)? {
-        Narrowed::All => Ok(false),
-        Narrowed::Only(place) => {
-            gathered.push(place)?;
-            Ok(true)
-        }
-        Narrowed::Nothing => Ok(true),
-    }
-}
+use zf_walk::{Range, Truth};
 
 /// Gathers the places that a tree leaves to the next component: of a conjunction those of a side, of a disjunction those of both. Answers false where it doesn't say.
-fn gather<V, J: Guide<V>>(
+fn gather<V: Ord, J: Guide<V>>(
     judge: &J,
     forest: &Forest,
     ranges: &[Range<V>],
@@ -58,15 +29,17 @@ fn gather<V, J: Guide<V>>(
 ) -> Result<bool, AllocError>
     requires part { part < length (trees_made forest.now) }
     requires leaves { HasLeavesWithin (J.conjuncts judge.now).number (tree_at (trees_made forest.now) part) }
+    requires due { AreDueWithin (J.conjuncts judge.now) (length ranges.now) }
+    requires ascending { AreAscending V.cmp ranges.now }
     requires within { AreWithin ranges.now places.now }
     requires deeper { length places.now < length ranges.now }
     requires tells { Tells (J.conjuncts judge.now) ranges.now places.now told.old }
     ensures tells { Tells (J.conjuncts judge.now) ranges.now places.now told.new }
     ensures stay { StaysIn gathered.old.items gathered.new.items }
-    ensures narrows { IfOk result (λ found. IsTrue found → Narrows (J.conjuncts judge.now) (tree_at (trees_made forest.now) part) (picked ranges.now places.now) (slice_index_or ranges.now (length places.now) []) gathered.new.items) }
+    ensures narrows { IfOk result (λ found. IsTrue found → Narrows (J.conjuncts judge.now) (tree_at (trees_made forest.now) part) ranges.now (picked ranges.now places.now) (slice_index_or ranges.now (length places.now) []) gathered.new.items) }
 {
     match forest.node(part) {
-        Node::Leaf(of) => narrow(judge, ranges, places, of, gathered),
+        Node::Leaf(of) => judge.narrow(of, ranges, places, gathered),
         Node::Not(_) => Ok(false),
         Node::And(left, right) => {
             let first = gather(judge, forest, ranges, places, left, told, gathered)?;
@@ -94,7 +67,7 @@ fn gather<V, J: Guide<V>>(
 }
 
 /// Gathers the places that the first of these conjuncts leaves which says so. Answers false where none does.
-fn gather_first<V, J: Guide<V>>(
+fn gather_first<V: Ord, J: Guide<V>>(
     judge: &J,
     forest: &Forest,
     ranges: &[Range<V>],
@@ -105,11 +78,13 @@ fn gather_first<V, J: Guide<V>>(
 ) -> Result<bool, AllocError>
     requires conjuncts { AreBelow (length (trees_of forest.now)) conjuncts.now }
     requires leaves { HaveLeavesWithin (J.conjuncts judge.now).number (trees_of forest.now) }
+    requires due { AreDueWithin (J.conjuncts judge.now) (length ranges.now) }
+    requires ascending { AreAscending V.cmp ranges.now }
     requires within { AreWithin ranges.now places.now }
     requires deeper { length places.now < length ranges.now }
     requires tells { Tells (J.conjuncts judge.now) ranges.now places.now told.old }
     ensures tells { Tells (J.conjuncts judge.now) ranges.now places.now told.new }
-    ensures choice { IfOk result (λ found. IsTrue found → IsChoice (J.conjuncts judge.now) (trees_of forest.now) (picked ranges.now places.now) (slice_index_or ranges.now (length places.now) []) (Some gathered.new.items)) }
+    ensures choice { IfOk result (λ found. IsTrue found → IsChoice (J.conjuncts judge.now) (trees_of forest.now) ranges.now (picked ranges.now places.now) (slice_index_or ranges.now (length places.now) []) (Some gathered.new.items)) }
 {
     for i in 0..conjuncts.len() {
         let conjunct = conjuncts[i];
@@ -124,7 +99,7 @@ fn gather_first<V, J: Guide<V>>(
 }
 
 /// Chooses the places of the next component that are tried. With a value at any other place a conjunct is False on every row.
-pub fn choose<V, J: Guide<V>>(
+pub fn choose<V: Ord, J: Guide<V>>(
     judge: &J,
     forest: &Forest,
     ranges: &[Range<V>],
@@ -135,11 +110,13 @@ pub fn choose<V, J: Guide<V>>(
 ) -> Result<(), AllocError>
     requires conjuncts { AreBelow (length (trees_of forest.now)) conjuncts.now }
     requires leaves { HaveLeavesWithin (J.conjuncts judge.now).number (trees_of forest.now) }
+    requires due { AreDueWithin (J.conjuncts judge.now) (length ranges.now) }
+    requires ascending { AreAscending V.cmp ranges.now }
     requires within { AreWithin ranges.now places.now }
     requires deeper { length places.now < length ranges.now }
     requires tells { Tells (J.conjuncts judge.now) ranges.now places.now told.old }
     ensures tells { Tells (J.conjuncts judge.now) ranges.now places.now told.new }
-    ensures choice { OnOk result (IsChoice (J.conjuncts judge.now) (trees_of forest.now) (picked ranges.now places.now) (slice_index_or ranges.now (length places.now) []) choice.new) }
+    ensures choice { OnOk result (IsChoice (J.conjuncts judge.now) (trees_of forest.now) ranges.now (picked ranges.now places.now) (slice_index_or ranges.now (length places.now) []) choice.new) }
 {
     let found = gather_first(
         judge,

@@ -1,32 +1,31 @@
 //! Which values of a component leaves leave.
-ghost use Rattle.std.specs.Prelude.{◌≡◌, ◌+◌, ◌<◌, length, IfOk};
-ghost use Rattle.zf_plan.specs.Choices.{Leaves};
+ghost use Rattle.std.specs.Prelude.{◌<◌, ◌≤◌, length, IsTrue, IfOk};
+ghost use Rattle.zf_walk.specs.Picked.{AreWithin};
+ghost use Rattle.zf_walk.specs.Rows.{AreAscending};
+ghost use Rattle.zf_plan.specs.Choices.{Leaves, StaysIn};
 
 use std::alloc::AllocError;
-use zf_walk::{Judge, Range, Row};
-
-/// Which places of a range a leaf leaves.
-#[derive(Clone, Copy, Debug)]
-pub enum Narrowed {
-    All,
-    Only(usize),
-    Nothing,
-}
+use zf_walk::{Judge, Range};
 
 /// A judge that can tell, before a value is bound, on which ones a leaf is False.
-pub trait Guide<V>: Judge<V> {
-    /// Whether it is worth to ask which values a leaf leaves to the last component that it needs.
-    fn narrows(&self, leaf: usize) -> bool
+pub trait Guide<V: Ord>: Judge<V> {
+    /// Whether it is worth to ask which values a leaf leaves to a component.
+    fn narrows(&self, leaf: usize, component: usize) -> bool
         requires { leaf < (Self.conjuncts self.now).number };
 
-    /// The places of the range of that component at which a leaf may be other than False, after a row of what else it needs.
-    fn narrowed<R: Row<V>>(
+    /// Gathers the places of the next range at which a leaf may be other than False, where the values at these places of the ranges before are bound. Answers false where it doesn't say.
+    fn narrow(
         &self,
         leaf: usize,
-        row: &R,
-        range: &Range<V>,
-    ) -> Result<Narrowed, AllocError>
+        ranges: &[Range<V>],
+        places: &[usize],
+        gathered: &mut Vec<usize>,
+    ) -> Result<bool, AllocError>
         requires leaf { leaf < (Self.conjuncts self.now).number }
-        requires due { (Self.conjuncts self.now).due leaf ≡ length (R.values row.now) + 1 }
-        ensures { IfOk result (Leaves (Self.conjuncts self.now) leaf (R.values row.now) range.now) };
+        requires due { (Self.conjuncts self.now).due leaf ≤ length ranges.now }
+        requires ascending { AreAscending V.cmp ranges.now }
+        requires within { AreWithin ranges.now places.now }
+        requires deeper { length places.now < length ranges.now }
+        ensures stay { StaysIn gathered.old.items gathered.new.items }
+        ensures leaves { IfOk result (λ found. IsTrue found → Leaves (Self.conjuncts self.now) leaf ranges.now places.now gathered.new.items) };
 }

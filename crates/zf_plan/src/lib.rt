@@ -17,5 +17,5 @@ mod search;
 mod steps;
 
 pub use forest::Forest;
-pub use guide::{Guide, Narrowed};
+pub use guide::Guide;
 pub use search::Search;

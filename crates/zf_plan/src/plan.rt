@@ -13,7 +13,7 @@ use crate::node::Node;
 use std::alloc::{AllocError, Global};
 use zf_walk::{Agenda, Judge};
 
-/// The leaves by how many values they need, and for each number of values the conjuncts that have a leaf which needs so many, and those that have one which narrows the last of them.
+/// The leaves by how many values they need, and for each number of values the conjuncts that have a leaf which needs so many, and those that narrow the next.
 #[derive(Drop)]
 pub struct Plan {
     pub agenda: Agenda,
@@ -22,7 +22,7 @@ pub struct Plan {
 }
 
 impl Plan {
-    pub fn new<V, J: Guide<V>>(
+    pub fn new<V: Ord, J: Guide<V>>(
         alloc: Global,
         judge: &J,
         forest: &Forest,
@@ -101,9 +101,9 @@ fn is_touched<V, J: Judge<V>>(judge: &J, forest: &Forest, part: usize, due: usiz
     }
 }
 
-/// For each number of values the conjuncts that have a leaf which narrows the last of them.
+/// For each number of values the conjuncts that narrow the next.
 #[tactic(auto, using(crate::proofs::Numbers::all_below_push))]
-fn all_narrowing<V, J: Guide<V>>(
+fn all_narrowing<V: Ord, J: Guide<V>>(
     alloc: Global,
     judge: &J,
     forest: &Forest,
@@ -114,45 +114,52 @@ fn all_narrowing<V, J: Guide<V>>(
     ensures { IfOk result (λ lists. AreListed (length (trees_of forest.now)) components lists.items) }
 {
     let mut narrowing = Vec::new(alloc);
-    for due in 0..components + 1 {
-        narrowing.push(narrowing_at(alloc, judge, forest, due)?)?;
+    for component in 0..components + 1 {
+        narrowing.push(narrowing_at(alloc, judge, forest, component)?)?;
     }
     Ok(narrowing)
 }
 
-/// The conjuncts that have a leaf which narrows the last of so many values.
+/// The conjuncts that narrow a component.
 #[tactic(auto, using(crate::proofs::Numbers::below_push))]
-fn narrowing_at<V, J: Guide<V>>(
+fn narrowing_at<V: Ord, J: Guide<V>>(
     alloc: Global,
     judge: &J,
     forest: &Forest,
-    due: usize,
+    component: usize,
 ) -> Result<Listed, AllocError>
     requires { HaveLeavesWithin (J.conjuncts judge.now).number (trees_of forest.now) }
     ensures { IfOk result (AreBelow (length (trees_of forest.now))) }
 {
     let mut numbers = Vec::new(alloc);
     for conjunct in 0..forest.count() {
-        if is_narrowing(judge, forest, forest.root(conjunct), due) {
+        if is_narrowing(judge, forest, forest.root(conjunct), component) {
             numbers.push(conjunct)?;
         }
     }
     Ok(Listed { numbers })
 }
 
-/// Whether a tree has a leaf that narrows the last of so many values, and that no negation is over.
-fn is_narrowing<V, J: Guide<V>>(judge: &J, forest: &Forest, part: usize, due: usize) -> bool
+/// Whether a tree has leaves that narrow a component, in each side of a disjunction.
+fn is_narrowing<V: Ord, J: Guide<V>>(
+    judge: &J,
+    forest: &Forest,
+    part: usize,
+    component: usize,
+) -> bool
     requires part { part < length (trees_made forest.now) }
     requires leaves { HasLeavesWithin (J.conjuncts judge.now).number (tree_at (trees_made forest.now) part) }
 {
     match forest.node(part) {
-        Node::Leaf(of) => judge.due(of) == due && judge.narrows(of),
+        Node::Leaf(of) => judge.narrows(of, component),
         Node::Not(_) => false,
         Node::And(left, right) => {
-            is_narrowing(judge, forest, left, due) || is_narrowing(judge, forest, right, due)
+            is_narrowing(judge, forest, left, component)
+                || is_narrowing(judge, forest, right, component)
         }
         Node::Or(left, right) => {
-            is_narrowing(judge, forest, left, due) && is_narrowing(judge, forest, right, due)
+            is_narrowing(judge, forest, left, component)
+                && is_narrowing(judge, forest, right, component)
         }
     }
 }

@@ -3,6 +3,8 @@ ghost use Rattle.std.specs.Prelude.{◌≡◌, ◌<◌, true, [], length, slice_
 ghost use Rattle.std.specs.Option.{option_copied};
 ghost use Rattle.zf_walk.specs.Picked.{AreWithin, picked};
 ghost use Rattle.zf_walk.specs.Places.{is_reached};
+ghost use Rattle.zf_walk.specs.Progress.{AreDueWithin};
+ghost use Rattle.zf_walk.specs.Rows.{AreAscending};
 ghost use Rattle.zf_plan.specs.Trees.{planted, HaveLeavesWithin};
 ghost use Rattle.zf_plan.specs.Groves.{trees_of};
 ghost use Rattle.zf_plan.specs.Knowing.{Tells};
@@ -45,7 +47,7 @@ fn is_hopeless<V: Ord, J: Guide<V>>(
 }
 
 /// Chooses the values of the next range that are tried.
-fn choose_next<V, J: Guide<V>>(
+fn choose_next<V: Ord, J: Guide<V>>(
     judge: &J,
     forest: &Forest,
     ranges: &[Range<V>],
@@ -54,15 +56,17 @@ fn choose_next<V, J: Guide<V>>(
     told: &mut [Option<Truth>],
     choice: &mut Choice,
 ) -> Result<(), AllocError>
+    requires due { AreDueWithin (J.conjuncts judge.now) (length ranges.now) }
+    requires ascending { AreAscending V.cmp ranges.now }
     requires plan { IsPlan (J.conjuncts judge.now) (length (trees_of forest.now)) (length ranges.now) plan.now }
     requires leaves { HaveLeavesWithin (J.conjuncts judge.now).number (trees_of forest.now) }
     requires within { AreWithin ranges.now places.now }
     requires deeper { length places.now < length ranges.now }
     requires tells { Tells (J.conjuncts judge.now) ranges.now places.now told.old }
     ensures tells { Tells (J.conjuncts judge.now) ranges.now places.now told.new }
-    ensures choice { OnOk result (IsChoice (J.conjuncts judge.now) (trees_of forest.now) (picked ranges.now places.now) (slice_index_or ranges.now (length places.now) []) choice.new) }
+    ensures choice { OnOk result (IsChoice (J.conjuncts judge.now) (trees_of forest.now) ranges.now (picked ranges.now places.now) (slice_index_or ranges.now (length places.now) []) choice.new) }
 {
-    let narrowing = &plan.narrowing[places.len() + 1];
+    let narrowing = &plan.narrowing[places.len()];
     choose(
         judge,
         forest,

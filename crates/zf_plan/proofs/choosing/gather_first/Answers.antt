@@ -1,12 +1,12 @@
 use Rattle.std.proofs.Common.{[], ◌∷◌, ◌++◌, get_or, subst}
 use Rattle.zf_walk.specs.declared.judge.Truth.TheVariants.{False}
 use Rattle.zf_walk.specs.Picked.{picked}
-use Rattle.zf_plan.specs.Knowing.{IsSettled}
+use Rattle.zf_plan.specs.Trees.{IsTreeTruth}
 use Rattle.zf_plan.proofs.choosing.gather_first.Goals as goal
 
 pub returns-then-found-clause-choice : goal.returns-then-found-clause-choice
-returns-then-found-clause-choice g c = λ _ i v s out. (
+returns-then-found-clause-choice g c = λ _ i v more s out is. (
   get_or c.args.conjuncts.now c.loop-i.i 0,
   c.requires.conjuncts c.loop-i.i c.loop-i-test.true,
-  subst (λ tree. IsSettled (g.J.Judge.conjuncts c.args.judge.now) tree (picked c.args.ranges.now c.args.places.now ++ v ∷ []) False) c.root-root.ensures.tree (c.in_ok-found.ensures.narrows c.if-found.true i v s out),
+  subst (λ tree. IsTreeTruth (g.J.Judge.conjuncts c.args.judge.now) tree (picked c.args.ranges.now c.args.places.now ++ v ∷ more) False) c.root-root.ensures.tree (c.in_ok-found.ensures.narrows c.if-found.true i v more s out is),
 )

@@ -4,5 +4,5 @@ use Rattle.zf_plan.specs.Knowing.{AreBelow}
 use Rattle.zf_plan.proofs.plan.all_narrowing.Given as goal
 
 -- There is a list of conjuncts for each number so far.
-abbrev pub invariant-loop-due : goal.invariant-loop-due
-invariant-loop-due g l = (length l.narrowing.items ≡ l.due) × ((k : ℕ) → k < length l.narrowing.items → AreBelow (length (trees_of l.forest)) (get_or l.narrowing.items k []))
+abbrev pub invariant-loop-component : goal.invariant-loop-component
+invariant-loop-component g l = (length l.narrowing.items ≡ l.component) × ((k : ℕ) → k < length l.narrowing.items → AreBelow (length (trees_of l.forest)) (get_or l.narrowing.items k []))

@@ -52,8 +52,8 @@ returns-then-depth-ranges-clause-goes g c =
     let p : Place = c.args.place.now in
     let tells = subst (λ is. Tells l c.args.ranges.now (take p.depth is) c.choose_next.new.told) c.deref-then-depth-ranges.ensures.value c.in_ok-choose_next.ensures.tells in
     let long : length (take p.depth c.deref-then-depth-ranges.result.now) ≡ p.depth = ap (λ is. length (take p.depth is)) c.deref-then-depth-ranges.ensures.value ∙ length-bound c.args.ranges.now p c.requires.stands.at in
-    let choice = subst (λ n. IsChoice l (trees_of c.args.forest.now) (path c.args.ranges.now p) (get_or c.args.ranges.now n []) c.choose_next.new.choice) long
-    (subst (λ is. IsChoice l (trees_of c.args.forest.now) (picked c.args.ranges.now (take p.depth is)) (get_or c.args.ranges.now (length (take p.depth c.deref-then-depth-ranges.result.now)) []) c.choose_next.new.choice) c.deref-then-depth-ranges.ensures.value c.in_ok-choose_next.ensures.choice) in
+    let choice = subst (λ n. IsChoice l (trees_of c.args.forest.now) c.args.ranges.now (path c.args.ranges.now p) (get_or c.args.ranges.now n []) c.choose_next.new.choice) long
+    (subst (λ is. IsChoice l (trees_of c.args.forest.now) c.args.ranges.now (picked c.args.ranges.now (take p.depth is)) (get_or c.args.ranges.now (length (take p.depth c.deref-then-depth-ranges.result.now)) []) c.choose_next.new.choice) c.deref-then-depth-ranges.ensures.value c.in_ok-choose_next.ensures.choice) in
     let r = descends given p c.descend.new.place c.args.told.now c.choose_next.new.told c.descend.new.told c.args.choices.now c.choose_next.new.choice c.requires.stands tells choice c.if-not-place.false c.if-depth-ranges.true c.descend.ensures.forgets c.descend.ensures.lands in
     r.0
 
@@ -64,8 +64,8 @@ returns-then-depth-ranges-clause-stands g c =
     let p : Place = c.args.place.now in
     let tells = subst (λ is. Tells l c.args.ranges.now (take p.depth is) c.choose_next.new.told) c.deref-then-depth-ranges.ensures.value c.in_ok-choose_next.ensures.tells in
     let long : length (take p.depth c.deref-then-depth-ranges.result.now) ≡ p.depth = ap (λ is. length (take p.depth is)) c.deref-then-depth-ranges.ensures.value ∙ length-bound c.args.ranges.now p c.requires.stands.at in
-    let choice = subst (λ n. IsChoice l (trees_of c.args.forest.now) (path c.args.ranges.now p) (get_or c.args.ranges.now n []) c.choose_next.new.choice) long
-    (subst (λ is. IsChoice l (trees_of c.args.forest.now) (picked c.args.ranges.now (take p.depth is)) (get_or c.args.ranges.now (length (take p.depth c.deref-then-depth-ranges.result.now)) []) c.choose_next.new.choice) c.deref-then-depth-ranges.ensures.value c.in_ok-choose_next.ensures.choice) in
+    let choice = subst (λ n. IsChoice l (trees_of c.args.forest.now) c.args.ranges.now (path c.args.ranges.now p) (get_or c.args.ranges.now n []) c.choose_next.new.choice) long
+    (subst (λ is. IsChoice l (trees_of c.args.forest.now) c.args.ranges.now (picked c.args.ranges.now (take p.depth is)) (get_or c.args.ranges.now (length (take p.depth c.deref-then-depth-ranges.result.now)) []) c.choose_next.new.choice) c.deref-then-depth-ranges.ensures.value c.in_ok-choose_next.ensures.choice) in
     let r = descends given p c.descend.new.place c.args.told.now c.choose_next.new.told c.descend.new.told c.args.choices.now c.choose_next.new.choice c.requires.stands tells choice c.if-not-place.false c.if-depth-ranges.true c.descend.ensures.forgets c.descend.ensures.lands in
     r.1
 
