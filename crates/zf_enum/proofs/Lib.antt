@@ -13,5 +13,5 @@ pub mod Resolved
 pub mod Started
 pub mod Planted
 pub mod Fixed
-pub mod Candidates
+pub mod Trying
 pub mod Standing

@@ -1,5 +1,6 @@
 //! The places of a range at which the values of an expression stand.
-ghost use Rattle.std.specs.Prelude.{◌≡◌, ◌<◌, ◌≤◌, ℕ, [], length, AllPairs, Less, Some, IsTrue, IfOk, OnOk, slice_get, slice_index_or};
+ghost use Rattle.std.specs.Prelude.{◌≡◌, ◌<◌, ◌≤◌, ℕ, [], length, AllPairs, Some, IsTrue, IfOk, OnOk, slice_get, slice_index_or};
+ghost use Rattle.std.specs.Ordering.{Less};
 ghost use Rattle.zf_term.specs.ResolvedTrees.{resolved_of};
 ghost use Rattle.zf_value.specs.Sets.{value_order, IsRegularOutcome};
 ghost use Rattle.zf_walk.specs.Picked.{AreWithin, picked};
@@ -55,10 +56,12 @@ fn is_worth_it(side: &Resolved<'_>, ranges: &[Range<Known>], next: usize, due: u
     let mut rows: usize = 1;
     for component in next + 1..due {
         if uses(side, component) {
-            rows = rows.saturating_mul(ranges[component].values.len());
+            let range = &ranges[component];
+            rows = rows.saturating_mul(range.values.len());
         }
     }
-    rows <= ranges[next].values.len() / 2
+    let range = &ranges[next];
+    rows <= range.values.len() / 2
 }
 
 /// The same from the first places on, of so many that the expression needs.
@@ -84,7 +87,8 @@ fn gather_ahead<'a>(
     if due <= component {
         return gather_value(side, ranges, places, next, env, gathered);
     }
-    let end = tried(side, component, ranges[component].values.len());
+    let range = &ranges[component];
+    let end = tried(side, component, range.values.len());
     for place in 0..end {
         places.push(place)?;
         let found = gather_ahead(side, ranges, places, next, due, env, gathered)?;

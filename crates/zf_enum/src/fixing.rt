@@ -1,5 +1,5 @@
 //! Equations of a component with an expression.
-ghost use Rattle.std.specs.Prelude.{◌≡◌, ◌×◌, IfSome, IsTrue};
+ghost use Rattle.std.specs.Prelude.{◌≡◌, IfSome, IsTrue};
 ghost use Rattle.zf_reference.specs.declared.reference.Reference.TheVariants.{Component};
 ghost use Rattle.zf_scan.specs.declared.token.Relation.TheVariants.{Equal};
 ghost use Rattle.zf_term.specs.ResolvedTrees.{resolved_of, reference};

@@ -1,5 +1,5 @@
 -- Candidates of an expression: the place of its value where all that it needs is bound, else those that there are with each value of one component more.
-use Rattle.std.proofs.Common.{◌≡◌, ⊎_elim, ℕ, zero, suc, ◌<◌, ◌≤◌, true, List, [], ◌∷◌, ◌++◌, length, get_or, Some, refl, sym, ◌∙◌, subst, length-append, arith}
+use Rattle.std.proofs.Common.{◌≡◌, ⊎_elim, ℕ, zero, suc, ◌+◌, ◌<◌, ◌≤◌, true, List, [], ◌∷◌, ◌++◌, length, get_or, Some, refl, sym, ◌∙◌, subst, length-append, arith}
 use Rattle.std.specs.Prelude.{Contains, slice_get}
 use Rattle.std.proofs.lemmas.Bool.{false≢true, cases_Bool, cases_lt}
 use Rattle.zf_term.specs.ResolvedTrees.{ResolvedTree}
@@ -9,7 +9,7 @@ use Rattle.zf_value.specs.declared.value.Outcome.TheVariants.{Is, Undefined, Out
 use Rattle.zf_walk.specs.Picked.{picked, AreWithin}
 use Rattle.zf_walk.specs.Rows.{IsRowOf}
 use Rattle.zf_walk.proofs.Order.{IsNth}
-use Rattle.zf_walk.proofs.Picks.{nth-at, length-picked, picked-push}
+use Rattle.zf_walk.proofs.Picks.{nth-at, length-picked, picked-push, AreWithin-push}
 use Rattle.zf_plan.specs.Choices.{StaysIn}
 use Rattle.zf_meaning.specs.Environments.{Environment}
 use Rattle.zf_meaning.specs.InRow.{in_row}
@@ -26,7 +26,13 @@ kept_more (Is v) range xs ys stay h = λ i at. stay i (h i at)
 kept_more Undefined range xs ys stay h = tt
 kept_more Out range xs ys stay h = absurd h
 
+pub stays_on : (xs ys zs : List ℕ) → StaysIn xs ys → StaysIn ys zs → StaysIn xs zs
+stays_on xs ys zs one two i h = two i (one i h)
+
 -- ---- one value more
+
+pub within_push : (ranges : List (List Value)) (places : List ℕ) (i : ℕ) → AreWithin ranges places → length places < length ranges → i < length (get_or ranges (length places) []) → AreWithin ranges (places ++ i ∷ [])
+within_push ranges places i within near there = let n = nth-at (get_or ranges (length places) []) i there in AreWithin-push ranges places i n.0 within near n.1
 
 row_value : (ranges : List (List Value)) (row : List Value) (k : ℕ) → IsRowOf ranges row → k < length ranges → (i : ℕ) × (v : Value) × IsNth (get_or ranges k []) i v × (slice_get row k ≡ Some v)
 row_value [] row k m l = absurd (omega arith)
@@ -49,6 +55,16 @@ module _ (e : Environment) (t : ResolvedTree) (ranges : List (List Value)) (rang
 
   pub one_candidate : (front : List Value) (xs : List ℕ) (o : Outcome) → due t ≤ length front → HasOutcome (in_row e front) t o → IsKept o range xs → AreCandidates e t ranges front range xs
   one_candidate front xs o bound h kept row is on = (o, follows_outcome e front row t o (λ k u. on k (let b = uses_below t k u in omega (arith, b, bound)) u) h, kept)
+
+  -- each of the first places of the next component was tried
+  abbrev pub TriedUpTo : List ℕ → ℕ → List ℕ → Type 0
+  TriedUpTo places end xs = (j : ℕ) → j < end → AreCandidates e t ranges (picked ranges (places ++ j ∷ [])) range xs
+
+  pub one_tried : (places : List ℕ) (end : ℕ) (xs ys : List ℕ) → StaysIn xs ys → TriedUpTo places end xs → AreCandidates e t ranges (picked ranges (places ++ end ∷ [])) range ys → TriedUpTo places (end + 1) ys
+  one_tried places end xs ys stay before this j l =
+      ⊎_elim (λ less. candidates_more (picked ranges (places ++ j ∷ [])) xs ys stay (before j less))
+      (λ more. let last : end ≡ j = omega (arith, l, more) in subst (λ n. AreCandidates e t ranges (picked ranges (places ++ n ∷ [])) range ys) last this)
+      (cases_lt j end)
 
   -- where each value of the next component was tried, or one where the expression doesn't use it
   pub all_tried : (places xs : List ℕ) (end : ℕ) → AreWithin ranges places → length places < length ranges
