@@ -1,9 +1,7 @@
 -- Equations that fix a component: where its value is another than the expression's, they are False.
-use Rattle.std.proofs.Common.{◌≡◌, ◌⊎◌, ⊎_elim, inl, inr, ℕ, ◌+◌, ◌<◌, ◌≤◌, max, Bool, true, false, cond, List, [], ◌∷◌, ◌++◌, length, get_or, Some, refl, sym, ap, ap₂, ◌∙◌, subst, arith}
+use Rattle.std.proofs.Common.{◌≡◌, ◌⊎◌, ⊎_elim, inl, inr, ℕ, zero, suc, ◌+◌, ◌<◌, ◌≤◌, max, Bool, true, false, cond, List, [], ◌∷◌, ◌++◌, length, get_or, Some, refl, sym, ap, ap₂, ◌∙◌, subst, arith}
 use Rattle.std.specs.Prelude.{Contains, slice_get}
 use Rattle.std.proofs.lemmas.Bool.{false≢true, eqb-true}
-use Rattle.std.proofs.lemmas.List.{get_or_append_left, get_or_append_at}
-use Rattle.std.proofs.lemmas.Option.{slice_get-get_or}
 use Rattle.zf_reference.specs.declared.reference.Reference.{Reference}
 use Rattle.zf_reference.specs.declared.reference.Reference.TheVariants.{Component, Local, Global}
 use Rattle.zf_scan.specs.declared.token.Relation.TheVariants.{Equal}
@@ -50,11 +48,11 @@ pub uses_below : (t : ResolvedTree) (k : ℕ) → uses t k ≡ true → k < due 
 uses_below t k e = among_below k (references t) e
 
 side_need : (m k : ℕ) (p t : ResolvedTree) → Fixes p k t → need m t ≤ need m p
-side_need m k p t (line, left, right, is, apart, inl (name, same)) =
+side_need m k p t (line, left, right, is, (apart, inl (name, same))) =
     let whole : need m p ≡ max (need m left) (max (need m right) 0) = ap (need m) is in
     let part : need m t ≡ need m right = ap (need m) same in
     omega (arith, whole, part)
-side_need m k p t (line, left, right, is, apart, inr (name, same)) =
+side_need m k p t (line, left, right, is, (apart, inr (name, same))) =
     let whole : need m p ≡ max (need m left) (max (need m right) 0) = ap (need m) is in
     let part : need m t ≡ need m left = ap (need m) same in
     omega (arith, whole, part)
@@ -89,10 +87,10 @@ named : (e : Environment) (row : List Value) (k line : ℕ) (v : Value) → slic
 named e row k line v here = sym (ap value_or here)
 
 false_at : (e : Environment) (row : List Value) (k : ℕ) (p t : ResolvedTree) (v : Value) (o : Outcome) → Fixes p k t → slice_get row k ≡ Some v → HasOutcome (in_row e row) t o → IsOther o v → IsTruth (in_row e row) p truth.False
-false_at e row k p t v o (line, left, right, is, apart, inl ((at, name), same)) here h other =
+false_at e row k p t v o (line, left, right, is, (apart, inl ((at, name), same))) here h other =
     subst (λ q. IsTruth (in_row e row) q truth.False) (sym (is ∙ ap₂ (λ (a b : ResolvedTree). chain line a (link Equal b no_links)) name (sym same)))
     (Is v, named e row k at v here, o, h, inl (component_first o v other))
-false_at e row k p t v o (line, left, right, is, apart, inr ((at, name), same)) here h other =
+false_at e row k p t v o (line, left, right, is, (apart, inr ((at, name), same))) here h other =
     subst (λ q. IsTruth (in_row e row) q truth.False) (sym (is ∙ ap₂ (λ (a b : ResolvedTree). chain line a (link Equal b no_links)) (sym same) name))
     (o, h, Is v, named e row k at v here, inl (component_last o v other))
 
@@ -105,23 +103,23 @@ other_at Out v range places i kept at out = absurd kept
 
 pub get_front : (xs ys : List Value) (k : ℕ) → k < length xs → slice_get xs k ≡ slice_get (xs ++ ys) k
 get_front [] ys k l = absurd (omega arith)
-get_front (x ∷ xs) ys 0 l = refl
+get_front (x ∷ xs) ys zero l = refl
 get_front (x ∷ xs) ys (suc k) l = get_front xs ys k (omega arith)
 
 pub get_next : (xs ys : List Value) (y : Value) (k : ℕ) → k ≡ length xs → slice_get (xs ++ y ∷ ys) k ≡ Some y
-get_next [] ys y 0 l = refl
+get_next [] ys y zero l = refl
 get_next [] ys y (suc k) l = absurd (omega arith)
-get_next (x ∷ xs) ys y 0 l = absurd (omega arith)
+get_next (x ∷ xs) ys y zero l = absurd (omega arith)
 get_next (x ∷ xs) ys y (suc k) l = get_next xs ys y k (omega arith)
 
 truth_at : (e : Environment) (row : List Value) (ts : List ResolvedTree) (c : ℕ) (p : ResolvedTree) → slice_get ts c ≡ Some p → IsTruth (in_row e row) p truth.False → HasTruth e row (slice_get ts c) truth.False
 truth_at e row ts c p at h = subst (λ q. HasTruth e row q truth.False) (sym at) h
 
 -- an equation leaves the candidates of its expression
-pub candidates_left : (e : Environment) (ts : List ResolvedTree) (c : ℕ) (p t : ResolvedTree) (ranges : List (List Value)) (places left : List ℕ) → slice_get ts c ≡ Some p → Fixes p (length places) t → AreWithin ranges places
+pub candidates_left : (e : Environment) (ts : List ResolvedTree) (c k : ℕ) (p t : ResolvedTree) (ranges : List (List Value)) (places left : List ℕ) → slice_get ts c ≡ Some p → k ≡ length places → Fixes p k t → AreWithin ranges places
     → AreCandidates e t ranges (picked ranges places) (get_or ranges (length places) []) left → Leaves (property e ts) c ranges places left
-candidates_left e ts c p t ranges places left at fixed within candidates i v more there out is =
+candidates_left e ts c k p t ranges places left at next fixed within candidates i v more there out is =
     let front = picked ranges places in
     let row = front ++ v ∷ more in
     let r = candidates row is (λ k l u. get_front front (v ∷ more) k l) in
-    truth_at e row ts c p at (false_at e row (length places) p t v r.0 fixed (get_next front more v (length places) (sym (length-picked ranges places within))) r.1 (other_at r.0 v (get_or ranges (length places) []) left i r.2 there out))
+    truth_at e row ts c p at (false_at e row k p t v r.0 fixed (get_next front more v k (next ∙ sym (length-picked ranges places within))) r.1 (other_at r.0 v (get_or ranges (length places) []) left i r.2 there out))

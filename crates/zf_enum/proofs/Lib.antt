@@ -14,4 +14,5 @@ pub mod Started
 pub mod Planted
 pub mod Fixed
 pub mod Trying
+pub mod Equations
 pub mod Standing

@@ -78,13 +78,13 @@ module _ (e : Environment) (t : ResolvedTree) (ranges : List (List Value)) (rang
       let i = r.0 in
       let v = r.1 in
       let at = r.2 in
-      let there = (at.0).within in
+      let there = at.within in
       ⊎_elim
       (λ used.
       let whole = all used in
       h i (omega (arith, whole, there)) row is
-      (subst (λ vs. GoesOn t vs row) (sym (picked-push ranges places i v within near at.0))
-      (goes_on t front v row on (λ u. subst (λ n. slice_get row n ≡ Some v) (sym long) at.1))))
+      (subst (λ vs. GoesOn t vs row) (sym (picked-push ranges places i v within near at))
+      (goes_on t front v row on (λ u. subst (λ n. slice_get row n ≡ Some v) (sym long) r.3))))
       (λ unused.
       let none : 0 < length column = omega (arith, there) in
       let first = nth-at column 0 none in

@@ -1,6 +1,6 @@
 //! The places of a range at which the values of an expression stand.
-ghost use Rattle.std.specs.Prelude.{◌≡◌, ◌<◌, ◌≤◌, ℕ, [], length, AllPairs, Some, IsTrue, IfOk, OnOk, slice_get, slice_index_or};
-ghost use Rattle.std.specs.Ordering.{Less};
+ghost use Rattle.std.specs.Prelude.{◌≡◌, ◌<◌, ◌≤◌, ℕ, [], length, true, AllPairs, Some, IsTrue, IfOk, OnOk, slice_get, slice_index_or};
+ghost use Rattle.std.specs.declared.cmp.Ordering.TheVariants.{Less};
 ghost use Rattle.zf_term.specs.ResolvedTrees.{resolved_of};
 ghost use Rattle.zf_value.specs.Sets.{value_order, IsRegularOutcome};
 ghost use Rattle.zf_walk.specs.Picked.{AreWithin, picked};
@@ -145,7 +145,7 @@ fn gather_outcome(
     requires regular { IsRegularOutcome outcome }
     requires ascending { AllPairs (λ v w. value_order v w ≡ Less) range.now }
     ensures stay { StaysIn gathered.old.items gathered.new.items }
-    ensures kept { IfOk result (λ found. IsTrue found → IsKept outcome.entry range.now gathered.new.items) }
+    ensures kept { IfOk result (λ found. IsTrue found → IsKept outcome range.now gathered.new.items) }
 {
     match outcome {
         Outcome::Is(value) => {
