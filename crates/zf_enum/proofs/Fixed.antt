@@ -89,10 +89,10 @@ named e row k line v here = sym (ap value_or here)
 false_at : (e : Environment) (row : List Value) (k : ℕ) (p t : ResolvedTree) (v : Value) (o : Outcome) → Fixes p k t → slice_get row k ≡ Some v → HasOutcome (in_row e row) t o → IsOther o v → IsTruth (in_row e row) p truth.False
 false_at e row k p t v o (line, left, right, is, (apart, inl ((at, name), same))) here h other =
     subst (λ q. IsTruth (in_row e row) q truth.False) (sym (is ∙ ap₂ (λ (a b : ResolvedTree). chain line a (link Equal b no_links)) name (sym same)))
-    (Is v, named e row k at v here, o, h, inl (component_first o v other))
+    (Is v, named e row k at v here, (o, h, inl (component_first o v other)))
 false_at e row k p t v o (line, left, right, is, (apart, inr ((at, name), same))) here h other =
     subst (λ q. IsTruth (in_row e row) q truth.False) (sym (is ∙ ap₂ (λ (a b : ResolvedTree). chain line a (link Equal b no_links)) (sym same) name))
-    (o, h, Is v, named e row k at v here, inl (component_last o v other))
+    (o, h, (Is v, named e row k at v here, inl (component_last o v other)))
 
 -- ---- the places that are left
 

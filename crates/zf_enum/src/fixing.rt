@@ -58,8 +58,17 @@ fn beside<'t, 'a>(
 fn is_component(term: &Resolved<'_>, component: usize) -> bool
     ensures { IsTrue result → IsName component (resolved_of term.now) }
 {
-    match term {
-        Resolved::Name(_, Reference::Component(place)) => *place == component,
+    let Resolved::Name(_, reference) = term else {
+        return false;
+    };
+    is_named(*reference, component)
+}
+
+fn is_named(reference: Reference, component: usize) -> bool
+    ensures { IsTrue result → reference ≡ Component component }
+{
+    match reference {
+        Reference::Component(place) => place == component,
         _ => false,
     }
 }
