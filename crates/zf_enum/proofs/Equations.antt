@@ -1,15 +1,14 @@
 -- Equations and names, as terms are seen.
-use Rattle.std.proofs.Common.{◌≡◌, ℕ, ◌≤◌, List, [], ◌∷◌, length, map, get_or, Option, Some, None, IfSome, sym, ap, ap₂, ◌∙◌, arith}
+use Rattle.std.proofs.Common.{◌≡◌, ℕ, ◌≤◌, List, [], ◌∷◌, length, map, get_or, Option, Some, None, IfSome, sym, ap, ◌∙◌, arith}
 use Rattle.zf_reference.specs.declared.reference.Reference.{Reference}
 use Rattle.zf_reference.specs.declared.reference.Reference.TheVariants.{Component}
-use Rattle.zf_scan.specs.declared.token.Relation.{Relation}
 use Rattle.zf_scan.specs.declared.token.Relation.TheVariants.{Equal}
 use Rattle.zf_term.specs.declared.resolved.Resolved.{Resolved}
 use Rattle.zf_term.specs.declared.resolved.Resolved.TheVariants as form
 use Rattle.zf_term.specs.declared.resolved.ResolvedLink.{ResolvedLink}
 use Rattle.zf_term.specs.ResolvedTrees.{reference, chain, no_links, link, links, resolved_of, resolved_link_of}
 use Rattle.zf_term.proofs.ResolvedSeen.{of-Name, of-Chain, link-seen}
-use Rattle.zf_enum.specs.Fixing.{IsName, IsBeside, Fixes}
+use Rattle.zf_enum.specs.Fixing.{IsName}
 
 pub some_weaker : {X : Type 0} (r : Option X) (P Q : X → Type 0) → ((x : X) → P x → Q x) → IfSome r P → IfSome r Q
 some_weaker (Some x) P Q f h = f x h

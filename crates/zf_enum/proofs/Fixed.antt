@@ -11,9 +11,7 @@ use Rattle.zf_value.specs.declared.value.Value.{Value}
 use Rattle.zf_value.specs.declared.value.Outcome.{Outcome}
 use Rattle.zf_value.specs.declared.value.Outcome.TheVariants.{Is, Undefined, Out}
 use Rattle.zf_value.specs.declared.value.Truth.TheVariants as truth
-use Rattle.zf_walk.specs.declared.judge.Truth.TheVariants.{False}
 use Rattle.zf_walk.specs.Picked.{picked, AreWithin}
-use Rattle.zf_walk.specs.Rows.{IsRowOf}
 use Rattle.zf_walk.proofs.Picks.{length-picked}
 use Rattle.zf_plan.specs.Choices.{Leaves}
 use Rattle.zf_meaning.specs.Environments.{Environment, value_or}
@@ -22,9 +20,8 @@ use Rattle.zf_meaning.specs.Meaning.{HasOutcome, IsTruth}
 use Rattle.zf_meaning.specs.Symbols.{Holds}
 use Rattle.zf_meaning.specs.Truths.{IsAtom}
 use Rattle.zf_enum.specs.Dues.{need}
-use Rattle.zf_enum.specs.Fixing.{IsName, IsBeside, Fixes, IsKept, GoesOn, AreCandidates}
+use Rattle.zf_enum.specs.Fixing.{Fixes, IsKept, AreCandidates}
 use Rattle.zf_enum.specs.Property.{place_named, greatest_place, due, is_component, is_among, uses, HasTruth, property}
-use Rattle.zf_enum.specs.PropertyLaws.{follows_outcome}
 use Rattle.zf_enum.proofs.Dues.{due_need}
 
 -- ---- which components are used

@@ -1,8 +1,8 @@
 -- Where a value stands in an ascending range.
-use Rattle.std.proofs.Common.{◌≡◌, ⊎_elim, ℕ, zero, suc, ◌<◌, ◌≤◌, List, [], ◌∷◌, length, get_or, Option, Some, None, refl, sym, ap, ◌∙◌, subst, Result, Ok, Err, Ordering, Less, Equal, Greater, arith}
+use Rattle.std.proofs.Common.{◌≡◌, ⊎_elim, ℕ, zero, suc, ◌<◌, List, [], ◌∷◌, length, get_or, Some, refl, sym, ap, ◌∙◌, Ok, Err, Less, arith}
 use Rattle.std.specs.Prelude.{AllPairs, slice_get}
 use Rattle.std.specs.Ordering.{ordering_index}
-use Rattle.std.specs.List.Sorted.{IsBinarySearchResult, IsSearchInRange, IsNonDecreasingBy}
+use Rattle.std.specs.List.Sorted.{IsBinarySearchResult, IsNonDecreasingBy}
 use Rattle.std.proofs.lemmas.Bool.{cases_lt}
 use Rattle.std.proofs.lemmas.Cmp.{tied_itself}
 use Rattle.zf_value.specs.declared.value.Value.{Value}

@@ -1,6 +1,7 @@
 -- Candidates of an expression: the place of its value where all that it needs is bound, else those that there are with each value of one component more.
-use Rattle.std.proofs.Common.{◌≡◌, ⊎_elim, ℕ, zero, suc, ◌+◌, ◌<◌, ◌≤◌, true, List, [], ◌∷◌, ◌++◌, length, get_or, Some, refl, sym, ◌∙◌, subst, length-append, arith}
-use Rattle.std.specs.Prelude.{Contains, slice_get}
+use Rattle.std.proofs.Common.{◌≡◌, ⊎_elim, ℕ, zero, suc, ◌+◌, ◌<◌, ◌≤◌, true, List, [], ◌∷◌, ◌++◌, length, take, get_or, Some, refl, sym, ap₂, ◌∙◌, subst, length-append, arith}
+use Rattle.std.proofs.Math.Seq.{take-append_seam}
+use Rattle.std.specs.Prelude.{slice_get}
 use Rattle.std.proofs.lemmas.Bool.{false≢true, cases_Bool, cases_lt}
 use Rattle.zf_term.specs.ResolvedTrees.{ResolvedTree}
 use Rattle.zf_value.specs.declared.value.Value.{Value}
@@ -48,6 +49,10 @@ goes_on t front v row on here k l u =
     let last : length front ≡ k = omega (arith, l, more, long) in
     get_next front [] v k (sym last) ∙ sym (subst (λ n. slice_get row n ≡ Some v) last (here (subst (λ n. uses t n ≡ true) (sym last) u))))
     (cases_lt k (length front))
+
+-- what is left where the place more is taken off again
+pub as_before : (places more told left : List ℕ) (place count : ℕ) → more ≡ places ++ place ∷ [] → told ≡ more → left ≡ take count told → count ≡ length places → left ≡ places
+as_before places more told left place count pushed same cut long = cut ∙ ap₂ take long (same ∙ pushed) ∙ take-append_seam places (place ∷ [])
 
 module _ (e : Environment) (t : ResolvedTree) (ranges : List (List Value)) (range : List Value) where
   pub candidates_more : (front : List Value) (xs ys : List ℕ) → StaysIn xs ys → AreCandidates e t ranges front range xs → AreCandidates e t ranges front range ys

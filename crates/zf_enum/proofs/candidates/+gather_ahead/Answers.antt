@@ -1,13 +1,11 @@
-use Rattle.std.proofs.Common.{◌≡◌, ℕ, ◌+◌, ◌<◌, true, List, [], ◌∷◌, ◌++◌, length, take, get_or, refl, sym, ap, ◌∙◌, subst, length-append, arith}
-use Rattle.std.proofs.Math.Seq.{take-append_seam}
+use Rattle.std.proofs.Common.{◌≡◌, ℕ, ◌+◌, ◌<◌, true, List, [], ◌∷◌, ◌++◌, length, get_or, refl, sym, ap, ◌∙◌, subst, length-append, arith}
 use Rattle.zf_term.specs.ResolvedTrees.{resolved_of}
-use Rattle.zf_value.specs.declared.value.Value.{Value}
 use Rattle.zf_walk.specs.Picked.{picked, AreWithin}
 use Rattle.zf_walk.proofs.Moving.{range-is}
 use Rattle.zf_meaning.specs.Envs.{environment_of}
 use Rattle.zf_enum.specs.Fixing.{AreCandidates}
 use Rattle.zf_enum.specs.Property.{uses}
-use Rattle.zf_enum.proofs.Trying.{stays_on, within_push, one_tried, all_tried}
+use Rattle.zf_enum.proofs.Trying.{stays_on, within_push, as_before, one_tried, all_tried}
 use Rattle.zf_enum.proofs.candidates.+gather_ahead.Goals as goal
 
 pub loop-place-init : goal.loop-place-init
@@ -26,10 +24,10 @@ loop-place-preserved t c =
     let ys = c.gather_ahead.new.gathered.items in
     let long : c.len-component.result ≡ length c.args.places.now.items = omega (arith, c.len-component.ensures, c.args.places.now.ok.0) in
     let pushed : c.push.new.self.items ≡ c.args.places.now.items ++ c.loop-place.place ∷ [] = c.in_ok-push.ensures.items ∙ ap (λ (ps : List ℕ). ps ++ c.loop-place.place ∷ []) inv.same in record {
-      same = c.truncate.ensures.items ∙ ap (λ (ps : List ℕ). take c.len-component.result ps) (c.in_ok-found.ensures.same ∙ pushed) ∙ ap (λ (n : ℕ). take n (places ++ p ∷ [])) long ∙ take-append_seam places (p ∷ []);
+      same = as_before places c.push.new.self.items c.gather_ahead.new.places.items c.truncate.new.self.items p c.len-component.result pushed c.in_ok-found.ensures.same c.truncate.ensures.items long;
       stay = stays_on c.args.gathered.now.items xs ys inv.stay c.gather_ahead.ensures.stay;
       tried = one_tried e side ranges range places p xs ys c.gather_ahead.ensures.stay inv.tried
-      (subst (λ (ps : List ℕ). AreCandidates e side ranges (picked ranges ps) range ys) pushed (c.in_ok-found.ensures.candidates c.if-not-found.false));
+          (subst (λ (ps : List ℕ). AreCandidates e side ranges (picked ranges ps) range ys) pushed (c.in_ok-found.ensures.candidates c.if-not-found.false));
     }
 
 pub gather_ahead-requires : goal.gather_ahead-requires
@@ -55,7 +53,7 @@ gather_ahead-requires t c =
             (
               c.requires.ascending,
               subst (λ (ps : List ℕ). AreWithin ranges ps) (sym pushed)
-              (within_push ranges places p c.requires.within (omega (arith, long, near)) (subst (λ (n : ℕ). p < length (get_or c.args.ranges.now n [])) long there)),
+                  (within_push ranges places p c.requires.within (omega (arith, long, near)) (subst (λ (n : ℕ). p < length (get_or c.args.ranges.now n [])) long there)),
             ),
           ),
         ),

@@ -1,4 +1,4 @@
-use Rattle.std.proofs.Common.{ap, sym, ◌∙◌, ◌≡◌, List, subst, Some}
+use Rattle.std.proofs.Common.{◌≡◌, List, subst, Some}
 use Rattle.std.specs.Prelude.{AllPairs, slice_get}
 use Rattle.std.specs.declared.cmp.Ordering.TheVariants.{Less}
 use Rattle.zf_value.specs.declared.value.Value.{Value}

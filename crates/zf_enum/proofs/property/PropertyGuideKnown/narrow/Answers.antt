@@ -1,4 +1,4 @@
-use Rattle.std.proofs.Common.{[], length, map, get_or, refl, ap, arith}
+use Rattle.std.proofs.Common.{length, map, refl, ap, arith}
 use Rattle.std.proofs.lemmas.Result.{IfOk-weaker}
 use Rattle.zf_term.specs.ResolvedTrees.{resolved_of}
 use Rattle.zf_meaning.specs.Envs.{environment_of}
