@@ -12,3 +12,7 @@ pub mod Typed
 pub mod Resolved
 pub mod Started
 pub mod Planted
+pub mod Fixed
+pub mod Trying
+pub mod Equations
+pub mod Standing

@@ -11,4 +11,5 @@ pub mod Starts
 pub mod Searches
 pub mod OfTypes
 pub mod Planting
+pub mod Fixing
 pub mod Instances

@@ -7,6 +7,7 @@ use Rattle.zf_reference.specs.declared.reference.Reference.TheVariants.{Componen
 use Rattle.zf_term.specs.ResolvedTrees.{ResolvedTree}
 use Rattle.zf_term.specs.TermLaws.{references}
 use Rattle.zf_value.specs.declared.value.Value.{Value}
+use Rattle.zf_value.specs.declared.value.Outcome.{Outcome}
 use Rattle.zf_value.specs.declared.value.Truth.{Truth}
 use Rattle.zf_value.specs.declared.value.Truth.TheVariants as truth
 use Rattle.zf_walk.specs.declared.judge.Truth as walk
@@ -16,9 +17,10 @@ use Rattle.zf_meaning.specs.Environments.{Environment}
 use Rattle.zf_meaning.specs.Laws.{AreBelow, UsesFirst, IsBelow}
 use Rattle.zf_meaning.proofs.Unique.{one_truth}
 use Rattle.zf_meaning.proofs.Stays.{truths_stay}
-use Rattle.zf_meaning.proofs.SameRows.{AgreeAt, Agree, same_truth}
+use Rattle.zf_meaning.proofs.SameRows.{AgreeAt, Agree, same_outcome, same_truth}
 use Rattle.zf_meaning.specs.InRow.{in_row}
-use Rattle.zf_enum.specs.Property.{place_named, greatest_place, due, due_of, is_component, is_among, uses_of, HasTruth, told, property}
+use Rattle.zf_meaning.specs.Meaning.{HasOutcome}
+use Rattle.zf_enum.specs.Property.{place_named, greatest_place, due, due_of, is_component, is_among, uses, uses_of, HasTruth, told, property}
 
 -- ---- a term uses the components that are due
 
@@ -91,6 +93,10 @@ agree row other (r ∷ rs) h = (
 followed_by : (e : Environment) (row other : List Value) (p : Option ResolvedTree) (t : Truth) → ((k : ℕ) → uses_of p k ≡ true → slice_get row k ≡ slice_get other k) → HasTruth e row p t → HasTruth e other p t
 followed_by e row other None t h a = absurd a
 followed_by e row other (Some p) t h a = subst (λ X. X) (same_truth (in_row e row) other [] p (agree row other (references p) h) t) a
+
+-- an expression has the same outcome on rows that agree in the components that it uses
+pub follows_outcome : (e : Environment) (row other : List Value) (t : ResolvedTree) (o : Outcome) → ((k : ℕ) → uses t k ≡ true → slice_get row k ≡ slice_get other k) → HasOutcome (in_row e row) t o → HasOutcome (in_row e other) t o
+follows_outcome e row other t o h a = subst (λ X. X) (same_outcome (in_row e row) other [] t (agree row other (references t) h) o) a
 
 pub follows_used : (e : Environment) (ts : List ResolvedTree) → FollowUsed (property e ts)
 follows_used e ts c row other t l d b h a = followed_by e row other (slice_get ts c) (told t) h a

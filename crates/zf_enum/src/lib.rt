@@ -3,9 +3,11 @@
 
 mod bindings;
 mod bounding;
+mod candidates;
 mod component;
 mod due;
 mod filters;
+mod fixing;
 mod instances;
 mod kept;
 mod known;

@@ -3,7 +3,9 @@ ghost use Rattle.std.specs.Prelude.{◌≡◌, ◌<◌, ◌^◌, ℕ, map, slice
 ghost use Rattle.zf_term.specs.ResolvedTrees.{resolved_of};
 ghost use Rattle.zf_enum.specs.Property.{due_of, told};
 
+use crate::candidates::gather_candidates;
 use crate::due::{due, uses};
+use crate::fixing::fixing;
 use crate::known::Known;
 use crate::shown::{Shown, meet};
 use std::alloc::AllocError;
@@ -58,20 +60,23 @@ impl<'e, 'g, 'a> Judge<Known> for Property<'e, 'g, 'a> {
     }
 }
 
-/// Each value of a range is tried: no predicate is asked which ones it leaves.
+/// An equation of a component with an expression leaves the expression's values.
 impl<'e, 'g, 'a> Guide<Known> for Property<'e, 'g, 'a> {
-    fn narrows(&self, _leaf: usize, _component: usize) -> bool {
-        false
+    fn narrows(&self, leaf: usize, component: usize) -> bool {
+        fixing(&self.conjuncts[leaf], component).is_some()
     }
 
     fn narrow(
         &self,
-        _leaf: usize,
-        _ranges: &[Range<Known>],
-        _places: &[usize],
-        _gathered: &mut Vec<usize>,
+        leaf: usize,
+        ranges: &[Range<Known>],
+        places: &[usize],
+        gathered: &mut Vec<usize>,
     ) -> Result<bool, AllocError> {
-        Ok(false)
+        match fixing(&self.conjuncts[leaf], places.len()) {
+            None => Ok(false),
+            Some(side) => gather_candidates(side, ranges, places, self.env, gathered),
+        }
     }
 }
 

@@ -1,0 +1,32 @@
+-- Equations and names, as terms are seen.
+use Rattle.std.proofs.Common.{◌≡◌, ℕ, ◌≤◌, List, [], ◌∷◌, length, map, get_or, Option, Some, None, IfSome, sym, ap, ◌∙◌, arith}
+use Rattle.zf_reference.specs.declared.reference.Reference.{Reference}
+use Rattle.zf_reference.specs.declared.reference.Reference.TheVariants.{Component}
+use Rattle.zf_scan.specs.declared.token.Relation.TheVariants.{Equal}
+use Rattle.zf_term.specs.declared.resolved.Resolved.{Resolved}
+use Rattle.zf_term.specs.declared.resolved.Resolved.TheVariants as form
+use Rattle.zf_term.specs.declared.resolved.ResolvedLink.{ResolvedLink}
+use Rattle.zf_term.specs.ResolvedTrees.{reference, chain, no_links, link, links, resolved_of, resolved_link_of}
+use Rattle.zf_term.proofs.ResolvedSeen.{of-Name, of-Chain, link-seen}
+use Rattle.zf_enum.specs.Fixing.{IsName}
+
+pub some_weaker : {X : Type 0} (r : Option X) (P Q : X → Type 0) → ((x : X) → P x → Q x) → IfSome r P → IfSome r Q
+some_weaker (Some x) P Q f h = f x h
+some_weaker None P Q f h = tt
+
+pub name_seen : (t : Resolved) (l k : ℕ) (r : Reference) → t ≡ form.Name l r → r ≡ Component k → IsName k (resolved_of t)
+name_seen t l k r is of = (l, ap resolved_of is ∙ of-Name l r ∙ ap (λ q. reference l q) of)
+
+one_link : (xs : List ResolvedLink) (k : ResolvedLink) → 1 ≤ length xs → length xs ≤ 1 → k ≡ get_or xs 0 k → xs ≡ k ∷ []
+one_link [] k least most at = absurd (omega arith)
+one_link (x ∷ []) k least most at = ap (λ y. y ∷ []) (sym at)
+one_link (x ∷ y ∷ ys) k least most at = absurd (omega arith)
+
+-- a chain of one link, an equality
+pub equation_seen : (t : Resolved) (l : ℕ) (first x : Resolved) (ks xs : List ResolvedLink) (k : ResolvedLink) → t ≡ form.Chain l first ks → xs ≡ ks → x ≡ first → 1 ≤ length xs → length xs ≤ 1 → k ≡ get_or xs 0 k → k.relation ≡ Equal
+    → resolved_of t ≡ chain l (resolved_of x) (link Equal (resolved_of k.right) no_links)
+equation_seen t l first x ks xs k is same here least most at equal =
+    ap resolved_of is ∙ of-Chain l first ks ∙ ap (λ z. chain l (resolved_of z) (links (map resolved_link_of ks))) (sym here)
+    ∙ ap (λ zs. chain l (resolved_of x) (links (map resolved_link_of zs))) (sym same ∙ one_link xs k least most at)
+    ∙ ap (λ p. chain l (resolved_of x) (link p.0 p.1 no_links)) (link-seen k)
+    ∙ ap (λ r. chain l (resolved_of x) (link r (resolved_of k.right) no_links)) equal

@@ -1,0 +1,38 @@
+use Rattle.std.proofs.Common.{◌≡◌, List, [], get_or, sym, subst, arith}
+use Rattle.std.specs.Prelude.{AllPairs}
+use Rattle.std.specs.declared.cmp.Ordering.TheVariants.{Less}
+use Rattle.std.proofs.lemmas.Result.{IfOk-weaker}
+use Rattle.zf_term.specs.ResolvedTrees.{resolved_of}
+use Rattle.zf_value.specs.declared.value.Value.{Value}
+use Rattle.zf_value.specs.Sets.{value_order}
+use Rattle.zf_walk.specs.Picked.{picked}
+use Rattle.zf_walk.proofs.Moving.{range-is}
+use Rattle.zf_walk.proofs.Picks.{length-picked}
+use Rattle.zf_meaning.specs.Envs.{environment_of}
+use Rattle.zf_meaning.specs.InRow.{in_row}
+use Rattle.zf_meaning.specs.Meaning.{HasOutcome}
+use Rattle.zf_enum.specs.Fixing.{IsKept}
+use Rattle.zf_enum.proofs.Trying.{one_candidate}
+use Rattle.zf_enum.proofs.candidates.gather_value.Goals as goal
+
+pub gather_outcome-requires : goal.gather_outcome-requires
+gather_outcome-requires c = record {
+  regular = c.in_ok-outcome.ensures.regular;
+  ascending = subst (λ (r : List Value). AllPairs (λ v w. value_order v w ≡ Less) r) (sym c.index-ranges-next.is) (c.requires.ascending c.args.next c.index-ranges-next.result c.requires.next);
+}
+
+pub returns : goal.returns
+returns c =
+    let ranges = c.args.ranges.now in
+    let front = picked c.args.ranges.now c.args.places.now in
+    let t = resolved_of c.args.side.now in
+    let e = environment_of c.args.env.now in
+    let o = c.in_ok-outcome.outcome in
+    let xs = c.gather_outcome.new.gathered.items in
+    let range = range-is c.args.ranges.now c.args.next c.index-ranges-next.result c.requires.next c.index-ranges-next.is in
+    let here = subst (λ (vs : List Value). HasOutcome (in_row e vs) t o) c.new-row.ensures c.in_ok-outcome.ensures.is in
+    let long = length-picked c.args.ranges.now c.args.places.now c.requires.within in record {
+      stay = c.gather_outcome.ensures.stay;
+      candidates = IfOk-weaker c.gather_outcome.result _ _
+          (λ found h u. one_candidate e t ranges (get_or c.args.ranges.now c.args.next []) front xs o (omega (arith, long, c.requires.due)) here (subst (λ (r : List Value). IsKept o r xs) (sym range) (h u))) c.gather_outcome.ensures.kept;
+    }

@@ -1,0 +1,7 @@
+use Rattle.std.proofs.Common.{ap, ◌∙◌}
+use Rattle.std.proofs.lemmas.Bool.{eqb-true}
+use Rattle.zf_reference.specs.declared.reference.Reference.TheVariants.{Component}
+use Rattle.zf_enum.proofs.fixing.is_named.Goals as goal
+
+pub returns-in-Component : goal.returns-in-Component
+returns-in-Component c = λ u. c.in-Component.is ∙ ap Component (eqb-true c.in-Component.place c.args.component u)

@@ -1,0 +1,43 @@
+-- Predicates that fix a component, and the places of a range that they leave. No public clause rests on this.
+use Rattle.std.specs.Prelude.{◌≡◌, ◌⊎◌, ℕ, ◌<◌, true, false, List, length, Some, Contains, slice_get}
+use Rattle.zf_reference.specs.declared.reference.Reference.TheVariants.{Component}
+use Rattle.zf_scan.specs.declared.token.Relation.TheVariants.{Equal}
+use Rattle.zf_term.specs.ResolvedTrees.{ResolvedTree, reference, chain, no_links, link}
+use Rattle.zf_value.specs.declared.value.Value.{Value}
+use Rattle.zf_value.specs.declared.value.Outcome.{Outcome}
+use Rattle.zf_value.specs.declared.value.Outcome.TheVariants.{Is, Undefined, Out}
+use Rattle.zf_walk.specs.Rows.{IsRowOf}
+use Rattle.zf_meaning.specs.Environments.{Environment}
+use Rattle.zf_meaning.specs.InRow.{in_row}
+use Rattle.zf_meaning.specs.Meaning.{HasOutcome}
+use Rattle.zf_enum.specs.Property.{uses}
+
+-- ---- equations
+
+-- the term is the name of the component
+abbrev pub IsName : ℕ → ResolvedTree → Type 0
+IsName k t = (line : ℕ) × (t ≡ reference line (Component k))
+
+-- of the two sides of an equation one is the component, and t the other, which doesn't name it
+abbrev pub IsBeside : ResolvedTree → ResolvedTree → ℕ → ResolvedTree → Type 0
+IsBeside left right k t = (uses t k ≡ false) × ((IsName k left × (t ≡ right)) ⊎ (IsName k right × (t ≡ left)))
+
+-- the predicate equates the component with the term
+abbrev pub Fixes : ResolvedTree → ℕ → ResolvedTree → Type 0
+Fixes p k t = (line : ℕ) × (left right : ResolvedTree) × (p ≡ chain line left (link Equal right no_links)) × IsBeside left right k t
+
+-- ---- candidates
+
+-- where the outcome is a value of the range, its place is among these; it is not out
+abbrev pub IsKept : Outcome → List Value → List ℕ → Type 0
+IsKept (Is v) range places = (i : ℕ) → slice_get range i ≡ Some v → Contains places i
+IsKept Undefined range places = Unit {0}
+IsKept Out range places = ⊥
+
+-- the row begins with these values, but for components that the term doesn't use
+abbrev pub GoesOn : ResolvedTree → List Value → List Value → Type 0
+GoesOn t front row = (k : ℕ) → k < length front → uses t k ≡ true → slice_get front k ≡ slice_get row k
+
+-- on each row of the ranges that so begins, the place of the term's value in a range is among these
+abbrev pub AreCandidates : Environment → ResolvedTree → List (List Value) → List Value → List Value → List ℕ → Type 0
+AreCandidates e t ranges front range places = (row : List Value) → IsRowOf ranges row → GoesOn t front row → (o : Outcome) × HasOutcome (in_row e row) t o × IsKept o range places
