@@ -17,7 +17,7 @@ use crate::stop::Stop;
 use crate::texts;
 use bumpalo::Bump;
 use std::alloc::Global;
-use zf_enum::{Bindings, Instances, Known, StartFault, has_sides};
+use zf_enum::{Bindings, Instances, Known, StartFault, gains_by_trees};
 use zf_lines::fault::Status;
 use zf_meaning::env::Env;
 use zf_term::globals::Flat;
@@ -45,7 +45,7 @@ pub fn begin<'s, 'e, 'g, 'a>(
     ensures begins { IfOk result (IsBegun (environment_of env.now) (schema_of flat.now) (option_copied after.entry)) }
     ensures stop { IfErr result (λ s. IfAnswered s (TellsOut (environment_of env.now) (schema_of flat.now).comps)) }
 {
-    if has_sides(alloc, arena, flat)? {
+    if gains_by_trees(alloc, arena, flat)? {
         Ok(Begun::Planted(begin_planted(alloc, arena, flat, env, after)?))
     } else {
         Ok(Begun::Walked(begin_counting(alloc, arena, flat, env, after)?))

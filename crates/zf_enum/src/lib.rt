@@ -28,7 +28,7 @@ mod weight;
 pub use bindings::Bindings;
 pub use instances::Instances;
 pub use known::{Known, all_known};
-pub use planting::has_sides;
+pub use planting::gains_by_trees;
 pub use property::Property;
 pub use search::Search;
 pub use start_fault::StartFault;

@@ -5,6 +5,8 @@ ghost use Rattle.zf_term.specs.ResolvedTrees.{resolved_of};
 ghost use Rattle.zf_plan.specs.Groves.{trees_of};
 ghost use Rattle.zf_enum.specs.Planting.{Plants, PlantsNext, ArePlanted};
 
+use crate::due::due;
+use crate::fixing::fixing;
 use bumpalo::Bump;
 use std::alloc::{AllocError, Global};
 use zf_plan::Forest;
@@ -21,10 +23,28 @@ pub(crate) struct Planting<'a> {
     pub(crate) forest: Forest,
 }
 
-/// Whether some conjunct of the schema has two sides, which a search over trees asks apart. No contract says so: it decides how is searched, and nothing that is found.
-pub fn has_sides<'a>(alloc: Global, arena: &'a Bump, flat: &Flat<'a>) -> Result<bool, AllocError> {
+/// Whether a search over trees is likely to be the faster one: some conjunct has two sides, which it asks apart, or fixes a component. No contract says so: it decides how is searched, and nothing that is found.
+pub fn gains_by_trees<'a>(
+    alloc: Global,
+    arena: &'a Bump,
+    flat: &Flat<'a>,
+) -> Result<bool, AllocError> {
     let planting = plant_all(alloc, arena, flat.conjuncts.as_slice())?;
-    Ok(planting.leaves.len() > flat.conjuncts.len())
+    if planting.leaves.len() > flat.conjuncts.len() {
+        return Ok(true);
+    }
+    for leaf in &planting.leaves {
+        if fixes_its_last(leaf) {
+            return Ok(true);
+        }
+    }
+    Ok(false)
+}
+
+/// Whether the predicate equates the last component that it needs with an expression.
+fn fixes_its_last(leaf: &Resolved<'_>) -> bool {
+    let due = due(leaf);
+    due > 0 && fixing(leaf, due - 1).is_some()
 }
 
 /// Plants the conjuncts of a schema.
