@@ -5,7 +5,7 @@ ghost use Rattle.zf_term.specs.ResolvedTrees.{resolved_of};
 ghost use Rattle.zf_plan.specs.Groves.{trees_of};
 ghost use Rattle.zf_enum.specs.Planting.{Plants, PlantsNext, ArePlanted};
 
-use crate::due::due;
+use crate::due::last;
 use crate::fixing::fixing;
 use bumpalo::Bump;
 use std::alloc::{AllocError, Global};
@@ -41,10 +41,12 @@ pub fn gains_by_trees<'a>(
     Ok(false)
 }
 
-/// Whether the predicate equates the last component that it needs with an expression.
+/// Whether the predicate equates the last component that it names with an expression.
 fn fixes_its_last(leaf: &Resolved<'_>) -> bool {
-    let due = due(leaf);
-    due > 0 && fixing(leaf, due - 1).is_some()
+    match last(leaf) {
+        None => false,
+        Some(component) => fixing(leaf, component).is_some(),
+    }
 }
 
 /// Plants the conjuncts of a schema.
