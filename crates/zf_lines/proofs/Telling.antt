@@ -1,10 +1,9 @@
 -- What a walk says of its events and tests is what an answer says of them.
-use Rattle.std.proofs.Common.{◌≡◌, ◌∙◌, List, Option, true, sym, ap, subst}
+use Rattle.std.proofs.Common.{◌≡◌, List, Option, true, sym, ap, subst}
 use Rattle.zf_term.specs.Definitions.{Schema}
 use Rattle.zf_term.specs.ResolvedTrees.{ResolvedTree}
 use Rattle.zf_value.specs.declared.value.Value.{Value}
 use Rattle.zf_value.specs.Sets.{value_order}
-use Rattle.zf_walk.specs.Conjuncts.{Conjuncts}
 use Rattle.zf_walk.specs.Events.{Event}
 use Rattle.zf_walk.specs.Progress.{Progress, SameRanges}
 use Rattle.zf_walk.specs.Progress as walk

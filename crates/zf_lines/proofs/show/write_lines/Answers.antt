@@ -1,4 +1,4 @@
-use Rattle.std.proofs.Common.{sym, subst, refl, ◌∙◌, rules}
+use Rattle.std.proofs.Common.{sym, subst, ◌∙◌, rules}
 use Rattle.zf_term.specs.Definitions.{schema_of}
 use Rattle.zf_lines.specs.Columns.{AreColumns}
 use Rattle.zf_lines.proofs.Fronts.{always_on_err}
@@ -32,7 +32,7 @@ write_binding-requires-clause-columns g c =
 pub returns-in_err-write_binding-in-Holds-clause-err :
     goal.returns-in_err-write_binding-in-Holds-clause-err
 returns-in_err-write_binding-in-Holds-clause-err g c =
-    always_on_err _ (stops_in_line _ _ _ _ _ c.requires.start _ _ _ _ _ c.lines.invariant.0 _ _ (g.met.S.Search.given c.advance.new.self) (rw c.in-Holds.is at c.in_ok-advance.ensures.answer) _ c.in_err-write_binding-in-Holds.ensures.err)
+    always_on_err _ (stops_in_line _ _ _ _ _ c.requires.start _ _ _ _ _ c.lines.invariant.0 (g.S.Search.stage c.advance.new.self) _ (g.met.S.Search.given c.advance.new.self) (rw c.in-Holds.is at c.in_ok-advance.ensures.answer) _ c.in_err-write_binding-in-Holds.ensures.err)
 
 pub one_less-left-requires : goal.one_less-left-requires
 one_less-left-requires g c = c.lines.invariant.0.some
