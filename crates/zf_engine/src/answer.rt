@@ -221,14 +221,16 @@ fn show_after<'a, W: Write>(
         return count_after(alloc, arena, schema, env, elements, after, request, writer);
     }
     match begin(alloc, arena, schema, env, after) {
-        Ok(Begun::Walked(found)) => {
-            let mut search = found;
-            show(alloc, schema, elements, &mut search, request.limit, writer)
-        }
-        Ok(Begun::Planted(found)) => {
-            let mut search = found;
-            show(alloc, schema, elements, &mut search, request.limit, writer)
-        }
+        Ok(begun) => match begun {
+            Begun::Walked(found) => {
+                let mut search = found;
+                show(alloc, schema, elements, &mut search, request.limit, writer)
+            }
+            Begun::Planted(found) => {
+                let mut search = found;
+                show(alloc, schema, elements, &mut search, request.limit, writer)
+            }
+        },
         Err(stop) => tell(stop, writer),
     }
 }
