@@ -16,6 +16,7 @@ pub mod Builds
 pub mod Walking
 pub mod Accepting
 pub mod Counts
+pub mod Figures
 pub mod WorkedOut
 pub mod Linking
 pub mod Turns

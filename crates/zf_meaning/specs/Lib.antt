@@ -13,6 +13,7 @@ pub mod InRow
 pub mod Regular
 pub mod Places
 pub mod Rowed
+pub mod Figures
 pub mod Found
 pub mod Described
 pub mod Linked

@@ -6,6 +6,7 @@ mod connected;
 pub mod described;
 pub mod env;
 mod evaluate;
+mod figure;
 pub mod found;
 mod gathered;
 mod global_outcome;

@@ -55,7 +55,7 @@ fn test(set: Infinite, relation: Relation, x: &Found<'_>) -> Truth
 }
 
 /// The truth of what holds or doesn't.
-fn told(holds: bool) -> Truth
+pub(crate) fn told(holds: bool) -> Truth
     ensures { result ≡ (if holds then Truth.True else Truth.False) }
 {
     if holds { Truth::True } else { Truth::False }

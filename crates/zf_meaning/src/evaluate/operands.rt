@@ -9,9 +9,11 @@ ghost use Rattle.zf_meaning.specs.Gathered.{several_of};
 ghost use Rattle.zf_meaning.specs.Meaning.{HasOutcome, HaveOutcomes, IsTruth};
 ghost use Rattle.zf_meaning.specs.Scopes.{scope_of, IsRegularScope};
 
+use super::figures::figure;
 use super::{outcome, truth};
 use crate::connected::{connected, decided, opposite};
 use crate::env::Env;
+use crate::figure::{arithmetic_of, calculated};
 use crate::found::Found;
 use crate::gathered::Gathered;
 use crate::row::Row;
@@ -57,6 +59,11 @@ pub(super) fn binary<'v, 'a, R: Row>(
     ensures is { (line : ℕ) → IfOk result (λ o. HasOutcome (scope_of env.now (R.values row.now) locals.now) (tree.binary line op (resolved_of left.now) (resolved_of right.now)) (found_outcome o)) }
     ensures regular { IfOk result (λ o. IsRegularOutcome (found_outcome o)) }
 {
+    if let Some(arithmetic) = arithmetic_of(op) {
+        let x = figure(left, row, locals, env)?;
+        let y = figure(right, row, locals, env)?;
+        return Ok(calculated(arithmetic, x, y).into_found());
+    }
     let x = outcome(left, row, locals, env)?;
     let y = outcome(right, row, locals, env)?;
     Ok(Found::own(on_both(env.allocator(), op, &x, &y)?))
