@@ -1,23 +1,38 @@
 -- What figures tell of the outcomes that have them.
-use Rattle.std.proofs.Common.{◌≡◌, ◌↔◌, ◌⊎◌, inl, inr, ℤ, Bool, true, false, if◌then◌else◌, Option, Some, None, refl, sym, ap, ◌∙◌, subst, absurd, IsTrue}
+use Rattle.std.proofs.Common.{◌≡◌, ◌↔◌, ◌⊎◌, inl, inr, ℕ, ℤ, Bool, true, false, if◌then◌else◌, List, [], ◌∷◌, length, map, get_or, Option, Some, None, refl, sym, ap, ◌∙◌, subst, absurd, arith, IsTrue}
+use Rattle.std.specs.Option.{IfSome}
+use Rattle.std.proofs.lemmas.Option.{IfSome_then}
+use Rattle.zf_reference.specs.declared.reference.Reference.{Reference}
 use Rattle.zf_scan.specs.declared.token.Relation.{Relation}
+use Rattle.zf_term.specs.declared.operator.Operator.{Operator}
 use Rattle.zf_term.specs.declared.operator.Operator.TheVariants.{Function}
+use Rattle.zf_term.specs.declared.resolved.Resolved.{Resolved}
+use Rattle.zf_term.specs.declared.resolved.ResolvedLink.{ResolvedLink}
+use Rattle.zf_term.specs.Extents.{is_membership, direct}
+use Rattle.zf_term.specs.ResolvedTrees.{ResolvedTree, reference, bracket, binary, chain, links, resolved_of, resolved_link_of}
+use Rattle.zf_term.proofs.ResolvedSeen.{link-seen}
 use Rattle.zf_value.specs.declared.value.Value.{Value, Int}
 use Rattle.zf_value.specs.declared.value.Outcome.{Outcome}
 use Rattle.zf_value.specs.declared.value.Outcome.TheVariants as outcome
 use Rattle.zf_value.specs.declared.value.Truth.{Truth}
 use Rattle.zf_value.specs.declared.value.Truth.TheVariants as truth
 use Rattle.zf_value.specs.Numbers.{number_of, IsNumber, OnNumbers, IsSum, IsDifference, IsProduct, IsQuotient, IsModulus}
+use Rattle.zf_value.specs.Sets.{IsRegularOutcome}
+use Rattle.zf_value.proofs.Regulars.{regular-Int}
 use Rattle.zf_value.proofs.Seen.{is_Int, number_of-Int, same_some}
 use Rattle.zf_meaning.specs.declared.figure.Figure.{Figure}
 use Rattle.zf_meaning.specs.declared.figure.Figure.TheVariants.{Number, Other, Undefined, Out}
 use Rattle.zf_meaning.specs.declared.figure.Arithmetic.{Arithmetic}
 use Rattle.zf_meaning.specs.declared.figure.Arithmetic.TheVariants.{Sum, Difference, Product, Quotient, Modulus}
 use Rattle.zf_meaning.specs.Arithmetic.{NumbersOutcome}
-use Rattle.zf_meaning.specs.Figures.{figure_by, figure_of, figure_of_value, outcome_of, out_or_undefined, out_or_false, infix_of, IsOnFigures, AreRelated}
+use Rattle.zf_meaning.specs.Connected.{conjunction}
+use Rattle.zf_meaning.specs.Environments.{Context, outcome_in}
+use Rattle.zf_meaning.specs.Figures.{figure_by, figure_of, figure_of_value, outcome_of, out_or_undefined, out_or_false, infix_of, HasFigure, IsOnFigures, AreRelated}
+use Rattle.zf_meaning.specs.Meaning.{HasOutcome, IsTruth, IsLink, infinite_right}
 use Rattle.zf_meaning.specs.Outcomes.{OnBoth}
 use Rattle.zf_meaning.specs.Symbols.{BinaryOutcome, InfixOutcome, Compares, Holds}
-use Rattle.zf_meaning.specs.Truths.{IsAtom, Tells}
+use Rattle.zf_meaning.specs.Truths.{IsAtom, IsConjunction, Tells}
+use Rattle.zf_meaning.proofs.Connecting.{conjoined, conjunction-true}
 
 -- ---- which outcome has a figure
 
@@ -212,3 +227,69 @@ undefined-atom P outcome.Out = refl
 pub related-undefined : (r : Relation) (y : Figure) (t : Truth) → t ≡ out_or_false y → AreRelated r Undefined y t
 unfolding AreRelated
 related-undefined r y t e = λ p q j k. subst (λ x. IsAtom x q (Holds r) t) (sym (is-undefined p j)) (subst (IsAtom outcome.Undefined q (Holds r)) (ap out_or_false k ∙ sym e) (undefined-atom (Holds r) q))
+
+-- ---- expressions and chains by figures
+
+-- what an outcome that was worked out tells
+pub outcome-figure : (c : Context) (t : ResolvedTree) (o : Outcome) (f : Figure) → HasOutcome c t o → f ≡ figure_of o → HasFigure c t f
+unfolding HasFigure
+outcome-figure c t o f h e = (o, h, sym e)
+
+pub name-figure : (c : Context) (l : ℕ) (r : Reference) (t : ResolvedTree) (o : Outcome) (f : Figure) → t ≡ reference l r → o ≡ outcome_in c r → f ≡ figure_of o → HasFigure c t f
+name-figure c l r t o f d h e = subst (λ z. HasFigure c z f) (sym d) (outcome-figure c (reference l r) o f h e)
+
+bracket-same : (c : Context) (l : ℕ) (t : ResolvedTree) (f : Figure) → HasFigure c t f → HasFigure c (bracket l t) f
+unfolding HasFigure
+bracket-same c l t f h = h
+
+pub bracket-figure : (c : Context) (l : ℕ) (t d : ResolvedTree) (f : Figure) → d ≡ bracket l t → HasFigure c t f → HasFigure c d f
+bracket-figure c l t d f e h = subst (λ z. HasFigure c z f) (sym e) (bracket-same c l t f h)
+
+infix-figure : (c : Context) (l : ℕ) (a b : ResolvedTree) (s : Arithmetic) (x y f : Figure) → HasFigure c a x → HasFigure c b y → IsOnFigures s x y f → HasFigure c (binary l (Function (infix_of s)) a b) f
+unfolding HasFigure IsOnFigures
+infix-figure c l a b s x y f h k i = (outcome_of f, (h.0, k.0, h.1, k.1, i.1 h.0 k.0 h.2 k.2), i.0)
+
+pub binary-figure : (c : Context) (l : ℕ) (op : Operator) (a b d : ResolvedTree) (s : Arithmetic) (x y f : Figure) → d ≡ binary l op a b → op ≡ Function (infix_of s) → HasFigure c a x → HasFigure c b y → IsOnFigures s x y f → HasFigure c d f
+binary-figure c l op a b d s x y f e o h k i =
+    subst (λ z. HasFigure c z f) (sym e) (subst (λ p. HasFigure c (binary l p a b) f) (sym o) (infix-figure c l a b s x y f h k i))
+
+infix-outcome : (c : Context) (l : ℕ) (a b : ResolvedTree) (s : Arithmetic) (x y f : Figure) → HasFigure c a x → HasFigure c b y → IsOnFigures s x y f → HasOutcome c (binary l (Function (infix_of s)) a b) (outcome_of f)
+unfolding HasFigure IsOnFigures
+infix-outcome c l a b s x y f h k i = (h.0, k.0, h.1, k.1, i.1 h.0 k.0 h.2 k.2)
+
+pub binary-outcome : (c : Context) (l : ℕ) (op : Operator) (a b : ResolvedTree) (s : Arithmetic) (x y f : Figure) (o : Outcome) → o ≡ outcome_of f → op ≡ Function (infix_of s) → HasFigure c a x → HasFigure c b y → IsOnFigures s x y f → HasOutcome c (binary l op a b) o
+binary-outcome c l op a b s x y f o e d h k i =
+    subst (λ p. HasOutcome c (binary l p a b) o) (sym d) (subst (HasOutcome c (binary l (Function (infix_of s)) a b)) (sym e) (infix-outcome c l a b s x y f h k i))
+
+regular-of : (f : Figure) → IsRegularOutcome (outcome_of f)
+regular-of (Number n) = regular-Int n
+regular-of Other = tt
+regular-of Undefined = tt
+regular-of Out = tt
+
+pub regular-figure : (f : Figure) (o : Outcome) → o ≡ outcome_of f → IsRegularOutcome o
+regular-figure f o e = subst IsRegularOutcome (sym e) (regular-of f)
+
+-- a chain of one link
+one-link : (c : Context) (l : ℕ) (a b : ResolvedTree) (r : Relation) (x y : Figure) (t : Truth) → is_membership r ≡ false → HasFigure c a x → HasFigure c b y → AreRelated r x y t → IsTruth c (chain l a (links ((r, b) ∷ []))) t
+unfolding HasFigure AreRelated
+one-link c l a b r x y t m h k e =
+    let told : IsLink (infinite_right c r b) r h.0 k.0 t = subst (λ i. IsLink i r h.0 k.0 t) (sym (ap (λ u. if u then direct c.environment.globals b else None) m)) (e h.0 k.0 h.2 k.2) in
+    let whole : IsConjunction (λ p. IsLink (infinite_right c r b) r h.0 k.0 p) (λ q. q ≡ truth.True) (conjunction t truth.True) = conjoined t truth.True (λ p. IsLink (infinite_right c r b) r h.0 k.0 p) (λ q. q ≡ truth.True) told refl in
+    (h.0, h.1, (k.0, k.1, subst (IsConjunction (λ p. IsLink (infinite_right c r b) r h.0 k.0 p) (λ q. q ≡ truth.True)) (conjunction-true t) whole))
+
+single : (ks : List ResolvedLink) (k : ResolvedLink) → length ks ≡ 1 → k ≡ get_or ks 0 k → ks ≡ k ∷ []
+single [] k e f = absurd (omega arith)
+single (x ∷ []) k e f = ap (λ z. z ∷ []) (sym f)
+single (x ∷ (y ∷ zs)) k e f = absurd (omega arith)
+
+chain-by : (c : Context) (d : ResolvedTree) (l : ℕ) (t a : Resolved) (ks sl : List ResolvedLink) (k : ResolvedLink) (x y : Figure) (u : Truth) → d ≡ chain l (resolved_of t) (links (map resolved_link_of ks)) → a ≡ t → sl ≡ ks → length sl ≡ 1 → k ≡ get_or sl 0 k
+    → is_membership k.relation ≡ false → HasFigure c (resolved_of a) x → HasFigure c (resolved_of k.right) y → AreRelated k.relation x y u → IsTruth c d u
+chain-by c d l t a ks sl k x y u e f g n i m h q r =
+    let seen : map resolved_link_of ks ≡ (k.relation, resolved_of k.right) ∷ [] = ap (map resolved_link_of) (sym g ∙ single sl k n i) ∙ ap (λ z. z ∷ []) (link-seen k) in
+    let form : d ≡ chain l (resolved_of a) (links ((k.relation, resolved_of k.right) ∷ [])) = e ∙ ap (λ z. chain l (resolved_of z) (links (map resolved_link_of ks))) (sym f) ∙ ap (λ zs. chain l (resolved_of a) (links zs)) seen in
+    subst (λ z. IsTruth c z u) (sym form) (one-link c l (resolved_of a) (resolved_of k.right) k.relation x y u m h q r)
+
+pub chain-figures : (c : Context) (d : ResolvedTree) (l : ℕ) (t a : Resolved) (ks sl : List ResolvedLink) (k : ResolvedLink) (x y : Figure) (u : Option Truth) → d ≡ chain l (resolved_of t) (links (map resolved_link_of ks)) → a ≡ t → sl ≡ ks → length sl ≡ 1 → k ≡ get_or sl 0 k
+    → is_membership k.relation ≡ false → HasFigure c (resolved_of a) x → HasFigure c (resolved_of k.right) y → IfSome u (AreRelated k.relation x y) → IfSome u (IsTruth c d)
+chain-figures c d l t a ks sl k x y u e f g n i m h q r = IfSome_then u r (λ z s. chain-by c d l t a ks sl k x y z e f g n i m h q s)

@@ -45,7 +45,7 @@ pub(super) fn chain<'v, 'a, R: Row>(
     let Resolved::Chain(_, first, links) = term else {
         unreachable!();
     };
-    if let Some(told) = told_by_figures(term, first.get(), links.as_slice(), row, locals, env)? {
+    if let Some(told) = told_by_figures(term, row, locals, env)? {
         return Ok(told);
     }
     let first = outcome(first.get(), row, locals, env)?;

@@ -1,9 +1,9 @@
 //! Expressions and chains of which numbers are all that counts.
-ghost use Rattle.std.specs.Prelude.{◌≡◌, ◌<◌, IfOk, IfSome, map};
-ghost use Rattle.zf_term.specs.ResolvedTrees as tree;
-ghost use Rattle.zf_term.specs.ResolvedTrees.{resolved_of, resolved_link_of};
-ghost use Rattle.zf_term.specs.declared.resolved.Resolved.{size-Resolved};
+ghost use Rattle.std.specs.Prelude.{◌≡◌, false, IfOk, IfSome, IsTrue};
+ghost use Rattle.zf_term.specs.Extents.{is_membership};
+ghost use Rattle.zf_term.specs.ResolvedTrees.{resolved_of};
 ghost use Rattle.zf_meaning.specs.Figures.{HasFigure};
+ghost use Rattle.zf_meaning.specs.Forms.{IsChain};
 ghost use Rattle.zf_meaning.specs.Meaning.{IsTruth};
 ghost use Rattle.zf_meaning.specs.Scopes.{scope_of, IsRegularScope};
 
@@ -14,7 +14,7 @@ use crate::row::Row;
 use std::alloc::AllocError;
 use zf_scan::token::{Prefix, Relation};
 use zf_term::operator::Unary;
-use zf_term::resolved::{Resolved, ResolvedLink};
+use zf_term::resolved::Resolved;
 use zf_text::tree::Sign;
 use zf_value::value::{Truth, Value};
 
@@ -82,29 +82,35 @@ fn worked_out<'v, 'a, R: Row>(
 /// The truth of a chain of one link, where numbers tell it.
 #[cycle(meaning)]
 pub(super) fn told_by_figures<'v, 'a, R: Row>(
-    whole: &Resolved<'a>,
-    first: &Resolved<'a>,
-    links: &[ResolvedLink<'a>],
+    term: &Resolved<'a>,
     row: &'v R,
     locals: &[&'v Value],
     env: &'v Env<'_, 'a>,
 ) -> Result<Option<Truth>, AllocError>
+    requires form { IsChain term.now }
     requires regular { IsRegularScope (scope_of env.now (R.values row.now) locals.now) }
+    ensures { IfOk result (λ told. IfSome told (IsTruth (scope_of env.now (R.values row.now) locals.now) (resolved_of term.now))) }
 {
+    let Resolved::Chain(_, first, links) = term else {
+        unreachable!();
+    };
+    let links = links.as_slice();
     if links.len() != 1 {
         return Ok(None);
     }
     let link = &links[0];
-    if !is_between_numbers(link.relation, first, &link.right) {
+    if !is_between_numbers(link.relation, first.get(), &link.right) {
         return Ok(None);
     }
-    let x = figure(first, row, locals, env)?;
+    let x = figure(first.get(), row, locals, env)?;
     let y = figure(&link.right, row, locals, env)?;
     Ok(related(link.relation, x, y))
 }
 
 /// Whether the form of a link tells that it stands between numbers.
-fn is_between_numbers(relation: Relation, left: &Resolved<'_>, right: &Resolved<'_>) -> bool {
+fn is_between_numbers(relation: Relation, left: &Resolved<'_>, right: &Resolved<'_>) -> bool
+    ensures { IsTrue result → is_membership relation ≡ false }
+{
     match relation {
         Relation::Equal => is_calculated(left) || is_calculated(right),
         Relation::NotEqual => is_calculated(left) || is_calculated(right),
