@@ -1,9 +1,16 @@
 -- What figures tell of the outcomes that have them.
-use Rattle.std.proofs.Common.{◌≡◌, ◌↔◌, ◌⊎◌, inl, inr, ℕ, ℤ, Bool, true, false, if◌then◌else◌, List, [], ◌∷◌, length, map, get_or, Option, Some, None, refl, sym, ap, ◌∙◌, subst, absurd, arith, IsTrue}
+use Rattle.std.proofs.Common.{◌≡◌, ◌↔◌, ◌⊎◌, inl, inr, ℕ, ℤ, Bool, true, false, not, if◌then◌else◌, List, [], ◌∷◌, length, map, get_or, Option, Some, None, refl, sym, ap, ◌∙◌, subst, arith, IsTrue, to_z, of_z, w64}
+use Rattle.std.specs.Prelude.{◌≤ℤ◌, ◌<ℤ◌}
+use Rattle.std.specs.Int.Signed.{lt_z, le_z}
 use Rattle.std.specs.Option.{IfSome}
+use Rattle.std.proofs.Math.Dec.{eqb}
+use Rattle.std.proofs.lemmas.Bool.{eqb-true}
+use Rattle.std.proofs.lemmas.Bool.Decides.{nat_tests}
+use Rattle.std.proofs.lemmas.Int.{ints}
 use Rattle.std.proofs.lemmas.Option.{IfSome_then}
 use Rattle.zf_reference.specs.declared.reference.Reference.{Reference}
 use Rattle.zf_scan.specs.declared.token.Relation.{Relation}
+use Rattle.zf_scan.specs.declared.token.Relation.TheVariants as relation
 use Rattle.zf_term.specs.declared.operator.Operator.{Operator}
 use Rattle.zf_term.specs.declared.operator.Operator.TheVariants.{Function}
 use Rattle.zf_term.specs.declared.resolved.Resolved.{Resolved}
@@ -83,7 +90,7 @@ of-number n outcome.Undefined h = refl
 of-number n outcome.Out h = refl
 
 kept : (s : Arithmetic) (a b : ℤ) (o : Outcome) → NumbersOutcome (infix_of s) a b o → outcome_of (figure_of o) ≡ o
-unfolding IsSum, IsDifference, IsProduct, IsQuotient, IsModulus
+unfolding IsSum IsDifference IsProduct IsQuotient IsModulus
 kept Sum a b o h = of-number _ o h
 kept Difference a b o h = of-number _ o h
 kept Product a b o h = of-number _ o h
@@ -103,13 +110,18 @@ infix-numbers Quotient a b o h = on-some IsQuotient a b o h
 infix-numbers Modulus a b o h = on-some IsModulus a b o h
 
 -- what the symbol makes of two numbers
-pub on-numbers : (s : Arithmetic) (a b : ℤ) (o : Outcome) (f : Figure) → NumbersOutcome (infix_of s) a b o → f ≡ figure_of o → IsOnFigures s (Number a) (Number b) f
+on-numbers : (s : Arithmetic) (a b : ℤ) (o : Outcome) (f : Figure) → NumbersOutcome (infix_of s) a b o → f ≡ figure_of o → IsOnFigures s (Number a) (Number b) f
 unfolding IsOnFigures
 on-numbers s a b o f h i =
     let e : outcome_of f ≡ o = ap outcome_of i ∙ kept s a b o h in (
       ap figure_of e ∙ sym i,
       λ p q j k. subst (λ x. OnBoth x q (BinaryOutcome (Function (infix_of s))) (outcome_of f)) (sym (is-number p a j)) (subst (λ y. OnBoth (outcome.Is (Int a)) y (BinaryOutcome (Function (infix_of s))) (outcome_of f)) (sym (is-number q b k)) (subst (InfixOutcome (infix_of s) (Int a) (Int b)) (sym e) (infix-numbers s a b o h))),
     )
+
+-- the same of numbers that are these
+pub on-same : (s : Arithmetic) (r : Arithmetic) (a b x y : ℤ) (o : Outcome) (f : Figure) → r ≡ s → x ≡ a → y ≡ b → NumbersOutcome (infix_of s) x y o → f ≡ figure_of o → IsOnFigures r (Number a) (Number b) f
+on-same s r a b x y o f d e g h i =
+    subst (λ k. IsOnFigures k (Number a) (Number b) f) (sym d) (on-numbers s a b o f (subst (λ u. NumbersOutcome (infix_of s) u b o) e (subst (λ v. NumbersOutcome (infix_of s) x v o) g h)) i)
 
 none-left : (P : ℤ → ℤ → Outcome → Type 0) (v w : Value) → number_of v ≡ None → OnNumbers (number_of v) (number_of w) P outcome.Undefined
 none-left P v w h = subst (λ n. OnNumbers n (number_of w) P outcome.Undefined) (sym h) refl
@@ -190,18 +202,63 @@ int-same : (a m : ℤ) → Int a ≡ Int m → a ≡ m
 int-same a m e = same_some a m (sym (number_of-Int a) ∙ ap number_of e ∙ number_of-Int m)
 
 -- numbers in an order, as values
-pub compare : (P : ℤ → ℤ → Type 0) (a b : ℤ) (u : Bool) → IsTrue u ↔ P a b → IsTrue u ↔ Compares P (Int a) (Int b)
+compare : (P : ℤ → ℤ → Type 0) (a b : ℤ) (u : Bool) → IsTrue u ↔ P a b → IsTrue u ↔ Compares P (Int a) (Int b)
 compare P a b u h = (λ i. (a, b, refl, refl, h.0 i), λ i. h.1 (subst (λ x. P x b) (sym (int-same a i.0 i.2)) (subst (λ y. P i.0 y) (sym (int-same b i.1 i.3)) i.4)))
 
-pub same : (a b : ℤ) (u : Bool) → IsTrue u ↔ (a ≡ b) → IsTrue u ↔ (Int a ≡ Int b)
+same : (a b : ℤ) (u : Bool) → IsTrue u ↔ (a ≡ b) → IsTrue u ↔ (Int a ≡ Int b)
 same a b u h = (λ i. ap Int (h.0 i), λ i. h.1 (int-same a b i))
 
-pub differ : (a b : ℤ) (u : Bool) → IsTrue u ↔ (a ≡ b → ⊥) → IsTrue u ↔ (Int a ≡ Int b → ⊥)
+differ : (a b : ℤ) (u : Bool) → IsTrue u ↔ (a ≡ b → ⊥) → IsTrue u ↔ (Int a ≡ Int b → ⊥)
 differ a b u h = (λ i e. h.0 i (int-same a b e), λ i. h.1 (λ e. i (ap Int e)))
 
-pub related-numbers : (r : Relation) (a b : ℤ) (u : Bool) (t : Truth) → IsTrue u ↔ Holds r (Int a) (Int b) → t ≡ (if u then truth.True else truth.False) → AreRelated r (Number a) (Number b) t
+related-numbers : (r : Relation) (a b : ℤ) (u : Bool) (t : Truth) → IsTrue u ↔ Holds r (Int a) (Int b) → t ≡ (if u then truth.True else truth.False) → AreRelated r (Number a) (Number b) t
 unfolding AreRelated
 related-numbers r a b u t h e = λ p q j k. subst (λ x. IsAtom x q (Holds r) t) (sym (is-number p a j)) (subst (λ y. IsAtom (outcome.Is (Int a)) y (Holds r) t) (sym (is-number q b k)) (tells (Holds r (Int a) (Int b)) u t h e))
+
+-- what the tests of numbers tell
+
+less : (x y : ℤ) → IsTrue (lt_z x y) ↔ (x <ℤ y)
+less x y = (λ t. grind (arith, ints, t), λ p. grind (arith, ints, p))
+
+at-most : (x y : ℤ) → IsTrue (le_z x y) ↔ (x ≤ℤ y)
+at-most x y = (λ t. grind (arith, ints, t), λ p. grind (arith, ints, p))
+
+alike : (a b : ℤ) → to_z w64 (of_z w64 a) ≡ a → to_z w64 (of_z w64 b) ≡ b → IsTrue (eqb (of_z w64 a) (of_z w64 b)) ↔ (a ≡ b)
+alike a b e f = (
+  λ t. sym e ∙ ap (to_z w64) (eqb-true (of_z w64 a) (of_z w64 b) t) ∙ f,
+  λ p. let q : of_z w64 a ≡ of_z w64 b = ap (of_z w64) p in grind (arith, nat_tests, q),
+)
+
+negated : (P : Type 0) (u : Bool) → IsTrue u ↔ P → IsTrue (not u) ↔ (P → ⊥)
+negated P true h = (λ i. let c : false ≡ true = i in (cc), λ i. absurd (i (h.0 refl)))
+negated P false h = (λ i p. let c : false ≡ true = h.1 p in (cc), λ i. refl)
+
+ordered : (r : Relation) (P : ℤ → ℤ → Type 0) (a b x y : ℤ) (u : Bool) (t : Truth) → ((v w : Value) → Compares P v w → Holds r v w) → ((v w : Value) → Holds r v w → Compares P v w) → x ≡ a → y ≡ b → IsTrue u ↔ P x y
+    → t ≡ (if u then truth.True else truth.False) → AreRelated r (Number a) (Number b) t
+ordered r P a b x y u t from to e f h q =
+    let c = compare P a b u (subst (λ v. IsTrue u ↔ P v b) e (subst (λ w. IsTrue u ↔ P x w) f h)) in
+    related-numbers r a b u t (λ i. from (Int a) (Int b) (c.0 i), λ i. c.1 (to (Int a) (Int b) i)) q
+
+by-relation : (s r : Relation) (a b : ℤ) (t : Truth) → r ≡ s → AreRelated s (Number a) (Number b) t → AreRelated r (Number a) (Number b) t
+by-relation s r a b t d h = subst (λ k. AreRelated k (Number a) (Number b) t) (sym d) h
+
+pub related-less : (r : Relation) (a b x y : ℤ) (t : Truth) → r ≡ relation.Less → x ≡ a → y ≡ b → t ≡ (if lt_z x y then truth.True else truth.False) → AreRelated r (Number a) (Number b) t
+related-less r a b x y t d e f q = by-relation relation.Less r a b t d (ordered relation.Less (λ m n. m <ℤ n) a b x y (lt_z x y) t (λ v w h. h) (λ v w h. h) e f (less x y) q)
+
+pub related-greater : (r : Relation) (a b x y : ℤ) (t : Truth) → r ≡ relation.Greater → x ≡ a → y ≡ b → t ≡ (if lt_z y x then truth.True else truth.False) → AreRelated r (Number a) (Number b) t
+related-greater r a b x y t d e f q = by-relation relation.Greater r a b t d (ordered relation.Greater (λ m n. n <ℤ m) a b x y (lt_z y x) t (λ v w h. h) (λ v w h. h) e f (less y x) q)
+
+pub related-at-most : (r : Relation) (a b x y : ℤ) (t : Truth) → r ≡ relation.AtMost → x ≡ a → y ≡ b → t ≡ (if le_z x y then truth.True else truth.False) → AreRelated r (Number a) (Number b) t
+related-at-most r a b x y t d e f q = by-relation relation.AtMost r a b t d (ordered relation.AtMost (λ m n. m ≤ℤ n) a b x y (le_z x y) t (λ v w h. h) (λ v w h. h) e f (at-most x y) q)
+
+pub related-at-least : (r : Relation) (a b x y : ℤ) (t : Truth) → r ≡ relation.AtLeast → x ≡ a → y ≡ b → t ≡ (if le_z y x then truth.True else truth.False) → AreRelated r (Number a) (Number b) t
+related-at-least r a b x y t d e f q = by-relation relation.AtLeast r a b t d (ordered relation.AtLeast (λ m n. n ≤ℤ m) a b x y (le_z y x) t (λ v w h. h) (λ v w h. h) e f (at-most y x) q)
+
+pub related-equal : (r : Relation) (a b : ℤ) (t : Truth) → r ≡ relation.Equal → to_z w64 (of_z w64 a) ≡ a → to_z w64 (of_z w64 b) ≡ b → t ≡ (if eqb (of_z w64 a) (of_z w64 b) then truth.True else truth.False) → AreRelated r (Number a) (Number b) t
+related-equal r a b t d e f q = by-relation relation.Equal r a b t d (related-numbers relation.Equal a b (eqb (of_z w64 a) (of_z w64 b)) t (same a b (eqb (of_z w64 a) (of_z w64 b)) (alike a b e f)) q)
+
+pub related-not-equal : (r : Relation) (a b : ℤ) (t : Truth) → r ≡ relation.NotEqual → to_z w64 (of_z w64 a) ≡ a → to_z w64 (of_z w64 b) ≡ b → t ≡ (if not (eqb (of_z w64 a) (of_z w64 b)) then truth.True else truth.False) → AreRelated r (Number a) (Number b) t
+related-not-equal r a b t d e f q = by-relation relation.NotEqual r a b t d (related-numbers relation.NotEqual a b (not (eqb (of_z w64 a) (of_z w64 b))) t (differ a b (not (eqb (of_z w64 a) (of_z w64 b))) (negated (a ≡ b) (eqb (of_z w64 a) (of_z w64 b)) (alike a b e f))) q)
 
 pub related-number-undefined : (r : Relation) (a : ℤ) → AreRelated r (Number a) Undefined truth.False
 unfolding AreRelated
