@@ -2,7 +2,7 @@ use Rattle.std.proofs.Common.{[], ◌∷◌, length, map, drop, refl, sym, ap, �
 use Rattle.std.proofs.lemmas.Result.{IfOk-weaker}
 use Rattle.zf_term.specs.ResolvedTrees.{resolved_of, part_of}
 use Rattle.zf_term.specs.ResolvedTrees as tree
-use Rattle.zf_term.proofs.ResolvedSeen.{of-Unary, of-Binary, of-Listed, of-Chain}
+use Rattle.zf_term.proofs.ResolvedSeen.{of-Name, of-Bracket, of-Unary, of-Binary, of-Listed, of-Chain}
 use Rattle.std.specs.Result.{IfOk}
 use Rattle.std.proofs.Common.{true, false, rules, arith, ◌≤◌}
 use Rattle.zf_value.specs.declared.value.Outcome.TheVariants as outcome
@@ -20,12 +20,14 @@ use Rattle.zf_meaning.proofs.Told.{IsTallied, none-tallied, one-more, settled-tr
 use Rattle.zf_meaning.proofs.Turns.{moved, stuck, fewer, adds-here, told-here, built-here, one-told}
 use Rattle.zf_meaning.proofs.Walking.{walk-begun, walk-next, walk-ended, walk-row, walk-done, walk-new, no-row, none-from, scope-row, bound-row, walk-scope, outside-bound, FilterIn, TermIn, ToldIn}
 use Rattle.zf_value.specs.Sets.{AreRegular, IsRegularOutcome}
+use Rattle.zf_meaning.specs.Figures.{HasFigure}
 use Rattle.zf_meaning.specs.Found.{found_outcome}
 use Rattle.zf_meaning.specs.Meaning.{HasOutcome, IsTruth, IsConstraint, Builds, IsBuilt, IsBuiltOver, IsLink, row_value}
 use Rattle.zf_meaning.specs.Places.{seen}
 use Rattle.zf_meaning.specs.RangeSets.{spread}
 use Rattle.zf_meaning.specs.Rowed.{row_of}
 use Rattle.zf_meaning.specs.Scopes.{scope_of, IsRegularScope}
+use Rattle.zf_meaning.proofs.Figures.{name-figure, bracket-figure, binary-figure, outcome-figure, chain-figures, binary-outcome, regular-figure}
 use Rattle.zf_meaning.proofs.Gathering.{gather-begun, gather-more, gather-all, ranges-begun, ranges-more, ranges-all, drop-past}
 use Rattle.zf_meaning.specs.declared.described.Described.TheVariants.{Arrows}
 use Rattle.zf_meaning.specs.Described.{Describes}
@@ -452,3 +454,40 @@ truth-returns-in-Unary g t c =
     subst (λ d. IfOk c.not.result (IsTruth (scope_of c.args.env.now (g.R.Row.values c.args.row.now) c.args.locals.now) d))
     (ap (λ x. tree.unary i.field-0 i.op (resolved_of x)) c.get-in-Unary.ensures ∙ sym (ap resolved_of i.is ∙ of-Unary i.field-0 i.op i.of))
     (c.not.ensures c.in-Unary.field-0)
+
+pub figures::figure-returns-in-Name : goal.figures::figure-returns-in-Name
+figures::figure-returns-in-Name g t c =
+    let i = c.in-Name in
+    name-figure (scope_of c.args.env.now (g.R.Row.values c.args.row.now) c.args.locals.now) i.field-0 i.reference (resolved_of c.args.term.now) (found_outcome c.named.result) c.of.result (ap resolved_of i.is ∙ of-Name i.field-0 i.reference) c.named.ensures.is c.of.ensures
+
+pub figures::deep_figure-returns-in-Bracket : goal.figures::deep_figure-returns-in-Bracket
+figures::deep_figure-returns-in-Bracket g t c =
+    let i = c.in-Bracket in
+    let scope = scope_of c.args.env.now (g.R.Row.values c.args.row.now) c.args.locals.now in
+    IfOk-weaker c.figure.result (HasFigure scope (resolved_of c.get.result.now)) (HasFigure scope (resolved_of c.args.term.now))
+    (λ f h. bracket-figure scope i.field-0 (resolved_of c.get.result.now) (resolved_of c.args.term.now) f (ap resolved_of i.is ∙ of-Bracket i.field-0 i.inner ∙ ap (λ z. tree.bracket i.field-0 (resolved_of z)) (sym c.get.ensures)) h)
+    c.figure.ensures
+
+pub figures::deep_figure-returns-in-Some : goal.figures::deep_figure-returns-in-Some
+figures::deep_figure-returns-in-Some g t c =
+    let i = c.in-Binary in
+    binary-figure (scope_of c.args.env.now (g.R.Row.values c.args.row.now) c.args.locals.now) i.field-0 i.op (resolved_of c.get-x.result.now) (resolved_of c.get-y.result.now) (resolved_of c.args.term.now) c.in-Some.arithmetic c.in_ok-x.x c.in_ok-y.y c.calculated.result
+    (ap resolved_of i.is ∙ of-Binary i.field-0 i.op i.left i.right ∙ ap (λ z. tree.binary i.field-0 i.op (resolved_of z) (resolved_of i.right)) (sym c.get-x.ensures) ∙ ap (λ z. tree.binary i.field-0 i.op (resolved_of c.get-x.result.now) (resolved_of z)) (sym c.get-y.ensures))
+    c.in-Some.ensures c.in_ok-x.ensures c.in_ok-y.ensures c.calculated.ensures
+
+pub figures::worked_out-returns-in_ok-outcome : goal.figures::worked_out-returns-in_ok-outcome
+figures::worked_out-returns-in_ok-outcome g t c =
+    outcome-figure (scope_of c.args.env.now (g.R.Row.values c.args.row.now) c.args.locals.now) (resolved_of c.args.term.now) (found_outcome c.in_ok-outcome.field-0) c.of.result c.in_ok-outcome.ensures.is c.of.ensures
+
+pub figures::told_by_figures-returns : goal.figures::told_by_figures-returns
+figures::told_by_figures-returns g t c =
+    let i = c.in-Chain in
+    let k = c.index-links.result in
+    chain-figures (scope_of c.args.env.now (g.R.Row.values c.args.row.now) c.args.locals.now) (resolved_of c.args.term.now) i.field-0 i.first c.get-x.result.now i.links c.as_slice-links.result.now k c.in_ok-x.x c.in_ok-y.y c.related.result (ap resolved_of i.is ∙ of-Chain i.field-0 i.first i.links) c.get-x.ensures c.as_slice-links.ensures (omega arith) c.index-links.is (c.is_between_numbers.ensures c.if-not.false) c.in_ok-x.ensures c.in_ok-y.ensures c.related.ensures
+
+pub operands::binary-returns-in-Some-clause-is : goal.operands::binary-returns-in-Some-clause-is
+operands::binary-returns-in-Some-clause-is g t c =
+    λ line. binary-outcome (scope_of c.args.env.now (g.R.Row.values c.args.row.now) c.args.locals.now) line c.args.op (resolved_of c.args.left.now) (resolved_of c.args.right.now) c.in-Some.arithmetic c.in_ok-x.x c.in_ok-y.y c.calculated.result (found_outcome c.into_found.result) c.into_found.ensures c.in-Some.ensures c.in_ok-x.ensures c.in_ok-y.ensures c.calculated.ensures
+
+pub operands::binary-returns-in-Some-clause-regular : goal.operands::binary-returns-in-Some-clause-regular
+operands::binary-returns-in-Some-clause-regular g t c = regular-figure c.calculated.result (found_outcome c.into_found.result) c.into_found.ensures
