@@ -1,21 +1,18 @@
 -- The elements of a type, in order.
-use Rattle.std.proofs.Common.{◌≡◌, ◌↔◌, ℕ, ◌+◌, ◌<◌, List, [], ◌∷◌, ◌++◌, refl, sym, ap, ◌∙◌, subst, Ordering, Less, Equal, Result, IsTrue, false, ltb, eqb, arith, add-one}
+use Rattle.std.proofs.Common.{◌≡◌, ◌↔◌, ℕ, ◌+◌, ◌<◌, List, [], ◌∷◌, ◌++◌, sym, ap, ◌∙◌, subst, Less, Result, IsTrue, false, ltb, eqb, arith, add-one}
 use Rattle.std.specs.Cmp.{nat_cmp_is}
-use Rattle.std.specs.Ordering.{ordering_then, nat_cmp}
+use Rattle.std.specs.Ordering.{nat_cmp}
 use Rattle.std.proofs.lemmas.Bool.{ltb-true, lt-ltb, eqb-true}
 use Rattle.std.specs.Result.{IfOk}
 use Rattle.std.specs.declared.alloc.AllocError.{AllocError}
 use Rattle.zf_value.specs.declared.TheConstants.{SET_MAX}
 use Rattle.zf_value.specs.declared.value.Outcome.{Outcome}
 use Rattle.zf_value.specs.declared.value.Outcome.TheVariants.{Out}
-use Rattle.zf_value.specs.declared.value.Value.{Value, Elem, out-Value}
-use Rattle.zf_value.specs.declared.value.Value.TheOpen.{Value-F}
-use Rattle.zf_value.specs.declared.value.Value.TheVariants.{outs-Elem}
+use Rattle.zf_value.specs.declared.value.Value.{Value, Elem}
 use Rattle.zf_value.specs.Operations.{IsElement, AreElements, IsDisplay}
-use Rattle.zf_value.specs.Order.{level_order}
 use Rattle.zf_value.specs.Sets.{value_order, IsMember, IsAscending, IsRegular}
 use Rattle.zf_value.proofs.Counted.{first, members-first, ascending-first, length-first}
-use Rattle.zf_value.proofs.Exact.{cmp_is}
+use Rattle.zf_value.proofs.Compared.{compared_places}
 use Rattle.zf_value.proofs.Listed.{IsMade}
 use Rattle.zf_value.proofs.Making.{made, too_many}
 use Rattle.zf_value.proofs.Regulars.{regular-Elem, regular_made}
@@ -28,14 +25,10 @@ element_list n k = first (Elem n) k
 nat_below : (i j : ℕ) → i < j → nat_cmp i j ≡ Less
 nat_below i j l = sym (nat_cmp_is i j Less l)
 
-then_less : (t : ℕ) (o : Ordering) → o ≡ Less → ordering_then (nat_cmp t t) o ≡ Less
-then_less t o e = ap (λ x. ordering_then x o) (sym (nat_cmp_is t t Equal refl)) ∙ e
-
 element_below : (n i j : ℕ) → i < j → value_order (Elem n i) (Elem n j) ≡ Less
-element_below n i j l =
-    cmp_is (Elem n i) (Elem n j) ∙ ap (λ x. level_order value_order x (out-Value (Elem n j))) (outs-Elem n i) ∙ ap (level_order value_order (Value-F.Elem n i)) (outs-Elem n j) ∙ then_less n _ (nat_below i j l)
+element_below n i j l = compared_places n i j ∙ nat_below i j l
 
-pub members-element_list : (n k : ℕ) (z : Value) → IsMember z (element_list n k) ↔ IsElement n k z
+members-element_list : (n k : ℕ) (z : Value) → IsMember z (element_list n k) ↔ IsElement n k z
 unfolding IsElement
 members-element_list n k z = members-first (Elem n) k z
 

@@ -7,20 +7,17 @@ use Rattle.std.specs.Cmp.{int_cmp_is}
 use Rattle.std.specs.Result.{IfOk}
 use Rattle.std.specs.declared.alloc.AllocError.{AllocError}
 use Rattle.zf_value.specs.declared.TheConstants.{SET_MAX}
-use Rattle.zf_value.specs.declared.value.Value.{Value, Int, out-Value}
-use Rattle.zf_value.specs.declared.value.Value.TheOpen.{Value-F}
-use Rattle.zf_value.specs.declared.value.Value.TheVariants.{outs-Int}
+use Rattle.zf_value.specs.declared.value.Value.{Value, Int}
 use Rattle.zf_value.specs.declared.value.Outcome.{Outcome}
 use Rattle.zf_value.specs.declared.value.Outcome.TheVariants.{Out}
 use Rattle.zf_value.specs.Numbers.{number_of, IsBetweenNumbers, IsInterval}
 use Rattle.zf_value.specs.Operations.{IsDisplay}
-use Rattle.zf_value.specs.Order.{level_order}
 use Rattle.zf_value.specs.Sets.{value_order, IsMember, IsAscending, IsRegular}
 use Rattle.zf_value.proofs.Among.{every_at}
 use Rattle.zf_value.proofs.Counted.{first, members-first, ascending-first, length-first}
 use Rattle.zf_value.specs.Steps.{ListsNumbers}
 use Rattle.zf_value.proofs.Divisions.{either_way}
-use Rattle.zf_value.proofs.Exact.{cmp_is}
+use Rattle.zf_value.proofs.Compared.{compared_numbers}
 use Rattle.zf_value.proofs.Listed.{IsMade}
 use Rattle.zf_value.proofs.Making.{made, too_many}
 use Rattle.zf_value.proofs.Once.{no_longer}
@@ -32,8 +29,7 @@ abbrev pub number_list : ℤ → ℕ → List Value
 number_list a k = first (λ i. Int (a +ℤ pos i)) k
 
 number_below : (m n : ℤ) → m <ℤ n → value_order (Int m) (Int n) ≡ Less
-number_below m n l =
-    cmp_is (Int m) (Int n) ∙ ap (λ x. level_order value_order x (out-Value (Int n))) (outs-Int m) ∙ ap (level_order value_order (Value-F.Int m)) (outs-Int n) ∙ sym (int_cmp_is m n Less l)
+number_below m n l = compared_numbers m n ∙ sym (int_cmp_is m n Less l)
 
 number_rises : (a : ℤ) (i j : ℕ) → i < j → value_order (Int (a +ℤ pos i)) (Int (a +ℤ pos j)) ≡ Less
 number_rises a i j l = number_below (a +ℤ pos i) (a +ℤ pos j) (omega (arith, ints, l))

@@ -9,8 +9,7 @@ use Rattle.zf_value.specs.declared.value.Value.{Value}
 use Rattle.zf_value.specs.declared.value.Outcome.{Outcome}
 use Rattle.zf_value.specs.Operations.{pair, Relates, IsInDomain, IsInRange, IsPairOf, IsDisplay, IsUnion, IsIntersection, IsSetDifference, IsDomain, IsRange, IsInverse, IsImage, IsDomainRestriction, IsDomainSubtraction, IsRangeRestriction, IsRangeSubtraction}
 use Rattle.zf_value.specs.Sets.{IsMember, IsRegular, AreRegular, IsRegularSet, IsRegularOutcome}
-use Rattle.zf_value.specs.Steps.{IsGathered, IsPartOf, IsKept, IsSelected}
-use Rattle.zf_value.proofs.Among.{members-append}
+use Rattle.zf_value.specs.Steps.{IsGathered, IsJoined, IsPartOf, IsKept, IsSelected}
 use Rattle.zf_value.proofs.Gathered.{same_pair, gathered_push, gathered_pass}
 use Rattle.zf_value.proofs.Making.{made, made_gathered}
 use Rattle.zf_value.proofs.Regulars.{regular_member, regular-pair, regular_pair, regular_made}
@@ -32,10 +31,10 @@ regular-Union a b z h k m = ⊎_elim (λ n. regular_member a z h n) (λ n. regul
 
 -- ---- sets
 
-pub union_made : (a b all : List Value) (r : Result Outcome AllocError) → IsRegularSet a → IsRegularSet b → all ≡ a ++ b → IfOk r (IsDisplay all) → IsMade (IsUnion a b) r
-unfolding IsUnion
-union_made a b all r h k e d =
-    let is = made (λ z. IsMember z a ⊎ IsMember z b) all r (λ z. subst (λ xs. IsMember z xs ↔ (IsMember z a ⊎ IsMember z b)) (sym e) (members-append a b z)) d in
+pub union_made : (a b all : List Value) (r : Result Outcome AllocError) → IsRegularSet a → IsRegularSet b → IsJoined a b all → IfOk r (IsDisplay all) → IsMade (IsUnion a b) r
+unfolding IsUnion IsJoined
+union_made a b all r h k j d =
+    let is = made (λ z. IsMember z a ⊎ IsMember z b) all r j d in
     record { is = is; regular = regular_made _ r (λ z m. regular-Union a b z h.regular k.regular m) is }
 
 whole_kept : (keep : Keep) (a b : List Value) (w : Value) → ((z : Value) × IsMember z a × IsSelected Whole keep b Whole z w) ↔ (IsMember w a × IsKept keep b w)

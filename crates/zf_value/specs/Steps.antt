@@ -22,6 +22,10 @@ GivesJust P r = MatchOption r ((v : Value) → P v → ⊥) (λ w. (v : Value) �
 unfoldable pub IsGathered : (Value → Value → Type 0) → List Value → List Value → Type 0
 IsGathered G xs out = (w : Value) → IsMember w out ↔ ((z : Value) × IsMember z xs × G z w)
 
+-- the members of `out` are those of both lists
+unfoldable pub IsJoined : List Value → List Value → List Value → Type 0
+IsJoined a b out = (w : Value) → IsMember w out ↔ (IsMember w a ⊎ IsMember w b)
+
 -- the list is ascending, and has the numbers from the one to the other
 pub record ListsNumbers (a b : ℤ) (v : Vec Value Global) : Type 0 where
   pub ascending : IsAscending v.items

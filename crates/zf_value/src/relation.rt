@@ -197,7 +197,7 @@ fn place_beside(x: &Value, z: &Value) -> Ordering
         Value::Int(_) | Value::Elem(_, _) => Ordering::Less,
         Value::Tuple(items) => match items.as_slice() {
             [] => Ordering::Less,
-            [y, ..] => y.cmp(x),
+            [y, ..] => y.order(x),
         },
         Value::SetOf(_) => Ordering::Greater,
     }

@@ -2,6 +2,7 @@
 ghost use Rattle.std.specs.Bool.{MatchBool};
 ghost use Rattle.std.specs.Prelude.{◌≡◌, true, ◌↔◌, ◌*◌, ◌≤◌, ◌++◌, length, IsTrue, IfOk, OnOk};
 ghost use Rattle.zf_value.specs.Operations.{pair, IsPair, IsTuple, IsEmptySet, IsElement, AreElements, IsDisplay, IsUnion, IsIntersection, IsSetDifference, IsSize};
+ghost use Rattle.zf_value.specs.Steps.{IsJoined};
 ghost use Rattle.zf_value.specs.Sets.{IsMember, IsAscending, AreAmong, HaveSameMembers, IsRegular, AreRegular, IsRegularSet, IsRegularOutcome};
 
 use crate::SET_MAX;
@@ -9,6 +10,7 @@ use crate::items::Items;
 use crate::part::{Keep, Part, selected};
 use crate::value::{Outcome, Value};
 use std::alloc::{AllocError, Global};
+use std::cmp::Ordering;
 
 /// `x \mapsto y`.
 pub fn pair(alloc: Global, x: Value, y: Value) -> Result<Outcome, AllocError>
@@ -105,10 +107,8 @@ pub fn union(alloc: Global, a: &[Value], b: &[Value]) -> Result<Outcome, AllocEr
     ensures is { IfOk result (IsUnion a.now b.now) }
     ensures regular { IfOk result IsRegularOutcome }
 {
-    let mut values = Vec::with_capacity(alloc, a.len())?;
-    copy_onto(alloc, &mut values, a)?;
-    copy_onto(alloc, &mut values, b)?;
-    display(alloc, values)
+    let values = merged(alloc, a, b)?;
+    set_of(alloc, values)
 }
 
 pub fn intersection(alloc: Global, a: &[Value], b: &[Value]) -> Result<Outcome, AllocError>
@@ -157,7 +157,7 @@ pub(crate) fn is_found(z: &Value, values: &[Value]) -> bool
     requires { IsAscending values.now }
     ensures { IsTrue result ↔ IsMember z.now values.now }
 {
-    values.binary_search(z).is_ok()
+    values.binary_search_by(|y| y.order(z)).is_ok()
 }
 
 /// Sorts the values, and drops repeats.
@@ -178,11 +178,45 @@ fn is_ascending(values: &[Value]) -> bool
     ensures { result ≡ true → IsAscending values.now }
 {
     for place in 1..values.len() {
-        if !values[place - 1].cmp(&values[place]).is_lt() {
+        if !values[place - 1].order(&values[place]).is_lt() {
             return false;
         }
     }
     true
+}
+
+/// The members of both, in order.
+fn merged(alloc: Global, a: &[Value], b: &[Value]) -> Result<Vec<Value>, AllocError>
+    requires a { IsAscending a.now }
+    requires b { IsAscending b.now }
+    ensures ascending { IfOk result (λ v. IsAscending v.items) }
+    ensures joined { IfOk result (λ v. IsJoined a.now b.now v.items) }
+{
+    let mut values = Vec::with_capacity(alloc, a.len() + b.len())?;
+    let mut i = 0;
+    let mut j = 0;
+    while i < a.len() && j < b.len() {
+        let x = &a[i];
+        let y = &b[j];
+        match x.order(y) {
+            Ordering::Less => {
+                values.push(x.copy(alloc)?)?;
+                i += 1;
+            }
+            Ordering::Equal => {
+                values.push(x.copy(alloc)?)?;
+                i += 1;
+                j += 1;
+            }
+            Ordering::Greater => {
+                values.push(y.copy(alloc)?)?;
+                j += 1;
+            }
+        }
+    }
+    copy_onto(alloc, &mut values, &a[i..])?;
+    copy_onto(alloc, &mut values, &b[j..])?;
+    Ok(values)
 }
 
 /// The set of these members.
