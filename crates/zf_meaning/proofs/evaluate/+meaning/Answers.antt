@@ -468,22 +468,22 @@ figures::deep_figure-returns-in-Bracket g t c =
     (λ f h. bracket-figure scope i.field-0 (resolved_of c.get.result.now) (resolved_of c.args.term.now) f (ap resolved_of i.is ∙ of-Bracket i.field-0 i.inner ∙ ap (λ z. tree.bracket i.field-0 (resolved_of z)) (sym c.get.ensures)) h)
     c.figure.ensures
 
-pub figures::deep_figure-returns-in-Some : goal.figures::deep_figure-returns-in-Some
-figures::deep_figure-returns-in-Some g t c =
+pub figures::deep_figure-returns-in_ok-y-in-Some : goal.figures::deep_figure-returns-in_ok-y-in-Some
+figures::deep_figure-returns-in_ok-y-in-Some g t c =
     let i = c.in-Binary in
-    binary-figure (scope_of c.args.env.now (g.R.Row.values c.args.row.now) c.args.locals.now) i.field-0 i.op (resolved_of c.get-x.result.now) (resolved_of c.get-y.result.now) (resolved_of c.args.term.now) c.in-Some.arithmetic c.in_ok-x.x c.in_ok-y.y c.calculated.result
-    (ap resolved_of i.is ∙ of-Binary i.field-0 i.op i.left i.right ∙ ap (λ z. tree.binary i.field-0 i.op (resolved_of z) (resolved_of i.right)) (sym c.get-x.ensures) ∙ ap (λ z. tree.binary i.field-0 i.op (resolved_of c.get-x.result.now) (resolved_of z)) (sym c.get-y.ensures))
-    c.in-Some.ensures c.in_ok-x.ensures c.in_ok-y.ensures c.calculated.ensures
+    binary-figure (scope_of c.args.env.now (g.R.Row.values c.args.row.now) c.args.locals.now) i.field-0 i.op (resolved_of c.get-in-Some.result.now) (resolved_of c.get-in-Some-2.result.now) (resolved_of c.args.term.now) c.in-Some.arithmetic c.in_ok-x-in-Some.x c.in_ok-y-in-Some.y c.calculated.result
+    (ap resolved_of i.is ∙ of-Binary i.field-0 i.op i.left i.right ∙ ap (λ z. tree.binary i.field-0 i.op (resolved_of z) (resolved_of i.right)) (sym c.get-in-Some.ensures) ∙ ap (λ z. tree.binary i.field-0 i.op (resolved_of c.get-in-Some.result.now) (resolved_of z)) (sym c.get-in-Some-2.ensures))
+    c.in-Some.ensures c.in_ok-x-in-Some.ensures c.in_ok-y-in-Some.ensures c.calculated.ensures
 
-pub figures::worked_out-returns-in_ok-outcome : goal.figures::worked_out-returns-in_ok-outcome
-figures::worked_out-returns-in_ok-outcome g t c =
+pub figures::worked_out-returns : goal.figures::worked_out-returns
+figures::worked_out-returns g t c =
     outcome-figure (scope_of c.args.env.now (g.R.Row.values c.args.row.now) c.args.locals.now) (resolved_of c.args.term.now) (found_outcome c.in_ok-outcome.field-0) c.of.result c.in_ok-outcome.ensures.is c.of.ensures
 
 pub figures::told_by_figures-returns : goal.figures::told_by_figures-returns
 figures::told_by_figures-returns g t c =
     let i = c.in-Chain in
-    let k = c.index-links.result in
-    chain-figures (scope_of c.args.env.now (g.R.Row.values c.args.row.now) c.args.locals.now) (resolved_of c.args.term.now) i.field-0 i.first c.get-x.result.now i.links c.as_slice-links.result.now k c.in_ok-x.x c.in_ok-y.y c.related.result (ap resolved_of i.is ∙ of-Chain i.field-0 i.first i.links) c.get-x.ensures c.as_slice-links.ensures (omega arith) c.index-links.is (c.is_between_numbers.ensures c.if-not.false) c.in_ok-x.ensures c.in_ok-y.ensures c.related.ensures
+    let k = c.index-links-0.result in
+    chain-figures (scope_of c.args.env.now (g.R.Row.values c.args.row.now) c.args.locals.now) (resolved_of c.args.term.now) i.field-0 i.first c.get-2.result.now i.links c.as_slice-links.result.now k c.in_ok-x.x c.in_ok-y.y c.related.result (ap resolved_of i.is ∙ of-Chain i.field-0 i.first i.links) c.get-2.ensures c.as_slice-links.ensures (omega arith) c.index-links-0.is (c.is_between_numbers.ensures c.if-not-is_between_numbers.false) c.in_ok-x.ensures c.in_ok-y.ensures c.related.ensures
 
 pub operands::binary-returns-in-Some-clause-is : goal.operands::binary-returns-in-Some-clause-is
 operands::binary-returns-in-Some-clause-is g t c =
