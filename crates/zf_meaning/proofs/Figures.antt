@@ -1,5 +1,5 @@
 -- What figures tell of the outcomes that have them.
-use Rattle.std.proofs.Common.{◌≡◌, ◌↔◌, ◌⊎◌, inl, inr, ℕ, ℤ, Bool, true, false, not, if◌then◌else◌, List, [], ◌∷◌, length, map, get_or, Option, Some, None, refl, sym, ap, ◌∙◌, subst, arith, IsTrue, to_z, of_z, w64}
+use Rattle.std.proofs.Common.{◌≡◌, ◌↔◌, inl, inr, ℕ, ℤ, Bool, true, false, not, if◌then◌else◌, List, [], ◌∷◌, length, map, get_or, Option, Some, None, refl, sym, ap, ◌∙◌, subst, arith, IsTrue, to_z, of_z, w64}
 use Rattle.std.specs.Prelude.{◌≤ℤ◌, ◌<ℤ◌}
 use Rattle.std.specs.Int.Signed.{lt_z, le_z}
 use Rattle.std.specs.Option.{IfSome}
@@ -34,7 +34,7 @@ use Rattle.zf_meaning.specs.declared.figure.Arithmetic.TheVariants.{Sum, Differe
 use Rattle.zf_meaning.specs.Arithmetic.{NumbersOutcome}
 use Rattle.zf_meaning.specs.Connected.{conjunction}
 use Rattle.zf_meaning.specs.Environments.{Context, outcome_in}
-use Rattle.zf_meaning.specs.Figures.{figure_by, figure_of, figure_of_value, outcome_of, out_or_undefined, out_or_false, infix_of, HasFigure, IsOnFigures, AreRelated}
+use Rattle.zf_meaning.specs.Figures.{figure_by, figure_of, outcome_of, out_or_undefined, out_or_false, infix_of, HasFigure, IsOnFigures, AreRelated}
 use Rattle.zf_meaning.specs.Meaning.{HasOutcome, IsTruth, IsLink, infinite_right}
 use Rattle.zf_meaning.specs.Outcomes.{OnBoth}
 use Rattle.zf_meaning.specs.Symbols.{BinaryOutcome, InfixOutcome, Compares, Holds}

@@ -4,7 +4,7 @@ use Rattle.zf_term.specs.ResolvedTrees.{resolved_of, part_of}
 use Rattle.zf_term.specs.ResolvedTrees as tree
 use Rattle.zf_term.proofs.ResolvedSeen.{of-Name, of-Bracket, of-Unary, of-Binary, of-Listed, of-Chain}
 use Rattle.std.specs.Result.{IfOk}
-use Rattle.std.proofs.Common.{true, false, rules, arith, ◌≤◌}
+use Rattle.std.proofs.Common.{false, rules, arith, ◌≤◌}
 use Rattle.zf_value.specs.declared.value.Outcome.TheVariants as outcome
 use Rattle.zf_value.specs.declared.value.Truth.TheVariants.{Out}
 use Rattle.zf_value.specs.Operations.{AreFrom, IsDisplay, IsEmptySet}

@@ -1,4 +1,4 @@
-use Rattle.std.proofs.Common.{◌≡◌, sym, subst}
+use Rattle.std.proofs.Common.{sym, subst}
 use Rattle.zf_meaning.specs.declared.figure.Figure.TheVariants as figure
 use Rattle.zf_meaning.specs.Figures.{IsOnFigures}
 use Rattle.zf_meaning.proofs.Figures.{on-number-other, on-number-undefined, on-number-out, on-other, on-undefined, on-out}

@@ -1,4 +1,4 @@
-use Rattle.std.proofs.Common.{◌≡◌, sym, subst}
+use Rattle.std.proofs.Common.{sym, subst}
 use Rattle.zf_value.specs.declared.value.Truth.TheVariants as truth
 use Rattle.zf_meaning.specs.declared.figure.Figure.TheVariants as figure
 use Rattle.zf_meaning.specs.Figures.{AreRelated}
