@@ -146,8 +146,11 @@ infix-none-right Modulus v w h = none-right IsModulus (number_of v) w h
 
 pub on-number-other : (s : Arithmetic) (a : ℤ) → IsOnFigures s (Number a) Other Undefined
 unfolding IsOnFigures
-on-number-other s a = (refl, λ p q j k. let w = is-other q k in
-    subst (λ x. OnBoth x q (BinaryOutcome (Function (infix_of s))) outcome.Undefined) (sym (is-number p a j)) (subst (λ y. OnBoth (outcome.Is (Int a)) y (BinaryOutcome (Function (infix_of s))) outcome.Undefined) (sym w.1) (infix-none-right s (Int a) w.0 w.2)))
+on-number-other s a = (
+  refl,
+  λ p q j k. let w = is-other q k in
+      subst (λ x. OnBoth x q (BinaryOutcome (Function (infix_of s))) outcome.Undefined) (sym (is-number p a j)) (subst (λ y. OnBoth (outcome.Is (Int a)) y (BinaryOutcome (Function (infix_of s))) outcome.Undefined) (sym w.1) (infix-none-right s (Int a) w.0 w.2)),
+)
 
 pub on-number-undefined : (s : Arithmetic) (a : ℤ) → IsOnFigures s (Number a) Undefined Undefined
 unfolding IsOnFigures
@@ -183,13 +186,19 @@ undefined-on P outcome.Out = refl
 
 pub on-other : (s : Arithmetic) (y f : Figure) → f ≡ out_or_undefined y → IsOnFigures s Other y f
 unfolding IsOnFigures
-on-other s y f e = (subst (λ g. figure_of (outcome_of g) ≡ g) (sym e) (same-figure y), λ p q j k. let v = is-other p j in
-    subst (λ x. OnBoth x q (BinaryOutcome (Function (infix_of s))) (outcome_of f)) (sym v.1) (subst (λ g. OnBoth (outcome.Is v.0) q (BinaryOutcome (Function (infix_of s))) (outcome_of g)) (ap out_or_undefined k ∙ sym e) (other-on s v.0 q v.2)))
+on-other s y f e = (
+  subst (λ g. figure_of (outcome_of g) ≡ g) (sym e) (same-figure y),
+  λ p q j k. let v = is-other p j in
+      subst (λ x. OnBoth x q (BinaryOutcome (Function (infix_of s))) (outcome_of f)) (sym v.1) (subst (λ g. OnBoth (outcome.Is v.0) q (BinaryOutcome (Function (infix_of s))) (outcome_of g)) (ap out_or_undefined k ∙ sym e) (other-on s v.0 q v.2)),
+)
 
 pub on-undefined : (s : Arithmetic) (y f : Figure) → f ≡ out_or_undefined y → IsOnFigures s Undefined y f
 unfolding IsOnFigures
-on-undefined s y f e = (subst (λ g. figure_of (outcome_of g) ≡ g) (sym e) (same-figure y), λ p q j k.
-    subst (λ x. OnBoth x q (BinaryOutcome (Function (infix_of s))) (outcome_of f)) (sym (is-undefined p j)) (subst (λ g. OnBoth outcome.Undefined q (BinaryOutcome (Function (infix_of s))) (outcome_of g)) (ap out_or_undefined k ∙ sym e) (undefined-on (BinaryOutcome (Function (infix_of s))) q)))
+on-undefined s y f e = (
+  subst (λ g. figure_of (outcome_of g) ≡ g) (sym e) (same-figure y),
+  λ p q j k.
+      subst (λ x. OnBoth x q (BinaryOutcome (Function (infix_of s))) (outcome_of f)) (sym (is-undefined p j)) (subst (λ g. OnBoth outcome.Undefined q (BinaryOutcome (Function (infix_of s))) (outcome_of g)) (ap out_or_undefined k ∙ sym e) (undefined-on (BinaryOutcome (Function (infix_of s))) q)),
+)
 
 -- ---- what relations say
 

@@ -13,8 +13,8 @@ ghost use Rattle.zf_meaning.specs.Forms.{IsChain};
 ghost use Rattle.zf_meaning.specs.Meaning as spec;
 ghost use Rattle.zf_meaning.specs.Scopes.{scope_of, IsRegularScope};
 
-use super::memberships::described;
 use super::figures::told_by_figures;
+use super::memberships::described;
 use super::outcome;
 use crate::connected::conjunction;
 use crate::described::membership;
