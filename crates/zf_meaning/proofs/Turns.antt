@@ -1,6 +1,5 @@
 -- One turn of a walk over rows, for a quantifier and for a builder.
-use Rattle.std.proofs.Common.{◌≡◌, ◌<◌, Bool, true, false, List, [], ◌∷◌, length, ap, subst, arith}
-use Rattle.std.specs.Bool.{MatchBool}
+use Rattle.std.proofs.Common.{◌≡◌, ℕ, ◌<◌, Bool, true, false, List, [], ◌∷◌, length, ap, subst, arith}
 use Rattle.zf_scan.specs.declared.token.Quantifier.{Quantifier}
 use Rattle.zf_term.specs.ResolvedTrees.{ResolvedTree, ResolvedPart}
 use Rattle.zf_value.specs.declared.value.Value.{Value}
@@ -9,23 +8,16 @@ use Rattle.zf_meaning.specs.declared.rows.Rows.{Rows}
 use Rattle.zf_meaning.specs.Building.{AddsRow}
 use Rattle.zf_meaning.specs.Environments.{Context, within}
 use Rattle.zf_meaning.specs.Meaning.{IsConstraint, IsTruth, Builds}
-use Rattle.zf_meaning.specs.Rowed.{ahead, IsNext}
+use Rattle.zf_meaning.specs.Rowed.{lists_of, ahead, IsAt, IsNext}
 use Rattle.zf_meaning.specs.Truths.{IsTold}
 use Rattle.zf_meaning.proofs.Builds.{IsSingle, HasBuilt, built-more}
+use Rattle.zf_meaning.proofs.PassedRows.{after-fewer}
 use Rattle.zf_meaning.proofs.Told.{EachOne}
 use Rattle.zf_meaning.proofs.Unique.{one_constraint, one_build, one_truth, one_told_of}
 use Rattle.zf_meaning.proofs.Walking.{FilterIn, TermIn, ToldIn}
 
-pub moved : (outside : List Value) (old new : Rows) (b : Bool) → b ≡ true → MatchBool b (IsNext outside old new) (ahead old ≡ []) → IsNext outside old new
-moved outside old new true e h = h
-moved outside old new false e h = absurd (cc)
-
-pub stuck : (outside : List Value) (old new : Rows) (b : Bool) → b ≡ false → MatchBool b (IsNext outside old new) (ahead old ≡ []) → ahead old ≡ []
-stuck outside old new false e h = h
-stuck outside old new true e h = absurd (cc)
-
-pub fewer : (outside : List Value) (old new : Rows) → IsNext outside old new → length (ahead new) < length (ahead old)
-fewer outside old new n = omega (arith, ap length n.2)
+pub fewer : (outside : List Value) (front : ℕ) (old new : Rows) → IsAt old outside → IsNext outside front old new → length (ahead new) < length (ahead old)
+fewer outside front old new a n = omega (arith, ap length n.2, after-fewer (lists_of old) old.places.items front a.0)
 
 pub adds-here : (d c : Context) (vs ws : List Value) (p e : ResolvedPart) (old new : List Value) (a b : Bool) → d ≡ within c vs → ws ≡ vs → a ≡ b → AddsRow (λ u. IsConstraint d p u) (λ x. Builds d ws e x) old new a → AddsRow (FilterIn c p vs) (TermIn c e vs) old new b
 adds-here d c vs ws p e old new a b s w t h =
