@@ -1,5 +1,5 @@
 -- Parts of a binder that tell that rows do not count.
-use Rattle.std.proofs.Common.{◌≡◌, ◌⊎◌, ℕ, ◌+◌, ◌<◌, ◌≤◌, List, [], ◌∷◌, ◌++◌, Option, Some, None, length, map, take, refl, sym, ap, ◌∙◌, subst, inl, inr, arith}
+use Rattle.std.proofs.Common.{◌≡◌, ◌⊎◌, ℕ, suc, ◌+◌, ◌<◌, ◌≤◌, List, [], ◌∷◌, ◌++◌, Option, Some, None, length, map, take, refl, sym, ap, ◌∙◌, subst, inl, inr, arith}
 use Rattle.std.proofs.lemmas.List.{take_all}
 use Rattle.zf_scan.specs.declared.token.Connective.TheVariants.{And}
 use Rattle.zf_scan.specs.declared.token.Quantifier.{Quantifier}
@@ -99,14 +99,12 @@ unfolding ArePassed
 itself-passed whole span here c row b =
     λ vs l e. inl (sym (take_all span.whole vs (omega (arith, l, b.whole))) ∙ e ∙ take_all span.whole row (omega (arith, b.whole)))
 
-same_lengths : (ss vs ws : List Value) → AreFrom vs ss → AreFrom ws ss → length vs ≡ length ws
-same_lengths [] [] [] h k = refl
-same_lengths [] [] (w ∷ ws) h k = absurd k
-same_lengths [] (v ∷ vs) ws h k = absurd h
-same_lengths (s ∷ ss) [] ws h k = absurd h
-same_lengths (s ∷ ss) (v ∷ vs) [] h k = absurd k
-same_lengths (s ∷ ss) (v ∷ vs) (w ∷ ws) h k = ap (λ n. n + 1) (same_lengths ss vs ws h.1 k.1)
+pub from_length : (ss vs : List Value) → AreFrom vs ss → length vs ≡ length ss
+from_length [] [] h = refl
+from_length [] (v ∷ vs) h = absurd h
+from_length (s ∷ ss) [] h = absurd h
+from_length (s ∷ ss) (v ∷ vs) h = ap suc (from_length ss vs h.1)
 
 pub may-pass : (whole : ResolvedTree) (c : Context) (ss row : List Value) (front : ℕ) → AreFrom row ss → ArePassed whole c row front → MayPass (λ vs. IsNeutral whole (within c vs)) ss row front
 unfolding ArePassed
-may-pass whole c ss row front r h = λ vs k e. h vs (same_lengths ss vs row k r) e
+may-pass whole c ss row front r h = λ vs k e. h vs (from_length ss vs k ∙ sym (from_length ss row r)) e

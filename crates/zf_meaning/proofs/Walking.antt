@@ -1,7 +1,8 @@
 -- A walk over the rows of sets, with what it binds.
 use Rattle.std.proofs.Common.{◌≡◌, ◌⊎◌, ℕ, List, [], ◌∷◌, ◌++◌, length, map, take, drop, refl, sym, ap, ◌∙◌, subst, inl, inr, ⊎_elim, ◌≤◌, arith, length-append}
 use denote.Bor.{Bor}
-use Rattle.zf_term.specs.ResolvedTrees.{ResolvedTree, ResolvedPart}
+use Rattle.zf_term.specs.declared.resolved.Resolved.{Resolved}
+use Rattle.zf_term.specs.ResolvedTrees.{ResolvedTree, ResolvedPart, resolved_of}
 use Rattle.zf_scan.specs.declared.token.Quantifier.{Quantifier}
 use Rattle.zf_value.specs.declared.value.Value.{Value}
 use Rattle.zf_value.specs.declared.value.Outcome.{Outcome}
@@ -10,6 +11,7 @@ use Rattle.zf_value.specs.Operations.{AreFrom}
 use Rattle.zf_value.specs.Sets.{AreRegular, members}
 use Rattle.zf_meaning.specs.declared.env.Env.{Env}
 use Rattle.zf_meaning.specs.declared.rows.Rows.{Rows}
+use Rattle.zf_meaning.specs.Early.{IsNeutral}
 use Rattle.zf_meaning.specs.Environments.{Context, within}
 use Rattle.zf_meaning.specs.Meaning.{IsConstraint, IsTruth, Builds}
 use Rattle.zf_meaning.specs.Places.{seen, all_rows}
@@ -103,6 +105,10 @@ TermIn c e = λ vs x. Builds (within c vs) vs e x
 
 abbrev pub ToldIn : Context → Quantifier → ResolvedPart → ResolvedTree → List Value → Truth → Type 0
 ToldIn c q p e = λ vs w. IsTold q (λ a. IsConstraint (within c vs) p a) (λ b. IsTruth (within c vs) e b) w
+
+-- what may be passed: rows that do not count for this binder
+abbrev pub NeutralIn : Resolved → Context → List Value → Type 0
+NeutralIn d c = λ vs. IsNeutral (resolved_of d) (within c vs)
 
 pub outside-bound : (locals bound : List (Bor Value)) (vs : List Value) → seen bound ≡ seen locals ++ vs → length locals ≤ length bound
 outside-bound locals bound vs e = omega (arith, ap length e, length-append (seen locals) vs, seen-length locals, seen-length bound)
