@@ -166,8 +166,11 @@ fn refuted<'v, 'a, R: Row>(
         → IfOk result (AreNeutralIf (resolved_of term.now) c vs) }
 {
     for piece in pieces {
-        if piece.front >= anew && is_false(truth(piece.term, row, bound, env)?) {
-            return Ok(Some(piece.front));
+        if piece.front >= anew {
+            let told = truth(piece.term, row, bound, env)?;
+            if is_false(told) {
+                return Ok(Some(piece.front));
+            }
         }
     }
     Ok(None)
