@@ -1,6 +1,8 @@
 -- Parts of a binder that tell that rows do not count.
 use Rattle.std.proofs.Common.{◌≡◌, ◌⊎◌, ℕ, suc, ◌+◌, ◌<◌, ◌≤◌, List, [], ◌∷◌, ◌++◌, Option, Some, None, length, map, take, refl, sym, ap, ◌∙◌, subst, inl, inr, arith}
+use Rattle.std.specs.List.{All}
 use Rattle.std.proofs.lemmas.List.{take_all}
+use Rattle.std.proofs.lemmas.List.Elements.{All-push}
 use Rattle.zf_scan.specs.declared.token.Connective.TheVariants.{And}
 use Rattle.zf_scan.specs.declared.token.Quantifier.{Quantifier}
 use Rattle.zf_scan.specs.declared.token.Quantifier.TheVariants.{ForAll, Exists, ExistsOne}
@@ -72,6 +74,9 @@ left-refutes d l a b whole i r = λ c h. r c (subst (λ t. IsTruth c t False) (s
 pub right-refutes : (d : Resolved) (l : ℕ) (a b : Resolved) (whole : ResolvedTree) → d ≡ v.Binary l (Connective And) a b → Refutes (resolved_of d) whole → Refutes (resolved_of b) whole
 unfolding Refutes
 right-refutes d l a b whole i r = λ c h. r c (subst (λ t. IsTruth c t False) (sym (ap resolved_of i ∙ of-Binary l (Connective And) a b)) (inr h))
+
+pub one-piece-more : (whole : Resolved) (span : Span) (piece : Piece) (old new : List Piece) → new ≡ old ++ piece ∷ [] → IsPiece whole span piece → All (IsPiece whole span) old → All (IsPiece whole span) new
+one-piece-more whole span piece old new e p h = subst (All (IsPiece whole span)) (sym e) (All-push (IsPiece whole span) old piece h p)
 
 -- ---- rows that begin with the same values
 

@@ -24,7 +24,7 @@ ghost use Rattle.zf_meaning.specs.Scopes.{scope_of, IsRegularScope};
 ghost use Rattle.zf_meaning.specs.Truths.{IsTold, IsOver};
 
 use super::chains::is_false;
-use super::early::{Piece, Span, neutral, pieces_of};
+use super::early::{Piece, Span, neutral, pieces_of, span_of};
 use super::ranges::{Spread, declared_sets, lists_of};
 use super::{empty_set, outcome, truth};
 use crate::connected::{connected, connective_of, decided};
@@ -87,13 +87,10 @@ fn over_rows<'v, 'a, R: Row>(
     let Some(mut rows) = Rows::first(alloc, locals, lists_of(alloc, sets)?)? else {
         return Ok(tally.truth(*quantifier));
     };
-    let span = Span {
-        outside: locals.len(),
-        whole: rows.bound().len(),
-    };
+    let span = span_of(locals, &rows);
     let pieces = pieces_of(alloc, term, span, &rows)?;
     let mut anew = 0;
-    loop {
+    'walk: loop {
         let met = met_at(term, span, &pieces, anew, &*row, rows.bound(), &*env)?;
         tally = tally.with(met.truth);
         if tally.is_settled(*quantifier) {
@@ -264,13 +261,10 @@ fn built_over<'v, 'a, R: Row>(
     let Some(mut rows) = Rows::first(alloc, locals, lists_of(alloc, sets)?)? else {
         return set::display(alloc, built);
     };
-    let span = Span {
-        outside: locals.len(),
-        whole: rows.bound().len(),
-    };
+    let span = span_of(locals, &rows);
     let pieces = pieces_of(alloc, term, span, &rows)?;
     let mut anew = 0;
-    loop {
+    'walk: loop {
         let Some(front) = built_at(term, span, &pieces, anew, &mut built, &*row, rows.bound(), &*env)? else {
             return Ok(Outcome::Out);
         };

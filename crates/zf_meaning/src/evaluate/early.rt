@@ -1,5 +1,5 @@
 //! What of a binder tells that rows do not count before all its variables are bound: parts of what has to hold, each with the variables that it needs.
-ghost use Rattle.std.specs.Prelude.{◌≡◌, ◌<◌, ◌≤◌, ◌+◌, IfOk, OnOk, Some};
+ghost use Rattle.std.specs.Prelude.{◌≡◌, ◌<◌, ◌≤◌, ◌+◌, IfOk, OnOk, Some, length};
 ghost use Rattle.std.specs.List.{All};
 ghost use Rattle.zf_term.specs.declared.resolved.Resolved as resolved;
 ghost use Rattle.zf_term.specs.declared.resolved.Resolved.{size-Resolved};
@@ -14,7 +14,7 @@ use std::alloc::{AllocError, Global};
 use zf_scan::token::{Connective, Quantifier};
 use zf_term::operator::Operator;
 use zf_term::resolved::Resolved;
-use zf_value::value::Truth;
+use zf_value::value::{Truth, Value};
 
 /// A part of what has to hold for a row to count, and how many first variables it needs.
 #[derive(Drop)]
@@ -30,6 +30,17 @@ pub(crate) struct Span {
     pub whole: usize,
 }
 
+/// How many variables are bound at a row, behind those outside.
+pub(super) fn span_of(outside: &[&Value], rows: &Rows<'_>) -> Span
+    ensures outside { result.outside ≡ length outside.now }
+    ensures whole { result.whole ≡ length rows.now.bound.items }
+{
+    Span {
+        outside: outside.len(),
+        whole: rows.bound().len(),
+    }
+}
+
 /// The parts that need the first variables alone, of a binder that has many rows.
 pub(super) fn pieces_of<'t, 'a>(
     alloc: Global,
@@ -40,9 +51,10 @@ pub(super) fn pieces_of<'t, 'a>(
     ensures { IfOk result (λ pieces. All (IsPiece term.now span) pieces.items) }
 {
     let mut pieces = Vec::new(alloc);
-    if rows.are_many() {
-        add_parts(term, span, &mut pieces)?;
+    if !rows.are_many() {
+        return Ok(pieces);
     }
+    add_parts(term, span, &mut pieces)?;
     Ok(pieces)
 }
 
@@ -54,22 +66,60 @@ fn add_parts<'t, 'a>(
 ) -> Result<(), AllocError>
     ensures { All (IsPiece term.now span) pieces.old.items → OnOk result (All (IsPiece term.now span) pieces.new.items) }
 {
-    match term {
-        Resolved::Builder(_, _, filter, _) => match filter.get() {
-            None => Ok(()),
-            Some(part) => add_conjuncts(part.get(), term, span, pieces),
-        },
-        Resolved::Quantified(quantifier, _, _, constraint, body) => {
-            if let Some(part) = constraint.get() {
-                add_conjuncts(part.get(), term, span, pieces)?;
-            }
-            match quantifier {
-                Quantifier::ForAll => Ok(()),
-                Quantifier::Exists => add_conjuncts(body.get(), term, span, pieces),
-                Quantifier::ExistsOne => add_conjuncts(body.get(), term, span, pieces),
-            }
-        }
-        _ => Ok(()),
+    add_filter(term, span, pieces)?;
+    add_constraint(term, span, pieces)?;
+    add_body(term, span, pieces)
+}
+
+/// Adds the parts of a builder's filter.
+fn add_filter<'t, 'a>(
+    term: &'t Resolved<'a>,
+    span: Span,
+    pieces: &mut Vec<Piece<'t, 'a>>,
+) -> Result<(), AllocError>
+    ensures { All (IsPiece term.now span) pieces.old.items → OnOk result (All (IsPiece term.now span) pieces.new.items) }
+{
+    let Resolved::Builder(_, _, filter, _) = term else {
+        return Ok(());
+    };
+    match filter.get() {
+        None => Ok(()),
+        Some(part) => add_conjuncts(part.get(), term, span, pieces),
+    }
+}
+
+/// Adds the parts of a quantifier's constraint.
+fn add_constraint<'t, 'a>(
+    term: &'t Resolved<'a>,
+    span: Span,
+    pieces: &mut Vec<Piece<'t, 'a>>,
+) -> Result<(), AllocError>
+    ensures { All (IsPiece term.now span) pieces.old.items → OnOk result (All (IsPiece term.now span) pieces.new.items) }
+{
+    let Resolved::Quantified(_, _, _, constraint, _) = term else {
+        return Ok(());
+    };
+    match constraint.get() {
+        None => Ok(()),
+        Some(part) => add_conjuncts(part.get(), term, span, pieces),
+    }
+}
+
+/// Adds the parts of a quantifier's body, where each has to hold.
+fn add_body<'t, 'a>(
+    term: &'t Resolved<'a>,
+    span: Span,
+    pieces: &mut Vec<Piece<'t, 'a>>,
+) -> Result<(), AllocError>
+    ensures { All (IsPiece term.now span) pieces.old.items → OnOk result (All (IsPiece term.now span) pieces.new.items) }
+{
+    let Resolved::Quantified(quantifier, _, _, _, body) = term else {
+        return Ok(());
+    };
+    match quantifier {
+        Quantifier::ForAll => Ok(()),
+        Quantifier::Exists => add_conjuncts(body.get(), term, span, pieces),
+        Quantifier::ExistsOne => add_conjuncts(body.get(), term, span, pieces),
     }
 }
 
@@ -104,10 +154,11 @@ fn add<'t, 'a>(
     ensures { (whole : resolved.Resolved) → Refutes (resolved_of term.now) (resolved_of whole) → size-Resolved term.now < size-Resolved whole → All (IsPiece whole span) pieces.old.items → OnOk result (All (IsPiece whole span) pieces.new.items) }
 {
     let last = last_local(term, span.whole);
-    if last < span.whole {
-        let front = last.saturating_sub(span.outside);
-        pieces.push(Piece { term, front })?;
+    if last >= span.whole {
+        return Ok(());
     }
+    let front = last.saturating_sub(span.outside);
+    pieces.push(Piece { term, front })?;
     Ok(())
 }
 
