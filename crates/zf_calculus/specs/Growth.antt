@@ -1,10 +1,10 @@
 -- A schema that grows within the limits, and what stops it.
 use Rattle.std.specs.Prelude.{◌≡◌, ◌⊎◌, ℕ, ◌+◌, ◌≤◌, ◌++◌, List, [], ◌∷◌, fold, length, map, Option, Some, None}
 use Rattle.std.specs.List.{sum_by}
-use Rattle.zf_scan.specs.declared.token.Relation.TheVariants.{Equal, Member}
-use Rattle.zf_scan.specs.declared.token.Connective.TheVariants.{And, Or}
+use Rattle.zf_tree.specs.declared.symbol.Relation.TheVariants.{Equal, Member}
+use Rattle.zf_tree.specs.declared.symbol.Connective.TheVariants.{And, Or}
 use Rattle.zf_term.specs.FirstNamed.{first_named}
-use Rattle.zf_term.specs.declared.operator.Operator.TheVariants.{Connective}
+use Rattle.zf_tree.specs.declared.operator.Operator.TheVariants.{Connective}
 use Rattle.zf_term.specs.declared.globals.Component.{Component}
 use Rattle.zf_term.specs.declared.globals.Domain.{Domain}
 use Rattle.zf_reference.specs.declared.reference.Reference.TheVariants as place
@@ -22,10 +22,10 @@ use Rattle.zf_calculus.specs.declared.stop.Stop.{Stop}
 use Rattle.zf_calculus.specs.declared.stop.Stop.TheVariants.{Clash, TooLarge, OutOfMemory}
 use Rattle.zf_calculus.specs.Calculus as calculus
 use Rattle.zf_calculus.specs.Calculus.{Agree, Agrees, with_comp, with_comps}
-use Rattle.zf_text.specs.declared.tree.Name.{Name}
-use Rattle.zf_text.specs.Trees.{Tree, DeclTree}
+use Rattle.zf_tree.specs.declared.tree.Name.{Name}
+use Rattle.zf_tree.specs.Trees.{Tree, DeclTree}
 use Rattle.zf_term.specs.Types.{Ty}
-use Rattle.zf_term.specs.declared.operator.Need.TheVariants as need
+use Rattle.zf_tree.specs.declared.operator.Need.TheVariants as need
 use Rattle.zf_type.specs.Offences.{Offends}
 use Rattle.zf_type.specs.Scopes.{Scope, spelling}
 use Rattle.zf_calculus.specs.Expressions.{inside}

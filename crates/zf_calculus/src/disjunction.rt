@@ -23,11 +23,11 @@ use bumpalo::Bump;
 use std::alloc::AllocError;
 use zf_data::arena::{Boxed, Items, Shared};
 use zf_reference::reference::Reference;
-use zf_scan::token::{Connective, Constant, Relation};
 use zf_term::conjunct::{Conjunct, Statement};
 use zf_term::globals::{Component, Domain, Domains, Flat};
-use zf_term::operator::Operator;
 use zf_term::resolved::{Resolved, ResolvedLink};
+use zf_tree::operator::Operator;
+use zf_tree::symbol::{Connective, Constant, Relation};
 use zf_type::scope::component_of;
 
 /// The components of the left side, and those of the right side that are new.

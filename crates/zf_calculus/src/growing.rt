@@ -21,10 +21,10 @@ use bumpalo::Bump;
 use std::alloc::AllocError;
 use zf_data::arena::{Boxed, Items, Lasting};
 use zf_reference::reference::Reference;
-use zf_scan::token::Relation;
 use zf_term::conjunct::{Conjunct, Statement};
 use zf_term::globals::{Component, Flat};
 use zf_term::resolved::{Resolved, ResolvedLink};
+use zf_tree::symbol::Relation;
 
 /// A schema, with what is left of the limits, so that each step costs only what it adds.
 #[derive(Drop)]

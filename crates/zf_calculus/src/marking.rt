@@ -19,7 +19,7 @@ use std::mem::ManuallyDrop;
 use zf_data::arena::{Items, Lasting, Lent};
 use zf_term::conjunct::Conjunct;
 use zf_term::globals::{Component, Flat};
-use zf_text::tree::RefMark;
+use zf_tree::tree::RefMark;
 
 /// The schema as it is marked: itself, or it and its state after an operation, and then that no component changes.
 pub fn marked<'a>(

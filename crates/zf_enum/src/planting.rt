@@ -10,11 +10,11 @@ use crate::fixing::fixing;
 use bumpalo::Bump;
 use std::alloc::{AllocError, Global};
 use zf_plan::Forest;
-use zf_scan::token::Connective;
 use zf_term::conjunct::Conjunct;
 use zf_term::globals::Flat;
-use zf_term::operator::{Operator, Unary};
 use zf_term::resolved::Resolved;
+use zf_tree::operator::{Operator, Unary};
+use zf_tree::symbol::Connective;
 
 /// The parts of predicates that are no connectives, and the trees over them that are the predicates.
 #[derive(Drop)]

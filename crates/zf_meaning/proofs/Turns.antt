@@ -1,7 +1,7 @@
 -- One turn of a walk over rows, for a quantifier and for a builder.
 use Rattle.std.proofs.Common.{◌≡◌, ◌<◌, Bool, true, false, List, [], ◌∷◌, length, ap, subst, arith}
 use Rattle.std.specs.Bool.{MatchBool}
-use Rattle.zf_scan.specs.declared.token.Quantifier.{Quantifier}
+use Rattle.zf_tree.specs.declared.symbol.Quantifier.{Quantifier}
 use Rattle.zf_term.specs.ResolvedTrees.{ResolvedTree, ResolvedPart}
 use Rattle.zf_value.specs.declared.value.Value.{Value}
 use Rattle.zf_value.specs.declared.value.Truth.{Truth}

@@ -25,7 +25,7 @@ use zf_families::injection::{
     are_partial_injections_out, are_total_injections_out, is_partial_injection, is_total_injection,
 };
 use zf_families::power::{is_in_power, is_power_out};
-use zf_scan::token::{Arrow, Relation};
+use zf_tree::symbol::{Arrow, Relation};
 use zf_value::lent::Lent;
 use zf_value::number::{is_in_interval, is_interval_out};
 use zf_value::set::is_member;

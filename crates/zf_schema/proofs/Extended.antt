@@ -2,9 +2,9 @@
 use Rattle.std.proofs.Common.{◌≡◌, ℕ, Bool, ◌&&◌, if◌then◌else◌, List, ◌++◌, take, drop, Option, Some, None, slice_get, refl, sym, ap, ◌∙◌, subst}
 use Rattle.std.proofs.lemmas.List.{take-append-drop}
 use Rattle.std.proofs.lemmas.Option.{none-some}
-use Rattle.zf_scan.specs.declared.token.Relation.{Relation}
-use Rattle.zf_text.specs.Trees as text
-use Rattle.zf_text.specs.Trees.{Tree, Trees, no_trees, tree, Links, VarDecls, no_decls, var_decl, Perhaps}
+use Rattle.zf_tree.specs.declared.symbol.Relation.{Relation}
+use Rattle.zf_tree.specs.Trees as text
+use Rattle.zf_tree.specs.Trees.{Tree, Trees, no_trees, tree, Links, VarDecls, no_decls, var_decl, Perhaps}
 use Rattle.zf_reference.specs.declared.reference.Reference.{Reference}
 use Rattle.zf_term.specs.Definitions.{Comp, Defined, abbreviation}
 use Rattle.zf_term.specs.Extents.{is_membership, is_last, tested, unless, name_lines, extent_by, extent_found, extent_named, extent_set, extent_of, direct, offending, all_offending, links_offending, ranges_offending, part_offending}

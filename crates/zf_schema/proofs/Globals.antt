@@ -3,9 +3,9 @@ use Rattle.std.proofs.Common.{◌≡◌, ℕ, ◌+◌, Bool, true, false, if◌t
 use Rattle.std.proofs.lemmas.List.{append-nil, append_assoc}
 use Rattle.std.proofs.lemmas.Option.{none-some}
 use Rattle.std.specs.Str.{bytes_eq}
-use Rattle.zf_text.specs.declared.tree.Name.{Name}
-use Rattle.zf_text.specs.Trees.{ParagraphTree, given, free, definition}
-use Rattle.zf_text.specs.Trees as text
+use Rattle.zf_tree.specs.declared.tree.Name.{Name}
+use Rattle.zf_tree.specs.Trees.{ParagraphTree, given, free, definition}
+use Rattle.zf_tree.specs.Trees as text
 use Rattle.zf_term.specs.FirstNamed.{first_named, later}
 use Rattle.zf_term.specs.Definitions.{Defined, Definition, given_set, free_type, constructor, schema}
 use Rattle.zf_type.specs.declared.fault.TypeFault.{TypeFault}

@@ -2,9 +2,9 @@
 use Rattle.std.proofs.Common.{◌≡◌, ℕ, ◌+◌, ◌≤◌, List, [], ◌∷◌, length, map, Result, Ok, Err, OnOk, is_err, false, ap, arith, true≢false}
 use Rattle.std.proofs.lemmas.Grind.{common_steps}
 use Rattle.std.proofs.lemmas.List.Sums.{sum_by-cons}
-use Rattle.zf_text.specs.declared.tree.Name.{Name}
-use Rattle.zf_text.specs.Trees.{ParagraphTree, given, free, definition}
-use Rattle.zf_text.specs.Trees as text
+use Rattle.zf_tree.specs.declared.tree.Name.{Name}
+use Rattle.zf_tree.specs.Trees.{ParagraphTree, given, free, definition}
+use Rattle.zf_tree.specs.Trees as text
 use Rattle.zf_term.specs.Definitions.{Defined, Definition, given_set, free_type, constructor, abbreviation, schema}
 use Rattle.zf_term.specs.Numbers.{has_elements, next_number}
 use Rattle.zf_type.specs.Resolving.{resolved}

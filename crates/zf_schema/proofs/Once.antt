@@ -5,11 +5,11 @@ use Rattle.std.proofs.lemmas.Option.{same_Some, none-some}
 use Rattle.std.proofs.lemmas.Slice.Eq.{bytes_eq-Decides}
 use Rattle.std.specs.List.{AllByRecursion}
 use Rattle.std.specs.Str.{bytes_eq}
-use Rattle.zf_text.specs.declared.tree.Name.{Name}
-use Rattle.zf_text.specs.declared.tree.RefMark.{RefMark}
-use Rattle.zf_text.specs.declared.tree.RefMark.TheVariants.{Plain, Delta, Xi}
-use Rattle.zf_text.specs.declared.tree.SchemaRef.{SchemaRef}
-use Rattle.zf_text.specs.Trees.{Tree, DeclTree, vars, include, SchemaTree, schema_text, reference, both, either, schema_bracket}
+use Rattle.zf_tree.specs.declared.tree.Name.{Name}
+use Rattle.zf_tree.specs.declared.tree.RefMark.{RefMark}
+use Rattle.zf_tree.specs.declared.tree.RefMark.TheVariants.{Plain, Delta, Xi}
+use Rattle.zf_tree.specs.declared.tree.SchemaRef.{SchemaRef}
+use Rattle.zf_tree.specs.Trees.{Tree, DeclTree, vars, include, SchemaTree, schema_text, reference, both, either, schema_bracket}
 use Rattle.zf_term.specs.FirstNamed.{first_named, later}
 use Rattle.zf_term.specs.Definitions.{Comp, Schema, DeclaredSet, plain, Defined, schema}
 use Rattle.zf_term.specs.ResolvedTrees.{ResolvedTree}

@@ -1,6 +1,6 @@
 -- References to schemas, out of what is named and what it is marked to be.
 use Rattle.std.proofs.Common.{◌≡◌, inl, inr, ℕ, List, Some, refl, ap, ◌∙◌, subst}
-use Rattle.zf_text.specs.declared.tree.SchemaRef.{SchemaRef}
+use Rattle.zf_tree.specs.declared.tree.SchemaRef.{SchemaRef}
 use Rattle.zf_term.specs.Definitions.{Schema, Defined, schema}
 use Rattle.zf_term.specs.FirstNamed.{first_named}
 use Rattle.zf_type.specs.declared.fault.TypeFaultKind.{TypeFaultKind}

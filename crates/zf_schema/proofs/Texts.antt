@@ -1,9 +1,9 @@
 -- The steps of a text: a walk over its parts, and what stops one.
 use Rattle.std.proofs.Common.{◌≡◌, inl, inr, ℕ, ◌+◌, ◌<◌, ◌≤◌, List, ◌∷◌, [], length, drop, get_or, refl, sym, subst}
 use Rattle.std.proofs.lemmas.List.{drop_all}
-use Rattle.zf_text.specs.declared.tree.SchemaRef.{SchemaRef}
-use Rattle.zf_text.specs.Trees.{Tree, DeclTree, include}
-use Rattle.zf_term.specs.declared.operator.Need.TheVariants as need
+use Rattle.zf_tree.specs.declared.tree.SchemaRef.{SchemaRef}
+use Rattle.zf_tree.specs.Trees.{Tree, DeclTree, include}
+use Rattle.zf_tree.specs.declared.operator.Need.TheVariants as need
 use Rattle.zf_term.specs.Definitions.{Comp, Schema, Defined}
 use Rattle.zf_term.specs.Shapes.{conjuncts}
 use Rattle.zf_type.specs.declared.fault.Refusal.{Refusal}

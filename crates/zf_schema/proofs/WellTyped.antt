@@ -2,9 +2,9 @@
 use Rattle.std.proofs.Common.{◌≡◌, inl, inr, ℕ, ◌+◌, List, [], ◌∷◌, ◌++◌, length, map, Some, slice_get, refl, sym, ap, ◌∙◌, subst, arith}
 use Rattle.std.proofs.lemmas.List.{append_assoc, length-append}
 use Rattle.std.proofs.lemmas.Option.{none-some}
-use Rattle.zf_text.specs.declared.tree.Name.{Name}
-use Rattle.zf_text.specs.Trees.{ParagraphTree, given, free, definition, schema_text}
-use Rattle.zf_text.specs.Trees as text
+use Rattle.zf_tree.specs.declared.tree.Name.{Name}
+use Rattle.zf_tree.specs.Trees.{ParagraphTree, given, free, definition, schema_text}
+use Rattle.zf_tree.specs.Trees as text
 use Rattle.zf_term.specs.Definitions.{Defined, Definition, given_set, free_type, constructor, schema}
 use Rattle.zf_type.specs.declared.fault.TypeFault.{TypeFault}
 use Rattle.zf_type.specs.Resolving.{resolved}

@@ -1,10 +1,10 @@
 -- What a text defines, and the faults of its paragraphs and boxes.
 use Rattle.std.specs.Prelude.{◌≡◌, ◌⊎◌, ℕ, ◌+◌, List, [], ◌∷◌, ◌++◌, map, flat_map, None}
-use Rattle.zf_text.specs.declared.tree.Name.{Name}
-use Rattle.zf_text.specs.Trees.{Tree, DeclTree, ParagraphTree, given, free, definition, BoxTree, zed, schema_box}
-use Rattle.zf_text.specs.Trees as text
+use Rattle.zf_tree.specs.declared.tree.Name.{Name}
+use Rattle.zf_tree.specs.Trees.{Tree, DeclTree, ParagraphTree, given, free, definition, BoxTree, zed, schema_box}
+use Rattle.zf_tree.specs.Trees as text
 use Rattle.zf_term.specs.FirstNamed.{first_named}
-use Rattle.zf_term.specs.declared.operator.Need.TheVariants as need
+use Rattle.zf_tree.specs.declared.operator.Need.TheVariants as need
 use Rattle.zf_term.specs.Definitions.{Schema, Defined, Definition, given_set, free_type, constructor, abbreviation, schema}
 pub use Rattle.zf_term.specs.Numbers.{has_elements, next_number}
 use Rattle.zf_term.specs.Extents.{extent_of}

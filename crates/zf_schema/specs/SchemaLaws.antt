@@ -1,9 +1,9 @@
 -- What holds of every schema expression, of every item and of every text.
 use Rattle.std.specs.Prelude.{◌≡◌, ℕ, List, [], ◌∷◌, ◌++◌, map, length, slice_get, Option, Some, None}
 use Rattle.std.specs.List.{AllByRecursion}
-use Rattle.zf_scan.specs.declared.token.Relation.TheVariants.{Equal}
-use Rattle.zf_text.specs.declared.tree.RefMark.TheVariants.{Xi}
-use Rattle.zf_text.specs.Trees.{SchemaTree, BoxTree}
+use Rattle.zf_tree.specs.declared.symbol.Relation.TheVariants.{Equal}
+use Rattle.zf_tree.specs.declared.tree.RefMark.TheVariants.{Xi}
+use Rattle.zf_tree.specs.Trees.{SchemaTree, BoxTree}
 use Rattle.zf_reference.specs.declared.reference.Reference.TheVariants.{Component}
 use Rattle.zf_term.specs.Definitions.{Comp, Schema, DeclaredSet, sides, sets_of, Defined, Definition, given_set, free_type, constructor, abbreviation, schema}
 use Rattle.zf_term.specs.ResolvedTrees.{reference, chain, no_links, link}

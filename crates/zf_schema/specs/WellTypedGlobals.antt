@@ -1,6 +1,6 @@
 -- What the globals of a text hold is well typed: each of them is made by the rules from those before it, and what is kept with it stays true.
 use Rattle.std.specs.Prelude.{◌≡◌, ℕ, ◌+◌, List, length, take, slice_get, Some}
-use Rattle.zf_text.specs.Trees.{Tree, SchemaTree, BoxTree}
+use Rattle.zf_tree.specs.Trees.{Tree, SchemaTree, BoxTree}
 use Rattle.zf_term.specs.declared.extent.Extent.{Extent}
 use Rattle.zf_term.specs.Definitions.{Defined, Definition, given_set, free_type, constructor, abbreviation, schema}
 use Rattle.zf_term.specs.Extents.{extent_of}

@@ -1,7 +1,7 @@
 //! The schemas that schema expressions are.
 ghost use Rattle.std.specs.Prelude.{◌≡◌, IfErr, IfOk, map};
-ghost use Rattle.zf_text.specs.Trees as tree;
-ghost use Rattle.zf_text.specs.Trees.{decl_of};
+ghost use Rattle.zf_tree.specs.Trees as tree;
+ghost use Rattle.zf_tree.specs.Trees.{decl_of};
 ghost use Rattle.zf_term.specs.Definitions.{globals_of, schema_of};
 ghost use Rattle.zf_type.specs.Refusals.{IfFault};
 ghost use Rattle.zf_calculus.specs.Calculus.{Agree, conjoined, disjoined};
@@ -18,7 +18,7 @@ use zf_calculus::growing::Growing;
 use zf_calculus::spare::Spare;
 use zf_calculus::stop::Stop;
 use zf_term::globals::{Flat, Globals};
-use zf_text::tree::{Decl, Name, SchemaExp};
+use zf_tree::tree::{Decl, Name, SchemaExp};
 use zf_type::fault::Refusal;
 use zf_type::slate::Slate;
 
@@ -36,7 +36,7 @@ pub fn schema_of_expression<'a>(
 }
 
 /// The same schema, with what is left of the limits.
-#[tactic(auto, using(zf_text::proofs::SchemaSeen::seen))]
+#[tactic(auto, using(zf_tree::proofs::SchemaSeen::seen))]
 fn growing_schema<'a>(
     exp: &'a SchemaExp<'a>,
     arena: &'a Bump,
@@ -118,7 +118,7 @@ fn disjunction<'a>(
 }
 
 /// The line of the first name.
-#[tactic(auto, using(zf_text::proofs::SchemaSeen::seen))]
+#[tactic(auto, using(zf_tree::proofs::SchemaSeen::seen))]
 fn name_line(exp: &SchemaExp<'_>) -> u32
     ensures { result ≡ spec.name_line (tree.schema_of exp.now) }
 {

@@ -1,8 +1,8 @@
 //! What a paragraph or box adds to the globals.
 ghost use Rattle.std.specs.Prelude.{◌≡◌, ◌<◌, ◌^◌, map, length, take, IfOk, IfErr, OnOk, OnErr};
-ghost use Rattle.zf_text.specs.Trees.{paragraph_of, schema_of, decl_of, tree_of};
-ghost use Rattle.zf_text.specs.Trees as text;
-ghost use Rattle.zf_term.specs.declared.operator.Need.TheVariants as need;
+ghost use Rattle.zf_tree.specs.Trees.{paragraph_of, schema_of, decl_of, tree_of};
+ghost use Rattle.zf_tree.specs.Trees as text;
+ghost use Rattle.zf_tree.specs.declared.operator.Need.TheVariants as need;
 ghost use Rattle.zf_term.specs.Definitions.{definition_of, globals_of};
 ghost use Rattle.zf_term.specs.Numbers.{next_number};
 ghost use Rattle.zf_term.specs.Types.{Ty};
@@ -23,8 +23,8 @@ use std::alloc::AllocError;
 use zf_data::arena::{Boxed, Items, Lent, Shared};
 use zf_term::globals::{Entry, Globals};
 use zf_term::infinite::extent_of;
-use zf_term::operator::Need;
-use zf_text::tree::{Decl, Name, Paragraph, SchemaExp, Term};
+use zf_tree::operator::Need;
+use zf_tree::tree::{Decl, Name, Paragraph, SchemaExp, Term};
 use zf_type::fault::{Refusal, TypeFaultKind, refused};
 use zf_type::judge::judge;
 use zf_type::slate::Slate;

@@ -12,7 +12,7 @@ use zf_calculus::growing::Growing;
 use zf_calculus::marking::{decorate_own, marked};
 use zf_calculus::spare::Spare;
 use zf_term::globals::{Entry, Flat, Globals};
-use zf_text::tree::SchemaRef;
+use zf_tree::tree::SchemaRef;
 use zf_type::fault::{Refusal, TypeFaultKind, refused};
 use zf_type::scope::global_of;
 

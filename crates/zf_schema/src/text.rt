@@ -1,10 +1,10 @@
 //! The schemas of boxes and of horizontal texts: declarations, and predicates over them.
 ghost use Rattle.std.specs.Prelude.{◌≡◌, ◌∷◌, [], IfErr, IfOk, OnOk, map};
-ghost use Rattle.zf_text.specs.Trees.{decl_of, include, tree_of, vars};
+ghost use Rattle.zf_tree.specs.Trees.{decl_of, include, tree_of, vars};
 ghost use Rattle.zf_term.specs.Definitions.{comp_of, globals_of, plain, schema_of};
 ghost use Rattle.zf_term.specs.Types.{type_of};
 ghost use Rattle.zf_term.specs.Written.{written_of};
-ghost use Rattle.zf_term.specs.declared.operator.Need.TheVariants as needs;
+ghost use Rattle.zf_tree.specs.declared.operator.Need.TheVariants as needs;
 ghost use Rattle.zf_type.specs.Offences.{Offends};
 ghost use Rattle.zf_type.specs.Refusals.{IfFault};
 ghost use Rattle.zf_type.specs.Resolving.{resolved};
@@ -27,10 +27,10 @@ use zf_calculus::spare::Spare;
 use zf_data::arena::{Boxed, Items, Lasting, Shared};
 use zf_term::conjunct::{Conjunct, Statement};
 use zf_term::globals::{Component, Domain, Flat, Globals};
-use zf_term::operator::Need;
 use zf_term::written::Written;
 use zf_term::ztype::ZType;
-use zf_text::tree::{Decl, Name, SchemaRef, Term};
+use zf_tree::operator::Need;
+use zf_tree::tree::{Decl, Name, SchemaRef, Term};
 use zf_type::conjuncts::push_conjuncts;
 use zf_type::fault::Refusal;
 use zf_type::judge::{Judged, judge};

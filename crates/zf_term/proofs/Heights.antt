@@ -4,7 +4,7 @@ use Rattle.zf_term.specs.declared.resolved.Resolved.{Resolved}
 use Rattle.zf_term.specs.declared.resolved.ResolvedLink.{ResolvedLink}
 use Rattle.zf_term.specs.declared.resolved.Range.{Range}
 use Rattle.zf_term.specs.declared.resolved.Resolved.TheVariants as v
-use Rattle.zf_scan.specs.declared.token.Quantifier.{Quantifier}
+use Rattle.zf_tree.specs.declared.symbol.Quantifier.{Quantifier}
 use Rattle.zf_term.specs.ResolvedTrees.{ResolvedTree, ResolvedTrees, ResolvedLinks, Ranges, ResolvedPart, reference, number, constant, empty_set, bracket, listed, builder, unary, binary, chain, quantified, no_terms, term, no_links, link, no_ranges, range, absent, present, terms, links, ranges, resolved_of, resolved_link_of, range_of, part_of}
 use Rattle.zf_term.specs.Shapes.{height, tallest, tallest_link, tallest_range, part_height, nodes, all_nodes, link_nodes, range_nodes, part_nodes}
 use Rattle.zf_term.proofs.ResolvedSeen.{of-Builder, of-Quantified, link-seen, range-seen}

@@ -1,6 +1,6 @@
 -- Lists whose terms are numbered anew one after another.
 use Rattle.std.proofs.Common.{◌≡◌, ℕ, Option, List, [], ◌∷◌, map, refl, ap, ◌∙◌}
-use Rattle.zf_scan.specs.declared.token.Relation.{Relation}
+use Rattle.zf_tree.specs.declared.symbol.Relation.{Relation}
 use Rattle.zf_term.specs.declared.resolved.Range.{Range}
 use Rattle.zf_term.specs.declared.resolved.Resolved.{Resolved}
 use Rattle.zf_term.specs.declared.resolved.Resolved.TheVariants as v

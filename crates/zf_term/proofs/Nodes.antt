@@ -1,7 +1,7 @@
 -- The nodes of terms, and of the first of several.
 use Rattle.std.proofs.Common.{◌≡◌, ℕ, zero, suc, ◌+◌, ◌<◌, ◌≤◌, Option, Some, None, List, [], ◌∷◌, length, map, take, get_or, sym, ap, ◌∙◌, add-one, arith}
 use Rattle.std.specs.Prelude.{MatchOption}
-use Rattle.zf_scan.specs.declared.token.Quantifier.{Quantifier}
+use Rattle.zf_tree.specs.declared.symbol.Quantifier.{Quantifier}
 use Rattle.zf_term.specs.declared.resolved.Resolved.TheVariants as v
 use Rattle.zf_term.specs.declared.resolved.Resolved.{Resolved}
 use Rattle.zf_term.specs.declared.resolved.ResolvedLink.{ResolvedLink}

@@ -1,6 +1,6 @@
 -- What a term keeps when its components are numbered anew, and that it can be done at once.
 use Rattle.std.proofs.Common.{◌≡◌, ℕ, ◌+◌, List, None, ◌&&◌, if◌then◌else◌, refl, ap, ◌∙◌}
-use Rattle.zf_scan.specs.declared.token.Relation.{Relation}
+use Rattle.zf_tree.specs.declared.symbol.Relation.{Relation}
 use Rattle.zf_reference.specs.declared.reference.Reference.{Reference}
 use Rattle.zf_reference.specs.declared.reference.Reference.TheVariants.{Component, Local, Global}
 use Rattle.zf_term.specs.Definitions.{Defined}

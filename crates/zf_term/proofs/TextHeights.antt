@@ -1,12 +1,12 @@
 -- The height of terms of a text, and of each of several.
 use Rattle.std.proofs.Common.{◌≡◌, ℕ, zero, suc, ◌+◌, ◌<◌, ◌≤◌, max, take, Option, List, [], ◌∷◌, length, map, get_or, sym, ap, ◌∙◌, add-one, arith}
-use Rattle.zf_scan.specs.declared.token.Quantifier.{Quantifier}
-use Rattle.zf_text.specs.declared.tree.Link.{Link}
-use Rattle.zf_text.specs.declared.tree.Term.{Term}
-use Rattle.zf_text.specs.declared.tree.Term.TheVariants as v
-use Rattle.zf_text.specs.declared.tree.VarDecl.{VarDecl}
-use Rattle.zf_text.specs.Trees.{Tree, named, numeral, constant, empty_set, bracket, tuple, display, builder, prefixed, inverse, image, applied, infixed, arrow, product, chain, negated, connected, quantified, trees, links, var_decls, tree_of, link_of, var_decl_of}
-use Rattle.zf_text.proofs.TermSeen.{of-Builder, of-Quantified}
+use Rattle.zf_tree.specs.declared.symbol.Quantifier.{Quantifier}
+use Rattle.zf_tree.specs.declared.tree.Link.{Link}
+use Rattle.zf_tree.specs.declared.tree.Term.{Term}
+use Rattle.zf_tree.specs.declared.tree.Term.TheVariants as v
+use Rattle.zf_tree.specs.declared.tree.VarDecl.{VarDecl}
+use Rattle.zf_tree.specs.Trees.{Tree, named, numeral, constant, empty_set, bracket, tuple, display, builder, prefixed, inverse, image, applied, infixed, arrow, product, chain, negated, connected, quantified, trees, links, var_decls, tree_of, link_of, var_decl_of}
+use Rattle.zf_tree.proofs.TermSeen.{of-Builder, of-Quantified}
 use Rattle.zf_term.specs.Written.{height, tallest, tallest_link, tallest_decl, part_height, part_tree}
 use Rattle.zf_term.proofs.TextNodes.{link-seen, decl-seen, same_part}
 

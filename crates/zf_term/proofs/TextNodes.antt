@@ -1,12 +1,12 @@
 -- The nodes of terms of a text, and of the first of several.
 use Rattle.std.proofs.Common.{◌≡◌, ℕ, zero, suc, ◌+◌, ◌<◌, ◌≤◌, Option, Some, None, List, [], ◌∷◌, length, map, take, get_or, refl, ap, ◌∙◌, add-one, arith}
-use Rattle.zf_scan.specs.declared.token.Quantifier.{Quantifier}
-use Rattle.zf_text.specs.declared.tree.Link.{Link}
-use Rattle.zf_text.specs.declared.tree.Term.{Term}
-use Rattle.zf_text.specs.declared.tree.Term.TheVariants as v
-use Rattle.zf_text.specs.declared.tree.VarDecl.{VarDecl}
-use Rattle.zf_text.specs.Trees.{Tree, named, numeral, constant, empty_set, bracket, tuple, display, builder, prefixed, inverse, image, applied, infixed, arrow, product, chain, negated, connected, quantified, trees, links, var_decls, tree_of, link_of, var_decl_of}
-use Rattle.zf_text.proofs.TermSeen.{of-Builder, of-Quantified, of-link, of-decl, part_of}
+use Rattle.zf_tree.specs.declared.symbol.Quantifier.{Quantifier}
+use Rattle.zf_tree.specs.declared.tree.Link.{Link}
+use Rattle.zf_tree.specs.declared.tree.Term.{Term}
+use Rattle.zf_tree.specs.declared.tree.Term.TheVariants as v
+use Rattle.zf_tree.specs.declared.tree.VarDecl.{VarDecl}
+use Rattle.zf_tree.specs.Trees.{Tree, named, numeral, constant, empty_set, bracket, tuple, display, builder, prefixed, inverse, image, applied, infixed, arrow, product, chain, negated, connected, quantified, trees, links, var_decls, tree_of, link_of, var_decl_of}
+use Rattle.zf_tree.proofs.TermSeen.{of-Builder, of-Quantified, of-link, of-decl, part_of}
 use Rattle.zf_term.specs.Written.{nodes, all_nodes, link_nodes, decl_nodes, part_nodes, part_tree}
 
 pub link-seen : (k : Link) → link_of k ≡ (k.relation, tree_of k.right)

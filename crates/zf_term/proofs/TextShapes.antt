@@ -1,6 +1,6 @@
 -- A term has the nodes and the height of its text, whatever its names stand for.
 use Rattle.std.proofs.Common.{◌≡◌, ◌+◌, List, refl, ap}
-use Rattle.zf_text.specs.Trees.{Tree, named, numeral, constant, empty_set, bracket, tuple, display, builder, prefixed, inverse, image, applied, infixed, arrow, product, chain, negated, connected, quantified, Trees, no_trees, tree, Links, no_links, link, VarDecls, no_decls, var_decl, Perhaps, absent, present}
+use Rattle.zf_tree.specs.Trees.{Tree, named, numeral, constant, empty_set, bracket, tuple, display, builder, prefixed, inverse, image, applied, infixed, arrow, product, chain, negated, connected, quantified, Trees, no_trees, tree, Links, no_links, link, VarDecls, no_decls, var_decl, Perhaps, absent, present}
 use Rattle.zf_reference.specs.declared.reference.Reference.{Reference}
 use Rattle.zf_term.specs.Filling.{after, after_ranges, after_part, filled, all_filled, links_filled, ranges_filled, part_filled}
 use Rattle.zf_term.specs.Shapes as shape

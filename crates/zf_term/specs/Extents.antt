@@ -2,10 +2,10 @@
 -- A value can be tested for being in one; no search goes through one. So one may stand as the whole right side of the last link
 -- of a chain, if that is `\in` or `\notin`, and anywhere in the parameter of an empty set, which is no set of values.
 use Rattle.std.specs.Prelude.{ℕ, Bool, true, false, ◌&&◌, if◌then◌else◌, List, [], ◌∷◌, ◌++◌, Option, Some, None, slice_get}
-use Rattle.zf_scan.specs.declared.token.Constant.{Constant}
-use Rattle.zf_scan.specs.declared.token.Constant.TheVariants.{True, False, Integers, Naturals, Positives}
-use Rattle.zf_scan.specs.declared.token.Relation.{Relation}
-use Rattle.zf_scan.specs.declared.token.Relation.TheVariants.{Equal, NotEqual, Member, NotMember, Subset, ProperSubset, Less, AtMost, Greater, AtLeast}
+use Rattle.zf_tree.specs.declared.symbol.Constant.{Constant}
+use Rattle.zf_tree.specs.declared.symbol.Constant.TheVariants.{True, False, Integers, Naturals, Positives}
+use Rattle.zf_tree.specs.declared.symbol.Relation.{Relation}
+use Rattle.zf_tree.specs.declared.symbol.Relation.TheVariants.{Equal, NotEqual, Member, NotMember, Subset, ProperSubset, Less, AtMost, Greater, AtLeast}
 use Rattle.zf_term.specs.declared.extent.Extent.{Extent}
 use Rattle.zf_term.specs.declared.extent.Extent.TheVariants as extent
 use Rattle.zf_term.specs.declared.extent.Infinite.{Infinite}

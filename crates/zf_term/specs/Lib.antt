@@ -8,6 +8,5 @@ pub mod SetShapes
 pub mod Filling
 pub mod Written
 pub mod Numbers
-pub mod Operators
 pub mod FirstNamed
 pub mod TermLaws

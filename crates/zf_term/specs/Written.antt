@@ -1,9 +1,9 @@
 -- How terms that are kept as written are seen, and their shape.
 use Rattle.std.specs.Prelude.{ℕ, ◌+◌, max, Bool, true, false, Option, Some, None}
-use Rattle.zf_scan.specs.declared.token.Connective.TheVariants.{And}
-use Rattle.zf_text.specs.Trees as text
-use Rattle.zf_text.specs.Trees.{Tree, Trees, no_trees, tree, Links, VarDecls, no_decls, var_decl, Perhaps, tree_of, absent, present}
-use Rattle.zf_text.specs.declared.tree.Term.{Term}
+use Rattle.zf_tree.specs.declared.symbol.Connective.TheVariants.{And}
+use Rattle.zf_tree.specs.Trees as text
+use Rattle.zf_tree.specs.Trees.{Tree, Trees, no_trees, tree, Links, VarDecls, no_decls, var_decl, Perhaps, tree_of, absent, present}
+use Rattle.zf_tree.specs.declared.tree.Term.{Term}
 use Rattle.zf_term.specs.declared.written.Written.{Written}
 use Rattle.zf_term.specs.Filling.{filled}
 use Rattle.zf_term.specs.ResolvedTrees.{ResolvedTree}

@@ -10,7 +10,7 @@ use crate::globals::{Entry, Globals};
 use crate::resolved::{Links, Part, Range, Resolved, ResolvedLink, Terms};
 use zf_data::arena::{Boxed, Items};
 use zf_reference::reference::Reference;
-use zf_scan::token::{Constant, Relation};
+use zf_tree::symbol::{Constant, Relation};
 
 /// The infinite set that the term is, within brackets or without.
 #[tactic(auto, using(crate::proofs::ResolvedSeen::seen))]

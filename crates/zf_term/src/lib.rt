@@ -7,7 +7,6 @@ pub mod globals;
 pub mod infinite;
 pub mod laws;
 mod moving;
-pub mod operator;
 pub mod resolved;
 mod shapes;
 pub mod type_text;

@@ -1,8 +1,8 @@
 //! Resolved terms: terms in which each name says what it stands for.
-use crate::operator::{Listed, Operator, Unary};
 use zf_data::arena::{Boxed, Items};
 use zf_reference::reference::Reference;
-use zf_scan::token::{Constant, Quantifier, Relation};
+use zf_tree::operator::{Listed, Operator, Unary};
+use zf_tree::symbol::{Constant, Quantifier, Relation};
 
 /// A part of a term that may be left out, in a box of its own: most terms have none, and stay small.
 pub type Part<'a> = Boxed<'a, Option<Boxed<'a, Resolved<'a>>>>;

@@ -1,6 +1,6 @@
 //! Terms of a text, kept as they are written: they are resolved when they are asked for.
 ghost use Rattle.std.specs.Prelude.{◌≡◌, ◌+◌, ◌<◌, ◌≤◌, ◌↔◌, IsTrue, IfOk, MatchOption};
-ghost use Rattle.zf_text.specs.Trees.{tree_of};
+ghost use Rattle.zf_tree.specs.Trees.{tree_of};
 ghost use Rattle.zf_term.specs.Definitions.{globals_of};
 ghost use Rattle.zf_term.specs.Extents as extents;
 ghost use Rattle.zf_term.specs.Filling as spec;
@@ -20,7 +20,7 @@ use bumpalo::Bump;
 use filling::filled;
 use std::alloc::AllocError;
 use zf_reference::reference::Reference;
-use zf_text::tree::Term;
+use zf_tree::tree::Term;
 
 /// A term of a text, with what its names stand for, from left to right.
 #[derive(Clone, Copy)]

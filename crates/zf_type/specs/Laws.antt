@@ -1,7 +1,7 @@
 -- What holds of every term.
 use Rattle.std.specs.Prelude.{◌≡◌, ℕ}
-use Rattle.zf_text.specs.Trees.{Tree}
-use Rattle.zf_term.specs.declared.operator.Need.{Need}
+use Rattle.zf_tree.specs.Trees.{Tree}
+use Rattle.zf_tree.specs.declared.operator.Need.{Need}
 use Rattle.zf_type.specs.declared.fault.TypeFaultKind.{TypeFaultKind}
 use Rattle.zf_type.specs.Rules.{Sort, Meets}
 use Rattle.zf_type.specs.Scopes.{Scope}

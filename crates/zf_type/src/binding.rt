@@ -1,8 +1,8 @@
 //! Bound variables: how declarations bring them into scope, and how they leave it.
 ghost use Rattle.std.specs.Prelude.{◌≡◌, ℕ, IfOk, IfErr, OnOk, OnErr, List, ◌++◌, length, map};
-ghost use Rattle.zf_text.specs.declared.tree.Name as program;
+ghost use Rattle.zf_tree.specs.declared.tree.Name as program;
 ghost use Rattle.zf_term.specs.Types.{Ty, type_of};
-ghost use Rattle.zf_term.specs.declared.operator.Need.TheVariants as needs;
+ghost use Rattle.zf_tree.specs.declared.operator.Need.TheVariants as needs;
 ghost use Rattle.zf_type.specs.Judging.{AreNew, AreRepeated, var_type};
 ghost use Rattle.zf_type.specs.Refusals.{IfFault};
 ghost use Rattle.zf_type.specs.Rules.{Meets, set_of, sort_of};
@@ -20,7 +20,7 @@ use bumpalo::Bump;
 use std::alloc::AllocError;
 use zf_data::arena::Items;
 use zf_term::ztype::{ZType, product_type};
-use zf_text::tree::Name;
+use zf_tree::tree::Name;
 
 /// Adds variables of these names, which are members of a set of this sort.
 pub(crate) fn declare_names<'a>(

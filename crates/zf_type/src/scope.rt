@@ -16,7 +16,7 @@ use zf_data::arena::{Lent, Shared};
 use zf_reference::reference::Reference;
 use zf_term::globals::{Component, Entry, Globals};
 use zf_term::ztype::ZType;
-use zf_text::tree::Name;
+use zf_tree::tree::Name;
 
 /// What is in scope; the variables that are bound last stand last.
 #[derive(Drop)]

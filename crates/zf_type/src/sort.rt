@@ -5,8 +5,8 @@ ghost use Rattle.zf_type.specs.Rules.{IsSmallSort, Meets, lack, lack_of, untyped
 
 use crate::fault::TypeFaultKind;
 use std::alloc::AllocError;
-use zf_term::operator::Need;
 use zf_term::ztype::ZType;
+use zf_tree::operator::Need;
 
 /// What a term is.
 #[derive(Drop)]

@@ -5,7 +5,7 @@ use Rattle.std.proofs.lemmas.Option.{same_Some, none-some}
 use Rattle.std.specs.Int.{w64}
 use Rattle.std.proofs.lemmas.Bool.{cases_lt}
 use Rattle.std.proofs.lemmas.Int.{ints}
-use Rattle.zf_text.specs.Trees.{Tree}
+use Rattle.zf_tree.specs.Trees.{Tree}
 use Rattle.zf_term.specs.declared.extent.Infinite.{Infinite}
 use Rattle.zf_term.specs.declared.extent.Infinite.TheVariants.{Num, Nat, Nat1}
 use Rattle.zf_term.specs.Definitions.{Defined, DeclaredSet, plain, carrier, sides, DeclaredSets, no_sets, set}

@@ -2,10 +2,10 @@
 use Rattle.std.proofs.Common.{◌≡◌, ℕ, zero, suc, ◌<◌, List, [], ◌∷◌, take, Option, Some, None, refl, sym, ap, ◌∙◌, arith}
 use Rattle.std.specs.Prelude.{slice_get}
 use Rattle.std.proofs.lemmas.Option.{same_Some, none-some}
-use Rattle.zf_scan.specs.declared.token.Constant.{Constant}
-use Rattle.zf_scan.specs.declared.token.Constant.TheVariants as constants
-use Rattle.zf_text.specs.Trees as text
-use Rattle.zf_text.specs.Trees.{Tree}
+use Rattle.zf_tree.specs.declared.symbol.Constant.{Constant}
+use Rattle.zf_tree.specs.declared.symbol.Constant.TheVariants as constants
+use Rattle.zf_tree.specs.Trees as text
+use Rattle.zf_tree.specs.Trees.{Tree}
 use Rattle.zf_term.specs.declared.extent.Infinite.{Infinite}
 use Rattle.zf_reference.specs.declared.reference.Reference.{Reference}
 use Rattle.zf_term.specs.Definitions.{Defined, Definition, given_set, free_type, constructor, abbreviation, schema}

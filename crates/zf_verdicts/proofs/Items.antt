@@ -1,9 +1,9 @@
 -- A paragraph or box defines something, or has an offence; so a text has its globals and its faults.
 use Rattle.std.proofs.Common.{◌≡◌, ◌⊎◌, ℕ, ◌+◌, List, [], ◌∷◌, map, Option, Some, None, refl, subst, inl, inr}
-use Rattle.zf_text.specs.declared.tree.Name.{Name}
-use Rattle.zf_text.specs.Trees.{Tree, ParagraphTree, given, free, definition, BoxTree}
-use Rattle.zf_text.specs.Trees as text
-use Rattle.zf_term.specs.declared.operator.Need.TheVariants as need
+use Rattle.zf_tree.specs.declared.tree.Name.{Name}
+use Rattle.zf_tree.specs.Trees.{Tree, ParagraphTree, given, free, definition, BoxTree}
+use Rattle.zf_tree.specs.Trees as text
+use Rattle.zf_tree.specs.declared.operator.Need.TheVariants as need
 use Rattle.zf_term.specs.Definitions.{Schema, Defined, given_set, free_type, constructor, schema}
 use Rattle.zf_term.specs.FirstNamed.{first_named}
 use Rattle.zf_term.specs.Types.{Ty}

@@ -1,7 +1,7 @@
 -- What can be decided of schemas: whether their components agree, and whether they are within the limits. So there is a next schema, or it is told why not.
 use Rattle.std.proofs.Common.{◌≡◌, ◌⊎◌, ℕ, List, length, Option, Some, None, refl, inl, inr}
-use Rattle.zf_text.specs.declared.tree.RefMark.{RefMark}
-use Rattle.zf_text.specs.declared.tree.RefMark.TheVariants.{Plain, Delta, Xi}
+use Rattle.zf_tree.specs.declared.tree.RefMark.{RefMark}
+use Rattle.zf_tree.specs.declared.tree.RefMark.TheVariants.{Plain, Delta, Xi}
 use Rattle.zf_term.specs.Definitions.{Comp, Schema}
 use Rattle.zf_term.specs.Shapes.{height}
 use Rattle.zf_type.specs.declared.fault.TypeFaultKind.{TypeFaultKind}

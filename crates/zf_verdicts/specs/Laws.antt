@@ -1,7 +1,7 @@
 -- What is not well typed has an offence: of the two, one always holds.
 use Rattle.std.specs.Prelude.{◌⊎◌, ℕ, List}
-use Rattle.zf_text.specs.Trees.{Tree, DeclTree, SchemaTree, BoxTree}
-use Rattle.zf_term.specs.declared.operator.Need.{Need}
+use Rattle.zf_tree.specs.Trees.{Tree, DeclTree, SchemaTree, BoxTree}
+use Rattle.zf_tree.specs.declared.operator.Need.{Need}
 use Rattle.zf_term.specs.Definitions.{Schema, Defined}
 use Rattle.zf_type.specs.declared.fault.TypeFault.{TypeFault}
 use Rattle.zf_type.specs.declared.fault.TypeFaultKind.{TypeFaultKind}

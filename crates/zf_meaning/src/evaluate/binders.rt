@@ -1,7 +1,7 @@
 //! What binds variables: quantified predicates and builders.
 ghost use Rattle.std.specs.Prelude.{◌≡◌, ◌≤◌, ℕ, List, Option, IfOk, length, drop, map};
 ghost use Rattle.std.specs.Bool.{MatchBool};
-ghost use Rattle.zf_scan.specs.declared.token.Quantifier.{Quantifier};
+ghost use Rattle.zf_tree.specs.declared.symbol.Quantifier.{Quantifier};
 ghost use Rattle.zf_term.specs.declared.resolved.Range as range;
 ghost use Rattle.zf_term.specs.declared.resolved.Resolved as resolved;
 ghost use Rattle.zf_term.specs.declared.resolved.Resolved.TheVariants as form;

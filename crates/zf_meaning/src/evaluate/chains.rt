@@ -22,10 +22,10 @@ use crate::found::Found;
 use crate::relation;
 use crate::row::Row;
 use std::alloc::AllocError;
-use zf_scan::token::Relation;
 use zf_term::extent::Infinite;
 use zf_term::infinite::direct;
 use zf_term::resolved::{Resolved, ResolvedLink};
+use zf_tree::symbol::Relation;
 use zf_value::value::{Truth, Value};
 
 /// A chain of relations.

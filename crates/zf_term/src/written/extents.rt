@@ -1,6 +1,6 @@
 //! Infinite sets in terms of a text: which terms are one, and which names offend.
 ghost use Rattle.std.specs.Prelude.{◌≡◌, map};
-ghost use Rattle.zf_text.specs.Trees.{link_of, links, tree_of, trees, var_decl_of, var_decls};
+ghost use Rattle.zf_tree.specs.Trees.{link_of, links, tree_of, trees, var_decl_of, var_decls};
 ghost use Rattle.zf_term.specs.Definitions.{globals_of};
 ghost use Rattle.zf_term.specs.Extents as spec;
 ghost use Rattle.zf_term.specs.Filling.{after, after_all, after_links, after_part, after_ranges, all_filled, filled, links_filled, part_filled, ranges_filled};
@@ -12,11 +12,11 @@ use crate::extent::Infinite;
 use crate::globals::Globals;
 use crate::infinite::{constant_line, constant_set, extent_named, is_membership, name_line};
 use zf_data::arena::Boxed;
-use zf_scan::token::Relation;
-use zf_text::tree::{Link, Part, Term, VarDecl};
+use zf_tree::symbol::Relation;
+use zf_tree::tree::{Link, Part, Term, VarDecl};
 
 /// The infinite set that the term is, within brackets or without, where its names stand for these.
-#[tactic(auto, using(zf_text::proofs::TermSeen::seen))]
+#[tactic(auto, using(zf_tree::proofs::TermSeen::seen))]
 pub fn direct(term: &Term<'_>, names: Names<'_>, globals: &Globals<'_>) -> Option<Infinite>
     ensures { result ≡ spec.direct (globals_of globals.now) (filled names.entry.ahead.now (tree_of term.now)) }
 {
@@ -48,7 +48,7 @@ pub fn direct(term: &Term<'_>, names: Names<'_>, globals: &Globals<'_>) -> Optio
 
 /// The line that was found before, or that of the first name in the term that offends.
 #[cycle(offending)]
-#[tactic(auto, using(zf_text::proofs::TermSeen::seen, crate::proofs::FirstLines::first_of_both))]
+#[tactic(auto, using(zf_tree::proofs::TermSeen::seen, crate::proofs::FirstLines::first_of_both))]
 pub fn offending_after(
     term: &Term<'_>,
     found: Option<u32>,

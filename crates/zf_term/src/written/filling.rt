@@ -1,23 +1,23 @@
 //! Terms of a text resolved, from what their names stand for.
 ghost use Rattle.std.specs.Prelude.{◌≡◌, IfOk, OnOk, map};
-ghost use Rattle.zf_text.specs.Trees as text;
-ghost use Rattle.zf_text.specs.Trees.{link_of, links, tree_of, trees, var_decl_of, var_decls};
+ghost use Rattle.zf_tree.specs.Trees as text;
+ghost use Rattle.zf_tree.specs.Trees.{link_of, links, tree_of, trees, var_decl_of, var_decls};
 ghost use Rattle.zf_term.specs.Filling as spec;
 ghost use Rattle.zf_term.specs.Written.{part_tree};
 ghost use Rattle.zf_term.specs.ResolvedTrees as resolved_trees;
 ghost use Rattle.zf_term.specs.ResolvedTrees.{part_of, range_of, resolved_link_of, resolved_of};
 
 use super::Names;
-use crate::operator::{Listed, Operator, Unary};
 use crate::resolved::{Links, Part, Range, Resolved, ResolvedLink, Terms};
 use bumpalo::Bump;
 use std::alloc::AllocError;
 use zf_data::arena::{Boxed, Items};
-use zf_text::tree::{Link, Part as TermPart, Term, VarDecl};
+use zf_tree::operator::{Listed, Operator, Unary};
+use zf_tree::tree::{Link, Part as TermPart, Term, VarDecl};
 
 /// The term, of which the names stand for these, from left to right.
 #[cycle(filled)]
-#[tactic(auto, using(zf_text::proofs::TermSeen::seen, crate::proofs::ResolvedSeen::seen))]
+#[tactic(auto, using(zf_tree::proofs::TermSeen::seen, crate::proofs::ResolvedSeen::seen))]
 pub fn filled<'a>(
     term: &Term<'a>,
     arena: &'a Bump,

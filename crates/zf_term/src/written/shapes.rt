@@ -1,15 +1,15 @@
 //! The nodes and the height of terms of a text.
 ghost use Rattle.std.specs.Prelude.{◌≡◌, ◌+◌, ◌<◌, ◌≤◌, ◌↔◌, IsTrue, MatchOption, map};
-ghost use Rattle.zf_text.specs.Trees.{link_of, links, tree_of, trees, var_decl_of, var_decls};
+ghost use Rattle.zf_tree.specs.Trees.{link_of, links, tree_of, trees, var_decl_of, var_decls};
 ghost use Rattle.zf_term.specs.Written.{part_tree};
 ghost use Rattle.zf_term.specs.Written as spec;
 
 use zf_data::arena::Boxed;
-use zf_text::tree::{Link, Part, Term, VarDecl};
+use zf_tree::tree::{Link, Part, Term, VarDecl};
 
 /// What is left of room for so many nodes, if the term has no more.
 #[cycle(room)]
-#[tactic(auto, using(zf_text::proofs::TermSeen::seen, crate::proofs::TextNodes::some_node))]
+#[tactic(auto, using(zf_tree::proofs::TermSeen::seen, crate::proofs::TextNodes::some_node))]
 pub fn room_after(term: &Term<'_>, room: usize) -> Option<usize>
     ensures { MatchOption result (room < spec.nodes (tree_of term.now)) (λ left. left + spec.nodes (tree_of term.now) ≡ room) }
 {
@@ -97,7 +97,7 @@ fn room_after_part(part: &Part<'_>, room: usize) -> Option<usize>
 
 /// Whether the term is no higher.
 #[cycle(within)]
-#[tactic(auto, using(zf_text::proofs::TermSeen::seen, crate::proofs::TextHeights::heights))]
+#[tactic(auto, using(zf_tree::proofs::TermSeen::seen, crate::proofs::TextHeights::heights))]
 pub fn is_within(term: &Term<'_>, highest: usize) -> bool
     ensures { IsTrue result ↔ spec.height (tree_of term.now) ≤ highest }
 {

@@ -1,5 +1,5 @@
 use Rattle.std.proofs.Common.{ℕ, map, drop}
-use Rattle.zf_text.specs.Trees.{tree_of}
+use Rattle.zf_tree.specs.Trees.{tree_of}
 use Rattle.zf_term.specs.Definitions.{Schema, globals_of, schema_of}
 use Rattle.zf_type.specs.declared.fault.TypeFaultKind.{TypeFaultKind}
 use Rattle.zf_calculus.specs.Expressions.{Constrains}

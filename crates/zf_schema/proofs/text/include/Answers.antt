@@ -1,5 +1,5 @@
 use Rattle.std.proofs.Common.{sym, ap, subst}
-use Rattle.zf_text.specs.Trees.{include}
+use Rattle.zf_tree.specs.Trees.{include}
 use Rattle.zf_term.specs.Definitions.{globals_of, schema_of}
 use Rattle.zf_type.specs.declared.fault.TypeFaultKind.{TypeFaultKind}
 use Rattle.zf_calculus.specs.Calculus.{Agree, conjoined}

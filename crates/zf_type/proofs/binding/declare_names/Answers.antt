@@ -1,6 +1,6 @@
 use Rattle.std.proofs.Common.{◌≡◌, ◌+◌, ◌++◌, [], ◌∷◌, map, drop, sym, ap, ◌∙◌, subst, refl, inl, inr, arith, List, append-nil, true≢false}
 use Rattle.std.proofs.lemmas.List.{drop_all, map-append}
-use Rattle.zf_text.specs.declared.tree.Name.{Name}
+use Rattle.zf_tree.specs.declared.tree.Name.{Name}
 use Rattle.zf_term.specs.Types.{type_of}
 use Rattle.zf_term.proofs.Walk.{dropped, pushed}
 use Rattle.zf_type.specs.declared.fault.TypeFaultKind.TheVariants.{LocalTwice}

@@ -1,5 +1,5 @@
 use Rattle.std.proofs.Common.{◌≡◌, Some, None, refl, sym, ap, ◌∙◌, subst, inl, true≢false, Err}
-use Rattle.zf_text.specs.Trees.{named}
+use Rattle.zf_tree.specs.Trees.{named}
 use Rattle.zf_type.specs.declared.fault.Refusal.TheVariants.{Fault}
 use Rattle.zf_type.specs.declared.fault.TypeFaultKind.TheVariants.{NotDeclared}
 use Rattle.zf_type.specs.Rules.{sort_of}

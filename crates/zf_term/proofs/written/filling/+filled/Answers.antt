@@ -1,6 +1,6 @@
 use Rattle.std.proofs.Common.{◌≡◌, ◌+◌, [], ◌∷◌, length, map, drop, refl, sym, ap, ◌∙◌, append-nil, arith}
 use Rattle.std.proofs.lemmas.Result.{IfOk-weaker}
-use Rattle.zf_text.specs.Trees.{tree_of, trees, links, link_of, var_decls, var_decl_of}
+use Rattle.zf_tree.specs.Trees.{tree_of, trees, links, link_of, var_decls, var_decl_of}
 use Rattle.zf_term.specs.Filling.{after, after_all, after_links, after_ranges, all_filled, filled, links_filled, ranges_filled}
 use Rattle.zf_term.specs.ResolvedTrees as resolved_trees
 use Rattle.zf_term.specs.ResolvedTrees.{range_of, resolved_link_of, resolved_of, term, terms, no_terms}

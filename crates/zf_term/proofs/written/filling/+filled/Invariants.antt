@@ -1,6 +1,6 @@
 use Rattle.std.proofs.Common.{◌≡◌, ℕ, List, ◌++◌, map, drop}
-use Rattle.zf_scan.specs.declared.token.Relation.{Relation}
-use Rattle.zf_text.specs.Trees.{tree_of, trees, link_of, links, var_decl_of, var_decls}
+use Rattle.zf_tree.specs.declared.symbol.Relation.{Relation}
+use Rattle.zf_tree.specs.Trees.{tree_of, trees, link_of, links, var_decl_of, var_decls}
 use Rattle.zf_term.specs.Filling.{after_all, after_links, after_ranges, all_filled, links_filled, ranges_filled}
 use Rattle.zf_term.specs.ResolvedTrees as resolved_trees
 use Rattle.zf_term.specs.ResolvedTrees.{ResolvedTree, range_of, resolved_link_of, resolved_of}

@@ -1,5 +1,5 @@
 use Rattle.std.proofs.Common.{ap, arith}
-use Rattle.zf_text.specs.Trees.{tree_of}
+use Rattle.zf_tree.specs.Trees.{tree_of}
 use Rattle.zf_term.specs.Written.{nodes}
 use Rattle.zf_term.proofs.TextNodes.{terms_more, links_more, decls_more}
 use Rattle.zf_term.proofs.written.shapes.+room.Goals as goal

@@ -1,5 +1,5 @@
 use Rattle.std.proofs.Common.{◌≡◌, ◌+◌, map, take}
-use Rattle.zf_text.specs.Trees.{link_of, links, tree_of, trees, var_decl_of, var_decls}
+use Rattle.zf_tree.specs.Trees.{link_of, links, tree_of, trees, var_decl_of, var_decls}
 use Rattle.zf_term.specs.Written.{all_nodes, link_nodes, decl_nodes}
 use Rattle.zf_term.proofs.written.shapes.+room.Given as goal
 

@@ -1,5 +1,5 @@
 use Rattle.std.proofs.Common.{refl, sym, ◌∙◌, subst, inl, inr, true≢false, Err}
-use Rattle.zf_term.specs.Operators.{rule_of}
+use Rattle.zf_tree.specs.Operators.{rule_of}
 use Rattle.zf_type.specs.declared.fault.Refusal.TheVariants.{Fault}
 use Rattle.zf_type.specs.declared.fault.TypeFaultKind.TheVariants.{Mismatch, TooLarge}
 use Rattle.zf_type.specs.Judging.{Judges, binary_tree}

@@ -1,14 +1,13 @@
 //! The trees of a text.
 ghost use Rattle.std.specs.Prelude.{◌≡◌, ◌++◌};
-ghost use Rattle.zf_text.specs.Names as spec;
-ghost use Rattle.zf_text.specs.Names.{ident_of, name_at};
-ghost use Rattle.zf_text.specs.Spelling.{line_of};
-ghost use Rattle.zf_text.specs.Trees.{tree_of};
+ghost use Rattle.zf_tree.specs.Names as spec;
+ghost use Rattle.zf_tree.specs.Names.{ident_of, name_at};
+ghost use Rattle.zf_tree.specs.Trees.{line_of, tree_of};
 
+use crate::ends::{back, front};
+use crate::symbol::{Arrow, Connective, Constant, Infix, Prefix, Quantifier, Relation};
 use std::marker::Model;
 use zf_data::arena::{Boxed, Items, Lent};
-use zf_scan::placed::{back, front};
-use zf_scan::token::{Arrow, Connective, Constant, Infix, Prefix, Quantifier, Relation};
 
 /// A name, and the line where it stands.
 #[derive(Drop)]
@@ -22,7 +21,7 @@ pub struct Name<'a> {
 
 impl<'a> Model for Name<'a> {
     ghost use Rattle.std.specs.Prelude.{take, drop};
-    ghost use Rattle.zf_text.specs.Names as names;
+    ghost use Rattle.zf_tree.specs.Names as names;
 
     ghost Value = { names.Name };
 
@@ -83,7 +82,7 @@ pub struct Ident<'a> {
 
 impl<'a> Model for Ident<'a> {
     ghost use Rattle.std.specs.Prelude.{take, drop};
-    ghost use Rattle.zf_text.specs.Names as names;
+    ghost use Rattle.zf_tree.specs.Names as names;
 
     ghost Value = { names.Ident };
 

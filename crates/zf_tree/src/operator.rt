@@ -1,9 +1,9 @@
 //! The symbols of resolved terms, and the rule of types that each has.
 ghost use Rattle.std.specs.Prelude.{◌≡◌};
-ghost use Rattle.zf_term.specs.Operators as spec;
+ghost use Rattle.zf_tree.specs.Operators as spec;
 
-use zf_scan::token::{Arrow, Connective, Infix, Prefix, Relation};
-use zf_text::tree::Sign;
+use crate::symbol::{Arrow, Connective, Infix, Prefix, Relation};
+use crate::tree::Sign;
 
 /// What stands between two terms.
 #[derive(Clone, Copy)]

@@ -1,23 +1,22 @@
 -- What each form of term is seen as.
 use Rattle.std.proofs.Common.{◌≡◌, ℕ, List, map, Option, Some, None, sym, ap, ◌∙◌}
-use Rattle.zf_scan.specs.declared.token.Arrow.{Arrow}
-use Rattle.zf_scan.specs.declared.token.Connective.{Connective}
-use Rattle.zf_scan.specs.declared.token.Constant.{Constant}
-use Rattle.zf_scan.specs.declared.token.Infix.{Infix}
-use Rattle.zf_scan.specs.declared.token.Quantifier.{Quantifier}
-use Rattle.zf_scan.specs.declared.token.Relation.{Relation}
-use Rattle.zf_text.specs.Names.{Ident, name_at}
-use Rattle.zf_text.specs.declared.tree.Name.{Name}
-use Rattle.zf_text.specs.declared.tree.Sign.{Sign}
-use Rattle.zf_text.specs.declared.tree.Term.{Term}
-use Rattle.zf_text.specs.declared.tree.Link.{Link}
-use Rattle.zf_text.specs.declared.tree.VarDecl.{VarDecl}
-use Rattle.zf_text.specs.declared.tree.Term.TheOpen.{Term-F}
-use Rattle.zf_text.specs.declared.tree.Term.TheViews.{roll-Term}
-use Rattle.zf_text.specs.declared.tree.Term.TheVariants as v
-use Rattle.zf_text.specs.declared.tree.Term.TheFolds.{fold-roll-Term, fold-roll-Link, fold-roll-VarDecl, map-Term}
-use Rattle.zf_text.specs.Trees.{Tree, named, numeral, constant, empty_set, bracket, tuple, display, builder, prefixed, inverse, image, applied, infixed, arrow, product, chain, negated, connected, quantified, trees, links, var_decls, Perhaps, absent, present, tree_of, link_of, var_decl_of, tree_step, link_step, decl_step}
-use Rattle.zf_text.specs.TermReading.{new_link, new_decl}
+use Rattle.zf_tree.specs.declared.symbol.Arrow.{Arrow}
+use Rattle.zf_tree.specs.declared.symbol.Connective.{Connective}
+use Rattle.zf_tree.specs.declared.symbol.Constant.{Constant}
+use Rattle.zf_tree.specs.declared.symbol.Infix.{Infix}
+use Rattle.zf_tree.specs.declared.symbol.Quantifier.{Quantifier}
+use Rattle.zf_tree.specs.declared.symbol.Relation.{Relation}
+use Rattle.zf_tree.specs.Names.{Ident, name_at}
+use Rattle.zf_tree.specs.declared.tree.Name.{Name}
+use Rattle.zf_tree.specs.declared.tree.Sign.{Sign}
+use Rattle.zf_tree.specs.declared.tree.Term.{Term}
+use Rattle.zf_tree.specs.declared.tree.Link.{Link}
+use Rattle.zf_tree.specs.declared.tree.VarDecl.{VarDecl}
+use Rattle.zf_tree.specs.declared.tree.Term.TheOpen.{Term-F}
+use Rattle.zf_tree.specs.declared.tree.Term.TheViews.{roll-Term}
+use Rattle.zf_tree.specs.declared.tree.Term.TheVariants as v
+use Rattle.zf_tree.specs.declared.tree.Term.TheFolds.{fold-roll-Term, fold-roll-Link, fold-roll-VarDecl, map-Term}
+use Rattle.zf_tree.specs.Trees.{Tree, named, numeral, constant, empty_set, bracket, tuple, display, builder, prefixed, inverse, image, applied, infixed, arrow, product, chain, negated, connected, quantified, trees, links, var_decls, Perhaps, absent, present, tree_of, link_of, var_decl_of, tree_step, link_step, decl_step, new_link, new_decl}
 
 -- a part that may be left out, as a tree
 abbrev pub part_of : Option Term → Perhaps

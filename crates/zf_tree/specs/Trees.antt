@@ -1,29 +1,30 @@
 -- Trees as plain data, a form for each form of ZRM 6 that is read, and how the program's trees are seen as them.
 use Rattle.std.specs.Prelude.{ℕ, List, [], ◌∷◌, map, Option, Some, None}
-use Rattle.zf_scan.specs.declared.token.Arrow.{Arrow}
-use Rattle.zf_scan.specs.declared.token.Connective.{Connective}
-use Rattle.zf_scan.specs.declared.token.Constant.{Constant}
-use Rattle.zf_scan.specs.declared.token.Infix.{Infix}
-use Rattle.zf_scan.specs.declared.token.Quantifier.{Quantifier}
-use Rattle.zf_scan.specs.declared.token.Relation.{Relation}
-use Rattle.zf_text.specs.Names.{name_at}
-use Rattle.zf_text.specs.declared.tree.Name.{Name}
-use Rattle.zf_text.specs.declared.tree.Sign.{Sign}
-use Rattle.zf_text.specs.declared.tree.Term.{Term}
-use Rattle.zf_text.specs.declared.tree.Link.{Link}
-use Rattle.zf_text.specs.declared.tree.VarDecl.{VarDecl}
-use Rattle.zf_text.specs.declared.tree.Term.TheOpen.{Term-F, Link-F, VarDecl-F}
-use Rattle.zf_text.specs.declared.tree.Term.TheFolds.{fold-Term, fold-Link, fold-VarDecl}
-use Rattle.zf_text.specs.declared.tree.SchemaRef.{SchemaRef}
-use Rattle.zf_text.specs.declared.tree.Decl.{Decl}
-use Rattle.zf_text.specs.declared.tree.Decl.TheVariants as decl
-use Rattle.zf_text.specs.declared.tree.SchemaExp.{SchemaExp, fold-SchemaExp}
-use Rattle.zf_text.specs.declared.tree.SchemaExp.TheOpen.{SchemaExp-F}
-use Rattle.zf_text.specs.declared.tree.Paragraph.{Paragraph}
-use Rattle.zf_text.specs.declared.tree.Paragraph.TheVariants as paragraph
-use Rattle.zf_text.specs.declared.tree.ZBox.{ZBox}
-use Rattle.zf_text.specs.declared.tree.ZBox.TheVariants as zbox
-use Rattle.zf_text.specs.declared.tree.Spec.{Spec}
+use Rattle.zf_tree.specs.declared.symbol.Arrow.{Arrow}
+use Rattle.zf_tree.specs.declared.symbol.Connective.{Connective}
+use Rattle.zf_tree.specs.declared.symbol.Constant.{Constant}
+use Rattle.zf_tree.specs.declared.symbol.Infix.{Infix}
+use Rattle.zf_tree.specs.declared.symbol.Quantifier.{Quantifier}
+use Rattle.zf_tree.specs.declared.symbol.Relation.{Relation}
+use Rattle.zf_tree.specs.Names.{name_at}
+use Rattle.zf_tree.specs.declared.tree.Name.{Name}
+use Rattle.zf_tree.specs.declared.tree.Sign.{Sign}
+use Rattle.zf_tree.specs.declared.tree.Term.{Term}
+use Rattle.zf_tree.specs.declared.tree.Link.{Link}
+use Rattle.zf_tree.specs.declared.tree.VarDecl.{VarDecl}
+use Rattle.zf_tree.specs.declared.tree.Term.TheOpen.{Term-F, Link-F, VarDecl-F}
+use Rattle.zf_tree.specs.declared.tree.Term.TheViews.{roll-Link, roll-VarDecl}
+use Rattle.zf_tree.specs.declared.tree.Term.TheFolds.{fold-Term, fold-Link, fold-VarDecl}
+use Rattle.zf_tree.specs.declared.tree.SchemaRef.{SchemaRef}
+use Rattle.zf_tree.specs.declared.tree.Decl.{Decl}
+use Rattle.zf_tree.specs.declared.tree.Decl.TheVariants as decl
+use Rattle.zf_tree.specs.declared.tree.SchemaExp.{SchemaExp, fold-SchemaExp}
+use Rattle.zf_tree.specs.declared.tree.SchemaExp.TheOpen.{SchemaExp-F}
+use Rattle.zf_tree.specs.declared.tree.Paragraph.{Paragraph}
+use Rattle.zf_tree.specs.declared.tree.Paragraph.TheVariants as paragraph
+use Rattle.zf_tree.specs.declared.tree.ZBox.{ZBox}
+use Rattle.zf_tree.specs.declared.tree.ZBox.TheVariants as zbox
+use Rattle.zf_tree.specs.declared.tree.Spec.{Spec}
 
 -- ---- terms, each with the line of its first token
 
@@ -68,6 +69,28 @@ mutual
   pub data Perhaps : Type 0 where
     absent : Perhaps
     present : Tree → Perhaps
+
+-- the line of the first symbol
+abbrev pub line_of : Tree → ℕ
+line_of (named n) = n.line
+line_of (numeral l v) = l
+line_of (constant l c) = l
+line_of (empty_set l t) = l
+line_of (bracket l t) = l
+line_of (tuple l ts) = l
+line_of (display l ts) = l
+line_of (builder l ds p t) = l
+line_of (prefixed l s t) = l
+line_of (inverse l t) = l
+line_of (image l r a) = l
+line_of (applied l f x) = l
+line_of (infixed l op a b) = l
+line_of (arrow l op a b) = l
+line_of (product l ts) = l
+line_of (chain l t ks) = l
+line_of (negated l t) = l
+line_of (connected l c a b) = l
+line_of (quantified l q ds p t) = l
 
 -- ---- declarations, schema expressions, paragraphs and boxes
 
@@ -146,6 +169,13 @@ link_of = fold-Link Tree (Relation × Tree) (List Name × Tree) tree_step link_s
 
 unfoldable pub var_decl_of : VarDecl → List Name × Tree
 var_decl_of = fold-VarDecl Tree (Relation × Tree) (List Name × Tree) tree_step link_step decl_step
+
+-- a link, and a declaration, of these parts
+abbrev pub new_link : Relation → Term → Link
+new_link r t = roll-Link (record { relation = r; right = t })
+
+abbrev pub new_decl : List Name → Term → VarDecl
+new_decl ns t = roll-VarDecl (record { names = ns; set = t })
 
 abbrev pub decl_of : Decl → DeclTree
 decl_of (decl.Vars names set) = vars names (tree_of set)

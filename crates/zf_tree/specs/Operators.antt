@@ -1,20 +1,20 @@
 -- The rule of types that each symbol has, and what the places of its operands need.
-use Rattle.zf_scan.specs.declared.token.Infix.{Infix}
-use Rattle.zf_scan.specs.declared.token.Infix.TheVariants.{Maplet, UpTo, Plus, Minus, Union, Difference, Times, Div, Mod, Intersection, Composition, Overriding, DomainRestriction, RangeRestriction, DomainSubtraction, RangeSubtraction}
-use Rattle.zf_scan.specs.declared.token.Prefix.{Prefix}
-use Rattle.zf_scan.specs.declared.token.Prefix.TheVariants.{Power, Finset, Domain, Range, Size}
-use Rattle.zf_scan.specs.declared.token.Relation.{Relation}
-use Rattle.zf_scan.specs.declared.token.Relation.TheVariants.{Equal, NotEqual, Member, NotMember, Subset, ProperSubset, Less, AtMost, Greater, AtLeast}
-use Rattle.zf_text.specs.declared.tree.Sign.{Sign}
-use Rattle.zf_text.specs.declared.tree.Sign.TheVariants as sign
-use Rattle.zf_term.specs.declared.operator.Need.{Need}
-use Rattle.zf_term.specs.declared.operator.Need.TheVariants as need
-use Rattle.zf_term.specs.declared.operator.Operator.{Operator}
-use Rattle.zf_term.specs.declared.operator.Operator.TheVariants as operator
-use Rattle.zf_term.specs.declared.operator.Rule.{Rule}
-use Rattle.zf_term.specs.declared.operator.Rule.TheVariants as rule
-use Rattle.zf_term.specs.declared.operator.Unary.{Unary}
-use Rattle.zf_term.specs.declared.operator.Unary.TheVariants as unary
+use Rattle.zf_tree.specs.declared.symbol.Infix.{Infix}
+use Rattle.zf_tree.specs.declared.symbol.Infix.TheVariants.{Maplet, UpTo, Plus, Minus, Union, Difference, Times, Div, Mod, Intersection, Composition, Overriding, DomainRestriction, RangeRestriction, DomainSubtraction, RangeSubtraction}
+use Rattle.zf_tree.specs.declared.symbol.Prefix.{Prefix}
+use Rattle.zf_tree.specs.declared.symbol.Prefix.TheVariants.{Power, Finset, Domain, Range, Size}
+use Rattle.zf_tree.specs.declared.symbol.Relation.{Relation}
+use Rattle.zf_tree.specs.declared.symbol.Relation.TheVariants.{Equal, NotEqual, Member, NotMember, Subset, ProperSubset, Less, AtMost, Greater, AtLeast}
+use Rattle.zf_tree.specs.declared.tree.Sign.{Sign}
+use Rattle.zf_tree.specs.declared.tree.Sign.TheVariants as sign
+use Rattle.zf_tree.specs.declared.operator.Need.{Need}
+use Rattle.zf_tree.specs.declared.operator.Need.TheVariants as need
+use Rattle.zf_tree.specs.declared.operator.Operator.{Operator}
+use Rattle.zf_tree.specs.declared.operator.Operator.TheVariants as operator
+use Rattle.zf_tree.specs.declared.operator.Rule.{Rule}
+use Rattle.zf_tree.specs.declared.operator.Rule.TheVariants as rule
+use Rattle.zf_tree.specs.declared.operator.Unary.{Unary}
+use Rattle.zf_tree.specs.declared.operator.Unary.TheVariants as unary
 
 abbrev pub function_rule : Infix → Rule
 function_rule Maplet = rule.Pairing
