@@ -9,7 +9,7 @@ use Rattle.zf_term.specs.Definitions.{Comp, Schema}
 use Rattle.zf_term.specs.ResolvedTrees.{ResolvedTree, reference, chain, links, link, no_links, resolved_of, resolved_link_of}
 use Rattle.zf_reference.specs.Numbering.{place_in}
 use Rattle.zf_term.proofs.ResolvedSeen.{new_link, of-Name, of-Chain, of-link}
-use Rattle.zf_type.specs.declared.fault.TypeFaultKind.{TypeFaultKind}
+use Rattle.zf_term.specs.declared.fault.TypeFaultKind.{TypeFaultKind}
 use Rattle.zf_calculus.specs.Calculus as calculus
 use Rattle.zf_calculus.specs.Calculus.{new_place, unchanged, all_unchanged}
 use Rattle.zf_calculus.specs.Growth.{IsTooLarge, constrained, equality, equalities}

@@ -11,9 +11,9 @@ use Rattle.zf_reference.specs.declared.reference.Reference.TheVariants as place
 use Rattle.zf_term.specs.Definitions.{Comp, Schema, DeclaredSet, sides, sets_of, Defined, schema, schema_of}
 use Rattle.zf_term.specs.ResolvedTrees.{ResolvedTree, reference, binary, chain, no_links, link}
 use Rattle.zf_term.specs.Shapes.{line_of}
-use Rattle.zf_type.specs.declared.fault.TypeFaultKind.{TypeFaultKind}
-use Rattle.zf_type.specs.declared.fault.TypeFaultKind.TheVariants.{ComponentClash, NotDeclared, NotASchema}
-use Rattle.zf_type.specs.declared.fault.TypeFaultKind.TheVariants as kind
+use Rattle.zf_term.specs.declared.fault.TypeFaultKind.{TypeFaultKind}
+use Rattle.zf_term.specs.declared.fault.TypeFaultKind.TheVariants.{ComponentClash, NotDeclared, NotASchema}
+use Rattle.zf_term.specs.declared.fault.TypeFaultKind.TheVariants as kind
 use Rattle.zf_type.specs.declared.fault.Refusal.{Refusal}
 use Rattle.zf_type.specs.declared.fault.Refusal.TheVariants.{Fault}
 use Rattle.zf_type.specs.declared.fault.Refusal.TheVariants as refusal
@@ -27,7 +27,8 @@ use Rattle.zf_tree.specs.Trees.{Tree, DeclTree}
 use Rattle.zf_term.specs.Types.{Ty}
 use Rattle.zf_tree.specs.declared.operator.Need.TheVariants as need
 use Rattle.zf_type.specs.Offences.{Offends}
-use Rattle.zf_type.specs.Scopes.{Scope, spelling}
+use Rattle.zf_type.specs.Scopes.{Scope}
+use Rattle.zf_tree.specs.Names.{spelling}
 use Rattle.zf_calculus.specs.Expressions.{inside}
 use Rattle.zf_calculus.specs.SchemaOffences.{IsNoSchema, Stops, OffendsAlone, OffendsAfter, ConstrainsTooMuch}
 use Rattle.zf_calculus.specs.Limits.{AreFew, declared_sets, all_nodes, sets_max, nodes_max, IsWithin}

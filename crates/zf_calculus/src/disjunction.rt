@@ -5,7 +5,7 @@ ghost use Rattle.zf_term.specs.ResolvedTrees.{resolved_of};
 ghost use Rattle.zf_reference.specs.Numbering.{place_in};
 ghost use Rattle.zf_term.specs.Shapes as shape;
 ghost use Rattle.zf_term.specs.Types.{type_of};
-ghost use Rattle.zf_type.specs.declared.fault.TypeFaultKind.TheVariants as kinds;
+ghost use Rattle.zf_term.specs.declared.fault.TypeFaultKind.TheVariants as kinds;
 ghost use Rattle.zf_calculus.specs.Calculus as spec;
 ghost use Rattle.zf_calculus.specs.Calculus.{Agree, comp_named, disjoined, with_comps};
 ghost use Rattle.zf_calculus.specs.Expressions.{IsNext};
@@ -28,7 +28,7 @@ use zf_term::globals::{Component, Domain, Domains, Flat};
 use zf_term::resolved::{Resolved, ResolvedLink};
 use zf_tree::operator::Operator;
 use zf_tree::symbol::{Connective, Constant, Relation};
-use zf_type::scope::component_of;
+use zf_term::named::component_of;
 
 /// The components of the left side, and those of the right side that are new.
 fn all_components<'a>(

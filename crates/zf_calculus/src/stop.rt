@@ -3,7 +3,8 @@ ghost use Rattle.std.specs.Prelude.{◌≡◌};
 ghost use Rattle.zf_calculus.specs.Growth as spec;
 
 use std::alloc::{AllocError, AllocFailed};
-use zf_type::fault::{Refusal, TypeFaultKind, refused};
+use zf_type::fault::{Refusal, refused};
+use zf_term::fault::TypeFaultKind;
 
 /// Why there is no next schema.
 #[derive(Drop)]

@@ -8,7 +8,7 @@ use Rattle.zf_tree.specs.declared.tree.Name.{Name}
 use Rattle.zf_text.specs.Parsing.{ReadsSource}
 use Rattle.zf_text.specs.Spelling.{PartedBy, SpellsName, SpellsParagraph, SpellsBoxes}
 use Rattle.zf_tree.specs.Trees.{ParagraphTree, given, free, abbreviation, definition, BoxTree, zed, schema_box}
-use Rattle.zf_type.specs.Scopes.{spelling}
+use Rattle.zf_tree.specs.Names.{spelling}
 use Rattle.zf_schema.specs.Checking.{Item, a_paragraph, a_box, items_in, items}
 use Rattle.zf_schema.specs.Runs.{elements}
 use Rattle.zf_texts.specs.Clear.{IsName, AreNames}

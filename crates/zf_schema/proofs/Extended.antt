@@ -13,7 +13,8 @@ use Rattle.zf_term.specs.ResolvedTrees.{ResolvedTree}
 use Rattle.zf_term.specs.Types.{Ty, Tys}
 use Rattle.zf_type.specs.Resolving.{referent, bound, resolved, resolved_all, resolved_links, resolved_ranges, resolved_part}
 use Rattle.zf_type.specs.Rules.{Sort, typed, predicate, set_of}
-use Rattle.zf_type.specs.Scopes.{Scope, Var, spelling, within, last_named, with_local, with_comp, with_global, meaning}
+use Rattle.zf_type.specs.Scopes.{Scope, Var, within, last_named, with_local, with_comp, with_global, meaning}
+use Rattle.zf_tree.specs.Names.{spelling}
 use Rattle.zf_type.specs.Typing.{IsOf, AreOf, AreSetsOf, AllAreOf, AreLinked, Declare, Constrains, Builds}
 use Rattle.zf_type.proofs.ResolvedAlike.{resolved_within}
 use Rattle.zf_calculus.specs.Expressions.{outside}

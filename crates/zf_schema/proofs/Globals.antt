@@ -10,7 +10,7 @@ use Rattle.zf_term.specs.FirstNamed.{first_named, later}
 use Rattle.zf_term.specs.Definitions.{Defined, Definition, given_set, free_type, constructor, schema}
 use Rattle.zf_type.specs.declared.fault.TypeFault.{TypeFault}
 use Rattle.zf_type.specs.Resolving.{resolved}
-use Rattle.zf_type.specs.Scopes.{spelling}
+use Rattle.zf_tree.specs.Names.{spelling}
 use Rattle.zf_schema.specs.Checking.{Item, a_paragraph, a_box, items, IsNew, with_global, next_number, Gives, Constructs, DefinesParagraph, Defines, ChecksOne, Checks, abbreviated}
 use Rattle.zf_calculus.specs.Expressions.{outside}
 use Rattle.zf_schema.specs.SchemaLaws.{AreDefinedOnce, HasCompsOnce, HaveCompsOnce, GlobalsKept, NamesOnce}

@@ -16,7 +16,7 @@ use Rattle.zf_term.specs.ResolvedTrees.{ResolvedTree}
 use Rattle.zf_term.specs.Shapes.{conjuncts}
 use Rattle.zf_term.specs.Types.{Ty}
 use Rattle.zf_type.specs.Resolving.{resolved}
-use Rattle.zf_type.specs.Scopes.{spelling}
+use Rattle.zf_tree.specs.Names.{spelling}
 use Rattle.zf_calculus.specs.Calculus.{nothing, comp, comp_named, with_comp, with_comps, decorated, marked, prime, either_comps, AreOnce}
 use Rattle.zf_calculus.specs.Expressions.{outside, inside, Refers, AddsAll, DeclaresOne, Declares, TakesAll, Constrains, IsText, IsSchema}
 use Rattle.zf_schema.specs.SchemaLaws.{type_found, type_named, HasCompsOnce, HaveCompsOnce}

@@ -11,7 +11,7 @@ use Rattle.zf_term.specs.Shapes.{conjuncts}
 use Rattle.zf_term.specs.Types.{Ty}
 use Rattle.zf_type.specs.Resolving.{resolved}
 use Rattle.zf_type.specs.Rules.{set_of}
-use Rattle.zf_type.specs.Scopes.{spelling}
+use Rattle.zf_tree.specs.Names.{spelling}
 use Rattle.zf_type.proofs.OneSort.{same_set, one_sort}
 use Rattle.zf_calculus.specs.Calculus.{comp, nothing, conjoined, decorated, marked, disjoined}
 use Rattle.zf_calculus.specs.Expressions.{outside, inside, Refers, Adds, AddsAll, Includes, DeclaresOne, Declares, TakesAll, ConstrainsOne, Constrains, IsText, IsSchema}

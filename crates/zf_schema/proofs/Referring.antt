@@ -3,7 +3,7 @@ use Rattle.std.proofs.Common.{◌≡◌, inl, inr, ℕ, List, Some, refl, ap, �
 use Rattle.zf_tree.specs.declared.tree.SchemaRef.{SchemaRef}
 use Rattle.zf_term.specs.Definitions.{Schema, Defined, schema}
 use Rattle.zf_term.specs.FirstNamed.{first_named}
-use Rattle.zf_type.specs.declared.fault.TypeFaultKind.{TypeFaultKind}
+use Rattle.zf_term.specs.declared.fault.TypeFaultKind.{TypeFaultKind}
 use Rattle.zf_type.specs.Refusals.{IfFault}
 use Rattle.zf_calculus.specs.Calculus.{decorated, marked, MarkAgrees}
 use Rattle.zf_calculus.specs.declared.stop.Stop.{Stop}

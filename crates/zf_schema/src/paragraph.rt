@@ -12,7 +12,7 @@ ghost use Rattle.zf_type.specs.Rules.{typed};
 ghost use Rattle.zf_type.specs.Typing.{IsOf};
 ghost use Rattle.zf_calculus.specs.Expressions.{outside};
 ghost use Rattle.zf_type.specs.Refusals.{IfFault};
-ghost use Rattle.zf_type.specs.Scopes.{spelling};
+ghost use Rattle.zf_tree.specs.Names.{spelling};
 ghost use Rattle.zf_schema.specs.Runs as spec;
 ghost use Rattle.zf_schema.specs.Checking.{IsNew, with_global, abbreviated, Gives, Constructs, DefinesParagraph, Defines, a_box, IsTaken, OffendsGiven, OffendsConstructors, OffendsParagraph, OffendsItem};
 
@@ -25,7 +25,8 @@ use zf_term::globals::{Entry, Globals};
 use zf_term::infinite::extent_of;
 use zf_tree::operator::Need;
 use zf_tree::tree::{Decl, Name, Paragraph, SchemaExp, Term};
-use zf_type::fault::{Refusal, TypeFaultKind, refused};
+use zf_type::fault::{Refusal, refused};
+use zf_term::fault::TypeFaultKind;
 use zf_type::judge::judge;
 use zf_type::slate::Slate;
 

@@ -13,8 +13,9 @@ use zf_calculus::marking::{decorate_own, marked};
 use zf_calculus::spare::Spare;
 use zf_term::globals::{Entry, Flat, Globals};
 use zf_tree::tree::SchemaRef;
-use zf_type::fault::{Refusal, TypeFaultKind, refused};
-use zf_type::scope::global_of;
+use zf_type::fault::{Refusal, refused};
+use zf_term::fault::TypeFaultKind;
+use zf_term::named::global_of;
 
 /// The schema that is referred to, with what is left of the limits, and with room for what is expected of it.
 pub fn referred<'a>(

@@ -1,6 +1,7 @@
 pub mod SameNames
 pub mod Choices
 pub mod Entries
+pub mod Found
 pub mod Injective
 pub mod PrintedTypes
 pub mod ResolvedSeen

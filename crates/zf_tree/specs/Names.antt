@@ -1,5 +1,5 @@
 -- A name as contracts see it: its base, its strokes as spelled, and its line. An identifier is a name without its line.
-use Rattle.std.specs.Prelude.{ℕ, Bool, true, false, List, [], ◌∷◌}
+use Rattle.std.specs.Prelude.{ℕ, Bool, true, false, List, [], ◌∷◌, ◌++◌}
 
 pub record Name : Type 0 where
   pub base : List ℕ
@@ -20,3 +20,7 @@ name_at line i = record { base = i.base; strokes = i.strokes; line = line }
 abbrev pub is_bare : List ℕ → Bool
 is_bare [] = true
 is_bare (s ∷ ss) = false
+
+-- two names are the same name where their spellings are equal
+abbrev pub spelling : Name → List ℕ
+spelling n = n.base ++ n.strokes

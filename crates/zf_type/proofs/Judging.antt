@@ -18,7 +18,7 @@ use Rattle.zf_term.specs.ResolvedTrees.{unary, binary}
 use Rattle.zf_term.specs.Shapes.{line_of}
 use Rattle.zf_type.specs.declared.fault.Refusal.{Refusal}
 use Rattle.zf_type.specs.declared.fault.Refusal.TheVariants.{Fault, OutOfMemory}
-use Rattle.zf_type.specs.declared.fault.TypeFaultKind.{TypeFaultKind}
+use Rattle.zf_term.specs.declared.fault.TypeFaultKind.{TypeFaultKind}
 use Rattle.zf_type.specs.declared.sort.Sort as program
 use Rattle.zf_type.specs.Judging.{IsJudged, Judges, unary_tree, binary_tree}
 use Rattle.zf_type.specs.Offences.{Offends, Misplaced, MakesTooLarge, Clash}

@@ -9,8 +9,8 @@ use Rattle.zf_tree.specs.declared.operator.Listed.TheVariants.{Tuple, Display, P
 use Rattle.zf_tree.specs.declared.operator.Need.{Need}
 use Rattle.zf_term.specs.declared.ztype.ZType.{ZType}
 use Rattle.zf_term.specs.ResolvedTrees.{listed}
-use Rattle.zf_type.specs.declared.fault.TypeFaultKind.{TypeFaultKind}
-use Rattle.zf_type.specs.declared.fault.TypeFaultKind.TheVariants.{Mismatch, TooLarge}
+use Rattle.zf_term.specs.declared.fault.TypeFaultKind.{TypeFaultKind}
+use Rattle.zf_term.specs.declared.fault.TypeFaultKind.TheVariants.{Mismatch, TooLarge}
 use Rattle.zf_type.specs.Judging.{listed_tree, member_need, AreMembers, AreAll, Makes, IsOther, DiffersAt}
 use Rattle.zf_type.specs.Offences.{Offends, OneOffends, OneDiffers, Differ}
 use Rattle.zf_type.specs.Resolving.{resolved, resolved_all}

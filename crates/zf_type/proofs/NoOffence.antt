@@ -17,7 +17,7 @@ use Rattle.zf_tree.specs.declared.operator.Rule.TheVariants as rule
 use Rattle.zf_tree.specs.declared.operator.Unary.{Unary}
 use Rattle.zf_tree.specs.declared.operator.Unary.TheVariants as unary
 use Rattle.zf_term.specs.Types as t
-use Rattle.zf_type.specs.declared.fault.TypeFaultKind.{TypeFaultKind}
+use Rattle.zf_term.specs.declared.fault.TypeFaultKind.{TypeFaultKind}
 use Rattle.zf_type.specs.Rules.{Sort, typed, predicate, set_of, IsSmallSort, Meets, Takes, PrefixTakes, SignTakes, UnaryTakes}
 use Rattle.zf_type.specs.Scopes.{Scope, Var, within}
 use Rattle.zf_type.specs.Typing.{declared, IsApart, AreApart, IsOf, AreOf, AreSetsOf, AllAreOf, AreLinked, Declare, Constrains, Builds}

@@ -14,7 +14,8 @@ use Rattle.zf_term.specs.Definitions.{Comp, Defined}
 use Rattle.zf_term.specs.ResolvedTrees.{reference, empty_set, bracket, listed, unary, present}
 use Rattle.zf_term.specs.Types.{Ty, int}
 use Rattle.zf_type.specs.Rules.{Sort}
-use Rattle.zf_type.specs.Scopes.{Scope, Var, spelling, within, last_named, with_local, with_comp, with_global, meaning}
+use Rattle.zf_type.specs.Scopes.{Scope, Var, within, last_named, with_local, with_comp, with_global, meaning}
+use Rattle.zf_tree.specs.Names.{spelling}
 use Rattle.zf_type.specs.Typing.{variables, declared, Declare}
 use Rattle.zf_type.specs.Resolving.{referent, bound, resolved, resolved_all, resolved_links, resolved_ranges, resolved_part}
 

@@ -19,12 +19,13 @@ use Rattle.zf_term.specs.Types as t
 use Rattle.zf_term.specs.Types.{Ty, Tys, power, no_types, type}
 use Rattle.zf_type.specs.declared.fault.Refusal.{Refusal}
 use Rattle.zf_type.specs.declared.sort.Sort as program
-use Rattle.zf_type.specs.declared.fault.TypeFaultKind.{TypeFaultKind}
-use Rattle.zf_type.specs.declared.fault.TypeFaultKind.TheVariants.{LocalTwice}
+use Rattle.zf_term.specs.declared.fault.TypeFaultKind.{TypeFaultKind}
+use Rattle.zf_term.specs.declared.fault.TypeFaultKind.TheVariants.{LocalTwice}
 use Rattle.zf_type.specs.Offences.{Offends, PartOffends, SetsOffend, Repeats, IsRepeated}
 use Rattle.zf_type.specs.Refusals.{IfFault}
 use Rattle.zf_type.specs.Rules.{Sort, typed, set_of, sort_of, Meets}
-use Rattle.zf_type.specs.Scopes.{Scope, Var, spelling}
+use Rattle.zf_type.specs.Scopes.{Scope, Var}
+use Rattle.zf_tree.specs.Names.{spelling}
 use Rattle.zf_type.specs.Typing.{IsOf, IsApart, declared}
 
 -- the term is of this sort, which its place takes

@@ -10,7 +10,8 @@ use Rattle.zf_reference.specs.declared.reference.Reference.TheVariants.{Global}
 use Rattle.zf_term.specs.ResolvedTrees.{ResolvedTree, reference, number, constant, empty_set, bracket, listed, builder, unary, binary, chain, quantified, ResolvedTrees, no_terms, term, ResolvedLinks, no_links, link, Ranges, no_ranges, range, ResolvedPart, absent, present}
 use Rattle.zf_term.specs.Types.{int}
 use Rattle.zf_type.specs.Rules.{Sort}
-use Rattle.zf_type.specs.Scopes.{Scope, spelling, within, meaning}
+use Rattle.zf_type.specs.Scopes.{Scope, within, meaning}
+use Rattle.zf_tree.specs.Names.{spelling}
 use Rattle.zf_type.specs.Typing.{variables, declared}
 
 -- what a name refers to; of a name that is not in scope nothing is asked

@@ -13,8 +13,8 @@ use Rattle.zf_tree.specs.declared.operator.Rule.{Rule}
 use Rattle.zf_tree.specs.declared.operator.Rule.TheVariants as rule
 use Rattle.zf_tree.specs.declared.operator.Unary.{Unary}
 use Rattle.zf_tree.specs.declared.operator.Unary.TheVariants as unary
-use Rattle.zf_type.specs.declared.fault.TypeFaultKind.{TypeFaultKind}
-use Rattle.zf_type.specs.declared.fault.TypeFaultKind.TheVariants.{NotASet, NotANumber, NotARelation, NotAPredicate, NotAnExpression}
+use Rattle.zf_term.specs.declared.fault.TypeFaultKind.{TypeFaultKind}
+use Rattle.zf_term.specs.declared.fault.TypeFaultKind.TheVariants.{NotASet, NotANumber, NotARelation, NotAPredicate, NotAnExpression}
 use Rattle.zf_type.specs.declared.sort.Sort as program
 use Rattle.zf_type.specs.declared.sort.Sort.TheVariants.{Typed}
 

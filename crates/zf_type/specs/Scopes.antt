@@ -12,10 +12,6 @@ use Rattle.zf_type.specs.declared.variable.Variable.{Variable}
 use Rattle.zf_type.specs.declared.sort.Sort as program
 use Rattle.zf_type.specs.Rules.{Sort, typed, a_schema, set_of, sort_of}
 
--- two names are the same name where their spellings are equal
-abbrev pub spelling : Name → List ℕ
-spelling n = n.base ++ n.strokes
-
 -- a bound variable
 pub record Var : Type 0 where
   pub name : List ℕ
@@ -71,11 +67,6 @@ meaning s x =
 
 unfoldable pub scope_of : program_scope.Scope → Scope
 scope_of s = record { globals = globals_of s.globals.now; comps = map comp_of s.components.now; locals = map variable_of s.locals }
-
--- what is found, with its place
-abbrev pub found_as : {A B : Type 0} → (A → B) → Option (ℕ × A) → Option (ℕ × B)
-found_as f None = None
-found_as f (Some p) = Some (p.0, f p.1)
 
 abbrev pub meant : Option (Reference × program.Sort) → Option (Reference × Sort)
 meant None = None

@@ -9,7 +9,8 @@ use Rattle.zf_tree.specs.declared.operator.Unary.TheVariants.{Sign, Inverse, Not
 use Rattle.zf_reference.specs.declared.reference.Reference.{Reference}
 use Rattle.zf_term.specs.Types as t
 use Rattle.zf_type.specs.Rules.{Sort, typed, predicate, a_schema, number, set_of, IsSmallSort, Takes, UnaryTakes, constant_sort}
-use Rattle.zf_type.specs.Scopes.{Scope, Var, spelling, within, meaning}
+use Rattle.zf_type.specs.Scopes.{Scope, Var, within, meaning}
+use Rattle.zf_tree.specs.Names.{spelling}
 
 -- the variables of names that are declared to be in a set
 abbrev pub variables : List Name → Ty → List Var

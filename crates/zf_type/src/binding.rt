@@ -7,11 +7,13 @@ ghost use Rattle.zf_type.specs.Judging.{AreNew, AreRepeated, var_type};
 ghost use Rattle.zf_type.specs.Refusals.{IfFault};
 ghost use Rattle.zf_type.specs.Rules.{Meets, set_of, sort_of};
 ghost use Rattle.zf_type.specs.Scopes as spec;
-ghost use Rattle.zf_type.specs.Scopes.{Var, scope_of, spelling, variable_of, within};
+ghost use Rattle.zf_type.specs.Scopes.{Var, scope_of, variable_of, within};
+ghost use Rattle.zf_tree.specs.Names.{spelling};
 ghost use Rattle.zf_type.specs.Typing as typing;
-ghost use Rattle.zf_type.specs.declared.fault.TypeFaultKind as faults;
+ghost use Rattle.zf_term.specs.declared.fault.TypeFaultKind as faults;
 
-use crate::fault::{Refusal, TypeFaultKind, refused};
+use crate::fault::{Refusal, refused};
+use zf_term::fault::TypeFaultKind;
 use crate::locals::Locals;
 use crate::scope::{Scope, is_bound};
 use crate::sort::Sort;

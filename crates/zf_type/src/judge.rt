@@ -19,7 +19,8 @@ mod chains;
 mod lists;
 mod operands;
 
-use crate::fault::{Refusal, TypeFaultKind, refused};
+use crate::fault::{Refusal, refused};
+use zf_term::fault::TypeFaultKind;
 use crate::rules::constant_sort;
 use crate::scope::Scope;
 use crate::sort::Sort;

@@ -14,7 +14,8 @@ use Rattle.zf_term.specs.FirstNamed.{first_named}
 use Rattle.zf_term.specs.Types.{Ty, int, power}
 use Rattle.zf_type.specs.Resolving.{referent, resolved}
 use Rattle.zf_type.specs.Rules.{typed, constant_sort}
-use Rattle.zf_type.specs.Scopes.{spelling, definition_sort, with_global}
+use Rattle.zf_type.specs.Scopes.{definition_sort, with_global}
+use Rattle.zf_tree.specs.Names.{spelling}
 use Rattle.zf_type.specs.Typing.{IsOf}
 use Rattle.zf_calculus.specs.Expressions.{outside}
 use Rattle.zf_schema.specs.WellTypedGlobals.{IsMadeAfter, AreWellTyped}

@@ -9,7 +9,7 @@ use Rattle.zf_tree.specs.Trees.{DeclTree, vars, include, SchemaTree, schema_text
 use Rattle.zf_term.specs.Definitions.{Schema, DeclaredSet, plain, Defined, Definition, given_set, free_type, constructor, abbreviation, schema}
 use Rattle.zf_term.specs.Types.{Ty}
 use Rattle.zf_type.specs.Resolving.{resolved}
-use Rattle.zf_type.specs.Scopes.{spelling}
+use Rattle.zf_tree.specs.Names.{spelling}
 use Rattle.zf_calculus.specs.Calculus.{nothing, comp, marked}
 use Rattle.zf_calculus.specs.Expressions.{outside, Refers, AddsAll, DeclaresOne, Declares, IsSchema}
 use Rattle.zf_schema.specs.SchemaLaws.{HasCompsOnce, HaveCompsOnce}

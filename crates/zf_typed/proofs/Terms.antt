@@ -17,7 +17,8 @@ use Rattle.zf_term.specs.Types.{Ty, Tys, power, no_types, type}
 use Rattle.zf_term.specs.Types as t
 use Rattle.zf_type.specs.Resolving.{referent, bound, resolved, resolved_all, resolved_ranges, resolved_part}
 use Rattle.zf_type.specs.Rules.{Sort, typed, predicate, number, set_of, Takes, UnaryTakes}
-use Rattle.zf_type.specs.Scopes.{Scope, Var, spelling}
+use Rattle.zf_type.specs.Scopes.{Scope, Var}
+use Rattle.zf_tree.specs.Names.{spelling}
 use Rattle.zf_type.specs.Scopes as scopes
 use Rattle.zf_type.specs.Typing.{IsOf, AreOf, AreSetsOf, AllAreOf, Declare, types_of, row_type, variables}
 use Rattle.zf_type.specs.Typing as typing

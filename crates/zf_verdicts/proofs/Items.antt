@@ -8,12 +8,12 @@ use Rattle.zf_term.specs.Definitions.{Schema, Defined, given_set, free_type, con
 use Rattle.zf_term.specs.FirstNamed.{first_named}
 use Rattle.zf_term.specs.Types.{Ty}
 use Rattle.zf_type.specs.declared.fault.TypeFault.{TypeFault}
-use Rattle.zf_type.specs.declared.fault.TypeFaultKind.{TypeFaultKind}
-use Rattle.zf_type.specs.declared.fault.TypeFaultKind.TheVariants.{AlreadyDefined}
+use Rattle.zf_term.specs.declared.fault.TypeFaultKind.{TypeFaultKind}
+use Rattle.zf_term.specs.declared.fault.TypeFaultKind.TheVariants.{AlreadyDefined}
 use Rattle.zf_type.specs.Offences.{Offends}
 use Rattle.zf_type.specs.Resolving.{resolved}
 use Rattle.zf_type.specs.Rules.{typed}
-use Rattle.zf_type.specs.Scopes.{spelling}
+use Rattle.zf_tree.specs.Names.{spelling}
 use Rattle.zf_type.specs.Typing.{IsOf}
 use Rattle.zf_calculus.specs.Expressions.{outside, IsText, IsSchema}
 use Rattle.zf_calculus.specs.SchemaOffences.{OffendsText, OffendsSchema}

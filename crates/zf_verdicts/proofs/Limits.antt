@@ -4,8 +4,8 @@ use Rattle.zf_tree.specs.declared.tree.RefMark.{RefMark}
 use Rattle.zf_tree.specs.declared.tree.RefMark.TheVariants.{Plain, Delta, Xi}
 use Rattle.zf_term.specs.Definitions.{Comp, Schema}
 use Rattle.zf_term.specs.Shapes.{height}
-use Rattle.zf_type.specs.declared.fault.TypeFaultKind.{TypeFaultKind}
-use Rattle.zf_type.specs.declared.fault.TypeFaultKind.TheVariants.{ComponentClash, TooLarge}
+use Rattle.zf_term.specs.declared.fault.TypeFaultKind.{TypeFaultKind}
+use Rattle.zf_term.specs.declared.fault.TypeFaultKind.TheVariants.{ComponentClash, TooLarge}
 use Rattle.zf_calculus.specs.Calculus.{comp_named, HasTypeOf, Agrees, Agree, decorated, prime, MarkAgrees}
 use Rattle.zf_calculus.specs.Expressions.{IsNext}
 use Rattle.zf_calculus.specs.Limits.{components_max, sets_max, conjuncts_max, nodes_max, height_max, declared_sets, all_nodes, IsLow, IsWithin}

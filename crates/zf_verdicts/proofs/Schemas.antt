@@ -9,12 +9,12 @@ use Rattle.zf_term.specs.FirstNamed.{first_named}
 use Rattle.zf_term.specs.ResolvedTrees.{ResolvedTree}
 use Rattle.zf_term.specs.Shapes.{line_of, conjuncts}
 use Rattle.zf_term.specs.Types.{Ty}
-use Rattle.zf_type.specs.declared.fault.TypeFaultKind.{TypeFaultKind}
-use Rattle.zf_type.specs.declared.fault.TypeFaultKind.TheVariants.{NotDeclared, NotASchema, ComponentClash, TooLarge}
+use Rattle.zf_term.specs.declared.fault.TypeFaultKind.{TypeFaultKind}
+use Rattle.zf_term.specs.declared.fault.TypeFaultKind.TheVariants.{NotDeclared, NotASchema, ComponentClash, TooLarge}
 use Rattle.zf_type.specs.Offences.{Offends}
 use Rattle.zf_type.specs.Resolving.{resolved}
 use Rattle.zf_type.specs.Rules.{predicate, set_of}
-use Rattle.zf_type.specs.Scopes.{spelling}
+use Rattle.zf_tree.specs.Names.{spelling}
 use Rattle.zf_type.specs.Typing.{IsOf}
 use Rattle.zf_calculus.specs.Calculus.{comp, schema_of, nothing, Agrees, Agree, with_comp, conjoined, decorated, marked, MarkAgrees, disjoined}
 use Rattle.zf_calculus.specs.Expressions.{outside, inside, IsNext, Refers, Adds, AddsAll, Includes, DeclaresOne, Declares, TakesAll, ConstrainsOne, Constrains, IsText, IsSchema}

@@ -14,10 +14,11 @@ use Rattle.zf_tree.specs.declared.operator.Unary.TheVariants as unary
 use Rattle.zf_reference.specs.declared.reference.Reference.{Reference}
 use Rattle.zf_term.specs.Types as t
 use Rattle.zf_term.specs.Types.{Ty, power, Tys, no_types, type, IsSmall}
-use Rattle.zf_type.specs.declared.fault.TypeFaultKind.{TypeFaultKind}
-use Rattle.zf_type.specs.declared.fault.TypeFaultKind.TheVariants.{NotDeclared, Mismatch, TooLarge}
+use Rattle.zf_term.specs.declared.fault.TypeFaultKind.{TypeFaultKind}
+use Rattle.zf_term.specs.declared.fault.TypeFaultKind.TheVariants.{NotDeclared, Mismatch, TooLarge}
 use Rattle.zf_type.specs.Rules.{Sort, typed, predicate, a_schema, number, set_of, IsSmallSort, Meets, lack_of, Takes, UnaryTakes, constant_sort}
-use Rattle.zf_type.specs.Scopes.{Scope, Var, spelling, within, meaning}
+use Rattle.zf_type.specs.Scopes.{Scope, Var, within, meaning}
+use Rattle.zf_tree.specs.Names.{spelling}
 use Rattle.zf_type.specs.Typing.{variables, declared, row_type, AreApart, IsOf, AreOf, AreSetsOf, AllAreOf, AreLinked, Declare, Constrains, Builds}
 use Rattle.zf_type.specs.Offences.{Misplaced, Clash, MakesTooLarge, Repeats, OneDiffers, Differ, Offends, OneOffends, LinksOffend, SetsOffend, PartOffends}
 use Rattle.zf_verdicts.specs.Laws.{SomeOffence}

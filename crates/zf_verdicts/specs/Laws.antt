@@ -4,7 +4,7 @@ use Rattle.zf_tree.specs.Trees.{Tree, DeclTree, SchemaTree, BoxTree}
 use Rattle.zf_tree.specs.declared.operator.Need.{Need}
 use Rattle.zf_term.specs.Definitions.{Schema, Defined}
 use Rattle.zf_type.specs.declared.fault.TypeFault.{TypeFault}
-use Rattle.zf_type.specs.declared.fault.TypeFaultKind.{TypeFaultKind}
+use Rattle.zf_term.specs.declared.fault.TypeFaultKind.{TypeFaultKind}
 use Rattle.zf_type.specs.Offences.{Offends}
 use Rattle.zf_type.specs.Rules.{Sort, Meets}
 use Rattle.zf_type.specs.Scopes.{Scope}

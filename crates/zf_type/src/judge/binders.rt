@@ -16,7 +16,8 @@ ghost use Rattle.zf_type.specs.Typing.{Binds, Builds, row_type};
 
 use super::{Place, judge_boxed, judge_term, misplaced, predicate};
 use crate::binding::{bind, declare_names, depth, row, unbind};
-use crate::fault::{Refusal, TypeFaultKind, refused};
+use crate::fault::{Refusal, refused};
+use zf_term::fault::TypeFaultKind;
 use crate::locals::Locals;
 use crate::scope::Scope;
 use crate::sort::Sort;

@@ -13,7 +13,8 @@ ghost use Rattle.zf_type.specs.Scopes.{scope_of};
 ghost use Rattle.zf_type.specs.Typing.{AreLinked, IsOf};
 
 use super::{judge_boxed, judge_term, predicate};
-use crate::fault::{Refusal, TypeFaultKind, refused};
+use crate::fault::{Refusal, refused};
+use zf_term::fault::TypeFaultKind;
 use crate::rules::combine;
 use crate::scope::Scope;
 use crate::sort::Sort;

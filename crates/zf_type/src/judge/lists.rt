@@ -14,7 +14,8 @@ ghost use Rattle.zf_type.specs.Scopes as spec;
 ghost use Rattle.zf_type.specs.Scopes.{scope_of};
 
 use super::{Place, judge_term, misplaced};
-use crate::fault::{Refusal, TypeFaultKind, refused};
+use crate::fault::{Refusal, refused};
+use zf_term::fault::TypeFaultKind;
 use crate::scope::Scope;
 use crate::sort::Sort;
 use bumpalo::Bump;

@@ -1,6 +1,6 @@
 use Rattle.std.proofs.Common.{sym, ap, subst}
 use Rattle.zf_term.specs.Definitions.{globals_of, schema_of}
-use Rattle.zf_type.specs.declared.fault.TypeFaultKind.{TypeFaultKind}
+use Rattle.zf_term.specs.declared.fault.TypeFaultKind.{TypeFaultKind}
 use Rattle.zf_calculus.specs.Calculus.{marked, MarkAgrees}
 use Rattle.zf_calculus.specs.Expressions.{IsNext}
 use Rattle.zf_calculus.specs.SchemaOffences.{Stops, OffendsRef}

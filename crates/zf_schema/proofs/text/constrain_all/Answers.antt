@@ -1,7 +1,7 @@
 use Rattle.std.proofs.Common.{ℕ, map, refl, rules}
 use Rattle.zf_tree.specs.Trees.{tree_of}
 use Rattle.zf_term.specs.Definitions.{globals_of, schema_of}
-use Rattle.zf_type.specs.declared.fault.TypeFaultKind.{TypeFaultKind}
+use Rattle.zf_term.specs.declared.fault.TypeFaultKind.{TypeFaultKind}
 use Rattle.zf_calculus.specs.Expressions.{Constrains}
 use Rattle.zf_calculus.specs.Growth.{CantConstrain}
 use Rattle.zf_calculus.specs.SchemaOffences.{OffendsPredicates}

@@ -1,7 +1,7 @@
 use Rattle.std.proofs.Common.{ℕ, map, drop}
 use Rattle.zf_tree.specs.Trees.{decl_of}
 use Rattle.zf_term.specs.Definitions.{Schema, globals_of, schema_of}
-use Rattle.zf_type.specs.declared.fault.TypeFaultKind.{TypeFaultKind}
+use Rattle.zf_term.specs.declared.fault.TypeFaultKind.{TypeFaultKind}
 use Rattle.zf_calculus.specs.Expressions.{Declares}
 use Rattle.zf_calculus.specs.Growth.{IsGrowing}
 use Rattle.zf_calculus.specs.SchemaOffences.{OffendsDecls}

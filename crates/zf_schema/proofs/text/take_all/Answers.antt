@@ -1,7 +1,7 @@
 use Rattle.std.proofs.Common.{ℕ, inl, inr, map, refl, rules}
 use Rattle.zf_term.specs.Definitions.{schema_of}
 use Rattle.zf_term.specs.Written.{written_of}
-use Rattle.zf_type.specs.declared.fault.TypeFaultKind.{TypeFaultKind}
+use Rattle.zf_term.specs.declared.fault.TypeFaultKind.{TypeFaultKind}
 use Rattle.zf_calculus.specs.Expressions.{TakesAll}
 use Rattle.zf_calculus.specs.Growth.{CantTake}
 use Rattle.zf_calculus.specs.SchemaOffences.{OffendsConjuncts}

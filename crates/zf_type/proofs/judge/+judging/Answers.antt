@@ -10,8 +10,8 @@ use Rattle.zf_term.specs.Written.{part_tree}
 use Rattle.zf_tree.specs.declared.operator.Need.TheVariants as need
 use Rattle.zf_term.specs.Filling.{onto, all_onto, links_onto, part_onto, ranges_onto}
 use Rattle.zf_type.specs.Judging.{Judges, JudgesPart, AreNew, AreRepeated, DeclarationsOffend, AreMembers, member_need, unary_tree, binary_tree, listed_tree}
-use Rattle.zf_type.specs.declared.fault.TypeFaultKind.{TypeFaultKind}
-use Rattle.zf_type.specs.declared.fault.TypeFaultKind.TheVariants.{Mismatch}
+use Rattle.zf_term.specs.declared.fault.TypeFaultKind.{TypeFaultKind}
+use Rattle.zf_term.specs.declared.fault.TypeFaultKind.TheVariants.{Mismatch}
 use Rattle.zf_type.specs.Offences.{Offends, OneOffends, LinksOffend, SetsOffend}
 use Rattle.zf_type.specs.Refusals.{IfFault}
 use Rattle.zf_type.specs.Resolving.{resolved, resolved_all, resolved_links, resolved_part, resolved_ranges}

@@ -1,6 +1,6 @@
 use Rattle.std.proofs.Common.{◌≡◌, length}
 use Rattle.std.specs.Str.{bytes_eq}
-use Rattle.zf_type.proofs.spelling.are_same.Given as goal
+use Rattle.zf_term.proofs.spelling.are_same.Given as goal
 
 abbrev pub invariant-loop-left : goal.invariant-loop-left
 invariant-loop-left l = bytes_eq l.left l.right ≡ bytes_eq l.fn.left l.fn.right

@@ -4,8 +4,8 @@ use Rattle.std.proofs.lemmas.List.Quantifiers.{position-Some}
 use Rattle.std.proofs.lemmas.Option.{slice_get_within, get_or_from_slice_get}
 use Rattle.std.specs.Str.{bytes_eq}
 use Rattle.zf_term.proofs.Entries.{no_global}
-use Rattle.zf_type.proofs.Named.{entry_at, key_of}
-use Rattle.zf_type.proofs.scope.global_of.Goals as goal
+use Rattle.zf_term.proofs.Found.{entry_at, key_of}
+use Rattle.zf_term.proofs.named.global_of.Goals as goal
 
 pub returns-in-Some : goal.returns-in-Some
 returns-in-Some c =

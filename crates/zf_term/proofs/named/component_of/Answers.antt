@@ -3,8 +3,8 @@ use Rattle.std.specs.Str.{bytes_eq}
 use Rattle.std.proofs.lemmas.List.{take_all}
 use Rattle.zf_term.specs.Definitions.{comp_of}
 use Rattle.zf_term.specs.FirstNamed.{first_named}
-use Rattle.zf_type.proofs.Named.{first_at, none_more}
-use Rattle.zf_type.proofs.scope.component_of.Goals as goal
+use Rattle.zf_term.proofs.Found.{first_at, none_more}
+use Rattle.zf_term.proofs.named.component_of.Goals as goal
 
 pub returns-then-is_same : goal.returns-then-is_same
 returns-then-is_same c =
