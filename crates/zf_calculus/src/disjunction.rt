@@ -8,10 +8,9 @@ ghost use Rattle.zf_term.specs.Types.{type_of};
 ghost use Rattle.zf_term.specs.declared.fault.TypeFaultKind.TheVariants as kinds;
 ghost use Rattle.zf_calculus.specs.Calculus as spec;
 ghost use Rattle.zf_calculus.specs.Calculus.{Agree, comp_named, disjoined, with_comps};
-ghost use Rattle.zf_calculus.specs.Expressions.{IsNext};
+ghost use Rattle.zf_calculus.specs.Steps.{IsNext, Stops};
 ghost use Rattle.zf_calculus.specs.Growth.{IfStopped, IsGrowing, all_joined, both_hold, disjoined_over, either_comp, is_member, one_holds};
 ghost use Rattle.zf_calculus.specs.Limits.{AreFew};
-ghost use Rattle.zf_calculus.specs.SchemaOffences.{Stops};
 
 use crate::components::{agree, component_copies, join_all, new_places};
 use crate::growing::Growing;
@@ -25,10 +24,10 @@ use zf_data::arena::{Boxed, Items, Shared};
 use zf_reference::reference::Reference;
 use zf_term::conjunct::{Conjunct, Statement};
 use zf_term::globals::{Component, Domain, Domains, Flat};
+use zf_term::named::component_of;
 use zf_term::resolved::{Resolved, ResolvedLink};
 use zf_tree::operator::Operator;
 use zf_tree::symbol::{Connective, Constant, Relation};
-use zf_term::named::component_of;
 
 /// The components of the left side, and those of the right side that are new.
 fn all_components<'a>(

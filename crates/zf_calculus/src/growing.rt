@@ -5,10 +5,9 @@ ghost use Rattle.zf_term.specs.ResolvedTrees.{ResolvedTree};
 ghost use Rattle.zf_reference.specs.Numbering.{place_in};
 ghost use Rattle.zf_term.specs.Shapes.{moved, numbering};
 ghost use Rattle.zf_calculus.specs.Calculus.{Agree, Agrees, conjoined, new_place, nothing};
-ghost use Rattle.zf_calculus.specs.Expressions.{Adds, Includes, IsNext};
+ghost use Rattle.zf_calculus.specs.Steps.{Adds, Includes, IsNext, Stops};
 ghost use Rattle.zf_calculus.specs.Growth.{HasLeftBeside, IsGrowing, IfStopped, IsTooLarge, constrained, equalities, equality, grown};
 ghost use Rattle.zf_calculus.specs.Limits.{IsWithin};
-ghost use Rattle.zf_calculus.specs.SchemaOffences.{Stops};
 
 use crate::components::{agree, agrees, are_apart, join, join_all};
 use crate::limits::{COMPONENTS_MAX, CONJUNCTS_MAX, NODES_MAX, SETS_MAX};

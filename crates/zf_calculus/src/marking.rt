@@ -4,9 +4,8 @@ ghost use Rattle.zf_term.specs.Definitions.{comp_of, schema_of};
 ghost use Rattle.zf_reference.specs.Numbering.{place_in};
 ghost use Rattle.zf_calculus.specs.Calculus as spec;
 ghost use Rattle.zf_calculus.specs.Calculus.{Agree, MarkAgrees, comp, decorated, delta, new_place, prime, xi};
-ghost use Rattle.zf_calculus.specs.Expressions.{IsNext};
+ghost use Rattle.zf_calculus.specs.Steps.{IsNext, Stops};
 ghost use Rattle.zf_calculus.specs.Growth.{IfStopped, IsGrowing, IsTooLarge};
-ghost use Rattle.zf_calculus.specs.SchemaOffences.{Stops};
 
 use crate::components::agree;
 use crate::growing::Growing;

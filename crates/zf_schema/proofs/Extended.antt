@@ -17,7 +17,7 @@ use Rattle.zf_type.specs.Scopes.{Scope, Var, within, last_named, with_local, wit
 use Rattle.zf_tree.specs.Names.{spelling}
 use Rattle.zf_type.specs.Typing.{IsOf, AreOf, AreSetsOf, AllAreOf, AreLinked, Declare, Constrains, Builds}
 use Rattle.zf_type.proofs.ResolvedAlike.{resolved_within}
-use Rattle.zf_calculus.specs.Expressions.{outside}
+use Rattle.zf_schema.specs.Expressions.{outside}
 use Rattle.zf_schema.specs.WellTypedGlobals.{ExtentsKept}
 use Rattle.zf_schema.proofs.Fronts.{in_front}
 use Rattle.zf_schema.proofs.Named.{named_there}

@@ -12,7 +12,7 @@ use Rattle.zf_type.specs.declared.fault.TypeFault.{TypeFault}
 use Rattle.zf_type.specs.Resolving.{resolved}
 use Rattle.zf_tree.specs.Names.{spelling}
 use Rattle.zf_schema.specs.Checking.{Item, a_paragraph, a_box, items, IsNew, with_global, next_number, Gives, Constructs, DefinesParagraph, Defines, ChecksOne, Checks, abbreviated}
-use Rattle.zf_calculus.specs.Expressions.{outside}
+use Rattle.zf_schema.specs.Expressions.{outside}
 use Rattle.zf_schema.specs.SchemaLaws.{AreDefinedOnce, HasCompsOnce, HaveCompsOnce, GlobalsKept, NamesOnce}
 use Rattle.zf_term.proofs.SameNames.{swapped}
 use Rattle.zf_schema.proofs.Once.{schema_once, text_once}

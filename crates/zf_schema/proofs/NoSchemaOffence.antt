@@ -17,8 +17,9 @@ use Rattle.zf_tree.specs.Names.{spelling}
 use Rattle.zf_type.proofs.NoOffence.{no_offence}
 use Rattle.zf_type.proofs.OneSort.{same_set, one_sort}
 use Rattle.zf_calculus.specs.Calculus.{comp, schema_of, nothing, Agrees, Agree, with_comp, conjoined, decorated, marked, MarkAgrees, disjoined}
-use Rattle.zf_calculus.specs.Expressions.{outside, inside, IsNext, Refers, AddsAll, Includes, DeclaresOne, Declares, TakesAll, Constrains, IsText, IsSchema}
-use Rattle.zf_calculus.specs.SchemaOffences.{Stops, IsNoSchema, CantRefer, OffendsRef, OffendsNames, AnyByRecursion, OffendsAlone, OffendsAfter, OneOffendsAfter, OffendsDecls, OffendsConjuncts, OneConstrainsTooMuch, OffendsPredicates, OffendsText, StopsEither, OffendsSchema, name_line}
+use Rattle.zf_schema.specs.Expressions.{outside, inside, Refers, AddsAll, DeclaresOne, Declares, TakesAll, Constrains, IsText, IsSchema}
+use Rattle.zf_calculus.specs.Steps.{IsNext, Includes, Stops}
+use Rattle.zf_schema.specs.SchemaOffences.{IsNoSchema, CantRefer, OffendsRef, OffendsNames, AnyByRecursion, OffendsAlone, OffendsAfter, OneOffendsAfter, OffendsDecls, OffendsConjuncts, OneConstrainsTooMuch, OffendsPredicates, OffendsText, StopsEither, OffendsSchema, name_line}
 use Rattle.zf_schema.proofs.Once.{taken_comps}
 use Rattle.zf_schema.proofs.Texts.{same_judged}
 use Rattle.zf_schema.proofs.OneSchema.{one_base, one_reference, one_added, one_declaration, all_declared, one_constraint, one_schema}

@@ -10,7 +10,7 @@ use Rattle.zf_term.specs.Numbers.{has_elements, next_number}
 use Rattle.zf_type.specs.Resolving.{resolved}
 use Rattle.zf_tree.specs.Names.{spelling}
 use Rattle.zf_schema.specs.Checking.{with_global, abbreviated, Gives, Constructs, DefinesParagraph}
-use Rattle.zf_calculus.specs.Expressions.{outside}
+use Rattle.zf_schema.specs.Expressions.{outside}
 use Rattle.zf_schema.specs.Runs.{elements}
 
 at_most_one : (d : Definition) → has_elements d ≤ 1

@@ -18,7 +18,7 @@ use Rattle.zf_term.specs.Types.{Ty}
 use Rattle.zf_type.specs.Resolving.{resolved}
 use Rattle.zf_tree.specs.Names.{spelling}
 use Rattle.zf_calculus.specs.Calculus.{nothing, comp, comp_named, with_comp, with_comps, decorated, marked, prime, either_comps, AreOnce}
-use Rattle.zf_calculus.specs.Expressions.{outside, inside, Refers, AddsAll, DeclaresOne, Declares, TakesAll, Constrains, IsText, IsSchema}
+use Rattle.zf_schema.specs.Expressions.{outside, inside, Refers, AddsAll, DeclaresOne, Declares, TakesAll, Constrains, IsText, IsSchema}
 use Rattle.zf_schema.specs.SchemaLaws.{type_found, type_named, HasCompsOnce, HaveCompsOnce}
 use Rattle.zf_term.proofs.SameNames.{is_same, tests_alike, swapped}
 use Rattle.zf_calculus.proofs.Merging.{none_known}

@@ -12,7 +12,7 @@ use Rattle.zf_tree.specs.Names.{spelling}
 use Rattle.zf_type.proofs.NoOffence.{no_offence}
 use Rattle.zf_type.proofs.OneSort.{same_typed, one_sort}
 use Rattle.zf_schema.specs.Checking.{Item, a_paragraph, a_box, with_global, abbreviated, next_number, Gives, Constructs, DefinesParagraph, Defines, OffendsGiven, OffendsConstructors, OffendsParagraph, OffendsItem}
-use Rattle.zf_calculus.specs.Expressions.{outside}
+use Rattle.zf_schema.specs.Expressions.{outside}
 use Rattle.zf_schema.proofs.NoSchemaOffence.{no_schema_offence, no_text_offence}
 use Rattle.zf_schema.proofs.OneSchema.{one_schema, one_text}
 

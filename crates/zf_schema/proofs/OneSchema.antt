@@ -14,7 +14,8 @@ use Rattle.zf_type.specs.Rules.{set_of}
 use Rattle.zf_tree.specs.Names.{spelling}
 use Rattle.zf_type.proofs.OneSort.{same_set, one_sort}
 use Rattle.zf_calculus.specs.Calculus.{comp, nothing, conjoined, decorated, marked, disjoined}
-use Rattle.zf_calculus.specs.Expressions.{outside, inside, Refers, Adds, AddsAll, Includes, DeclaresOne, Declares, TakesAll, ConstrainsOne, Constrains, IsText, IsSchema}
+use Rattle.zf_schema.specs.Expressions.{outside, inside, Refers, AddsAll, DeclaresOne, Declares, TakesAll, ConstrainsOne, Constrains, IsText, IsSchema}
+use Rattle.zf_calculus.specs.Steps.{Adds, Includes}
 
 -- ---- the base of a reference
 

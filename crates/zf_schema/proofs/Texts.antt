@@ -13,9 +13,10 @@ use Rattle.zf_type.specs.Offences.{Offends}
 use Rattle.zf_type.specs.Refusals.{IfFault}
 use Rattle.zf_type.specs.Resolving.{resolved}
 use Rattle.zf_calculus.specs.Calculus.{Agree, conjoined}
-use Rattle.zf_calculus.specs.Expressions.{inside, Refers, DeclaresOne, ConstrainsOne}
-use Rattle.zf_calculus.specs.Growth.{CantConstrain, CantDeclare, over}
-use Rattle.zf_calculus.specs.SchemaOffences.{AnyByRecursion, OffendsDecls, OffendsPredicates, Stops}
+use Rattle.zf_schema.specs.Expressions.{inside, Refers, DeclaresOne, ConstrainsOne}
+use Rattle.zf_schema.specs.Refusing.{CantConstrain, CantDeclare, over}
+use Rattle.zf_schema.specs.SchemaOffences.{AnyByRecursion, OffendsDecls, OffendsPredicates}
+use Rattle.zf_calculus.specs.Steps.{Stops}
 use Rattle.zf_term.proofs.Walk.{dropped}
 use Rattle.zf_schema.proofs.Once.{taken_comps}
 

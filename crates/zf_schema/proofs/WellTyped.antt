@@ -10,7 +10,7 @@ use Rattle.zf_type.specs.declared.fault.TypeFault.{TypeFault}
 use Rattle.zf_type.specs.Resolving.{resolved}
 use Rattle.zf_tree.specs.Names.{spelling}
 use Rattle.zf_schema.specs.Checking.{Item, a_paragraph, a_box, items, with_global, abbreviated, next_number, Gives, Constructs, DefinesParagraph, Defines, ChecksOne, Checks}
-use Rattle.zf_calculus.specs.Expressions.{outside}
+use Rattle.zf_schema.specs.Expressions.{outside}
 use Rattle.zf_schema.specs.WellTypedGlobals.{IsMadeAfter, AreWellTyped, GlobalsWellTyped}
 use Rattle.zf_schema.proofs.Fronts.{in_front, at_seam, before_or_last}
 

@@ -18,8 +18,8 @@ use Rattle.zf_type.specs.Resolving.{resolved}
 use Rattle.zf_type.specs.Rules.{typed}
 use Rattle.zf_tree.specs.Names.{spelling}
 use Rattle.zf_type.specs.Typing.{IsOf}
-use Rattle.zf_calculus.specs.Expressions.{outside, IsText, IsSchema}
-use Rattle.zf_calculus.specs.SchemaOffences.{OffendsText, OffendsSchema}
+use Rattle.zf_schema.specs.Expressions.{outside, IsText, IsSchema}
+use Rattle.zf_schema.specs.SchemaOffences.{OffendsText, OffendsSchema}
 
 -- a paragraph, or a schema box
 pub data Item : Type 0 where

@@ -13,8 +13,8 @@ use Rattle.zf_type.specs.declared.fault.TypeFault.{TypeFault}
 use Rattle.zf_term.specs.declared.fault.TypeFaultKind.{TypeFaultKind}
 use Rattle.zf_calculus.specs.Calculus.{EachOnce, AreOnce, comp, comp_named, Agree, with_comps, new_place, conjoined, decorated, prime, delta, all_unchanged, xi, MarkAgrees, sets_on, disjoined}
 use Rattle.zf_schema.specs.Checking.{Item, Defines, OffendsItem, IsChecked}
-use Rattle.zf_calculus.specs.Expressions.{IsSchema}
-use Rattle.zf_calculus.specs.SchemaOffences.{OffendsSchema}
+use Rattle.zf_schema.specs.Expressions.{IsSchema}
+use Rattle.zf_schema.specs.SchemaOffences.{OffendsSchema}
 
 -- a schema expression is one schema at most
 abbrev pub OneSchema : Type 0

@@ -10,7 +10,7 @@ use Rattle.zf_type.specs.declared.fault.TypeFault.{TypeFault}
 use Rattle.zf_type.specs.Resolving.{resolved}
 use Rattle.zf_type.specs.Rules.{typed}
 use Rattle.zf_type.specs.Typing.{IsOf}
-use Rattle.zf_calculus.specs.Expressions.{outside, IsSchema}
+use Rattle.zf_schema.specs.Expressions.{outside, IsSchema}
 use Rattle.zf_schema.specs.Checking.{next_number, IsChecked}
 
 -- the free type of this number and name is among the globals; it has this name at the place, and only that many globals stand behind it

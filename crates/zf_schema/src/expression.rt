@@ -5,12 +5,15 @@ ghost use Rattle.zf_tree.specs.Trees.{decl_of};
 ghost use Rattle.zf_term.specs.Definitions.{globals_of, schema_of};
 ghost use Rattle.zf_type.specs.Refusals.{IfFault};
 ghost use Rattle.zf_calculus.specs.Calculus.{Agree, conjoined, disjoined};
-ghost use Rattle.zf_calculus.specs.Expressions.{IsNext, IsSchema};
-ghost use Rattle.zf_calculus.specs.Growth.{CantConjoin, IsGrowing};
-ghost use Rattle.zf_calculus.specs.SchemaOffences as spec;
-ghost use Rattle.zf_calculus.specs.SchemaOffences.{OffendsSchema, StopsEither};
+ghost use Rattle.zf_schema.specs.Expressions.{IsSchema};
+ghost use Rattle.zf_calculus.specs.Steps.{IsNext};
+ghost use Rattle.zf_calculus.specs.Growth.{IsGrowing};
+ghost use Rattle.zf_schema.specs.Refusing.{CantConjoin};
+ghost use Rattle.zf_schema.specs.SchemaOffences as spec;
+ghost use Rattle.zf_schema.specs.SchemaOffences.{OffendsSchema, StopsEither};
 
 use crate::reference::referred;
+use crate::stop::refusal;
 use crate::text::growing_text;
 use bumpalo::Bump;
 use zf_calculus::disjunction::disjoin;
@@ -93,7 +96,7 @@ fn conjunction<'a>(
     let mut whole = left;
     match whole.include(arena, right) {
         Ok(()) => Ok(whole),
-        Err(stop) => Err(stop.refusal(line)),
+        Err(stop) => Err(refusal(stop, line)),
     }
 }
 
@@ -112,8 +115,8 @@ fn disjunction<'a>(
 {
     match disjoin(arena, line, left, right) {
         Ok(growing) => Ok(growing),
-        Err(Stop::Clash) => Err(Stop::Clash.refusal(name)),
-        Err(stop) => Err(stop.refusal(line)),
+        Err(Stop::Clash) => Err(refusal(Stop::Clash, name)),
+        Err(stop) => Err(refusal(stop, line)),
     }
 }
 

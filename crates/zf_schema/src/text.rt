@@ -14,12 +14,15 @@ ghost use Rattle.zf_type.specs.Scopes.{scope_of};
 ghost use Rattle.zf_tree.specs.Names.{spelling};
 ghost use Rattle.zf_type.specs.Typing.{IsOf};
 ghost use Rattle.zf_calculus.specs.Calculus.{comp};
-ghost use Rattle.zf_calculus.specs.Expressions.{Adds, AddsAll, ConstrainsOne, Constrains, Declares, DeclaresOne, IsNext, IsText, TakesAll};
-ghost use Rattle.zf_calculus.specs.Growth.{CantAdd, CantConstrain, CantDeclare, CantTake, IsGrowing, constrained, over};
-ghost use Rattle.zf_calculus.specs.SchemaOffences.{OffendsConjuncts, OffendsDecls, OffendsNames, OffendsPredicates, OffendsText};
+ghost use Rattle.zf_schema.specs.Expressions.{AddsAll, ConstrainsOne, Constrains, Declares, DeclaresOne, IsText, TakesAll};
+ghost use Rattle.zf_calculus.specs.Steps.{Adds, IsNext};
+ghost use Rattle.zf_calculus.specs.Growth.{IsGrowing, constrained};
+ghost use Rattle.zf_schema.specs.Refusing.{CantAdd, CantConstrain, CantDeclare, CantTake, over};
+ghost use Rattle.zf_schema.specs.SchemaOffences.{OffendsConjuncts, OffendsDecls, OffendsNames, OffendsPredicates, OffendsText};
 ghost use Rattle.zf_term.specs.Shapes as shape;
 
 use crate::reference::referred;
+use crate::stop::refusal;
 use bumpalo::Bump;
 use std::alloc::AllocError;
 use zf_calculus::growing::Growing;
@@ -174,7 +177,7 @@ fn include<'a>(
     let other = referred(arena, globals, reference, room_of(growing, spare))?;
     match growing.include(arena, other) {
         Ok(()) => Ok(()),
-        Err(stop) => Err(stop.refusal(reference.name.line)),
+        Err(stop) => Err(refusal(stop, reference.name.line)),
     }
 }
 
@@ -222,7 +225,7 @@ fn add<'a>(
     let component = declared(arena, name, ztype, set)?;
     match growing.add(component) {
         Ok(()) => Ok(()),
-        Err(stop) => Err(stop.refusal(name.line)),
+        Err(stop) => Err(refusal(stop, name.line)),
     }
 }
 
@@ -371,6 +374,6 @@ fn take<'a>(
     let line = conjunct.line();
     match growing.take(Conjunct::of(arena, Statement::Written(conjunct))?) {
         Ok(()) => Ok(()),
-        Err(stop) => Err(stop.refusal(line)),
+        Err(stop) => Err(refusal(stop, line)),
     }
 }

@@ -13,7 +13,6 @@ ghost use Rattle.zf_type.specs.Typing as typing;
 ghost use Rattle.zf_term.specs.declared.fault.TypeFaultKind as faults;
 
 use crate::fault::{Refusal, refused};
-use zf_term::fault::TypeFaultKind;
 use crate::locals::Locals;
 use crate::scope::{Scope, is_bound};
 use crate::sort::Sort;
@@ -21,6 +20,7 @@ use crate::variable::Variable;
 use bumpalo::Bump;
 use std::alloc::AllocError;
 use zf_data::arena::Items;
+use zf_term::fault::TypeFaultKind;
 use zf_term::ztype::{ZType, product_type};
 use zf_tree::tree::Name;
 

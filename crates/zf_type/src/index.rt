@@ -5,10 +5,10 @@ ghost use Rattle.zf_type.specs.Scopes.{last_named, variable_of};
 ghost use Rattle.zf_term.specs.FirstNamed.{found_as};
 
 use crate::spelling::{BUCKETS, bucket_of};
-use zf_term::spelling::is_same;
 use crate::variable::Variable;
 use std::alloc::{AllocError, Global};
 use std::marker::Model;
+use zf_term::spelling::is_same;
 
 /// Variables, each with the way to those before it that have names of its bucket.
 #[derive(Drop)]

@@ -20,7 +20,6 @@ mod lists;
 mod operands;
 
 use crate::fault::{Refusal, refused};
-use zf_term::fault::TypeFaultKind;
 use crate::rules::constant_sort;
 use crate::scope::Scope;
 use crate::sort::Sort;
@@ -30,6 +29,7 @@ use chains::chain;
 use lists::listed;
 use operands::{binary, unary};
 use zf_data::arena::Boxed;
+use zf_term::fault::TypeFaultKind;
 use zf_term::written::Written;
 use zf_term::ztype::ZType;
 use zf_tree::operator::{Listed, Need, Operator, Unary};

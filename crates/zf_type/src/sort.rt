@@ -3,8 +3,8 @@ ghost use Rattle.std.specs.Prelude.{◌≡◌, ◌↔◌, IsTrue, IfOk, MatchOpt
 ghost use Rattle.zf_term.specs.Types.{Ty, type_of};
 ghost use Rattle.zf_type.specs.Rules.{IsSmallSort, Meets, lack, lack_of, untyped_lack, relation, set_of, sort_of, typed};
 
-use zf_term::fault::TypeFaultKind;
 use std::alloc::AllocError;
+use zf_term::fault::TypeFaultKind;
 use zf_term::ztype::ZType;
 use zf_tree::operator::Need;
 

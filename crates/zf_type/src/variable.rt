@@ -3,8 +3,8 @@ ghost use Rattle.std.specs.Prelude.{◌≡◌, map};
 ghost use Rattle.zf_type.specs.Scopes.{last_named, variable_of};
 ghost use Rattle.zf_term.specs.FirstNamed.{found_as};
 
-use zf_term::spelling::is_same;
 use zf_data::arena::Lent;
+use zf_term::spelling::is_same;
 use zf_term::ztype::ZType;
 
 /// A bound variable.

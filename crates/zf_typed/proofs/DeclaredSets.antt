@@ -15,7 +15,7 @@ use Rattle.zf_term.specs.Types.{Ty, int, power, has_numbers}
 use Rattle.zf_type.specs.Resolving.{resolved}
 use Rattle.zf_type.specs.Rules.{set_of}
 use Rattle.zf_type.specs.Typing.{IsOf}
-use Rattle.zf_calculus.specs.Expressions.{outside}
+use Rattle.zf_schema.specs.Expressions.{outside}
 use Rattle.zf_schema.specs.WellTypedGlobals.{AreWellTyped}
 use Rattle.zf_value.specs.declared.value.Value.{Value, Int}
 use Rattle.zf_value.specs.declared.value.Outcome.{Outcome}

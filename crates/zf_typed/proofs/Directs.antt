@@ -17,7 +17,7 @@ use Rattle.zf_type.specs.Rules.{typed, constant_sort}
 use Rattle.zf_type.specs.Scopes.{definition_sort, with_global}
 use Rattle.zf_tree.specs.Names.{spelling}
 use Rattle.zf_type.specs.Typing.{IsOf}
-use Rattle.zf_calculus.specs.Expressions.{outside}
+use Rattle.zf_schema.specs.Expressions.{outside}
 use Rattle.zf_schema.specs.WellTypedGlobals.{IsMadeAfter, AreWellTyped}
 use Rattle.zf_schema.proofs.Named.{named_there}
 use Rattle.zf_typed.proofs.Globals.{in_front}

@@ -11,7 +11,7 @@ use Rattle.zf_term.specs.Types.{Ty}
 use Rattle.zf_type.specs.Resolving.{resolved}
 use Rattle.zf_tree.specs.Names.{spelling}
 use Rattle.zf_calculus.specs.Calculus.{nothing, comp, marked}
-use Rattle.zf_calculus.specs.Expressions.{outside, Refers, AddsAll, DeclaresOne, Declares, IsSchema}
+use Rattle.zf_schema.specs.Expressions.{outside, Refers, AddsAll, DeclaresOne, Declares, IsSchema}
 use Rattle.zf_schema.specs.SchemaLaws.{HasCompsOnce, HaveCompsOnce}
 use Rattle.zf_schema.specs.WellTypedGlobals.{IsMadeAfter, AreWellTyped}
 use Rattle.zf_schema.proofs.Named.{named_there}

@@ -15,8 +15,8 @@ use Rattle.zf_type.specs.Resolving.{resolved}
 use Rattle.zf_type.specs.Rules.{typed}
 use Rattle.zf_tree.specs.Names.{spelling}
 use Rattle.zf_type.specs.Typing.{IsOf}
-use Rattle.zf_calculus.specs.Expressions.{outside, IsText, IsSchema}
-use Rattle.zf_calculus.specs.SchemaOffences.{OffendsText, OffendsSchema}
+use Rattle.zf_schema.specs.Expressions.{outside, IsText, IsSchema}
+use Rattle.zf_schema.specs.SchemaOffences.{OffendsText, OffendsSchema}
 use Rattle.zf_schema.specs.Checking.{Item, a_paragraph, a_box, items, IsNew, with_global, abbreviated, next_number, Gives, Constructs, DefinesParagraph, Defines, IsTaken, OffendsGiven, OffendsConstructors, OffendsParagraph, OffendsItem, Checks, IsChecked}
 use Rattle.zf_schema.proofs.OneDefinition.{no_item_offence}
 use Rattle.zf_verdicts.specs.Laws.{SomeOffence}

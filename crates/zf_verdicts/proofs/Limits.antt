@@ -7,9 +7,8 @@ use Rattle.zf_term.specs.Shapes.{height}
 use Rattle.zf_term.specs.declared.fault.TypeFaultKind.{TypeFaultKind}
 use Rattle.zf_term.specs.declared.fault.TypeFaultKind.TheVariants.{ComponentClash, TooLarge}
 use Rattle.zf_calculus.specs.Calculus.{comp_named, HasTypeOf, Agrees, Agree, decorated, prime, MarkAgrees}
-use Rattle.zf_calculus.specs.Expressions.{IsNext}
+use Rattle.zf_calculus.specs.Steps.{IsNext, Stops}
 use Rattle.zf_calculus.specs.Limits.{components_max, sets_max, conjuncts_max, nodes_max, height_max, declared_sets, all_nodes, IsLow, IsWithin}
-use Rattle.zf_calculus.specs.SchemaOffences.{Stops}
 use Rattle.zf_verdicts.specs.Laws.{SomeOffence}
 use Rattle.zf_verdicts.proofs.Decided.{Decided, both, decided_as, decided_all, at_most, same_type}
 

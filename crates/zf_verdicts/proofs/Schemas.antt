@@ -17,9 +17,10 @@ use Rattle.zf_type.specs.Rules.{predicate, set_of}
 use Rattle.zf_tree.specs.Names.{spelling}
 use Rattle.zf_type.specs.Typing.{IsOf}
 use Rattle.zf_calculus.specs.Calculus.{comp, schema_of, nothing, Agrees, Agree, with_comp, conjoined, decorated, marked, MarkAgrees, disjoined}
-use Rattle.zf_calculus.specs.Expressions.{outside, inside, IsNext, Refers, Adds, AddsAll, Includes, DeclaresOne, Declares, TakesAll, ConstrainsOne, Constrains, IsText, IsSchema}
+use Rattle.zf_schema.specs.Expressions.{outside, inside, Refers, AddsAll, DeclaresOne, Declares, TakesAll, ConstrainsOne, Constrains, IsText, IsSchema}
+use Rattle.zf_calculus.specs.Steps.{IsNext, Adds, Includes, Stops}
 use Rattle.zf_calculus.specs.Limits.{IsWithin}
-use Rattle.zf_calculus.specs.SchemaOffences.{AnyByRecursion, Stops, IsNoSchema, OffendsRef, OffendsNames, OffendsAlone, OffendsAfter, OffendsDecls, OffendsConjuncts, OffendsPredicates, OffendsText, OffendsSchema, name_line}
+use Rattle.zf_schema.specs.SchemaOffences.{AnyByRecursion, IsNoSchema, OffendsRef, OffendsNames, OffendsAlone, OffendsAfter, OffendsDecls, OffendsConjuncts, OffendsPredicates, OffendsText, OffendsSchema, name_line}
 use Rattle.zf_schema.proofs.Once.{taken_comps}
 use Rattle.zf_verdicts.specs.Laws.{SomeOffence}
 use Rattle.zf_verdicts.proofs.Decided.{Decided}

@@ -9,8 +9,8 @@ use Rattle.zf_type.specs.Offences.{Offends}
 use Rattle.zf_type.specs.Rules.{Sort, Meets}
 use Rattle.zf_type.specs.Scopes.{Scope}
 use Rattle.zf_type.specs.Typing.{IsOf}
-use Rattle.zf_calculus.specs.Expressions.{IsText, IsSchema}
-use Rattle.zf_calculus.specs.SchemaOffences.{OffendsText, OffendsSchema}
+use Rattle.zf_schema.specs.Expressions.{IsText, IsSchema}
+use Rattle.zf_schema.specs.SchemaOffences.{OffendsText, OffendsSchema}
 use Rattle.zf_schema.specs.Checking.{Item, Defines, OffendsItem, IsChecked}
 
 -- there is an offence: one of some kind, at some line

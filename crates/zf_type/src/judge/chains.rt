@@ -14,11 +14,11 @@ ghost use Rattle.zf_type.specs.Typing.{AreLinked, IsOf};
 
 use super::{judge_boxed, judge_term, predicate};
 use crate::fault::{Refusal, refused};
-use zf_term::fault::TypeFaultKind;
 use crate::rules::combine;
 use crate::scope::Scope;
 use crate::sort::Sort;
 use bumpalo::Bump;
+use zf_term::fault::TypeFaultKind;
 use zf_tree::operator::{Need, Rule, relation_rule};
 use zf_tree::tree::{Link, Term};
 

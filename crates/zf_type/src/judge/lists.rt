@@ -15,12 +15,12 @@ ghost use Rattle.zf_type.specs.Scopes.{scope_of};
 
 use super::{Place, judge_term, misplaced};
 use crate::fault::{Refusal, refused};
-use zf_term::fault::TypeFaultKind;
 use crate::scope::Scope;
 use crate::sort::Sort;
 use bumpalo::Bump;
 use std::alloc::AllocError;
 use zf_data::arena::{Boxed, Items};
+use zf_term::fault::TypeFaultKind;
 use zf_term::ztype::{ZType, product_type, set_type};
 use zf_tree::operator::{Listed, Need};
 use zf_tree::tree::Term;

@@ -12,11 +12,11 @@ ghost use Rattle.zf_type.specs.Scopes.{scope_of};
 
 use super::{Place, judge_term, misplaced};
 use crate::fault::{Refusal, refused};
-use zf_term::fault::TypeFaultKind;
 use crate::rules::{apply, combine};
 use crate::scope::Scope;
 use crate::sort::Sort;
 use bumpalo::Bump;
+use zf_term::fault::TypeFaultKind;
 use zf_tree::operator::{Operator, Unary};
 use zf_tree::tree::Term;
 

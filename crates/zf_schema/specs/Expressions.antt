@@ -4,7 +4,7 @@ use Rattle.zf_tree.specs.declared.tree.Name.{Name}
 use Rattle.zf_tree.specs.declared.tree.SchemaRef.{SchemaRef}
 use Rattle.zf_tree.specs.Trees.{Tree, DeclTree, vars, include, SchemaTree, schema_text, reference, both, either, schema_bracket}
 use Rattle.zf_term.specs.FirstNamed.{first_named}
-use Rattle.zf_term.specs.Definitions.{Comp, Schema, DeclaredSet, plain, Defined, schema}
+use Rattle.zf_term.specs.Definitions.{Schema, DeclaredSet, plain, Defined, schema}
 use Rattle.zf_term.specs.ResolvedTrees.{ResolvedTree}
 use Rattle.zf_term.specs.Shapes.{conjuncts}
 use Rattle.zf_term.specs.Types.{Ty}
@@ -13,8 +13,8 @@ use Rattle.zf_type.specs.Rules.{set_of, predicate}
 use Rattle.zf_type.specs.Scopes.{Scope}
 use Rattle.zf_tree.specs.Names.{spelling}
 use Rattle.zf_type.specs.Typing.{IsOf}
-use Rattle.zf_calculus.specs.Calculus.{comp, schema_of, nothing, Agrees, Agree, with_comp, conjoined, decorated, marked, MarkAgrees, disjoined}
-use Rattle.zf_calculus.specs.Limits.{IsWithin}
+use Rattle.zf_calculus.specs.Calculus.{comp, schema_of, nothing, Agree, conjoined, decorated, marked, MarkAgrees, disjoined}
+use Rattle.zf_calculus.specs.Steps.{IsNext, Adds, Includes}
 
 -- what is in scope in a declared set: the globals
 abbrev pub outside : List Defined → Scope
@@ -24,28 +24,16 @@ outside g = record { globals = g; comps = []; locals = [] }
 abbrev pub inside : List Defined → Schema → Scope
 inside g a = record { globals = g; comps = a.comps; locals = [] }
 
--- the schema after one more, well typed and within the limits
-abbrev pub IsNext : Schema → Schema → Type 0
-IsNext next b = (b ≡ next) × IsWithin next
-
 -- the reference is to this schema: its base names a schema, which is marked, and then decorated by the strokes
 abbrev pub Refers : List Defined → SchemaRef → Schema → Type 0
 Refers g r b =
     (i : ℕ) × (x : List ℕ) × (a : Schema) × (first_named (λ d. d.name) r.name.base g ≡ Some (i, record { name = x; definition = schema a }))
     × MarkAgrees r.mark a × IsNext (decorated r.name.strokes (marked r.mark r.name.line a)) b
 
--- one more component
-abbrev pub Adds : Schema → Comp → Schema → Type 0
-Adds a c b = Agrees a.comps c × IsNext (schema_of (with_comp a.comps c) a.conjuncts) b
-
 -- names that are declared to be in a set
 abbrev pub AddsAll : Schema → List Name → Ty → DeclaredSet → Schema → Type 0
 AddsAll a [] t d b = b ≡ a
 AddsAll a (n ∷ ns) t d b = (mid : Schema) × Adds a (comp (spelling n) t (d ∷ [])) mid × AddsAll mid ns t d b
-
--- another schema that is taken in
-abbrev pub Includes : Schema → Schema → Schema → Type 0
-Includes a c b = Agree a.comps c.comps × IsNext (conjoined a c) b
 
 abbrev pub DeclaresOne : List Defined → Schema → DeclTree → Schema → Type 0
 DeclaresOne g a (vars ns e) b = (t : Ty) × IsOf (outside g) e (set_of t) × AddsAll a ns t (plain (resolved (outside g) e)) b

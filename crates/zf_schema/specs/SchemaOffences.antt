@@ -17,17 +17,14 @@ use Rattle.zf_type.specs.Rules.{set_of, predicate}
 use Rattle.zf_tree.specs.Names.{spelling}
 use Rattle.zf_type.specs.Typing.{IsOf}
 use Rattle.zf_calculus.specs.Calculus.{comp, schema_of, nothing, Agrees, Agree, with_comp, conjoined, decorated, marked, MarkAgrees, disjoined}
-use Rattle.zf_calculus.specs.Expressions.{outside, inside, IsNext, Refers, Adds, DeclaresOne, Declares, ConstrainsOne, IsSchema}
+use Rattle.zf_schema.specs.Expressions.{outside, inside, Refers, DeclaresOne, Declares, ConstrainsOne, IsSchema}
+use Rattle.zf_calculus.specs.Steps.{IsNext, Adds, Stops}
 use Rattle.zf_calculus.specs.Limits.{IsWithin}
 
 -- it holds of one of them
 abbrev pub AnyByRecursion : {A : Type 0} → (A → Type 0) → List A → Type 0
 AnyByRecursion P [] = ⊥
 AnyByRecursion P (a ∷ rest) = P a ⊎ AnyByRecursion P rest
-
--- why there is no next schema: a component gets two types, or a limit is passed
-abbrev pub Stops : Type 0 → Schema → TypeFaultKind → Type 0
-Stops agree next k = ((k ≡ ComponentClash) × (agree → ⊥)) ⊎ ((k ≡ TooLarge) × agree × (IsWithin next → ⊥))
 
 abbrev pub IsNoSchema : Definition → Type 0
 IsNoSchema (given_set n) = Unit {0}
