@@ -22,6 +22,8 @@ use bumpalo::Bump;
 use std::alloc::AllocError;
 use zf_data::arena::{Boxed, Items, Shared};
 use zf_reference::reference::Reference;
+use zf_resolved::moving::{copy, moved};
+use zf_resolved::{conjunct, kept};
 use zf_term::conjunct::{Conjunct, Statement};
 use zf_term::globals::{Component, Domain, Domains, Flat};
 use zf_term::named::component_of;
@@ -134,7 +136,7 @@ fn joined<'a>(
 {
     match terms.split_first() {
         None => Ok(Resolved::Constant(line, Constant::True)),
-        Some((first, further)) => joined_to(arena, first.copy(arena)?, further),
+        Some((first, further)) => joined_to(arena, copy(first, arena)?, further),
     }
 }
 
@@ -147,7 +149,7 @@ fn joined_to<'a>(
 {
     let mut whole = first;
     for term in further {
-        let right = term.copy(arena)?;
+        let right = copy(term, arena)?;
         whole = both(arena, whole, right)?;
     }
     Ok(whole)
@@ -179,7 +181,7 @@ fn push_membership<'a>(
 {
     match domain {
         Domain::Plain(set) => {
-            let set = set.get().resolved(arena)?;
+            let set = kept::resolved(set.get(), arena)?;
             let term = membership(arena, place, set)?;
             made.push(term)
         }
@@ -223,7 +225,7 @@ fn push_conjuncts<'a>(
     ensures { OnOk result (map resolved_of made.new ≡ map resolved_of made.old ++ map conjunct_of conjuncts.now) }
 {
     for conjunct in conjuncts {
-        made.push(conjunct.resolved(arena)?)?;
+        made.push(conjunct::resolved(conjunct, arena)?)?;
     }
     Ok(())
 }
@@ -247,7 +249,7 @@ fn moved_all<'a>(
 {
     let mut made = Items::new(arena);
     for term in terms {
-        made.push(term.moved(arena, places)?)?;
+        made.push(moved(term, arena, places)?)?;
     }
     Ok(made)
 }

@@ -20,6 +20,7 @@ use bumpalo::Bump;
 use std::alloc::AllocError;
 use zf_data::arena::{Boxed, Items, Lasting};
 use zf_reference::reference::Reference;
+use zf_shape::conjunct::room_after;
 use zf_term::conjunct::{Conjunct, Statement};
 use zf_term::globals::{Component, Flat};
 use zf_term::resolved::{Resolved, ResolvedLink};
@@ -114,7 +115,7 @@ impl<'a> Growing<'a> {
         ensures growing { OnOk result (IsGrowing self.new) }
         ensures err { IfErr result (λ e. IfStopped e (IsTooLarge (constrained (schema_of self.old.flat) (conjunct_of conjunct.entry ∷ [])))) }
     {
-        let Some(nodes_left) = conjunct.room_after(self.nodes_left) else {
+        let Some(nodes_left) = room_after(&conjunct, self.nodes_left) else {
             return Err(Stop::TooLarge);
         };
         if self.flat.conjuncts.len() >= CONJUNCTS_MAX {

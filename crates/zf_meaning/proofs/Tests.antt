@@ -7,7 +7,7 @@ use Rattle.zf_tree.specs.declared.symbol.Arrow.{Arrow}
 use Rattle.zf_tree.specs.declared.symbol.Arrow.TheVariants as arrow
 use Rattle.zf_tree.specs.declared.symbol.Relation.{Relation}
 use Rattle.zf_tree.specs.declared.symbol.Relation.TheVariants as relation
-use Rattle.zf_term.specs.Extents.{is_membership}
+use Rattle.zf_extent.specs.Extents.{is_membership}
 use Rattle.zf_families.specs.Families.{IsTupleFrom, IsRelation, IsPartialFunction, IsTotalFunction, IsPartialInjection, IsTotalInjection}
 use Rattle.zf_families.specs.Selections.{some, whole, fits_any, singles}
 use Rattle.zf_families.proofs.Families.{partial_rows, total_rows, partial_functions_built, total_functions_built}

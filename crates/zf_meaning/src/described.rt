@@ -1,6 +1,6 @@
 //! Sets that are tested for members without being built.
 ghost use Rattle.std.specs.Prelude.{◌≡◌, ◌↔◌, IsTrue, IfOk};
-ghost use Rattle.zf_term.specs.Extents.{is_membership};
+ghost use Rattle.zf_extent.specs.Extents.{is_membership};
 ghost use Rattle.zf_value.specs.declared.value.Outcome.TheVariants as outcome;
 ghost use Rattle.zf_meaning.specs.declared.described.Described.TheVariants as form;
 ghost use Rattle.zf_value.specs.Numbers.{number_of, OnNumbers, IsInterval};

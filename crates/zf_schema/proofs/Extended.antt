@@ -7,7 +7,7 @@ use Rattle.zf_tree.specs.Trees as text
 use Rattle.zf_tree.specs.Trees.{Tree, Trees, no_trees, tree, Links, VarDecls, no_decls, var_decl, Perhaps}
 use Rattle.zf_reference.specs.declared.reference.Reference.{Reference}
 use Rattle.zf_term.specs.Definitions.{Comp, Defined, abbreviation}
-use Rattle.zf_term.specs.Extents.{is_membership, is_last, tested, unless, name_lines, extent_by, extent_found, extent_named, extent_set, extent_of, direct, offending, all_offending, links_offending, ranges_offending, part_offending}
+use Rattle.zf_extent.specs.Extents.{is_membership, is_last, tested, unless, name_lines, extent_by, extent_found, extent_named, extent_set, extent_of, direct, offending, all_offending, links_offending, ranges_offending, part_offending}
 use Rattle.zf_term.specs.FirstNamed.{or_else, first_named}
 use Rattle.zf_term.specs.ResolvedTrees.{ResolvedTree}
 use Rattle.zf_term.specs.Types.{Ty, Tys}

@@ -7,7 +7,7 @@ use Rattle.zf_term.specs.FirstNamed.{first_named}
 use Rattle.zf_tree.specs.declared.operator.Need.TheVariants as need
 use Rattle.zf_term.specs.Definitions.{Schema, Defined, Definition, given_set, free_type, constructor, abbreviation, schema}
 pub use Rattle.zf_term.specs.Numbers.{has_elements, next_number}
-use Rattle.zf_term.specs.Extents.{extent_of}
+use Rattle.zf_extent.specs.Extents.{extent_of}
 use Rattle.zf_term.specs.ResolvedTrees.{ResolvedTree}
 use Rattle.zf_term.specs.Types.{Ty}
 use Rattle.zf_type.specs.declared.fault.TypeFault.{TypeFault}

@@ -3,7 +3,7 @@ use Rattle.std.specs.Prelude.{◌≡◌, ℕ, ◌+◌, List, length, take, slice
 use Rattle.zf_tree.specs.Trees.{Tree, SchemaTree, BoxTree}
 use Rattle.zf_term.specs.declared.extent.Extent.{Extent}
 use Rattle.zf_term.specs.Definitions.{Defined, Definition, given_set, free_type, constructor, abbreviation, schema}
-use Rattle.zf_term.specs.Extents.{extent_of}
+use Rattle.zf_extent.specs.Extents.{extent_of}
 use Rattle.zf_term.specs.ResolvedTrees.{ResolvedTree}
 use Rattle.zf_term.specs.Types.{Ty}
 use Rattle.zf_type.specs.declared.fault.TypeFault.{TypeFault}

@@ -21,9 +21,10 @@ use crate::text::{scope_over, text_of};
 use bumpalo::Bump;
 use std::alloc::AllocError;
 use zf_data::arena::{Boxed, Items, Lent, Shared};
+use zf_extent::infinite::extent_of;
+use zf_resolved::kept::resolved;
 use zf_term::fault::TypeFaultKind;
 use zf_term::globals::{Entry, Globals};
-use zf_term::infinite::extent_of;
 use zf_tree::operator::Need;
 use zf_tree::tree::{Decl, Name, Paragraph, SchemaExp, Term};
 use zf_type::fault::{Refusal, refused};
@@ -243,7 +244,7 @@ fn abbreviation_of<'a>(
     let Some(ztype) = judged.sort.into_type() else {
         unreachable!();
     };
-    let term = judged.term.resolved(arena)?;
+    let term = resolved(&judged.term, arena)?;
     let extent = extent_of(&term, globals);
     Ok(Entry::Abbrev(ztype, term, extent))
 }

@@ -8,14 +8,6 @@ pub mod ResolvedSeen
 pub mod TypeForms
 pub mod TypeLists
 pub mod TypesSeen
-pub mod MovedLists
-pub mod Nodes
-pub mod Heights
-pub mod TextNodes
-pub mod TextHeights
-pub mod TextShapes
-pub mod FirstLines
-pub mod WrittenLines
 pub mod Copies
 pub mod MovedReferences
 pub mod Renumbered

@@ -2,7 +2,6 @@ pub mod Types
 pub mod TypeTexts
 pub mod ResolvedTrees
 pub mod Definitions
-pub mod Extents
 pub mod Shapes
 pub mod SetShapes
 pub mod Filling

@@ -1,4 +1,8 @@
 //! Resolved terms: terms in which each name says what it stands for.
+ghost use Rattle.std.specs.Prelude.{◌≡◌};
+ghost use Rattle.zf_term.specs.ResolvedTrees.{resolved_of};
+ghost use Rattle.zf_term.specs.Shapes as spec;
+
 use zf_data::arena::{Boxed, Items};
 use zf_reference::reference::Reference;
 use zf_tree::operator::{Listed, Operator, Unary};
@@ -48,4 +52,26 @@ pub struct ResolvedLink<'a> {
 pub struct Range<'a> {
     pub variables: usize,
     pub set: Resolved<'a>,
+}
+
+impl<'a> Resolved<'a> {
+    /// The line of the first token.
+    #[tactic(auto, using(crate::proofs::ResolvedSeen::seen))]
+    pub fn line(&self) -> u32
+        ensures { result ≡ spec.line_of (resolved_of self.now) }
+    {
+        match self {
+            Resolved::Name(line, _) => *line,
+            Resolved::Number(line, _) => *line,
+            Resolved::Constant(line, _) => *line,
+            Resolved::EmptySet(line, _) => *line,
+            Resolved::Bracket(line, _) => *line,
+            Resolved::Listed(line, _, _) => *line,
+            Resolved::Builder(line, _, _, _) => *line,
+            Resolved::Unary(line, _, _) => *line,
+            Resolved::Binary(line, _, _, _) => *line,
+            Resolved::Chain(line, _, _) => *line,
+            Resolved::Quantified(_, line, _, _, _) => *line,
+        }
+    }
 }

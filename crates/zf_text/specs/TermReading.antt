@@ -11,13 +11,13 @@ use Rattle.zf_text.specs.declared.tall.Tall.{Tall}
 use Rattle.zf_tree.specs.declared.symbol.Infix.TheVariants.{Minus}
 use Rattle.zf_tree.specs.declared.symbol.Quantifier.{Quantifier}
 use Rattle.zf_tree.specs.declared.symbol.Relation.{Relation}
-use Rattle.zf_tree.specs.declared.tree.Link.{Link, roll-Link}
+use Rattle.zf_tree.specs.declared.tree.Link.{Link}
 use Rattle.zf_tree.specs.Names.{ident_of}
 use Rattle.zf_tree.specs.declared.tree.Name.{Name}
 use Rattle.zf_tree.specs.declared.tree.Sign.TheVariants as sign
 use Rattle.zf_tree.specs.declared.tree.Term.{Term}
 use Rattle.zf_tree.specs.declared.tree.Term.TheVariants as term
-use Rattle.zf_tree.specs.declared.tree.VarDecl.{VarDecl, roll-VarDecl}
+use Rattle.zf_tree.specs.declared.tree.VarDecl.{VarDecl}
 use Rattle.zf_text.specs.Levels.{quantifier_level, negation_level, chain_level, expression_level, product_level, unary_level, application_level, postfix_level, connective_level, infix_level, sign_level, left_place, right_place, level}
 use Rattle.zf_scan.specs.Choosing.{next_of, goes_on, ends_names, is_mark}
 use Rattle.zf_text.specs.Reading as basic

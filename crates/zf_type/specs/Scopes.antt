@@ -1,7 +1,6 @@
 -- What a name stands for: the innermost bound variable of that name, else the component, else the global.
 use Rattle.std.specs.Prelude.{ℕ, if◌then◌else◌, List, [], ◌∷◌, ◌++◌, Option, Some, None, map}
 use Rattle.std.specs.Str.{bytes_eq}
-use Rattle.zf_tree.specs.declared.tree.Name.{Name}
 use Rattle.zf_term.specs.FirstNamed.{later, or_else, first_named}
 use Rattle.zf_reference.specs.declared.reference.Reference.{Reference}
 use Rattle.zf_reference.specs.declared.reference.Reference.TheVariants.{Component, Local, Global}

@@ -9,7 +9,7 @@ use Rattle.zf_tree.specs.Trees.{Tree}
 use Rattle.zf_term.specs.declared.extent.Infinite.{Infinite}
 use Rattle.zf_term.specs.declared.extent.Infinite.TheVariants.{Num, Nat, Nat1}
 use Rattle.zf_term.specs.Definitions.{Defined, DeclaredSet, plain, carrier, sides, DeclaredSets, no_sets, set}
-use Rattle.zf_term.specs.Extents.{direct}
+use Rattle.zf_extent.specs.Extents.{direct}
 use Rattle.zf_term.specs.ResolvedTrees.{ResolvedTree}
 use Rattle.zf_term.specs.Types.{Ty, int, power, has_numbers}
 use Rattle.zf_type.specs.Resolving.{resolved}

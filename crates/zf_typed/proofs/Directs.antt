@@ -9,7 +9,7 @@ use Rattle.zf_tree.specs.Trees.{Tree}
 use Rattle.zf_term.specs.declared.extent.Infinite.{Infinite}
 use Rattle.zf_reference.specs.declared.reference.Reference.{Reference}
 use Rattle.zf_term.specs.Definitions.{Defined, Definition, given_set, free_type, constructor, abbreviation, schema}
-use Rattle.zf_term.specs.Extents.{direct, constant_set, definition_extent, extent_found, extent_named, extent_set, extent_by, offending}
+use Rattle.zf_extent.specs.Extents.{direct, constant_set, definition_extent, extent_found, extent_named, extent_set, extent_by, offending}
 use Rattle.zf_term.specs.FirstNamed.{first_named}
 use Rattle.zf_term.specs.Types.{Ty, int, power}
 use Rattle.zf_type.specs.Resolving.{referent, resolved}
