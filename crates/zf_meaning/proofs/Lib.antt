@@ -22,3 +22,4 @@ pub mod Turns
 pub mod Binding
 pub mod CarrierLists
 pub mod InRow
+pub mod Fronts

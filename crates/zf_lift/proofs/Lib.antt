@@ -1,0 +1,6 @@
+pub mod Mapped
+pub mod Forms
+pub mod Longer
+pub mod Each
+pub mod Wherever
+pub mod Arms

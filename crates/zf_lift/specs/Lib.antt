@@ -1,0 +1,4 @@
+pub mod Same
+pub mod Lifts
+pub mod Lists
+pub mod Lifted
