@@ -1,7 +1,10 @@
 //! The property of a schema in an environment, as the judge of a walk.
-ghost use Rattle.std.specs.Prelude.{◌≡◌, ◌<◌, ◌^◌, ℕ, map, slice_get};
+ghost use Rattle.std.specs.Prelude.{◌≡◌, ◌<◌, ◌^◌, ℕ, IfOk, MatchOption, length, map, slice_get};
 ghost use Rattle.zf_term.specs.ResolvedTrees.{resolved_of};
-ghost use Rattle.zf_enum.specs.Property.{due_of, told};
+ghost use Rattle.zf_value.specs.Sets.{AreRegular};
+ghost use Rattle.zf_meaning.specs.Envs.{environment_of};
+ghost use Rattle.zf_lift.specs.Lifted.{AreLifted};
+ghost use Rattle.zf_enum.specs.Property.{HasTruth, due_of, told};
 
 use crate::candidates::gather_candidates;
 use crate::due::{due, uses};
@@ -9,6 +12,7 @@ use crate::fixing::fixing;
 use crate::known::Known;
 use crate::shown::{Shown, meet};
 use std::alloc::AllocError;
+use zf_lift::Lifted;
 use zf_meaning::env::Env;
 use zf_meaning::value::truth_of;
 use zf_plan::Guide;
@@ -21,7 +25,24 @@ use zf_walk::{Judge, Range, Row, Truth};
 pub struct Property<'e, 'g, 'a> {
     pub conjuncts: Vec<Resolved<'a>>,
     pub env: &'e Env<'g, 'a>,
+    /// The conjuncts with what their closed parts come to, if they have any.
+    pub lifted: Option<Lifted<'g, 'a>>,
     ghost small: { (c : ℕ) → due_of (slice_get (map resolved_of conjuncts.items) c) < 2 ^ 64 },
+    ghost same: { MatchOption lifted (Unit {0}) (AreLifted (environment_of env.now) (map resolved_of conjuncts.items)) },
+}
+
+impl<'e, 'g, 'a> Property<'e, 'g, 'a> {
+    /// The truth of a conjunct in a row.
+    fn truth<R: zf_meaning::row::Row>(&self, conjunct: usize, row: &R) -> Result<value::Truth, AllocError>
+        requires regular { AreRegular (R.values row.now) }
+        requires within { conjunct < length self.now.conjuncts.items }
+        ensures { IfOk result (HasTruth (environment_of self.now.env.now) (R.values row.now) (slice_get (map resolved_of self.now.conjuncts.items) conjunct)) }
+    {
+        match &self.lifted {
+            Some(lifted) => lifted.truth_of(conjunct, row),
+            None => truth_of(&self.conjuncts[conjunct], row, self.env),
+        }
+    }
 }
 
 impl<'e, 'g, 'a> Judge<Known> for Property<'e, 'g, 'a> {
@@ -55,7 +76,7 @@ impl<'e, 'g, 'a> Judge<Known> for Property<'e, 'g, 'a> {
     fn judge<R: Row<Known>>(&self, conjunct: usize, row: &R) -> Result<Truth, AllocError> {
         meet(row);
         let shown = Shown { row };
-        let truth = truth_of(&self.conjuncts[conjunct], &shown, self.env)?;
+        let truth = self.truth(conjunct, &shown)?;
         Ok(walked(truth))
     }
 }
