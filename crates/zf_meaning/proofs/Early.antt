@@ -1,5 +1,7 @@
 -- Parts of a binder that tell that rows do not count.
 use Rattle.std.proofs.Common.{◌≡◌, ◌⊎◌, ℕ, suc, ◌+◌, ◌<◌, ◌≤◌, List, [], ◌∷◌, ◌++◌, Option, Some, None, length, map, take, refl, sym, ap, ◌∙◌, subst, inl, inr, arith}
+use denote.Bor.{Bor}
+use Rattle.std.specs.Prelude.{IfSome}
 use Rattle.std.specs.List.{All}
 use Rattle.std.proofs.lemmas.List.{take_all}
 use Rattle.std.proofs.lemmas.List.Elements.{All-push}
@@ -8,7 +10,7 @@ use Rattle.zf_scan.specs.declared.token.Quantifier.{Quantifier}
 use Rattle.zf_scan.specs.declared.token.Quantifier.TheVariants.{ForAll, Exists, ExistsOne}
 use Rattle.zf_term.specs.declared.operator.Operator.TheVariants.{Connective}
 use Rattle.zf_term.specs.declared.resolved.Range.{Range}
-use Rattle.zf_term.specs.declared.resolved.Resolved.{Resolved}
+use Rattle.zf_term.specs.declared.resolved.Resolved.{Resolved, size-Resolved}
 use Rattle.zf_term.specs.declared.resolved.Resolved.TheVariants as v
 use Rattle.zf_term.specs.ResolvedTrees.{ResolvedTree, resolved_of, part_of}
 use Rattle.zf_term.proofs.ResolvedSeen.{of-Bracket, of-Binary, of-Quantified, of-Builder}
@@ -21,7 +23,7 @@ use Rattle.zf_meaning.specs.declared.env.Env.{Env}
 use Rattle.zf_meaning.specs.declared.evaluate.early.Piece.{Piece}
 use Rattle.zf_meaning.specs.declared.evaluate.early.Span.{Span}
 use Rattle.zf_meaning.specs.declared.rows.Rows.{Rows}
-use Rattle.zf_meaning.specs.Early.{neutral, IsNeutral, Refutes, IsPiece, AreNeutral, ArePassed, IsBound}
+use Rattle.zf_meaning.specs.Early.{neutral, IsNeutral, Refutes, Falsifies, IsPart, IsPiece, AreNeutral, ArePassed, IsBound}
 use Rattle.zf_meaning.specs.Environments.{Context, within}
 use Rattle.zf_meaning.specs.Meaning.{IsConstraint, IsTruth}
 use Rattle.zf_meaning.specs.Needs.{need}
@@ -63,17 +65,26 @@ pub exists-one-refutes : (d : Resolved) (l : ℕ) (rs : List Range) (p : Option 
 unfolding Refutes IsNeutral
 exists-one-refutes d l rs p e i = λ c h. subst (λ t. IsNeutral t c) (sym (ap resolved_of i ∙ of-Quantified l ExistsOne rs p e)) (inr h)
 
-pub inner-refutes : (d : Resolved) (l : ℕ) (x : Resolved) (whole : ResolvedTree) → d ≡ v.Bracket l x → Refutes (resolved_of d) whole → Refutes (resolved_of x) whole
-unfolding Refutes
-inner-refutes d l x whole i r = λ c h. r c (subst (λ t. IsTruth c t False) (sym (ap resolved_of i ∙ of-Bracket l x)) h)
+pub inner-falsifies : (d : Resolved) (l : ℕ) (x : Resolved) → d ≡ v.Bracket l x → Falsifies (resolved_of x) (resolved_of d)
+unfolding Falsifies
+inner-falsifies d l x i = λ c h. subst (λ t. IsTruth c t False) (sym (ap resolved_of i ∙ of-Bracket l x)) h
 
-pub left-refutes : (d : Resolved) (l : ℕ) (a b : Resolved) (whole : ResolvedTree) → d ≡ v.Binary l (Connective And) a b → Refutes (resolved_of d) whole → Refutes (resolved_of a) whole
-unfolding Refutes
-left-refutes d l a b whole i r = λ c h. r c (subst (λ t. IsTruth c t False) (sym (ap resolved_of i ∙ of-Binary l (Connective And) a b)) (inl h))
+pub left-falsifies : (d : Resolved) (l : ℕ) (a b : Resolved) → d ≡ v.Binary l (Connective And) a b → Falsifies (resolved_of a) (resolved_of d)
+unfolding Falsifies
+left-falsifies d l a b i = λ c h. subst (λ t. IsTruth c t False) (sym (ap resolved_of i ∙ of-Binary l (Connective And) a b)) (inl h)
 
-pub right-refutes : (d : Resolved) (l : ℕ) (a b : Resolved) (whole : ResolvedTree) → d ≡ v.Binary l (Connective And) a b → Refutes (resolved_of d) whole → Refutes (resolved_of b) whole
-unfolding Refutes
-right-refutes d l a b whole i r = λ c h. r c (subst (λ t. IsTruth c t False) (sym (ap resolved_of i ∙ of-Binary l (Connective And) a b)) (inr h))
+pub right-falsifies : (d : Resolved) (l : ℕ) (a b : Resolved) → d ≡ v.Binary l (Connective And) a b → Falsifies (resolved_of b) (resolved_of d)
+unfolding Falsifies
+right-falsifies d l a b i = λ c h. subst (λ t. IsTruth c t False) (sym (ap resolved_of i ∙ of-Binary l (Connective And) a b)) (inr h)
+
+-- a conjunct of a part is one
+pub conjunct-part : (whole d x : Resolved) → Falsifies (resolved_of x) (resolved_of d) → size-Resolved x < size-Resolved d → IsPart whole d → IsPart whole x
+unfolding Refutes Falsifies
+conjunct-part whole d x f s h = record { refutes = λ c k. h.refutes c (f c k); smaller = omega (arith, s, h.smaller) }
+
+pub found-part : (whole : Resolved) (part : Option (Bor Resolved)) → IfSome part (λ x. Refutes (resolved_of x.now) (resolved_of whole)) → IfSome part (λ x. size-Resolved x.now < size-Resolved whole) → IfSome part (λ x. IsPart whole x.now)
+found-part whole None r s = tt
+found-part whole (Some x) r s = record { refutes = r; smaller = s }
 
 pub one-piece-more : (whole : Resolved) (span : Span) (piece : Piece) (old new : List Piece) → new ≡ old ++ piece ∷ [] → IsPiece whole span piece → All (IsPiece whole span) old → All (IsPiece whole span) new
 one-piece-more whole span piece old new e p h = subst (All (IsPiece whole span)) (sym e) (All-push (IsPiece whole span) old piece h p)
@@ -84,7 +95,7 @@ one-piece-more whole span piece old new e p h = subst (All (IsPiece whole span))
 pub neutral-by : (whole : Resolved) (span : Span) (piece : Piece) (here c : Context) (row : List Value) → IsPiece whole span piece → IsBound span here c row → IsTruth here (resolved_of piece.term.now) False → AreNeutral (resolved_of whole) c row piece.front
 unfolding AreNeutral Refutes
 neutral-by whole span piece here c row p b h =
-    λ vs l e. p.refutes (within c vs)
+    λ vs l e. p.part.refutes (within c vs)
     (same-row c piece.front row vs (resolved_of piece.term.now) False (sym l) (sym e)
     (subst (λ n. need n (resolved_of piece.term.now) ≤ length c.locals + piece.front) (sym b.whole ∙ ap (λ n. length c.locals + n) (sym l)) (subst (λ n. need span.whole (resolved_of piece.term.now) ≤ n + piece.front) (sym b.outside) p.needs))
     (subst (λ k. IsTruth k (resolved_of piece.term.now) False) b.is h))

@@ -38,11 +38,19 @@ IsNeutral (quantified l q rs p t) c = IsTold q (λ a. IsConstraint c p a) (λ b.
 unfoldable pub Refutes : ResolvedTree → ResolvedTree → Type 0
 Refutes t whole = (c : Context) → IsTruth c t False → IsNeutral whole c
 
--- a part of the binder, which needs as many first variables as it says
+-- where the first predicate is false, the second is
+unfoldable pub Falsifies : ResolvedTree → ResolvedTree → Type 0
+Falsifies t whole = (c : Context) → IsTruth c t False → IsTruth c whole False
+
+-- a part of the binder that has to hold for a row to count
+pub record IsPart (whole part : Resolved) : Type 0 where
+  pub refutes : Refutes (resolved_of part) (resolved_of whole)
+  pub smaller : size-Resolved part < size-Resolved whole
+
+-- such a part, which needs as many first variables as it says
 pub record IsPiece (whole : Resolved) (span : Span) (piece : Piece) : Type 0 where
-  pub refutes : Refutes (resolved_of piece.term.now) (resolved_of whole)
+  pub part : IsPart whole piece.term.now
   pub needs : need span.whole (resolved_of piece.term.now) ≤ span.outside + piece.front
-  pub smaller : size-Resolved piece.term.now < size-Resolved whole
 
 -- no row counts that begins with the same values as this one, so many
 unfoldable pub AreNeutral : ResolvedTree → Context → List Value → ℕ → Type 0

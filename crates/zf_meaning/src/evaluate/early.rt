@@ -1,12 +1,13 @@
 //! What of a binder tells that rows do not count before all its variables are bound: parts of what has to hold, each with the variables that it needs.
-ghost use Rattle.std.specs.Prelude.{◌≡◌, ◌<◌, ◌≤◌, ◌+◌, IfOk, OnOk, Some, length};
+ghost use Rattle.std.specs.Prelude.{◌≡◌, ◌<◌, IfOk, IfSome, IsTrue, OnOk, length};
 ghost use Rattle.std.specs.List.{All};
+ghost use Rattle.zf_scan.specs.declared.token.Connective.TheVariants.{And};
+ghost use Rattle.zf_term.specs.declared.operator.Operator.TheVariants as symbol;
 ghost use Rattle.zf_term.specs.declared.resolved.Resolved as resolved;
 ghost use Rattle.zf_term.specs.declared.resolved.Resolved.{size-Resolved};
 ghost use Rattle.zf_term.specs.ResolvedTrees.{resolved_of};
 ghost use Rattle.zf_meaning.specs.Early as spec;
-ghost use Rattle.zf_meaning.specs.Early.{IsPiece, Refutes};
-ghost use Rattle.zf_meaning.specs.Needs.{need};
+ghost use Rattle.zf_meaning.specs.Early.{Falsifies, IsPart, IsPiece, Refutes};
 
 use crate::needs::last_local;
 use crate::rows::Rows;
@@ -66,82 +67,133 @@ fn add_parts<'t, 'a>(
 ) -> Result<(), AllocError>
     ensures { All (IsPiece term.now span) pieces.old.items → OnOk result (All (IsPiece term.now span) pieces.new.items) }
 {
-    add_filter(term, span, pieces)?;
-    add_constraint(term, span, pieces)?;
-    add_body(term, span, pieces)
+    add_part(filter_of(term), span, pieces)?;
+    add_part(constraint_of(term), span, pieces)?;
+    add_part(body_of(term), span, pieces)
 }
 
-/// Adds the parts of a builder's filter.
-fn add_filter<'t, 'a>(
-    term: &'t Resolved<'a>,
+/// Adds the conjuncts of a part of a binder, if it is there.
+fn add_part<'t, 'a>(
+    part: Option<&'t Resolved<'a>>,
     span: Span,
     pieces: &mut Vec<Piece<'t, 'a>>,
 ) -> Result<(), AllocError>
-    ensures { All (IsPiece term.now span) pieces.old.items → OnOk result (All (IsPiece term.now span) pieces.new.items) }
+    ensures { (whole : resolved.Resolved) → IfSome part.entry (λ x. IsPart whole x.now) → All (IsPiece whole span) pieces.old.items → OnOk result (All (IsPiece whole span) pieces.new.items) }
+{
+    match part {
+        None => Ok(()),
+        Some(term) => add_conjuncts(term, span, pieces),
+    }
+}
+
+/// A builder's filter.
+fn filter_of<'t, 'a>(term: &'t Resolved<'a>) -> Option<&'t Resolved<'a>>
+    ensures refutes { IfSome result (λ x. Refutes (resolved_of x.now) (resolved_of term.now)) }
+    ensures smaller { IfSome result (λ x. size-Resolved x.now < size-Resolved term.now) }
 {
     let Resolved::Builder(_, _, filter, _) = term else {
-        return Ok(());
+        return None;
     };
     match filter.get() {
-        None => Ok(()),
-        Some(part) => add_conjuncts(part.get(), term, span, pieces),
+        None => None,
+        Some(part) => Some(part.get()),
     }
 }
 
-/// Adds the parts of a quantifier's constraint.
-fn add_constraint<'t, 'a>(
-    term: &'t Resolved<'a>,
-    span: Span,
-    pieces: &mut Vec<Piece<'t, 'a>>,
-) -> Result<(), AllocError>
-    ensures { All (IsPiece term.now span) pieces.old.items → OnOk result (All (IsPiece term.now span) pieces.new.items) }
+/// A quantifier's constraint.
+fn constraint_of<'t, 'a>(term: &'t Resolved<'a>) -> Option<&'t Resolved<'a>>
+    ensures refutes { IfSome result (λ x. Refutes (resolved_of x.now) (resolved_of term.now)) }
+    ensures smaller { IfSome result (λ x. size-Resolved x.now < size-Resolved term.now) }
 {
     let Resolved::Quantified(_, _, _, constraint, _) = term else {
-        return Ok(());
+        return None;
     };
     match constraint.get() {
-        None => Ok(()),
-        Some(part) => add_conjuncts(part.get(), term, span, pieces),
+        None => None,
+        Some(part) => Some(part.get()),
     }
 }
 
-/// Adds the parts of a quantifier's body, where each has to hold.
-fn add_body<'t, 'a>(
-    term: &'t Resolved<'a>,
-    span: Span,
-    pieces: &mut Vec<Piece<'t, 'a>>,
-) -> Result<(), AllocError>
-    ensures { All (IsPiece term.now span) pieces.old.items → OnOk result (All (IsPiece term.now span) pieces.new.items) }
+/// A quantifier's body, where it has to hold for a row to count.
+fn body_of<'t, 'a>(term: &'t Resolved<'a>) -> Option<&'t Resolved<'a>>
+    ensures refutes { IfSome result (λ x. Refutes (resolved_of x.now) (resolved_of term.now)) }
+    ensures smaller { IfSome result (λ x. size-Resolved x.now < size-Resolved term.now) }
 {
     let Resolved::Quantified(quantifier, _, _, _, body) = term else {
-        return Ok(());
+        return None;
     };
     match quantifier {
-        Quantifier::ForAll => Ok(()),
-        Quantifier::Exists => add_conjuncts(body.get(), term, span, pieces),
-        Quantifier::ExistsOne => add_conjuncts(body.get(), term, span, pieces),
+        Quantifier::ForAll => None,
+        Quantifier::Exists => Some(body.get()),
+        Quantifier::ExistsOne => Some(body.get()),
     }
 }
 
 /// Adds the conjuncts of a predicate.
-#[cycle(conjuncts)]
 fn add_conjuncts<'t, 'a>(
     term: &'t Resolved<'a>,
-    whole: &'t Resolved<'a>,
     span: Span,
     pieces: &mut Vec<Piece<'t, 'a>>,
 ) -> Result<(), AllocError>
-    requires refutes { Refutes (resolved_of term.now) (resolved_of whole.now) }
-    requires smaller { size-Resolved term.now < size-Resolved whole.now }
-    ensures { All (IsPiece whole.now span) pieces.old.items → OnOk result (All (IsPiece whole.now span) pieces.new.items) }
+    ensures { (whole : resolved.Resolved) → IsPart whole term.now → All (IsPiece whole span) pieces.old.items → OnOk result (All (IsPiece whole span) pieces.new.items) }
+{
+    if let Some(inner) = in_bracket(term) {
+        return add_conjuncts(inner, span, pieces);
+    }
+    match sides_of(term) {
+        None => add(term, span, pieces),
+        Some((left, right)) => {
+            add_conjuncts(left, span, pieces)?;
+            add_conjuncts(right, span, pieces)
+        }
+    }
+}
+
+/// What stands in brackets, if the term does.
+fn in_bracket<'t, 'a>(term: &'t Resolved<'a>) -> Option<&'t Resolved<'a>>
+    ensures falsifies { IfSome result (λ x. Falsifies (resolved_of x.now) (resolved_of term.now)) }
+    ensures smaller { IfSome result (λ x. size-Resolved x.now < size-Resolved term.now) }
 {
     match term {
-        Resolved::Bracket(_, inner) => add_conjuncts(inner.get(), whole, span, pieces),
-        Resolved::Binary(_, Operator::Connective(Connective::And), left, right) => {
-            add_conjuncts(left.get(), whole, span, pieces)?;
-            add_conjuncts(right.get(), whole, span, pieces)
-        }
-        _ => add(term, span, pieces),
+        Resolved::Bracket(_, inner) => Some(inner.get()),
+        _ => None,
+    }
+}
+
+/// Both sides of a conjunction.
+fn sides_of<'t, 'a>(term: &'t Resolved<'a>) -> Option<(&'t Resolved<'a>, &'t Resolved<'a>)>
+    ensures left { IfSome result (λ both. Falsifies (resolved_of both.0.now) (resolved_of term.now)) }
+    ensures right { IfSome result (λ both. Falsifies (resolved_of both.1.now) (resolved_of term.now)) }
+    ensures smaller_left { IfSome result (λ both. size-Resolved both.0.now < size-Resolved term.now) }
+    ensures smaller_right { IfSome result (λ both. size-Resolved both.1.now < size-Resolved term.now) }
+{
+    let Resolved::Binary(_, operator, left, right) = term else {
+        return None;
+    };
+    if is_and(*operator) {
+        Some((left.get(), right.get()))
+    } else {
+        None
+    }
+}
+
+fn is_and(operator: Operator) -> bool
+    ensures { IsTrue result → operator ≡ symbol.Connective And }
+{
+    match operator {
+        Operator::Connective(connective) => is_conjunction(connective),
+        _ => false,
+    }
+}
+
+fn is_conjunction(connective: Connective) -> bool
+    ensures { IsTrue result → connective ≡ And }
+{
+    match connective {
+        Connective::And => true,
+        Connective::Or => false,
+        Connective::Implies => false,
+        Connective::Iff => false,
     }
 }
 
@@ -151,7 +203,7 @@ fn add<'t, 'a>(
     span: Span,
     pieces: &mut Vec<Piece<'t, 'a>>,
 ) -> Result<(), AllocError>
-    ensures { (whole : resolved.Resolved) → Refutes (resolved_of term.now) (resolved_of whole) → size-Resolved term.now < size-Resolved whole → All (IsPiece whole span) pieces.old.items → OnOk result (All (IsPiece whole span) pieces.new.items) }
+    ensures { (whole : resolved.Resolved) → IsPart whole term.now → All (IsPiece whole span) pieces.old.items → OnOk result (All (IsPiece whole span) pieces.new.items) }
 {
     let last = last_local(term, span.whole);
     if last >= span.whole {

@@ -357,10 +357,10 @@ binders::over_rows-returns-then-is_settled g t c =
 
 pub binders::over_rows-met_at-requires : goal.binders::over_rows-met_at-requires
 binders::over_rows-met_at-requires g t c =
-    let pieces = subst (All (IsPiece c.args.term.now c.span_of-span.result)) (sym c.deref.ensures.value) c.in_ok-pieces.ensures in
+    let pieces : All (IsPiece c.args.term.now c.span_of-span.result) c.deref.result.now = subst (All (IsPiece c.args.term.now c.span_of-span.result)) (sym c.deref.ensures.value) c.in_ok-pieces.ensures in
     let regular : IsRegularScope (scope_of c.args.env.now (g.R.Row.values c.args.row.now) c.bound.result.now) =
     walk-scope (NeutralIn c.args.term.now (scope_of c.args.env.now (g.R.Row.values c.args.row.now) c.args.locals.now)) c.args.env.now (g.R.Row.values c.args.row.now) c.args.locals.now c.bound.result.now c.walk.rows (spread c.args.sets.now) c.walk.invariant.0 c.bound.ensures c.requires.sets c.requires.regular c.walk.invariant.1 in
-    (search rules, (c.requires.form, (pieces, regular)))
+    search (rules, pieces, regular)
 
 pub binders::over_rows-pass-requires : goal.binders::over_rows-pass-requires
 binders::over_rows-pass-requires g t c = (seen c.args.locals.now, c.walk.invariant.1.at)
@@ -405,13 +405,13 @@ binders::built_over-walk-preserved g t c =
     let wide : length (seen c.args.locals.now) + length (spread c.args.sets.now) ≡ c.span_of-span.result.whole = span-bound c.in-Some.rows outside ss (seen c.in_ok-lists_of.field-0.items) c.span_of-span.result.whole c.in_ok-lists_of.ensures (rw c.in-Some.is at c.in_ok-rows.ensures) c.span_of-span.ensures.whole in
     let b = row-bound (NeutralIn c.args.term.now k) env values c.args.locals.now c.bound.result.now c.walk.rows ss inv.0 c.span_of-span.result c.bound.ensures c.span_of-span.ensures.outside wide inv.1 in
     let rest : drop c.span_of-span.result.outside (seen c.bound.result.now) ≡ row = subst (λ n. drop n (seen c.bound.result.now) ≡ row) (sym c.span_of-span.ensures.outside) (bound-row c.args.locals.now c.bound.result.now row (ap seen c.bound.ensures ∙ inv.1.at.1)) in
-    let passed = rw c.in-Some-2.is at (c.in_ok-built_at.ensures.passed k row b) in
+    let passed = rw c.in-Some-2.is at (c.in_ok-front.ensures.passed k row b) in
     let next = rw c.in-Some-3.is at (c.in_ok-pass.ensures outside inv.1.at) in (
       row ∷ inv.0,
       next-turn c.args.term.now k c.walk.rows c.pass.new.self outside ss inv.0 c.in-Some-2.front inv.1 passed next,
-      regular_same _ _ c.in_ok-is_too_many.ensures.members c.in_ok-built_at.ensures.regular,
+      regular_same _ _ c.in_ok-is_too_many.ensures.members c.in_ok-front.ensures.regular,
       λ l rs p e is. built-same (FilterIn k (part_of p)) (TermIn k (part_of e)) (row ∷ inv.0) c.built_at.new.built.items c.is_too_many.new.values.items c.in_ok-is_too_many.ensures.members
-    (built-more (FilterIn k (part_of p)) (TermIn k (part_of e)) inv.0 c.walk.built.items c.built_at.new.built.items row (one-filter k (part_of p)) (one-term k (part_of e)) (rw c.in-Some-2.is at (c.in_ok-built_at.ensures.is k row b rest l rs p e is)) (inv.3 l rs p e is)),
+    (built-more (FilterIn k (part_of p)) (TermIn k (part_of e)) inv.0 c.walk.built.items c.built_at.new.built.items row (one-filter k (part_of p)) (one-term k (part_of e)) (rw c.in-Some-2.is at (c.in_ok-front.ensures.is k row b rest l rs p e is)) (inv.3 l rs p e is)),
     )
 
 pub binders::built_over-walk-smaller : goal.binders::built_over-walk-smaller
@@ -421,11 +421,12 @@ binders::built_over-walk-smaller g t c =
 
 pub binders::built_over-built_at-requires : goal.binders::built_over-built_at-requires
 binders::built_over-built_at-requires g t c =
-    let pieces = subst (All (IsPiece c.args.term.now c.span_of-span.result)) (sym c.deref.ensures.value) c.in_ok-pieces.ensures in
+    let pieces : All (IsPiece c.args.term.now c.span_of-span.result) c.deref.result.now = subst (All (IsPiece c.args.term.now c.span_of-span.result)) (sym c.deref.ensures.value) c.in_ok-pieces.ensures in
     let outside : c.span_of-span.result.outside ≤ length c.bound.result.now = omega (arith, c.span_of-span.ensures.outside, outside-bound c.args.locals.now c.bound.result.now (row_of c.walk.rows) (ap seen c.bound.ensures ∙ c.walk.invariant.1.at.1)) in
     let regular : IsRegularScope (scope_of c.args.env.now (g.R.Row.values c.args.row.now) c.bound.result.now) =
     walk-scope (NeutralIn c.args.term.now (scope_of c.args.env.now (g.R.Row.values c.args.row.now) c.args.locals.now)) c.args.env.now (g.R.Row.values c.args.row.now) c.args.locals.now c.bound.result.now c.walk.rows (spread c.args.sets.now) c.walk.invariant.0 c.bound.ensures c.requires.sets c.requires.regular c.walk.invariant.1 in
-    (search rules, (c.requires.form, (pieces, (outside, (c.walk.invariant.2, regular)))))
+    let built : AreRegular c.walk.built.items = c.walk.invariant.2 in
+    search (rules, pieces, outside, built, regular)
 
 pub binders::built_over-pass-requires : goal.binders::built_over-pass-requires
 binders::built_over-pass-requires g t c = (seen c.args.locals.now, c.walk.invariant.1.at)
@@ -442,27 +443,28 @@ binders::built_over-returns-in_default-clause-is g t c =
 pub binders::built_over-returns-in_default-clause-regular : goal.binders::built_over-returns-in_default-clause-regular
 binders::built_over-returns-in_default-clause-regular g t c = c.display.ensures.regular (regular-nothing c.new-built.result.items c.new-built.ensures.items)
 
-pub binders::met_at-returns-in-Some : goal.binders::met_at-returns-in-Some
-binders::met_at-returns-in-Some g t c = record {
-  told = λ k vs b q l rs p e is.
-      let i = c.in-Quantified in
-      let sq = same-quantifier i.quantifier q i.field-1 l i.field-2 rs i.field-3 p i.field-4 e (sym i.is ∙ is) in
-      let none : AreNeutral (resolved_of c.args.term.now) k vs c.in-Some.front = subst (AreNeutralIf (resolved_of c.args.term.now) k vs) c.in-Some.is (c.in_ok-refuted.ensures k vs b) in
-      subst (ToldIn k q (part_of p) (resolved_of e) vs) (sym (c.neutral.ensures ∙ ap neutral sq)) (neutral-told c.args.term.now q l rs p e (within k vs) is (neutral-here (resolved_of c.args.term.now) k vs c.in-Some.front none));
-  passed = λ k vs b. neutral-passed (resolved_of c.args.term.now) k vs c.in-Some.front (subst (AreNeutralIf (resolved_of c.args.term.now) k vs) c.in-Some.is (c.in_ok-refuted.ensures k vs b));
-}
+pub binders::met_at-returns-in-Some-clause-told : goal.binders::met_at-returns-in-Some-clause-told
+binders::met_at-returns-in-Some-clause-told g t c =
+    λ k vs b q l rs p e is.
+    let i = c.in-Quantified in
+    let sq = same-quantifier i.quantifier q i.field-1 l i.field-2 rs i.field-3 p i.field-4 e (sym i.is ∙ is) in
+    let none : AreNeutral (resolved_of c.args.term.now) k vs c.in-Some.front = subst (AreNeutralIf (resolved_of c.args.term.now) k vs) c.in-Some.is (c.in_ok-front.ensures k vs b) in
+    subst (ToldIn k q (part_of p) (resolved_of e) vs) (sym (c.neutral.ensures ∙ ap neutral sq)) (neutral-told c.args.term.now q l rs p e (within k vs) is (neutral-here (resolved_of c.args.term.now) k vs c.in-Some.front none))
 
-pub binders::met_at-returns : goal.binders::met_at-returns
-binders::met_at-returns g t c = record {
-  told = λ k vs b q l rs p e is. told-here _ k vs q (part_of p) (resolved_of e) c.in_ok-truth.truth b.is (c.in_ok-truth.ensures q l rs p e is);
-  passed = λ k vs b. itself-passed (resolved_of c.args.term.now) c.args.span _ k vs b;
-}
+pub binders::met_at-returns-in-Some-clause-passed : goal.binders::met_at-returns-in-Some-clause-passed
+binders::met_at-returns-in-Some-clause-passed g t c = λ k vs b. neutral-passed (resolved_of c.args.term.now) k vs c.in-Some.front (subst (AreNeutralIf (resolved_of c.args.term.now) k vs) c.in-Some.is (c.in_ok-front.ensures k vs b))
+
+pub binders::met_at-returns-clause-told : goal.binders::met_at-returns-clause-told
+binders::met_at-returns-clause-told g t c = λ k vs b q l rs p e is. told-here _ k vs q (part_of p) (resolved_of e) c.in_ok-truth.truth b.is (c.in_ok-truth.ensures q l rs p e is)
+
+pub binders::met_at-returns-clause-passed : goal.binders::met_at-returns-clause-passed
+binders::met_at-returns-clause-passed g t c = λ k vs b. itself-passed (resolved_of c.args.term.now) c.args.span _ k vs b
 
 pub binders::refuted-truth-requires : goal.binders::refuted-truth-requires
 binders::refuted-truth-requires g t c =
     let piece : IsPiece c.args.term.now c.args.span c.piece-item.result = subst (IsPiece c.args.term.now c.args.span) (sym c.piece-item.is) (c.requires.pieces c.loop-piece.piece-index c.piece-item.result c.loop-piece-test.true) in
-    let less : size-Resolved c.piece-item.result.term.now < size-Resolved c.args.term.now = piece.smaller in
-    (search (rules, less), c.requires.regular)
+    let less : size-Resolved c.piece-item.result.term.now < size-Resolved c.args.term.now = piece.part.smaller in
+    search (rules, less)
 
 pub binders::refuted-returns-then-is_false : goal.binders::refuted-returns-then-is_false
 binders::refuted-returns-then-is_false g t c =
@@ -471,28 +473,23 @@ binders::refuted-returns-then-is_false g t c =
     let here = scope_of c.args.env.now (g.R.Row.values c.args.row.now) c.args.bound.now in
     neutral-by c.args.term.now c.args.span c.piece-item.result here k vs piece b (subst (IsTruth here (resolved_of c.piece-item.result.term.now)) (c.is_false.ensures.0 c.if-is_false.true) c.in_ok-told.ensures)
 
-pub binders::built_at-returns-in-Some : goal.binders::built_at-returns-in-Some
-binders::built_at-returns-in-Some g t c = record {
-  is = λ k vs b d l rs p e is.
-      let none : AreNeutral (resolved_of c.args.term.now) k vs c.in-Some.front = subst (AreNeutralIf (resolved_of c.args.term.now) k vs) c.in-Some.is (c.in_ok-refuted.ensures k vs b) in
-      inl (neutral-built c.args.term.now l rs p e (within k vs) is (neutral-here (resolved_of c.args.term.now) k vs c.in-Some.front none), refl);
-  passed = λ k vs b. neutral-passed (resolved_of c.args.term.now) k vs c.in-Some.front (subst (AreNeutralIf (resolved_of c.args.term.now) k vs) c.in-Some.is (c.in_ok-refuted.ensures k vs b));
-  regular = c.requires.built;
-}
+pub binders::built_at-returns-in-Some-clause-is : goal.binders::built_at-returns-in-Some-clause-is
+binders::built_at-returns-in-Some-clause-is g t c =
+    λ k vs b d l rs p e is.
+    let none : AreNeutral (resolved_of c.args.term.now) k vs c.in-Some.front = subst (AreNeutralIf (resolved_of c.args.term.now) k vs) c.in-Some.is (c.in_ok-front.ensures k vs b) in
+    inl (neutral-built c.args.term.now l rs p e (within k vs) is (neutral-here (resolved_of c.args.term.now) k vs c.in-Some.front none), refl)
 
-pub binders::built_at-returns-then-branch : goal.binders::built_at-returns-then-branch
-binders::built_at-returns-then-branch g t c = record {
-  is = λ k vs b d l rs p e is. adds-here _ k vs _ (part_of p) (part_of e) c.args.built.now.items c.add_row.new.built.items c.in_ok-add_row.field-0 true b.is d c.if-branch.true (c.in_ok-add_row.ensures.is l rs p e is);
-  passed = λ k vs b. itself-passed (resolved_of c.args.term.now) c.args.span _ k vs b;
-  regular = c.in_ok-add_row.ensures.regular;
-}
+pub binders::built_at-returns-in-Some-clause-passed : goal.binders::built_at-returns-in-Some-clause-passed
+binders::built_at-returns-in-Some-clause-passed g t c = λ k vs b. neutral-passed (resolved_of c.args.term.now) k vs c.in-Some.front (subst (AreNeutralIf (resolved_of c.args.term.now) k vs) c.in-Some.is (c.in_ok-front.ensures k vs b))
 
-pub binders::built_at-returns : goal.binders::built_at-returns
-binders::built_at-returns g t c = record {
-  is = λ k vs b d l rs p e is. adds-here _ k vs _ (part_of p) (part_of e) c.args.built.now.items c.add_row.new.built.items c.in_ok-add_row.field-0 false b.is d c.if-branch.false (c.in_ok-add_row.ensures.is l rs p e is);
-  passed = λ k vs b. tt;
-  regular = c.in_ok-add_row.ensures.regular;
-}
+pub binders::built_at-returns-then-branch-clause-is : goal.binders::built_at-returns-then-branch-clause-is
+binders::built_at-returns-then-branch-clause-is g t c = λ k vs b d l rs p e is. adds-here _ k vs _ (part_of p) (part_of e) c.args.built.now.items c.add_row.new.built.items c.in_ok-add_row.field-0 true b.is d c.if-branch.true (c.in_ok-add_row.ensures.is l rs p e is)
+
+pub binders::built_at-returns-then-branch-clause-passed : goal.binders::built_at-returns-then-branch-clause-passed
+binders::built_at-returns-then-branch-clause-passed g t c = λ k vs b. itself-passed (resolved_of c.args.term.now) c.args.span _ k vs b
+
+pub binders::built_at-returns-else-branch-clause-is : goal.binders::built_at-returns-else-branch-clause-is
+binders::built_at-returns-else-branch-clause-is g t c = λ k vs b d l rs p e is. adds-here _ k vs _ (part_of p) (part_of e) c.args.built.now.items c.add_row.new.built.items c.in_ok-add_row.field-0 false b.is d c.if-branch.false (c.in_ok-add_row.ensures.is l rs p e is)
 
 pub binders::built_over-returns-in_default-2-clause-is : goal.binders::built_over-returns-in_default-2-clause-is
 binders::built_over-returns-in_default-2-clause-is g t c =
@@ -507,7 +504,7 @@ binders::built_over-returns-in_default-2-clause-is g t c =
     let wide : length (seen c.args.locals.now) + length (spread c.args.sets.now) ≡ c.span_of-span.result.whole = span-bound c.in-Some.rows outside ss (seen c.in_ok-lists_of.field-0.items) c.span_of-span.result.whole c.in_ok-lists_of.ensures (rw c.in-Some.is at c.in_ok-rows.ensures) c.span_of-span.ensures.whole in
     let b = row-bound (NeutralIn c.args.term.now k) env values c.args.locals.now c.bound.result.now c.walk.rows ss inv.0 c.span_of-span.result c.bound.ensures c.span_of-span.ensures.outside wide inv.1 in
     let rest : drop c.span_of-span.result.outside (seen c.bound.result.now) ≡ row = subst (λ n. drop n (seen c.bound.result.now) ≡ row) (sym c.span_of-span.ensures.outside) (bound-row c.args.locals.now c.bound.result.now row (ap seen c.bound.ensures ∙ inv.1.at.1)) in
-    built-out (λ vs. AreFrom vs ss) (FilterIn k (part_of p)) (TermIn k (part_of e)) c.walk.built.items c.built_at.new.built.items row (walk-row (NeutralIn c.args.term.now k) c.walk.rows outside ss inv.0 inv.1) (rw c.in_default-2.is at (c.in_ok-built_at.ensures.is k row b rest l rs p e is))
+    built-out (λ vs. AreFrom vs ss) (FilterIn k (part_of p)) (TermIn k (part_of e)) c.walk.built.items c.built_at.new.built.items row (walk-row (NeutralIn c.args.term.now k) c.walk.rows outside ss inv.0 inv.1) (rw c.in_default-2.is at (c.in_ok-front.ensures.is k row b rest l rs p e is))
 
 pub binders::built_over-returns-then-branch-clause-is : goal.binders::built_over-returns-then-branch-clause-is
 binders::built_over-returns-then-branch-clause-is g t c =
@@ -524,7 +521,7 @@ binders::built_over-returns-then-branch-clause-is g t c =
     let rest : drop c.span_of-span.result.outside (seen c.bound.result.now) ≡ row = subst (λ n. drop n (seen c.bound.result.now) ≡ row) (sym c.span_of-span.ensures.outside) (bound-row c.args.locals.now c.bound.result.now row (ap seen c.bound.ensures ∙ inv.1.at.1)) in
     built-too-many (λ vs. AreFrom vs ss) (FilterIn k (part_of p)) (TermIn k (part_of e)) (row ∷ inv.0) c.is_too_many.new.values.items (walk-done (NeutralIn c.args.term.now k) c.walk.rows outside ss inv.0 inv.1)
     (built-same (FilterIn k (part_of p)) (TermIn k (part_of e)) (row ∷ inv.0) c.built_at.new.built.items c.is_too_many.new.values.items c.in_ok-is_too_many.ensures.members
-    (built-more (FilterIn k (part_of p)) (TermIn k (part_of e)) inv.0 c.walk.built.items c.built_at.new.built.items row (one-filter k (part_of p)) (one-term k (part_of e)) (rw c.in-Some-2.is at (c.in_ok-built_at.ensures.is k row b rest l rs p e is)) (inv.3 l rs p e is)))
+    (built-more (FilterIn k (part_of p)) (TermIn k (part_of e)) inv.0 c.walk.built.items c.built_at.new.built.items row (one-filter k (part_of p)) (one-term k (part_of e)) (rw c.in-Some-2.is at (c.in_ok-front.ensures.is k row b rest l rs p e is)) (inv.3 l rs p e is)))
     (out_told _ _ c.if-branch.true c.in_ok-is_too_many.ensures.told)
 
 pub binders::built_over-returns-in-None-clause-is : goal.binders::built_over-returns-in-None-clause-is
@@ -540,12 +537,12 @@ binders::built_over-returns-in-None-clause-is g t c =
     let wide : length (seen c.args.locals.now) + length (spread c.args.sets.now) ≡ c.span_of-span.result.whole = span-bound c.in-Some.rows outside ss (seen c.in_ok-lists_of.field-0.items) c.span_of-span.result.whole c.in_ok-lists_of.ensures (rw c.in-Some.is at c.in_ok-rows.ensures) c.span_of-span.ensures.whole in
     let b = row-bound (NeutralIn c.args.term.now k) env values c.args.locals.now c.bound.result.now c.walk.rows ss inv.0 c.span_of-span.result c.bound.ensures c.span_of-span.ensures.outside wide inv.1 in
     let rest : drop c.span_of-span.result.outside (seen c.bound.result.now) ≡ row = subst (λ n. drop n (seen c.bound.result.now) ≡ row) (sym c.span_of-span.ensures.outside) (bound-row c.args.locals.now c.bound.result.now row (ap seen c.bound.ensures ∙ inv.1.at.1)) in
-    let passed = rw c.in-Some-2.is at (c.in_ok-built_at.ensures.passed k row b) in
+    let passed = rw c.in-Some-2.is at (c.in_ok-front.ensures.passed k row b) in
     let none = rw c.in-None.is at (c.in_ok-pass.ensures outside inv.1.at) in
     let built = built-same (FilterIn k (part_of p)) (TermIn k (part_of e)) (row ∷ inv.0) c.built_at.new.built.items c.is_too_many.new.values.items c.in_ok-is_too_many.ensures.members
-    (built-more (FilterIn k (part_of p)) (TermIn k (part_of e)) inv.0 c.walk.built.items c.built_at.new.built.items row (one-filter k (part_of p)) (one-term k (part_of e)) (rw c.in-Some-2.is at (c.in_ok-built_at.ensures.is k row b rest l rs p e is)) (inv.3 l rs p e is)) in
+    (built-more (FilterIn k (part_of p)) (TermIn k (part_of e)) inv.0 c.walk.built.items c.built_at.new.built.items row (one-filter k (part_of p)) (one-term k (part_of e)) (rw c.in-Some-2.is at (c.in_ok-front.ensures.is k row b rest l rs p e is)) (inv.3 l rs p e is)) in
     IfOk-weaker c.display-in-None.result (IsDisplay c.is_too_many.new.values.items) (IsBuiltOver (λ vs. AreFrom vs ss) (FilterIn k (part_of p)) (TermIn k (part_of e)))
     (λ o h. built-ended c.args.term.now l rs p e k c.walk.rows outside ss inv.0 c.in-Some-2.front c.is_too_many.new.values.items o is inv.1 passed none built h) c.display-in-None.ensures.is
 
 pub binders::built_over-returns-in-None-clause-regular : goal.binders::built_over-returns-in-None-clause-regular
-binders::built_over-returns-in-None-clause-regular g t c = c.display-in-None.ensures.regular (regular_same _ _ c.in_ok-is_too_many.ensures.members c.in_ok-built_at.ensures.regular)
+binders::built_over-returns-in-None-clause-regular g t c = c.display-in-None.ensures.regular (regular_same _ _ c.in_ok-is_too_many.ensures.members c.in_ok-front.ensures.regular)
