@@ -1,5 +1,5 @@
 -- Parts of a binder that tell that rows do not count.
-use Rattle.std.proofs.Common.{◌≡◌, ◌⊎◌, ℕ, suc, ◌+◌, ◌<◌, ◌≤◌, List, [], ◌∷◌, ◌++◌, Option, Some, None, length, map, take, refl, sym, ap, ◌∙◌, subst, inl, inr, arith}
+use Rattle.std.proofs.Common.{◌≡◌, ℕ, suc, ◌+◌, ◌<◌, ◌≤◌, List, [], ◌∷◌, ◌++◌, Option, Some, None, length, refl, sym, ap, ◌∙◌, subst, inl, inr, arith}
 use denote.Bor.{Bor}
 use Rattle.std.specs.Prelude.{IfSome}
 use Rattle.std.specs.List.{All}
@@ -16,13 +16,10 @@ use Rattle.zf_term.specs.ResolvedTrees.{ResolvedTree, resolved_of, part_of}
 use Rattle.zf_term.proofs.ResolvedSeen.{of-Bracket, of-Binary, of-Quantified, of-Builder}
 use Rattle.zf_value.specs.declared.value.Value.{Value}
 use Rattle.zf_value.specs.declared.value.Truth.{Truth}
-use Rattle.zf_value.specs.declared.value.Truth.TheVariants.{True, False}
+use Rattle.zf_value.specs.declared.value.Truth.TheVariants.{False}
 use Rattle.zf_value.specs.Operations.{AreFrom}
-use Rattle.zf_value.specs.Sets.{members}
-use Rattle.zf_meaning.specs.declared.env.Env.{Env}
 use Rattle.zf_meaning.specs.declared.evaluate.early.Piece.{Piece}
 use Rattle.zf_meaning.specs.declared.evaluate.early.Span.{Span}
-use Rattle.zf_meaning.specs.declared.rows.Rows.{Rows}
 use Rattle.zf_meaning.specs.Early.{neutral, IsNeutral, Refutes, Falsifies, IsPart, IsPiece, AreNeutral, ArePassed, IsBound}
 use Rattle.zf_meaning.specs.Environments.{Context, within}
 use Rattle.zf_meaning.specs.Meaning.{IsConstraint, IsTruth}

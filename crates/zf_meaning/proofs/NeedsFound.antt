@@ -1,5 +1,5 @@
 -- What the further items of a list need.
-use Rattle.std.proofs.Common.{◌≡◌, ℕ, zero, suc, ◌+◌, ◌<◌, ◌≤◌, max, Option, List, [], ◌∷◌, length, map, drop, get_or, refl, sym, ap, ◌∙◌, subst, add-one, arith}
+use Rattle.std.proofs.Common.{◌≡◌, ℕ, zero, suc, ◌+◌, ◌<◌, ◌≤◌, max, Option, List, [], ◌∷◌, length, map, drop, get_or, sym, ap, ◌∙◌, subst, add-one, arith}
 use Rattle.std.proofs.Math.ListN.{drop_of_length-le}
 use Rattle.zf_reference.specs.declared.reference.Reference.{Reference}
 use Rattle.zf_scan.specs.declared.token.Constant.{Constant}

@@ -1,5 +1,5 @@
 -- One turn of a walk over rows, for a quantifier and for a builder.
-use Rattle.std.proofs.Common.{◌≡◌, ℕ, ◌+◌, ◌<◌, Bool, true, false, List, [], ◌∷◌, ◌++◌, Option, length, length-append, map, sym, ap, ◌∙◌, subst, inl, inr, ⊎_elim, arith}
+use Rattle.std.proofs.Common.{◌≡◌, ℕ, ◌+◌, ◌<◌, Bool, true, List, [], ◌∷◌, Option, length, length-append, map, sym, ap, ◌∙◌, subst, inl, inr, ⊎_elim, arith}
 use Rattle.std.proofs.lemmas.List.{length-map}
 use denote.Bor.{Bor}
 use Rattle.zf_scan.specs.declared.token.Quantifier.{Quantifier}
@@ -25,7 +25,7 @@ use Rattle.zf_meaning.specs.Rowed.{lists_of, row_of, ahead, after, IsAt, IsFirst
 use Rattle.zf_meaning.specs.Scopes.{scope_of}
 use Rattle.zf_meaning.specs.Tallies.{truth_by}
 use Rattle.zf_meaning.specs.Truths.{IsTold, IsOver}
-use Rattle.zf_meaning.proofs.Builds.{IsSingle, HasBuilt, built-more, built-all}
+use Rattle.zf_meaning.proofs.Builds.{IsSingle, HasBuilt, built-all}
 use Rattle.zf_meaning.proofs.Early.{neutral-told, neutral-built, may-pass, from_length}
 use Rattle.zf_meaning.proofs.NextRow.{ArePlaces-length, picked-length, seen-length}
 use Rattle.zf_meaning.proofs.PassedRows.{after-fewer}
@@ -49,11 +49,6 @@ one-filter c p vs x y h k = one_constraint (within c vs) p x y h k
 
 pub one-term : (c : Context) (e : ResolvedPart) → IsSingle (TermIn c e)
 one-term c e vs x y h k = one_build (within c vs) vs e x y h k
-
--- what a builder has built, with what the row that is bound adds
-pub built-here : (d c : Context) (vs ws : List Value) (p e : ResolvedPart) (done : List (List Value)) (old new : List Value) (b : Bool) → d ≡ within c vs → ws ≡ vs → b ≡ true → AddsRow (λ u. IsConstraint d p u) (λ x. Builds d ws e x) old new b → HasBuilt (FilterIn c p) (TermIn c e) done old → HasBuilt (FilterIn c p) (TermIn c e) (vs ∷ done) new
-built-here d c vs ws p e done old new b s w t a h =
-    built-more (FilterIn c p) (TermIn c e) done old new vs (one-filter c p) (one-term c e) (adds-here d c vs ws p e old new b true s w t a) h
 
 pub one-told : (c : Context) (q : Quantifier) (p : ResolvedPart) (e : ResolvedTree) → EachOne (ToldIn c q p e)
 one-told c q p e vs x y h k = one_told_of q (λ a. IsConstraint (within c vs) p a) (λ b. IsTruth (within c vs) e b) (λ a b. one_constraint (within c vs) p a b) (λ a b. one_truth (within c vs) e a b) x y h k

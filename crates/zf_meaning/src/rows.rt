@@ -102,7 +102,11 @@ fn next_before(front: usize, i: usize, list: &[Value], place: usize) -> Option<u
     requires { place < length list.now }
     ensures { MatchOption result ((front ≤ i) ⊎ (length list.now ≤ place + 1)) (λ next. (i < front) × (place + 1 ≡ next) × (next < length list.now)) }
 {
-    if i < front { next_place(list, place) } else { None }
+    if i < front {
+        next_place(list, place)
+    } else {
+        None
+    }
 }
 
 /// Binds the values at the places.

@@ -265,7 +265,17 @@ fn built_over<'v, 'a, R: Row>(
     let pieces = pieces_of(alloc, term, span, &rows)?;
     let mut anew = 0;
     'walk: loop {
-        let Some(front) = built_at(term, span, &pieces, anew, &mut built, &*row, rows.bound(), &*env)? else {
+        let Some(front) = built_at(
+            term,
+            span,
+            &pieces,
+            anew,
+            &mut built,
+            &*row,
+            rows.bound(),
+            &*env,
+        )?
+        else {
             return Ok(Outcome::Out);
         };
         if set::is_too_many(&mut built)? {

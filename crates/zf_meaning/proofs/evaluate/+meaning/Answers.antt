@@ -18,7 +18,7 @@ use Rattle.zf_meaning.proofs.Builds.{nothing, built-same, built-more, built-too-
 use Rattle.zf_meaning.proofs.Connecting.{decided-told, told-by}
 use Rattle.zf_meaning.proofs.Early.{neutral-told, neutral-built, neutral-here, neutral-passed, neutral-by, itself-passed}
 use Rattle.zf_meaning.proofs.Told.{IsTallied, none-tallied, one-more, settled-truth, all-told}
-use Rattle.zf_meaning.proofs.Turns.{fewer, adds-here, told-here, built-here, one-told, one-filter, one-term, span-bound, row-bound, next-turn, told-ended, built-ended}
+use Rattle.zf_meaning.proofs.Turns.{fewer, adds-here, told-here, one-told, one-filter, one-term, span-bound, row-bound, next-turn, told-ended, built-ended}
 use Rattle.zf_meaning.proofs.Walking.{walk-begun, walk-row, walk-done, walk-new, no-row, none-from, bound-row, walk-scope, outside-bound, FilterIn, TermIn, ToldIn, NeutralIn}
 use Rattle.zf_value.specs.Sets.{AreRegular, IsRegularOutcome}
 use Rattle.zf_meaning.specs.Found.{found_outcome}
@@ -411,7 +411,7 @@ binders::built_over-walk-preserved g t c =
       next-turn c.args.term.now k c.walk.rows c.pass.new.self outside ss inv.0 c.in-Some-2.front inv.1 passed next,
       regular_same _ _ c.in_ok-is_too_many.ensures.members c.in_ok-front.ensures.regular,
       λ l rs p e is. built-same (FilterIn k (part_of p)) (TermIn k (part_of e)) (row ∷ inv.0) c.built_at.new.built.items c.is_too_many.new.values.items c.in_ok-is_too_many.ensures.members
-    (built-more (FilterIn k (part_of p)) (TermIn k (part_of e)) inv.0 c.walk.built.items c.built_at.new.built.items row (one-filter k (part_of p)) (one-term k (part_of e)) (rw c.in-Some-2.is at (c.in_ok-front.ensures.is k row b rest l rs p e is)) (inv.3 l rs p e is)),
+          (built-more (FilterIn k (part_of p)) (TermIn k (part_of e)) inv.0 c.walk.built.items c.built_at.new.built.items row (one-filter k (part_of p)) (one-term k (part_of e)) (rw c.in-Some-2.is at (c.in_ok-front.ensures.is k row b rest l rs p e is)) (inv.3 l rs p e is)),
     )
 
 pub binders::built_over-walk-smaller : goal.binders::built_over-walk-smaller
