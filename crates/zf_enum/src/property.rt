@@ -33,7 +33,11 @@ pub struct Property<'e, 'g, 'a> {
 
 impl<'e, 'g, 'a> Property<'e, 'g, 'a> {
     /// The truth of a conjunct in a row.
-    fn truth<R: zf_meaning::row::Row>(&self, conjunct: usize, row: &R) -> Result<value::Truth, AllocError>
+    fn truth<R: zf_meaning::row::Row>(
+        &self,
+        conjunct: usize,
+        row: &R,
+    ) -> Result<value::Truth, AllocError>
         requires regular { AreRegular (R.values row.now) }
         requires within { conjunct < length self.now.conjuncts.items }
         ensures { IfOk result (HasTruth (environment_of self.now.env.now) (R.values row.now) (slice_get (map resolved_of self.now.conjuncts.items) conjunct)) }
