@@ -1,9 +1,9 @@
 //! The property of a schema in an environment, as the judge of a walk.
-ghost use Rattle.std.specs.Prelude.{◌≡◌, ◌<◌, ◌^◌, ℕ, IfOk, MatchOption, length, map, slice_get};
+ghost use Rattle.std.specs.Prelude.{◌≡◌, ◌<◌, ◌^◌, ℕ, IfOk, length, map, slice_get};
 ghost use Rattle.zf_term.specs.ResolvedTrees.{resolved_of};
 ghost use Rattle.zf_value.specs.Sets.{AreRegular};
 ghost use Rattle.zf_meaning.specs.Envs.{environment_of};
-ghost use Rattle.zf_lift.specs.Lifted.{AreLifted};
+ghost use Rattle.zf_lift.specs.Lifted.{IsLiftIfAny};
 ghost use Rattle.zf_enum.specs.Property.{HasTruth, due_of, told};
 
 use crate::candidates::gather_candidates;
@@ -28,7 +28,7 @@ pub struct Property<'e, 'g, 'a> {
     /// The conjuncts with what their closed parts come to, if they have any.
     pub lifted: Option<Lifted<'g, 'a>>,
     ghost small: { (c : ℕ) → due_of (slice_get (map resolved_of conjuncts.items) c) < 2 ^ 64 },
-    ghost same: { MatchOption lifted (Unit {0}) (AreLifted (environment_of env.now) (map resolved_of conjuncts.items)) },
+    ghost same: { IsLiftIfAny (environment_of env.now) (map resolved_of conjuncts.items) lifted },
 }
 
 impl<'e, 'g, 'a> Property<'e, 'g, 'a> {

@@ -29,11 +29,16 @@ pub each_done : {A B : Type 0} → (g : B → A) (R : A → A → Type 0) (ps : 
 each_done g R ps xs i l h = subst (λ ys. AreEach R ps (map g ys)) (whole xs i l) h
 
 -- the items at one place
-pub at_place : {A B : Type 0} → (g : B → A) (R : A → A → Type 0) (ps : List B) (ys : List A) (i : ℕ) (p : B) (y : A) → p ≡ get_or ps i p → i < length ps → slice_get ys i ≡ Some y → AreEach R (map g ps) ys → R (g p) y
-at_place g R [] ys i p y at l e h = absurd (omega arith)
-at_place g R (q ∷ ps) [] i p y at l e h = absurd h
-at_place g R (q ∷ ps) (z ∷ ys) zero p y at l e h = let d : z ≡ y = (cc) in subst (λ w. R (g p) w) d (subst (λ w. R (g w) z) (sym at) h.0)
-at_place g R (q ∷ ps) (z ∷ ys) (suc i) p y at l e h = at_place g R ps ys i p y at (omega arith) e h.1
+pub at_place : {A : Type 0} → (R : A → A → Type 0) (xs ys : List A) (i : ℕ) (x y : A) → slice_get xs i ≡ Some x → slice_get ys i ≡ Some y → AreEach R xs ys → R x y
+at_place R [] ys i x y p q h = absurd (cc)
+at_place R (w ∷ xs) [] i x y p q h = absurd h
+at_place R (w ∷ xs) (z ∷ ys) zero x y p q h = let d : w ≡ x = (cc) in let e : z ≡ y = (cc) in subst (λ v. R x v) e (subst (λ v. R v z) d h.0)
+at_place R (w ∷ xs) (z ∷ ys) (suc i) x y p q h = at_place R xs ys i x y p q h.1
+
+pub stands_at : {A B : Type 0} → (g : B → A) (ps : List B) (i : ℕ) (p : B) → p ≡ get_or ps i p → i < length ps → slice_get (map g ps) i ≡ Some (g p)
+stands_at g [] i p at l = absurd (omega arith)
+stands_at g (q ∷ ps) zero p at l = ap (λ z. Some (g z)) (sym at)
+stands_at g (q ∷ ps) (suc i) p at l = stands_at g ps i p at (omega arith)
 
 pub as_many : {A B : Type 0} → (g : B → A) (R : A → A → Type 0) (ps : List B) (ys : List A) → AreEach R (map g ps) ys → length ps ≡ length ys
 as_many g R [] [] h = refl

@@ -4,3 +4,4 @@ pub mod Longer
 pub mod Each
 pub mod Wherever
 pub mod Arms
+pub mod Kept

@@ -22,7 +22,8 @@ use Rattle.zf_value.specs.declared.value.Truth.TheVariants as truth
 use Rattle.zf_meaning.specs.Environments.{Environment, Context, within, outcome_in, outcome_or}
 use Rattle.zf_meaning.specs.Envs.{longer}
 use Rattle.zf_meaning.specs.Meaning.{HasOutcome, IsTruth}
-use Rattle.zf_meaning.proofs.Unique.{one_outcome}
+use Rattle.zf_meaning.proofs.Unique.{one_outcome, one_truth}
+use Rattle.zf_lift.specs.Lifted.{Agrees}
 use Rattle.zf_lift.specs.Same.{IsSame, AreSame, AreSameRanges, AreSameLinks, IsSamePart}
 use Rattle.zf_lift.specs.Lifts.{IsLonger, at, Wherever, Whichever, IsLift, AreLifts, AreRangeLifts, AreLinkLifts, IsPartLift, IsClosed, AreClosed, AreRangesClosed, AreLinksClosed, IsPartClosed, is_liftable}
 use Rattle.zf_lift.specs.Lists.{AreEach, AreAllLifts, IsRangeLift, IsLinkLift, IsRangeClosed, IsLinkClosed}
@@ -285,7 +286,7 @@ named_lift e f g l t u x e-f behind is liftable closed lift has h g-h row locals
       infinite = found_none _ (longer_ones.no_global f h (length f.outcomes) behind f-h) ∙ sym (no_infinite e.globals u liftable);
     }
 
--- a lift outside binders says the same in every row
-pub says_the_same : (f e : Environment) (t u : ResolvedTree) → IsLift true f e t u → (row : List Value) (a : Truth) → IsTruth (at f row []) t a ↔ IsTruth (at e row []) u a
+-- a lift outside binders has no truth but that of its term
+pub agrees : (f e : Environment) (t u : ResolvedTree) → IsLift true f e t u → Agrees f e t u
 unfolding IsLift
-says_the_same f e t u h row a = (h f (longer_ones.itself f) row [] (λ z. refl)).truth a
+agrees f e t u h row a b p q = one_truth (at e row []) u a b (((h f (longer_ones.itself f) row [] (λ z. refl)).truth a).0 p) q

@@ -1,12 +1,9 @@
 //! Predicates with what their closed parts come to.
-ghost use Rattle.std.specs.Prelude.{◌≡◌, ◌<◌, List, true, Some, IfOk, OnOk, MatchOption, length, map, slice_get};
-ghost use Rattle.zf_term.specs.ResolvedTrees.{ResolvedTree, resolved_of};
+ghost use Rattle.std.specs.Prelude.{◌<◌, IfOk, OnOk, length, true, map};
+ghost use Rattle.zf_term.specs.ResolvedTrees.{resolved_of};
 ghost use Rattle.zf_value.specs.Sets.{AreRegular};
 ghost use Rattle.zf_meaning.specs.Envs.{environment_of};
-ghost use Rattle.zf_meaning.specs.Environments.{Environment};
-ghost use Rattle.zf_meaning.specs.InRow.{in_row};
-ghost use Rattle.zf_meaning.specs.Meaning.{IsTruth};
-ghost use Rattle.zf_lift.specs.Lifted.{AreLifted};
+ghost use Rattle.zf_lift.specs.Lifted.{IsLiftIfAny, IsTruthAt};
 ghost use Rattle.zf_lift.specs.Lists.{AreAllLifts};
 ghost use Rattle.zf_lift.specs.Lifts.{IsLonger};
 
@@ -31,8 +28,8 @@ impl<'g, 'a> Lifted<'g, 'a> {
     /// The truth of the predicate at this place.
     pub fn truth_of<R: Row>(&self, place: usize, row: &R) -> Result<Truth, AllocError>
         requires regular { AreRegular (R.values row.now) }
-        requires within { (e : Environment) × (ts : List ResolvedTree) × AreLifted e ts self.now × (place < length ts) }
-        ensures { (e : Environment) (ts : List ResolvedTree) (t : ResolvedTree) → AreLifted e ts self.now → slice_get ts place ≡ Some t → IfOk result (IsTruth (in_row e (R.values row.now)) t) }
+        requires within { place < length self.now.terms.items }
+        ensures { IfOk result (IsTruthAt self.now place (R.values row.now)) }
     {
         truth_of(&self.terms[place], row, &self.env)
     }
@@ -45,7 +42,7 @@ pub fn lift<'g, 'a>(
     terms: &[Resolved<'a>],
     env: &Env<'g, 'a>,
 ) -> Result<Option<Lifted<'g, 'a>>, AllocError>
-    ensures { IfOk result (λ found. MatchOption found (Unit {0}) (AreLifted (environment_of env.now) (map resolved_of terms.now))) }
+    ensures { IfOk result (IsLiftIfAny (environment_of env.now) (map resolved_of terms.now)) }
 {
     let mut own = env.copy(alloc)?;
     let first = own.count();
