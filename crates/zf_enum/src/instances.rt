@@ -18,7 +18,6 @@ use crate::search::Search;
 use crate::start_fault::StartFault;
 use bumpalo::Bump;
 use std::alloc::{AllocError, Global};
-use zf_lift::lift;
 use zf_meaning::env::Env;
 use zf_meaning::row::Row;
 use zf_term::globals::Flat;
@@ -49,12 +48,7 @@ impl<'s, 'e, 'g, 'a> Instances<'s, 'e, 'g, 'a> {
         let ranges = ranges(alloc, arena, flat.components.as_slice(), env)?;
         let planting = plant_all(alloc, arena, flat.conjuncts.as_slice())?;
         let Planting { leaves, forest } = planting;
-        let lifted = lift(alloc, arena, leaves.as_slice(), env)?;
-        let property = Property {
-            conjuncts: leaves,
-            env,
-            lifted,
-        };
+        let property = Property::of(alloc, arena, leaves, env)?;
         let search = zf_plan::Search::start(alloc, property, forest, ranges, after)?;
         Ok(Instances { search })
     }

@@ -11,8 +11,9 @@ use crate::due::{due, uses};
 use crate::fixing::fixing;
 use crate::known::Known;
 use crate::shown::{Shown, meet};
-use std::alloc::AllocError;
-use zf_lift::Lifted;
+use bumpalo::Bump;
+use std::alloc::{AllocError, Global};
+use zf_lift::{Lifted, lift};
 use zf_meaning::env::Env;
 use zf_meaning::value::truth_of;
 use zf_plan::Guide;
@@ -32,6 +33,25 @@ pub struct Property<'e, 'g, 'a> {
 }
 
 impl<'e, 'g, 'a> Property<'e, 'g, 'a> {
+    /// These conjuncts, with what their closed parts come to.
+    pub fn of(
+        alloc: Global,
+        arena: &'a Bump,
+        conjuncts: Vec<Resolved<'a>>,
+        env: &'e Env<'g, 'a>,
+    ) -> Result<Property<'e, 'g, 'a>, AllocError>
+        requires small { (c : ℕ) → due_of (slice_get (map resolved_of conjuncts.items) c) < 2 ^ 64 }
+        ensures conjuncts { IfOk result (λ j. j.conjuncts.items ≡ conjuncts.entry.items) }
+        ensures env { IfOk result (λ j. environment_of j.env.now ≡ environment_of env.now) }
+    {
+        let lifted = lift(alloc, arena, conjuncts.as_slice(), env)?;
+        Ok(Property {
+            conjuncts,
+            env,
+            lifted,
+        })
+    }
+
     /// The truth of a conjunct in a row.
     fn truth<R: zf_meaning::row::Row>(
         &self,

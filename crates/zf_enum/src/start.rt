@@ -17,7 +17,6 @@ use crate::property::Property;
 use crate::start_fault::StartFault;
 use bumpalo::Bump;
 use std::alloc::{AllocError, Global};
-use zf_lift::lift;
 use zf_meaning::env::Env;
 use zf_term::conjunct::Conjunct;
 use zf_term::globals::Flat;
@@ -40,12 +39,7 @@ impl<'s, 'e, 'g, 'a> Bindings<'s, 'e, 'g, 'a> {
     {
         let ranges = ranges(alloc, arena, flat.components.as_slice(), env)?;
         let conjuncts = resolved(alloc, arena, flat.conjuncts.as_slice())?;
-        let lifted = lift(alloc, arena, conjuncts.as_slice(), env)?;
-        let property = Property {
-            conjuncts,
-            env,
-            lifted,
-        };
+        let property = Property::of(alloc, arena, conjuncts, env)?;
         Ok(Bindings::over(alloc, property, ranges, after)?)
     }
 }

@@ -36,8 +36,8 @@ returns-clause-begins c =
     let conjuncts = c.in_ok-conjuncts.ensures ∙ ap (map conjunct_of) c.as_slice-2.ensures in
     let walk = c.in_ok-over.field-0.walk in
     let problem = c.in_ok-over.ensures.problem in
-    let here = ap (λ (j : Property). environment_of j.env.now) problem.0 in
-    let these = ap (λ (j : Property). map resolved_of j.conjuncts.items) problem.0 ∙ conjuncts in
+    let here = ap (λ (j : Property). environment_of j.env.now) problem.0 ∙ c.in_ok-property.ensures.env in
+    let these = ap (λ (j : Property). map resolved_of j.conjuncts.items) problem.0 ∙ ap (map resolved_of) c.in_ok-property.ensures.conjuncts ∙ conjuncts in
     record {
       begins = record {
         environment = here;
