@@ -1,5 +1,5 @@
 -- A search begins before all events of the schema.
-use Rattle.std.proofs.Common.{List, length, map, ap, sym, subst}
+use Rattle.std.proofs.Common.{List, length, map, ap, sym, subst, ◌∙◌}
 use Rattle.std.specs.Option.{option_copied}
 use Rattle.zf_term.specs.declared.conjunct.Conjunct.{Conjunct}
 use Rattle.zf_term.specs.declared.globals.Component.{Component}
@@ -13,6 +13,7 @@ use Rattle.zf_plan.specs.Trees.{planted}
 use Rattle.zf_plan.specs.Groves.{Grove, trees_of}
 use Rattle.zf_plan.specs.Alike.{SayTheSame}
 use Rattle.zf_plan.proofs.Alike.{all_ahead}
+use Rattle.zf_meaning.specs.Environments.{Environment}
 use Rattle.zf_meaning.specs.Envs.{environment_of}
 use Rattle.zf_enum.specs.declared.property.Property.{Property}
 use Rattle.zf_enum.specs.Property.{property}
@@ -24,34 +25,31 @@ use Rattle.zf_enum.proofs.Started.{ranges_ascend, named_within, needs_within}
 use Rattle.zf_enum.proofs.Planted.{say_the_same, leaves_within}
 use Rattle.zf_enum.proofs.instances.Instances.start.Goals as goal
 
-pub start-requires-clause-ascending : goal.start-requires-clause-ascending
-start-requires-clause-ascending c = ranges_ascend (environment_of c.args.env.now) _ c.in_ok-ranges.ranges.items c.in_ok-ranges.ensures.is.0
+pub over-requires-clause-ascending : goal.over-requires-clause-ascending
+over-requires-clause-ascending c = ranges_ascend (environment_of c.args.env.now) _ c.in_ok-ranges.ranges.items c.in_ok-ranges.ensures.is.0
 
-pub start-requires-clause-ties : goal.start-requires-clause-ties
-start-requires-clause-ties c = exact
-
-pub start-requires-clause-named : goal.start-requires-clause-named
-start-requires-clause-named c =
+pub over-requires-clause-named : goal.over-requires-clause-named
+over-requires-clause-named c =
     let e = environment_of c.args.env.now in
     let all = subst (λ (ds : List Component). AreAllRanges e (map comp_of ds) c.in_ok-ranges.ranges.items) c.as_slice.ensures c.in_ok-ranges.ensures.is in
     named_within e (schema_of c.args.flat.now).comps c.in_ok-ranges.ranges.items (option_copied c.args.after) all.0 c.requires.named
 
-pub start-requires-clause-due : goal.start-requires-clause-due
-start-requires-clause-due c =
+pub over-requires-clause-due : goal.over-requires-clause-due
+over-requires-clause-due c =
     let e = environment_of c.args.env.now in
     let s = schema_of c.args.flat.now in
     let rs = c.in_ok-ranges.ranges.items in
     let all = subst (λ (ds : List Component). AreAllRanges e (map comp_of ds) rs) c.as_slice.ensures c.in_ok-ranges.ensures.is in
-    let p = c.in_ok-planting.planting in
-    let are_planted = subst (λ (cs : List Conjunct). ArePlanted (map conjunct_of cs) p.leaves.items (trees_of p.forest)) c.as_slice-2.ensures c.in_ok-planting.ensures in
+    let p = c.in_ok-planted.planted in
+    let are_planted = subst (λ (cs : List Conjunct). ArePlanted (map conjunct_of cs) p.property.conjuncts.items (trees_of p.forest)) c.as_slice-2.ensures c.in_ok-planted.ensures.planted in
     λ k l. are_planted.needs (length rs) (needs_within e s.comps rs s.conjuncts all.0 c.requires.due) k
 
-pub start-requires-clause-leaves : goal.start-requires-clause-leaves
-start-requires-clause-leaves c =
+pub over-requires-clause-leaves : goal.over-requires-clause-leaves
+over-requires-clause-leaves c =
     let s = schema_of c.args.flat.now in
-    let p = c.in_ok-planting.planting in
-    let are_planted = subst (λ (cs : List Conjunct). ArePlanted (map conjunct_of cs) p.leaves.items (trees_of p.forest)) c.as_slice-2.ensures c.in_ok-planting.ensures in
-    leaves_within s.conjuncts p.leaves.items (trees_of p.forest) are_planted
+    let p = c.in_ok-planted.planted in
+    let are_planted = subst (λ (cs : List Conjunct). ArePlanted (map conjunct_of cs) p.property.conjuncts.items (trees_of p.forest)) c.as_slice-2.ensures c.in_ok-planted.ensures.planted in
+    leaves_within s.conjuncts p.property.conjuncts.items (trees_of p.forest) are_planted
 
 pub returns-clause-begins : goal.returns-clause-begins
 returns-clause-begins c =
@@ -59,19 +57,21 @@ returns-clause-begins c =
     let s = schema_of c.args.flat.now in
     let rs = c.in_ok-ranges.ranges.items in
     let all = subst (λ (ds : List Component). AreAllRanges e (map comp_of ds) rs) c.as_slice.ensures c.in_ok-ranges.ensures.is in
-    let p = c.in_ok-planting.planting in
-    let are_planted = subst (λ (cs : List Conjunct). ArePlanted (map conjunct_of cs) p.leaves.items (trees_of p.forest)) c.as_slice-2.ensures c.in_ok-planting.ensures in
-    let same = say_the_same s.conjuncts p.leaves.items (trees_of p.forest) are_planted e in
-    let search = c.in_ok-search.search in
-    let problem = c.in_ok-search.ensures.problem in
-    let ahead = all_ahead value_order (planted (property e (map resolved_of p.leaves.items)) (trees_of p.forest)) (property e s.conjuncts) same rs (option_copied c.args.after) search.stage.ahead c.in_ok-search.ensures.events in
+    let p = c.in_ok-planted.planted in
+    let are_planted = subst (λ (cs : List Conjunct). ArePlanted (map conjunct_of cs) p.property.conjuncts.items (trees_of p.forest)) c.as_slice-2.ensures c.in_ok-planted.ensures.planted in
+    let env = c.in_ok-planted.ensures.env in
+    let plain = say_the_same s.conjuncts p.property.conjuncts.items (trees_of p.forest) are_planted e in
+    let same = subst (λ (x : Environment). SayTheSame (planted (property x (map resolved_of p.property.conjuncts.items)) (trees_of p.forest)) (property e s.conjuncts)) (sym env) plain in
+    let search = c.in_ok-over.field-0.search in
+    let problem = c.in_ok-over.ensures.problem in
+    let ahead = all_ahead value_order (planted (judged p.property) (trees_of p.forest)) (property e s.conjuncts) same rs (option_copied c.args.after) search.stage.ahead c.in_ok-over.ensures.events in
     record {
-      environment = ap (λ (j : Property). environment_of j.env.now) problem.0;
+      environment = ap (λ (j : Property). environment_of j.env.now) problem.0 ∙ env;
       same = subst (λ (j : Property). SayTheSame (planted (judged j) (trees_of search.forest)) (property e s.conjuncts)) (sym problem.0)
-          (subst (λ (f : Grove). SayTheSame (planted (property e (map resolved_of p.leaves.items)) (trees_of f)) (property e s.conjuncts)) (sym problem.1) same);
+          (subst (λ (f : Grove). SayTheSame (planted (judged p.property) (trees_of f)) (property e s.conjuncts)) (sym problem.1) same);
       ranges = subst (λ (ws : List (List Value)). AreRanges e s.comps ws) (sym problem.2) all.0;
       named = problem.3;
       none_out = all.1;
       ahead = subst (λ (ws : List (List Value)). AreAllAhead value_order (property e s.conjuncts) ws (option_copied c.args.after) search.stage.ahead) (sym problem.2) ahead;
-      first = c.in_ok-search.ensures.first;
+      first = c.in_ok-over.ensures.first;
     }
