@@ -1,0 +1,12 @@
+pub mod SameNames
+pub mod Lists
+pub mod Turns
+pub mod Seen
+pub mod Renaming
+pub mod Decoration
+pub mod Changing
+pub mod Conjunction
+pub mod Placing
+pub mod Kept
+pub mod Joining
+pub mod Moving
