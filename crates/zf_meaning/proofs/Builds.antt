@@ -1,5 +1,5 @@
 -- What a builder has built of the rows that are done.
-use Rattle.std.proofs.Common.{◌≡◌, ◌↔◌, true, false, List, [], ◌∷◌, ◌++◌, refl, sym, subst, inl, inr, ⊎_elim}
+use Rattle.std.proofs.Common.{◌≡◌, ◌↔◌, ◌⊎◌, true, false, List, [], ◌∷◌, ◌++◌, refl, sym, subst, inl, inr, ⊎_elim}
 use Rattle.zf_value.specs.declared.value.Value.{Value}
 use Rattle.zf_value.specs.declared.value.Outcome.{Outcome}
 use Rattle.zf_value.specs.declared.value.Outcome.TheVariants.{Is, Undefined, Out}
@@ -62,11 +62,15 @@ pub built-too-many : (R : List Value → Type 0) (F : List Value → Truth → T
 unfolding IsDisplay
 built-too-many R F T done built s h d = inr (d.0, d.1, d.2, every_also (λ z. IsMember z built) (IsBuiltBy R F T) d.0 (λ z m. let p = (h.members z).0 m in (p.0, s p.0 p.1, p.2, p.3)) d.3)
 
--- of all rows
-pub built-all : (R : List Value → Type 0) (F : List Value → Truth → Type 0) (T : List Value → Outcome → Type 0) (done : List (List Value)) (built : List Value) (o : Outcome) → ((vs : List Value) → R vs → IsAmong vs done) → ((vs : List Value) → IsAmong vs done → R vs) → HasBuilt F T done built → IsDisplay built o → IsBuiltOver R F T o
+-- a row whose filter is false builds nothing
+counts : (F : List Value → Truth → Type 0) (done : List (List Value)) (vs : List Value) → IsSingle F → F vs truth.True → IsAmong vs done ⊎ F vs truth.False → IsAmong vs done
+counts F done vs f p h = ⊎_elim (λ m. m) (λ n. let d = f vs truth.True truth.False p n in absurd (cc)) h
+
+-- of rows that are done or whose filter is false
+pub built-all : (R : List Value → Type 0) (F : List Value → Truth → Type 0) (T : List Value → Outcome → Type 0) (done : List (List Value)) (built : List Value) (o : Outcome) → IsSingle F → ((vs : List Value) → R vs → IsAmong vs done ⊎ F vs truth.False) → ((vs : List Value) → IsAmong vs done → R vs) → HasBuilt F T done built → IsDisplay built o → IsBuiltOver R F T o
 unfolding IsDisplay
-built-all R F T done built (Is v) r s h d =
-    (λ vs k. h.within vs (r vs k), same_set (λ z. IsMember z built) (IsBuiltBy R F T) (Is v) (λ z. (λ m. let p = (h.members z).0 m in (p.0, s p.0 p.1, p.2, p.3), λ p. (h.members z).1 (p.0, r p.0 p.1, p.2, p.3))) d)
-built-all R F T done built Undefined r s h d = d
-built-all R F T done built Out r s h d =
-    inr (same_set (λ z. IsMember z built) (IsBuiltBy R F T) Out (λ z. (λ m. let p = (h.members z).0 m in (p.0, s p.0 p.1, p.2, p.3), λ p. (h.members z).1 (p.0, r p.0 p.1, p.2, p.3))) d)
+built-all R F T done built (Is v) f r s h d =
+    (λ vs k. ⊎_elim (λ m. h.within vs m) (λ n. inl n) (r vs k), same_set (λ z. IsMember z built) (IsBuiltBy R F T) (Is v) (λ z. (λ m. let p = (h.members z).0 m in (p.0, s p.0 p.1, p.2, p.3), λ p. (h.members z).1 (p.0, counts F done p.0 f p.2 (r p.0 p.1), p.2, p.3))) d)
+built-all R F T done built Undefined f r s h d = d
+built-all R F T done built Out f r s h d =
+    inr (same_set (λ z. IsMember z built) (IsBuiltBy R F T) Out (λ z. (λ m. let p = (h.members z).0 m in (p.0, s p.0 p.1, p.2, p.3), λ p. (h.members z).1 (p.0, counts F done p.0 f p.2 (r p.0 p.1), p.2, p.3))) d)

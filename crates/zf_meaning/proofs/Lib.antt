@@ -1,10 +1,12 @@
 pub mod Unique
 pub mod SameRows
+pub mod SameLocals
 pub mod Stays
 pub mod Environments
 pub mod Worked
 pub mod NextRow
 pub mod AllRows
+pub mod PassedRows
 pub mod Told
 pub mod Regulars
 pub mod Tests
@@ -19,6 +21,9 @@ pub mod Counts
 pub mod WorkedOut
 pub mod Linking
 pub mod Turns
+pub mod Early
+pub mod NeedsFound
 pub mod Binding
 pub mod CarrierLists
 pub mod InRow
+pub mod Fronts

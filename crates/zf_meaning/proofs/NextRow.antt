@@ -1,10 +1,10 @@
 -- One row after another: the first, and the next.
-use Rattle.std.proofs.Common.{◌≡◌, ℕ, zero, suc, ◌+◌, ◌<◌, ◌≤◌, List, [], ◌∷◌, ◌++◌, length, get_or, take, drop, set, replicate, eqb, true, false, refl, sym, ap, ◌∙◌, arith, subst, inl, inr, append-nil, length-append, append_assoc}
+use Rattle.std.proofs.Common.{◌≡◌, ◌⊎◌, ⊎_elim, ℕ, zero, suc, ◌+◌, ◌<◌, ◌≤◌, List, [], ◌∷◌, ◌++◌, length, get_or, take, drop, set, replicate, eqb, true, false, refl, sym, ap, ◌∙◌, arith, subst, inl, inr, append-nil, length-append, append_assoc}
 use denote.Bor.{Bor}
 use Rattle.std.specs.List.{All, list_any}
 use Rattle.std.proofs.lemmas.Bool.{false≢true, or_cases, or_parts, or_left, or_right}
 use Rattle.std.proofs.lemmas.Bool.Decides.{nat_tests}
-use Rattle.std.proofs.lemmas.List.{take-set, drop-set}
+use Rattle.std.proofs.lemmas.List.{take-set, take-set-le, drop-set, take_all}
 use Rattle.std.proofs.lemmas.List.Elements.{All-cons, All-replicate, All-head, All-tail}
 use Rattle.std.proofs.Math.Seq.{take-length}
 use Rattle.zf_value.specs.declared.value.Value.{Value}
@@ -108,25 +108,45 @@ seen-append (y ∷ xs) x = ap (λ ys. y.now ∷ ys) (seen-append xs x)
 
 -- ---- a place of the walk to the left, i above j
 
-pub turned-here : (lists : List (List Value)) (row old : List ℕ) (i j next : ℕ) (d : List Value) → ArePlaces lists row → i ≡ suc j → j < length row → rows_after lists (take i row) ≡ rows_after lists old → All (λ place. place ≡ 0) (drop i row)
-    → get_or row j 0 + 1 ≡ next → next < length (get_or lists j d) → rows_after lists old ≡ picked lists (set row j next) ∷ rows_after lists (set row j next)
-turned-here lists row old i j next d r e h ahead z n lt =
-    sym ahead ∙ (rw e (rows_after-turned lists row j next d r h n lt (rw e at z)))
+-- Above the front only what begins with its places is left, which are as they were; below it, what is after the places before i.
+pub record Turns (lists : List (List Value)) (old row : List ℕ) (front i : ℕ) : Type 0 where
+  pub above : front ≤ i → take front row ≡ take front old
+  pub below : i ≤ front → rows_after lists (take i row) ≡ rows_after lists (take front old)
 
-pub past-here : (lists : List (List Value)) (row old : List ℕ) (i j : ℕ) (d : List Value) → ArePlaces lists row → i ≡ suc j → j < length row → rows_after lists (take i row) ≡ rows_after lists old → length (get_or lists j d) ≤ get_or row j 0 + 1
-    → rows_after lists (take j (set row j 0)) ≡ rows_after lists old
-past-here lists row old i j d r e h ahead le =
-    ap (rows_after lists) (take-set row j 0) ∙ sym (rows_after-past lists row j d r h le) ∙ (rw (sym e) ahead)
+pub turns-begun : (lists : List (List Value)) (row : List ℕ) (front i : ℕ) → i ≡ length row → Turns lists row row front i
+turns-begun lists row front i e = record {
+  above = λ h. refl;
+  below = λ h. ap (rows_after lists) (take_all i row (omega (arith, e)) ∙ sym (take_all front row (omega (arith, e))));
+}
+
+pub turned-here : (lists : List (List Value)) (old row : List ℕ) (front i j next : ℕ) (d : List Value) → ArePlaces lists row → i ≡ suc j → j < length row → Turns lists old row front i → All (λ place. place ≡ 0) (drop i row)
+    → j < front → get_or row j 0 + 1 ≡ next → next < length (get_or lists j d) → rows_after lists (take front old) ≡ picked lists (set row j next) ∷ rows_after lists (set row j next)
+turned-here lists old row front i j next d r e h t z f n lt =
+    sym (t.below (omega (arith, e, f))) ∙ (rw e (rows_after-turned lists row j next d r h n lt (rw e at z)))
+
+before_or : (j front : ℕ) → (j < front) ⊎ (front ≤ j)
+before_or j zero = inr (omega arith)
+before_or zero (suc front) = inl (omega arith)
+before_or (suc j) (suc front) = ⊎_elim (λ h. inl (omega (arith, h))) (λ h. inr (omega (arith, h))) (before_or j front)
+
+pub turns-past : (lists : List (List Value)) (old row : List ℕ) (front i j : ℕ) (d : List Value) → ArePlaces lists row → i ≡ suc j → j < length row → Turns lists old row front i → (front ≤ j) ⊎ (length (get_or lists j d) ≤ get_or row j 0 + 1)
+    → Turns lists old (set row j 0) front j
+turns-past lists old row front i j d r e h t p = record {
+  above = λ k. take-set-le front row j 0 k ∙ t.above (omega (arith, e, k));
+  below = λ k. ap (rows_after lists) (take-set row j 0) ∙ ⊎_elim
+      (λ f. ⊎_elim (λ g. absurd (omega (arith, f, g))) (λ le. sym (rows_after-past lists row j d r h le) ∙ ap (λ n. rows_after lists (take n row)) (sym e) ∙ t.below (omega (arith, e, f))) p)
+      (λ f. let same : j ≡ front = omega (arith, f, k) in ap (λ n. rows_after lists (take n row)) same ∙ ap (rows_after lists) (t.above (omega (arith, e, f)))) (before_or j front);
+}
 
 pub zeros-here : (row : List ℕ) (i j : ℕ) → i ≡ suc j → j < length row → All (λ place. place ≡ 0) (drop i row) → All (λ place. place ≡ 0) (drop j (set row j 0))
 zeros-here row i j e h z =
     let m : i ≡ j + 1 = omega arith in
     rw (drop-set row j 0 h) (All-cons (λ place. place ≡ 0) 0 (drop (j + 1) row) refl (rw m at z))
 
-pub none-here : (lists : List (List Value)) (row old : List ℕ) (i : ℕ) → i ≤ 0 → rows_after lists (take i row) ≡ rows_after lists old → rows_after lists old ≡ []
+pub none-here : (lists : List (List Value)) (old row : List ℕ) (front i : ℕ) → i ≤ 0 → Turns lists old row front i → rows_after lists (take front old) ≡ []
 unfolding rows_after
-none-here lists row old zero h ahead = sym ahead
-none-here lists row old (suc i) h ahead = absurd (omega arith)
+none-here lists old row front zero h t = sym (t.below (omega arith))
+none-here lists old row front (suc i) h t = absurd (omega arith)
 
 -- ---- where a walk begins
 
@@ -245,6 +265,10 @@ bound-first items lists places read outside bound after l p b a =
 drop-all : {A : Type 0} (xs : List A) → drop (length xs) xs ≡ []
 drop-all [] = refl
 drop-all (x ∷ xs) = drop-all xs
+
+-- no place is behind the last
+pub none-behind : (P : ℕ → Type 0) (xs : List ℕ) → All P (drop (length xs) xs)
+none-behind P xs = subst (All P) (sym (drop-all xs)) (λ k d h. absurd (omega (arith, h)))
 
 -- what is written over the whole of a list
 pub written-over : {A : Type 0} (len : ℕ) (new items : List A) → length new ≡ length items → len ≡ length items → take len (new ++ drop (length new) items) ≡ new

@@ -7,6 +7,7 @@ use Rattle.zf_value.specs.declared.value.Truth.{Truth}
 use Rattle.zf_value.specs.declared.value.Truth.TheVariants.{True, False, Out}
 use Rattle.zf_meaning.specs.declared.tally.Tally.{Tally}
 use Rattle.zf_meaning.specs.Tallies.{none, with, is_settled, when_settled, when_over, truth_by}
+use Rattle.zf_meaning.specs.Early.{neutral}
 use Rattle.zf_meaning.specs.Truths.{HasTwo, IsExistsOne, IsOver}
 use Rattle.zf_meaning.proofs.AllRows.{IsAmong}
 
@@ -146,6 +147,25 @@ all-told q R P done t false e r s h = over_by q R P done t t.has_true t.has_out 
 pub settled-truth : (q : Quantifier) (R : List Value → Type 0) (P : List Value → Truth → Type 0) (done : List (List Value)) (t : Tally) → ((vs : List Value) → IsAmong vs done → R vs) → IsTallied P done t → is_settled q t ≡ true → IsOver q R P (truth_by q t)
 settled-truth q R P done t r h e = rw e (settled-told q R P done t r h e)
 
--- of rows that are no more than those done
-pub told-of-all : (q : Quantifier) (R : List Value → Type 0) (P : List Value → Truth → Type 0) (done : List (List Value)) (t : Tally) → ((vs : List Value) → R vs → IsAmong vs done) → ((vs : List Value) → IsAmong vs done → R vs) → IsTallied P done t → IsOver q R P (truth_by q t)
-told-of-all q R P done t r s h = all-told q R P done t (is_settled q t) refl r s h
+not_neutral : (P : List Value → Truth → Type 0) (vs : List Value) → EachOne P → P vs True → P vs False → ⊥
+not_neutral P vs f p n = let d = f vs True False p n in (cc)
+
+-- further rows that do not count change nothing
+further : (q : Quantifier) (R S : List Value → Type 0) (P : List Value → Truth → Type 0) (u : Truth) → EachOne P → ((vs : List Value) → S vs → R vs) → ((vs : List Value) → R vs → S vs ⊎ P vs (neutral q)) → IsOver q S P u → IsOver q R P u
+further ForAll R S P True f s r h = λ vs k. ⊎_elim (λ a. h vs a) (λ n. n) (r vs k)
+further ForAll R S P False f s r h = (h.0, s h.0 h.1, h.2)
+further ForAll R S P Out f s r h = ((h.0.0, s h.0.0 h.0.1, h.0.2), λ vs k. ⊎_elim (λ a. h.1 vs a) (λ n. inl n) (r vs k))
+further Exists R S P True f s r h = (h.0, s h.0 h.1, h.2)
+further Exists R S P False f s r h = λ vs k. ⊎_elim (λ a. h vs a) (λ n. n) (r vs k)
+further Exists R S P Out f s r h = ((h.0.0, s h.0.0 h.0.1, h.0.2), λ vs k. ⊎_elim (λ a. h.1 vs a) (λ n. inl n) (r vs k))
+further ExistsOne R S P True f s r h = (h.0, s h.0 h.1, h.2, λ ws k. ⊎_elim (λ a. h.3 ws a) (λ n. inr n) (r ws k))
+further ExistsOne R S P False f s r h =
+    ⊎_elim (λ t. inl (t.0, t.1, s t.0 t.2, s t.1 t.3, t.4, t.5, t.6)) (λ no. inr (λ vs k. ⊎_elim (λ a. no vs a) (λ n. n) (r vs k))) h
+further ExistsOne R S P Out f s r h =
+    let counts : (vs : List Value) → R vs → P vs True → S vs = λ vs k p. ⊎_elim (λ a. a) (λ n. absurd (not_neutral P vs f p n)) (r vs k) in
+    ((h.0.0, s h.0.0 h.0.1, h.0.2), λ t. h.1 (t.0, t.1, counts t.0 t.2 t.4, counts t.1 t.3 t.5, t.4, t.5, t.6))
+
+-- of rows that are done or do not count
+pub told-of-all : (q : Quantifier) (R : List Value → Type 0) (P : List Value → Truth → Type 0) (done : List (List Value)) (t : Tally) → EachOne P → ((vs : List Value) → R vs → IsAmong vs done ⊎ P vs (neutral q)) → ((vs : List Value) → IsAmong vs done → R vs) → IsTallied P done t → IsOver q R P (truth_by q t)
+told-of-all q R P done t f r s h =
+    further q R (λ vs. IsAmong vs done) P (truth_by q t) f s r (all-told q (λ vs. IsAmong vs done) P done t (is_settled q t) refl (λ vs m. m) (λ vs m. m) h)

@@ -1,31 +1,40 @@
 -- One turn of a walk over rows, for a quantifier and for a builder.
-use Rattle.std.proofs.Common.{◌≡◌, ◌<◌, Bool, true, false, List, [], ◌∷◌, length, ap, subst, arith}
-use Rattle.std.specs.Bool.{MatchBool}
+use Rattle.std.proofs.Common.{◌≡◌, ℕ, ◌+◌, ◌<◌, Bool, true, List, [], ◌∷◌, Option, length, length-append, map, sym, ap, ◌∙◌, subst, inl, inr, ⊎_elim, arith}
+use Rattle.std.proofs.lemmas.List.{length-map}
+use denote.Bor.{Bor}
 use Rattle.zf_tree.specs.declared.symbol.Quantifier.{Quantifier}
-use Rattle.zf_term.specs.ResolvedTrees.{ResolvedTree, ResolvedPart}
+use Rattle.zf_term.specs.declared.resolved.Range.{Range}
+use Rattle.zf_term.specs.declared.resolved.Resolved.{Resolved}
+use Rattle.zf_term.specs.declared.resolved.Resolved.TheVariants as v
+use Rattle.zf_term.specs.ResolvedTrees.{ResolvedTree, ResolvedPart, resolved_of, part_of}
 use Rattle.zf_value.specs.declared.value.Value.{Value}
+use Rattle.zf_value.specs.declared.value.Outcome.{Outcome}
 use Rattle.zf_value.specs.declared.value.Truth.{Truth}
+use Rattle.zf_value.specs.Operations.{AreFrom, IsDisplay}
+use Rattle.zf_value.specs.Sets.{members}
+use Rattle.zf_meaning.specs.declared.env.Env.{Env}
+use Rattle.zf_meaning.specs.declared.evaluate.early.Span.{Span}
 use Rattle.zf_meaning.specs.declared.rows.Rows.{Rows}
+use Rattle.zf_meaning.specs.declared.tally.Tally.{Tally}
 use Rattle.zf_meaning.specs.Building.{AddsRow}
+use Rattle.zf_meaning.specs.Early.{IsBound, ArePassed}
 use Rattle.zf_meaning.specs.Environments.{Context, within}
-use Rattle.zf_meaning.specs.Meaning.{IsConstraint, IsTruth, Builds}
-use Rattle.zf_meaning.specs.Rowed.{ahead, IsNext}
-use Rattle.zf_meaning.specs.Truths.{IsTold}
-use Rattle.zf_meaning.proofs.Builds.{IsSingle, HasBuilt, built-more}
-use Rattle.zf_meaning.proofs.Told.{EachOne}
+use Rattle.zf_meaning.specs.Meaning.{IsConstraint, IsTruth, Builds, IsBuiltOver}
+use Rattle.zf_meaning.specs.Places.{seen}
+use Rattle.zf_meaning.specs.Rowed.{lists_of, row_of, ahead, after, IsAt, IsFirst, IsNext}
+use Rattle.zf_meaning.specs.Scopes.{scope_of}
+use Rattle.zf_meaning.specs.Tallies.{truth_by}
+use Rattle.zf_meaning.specs.Truths.{IsTold, IsOver}
+use Rattle.zf_meaning.proofs.Builds.{IsSingle, HasBuilt, built-all}
+use Rattle.zf_meaning.proofs.Early.{neutral-told, neutral-built, may-pass, from_length}
+use Rattle.zf_meaning.proofs.NextRow.{ArePlaces-length, picked-length, seen-length}
+use Rattle.zf_meaning.proofs.PassedRows.{after-fewer}
+use Rattle.zf_meaning.proofs.Told.{EachOne, IsTallied, told-of-all}
 use Rattle.zf_meaning.proofs.Unique.{one_constraint, one_build, one_truth, one_told_of}
-use Rattle.zf_meaning.proofs.Walking.{FilterIn, TermIn, ToldIn}
+use Rattle.zf_meaning.proofs.Walking.{WalksOver, walk-next, walk-ended, walk-row, walk-done, scope-row, FilterIn, TermIn, ToldIn, NeutralIn}
 
-pub moved : (outside : List Value) (old new : Rows) (b : Bool) → b ≡ true → MatchBool b (IsNext outside old new) (ahead old ≡ []) → IsNext outside old new
-moved outside old new true e h = h
-moved outside old new false e h = absurd (cc)
-
-pub stuck : (outside : List Value) (old new : Rows) (b : Bool) → b ≡ false → MatchBool b (IsNext outside old new) (ahead old ≡ []) → ahead old ≡ []
-stuck outside old new false e h = h
-stuck outside old new true e h = absurd (cc)
-
-pub fewer : (outside : List Value) (old new : Rows) → IsNext outside old new → length (ahead new) < length (ahead old)
-fewer outside old new n = omega (arith, ap length n.2)
+pub fewer : (outside : List Value) (front : ℕ) (old new : Rows) → IsAt old outside → IsNext outside front old new → length (ahead new) < length (ahead old)
+fewer outside front old new a n = omega (arith, ap length n.2, after-fewer (lists_of old) old.places.items front a.0)
 
 pub adds-here : (d c : Context) (vs ws : List Value) (p e : ResolvedPart) (old new : List Value) (a b : Bool) → d ≡ within c vs → ws ≡ vs → a ≡ b → AddsRow (λ u. IsConstraint d p u) (λ x. Builds d ws e x) old new a → AddsRow (FilterIn c p vs) (TermIn c e vs) old new b
 adds-here d c vs ws p e old new a b s w t h =
@@ -41,10 +50,40 @@ one-filter c p vs x y h k = one_constraint (within c vs) p x y h k
 pub one-term : (c : Context) (e : ResolvedPart) → IsSingle (TermIn c e)
 one-term c e vs x y h k = one_build (within c vs) vs e x y h k
 
--- what a builder has built, with what the row that is bound adds
-pub built-here : (d c : Context) (vs ws : List Value) (p e : ResolvedPart) (done : List (List Value)) (old new : List Value) (b : Bool) → d ≡ within c vs → ws ≡ vs → b ≡ true → AddsRow (λ u. IsConstraint d p u) (λ x. Builds d ws e x) old new b → HasBuilt (FilterIn c p) (TermIn c e) done old → HasBuilt (FilterIn c p) (TermIn c e) (vs ∷ done) new
-built-here d c vs ws p e done old new b s w t a h =
-    built-more (FilterIn c p) (TermIn c e) done old new vs (one-filter c p) (one-term c e) (adds-here d c vs ws p e old new b true s w t a) h
-
 pub one-told : (c : Context) (q : Quantifier) (p : ResolvedPart) (e : ResolvedTree) → EachOne (ToldIn c q p e)
 one-told c q p e vs x y h k = one_told_of q (λ a. IsConstraint (within c vs) p a) (λ b. IsTruth (within c vs) e b) (λ a b. one_constraint (within c vs) p a b) (λ a b. one_truth (within c vs) e a b) x y h k
+
+-- ---- how many variables are bound
+
+pub span-bound : (r : Rows) (outside ss : List Value) (lists : List (List Value)) (n : ℕ) → lists ≡ map members ss → IsFirst outside lists r → n ≡ length r.bound.items → length outside + length ss ≡ n
+span-bound r outside ss lists n e f b =
+    omega (arith, b, ap length f.0.1, length-append outside (row_of r), seen-length r.bound.items, picked-length (lists_of r) r.places.items f.0.0, ArePlaces-length (lists_of r) r.places.items f.0.0, ap length (f.1 ∙ e), length-map ss members)
+
+pub row-bound : (N : List Value → Type 0) (env : Env) (row : List Value) (locals bound : List (Bor Value)) (r : Rows) (ss : List Value) (done : List (List Value)) (span : Span) → bound ≡ r.bound.items → span.outside ≡ length locals → length (seen locals) + length ss ≡ span.whole → WalksOver N r (seen locals) ss done
+    → IsBound span (scope_of env row bound) (scope_of env row locals) (row_of r)
+row-bound N env row locals bound r ss done span e o w h = record {
+  is = scope-row env row locals bound (row_of r) (ap seen e ∙ h.at.1);
+  outside = seen-length locals ∙ sym o;
+  whole = ap (λ n. length (seen locals) + n) (from_length ss (row_of r) (walk-row N r (seen locals) ss done h)) ∙ w;
+}
+
+-- ---- rows that do not count are passed
+
+pub next-turn : (d : Resolved) (c : Context) (old new : Rows) (outside ss : List Value) (done : List (List Value)) (front : ℕ) → WalksOver (NeutralIn d c) old outside ss done → ArePassed (resolved_of d) c (row_of old) front → IsNext outside front old new → WalksOver (NeutralIn d c) new outside ss (row_of old ∷ done)
+next-turn d c old new outside ss done front h a n = walk-next (NeutralIn d c) old new outside ss done front h (may-pass (resolved_of d) c ss (row_of old) front (walk-row (NeutralIn d c) old outside ss done h) a) n
+
+-- what a quantifier tells where no row is left
+pub told-ended : (d : Resolved) (q : Quantifier) (l : ℕ) (rs : List Range) (p : Option Resolved) (e : Resolved) (c : Context) (r : Rows) (outside ss : List Value) (done : List (List Value)) (front : ℕ) (t : Tally) → d ≡ v.Quantified q l rs p e → WalksOver (NeutralIn d c) r outside ss done
+    → ArePassed (resolved_of d) c (row_of r) front → after r front ≡ [] → IsTallied (ToldIn c q (part_of p) (resolved_of e)) (row_of r ∷ done) t → IsOver q (λ vs. AreFrom vs ss) (ToldIn c q (part_of p) (resolved_of e)) (truth_by q t)
+told-ended d q l rs p e c r outside ss done front t i h a n k =
+    told-of-all q (λ vs. AreFrom vs ss) (ToldIn c q (part_of p) (resolved_of e)) (row_of r ∷ done) t (one-told c q (part_of p) (resolved_of e))
+    (λ vs f. ⊎_elim (λ m. inl m) (λ x. inr (neutral-told d q l rs p e (within c vs) i x)) (walk-ended (NeutralIn d c) r outside ss done front h (may-pass (resolved_of d) c ss (row_of r) front (walk-row (NeutralIn d c) r outside ss done h) a) n vs f))
+    (walk-done (NeutralIn d c) r outside ss done h) k
+
+-- what a builder builds where no row is left
+pub built-ended : (d : Resolved) (l : ℕ) (rs : List Range) (p e : Option Resolved) (c : Context) (r : Rows) (outside ss : List Value) (done : List (List Value)) (front : ℕ) (built : List Value) (o : Outcome) → d ≡ v.Builder l rs p e → WalksOver (NeutralIn d c) r outside ss done
+    → ArePassed (resolved_of d) c (row_of r) front → after r front ≡ [] → HasBuilt (FilterIn c (part_of p)) (TermIn c (part_of e)) (row_of r ∷ done) built → IsDisplay built o → IsBuiltOver (λ vs. AreFrom vs ss) (FilterIn c (part_of p)) (TermIn c (part_of e)) o
+built-ended d l rs p e c r outside ss done front built o i h a n k s =
+    built-all (λ vs. AreFrom vs ss) (FilterIn c (part_of p)) (TermIn c (part_of e)) (row_of r ∷ done) built o (one-filter c (part_of p))
+    (λ vs f. ⊎_elim (λ m. inl m) (λ x. inr (neutral-built d l rs p e (within c vs) i x)) (walk-ended (NeutralIn d c) r outside ss done front h (may-pass (resolved_of d) c ss (row_of r) front (walk-row (NeutralIn d c) r outside ss done h) a) n vs f))
+    (walk-done (NeutralIn d c) r outside ss done h) k s

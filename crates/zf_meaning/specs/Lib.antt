@@ -21,6 +21,8 @@ pub mod Forms
 pub mod Gathered
 pub mod RangeSets
 pub mod Building
+pub mod Needs
+pub mod Early
 pub mod Tallies
 pub mod Connected
 pub mod Arithmetic

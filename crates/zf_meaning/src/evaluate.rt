@@ -14,6 +14,7 @@ ghost use Rattle.zf_meaning.specs.Scopes.{scope_of, IsRegularScope};
 
 mod binders;
 mod chains;
+pub(crate) mod early;
 pub(crate) mod memberships;
 mod operands;
 mod ranges;

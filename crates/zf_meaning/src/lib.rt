@@ -10,6 +10,7 @@ pub mod found;
 mod gathered;
 mod global_outcome;
 pub mod laws;
+mod needs;
 mod outcomes;
 mod relation;
 pub mod row;

@@ -1,10 +1,9 @@
 //! The rows of ranges, one after another.
-ghost use Rattle.std.specs.Prelude.{◌≡◌, ◌==◌, ◌+◌, ◌<◌, ◌≤◌, [], ◌∷◌, ◌++◌, IfOk, OnOk, MatchOption, List, length, slice_index_or};
-ghost use Rattle.std.specs.Bool.{MatchBool};
+ghost use Rattle.std.specs.Prelude.{◌≡◌, ◌⊎◌, ◌==◌, ◌+◌, ◌<◌, ◌≤◌, [], ◌∷◌, ◌++◌, IfOk, OnOk, MatchOption, List, length, take, slice_index_or};
 ghost use Rattle.std.specs.List.{list_any};
 ghost use Rattle.zf_value.specs.declared.value.Value as value;
 ghost use Rattle.zf_meaning.specs.Places.{seen, all_rows, rows_after, picked, ArePlaces};
-ghost use Rattle.zf_meaning.specs.Rowed.{ahead, IsAt, IsFirst, IsNext};
+ghost use Rattle.zf_meaning.specs.Rowed.{after, IsAt, IsFirst, IsNext};
 
 use std::alloc::{AllocError, Global};
 use zf_value::value::Value;
@@ -39,6 +38,15 @@ impl<'v> Rows<'v> {
         }))
     }
 
+    /// Whether there are so many rows that it pays to pass some.
+    pub(crate) fn are_many(&self) -> bool {
+        let mut rows: usize = 1;
+        for list in &self.lists {
+            rows = rows.saturating_mul(list.len());
+        }
+        rows >= 6
+    }
+
     /// The variables that are bound.
     pub(crate) fn bound(&self) -> &[&'v Value]
         ensures { result.now ≡ self.now.bound.items }
@@ -46,18 +54,18 @@ impl<'v> Rows<'v> {
         self.bound.as_slice()
     }
 
-    /// Goes to the next row, if there is one.
-    pub(crate) fn advance(&mut self) -> Result<bool, AllocError>
+    /// Goes to the next row after all that begin with the same values, so many. Answers how many first values it does not share all of, if there is one.
+    pub(crate) fn pass(&mut self, front: usize) -> Result<Option<usize>, AllocError>
         requires { (outside : List value.Value) × IsAt self.old outside }
-        ensures { (outside : List value.Value) → IsAt self.old outside → IfOk result (λ moved. MatchBool moved (IsNext outside self.old self.new) (ahead self.old ≡ [])) }
+        ensures { (outside : List value.Value) → IsAt self.old outside → IfOk result (λ turned. MatchOption turned (after self.old front ≡ []) (λ anew. IsNext outside front self.old self.new)) }
     {
         let outside = self.bound.len() - self.places.len();
-        if !turn(&self.lists, &mut self.places) {
-            return Ok(false);
-        }
+        let Some(turned) = turn(&self.lists, &mut self.places, front) else {
+            return Ok(None);
+        };
         self.bound.truncate(outside);
         bind(&self.lists, &self.places, &mut self.bound)?;
-        Ok(true)
+        Ok(Some(turned))
     }
 }
 
@@ -73,20 +81,32 @@ fn has_empty(lists: &[&[Value]]) -> bool
     false
 }
 
-/// Turns to the next row: the last place that can goes up by one, and those after it begin again.
-fn turn(lists: &[&[Value]], places: &mut [usize]) -> bool
+/// Turns to the next row after all that have the same first places, so many: the last of these that can goes up by one, and all after it begin again. Answers how many places there are up to the one that went up.
+fn turn(lists: &[&[Value]], places: &mut [usize], front: usize) -> Option<usize>
     requires { ArePlaces (seen lists.now) places.old }
     ensures places { ArePlaces (seen lists.now) places.new }
-    ensures turned { MatchBool result (rows_after (seen lists.now) places.old ≡ picked (seen lists.now) places.new ∷ rows_after (seen lists.now) places.new) (rows_after (seen lists.now) places.old ≡ []) }
+    ensures turned { MatchOption result (rows_after (seen lists.now) (take front places.old) ≡ []) (λ anew. rows_after (seen lists.now) (take front places.old) ≡ picked (seen lists.now) places.new ∷ rows_after (seen lists.now) places.new) }
 {
     for i in (0..places.len()).rev() {
-        if let Some(next) = next_place(lists[i], places[i]) {
+        if let Some(next) = next_before(front, i, lists[i], places[i]) {
             places[i] = next;
-            return true;
+            return Some(i + 1);
         }
         places[i] = 0;
     }
-    false
+    None
+}
+
+/// The next place in the list, if there is one and the list stands before the front.
+fn next_before(front: usize, i: usize, list: &[Value], place: usize) -> Option<usize>
+    requires { place < length list.now }
+    ensures { MatchOption result ((front ≤ i) ⊎ (length list.now ≤ place + 1)) (λ next. (i < front) × (place + 1 ≡ next) × (next < length list.now)) }
+{
+    if i < front {
+        next_place(list, place)
+    } else {
+        None
+    }
 }
 
 /// Binds the values at the places.

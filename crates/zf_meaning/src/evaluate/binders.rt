@@ -1,17 +1,21 @@
 //! What binds variables: quantified predicates and builders.
 ghost use Rattle.std.specs.Prelude.{◌≡◌, ◌≤◌, ℕ, List, Option, IfOk, length, drop, map};
 ghost use Rattle.std.specs.Bool.{MatchBool};
+ghost use Rattle.std.specs.List.{All};
+ghost use Rattle.std.specs.Option.{is_some};
 ghost use Rattle.zf_tree.specs.declared.symbol.Quantifier.{Quantifier};
 ghost use Rattle.zf_term.specs.declared.resolved.Range as range;
 ghost use Rattle.zf_term.specs.declared.resolved.Resolved as resolved;
 ghost use Rattle.zf_term.specs.declared.resolved.Resolved.TheVariants as form;
 ghost use Rattle.zf_term.specs.ResolvedTrees.{resolved_of, part_of};
 ghost use Rattle.zf_value.specs.declared.value.Truth.TheVariants as truths;
+ghost use Rattle.zf_value.specs.declared.value.Value as value;
 ghost use Rattle.zf_value.specs.Operations.{AreFrom};
 ghost use Rattle.zf_value.specs.Sets.{AreRegular, IsRegular, IsRegularOutcome};
 ghost use Rattle.zf_meaning.specs.Building.{AddsRow, AddsValue};
 ghost use Rattle.zf_meaning.specs.RangeSets.{spread};
-ghost use Rattle.zf_meaning.specs.Environments.{within};
+ghost use Rattle.zf_meaning.specs.Early.{IsPiece, IsBound, AreNeutralIf, ArePassed, ArePassedIf};
+ghost use Rattle.zf_meaning.specs.Environments.{Context, within};
 ghost use Rattle.zf_meaning.specs.Forms.{IsQuantified, IsBuilder};
 ghost use Rattle.zf_meaning.specs.Found.{found_outcome};
 ghost use Rattle.zf_meaning.specs.Meaning.{HasOutcome, IsTruth, IsConstraint, Builds, IsBuiltOver, row_value};
@@ -19,6 +23,8 @@ ghost use Rattle.zf_meaning.specs.Places.{seen};
 ghost use Rattle.zf_meaning.specs.Scopes.{scope_of, IsRegularScope};
 ghost use Rattle.zf_meaning.specs.Truths.{IsTold, IsOver};
 
+use super::chains::is_false;
+use super::early::{Piece, Span, neutral, pieces_of, span_of};
 use super::ranges::{Spread, declared_sets, lists_of};
 use super::{empty_set, outcome, truth};
 use crate::connected::{connected, connective_of, decided};
@@ -81,15 +87,90 @@ fn over_rows<'v, 'a, R: Row>(
     let Some(mut rows) = Rows::first(alloc, locals, lists_of(alloc, sets)?)? else {
         return Ok(tally.truth(*quantifier));
     };
-    loop {
-        tally = tally.with(told_at(term, &*row, rows.bound(), &*env)?);
+    let span = span_of(locals, &rows);
+    let pieces = pieces_of(alloc, term, span, &rows)?;
+    let mut anew = 0;
+    'walk: loop {
+        let met = met_at(term, span, &pieces, anew, &*row, rows.bound(), &*env)?;
+        tally = tally.with(met.truth);
         if tally.is_settled(*quantifier) {
             return Ok(tally.truth(*quantifier));
         }
-        if !rows.advance()? {
-            return Ok(tally.truth(*quantifier));
+        match rows.pass(met.front)? {
+            None => return Ok(tally.truth(*quantifier)),
+            Some(turned) => anew = turned,
         }
     }
+}
+
+/// What a quantifier tells of a row. The others that begin with the same values, so many, do not count.
+#[derive(Clone, Copy)]
+pub(crate) struct Met {
+    pub truth: Truth,
+    pub front: usize,
+}
+
+/// What a quantifier tells of the row that is bound, of which some first values are anew.
+#[cycle(meaning)]
+fn met_at<'v, 'a, R: Row>(
+    term: &Resolved<'a>,
+    span: Span,
+    pieces: &[Piece<'_, 'a>],
+    anew: usize,
+    row: &'v R,
+    bound: &[&'v Value],
+    env: &'v Env<'_, 'a>,
+) -> Result<Met, AllocError>
+    requires form { IsQuantified term.now }
+    requires pieces { All (IsPiece term.now span) pieces.now }
+    requires regular { IsRegularScope (scope_of env.now (R.values row.now) bound.now) }
+    ensures told { (c : Context) (vs : List value.Value) → IsBound span (scope_of env.now (R.values row.now) bound.now) c vs
+        → (q : Quantifier) (l : ℕ) (rs : List range.Range) (p : Option resolved.Resolved) (e : resolved.Resolved) → term.now ≡ form.Quantified q l rs p e
+        → IfOk result (λ m. IsTold q (λ a. IsConstraint (within c vs) (part_of p) a) (λ b. IsTruth (within c vs) (resolved_of e) b) m.truth) }
+    ensures passed { (c : Context) (vs : List value.Value) → IsBound span (scope_of env.now (R.values row.now) bound.now) c vs
+        → IfOk result (λ m. ArePassed (resolved_of term.now) c vs m.front) }
+{
+    let Resolved::Quantified(quantifier, _, _, _, _) = term else {
+        unreachable!();
+    };
+    if let Some(front) = refuted(term, span, pieces, anew, row, bound, env)? {
+        return Ok(Met {
+            truth: neutral(*quantifier),
+            front,
+        });
+    }
+    let truth = told_at(term, row, bound, env)?;
+    Ok(Met {
+        truth,
+        front: span.whole,
+    })
+}
+
+/// How many first values decide that the row that is bound does not count, if a part tells so that needs some that are anew.
+#[cycle(meaning)]
+fn refuted<'v, 'a, R: Row>(
+    term: &Resolved<'a>,
+    span: Span,
+    pieces: &[Piece<'_, 'a>],
+    anew: usize,
+    row: &'v R,
+    bound: &[&'v Value],
+    env: &'v Env<'_, 'a>,
+) -> Result<Option<usize>, AllocError>
+    requires pieces { All (IsPiece term.now span) pieces.now }
+    requires regular { IsRegularScope (scope_of env.now (R.values row.now) bound.now) }
+    ensures { (c : Context) (vs : List value.Value) → IsBound span (scope_of env.now (R.values row.now) bound.now) c vs
+        → IfOk result (AreNeutralIf (resolved_of term.now) c vs) }
+{
+    for piece in pieces {
+        if piece.front >= anew {
+            let told = truth(piece.term, row, bound, env)?;
+            if is_false(told) {
+                return Ok(Some(piece.front));
+            }
+        }
+    }
+    Ok(None)
 }
 
 /// What a quantifier tells of the row that is bound.
@@ -180,16 +261,64 @@ fn built_over<'v, 'a, R: Row>(
     let Some(mut rows) = Rows::first(alloc, locals, lists_of(alloc, sets)?)? else {
         return set::display(alloc, built);
     };
-    loop {
-        if !add_row(term, &mut built, locals.len(), &*row, rows.bound(), &*env)? {
+    let span = span_of(locals, &rows);
+    let pieces = pieces_of(alloc, term, span, &rows)?;
+    let mut anew = 0;
+    'walk: loop {
+        let Some(front) = built_at(
+            term,
+            span,
+            &pieces,
+            anew,
+            &mut built,
+            &*row,
+            rows.bound(),
+            &*env,
+        )?
+        else {
             return Ok(Outcome::Out);
-        }
+        };
         if set::is_too_many(&mut built)? {
             return Ok(Outcome::Out);
         }
-        if !rows.advance()? {
-            return set::display(alloc, built);
+        match rows.pass(front)? {
+            None => return set::display(alloc, built),
+            Some(turned) => anew = turned,
         }
+    }
+}
+
+/// Adds what is built of the row that is bound, of which some first values are anew. Answers how many first values it has with others of which nothing is built; None where it is out.
+#[cycle(meaning)]
+fn built_at<'v, 'a, R: Row>(
+    term: &Resolved<'a>,
+    span: Span,
+    pieces: &[Piece<'_, 'a>],
+    anew: usize,
+    built: &mut Vec<Value>,
+    row: &'v R,
+    bound: &[&'v Value],
+    env: &'v Env<'_, 'a>,
+) -> Result<Option<usize>, AllocError>
+    requires form { IsBuilder term.now }
+    requires pieces { All (IsPiece term.now span) pieces.now }
+    requires outside { span.outside ≤ length bound.now }
+    requires built { AreRegular built.old.items }
+    requires regular { IsRegularScope (scope_of env.now (R.values row.now) bound.now) }
+    ensures is { (c : Context) (vs : List value.Value) → IsBound span (scope_of env.now (R.values row.now) bound.now) c vs → drop span.outside (seen bound.now) ≡ vs
+        → (l : ℕ) (rs : List range.Range) (p e : Option resolved.Resolved) → term.now ≡ form.Builder l rs p e
+        → IfOk result (λ front. AddsRow (λ u. IsConstraint (within c vs) (part_of p) u) (λ x. Builds (within c vs) vs (part_of e) x) built.old.items built.new.items (is_some front)) }
+    ensures passed { (c : Context) (vs : List value.Value) → IsBound span (scope_of env.now (R.values row.now) bound.now) c vs
+        → IfOk result (ArePassedIf (resolved_of term.now) c vs) }
+    ensures regular { AreRegular built.new.items }
+{
+    if let Some(front) = refuted(term, span, pieces, anew, row, bound, env)? {
+        return Ok(Some(front));
+    }
+    if add_row(term, built, span.outside, row, bound, env)? {
+        Ok(Some(span.whole))
+    } else {
+        Ok(None)
     }
 }
 

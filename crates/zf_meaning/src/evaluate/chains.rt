@@ -130,7 +130,7 @@ fn infinite_right<'a>(
     }
 }
 
-fn is_false(truth: Truth) -> bool
+pub(super) fn is_false(truth: Truth) -> bool
     ensures { IsTrue result ↔ (truth ≡ Truth.False) }
 {
     match truth {

@@ -1,4 +1,4 @@
-use Rattle.std.proofs.Common.{[], ◌∷◌, length, map, drop, refl, sym, ap, ◌∙◌, subst, true, false, rules, arith, ◌≤◌}
+use Rattle.std.proofs.Common.{[], ◌∷◌, length, map, drop, refl, sym, ap, ◌∙◌, subst, true, false, rules, arith, ◌≤◌, ◌≡◌, ◌<◌, ◌+◌, inl}
 use Rattle.std.proofs.lemmas.Result.{IfOk-weaker}
 use Rattle.zf_term.specs.ResolvedTrees.{resolved_of, part_of}
 use Rattle.zf_term.specs.ResolvedTrees as tree
@@ -13,11 +13,12 @@ use Rattle.zf_meaning.specs.RangeSets.{declared_of, spread}
 use Rattle.zf_meaning.specs.Truths.{IsConnected, IsTold, IsOver, IsQuantified}
 use Rattle.zf_meaning.specs.Tallies.{truth_by, is_settled}
 use Rattle.zf_meaning.proofs.Binding.{same-quantifier, same-constraint, quantified-told, builder-has}
-use Rattle.zf_meaning.proofs.Builds.{nothing, built-same, built-too-many, built-out, built-all}
+use Rattle.zf_meaning.proofs.Builds.{nothing, built-same, built-more, built-too-many, built-out, built-all}
 use Rattle.zf_meaning.proofs.Connecting.{decided-told, told-by}
-use Rattle.zf_meaning.proofs.Told.{IsTallied, none-tallied, one-more, settled-truth, told-of-all}
-use Rattle.zf_meaning.proofs.Turns.{moved, stuck, fewer, adds-here, told-here, built-here, one-told}
-use Rattle.zf_meaning.proofs.Walking.{walk-begun, walk-next, walk-ended, walk-row, walk-done, walk-new, no-row, none-from, scope-row, bound-row, walk-scope, outside-bound, FilterIn, TermIn, ToldIn}
+use Rattle.zf_meaning.proofs.Early.{neutral-told, neutral-built, neutral-here, neutral-passed, neutral-by, itself-passed}
+use Rattle.zf_meaning.proofs.Told.{IsTallied, none-tallied, one-more, settled-truth, all-told}
+use Rattle.zf_meaning.proofs.Turns.{fewer, adds-here, told-here, one-told, one-filter, one-term, span-bound, row-bound, next-turn, told-ended, built-ended}
+use Rattle.zf_meaning.proofs.Walking.{walk-begun, walk-row, walk-done, walk-new, no-row, none-from, bound-row, walk-scope, outside-bound, FilterIn, TermIn, ToldIn, NeutralIn}
 use Rattle.zf_value.specs.Sets.{AreRegular, IsRegularOutcome}
 use Rattle.zf_meaning.specs.Found.{found_outcome}
 use Rattle.zf_meaning.specs.Meaning.{HasOutcome, IsTruth, IsConstraint, Builds, IsBuilt, IsBuiltOver, IsLink, row_value}
@@ -33,6 +34,10 @@ use Rattle.zf_meaning.proofs.Linking.{link-more, link-false, link-all, link-last
 use Rattle.zf_value.proofs.Making.{out_told}
 use Rattle.zf_value.proofs.Regulars.{regular-push, regular_same}
 use Rattle.zf_meaning.proofs.Regulars.{regular-nothing, regular-rest, seen-rest}
+use Rattle.std.specs.List.{All}
+use Rattle.zf_term.specs.declared.resolved.Resolved.{size-Resolved}
+use Rattle.zf_meaning.specs.Early.{IsPiece, AreNeutral, AreNeutralIf, neutral}
+use Rattle.zf_meaning.specs.Environments.{within}
 use Rattle.zf_meaning.proofs.evaluate.+meaning.Goals as goal
 
 pub operands::gather-loop-term-init : goal.operands::gather-loop-term-init
@@ -172,57 +177,6 @@ memberships::of_one-returns-clause-is g t c =
     λ line. plain-describes (HasOutcome (scope_of c.args.env.now (g.R.Row.values c.args.row.now) c.args.locals.now) (tree.unary line c.args.op (resolved_of c.args.of.now))) c.own.result
     (subst (HasOutcome (scope_of c.args.env.now (g.R.Row.values c.args.row.now) c.args.locals.now) (tree.unary line c.args.op (resolved_of c.args.of.now))) (sym c.own.ensures) (found_outcome c.in_ok-operand.operand, c.in_ok-operand.ensures.is, c.in_ok-on_one.ensures.is))
 
-pub binders::over_rows-loop-rows-init : goal.binders::over_rows-loop-rows-init
-binders::over_rows-loop-rows-init g t c = (
-  [],
-  walk-begun c.in-Some.rows (seen c.args.locals.now) (spread c.args.sets.now) (seen c.in_ok-lists_of.field-0.items) c.in_ok-lists_of.ensures c.requires.sets (rw c.in-Some.is at c.in_ok-rows.ensures),
-  λ q n rs p e is. subst (IsTallied (ToldIn (scope_of c.args.env.now (g.R.Row.values c.args.row.now) c.args.locals.now) q (part_of p) (resolved_of e)) []) (sym c.none-tally.ensures) (none-tallied (ToldIn (scope_of c.args.env.now (g.R.Row.values c.args.row.now) c.args.locals.now) q (part_of p) (resolved_of e))),
-)
-
-pub binders::over_rows-loop-rows-preserved : goal.binders::over_rows-loop-rows-preserved
-binders::over_rows-loop-rows-preserved g t c =
-    let outside = seen c.args.locals.now in
-    let row = row_of c.loop-rows.rows in
-    let inv = c.loop-rows.invariant in
-    let next = moved outside c.loop-rows.rows c.advance.new.self c.in_ok-advance.field-0 c.if-not-branch.false (c.in_ok-advance.ensures outside inv.1.at) in
-    let here = scope-row c.args.env.now (g.R.Row.values c.args.row.now) c.args.locals.now c.bound.result.now row (ap seen c.bound.ensures ∙ inv.1.at.1) in (
-      row ∷ inv.0,
-      walk-next c.loop-rows.rows c.advance.new.self outside (spread c.args.sets.now) inv.0 inv.1 next,
-      λ q n rs p e is. subst (IsTallied (ToldIn (scope_of c.args.env.now (g.R.Row.values c.args.row.now) c.args.locals.now) q (part_of p) (resolved_of e)) (row ∷ inv.0)) (sym c.with-tally.ensures)
-          (one-more (ToldIn (scope_of c.args.env.now (g.R.Row.values c.args.row.now) c.args.locals.now) q (part_of p) (resolved_of e)) inv.0 c.loop-rows.tally row c.in_ok-told_at.field-0 (one-told (scope_of c.args.env.now (g.R.Row.values c.args.row.now) c.args.locals.now) q (part_of p) (resolved_of e)) (walk-new c.loop-rows.rows outside (spread c.args.sets.now) inv.0 inv.1)
-          (told-here _ (scope_of c.args.env.now (g.R.Row.values c.args.row.now) c.args.locals.now) row q (part_of p) (resolved_of e) c.in_ok-told_at.field-0 here (c.in_ok-told_at.ensures q n rs p e is)) (inv.2 q n rs p e is)),
-    )
-
-pub binders::over_rows-loop-rows-smaller : goal.binders::over_rows-loop-rows-smaller
-binders::over_rows-loop-rows-smaller g t c = fewer (seen c.args.locals.now) c.loop-rows.rows c.advance.new.self (moved (seen c.args.locals.now) c.loop-rows.rows c.advance.new.self c.in_ok-advance.field-0 c.if-not-branch.false (c.in_ok-advance.ensures (seen c.args.locals.now) c.loop-rows.invariant.1.at))
-
-pub binders::built_over-loop-rows-init : goal.binders::built_over-loop-rows-init
-binders::built_over-loop-rows-init g t c = (
-  [],
-  walk-begun c.in-Some.rows (seen c.args.locals.now) (spread c.args.sets.now) (seen c.in_ok-lists_of.field-0.items) c.in_ok-lists_of.ensures c.requires.sets (rw c.in-Some.is at c.in_ok-rows.ensures),
-  regular-nothing c.new-built.result.items c.new-built.ensures.items,
-  λ n rs p e is. nothing (FilterIn (scope_of c.args.env.now (g.R.Row.values c.args.row.now) c.args.locals.now) (part_of p)) (TermIn (scope_of c.args.env.now (g.R.Row.values c.args.row.now) c.args.locals.now) (part_of e)) c.new-built.result.items c.new-built.ensures.items,
-)
-
-pub binders::built_over-loop-rows-preserved : goal.binders::built_over-loop-rows-preserved
-binders::built_over-loop-rows-preserved g t c =
-    let outside = seen c.args.locals.now in
-    let row = row_of c.loop-rows.rows in
-    let inv = c.loop-rows.invariant in
-    let next = moved outside c.loop-rows.rows c.advance.new.self c.in_ok-advance.field-0 c.if-not-branch-2.false (c.in_ok-advance.ensures outside inv.1.at) in
-    let bound = ap seen c.bound.ensures ∙ inv.1.at.1 in
-    let here = scope-row c.args.env.now (g.R.Row.values c.args.row.now) c.args.locals.now c.bound.result.now row bound in
-    let same = c.in_ok-is_too_many.ensures.members in (
-      row ∷ inv.0,
-      walk-next c.loop-rows.rows c.advance.new.self outside (spread c.args.sets.now) inv.0 inv.1 next,
-      regular_same _ _ same c.in_ok-add_row.ensures.regular,
-      λ n rs p e is. built-same (FilterIn (scope_of c.args.env.now (g.R.Row.values c.args.row.now) c.args.locals.now) (part_of p)) (TermIn (scope_of c.args.env.now (g.R.Row.values c.args.row.now) c.args.locals.now) (part_of e)) (row ∷ inv.0) c.add_row.new.built.items c.is_too_many.new.values.items same
-          (built-here _ (scope_of c.args.env.now (g.R.Row.values c.args.row.now) c.args.locals.now) row _ (part_of p) (part_of e) inv.0 c.loop-rows.built.items c.add_row.new.built.items c.in_ok-add_row.field-0 here (bound-row c.args.locals.now c.bound.result.now row bound) c.if-not-branch.false (c.in_ok-add_row.ensures.is n rs p e is) (inv.3 n rs p e is)),
-    )
-
-pub binders::built_over-loop-rows-smaller : goal.binders::built_over-loop-rows-smaller
-binders::built_over-loop-rows-smaller g t c = fewer (seen c.args.locals.now) c.loop-rows.rows c.advance.new.self (moved (seen c.args.locals.now) c.loop-rows.rows c.advance.new.self c.in_ok-advance.field-0 c.if-not-branch-2.false (c.in_ok-advance.ensures (seen c.args.locals.now) c.loop-rows.invariant.1.at))
-
 pub binders::add_member-returns-in_ok-push-in-Is-clause-regular : goal.binders::add_member-returns-in_ok-push-in-Is-clause-regular
 binders::add_member-returns-in_ok-push-in-Is-clause-regular g t c = subst AreRegular (sym c.in_ok-push-in-Is.ensures.items) (regular-push c.args.built.now.items c.in-Is.value c.requires.built (rw c.in-Is.is at c.in_ok-value.ensures.regular))
 
@@ -250,67 +204,6 @@ binders::builder-returns-in-Undefined-clause-is g t c =
     (λ o h. builder-has (scope_of c.args.env.now (g.R.Row.values c.args.row.now) c.args.locals.now) c.args.term.now i.field-0 i.ranges c.as_slice.result.now i.field-2 i.field-3 (declared_of d) (found_outcome o) i.is c.as_slice.ensures c.in_ok-declared.ensures.is
     (subst (λ k. IsBuilt (several_by k (spread d.sets.items)) (FilterIn (scope_of c.args.env.now (g.R.Row.values c.args.row.now) c.args.locals.now) (part_of i.field-2)) (TermIn (scope_of c.args.env.now (g.R.Row.values c.args.row.now) c.args.locals.now) (part_of i.field-3)) (found_outcome o)) (sym c.in-Undefined.is) h)) c.empty_set.ensures.is
 
-pub binders::built_over-add_row-requires : goal.binders::built_over-add_row-requires
-binders::built_over-add_row-requires g t c =
-    let outside : length c.args.locals.now ≤ length c.bound.result.now = outside-bound c.args.locals.now c.bound.result.now (row_of c.loop-rows.rows) (ap seen c.bound.ensures ∙ c.loop-rows.invariant.1.at.1) in
-    let built : AreRegular c.loop-rows.built.items = c.loop-rows.invariant.2 in
-    let regular : IsRegularScope (scope_of c.args.env.now (g.R.Row.values c.args.row.now) c.bound.result.now) =
-    walk-scope c.args.env.now (g.R.Row.values c.args.row.now) c.args.locals.now c.bound.result.now c.loop-rows.rows (spread c.args.sets.now) c.loop-rows.invariant.0 c.bound.ensures c.requires.sets c.requires.regular c.loop-rows.invariant.1 in
-    search (rules, outside, built, regular)
-
-pub binders::built_over-returns-in_default-clause-is : goal.binders::built_over-returns-in_default-clause-is
-binders::built_over-returns-in_default-clause-is g t c =
-    λ n rs p e is.
-    let ss = spread c.args.sets.now in
-    let none = rw c.in_default.is at c.in_ok-rows.ensures in
-    IfOk-weaker c.display.result (IsDisplay c.new-built.result.items) (IsBuiltOver (λ vs. AreFrom vs ss) (FilterIn (scope_of c.args.env.now (g.R.Row.values c.args.row.now) c.args.locals.now) (part_of p)) (TermIn (scope_of c.args.env.now (g.R.Row.values c.args.row.now) c.args.locals.now) (part_of e)))
-    (λ o h. built-all (λ vs. AreFrom vs ss) (FilterIn (scope_of c.args.env.now (g.R.Row.values c.args.row.now) c.args.locals.now) (part_of p)) (TermIn (scope_of c.args.env.now (g.R.Row.values c.args.row.now) c.args.locals.now) (part_of e)) [] c.new-built.result.items o (no-row ss (seen c.in_ok-lists_of.field-0.items) c.in_ok-lists_of.ensures none) (none-from ss) (nothing (FilterIn (scope_of c.args.env.now (g.R.Row.values c.args.row.now) c.args.locals.now) (part_of p)) (TermIn (scope_of c.args.env.now (g.R.Row.values c.args.row.now) c.args.locals.now) (part_of e)) c.new-built.result.items c.new-built.ensures.items) h) c.display.ensures.is
-
-pub binders::built_over-returns-in_default-clause-regular : goal.binders::built_over-returns-in_default-clause-regular
-binders::built_over-returns-in_default-clause-regular g t c = c.display.ensures.regular (regular-nothing c.new-built.result.items c.new-built.ensures.items)
-
-pub binders::built_over-returns-then-not-branch-2-clause-is : goal.binders::built_over-returns-then-not-branch-2-clause-is
-binders::built_over-returns-then-not-branch-2-clause-is g t c =
-    λ n rs p e is.
-    let outside = seen c.args.locals.now in
-    let ss = spread c.args.sets.now in
-    let row = row_of c.loop-rows.rows in
-    let inv = c.loop-rows.invariant in
-    let bound = ap seen c.bound.ensures ∙ inv.1.at.1 in
-    let here = scope-row c.args.env.now (g.R.Row.values c.args.row.now) c.args.locals.now c.bound.result.now row bound in
-    let none = stuck outside c.loop-rows.rows c.advance.new.self c.in_ok-advance.field-0 c.if-not-branch-2.true (c.in_ok-advance.ensures outside inv.1.at) in
-    let built = built-same (FilterIn (scope_of c.args.env.now (g.R.Row.values c.args.row.now) c.args.locals.now) (part_of p)) (TermIn (scope_of c.args.env.now (g.R.Row.values c.args.row.now) c.args.locals.now) (part_of e)) (row ∷ inv.0) c.add_row.new.built.items c.is_too_many.new.values.items c.in_ok-is_too_many.ensures.members
-    (built-here _ (scope_of c.args.env.now (g.R.Row.values c.args.row.now) c.args.locals.now) row _ (part_of p) (part_of e) inv.0 c.loop-rows.built.items c.add_row.new.built.items c.in_ok-add_row.field-0 here (bound-row c.args.locals.now c.bound.result.now row bound) c.if-not-branch.false (c.in_ok-add_row.ensures.is n rs p e is) (inv.3 n rs p e is)) in
-    IfOk-weaker c.display-then-not-branch-2.result (IsDisplay c.is_too_many.new.values.items) (IsBuiltOver (λ vs. AreFrom vs ss) (FilterIn (scope_of c.args.env.now (g.R.Row.values c.args.row.now) c.args.locals.now) (part_of p)) (TermIn (scope_of c.args.env.now (g.R.Row.values c.args.row.now) c.args.locals.now) (part_of e)))
-    (λ o h. built-all (λ vs. AreFrom vs ss) (FilterIn (scope_of c.args.env.now (g.R.Row.values c.args.row.now) c.args.locals.now) (part_of p)) (TermIn (scope_of c.args.env.now (g.R.Row.values c.args.row.now) c.args.locals.now) (part_of e)) (row ∷ inv.0) c.is_too_many.new.values.items o (walk-ended c.loop-rows.rows outside ss inv.0 inv.1 none) (walk-done c.loop-rows.rows outside ss inv.0 inv.1) built h) c.display-then-not-branch-2.ensures.is
-
-pub binders::built_over-returns-then-not-branch-2-clause-regular : goal.binders::built_over-returns-then-not-branch-2-clause-regular
-binders::built_over-returns-then-not-branch-2-clause-regular g t c = c.display-then-not-branch-2.ensures.regular (regular_same _ _ c.in_ok-is_too_many.ensures.members c.in_ok-add_row.ensures.regular)
-
-pub binders::built_over-returns-then-branch-clause-is : goal.binders::built_over-returns-then-branch-clause-is
-binders::built_over-returns-then-branch-clause-is g t c =
-    λ n rs p e is.
-    let outside = seen c.args.locals.now in
-    let ss = spread c.args.sets.now in
-    let row = row_of c.loop-rows.rows in
-    let inv = c.loop-rows.invariant in
-    let bound = ap seen c.bound.ensures ∙ inv.1.at.1 in
-    let here = scope-row c.args.env.now (g.R.Row.values c.args.row.now) c.args.locals.now c.bound.result.now row bound in
-    let built = built-same (FilterIn (scope_of c.args.env.now (g.R.Row.values c.args.row.now) c.args.locals.now) (part_of p)) (TermIn (scope_of c.args.env.now (g.R.Row.values c.args.row.now) c.args.locals.now) (part_of e)) (row ∷ inv.0) c.add_row.new.built.items c.is_too_many.new.values.items c.in_ok-is_too_many.ensures.members
-    (built-here _ (scope_of c.args.env.now (g.R.Row.values c.args.row.now) c.args.locals.now) row _ (part_of p) (part_of e) inv.0 c.loop-rows.built.items c.add_row.new.built.items c.in_ok-add_row.field-0 here (bound-row c.args.locals.now c.bound.result.now row bound) c.if-not-branch.false (c.in_ok-add_row.ensures.is n rs p e is) (inv.3 n rs p e is)) in
-    built-too-many (λ vs. AreFrom vs ss) (FilterIn (scope_of c.args.env.now (g.R.Row.values c.args.row.now) c.args.locals.now) (part_of p)) (TermIn (scope_of c.args.env.now (g.R.Row.values c.args.row.now) c.args.locals.now) (part_of e)) (row ∷ inv.0) c.is_too_many.new.values.items (walk-done c.loop-rows.rows outside ss inv.0 inv.1) built (out_told _ _ c.if-branch.true c.in_ok-is_too_many.ensures.told)
-
-pub binders::built_over-returns-then-not-branch-clause-is : goal.binders::built_over-returns-then-not-branch-clause-is
-binders::built_over-returns-then-not-branch-clause-is g t c =
-    λ n rs p e is.
-    let outside = seen c.args.locals.now in
-    let row = row_of c.loop-rows.rows in
-    let inv = c.loop-rows.invariant in
-    let bound = ap seen c.bound.ensures ∙ inv.1.at.1 in
-    let here = scope-row c.args.env.now (g.R.Row.values c.args.row.now) c.args.locals.now c.bound.result.now row bound in
-    built-out (λ vs. AreFrom vs (spread c.args.sets.now)) (FilterIn (scope_of c.args.env.now (g.R.Row.values c.args.row.now) c.args.locals.now) (part_of p)) (TermIn (scope_of c.args.env.now (g.R.Row.values c.args.row.now) c.args.locals.now) (part_of e)) c.loop-rows.built.items c.add_row.new.built.items row (walk-row c.loop-rows.rows outside (spread c.args.sets.now) inv.0 inv.1)
-    (adds-here _ (scope_of c.args.env.now (g.R.Row.values c.args.row.now) c.args.locals.now) row _ (part_of p) (part_of e) c.loop-rows.built.items c.add_row.new.built.items c.in_ok-add_row.field-0 false here (bound-row c.args.locals.now c.bound.result.now row bound) c.if-not-branch.true (c.in_ok-add_row.ensures.is n rs p e is))
-
 pub binders::member_outcome-returns-in_ok-value_of_row-in-None-clause-is : goal.binders::member_outcome-returns-in_ok-value_of_row-in-None-clause-is
 binders::member_outcome-returns-in_ok-value_of_row-in-None-clause-is g t c =
     subst (λ m. Builds (scope_of c.args.env.now (g.R.Row.values c.args.row.now) c.args.bound.now) (drop c.args.outside (seen c.args.bound.now)) (part_of m) (outcome.Is c.in_ok-value_of_row-in-None.field-0)) (sym c.in-None.is ∙ c.get.ensures)
@@ -318,57 +211,6 @@ binders::member_outcome-returns-in_ok-value_of_row-in-None-clause-is g t c =
 
 pub binders::member_outcome-value_of_row-requires : goal.binders::member_outcome-value_of_row-requires
 binders::member_outcome-value_of_row-requires g t c = regular-rest c.args.outside c.args.bound.now c.requires.regular.locals
-
-pub binders::over_rows-returns-in_default-2 : goal.binders::over_rows-returns-in_default-2
-binders::over_rows-returns-in_default-2 g t c =
-    λ q l rs p e is.
-    let i = c.in-Quantified in
-    let ss = spread c.args.sets.now in
-    let sq = same-quantifier i.quantifier q i.field-1 l i.field-2 rs i.field-3 p i.field-4 e (sym i.is ∙ is) in
-    let none = rw c.in_default-2.is at c.in_ok-rows.ensures in
-    let tallied = subst (IsTallied (ToldIn (scope_of c.args.env.now (g.R.Row.values c.args.row.now) c.args.locals.now) q (part_of p) (resolved_of e)) []) (sym c.none-tally.ensures) (none-tallied (ToldIn (scope_of c.args.env.now (g.R.Row.values c.args.row.now) c.args.locals.now) q (part_of p) (resolved_of e))) in
-    subst (IsOver q (λ vs. AreFrom vs ss) (ToldIn (scope_of c.args.env.now (g.R.Row.values c.args.row.now) c.args.locals.now) q (part_of p) (resolved_of e))) (sym (c.truth.ensures ∙ ap (λ z. truth_by z c.none-tally.result) sq))
-    (told-of-all q (λ vs. AreFrom vs ss) (ToldIn (scope_of c.args.env.now (g.R.Row.values c.args.row.now) c.args.locals.now) q (part_of p) (resolved_of e)) [] c.none-tally.result (no-row ss (seen c.in_ok-lists_of.field-0.items) c.in_ok-lists_of.ensures none) (none-from ss) tallied)
-
-pub binders::over_rows-returns-then-is_settled : goal.binders::over_rows-returns-then-is_settled
-binders::over_rows-returns-then-is_settled g t c =
-    λ q l rs p e is.
-    let i = c.in-Quantified in
-    let outside = seen c.args.locals.now in
-    let ss = spread c.args.sets.now in
-    let row = row_of c.loop-rows.rows in
-    let inv = c.loop-rows.invariant in
-    let here = scope-row c.args.env.now (g.R.Row.values c.args.row.now) c.args.locals.now c.bound.result.now row (ap seen c.bound.ensures ∙ inv.1.at.1) in
-    let sq = same-quantifier i.quantifier q i.field-1 l i.field-2 rs i.field-3 p i.field-4 e (sym i.is ∙ is) in
-    let tallied : IsTallied (ToldIn (scope_of c.args.env.now (g.R.Row.values c.args.row.now) c.args.locals.now) q (part_of p) (resolved_of e)) (row ∷ inv.0) c.with-tally.result = subst (IsTallied (ToldIn (scope_of c.args.env.now (g.R.Row.values c.args.row.now) c.args.locals.now) q (part_of p) (resolved_of e)) (row ∷ inv.0)) (sym c.with-tally.ensures)
-    (one-more (ToldIn (scope_of c.args.env.now (g.R.Row.values c.args.row.now) c.args.locals.now) q (part_of p) (resolved_of e)) inv.0 c.loop-rows.tally row c.in_ok-told_at.field-0 (one-told (scope_of c.args.env.now (g.R.Row.values c.args.row.now) c.args.locals.now) q (part_of p) (resolved_of e)) (walk-new c.loop-rows.rows outside ss inv.0 inv.1)
-    (told-here _ (scope_of c.args.env.now (g.R.Row.values c.args.row.now) c.args.locals.now) row q (part_of p) (resolved_of e) c.in_ok-told_at.field-0 here (c.in_ok-told_at.ensures q l rs p e is)) (inv.2 q l rs p e is)) in
-    subst (IsOver q (λ vs. AreFrom vs ss) (ToldIn (scope_of c.args.env.now (g.R.Row.values c.args.row.now) c.args.locals.now) q (part_of p) (resolved_of e))) (sym (c.truth-then-is_settled.ensures ∙ ap (λ z. truth_by z c.with-tally.result) sq))
-    (settled-truth q (λ vs. AreFrom vs ss) (ToldIn (scope_of c.args.env.now (g.R.Row.values c.args.row.now) c.args.locals.now) q (part_of p) (resolved_of e)) (row ∷ inv.0) c.with-tally.result (walk-done c.loop-rows.rows outside ss inv.0 inv.1) tallied
-    (ap (λ z. is_settled z c.with-tally.result) (sym sq) ∙ sym c.is_settled.ensures ∙ c.if-is_settled.true))
-
-pub binders::over_rows-returns-then-not-branch : goal.binders::over_rows-returns-then-not-branch
-binders::over_rows-returns-then-not-branch g t c =
-    λ q l rs p e is.
-    let i = c.in-Quantified in
-    let outside = seen c.args.locals.now in
-    let ss = spread c.args.sets.now in
-    let row = row_of c.loop-rows.rows in
-    let inv = c.loop-rows.invariant in
-    let here = scope-row c.args.env.now (g.R.Row.values c.args.row.now) c.args.locals.now c.bound.result.now row (ap seen c.bound.ensures ∙ inv.1.at.1) in
-    let sq = same-quantifier i.quantifier q i.field-1 l i.field-2 rs i.field-3 p i.field-4 e (sym i.is ∙ is) in
-    let tallied : IsTallied (ToldIn (scope_of c.args.env.now (g.R.Row.values c.args.row.now) c.args.locals.now) q (part_of p) (resolved_of e)) (row ∷ inv.0) c.with-tally.result = subst (IsTallied (ToldIn (scope_of c.args.env.now (g.R.Row.values c.args.row.now) c.args.locals.now) q (part_of p) (resolved_of e)) (row ∷ inv.0)) (sym c.with-tally.ensures)
-    (one-more (ToldIn (scope_of c.args.env.now (g.R.Row.values c.args.row.now) c.args.locals.now) q (part_of p) (resolved_of e)) inv.0 c.loop-rows.tally row c.in_ok-told_at.field-0 (one-told (scope_of c.args.env.now (g.R.Row.values c.args.row.now) c.args.locals.now) q (part_of p) (resolved_of e)) (walk-new c.loop-rows.rows outside ss inv.0 inv.1)
-    (told-here _ (scope_of c.args.env.now (g.R.Row.values c.args.row.now) c.args.locals.now) row q (part_of p) (resolved_of e) c.in_ok-told_at.field-0 here (c.in_ok-told_at.ensures q l rs p e is)) (inv.2 q l rs p e is)) in
-    let none = stuck outside c.loop-rows.rows c.advance.new.self c.in_ok-advance.field-0 c.if-not-branch.true (c.in_ok-advance.ensures outside inv.1.at) in
-    subst (IsOver q (λ vs. AreFrom vs ss) (ToldIn (scope_of c.args.env.now (g.R.Row.values c.args.row.now) c.args.locals.now) q (part_of p) (resolved_of e))) (sym (c.truth-then-not-branch.ensures ∙ ap (λ z. truth_by z c.with-tally.result) sq))
-    (told-of-all q (λ vs. AreFrom vs ss) (ToldIn (scope_of c.args.env.now (g.R.Row.values c.args.row.now) c.args.locals.now) q (part_of p) (resolved_of e)) (row ∷ inv.0) c.with-tally.result (walk-ended c.loop-rows.rows outside ss inv.0 inv.1 none) (walk-done c.loop-rows.rows outside ss inv.0 inv.1) tallied)
-
-pub binders::over_rows-told_at-requires : goal.binders::over_rows-told_at-requires
-binders::over_rows-told_at-requires g t c =
-    let regular : IsRegularScope (scope_of c.args.env.now (g.R.Row.values c.args.row.now) c.bound.result.now) =
-    walk-scope c.args.env.now (g.R.Row.values c.args.row.now) c.args.locals.now c.bound.result.now c.loop-rows.rows (spread c.args.sets.now) c.loop-rows.invariant.0 c.bound.ensures c.requires.sets c.requires.regular c.loop-rows.invariant.1 in
-    search (rules, regular)
 
 pub binders::quantified-returns-in-Out : goal.binders::quantified-returns-in-Out
 binders::quantified-returns-in-Out g t c =
@@ -383,7 +225,7 @@ binders::quantified-returns-in-Undefined g t c =
     let d = c.in_ok-declared.declared in
     let P = ToldIn (scope_of c.args.env.now (g.R.Row.values c.args.row.now) c.args.locals.now) i.quantifier (part_of i.field-3) (resolved_of i.field-4) in
     let tallied = subst (IsTallied P []) (sym c.none.ensures) (none-tallied P) in
-    let told = subst (IsOver i.quantifier (λ vs. ⊥) P) (sym c.truth.ensures) (told-of-all i.quantifier (λ vs. ⊥) P [] c.none.result (λ vs r. absurd r) (λ vs m. m) tallied) in
+    let told = subst (IsOver i.quantifier (λ vs. ⊥) P) (sym c.truth.ensures) (all-told i.quantifier (λ vs. ⊥) P [] c.none.result (is_settled i.quantifier c.none.result) refl (λ vs r. absurd r) (λ vs m. m) tallied) in
     quantified-told (scope_of c.args.env.now (g.R.Row.values c.args.row.now) c.args.locals.now) c.args.term.now i.quantifier i.field-1 i.ranges c.as_slice.result.now i.field-3 i.field-4 (declared_of d) c.truth.result i.is c.as_slice.ensures c.in_ok-declared.ensures.is
     (subst (λ k. IsQuantified i.quantifier (several_by k (spread d.sets.items)) P c.truth.result) (sym c.in-Undefined.is) told)
 
@@ -449,3 +291,255 @@ truth-returns-in-Unary g t c =
     subst (λ d. IfOk c.not.result (IsTruth (scope_of c.args.env.now (g.R.Row.values c.args.row.now) c.args.locals.now) d))
     (ap (λ x. tree.unary i.field-0 i.op (resolved_of x)) c.get-in-Unary.ensures ∙ sym (ap resolved_of i.is ∙ of-Unary i.field-0 i.op i.of))
     (c.not.ensures c.in-Unary.field-0)
+
+pub binders::over_rows-walk-init : goal.binders::over_rows-walk-init
+binders::over_rows-walk-init g t c =
+    let k = scope_of c.args.env.now (g.R.Row.values c.args.row.now) c.args.locals.now in (
+      [],
+      walk-begun (NeutralIn c.args.term.now k) c.in-Some.rows (seen c.args.locals.now) (spread c.args.sets.now) (seen c.in_ok-lists_of.field-0.items) c.in_ok-lists_of.ensures c.requires.sets (rw c.in-Some.is at c.in_ok-rows.ensures),
+      λ q n rs p e is. subst (IsTallied (ToldIn k q (part_of p) (resolved_of e)) []) (sym c.none-tally.ensures) (none-tallied (ToldIn k q (part_of p) (resolved_of e))),
+    )
+
+pub binders::over_rows-walk-preserved : goal.binders::over_rows-walk-preserved
+binders::over_rows-walk-preserved g t c =
+    let env = c.args.env.now in
+    let values = g.R.Row.values c.args.row.now in
+    let outside = seen c.args.locals.now in
+    let ss = spread c.args.sets.now in
+    let k = scope_of c.args.env.now (g.R.Row.values c.args.row.now) c.args.locals.now in
+    let row = row_of c.walk.rows in
+    let inv = c.walk.invariant in
+    let wide : length (seen c.args.locals.now) + length (spread c.args.sets.now) ≡ c.span_of-span.result.whole = span-bound c.in-Some.rows outside ss (seen c.in_ok-lists_of.field-0.items) c.span_of-span.result.whole c.in_ok-lists_of.ensures (rw c.in-Some.is at c.in_ok-rows.ensures) c.span_of-span.ensures.whole in
+    let b = row-bound (NeutralIn c.args.term.now k) env values c.args.locals.now c.bound.result.now c.walk.rows ss inv.0 c.span_of-span.result c.bound.ensures c.span_of-span.ensures.outside wide inv.1 in
+    let next = rw c.in-Some-2.is at (c.in_ok-pass.ensures outside inv.1.at) in (
+      row ∷ inv.0,
+      next-turn c.args.term.now k c.walk.rows c.pass.new.self outside ss inv.0 c.in_ok-met.met.front inv.1 (c.in_ok-met.ensures.passed k row b) next,
+      λ q l rs p e is. subst (IsTallied (ToldIn k q (part_of p) (resolved_of e)) (row ∷ inv.0)) (sym c.with-tally.ensures) (one-more (ToldIn k q (part_of p) (resolved_of e)) inv.0 c.walk.tally row c.in_ok-met.met.truth (one-told k q (part_of p) (resolved_of e)) (walk-new (NeutralIn c.args.term.now k) c.walk.rows outside ss inv.0 inv.1) (c.in_ok-met.ensures.told k row b q l rs p e is) (inv.2 q l rs p e is)),
+    )
+
+pub binders::over_rows-walk-smaller : goal.binders::over_rows-walk-smaller
+binders::over_rows-walk-smaller g t c =
+    let outside = seen c.args.locals.now in
+    fewer outside c.in_ok-met.met.front c.walk.rows c.pass.new.self c.walk.invariant.1.at (rw c.in-Some-2.is at (c.in_ok-pass.ensures outside c.walk.invariant.1.at))
+
+pub binders::over_rows-returns-in_default-2 : goal.binders::over_rows-returns-in_default-2
+binders::over_rows-returns-in_default-2 g t c =
+    λ q l rs p e is.
+    let i = c.in-Quantified in
+    let ss = spread c.args.sets.now in
+    let k = scope_of c.args.env.now (g.R.Row.values c.args.row.now) c.args.locals.now in
+    let sq = same-quantifier i.quantifier q i.field-1 l i.field-2 rs i.field-3 p i.field-4 e (sym i.is ∙ is) in
+    let none = rw c.in_default-2.is at c.in_ok-rows.ensures in
+    let tallied = subst (IsTallied (ToldIn k q (part_of p) (resolved_of e)) []) (sym c.none-tally.ensures) (none-tallied (ToldIn k q (part_of p) (resolved_of e))) in
+    subst (IsOver q (λ vs. AreFrom vs ss) (ToldIn k q (part_of p) (resolved_of e))) (sym (c.truth.ensures ∙ ap (λ z. truth_by z c.none-tally.result) sq))
+    (all-told q (λ vs. AreFrom vs ss) (ToldIn k q (part_of p) (resolved_of e)) [] c.none-tally.result (is_settled q c.none-tally.result) refl (no-row ss (seen c.in_ok-lists_of.field-0.items) c.in_ok-lists_of.ensures none) (none-from ss) tallied)
+
+pub binders::over_rows-returns-then-is_settled : goal.binders::over_rows-returns-then-is_settled
+binders::over_rows-returns-then-is_settled g t c =
+    λ q l rs p e is.
+    let env = c.args.env.now in
+    let values = g.R.Row.values c.args.row.now in
+    let outside = seen c.args.locals.now in
+    let ss = spread c.args.sets.now in
+    let k = scope_of c.args.env.now (g.R.Row.values c.args.row.now) c.args.locals.now in
+    let row = row_of c.walk.rows in
+    let inv = c.walk.invariant in
+    let wide : length (seen c.args.locals.now) + length (spread c.args.sets.now) ≡ c.span_of-span.result.whole = span-bound c.in-Some.rows outside ss (seen c.in_ok-lists_of.field-0.items) c.span_of-span.result.whole c.in_ok-lists_of.ensures (rw c.in-Some.is at c.in_ok-rows.ensures) c.span_of-span.ensures.whole in
+    let b = row-bound (NeutralIn c.args.term.now k) env values c.args.locals.now c.bound.result.now c.walk.rows ss inv.0 c.span_of-span.result c.bound.ensures c.span_of-span.ensures.outside wide inv.1 in
+    let i = c.in-Quantified in
+    let sq = same-quantifier i.quantifier q i.field-1 l i.field-2 rs i.field-3 p i.field-4 e (sym i.is ∙ is) in
+    let tallied : IsTallied (ToldIn k q (part_of p) (resolved_of e)) (row ∷ inv.0) c.with-tally.result = subst (IsTallied (ToldIn k q (part_of p) (resolved_of e)) (row ∷ inv.0)) (sym c.with-tally.ensures) (one-more (ToldIn k q (part_of p) (resolved_of e)) inv.0 c.walk.tally row c.in_ok-met.met.truth (one-told k q (part_of p) (resolved_of e)) (walk-new (NeutralIn c.args.term.now k) c.walk.rows outside ss inv.0 inv.1) (c.in_ok-met.ensures.told k row b q l rs p e is) (inv.2 q l rs p e is)) in
+    subst (IsOver q (λ vs. AreFrom vs ss) (ToldIn k q (part_of p) (resolved_of e))) (sym (c.truth-then-is_settled.ensures ∙ ap (λ z. truth_by z c.with-tally.result) sq))
+    (settled-truth q (λ vs. AreFrom vs ss) (ToldIn k q (part_of p) (resolved_of e)) (row ∷ inv.0) c.with-tally.result (walk-done (NeutralIn c.args.term.now k) c.walk.rows outside ss inv.0 inv.1) tallied (ap (λ z. is_settled z c.with-tally.result) (sym sq) ∙ sym c.is_settled.ensures ∙ c.if-is_settled.true))
+
+pub binders::over_rows-met_at-requires : goal.binders::over_rows-met_at-requires
+binders::over_rows-met_at-requires g t c =
+    let pieces : All (IsPiece c.args.term.now c.span_of-span.result) c.deref.result.now = subst (All (IsPiece c.args.term.now c.span_of-span.result)) (sym c.deref.ensures.value) c.in_ok-pieces.ensures in
+    let regular : IsRegularScope (scope_of c.args.env.now (g.R.Row.values c.args.row.now) c.bound.result.now) =
+    walk-scope (NeutralIn c.args.term.now (scope_of c.args.env.now (g.R.Row.values c.args.row.now) c.args.locals.now)) c.args.env.now (g.R.Row.values c.args.row.now) c.args.locals.now c.bound.result.now c.walk.rows (spread c.args.sets.now) c.walk.invariant.0 c.bound.ensures c.requires.sets c.requires.regular c.walk.invariant.1 in
+    search (rules, pieces, regular)
+
+pub binders::over_rows-pass-requires : goal.binders::over_rows-pass-requires
+binders::over_rows-pass-requires g t c = (seen c.args.locals.now, c.walk.invariant.1.at)
+
+pub binders::over_rows-returns-in-None : goal.binders::over_rows-returns-in-None
+binders::over_rows-returns-in-None g t c =
+    λ q l rs p e is.
+    let env = c.args.env.now in
+    let values = g.R.Row.values c.args.row.now in
+    let outside = seen c.args.locals.now in
+    let ss = spread c.args.sets.now in
+    let k = scope_of c.args.env.now (g.R.Row.values c.args.row.now) c.args.locals.now in
+    let row = row_of c.walk.rows in
+    let inv = c.walk.invariant in
+    let wide : length (seen c.args.locals.now) + length (spread c.args.sets.now) ≡ c.span_of-span.result.whole = span-bound c.in-Some.rows outside ss (seen c.in_ok-lists_of.field-0.items) c.span_of-span.result.whole c.in_ok-lists_of.ensures (rw c.in-Some.is at c.in_ok-rows.ensures) c.span_of-span.ensures.whole in
+    let b = row-bound (NeutralIn c.args.term.now k) env values c.args.locals.now c.bound.result.now c.walk.rows ss inv.0 c.span_of-span.result c.bound.ensures c.span_of-span.ensures.outside wide inv.1 in
+    let i = c.in-Quantified in
+    let sq = same-quantifier i.quantifier q i.field-1 l i.field-2 rs i.field-3 p i.field-4 e (sym i.is ∙ is) in
+    let tallied : IsTallied (ToldIn k q (part_of p) (resolved_of e)) (row ∷ inv.0) c.with-tally.result = subst (IsTallied (ToldIn k q (part_of p) (resolved_of e)) (row ∷ inv.0)) (sym c.with-tally.ensures) (one-more (ToldIn k q (part_of p) (resolved_of e)) inv.0 c.walk.tally row c.in_ok-met.met.truth (one-told k q (part_of p) (resolved_of e)) (walk-new (NeutralIn c.args.term.now k) c.walk.rows outside ss inv.0 inv.1) (c.in_ok-met.ensures.told k row b q l rs p e is) (inv.2 q l rs p e is)) in
+    let none = rw c.in-None.is at (c.in_ok-pass.ensures outside inv.1.at) in
+    subst (IsOver q (λ vs. AreFrom vs ss) (ToldIn k q (part_of p) (resolved_of e))) (sym (c.truth-in-None.ensures ∙ ap (λ z. truth_by z c.with-tally.result) sq))
+    (told-ended c.args.term.now q l rs p e k c.walk.rows outside ss inv.0 c.in_ok-met.met.front c.with-tally.result is inv.1 (c.in_ok-met.ensures.passed k row b) none tallied)
+
+pub binders::built_over-walk-init : goal.binders::built_over-walk-init
+binders::built_over-walk-init g t c =
+    let k = scope_of c.args.env.now (g.R.Row.values c.args.row.now) c.args.locals.now in (
+      [],
+      walk-begun (NeutralIn c.args.term.now k) c.in-Some.rows (seen c.args.locals.now) (spread c.args.sets.now) (seen c.in_ok-lists_of.field-0.items) c.in_ok-lists_of.ensures c.requires.sets (rw c.in-Some.is at c.in_ok-rows.ensures),
+      regular-nothing c.new-built.result.items c.new-built.ensures.items,
+      λ n rs p e is. nothing (FilterIn k (part_of p)) (TermIn k (part_of e)) c.new-built.result.items c.new-built.ensures.items,
+    )
+
+pub binders::built_over-walk-preserved : goal.binders::built_over-walk-preserved
+binders::built_over-walk-preserved g t c =
+    let env = c.args.env.now in
+    let values = g.R.Row.values c.args.row.now in
+    let outside = seen c.args.locals.now in
+    let ss = spread c.args.sets.now in
+    let k = scope_of c.args.env.now (g.R.Row.values c.args.row.now) c.args.locals.now in
+    let row = row_of c.walk.rows in
+    let inv = c.walk.invariant in
+    let wide : length (seen c.args.locals.now) + length (spread c.args.sets.now) ≡ c.span_of-span.result.whole = span-bound c.in-Some.rows outside ss (seen c.in_ok-lists_of.field-0.items) c.span_of-span.result.whole c.in_ok-lists_of.ensures (rw c.in-Some.is at c.in_ok-rows.ensures) c.span_of-span.ensures.whole in
+    let b = row-bound (NeutralIn c.args.term.now k) env values c.args.locals.now c.bound.result.now c.walk.rows ss inv.0 c.span_of-span.result c.bound.ensures c.span_of-span.ensures.outside wide inv.1 in
+    let rest : drop c.span_of-span.result.outside (seen c.bound.result.now) ≡ row = subst (λ n. drop n (seen c.bound.result.now) ≡ row) (sym c.span_of-span.ensures.outside) (bound-row c.args.locals.now c.bound.result.now row (ap seen c.bound.ensures ∙ inv.1.at.1)) in
+    let passed = rw c.in-Some-2.is at (c.in_ok-front.ensures.passed k row b) in
+    let next = rw c.in-Some-3.is at (c.in_ok-pass.ensures outside inv.1.at) in (
+      row ∷ inv.0,
+      next-turn c.args.term.now k c.walk.rows c.pass.new.self outside ss inv.0 c.in-Some-2.front inv.1 passed next,
+      regular_same _ _ c.in_ok-is_too_many.ensures.members c.in_ok-front.ensures.regular,
+      λ l rs p e is. built-same (FilterIn k (part_of p)) (TermIn k (part_of e)) (row ∷ inv.0) c.built_at.new.built.items c.is_too_many.new.values.items c.in_ok-is_too_many.ensures.members
+          (built-more (FilterIn k (part_of p)) (TermIn k (part_of e)) inv.0 c.walk.built.items c.built_at.new.built.items row (one-filter k (part_of p)) (one-term k (part_of e)) (rw c.in-Some-2.is at (c.in_ok-front.ensures.is k row b rest l rs p e is)) (inv.3 l rs p e is)),
+    )
+
+pub binders::built_over-walk-smaller : goal.binders::built_over-walk-smaller
+binders::built_over-walk-smaller g t c =
+    let outside = seen c.args.locals.now in
+    fewer outside c.in-Some-2.front c.walk.rows c.pass.new.self c.walk.invariant.1.at (rw c.in-Some-3.is at (c.in_ok-pass.ensures outside c.walk.invariant.1.at))
+
+pub binders::built_over-built_at-requires : goal.binders::built_over-built_at-requires
+binders::built_over-built_at-requires g t c =
+    let pieces : All (IsPiece c.args.term.now c.span_of-span.result) c.deref.result.now = subst (All (IsPiece c.args.term.now c.span_of-span.result)) (sym c.deref.ensures.value) c.in_ok-pieces.ensures in
+    let outside : c.span_of-span.result.outside ≤ length c.bound.result.now = omega (arith, c.span_of-span.ensures.outside, outside-bound c.args.locals.now c.bound.result.now (row_of c.walk.rows) (ap seen c.bound.ensures ∙ c.walk.invariant.1.at.1)) in
+    let regular : IsRegularScope (scope_of c.args.env.now (g.R.Row.values c.args.row.now) c.bound.result.now) =
+    walk-scope (NeutralIn c.args.term.now (scope_of c.args.env.now (g.R.Row.values c.args.row.now) c.args.locals.now)) c.args.env.now (g.R.Row.values c.args.row.now) c.args.locals.now c.bound.result.now c.walk.rows (spread c.args.sets.now) c.walk.invariant.0 c.bound.ensures c.requires.sets c.requires.regular c.walk.invariant.1 in
+    let built : AreRegular c.walk.built.items = c.walk.invariant.2 in
+    search (rules, pieces, outside, built, regular)
+
+pub binders::built_over-pass-requires : goal.binders::built_over-pass-requires
+binders::built_over-pass-requires g t c = (seen c.args.locals.now, c.walk.invariant.1.at)
+
+pub binders::built_over-returns-in_default-clause-is : goal.binders::built_over-returns-in_default-clause-is
+binders::built_over-returns-in_default-clause-is g t c =
+    λ n rs p e is.
+    let ss = spread c.args.sets.now in
+    let k = scope_of c.args.env.now (g.R.Row.values c.args.row.now) c.args.locals.now in
+    let none = rw c.in_default.is at c.in_ok-rows.ensures in
+    IfOk-weaker c.display.result (IsDisplay c.new-built.result.items) (IsBuiltOver (λ vs. AreFrom vs ss) (FilterIn k (part_of p)) (TermIn k (part_of e)))
+    (λ o h. built-all (λ vs. AreFrom vs ss) (FilterIn k (part_of p)) (TermIn k (part_of e)) [] c.new-built.result.items o (one-filter k (part_of p)) (λ vs r. inl (no-row ss (seen c.in_ok-lists_of.field-0.items) c.in_ok-lists_of.ensures none vs r)) (none-from ss) (nothing (FilterIn k (part_of p)) (TermIn k (part_of e)) c.new-built.result.items c.new-built.ensures.items) h) c.display.ensures.is
+
+pub binders::built_over-returns-in_default-clause-regular : goal.binders::built_over-returns-in_default-clause-regular
+binders::built_over-returns-in_default-clause-regular g t c = c.display.ensures.regular (regular-nothing c.new-built.result.items c.new-built.ensures.items)
+
+pub binders::met_at-returns-in-Some-clause-told : goal.binders::met_at-returns-in-Some-clause-told
+binders::met_at-returns-in-Some-clause-told g t c =
+    λ k vs b q l rs p e is.
+    let i = c.in-Quantified in
+    let sq = same-quantifier i.quantifier q i.field-1 l i.field-2 rs i.field-3 p i.field-4 e (sym i.is ∙ is) in
+    let none : AreNeutral (resolved_of c.args.term.now) k vs c.in-Some.front = subst (AreNeutralIf (resolved_of c.args.term.now) k vs) c.in-Some.is (c.in_ok-front.ensures k vs b) in
+    subst (ToldIn k q (part_of p) (resolved_of e) vs) (sym (c.neutral.ensures ∙ ap neutral sq)) (neutral-told c.args.term.now q l rs p e (within k vs) is (neutral-here (resolved_of c.args.term.now) k vs c.in-Some.front none))
+
+pub binders::met_at-returns-in-Some-clause-passed : goal.binders::met_at-returns-in-Some-clause-passed
+binders::met_at-returns-in-Some-clause-passed g t c = λ k vs b. neutral-passed (resolved_of c.args.term.now) k vs c.in-Some.front (subst (AreNeutralIf (resolved_of c.args.term.now) k vs) c.in-Some.is (c.in_ok-front.ensures k vs b))
+
+pub binders::met_at-returns-clause-told : goal.binders::met_at-returns-clause-told
+binders::met_at-returns-clause-told g t c = λ k vs b q l rs p e is. told-here _ k vs q (part_of p) (resolved_of e) c.in_ok-truth.truth b.is (c.in_ok-truth.ensures q l rs p e is)
+
+pub binders::met_at-returns-clause-passed : goal.binders::met_at-returns-clause-passed
+binders::met_at-returns-clause-passed g t c = λ k vs b. itself-passed (resolved_of c.args.term.now) c.args.span _ k vs b
+
+pub binders::refuted-truth-requires : goal.binders::refuted-truth-requires
+binders::refuted-truth-requires g t c =
+    let piece : IsPiece c.args.term.now c.args.span c.piece-item.result = subst (IsPiece c.args.term.now c.args.span) (sym c.piece-item.is) (c.requires.pieces c.loop-piece.piece-index c.piece-item.result c.loop-piece-test.true) in
+    let less : size-Resolved c.piece-item.result.term.now < size-Resolved c.args.term.now = piece.part.smaller in
+    search (rules, less)
+
+pub binders::refuted-returns-then-is_false : goal.binders::refuted-returns-then-is_false
+binders::refuted-returns-then-is_false g t c =
+    λ k vs b.
+    let piece : IsPiece c.args.term.now c.args.span c.piece-item.result = subst (IsPiece c.args.term.now c.args.span) (sym c.piece-item.is) (c.requires.pieces c.loop-piece.piece-index c.piece-item.result c.loop-piece-test.true) in
+    let here = scope_of c.args.env.now (g.R.Row.values c.args.row.now) c.args.bound.now in
+    neutral-by c.args.term.now c.args.span c.piece-item.result here k vs piece b (subst (IsTruth here (resolved_of c.piece-item.result.term.now)) (c.is_false.ensures.0 c.if-is_false.true) c.in_ok-told.ensures)
+
+pub binders::built_at-returns-in-Some-clause-is : goal.binders::built_at-returns-in-Some-clause-is
+binders::built_at-returns-in-Some-clause-is g t c =
+    λ k vs b d l rs p e is.
+    let none : AreNeutral (resolved_of c.args.term.now) k vs c.in-Some.front = subst (AreNeutralIf (resolved_of c.args.term.now) k vs) c.in-Some.is (c.in_ok-front.ensures k vs b) in
+    inl (neutral-built c.args.term.now l rs p e (within k vs) is (neutral-here (resolved_of c.args.term.now) k vs c.in-Some.front none), refl)
+
+pub binders::built_at-returns-in-Some-clause-passed : goal.binders::built_at-returns-in-Some-clause-passed
+binders::built_at-returns-in-Some-clause-passed g t c = λ k vs b. neutral-passed (resolved_of c.args.term.now) k vs c.in-Some.front (subst (AreNeutralIf (resolved_of c.args.term.now) k vs) c.in-Some.is (c.in_ok-front.ensures k vs b))
+
+pub binders::built_at-returns-then-branch-clause-is : goal.binders::built_at-returns-then-branch-clause-is
+binders::built_at-returns-then-branch-clause-is g t c = λ k vs b d l rs p e is. adds-here _ k vs _ (part_of p) (part_of e) c.args.built.now.items c.add_row.new.built.items c.in_ok-add_row.field-0 true b.is d c.if-branch.true (c.in_ok-add_row.ensures.is l rs p e is)
+
+pub binders::built_at-returns-then-branch-clause-passed : goal.binders::built_at-returns-then-branch-clause-passed
+binders::built_at-returns-then-branch-clause-passed g t c = λ k vs b. itself-passed (resolved_of c.args.term.now) c.args.span _ k vs b
+
+pub binders::built_at-returns-else-branch-clause-is : goal.binders::built_at-returns-else-branch-clause-is
+binders::built_at-returns-else-branch-clause-is g t c = λ k vs b d l rs p e is. adds-here _ k vs _ (part_of p) (part_of e) c.args.built.now.items c.add_row.new.built.items c.in_ok-add_row.field-0 false b.is d c.if-branch.false (c.in_ok-add_row.ensures.is l rs p e is)
+
+pub binders::built_over-returns-in_default-2-clause-is : goal.binders::built_over-returns-in_default-2-clause-is
+binders::built_over-returns-in_default-2-clause-is g t c =
+    λ l rs p e is.
+    let env = c.args.env.now in
+    let values = g.R.Row.values c.args.row.now in
+    let outside = seen c.args.locals.now in
+    let ss = spread c.args.sets.now in
+    let k = scope_of c.args.env.now (g.R.Row.values c.args.row.now) c.args.locals.now in
+    let row = row_of c.walk.rows in
+    let inv = c.walk.invariant in
+    let wide : length (seen c.args.locals.now) + length (spread c.args.sets.now) ≡ c.span_of-span.result.whole = span-bound c.in-Some.rows outside ss (seen c.in_ok-lists_of.field-0.items) c.span_of-span.result.whole c.in_ok-lists_of.ensures (rw c.in-Some.is at c.in_ok-rows.ensures) c.span_of-span.ensures.whole in
+    let b = row-bound (NeutralIn c.args.term.now k) env values c.args.locals.now c.bound.result.now c.walk.rows ss inv.0 c.span_of-span.result c.bound.ensures c.span_of-span.ensures.outside wide inv.1 in
+    let rest : drop c.span_of-span.result.outside (seen c.bound.result.now) ≡ row = subst (λ n. drop n (seen c.bound.result.now) ≡ row) (sym c.span_of-span.ensures.outside) (bound-row c.args.locals.now c.bound.result.now row (ap seen c.bound.ensures ∙ inv.1.at.1)) in
+    built-out (λ vs. AreFrom vs ss) (FilterIn k (part_of p)) (TermIn k (part_of e)) c.walk.built.items c.built_at.new.built.items row (walk-row (NeutralIn c.args.term.now k) c.walk.rows outside ss inv.0 inv.1) (rw c.in_default-2.is at (c.in_ok-front.ensures.is k row b rest l rs p e is))
+
+pub binders::built_over-returns-then-branch-clause-is : goal.binders::built_over-returns-then-branch-clause-is
+binders::built_over-returns-then-branch-clause-is g t c =
+    λ l rs p e is.
+    let env = c.args.env.now in
+    let values = g.R.Row.values c.args.row.now in
+    let outside = seen c.args.locals.now in
+    let ss = spread c.args.sets.now in
+    let k = scope_of c.args.env.now (g.R.Row.values c.args.row.now) c.args.locals.now in
+    let row = row_of c.walk.rows in
+    let inv = c.walk.invariant in
+    let wide : length (seen c.args.locals.now) + length (spread c.args.sets.now) ≡ c.span_of-span.result.whole = span-bound c.in-Some.rows outside ss (seen c.in_ok-lists_of.field-0.items) c.span_of-span.result.whole c.in_ok-lists_of.ensures (rw c.in-Some.is at c.in_ok-rows.ensures) c.span_of-span.ensures.whole in
+    let b = row-bound (NeutralIn c.args.term.now k) env values c.args.locals.now c.bound.result.now c.walk.rows ss inv.0 c.span_of-span.result c.bound.ensures c.span_of-span.ensures.outside wide inv.1 in
+    let rest : drop c.span_of-span.result.outside (seen c.bound.result.now) ≡ row = subst (λ n. drop n (seen c.bound.result.now) ≡ row) (sym c.span_of-span.ensures.outside) (bound-row c.args.locals.now c.bound.result.now row (ap seen c.bound.ensures ∙ inv.1.at.1)) in
+    built-too-many (λ vs. AreFrom vs ss) (FilterIn k (part_of p)) (TermIn k (part_of e)) (row ∷ inv.0) c.is_too_many.new.values.items (walk-done (NeutralIn c.args.term.now k) c.walk.rows outside ss inv.0 inv.1)
+    (built-same (FilterIn k (part_of p)) (TermIn k (part_of e)) (row ∷ inv.0) c.built_at.new.built.items c.is_too_many.new.values.items c.in_ok-is_too_many.ensures.members
+    (built-more (FilterIn k (part_of p)) (TermIn k (part_of e)) inv.0 c.walk.built.items c.built_at.new.built.items row (one-filter k (part_of p)) (one-term k (part_of e)) (rw c.in-Some-2.is at (c.in_ok-front.ensures.is k row b rest l rs p e is)) (inv.3 l rs p e is)))
+    (out_told _ _ c.if-branch.true c.in_ok-is_too_many.ensures.told)
+
+pub binders::built_over-returns-in-None-clause-is : goal.binders::built_over-returns-in-None-clause-is
+binders::built_over-returns-in-None-clause-is g t c =
+    λ l rs p e is.
+    let env = c.args.env.now in
+    let values = g.R.Row.values c.args.row.now in
+    let outside = seen c.args.locals.now in
+    let ss = spread c.args.sets.now in
+    let k = scope_of c.args.env.now (g.R.Row.values c.args.row.now) c.args.locals.now in
+    let row = row_of c.walk.rows in
+    let inv = c.walk.invariant in
+    let wide : length (seen c.args.locals.now) + length (spread c.args.sets.now) ≡ c.span_of-span.result.whole = span-bound c.in-Some.rows outside ss (seen c.in_ok-lists_of.field-0.items) c.span_of-span.result.whole c.in_ok-lists_of.ensures (rw c.in-Some.is at c.in_ok-rows.ensures) c.span_of-span.ensures.whole in
+    let b = row-bound (NeutralIn c.args.term.now k) env values c.args.locals.now c.bound.result.now c.walk.rows ss inv.0 c.span_of-span.result c.bound.ensures c.span_of-span.ensures.outside wide inv.1 in
+    let rest : drop c.span_of-span.result.outside (seen c.bound.result.now) ≡ row = subst (λ n. drop n (seen c.bound.result.now) ≡ row) (sym c.span_of-span.ensures.outside) (bound-row c.args.locals.now c.bound.result.now row (ap seen c.bound.ensures ∙ inv.1.at.1)) in
+    let passed = rw c.in-Some-2.is at (c.in_ok-front.ensures.passed k row b) in
+    let none = rw c.in-None.is at (c.in_ok-pass.ensures outside inv.1.at) in
+    let built = built-same (FilterIn k (part_of p)) (TermIn k (part_of e)) (row ∷ inv.0) c.built_at.new.built.items c.is_too_many.new.values.items c.in_ok-is_too_many.ensures.members
+    (built-more (FilterIn k (part_of p)) (TermIn k (part_of e)) inv.0 c.walk.built.items c.built_at.new.built.items row (one-filter k (part_of p)) (one-term k (part_of e)) (rw c.in-Some-2.is at (c.in_ok-front.ensures.is k row b rest l rs p e is)) (inv.3 l rs p e is)) in
+    IfOk-weaker c.display-in-None.result (IsDisplay c.is_too_many.new.values.items) (IsBuiltOver (λ vs. AreFrom vs ss) (FilterIn k (part_of p)) (TermIn k (part_of e)))
+    (λ o h. built-ended c.args.term.now l rs p e k c.walk.rows outside ss inv.0 c.in-Some-2.front c.is_too_many.new.values.items o is inv.1 passed none built h) c.display-in-None.ensures.is
+
+pub binders::built_over-returns-in-None-clause-regular : goal.binders::built_over-returns-in-None-clause-regular
+binders::built_over-returns-in-None-clause-regular g t c = c.display-in-None.ensures.regular (regular_same _ _ c.in_ok-is_too_many.ensures.members c.in_ok-front.ensures.regular)

@@ -17,24 +17,24 @@ use Rattle.zf_meaning.specs.Scopes.{scope_of}
 use Rattle.zf_meaning.proofs.Builds.{HasBuilt}
 use Rattle.zf_meaning.proofs.Gathering.{GathersTo, RangesTo}
 use Rattle.zf_meaning.proofs.Told.{IsTallied}
-use Rattle.zf_meaning.proofs.Walking.{WalksOver, FilterIn, TermIn, ToldIn}
+use Rattle.zf_meaning.proofs.Walking.{WalksOver, FilterIn, TermIn, ToldIn, NeutralIn}
 use Rattle.zf_meaning.proofs.evaluate.+meaning.Given as goal
 
-abbrev pub invariant-binders::built_over-loop-rows : goal.invariant-binders::built_over-loop-rows
-invariant-binders::built_over-loop-rows g l =
-    (done : List (List Value)) × WalksOver l.rows (seen l.locals) (spread l.sets) done × AreRegular l.built.items
+abbrev pub invariant-binders::built_over-walk : goal.invariant-binders::built_over-walk
+invariant-binders::built_over-walk g l =
+    (done : List (List Value)) × WalksOver (NeutralIn l.term (scope_of l.env (g.R.Row.values l.row) l.locals)) l.rows (seen l.locals) (spread l.sets) done × AreRegular l.built.items
     × ((n : ℕ) (rs : List Range) (p e : Option Resolved) → l.term ≡ form.Builder n rs p e → HasBuilt (FilterIn (scope_of l.env (g.R.Row.values l.row) l.locals) (part_of p)) (TermIn (scope_of l.env (g.R.Row.values l.row) l.locals) (part_of e)) done l.built.items)
 
-abbrev pub decreases-binders::built_over-loop-rows : goal.decreases-binders::built_over-loop-rows
-decreases-binders::built_over-loop-rows g l = length (ahead l.rows)
+abbrev pub decreases-binders::built_over-walk : goal.decreases-binders::built_over-walk
+decreases-binders::built_over-walk g l = length (ahead l.rows)
 
-abbrev pub invariant-binders::over_rows-loop-rows : goal.invariant-binders::over_rows-loop-rows
-invariant-binders::over_rows-loop-rows g l =
-    (done : List (List Value)) × WalksOver l.rows (seen l.locals) (spread l.sets) done
+abbrev pub invariant-binders::over_rows-walk : goal.invariant-binders::over_rows-walk
+invariant-binders::over_rows-walk g l =
+    (done : List (List Value)) × WalksOver (NeutralIn l.term (scope_of l.env (g.R.Row.values l.row) l.locals)) l.rows (seen l.locals) (spread l.sets) done
     × ((q : Quantifier) (n : ℕ) (rs : List Range) (p : Option Resolved) (e : Resolved) → l.term ≡ form.Quantified q n rs p e → IsTallied (ToldIn (scope_of l.env (g.R.Row.values l.row) l.locals) q (part_of p) (resolved_of e)) done l.tally)
 
-abbrev pub decreases-binders::over_rows-loop-rows : goal.decreases-binders::over_rows-loop-rows
-decreases-binders::over_rows-loop-rows g l = length (ahead l.rows)
+abbrev pub decreases-binders::over_rows-walk : goal.decreases-binders::over_rows-walk
+decreases-binders::over_rows-walk g l = length (ahead l.rows)
 
 abbrev pub invariant-chains::linked-loop-place : goal.invariant-chains::linked-loop-place
 invariant-chains::linked-loop-place g l = record {

@@ -1,8 +1,8 @@
-use Rattle.std.proofs.Common.{◌≡◌, ◌+◌, ◌-◌, ◌∷◌, ◌++◌, ℕ, List, length, refl, sym, ap, ◌∙◌, arith, subst}
+use Rattle.std.proofs.Common.{◌≡◌, ◌+◌, ◌-◌, ◌∷◌, ◌++◌, ℕ, List, length, take, refl, sym, ap, ◌∙◌, arith, subst}
 use Rattle.std.specs.Vec.{with_items}
 use Rattle.zf_meaning.specs.Places.{seen, rows_after, picked, ArePlaces}
 use Rattle.zf_meaning.proofs.NextRow.{ArePlaces-length, bound-anew, places-bound, written-over}
-use Rattle.zf_meaning.proofs.rows.Rows.advance.Goals as goal
+use Rattle.zf_meaning.proofs.rows.Rows.pass.Goals as goal
 
 pub overflow_sub-outside : goal.overflow_sub-outside
 overflow_sub-outside c = omega (arith, c.len.ensures, c.len-2.ensures, places-bound _ _ _ _ c.requires.1.0 c.requires.1.1, c.args.self.now.bound.ok, c.args.self.now.places.ok)
@@ -14,11 +14,12 @@ returns c = λ outside at.
     let new = c.turn.new.places in
     let here : ArePlaces lists new = subst (λ xs. ArePlaces (seen xs) new) c.deref.ensures.value c.turn.ensures.places in
     let items : (with_items c.args.self.now.places new).items ≡ new = written-over c.args.self.now.places.len new old (sym (ArePlaces-length lists new here) ∙ ArePlaces-length lists old at.0) c.args.self.now.places.ok.0 in
-    let turned : rows_after lists old ≡ picked lists new ∷ rows_after lists new =
-    subst (λ xs. rows_after xs old ≡ picked xs new ∷ rows_after xs new) (ap seen c.deref.ensures.value) (ap (rows_after (seen c.deref.result.now)) (sym c.deref_mut.ensures.value) ∙ c.if-not-turn.ensures.turned) in
+    let rest = rows_after lists (take c.args.front old) in
+    let turned : rest ≡ picked lists new ∷ rows_after lists new =
+    subst (λ xs. rows_after xs (take c.args.front old) ≡ picked xs new ∷ rows_after xs new) (ap seen c.deref.ensures.value) (ap (λ ps. rows_after (seen c.deref.result.now) (take c.args.front ps)) (sym c.deref_mut.ensures.value) ∙ c.in-Some.ensures.turned) in
     let count : (c.len.result - c.len-2.result) + length old ≡ length c.args.self.now.bound.items =
     omega (arith, c.len.ensures, c.len-2.ensures, places-bound _ _ _ _ at.0 at.1, c.args.self.now.bound.ok, c.args.self.now.places.ok) in
     let bound = bound-anew lists old new c.args.self.now.bound.items c.truncate.new.self.items c.bind.new.bound.items outside _ at.0 at.1 count c.truncate.ensures.items
     (c.in_ok-bind.ensures ∙ ap (λ xs. seen c.truncate.new.self.items ++ picked (seen xs) c.deref-3.result.now) c.deref-2.ensures.value ∙ ap (λ ps. seen c.truncate.new.self.items ++ picked lists ps) (c.deref-3.ensures.value ∙ items)) in
-    let P : List ℕ → Type 0 = λ ps. (ArePlaces lists ps × (seen c.bind.new.bound.items ≡ outside ++ picked lists ps)) × (lists ≡ lists) × (rows_after lists old ≡ picked lists ps ∷ rows_after lists ps) in
+    let P : List ℕ → Type 0 = λ ps. (ArePlaces lists ps × (seen c.bind.new.bound.items ≡ outside ++ picked lists ps)) × (lists ≡ lists) × (rest ≡ picked lists ps ∷ rows_after lists ps) in
     subst P (sym items) ((here, bound), refl, turned)

@@ -1,0 +1,16 @@
+use Rattle.std.proofs.Common.{◌≡◌, max, map, drop}
+use Rattle.zf_term.specs.ResolvedTrees.{resolved_of, resolved_link_of, range_of, terms, links, ranges}
+use Rattle.zf_meaning.specs.Needs.{all_need, links_need, ranges_need}
+use Rattle.zf_meaning.proofs.needs.+last.Given as goal
+
+abbrev pub invariant-last_of_terms-loop-term : goal.invariant-last_of_terms-loop-term
+invariant-last_of_terms-loop-term l =
+    max l.fn.found (all_need l.bound (terms (map resolved_of l.items))) ≡ max l.last (all_need l.bound (terms (map resolved_of (drop l.term-index l.term-items))))
+
+abbrev pub invariant-last_of_links-loop-link : goal.invariant-last_of_links-loop-link
+invariant-last_of_links-loop-link l =
+    max l.fn.found (links_need l.bound (links (map resolved_link_of l.further))) ≡ max l.last (links_need l.bound (links (map resolved_link_of (drop l.link-index l.link-items))))
+
+abbrev pub invariant-last_of_ranges-loop-range : goal.invariant-last_of_ranges-loop-range
+invariant-last_of_ranges-loop-range l =
+    max l.fn.found (ranges_need l.bound (ranges (map range_of l.variables))) ≡ max l.last (ranges_need l.bound (ranges (map range_of (drop l.range-index l.range-items))))
