@@ -10,9 +10,9 @@ use Rattle.zf_scan.specs.declared.fault.TextFault.{TextFault}
 use Rattle.zf_text.specs.Parsing.{ReadsSource, RefusesSource}
 use Rattle.zf_finite.specs.Finite.{infinite_lines, one_bounds}
 use Rattle.zf_finite.proofs.FiniteSchemas.{finite_without_lines}
-use Rattle.zf_text.specs.Trees.{BoxTree}
+use Rattle.zf_tree.specs.Trees.{BoxTree}
 use Rattle.zf_term.specs.Definitions.{Comp, Defined, Definition, Schema, given_set, free_type, constructor, abbreviation, schema, sets_of}
-use Rattle.zf_term.specs.Extents.{first}
+use Rattle.zf_extent.specs.Extents.{first}
 use Rattle.zf_term.specs.FirstNamed.{first_named, later}
 use Rattle.zf_term.proofs.SameNames.{is_same}
 use Rattle.zf_type.specs.declared.fault.TypeFault.{TypeFault}

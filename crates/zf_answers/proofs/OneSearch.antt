@@ -4,7 +4,7 @@ use Rattle.std.proofs.lemmas.Bool.{cases_order}
 use Rattle.zf_finite.specs.Finite.{infinite_lines, IsFinite}
 use Rattle.zf_finite.proofs.FiniteSchemas.{finite_without_lines}
 use Rattle.zf_term.specs.Definitions.{Comp, Defined, Schema}
-use Rattle.zf_term.specs.Extents.{first}
+use Rattle.zf_extent.specs.Extents.{first}
 use Rattle.zf_type.specs.declared.fault.TypeFault.{TypeFault}
 use Rattle.zf_value.specs.declared.value.Outcome.{Outcome}
 use Rattle.zf_value.specs.declared.value.Value.{Value}

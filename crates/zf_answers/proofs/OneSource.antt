@@ -7,7 +7,7 @@ use Rattle.zf_scan.specs.declared.fault.TextFaultKind.TheVariants as fault
 use Rattle.zf_scan.specs.declared.token.Token.{Token}
 use Rattle.zf_scan.proofs.Laws.{is_cut_once, is_not_both, faults_once}
 use Rattle.zf_text.specs.Parsing.{IsGrammarFault, ReadsLow, ReadsSource, Refuses, RefusesSource}
-use Rattle.zf_text.specs.Trees.{BoxTree}
+use Rattle.zf_tree.specs.Trees.{BoxTree}
 use Rattle.zf_text.proofs.Answers.{only_one}
 use Rattle.zf_term.specs.Definitions.{Defined, Schema}
 use Rattle.zf_type.specs.declared.fault.TypeFault.{TypeFault}

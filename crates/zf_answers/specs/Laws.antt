@@ -8,7 +8,7 @@ use Rattle.zf_scan.specs.declared.fault.TextFault.{TextFault}
 use Rattle.zf_scan.specs.declared.token.Token.{Token}
 use Rattle.zf_scan.specs.Cuts.{IsCutInto}
 use Rattle.zf_text.specs.Parsing.{IsGrammarFault, ReadsSource, Refuses, RefusesSource}
-use Rattle.zf_text.specs.Trees.{BoxTree}
+use Rattle.zf_tree.specs.Trees.{BoxTree}
 use Rattle.zf_term.specs.Definitions.{Comp, Defined, Schema}
 use Rattle.zf_type.specs.declared.fault.TypeFault.{TypeFault}
 use Rattle.zf_schema.specs.Checking.{Item, OffendsItem}

@@ -5,7 +5,7 @@ use Rattle.std.specs.Option.{is_some}
 use Rattle.zf_term.specs.declared.globals.Component.{Component}
 use Rattle.zf_term.specs.Definitions.{Comp, comp_of}
 use Rattle.zf_term.proofs.Walk.{at_step, dropped}
-use Rattle.zf_type.specs.Scopes.{found_as}
+use Rattle.zf_term.specs.FirstNamed.{found_as}
 use Rattle.zf_calculus.specs.Calculus.{comp_named, AreOnce}
 
 pub none_found : {A B : Type 0} (f : A → B) (o : Option (ℕ × A)) (p : Option (ℕ × B)) (test : Bool) → test ≡ is_some o → test ≡ false → found_as f o ≡ p → p ≡ None

@@ -5,11 +5,11 @@ use Rattle.zf_term.specs.declared.globals.Flat.{Flat}
 use Rattle.zf_term.specs.Definitions.{Comp, Schema, comp_of, schema_of}
 use Rattle.zf_term.specs.ResolvedTrees.{ResolvedTree}
 use Rattle.zf_reference.specs.Numbering.{place_in}
-use Rattle.zf_type.specs.declared.fault.TypeFaultKind.{TypeFaultKind}
+use Rattle.zf_term.specs.declared.fault.TypeFaultKind.{TypeFaultKind}
 use Rattle.zf_calculus.specs.Calculus.{Agree, with_comps, carried, conjoined, decorated, prime, delta, xi, new_place, all_unchanged}
 use Rattle.zf_calculus.specs.Growth.{IsTooLarge, constrained, equalities}
 use Rattle.zf_calculus.specs.Limits.{IsWithin}
-use Rattle.zf_calculus.specs.SchemaOffences.{Stops}
+use Rattle.zf_calculus.specs.Steps.{Stops}
 use Rattle.zf_calculus.proofs.Equalities.{same_equalities}
 use Rattle.zf_calculus.proofs.Monotony.{before_all, before_conjuncts}
 

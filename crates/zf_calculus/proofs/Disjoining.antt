@@ -8,13 +8,12 @@ use Rattle.zf_term.specs.declared.globals.Flat.{Flat}
 use Rattle.zf_term.specs.declared.ztype.ZType.{ZType}
 use Rattle.zf_term.specs.Definitions.{Comp, Schema, DeclaredSet, sides, sets_of, set_of, comp_of, schema_of}
 use Rattle.zf_term.specs.Types.{type_of}
-use Rattle.zf_type.specs.declared.fault.TypeFaultKind.{TypeFaultKind}
-use Rattle.zf_type.specs.declared.fault.TypeFaultKind.TheVariants as kinds
+use Rattle.zf_term.specs.declared.fault.TypeFaultKind.{TypeFaultKind}
+use Rattle.zf_term.specs.declared.fault.TypeFaultKind.TheVariants as kinds
 use Rattle.zf_calculus.specs.Calculus.{comp, comp_named, sets_on, with_comps, disjoined}
 use Rattle.zf_calculus.specs.Growth.{IsTooLarge, either_comp, disjoined_over}
-use Rattle.zf_calculus.specs.Expressions.{IsNext}
+use Rattle.zf_calculus.specs.Steps.{IsNext, Stops}
 use Rattle.zf_calculus.specs.Limits.{IsWithin}
-use Rattle.zf_calculus.specs.SchemaOffences.{Stops}
 use Rattle.zf_term.proofs.SetsSeen.{of-Either}
 use Rattle.zf_calculus.proofs.Merging.{none_shorter}
 use Rattle.zf_calculus.proofs.Placing.{TooMany}

@@ -1,6 +1,6 @@
 -- The conjuncts of `\Xi`: what the program makes is what is wanted.
 use Rattle.std.proofs.Common.{◌≡◌, ℕ, zero, suc, ◌+◌, ◌<◌, List, [], ◌∷◌, ◌++◌, length, map, drop, get_or, refl, sym, ap, ◌∙◌, subst, arith, append_assoc}
-use Rattle.zf_scan.specs.declared.token.Relation.TheVariants.{Equal}
+use Rattle.zf_tree.specs.declared.symbol.Relation.TheVariants.{Equal}
 use Rattle.zf_reference.specs.declared.reference.Reference.TheVariants.{Component}
 use Rattle.zf_term.specs.declared.resolved.Resolved.{Resolved}
 use Rattle.zf_term.specs.declared.resolved.ResolvedLink.{ResolvedLink}
@@ -9,7 +9,7 @@ use Rattle.zf_term.specs.Definitions.{Comp, Schema}
 use Rattle.zf_term.specs.ResolvedTrees.{ResolvedTree, reference, chain, links, link, no_links, resolved_of, resolved_link_of}
 use Rattle.zf_reference.specs.Numbering.{place_in}
 use Rattle.zf_term.proofs.ResolvedSeen.{new_link, of-Name, of-Chain, of-link}
-use Rattle.zf_type.specs.declared.fault.TypeFaultKind.{TypeFaultKind}
+use Rattle.zf_term.specs.declared.fault.TypeFaultKind.{TypeFaultKind}
 use Rattle.zf_calculus.specs.Calculus as calculus
 use Rattle.zf_calculus.specs.Calculus.{new_place, unchanged, all_unchanged}
 use Rattle.zf_calculus.specs.Growth.{IsTooLarge, constrained, equality, equalities}

@@ -1,8 +1,8 @@
 -- That components lie in their declared sets.
 use Rattle.std.proofs.Common.{◌≡◌, ℕ, List, [], ◌∷◌, ◌++◌, length, map, sym, ap, ◌∙◌, arith}
 use Rattle.std.proofs.lemmas.List.{append-nil, map-append}
-use Rattle.zf_scan.specs.declared.token.Constant.TheVariants.{True}
-use Rattle.zf_scan.specs.declared.token.Relation.TheVariants.{Member}
+use Rattle.zf_tree.specs.declared.symbol.Constant.TheVariants.{True}
+use Rattle.zf_tree.specs.declared.symbol.Relation.TheVariants.{Member}
 use Rattle.zf_reference.specs.declared.reference.Reference.TheVariants.{Component}
 use Rattle.zf_term.specs.declared.resolved.Resolved.{Resolved}
 use Rattle.zf_term.specs.declared.resolved.ResolvedLink.{ResolvedLink}

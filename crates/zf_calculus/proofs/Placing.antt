@@ -9,8 +9,8 @@ use Rattle.zf_term.specs.FirstNamed.{later}
 use Rattle.zf_reference.specs.Numbering.{place_in}
 use Rattle.zf_term.proofs.Places.{in_full}
 use Rattle.zf_term.proofs.SameNames.{is_itself}
-use Rattle.zf_type.specs.declared.fault.TypeFaultKind.{TypeFaultKind}
-use Rattle.zf_type.specs.declared.fault.TypeFaultKind.TheVariants as kinds
+use Rattle.zf_term.specs.declared.fault.TypeFaultKind.{TypeFaultKind}
+use Rattle.zf_term.specs.declared.fault.TypeFaultKind.TheVariants as kinds
 use Rattle.zf_calculus.specs.Calculus.{comp, comp_named, new_place, place_of, place_or, with_comp, with_comps}
 use Rattle.zf_calculus.specs.Growth.{AreAt, place_found, place_named}
 use Rattle.zf_calculus.specs.Limits.{AreFew}

@@ -1,6 +1,6 @@
 -- What stops a step says why.
 use Rattle.std.proofs.Common.{Result, Ok, Err, IfErr, IfOk}
-use Rattle.zf_type.specs.declared.fault.TypeFaultKind.{TypeFaultKind}
+use Rattle.zf_term.specs.declared.fault.TypeFaultKind.{TypeFaultKind}
 use Rattle.zf_calculus.specs.declared.stop.Stop.{Stop}
 use Rattle.zf_calculus.specs.declared.stop.Stop.TheVariants.{Clash, TooLarge, OutOfMemory}
 use Rattle.zf_calculus.specs.Growth.{IfStopped}

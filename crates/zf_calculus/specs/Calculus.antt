@@ -2,12 +2,12 @@
 use Rattle.std.specs.Prelude.{◌≡◌, ℕ, ◌+◌, List, [], ◌∷◌, ◌++◌, map, fold, flat_map, Option, Some, None, slice_get, if◌then◌else◌}
 use Rattle.std.specs.List.{AllByRecursion}
 use Rattle.std.specs.Str.{bytes_eq}
-use Rattle.zf_scan.specs.declared.token.Connective.TheVariants.{And, Or}
-use Rattle.zf_scan.specs.declared.token.Constant.TheVariants.{True}
-use Rattle.zf_scan.specs.declared.token.Relation.TheVariants.{Equal, Member}
-use Rattle.zf_text.specs.declared.tree.RefMark.{RefMark}
-use Rattle.zf_text.specs.declared.tree.RefMark.TheVariants.{Plain, Delta, Xi}
-use Rattle.zf_term.specs.declared.operator.Operator.TheVariants.{Connective}
+use Rattle.zf_tree.specs.declared.symbol.Connective.TheVariants.{And, Or}
+use Rattle.zf_tree.specs.declared.symbol.Constant.TheVariants.{True}
+use Rattle.zf_tree.specs.declared.symbol.Relation.TheVariants.{Equal, Member}
+use Rattle.zf_tree.specs.declared.tree.RefMark.{RefMark}
+use Rattle.zf_tree.specs.declared.tree.RefMark.TheVariants.{Plain, Delta, Xi}
+use Rattle.zf_tree.specs.declared.operator.Operator.TheVariants.{Connective}
 use Rattle.zf_reference.specs.declared.reference.Reference.TheVariants.{Component}
 use Rattle.zf_term.specs.Definitions.{Comp, Schema, DeclaredSet, plain, carrier, sides, sets_of}
 use Rattle.zf_term.specs.ResolvedTrees.{ResolvedTree, reference, constant, binary, chain, no_links, link}

@@ -1,35 +1,23 @@
 -- A schema that grows within the limits, and what stops it.
-use Rattle.std.specs.Prelude.{◌≡◌, ◌⊎◌, ℕ, ◌+◌, ◌≤◌, ◌++◌, List, [], ◌∷◌, fold, length, map, Option, Some, None}
+use Rattle.std.specs.Prelude.{◌≡◌, ℕ, ◌+◌, ◌++◌, List, [], ◌∷◌, fold, map, Option, Some, None}
 use Rattle.std.specs.List.{sum_by}
-use Rattle.zf_scan.specs.declared.token.Relation.TheVariants.{Equal, Member}
-use Rattle.zf_scan.specs.declared.token.Connective.TheVariants.{And, Or}
-use Rattle.zf_term.specs.FirstNamed.{first_named}
-use Rattle.zf_term.specs.declared.operator.Operator.TheVariants.{Connective}
+use Rattle.zf_tree.specs.declared.symbol.Relation.TheVariants.{Equal, Member}
+use Rattle.zf_tree.specs.declared.symbol.Connective.TheVariants.{And, Or}
+use Rattle.zf_tree.specs.declared.operator.Operator.TheVariants.{Connective}
 use Rattle.zf_term.specs.declared.globals.Component.{Component}
 use Rattle.zf_term.specs.declared.globals.Domain.{Domain}
 use Rattle.zf_reference.specs.declared.reference.Reference.TheVariants as place
-use Rattle.zf_term.specs.Definitions.{Comp, Schema, DeclaredSet, sides, sets_of, Defined, schema, schema_of}
+use Rattle.zf_term.specs.Definitions.{Comp, Schema, DeclaredSet, sides, sets_of, schema_of}
 use Rattle.zf_term.specs.ResolvedTrees.{ResolvedTree, reference, binary, chain, no_links, link}
 use Rattle.zf_term.specs.Shapes.{line_of}
-use Rattle.zf_type.specs.declared.fault.TypeFaultKind.{TypeFaultKind}
-use Rattle.zf_type.specs.declared.fault.TypeFaultKind.TheVariants.{ComponentClash, NotDeclared, NotASchema}
-use Rattle.zf_type.specs.declared.fault.TypeFaultKind.TheVariants as kind
-use Rattle.zf_type.specs.declared.fault.Refusal.{Refusal}
-use Rattle.zf_type.specs.declared.fault.Refusal.TheVariants.{Fault}
-use Rattle.zf_type.specs.declared.fault.Refusal.TheVariants as refusal
+use Rattle.zf_term.specs.declared.fault.TypeFaultKind.{TypeFaultKind}
+use Rattle.zf_term.specs.declared.fault.TypeFaultKind.TheVariants.{ComponentClash}
+use Rattle.zf_term.specs.declared.fault.TypeFaultKind.TheVariants as kind
 use Rattle.zf_calculus.specs.declared.growing.Growing.{Growing}
 use Rattle.zf_calculus.specs.declared.stop.Stop.{Stop}
 use Rattle.zf_calculus.specs.declared.stop.Stop.TheVariants.{Clash, TooLarge, OutOfMemory}
 use Rattle.zf_calculus.specs.Calculus as calculus
-use Rattle.zf_calculus.specs.Calculus.{Agree, Agrees, with_comp, with_comps}
-use Rattle.zf_text.specs.declared.tree.Name.{Name}
-use Rattle.zf_text.specs.Trees.{Tree, DeclTree}
-use Rattle.zf_term.specs.Types.{Ty}
-use Rattle.zf_term.specs.declared.operator.Need.TheVariants as need
-use Rattle.zf_type.specs.Offences.{Offends}
-use Rattle.zf_type.specs.Scopes.{Scope, spelling}
-use Rattle.zf_calculus.specs.Expressions.{inside}
-use Rattle.zf_calculus.specs.SchemaOffences.{IsNoSchema, Stops, OffendsAlone, OffendsAfter, ConstrainsTooMuch}
+use Rattle.zf_calculus.specs.Calculus.{with_comp, with_comps}
 use Rattle.zf_calculus.specs.Limits.{AreFew, declared_sets, all_nodes, sets_max, nodes_max, IsWithin}
 
 -- a schema within the limits, with what is left of two of them
@@ -95,22 +83,6 @@ abbrev pub equalities : (line from : ℕ) → List ℕ → List ResolvedTree
 equalities l i [] = []
 equalities l i (p ∷ ps) = equality l i p ∷ equalities l (i + 1) ps
 
--- the stop as a refusal at the line
-abbrev pub refusal_of : Stop → (line : ℕ) → Refusal
-refusal_of Clash l = Fault (record { kind = ComponentClash; line = l })
-refusal_of TooLarge l = Fault (record { kind = kind.TooLarge; line = l })
-refusal_of OutOfMemory l = refusal.OutOfMemory
-
--- the global of the name is this schema
-abbrev pub IsNamed : List Defined → List ℕ → Schema → Type 0
-IsNamed g x a = (i : ℕ) × (first_named (λ d. d.name) x g ≡ Some (i, record { name = x; definition = schema a }))
-
--- no global of the name is a schema
-abbrev pub LacksSchema : List Defined → List ℕ → TypeFaultKind → Type 0
-LacksSchema g x k =
-    ((k ≡ NotDeclared) × (first_named (λ d. d.name) x g ≡ None))
-    ⊎ ((k ≡ NotASchema) × (i : ℕ) × (d : Defined) × (first_named (λ e. e.name) x g ≡ Some (i, d)) × IsNoSchema d.definition)
-
 -- ---- disjunctions
 
 -- a component of a disjunction, with its declared sets on either side
@@ -135,29 +107,3 @@ abbrev pub disjoined_over : List Comp → (line : ℕ) → Schema → Schema →
 disjoined_over all l a b =
     calculus.schema_of (map (either_comp a.comps b.comps) all)
     (one_holds l (calculus.constraints a) (calculus.carried b.comps all (calculus.constraints b)) ∷ [])
-
--- ---- texts and schema expressions
-
--- the globals and these components are in scope
-abbrev pub over : List Defined → List Comp → Scope
-over g cs = record { globals = g; comps = cs; locals = [] }
-
--- the name can't be declared to be in the set
-abbrev pub CantAdd : Schema → Name → Ty → DeclaredSet → TypeFaultKind → ℕ → Type 0
-CantAdd a n t d k m = (m ≡ n.line) × Stops (Agrees a.comps (calculus.comp (spelling n) t (d ∷ []))) (grown a (calculus.comp (spelling n) t (d ∷ []))) k
-
--- the conjunct passes a limit
-abbrev pub CantTake : Schema → ResolvedTree → TypeFaultKind → ℕ → Type 0
-CantTake a t k m = (m ≡ line_of t) × IsTooLarge (constrained a (t ∷ [])) k
-
--- the conjunction can't be: the fault has this line
-abbrev pub CantConjoin : (line : ℕ) → Schema → Schema → TypeFaultKind → ℕ → Type 0
-CantConjoin l a b k m = (m ≡ l) × Stops (Agree a.comps b.comps) (calculus.conjoined a b) k
-
--- the declaration can't be taken in
-abbrev pub CantDeclare : List Defined → Schema → DeclTree → TypeFaultKind → ℕ → Type 0
-CantDeclare g a d k m = OffendsAlone g d k m ⊎ OffendsAfter g a d k m
-
--- the predicate can't be taken
-abbrev pub CantConstrain : List Defined → Schema → Tree → TypeFaultKind → ℕ → Type 0
-CantConstrain g a p k m = Offends (inside g a) need.Predicate p k m ⊎ ConstrainsTooMuch g a p k m

@@ -1,5 +1,4 @@
 pub mod Calculus
 pub mod Limits
-pub mod Expressions
-pub mod SchemaOffences
+pub mod Steps
 pub mod Growth

@@ -3,7 +3,7 @@ ghost use Rattle.std.specs.Prelude.{◌≡◌, ◌++◌, ◌∷◌, [], ◌<◌,
 ghost use Rattle.zf_term.specs.declared.globals.Component.{Component};
 ghost use Rattle.zf_term.specs.Definitions.{Comp, comp_of};
 ghost use Rattle.zf_reference.specs.Numbering.{place_in};
-ghost use Rattle.zf_type.specs.declared.fault.TypeFaultKind.TheVariants as kinds;
+ghost use Rattle.zf_term.specs.declared.fault.TypeFaultKind.TheVariants as kinds;
 ghost use Rattle.zf_calculus.specs.Calculus as spec;
 ghost use Rattle.zf_calculus.specs.Calculus.{Agrees, Agree, comp_named, new_place, with_comp, with_comps, AreOnce};
 ghost use Rattle.zf_calculus.specs.Growth.{AreAt, IfStopped, enriched, place_named};
@@ -17,7 +17,7 @@ use std::mem;
 use std::mem::ManuallyDrop;
 use zf_data::arena::{Items, Shared};
 use zf_term::globals::{Component, Domain, Domains};
-use zf_type::scope::component_of;
+use zf_term::named::component_of;
 
 /// Whether none of the others has another type than the component that has its name.
 pub fn agree<'a>(components: &[Component<'a>], others: &[Component<'a>]) -> bool

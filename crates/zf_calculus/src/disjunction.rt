@@ -5,13 +5,12 @@ ghost use Rattle.zf_term.specs.ResolvedTrees.{resolved_of};
 ghost use Rattle.zf_reference.specs.Numbering.{place_in};
 ghost use Rattle.zf_term.specs.Shapes as shape;
 ghost use Rattle.zf_term.specs.Types.{type_of};
-ghost use Rattle.zf_type.specs.declared.fault.TypeFaultKind.TheVariants as kinds;
+ghost use Rattle.zf_term.specs.declared.fault.TypeFaultKind.TheVariants as kinds;
 ghost use Rattle.zf_calculus.specs.Calculus as spec;
 ghost use Rattle.zf_calculus.specs.Calculus.{Agree, comp_named, disjoined, with_comps};
-ghost use Rattle.zf_calculus.specs.Expressions.{IsNext};
+ghost use Rattle.zf_calculus.specs.Steps.{IsNext, Stops};
 ghost use Rattle.zf_calculus.specs.Growth.{IfStopped, IsGrowing, all_joined, both_hold, disjoined_over, either_comp, is_member, one_holds};
 ghost use Rattle.zf_calculus.specs.Limits.{AreFew};
-ghost use Rattle.zf_calculus.specs.SchemaOffences.{Stops};
 
 use crate::components::{agree, component_copies, join_all, new_places};
 use crate::growing::Growing;
@@ -23,12 +22,14 @@ use bumpalo::Bump;
 use std::alloc::AllocError;
 use zf_data::arena::{Boxed, Items, Shared};
 use zf_reference::reference::Reference;
-use zf_scan::token::{Connective, Constant, Relation};
+use zf_resolved::moving::{copy, moved};
+use zf_resolved::{conjunct, kept};
 use zf_term::conjunct::{Conjunct, Statement};
 use zf_term::globals::{Component, Domain, Domains, Flat};
-use zf_term::operator::Operator;
+use zf_term::named::component_of;
 use zf_term::resolved::{Resolved, ResolvedLink};
-use zf_type::scope::component_of;
+use zf_tree::operator::Operator;
+use zf_tree::symbol::{Connective, Constant, Relation};
 
 /// The components of the left side, and those of the right side that are new.
 fn all_components<'a>(
@@ -135,7 +136,7 @@ fn joined<'a>(
 {
     match terms.split_first() {
         None => Ok(Resolved::Constant(line, Constant::True)),
-        Some((first, further)) => joined_to(arena, first.copy(arena)?, further),
+        Some((first, further)) => joined_to(arena, copy(first, arena)?, further),
     }
 }
 
@@ -148,7 +149,7 @@ fn joined_to<'a>(
 {
     let mut whole = first;
     for term in further {
-        let right = term.copy(arena)?;
+        let right = copy(term, arena)?;
         whole = both(arena, whole, right)?;
     }
     Ok(whole)
@@ -180,7 +181,7 @@ fn push_membership<'a>(
 {
     match domain {
         Domain::Plain(set) => {
-            let set = set.get().resolved(arena)?;
+            let set = kept::resolved(set.get(), arena)?;
             let term = membership(arena, place, set)?;
             made.push(term)
         }
@@ -224,7 +225,7 @@ fn push_conjuncts<'a>(
     ensures { OnOk result (map resolved_of made.new ≡ map resolved_of made.old ++ map conjunct_of conjuncts.now) }
 {
     for conjunct in conjuncts {
-        made.push(conjunct.resolved(arena)?)?;
+        made.push(conjunct::resolved(conjunct, arena)?)?;
     }
     Ok(())
 }
@@ -248,7 +249,7 @@ fn moved_all<'a>(
 {
     let mut made = Items::new(arena);
     for term in terms {
-        made.push(term.moved(arena, places)?)?;
+        made.push(moved(term, arena, places)?)?;
     }
     Ok(made)
 }

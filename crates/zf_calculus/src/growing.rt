@@ -5,10 +5,9 @@ ghost use Rattle.zf_term.specs.ResolvedTrees.{ResolvedTree};
 ghost use Rattle.zf_reference.specs.Numbering.{place_in};
 ghost use Rattle.zf_term.specs.Shapes.{moved, numbering};
 ghost use Rattle.zf_calculus.specs.Calculus.{Agree, Agrees, conjoined, new_place, nothing};
-ghost use Rattle.zf_calculus.specs.Expressions.{Adds, Includes, IsNext};
+ghost use Rattle.zf_calculus.specs.Steps.{Adds, Includes, IsNext, Stops};
 ghost use Rattle.zf_calculus.specs.Growth.{HasLeftBeside, IsGrowing, IfStopped, IsTooLarge, constrained, equalities, equality, grown};
 ghost use Rattle.zf_calculus.specs.Limits.{IsWithin};
-ghost use Rattle.zf_calculus.specs.SchemaOffences.{Stops};
 
 use crate::components::{agree, agrees, are_apart, join, join_all};
 use crate::limits::{COMPONENTS_MAX, CONJUNCTS_MAX, NODES_MAX, SETS_MAX};
@@ -21,10 +20,11 @@ use bumpalo::Bump;
 use std::alloc::AllocError;
 use zf_data::arena::{Boxed, Items, Lasting};
 use zf_reference::reference::Reference;
-use zf_scan::token::Relation;
+use zf_shape::conjunct::room_after;
 use zf_term::conjunct::{Conjunct, Statement};
 use zf_term::globals::{Component, Flat};
 use zf_term::resolved::{Resolved, ResolvedLink};
+use zf_tree::symbol::Relation;
 
 /// A schema, with what is left of the limits, so that each step costs only what it adds.
 #[derive(Drop)]
@@ -115,7 +115,7 @@ impl<'a> Growing<'a> {
         ensures growing { OnOk result (IsGrowing self.new) }
         ensures err { IfErr result (λ e. IfStopped e (IsTooLarge (constrained (schema_of self.old.flat) (conjunct_of conjunct.entry ∷ [])))) }
     {
-        let Some(nodes_left) = conjunct.room_after(self.nodes_left) else {
+        let Some(nodes_left) = room_after(&conjunct, self.nodes_left) else {
             return Err(Stop::TooLarge);
         };
         if self.flat.conjuncts.len() >= CONJUNCTS_MAX {

@@ -4,9 +4,8 @@ ghost use Rattle.zf_term.specs.Definitions.{comp_of, schema_of};
 ghost use Rattle.zf_reference.specs.Numbering.{place_in};
 ghost use Rattle.zf_calculus.specs.Calculus as spec;
 ghost use Rattle.zf_calculus.specs.Calculus.{Agree, MarkAgrees, comp, decorated, delta, new_place, prime, xi};
-ghost use Rattle.zf_calculus.specs.Expressions.{IsNext};
+ghost use Rattle.zf_calculus.specs.Steps.{IsNext, Stops};
 ghost use Rattle.zf_calculus.specs.Growth.{IfStopped, IsGrowing, IsTooLarge};
-ghost use Rattle.zf_calculus.specs.SchemaOffences.{Stops};
 
 use crate::components::agree;
 use crate::growing::Growing;
@@ -19,7 +18,7 @@ use std::mem::ManuallyDrop;
 use zf_data::arena::{Items, Lasting, Lent};
 use zf_term::conjunct::Conjunct;
 use zf_term::globals::{Component, Flat};
-use zf_text::tree::RefMark;
+use zf_tree::tree::RefMark;
 
 /// The schema as it is marked: itself, or it and its state after an operation, and then that no component changes.
 pub fn marked<'a>(

@@ -8,6 +8,8 @@ ghost use Rattle.zf_calculus.specs.Growth.{counted};
 ghost use Rattle.zf_calculus.specs.Limits.{IsLow};
 
 use crate::limits::HEIGHT_MAX;
+use zf_shape::conjunct;
+use zf_shape::sets::{room_after_nodes, room_after_sets};
 use zf_term::conjunct::Conjunct;
 use zf_term::globals::{Component, Domain};
 
@@ -17,7 +19,7 @@ pub fn after_sets(domains: &[Domain<'_>], room: usize) -> Option<usize>
 {
     let mut left = room;
     for domain in domains {
-        left = domain.room_after_sets(left)?;
+        left = room_after_sets(domain, left)?;
     }
     Some(left)
 }
@@ -28,7 +30,7 @@ pub fn after_nodes(domains: &[Domain<'_>], room: usize) -> Option<usize>
 {
     let mut left = room;
     for domain in domains {
-        left = domain.room_after_nodes(left)?;
+        left = room_after_nodes(domain, left)?;
     }
     Some(left)
 }
@@ -61,7 +63,7 @@ pub fn after_conjuncts(conjuncts: &[Conjunct<'_>], room: usize) -> Option<usize>
 {
     let mut left = room;
     for conjunct in conjuncts {
-        left = conjunct.room_after(left)?;
+        left = conjunct::room_after(conjunct, left)?;
     }
     Some(left)
 }
@@ -74,7 +76,7 @@ pub fn is_low(conjunct: &Conjunct<'_>, count: usize) -> bool
     if count <= HEIGHT_MAX {
         return true;
     }
-    conjunct.is_within(HEIGHT_MAX)
+    conjunct::is_within(conjunct, HEIGHT_MAX)
 }
 
 /// Whether none of the conjuncts, which have so many nodes, is too high.
@@ -93,7 +95,7 @@ pub fn none_too_high(conjuncts: &[Conjunct<'_>]) -> bool
     ensures { IsTrue result ↔ AllByRecursion IsLow (map conjunct_of conjuncts.now) }
 {
     for conjunct in conjuncts {
-        if !conjunct.is_within(HEIGHT_MAX) {
+        if !conjunct::is_within(conjunct, HEIGHT_MAX) {
             return false;
         }
     }

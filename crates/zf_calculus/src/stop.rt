@@ -1,9 +1,5 @@
 //! Why there is no next schema.
-ghost use Rattle.std.specs.Prelude.{◌≡◌};
-ghost use Rattle.zf_calculus.specs.Growth as spec;
-
 use std::alloc::{AllocError, AllocFailed};
-use zf_type::fault::{Refusal, TypeFaultKind, refused};
 
 /// Why there is no next schema.
 #[derive(Drop)]
@@ -13,19 +9,6 @@ pub enum Stop {
     /// A limit is passed.
     TooLarge,
     OutOfMemory,
-}
-
-impl Stop {
-    /// The refusal at this line.
-    pub fn refusal(self, line: u32) -> Refusal
-        ensures { result ≡ spec.refusal_of self line }
-    {
-        match self {
-            Stop::Clash => refused(TypeFaultKind::ComponentClash, line),
-            Stop::TooLarge => refused(TypeFaultKind::TooLarge, line),
-            Stop::OutOfMemory => Refusal::OutOfMemory,
-        }
-    }
 }
 
 impl From<AllocError> for Stop {

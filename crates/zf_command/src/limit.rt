@@ -1,8 +1,7 @@
 //! The limit of `show`: how many bindings are written at most.
-ghost use Rattle.std.specs.Prelude.{IfOk, IsErrOf, MatchOption};
+ghost use Rattle.std.specs.Prelude.{IfOk, IsErrOf, MatchOption, option_map};
 ghost use Rattle.zf_command.specs.Jobs.{HasBadLimit, IsBadLimit, IsLimit, ReadsLimit};
 ghost use Rattle.zf_command.specs.declared.job.UsageFault.TheVariants.{BadWords};
-ghost use Rattle.std.specs.Prelude.{option_map};
 
 use crate::job::UsageFault;
 use crate::numerals::number_of;

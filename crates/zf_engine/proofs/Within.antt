@@ -1,8 +1,8 @@
 -- The conjuncts of a schema name its own components alone.
 use Rattle.std.proofs.Common.{◌≡◌, ℕ, zero, suc, ◌+◌, ◌<◌, ◌≤◌, Bool, true, false, if◌then◌else◌, List, [], ◌∷◌, ◌++◌, length, map, Option, Some, None, refl, sym, ap, arith, subst}
 use Rattle.std.specs.Str.{bytes_eq}
-use Rattle.zf_text.specs.Trees as text
-use Rattle.zf_text.specs.Trees.{Tree, Trees, no_trees, tree, Links, VarDecls, no_decls, var_decl, Perhaps}
+use Rattle.zf_tree.specs.Trees as text
+use Rattle.zf_tree.specs.Trees.{Tree, Trees, no_trees, tree, Links, VarDecls, no_decls, var_decl, Perhaps}
 use Rattle.zf_reference.specs.declared.reference.Reference.{Reference}
 use Rattle.zf_reference.specs.declared.reference.Reference.TheVariants.{Component, Local, Global}
 use Rattle.zf_term.specs.Definitions.{Comp, Defined}
@@ -14,7 +14,8 @@ use Rattle.zf_term.specs.Shapes.{moved, conjuncts, is_and, is_conjunction}
 use Rattle.zf_term.specs.TermLaws.{references}
 use Rattle.zf_term.proofs.MovedReferences.{moved_keeps_variables}
 use Rattle.zf_type.specs.Resolving.{referent, bound, resolved, resolved_all, resolved_links, resolved_ranges, resolved_part}
-use Rattle.zf_type.specs.Scopes.{Scope, Var, spelling, last_named, with_local, with_comp, with_global, meaning}
+use Rattle.zf_type.specs.Scopes.{Scope, Var, last_named, with_local, with_comp, with_global, meaning}
+use Rattle.zf_tree.specs.Names.{spelling}
 use Rattle.zf_type.proofs.Filling.{onto_behind}
 use Rattle.zf_enum.specs.Property.{place_named, greatest_place, due}
 

@@ -10,9 +10,9 @@ use Rattle.zf_schema.specs.Listing.{listing}
 use Rattle.zf_finite.specs.Finite.{IsFinite, infinite_lines}
 use Rattle.zf_scan.specs.declared.fault.TextFault.{TextFault}
 use Rattle.zf_text.specs.Parsing.{ReadsSource, RefusesSource}
-use Rattle.zf_text.specs.Trees.{BoxTree}
+use Rattle.zf_tree.specs.Trees.{BoxTree}
 use Rattle.zf_term.specs.Definitions.{Comp, Defined, Schema, schema}
-use Rattle.zf_term.specs.Extents.{first}
+use Rattle.zf_extent.specs.Extents.{first}
 use Rattle.zf_term.specs.FirstNamed.{first_named}
 use Rattle.zf_type.specs.declared.fault.TypeFault.{TypeFault}
 use Rattle.zf_value.specs.declared.value.Value.{Value}

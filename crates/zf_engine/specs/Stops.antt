@@ -6,7 +6,7 @@ use Rattle.zf_finite.specs.Finite.{infinite_lines}
 use Rattle.zf_scan.specs.declared.fault.TextFault.{TextFault}
 use Rattle.zf_scan.specs.declared.fault.TextFaultKind.TheVariants as text_faults
 use Rattle.zf_term.specs.Definitions.{Comp, Defined, Schema}
-use Rattle.zf_term.specs.Extents.{first}
+use Rattle.zf_extent.specs.Extents.{first}
 use Rattle.zf_meaning.specs.declared.sizes.Size.{Size}
 use Rattle.zf_meaning.specs.declared.sizes.SizeFault.{SizeFault}
 use Rattle.zf_meaning.specs.declared.sizes.SizeFault.TheVariants as size_faults

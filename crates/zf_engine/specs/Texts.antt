@@ -4,8 +4,8 @@ use Rattle.zf_scan.specs.declared.fault.TextFault.{TextFault}
 use Rattle.zf_scan.specs.declared.fault.TextFaultKind.{TextFaultKind}
 use Rattle.zf_scan.specs.declared.fault.TextFaultKind.TheVariants.{BadByte, UnknownCommand, NotInProfile, UnclosedBox, Unexpected, NumberTooLarge, TooDeep, TooLong, OutOfMemory}
 use Rattle.zf_type.specs.declared.fault.TypeFault.{TypeFault}
-use Rattle.zf_type.specs.declared.fault.TypeFaultKind.{TypeFaultKind}
-use Rattle.zf_type.specs.declared.fault.TypeFaultKind.TheVariants.{NotDeclared, AlreadyDefined, Mismatch, NotASet, NotANumber, NotARelation, NotAPredicate, NotAnExpression, ComponentClash, NotASchema, LocalTwice, TooLarge}
+use Rattle.zf_term.specs.declared.fault.TypeFaultKind.{TypeFaultKind}
+use Rattle.zf_term.specs.declared.fault.TypeFaultKind.TheVariants.{NotDeclared, AlreadyDefined, Mismatch, NotASet, NotANumber, NotARelation, NotAPredicate, NotAnExpression, ComponentClash, NotASchema, LocalTwice, TooLarge}
 
 abbrev pub text_fault_text : TextFaultKind → List ℕ
 text_fault_text BadByte = codes "byte not in the markup"

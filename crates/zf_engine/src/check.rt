@@ -5,7 +5,7 @@ ghost use Rattle.zf_engine.specs.Answers.{Checks, CheckAnswer, UnreadAnswer, che
 ghost use Rattle.zf_engine.specs.Stops.{IfAnswered, IsFaultLine};
 ghost use Rattle.zf_engine.specs.Texts.{type_fault_line};
 ghost use Rattle.zf_text.specs.Parsing.{ReadsSource};
-ghost use Rattle.zf_text.specs.Trees.{boxes_of};
+ghost use Rattle.zf_tree.specs.Trees.{boxes_of};
 ghost use Rattle.zf_term.specs.Definitions.{globals_of};
 
 use crate::stop::Stop;
@@ -17,7 +17,7 @@ use zf_scan::fault::{TextFault, TextFaultKind};
 use zf_schema::checker::{Checked, check_spec};
 use zf_schema::listing::listing;
 use zf_text::reading::read_spec;
-use zf_text::tree::Spec;
+use zf_tree::tree::Spec;
 use zf_type::fault::TypeFault;
 
 /// What a source defines, and its faults of types. Its trees stand in an arena of their own, which asks for its room while the

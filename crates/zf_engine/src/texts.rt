@@ -5,7 +5,8 @@ ghost use Rattle.zf_engine.specs.Texts as spec;
 use itoa::Buffer;
 use std::alloc::{AllocError, Global};
 use zf_scan::fault::{TextFault, TextFaultKind};
-use zf_type::fault::{TypeFault, TypeFaultKind};
+use zf_term::fault::TypeFaultKind;
+use zf_type::fault::TypeFault;
 
 /// The text of a fault of a text.
 pub fn text_fault_text(kind: TextFaultKind) -> &'static [u8]

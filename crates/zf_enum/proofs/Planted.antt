@@ -1,12 +1,12 @@
 -- What is planted of a predicate has its truths.
 use Rattle.std.proofs.Common.{◌≡◌, ◌⊎◌, ⊎_elim, inl, inr, ◌↔◌, ℕ, zero, suc, ◌+◌, ◌<◌, ◌≤◌, max, List, [], ◌∷◌, ◌++◌, length, map, Some, refl, sym, ap, ◌∙◌, subst, arith}
 use Rattle.std.specs.Prelude.{slice_get, unwrap_or, All}
-use Rattle.zf_scan.specs.declared.token.Connective as connective
-use Rattle.zf_scan.specs.declared.token.Connective.TheVariants as connectives
-use Rattle.zf_term.specs.declared.operator.Operator.{Operator}
-use Rattle.zf_term.specs.declared.operator.Operator.TheVariants.{Connective}
-use Rattle.zf_term.specs.declared.operator.Unary.{Unary}
-use Rattle.zf_term.specs.declared.operator.Unary.TheVariants.{Not}
+use Rattle.zf_tree.specs.declared.symbol.Connective as connective
+use Rattle.zf_tree.specs.declared.symbol.Connective.TheVariants as connectives
+use Rattle.zf_tree.specs.declared.operator.Operator.{Operator}
+use Rattle.zf_tree.specs.declared.operator.Operator.TheVariants.{Connective}
+use Rattle.zf_tree.specs.declared.operator.Unary.{Unary}
+use Rattle.zf_tree.specs.declared.operator.Unary.TheVariants.{Not}
 use Rattle.zf_term.specs.declared.resolved.Resolved.{Resolved}
 use Rattle.zf_term.specs.declared.resolved.Resolved.TheVariants as form
 use Rattle.zf_term.proofs.ResolvedSeen.{of-Unary, of-Binary}

@@ -2,7 +2,7 @@
 use Rattle.std.proofs.Common.{◌≡◌, ◌↔◌, Bool, true, false, not, List, Option, Some, None, refl, sym, ap, subst}
 use Rattle.zf_term.specs.declared.extent.Infinite.{Infinite}
 use Rattle.zf_term.specs.Definitions.{plain, carrier}
-use Rattle.zf_term.specs.Extents.{direct}
+use Rattle.zf_extent.specs.Extents.{direct}
 use Rattle.zf_term.specs.ResolvedTrees.{ResolvedTree}
 use Rattle.zf_term.specs.Types.{Ty, has_numbers}
 use Rattle.zf_value.specs.declared.value.Value.{Value}

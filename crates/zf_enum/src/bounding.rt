@@ -9,6 +9,7 @@ use crate::weight::weight;
 use bumpalo::Bump;
 use std::alloc::AllocError;
 use zf_data::arena::Items;
+use zf_extent::kept::direct;
 use zf_meaning::env::Env;
 use zf_term::globals::{Domain, Globals};
 
@@ -57,7 +58,7 @@ fn bounds<'a>(domain: &Domain<'a>, globals: &Globals<'a>) -> bool
     ensures { result ≡ spec.bounds (globals_of globals.now) (set_of domain.now) }
 {
     match domain {
-        Domain::Plain(set) => set.get().direct(globals).is_none(),
+        Domain::Plain(set) => direct(set.get(), globals).is_none(),
         Domain::Carrier(ztype) => !ztype.has_numbers(),
         Domain::Either(left, right) => one_bounds(left.get(), globals)
             && one_bounds(right.get(), globals),

@@ -1,14 +1,14 @@
 //! Equations of a component with an expression.
 ghost use Rattle.std.specs.Prelude.{◌≡◌, IfSome, IsTrue};
 ghost use Rattle.zf_reference.specs.declared.reference.Reference.TheVariants.{Component};
-ghost use Rattle.zf_scan.specs.declared.token.Relation.TheVariants.{Equal};
+ghost use Rattle.zf_tree.specs.declared.symbol.Relation.TheVariants.{Equal};
 ghost use Rattle.zf_term.specs.ResolvedTrees.{resolved_of, reference};
 ghost use Rattle.zf_enum.specs.Fixing.{IsName, IsBeside, Fixes};
 
 use crate::due::uses;
 use zf_reference::reference::Reference;
-use zf_scan::token::Relation;
 use zf_term::resolved::Resolved;
+use zf_tree::symbol::Relation;
 
 /// The expression that a predicate equates a component with, where it does. The expression doesn't name the component.
 #[tactic(auto, using(zf_term::proofs::ResolvedSeen::seen))]

@@ -18,10 +18,12 @@ use crate::members::{members_among, members_of};
 use crate::of_type::OfType;
 use bumpalo::Bump;
 use std::alloc::{AllocError, Global};
+use zf_extent::kept::direct;
 use zf_meaning::carrier::carrier_of;
 use zf_meaning::described::Described;
 use zf_meaning::env::Env;
 use zf_meaning::value::{described_in, value_of};
+use zf_resolved::kept::resolved;
 use zf_term::resolved::Resolved;
 use zf_term::written::Written;
 use zf_term::ztype::ZType;
@@ -51,7 +53,7 @@ fn outcome_of<'a>(
     ensures is { IfOk result (HasOutcome (globally (environment_of env.now)) (written_of set.now)) }
     ensures regular { IfOk result IsRegularOutcome }
 {
-    let term: Resolved<'a> = set.resolved(arena)?;
+    let term: Resolved<'a> = resolved(set, arena)?;
     let none: &[Value] = &[];
     value_of(&term, &none, env)
 }
@@ -82,11 +84,11 @@ pub(crate) fn among_plain<'a>(
     ensures is { IfOk result (λ xs. Narrows (environment_of env.now) (plain (written_of set.now)) values.now xs.items) }
     ensures out { IfErr result (λ lack. Tells lack (IsSetOut (environment_of env.now) (plain (written_of set.now)))) }
 {
-    if let Some(infinite) = set.direct(env.globals()) {
+    if let Some(infinite) = direct(set, env.globals()) {
         let test = InNumbers { set: infinite };
         return Ok(kept(alloc, values, &test)?);
     }
-    let term: Resolved<'a> = set.resolved(arena)?;
+    let term: Resolved<'a> = resolved(set, arena)?;
     let none: &[Value] = &[];
     let described = described_in(&term, &none, env)?;
     members_among(alloc, values, &described)

@@ -10,11 +10,13 @@ use crate::fixing::fixing;
 use bumpalo::Bump;
 use std::alloc::{AllocError, Global};
 use zf_plan::Forest;
-use zf_scan::token::Connective;
+use zf_resolved::conjunct::resolved;
+use zf_resolved::moving::copy;
 use zf_term::conjunct::Conjunct;
 use zf_term::globals::Flat;
-use zf_term::operator::{Operator, Unary};
 use zf_term::resolved::Resolved;
+use zf_tree::operator::{Operator, Unary};
+use zf_tree::symbol::Connective;
 
 /// The parts of predicates that are no connectives, and the trees over them that are the predicates.
 #[derive(Drop)]
@@ -74,7 +76,7 @@ fn plant_next<'a>(
 ) -> Result<(), AllocError>
     ensures { OnOk result (PlantsNext leaves.old.items forest.old (conjunct_of conjunct.now) leaves.new.items forest.new) }
 {
-    let term = conjunct.resolved(arena)?;
+    let term = resolved(conjunct, arena)?;
     let place = plant(&term, arena, leaves, forest)?;
     forest.take(place)
 }
@@ -135,6 +137,6 @@ fn plant_leaf<'a>(
     ensures { IfOk result (λ place. Plants leaves.old.items forest.old (resolved_of term.now) place leaves.new.items forest.new) }
 {
     let leaf = leaves.len();
-    leaves.push(term.copy(arena)?)?;
+    leaves.push(copy(term, arena)?)?;
     forest.leaf(leaf)
 }

@@ -18,6 +18,7 @@ use crate::start_fault::StartFault;
 use bumpalo::Bump;
 use std::alloc::{AllocError, Global};
 use zf_meaning::env::Env;
+use zf_resolved::conjunct;
 use zf_term::conjunct::Conjunct;
 use zf_term::globals::Flat;
 use zf_term::resolved::Resolved;
@@ -53,7 +54,7 @@ fn resolved<'a>(
 {
     let mut terms = Vec::with_capacity(alloc, conjuncts.len())?;
     for conjunct in conjuncts {
-        terms.push(conjunct.resolved(arena)?)?;
+        terms.push(conjunct::resolved(conjunct, arena)?)?;
     }
     Ok(terms)
 }

@@ -5,6 +5,7 @@ use zf_meaning::described::Described;
 use zf_meaning::env::Env;
 use zf_meaning::found::Found;
 use zf_meaning::value::described_in;
+use zf_resolved::kept::resolved;
 use zf_term::globals::Domain;
 use zf_term::resolved::Resolved;
 use zf_term::written::Written;
@@ -29,7 +30,7 @@ fn plain_weight<'a>(
     set: &Written<'a>,
     env: &Env<'_, 'a>,
 ) -> Result<usize, AllocError> {
-    let term: Resolved<'a> = set.resolved(arena)?;
+    let term: Resolved<'a> = resolved(set, arena)?;
     let none: &[Value] = &[];
     let described = described_in(&term, &none, env)?;
     Ok(weight_of(&described))

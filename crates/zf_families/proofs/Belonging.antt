@@ -14,10 +14,9 @@ use Rattle.zf_value.proofs.Regulars.{regular_set}
 use Rattle.zf_value.proofs.Among.{every_at, not_below_itself}
 use Rattle.zf_families.specs.Selections.{fits_any, fits_apart, pairs}
 use Rattle.zf_families.specs.Tests.{IsPairOn, IsGraph, IsFunctionFrom, IsInjectionFrom, first_at, first, firsts_rise, seconds_apart}
-use Rattle.zf_families.proofs.Comparisons.{not_both, below_rest, pair_parts, first_below, member_map}
+use Rattle.zf_families.proofs.Comparisons.{not_both, below_rest, pair_parts, first_below, member_map, from_member_map}
 use Rattle.zf_families.proofs.Functions.{GoesAll, none_all, all_to, all_from}
 use Rattle.zf_families.proofs.FunctionLaws.{functions, IsUnused, unused_from, unused_to, injective_more}
-use Rattle.zf_families.proofs.Comparisons.{from_member_map}
 
 -- ---- firsts
 

@@ -4,10 +4,9 @@ use Rattle.std.specs.Ordering.{ordering_reverse, ordering_then}
 use Rattle.std.proofs.lemmas.Cmp.{tied_itself}
 use Rattle.zf_value.specs.declared.value.Value.{Value}
 use Rattle.zf_value.specs.contracts.value.ValueOrd.TheImpl.Laws.{total-law}
-use Rattle.zf_value.specs.Sets.{value_order, row_order, IsMember, Every, IsAscending}
+use Rattle.zf_value.specs.Sets.{value_order, row_order, IsMember, Every, IsAscending, parts}
 use Rattle.zf_value.specs.Operations.{pair}
 use Rattle.zf_value.proofs.Seen.{parts-Tuple}
-use Rattle.zf_value.specs.Sets.{parts}
 use Rattle.zf_value.proofs.Among.{every_from, every_at, not_below_itself}
 use Rattle.zf_families.proofs.Told.{tuple_order}
 

@@ -3,7 +3,7 @@ use Rattle.std.proofs.Common.{◌≡◌, ℕ, IsTrue, Bool, true, false, if◌th
 use Rattle.std.specs.List.{AllByRecursion}
 use Rattle.std.proofs.lemmas.List.Concat.{flat_map-cons}
 use Rattle.zf_term.specs.Definitions.{Comp, Schema, Defined, sets_of}
-use Rattle.zf_term.specs.Extents.{offending}
+use Rattle.zf_extent.specs.Extents.{offending}
 use Rattle.zf_finite.specs.Finite.{one_bounds, first_plain, unbounded, all_set_lines, comp_lines, infinite_lines, IsFinite, FiniteWithoutLines}
 
 both_none : (xs ys : List ℕ) → xs ++ ys ≡ [] → (xs ≡ []) × (ys ≡ [])

@@ -4,9 +4,9 @@ use Rattle.std.proofs.lemmas.List.Concat.{flat_map-cons}
 use Rattle.std.proofs.lemmas.Option.{none-some}
 use Rattle.zf_term.specs.declared.globals.Domain.{Domain}
 use Rattle.zf_term.specs.Definitions.{Defined, sets_of, set_of}
-use Rattle.zf_term.specs.Extents.{first}
+use Rattle.zf_extent.specs.Extents.{first}
 use Rattle.zf_term.specs.FirstNamed.{or_else}
-use Rattle.zf_term.proofs.FirstLines.{first_of_both, line_step}
+use Rattle.zf_extent.proofs.FirstLines.{first_of_both, line_step}
 use Rattle.zf_finite.specs.Finite.{plain_lines, all_plain_lines, first_or, set_lines, all_set_lines}
 
 -- what is found in the one, and then in the other

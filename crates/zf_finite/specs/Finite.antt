@@ -3,7 +3,7 @@ use Rattle.std.specs.Prelude.{◌≡◌, ◌↔◌, IsTrue, ℕ, Bool, true, fal
 use Rattle.std.specs.List.{AllByRecursion}
 use Rattle.zf_term.specs.declared.extent.Infinite.{Infinite}
 use Rattle.zf_term.specs.Definitions.{Comp, Schema, DeclaredSet, plain, carrier, sides, DeclaredSets, no_sets, set, sets_of, Defined}
-use Rattle.zf_term.specs.Extents.{direct, offending, offending_within}
+use Rattle.zf_extent.specs.Extents.{direct, offending, offending_within}
 use Rattle.zf_term.specs.Shapes.{line_of}
 use Rattle.zf_term.specs.Types.{has_numbers}
 

@@ -1,14 +1,16 @@
 //! Which schemas are finite.
 ghost use Rattle.std.specs.Prelude.{◌≡◌, OnOk, IfErr, Some, flat_map, map};
 ghost use Rattle.zf_term.specs.Definitions.{comp_of, conjunct_of, globals_of, schema_of, set_of, sets_of};
-ghost use Rattle.zf_term.specs.Extents.{first};
-ghost use Rattle.zf_term.specs.Extents as extents;
+ghost use Rattle.zf_extent.specs.Extents.{first};
+ghost use Rattle.zf_extent.specs.Extents as extents;
 ghost use Rattle.zf_term.specs.FirstNamed.{or_else};
 ghost use Rattle.zf_finite.specs.Finite as spec;
 ghost use Rattle.zf_finite.specs.Finite.{IsFinite};
 
 use thiserror::Error;
 use zf_data::arena::Items;
+use zf_extent::conjunct::offending_after;
+use zf_extent::kept::{direct, offending_within_after};
 use zf_term::conjunct::Conjunct;
 use zf_term::globals::{Component, Domain, Flat, Globals};
 
@@ -69,7 +71,7 @@ fn conjuncts_after<'a>(
     line
 }
 
-#[tactic(auto, using(zf_term::proofs::Renumbered::same_offences))]
+#[tactic(auto, using(zf_extent::proofs::SameOffences::same_offences))]
 fn conjunct_after<'a>(
     conjunct: &Conjunct<'a>,
     found: Option<u32>,
@@ -77,7 +79,7 @@ fn conjunct_after<'a>(
 ) -> Option<u32>
     ensures { result ≡ or_else found (first (extents.offending (globals_of globals.now) (conjunct_of conjunct.now))) }
 {
-    conjunct.offending_after(found, globals)
+    offending_after(conjunct, found, globals)
 }
 
 /// The line of the first set of a declaration, if nothing bounds the component.
@@ -101,7 +103,7 @@ fn bounds<'a>(domain: &Domain<'a>, globals: &Globals<'a>) -> bool
     ensures { result ≡ spec.bounds (globals_of globals.now) (set_of domain.now) }
 {
     match domain {
-        Domain::Plain(set) => set.get().direct(globals).is_none(),
+        Domain::Plain(set) => direct(set.get(), globals).is_none(),
         Domain::Carrier(ztype) => !ztype.has_numbers(),
         Domain::Either(left, right) => one_bounds(left.get(), globals)
             && one_bounds(right.get(), globals),
@@ -172,7 +174,7 @@ fn names_after<'a>(domain: &Domain<'a>, found: Option<u32>, globals: &Globals<'a
     ensures { result ≡ or_else found (first (spec.set_lines (globals_of globals.now) (set_of domain.now))) }
 {
     match domain {
-        Domain::Plain(set) => set.get().offending_within_after(found, globals),
+        Domain::Plain(set) => offending_within_after(set.get(), found, globals),
         Domain::Carrier(_) => found,
         Domain::Either(left, right) => {
             let line = all_names_after(left.get(), found, globals);

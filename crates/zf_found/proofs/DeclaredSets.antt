@@ -3,7 +3,7 @@ use Rattle.std.proofs.Common.{◌≡◌, Bool, true, false, not, subst, inl, inr
 use Rattle.std.proofs.lemmas.Bool.{and_parts, or_cases}
 use Rattle.zf_term.specs.declared.extent.Infinite.{Infinite}
 use Rattle.zf_term.specs.Definitions.{DeclaredSet, plain, carrier, sides, DeclaredSets, no_sets, set}
-use Rattle.zf_term.specs.Extents.{direct}
+use Rattle.zf_extent.specs.Extents.{direct}
 use Rattle.zf_term.specs.ResolvedTrees.{ResolvedTree}
 use Rattle.zf_term.specs.Types.{Ty, has_numbers}
 use Rattle.zf_finite.specs.Finite.{is_none, bounds, one_bounds}

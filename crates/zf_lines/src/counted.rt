@@ -1,9 +1,8 @@
 //! A reader or a writer that counts its failures.
-ghost use Rattle.std.specs.Prelude.{◌≡◌};
+ghost use Rattle.std.specs.Prelude.{◌≡◌, is_err};
 ghost use Rattle.std.specs.Io.{ReadsAtMost, WritesAtMost};
 ghost use Rattle.std.specs.Io.KnownBytes.{Keeps, ReadConsumes, WriteAppends};
 ghost use Rattle.zf_lines.specs.Counts.{count_after, device_of, failures_of, is_failed_write};
-ghost use Rattle.std.specs.Prelude.{is_err};
 
 use std::io;
 use std::io::{Read, Write};

@@ -26,4 +26,3 @@ pub mod NeedsFound
 pub mod Binding
 pub mod CarrierLists
 pub mod InRow
-pub mod Fronts

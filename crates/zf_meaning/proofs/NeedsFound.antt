@@ -2,11 +2,11 @@
 use Rattle.std.proofs.Common.{◌≡◌, ℕ, zero, suc, ◌+◌, ◌<◌, ◌≤◌, max, Option, List, [], ◌∷◌, length, map, drop, get_or, sym, ap, ◌∙◌, subst, add-one, arith}
 use Rattle.std.proofs.Math.ListN.{drop_of_length-le}
 use Rattle.zf_reference.specs.declared.reference.Reference.{Reference}
-use Rattle.zf_scan.specs.declared.token.Constant.{Constant}
-use Rattle.zf_scan.specs.declared.token.Quantifier.{Quantifier}
-use Rattle.zf_term.specs.declared.operator.Listed.{Listed}
-use Rattle.zf_term.specs.declared.operator.Operator.{Operator}
-use Rattle.zf_term.specs.declared.operator.Unary.{Unary}
+use Rattle.zf_tree.specs.declared.symbol.Constant.{Constant}
+use Rattle.zf_tree.specs.declared.symbol.Quantifier.{Quantifier}
+use Rattle.zf_tree.specs.declared.operator.Listed.{Listed}
+use Rattle.zf_tree.specs.declared.operator.Operator.{Operator}
+use Rattle.zf_tree.specs.declared.operator.Unary.{Unary}
 use Rattle.zf_term.specs.declared.resolved.Resolved.{Resolved}
 use Rattle.zf_term.specs.declared.resolved.Resolved.TheVariants as v
 use Rattle.zf_term.specs.declared.resolved.ResolvedLink.{ResolvedLink}

@@ -4,16 +4,16 @@ use Rattle.std.specs.Prelude.{Result}
 use Rattle.std.specs.Result.{IfOk}
 use Rattle.std.specs.declared.alloc.AllocError.{AllocError}
 use Rattle.std.proofs.lemmas.Result.{IfOk-weaker}
-use Rattle.zf_scan.specs.declared.token.Arrow.{Arrow}
-use Rattle.zf_scan.specs.declared.token.Infix.TheVariants.{UpTo}
-use Rattle.zf_scan.specs.declared.token.Prefix.TheVariants as prefix
-use Rattle.zf_text.specs.declared.tree.Sign.TheVariants.{Symbol}
-use Rattle.zf_term.specs.declared.operator.Listed.{Listed}
-use Rattle.zf_term.specs.declared.operator.Listed.TheVariants as form
-use Rattle.zf_term.specs.declared.operator.Operator.{Operator}
-use Rattle.zf_term.specs.declared.operator.Operator.TheVariants.{Function, Generic}
-use Rattle.zf_term.specs.declared.operator.Unary.{Unary}
-use Rattle.zf_term.specs.declared.operator.Unary.TheVariants.{Sign}
+use Rattle.zf_tree.specs.declared.symbol.Arrow.{Arrow}
+use Rattle.zf_tree.specs.declared.symbol.Infix.TheVariants.{UpTo}
+use Rattle.zf_tree.specs.declared.symbol.Prefix.TheVariants as prefix
+use Rattle.zf_tree.specs.declared.tree.Sign.TheVariants.{Symbol}
+use Rattle.zf_tree.specs.declared.operator.Listed.{Listed}
+use Rattle.zf_tree.specs.declared.operator.Listed.TheVariants as form
+use Rattle.zf_tree.specs.declared.operator.Operator.{Operator}
+use Rattle.zf_tree.specs.declared.operator.Operator.TheVariants.{Function, Generic}
+use Rattle.zf_tree.specs.declared.operator.Unary.{Unary}
+use Rattle.zf_tree.specs.declared.operator.Unary.TheVariants.{Sign}
 use Rattle.zf_term.specs.ResolvedTrees.{ResolvedTree, ResolvedTrees, unary, binary, listed}
 use Rattle.zf_value.specs.declared.value.Value.{Value}
 use Rattle.zf_value.specs.declared.value.Outcome.{Outcome}

@@ -1,8 +1,8 @@
 -- A term means the same in rows that agree in the components that it names.
 use Rattle.std.proofs.Common.{◌≡◌, List, [], ◌∷◌, ◌++◌, refl, ap}
 use Rattle.std.specs.Prelude.{slice_get}
-use Rattle.zf_term.specs.declared.operator.Operator.TheVariants as operator
-use Rattle.zf_term.specs.declared.operator.Unary.TheVariants as the_unary
+use Rattle.zf_tree.specs.declared.operator.Operator.TheVariants as operator
+use Rattle.zf_tree.specs.declared.operator.Unary.TheVariants as the_unary
 use Rattle.zf_reference.specs.declared.reference.Reference.{Reference}
 use Rattle.zf_reference.specs.declared.reference.Reference.TheVariants.{Component, Local, Global}
 use Rattle.zf_term.specs.Filling.{onto, all_onto, links_onto, ranges_onto, part_onto}

@@ -3,11 +3,11 @@ use Rattle.std.proofs.Common.{◌≡◌, ◌↔◌, ◌≤◌, ◌<◌, ℕ, Boo
 use Rattle.std.specs.Prelude.{pos, ◌+ℤ◌, ◌<ℤ◌}
 use Rattle.std.proofs.lemmas.Int.{ints}
 use Rattle.std.specs.Cmp.{int_cmp_is}
-use Rattle.zf_scan.specs.declared.token.Arrow.{Arrow}
-use Rattle.zf_scan.specs.declared.token.Arrow.TheVariants as arrow
-use Rattle.zf_scan.specs.declared.token.Relation.{Relation}
-use Rattle.zf_scan.specs.declared.token.Relation.TheVariants as relation
-use Rattle.zf_term.specs.Extents.{is_membership}
+use Rattle.zf_tree.specs.declared.symbol.Arrow.{Arrow}
+use Rattle.zf_tree.specs.declared.symbol.Arrow.TheVariants as arrow
+use Rattle.zf_tree.specs.declared.symbol.Relation.{Relation}
+use Rattle.zf_tree.specs.declared.symbol.Relation.TheVariants as relation
+use Rattle.zf_extent.specs.Extents.{is_membership}
 use Rattle.zf_families.specs.Families.{IsTupleFrom, IsRelation, IsPartialFunction, IsTotalFunction, IsPartialInjection, IsTotalInjection}
 use Rattle.zf_families.specs.Selections.{some, whole, fits_any, singles}
 use Rattle.zf_families.proofs.Families.{partial_rows, total_rows, partial_functions_built, total_functions_built}

@@ -1,13 +1,13 @@
 -- Worked rows, as a check of the definitions.
 use Rattle.std.proofs.Common.{[], refl, inl, arith}
 use Rattle.std.specs.Prelude.{pos}
-use Rattle.zf_scan.specs.declared.token.Constant.TheVariants.{Integers}
-use Rattle.zf_scan.specs.declared.token.Infix.TheVariants.{Div}
-use Rattle.zf_scan.specs.declared.token.Prefix.TheVariants.{Size}
-use Rattle.zf_scan.specs.declared.token.Relation.TheVariants.{Member, NotMember}
-use Rattle.zf_text.specs.declared.tree.Sign.TheVariants.{Symbol}
-use Rattle.zf_term.specs.declared.operator.Operator.TheVariants.{Function}
-use Rattle.zf_term.specs.declared.operator.Unary.TheVariants.{Sign}
+use Rattle.zf_tree.specs.declared.symbol.Constant.TheVariants.{Integers}
+use Rattle.zf_tree.specs.declared.symbol.Infix.TheVariants.{Div}
+use Rattle.zf_tree.specs.declared.symbol.Prefix.TheVariants.{Size}
+use Rattle.zf_tree.specs.declared.symbol.Relation.TheVariants.{Member, NotMember}
+use Rattle.zf_tree.specs.declared.tree.Sign.TheVariants.{Symbol}
+use Rattle.zf_tree.specs.declared.operator.Operator.TheVariants.{Function}
+use Rattle.zf_tree.specs.declared.operator.Unary.TheVariants.{Sign}
 use Rattle.zf_term.specs.ResolvedTrees.{ResolvedTree, number, constant, empty_set, unary, binary, chain, no_links, link}
 use Rattle.zf_value.specs.declared.value.Value.{Int, SetOf}
 use Rattle.zf_value.specs.declared.value.Outcome.TheVariants.{Is, Undefined, Out}

@@ -1,9 +1,9 @@
 -- Sets that are told by what they are made of, so that they can be tested for members without being built.
 use Rattle.std.specs.Prelude.{◌≡◌, Bool, true, false}
-use Rattle.zf_scan.specs.declared.token.Arrow.{Arrow}
-use Rattle.zf_scan.specs.declared.token.Arrow.TheVariants as arrow
-use Rattle.zf_scan.specs.declared.token.Relation.{Relation}
-use Rattle.zf_scan.specs.declared.token.Relation.TheVariants.{NotMember}
+use Rattle.zf_tree.specs.declared.symbol.Arrow.{Arrow}
+use Rattle.zf_tree.specs.declared.symbol.Arrow.TheVariants as arrow
+use Rattle.zf_tree.specs.declared.symbol.Relation.{Relation}
+use Rattle.zf_tree.specs.declared.symbol.Relation.TheVariants.{NotMember}
 use Rattle.zf_families.specs.Families.{IsRelation, IsPartialFunction, IsTotalFunction, IsPartialInjection, IsTotalInjection}
 use Rattle.zf_value.specs.declared.value.Value.{Value}
 use Rattle.zf_value.specs.declared.value.Outcome.{Outcome}

@@ -1,13 +1,13 @@
 -- What terms mean: the outcome of an expression and the truth of a predicate, as relations.
 -- They are total: an expression that typing rules out is undefined, and a predicate false.
 use Rattle.std.specs.Prelude.{◌≡◌, ◌⊎◌, pos, if◌then◌else◌, List, [], ◌∷◌, Option, Some, None}
-use Rattle.zf_scan.specs.declared.token.Constant.{Constant}
-use Rattle.zf_scan.specs.declared.token.Constant.TheVariants as constants
-use Rattle.zf_scan.specs.declared.token.Relation.{Relation}
+use Rattle.zf_tree.specs.declared.symbol.Constant.{Constant}
+use Rattle.zf_tree.specs.declared.symbol.Constant.TheVariants as constants
+use Rattle.zf_tree.specs.declared.symbol.Relation.{Relation}
 use Rattle.zf_term.specs.declared.extent.Infinite.{Infinite}
-use Rattle.zf_term.specs.declared.operator.Operator.TheVariants.{Connective}
-use Rattle.zf_term.specs.declared.operator.Unary.TheVariants.{Not}
-use Rattle.zf_term.specs.Extents.{direct, is_membership}
+use Rattle.zf_tree.specs.declared.operator.Operator.TheVariants.{Connective}
+use Rattle.zf_tree.specs.declared.operator.Unary.TheVariants.{Not}
+use Rattle.zf_extent.specs.Extents.{direct, is_membership}
 use Rattle.zf_term.specs.ResolvedTrees.{ResolvedTree, reference, number, constant, empty_set, bracket, listed, builder, unary, binary, chain, quantified, ResolvedTrees, no_terms, term, ResolvedLinks, no_links, link, Ranges, no_ranges, range, ResolvedPart, absent, present}
 use Rattle.zf_value.specs.declared.value.Value.{Value, Tuple}
 use Rattle.zf_value.specs.declared.value.Outcome.{Outcome}

@@ -1,9 +1,9 @@
 -- Truth in three values: atoms, connectives and quantifiers, with no order among their parts.
 use Rattle.std.specs.Prelude.{◌≡◌, ◌⊎◌, List}
-use Rattle.zf_scan.specs.declared.token.Connective.{Connective}
-use Rattle.zf_scan.specs.declared.token.Connective.TheVariants as connective
-use Rattle.zf_scan.specs.declared.token.Quantifier.{Quantifier}
-use Rattle.zf_scan.specs.declared.token.Quantifier.TheVariants as quantifier
+use Rattle.zf_tree.specs.declared.symbol.Connective.{Connective}
+use Rattle.zf_tree.specs.declared.symbol.Connective.TheVariants as connective
+use Rattle.zf_tree.specs.declared.symbol.Quantifier.{Quantifier}
+use Rattle.zf_tree.specs.declared.symbol.Quantifier.TheVariants as quantifier
 use Rattle.zf_value.specs.declared.value.Value.{Value}
 use Rattle.zf_value.specs.declared.value.Outcome.{Outcome}
 use Rattle.zf_value.specs.declared.value.Outcome.TheVariants as outcome

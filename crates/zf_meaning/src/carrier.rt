@@ -19,8 +19,8 @@ use crate::symbols::on_several;
 use std::alloc::{AllocError, Global};
 use zf_families::power::power;
 use zf_term::globals::{Entry, Globals};
-use zf_term::operator::Listed;
 use zf_term::ztype::ZType;
+use zf_tree::operator::Listed;
 use zf_value::value::Outcome;
 
 /// The set of all values of a type.

@@ -4,7 +4,7 @@ ghost use Rattle.zf_value.specs.declared.value.Truth as value;
 ghost use Rattle.zf_meaning.specs.Truths as spec;
 ghost use Rattle.zf_meaning.specs.Connected as connected;
 
-use zf_scan::token::{Connective, Quantifier};
+use zf_tree::symbol::{Connective, Quantifier};
 use zf_value::value::Truth;
 
 pub(crate) fn opposite(p: Truth) -> Truth

@@ -1,6 +1,6 @@
 //! Sets that are tested for members without being built.
 ghost use Rattle.std.specs.Prelude.{◌≡◌, ◌↔◌, IsTrue, IfOk};
-ghost use Rattle.zf_term.specs.Extents.{is_membership};
+ghost use Rattle.zf_extent.specs.Extents.{is_membership};
 ghost use Rattle.zf_value.specs.declared.value.Outcome.TheVariants as outcome;
 ghost use Rattle.zf_meaning.specs.declared.described.Described.TheVariants as form;
 ghost use Rattle.zf_value.specs.Numbers.{number_of, OnNumbers, IsInterval};
@@ -25,7 +25,7 @@ use zf_families::injection::{
     are_partial_injections_out, are_total_injections_out, is_partial_injection, is_total_injection,
 };
 use zf_families::power::{is_in_power, is_power_out};
-use zf_scan::token::{Arrow, Relation};
+use zf_tree::symbol::{Arrow, Relation};
 use zf_value::lent::Lent;
 use zf_value::number::{is_in_interval, is_interval_out};
 use zf_value::set::is_member;

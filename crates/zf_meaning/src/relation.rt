@@ -8,8 +8,8 @@ ghost use Rattle.zf_meaning.specs.Symbols.{Compares, Holds, HoldsOf, IsIn};
 ghost use Rattle.zf_meaning.specs.Truths.{IsAtom, IsTest};
 
 use crate::found::Found;
-use zf_scan::token::Relation;
 use zf_term::extent::Infinite;
+use zf_tree::symbol::Relation;
 use zf_value::set::{are_among, is_member};
 use zf_value::value::{Truth, Value};
 

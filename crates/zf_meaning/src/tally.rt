@@ -2,7 +2,7 @@
 ghost use Rattle.std.specs.Prelude.{◌≡◌};
 ghost use Rattle.zf_meaning.specs.Tallies as spec;
 
-use zf_scan::token::Quantifier;
+use zf_tree::symbol::Quantifier;
 use zf_value::value::Truth;
 
 /// Which truths rows have: whether one is true, whether a second is, whether one is false, whether one is out.

@@ -3,11 +3,11 @@ use Rattle.std.proofs.Common.{◌≡◌, ◌⊎◌, inl, inr, ℕ, ◌+◌, Bool
 use Rattle.std.specs.Prelude.{if◌then◌else◌}
 use Rattle.std.proofs.lemmas.Option.{none-some}
 use Rattle.std.specs.Str.{bytes_eq}
-use Rattle.zf_text.specs.declared.tree.Name.{Name}
+use Rattle.zf_tree.specs.declared.tree.Name.{Name}
 use Rattle.zf_term.specs.FirstNamed.{first_named, later}
 use Rattle.zf_term.specs.Definitions.{Defined, constructor}
 use Rattle.zf_term.proofs.SameNames.{is_itself}
-use Rattle.zf_type.specs.Scopes.{spelling}
+use Rattle.zf_tree.specs.Names.{spelling}
 use Rattle.zf_schema.specs.Checking.{with_global, Constructs}
 use Rattle.zf_texts.specs.Clear.{IsNoneOf, AreApart}
 

@@ -4,11 +4,11 @@ use Rattle.std.proofs.lemmas.List.Concat.{flat_map-cons}
 use Rattle.zf_scan.specs.declared.token.Kind.{Kind}
 use Rattle.zf_scan.specs.declared.token.Kind.TheVariants as k
 use Rattle.zf_scan.specs.Separators.{Symbol, separator, reduced}
-use Rattle.zf_text.specs.declared.tree.Name.{Name}
+use Rattle.zf_tree.specs.declared.tree.Name.{Name}
 use Rattle.zf_text.specs.Parsing.{ReadsSource}
 use Rattle.zf_text.specs.Spelling.{PartedBy, SpellsName, SpellsParagraph, SpellsBoxes}
-use Rattle.zf_text.specs.Trees.{ParagraphTree, given, free, abbreviation, definition, BoxTree, zed, schema_box}
-use Rattle.zf_type.specs.Scopes.{spelling}
+use Rattle.zf_tree.specs.Trees.{ParagraphTree, given, free, abbreviation, definition, BoxTree, zed, schema_box}
+use Rattle.zf_tree.specs.Names.{spelling}
 use Rattle.zf_schema.specs.Checking.{Item, a_paragraph, a_box, items_in, items}
 use Rattle.zf_schema.specs.Runs.{elements}
 use Rattle.zf_texts.specs.Clear.{IsName, AreNames}

@@ -1,7 +1,7 @@
 -- What is claimed of the names of a text.
 use Rattle.std.specs.Prelude.{ℕ, List}
 use Rattle.zf_text.specs.Parsing.{ReadsSource}
-use Rattle.zf_text.specs.Trees.{BoxTree}
+use Rattle.zf_tree.specs.Trees.{BoxTree}
 use Rattle.zf_term.specs.Definitions.{Defined}
 use Rattle.zf_type.specs.declared.fault.TypeFault.{TypeFault}
 use Rattle.zf_schema.specs.Checking.{IsChecked}

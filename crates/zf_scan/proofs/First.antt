@@ -8,13 +8,12 @@ use Rattle.std.proofs.Math.Numerals.{one-add}
 use Rattle.std.proofs.lemmas.Bool.Decides.{nat_tests}
 use Rattle.zf_scan.specs.declared.fault.TextFaultKind.TheVariants as faults
 use Rattle.zf_scan.specs.declared.token.Kind.TheVariants.{BeginZed, BeginSchema}
-use Rattle.zf_scan.specs.Steps.{Found}
+use Rattle.zf_scan.specs.Steps.{Found, run_len, begins, plain, comment_found, base_len, has_no_name, schema_found, other_opening_found, opening_found, outside_found}
 use Rattle.zf_scan.specs.declared.pieces.Piece.{Piece}
 use Rattle.zf_scan.specs.declared.pieces.Piece.TheVariants.{Plain, Symbol, Refused}
 use Rattle.zf_scan.specs.declared.pieces.Run.TheVariants.{Base, Line}
 use Rattle.zf_scan.specs.Pieces.{is_letter, is_run, look_up, symbols, openings, is_base, OutsideKind, opening, schema, escape, remark, informal, SpellsOutside, turn}
 use Rattle.zf_scan.specs.Cuts.{StandsOutside}
-use Rattle.zf_scan.specs.Steps.{run_len, begins, plain, comment_found, base_len, has_no_name, schema_found, other_opening_found, opening_found, outside_found}
 use Rattle.zf_scan.proofs.Runs.{and_left, and_right, run_le, run_exact, run_within}
 use Rattle.zf_scan.proofs.Texts.{pick, eq_is, both, front_is, back_is, taken, front_le, head_is, tail_is, begins_is, is_begun, bytes_same}
 use Rattle.zf_scan.proofs.Table.{hit}

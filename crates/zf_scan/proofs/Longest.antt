@@ -5,13 +5,12 @@ use Rattle.std.proofs.Math.Numerals.{one-add}
 use Rattle.std.proofs.Math.Seq.{take-add}
 use Rattle.std.proofs.lemmas.Bool.Decides.{nat_tests}
 use Rattle.zf_scan.specs.declared.fault.TextFaultKind.TheVariants as faults
-use Rattle.zf_scan.specs.Steps.{Found}
+use Rattle.zf_scan.specs.Steps.{Found, run_len, begins, found, or_else, base_len, strokes_len, word_len, name_of, word_found, symbol_len, symbol_found}
 use Rattle.zf_scan.specs.declared.pieces.Piece.{Piece}
 use Rattle.zf_scan.specs.declared.pieces.Piece.TheVariants.{Symbol, Refused}
 use Rattle.zf_scan.specs.declared.pieces.Run.TheVariants.{Digits, Base, Strokes, Line}
 use Rattle.zf_scan.specs.Pieces.{is_letter, is_digit, is_one, is_two, is_run, look_up, symbols, IsComment, comment, is_base, is_number, number, InsideKind, fixed, closing, remark, name, numeral, unknown, SpellsInside}
 use Rattle.zf_scan.specs.Cuts.{StandsInside}
-use Rattle.zf_scan.specs.Steps.{run_len, begins, found, or_else, base_len, strokes_len, word_len, name_of, word_found, symbol_len, symbol_found}
 use Rattle.zf_scan.proofs.Runs.{and_left, and_right, run_le, run_exact, run_all, run_within, run_len-one}
 use Rattle.zf_scan.proofs.Texts.{pick, eq_is, both, back_is, taken, front_le, head_is, tail_is, begins_is, is_begun, bytes_same}
 use Rattle.zf_scan.proofs.Table.{row_fits, fits_symbol, listed_fits}

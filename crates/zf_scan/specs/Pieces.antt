@@ -10,13 +10,13 @@ use Rattle.zf_scan.specs.declared.pieces.Run.TheVariants.{Letters, Digits, Base,
 use Rattle.zf_scan.specs.declared.fault.TextFaultKind.TheVariants as faults
 use Rattle.zf_scan.specs.declared.token.Kind.TheVariants.{BeginZed, BeginSchema, EndBox, Name, Number, Separator, OpenRound, CloseRound, OpenSquare, CloseSquare, OpenBrace, CloseBrace, OpenImage, CloseImage, Comma, Colon, Bar, At, Abbreviates, FreeType, Defines, Where, Infix, Arrow, Cross, Prefix, Inverse, Constant, EmptySet, Relation, Not, Connective, Quantifier, Delta, Xi}
 use Rattle.zf_scan.specs.declared.token.Separator.TheVariants as separators
-use Rattle.zf_scan.specs.declared.token.Infix.TheVariants as infixes
-use Rattle.zf_scan.specs.declared.token.Arrow.TheVariants as arrows
-use Rattle.zf_scan.specs.declared.token.Prefix.TheVariants as prefixes
-use Rattle.zf_scan.specs.declared.token.Constant.TheVariants as constants
-use Rattle.zf_scan.specs.declared.token.Relation.TheVariants as relations
-use Rattle.zf_scan.specs.declared.token.Connective.TheVariants as connectives
-use Rattle.zf_scan.specs.declared.token.Quantifier.TheVariants as quantifiers
+use Rattle.zf_tree.specs.declared.symbol.Infix.TheVariants as infixes
+use Rattle.zf_tree.specs.declared.symbol.Arrow.TheVariants as arrows
+use Rattle.zf_tree.specs.declared.symbol.Prefix.TheVariants as prefixes
+use Rattle.zf_tree.specs.declared.symbol.Constant.TheVariants as constants
+use Rattle.zf_tree.specs.declared.symbol.Relation.TheVariants as relations
+use Rattle.zf_tree.specs.declared.symbol.Connective.TheVariants as connectives
+use Rattle.zf_tree.specs.declared.symbol.Quantifier.TheVariants as quantifiers
 
 -- ---- bytes
 

@@ -8,7 +8,8 @@ ghost use Rattle.zf_scan.specs.Sights.{seen};
 use crate::fault::TextFaultKind;
 use crate::next::Next;
 use crate::pieces::{Sight, same};
-use crate::token::{Arrow, Connective, Constant, Infix, Prefix, Quantifier, Relation, Separator};
+use crate::token::Separator;
+use zf_tree::symbol::{Arrow, Connective, Constant, Infix, Prefix, Quantifier, Relation};
 
 /// `\a..`
 pub fn commands_in_a(rest: &[u8]) -> Option<Sight>

@@ -5,9 +5,8 @@ ghost use Rattle.zf_scan.specs.Choosing as spec;
 ghost use Rattle.zf_scan.specs.Separators as separators;
 ghost use Rattle.zf_scan.specs.Sights.{kind_of};
 
-use crate::token::{
-    Arrow, Connective, Constant, Infix, Kind, Prefix, Quantifier, Relation, Separator,
-};
+use crate::token::{Kind, Separator};
+use zf_tree::symbol::{Arrow, Connective, Constant, Infix, Prefix, Quantifier, Relation};
 
 /// The next symbol, without its text.
 #[derive(Clone, Copy)]

@@ -9,6 +9,7 @@ use crate::next::Next;
 use crate::token::{Kind, Separator, Token};
 use std::alloc::{AllocError, Global};
 use zf_data::Text;
+use zf_tree::ends::{back, front};
 
 /// A symbol of a text. Its fields but `amount` are those of its token.
 #[derive(Clone, Copy)]
@@ -30,20 +31,6 @@ fn between(text: &[u8], start: usize, stop: usize) -> &[u8]
 {
     let behind = back(text, start);
     front(behind, stop.saturating_sub(start))
-}
-
-/// The bytes before a place.
-pub fn front(text: &[u8], len: usize) -> &[u8]
-    ensures { result.now ≡ take len text.now }
-{
-    text.split_at(len.min(text.len())).0
-}
-
-/// The bytes behind a place.
-pub fn back(text: &[u8], start: usize) -> &[u8]
-    ensures { result.now ≡ drop start text.now }
-{
-    text.split_at(start.min(text.len())).1
 }
 
 impl Placed {

@@ -10,7 +10,8 @@ use crate::commands as by_letter;
 use crate::fault::TextFaultKind;
 use crate::next::Next;
 use crate::pieces::{Sight, same};
-use crate::token::{Constant, Infix, Prefix, Relation, Separator};
+use crate::token::Separator;
+use zf_tree::symbol::{Constant, Infix, Prefix, Relation};
 
 /// The piece that a text spells, if it is of one spelling.
 pub fn fixed(text: &[u8]) -> Option<Sight>

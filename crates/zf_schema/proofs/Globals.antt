@@ -3,16 +3,16 @@ use Rattle.std.proofs.Common.{◌≡◌, ℕ, ◌+◌, Bool, true, false, if◌t
 use Rattle.std.proofs.lemmas.List.{append-nil, append_assoc}
 use Rattle.std.proofs.lemmas.Option.{none-some}
 use Rattle.std.specs.Str.{bytes_eq}
-use Rattle.zf_text.specs.declared.tree.Name.{Name}
-use Rattle.zf_text.specs.Trees.{ParagraphTree, given, free, definition}
-use Rattle.zf_text.specs.Trees as text
+use Rattle.zf_tree.specs.declared.tree.Name.{Name}
+use Rattle.zf_tree.specs.Trees.{ParagraphTree, given, free, definition}
+use Rattle.zf_tree.specs.Trees as text
 use Rattle.zf_term.specs.FirstNamed.{first_named, later}
 use Rattle.zf_term.specs.Definitions.{Defined, Definition, given_set, free_type, constructor, schema}
 use Rattle.zf_type.specs.declared.fault.TypeFault.{TypeFault}
 use Rattle.zf_type.specs.Resolving.{resolved}
-use Rattle.zf_type.specs.Scopes.{spelling}
+use Rattle.zf_tree.specs.Names.{spelling}
 use Rattle.zf_schema.specs.Checking.{Item, a_paragraph, a_box, items, IsNew, with_global, next_number, Gives, Constructs, DefinesParagraph, Defines, ChecksOne, Checks, abbreviated}
-use Rattle.zf_calculus.specs.Expressions.{outside}
+use Rattle.zf_schema.specs.Expressions.{outside}
 use Rattle.zf_schema.specs.SchemaLaws.{AreDefinedOnce, HasCompsOnce, HaveCompsOnce, GlobalsKept, NamesOnce}
 use Rattle.zf_term.proofs.SameNames.{swapped}
 use Rattle.zf_schema.proofs.Once.{schema_once, text_once}

@@ -2,15 +2,15 @@
 use Rattle.std.proofs.Common.{◌≡◌, ℕ, ◌+◌, ◌≤◌, List, [], ◌∷◌, length, map, Result, Ok, Err, OnOk, is_err, false, ap, arith, true≢false}
 use Rattle.std.proofs.lemmas.Grind.{common_steps}
 use Rattle.std.proofs.lemmas.List.Sums.{sum_by-cons}
-use Rattle.zf_text.specs.declared.tree.Name.{Name}
-use Rattle.zf_text.specs.Trees.{ParagraphTree, given, free, definition}
-use Rattle.zf_text.specs.Trees as text
+use Rattle.zf_tree.specs.declared.tree.Name.{Name}
+use Rattle.zf_tree.specs.Trees.{ParagraphTree, given, free, definition}
+use Rattle.zf_tree.specs.Trees as text
 use Rattle.zf_term.specs.Definitions.{Defined, Definition, given_set, free_type, constructor, abbreviation, schema}
 use Rattle.zf_term.specs.Numbers.{has_elements, next_number}
 use Rattle.zf_type.specs.Resolving.{resolved}
-use Rattle.zf_type.specs.Scopes.{spelling}
+use Rattle.zf_tree.specs.Names.{spelling}
 use Rattle.zf_schema.specs.Checking.{with_global, abbreviated, Gives, Constructs, DefinesParagraph}
-use Rattle.zf_calculus.specs.Expressions.{outside}
+use Rattle.zf_schema.specs.Expressions.{outside}
 use Rattle.zf_schema.specs.Runs.{elements}
 
 at_most_one : (d : Definition) → has_elements d ≤ 1

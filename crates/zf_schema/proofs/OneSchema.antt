@@ -1,9 +1,9 @@
 -- A schema expression, and each of its parts, is one schema at most.
 use Rattle.std.proofs.Common.{◌≡◌, ℕ, List, [], ◌∷◌, Some, sym, ap, ◌∙◌, subst}
 use Rattle.std.proofs.lemmas.Option.{same_Some}
-use Rattle.zf_text.specs.declared.tree.Name.{Name}
-use Rattle.zf_text.specs.declared.tree.SchemaRef.{SchemaRef}
-use Rattle.zf_text.specs.Trees.{Tree, DeclTree, vars, include, SchemaTree, schema_text, reference, both, either, schema_bracket}
+use Rattle.zf_tree.specs.declared.tree.Name.{Name}
+use Rattle.zf_tree.specs.declared.tree.SchemaRef.{SchemaRef}
+use Rattle.zf_tree.specs.Trees.{Tree, DeclTree, vars, include, SchemaTree, schema_text, reference, both, either, schema_bracket}
 use Rattle.zf_term.specs.FirstNamed.{first_named}
 use Rattle.zf_term.specs.Definitions.{Comp, Schema, DeclaredSet, plain, Defined, schema}
 use Rattle.zf_term.specs.ResolvedTrees.{ResolvedTree}
@@ -11,10 +11,11 @@ use Rattle.zf_term.specs.Shapes.{conjuncts}
 use Rattle.zf_term.specs.Types.{Ty}
 use Rattle.zf_type.specs.Resolving.{resolved}
 use Rattle.zf_type.specs.Rules.{set_of}
-use Rattle.zf_type.specs.Scopes.{spelling}
+use Rattle.zf_tree.specs.Names.{spelling}
 use Rattle.zf_type.proofs.OneSort.{same_set, one_sort}
 use Rattle.zf_calculus.specs.Calculus.{comp, nothing, conjoined, decorated, marked, disjoined}
-use Rattle.zf_calculus.specs.Expressions.{outside, inside, Refers, Adds, AddsAll, Includes, DeclaresOne, Declares, TakesAll, ConstrainsOne, Constrains, IsText, IsSchema}
+use Rattle.zf_schema.specs.Expressions.{outside, inside, Refers, AddsAll, DeclaresOne, Declares, TakesAll, ConstrainsOne, Constrains, IsText, IsSchema}
+use Rattle.zf_calculus.specs.Steps.{Adds, Includes}
 
 -- ---- the base of a reference
 

@@ -1,25 +1,25 @@
 -- What a text defines, and the faults of its paragraphs and boxes.
 use Rattle.std.specs.Prelude.{◌≡◌, ◌⊎◌, ℕ, ◌+◌, List, [], ◌∷◌, ◌++◌, map, flat_map, None}
-use Rattle.zf_text.specs.declared.tree.Name.{Name}
-use Rattle.zf_text.specs.Trees.{Tree, DeclTree, ParagraphTree, given, free, definition, BoxTree, zed, schema_box}
-use Rattle.zf_text.specs.Trees as text
+use Rattle.zf_tree.specs.declared.tree.Name.{Name}
+use Rattle.zf_tree.specs.Trees.{Tree, DeclTree, ParagraphTree, given, free, definition, BoxTree, zed, schema_box}
+use Rattle.zf_tree.specs.Trees as text
 use Rattle.zf_term.specs.FirstNamed.{first_named}
-use Rattle.zf_term.specs.declared.operator.Need.TheVariants as need
+use Rattle.zf_tree.specs.declared.operator.Need.TheVariants as need
 use Rattle.zf_term.specs.Definitions.{Schema, Defined, Definition, given_set, free_type, constructor, abbreviation, schema}
 pub use Rattle.zf_term.specs.Numbers.{has_elements, next_number}
-use Rattle.zf_term.specs.Extents.{extent_of}
+use Rattle.zf_extent.specs.Extents.{extent_of}
 use Rattle.zf_term.specs.ResolvedTrees.{ResolvedTree}
 use Rattle.zf_term.specs.Types.{Ty}
 use Rattle.zf_type.specs.declared.fault.TypeFault.{TypeFault}
-use Rattle.zf_type.specs.declared.fault.TypeFaultKind.{TypeFaultKind}
-use Rattle.zf_type.specs.declared.fault.TypeFaultKind.TheVariants.{AlreadyDefined}
+use Rattle.zf_term.specs.declared.fault.TypeFaultKind.{TypeFaultKind}
+use Rattle.zf_term.specs.declared.fault.TypeFaultKind.TheVariants.{AlreadyDefined}
 use Rattle.zf_type.specs.Offences.{Offends}
 use Rattle.zf_type.specs.Resolving.{resolved}
 use Rattle.zf_type.specs.Rules.{typed}
-use Rattle.zf_type.specs.Scopes.{spelling}
+use Rattle.zf_tree.specs.Names.{spelling}
 use Rattle.zf_type.specs.Typing.{IsOf}
-use Rattle.zf_calculus.specs.Expressions.{outside, IsText, IsSchema}
-use Rattle.zf_calculus.specs.SchemaOffences.{OffendsText, OffendsSchema}
+use Rattle.zf_schema.specs.Expressions.{outside, IsText, IsSchema}
+use Rattle.zf_schema.specs.SchemaOffences.{OffendsText, OffendsSchema}
 
 -- a paragraph, or a schema box
 pub data Item : Type 0 where

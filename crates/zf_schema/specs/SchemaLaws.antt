@@ -1,20 +1,20 @@
 -- What holds of every schema expression, of every item and of every text.
 use Rattle.std.specs.Prelude.{◌≡◌, ℕ, List, [], ◌∷◌, ◌++◌, map, length, slice_get, Option, Some, None}
 use Rattle.std.specs.List.{AllByRecursion}
-use Rattle.zf_scan.specs.declared.token.Relation.TheVariants.{Equal}
-use Rattle.zf_text.specs.declared.tree.RefMark.TheVariants.{Xi}
-use Rattle.zf_text.specs.Trees.{SchemaTree, BoxTree}
+use Rattle.zf_tree.specs.declared.symbol.Relation.TheVariants.{Equal}
+use Rattle.zf_tree.specs.declared.tree.RefMark.TheVariants.{Xi}
+use Rattle.zf_tree.specs.Trees.{SchemaTree, BoxTree}
 use Rattle.zf_reference.specs.declared.reference.Reference.TheVariants.{Component}
 use Rattle.zf_term.specs.Definitions.{Comp, Schema, DeclaredSet, sides, sets_of, Defined, Definition, given_set, free_type, constructor, abbreviation, schema}
 use Rattle.zf_term.specs.ResolvedTrees.{reference, chain, no_links, link}
 use Rattle.zf_term.specs.FirstNamed.{or_else}
 use Rattle.zf_term.specs.Types.{Ty}
 use Rattle.zf_type.specs.declared.fault.TypeFault.{TypeFault}
-use Rattle.zf_type.specs.declared.fault.TypeFaultKind.{TypeFaultKind}
+use Rattle.zf_term.specs.declared.fault.TypeFaultKind.{TypeFaultKind}
 use Rattle.zf_calculus.specs.Calculus.{EachOnce, AreOnce, comp, comp_named, Agree, with_comps, new_place, conjoined, decorated, prime, delta, all_unchanged, xi, MarkAgrees, sets_on, disjoined}
 use Rattle.zf_schema.specs.Checking.{Item, Defines, OffendsItem, IsChecked}
-use Rattle.zf_calculus.specs.Expressions.{IsSchema}
-use Rattle.zf_calculus.specs.SchemaOffences.{OffendsSchema}
+use Rattle.zf_schema.specs.Expressions.{IsSchema}
+use Rattle.zf_schema.specs.SchemaOffences.{OffendsSchema}
 
 -- a schema expression is one schema at most
 abbrev pub OneSchema : Type 0

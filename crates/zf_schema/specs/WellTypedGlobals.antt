@@ -1,16 +1,16 @@
 -- What the globals of a text hold is well typed: each of them is made by the rules from those before it, and what is kept with it stays true.
 use Rattle.std.specs.Prelude.{◌≡◌, ℕ, ◌+◌, List, length, take, slice_get, Some}
-use Rattle.zf_text.specs.Trees.{Tree, SchemaTree, BoxTree}
+use Rattle.zf_tree.specs.Trees.{Tree, SchemaTree, BoxTree}
 use Rattle.zf_term.specs.declared.extent.Extent.{Extent}
 use Rattle.zf_term.specs.Definitions.{Defined, Definition, given_set, free_type, constructor, abbreviation, schema}
-use Rattle.zf_term.specs.Extents.{extent_of}
+use Rattle.zf_extent.specs.Extents.{extent_of}
 use Rattle.zf_term.specs.ResolvedTrees.{ResolvedTree}
 use Rattle.zf_term.specs.Types.{Ty}
 use Rattle.zf_type.specs.declared.fault.TypeFault.{TypeFault}
 use Rattle.zf_type.specs.Resolving.{resolved}
 use Rattle.zf_type.specs.Rules.{typed}
 use Rattle.zf_type.specs.Typing.{IsOf}
-use Rattle.zf_calculus.specs.Expressions.{outside, IsSchema}
+use Rattle.zf_schema.specs.Expressions.{outside, IsSchema}
 use Rattle.zf_schema.specs.Checking.{next_number, IsChecked}
 
 -- the free type of this number and name is among the globals; it has this name at the place, and only that many globals stand behind it

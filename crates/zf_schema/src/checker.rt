@@ -1,6 +1,6 @@
 //! The checker: what a text defines, and what is wrong with it.
 ghost use Rattle.std.specs.Prelude.{◌≡◌, [], map, IfOk, OnOk};
-ghost use Rattle.zf_text.specs.Trees.{boxes_of, box_of, paragraph_of, decl_of, tree_of};
+ghost use Rattle.zf_tree.specs.Trees.{boxes_of, box_of, paragraph_of, decl_of, tree_of};
 ghost use Rattle.zf_term.specs.Definitions.{globals_of};
 ghost use Rattle.zf_term.specs.Numbers.{next_number};
 ghost use Rattle.zf_schema.specs.Checking.{a_paragraph, a_box, items_in, IsChecked};
@@ -13,7 +13,7 @@ use std::alloc::{AllocError, Global};
 use zf_data::Items;
 use zf_data::arena::{Boxed, Items as ArenaItems};
 use zf_term::globals::Globals;
-use zf_text::tree::{Decl, Name, Paragraph, Spec, Term, ZBox};
+use zf_tree::tree::{Decl, Name, Paragraph, Spec, Term, ZBox};
 use zf_type::fault::{Refusal, TypeFault};
 use zf_type::slate::Slate;
 

@@ -1,16 +1,19 @@
 //! The schemas that schema expressions are.
 ghost use Rattle.std.specs.Prelude.{◌≡◌, IfErr, IfOk, map};
-ghost use Rattle.zf_text.specs.Trees as tree;
-ghost use Rattle.zf_text.specs.Trees.{decl_of};
+ghost use Rattle.zf_tree.specs.Trees as tree;
+ghost use Rattle.zf_tree.specs.Trees.{decl_of};
 ghost use Rattle.zf_term.specs.Definitions.{globals_of, schema_of};
 ghost use Rattle.zf_type.specs.Refusals.{IfFault};
 ghost use Rattle.zf_calculus.specs.Calculus.{Agree, conjoined, disjoined};
-ghost use Rattle.zf_calculus.specs.Expressions.{IsNext, IsSchema};
-ghost use Rattle.zf_calculus.specs.Growth.{CantConjoin, IsGrowing};
-ghost use Rattle.zf_calculus.specs.SchemaOffences as spec;
-ghost use Rattle.zf_calculus.specs.SchemaOffences.{OffendsSchema, StopsEither};
+ghost use Rattle.zf_schema.specs.Expressions.{IsSchema};
+ghost use Rattle.zf_calculus.specs.Steps.{IsNext};
+ghost use Rattle.zf_calculus.specs.Growth.{IsGrowing};
+ghost use Rattle.zf_schema.specs.Refusing.{CantConjoin};
+ghost use Rattle.zf_schema.specs.SchemaOffences as spec;
+ghost use Rattle.zf_schema.specs.SchemaOffences.{OffendsSchema, StopsEither};
 
 use crate::reference::referred;
+use crate::stop::refusal;
 use crate::text::growing_text;
 use bumpalo::Bump;
 use zf_calculus::disjunction::disjoin;
@@ -18,7 +21,7 @@ use zf_calculus::growing::Growing;
 use zf_calculus::spare::Spare;
 use zf_calculus::stop::Stop;
 use zf_term::globals::{Flat, Globals};
-use zf_text::tree::{Decl, Name, SchemaExp};
+use zf_tree::tree::{Decl, Name, SchemaExp};
 use zf_type::fault::Refusal;
 use zf_type::slate::Slate;
 
@@ -36,7 +39,7 @@ pub fn schema_of_expression<'a>(
 }
 
 /// The same schema, with what is left of the limits.
-#[tactic(auto, using(zf_text::proofs::SchemaSeen::seen))]
+#[tactic(auto, using(zf_tree::proofs::SchemaSeen::seen))]
 fn growing_schema<'a>(
     exp: &'a SchemaExp<'a>,
     arena: &'a Bump,
@@ -93,7 +96,7 @@ fn conjunction<'a>(
     let mut whole = left;
     match whole.include(arena, right) {
         Ok(()) => Ok(whole),
-        Err(stop) => Err(stop.refusal(line)),
+        Err(stop) => Err(refusal(stop, line)),
     }
 }
 
@@ -112,13 +115,13 @@ fn disjunction<'a>(
 {
     match disjoin(arena, line, left, right) {
         Ok(growing) => Ok(growing),
-        Err(Stop::Clash) => Err(Stop::Clash.refusal(name)),
-        Err(stop) => Err(stop.refusal(line)),
+        Err(Stop::Clash) => Err(refusal(Stop::Clash, name)),
+        Err(stop) => Err(refusal(stop, line)),
     }
 }
 
 /// The line of the first name.
-#[tactic(auto, using(zf_text::proofs::SchemaSeen::seen))]
+#[tactic(auto, using(zf_tree::proofs::SchemaSeen::seen))]
 fn name_line(exp: &SchemaExp<'_>) -> u32
     ensures { result ≡ spec.name_line (tree.schema_of exp.now) }
 {

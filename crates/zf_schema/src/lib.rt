@@ -7,6 +7,7 @@ pub mod laws;
 pub mod listing;
 mod paragraph;
 mod reference;
+mod stop;
 mod text;
 
 pub use expression::schema_of_expression;

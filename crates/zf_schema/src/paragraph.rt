@@ -1,8 +1,8 @@
 //! What a paragraph or box adds to the globals.
 ghost use Rattle.std.specs.Prelude.{◌≡◌, ◌<◌, ◌^◌, map, length, take, IfOk, IfErr, OnOk, OnErr};
-ghost use Rattle.zf_text.specs.Trees.{paragraph_of, schema_of, decl_of, tree_of};
-ghost use Rattle.zf_text.specs.Trees as text;
-ghost use Rattle.zf_term.specs.declared.operator.Need.TheVariants as need;
+ghost use Rattle.zf_tree.specs.Trees.{paragraph_of, schema_of, decl_of, tree_of};
+ghost use Rattle.zf_tree.specs.Trees as text;
+ghost use Rattle.zf_tree.specs.declared.operator.Need.TheVariants as need;
 ghost use Rattle.zf_term.specs.Definitions.{definition_of, globals_of};
 ghost use Rattle.zf_term.specs.Numbers.{next_number};
 ghost use Rattle.zf_term.specs.Types.{Ty};
@@ -10,9 +10,9 @@ ghost use Rattle.zf_type.specs.Offences.{Offends};
 ghost use Rattle.zf_type.specs.Resolving.{resolved};
 ghost use Rattle.zf_type.specs.Rules.{typed};
 ghost use Rattle.zf_type.specs.Typing.{IsOf};
-ghost use Rattle.zf_calculus.specs.Expressions.{outside};
+ghost use Rattle.zf_schema.specs.Expressions.{outside};
 ghost use Rattle.zf_type.specs.Refusals.{IfFault};
-ghost use Rattle.zf_type.specs.Scopes.{spelling};
+ghost use Rattle.zf_tree.specs.Names.{spelling};
 ghost use Rattle.zf_schema.specs.Runs as spec;
 ghost use Rattle.zf_schema.specs.Checking.{IsNew, with_global, abbreviated, Gives, Constructs, DefinesParagraph, Defines, a_box, IsTaken, OffendsGiven, OffendsConstructors, OffendsParagraph, OffendsItem};
 
@@ -21,11 +21,13 @@ use crate::text::{scope_over, text_of};
 use bumpalo::Bump;
 use std::alloc::AllocError;
 use zf_data::arena::{Boxed, Items, Lent, Shared};
+use zf_extent::infinite::extent_of;
+use zf_resolved::kept::resolved;
+use zf_term::fault::TypeFaultKind;
 use zf_term::globals::{Entry, Globals};
-use zf_term::infinite::extent_of;
-use zf_term::operator::Need;
-use zf_text::tree::{Decl, Name, Paragraph, SchemaExp, Term};
-use zf_type::fault::{Refusal, TypeFaultKind, refused};
+use zf_tree::operator::Need;
+use zf_tree::tree::{Decl, Name, Paragraph, SchemaExp, Term};
+use zf_type::fault::{Refusal, refused};
 use zf_type::judge::judge;
 use zf_type::slate::Slate;
 
@@ -242,7 +244,7 @@ fn abbreviation_of<'a>(
     let Some(ztype) = judged.sort.into_type() else {
         unreachable!();
     };
-    let term = judged.term.resolved(arena)?;
+    let term = resolved(&judged.term, arena)?;
     let extent = extent_of(&term, globals);
     Ok(Entry::Abbrev(ztype, term, extent))
 }

@@ -3,18 +3,21 @@ ghost use Rattle.std.specs.Prelude.{◌≡◌, ◌⊎◌, ℕ, IfErr, IfOk, Matc
 ghost use Rattle.zf_term.specs.Definitions.{Defined, definition_of, globals_of, schema, schema_of};
 ghost use Rattle.zf_term.specs.FirstNamed.{first_named};
 ghost use Rattle.zf_type.specs.Refusals.{IfFault};
-ghost use Rattle.zf_calculus.specs.Expressions.{Refers};
-ghost use Rattle.zf_calculus.specs.Growth.{IsGrowing, IsNamed, LacksSchema};
-ghost use Rattle.zf_calculus.specs.SchemaOffences.{IsNoSchema, OffendsRef};
+ghost use Rattle.zf_schema.specs.Expressions.{Refers};
+ghost use Rattle.zf_calculus.specs.Growth.{IsGrowing};
+ghost use Rattle.zf_schema.specs.Refusing.{IsNamed, LacksSchema};
+ghost use Rattle.zf_schema.specs.SchemaOffences.{IsNoSchema, OffendsRef};
 
+use crate::stop::refusal;
 use bumpalo::Bump;
 use zf_calculus::growing::Growing;
 use zf_calculus::marking::{decorate_own, marked};
 use zf_calculus::spare::Spare;
+use zf_term::fault::TypeFaultKind;
 use zf_term::globals::{Entry, Flat, Globals};
-use zf_text::tree::SchemaRef;
-use zf_type::fault::{Refusal, TypeFaultKind, refused};
-use zf_type::scope::global_of;
+use zf_term::named::global_of;
+use zf_tree::tree::SchemaRef;
+use zf_type::fault::{Refusal, refused};
 
 /// The schema that is referred to, with what is left of the limits, and with room for what is expected of it.
 pub fn referred<'a>(
@@ -34,7 +37,7 @@ pub fn referred<'a>(
     };
     match marked(arena, reference.mark, name.line, flat, spare.behind(flat)) {
         Ok(growing) => Ok(decorate_own(arena, name.strokes(), growing)?),
-        Err(stop) => Err(stop.refusal(name.line)),
+        Err(stop) => Err(refusal(stop, name.line)),
     }
 }
 

@@ -1,24 +1,28 @@
 //! The schemas of boxes and of horizontal texts: declarations, and predicates over them.
 ghost use Rattle.std.specs.Prelude.{◌≡◌, ◌∷◌, [], IfErr, IfOk, OnOk, map};
-ghost use Rattle.zf_text.specs.Trees.{decl_of, include, tree_of, vars};
+ghost use Rattle.zf_tree.specs.Trees.{decl_of, include, tree_of, vars};
 ghost use Rattle.zf_term.specs.Definitions.{comp_of, globals_of, plain, schema_of};
 ghost use Rattle.zf_term.specs.Types.{type_of};
 ghost use Rattle.zf_term.specs.Written.{written_of};
-ghost use Rattle.zf_term.specs.declared.operator.Need.TheVariants as needs;
+ghost use Rattle.zf_tree.specs.declared.operator.Need.TheVariants as needs;
 ghost use Rattle.zf_type.specs.Offences.{Offends};
 ghost use Rattle.zf_type.specs.Refusals.{IfFault};
 ghost use Rattle.zf_type.specs.Resolving.{resolved};
 ghost use Rattle.zf_type.specs.Rules as rules;
 ghost use Rattle.zf_type.specs.Rules.{Meets, sort_of};
-ghost use Rattle.zf_type.specs.Scopes.{scope_of, spelling};
+ghost use Rattle.zf_type.specs.Scopes.{scope_of};
+ghost use Rattle.zf_tree.specs.Names.{spelling};
 ghost use Rattle.zf_type.specs.Typing.{IsOf};
 ghost use Rattle.zf_calculus.specs.Calculus.{comp};
-ghost use Rattle.zf_calculus.specs.Expressions.{Adds, AddsAll, ConstrainsOne, Constrains, Declares, DeclaresOne, IsNext, IsText, TakesAll};
-ghost use Rattle.zf_calculus.specs.Growth.{CantAdd, CantConstrain, CantDeclare, CantTake, IsGrowing, constrained, over};
-ghost use Rattle.zf_calculus.specs.SchemaOffences.{OffendsConjuncts, OffendsDecls, OffendsNames, OffendsPredicates, OffendsText};
+ghost use Rattle.zf_schema.specs.Expressions.{AddsAll, ConstrainsOne, Constrains, Declares, DeclaresOne, IsText, TakesAll};
+ghost use Rattle.zf_calculus.specs.Steps.{Adds, IsNext};
+ghost use Rattle.zf_calculus.specs.Growth.{IsGrowing, constrained};
+ghost use Rattle.zf_schema.specs.Refusing.{CantAdd, CantConstrain, CantDeclare, CantTake, over};
+ghost use Rattle.zf_schema.specs.SchemaOffences.{OffendsConjuncts, OffendsDecls, OffendsNames, OffendsPredicates, OffendsText};
 ghost use Rattle.zf_term.specs.Shapes as shape;
 
 use crate::reference::referred;
+use crate::stop::refusal;
 use bumpalo::Bump;
 use std::alloc::AllocError;
 use zf_calculus::growing::Growing;
@@ -27,10 +31,10 @@ use zf_calculus::spare::Spare;
 use zf_data::arena::{Boxed, Items, Lasting, Shared};
 use zf_term::conjunct::{Conjunct, Statement};
 use zf_term::globals::{Component, Domain, Flat, Globals};
-use zf_term::operator::Need;
 use zf_term::written::Written;
 use zf_term::ztype::ZType;
-use zf_text::tree::{Decl, Name, SchemaRef, Term};
+use zf_tree::operator::Need;
+use zf_tree::tree::{Decl, Name, SchemaRef, Term};
 use zf_type::conjuncts::push_conjuncts;
 use zf_type::fault::Refusal;
 use zf_type::judge::{Judged, judge};
@@ -173,7 +177,7 @@ fn include<'a>(
     let other = referred(arena, globals, reference, room_of(growing, spare))?;
     match growing.include(arena, other) {
         Ok(()) => Ok(()),
-        Err(stop) => Err(stop.refusal(reference.name.line)),
+        Err(stop) => Err(refusal(stop, reference.name.line)),
     }
 }
 
@@ -221,7 +225,7 @@ fn add<'a>(
     let component = declared(arena, name, ztype, set)?;
     match growing.add(component) {
         Ok(()) => Ok(()),
-        Err(stop) => Err(stop.refusal(name.line)),
+        Err(stop) => Err(refusal(stop, name.line)),
     }
 }
 
@@ -370,6 +374,6 @@ fn take<'a>(
     let line = conjunct.line();
     match growing.take(Conjunct::of(arena, Statement::Written(conjunct))?) {
         Ok(()) => Ok(()),
-        Err(stop) => Err(stop.refusal(line)),
+        Err(stop) => Err(refusal(stop, line)),
     }
 }

@@ -1,11 +1,11 @@
 -- What each form of resolved term is seen as.
 use Rattle.std.proofs.Common.{◌≡◌, ℕ, List, map, Option, Some, None, sym, ap, ◌∙◌}
-use Rattle.zf_scan.specs.declared.token.Constant.{Constant}
-use Rattle.zf_scan.specs.declared.token.Quantifier.{Quantifier}
-use Rattle.zf_scan.specs.declared.token.Relation.{Relation}
-use Rattle.zf_term.specs.declared.operator.Listed.{Listed}
-use Rattle.zf_term.specs.declared.operator.Operator.{Operator}
-use Rattle.zf_term.specs.declared.operator.Unary.{Unary}
+use Rattle.zf_tree.specs.declared.symbol.Constant.{Constant}
+use Rattle.zf_tree.specs.declared.symbol.Quantifier.{Quantifier}
+use Rattle.zf_tree.specs.declared.symbol.Relation.{Relation}
+use Rattle.zf_tree.specs.declared.operator.Listed.{Listed}
+use Rattle.zf_tree.specs.declared.operator.Operator.{Operator}
+use Rattle.zf_tree.specs.declared.operator.Unary.{Unary}
 use Rattle.zf_reference.specs.declared.reference.Reference.{Reference}
 use Rattle.zf_term.specs.declared.resolved.Resolved.{Resolved}
 use Rattle.zf_term.specs.declared.resolved.ResolvedLink.{ResolvedLink}

@@ -1,12 +1,11 @@
--- What each form of declared set is seen as, and the first of several.
-use Rattle.std.proofs.Common.{◌≡◌, ℕ, zero, suc, ◌+◌, ◌<◌, ◌≤◌, List, [], ◌∷◌, length, map, take, get_or, sym, ap, ◌∙◌, add-one, arith}
+-- What each form of declared set is seen as.
+use Rattle.std.proofs.Common.{◌≡◌, List, map, sym, ap, ◌∙◌}
 use Rattle.zf_term.specs.declared.globals.Domain.{Domain, roll-Domain, fold-roll-Domain, map-Domain}
 use Rattle.zf_term.specs.declared.globals.Domain.TheOpen.{Domain-F}
 use Rattle.zf_term.specs.declared.globals.Domain.TheVariants as v
 use Rattle.zf_term.specs.declared.written.Written.{Written}
 use Rattle.zf_term.specs.declared.ztype.ZType.{ZType}
 use Rattle.zf_term.specs.Definitions.{DeclaredSet, plain, carrier, sides, sets_of, set_of, domain_step}
-use Rattle.zf_term.specs.SetShapes.{set_count, set_nodes, all_set_counts, all_set_nodes}
 use Rattle.zf_term.specs.Types.{type_of}
 use Rattle.zf_term.specs.Written.{written_of}
 
@@ -24,29 +23,3 @@ pub of-Either : (left right : List Domain) → set_of (v.Either left right) ≡ 
 of-Either left right = ap set_of (sym (v.rolls-Either left right)) ∙ rolled (Domain-F.Either left right)
 
 pub ruleset seen = (of-Plain, of-Carrier, of-Either)
-
-pub counts_before : (xs : List Domain) (i : ℕ) (x : Domain) → x ≡ get_or xs i x → i < length xs → all_set_counts (map set_of (take i xs)) + set_count (set_of x) ≤ all_set_counts (map set_of xs)
-counts_before [] i x at l = absurd (omega arith)
-counts_before (y ∷ xs) zero x at l = omega (arith, ap (λ z. set_count (set_of z)) at)
-counts_before (y ∷ xs) (suc i) x at l = omega (arith, counts_before xs i x at (omega arith))
-
-pub nodes_before : (xs : List Domain) (i : ℕ) (x : Domain) → x ≡ get_or xs i x → i < length xs → all_set_nodes (map set_of (take i xs)) + set_nodes (set_of x) ≤ all_set_nodes (map set_of xs)
-nodes_before [] i x at l = absurd (omega arith)
-nodes_before (y ∷ xs) zero x at l = omega (arith, ap (λ z. set_nodes (set_of z)) at)
-nodes_before (y ∷ xs) (suc i) x at l = omega (arith, nodes_before xs i x at (omega arith))
-
-counts_next : (xs : List Domain) (i : ℕ) (x : Domain) → x ≡ get_or xs i x → i < length xs → all_set_counts (map set_of (take (suc i) xs)) ≡ all_set_counts (map set_of (take i xs)) + set_count (set_of x)
-counts_next [] i x at l = absurd (omega arith)
-counts_next (y ∷ xs) zero x at l = omega (arith, ap (λ z. set_count (set_of z)) at)
-counts_next (y ∷ xs) (suc i) x at l = omega (arith, counts_next xs i x at (omega arith))
-
-pub counts_more : (xs : List Domain) (i : ℕ) (x : Domain) → x ≡ get_or xs i x → i < length xs → all_set_counts (map set_of (take (i + 1) xs)) ≡ all_set_counts (map set_of (take i xs)) + set_count (set_of x)
-counts_more xs i x at l = rw add-one (counts_next xs i x at l)
-
-nodes_next : (xs : List Domain) (i : ℕ) (x : Domain) → x ≡ get_or xs i x → i < length xs → all_set_nodes (map set_of (take (suc i) xs)) ≡ all_set_nodes (map set_of (take i xs)) + set_nodes (set_of x)
-nodes_next [] i x at l = absurd (omega arith)
-nodes_next (y ∷ xs) zero x at l = omega (arith, ap (λ z. set_nodes (set_of z)) at)
-nodes_next (y ∷ xs) (suc i) x at l = omega (arith, nodes_next xs i x at (omega arith))
-
-pub nodes_more : (xs : List Domain) (i : ℕ) (x : Domain) → x ≡ get_or xs i x → i < length xs → all_set_nodes (map set_of (take (i + 1) xs)) ≡ all_set_nodes (map set_of (take i xs)) + set_nodes (set_of x)
-nodes_more xs i x at l = rw add-one (nodes_next xs i x at l)

@@ -2,12 +2,10 @@ pub mod Types
 pub mod TypeTexts
 pub mod ResolvedTrees
 pub mod Definitions
-pub mod Extents
 pub mod Shapes
 pub mod SetShapes
 pub mod Filling
 pub mod Written
 pub mod Numbers
-pub mod Operators
 pub mod FirstNamed
 pub mod TermLaws

@@ -1,14 +1,9 @@
 //! Conjuncts of schemas.
-ghost use Rattle.std.specs.Prelude.{◌≡◌, ◌+◌, ◌<◌, ◌≤◌, ◌↔◌, ℕ, IsTrue, IfOk, MatchOption};
-ghost use Rattle.zf_term.specs.Definitions.{conjunct_of, globals_of, statement_of};
-ghost use Rattle.zf_term.specs.Extents as extents;
-ghost use Rattle.zf_term.specs.ResolvedTrees.{resolved_of};
-ghost use Rattle.zf_term.specs.FirstNamed.{or_else};
+ghost use Rattle.std.specs.Prelude.{◌≡◌, ℕ, IfOk};
+ghost use Rattle.zf_term.specs.Definitions.{conjunct_of, statement_of};
 ghost use Rattle.zf_term.specs.Shapes as spec;
 ghost use Rattle.zf_reference.specs.Numbering as numbers;
 
-use crate::globals::Globals;
-use crate::infinite::offending_after;
 use crate::resolved::Resolved;
 use crate::written::Written;
 use bumpalo::Bump;
@@ -77,71 +72,6 @@ impl<'a> Conjunct<'a> {
         match self.statement.get() {
             Statement::Written(term) => term.line(),
             Statement::Made(term) => term.line(),
-        }
-    }
-
-    /// What is left of room for so many nodes, if the term has no more.
-    #[tactic(auto, using(crate::proofs::Renumbered::kept))]
-    pub fn room_after(&self, room: usize) -> Option<usize>
-        ensures { MatchOption result (room < spec.nodes (conjunct_of self.now)) (λ left. left + spec.nodes (conjunct_of self.now) ≡ room) }
-    {
-        match self.statement.get() {
-            Statement::Written(term) => term.room_after(room),
-            Statement::Made(term) => term.room_after(room),
-        }
-    }
-
-    /// Whether the term is no higher.
-    #[tactic(auto, using(crate::proofs::Renumbered::kept))]
-    pub fn is_within(&self, highest: usize) -> bool
-        ensures { IsTrue result ↔ spec.height (conjunct_of self.now) ≤ highest }
-    {
-        match self.statement.get() {
-            Statement::Written(term) => term.is_within(highest),
-            Statement::Made(term) => term.is_within(highest),
-        }
-    }
-
-    /// The line that was found before, or that of the first name in the conjunct that offends.
-    #[tactic(auto, using(crate::proofs::Renumbered::same_offences))]
-    pub fn offending_after(&self, found: Option<u32>, globals: &Globals<'a>) -> Option<u32>
-        ensures { result ≡ or_else found (extents.first (extents.offending (globals_of globals.now) (conjunct_of self.now))) }
-    {
-        match self.statement.get() {
-            Statement::Written(term) => term.offending_after(found, globals),
-            Statement::Made(term) => offending_after(term, found, globals),
-        }
-    }
-
-    /// The term, by the places in the schema.
-    pub fn resolved(&self, arena: &'a Bump) -> Result<Resolved<'a>, AllocError>
-        ensures { IfOk result (λ t. resolved_of t ≡ conjunct_of self.now) }
-    {
-        match &self.places {
-            None => self.statement.get().resolved(arena),
-            Some(places) => self.statement.get().moved(arena, places.get().as_slice()),
-        }
-    }
-}
-
-impl<'a> Statement<'a> {
-    /// The term of the statement.
-    fn resolved(&self, arena: &'a Bump) -> Result<Resolved<'a>, AllocError>
-        ensures { IfOk result (λ t. resolved_of t ≡ statement_of self.now) }
-    {
-        match self {
-            Statement::Written(term) => term.resolved(arena),
-            Statement::Made(term) => term.copy(arena),
-        }
-    }
-
-    /// The same, with its components numbered anew.
-    fn moved(&self, arena: &'a Bump, places: &[usize]) -> Result<Resolved<'a>, AllocError>
-        ensures { IfOk result (λ t. resolved_of t ≡ spec.moved (numbers.place_in places.now) (statement_of self.now)) }
-    {
-        match self {
-            Statement::Written(term) => term.resolved(arena)?.moved(arena, places),
-            Statement::Made(term) => term.moved(arena, places),
         }
     }
 }

@@ -1,9 +1,8 @@
 //! What a text defines.
-ghost use Rattle.std.specs.Prelude.{◌≡◌, ◌+◌, ◌++◌, ◌^◌, ◌<◌, ◌↔◌, ℕ, [], ◌∷◌, None, Some, IsTrue, IfOk, MatchOption, OnOk, OnErr, length, map, slice_get, take};
+ghost use Rattle.std.specs.Prelude.{◌≡◌, ◌++◌, ◌^◌, ◌<◌, ◌↔◌, ℕ, [], ◌∷◌, None, Some, IsTrue, IfOk, MatchOption, OnOk, OnErr, length, slice_get, take};
 ghost use Rattle.zf_term.specs.Definitions as spec;
-ghost use Rattle.zf_term.specs.Definitions.{definition_of, globals_of, schema_of, set_of};
+ghost use Rattle.zf_term.specs.Definitions.{definition_of, globals_of, schema_of};
 ghost use Rattle.zf_term.specs.FirstNamed.{first_named};
-ghost use Rattle.zf_term.specs.SetShapes.{set_count, set_nodes, all_set_counts, all_set_nodes};
 
 use crate::conjunct::Conjunct;
 use crate::extent::Extent;
@@ -76,64 +75,6 @@ impl<'a> Domain<'a> {
             Domain::Either(left, right) => Ok(Domain::Either(left.share()?, right.share()?)),
         }
     }
-
-    /// What is left of room for so many declared sets, if there are no more in this.
-    #[cycle(sets)]
-    #[tactic(auto, using(crate::proofs::SetsSeen::seen))]
-    pub fn room_after_sets(&self, room: usize) -> Option<usize>
-        ensures { MatchOption result (room < set_count (set_of self.now)) (λ left. left + set_count (set_of self.now) ≡ room) }
-    {
-        match self {
-            Domain::Plain(_) => room.checked_sub(1),
-            Domain::Carrier(_) => room.checked_sub(1),
-            Domain::Either(left, right) => room_after_all_sets(
-                right.get(),
-                room_after_all_sets(left.get(), room)?,
-            ),
-        }
-    }
-
-    /// What is left of room for so many nodes, if the terms in this have no more.
-    #[cycle(nodes)]
-    #[tactic(auto, using(crate::proofs::SetsSeen::seen))]
-    pub fn room_after_nodes(&self, room: usize) -> Option<usize>
-        ensures { MatchOption result (room < set_nodes (set_of self.now)) (λ left. left + set_nodes (set_of self.now) ≡ room) }
-    {
-        match self {
-            Domain::Plain(set) => set.get().room_after(room),
-            Domain::Carrier(_) => Some(room),
-            Domain::Either(left, right) => room_after_all_nodes(
-                right.get(),
-                room_after_all_nodes(left.get(), room)?,
-            ),
-        }
-    }
-}
-
-/// As for one declared set.
-#[cycle(sets)]
-#[tactic(auto, using(crate::proofs::SetsSeen::counts_before))]
-pub fn room_after_all_sets<'a>(domains: &Items<'a, Domain<'a>>, room: usize) -> Option<usize>
-    ensures { MatchOption result (room < all_set_counts (map set_of domains.now)) (λ left. left + all_set_counts (map set_of domains.now) ≡ room) }
-{
-    let mut left = room;
-    for domain in domains.as_slice() {
-        left = domain.room_after_sets(left)?;
-    }
-    Some(left)
-}
-
-/// As for one declared set.
-#[cycle(nodes)]
-#[tactic(auto, using(crate::proofs::SetsSeen::nodes_before))]
-pub fn room_after_all_nodes<'a>(domains: &Items<'a, Domain<'a>>, room: usize) -> Option<usize>
-    ensures { MatchOption result (room < all_set_nodes (map set_of domains.now)) (λ left. left + all_set_nodes (map set_of domains.now) ≡ room) }
-{
-    let mut left = room;
-    for domain in domains.as_slice() {
-        left = domain.room_after_nodes(left)?;
-    }
-    Some(left)
 }
 
 impl<'a> Component<'a> {

@@ -3,13 +3,12 @@
 
 pub mod conjunct;
 pub mod extent;
+pub mod fault;
 pub mod globals;
-pub mod infinite;
 pub mod laws;
-mod moving;
-pub mod operator;
+pub mod named;
 pub mod resolved;
-mod shapes;
+pub mod spelling;
 pub mod type_text;
 pub mod written;
 pub mod ztype;

@@ -1,8 +1,12 @@
 //! Resolved terms: terms in which each name says what it stands for.
-use crate::operator::{Listed, Operator, Unary};
+ghost use Rattle.std.specs.Prelude.{◌≡◌};
+ghost use Rattle.zf_term.specs.ResolvedTrees.{resolved_of};
+ghost use Rattle.zf_term.specs.Shapes as spec;
+
 use zf_data::arena::{Boxed, Items};
 use zf_reference::reference::Reference;
-use zf_scan::token::{Constant, Quantifier, Relation};
+use zf_tree::operator::{Listed, Operator, Unary};
+use zf_tree::symbol::{Constant, Quantifier, Relation};
 
 /// A part of a term that may be left out, in a box of its own: most terms have none, and stay small.
 pub type Part<'a> = Boxed<'a, Option<Boxed<'a, Resolved<'a>>>>;
@@ -48,4 +52,26 @@ pub struct ResolvedLink<'a> {
 pub struct Range<'a> {
     pub variables: usize,
     pub set: Resolved<'a>,
+}
+
+impl<'a> Resolved<'a> {
+    /// The line of the first token.
+    #[tactic(auto, using(crate::proofs::ResolvedSeen::seen))]
+    pub fn line(&self) -> u32
+        ensures { result ≡ spec.line_of (resolved_of self.now) }
+    {
+        match self {
+            Resolved::Name(line, _) => *line,
+            Resolved::Number(line, _) => *line,
+            Resolved::Constant(line, _) => *line,
+            Resolved::EmptySet(line, _) => *line,
+            Resolved::Bracket(line, _) => *line,
+            Resolved::Listed(line, _, _) => *line,
+            Resolved::Builder(line, _, _, _) => *line,
+            Resolved::Unary(line, _, _) => *line,
+            Resolved::Binary(line, _, _, _) => *line,
+            Resolved::Chain(line, _, _) => *line,
+            Resolved::Quantified(_, line, _, _, _) => *line,
+        }
+    }
 }

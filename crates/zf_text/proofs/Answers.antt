@@ -5,8 +5,8 @@ use Rattle.zf_scan.specs.declared.fault.TextFault.{TextFault}
 use Rattle.zf_scan.specs.declared.fault.TextFaultKind.{TextFaultKind}
 use Rattle.zf_scan.specs.declared.fault.TextFaultKind.TheVariants as fault
 use Rattle.zf_scan.specs.declared.token.Token.{Token}
-use Rattle.zf_text.specs.declared.tree.Spec.{Spec}
-use Rattle.zf_text.specs.declared.tree.ZBox.{ZBox}
+use Rattle.zf_tree.specs.declared.tree.Spec.{Spec}
+use Rattle.zf_tree.specs.declared.tree.ZBox.{ZBox}
 use Rattle.zf_text.specs.BoxReading.{read_all}
 use Rattle.zf_scan.specs.Cuts.{IsCutInto, IsWantOfMemory}
 use Rattle.zf_text.specs.Height.{highest, height_limit}
@@ -14,7 +14,7 @@ use Rattle.zf_text.specs.Parsing.{ReadsLow, Refuses, Parses, ReadsSpec, RefusesS
 use Rattle.zf_text.specs.Reads.{Reads}
 use Rattle.zf_scan.specs.Separators.{Symbol, reduced}
 use Rattle.zf_text.specs.TermReading.{Refused, TooDeep, Fails}
-use Rattle.zf_text.specs.Trees.{BoxTree, box_of}
+use Rattle.zf_tree.specs.Trees.{BoxTree, box_of}
 use Rattle.zf_text.proofs.BoxesRead.{AreRead, all_sound, all_answers}
 use Rattle.zf_text.proofs.TermSteps.{ok_pair}
 

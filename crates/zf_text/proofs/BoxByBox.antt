@@ -18,7 +18,7 @@ use Rattle.zf_scan.specs.Placing.{token_at}
 use Rattle.zf_scan.specs.Separators.{Symbol, canonical, symbol_of, is_separator, opens, closes, starts_closed, reduced, reduced_after}
 use Rattle.zf_scan.proofs.Laws.{cut_whole}
 use Rattle.zf_scan.proofs.Texts.{eq_is}
-use Rattle.zf_text.specs.declared.tree.ZBox.{ZBox}
+use Rattle.zf_tree.specs.declared.tree.ZBox.{ZBox}
 use Rattle.zf_text.specs.BoxByBox.{ReadsBox, RefusesBox, ReadsOneBox, SpellsUpTo, Later, AreSoFar, ReadsUpTo}
 use Rattle.zf_text.specs.BoxReading.{read_box, read_only}
 use Rattle.zf_text.specs.Height.{box_height, highest, height_limit}
@@ -28,7 +28,7 @@ use Rattle.zf_text.specs.Reading.{first, is_end}
 use Rattle.zf_text.specs.Reads.{Reads}
 use Rattle.zf_text.specs.Spelling.{SpellsBox, SpellsBoxes}
 use Rattle.zf_text.specs.TermReading.{Refused, TooDeep, Fails, Gives}
-use Rattle.zf_text.specs.Trees.{BoxTree, box_of}
+use Rattle.zf_tree.specs.Trees.{BoxTree, box_of}
 use Rattle.zf_text.proofs.Answers.{refuses_source}
 use Rattle.zf_text.proofs.Apart.{EndsOnce, box_before, box_apart}
 use Rattle.zf_text.proofs.BoxItems.{most_append}

@@ -10,13 +10,13 @@ use Rattle.zf_text.specs.declared.tall.Tall.{Tall}
 use Rattle.zf_scan.specs.declared.token.Kind.{Kind}
 use Rattle.zf_scan.specs.declared.token.Kind.TheVariants as k
 use Rattle.zf_scan.specs.declared.token.Separator.TheVariants.{Semicolon, NewLine, Also}
-use Rattle.zf_text.specs.declared.tree.Decl.{Decl}
-use Rattle.zf_text.specs.declared.tree.Decl.TheVariants as decl
-use Rattle.zf_text.specs.declared.tree.Name.{Name}
-use Rattle.zf_text.specs.declared.tree.RefMark.{RefMark}
-use Rattle.zf_text.specs.declared.tree.RefMark.TheVariants.{Plain, Delta, Xi}
-use Rattle.zf_text.specs.declared.tree.SchemaRef.{SchemaRef}
-use Rattle.zf_text.specs.declared.tree.Term.{Term}
+use Rattle.zf_tree.specs.declared.tree.Decl.{Decl}
+use Rattle.zf_tree.specs.declared.tree.Decl.TheVariants as decl
+use Rattle.zf_tree.specs.declared.tree.Name.{Name}
+use Rattle.zf_tree.specs.declared.tree.RefMark.{RefMark}
+use Rattle.zf_tree.specs.declared.tree.RefMark.TheVariants.{Plain, Delta, Xi}
+use Rattle.zf_tree.specs.declared.tree.SchemaRef.{SchemaRef}
+use Rattle.zf_tree.specs.declared.tree.Term.{Term}
 use Rattle.zf_text.specs.BoxReading.{items, new_ref, marked, ref_by, read_ref, variables, inclusion, is_declared, read_decl, read_decls, predicates}
 use Rattle.zf_text.specs.Height.{height, most, decl_height}
 use Rattle.zf_text.specs.Levels.{quantifier_level, expression_level, atom_level, IsAt, IsLevelled, DeclIsLevelled}
@@ -25,7 +25,7 @@ use Rattle.zf_text.specs.Reading.{first, rest, read_name, parted}
 use Rattle.zf_scan.specs.Separators.{Symbol, symbol, separator}
 use Rattle.zf_text.specs.Spelling.{Next, PartedBy, SpellsName, SpellsNames, Spells, SpellsMarked, SpellsRef, SpellsDecl, SpellsPredicates}
 use Rattle.zf_text.specs.TermReading.{Outcome, Refused, TooDeep, lift, expect, read_names, binds, tall, read_term}
-use Rattle.zf_text.specs.Trees.{Tree, DeclTree, vars, include, tree_of, decl_of}
+use Rattle.zf_tree.specs.Trees.{Tree, DeclTree, vars, include, tree_of, decl_of}
 use Rattle.zf_text.proofs.Marks as marks
 use Rattle.zf_text.proofs.Marks.{kind_of, seen, passed, next_shorter}
 use Rattle.zf_text.proofs.NamesRead.{name_shorter, names_shorter}

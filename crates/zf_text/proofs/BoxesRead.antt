@@ -6,9 +6,9 @@ use Rattle.zf_scan.specs.declared.next.Mark.TheVariants as mark
 use Rattle.zf_scan.specs.declared.token.Kind.{Kind}
 use Rattle.zf_scan.specs.declared.token.Kind.TheVariants as k
 use Rattle.zf_scan.specs.declared.token.Separator.TheVariants.{Semicolon, NewLine, Also}
-use Rattle.zf_text.specs.declared.tree.Name.{Name}
-use Rattle.zf_text.specs.declared.tree.ZBox.{ZBox}
-use Rattle.zf_text.specs.declared.tree.ZBox.TheVariants as zbox
+use Rattle.zf_tree.specs.declared.tree.Name.{Name}
+use Rattle.zf_tree.specs.declared.tree.ZBox.{ZBox}
+use Rattle.zf_tree.specs.declared.tree.ZBox.TheVariants as zbox
 use Rattle.zf_text.specs.BoxByBox.{SpellsUpTo}
 use Rattle.zf_text.specs.BoxReading.{items, read_decls, predicates, read_paragraph, read_zed, read_schema_box, box_by, read_box, boxes_from, read_boxes, read_all}
 use Rattle.zf_text.specs.Height.{height, most, decl_height, paragraph_height, box_height, highest}
@@ -18,7 +18,7 @@ use Rattle.zf_text.specs.Reading.{first, is_end, read_opening}
 use Rattle.zf_scan.specs.Separators.{Symbol, symbol, separator}
 use Rattle.zf_text.specs.Spelling.{Next, PartedBy, SpellsParagraph, SpellsBox, SpellsBoxes}
 use Rattle.zf_text.specs.TermReading.{Outcome, lift, expect, binds}
-use Rattle.zf_text.specs.Trees.{Tree, DeclTree, ParagraphTree, BoxTree, zed, schema_box, decl_of, tree_of, paragraph_of, box_of}
+use Rattle.zf_tree.specs.Trees.{Tree, DeclTree, ParagraphTree, BoxTree, zed, schema_box, decl_of, tree_of, paragraph_of, box_of}
 use Rattle.zf_text.proofs.Marks.{next_shorter}
 use Rattle.zf_text.proofs.NamesRead.{opening_ok}
 use Rattle.zf_text.proofs.TermSteps.{ok_pair, bind_ok, if_ok, if_cases, expect_ok, ok_expect}

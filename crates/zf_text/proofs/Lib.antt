@@ -5,7 +5,6 @@ pub mod Marks
 pub mod Parted
 pub mod Forms
 pub mod NamesRead
-pub mod TermSeen
 pub mod TermSteps
 pub mod TermTables
 pub mod TermParts
@@ -21,7 +20,6 @@ pub mod TermTurns
 pub mod TermsApart
 pub mod BoxItems
 pub mod BoxDecls
-pub mod SchemaSeen
 pub mod SchemaTurns
 pub mod SchemaExps
 pub mod ParagraphsRead

@@ -6,15 +6,15 @@ use Rattle.std.proofs.lemmas.Bool.{leb-true, leb-false}
 use Rattle.zf_scan.specs.declared.next.Mark.TheVariants as mark
 use Rattle.zf_scan.specs.declared.next.Next as code
 use Rattle.zf_text.specs.declared.tall.Tall.{Tall}
-use Rattle.zf_scan.specs.declared.token.Connective.TheVariants.{And, Or}
+use Rattle.zf_tree.specs.declared.symbol.Connective.TheVariants.{And, Or}
 use Rattle.zf_scan.specs.declared.token.Kind.{Kind}
 use Rattle.zf_scan.specs.declared.token.Kind.TheVariants as k
 use Rattle.zf_scan.specs.declared.token.Separator.TheVariants.{Semicolon, NewLine, Also}
-use Rattle.zf_text.specs.declared.tree.Name.{Name}
-use Rattle.zf_text.specs.declared.tree.RefMark.{RefMark}
-use Rattle.zf_text.specs.declared.tree.RefMark.TheVariants.{Plain, Delta, Xi}
-use Rattle.zf_text.specs.declared.tree.SchemaExp.{SchemaExp}
-use Rattle.zf_text.specs.declared.tree.SchemaExp.TheVariants as schema
+use Rattle.zf_tree.specs.declared.tree.Name.{Name}
+use Rattle.zf_tree.specs.declared.tree.RefMark.{RefMark}
+use Rattle.zf_tree.specs.declared.tree.RefMark.TheVariants.{Plain, Delta, Xi}
+use Rattle.zf_tree.specs.declared.tree.SchemaExp.{SchemaExp}
+use Rattle.zf_tree.specs.declared.tree.SchemaExp.TheVariants as schema
 use Rattle.zf_text.specs.BoxReading.{read_ref, read_decls, predicates, is_and, is_or, joined, schema_bracket, schema_text, schema_part_by, schema_part, conjunction, disjunction, read_schema}
 use Rattle.zf_text.specs.Height.{height, most, decl_height, schema_height}
 use Rattle.zf_text.specs.Levels.{quantifier_level, IsLevelled, DeclIsLevelled, schema_level, SchemaIsLevelled}
@@ -23,13 +23,13 @@ use Rattle.zf_text.specs.Reading.{first, rest}
 use Rattle.zf_scan.specs.Separators.{Symbol, symbol, separator}
 use Rattle.zf_text.specs.Spelling.{Next, PartedBy, SpellsMarked, SpellsDecl, SpellsPredicates, IsOn, SpellsSchema}
 use Rattle.zf_text.specs.TermReading.{Outcome, Parser, TooDeep, and_then, expect, here, binds, tall}
-use Rattle.zf_text.specs.Trees.{Tree, DeclTree, SchemaTree, reference, both, either, tree_of, decl_of, schema_of}
-use Rattle.zf_text.specs.Trees as shape
+use Rattle.zf_tree.specs.Trees.{Tree, DeclTree, SchemaTree, reference, both, either, tree_of, decl_of, schema_of}
+use Rattle.zf_tree.specs.Trees as shape
 use Rattle.zf_text.proofs.Marks.{passed, next_shorter}
 use Rattle.zf_text.proofs.TermSteps.{ok_pair, bind_ok, if_ok, if_cases, expect_ok, ok_expect}
 use Rattle.zf_text.proofs.BoxItems.{IsThere, IsTooHigh, Answers, Seen, and_answers, then_answers, done}
 use Rattle.zf_text.proofs.BoxDecls.{Stops, not_at, ref_sound, ref_read, ref_shorter, decls_sound, decls_answers, decls_shorter, predicates_sound, predicates_answers, predicates_shorter}
-use Rattle.zf_text.proofs.SchemaSeen as of
+use Rattle.zf_tree.proofs.SchemaSeen as of
 
 -- ---- lengths and lines
 

@@ -5,29 +5,29 @@ use Rattle.std.proofs.lemmas.Bool.{leb-true}
 use Rattle.zf_scan.specs.declared.next.Mark.{Mark}
 use Rattle.zf_scan.specs.declared.next.Mark.TheVariants as mark
 use Rattle.zf_text.specs.declared.tall.Tall.{Tall}
-use Rattle.zf_scan.specs.declared.token.Infix.TheVariants.{Minus}
+use Rattle.zf_tree.specs.declared.symbol.Infix.TheVariants.{Minus}
 use Rattle.zf_scan.specs.declared.token.Kind.{Kind}
 use Rattle.zf_scan.specs.declared.token.Kind.TheVariants as k
-use Rattle.zf_scan.specs.declared.token.Quantifier.{Quantifier}
+use Rattle.zf_tree.specs.declared.symbol.Quantifier.{Quantifier}
 use Rattle.zf_scan.specs.declared.token.Separator.TheVariants.{Semicolon, NewLine, Also}
-use Rattle.zf_text.specs.Names.{ident_of}
-use Rattle.zf_text.specs.declared.tree.Name.{Name}
-use Rattle.zf_text.specs.declared.tree.Sign.{Sign}
-use Rattle.zf_text.specs.declared.tree.Sign.TheVariants as sign
-use Rattle.zf_text.specs.declared.tree.Term.{Term}
-use Rattle.zf_text.specs.declared.tree.Term.TheVariants as term
+use Rattle.zf_tree.specs.Names.{ident_of}
+use Rattle.zf_tree.specs.declared.tree.Name.{Name}
+use Rattle.zf_tree.specs.declared.tree.Sign.{Sign}
+use Rattle.zf_tree.specs.declared.tree.Sign.TheVariants as sign
+use Rattle.zf_tree.specs.declared.tree.Term.{Term}
+use Rattle.zf_tree.specs.declared.tree.Term.TheVariants as term
 use Rattle.zf_text.specs.Height.{height, tallest}
 use Rattle.zf_text.specs.Levels.{quantifier_level, negation_level, expression_level, unary_level, atom_level, sign_level, level, AreTwo, IsLevelled, AreAt}
 use Rattle.zf_scan.specs.Choosing.{next_of, is_mark}
 use Rattle.zf_text.specs.Reading.{first}
 use Rattle.zf_scan.specs.Separators.{Symbol, symbol}
-use Rattle.zf_text.specs.Spelling.{Next, line_of, Spells, SpellsItems, IsFirstLine}
+use Rattle.zf_text.specs.Spelling.{Next, Spells, SpellsItems, IsFirstLine}
+use Rattle.zf_tree.specs.Trees.{line_of, Tree, named, numeral, constant, bracket, tuple, prefixed, inverse, applied, infixed, arrow, chain, negated, connected, Trees, no_trees, tree, Links, no_links, link, VarDecls, no_decls, var_decl, Perhaps, absent, present, trees, links, var_decls, tree_of, link_of, var_decl_of}
 use Rattle.zf_text.specs.TermReading.{Outcome, expect, begins_decl, tall, over, further, decls, part, enclosed, empty_set, round_by, round, display, builder, braced, under, quantified, beginning_by, beginning}
-use Rattle.zf_text.specs.Trees.{Tree, named, numeral, constant, bracket, tuple, prefixed, inverse, applied, infixed, arrow, chain, negated, connected, Trees, no_trees, tree, Links, no_links, link, VarDecls, no_decls, var_decl, Perhaps, absent, present, trees, links, var_decls, tree_of, link_of, var_decl_of}
-use Rattle.zf_text.specs.Trees as shape
+use Rattle.zf_tree.specs.Trees as shape
 use Rattle.zf_text.proofs.Marks.{kind_of}
-use Rattle.zf_text.proofs.TermSeen as of
-use Rattle.zf_text.proofs.TermSeen.{part_of}
+use Rattle.zf_tree.proofs.TermSeen as of
+use Rattle.zf_tree.proofs.TermSeen.{part_of}
 use Rattle.zf_text.proofs.TermSteps.{bind_ok, if_ok, if_cases, expect_ok}
 use Rattle.zf_text.proofs.TermParts.{trees_of, decls_of, Sound, AreSome, Reader, IsSound, made, further_sound, decls_sound, part_sound}
 use Rattle.zf_text.proofs.TermTables.{sign_level_le}

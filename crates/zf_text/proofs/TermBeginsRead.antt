@@ -3,15 +3,15 @@ use Rattle.std.proofs.Common.{◌≡◌, ℕ, ◌+◌, ◌≤◌, List, ◌∷�
 use Rattle.std.proofs.lemmas.Bool.{le-leb}
 use Rattle.zf_scan.specs.declared.next.Mark.TheVariants as mark
 use Rattle.zf_text.specs.declared.tall.Tall.{Tall}
-use Rattle.zf_scan.specs.declared.token.Constant.{Constant}
+use Rattle.zf_tree.specs.declared.symbol.Constant.{Constant}
 use Rattle.zf_scan.specs.declared.token.Kind.TheVariants as k
-use Rattle.zf_scan.specs.declared.token.Quantifier.{Quantifier}
-use Rattle.zf_text.specs.Names.{ident_of}
-use Rattle.zf_text.specs.declared.tree.Name.{Name}
-use Rattle.zf_text.specs.declared.tree.Sign.{Sign}
-use Rattle.zf_text.specs.declared.tree.Sign.TheVariants as sign
-use Rattle.zf_text.specs.declared.tree.Term.{Term}
-use Rattle.zf_text.specs.declared.tree.Term.TheVariants as term
+use Rattle.zf_tree.specs.declared.symbol.Quantifier.{Quantifier}
+use Rattle.zf_tree.specs.Names.{ident_of}
+use Rattle.zf_tree.specs.declared.tree.Name.{Name}
+use Rattle.zf_tree.specs.declared.tree.Sign.{Sign}
+use Rattle.zf_tree.specs.declared.tree.Sign.TheVariants as sign
+use Rattle.zf_tree.specs.declared.tree.Term.{Term}
+use Rattle.zf_tree.specs.declared.tree.Term.TheVariants as term
 use Rattle.zf_text.specs.Height.{height, tallest}
 use Rattle.zf_text.specs.Levels.{quantifier_level, negation_level, expression_level, unary_level, sign_level, level, IsLevelled, AreAt}
 use Rattle.zf_scan.specs.Choosing.{next_of, is_mark}
@@ -19,12 +19,12 @@ use Rattle.zf_text.specs.Reading.{first}
 use Rattle.zf_scan.specs.Separators.{Symbol, symbol}
 use Rattle.zf_text.specs.Spelling.{Spells}
 use Rattle.zf_text.specs.TermReading.{Outcome, binds, begins_decl, tall, enclosed, empty_set, round, display, builder, braced, under, quantified, beginning}
-use Rattle.zf_text.specs.Trees.{Tree, named, numeral, constant, bracket, tuple, prefixed, inverse, applied, infixed, arrow, chain, negated, connected, Trees, no_trees, tree, Links, no_links, link, VarDecls, no_decls, var_decl, Perhaps, absent, present, trees, links, var_decls, tree_of, link_of, var_decl_of}
-use Rattle.zf_text.specs.Trees as shape
+use Rattle.zf_tree.specs.Trees.{Tree, named, numeral, constant, bracket, tuple, prefixed, inverse, applied, infixed, arrow, chain, negated, connected, Trees, no_trees, tree, Links, no_links, link, VarDecls, no_decls, var_decl, Perhaps, absent, present, trees, links, var_decls, tree_of, link_of, var_decl_of}
+use Rattle.zf_tree.specs.Trees as shape
 use Rattle.zf_text.proofs.Marks.{seen}
 use Rattle.zf_text.proofs.TermFirsts.{not_closed}
-use Rattle.zf_text.proofs.TermSeen as of
-use Rattle.zf_text.proofs.TermSeen.{part_of}
+use Rattle.zf_tree.proofs.TermSeen as of
+use Rattle.zf_tree.proofs.TermSeen.{part_of}
 use Rattle.zf_text.proofs.TermSteps.{ok_expect}
 use Rattle.zf_text.proofs.TermParts.{decls_of}
 use Rattle.zf_text.proofs.TermPartsRead.{IsRead, Reader, IsComplete, first_is, part_first, from_false, decls_begin, items_do_not, further_stops, all_complete, decls_complete, part_complete}

@@ -6,22 +6,22 @@ use Rattle.zf_scan.specs.declared.next.Next as code
 use Rattle.zf_scan.specs.declared.next.Next.TheVariants as next
 use Rattle.zf_text.specs.declared.tall.Tall.{Tall}
 use Rattle.zf_scan.specs.declared.token.Kind.TheVariants as k
-use Rattle.zf_scan.specs.declared.token.Relation.{Relation}
-use Rattle.zf_text.specs.declared.tree.Term.{Term}
-use Rattle.zf_text.specs.declared.tree.Term.TheVariants as term
+use Rattle.zf_tree.specs.declared.symbol.Relation.{Relation}
+use Rattle.zf_tree.specs.declared.tree.Term.{Term}
+use Rattle.zf_tree.specs.declared.tree.Term.TheVariants as term
 use Rattle.zf_text.specs.Height.{height, tallest, tallest_link}
 use Rattle.zf_text.specs.Levels.{chain_level, expression_level, product_level, application_level, postfix_level, connective_level, infix_level, left_place, right_place, level, IsLevelled, AreAt, LinksAreLevelled}
 use Rattle.zf_scan.specs.Choosing.{is_mark}
 use Rattle.zf_text.specs.Reading.{first}
 use Rattle.zf_scan.specs.Separators.{Symbol, symbol}
-use Rattle.zf_text.specs.Spelling.{Next, line_of, Spells, SpellsFurther, SpellsLinks}
+use Rattle.zf_text.specs.Spelling.{Next, Spells, SpellsFurther, SpellsLinks}
+use Rattle.zf_tree.specs.Trees.{line_of, Tree, named, numeral, constant, bracket, tuple, prefixed, inverse, applied, infixed, arrow, chain, negated, connected, Trees, no_trees, tree, Links, no_links, link, VarDecls, no_decls, var_decl, Perhaps, absent, present, trees, links, var_decls, tree_of, link_of, var_decl_of}
 use Rattle.zf_text.specs.TermReading.{Outcome, binds, place_before, tall, chain_links, beginning, with_right, image, chained, product, longer_by, climb, whole, read_term}
-use Rattle.zf_text.specs.Trees.{Tree, named, numeral, constant, bracket, tuple, prefixed, inverse, applied, infixed, arrow, chain, negated, connected, Trees, no_trees, tree, Links, no_links, link, VarDecls, no_decls, var_decl, Perhaps, absent, present, trees, links, var_decls, tree_of, link_of, var_decl_of}
-use Rattle.zf_text.specs.Trees as shape
+use Rattle.zf_tree.specs.Trees as shape
 use Rattle.zf_text.proofs.Marks.{seen}
 use Rattle.zf_text.proofs.TermFirsts.{atom_begins}
-use Rattle.zf_text.proofs.TermSeen as of
-use Rattle.zf_text.proofs.TermSeen.{part_of}
+use Rattle.zf_tree.proofs.TermSeen as of
+use Rattle.zf_tree.proofs.TermSeen.{part_of}
 use Rattle.zf_text.proofs.TermSteps.{ok_expect}
 use Rattle.zf_text.proofs.TermParts.{trees_of, links_of}
 use Rattle.zf_text.proofs.TermBeginsRead.{moved, name_begins, numeral_begins, constant_begins, empty_set_begins, bracket_begins, tuple_begins, display_begins, builder_begins, quantified_begins, prefixed_begins, negated_begins}

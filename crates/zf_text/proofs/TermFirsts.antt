@@ -2,20 +2,20 @@
 use Rattle.std.proofs.Common.{◌≡◌, ℕ, ◌+◌, ◌≤◌, List, ◌∷◌, length, Bool, true, false, refl, sym, ap, ◌∙◌, subst, arith}
 use Rattle.zf_scan.specs.declared.next.Mark.TheVariants as mark
 use Rattle.zf_text.specs.declared.tall.Tall.{Tall}
-use Rattle.zf_scan.specs.declared.token.Connective.TheVariants.{And, Or, Implies, Iff}
+use Rattle.zf_tree.specs.declared.symbol.Connective.TheVariants.{And, Or, Implies, Iff}
 use Rattle.zf_scan.specs.declared.token.Kind.{Kind}
 use Rattle.zf_scan.specs.declared.token.Kind.TheVariants as k
-use Rattle.zf_text.specs.declared.tree.Sign.{Sign}
-use Rattle.zf_text.specs.declared.tree.Sign.TheVariants as sign
-use Rattle.zf_text.specs.declared.tree.Term.{Term}
-use Rattle.zf_text.specs.declared.tree.Term.TheVariants as term
+use Rattle.zf_tree.specs.declared.tree.Sign.{Sign}
+use Rattle.zf_tree.specs.declared.tree.Sign.TheVariants as sign
+use Rattle.zf_tree.specs.declared.tree.Term.{Term}
+use Rattle.zf_tree.specs.declared.tree.Term.TheVariants as term
 use Rattle.zf_text.specs.Levels.{application_level, postfix_level, level, IsLevelled}
 use Rattle.zf_scan.specs.Choosing.{next_of, is_mark}
 use Rattle.zf_text.specs.Reading.{first}
 use Rattle.zf_scan.specs.Separators.{Symbol, symbol}
-use Rattle.zf_text.specs.Spelling.{Starts, Next, line_of, Spells, SpellsItems, SpellsFurther, SpellsLinks, SpellsDecls, SpellsPart}
+use Rattle.zf_text.specs.Spelling.{Starts, Next, Spells, SpellsItems, SpellsFurther, SpellsLinks, SpellsDecls, SpellsPart}
+use Rattle.zf_tree.specs.Trees.{line_of, Tree, named, numeral, constant, empty_set, bracket, tuple, display, builder, prefixed, inverse, image, applied, infixed, arrow, product, chain, negated, connected, quantified, Trees, no_trees, tree, Links, no_links, link, VarDecls, no_decls, var_decl, Perhaps, absent, present, tree_of}
 use Rattle.zf_text.specs.TermReading.{Parser, binds, place_before, begins_decl, longer_by, with_right}
-use Rattle.zf_text.specs.Trees.{Tree, named, numeral, constant, empty_set, bracket, tuple, display, builder, prefixed, inverse, image, applied, infixed, arrow, product, chain, negated, connected, quantified, Trees, no_trees, tree, Links, no_links, link, VarDecls, no_decls, var_decl, Perhaps, absent, present, tree_of}
 use Rattle.zf_text.proofs.Marks.{next_shorter}
 use Rattle.zf_text.proofs.NamesRead.{name_shorter, names_shorter}
 use Rattle.zf_text.proofs.TermTables.{priority_le, sign_level_le}

@@ -7,18 +7,18 @@ use Rattle.zf_scan.specs.declared.next.Mark.TheVariants as mark
 use Rattle.zf_scan.specs.declared.next.Next.{Next}
 use Rattle.zf_scan.specs.declared.next.Next.TheVariants as next
 use Rattle.zf_text.specs.declared.tall.Tall.{Tall}
-use Rattle.zf_scan.specs.declared.token.Infix.TheVariants.{Minus}
-use Rattle.zf_scan.specs.declared.token.Quantifier.{Quantifier}
-use Rattle.zf_text.specs.declared.tree.Link.{Link}
-use Rattle.zf_text.specs.declared.tree.Sign.TheVariants as sign
-use Rattle.zf_text.specs.declared.tree.Term.{Term}
-use Rattle.zf_text.specs.declared.tree.VarDecl.{VarDecl}
+use Rattle.zf_tree.specs.declared.symbol.Infix.TheVariants.{Minus}
+use Rattle.zf_tree.specs.declared.symbol.Quantifier.{Quantifier}
+use Rattle.zf_tree.specs.declared.tree.Link.{Link}
+use Rattle.zf_tree.specs.declared.tree.Sign.TheVariants as sign
+use Rattle.zf_tree.specs.declared.tree.Term.{Term}
+use Rattle.zf_tree.specs.declared.tree.VarDecl.{VarDecl}
 use Rattle.zf_text.specs.Levels.{quantifier_level, negation_level, expression_level, product_level, unary_level, sign_level, level}
 use Rattle.zf_scan.specs.Choosing.{is_mark}
 use Rattle.zf_text.specs.Reading.{first, rest}
 use Rattle.zf_scan.specs.Separators.{Symbol}
 use Rattle.zf_text.specs.TermReading.{Outcome, Parser, Refused, TooDeep, and_then, expect, read_names, here, binds, place_before, begins_decl, tall, with_term, with_link, with_decl, further_from, further, links_by, links_from, chain_links, read_decl, decls_from, decls, part, enclosed, empty_set, round_by, round, display, builder, braced, under, quantified, beginning_by, beginning, with_right, image, chained, product, longer_by, climb, whole, read_term}
-use Rattle.zf_text.specs.Trees.{tree_of}
+use Rattle.zf_tree.specs.Trees.{tree_of}
 
 abbrev pub Under : {A : Type 0} → Outcome A → Outcome A → Type 0
 Under r s = (r ≡ Err TooDeep) ⊎ (r ≡ s)

@@ -6,23 +6,23 @@ use Rattle.zf_scan.specs.declared.next.Mark.TheVariants as mark
 use Rattle.zf_text.specs.declared.tall.Tall.{Tall}
 use Rattle.zf_scan.specs.declared.token.Kind.{Kind}
 use Rattle.zf_scan.specs.declared.token.Kind.TheVariants as k
-use Rattle.zf_scan.specs.declared.token.Relation.{Relation}
+use Rattle.zf_tree.specs.declared.symbol.Relation.{Relation}
 use Rattle.zf_scan.specs.declared.token.Separator.TheVariants.{Semicolon, NewLine, Also}
-use Rattle.zf_text.specs.declared.tree.Link.{Link}
-use Rattle.zf_text.specs.declared.tree.Name.{Name}
-use Rattle.zf_text.specs.declared.tree.Term.{Term}
-use Rattle.zf_text.specs.declared.tree.VarDecl.{VarDecl}
+use Rattle.zf_tree.specs.declared.tree.Link.{Link}
+use Rattle.zf_tree.specs.declared.tree.Name.{Name}
+use Rattle.zf_tree.specs.declared.tree.Term.{Term}
+use Rattle.zf_tree.specs.declared.tree.VarDecl.{VarDecl}
 use Rattle.zf_text.specs.Height.{height, tallest, tallest_link, tallest_set, part_height}
 use Rattle.zf_text.specs.Levels.{expression_level, atom_level, level, IsLevelled, AreAt, LinksAreLevelled, DeclsAreLevelled, PartIsAt}
 use Rattle.zf_scan.specs.Choosing.{next_of, is_mark}
 use Rattle.zf_text.specs.Reading.{first, rest}
 use Rattle.zf_scan.specs.Separators.{Symbol, symbol, separator}
 use Rattle.zf_text.specs.Spelling.{Next, SpellsNames, Spells, SpellsFurther, SpellsLinks, SpellsDecls, SpellsPart}
-use Rattle.zf_text.specs.TermReading.{Outcome, Parser, expect, read_names, tall, with_term, new_link, with_link, new_decl, with_decl, further_from, links_by, links_from, read_decl, decls_from, decls, part}
-use Rattle.zf_text.specs.Trees.{Tree, Trees, Links, no_links, link, VarDecls, no_decls, var_decl, trees, links, var_decls, tree_of, link_of, var_decl_of}
+use Rattle.zf_text.specs.TermReading.{Outcome, Parser, expect, read_names, tall, with_term, with_link, with_decl, further_from, links_by, links_from, read_decl, decls_from, decls, part}
+use Rattle.zf_tree.specs.Trees.{new_link, new_decl, Tree, Trees, Links, no_links, link, VarDecls, no_decls, var_decl, trees, links, var_decls, tree_of, link_of, var_decl_of}
 use Rattle.zf_text.proofs.Marks.{kind_of, marked}
-use Rattle.zf_text.proofs.TermSeen as of
-use Rattle.zf_text.proofs.TermSeen.{part_of}
+use Rattle.zf_tree.proofs.TermSeen as of
+use Rattle.zf_tree.proofs.TermSeen.{part_of}
 use Rattle.zf_text.proofs.TermSteps.{ok_pair, ok_value, ok_rest, bind_ok, if_cases, expect_ok, names_ok}
 
 -- lists of parts, as trees

@@ -7,25 +7,25 @@ use Rattle.zf_scan.specs.declared.next.Next as code
 use Rattle.zf_text.specs.declared.tall.Tall.{Tall}
 use Rattle.zf_scan.specs.declared.token.Kind.{Kind}
 use Rattle.zf_scan.specs.declared.token.Kind.TheVariants as k
-use Rattle.zf_scan.specs.declared.token.Relation.{Relation}
+use Rattle.zf_tree.specs.declared.symbol.Relation.{Relation}
 use Rattle.zf_scan.specs.declared.token.Separator.TheVariants.{Semicolon, NewLine, Also}
-use Rattle.zf_text.specs.declared.tree.Link.{Link}
-use Rattle.zf_text.specs.declared.tree.Name.{Name}
-use Rattle.zf_text.specs.declared.tree.Term.{Term}
-use Rattle.zf_text.specs.declared.tree.VarDecl.{VarDecl}
+use Rattle.zf_tree.specs.declared.tree.Link.{Link}
+use Rattle.zf_tree.specs.declared.tree.Name.{Name}
+use Rattle.zf_tree.specs.declared.tree.Term.{Term}
+use Rattle.zf_tree.specs.declared.tree.VarDecl.{VarDecl}
 use Rattle.zf_text.specs.Height.{height, tallest, tallest_link, tallest_set, part_height}
 use Rattle.zf_text.specs.Levels.{chain_level, expression_level, level, IsLevelled, AreAt, LinksAreLevelled, DeclsAreLevelled, PartIsAt}
 use Rattle.zf_scan.specs.Choosing.{next_of, is_mark}
 use Rattle.zf_text.specs.Reading.{first, rest}
 use Rattle.zf_scan.specs.Separators.{Symbol}
 use Rattle.zf_text.specs.Spelling.{Next, SpellsNames, Spells, SpellsFurther, SpellsLinks, SpellsDecls, SpellsPart}
-use Rattle.zf_text.specs.TermReading.{Outcome, Parser, binds, begins_decl, tall, with_term, new_link, with_link, new_decl, with_decl, further_from, further, links_by, links_from, read_decl, decls_from, decls, part}
-use Rattle.zf_text.specs.Trees.{Tree, named, Trees, no_trees, tree, Links, no_links, link, VarDecls, no_decls, var_decl, Perhaps, absent, present, tree_of}
+use Rattle.zf_text.specs.TermReading.{Outcome, Parser, binds, begins_decl, tall, with_term, with_link, with_decl, further_from, further, links_by, links_from, read_decl, decls_from, decls, part}
+use Rattle.zf_tree.specs.Trees.{new_link, new_decl, Tree, named, Trees, no_trees, tree, Links, no_links, link, VarDecls, no_decls, var_decl, Perhaps, absent, present, tree_of}
 use Rattle.zf_text.proofs.Marks.{kind_of, seen, passed, next_shorter}
 use Rattle.zf_text.proofs.NamesRead.{names_shorter}
 use Rattle.zf_text.proofs.TermFirsts.{only_name, term_shorter}
-use Rattle.zf_text.proofs.TermSeen as of
-use Rattle.zf_text.proofs.TermSeen.{part_of}
+use Rattle.zf_tree.proofs.TermSeen as of
+use Rattle.zf_tree.proofs.TermSeen.{part_of}
 use Rattle.zf_text.proofs.TermSteps.{ok_expect, ok_names}
 use Rattle.zf_text.proofs.TermParts.{trees_of, links_of, decls_of, SpellsSomeLinks, SpellsFurtherDecls}
 

@@ -4,27 +4,27 @@ use Rattle.std.specs.Prelude.{nat_le}
 use Rattle.std.proofs.lemmas.Bool.{leb-true, leb-false}
 use Rattle.zf_scan.specs.declared.next.Mark.TheVariants as mark
 use Rattle.zf_text.specs.declared.tall.Tall.{Tall}
-use Rattle.zf_scan.specs.declared.token.Arrow.{Arrow}
-use Rattle.zf_scan.specs.declared.token.Connective.{Connective}
-use Rattle.zf_scan.specs.declared.token.Infix.{Infix}
+use Rattle.zf_tree.specs.declared.symbol.Arrow.{Arrow}
+use Rattle.zf_tree.specs.declared.symbol.Connective.{Connective}
+use Rattle.zf_tree.specs.declared.symbol.Infix.{Infix}
 use Rattle.zf_scan.specs.declared.token.Kind.{Kind}
 use Rattle.zf_scan.specs.declared.token.Kind.TheVariants as k
-use Rattle.zf_scan.specs.declared.token.Relation.{Relation}
+use Rattle.zf_tree.specs.declared.symbol.Relation.{Relation}
 use Rattle.zf_scan.specs.declared.token.Separator.TheVariants.{Semicolon, NewLine, Also}
-use Rattle.zf_text.specs.declared.tree.Link.{Link}
-use Rattle.zf_text.specs.declared.tree.Term.{Term}
-use Rattle.zf_text.specs.declared.tree.Term.TheVariants as term
+use Rattle.zf_tree.specs.declared.tree.Link.{Link}
+use Rattle.zf_tree.specs.declared.tree.Term.{Term}
+use Rattle.zf_tree.specs.declared.tree.Term.TheVariants as term
 use Rattle.zf_text.specs.Height.{height, tallest_link}
 use Rattle.zf_text.specs.Levels.{quantifier_level, chain_level, expression_level, product_level, application_level, postfix_level, atom_level, connective_level, infix_level, left_place, right_place, level, IsLevelled, LinksAreLevelled}
 use Rattle.zf_scan.specs.Choosing.{next_of}
 use Rattle.zf_text.specs.Reading.{first}
 use Rattle.zf_scan.specs.Separators.{Symbol, symbol}
-use Rattle.zf_text.specs.Spelling.{Next, line_of, Spells, SpellsLinks}
-use Rattle.zf_text.specs.TermReading.{Outcome, expect, binds, place_before, tall, new_link, with_link, over, over_both, further, links_from, chain_links, beginning, with_right, image, chained, product, longer_by, climb, whole, read_term}
-use Rattle.zf_text.specs.Trees.{Tree, named, numeral, constant, bracket, tuple, prefixed, inverse, applied, infixed, arrow, chain, negated, connected, Trees, no_trees, tree, Links, no_links, link, VarDecls, no_decls, var_decl, Perhaps, absent, present, trees, links, var_decls, tree_of, link_of, var_decl_of}
-use Rattle.zf_text.specs.Trees as shape
-use Rattle.zf_text.proofs.TermSeen as of
-use Rattle.zf_text.proofs.TermSeen.{part_of}
+use Rattle.zf_text.specs.Spelling.{Next, Spells, SpellsLinks}
+use Rattle.zf_tree.specs.Trees.{line_of, new_link, Tree, named, numeral, constant, bracket, tuple, prefixed, inverse, applied, infixed, arrow, chain, negated, connected, Trees, no_trees, tree, Links, no_links, link, VarDecls, no_decls, var_decl, Perhaps, absent, present, trees, links, var_decls, tree_of, link_of, var_decl_of}
+use Rattle.zf_text.specs.TermReading.{Outcome, expect, binds, place_before, tall, with_link, over, over_both, further, links_from, chain_links, beginning, with_right, image, chained, product, longer_by, climb, whole, read_term}
+use Rattle.zf_tree.specs.Trees as shape
+use Rattle.zf_tree.proofs.TermSeen as of
+use Rattle.zf_tree.proofs.TermSeen.{part_of}
 use Rattle.zf_text.proofs.TermSteps.{ok_pair, ok_value, bind_ok, if_ok, if_cases, expect_ok}
 use Rattle.zf_text.proofs.TermBegins.{all_sound, beginning_sound}
 use Rattle.zf_text.proofs.TermParts.{links_of, trees_of, Sound, IsLink, Reader, IsSound, made, link_first, links_sound, one_link}

@@ -5,7 +5,7 @@ use Rattle.std.specs.Prelude.{if◌then◌else◌}
 use Rattle.zf_scan.specs.declared.next.Mark.{Mark}
 use Rattle.zf_scan.specs.declared.next.Mark.TheVariants as mark
 use Rattle.zf_scan.specs.declared.token.Kind.TheVariants as k
-use Rattle.zf_text.specs.declared.tree.Name.{Name}
+use Rattle.zf_tree.specs.declared.tree.Name.{Name}
 use Rattle.zf_text.specs.Reading as basic
 use Rattle.zf_scan.specs.Choosing.{is_mark}
 use Rattle.zf_text.specs.Reading.{first, rest, read_name}

@@ -4,12 +4,12 @@ use Rattle.std.proofs.lemmas.Bool.{le-leb, lt-leb}
 use Rattle.zf_scan.specs.declared.fault.TextFaultKind.{TextFaultKind}
 use Rattle.zf_scan.specs.declared.fault.TextFaultKind.TheVariants as fault
 use Rattle.zf_text.specs.declared.tall.Tall.{Tall}
-use Rattle.zf_text.specs.declared.tree.Term.{Term}
+use Rattle.zf_tree.specs.declared.tree.Term.{Term}
 use Rattle.zf_text.specs.Levels.{level}
 use Rattle.zf_text.specs.Reading.{first}
 use Rattle.zf_scan.specs.Separators.{Symbol}
 use Rattle.zf_text.specs.TermReading.{Outcome, Parser, TooDeep, and_then, Fails, binds, place_before, longer_by, climb}
-use Rattle.zf_text.specs.Trees.{tree_of}
+use Rattle.zf_tree.specs.Trees.{tree_of}
 
 pub fails_then : {A B : Type 0} (o : Outcome A) (f : A → Parser B) (kind : TextFaultKind) (line : ℕ) → Fails o kind line → Fails (and_then o f) kind line
 fails_then o f fault.OutOfMemory line h = h

@@ -8,11 +8,11 @@ use Rattle.zf_scan.specs.declared.scan.Border.{Border}
 use Rattle.zf_scan.specs.declared.token.Token.{Token}
 use Rattle.zf_scan.specs.Boxes.{IsCutUpTo}
 use Rattle.zf_scan.specs.Separators.{Symbol, reduced}
-use Rattle.zf_text.specs.declared.tree.ZBox.{ZBox}
+use Rattle.zf_tree.specs.declared.tree.ZBox.{ZBox}
 use Rattle.zf_text.specs.Height.{box_height, highest, height_limit}
 use Rattle.zf_text.specs.Levels.{BoxIsLevelled}
 use Rattle.zf_text.specs.Spelling.{SpellsBox, SpellsBoxes}
-use Rattle.zf_text.specs.Trees.{BoxTree, box_of}
+use Rattle.zf_tree.specs.Trees.{BoxTree, box_of}
 
 -- ---- one box
 

@@ -5,22 +5,22 @@ use Rattle.zf_scan.specs.declared.next.Mark.TheVariants as mark
 use Rattle.zf_scan.specs.declared.next.Next.{Next}
 use Rattle.zf_scan.specs.declared.next.Next.TheVariants as next
 use Rattle.zf_text.specs.declared.tall.Tall.{Tall}
-use Rattle.zf_scan.specs.declared.token.Connective.TheVariants.{And, Or}
-use Rattle.zf_text.specs.declared.tree.Name.{Name}
-use Rattle.zf_text.specs.declared.tree.Term.{Term}
-use Rattle.zf_text.specs.declared.tree.RefMark.TheVariants.{Plain, Delta, Xi}
-use Rattle.zf_text.specs.declared.tree.RefMark.{RefMark}
-use Rattle.zf_text.specs.declared.tree.SchemaRef.{SchemaRef}
-use Rattle.zf_text.specs.declared.tree.Decl.{Decl}
-use Rattle.zf_text.specs.declared.tree.Decl.TheVariants as decl
-use Rattle.zf_text.specs.declared.tree.SchemaExp.{SchemaExp}
-use Rattle.zf_text.specs.declared.tree.SchemaExp.TheVariants as schema
-use Rattle.zf_text.specs.declared.tree.Paragraph.{Paragraph}
-use Rattle.zf_text.specs.declared.tree.Paragraph.TheVariants as paragraph
-use Rattle.zf_text.specs.declared.tree.ZBox.{ZBox}
-use Rattle.zf_text.specs.declared.tree.ZBox.TheVariants as zbox
+use Rattle.zf_tree.specs.declared.symbol.Connective.TheVariants.{And, Or}
+use Rattle.zf_tree.specs.declared.tree.Name.{Name}
+use Rattle.zf_tree.specs.declared.tree.Term.{Term}
+use Rattle.zf_tree.specs.declared.tree.RefMark.TheVariants.{Plain, Delta, Xi}
+use Rattle.zf_tree.specs.declared.tree.RefMark.{RefMark}
+use Rattle.zf_tree.specs.declared.tree.SchemaRef.{SchemaRef}
+use Rattle.zf_tree.specs.declared.tree.Decl.{Decl}
+use Rattle.zf_tree.specs.declared.tree.Decl.TheVariants as decl
+use Rattle.zf_tree.specs.declared.tree.SchemaExp.{SchemaExp}
+use Rattle.zf_tree.specs.declared.tree.SchemaExp.TheVariants as schema
+use Rattle.zf_tree.specs.declared.tree.Paragraph.{Paragraph}
+use Rattle.zf_tree.specs.declared.tree.Paragraph.TheVariants as paragraph
+use Rattle.zf_tree.specs.declared.tree.ZBox.{ZBox}
+use Rattle.zf_tree.specs.declared.tree.ZBox.TheVariants as zbox
 use Rattle.zf_text.specs.Levels.{quantifier_level, expression_level}
-use Rattle.zf_text.specs.Names.{is_bare}
+use Rattle.zf_tree.specs.Names.{is_bare}
 use Rattle.zf_text.specs.Reading as basic
 use Rattle.zf_scan.specs.Choosing.{is_mark}
 use Rattle.zf_text.specs.Reading.{first, rest, is_end, read_name, read_opening}

@@ -1,5 +1,3 @@
-pub mod Names
-pub mod Trees
 pub mod Levels
 pub mod Height
 pub mod Spelling

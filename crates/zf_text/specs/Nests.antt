@@ -7,8 +7,8 @@ use denote.Bor.{Bor}
 use denote.Ref.{MutBor}
 use Rattle.zf_scan.specs.declared.fault.TextFault.{TextFault}
 use Rattle.zf_text.specs.declared.tall.Tall.{Tall}
-use Rattle.zf_text.specs.declared.tree.SchemaExp.{SchemaExp}
-use Rattle.zf_text.specs.declared.tree.Term.{Term}
+use Rattle.zf_tree.specs.declared.tree.SchemaExp.{SchemaExp}
+use Rattle.zf_tree.specs.declared.tree.Term.{Term}
 use Rattle.zf_text.specs.BoxReading.{read_schema}
 use Rattle.zf_scan.specs.Separators.{Symbol}
 use Rattle.zf_text.specs.TermReading.{read_term, Gives}

@@ -4,11 +4,11 @@ use Rattle.zf_scan.specs.declared.fault.TextFault.{TextFault}
 use Rattle.zf_scan.specs.declared.fault.TextFaultKind.{TextFaultKind}
 use Rattle.zf_scan.specs.declared.fault.TextFaultKind.TheVariants.{Unexpected, NotInProfile, TooDeep, OutOfMemory}
 use Rattle.zf_scan.specs.declared.token.Token.{Token}
-use Rattle.zf_text.specs.declared.tree.Spec.{Spec}
+use Rattle.zf_tree.specs.declared.tree.Spec.{Spec}
 use Rattle.zf_scan.specs.Cuts.{IsCutInto, HasFault, IsWantOfMemory}
 use Rattle.zf_text.specs.Height.{highest, height_limit}
 use Rattle.zf_text.specs.Reads.{Reads}
-use Rattle.zf_text.specs.Trees.{BoxTree, boxes_of}
+use Rattle.zf_tree.specs.Trees.{BoxTree, boxes_of}
 
 -- a tree that reads the tokens, with no part above the limit
 pub record ReadsLow (boxes : List BoxTree) (tokens : List Token) : Type 0 where

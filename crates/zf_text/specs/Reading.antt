@@ -5,7 +5,7 @@ use Rattle.zf_scan.specs.declared.next.Next.TheVariants as next
 use Rattle.zf_scan.specs.declared.next.Mark.{Mark}
 use Rattle.zf_scan.specs.declared.token.Kind.{Kind}
 use Rattle.zf_scan.specs.declared.token.Kind.TheVariants as k
-use Rattle.zf_text.specs.declared.tree.Name.{Name}
+use Rattle.zf_tree.specs.declared.tree.Name.{Name}
 use Rattle.zf_scan.specs.Choosing.{next_of, is_mark}
 use Rattle.zf_scan.specs.Separators.{Symbol}
 

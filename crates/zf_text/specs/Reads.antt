@@ -5,7 +5,7 @@ use Rattle.zf_scan.specs.declared.token.Token.{Token}
 use Rattle.zf_text.specs.Levels.{BoxIsLevelled}
 use Rattle.zf_scan.specs.Separators.{reduced}
 use Rattle.zf_text.specs.Spelling.{SpellsBoxes}
-use Rattle.zf_text.specs.Trees.{BoxTree}
+use Rattle.zf_tree.specs.Trees.{BoxTree}
 
 pub record Reads (boxes : List BoxTree) (tokens : List Token) : Type 0 where
   pub levelled : AllByRecursion BoxIsLevelled boxes

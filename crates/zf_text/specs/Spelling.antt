@@ -3,16 +3,16 @@
 use Rattle.std.specs.Prelude.{◌≡◌, ℕ, List, [], ◌∷◌}
 use Rattle.zf_scan.specs.declared.token.Kind.{Kind}
 use Rattle.zf_scan.specs.declared.token.Kind.TheVariants as k
-use Rattle.zf_scan.specs.declared.token.Infix.TheVariants.{Minus}
-use Rattle.zf_scan.specs.declared.token.Connective.TheVariants.{And, Or}
-use Rattle.zf_text.specs.declared.tree.RefMark.TheVariants.{Plain, Delta, Xi}
-use Rattle.zf_text.specs.declared.tree.RefMark.{RefMark}
-use Rattle.zf_text.specs.declared.tree.Name.{Name}
-use Rattle.zf_text.specs.declared.tree.SchemaRef.{SchemaRef}
-use Rattle.zf_text.specs.declared.tree.Sign.{Sign}
-use Rattle.zf_text.specs.declared.tree.Sign.TheVariants as sign
+use Rattle.zf_tree.specs.declared.symbol.Infix.TheVariants.{Minus}
+use Rattle.zf_tree.specs.declared.symbol.Connective.TheVariants.{And, Or}
+use Rattle.zf_tree.specs.declared.tree.RefMark.TheVariants.{Plain, Delta, Xi}
+use Rattle.zf_tree.specs.declared.tree.RefMark.{RefMark}
+use Rattle.zf_tree.specs.declared.tree.Name.{Name}
+use Rattle.zf_tree.specs.declared.tree.SchemaRef.{SchemaRef}
+use Rattle.zf_tree.specs.declared.tree.Sign.{Sign}
+use Rattle.zf_tree.specs.declared.tree.Sign.TheVariants as sign
 use Rattle.zf_scan.specs.Separators.{Symbol, symbol, separator}
-use Rattle.zf_text.specs.Trees.{Tree, named, numeral, constant, empty_set, bracket, tuple, display, builder, prefixed, inverse, image, applied, infixed, arrow, product, chain, negated, connected, quantified, Trees, no_trees, tree, Links, no_links, link, VarDecls, no_decls, var_decl, Perhaps, absent, present, DeclTree, vars, include, SchemaTree, schema_text, reference, both, either, schema_bracket, ParagraphTree, given, free, abbreviation, definition, BoxTree, zed, schema_box}
+use Rattle.zf_tree.specs.Trees.{Tree, named, numeral, constant, empty_set, bracket, tuple, display, builder, prefixed, inverse, image, applied, infixed, arrow, product, chain, negated, connected, quantified, Trees, no_trees, tree, Links, no_links, link, VarDecls, no_decls, var_decl, Perhaps, absent, present, DeclTree, vars, include, SchemaTree, schema_text, reference, both, either, schema_bracket, ParagraphTree, given, free, abbreviation, definition, BoxTree, zed, schema_box, line_of}
 
 -- the first symbol, with its line, and the rest
 abbrev pub Starts : Kind → ℕ → List Symbol → List Symbol → Type 0
@@ -37,28 +37,6 @@ SpellsNames = PartedBy k.Comma SpellsName
 abbrev pub sign_kind : Sign → Kind
 sign_kind (sign.Symbol s) = k.Prefix s
 sign_kind sign.Minus = k.Infix Minus
-
--- the line of the first symbol
-abbrev pub line_of : Tree → ℕ
-line_of (named n) = n.line
-line_of (numeral l v) = l
-line_of (constant l c) = l
-line_of (empty_set l t) = l
-line_of (bracket l t) = l
-line_of (tuple l ts) = l
-line_of (display l ts) = l
-line_of (builder l ds p t) = l
-line_of (prefixed l s t) = l
-line_of (inverse l t) = l
-line_of (image l r a) = l
-line_of (applied l f x) = l
-line_of (infixed l op a b) = l
-line_of (arrow l op a b) = l
-line_of (product l ts) = l
-line_of (chain l t ks) = l
-line_of (negated l t) = l
-line_of (connected l c a b) = l
-line_of (quantified l q ds p t) = l
 
 abbrev pub IsFirstLine : ℕ → Trees → Type 0
 IsFirstLine l no_trees = ⊥

@@ -8,23 +8,22 @@ use Rattle.zf_scan.specs.declared.next.Mark.TheVariants as mark
 use Rattle.zf_scan.specs.declared.next.Next.{Next}
 use Rattle.zf_scan.specs.declared.next.Next.TheVariants as next
 use Rattle.zf_text.specs.declared.tall.Tall.{Tall}
-use Rattle.zf_scan.specs.declared.token.Infix.TheVariants.{Minus}
-use Rattle.zf_scan.specs.declared.token.Quantifier.{Quantifier}
-use Rattle.zf_scan.specs.declared.token.Relation.{Relation}
-use Rattle.zf_text.specs.declared.tree.Link.{Link, roll-Link}
-use Rattle.zf_text.specs.Names.{ident_of}
-use Rattle.zf_text.specs.declared.tree.Name.{Name}
-use Rattle.zf_text.specs.declared.tree.Sign.TheVariants as sign
-use Rattle.zf_text.specs.declared.tree.Term.{Term}
-use Rattle.zf_text.specs.declared.tree.Term.TheVariants as term
-use Rattle.zf_text.specs.declared.tree.VarDecl.{VarDecl, roll-VarDecl}
+use Rattle.zf_tree.specs.declared.symbol.Infix.TheVariants.{Minus}
+use Rattle.zf_tree.specs.declared.symbol.Quantifier.{Quantifier}
+use Rattle.zf_tree.specs.declared.symbol.Relation.{Relation}
+use Rattle.zf_tree.specs.declared.tree.Link.{Link}
+use Rattle.zf_tree.specs.Names.{ident_of}
+use Rattle.zf_tree.specs.declared.tree.Name.{Name}
+use Rattle.zf_tree.specs.declared.tree.Sign.TheVariants as sign
+use Rattle.zf_tree.specs.declared.tree.Term.{Term}
+use Rattle.zf_tree.specs.declared.tree.Term.TheVariants as term
+use Rattle.zf_tree.specs.declared.tree.VarDecl.{VarDecl}
 use Rattle.zf_text.specs.Levels.{quantifier_level, negation_level, chain_level, expression_level, product_level, unary_level, application_level, postfix_level, connective_level, infix_level, sign_level, left_place, right_place, level}
 use Rattle.zf_scan.specs.Choosing.{next_of, goes_on, ends_names, is_mark}
 use Rattle.zf_text.specs.Reading as basic
 use Rattle.zf_text.specs.Reading.{first, rest, read_name, read_number}
 use Rattle.zf_scan.specs.Separators.{Symbol}
-use Rattle.zf_text.specs.Spelling.{line_of}
-use Rattle.zf_text.specs.Trees.{tree_of}
+use Rattle.zf_tree.specs.Trees.{line_of, tree_of, new_link, new_decl}
 
 -- ---- a value and the symbols after it, or why there is none
 
@@ -138,14 +137,8 @@ tall part height = record { part = part; height = height }
 abbrev pub with_term : Tall (List Term) → Tall Term → Tall (List Term)
 with_term xs x = tall (xs.part ++ x.part ∷ []) (max xs.height x.height)
 
-abbrev pub new_link : Relation → Term → Link
-new_link r t = roll-Link (record { relation = r; right = t })
-
 abbrev pub with_link : Tall (List Link) → Relation → Tall Term → Tall (List Link)
 with_link xs r x = tall (xs.part ++ new_link r x.part ∷ []) (max xs.height x.height)
-
-abbrev pub new_decl : List Name → Term → VarDecl
-new_decl ns t = roll-VarDecl (record { names = ns; set = t })
 
 abbrev pub with_decl : Tall (List VarDecl) → Tall VarDecl → Tall (List VarDecl)
 with_decl xs x = tall (xs.part ++ x.part ∷ []) (max xs.height x.height)

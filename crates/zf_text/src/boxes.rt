@@ -7,12 +7,12 @@ use crate::cursor::Cursor;
 use crate::decls::{decls, predicates};
 use crate::items::items;
 use crate::paragraphs::ParagraphRule;
-use crate::tree::ZBox;
 use bumpalo::Bump;
 use std::alloc::Global;
 use zf_data::Items;
 use zf_scan::fault::TextFault;
 use zf_scan::next::{Mark, Next};
+use zf_tree::tree::ZBox;
 
 /// A box has mostly more symbols. Where a text has many smaller ones, the list of its boxes grows as it goes.
 const SYMBOLS_OF_A_BOX: usize = 5;

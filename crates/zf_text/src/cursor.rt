@@ -8,13 +8,13 @@ ghost use Rattle.zf_text.specs.TermReading as terms;
 ghost use Rattle.zf_text.specs.TermReading.{Gives};
 ghost use Rattle.zf_scan.specs.declared.fault.TextFaultKind.TheVariants.{Unexpected};
 
-use crate::tree::Name;
 use std::marker::Model;
 use zf_data::arena::Lent;
 use zf_scan::fault::{TextFault, TextFaultKind};
 use zf_scan::next::{Mark, Next};
 use zf_scan::placed::Placed;
-use zf_scan::token::Connective;
+use zf_tree::symbol::Connective;
+use zf_tree::tree::Name;
 
 /// A place in the reduced list of the symbols of a text, which contracts see as the symbols from there on.
 #[derive(Drop)]

@@ -2,11 +2,11 @@
 ghost use Rattle.std.specs.Prelude.{◌≡◌, ◌≤◌};
 ghost use Rattle.zf_text.specs.Levels as levels;
 ghost use Rattle.zf_text.specs.TermReading as spec;
-ghost use Rattle.zf_text.specs.Trees.{tree_of};
+ghost use Rattle.zf_tree.specs.Trees.{tree_of};
 
-use crate::tree::{Sign, Term};
 use zf_scan::next::Next;
-use zf_scan::token::{Connective, Infix, Prefix};
+use zf_tree::symbol::{Connective, Infix, Prefix};
+use zf_tree::tree::{Sign, Term};
 
 /// A quantifier; the place of any term.
 pub const QUANTIFIER: u8 = 0;
@@ -104,7 +104,7 @@ pub fn sign_level(sign: Sign) -> u8
     }
 }
 
-#[tactic(auto, using(crate::proofs::TermSeen::seen))]
+#[tactic(auto, using(zf_tree::proofs::TermSeen::seen))]
 pub fn level(term: &Term<'_>) -> u8
     ensures { result ≡ levels.level (tree_of term.now) }
 {

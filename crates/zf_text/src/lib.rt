@@ -12,4 +12,3 @@ pub mod reading;
 mod schemas;
 mod tall;
 mod terms;
-pub mod tree;

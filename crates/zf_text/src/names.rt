@@ -3,11 +3,11 @@ ghost use Rattle.zf_text.specs.Reading as spec;
 ghost use Rattle.zf_text.specs.TermReading.{Gives, lift, read_names};
 
 use crate::cursor::Cursor;
-use crate::tree::Name;
 use bumpalo::Bump;
 use zf_data::arena::Items;
 use zf_scan::fault::TextFault;
 use zf_scan::next::Mark;
+use zf_tree::tree::Name;
 
 /// One or more names, parted by a symbol.
 pub fn parted_names<'a>(

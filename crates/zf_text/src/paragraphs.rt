@@ -10,10 +10,10 @@ use crate::names::{names, parted_names};
 use crate::schemas::schema;
 use crate::tall::Tall;
 use crate::terms::term;
-use crate::tree::{Name, Paragraph};
 use bumpalo::Bump;
 use zf_scan::fault::TextFault;
 use zf_scan::next::{Mark, Next};
+use zf_tree::tree::{Name, Paragraph};
 
 /// Given sets, after the opening bracket.
 #[tactic(auto, unfolding(crate::specs::BoxReading::given))]

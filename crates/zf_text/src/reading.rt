@@ -6,13 +6,12 @@ ghost use Rattle.zf_scan.specs.Cuts.{IsWantOfMemory};
 ghost use Rattle.zf_scan.specs.Placing.{symbol_at, token_at, unplaced};
 ghost use Rattle.zf_text.specs.Reads.{Reads};
 ghost use Rattle.zf_scan.specs.Separators.{reduced, starts_closed};
-ghost use Rattle.zf_text.specs.Trees.{BoxTree};
+ghost use Rattle.zf_tree.specs.Trees.{BoxTree};
 ghost use Rattle.zf_scan.specs.declared.placed.Placed.{Placed};
 ghost use Rattle.zf_scan.specs.declared.token.Token.{Token};
 
 use crate::boxes::{all, only};
 use crate::cursor::Cursor;
-use crate::tree::{Spec, ZBox};
 use bumpalo::Bump;
 use bumpalo::collections::into_bump_slice;
 use std::alloc::Global;
@@ -22,6 +21,7 @@ use zf_scan::laid::{Laid, lay_out};
 use zf_scan::placed::Placed;
 use zf_scan::scan::{Border, cut_rest, next_box};
 use zf_scan::token::Token;
+use zf_tree::tree::{Spec, ZBox};
 
 /// Whether a separator before these symbols is dropped.
 fn starts_closed(symbols: &[Placed]) -> bool

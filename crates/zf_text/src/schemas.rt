@@ -8,11 +8,11 @@ ghost use Rattle.zf_text.specs.TermReading.{Gives};
 use crate::cursor::Cursor;
 use crate::decls::{decls, predicates, reference};
 use crate::tall::{Tall, too_deep};
-use crate::tree::SchemaExp;
 use bumpalo::Bump;
 use zf_data::arena::Boxed;
 use zf_scan::fault::TextFault;
 use zf_scan::next::{Mark, Next};
+use zf_tree::tree::SchemaExp;
 
 /// A schema text after its opening bracket, with parts up to the height `below`.
 #[tactic(auto, unfolding(crate::specs::BoxReading::schema_text))]

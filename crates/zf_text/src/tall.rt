@@ -5,10 +5,10 @@ ghost use Rattle.zf_scan.specs.declared.fault.TextFaultKind.TheVariants.{TooDeep
 ghost use Rattle.zf_text.specs.TermReading as spec;
 ghost use Rattle.zf_text.specs.TermReading.{Gives};
 
-use crate::tree::Term;
 use bumpalo::Bump;
 use zf_data::arena::Boxed;
 use zf_scan::fault::{TextFault, TextFaultKind};
+use zf_tree::tree::Term;
 
 /// What was read, with the height of the highest term in it.
 #[derive(Drop)]

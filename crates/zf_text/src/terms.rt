@@ -11,10 +11,10 @@ mod parts;
 use crate::cursor::Cursor;
 use crate::levels::{binds, level, place_before};
 use crate::tall::{Tall, too_deep};
-use crate::tree::Term;
 use bumpalo::Bump;
 use zf_data::arena::Boxed;
 use zf_scan::fault::TextFault;
+use zf_tree::tree::Term;
 
 /// What the rules are given: how terms that stand one level deeper are read, up to the height `below`.
 #[derive(Clone, Copy)]

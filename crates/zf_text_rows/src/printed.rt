@@ -3,7 +3,7 @@ use std::alloc::Global;
 use std::fmt::Display;
 use std::{fmt, io};
 use zf_data::arena::Boxed;
-use zf_text::tree::{
+use zf_tree::tree::{
     Decl, Link, Name, Paragraph, Part, SchemaExp, SchemaRef, Sign, Spec, Term, VarDecl, ZBox,
 };
 

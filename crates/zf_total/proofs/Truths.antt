@@ -1,12 +1,12 @@
 -- Atoms, connectives and quantifiers have a truth.
 use Rattle.std.proofs.Common.{◌≡◌, ◌⊎◌, ℤ, List, refl, sym, ◌∙◌, subst, inl, inr, ⊎_elim, Option, Some, None}
 use Rattle.std.specs.Prelude.{pos, ◌≤ℤ◌, ◌<ℤ◌}
-use Rattle.zf_scan.specs.declared.token.Connective.{Connective}
-use Rattle.zf_scan.specs.declared.token.Connective.TheVariants as connective
-use Rattle.zf_scan.specs.declared.token.Quantifier.{Quantifier}
-use Rattle.zf_scan.specs.declared.token.Quantifier.TheVariants as quantifier
-use Rattle.zf_scan.specs.declared.token.Relation.{Relation}
-use Rattle.zf_scan.specs.declared.token.Relation.TheVariants as relation
+use Rattle.zf_tree.specs.declared.symbol.Connective.{Connective}
+use Rattle.zf_tree.specs.declared.symbol.Connective.TheVariants as connective
+use Rattle.zf_tree.specs.declared.symbol.Quantifier.{Quantifier}
+use Rattle.zf_tree.specs.declared.symbol.Quantifier.TheVariants as quantifier
+use Rattle.zf_tree.specs.declared.symbol.Relation.{Relation}
+use Rattle.zf_tree.specs.declared.symbol.Relation.TheVariants as relation
 use Rattle.zf_term.specs.declared.extent.Infinite.{Infinite}
 use Rattle.zf_term.specs.declared.extent.Infinite.TheVariants.{Num, Nat, Nat1}
 use Rattle.zf_value.specs.declared.value.Value.{Value, Int}

@@ -5,15 +5,16 @@ use Rattle.std.proofs.Math.Seq.{take-append_seam}
 use Rattle.std.proofs.lemmas.Slice.Eq.{bytes_eq-Decides}
 use Rattle.std.specs.Prelude.{◌⊎◌, Result, OnErr, OnOk}
 use Rattle.std.specs.Str.{bytes_eq}
-use Rattle.zf_text.specs.declared.tree.Name.{Name}
+use Rattle.zf_tree.specs.declared.tree.Name.{Name}
 use Rattle.zf_term.specs.FirstNamed.{later, or_else}
 use Rattle.zf_term.specs.Definitions.{comp_of, globals_of}
-use Rattle.zf_type.specs.declared.fault.TypeFaultKind.{TypeFaultKind}
+use Rattle.zf_term.specs.declared.fault.TypeFaultKind.{TypeFaultKind}
 use Rattle.zf_type.specs.declared.scope.Scope as program
 use Rattle.zf_type.specs.declared.variable.Variable.{Variable}
 use Rattle.zf_type.specs.Judging.{IsBound, AreNew, AreRepeated}
 use Rattle.zf_type.specs.Offences.{IsRepeated, Repeats}
-use Rattle.zf_type.specs.Scopes.{Scope, Var, last_named, scope_of, spelling, variable_of, within}
+use Rattle.zf_type.specs.Scopes.{Scope, Var, last_named, scope_of, variable_of, within}
+use Rattle.zf_tree.specs.Names.{spelling}
 use Rattle.zf_type.specs.Typing.{IsApart, AreApart}
 
 -- ---- the variable of a name

@@ -1,13 +1,13 @@
 -- What a builder is, from what its parts are.
 use Rattle.std.proofs.Common.{◌≡◌, ℕ, List, length, map, Option, Ok, Err, sym, ◌∙◌, subst, inl, inr, ⊎_elim}
 use Rattle.std.specs.Prelude.{Result, IfOk, IsErr, IsErrAnd}
-use Rattle.zf_text.specs.declared.tree.Term.{Term}
-use Rattle.zf_text.specs.declared.tree.VarDecl.{VarDecl}
-use Rattle.zf_text.specs.Trees.{Tree, VarDecls, Perhaps, builder, var_decls, var_decl_of}
-use Rattle.zf_text.proofs.TermSeen as seen
+use Rattle.zf_tree.specs.declared.tree.Term.{Term}
+use Rattle.zf_tree.specs.declared.tree.VarDecl.{VarDecl}
+use Rattle.zf_tree.specs.Trees.{Tree, VarDecls, Perhaps, builder, var_decls, var_decl_of}
+use Rattle.zf_tree.proofs.TermSeen as seen
 use Rattle.zf_term.specs.Written.{part_tree}
-use Rattle.zf_term.specs.declared.operator.Need.{Need}
-use Rattle.zf_term.specs.declared.operator.Need.TheVariants as need
+use Rattle.zf_tree.specs.declared.operator.Need.{Need}
+use Rattle.zf_tree.specs.declared.operator.Need.TheVariants as need
 use Rattle.zf_term.specs.declared.ztype.ZType.{ZType}
 use Rattle.zf_term.specs.Types.{type_of}
 use Rattle.zf_type.specs.declared.fault.Refusal.{Refusal}

@@ -1,12 +1,12 @@
 -- What a chain of relations is, from what its operands are.
 use Rattle.std.proofs.Common.{◌≡◌, ℕ, Err, refl, sym, subst, inl}
 use Rattle.std.specs.Prelude.{Result, IsErr, IsErrAnd}
-use Rattle.zf_scan.specs.declared.token.Relation.{Relation}
-use Rattle.zf_scan.specs.declared.token.Relation.TheVariants.{Equal, NotEqual, Member, NotMember, Subset, ProperSubset, Less, AtMost, Greater, AtLeast}
-use Rattle.zf_text.specs.Trees.{Tree, Links, chain}
-use Rattle.zf_term.specs.Operators.{relation_rule}
-use Rattle.zf_term.specs.declared.operator.Need.{Need}
-use Rattle.zf_term.specs.declared.operator.Need.TheVariants as need
+use Rattle.zf_tree.specs.declared.symbol.Relation.{Relation}
+use Rattle.zf_tree.specs.declared.symbol.Relation.TheVariants.{Equal, NotEqual, Member, NotMember, Subset, ProperSubset, Less, AtMost, Greater, AtLeast}
+use Rattle.zf_tree.specs.Trees.{Tree, Links, chain}
+use Rattle.zf_tree.specs.Operators.{relation_rule}
+use Rattle.zf_tree.specs.declared.operator.Need.{Need}
+use Rattle.zf_tree.specs.declared.operator.Need.TheVariants as need
 use Rattle.zf_type.specs.declared.fault.Refusal.{Refusal}
 use Rattle.zf_type.specs.declared.sort.Sort as program
 use Rattle.zf_type.specs.Judging.{Judges}

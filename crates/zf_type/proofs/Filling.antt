@@ -1,10 +1,10 @@
 -- A term is what it was resolved to, once its references are filled in again.
 use Rattle.std.proofs.Common.{◌≡◌, List, [], ◌++◌, refl, sym, ap, ◌∙◌, append_assoc}
 use Rattle.std.proofs.lemmas.List.{append-nil}
-use Rattle.zf_text.specs.Trees as text
-use Rattle.zf_text.specs.Trees.{Tree, Trees, no_trees, tree, Links, VarDecls, no_decls, var_decl, Perhaps}
-use Rattle.zf_term.specs.declared.operator.Listed.TheVariants.{Tuple, Display, Product}
-use Rattle.zf_term.specs.declared.operator.Unary.TheVariants.{Sign, Inverse, Not}
+use Rattle.zf_tree.specs.Trees as text
+use Rattle.zf_tree.specs.Trees.{Tree, Trees, no_trees, tree, Links, VarDecls, no_decls, var_decl, Perhaps}
+use Rattle.zf_tree.specs.declared.operator.Listed.TheVariants.{Tuple, Display, Product}
+use Rattle.zf_tree.specs.declared.operator.Unary.TheVariants.{Sign, Inverse, Not}
 use Rattle.zf_reference.specs.declared.reference.Reference.{Reference}
 use Rattle.zf_term.specs.Filling.{after, after_all, after_links, after_part, after_ranges, all_filled, all_onto, filled, first, links_filled, links_onto, onto, part_filled, part_onto, ranges_filled, ranges_onto, rest}
 use Rattle.zf_term.specs.ResolvedTrees.{ResolvedTree, reference, number, constant, empty_set, bracket, listed, builder, unary, binary, chain, quantified, ResolvedTrees, no_terms, term, ResolvedLinks, no_links, link, Ranges, no_ranges, range, ResolvedPart, absent, present}

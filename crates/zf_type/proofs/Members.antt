@@ -1,17 +1,16 @@
 -- What members of a tuple, a display or a product make.
 use Rattle.std.proofs.Common.{◌≡◌, ◌<◌, ◌≤◌, zero, suc, arith, get_or, Some, None, ⊎_elim, ℕ, List, [], ◌∷◌, length, map, refl, sym, ap, ◌∙◌, subst, inl, inr}
 use Rattle.std.specs.Prelude.{slice_get}
-use Rattle.zf_text.specs.declared.tree.Term.{Term}
-use Rattle.zf_text.specs.Spelling.{line_of}
-use Rattle.zf_text.specs.Trees.{Tree, Trees, no_trees, tree, trees, tree_of}
+use Rattle.zf_tree.specs.declared.tree.Term.{Term}
+use Rattle.zf_tree.specs.Trees.{line_of, Tree, Trees, no_trees, tree, trees, tree_of}
 use Rattle.zf_term.specs.Types.{Ty, Tys, no_types, type, types, type_of, IsSmall}
-use Rattle.zf_term.specs.declared.operator.Listed.{Listed}
-use Rattle.zf_term.specs.declared.operator.Listed.TheVariants.{Tuple, Display, Product}
-use Rattle.zf_term.specs.declared.operator.Need.{Need}
+use Rattle.zf_tree.specs.declared.operator.Listed.{Listed}
+use Rattle.zf_tree.specs.declared.operator.Listed.TheVariants.{Tuple, Display, Product}
+use Rattle.zf_tree.specs.declared.operator.Need.{Need}
 use Rattle.zf_term.specs.declared.ztype.ZType.{ZType}
 use Rattle.zf_term.specs.ResolvedTrees.{listed}
-use Rattle.zf_type.specs.declared.fault.TypeFaultKind.{TypeFaultKind}
-use Rattle.zf_type.specs.declared.fault.TypeFaultKind.TheVariants.{Mismatch, TooLarge}
+use Rattle.zf_term.specs.declared.fault.TypeFaultKind.{TypeFaultKind}
+use Rattle.zf_term.specs.declared.fault.TypeFaultKind.TheVariants.{Mismatch, TooLarge}
 use Rattle.zf_type.specs.Judging.{listed_tree, member_need, AreMembers, AreAll, Makes, IsOther, DiffersAt}
 use Rattle.zf_type.specs.Offences.{Offends, OneOffends, OneDiffers, Differ}
 use Rattle.zf_type.specs.Resolving.{resolved, resolved_all}

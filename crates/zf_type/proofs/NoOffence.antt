@@ -1,23 +1,23 @@
 -- A term that is well typed for its place has no offence there.
 use Rattle.std.proofs.Common.{◌⊎◌, ℕ, List, [], ◌∷◌, refl, sym, ◌∙◌, subst, inl, inr, ⊎_elim}
 use Rattle.std.proofs.lemmas.Option.{none-some}
-use Rattle.zf_scan.specs.declared.token.Prefix.{Prefix}
-use Rattle.zf_scan.specs.declared.token.Prefix.TheVariants.{Power, Finset, Domain, Range, Size}
-use Rattle.zf_text.specs.declared.tree.Name.{Name}
-use Rattle.zf_text.specs.declared.tree.Sign.{Sign}
-use Rattle.zf_text.specs.declared.tree.Sign.TheVariants as sign
-use Rattle.zf_text.specs.Trees.{Tree, named, numeral, constant, empty_set, bracket, tuple, display, builder, prefixed, inverse, image, applied, infixed, arrow, product, chain, negated, connected, quantified, Trees, no_trees, tree, Links, no_links, link, VarDecls, no_decls, var_decl, Perhaps, absent, present}
-use Rattle.zf_term.specs.Operators.{left_need, right_need, rule_of, relation_rule, prefix_need, sign_need, need_of}
+use Rattle.zf_tree.specs.declared.symbol.Prefix.{Prefix}
+use Rattle.zf_tree.specs.declared.symbol.Prefix.TheVariants.{Power, Finset, Domain, Range, Size}
+use Rattle.zf_tree.specs.declared.tree.Name.{Name}
+use Rattle.zf_tree.specs.declared.tree.Sign.{Sign}
+use Rattle.zf_tree.specs.declared.tree.Sign.TheVariants as sign
+use Rattle.zf_tree.specs.Trees.{Tree, named, numeral, constant, empty_set, bracket, tuple, display, builder, prefixed, inverse, image, applied, infixed, arrow, product, chain, negated, connected, quantified, Trees, no_trees, tree, Links, no_links, link, VarDecls, no_decls, var_decl, Perhaps, absent, present}
+use Rattle.zf_tree.specs.Operators.{left_need, right_need, rule_of, relation_rule, prefix_need, sign_need, need_of}
 use Rattle.zf_term.specs.Types.{Ty, power, Tys, IsSmall}
-use Rattle.zf_term.specs.declared.operator.Need.{Need}
-use Rattle.zf_term.specs.declared.operator.Need.TheVariants as need
-use Rattle.zf_term.specs.declared.operator.Operator.TheVariants.{Function, Generic, Connective, Application, Image}
-use Rattle.zf_term.specs.declared.operator.Rule.{Rule}
-use Rattle.zf_term.specs.declared.operator.Rule.TheVariants as rule
-use Rattle.zf_term.specs.declared.operator.Unary.{Unary}
-use Rattle.zf_term.specs.declared.operator.Unary.TheVariants as unary
+use Rattle.zf_tree.specs.declared.operator.Need.{Need}
+use Rattle.zf_tree.specs.declared.operator.Need.TheVariants as need
+use Rattle.zf_tree.specs.declared.operator.Operator.TheVariants.{Function, Generic, Connective, Application, Image}
+use Rattle.zf_tree.specs.declared.operator.Rule.{Rule}
+use Rattle.zf_tree.specs.declared.operator.Rule.TheVariants as rule
+use Rattle.zf_tree.specs.declared.operator.Unary.{Unary}
+use Rattle.zf_tree.specs.declared.operator.Unary.TheVariants as unary
 use Rattle.zf_term.specs.Types as t
-use Rattle.zf_type.specs.declared.fault.TypeFaultKind.{TypeFaultKind}
+use Rattle.zf_term.specs.declared.fault.TypeFaultKind.{TypeFaultKind}
 use Rattle.zf_type.specs.Rules.{Sort, typed, predicate, set_of, IsSmallSort, Meets, Takes, PrefixTakes, SignTakes, UnaryTakes}
 use Rattle.zf_type.specs.Scopes.{Scope, Var, within}
 use Rattle.zf_type.specs.Typing.{declared, IsApart, AreApart, IsOf, AreOf, AreSetsOf, AllAreOf, AreLinked, Declare, Constrains, Builds}

@@ -1,17 +1,17 @@
 -- A term is of one sort at most, and what it declares or builds is one thing.
 use Rattle.std.proofs.Common.{◌≡◌, List, ◌++◌, sym, ap, ◌∙◌, subst}
 use Rattle.std.proofs.lemmas.Option.{same_Some}
-use Rattle.zf_scan.specs.declared.token.Prefix.{Prefix}
-use Rattle.zf_scan.specs.declared.token.Prefix.TheVariants.{Power, Finset, Domain, Range, Size}
-use Rattle.zf_text.specs.declared.tree.Sign.{Sign}
-use Rattle.zf_text.specs.declared.tree.Sign.TheVariants as sign
-use Rattle.zf_text.specs.Trees.{Tree, named, numeral, constant, empty_set, bracket, tuple, display, builder, prefixed, inverse, image, applied, infixed, arrow, product, chain, negated, connected, quantified, Trees, no_trees, tree, VarDecls, no_decls, var_decl, Perhaps, absent, present}
-use Rattle.zf_term.specs.Operators.{rule_of}
-use Rattle.zf_term.specs.declared.operator.Operator.TheVariants.{Function, Generic, Connective, Application, Image}
-use Rattle.zf_term.specs.declared.operator.Rule.{Rule}
-use Rattle.zf_term.specs.declared.operator.Rule.TheVariants as rule
-use Rattle.zf_term.specs.declared.operator.Unary.{Unary}
-use Rattle.zf_term.specs.declared.operator.Unary.TheVariants as unary
+use Rattle.zf_tree.specs.declared.symbol.Prefix.{Prefix}
+use Rattle.zf_tree.specs.declared.symbol.Prefix.TheVariants.{Power, Finset, Domain, Range, Size}
+use Rattle.zf_tree.specs.declared.tree.Sign.{Sign}
+use Rattle.zf_tree.specs.declared.tree.Sign.TheVariants as sign
+use Rattle.zf_tree.specs.Trees.{Tree, named, numeral, constant, empty_set, bracket, tuple, display, builder, prefixed, inverse, image, applied, infixed, arrow, product, chain, negated, connected, quantified, Trees, no_trees, tree, VarDecls, no_decls, var_decl, Perhaps, absent, present}
+use Rattle.zf_tree.specs.Operators.{rule_of}
+use Rattle.zf_tree.specs.declared.operator.Operator.TheVariants.{Function, Generic, Connective, Application, Image}
+use Rattle.zf_tree.specs.declared.operator.Rule.{Rule}
+use Rattle.zf_tree.specs.declared.operator.Rule.TheVariants as rule
+use Rattle.zf_tree.specs.declared.operator.Unary.{Unary}
+use Rattle.zf_tree.specs.declared.operator.Unary.TheVariants as unary
 use Rattle.zf_term.specs.Types as t
 use Rattle.zf_term.specs.Types.{Ty, Tys, type}
 use Rattle.zf_type.specs.Rules.{Sort, typed, set_of, Takes, PrefixTakes, SignTakes, UnaryTakes}

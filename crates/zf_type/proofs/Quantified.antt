@@ -1,14 +1,14 @@
 -- What is bound within declarations, from what its parts are.
 use Rattle.std.proofs.Common.{◌≡◌, ℕ, List, map, Option, Some, None, Ok, Err, refl, sym, ap, ◌∙◌, subst, inl, inr, ⊎_elim, true≢false}
 use Rattle.std.specs.Prelude.{Result, IsErr, IsErrAnd, IsOk, OnOk}
-use Rattle.zf_scan.specs.declared.token.Quantifier.{Quantifier}
-use Rattle.zf_text.specs.declared.tree.Term.{Term}
-use Rattle.zf_text.specs.declared.tree.VarDecl.{VarDecl}
-use Rattle.zf_text.specs.Trees.{Tree, VarDecls, Perhaps, absent, present, builder, quantified, var_decls, var_decl_of}
-use Rattle.zf_text.proofs.TermSeen as seen
+use Rattle.zf_tree.specs.declared.symbol.Quantifier.{Quantifier}
+use Rattle.zf_tree.specs.declared.tree.Term.{Term}
+use Rattle.zf_tree.specs.declared.tree.VarDecl.{VarDecl}
+use Rattle.zf_tree.specs.Trees.{Tree, VarDecls, Perhaps, absent, present, builder, quantified, var_decls, var_decl_of}
+use Rattle.zf_tree.proofs.TermSeen as seen
 use Rattle.zf_term.specs.Written.{part_tree}
-use Rattle.zf_term.specs.declared.operator.Need.{Need}
-use Rattle.zf_term.specs.declared.operator.Need.TheVariants as need
+use Rattle.zf_tree.specs.declared.operator.Need.{Need}
+use Rattle.zf_tree.specs.declared.operator.Need.TheVariants as need
 use Rattle.zf_reference.specs.declared.reference.Reference.{Reference}
 use Rattle.zf_term.specs.Filling.{onto, part_onto, ranges_onto}
 use Rattle.zf_type.specs.declared.fault.Refusal.{Refusal}

@@ -1,9 +1,9 @@
 -- What is taken together where both operands have one sort, rule by rule.
 use Rattle.std.proofs.Common.{◌≡◌, Option, Some, None, sym, subst, ◌∙◌, ◌⊎◌, ⊎_elim}
 use Rattle.std.specs.Prelude.{MatchOption}
-use Rattle.zf_term.specs.Operators.{left_need}
-use Rattle.zf_term.specs.declared.operator.Rule.{Rule}
-use Rattle.zf_term.specs.declared.operator.Rule.TheVariants as rule
+use Rattle.zf_tree.specs.Operators.{left_need}
+use Rattle.zf_tree.specs.declared.operator.Rule.{Rule}
+use Rattle.zf_tree.specs.declared.operator.Rule.TheVariants as rule
 use Rattle.zf_type.specs.declared.sort.Sort as program
 use Rattle.zf_type.specs.Rules.{Sort, predicate, sort_of, Meets, IsMade}
 

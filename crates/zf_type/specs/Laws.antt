@@ -1,8 +1,8 @@
 -- What holds of every term.
 use Rattle.std.specs.Prelude.{◌≡◌, ℕ}
-use Rattle.zf_text.specs.Trees.{Tree}
-use Rattle.zf_term.specs.declared.operator.Need.{Need}
-use Rattle.zf_type.specs.declared.fault.TypeFaultKind.{TypeFaultKind}
+use Rattle.zf_tree.specs.Trees.{Tree}
+use Rattle.zf_tree.specs.declared.operator.Need.{Need}
+use Rattle.zf_term.specs.declared.fault.TypeFaultKind.{TypeFaultKind}
 use Rattle.zf_type.specs.Rules.{Sort, Meets}
 use Rattle.zf_type.specs.Scopes.{Scope}
 use Rattle.zf_type.specs.Typing.{IsOf}

@@ -1,20 +1,20 @@
 -- The rules of types: what the places of a symbol need, and how the types of its operands and of the whole belong together.
 use Rattle.std.specs.Prelude.{◌≡◌, Option, Some, None}
-use Rattle.zf_scan.specs.declared.token.Constant.{Constant}
-use Rattle.zf_scan.specs.declared.token.Constant.TheVariants.{True, False, Integers, Naturals, Positives}
-use Rattle.zf_scan.specs.declared.token.Prefix.{Prefix}
-use Rattle.zf_scan.specs.declared.token.Prefix.TheVariants.{Power, Finset, Domain, Range, Size}
-use Rattle.zf_text.specs.declared.tree.Sign.{Sign}
-use Rattle.zf_text.specs.declared.tree.Sign.TheVariants as sign
+use Rattle.zf_tree.specs.declared.symbol.Constant.{Constant}
+use Rattle.zf_tree.specs.declared.symbol.Constant.TheVariants.{True, False, Integers, Naturals, Positives}
+use Rattle.zf_tree.specs.declared.symbol.Prefix.{Prefix}
+use Rattle.zf_tree.specs.declared.symbol.Prefix.TheVariants.{Power, Finset, Domain, Range, Size}
+use Rattle.zf_tree.specs.declared.tree.Sign.{Sign}
+use Rattle.zf_tree.specs.declared.tree.Sign.TheVariants as sign
 use Rattle.zf_term.specs.Types.{Ty, int, power, type_of, pair, IsSmall}
-use Rattle.zf_term.specs.declared.operator.Need.{Need}
-use Rattle.zf_term.specs.declared.operator.Need.TheVariants as need
-use Rattle.zf_term.specs.declared.operator.Rule.{Rule}
-use Rattle.zf_term.specs.declared.operator.Rule.TheVariants as rule
-use Rattle.zf_term.specs.declared.operator.Unary.{Unary}
-use Rattle.zf_term.specs.declared.operator.Unary.TheVariants as unary
-use Rattle.zf_type.specs.declared.fault.TypeFaultKind.{TypeFaultKind}
-use Rattle.zf_type.specs.declared.fault.TypeFaultKind.TheVariants.{NotASet, NotANumber, NotARelation, NotAPredicate, NotAnExpression}
+use Rattle.zf_tree.specs.declared.operator.Need.{Need}
+use Rattle.zf_tree.specs.declared.operator.Need.TheVariants as need
+use Rattle.zf_tree.specs.declared.operator.Rule.{Rule}
+use Rattle.zf_tree.specs.declared.operator.Rule.TheVariants as rule
+use Rattle.zf_tree.specs.declared.operator.Unary.{Unary}
+use Rattle.zf_tree.specs.declared.operator.Unary.TheVariants as unary
+use Rattle.zf_term.specs.declared.fault.TypeFaultKind.{TypeFaultKind}
+use Rattle.zf_term.specs.declared.fault.TypeFaultKind.TheVariants.{NotASet, NotANumber, NotARelation, NotAPredicate, NotAnExpression}
 use Rattle.zf_type.specs.declared.sort.Sort as program
 use Rattle.zf_type.specs.declared.sort.Sort.TheVariants.{Typed}
 

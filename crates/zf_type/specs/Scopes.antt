@@ -1,7 +1,6 @@
 -- What a name stands for: the innermost bound variable of that name, else the component, else the global.
 use Rattle.std.specs.Prelude.{ℕ, if◌then◌else◌, List, [], ◌∷◌, ◌++◌, Option, Some, None, map}
 use Rattle.std.specs.Str.{bytes_eq}
-use Rattle.zf_text.specs.declared.tree.Name.{Name}
 use Rattle.zf_term.specs.FirstNamed.{later, or_else, first_named}
 use Rattle.zf_reference.specs.declared.reference.Reference.{Reference}
 use Rattle.zf_reference.specs.declared.reference.Reference.TheVariants.{Component, Local, Global}
@@ -11,10 +10,6 @@ use Rattle.zf_type.specs.declared.scope.Scope as program_scope
 use Rattle.zf_type.specs.declared.variable.Variable.{Variable}
 use Rattle.zf_type.specs.declared.sort.Sort as program
 use Rattle.zf_type.specs.Rules.{Sort, typed, a_schema, set_of, sort_of}
-
--- two names are the same name where their spellings are equal
-abbrev pub spelling : Name → List ℕ
-spelling n = n.base ++ n.strokes
 
 -- a bound variable
 pub record Var : Type 0 where
@@ -71,11 +66,6 @@ meaning s x =
 
 unfoldable pub scope_of : program_scope.Scope → Scope
 scope_of s = record { globals = globals_of s.globals.now; comps = map comp_of s.components.now; locals = map variable_of s.locals }
-
--- what is found, with its place
-abbrev pub found_as : {A B : Type 0} → (A → B) → Option (ℕ × A) → Option (ℕ × B)
-found_as f None = None
-found_as f (Some p) = Some (p.0, f p.1)
 
 abbrev pub meant : Option (Reference × program.Sort) → Option (Reference × Sort)
 meant None = None

@@ -1,17 +1,18 @@
 //! Bound variables: how declarations bring them into scope, and how they leave it.
 ghost use Rattle.std.specs.Prelude.{◌≡◌, ℕ, IfOk, IfErr, OnOk, OnErr, List, ◌++◌, length, map};
-ghost use Rattle.zf_text.specs.declared.tree.Name as program;
+ghost use Rattle.zf_tree.specs.declared.tree.Name as program;
 ghost use Rattle.zf_term.specs.Types.{Ty, type_of};
-ghost use Rattle.zf_term.specs.declared.operator.Need.TheVariants as needs;
+ghost use Rattle.zf_tree.specs.declared.operator.Need.TheVariants as needs;
 ghost use Rattle.zf_type.specs.Judging.{AreNew, AreRepeated, var_type};
 ghost use Rattle.zf_type.specs.Refusals.{IfFault};
 ghost use Rattle.zf_type.specs.Rules.{Meets, set_of, sort_of};
 ghost use Rattle.zf_type.specs.Scopes as spec;
-ghost use Rattle.zf_type.specs.Scopes.{Var, scope_of, spelling, variable_of, within};
+ghost use Rattle.zf_type.specs.Scopes.{Var, scope_of, variable_of, within};
+ghost use Rattle.zf_tree.specs.Names.{spelling};
 ghost use Rattle.zf_type.specs.Typing as typing;
-ghost use Rattle.zf_type.specs.declared.fault.TypeFaultKind as faults;
+ghost use Rattle.zf_term.specs.declared.fault.TypeFaultKind as faults;
 
-use crate::fault::{Refusal, TypeFaultKind, refused};
+use crate::fault::{Refusal, refused};
 use crate::locals::Locals;
 use crate::scope::{Scope, is_bound};
 use crate::sort::Sort;
@@ -19,8 +20,9 @@ use crate::variable::Variable;
 use bumpalo::Bump;
 use std::alloc::AllocError;
 use zf_data::arena::Items;
+use zf_term::fault::TypeFaultKind;
 use zf_term::ztype::{ZType, product_type};
-use zf_text::tree::Name;
+use zf_tree::tree::Name;
 
 /// Adds variables of these names, which are members of a set of this sort.
 pub(crate) fn declare_names<'a>(

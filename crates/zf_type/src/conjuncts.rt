@@ -1,9 +1,9 @@
 //! The conjuncts of a predicate of the text.
 ghost use Rattle.std.specs.Prelude.{◌≡◌, ◌++◌, [], ◌∷◌, IfErr, OnOk, map};
-ghost use Rattle.zf_text.specs.Trees.{tree_of};
+ghost use Rattle.zf_tree.specs.Trees.{tree_of};
 ghost use Rattle.zf_term.specs.Shapes as spec;
 ghost use Rattle.zf_term.specs.Written.{is_conjunction, written_of};
-ghost use Rattle.zf_term.specs.declared.operator.Need.TheVariants as needs;
+ghost use Rattle.zf_tree.specs.declared.operator.Need.TheVariants as needs;
 ghost use Rattle.zf_type.specs.Offences.{Offends};
 ghost use Rattle.zf_type.specs.Refusals.{IfFault};
 ghost use Rattle.zf_type.specs.Resolving.{resolved};
@@ -16,13 +16,13 @@ use crate::judge::judge;
 use crate::scope::Scope;
 use bumpalo::Bump;
 use zf_data::arena::Items;
-use zf_scan::token::Connective;
-use zf_term::operator::Need;
 use zf_term::written::Written;
-use zf_text::tree::Term;
+use zf_tree::operator::Need;
+use zf_tree::symbol::Connective;
+use zf_tree::tree::Term;
 
 /// Whether it is a conjunction, within brackets or without.
-#[tactic(auto, using(zf_text::proofs::TermSeen::seen))]
+#[tactic(auto, using(zf_tree::proofs::TermSeen::seen))]
 fn is_conjunction(term: &Term<'_>) -> bool
     ensures { result ≡ is_conjunction (tree_of term.now) }
 {
@@ -50,7 +50,7 @@ fn is_conjunction(term: &Term<'_>) -> bool
 }
 
 /// Adds the conjuncts of the predicate, where it is one.
-#[tactic(auto, using(zf_text::proofs::TermSeen::seen))]
+#[tactic(auto, using(zf_tree::proofs::TermSeen::seen))]
 pub fn push_conjuncts<'a>(
     term: &'a Term<'a>,
     arena: &'a Bump,

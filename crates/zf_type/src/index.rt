@@ -1,12 +1,14 @@
 //! Variables that are found by buckets of their names.
 ghost use Rattle.std.specs.Prelude.{◌≡◌, ◌-◌, ◌^◌, ◌∷◌, ◌++◌, ◌<◌, [], IfSome, OnOk, OnErr, get_or, length, map, take};
 ghost use Rattle.zf_type.specs.Buckets.{AreHeads, IsIndexed};
-ghost use Rattle.zf_type.specs.Scopes.{found_as, last_named, variable_of};
+ghost use Rattle.zf_type.specs.Scopes.{last_named, variable_of};
+ghost use Rattle.zf_term.specs.FirstNamed.{found_as};
 
-use crate::spelling::{BUCKETS, bucket_of, is_same};
+use crate::spelling::{BUCKETS, bucket_of};
 use crate::variable::Variable;
 use std::alloc::{AllocError, Global};
 use std::marker::Model;
+use zf_term::spelling::is_same;
 
 /// Variables, each with the way to those before it that have names of its bucket.
 #[derive(Drop)]

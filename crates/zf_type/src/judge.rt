@@ -1,8 +1,7 @@
 //! What a term is by the typing rules, or an offence against them.
 ghost use Rattle.std.specs.Prelude.{◌≡◌, ℕ, IfOk, IfErr, OnOk};
-ghost use Rattle.zf_text.specs.Spelling as text;
-ghost use Rattle.zf_text.specs.Trees as tree;
-ghost use Rattle.zf_text.specs.Trees.{Tree, named, numeral, tree_of};
+ghost use Rattle.zf_tree.specs.Trees as tree;
+ghost use Rattle.zf_tree.specs.Trees.{Tree, named, numeral, tree_of};
 ghost use Rattle.zf_term.specs.Filling.{onto};
 ghost use Rattle.zf_term.specs.Written.{written_of};
 ghost use Rattle.zf_type.specs.Judging.{Judges};
@@ -20,7 +19,7 @@ mod chains;
 mod lists;
 mod operands;
 
-use crate::fault::{Refusal, TypeFaultKind, refused};
+use crate::fault::{Refusal, refused};
 use crate::rules::constant_sort;
 use crate::scope::Scope;
 use crate::sort::Sort;
@@ -30,11 +29,12 @@ use chains::chain;
 use lists::listed;
 use operands::{binary, unary};
 use zf_data::arena::Boxed;
-use zf_scan::token::Constant;
-use zf_term::operator::{Listed, Need, Operator, Unary};
+use zf_term::fault::TypeFaultKind;
 use zf_term::written::Written;
 use zf_term::ztype::ZType;
-use zf_text::tree::{Name, Term};
+use zf_tree::operator::{Listed, Need, Operator, Unary};
+use zf_tree::symbol::Constant;
+use zf_tree::tree::{Name, Term};
 
 /// A term as it is written, and what it is.
 #[derive(Drop)]
@@ -85,7 +85,7 @@ fn judge_boxed<'a>(
 }
 
 #[cycle(judging)]
-#[tactic(auto, using(zf_text::proofs::TermSeen::seen))]
+#[tactic(auto, using(zf_tree::proofs::TermSeen::seen))]
 fn judge_term<'a>(
     term: &Term<'a>,
     arena: &'a Bump,
@@ -323,7 +323,7 @@ fn number<'a>(need: Need, line: u32) -> Result<Sort<'a>, Refusal>
 
 /// A predicate that stands at this line.
 fn predicate<'a>(need: Need, line: u32) -> Result<Sort<'a>, Refusal>
-    ensures { (s : spec.Scope) (e : Tree) → IsOf s e rules.predicate → line ≡ text.line_of e → Judges s need e result }
+    ensures { (s : spec.Scope) (e : Tree) → IsOf s e rules.predicate → line ≡ tree.line_of e → Judges s need e result }
 {
     let sort = Sort::Predicate;
     if !sort.meets(need) {
@@ -335,7 +335,7 @@ fn predicate<'a>(need: Need, line: u32) -> Result<Sort<'a>, Refusal>
 /// The refusal of a term of this sort and line, whose place does not take it.
 #[inline(never)]
 fn misplaced(sort: &Sort<'_>, need: Need, line: u32) -> Refusal
-    ensures { (s : spec.Scope) (e : Tree) → IsOf s e (sort_of sort.now) → (Meets need (sort_of sort.now) → ⊥) → line ≡ text.line_of e → IfFault result (λ kind m. Offends s need e kind m) }
+    ensures { (s : spec.Scope) (e : Tree) → IsOf s e (sort_of sort.now) → (Meets need (sort_of sort.now) → ⊥) → line ≡ tree.line_of e → IfFault result (λ kind m. Offends s need e kind m) }
 {
     refused(sort.lack(need), line)
 }

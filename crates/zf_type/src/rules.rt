@@ -1,10 +1,10 @@
 //! The rules of types: what terms make together.
 ghost use Rattle.std.specs.Prelude.{◌≡◌, ◌↔◌, IsTrue, IfOk, MatchOption};
-ghost use Rattle.zf_scan.specs.declared.token.Prefix.TheVariants as prefix;
-ghost use Rattle.zf_text.specs.declared.tree.Sign.TheVariants as sign;
-ghost use Rattle.zf_term.specs.Operators.{left_need};
-ghost use Rattle.zf_term.specs.declared.operator.Rule.TheVariants as rule;
-ghost use Rattle.zf_term.specs.declared.operator.Unary.TheVariants as unary;
+ghost use Rattle.zf_tree.specs.declared.symbol.Prefix.TheVariants as prefix;
+ghost use Rattle.zf_tree.specs.declared.tree.Sign.TheVariants as sign;
+ghost use Rattle.zf_tree.specs.Operators.{left_need};
+ghost use Rattle.zf_tree.specs.declared.operator.Rule.TheVariants as rule;
+ghost use Rattle.zf_tree.specs.declared.operator.Unary.TheVariants as unary;
 ghost use Rattle.zf_term.specs.Types.{int, type_of};
 ghost use Rattle.zf_type.specs.Rules as spec;
 ghost use Rattle.zf_type.specs.Rules.{IsMade, IsMadeOfOne, Meets, predicate, relation, set_of, sort_of};
@@ -12,10 +12,10 @@ ghost use Rattle.zf_type.specs.Rules.{IsMade, IsMadeOfOne, Meets, predicate, rel
 use crate::sort::Sort;
 use bumpalo::Bump;
 use std::alloc::AllocError;
-use zf_scan::token::{Constant, Prefix};
-use zf_term::operator::{Need, Rule, Unary};
 use zf_term::ztype::{ZType, pair_type, set_type};
-use zf_text::tree::Sign;
+use zf_tree::operator::{Need, Rule, Unary};
+use zf_tree::symbol::{Constant, Prefix};
+use zf_tree::tree::Sign;
 
 /// What two operands make by a rule, where it takes them together.
 pub fn combine<'a>(

@@ -1,22 +1,22 @@
 //! What names stand for.
 ghost use Rattle.std.specs.Prelude.{◌≡◌, ◌↔◌, IsTrue, IfOk, map};
-ghost use Rattle.zf_term.specs.FirstNamed.{first_named};
-ghost use Rattle.zf_term.specs.Definitions.{comp_of, entry_of, definition_of, globals_of};
+ghost use Rattle.zf_term.specs.Definitions.{definition_of};
 ghost use Rattle.zf_type.specs.Judging.{IsBound};
 ghost use Rattle.zf_type.specs.Rules.{sort_of};
 ghost use Rattle.zf_type.specs.Scopes as spec;
-ghost use Rattle.zf_type.specs.Scopes.{scope_of, variable_of, spelling, meant, found_as};
+ghost use Rattle.zf_type.specs.Scopes.{scope_of, variable_of, meant};
+ghost use Rattle.zf_tree.specs.Names.{spelling};
 
 use crate::locals::Locals;
 use crate::sort::Sort;
-use crate::spelling::is_same;
 use bumpalo::Bump;
 use std::alloc::AllocError;
 use zf_data::arena::{Lent, Shared};
 use zf_reference::reference::Reference;
 use zf_term::globals::{Component, Entry, Globals};
+use zf_term::named::{component_of, global_of};
 use zf_term::ztype::ZType;
-use zf_text::tree::Name;
+use zf_tree::tree::Name;
 
 /// What is in scope; the variables that are bound last stand last.
 #[derive(Drop)]
@@ -72,31 +72,6 @@ pub(crate) fn is_bound(locals: &Locals<'_>, name: &[u8]) -> bool
     match locals.find(name) {
         Some(_) => true,
         None => false,
-    }
-}
-
-/// The component of the name, with its place.
-pub fn component_of<'a, 'b>(
-    components: &'b [Component<'a>],
-    name: &[u8],
-) -> Option<(usize, &'b Component<'a>)>
-    ensures { found_as (λ c. comp_of c.now) result ≡ first_named (λ c. c.name) name.now (map comp_of components.now) }
-{
-    for (place, component) in components.iter().enumerate() {
-        if is_same(component.name.as_slice(), name) {
-            return Some((place, component));
-        }
-    }
-    None
-}
-
-/// What the global of the name is defined as, with its place.
-pub fn global_of<'a, 'b>(globals: &'b Globals<'a>, name: &[u8]) -> Option<(usize, &'b Entry<'a>)>
-    ensures { found_as (λ e. entry_of name.now e.now) result ≡ first_named (λ d. d.name) name.now (globals_of globals.now) }
-{
-    match globals.entries.get_full(name) {
-        Some((place, _, entry)) => Some((place, entry)),
-        None => None,
     }
 }
 

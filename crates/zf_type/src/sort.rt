@@ -3,10 +3,10 @@ ghost use Rattle.std.specs.Prelude.{◌≡◌, ◌↔◌, IsTrue, IfOk, MatchOpt
 ghost use Rattle.zf_term.specs.Types.{Ty, type_of};
 ghost use Rattle.zf_type.specs.Rules.{IsSmallSort, Meets, lack, lack_of, untyped_lack, relation, set_of, sort_of, typed};
 
-use crate::fault::TypeFaultKind;
 use std::alloc::AllocError;
-use zf_term::operator::Need;
+use zf_term::fault::TypeFaultKind;
 use zf_term::ztype::ZType;
+use zf_tree::operator::Need;
 
 /// What a term is.
 #[derive(Drop)]

@@ -1,9 +1,10 @@
 //! Bound variables.
 ghost use Rattle.std.specs.Prelude.{◌≡◌, map};
-ghost use Rattle.zf_type.specs.Scopes.{found_as, last_named, variable_of};
+ghost use Rattle.zf_type.specs.Scopes.{last_named, variable_of};
+ghost use Rattle.zf_term.specs.FirstNamed.{found_as};
 
-use crate::spelling::is_same;
 use zf_data::arena::Lent;
+use zf_term::spelling::is_same;
 use zf_term::ztype::ZType;
 
 /// A bound variable.

@@ -5,17 +5,17 @@ use Rattle.std.proofs.lemmas.Option.{same_Some, none-some}
 use Rattle.std.specs.Int.{w64}
 use Rattle.std.proofs.lemmas.Bool.{cases_lt}
 use Rattle.std.proofs.lemmas.Int.{ints}
-use Rattle.zf_text.specs.Trees.{Tree}
+use Rattle.zf_tree.specs.Trees.{Tree}
 use Rattle.zf_term.specs.declared.extent.Infinite.{Infinite}
 use Rattle.zf_term.specs.declared.extent.Infinite.TheVariants.{Num, Nat, Nat1}
 use Rattle.zf_term.specs.Definitions.{Defined, DeclaredSet, plain, carrier, sides, DeclaredSets, no_sets, set}
-use Rattle.zf_term.specs.Extents.{direct}
+use Rattle.zf_extent.specs.Extents.{direct}
 use Rattle.zf_term.specs.ResolvedTrees.{ResolvedTree}
 use Rattle.zf_term.specs.Types.{Ty, int, power, has_numbers}
 use Rattle.zf_type.specs.Resolving.{resolved}
 use Rattle.zf_type.specs.Rules.{set_of}
 use Rattle.zf_type.specs.Typing.{IsOf}
-use Rattle.zf_calculus.specs.Expressions.{outside}
+use Rattle.zf_schema.specs.Expressions.{outside}
 use Rattle.zf_schema.specs.WellTypedGlobals.{AreWellTyped}
 use Rattle.zf_value.specs.declared.value.Value.{Value, Int}
 use Rattle.zf_value.specs.declared.value.Outcome.{Outcome}

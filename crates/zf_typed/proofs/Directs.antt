@@ -2,21 +2,22 @@
 use Rattle.std.proofs.Common.{◌≡◌, ℕ, zero, suc, ◌<◌, List, [], ◌∷◌, take, Option, Some, None, refl, sym, ap, ◌∙◌, arith}
 use Rattle.std.specs.Prelude.{slice_get}
 use Rattle.std.proofs.lemmas.Option.{same_Some, none-some}
-use Rattle.zf_scan.specs.declared.token.Constant.{Constant}
-use Rattle.zf_scan.specs.declared.token.Constant.TheVariants as constants
-use Rattle.zf_text.specs.Trees as text
-use Rattle.zf_text.specs.Trees.{Tree}
+use Rattle.zf_tree.specs.declared.symbol.Constant.{Constant}
+use Rattle.zf_tree.specs.declared.symbol.Constant.TheVariants as constants
+use Rattle.zf_tree.specs.Trees as text
+use Rattle.zf_tree.specs.Trees.{Tree}
 use Rattle.zf_term.specs.declared.extent.Infinite.{Infinite}
 use Rattle.zf_reference.specs.declared.reference.Reference.{Reference}
 use Rattle.zf_term.specs.Definitions.{Defined, Definition, given_set, free_type, constructor, abbreviation, schema}
-use Rattle.zf_term.specs.Extents.{direct, constant_set, definition_extent, extent_found, extent_named, extent_set, extent_by, offending}
+use Rattle.zf_extent.specs.Extents.{direct, constant_set, definition_extent, extent_found, extent_named, extent_set, extent_by, offending}
 use Rattle.zf_term.specs.FirstNamed.{first_named}
 use Rattle.zf_term.specs.Types.{Ty, int, power}
 use Rattle.zf_type.specs.Resolving.{referent, resolved}
 use Rattle.zf_type.specs.Rules.{typed, constant_sort}
-use Rattle.zf_type.specs.Scopes.{spelling, definition_sort, with_global}
+use Rattle.zf_type.specs.Scopes.{definition_sort, with_global}
+use Rattle.zf_tree.specs.Names.{spelling}
 use Rattle.zf_type.specs.Typing.{IsOf}
-use Rattle.zf_calculus.specs.Expressions.{outside}
+use Rattle.zf_schema.specs.Expressions.{outside}
 use Rattle.zf_schema.specs.WellTypedGlobals.{IsMadeAfter, AreWellTyped}
 use Rattle.zf_schema.proofs.Named.{named_there}
 use Rattle.zf_typed.proofs.Globals.{in_front}

@@ -2,10 +2,10 @@
 use Rattle.std.proofs.Common.{◌≡◌, ℕ, ◌^◌, ◌<◌, Bool, true, false, if◌then◌else◌, List, [], ◌∷◌, Option, Some, None, refl, sym, ap, ◌∙◌, subst, nat_lt}
 use Rattle.std.specs.Prelude.{slice_get}
 use Rattle.std.proofs.lemmas.Option.{same_Some}
-use Rattle.zf_scan.specs.declared.token.Prefix.TheVariants.{Power}
-use Rattle.zf_text.specs.declared.tree.Sign.TheVariants.{Symbol}
-use Rattle.zf_term.specs.declared.operator.Listed.TheVariants.{Product}
-use Rattle.zf_term.specs.declared.operator.Unary.TheVariants.{Sign}
+use Rattle.zf_tree.specs.declared.symbol.Prefix.TheVariants.{Power}
+use Rattle.zf_tree.specs.declared.tree.Sign.TheVariants.{Symbol}
+use Rattle.zf_tree.specs.declared.operator.Listed.TheVariants.{Product}
+use Rattle.zf_tree.specs.declared.operator.Unary.TheVariants.{Sign}
 use Rattle.zf_term.specs.Definitions.{Defined, Definition, given_set, free_type, constructor, abbreviation, schema}
 use Rattle.zf_term.specs.ResolvedTrees.{ResolvedTree, listed, unary, ResolvedTrees, term}
 use Rattle.zf_term.specs.Types.{Ty, int, basic, power, product, Tys, no_types, type}

@@ -13,7 +13,7 @@ use Rattle.zf_type.specs.Scopes.{Var}
 use Rattle.zf_type.specs.Rules.{typed}
 use Rattle.zf_type.specs.Typing.{types_of}
 use Rattle.zf_calculus.specs.Calculus.{EachOnce}
-use Rattle.zf_calculus.specs.Expressions.{outside}
+use Rattle.zf_schema.specs.Expressions.{outside}
 use Rattle.zf_schema.specs.SchemaLaws.{AreDefinedOnce}
 use Rattle.zf_schema.specs.WellTypedGlobals.{IsMadeAfter, AreWellTyped}
 use Rattle.zf_value.specs.declared.value.Value.{Value, Elem}

@@ -3,16 +3,16 @@ use Rattle.std.proofs.Common.{◌≡◌, ◌⊎◌, ℕ, ℤ, List, Some, sym, a
 use Rattle.std.specs.Prelude.{pos, negsuc, ◌≤ℤ◌, FitsSigned, Option, None}
 use Rattle.std.specs.Int.{w64}
 use Rattle.std.proofs.lemmas.Int.{ints}
-use Rattle.zf_scan.specs.declared.token.Infix.{Infix}
-use Rattle.zf_scan.specs.declared.token.Infix.TheVariants.{Maplet, UpTo, Plus, Minus, Union, Difference, Times, Div, Mod, Intersection, Composition, Overriding, DomainRestriction, RangeRestriction, DomainSubtraction, RangeSubtraction}
-use Rattle.zf_scan.specs.declared.token.Prefix.{Prefix}
-use Rattle.zf_scan.specs.declared.token.Prefix.TheVariants as prefix
-use Rattle.zf_text.specs.declared.tree.Sign.TheVariants as sign
-use Rattle.zf_term.specs.declared.operator.Operator.{Operator}
-use Rattle.zf_term.specs.declared.operator.Operator.TheVariants as operator
-use Rattle.zf_term.specs.declared.operator.Unary.{Unary}
-use Rattle.zf_term.specs.declared.operator.Unary.TheVariants as unary
-use Rattle.zf_term.specs.Operators.{rule_of, function_rule}
+use Rattle.zf_tree.specs.declared.symbol.Infix.{Infix}
+use Rattle.zf_tree.specs.declared.symbol.Infix.TheVariants.{Maplet, UpTo, Plus, Minus, Union, Difference, Times, Div, Mod, Intersection, Composition, Overriding, DomainRestriction, RangeRestriction, DomainSubtraction, RangeSubtraction}
+use Rattle.zf_tree.specs.declared.symbol.Prefix.{Prefix}
+use Rattle.zf_tree.specs.declared.symbol.Prefix.TheVariants as prefix
+use Rattle.zf_tree.specs.declared.tree.Sign.TheVariants as sign
+use Rattle.zf_tree.specs.declared.operator.Operator.{Operator}
+use Rattle.zf_tree.specs.declared.operator.Operator.TheVariants as operator
+use Rattle.zf_tree.specs.declared.operator.Unary.{Unary}
+use Rattle.zf_tree.specs.declared.operator.Unary.TheVariants as unary
+use Rattle.zf_tree.specs.Operators.{rule_of, function_rule}
 use Rattle.zf_term.specs.Types.{Ty, int, power, pair}
 use Rattle.zf_type.specs.Rules.{Sort, typed, predicate, a_schema, number, set_of, relation, Takes, PrefixTakes, UnaryTakes}
 use Rattle.zf_value.specs.declared.value.Value.{Value}

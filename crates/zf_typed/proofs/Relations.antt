@@ -1,7 +1,7 @@
 -- Sets of relations, functions and subsets are sets of sets of the type.
 use Rattle.std.proofs.Common.{◌≡◌, ◌≤◌, List, [], ◌∷◌, length, refl, sym, ap, ◌∙◌, subst, ⊎_elim, arith}
-use Rattle.zf_scan.specs.declared.token.Arrow.{Arrow}
-use Rattle.zf_scan.specs.declared.token.Arrow.TheVariants as arrow
+use Rattle.zf_tree.specs.declared.symbol.Arrow.{Arrow}
+use Rattle.zf_tree.specs.declared.symbol.Arrow.TheVariants as arrow
 use Rattle.zf_term.specs.Types.{Ty, power, pair}
 use Rattle.zf_value.specs.declared.TheConstants.{SET_MAX}
 use Rattle.zf_value.specs.declared.value.Value.{Value, SetOf}

@@ -3,15 +3,15 @@ use Rattle.std.proofs.Common.{◌≡◌, ℕ, zero, suc, ◌<◌, List, [], ◌�
 use Rattle.std.specs.Prelude.{slice_get}
 use Rattle.std.specs.List.{AllByRecursion}
 use Rattle.std.proofs.lemmas.Option.{same_Some, none-some}
-use Rattle.zf_text.specs.declared.tree.Name.{Name}
-use Rattle.zf_text.specs.declared.tree.SchemaRef.{SchemaRef}
-use Rattle.zf_text.specs.Trees.{DeclTree, vars, include, SchemaTree, schema_text, reference, both, either, schema_bracket}
+use Rattle.zf_tree.specs.declared.tree.Name.{Name}
+use Rattle.zf_tree.specs.declared.tree.SchemaRef.{SchemaRef}
+use Rattle.zf_tree.specs.Trees.{DeclTree, vars, include, SchemaTree, schema_text, reference, both, either, schema_bracket}
 use Rattle.zf_term.specs.Definitions.{Schema, DeclaredSet, plain, Defined, Definition, given_set, free_type, constructor, abbreviation, schema}
 use Rattle.zf_term.specs.Types.{Ty}
 use Rattle.zf_type.specs.Resolving.{resolved}
-use Rattle.zf_type.specs.Scopes.{spelling}
+use Rattle.zf_tree.specs.Names.{spelling}
 use Rattle.zf_calculus.specs.Calculus.{nothing, comp, marked}
-use Rattle.zf_calculus.specs.Expressions.{outside, Refers, AddsAll, DeclaresOne, Declares, IsSchema}
+use Rattle.zf_schema.specs.Expressions.{outside, Refers, AddsAll, DeclaresOne, Declares, IsSchema}
 use Rattle.zf_schema.specs.SchemaLaws.{HasCompsOnce, HaveCompsOnce}
 use Rattle.zf_schema.specs.WellTypedGlobals.{IsMadeAfter, AreWellTyped}
 use Rattle.zf_schema.proofs.Named.{named_there}

@@ -1,23 +1,24 @@
 -- The outcome of a well typed term is of its type, where each value that is bound is of its own.
 use Rattle.std.proofs.Common.{◌≡◌, ℕ, List, [], ◌∷◌, ◌++◌, length, replicate, refl, sym, ap, ◌∙◌, subst, ⊎_elim, arith}
 use Rattle.std.specs.Prelude.{pos}
-use Rattle.zf_scan.specs.declared.token.Constant.{Constant}
-use Rattle.zf_scan.specs.declared.token.Constant.TheVariants as constants
-use Rattle.zf_text.specs.declared.tree.Name.{Name}
-use Rattle.zf_text.specs.Trees as text
-use Rattle.zf_text.specs.Trees.{Tree, Trees, no_trees, tree, VarDecls, no_decls, var_decl, Perhaps}
-use Rattle.zf_term.specs.declared.operator.Listed.TheVariants.{Tuple, Display, Product}
-use Rattle.zf_term.specs.declared.operator.Operator.{Operator}
-use Rattle.zf_term.specs.declared.operator.Operator.TheVariants.{Function, Generic, Connective, Application, Image}
-use Rattle.zf_term.specs.declared.operator.Unary.{Unary}
-use Rattle.zf_term.specs.declared.operator.Unary.TheVariants.{Sign, Inverse, Not}
-use Rattle.zf_term.specs.Operators.{rule_of}
+use Rattle.zf_tree.specs.declared.symbol.Constant.{Constant}
+use Rattle.zf_tree.specs.declared.symbol.Constant.TheVariants as constants
+use Rattle.zf_tree.specs.declared.tree.Name.{Name}
+use Rattle.zf_tree.specs.Trees as text
+use Rattle.zf_tree.specs.Trees.{Tree, Trees, no_trees, tree, VarDecls, no_decls, var_decl, Perhaps}
+use Rattle.zf_tree.specs.declared.operator.Listed.TheVariants.{Tuple, Display, Product}
+use Rattle.zf_tree.specs.declared.operator.Operator.{Operator}
+use Rattle.zf_tree.specs.declared.operator.Operator.TheVariants.{Function, Generic, Connective, Application, Image}
+use Rattle.zf_tree.specs.declared.operator.Unary.{Unary}
+use Rattle.zf_tree.specs.declared.operator.Unary.TheVariants.{Sign, Inverse, Not}
+use Rattle.zf_tree.specs.Operators.{rule_of}
 use Rattle.zf_term.specs.ResolvedTrees.{ResolvedTree, ResolvedPart}
 use Rattle.zf_term.specs.Types.{Ty, Tys, power, no_types, type}
 use Rattle.zf_term.specs.Types as t
 use Rattle.zf_type.specs.Resolving.{referent, bound, resolved, resolved_all, resolved_ranges, resolved_part}
 use Rattle.zf_type.specs.Rules.{Sort, typed, predicate, number, set_of, Takes, UnaryTakes}
-use Rattle.zf_type.specs.Scopes.{Scope, Var, spelling}
+use Rattle.zf_type.specs.Scopes.{Scope, Var}
+use Rattle.zf_tree.specs.Names.{spelling}
 use Rattle.zf_type.specs.Scopes as scopes
 use Rattle.zf_type.specs.Typing.{IsOf, AreOf, AreSetsOf, AllAreOf, Declare, types_of, row_type, variables}
 use Rattle.zf_type.specs.Typing as typing

@@ -1,10 +1,10 @@
 -- What the carrier of a type is: the set of exactly the type's values, and the outcome of the expression that spells the type.
 use Rattle.std.specs.Prelude.{◌≡◌, ◌↔◌, ℕ, List, Some}
-use Rattle.zf_scan.specs.declared.token.Constant.TheVariants.{Integers}
-use Rattle.zf_scan.specs.declared.token.Prefix.TheVariants.{Power}
-use Rattle.zf_text.specs.declared.tree.Sign.TheVariants.{Symbol}
-use Rattle.zf_term.specs.declared.operator.Listed.TheVariants.{Product}
-use Rattle.zf_term.specs.declared.operator.Unary.TheVariants.{Sign}
+use Rattle.zf_tree.specs.declared.symbol.Constant.TheVariants.{Integers}
+use Rattle.zf_tree.specs.declared.symbol.Prefix.TheVariants.{Power}
+use Rattle.zf_tree.specs.declared.tree.Sign.TheVariants.{Symbol}
+use Rattle.zf_tree.specs.declared.operator.Listed.TheVariants.{Product}
+use Rattle.zf_tree.specs.declared.operator.Unary.TheVariants.{Sign}
 use Rattle.zf_reference.specs.declared.reference.Reference.TheVariants.{Global}
 use Rattle.zf_term.specs.Definitions.{Defined}
 use Rattle.zf_term.specs.FirstNamed.{first_named}

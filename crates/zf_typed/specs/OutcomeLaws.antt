@@ -1,6 +1,6 @@
 -- Outcomes have the types of their terms.
 use Rattle.std.specs.Prelude.{ℕ, List, take}
-use Rattle.zf_text.specs.Trees.{Tree}
+use Rattle.zf_tree.specs.Trees.{Tree}
 use Rattle.zf_term.specs.Definitions.{Comp, Defined}
 use Rattle.zf_term.specs.Types.{Ty}
 use Rattle.zf_type.specs.Resolving.{resolved}

@@ -2,9 +2,8 @@
 use Rattle.std.proofs.Common.{◌≡◌, ◌⊎◌, ℕ, zero, suc, ◌+◌, ◌*◌, ◌-◌, ◌<◌, ◌≤◌, ℤ, refl, sym, ap, ◌∙◌, subst, inl, inr, ⊎_elim, arith}
 use Rattle.std.specs.Prelude.{pos, negsuc, ◌+ℤ◌, ◌-ℤ◌, ◌*ℤ◌}
 use Rattle.std.proofs.lemmas.Bool.{cases_lt}
-use Rattle.std.proofs.lemmas.Int.{ints}
+use Rattle.std.proofs.lemmas.Int.{ints, quot-rem, rem_below}
 use Rattle.std.specs.Int.RustNames.{int_div, int_rem, unsigned_abs}
-use Rattle.std.proofs.lemmas.Int.{quot-rem, rem_below}
 use lib.IntN.{zero-*ℤ, +ℤ-suc_ℤ, suc_ℤ-*ℤ}
 use Rattle.zf_value.specs.Numbers.{IsNumber, IsRemainder, IsDivision, IsQuotient, IsModulus, DivisionsTell}
 use Rattle.zf_value.proofs.Once.{HasOne, one_number}

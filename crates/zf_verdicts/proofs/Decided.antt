@@ -6,13 +6,13 @@ use Rattle.std.specs.List.{AllByRecursion}
 use Rattle.std.proofs.lemmas.Bool.{cases_lt}
 use Rattle.std.proofs.lemmas.Bool.Decides.{not_from_Decides}
 use Rattle.std.proofs.lemmas.Slice.Eq.{bytes_eq-Decides}
-use Rattle.zf_text.specs.declared.tree.Name.{Name}
-use Rattle.zf_term.specs.declared.operator.Need.{Need}
-use Rattle.zf_term.specs.declared.operator.Need.TheVariants as need
+use Rattle.zf_tree.specs.declared.tree.Name.{Name}
+use Rattle.zf_tree.specs.declared.operator.Need.{Need}
+use Rattle.zf_tree.specs.declared.operator.Need.TheVariants as need
 use Rattle.zf_term.specs.Types.{Ty, int, basic, power, product, Tys, no_types, type, IsSmall, nodes}
-use Rattle.zf_type.specs.declared.fault.TypeFaultKind.TheVariants.{LocalTwice}
+use Rattle.zf_term.specs.declared.fault.TypeFaultKind.TheVariants.{LocalTwice}
 use Rattle.zf_type.specs.Rules.{Sort, typed, predicate, a_schema, number, set_of, relation, IsSmallSort, Meets}
-use Rattle.zf_type.specs.Scopes.{spelling}
+use Rattle.zf_tree.specs.Names.{spelling}
 use Rattle.zf_type.specs.Typing.{IsApart, AreApart}
 use Rattle.zf_type.specs.Offences.{IsRepeated, Repeats}
 use Rattle.zf_verdicts.specs.Laws.{SomeOffence}

@@ -1,25 +1,26 @@
 -- References, declarations, predicates and schema expressions are a schema, or have an offence.
 use Rattle.std.proofs.Common.{◌≡◌, ◌⊎◌, ℕ, List, [], ◌∷◌, ◌++◌, Option, Some, None, refl, subst, inl, inr}
-use Rattle.zf_text.specs.declared.tree.Name.{Name}
-use Rattle.zf_text.specs.declared.tree.SchemaRef.{SchemaRef}
-use Rattle.zf_text.specs.Trees.{Tree, DeclTree, vars, include, SchemaTree, schema_text, reference, both, either, schema_bracket}
-use Rattle.zf_term.specs.declared.operator.Need.TheVariants as need
+use Rattle.zf_tree.specs.declared.tree.Name.{Name}
+use Rattle.zf_tree.specs.declared.tree.SchemaRef.{SchemaRef}
+use Rattle.zf_tree.specs.Trees.{Tree, DeclTree, vars, include, SchemaTree, schema_text, reference, both, either, schema_bracket}
+use Rattle.zf_tree.specs.declared.operator.Need.TheVariants as need
 use Rattle.zf_term.specs.Definitions.{Schema, DeclaredSet, plain, Defined, Definition, given_set, free_type, constructor, abbreviation, schema}
 use Rattle.zf_term.specs.FirstNamed.{first_named}
 use Rattle.zf_term.specs.ResolvedTrees.{ResolvedTree}
 use Rattle.zf_term.specs.Shapes.{line_of, conjuncts}
 use Rattle.zf_term.specs.Types.{Ty}
-use Rattle.zf_type.specs.declared.fault.TypeFaultKind.{TypeFaultKind}
-use Rattle.zf_type.specs.declared.fault.TypeFaultKind.TheVariants.{NotDeclared, NotASchema, ComponentClash, TooLarge}
+use Rattle.zf_term.specs.declared.fault.TypeFaultKind.{TypeFaultKind}
+use Rattle.zf_term.specs.declared.fault.TypeFaultKind.TheVariants.{NotDeclared, NotASchema, ComponentClash, TooLarge}
 use Rattle.zf_type.specs.Offences.{Offends}
 use Rattle.zf_type.specs.Resolving.{resolved}
 use Rattle.zf_type.specs.Rules.{predicate, set_of}
-use Rattle.zf_type.specs.Scopes.{spelling}
+use Rattle.zf_tree.specs.Names.{spelling}
 use Rattle.zf_type.specs.Typing.{IsOf}
 use Rattle.zf_calculus.specs.Calculus.{comp, schema_of, nothing, Agrees, Agree, with_comp, conjoined, decorated, marked, MarkAgrees, disjoined}
-use Rattle.zf_calculus.specs.Expressions.{outside, inside, IsNext, Refers, Adds, AddsAll, Includes, DeclaresOne, Declares, TakesAll, ConstrainsOne, Constrains, IsText, IsSchema}
+use Rattle.zf_schema.specs.Expressions.{outside, inside, Refers, AddsAll, DeclaresOne, Declares, TakesAll, ConstrainsOne, Constrains, IsText, IsSchema}
+use Rattle.zf_calculus.specs.Steps.{IsNext, Adds, Includes, Stops}
 use Rattle.zf_calculus.specs.Limits.{IsWithin}
-use Rattle.zf_calculus.specs.SchemaOffences.{AnyByRecursion, Stops, IsNoSchema, OffendsRef, OffendsNames, OffendsAlone, OffendsAfter, OffendsDecls, OffendsConjuncts, OffendsPredicates, OffendsText, OffendsSchema, name_line}
+use Rattle.zf_schema.specs.SchemaOffences.{AnyByRecursion, IsNoSchema, OffendsRef, OffendsNames, OffendsAlone, OffendsAfter, OffendsDecls, OffendsConjuncts, OffendsPredicates, OffendsText, OffendsSchema, name_line}
 use Rattle.zf_schema.proofs.Once.{taken_comps}
 use Rattle.zf_verdicts.specs.Laws.{SomeOffence}
 use Rattle.zf_verdicts.proofs.Decided.{Decided}

@@ -1,16 +1,16 @@
 -- What is not well typed has an offence: of the two, one always holds.
 use Rattle.std.specs.Prelude.{◌⊎◌, ℕ, List}
-use Rattle.zf_text.specs.Trees.{Tree, DeclTree, SchemaTree, BoxTree}
-use Rattle.zf_term.specs.declared.operator.Need.{Need}
+use Rattle.zf_tree.specs.Trees.{Tree, DeclTree, SchemaTree, BoxTree}
+use Rattle.zf_tree.specs.declared.operator.Need.{Need}
 use Rattle.zf_term.specs.Definitions.{Schema, Defined}
 use Rattle.zf_type.specs.declared.fault.TypeFault.{TypeFault}
-use Rattle.zf_type.specs.declared.fault.TypeFaultKind.{TypeFaultKind}
+use Rattle.zf_term.specs.declared.fault.TypeFaultKind.{TypeFaultKind}
 use Rattle.zf_type.specs.Offences.{Offends}
 use Rattle.zf_type.specs.Rules.{Sort, Meets}
 use Rattle.zf_type.specs.Scopes.{Scope}
 use Rattle.zf_type.specs.Typing.{IsOf}
-use Rattle.zf_calculus.specs.Expressions.{IsText, IsSchema}
-use Rattle.zf_calculus.specs.SchemaOffences.{OffendsText, OffendsSchema}
+use Rattle.zf_schema.specs.Expressions.{IsText, IsSchema}
+use Rattle.zf_schema.specs.SchemaOffences.{OffendsText, OffendsSchema}
 use Rattle.zf_schema.specs.Checking.{Item, Defines, OffendsItem, IsChecked}
 
 -- there is an offence: one of some kind, at some line

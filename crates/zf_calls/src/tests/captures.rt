@@ -2,6 +2,7 @@
 use bumpalo::Bump;
 use std::test::Fail;
 use zf_reference::reference::Reference;
+use zf_resolved::conjunct::resolved;
 use zf_schema::checker::check_spec;
 use zf_term::resolved::Resolved;
 use zf_text::reading::read_spec;
@@ -30,7 +31,7 @@ fn decoration_captures_nothing(rt: HostRuntime) -> Result<(), Fail> {
     let [conjunct] = schema.conjuncts.as_slice() else {
         return Err(Fail::new("other conjuncts"));
     };
-    let term = conjunct.resolved(&arena)?;
+    let term = resolved(conjunct, &arena)?;
     let Resolved::Quantified(_, 4, _, constraint, body) = &term else {
         return Err(Fail::new("another conjunct"));
     };

@@ -2,11 +2,11 @@
 use bumpalo::Bump;
 use std::alloc::Global;
 use std::test::Fail;
+use zf_extent::infinite::direct;
 use zf_finite::{NotFinite, finite};
 use zf_schema::checker::check_spec;
 use zf_term::extent::Infinite;
 use zf_term::globals::Entry;
-use zf_term::infinite::direct;
 use zf_text::reading::read_spec;
 
 /// What stands before the schema: direct infinite sets, an open name and two closed ones.

@@ -7,6 +7,7 @@ use zf_meaning::carrier::carrier_of;
 use zf_meaning::env::Env;
 use zf_meaning::sizes::Size;
 use zf_meaning::value::{truth_of, value_of};
+use zf_resolved::conjunct::resolved;
 use zf_schema::checker::check_spec;
 use zf_term::globals::{Entry, Globals};
 use zf_term::resolved::Resolved;
@@ -51,7 +52,7 @@ fn values_and_truths(rt: HostRuntime) -> Result<(), Fail> {
     let conjuncts = schema.conjuncts.as_slice();
     assert!(rt; conjuncts.len() == TRUTHS.len());
     for (conjunct, wanted) in conjuncts.iter().zip(TRUTHS) {
-        let term = conjunct.resolved(&arena)?;
+        let term = resolved(conjunct, &arena)?;
         assert!(rt; truth_in(&term, &env)? == wanted);
     }
     Ok(())

@@ -3,7 +3,7 @@ ghost use Rattle.std.specs.Prelude.{◌≡◌, ◌≤◌, ℕ, List, Option, IfO
 ghost use Rattle.std.specs.Bool.{MatchBool};
 ghost use Rattle.std.specs.List.{All};
 ghost use Rattle.std.specs.Option.{is_some};
-ghost use Rattle.zf_scan.specs.declared.token.Quantifier.{Quantifier};
+ghost use Rattle.zf_tree.specs.declared.symbol.Quantifier.{Quantifier};
 ghost use Rattle.zf_term.specs.declared.resolved.Range as range;
 ghost use Rattle.zf_term.specs.declared.resolved.Resolved as resolved;
 ghost use Rattle.zf_term.specs.declared.resolved.Resolved.TheVariants as form;

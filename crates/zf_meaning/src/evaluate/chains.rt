@@ -4,7 +4,7 @@ ghost use Rattle.zf_term.specs.ResolvedTrees as tree;
 ghost use Rattle.zf_term.specs.ResolvedTrees.{resolved_of, resolved_link_of};
 ghost use Rattle.zf_value.specs.declared.value.Value as value;
 ghost use Rattle.zf_value.specs.Sets.{IsRegularOutcome};
-ghost use Rattle.zf_term.specs.Extents.{is_membership};
+ghost use Rattle.zf_extent.specs.Extents.{is_membership};
 ghost use Rattle.zf_meaning.specs.Envs.{environment_of};
 ghost use Rattle.zf_meaning.specs.Found.{found_outcome};
 ghost use Rattle.zf_meaning.specs.Linked.{IsLastLink};
@@ -22,10 +22,10 @@ use crate::found::Found;
 use crate::relation;
 use crate::row::Row;
 use std::alloc::AllocError;
-use zf_scan::token::Relation;
+use zf_extent::infinite::direct;
 use zf_term::extent::Infinite;
-use zf_term::infinite::direct;
 use zf_term::resolved::{Resolved, ResolvedLink};
+use zf_tree::symbol::Relation;
 use zf_value::value::{Truth, Value};
 
 /// A chain of relations.

@@ -1,8 +1,8 @@
 //! What of a binder tells that rows do not count before all its variables are bound: parts of what has to hold, each with the variables that it needs.
 ghost use Rattle.std.specs.Prelude.{◌≡◌, ◌<◌, IfOk, IfSome, IsTrue, OnOk, length};
 ghost use Rattle.std.specs.List.{All};
-ghost use Rattle.zf_scan.specs.declared.token.Connective.TheVariants.{And};
-ghost use Rattle.zf_term.specs.declared.operator.Operator.TheVariants as symbol;
+ghost use Rattle.zf_tree.specs.declared.symbol.Connective.TheVariants.{And};
+ghost use Rattle.zf_tree.specs.declared.operator.Operator.TheVariants as symbol;
 ghost use Rattle.zf_term.specs.declared.resolved.Resolved as resolved;
 ghost use Rattle.zf_term.specs.declared.resolved.Resolved.{size-Resolved};
 ghost use Rattle.zf_term.specs.ResolvedTrees.{resolved_of};
@@ -12,9 +12,9 @@ ghost use Rattle.zf_meaning.specs.Early.{Falsifies, IsPart, IsPiece, Refutes};
 use crate::needs::last_local;
 use crate::rows::Rows;
 use std::alloc::{AllocError, Global};
-use zf_scan::token::{Connective, Quantifier};
-use zf_term::operator::Operator;
 use zf_term::resolved::Resolved;
+use zf_tree::operator::Operator;
+use zf_tree::symbol::{Connective, Quantifier};
 use zf_value::value::{Truth, Value};
 
 /// A part of what has to hold for a row to count, and how many first variables it needs.

@@ -1,10 +1,10 @@
 //! Sets on the right of a membership, which need not be built.
 ghost use Rattle.std.specs.Prelude.{◌≡◌, ◌⊎◌, ◌<◌, ℕ, IfOk, IfSome, IsTrue, map};
-ghost use Rattle.zf_scan.specs.declared.token.Infix.TheVariants as infixes;
-ghost use Rattle.zf_scan.specs.declared.token.Prefix.TheVariants as prefixes;
-ghost use Rattle.zf_text.specs.declared.tree.Sign.TheVariants as sign;
-ghost use Rattle.zf_term.specs.declared.operator.Operator.TheVariants as operator;
-ghost use Rattle.zf_term.specs.declared.operator.Unary.TheVariants as unaries;
+ghost use Rattle.zf_tree.specs.declared.symbol.Infix.TheVariants as infixes;
+ghost use Rattle.zf_tree.specs.declared.symbol.Prefix.TheVariants as prefixes;
+ghost use Rattle.zf_tree.specs.declared.tree.Sign.TheVariants as sign;
+ghost use Rattle.zf_tree.specs.declared.operator.Operator.TheVariants as operator;
+ghost use Rattle.zf_tree.specs.declared.operator.Unary.TheVariants as unaries;
 ghost use Rattle.zf_value.specs.declared.value.Outcome.TheVariants.{Is};
 ghost use Rattle.zf_meaning.specs.Found.{found_outcome};
 ghost use Rattle.zf_term.specs.ResolvedTrees as tree;
@@ -22,10 +22,10 @@ use crate::found::Found;
 use crate::row::Row;
 use crate::symbols::{on_both, on_one, on_several};
 use std::alloc::AllocError;
-use zf_scan::token::{Infix, Prefix};
-use zf_term::operator::{Listed, Operator, Unary};
 use zf_term::resolved::Resolved;
-use zf_text::tree::Sign;
+use zf_tree::operator::{Listed, Operator, Unary};
+use zf_tree::symbol::{Infix, Prefix};
+use zf_tree::tree::Sign;
 use zf_value::value::Value;
 
 /// What an expression comes to. A set of a family is told by the values that it is made of.

@@ -17,8 +17,8 @@ use crate::gathered::Gathered;
 use crate::row::Row;
 use crate::symbols::{on_both, on_one, on_several};
 use std::alloc::AllocError;
-use zf_term::operator::{Listed, Operator, Unary};
 use zf_term::resolved::Resolved;
+use zf_tree::operator::{Listed, Operator, Unary};
 use zf_value::value::{Truth, Value};
 
 /// A symbol before or behind a term.

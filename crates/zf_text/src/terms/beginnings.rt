@@ -5,18 +5,18 @@ ghost use Rattle.zf_text.specs.Nests.{Nests};
 ghost use Rattle.zf_text.specs.TermReading as spec;
 ghost use Rattle.zf_text.specs.TermReading.{Gives, read_term};
 ghost use Rattle.zf_scan.specs.declared.next.Next.TheVariants as next;
-ghost use Rattle.zf_text.specs.declared.tree.Term.TheVariants as term;
+ghost use Rattle.zf_tree.specs.declared.tree.Term.TheVariants as term;
 
 use super::Grammar;
 use crate::cursor::Cursor;
 use crate::levels::{EXPRESSION, NEGATION, QUANTIFIER, UNARY, level, sign_level};
 use crate::tall::{Tall, boxed};
-use crate::tree::{Sign, Term};
 use bumpalo::Bump;
 use zf_data::arena::Boxed;
 use zf_scan::fault::TextFault;
 use zf_scan::next::{Mark, Next};
-use zf_scan::token::{Constant, Infix, Quantifier};
+use zf_tree::symbol::{Constant, Infix, Quantifier};
+use zf_tree::tree::{Sign, Term};
 
 impl<
     'a,

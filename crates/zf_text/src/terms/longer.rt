@@ -2,23 +2,22 @@
 ghost use Rattle.std.specs.Prelude.{◌≡◌, ◌+◌, ◌≤◌, IfOk};
 ghost use Rattle.zf_text.specs.Levels as levels;
 ghost use Rattle.zf_text.specs.Nests.{Nests};
-ghost use Rattle.zf_text.specs.Spelling.{line_of};
+ghost use Rattle.zf_tree.specs.Trees.{line_of, tree_of};
 ghost use Rattle.zf_text.specs.TermReading as spec;
 ghost use Rattle.zf_text.specs.TermReading.{Gives, read_term};
-ghost use Rattle.zf_text.specs.Trees.{tree_of};
 ghost use Rattle.zf_scan.specs.declared.next.Next.TheVariants as next;
-ghost use Rattle.zf_text.specs.declared.tree.Term.TheVariants as term;
+ghost use Rattle.zf_tree.specs.declared.tree.Term.TheVariants as term;
 
 use super::Grammar;
 use crate::cursor::Cursor;
 use crate::levels::{EXPRESSION, POSTFIX, PRODUCT, infix_level, right_place};
 use crate::tall::{Tall, boxed};
-use crate::tree::Term;
 use bumpalo::Bump;
 use zf_data::arena::Boxed;
 use zf_scan::fault::TextFault;
 use zf_scan::next::{Mark, Next};
-use zf_scan::token::{Arrow, Connective, Infix};
+use zf_tree::symbol::{Arrow, Connective, Infix};
+use zf_tree::tree::Term;
 
 impl<
     'a,

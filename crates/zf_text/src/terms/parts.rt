@@ -9,11 +9,11 @@ use crate::cursor::Cursor;
 use crate::levels::EXPRESSION;
 use crate::names::names;
 use crate::tall::Tall;
-use crate::tree::{Link, Part, Term, VarDecl};
 use bumpalo::Bump;
 use zf_data::arena::{Boxed, Items};
 use zf_scan::fault::TextFault;
 use zf_scan::next::{Mark, Next};
+use zf_tree::tree::{Link, Part, Term, VarDecl};
 
 impl<
     'a,

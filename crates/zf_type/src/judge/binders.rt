@@ -1,12 +1,12 @@
 //! What binds variables: declarations, quantified predicates and builders.
 ghost use Rattle.std.specs.Prelude.{◌≡◌, IfOk, IfErr, IsOk, OnOk, OnErr, List, map};
-ghost use Rattle.zf_scan.specs.declared.token.Quantifier.{Quantifier};
-ghost use Rattle.zf_text.specs.Trees as tree;
-ghost use Rattle.zf_text.specs.Trees.{Tree, tree_of, var_decl_of};
+ghost use Rattle.zf_tree.specs.declared.symbol.Quantifier.{Quantifier};
+ghost use Rattle.zf_tree.specs.Trees as tree;
+ghost use Rattle.zf_tree.specs.Trees.{Tree, tree_of, var_decl_of};
 ghost use Rattle.zf_term.specs.Written.{part_tree};
 ghost use Rattle.zf_term.specs.Filling.{onto, part_onto, ranges_onto};
 ghost use Rattle.zf_term.specs.Types.{type_of};
-ghost use Rattle.zf_term.specs.declared.operator.Need.TheVariants as needs;
+ghost use Rattle.zf_tree.specs.declared.operator.Need.TheVariants as needs;
 ghost use Rattle.zf_type.specs.Judging.{DeclarationsOffend, IsBuilder, IsPart, IsQuantified, Judges, JudgesPart};
 ghost use Rattle.zf_type.specs.Refusals.{IfFault};
 ghost use Rattle.zf_type.specs.Resolving.{resolved, resolved_part, resolved_ranges};
@@ -16,15 +16,16 @@ ghost use Rattle.zf_type.specs.Typing.{Binds, Builds, row_type};
 
 use super::{Place, judge_boxed, judge_term, misplaced, predicate};
 use crate::binding::{bind, declare_names, depth, row, unbind};
-use crate::fault::{Refusal, TypeFaultKind, refused};
+use crate::fault::{Refusal, refused};
 use crate::locals::Locals;
 use crate::scope::Scope;
 use crate::sort::Sort;
 use bumpalo::Bump;
 use std::alloc::AllocError;
-use zf_term::operator::Need;
+use zf_term::fault::TypeFaultKind;
 use zf_term::ztype::{ZType, set_type};
-use zf_text::tree::{Part, Term, VarDecl};
+use zf_tree::operator::Need;
+use zf_tree::tree::{Part, Term, VarDecl};
 
 /// A quantified predicate.
 #[cycle(judging)]

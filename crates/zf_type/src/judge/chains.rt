@@ -1,8 +1,7 @@
 //! Chains of relations.
 ghost use Rattle.std.specs.Prelude.{◌≡◌, IfOk, IfErr, OnOk, map};
-ghost use Rattle.zf_text.specs.Spelling as text;
-ghost use Rattle.zf_text.specs.Trees as tree;
-ghost use Rattle.zf_text.specs.Trees.{Tree, link_of, tree_of};
+ghost use Rattle.zf_tree.specs.Trees as tree;
+ghost use Rattle.zf_tree.specs.Trees.{Tree, link_of, tree_of};
 ghost use Rattle.zf_term.specs.Filling.{links_onto, onto};
 ghost use Rattle.zf_type.specs.Judging.{IsChain, Judges};
 ghost use Rattle.zf_type.specs.Offences.{LinksOffend};
@@ -14,13 +13,14 @@ ghost use Rattle.zf_type.specs.Scopes.{scope_of};
 ghost use Rattle.zf_type.specs.Typing.{AreLinked, IsOf};
 
 use super::{judge_boxed, judge_term, predicate};
-use crate::fault::{Refusal, TypeFaultKind, refused};
+use crate::fault::{Refusal, refused};
 use crate::rules::combine;
 use crate::scope::Scope;
 use crate::sort::Sort;
 use bumpalo::Bump;
-use zf_term::operator::{Need, Rule, relation_rule};
-use zf_text::tree::{Link, Term};
+use zf_term::fault::TypeFaultKind;
+use zf_tree::operator::{Need, Rule, relation_rule};
+use zf_tree::tree::{Link, Term};
 
 /// The operand to the left of a link: what it is, and its line.
 #[derive(Drop)]
@@ -65,7 +65,7 @@ fn judge_links<'a>(
 ) -> Result<(), Refusal>
     ensures ok { OnOk result (AreLinked (scope_of scope.old) (sort_of first.entry.sort) (tree.links (map link_of links.now))) }
     ensures references { OnOk result (scope.new.references.items ≡ links_onto scope.old.references.items (resolved_links (scope_of scope.old) (tree.links (map link_of links.now)))) }
-    ensures wrong { (a : Tree) → IsOf (scope_of scope.old) a (sort_of first.entry.sort) → first.entry.line ≡ text.line_of a → IfErr result (λ e. IfFault e (λ kind line. LinksOffend (scope_of scope.old) a (tree.links (map link_of links.now)) kind line)) }
+    ensures wrong { (a : Tree) → IsOf (scope_of scope.old) a (sort_of first.entry.sort) → first.entry.line ≡ tree.line_of a → IfErr result (λ e. IfFault e (λ kind line. LinksOffend (scope_of scope.old) a (tree.links (map link_of links.now)) kind line)) }
     ensures scope { scope_of scope.new ≡ scope_of scope.old }
 {
     let mut left = first;

@@ -1,6 +1,6 @@
 //! What several terms make: tuples, displays and products.
 ghost use Rattle.std.specs.Prelude.{◌≡◌, IfOk, IfErr, OnOk, length, map};
-ghost use Rattle.zf_text.specs.Trees.{tree_of, trees};
+ghost use Rattle.zf_tree.specs.Trees.{tree_of, trees};
 ghost use Rattle.zf_term.specs.Filling.{all_onto, onto};
 ghost use Rattle.zf_term.specs.Types as tys;
 ghost use Rattle.zf_term.specs.Types.{Ty, power, type_of};
@@ -14,15 +14,16 @@ ghost use Rattle.zf_type.specs.Scopes as spec;
 ghost use Rattle.zf_type.specs.Scopes.{scope_of};
 
 use super::{Place, judge_term, misplaced};
-use crate::fault::{Refusal, TypeFaultKind, refused};
+use crate::fault::{Refusal, refused};
 use crate::scope::Scope;
 use crate::sort::Sort;
 use bumpalo::Bump;
 use std::alloc::AllocError;
 use zf_data::arena::{Boxed, Items};
-use zf_term::operator::{Listed, Need};
+use zf_term::fault::TypeFaultKind;
 use zf_term::ztype::{ZType, product_type, set_type};
-use zf_text::tree::Term;
+use zf_tree::operator::{Listed, Need};
+use zf_tree::tree::Term;
 
 /// What several terms make.
 #[cycle(judging)]

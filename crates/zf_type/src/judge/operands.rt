@@ -1,9 +1,8 @@
 //! Symbols that stand before a term or between two, and their rules.
 ghost use Rattle.std.specs.Prelude.{◌≡◌, ◌<◌, OnOk};
-ghost use Rattle.zf_text.specs.declared.tree.Term.{size-Term};
-ghost use Rattle.zf_text.specs.Spelling.{line_of};
-ghost use Rattle.zf_text.specs.Trees.{Tree, tree_of};
-ghost use Rattle.zf_term.specs.Operators.{left_need, need_of, right_need, rule_of};
+ghost use Rattle.zf_tree.specs.declared.tree.Term.{size-Term};
+ghost use Rattle.zf_tree.specs.Trees.{line_of, Tree, tree_of};
+ghost use Rattle.zf_tree.specs.Operators.{left_need, need_of, right_need, rule_of};
 ghost use Rattle.zf_term.specs.Filling.{onto};
 ghost use Rattle.zf_type.specs.Judging.{IsJudged, Judges, binary_tree, unary_tree};
 ghost use Rattle.zf_type.specs.Resolving.{resolved};
@@ -12,13 +11,14 @@ ghost use Rattle.zf_type.specs.Scopes as spec;
 ghost use Rattle.zf_type.specs.Scopes.{scope_of};
 
 use super::{Place, judge_term, misplaced};
-use crate::fault::{Refusal, TypeFaultKind, refused};
+use crate::fault::{Refusal, refused};
 use crate::rules::{apply, combine};
 use crate::scope::Scope;
 use crate::sort::Sort;
 use bumpalo::Bump;
-use zf_term::operator::{Operator, Unary};
-use zf_text::tree::Term;
+use zf_term::fault::TypeFaultKind;
+use zf_tree::operator::{Operator, Unary};
+use zf_tree::tree::Term;
 
 #[cycle(judging)]
 #[inline(never)]

@@ -1,11 +1,10 @@
-use Rattle.std.proofs.Common.{◌∙◌, ap, inr, refl}
+use Rattle.std.proofs.Common.{◌∙◌, ap, inr, refl, rules}
 use Rattle.zf_meaning.specs.Envs.{environment_of}
 use Rattle.zf_term.specs.Definitions.{globals_of, schema_of}
 use Rattle.zf_engine.specs.Answers.{ShowAnswer, stated}
 use Rattle.zf_engine.specs.Stops.{AnswersOver, IfAnswered, TellsInfinite, TellsMisfit, request_of}
 use Rattle.zf_engine.specs.Texts.{no_schema_line}
 use Rattle.zf_engine.proofs.Refusing.{asked, has_schema, infinite_answers, misfit_answers, weaker_err}
-use Rattle.std.proofs.Common.{rules}
 use Rattle.zf_engine.proofs.asked.asked_in.Goals as goal
 
 pub returns-in_default-clause-stop : goal.returns-in_default-clause-stop

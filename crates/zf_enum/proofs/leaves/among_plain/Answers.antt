@@ -1,7 +1,7 @@
 use Rattle.std.proofs.Common.{◌≡◌, List, Some, None, rules, sym, ◌∙◌, subst}
 use Rattle.std.proofs.lemmas.Result.{IfOk-weaker}
 use Rattle.zf_term.specs.Definitions.{Defined}
-use Rattle.zf_term.specs.Extents.{direct}
+use Rattle.zf_extent.specs.Extents.{direct}
 use Rattle.zf_term.specs.Written.{written_of}
 use Rattle.zf_meaning.specs.Described.{Describes}
 use Rattle.zf_meaning.specs.Environments.{globally}

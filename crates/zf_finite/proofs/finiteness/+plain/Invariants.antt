@@ -1,6 +1,6 @@
 use Rattle.std.proofs.Common.{◌≡◌, map, drop}
 use Rattle.zf_term.specs.Definitions.{set_of, sets_of}
-use Rattle.zf_term.specs.Extents.{first}
+use Rattle.zf_extent.specs.Extents.{first}
 use Rattle.zf_term.specs.FirstNamed.{or_else}
 use Rattle.zf_finite.specs.Finite.{all_plain_lines}
 use Rattle.zf_finite.proofs.finiteness.+plain.Given as goal

@@ -1,6 +1,6 @@
 use Rattle.std.proofs.Common.{◌≡◌, map, drop, flat_map}
 use Rattle.zf_term.specs.Definitions.{comp_of, globals_of}
-use Rattle.zf_term.specs.Extents.{first}
+use Rattle.zf_extent.specs.Extents.{first}
 use Rattle.zf_term.specs.FirstNamed.{or_else}
 use Rattle.zf_finite.specs.Finite.{comp_lines}
 use Rattle.zf_finite.proofs.finiteness.components_line.Given as goal

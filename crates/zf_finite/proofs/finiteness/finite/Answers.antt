@@ -1,6 +1,6 @@
 use Rattle.std.proofs.Common.{◌++◌, map, flat_map, None, ap, ◌∙◌}
 use Rattle.zf_term.specs.Definitions.{comp_of, conjunct_of, globals_of, schema_of}
-use Rattle.zf_term.specs.Extents.{first, offending}
+use Rattle.zf_extent.specs.Extents.{first, offending}
 use Rattle.zf_term.specs.FirstNamed.{or_else}
 use Rattle.zf_finite.specs.Finite.{comp_lines}
 use Rattle.zf_finite.proofs.FiniteSchemas.{is_finite}

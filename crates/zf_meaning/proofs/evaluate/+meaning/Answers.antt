@@ -1,16 +1,15 @@
-use Rattle.std.proofs.Common.{[], ◌∷◌, length, map, drop, refl, sym, ap, ◌∙◌, subst}
+use Rattle.std.proofs.Common.{[], ◌∷◌, length, map, drop, refl, sym, ap, ◌∙◌, subst, true, false, rules, arith, ◌≤◌, ◌≡◌, ◌<◌, ◌+◌, inl}
 use Rattle.std.proofs.lemmas.Result.{IfOk-weaker}
 use Rattle.zf_term.specs.ResolvedTrees.{resolved_of, part_of}
 use Rattle.zf_term.specs.ResolvedTrees as tree
 use Rattle.zf_term.proofs.ResolvedSeen.{of-Unary, of-Binary, of-Listed, of-Chain}
 use Rattle.std.specs.Result.{IfOk}
-use Rattle.std.proofs.Common.{true, false, rules, arith, ◌≤◌, ◌≡◌, ◌<◌, ◌+◌, inl}
 use Rattle.zf_value.specs.declared.value.Outcome.TheVariants as outcome
 use Rattle.zf_value.specs.declared.value.Truth.TheVariants.{Out}
 use Rattle.zf_value.specs.Operations.{AreFrom, IsDisplay, IsEmptySet}
 use Rattle.zf_meaning.specs.declared.gathered.Lack.TheVariants.{Nothing}
-use Rattle.zf_meaning.specs.Gathered.{several_by}
-use Rattle.zf_meaning.specs.RangeSets.{declared_of}
+use Rattle.zf_meaning.specs.Gathered.{several_by, several_of}
+use Rattle.zf_meaning.specs.RangeSets.{declared_of, spread}
 use Rattle.zf_meaning.specs.Truths.{IsConnected, IsTold, IsOver, IsQuantified}
 use Rattle.zf_meaning.specs.Tallies.{truth_by, is_settled}
 use Rattle.zf_meaning.proofs.Binding.{same-quantifier, same-constraint, quantified-told, builder-has}
@@ -24,13 +23,11 @@ use Rattle.zf_value.specs.Sets.{AreRegular, IsRegularOutcome}
 use Rattle.zf_meaning.specs.Found.{found_outcome}
 use Rattle.zf_meaning.specs.Meaning.{HasOutcome, IsTruth, IsConstraint, Builds, IsBuilt, IsBuiltOver, IsLink, row_value}
 use Rattle.zf_meaning.specs.Places.{seen}
-use Rattle.zf_meaning.specs.RangeSets.{spread}
 use Rattle.zf_meaning.specs.Rowed.{row_of}
 use Rattle.zf_meaning.specs.Scopes.{scope_of, IsRegularScope}
 use Rattle.zf_meaning.proofs.Gathering.{gather-begun, gather-more, gather-all, ranges-begun, ranges-more, ranges-all, drop-past}
 use Rattle.zf_meaning.specs.declared.described.Described.TheVariants.{Arrows}
 use Rattle.zf_meaning.specs.Described.{Describes}
-use Rattle.zf_meaning.specs.Gathered.{several_of}
 use Rattle.zf_meaning.proofs.Tests.{plain-describes}
 use Rattle.zf_meaning.proofs.Operands.{power-told, both-told, arrows-told, interval-told, product-told}
 use Rattle.zf_meaning.proofs.Linking.{link-more, link-false, link-all, link-last, last-described, last-worked, chain-told}

@@ -1,8 +1,7 @@
-use Rattle.std.proofs.Common.{◌∙◌, rules}
+use Rattle.std.proofs.Common.{◌∙◌, rules, ◌≡◌, ◌+◌, take, drop}
 use Rattle.zf_scan.specs.Steps.{schema_found, found}
 use Rattle.zf_scan.specs.declared.pieces.Piece.TheVariants.{Symbol}
 use Rattle.zf_scan.specs.declared.token.Kind.TheVariants.{BeginSchema}
-use Rattle.std.proofs.Common.{◌≡◌, ◌+◌, take, drop}
 use Rattle.zf_scan.proofs.Spelled.{schema_told}
 use Rattle.zf_scan.proofs.outside.schema_at.Goals as goal
 

@@ -1,5 +1,5 @@
 use Rattle.std.proofs.lemmas.Result.{on_ok_weaker}
-use Rattle.zf_text.specs.Trees.{paragraph_of}
+use Rattle.zf_tree.specs.Trees.{paragraph_of}
 use Rattle.zf_schema.specs.declared.checker.Checked.{Checked}
 use Rattle.zf_schema.specs.Checking.{a_paragraph}
 use Rattle.zf_schema.proofs.Running.{noted}

@@ -1,5 +1,5 @@
 use Rattle.std.proofs.Common.{◌+◌, map, drop, arith}
-use Rattle.zf_text.specs.Trees.{paragraph_of}
+use Rattle.zf_tree.specs.Trees.{paragraph_of}
 use Rattle.zf_schema.specs.Checking.{a_paragraph}
 use Rattle.zf_schema.specs.Runs.{Runs}
 use Rattle.zf_schema.proofs.Running.{run_none, run_step}

@@ -1,5 +1,5 @@
 use Rattle.std.proofs.Common.{◌≡◌, map, drop}
-use Rattle.zf_text.specs.Trees.{paragraph_of}
+use Rattle.zf_tree.specs.Trees.{paragraph_of}
 use Rattle.zf_term.specs.Definitions.{globals_of}
 use Rattle.zf_term.specs.Numbers.{next_number}
 use Rattle.zf_schema.specs.declared.checker.Checked.{Checked}

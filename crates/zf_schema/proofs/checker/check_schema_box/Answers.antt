@@ -1,6 +1,6 @@
 use Rattle.std.proofs.Common.{map}
 use Rattle.std.proofs.lemmas.Result.{on_ok_weaker}
-use Rattle.zf_text.specs.Trees.{decl_of, tree_of}
+use Rattle.zf_tree.specs.Trees.{decl_of, tree_of}
 use Rattle.zf_schema.specs.declared.checker.Checked.{Checked}
 use Rattle.zf_schema.specs.Checking.{a_box}
 use Rattle.zf_schema.proofs.Running.{noted}

@@ -1,7 +1,7 @@
 use Rattle.std.proofs.Common.{◌≡◌, [], sym, ap, ◌∙◌, map, subst}
 use Rattle.std.proofs.lemmas.List.{nil_from_length}
 use Rattle.std.specs.Vec.Iter.{into_iter_items}
-use Rattle.zf_text.specs.Trees.{box_of}
+use Rattle.zf_tree.specs.Trees.{box_of}
 use Rattle.zf_term.specs.Definitions.{globals_of}
 use Rattle.zf_term.specs.Numbers.{next_number}
 use Rattle.zf_schema.specs.declared.checker.Checked.{Checked}

@@ -1,6 +1,6 @@
 use Rattle.std.proofs.Common.{◌≡◌, map}
 use Rattle.std.specs.Vec.Iter.{into_iter_items}
-use Rattle.zf_text.specs.Trees.{box_of}
+use Rattle.zf_tree.specs.Trees.{box_of}
 use Rattle.zf_term.specs.Definitions.{globals_of}
 use Rattle.zf_term.specs.Numbers.{next_number}
 use Rattle.zf_schema.specs.declared.checker.Checked.{Checked}

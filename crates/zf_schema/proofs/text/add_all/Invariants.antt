@@ -2,10 +2,10 @@ use Rattle.std.proofs.Common.{ℕ, drop}
 use Rattle.zf_term.specs.Definitions.{Schema, plain, schema_of}
 use Rattle.zf_term.specs.Written.{written_of}
 use Rattle.zf_term.specs.Types.{type_of}
-use Rattle.zf_type.specs.declared.fault.TypeFaultKind.{TypeFaultKind}
-use Rattle.zf_calculus.specs.Expressions.{AddsAll}
+use Rattle.zf_term.specs.declared.fault.TypeFaultKind.{TypeFaultKind}
+use Rattle.zf_schema.specs.Expressions.{AddsAll}
 use Rattle.zf_calculus.specs.Growth.{IsGrowing}
-use Rattle.zf_calculus.specs.SchemaOffences.{OffendsNames}
+use Rattle.zf_schema.specs.SchemaOffences.{OffendsNames}
 use Rattle.zf_schema.proofs.text.add_all.Given as goal
 
 abbrev pub invariant-loop-name : goal.invariant-loop-name

@@ -1,6 +1,6 @@
 use Rattle.std.proofs.Common.{rules, ◌≡◌, OnOk, ◌++◌, map, sym, ap, ◌∙◌, subst}
-use Rattle.zf_text.specs.Trees.{tree_of}
-use Rattle.zf_text.proofs.TermSeen as seen
+use Rattle.zf_tree.specs.Trees.{tree_of}
+use Rattle.zf_tree.proofs.TermSeen as seen
 use Rattle.zf_term.specs.Shapes.{conjuncts}
 use Rattle.zf_term.specs.Written.{is_conjunction, written_of}
 use Rattle.zf_type.specs.Resolving.{resolved}

@@ -1,21 +1,20 @@
 use Rattle.std.proofs.Common.{◌≡◌, ℕ, List, Some, None, ◌+◌, [], ◌∷◌, ◌++◌, map, drop, refl, arith, append-nil, Ok, Err, sym, ap, ◌∙◌, subst, inl, inr, true≢false}
 use Rattle.std.proofs.lemmas.List.{length-map, append_assoc}
-use Rattle.zf_text.specs.declared.tree.Name.{Name}
-use Rattle.zf_text.specs.Trees.{tree_of, trees}
-use Rattle.zf_text.specs.Trees as tree
-use Rattle.zf_text.proofs.TermSeen as seen
-use Rattle.zf_term.specs.Operators.{relation_rule, left_need, right_need, rule_of, need_of}
+use Rattle.zf_tree.specs.declared.tree.Name.{Name}
+use Rattle.zf_tree.specs.Trees.{tree_of, trees}
+use Rattle.zf_tree.specs.Trees as tree
+use Rattle.zf_tree.proofs.TermSeen as seen
+use Rattle.zf_tree.specs.Operators.{relation_rule, left_need, right_need, rule_of, need_of}
 use Rattle.zf_term.proofs.Ahead.{decl_ahead, link_ahead}
 use Rattle.zf_term.specs.Written.{part_tree}
-use Rattle.zf_term.specs.declared.operator.Need.TheVariants as need
+use Rattle.zf_tree.specs.declared.operator.Need.TheVariants as need
 use Rattle.zf_term.specs.Filling.{onto, all_onto, links_onto, part_onto, ranges_onto}
 use Rattle.zf_type.specs.Judging.{Judges, JudgesPart, AreNew, AreRepeated, DeclarationsOffend, AreMembers, member_need, unary_tree, binary_tree, listed_tree}
-use Rattle.zf_type.specs.declared.fault.TypeFaultKind.{TypeFaultKind}
-use Rattle.zf_type.specs.declared.fault.TypeFaultKind.TheVariants.{Mismatch}
+use Rattle.zf_term.specs.declared.fault.TypeFaultKind.{TypeFaultKind}
+use Rattle.zf_term.specs.declared.fault.TypeFaultKind.TheVariants.{Mismatch}
 use Rattle.zf_type.specs.Offences.{Offends, OneOffends, LinksOffend, SetsOffend}
 use Rattle.zf_type.specs.Refusals.{IfFault}
 use Rattle.zf_type.specs.Resolving.{resolved, resolved_all, resolved_links, resolved_part, resolved_ranges}
-use Rattle.zf_text.specs.Spelling as text
 use Rattle.zf_term.specs.Types.{types, no_types, type_of}
 use Rattle.zf_term.proofs.Walk.{at_step, at_end, pushed}
 use Rattle.zf_type.specs.Typing.{IsOf, AreLinked, Declare, declared, variables}
@@ -154,7 +153,7 @@ chains::judge_links-loop-link-preserved t c =
           let b = c.loop-link.invariant.offends a h l in (
             e,
             judged.is_of,
-            c.line-line.ensures ∙ ap (λ y. text.line_of (tree_of y)) c.get.ensures,
+            c.line-line.ensures ∙ ap (λ y. tree.line_of (tree_of y)) c.get.ensures,
             λ f m o. b.3 f m (link_ahead (λ q. LinksOffend s b.0 q f m) all i k c.link-item.is (omega arith) (inr (inr (inr o)))),
           );
     }
@@ -218,7 +217,7 @@ chains::judge_links-returns-in_err-relate-clause-wrong t c = λ a h l.
     let b = c.loop-link.invariant.offends a h l in
     let judged = judged_of s (right_need rule) e j (subst (λ q. Judges q (right_need rule) e (Ok j)) c.loop-link.invariant.same (subst (λ n. Judges (scope_of c.loop-link.scope) n e (Ok j)) (c.right_need.ensures ∙ ap right_need c.relation_rule-rule.ensures) c.in_ok-sort.ensures.judged)) in
     let meets : Meets (left_need rule) y = subst (λ n. Meets n y) (c.left_need.ensures ∙ ap left_need c.relation_rule-rule.ensures) c.in_ok-check_left.ensures.ok in
-    let line : c.line-line.result ≡ text.line_of e = c.line-line.ensures ∙ ap (λ y. text.line_of (tree_of y)) c.get.ensures in
+    let line : c.line-line.result ≡ tree.line_of e = c.line-line.ensures ∙ ap (λ y. tree.line_of (tree_of y)) c.get.ensures in
     let Q : TypeFaultKind → ℕ → Type 0 = λ f m. ((q : Sort) → Takes c.relation_rule-rule.result y z q → ⊥) × (f ≡ Mismatch) × (m ≡ c.line-line.result) in
     let step : (f : TypeFaultKind) (m : ℕ) → Q f m → P f m =
     λ f m o. b.3 f m (link_ahead (λ q. LinksOffend s b.0 q f m) all c.loop-link.link-index k c.link-item.is (omega arith)
@@ -436,7 +435,7 @@ chains::chain-returns-in_err-judge_links-clause-judged t c =
     let z = c.in_ok-sort.sort in
     let x = c.in_err-judge_links.field-0.0 in
     let judged = judged_of s need.Expression e z (subst (λ y. Judges s need.Expression y (Ok z)) (ap tree_of c.get.ensures) c.in_ok-sort.ensures.judged) in
-    let line = c.line.ensures ∙ ap (λ y. text.line_of (tree_of y)) c.get-2.ensures in
+    let line = c.line.ensures ∙ ap (λ y. tree.line_of (tree_of y)) c.get-2.ensures in
     let fault = c.in_err-judge_links.ensures.wrong e (subst (λ y. IsOf y e (sort_of z)) (sym c.in_ok-sort.ensures.scope) judged.is_of) line in
     let here = subst (λ y. IfFault x (λ k m. LinksOffend y e (tree.links (map tree.link_of c.as_slice.result.now)) k m)) c.in_ok-sort.ensures.scope fault in
     subst (λ d. Judges s n d c.from_residual-in_err-judge_links.result) (sym is)
@@ -456,7 +455,7 @@ chains::chain-returns-clause-judged t c =
     let linked = subst (λ y. AreLinked y (sort_of z) (tree.links (map tree.link_of c.as_slice.result.now))) c.in_ok-sort.ensures.scope c.in_ok-judge_links.ensures.ok in
     c.predicate.ensures s (tree_of c.args.term.now)
     (chain_is s l e (tree_of c.args.term.now) ks (sort_of z) is judged.is_of judged.met (subst (λ ys. AreLinked s (sort_of z) (tree.links (map tree.link_of ys))) c.as_slice.ensures linked))
-    (sym (ap text.line_of is))
+    (sym (ap tree.line_of is))
 
 pub chains::chain-returns-clause-references : goal.chains::chain-returns-clause-references
 chains::chain-returns-clause-references t c =

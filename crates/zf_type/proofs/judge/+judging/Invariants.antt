@@ -1,9 +1,8 @@
 use Rattle.std.proofs.Common.{◌≡◌, ℕ, List, [], ◌++◌, map, drop}
-use Rattle.zf_text.specs.Spelling.{line_of}
-use Rattle.zf_text.specs.Trees.{Tree, tree_of, trees, link_of, links, var_decl_of, var_decls}
+use Rattle.zf_tree.specs.Trees.{line_of, Tree, tree_of, trees, link_of, links, var_decl_of, var_decls}
 use Rattle.zf_term.specs.Filling.{all_onto, links_onto, ranges_onto}
 use Rattle.zf_term.specs.Types.{Ty, types, type_of}
-use Rattle.zf_type.specs.declared.fault.TypeFaultKind.{TypeFaultKind}
+use Rattle.zf_term.specs.declared.fault.TypeFaultKind.{TypeFaultKind}
 use Rattle.zf_type.specs.Judging.{AreMembers, AreNew, AreRepeated, member_need}
 use Rattle.zf_type.specs.Offences.{OneOffends, LinksOffend, SetsOffend}
 use Rattle.zf_type.specs.Rules.{sort_of}

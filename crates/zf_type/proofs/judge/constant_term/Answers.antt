@@ -1,5 +1,5 @@
 use Rattle.std.proofs.Common.{refl, sym, ◌∙◌, true≢false}
-use Rattle.zf_text.specs.Trees.{constant}
+use Rattle.zf_tree.specs.Trees.{constant}
 use Rattle.zf_type.proofs.Judging.{from_memory, judges_ok, judges_err}
 use Rattle.zf_type.proofs.judge.constant_term.Goals as goal
 

@@ -1,5 +1,5 @@
 use Rattle.std.proofs.Common.{refl, ap, ◌∙◌, subst, Ok, Err}
-use Rattle.zf_text.specs.Trees.{tree_of}
+use Rattle.zf_tree.specs.Trees.{tree_of}
 use Rattle.zf_term.specs.Filling.{filled, onto}
 use Rattle.zf_type.specs.Judging.{Judges}
 use Rattle.zf_type.specs.Offences.{Offends}

@@ -1,9 +1,10 @@
 use Rattle.std.proofs.Common.{◌≡◌, Some, None, refl, sym, ap, ◌∙◌, subst, inl, true≢false, Err}
-use Rattle.zf_text.specs.Trees.{named}
+use Rattle.zf_tree.specs.Trees.{named}
 use Rattle.zf_type.specs.declared.fault.Refusal.TheVariants.{Fault}
-use Rattle.zf_type.specs.declared.fault.TypeFaultKind.TheVariants.{NotDeclared}
+use Rattle.zf_term.specs.declared.fault.TypeFaultKind.TheVariants.{NotDeclared}
 use Rattle.zf_type.specs.Rules.{sort_of}
-use Rattle.zf_type.specs.Scopes.{scope_of, spelling, meant, meaning}
+use Rattle.zf_type.specs.Scopes.{scope_of, meant, meaning}
+use Rattle.zf_tree.specs.Names.{spelling}
 use Rattle.zf_type.specs.Judging.{Judges}
 use Rattle.zf_type.proofs.Bound.{same_bound}
 use Rattle.zf_type.proofs.Judging.{judges_ok, judges_err, from_memory}

@@ -1,5 +1,5 @@
 use Rattle.std.proofs.Common.{refl, sym, ap, ◌∙◌, true≢false}
-use Rattle.zf_text.specs.Trees.{numeral}
+use Rattle.zf_tree.specs.Trees.{numeral}
 use Rattle.zf_term.proofs.TypesSeen.{of-Int}
 use Rattle.zf_type.specs.Rules.{typed}
 use Rattle.zf_type.proofs.Judging.{judges_ok, judges_err}

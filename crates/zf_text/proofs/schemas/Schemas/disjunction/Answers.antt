@@ -1,6 +1,6 @@
 use Rattle.std.proofs.Common.{◌≡◌, ◌≤◌, ◌<◌, ◌+◌, max, true, Ok, sym, ◌∙◌, subst, rules, arith}
 use Rattle.std.proofs.lemmas.Grind.{common_steps}
-use Rattle.zf_text.specs.declared.tree.SchemaExp.TheVariants as schema
+use Rattle.zf_tree.specs.declared.tree.SchemaExp.TheVariants as schema
 use Rattle.zf_text.specs.BoxReading.{is_or, conjunction, joined, read_schema, disjunction}
 use Rattle.zf_text.specs.Reading.{first, rest}
 use Rattle.zf_text.specs.TermReading.{here, Fails}

@@ -3,7 +3,7 @@ use Rattle.std.proofs.lemmas.Grind.{common_steps}
 use Rattle.zf_text.specs.Levels.{level}
 use Rattle.zf_text.specs.Reading.{first}
 use Rattle.zf_text.specs.TermReading.{read_term, binds, place_before, longer_by, climb, Fails}
-use Rattle.zf_text.specs.Trees.{tree_of}
+use Rattle.zf_tree.specs.Trees.{tree_of}
 use Rattle.zf_text.proofs.TermTurns.{goes_on, too_high, fails}
 use Rattle.zf_text.proofs.Turns.{one_more, no_more}
 use Rattle.zf_text.proofs.terms.Grammar.climb.Goals as goal

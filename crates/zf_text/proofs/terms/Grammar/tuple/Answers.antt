@@ -3,7 +3,7 @@ use Rattle.std.proofs.lemmas.Bool.{le-leb}
 use Rattle.std.proofs.lemmas.Bool.Decides.{nat_tests}
 use Rattle.std.proofs.lemmas.Grind.{common_steps}
 use Rattle.zf_text.specs.Levels.{expression_level, level}
-use Rattle.zf_text.specs.Trees.{tree_of}
+use Rattle.zf_tree.specs.Trees.{tree_of}
 use Rattle.zf_text.proofs.terms.Grammar.tuple.Goals as goal
 
 pub returns-in_err-expect-clause-value : goal.returns-in_err-expect-clause-value

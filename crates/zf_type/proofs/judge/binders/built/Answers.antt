@@ -1,10 +1,10 @@
 use Rattle.std.proofs.Common.{◌≡◌, refl, sym, ap, ◌∙◌, subst, inl, inr, true≢false, Err}
 use Rattle.std.specs.Prelude.{IfOk}
-use Rattle.zf_text.specs.Trees as tree
+use Rattle.zf_tree.specs.Trees as tree
 use Rattle.zf_term.specs.Types.{power, type_of, IsSmall}
-use Rattle.zf_term.specs.declared.operator.Need.TheVariants as need
+use Rattle.zf_tree.specs.declared.operator.Need.TheVariants as need
 use Rattle.zf_type.specs.declared.fault.Refusal.TheVariants.{Fault}
-use Rattle.zf_type.specs.declared.fault.TypeFaultKind.TheVariants.{TooLarge}
+use Rattle.zf_term.specs.declared.fault.TypeFaultKind.TheVariants.{TooLarge}
 use Rattle.zf_type.specs.Judging.{Judges, JudgesPart}
 use Rattle.zf_type.specs.Offences.{Offends, PartOffends}
 use Rattle.zf_type.specs.Rules.{typed}

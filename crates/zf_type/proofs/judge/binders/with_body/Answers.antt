@@ -1,6 +1,6 @@
 use Rattle.std.proofs.Common.{refl, subst, inl, inr}
-use Rattle.zf_text.specs.Trees as tree
-use Rattle.zf_term.specs.declared.operator.Need.TheVariants as need
+use Rattle.zf_tree.specs.Trees as tree
+use Rattle.zf_tree.specs.declared.operator.Need.TheVariants as need
 use Rattle.zf_type.specs.Judging.{Judges, JudgesPart}
 use Rattle.zf_type.specs.Offences.{Offends, PartOffends}
 use Rattle.zf_type.specs.Scopes.{within}

@@ -1,9 +1,8 @@
 use Rattle.std.proofs.Common.{◌≡◌, map, refl, sym, ap, ◌∙◌, subst, arith, true≢false}
-use Rattle.zf_text.specs.Spelling.{line_of}
-use Rattle.zf_type.specs.declared.fault.TypeFaultKind.TheVariants.{Mismatch}
+use Rattle.zf_tree.specs.Trees.{line_of, tree_of}
+use Rattle.zf_term.specs.declared.fault.TypeFaultKind.TheVariants.{Mismatch}
 use Rattle.zf_type.specs.Judging.{DiffersAt}
 use Rattle.zf_type.specs.Refusals.{IfFault}
-use Rattle.zf_text.specs.Trees.{tree_of}
 use Rattle.zf_term.specs.Types.{types, type_of, power}
 use Rattle.zf_type.proofs.Members.{none_first, differs_at, first_among, all_same}
 use Rattle.zf_type.proofs.judge.lists.set_of.Goals as goal

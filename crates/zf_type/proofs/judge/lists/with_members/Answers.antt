@@ -1,11 +1,10 @@
-use Rattle.std.proofs.Common.{◌≡◌, sym, ◌∙◌, subst, true≢false, Err}
-use Rattle.std.proofs.Common.{map, ℕ}
-use Rattle.zf_text.specs.Trees.{tree_of, trees}
-use Rattle.zf_term.specs.declared.operator.Listed.TheVariants.{Display}
+use Rattle.std.proofs.Common.{◌≡◌, sym, ◌∙◌, subst, true≢false, Err, map, ℕ}
+use Rattle.zf_tree.specs.Trees.{tree_of, trees}
+use Rattle.zf_tree.specs.declared.operator.Listed.TheVariants.{Display}
 use Rattle.zf_term.specs.Types.{types, type_of, IsSmall}
 use Rattle.zf_type.specs.declared.fault.Refusal.TheVariants.{Fault}
-use Rattle.zf_type.specs.declared.fault.TypeFaultKind.TheVariants.{TooLarge, Mismatch}
-use Rattle.zf_type.specs.declared.fault.TypeFaultKind.{TypeFaultKind}
+use Rattle.zf_term.specs.declared.fault.TypeFaultKind.TheVariants.{TooLarge, Mismatch}
+use Rattle.zf_term.specs.declared.fault.TypeFaultKind.{TypeFaultKind}
 use Rattle.zf_type.specs.Offences.{Offends}
 use Rattle.zf_type.specs.Judging.{Judges, DiffersAt, listed_tree}
 use Rattle.zf_type.proofs.Judging.{judges_ok, judges_err, if_fault, from_fault}

@@ -1,6 +1,6 @@
 use Rattle.std.proofs.Common.{refl, sym, ◌∙◌, subst, true≢false, Err}
 use Rattle.zf_type.specs.declared.fault.Refusal.TheVariants.{Fault}
-use Rattle.zf_type.specs.declared.fault.TypeFaultKind.TheVariants.{TooLarge}
+use Rattle.zf_term.specs.declared.fault.TypeFaultKind.TheVariants.{TooLarge}
 use Rattle.zf_type.specs.Judging.{Judges, unary_tree}
 use Rattle.zf_type.specs.Rules.{sort_of, IsSmallSort}
 use Rattle.zf_type.proofs.Judging.{judges_ok, judges_err, from_memory, unary_is, unary_line, unary_large, unary_taken, takes_one, takes_not_one}

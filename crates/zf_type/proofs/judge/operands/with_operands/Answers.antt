@@ -1,7 +1,7 @@
 use Rattle.std.proofs.Common.{refl, sym, ◌∙◌, subst, inl, inr, true≢false, Err}
-use Rattle.zf_term.specs.Operators.{rule_of}
+use Rattle.zf_tree.specs.Operators.{rule_of}
 use Rattle.zf_type.specs.declared.fault.Refusal.TheVariants.{Fault}
-use Rattle.zf_type.specs.declared.fault.TypeFaultKind.TheVariants.{Mismatch, TooLarge}
+use Rattle.zf_term.specs.declared.fault.TypeFaultKind.TheVariants.{Mismatch, TooLarge}
 use Rattle.zf_type.specs.Judging.{Judges, binary_tree}
 use Rattle.zf_type.specs.Rules.{sort_of, IsSmallSort, IsMade}
 use Rattle.zf_type.proofs.Judging.{judges_ok, judges_err, from_memory, binary_is, binary_line, binary_clash, takes_both, takes_not}

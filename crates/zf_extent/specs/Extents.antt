@@ -1,0 +1,140 @@
+-- Infinite sets in terms: `\num`, `\nat`, `\nat_1`, and each name that is defined as one of them.
+-- A value can be tested for being in one; no search goes through one. So one may stand as the whole right side of the last link
+-- of a chain, if that is `\in` or `\notin`, and anywhere in the parameter of an empty set, which is no set of values.
+use Rattle.std.specs.Prelude.{ℕ, Bool, true, false, ◌&&◌, if◌then◌else◌, List, [], ◌∷◌, ◌++◌, Option, Some, None, slice_get}
+use Rattle.zf_tree.specs.declared.symbol.Constant.{Constant}
+use Rattle.zf_tree.specs.declared.symbol.Constant.TheVariants.{True, False, Integers, Naturals, Positives}
+use Rattle.zf_tree.specs.declared.symbol.Relation.{Relation}
+use Rattle.zf_tree.specs.declared.symbol.Relation.TheVariants.{Equal, NotEqual, Member, NotMember, Subset, ProperSubset, Less, AtMost, Greater, AtLeast}
+use Rattle.zf_term.specs.declared.extent.Extent.{Extent}
+use Rattle.zf_term.specs.declared.extent.Extent.TheVariants as extent
+use Rattle.zf_term.specs.declared.extent.Infinite.{Infinite}
+use Rattle.zf_term.specs.declared.extent.Infinite.TheVariants.{Num, Nat, Nat1}
+use Rattle.zf_reference.specs.declared.reference.Reference.{Reference}
+use Rattle.zf_reference.specs.declared.reference.Reference.TheVariants.{Component, Local, Global}
+use Rattle.zf_term.specs.Definitions.{Defined, Definition, given_set, free_type, constructor, abbreviation, schema}
+use Rattle.zf_term.specs.ResolvedTrees.{ResolvedTree, reference, number, constant, empty_set, bracket, listed, builder, unary, binary, chain, quantified, ResolvedTrees, no_terms, term, ResolvedLinks, no_links, link, Ranges, no_ranges, range, ResolvedPart, absent, present}
+
+-- ---- the infinite set that a term is
+
+abbrev pub constant_set : Constant → Option Infinite
+constant_set True = None
+constant_set False = None
+constant_set Integers = Some Num
+constant_set Naturals = Some Nat
+constant_set Positives = Some Nat1
+
+abbrev pub definition_extent : Definition → Extent
+definition_extent (given_set n) = extent.Closed
+definition_extent (free_type n names) = extent.Closed
+definition_extent (constructor n of_type place) = extent.Closed
+definition_extent (abbreviation t r x) = x
+definition_extent (schema a) = extent.Closed
+
+abbrev pub extent_found : Option Defined → Extent
+extent_found None = extent.Closed
+extent_found (Some d) = definition_extent d.definition
+
+-- the extent of what a name stands for
+abbrev pub extent_named : List Defined → Reference → Extent
+extent_named g (Component i) = extent.Closed
+extent_named g (Local i) = extent.Closed
+extent_named g (Global i) = extent_found (slice_get g i)
+
+abbrev pub extent_set : Extent → Option Infinite
+extent_set (extent.Infinite s) = Some s
+extent_set extent.Open = None
+extent_set extent.Closed = None
+
+-- the infinite set that the term is, within brackets or without
+abbrev pub direct : List Defined → ResolvedTree → Option Infinite
+direct g (reference l r) = extent_set (extent_named g r)
+direct g (constant l c) = constant_set c
+direct g (bracket l t) = direct g t
+direct g _ = None
+
+-- ---- the names that offend
+
+abbrev pub is_membership : Relation → Bool
+is_membership Equal = false
+is_membership NotEqual = false
+is_membership Member = true
+is_membership NotMember = true
+is_membership Subset = false
+is_membership ProperSubset = false
+is_membership Less = false
+is_membership AtMost = false
+is_membership Greater = false
+is_membership AtLeast = false
+
+abbrev pub is_last : ResolvedLinks → Bool
+is_last no_links = true
+is_last (link r t ks) = false
+
+-- the infinite set that a link tests for: its whole right side, where that may be one
+abbrev pub tested : List Defined → Relation → (last : Bool) → ResolvedTree → Option Infinite
+tested g r last t = if is_membership r && last then direct g t else None
+
+-- where a term may be an infinite set as a whole, that is no offence
+abbrev pub unless : Option Infinite → List ℕ → List ℕ
+unless None lines = lines
+unless (Some s) lines = []
+
+-- the line of a name of this extent, if it offends
+abbrev pub name_lines : ℕ → Extent → List ℕ
+name_lines l (extent.Infinite s) = l ∷ []
+name_lines l extent.Open = l ∷ []
+name_lines l extent.Closed = []
+
+abbrev pub constant_lines : ℕ → Option Infinite → List ℕ
+constant_lines l None = []
+constant_lines l (Some s) = l ∷ []
+
+-- the lines of the names in a term that offend, from left to right: an infinite set where none may stand, or a name whose term has one there
+abbrev mutual
+  pub offending : List Defined → ResolvedTree → List ℕ
+  offending g (reference l r) = name_lines l (extent_named g r)
+  offending g (number l v) = []
+  offending g (constant l c) = constant_lines l (constant_set c)
+  offending g (empty_set l t) = []
+  offending g (bracket l t) = offending g t
+  offending g (listed l form ts) = all_offending g ts
+  offending g (builder l rs p t) = ranges_offending g rs ++ part_offending g p ++ part_offending g t
+  offending g (unary l op t) = offending g t
+  offending g (binary l op a b) = offending g a ++ offending g b
+  offending g (chain l t ks) = offending g t ++ links_offending g ks
+  offending g (quantified l q rs p t) = ranges_offending g rs ++ part_offending g p ++ offending g t
+
+  pub all_offending : List Defined → ResolvedTrees → List ℕ
+  all_offending g no_terms = []
+  all_offending g (term t ts) = offending g t ++ all_offending g ts
+
+  pub links_offending : List Defined → ResolvedLinks → List ℕ
+  links_offending g no_links = []
+  links_offending g (link r t ks) = unless (tested g r (is_last ks) t) (offending g t) ++ links_offending g ks
+
+  pub ranges_offending : List Defined → Ranges → List ℕ
+  ranges_offending g no_ranges = []
+  ranges_offending g (range n t rs) = offending g t ++ ranges_offending g rs
+
+  pub part_offending : List Defined → ResolvedPart → List ℕ
+  part_offending g absent = []
+  part_offending g (present t) = offending g t
+
+-- where a term that is an infinite set as a whole does not offend
+abbrev pub offending_within : List Defined → ResolvedTree → List ℕ
+offending_within g t = unless (direct g t) (offending g t)
+
+abbrev pub first : List ℕ → Option ℕ
+first [] = None
+first (l ∷ ls) = Some l
+
+-- ---- what a name has that is defined as a term
+
+abbrev pub extent_by : Option Infinite → List ℕ → Extent
+extent_by (Some s) lines = extent.Infinite s
+extent_by None [] = extent.Closed
+extent_by None (l ∷ ls) = extent.Open
+
+abbrev pub extent_of : List Defined → ResolvedTree → Extent
+extent_of g t = extent_by (direct g t) (offending g t)

@@ -1,0 +1,262 @@
+//! Infinite sets in terms: which terms are one, and which names offend.
+ghost use Rattle.std.specs.Prelude.{◌≡◌, map};
+ghost use Rattle.zf_term.specs.Definitions.{definition_of, globals_of};
+ghost use Rattle.zf_extent.specs.Extents as spec;
+ghost use Rattle.zf_term.specs.ResolvedTrees.{resolved_of, resolved_link_of, range_of, terms, links, ranges, part_of};
+ghost use Rattle.zf_term.specs.FirstNamed.{or_else};
+
+use zf_data::arena::{Boxed, Items};
+use zf_reference::reference::Reference;
+use zf_term::extent::{Extent, Infinite};
+use zf_term::globals::{Entry, Globals};
+use zf_term::resolved::{Links, Part, Range, Resolved, ResolvedLink, Terms};
+use zf_tree::symbol::{Constant, Relation};
+
+/// The infinite set that the term is, within brackets or without.
+#[tactic(auto, using(zf_term::proofs::ResolvedSeen::seen))]
+pub fn direct<'a>(term: &Resolved<'a>, globals: &Globals<'a>) -> Option<Infinite>
+    ensures { result ≡ spec.direct (globals_of globals.now) (resolved_of term.now) }
+{
+    match term {
+        Resolved::Name(_, reference) => set(extent_named(globals, *reference)),
+        Resolved::Number(_, _) => None,
+        Resolved::Constant(_, constant) => constant_set(*constant),
+        Resolved::EmptySet(_, _) => None,
+        Resolved::Bracket(_, inner) => direct(inner.get(), globals),
+        Resolved::Listed(_, _, _) => None,
+        Resolved::Builder(_, _, _, _) => None,
+        Resolved::Unary(_, _, _) => None,
+        Resolved::Binary(_, _, _, _) => None,
+        Resolved::Chain(_, _, _) => None,
+        Resolved::Quantified(_, _, _, _, _) => None,
+    }
+}
+
+/// The extent of a term that a name is defined as.
+pub fn extent_of<'a>(term: &Resolved<'a>, globals: &Globals<'a>) -> Extent
+    ensures { result ≡ spec.extent_of (globals_of globals.now) (resolved_of term.now) }
+{
+    if let Some(set) = direct(term, globals) {
+        return Extent::Infinite(set);
+    }
+    match offending(term, globals) {
+        Some(_) => Extent::Open,
+        None => Extent::Closed,
+    }
+}
+
+/// The line of the first name in the term that offends.
+#[cycle(offending)]
+#[tactic(auto, using(zf_term::proofs::ResolvedSeen::seen, crate::proofs::FirstLines::first_of_both))]
+pub fn offending<'a>(term: &Resolved<'a>, globals: &Globals<'a>) -> Option<u32>
+    ensures { result ≡ spec.first (spec.offending (globals_of globals.now) (resolved_of term.now)) }
+{
+    match term {
+        Resolved::Name(line, reference) => name_line(*line, extent_named(globals, *reference)),
+        Resolved::Number(_, _) => None,
+        Resolved::Constant(line, constant) => constant_line(*line, *constant),
+        Resolved::EmptySet(_, _) => None,
+        Resolved::Bracket(_, inner) => offending(inner.get(), globals),
+        Resolved::Listed(_, _, items) => terms_offending(items, globals),
+        Resolved::Builder(_, variables, filter, term) => {
+            let line = ranges_offending(variables, globals);
+            part_after(term, part_after(filter, line, globals), globals)
+        }
+        Resolved::Unary(_, _, of) => offending(of.get(), globals),
+        Resolved::Binary(_, _, left, right) => {
+            offending_after(right.get(), offending(left.get(), globals), globals)
+        }
+        Resolved::Chain(_, first, further) => {
+            links_after(further, offending(first.get(), globals), globals)
+        }
+        Resolved::Quantified(_, _, variables, constraint, body) => {
+            let line = ranges_offending(variables, globals);
+            offending_after(body.get(), part_after(constraint, line, globals), globals)
+        }
+    }
+}
+
+/// The line that was found before, or that of the first name in the term that offends.
+#[cycle(offending)]
+pub fn offending_after<'a>(
+    term: &Resolved<'a>,
+    found: Option<u32>,
+    globals: &Globals<'a>,
+) -> Option<u32>
+    ensures { result ≡ or_else found (spec.first (spec.offending (globals_of globals.now) (resolved_of term.now))) }
+{
+    match found {
+        Some(line) => Some(line),
+        None => offending(term, globals),
+    }
+}
+
+/// The same where a whole infinite set may stand.
+#[cycle(offending)]
+pub fn offending_within_after<'a>(
+    term: &Resolved<'a>,
+    found: Option<u32>,
+    globals: &Globals<'a>,
+) -> Option<u32>
+    ensures { result ≡ or_else found (spec.first (spec.offending_within (globals_of globals.now) (resolved_of term.now))) }
+{
+    match direct(term, globals) {
+        Some(_) => found,
+        None => offending_after(term, found, globals),
+    }
+}
+
+#[cycle(offending)]
+fn terms_offending<'a>(items: &Terms<'a>, globals: &Globals<'a>) -> Option<u32>
+    ensures { result ≡ spec.first (spec.all_offending (globals_of globals.now) (terms (map resolved_of items.now))) }
+{
+    let mut line = None;
+    for term in items.as_slice() {
+        line = offending_after(term, line, globals);
+    }
+    line
+}
+
+#[cycle(offending)]
+fn links_after<'a>(further: &Links<'a>, found: Option<u32>, globals: &Globals<'a>) -> Option<u32>
+    ensures { result ≡ or_else found (spec.first (spec.links_offending (globals_of globals.now) (links (map resolved_link_of further.now)))) }
+{
+    let mut line = found;
+    let all = further.as_slice();
+    for (place, link) in all.iter().enumerate() {
+        let is_last = all[place + 1..].is_empty();
+        line = right_after(&link.right, line, link.relation, is_last, globals);
+    }
+    line
+}
+
+/// The same of the right side of a link.
+#[cycle(offending)]
+fn right_after<'a>(
+    right: &Resolved<'a>,
+    found: Option<u32>,
+    relation: Relation,
+    is_last: bool,
+    globals: &Globals<'a>,
+) -> Option<u32>
+    ensures { result ≡ or_else found (spec.first (spec.unless (spec.tested (globals_of globals.now) relation is_last (resolved_of right.now)) (spec.offending (globals_of globals.now) (resolved_of right.now)))) }
+{
+    if is_membership(relation) && is_last {
+        offending_within_after(right, found, globals)
+    } else {
+        offending_after(right, found, globals)
+    }
+}
+
+#[cycle(offending)]
+fn ranges_offending<'a>(
+    variables: &Boxed<'a, Items<'a, Range<'a>>>,
+    globals: &Globals<'a>,
+) -> Option<u32>
+    ensures { result ≡ spec.first (spec.ranges_offending (globals_of globals.now) (ranges (map range_of variables.now))) }
+{
+    let mut line = None;
+    for range in variables.as_slice() {
+        line = offending_after(&range.set, line, globals);
+    }
+    line
+}
+
+#[cycle(offending)]
+fn part_after<'a>(part: &Part<'a>, found: Option<u32>, globals: &Globals<'a>) -> Option<u32>
+    ensures { result ≡ or_else found (spec.first (spec.part_offending (globals_of globals.now) (part_of part.now))) }
+{
+    match part.get() {
+        None => found,
+        Some(term) => offending_after(term.get(), found, globals),
+    }
+}
+
+/// The extent of what a name stands for.
+pub(crate) fn extent_named(globals: &Globals<'_>, reference: Reference) -> Extent
+    ensures { result ≡ spec.extent_named (globals_of globals.now) reference }
+{
+    match reference {
+        Reference::Component(_) => Extent::Closed,
+        Reference::Local(_) => Extent::Closed,
+        Reference::Global(place) => match globals.in_order(place) {
+            Some((_, entry)) => extent(entry),
+            None => Extent::Closed,
+        },
+    }
+}
+
+pub(crate) fn constant_set(constant: Constant) -> Option<Infinite>
+    ensures { result ≡ spec.constant_set constant }
+{
+    match constant {
+        Constant::True => None,
+        Constant::False => None,
+        Constant::Integers => Some(Infinite::Num),
+        Constant::Naturals => Some(Infinite::Nat),
+        Constant::Positives => Some(Infinite::Nat1),
+    }
+}
+
+/// The line, if a name of this extent offends.
+pub(crate) fn name_line(line: u32, extent: Extent) -> Option<u32>
+    ensures { result ≡ spec.first (spec.name_lines line extent) }
+{
+    match extent {
+        Extent::Infinite(_) => Some(line),
+        Extent::Open => Some(line),
+        Extent::Closed => None,
+    }
+}
+
+/// The line, if the constant offends.
+pub(crate) fn constant_line(line: u32, constant: Constant) -> Option<u32>
+    ensures { result ≡ spec.first (spec.constant_lines line (spec.constant_set constant)) }
+{
+    match constant_set(constant) {
+        Some(_) => Some(line),
+        None => None,
+    }
+}
+
+/// Whether it is `\in` or `\notin`.
+pub(crate) fn is_membership(relation: Relation) -> bool
+    ensures { result ≡ spec.is_membership relation }
+{
+    match relation {
+        Relation::Member => true,
+        Relation::NotMember => true,
+        Relation::Equal => false,
+        Relation::NotEqual => false,
+        Relation::Subset => false,
+        Relation::ProperSubset => false,
+        Relation::Less => false,
+        Relation::AtMost => false,
+        Relation::Greater => false,
+        Relation::AtLeast => false,
+    }
+}
+
+/// The infinite set that a name of this extent stands for.
+pub(crate) fn set(extent: Extent) -> Option<Infinite>
+    ensures { result ≡ spec.extent_set extent }
+{
+    match extent {
+        Extent::Infinite(set) => Some(set),
+        Extent::Open => None,
+        Extent::Closed => None,
+    }
+}
+
+/// The extent of a name that is defined as this.
+fn extent(entry: &Entry<'_>) -> Extent
+    ensures { result ≡ spec.definition_extent (definition_of entry.now) }
+{
+    match entry {
+        Entry::Given(_) => Extent::Closed,
+        Entry::Free(_, _) => Extent::Closed,
+        Entry::Constructor(_, _, _) => Extent::Closed,
+        Entry::Abbrev(_, _, extent) => *extent,
+        Entry::Schema(_) => Extent::Closed,
+    }
+}

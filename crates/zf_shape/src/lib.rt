@@ -1,0 +1,8 @@
+//! The nodes and the height of terms, conjuncts and declared sets, counted no further than a limit.
+#![tactic(auto)]
+
+pub mod conjunct;
+pub mod kept;
+pub mod sets;
+pub mod terms;
+mod texts;

@@ -1,7 +1,0 @@
-use Rattle.std.proofs.Common.{◌≡◌, ◌+◌, map, take}
-use Rattle.zf_term.specs.Definitions.{set_of}
-use Rattle.zf_term.specs.SetShapes.{all_set_nodes}
-use Rattle.zf_term.proofs.globals.+nodes.Given as goal
-
-abbrev pub invariant-room_after_all_nodes-loop-domain : goal.invariant-room_after_all_nodes-loop-domain
-invariant-room_after_all_nodes-loop-domain l = l.left + all_set_nodes (map set_of (take l.domain-index l.domain-items)) ≡ l.room

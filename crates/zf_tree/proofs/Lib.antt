@@ -1,0 +1,2 @@
+pub mod TermSeen
+pub mod SchemaSeen

@@ -1,0 +1,206 @@
+-- Trees as plain data, a form for each form of ZRM 6 that is read, and how the program's trees are seen as them.
+use Rattle.std.specs.Prelude.{ℕ, List, [], ◌∷◌, map, Option, Some, None}
+use Rattle.zf_tree.specs.declared.symbol.Arrow.{Arrow}
+use Rattle.zf_tree.specs.declared.symbol.Connective.{Connective}
+use Rattle.zf_tree.specs.declared.symbol.Constant.{Constant}
+use Rattle.zf_tree.specs.declared.symbol.Infix.{Infix}
+use Rattle.zf_tree.specs.declared.symbol.Quantifier.{Quantifier}
+use Rattle.zf_tree.specs.declared.symbol.Relation.{Relation}
+use Rattle.zf_tree.specs.Names.{name_at}
+use Rattle.zf_tree.specs.declared.tree.Name.{Name}
+use Rattle.zf_tree.specs.declared.tree.Sign.{Sign}
+use Rattle.zf_tree.specs.declared.tree.Term.{Term}
+use Rattle.zf_tree.specs.declared.tree.Link.{Link}
+use Rattle.zf_tree.specs.declared.tree.VarDecl.{VarDecl}
+use Rattle.zf_tree.specs.declared.tree.Term.TheOpen.{Term-F, Link-F, VarDecl-F}
+use Rattle.zf_tree.specs.declared.tree.Term.TheViews.{roll-Link, roll-VarDecl}
+use Rattle.zf_tree.specs.declared.tree.Term.TheFolds.{fold-Term, fold-Link, fold-VarDecl}
+use Rattle.zf_tree.specs.declared.tree.SchemaRef.{SchemaRef}
+use Rattle.zf_tree.specs.declared.tree.Decl.{Decl}
+use Rattle.zf_tree.specs.declared.tree.Decl.TheVariants as decl
+use Rattle.zf_tree.specs.declared.tree.SchemaExp.{SchemaExp, fold-SchemaExp}
+use Rattle.zf_tree.specs.declared.tree.SchemaExp.TheOpen.{SchemaExp-F}
+use Rattle.zf_tree.specs.declared.tree.Paragraph.{Paragraph}
+use Rattle.zf_tree.specs.declared.tree.Paragraph.TheVariants as paragraph
+use Rattle.zf_tree.specs.declared.tree.ZBox.{ZBox}
+use Rattle.zf_tree.specs.declared.tree.ZBox.TheVariants as zbox
+use Rattle.zf_tree.specs.declared.tree.Spec.{Spec}
+
+-- ---- terms, each with the line of its first token
+
+mutual
+  pub data Tree : Type 0 where
+    named : Name → Tree
+    numeral : (line value : ℕ) → Tree
+    constant : (line : ℕ) → Constant → Tree
+    empty_set : (line : ℕ) → Tree → Tree
+    bracket : (line : ℕ) → Tree → Tree
+    tuple : (line : ℕ) → Trees → Tree
+    display : (line : ℕ) → Trees → Tree
+    builder : (line : ℕ) → VarDecls → Perhaps → Perhaps → Tree
+    prefixed : (line : ℕ) → Sign → Tree → Tree
+    inverse : (line : ℕ) → Tree → Tree
+    image : (line : ℕ) → Tree → Tree → Tree
+    applied : (line : ℕ) → Tree → Tree → Tree
+    infixed : (line : ℕ) → Infix → Tree → Tree → Tree
+    arrow : (line : ℕ) → Arrow → Tree → Tree → Tree
+    product : (line : ℕ) → Trees → Tree
+    chain : (line : ℕ) → Tree → Links → Tree
+    negated : (line : ℕ) → Tree → Tree
+    connected : (line : ℕ) → Connective → Tree → Tree → Tree
+    quantified : (line : ℕ) → Quantifier → VarDecls → Perhaps → Tree → Tree
+
+  -- operands of one node
+  pub data Trees : Type 0 where
+    no_trees : Trees
+    tree : Tree → Trees → Trees
+
+  -- the further parts of a chain of relations
+  pub data Links : Type 0 where
+    no_links : Links
+    link : Relation → Tree → Links → Links
+
+  -- declarations of bound variables
+  pub data VarDecls : Type 0 where
+    no_decls : VarDecls
+    var_decl : List Name → Tree → VarDecls → VarDecls
+
+  -- a part that may be left out
+  pub data Perhaps : Type 0 where
+    absent : Perhaps
+    present : Tree → Perhaps
+
+-- the line of the first symbol
+abbrev pub line_of : Tree → ℕ
+line_of (named n) = n.line
+line_of (numeral l v) = l
+line_of (constant l c) = l
+line_of (empty_set l t) = l
+line_of (bracket l t) = l
+line_of (tuple l ts) = l
+line_of (display l ts) = l
+line_of (builder l ds p t) = l
+line_of (prefixed l s t) = l
+line_of (inverse l t) = l
+line_of (image l r a) = l
+line_of (applied l f x) = l
+line_of (infixed l op a b) = l
+line_of (arrow l op a b) = l
+line_of (product l ts) = l
+line_of (chain l t ks) = l
+line_of (negated l t) = l
+line_of (connected l c a b) = l
+line_of (quantified l q ds p t) = l
+
+-- ---- declarations, schema expressions, paragraphs and boxes
+
+pub data DeclTree : Type 0 where
+  vars : List Name → Tree → DeclTree
+  include : SchemaRef → DeclTree
+
+pub data SchemaTree : Type 0 where
+  schema_text : List DeclTree → List Tree → SchemaTree
+  reference : SchemaRef → SchemaTree
+  both : SchemaTree → SchemaTree → SchemaTree
+  either : (line : ℕ) → SchemaTree → SchemaTree → SchemaTree
+  schema_bracket : SchemaTree → SchemaTree
+
+pub data ParagraphTree : Type 0 where
+  given : List Name → ParagraphTree
+  free : Name → List Name → ParagraphTree
+  abbreviation : Name → Tree → ParagraphTree
+  definition : Name → SchemaTree → ParagraphTree
+
+pub data BoxTree : Type 0 where
+  zed : List ParagraphTree → BoxTree
+  schema_box : Name → List DeclTree → List Tree → BoxTree
+
+-- ---- the program's trees as these
+
+abbrev pub trees : List Tree → Trees
+trees [] = no_trees
+trees (t ∷ ts) = tree t (trees ts)
+
+abbrev pub links : List (Relation × Tree) → Links
+links [] = no_links
+links (p ∷ ps) = link p.0 p.1 (links ps)
+
+abbrev pub var_decls : List (List Name × Tree) → VarDecls
+var_decls [] = no_decls
+var_decls (p ∷ ps) = var_decl p.0 p.1 (var_decls ps)
+
+abbrev pub perhaps : Option Tree → Perhaps
+perhaps None = absent
+perhaps (Some t) = present t
+
+-- one level, with a tree in the place of each term in it
+abbrev pub tree_step : Term-F Tree (Relation × Tree) (List Name × Tree) → Tree
+tree_step (Term-F.Name l i) = named (name_at l i)
+tree_step (Term-F.Number l v) = numeral l v
+tree_step (Term-F.Constant l c) = constant l c
+tree_step (Term-F.EmptySet l t) = empty_set l t
+tree_step (Term-F.Bracket l t) = bracket l t
+tree_step (Term-F.Tuple l ts) = tuple l (trees ts)
+tree_step (Term-F.Display l ts) = display l (trees ts)
+tree_step (Term-F.Builder l ds p t) = builder l (var_decls ds) (perhaps p) (perhaps t)
+tree_step (Term-F.Prefix l s t) = prefixed l s t
+tree_step (Term-F.Inverse l t) = inverse l t
+tree_step (Term-F.Image l r a) = image l r a
+tree_step (Term-F.Apply l f x) = applied l f x
+tree_step (Term-F.Infix l op a b) = infixed l op a b
+tree_step (Term-F.Arrow l op a b) = arrow l op a b
+tree_step (Term-F.Product l ts) = product l (trees ts)
+tree_step (Term-F.Chain l t ks) = chain l t (links ks)
+tree_step (Term-F.Not l t) = negated l t
+tree_step (Term-F.Connective l op a b) = connected l op a b
+tree_step (Term-F.Quantified q l ds p t) = quantified l q (var_decls ds) (perhaps p) t
+
+abbrev pub link_step : Link-F Tree (Relation × Tree) (List Name × Tree) → Relation × Tree
+link_step k = (k.relation, k.right)
+
+abbrev pub decl_step : VarDecl-F Tree (Relation × Tree) (List Name × Tree) → List Name × Tree
+decl_step d = (d.names, d.set)
+
+unfoldable pub tree_of : Term → Tree
+tree_of = fold-Term Tree (Relation × Tree) (List Name × Tree) tree_step link_step decl_step
+
+unfoldable pub link_of : Link → Relation × Tree
+link_of = fold-Link Tree (Relation × Tree) (List Name × Tree) tree_step link_step decl_step
+
+unfoldable pub var_decl_of : VarDecl → List Name × Tree
+var_decl_of = fold-VarDecl Tree (Relation × Tree) (List Name × Tree) tree_step link_step decl_step
+
+-- a link, and a declaration, of these parts
+abbrev pub new_link : Relation → Term → Link
+new_link r t = roll-Link (record { relation = r; right = t })
+
+abbrev pub new_decl : List Name → Term → VarDecl
+new_decl ns t = roll-VarDecl (record { names = ns; set = t })
+
+abbrev pub decl_of : Decl → DeclTree
+decl_of (decl.Vars names set) = vars names (tree_of set)
+decl_of (decl.Include r) = include r
+
+abbrev pub schema_step : SchemaExp-F SchemaTree → SchemaTree
+schema_step (SchemaExp-F.Text ds ps) = schema_text (map decl_of ds) (map tree_of ps)
+schema_step (SchemaExp-F.Ref r) = reference r
+schema_step (SchemaExp-F.Both a b) = both a b
+schema_step (SchemaExp-F.Or l a b) = either l a b
+schema_step (SchemaExp-F.Bracket a) = schema_bracket a
+
+unfoldable pub schema_of : SchemaExp → SchemaTree
+schema_of = fold-SchemaExp SchemaTree schema_step
+
+abbrev pub paragraph_of : Paragraph → ParagraphTree
+paragraph_of (paragraph.Given names) = given names
+paragraph_of (paragraph.Free name names) = free name names
+paragraph_of (paragraph.Abbrev name term) = abbreviation name (tree_of term)
+paragraph_of (paragraph.Defs name exp) = definition name (schema_of exp)
+
+abbrev pub box_of : ZBox → BoxTree
+box_of (zbox.Zed ps) = zed (map paragraph_of ps)
+box_of (zbox.SchemaBox name ds ps) = schema_box name (map decl_of ds) (map tree_of ps)
+
+-- the tree of a whole text is the list of its boxes
+abbrev pub boxes_of : Spec → List BoxTree
+boxes_of spec = map box_of spec.boxes

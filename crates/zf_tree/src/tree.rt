@@ -1,0 +1,258 @@
+//! The trees of a text.
+ghost use Rattle.std.specs.Prelude.{◌≡◌, ◌++◌};
+ghost use Rattle.zf_tree.specs.Names as spec;
+ghost use Rattle.zf_tree.specs.Names.{ident_of, name_at};
+ghost use Rattle.zf_tree.specs.Trees.{line_of, tree_of};
+
+use crate::ends::{back, front};
+use crate::symbol::{Arrow, Connective, Constant, Infix, Prefix, Quantifier, Relation};
+use std::marker::Model;
+use zf_data::arena::{Boxed, Items, Lent};
+
+/// A name, and the line where it stands.
+#[derive(Drop)]
+pub struct Name<'a> {
+    /// The name with its strokes.
+    pub spelled: Lent<'a>,
+    /// How many of its bytes come before the strokes.
+    pub bare: usize,
+    pub line: u32,
+}
+
+impl<'a> Model for Name<'a> {
+    ghost use Rattle.std.specs.Prelude.{take, drop};
+    ghost use Rattle.zf_tree.specs.Names as names;
+
+    ghost Value = { names.Name };
+
+    ghost view = { λ n. record { base = take n.bare n.spelled; strokes = drop n.bare n.spelled; line = n.line } };
+}
+
+impl<'a> Name<'a> {
+    /// The name with its strokes, of which nothing is copied.
+    pub fn spelled(&self) -> Lent<'a>
+        ensures { result ≡ self.now.base ++ self.now.strokes }
+    {
+        self.spelled.share()
+    }
+
+    /// The name without its line.
+    pub fn ident(&self) -> Ident<'a>
+        ensures { result ≡ ident_of self.now }
+    {
+        Ident {
+            spelled: self.spelled.share(),
+            bare: self.bare,
+        }
+    }
+
+    /// The name without its strokes.
+    pub fn base(&self) -> &'a [u8]
+        ensures { result.now ≡ self.now.base }
+    {
+        front(self.spelled.as_slice(), self.bare)
+    }
+
+    /// The strokes, as spelled.
+    pub fn strokes(&self) -> &'a [u8]
+        ensures { result.now ≡ self.now.strokes }
+    {
+        back(self.spelled.as_slice(), self.bare)
+    }
+
+    /// Whether the name has no strokes.
+    pub fn is_bare(&self) -> bool
+        ensures { result ≡ spec.is_bare self.now.strokes }
+    {
+        match self.strokes() {
+            [] => true,
+            [_, ..] => false,
+        }
+    }
+}
+
+/// A name without its line, as a term has it.
+#[derive(Drop)]
+pub struct Ident<'a> {
+    /// The name with its strokes.
+    pub spelled: Lent<'a>,
+    /// How many of its bytes come before the strokes.
+    pub bare: usize,
+}
+
+impl<'a> Model for Ident<'a> {
+    ghost use Rattle.std.specs.Prelude.{take, drop};
+    ghost use Rattle.zf_tree.specs.Names as names;
+
+    ghost Value = { names.Ident };
+
+    ghost view = { λ i. record { base = take i.bare i.spelled; strokes = drop i.bare i.spelled } };
+}
+
+impl<'a> Ident<'a> {
+    /// The name, which stands at the line.
+    pub fn at(&self, line: u32) -> Name<'a>
+        ensures { result ≡ name_at line self.now }
+    {
+        Name {
+            spelled: self.spelled.share(),
+            bare: self.bare,
+            line,
+        }
+    }
+}
+
+/// What stands before one term.
+#[derive(Clone, Copy)]
+pub enum Sign {
+    Symbol(Prefix),
+    Minus,
+}
+
+/// A part of a term that may be left out. It stands in a box, since few terms have one.
+pub type Part<'a> = Boxed<'a, Option<Boxed<'a, Term<'a>>>>;
+
+/// The operands of one node. A list stands in a box wherever a term has one, so that every term is small.
+pub type Terms<'a> = Boxed<'a, Items<'a, Boxed<'a, Term<'a>>>>;
+
+/// A term, with the line of its first token. Expressions and predicates share it.
+#[cycle(terms)]
+#[derive(Drop)]
+pub enum Term<'a> {
+    Name(u32, Ident<'a>),
+    Number(u32, u64),
+    Constant(u32, Constant),
+    /// `\emptyset[E]`
+    EmptySet(u32, Boxed<'a, Term<'a>>),
+    Bracket(u32, Boxed<'a, Term<'a>>),
+    Tuple(u32, Terms<'a>),
+    Display(u32, Terms<'a>),
+    /// A builder: the declarations, the filter, and the term.
+    Builder(u32, Boxed<'a, Items<'a, VarDecl<'a>>>, Part<'a>, Part<'a>),
+    Prefix(u32, Sign, Boxed<'a, Term<'a>>),
+    /// `R \inv`
+    Inverse(u32, Boxed<'a, Term<'a>>),
+    /// `R \limg A \rimg`
+    Image(u32, Boxed<'a, Term<'a>>, Boxed<'a, Term<'a>>),
+    /// `f x`
+    Apply(u32, Boxed<'a, Term<'a>>, Boxed<'a, Term<'a>>),
+    Infix(u32, Infix, Boxed<'a, Term<'a>>, Boxed<'a, Term<'a>>),
+    Arrow(u32, Arrow, Boxed<'a, Term<'a>>, Boxed<'a, Term<'a>>),
+    /// `A \cross B ..`, one node
+    Product(u32, Terms<'a>),
+    /// A chain of relations: the first operand, and the links.
+    Chain(u32, Boxed<'a, Term<'a>>, Boxed<'a, Items<'a, Link<'a>>>),
+    Not(u32, Boxed<'a, Term<'a>>),
+    Connective(u32, Connective, Boxed<'a, Term<'a>>, Boxed<'a, Term<'a>>),
+    /// The declarations, the constraint, and the body.
+    Quantified(Quantifier, u32, Boxed<'a, Items<'a, VarDecl<'a>>>, Part<'a>, Boxed<'a, Term<'a>>),
+}
+
+impl<'a> Term<'a> {
+    /// The line of the first symbol.
+    #[tactic(auto, using(crate::proofs::TermSeen::seen))]
+    pub fn line(&self) -> u32
+        ensures { result ≡ line_of (tree_of self.now) }
+    {
+        match self {
+            Term::Name(line, _) => *line,
+            Term::Number(line, _) => *line,
+            Term::Constant(line, _) => *line,
+            Term::EmptySet(line, _) => *line,
+            Term::Bracket(line, _) => *line,
+            Term::Tuple(line, _) => *line,
+            Term::Display(line, _) => *line,
+            Term::Builder(line, _, _, _) => *line,
+            Term::Prefix(line, _, _) => *line,
+            Term::Inverse(line, _) => *line,
+            Term::Image(line, _, _) => *line,
+            Term::Apply(line, _, _) => *line,
+            Term::Infix(line, _, _, _) => *line,
+            Term::Arrow(line, _, _, _) => *line,
+            Term::Product(line, _) => *line,
+            Term::Chain(line, _, _) => *line,
+            Term::Not(line, _) => *line,
+            Term::Connective(line, _, _, _) => *line,
+            Term::Quantified(_, line, _, _, _) => *line,
+        }
+    }
+}
+
+/// A further part of a chain.
+#[cycle(terms)]
+#[derive(Drop)]
+pub struct Link<'a> {
+    pub relation: Relation,
+    pub right: Boxed<'a, Term<'a>>,
+}
+
+/// Bound variables, and their declared set.
+#[cycle(terms)]
+#[derive(Drop)]
+pub struct VarDecl<'a> {
+    pub names: Items<'a, Name<'a>>,
+    pub set: Boxed<'a, Term<'a>>,
+}
+
+/// How the schema of a reference is taken.
+#[derive(Clone, Copy, Debug)]
+pub enum RefMark {
+    Plain,
+    Delta,
+    Xi,
+}
+
+/// A reference to a schema. The strokes of its name decorate.
+#[derive(Drop)]
+pub struct SchemaRef<'a> {
+    pub mark: RefMark,
+    pub name: Name<'a>,
+}
+
+/// A declaration: of components, or of all that a schema has.
+#[derive(Drop)]
+pub enum Decl<'a> {
+    /// Components, and their declared set.
+    Vars(Items<'a, Name<'a>>, Boxed<'a, Term<'a>>),
+    Include(SchemaRef<'a>),
+}
+
+/// A schema expression (ZRM 5.2).
+#[derive(Drop)]
+pub enum SchemaExp<'a> {
+    /// `[ Decl; .. | Term; .. ]`
+    Text(Items<'a, Decl<'a>>, Items<'a, Boxed<'a, Term<'a>>>),
+    Ref(SchemaRef<'a>),
+    /// `A \land B`
+    Both(Boxed<'a, SchemaExp<'a>>, Boxed<'a, SchemaExp<'a>>),
+    /// `A \lor B`, with the line of its first token
+    Or(u32, Boxed<'a, SchemaExp<'a>>, Boxed<'a, SchemaExp<'a>>),
+    Bracket(Boxed<'a, SchemaExp<'a>>),
+}
+
+/// A paragraph of a `zed` box (ZRM 3.2).
+#[derive(Drop)]
+pub enum Paragraph<'a> {
+    /// `[ Name, .. ]`
+    Given(Items<'a, Name<'a>>),
+    /// `Name ::= Name | ..`
+    Free(Name<'a>, Items<'a, Name<'a>>),
+    /// `Name == Term`
+    Abbrev(Name<'a>, Boxed<'a, Term<'a>>),
+    /// `Name \defs SchemaExp`
+    Defs(Name<'a>, SchemaExp<'a>),
+}
+
+/// A box, which ends with its `\end`.
+#[derive(Drop)]
+pub enum ZBox<'a> {
+    Zed(Items<'a, Paragraph<'a>>),
+    /// The name, the declarations, and the predicates below `\where`.
+    SchemaBox(Name<'a>, Items<'a, Decl<'a>>, Items<'a, Boxed<'a, Term<'a>>>),
+}
+
+/// A whole text.
+#[derive(Drop)]
+pub struct Spec<'a> {
+    pub boxes: zf_data::Items<ZBox<'a>>,
+}
