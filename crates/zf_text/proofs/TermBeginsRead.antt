@@ -8,8 +8,8 @@ use Rattle.zf_scan.specs.declared.token.Kind.TheVariants as k
 use Rattle.zf_tree.specs.declared.symbol.Quantifier.{Quantifier}
 use Rattle.zf_tree.specs.Names.{ident_of}
 use Rattle.zf_tree.specs.declared.tree.Name.{Name}
-use Rattle.zf_tree.specs.declared.tree.Sign.{Sign}
-use Rattle.zf_tree.specs.declared.tree.Sign.TheVariants as sign
+use Rattle.zf_tree.specs.declared.operator.Sign.{Sign}
+use Rattle.zf_tree.specs.declared.operator.Sign.TheVariants as sign
 use Rattle.zf_tree.specs.declared.tree.Term.{Term}
 use Rattle.zf_tree.specs.declared.tree.Term.TheVariants as term
 use Rattle.zf_text.specs.Height.{height, tallest}
@@ -24,7 +24,7 @@ use Rattle.zf_tree.specs.Trees as shape
 use Rattle.zf_text.proofs.Marks.{seen}
 use Rattle.zf_text.proofs.TermFirsts.{not_closed}
 use Rattle.zf_tree.proofs.TermSeen as of
-use Rattle.zf_tree.proofs.TermSeen.{part_of}
+use Rattle.zf_tree.specs.Trees.{part_of}
 use Rattle.zf_text.proofs.TermSteps.{ok_expect}
 use Rattle.zf_text.proofs.TermParts.{decls_of}
 use Rattle.zf_text.proofs.TermPartsRead.{IsRead, Reader, IsComplete, first_is, part_first, from_false, decls_begin, items_do_not, further_stops, all_complete, decls_complete, part_complete}

@@ -21,7 +21,7 @@ use Rattle.zf_tree.specs.Trees as shape
 use Rattle.zf_text.proofs.Marks.{seen}
 use Rattle.zf_text.proofs.TermFirsts.{atom_begins}
 use Rattle.zf_tree.proofs.TermSeen as of
-use Rattle.zf_tree.proofs.TermSeen.{part_of}
+use Rattle.zf_tree.specs.Trees.{part_of}
 use Rattle.zf_text.proofs.TermSteps.{ok_expect}
 use Rattle.zf_text.proofs.TermParts.{trees_of, links_of}
 use Rattle.zf_text.proofs.TermBeginsRead.{moved, name_begins, numeral_begins, constant_begins, empty_set_begins, bracket_begins, tuple_begins, display_begins, builder_begins, quantified_begins, prefixed_begins, negated_begins}

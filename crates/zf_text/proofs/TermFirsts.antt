@@ -5,8 +5,8 @@ use Rattle.zf_text.specs.declared.tall.Tall.{Tall}
 use Rattle.zf_tree.specs.declared.symbol.Connective.TheVariants.{And, Or, Implies, Iff}
 use Rattle.zf_scan.specs.declared.token.Kind.{Kind}
 use Rattle.zf_scan.specs.declared.token.Kind.TheVariants as k
-use Rattle.zf_tree.specs.declared.tree.Sign.{Sign}
-use Rattle.zf_tree.specs.declared.tree.Sign.TheVariants as sign
+use Rattle.zf_tree.specs.declared.operator.Sign.{Sign}
+use Rattle.zf_tree.specs.declared.operator.Sign.TheVariants as sign
 use Rattle.zf_tree.specs.declared.tree.Term.{Term}
 use Rattle.zf_tree.specs.declared.tree.Term.TheVariants as term
 use Rattle.zf_text.specs.Levels.{application_level, postfix_level, level, IsLevelled}

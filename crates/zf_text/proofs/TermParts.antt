@@ -22,7 +22,7 @@ use Rattle.zf_text.specs.TermReading.{Outcome, Parser, expect, read_names, tall,
 use Rattle.zf_tree.specs.Trees.{new_link, new_decl, Tree, Trees, Links, no_links, link, VarDecls, no_decls, var_decl, trees, links, var_decls, tree_of, link_of, var_decl_of}
 use Rattle.zf_text.proofs.Marks.{kind_of, marked}
 use Rattle.zf_tree.proofs.TermSeen as of
-use Rattle.zf_tree.proofs.TermSeen.{part_of}
+use Rattle.zf_tree.specs.Trees.{part_of}
 use Rattle.zf_text.proofs.TermSteps.{ok_pair, ok_value, ok_rest, bind_ok, if_cases, expect_ok, names_ok}
 
 -- lists of parts, as trees

@@ -25,7 +25,7 @@ use Rattle.zf_text.proofs.Marks.{kind_of, seen, passed, next_shorter}
 use Rattle.zf_text.proofs.NamesRead.{names_shorter}
 use Rattle.zf_text.proofs.TermFirsts.{only_name, term_shorter}
 use Rattle.zf_tree.proofs.TermSeen as of
-use Rattle.zf_tree.proofs.TermSeen.{part_of}
+use Rattle.zf_tree.specs.Trees.{part_of}
 use Rattle.zf_text.proofs.TermSteps.{ok_expect, ok_names}
 use Rattle.zf_text.proofs.TermParts.{trees_of, links_of, decls_of, SpellsSomeLinks, SpellsFurtherDecls}
 

@@ -24,7 +24,7 @@ use Rattle.zf_tree.specs.Trees.{line_of, new_link, Tree, named, numeral, constan
 use Rattle.zf_text.specs.TermReading.{Outcome, expect, binds, place_before, tall, with_link, over, over_both, further, links_from, chain_links, beginning, with_right, image, chained, product, longer_by, climb, whole, read_term}
 use Rattle.zf_tree.specs.Trees as shape
 use Rattle.zf_tree.proofs.TermSeen as of
-use Rattle.zf_tree.proofs.TermSeen.{part_of}
+use Rattle.zf_tree.specs.Trees.{part_of}
 use Rattle.zf_text.proofs.TermSteps.{ok_pair, ok_value, bind_ok, if_ok, if_cases, expect_ok}
 use Rattle.zf_text.proofs.TermBegins.{all_sound, beginning_sound}
 use Rattle.zf_text.proofs.TermParts.{links_of, trees_of, Sound, IsLink, Reader, IsSound, made, link_first, links_sound, one_link}

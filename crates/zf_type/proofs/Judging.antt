@@ -2,7 +2,7 @@
 use Rattle.std.proofs.Common.{◌≡◌, ℕ, Ok, Err, Option, Some, None, refl, sym, subst, inl, inr, true≢false}
 use Rattle.std.specs.Prelude.{Result, IfOk, IfErr, IsErr, IsErrAnd, OnOk}
 use Rattle.zf_tree.specs.declared.symbol.Prefix.TheVariants.{Power, Finset, Domain, Range, Size}
-use Rattle.zf_tree.specs.declared.tree.Sign.TheVariants as sign
+use Rattle.zf_tree.specs.declared.operator.Sign.TheVariants as sign
 use Rattle.zf_tree.specs.Trees as text
 use Rattle.zf_tree.specs.Trees.{Tree, named, numeral, constant, empty_set, bracket, tuple, display, builder, prefixed, inverse, image, applied, infixed, arrow, product, chain, negated, connected, quantified}
 use Rattle.zf_tree.specs.Operators.{need_of, left_need, right_need, rule_of}
