@@ -30,6 +30,16 @@ impl<'a> Conjunct<'a> {
         })
     }
 
+    /// The predicate, which stands in an arena, with its components at their own places.
+    pub fn lasting(term: &'a Resolved<'a>) -> Conjunct<'a>
+        ensures { conjunct_of result ≡ resolved_of term.now }
+    {
+        Conjunct {
+            term: Lasting { inner: term },
+            places: None,
+        }
+    }
+
     /// The same conjunct, of which nothing is copied.
     pub fn share(&self) -> Conjunct<'a>
         ensures { result ≡ self.now }

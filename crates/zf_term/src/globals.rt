@@ -102,6 +102,11 @@ impl<'a> Globals<'a> {
         })
     }
 
+    /// What the names are kept by.
+    pub fn allocator(&self) -> Global {
+        *self.entries.allocator()
+    }
+
     /// How many names there are.
     pub fn len(&self) -> usize
         ensures len { result ≡ length (globals_of self.now) }
