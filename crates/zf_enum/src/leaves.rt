@@ -41,10 +41,7 @@ pub(crate) fn of_plain<'a>(
 }
 
 /// The outcome of the set that a declaration names. No component is in scope there.
-fn outcome_of<'a>(
-    set: &Resolved<'a>,
-    env: &Env<'_, 'a>,
-) -> Result<Outcome, AllocError>
+fn outcome_of<'a>(set: &Resolved<'a>, env: &Env<'_, 'a>) -> Result<Outcome, AllocError>
     ensures is { IfOk result (HasOutcome (globally (environment_of env.now)) (resolved_of set.now)) }
     ensures regular { IfOk result IsRegularOutcome }
 {

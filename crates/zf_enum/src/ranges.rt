@@ -40,11 +40,7 @@ pub(crate) fn range<'a>(
 /// The values that lie in a declared set that bounds.
 #[cycle(listing)]
 #[tactic(auto, using(zf_term::proofs::SetsSeen::seen))]
-fn values<'a>(
-    alloc: Global,
-    domain: &Domain<'a>,
-    env: &Env<'_, 'a>,
-) -> Result<Vec<Value>, Lack>
+fn values<'a>(alloc: Global, domain: &Domain<'a>, env: &Env<'_, 'a>) -> Result<Vec<Value>, Lack>
     ensures is { spec.bounds (environment_of env.now).globals (set_of domain.now) ≡ true → IfOk result (λ xs. IsAllOf (environment_of env.now) (set_of domain.now) xs.items) }
     ensures regular { IfOk result (λ xs. IsRegularSet xs.items) }
     ensures out { spec.bounds (environment_of env.now).globals (set_of domain.now) ≡ true → IfErr result (λ lack. Tells lack (IsSetOut (environment_of env.now) (set_of domain.now))) }

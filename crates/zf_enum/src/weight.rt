@@ -10,10 +10,7 @@ use zf_value::lent::Lent;
 use zf_value::value::Value;
 
 /// The weight of a declared set; the greatest where it is not known.
-pub(crate) fn weight<'a>(
-    domain: &Domain<'a>,
-    env: &Env<'_, 'a>,
-) -> Result<usize, AllocError> {
+pub(crate) fn weight<'a>(domain: &Domain<'a>, env: &Env<'_, 'a>) -> Result<usize, AllocError> {
     match domain {
         Domain::Plain(set) => plain_weight(set.get(), env),
         Domain::Carrier(_) => Ok(usize::MAX),
@@ -21,10 +18,7 @@ pub(crate) fn weight<'a>(
     }
 }
 
-fn plain_weight<'a>(
-    set: &Resolved<'a>,
-    env: &Env<'_, 'a>,
-) -> Result<usize, AllocError> {
+fn plain_weight<'a>(set: &Resolved<'a>, env: &Env<'_, 'a>) -> Result<usize, AllocError> {
     let none: &[Value] = &[];
     let described = described_in(set, &none, env)?;
     Ok(weight_of(&described))

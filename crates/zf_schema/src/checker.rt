@@ -3,7 +3,7 @@ ghost use Rattle.std.specs.Prelude.{◌≡◌, [], map, IfOk, OnOk};
 ghost use Rattle.zf_tree.specs.Trees.{boxes_of, box_of, paragraph_of, decl_of, tree_of};
 ghost use Rattle.zf_term.specs.Definitions.{globals_of};
 ghost use Rattle.zf_term.specs.Numbers.{next_number};
-ghost use Rattle.zf_schema.specs.Checking.{a_paragraph, a_box, items_in, IsChecked};
+ghost use Rattle.zf_schema.specs.Checking.{a_paragraph, a_box, items, items_in, IsChecked};
 ghost use Rattle.zf_schema.specs.Runs.{Notes, Runs, RunsOne};
 
 use crate::paragraph::{define, define_box};
@@ -37,13 +37,27 @@ pub fn check_spec<'a>(
         faults: Items::new(alloc),
     };
     let mut next = 0;
-    for each in spec.boxes.as_slice() {
-        check_box(arena, &mut checked, &mut next, each)?;
-    }
+    check_boxes(arena, &mut checked, &mut next, spec.boxes.as_slice())?;
     Ok(checked)
 }
 
-/// Checks a box. As all that follow it keeps the number of the next given set or free type.
+/// Checks boxes, one after another. As all that follow it keeps the number of the next given set or free type.
+fn check_boxes<'a>(
+    arena: &'a Bump,
+    checked: &mut Checked<'a>,
+    next: &mut usize,
+    boxes: &[ZBox<'a>],
+) -> Result<(), AllocError>
+    requires { next.old ≡ next_number (globals_of checked.old.globals) }
+    ensures runs { OnOk result (Runs checked.old (items (map box_of boxes.now)) checked.new) }
+    ensures numbered { next.new ≡ next_number (globals_of checked.new.globals) }
+{
+    for each in boxes {
+        check_box(arena, checked, next, each)?;
+    }
+    Ok(())
+}
+
 fn check_box<'a>(
     arena: &'a Bump,
     checked: &mut Checked<'a>,

@@ -330,10 +330,7 @@ fn conjuncts_over<'a>(
 }
 
 /// Takes the conjuncts, one after another.
-fn take_all<'a>(
-    growing: &mut Growing<'a>,
-    conjuncts: &'a [Resolved<'a>],
-) -> Result<(), Refusal>
+fn take_all<'a>(growing: &mut Growing<'a>, conjuncts: &'a [Resolved<'a>]) -> Result<(), Refusal>
     requires { IsGrowing growing.old }
     ensures ok { OnOk result (TakesAll (schema_of growing.old.flat) (map resolved_of conjuncts.now) (schema_of growing.new.flat)) }
     ensures growing { OnOk result (IsGrowing growing.new) }
@@ -346,10 +343,7 @@ fn take_all<'a>(
 }
 
 /// Takes one conjunct.
-fn take<'a>(
-    growing: &mut Growing<'a>,
-    conjunct: &'a Resolved<'a>,
-) -> Result<(), Refusal>
+fn take<'a>(growing: &mut Growing<'a>, conjunct: &'a Resolved<'a>) -> Result<(), Refusal>
     requires { IsGrowing growing.old }
     ensures ok { OnOk result (IsNext (constrained (schema_of growing.old.flat) (resolved_of conjunct.now ∷ [])) (schema_of growing.new.flat)) }
     ensures growing { OnOk result (IsGrowing growing.new) }
