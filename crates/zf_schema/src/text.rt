@@ -9,7 +9,6 @@ ghost use Rattle.zf_type.specs.Offences.{Offends};
 ghost use Rattle.zf_type.specs.Refusals.{IfFault};
 ghost use Rattle.zf_type.specs.Resolving.{resolved};
 ghost use Rattle.zf_type.specs.Rules as rules;
-ghost use Rattle.zf_type.specs.Rules.{Meets, sort_of};
 ghost use Rattle.zf_type.specs.Scopes.{scope_of};
 ghost use Rattle.zf_tree.specs.Names.{spelling};
 ghost use Rattle.zf_type.specs.Typing.{IsOf};
@@ -149,7 +148,7 @@ fn declare_names<'a>(
     ensures growing { OnOk result (IsGrowing growing.new) }
     ensures wrong { IfErr result (λ e. IfFault e (CantDeclare (globals_of globals.now) (schema_of growing.old.flat) (vars names.now (tree_of set.now)))) }
 {
-    let Judged { term, sort } = judge_over(arena, globals, &[], Need::Set, set)?;
+    let Judged { term, sort } = judge(set, arena, Need::Set, &mut scope_over(globals, &[]))?;
     let Some(ztype) = sort.member() else {
         unreachable!();
     };
@@ -244,22 +243,6 @@ fn declared<'a>(
         ztype,
         domains,
     })
-}
-
-/// What the term is where the globals and these components are in scope.
-fn judge_over<'a>(
-    arena: &'a Bump,
-    globals: &Globals<'a>,
-    components: &[Component<'a>],
-    need: Need,
-    term: &Term<'a>,
-) -> Result<Judged<'a>, Refusal>
-    ensures sort { IfOk result (λ j. IsOf (over (globals_of globals.now) (map comp_of components.now)) (tree_of term.now) (sort_of j.sort)) }
-    ensures met { IfOk result (λ j. Meets need (sort_of j.sort)) }
-    ensures term { IfOk result (λ j. resolved_of j.term ≡ resolved (over (globals_of globals.now) (map comp_of components.now)) (tree_of term.now)) }
-    ensures wrong { IfErr result (λ e. IfFault e (Offends (over (globals_of globals.now) (map comp_of components.now)) need (tree_of term.now))) }
-{
-    judge(term, arena, need, &mut scope_over(globals, components))
 }
 
 /// The scope of the globals and these components, where no variable is bound.
