@@ -7,7 +7,7 @@ use Rattle.zf_reference.specs.declared.reference.Reference.{Reference}
 use Rattle.zf_reference.specs.declared.reference.Reference.TheVariants.{Component, Local, Global}
 use Rattle.zf_term.specs.Definitions.{Comp, Defined}
 use Rattle.zf_term.specs.FirstNamed.{later, or_else, first_named}
-use Rattle.zf_term.specs.Filling.{onto, all_onto, links_onto, ranges_onto, part_onto}
+use Rattle.zf_term.specs.References.{onto, all_onto, links_onto, ranges_onto, part_onto}
 use Rattle.zf_term.specs.ResolvedTrees.{ResolvedTree, reference, number, constant, empty_set, bracket, listed, builder, unary, binary, chain, quantified}
 use Rattle.zf_reference.specs.Numbering.{renumbered}
 use Rattle.zf_term.specs.Shapes.{moved, conjuncts, is_and, is_conjunction}
@@ -16,7 +16,7 @@ use Rattle.zf_term.proofs.MovedReferences.{moved_keeps_variables}
 use Rattle.zf_type.specs.Resolving.{referent, bound, resolved, resolved_all, resolved_links, resolved_ranges, resolved_part}
 use Rattle.zf_type.specs.Scopes.{Scope, Var, last_named, with_local, with_comp, with_global, meaning}
 use Rattle.zf_tree.specs.Names.{spelling}
-use Rattle.zf_type.proofs.Filling.{onto_behind}
+use Rattle.zf_term.proofs.Behind.{onto_behind}
 use Rattle.zf_enum.specs.Property.{place_named, greatest_place, due}
 
 -- ---- places
