@@ -1,4 +1,6 @@
 //! Why there is no next schema.
+ghost use Rattle.std.specs.Prelude.{◌≡◌};
+
 use std::alloc::{AllocError, AllocFailed};
 
 /// Why there is no next schema.
