@@ -84,20 +84,12 @@ mutual
   term_within n s rs (text.constant l c) h k = k
   term_within n s rs (text.empty_set l e) h k = term_within n s rs e h k
   term_within n s rs (text.bracket l e) h k = term_within n s rs e h k
-  term_within n s rs (text.tuple l es) h k = all_within n s rs es h k
-  term_within n s rs (text.display l es) h k = all_within n s rs es h k
-  term_within n s rs (text.product l es) h k = all_within n s rs es h k
+  term_within n s rs (text.listed l form es) h k = all_within n s rs es h k
   term_within n s rs (text.builder l ds p e) h k =
       part_within n (bound s ds) (part_onto (ranges_onto rs (resolved_ranges s ds)) (resolved_part (bound s ds) p)) e h
       (part_within n (bound s ds) (ranges_onto rs (resolved_ranges s ds)) p h (ranges_within n s rs ds h k))
-  term_within n s rs (text.prefixed l op e) h k = term_within n s rs e h k
-  term_within n s rs (text.inverse l e) h k = term_within n s rs e h k
-  term_within n s rs (text.negated l e) h k = term_within n s rs e h k
-  term_within n s rs (text.image l a b) h k = term_within n s (onto rs (resolved s a)) b h (term_within n s rs a h k)
-  term_within n s rs (text.applied l a b) h k = term_within n s (onto rs (resolved s a)) b h (term_within n s rs a h k)
-  term_within n s rs (text.infixed l op a b) h k = term_within n s (onto rs (resolved s a)) b h (term_within n s rs a h k)
-  term_within n s rs (text.arrow l op a b) h k = term_within n s (onto rs (resolved s a)) b h (term_within n s rs a h k)
-  term_within n s rs (text.connected l op a b) h k = term_within n s (onto rs (resolved s a)) b h (term_within n s rs a h k)
+  term_within n s rs (text.unary l op e) h k = term_within n s rs e h k
+  term_within n s rs (text.binary l op a b) h k = term_within n s (onto rs (resolved s a)) b h (term_within n s rs a h k)
   term_within n s rs (text.chain l e ks) h k = links_within n s (onto rs (resolved s e)) ks h (term_within n s rs e h k)
   term_within n s rs (text.quantified l q ds p e) h k =
       term_within n (bound s ds) (part_onto (ranges_onto rs (resolved_ranges s ds)) (resolved_part (bound s ds) p)) e h
