@@ -23,9 +23,8 @@ use crate::row::Row;
 use crate::symbols::{on_both, on_one, on_several};
 use std::alloc::AllocError;
 use zf_term::resolved::Resolved;
-use zf_tree::operator::{Listed, Operator, Unary};
+use zf_tree::operator::{Listed, Operator, Sign, Unary};
 use zf_tree::symbol::{Infix, Prefix};
-use zf_tree::operator::Sign;
 use zf_value::value::Value;
 
 /// What an expression comes to. A set of a family is told by the values that it is made of.
