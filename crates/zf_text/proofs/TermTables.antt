@@ -4,11 +4,16 @@ use Rattle.zf_tree.specs.declared.symbol.Connective.{Connective}
 use Rattle.zf_tree.specs.declared.symbol.Connective.TheVariants.{And, Or, Implies, Iff}
 use Rattle.zf_tree.specs.declared.symbol.Infix.{Infix}
 use Rattle.zf_tree.specs.declared.symbol.Prefix.TheVariants.{Power, Finset, Domain, Range, Size}
+use Rattle.zf_tree.specs.declared.operator.Listed.{Listed}
+use Rattle.zf_tree.specs.declared.operator.Listed.TheVariants as list
+use Rattle.zf_tree.specs.declared.operator.Operator.{Operator}
+use Rattle.zf_tree.specs.declared.operator.Operator.TheVariants as operator
 use Rattle.zf_tree.specs.declared.operator.Sign.{Sign}
 use Rattle.zf_tree.specs.declared.operator.Sign.TheVariants as sign
-use Rattle.zf_text.specs.Levels.{quantifier_level, negation_level, chain_level, expression_level, product_level, application_level, postfix_level, atom_level, connective_level, priority, infix_level, sign_level, left_place, right_place, level}
-use Rattle.zf_tree.specs.Trees.{Tree, named, numeral, constant, bracket, tuple, prefixed, inverse, applied, infixed, arrow, chain, negated, connected, Trees, no_trees, tree, Links, no_links, link, VarDecls, no_decls, var_decl, Perhaps, absent, present, trees, links, var_decls, tree_of, link_of, var_decl_of}
-use Rattle.zf_tree.specs.Trees as shape
+use Rattle.zf_tree.specs.declared.operator.Unary.{Unary}
+use Rattle.zf_tree.specs.declared.operator.Unary.TheVariants as one
+use Rattle.zf_text.specs.Levels.{quantifier_level, negation_level, chain_level, expression_level, product_level, postfix_level, atom_level, priority, infix_level, sign_level, unary_level, operator_level, left_place, right_place, listed_level, member_place, level}
+use Rattle.zf_tree.specs.Trees.{Tree, named, listed, unary, binary, chain, quantified}
 use Rattle.zf_tree.specs.declared.symbol.Infix.TheVariants.{Maplet}
 
 -- ---- bounds of the table
@@ -21,12 +26,6 @@ pub priority_le : (op : Infix) → priority op ≤ 6
 priority_le Maplet = omega arith
 priority_le _ = omega arith
 
-pub right_place_le : (c : Connective) → right_place c ≤ 5
-right_place_le And = omega arith
-right_place_le Or = omega arith
-right_place_le Implies = omega arith
-right_place_le Iff = omega arith
-
 pub sign_level_le : (s : Sign) → sign_level s ≤ 17
 sign_level_le sign.Minus = omega arith
 sign_level_le (sign.Symbol Power) = omega arith
@@ -35,30 +34,73 @@ sign_level_le (sign.Symbol Domain) = omega arith
 sign_level_le (sign.Symbol Range) = omega arith
 sign_level_le (sign.Symbol Size) = omega arith
 
+pub unary_level_le : (op : Unary) → unary_level op ≤ postfix_level
+unary_level_le (one.Sign s) = omega (arith, sign_level_le s)
+unary_level_le one.Inverse = omega arith
+unary_level_le one.Not = omega arith
+
+pub operator_level_le : (op : Operator) → operator_level op ≤ postfix_level
+operator_level_le (operator.Function op) = omega (arith, priority_le op)
+operator_level_le (operator.Generic a) = omega arith
+operator_level_le (operator.Connective And) = omega arith
+operator_level_le (operator.Connective Or) = omega arith
+operator_level_le (operator.Connective Implies) = omega arith
+operator_level_le (operator.Connective Iff) = omega arith
+operator_level_le operator.Application = omega arith
+operator_level_le operator.Image = omega arith
+
+pub right_place_le : (op : Operator) → right_place op ≤ postfix_level
+right_place_le (operator.Function op) = omega (arith, priority_le op)
+right_place_le (operator.Generic a) = omega arith
+right_place_le (operator.Connective And) = omega arith
+right_place_le (operator.Connective Or) = omega arith
+right_place_le (operator.Connective Implies) = omega arith
+right_place_le (operator.Connective Iff) = omega arith
+right_place_le operator.Application = omega arith
+right_place_le operator.Image = omega arith
+
+pub member_place_le : (form : Listed) → member_place form ≤ atom_level
+member_place_le list.Tuple = omega arith
+member_place_le list.Display = omega arith
+member_place_le list.Product = omega arith
+
 -- ---- how loose a symbol may be that stands behind a tree and is not taken into it
 
+abbrev pub unary_closing : Unary → ℕ
+unary_closing one.Inverse = atom_level
+unary_closing op = unary_level op
+
+abbrev pub operator_closing : Operator → ℕ
+operator_closing operator.Image = atom_level
+operator_closing op = right_place op
+
 abbrev pub closing : Tree → ℕ
-closing (shape.quantified l q ds p t) = quantifier_level
-closing (connected l c a b) = right_place c
-closing (negated l t) = negation_level
+closing (quantified l q ds p t) = quantifier_level
+closing (unary l op t) = unary_closing op
+closing (binary l op a b) = operator_closing op
+closing (listed l form ts) = listed_level form
 closing (chain l t ks) = chain_level
-closing (arrow l op a b) = expression_level
-closing (shape.product l ts) = product_level
-closing (infixed l op a b) = infix_level op + 1
-closing (prefixed l s t) = sign_level s
-closing (applied l f x) = postfix_level
 closing _ = atom_level
 
-right_closes : (c : Connective) → connective_level c ≤ right_place c
-right_closes And = omega arith
-right_closes Or = omega arith
-right_closes Implies = omega arith
-right_closes Iff = omega arith
+unary_closes : (op : Unary) → unary_level op ≤ unary_closing op
+unary_closes (one.Sign s) = omega arith
+unary_closes one.Inverse = omega arith
+unary_closes one.Not = omega arith
+
+operator_closes : (op : Operator) → operator_level op ≤ operator_closing op
+operator_closes (operator.Function op) = omega arith
+operator_closes (operator.Generic a) = omega arith
+operator_closes (operator.Connective And) = omega arith
+operator_closes (operator.Connective Or) = omega arith
+operator_closes (operator.Connective Implies) = omega arith
+operator_closes (operator.Connective Iff) = omega arith
+operator_closes operator.Application = omega arith
+operator_closes operator.Image = omega arith
 
 pub level_closes : (t : Tree) → level t ≤ closing t
 level_closes (named n) = omega arith
-level_closes (connected l c a b) = right_closes c
-level_closes (infixed l op a b) = omega arith
+level_closes (unary l op t) = unary_closes op
+level_closes (binary l op a b) = operator_closes op
 level_closes _ = omega arith
 
 -- a symbol that binds at `b` may stand behind any term that fits the place `p`
@@ -74,37 +116,43 @@ pub record Gap (p b : ℕ) : Type 0 where
   pub seventeen : p ≤ 17 → b ≤ 17
   pub top : b ≤ 19
 
+unary_gaps : (op : Unary) (p b : ℕ) → Gap p b → p ≤ unary_level op → b ≤ unary_closing op
+unary_gaps one.Not p b g fits = g.five fits
+unary_gaps one.Inverse p b g fits = g.top
+unary_gaps (one.Sign sign.Minus) p b g fits = g.fifteen fits
+unary_gaps (one.Sign (sign.Symbol Power)) p b g fits = g.fifteen fits
+unary_gaps (one.Sign (sign.Symbol Finset)) p b g fits = g.fifteen fits
+unary_gaps (one.Sign (sign.Symbol Domain)) p b g fits = g.seventeen fits
+unary_gaps (one.Sign (sign.Symbol Range)) p b g fits = g.seventeen fits
+unary_gaps (one.Sign (sign.Symbol Size)) p b g fits = g.seventeen fits
+
+operator_gaps : (op : Operator) (p b : ℕ) → Gap p b → p ≤ operator_level op → b ≤ operator_closing op
+operator_gaps (operator.Function op) p b g fits = omega (arith, g.near)
+operator_gaps (operator.Generic a) p b g fits = g.seven fits
+operator_gaps (operator.Connective And) p b g fits = omega (arith, g.near)
+operator_gaps (operator.Connective Or) p b g fits = omega (arith, g.near)
+operator_gaps (operator.Connective Implies) p b g fits = g.two fits
+operator_gaps (operator.Connective Iff) p b g fits = omega (arith, g.near)
+operator_gaps operator.Application p b g fits = omega (arith, g.sixteen fits)
+operator_gaps operator.Image p b g fits = g.top
+
+listed_gaps : (form : Listed) (p b : ℕ) → Gap p b → p ≤ listed_level form → b ≤ listed_level form
+listed_gaps list.Product p b g fits = g.eight fits
+listed_gaps _ p b g fits = g.top
+
 pub closes : (t : Tree) (p b : ℕ) → Gap p b → 0 < p → p ≤ level t → b ≤ closing t
-closes (shape.quantified l q ds u t) p b g some fits = absurd (omega arith)
-closes (connected l And x y) p b g some fits = omega (arith, g.near)
-closes (connected l Or x y) p b g some fits = omega (arith, g.near)
-closes (connected l Implies x y) p b g some fits = g.two fits
-closes (connected l Iff x y) p b g some fits = omega (arith, g.near)
-closes (negated l t) p b g some fits = g.five fits
+closes (quantified l q ds u t) p b g some fits = absurd (omega arith)
+closes (unary l op t) p b g some fits = unary_gaps op p b g fits
+closes (binary l op x y) p b g some fits = operator_gaps op p b g fits
+closes (listed l form ts) p b g some fits = listed_gaps form p b g fits
 closes (chain l t ks) p b g some fits = g.six fits
-closes (arrow l op x y) p b g some fits = g.seven fits
-closes (shape.product l ts) p b g some fits = g.eight fits
-closes (infixed l op x y) p b g some fits = omega (arith, g.near)
-closes (prefixed l sign.Minus t) p b g some fits = g.fifteen fits
-closes (prefixed l (sign.Symbol Power) t) p b g some fits = g.fifteen fits
-closes (prefixed l (sign.Symbol Finset) t) p b g some fits = g.fifteen fits
-closes (prefixed l (sign.Symbol Domain) t) p b g some fits = g.seventeen fits
-closes (prefixed l (sign.Symbol Range) t) p b g some fits = g.seventeen fits
-closes (prefixed l (sign.Symbol Size) t) p b g some fits = g.seventeen fits
-closes (applied l f x) p b g some fits = omega (arith, g.sixteen fits)
 closes _ p b g some fits = g.top
 
-pub infix_gap : (op : Infix) → Gap (infix_level op) (infix_level op + 1)
+infix_gap : (op : Infix) → Gap (infix_level op) (infix_level op + 1)
 infix_gap op =
     let low = priority_some op in
     let high = priority_le op in
     record { near = omega arith; two = λ h. omega arith; five = λ h. omega arith; six = λ h. omega arith; seven = λ h. omega arith; eight = λ h. omega arith; fifteen = λ h. omega arith; sixteen = λ h. omega arith; seventeen = λ h. omega arith; top = omega arith }
-
-pub connective_gap : (c : Connective) → Gap (left_place c) (connective_level c + 1)
-connective_gap And = record { near = omega arith; two = λ h. omega arith; five = λ h. omega arith; six = λ h. omega arith; seven = λ h. omega arith; eight = λ h. omega arith; fifteen = λ h. omega arith; sixteen = λ h. omega arith; seventeen = λ h. omega arith; top = omega arith }
-connective_gap Or = record { near = omega arith; two = λ h. omega arith; five = λ h. omega arith; six = λ h. omega arith; seven = λ h. omega arith; eight = λ h. omega arith; fifteen = λ h. omega arith; sixteen = λ h. omega arith; seventeen = λ h. omega arith; top = omega arith }
-connective_gap Implies = record { near = omega arith; two = λ h. omega arith; five = λ h. omega arith; six = λ h. omega arith; seven = λ h. omega arith; eight = λ h. omega arith; fifteen = λ h. omega arith; sixteen = λ h. omega arith; seventeen = λ h. omega arith; top = omega arith }
-connective_gap Iff = record { near = omega arith; two = λ h. omega arith; five = λ h. omega arith; six = λ h. omega arith; seven = λ h. omega arith; eight = λ h. omega arith; fifteen = λ h. omega arith; sixteen = λ h. omega arith; seventeen = λ h. omega arith; top = omega arith }
 
 fixed_gap : (p b : ℕ) → b ≤ p + 1 → 6 < p → (p ≤ 7 → b ≤ 7) → (p ≤ 8 → b ≤ 8) → (p ≤ 15 → b ≤ 15) → (p ≤ 17 → b ≤ 17) → b ≤ 19 → Gap p b
 fixed_gap p b near high seven eight fifteen seventeen top =
@@ -113,36 +161,50 @@ fixed_gap p b near high seven eight fifteen seventeen top =
 pub chain_gap : Gap expression_level (chain_level + 1)
 chain_gap = fixed_gap 7 7 (omega arith) (omega arith) (λ h. omega arith) (λ h. omega arith) (λ h. omega arith) (λ h. omega arith) (omega arith)
 
-pub arrow_gap : Gap product_level (expression_level + 1)
-arrow_gap = fixed_gap 8 8 (omega arith) (omega arith) (λ h. omega arith) (λ h. omega arith) (λ h. omega arith) (λ h. omega arith) (omega arith)
-
 pub cross_gap : Gap (product_level + 1) (product_level + 1)
 cross_gap = fixed_gap 9 9 (omega arith) (omega arith) (λ h. omega arith) (λ h. omega arith) (λ h. omega arith) (λ h. omega arith) (omega arith)
-
-pub argument_gap : Gap application_level (application_level + 1)
-argument_gap = fixed_gap 16 17 (omega arith) (omega arith) (λ h. omega arith) (λ h. omega arith) (λ h. omega arith) (λ h. omega arith) (omega arith)
 
 pub postfix_gap : Gap postfix_level (postfix_level + 1)
 postfix_gap = fixed_gap 18 19 (omega arith) (omega arith) (λ h. omega arith) (λ h. omega arith) (λ h. omega arith) (λ h. omega arith) (omega arith)
 
-pub some_left : (c : Connective) → 0 < left_place c
-some_left And = omega arith
-some_left Or = omega arith
-some_left Implies = omega arith
-some_left Iff = omega arith
+-- what stands between two operands
+pub operator_gap : (op : Operator) → Gap (left_place op) (operator_level op + 1)
+operator_gap (operator.Function op) = infix_gap op
+operator_gap (operator.Generic a) = fixed_gap 8 8 (omega arith) (omega arith) (λ h. omega arith) (λ h. omega arith) (λ h. omega arith) (λ h. omega arith) (omega arith)
+operator_gap (operator.Connective And) = record { near = omega arith; two = λ h. omega arith; five = λ h. omega arith; six = λ h. omega arith; seven = λ h. omega arith; eight = λ h. omega arith; fifteen = λ h. omega arith; sixteen = λ h. omega arith; seventeen = λ h. omega arith; top = omega arith }
+operator_gap (operator.Connective Or) = record { near = omega arith; two = λ h. omega arith; five = λ h. omega arith; six = λ h. omega arith; seven = λ h. omega arith; eight = λ h. omega arith; fifteen = λ h. omega arith; sixteen = λ h. omega arith; seventeen = λ h. omega arith; top = omega arith }
+operator_gap (operator.Connective Implies) = record { near = omega arith; two = λ h. omega arith; five = λ h. omega arith; six = λ h. omega arith; seven = λ h. omega arith; eight = λ h. omega arith; fifteen = λ h. omega arith; sixteen = λ h. omega arith; seventeen = λ h. omega arith; top = omega arith }
+operator_gap (operator.Connective Iff) = record { near = omega arith; two = λ h. omega arith; five = λ h. omega arith; six = λ h. omega arith; seven = λ h. omega arith; eight = λ h. omega arith; fifteen = λ h. omega arith; sixteen = λ h. omega arith; seventeen = λ h. omega arith; top = omega arith }
+operator_gap operator.Application = fixed_gap 16 17 (omega arith) (omega arith) (λ h. omega arith) (λ h. omega arith) (λ h. omega arith) (λ h. omega arith) (omega arith)
+operator_gap operator.Image = postfix_gap
 
-pub left_fits : (c : Connective) → connective_level c ≤ left_place c
-left_fits And = omega arith
-left_fits Or = omega arith
-left_fits Implies = omega arith
-left_fits Iff = omega arith
+pub some_left : (op : Operator) → 0 < left_place op
+some_left (operator.Function op) = omega (arith, priority_some op)
+some_left (operator.Generic a) = omega arith
+some_left (operator.Connective And) = omega arith
+some_left (operator.Connective Or) = omega arith
+some_left (operator.Connective Implies) = omega arith
+some_left (operator.Connective Iff) = omega arith
+some_left operator.Application = omega arith
+some_left operator.Image = omega arith
+
+pub left_fits : (op : Operator) → operator_level op ≤ left_place op
+left_fits (operator.Function op) = omega arith
+left_fits (operator.Generic a) = omega arith
+left_fits (operator.Connective And) = omega arith
+left_fits (operator.Connective Or) = omega arith
+left_fits (operator.Connective Implies) = omega arith
+left_fits (operator.Connective Iff) = omega arith
+left_fits operator.Application = omega arith
+left_fits operator.Image = omega arith
+
+listed_level_le : (form : Listed) → listed_level form ≤ atom_level
+listed_level_le list.Product = omega arith
+listed_level_le _ = omega arith
 
 pub level_le : (t : Tree) → level t ≤ atom_level
 level_le (named n) = omega arith
-level_le (connected l And x y) = omega arith
-level_le (connected l Or x y) = omega arith
-level_le (connected l Implies x y) = omega arith
-level_le (connected l Iff x y) = omega arith
-level_le (infixed l op x y) = omega (arith, priority_le op)
-level_le (prefixed l s t) = omega (arith, sign_level_le s)
+level_le (unary l op t) = omega (arith, unary_level_le op)
+level_le (binary l op x y) = omega (arith, operator_level_le op)
+level_le (listed l form ts) = listed_level_le form
 level_le _ = omega arith

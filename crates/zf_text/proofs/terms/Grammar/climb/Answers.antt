@@ -2,7 +2,7 @@ use Rattle.std.proofs.Common.{◌≡◌, ◌≤◌, ◌<◌, Ok, sym, ap, ◌∙
 use Rattle.std.proofs.lemmas.Grind.{common_steps}
 use Rattle.zf_text.specs.Levels.{level}
 use Rattle.zf_text.specs.Reading.{first}
-use Rattle.zf_text.specs.TermReading.{read_term, binds, place_before, longer_by, climb, Fails}
+use Rattle.zf_text.specs.TermReading.{read_term, role_of, binds, bound_by, place_before, longer_by, climb, Fails}
 use Rattle.zf_tree.specs.Trees.{tree_of}
 use Rattle.zf_text.proofs.TermTurns.{goes_on, too_high, fails}
 use Rattle.zf_text.proofs.Turns.{one_more, no_more}
@@ -31,7 +31,7 @@ returns-in_err-left-clause-value g c =
     let below = read_term c.args.self.now.below in
     let x = c.loop-turn.left in
     let ts = c.loop-turn.tokens in
-    let after_is = c.peek-after.ensures in
+    let is = c.role_of-role.ensures in
     let e = one_more (λ n. climb (read_term c.args.self.now.below) (c.args.self.now.below + 1) c.args.least n c.loop-turn.left c.loop-turn.tokens) _ c.loop-turn._turn c.loop-turn-test.true c.loop-turn.invariant.same in
     let tight : c.args.least < binds (first ts) = omega (arith, c.binds.ensures, ap binds after_is) in
     let fits : place_before (first ts) ≤ level (tree_of x.part) = omega (arith, c.place_before.ensures, ap place_before after_is, c.level.ensures, ap (λ t. level (tree_of t)) c.get-in-loop-turn.ensures) in
@@ -45,7 +45,7 @@ returns-then-left-self-clause-value g c =
     let below = read_term c.args.self.now.below in
     let x = c.loop-turn.left in
     let ts = c.loop-turn.tokens in
-    let after_is = c.peek-after.ensures in
+    let is = c.role_of-role.ensures in
     let e = one_more (λ n. climb (read_term c.args.self.now.below) (c.args.self.now.below + 1) c.args.least n c.loop-turn.left c.loop-turn.tokens) _ c.loop-turn._turn c.loop-turn-test.true c.loop-turn.invariant.same in
     let tight : c.args.least < binds (first ts) = omega (arith, c.binds.ensures, ap binds after_is) in
     let fits : place_before (first ts) ≤ level (tree_of x.part) = omega (arith, c.place_before.ensures, ap place_before after_is, c.level.ensures, ap (λ t. level (tree_of t)) c.get-in-loop-turn.ensures) in
@@ -58,7 +58,7 @@ loop-turn-preserved g c =
     let below = read_term c.args.self.now.below in
     let x = c.loop-turn.left in
     let ts = c.loop-turn.tokens in
-    let after_is = c.peek-after.ensures in
+    let is = c.role_of-role.ensures in
     let e = one_more (λ n. climb (read_term c.args.self.now.below) (c.args.self.now.below + 1) c.args.least n c.loop-turn.left c.loop-turn.tokens) _ c.loop-turn._turn c.loop-turn-test.true c.loop-turn.invariant.same in
     let tight : c.args.least < binds (first ts) = omega (arith, c.binds.ensures, ap binds after_is) in
     let fits : place_before (first ts) ≤ level (tree_of x.part) = omega (arith, c.place_before.ensures, ap place_before after_is, c.level.ensures, ap (λ t. level (tree_of t)) c.get-in-loop-turn.ensures) in
