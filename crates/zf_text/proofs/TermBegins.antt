@@ -20,11 +20,11 @@ use Rattle.zf_tree.specs.declared.operator.Unary.TheVariants as one
 use Rattle.zf_tree.specs.declared.tree.Term.{Term}
 use Rattle.zf_tree.specs.declared.tree.Term.TheVariants as term
 use Rattle.zf_text.specs.Height.{height, tallest}
-use Rattle.zf_text.specs.Levels.{quantifier_level, expression_level, atom_level, unary_level, listed_level, member_place, level, AreTwo, AreEnough, IsLevelled, AreAt}
+use Rattle.zf_text.specs.Levels.{quantifier_level, expression_level, atom_level, unary_level, listed_level, member_place, level, AreTwo, AreEnough, AreAt}
 use Rattle.zf_scan.specs.Choosing.{next_of, is_mark}
 use Rattle.zf_text.specs.Reading.{first}
 use Rattle.zf_scan.specs.Separators.{Symbol, symbol}
-use Rattle.zf_text.specs.Spelling.{Spells, SpellsItems, IsFirstLine, Before, After, Opens, parting, Closes}
+use Rattle.zf_text.specs.Spelling.{SpellsItems, IsFirstLine, Before, After, Opens, parting, Closes}
 use Rattle.zf_tree.specs.Trees.{line_of, Tree, named, numeral, constant, bracket, Trees, tree_of, part_of}
 use Rattle.zf_text.specs.TermReading.{expect, begins_decl, parted_by, closed_by, tall, further, decls, part, listed, empty_set, round_by, round, display, builder, braced, prefixed, quantified, beginning_by, beginning}
 use Rattle.zf_tree.specs.Trees as shape

@@ -31,23 +31,17 @@ use Rattle.zf_text.proofs.TermTurns.{goes_on}
 use Rattle.zf_text.proofs.TermParts.{links_of}
 use Rattle.zf_text.proofs.TermBeginsRead.{Closing, name_begins, numeral_begins, constant_begins, empty_set_begins, bracket_begins, listed_complete, tuple_begins, display_begins, builder_begins, quantified_begins, sign_begins, not_begins}
 use Rattle.zf_text.proofs.TermPartsRead.{IsRead, Reader, IsComplete, first_is, some_height, split_links, links_complete}
-use Rattle.zf_text.proofs.TermTables.{operator_closing, closing, level_closes, closes, operator_gap, chain_gap, cross_gap, postfix_gap, some_left, left_fits}
+use Rattle.zf_text.proofs.TermTables.{operator_closing, closing, level_closes, closes, chain_gap, cross_gap, postfix_gap, stands}
 
 -- ---- what stands behind two operands
 
 ended : (op : Operator) (ts us : List Symbol) → Behind op ts us → ended_by op ts ≡ Ok (tt, us)
 ended operator.Image ts us h = ok_expect mark.CloseImage ts us h
-ended (operator.Function op) ts us h = ap (λ ts. Ok (tt, ts)) h
-ended (operator.Generic a) ts us h = ap (λ ts. Ok (tt, ts)) h
-ended (operator.Connective c) ts us h = ap (λ ts. Ok (tt, ts)) h
-ended operator.Application ts us h = ap (λ ts. Ok (tt, ts)) h
+ended _ ts us h = ap (λ ts. Ok (tt, ts)) h
 
 behind_stops : (op : Operator) (ts us : List Symbol) → binds (first us) ≤ operator_closing op → Behind op ts us → binds (first ts) ≤ right_place op
 behind_stops operator.Image ts us stop h = first_is (λ x. binds x ≤ expression_level) ts us h (omega arith)
-behind_stops (operator.Function op) ts us stop h = omega (arith, ap (λ ts. binds (first ts)) h)
-behind_stops (operator.Generic a) ts us stop h = omega (arith, ap (λ ts. binds (first ts)) h)
-behind_stops (operator.Connective c) ts us stop h = omega (arith, ap (λ ts. binds (first ts)) h)
-behind_stops operator.Application ts us stop h = omega (arith, ap (λ ts. binds (first ts)) h)
+behind_stops _ ts us stop h = omega (arith, ap (λ ts. binds (first ts)) h)
 
 -- and behind the terms of a product
 no_cross : (x : code.Next) → binds x ≤ product_level → is_mark mark.Cross x ≡ false
@@ -155,8 +149,9 @@ module _ (below : Reader) (n : ℕ) (ok : IsComplete n below) where
   spine (shape.binary l op x y) least ts us fits lev low h stop =
       let (a, b, c, line, s, between, s_y, close) = h in
       let joins = joined op y a b c lev.2 lev.3 between s_y in
-      let tight : binds (first a) ≤ closing x = omega (arith, ap bound_by joins.role, closes x (left_place op) (operator_level op + 1) (operator_gap op) (some_left op) lev.0) in
-      let left = spine x least ts a (omega (arith, left_fits op, lev.0)) lev.1 (omega arith) s tight in
+      let place = stands op in
+      let tight : binds (first a) ≤ closing x = omega (arith, ap bound_by joins.role, closes x (left_place op) (operator_level op + 1) place.gap place.some lev.0) in
+      let left = spine x least ts a (omega (arith, place.left, lev.0)) lev.1 (omega arith) s tight in
       turn least x _ ts a us (role.Operator op) joins.role left (omega arith) low (omega arith) lev.0 (λ z is. binary_complete l op z x y a b c us is line joins lev.2 lev.3 (omega arith) s_y close stop)
   spine (chain l t no_links) least ts us fits lev low h stop = absurd h.3
   spine (chain l t (link r u ks)) least ts us fits lev low h stop =

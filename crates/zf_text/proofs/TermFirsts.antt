@@ -8,7 +8,6 @@ use Rattle.zf_tree.specs.declared.operator.Listed.{Listed}
 use Rattle.zf_tree.specs.declared.operator.Listed.TheVariants as list
 use Rattle.zf_tree.specs.declared.operator.Operator.{Operator}
 use Rattle.zf_tree.specs.declared.operator.Operator.TheVariants as operator
-use Rattle.zf_tree.specs.declared.operator.Sign.{Sign}
 use Rattle.zf_tree.specs.declared.operator.Sign.TheVariants as sign
 use Rattle.zf_tree.specs.declared.operator.Unary.{Unary}
 use Rattle.zf_tree.specs.declared.operator.Unary.TheVariants as one
@@ -16,12 +15,12 @@ use Rattle.zf_text.specs.Levels.{postfix_level, right_place, level, IsLevelled}
 use Rattle.zf_scan.specs.Choosing.{next_of, is_mark}
 use Rattle.zf_text.specs.Reading.{first, rest}
 use Rattle.zf_scan.specs.Separators.{Symbol, symbol}
-use Rattle.zf_text.specs.Spelling.{Starts, Next, sign_kind, Before, After, Between, Behind, Opens, parting, Closes, Spells, SpellsItems, SpellsFurther, SpellsLinks, SpellsDecls, SpellsPart}
+use Rattle.zf_text.specs.Spelling.{Starts, Next, Before, After, Between, Behind, Opens, parting, Closes, Spells, SpellsItems, SpellsFurther, SpellsLinks, SpellsDecls, SpellsPart}
 use Rattle.zf_tree.specs.Trees.{Tree, named, numeral, constant, empty_set, bracket, listed, builder, unary, binary, chain, quantified, Trees, no_trees, tree, Links, no_links, link, VarDecls, no_decls, var_decl, Perhaps, absent, present}
 use Rattle.zf_text.specs.TermReading.{role_of, begins_decl, beyond}
 use Rattle.zf_text.proofs.Marks.{next_shorter}
 use Rattle.zf_text.proofs.NamesRead.{name_shorter, names_shorter}
-use Rattle.zf_text.proofs.TermTables.{sign_level_le, left_fits}
+use Rattle.zf_text.proofs.TermTables.{sign_level_le, stands}
 
 -- ---- what a tree spells is not shorter than what follows it
 
@@ -118,7 +117,7 @@ atom_begins (builder l ds p t) ts us a lev h = begins k.OpenBrace l ts h.0 (reco
 atom_begins (unary l one.Inverse t) ts us a lev h = subst BeginsAtom (sym h.2.1) (atom_begins t h.0 h.1 lev.0 lev.1 h.3)
 atom_begins (unary l (one.Sign s) t) ts us a lev h = absurd (omega (arith, sign_level_le s))
 atom_begins (unary l one.Not t) ts us a lev h = absurd (omega arith)
-atom_begins (binary l op x y) ts us a lev h = atom_begins x ts h.0 (omega (arith, left_fits op, lev.0)) lev.1 h.4
+atom_begins (binary l op x y) ts us a lev h = atom_begins x ts h.0 (omega (arith, (stands op).left, lev.0)) lev.1 h.4
 atom_begins (chain l t ks) ts us a lev h = absurd (omega arith)
 atom_begins (quantified l q ds p t) ts us a lev h = absurd (omega arith)
 
@@ -130,13 +129,10 @@ pub record Joins (op : Operator) (ts us : List Symbol) : Type 0 where
   pub other : begins_decl false ts ≡ false
 
 pub joined : (op : Operator) (y : Tree) (ts us vs : List Symbol) → right_place op ≤ level y → IsLevelled y → Between op ts us → Spells y us vs → Joins op ts us
-joined (operator.Function op) y ts us vs fits lev h s = record { role = ap (λ ts. role_of (first ts)) h.1; passed = ap rest h.1; other = ap (begins_decl false) h.1 }
-joined (operator.Generic a) y ts us vs fits lev h s = record { role = ap (λ ts. role_of (first ts)) h.1; passed = ap rest h.1; other = ap (begins_decl false) h.1 }
-joined (operator.Connective c) y ts us vs fits lev h s = record { role = ap (λ ts. role_of (first ts)) h.1; passed = ap rest h.1; other = ap (begins_decl false) h.1 }
-joined operator.Image y ts us vs fits lev h s = record { role = ap (λ ts. role_of (first ts)) h.1; passed = ap rest h.1; other = ap (begins_decl false) h.1 }
 joined operator.Application y ts us vs fits lev h s =
     let a = subst BeginsAtom (sym h) (atom_begins y us vs fits lev s) in
     record { role = a.role; passed = h; other = a.other }
+joined _ y ts us vs fits lev h s = record { role = ap (λ ts. role_of (first ts)) h.1; passed = ap rest h.1; other = ap (begins_decl false) h.1 }
 
 -- ---- a term does not begin like a declaration, unless it is a name
 

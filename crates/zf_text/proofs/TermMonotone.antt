@@ -24,7 +24,7 @@ use Rattle.zf_text.specs.Levels.{quantifier_level, expression_level, unary_level
 use Rattle.zf_scan.specs.Choosing.{is_mark}
 use Rattle.zf_text.specs.Reading.{first, rest}
 use Rattle.zf_scan.specs.Separators.{Symbol}
-use Rattle.zf_text.specs.TermReading.{Outcome, Parser, Refused, TooDeep, and_then, expect, read_names, here, role_of, binds, place_before, begins_decl, beyond, ended_by, parted_by, closed_by, tall, with_term, with_link, with_decl, further_from, further, links_by, links_from, chain_links, read_decl, decls_from, decls, part, listed, empty_set, round_by, round, display, builder, braced, prefixed, quantified, beginning_by, beginning, binary, chained, longer_by, climb, whole, read_term}
+use Rattle.zf_text.specs.TermReading.{Outcome, Parser, Refused, TooDeep, and_then, expect, read_names, here, role_of, binds, place_before, begins_decl, beyond, parted_by, tall, with_term, with_link, with_decl, further_from, further, links_by, links_from, chain_links, read_decl, decls_from, decls, part, listed, empty_set, round_by, round, display, builder, braced, prefixed, quantified, beginning_by, beginning, binary, chained, longer_by, climb, whole, read_term}
 use Rattle.zf_tree.specs.Trees.{tree_of}
 
 abbrev pub Under : {A : Type 0} → Outcome A → Outcome A → Type 0

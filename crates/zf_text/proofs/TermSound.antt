@@ -8,7 +8,6 @@ use Rattle.zf_scan.specs.declared.token.Kind.{Kind}
 use Rattle.zf_scan.specs.declared.token.Kind.TheVariants as k
 use Rattle.zf_tree.specs.declared.symbol.Relation.{Relation}
 use Rattle.zf_scan.specs.declared.token.Separator.TheVariants.{Semicolon, NewLine, Also}
-use Rattle.zf_text.specs.declared.levels.Role.{Role}
 use Rattle.zf_tree.specs.declared.operator.Listed.TheVariants as list
 use Rattle.zf_tree.specs.declared.operator.Operator.{Operator}
 use Rattle.zf_tree.specs.declared.operator.Operator.TheVariants as operator
@@ -22,21 +21,18 @@ use Rattle.zf_scan.specs.Choosing.{next_of}
 use Rattle.zf_text.specs.Reading.{first}
 use Rattle.zf_scan.specs.Separators.{Symbol, symbol}
 use Rattle.zf_text.specs.Spelling.{Between, Behind, SpellsLinks}
-use Rattle.zf_tree.specs.Trees.{line_of, new_link, Tree, chain, tree_of, link_of}
+use Rattle.zf_tree.specs.Trees.{line_of, new_link, chain, tree_of, link_of}
 use Rattle.zf_text.specs.TermReading.{Outcome, role_of, binds, place_before, beyond, ended_by, tall, with_link, over, over_both, listed, links_from, chain_links, beginning, binary, chained, longer_by, climb, whole, read_term}
 use Rattle.zf_tree.specs.Trees as shape
 use Rattle.zf_tree.proofs.TermSeen as of
 use Rattle.zf_text.proofs.TermSteps.{ok_pair, ok_value, ok_rest, bind_ok, if_ok, if_cases, expect_ok}
 use Rattle.zf_text.proofs.TermBegins.{listed_sound, beginning_sound}
 use Rattle.zf_text.proofs.TermParts.{links_of, Sound, IsLink, Reader, IsSound, made, link_first, links_sound, one_link}
-use Rattle.zf_text.proofs.TermTables.{right_place_le}
+use Rattle.zf_text.proofs.TermTables.{stands}
 
 ended_ok : (op : Operator) (ts us : List Symbol) (u : Unit {0}) → ended_by op ts ≡ Ok (u, us) → Behind op ts us
 ended_ok operator.Image ts us u e = expect_ok mark.CloseImage ts us u e
-ended_ok (operator.Function op) ts us u e = ok_rest tt u ts us e
-ended_ok (operator.Generic a) ts us u e = ok_rest tt u ts us e
-ended_ok (operator.Connective c) ts us u e = ok_rest tt u ts us e
-ended_ok operator.Application ts us u e = ok_rest tt u ts us e
+ended_ok _ ts us u e = ok_rest tt u ts us e
 
 module _ (below : Reader) (n : ℕ) (ok : IsSound n below) where
   abbrev Whole : ℕ → Tall Term → List Symbol → List Symbol → Type 0
@@ -51,7 +47,7 @@ module _ (below : Reader) (n : ℕ) (ok : IsSound n below) where
       let l = line_of (tree_of x.part) in
       let y = bind_ok (below (right_place op) (beyond op a)) _ (z, us) e in
       let end = bind_ok (ended_by op y.1) _ (z, us) y.3 in
-      let sy = subst (λ a. Sound n (right_place op) y.0 a y.1) is (ok (right_place op) (beyond op a) y.1 y.0 (omega (arith, right_place_le op)) y.2) in
+      let sy = subst (λ a. Sound n (right_place op) y.0 a y.1) is (ok (right_place op) (beyond op a) y.1 y.0 (omega (arith, (stands op).right)) y.2) in
       let high = sx.high in
       let high_y = sy.high in
       let high_z : max x.height y.0.height + 1 ≡ z.height = ap (λ z. z.height) (ok_value (over_both (term.Binary l op) x y.0) z end.1 us end.3) in

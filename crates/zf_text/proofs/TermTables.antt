@@ -36,33 +36,11 @@ sign_level_le (sign.Symbol Size) = omega arith
 
 pub unary_level_le : (op : Unary) → unary_level op ≤ postfix_level
 unary_level_le (one.Sign s) = omega (arith, sign_level_le s)
-unary_level_le one.Inverse = omega arith
-unary_level_le one.Not = omega arith
-
-pub operator_level_le : (op : Operator) → operator_level op ≤ postfix_level
-operator_level_le (operator.Function op) = omega (arith, priority_le op)
-operator_level_le (operator.Generic a) = omega arith
-operator_level_le (operator.Connective And) = omega arith
-operator_level_le (operator.Connective Or) = omega arith
-operator_level_le (operator.Connective Implies) = omega arith
-operator_level_le (operator.Connective Iff) = omega arith
-operator_level_le operator.Application = omega arith
-operator_level_le operator.Image = omega arith
-
-pub right_place_le : (op : Operator) → right_place op ≤ postfix_level
-right_place_le (operator.Function op) = omega (arith, priority_le op)
-right_place_le (operator.Generic a) = omega arith
-right_place_le (operator.Connective And) = omega arith
-right_place_le (operator.Connective Or) = omega arith
-right_place_le (operator.Connective Implies) = omega arith
-right_place_le (operator.Connective Iff) = omega arith
-right_place_le operator.Application = omega arith
-right_place_le operator.Image = omega arith
+unary_level_le _ = omega arith
 
 pub member_place_le : (form : Listed) → member_place form ≤ atom_level
-member_place_le list.Tuple = omega arith
-member_place_le list.Display = omega arith
 member_place_le list.Product = omega arith
+member_place_le _ = omega arith
 
 -- ---- how loose a symbol may be that stands behind a tree and is not taken into it
 
@@ -82,27 +60,6 @@ closing (listed l form ts) = listed_level form
 closing (chain l t ks) = chain_level
 closing _ = atom_level
 
-unary_closes : (op : Unary) → unary_level op ≤ unary_closing op
-unary_closes (one.Sign s) = omega arith
-unary_closes one.Inverse = omega arith
-unary_closes one.Not = omega arith
-
-operator_closes : (op : Operator) → operator_level op ≤ operator_closing op
-operator_closes (operator.Function op) = omega arith
-operator_closes (operator.Generic a) = omega arith
-operator_closes (operator.Connective And) = omega arith
-operator_closes (operator.Connective Or) = omega arith
-operator_closes (operator.Connective Implies) = omega arith
-operator_closes (operator.Connective Iff) = omega arith
-operator_closes operator.Application = omega arith
-operator_closes operator.Image = omega arith
-
-pub level_closes : (t : Tree) → level t ≤ closing t
-level_closes (named n) = omega arith
-level_closes (unary l op t) = unary_closes op
-level_closes (binary l op a b) = operator_closes op
-level_closes _ = omega arith
-
 -- a symbol that binds at `b` may stand behind any term that fits the place `p`
 pub record Gap (p b : ℕ) : Type 0 where
   pub near : b ≤ p + 1
@@ -116,38 +73,6 @@ pub record Gap (p b : ℕ) : Type 0 where
   pub seventeen : p ≤ 17 → b ≤ 17
   pub top : b ≤ 19
 
-unary_gaps : (op : Unary) (p b : ℕ) → Gap p b → p ≤ unary_level op → b ≤ unary_closing op
-unary_gaps one.Not p b g fits = g.five fits
-unary_gaps one.Inverse p b g fits = g.top
-unary_gaps (one.Sign sign.Minus) p b g fits = g.fifteen fits
-unary_gaps (one.Sign (sign.Symbol Power)) p b g fits = g.fifteen fits
-unary_gaps (one.Sign (sign.Symbol Finset)) p b g fits = g.fifteen fits
-unary_gaps (one.Sign (sign.Symbol Domain)) p b g fits = g.seventeen fits
-unary_gaps (one.Sign (sign.Symbol Range)) p b g fits = g.seventeen fits
-unary_gaps (one.Sign (sign.Symbol Size)) p b g fits = g.seventeen fits
-
-operator_gaps : (op : Operator) (p b : ℕ) → Gap p b → p ≤ operator_level op → b ≤ operator_closing op
-operator_gaps (operator.Function op) p b g fits = omega (arith, g.near)
-operator_gaps (operator.Generic a) p b g fits = g.seven fits
-operator_gaps (operator.Connective And) p b g fits = omega (arith, g.near)
-operator_gaps (operator.Connective Or) p b g fits = omega (arith, g.near)
-operator_gaps (operator.Connective Implies) p b g fits = g.two fits
-operator_gaps (operator.Connective Iff) p b g fits = omega (arith, g.near)
-operator_gaps operator.Application p b g fits = omega (arith, g.sixteen fits)
-operator_gaps operator.Image p b g fits = g.top
-
-listed_gaps : (form : Listed) (p b : ℕ) → Gap p b → p ≤ listed_level form → b ≤ listed_level form
-listed_gaps list.Product p b g fits = g.eight fits
-listed_gaps _ p b g fits = g.top
-
-pub closes : (t : Tree) (p b : ℕ) → Gap p b → 0 < p → p ≤ level t → b ≤ closing t
-closes (quantified l q ds u t) p b g some fits = absurd (omega arith)
-closes (unary l op t) p b g some fits = unary_gaps op p b g fits
-closes (binary l op x y) p b g some fits = operator_gaps op p b g fits
-closes (listed l form ts) p b g some fits = listed_gaps form p b g fits
-closes (chain l t ks) p b g some fits = g.six fits
-closes _ p b g some fits = g.top
-
 infix_gap : (op : Infix) → Gap (infix_level op) (infix_level op + 1)
 infix_gap op =
     let low = priority_some op in
@@ -158,6 +83,10 @@ fixed_gap : (p b : ℕ) → b ≤ p + 1 → 6 < p → (p ≤ 7 → b ≤ 7) → 
 fixed_gap p b near high seven eight fifteen seventeen top =
     record { near = near; two = λ h. omega arith; five = λ h. omega arith; six = λ h. omega arith; seven = seven; eight = eight; fifteen = fifteen; sixteen = λ h. omega arith; seventeen = seventeen; top = top }
 
+loose_gap : (p b : ℕ) → b ≤ p + 1 → (p ≤ 2 → b ≤ 2) → p ≤ 4 → Gap p b
+loose_gap p b near two low =
+    record { near = near; two = two; five = λ h. omega arith; six = λ h. omega arith; seven = λ h. omega arith; eight = λ h. omega arith; fifteen = λ h. omega arith; sixteen = λ h. omega arith; seventeen = λ h. omega arith; top = omega arith }
+
 pub chain_gap : Gap expression_level (chain_level + 1)
 chain_gap = fixed_gap 7 7 (omega arith) (omega arith) (λ h. omega arith) (λ h. omega arith) (λ h. omega arith) (λ h. omega arith) (omega arith)
 
@@ -167,36 +96,57 @@ cross_gap = fixed_gap 9 9 (omega arith) (omega arith) (λ h. omega arith) (λ h.
 pub postfix_gap : Gap postfix_level (postfix_level + 1)
 postfix_gap = fixed_gap 18 19 (omega arith) (omega arith) (λ h. omega arith) (λ h. omega arith) (λ h. omega arith) (λ h. omega arith) (omega arith)
 
--- what stands between two operands
-pub operator_gap : (op : Operator) → Gap (left_place op) (operator_level op + 1)
-operator_gap (operator.Function op) = infix_gap op
-operator_gap (operator.Generic a) = fixed_gap 8 8 (omega arith) (omega arith) (λ h. omega arith) (λ h. omega arith) (λ h. omega arith) (λ h. omega arith) (omega arith)
-operator_gap (operator.Connective And) = record { near = omega arith; two = λ h. omega arith; five = λ h. omega arith; six = λ h. omega arith; seven = λ h. omega arith; eight = λ h. omega arith; fifteen = λ h. omega arith; sixteen = λ h. omega arith; seventeen = λ h. omega arith; top = omega arith }
-operator_gap (operator.Connective Or) = record { near = omega arith; two = λ h. omega arith; five = λ h. omega arith; six = λ h. omega arith; seven = λ h. omega arith; eight = λ h. omega arith; fifteen = λ h. omega arith; sixteen = λ h. omega arith; seventeen = λ h. omega arith; top = omega arith }
-operator_gap (operator.Connective Implies) = record { near = omega arith; two = λ h. omega arith; five = λ h. omega arith; six = λ h. omega arith; seven = λ h. omega arith; eight = λ h. omega arith; fifteen = λ h. omega arith; sixteen = λ h. omega arith; seventeen = λ h. omega arith; top = omega arith }
-operator_gap (operator.Connective Iff) = record { near = omega arith; two = λ h. omega arith; five = λ h. omega arith; six = λ h. omega arith; seven = λ h. omega arith; eight = λ h. omega arith; fifteen = λ h. omega arith; sixteen = λ h. omega arith; seventeen = λ h. omega arith; top = omega arith }
-operator_gap operator.Application = fixed_gap 16 17 (omega arith) (omega arith) (λ h. omega arith) (λ h. omega arith) (λ h. omega arith) (λ h. omega arith) (omega arith)
-operator_gap operator.Image = postfix_gap
+-- how an operator stands in the table
+pub record Stands (op : Operator) : Type 0 where
+  pub low : operator_level op ≤ postfix_level
+  pub right : right_place op ≤ postfix_level
+  pub some : 0 < left_place op
+  pub left : operator_level op ≤ left_place op
+  pub closes : operator_level op ≤ operator_closing op
+  pub gap : Gap (left_place op) (operator_level op + 1)
+  pub gaps : (p b : ℕ) → Gap p b → p ≤ operator_level op → b ≤ operator_closing op
 
-pub some_left : (op : Operator) → 0 < left_place op
-some_left (operator.Function op) = omega (arith, priority_some op)
-some_left (operator.Generic a) = omega arith
-some_left (operator.Connective And) = omega arith
-some_left (operator.Connective Or) = omega arith
-some_left (operator.Connective Implies) = omega arith
-some_left (operator.Connective Iff) = omega arith
-some_left operator.Application = omega arith
-some_left operator.Image = omega arith
+pub stands : (op : Operator) → Stands op
+stands (operator.Function op) = record { low = omega (arith, priority_some op, priority_le op); right = omega (arith, priority_some op, priority_le op); some = omega (arith, priority_some op, priority_le op); left = omega (arith, priority_some op, priority_le op); closes = omega (arith, priority_some op, priority_le op); gap = infix_gap op; gaps = λ p b g fits. omega (arith, g.near) }
+stands (operator.Generic a) = record { low = omega arith; right = omega arith; some = omega arith; left = omega arith; closes = omega arith; gap = fixed_gap 8 8 (omega arith) (omega arith) (λ h. omega arith) (λ h. omega arith) (λ h. omega arith) (λ h. omega arith) (omega arith); gaps = λ p b g fits. g.seven fits }
+stands (operator.Connective And) = record { low = omega arith; right = omega arith; some = omega arith; left = omega arith; closes = omega arith; gap = loose_gap _ _ (omega arith) (λ h. omega arith) (omega arith); gaps = λ p b g fits. omega (arith, g.near) }
+stands (operator.Connective Or) = record { low = omega arith; right = omega arith; some = omega arith; left = omega arith; closes = omega arith; gap = loose_gap _ _ (omega arith) (λ h. omega arith) (omega arith); gaps = λ p b g fits. omega (arith, g.near) }
+stands (operator.Connective Implies) = record { low = omega arith; right = omega arith; some = omega arith; left = omega arith; closes = omega arith; gap = loose_gap _ _ (omega arith) (λ h. omega arith) (omega arith); gaps = λ p b g fits. g.two fits }
+stands (operator.Connective Iff) = record { low = omega arith; right = omega arith; some = omega arith; left = omega arith; closes = omega arith; gap = loose_gap _ _ (omega arith) (λ h. omega arith) (omega arith); gaps = λ p b g fits. omega (arith, g.near) }
+stands operator.Application = record { low = omega arith; right = omega arith; some = omega arith; left = omega arith; closes = omega arith; gap = fixed_gap 16 17 (omega arith) (omega arith) (λ h. omega arith) (λ h. omega arith) (λ h. omega arith) (λ h. omega arith) (omega arith); gaps = λ p b g fits. omega (arith, g.sixteen fits) }
+stands operator.Image = record { low = omega arith; right = omega arith; some = omega arith; left = omega arith; closes = omega arith; gap = postfix_gap; gaps = λ p b g fits. g.top }
 
-pub left_fits : (op : Operator) → operator_level op ≤ left_place op
-left_fits (operator.Function op) = omega arith
-left_fits (operator.Generic a) = omega arith
-left_fits (operator.Connective And) = omega arith
-left_fits (operator.Connective Or) = omega arith
-left_fits (operator.Connective Implies) = omega arith
-left_fits (operator.Connective Iff) = omega arith
-left_fits operator.Application = omega arith
-left_fits operator.Image = omega arith
+unary_gaps : (op : Unary) (p b : ℕ) → Gap p b → p ≤ unary_level op → b ≤ unary_closing op
+unary_gaps one.Not p b g fits = g.five fits
+unary_gaps one.Inverse p b g fits = g.top
+unary_gaps (one.Sign sign.Minus) p b g fits = g.fifteen fits
+unary_gaps (one.Sign (sign.Symbol Power)) p b g fits = g.fifteen fits
+unary_gaps (one.Sign (sign.Symbol Finset)) p b g fits = g.fifteen fits
+unary_gaps (one.Sign (sign.Symbol Domain)) p b g fits = g.seventeen fits
+unary_gaps (one.Sign (sign.Symbol Range)) p b g fits = g.seventeen fits
+unary_gaps (one.Sign (sign.Symbol Size)) p b g fits = g.seventeen fits
+
+listed_gaps : (form : Listed) (p b : ℕ) → Gap p b → p ≤ listed_level form → b ≤ listed_level form
+listed_gaps list.Product p b g fits = g.eight fits
+listed_gaps _ p b g fits = g.top
+
+pub closes : (t : Tree) (p b : ℕ) → Gap p b → 0 < p → p ≤ level t → b ≤ closing t
+closes (quantified l q ds u t) p b g some fits = absurd (omega arith)
+closes (unary l op t) p b g some fits = unary_gaps op p b g fits
+closes (binary l op x y) p b g some fits = (stands op).gaps p b g fits
+closes (listed l form ts) p b g some fits = listed_gaps form p b g fits
+closes (chain l t ks) p b g some fits = g.six fits
+closes _ p b g some fits = g.top
+
+unary_closes : (op : Unary) → unary_level op ≤ unary_closing op
+unary_closes one.Inverse = omega arith
+unary_closes _ = omega arith
+
+pub level_closes : (t : Tree) → level t ≤ closing t
+level_closes (named n) = omega arith
+level_closes (unary l op t) = unary_closes op
+level_closes (binary l op a b) = (stands op).closes
+level_closes _ = omega arith
 
 listed_level_le : (form : Listed) → listed_level form ≤ atom_level
 listed_level_le list.Product = omega arith
@@ -205,6 +155,6 @@ listed_level_le _ = omega arith
 pub level_le : (t : Tree) → level t ≤ atom_level
 level_le (named n) = omega arith
 level_le (unary l op t) = omega (arith, unary_level_le op)
-level_le (binary l op x y) = omega (arith, operator_level_le op)
+level_le (binary l op x y) = omega (arith, (stands op).low)
 level_le (listed l form ts) = listed_level_le form
 level_le _ = omega arith

@@ -113,8 +113,7 @@ before_own one.Inverse l t ts us h = nothing_own (Before one.Inverse l t) ts us 
 
 after_own : (op : Unary) (ts us : List Symbol) → After op ts us → Own (After op) ts us
 after_own one.Inverse ts us h = as_own (next_own k.Inverse ts us refl h) (λ x y p. p)
-after_own one.Not ts us h = nothing_own (After one.Not) ts us (λ r. refl) h
-after_own (one.Sign s) ts us h = nothing_own (After (one.Sign s)) ts us (λ r. refl) h
+after_own _ ts us h = nothing_own _ ts us (λ r. refl) h
 
 between_own : (op : Operator) (ts us : List Symbol) → Between op ts us → Own (Between op) ts us
 between_own (operator.Function op) ts us h = as_own (next_own (k.Infix op) ts us refl h) (λ x y p. p)
@@ -125,10 +124,7 @@ between_own operator.Image ts us h = as_own (next_own k.OpenImage ts us refl h) 
 
 behind_own : (op : Operator) (ts us : List Symbol) → Behind op ts us → Own (Behind op) ts us
 behind_own operator.Image ts us h = as_own (next_own k.CloseImage ts us refl h) (λ x y p. p)
-behind_own (operator.Function op) ts us h = nothing_own (Behind (operator.Function op)) ts us (λ r. refl) h
-behind_own (operator.Generic a) ts us h = nothing_own (Behind (operator.Generic a)) ts us (λ r. refl) h
-behind_own (operator.Connective c) ts us h = nothing_own (Behind (operator.Connective c)) ts us (λ r. refl) h
-behind_own operator.Application ts us h = nothing_own (Behind operator.Application) ts us (λ r. refl) h
+behind_own _ ts us h = nothing_own _ ts us (λ r. refl) h
 
 opens_own : (form : Listed) (l : ℕ) (vs : Trees) (ts us : List Symbol) → Opens form l vs ts us → Own (Opens form l vs) ts us
 opens_own list.Tuple l vs ts us h = as_own (starts_own k.OpenRound l ts us refl h) (λ x y p. p)

@@ -103,32 +103,26 @@ operator_level (operator.Connective c) = connective_level c
 operator_level operator.Application = application_level
 operator_level operator.Image = postfix_level
 
--- infix functions and the connectives but `\implies` are to the left, `\implies` and infix generics to the right
+-- infix generics and `\implies` are to the right, the others to the left
 abbrev pub left_place : Operator → ℕ
-left_place (operator.Function op) = infix_level op
 left_place (operator.Generic a) = product_level
 left_place (operator.Connective Implies) = 3
-left_place (operator.Connective c) = connective_level c
-left_place operator.Application = application_level
-left_place operator.Image = postfix_level
+left_place op = operator_level op
 
 abbrev pub right_place : Operator → ℕ
-right_place (operator.Function op) = infix_level op + 1
 right_place (operator.Generic a) = expression_level
 right_place (operator.Connective Implies) = 2
-right_place (operator.Connective c) = connective_level c + 1
 right_place operator.Application = postfix_level
 right_place operator.Image = expression_level
+right_place op = operator_level op + 1
 
 abbrev pub listed_level : Listed → ℕ
-listed_level list.Tuple = atom_level
-listed_level list.Display = atom_level
 listed_level list.Product = product_level
+listed_level _ = atom_level
 
 abbrev pub member_place : Listed → ℕ
-member_place list.Tuple = expression_level
-member_place list.Display = expression_level
 member_place list.Product = product_level + 1
+member_place _ = expression_level
 
 abbrev pub level : Tree → ℕ
 level (quantified l q ds p t) = quantifier_level

@@ -77,9 +77,8 @@ Opens list.Display l us ts rest = Starts k.OpenBrace l ts rest
 Opens list.Product l us ts rest = IsFirstLine l us × (ts ≡ rest)
 
 abbrev pub parting : Listed → Kind
-parting list.Tuple = k.Comma
-parting list.Display = k.Comma
 parting list.Product = k.Cross
+parting _ = k.Comma
 
 abbrev pub Closes : Listed → List Symbol → List Symbol → Type 0
 Closes list.Tuple ts rest = Next k.CloseRound ts rest

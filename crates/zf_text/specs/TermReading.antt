@@ -182,9 +182,8 @@ ended_by operator.Image = expect mark.CloseImage
 ended_by _ = pure tt
 
 abbrev pub parted_by : Listed → Mark
-parted_by list.Tuple = mark.Comma
-parted_by list.Display = mark.Comma
 parted_by list.Product = mark.Cross
+parted_by _ = mark.Comma
 
 abbrev pub closed_by : Listed → Parser (Unit {0})
 closed_by list.Tuple = expect mark.CloseRound

@@ -55,7 +55,7 @@ impl<
     }
 
     /// After `\emptyset`.
-    #[tactic(auto, unfolding(crate::specs::TermReading::empty_set, crate::specs::TermReading::enclosed))]
+    #[tactic(auto, unfolding(crate::specs::TermReading::empty_set))]
     fn empty_set(
         &self,
         tokens: &mut Cursor<'a, '_>,

@@ -8,7 +8,7 @@ use super::Grammar;
 use crate::cursor::Cursor;
 use crate::levels::{EXPRESSION, member_place, parted_by};
 use crate::names::names;
-use crate::tall::Tall;
+use crate::tall::{Tall, boxed};
 use bumpalo::Bump;
 use zf_data::arena::{Boxed, Items};
 use zf_scan::fault::TextFault;
