@@ -161,6 +161,7 @@ module _ (below : Reader) (n : ℕ) (ok : IsComplete n below) where
       let at : List Symbol = symbol (k.Relation r) relates.0 ∷ split.0 in
       let left = spine t least ts at (omega arith) lev.1 (omega arith) (subst (Spells t ts) relates.1 s) (closes t expression_level (chain_level + 1) chain_gap (omega arith) lev.0) in
       turn least t (chain l t (link r u ks)) ts at us role.Relation refl left (omega arith) low (omega arith) lev.0 (λ x is. chained_complete l x t r u ks at us is line lev.2 (omega arith) (subst (λ a. SpellsLinks (link r u ks) a us) relates.1 more) stop)
+
   stops : (least j : ℕ) (x : Tall Term) (us : List Symbol) → 0 < j → binds (first us) ≤ least → climb below (n + 1) least j x us ≡ Ok (x, us)
   unfolding climb
   stops least zero x us some stop = absurd (omega arith)

@@ -165,12 +165,8 @@ impl<'a, 'b> Cursor<'a, 'b> {
     pub fn go_beyond(&mut self, op: Operator)
         ensures { self.new ≡ terms.beyond op self.old }
     {
-        match op {
-            Operator::Function(_) => self.skip(),
-            Operator::Generic(_) => self.skip(),
-            Operator::Connective(_) => self.skip(),
-            Operator::Application => {}
-            Operator::Image => self.skip(),
+        if !matches!(op, Operator::Application) {
+            self.skip();
         }
     }
 
@@ -178,13 +174,10 @@ impl<'a, 'b> Cursor<'a, 'b> {
     pub fn end(&mut self, op: Operator) -> Result<(), TextFault>
         ensures { Gives (terms.ended_by op self.old) result self.new }
     {
-        match op {
-            Operator::Function(_) => Ok(()),
-            Operator::Generic(_) => Ok(()),
-            Operator::Connective(_) => Ok(()),
-            Operator::Application => Ok(()),
-            Operator::Image => self.expect(Mark::CloseImage),
+        if matches!(op, Operator::Image) {
+            self.expect(Mark::CloseImage)?;
         }
+        Ok(())
     }
 
     /// Goes past what stands behind the terms of a list.

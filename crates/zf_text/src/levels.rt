@@ -3,7 +3,6 @@ ghost use Rattle.std.specs.Prelude.{◌≡◌, ◌≤◌};
 ghost use Rattle.zf_text.specs.Levels as levels;
 ghost use Rattle.zf_text.specs.TermReading as spec;
 ghost use Rattle.zf_tree.specs.Trees.{tree_of};
-ghost use Rattle.zf_tree.specs.declared.operator.Operator.TheVariants as operator;
 
 use zf_scan::next::{Mark, Next};
 use zf_tree::operator::{Listed, Operator, Sign, Unary};
@@ -66,20 +65,11 @@ fn infix_level(op: Infix) -> u8
     match op {
         Infix::Maplet => 9,
         Infix::UpTo => 10,
-        Infix::Plus => 11,
-        Infix::Minus => 11,
-        Infix::Union => 11,
-        Infix::Difference => 11,
-        Infix::Times => 12,
-        Infix::Div => 12,
-        Infix::Mod => 12,
-        Infix::Intersection => 12,
-        Infix::Composition => 12,
+        Infix::Plus | Infix::Minus | Infix::Union | Infix::Difference => 11,
+        Infix::Times | Infix::Div | Infix::Mod | Infix::Intersection | Infix::Composition => 12,
         Infix::Overriding => 13,
-        Infix::DomainRestriction => 14,
-        Infix::RangeRestriction => 14,
-        Infix::DomainSubtraction => 14,
-        Infix::RangeSubtraction => 14,
+        Infix::DomainRestriction | Infix::RangeRestriction => 14,
+        Infix::DomainSubtraction | Infix::RangeSubtraction => 14,
     }
 }
 
@@ -87,12 +77,8 @@ fn sign_level(sign: Sign) -> u8
     ensures { result ≡ levels.sign_level sign }
 {
     match sign {
-        Sign::Minus => POWER,
-        Sign::Symbol(Prefix::Power) => POWER,
-        Sign::Symbol(Prefix::Finset) => POWER,
-        Sign::Symbol(Prefix::Domain) => PREFIX,
-        Sign::Symbol(Prefix::Range) => PREFIX,
-        Sign::Symbol(Prefix::Size) => PREFIX,
+        Sign::Minus | Sign::Symbol(Prefix::Power | Prefix::Finset) => POWER,
+        Sign::Symbol(Prefix::Domain | Prefix::Range | Prefix::Size) => PREFIX,
     }
 }
 
@@ -120,16 +106,13 @@ fn operator_level(op: Operator) -> u8
     }
 }
 
-/// Where the left operand stands.
+/// Where the left operand stands: tighter than an operator to the right.
 fn left_place(op: Operator) -> u8
     ensures { result ≡ levels.left_place op }
 {
     match op {
-        Operator::Function(op) => infix_level(op),
-        Operator::Generic(_) => PRODUCT,
-        Operator::Connective(connective) => left_of(connective),
-        Operator::Application => APPLICATION,
-        Operator::Image => POSTFIX,
+        Operator::Generic(_) | Operator::Connective(Connective::Implies) => operator_level(op) + 1,
+        _ => operator_level(op),
     }
 }
 
@@ -138,34 +121,10 @@ pub fn right_place(op: Operator) -> u8
     ensures { result ≡ levels.right_place op }
 {
     match op {
-        Operator::Function(op) => infix_level(op) + 1,
-        Operator::Generic(_) => EXPRESSION,
-        Operator::Connective(connective) => right_of(connective),
+        Operator::Generic(_) | Operator::Connective(Connective::Implies) => operator_level(op),
         Operator::Application => POSTFIX,
         Operator::Image => EXPRESSION,
-    }
-}
-
-/// Tighter than `\implies`, which is to the right.
-fn left_of(connective: Connective) -> u8
-    ensures { result ≡ levels.left_place (operator.Connective connective) }
-{
-    match connective {
-        Connective::Iff => 1,
-        Connective::Implies => 3,
-        Connective::Or => 3,
-        Connective::And => 4,
-    }
-}
-
-fn right_of(connective: Connective) -> u8
-    ensures { result ≡ levels.right_place (operator.Connective connective) }
-{
-    match connective {
-        Connective::Iff => 2,
-        Connective::Implies => 2,
-        Connective::Or => 4,
-        Connective::And => 5,
+        _ => operator_level(op) + 1,
     }
 }
 
@@ -173,8 +132,7 @@ fn listed_level(form: Listed) -> u8
     ensures { result ≡ levels.listed_level form }
 {
     match form {
-        Listed::Tuple => ATOM,
-        Listed::Display => ATOM,
+        Listed::Tuple | Listed::Display => ATOM,
         Listed::Product => PRODUCT,
     }
 }
@@ -183,8 +141,7 @@ pub fn member_place(form: Listed) -> u8
     ensures { result ≡ levels.member_place form }
 {
     match form {
-        Listed::Tuple => EXPRESSION,
-        Listed::Display => EXPRESSION,
+        Listed::Tuple | Listed::Display => EXPRESSION,
         Listed::Product => PRODUCT + 1,
     }
 }
@@ -194,8 +151,7 @@ pub fn parted_by(form: Listed) -> Mark
     ensures { result ≡ spec.parted_by form }
 {
     match form {
-        Listed::Tuple => Mark::Comma,
-        Listed::Display => Mark::Comma,
+        Listed::Tuple | Listed::Display => Mark::Comma,
         Listed::Product => Mark::Cross,
     }
 }
@@ -229,12 +185,10 @@ pub fn role_of(next: Next) -> Role
         Next::Arrow(arrow) => Role::Operator(Operator::Generic(arrow)),
         Next::Connective(connective) => Role::Operator(Operator::Connective(connective)),
         Next::OpenImage => Role::Operator(Operator::Image),
-        Next::Name => Role::Operator(Operator::Application),
-        Next::Number => Role::Operator(Operator::Application),
-        Next::Constant(_) => Role::Operator(Operator::Application),
-        Next::EmptySet => Role::Operator(Operator::Application),
-        Next::OpenRound => Role::Operator(Operator::Application),
-        Next::OpenBrace => Role::Operator(Operator::Application),
+        Next::Name | Next::Number | Next::Constant(_) => Role::Operator(Operator::Application),
+        Next::EmptySet | Next::OpenRound | Next::OpenBrace => {
+            Role::Operator(Operator::Application)
+        }
         Next::Relation(_) => Role::Relation,
         Next::Cross => Role::Cross,
         Next::Inverse => Role::Inverse,

@@ -57,7 +57,11 @@ impl<
         ensures low { IfOk result (λ x. x.height ≤ left.entry.height + 1) }
     {
         tokens.skip();
-        boxed(self.arena, Term::Unary(line, Unary::Inverse, left.part), left.height + 1)
+        boxed(
+            self.arena,
+            Term::Unary(line, Unary::Inverse, left.part),
+            left.height + 1,
+        )
     }
 
     #[tactic(auto, unfolding(crate::specs::TermReading::chained))]
