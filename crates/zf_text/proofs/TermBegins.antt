@@ -9,7 +9,6 @@ use Rattle.zf_tree.specs.declared.symbol.Infix.TheVariants.{Minus}
 use Rattle.zf_scan.specs.declared.token.Kind.{Kind}
 use Rattle.zf_scan.specs.declared.token.Kind.TheVariants as k
 use Rattle.zf_tree.specs.declared.symbol.Quantifier.{Quantifier}
-use Rattle.zf_scan.specs.declared.token.Separator.TheVariants.{Semicolon, NewLine, Also}
 use Rattle.zf_tree.specs.Names.{ident_of}
 use Rattle.zf_tree.specs.declared.tree.Name.{Name}
 use Rattle.zf_tree.specs.declared.operator.Listed.{Listed}
@@ -19,7 +18,7 @@ use Rattle.zf_tree.specs.declared.operator.Unary.{Unary}
 use Rattle.zf_tree.specs.declared.operator.Unary.TheVariants as one
 use Rattle.zf_tree.specs.declared.tree.Term.{Term}
 use Rattle.zf_tree.specs.declared.tree.Term.TheVariants as term
-use Rattle.zf_text.specs.Height.{height, tallest}
+use Rattle.zf_text.specs.Height.{tallest}
 use Rattle.zf_text.specs.Levels.{quantifier_level, expression_level, atom_level, unary_level, listed_level, member_place, level, AreTwo, AreEnough, AreAt}
 use Rattle.zf_scan.specs.Choosing.{next_of, is_mark}
 use Rattle.zf_text.specs.Reading.{first}
@@ -126,9 +125,6 @@ module _ (below : Reader) (n : ℕ) (ok : IsSound n below) where
       made (n + 1) least (bracket line (tree_of x.part)) (term.Bracket line x.part) (x.height + 1) _ a us y (of.of-Bracket line x.part) e
       (record { fits = fits; levelled = s.levelled; high = omega arith; low = omega arith; spelled = (ts, symbol k.CloseRound c ∷ a, refl, s.spelled, (c, refl)) })
   round_at line least x y k.Comma c ts a us fits s e = tuple_sound line least c x y ts a us fits s e
-  round_at line least x y (k.Separator Semicolon) c ts a us fits s e = absurd (cc)
-  round_at line least x y (k.Separator NewLine) c ts a us fits s e = absurd (cc)
-  round_at line least x y (k.Separator Also) c ts a us fits s e = absurd (cc)
   round_at line least x y _ c ts a us fits s e = absurd (cc)
 
   round_then : (line least : ℕ) (x y : Tall Term) (ts a us : List Symbol) → least ≤ atom_level → Sound n quantifier_level x ts a → round_by below line x (first a) a ≡ Ok (y, us) → Whole least y (symbol k.OpenRound line ∷ ts) us
@@ -260,9 +256,6 @@ module _ (below : Reader) (n : ℕ) (ok : IsSound n below) where
   beginning_at least (k.Quantifier q) line ts us y fits e =
       let g = if_ok (nat_le least quantifier_level) _ (y, us) _ e in
       quantified_sound line least q y ts us (leb-true least quantifier_level g.0) g.1
-  beginning_at least (k.Separator Semicolon) line ts us y fits e = absurd (cc)
-  beginning_at least (k.Separator NewLine) line ts us y fits e = absurd (cc)
-  beginning_at least (k.Separator Also) line ts us y fits e = absurd (cc)
   beginning_at least _ line ts us y fits e = absurd (cc)
 
   pub beginning_sound : (least : ℕ) (ts us : List Symbol) (y : Tall Term) → least ≤ atom_level → beginning below least ts ≡ Ok (y, us) → Whole least y ts us

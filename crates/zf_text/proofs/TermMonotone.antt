@@ -137,7 +137,6 @@ module _ (below above : Reader) (up : IsUnder below above) where
   beginning_at least line next.OpenBrace ts = braced_under line _
   beginning_at least line (next.Prefix s) ts = prefixed_under least line (one.Sign (sign.Symbol s)) ts
   beginning_at least line (next.Infix Minus) ts = prefixed_under least line (one.Sign sign.Minus) ts
-  beginning_at least line (next.Infix _) ts = same _
   beginning_at least line next.Not ts = prefixed_under least line one.Not ts
   beginning_at least line (next.Quantifier q) ts = if_under (nat_le least quantifier_level) _ _ _ _ (quantified_under line q _) (same _)
   beginning_at least line _ ts = same _

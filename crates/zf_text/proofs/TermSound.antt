@@ -7,7 +7,6 @@ use Rattle.zf_text.specs.declared.tall.Tall.{Tall}
 use Rattle.zf_scan.specs.declared.token.Kind.{Kind}
 use Rattle.zf_scan.specs.declared.token.Kind.TheVariants as k
 use Rattle.zf_tree.specs.declared.symbol.Relation.{Relation}
-use Rattle.zf_scan.specs.declared.token.Separator.TheVariants.{Semicolon, NewLine, Also}
 use Rattle.zf_tree.specs.declared.operator.Listed.TheVariants as list
 use Rattle.zf_tree.specs.declared.operator.Operator.{Operator}
 use Rattle.zf_tree.specs.declared.operator.Operator.TheVariants as operator
@@ -15,7 +14,7 @@ use Rattle.zf_tree.specs.declared.operator.Unary.TheVariants as one
 use Rattle.zf_tree.specs.declared.tree.Link.{Link}
 use Rattle.zf_tree.specs.declared.tree.Term.{Term}
 use Rattle.zf_tree.specs.declared.tree.Term.TheVariants as term
-use Rattle.zf_text.specs.Height.{height, tallest_link}
+use Rattle.zf_text.specs.Height.{tallest_link}
 use Rattle.zf_text.specs.Levels.{quantifier_level, chain_level, expression_level, product_level, postfix_level, atom_level, operator_level, left_place, right_place, level, LinksAreLevelled}
 use Rattle.zf_scan.specs.Choosing.{next_of}
 use Rattle.zf_text.specs.Reading.{first}
@@ -126,9 +125,6 @@ module _ (below : Reader) (n : ℕ) (ok : IsSound n below) where
   longer_at least x z (k.Relation r) o ts a us fits left sx e low = chained_sound least r o x z ts a us fits left sx e low
   longer_at least x z k.Cross o ts a us fits left sx e low = product_sound least o x z ts a us fits left sx e low
   longer_at least x z k.Inverse o ts a us fits left sx e low = inverse_sound least o x z ts a us fits left sx e low
-  longer_at least x z (k.Separator Semicolon) o ts a us fits left sx e low = absurd (omega arith)
-  longer_at least x z (k.Separator NewLine) o ts a us fits left sx e low = absurd (omega arith)
-  longer_at least x z (k.Separator Also) o ts a us fits left sx e low = absurd (omega arith)
   longer_at least x z _ o ts a us fits left sx e low = absurd (omega arith)
 
   longer_sound : (least : ℕ) (x z : Tall Term) (ts a us : List Symbol) → least < binds (first a) → place_before (role_of (first a)) ≤ level (tree_of x.part) → Sound (n + 1) quantifier_level x ts a → longer_by below x (role_of (first a)) a ≡ Ok (z, us) → z.height ≤ n + 1 → Whole least z ts us

@@ -1,6 +1,5 @@
 -- Bounds of the table of levels, and which symbols may stand behind which terms.
 use Rattle.std.proofs.Common.{ℕ, ◌+◌, ◌≤◌, ◌<◌, arith}
-use Rattle.zf_tree.specs.declared.symbol.Connective.{Connective}
 use Rattle.zf_tree.specs.declared.symbol.Connective.TheVariants.{And, Or, Implies, Iff}
 use Rattle.zf_tree.specs.declared.symbol.Infix.{Infix}
 use Rattle.zf_tree.specs.declared.symbol.Prefix.TheVariants.{Power, Finset, Domain, Range, Size}
@@ -12,7 +11,7 @@ use Rattle.zf_tree.specs.declared.operator.Sign.{Sign}
 use Rattle.zf_tree.specs.declared.operator.Sign.TheVariants as sign
 use Rattle.zf_tree.specs.declared.operator.Unary.{Unary}
 use Rattle.zf_tree.specs.declared.operator.Unary.TheVariants as one
-use Rattle.zf_text.specs.Levels.{quantifier_level, negation_level, chain_level, expression_level, product_level, postfix_level, atom_level, priority, infix_level, sign_level, unary_level, operator_level, left_place, right_place, listed_level, member_place, level}
+use Rattle.zf_text.specs.Levels.{quantifier_level, chain_level, expression_level, product_level, postfix_level, atom_level, priority, infix_level, sign_level, unary_level, operator_level, left_place, right_place, listed_level, member_place, level}
 use Rattle.zf_tree.specs.Trees.{Tree, named, listed, unary, binary, chain, quantified}
 use Rattle.zf_tree.specs.declared.symbol.Infix.TheVariants.{Maplet}
 
