@@ -1,17 +1,15 @@
 -- What the parts of the checker of terms answer, for private contracts alone.
-use Rattle.std.specs.Prelude.{Bool, true, false, ◌≡◌, ◌⊎◌, ℕ, List, [], ◌∷◌, Option, Some, None, Result, IfOk, IfErr}
+use Rattle.std.specs.Prelude.{Bool, false, ◌≡◌, ◌⊎◌, ℕ, List, [], ◌∷◌, Option, Some, None, Result, IfOk, IfErr}
 use Rattle.zf_tree.specs.declared.tree.Name.{Name}
 use Rattle.zf_tree.specs.declared.tree.Term.{Term}
 use Rattle.zf_tree.specs.declared.tree.Term.TheVariants as form
 use Rattle.zf_tree.specs.declared.tree.Link.{Link}
 use Rattle.zf_tree.specs.declared.tree.VarDecl.{VarDecl}
 use Rattle.zf_tree.specs.declared.symbol.Quantifier.{Quantifier}
-use Rattle.zf_tree.specs.Trees.{line_of, Tree, VarDecls, Perhaps, absent, present, Trees, bracket, binary}
+use Rattle.zf_tree.specs.Trees.{line_of, Tree, VarDecls, Perhaps, absent, present, bracket, binary}
 use Rattle.zf_tree.specs.declared.operator.Need.{Need}
-use Rattle.zf_tree.specs.declared.operator.Operator.TheVariants as operator
-use Rattle.zf_tree.specs.declared.symbol.Connective.TheVariants.{And}
-use Rattle.zf_term.specs.ResolvedTrees.{ResolvedPart, resolved_of}
-use Rattle.zf_term.specs.ResolvedTrees as kept
+use Rattle.zf_term.specs.ResolvedTrees.{resolved_of}
+use Rattle.zf_term.specs.Shapes.{is_and}
 use Rattle.zf_term.specs.Types.{Ty, Tys, no_types, type}
 use Rattle.zf_type.specs.declared.fault.Refusal.{Refusal}
 use Rattle.zf_type.specs.declared.judge.Judged.{Judged}
@@ -19,7 +17,7 @@ use Rattle.zf_term.specs.declared.fault.TypeFaultKind.{TypeFaultKind}
 use Rattle.zf_term.specs.declared.fault.TypeFaultKind.TheVariants.{LocalTwice}
 use Rattle.zf_type.specs.Offences.{Offends, PartOffends, SetsOffend, Repeats, IsRepeated}
 use Rattle.zf_type.specs.Refusals.{IfFault}
-use Rattle.zf_type.specs.Resolving.{resolved, resolved_part}
+use Rattle.zf_type.specs.Resolving.{resolved}
 use Rattle.zf_type.specs.Rules.{sort_of, Meets}
 use Rattle.zf_type.specs.Scopes.{Scope, Var}
 use Rattle.zf_tree.specs.Names.{spelling}
@@ -38,7 +36,7 @@ Judges s n e result = IfOk result (λ j. IsJudged s n e j) × IfErr result (λ r
 -- a conjunction, within brackets or without
 abbrev pub is_conjunction : Tree → Bool
 is_conjunction (bracket l e) = is_conjunction e
-is_conjunction (binary l (operator.Connective And) a b) = true
+is_conjunction (binary l op a b) = is_and op
 is_conjunction _ = false
 
 -- ---- terms of one form

@@ -13,9 +13,8 @@ use crate::sort::Sort;
 use bumpalo::Bump;
 use std::alloc::AllocError;
 use zf_term::ztype::{ZType, pair_type, set_type};
-use zf_tree::operator::{Need, Rule, Unary};
+use zf_tree::operator::{Need, Rule, Sign, Unary};
 use zf_tree::symbol::{Constant, Prefix};
-use zf_tree::operator::Sign;
 
 /// What two operands make by a rule, where it takes them together.
 pub fn combine<'a>(
