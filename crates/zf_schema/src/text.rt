@@ -273,7 +273,7 @@ fn constrain_all<'a>(
     ensures wrong { IfErr result (λ e. IfFault e (OffendsPredicates (globals_of globals.now) (schema_of growing.old.flat) (map tree_of predicates.now))) }
 {
     for predicate in predicates {
-        constrain(arena, globals, growing, predicate.get())?;
+        constrain(arena, globals, growing, predicate)?;
     }
     Ok(())
 }
@@ -283,7 +283,7 @@ fn constrain<'a>(
     arena: &'a Bump,
     globals: &Globals<'a>,
     growing: &mut Growing<'a>,
-    predicate: &Term<'a>,
+    predicate: &Boxed<'a, Term<'a>>,
 ) -> Result<(), Refusal>
     requires { IsGrowing growing.old }
     ensures ok { OnOk result (ConstrainsOne (globals_of globals.now) (schema_of growing.old.flat) (tree_of predicate.now) (schema_of growing.new.flat)) }
@@ -300,7 +300,7 @@ fn conjuncts_over<'a>(
     arena: &'a Bump,
     globals: &Globals<'a>,
     components: &[Component<'a>],
-    predicate: &Term<'a>,
+    predicate: &Boxed<'a, Term<'a>>,
 ) -> Result<&'a [Resolved<'a>], Refusal>
     ensures is { OnOk result (IsOf (over (globals_of globals.now) (map comp_of components.now)) (tree_of predicate.now) rules.predicate) }
     ensures ok { IfOk result (λ ts. map resolved_of ts.now ≡ shape.conjuncts (resolved (over (globals_of globals.now) (map comp_of components.now)) (tree_of predicate.now))) }
@@ -308,7 +308,7 @@ fn conjuncts_over<'a>(
 {
     let mut scope = scope_over(globals, components);
     let mut conjuncts = Items::new(arena);
-    push_conjuncts(predicate, arena, &mut scope, &mut conjuncts)?;
+    push_conjuncts(predicate.get(), arena, &mut scope, &mut conjuncts)?;
     Ok(into_bump_slice(conjuncts.into_vec()))
 }
 

@@ -1,14 +1,14 @@
-use Rattle.std.proofs.Common.{◌≡◌, sym, ap, ◌∙◌, map, subst}
+use Rattle.std.proofs.Common.{map, subst}
 use Rattle.zf_tree.specs.Trees.{box_of}
 use Rattle.zf_term.specs.Definitions.{globals_of}
-use Rattle.zf_term.specs.Numbers.{next_number}
 use Rattle.zf_schema.specs.declared.checker.Checked.{Checked}
 use Rattle.zf_schema.specs.Checking.{IsChecked}
 use Rattle.zf_schema.proofs.Running.{run_all}
 use Rattle.zf_schema.proofs.checker.check_spec.Goals as goal
 
-pub requires-check_boxes : goal.requires-check_boxes
-requires-check_boxes c = ?
-
 pub returns : goal.returns
-returns c = ?
+returns c =
+    let nothing : Checked = record { globals = c.in_ok-globals.globals; faults = c.new.result } in
+    let end = c.check_boxes.new.checked in
+    subst (λ bs. IsChecked (map box_of bs) (globals_of end.globals) end.faults) c.as_slice.ensures
+    (run_all nothing end (map box_of c.as_slice.result.now) c.in_ok-globals.ensures c.new.ensures c.in_ok-check_boxes.ensures.runs)
