@@ -8,7 +8,7 @@ use Rattle.zf_tree.specs.declared.operator.Sign.{Sign}
 use Rattle.zf_tree.specs.declared.operator.Sign.TheVariants as sign
 use Rattle.zf_tree.specs.Trees.{Tree, named, numeral, constant, empty_set, bracket, listed, builder, unary, binary, chain, quantified, Trees, no_trees, tree, Links, no_links, link, VarDecls, no_decls, var_decl, Perhaps, absent, present}
 use Rattle.zf_tree.specs.Operators.{left_need, right_need, rule_of, relation_rule, prefix_need, sign_need, need_of}
-use Rattle.zf_term.specs.Types.{Ty, power, Tys, no_types, type, IsSmall}
+use Rattle.zf_term.specs.Types.{Ty, power, Tys, type, IsSmall}
 use Rattle.zf_tree.specs.declared.operator.Need.{Need}
 use Rattle.zf_tree.specs.declared.operator.Need.TheVariants as need
 use Rattle.zf_tree.specs.declared.operator.Listed.{Listed}

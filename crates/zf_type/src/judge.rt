@@ -1,5 +1,5 @@
 //! What a term is by the typing rules, or an offence against them.
-ghost use Rattle.std.specs.Prelude.{◌≡◌, ℕ, IfOk, IfErr};
+ghost use Rattle.std.specs.Prelude.{◌≡◌, IfOk, IfErr};
 ghost use Rattle.zf_tree.specs.Trees as tree;
 ghost use Rattle.zf_tree.specs.Trees.{Tree, named, numeral, tree_of};
 ghost use Rattle.zf_term.specs.ResolvedTrees.{resolved_of};

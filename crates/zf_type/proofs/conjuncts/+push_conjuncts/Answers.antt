@@ -1,4 +1,4 @@
-use Rattle.std.proofs.Common.{rules, ◌≡◌, OnOk, ◌++◌, map, sym, ap, ◌∙◌, subst}
+use Rattle.std.proofs.Common.{◌≡◌, OnOk, ◌++◌, map, sym, ap, ◌∙◌, subst}
 use Rattle.zf_tree.specs.Trees.{tree_of}
 use Rattle.zf_tree.proofs.TermSeen as seen
 use Rattle.zf_term.specs.ResolvedTrees.{resolved_of}

@@ -176,7 +176,7 @@ lists::judge_all-loop-member-preserved t c =
           subst (λ vs. AreMembers form s (trees (map tree_of all)) (types vs)) (sym (pushed type_of c.loop-member.types c.push.new.self u us c.in_ok-push.ensures.ok))
           (c.loop-member.invariant.told (type_of u ∷ us) (at_step (λ rs. AreMembers form s (trees (map tree_of rs)) (types (type_of u ∷ us))) all i r c.member-item.is (omega arith) (type_of u, types us, is, are, refl)));
       kept = λ ts h.
-          ap kept.terms (pushed resolved_of c.loop-member.resolved c.push-2.new.self j.term ts c.in_ok-push-2.ensures.ok)
+          ap kept.terms (pushed resolved_of c.loop-member.resolved c.push-in-loop-member.new.self j.term ts c.in_ok-push-2.ensures.ok)
           ∙ c.loop-member.invariant.kept (resolved_of j.term ∷ ts) (at_step (λ rs. kept.terms (resolved_of j.term ∷ ts) ≡ resolved_all s (trees (map tree_of rs))) all i r c.member-item.is (omega arith)
           (ap (λ x. kept.term x (kept.terms ts)) judged.term ∙ ap (kept.term (resolved s e)) h));
       offends = λ k m o. c.loop-member.invariant.offends k m (at_step (λ rs. OneOffends s (member_need form) (trees (map tree_of rs)) k m) all i r c.member-item.is (omega arith) (inr o));

@@ -13,5 +13,5 @@ returns-in_default c = λ s n p h.
 
 pub returns : goal.returns
 returns c = λ s n p h.
-    IfOk-weaker c.new.result (λ o. o ≡ Some c.in_ok-term.term) (λ o. part_of o ≡ resolved_part s p)
-    (λ o is. ap part_of is ∙ some_kept s n p c.in-Some.judged c.in_ok-term.term c.in_ok-term.ensures (subst (IsPart s n p) c.in-Some.is h)) c.new.ensures
+    IfOk-weaker c.new-3.result (λ o. o ≡ Some c.in_ok-term.term) (λ o. part_of o ≡ resolved_part s p)
+    (λ o is. ap part_of is ∙ some_kept s n p c.in-Some.judged c.in_ok-term.term c.in_ok-term.ensures (subst (IsPart s n p) c.in-Some.is h)) c.new-3.ensures

@@ -1,4 +1,4 @@
-use Rattle.std.proofs.Common.{◌≡◌, refl, sym, ap, ◌∙◌, subst, inl, inr, map}
+use Rattle.std.proofs.Common.{refl, ap, ◌∙◌, subst, inl, inr, map}
 use Rattle.zf_tree.specs.Trees as tree
 use Rattle.zf_tree.specs.declared.operator.Need.TheVariants as need
 use Rattle.zf_term.specs.ResolvedTrees.{range_of, ranges, resolved_of}
