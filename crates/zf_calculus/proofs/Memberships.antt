@@ -9,12 +9,10 @@ use Rattle.zf_term.specs.declared.resolved.ResolvedLink.{ResolvedLink}
 use Rattle.zf_term.specs.declared.resolved.Resolved.TheVariants as v
 use Rattle.zf_term.specs.declared.globals.Domain.{Domain}
 use Rattle.zf_term.specs.declared.globals.Domain.TheVariants as domains
-use Rattle.zf_term.specs.declared.written.Written.{Written}
 use Rattle.zf_term.specs.declared.ztype.ZType.{ZType}
 use Rattle.zf_term.specs.Definitions.{DeclaredSet, set_of}
 use Rattle.zf_term.specs.ResolvedTrees.{ResolvedTree, reference, chain, links, link, no_links, resolved_of, resolved_link_of}
 use Rattle.zf_term.specs.Shapes.{line_of}
-use Rattle.zf_term.specs.Written.{written_of}
 use Rattle.zf_term.proofs.ResolvedSeen.{new_link, of-Name, of-Constant, of-Chain, of-link}
 use Rattle.zf_calculus.specs.Calculus.{membership, joined}
 use Rattle.zf_term.proofs.SetsSeen.{of-Plain, of-Carrier, of-Either}
@@ -28,7 +26,7 @@ member_seen l i e t ks m g h =
     ∙ ap (λ q. chain l (reference l (Component i)) (links (q ∷ []))) (of-link Member e)
     ∙ ap (λ (n : ℕ). chain n (reference n (Component i)) (link Member (resolved_of e) no_links)) m
 
-pub pushed : (i : ℕ) (d : Domain) (s : Written) (t : Resolved) (old new : List Resolved) → d ≡ domains.Plain s → resolved_of t ≡ is_member i (written_of s) → new ≡ old ++ t ∷ [] → map resolved_of new ≡ map resolved_of old ++ membership i (set_of d)
+pub pushed : (i : ℕ) (d : Domain) (s : Resolved) (t : Resolved) (old new : List Resolved) → d ≡ domains.Plain s → resolved_of t ≡ is_member i (resolved_of s) → new ≡ old ++ t ∷ [] → map resolved_of new ≡ map resolved_of old ++ membership i (set_of d)
 pushed i d s t old new e f h =
     ap (map resolved_of) h
     ∙ map-append resolved_of old (t ∷ [])

@@ -22,9 +22,9 @@ use bumpalo::Bump;
 use std::alloc::AllocError;
 use zf_data::arena::{Boxed, Items, Shared};
 use zf_reference::reference::Reference;
+use zf_resolved::conjunct;
 use zf_resolved::moving::{copy, moved};
-use zf_resolved::{conjunct, kept};
-use zf_term::conjunct::{Conjunct, Statement};
+use zf_term::conjunct::Conjunct;
 use zf_term::globals::{Component, Domain, Domains, Flat};
 use zf_term::named::component_of;
 use zf_term::resolved::{Resolved, ResolvedLink};
@@ -181,7 +181,7 @@ fn push_membership<'a>(
 {
     match domain {
         Domain::Plain(set) => {
-            let set = kept::resolved(set.get(), arena)?;
+            let set = copy(set.get(), arena)?;
             let term = membership(arena, place, set)?;
             made.push(term)
         }
@@ -290,7 +290,7 @@ fn disjunction<'a>(
     let of_right = constraints(arena, right)?;
     let moved = moved_all(arena, of_right.as_slice(), places.as_slice())?;
     let whole = one_holds(arena, line, of_left.as_slice(), moved.as_slice())?;
-    let conjuncts = Items::of(arena, Conjunct::of(arena, Statement::Made(whole))?)?;
+    let conjuncts = Items::of(arena, Conjunct::of(arena, whole)?)?;
     Ok(Flat {
         components,
         conjuncts,

@@ -21,7 +21,7 @@ use std::alloc::AllocError;
 use zf_data::arena::{Boxed, Items, Lasting};
 use zf_reference::reference::Reference;
 use zf_shape::conjunct::room_after;
-use zf_term::conjunct::{Conjunct, Statement};
+use zf_term::conjunct::Conjunct;
 use zf_term::globals::{Component, Flat};
 use zf_term::resolved::{Resolved, ResolvedLink};
 use zf_tree::symbol::Relation;
@@ -309,6 +309,6 @@ fn equality<'a>(
             right,
         },
     )?;
-    let statement = Statement::Made(Resolved::Chain(line, left, Boxed::new(arena, links)?));
-    Conjunct::of(arena, statement)
+    let term = Resolved::Chain(line, left, Boxed::new(arena, links)?);
+    Conjunct::of(arena, term)
 }

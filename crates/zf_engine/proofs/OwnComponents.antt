@@ -22,7 +22,7 @@ use Rattle.zf_term.specs.Types.{Ty}
 use Rattle.zf_term.proofs.SameNames.{is_itself}
 use Rattle.zf_type.specs.Resolving.{resolved}
 use Rattle.zf_tree.specs.Names.{spelling}
-use Rattle.zf_type.proofs.Filling.{onto_behind}
+use Rattle.zf_term.proofs.Behind.{onto_behind}
 use Rattle.zf_calculus.specs.Calculus.{nothing, comp, comp_named, with_comp, with_comps, place_or, place_of, new_place, conjoined, carried, decorated, prime, delta, all_unchanged, xi, marked, either_comps, membership, memberships, constraints, joined, disjoined}
 use Rattle.zf_schema.specs.Expressions.{outside, inside, Refers, AddsAll, DeclaresOne, Declares, TakesAll, Constrains, IsSchema}
 use Rattle.zf_enum.specs.Property.{greatest_place, due}

@@ -7,7 +7,7 @@ use Rattle.zf_reference.specs.declared.reference.Reference.{Reference}
 use Rattle.zf_reference.specs.declared.reference.Reference.TheVariants.{Component, Local, Global}
 use Rattle.zf_term.specs.Definitions.{Comp, Defined}
 use Rattle.zf_term.specs.FirstNamed.{later, or_else, first_named}
-use Rattle.zf_term.specs.Filling.{onto, all_onto, links_onto, ranges_onto, part_onto}
+use Rattle.zf_term.specs.References.{onto, all_onto, links_onto, ranges_onto, part_onto}
 use Rattle.zf_term.specs.ResolvedTrees.{ResolvedTree, reference, number, constant, empty_set, bracket, listed, builder, unary, binary, chain, quantified}
 use Rattle.zf_reference.specs.Numbering.{renumbered}
 use Rattle.zf_term.specs.Shapes.{moved, conjuncts, is_and, is_conjunction}
@@ -16,7 +16,7 @@ use Rattle.zf_term.proofs.MovedReferences.{moved_keeps_variables}
 use Rattle.zf_type.specs.Resolving.{referent, bound, resolved, resolved_all, resolved_links, resolved_ranges, resolved_part}
 use Rattle.zf_type.specs.Scopes.{Scope, Var, last_named, with_local, with_comp, with_global, meaning}
 use Rattle.zf_tree.specs.Names.{spelling}
-use Rattle.zf_type.proofs.Filling.{onto_behind}
+use Rattle.zf_term.proofs.Behind.{onto_behind}
 use Rattle.zf_enum.specs.Property.{place_named, greatest_place, due}
 
 -- ---- places
@@ -84,20 +84,12 @@ mutual
   term_within n s rs (text.constant l c) h k = k
   term_within n s rs (text.empty_set l e) h k = term_within n s rs e h k
   term_within n s rs (text.bracket l e) h k = term_within n s rs e h k
-  term_within n s rs (text.tuple l es) h k = all_within n s rs es h k
-  term_within n s rs (text.display l es) h k = all_within n s rs es h k
-  term_within n s rs (text.product l es) h k = all_within n s rs es h k
+  term_within n s rs (text.listed l form es) h k = all_within n s rs es h k
   term_within n s rs (text.builder l ds p e) h k =
       part_within n (bound s ds) (part_onto (ranges_onto rs (resolved_ranges s ds)) (resolved_part (bound s ds) p)) e h
       (part_within n (bound s ds) (ranges_onto rs (resolved_ranges s ds)) p h (ranges_within n s rs ds h k))
-  term_within n s rs (text.prefixed l op e) h k = term_within n s rs e h k
-  term_within n s rs (text.inverse l e) h k = term_within n s rs e h k
-  term_within n s rs (text.negated l e) h k = term_within n s rs e h k
-  term_within n s rs (text.image l a b) h k = term_within n s (onto rs (resolved s a)) b h (term_within n s rs a h k)
-  term_within n s rs (text.applied l a b) h k = term_within n s (onto rs (resolved s a)) b h (term_within n s rs a h k)
-  term_within n s rs (text.infixed l op a b) h k = term_within n s (onto rs (resolved s a)) b h (term_within n s rs a h k)
-  term_within n s rs (text.arrow l op a b) h k = term_within n s (onto rs (resolved s a)) b h (term_within n s rs a h k)
-  term_within n s rs (text.connected l op a b) h k = term_within n s (onto rs (resolved s a)) b h (term_within n s rs a h k)
+  term_within n s rs (text.unary l op e) h k = term_within n s rs e h k
+  term_within n s rs (text.binary l op a b) h k = term_within n s (onto rs (resolved s a)) b h (term_within n s rs a h k)
   term_within n s rs (text.chain l e ks) h k = links_within n s (onto rs (resolved s e)) ks h (term_within n s rs e h k)
   term_within n s rs (text.quantified l q ds p e) h k =
       term_within n (bound s ds) (part_onto (ranges_onto rs (resolved_ranges s ds)) (resolved_part (bound s ds) p)) e h

@@ -33,7 +33,7 @@ pub fn checked_in<'a>(
     ensures stop { IfErr result (λ s. IfAnswered s (UnreadAnswer file.now source.now)) }
 {
     let spec = spec_in(alloc, trees, file, source)?;
-    let checked = check_spec(alloc, arena, spec)?;
+    let checked = check_spec(alloc, arena, &spec)?;
     Ok(checked)
 }
 

@@ -6,16 +6,14 @@ ghost use Rattle.zf_finite.specs.Finite as spec;
 ghost use Rattle.zf_enum.specs.Parts.{BoundsAt};
 
 use crate::weight::weight;
-use bumpalo::Bump;
 use std::alloc::AllocError;
 use zf_data::arena::Items;
-use zf_extent::kept::direct;
+use zf_extent::infinite::direct;
 use zf_meaning::env::Env;
 use zf_term::globals::{Domain, Globals};
 
 /// The place of the lightest declared set that bounds, or their number where none does. Which one it is makes a difference to time alone.
 pub(crate) fn lightest_bounding<'a>(
-    arena: &'a Bump,
     domains: &[Domain<'a>],
     env: &Env<'_, 'a>,
 ) -> Result<usize, AllocError>
@@ -29,7 +27,7 @@ pub(crate) fn lightest_bounding<'a>(
     let mut least = usize::MAX;
     for place in 0..domains.len() {
         if bounds(&domains[place], globals) {
-            let next = weight(arena, &domains[place], env)?;
+            let next = weight(&domains[place], env)?;
             if next < least {
                 best = place;
                 least = next;

@@ -11,7 +11,6 @@ use crate::known::{Known, all_known};
 use crate::lack::Lack;
 use crate::ranges::range;
 use crate::start_fault::StartFault;
-use bumpalo::Bump;
 use std::alloc::Global;
 use zf_meaning::env::Env;
 use zf_term::globals::Component;
@@ -20,7 +19,6 @@ use zf_walk::Range;
 /// The range of each component.
 pub(crate) fn ranges<'a>(
     alloc: Global,
-    arena: &'a Bump,
     components: &[Component<'a>],
     env: &Env<'_, 'a>,
 ) -> Result<Vec<Range<Known>>, StartFault>
@@ -30,7 +28,7 @@ pub(crate) fn ranges<'a>(
 {
     let mut ranges = Vec::with_capacity(alloc, components.len())?;
     for place in 0..components.len() {
-        ranges.push(range_at(alloc, arena, &components[place], place, env)?)?;
+        ranges.push(range_at(alloc, &components[place], place, env)?)?;
     }
     Ok(ranges)
 }
@@ -38,7 +36,6 @@ pub(crate) fn ranges<'a>(
 /// The range of the component at this place.
 fn range_at<'a>(
     alloc: Global,
-    arena: &'a Bump,
     component: &Component<'a>,
     place: usize,
     env: &Env<'_, 'a>,
@@ -47,7 +44,7 @@ fn range_at<'a>(
     ensures is { IfOk result (IsOneRange (environment_of env.now) (comp_of component.now)) }
     ensures refused { IfErr result (IsOutBy (environment_of env.now) (comp_of component.now) place) }
 {
-    match range(alloc, arena, component.domains.get().as_slice(), env) {
+    match range(alloc, component.domains.get().as_slice(), env) {
         Ok(values) => Ok(Range {
             values: all_known(alloc, values)?,
         }),

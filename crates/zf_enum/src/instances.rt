@@ -45,7 +45,7 @@ impl<'s, 'e, 'g, 'a> Instances<'s, 'e, 'g, 'a> {
         ensures begins { IfOk result (λ i. Begins (environment_of env.now) (schema_of flat.now) (option_copied after.entry) (planted_goal i.search) i.search.stage) }
         ensures refused { IfErr result (Refuses (environment_of env.now) (schema_of flat.now).comps) }
     {
-        let ranges = ranges(alloc, arena, flat.components.as_slice(), env)?;
+        let ranges = ranges(alloc, flat.components.as_slice(), env)?;
         let planting = plant_all(alloc, arena, flat.conjuncts.as_slice())?;
         let Planting { leaves, forest } = planting;
         let property = Property {

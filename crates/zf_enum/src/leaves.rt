@@ -1,8 +1,8 @@
 //! The values of a declared set that is no disjunction.
 ghost use Rattle.std.specs.Prelude.{◌≡◌, true, IfOk, IfErr};
 ghost use Rattle.zf_term.specs.Definitions.{plain, carrier};
+ghost use Rattle.zf_term.specs.ResolvedTrees.{resolved_of};
 ghost use Rattle.zf_term.specs.Types.{type_of};
-ghost use Rattle.zf_term.specs.Written.{written_of};
 ghost use Rattle.zf_value.specs.Sets.{IsRegularSet, IsRegularOutcome};
 ghost use Rattle.zf_meaning.specs.Environments.{globally};
 ghost use Rattle.zf_meaning.specs.Envs.{environment_of};
@@ -16,46 +16,37 @@ use crate::kept::kept;
 use crate::lack::Lack;
 use crate::members::{members_among, members_of};
 use crate::of_type::OfType;
-use bumpalo::Bump;
 use std::alloc::{AllocError, Global};
-use zf_extent::kept::direct;
+use zf_extent::infinite::direct;
 use zf_meaning::carrier::carrier_of;
 use zf_meaning::described::Described;
 use zf_meaning::env::Env;
 use zf_meaning::value::{described_in, value_of};
-use zf_resolved::kept::resolved;
 use zf_term::resolved::Resolved;
-use zf_term::written::Written;
 use zf_term::ztype::ZType;
 use zf_value::value::{Outcome, Value};
 
 /// The members of a set that a declaration names, which is no infinite one.
 pub(crate) fn of_plain<'a>(
     alloc: Global,
-    arena: &'a Bump,
-    set: &Written<'a>,
+    set: &Resolved<'a>,
     env: &Env<'_, 'a>,
 ) -> Result<Vec<Value>, Lack>
-    ensures is { spec.bounds (environment_of env.now).globals (plain (written_of set.now)) ≡ true → IfOk result (λ xs. IsAllOf (environment_of env.now) (plain (written_of set.now)) xs.items) }
+    ensures is { spec.bounds (environment_of env.now).globals (plain (resolved_of set.now)) ≡ true → IfOk result (λ xs. IsAllOf (environment_of env.now) (plain (resolved_of set.now)) xs.items) }
     ensures regular { IfOk result (λ xs. IsRegularSet xs.items) }
-    ensures out { spec.bounds (environment_of env.now).globals (plain (written_of set.now)) ≡ true → IfErr result (λ lack. Tells lack (IsSetOut (environment_of env.now) (plain (written_of set.now)))) }
+    ensures out { spec.bounds (environment_of env.now).globals (plain (resolved_of set.now)) ≡ true → IfErr result (λ lack. Tells lack (IsSetOut (environment_of env.now) (plain (resolved_of set.now)))) }
 {
-    let outcome = outcome_of(arena, set, env)?;
+    let outcome = outcome_of(set, env)?;
     members_of(alloc, &outcome)
 }
 
 /// The outcome of the set that a declaration names. No component is in scope there.
-fn outcome_of<'a>(
-    arena: &'a Bump,
-    set: &Written<'a>,
-    env: &Env<'_, 'a>,
-) -> Result<Outcome, AllocError>
-    ensures is { IfOk result (HasOutcome (globally (environment_of env.now)) (written_of set.now)) }
+fn outcome_of<'a>(set: &Resolved<'a>, env: &Env<'_, 'a>) -> Result<Outcome, AllocError>
+    ensures is { IfOk result (HasOutcome (globally (environment_of env.now)) (resolved_of set.now)) }
     ensures regular { IfOk result IsRegularOutcome }
 {
-    let term: Resolved<'a> = resolved(set, arena)?;
     let none: &[Value] = &[];
-    value_of(&term, &none, env)
+    value_of(set, &none, env)
 }
 
 /// The members of the carrier of a type without numbers.
@@ -75,22 +66,20 @@ pub(crate) fn of_carrier<'a>(
 /// Those of the values that lie in the set that a declaration names.
 pub(crate) fn among_plain<'a>(
     alloc: Global,
-    arena: &'a Bump,
     values: &[Value],
-    set: &Written<'a>,
+    set: &Resolved<'a>,
     env: &Env<'_, 'a>,
 ) -> Result<Vec<Value>, Lack>
     requires { IsRegularSet values.now }
-    ensures is { IfOk result (λ xs. Narrows (environment_of env.now) (plain (written_of set.now)) values.now xs.items) }
-    ensures out { IfErr result (λ lack. Tells lack (IsSetOut (environment_of env.now) (plain (written_of set.now)))) }
+    ensures is { IfOk result (λ xs. Narrows (environment_of env.now) (plain (resolved_of set.now)) values.now xs.items) }
+    ensures out { IfErr result (λ lack. Tells lack (IsSetOut (environment_of env.now) (plain (resolved_of set.now)))) }
 {
     if let Some(infinite) = direct(set, env.globals()) {
         let test = InNumbers { set: infinite };
         return Ok(kept(alloc, values, &test)?);
     }
-    let term: Resolved<'a> = resolved(set, arena)?;
     let none: &[Value] = &[];
-    let described = described_in(&term, &none, env)?;
+    let described = described_in(set, &none, env)?;
     members_among(alloc, values, &described)
 }
 

@@ -11,7 +11,6 @@ use crate::bounding::lightest_bounding;
 use crate::lack::Lack;
 use crate::leaves::{among_carrier, among_plain, of_carrier, of_plain};
 use crate::members::{copied, merged};
-use bumpalo::Bump;
 use std::alloc::Global;
 use zf_meaning::env::Env;
 use zf_term::globals::Domain;
@@ -21,7 +20,6 @@ use zf_value::value::Value;
 #[cycle(listing)]
 pub(crate) fn range<'a>(
     alloc: Global,
-    arena: &'a Bump,
     domains: &[Domain<'a>],
     env: &Env<'_, 'a>,
 ) -> Result<Vec<Value>, Lack>
@@ -29,35 +27,30 @@ pub(crate) fn range<'a>(
     ensures regular { IfOk result (λ xs. IsRegularSet xs.items) }
     ensures out { spec.one_bounds (environment_of env.now).globals (sets_of (map set_of domains.now)) ≡ true → IfErr result (λ lack. Tells lack (IsOneOut (environment_of env.now) (sets_of (map set_of domains.now)))) }
 {
-    let place = lightest_bounding(arena, domains, env)?;
+    let place = lightest_bounding(domains, env)?;
     if place >= domains.len() {
         return Ok(Vec::new(alloc));
     }
-    let found = values(alloc, arena, &domains[place], env)?;
-    let found = narrowed(alloc, arena, &domains[..place], found, env)?;
-    let found = narrowed(alloc, arena, &domains[place + 1..], found, env)?;
+    let found = values(alloc, &domains[place], env)?;
+    let found = narrowed(alloc, &domains[..place], found, env)?;
+    let found = narrowed(alloc, &domains[place + 1..], found, env)?;
     Ok(found)
 }
 
 /// The values that lie in a declared set that bounds.
 #[cycle(listing)]
 #[tactic(auto, using(zf_term::proofs::SetsSeen::seen))]
-fn values<'a>(
-    alloc: Global,
-    arena: &'a Bump,
-    domain: &Domain<'a>,
-    env: &Env<'_, 'a>,
-) -> Result<Vec<Value>, Lack>
+fn values<'a>(alloc: Global, domain: &Domain<'a>, env: &Env<'_, 'a>) -> Result<Vec<Value>, Lack>
     ensures is { spec.bounds (environment_of env.now).globals (set_of domain.now) ≡ true → IfOk result (λ xs. IsAllOf (environment_of env.now) (set_of domain.now) xs.items) }
     ensures regular { IfOk result (λ xs. IsRegularSet xs.items) }
     ensures out { spec.bounds (environment_of env.now).globals (set_of domain.now) ≡ true → IfErr result (λ lack. Tells lack (IsSetOut (environment_of env.now) (set_of domain.now))) }
 {
     match domain {
-        Domain::Plain(set) => of_plain(alloc, arena, set.get(), env),
+        Domain::Plain(set) => of_plain(alloc, set.get(), env),
         Domain::Carrier(ztype) => of_carrier(alloc, ztype, env),
         Domain::Either(left, right) => {
-            let left = range(alloc, arena, left.get().as_slice(), env)?;
-            let right = range(alloc, arena, right.get().as_slice(), env)?;
+            let left = range(alloc, left.get().as_slice(), env)?;
+            let right = range(alloc, right.get().as_slice(), env)?;
             Ok(merged(left, right)?)
         }
     }
@@ -67,7 +60,6 @@ fn values<'a>(
 #[cycle(narrowing)]
 fn narrowed<'a>(
     alloc: Global,
-    arena: &'a Bump,
     domains: &[Domain<'a>],
     values: Vec<Value>,
     env: &Env<'_, 'a>,
@@ -78,7 +70,7 @@ fn narrowed<'a>(
 {
     let mut found = values;
     for domain in domains {
-        found = narrowed_by(alloc, arena, domain, found, env)?;
+        found = narrowed_by(alloc, domain, found, env)?;
     }
     Ok(found)
 }
@@ -88,7 +80,6 @@ fn narrowed<'a>(
 #[tactic(auto, using(zf_term::proofs::SetsSeen::seen))]
 fn narrowed_by<'a>(
     alloc: Global,
-    arena: &'a Bump,
     domain: &Domain<'a>,
     values: Vec<Value>,
     env: &Env<'_, 'a>,
@@ -98,12 +89,12 @@ fn narrowed_by<'a>(
     ensures out { IfErr result (λ lack. Tells lack (IsSetOut (environment_of env.now) (set_of domain.now))) }
 {
     match domain {
-        Domain::Plain(set) => among_plain(alloc, arena, &values, set.get(), env),
+        Domain::Plain(set) => among_plain(alloc, &values, set.get(), env),
         Domain::Carrier(ztype) => among_carrier(alloc, &values, ztype, env),
         Domain::Either(left, right) => {
             let others = copied(alloc, &values)?;
-            let left = narrowed(alloc, arena, left.get().as_slice(), values, env)?;
-            let right = narrowed(alloc, arena, right.get().as_slice(), others, env)?;
+            let left = narrowed(alloc, left.get().as_slice(), values, env)?;
+            let right = narrowed(alloc, right.get().as_slice(), others, env)?;
             Ok(merged(left, right)?)
         }
     }

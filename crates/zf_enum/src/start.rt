@@ -38,7 +38,7 @@ impl<'s, 'e, 'g, 'a> Bindings<'s, 'e, 'g, 'a> {
         ensures begins { IfOk result (λ b. BeginsCounting (environment_of env.now) (schema_of flat.now) (option_copied after.entry) b) }
         ensures refused { IfErr result (Refuses (environment_of env.now) (schema_of flat.now).comps) }
     {
-        let ranges = ranges(alloc, arena, flat.components.as_slice(), env)?;
+        let ranges = ranges(alloc, flat.components.as_slice(), env)?;
         let conjuncts = resolved(alloc, arena, flat.conjuncts.as_slice())?;
         Ok(Bindings::over(alloc, Property { conjuncts, env }, ranges, after)?)
     }

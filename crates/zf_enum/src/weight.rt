@@ -1,38 +1,26 @@
 //! How many values a declared set may have, as far as it can be told without listing them. It decides what is listed first, and nothing that is found.
-use bumpalo::Bump;
 use std::alloc::AllocError;
 use zf_meaning::described::Described;
 use zf_meaning::env::Env;
 use zf_meaning::found::Found;
 use zf_meaning::value::described_in;
-use zf_resolved::kept::resolved;
 use zf_term::globals::Domain;
 use zf_term::resolved::Resolved;
-use zf_term::written::Written;
 use zf_value::lent::Lent;
 use zf_value::value::Value;
 
 /// The weight of a declared set; the greatest where it is not known.
-pub(crate) fn weight<'a>(
-    arena: &'a Bump,
-    domain: &Domain<'a>,
-    env: &Env<'_, 'a>,
-) -> Result<usize, AllocError> {
+pub(crate) fn weight<'a>(domain: &Domain<'a>, env: &Env<'_, 'a>) -> Result<usize, AllocError> {
     match domain {
-        Domain::Plain(set) => plain_weight(arena, set.get(), env),
+        Domain::Plain(set) => plain_weight(set.get(), env),
         Domain::Carrier(_) => Ok(usize::MAX),
         Domain::Either(_, _) => Ok(usize::MAX),
     }
 }
 
-fn plain_weight<'a>(
-    arena: &'a Bump,
-    set: &Written<'a>,
-    env: &Env<'_, 'a>,
-) -> Result<usize, AllocError> {
-    let term: Resolved<'a> = resolved(set, arena)?;
+fn plain_weight<'a>(set: &Resolved<'a>, env: &Env<'_, 'a>) -> Result<usize, AllocError> {
     let none: &[Value] = &[];
-    let described = described_in(&term, &none, env)?;
+    let described = described_in(set, &none, env)?;
     Ok(weight_of(&described))
 }
 

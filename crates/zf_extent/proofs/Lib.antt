@@ -1,3 +1,2 @@
 pub mod FirstLines
-pub mod WrittenLines
 pub mod SameOffences

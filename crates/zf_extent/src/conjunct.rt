@@ -4,8 +4,8 @@ ghost use Rattle.zf_term.specs.Definitions.{conjunct_of, globals_of};
 ghost use Rattle.zf_term.specs.FirstNamed.{or_else};
 ghost use Rattle.zf_extent.specs.Extents as extents;
 
-use crate::{infinite, kept};
-use zf_term::conjunct::{Conjunct, Statement};
+use crate::infinite;
+use zf_term::conjunct::Conjunct;
 use zf_term::globals::Globals;
 
 /// The line that was found before, or that of the first name in the conjunct that offends.
@@ -17,8 +17,5 @@ pub fn offending_after<'a>(
 ) -> Option<u32>
     ensures { result ≡ or_else found (extents.first (extents.offending (globals_of globals.now) (conjunct_of conjunct.now))) }
 {
-    match conjunct.statement.get() {
-        Statement::Written(term) => kept::offending_after(term, found, globals),
-        Statement::Made(term) => infinite::offending_after(term, found, globals),
-    }
+    infinite::offending_after(conjunct.term.get(), found, globals)
 }

@@ -3,5 +3,3 @@
 
 pub mod conjunct;
 pub mod infinite;
-pub mod kept;
-mod texts;

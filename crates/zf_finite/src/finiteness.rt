@@ -10,7 +10,7 @@ ghost use Rattle.zf_finite.specs.Finite.{IsFinite};
 use thiserror::Error;
 use zf_data::arena::Items;
 use zf_extent::conjunct::offending_after;
-use zf_extent::kept::{direct, offending_within_after};
+use zf_extent::infinite::{direct, offending_within_after};
 use zf_term::conjunct::Conjunct;
 use zf_term::globals::{Component, Domain, Flat, Globals};
 

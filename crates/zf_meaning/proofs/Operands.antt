@@ -7,7 +7,7 @@ use Rattle.std.proofs.lemmas.Result.{IfOk-weaker}
 use Rattle.zf_tree.specs.declared.symbol.Arrow.{Arrow}
 use Rattle.zf_tree.specs.declared.symbol.Infix.TheVariants.{UpTo}
 use Rattle.zf_tree.specs.declared.symbol.Prefix.TheVariants as prefix
-use Rattle.zf_tree.specs.declared.tree.Sign.TheVariants.{Symbol}
+use Rattle.zf_tree.specs.declared.operator.Sign.TheVariants.{Symbol}
 use Rattle.zf_tree.specs.declared.operator.Listed.{Listed}
 use Rattle.zf_tree.specs.declared.operator.Listed.TheVariants as form
 use Rattle.zf_tree.specs.declared.operator.Operator.{Operator}

@@ -5,7 +5,7 @@ use Rattle.zf_tree.specs.declared.symbol.Constant.TheVariants.{Integers}
 use Rattle.zf_tree.specs.declared.symbol.Infix.TheVariants.{Div}
 use Rattle.zf_tree.specs.declared.symbol.Prefix.TheVariants.{Size}
 use Rattle.zf_tree.specs.declared.symbol.Relation.TheVariants.{Member, NotMember}
-use Rattle.zf_tree.specs.declared.tree.Sign.TheVariants.{Symbol}
+use Rattle.zf_tree.specs.declared.operator.Sign.TheVariants.{Symbol}
 use Rattle.zf_tree.specs.declared.operator.Operator.TheVariants.{Function}
 use Rattle.zf_tree.specs.declared.operator.Unary.TheVariants.{Sign}
 use Rattle.zf_term.specs.ResolvedTrees.{ResolvedTree, number, constant, empty_set, unary, binary, chain, no_links, link}

@@ -16,9 +16,8 @@ use zf_families::cross::cross;
 use zf_families::function::{partial_functions, relations, total_functions};
 use zf_families::injection::{partial_injections, total_injections};
 use zf_families::power::power;
-use zf_tree::operator::{Listed, Operator, Unary};
+use zf_tree::operator::{Listed, Operator, Sign, Unary};
 use zf_tree::symbol::{Arrow, Infix, Prefix};
-use zf_tree::tree::Sign;
 use zf_value::lent::Lent;
 use zf_value::number::{difference, interval, modulus, negation, product, quotient, sum};
 use zf_value::relation::{

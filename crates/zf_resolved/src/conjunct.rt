@@ -1,9 +1,9 @@
-//! Conjuncts resolved.
+//! Conjuncts, by the places in their schema.
 ghost use Rattle.std.specs.Prelude.{◌≡◌, IfOk};
 ghost use Rattle.zf_term.specs.Definitions.{conjunct_of};
 ghost use Rattle.zf_term.specs.ResolvedTrees.{resolved_of};
 
-use crate::statement;
+use crate::moving::{copy, moved};
 use bumpalo::Bump;
 use std::alloc::AllocError;
 use zf_term::conjunct::Conjunct;
@@ -14,7 +14,7 @@ pub fn resolved<'a>(conjunct: &Conjunct<'a>, arena: &'a Bump) -> Result<Resolved
     ensures { IfOk result (λ t. resolved_of t ≡ conjunct_of conjunct.now) }
 {
     match &conjunct.places {
-        None => statement::resolved(conjunct.statement.get(), arena),
-        Some(places) => statement::moved(conjunct.statement.get(), arena, places.get().as_slice()),
+        None => copy(conjunct.term.get(), arena),
+        Some(places) => moved(conjunct.term.get(), arena, places.get().as_slice()),
     }
 }

@@ -1,8 +1,5 @@
-//! Terms that are kept, resolved, and resolved terms with their components numbered anew.
+//! Resolved terms and conjuncts, with their components numbered anew.
 #![tactic(auto)]
 
 pub mod conjunct;
-mod filling;
-pub mod kept;
 pub mod moving;
-mod statement;

@@ -3,6 +3,7 @@ use Rattle.std.proofs.Common.{◌≡◌, ℕ, Bool, ◌&&◌, if◌then◌else�
 use Rattle.std.proofs.lemmas.List.{take-append-drop}
 use Rattle.std.proofs.lemmas.Option.{none-some}
 use Rattle.zf_tree.specs.declared.symbol.Relation.{Relation}
+use Rattle.zf_tree.specs.declared.operator.Listed.{Listed}
 use Rattle.zf_tree.specs.Trees as text
 use Rattle.zf_tree.specs.Trees.{Tree, Trees, no_trees, tree, Links, VarDecls, no_decls, var_decl, Perhaps}
 use Rattle.zf_reference.specs.declared.reference.Reference.{Reference}
@@ -15,7 +16,7 @@ use Rattle.zf_type.specs.Resolving.{referent, bound, resolved, resolved_all, res
 use Rattle.zf_type.specs.Rules.{Sort, typed, predicate, set_of}
 use Rattle.zf_type.specs.Scopes.{Scope, Var, within, last_named, with_local, with_comp, with_global, meaning}
 use Rattle.zf_tree.specs.Names.{spelling}
-use Rattle.zf_type.specs.Typing.{IsOf, AreOf, AreSetsOf, AllAreOf, AreLinked, Declare, Constrains, Builds}
+use Rattle.zf_type.specs.Typing.{IsOf, AreMembers, member_sort, AreLinked, Declare, Constrains, Builds}
 use Rattle.zf_type.proofs.ResolvedAlike.{resolved_within}
 use Rattle.zf_schema.specs.Expressions.{outside}
 use Rattle.zf_schema.specs.WellTypedGlobals.{ExtentsKept}
@@ -74,36 +75,19 @@ mutual
   term_same s (text.constant l c) z more p = (refl, refl)
   term_same s (text.empty_set l e) z more p = (refl, refl)
   term_same s (text.bracket l e) z more p = term_same s e z more p.0
-  term_same s (text.tuple l es) z more p = (refl, row_same s es p.0 more p.1)
-  term_same s (text.display l es) z more p = (refl, members_same s es p.0 more p.1)
-  term_same s (text.product l es) z more p = (refl, sets_same s es p.0 more p.1)
+  term_same s (text.listed l form es) z more p = (refl, members_same s form es p.0 more p.2)
   term_same s (text.builder l ds c e) z more p =
       (refl, three _ _ _ _ _ _ (ranges_same s ds p.0 more p.3) (condition_same s ds p.0 c more p.3 p.4) (built_same s ds p.0 e p.1 more p.3 p.5))
-  term_same s (text.prefixed l op e) z more p = (refl, (term_same s e p.0 more p.1).1)
-  term_same s (text.inverse l e) z more p = (refl, (term_same s e p.0 more p.1).1)
-  term_same s (text.negated l e) z more p = (refl, (term_same s e p.0 more p.1).1)
-  term_same s (text.image l a b) z more p = (refl, both _ _ _ _ (term_same s a p.0 more p.2).1 (term_same s b p.1 more p.3).1)
-  term_same s (text.applied l a b) z more p = (refl, both _ _ _ _ (term_same s a p.0 more p.2).1 (term_same s b p.1 more p.3).1)
-  term_same s (text.infixed l op a b) z more p = (refl, both _ _ _ _ (term_same s a p.0 more p.2).1 (term_same s b p.1 more p.3).1)
-  term_same s (text.arrow l op a b) z more p = (refl, both _ _ _ _ (term_same s a p.0 more p.2).1 (term_same s b p.1 more p.3).1)
-  term_same s (text.connected l op a b) z more p = (refl, both _ _ _ _ (term_same s a p.0 more p.2).1 (term_same s b p.1 more p.3).1)
+  term_same s (text.unary l op e) z more p = (refl, (term_same s e p.0 more p.1).1)
+  term_same s (text.binary l op a b) z more p = (refl, both _ _ _ _ (term_same s a p.0 more p.2).1 (term_same s b p.1 more p.3).1)
   term_same s (text.chain l e ks) z more p = (refl, both _ _ _ _ (term_same s e (typed p.0) more p.1).1 (links_same s (typed p.0) ks more p.2))
   term_same s (text.quantified l q ds c e) z more p =
       let body = bound_same s ds p.0 e more p.2 (term_same (within s p.0) e predicate more p.4) in
       (refl, three _ _ _ _ _ _ (ranges_same s ds p.0 more p.2) (condition_same s ds p.0 c more p.2 p.3) body.1)
 
-  row_same : (s : Scope) (es : Trees) (us : Tys) (more : List Defined) → AreOf s es us → Same s.globals more (λ g. all_offending g (resolved_all s es))
-  row_same s no_trees us more p = refl
-  row_same s (tree e es) us more p = both _ _ _ _ (term_same s e (typed p.0) more p.2).1 (row_same s es p.1 more p.3)
-
-  sets_same : (s : Scope) (es : Trees) (us : Tys) (more : List Defined) → AreSetsOf s es us → Same s.globals more (λ g. all_offending g (resolved_all s es))
-  sets_same s no_trees us more p = refl
-  sets_same s (tree e es) us more p = both _ _ _ _ (term_same s e (set_of p.0) more p.2).1 (sets_same s es p.1 more p.3)
-
-  members_same : (s : Scope) (es : Trees) (u : Ty) (more : List Defined) → AllAreOf s es u → Same s.globals more (λ g. all_offending g (resolved_all s es))
-  members_same s no_trees u more p = refl
-  members_same s (tree e no_trees) u more p = both _ _ _ _ (term_same s e (typed u) more p).1 refl
-  members_same s (tree e (tree f es)) u more p = both _ _ _ _ (term_same s e (typed u) more p.0).1 (members_same s (tree f es) u more p.1)
+  members_same : (s : Scope) (form : Listed) (es : Trees) (us : Tys) (more : List Defined) → AreMembers form s es us → Same s.globals more (λ g. all_offending g (resolved_all s es))
+  members_same s form no_trees us more p = refl
+  members_same s form (tree e es) us more p = both _ _ _ _ (term_same s e (member_sort form p.0) more p.2).1 (members_same s form es p.1 more p.3)
 
   links_same : (s : Scope) (x : Sort) (ks : Links) (more : List Defined) → AreLinked s x ks → Same s.globals more (λ g. links_offending g (resolved_links s ks))
   links_same s x text.no_links more p = refl

@@ -3,19 +3,17 @@ ghost use Rattle.std.specs.Prelude.{◌≡◌, [], map, IfOk, OnOk};
 ghost use Rattle.zf_tree.specs.Trees.{boxes_of, box_of, paragraph_of, decl_of, tree_of};
 ghost use Rattle.zf_term.specs.Definitions.{globals_of};
 ghost use Rattle.zf_term.specs.Numbers.{next_number};
-ghost use Rattle.zf_schema.specs.Checking.{a_paragraph, a_box, items_in, IsChecked};
+ghost use Rattle.zf_schema.specs.Checking.{a_paragraph, a_box, items, items_in, IsChecked};
 ghost use Rattle.zf_schema.specs.Runs.{Notes, Runs, RunsOne};
 
 use crate::paragraph::{define, define_box};
 use bumpalo::Bump;
-use bumpalo::collections::into_bump_slice;
 use std::alloc::{AllocError, Global};
 use zf_data::Items;
-use zf_data::arena::{Boxed, Items as ArenaItems};
+use zf_data::arena::Boxed;
 use zf_term::globals::Globals;
 use zf_tree::tree::{Decl, Name, Paragraph, Spec, Term, ZBox};
 use zf_type::fault::{Refusal, TypeFault};
-use zf_type::slate::Slate;
 
 /// What a text defines, and its faults in order.
 #[derive(Drop)]
@@ -24,14 +22,14 @@ pub struct Checked<'a> {
     pub faults: Items<TypeFault>,
 }
 
-/// Checks a text. Each paragraph or box that is not well typed has one fault, and defines nothing. What the text defines keeps its
-/// terms, which stand in an arena as long.
+/// Checks a text. Each paragraph or box that is not well typed has one fault, and defines nothing. What the text defines stands in the
+/// arena, and keeps the names of the text.
 pub fn check_spec<'a>(
     alloc: Global,
     arena: &'a Bump,
-    spec: Spec<'a>,
+    spec: &Spec<'a>,
 ) -> Result<Checked<'a>, AllocError>
-    ensures { IfOk result (λ c. IsChecked (boxes_of spec.entry) (globals_of c.globals) c.faults) }
+    ensures { IfOk result (λ c. IsChecked (boxes_of spec.now) (globals_of c.globals) c.faults) }
 {
     let globals = Globals::with_room(alloc, spec.boxes.len())?;
     let mut checked = Checked {
@@ -39,61 +37,64 @@ pub fn check_spec<'a>(
         faults: Items::new(alloc),
     };
     let mut next = 0;
-    let mut slate = Slate::new(alloc, arena);
-    for each in spec.boxes.items {
-        check_box(arena, &mut checked, &mut next, &mut slate, each)?;
-    }
+    check_boxes(arena, &mut checked, &mut next, spec.boxes.as_slice())?;
     Ok(checked)
 }
 
-/// Checks a box. As all that follow it keeps the number of the next given set or free type.
+/// Checks boxes, one after another. As all that follow it keeps the number of the next given set or free type.
+fn check_boxes<'a>(
+    arena: &'a Bump,
+    checked: &mut Checked<'a>,
+    next: &mut usize,
+    boxes: &[ZBox<'a>],
+) -> Result<(), AllocError>
+    requires { next.old ≡ next_number (globals_of checked.old.globals) }
+    ensures runs { OnOk result (Runs checked.old (items (map box_of boxes.now)) checked.new) }
+    ensures numbered { next.new ≡ next_number (globals_of checked.new.globals) }
+{
+    for each in boxes {
+        check_box(arena, checked, next, each)?;
+    }
+    Ok(())
+}
+
 fn check_box<'a>(
     arena: &'a Bump,
     checked: &mut Checked<'a>,
     next: &mut usize,
-    slate: &mut Slate<'a>,
-    each: ZBox<'a>,
+    each: &ZBox<'a>,
 ) -> Result<(), AllocError>
     requires { next.old ≡ next_number (globals_of checked.old.globals) }
-    ensures runs { OnOk result (Runs checked.old (items_in (box_of each.entry)) checked.new) }
+    ensures runs { OnOk result (Runs checked.old (items_in (box_of each.now)) checked.new) }
     ensures numbered { next.new ≡ next_number (globals_of checked.new.globals) }
 {
     match each {
-        ZBox::Zed(paragraphs) => check_paragraphs(arena, checked, next, slate, kept(paragraphs)),
+        ZBox::Zed(paragraphs) => check_paragraphs(arena, checked, next, paragraphs.as_slice()),
         ZBox::SchemaBox(name, decls, predicates) => {
             check_schema_box(
                 arena,
                 checked,
                 next,
-                slate,
-                &name,
-                kept(decls),
-                kept(predicates),
+                name,
+                decls.as_slice(),
+                predicates.as_slice(),
             )
         }
     }
-}
-
-/// The items, for as long as the arena that they stand in.
-fn kept<'a, T: Drop>(items: ArenaItems<'a, T>) -> &'a [T]
-    ensures { result.now ≡ items.entry }
-{
-    into_bump_slice(items.into_vec())
 }
 
 fn check_paragraphs<'a>(
     arena: &'a Bump,
     checked: &mut Checked<'a>,
     next: &mut usize,
-    slate: &mut Slate<'a>,
-    paragraphs: &'a [Paragraph<'a>],
+    paragraphs: &[Paragraph<'a>],
 ) -> Result<(), AllocError>
     requires { next.old ≡ next_number (globals_of checked.old.globals) }
     ensures runs { OnOk result (Runs checked.old (map a_paragraph (map paragraph_of paragraphs.now)) checked.new) }
     ensures numbered { next.new ≡ next_number (globals_of checked.new.globals) }
 {
     for paragraph in paragraphs {
-        check_paragraph(arena, checked, next, slate, paragraph)?;
+        check_paragraph(arena, checked, next, paragraph)?;
     }
     Ok(())
 }
@@ -102,14 +103,13 @@ fn check_paragraph<'a>(
     arena: &'a Bump,
     checked: &mut Checked<'a>,
     next: &mut usize,
-    slate: &mut Slate<'a>,
-    paragraph: &'a Paragraph<'a>,
+    paragraph: &Paragraph<'a>,
 ) -> Result<(), AllocError>
     requires { next.old ≡ next_number (globals_of checked.old.globals) }
     ensures runs { OnOk result (RunsOne checked.old (a_paragraph (paragraph_of paragraph.now)) checked.new) }
     ensures numbered { next.new ≡ next_number (globals_of checked.new.globals) }
 {
-    let defined = define(arena, &mut checked.globals, next, slate, paragraph);
+    let defined = define(arena, &mut checked.globals, next, paragraph);
     note(&mut checked.faults, defined)
 }
 
@@ -117,16 +117,15 @@ fn check_schema_box<'a>(
     arena: &'a Bump,
     checked: &mut Checked<'a>,
     next: &mut usize,
-    slate: &mut Slate<'a>,
     name: &Name<'a>,
-    decls: &'a [Decl<'a>],
-    predicates: &'a [Boxed<'a, Term<'a>>],
+    decls: &[Decl<'a>],
+    predicates: &[Boxed<'a, Term<'a>>],
 ) -> Result<(), AllocError>
     requires { next.old ≡ next_number (globals_of checked.old.globals) }
     ensures runs { OnOk result (RunsOne checked.old (a_box name.now (map decl_of decls.now) (map tree_of predicates.now)) checked.new) }
     ensures numbered { next.new ≡ next_number (globals_of checked.new.globals) }
 {
-    let defined = define_box(arena, &mut checked.globals, slate, name, decls, predicates);
+    let defined = define_box(arena, &mut checked.globals, name, decls, predicates);
     note(&mut checked.faults, defined)
 }
 

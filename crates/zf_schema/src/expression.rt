@@ -23,28 +23,25 @@ use zf_calculus::stop::Stop;
 use zf_term::globals::{Flat, Globals};
 use zf_tree::tree::{Decl, Name, SchemaExp};
 use zf_type::fault::Refusal;
-use zf_type::slate::Slate;
 
 /// The schema that the expression is.
 pub fn schema_of_expression<'a>(
-    exp: &'a SchemaExp<'a>,
+    exp: &SchemaExp<'a>,
     arena: &'a Bump,
     globals: &Globals<'a>,
-    slate: &mut Slate<'a>,
 ) -> Result<Flat<'a>, Refusal>
     ensures ok { IfOk result (λ f. IsSchema (globals_of globals.now) (tree.schema_of exp.now) (schema_of f)) }
     ensures wrong { IfErr result (λ e. IfFault e (OffendsSchema (globals_of globals.now) (tree.schema_of exp.now))) }
 {
-    Ok(growing_schema(exp, arena, globals, slate)?.flat)
+    Ok(growing_schema(exp, arena, globals)?.flat)
 }
 
 /// The same schema, with what is left of the limits.
 #[tactic(auto, using(zf_tree::proofs::SchemaSeen::seen))]
 fn growing_schema<'a>(
-    exp: &'a SchemaExp<'a>,
+    exp: &SchemaExp<'a>,
     arena: &'a Bump,
     globals: &Globals<'a>,
-    slate: &mut Slate<'a>,
 ) -> Result<Growing<'a>, Refusal>
     ensures ok { IfOk result (λ g. IsSchema (globals_of globals.now) (tree.schema_of exp.now) (schema_of g.flat)) }
     ensures growing { IfOk result (λ g. IsGrowing g) }
@@ -54,19 +51,18 @@ fn growing_schema<'a>(
         SchemaExp::Text(decls, predicates) => growing_text(
             arena,
             globals,
-            slate,
             decls.as_slice(),
             predicates.as_slice(),
         ),
         SchemaExp::Ref(reference) => referred(arena, globals, reference, Spare::none()),
         SchemaExp::Both(left, right) => {
-            let of_left = growing_schema(left.get(), arena, globals, slate)?;
-            let of_right = growing_schema(right.get(), arena, globals, slate)?;
+            let of_left = growing_schema(left.get(), arena, globals)?;
+            let of_right = growing_schema(right.get(), arena, globals)?;
             conjunction(arena, name_line(right.get()), of_left, of_right)
         }
         SchemaExp::Or(line, left, right) => {
-            let of_left = growing_schema(left.get(), arena, globals, slate)?;
-            let of_right = growing_schema(right.get(), arena, globals, slate)?;
+            let of_left = growing_schema(left.get(), arena, globals)?;
+            let of_right = growing_schema(right.get(), arena, globals)?;
             disjunction(
                 arena,
                 *line,
@@ -75,7 +71,7 @@ fn growing_schema<'a>(
                 &of_right.flat,
             )
         }
-        SchemaExp::Bracket(inner) => growing_schema(inner.get(), arena, globals, slate),
+        SchemaExp::Bracket(inner) => growing_schema(inner.get(), arena, globals),
     }
 }
 

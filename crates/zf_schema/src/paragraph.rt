@@ -22,22 +22,19 @@ use bumpalo::Bump;
 use std::alloc::AllocError;
 use zf_data::arena::{Boxed, Items, Lent, Shared};
 use zf_extent::infinite::extent_of;
-use zf_resolved::kept::resolved;
 use zf_term::fault::TypeFaultKind;
 use zf_term::globals::{Entry, Globals};
 use zf_tree::operator::Need;
 use zf_tree::tree::{Decl, Name, Paragraph, SchemaExp, Term};
 use zf_type::fault::{Refusal, refused};
-use zf_type::judge::judge;
-use zf_type::slate::Slate;
+use zf_type::judge::{Judged, judge};
 
 /// Defines what the paragraph does, or leaves the globals as they were. Keeps the number of the next given set or free type.
 pub fn define<'a>(
     arena: &'a Bump,
     globals: &mut Globals<'a>,
     next: &mut usize,
-    slate: &mut Slate<'a>,
-    paragraph: &'a Paragraph<'a>,
+    paragraph: &Paragraph<'a>,
 ) -> Result<(), Refusal>
     requires { next.old ≡ next_number (globals_of globals.old) }
     ensures ok { OnOk result (DefinesParagraph (globals_of globals.old) (paragraph_of paragraph.now) (globals_of globals.new)) }
@@ -46,7 +43,7 @@ pub fn define<'a>(
     ensures numbered { next.new ≡ next_number (globals_of globals.new) }
 {
     let count = globals.len();
-    let defined = add(arena, globals, *next, slate, paragraph);
+    let defined = add(arena, globals, *next, paragraph);
     if defined.is_err() {
         globals.truncate(count);
     } else {
@@ -72,10 +69,9 @@ fn elements(paragraph: &Paragraph<'_>) -> usize
 pub fn define_box<'a>(
     arena: &'a Bump,
     globals: &mut Globals<'a>,
-    slate: &mut Slate<'a>,
     name: &Name<'a>,
-    decls: &'a [Decl<'a>],
-    predicates: &'a [Boxed<'a, Term<'a>>],
+    decls: &[Decl<'a>],
+    predicates: &[Boxed<'a, Term<'a>>],
 ) -> Result<(), Refusal>
     ensures ok { OnOk result (Defines (globals_of globals.old) (a_box name.now (map decl_of decls.now) (map tree_of predicates.now)) (globals_of globals.new)) }
     ensures fault { IfErr result (λ e. IfFault e (λ kind line. OffendsItem (globals_of globals.old) (a_box name.now (map decl_of decls.now) (map tree_of predicates.now)) kind line)) }
@@ -83,7 +79,7 @@ pub fn define_box<'a>(
     ensures numbered { next_number (globals_of globals.new) ≡ next_number (globals_of globals.old) }
 {
     let spelled = new_name(globals, name)?;
-    let schema = text_of(arena, globals, slate, decls, predicates)?;
+    let schema = text_of(arena, globals, decls, predicates)?;
     globals.define(spelled, Entry::Schema(schema))?;
     Ok(())
 }
@@ -93,8 +89,7 @@ fn add<'a>(
     arena: &'a Bump,
     globals: &mut Globals<'a>,
     next: usize,
-    slate: &mut Slate<'a>,
-    paragraph: &'a Paragraph<'a>,
+    paragraph: &Paragraph<'a>,
 ) -> Result<(), Refusal>
     requires number { next ≡ next_number (globals_of globals.old) }
     requires small { next < 2 ^ 63 }
@@ -105,8 +100,8 @@ fn add<'a>(
     match paragraph {
         Paragraph::Given(names) => add_given(globals, next, names.as_slice()),
         Paragraph::Free(name, names) => add_free(arena, globals, next, name, names.as_slice()),
-        Paragraph::Abbrev(name, term) => add_abbreviation(arena, globals, slate, name, term),
-        Paragraph::Defs(name, exp) => add_schema(arena, globals, slate, name, exp),
+        Paragraph::Abbrev(name, term) => add_abbreviation(arena, globals, name, term.get()),
+        Paragraph::Defs(name, exp) => add_schema(arena, globals, name, exp),
     }
 }
 
@@ -161,16 +156,15 @@ fn add_constructors<'a>(
 fn add_abbreviation<'a>(
     arena: &'a Bump,
     globals: &mut Globals<'a>,
-    slate: &mut Slate<'a>,
     name: &Name<'a>,
-    term: &'a Boxed<'a, Term<'a>>,
+    term: &Term<'a>,
 ) -> Result<(), Refusal>
     ensures ok { OnOk result (DefinesParagraph (globals_of globals.old) (text.abbreviation name.now (tree_of term.now)) (globals_of globals.new)) }
     ensures fault { IfErr result (λ e. IfFault e (λ kind line. OffendsParagraph (globals_of globals.old) (text.abbreviation name.now (tree_of term.now)) kind line)) }
     ensures begun { take (length (globals_of globals.old)) (globals_of globals.new) ≡ globals_of globals.old }
 {
     let spelled = new_name(globals, name)?;
-    let entry = abbreviation_of(arena, globals, slate, term)?;
+    let entry = abbreviation_of(arena, globals, term)?;
     globals.define(spelled, entry)?;
     Ok(())
 }
@@ -178,16 +172,15 @@ fn add_abbreviation<'a>(
 fn add_schema<'a>(
     arena: &'a Bump,
     globals: &mut Globals<'a>,
-    slate: &mut Slate<'a>,
     name: &Name<'a>,
-    exp: &'a SchemaExp<'a>,
+    exp: &SchemaExp<'a>,
 ) -> Result<(), Refusal>
     ensures ok { OnOk result (DefinesParagraph (globals_of globals.old) (text.definition name.now (text.schema_of exp.now)) (globals_of globals.new)) }
     ensures fault { IfErr result (λ e. IfFault e (λ kind line. OffendsParagraph (globals_of globals.old) (text.definition name.now (text.schema_of exp.now)) kind line)) }
     ensures begun { take (length (globals_of globals.old)) (globals_of globals.new) ≡ globals_of globals.old }
 {
     let spelled = new_name(globals, name)?;
-    let schema = schema_of_expression(exp, arena, globals, slate)?;
+    let schema = schema_of_expression(exp, arena, globals)?;
     globals.define(spelled, Entry::Schema(schema))?;
     Ok(())
 }
@@ -231,20 +224,20 @@ fn all_spelled<'a>(arena: &'a Bump, names: &[Name<'a>]) -> Result<Items<'a, Lent
 fn abbreviation_of<'a>(
     arena: &'a Bump,
     globals: &Globals<'a>,
-    slate: &mut Slate<'a>,
-    term: &'a Boxed<'a, Term<'a>>,
+    term: &Term<'a>,
 ) -> Result<Entry<'a>, Refusal>
     ensures ok { IfOk result (λ e. (t : Ty) × IsOf (outside (globals_of globals.now)) (tree_of term.now) (typed t) × (definition_of e ≡ abbreviated (globals_of globals.now) t (resolved (outside (globals_of globals.now)) (tree_of term.now)))) }
     ensures fault { IfErr result (λ e. IfFault e (λ kind line. Offends (outside (globals_of globals.now)) need.Expression (tree_of term.now) kind line)) }
 {
-    let mut scope = scope_over(globals, &[], slate);
-    let judged = judge(term.get(), arena, Need::Expression, &mut scope);
-    slate.take_back(scope);
-    let judged = judged?;
-    let Some(ztype) = judged.sort.into_type() else {
+    let Judged { term, sort } = judge(
+        term,
+        arena,
+        Need::Expression,
+        &mut scope_over(globals, &[]),
+    )?;
+    let Some(ztype) = sort.into_type() else {
         unreachable!();
     };
-    let term = resolved(&judged.term, arena)?;
     let extent = extent_of(&term, globals);
     Ok(Entry::Abbrev(ztype, term, extent))
 }

@@ -2,14 +2,13 @@
 ghost use Rattle.std.specs.Prelude.{◌≡◌, ◌∷◌, [], IfErr, IfOk, OnOk, map};
 ghost use Rattle.zf_tree.specs.Trees.{decl_of, include, tree_of, vars};
 ghost use Rattle.zf_term.specs.Definitions.{comp_of, globals_of, plain, schema_of};
+ghost use Rattle.zf_term.specs.ResolvedTrees.{resolved_of};
 ghost use Rattle.zf_term.specs.Types.{type_of};
-ghost use Rattle.zf_term.specs.Written.{written_of};
 ghost use Rattle.zf_tree.specs.declared.operator.Need.TheVariants as needs;
 ghost use Rattle.zf_type.specs.Offences.{Offends};
 ghost use Rattle.zf_type.specs.Refusals.{IfFault};
 ghost use Rattle.zf_type.specs.Resolving.{resolved};
 ghost use Rattle.zf_type.specs.Rules as rules;
-ghost use Rattle.zf_type.specs.Rules.{Meets, sort_of};
 ghost use Rattle.zf_type.specs.Scopes.{scope_of};
 ghost use Rattle.zf_tree.specs.Names.{spelling};
 ghost use Rattle.zf_type.specs.Typing.{IsOf};
@@ -24,44 +23,43 @@ ghost use Rattle.zf_term.specs.Shapes as shape;
 use crate::reference::referred;
 use crate::stop::refusal;
 use bumpalo::Bump;
+use bumpalo::collections::into_bump_slice;
 use std::alloc::AllocError;
 use zf_calculus::growing::Growing;
 use zf_calculus::limits::{COMPONENTS_MAX, CONJUNCTS_MAX};
 use zf_calculus::spare::Spare;
 use zf_data::arena::{Boxed, Items, Lasting, Shared};
-use zf_term::conjunct::{Conjunct, Statement};
+use zf_term::conjunct::Conjunct;
 use zf_term::globals::{Component, Domain, Flat, Globals};
-use zf_term::written::Written;
+use zf_term::resolved::Resolved;
 use zf_term::ztype::ZType;
 use zf_tree::operator::Need;
 use zf_tree::tree::{Decl, Name, SchemaRef, Term};
 use zf_type::conjuncts::push_conjuncts;
 use zf_type::fault::Refusal;
 use zf_type::judge::{Judged, judge};
+use zf_type::locals::Locals;
 use zf_type::scope::Scope;
-use zf_type::slate::Slate;
 
 /// The schema of these declarations, and then of these predicates over them.
 pub fn text_of<'a>(
     arena: &'a Bump,
     globals: &Globals<'a>,
-    slate: &mut Slate<'a>,
-    decls: &'a [Decl<'a>],
-    predicates: &'a [Boxed<'a, Term<'a>>],
+    decls: &[Decl<'a>],
+    predicates: &[Boxed<'a, Term<'a>>],
 ) -> Result<Flat<'a>, Refusal>
     ensures ok { IfOk result (λ f. IsText (globals_of globals.now) (map decl_of decls.now) (map tree_of predicates.now) (schema_of f)) }
     ensures wrong { IfErr result (λ e. IfFault e (OffendsText (globals_of globals.now) (map decl_of decls.now) (map tree_of predicates.now))) }
 {
-    Ok(growing_text(arena, globals, slate, decls, predicates)?.flat)
+    Ok(growing_text(arena, globals, decls, predicates)?.flat)
 }
 
 /// The same schema, with what is left of the limits.
 pub fn growing_text<'a>(
     arena: &'a Bump,
     globals: &Globals<'a>,
-    slate: &mut Slate<'a>,
-    decls: &'a [Decl<'a>],
-    predicates: &'a [Boxed<'a, Term<'a>>],
+    decls: &[Decl<'a>],
+    predicates: &[Boxed<'a, Term<'a>>],
 ) -> Result<Growing<'a>, Refusal>
     ensures ok { IfOk result (λ g. IsText (globals_of globals.now) (map decl_of decls.now) (map tree_of predicates.now) (schema_of g.flat)) }
     ensures growing { IfOk result (λ g. IsGrowing g) }
@@ -69,8 +67,8 @@ pub fn growing_text<'a>(
 {
     let spare = expected(decls, predicates);
     let mut growing = Growing::with_room(arena, own_room(decls, spare))?;
-    declare_all(arena, globals, &mut growing, slate, decls, spare)?;
-    constrain_all(arena, globals, &mut growing, slate, predicates)?;
+    declare_all(arena, globals, &mut growing, decls, spare)?;
+    constrain_all(arena, globals, &mut growing, predicates)?;
     Ok(growing)
 }
 
@@ -102,8 +100,7 @@ fn declare_all<'a>(
     arena: &'a Bump,
     globals: &Globals<'a>,
     growing: &mut Growing<'a>,
-    slate: &mut Slate<'a>,
-    decls: &'a [Decl<'a>],
+    decls: &[Decl<'a>],
     spare: Spare,
 ) -> Result<(), Refusal>
     requires { IsGrowing growing.old }
@@ -112,7 +109,7 @@ fn declare_all<'a>(
     ensures wrong { IfErr result (λ e. IfFault e (OffendsDecls (globals_of globals.now) (schema_of growing.old.flat) (map decl_of decls.now))) }
 {
     for decl in decls {
-        declare(arena, globals, growing, slate, decl, spare)?;
+        declare(arena, globals, growing, decl, spare)?;
     }
     Ok(())
 }
@@ -122,8 +119,7 @@ fn declare<'a>(
     arena: &'a Bump,
     globals: &Globals<'a>,
     growing: &mut Growing<'a>,
-    slate: &mut Slate<'a>,
-    decl: &'a Decl<'a>,
+    decl: &Decl<'a>,
     spare: Spare,
 ) -> Result<(), Refusal>
     requires { IsGrowing growing.old }
@@ -133,7 +129,7 @@ fn declare<'a>(
 {
     match decl {
         Decl::Vars(names, set) => {
-            declare_names(arena, globals, growing, slate, names.as_slice(), set)
+            declare_names(arena, globals, growing, names.as_slice(), set.get())
         }
         Decl::Include(reference) => include(arena, globals, growing, reference, spare),
     }
@@ -144,16 +140,15 @@ fn declare_names<'a>(
     arena: &'a Bump,
     globals: &Globals<'a>,
     growing: &mut Growing<'a>,
-    slate: &mut Slate<'a>,
     names: &[Name<'a>],
-    set: &'a Boxed<'a, Term<'a>>,
+    set: &Term<'a>,
 ) -> Result<(), Refusal>
     requires { IsGrowing growing.old }
     ensures ok { OnOk result (DeclaresOne (globals_of globals.now) (schema_of growing.old.flat) (vars names.now (tree_of set.now)) (schema_of growing.new.flat)) }
     ensures growing { OnOk result (IsGrowing growing.new) }
     ensures wrong { IfErr result (λ e. IfFault e (CantDeclare (globals_of globals.now) (schema_of growing.old.flat) (vars names.now (tree_of set.now)))) }
 {
-    let Judged { term, sort } = judge_over(arena, globals, &[], slate, Need::Set, set)?;
+    let Judged { term, sort } = judge(set, arena, Need::Set, &mut scope_over(globals, &[]))?;
     let Some(ztype) = sort.member() else {
         unreachable!();
     };
@@ -196,12 +191,12 @@ fn add_all<'a>(
     growing: &mut Growing<'a>,
     names: &[Name<'a>],
     ztype: &ZType<'a>,
-    set: &Lasting<'a, Written<'a>>,
+    set: &Lasting<'a, Resolved<'a>>,
 ) -> Result<(), Refusal>
     requires { IsGrowing growing.old }
-    ensures ok { OnOk result (AddsAll (schema_of growing.old.flat) names.now (type_of ztype.now) (plain (written_of set.now)) (schema_of growing.new.flat)) }
+    ensures ok { OnOk result (AddsAll (schema_of growing.old.flat) names.now (type_of ztype.now) (plain (resolved_of set.now)) (schema_of growing.new.flat)) }
     ensures growing { OnOk result (IsGrowing growing.new) }
-    ensures wrong { IfErr result (λ e. IfFault e (OffendsNames (schema_of growing.old.flat) names.now (type_of ztype.now) (plain (written_of set.now)))) }
+    ensures wrong { IfErr result (λ e. IfFault e (OffendsNames (schema_of growing.old.flat) names.now (type_of ztype.now) (plain (resolved_of set.now)))) }
 {
     for name in names {
         add(arena, growing, name, ztype, set)?;
@@ -215,12 +210,12 @@ fn add<'a>(
     growing: &mut Growing<'a>,
     name: &Name<'a>,
     ztype: &ZType<'a>,
-    set: &Lasting<'a, Written<'a>>,
+    set: &Lasting<'a, Resolved<'a>>,
 ) -> Result<(), Refusal>
     requires { IsGrowing growing.old }
-    ensures ok { OnOk result (Adds (schema_of growing.old.flat) (comp (spelling name.now) (type_of ztype.now) (plain (written_of set.now) ∷ [])) (schema_of growing.new.flat)) }
+    ensures ok { OnOk result (Adds (schema_of growing.old.flat) (comp (spelling name.now) (type_of ztype.now) (plain (resolved_of set.now) ∷ [])) (schema_of growing.new.flat)) }
     ensures growing { OnOk result (IsGrowing growing.new) }
-    ensures wrong { IfErr result (λ e. IfFault e (CantAdd (schema_of growing.old.flat) name.now (type_of ztype.now) (plain (written_of set.now)))) }
+    ensures wrong { IfErr result (λ e. IfFault e (CantAdd (schema_of growing.old.flat) name.now (type_of ztype.now) (plain (resolved_of set.now)))) }
 {
     let component = declared(arena, name, ztype, set)?;
     match growing.add(component) {
@@ -235,9 +230,9 @@ fn declared<'a>(
     arena: &'a Bump,
     name: &Name<'a>,
     ztype: &ZType<'a>,
-    set: &Lasting<'a, Written<'a>>,
+    set: &Lasting<'a, Resolved<'a>>,
 ) -> Result<Component<'a>, AllocError>
-    ensures { IfOk result (λ c. comp_of c ≡ comp (spelling name.now) (type_of ztype.now) (plain (written_of set.now) ∷ [])) }
+    ensures { IfOk result (λ c. comp_of c ≡ comp (spelling name.now) (type_of ztype.now) (plain (resolved_of set.now) ∷ [])) }
 {
     let name = name.spelled();
     let ztype = ztype.share()?;
@@ -250,40 +245,18 @@ fn declared<'a>(
     })
 }
 
-/// What the term is where the globals and these components are in scope.
-fn judge_over<'a>(
-    arena: &'a Bump,
-    globals: &Globals<'a>,
-    components: &[Component<'a>],
-    slate: &mut Slate<'a>,
-    need: Need,
-    term: &'a Boxed<'a, Term<'a>>,
-) -> Result<Judged<'a>, Refusal>
-    ensures sort { IfOk result (λ j. IsOf (over (globals_of globals.now) (map comp_of components.now)) (tree_of term.now) (sort_of j.sort)) }
-    ensures met { IfOk result (λ j. Meets need (sort_of j.sort)) }
-    ensures term { IfOk result (λ j. written_of j.term ≡ resolved (over (globals_of globals.now) (map comp_of components.now)) (tree_of term.now)) }
-    ensures wrong { IfErr result (λ e. IfFault e (Offends (over (globals_of globals.now) (map comp_of components.now)) need (tree_of term.now))) }
-{
-    let mut scope = scope_over(globals, components, slate);
-    let judged = judge(term.get(), arena, need, &mut scope);
-    slate.take_back(scope);
-    judged
-}
-
-/// The scope of the globals and these components, where no variable is bound. The slate lends it its lists.
+/// The scope of the globals and these components, where no variable is bound.
 #[tactic(auto, unfolding(zf_type::specs::Scopes::scope_of))]
 pub fn scope_over<'a, 'b>(
     globals: &'b Globals<'a>,
     components: &'b [Component<'a>],
-    slate: &mut Slate<'a>,
 ) -> Scope<'a, 'b>
     ensures { scope_of result ≡ over (globals_of globals.now) (map comp_of components.now) }
 {
     Scope {
         globals,
         components,
-        locals: slate.take_locals(),
-        references: slate.take_references(),
+        locals: Locals::new(globals.allocator()),
     }
 }
 
@@ -292,8 +265,7 @@ fn constrain_all<'a>(
     arena: &'a Bump,
     globals: &Globals<'a>,
     growing: &mut Growing<'a>,
-    slate: &mut Slate<'a>,
-    predicates: &'a [Boxed<'a, Term<'a>>],
+    predicates: &[Boxed<'a, Term<'a>>],
 ) -> Result<(), Refusal>
     requires { IsGrowing growing.old }
     ensures ok { OnOk result (Constrains (globals_of globals.now) (schema_of growing.old.flat) (map tree_of predicates.now) (schema_of growing.new.flat)) }
@@ -301,7 +273,7 @@ fn constrain_all<'a>(
     ensures wrong { IfErr result (λ e. IfFault e (OffendsPredicates (globals_of globals.now) (schema_of growing.old.flat) (map tree_of predicates.now))) }
 {
     for predicate in predicates {
-        constrain(arena, globals, growing, slate, predicate)?;
+        constrain(arena, globals, growing, predicate)?;
     }
     Ok(())
 }
@@ -311,8 +283,7 @@ fn constrain<'a>(
     arena: &'a Bump,
     globals: &Globals<'a>,
     growing: &mut Growing<'a>,
-    slate: &mut Slate<'a>,
-    predicate: &'a Boxed<'a, Term<'a>>,
+    predicate: &Boxed<'a, Term<'a>>,
 ) -> Result<(), Refusal>
     requires { IsGrowing growing.old }
     ensures ok { OnOk result (ConstrainsOne (globals_of globals.now) (schema_of growing.old.flat) (tree_of predicate.now) (schema_of growing.new.flat)) }
@@ -320,60 +291,49 @@ fn constrain<'a>(
     ensures wrong { IfErr result (λ e. IfFault e (CantConstrain (globals_of globals.now) (schema_of growing.old.flat) (tree_of predicate.now))) }
 {
     let components = growing.flat.components.as_slice();
-    push_over(arena, globals, components, slate, predicate)?;
-    take_all(arena, growing, slate.conjuncts.as_slice())
+    let conjuncts = conjuncts_over(arena, globals, components, predicate)?;
+    take_all(growing, conjuncts)
 }
 
-/// Puts on the slate the conjuncts of a predicate where the globals and these components are in scope.
-fn push_over<'a>(
+/// The conjuncts of a predicate where the globals and these components are in scope.
+fn conjuncts_over<'a>(
     arena: &'a Bump,
     globals: &Globals<'a>,
     components: &[Component<'a>],
-    slate: &mut Slate<'a>,
-    predicate: &'a Boxed<'a, Term<'a>>,
-) -> Result<(), Refusal>
+    predicate: &Boxed<'a, Term<'a>>,
+) -> Result<&'a [Resolved<'a>], Refusal>
     ensures is { OnOk result (IsOf (over (globals_of globals.now) (map comp_of components.now)) (tree_of predicate.now) rules.predicate) }
-    ensures ok { OnOk result (map written_of slate.new.conjuncts ≡ shape.conjuncts (resolved (over (globals_of globals.now) (map comp_of components.now)) (tree_of predicate.now))) }
+    ensures ok { IfOk result (λ ts. map resolved_of ts.now ≡ shape.conjuncts (resolved (over (globals_of globals.now) (map comp_of components.now)) (tree_of predicate.now))) }
     ensures wrong { IfErr result (λ e. IfFault e (Offends (over (globals_of globals.now) (map comp_of components.now)) needs.Predicate (tree_of predicate.now))) }
 {
-    let mut scope = scope_over(globals, components, slate);
-    slate.conjuncts.clear();
-    let pushed = push_conjuncts(predicate.get(), arena, &mut scope, &mut slate.conjuncts);
-    slate.take_back(scope);
-    pushed
+    let mut scope = scope_over(globals, components);
+    let mut conjuncts = Items::new(arena);
+    push_conjuncts(predicate.get(), arena, &mut scope, &mut conjuncts)?;
+    Ok(into_bump_slice(conjuncts.into_vec()))
 }
 
 /// Takes the conjuncts, one after another.
-fn take_all<'a>(
-    arena: &'a Bump,
-    growing: &mut Growing<'a>,
-    conjuncts: &[Written<'a>],
-) -> Result<(), Refusal>
+fn take_all<'a>(growing: &mut Growing<'a>, conjuncts: &'a [Resolved<'a>]) -> Result<(), Refusal>
     requires { IsGrowing growing.old }
-    ensures ok { OnOk result (TakesAll (schema_of growing.old.flat) (map written_of conjuncts.now) (schema_of growing.new.flat)) }
+    ensures ok { OnOk result (TakesAll (schema_of growing.old.flat) (map resolved_of conjuncts.now) (schema_of growing.new.flat)) }
     ensures growing { OnOk result (IsGrowing growing.new) }
-    ensures wrong { IfErr result (λ e. IfFault e (OffendsConjuncts (schema_of growing.old.flat) (map written_of conjuncts.now))) }
+    ensures wrong { IfErr result (λ e. IfFault e (OffendsConjuncts (schema_of growing.old.flat) (map resolved_of conjuncts.now))) }
 {
     for conjunct in conjuncts {
-        take(arena, growing, *conjunct)?;
+        take(growing, conjunct)?;
     }
     Ok(())
 }
 
 /// Takes one conjunct.
-fn take<'a>(
-    arena: &'a Bump,
-    growing: &mut Growing<'a>,
-    conjunct: Written<'a>,
-) -> Result<(), Refusal>
+fn take<'a>(growing: &mut Growing<'a>, conjunct: &'a Resolved<'a>) -> Result<(), Refusal>
     requires { IsGrowing growing.old }
-    ensures ok { OnOk result (IsNext (constrained (schema_of growing.old.flat) (written_of conjunct.entry ∷ [])) (schema_of growing.new.flat)) }
+    ensures ok { OnOk result (IsNext (constrained (schema_of growing.old.flat) (resolved_of conjunct.now ∷ [])) (schema_of growing.new.flat)) }
     ensures growing { OnOk result (IsGrowing growing.new) }
-    ensures wrong { IfErr result (λ e. IfFault e (CantTake (schema_of growing.old.flat) (written_of conjunct.entry))) }
+    ensures wrong { IfErr result (λ e. IfFault e (CantTake (schema_of growing.old.flat) (resolved_of conjunct.now))) }
 {
-    let line = conjunct.line();
-    match growing.take(Conjunct::of(arena, Statement::Written(conjunct))?) {
+    match growing.take(Conjunct::lasting(conjunct)) {
         Ok(()) => Ok(()),
-        Err(stop) => Err(refusal(stop, line)),
+        Err(stop) => Err(refusal(stop, conjunct.line())),
     }
 }

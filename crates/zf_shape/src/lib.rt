@@ -2,7 +2,5 @@
 #![tactic(auto)]
 
 pub mod conjunct;
-pub mod kept;
 pub mod sets;
 pub mod terms;
-mod texts;

@@ -3,7 +3,7 @@ ghost use Rattle.std.specs.Prelude.{◌≡◌, ◌+◌, ◌<◌, MatchOption, ma
 ghost use Rattle.zf_term.specs.Definitions.{set_of};
 ghost use Rattle.zf_term.specs.SetShapes.{set_count, set_nodes, all_set_counts, all_set_nodes};
 
-use crate::kept;
+use crate::terms;
 use zf_data::arena::Items;
 use zf_term::globals::Domain;
 
@@ -30,7 +30,7 @@ pub fn room_after_nodes<'a>(domain: &Domain<'a>, room: usize) -> Option<usize>
     ensures { MatchOption result (room < set_nodes (set_of domain.now)) (λ left. left + set_nodes (set_of domain.now) ≡ room) }
 {
     match domain {
-        Domain::Plain(set) => kept::room_after(set.get(), room),
+        Domain::Plain(set) => terms::room_after(set.get(), room),
         Domain::Carrier(_) => Some(room),
         Domain::Either(left, right) => room_after_all_nodes(
             right.get(),

@@ -10,6 +10,7 @@ pub mod TypeLists
 pub mod TypesSeen
 pub mod Copies
 pub mod MovedReferences
+pub mod Behind
 pub mod Renumbered
 pub mod Places
 pub mod SetsSeen

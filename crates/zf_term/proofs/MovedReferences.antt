@@ -3,7 +3,7 @@ use Rattle.std.proofs.Common.{◌≡◌, ℕ, List, [], ◌∷◌, map, refl, sy
 use Rattle.std.proofs.lemmas.List.{map-append}
 use Rattle.zf_reference.specs.declared.reference.Reference.{Reference}
 use Rattle.zf_term.specs.ResolvedTrees.{ResolvedTree, reference, number, constant, empty_set, bracket, listed, builder, unary, binary, chain, quantified, ResolvedTrees, no_terms, term, ResolvedLinks, no_links, link, Ranges, no_ranges, range, ResolvedPart, absent, present}
-use Rattle.zf_term.specs.Filling.{onto, all_onto, links_onto, ranges_onto, part_onto}
+use Rattle.zf_term.specs.References.{onto, all_onto, links_onto, ranges_onto, part_onto}
 use Rattle.zf_reference.specs.Numbering.{renumbered}
 use Rattle.zf_term.specs.Shapes.{moved, all_moved, links_moved, ranges_moved, part_moved}
 use Rattle.zf_term.specs.TermLaws.{ComponentsAloneNumbered, MovedKeepsVariables}

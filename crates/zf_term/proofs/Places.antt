@@ -5,9 +5,9 @@ use Rattle.std.proofs.lemmas.List.{get_or_append_left}
 use Rattle.std.proofs.Math.ListN.{get_or-eq_default}
 use Rattle.std.proofs.Math.Seq.{get_or-append_seam}
 use Rattle.zf_term.specs.declared.conjunct.Conjunct.{Conjunct}
-use Rattle.zf_term.specs.declared.conjunct.Statement.{Statement}
-use Rattle.zf_term.specs.Definitions.{conjunct_of, statement_of}
-use Rattle.zf_term.specs.ResolvedTrees.{ResolvedTree}
+use Rattle.zf_term.specs.declared.resolved.Resolved.{Resolved}
+use Rattle.zf_term.specs.Definitions.{conjunct_of}
+use Rattle.zf_term.specs.ResolvedTrees.{ResolvedTree, resolved_of}
 use Rattle.zf_reference.specs.Numbering.{place_in}
 use Rattle.zf_term.specs.Shapes.{moved, numbering}
 use Rattle.zf_term.proofs.Copies.{stays}
@@ -54,11 +54,11 @@ composed one other f g a b ps qs first then a_is b_is made is =
     ∙ sym (ap {B = ℕ → ℕ} (λ (o : Option (List ℕ)) (i : ℕ). numbering o (place_in f i)) then)
     ∙ sym (ap {B = ℕ → ℕ} (λ (o : Option (List ℕ)) (i : ℕ). numbering other (numbering o i)) first)
 
--- a conjunct whose statement is shared
-pub renumbered_again : (whole : Conjunct) (s : Statement) (places : Option (List ℕ)) (g : ℕ → ℕ) → s ≡ whole.statement → numbering places ≡ (λ (i : ℕ). g (numbering whole.places i)) → moved (numbering places) (statement_of s) ≡ moved g (conjunct_of whole)
+-- a conjunct whose term is shared
+pub renumbered_again : (whole : Conjunct) (s : Resolved) (places : Option (List ℕ)) (g : ℕ → ℕ) → s ≡ whole.term → numbering places ≡ (λ (i : ℕ). g (numbering whole.places i)) → moved (numbering places) (resolved_of s) ≡ moved g (conjunct_of whole)
 renumbered_again whole s places g e h =
-    ap (λ (u : Statement). moved (numbering places) (statement_of u)) e ∙ ap (λ (f : ℕ → ℕ). moved f (statement_of whole.statement)) h ∙ sym (at_once g (numbering whole.places) (statement_of whole.statement))
+    ap (λ (u : Resolved). moved (numbering places) (resolved_of u)) e ∙ ap (λ (f : ℕ → ℕ). moved f (resolved_of whole.term)) h ∙ sym (at_once g (numbering whole.places) (resolved_of whole.term))
 
-pub kept_term : (whole : Conjunct) (s : Statement) (t : ResolvedTree) → whole.places ≡ None → s ≡ whole.statement → t ≡ statement_of s → t ≡ conjunct_of whole
+pub kept_term : (whole : Conjunct) (s : Resolved) (t : ResolvedTree) → whole.places ≡ None → s ≡ whole.term → t ≡ resolved_of s → t ≡ conjunct_of whole
 kept_term whole s t none e is =
-    is ∙ ap statement_of e ∙ sym (unmoved (statement_of whole.statement)) ∙ sym (ap (λ (o : Option (List ℕ)). moved (numbering o) (statement_of whole.statement)) none)
+    is ∙ ap resolved_of e ∙ sym (unmoved (resolved_of whole.term)) ∙ sym (ap (λ (o : Option (List ℕ)). moved (numbering o) (resolved_of whole.term)) none)

@@ -1,8 +1,6 @@
 -- What global names are defined as, as plain data, and how the program's globals are seen as it.
 use Rattle.std.specs.Prelude.{ℕ, List, [], ◌∷◌, map}
 use Rattle.zf_term.specs.declared.conjunct.Conjunct.{Conjunct}
-use Rattle.zf_term.specs.declared.conjunct.Statement.{Statement}
-use Rattle.zf_term.specs.declared.conjunct.Statement.TheVariants as statement
 use Rattle.zf_term.specs.declared.extent.Extent.{Extent}
 use Rattle.zf_term.specs.declared.globals.Component.{Component}
 use Rattle.zf_term.specs.declared.globals.Domain.{Domain, fold-Domain}
@@ -14,7 +12,6 @@ use Rattle.zf_term.specs.declared.globals.Globals.{Globals}
 use Rattle.zf_term.specs.ResolvedTrees.{ResolvedTree, resolved_of}
 use Rattle.zf_term.specs.Shapes.{moved, numbering}
 use Rattle.zf_term.specs.Types.{Ty, type_of}
-use Rattle.zf_term.specs.Written.{written_of}
 
 -- a declared set: that of a declaration, all values of a type, or the two sides of a disjunction
 mutual
@@ -58,7 +55,7 @@ sets_of [] = no_sets
 sets_of (d ∷ ds) = set d (sets_of ds)
 
 abbrev pub domain_step : Domain-F DeclaredSet → DeclaredSet
-domain_step (Domain-F.Plain t) = plain (written_of t)
+domain_step (Domain-F.Plain t) = plain (resolved_of t)
 domain_step (Domain-F.Carrier t) = carrier (type_of t)
 domain_step (Domain-F.Either left right) = sides (sets_of left) (sets_of right)
 
@@ -68,12 +65,8 @@ set_of = fold-Domain DeclaredSet domain_step
 abbrev pub comp_of : Component → Comp
 comp_of c = record { name = c.name; type = type_of c.ztype; sets = map set_of c.domains }
 
-abbrev pub statement_of : Statement → ResolvedTree
-statement_of (statement.Written w) = written_of w
-statement_of (statement.Made t) = resolved_of t
-
 abbrev pub conjunct_of : Conjunct → ResolvedTree
-conjunct_of c = moved (numbering c.places) (statement_of c.statement)
+conjunct_of c = moved (numbering c.places) (resolved_of c.term)
 
 abbrev pub schema_of : Flat → Schema
 schema_of f = record { comps = map comp_of f.components; conjuncts = map conjunct_of f.conjuncts }

@@ -4,8 +4,7 @@ pub mod ResolvedTrees
 pub mod Definitions
 pub mod Shapes
 pub mod SetShapes
-pub mod Filling
-pub mod Written
+pub mod References
 pub mod Numbers
 pub mod FirstNamed
 pub mod TermLaws

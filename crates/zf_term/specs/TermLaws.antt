@@ -3,7 +3,7 @@ use Rattle.std.specs.Prelude.{◌≡◌, ℕ, List, [], map}
 use Rattle.zf_reference.specs.declared.reference.Reference.{Reference}
 use Rattle.zf_reference.specs.declared.reference.Reference.TheVariants.{Component, Local, Global}
 use Rattle.zf_term.specs.ResolvedTrees.{ResolvedTree}
-use Rattle.zf_term.specs.Filling.{onto}
+use Rattle.zf_term.specs.References.{onto}
 use Rattle.zf_reference.specs.Numbering.{renumbered}
 use Rattle.zf_term.specs.Shapes.{moved}
 

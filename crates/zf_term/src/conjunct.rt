@@ -1,42 +1,43 @@
 //! Conjuncts of schemas.
 ghost use Rattle.std.specs.Prelude.{◌≡◌, ℕ, IfOk};
-ghost use Rattle.zf_term.specs.Definitions.{conjunct_of, statement_of};
+ghost use Rattle.zf_term.specs.Definitions.{conjunct_of};
+ghost use Rattle.zf_term.specs.ResolvedTrees.{resolved_of};
 ghost use Rattle.zf_term.specs.Shapes as spec;
 ghost use Rattle.zf_reference.specs.Numbering as numbers;
 
 use crate::resolved::Resolved;
-use crate::written::Written;
 use bumpalo::Bump;
 use std::alloc::AllocError;
 use zf_data::arena::{Items, Lasting};
 use zf_reference::reference::place_in;
 
-/// What a conjunct says.
-#[derive(Drop)]
-pub enum Statement<'a> {
-    /// A predicate of the text.
-    Written(Written<'a>),
-    /// A predicate that the schema calculus makes.
-    Made(Resolved<'a>),
-}
-
-/// A conjunct of a schema: a statement, which is shared with the schemas that take in the schema, and the places of its components in
-/// this one, where they are others.
+/// A conjunct of a schema: a predicate, which is shared with the schemas that take in the schema, and the places of its components in this
+/// one, where they are others.
 #[derive(Drop)]
 pub struct Conjunct<'a> {
-    pub statement: Lasting<'a, Statement<'a>>,
+    pub term: Lasting<'a, Resolved<'a>>,
     pub places: Option<Lasting<'a, Items<'a, usize>>>,
 }
 
 impl<'a> Conjunct<'a> {
-    /// The statement, with its components at their own places.
-    pub fn of(arena: &'a Bump, statement: Statement<'a>) -> Result<Conjunct<'a>, AllocError>
-        ensures { IfOk result (λ c. conjunct_of c ≡ statement_of statement.entry) }
+    /// The predicate, with its components at their own places.
+    pub fn of(arena: &'a Bump, term: Resolved<'a>) -> Result<Conjunct<'a>, AllocError>
+        ensures { IfOk result (λ c. conjunct_of c ≡ resolved_of term.entry) }
     {
         Ok(Conjunct {
-            statement: Lasting::new(arena, statement)?,
+            term: Lasting::new(arena, term)?,
             places: None,
         })
+    }
+
+    /// The predicate, which stands in an arena, with its components at their own places.
+    pub fn lasting(term: &'a Resolved<'a>) -> Conjunct<'a>
+        ensures { conjunct_of result ≡ resolved_of term.now }
+    {
+        Conjunct {
+            term: Lasting { inner: term },
+            places: None,
+        }
     }
 
     /// The same conjunct, of which nothing is copied.
@@ -44,7 +45,7 @@ impl<'a> Conjunct<'a> {
         ensures { result ≡ self.now }
     {
         Conjunct {
-            statement: self.statement.share(),
+            term: self.term.share(),
             places: shared(&self.places),
         }
     }
@@ -59,7 +60,7 @@ impl<'a> Conjunct<'a> {
     {
         let places = composed(arena, &self.places, places)?;
         Ok(Conjunct {
-            statement: self.statement,
+            term: self.term,
             places,
         })
     }
@@ -69,10 +70,7 @@ impl<'a> Conjunct<'a> {
     pub fn line(&self) -> u32
         ensures { result ≡ spec.line_of (conjunct_of self.now) }
     {
-        match self.statement.get() {
-            Statement::Written(term) => term.line(),
-            Statement::Made(term) => term.line(),
-        }
+        self.term.get().line()
     }
 }
 

@@ -7,7 +7,6 @@ ghost use Rattle.zf_term.specs.FirstNamed.{first_named};
 use crate::conjunct::Conjunct;
 use crate::extent::Extent;
 use crate::resolved::Resolved;
-use crate::written::Written;
 use crate::ztype::ZType;
 use bumpalo::Bump;
 use indexmap::IndexMap;
@@ -19,7 +18,7 @@ use zf_data::arena::{Items, Lasting, Lent, Shared};
 #[derive(Drop)]
 pub enum Domain<'a> {
     /// The set that a declaration names.
-    Plain(Lasting<'a, Written<'a>>),
+    Plain(Lasting<'a, Resolved<'a>>),
     /// All values of the type: of a component that one side of a disjunction lacks.
     Carrier(ZType<'a>),
     /// Both sides of a disjunction: what lies in all of the left or in all of the right.
@@ -101,6 +100,11 @@ impl<'a> Globals<'a> {
         Ok(Globals {
             entries: IndexMap::with_capacity(alloc, room)?,
         })
+    }
+
+    /// What the names are kept by.
+    pub fn allocator(&self) -> Global {
+        *self.entries.allocator()
     }
 
     /// How many names there are.

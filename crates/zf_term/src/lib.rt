@@ -10,5 +10,4 @@ pub mod named;
 pub mod resolved;
 pub mod spelling;
 pub mod type_text;
-pub mod written;
 pub mod ztype;

@@ -45,7 +45,6 @@ refused fault.OutOfMemory line tokens h = h
 refused fault.Unexpected line tokens h = none_reads height_limit tokens h
 refused fault.NotInProfile line tokens h = none_reads height_limit tokens h
 refused fault.TooDeep line tokens h = λ boxes r. none_low height_limit tokens h boxes r.reads r.low
-refused fault.BadByte line tokens h = absurd h
 refused _ line tokens h = absurd h
 
 -- what is read, where nothing is too high
@@ -73,7 +72,6 @@ refuses_source fault.OutOfMemory line source tokens cut h = inl (refl, h)
 refuses_source fault.Unexpected line source tokens cut h = inr (inr (tokens, cut, h, tt))
 refuses_source fault.NotInProfile line source tokens cut h = inr (inr (tokens, cut, h, tt))
 refuses_source fault.TooDeep line source tokens cut h = inr (inr (tokens, cut, h, tt))
-refuses_source fault.BadByte line source tokens cut h = absurd h
 refuses_source _ line source tokens cut h = absurd h
 
 pub reads_spec : (result : Result Spec TextFault) (source : List ℕ) (tokens : List Token) → IsCutInto source tokens → Parses result tokens → ReadsSpec result source

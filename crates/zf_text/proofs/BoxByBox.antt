@@ -68,7 +68,6 @@ only_refused fault.OutOfMemory line ts h = h
 only_refused fault.Unexpected line ts h = none_reads height_limit ts h
 only_refused fault.NotInProfile line ts h = none_reads height_limit ts h
 only_refused fault.TooDeep line ts h = λ b r. none_low height_limit ts h b r.levelled r.spelled r.low
-only_refused fault.BadByte line ts h = absurd h
 only_refused _ line ts h = absurd h
 
 pub one_box : (result : Result ZBox TextFault) (ts us : List Symbol) → Gives (read_only height_limit ts) result us → ReadsOneBox result ts
@@ -196,7 +195,6 @@ whole_refused bs ts rs us all fault.NotInProfile line f ends e h = whole_unread 
 whole_refused bs ts rs us all fault.TooDeep line f ends e h = λ boxes r.
     let l = f.apart boxes (rs ++ us) r.reads.levelled (subst (SpellsBoxes boxes) e r.reads.spelled) in
     first_refused boxes l.later rs us ends l.levelled l.spelled l.low r.low h
-whole_refused bs ts rs us all fault.BadByte line f ends e h = absurd h
 whole_refused bs ts rs us all _ line f ends e h = absurd h
 
 -- ---- a turn

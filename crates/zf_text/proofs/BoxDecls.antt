@@ -9,7 +9,6 @@ use Rattle.zf_scan.specs.declared.next.Next as code
 use Rattle.zf_text.specs.declared.tall.Tall.{Tall}
 use Rattle.zf_scan.specs.declared.token.Kind.{Kind}
 use Rattle.zf_scan.specs.declared.token.Kind.TheVariants as k
-use Rattle.zf_scan.specs.declared.token.Separator.TheVariants.{Semicolon, NewLine, Also}
 use Rattle.zf_tree.specs.declared.tree.Decl.{Decl}
 use Rattle.zf_tree.specs.declared.tree.Decl.TheVariants as decl
 use Rattle.zf_tree.specs.declared.tree.Name.{Name}
@@ -86,15 +85,6 @@ ref_at k.Delta line ts us r e =
 ref_at k.Xi line ts us r e =
     let s = marked_sound Xi ts us r e in
     subst (λ r. SpellsRef r (symbol k.Xi line ∷ ts) us) s.1 (ts, (line, refl), s.2)
-ref_at (k.Separator Semicolon) line ts us r e =
-    let s = marked_sound Plain _ us r e in
-    subst (λ r. SpellsRef r (symbol (k.Separator Semicolon) line ∷ ts) us) s.1 s.2
-ref_at (k.Separator NewLine) line ts us r e =
-    let s = marked_sound Plain _ us r e in
-    subst (λ r. SpellsRef r (symbol (k.Separator NewLine) line ∷ ts) us) s.1 s.2
-ref_at (k.Separator Also) line ts us r e =
-    let s = marked_sound Plain _ us r e in
-    subst (λ r. SpellsRef r (symbol (k.Separator Also) line ∷ ts) us) s.1 s.2
 ref_at kind line ts us r e =
     let s = marked_sound Plain _ us r e in
     subst (λ r. SpellsRef r (symbol kind line ∷ ts) us) s.1 s.2

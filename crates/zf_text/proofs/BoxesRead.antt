@@ -5,7 +5,6 @@ use Rattle.std.proofs.lemmas.List.{append-nil, map-append}
 use Rattle.zf_scan.specs.declared.next.Mark.TheVariants as mark
 use Rattle.zf_scan.specs.declared.token.Kind.{Kind}
 use Rattle.zf_scan.specs.declared.token.Kind.TheVariants as k
-use Rattle.zf_scan.specs.declared.token.Separator.TheVariants.{Semicolon, NewLine, Also}
 use Rattle.zf_tree.specs.declared.tree.Name.{Name}
 use Rattle.zf_tree.specs.declared.tree.ZBox.{ZBox}
 use Rattle.zf_tree.specs.declared.tree.ZBox.TheVariants as zbox
@@ -64,9 +63,6 @@ schema_box_sound n ts us b e =
 
 box_at : (n : ℕ) (kind : Kind) (line : ℕ) (ts us : List Symbol) (b : ZBox) → box_by n (next_of kind) (symbol kind line ∷ ts) ≡ Ok (b, us) → BoxIsThere n b (symbol kind line ∷ ts) us
 box_at n k.BeginZed line ts us b e = zed_sound n (symbol k.BeginZed line ∷ ts) ts us b (line, refl) e
-box_at n (k.Separator Semicolon) line ts us b e = schema_box_sound n _ us b e
-box_at n (k.Separator NewLine) line ts us b e = schema_box_sound n _ us b e
-box_at n (k.Separator Also) line ts us b e = schema_box_sound n _ us b e
 box_at n kind line ts us b e = schema_box_sound n _ us b e
 
 pub box_sound : (n : ℕ) (ts us : List Symbol) (b : ZBox) → read_box n ts ≡ Ok (b, us) → BoxIsThere n b ts us
@@ -161,9 +157,6 @@ at_end [] e = refl
 at_end (t ∷ ts) e = absurd (no_end t.kind e)
   where
     no_end : (kind : Kind) → is_end (next_of kind) ≡ true → ⊥
-    no_end (k.Separator Semicolon) e = cc
-    no_end (k.Separator NewLine) e = cc
-    no_end (k.Separator Also) e = cc
     no_end k.BeginZed e = cc
     no_end _ e = cc
 

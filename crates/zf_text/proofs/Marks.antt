@@ -32,19 +32,15 @@ separator_is : (m : Mark) (s : Separator) → is_mark m (next_of (k.Separator s)
 separator_is mark.Separator Semicolon e = refl
 separator_is mark.Separator NewLine e = absurd (cc)
 separator_is mark.Separator Also e = absurd (cc)
-separator_is mark.EndBox Semicolon e = absurd (cc)
-separator_is mark.EndBox NewLine e = absurd (cc)
-separator_is mark.EndBox Also e = absurd (cc)
 separator_is _ Semicolon e = absurd (cc)
 separator_is _ NewLine e = absurd (cc)
 separator_is _ Also e = absurd (cc)
 
 kind_is : (m : Mark) (kind : Kind) → is_mark m (next_of kind) ≡ true → kind ≡ kind_of m
 kind_is m (k.Separator s) e = separator_is m s e
+kind_is mark.Separator _ e = absurd (cc)
 kind_is mark.EndBox k.EndBox e = refl
 kind_is mark.EndBox _ e = absurd (cc)
-kind_is mark.Separator k.EndBox e = absurd (cc)
-kind_is mark.Separator _ e = absurd (cc)
 kind_is mark.CloseRound k.CloseRound e = refl
 kind_is mark.CloseRound _ e = absurd (cc)
 kind_is mark.OpenSquare k.OpenSquare e = refl
@@ -70,33 +66,11 @@ kind_is mark.Cross _ e = absurd (cc)
 
 not_at_end : (m : Mark) → is_mark m next.End ≡ true → ⊥
 not_at_end mark.EndBox e = cc
-not_at_end mark.Separator e = cc
-not_at_end mark.CloseRound e = cc
-not_at_end mark.OpenSquare e = cc
-not_at_end mark.CloseSquare e = cc
-not_at_end mark.CloseBrace e = cc
-not_at_end mark.CloseImage e = cc
-not_at_end mark.Comma e = cc
-not_at_end mark.Colon e = cc
-not_at_end mark.Bar e = cc
-not_at_end mark.At e = cc
-not_at_end mark.Where e = cc
-not_at_end mark.Cross e = cc
+not_at_end _ e = cc
 
 itself : (m : Mark) → is_mark m (next_of (kind_of m)) ≡ true
 itself mark.EndBox = refl
-itself mark.Separator = refl
-itself mark.CloseRound = refl
-itself mark.OpenSquare = refl
-itself mark.CloseSquare = refl
-itself mark.CloseBrace = refl
-itself mark.CloseImage = refl
-itself mark.Comma = refl
-itself mark.Colon = refl
-itself mark.Bar = refl
-itself mark.At = refl
-itself mark.Where = refl
-itself mark.Cross = refl
+itself _ = refl
 
 -- where the symbol is seen, it stands
 pub marked : (m : Mark) (ts : List Symbol) → is_mark m (first ts) ≡ true → Next (kind_of m) ts (rest ts)

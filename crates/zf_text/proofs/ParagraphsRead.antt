@@ -5,7 +5,6 @@ use Rattle.zf_scan.specs.declared.next.Next as code
 use Rattle.zf_text.specs.declared.tall.Tall.{Tall}
 use Rattle.zf_scan.specs.declared.token.Kind.{Kind}
 use Rattle.zf_scan.specs.declared.token.Kind.TheVariants as k
-use Rattle.zf_scan.specs.declared.token.Separator.TheVariants.{Semicolon, NewLine, Also}
 use Rattle.zf_tree.specs.declared.tree.Name.{Name}
 use Rattle.zf_tree.specs.declared.tree.Paragraph.{Paragraph}
 use Rattle.zf_tree.specs.declared.tree.Paragraph.TheVariants as paragraph
@@ -74,9 +73,6 @@ named_at : (n : ℕ) (name : Name) (begin : List Symbol) (kind : Kind) (line : �
 named_at n name begin k.FreeType line ts us x left e = free_sound n name begin _ ts us x left (line, refl) e
 named_at n name begin k.Abbreviates line ts us x left e = abbreviation_sound n name begin _ ts us x left (line, refl) e
 named_at n name begin k.Defines line ts us x left e = definition_sound n name begin _ ts us x left (line, refl) e
-named_at n name begin (k.Separator Semicolon) line ts us x left e = absurd (cc)
-named_at n name begin (k.Separator NewLine) line ts us x left e = absurd (cc)
-named_at n name begin (k.Separator Also) line ts us x left e = absurd (cc)
 named_at n name begin _ line ts us x left e = absurd (cc)
 
 named_sound : (n : ℕ) (ts us : List Symbol) (x : Tall Paragraph) → named n ts ≡ Ok (x, us) → ParagraphIsThere n x ts us

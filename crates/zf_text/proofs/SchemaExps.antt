@@ -9,7 +9,6 @@ use Rattle.zf_text.specs.declared.tall.Tall.{Tall}
 use Rattle.zf_tree.specs.declared.symbol.Connective.TheVariants.{And, Or}
 use Rattle.zf_scan.specs.declared.token.Kind.{Kind}
 use Rattle.zf_scan.specs.declared.token.Kind.TheVariants as k
-use Rattle.zf_scan.specs.declared.token.Separator.TheVariants.{Semicolon, NewLine, Also}
 use Rattle.zf_tree.specs.declared.tree.Name.{Name}
 use Rattle.zf_tree.specs.declared.tree.RefMark.{RefMark}
 use Rattle.zf_tree.specs.declared.tree.RefMark.TheVariants.{Plain, Delta, Xi}
@@ -58,9 +57,6 @@ and_is (t ∷ ts) e = (t.line, ap (λ kind. symbol kind t.line ∷ ts) (kind_is 
     kind_is : (kind : Kind) → is_and (next_of kind) ≡ true → kind ≡ k.Connective And
     kind_is (k.Connective And) e = refl
     kind_is (k.Connective _) e = absurd (cc)
-    kind_is (k.Separator Semicolon) e = absurd (cc)
-    kind_is (k.Separator NewLine) e = absurd (cc)
-    kind_is (k.Separator Also) e = absurd (cc)
     kind_is _ e = absurd (cc)
 
 or_is : (ts : List Symbol) → is_or (first ts) ≡ true → Next (k.Connective Or) ts (rest ts)
@@ -70,9 +66,6 @@ or_is (t ∷ ts) e = (t.line, ap (λ kind. symbol kind t.line ∷ ts) (kind_is t
     kind_is : (kind : Kind) → is_or (next_of kind) ≡ true → kind ≡ k.Connective Or
     kind_is (k.Connective Or) e = refl
     kind_is (k.Connective _) e = absurd (cc)
-    kind_is (k.Separator Semicolon) e = absurd (cc)
-    kind_is (k.Separator NewLine) e = absurd (cc)
-    kind_is (k.Separator Also) e = absurd (cc)
     kind_is _ e = absurd (cc)
 
 -- ---- what is read is there
@@ -143,9 +136,6 @@ module _ (n : ℕ) (below : Parser (Tall SchemaExp)) (ok : SchemaIsSound n below
   part_at : (kind : Kind) (line : ℕ) (ts us : List Symbol) (x : Tall SchemaExp) → schema_part_by n below (next_of kind) (symbol kind line ∷ ts) ≡ Ok (x, us) → SchemaIsThere 2 (n + 1) x (symbol kind line ∷ ts) us
   part_at k.OpenSquare line ts us x e = text_sound n (symbol k.OpenSquare line ∷ ts) ts us x (line, refl) e
   part_at k.OpenRound line ts us x e = bracket_sound (symbol k.OpenRound line ∷ ts) ts us x (line, refl) e
-  part_at (k.Separator Semicolon) line ts us x e = ref_exp_sound n _ us x e
-  part_at (k.Separator NewLine) line ts us x e = ref_exp_sound n _ us x e
-  part_at (k.Separator Also) line ts us x e = ref_exp_sound n _ us x e
   part_at kind line ts us x e = ref_exp_sound n _ us x e
 
   part_sound : (ts us : List Symbol) (x : Tall SchemaExp) → schema_part n below ts ≡ Ok (x, us) → SchemaIsThere 2 (n + 1) x ts us

@@ -9,62 +9,44 @@ use Rattle.zf_tree.specs.declared.symbol.Infix.TheVariants.{Minus}
 use Rattle.zf_scan.specs.declared.token.Kind.{Kind}
 use Rattle.zf_scan.specs.declared.token.Kind.TheVariants as k
 use Rattle.zf_tree.specs.declared.symbol.Quantifier.{Quantifier}
-use Rattle.zf_scan.specs.declared.token.Separator.TheVariants.{Semicolon, NewLine, Also}
 use Rattle.zf_tree.specs.Names.{ident_of}
 use Rattle.zf_tree.specs.declared.tree.Name.{Name}
-use Rattle.zf_tree.specs.declared.tree.Sign.{Sign}
-use Rattle.zf_tree.specs.declared.tree.Sign.TheVariants as sign
+use Rattle.zf_tree.specs.declared.operator.Listed.{Listed}
+use Rattle.zf_tree.specs.declared.operator.Listed.TheVariants as list
+use Rattle.zf_tree.specs.declared.operator.Sign.TheVariants as sign
+use Rattle.zf_tree.specs.declared.operator.Unary.{Unary}
+use Rattle.zf_tree.specs.declared.operator.Unary.TheVariants as one
 use Rattle.zf_tree.specs.declared.tree.Term.{Term}
 use Rattle.zf_tree.specs.declared.tree.Term.TheVariants as term
-use Rattle.zf_text.specs.Height.{height, tallest}
-use Rattle.zf_text.specs.Levels.{quantifier_level, negation_level, expression_level, unary_level, atom_level, sign_level, level, AreTwo, IsLevelled, AreAt}
+use Rattle.zf_text.specs.Height.{tallest}
+use Rattle.zf_text.specs.Levels.{quantifier_level, expression_level, atom_level, unary_level, listed_level, member_place, level, AreTwo, AreEnough, AreAt}
 use Rattle.zf_scan.specs.Choosing.{next_of, is_mark}
 use Rattle.zf_text.specs.Reading.{first}
 use Rattle.zf_scan.specs.Separators.{Symbol, symbol}
-use Rattle.zf_text.specs.Spelling.{Next, Spells, SpellsItems, IsFirstLine}
-use Rattle.zf_tree.specs.Trees.{line_of, Tree, named, numeral, constant, bracket, tuple, prefixed, inverse, applied, infixed, arrow, chain, negated, connected, Trees, no_trees, tree, Links, no_links, link, VarDecls, no_decls, var_decl, Perhaps, absent, present, trees, links, var_decls, tree_of, link_of, var_decl_of}
-use Rattle.zf_text.specs.TermReading.{Outcome, expect, begins_decl, tall, over, further, decls, part, enclosed, empty_set, round_by, round, display, builder, braced, under, quantified, beginning_by, beginning}
+use Rattle.zf_text.specs.Spelling.{SpellsItems, IsFirstLine, Before, After, Opens, parting, Closes}
+use Rattle.zf_tree.specs.Trees.{line_of, Tree, named, numeral, constant, bracket, Trees, tree_of, part_of}
+use Rattle.zf_text.specs.TermReading.{expect, begins_decl, parted_by, closed_by, tall, further, decls, part, listed, empty_set, round_by, round, display, builder, braced, prefixed, quantified, beginning_by, beginning}
 use Rattle.zf_tree.specs.Trees as shape
 use Rattle.zf_text.proofs.Marks.{kind_of}
 use Rattle.zf_tree.proofs.TermSeen as of
-use Rattle.zf_tree.proofs.TermSeen.{part_of}
-use Rattle.zf_text.proofs.TermSteps.{bind_ok, if_ok, if_cases, expect_ok}
+use Rattle.zf_text.proofs.TermSteps.{ok_value, ok_rest, bind_ok, if_ok, if_cases, expect_ok}
 use Rattle.zf_text.proofs.TermParts.{trees_of, decls_of, Sound, AreSome, Reader, IsSound, made, further_sound, decls_sound, part_sound}
-use Rattle.zf_text.proofs.TermTables.{sign_level_le}
+use Rattle.zf_text.proofs.TermTables.{unary_level_le, member_place_le}
+
+-- ---- what stands between the terms of a list, and behind them
+
+pub same_parting : (form : Listed) → kind_of (parted_by form) ≡ parting form
+same_parting list.Product = refl
+same_parting _ = refl
+
+closed_ok : (form : Listed) (ts us : List Symbol) (u : Unit {0}) → closed_by form ts ≡ Ok (u, us) → Closes form ts us
+closed_ok list.Tuple ts us u e = expect_ok mark.CloseRound ts us u e
+closed_ok list.Display ts us u e = expect_ok mark.CloseBrace ts us u e
+closed_ok list.Product ts us u e = ok_rest tt u ts us e
 
 module _ (below : Reader) (n : ℕ) (ok : IsSound n below) where
   abbrev pub Whole : ℕ → Tall Term → List Symbol → List Symbol → Type 0
   Whole least x ts us = Sound (n + 1) least x ts us
-
-  -- a term over one part, which begins with the symbols `begin`
-  pub record Over (least place : ℕ) (make : Term → Term) (node : Tree → Tree) (ts begin : List Symbol) (close : List Symbol → List Symbol → Type 0) : Type 0 where
-    pub seen : (x : Term) → tree_of (make x) ≡ node (tree_of x)
-    pub fits : (t : Tree) → least ≤ level (node t)
-    pub levelled : (t : Tree) → place ≤ level t → IsLevelled t → IsLevelled (node t)
-    pub high : (t : Tree) → height (node t) ≡ height t + 1
-    pub spelled : (t : Tree) (us vs : List Symbol) → Spells t ts us → close us vs → Spells (node t) begin vs
-
-  over_there : (least place : ℕ) (make : Term → Term) (node : Tree → Tree) (ts begin : List Symbol) (close : List Symbol → List Symbol → Type 0) (x y : Tall Term) (us vs ws : List Symbol)
-      → Over least place make node ts begin close → Sound n place x ts us → close us vs → ◌≡◌ {A = Outcome (Tall Term)} (Ok (over make x, vs)) (Ok (y, ws)) → Whole least y begin ws
-  over_there least place make node ts begin close x y us vs ws o s end e =
-      let high = s.high in
-      let low = s.low in
-      let high_o = o.high (tree_of x.part) in
-      made (n + 1) least (node (tree_of x.part)) (make x.part) (x.height + 1) begin vs ws y (o.seen x.part) e
-      (record { fits = o.fits (tree_of x.part); levelled = o.levelled (tree_of x.part) s.fits s.levelled; high = omega arith; low = omega arith; spelled = o.spelled (tree_of x.part) us vs s.spelled end })
-
-  under_sound : (least place : ℕ) (make : Term → Term) (node : Tree → Tree) (ts begin us : List Symbol) (y : Tall Term) → place ≤ atom_level → Over least place make node ts begin (λ a b. a ≡ b) → under below place make ts ≡ Ok (y, us) → Whole least y begin us
-  unfolding under
-  under_sound least place make node ts begin us y fits o e =
-      let x = bind_ok (below place ts) _ (y, us) e in
-      over_there least place make node ts begin (λ a b. a ≡ b) x.0 y x.1 x.1 us o (ok place ts x.1 x.0 fits x.2) refl x.3
-
-  enclosed_sound : (least place : ℕ) (close : Mark) (make : Term → Term) (node : Tree → Tree) (ts begin us : List Symbol) (y : Tall Term) → place ≤ atom_level → Over least place make node ts begin (Next (kind_of close)) → enclosed below place close make ts ≡ Ok (y, us) → Whole least y begin us
-  unfolding enclosed
-  enclosed_sound least place close make node ts begin us y fits o e =
-      let x = bind_ok (below place ts) _ (y, us) e in
-      let end = bind_ok (expect close x.1) _ (y, us) x.3 in
-      over_there least place make node ts begin (Next (kind_of close)) x.0 y x.1 end.1 us o (ok place ts x.1 x.0 fits x.2) (expect_ok close x.1 end.1 end.0 end.2) end.3
 
   -- ---- lists of terms
 
@@ -98,19 +80,42 @@ module _ (below : Reader) (n : ℕ) (ok : IsSound n below) where
         spelled = subst (λ xs. SpellsItems (kind_of m) (trees_of xs) ts us) (sym is) (a, s.spelled, r.spelled);
       }
 
+  -- what is there before the terms of a list, of which the first is read
+  pub record Listing (line least : ℕ) (form : Listed) (x z : Tall Term) (begin ts a : List Symbol) : Type 0 where
+    pub fits : least ≤ listed_level form
+    pub place : member_place form ≤ level (tree_of x.part)
+    pub enough : (vs : Trees) → (is_mark (parted_by form) (first a) ≡ true → 0 < length a → AreTwo vs) → AreEnough form vs
+    pub opens : (vs : Trees) → IsFirstLine (line_of (tree_of x.part)) vs → Opens form line vs begin ts
+    pub low : (h : ℕ) → (x.height ≤ n → h ≤ n) → z.height ≡ h + 1 → h ≤ n
+
+  pub listed_sound : (highest line least : ℕ) (form : Listed) (x z : Tall Term) (begin ts a us : List Symbol) → Listing line least form x z begin ts a → Sound highest quantifier_level x ts a → listed below line form x a ≡ Ok (z, us)
+      → Whole least z begin us
+  unfolding listed
+  listed_sound highest line least form x z begin ts a us l s e =
+      let all = bind_ok (further below (parted_by form) (member_place form) x a) _ (z, us) e in
+      let end = bind_ok (closed_by form all.1) _ (z, us) all.3 in
+      let r = all_sound highest quantifier_level (member_place form) (parted_by form) x all.0 ts a all.1 (member_place_le form) l.place s all.2 in
+      let high = r.high in
+      let high_z : all.0.height + 1 ≡ z.height = ap (λ z. z.height) (ok_value _ z end.1 us end.3) in
+      let low = l.low all.0.height r.low (sym high_z) in
+      let items = subst (λ kind. SpellsItems kind (trees_of all.0.part) ts all.1) (same_parting form) r.spelled in
+      made (n + 1) least (shape.listed line form (trees_of all.0.part)) (term.Listed line form all.0.part) (all.0.height + 1) begin end.1 us z (of.of-Listed line form all.0.part) end.3
+      (record {
+        fits = l.fits;
+        levelled = (l.enough (trees_of all.0.part) r.two, r.levelled);
+        high = omega arith;
+        low = omega arith;
+        spelled = (ts, all.1, l.opens (trees_of all.0.part) r.line, items, closed_ok form all.1 end.1 end.0 end.2);
+      })
+
   -- ---- brackets
 
   tuple_sound : (line least c : ℕ) (x y : Tall Term) (ts a us : List Symbol) → least ≤ atom_level → Sound n quantifier_level x ts (symbol k.Comma c ∷ a)
       → round_by below line x (next_of k.Comma) (symbol k.Comma c ∷ a) ≡ Ok (y, us) → Whole least y (symbol k.OpenRound line ∷ ts) us
   tuple_sound line least c x y ts a us fits s e =
       let g = if_ok (nat_le expression_level (level (tree_of x.part))) _ (y, us) _ e in
-      let all = bind_ok (further below mark.Comma expression_level x (symbol k.Comma c ∷ a)) _ (y, us) g.1 in
-      let end = bind_ok (expect mark.CloseRound all.1) _ (y, us) all.3 in
-      let r = all_sound n quantifier_level expression_level mark.Comma x all.0 ts (symbol k.Comma c ∷ a) all.1 (omega arith) (leb-true expression_level (level (tree_of x.part)) g.0) s all.2 in
-      let high = r.high in
-      let low = r.low s.low in
-      made (n + 1) least (tuple line (trees_of all.0.part)) (term.Tuple line all.0.part) (all.0.height + 1) _ end.1 us y (of.of-Tuple line all.0.part) end.3
-      (record { fits = fits; levelled = (r.two refl (omega arith), r.levelled); high = omega arith; low = omega arith; spelled = (ts, all.1, refl, r.spelled, expect_ok mark.CloseRound all.1 end.1 end.0 end.2) })
+      listed_sound n line least list.Tuple x y _ ts (symbol k.Comma c ∷ a) us
+      (record { fits = fits; place = leb-true expression_level (level (tree_of x.part)) g.0; enough = λ vs two. two refl (omega arith); opens = λ vs l. refl; low = λ h low e. low s.low }) s g.1
 
   round_at : (line least : ℕ) (x y : Tall Term) (kind : Kind) (c : ℕ) (ts a us : List Symbol) → least ≤ atom_level → Sound n quantifier_level x ts (symbol kind c ∷ a)
       → round_by below line x (next_of kind) (symbol kind c ∷ a) ≡ Ok (y, us) → Whole least y (symbol k.OpenRound line ∷ ts) us
@@ -120,9 +125,6 @@ module _ (below : Reader) (n : ℕ) (ok : IsSound n below) where
       made (n + 1) least (bracket line (tree_of x.part)) (term.Bracket line x.part) (x.height + 1) _ a us y (of.of-Bracket line x.part) e
       (record { fits = fits; levelled = s.levelled; high = omega arith; low = omega arith; spelled = (ts, symbol k.CloseRound c ∷ a, refl, s.spelled, (c, refl)) })
   round_at line least x y k.Comma c ts a us fits s e = tuple_sound line least c x y ts a us fits s e
-  round_at line least x y (k.Separator Semicolon) c ts a us fits s e = absurd (cc)
-  round_at line least x y (k.Separator NewLine) c ts a us fits s e = absurd (cc)
-  round_at line least x y (k.Separator Also) c ts a us fits s e = absurd (cc)
   round_at line least x y _ c ts a us fits s e = absurd (cc)
 
   round_then : (line least : ℕ) (x y : Tall Term) (ts a us : List Symbol) → least ≤ atom_level → Sound n quantifier_level x ts a → round_by below line x (first a) a ≡ Ok (y, us) → Whole least y (symbol k.OpenRound line ∷ ts) us
@@ -144,13 +146,8 @@ module _ (below : Reader) (n : ℕ) (ok : IsSound n below) where
       (λ is e.
       let x = bind_ok (below expression_level ts) _ (y, us) e in
       let s = ok expression_level ts x.1 x.0 (omega arith) x.2 in
-      let all = bind_ok (further below mark.Comma expression_level x.0 x.1) _ (y, us) x.3 in
-      let end = bind_ok (expect mark.CloseBrace all.1) _ (y, us) all.3 in
-      let r = all_sound n expression_level expression_level mark.Comma x.0 all.0 ts x.1 all.1 (omega arith) s.fits s all.2 in
-      let high = r.high in
-      let low = r.low s.low in
-      made (n + 1) least (shape.display line (trees_of all.0.part)) (term.Display line all.0.part) (all.0.height + 1) _ end.1 us y (of.of-Display line all.0.part) end.3
-      (record { fits = fits; levelled = r.levelled; high = omega arith; low = omega arith; spelled = (ts, all.1, refl, r.spelled, expect_ok mark.CloseBrace all.1 end.1 end.0 end.2) }))
+      listed_sound n line least list.Display x.0 y _ ts x.1 us (record { fits = fits; place = s.fits; enough = λ vs two. tt; opens = λ vs l. refl; low = λ h low e. low s.low })
+      (record { fits = omega arith; levelled = s.levelled; high = s.high; low = s.low; spelled = s.spelled }) x.3)
 
   builder_sound : (line least : ℕ) (y : Tall Term) (ts us : List Symbol) → least ≤ atom_level → builder below line ts ≡ Ok (y, us) → Whole least y (symbol k.OpenBrace line ∷ ts) us
   unfolding builder
@@ -214,21 +211,32 @@ module _ (below : Reader) (n : ℕ) (ok : IsSound n below) where
   empty_set_sound : (line least : ℕ) (y : Tall Term) (ts us : List Symbol) → least ≤ atom_level → empty_set below line ts ≡ Ok (y, us) → Whole least y (symbol k.EmptySet line ∷ ts) us
   unfolding empty_set
   empty_set_sound line least y ts us fits e =
-      let open_ = bind_ok (expect mark.OpenSquare ts) _ (y, us) e in
-      let opens = expect_ok mark.OpenSquare ts open_.1 open_.0 open_.2 in
-      enclosed_sound least expression_level mark.CloseSquare (term.EmptySet line) (shape.empty_set line) open_.1 (symbol k.EmptySet line ∷ ts) us y (omega arith)
-      (record { seen = of.of-EmptySet line; fits = λ t. fits; levelled = λ t p l. (p, l); high = λ t. refl; spelled = λ t us vs s close. (ts, open_.1, us, refl, opens, s, close) }) open_.3
+      let start = bind_ok (expect mark.OpenSquare ts) _ (y, us) e in
+      let x = bind_ok (below expression_level start.1) _ (y, us) start.3 in
+      let end = bind_ok (expect mark.CloseSquare x.1) _ (y, us) x.3 in
+      let s = ok expression_level start.1 x.1 x.0 (omega arith) x.2 in
+      let high = s.high in
+      let low = s.low in
+      made (n + 1) least (shape.empty_set line (tree_of x.0.part)) (term.EmptySet line x.0.part) (x.0.height + 1) _ end.1 us y (of.of-EmptySet line x.0.part) end.3
+      (record {
+        fits = fits;
+        levelled = (s.fits, s.levelled);
+        high = omega arith;
+        low = omega arith;
+        spelled = (ts, start.1, x.1, refl, expect_ok mark.OpenSquare ts start.1 start.0 start.2, s.spelled, expect_ok mark.CloseSquare x.1 end.1 end.0 end.2);
+      })
 
-  prefixed_sound : (least line : ℕ) (s : Sign) (kind : Kind) (ts us : List Symbol) (y : Tall Term) → least ≤ sign_level s → ((t : Tree) (us : List Symbol) → Spells t ts us → Spells (prefixed line s t) (symbol kind line ∷ ts) us)
-      → under below (sign_level s) (term.Prefix line s) ts ≡ Ok (y, us) → Whole least y (symbol kind line ∷ ts) us
-  prefixed_sound least line s kind ts us y fits spells e =
-      under_sound least (sign_level s) (term.Prefix line s) (prefixed line s) ts (symbol kind line ∷ ts) us y (omega (arith, sign_level_le s))
-      (record { seen = of.of-Prefix line s; fits = λ t. fits; levelled = λ t p l. (p, l); high = λ t. refl; spelled = λ t us vs h is. subst (Spells (prefixed line s t) (symbol kind line ∷ ts)) is (spells t us h) }) e
-
-  negated_sound : (least line : ℕ) (ts us : List Symbol) (y : Tall Term) → least ≤ negation_level → under below negation_level (term.Not line) ts ≡ Ok (y, us) → Whole least y (symbol k.Not line ∷ ts) us
-  negated_sound least line ts us y fits e =
-      under_sound least negation_level (term.Not line) (negated line) ts (symbol k.Not line ∷ ts) us y (omega arith)
-      (record { seen = of.of-Not line; fits = λ t. fits; levelled = λ t p l. (p, l); high = λ t. refl; spelled = λ t us vs h is. subst (Spells (negated line t) (symbol k.Not line ∷ ts)) is (ts, refl, h) }) e
+  prefixed_sound : (least line : ℕ) (op : Unary) (kind : Kind) (ts us : List Symbol) (y : Tall Term) → ((t : Tree) → Before op line t (symbol kind line ∷ ts) ts) → ((a : List Symbol) → After op a a)
+      → prefixed below least line op (symbol kind line ∷ ts) ≡ Ok (y, us) → Whole least y (symbol kind line ∷ ts) us
+  unfolding prefixed
+  prefixed_sound least line op kind ts us y before after e =
+      let g = if_ok (nat_le least (unary_level op)) _ (y, us) _ e in
+      let x = bind_ok (below (unary_level op) ts) _ (y, us) g.1 in
+      let s = ok (unary_level op) ts x.1 x.0 (omega (arith, unary_level_le op)) x.2 in
+      let high = s.high in
+      let low = s.low in
+      made (n + 1) least (shape.unary line op (tree_of x.0.part)) (term.Unary line op x.0.part) (x.0.height + 1) _ x.1 us y (of.of-Unary line op x.0.part) x.3
+      (record { fits = leb-true least (unary_level op) g.0; levelled = (s.fits, s.levelled); high = omega arith; low = omega arith; spelled = (ts, x.1, before (tree_of x.0.part), s.spelled, after x.1) })
 
   beginning_at : (least : ℕ) (kind : Kind) (line : ℕ) (ts us : List Symbol) (y : Tall Term) → least ≤ atom_level → beginning_by below least line (next_of kind) (symbol kind line ∷ ts) ≡ Ok (y, us) → Whole least y (symbol kind line ∷ ts) us
   beginning_at least (k.Name b s) line ts us y fits e =
@@ -241,22 +249,13 @@ module _ (below : Reader) (n : ℕ) (ok : IsSound n below) where
   beginning_at least k.EmptySet line ts us y fits e = empty_set_sound line least y ts us fits e
   beginning_at least k.OpenRound line ts us y fits e = round_sound line least y ts us fits e
   beginning_at least k.OpenBrace line ts us y fits e = braced_sound line least y ts us fits e
-  beginning_at least (k.Prefix s) line ts us y fits e =
-      let g = if_ok (nat_le least (sign_level (sign.Symbol s))) _ (y, us) _ e in
-      prefixed_sound least line (sign.Symbol s) (k.Prefix s) ts us y (leb-true least (sign_level (sign.Symbol s)) g.0) (λ t us h. (ts, refl, h)) g.1
-  beginning_at least (k.Infix Minus) line ts us y fits e =
-      let g = if_ok (nat_le least unary_level) _ (y, us) _ e in
-      prefixed_sound least line sign.Minus (k.Infix Minus) ts us y (leb-true least unary_level g.0) (λ t us h. (ts, refl, h)) g.1
+  beginning_at least (k.Prefix s) line ts us y fits e = prefixed_sound least line (one.Sign (sign.Symbol s)) (k.Prefix s) ts us y (λ t. refl) (λ a. refl) e
+  beginning_at least (k.Infix Minus) line ts us y fits e = prefixed_sound least line (one.Sign sign.Minus) (k.Infix Minus) ts us y (λ t. refl) (λ a. refl) e
   beginning_at least (k.Infix _) line ts us y fits e = absurd (cc)
-  beginning_at least k.Not line ts us y fits e =
-      let g = if_ok (nat_le least negation_level) _ (y, us) _ e in
-      negated_sound least line ts us y (leb-true least negation_level g.0) g.1
+  beginning_at least k.Not line ts us y fits e = prefixed_sound least line one.Not k.Not ts us y (λ t. refl) (λ a. refl) e
   beginning_at least (k.Quantifier q) line ts us y fits e =
       let g = if_ok (nat_le least quantifier_level) _ (y, us) _ e in
       quantified_sound line least q y ts us (leb-true least quantifier_level g.0) g.1
-  beginning_at least (k.Separator Semicolon) line ts us y fits e = absurd (cc)
-  beginning_at least (k.Separator NewLine) line ts us y fits e = absurd (cc)
-  beginning_at least (k.Separator Also) line ts us y fits e = absurd (cc)
   beginning_at least _ line ts us y fits e = absurd (cc)
 
   pub beginning_sound : (least : ℕ) (ts us : List Symbol) (y : Tall Term) → least ≤ atom_level → beginning below least ts ≡ Ok (y, us) → Whole least y ts us

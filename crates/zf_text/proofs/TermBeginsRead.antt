@@ -8,26 +8,49 @@ use Rattle.zf_scan.specs.declared.token.Kind.TheVariants as k
 use Rattle.zf_tree.specs.declared.symbol.Quantifier.{Quantifier}
 use Rattle.zf_tree.specs.Names.{ident_of}
 use Rattle.zf_tree.specs.declared.tree.Name.{Name}
-use Rattle.zf_tree.specs.declared.tree.Sign.{Sign}
-use Rattle.zf_tree.specs.declared.tree.Sign.TheVariants as sign
+use Rattle.zf_tree.specs.declared.operator.Listed.{Listed}
+use Rattle.zf_tree.specs.declared.operator.Listed.TheVariants as list
+use Rattle.zf_tree.specs.declared.operator.Sign.{Sign}
+use Rattle.zf_tree.specs.declared.operator.Sign.TheVariants as sign
+use Rattle.zf_tree.specs.declared.symbol.Infix.TheVariants.{Minus}
+use Rattle.zf_tree.specs.declared.operator.Unary.{Unary}
+use Rattle.zf_tree.specs.declared.operator.Unary.TheVariants as one
+use Rattle.zf_text.specs.Reading as basic
 use Rattle.zf_tree.specs.declared.tree.Term.{Term}
 use Rattle.zf_tree.specs.declared.tree.Term.TheVariants as term
 use Rattle.zf_text.specs.Height.{height, tallest}
-use Rattle.zf_text.specs.Levels.{quantifier_level, negation_level, expression_level, unary_level, sign_level, level, IsLevelled, AreAt}
+use Rattle.zf_text.specs.Levels.{quantifier_level, negation_level, expression_level, sign_level, unary_level, member_place, level, IsLevelled, AreAt}
 use Rattle.zf_scan.specs.Choosing.{next_of, is_mark}
 use Rattle.zf_text.specs.Reading.{first}
 use Rattle.zf_scan.specs.Separators.{Symbol, symbol}
-use Rattle.zf_text.specs.Spelling.{Spells}
-use Rattle.zf_text.specs.TermReading.{Outcome, binds, begins_decl, tall, enclosed, empty_set, round, display, builder, braced, under, quantified, beginning}
-use Rattle.zf_tree.specs.Trees.{Tree, named, numeral, constant, bracket, tuple, prefixed, inverse, applied, infixed, arrow, chain, negated, connected, Trees, no_trees, tree, Links, no_links, link, VarDecls, no_decls, var_decl, Perhaps, absent, present, trees, links, var_decls, tree_of, link_of, var_decl_of}
+use Rattle.zf_text.specs.Spelling.{Spells, SpellsFurther, parting, Closes}
+use Rattle.zf_text.specs.TermReading.{Outcome, binds, begins_decl, parted_by, closed_by, tall, listed, empty_set, round, display, builder, braced, prefixed, quantified, beginning}
+use Rattle.zf_tree.specs.Trees.{Tree, named, numeral, constant, bracket, Trees, tree, VarDecls, Perhaps, tree_of}
 use Rattle.zf_tree.specs.Trees as shape
-use Rattle.zf_text.proofs.Marks.{seen}
+use Rattle.zf_text.proofs.Marks.{kind_of}
 use Rattle.zf_text.proofs.TermFirsts.{not_closed}
 use Rattle.zf_tree.proofs.TermSeen as of
-use Rattle.zf_tree.proofs.TermSeen.{part_of}
+use Rattle.zf_tree.specs.Trees.{part_of}
 use Rattle.zf_text.proofs.TermSteps.{ok_expect}
+use Rattle.zf_text.proofs.TermBegins.{same_parting}
 use Rattle.zf_text.proofs.TermParts.{decls_of}
 use Rattle.zf_text.proofs.TermPartsRead.{IsRead, Reader, IsComplete, first_is, part_first, from_false, decls_begin, items_do_not, further_stops, all_complete, decls_complete, part_complete}
+
+-- what follows the terms of a list does not go on with them, nor part further ones
+pub record Closing (form : Listed) (ts us : List Symbol) : Type 0 where
+  pub closed : closed_by form ts ≡ Ok (tt, us)
+  pub none : is_mark (parted_by form) (first ts) ≡ false
+  pub stop : binds (first ts) ≤ member_place form
+
+pub parts : (form : Listed) → binds (next_of (kind_of (parted_by form))) ≤ member_place form
+parts list.Product = omega arith
+parts _ = omega arith
+
+closes_round : (ts us : List Symbol) → Closes list.Tuple ts us → Closing list.Tuple ts us
+closes_round ts us h = record { closed = ok_expect mark.CloseRound ts us h; none = first_is (λ x. is_mark mark.Comma x ≡ false) ts us h refl; stop = first_is (λ x. binds x ≤ expression_level) ts us h (omega arith) }
+
+closes_brace : (ts us : List Symbol) → Closes list.Display ts us → Closing list.Display ts us
+closes_brace ts us h = record { closed = ok_expect mark.CloseBrace ts us h; none = first_is (λ x. is_mark mark.Comma x ≡ false) ts us h refl; stop = first_is (λ x. binds x ≤ expression_level) ts us h (omega arith) }
 
 module _ (below : Reader) (n : ℕ) (ok : IsComplete n below) where
   pub moved : (o p : Outcome (Tall Term)) (t : Tree) (us : List Symbol) → o ≡ p → IsRead p t us → IsRead o t us
@@ -46,7 +69,7 @@ module _ (below : Reader) (n : ℕ) (ok : IsComplete n below) where
   constant_begins least l c ts us h = record { term = term.Constant l c; is = of.of-Constant l c; read = ap (beginning below least) h }
 
   pub empty_set_begins : (least l : ℕ) (t : Tree) (ts us : List Symbol) → IsLevelled (shape.empty_set l t) → height (shape.empty_set l t) ≤ n + 1 → Spells (shape.empty_set l t) ts us → IsRead (beginning below least ts) (shape.empty_set l t) us
-  unfolding beginning empty_set enclosed
+  unfolding beginning empty_set
   empty_set_begins least l t ts us lev low h =
       let x = ok expression_level t h.1 h.2 lev.0 lev.1 (omega arith) h.5 (first_is (λ x. binds x ≤ expression_level) h.2 us h.6 (omega arith)) in
       record {
@@ -65,37 +88,34 @@ module _ (below : Reader) (n : ℕ) (ok : IsComplete n below) where
         read = ap (beginning below least) h.2 ∙ rw x.read refl;
       }
 
-  pub tuple_begins : (least l : ℕ) (t u : Tree) (vs : Trees) (ts us : List Symbol) → AreAt expression_level (tree t (tree u vs)) → tallest (tree t (tree u vs)) ≤ n → Spells (tuple l (tree t (tree u vs))) ts us
-      → IsRead (beginning below least ts) (tuple l (tree t (tree u vs))) us
+  pub listed_complete : (form : Listed) (l : ℕ) (x : Term) (t : Tree) (vs : Trees) (a b us : List Symbol) → tree_of x ≡ t → AreAt (member_place form) vs → tallest vs ≤ n → SpellsFurther (parting form) vs a b → Closing form b us
+      → IsRead (listed below l form (tall x (height t)) a) (shape.listed l form (tree t vs)) us
+  unfolding listed
+  listed_complete form l x t vs a b us is lev low h end =
+      let more = subst (λ kind. SpellsFurther kind vs a b) (sym (same_parting form)) h in
+      let all = all_complete below n ok (parted_by form) (member_place form) (parts form) x t vs a b is lev low end.none end.stop more in
+      record { term = term.Listed l form all.all; is = of.of-Listed l form all.all ∙ ap (shape.listed l form) all.are; read = rw (all.read, end.closed) refl }
+
+  pub tuple_begins : (least l : ℕ) (t u : Tree) (vs : Trees) (ts us : List Symbol) → AreAt expression_level (tree t (tree u vs)) → tallest (tree t (tree u vs)) ≤ n → Spells (shape.listed l list.Tuple (tree t (tree u vs))) ts us
+      → IsRead (beginning below least ts) (shape.listed l list.Tuple (tree t (tree u vs))) us
   unfolding beginning round
   tuple_begins least l t u vs ts us lev low h =
       let (a, b, starts, (c, s, (d, e, comma, s_u, further_u)), close) = h in
       let at : List Symbol = symbol k.Comma comma.0 ∷ d in
       let x = ok quantifier_level t a at (omega arith) lev.1 (omega arith) (subst (Spells t a) comma.1 s) (omega arith) in
-      let all = all_complete below n ok mark.Comma expression_level (omega arith) x.term t (tree u vs) at b x.is lev.2 (omega arith) (first_is (λ x. is_mark mark.Comma x ≡ false) b us close refl) (first_is (λ x. binds x ≤ expression_level) b us close (omega arith)) (d, e, (comma.0, refl), s_u, further_u) in
       let fits : expression_level ≤ level (tree_of x.term) = omega (arith, ap level x.is, lev.0) in
-      record {
-        term = term.Tuple l all.all;
-        is = of.of-Tuple l all.all ∙ ap (tuple l) all.are;
-        read = ap (beginning below least) starts ∙ rw (x.read, le-leb expression_level (level (tree_of x.term)) fits, all.read, ok_expect mark.CloseRound b us close) refl;
-      }
+      moved _ _ _ us (ap (beginning below least) starts ∙ rw (x.read, le-leb expression_level (level (tree_of x.term)) fits) refl)
+      (listed_complete list.Tuple l x.term t (tree u vs) at b us x.is lev.2 (omega arith) (d, e, (comma.0, refl), s_u, further_u) (closes_round b us close))
 
-  pub display_begins : (least l : ℕ) (t : Tree) (vs : Trees) (ts us : List Symbol) → AreAt expression_level (tree t vs) → tallest (tree t vs) ≤ n → Spells (shape.display l (tree t vs)) ts us
-      → IsRead (beginning below least ts) (shape.display l (tree t vs)) us
+  pub display_begins : (least l : ℕ) (t : Tree) (vs : Trees) (ts us : List Symbol) → AreAt expression_level (tree t vs) → tallest (tree t vs) ≤ n → Spells (shape.listed l list.Display (tree t vs)) ts us
+      → IsRead (beginning below least ts) (shape.listed l list.Display (tree t vs)) us
   unfolding beginning braced display
   display_begins least l t vs ts us lev low h =
       let (a, b, starts, (c, s, more), close) = h in
-      let none = first_is (λ x. is_mark mark.Comma x ≡ false) b us close refl in
-      let stop = first_is (λ x. binds x ≤ expression_level) b us close (omega arith) in
-      let parts : binds (next_of k.Comma) ≤ expression_level = omega arith in
-      let x = ok expression_level t a c lev.0 lev.1 (omega arith) s (further_stops below n ok mark.Comma expression_level parts vs c b stop more) in
-      let all = all_complete below n ok mark.Comma expression_level parts x.term t vs c b x.is lev.2 (omega arith) none stop more in
+      let end = closes_brace b us close in
+      let x = ok expression_level t a c lev.0 lev.1 (omega arith) s (further_stops below n ok mark.Comma expression_level (parts list.Display) vs c b end.stop more) in
       let is : begins_decl true a ≡ false = from_false (begins_decl true a) (items_do_not t vs a c b us lev.1 lev.2 s more close) in
-      record {
-        term = term.Display l all.all;
-        is = of.of-Display l all.all ∙ ap (shape.display l) all.are;
-        read = ap (beginning below least) starts ∙ rw (is, not_closed t a c s, x.read, all.read, ok_expect mark.CloseBrace b us close) refl;
-      }
+      moved _ _ _ us (ap (beginning below least) starts ∙ rw (is, not_closed t a c s, x.read) refl) (listed_complete list.Display l x.term t vs c b us x.is lev.2 (omega arith) more end)
 
   pub builder_begins : (least l : ℕ) (ds : VarDecls) (p t : Perhaps) (ts us : List Symbol) → IsLevelled (shape.builder l ds p t) → height (shape.builder l ds p t) ≤ n + 1 → Spells (shape.builder l ds p t) ts us
       → IsRead (beginning below least ts) (shape.builder l ds p t) us
@@ -143,26 +163,23 @@ module _ (below : Reader) (n : ℕ) (ok : IsComplete n below) where
         read = ap (beginning below least) starts ∙ rw (le-leb least quantifier_level fits, xs.read, q.read, ok_expect mark.At c d at, x.read) refl;
       }
 
-  under_complete : (place : ℕ) (make : Term → Term) (node t : Tree) (a us : List Symbol) → ((x : Term) → tree_of x ≡ t → tree_of (make x) ≡ node) → height node ≡ height t + 1 → place ≤ level t → IsLevelled t → height t ≤ n → Spells t a us → binds (first us) ≤ place
-      → IsRead (under below place make a) node us
-  unfolding under
-  under_complete place make node t a us seen high fits lev low h stop =
-      let x = ok place t a us fits lev low h stop in
-      record { term = make x.term; is = seen x.term x.is; read = rw x.read (ap (λ h. Ok (tall (make x.term) h, us)) (sym high)) }
+  prefixed_complete : (op : Unary) (least l : ℕ) (t : Tree) (ts a us : List Symbol) → least ≤ unary_level op → IsLevelled (shape.unary l op t) → height t ≤ n → basic.rest ts ≡ a → Spells t a us → binds (first us) ≤ unary_level op
+      → IsRead (prefixed below least l op ts) (shape.unary l op t) us
+  unfolding prefixed
+  prefixed_complete op least l t ts a us fits lev low is h stop =
+      let x = ok (unary_level op) t a us lev.0 lev.1 low h stop in
+      record { term = term.Unary l op x.term; is = of.of-Unary l op x.term ∙ ap (shape.unary l op) x.is; read = rw (le-leb least (unary_level op) fits, is, x.read) refl }
 
-  pub prefixed_begins : (s : Sign) (least l : ℕ) (t : Tree) (ts us : List Symbol) → least ≤ sign_level s → IsLevelled (prefixed l s t) → height (prefixed l s t) ≤ n + 1 → Spells (prefixed l s t) ts us → binds (first us) ≤ sign_level s
-      → IsRead (beginning below least ts) (prefixed l s t) us
+  pub sign_begins : (s : Sign) (least l : ℕ) (t : Tree) (ts us : List Symbol) → least ≤ sign_level s → IsLevelled (shape.unary l (one.Sign s) t) → height t ≤ n → Spells (shape.unary l (one.Sign s) t) ts us → binds (first us) ≤ sign_level s
+      → IsRead (beginning below least ts) (shape.unary l (one.Sign s) t) us
   unfolding beginning
-  prefixed_begins sign.Minus least l t ts us fits lev low h stop =
-      moved _ _ _ us (ap (beginning below least) h.1 ∙ rw (le-leb least unary_level fits) refl)
-      (under_complete unary_level (term.Prefix l sign.Minus) (prefixed l sign.Minus t) t h.0 us (λ x is. of.of-Prefix l sign.Minus x ∙ ap (prefixed l sign.Minus) is) refl lev.0 lev.1 (omega arith) h.2 stop)
-  prefixed_begins (sign.Symbol s) least l t ts us fits lev low h stop =
-      moved _ _ _ us (ap (beginning below least) h.1 ∙ rw (le-leb least (sign_level (sign.Symbol s)) fits) refl)
-      (under_complete (sign_level (sign.Symbol s)) (term.Prefix l (sign.Symbol s)) (prefixed l (sign.Symbol s) t) t h.0 us (λ x is. of.of-Prefix l (sign.Symbol s) x ∙ ap (prefixed l (sign.Symbol s)) is) refl lev.0 lev.1 (omega arith) h.2 stop)
+  sign_begins sign.Minus least l t ts us fits lev low h stop =
+      moved _ _ _ us (ap (beginning below least) h.2) (prefixed_complete (one.Sign sign.Minus) least l t (symbol (k.Infix Minus) l ∷ h.0) h.0 us fits lev low refl (subst (Spells t h.0) h.4 h.3) stop)
+  sign_begins (sign.Symbol s) least l t ts us fits lev low h stop =
+      moved _ _ _ us (ap (beginning below least) h.2) (prefixed_complete (one.Sign (sign.Symbol s)) least l t (symbol (k.Prefix s) l ∷ h.0) h.0 us fits lev low refl (subst (Spells t h.0) h.4 h.3) stop)
 
-  pub negated_begins : (least l : ℕ) (t : Tree) (ts us : List Symbol) → least ≤ negation_level → IsLevelled (negated l t) → height (negated l t) ≤ n + 1 → Spells (negated l t) ts us → binds (first us) ≤ negation_level
-      → IsRead (beginning below least ts) (negated l t) us
+  pub not_begins : (least l : ℕ) (t : Tree) (ts us : List Symbol) → least ≤ negation_level → IsLevelled (shape.unary l one.Not t) → height t ≤ n → Spells (shape.unary l one.Not t) ts us → binds (first us) ≤ negation_level
+      → IsRead (beginning below least ts) (shape.unary l one.Not t) us
   unfolding beginning
-  negated_begins least l t ts us fits lev low h stop =
-      moved _ _ _ us (ap (beginning below least) h.1 ∙ rw (le-leb least negation_level fits) refl)
-      (under_complete negation_level (term.Not l) (negated l t) t h.0 us (λ x is. of.of-Not l x ∙ ap (negated l) is) refl lev.0 lev.1 (omega arith) h.2 stop)
+  not_begins least l t ts us fits lev low h stop =
+      moved _ _ _ us (ap (beginning below least) h.2) (prefixed_complete one.Not least l t (symbol k.Not l ∷ h.0) h.0 us fits lev low refl (subst (Spells t h.0) h.4 h.3) stop)

@@ -10,14 +10,21 @@ use Rattle.zf_text.specs.declared.tall.Tall.{Tall}
 use Rattle.zf_tree.specs.declared.symbol.Infix.TheVariants.{Minus}
 use Rattle.zf_tree.specs.declared.symbol.Quantifier.{Quantifier}
 use Rattle.zf_tree.specs.declared.tree.Link.{Link}
-use Rattle.zf_tree.specs.declared.tree.Sign.TheVariants as sign
+use Rattle.zf_text.specs.declared.levels.Role.{Role}
+use Rattle.zf_text.specs.declared.levels.Role.TheVariants as role
+use Rattle.zf_tree.specs.declared.operator.Listed.{Listed}
+use Rattle.zf_tree.specs.declared.operator.Listed.TheVariants as list
+use Rattle.zf_tree.specs.declared.operator.Operator.{Operator}
+use Rattle.zf_tree.specs.declared.operator.Sign.TheVariants as sign
+use Rattle.zf_tree.specs.declared.operator.Unary.{Unary}
+use Rattle.zf_tree.specs.declared.operator.Unary.TheVariants as one
 use Rattle.zf_tree.specs.declared.tree.Term.{Term}
 use Rattle.zf_tree.specs.declared.tree.VarDecl.{VarDecl}
-use Rattle.zf_text.specs.Levels.{quantifier_level, negation_level, expression_level, product_level, unary_level, sign_level, level}
+use Rattle.zf_text.specs.Levels.{quantifier_level, expression_level, unary_level, right_place, member_place, level}
 use Rattle.zf_scan.specs.Choosing.{is_mark}
 use Rattle.zf_text.specs.Reading.{first, rest}
 use Rattle.zf_scan.specs.Separators.{Symbol}
-use Rattle.zf_text.specs.TermReading.{Outcome, Parser, Refused, TooDeep, and_then, expect, read_names, here, binds, place_before, begins_decl, tall, with_term, with_link, with_decl, further_from, further, links_by, links_from, chain_links, read_decl, decls_from, decls, part, enclosed, empty_set, round_by, round, display, builder, braced, under, quantified, beginning_by, beginning, with_right, image, chained, product, longer_by, climb, whole, read_term}
+use Rattle.zf_text.specs.TermReading.{Outcome, Parser, Refused, TooDeep, and_then, expect, read_names, here, role_of, binds, place_before, begins_decl, beyond, parted_by, tall, with_term, with_link, with_decl, further_from, further, links_by, links_from, chain_links, read_decl, decls_from, decls, part, listed, empty_set, round_by, round, display, builder, braced, prefixed, quantified, beginning_by, beginning, binary, chained, longer_by, climb, whole, read_term}
 use Rattle.zf_tree.specs.Trees.{tree_of}
 
 abbrev pub Under : {A : Type 0} → Outcome A → Outcome A → Type 0
@@ -83,17 +90,16 @@ module _ (below above : Reader) (up : IsUnder below above) where
   unfolding part
   part_under m place ts = if_under (is_mark m (first ts)) _ _ _ _ (and_under _ _ _ _ (up place (rest ts)) (λ x us. same _)) (same _)
 
-  enclosed_under : (place : ℕ) (close : Mark) (make : Term → Term) (ts : List Symbol) → Under (enclosed below place close make ts) (enclosed above place close make ts)
-  unfolding enclosed
-  enclosed_under place close make ts = and_under _ _ _ _ (up place ts) (λ x us. same _)
+  listed_under : (line : ℕ) (form : Listed) (x : Tall Term) (ts : List Symbol) → Under (listed below line form x ts) (listed above line form x ts)
+  unfolding listed
+  listed_under line form x ts = and_under _ _ _ _ (further_under (parted_by form) (member_place form) x ts) (λ all us. same _)
 
   empty_set_under : (line : ℕ) (ts : List Symbol) → Under (empty_set below line ts) (empty_set above line ts)
   unfolding empty_set
-  empty_set_under line ts = and_under _ _ _ _ (same (expect mark.OpenSquare ts)) (λ _ us. enclosed_under _ _ _ us)
+  empty_set_under line ts = and_under _ _ _ _ (same (expect mark.OpenSquare ts)) (λ _ us. and_under _ _ _ _ (up expression_level us) (λ x vs. same _))
 
   round_at : (line : ℕ) (x : Tall Term) (after : Next) (ts : List Symbol) → Under (round_by below line x after ts) (round_by above line x after ts)
-  round_at line x next.Comma ts =
-      if_under (nat_le expression_level (level (tree_of x.part))) _ _ _ _ (and_under _ _ _ _ (further_under mark.Comma expression_level x ts) (λ all us. same _)) (same _)
+  round_at line x next.Comma ts = if_under (nat_le expression_level (level (tree_of x.part))) _ _ _ _ (listed_under line list.Tuple x ts) (same _)
   round_at line x _ ts = same _
 
   round_under : (line : ℕ) (ts : List Symbol) → Under (round below line ts) (round above line ts)
@@ -104,7 +110,7 @@ module _ (below above : Reader) (up : IsUnder below above) where
   unfolding display
   display_under line ts =
       if_under (is_mark mark.CloseBrace (first ts)) _ _ _ _ (same _)
-      (and_under _ _ _ _ (up expression_level ts) (λ x us. and_under _ _ _ _ (further_under mark.Comma expression_level x us) (λ all vs. same _)))
+      (and_under _ _ _ _ (up expression_level ts) (λ x us. listed_under line list.Display x us))
 
   builder_under : (line : ℕ) (ts : List Symbol) → Under (builder below line ts) (builder above line ts)
   unfolding builder
@@ -115,9 +121,9 @@ module _ (below above : Reader) (up : IsUnder below above) where
   unfolding braced
   braced_under line ts = if_under (begins_decl true ts) _ _ _ _ (builder_under line ts) (display_under line ts)
 
-  under_under : (place : ℕ) (make : Term → Term) (ts : List Symbol) → Under (under below place make ts) (under above place make ts)
-  unfolding under
-  under_under place make ts = and_under _ _ _ _ (up place ts) (λ x us. same _)
+  prefixed_under : (least line : ℕ) (op : Unary) (ts : List Symbol) → Under (prefixed below least line op ts) (prefixed above least line op ts)
+  unfolding prefixed
+  prefixed_under least line op ts = if_under (nat_le least (unary_level op)) _ _ _ _ (and_under _ _ _ _ (up (unary_level op) (rest ts)) (λ x us. same _)) (same _)
 
   quantified_under : (line : ℕ) (q : Quantifier) (ts : List Symbol) → Under (quantified below line q ts) (quantified above line q ts)
   unfolding quantified
@@ -129,10 +135,9 @@ module _ (below above : Reader) (up : IsUnder below above) where
   beginning_at least line next.EmptySet ts = empty_set_under line _
   beginning_at least line next.OpenRound ts = round_under line _
   beginning_at least line next.OpenBrace ts = braced_under line _
-  beginning_at least line (next.Prefix s) ts = if_under (nat_le least (sign_level (sign.Symbol s))) _ _ _ _ (under_under _ _ _) (same _)
-  beginning_at least line (next.Infix Minus) ts = if_under (nat_le least unary_level) _ _ _ _ (under_under _ _ _) (same _)
-  beginning_at least line (next.Infix _) ts = same _
-  beginning_at least line next.Not ts = if_under (nat_le least negation_level) _ _ _ _ (under_under _ _ _) (same _)
+  beginning_at least line (next.Prefix s) ts = prefixed_under least line (one.Sign (sign.Symbol s)) ts
+  beginning_at least line (next.Infix Minus) ts = prefixed_under least line (one.Sign sign.Minus) ts
+  beginning_at least line next.Not ts = prefixed_under least line one.Not ts
   beginning_at least line (next.Quantifier q) ts = if_under (nat_le least quantifier_level) _ _ _ _ (quantified_under line q _) (same _)
   beginning_at least line _ ts = same _
 
@@ -140,31 +145,20 @@ module _ (below above : Reader) (up : IsUnder below above) where
   unfolding beginning
   beginning_under least ts = beginning_at least (here ts) (first ts) ts
 
-  with_right_under : (place : ℕ) (make : Term → Term → Term) (x : Tall Term) (ts : List Symbol) → Under (with_right below place make x ts) (with_right above place make x ts)
-  unfolding with_right
-  with_right_under place make x ts = and_under _ _ _ _ (up place ts) (λ y us. same _)
-
-  image_under : (x : Tall Term) (ts : List Symbol) → Under (image below x ts) (image above x ts)
-  unfolding image
-  image_under x ts = and_under _ _ _ _ (up expression_level ts) (λ y us. same _)
+  binary_under : (op : Operator) (x : Tall Term) (ts : List Symbol) → Under (binary below op x ts) (binary above op x ts)
+  unfolding binary
+  binary_under op x ts = and_under _ _ _ _ (up (right_place op) (beyond op ts)) (λ y us. same _)
 
   chained_under : (x : Tall Term) (ts : List Symbol) → Under (chained below x ts) (chained above x ts)
   unfolding chained chain_links
   chained_under x ts = and_under _ _ _ _ (links_under (length ts) (tall [] 0) ts) (λ y us. same _)
 
-  product_under : (x : Tall Term) (ts : List Symbol) → Under (product below x ts) (product above x ts)
-  unfolding product
-  product_under x ts = and_under _ _ _ _ (further_under mark.Cross (product_level + 1) x ts) (λ y us. same _)
-
-  longer_at : (x : Tall Term) (after : Next) (ts : List Symbol) → Under (longer_by below x after ts) (longer_by above x after ts)
-  longer_at x (next.Connective c) ts = with_right_under _ _ x _
-  longer_at x (next.Relation r) ts = chained_under x ts
-  longer_at x (next.Arrow a) ts = with_right_under _ _ x _
-  longer_at x next.Cross ts = product_under x ts
-  longer_at x (next.Infix op) ts = with_right_under _ _ x _
-  longer_at x next.Inverse ts = same _
-  longer_at x next.OpenImage ts = image_under x _
-  longer_at x _ ts = with_right_under _ _ x ts
+  longer_at : (x : Tall Term) (after : Role) (ts : List Symbol) → Under (longer_by below x after ts) (longer_by above x after ts)
+  longer_at x role.Ends ts = same _
+  longer_at x (role.Operator op) ts = binary_under op x ts
+  longer_at x role.Relation ts = chained_under x ts
+  longer_at x role.Cross ts = listed_under _ list.Product x ts
+  longer_at x role.Inverse ts = same _
 
   tall_under : {A : Type 0} (h n : ℕ) (p r : Outcome A) → Under p r → Under (if nat_le h n then p else Err TooDeep) (if nat_le h (n + 1) then r else Err TooDeep)
   tall_under h n p r u = by (nat_le h n) refl
@@ -179,8 +173,8 @@ module _ (below above : Reader) (up : IsUnder below above) where
   climb_under n least (suc i) zero x ts le = absurd (omega arith)
   climb_under n least (suc i) (suc j) x ts le =
       if_under (nat_le (binds (first ts)) least) _ _ _ _ (same _)
-      (if_under (nat_le (place_before (first ts)) (level (tree_of x.part))) _ _ _ _
-      (and_under _ _ _ _ (longer_at x (first ts) ts) (λ y us. tall_under y.height n _ _ (climb_under n least i j y us (omega arith)))) (same _))
+      (if_under (nat_le (place_before (role_of (first ts))) (level (tree_of x.part))) _ _ _ _
+      (and_under _ _ _ _ (longer_at x (role_of (first ts)) ts) (λ y us. tall_under y.height n _ _ (climb_under n least i j y us (omega arith)))) (same _))
 
   whole_under : (n least : ℕ) (ts : List Symbol) → Under (whole below n least ts) (whole above (n + 1) least ts)
   unfolding whole

@@ -7,7 +7,6 @@ use Rattle.zf_text.specs.declared.tall.Tall.{Tall}
 use Rattle.zf_scan.specs.declared.token.Kind.{Kind}
 use Rattle.zf_scan.specs.declared.token.Kind.TheVariants as k
 use Rattle.zf_tree.specs.declared.symbol.Relation.{Relation}
-use Rattle.zf_scan.specs.declared.token.Separator.TheVariants.{Semicolon, NewLine, Also}
 use Rattle.zf_tree.specs.declared.tree.Link.{Link}
 use Rattle.zf_tree.specs.declared.tree.Name.{Name}
 use Rattle.zf_tree.specs.declared.tree.Term.{Term}
@@ -22,7 +21,7 @@ use Rattle.zf_text.specs.TermReading.{Outcome, Parser, expect, read_names, tall,
 use Rattle.zf_tree.specs.Trees.{new_link, new_decl, Tree, Trees, Links, no_links, link, VarDecls, no_decls, var_decl, trees, links, var_decls, tree_of, link_of, var_decl_of}
 use Rattle.zf_text.proofs.Marks.{kind_of, marked}
 use Rattle.zf_tree.proofs.TermSeen as of
-use Rattle.zf_tree.proofs.TermSeen.{part_of}
+use Rattle.zf_tree.specs.Trees.{part_of}
 use Rattle.zf_text.proofs.TermSteps.{ok_pair, ok_value, ok_rest, bind_ok, if_cases, expect_ok, names_ok}
 
 -- lists of parts, as trees
@@ -223,9 +222,6 @@ module _ (below : Reader) (n : ℕ) (ok : IsSound n below) where
   links_at j again xs ys (k.Relation r) line ts us e =
       let x = bind_ok (below expression_level ts) _ (ys, us) e in
       links_more xs ys _ x.1 us r x.0 (one_link r line ts x.1 x.0 x.2) (again (with_link xs r x.0) ys x.1 us x.3)
-  links_at j again xs ys (k.Separator Semicolon) line ts us e = links_end xs ys _ us e
-  links_at j again xs ys (k.Separator NewLine) line ts us e = links_end xs ys _ us e
-  links_at j again xs ys (k.Separator Also) line ts us e = links_end xs ys _ us e
   links_at j again xs ys _ line ts us e = links_end xs ys _ us e
 
   pub links_sound : (j : ℕ) → LinksSound j

@@ -8,7 +8,6 @@ use Rattle.zf_text.specs.declared.tall.Tall.{Tall}
 use Rattle.zf_scan.specs.declared.token.Kind.{Kind}
 use Rattle.zf_scan.specs.declared.token.Kind.TheVariants as k
 use Rattle.zf_tree.specs.declared.symbol.Relation.{Relation}
-use Rattle.zf_scan.specs.declared.token.Separator.TheVariants.{Semicolon, NewLine, Also}
 use Rattle.zf_tree.specs.declared.tree.Link.{Link}
 use Rattle.zf_tree.specs.declared.tree.Name.{Name}
 use Rattle.zf_tree.specs.declared.tree.Term.{Term}
@@ -25,7 +24,7 @@ use Rattle.zf_text.proofs.Marks.{kind_of, seen, passed, next_shorter}
 use Rattle.zf_text.proofs.NamesRead.{names_shorter}
 use Rattle.zf_text.proofs.TermFirsts.{only_name, term_shorter}
 use Rattle.zf_tree.proofs.TermSeen as of
-use Rattle.zf_tree.proofs.TermSeen.{part_of}
+use Rattle.zf_tree.specs.Trees.{part_of}
 use Rattle.zf_text.proofs.TermSteps.{ok_expect, ok_names}
 use Rattle.zf_text.proofs.TermParts.{trees_of, links_of, decls_of, SpellsSomeLinks, SpellsFurtherDecls}
 
@@ -169,9 +168,6 @@ module _ (below : Reader) (n : ℕ) (ok : IsComplete n below) where
     where
       at : (kind : Kind) (line : ℕ) → binds (next_of kind) ≤ chain_level → links_by below (links_from below j) xs (next_of kind) (s ∷ us) ≡ Ok (xs, s ∷ us)
       at (k.Relation r) line stop = absurd (omega arith)
-      at (k.Separator Semicolon) line stop = refl
-      at (k.Separator NewLine) line stop = refl
-      at (k.Separator Also) line stop = refl
       at _ line stop = refl
 
   pub links_complete : (ks : Links) (j : ℕ) (xs : Tall (List Link)) (ts us : List Symbol) → LinksAreLevelled ks → tallest_link ks ≤ n → length ts ≤ j → binds (first us) ≤ chain_level → SpellsSomeLinks ks ts us → ReadLinks j xs ks ts us

@@ -4,12 +4,18 @@ use Rattle.std.specs.Prelude.{if◌then◌else◌}
 use Rattle.zf_scan.specs.declared.token.Kind.{Kind}
 use Rattle.zf_scan.specs.declared.token.Kind.TheVariants as k
 use Rattle.zf_tree.specs.declared.tree.Name.{Name}
-use Rattle.zf_tree.specs.declared.tree.Sign.{Sign}
-use Rattle.zf_tree.specs.declared.tree.Sign.TheVariants as sign
+use Rattle.zf_tree.specs.declared.operator.Listed.{Listed}
+use Rattle.zf_tree.specs.declared.operator.Listed.TheVariants as list
+use Rattle.zf_tree.specs.declared.operator.Operator.{Operator}
+use Rattle.zf_tree.specs.declared.operator.Operator.TheVariants as operator
+use Rattle.zf_tree.specs.declared.operator.Sign.{Sign}
+use Rattle.zf_tree.specs.declared.operator.Sign.TheVariants as sign
+use Rattle.zf_tree.specs.declared.operator.Unary.{Unary}
+use Rattle.zf_tree.specs.declared.operator.Unary.TheVariants as one
 use Rattle.zf_scan.specs.Boxes.{ends_box}
 use Rattle.zf_scan.specs.Separators.{Symbol, symbol, separator}
-use Rattle.zf_text.specs.Spelling.{Starts, Next, PartedBy, SpellsName, SpellsNames, sign_kind, Spells, SpellsItems, SpellsFurther, SpellsLinks, SpellsDecls, SpellsPart}
-use Rattle.zf_tree.specs.Trees.{Tree, named, numeral, constant, empty_set, bracket, tuple, display, builder, prefixed, inverse, image, applied, infixed, arrow, product, chain, negated, connected, quantified, Trees, no_trees, tree, Links, no_links, link, VarDecls, no_decls, var_decl, Perhaps, absent, present}
+use Rattle.zf_text.specs.Spelling.{Starts, Next, PartedBy, SpellsName, SpellsNames, sign_kind, Before, After, Between, Behind, Opens, parting, Closes, Spells, SpellsItems, SpellsFurther, SpellsLinks, SpellsDecls, SpellsPart}
+use Rattle.zf_tree.specs.Trees.{Tree, named, numeral, constant, empty_set, bracket, listed, builder, unary, binary, chain, quantified, Trees, no_trees, tree, Links, no_links, link, VarDecls, no_decls, var_decl, Perhaps, absent, present}
 
 -- what stands behind the first symbol that ends a box
 abbrev pub behind : List Symbol → List Symbol
@@ -96,6 +102,40 @@ sign_kept : (s : Sign) → ends_box (sign_kind s) ≡ false
 sign_kept (sign.Symbol s) = refl
 sign_kept sign.Minus = refl
 
+parting_kept : (form : Listed) → ends_box (parting form) ≡ false
+parting_kept list.Product = refl
+parting_kept _ = refl
+
+before_own : (op : Unary) (l : ℕ) (t : Tree) (ts us : List Symbol) → Before op l t ts us → Own (Before op l t) ts us
+before_own (one.Sign s) l t ts us h = as_own (starts_own (sign_kind s) l ts us (sign_kept s) h) (λ x y p. p)
+before_own one.Not l t ts us h = as_own (starts_own k.Not l ts us refl h) (λ x y p. p)
+before_own one.Inverse l t ts us h = nothing_own (Before one.Inverse l t) ts us (λ r. (h.0, refl)) h.1
+
+after_own : (op : Unary) (ts us : List Symbol) → After op ts us → Own (After op) ts us
+after_own one.Inverse ts us h = as_own (next_own k.Inverse ts us refl h) (λ x y p. p)
+after_own _ ts us h = nothing_own _ ts us (λ r. refl) h
+
+between_own : (op : Operator) (ts us : List Symbol) → Between op ts us → Own (Between op) ts us
+between_own (operator.Function op) ts us h = as_own (next_own (k.Infix op) ts us refl h) (λ x y p. p)
+between_own (operator.Generic a) ts us h = as_own (next_own (k.Arrow a) ts us refl h) (λ x y p. p)
+between_own (operator.Connective c) ts us h = as_own (next_own (k.Connective c) ts us refl h) (λ x y p. p)
+between_own operator.Application ts us h = nothing_own (Between operator.Application) ts us (λ r. refl) h
+between_own operator.Image ts us h = as_own (next_own k.OpenImage ts us refl h) (λ x y p. p)
+
+behind_own : (op : Operator) (ts us : List Symbol) → Behind op ts us → Own (Behind op) ts us
+behind_own operator.Image ts us h = as_own (next_own k.CloseImage ts us refl h) (λ x y p. p)
+behind_own _ ts us h = nothing_own _ ts us (λ r. refl) h
+
+opens_own : (form : Listed) (l : ℕ) (vs : Trees) (ts us : List Symbol) → Opens form l vs ts us → Own (Opens form l vs) ts us
+opens_own list.Tuple l vs ts us h = as_own (starts_own k.OpenRound l ts us refl h) (λ x y p. p)
+opens_own list.Display l vs ts us h = as_own (starts_own k.OpenBrace l ts us refl h) (λ x y p. p)
+opens_own list.Product l vs ts us h = nothing_own (Opens list.Product l vs) ts us (λ r. (h.0, refl)) h.1
+
+closes_own : (form : Listed) (ts us : List Symbol) → Closes form ts us → Own (Closes form) ts us
+closes_own list.Tuple ts us h = as_own (next_own k.CloseRound ts us refl h) (λ x y p. p)
+closes_own list.Display ts us h = as_own (next_own k.CloseBrace ts us refl h) (λ x y p. p)
+closes_own list.Product ts us h = nothing_own (Closes list.Product) ts us (λ r. refl) h
+
 mutual
   pub term_own : (t : Tree) (ts us : List Symbol) → Spells t ts us → Own (Spells t) ts us
   term_own (named n) ts us h = as_own (name_own n ts us h) (λ x y p. p)
@@ -104,22 +144,14 @@ mutual
   term_own (empty_set l t) ts us h =
       four (starts_own k.EmptySet l ts h.0 refl h.3) (next_own k.OpenSquare h.0 h.1 refl h.4) (term_own t h.1 h.2 h.5) (next_own k.CloseSquare h.2 us refl h.6) (λ x a b c y p q r s. (a, b, c, p, q, r, s))
   term_own (bracket l t) ts us h = three (starts_own k.OpenRound l ts h.0 refl h.2) (term_own t h.0 h.1 h.3) (next_own k.CloseRound h.1 us refl h.4) (λ x a b y p q r. (a, b, p, q, r))
-  term_own (tuple l vs) ts us h = three (starts_own k.OpenRound l ts h.0 refl h.2) (items_own k.Comma refl vs h.0 h.1 h.3) (next_own k.CloseRound h.1 us refl h.4) (λ x a b y p q r. (a, b, p, q, r))
-  term_own (display l vs) ts us h = three (starts_own k.OpenBrace l ts h.0 refl h.2) (items_own k.Comma refl vs h.0 h.1 h.3) (next_own k.CloseBrace h.1 us refl h.4) (λ x a b y p q r. (a, b, p, q, r))
+  term_own (listed l form vs) ts us h = three (opens_own form l vs ts h.0 h.2) (items_own (parting form) (parting_kept form) vs h.0 h.1 h.3) (closes_own form h.1 us h.4) (λ x a b y p q r. (a, b, p, q, r))
   term_own (builder l ds p t) ts us h =
       five (starts_own k.OpenBrace l ts h.0 refl h.4) (decls_own ds h.0 h.1 h.5) (part_own k.Bar refl p h.1 h.2 h.6) (part_own k.At refl t h.2 h.3 h.7) (next_own k.CloseBrace h.3 us refl h.8)
       (λ x a b c d y p q r s t. (a, b, c, d, p, q, r, s, t))
-  term_own (prefixed l s t) ts us h = two (starts_own (sign_kind s) l ts h.0 (sign_kept s) h.1) (term_own t h.0 us h.2) (λ x a y p q. (a, p, q))
-  term_own (inverse l t) ts us h = two (term_own t ts h.0 h.2) (next_own k.Inverse h.0 us refl h.3) (λ x a y p q. (a, h.1, p, q))
-  term_own (image l r a) ts us h =
-      four (term_own r ts h.0 h.4) (next_own k.OpenImage h.0 h.1 refl h.5) (term_own a h.1 h.2 h.6) (next_own k.CloseImage h.2 us refl h.7) (λ x a b c y p q r s. (a, b, c, h.3, p, q, r, s))
-  term_own (applied l f x) ts us h = two (term_own f ts h.0 h.2) (term_own x h.0 us h.3) (λ x a y p q. (a, h.1, p, q))
-  term_own (infixed l op x y) ts us h = three (term_own x ts h.0 h.3) (next_own (k.Infix op) h.0 h.1 refl h.4) (term_own y h.1 us h.5) (λ x a b y p q r. (a, b, h.2, p, q, r))
-  term_own (arrow l op x y) ts us h = three (term_own x ts h.0 h.3) (next_own (k.Arrow op) h.0 h.1 refl h.4) (term_own y h.1 us h.5) (λ x a b y p q r. (a, b, h.2, p, q, r))
-  term_own (product l vs) ts us h = as_own (items_own k.Cross refl vs ts us h.1) (λ x y p. (h.0, p))
+  term_own (unary l op t) ts us h = three (before_own op l t ts h.0 h.2) (term_own t h.0 h.1 h.3) (after_own op h.1 us h.4) (λ x a b y p q r. (a, b, p, q, r))
+  term_own (binary l op x y) ts us h =
+      four (term_own x ts h.0 h.4) (between_own op h.0 h.1 h.5) (term_own y h.1 h.2 h.6) (behind_own op h.2 us h.7) (λ x a b c y p q r s. (a, b, c, h.3, p, q, r, s))
   term_own (chain l t ks) ts us h = two (term_own t ts h.0 h.2) (links_own ks h.0 us h.3) (λ x a y p q. (a, h.1, p, q))
-  term_own (negated l t) ts us h = two (starts_own k.Not l ts h.0 refl h.1) (term_own t h.0 us h.2) (λ x a y p q. (a, p, q))
-  term_own (connected l c x y) ts us h = three (term_own x ts h.0 h.3) (next_own (k.Connective c) h.0 h.1 refl h.4) (term_own y h.1 us h.5) (λ x a b y p q r. (a, b, h.2, p, q, r))
   term_own (quantified l q ds p t) ts us h =
       five (starts_own (k.Quantifier q) l ts h.0 refl h.4) (decls_own ds h.0 h.1 h.5) (part_own k.Bar refl p h.1 h.2 h.6) (next_own k.At h.2 h.3 refl h.7) (term_own t h.3 us h.8)
       (λ x a b c d y p q r s t. (a, b, c, d, p, q, r, s, t))

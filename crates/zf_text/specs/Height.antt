@@ -1,7 +1,7 @@
 -- The height of a term or schema expression: a name, a number, a constant and a schema reference have 1, any other one more than the highest
 -- term, declared set or schema expression directly in it.
 use Rattle.std.specs.Prelude.{ℕ, ◌+◌, max, List, [], ◌∷◌}
-use Rattle.zf_tree.specs.Trees.{Tree, named, numeral, constant, empty_set, bracket, tuple, display, builder, prefixed, inverse, image, applied, infixed, arrow, product, chain, negated, connected, quantified, Trees, no_trees, tree, Links, no_links, link, VarDecls, no_decls, var_decl, Perhaps, absent, present, DeclTree, vars, include, SchemaTree, schema_text, reference, both, either, schema_bracket, ParagraphTree, given, free, abbreviation, definition, BoxTree, zed, schema_box}
+use Rattle.zf_tree.specs.Trees.{Tree, named, numeral, constant, empty_set, bracket, listed, builder, unary, binary, chain, quantified, Trees, no_trees, tree, Links, no_links, link, VarDecls, no_decls, var_decl, Perhaps, absent, present, DeclTree, vars, include, SchemaTree, schema_text, reference, both, either, schema_bracket, ParagraphTree, given, free, abbreviation, definition, BoxTree, zed, schema_box}
 
 abbrev mutual
   pub height : Tree → ℕ
@@ -10,19 +10,11 @@ abbrev mutual
   height (constant l c) = 1
   height (empty_set l t) = height t + 1
   height (bracket l t) = height t + 1
-  height (tuple l ts) = tallest ts + 1
-  height (display l ts) = tallest ts + 1
+  height (listed l form ts) = tallest ts + 1
   height (builder l ds p t) = max (max (tallest_set ds) (part_height p)) (part_height t) + 1
-  height (prefixed l s t) = height t + 1
-  height (inverse l t) = height t + 1
-  height (image l r a) = max (height r) (height a) + 1
-  height (applied l f x) = max (height f) (height x) + 1
-  height (infixed l op a b) = max (height a) (height b) + 1
-  height (arrow l op a b) = max (height a) (height b) + 1
-  height (product l ts) = tallest ts + 1
+  height (unary l op t) = height t + 1
+  height (binary l op a b) = max (height a) (height b) + 1
   height (chain l t ks) = max (height t) (tallest_link ks) + 1
-  height (negated l t) = height t + 1
-  height (connected l c a b) = max (height a) (height b) + 1
   height (quantified l q ds p t) = max (max (tallest_set ds) (part_height p)) (height t) + 1
 
   -- the height of the highest of these

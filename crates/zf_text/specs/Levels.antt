@@ -7,9 +7,15 @@ use Rattle.zf_tree.specs.declared.symbol.Connective.TheVariants.{And, Or, Implie
 use Rattle.zf_tree.specs.declared.symbol.Infix.{Infix}
 use Rattle.zf_tree.specs.declared.symbol.Infix.TheVariants.{Maplet, UpTo, Plus, Minus, Union, Difference, Times, Div, Mod, Intersection, Composition, Overriding, DomainRestriction, RangeRestriction, DomainSubtraction, RangeSubtraction}
 use Rattle.zf_tree.specs.declared.symbol.Prefix.TheVariants.{Power, Finset, Domain, Range, Size}
-use Rattle.zf_tree.specs.declared.tree.Sign.{Sign}
-use Rattle.zf_tree.specs.declared.tree.Sign.TheVariants as sign
-use Rattle.zf_tree.specs.Trees.{Tree, named, numeral, constant, empty_set, bracket, tuple, display, builder, prefixed, inverse, image, applied, infixed, arrow, product, chain, negated, connected, quantified, Trees, no_trees, tree, Links, no_links, link, VarDecls, no_decls, var_decl, Perhaps, absent, present, DeclTree, vars, include, SchemaTree, schema_text, reference, both, either, schema_bracket, ParagraphTree, given, free, abbreviation, definition, BoxTree, zed, schema_box}
+use Rattle.zf_tree.specs.declared.operator.Listed.{Listed}
+use Rattle.zf_tree.specs.declared.operator.Listed.TheVariants as list
+use Rattle.zf_tree.specs.declared.operator.Operator.{Operator}
+use Rattle.zf_tree.specs.declared.operator.Operator.TheVariants as operator
+use Rattle.zf_tree.specs.declared.operator.Sign.{Sign}
+use Rattle.zf_tree.specs.declared.operator.Sign.TheVariants as sign
+use Rattle.zf_tree.specs.declared.operator.Unary.{Unary}
+use Rattle.zf_tree.specs.declared.operator.Unary.TheVariants as one
+use Rattle.zf_tree.specs.Trees.{Tree, named, numeral, constant, empty_set, bracket, listed, builder, unary, binary, chain, quantified, Trees, no_trees, tree, Links, no_links, link, VarDecls, no_decls, var_decl, Perhaps, absent, present, DeclTree, vars, include, SchemaTree, schema_text, reference, both, either, schema_bracket, ParagraphTree, given, free, abbreviation, definition, BoxTree, zed, schema_box}
 
 -- a quantifier; the place of any term
 abbrev pub quantifier_level : ℕ
@@ -32,8 +38,9 @@ product_level = 8
 abbrev pub function_level : ℕ
 function_level = 8
 
-abbrev pub unary_level : ℕ
-unary_level = 15
+-- `\power`, `\finset` and the minus of one number
+abbrev pub power_level : ℕ
+power_level = 15
 
 abbrev pub application_level : ℕ
 application_level = 16
@@ -76,39 +83,63 @@ abbrev pub infix_level : Infix → ℕ
 infix_level op = function_level + priority op
 
 abbrev pub sign_level : Sign → ℕ
-sign_level sign.Minus = unary_level
-sign_level (sign.Symbol Power) = unary_level
-sign_level (sign.Symbol Finset) = unary_level
+sign_level sign.Minus = power_level
+sign_level (sign.Symbol Power) = power_level
+sign_level (sign.Symbol Finset) = power_level
 sign_level (sign.Symbol Domain) = prefix_level
 sign_level (sign.Symbol Range) = prefix_level
 sign_level (sign.Symbol Size) = prefix_level
 
--- `\implies` is to the right, the other connectives to the left
-abbrev pub left_place : Connective → ℕ
-left_place Implies = 3
-left_place c = connective_level c
+-- of a term over one operand; the operand's place too
+abbrev pub unary_level : Unary → ℕ
+unary_level (one.Sign s) = sign_level s
+unary_level one.Inverse = postfix_level
+unary_level one.Not = negation_level
 
-abbrev pub right_place : Connective → ℕ
-right_place Implies = 2
-right_place c = connective_level c + 1
+abbrev pub operator_level : Operator → ℕ
+operator_level (operator.Function op) = infix_level op
+operator_level (operator.Generic a) = expression_level
+operator_level (operator.Connective c) = connective_level c
+operator_level operator.Application = application_level
+operator_level operator.Image = postfix_level
+
+-- infix generics and `\implies` are to the right, the others to the left
+abbrev pub left_place : Operator → ℕ
+left_place (operator.Generic a) = product_level
+left_place (operator.Connective Implies) = 3
+left_place op = operator_level op
+
+abbrev pub right_place : Operator → ℕ
+right_place (operator.Generic a) = expression_level
+right_place (operator.Connective Implies) = 2
+right_place operator.Application = postfix_level
+right_place operator.Image = expression_level
+right_place op = operator_level op + 1
+
+abbrev pub listed_level : Listed → ℕ
+listed_level list.Product = product_level
+listed_level _ = atom_level
+
+abbrev pub member_place : Listed → ℕ
+member_place list.Product = product_level + 1
+member_place _ = expression_level
 
 abbrev pub level : Tree → ℕ
 level (quantified l q ds p t) = quantifier_level
-level (connected l c a b) = connective_level c
-level (negated l t) = negation_level
+level (unary l op t) = unary_level op
+level (binary l op a b) = operator_level op
+level (listed l form ts) = listed_level form
 level (chain l t ks) = chain_level
-level (arrow l op a b) = expression_level
-level (product l ts) = product_level
-level (infixed l op a b) = infix_level op
-level (prefixed l s t) = sign_level s
-level (applied l f x) = application_level
-level (inverse l t) = postfix_level
-level (image l r a) = postfix_level
 level _ = atom_level
 
 abbrev pub AreTwo : Trees → Type 0
 AreTwo (tree t (tree u ts)) = Unit {0}
 AreTwo _ = ⊥
+
+-- a tuple and a product have two terms at least
+abbrev pub AreEnough : Listed → Trees → Type 0
+AreEnough list.Display ts = Unit {0}
+AreEnough _ ts = AreTwo ts
 
 abbrev mutual
   pub IsLevelled : Tree → Type 0
@@ -117,19 +148,11 @@ abbrev mutual
   IsLevelled (constant l c) = Unit {0}
   IsLevelled (empty_set l t) = (expression_level ≤ level t) × IsLevelled t
   IsLevelled (bracket l t) = IsLevelled t
-  IsLevelled (tuple l ts) = AreTwo ts × AreAt expression_level ts
-  IsLevelled (display l ts) = AreAt expression_level ts
+  IsLevelled (listed l form ts) = AreEnough form ts × AreAt (member_place form) ts
   IsLevelled (builder l ds p t) = DeclsAreLevelled ds × PartIsAt quantifier_level p × PartIsAt expression_level t
-  IsLevelled (prefixed l s t) = (sign_level s ≤ level t) × IsLevelled t
-  IsLevelled (inverse l t) = (postfix_level ≤ level t) × IsLevelled t
-  IsLevelled (image l r a) = (postfix_level ≤ level r) × IsLevelled r × (expression_level ≤ level a) × IsLevelled a
-  IsLevelled (applied l f x) = (application_level ≤ level f) × IsLevelled f × (postfix_level ≤ level x) × IsLevelled x
-  IsLevelled (infixed l op a b) = (infix_level op ≤ level a) × IsLevelled a × (infix_level op + 1 ≤ level b) × IsLevelled b
-  IsLevelled (arrow l op a b) = (product_level ≤ level a) × IsLevelled a × (expression_level ≤ level b) × IsLevelled b
-  IsLevelled (product l ts) = AreTwo ts × AreAt (product_level + 1) ts
+  IsLevelled (unary l op t) = (unary_level op ≤ level t) × IsLevelled t
+  IsLevelled (binary l op a b) = (left_place op ≤ level a) × IsLevelled a × (right_place op ≤ level b) × IsLevelled b
   IsLevelled (chain l t ks) = (expression_level ≤ level t) × IsLevelled t × LinksAreLevelled ks
-  IsLevelled (negated l t) = (negation_level ≤ level t) × IsLevelled t
-  IsLevelled (connected l c a b) = (left_place c ≤ level a) × IsLevelled a × (right_place c ≤ level b) × IsLevelled b
   IsLevelled (quantified l q ds p t) = DeclsAreLevelled ds × PartIsAt quantifier_level p × IsLevelled t
 
   pub AreAt : ℕ → Trees → Type 0

@@ -9,10 +9,16 @@ use Rattle.zf_tree.specs.declared.tree.RefMark.TheVariants.{Plain, Delta, Xi}
 use Rattle.zf_tree.specs.declared.tree.RefMark.{RefMark}
 use Rattle.zf_tree.specs.declared.tree.Name.{Name}
 use Rattle.zf_tree.specs.declared.tree.SchemaRef.{SchemaRef}
-use Rattle.zf_tree.specs.declared.tree.Sign.{Sign}
-use Rattle.zf_tree.specs.declared.tree.Sign.TheVariants as sign
+use Rattle.zf_tree.specs.declared.operator.Listed.{Listed}
+use Rattle.zf_tree.specs.declared.operator.Listed.TheVariants as list
+use Rattle.zf_tree.specs.declared.operator.Operator.{Operator}
+use Rattle.zf_tree.specs.declared.operator.Operator.TheVariants as operator
+use Rattle.zf_tree.specs.declared.operator.Sign.{Sign}
+use Rattle.zf_tree.specs.declared.operator.Sign.TheVariants as sign
+use Rattle.zf_tree.specs.declared.operator.Unary.{Unary}
+use Rattle.zf_tree.specs.declared.operator.Unary.TheVariants as one
 use Rattle.zf_scan.specs.Separators.{Symbol, symbol, separator}
-use Rattle.zf_tree.specs.Trees.{Tree, named, numeral, constant, empty_set, bracket, tuple, display, builder, prefixed, inverse, image, applied, infixed, arrow, product, chain, negated, connected, quantified, Trees, no_trees, tree, Links, no_links, link, VarDecls, no_decls, var_decl, Perhaps, absent, present, DeclTree, vars, include, SchemaTree, schema_text, reference, both, either, schema_bracket, ParagraphTree, given, free, abbreviation, definition, BoxTree, zed, schema_box, line_of}
+use Rattle.zf_tree.specs.Trees.{Tree, named, numeral, constant, empty_set, bracket, listed, builder, unary, binary, chain, quantified, Trees, no_trees, tree, Links, no_links, link, VarDecls, no_decls, var_decl, Perhaps, absent, present, DeclTree, vars, include, SchemaTree, schema_text, reference, both, either, schema_bracket, ParagraphTree, given, free, abbreviation, definition, BoxTree, zed, schema_box, line_of}
 
 -- the first symbol, with its line, and the rest
 abbrev pub Starts : Kind → ℕ → List Symbol → List Symbol → Type 0
@@ -42,6 +48,43 @@ abbrev pub IsFirstLine : ℕ → Trees → Type 0
 IsFirstLine l no_trees = ⊥
 IsFirstLine l (tree t ts) = l ≡ line_of t
 
+-- what stands before and behind the operand, of a term on this line
+abbrev pub Before : Unary → ℕ → Tree → List Symbol → List Symbol → Type 0
+Before (one.Sign s) l t ts rest = Starts (sign_kind s) l ts rest
+Before one.Not l t ts rest = Starts k.Not l ts rest
+Before one.Inverse l t ts rest = (l ≡ line_of t) × (ts ≡ rest)
+
+abbrev pub After : Unary → List Symbol → List Symbol → Type 0
+After one.Inverse ts rest = Next k.Inverse ts rest
+After _ ts rest = ts ≡ rest
+
+-- what stands between two operands, and behind them
+abbrev pub Between : Operator → List Symbol → List Symbol → Type 0
+Between (operator.Function op) ts rest = Next (k.Infix op) ts rest
+Between (operator.Generic a) ts rest = Next (k.Arrow a) ts rest
+Between (operator.Connective c) ts rest = Next (k.Connective c) ts rest
+Between operator.Application ts rest = ts ≡ rest
+Between operator.Image ts rest = Next k.OpenImage ts rest
+
+abbrev pub Behind : Operator → List Symbol → List Symbol → Type 0
+Behind operator.Image ts rest = Next k.CloseImage ts rest
+Behind _ ts rest = ts ≡ rest
+
+-- what stands before several terms, between each two of them, and behind them
+abbrev pub Opens : Listed → ℕ → Trees → List Symbol → List Symbol → Type 0
+Opens list.Tuple l us ts rest = Starts k.OpenRound l ts rest
+Opens list.Display l us ts rest = Starts k.OpenBrace l ts rest
+Opens list.Product l us ts rest = IsFirstLine l us × (ts ≡ rest)
+
+abbrev pub parting : Listed → Kind
+parting list.Product = k.Cross
+parting _ = k.Comma
+
+abbrev pub Closes : Listed → List Symbol → List Symbol → Type 0
+Closes list.Tuple ts rest = Next k.CloseRound ts rest
+Closes list.Display ts rest = Next k.CloseBrace ts rest
+Closes list.Product ts rest = ts ≡ rest
+
 abbrev mutual
   pub Spells : Tree → List Symbol → List Symbol → Type 0
   Spells (named n) ts rest = SpellsName n ts rest
@@ -49,21 +92,12 @@ abbrev mutual
   Spells (constant l c) ts rest = Starts (k.Constant c) l ts rest
   Spells (empty_set l t) ts rest = (a b c : List Symbol) × Starts k.EmptySet l ts a × Next k.OpenSquare a b × Spells t b c × Next k.CloseSquare c rest
   Spells (bracket l t) ts rest = (a b : List Symbol) × Starts k.OpenRound l ts a × Spells t a b × Next k.CloseRound b rest
-  Spells (tuple l us) ts rest = (a b : List Symbol) × Starts k.OpenRound l ts a × SpellsItems k.Comma us a b × Next k.CloseRound b rest
-  Spells (display l us) ts rest = (a b : List Symbol) × Starts k.OpenBrace l ts a × SpellsItems k.Comma us a b × Next k.CloseBrace b rest
+  Spells (listed l form us) ts rest = (a b : List Symbol) × Opens form l us ts a × SpellsItems (parting form) us a b × Closes form b rest
   Spells (builder l ds p t) ts rest =
       (a b c d : List Symbol) × Starts k.OpenBrace l ts a × SpellsDecls ds a b × SpellsPart k.Bar p b c × SpellsPart k.At t c d × Next k.CloseBrace d rest
-  Spells (prefixed l s t) ts rest = (a : List Symbol) × Starts (sign_kind s) l ts a × Spells t a rest
-  Spells (inverse l t) ts rest = (a : List Symbol) × (l ≡ line_of t) × Spells t ts a × Next k.Inverse a rest
-  Spells (image l r t) ts rest =
-      (a b c : List Symbol) × (l ≡ line_of r) × Spells r ts a × Next k.OpenImage a b × Spells t b c × Next k.CloseImage c rest
-  Spells (applied l f x) ts rest = (a : List Symbol) × (l ≡ line_of f) × Spells f ts a × Spells x a rest
-  Spells (infixed l op x y) ts rest = (a b : List Symbol) × (l ≡ line_of x) × Spells x ts a × Next (k.Infix op) a b × Spells y b rest
-  Spells (arrow l op x y) ts rest = (a b : List Symbol) × (l ≡ line_of x) × Spells x ts a × Next (k.Arrow op) a b × Spells y b rest
-  Spells (product l us) ts rest = IsFirstLine l us × SpellsItems k.Cross us ts rest
+  Spells (unary l op t) ts rest = (a b : List Symbol) × Before op l t ts a × Spells t a b × After op b rest
+  Spells (binary l op x y) ts rest = (a b c : List Symbol) × (l ≡ line_of x) × Spells x ts a × Between op a b × Spells y b c × Behind op c rest
   Spells (chain l t ks) ts rest = (a : List Symbol) × (l ≡ line_of t) × Spells t ts a × SpellsLinks ks a rest
-  Spells (negated l t) ts rest = (a : List Symbol) × Starts k.Not l ts a × Spells t a rest
-  Spells (connected l c x y) ts rest = (a b : List Symbol) × (l ≡ line_of x) × Spells x ts a × Next (k.Connective c) a b × Spells y b rest
   Spells (quantified l q ds p t) ts rest =
       (a b c d : List Symbol) × Starts (k.Quantifier q) l ts a × SpellsDecls ds a b × SpellsPart k.Bar p b c × Next k.At c d × Spells t d rest
 

@@ -14,11 +14,19 @@ use Rattle.zf_tree.specs.declared.symbol.Relation.{Relation}
 use Rattle.zf_tree.specs.declared.tree.Link.{Link}
 use Rattle.zf_tree.specs.Names.{ident_of}
 use Rattle.zf_tree.specs.declared.tree.Name.{Name}
-use Rattle.zf_tree.specs.declared.tree.Sign.TheVariants as sign
+use Rattle.zf_text.specs.declared.levels.Role.{Role}
+use Rattle.zf_text.specs.declared.levels.Role.TheVariants as role
+use Rattle.zf_tree.specs.declared.operator.Listed.{Listed}
+use Rattle.zf_tree.specs.declared.operator.Listed.TheVariants as list
+use Rattle.zf_tree.specs.declared.operator.Operator.{Operator}
+use Rattle.zf_tree.specs.declared.operator.Operator.TheVariants as operator
+use Rattle.zf_tree.specs.declared.operator.Sign.TheVariants as sign
+use Rattle.zf_tree.specs.declared.operator.Unary.{Unary}
+use Rattle.zf_tree.specs.declared.operator.Unary.TheVariants as one
 use Rattle.zf_tree.specs.declared.tree.Term.{Term}
 use Rattle.zf_tree.specs.declared.tree.Term.TheVariants as term
 use Rattle.zf_tree.specs.declared.tree.VarDecl.{VarDecl}
-use Rattle.zf_text.specs.Levels.{quantifier_level, negation_level, chain_level, expression_level, product_level, unary_level, application_level, postfix_level, connective_level, infix_level, sign_level, left_place, right_place, level}
+use Rattle.zf_text.specs.Levels.{quantifier_level, chain_level, expression_level, product_level, postfix_level, unary_level, operator_level, left_place, right_place, member_place, level}
 use Rattle.zf_scan.specs.Choosing.{next_of, goes_on, ends_names, is_mark}
 use Rattle.zf_text.specs.Reading as basic
 use Rattle.zf_text.specs.Reading.{first, rest, read_name, read_number}
@@ -95,33 +103,40 @@ Gives outcome (Err e) after = Fails outcome e.kind e.line
 
 -- ---- what a symbol is behind a term
 
--- one more than the level at which the symbol goes on with the term before it; 0 where it does not
+abbrev pub role_of : Next → Role
+role_of (next.Infix op) = role.Operator (operator.Function op)
+role_of (next.Arrow a) = role.Operator (operator.Generic a)
+role_of (next.Connective c) = role.Operator (operator.Connective c)
+role_of next.OpenImage = role.Operator operator.Image
+role_of next.Name = role.Operator operator.Application
+role_of next.Number = role.Operator operator.Application
+role_of (next.Constant c) = role.Operator operator.Application
+role_of next.EmptySet = role.Operator operator.Application
+role_of next.OpenRound = role.Operator operator.Application
+role_of next.OpenBrace = role.Operator operator.Application
+role_of (next.Relation r) = role.Relation
+role_of next.Cross = role.Cross
+role_of next.Inverse = role.Inverse
+role_of _ = role.Ends
+
+-- one more than the level at which such a symbol goes on with the term before it; 0 where it does not
+abbrev pub bound_by : Role → ℕ
+bound_by role.Ends = 0
+bound_by (role.Operator op) = operator_level op + 1
+bound_by role.Relation = chain_level + 1
+bound_by role.Cross = product_level + 1
+bound_by role.Inverse = postfix_level + 1
+
 abbrev pub binds : Next → ℕ
-binds (next.Connective c) = connective_level c + 1
-binds (next.Relation r) = chain_level + 1
-binds (next.Arrow a) = expression_level + 1
-binds next.Cross = product_level + 1
-binds (next.Infix op) = infix_level op + 1
-binds next.Name = application_level + 1
-binds next.Number = application_level + 1
-binds (next.Constant c) = application_level + 1
-binds next.EmptySet = application_level + 1
-binds next.OpenRound = application_level + 1
-binds next.OpenBrace = application_level + 1
-binds next.Inverse = postfix_level + 1
-binds next.OpenImage = postfix_level + 1
-binds _ = 0
+binds x = bound_by (role_of x)
 
 -- the level that the term before such a symbol has at least
-abbrev pub place_before : Next → ℕ
-place_before (next.Connective c) = left_place c
-place_before (next.Relation r) = expression_level
-place_before (next.Arrow a) = product_level
-place_before next.Cross = product_level + 1
-place_before (next.Infix op) = infix_level op
-place_before next.Inverse = postfix_level
-place_before next.OpenImage = postfix_level
-place_before _ = application_level
+abbrev pub place_before : Role → ℕ
+place_before role.Ends = quantifier_level
+place_before (role.Operator op) = left_place op
+place_before role.Relation = expression_level
+place_before role.Cross = product_level + 1
+place_before role.Inverse = postfix_level
 
 -- whether names parted by commas and a colon come next, the first of them a name that is due or what follows a name
 abbrev pub begins_decl : Bool → List Symbol → Bool
@@ -150,6 +165,30 @@ over make x = tall (make x.part) (x.height + 1)
 -- a term over two parts
 abbrev pub over_both : (Term → Term → Term) → Tall Term → Tall Term → Tall Term
 over_both make x y = tall (make x.part y.part) (max x.height y.height + 1)
+
+-- a rule that stands at its level or a looser place
+abbrev pub if_at : ℕ → ℕ → Parser (Tall Term) → Parser (Tall Term)
+if_at least place p = λ ts. if nat_le least place then p ts else Err Refused
+
+-- ---- symbols between operands and terms, and behind them
+
+-- behind the symbol between two operands
+abbrev pub beyond : Operator → List Symbol → List Symbol
+beyond operator.Application ts = ts
+beyond _ ts = rest ts
+
+abbrev pub ended_by : Operator → Parser (Unit {0})
+ended_by operator.Image = expect mark.CloseImage
+ended_by _ = pure tt
+
+abbrev pub parted_by : Listed → Mark
+parted_by list.Product = mark.Cross
+parted_by _ = mark.Comma
+
+abbrev pub closed_by : Listed → Parser (Unit {0})
+closed_by list.Tuple = expect mark.CloseRound
+closed_by list.Display = expect mark.CloseBrace
+closed_by list.Product = pure tt
 
 -- ---- the rules, of which `below` reads a term at a place, one level deeper
 
@@ -204,26 +243,25 @@ module _ (below : ℕ → Parser (Tall Term)) where
       then and_then (below place (rest ts)) (λ x us. Ok (tall (Some x.part) x.height, us))
       else Ok (tall None 0, ts)
 
+  -- the terms of a list, of which the first is read, and what stands behind them
+  unfoldable pub listed : ℕ → Listed → Tall Term → Parser (Tall Term)
+  listed line form x = do
+    all ← further (parted_by form) (member_place form) x
+    closed_by form
+    pure (tall (term.Listed line form all.part) (all.height + 1))
+
   -- ---- what begins a term
 
-  unfoldable pub enclosed : ℕ → Mark → (Term → Term) → Parser (Tall Term)
-  enclosed place close make = do
-    x ← below place
-    expect close
-    pure (over make x)
-
   unfoldable pub empty_set : ℕ → Parser (Tall Term)
-  empty_set line = expect mark.OpenSquare >> enclosed expression_level mark.CloseSquare (term.EmptySet line)
+  empty_set line = do
+    expect mark.OpenSquare
+    x ← below expression_level
+    expect mark.CloseSquare
+    pure (over (term.EmptySet line) x)
 
   abbrev pub round_by : ℕ → Tall Term → Next → Parser (Tall Term)
   round_by line x next.CloseRound = past (pure (over (term.Bracket line) x))
-  round_by line x next.Comma = λ ts.
-      if nat_le expression_level (level (tree_of x.part))
-      then (do
-        all ← further mark.Comma expression_level x
-        expect mark.CloseRound
-        pure (tall (term.Tuple line all.part) (all.height + 1))) ts
-      else Err Refused
+  round_by line x next.Comma = if_at expression_level (level (tree_of x.part)) (listed line list.Tuple x)
   round_by line x _ = refuse
 
   -- after an opening bracket
@@ -236,11 +274,7 @@ module _ (below : ℕ → Parser (Tall Term)) where
   display line = λ ts.
       if is_mark mark.CloseBrace (first ts)
       then Err Refused
-      else (do
-        x ← below expression_level
-        all ← further mark.Comma expression_level x
-        expect mark.CloseBrace
-        pure (tall (term.Display line all.part) (all.height + 1))) ts
+      else and_then (below expression_level ts) (listed line list.Display)
 
   unfoldable pub builder : ℕ → Parser (Tall Term)
   builder line = do
@@ -253,10 +287,11 @@ module _ (below : ℕ → Parser (Tall Term)) where
   unfoldable pub braced : ℕ → Parser (Tall Term)
   braced line = λ ts. if begins_decl true ts then builder line ts else display line ts
 
-  unfoldable pub under : ℕ → (Term → Term) → Parser (Tall Term)
-  under place make = do
-    x ← below place
-    pure (over make x)
+  -- a term over the operand behind the next symbol
+  unfoldable pub prefixed : ℕ → ℕ → Unary → Parser (Tall Term)
+  prefixed least line op = if_at least (unary_level op) (past (do
+    x ← below (unary_level op)
+    pure (over (term.Unary line op) x)))
 
   unfoldable pub quantified : ℕ → Quantifier → Parser (Tall Term)
   quantified line q = do
@@ -266,10 +301,6 @@ module _ (below : ℕ → Parser (Tall Term)) where
     x ← below quantifier_level
     pure (tall (term.Quantified q line ds.part p.part x.part) (max (max ds.height p.height) x.height + 1))
 
-  -- a rule that stands at its level or a looser place
-  abbrev pub if_at : ℕ → ℕ → Parser (Tall Term) → Parser (Tall Term)
-  if_at least place p = λ ts. if nat_le least place then p ts else Err Refused
-
   abbrev pub beginning_by : ℕ → ℕ → Next → Parser (Tall Term)
   beginning_by least line next.Name = λ ts. and_then (lift (read_name ts)) (λ n us. Ok (tall (term.Name n.line (ident_of n)) 1, us))
   beginning_by least line next.Number = λ ts. and_then (lift (read_number ts)) (λ v us. Ok (tall (term.Number line v) 1, us))
@@ -277,9 +308,9 @@ module _ (below : ℕ → Parser (Tall Term)) where
   beginning_by least line next.EmptySet = past (empty_set line)
   beginning_by least line next.OpenRound = past (round line)
   beginning_by least line next.OpenBrace = past (braced line)
-  beginning_by least line (next.Prefix s) = if_at least (sign_level (sign.Symbol s)) (past (under (sign_level (sign.Symbol s)) (term.Prefix line (sign.Symbol s))))
-  beginning_by least line (next.Infix Minus) = if_at least unary_level (past (under unary_level (term.Prefix line sign.Minus)))
-  beginning_by least line next.Not = if_at least negation_level (past (under negation_level (term.Not line)))
+  beginning_by least line (next.Prefix s) = prefixed least line (one.Sign (sign.Symbol s))
+  beginning_by least line (next.Infix Minus) = prefixed least line (one.Sign sign.Minus)
+  beginning_by least line next.Not = prefixed least line one.Not
   beginning_by least line (next.Quantifier q) = if_at least quantifier_level (past (quantified line q))
   beginning_by least line _ = refuse
 
@@ -288,44 +319,32 @@ module _ (below : ℕ → Parser (Tall Term)) where
 
   -- ---- what goes on with a term
 
-  unfoldable pub with_right : ℕ → (Term → Term → Term) → Tall Term → Parser (Tall Term)
-  with_right place make x = do
-    y ← below place
-    pure (over_both make x y)
-
-  unfoldable pub image : Tall Term → Parser (Tall Term)
-  image x = do
-    y ← below expression_level
-    expect mark.CloseImage
-    pure (over_both (term.Image (line_of (tree_of x.part))) x y)
+  -- a term over two operands, of which the first is read
+  unfoldable pub binary : Operator → Tall Term → Parser (Tall Term)
+  binary op x = λ ts. (do
+    y ← below (right_place op)
+    ended_by op
+    pure (over_both (term.Binary (line_of (tree_of x.part)) op) x y)) (beyond op ts)
 
   unfoldable pub chained : Tall Term → Parser (Tall Term)
   chained x = do
     ks ← chain_links
     pure (tall (term.Chain (line_of (tree_of x.part)) x.part ks.part) (max x.height ks.height + 1))
 
-  unfoldable pub product : Tall Term → Parser (Tall Term)
-  product x = do
-    all ← further mark.Cross (product_level + 1) x
-    pure (tall (term.Product (line_of (tree_of x.part)) all.part) (all.height + 1))
-
-  abbrev pub longer_by : Tall Term → Next → Parser (Tall Term)
-  longer_by x (next.Connective c) = past (with_right (right_place c) (term.Connective (line_of (tree_of x.part)) c) x)
-  longer_by x (next.Relation r) = chained x
-  longer_by x (next.Arrow a) = past (with_right expression_level (term.Arrow (line_of (tree_of x.part)) a) x)
-  longer_by x next.Cross = product x
-  longer_by x (next.Infix op) = past (with_right (infix_level op + 1) (term.Infix (line_of (tree_of x.part)) op) x)
-  longer_by x next.Inverse = past (pure (over (term.Inverse (line_of (tree_of x.part))) x))
-  longer_by x next.OpenImage = past (image x)
-  longer_by x _ = with_right postfix_level (term.Apply (line_of (tree_of x.part))) x
+  abbrev pub longer_by : Tall Term → Role → Parser (Tall Term)
+  longer_by x role.Ends = pure x
+  longer_by x (role.Operator op) = binary op x
+  longer_by x role.Relation = chained x
+  longer_by x role.Cross = listed (line_of (tree_of x.part)) list.Product x
+  longer_by x role.Inverse = past (pure (over (term.Unary (line_of (tree_of x.part)) one.Inverse) x))
 
   -- goes on while the symbols bind more tightly than this place, up to this height; the second number bounds the turns
   unfoldable pub climb : ℕ → ℕ → ℕ → Tall Term → Parser (Tall Term)
   climb highest least zero x = too_deep
   climb highest least (suc n) x = λ ts.
       if nat_le (binds (first ts)) least then Ok (x, ts)
-      else if nat_le (place_before (first ts)) (level (tree_of x.part))
-      then and_then (longer_by x (first ts) ts) (λ y us. if nat_le y.height highest then climb highest least n y us else Err TooDeep)
+      else if nat_le (place_before (role_of (first ts))) (level (tree_of x.part))
+      then and_then (longer_by x (role_of (first ts)) ts) (λ y us. if nat_le y.height highest then climb highest least n y us else Err TooDeep)
       else Err Refused
 
   unfoldable pub whole : ℕ → ℕ → Parser (Tall Term)

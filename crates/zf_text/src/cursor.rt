@@ -13,6 +13,7 @@ use zf_data::arena::Lent;
 use zf_scan::fault::{TextFault, TextFaultKind};
 use zf_scan::next::{Mark, Next};
 use zf_scan::placed::Placed;
+use zf_tree::operator::{Listed, Operator};
 use zf_tree::symbol::Connective;
 use zf_tree::tree::Name;
 
@@ -158,6 +159,36 @@ impl<'a, 'b> Cursor<'a, 'b> {
         }
         self.skip();
         Ok(())
+    }
+
+    /// Goes past the symbol between two operands; of application there is none.
+    pub fn go_beyond(&mut self, op: Operator)
+        ensures { self.new ≡ terms.beyond op self.old }
+    {
+        if !matches!(op, Operator::Application) {
+            self.skip();
+        }
+    }
+
+    /// Goes past what stands behind two operands.
+    pub fn end(&mut self, op: Operator) -> Result<(), TextFault>
+        ensures { Gives (terms.ended_by op self.old) result self.new }
+    {
+        if matches!(op, Operator::Image) {
+            self.expect(Mark::CloseImage)?;
+        }
+        Ok(())
+    }
+
+    /// Goes past what stands behind the terms of a list.
+    pub fn close(&mut self, form: Listed) -> Result<(), TextFault>
+        ensures { Gives (terms.closed_by form self.old) result self.new }
+    {
+        match form {
+            Listed::Tuple => self.expect(Mark::CloseRound),
+            Listed::Display => self.expect(Mark::CloseBrace),
+            Listed::Product => Ok(()),
+        }
     }
 
     /// A name, whose bytes the text lends.

@@ -4,9 +4,10 @@ ghost use Rattle.zf_text.specs.Levels as levels;
 ghost use Rattle.zf_text.specs.TermReading as spec;
 ghost use Rattle.zf_tree.specs.Trees.{tree_of};
 
-use zf_scan::next::Next;
+use zf_scan::next::{Mark, Next};
+use zf_tree::operator::{Listed, Operator, Sign, Unary};
 use zf_tree::symbol::{Connective, Infix, Prefix};
-use zf_tree::tree::{Sign, Term};
+use zf_tree::tree::Term;
 
 /// A quantifier; the place of any term.
 pub const QUANTIFIER: u8 = 0;
@@ -20,7 +21,8 @@ pub const EXPRESSION: u8 = 7;
 
 pub const PRODUCT: u8 = 8;
 
-pub const UNARY: u8 = 15;
+/// `\power`, `\finset` and the minus of one number.
+pub const POWER: u8 = 15;
 
 pub const APPLICATION: u8 = 16;
 
@@ -30,8 +32,21 @@ pub const POSTFIX: u8 = 18;
 
 pub const ATOM: u8 = 19;
 
+/// What a symbol is behind a term.
+#[derive(Clone, Copy)]
+pub enum Role {
+    /// It does not go on with the term.
+    Ends,
+    /// What stands between the term and its right operand, which is a term itself where the operator is application.
+    Operator(Operator),
+    /// The first link of a chain.
+    Relation,
+    Cross,
+    Inverse,
+}
+
 /// The higher the level, the more tightly a symbol binds.
-pub fn connective_level(connective: Connective) -> u8
+fn connective_level(connective: Connective) -> u8
     ensures value { result ≡ levels.connective_level connective }
     ensures small { result ≤ 4 }
 {
@@ -43,64 +58,101 @@ pub fn connective_level(connective: Connective) -> u8
     }
 }
 
-/// Where the left operand stands: tighter than `\implies`, which is to the right.
-fn left_place(connective: Connective) -> u8
-    ensures { result ≡ levels.left_place connective }
-{
-    match connective {
-        Connective::Iff => 1,
-        Connective::Implies => 3,
-        Connective::Or => 3,
-        Connective::And => 4,
-    }
-}
-
-/// Where the right operand stands.
-pub fn right_place(connective: Connective) -> u8
-    ensures { result ≡ levels.right_place connective }
-{
-    match connective {
-        Connective::Iff => 2,
-        Connective::Implies => 2,
-        Connective::Or => 4,
-        Connective::And => 5,
-    }
-}
-
-pub fn infix_level(op: Infix) -> u8
+fn infix_level(op: Infix) -> u8
     ensures value { result ≡ levels.infix_level op }
     ensures small { result ≤ 14 }
 {
     match op {
         Infix::Maplet => 9,
         Infix::UpTo => 10,
-        Infix::Plus => 11,
-        Infix::Minus => 11,
-        Infix::Union => 11,
-        Infix::Difference => 11,
-        Infix::Times => 12,
-        Infix::Div => 12,
-        Infix::Mod => 12,
-        Infix::Intersection => 12,
-        Infix::Composition => 12,
+        Infix::Plus | Infix::Minus | Infix::Union | Infix::Difference => 11,
+        Infix::Times | Infix::Div | Infix::Mod | Infix::Intersection | Infix::Composition => 12,
         Infix::Overriding => 13,
-        Infix::DomainRestriction => 14,
-        Infix::RangeRestriction => 14,
-        Infix::DomainSubtraction => 14,
-        Infix::RangeSubtraction => 14,
+        Infix::DomainRestriction | Infix::RangeRestriction => 14,
+        Infix::DomainSubtraction | Infix::RangeSubtraction => 14,
     }
 }
 
-pub fn sign_level(sign: Sign) -> u8
+fn sign_level(sign: Sign) -> u8
     ensures { result ≡ levels.sign_level sign }
 {
     match sign {
-        Sign::Minus => UNARY,
-        Sign::Symbol(Prefix::Power) => UNARY,
-        Sign::Symbol(Prefix::Finset) => UNARY,
-        Sign::Symbol(Prefix::Domain) => PREFIX,
-        Sign::Symbol(Prefix::Range) => PREFIX,
-        Sign::Symbol(Prefix::Size) => PREFIX,
+        Sign::Minus | Sign::Symbol(Prefix::Power | Prefix::Finset) => POWER,
+        Sign::Symbol(Prefix::Domain | Prefix::Range | Prefix::Size) => PREFIX,
+    }
+}
+
+/// The level of a term over one operand, and the operand's place.
+pub fn unary_level(op: Unary) -> u8
+    ensures { result ≡ levels.unary_level op }
+{
+    match op {
+        Unary::Sign(sign) => sign_level(sign),
+        Unary::Inverse => POSTFIX,
+        Unary::Not => NEGATION,
+    }
+}
+
+fn operator_level(op: Operator) -> u8
+    ensures value { result ≡ levels.operator_level op }
+    ensures small { result ≤ 18 }
+{
+    match op {
+        Operator::Function(op) => infix_level(op),
+        Operator::Generic(_) => EXPRESSION,
+        Operator::Connective(connective) => connective_level(connective),
+        Operator::Application => APPLICATION,
+        Operator::Image => POSTFIX,
+    }
+}
+
+/// Where the left operand stands: tighter than an operator to the right.
+fn left_place(op: Operator) -> u8
+    ensures { result ≡ levels.left_place op }
+{
+    match op {
+        Operator::Generic(_) | Operator::Connective(Connective::Implies) => operator_level(op) + 1,
+        _ => operator_level(op),
+    }
+}
+
+/// Where the right operand stands.
+pub fn right_place(op: Operator) -> u8
+    ensures { result ≡ levels.right_place op }
+{
+    match op {
+        Operator::Generic(_) | Operator::Connective(Connective::Implies) => operator_level(op),
+        Operator::Application => POSTFIX,
+        Operator::Image => EXPRESSION,
+        _ => operator_level(op) + 1,
+    }
+}
+
+fn listed_level(form: Listed) -> u8
+    ensures { result ≡ levels.listed_level form }
+{
+    match form {
+        Listed::Tuple | Listed::Display => ATOM,
+        Listed::Product => PRODUCT,
+    }
+}
+
+pub fn member_place(form: Listed) -> u8
+    ensures { result ≡ levels.member_place form }
+{
+    match form {
+        Listed::Tuple | Listed::Display => EXPRESSION,
+        Listed::Product => PRODUCT + 1,
+    }
+}
+
+/// What stands between two terms of a list.
+pub fn parted_by(form: Listed) -> Mark
+    ensures { result ≡ spec.parted_by form }
+{
+    match form {
+        Listed::Tuple | Listed::Display => Mark::Comma,
+        Listed::Product => Mark::Cross,
     }
 }
 
@@ -110,62 +162,65 @@ pub fn level(term: &Term<'_>) -> u8
 {
     match term {
         Term::Quantified(_, _, _, _, _) => QUANTIFIER,
-        Term::Connective(_, connective, _, _) => connective_level(*connective),
-        Term::Not(_, _) => NEGATION,
+        Term::Unary(_, op, _) => unary_level(*op),
+        Term::Binary(_, op, _, _) => operator_level(*op),
+        Term::Listed(_, form, _) => listed_level(*form),
         Term::Chain(_, _, _) => CHAIN,
-        Term::Arrow(_, _, _, _) => EXPRESSION,
-        Term::Product(_, _) => PRODUCT,
-        Term::Infix(_, op, _, _) => infix_level(*op),
-        Term::Prefix(_, sign, _) => sign_level(*sign),
-        Term::Apply(_, _, _) => APPLICATION,
-        Term::Inverse(_, _) => POSTFIX,
-        Term::Image(_, _, _) => POSTFIX,
         Term::Name(_, _) => ATOM,
         Term::Number(_, _) => ATOM,
         Term::Constant(_, _) => ATOM,
         Term::EmptySet(_, _) => ATOM,
         Term::Bracket(_, _) => ATOM,
-        Term::Tuple(_, _) => ATOM,
-        Term::Display(_, _) => ATOM,
         Term::Builder(_, _, _, _) => ATOM,
     }
 }
 
-/// One more than the level at which the symbol goes on with the term before it; 0 where it does not.
+/// What the symbol is behind a term.
 #[inline(always)]
-pub fn binds(next: Next) -> u8
-    ensures { result ≡ spec.binds next }
+pub fn role_of(next: Next) -> Role
+    ensures { result ≡ spec.role_of next }
 {
     match next {
-        Next::Connective(connective) => connective_level(connective) + 1,
-        Next::Relation(_) => CHAIN + 1,
-        Next::Arrow(_) => EXPRESSION + 1,
-        Next::Cross => PRODUCT + 1,
-        Next::Infix(op) => infix_level(op) + 1,
-        Next::Inverse => POSTFIX + 1,
-        Next::OpenImage => POSTFIX + 1,
-        Next::Name => APPLICATION + 1,
-        Next::Number => APPLICATION + 1,
-        Next::Constant(_) => APPLICATION + 1,
-        Next::EmptySet => APPLICATION + 1,
-        Next::OpenRound => APPLICATION + 1,
-        Next::OpenBrace => APPLICATION + 1,
-        _ => 0,
+        Next::Infix(op) => Role::Operator(Operator::Function(op)),
+        Next::Arrow(arrow) => Role::Operator(Operator::Generic(arrow)),
+        Next::Connective(connective) => Role::Operator(Operator::Connective(connective)),
+        Next::OpenImage => Role::Operator(Operator::Image),
+        Next::Name | Next::Number | Next::Constant(_) => Role::Operator(Operator::Application),
+        Next::EmptySet | Next::OpenRound | Next::OpenBrace => {
+            Role::Operator(Operator::Application)
+        }
+        Next::Relation(_) => Role::Relation,
+        Next::Cross => Role::Cross,
+        Next::Inverse => Role::Inverse,
+        _ => Role::Ends,
     }
 }
 
-/// The level that the term before such a symbol has at least.
-pub fn place_before(next: Next) -> u8
-    ensures { result ≡ spec.place_before next }
-{
-    match next {
-        Next::Connective(connective) => left_place(connective),
-        Next::Relation(_) => EXPRESSION,
-        Next::Arrow(_) => PRODUCT,
-        Next::Cross => PRODUCT + 1,
-        Next::Infix(op) => infix_level(op),
-        Next::Inverse => POSTFIX,
-        Next::OpenImage => POSTFIX,
-        _ => APPLICATION,
+impl Role {
+    /// One more than the level at which such a symbol goes on with the term before it; 0 where it does not.
+    #[inline(always)]
+    pub fn binds(self) -> u8
+        ensures { result ≡ spec.bound_by self }
+    {
+        match self {
+            Role::Ends => 0,
+            Role::Operator(op) => operator_level(op) + 1,
+            Role::Relation => CHAIN + 1,
+            Role::Cross => PRODUCT + 1,
+            Role::Inverse => POSTFIX + 1,
+        }
+    }
+
+    /// The level that the term before such a symbol has at least.
+    pub fn place_before(self) -> u8
+        ensures { result ≡ spec.place_before self }
+    {
+        match self {
+            Role::Ends => QUANTIFIER,
+            Role::Operator(op) => left_place(op),
+            Role::Relation => EXPRESSION,
+            Role::Cross => PRODUCT + 1,
+            Role::Inverse => POSTFIX,
+        }
     }
 }

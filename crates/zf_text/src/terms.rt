@@ -9,7 +9,7 @@ mod longer;
 mod parts;
 
 use crate::cursor::Cursor;
-use crate::levels::{binds, level, place_before};
+use crate::levels::{level, role_of};
 use crate::tall::{Tall, too_deep};
 use bumpalo::Bump;
 use zf_data::arena::Boxed;
@@ -55,14 +55,14 @@ impl<
     {
         let line = left.part.get().line();
         for _turn in 0..self.below + 1 {
-            let after = tokens.peek();
-            if binds(after) <= least {
+            let role = role_of(tokens.peek());
+            if role.binds() <= least {
                 return Ok(left);
             }
-            if level(left.part.get()) < place_before(after) {
+            if level(left.part.get()) < role.place_before() {
                 return Err(tokens.unexpected());
             }
-            left = self.longer(tokens, left, after)?;
+            left = self.longer(tokens, left, role)?;
             if left.height > self.below + 1 {
                 return Err(too_deep(line));
             }
@@ -82,7 +82,7 @@ impl<
     {
         let first = self.beginning(tokens, least)?;
         // Most terms end here.
-        if binds(tokens.peek()) <= least {
+        if role_of(tokens.peek()).binds() <= least {
             return Ok(first);
         }
         self.climb(tokens, least, first)

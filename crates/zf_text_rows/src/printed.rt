@@ -3,8 +3,9 @@ use std::alloc::Global;
 use std::fmt::Display;
 use std::{fmt, io};
 use zf_data::arena::Boxed;
+use zf_tree::operator::{Listed, Operator, Sign, Unary};
 use zf_tree::tree::{
-    Decl, Link, Name, Paragraph, Part, SchemaExp, SchemaRef, Sign, Spec, Term, VarDecl, ZBox,
+    Decl, Link, Name, Paragraph, Part, SchemaExp, SchemaRef, Spec, Term, VarDecl, ZBox,
 };
 
 /// The text of the boxes; with lines, that of each name and term stands behind it and `@`.
@@ -63,6 +64,36 @@ impl Printer {
         Ok(())
     }
 
+    /// The bracket and the name of what is applied to one term.
+    fn unary(&mut self, line: u32, op: Unary) -> fmt::Result {
+        match op {
+            Unary::Sign(Sign::Symbol(prefix)) => self.word(format_args!("({prefix:?}"), line),
+            Unary::Sign(Sign::Minus) => self.word("(Minus", line),
+            Unary::Inverse => self.word("(Inverse", line),
+            Unary::Not => self.word("(Not", line),
+        }
+    }
+
+    /// The bracket and the name of what stands between two terms.
+    fn operator(&mut self, line: u32, op: Operator) -> fmt::Result {
+        match op {
+            Operator::Function(op) => self.word(format_args!("({op:?}"), line),
+            Operator::Generic(arrow) => self.word(format_args!("({arrow:?}"), line),
+            Operator::Connective(connective) => self.word(format_args!("({connective:?}"), line),
+            Operator::Application => self.word("(Apply", line),
+            Operator::Image => self.word("(Image", line),
+        }
+    }
+
+    /// The bracket and the name of what makes one term of several.
+    fn listed(&mut self, line: u32, form: Listed) -> fmt::Result {
+        match form {
+            Listed::Tuple => self.word("(Tuple", line),
+            Listed::Display => self.word("(Display", line),
+            Listed::Product => self.word("(Product", line),
+        }
+    }
+
     #[cycle(terms)]
     fn term(&mut self, term: &Term<'_>) -> fmt::Result {
         match term {
@@ -77,12 +108,8 @@ impl Printer {
                 self.word("(Bracket", *line)?;
                 self.last(term.get())
             }
-            Term::Tuple(line, terms) => {
-                self.word("(Tuple", *line)?;
-                self.all(terms.as_slice())
-            }
-            Term::Display(line, terms) => {
-                self.word("(Display", *line)?;
+            Term::Listed(line, form, terms) => {
+                self.listed(*line, *form)?;
                 self.all(terms.as_slice())
             }
             Term::Builder(line, decls, filter, term) => {
@@ -92,56 +119,20 @@ impl Printer {
                 self.optional("@", term)?;
                 self.close()
             }
-            Term::Prefix(line, Sign::Symbol(prefix), term) => {
-                self.word(format_args!("({prefix:?}"), *line)?;
+            Term::Unary(line, op, term) => {
+                self.unary(*line, *op)?;
                 self.last(term.get())
             }
-            Term::Prefix(line, Sign::Minus, term) => {
-                self.word("(Minus", *line)?;
-                self.last(term.get())
-            }
-            Term::Inverse(line, term) => {
-                self.word("(Inverse", *line)?;
-                self.last(term.get())
-            }
-            Term::Image(line, relation, set) => {
-                self.word("(Image", *line)?;
-                self.term(relation.get())?;
-                self.last(set.get())
-            }
-            Term::Apply(line, function, argument) => {
-                self.word("(Apply", *line)?;
-                self.term(function.get())?;
-                self.last(argument.get())
-            }
-            Term::Infix(line, op, left, right) => {
-                self.word(format_args!("({op:?}"), *line)?;
+            Term::Binary(line, op, left, right) => {
+                self.operator(*line, *op)?;
                 self.term(left.get())?;
                 self.last(right.get())
-            }
-            Term::Arrow(line, arrow, left, right) => {
-                self.word(format_args!("({arrow:?}"), *line)?;
-                self.term(left.get())?;
-                self.last(right.get())
-            }
-            Term::Product(line, terms) => {
-                self.word("(Product", *line)?;
-                self.all(terms.as_slice())
             }
             Term::Chain(line, first, links) => {
                 self.word("(Chain", *line)?;
                 self.term(first.get())?;
                 self.links(links.as_slice())?;
                 self.close()
-            }
-            Term::Not(line, term) => {
-                self.word("(Not", *line)?;
-                self.last(term.get())
-            }
-            Term::Connective(line, connective, left, right) => {
-                self.word(format_args!("({connective:?}"), *line)?;
-                self.term(left.get())?;
-                self.last(right.get())
             }
             Term::Quantified(quantifier, line, decls, filter, body) => {
                 self.word(format_args!("({quantifier:?}"), *line)?;

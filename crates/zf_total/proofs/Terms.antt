@@ -7,8 +7,8 @@ use Rattle.zf_tree.specs.declared.symbol.Infix.{Infix}
 use Rattle.zf_tree.specs.declared.symbol.Infix.TheVariants.{Maplet, UpTo, Plus, Minus, Union, Difference, Times, Div, Mod, Intersection, Composition, Overriding, DomainRestriction, RangeRestriction, DomainSubtraction, RangeSubtraction}
 use Rattle.zf_tree.specs.declared.symbol.Prefix.{Prefix}
 use Rattle.zf_tree.specs.declared.symbol.Prefix.TheVariants as prefix
-use Rattle.zf_tree.specs.declared.tree.Sign.{Sign}
-use Rattle.zf_tree.specs.declared.tree.Sign.TheVariants as sign
+use Rattle.zf_tree.specs.declared.operator.Sign.{Sign}
+use Rattle.zf_tree.specs.declared.operator.Sign.TheVariants as sign
 use Rattle.zf_tree.specs.declared.operator.Listed.{Listed}
 use Rattle.zf_tree.specs.declared.operator.Listed.TheVariants as the_listed
 use Rattle.zf_tree.specs.declared.operator.Operator.{Operator}

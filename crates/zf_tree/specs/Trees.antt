@@ -1,14 +1,13 @@
 -- Trees as plain data, a form for each form of ZRM 6 that is read, and how the program's trees are seen as them.
 use Rattle.std.specs.Prelude.{ℕ, List, [], ◌∷◌, map, Option, Some, None}
-use Rattle.zf_tree.specs.declared.symbol.Arrow.{Arrow}
-use Rattle.zf_tree.specs.declared.symbol.Connective.{Connective}
 use Rattle.zf_tree.specs.declared.symbol.Constant.{Constant}
-use Rattle.zf_tree.specs.declared.symbol.Infix.{Infix}
 use Rattle.zf_tree.specs.declared.symbol.Quantifier.{Quantifier}
 use Rattle.zf_tree.specs.declared.symbol.Relation.{Relation}
 use Rattle.zf_tree.specs.Names.{name_at}
 use Rattle.zf_tree.specs.declared.tree.Name.{Name}
-use Rattle.zf_tree.specs.declared.tree.Sign.{Sign}
+use Rattle.zf_tree.specs.declared.operator.Listed.{Listed}
+use Rattle.zf_tree.specs.declared.operator.Operator.{Operator}
+use Rattle.zf_tree.specs.declared.operator.Unary.{Unary}
 use Rattle.zf_tree.specs.declared.tree.Term.{Term}
 use Rattle.zf_tree.specs.declared.tree.Link.{Link}
 use Rattle.zf_tree.specs.declared.tree.VarDecl.{VarDecl}
@@ -35,19 +34,11 @@ mutual
     constant : (line : ℕ) → Constant → Tree
     empty_set : (line : ℕ) → Tree → Tree
     bracket : (line : ℕ) → Tree → Tree
-    tuple : (line : ℕ) → Trees → Tree
-    display : (line : ℕ) → Trees → Tree
+    listed : (line : ℕ) → Listed → Trees → Tree
     builder : (line : ℕ) → VarDecls → Perhaps → Perhaps → Tree
-    prefixed : (line : ℕ) → Sign → Tree → Tree
-    inverse : (line : ℕ) → Tree → Tree
-    image : (line : ℕ) → Tree → Tree → Tree
-    applied : (line : ℕ) → Tree → Tree → Tree
-    infixed : (line : ℕ) → Infix → Tree → Tree → Tree
-    arrow : (line : ℕ) → Arrow → Tree → Tree → Tree
-    product : (line : ℕ) → Trees → Tree
+    unary : (line : ℕ) → Unary → Tree → Tree
+    binary : (line : ℕ) → Operator → Tree → Tree → Tree
     chain : (line : ℕ) → Tree → Links → Tree
-    negated : (line : ℕ) → Tree → Tree
-    connected : (line : ℕ) → Connective → Tree → Tree → Tree
     quantified : (line : ℕ) → Quantifier → VarDecls → Perhaps → Tree → Tree
 
   -- operands of one node
@@ -77,19 +68,11 @@ line_of (numeral l v) = l
 line_of (constant l c) = l
 line_of (empty_set l t) = l
 line_of (bracket l t) = l
-line_of (tuple l ts) = l
-line_of (display l ts) = l
+line_of (listed l form ts) = l
 line_of (builder l ds p t) = l
-line_of (prefixed l s t) = l
-line_of (inverse l t) = l
-line_of (image l r a) = l
-line_of (applied l f x) = l
-line_of (infixed l op a b) = l
-line_of (arrow l op a b) = l
-line_of (product l ts) = l
+line_of (unary l op t) = l
+line_of (binary l op a b) = l
 line_of (chain l t ks) = l
-line_of (negated l t) = l
-line_of (connected l c a b) = l
 line_of (quantified l q ds p t) = l
 
 -- ---- declarations, schema expressions, paragraphs and boxes
@@ -140,19 +123,11 @@ tree_step (Term-F.Number l v) = numeral l v
 tree_step (Term-F.Constant l c) = constant l c
 tree_step (Term-F.EmptySet l t) = empty_set l t
 tree_step (Term-F.Bracket l t) = bracket l t
-tree_step (Term-F.Tuple l ts) = tuple l (trees ts)
-tree_step (Term-F.Display l ts) = display l (trees ts)
+tree_step (Term-F.Listed l form ts) = listed l form (trees ts)
 tree_step (Term-F.Builder l ds p t) = builder l (var_decls ds) (perhaps p) (perhaps t)
-tree_step (Term-F.Prefix l s t) = prefixed l s t
-tree_step (Term-F.Inverse l t) = inverse l t
-tree_step (Term-F.Image l r a) = image l r a
-tree_step (Term-F.Apply l f x) = applied l f x
-tree_step (Term-F.Infix l op a b) = infixed l op a b
-tree_step (Term-F.Arrow l op a b) = arrow l op a b
-tree_step (Term-F.Product l ts) = product l (trees ts)
+tree_step (Term-F.Unary l op t) = unary l op t
+tree_step (Term-F.Binary l op a b) = binary l op a b
 tree_step (Term-F.Chain l t ks) = chain l t (links ks)
-tree_step (Term-F.Not l t) = negated l t
-tree_step (Term-F.Connective l op a b) = connected l op a b
 tree_step (Term-F.Quantified q l ds p t) = quantified l q (var_decls ds) (perhaps p) t
 
 abbrev pub link_step : Link-F Tree (Relation × Tree) (List Name × Tree) → Relation × Tree
@@ -169,6 +144,11 @@ link_of = fold-Link Tree (Relation × Tree) (List Name × Tree) tree_step link_s
 
 unfoldable pub var_decl_of : VarDecl → List Name × Tree
 var_decl_of = fold-VarDecl Tree (Relation × Tree) (List Name × Tree) tree_step link_step decl_step
+
+-- a part that may be left out
+abbrev pub part_of : Option Term → Perhaps
+part_of None = absent
+part_of (Some t) = present (tree_of t)
 
 -- a link, and a declaration, of these parts
 abbrev pub new_link : Relation → Term → Link

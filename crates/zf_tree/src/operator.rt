@@ -1,9 +1,8 @@
-//! The symbols of resolved terms, and the rule of types that each has.
+//! The symbols of terms by what they make one term of, and the rule of types that each has.
 ghost use Rattle.std.specs.Prelude.{◌≡◌};
 ghost use Rattle.zf_tree.specs.Operators as spec;
 
 use crate::symbol::{Arrow, Connective, Infix, Prefix, Relation};
-use crate::tree::Sign;
 
 /// What stands between two terms.
 #[derive(Clone, Copy)]
@@ -15,6 +14,13 @@ pub enum Operator {
     Application,
     /// `R \limg A \rimg`
     Image,
+}
+
+/// What stands before one term.
+#[derive(Clone, Copy)]
+pub enum Sign {
+    Symbol(Prefix),
+    Minus,
 }
 
 /// What is applied to one term.

@@ -5,7 +5,8 @@ ghost use Rattle.zf_tree.specs.Names.{ident_of, name_at};
 ghost use Rattle.zf_tree.specs.Trees.{line_of, tree_of};
 
 use crate::ends::{back, front};
-use crate::symbol::{Arrow, Connective, Constant, Infix, Prefix, Quantifier, Relation};
+use crate::operator::{Listed, Operator, Unary};
+use crate::symbol::{Constant, Quantifier, Relation};
 use std::marker::Model;
 use zf_data::arena::{Boxed, Items, Lent};
 
@@ -102,13 +103,6 @@ impl<'a> Ident<'a> {
     }
 }
 
-/// What stands before one term.
-#[derive(Clone, Copy)]
-pub enum Sign {
-    Symbol(Prefix),
-    Minus,
-}
-
 /// A part of a term that may be left out. It stands in a box, since few terms have one.
 pub type Part<'a> = Boxed<'a, Option<Boxed<'a, Term<'a>>>>;
 
@@ -125,25 +119,13 @@ pub enum Term<'a> {
     /// `\emptyset[E]`
     EmptySet(u32, Boxed<'a, Term<'a>>),
     Bracket(u32, Boxed<'a, Term<'a>>),
-    Tuple(u32, Terms<'a>),
-    Display(u32, Terms<'a>),
+    Listed(u32, Listed, Terms<'a>),
     /// A builder: the declarations, the filter, and the term.
     Builder(u32, Boxed<'a, Items<'a, VarDecl<'a>>>, Part<'a>, Part<'a>),
-    Prefix(u32, Sign, Boxed<'a, Term<'a>>),
-    /// `R \inv`
-    Inverse(u32, Boxed<'a, Term<'a>>),
-    /// `R \limg A \rimg`
-    Image(u32, Boxed<'a, Term<'a>>, Boxed<'a, Term<'a>>),
-    /// `f x`
-    Apply(u32, Boxed<'a, Term<'a>>, Boxed<'a, Term<'a>>),
-    Infix(u32, Infix, Boxed<'a, Term<'a>>, Boxed<'a, Term<'a>>),
-    Arrow(u32, Arrow, Boxed<'a, Term<'a>>, Boxed<'a, Term<'a>>),
-    /// `A \cross B ..`, one node
-    Product(u32, Terms<'a>),
+    Unary(u32, Unary, Boxed<'a, Term<'a>>),
+    Binary(u32, Operator, Boxed<'a, Term<'a>>, Boxed<'a, Term<'a>>),
     /// A chain of relations: the first operand, and the links.
     Chain(u32, Boxed<'a, Term<'a>>, Boxed<'a, Items<'a, Link<'a>>>),
-    Not(u32, Boxed<'a, Term<'a>>),
-    Connective(u32, Connective, Boxed<'a, Term<'a>>, Boxed<'a, Term<'a>>),
     /// The declarations, the constraint, and the body.
     Quantified(Quantifier, u32, Boxed<'a, Items<'a, VarDecl<'a>>>, Part<'a>, Boxed<'a, Term<'a>>),
 }
@@ -160,19 +142,11 @@ impl<'a> Term<'a> {
             Term::Constant(line, _) => *line,
             Term::EmptySet(line, _) => *line,
             Term::Bracket(line, _) => *line,
-            Term::Tuple(line, _) => *line,
-            Term::Display(line, _) => *line,
+            Term::Listed(line, _, _) => *line,
             Term::Builder(line, _, _, _) => *line,
-            Term::Prefix(line, _, _) => *line,
-            Term::Inverse(line, _) => *line,
-            Term::Image(line, _, _) => *line,
-            Term::Apply(line, _, _) => *line,
-            Term::Infix(line, _, _, _) => *line,
-            Term::Arrow(line, _, _, _) => *line,
-            Term::Product(line, _) => *line,
+            Term::Unary(line, _, _) => *line,
+            Term::Binary(line, _, _, _) => *line,
             Term::Chain(line, _, _) => *line,
-            Term::Not(line, _) => *line,
-            Term::Connective(line, _, _, _) => *line,
             Term::Quantified(_, line, _, _, _) => *line,
         }
     }

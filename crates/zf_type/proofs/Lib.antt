@@ -3,7 +3,6 @@ pub mod OneSort
 pub mod ResolvedAlike
 pub mod Taken
 pub mod Conjunctions
-pub mod Filling
 pub mod Named
 pub mod Judging
 pub mod Members
@@ -11,6 +10,5 @@ pub mod Chains
 pub mod Bound
 pub mod Halves
 pub mod Indexed
-pub mod Quantified
+pub mod Parts
 pub mod Rows
-pub mod Builders

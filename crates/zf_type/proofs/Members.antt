@@ -1,64 +1,19 @@
--- What members of a tuple, a display or a product make.
+-- Types of members, where they are not all the same, and where they are.
 use Rattle.std.proofs.Common.{◌≡◌, ◌<◌, ◌≤◌, zero, suc, arith, get_or, Some, None, ⊎_elim, ℕ, List, [], ◌∷◌, length, map, refl, sym, ap, ◌∙◌, subst, inl, inr}
 use Rattle.std.specs.Prelude.{slice_get}
 use Rattle.zf_tree.specs.declared.tree.Term.{Term}
-use Rattle.zf_tree.specs.Trees.{line_of, Tree, Trees, no_trees, tree, trees, tree_of}
-use Rattle.zf_term.specs.Types.{Ty, Tys, no_types, type, types, type_of, IsSmall}
+use Rattle.zf_tree.specs.Trees.{line_of, Tree, trees, tree_of}
+use Rattle.zf_term.specs.Types.{Ty, Tys, no_types, type, types, type_of}
 use Rattle.zf_tree.specs.declared.operator.Listed.{Listed}
 use Rattle.zf_tree.specs.declared.operator.Listed.TheVariants.{Tuple, Display, Product}
-use Rattle.zf_tree.specs.declared.operator.Need.{Need}
 use Rattle.zf_term.specs.declared.ztype.ZType.{ZType}
-use Rattle.zf_term.specs.ResolvedTrees.{listed}
 use Rattle.zf_term.specs.declared.fault.TypeFaultKind.{TypeFaultKind}
-use Rattle.zf_term.specs.declared.fault.TypeFaultKind.TheVariants.{Mismatch, TooLarge}
-use Rattle.zf_type.specs.Judging.{listed_tree, member_need, AreMembers, AreAll, Makes, IsOther, DiffersAt}
-use Rattle.zf_type.specs.Offences.{Offends, OneOffends, OneDiffers, Differ}
-use Rattle.zf_type.specs.Resolving.{resolved, resolved_all}
+use Rattle.zf_term.specs.declared.fault.TypeFaultKind.TheVariants.{Mismatch}
+use Rattle.zf_type.specs.Judging.{IsOther, DiffersAt}
+use Rattle.zf_type.specs.Offences.{OneDiffers, Differ}
 use Rattle.zf_type.specs.Rules.{typed}
 use Rattle.zf_type.specs.Scopes.{Scope}
-use Rattle.zf_type.specs.Typing.{IsOf, AreOf, AreSetsOf, AllAreOf}
-
-pub list_offends : (form : Listed) (s : Scope) (n : Need) (l : ℕ) (es : Trees) (k : TypeFaultKind) (m : ℕ) → OneOffends s (member_need form) es k m → Offends s n (listed_tree form l es) k m
-list_offends Tuple s n l es k m h = inl h
-list_offends Display s n l es k m h = inl h
-list_offends Product s n l es k m h = inl h
-
-pub list_resolved : (form : Listed) (s : Scope) (l : ℕ) (es : Trees) → resolved s (listed_tree form l es) ≡ listed l form (resolved_all s es)
-list_resolved Tuple s l es = refl
-list_resolved Display s l es = refl
-list_resolved Product s l es = refl
-
-pub list_line : (form : Listed) (l : ℕ) (es : Trees) → l ≡ line_of (listed_tree form l es)
-list_line Tuple l es = refl
-list_line Display l es = refl
-list_line Product l es = refl
-
-are_of : (s : Scope) (es : Trees) (us : Tys) → AreMembers Tuple s es us → AreOf s es us
-are_of s no_trees us h = h
-are_of s (tree e es) us h = (h.0, h.1, h.2, are_of s es h.1 h.3, h.4)
-
-are_sets_of : (s : Scope) (es : Trees) (us : Tys) → AreMembers Product s es us → AreSetsOf s es us
-are_sets_of s no_trees us h = h
-are_sets_of s (tree e es) us h = (h.0, h.1, h.2, are_sets_of s es h.1 h.3, h.4)
-
-all_are_of : (s : Scope) (es : Trees) (us : Tys) (u : Ty) → AreMembers Display s es us → AreAll us u → AllAreOf s es u
-all_are_of s no_trees us u h a = subst (λ vs. AreAll vs u) h a
-all_are_of s (tree e no_trees) us u h a =
-    let one : AreAll (type h.0 no_types) u = subst (λ vs. AreAll (type h.0 vs) u) h.3 (subst (λ vs. AreAll vs u) h.4 a) in
-    subst (λ v. IsOf s e (typed v)) one h.2
-all_are_of s (tree e (tree f es)) us u h a =
-    let more : AreAll (type h.0 (type h.3.0 h.3.1)) u = subst (λ vs. AreAll (type h.0 vs) u) h.3.4 (subst (λ vs. AreAll vs u) h.4 a) in
-    (subst (λ v. IsOf s e (typed v)) more.0 h.2, all_are_of s (tree f es) h.1 u h.3 (subst (λ vs. AreAll vs u) (sym h.3.4) more.1))
-
-pub list_is : (form : Listed) (s : Scope) (l : ℕ) (es : Trees) (us : Tys) (u : Ty) → AreMembers form s es us → Makes form us u → IsSmall u → IsOf s (listed_tree form l es) (typed u)
-list_is Tuple s l es us u h m small = (us, are_of s es us h, subst IsSmall m small, ap typed m)
-list_is Product s l es us u h m small = (us, are_sets_of s es us h, subst IsSmall m small, ap typed m)
-list_is Display s l es us u h m small = (m.0, all_are_of s es us m.0 h m.1, subst IsSmall m.2 small, ap typed m.2)
-
-pub list_large : (form : Listed) (s : Scope) (n : Need) (l : ℕ) (es : Trees) (us : Tys) (u : Ty) → AreMembers form s es us → Makes form us u → (IsSmall u → ⊥) → Offends s n (listed_tree form l es) TooLarge l
-list_large Tuple s n l es us u h m large = inr (inl (us, are_of s es us h, (λ small. large (subst IsSmall (sym m) small)), refl, refl))
-list_large Product s n l es us u h m large = inr (inl (us, are_sets_of s es us h, (λ small. large (subst IsSmall (sym m) small)), refl, refl))
-list_large Display s n l es us u h m large = inr (inr (inl (m.0, all_are_of s es us m.0 h m.1, (λ small. large (subst IsSmall (sym m.2) small)), refl, refl)))
+use Rattle.zf_type.specs.Typing.{IsOf, AreMembers, AreAll}
 
 -- as many terms as types
 pub lengths : (form : Listed) (s : Scope) (es : List Tree) (us : List Ty) → AreMembers form s (trees es) (types us) → length es ≡ length us
@@ -79,7 +34,7 @@ one_differs s u (e ∷ es) (type v vs) m h o =
     let rest : vs ≡ h.1 = (cc) in
     ⊎_elim (λ d. inl (h.0, h.2, (λ same. d.0 (same ∙ sym first)), refl, d.1)) (λ d. inr (one_differs s u es vs m (subst (λ ws. AreMembers Display s (trees es) ws) (sym rest) h.3) d)) o
 
-differ : (s : Scope) (l : ℕ) (es : List Tree) (us : Tys) (m : ℕ) → AreMembers Display s (trees es) us → DiffersAt l es us m → Differ s l (trees es) Mismatch m
+differ : (s : Scope) (l : ℕ) (es : List Tree) (us : Tys) (m : ℕ) → AreMembers Display s (trees es) us → DiffersAt l es us m → Differ Display s l (trees es) Mismatch m
 differ s l [] us m h d = (refl, d.1)
 differ s l (e ∷ es) no_types m h d = absurd d
 differ s l (e ∷ es) (type v vs) m h d =
@@ -88,10 +43,10 @@ differ s l (e ∷ es) (type v vs) m h d =
     let rest : vs ≡ h.1 = (cc) in
     (v, subst (λ w. IsOf s e (typed w)) (sym first) h.2, one_differs s v es vs m (subst (λ ws. AreMembers Display s (trees es) ws) (sym rest) h.3) d)
 
-pub list_differs : (form : Listed) (s : Scope) (n : Need) (l : ℕ) (es : List Tree) (us : Tys) (k : TypeFaultKind) (m : ℕ) → AreMembers form s (trees es) us → (form ≡ Display) × (k ≡ Mismatch) × DiffersAt l es us m → Offends s n (listed_tree form l (trees es)) k m
-list_differs Tuple s n l es us k m h d = let e = d.0 in absurd (cc)
-list_differs Product s n l es us k m h d = let e = d.0 in absurd (cc)
-list_differs Display s n l es us k m h d = inr (inl (subst (λ j. Differ s l (trees es) j m) (sym d.1) (differ s l es us m h d.2)))
+pub list_differs : (form : Listed) (s : Scope) (l : ℕ) (es : List Tree) (us : Tys) (k : TypeFaultKind) (m : ℕ) → AreMembers form s (trees es) us → (form ≡ Display) × (k ≡ Mismatch) × DiffersAt l es us m → Differ form s l (trees es) k m
+list_differs Tuple s l es us k m h d = let e = d.0 in absurd (cc)
+list_differs Product s l es us k m h d = let e = d.0 in absurd (cc)
+list_differs Display s l es us k m h d = subst (λ j. Differ Display s l (trees es) j m) (sym d.1) (differ s l es us m h d.2)
 
 -- ---- what is found in a list of types
 

@@ -4,25 +4,25 @@ use Rattle.std.proofs.lemmas.Option.{none-some}
 use Rattle.zf_tree.specs.declared.symbol.Prefix.{Prefix}
 use Rattle.zf_tree.specs.declared.symbol.Prefix.TheVariants.{Power, Finset, Domain, Range, Size}
 use Rattle.zf_tree.specs.declared.tree.Name.{Name}
-use Rattle.zf_tree.specs.declared.tree.Sign.{Sign}
-use Rattle.zf_tree.specs.declared.tree.Sign.TheVariants as sign
-use Rattle.zf_tree.specs.Trees.{Tree, named, numeral, constant, empty_set, bracket, tuple, display, builder, prefixed, inverse, image, applied, infixed, arrow, product, chain, negated, connected, quantified, Trees, no_trees, tree, Links, no_links, link, VarDecls, no_decls, var_decl, Perhaps, absent, present}
+use Rattle.zf_tree.specs.declared.operator.Sign.{Sign}
+use Rattle.zf_tree.specs.declared.operator.Sign.TheVariants as sign
+use Rattle.zf_tree.specs.Trees.{Tree, named, numeral, constant, empty_set, bracket, listed, builder, unary, binary, chain, quantified, Trees, no_trees, tree, Links, no_links, link, VarDecls, no_decls, var_decl, Perhaps, absent, present}
 use Rattle.zf_tree.specs.Operators.{left_need, right_need, rule_of, relation_rule, prefix_need, sign_need, need_of}
-use Rattle.zf_term.specs.Types.{Ty, power, Tys, IsSmall}
+use Rattle.zf_term.specs.Types.{Ty, power, Tys, type, IsSmall}
 use Rattle.zf_tree.specs.declared.operator.Need.{Need}
 use Rattle.zf_tree.specs.declared.operator.Need.TheVariants as need
-use Rattle.zf_tree.specs.declared.operator.Operator.TheVariants.{Function, Generic, Connective, Application, Image}
+use Rattle.zf_tree.specs.declared.operator.Listed.{Listed}
+use Rattle.zf_tree.specs.declared.operator.Listed.TheVariants.{Tuple, Display, Product}
 use Rattle.zf_tree.specs.declared.operator.Rule.{Rule}
 use Rattle.zf_tree.specs.declared.operator.Rule.TheVariants as rule
 use Rattle.zf_tree.specs.declared.operator.Unary.{Unary}
-use Rattle.zf_tree.specs.declared.operator.Unary.TheVariants as unary
-use Rattle.zf_term.specs.Types as t
+use Rattle.zf_tree.specs.declared.operator.Unary.TheVariants as symbol
 use Rattle.zf_term.specs.declared.fault.TypeFaultKind.{TypeFaultKind}
 use Rattle.zf_type.specs.Rules.{Sort, typed, predicate, set_of, IsSmallSort, Meets, Takes, PrefixTakes, SignTakes, UnaryTakes}
 use Rattle.zf_type.specs.Scopes.{Scope, Var, within}
-use Rattle.zf_type.specs.Typing.{declared, IsApart, AreApart, IsOf, AreOf, AreSetsOf, AllAreOf, AreLinked, Declare, Constrains, Builds}
-use Rattle.zf_type.specs.Offences.{Misplaced, Disagree, MakeTooLarge, Clash, MakesTooLarge, IsRepeated, Repeats, OneDiffers, Differ, BuildsTooLarge, Offends, OneOffends, LinksOffend, SetsOffend, PartOffends}
-use Rattle.zf_type.proofs.OneSort.{same_whole, same_unary, same_typed, one_sort, one_row, one_row_of_sets, one_type, one_declared, one_built}
+use Rattle.zf_type.specs.Typing.{declared, member_need, member_sort, IsApart, AreApart, IsOf, AreMembers, AreAll, Makes, AreLinked, Declare, Constrains, Builds}
+use Rattle.zf_type.specs.Offences.{Misplaced, Disagree, MakeTooLarge, Clash, MakesTooLarge, IsRepeated, Repeats, OneDiffers, Differ, ListedTooLarge, BuildsTooLarge, Offends, OneOffends, LinksOffend, SetsOffend, PartOffends}
+use Rattle.zf_type.proofs.OneSort.{same_whole, same_unary, same_typed, one_sort, one_row, one_made, first_of_all, one_declared, one_built}
 
 -- ---- operands that a rule takes are what their places need
 
@@ -74,9 +74,14 @@ sign_meets sign.Minus x z p = p.0
 sign_meets (sign.Symbol op) x z p = prefix_meets op x z p
 
 pub operand_meets : (op : Unary) (x z : Sort) → UnaryTakes op x z → Meets (need_of op) x
-operand_meets (unary.Sign op) x z p = sign_meets op x z p
-operand_meets unary.Inverse x z p = (p.0, p.1, p.2)
-operand_meets unary.Not x z p = p.0
+operand_meets (symbol.Sign op) x z p = sign_meets op x z p
+operand_meets symbol.Inverse x z p = (p.0, p.1, p.2)
+operand_meets symbol.Not x z p = p.0
+
+pub member_meets : (form : Listed) (u : Ty) → Meets (member_need form) (member_sort form u)
+member_meets Tuple u = (u, refl)
+member_meets Display u = (u, refl)
+member_meets Product u = (u, refl)
 
 -- ---- what no part of a term has a share in
 
@@ -112,48 +117,30 @@ no_repetition [] k m apart o = o
 no_repetition (n ∷ ns) k m apart (inl o) = not_repeated n ns k m apart.0 o
 no_repetition (n ∷ ns) k m apart (inr o) = no_repetition ns k m apart.1 o
 
--- ---- the members of a display
+-- ---- what members make
 
-first_member : (s : Scope) (e : Tree) (es : Trees) (u : Ty) → AllAreOf s (tree e es) u → IsOf s e (typed u)
-first_member s e no_trees u p = p
-first_member s e (tree f es) u p = p.0
+listed_not_too_large : (form : Listed) (s : Scope) (l : ℕ) (es : Trees) (us : Tys) (u : Ty) (k : TypeFaultKind) (m : ℕ) → AreMembers form s es us → Makes form us u → IsSmall u → ListedTooLarge form s l es k m → ⊥
+listed_not_too_large form s l es us u k m p made small o = o.4 (subst IsSmall (one_made form us o.0 u o.1 (one_row form s es us o.0 p o.2) made o.3) small)
 
--- no member has another type than the first
-none_differs : (s : Scope) (u : Ty) (es : Trees) (k : TypeFaultKind) (m : ℕ) → AllAreOf s es u → OneDiffers s u es k m → ⊥
-none_differs s u no_trees k m p o = o
-none_differs s u (tree e no_trees) k m p (inl o) = o.2 (same_typed u o.0 (one_sort s e (typed u) (typed o.0) p o.1))
-none_differs s u (tree e no_trees) k m p (inr o) = o
-none_differs s u (tree e (tree f es)) k m p (inl o) = o.2 (same_typed u o.0 (one_sort s e (typed u) (typed o.0) p.0 o.1))
-none_differs s u (tree e (tree f es)) k m p (inr o) = none_differs s u (tree f es) k m p.1 o
+rest_of_all : (s : Scope) (e : Tree) (es : Trees) (t : Ty) (ts : Tys) (u : Ty) → AreMembers Display s (tree e es) ts → AreAll (type t ts) u → AreAll ts u
+rest_of_all s e es t ts u p all = subst (λ vs. AreAll vs u) (sym p.4) (subst (λ vs. AreAll (type t vs) u) p.4 all).1
 
-none_of_rest_differs : (s : Scope) (u : Ty) (e : Tree) (es : Trees) (k : TypeFaultKind) (m : ℕ) → AllAreOf s (tree e es) u → OneDiffers s u es k m → ⊥
-none_of_rest_differs s u e no_trees k m p o = o
-none_of_rest_differs s u e (tree f es) k m p o = none_differs s u (tree f es) k m p.1 o
+-- no member of a display has another type than all
+none_differs : (s : Scope) (es : Trees) (us : Tys) (u : Ty) (k : TypeFaultKind) (m : ℕ) → AreMembers Display s es us → AreAll us u → OneDiffers s u es k m → ⊥
+none_differs s no_trees us u k m p all o = o
+none_differs s (tree e es) us u k m p all (inl o) =
+    o.2 (sym (first_of_all p.0 p.1 u (subst (λ vs. AreAll vs u) p.4 all)) ∙ same_typed p.0 o.0 (one_sort s e (typed p.0) (typed o.0) p.2 o.1))
+none_differs s (tree e no_trees) us u k m p all (inr o) = o
+none_differs s (tree e (tree f es)) us u k m p all (inr o) =
+    none_differs s (tree f es) p.1 u k m p.3 (rest_of_all s f es p.0 p.1 u p.3 (subst (λ vs. AreAll vs u) p.4 all)) o
 
-pub no_difference : (s : Scope) (l : ℕ) (es : Trees) (u : Ty) (k : TypeFaultKind) (m : ℕ) → AllAreOf s es u → Differ s l es k m → ⊥
-no_difference s l no_trees u k m p o = p
-no_difference s l (tree e es) u k m p o =
-    let type = same_typed o.0 u (one_sort s e (typed o.0) (typed u) o.1 (first_member s e es u p)) in
-    none_of_rest_differs s u e es k m p (subst (λ v. OneDiffers s v es k m) type o.2)
-
--- ---- forms of terms, of whose parts none offends
-
--- a symbol with one operand, and what else may be wrong with it
-of_one :
-    (s : Scope) (op : Unary) (l : ℕ) (a : Tree) (x z : Sort) (k : TypeFaultKind) (m : ℕ) (Other : Type 0)
-    → IsOf s a x → UnaryTakes op x z → IsSmallSort z → (Meets (need_of op) x → Offends s (need_of op) a k m → ⊥) → (Other → ⊥)
-    → Offends s (need_of op) a k m ⊎ (MakesTooLarge s op l a k m ⊎ Other) → ⊥
-of_one s op l a x z k m Other p taken small operand other =
-    ⊎_elim (operand (operand_meets op x z taken)) (⊎_elim (unary_not_too_large s op l a x z k m p taken small) other)
-
--- a symbol with two
-of_two :
-    (s : Scope) (r : Rule) (l : ℕ) (a b : Tree) (x y z : Sort) (k : TypeFaultKind) (m : ℕ) (Other : Type 0)
-    → IsOf s a x → IsOf s b y → Takes r x y z → IsSmallSort z
-    → (Meets (left_need r) x → Offends s (left_need r) a k m → ⊥) → (Meets (right_need r) y → Offends s (right_need r) b k m → ⊥) → (Other → ⊥)
-    → Offends s (left_need r) a k m ⊎ (Offends s (right_need r) b k m ⊎ (Clash s r l a b k m ⊎ Other)) → ⊥
-of_two s r l a b x y z k m Other p q taken small left right other =
-    ⊎_elim (left (left_meets r x y z taken)) (⊎_elim (right (right_meets r x y z taken)) (⊎_elim (no_clash s r l a b x y z k m p q taken small) other))
+no_difference : (form : Listed) (s : Scope) (l : ℕ) (es : Trees) (us : Tys) (u : Ty) (k : TypeFaultKind) (m : ℕ) → AreMembers form s es us → Makes form us u → Differ form s l es k m → ⊥
+no_difference Tuple s l es us u k m p made o = o
+no_difference Product s l es us u k m p made o = o
+no_difference Display s l no_trees us u k m p made o = subst (λ vs. AreAll vs made.0) p made.1
+no_difference Display s l (tree e es) us u k m p made o =
+    let same = same_typed o.0 p.0 (one_sort s e (typed o.0) (typed p.0) o.1 p.2) ∙ first_of_all p.0 p.1 made.0 (subst (λ vs. AreAll vs made.0) p.4 made.1) in
+    none_differs s (tree e es) us made.0 k m p made.1 (inr (subst (λ v. OneDiffers s v es k m) same o.2))
 
 -- ---- a term has no offence
 
@@ -167,13 +154,10 @@ mutual
   no_offence s n (empty_set l e) z k m p meets (inr o) = not_misplaced s n (empty_set l e) z k m p meets o
   no_offence s n (bracket l e) z k m p meets (inl o) = no_offence s n e z k m p.0 meets o
   no_offence s n (bracket l e) z k m p meets (inr o) = not_misplaced s n (bracket l e) z k m p meets o
-  no_offence s n (tuple l es) z k m p meets (inl o) = none_offends s es p.0 k m p.1 o
-  no_offence s n (tuple l es) z k m p meets (inr (inl o)) = o.2 (subst (λ us. IsSmall (t.product us)) (one_row s es p.0 o.0 p.1 o.1) p.2)
-  no_offence s n (tuple l es) z k m p meets (inr (inr o)) = not_misplaced s n (tuple l es) z k m p meets o
-  no_offence s n (display l es) z k m p meets (inl o) = no_member_offends s es p.0 k m p.1 o
-  no_offence s n (display l es) z k m p meets (inr (inl o)) = no_difference s l es p.0 k m p.1 o
-  no_offence s n (display l es) z k m p meets (inr (inr (inl o))) = o.2 (subst (λ u. IsSmall (power u)) (one_type s es p.0 o.0 p.1 o.1) p.2)
-  no_offence s n (display l es) z k m p meets (inr (inr (inr o))) = not_misplaced s n (display l es) z k m p meets o
+  no_offence s n (listed l form es) z k m p meets (inl o) = no_member_offends form s es p.0 k m p.2 o
+  no_offence s n (listed l form es) z k m p meets (inr (inl o)) = no_difference form s l es p.0 p.1 k m p.2 p.3 o
+  no_offence s n (listed l form es) z k m p meets (inr (inr (inl o))) = listed_not_too_large form s l es p.0 p.1 k m p.2 p.3 p.4 o
+  no_offence s n (listed l form es) z k m p meets (inr (inr (inr o))) = not_misplaced s n (listed l form es) z k m p meets o
   no_offence s n (builder l ds c e) z k m p meets (inl o) = no_repetition (declared ds) k m p.2 o
   no_offence s n (builder l ds c e) z k m p meets (inr (inl o)) = no_set_offends s ds p.0 k m p.3 o
   no_offence s n (builder l ds c e) z k m p meets (inr (inr (inl o))) =
@@ -183,25 +167,13 @@ mutual
       ⊎_elim (no_condition_offends (within s o.0) c k m condition)
       (⊎_elim (no_built_offends (within s o.0) o.0 e p.1 k m built) (built_not_too_large (within s o.0) o.0 l e p.1 k m built p.6)) o.2
   no_offence s n (builder l ds c e) z k m p meets (inr (inr (inr o))) = not_misplaced s n (builder l ds c e) z k m p meets o
-  no_offence s n (prefixed l op e) z k m p meets o =
-      of_one s (unary.Sign op) l e p.0 z k m (Misplaced s n (prefixed l op e) k m) p.1 p.2 p.3 (no_offence s (need_of (unary.Sign op)) e p.0 k m p.1) (not_misplaced s n (prefixed l op e) z k m p meets) o
-  no_offence s n (inverse l e) z k m p meets o =
-      of_one s unary.Inverse l e p.0 z k m (Misplaced s n (inverse l e) k m) p.1 p.2 p.3 (no_offence s (need_of unary.Inverse) e p.0 k m p.1) (not_misplaced s n (inverse l e) z k m p meets) o
-  no_offence s n (negated l e) z k m p meets o =
-      of_one s unary.Not l e p.0 z k m (Misplaced s n (negated l e) k m) p.1 p.2 p.3 (no_offence s (need_of unary.Not) e p.0 k m p.1) (not_misplaced s n (negated l e) z k m p meets) o
-  no_offence s n (image l a b) z k m p meets o =
-      of_two s (rule_of Image) l a b p.0 p.1 z k m (Misplaced s n (image l a b) k m) p.2 p.3 p.4 p.5 (no_offence s (left_need (rule_of Image)) a p.0 k m p.2) (no_offence s (right_need (rule_of Image)) b p.1 k m p.3) (not_misplaced s n (image l a b) z k m p meets) o
-  no_offence s n (applied l a b) z k m p meets o =
-      of_two s (rule_of Application) l a b p.0 p.1 z k m (Misplaced s n (applied l a b) k m) p.2 p.3 p.4 p.5 (no_offence s (left_need (rule_of Application)) a p.0 k m p.2) (no_offence s (right_need (rule_of Application)) b p.1 k m p.3) (not_misplaced s n (applied l a b) z k m p meets) o
-  no_offence s n (infixed l op a b) z k m p meets o =
-      of_two s (rule_of (Function op)) l a b p.0 p.1 z k m (Misplaced s n (infixed l op a b) k m) p.2 p.3 p.4 p.5 (no_offence s (left_need (rule_of (Function op))) a p.0 k m p.2) (no_offence s (right_need (rule_of (Function op))) b p.1 k m p.3) (not_misplaced s n (infixed l op a b) z k m p meets) o
-  no_offence s n (arrow l op a b) z k m p meets o =
-      of_two s (rule_of (Generic op)) l a b p.0 p.1 z k m (Misplaced s n (arrow l op a b) k m) p.2 p.3 p.4 p.5 (no_offence s (left_need (rule_of (Generic op))) a p.0 k m p.2) (no_offence s (right_need (rule_of (Generic op))) b p.1 k m p.3) (not_misplaced s n (arrow l op a b) z k m p meets) o
-  no_offence s n (connected l op a b) z k m p meets o =
-      of_two s (rule_of (Connective op)) l a b p.0 p.1 z k m (Misplaced s n (connected l op a b) k m) p.2 p.3 p.4 p.5 (no_offence s (left_need (rule_of (Connective op))) a p.0 k m p.2) (no_offence s (right_need (rule_of (Connective op))) b p.1 k m p.3) (not_misplaced s n (connected l op a b) z k m p meets) o
-  no_offence s n (product l es) z k m p meets (inl o) = no_factor_offends s es p.0 k m p.1 o
-  no_offence s n (product l es) z k m p meets (inr (inl o)) = o.2 (subst (λ us. IsSmall (power (t.product us))) (one_row_of_sets s es p.0 o.0 p.1 o.1) p.2)
-  no_offence s n (product l es) z k m p meets (inr (inr o)) = not_misplaced s n (product l es) z k m p meets o
+  no_offence s n (unary l op e) z k m p meets (inl o) = no_offence s (need_of op) e p.0 k m p.1 (operand_meets op p.0 z p.2) o
+  no_offence s n (unary l op e) z k m p meets (inr (inl o)) = unary_not_too_large s op l e p.0 z k m p.1 p.2 p.3 o
+  no_offence s n (unary l op e) z k m p meets (inr (inr o)) = not_misplaced s n (unary l op e) z k m p meets o
+  no_offence s n (binary l op a b) z k m p meets (inl o) = no_offence s (left_need (rule_of op)) a p.0 k m p.2 (left_meets (rule_of op) p.0 p.1 z p.4) o
+  no_offence s n (binary l op a b) z k m p meets (inr (inl o)) = no_offence s (right_need (rule_of op)) b p.1 k m p.3 (right_meets (rule_of op) p.0 p.1 z p.4) o
+  no_offence s n (binary l op a b) z k m p meets (inr (inr (inl o))) = no_clash s (rule_of op) l a b p.0 p.1 z k m p.2 p.3 p.4 p.5 o
+  no_offence s n (binary l op a b) z k m p meets (inr (inr (inr o))) = not_misplaced s n (binary l op a b) z k m p meets o
   no_offence s n (chain l e ks) z k m p meets (inl o) = no_offence s need.Expression e (typed p.0) k m p.1 (p.0, refl) o
   no_offence s n (chain l e ks) z k m p meets (inr (inl o)) = no_link_offends s e (typed p.0) ks k m p.1 p.2 o
   no_offence s n (chain l e ks) z k m p meets (inr (inr o)) = not_misplaced s n (chain l e ks) z k m p meets o
@@ -214,22 +186,10 @@ mutual
       ⊎_elim (no_condition_offends (within s o.0) c k m condition) (no_offence (within s o.0) need.Predicate e predicate k m body refl) o.2
   no_offence s n (quantified l op ds c e) z k m p meets (inr (inr (inr o))) = not_misplaced s n (quantified l op ds c e) z k m p meets o
 
-  pub none_offends : (s : Scope) (es : Trees) (us : Tys) (k : TypeFaultKind) (m : ℕ) → AreOf s es us → OneOffends s need.Expression es k m → ⊥
-  none_offends s no_trees us k m p o = o
-  none_offends s (tree e es) us k m p (inl o) = no_offence s need.Expression e (typed p.0) k m p.2 (p.0, refl) o
-  none_offends s (tree e es) us k m p (inr o) = none_offends s es p.1 k m p.3 o
-
-  pub no_factor_offends : (s : Scope) (es : Trees) (us : Tys) (k : TypeFaultKind) (m : ℕ) → AreSetsOf s es us → OneOffends s need.Set es k m → ⊥
-  no_factor_offends s no_trees us k m p o = o
-  no_factor_offends s (tree e es) us k m p (inl o) = no_offence s need.Set e (set_of p.0) k m p.2 (p.0, refl) o
-  no_factor_offends s (tree e es) us k m p (inr o) = no_factor_offends s es p.1 k m p.3 o
-
-  pub no_member_offends : (s : Scope) (es : Trees) (u : Ty) (k : TypeFaultKind) (m : ℕ) → AllAreOf s es u → OneOffends s need.Expression es k m → ⊥
-  no_member_offends s no_trees u k m p o = p
-  no_member_offends s (tree e no_trees) u k m p (inl o) = no_offence s need.Expression e (typed u) k m p (u, refl) o
-  no_member_offends s (tree e no_trees) u k m p (inr o) = o
-  no_member_offends s (tree e (tree f es)) u k m p (inl o) = no_offence s need.Expression e (typed u) k m p.0 (u, refl) o
-  no_member_offends s (tree e (tree f es)) u k m p (inr o) = no_member_offends s (tree f es) u k m p.1 o
+  pub no_member_offends : (form : Listed) (s : Scope) (es : Trees) (us : Tys) (k : TypeFaultKind) (m : ℕ) → AreMembers form s es us → OneOffends s (member_need form) es k m → ⊥
+  no_member_offends form s no_trees us k m p o = o
+  no_member_offends form s (tree e es) us k m p (inl o) = no_offence s (member_need form) e (member_sort form p.0) k m p.2 (member_meets form p.0) o
+  no_member_offends form s (tree e es) us k m p (inr o) = no_member_offends form s es p.1 k m p.3 o
 
   pub no_link_offends : (s : Scope) (left : Tree) (x : Sort) (ks : Links) (k : TypeFaultKind) (m : ℕ) → IsOf s left x → AreLinked s x ks → LinksOffend s left ks k m → ⊥
   no_link_offends s left x no_links k m p q o = o

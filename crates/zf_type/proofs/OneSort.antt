@@ -3,20 +3,20 @@ use Rattle.std.proofs.Common.{◌≡◌, List, ◌++◌, sym, ap, ◌∙◌, sub
 use Rattle.std.proofs.lemmas.Option.{same_Some}
 use Rattle.zf_tree.specs.declared.symbol.Prefix.{Prefix}
 use Rattle.zf_tree.specs.declared.symbol.Prefix.TheVariants.{Power, Finset, Domain, Range, Size}
-use Rattle.zf_tree.specs.declared.tree.Sign.{Sign}
-use Rattle.zf_tree.specs.declared.tree.Sign.TheVariants as sign
-use Rattle.zf_tree.specs.Trees.{Tree, named, numeral, constant, empty_set, bracket, tuple, display, builder, prefixed, inverse, image, applied, infixed, arrow, product, chain, negated, connected, quantified, Trees, no_trees, tree, VarDecls, no_decls, var_decl, Perhaps, absent, present}
+use Rattle.zf_tree.specs.declared.operator.Sign.{Sign}
+use Rattle.zf_tree.specs.declared.operator.Sign.TheVariants as sign
+use Rattle.zf_tree.specs.Trees.{Tree, named, numeral, constant, empty_set, bracket, listed, builder, unary, binary, chain, quantified, Trees, no_trees, tree, VarDecls, no_decls, var_decl, Perhaps, absent, present}
 use Rattle.zf_tree.specs.Operators.{rule_of}
-use Rattle.zf_tree.specs.declared.operator.Operator.TheVariants.{Function, Generic, Connective, Application, Image}
+use Rattle.zf_tree.specs.declared.operator.Listed.{Listed}
+use Rattle.zf_tree.specs.declared.operator.Listed.TheVariants.{Tuple, Display, Product}
 use Rattle.zf_tree.specs.declared.operator.Rule.{Rule}
 use Rattle.zf_tree.specs.declared.operator.Rule.TheVariants as rule
 use Rattle.zf_tree.specs.declared.operator.Unary.{Unary}
-use Rattle.zf_tree.specs.declared.operator.Unary.TheVariants as unary
-use Rattle.zf_term.specs.Types as t
-use Rattle.zf_term.specs.Types.{Ty, Tys, type}
+use Rattle.zf_tree.specs.declared.operator.Unary.TheVariants as symbol
+use Rattle.zf_term.specs.Types.{Ty, Tys, no_types, type, power, product}
 use Rattle.zf_type.specs.Rules.{Sort, typed, set_of, Takes, PrefixTakes, SignTakes, UnaryTakes}
 use Rattle.zf_type.specs.Scopes.{Scope, Var, within}
-use Rattle.zf_type.specs.Typing.{variables, IsOf, AreOf, AreSetsOf, AllAreOf, Declare, Builds}
+use Rattle.zf_type.specs.Typing.{variables, member_sort, IsOf, AreMembers, AreAll, Makes, Declare, Builds}
 
 -- ---- of two operands, and of one, the whole is one
 
@@ -50,9 +50,9 @@ one_signed sign.Minus x z w p q = (cc)
 one_signed (sign.Symbol op) x z w p q = one_prefixed op x z w p q
 
 pub one_unary : (op : Unary) (x z w : Sort) → UnaryTakes op x z → UnaryTakes op x w → z ≡ w
-one_unary (unary.Sign op) x z w p q = one_signed op x z w p q
-one_unary unary.Inverse x z w p q = (cc)
-one_unary unary.Not x z w p q = (cc)
+one_unary (symbol.Sign op) x z w p q = one_signed op x z w p q
+one_unary symbol.Inverse x z w p q = (cc)
+one_unary symbol.Not x z w p q = (cc)
 
 -- equal operands make an equal whole
 pub same_whole : (r : Rule) (x y z a b c : Sort) → x ≡ a → y ≡ b → Takes r x y z → Takes r a b c → z ≡ c
@@ -67,6 +67,26 @@ same_typed u v e = (cc)
 pub same_set : (u v : Ty) → set_of u ≡ set_of v → u ≡ v
 same_set u v e = (cc)
 
+-- ---- of members too, and of what they make
+
+told_once : (form : Listed) (u v : Ty) → member_sort form u ≡ member_sort form v → u ≡ v
+told_once Tuple u v e = same_typed u v e
+told_once Display u v e = same_typed u v e
+told_once Product u v e = same_set u v e
+
+pub first_of_all : (t : Ty) (ts : Tys) (u : Ty) → AreAll (type t ts) u → t ≡ u
+first_of_all t no_types u p = p
+first_of_all t (type v vs) u p = p.0
+
+one_of_all : (us : Tys) (u v : Ty) → AreAll us u → AreAll us v → u ≡ v
+one_of_all no_types u v p q = absurd p
+one_of_all (type t ts) u v p q = sym (first_of_all t ts u p) ∙ first_of_all t ts v q
+
+pub one_made : (form : Listed) (us vs : Tys) (u v : Ty) → us ≡ vs → Makes form us u → Makes form vs v → u ≡ v
+one_made Tuple us vs u v e p q = p ∙ ap product e ∙ sym q
+one_made Product us vs u v e p q = p ∙ ap (λ ts. power (product ts)) e ∙ sym q
+one_made Display us vs u v e p q = p.2 ∙ ap power (one_of_all vs p.0 q.0 (subst (λ ts. AreAll ts p.0) e p.1) q.1) ∙ sym q.2
+
 -- ---- of a term the sort is one
 
 mutual
@@ -76,47 +96,22 @@ mutual
   one_sort s (constant l c) x y p q = p ∙ sym q
   one_sort s (empty_set l e) x y p q = p.2 ∙ one_sort s e (set_of p.0) (set_of q.0) p.1 q.1 ∙ sym q.2
   one_sort s (bracket l e) x y p q = one_sort s e x y p.0 q.0
-  one_sort s (tuple l es) x y p q = p.3 ∙ ap (λ us. typed (t.product us)) (one_row s es p.0 q.0 p.1 q.1) ∙ sym q.3
-  one_sort s (display l es) x y p q = p.3 ∙ ap set_of (one_type s es p.0 q.0 p.1 q.1) ∙ sym q.3
+  one_sort s (listed l form es) x y p q = p.5 ∙ ap typed (one_made form p.0 q.0 p.1 q.1 (one_row form s es p.0 q.0 p.2 q.2) p.3 q.3) ∙ sym q.5
   one_sort s (builder l ds c e) x y p q =
       let vs = one_declared s ds p.0 q.0 p.3 q.3 in
       let built = subst (λ v. Builds (within s v) v e p.1) vs p.5 in
       p.7 ∙ ap set_of (one_built (within s q.0) q.0 e p.1 q.1 built q.5) ∙ sym q.7
-  one_sort s (prefixed l op e) x y p q = same_unary (unary.Sign op) p.0 x q.0 y (one_sort s e p.0 q.0 p.1 q.1) p.2 q.2
-  one_sort s (inverse l e) x y p q = same_unary unary.Inverse p.0 x q.0 y (one_sort s e p.0 q.0 p.1 q.1) p.2 q.2
-  one_sort s (negated l e) x y p q = same_unary unary.Not p.0 x q.0 y (one_sort s e p.0 q.0 p.1 q.1) p.2 q.2
-  one_sort s (image l a b) x y p q =
-      same_whole (rule_of Image) p.0 p.1 x q.0 q.1 y (one_sort s a p.0 q.0 p.2 q.2) (one_sort s b p.1 q.1 p.3 q.3) p.4 q.4
-  one_sort s (applied l a b) x y p q =
-      same_whole (rule_of Application) p.0 p.1 x q.0 q.1 y (one_sort s a p.0 q.0 p.2 q.2) (one_sort s b p.1 q.1 p.3 q.3) p.4 q.4
-  one_sort s (infixed l op a b) x y p q =
-      same_whole (rule_of (Function op)) p.0 p.1 x q.0 q.1 y (one_sort s a p.0 q.0 p.2 q.2) (one_sort s b p.1 q.1 p.3 q.3) p.4 q.4
-  one_sort s (arrow l op a b) x y p q =
-      same_whole (rule_of (Generic op)) p.0 p.1 x q.0 q.1 y (one_sort s a p.0 q.0 p.2 q.2) (one_sort s b p.1 q.1 p.3 q.3) p.4 q.4
-  one_sort s (connected l op a b) x y p q =
-      same_whole (rule_of (Connective op)) p.0 p.1 x q.0 q.1 y (one_sort s a p.0 q.0 p.2 q.2) (one_sort s b p.1 q.1 p.3 q.3) p.4 q.4
-  one_sort s (product l es) x y p q = p.3 ∙ ap (λ us. set_of (t.product us)) (one_row_of_sets s es p.0 q.0 p.1 q.1) ∙ sym q.3
+  one_sort s (unary l op e) x y p q = same_unary op p.0 x q.0 y (one_sort s e p.0 q.0 p.1 q.1) p.2 q.2
+  one_sort s (binary l op a b) x y p q = same_whole (rule_of op) p.0 p.1 x q.0 q.1 y (one_sort s a p.0 q.0 p.2 q.2) (one_sort s b p.1 q.1 p.3 q.3) p.4 q.4
   one_sort s (chain l e ks) x y p q = p.3 ∙ sym q.3
   one_sort s (quantified l op ds c e) x y p q = p.5 ∙ sym q.5
 
-  pub one_row : (s : Scope) (es : Trees) (us vs : Tys) → AreOf s es us → AreOf s es vs → us ≡ vs
-  one_row s no_trees us vs p q = p ∙ sym q
-  one_row s (tree e es) us vs p q =
-      let first = one_sort s e (typed p.0) (typed q.0) p.2 q.2 in
-      let rest = one_row s es p.1 q.1 p.3 q.3 in
+  pub one_row : (form : Listed) (s : Scope) (es : Trees) (us vs : Tys) → AreMembers form s es us → AreMembers form s es vs → us ≡ vs
+  one_row form s no_trees us vs p q = p ∙ sym q
+  one_row form s (tree e es) us vs p q =
+      let first = told_once form p.0 q.0 (one_sort s e (member_sort form p.0) (member_sort form q.0) p.2 q.2) in
+      let rest = one_row form s es p.1 q.1 p.3 q.3 in
       (cc)
-
-  pub one_row_of_sets : (s : Scope) (es : Trees) (us vs : Tys) → AreSetsOf s es us → AreSetsOf s es vs → us ≡ vs
-  one_row_of_sets s no_trees us vs p q = p ∙ sym q
-  one_row_of_sets s (tree e es) us vs p q =
-      let first = one_sort s e (set_of p.0) (set_of q.0) p.2 q.2 in
-      let rest = one_row_of_sets s es p.1 q.1 p.3 q.3 in
-      (cc)
-
-  pub one_type : (s : Scope) (es : Trees) (u v : Ty) → AllAreOf s es u → AllAreOf s es v → u ≡ v
-  one_type s no_trees u v p q = absurd p
-  one_type s (tree e no_trees) u v p q = same_typed u v (one_sort s e (typed u) (typed v) p q)
-  one_type s (tree e (tree f es)) u v p q = same_typed u v (one_sort s e (typed u) (typed v) p.0 q.0)
 
   pub one_declared : (s : Scope) (ds : VarDecls) (us vs : List Var) → Declare s ds us → Declare s ds vs → us ≡ vs
   one_declared s no_decls us vs p q = p ∙ sym q

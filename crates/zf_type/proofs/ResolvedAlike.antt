@@ -6,8 +6,6 @@ use Rattle.zf_tree.specs.declared.tree.Name.{Name}
 use Rattle.zf_tree.specs.Trees as text
 use Rattle.zf_tree.specs.Trees.{Tree, Trees, no_trees, tree, Links, VarDecls, no_decls, var_decl, Perhaps}
 use Rattle.zf_term.specs.FirstNamed.{later, or_else, first_named}
-use Rattle.zf_tree.specs.declared.operator.Listed.TheVariants.{Tuple, Display, Product}
-use Rattle.zf_tree.specs.declared.operator.Unary.TheVariants.{Sign, Inverse, Not}
 use Rattle.zf_reference.specs.declared.reference.Reference.{Reference}
 use Rattle.zf_reference.specs.declared.reference.Reference.TheVariants.{Local}
 use Rattle.zf_term.specs.Definitions.{Comp, Defined}
@@ -100,23 +98,15 @@ mutual
   resolved_alike s r (text.constant l c) alike = refl
   resolved_alike s r (text.empty_set l e) alike = ap (empty_set l) (resolved_alike s r e alike)
   resolved_alike s r (text.bracket l e) alike = ap (bracket l) (resolved_alike s r e alike)
-  resolved_alike s r (text.tuple l es) alike = ap (listed l Tuple) (all_alike s r es alike)
-  resolved_alike s r (text.display l es) alike = ap (listed l Display) (all_alike s r es alike)
-  resolved_alike s r (text.product l es) alike = ap (listed l Product) (all_alike s r es alike)
+  resolved_alike s r (text.listed l form es) alike = ap (listed l form) (all_alike s r es alike)
   resolved_alike s r (text.builder l ds p e) alike =
       let ranges = ranges_alike s r ds alike in
       let inner = alike_within s r (variables (declared ds) int) (variables (declared ds) int) alike refl in
       let condition = part_alike (bound s ds) (bound r ds) p inner in
       let built = part_alike (bound s ds) (bound r ds) e inner in
       (cc)
-  resolved_alike s r (text.prefixed l op e) alike = ap (unary l (Sign op)) (resolved_alike s r e alike)
-  resolved_alike s r (text.inverse l e) alike = ap (unary l Inverse) (resolved_alike s r e alike)
-  resolved_alike s r (text.negated l e) alike = ap (unary l Not) (resolved_alike s r e alike)
-  resolved_alike s r (text.image l a b) alike = let left = resolved_alike s r a alike in let right = resolved_alike s r b alike in (cc)
-  resolved_alike s r (text.applied l a b) alike = let left = resolved_alike s r a alike in let right = resolved_alike s r b alike in (cc)
-  resolved_alike s r (text.infixed l op a b) alike = let left = resolved_alike s r a alike in let right = resolved_alike s r b alike in (cc)
-  resolved_alike s r (text.arrow l op a b) alike = let left = resolved_alike s r a alike in let right = resolved_alike s r b alike in (cc)
-  resolved_alike s r (text.connected l op a b) alike = let left = resolved_alike s r a alike in let right = resolved_alike s r b alike in (cc)
+  resolved_alike s r (text.unary l op e) alike = ap (unary l op) (resolved_alike s r e alike)
+  resolved_alike s r (text.binary l op a b) alike = let left = resolved_alike s r a alike in let right = resolved_alike s r b alike in (cc)
   resolved_alike s r (text.chain l e ks) alike = let first = resolved_alike s r e alike in let rest = links_alike s r ks alike in (cc)
   resolved_alike s r (text.quantified l q ds p e) alike =
       let ranges = ranges_alike s r ds alike in

@@ -1,22 +1,21 @@
 -- What is wrong with a term that has no sort, or not one that its place takes. It is told apart from the checker, and has no order.
 use Rattle.std.specs.Prelude.{◌≡◌, ◌⊎◌, ℕ, List, [], ◌∷◌, None}
 use Rattle.zf_tree.specs.declared.tree.Name.{Name}
-use Rattle.zf_tree.specs.Trees.{line_of, Tree, named, numeral, constant, empty_set, bracket, tuple, display, builder, prefixed, inverse, image, applied, infixed, arrow, product, chain, negated, connected, quantified, Trees, no_trees, tree, Links, no_links, link, VarDecls, no_decls, var_decl, Perhaps, absent, present}
+use Rattle.zf_tree.specs.Trees.{line_of, Tree, named, numeral, constant, empty_set, bracket, listed, builder, unary, binary, chain, quantified, Trees, no_trees, tree, Links, no_links, link, VarDecls, no_decls, var_decl, Perhaps, absent, present}
 use Rattle.zf_tree.specs.Operators.{left_need, right_need, rule_of, relation_rule, need_of}
 use Rattle.zf_term.specs.Types.{Ty, power, Tys, IsSmall}
 use Rattle.zf_tree.specs.declared.operator.Need.{Need}
 use Rattle.zf_tree.specs.declared.operator.Need.TheVariants as need
-use Rattle.zf_tree.specs.declared.operator.Operator.TheVariants.{Function, Generic, Connective, Application, Image}
 use Rattle.zf_tree.specs.declared.operator.Rule.{Rule}
 use Rattle.zf_tree.specs.declared.operator.Unary.{Unary}
-use Rattle.zf_tree.specs.declared.operator.Unary.TheVariants.{Sign, Inverse, Not}
-use Rattle.zf_term.specs.Types as t
+use Rattle.zf_tree.specs.declared.operator.Listed.{Listed}
+use Rattle.zf_tree.specs.declared.operator.Listed.TheVariants.{Tuple, Display, Product}
 use Rattle.zf_term.specs.declared.fault.TypeFaultKind.{TypeFaultKind}
 use Rattle.zf_term.specs.declared.fault.TypeFaultKind.TheVariants.{NotDeclared, Mismatch, LocalTwice, TooLarge}
 use Rattle.zf_type.specs.Rules.{Sort, typed, IsSmallSort, Meets, lack_of, Takes, UnaryTakes}
 use Rattle.zf_type.specs.Scopes.{Scope, Var, within, meaning}
 use Rattle.zf_tree.specs.Names.{spelling}
-use Rattle.zf_type.specs.Typing.{IsOf, AreOf, AreSetsOf, AllAreOf, Binds, Builds, declared}
+use Rattle.zf_type.specs.Typing.{IsOf, AreMembers, Makes, member_need, Binds, Builds, declared}
 
 -- the term has a sort that its place does not take
 abbrev pub Misplaced : Scope → Need → Tree → TypeFaultKind → ℕ → Type 0
@@ -49,23 +48,21 @@ abbrev pub Repeats : List Name → TypeFaultKind → ℕ → Type 0
 Repeats [] k m = ⊥
 Repeats (n ∷ ns) k m = IsRepeated n ns k m ⊎ Repeats ns k m
 
--- a member of a display has another type than the first; no members have no type
+-- a member has another type than this
 abbrev pub OneDiffers : Scope → Ty → Trees → TypeFaultKind → ℕ → Type 0
 OneDiffers s u no_trees k m = ⊥
 OneDiffers s u (tree e es) k m = ((v : Ty) × IsOf s e (typed v) × (u ≡ v → ⊥) × (k ≡ Mismatch) × (m ≡ line_of e)) ⊎ OneDiffers s u es k m
 
-abbrev pub Differ : Scope → (line : ℕ) → Trees → TypeFaultKind → ℕ → Type 0
-Differ s l no_trees k m = (k ≡ Mismatch) × (m ≡ l)
-Differ s l (tree e es) k m = (u : Ty) × IsOf s e (typed u) × OneDiffers s u es k m
+-- the members of a display have no type in common; those of a tuple or a product need none
+abbrev pub Differ : Listed → Scope → (line : ℕ) → Trees → TypeFaultKind → ℕ → Type 0
+Differ Tuple s l es k m = ⊥
+Differ Product s l es k m = ⊥
+Differ Display s l no_trees k m = (k ≡ Mismatch) × (m ≡ l)
+Differ Display s l (tree e es) k m = (u : Ty) × IsOf s e (typed u) × OneDiffers s u es k m
 
-abbrev pub TupleTooLarge : Scope → (line : ℕ) → Trees → TypeFaultKind → ℕ → Type 0
-TupleTooLarge s l es k m = (us : Tys) × AreOf s es us × (IsSmall (t.product us) → ⊥) × (k ≡ TooLarge) × (m ≡ l)
-
-abbrev pub ProductTooLarge : Scope → (line : ℕ) → Trees → TypeFaultKind → ℕ → Type 0
-ProductTooLarge s l es k m = (us : Tys) × AreSetsOf s es us × (IsSmall (power (t.product us)) → ⊥) × (k ≡ TooLarge) × (m ≡ l)
-
-abbrev pub DisplayTooLarge : Scope → (line : ℕ) → Trees → TypeFaultKind → ℕ → Type 0
-DisplayTooLarge s l es k m = (u : Ty) × AllAreOf s es u × (IsSmall (power u) → ⊥) × (k ≡ TooLarge) × (m ≡ l)
+-- the type of what the members make passes the limit
+abbrev pub ListedTooLarge : Listed → Scope → (line : ℕ) → Trees → TypeFaultKind → ℕ → Type 0
+ListedTooLarge form s l es k m = (us : Tys) × (u : Ty) × AreMembers form s es us × Makes form us u × (IsSmall u → ⊥) × (k ≡ TooLarge) × (m ≡ l)
 
 abbrev pub BuildsTooLarge : Scope → List Var → (line : ℕ) → Perhaps → TypeFaultKind → ℕ → Type 0
 BuildsTooLarge s vs l e k m = (u : Ty) × Builds s vs e u × (IsSmall (power u) → ⊥) × (k ≡ TooLarge) × (m ≡ l)
@@ -78,32 +75,17 @@ abbrev mutual
   Offends s n (constant l c) k m = Misplaced s n (constant l c) k m
   Offends s n (empty_set l e) k m = Offends s need.Set e k m ⊎ Misplaced s n (empty_set l e) k m
   Offends s n (bracket l e) k m = Offends s n e k m ⊎ Misplaced s n (bracket l e) k m
-  Offends s n (tuple l es) k m = OneOffends s need.Expression es k m ⊎ (TupleTooLarge s l es k m ⊎ Misplaced s n (tuple l es) k m)
-  Offends s n (display l es) k m = OneOffends s need.Expression es k m ⊎ (Differ s l es k m ⊎ (DisplayTooLarge s l es k m ⊎ Misplaced s n (display l es) k m))
+  Offends s n (listed l form es) k m =
+      OneOffends s (member_need form) es k m ⊎ (Differ form s l es k m ⊎ (ListedTooLarge form s l es k m ⊎ Misplaced s n (listed l form es) k m))
   Offends s n (builder l ds p e) k m =
       Repeats (declared ds) k m
       ⊎ (SetsOffend s ds k m
       ⊎ (((vs : List Var) × Binds s ds vs × (PartOffends (within s vs) need.Predicate p k m ⊎ (PartOffends (within s vs) need.Expression e k m ⊎ BuildsTooLarge (within s vs) vs l e k m)))
       ⊎ Misplaced s n (builder l ds p e) k m))
-  Offends s n (prefixed l op e) k m = Offends s (need_of (Sign op)) e k m ⊎ (MakesTooLarge s (Sign op) l e k m ⊎ Misplaced s n (prefixed l op e) k m)
-  Offends s n (inverse l e) k m = Offends s (need_of Inverse) e k m ⊎ (MakesTooLarge s Inverse l e k m ⊎ Misplaced s n (inverse l e) k m)
-  Offends s n (negated l e) k m = Offends s (need_of Not) e k m ⊎ (MakesTooLarge s Not l e k m ⊎ Misplaced s n (negated l e) k m)
-  Offends s n (image l a b) k m =
-      Offends s (left_need (rule_of Image)) a k m
-      ⊎ (Offends s (right_need (rule_of Image)) b k m ⊎ (Clash s (rule_of Image) l a b k m ⊎ Misplaced s n (image l a b) k m))
-  Offends s n (applied l a b) k m =
-      Offends s (left_need (rule_of Application)) a k m
-      ⊎ (Offends s (right_need (rule_of Application)) b k m ⊎ (Clash s (rule_of Application) l a b k m ⊎ Misplaced s n (applied l a b) k m))
-  Offends s n (infixed l op a b) k m =
-      Offends s (left_need (rule_of (Function op))) a k m
-      ⊎ (Offends s (right_need (rule_of (Function op))) b k m ⊎ (Clash s (rule_of (Function op)) l a b k m ⊎ Misplaced s n (infixed l op a b) k m))
-  Offends s n (arrow l op a b) k m =
-      Offends s (left_need (rule_of (Generic op))) a k m
-      ⊎ (Offends s (right_need (rule_of (Generic op))) b k m ⊎ (Clash s (rule_of (Generic op)) l a b k m ⊎ Misplaced s n (arrow l op a b) k m))
-  Offends s n (connected l op a b) k m =
-      Offends s (left_need (rule_of (Connective op))) a k m
-      ⊎ (Offends s (right_need (rule_of (Connective op))) b k m ⊎ (Clash s (rule_of (Connective op)) l a b k m ⊎ Misplaced s n (connected l op a b) k m))
-  Offends s n (product l es) k m = OneOffends s need.Set es k m ⊎ (ProductTooLarge s l es k m ⊎ Misplaced s n (product l es) k m)
+  Offends s n (unary l op e) k m = Offends s (need_of op) e k m ⊎ (MakesTooLarge s op l e k m ⊎ Misplaced s n (unary l op e) k m)
+  Offends s n (binary l op a b) k m =
+      Offends s (left_need (rule_of op)) a k m
+      ⊎ (Offends s (right_need (rule_of op)) b k m ⊎ (Clash s (rule_of op) l a b k m ⊎ Misplaced s n (binary l op a b) k m))
   Offends s n (chain l e ks) k m = Offends s need.Expression e k m ⊎ (LinksOffend s e ks k m ⊎ Misplaced s n (chain l e ks) k m)
   Offends s n (quantified l q ds p e) k m =
       Repeats (declared ds) k m

@@ -2,9 +2,6 @@
 use Rattle.std.specs.Prelude.{length, Option, Some, None}
 use Rattle.zf_tree.specs.Trees as text
 use Rattle.zf_tree.specs.Trees.{Tree, Trees, no_trees, tree, Links, VarDecls, no_decls, var_decl, Perhaps}
-use Rattle.zf_tree.specs.declared.operator.Listed.TheVariants.{Tuple, Display, Product}
-use Rattle.zf_tree.specs.declared.operator.Operator.TheVariants.{Function, Generic, Connective, Application, Image}
-use Rattle.zf_tree.specs.declared.operator.Unary.TheVariants.{Sign, Inverse, Not}
 use Rattle.zf_reference.specs.declared.reference.Reference.{Reference}
 use Rattle.zf_reference.specs.declared.reference.Reference.TheVariants.{Global}
 use Rattle.zf_term.specs.ResolvedTrees.{ResolvedTree, reference, number, constant, empty_set, bracket, listed, builder, unary, binary, chain, quantified, ResolvedTrees, no_terms, term, ResolvedLinks, no_links, link, Ranges, no_ranges, range, ResolvedPart, absent, present}
@@ -30,18 +27,10 @@ abbrev mutual
   resolved s (text.constant l c) = constant l c
   resolved s (text.empty_set l e) = empty_set l (resolved s e)
   resolved s (text.bracket l e) = bracket l (resolved s e)
-  resolved s (text.tuple l es) = listed l Tuple (resolved_all s es)
-  resolved s (text.display l es) = listed l Display (resolved_all s es)
-  resolved s (text.product l es) = listed l Product (resolved_all s es)
+  resolved s (text.listed l form es) = listed l form (resolved_all s es)
   resolved s (text.builder l ds p e) = builder l (resolved_ranges s ds) (resolved_part (bound s ds) p) (resolved_part (bound s ds) e)
-  resolved s (text.prefixed l op e) = unary l (Sign op) (resolved s e)
-  resolved s (text.inverse l e) = unary l Inverse (resolved s e)
-  resolved s (text.negated l e) = unary l Not (resolved s e)
-  resolved s (text.image l a b) = binary l Image (resolved s a) (resolved s b)
-  resolved s (text.applied l a b) = binary l Application (resolved s a) (resolved s b)
-  resolved s (text.infixed l op a b) = binary l (Function op) (resolved s a) (resolved s b)
-  resolved s (text.arrow l op a b) = binary l (Generic op) (resolved s a) (resolved s b)
-  resolved s (text.connected l op a b) = binary l (Connective op) (resolved s a) (resolved s b)
+  resolved s (text.unary l op e) = unary l op (resolved s e)
+  resolved s (text.binary l op a b) = binary l op (resolved s a) (resolved s b)
   resolved s (text.chain l e ks) = chain l (resolved s e) (resolved_links s ks)
   resolved s (text.quantified l q ds p e) = quantified l q (resolved_ranges s ds) (resolved_part (bound s ds) p) (resolved (bound s ds) e)
 

@@ -1,11 +1,13 @@
 -- The typing rules: a relation between what is in scope, a term, and a type, or that it is a predicate or a schema's name.
 use Rattle.std.specs.Prelude.{◌≡◌, List, [], ◌∷◌, ◌++◌, Some}
 use Rattle.zf_tree.specs.declared.tree.Name.{Name}
-use Rattle.zf_tree.specs.Trees.{Tree, named, numeral, constant, empty_set, bracket, tuple, display, builder, prefixed, inverse, image, applied, infixed, arrow, product, chain, negated, connected, quantified, Trees, no_trees, tree, Links, no_links, link, VarDecls, no_decls, var_decl, Perhaps, absent, present}
+use Rattle.zf_tree.specs.Trees.{Tree, named, numeral, constant, empty_set, bracket, listed, builder, unary, binary, chain, quantified, Trees, no_trees, tree, Links, no_links, link, VarDecls, no_decls, var_decl, Perhaps, absent, present}
 use Rattle.zf_tree.specs.Operators.{rule_of, relation_rule}
 use Rattle.zf_term.specs.Types.{Ty, power, Tys, no_types, type, IsSmall}
-use Rattle.zf_tree.specs.declared.operator.Operator.TheVariants.{Function, Generic, Connective, Application, Image}
-use Rattle.zf_tree.specs.declared.operator.Unary.TheVariants.{Sign, Inverse, Not}
+use Rattle.zf_tree.specs.declared.operator.Listed.{Listed}
+use Rattle.zf_tree.specs.declared.operator.Listed.TheVariants.{Tuple, Display, Product}
+use Rattle.zf_tree.specs.declared.operator.Need.{Need}
+use Rattle.zf_tree.specs.declared.operator.Need.TheVariants as need
 use Rattle.zf_reference.specs.declared.reference.Reference.{Reference}
 use Rattle.zf_term.specs.Types as t
 use Rattle.zf_type.specs.Rules.{Sort, typed, predicate, a_schema, number, set_of, IsSmallSort, Takes, UnaryTakes, constant_sort}
@@ -41,6 +43,34 @@ abbrev pub row_type : List Var → Ty
 row_type (v ∷ []) = v.type
 row_type vs = t.product (types_of vs)
 
+-- ---- what stands in a tuple, a display or a product
+
+-- what a member has to be
+abbrev pub member_need : Listed → Need
+member_need Tuple = need.Expression
+member_need Display = need.Expression
+member_need Product = need.Set
+
+-- what a member is that this type is told of: of a product, a set of that type
+abbrev pub member_sort : Listed → Ty → Sort
+member_sort Tuple u = typed u
+member_sort Display u = typed u
+member_sort Product u = set_of u
+
+-- one type or more, all the same as this one
+abbrev pub AreAll : Tys → Ty → Type 0
+AreAll no_types u = ⊥
+AreAll (type t no_types) u = t ≡ u
+AreAll (type t (type v vs)) u = (t ≡ u) × AreAll (type v vs) u
+
+-- the type of what members of these types make
+abbrev pub Makes : Listed → Tys → Ty → Type 0
+Makes Tuple us u = u ≡ t.product us
+Makes Product us u = u ≡ power (t.product us)
+Makes Display us u = (v : Ty) × AreAll us v × (u ≡ power v)
+
+-- ---- the rules
+
 abbrev mutual
   pub IsOf : Scope → Tree → Sort → Type 0
   IsOf s (named n) z = (r : Reference) × (meaning s (spelling n) ≡ Some (r, z))
@@ -48,36 +78,17 @@ abbrev mutual
   IsOf s (constant l c) z = z ≡ constant_sort c
   IsOf s (empty_set l e) z = (u : Ty) × IsOf s e (set_of u) × (z ≡ set_of u)
   IsOf s (bracket l e) z = IsOf s e z × (z ≡ a_schema → ⊥)
-  IsOf s (tuple l es) z = (us : Tys) × AreOf s es us × IsSmall (t.product us) × (z ≡ typed (t.product us))
-  IsOf s (display l es) z = (u : Ty) × AllAreOf s es u × IsSmall (power u) × (z ≡ set_of u)
+  IsOf s (listed l form es) z = (us : Tys) × (u : Ty) × AreMembers form s es us × Makes form us u × IsSmall u × (z ≡ typed u)
   IsOf s (builder l ds p e) z = (vs : List Var) × (u : Ty) × AreApart (declared ds) × Declare s ds vs × Constrains (within s vs) p × Builds (within s vs) vs e u × IsSmall (power u) × (z ≡ set_of u)
-  IsOf s (prefixed l op e) z = (x : Sort) × IsOf s e x × UnaryTakes (Sign op) x z × IsSmallSort z
-  IsOf s (inverse l e) z = (x : Sort) × IsOf s e x × UnaryTakes Inverse x z × IsSmallSort z
-  IsOf s (negated l e) z = (x : Sort) × IsOf s e x × UnaryTakes Not x z × IsSmallSort z
-  IsOf s (image l a b) z = (x y : Sort) × IsOf s a x × IsOf s b y × Takes (rule_of Image) x y z × IsSmallSort z
-  IsOf s (applied l a b) z = (x y : Sort) × IsOf s a x × IsOf s b y × Takes (rule_of Application) x y z × IsSmallSort z
-  IsOf s (infixed l op a b) z = (x y : Sort) × IsOf s a x × IsOf s b y × Takes (rule_of (Function op)) x y z × IsSmallSort z
-  IsOf s (arrow l op a b) z = (x y : Sort) × IsOf s a x × IsOf s b y × Takes (rule_of (Generic op)) x y z × IsSmallSort z
-  IsOf s (connected l op a b) z = (x y : Sort) × IsOf s a x × IsOf s b y × Takes (rule_of (Connective op)) x y z × IsSmallSort z
-  IsOf s (product l es) z = (us : Tys) × AreSetsOf s es us × IsSmall (power (t.product us)) × (z ≡ set_of (t.product us))
+  IsOf s (unary l op e) z = (x : Sort) × IsOf s e x × UnaryTakes op x z × IsSmallSort z
+  IsOf s (binary l op a b) z = (x y : Sort) × IsOf s a x × IsOf s b y × Takes (rule_of op) x y z × IsSmallSort z
   IsOf s (chain l e ks) z = (u : Ty) × IsOf s e (typed u) × AreLinked s (typed u) ks × (z ≡ predicate)
   IsOf s (quantified l q ds p e) z = (vs : List Var) × AreApart (declared ds) × Declare s ds vs × Constrains (within s vs) p × IsOf (within s vs) e predicate × (z ≡ predicate)
 
-  -- the terms are expressions of these types
-  pub AreOf : Scope → Trees → Tys → Type 0
-  AreOf s no_trees us = us ≡ no_types
-  AreOf s (tree e es) us = (v : Ty) × (vs : Tys) × IsOf s e (typed v) × AreOf s es vs × (us ≡ type v vs)
-
-  -- sets of these types
-  pub AreSetsOf : Scope → Trees → Tys → Type 0
-  AreSetsOf s no_trees us = us ≡ no_types
-  AreSetsOf s (tree e es) us = (v : Ty) × (vs : Tys) × IsOf s e (set_of v) × AreSetsOf s es vs × (us ≡ type v vs)
-
-  -- one or more expressions, all of this type
-  pub AllAreOf : Scope → Trees → Ty → Type 0
-  AllAreOf s no_trees u = ⊥
-  AllAreOf s (tree e no_trees) u = IsOf s e (typed u)
-  AllAreOf s (tree e (tree f es)) u = IsOf s e (typed u) × AllAreOf s (tree f es) u
+  -- the members are told by these types
+  pub AreMembers : Listed → Scope → Trees → Tys → Type 0
+  AreMembers form s no_trees us = us ≡ no_types
+  AreMembers form s (tree e es) us = (v : Ty) × (vs : Tys) × IsOf s e (member_sort form v) × AreMembers form s es vs × (us ≡ type v vs)
 
   -- what is left of a chain, behind an operand of this sort
   pub AreLinked : Scope → Sort → Links → Type 0

@@ -69,15 +69,13 @@ pub(crate) fn depth(scope: &Scope<'_, '_>) -> usize
 pub(crate) fn bind<'a>(scope: &mut Scope<'a, '_>, variables: Locals<'a>) -> Result<(), AllocError>
     ensures ok { OnOk result (scope_of scope.new ≡ within (scope_of scope.old) (map variable_of variables.entry)) }
     ensures err { OnErr result (scope_of scope.new ≡ scope_of scope.old) }
-    ensures references { scope.new.references ≡ scope.old.references }
 {
     scope.locals.append(variables)
 }
 
 /// Leaves in scope the variables that are bound outside.
 pub(crate) fn unbind(scope: &mut Scope<'_, '_>, outside: usize)
-    ensures scope { (s : spec.Scope) (vs : List Var) → scope_of scope.old ≡ within s vs → outside ≡ length s.locals → scope_of scope.new ≡ s }
-    ensures references { scope.new.references ≡ scope.old.references }
+    ensures { (s : spec.Scope) (vs : List Var) → scope_of scope.old ≡ within s vs → outside ≡ length s.locals → scope_of scope.new ≡ s }
 {
     scope.locals.truncate(outside);
 }

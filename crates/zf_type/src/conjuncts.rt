@@ -1,9 +1,10 @@
 //! The conjuncts of a predicate of the text.
 ghost use Rattle.std.specs.Prelude.{◌≡◌, ◌++◌, [], ◌∷◌, IfErr, OnOk, map};
 ghost use Rattle.zf_tree.specs.Trees.{tree_of};
+ghost use Rattle.zf_term.specs.ResolvedTrees.{resolved_of};
 ghost use Rattle.zf_term.specs.Shapes as spec;
-ghost use Rattle.zf_term.specs.Written.{is_conjunction, written_of};
 ghost use Rattle.zf_tree.specs.declared.operator.Need.TheVariants as needs;
+ghost use Rattle.zf_type.specs.Judging.{is_conjunction};
 ghost use Rattle.zf_type.specs.Offences.{Offends};
 ghost use Rattle.zf_type.specs.Refusals.{IfFault};
 ghost use Rattle.zf_type.specs.Resolving.{resolved};
@@ -16,8 +17,8 @@ use crate::judge::judge;
 use crate::scope::Scope;
 use bumpalo::Bump;
 use zf_data::arena::Items;
-use zf_term::written::Written;
-use zf_tree::operator::Need;
+use zf_term::resolved::Resolved;
+use zf_tree::operator::{Need, Operator};
 use zf_tree::symbol::Connective;
 use zf_tree::tree::Term;
 
@@ -28,37 +29,40 @@ fn is_conjunction(term: &Term<'_>) -> bool
 {
     match term {
         Term::Bracket(_, inner) => is_conjunction(inner.get()),
-        Term::Connective(_, connective, _, _) => *connective == Connective::And,
+        Term::Binary(_, op, _, _) => is_and(*op),
         Term::Name(_, _)
         | Term::Number(_, _)
         | Term::Constant(_, _)
         | Term::EmptySet(_, _)
-        | Term::Tuple(_, _)
-        | Term::Display(_, _)
+        | Term::Listed(_, _, _)
         | Term::Builder(_, _, _, _)
-        | Term::Prefix(_, _, _)
-        | Term::Inverse(_, _)
-        | Term::Image(_, _, _)
-        | Term::Apply(_, _, _)
-        | Term::Infix(_, _, _, _)
-        | Term::Arrow(_, _, _, _)
-        | Term::Product(_, _)
+        | Term::Unary(_, _, _)
         | Term::Chain(_, _, _)
-        | Term::Not(_, _)
         | Term::Quantified(_, _, _, _, _) => false,
+    }
+}
+
+fn is_and(op: Operator) -> bool
+    ensures { result ≡ spec.is_and op }
+{
+    match op {
+        Operator::Connective(connective) => connective == Connective::And,
+        Operator::Function(_) | Operator::Generic(_) | Operator::Application | Operator::Image => {
+            false
+        }
     }
 }
 
 /// Adds the conjuncts of the predicate, where it is one.
 #[tactic(auto, using(zf_tree::proofs::TermSeen::seen))]
 pub fn push_conjuncts<'a>(
-    term: &'a Term<'a>,
+    term: &Term<'a>,
     arena: &'a Bump,
     scope: &mut Scope<'a, '_>,
-    conjuncts: &mut Items<'a, Written<'a>>,
+    conjuncts: &mut Items<'a, Resolved<'a>>,
 ) -> Result<(), Refusal>
     ensures is { OnOk result (IsOf (scope_of scope.old) (tree_of term.now) predicate) }
-    ensures ok { OnOk result (map written_of conjuncts.new ≡ map written_of conjuncts.old ++ spec.conjuncts (resolved (scope_of scope.old) (tree_of term.now))) }
+    ensures ok { OnOk result (map resolved_of conjuncts.new ≡ map resolved_of conjuncts.old ++ spec.conjuncts (resolved (scope_of scope.old) (tree_of term.now))) }
     ensures wrong { IfErr result (λ e. IfFault e (λ kind line. Offends (scope_of scope.old) needs.Predicate (tree_of term.now) kind line)) }
     ensures scope { scope_of scope.new ≡ scope_of scope.old }
 {
@@ -67,46 +71,38 @@ pub fn push_conjuncts<'a>(
             if is_conjunction(inner.get()) {
                 push_conjuncts(inner.get(), arena, scope, conjuncts)
             } else {
-                push_written(term, arena, scope, conjuncts)
+                push_whole(term, arena, scope, conjuncts)
             }
         }
-        Term::Connective(_, connective, left, right) => {
-            if *connective == Connective::And {
+        Term::Binary(_, op, left, right) => {
+            if is_and(*op) {
                 push_conjuncts(left.get(), arena, scope, conjuncts)?;
                 push_conjuncts(right.get(), arena, scope, conjuncts)
             } else {
-                push_written(term, arena, scope, conjuncts)
+                push_whole(term, arena, scope, conjuncts)
             }
         }
         Term::Name(_, _)
         | Term::Number(_, _)
         | Term::Constant(_, _)
         | Term::EmptySet(_, _)
-        | Term::Tuple(_, _)
-        | Term::Display(_, _)
+        | Term::Listed(_, _, _)
         | Term::Builder(_, _, _, _)
-        | Term::Prefix(_, _, _)
-        | Term::Inverse(_, _)
-        | Term::Image(_, _, _)
-        | Term::Apply(_, _, _)
-        | Term::Infix(_, _, _, _)
-        | Term::Arrow(_, _, _, _)
-        | Term::Product(_, _)
+        | Term::Unary(_, _, _)
         | Term::Chain(_, _, _)
-        | Term::Not(_, _)
-        | Term::Quantified(_, _, _, _, _) => { push_written(term, arena, scope, conjuncts) }
+        | Term::Quantified(_, _, _, _, _) => push_whole(term, arena, scope, conjuncts),
     }
 }
 
 /// Adds the predicate itself, where it is one.
-fn push_written<'a>(
-    term: &'a Term<'a>,
+fn push_whole<'a>(
+    term: &Term<'a>,
     arena: &'a Bump,
     scope: &mut Scope<'a, '_>,
-    conjuncts: &mut Items<'a, Written<'a>>,
+    conjuncts: &mut Items<'a, Resolved<'a>>,
 ) -> Result<(), Refusal>
     ensures is { OnOk result (IsOf (scope_of scope.old) (tree_of term.now) predicate) }
-    ensures ok { OnOk result (map written_of conjuncts.new ≡ map written_of conjuncts.old ++ resolved (scope_of scope.old) (tree_of term.now) ∷ []) }
+    ensures ok { OnOk result (map resolved_of conjuncts.new ≡ map resolved_of conjuncts.old ++ resolved (scope_of scope.old) (tree_of term.now) ∷ []) }
     ensures wrong { IfErr result (λ e. IfFault e (λ kind line. Offends (scope_of scope.old) needs.Predicate (tree_of term.now) kind line)) }
     ensures scope { scope_of scope.new ≡ scope_of scope.old }
 {

@@ -1,15 +1,13 @@
 //! What a term is by the typing rules, or an offence against them.
-ghost use Rattle.std.specs.Prelude.{◌≡◌, ℕ, IfOk, IfErr, OnOk};
+ghost use Rattle.std.specs.Prelude.{◌≡◌, IfOk, IfErr};
 ghost use Rattle.zf_tree.specs.Trees as tree;
 ghost use Rattle.zf_tree.specs.Trees.{Tree, named, numeral, tree_of};
-ghost use Rattle.zf_term.specs.Filling.{onto};
-ghost use Rattle.zf_term.specs.Written.{written_of};
+ghost use Rattle.zf_term.specs.ResolvedTrees.{resolved_of};
 ghost use Rattle.zf_type.specs.Judging.{Judges};
 ghost use Rattle.zf_type.specs.Offences.{Offends};
 ghost use Rattle.zf_type.specs.Refusals.{IfFault};
 ghost use Rattle.zf_type.specs.Resolving.{resolved};
-ghost use Rattle.zf_type.specs.Rules as rules;
-ghost use Rattle.zf_type.specs.Rules.{Meets, sort_of};
+ghost use Rattle.zf_type.specs.Rules.{IsSmallSort, Meets, sort_of};
 ghost use Rattle.zf_type.specs.Scopes as spec;
 ghost use Rattle.zf_type.specs.Scopes.{scope_of};
 ghost use Rattle.zf_type.specs.Typing.{IsOf};
@@ -30,16 +28,16 @@ use lists::listed;
 use operands::{binary, unary};
 use zf_data::arena::Boxed;
 use zf_term::fault::TypeFaultKind;
-use zf_term::written::Written;
+use zf_term::resolved::Resolved;
 use zf_term::ztype::ZType;
-use zf_tree::operator::{Listed, Need, Operator, Unary};
+use zf_tree::operator::Need;
 use zf_tree::symbol::Constant;
 use zf_tree::tree::{Name, Term};
 
-/// A term as it is written, and what it is.
+/// A term in which each name says what it stands for, and what the term is.
 #[derive(Drop)]
 pub struct Judged<'a> {
-    pub term: Written<'a>,
+    pub term: Resolved<'a>,
     pub sort: Sort<'a>,
 }
 
@@ -50,23 +48,20 @@ struct Place {
     line: u32,
 }
 
-/// What the term is where this is needed, and the term as it is written, with what its names stand for.
+/// What the term is where this is needed, and the term with what its names stand for.
 pub fn judge<'a>(
-    term: &'a Term<'a>,
+    term: &Term<'a>,
     arena: &'a Bump,
     need: Need,
     scope: &mut Scope<'a, '_>,
 ) -> Result<Judged<'a>, Refusal>
     ensures sort { IfOk result (λ j. IsOf (scope_of scope.old) (tree_of term.now) (sort_of j.sort)) }
     ensures met { IfOk result (λ j. Meets need (sort_of j.sort)) }
-    ensures term { IfOk result (λ j. written_of j.term ≡ resolved (scope_of scope.old) (tree_of term.now)) }
+    ensures term { IfOk result (λ j. resolved_of j.term ≡ resolved (scope_of scope.old) (tree_of term.now)) }
     ensures wrong { IfErr result (λ e. IfFault e (λ kind line. Offends (scope_of scope.old) need (tree_of term.now) kind line)) }
     ensures scope { scope_of scope.new ≡ scope_of scope.old }
 {
-    scope.references.clear();
-    let sort = judge_term(term, arena, need, scope)?;
-    let term = Written::of(arena, term, scope.references.as_slice())?;
-    Ok(Judged { term, sort })
+    judge_term(term, arena, need, scope)
 }
 
 /// A term that stands in a box.
@@ -76,9 +71,8 @@ fn judge_boxed<'a>(
     arena: &'a Bump,
     need: Need,
     scope: &mut Scope<'a, '_>,
-) -> Result<Sort<'a>, Refusal>
+) -> Result<Judged<'a>, Refusal>
     ensures judged { Judges (scope_of scope.old) need (tree_of term.now) result }
-    ensures references { OnOk result (scope.new.references.items ≡ onto scope.old.references.items (resolved (scope_of scope.old) (tree_of term.now))) }
     ensures scope { scope_of scope.new ≡ scope_of scope.old }
 {
     judge_term(term.get(), arena, need, scope)
@@ -91,15 +85,20 @@ fn judge_term<'a>(
     arena: &'a Bump,
     need: Need,
     scope: &mut Scope<'a, '_>,
-) -> Result<Sort<'a>, Refusal>
+) -> Result<Judged<'a>, Refusal>
     ensures judged { Judges (scope_of scope.old) need (tree_of term.now) result }
-    ensures references { OnOk result (scope.new.references.items ≡ onto scope.old.references.items (resolved (scope_of scope.old) (tree_of term.now))) }
     ensures scope { scope_of scope.new ≡ scope_of scope.old }
 {
     match term {
         Term::Name(line, name) => named(arena, need, &name.at(*line), scope),
-        Term::Number(line, _) => number(need, *line),
-        Term::Constant(line, constant) => constant_term(arena, need, *line, *constant),
+        Term::Number(line, value) => {
+            let line = *line;
+            number(Place { need, line }, *value)
+        }
+        Term::Constant(line, constant) => {
+            let line = *line;
+            constant_term(arena, Place { need, line }, *constant)
+        }
         Term::EmptySet(line, of) => {
             let line = *line;
             empty_set(of.get(), arena, Place { need, line }, scope)
@@ -108,151 +107,69 @@ fn judge_term<'a>(
             let line = *line;
             bracket(inner.get(), arena, Place { need, line }, scope)
         }
-        Term::Prefix(line, sign, operand) => {
+        Term::Listed(line, form, terms) => {
             let line = *line;
-            unary(
-                operand.get(),
-                arena,
-                Place { need, line },
-                Unary::Sign(*sign),
-                scope,
-            )
+            listed(terms.as_slice(), arena, Place { need, line }, *form, scope)
         }
-        Term::Inverse(line, operand) => {
+        Term::Builder(_, _, _, _) => builder(term, arena, need, scope),
+        Term::Unary(line, op, operand) => {
             let line = *line;
-            unary(
-                operand.get(),
-                arena,
-                Place { need, line },
-                Unary::Inverse,
-                scope,
-            )
+            unary(operand.get(), arena, Place { need, line }, *op, scope)
         }
-        Term::Not(line, operand) => {
+        Term::Binary(line, op, left, right) => {
             let line = *line;
-            unary(
-                operand.get(),
-                arena,
-                Place { need, line },
-                Unary::Not,
-                scope,
-            )
-        }
-        Term::Image(line, left, right) => {
-            let line = *line;
-            let op = Operator::Image;
             binary(
                 term,
                 arena,
                 Place { need, line },
-                op,
+                *op,
                 left.get(),
                 right.get(),
-                scope,
-            )
-        }
-        Term::Apply(line, left, right) => {
-            let line = *line;
-            let op = Operator::Application;
-            binary(
-                term,
-                arena,
-                Place { need, line },
-                op,
-                left.get(),
-                right.get(),
-                scope,
-            )
-        }
-        Term::Infix(line, infix, left, right) => {
-            let line = *line;
-            let op = Operator::Function(*infix);
-            binary(
-                term,
-                arena,
-                Place { need, line },
-                op,
-                left.get(),
-                right.get(),
-                scope,
-            )
-        }
-        Term::Arrow(line, arrow, left, right) => {
-            let line = *line;
-            let op = Operator::Generic(*arrow);
-            binary(
-                term,
-                arena,
-                Place { need, line },
-                op,
-                left.get(),
-                right.get(),
-                scope,
-            )
-        }
-        Term::Connective(line, connective, left, right) => {
-            let line = *line;
-            let op = Operator::Connective(*connective);
-            binary(
-                term,
-                arena,
-                Place { need, line },
-                op,
-                left.get(),
-                right.get(),
-                scope,
-            )
-        }
-        Term::Tuple(line, terms) => {
-            let line = *line;
-            listed(
-                terms.as_slice(),
-                arena,
-                Place { need, line },
-                Listed::Tuple,
-                scope,
-            )
-        }
-        Term::Display(line, terms) => {
-            let line = *line;
-            listed(
-                terms.as_slice(),
-                arena,
-                Place { need, line },
-                Listed::Display,
-                scope,
-            )
-        }
-        Term::Product(line, terms) => {
-            let line = *line;
-            listed(
-                terms.as_slice(),
-                arena,
-                Place { need, line },
-                Listed::Product,
                 scope,
             )
         }
         Term::Chain(_, _, _) => chain(term, arena, need, scope),
         Term::Quantified(_, _, _, _, _) => quantified(term, arena, need, scope),
-        Term::Builder(_, _, _, _) => builder(term, arena, need, scope),
     }
+}
+
+#[inline(never)]
+fn named<'a>(
+    arena: &'a Bump,
+    need: Need,
+    name: &Name<'a>,
+    scope: &Scope<'a, '_>,
+) -> Result<Judged<'a>, Refusal>
+    ensures { Judges (scope_of scope.now) need (named name.now) result }
+{
+    let line = name.line;
+    let Some((reference, sort)) = scope.meaning(arena, name)? else {
+        return Err(refused(TypeFaultKind::NotDeclared, line));
+    };
+    placed(Place { need, line }, sort, Resolved::Name(line, reference))
+}
+
+#[inline(never)]
+fn number<'a>(place: Place, value: u64) -> Result<Judged<'a>, Refusal>
+    ensures { (s : spec.Scope) → Judges s place.need (numeral place.line value) result }
+{
+    placed(
+        place,
+        Sort::Typed(ZType::Int),
+        Resolved::Number(place.line, value),
+    )
 }
 
 #[inline(never)]
 fn constant_term<'a>(
     arena: &'a Bump,
-    need: Need,
-    line: u32,
+    place: Place,
     constant: Constant,
-) -> Result<Sort<'a>, Refusal>
-    ensures { (s : spec.Scope) → Judges s need (tree.constant line constant) result }
+) -> Result<Judged<'a>, Refusal>
+    ensures { (s : spec.Scope) → Judges s place.need (tree.constant place.line constant) result }
 {
     let sort = constant_sort(arena, constant)?;
-    if !sort.meets(need) {
-        return Err(misplaced(&sort, need, line));
-    }
-    Ok(sort)
+    placed(place, sort, Resolved::Constant(place.line, constant))
 }
 
 #[cycle(judging)]
@@ -262,16 +179,13 @@ fn empty_set<'a>(
     arena: &'a Bump,
     place: Place,
     scope: &mut Scope<'a, '_>,
-) -> Result<Sort<'a>, Refusal>
+) -> Result<Judged<'a>, Refusal>
     ensures judged { Judges (scope_of scope.old) place.need (tree.empty_set place.line (tree_of of.now)) result }
-    ensures references { OnOk result (scope.new.references.items ≡ onto scope.old.references.items (resolved (scope_of scope.old) (tree.empty_set place.line (tree_of of.now)))) }
     ensures scope { scope_of scope.new ≡ scope_of scope.old }
 {
-    let sort = judge_term(of, arena, Need::Set, scope)?;
-    if !sort.meets(place.need) {
-        return Err(misplaced(&sort, place.need, place.line));
-    }
-    Ok(sort)
+    let Judged { term, sort } = judge_term(of, arena, Need::Set, scope)?;
+    let term = Resolved::EmptySet(place.line, Boxed::new(arena, term)?);
+    placed(place, sort, term)
 }
 
 #[cycle(judging)]
@@ -281,61 +195,31 @@ fn bracket<'a>(
     arena: &'a Bump,
     place: Place,
     scope: &mut Scope<'a, '_>,
-) -> Result<Sort<'a>, Refusal>
+) -> Result<Judged<'a>, Refusal>
     ensures judged { Judges (scope_of scope.old) place.need (tree.bracket place.line (tree_of inner.now)) result }
-    ensures references { OnOk result (scope.new.references.items ≡ onto scope.old.references.items (resolved (scope_of scope.old) (tree.bracket place.line (tree_of inner.now)))) }
     ensures scope { scope_of scope.new ≡ scope_of scope.old }
 {
-    judge_term(inner, arena, place.need, scope)
+    let Judged { term, sort } = judge_term(inner, arena, place.need, scope)?;
+    let term = Resolved::Bracket(place.line, Boxed::new(arena, term)?);
+    Ok(Judged { term, sort })
 }
 
-#[inline(never)]
-fn named<'a>(
-    arena: &'a Bump,
-    need: Need,
-    name: &Name<'a>,
-    scope: &mut Scope<'a, '_>,
-) -> Result<Sort<'a>, Refusal>
-    ensures judged { Judges (scope_of scope.old) need (named name.now) result }
-    ensures references { OnOk result (scope.new.references.items ≡ onto scope.old.references.items (resolved (scope_of scope.old) (named name.now))) }
-    ensures scope { scope_of scope.new ≡ scope_of scope.old }
+/// The term, where its place takes one of this sort.
+fn placed<'a>(place: Place, sort: Sort<'a>, term: Resolved<'a>) -> Result<Judged<'a>, Refusal>
+    ensures { (s : spec.Scope) (e : Tree) → IsOf s e (sort_of sort.entry) → resolved_of term.entry ≡ resolved s e → place.line ≡ tree.line_of e → Judges s place.need e result }
 {
-    let Some((reference, sort)) = scope.meaning(arena, name)? else {
-        return Err(refused(TypeFaultKind::NotDeclared, name.line));
-    };
-    if !sort.meets(need) {
-        return Err(misplaced(&sort, need, name.line));
+    if !sort.meets(place.need) {
+        return Err(refused(sort.lack(place.need), place.line));
     }
-    scope.references.push(reference)?;
-    Ok(sort)
+    Ok(Judged { term, sort })
 }
 
-#[inline(never)]
-fn number<'a>(need: Need, line: u32) -> Result<Sort<'a>, Refusal>
-    ensures { (s : spec.Scope) (value : ℕ) → Judges s need (numeral line value) result }
+/// The same of a term that is made of others, whose type has to be within the limit.
+fn made<'a>(place: Place, sort: Sort<'a>, term: Resolved<'a>) -> Result<Judged<'a>, Refusal>
+    ensures { (s : spec.Scope) (e : Tree) → (IsSmallSort (sort_of sort.entry) → IsOf s e (sort_of sort.entry)) → ((IsSmallSort (sort_of sort.entry) → ⊥) → Offends s place.need e TypeFaultKind.TooLarge place.line) → resolved_of term.entry ≡ resolved s e → place.line ≡ tree.line_of e → Judges s place.need e result }
 {
-    let sort = Sort::Typed(ZType::Int);
-    if !sort.meets(need) {
-        return Err(misplaced(&sort, need, line));
+    if !sort.is_small() {
+        return Err(refused(TypeFaultKind::TooLarge, place.line));
     }
-    Ok(sort)
-}
-
-/// A predicate that stands at this line.
-fn predicate<'a>(need: Need, line: u32) -> Result<Sort<'a>, Refusal>
-    ensures { (s : spec.Scope) (e : Tree) → IsOf s e rules.predicate → line ≡ tree.line_of e → Judges s need e result }
-{
-    let sort = Sort::Predicate;
-    if !sort.meets(need) {
-        return Err(misplaced(&sort, need, line));
-    }
-    Ok(sort)
-}
-
-/// The refusal of a term of this sort and line, whose place does not take it.
-#[inline(never)]
-fn misplaced(sort: &Sort<'_>, need: Need, line: u32) -> Refusal
-    ensures { (s : spec.Scope) (e : Tree) → IsOf s e (sort_of sort.now) → (Meets need (sort_of sort.now) → ⊥) → line ≡ tree.line_of e → IfFault result (λ kind m. Offends s need e kind m) }
-{
-    refused(sort.lack(need), line)
+    placed(place, sort, term)
 }

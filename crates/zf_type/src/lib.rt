@@ -10,7 +10,6 @@ pub mod laws;
 pub mod locals;
 pub mod rules;
 pub mod scope;
-pub mod slate;
 pub mod sort;
 mod spelling;
 pub mod variable;

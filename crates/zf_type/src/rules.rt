@@ -1,7 +1,7 @@
 //! The rules of types: what terms make together.
 ghost use Rattle.std.specs.Prelude.{◌≡◌, ◌↔◌, IsTrue, IfOk, MatchOption};
 ghost use Rattle.zf_tree.specs.declared.symbol.Prefix.TheVariants as prefix;
-ghost use Rattle.zf_tree.specs.declared.tree.Sign.TheVariants as sign;
+ghost use Rattle.zf_tree.specs.declared.operator.Sign.TheVariants as sign;
 ghost use Rattle.zf_tree.specs.Operators.{left_need};
 ghost use Rattle.zf_tree.specs.declared.operator.Rule.TheVariants as rule;
 ghost use Rattle.zf_tree.specs.declared.operator.Unary.TheVariants as unary;
@@ -13,9 +13,8 @@ use crate::sort::Sort;
 use bumpalo::Bump;
 use std::alloc::AllocError;
 use zf_term::ztype::{ZType, pair_type, set_type};
-use zf_tree::operator::{Need, Rule, Unary};
+use zf_tree::operator::{Need, Rule, Sign, Unary};
 use zf_tree::symbol::{Constant, Prefix};
-use zf_tree::tree::Sign;
 
 /// What two operands make by a rule, where it takes them together.
 pub fn combine<'a>(

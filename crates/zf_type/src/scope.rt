@@ -24,8 +24,6 @@ pub struct Scope<'a, 'b> {
     pub globals: &'b Globals<'a>,
     pub components: &'b [Component<'a>],
     pub locals: Locals<'a>,
-    /// What the names of the terms that were judged stand for, from left to right.
-    pub references: Vec<Reference>,
 }
 
 impl<'a> Scope<'a, '_> {

@@ -78,18 +78,10 @@ module _ (g : List Defined) (well : AreWellTyped g) where
   tree_numbers n before h (text.bracket l a) u s begin is e = tree_numbers n before h a u s begin is.0 e
   tree_numbers n before h (text.numeral l v) u s begin is e = none_found s e
   tree_numbers n before h (text.empty_set l a) u s begin is e = none_found s e
-  tree_numbers n before h (text.tuple l es) u s begin is e = none_found s e
-  tree_numbers n before h (text.display l es) u s begin is e = none_found s e
-  tree_numbers n before h (text.product l es) u s begin is e = none_found s e
+  tree_numbers n before h (text.listed l form es) u s begin is e = none_found s e
   tree_numbers n before h (text.builder l ds p a) u s begin is e = none_found s e
-  tree_numbers n before h (text.prefixed l op a) u s begin is e = none_found s e
-  tree_numbers n before h (text.inverse l a) u s begin is e = none_found s e
-  tree_numbers n before h (text.negated l a) u s begin is e = none_found s e
-  tree_numbers n before h (text.image l a b) u s begin is e = none_found s e
-  tree_numbers n before h (text.applied l a b) u s begin is e = none_found s e
-  tree_numbers n before h (text.infixed l op a b) u s begin is e = none_found s e
-  tree_numbers n before h (text.arrow l op a b) u s begin is e = none_found s e
-  tree_numbers n before h (text.connected l op a b) u s begin is e = none_found s e
+  tree_numbers n before h (text.unary l op a) u s begin is e = none_found s e
+  tree_numbers n before h (text.binary l op a b) u s begin is e = none_found s e
   tree_numbers n before h (text.chain l a ks) u s begin is e = none_found s e
   tree_numbers n before h (text.quantified l q ds p a) u s begin is e = none_found s e
 

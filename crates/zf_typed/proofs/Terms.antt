@@ -6,11 +6,10 @@ use Rattle.zf_tree.specs.declared.symbol.Constant.TheVariants as constants
 use Rattle.zf_tree.specs.declared.tree.Name.{Name}
 use Rattle.zf_tree.specs.Trees as text
 use Rattle.zf_tree.specs.Trees.{Tree, Trees, no_trees, tree, VarDecls, no_decls, var_decl, Perhaps}
+use Rattle.zf_tree.specs.declared.operator.Listed.{Listed}
 use Rattle.zf_tree.specs.declared.operator.Listed.TheVariants.{Tuple, Display, Product}
 use Rattle.zf_tree.specs.declared.operator.Operator.{Operator}
-use Rattle.zf_tree.specs.declared.operator.Operator.TheVariants.{Function, Generic, Connective, Application, Image}
 use Rattle.zf_tree.specs.declared.operator.Unary.{Unary}
-use Rattle.zf_tree.specs.declared.operator.Unary.TheVariants.{Sign, Inverse, Not}
 use Rattle.zf_tree.specs.Operators.{rule_of}
 use Rattle.zf_term.specs.ResolvedTrees.{ResolvedTree, ResolvedPart}
 use Rattle.zf_term.specs.Types.{Ty, Tys, power, no_types, type}
@@ -20,7 +19,7 @@ use Rattle.zf_type.specs.Rules.{Sort, typed, predicate, number, set_of, Takes, U
 use Rattle.zf_type.specs.Scopes.{Scope, Var}
 use Rattle.zf_tree.specs.Names.{spelling}
 use Rattle.zf_type.specs.Scopes as scopes
-use Rattle.zf_type.specs.Typing.{IsOf, AreOf, AreSetsOf, AllAreOf, Declare, types_of, row_type, variables}
+use Rattle.zf_type.specs.Typing.{IsOf, AreMembers, AreAll, Makes, member_sort, Declare, types_of, row_type, variables}
 use Rattle.zf_type.specs.Typing as typing
 use Rattle.zf_type.proofs.ResolvedAlike.{part_within}
 use Rattle.zf_value.specs.declared.value.Value.{Value, SetOf}
@@ -139,6 +138,34 @@ pub cross_typed : (e : Environment) (us : Tys) (ss : List Value) (v : Value) →
 unfolding IsCross
 cross_typed e us ss v h k = a_set e (t.product us) (λ z. (vs : List Value) × (z ≡ value.Tuple vs) × AreFrom vs ss) v k (λ z p. (p.0, p.1, from_typed e us ss p.0 h p.2))
 
+-- the types of members that these types tell
+abbrev member_types : Listed → Tys → Tys
+member_types Tuple us = us
+member_types Display us = us
+member_types Product us = powers us
+
+none_told : (e : Environment) (form : Listed) → AreOfTypes e (member_types form no_types) []
+none_told e Tuple = refl
+none_told e Display = refl
+none_told e Product = refl
+
+one_told : (e : Environment) (form : Listed) (u : Ty) (us : Tys) (w : Value) (ws : List Value) → IsOfSort e (member_sort form u) w → AreOfTypes e (member_types form us) ws → AreOfTypes e (member_types form (type u us)) (w ∷ ws)
+one_told e Tuple u us w ws h k = (w, ws, refl, h, k)
+one_told e Display u us w ws h k = (w, ws, refl, h, k)
+one_told e Product u us w ws h k = (w, ws, refl, h, k)
+
+-- each of several that are all of one type
+each_typed : (e : Environment) (us : Tys) (u : Ty) (vs : List Value) → AreAll us u → AreOfTypes e us vs → (x : Value) → IsMember x vs → IsOfType e u x
+each_typed e no_types u vs a h x m = absurd a
+each_typed e (type t no_types) u vs a h x m = ⊎_elim (λ k. subst (IsOfType e u) k (subst (λ v. IsOfType e v h.0) a h.3)) (λ k. absurd (subst (IsMember x) h.4 k)) (subst (IsMember x) h.2 m)
+each_typed e (type t (type w ws)) u vs a h x m = ⊎_elim (λ k. subst (IsOfType e u) k (subst (λ v. IsOfType e v h.0) a.0 h.3)) (λ k. each_typed e (type w ws) u h.1 a.1 h.4 x k) (subst (IsMember x) h.2 m)
+
+-- what members make is of the type that their types make
+listed_typed : (e : Environment) (form : Listed) (us : Tys) (u : Ty) (vs : List Value) (v : Value) → Makes form us u → AreOfTypes e (member_types form us) vs → ListedOutcome form vs (Is v) → IsOfType e u v
+listed_typed e Tuple us u vs v m h p = subst (λ t. IsOfType e t v) (sym m) (vs, is_value v (value.Tuple vs) p, h)
+listed_typed e Display us u vs v m h p = subst (λ t. IsOfType e t v) (sym m.2) (display_typed e m.0 vs v (each_typed e us m.0 vs m.1 h) p)
+listed_typed e Product us u vs v m h p = subst (λ t. IsOfType e t v) (sym m) (cross_typed e us vs v h p)
+
 built_typed :
     (e : Environment) (u : Ty) (vs : List Var) (s : Several) (F : List Value → Truth → Type 0) (T : List Value → Outcome → Type 0) (v : Value)
     → ((ss : List Value) → s ≡ values ss → AreOfTypes e (powers (types_of vs)) ss)
@@ -171,56 +198,30 @@ mutual
   term_typed e s c (text.constant l k) z v f h p = no_constant k v p
   term_typed e s c (text.empty_set l a) z v f h p = sorted e (set_of h.0) z v (sym h.2) (empty_typed e h.0 v p)
   term_typed e s c (text.bracket l a) z v f h p = term_typed e s c a z v f h.0 p
-  term_typed e s c (text.tuple l es) z v f h p =
-      let q = several p.0 (ListedOutcome Tuple) v p.2 in
-      sorted e (typed (t.product h.0)) z v (sym h.3) (q.0, is_value v (value.Tuple q.0) q.2, all_typed e s c es h.0 q.0 f h.1 (subst (HaveOutcomes c (resolved_all s es)) q.1 p.1))
-  term_typed e s c (text.display l es) z v f h p =
-      let q = several p.0 (ListedOutcome Display) v p.2 in
-      sorted e (set_of h.0) z v (sym h.3) (display_typed e h.0 q.0 v (each_typed e s c es h.0 q.0 f h.1 (subst (HaveOutcomes c (resolved_all s es)) q.1 p.1)) q.2)
-  term_typed e s c (text.product l es) z v f h p =
-      let q = several p.0 (ListedOutcome Product) v p.2 in
-      sorted e (set_of (t.product h.0)) z v (sym h.3) (cross_typed e h.0 q.0 v (sets_typed e s c es h.0 q.0 f h.1 (subst (HaveOutcomes c (resolved_all s es)) q.1 p.1)) q.2)
+  term_typed e s c (text.listed l form es) z v f h p =
+      let q = several p.0 (ListedOutcome form) v p.2 in
+      sorted e (typed h.1) z v (sym h.5) (listed_typed e form h.0 h.1 q.0 v h.3 (members_typed e s c form es h.0 q.0 f h.2 (subst (HaveOutcomes c (resolved_all s es)) q.1 p.1)) q.2)
   term_typed e s c (text.builder l ds b a) z v f h p =
       sorted e (set_of h.1) z v (sym h.7)
       (built_typed e h.1 h.0 p.0 (λ ws u. IsConstraint (within c ws) (resolved_part (bound s ds) b) u) (λ ws x. meaning.Builds (within c ws) ws (resolved_part (bound s ds) a) x) v
       (λ ss q. ranges_typed e s c ds h.0 ss f h.3 (subst (HaveRanges c (resolved_ranges s ds)) q p.1))
       (λ ws x k q. part_typed e (scopes.within s h.0) (within c ws) a h.0 ws h.1 x (fits_within e s c h.0 ws f k) k h.5 (subst (λ (r : ResolvedPart). meaning.Builds (within c ws) ws r (Is x)) (part_within s ds h.0 a h.3) q))
       p.2)
-  term_typed e s c (text.prefixed l op a) z v f h p = unary_typed e c (Sign op) (resolved s a) h.0 z v h.2 (λ w q. term_typed e s c a h.0 w f h.1 q) p.0 p.1 p.2
-  term_typed e s c (text.inverse l a) z v f h p = unary_typed e c Inverse (resolved s a) h.0 z v h.2 (λ w q. term_typed e s c a h.0 w f h.1 q) p.0 p.1 p.2
-  term_typed e s c (text.negated l a) z v f h p = unary_typed e c Not (resolved s a) h.0 z v h.2 (λ w q. term_typed e s c a h.0 w f h.1 q) p.0 p.1 p.2
-  term_typed e s c (text.image l a b) z v f h p = binary_typed e c Image (resolved s a) (resolved s b) h.0 h.1 z v h.4 (λ w q. term_typed e s c a h.0 w f h.2 q) (λ w q. term_typed e s c b h.1 w f h.3 q) p.0 p.1 p.2 p.3 p.4
-  term_typed e s c (text.applied l a b) z v f h p = binary_typed e c Application (resolved s a) (resolved s b) h.0 h.1 z v h.4 (λ w q. term_typed e s c a h.0 w f h.2 q) (λ w q. term_typed e s c b h.1 w f h.3 q) p.0 p.1 p.2 p.3 p.4
-  term_typed e s c (text.infixed l op a b) z v f h p = binary_typed e c (Function op) (resolved s a) (resolved s b) h.0 h.1 z v h.4 (λ w q. term_typed e s c a h.0 w f h.2 q) (λ w q. term_typed e s c b h.1 w f h.3 q) p.0 p.1 p.2 p.3 p.4
-  term_typed e s c (text.arrow l op a b) z v f h p = binary_typed e c (Generic op) (resolved s a) (resolved s b) h.0 h.1 z v h.4 (λ w q. term_typed e s c a h.0 w f h.2 q) (λ w q. term_typed e s c b h.1 w f h.3 q) p.0 p.1 p.2 p.3 p.4
-  term_typed e s c (text.connected l op a b) z v f h p = binary_typed e c (Connective op) (resolved s a) (resolved s b) h.0 h.1 z v h.4 (λ w q. term_typed e s c a h.0 w f h.2 q) (λ w q. term_typed e s c b h.1 w f h.3 q) p.0 p.1 p.2 p.3 p.4
+  term_typed e s c (text.unary l op a) z v f h p = unary_typed e c op (resolved s a) h.0 z v h.2 (λ w q. term_typed e s c a h.0 w f h.1 q) p.0 p.1 p.2
+  term_typed e s c (text.binary l op a b) z v f h p = binary_typed e c op (resolved s a) (resolved s b) h.0 h.1 z v h.4 (λ w q. term_typed e s c a h.0 w f h.2 q) (λ w q. term_typed e s c b h.1 w f h.3 q) p.0 p.1 p.2 p.3 p.4
   term_typed e s c (text.chain l a ks) z v f h p = sorted e predicate z v (sym h.3) tt
   term_typed e s c (text.quantified l q ds b a) z v f h p = sorted e predicate z v (sym h.5) tt
 
-  all_typed : (e : Environment) (s : Scope) (c : Context) (es : Trees) (us : Tys) (vs : List Value) → Fits e s c → AreOf s es us → HaveOutcomes c (resolved_all s es) (values vs) → AreOfTypes e us vs
-  all_typed e s c no_trees us vs f h p = subst (λ u. AreOfTypes e u vs) (sym h) (cc)
-  all_typed e s c (tree a es) us vs f h p =
-      let q = all_values p.0 p.1 vs p.4 in
-      subst (λ u. AreOfTypes e u vs) (sym h.4) (q.0, q.1, q.4, term_typed e s c a (typed h.0) q.0 f h.2 (subst (HasOutcome c (resolved s a)) q.2 p.2), all_typed e s c es h.1 q.1 f h.3 (subst (HaveOutcomes c (resolved_all s es)) q.3 p.3))
-
-  sets_typed : (e : Environment) (s : Scope) (c : Context) (es : Trees) (us : Tys) (vs : List Value) → Fits e s c → AreSetsOf s es us → HaveOutcomes c (resolved_all s es) (values vs) → AreOfTypes e (powers us) vs
-  sets_typed e s c no_trees us vs f h p = subst (λ u. AreOfTypes e (powers u) vs) (sym h) (cc)
-  sets_typed e s c (tree a es) us vs f h p =
-      let q = all_values p.0 p.1 vs p.4 in
-      subst (λ u. AreOfTypes e (powers u) vs) (sym h.4) (q.0, q.1, q.4, term_typed e s c a (set_of h.0) q.0 f h.2 (subst (HasOutcome c (resolved s a)) q.2 p.2), sets_typed e s c es h.1 q.1 f h.3 (subst (HaveOutcomes c (resolved_all s es)) q.3 p.3))
-
-  each_typed : (e : Environment) (s : Scope) (c : Context) (es : Trees) (u : Ty) (vs : List Value) → Fits e s c → AllAreOf s es u → HaveOutcomes c (resolved_all s es) (values vs) → (x : Value) → IsMember x vs → IsOfType e u x
-  each_typed e s c no_trees u vs f h p x m = absurd h
-  each_typed e s c (tree a no_trees) u vs f h p x m =
-      let q = all_values p.0 p.1 vs p.4 in
-      let none : q.1 ≡ [] = nothing q.1 p.1 q.3 p.3 in
-      ⊎_elim (λ k. subst (IsOfType e u) k (term_typed e s c a (typed u) q.0 f h (subst (HasOutcome c (resolved s a)) q.2 p.2))) (λ k. absurd (subst (IsMember x) none k)) (subst (IsMember x) q.4 m)
+  members_typed : (e : Environment) (s : Scope) (c : Context) (form : Listed) (es : Trees) (us : Tys) (vs : List Value) → Fits e s c → AreMembers form s es us → HaveOutcomes c (resolved_all s es) (values vs) → AreOfTypes e (member_types form us) vs
+  members_typed e s c form no_trees us vs f h p = subst (λ u. AreOfTypes e (member_types form u) vs) (sym h) (subst (AreOfTypes e (member_types form no_types)) (nothing vs p) (none_told e form))
     where
-      nothing : (ws : List Value) (r : Several) → r ≡ values ws → r ≡ values [] → ws ≡ []
-      nothing ws r k l = cc
-  each_typed e s c (tree a (tree b es)) u vs f h p x m =
+      nothing : (ws : List Value) → values ws ≡ values [] → [] ≡ ws
+      nothing ws k = cc
+  members_typed e s c form (tree a es) us vs f h p =
       let q = all_values p.0 p.1 vs p.4 in
-      ⊎_elim (λ k. subst (IsOfType e u) k (term_typed e s c a (typed u) q.0 f h.0 (subst (HasOutcome c (resolved s a)) q.2 p.2))) (λ k. each_typed e s c (tree b es) u q.1 f h.1 (subst (HaveOutcomes c (resolved_all s (tree b es))) q.3 p.3) x k) (subst (IsMember x) q.4 m)
+      let first = term_typed e s c a (member_sort form h.0) q.0 f h.2 (subst (HasOutcome c (resolved s a)) q.2 p.2) in
+      let rest = members_typed e s c form es h.1 q.1 f h.3 (subst (HaveOutcomes c (resolved_all s es)) q.3 p.3) in
+      subst (λ u. AreOfTypes e (member_types form u) vs) (sym h.4) (subst (AreOfTypes e (member_types form (type h.0 h.1))) (sym q.4) (one_told e form h.0 h.1 q.0 q.1 first rest))
 
   ranges_typed : (e : Environment) (s : Scope) (c : Context) (ds : VarDecls) (vs : List Var) (ss : List Value) → Fits e s c → Declare s ds vs → HaveRanges c (resolved_ranges s ds) (values ss) → AreOfTypes e (powers (types_of vs)) ss
   ranges_typed e s c no_decls vs ss f h p = subst (λ us. AreOfTypes e (powers (types_of us)) ss) (sym h) (cc)

@@ -2,7 +2,7 @@
 use Rattle.std.specs.Prelude.{◌≡◌, ◌↔◌, ℕ, List, Some}
 use Rattle.zf_tree.specs.declared.symbol.Constant.TheVariants.{Integers}
 use Rattle.zf_tree.specs.declared.symbol.Prefix.TheVariants.{Power}
-use Rattle.zf_tree.specs.declared.tree.Sign.TheVariants.{Symbol}
+use Rattle.zf_tree.specs.declared.operator.Sign.TheVariants.{Symbol}
 use Rattle.zf_tree.specs.declared.operator.Listed.TheVariants.{Product}
 use Rattle.zf_tree.specs.declared.operator.Unary.TheVariants.{Sign}
 use Rattle.zf_reference.specs.declared.reference.Reference.TheVariants.{Global}

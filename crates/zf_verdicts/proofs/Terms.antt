@@ -1,16 +1,16 @@
 -- A term has a sort that its place takes, or an offence there: its parts are judged first.
 use Rattle.std.proofs.Common.{◌≡◌, ◌⊎◌, ℕ, List, [], ◌++◌, Option, Some, None, refl, sym, subst, inl, inr}
 use Rattle.zf_tree.specs.declared.tree.Name.{Name}
-use Rattle.zf_tree.specs.Trees.{line_of, Tree, named, numeral, constant, empty_set, bracket, tuple, display, builder, prefixed, inverse, image, applied, infixed, arrow, product, chain, negated, connected, quantified, Trees, no_trees, tree, Links, no_links, link, VarDecls, no_decls, var_decl, Perhaps, absent, present}
+use Rattle.zf_tree.specs.Trees.{line_of, Tree, named, numeral, constant, empty_set, bracket, listed, builder, unary, binary, chain, quantified, Trees, no_trees, tree, Links, no_links, link, VarDecls, no_decls, var_decl, Perhaps, absent, present}
 use Rattle.zf_tree.specs.declared.symbol.Quantifier.{Quantifier}
 use Rattle.zf_tree.specs.declared.symbol.Relation.{Relation}
 use Rattle.zf_tree.specs.Operators.{left_need, right_need, rule_of, relation_rule, need_of}
 use Rattle.zf_tree.specs.declared.operator.Need.{Need}
 use Rattle.zf_tree.specs.declared.operator.Need.TheVariants as need
-use Rattle.zf_tree.specs.declared.operator.Operator.TheVariants.{Function, Generic, Connective, Application, Image}
-use Rattle.zf_tree.specs.declared.operator.Rule.{Rule}
+use Rattle.zf_tree.specs.declared.operator.Listed.{Listed}
+use Rattle.zf_tree.specs.declared.operator.Listed.TheVariants.{Tuple, Display, Product}
+use Rattle.zf_tree.specs.declared.operator.Operator.{Operator}
 use Rattle.zf_tree.specs.declared.operator.Unary.{Unary}
-use Rattle.zf_tree.specs.declared.operator.Unary.TheVariants as unary
 use Rattle.zf_reference.specs.declared.reference.Reference.{Reference}
 use Rattle.zf_term.specs.Types as t
 use Rattle.zf_term.specs.Types.{Ty, power, Tys, no_types, type, IsSmall}
@@ -19,7 +19,7 @@ use Rattle.zf_term.specs.declared.fault.TypeFaultKind.TheVariants.{NotDeclared, 
 use Rattle.zf_type.specs.Rules.{Sort, typed, predicate, a_schema, number, set_of, IsSmallSort, Meets, lack_of, Takes, UnaryTakes, constant_sort}
 use Rattle.zf_type.specs.Scopes.{Scope, Var, within, meaning}
 use Rattle.zf_tree.specs.Names.{spelling}
-use Rattle.zf_type.specs.Typing.{variables, declared, row_type, AreApart, IsOf, AreOf, AreSetsOf, AllAreOf, AreLinked, Declare, Constrains, Builds}
+use Rattle.zf_type.specs.Typing.{variables, declared, row_type, AreApart, IsOf, AreMembers, AreAll, Makes, member_need, member_sort, AreLinked, Declare, Constrains, Builds}
 use Rattle.zf_type.specs.Offences.{Misplaced, Clash, MakesTooLarge, Repeats, OneDiffers, Differ, Offends, OneOffends, LinksOffend, SetsOffend, PartOffends}
 use Rattle.zf_verdicts.specs.Laws.{SomeOffence}
 use Rattle.zf_verdicts.proofs.Combined.{AreCombined, combined, made, relates}
@@ -59,88 +59,72 @@ of_bracket : (s : Scope) (n : Need) (l : ℕ) (e : Tree) → IsJudged s n e → 
 of_bracket s n l e (inl p) = inl (p.0, (p.1, not_a_schema n p.0 p.2), p.2)
 of_bracket s n l e (inr o) = inr (o.0, o.1, inl o.2)
 
-of_tuple : (s : Scope) (n : Need) (l : ℕ) (es : Trees) → ((us : Tys) × AreOf s es us) ⊎ SomeOffence (OneOffends s need.Expression es) → IsJudged s n (tuple l es)
-of_tuple s n l es (inr o) = inr (o.0, o.1, inl o.2)
-of_tuple s n l es (inl p) = by (is_small (t.product p.0))
-  where
-    by : Decided (IsSmall (t.product p.0)) → IsJudged s n (tuple l es)
-    by (inl small) = placed s n (tuple l es) (typed (t.product p.0)) (p.0, p.1, small, refl) (λ k m o. inr (inr o))
-    by (inr large) = inr (TooLarge, l, inr (inl (p.0, p.1, large, refl, refl)))
+-- what a member is that its place takes
+told : (form : Listed) (x : Sort) → Meets (member_need form) x → (v : Ty) × (x ≡ member_sort form v)
+told Tuple x p = p
+told Display x p = p
+told Product x p = p
 
-of_product : (s : Scope) (n : Need) (l : ℕ) (es : Trees) → ((us : Tys) × AreSetsOf s es us) ⊎ SomeOffence (OneOffends s need.Set es) → IsJudged s n (product l es)
-of_product s n l es (inr o) = inr (o.0, o.1, inl o.2)
-of_product s n l es (inl p) = by (is_small (power (t.product p.0)))
+-- the members have this type too, or one has another
+alike : (s : Scope) (u : Ty) (es : Trees) (us : Tys) → AreMembers Display s es us → AreAll (type u us) u ⊎ SomeOffence (OneDiffers s u es)
+alike s u no_trees us p = inl (subst (λ vs. AreAll (type u vs) u) (sym p) refl)
+alike s u (tree e es) us p = by (same_type u p.0) (alike s u es p.1 p.3)
   where
-    by : Decided (IsSmall (power (t.product p.0))) → IsJudged s n (product l es)
-    by (inl small) = placed s n (product l es) (set_of (t.product p.0)) (p.0, p.1, small, refl) (λ k m o. inr (inr o))
-    by (inr large) = inr (TooLarge, l, inr (inl (p.0, p.1, large, refl, refl)))
+    then : AreAll (type u p.1) u → u ≡ p.0 → AreAll (type u (type p.0 p.1)) u
+    then all h = (refl, subst (λ v. AreAll (type v p.1) u) h all)
 
--- the members of a display have the type of the first, or one has another
-alike : (s : Scope) (u : Ty) (e : Tree) (es : Trees) (us : Tys) → IsOf s e (typed u) → AreOf s es us → AllAreOf s (tree e es) u ⊎ SomeOffence (OneDiffers s u es)
-alike s u e no_trees us p q = inl p
-alike s u e (tree f fs) us p q = by (same_type u q.0) (λ h. alike s u f fs q.1 (subst (λ v. IsOf s f (typed v)) (sym h) q.2) q.3)
+    by : Decided (u ≡ p.0) → AreAll (type u p.1) u ⊎ SomeOffence (OneDiffers s u es) → AreAll (type u us) u ⊎ SomeOffence (OneDiffers s u (tree e es))
+    by (inl h) (inl all) = inl (subst (λ vs. AreAll (type u vs) u) (sym p.4) (then all h))
+    by (inl h) (inr o) = inr (o.0, o.1, inr o.2)
+    by (inr h) rest = inr (Mismatch, line_of e, inl (p.0, p.2, h, refl, refl))
+
+-- members make something, or those of a display differ
+makes : (form : Listed) (s : Scope) (l : ℕ) (es : Trees) (us : Tys) → AreMembers form s es us → ((u : Ty) × Makes form us u) ⊎ SomeOffence (Differ form s l es)
+makes Tuple s l es us p = inl (t.product us, refl)
+makes Product s l es us p = inl (power (t.product us), refl)
+makes Display s l no_trees us p = inr (Mismatch, l, (refl, refl))
+makes Display s l (tree e es) us p = by (alike s p.0 es p.1 p.3)
   where
-    then : AllAreOf s (tree f fs) u ⊎ SomeOffence (OneDiffers s u fs) → AllAreOf s (tree e (tree f fs)) u ⊎ SomeOffence (OneDiffers s u (tree f fs))
-    then (inl all) = inl (p, all)
-    then (inr o) = inr (o.0, o.1, inr o.2)
-
-    by : Decided (u ≡ q.0) → (u ≡ q.0 → AllAreOf s (tree f fs) u ⊎ SomeOffence (OneDiffers s u fs)) → AllAreOf s (tree e (tree f fs)) u ⊎ SomeOffence (OneDiffers s u (tree f fs))
-    by (inl h) rest = then (rest h)
-    by (inr h) rest = inr (Mismatch, line_of f, inl (q.0, q.2, h, refl, refl))
-
-all_alike : (s : Scope) (l : ℕ) (es : Trees) (us : Tys) → AreOf s es us → ((u : Ty) × AllAreOf s es u) ⊎ SomeOffence (Differ s l es)
-all_alike s l no_trees us p = inr (Mismatch, l, (refl, refl))
-all_alike s l (tree e es) us p = by (alike s p.0 e es p.1 p.2 p.3)
-  where
-    by : AllAreOf s (tree e es) p.0 ⊎ SomeOffence (OneDiffers s p.0 es) → ((u : Ty) × AllAreOf s (tree e es) u) ⊎ SomeOffence (Differ s l (tree e es))
-    by (inl all) = inl (p.0, all)
+    by : AreAll (type p.0 p.1) p.0 ⊎ SomeOffence (OneDiffers s p.0 es) → ((u : Ty) × Makes Display us u) ⊎ SomeOffence (Differ Display s l (tree e es))
+    by (inl all) = inl (power p.0, (p.0, subst (λ vs. AreAll vs p.0) (sym p.4) all, refl))
     by (inr o) = inr (o.0, o.1, (p.0, p.2, o.2))
 
-of_display : (s : Scope) (n : Need) (l : ℕ) (es : Trees) → ((us : Tys) × AreOf s es us) ⊎ SomeOffence (OneOffends s need.Expression es) → IsJudged s n (display l es)
-of_display s n l es (inr o) = inr (o.0, o.1, inl o.2)
-of_display s n l es (inl p) = by (all_alike s l es p.0 p.1)
+of_listed : (s : Scope) (n : Need) (l : ℕ) (form : Listed) (es : Trees) → ((us : Tys) × AreMembers form s es us) ⊎ SomeOffence (OneOffends s (member_need form) es) → IsJudged s n (listed l form es)
+of_listed s n l form es (inr o) = inr (o.0, o.1, inl o.2)
+of_listed s n l form es (inl p) = by (makes form s l es p.0 p.1)
   where
-    sized : (u : Ty) → AllAreOf s es u → Decided (IsSmall (power u)) → IsJudged s n (display l es)
-    sized u all (inl small) = placed s n (display l es) (set_of u) (u, all, small, refl) (λ k m o. inr (inr (inr o)))
-    sized u all (inr large) = inr (TooLarge, l, inr (inr (inl (u, all, large, refl, refl))))
+    sized : (u : Ty) → Makes form p.0 u → Decided (IsSmall u) → IsJudged s n (listed l form es)
+    sized u made (inl small) = placed s n (listed l form es) (typed u) (p.0, u, p.1, made, small, refl) (λ k m o. inr (inr (inr o)))
+    sized u made (inr large) = inr (TooLarge, l, inr (inr (inl (p.0, u, p.1, made, large, refl, refl))))
 
-    by : ((u : Ty) × AllAreOf s es u) ⊎ SomeOffence (Differ s l es) → IsJudged s n (display l es)
-    by (inl a) = sized a.0 a.1 (is_small (power a.0))
+    by : ((u : Ty) × Makes form p.0 u) ⊎ SomeOffence (Differ form s l es) → IsJudged s n (listed l form es)
+    by (inl a) = sized a.0 a.1 (is_small a.0)
     by (inr o) = inr (o.0, o.1, inr (inl o.2))
 
--- one operand
-module _ (s : Scope) (n : Need) (op : Unary) (l : ℕ) (a whole : Tree) where
-  of_one :
-      ((z : Sort) → (x : Sort) × IsOf s a x × UnaryTakes op x z × IsSmallSort z → IsOf s whole z)
-      → ((k : TypeFaultKind) (m : ℕ) → Offends s (need_of op) a k m ⊎ (MakesTooLarge s op l a k m ⊎ Misplaced s n whole k m) → Offends s n whole k m)
-      → IsJudged s (need_of op) a → IsJudged s n whole
-  of_one is offends (inr o) = inr (o.0, o.1, offends o.0 o.1 (inl o.2))
-  of_one is offends (inl p) = by (made op p.0 p.2)
-    where
-      sized : (z : Sort) → UnaryTakes op p.0 z → Decided (IsSmallSort z) → IsJudged s n whole
-      sized z w (inl small) = placed s n whole z (is z (p.0, p.1, w, small)) (λ k m o. offends k m (inr (inr o)))
-      sized z w (inr large) = inr (TooLarge, l, offends TooLarge l (inr (inl (p.0, z, p.1, w, large, refl, refl))))
+of_unary : (s : Scope) (n : Need) (l : ℕ) (op : Unary) (a : Tree) → IsJudged s (need_of op) a → IsJudged s n (unary l op a)
+of_unary s n l op a (inr o) = inr (o.0, o.1, inl o.2)
+of_unary s n l op a (inl p) = by (made op p.0 p.2)
+  where
+    sized : (z : Sort) → UnaryTakes op p.0 z → Decided (IsSmallSort z) → IsJudged s n (unary l op a)
+    sized z w (inl small) = placed s n (unary l op a) z (p.0, p.1, w, small) (λ k m o. inr (inr o))
+    sized z w (inr large) = inr (TooLarge, l, inr (inl (p.0, z, p.1, w, large, refl, refl)))
 
-      by : (z : Sort) × UnaryTakes op p.0 z → IsJudged s n whole
-      by w = sized w.0 w.1 (is_small_sort w.0)
+    by : (z : Sort) × UnaryTakes op p.0 z → IsJudged s n (unary l op a)
+    by w = sized w.0 w.1 (is_small_sort w.0)
 
--- two operands
-module _ (s : Scope) (n : Need) (r : Rule) (l : ℕ) (a b whole : Tree) where
-  of_two :
-      ((z : Sort) → (x y : Sort) × IsOf s a x × IsOf s b y × Takes r x y z × IsSmallSort z → IsOf s whole z)
-      → ((k : TypeFaultKind) (m : ℕ) → Offends s (left_need r) a k m ⊎ (Offends s (right_need r) b k m ⊎ (Clash s r l a b k m ⊎ Misplaced s n whole k m)) → Offends s n whole k m)
-      → IsJudged s (left_need r) a → IsJudged s (right_need r) b → IsJudged s n whole
-  of_two is offends (inr o) right = inr (o.0, o.1, offends o.0 o.1 (inl o.2))
-  of_two is offends (inl p) (inr o) = inr (o.0, o.1, offends o.0 o.1 (inr (inl o.2)))
-  of_two is offends (inl p) (inl q) = by (combined r p.0 q.0 p.2 q.2)
-    where
-      sized : (z : Sort) → Takes r p.0 q.0 z → Decided (IsSmallSort z) → IsJudged s n whole
-      sized z w (inl small) = placed s n whole z (is z (p.0, q.0, p.1, q.1, w, small)) (λ k m o. offends k m (inr (inr (inr o))))
-      sized z w (inr large) = inr (TooLarge, l, offends TooLarge l (inr (inr (inl (inr (p.0, q.0, z, p.1, q.1, w, large, refl, refl))))))
+of_binary :
+    (s : Scope) (n : Need) (l : ℕ) (op : Operator) (a b : Tree) → IsJudged s (left_need (rule_of op)) a → IsJudged s (right_need (rule_of op)) b → IsJudged s n (binary l op a b)
+of_binary s n l op a b (inr o) right = inr (o.0, o.1, inl o.2)
+of_binary s n l op a b (inl p) (inr o) = inr (o.0, o.1, inr (inl o.2))
+of_binary s n l op a b (inl p) (inl q) = by (combined (rule_of op) p.0 q.0 p.2 q.2)
+  where
+    sized : (z : Sort) → Takes (rule_of op) p.0 q.0 z → Decided (IsSmallSort z) → IsJudged s n (binary l op a b)
+    sized z w (inl small) = placed s n (binary l op a b) z (p.0, q.0, p.1, q.1, w, small) (λ k m o. inr (inr (inr o)))
+    sized z w (inr large) = inr (TooLarge, l, inr (inr (inl (inr (p.0, q.0, z, p.1, q.1, w, large, refl, refl)))))
 
-      by : AreCombined r p.0 q.0 → IsJudged s n whole
-      by (inl w) = sized w.0 w.1 (is_small_sort w.0)
-      by (inr none) = inr (Mismatch, line_of b, offends Mismatch (line_of b) (inr (inr (inl (inl (p.0, q.0, p.1, q.1, p.2, q.2, none, refl, refl))))))
+    by : AreCombined (rule_of op) p.0 q.0 → IsJudged s n (binary l op a b)
+    by (inl w) = sized w.0 w.1 (is_small_sort w.0)
+    by (inr none) = inr (Mismatch, line_of b, inr (inr (inl (inl (p.0, q.0, p.1, q.1, p.2, q.2, none, refl, refl)))))
 
 -- a chain behind an operand
 module _ (s : Scope) (left : Tree) (x : Sort) (r : Relation) (e : Tree) (ks : Links) where
@@ -208,19 +192,12 @@ module _ (s : Scope) (n : Need) (l : ℕ) (q : Quantifier) (ds : VarDecls) (p : 
 
 -- ---- lists of parts, from what is judged of the first and of the rest
 
-first_of_row :
-    (s : Scope) (e : Tree) (es : Trees) → IsJudged s need.Expression e → ((us : Tys) × AreOf s es us) ⊎ SomeOffence (OneOffends s need.Expression es)
-    → ((us : Tys) × AreOf s (tree e es) us) ⊎ SomeOffence (OneOffends s need.Expression (tree e es))
-first_of_row s e es (inr o) rest = inr (o.0, o.1, inl o.2)
-first_of_row s e es (inl p) (inr o) = inr (o.0, o.1, inr o.2)
-first_of_row s e es (inl p) (inl q) = inl (type p.2.0 q.0, (p.2.0, q.0, subst (IsOf s e) p.2.1 p.1, q.1, refl))
-
-first_of_sets :
-    (s : Scope) (e : Tree) (es : Trees) → IsJudged s need.Set e → ((us : Tys) × AreSetsOf s es us) ⊎ SomeOffence (OneOffends s need.Set es)
-    → ((us : Tys) × AreSetsOf s (tree e es) us) ⊎ SomeOffence (OneOffends s need.Set (tree e es))
-first_of_sets s e es (inr o) rest = inr (o.0, o.1, inl o.2)
-first_of_sets s e es (inl p) (inr o) = inr (o.0, o.1, inr o.2)
-first_of_sets s e es (inl p) (inl q) = inl (type p.2.0 q.0, (p.2.0, q.0, subst (IsOf s e) p.2.1 p.1, q.1, refl))
+first_of_members :
+    (form : Listed) (s : Scope) (e : Tree) (es : Trees) → IsJudged s (member_need form) e → ((us : Tys) × AreMembers form s es us) ⊎ SomeOffence (OneOffends s (member_need form) es)
+    → ((us : Tys) × AreMembers form s (tree e es) us) ⊎ SomeOffence (OneOffends s (member_need form) (tree e es))
+first_of_members form s e es (inr o) rest = inr (o.0, o.1, inl o.2)
+first_of_members form s e es (inl p) (inr o) = inr (o.0, o.1, inr o.2)
+first_of_members form s e es (inl p) (inl q) = let v = told form p.0 p.2 in inl (type v.0 q.0, (v.0, q.0, subst (IsOf s e) v.1 p.1, q.1, refl))
 
 first_declared :
     (s : Scope) (ns : List Name) (e : Tree) (ds : VarDecls) → IsJudged s need.Set e → ((vs : List Var) × Declare s ds vs) ⊎ SomeOffence (SetsOffend s ds)
@@ -246,28 +223,16 @@ mutual
   judged s n (constant l c) = placed s n (constant l c) (constant_sort c) refl (λ k m o. o)
   judged s n (empty_set l e) = of_empty_set s n l e (judged s need.Set e)
   judged s n (bracket l e) = of_bracket s n l e (judged s n e)
-  judged s n (tuple l es) = of_tuple s n l es (row_judged s es)
-  judged s n (display l es) = of_display s n l es (row_judged s es)
+  judged s n (listed l form es) = of_listed s n l form es (members_judged form s es)
   judged s n (builder l ds p e) = of_builder s n l ds p e (are_apart (declared ds)) (sets_judged s ds) (λ w. constraint_judged w p) (λ w vs. built_judged w vs e)
-  judged s n (prefixed l op e) = of_one s n (unary.Sign op) l e (prefixed l op e) (λ z p. p) (λ k m o. o) (judged s (need_of (unary.Sign op)) e)
-  judged s n (inverse l e) = of_one s n unary.Inverse l e (inverse l e) (λ z p. p) (λ k m o. o) (judged s (need_of unary.Inverse) e)
-  judged s n (negated l e) = of_one s n unary.Not l e (negated l e) (λ z p. p) (λ k m o. o) (judged s (need_of unary.Not) e)
-  judged s n (image l a b) = of_two s n (rule_of Image) l a b (image l a b) (λ z p. p) (λ k m o. o) (judged s (left_need (rule_of Image)) a) (judged s (right_need (rule_of Image)) b)
-  judged s n (applied l a b) = of_two s n (rule_of Application) l a b (applied l a b) (λ z p. p) (λ k m o. o) (judged s (left_need (rule_of Application)) a) (judged s (right_need (rule_of Application)) b)
-  judged s n (infixed l op a b) = of_two s n (rule_of (Function op)) l a b (infixed l op a b) (λ z p. p) (λ k m o. o) (judged s (left_need (rule_of (Function op))) a) (judged s (right_need (rule_of (Function op))) b)
-  judged s n (arrow l op a b) = of_two s n (rule_of (Generic op)) l a b (arrow l op a b) (λ z p. p) (λ k m o. o) (judged s (left_need (rule_of (Generic op))) a) (judged s (right_need (rule_of (Generic op))) b)
-  judged s n (connected l op a b) = of_two s n (rule_of (Connective op)) l a b (connected l op a b) (λ z p. p) (λ k m o. o) (judged s (left_need (rule_of (Connective op))) a) (judged s (right_need (rule_of (Connective op))) b)
-  judged s n (product l es) = of_product s n l es (sets_row_judged s es)
+  judged s n (unary l op e) = of_unary s n l op e (judged s (need_of op) e)
+  judged s n (binary l op a b) = of_binary s n l op a b (judged s (left_need (rule_of op)) a) (judged s (right_need (rule_of op)) b)
   judged s n (chain l e ks) = of_chain s n l e ks (judged s need.Expression e) (λ x p. links_judged s e x ks p)
   judged s n (quantified l q ds p e) = of_quantifier s n l q ds p e (are_apart (declared ds)) (sets_judged s ds) (λ w. constraint_judged w p) (λ w. judged w need.Predicate e)
 
-  row_judged : (s : Scope) (es : Trees) → ((us : Tys) × AreOf s es us) ⊎ SomeOffence (OneOffends s need.Expression es)
-  row_judged s no_trees = inl (no_types, refl)
-  row_judged s (tree e es) = first_of_row s e es (judged s need.Expression e) (row_judged s es)
-
-  sets_row_judged : (s : Scope) (es : Trees) → ((us : Tys) × AreSetsOf s es us) ⊎ SomeOffence (OneOffends s need.Set es)
-  sets_row_judged s no_trees = inl (no_types, refl)
-  sets_row_judged s (tree e es) = first_of_sets s e es (judged s need.Set e) (sets_row_judged s es)
+  members_judged : (form : Listed) (s : Scope) (es : Trees) → ((us : Tys) × AreMembers form s es us) ⊎ SomeOffence (OneOffends s (member_need form) es)
+  members_judged form s no_trees = inl (no_types, refl)
+  members_judged form s (tree e es) = first_of_members form s e es (judged s (member_need form) e) (members_judged form s es)
 
   links_judged : (s : Scope) (left : Tree) (x : Sort) (ks : Links) → IsOf s left x → AreLinked s x ks ⊎ SomeOffence (LinksOffend s left ks)
   links_judged s left x no_links p = inl tt

@@ -23,7 +23,7 @@ fn from_tokens_to_texts(rt: HostRuntime) -> Result<(), Fail> {
     assert!(rt; tokens.len() == 11);
     let arena = Bump::new(rt.alloc());
     let spec = parse(rt.alloc(), &arena, tokens.as_slice())?;
-    let checked = check_spec(rt.alloc(), &arena, spec)?;
+    let checked = check_spec(rt.alloc(), &arena, &spec)?;
     let listed = listing(rt.alloc(), &checked.globals)?;
     assert_eq!(rt; listed.as_slice(), LISTING.as_bytes());
     let Some(Entry::Abbrev(ztype, _, _)) = checked.globals.entry("X") else {

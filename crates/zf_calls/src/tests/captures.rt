@@ -22,7 +22,7 @@ S'
 fn decoration_captures_nothing(rt: HostRuntime) -> Result<(), Fail> {
     let arena = Bump::new(rt.alloc());
     let spec = read_spec(rt.alloc(), &arena, CAPTURES.as_bytes())?;
-    let checked = check_spec(rt.alloc(), &arena, spec)?;
+    let checked = check_spec(rt.alloc(), &arena, &spec)?;
     let schema = checked.globals.schema("T").ok_or("no schema")?;
     let [component] = schema.components.as_slice() else {
         return Err(Fail::new("other components"));

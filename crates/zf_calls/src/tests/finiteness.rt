@@ -62,7 +62,7 @@ fn line_of(alloc: Global, exp: &str) -> Result<u32, Fail> {
     let source = format!(in alloc; "{BEFORE}\\begin{{zed}} S \\defs\n{exp}\n\\end{{zed}}\n")?;
     let arena = Bump::new(alloc);
     let spec = read_spec(alloc, &arena, source.as_bytes())?;
-    let checked = check_spec(alloc, &arena, spec)?;
+    let checked = check_spec(alloc, &arena, &spec)?;
     let schema = checked.globals.schema("S").ok_or("no schema")?;
     match finite(schema, &checked.globals) {
         Ok(()) => Ok(0),
@@ -83,7 +83,7 @@ static NAMES: [(&str, Option<Infinite>); 5] = [
 fn names(rt: HostRuntime) -> Result<(), Fail> {
     let arena = Bump::new(rt.alloc());
     let spec = read_spec(rt.alloc(), &arena, BEFORE.as_bytes())?;
-    let checked = check_spec(rt.alloc(), &arena, spec)?;
+    let checked = check_spec(rt.alloc(), &arena, &spec)?;
     for (name, set) in NAMES {
         let Some(Entry::Abbrev(_, term, _)) = checked.globals.entry(name) else {
             return Err(Fail::new(name));

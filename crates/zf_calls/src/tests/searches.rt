@@ -88,7 +88,7 @@ fn globals_in<'a>(alloc: Global, arena: &'a Bump) -> Result<Globals<'a>, Fail>
     ensures { IfOk result (λ g. AreWellTyped (globals_of g)) }
 {
     let spec = read_spec(alloc, arena, SOURCE.as_bytes())?;
-    let checked = check_spec(alloc, arena, spec)?;
+    let checked = check_spec(alloc, arena, &spec)?;
     Ok(checked.globals)
 }
 

@@ -99,7 +99,7 @@ fn copies(rt: HostRuntime) -> Result<(), Fail> {
 
 fn globals_in<'a>(alloc: Global, arena: &'a Bump) -> Result<Globals<'a>, Fail> {
     let spec = read_spec(alloc, arena, SOURCE.as_bytes())?;
-    let checked = check_spec(alloc, arena, spec)?;
+    let checked = check_spec(alloc, arena, &spec)?;
     Ok(checked.globals)
 }
 

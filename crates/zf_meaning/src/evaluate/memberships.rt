@@ -2,7 +2,7 @@
 ghost use Rattle.std.specs.Prelude.{◌≡◌, ◌⊎◌, ◌<◌, ℕ, IfOk, IfSome, IsTrue, map};
 ghost use Rattle.zf_tree.specs.declared.symbol.Infix.TheVariants as infixes;
 ghost use Rattle.zf_tree.specs.declared.symbol.Prefix.TheVariants as prefixes;
-ghost use Rattle.zf_tree.specs.declared.tree.Sign.TheVariants as sign;
+ghost use Rattle.zf_tree.specs.declared.operator.Sign.TheVariants as sign;
 ghost use Rattle.zf_tree.specs.declared.operator.Operator.TheVariants as operator;
 ghost use Rattle.zf_tree.specs.declared.operator.Unary.TheVariants as unaries;
 ghost use Rattle.zf_value.specs.declared.value.Outcome.TheVariants.{Is};
@@ -23,9 +23,8 @@ use crate::row::Row;
 use crate::symbols::{on_both, on_one, on_several};
 use std::alloc::AllocError;
 use zf_term::resolved::Resolved;
-use zf_tree::operator::{Listed, Operator, Unary};
+use zf_tree::operator::{Listed, Operator, Sign, Unary};
 use zf_tree::symbol::{Infix, Prefix};
-use zf_tree::tree::Sign;
 use zf_value::value::Value;
 
 /// What an expression comes to. A set of a family is told by the values that it is made of.

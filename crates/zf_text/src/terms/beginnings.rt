@@ -1,22 +1,21 @@
 //! What begins a term.
 ghost use Rattle.std.specs.Prelude.{◌≡◌, ◌+◌, ◌≤◌, IfOk};
-ghost use Rattle.zf_text.specs.Levels as levels;
 ghost use Rattle.zf_text.specs.Nests.{Nests};
 ghost use Rattle.zf_text.specs.TermReading as spec;
 ghost use Rattle.zf_text.specs.TermReading.{Gives, read_term};
 ghost use Rattle.zf_scan.specs.declared.next.Next.TheVariants as next;
-ghost use Rattle.zf_tree.specs.declared.tree.Term.TheVariants as term;
 
 use super::Grammar;
 use crate::cursor::Cursor;
-use crate::levels::{EXPRESSION, NEGATION, QUANTIFIER, UNARY, level, sign_level};
+use crate::levels::{EXPRESSION, QUANTIFIER, level, unary_level};
 use crate::tall::{Tall, boxed};
 use bumpalo::Bump;
 use zf_data::arena::Boxed;
 use zf_scan::fault::TextFault;
 use zf_scan::next::{Mark, Next};
+use zf_tree::operator::{Listed, Sign, Unary};
 use zf_tree::symbol::{Constant, Infix, Quantifier};
-use zf_tree::tree::{Sign, Term};
+use zf_tree::tree::Term;
 
 impl<
     'a,
@@ -56,7 +55,7 @@ impl<
     }
 
     /// After `\emptyset`.
-    #[tactic(auto, unfolding(crate::specs::TermReading::empty_set, crate::specs::TermReading::enclosed))]
+    #[tactic(auto, unfolding(crate::specs::TermReading::empty_set))]
     fn empty_set(
         &self,
         tokens: &mut Cursor<'a, '_>,
@@ -90,10 +89,7 @@ impl<
         if level(first.part.get()) < EXPRESSION {
             return Err(tokens.unexpected());
         }
-        let all = self.further(tokens, Mark::Comma, EXPRESSION, first)?;
-        tokens.expect(Mark::CloseRound)?;
-        let terms = Boxed::new(self.arena, all.part)?;
-        boxed(self.arena, Term::Tuple(line, terms), all.height + 1)
+        self.listed(tokens, line, Listed::Tuple, first)
     }
 
     /// After `(`.
@@ -137,10 +133,7 @@ impl<
             return Err(TextFault::not_in_profile(line));
         }
         let first = self.term(tokens, EXPRESSION)?;
-        let all = self.further(tokens, Mark::Comma, EXPRESSION, first)?;
-        tokens.expect(Mark::CloseBrace)?;
-        let terms = Boxed::new(self.arena, all.part)?;
-        boxed(self.arena, Term::Display(line, terms), all.height + 1)
+        self.listed(tokens, line, Listed::Display, first)
     }
 
     /// After `\{`, where a declaration begins.
@@ -184,41 +177,28 @@ impl<
         }
     }
 
-    /// After the sign.
-    #[tactic(auto, unfolding(crate::specs::TermReading::under))]
+    /// What the next symbol stands before.
+    #[tactic(auto, unfolding(crate::specs::TermReading::prefixed))]
     fn prefixed(
         &self,
         tokens: &mut Cursor<'a, '_>,
-        line: u32,
-        sign: Sign,
+        least: u8,
+        op: Unary,
     ) -> Result<Tall<Boxed<'a, Term<'a>>>, TextFault>
         requires nests { Nests self.now.below (F.pre self.now.read) (F.post self.now.read) }
-        ensures value { Gives (spec.under (read_term self.now.below) (levels.sign_level sign) (term.Prefix line sign) tokens.old) result tokens.new }
+        ensures value { Gives (spec.prefixed (read_term self.now.below) least (spec.here tokens.old) op tokens.old) result tokens.new }
         ensures low { IfOk result (λ x. x.height ≤ self.now.below + 1) }
     {
-        let operand = self.term(tokens, sign_level(sign))?;
+        let line = tokens.line();
+        let place = unary_level(op);
+        if place < least {
+            return Err(tokens.unexpected());
+        }
+        tokens.skip();
+        let operand = self.term(tokens, place)?;
         boxed(
             self.arena,
-            Term::Prefix(line, sign, operand.part),
-            operand.height + 1,
-        )
-    }
-
-    /// After `\lnot`.
-    #[tactic(auto, unfolding(crate::specs::TermReading::under))]
-    fn negated(
-        &self,
-        tokens: &mut Cursor<'a, '_>,
-        line: u32,
-    ) -> Result<Tall<Boxed<'a, Term<'a>>>, TextFault>
-        requires nests { Nests self.now.below (F.pre self.now.read) (F.post self.now.read) }
-        ensures value { Gives (spec.under (read_term self.now.below) levels.negation_level (term.Not line) tokens.old) result tokens.new }
-        ensures low { IfOk result (λ x. x.height ≤ self.now.below + 1) }
-    {
-        let operand = self.term(tokens, NEGATION)?;
-        boxed(
-            self.arena,
-            Term::Not(line, operand.part),
+            Term::Unary(line, op, operand.part),
             operand.height + 1,
         )
     }
@@ -276,18 +256,11 @@ impl<
                 tokens.skip();
                 self.braced(tokens, line)
             }
-            Next::Prefix(prefix) if least <= sign_level(Sign::Symbol(prefix)) => {
-                tokens.skip();
-                self.prefixed(tokens, line, Sign::Symbol(prefix))
+            Next::Prefix(prefix) => {
+                self.prefixed(tokens, least, Unary::Sign(Sign::Symbol(prefix)))
             }
-            Next::Infix(Infix::Minus) if least <= UNARY => {
-                tokens.skip();
-                self.prefixed(tokens, line, Sign::Minus)
-            }
-            Next::Not if least <= NEGATION => {
-                tokens.skip();
-                self.negated(tokens, line)
-            }
+            Next::Infix(Infix::Minus) => self.prefixed(tokens, least, Unary::Sign(Sign::Minus)),
+            Next::Not => self.prefixed(tokens, least, Unary::Not),
             Next::Quantifier(quantifier) if least <= QUANTIFIER => {
                 tokens.skip();
                 self.quantified(tokens, line, quantifier)

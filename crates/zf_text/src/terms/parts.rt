@@ -1,18 +1,19 @@
 //! Lists of parts of a term, and parts that may be left out.
-ghost use Rattle.std.specs.Prelude.{◌≤◌, max, IfOk};
+ghost use Rattle.std.specs.Prelude.{◌+◌, ◌≤◌, max, IfOk};
 ghost use Rattle.zf_text.specs.Nests.{Nests};
 ghost use Rattle.zf_text.specs.TermReading as spec;
 ghost use Rattle.zf_text.specs.TermReading.{Gives, read_term};
 
 use super::Grammar;
 use crate::cursor::Cursor;
-use crate::levels::EXPRESSION;
+use crate::levels::{EXPRESSION, member_place, parted_by};
 use crate::names::names;
-use crate::tall::Tall;
+use crate::tall::{Tall, boxed};
 use bumpalo::Bump;
 use zf_data::arena::{Boxed, Items};
 use zf_scan::fault::TextFault;
 use zf_scan::next::{Mark, Next};
+use zf_tree::operator::Listed;
 use zf_tree::tree::{Link, Part, Term, VarDecl};
 
 impl<
@@ -50,6 +51,26 @@ impl<
             part: terms,
             height,
         })
+    }
+
+    /// The terms of a list, of which the first is given, and what stands behind them.
+    #[tactic(auto, unfolding(crate::specs::TermReading::listed))]
+    pub(super) fn listed(
+        &self,
+        tokens: &mut Cursor<'a, '_>,
+        line: u32,
+        form: Listed,
+        first: Tall<Boxed<'a, Term<'a>>>,
+    ) -> Result<Tall<Boxed<'a, Term<'a>>>, TextFault>
+        requires nests { Nests self.now.below (F.pre self.now.read) (F.post self.now.read) }
+        requires first_low { first.height ≤ self.now.below + 1 }
+        ensures value { Gives (spec.listed (read_term self.now.below) line form first.entry tokens.old) result tokens.new }
+        ensures low { IfOk result (λ x. x.height ≤ max first.entry.height self.now.below + 1) }
+    {
+        let all = self.further(tokens, parted_by(form), member_place(form), first)?;
+        tokens.close(form)?;
+        let terms = Boxed::new(self.arena, all.part)?;
+        boxed(self.arena, Term::Listed(line, form, terms), all.height + 1)
     }
 
     /// The links of a chain.

@@ -1,31 +1,40 @@
 //! What binds variables: declarations, quantified predicates and builders.
-ghost use Rattle.std.specs.Prelude.{◌≡◌, IfOk, IfErr, IsOk, OnOk, OnErr, List, map};
-ghost use Rattle.zf_tree.specs.declared.symbol.Quantifier.{Quantifier};
+ghost use Rattle.std.specs.Prelude.{◌≡◌, IfOk, IfErr, OnErr, OnOk, List, map};
 ghost use Rattle.zf_tree.specs.Trees as tree;
-ghost use Rattle.zf_tree.specs.Trees.{Tree, tree_of, var_decl_of};
-ghost use Rattle.zf_term.specs.Written.{part_tree};
-ghost use Rattle.zf_term.specs.Filling.{onto, part_onto, ranges_onto};
+ghost use Rattle.zf_tree.specs.Trees.{Tree, part_of, tree_of, var_decl_of};
+ghost use Rattle.zf_term.specs.ResolvedTrees as kept;
+ghost use Rattle.zf_term.specs.ResolvedTrees.{range_of};
 ghost use Rattle.zf_term.specs.Types.{type_of};
 ghost use Rattle.zf_tree.specs.declared.operator.Need.TheVariants as needs;
+ghost use Rattle.zf_tree.specs.declared.operator.Need as need;
 ghost use Rattle.zf_type.specs.Judging.{DeclarationsOffend, IsBuilder, IsPart, IsQuantified, Judges, JudgesPart};
 ghost use Rattle.zf_type.specs.Refusals.{IfFault};
-ghost use Rattle.zf_type.specs.Resolving.{resolved, resolved_part, resolved_ranges};
+ghost use Rattle.zf_type.specs.Resolving.{resolved_part, resolved_ranges};
 ghost use Rattle.zf_type.specs.Scopes as spec;
 ghost use Rattle.zf_type.specs.Scopes.{Var, scope_of, variable_of, within};
 ghost use Rattle.zf_type.specs.Typing.{Binds, Builds, row_type};
 
-use super::{Place, judge_boxed, judge_term, misplaced, predicate};
+use super::{Judged, Place, judge_boxed, judge_term, made, placed};
 use crate::binding::{bind, declare_names, depth, row, unbind};
-use crate::fault::{Refusal, refused};
+use crate::fault::Refusal;
 use crate::locals::Locals;
 use crate::scope::Scope;
 use crate::sort::Sort;
 use bumpalo::Bump;
 use std::alloc::AllocError;
-use zf_term::fault::TypeFaultKind;
+use zf_data::arena::{Boxed, Items};
+use zf_term::resolved::{Part as ResolvedPart, Range, Resolved};
 use zf_term::ztype::{ZType, set_type};
 use zf_tree::operator::Need;
+use zf_tree::symbol::Quantifier;
 use zf_tree::tree::{Part, Term, VarDecl};
+
+/// The variables that are declared, and the ranges of those declared together.
+#[derive(Drop)]
+struct Declared<'a> {
+    variables: Locals<'a>,
+    ranges: Items<'a, Range<'a>>,
+}
 
 /// A quantified predicate.
 #[cycle(judging)]
@@ -35,22 +44,28 @@ pub(super) fn quantified<'a>(
     arena: &'a Bump,
     need: Need,
     scope: &mut Scope<'a, '_>,
-) -> Result<Sort<'a>, Refusal>
+) -> Result<Judged<'a>, Refusal>
     requires { IsQuantified term.now }
     ensures judged { Judges (scope_of scope.old) need (tree_of term.now) result }
-    ensures references { OnOk result (scope.new.references.items ≡ onto scope.old.references.items (resolved (scope_of scope.old) (tree_of term.now))) }
     ensures scope { scope_of scope.new ≡ scope_of scope.old }
 {
-    let Term::Quantified(_, line, decls, constraint, body) = term else {
+    let Term::Quantified(quantifier, line, decls, constraint, body) = term else {
         unreachable!();
     };
     let line = *line;
     let outside = depth(scope);
-    declare(decls.as_slice(), arena, scope)?;
+    let ranges = declare(decls.as_slice(), arena, scope)?;
     let constraint = judge_part(constraint, arena, Need::Predicate, scope);
     let body = judge_term(body.get(), arena, Need::Predicate, scope);
     unbind(scope, outside);
-    with_body(Place { need, line }, constraint, body)
+    with_body(
+        arena,
+        Place { need, line },
+        *quantifier,
+        ranges,
+        constraint,
+        body,
+    )
 }
 
 /// A builder.
@@ -61,10 +76,9 @@ pub(super) fn builder<'a>(
     arena: &'a Bump,
     need: Need,
     scope: &mut Scope<'a, '_>,
-) -> Result<Sort<'a>, Refusal>
+) -> Result<Judged<'a>, Refusal>
     requires { IsBuilder term.now }
     ensures judged { Judges (scope_of scope.old) need (tree_of term.now) result }
-    ensures references { OnOk result (scope.new.references.items ≡ onto scope.old.references.items (resolved (scope_of scope.old) (tree_of term.now))) }
     ensures scope { scope_of scope.new ≡ scope_of scope.old }
 {
     let Term::Builder(line, decls, filter, member) = term else {
@@ -72,49 +86,54 @@ pub(super) fn builder<'a>(
     };
     let line = *line;
     let outside = depth(scope);
-    declare(decls.as_slice(), arena, scope)?;
+    let ranges = declare(decls.as_slice(), arena, scope)?;
     let filter = judge_part(filter, arena, Need::Predicate, scope);
     let member = judge_part(member, arena, Need::Expression, scope);
     let row = row(arena, scope, outside);
     unbind(scope, outside);
-    built(arena, Place { need, line }, filter, member, row)
+    built(arena, Place { need, line }, ranges, filter, member, row)
 }
 
-/// Brings the variables that are declared into scope.
+/// Brings the variables that are declared into scope. What is kept of them are their ranges.
 #[cycle(judging)]
 fn declare<'a>(
     decls: &[VarDecl<'a>],
     arena: &'a Bump,
     scope: &mut Scope<'a, '_>,
-) -> Result<(), Refusal>
+) -> Result<Items<'a, Range<'a>>, Refusal>
     ensures ok { OnOk result ((vs : List Var) × Binds (scope_of scope.old) (tree.var_decls (map var_decl_of decls.now)) vs × (scope_of scope.new ≡ within (scope_of scope.old) vs)) }
-    ensures references { OnOk result (scope.new.references.items ≡ ranges_onto scope.old.references.items (resolved_ranges (scope_of scope.old) (tree.var_decls (map var_decl_of decls.now)))) }
+    ensures ranges { IfOk result (λ rs. kept.ranges (map range_of rs) ≡ resolved_ranges (scope_of scope.old) (tree.var_decls (map var_decl_of decls.now))) }
     ensures wrong { IfErr result (λ e. IfFault e (λ kind line. DeclarationsOffend (scope_of scope.old) (tree.var_decls (map var_decl_of decls.now)) kind line)) }
     ensures scope { OnErr result (scope_of scope.new ≡ scope_of scope.old) }
 {
-    let variables = judge_sets(decls, arena, scope)?;
+    let Declared { variables, ranges } = judge_sets(decls, arena, scope)?;
     bind(scope, variables)?;
-    Ok(())
+    Ok(ranges)
 }
 
-/// The variables that are declared. The declared sets know nothing of them.
+/// The declared sets know nothing of the variables.
 #[cycle(judging)]
 fn judge_sets<'a>(
     decls: &[VarDecl<'a>],
     arena: &'a Bump,
     scope: &mut Scope<'a, '_>,
-) -> Result<Locals<'a>, Refusal>
-    ensures ok { IfOk result (λ vs. Binds (scope_of scope.old) (tree.var_decls (map var_decl_of decls.now)) (map variable_of vs)) }
-    ensures references { OnOk result (scope.new.references.items ≡ ranges_onto scope.old.references.items (resolved_ranges (scope_of scope.old) (tree.var_decls (map var_decl_of decls.now)))) }
+) -> Result<Declared<'a>, Refusal>
+    ensures ok { IfOk result (λ d. Binds (scope_of scope.old) (tree.var_decls (map var_decl_of decls.now)) (map variable_of d.variables)) }
+    ensures ranges { IfOk result (λ d. kept.ranges (map range_of d.ranges) ≡ resolved_ranges (scope_of scope.old) (tree.var_decls (map var_decl_of decls.now))) }
     ensures wrong { IfErr result (λ e. IfFault e (λ kind line. DeclarationsOffend (scope_of scope.old) (tree.var_decls (map var_decl_of decls.now)) kind line)) }
     ensures scope { scope_of scope.new ≡ scope_of scope.old }
 {
     let mut variables = Locals::new(scope.locals.allocator());
+    let mut ranges = Items::with_room(arena, decls.len())?;
     for decl in decls {
-        let set = judge_boxed(&decl.set, arena, Need::Set, scope)?;
-        declare_names(decl.names.as_slice(), &set, &mut variables)?;
+        let Judged { term, sort } = judge_boxed(&decl.set, arena, Need::Set, scope)?;
+        declare_names(decl.names.as_slice(), &sort, &mut variables)?;
+        ranges.push(Range {
+            variables: decl.names.len(),
+            set: term,
+        })?;
     }
-    Ok(variables)
+    Ok(Declared { variables, ranges })
 }
 
 #[cycle(judging)]
@@ -123,9 +142,8 @@ fn judge_part<'a>(
     arena: &'a Bump,
     need: Need,
     scope: &mut Scope<'a, '_>,
-) -> Result<Option<Sort<'a>>, Refusal>
-    ensures judged { JudgesPart (scope_of scope.old) need (part_tree part.now) result }
-    ensures references { OnOk result (scope.new.references.items ≡ part_onto scope.old.references.items (resolved_part (scope_of scope.old) (part_tree part.now))) }
+) -> Result<Option<Judged<'a>>, Refusal>
+    ensures judged { JudgesPart (scope_of scope.old) need (part_of part.now) result }
     ensures scope { scope_of scope.new ≡ scope_of scope.old }
 {
     match part.get() {
@@ -139,16 +157,25 @@ fn judge_part<'a>(
 
 /// A quantified predicate, of which the parts are judged within its variables.
 fn with_body<'a>(
+    arena: &'a Bump,
     place: Place,
-    constraint: Result<Option<Sort<'a>>, Refusal>,
-    body: Result<Sort<'a>, Refusal>,
-) -> Result<Sort<'a>, Refusal>
-    ensures judged { (s : spec.Scope) (q : Quantifier) (ds : tree.VarDecls) (vs : List Var) (p : tree.Perhaps) (e : Tree) → Binds s ds vs → JudgesPart (within s vs) needs.Predicate p constraint.entry → Judges (within s vs) needs.Predicate e body.entry → Judges s place.need (tree.quantified place.line q ds p e) result }
-    ensures parts { OnOk result (IsOk constraint.entry × IsOk body.entry) }
+    quantifier: Quantifier,
+    ranges: Items<'a, Range<'a>>,
+    constraint: Result<Option<Judged<'a>>, Refusal>,
+    body: Result<Judged<'a>, Refusal>,
+) -> Result<Judged<'a>, Refusal>
+    ensures { (s : spec.Scope) (ds : tree.VarDecls) (vs : List Var) (p : tree.Perhaps) (e : Tree) → Binds s ds vs → kept.ranges (map range_of ranges.entry) ≡ resolved_ranges s ds → JudgesPart (within s vs) needs.Predicate p constraint.entry → Judges (within s vs) needs.Predicate e body.entry → Judges s place.need (tree.quantified place.line quantifier ds p e) result }
 {
-    constraint?;
-    body?;
-    predicate(place.need, place.line)
+    let constraint = constraint?;
+    let body = body?;
+    let ranges = Boxed::new(arena, ranges)?;
+    let condition = in_box(arena, constraint)?;
+    let predicate = Boxed::new(arena, body.term)?;
+    placed(
+        place,
+        Sort::Predicate,
+        Resolved::Quantified(quantifier, place.line, ranges, condition, predicate),
+    )
 }
 
 /// A builder, of which the parts are judged within its variables. Where it has no term it builds
@@ -156,33 +183,48 @@ fn with_body<'a>(
 fn built<'a>(
     arena: &'a Bump,
     place: Place,
-    filter: Result<Option<Sort<'a>>, Refusal>,
-    member: Result<Option<Sort<'a>>, Refusal>,
+    ranges: Items<'a, Range<'a>>,
+    filter: Result<Option<Judged<'a>>, Refusal>,
+    member: Result<Option<Judged<'a>>, Refusal>,
     row: Result<ZType<'a>, AllocError>,
-) -> Result<Sort<'a>, Refusal>
-    ensures judged { (s : spec.Scope) (ds : tree.VarDecls) (vs : List Var) (p e : tree.Perhaps) → Binds s ds vs → JudgesPart (within s vs) needs.Predicate p filter.entry → JudgesPart (within s vs) needs.Expression e member.entry → IfOk row.entry (λ t. type_of t ≡ row_type vs) → Judges s place.need (tree.builder place.line ds p e) result }
-    ensures parts { OnOk result (IsOk filter.entry × IsOk member.entry) }
+) -> Result<Judged<'a>, Refusal>
+    ensures { (s : spec.Scope) (ds : tree.VarDecls) (vs : List Var) (p e : tree.Perhaps) → Binds s ds vs → kept.ranges (map range_of ranges.entry) ≡ resolved_ranges s ds → JudgesPart (within s vs) needs.Predicate p filter.entry → JudgesPart (within s vs) needs.Expression e member.entry → IfOk row.entry (λ t. type_of t ≡ row_type vs) → Judges s place.need (tree.builder place.line ds p e) result }
 {
-    filter?;
-    let element = member?;
+    let filter = filter?;
+    let member = member?;
     let rows = row?;
-    let set = set_type(arena, member_type(element, rows))?;
-    if !set.is_small() {
-        return Err(refused(TypeFaultKind::TooLarge, place.line));
-    }
-    let sort = Sort::Typed(set);
-    if !sort.meets(place.need) {
-        return Err(misplaced(&sort, place.need, place.line));
-    }
-    Ok(sort)
+    let element = member_type(&member, rows)?;
+    let set = set_type(arena, element)?;
+    let ranges = Boxed::new(arena, ranges)?;
+    let condition = in_box(arena, filter)?;
+    let term = in_box(arena, member)?;
+    made(
+        place,
+        Sort::Typed(set),
+        Resolved::Builder(place.line, ranges, condition, term),
+    )
+}
+
+/// The term of a part that may be left out.
+fn in_box<'a>(arena: &'a Bump, part: Option<Judged<'a>>) -> Result<ResolvedPart<'a>, AllocError>
+    ensures { (s : spec.Scope) (n : need.Need) (p : tree.Perhaps) → IsPart s n p part.entry → IfOk result (λ o. kept.part_of o ≡ resolved_part s p) }
+{
+    let Some(judged) = part else {
+        return Boxed::new(arena, None);
+    };
+    let term = Boxed::new(arena, judged.term)?;
+    Boxed::new(arena, Some(term))
 }
 
 /// The type of what a builder builds: that of its term, where it has one.
-fn member_type<'a>(member: Option<Sort<'a>>, row: ZType<'a>) -> ZType<'a>
-    ensures { (s : spec.Scope) (vs : List Var) (p : tree.Perhaps) → IsPart s needs.Expression p member.entry → type_of row.entry ≡ row_type vs → Builds s vs p (type_of result) }
+fn member_type<'a>(member: &Option<Judged<'a>>, row: ZType<'a>) -> Result<ZType<'a>, AllocError>
+    ensures { (s : spec.Scope) (vs : List Var) (p : tree.Perhaps) → IsPart s needs.Expression p member.now → type_of row.entry ≡ row_type vs → IfOk result (λ t. Builds s vs p (type_of t)) }
 {
     match member {
-        None => row,
-        Some(sort) => sort.into_type().unwrap_or(row),
+        None => Ok(row),
+        Some(judged) => match judged.sort.ztype() {
+            Some(ztype) => ztype.share(),
+            None => Ok(row),
+        },
     }
 }

@@ -2,23 +2,26 @@
 ghost use Rattle.std.specs.Prelude.{◌≡◌, IfOk, IfErr, OnOk, map};
 ghost use Rattle.zf_tree.specs.Trees as tree;
 ghost use Rattle.zf_tree.specs.Trees.{Tree, link_of, tree_of};
-ghost use Rattle.zf_term.specs.Filling.{links_onto, onto};
+ghost use Rattle.zf_term.specs.ResolvedTrees as kept;
+ghost use Rattle.zf_term.specs.ResolvedTrees.{resolved_link_of};
 ghost use Rattle.zf_type.specs.Judging.{IsChain, Judges};
 ghost use Rattle.zf_type.specs.Offences.{LinksOffend};
 ghost use Rattle.zf_type.specs.Refusals.{IfFault};
-ghost use Rattle.zf_type.specs.Resolving.{resolved, resolved_links};
+ghost use Rattle.zf_type.specs.Resolving.{resolved_links};
 ghost use Rattle.zf_type.specs.Rules as rules;
 ghost use Rattle.zf_type.specs.Rules.{Meets, Takes, sort_of};
 ghost use Rattle.zf_type.specs.Scopes.{scope_of};
 ghost use Rattle.zf_type.specs.Typing.{AreLinked, IsOf};
 
-use super::{judge_boxed, judge_term, predicate};
+use super::{Judged, Place, judge_boxed, judge_term, placed};
 use crate::fault::{Refusal, refused};
 use crate::rules::combine;
 use crate::scope::Scope;
 use crate::sort::Sort;
 use bumpalo::Bump;
+use zf_data::arena::{Boxed, Items};
 use zf_term::fault::TypeFaultKind;
+use zf_term::resolved::{Resolved, ResolvedLink};
 use zf_tree::operator::{Need, Rule, relation_rule};
 use zf_tree::tree::{Link, Term};
 
@@ -37,23 +40,28 @@ pub(super) fn chain<'a>(
     arena: &'a Bump,
     need: Need,
     scope: &mut Scope<'a, '_>,
-) -> Result<Sort<'a>, Refusal>
+) -> Result<Judged<'a>, Refusal>
     requires { IsChain term.now }
     ensures judged { Judges (scope_of scope.old) need (tree_of term.now) result }
-    ensures references { OnOk result (scope.new.references.items ≡ onto scope.old.references.items (resolved (scope_of scope.old) (tree_of term.now))) }
     ensures scope { scope_of scope.new ≡ scope_of scope.old }
 {
     let Term::Chain(line, first, links) = term else {
         unreachable!();
     };
     let line = *line;
-    let sort = judge_term(first.get(), arena, Need::Expression, scope)?;
-    let first = Operand {
+    let Judged { term, sort } = judge_term(first.get(), arena, Need::Expression, scope)?;
+    let left = Operand {
         sort,
         line: first.get().line(),
     };
-    judge_links(links.as_slice(), arena, first, scope)?;
-    predicate(need, line)
+    let links = judge_links(links.as_slice(), arena, left, scope)?;
+    let first = Boxed::new(arena, term)?;
+    let further = Boxed::new(arena, links)?;
+    placed(
+        Place { need, line },
+        Sort::Predicate,
+        Resolved::Chain(line, first, further),
+    )
 }
 
 #[cycle(judging)]
@@ -62,22 +70,27 @@ fn judge_links<'a>(
     arena: &'a Bump,
     first: Operand<'a>,
     scope: &mut Scope<'a, '_>,
-) -> Result<(), Refusal>
+) -> Result<Items<'a, ResolvedLink<'a>>, Refusal>
     ensures ok { OnOk result (AreLinked (scope_of scope.old) (sort_of first.entry.sort) (tree.links (map link_of links.now))) }
-    ensures references { OnOk result (scope.new.references.items ≡ links_onto scope.old.references.items (resolved_links (scope_of scope.old) (tree.links (map link_of links.now)))) }
+    ensures resolved { IfOk result (λ ks. kept.links (map resolved_link_of ks) ≡ resolved_links (scope_of scope.old) (tree.links (map link_of links.now))) }
     ensures wrong { (a : Tree) → IsOf (scope_of scope.old) a (sort_of first.entry.sort) → first.entry.line ≡ tree.line_of a → IfErr result (λ e. IfFault e (λ kind line. LinksOffend (scope_of scope.old) a (tree.links (map link_of links.now)) kind line)) }
     ensures scope { scope_of scope.new ≡ scope_of scope.old }
 {
     let mut left = first;
+    let mut resolved = Items::with_room(arena, links.len())?;
     for link in links {
         let rule = relation_rule(link.relation);
         check_left(&left, rule.left_need())?;
-        let sort = judge_boxed(&link.right, arena, rule.right_need(), scope)?;
+        let Judged { term, sort } = judge_boxed(&link.right, arena, rule.right_need(), scope)?;
         let line = link.right.get().line();
         relate(arena, rule, &left.sort, &sort, line)?;
+        resolved.push(ResolvedLink {
+            relation: link.relation,
+            right: term,
+        })?;
         left = Operand { sort, line };
     }
-    Ok(())
+    Ok(resolved)
 }
 
 /// A place of this need takes the operand.

@@ -1,19 +1,22 @@
 //! What several terms make: tuples, displays and products.
-ghost use Rattle.std.specs.Prelude.{◌≡◌, IfOk, IfErr, OnOk, length, map};
+ghost use Rattle.std.specs.Prelude.{◌≡◌, IfOk, IfErr, length, map};
+ghost use Rattle.zf_tree.specs.Trees as tree;
 ghost use Rattle.zf_tree.specs.Trees.{tree_of, trees};
-ghost use Rattle.zf_term.specs.Filling.{all_onto, onto};
+ghost use Rattle.zf_term.specs.ResolvedTrees as kept;
+ghost use Rattle.zf_term.specs.ResolvedTrees.{resolved_of};
 ghost use Rattle.zf_term.specs.Types as tys;
 ghost use Rattle.zf_term.specs.Types.{Ty, power, type_of};
-ghost use Rattle.zf_type.specs.Judging as judging;
-ghost use Rattle.zf_type.specs.Judging.{AreMembers, DiffersAt, Judges, Makes, listed_tree, member_sort};
+ghost use Rattle.zf_type.specs.Judging.{DiffersAt, Judges};
 ghost use Rattle.zf_type.specs.Offences.{OneOffends};
 ghost use Rattle.zf_type.specs.Refusals.{IfFault};
-ghost use Rattle.zf_type.specs.Resolving.{resolved, resolved_all};
+ghost use Rattle.zf_type.specs.Resolving.{resolved_all};
 ghost use Rattle.zf_type.specs.Rules.{Meets, sort_of};
 ghost use Rattle.zf_type.specs.Scopes as spec;
 ghost use Rattle.zf_type.specs.Scopes.{scope_of};
+ghost use Rattle.zf_type.specs.Typing as typing;
+ghost use Rattle.zf_type.specs.Typing.{AreMembers, Makes, member_sort};
 
-use super::{Place, judge_term, misplaced};
+use super::{Judged, Place, judge_term, made};
 use crate::fault::{Refusal, refused};
 use crate::scope::Scope;
 use crate::sort::Sort;
@@ -21,9 +24,17 @@ use bumpalo::Bump;
 use std::alloc::AllocError;
 use zf_data::arena::{Boxed, Items};
 use zf_term::fault::TypeFaultKind;
+use zf_term::resolved::Resolved;
 use zf_term::ztype::{ZType, product_type, set_type};
 use zf_tree::operator::{Listed, Need};
 use zf_tree::tree::Term;
+
+/// The members of one term, and the types that they are told by: of a set that of its members.
+#[derive(Drop)]
+struct Members<'a> {
+    resolved: Items<'a, Resolved<'a>>,
+    types: Items<'a, ZType<'a>>,
+}
 
 /// What several terms make.
 #[cycle(judging)]
@@ -34,38 +45,38 @@ pub(super) fn listed<'a>(
     place: Place,
     form: Listed,
     scope: &mut Scope<'a, '_>,
-) -> Result<Sort<'a>, Refusal>
-    ensures judged { Judges (scope_of scope.old) place.need (listed_tree form place.line (trees (map tree_of terms.now))) result }
-    ensures references { OnOk result (scope.new.references.items ≡ onto scope.old.references.items (resolved (scope_of scope.old) (listed_tree form place.line (trees (map tree_of terms.now))))) }
+) -> Result<Judged<'a>, Refusal>
+    ensures judged { Judges (scope_of scope.old) place.need (tree.listed place.line form (trees (map tree_of terms.now))) result }
     ensures scope { scope_of scope.new ≡ scope_of scope.old }
 {
-    let types = judge_all(terms, arena, form, scope)?;
-    with_members(arena, place, form, terms, types)
+    let members = judge_all(terms, arena, form, scope)?;
+    with_members(arena, place, form, terms, members)
 }
 
-/// The type of each member; of a set the type of its members.
 #[cycle(judging)]
 fn judge_all<'a>(
     terms: &[Boxed<'a, Term<'a>>],
     arena: &'a Bump,
     form: Listed,
     scope: &mut Scope<'a, '_>,
-) -> Result<Items<'a, ZType<'a>>, Refusal>
-    ensures ok { IfOk result (λ ts. AreMembers form (scope_of scope.old) (trees (map tree_of terms.now)) (tys.types (map type_of ts))) }
-    ensures references { OnOk result (scope.new.references.items ≡ all_onto scope.old.references.items (resolved_all (scope_of scope.old) (trees (map tree_of terms.now)))) }
-    ensures wrong { IfErr result (λ e. IfFault e (λ kind line. OneOffends (scope_of scope.old) (judging.member_need form) (trees (map tree_of terms.now)) kind line)) }
+) -> Result<Members<'a>, Refusal>
+    ensures ok { IfOk result (λ ms. AreMembers form (scope_of scope.old) (trees (map tree_of terms.now)) (tys.types (map type_of ms.types))) }
+    ensures resolved { IfOk result (λ ms. kept.terms (map resolved_of ms.resolved) ≡ resolved_all (scope_of scope.old) (trees (map tree_of terms.now))) }
+    ensures wrong { IfErr result (λ e. IfFault e (λ kind line. OneOffends (scope_of scope.old) (typing.member_need form) (trees (map tree_of terms.now)) kind line)) }
     ensures scope { scope_of scope.new ≡ scope_of scope.old }
 {
+    let mut resolved = Items::with_room(arena, terms.len())?;
     let mut types = Items::with_room(arena, terms.len())?;
-    for term in terms {
-        let member = judge_term(term.get(), arena, member_need(form), scope)?;
-        types.push(member_type(form, member)?)?;
+    for member in terms {
+        let Judged { term, sort } = judge_term(member.get(), arena, member_need(form), scope)?;
+        types.push(member_type(form, sort)?)?;
+        resolved.push(term)?;
     }
-    Ok(types)
+    Ok(Members { resolved, types })
 }
 
 fn member_need(form: Listed) -> Need
-    ensures { result ≡ judging.member_need form }
+    ensures { result ≡ typing.member_need form }
 {
     match form {
         Listed::Tuple | Listed::Display => Need::Expression,
@@ -75,7 +86,7 @@ fn member_need(form: Listed) -> Need
 
 /// The type that is kept of a member.
 fn member_type<'a>(form: Listed, sort: Sort<'a>) -> Result<ZType<'a>, AllocError>
-    requires { Meets (judging.member_need form) (sort_of sort) }
+    requires { Meets (typing.member_need form) (sort_of sort) }
     ensures { IfOk result (λ t. sort_of sort.entry ≡ member_sort form (type_of t)) }
 {
     let Sort::Typed(ztype) = sort else {
@@ -105,20 +116,14 @@ fn with_members<'a>(
     place: Place,
     form: Listed,
     terms: &[Boxed<'a, Term<'a>>],
-    types: Items<'a, ZType<'a>>,
-) -> Result<Sort<'a>, Refusal>
-    requires { length terms.now ≡ length types }
-    ensures { (s : spec.Scope) → AreMembers form s (trees (map tree_of terms.now)) (tys.types (map type_of types.entry)) → Judges s place.need (listed_tree form place.line (trees (map tree_of terms.now))) result }
+    members: Members<'a>,
+) -> Result<Judged<'a>, Refusal>
+    requires { length terms.now ≡ length members.types }
+    ensures { (s : spec.Scope) → AreMembers form s (trees (map tree_of terms.now)) (tys.types (map type_of members.entry.types)) → kept.terms (map resolved_of members.entry.resolved) ≡ resolved_all s (trees (map tree_of terms.now)) → Judges s place.need (tree.listed place.line form (trees (map tree_of terms.now))) result }
 {
-    let ztype = made_of(arena, form, place.line, terms, types)?;
-    if !ztype.is_small() {
-        return Err(refused(TypeFaultKind::TooLarge, place.line));
-    }
-    let sort = Sort::Typed(ztype);
-    if !sort.meets(place.need) {
-        return Err(misplaced(&sort, place.need, place.line));
-    }
-    Ok(sort)
+    let ztype = made_of(arena, form, place.line, terms, members.types)?;
+    let term = Resolved::Listed(place.line, form, Boxed::new(arena, members.resolved)?);
+    made(place, Sort::Typed(ztype), term)
 }
 
 /// The type of what members of these types make.

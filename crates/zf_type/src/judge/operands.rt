@@ -1,22 +1,22 @@
 //! Symbols that stand before a term or between two, and their rules.
-ghost use Rattle.std.specs.Prelude.{◌≡◌, ◌<◌, OnOk};
+ghost use Rattle.std.specs.Prelude.{◌≡◌, ◌<◌};
 ghost use Rattle.zf_tree.specs.declared.tree.Term.{size-Term};
+ghost use Rattle.zf_tree.specs.Trees as tree;
 ghost use Rattle.zf_tree.specs.Trees.{line_of, Tree, tree_of};
 ghost use Rattle.zf_tree.specs.Operators.{left_need, need_of, right_need, rule_of};
-ghost use Rattle.zf_term.specs.Filling.{onto};
-ghost use Rattle.zf_type.specs.Judging.{IsJudged, Judges, binary_tree, unary_tree};
-ghost use Rattle.zf_type.specs.Resolving.{resolved};
+ghost use Rattle.zf_type.specs.Judging.{IsJudged, Judges};
 ghost use Rattle.zf_type.specs.Rules.{Meets, sort_of};
 ghost use Rattle.zf_type.specs.Scopes as spec;
 ghost use Rattle.zf_type.specs.Scopes.{scope_of};
 
-use super::{Place, judge_term, misplaced};
+use super::{Judged, Place, judge_term, made};
 use crate::fault::{Refusal, refused};
 use crate::rules::{apply, combine};
 use crate::scope::Scope;
-use crate::sort::Sort;
 use bumpalo::Bump;
+use zf_data::arena::Boxed;
 use zf_term::fault::TypeFaultKind;
+use zf_term::resolved::Resolved;
 use zf_tree::operator::{Operator, Unary};
 use zf_tree::tree::Term;
 
@@ -28,9 +28,8 @@ pub(super) fn unary<'a>(
     place: Place,
     op: Unary,
     scope: &mut Scope<'a, '_>,
-) -> Result<Sort<'a>, Refusal>
-    ensures judged { Judges (scope_of scope.old) place.need (unary_tree op place.line (tree_of operand.now)) result }
-    ensures references { OnOk result (scope.new.references.items ≡ onto scope.old.references.items (resolved (scope_of scope.old) (unary_tree op place.line (tree_of operand.now)))) }
+) -> Result<Judged<'a>, Refusal>
+    ensures judged { Judges (scope_of scope.old) place.need (tree.unary place.line op (tree_of operand.now)) result }
     ensures scope { scope_of scope.new ≡ scope_of scope.old }
 {
     let operand = judge_term(operand, arena, op.need(), scope)?;
@@ -42,21 +41,16 @@ fn with_operand<'a>(
     arena: &'a Bump,
     place: Place,
     op: Unary,
-    operand: Sort<'a>,
-) -> Result<Sort<'a>, Refusal>
-    requires { Meets (need_of op) (sort_of operand) }
-    ensures { (s : spec.Scope) (e : Tree) → IsJudged s (need_of op) e operand.entry → Judges s place.need (unary_tree op place.line e) result }
+    operand: Judged<'a>,
+) -> Result<Judged<'a>, Refusal>
+    requires { Meets (need_of op) (sort_of operand.sort) }
+    ensures { (s : spec.Scope) (e : Tree) → IsJudged s (need_of op) e operand.entry → Judges s place.need (tree.unary place.line op e) result }
 {
-    let Some(made) = apply(arena, op, &operand)? else {
+    let Some(sort) = apply(arena, op, &operand.sort)? else {
         unreachable!();
     };
-    if !made.is_small() {
-        return Err(refused(TypeFaultKind::TooLarge, place.line));
-    }
-    if !made.meets(place.need) {
-        return Err(misplaced(&made, place.need, place.line));
-    }
-    Ok(made)
+    let term = Resolved::Unary(place.line, op, Boxed::new(arena, operand.term)?);
+    made(place, sort, term)
 }
 
 /// What two terms make, which are parts of the whole.
@@ -70,17 +64,16 @@ pub(super) fn binary<'a>(
     left: &Term<'a>,
     right: &Term<'a>,
     scope: &mut Scope<'a, '_>,
-) -> Result<Sort<'a>, Refusal>
+) -> Result<Judged<'a>, Refusal>
     requires left { size-Term left.now < size-Term _whole.now }
     requires right { size-Term right.now < size-Term _whole.now }
-    ensures judged { Judges (scope_of scope.old) place.need (binary_tree op place.line (tree_of left.now) (tree_of right.now)) result }
-    ensures references { OnOk result (scope.new.references.items ≡ onto scope.old.references.items (resolved (scope_of scope.old) (binary_tree op place.line (tree_of left.now) (tree_of right.now)))) }
+    ensures judged { Judges (scope_of scope.old) place.need (tree.binary place.line op (tree_of left.now) (tree_of right.now)) result }
     ensures scope { scope_of scope.new ≡ scope_of scope.old }
 {
     let rule = op.rule();
     let of_left = judge_term(left, arena, rule.left_need(), scope)?;
     let of_right = judge_term(right, arena, rule.right_need(), scope)?;
-    with_operands(arena, place, op, &of_left, &of_right, right.line())
+    with_operands(arena, place, op, of_left, of_right, right.line())
 }
 
 /// The rule of a symbol that stands between two terms, of which the right one stands at the line.
@@ -88,20 +81,16 @@ fn with_operands<'a>(
     arena: &'a Bump,
     place: Place,
     op: Operator,
-    left: &Sort<'a>,
-    right: &Sort<'a>,
+    left: Judged<'a>,
+    right: Judged<'a>,
     line: u32,
-) -> Result<Sort<'a>, Refusal>
-    ensures { (s : spec.Scope) (a b : Tree) → IsJudged s (left_need (rule_of op)) a left.now → IsJudged s (right_need (rule_of op)) b right.now → line ≡ line_of b → Judges s place.need (binary_tree op place.line a b) result }
+) -> Result<Judged<'a>, Refusal>
+    ensures { (s : spec.Scope) (a b : Tree) → IsJudged s (left_need (rule_of op)) a left.entry → IsJudged s (right_need (rule_of op)) b right.entry → line ≡ line_of b → Judges s place.need (tree.binary place.line op a b) result }
 {
-    let Some(made) = combine(arena, op.rule(), left, right)? else {
+    let Some(sort) = combine(arena, op.rule(), &left.sort, &right.sort)? else {
         return Err(refused(TypeFaultKind::Mismatch, line));
     };
-    if !made.is_small() {
-        return Err(refused(TypeFaultKind::TooLarge, place.line));
-    }
-    if !made.meets(place.need) {
-        return Err(misplaced(&made, place.need, place.line));
-    }
-    Ok(made)
+    let left = Boxed::new(arena, left.term)?;
+    let right = Boxed::new(arena, right.term)?;
+    made(place, sort, Resolved::Binary(place.line, op, left, right))
 }

@@ -1,13 +1,13 @@
 use Rattle.std.proofs.Common.{ap, ◌∙◌}
 use Rattle.std.proofs.lemmas.Result.{on_ok_weaker}
-use Rattle.zf_term.specs.Written.{written_of}
+use Rattle.zf_term.specs.ResolvedTrees.{resolved_of}
 use Rattle.zf_calculus.specs.Growth.{is_member}
 use Rattle.zf_calculus.proofs.Memberships.{pushed, none_of_carrier, none_of_sides}
 use Rattle.zf_calculus.proofs.disjunction.push_membership.Goals as goal
 
 pub returns-in_ok-term-in-Plain : goal.returns-in_ok-term-in-Plain
 returns-in_ok-term-in-Plain c =
-    on_ok_weaker c.push.result (pushed c.args.place c.args.domain.now c.in-Plain.set c.in_ok-term-in-Plain.term c.args.made.now c.push.new.self c.in-Plain.is (c.in_ok-term-in-Plain.ensures ∙ ap (is_member c.args.place) (c.in_ok-set-in-Plain.ensures ∙ ap written_of c.get.ensures))) c.push.ensures.ok
+    on_ok_weaker c.push.result (pushed c.args.place c.args.domain.now c.in-Plain.set c.in_ok-term-in-Plain.term c.args.made.now c.push.new.self c.in-Plain.is (c.in_ok-term-in-Plain.ensures ∙ ap (is_member c.args.place) (ap resolved_of (c.in_ok-set-in-Plain.ensures ∙ c.get.ensures)))) c.push.ensures.ok
 
 pub returns-in-Carrier : goal.returns-in-Carrier
 returns-in-Carrier c = none_of_carrier c.args.place c.args.domain.now _ c.args.made.now c.in-Carrier.is

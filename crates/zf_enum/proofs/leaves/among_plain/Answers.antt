@@ -2,7 +2,7 @@ use Rattle.std.proofs.Common.{◌≡◌, List, Some, None, rules, sym, ◌∙◌
 use Rattle.std.proofs.lemmas.Result.{IfOk-weaker}
 use Rattle.zf_term.specs.Definitions.{Defined}
 use Rattle.zf_extent.specs.Extents.{direct}
-use Rattle.zf_term.specs.Written.{written_of}
+use Rattle.zf_term.specs.ResolvedTrees.{resolved_of}
 use Rattle.zf_meaning.specs.Described.{Describes}
 use Rattle.zf_meaning.specs.Environments.{globally}
 use Rattle.zf_meaning.specs.Envs.{environment_of}
@@ -14,20 +14,20 @@ use Rattle.zf_enum.proofs.leaves.among_plain.Goals as goal
 
 pub returns-in-Some-clause-is : goal.returns-in-Some-clause-is
 returns-in-Some-clause-is c =
-    let known = subst (λ (g : List Defined). direct g (written_of c.args.set.now) ≡ Some c.in-Some.infinite) c.globals.ensures (sym c.direct.ensures ∙ c.in-Some.is) in
-    numbers_of_plain (environment_of c.args.env.now) (written_of c.args.set.now) c.in-Some.infinite c.args.values.now c.in_ok-kept.field-0.items known c.in_ok-kept.ensures
+    let known = subst (λ (g : List Defined). direct g (resolved_of c.args.set.now) ≡ Some c.in-Some.infinite) c.globals.ensures (sym c.direct.ensures ∙ c.in-Some.is) in
+    numbers_of_plain (environment_of c.args.env.now) (resolved_of c.args.set.now) c.in-Some.infinite c.args.values.now c.in_ok-kept.field-0.items known c.in_ok-kept.ensures
 
 pub described_in-requires : goal.described_in-requires
 described_in-requires c = regular-nothing
 
 pub returns-clause-is : goal.returns-clause-is
 returns-clause-is c =
-    let none = subst (λ (g : List Defined). direct g (written_of c.args.set.now) ≡ None) c.globals.ensures (sym c.direct.ensures ∙ no_infinite c.direct.result c.in_default.not-Some) in
-    let is : Describes (HasOutcome (globally (environment_of c.args.env.now)) (written_of c.args.set.now)) c.in_ok-described.described = search rules in
-    IfOk-weaker c.members_among.result _ _ (λ xs h. filtered_by_plain (environment_of c.args.env.now) (written_of c.args.set.now) c.in_ok-described.described c.args.values.now xs.items none is c.in_ok-described.ensures.regular h) c.members_among.ensures.is
+    let none = subst (λ (g : List Defined). direct g (resolved_of c.args.set.now) ≡ None) c.globals.ensures (sym c.direct.ensures ∙ no_infinite c.direct.result c.in_default.not-Some) in
+    let is : Describes (HasOutcome (globally (environment_of c.args.env.now)) (resolved_of c.args.set.now)) c.in_ok-described.described = search rules in
+    IfOk-weaker c.members_among.result _ _ (λ xs h. filtered_by_plain (environment_of c.args.env.now) (resolved_of c.args.set.now) c.in_ok-described.described c.args.values.now xs.items none is c.in_ok-described.ensures.regular h) c.members_among.ensures.is
 
 pub returns-clause-out : goal.returns-clause-out
 returns-clause-out c =
-    let none = subst (λ (g : List Defined). direct g (written_of c.args.set.now) ≡ None) c.globals.ensures (sym c.direct.ensures ∙ no_infinite c.direct.result c.in_default.not-Some) in
-    let is : Describes (HasOutcome (globally (environment_of c.args.env.now)) (written_of c.args.set.now)) c.in_ok-described.described = search rules in
-    told c.members_among.result _ _ (described_is_out (environment_of c.args.env.now) (written_of c.args.set.now) c.in_ok-described.described (none_is_none _ none) is) c.members_among.ensures.out
+    let none = subst (λ (g : List Defined). direct g (resolved_of c.args.set.now) ≡ None) c.globals.ensures (sym c.direct.ensures ∙ no_infinite c.direct.result c.in_default.not-Some) in
+    let is : Describes (HasOutcome (globally (environment_of c.args.env.now)) (resolved_of c.args.set.now)) c.in_ok-described.described = search rules in
+    told c.members_among.result _ _ (described_is_out (environment_of c.args.env.now) (resolved_of c.args.set.now) c.in_ok-described.described (none_is_none _ none) is) c.members_among.ensures.out

@@ -1,5 +1,5 @@
 use Rattle.std.proofs.lemmas.Result.{IfOk-weaker}
-use Rattle.zf_term.specs.Written.{written_of}
+use Rattle.zf_term.specs.ResolvedTrees.{resolved_of}
 use Rattle.zf_meaning.specs.Envs.{environment_of}
 use Rattle.zf_enum.proofs.Lacks.{told}
 use Rattle.zf_enum.proofs.Listing.{lists_set}
@@ -8,11 +8,11 @@ use Rattle.zf_enum.proofs.leaves.of_plain.Goals as goal
 
 pub returns-clause-is : goal.returns-clause-is
 returns-clause-is c b =
-    IfOk-weaker c.members_of.result _ _ (λ xs listed. all_of_plain (environment_of c.args.env.now) (written_of c.args.set.now) c.in_ok-outcome.outcome xs.items b c.in_ok-outcome.ensures.is listed) c.members_of.ensures.is
+    IfOk-weaker c.members_of.result _ _ (λ xs listed. all_of_plain (environment_of c.args.env.now) (resolved_of c.args.set.now) c.in_ok-outcome.outcome xs.items b c.in_ok-outcome.ensures.is listed) c.members_of.ensures.is
 
 pub returns-clause-out : goal.returns-clause-out
 returns-clause-out c b =
-    told c.members_of.result _ _ (plain_is_out (environment_of c.args.env.now) (written_of c.args.set.now) c.in_ok-outcome.outcome b c.in_ok-outcome.ensures.is) c.members_of.ensures.out
+    told c.members_of.result _ _ (plain_is_out (environment_of c.args.env.now) (resolved_of c.args.set.now) c.in_ok-outcome.outcome b c.in_ok-outcome.ensures.is) c.members_of.ensures.out
 
 pub returns-clause-regular : goal.returns-clause-regular
 returns-clause-regular c = IfOk-weaker c.members_of.result _ _ (λ xs listed. lists_set _ xs.items listed.lists) c.members_of.ensures.is

@@ -1,6 +1,6 @@
 use Rattle.std.proofs.Common.{ℕ, inl, inr, refl, rules}
 use Rattle.zf_term.specs.Definitions.{plain, schema_of}
-use Rattle.zf_term.specs.Written.{written_of}
+use Rattle.zf_term.specs.ResolvedTrees.{resolved_of}
 use Rattle.zf_term.specs.Types.{type_of}
 use Rattle.zf_term.specs.declared.fault.TypeFaultKind.{TypeFaultKind}
 use Rattle.zf_schema.specs.Expressions.{AddsAll}
@@ -14,7 +14,7 @@ loop-name-preserved c =
     let a = schema_of c.loop-name.growing.flat in
     let b = schema_of c.add.new.growing.flat in
     let t = type_of c.args.ztype.now in
-    let d = plain (written_of c.args.set.now) in
+    let d = plain (resolved_of c.args.set.now) in
     record {
       growing = c.in_ok-add.ensures.growing;
       adds = λ out r. c.loop-name.invariant.adds out (at_step (λ ns. AddsAll a ns t d out) c.args.names.now c.loop-name.name-index c.name-item.result c.name-item.is c.loop-name-test.true (b, c.in_ok-add.ensures.ok, r));
@@ -25,7 +25,7 @@ pub returns-in_err-add-clause-wrong : goal.returns-in_err-add-clause-wrong
 returns-in_err-add-clause-wrong c =
     let a = schema_of c.loop-name.growing.flat in
     let t = type_of c.args.ztype.now in
-    let d = plain (written_of c.args.set.now) in
+    let d = plain (resolved_of c.args.set.now) in
     let step : (k : TypeFaultKind) (m : ℕ) → CantAdd a c.name-item.result t d k m → OffendsNames (schema_of c.args.growing.now.flat) c.args.names.now t d k m =
     λ k m o. c.loop-name.invariant.offends k m (at_step (λ ns. OffendsNames a ns t d k m) c.args.names.now c.loop-name.name-index c.name-item.result c.name-item.is c.loop-name-test.true (inl o)) in
     let fact = if_fault _ _ _ step c.in_err-add.ensures.wrong in
@@ -35,5 +35,5 @@ pub returns-clause-ok : goal.returns-clause-ok
 returns-clause-ok c =
     let a = schema_of c.loop-name.growing.flat in
     let t = type_of c.args.ztype.now in
-    let d = plain (written_of c.args.set.now) in
+    let d = plain (resolved_of c.args.set.now) in
     c.loop-name.invariant.adds a (at_end (λ ns. AddsAll a ns t d a) c.args.names.now c.loop-name.name-index c.loop-name-test.false refl)

@@ -1,6 +1,6 @@
 use Rattle.std.proofs.Common.{ℕ, inl, inr, map, refl, rules}
 use Rattle.zf_term.specs.Definitions.{schema_of}
-use Rattle.zf_term.specs.Written.{written_of}
+use Rattle.zf_term.specs.ResolvedTrees.{resolved_of}
 use Rattle.zf_term.specs.declared.fault.TypeFaultKind.{TypeFaultKind}
 use Rattle.zf_schema.specs.Expressions.{TakesAll}
 use Rattle.zf_schema.specs.Refusing.{CantTake}
@@ -14,19 +14,19 @@ loop-conjunct-preserved c =
     let b = schema_of c.take.new.growing.flat in
     record {
       growing = c.in_ok-take.ensures.growing;
-      takes = λ out r. c.loop-conjunct.invariant.takes out (at_step (λ ts. TakesAll a (map written_of ts) out) c.args.conjuncts.now c.loop-conjunct.conjunct-index c.conjunct-item.result c.conjunct-item.is c.loop-conjunct-test.true (b, c.in_ok-take.ensures.ok, r));
-      offends = λ k m o. c.loop-conjunct.invariant.offends k m (at_step (λ ts. OffendsConjuncts a (map written_of ts) k m) c.args.conjuncts.now c.loop-conjunct.conjunct-index c.conjunct-item.result c.conjunct-item.is c.loop-conjunct-test.true (inr (b, c.in_ok-take.ensures.ok, o)));
+      takes = λ out r. c.loop-conjunct.invariant.takes out (at_step (λ ts. TakesAll a (map resolved_of ts) out) c.args.conjuncts.now c.loop-conjunct.conjunct-index c.conjunct-item.result c.conjunct-item.is c.loop-conjunct-test.true (b, c.in_ok-take.ensures.ok, r));
+      offends = λ k m o. c.loop-conjunct.invariant.offends k m (at_step (λ ts. OffendsConjuncts a (map resolved_of ts) k m) c.args.conjuncts.now c.loop-conjunct.conjunct-index c.conjunct-item.result c.conjunct-item.is c.loop-conjunct-test.true (inr (b, c.in_ok-take.ensures.ok, o)));
     }
 
 pub returns-in_err-take-clause-wrong : goal.returns-in_err-take-clause-wrong
 returns-in_err-take-clause-wrong c =
     let a = schema_of c.loop-conjunct.growing.flat in
-    let step : (k : TypeFaultKind) (m : ℕ) → CantTake a (written_of c.conjunct-item.result) k m → OffendsConjuncts (schema_of c.args.growing.now.flat) (map written_of c.args.conjuncts.now) k m =
-    λ k m o. c.loop-conjunct.invariant.offends k m (at_step (λ ts. OffendsConjuncts a (map written_of ts) k m) c.args.conjuncts.now c.loop-conjunct.conjunct-index c.conjunct-item.result c.conjunct-item.is c.loop-conjunct-test.true (inl (o.1.0, o.0, o.1.1))) in
+    let step : (k : TypeFaultKind) (m : ℕ) → CantTake a (resolved_of c.conjunct-item.result) k m → OffendsConjuncts (schema_of c.args.growing.now.flat) (map resolved_of c.args.conjuncts.now) k m =
+    λ k m o. c.loop-conjunct.invariant.offends k m (at_step (λ ts. OffendsConjuncts a (map resolved_of ts) k m) c.args.conjuncts.now c.loop-conjunct.conjunct-index c.conjunct-item.result c.conjunct-item.is c.loop-conjunct-test.true (inl (o.1.0, o.0, o.1.1))) in
     let fact = if_fault _ _ _ step c.in_err-take.ensures.wrong in
     search rules
 
 pub returns-clause-ok : goal.returns-clause-ok
 returns-clause-ok c =
     let a = schema_of c.loop-conjunct.growing.flat in
-    c.loop-conjunct.invariant.takes a (at_end (λ ts. TakesAll a (map written_of ts) a) c.args.conjuncts.now c.loop-conjunct.conjunct-index c.loop-conjunct-test.false refl)
+    c.loop-conjunct.invariant.takes a (at_end (λ ts. TakesAll a (map resolved_of ts) a) c.args.conjuncts.now c.loop-conjunct.conjunct-index c.loop-conjunct-test.false refl)

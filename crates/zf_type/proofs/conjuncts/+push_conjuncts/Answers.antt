@@ -1,11 +1,12 @@
-use Rattle.std.proofs.Common.{rules, ◌≡◌, OnOk, ◌++◌, map, sym, ap, ◌∙◌, subst}
+use Rattle.std.proofs.Common.{◌≡◌, OnOk, ◌++◌, map, sym, ap, ◌∙◌, subst}
 use Rattle.zf_tree.specs.Trees.{tree_of}
 use Rattle.zf_tree.proofs.TermSeen as seen
+use Rattle.zf_term.specs.ResolvedTrees.{resolved_of}
 use Rattle.zf_term.specs.Shapes.{conjuncts}
-use Rattle.zf_term.specs.Written.{is_conjunction, written_of}
+use Rattle.zf_type.specs.Judging.{is_conjunction}
 use Rattle.zf_type.specs.Resolving.{resolved}
 use Rattle.zf_type.specs.Scopes.{scope_of}
-use Rattle.zf_type.proofs.Conjunctions.{of_bracket, of_whole_bracket, of_both, both_pushed}
+use Rattle.zf_type.proofs.Conjunctions.{of_bracket, of_whole_bracket, of_both, of_neither, both_pushed}
 use Rattle.zf_type.proofs.conjuncts.+push_conjuncts.Goals as goal
 
 pub returns-then-is_conjunction-clause-ok : goal.returns-then-is_conjunction-clause-ok
@@ -14,7 +15,7 @@ returns-then-is_conjunction-clause-ok t c =
     let e = tree_of c.in-Bracket.inner in
     let is = ap tree_of c.in-Bracket.is ∙ seen.of-Bracket c.in-Bracket.field-0 c.in-Bracket.inner in
     let both = sym (c.is_conjunction.ensures ∙ ap (λ w. is_conjunction (tree_of w)) c.get.ensures) ∙ c.if-is_conjunction.true in
-    subst (λ ts. OnOk c.push_conjuncts.result (map written_of c.push_conjuncts.new.conjuncts ≡ map written_of c.args.conjuncts.now ++ ts))
+    subst (λ ts. OnOk c.push_conjuncts.result (map resolved_of c.push_conjuncts.new.conjuncts ≡ map resolved_of c.args.conjuncts.now ++ ts))
     (ap (λ w. conjuncts (resolved s (tree_of w))) c.get-then-is_conjunction.ensures ∙ sym (of_bracket s c.in-Bracket.field-0 e (tree_of c.args.term.now) is both)) c.push_conjuncts.ensures.ok
 
 pub returns-else-is_conjunction-clause-ok : goal.returns-else-is_conjunction-clause-ok
@@ -22,16 +23,23 @@ returns-else-is_conjunction-clause-ok t c =
     let s = scope_of c.args.scope.now in
     let is = ap tree_of c.in-Bracket.is ∙ seen.of-Bracket c.in-Bracket.field-0 c.in-Bracket.inner in
     let one = sym (c.is_conjunction.ensures ∙ ap (λ w. is_conjunction (tree_of w)) c.get.ensures) ∙ c.if-is_conjunction.false in
-    subst (λ ts. OnOk c.push_written.result (map written_of c.push_written.new.conjuncts ≡ map written_of c.args.conjuncts.now ++ ts))
-    (sym (of_whole_bracket s c.in-Bracket.field-0 (tree_of c.in-Bracket.inner) (tree_of c.args.term.now) is one)) c.push_written.ensures.ok
+    subst (λ ts. OnOk c.push_whole.result (map resolved_of c.push_whole.new.conjuncts ≡ map resolved_of c.args.conjuncts.now ++ ts))
+    (sym (of_whole_bracket s c.in-Bracket.field-0 (tree_of c.in-Bracket.inner) (tree_of c.args.term.now) is one)) c.push_whole.ensures.ok
 
-pub returns-in_ok-push_conjuncts-in-Connective-clause-ok : goal.returns-in_ok-push_conjuncts-in-Connective-clause-ok
-returns-in_ok-push_conjuncts-in-Connective-clause-ok t c =
+pub returns-in_ok-push_conjuncts-in-Binary-clause-ok : goal.returns-in_ok-push_conjuncts-in-Binary-clause-ok
+returns-in_ok-push_conjuncts-in-Binary-clause-ok t c =
     let s = scope_of c.args.scope.now in
-    let a = tree_of c.in-Connective.left in
-    let b = tree_of c.in-Connective.right in
-    let is = ap tree_of c.in-Connective.is ∙ seen.of-Connective c.in-Connective.field-0 c.in-Connective.connective c.in-Connective.left c.in-Connective.right in
-    let first = c.in_ok-push_conjuncts-in-Connective.ensures.ok ∙ ap (λ w. map written_of c.args.conjuncts.now ++ conjuncts (resolved s (tree_of w))) c.get-then-connective-eq0.ensures in
-    let here = ap (λ y. conjuncts (resolved y (tree_of c.get-then-connective-eq0-2.result.now))) c.in_ok-push_conjuncts-in-Connective.ensures.scope ∙ ap (λ w. conjuncts (resolved s (tree_of w))) c.get-then-connective-eq0-2.ensures in
-    let second = subst (λ ts. OnOk c.push_conjuncts-then-connective-eq0-2.result (map written_of c.push_conjuncts-then-connective-eq0-2.new.conjuncts ≡ map written_of c.push_conjuncts-then-connective-eq0.new.conjuncts ++ ts)) here c.push_conjuncts-then-connective-eq0-2.ensures.ok in
-    both_pushed c.push_conjuncts-then-connective-eq0-2.result _ _ _ _ _ _ first second (of_both s c.in-Connective.field-0 c.in-Connective.connective a b (tree_of c.args.term.now) is (search rules))
+    let a = tree_of c.in-Binary.left in
+    let b = tree_of c.in-Binary.right in
+    let is = ap tree_of c.in-Binary.is ∙ seen.of-Binary c.in-Binary.field-0 c.in-Binary.op c.in-Binary.left c.in-Binary.right in
+    let first = c.in_ok-push_conjuncts-in-Binary.ensures.ok ∙ ap (λ w. map resolved_of c.args.conjuncts.now ++ conjuncts (resolved s (tree_of w))) c.get-then-is_and.ensures in
+    let here = ap (λ y. conjuncts (resolved y (tree_of c.get-then-is_and-2.result.now))) c.in_ok-push_conjuncts-in-Binary.ensures.scope ∙ ap (λ w. conjuncts (resolved s (tree_of w))) c.get-then-is_and-2.ensures in
+    let second = subst (λ ts. OnOk c.push_conjuncts-then-is_and-2.result (map resolved_of c.push_conjuncts-then-is_and-2.new.conjuncts ≡ map resolved_of c.push_conjuncts-then-is_and.new.conjuncts ++ ts)) here c.push_conjuncts-then-is_and-2.ensures.ok in
+    both_pushed c.push_conjuncts-then-is_and-2.result _ _ _ _ _ _ first second (of_both s c.in-Binary.field-0 c.in-Binary.op a b (tree_of c.args.term.now) is (sym c.is_and.ensures ∙ c.if-is_and.true))
+
+pub returns-else-is_and-clause-ok : goal.returns-else-is_and-clause-ok
+returns-else-is_and-clause-ok t c =
+    let s = scope_of c.args.scope.now in
+    let is = ap tree_of c.in-Binary.is ∙ seen.of-Binary c.in-Binary.field-0 c.in-Binary.op c.in-Binary.left c.in-Binary.right in
+    subst (λ ts. OnOk c.push_whole-else-is_and.result (map resolved_of c.push_whole-else-is_and.new.conjuncts ≡ map resolved_of c.args.conjuncts.now ++ ts))
+    (sym (of_neither s c.in-Binary.field-0 c.in-Binary.op (tree_of c.in-Binary.left) (tree_of c.in-Binary.right) (tree_of c.args.term.now) is (sym c.is_and.ensures ∙ c.if-is_and.false))) c.push_whole-else-is_and.ensures.ok

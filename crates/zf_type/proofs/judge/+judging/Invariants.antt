@@ -1,30 +1,34 @@
 use Rattle.std.proofs.Common.{◌≡◌, ℕ, List, [], ◌++◌, map, drop}
+use Rattle.zf_tree.specs.declared.symbol.Relation.{Relation}
 use Rattle.zf_tree.specs.Trees.{line_of, Tree, tree_of, trees, link_of, links, var_decl_of, var_decls}
-use Rattle.zf_term.specs.Filling.{all_onto, links_onto, ranges_onto}
+use Rattle.zf_term.specs.ResolvedTrees as kept
+use Rattle.zf_term.specs.ResolvedTrees.{ResolvedTree, range_of, resolved_link_of, resolved_of}
 use Rattle.zf_term.specs.Types.{Ty, types, type_of}
 use Rattle.zf_term.specs.declared.fault.TypeFaultKind.{TypeFaultKind}
-use Rattle.zf_type.specs.Judging.{AreMembers, AreNew, AreRepeated, member_need}
+use Rattle.zf_type.specs.Judging.{AreNew, AreRepeated}
 use Rattle.zf_type.specs.Offences.{OneOffends, LinksOffend, SetsOffend}
 use Rattle.zf_type.specs.Rules.{sort_of}
-use Rattle.zf_type.specs.Typing.{IsOf, AreLinked, Declare, declared}
+use Rattle.zf_type.specs.Typing.{IsOf, AreLinked, AreMembers, Declare, declared, member_need}
 use Rattle.zf_type.specs.Resolving.{resolved_all, resolved_links, resolved_ranges}
 use Rattle.zf_type.specs.Scopes.{Var, scope_of, variable_of}
 use Rattle.zf_type.proofs.judge.+judging.Given as goal
 
-abbrev pub invariant-lists::judge_all-loop-term : goal.invariant-lists::judge_all-loop-term
-invariant-lists::judge_all-loop-term l = record {
+abbrev pub invariant-lists::judge_all-loop-member : goal.invariant-lists::judge_all-loop-member
+invariant-lists::judge_all-loop-member l = record {
   same : scope_of l.scope ≡ scope_of l.initial.scope;
-  members : (us : List Ty) → AreMembers l.form (scope_of l.initial.scope) (trees (map tree_of (drop l.term-index l.terms))) (types us)
+  told : (us : List Ty) → AreMembers l.form (scope_of l.initial.scope) (trees (map tree_of (drop l.member-index l.terms))) (types us)
       → AreMembers l.form (scope_of l.initial.scope) (trees (map tree_of l.terms)) (types (map type_of l.types ++ us));
-  refers : all_onto l.scope.references.items (resolved_all (scope_of l.initial.scope) (trees (map tree_of (drop l.term-index l.terms)))) ≡ all_onto l.initial.scope.references.items (resolved_all (scope_of l.initial.scope) (trees (map tree_of l.terms)));
-  offends : (kind : TypeFaultKind) (line : ℕ) → OneOffends (scope_of l.initial.scope) (member_need l.form) (trees (map tree_of (drop l.term-index l.terms))) kind line → OneOffends (scope_of l.initial.scope) (member_need l.form) (trees (map tree_of l.terms)) kind line;
+  kept : (ts : List ResolvedTree) → kept.terms ts ≡ resolved_all (scope_of l.initial.scope) (trees (map tree_of (drop l.member-index l.terms)))
+      → kept.terms (map resolved_of l.resolved ++ ts) ≡ resolved_all (scope_of l.initial.scope) (trees (map tree_of l.terms));
+  offends : (kind : TypeFaultKind) (line : ℕ) → OneOffends (scope_of l.initial.scope) (member_need l.form) (trees (map tree_of (drop l.member-index l.terms))) kind line → OneOffends (scope_of l.initial.scope) (member_need l.form) (trees (map tree_of l.terms)) kind line;
 }
 
 abbrev pub invariant-chains::judge_links-loop-link : goal.invariant-chains::judge_links-loop-link
 invariant-chains::judge_links-loop-link l = record {
   same : scope_of l.scope ≡ scope_of l.initial.scope;
   linked : AreLinked (scope_of l.initial.scope) (sort_of l.left.sort) (links (map link_of (drop l.link-index l.links))) → AreLinked (scope_of l.initial.scope) (sort_of l.initial.left.sort) (links (map link_of l.links));
-  refers : links_onto l.scope.references.items (resolved_links (scope_of l.initial.scope) (links (map link_of (drop l.link-index l.links)))) ≡ links_onto l.initial.scope.references.items (resolved_links (scope_of l.initial.scope) (links (map link_of l.links)));
+  kept : (ks : List (Relation × ResolvedTree)) → kept.links ks ≡ resolved_links (scope_of l.initial.scope) (links (map link_of (drop l.link-index l.links)))
+      → kept.links (map resolved_link_of l.resolved ++ ks) ≡ resolved_links (scope_of l.initial.scope) (links (map link_of l.links));
   offends : (a : Tree) → IsOf (scope_of l.initial.scope) a (sort_of l.initial.left.sort) → l.initial.left.line ≡ line_of a
       → (b : Tree) × IsOf (scope_of l.initial.scope) b (sort_of l.left.sort) × (l.left.line ≡ line_of b)
       × ((kind : TypeFaultKind) (line : ℕ) → LinksOffend (scope_of l.initial.scope) b (links (map link_of (drop l.link-index l.links))) kind line → LinksOffend (scope_of l.initial.scope) a (links (map link_of l.links)) kind line);
@@ -36,6 +40,7 @@ invariant-binders::judge_sets-loop-decl l = record {
   declares : (vs : List Var) → Declare (scope_of l.initial.scope) (var_decls (map var_decl_of (drop l.decl-index l.decls))) vs → Declare (scope_of l.initial.scope) (var_decls (map var_decl_of l.decls)) (map variable_of l.variables ++ vs);
   apart : AreNew (map variable_of l.variables) (declared (var_decls (map var_decl_of (drop l.decl-index l.decls)))) → AreNew [] (declared (var_decls (map var_decl_of l.decls)));
   repeated : (kind : TypeFaultKind) (line : ℕ) → AreRepeated (map variable_of l.variables) (declared (var_decls (map var_decl_of (drop l.decl-index l.decls)))) kind line → AreRepeated [] (declared (var_decls (map var_decl_of l.decls))) kind line;
-  refers : ranges_onto l.scope.references.items (resolved_ranges (scope_of l.initial.scope) (var_decls (map var_decl_of (drop l.decl-index l.decls)))) ≡ ranges_onto l.initial.scope.references.items (resolved_ranges (scope_of l.initial.scope) (var_decls (map var_decl_of l.decls)));
+  kept : (rs : List (ℕ × ResolvedTree)) → kept.ranges rs ≡ resolved_ranges (scope_of l.initial.scope) (var_decls (map var_decl_of (drop l.decl-index l.decls)))
+      → kept.ranges (map range_of l.ranges ++ rs) ≡ resolved_ranges (scope_of l.initial.scope) (var_decls (map var_decl_of l.decls));
   offends : (kind : TypeFaultKind) (line : ℕ) → SetsOffend (scope_of l.initial.scope) (var_decls (map var_decl_of (drop l.decl-index l.decls))) kind line → SetsOffend (scope_of l.initial.scope) (var_decls (map var_decl_of l.decls)) kind line;
 }

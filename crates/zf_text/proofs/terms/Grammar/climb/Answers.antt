@@ -2,7 +2,7 @@ use Rattle.std.proofs.Common.{◌≡◌, ◌≤◌, ◌<◌, Ok, sym, ap, ◌∙
 use Rattle.std.proofs.lemmas.Grind.{common_steps}
 use Rattle.zf_text.specs.Levels.{level}
 use Rattle.zf_text.specs.Reading.{first}
-use Rattle.zf_text.specs.TermReading.{read_term, binds, place_before, longer_by, climb, Fails}
+use Rattle.zf_text.specs.TermReading.{read_term, role_of, binds, bound_by, place_before, longer_by, climb, Fails}
 use Rattle.zf_tree.specs.Trees.{tree_of}
 use Rattle.zf_text.proofs.TermTurns.{goes_on, too_high, fails}
 use Rattle.zf_text.proofs.Turns.{one_more, no_more}
@@ -31,12 +31,12 @@ returns-in_err-left-clause-value g c =
     let below = read_term c.args.self.now.below in
     let x = c.loop-turn.left in
     let ts = c.loop-turn.tokens in
-    let after_is = c.peek-after.ensures in
+    let is = c.role_of-role.ensures ∙ ap role_of c.peek.ensures in
     let e = one_more (λ n. climb (read_term c.args.self.now.below) (c.args.self.now.below + 1) c.args.least n c.loop-turn.left c.loop-turn.tokens) _ c.loop-turn._turn c.loop-turn-test.true c.loop-turn.invariant.same in
-    let tight : c.args.least < binds (first ts) = omega (arith, c.binds.ensures, ap binds after_is) in
-    let fits : place_before (first ts) ≤ level (tree_of x.part) = omega (arith, c.place_before.ensures, ap place_before after_is, c.level.ensures, ap (λ t. level (tree_of t)) c.get-in-loop-turn.ensures) in
+    let tight : c.args.least < binds (first ts) = omega (arith, c.binds.ensures, ap bound_by is) in
+    let fits : place_before (role_of (first ts)) ≤ level (tree_of x.part) = omega (arith, c.place_before.ensures, ap place_before is, c.level.ensures, ap (λ t. level (tree_of t)) c.get-in-loop-turn.ensures) in
     let fault = c.in_err-left.field-0.0 in
-    let here : Fails (longer_by below x (first ts) ts) fault.kind fault.line = subst (λ a. Fails (longer_by below x a ts) fault.kind fault.line) after_is c.in_err-left.ensures.value in
+    let here : Fails (longer_by below x (role_of (first ts)) ts) fault.kind fault.line = subst (λ a. Fails (longer_by below x a ts) fault.kind fault.line) is c.in_err-left.ensures.value in
     let h = subst (λ o. Fails o fault.kind fault.line) (sym e) (fails below (c.args.self.now.below + 1) c.args.least _ x ts tight fits fault.kind fault.line here) in
     search rules
 
@@ -45,12 +45,12 @@ returns-then-left-self-clause-value g c =
     let below = read_term c.args.self.now.below in
     let x = c.loop-turn.left in
     let ts = c.loop-turn.tokens in
-    let after_is = c.peek-after.ensures in
+    let is = c.role_of-role.ensures ∙ ap role_of c.peek.ensures in
     let e = one_more (λ n. climb (read_term c.args.self.now.below) (c.args.self.now.below + 1) c.args.least n c.loop-turn.left c.loop-turn.tokens) _ c.loop-turn._turn c.loop-turn-test.true c.loop-turn.invariant.same in
-    let tight : c.args.least < binds (first ts) = omega (arith, c.binds.ensures, ap binds after_is) in
-    let fits : place_before (first ts) ≤ level (tree_of x.part) = omega (arith, c.place_before.ensures, ap place_before after_is, c.level.ensures, ap (λ t. level (tree_of t)) c.get-in-loop-turn.ensures) in
+    let tight : c.args.least < binds (first ts) = omega (arith, c.binds.ensures, ap bound_by is) in
+    let fits : place_before (role_of (first ts)) ≤ level (tree_of x.part) = omega (arith, c.place_before.ensures, ap place_before is, c.level.ensures, ap (λ t. level (tree_of t)) c.get-in-loop-turn.ensures) in
     let y = c.in_ok-left.left in
-    let longer : longer_by below x (first ts) ts ≡ Ok (y, c.longer.new.tokens) = subst (λ a. longer_by below x a ts ≡ Ok (y, c.longer.new.tokens)) after_is c.in_ok-left.ensures.value in
+    let longer : longer_by below x (role_of (first ts)) ts ≡ Ok (y, c.longer.new.tokens) = subst (λ a. longer_by below x a ts ≡ Ok (y, c.longer.new.tokens)) is c.in_ok-left.ensures.value in
     rw c.too_deep.ensures (e ∙ too_high below (c.args.self.now.below + 1) c.args.least _ x ts tight fits y c.longer.new.tokens longer c.if-left-self.true)
 
 pub loop-turn-preserved : goal.loop-turn-preserved
@@ -58,10 +58,10 @@ loop-turn-preserved g c =
     let below = read_term c.args.self.now.below in
     let x = c.loop-turn.left in
     let ts = c.loop-turn.tokens in
-    let after_is = c.peek-after.ensures in
+    let is = c.role_of-role.ensures ∙ ap role_of c.peek.ensures in
     let e = one_more (λ n. climb (read_term c.args.self.now.below) (c.args.self.now.below + 1) c.args.least n c.loop-turn.left c.loop-turn.tokens) _ c.loop-turn._turn c.loop-turn-test.true c.loop-turn.invariant.same in
-    let tight : c.args.least < binds (first ts) = omega (arith, c.binds.ensures, ap binds after_is) in
-    let fits : place_before (first ts) ≤ level (tree_of x.part) = omega (arith, c.place_before.ensures, ap place_before after_is, c.level.ensures, ap (λ t. level (tree_of t)) c.get-in-loop-turn.ensures) in
+    let tight : c.args.least < binds (first ts) = omega (arith, c.binds.ensures, ap bound_by is) in
+    let fits : place_before (role_of (first ts)) ≤ level (tree_of x.part) = omega (arith, c.place_before.ensures, ap place_before is, c.level.ensures, ap (λ t. level (tree_of t)) c.get-in-loop-turn.ensures) in
     let y = c.in_ok-left.left in
-    let longer : longer_by below x (first ts) ts ≡ Ok (y, c.longer.new.tokens) = subst (λ a. longer_by below x a ts ≡ Ok (y, c.longer.new.tokens)) after_is c.in_ok-left.ensures.value in
+    let longer : longer_by below x (role_of (first ts)) ts ≡ Ok (y, c.longer.new.tokens) = subst (λ a. longer_by below x a ts ≡ Ok (y, c.longer.new.tokens)) is c.in_ok-left.ensures.value in
     record { same = e ∙ goes_on below (c.args.self.now.below + 1) c.args.least _ x ts tight fits y c.longer.new.tokens longer c.if-left-self.false; low = c.if-left-self.false }
