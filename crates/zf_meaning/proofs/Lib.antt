@@ -5,6 +5,7 @@ pub mod Stays
 pub mod Environments
 pub mod Worked
 pub mod NextRow
+pub mod Numeric
 pub mod AllRows
 pub mod PassedRows
 pub mod Told
