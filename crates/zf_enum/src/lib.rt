@@ -14,6 +14,7 @@ mod known;
 mod lack;
 pub mod laws;
 mod leaves;
+mod lifting;
 mod members;
 mod of_type;
 mod planting;

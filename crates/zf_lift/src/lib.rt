@@ -1,0 +1,9 @@
+//! Predicates that are tested again and again: what their closed parts come to is worked out once.
+#![tactic(auto)]
+
+mod liftable;
+mod lifted;
+mod lifting;
+mod unlifted;
+
+pub use lifted::{Lifted, lift};
