@@ -4,6 +4,7 @@
 mod bindings;
 mod bounding;
 mod candidates;
+mod closed;
 mod component;
 mod due;
 mod filters;

@@ -10,7 +10,7 @@ use zf_tree::tree::Sign;
 
 /// Whether the term is of a form that builds a value.
 #[tactic(auto, using(zf_term::proofs::ResolvedSeen::seen))]
-pub(crate) fn is_liftable(term: &Resolved<'_>) -> bool
+pub fn is_liftable(term: &Resolved<'_>) -> bool
     ensures { result ≡ spec.is_liftable (resolved_of term.now) }
 {
     match term {
@@ -29,7 +29,7 @@ pub(crate) fn is_liftable(term: &Resolved<'_>) -> bool
 }
 
 /// Whether what stands behind a relation is asked only for whether it has a member, and then need not be built: a family of sets behind a membership.
-pub(crate) fn is_asked(relation: Relation, term: &Resolved<'_>) -> bool {
+pub fn is_asked(relation: Relation, term: &Resolved<'_>) -> bool {
     match relation {
         Relation::Member => is_family(term),
         Relation::NotMember => is_family(term),
