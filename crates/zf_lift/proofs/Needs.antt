@@ -8,7 +8,7 @@ use Rattle.zf_term.specs.TermLaws.{references}
 use Rattle.zf_meaning.specs.Laws.{IsBelow, AreBelow, UsesFirst}
 use Rattle.zf_lift.specs.Needs.{place, need, all_need, links_need, ranges_need, part_need}
 
-greatest : List Reference → ℕ
+abbrev greatest : List Reference → ℕ
 greatest [] = 0
 greatest (r ∷ rs) = max (place r) (greatest rs)
 

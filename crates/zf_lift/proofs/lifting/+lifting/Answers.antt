@@ -32,7 +32,7 @@ pub rebuilt-returns-in-Constant-clause-closed : goal.rebuilt-returns-in-Constant
 rebuilt-returns-in-Constant-clause-closed t c = let i = c.in-Constant in λ h. arms.constant_closed _ i.line i.constant c.args.term.now i.is
 
 pub rebuilt-returns-in_ok-new-in-EmptySet-clause-same : goal.rebuilt-returns-in_ok-new-in-EmptySet-clause-same
-rebuilt-returns-in_ok-new-in-EmptySet-clause-same t c = let i = c.in-EmptySet in λ h. arms.empty_set _ _ _ i.line i.of _ _ c.in_ok-new-in-EmptySet.field-0 c.args.term.now i.is c.get-in-EmptySet.ensures c.in_ok-copy-in-EmptySet.ensures c.in_ok-new-in-EmptySet.ensures
+rebuilt-returns-in_ok-new-in-EmptySet-clause-same t c = let i = c.in-EmptySet in λ h. arms.empty_set _ _ _ i.line i.of _ _ c.in_ok-new-in-EmptySet.field-0 c.args.term.now i.is c.get.ensures c.in_ok-copy-in-EmptySet.ensures c.in_ok-new-in-EmptySet.ensures
 
 pub rebuilt-returns-in_ok-new-in-EmptySet-clause-closed : goal.rebuilt-returns-in_ok-new-in-EmptySet-clause-closed
 rebuilt-returns-in_ok-new-in-EmptySet-clause-closed t c = let i = c.in-EmptySet in λ h. arms.empty_set_closed _ i.line i.of c.args.term.now i.is
