@@ -1,4 +1,4 @@
--- Terms in which closed parts are names of what they come to, which stand behind all others. No public clause rests on this.
+-- Terms in which closed parts are names of what they come to, which stand behind all others. Public clauses rest on `is_liftable` alone.
 use Rattle.std.specs.Prelude.{◌≡◌, ◌≤◌, ℕ, Bool, true, false, List, []}
 use Rattle.zf_tree.specs.declared.operator.Operator.TheVariants as operator
 use Rattle.zf_tree.specs.declared.operator.Unary.TheVariants as the_unary

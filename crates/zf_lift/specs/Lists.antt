@@ -6,7 +6,6 @@ use Rattle.zf_meaning.specs.Environments.{Environment}
 use Rattle.zf_lift.specs.Lifted.{AreEach}
 use Rattle.zf_lift.specs.Lifts.{IsLift, IsClosed}
 
-
 abbrev pub AreAllLifts : Bool → Environment → Environment → List ResolvedTree → List ResolvedTree → Type 0
 AreAllLifts outside f e = AreEach (IsLift outside f e)
 

@@ -8,7 +8,6 @@ ghost use Rattle.zf_lift.specs.Lifted.{IsLonger};
 ghost use Rattle.zf_lift.specs.Lifts as spec;
 ghost use Rattle.zf_lift.specs.Lists.{IsRangeLift, IsLinkLift, IsRangeClosed, IsLinkClosed};
 
-
 use crate::liftable::{is_asked, is_liftable};
 use crate::unlifted::Unlifted;
 use bumpalo::Bump;

@@ -5,7 +5,6 @@ use Rattle.zf_lift.specs.Lifted.{IsLonger}
 use Rattle.std.proofs.lemmas.Result.{IfOk-weaker}
 use Rattle.zf_lift.specs.Lifts.{IsLift, IsClosed}
 use Rattle.zf_lift.specs.Lists.{IsRangeLift, IsLinkLift, IsRangeClosed, IsLinkClosed}
-
 use Rattle.zf_lift.proofs.Longer.{itself, further}
 use Rattle.zf_lift.proofs.Wherever.{lift_later, range_later, link_later, ranges_later, part_later, terms_lift, terms_closed, ranges_lift, ranges_closed, links_lift, links_closed}
 use Rattle.zf_lift.proofs.Arms as arms

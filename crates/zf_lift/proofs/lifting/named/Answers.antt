@@ -6,7 +6,6 @@ use Rattle.zf_reference.specs.declared.reference.Reference.TheVariants.{Global}
 use Rattle.zf_meaning.specs.Envs.{environment_of}
 use Rattle.zf_value.proofs.Regulars.{regular-nothing}
 use Rattle.zf_lift.specs.Lifts.{IsLift}
-
 use Rattle.zf_lift.proofs.Wherever.{named_lift}
 use Rattle.zf_lift.proofs.lifting.named.Goals as goal
 
