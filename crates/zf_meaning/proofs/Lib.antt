@@ -3,6 +3,7 @@ pub mod SameRows
 pub mod SameLocals
 pub mod Stays
 pub mod Environments
+pub mod Fronts
 pub mod Worked
 pub mod NextRow
 pub mod Numeric
