@@ -13,7 +13,7 @@ ghost use Rattle.zf_enum.specs.Starts.{Begins, Refuses};
 use crate::component::ranges;
 use crate::known::Known;
 use crate::planting::{Planting, plant_all};
-use crate::property::Property;
+use crate::property::{Property, dues};
 use crate::search::Search;
 use crate::start_fault::StartFault;
 use bumpalo::Bump;
@@ -48,9 +48,11 @@ impl<'s, 'e, 'g, 'a> Instances<'s, 'e, 'g, 'a> {
         let ranges = ranges(alloc, arena, flat.components.as_slice(), env)?;
         let planting = plant_all(alloc, arena, flat.conjuncts.as_slice())?;
         let Planting { leaves, forest } = planting;
+        let dues = dues(alloc, &leaves)?;
         let property = Property {
             conjuncts: leaves,
             env,
+            dues,
         };
         let search = zf_plan::Search::start(alloc, property, forest, ranges, after)?;
         Ok(Instances { search })
