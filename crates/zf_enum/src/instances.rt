@@ -48,10 +48,7 @@ impl<'s, 'e, 'g, 'a> Instances<'s, 'e, 'g, 'a> {
         let ranges = ranges(alloc, arena, flat.components.as_slice(), env)?;
         let planting = plant_all(alloc, arena, flat.conjuncts.as_slice())?;
         let Planting { leaves, forest } = planting;
-        let property = Property {
-            conjuncts: leaves,
-            env,
-        };
+        let property = Property::new(alloc, leaves, env)?;
         let search = zf_plan::Search::start(alloc, property, forest, ranges, after)?;
         Ok(Instances { search })
     }

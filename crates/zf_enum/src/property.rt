@@ -8,7 +8,7 @@ use crate::due::{due, uses};
 use crate::fixing::fixing;
 use crate::known::Known;
 use crate::shown::{Shown, meet};
-use std::alloc::AllocError;
+use std::alloc::{AllocError, Global};
 use zf_meaning::env::Env;
 use zf_meaning::value::truth_of;
 use zf_plan::Guide;
@@ -21,7 +21,28 @@ use zf_walk::{Judge, Range, Row, Truth};
 pub struct Property<'e, 'g, 'a> {
     pub conjuncts: Vec<Resolved<'a>>,
     pub env: &'e Env<'g, 'a>,
+    /// How many first components each conjunct needs.
+    dues: Vec<usize>,
     ghost small: { (c : ℕ) → due_of (slice_get (map resolved_of conjuncts.items) c) < 2 ^ 64 },
+}
+
+impl<'e, 'g, 'a> Property<'e, 'g, 'a> {
+    pub fn new(
+        alloc: Global,
+        conjuncts: Vec<Resolved<'a>>,
+        env: &'e Env<'g, 'a>,
+    ) -> Result<Property<'e, 'g, 'a>, AllocError>
+    {
+        let mut dues = Vec::with_capacity(alloc, conjuncts.len())?;
+        for conjunct in &conjuncts {
+            dues.push(due(conjunct))?;
+        }
+        Ok(Property {
+            conjuncts,
+            env,
+            dues,
+        })
+    }
 }
 
 impl<'e, 'g, 'a> Judge<Known> for Property<'e, 'g, 'a> {
@@ -44,7 +65,7 @@ impl<'e, 'g, 'a> Judge<Known> for Property<'e, 'g, 'a> {
     }
 
     fn due(&self, conjunct: usize) -> usize {
-        due(&self.conjuncts[conjunct])
+        self.dues[conjunct]
     }
 
     fn uses(&self, conjunct: usize, component: usize) -> bool {

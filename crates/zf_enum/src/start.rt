@@ -40,7 +40,8 @@ impl<'s, 'e, 'g, 'a> Bindings<'s, 'e, 'g, 'a> {
     {
         let ranges = ranges(alloc, arena, flat.components.as_slice(), env)?;
         let conjuncts = resolved(alloc, arena, flat.conjuncts.as_slice())?;
-        Ok(Bindings::over(alloc, Property { conjuncts, env }, ranges, after)?)
+        let property = Property::new(alloc, conjuncts, env)?;
+        Ok(Bindings::over(alloc, property, ranges, after)?)
     }
 }
 

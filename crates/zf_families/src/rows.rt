@@ -163,7 +163,7 @@ pub fn is_apart(p: &Value, row: &[Value]) -> bool
     ensures { result ≡ rows.fits_apart p.now row.now }
 {
     for q in row {
-        if second(p).cmp(second(q)).is_eq() {
+        if second(p).equals(second(q)) {
             return false;
         }
     }

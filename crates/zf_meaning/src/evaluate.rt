@@ -16,6 +16,7 @@ mod binders;
 mod chains;
 pub(crate) mod early;
 pub(crate) mod memberships;
+mod numeric;
 mod operands;
 mod ranges;
 
@@ -137,6 +138,14 @@ fn global<'v>(env: &'v Env<'_, '_>, place: usize) -> Found<'v>
     match env.outcome(place) {
         Some(outcome) => Found::seen(outcome),
         None => Found::Undefined,
+    }
+}
+
+/// The value of a global, if it is one.
+fn global_value<'v>(env: &'v Env<'_, '_>, place: usize) -> Option<&'v Value> {
+    match env.outcome(place) {
+        Some(Outcome::Is(value)) => Some(value),
+        _ => None,
     }
 }
 

@@ -14,6 +14,7 @@ ghost use Rattle.zf_meaning.specs.Meaning as spec;
 ghost use Rattle.zf_meaning.specs.Scopes.{scope_of, IsRegularScope};
 
 use super::memberships::described;
+use super::numeric::compared;
 use super::outcome;
 use crate::connected::conjunction;
 use crate::described::membership;
@@ -44,6 +45,9 @@ pub(super) fn chain<'v, 'a, R: Row>(
     let Resolved::Chain(_, first, links) = term else {
         unreachable!();
     };
+    if let Some(told) = compared(first.get(), links.as_slice(), row, locals, env) {
+        return Ok(told);
+    }
     let first = outcome(first.get(), row, locals, env)?;
     linked(links.as_slice(), first, row, locals, env)
 }
