@@ -15,6 +15,7 @@ use crate::forest::Forest;
 use crate::guide::Guide;
 use crate::node::Node;
 use std::alloc::AllocError;
+use crate::told::Told;
 use zf_walk::{Range, Truth};
 
 /// Gathers the places that a tree leaves to the next component: of a conjunction those of a side, of a disjunction those of both. Answers false where it doesn't say.
@@ -24,7 +25,7 @@ fn gather<V: Ord, J: Guide<V>>(
     ranges: &[Range<V>],
     places: &[usize],
     part: usize,
-    told: &mut [Option<Truth>],
+    told: &mut Told,
     gathered: &mut Vec<usize>,
 ) -> Result<bool, AllocError>
     requires part { part < length (trees_made forest.now) }
@@ -73,7 +74,7 @@ fn gather_first<V: Ord, J: Guide<V>>(
     ranges: &[Range<V>],
     places: &[usize],
     conjuncts: &[usize],
-    told: &mut [Option<Truth>],
+    told: &mut Told,
     gathered: &mut Vec<usize>,
 ) -> Result<bool, AllocError>
     requires conjuncts { AreBelow (length (trees_of forest.now)) conjuncts.now }
@@ -105,7 +106,7 @@ pub fn choose<V: Ord, J: Guide<V>>(
     ranges: &[Range<V>],
     places: &[usize],
     conjuncts: &[usize],
-    told: &mut [Option<Truth>],
+    told: &mut Told,
     choice: &mut Choice,
 ) -> Result<(), AllocError>
     requires conjuncts { AreBelow (length (trees_of forest.now)) conjuncts.now }

@@ -11,7 +11,8 @@ use crate::forest::Forest;
 use crate::known::{both, conjoin, either, not};
 use crate::node::Node;
 use std::alloc::AllocError;
-use zf_walk::{Judge, Picked, Range, Truth};
+use crate::told::Told;
+use zf_walk::{Judge, Range, Truth};
 
 /// What is known of a leaf.
 fn look<V, J: Judge<V>>(
@@ -19,7 +20,7 @@ fn look<V, J: Judge<V>>(
     ranges: &[Range<V>],
     places: &[usize],
     of: usize,
-    told: &mut [Option<Truth>],
+    told: &mut Told,
 ) -> Result<Option<Truth>, AllocError>
     requires of { of < (J.conjuncts judge.now).number }
     requires within { AreWithin ranges.now places.now }
@@ -31,12 +32,11 @@ fn look<V, J: Judge<V>>(
     if due > places.len() {
         return Ok(None);
     }
-    match told[of] {
+    match told.leaves[of] {
         Some(truth) => Ok(Some(truth)),
         None => {
-            let row = Picked::new(ranges, &places[..due]);
-            let truth = judge.judge(of, &row)?;
-            told[of] = Some(truth);
+            let truth = told.tables.truth_of(judge, ranges, of, &places[..due])?;
+            told.leaves[of] = Some(truth);
             Ok(Some(truth))
         }
     }
@@ -49,7 +49,7 @@ pub fn evaluate<V, J: Judge<V>>(
     ranges: &[Range<V>],
     places: &[usize],
     part: usize,
-    told: &mut [Option<Truth>],
+    told: &mut Told,
 ) -> Result<Option<Truth>, AllocError>
     requires part { part < length (trees_made forest.now) }
     requires leaves { HasLeavesWithin (J.conjuncts judge.now).number (tree_at (trees_made forest.now) part) }
@@ -87,7 +87,7 @@ fn known_of<V, J: Judge<V>>(
     ranges: &[Range<V>],
     places: &[usize],
     conjunct: usize,
-    told: &mut [Option<Truth>],
+    told: &mut Told,
 ) -> Result<Option<Truth>, AllocError>
     requires conjunct { conjunct < length (trees_of forest.now) }
     requires leaves { HaveLeavesWithin (J.conjuncts judge.now).number (trees_of forest.now) }
@@ -107,7 +107,7 @@ pub fn is_refuted<V, J: Judge<V>>(
     ranges: &[Range<V>],
     places: &[usize],
     conjuncts: &[usize],
-    told: &mut [Option<Truth>],
+    told: &mut Told,
 ) -> Result<bool, AllocError>
     requires conjuncts { AreBelow (length (trees_of forest.now)) conjuncts.now }
     requires leaves { HaveLeavesWithin (J.conjuncts judge.now).number (trees_of forest.now) }
@@ -133,7 +133,7 @@ fn truth_of<V, J: Judge<V>>(
     ranges: &[Range<V>],
     places: &[usize],
     conjunct: usize,
-    told: &mut [Option<Truth>],
+    told: &mut Told,
 ) -> Result<Truth, AllocError>
     requires due { AreDueWithin (J.conjuncts judge.now) (length places.now) }
     requires conjunct { conjunct < length (trees_of forest.now) }
@@ -156,7 +156,7 @@ pub fn truth_of_all<V, J: Judge<V>>(
     forest: &Forest,
     ranges: &[Range<V>],
     places: &[usize],
-    told: &mut [Option<Truth>],
+    told: &mut Told,
 ) -> Result<Truth, AllocError>
     requires due { AreDueWithin (J.conjuncts judge.now) (length places.now) }
     requires leaves { HaveLeavesWithin (J.conjuncts judge.now).number (trees_of forest.now) }

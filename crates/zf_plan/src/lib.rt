@@ -15,6 +15,7 @@ mod place;
 mod plan;
 mod search;
 mod steps;
+mod told;
 
 pub use forest::Forest;
 pub use guide::Guide;

@@ -5,6 +5,7 @@ ghost use Rattle.zf_plan.specs.Places.{IsAt, Forgets, Lands, LandsNext};
 
 use crate::choice::Choice;
 use crate::place::Place;
+use crate::told::Told;
 use zf_walk::{Agenda, Judge, Range, Truth};
 
 /// Goes to the value at place `i` of range `k`, or past the row before it where the range ends before.
@@ -29,12 +30,12 @@ pub fn descend<V, J: Judge<V>>(
     agenda: &Agenda,
     choices: &[Choice],
     place: &mut Place,
-    told: &mut [Option<Truth>],
+    told: &mut Told,
 )
     requires agenda { IsAgenda (J.conjuncts judge.now) (length ranges.now) agenda.now }
     requires at { IsAt ranges.now place.old }
     requires deeper { place.old.depth < length ranges.now }
-    requires all { length told.old ≡ (J.conjuncts judge.now).number }
+    requires all { length told.old.leaves.items ≡ (J.conjuncts judge.now).number }
     requires choices { length choices.now ≡ length ranges.now }
     ensures forgets { Forgets (J.conjuncts judge.now) (place.old.depth + 1) told.old told.new }
     ensures lands { LandsNext (length (slice_index_or ranges.now place.old.depth [])) (slice_index_or choices.now place.old.depth None) place.old.depth 0 place.old place.new }
@@ -55,12 +56,12 @@ pub fn retreat<V, J: Judge<V>>(
     agenda: &Agenda,
     choices: &[Choice],
     place: &mut Place,
-    told: &mut [Option<Truth>],
+    told: &mut Told,
 )
     requires agenda { IsAgenda (J.conjuncts judge.now) (length ranges.now) agenda.now }
     requires at { IsAt ranges.now place.old }
     requires below { 0 < place.old.depth }
-    requires all { length told.old ≡ (J.conjuncts judge.now).number }
+    requires all { length told.old.leaves.items ≡ (J.conjuncts judge.now).number }
     requires choices { length choices.now ≡ length ranges.now }
     ensures forgets { Forgets (J.conjuncts judge.now) place.old.depth told.old told.new }
     ensures lands { LandsNext (length (slice_index_or ranges.now (place.old.depth - 1) [])) (slice_index_or choices.now (place.old.depth - 1) None) (place.old.depth - 1) (slice_index_or place.old.places.items (place.old.depth - 1) 0 + 1) place.old place.new }
@@ -81,16 +82,16 @@ fn forget<V, J: Judge<V>>(
     agenda: &Agenda,
     components: usize,
     due: usize,
-    told: &mut [Option<Truth>],
+    told: &mut Told,
 )
     requires agenda { IsAgenda (J.conjuncts judge.now) components agenda.now }
     requires due { due ≤ components }
-    requires all { length told.old ≡ (J.conjuncts judge.now).number }
+    requires all { length told.old.leaves.items ≡ (J.conjuncts judge.now).number }
     ensures { Forgets (J.conjuncts judge.now) due told.old told.new }
 {
     let mut leaf = agenda.firsts[due];
-    while leaf < told.len() {
-        told[leaf] = None;
+    while leaf < told.leaves.len() {
+        told.leaves[leaf] = None;
         leaf = agenda.nexts[leaf];
     }
 }

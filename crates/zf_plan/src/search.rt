@@ -15,7 +15,8 @@ use crate::plan::Plan;
 use crate::steps::next_answer;
 use std::alloc::{AllocError, Global};
 use std::marker::Model;
-use zf_walk::{Range, Row, Step, Truth, pick};
+use crate::told::Told;
+use zf_walk::{Range, Row, Step, Tables, pick};
 
 /// A search over the rows of some ranges, in ascending order, for those on which no conjunct is False. It passes over rows that hold none, and takes no memory of its own once it stands.
 #[derive(Drop)]
@@ -27,7 +28,7 @@ pub struct Search<'a, V: Ord, J: Guide<V>> {
     plan: Plan,
     place: Place,
     /// For each leaf its truth on the bound values, where it was asked for.
-    told: Vec<Option<Truth>>,
+    told: Told,
     /// For each range which of its values are tried.
     choices: Vec<Choice>,
     /// Whether the place is that of a row that the last step gave.
@@ -66,7 +67,7 @@ impl<'a, V: Ord + Drop, J: Guide<V> + Drop> Search<'a, V, J> {
     {
         let plan = Plan::new(alloc, &judge, &forest, ranges.len())?;
         let places = vec![in alloc; 0; ranges.len()]?;
-        let told = vec![in alloc; None; judge.count()]?;
+        let told = Told { leaves: vec![in alloc; None; judge.count()]?, tables: Tables::new(alloc, &judge, &ranges)? };
         let choices = all_chosen(alloc, ranges.len())?;
         let place = Place {
             places,

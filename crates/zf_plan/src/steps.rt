@@ -20,6 +20,7 @@ use crate::moves::{descend, retreat};
 use crate::place::Place;
 use crate::plan::Plan;
 use std::alloc::AllocError;
+use crate::told::Told;
 use zf_walk::{Range, Step, Truth, is_reached};
 
 /// Whether it is known that the rows which begin with the bound values hold no event.
@@ -30,7 +31,7 @@ fn is_hopeless<V: Ord, J: Guide<V>>(
     after: Option<&[V]>,
     plan: &Plan,
     places: &[usize],
-    told: &mut [Option<Truth>],
+    told: &mut Told,
 ) -> Result<bool, AllocError>
     requires sound { IsSound V.cmp (J.conjuncts judge.now) (trees_of forest.now) ranges.now (option_copied after) plan.now }
     requires within { AreWithin ranges.now places.now }
@@ -53,7 +54,7 @@ fn choose_next<V: Ord, J: Guide<V>>(
     ranges: &[Range<V>],
     plan: &Plan,
     places: &[usize],
-    told: &mut [Option<Truth>],
+    told: &mut Told,
     choice: &mut Choice,
 ) -> Result<(), AllocError>
     requires due { AreDueWithin (J.conjuncts judge.now) (length ranges.now) }
@@ -86,7 +87,7 @@ fn step_on<V: Ord, J: Guide<V>>(
     after: Option<&[V]>,
     plan: &Plan,
     place: &mut Place,
-    told: &mut [Option<Truth>],
+    told: &mut Told,
     choices: &mut [Choice],
 ) -> Result<Option<Step>, AllocError>
     requires sound { IsSound V.cmp (J.conjuncts judge.now) (trees_of forest.now) ranges.now (option_copied after) plan.now }
@@ -147,7 +148,7 @@ pub fn next_answer<V: Ord, J: Guide<V>>(
     after: Option<&[V]>,
     plan: &Plan,
     place: &mut Place,
-    told: &mut [Option<Truth>],
+    told: &mut Told,
     choices: &mut [Choice],
 ) -> Result<Step, AllocError>
     requires sound { IsSound V.cmp (J.conjuncts judge.now) (trees_of forest.now) ranges.now (option_copied after) plan.now }

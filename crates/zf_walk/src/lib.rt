@@ -25,4 +25,5 @@ pub use range::Range;
 pub use reach::is_reached;
 pub use row::Row;
 pub use step::Step;
+pub use tables::Tables;
 pub use walk::Walk;
