@@ -1,0 +1,4 @@
+pub mod Walked
+pub mod Seen
+pub mod Making
+pub mod Counting
