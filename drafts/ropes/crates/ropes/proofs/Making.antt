@@ -1,6 +1,6 @@
 -- What each list of conjuncts holds, what is still ahead of a walk over one, and how much that is.
 use Rattle.std.proofs.Common.{◌≡◌, ◌<◌, ◌≤◌, ℕ, ◌+◌, List, [], ◌∷◌, ◌++◌, map, sym, ap, ◌∙◌, append_assoc, arith}
-use Rattle.std.proofs.lemmas.List.{append-nil}
+use Rattle.std.proofs.lemmas.List.{append-nil, map-append}
 use denote.Bor.{Bor}
 use Rattle.ropes.specs.declared.term.Term.{Term}
 use Rattle.ropes.specs.declared.conjuncts.Conjuncts.{Conjuncts, fold-Conjuncts}

@@ -25,5 +25,5 @@ pub loop-piece-preserved : goal.loop-piece-preserved
 loop-piece-preserved g c =
     let is = c.in-Both.is ∙ ap (λ l. v.Both l c.in-Both.right) (sym c.get-in-Both-2.ensures) ∙ ap (λ r. v.Both c.get-in-Both-2.result.now r) (sym c.get-in-Both.ensures) in
     let two = c.in_ok-push-in-Both-2.ensures.items ∙ ap (λ ps. ps ++ c.get-in-Both-2.result ∷ []) c.in_ok-push-in-Both.ensures.items in
-    ap (λ ps. all_of c.loop-piece.into.items ++ ahead_of ps) (two ∙ both-next c.pop.new.self.items c.in-Some.piece c.get-in-Both-2.result c.get-in-Both.result is ∙ sym c.in-Some.ensures.items)
+    ap (λ xs. all_of c.loop-piece.into.items ++ xs) (ap ahead_of two ∙ both-next c.pop.new.self.items c.in-Some.piece c.get-in-Both-2.result c.get-in-Both.result is ∙ ap ahead_of (sym c.in-Some.ensures.items))
     ∙ c.loop-piece.invariant
