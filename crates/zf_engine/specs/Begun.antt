@@ -10,4 +10,4 @@ use Rattle.zf_engine.specs.declared.begin.Begun.TheVariants.{Walked, Planted}
 
 abbrev pub IsBegun : Environment → Schema → (after : Option (List Value)) → Begun → Type 0
 IsBegun e s after (Walked b) = Begins e s after (counted_goal b.walk) b.walk.stage
-IsBegun e s after (Planted i) = Begins e s after (planted_goal i.search) i.search.stage
+IsBegun e s after (Planted i) = Begins e s after (planted_goal i.names i.search) i.search.stage

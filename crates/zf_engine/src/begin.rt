@@ -63,7 +63,7 @@ fn begin_planted<'s, 'e, 'g, 'a>(
     requires finite { IsFinite (environment_of env.now).globals (schema_of flat.now) }
     requires named { HasLength (option_copied after) (length (schema_of flat.now).comps) }
     requires due { AreDueWithin (property (environment_of env.now) (schema_of flat.now).conjuncts) (length (schema_of flat.now).comps) }
-    ensures begins { IfOk result (λ i. Begins (environment_of env.now) (schema_of flat.now) (option_copied after.entry) (planted_goal i.search) i.search.stage) }
+    ensures begins { IfOk result (λ i. Begins (environment_of env.now) (schema_of flat.now) (option_copied after.entry) (planted_goal i.names i.search) i.search.stage) }
     ensures stop { IfErr result (λ s. IfAnswered s (TellsOut (environment_of env.now) (schema_of flat.now).comps)) }
 {
     match Instances::start(alloc, arena, flat, env, after) {

@@ -12,6 +12,7 @@ pub mod Typed
 pub mod Resolved
 pub mod Started
 pub mod Planted
+pub mod Naming
 pub mod Fixed
 pub mod Trying
 pub mod Equations

@@ -1,5 +1,5 @@
 -- What a search for bindings is seen as.
-use Rattle.std.specs.Prelude.{List, Option, Some, None, map}
+use Rattle.std.specs.Prelude.{ℕ, List, Option, Some, None, map, take}
 use Rattle.zf_term.specs.ResolvedTrees.{ResolvedTree, resolved_of}
 use Rattle.zf_value.specs.declared.value.Value.{Value}
 use Rattle.zf_walk.specs.Conjuncts.{Conjuncts}
@@ -12,9 +12,10 @@ use Rattle.zf_meaning.specs.Envs.{environment_of}
 use Rattle.zf_enum.specs.declared.property.Property as judge
 use Rattle.zf_enum.specs.Property.{property}
 
--- What a search goes by: predicates in an environment, which are its conjuncts or, where there are trees, the leaves of them.
+-- What a search goes by: predicates, which are its conjuncts or, where there are trees, the leaves of them. They stand in an environment that may have names behind those of the schema's.
 pub record Goal : Type 0 where
   pub environment : Environment
+  pub further : Environment
   pub predicates : List ResolvedTree
   pub trees : Option (List Tree)
 
@@ -24,20 +25,25 @@ over s None = s
 over s (Some trees) = planted s trees
 
 abbrev pub conjuncts_of : Goal → Conjuncts Value
-conjuncts_of g = over (property g.environment g.predicates) g.trees
+conjuncts_of g = over (property g.further g.predicates) g.trees
 
 -- the conjuncts that a property has
 abbrev pub judged : judge.Property → Conjuncts Value
 judged p = property (environment_of p.env.now) (map resolved_of p.conjuncts.items)
 
--- by the predicates of a property
-abbrev pub goal_of : judge.Property → Option (List Tree) → Goal
-goal_of p trees = record { environment = environment_of p.env.now; predicates = map resolved_of p.conjuncts.items; trees = trees }
-
 -- a search that counts its tests goes by predicates
 abbrev pub counted_goal : walk.Progress Value judge.Property → Goal
-counted_goal w = goal_of w.judge None
+counted_goal w = record { environment = environment_of w.judge.env.now; further = environment_of w.judge.env.now; predicates = map resolved_of w.judge.conjuncts.items; trees = None }
 
--- one that counts none goes by trees
-abbrev pub planted_goal : plan.Progress Value judge.Property → Goal
-planted_goal s = goal_of s.judge (Some (trees_of s.forest))
+-- the environment of its first n names
+abbrev pub with_first : ℕ → Environment → Environment
+with_first n e = record { globals = e.globals; sizes = e.sizes; outcomes = take n e.outcomes }
+
+-- one that counts none goes by trees, and the schema's are the first names
+abbrev pub planted_goal : ℕ → plan.Progress Value judge.Property → Goal
+planted_goal names s = record {
+  environment = with_first names (environment_of s.judge.env.now);
+  further = environment_of s.judge.env.now;
+  predicates = map resolved_of s.judge.conjuncts.items;
+  trees = Some (trees_of s.forest);
+}

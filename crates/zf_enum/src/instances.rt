@@ -12,6 +12,7 @@ ghost use Rattle.zf_enum.specs.Starts.{Begins, Refuses};
 
 use crate::component::ranges;
 use crate::known::Known;
+use crate::lifting::lifted;
 use crate::planting::{Planting, plant_all};
 use crate::property::Property;
 use crate::search::Search;
@@ -24,10 +25,12 @@ use zf_term::globals::Flat;
 use zf_value::value::Value;
 use zf_walk::Step;
 
-/// The bindings of a schema that are not False, one after another in ascending order. Rows that hold none are passed over, and no test is counted.
+/// The bindings of a schema that are not False, one after another in ascending order. Rows that hold none are passed over, and no test is counted. Closed parts of the schema's conjuncts are worked out once, at the start.
 #[derive(Drop)]
 pub struct Instances<'s, 'e, 'g, 'a> {
     search: zf_plan::Search<'s, Known, Property<'e, 'g, 'a>>,
+    /// How many names the environment of the schema has.
+    names: usize,
 }
 
 impl<'s, 'e, 'g, 'a> Instances<'s, 'e, 'g, 'a> {
@@ -42,18 +45,16 @@ impl<'s, 'e, 'g, 'a> Instances<'s, 'e, 'g, 'a> {
         requires finite { IsFinite (environment_of env.now).globals (schema_of flat.now) }
         requires named { HasLength (option_copied after) (length (schema_of flat.now).comps) }
         requires due { AreDueWithin (property (environment_of env.now) (schema_of flat.now).conjuncts) (length (schema_of flat.now).comps) }
-        ensures begins { IfOk result (λ i. Begins (environment_of env.now) (schema_of flat.now) (option_copied after.entry) (planted_goal i.search) i.search.stage) }
+        ensures begins { IfOk result (λ i. Begins (environment_of env.now) (schema_of flat.now) (option_copied after.entry) (planted_goal i.names i.search) i.search.stage) }
         ensures refused { IfErr result (Refuses (environment_of env.now) (schema_of flat.now).comps) }
     {
         let ranges = ranges(alloc, flat.components.as_slice(), env)?;
         let planting = plant_all(alloc, arena, flat.conjuncts.as_slice())?;
         let Planting { leaves, forest } = planting;
-        let property = Property {
-            conjuncts: leaves,
-            env,
-        };
+        let property = lifted(alloc, arena, leaves, env)?;
         let search = zf_plan::Search::start(alloc, property, forest, ranges, after)?;
-        Ok(Instances { search })
+        let names = env.count();
+        Ok(Instances { search, names })
     }
 }
 
@@ -76,7 +77,7 @@ impl<'s, 'e, 'g, 'a> Search for Instances<'s, 'e, 'g, 'a> {
     ghost use Rattle.std.proofs.Common.{refl};
     ghost use Rattle.zf_enum.specs.Searches.{planted_goal};
 
-    ghost goal = { λ i. planted_goal i.search };
+    ghost goal = { λ i. planted_goal i.names i.search };
 
     ghost stage = { λ i. i.search.stage };
 

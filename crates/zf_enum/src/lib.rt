@@ -4,6 +4,7 @@
 mod bindings;
 mod bounding;
 mod candidates;
+mod closed;
 mod component;
 mod due;
 mod filters;
@@ -14,6 +15,7 @@ mod known;
 mod lack;
 pub mod laws;
 mod leaves;
+mod lifting;
 mod members;
 mod of_type;
 mod planting;

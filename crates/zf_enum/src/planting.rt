@@ -5,6 +5,7 @@ ghost use Rattle.zf_term.specs.ResolvedTrees.{resolved_of};
 ghost use Rattle.zf_plan.specs.Groves.{trees_of};
 ghost use Rattle.zf_enum.specs.Planting.{Plants, PlantsNext, ArePlanted};
 
+use crate::closed::has_closed_part;
 use crate::due::last;
 use crate::fixing::fixing;
 use bumpalo::Bump;
@@ -25,7 +26,7 @@ pub(crate) struct Planting<'a> {
     pub(crate) forest: Forest,
 }
 
-/// Whether a search over trees is likely to be the faster one: some conjunct has two sides, which it asks apart, or fixes a component. No contract says so: it decides how is searched, and nothing that is found.
+/// Whether a search over trees is likely to be the faster one: some conjunct has two sides, which it asks apart, fixes a component, or has a closed part, which it works out once. No contract says so: it decides how is searched, and nothing that is found.
 pub fn gains_by_trees<'a>(
     alloc: Global,
     arena: &'a Bump,
@@ -36,7 +37,7 @@ pub fn gains_by_trees<'a>(
         return Ok(true);
     }
     for leaf in &planting.leaves {
-        if fixes_its_last(leaf) {
+        if fixes_its_last(leaf) || has_closed_part(leaf) {
             return Ok(true);
         }
     }

@@ -1,12 +1,13 @@
 -- The order of values, and lists that ascend in it.
-use Rattle.std.proofs.Common.{◌≡◌, List, [], ◌∷◌, map, refl, sym, ap, ◌∙◌, inl, inr, ⊎_elim, Less}
-use Rattle.std.specs.Ordering.{ordering_reverse, ordering_then}
+use Rattle.std.proofs.Common.{◌≡◌, ◌↔◌, Bool, true, false, IsTrue, ap₂, List, [], ◌∷◌, map, refl, sym, ap, ◌∙◌, inl, inr, ⊎_elim, Less}
+use Rattle.std.specs.Ordering.{is_eq, ordering_reverse, ordering_then}
 use Rattle.std.proofs.lemmas.Cmp.{tied_itself}
 use Rattle.zf_value.specs.declared.value.Value.{Value}
 use Rattle.zf_value.specs.contracts.value.ValueOrd.TheImpl.Laws.{total-law}
 use Rattle.zf_value.specs.Sets.{value_order, row_order, IsMember, Every, IsAscending, parts}
 use Rattle.zf_value.specs.Operations.{pair}
 use Rattle.zf_value.proofs.Seen.{parts-Tuple}
+use Rattle.zf_value.proofs.Exact.{ties}
 use Rattle.zf_value.proofs.Among.{every_from, every_at, not_below_itself}
 use Rattle.zf_families.proofs.Told.{tuple_order}
 
@@ -24,6 +25,16 @@ from_member_map f (y ∷ xs) z m = ⊎_elim (λ s. (y, s, inl refl)) (λ n. let 
 
 pub not_both : (x y : Value) → value_order x y ≡ Less → value_order y x ≡ Less → ⊥
 not_both x y e f = let r = total-law.antisymm x y ∙ ap ordering_reverse f in (cc)
+
+same-test : (b d : Bool) (P : Type 0) → (IsTrue b ↔ P) → (IsTrue d ↔ P) → b ≡ d
+same-test true true P h k = refl
+same-test true false P h k = sym (k.1 (h.0 refl))
+same-test false true P h k = h.1 (k.0 refl)
+same-test false false P h k = refl
+
+-- a test whether two values are one, as the order tells it
+pub tied : (b : Bool) (v w x y : Value) → v ≡ x → w ≡ y → (IsTrue b ↔ (v ≡ w)) → b ≡ is_eq (value_order x y)
+tied b v w x y e f h = same-test b (is_eq (value_order v w)) (v ≡ w) h (ties v w) ∙ ap₂ (λ (a c : Value). is_eq (value_order a c)) e f
 
 -- of an ascending list the first is below each other member, and so is none of them
 pub below_rest : (x : Value) (xs : List Value) (z : Value) → IsAscending (x ∷ xs) → IsMember z xs → value_order x z ≡ Less

@@ -1,7 +1,9 @@
 //! Rows that take an item of each of some layers, and the sets that are made of them.
 ghost use Rattle.std.specs.Prelude.{◌≡◌, ◌<◌, [], ◌∷◌, ◌++◌, map, drop, vec_len, IfOk, OnOk};
 ghost use Rattle.std.specs.List.{flat_map};
+ghost use Rattle.std.specs.Ordering.{is_eq};
 ghost use Rattle.zf_value.specs.Operations.{pair};
+ghost use Rattle.zf_value.specs.Sets.{value_order};
 ghost use Rattle.zf_families.specs.Selections as rows;
 ghost use Rattle.zf_families.specs.Selections.{fitting, extended, extensions, whole, some, singles, pairs};
 
@@ -163,11 +165,18 @@ pub fn is_apart(p: &Value, row: &[Value]) -> bool
     ensures { result ≡ rows.fits_apart p.now row.now }
 {
     for q in row {
-        if second(p).cmp(second(q)).is_eq() {
+        if have_one_second(p, q) {
             return false;
         }
     }
     true
+}
+
+/// Whether the seconds of two pairs are one.
+fn have_one_second(p: &Value, q: &Value) -> bool
+    ensures { result ≡ is_eq (value_order (rows.second p.now) (rows.second q.now)) }
+{
+    second(p).equals(second(q))
 }
 
 /// The second of a pair; of what is no pair, that itself.

@@ -3,8 +3,10 @@ pub mod SameRows
 pub mod SameLocals
 pub mod Stays
 pub mod Environments
+pub mod Fronts
 pub mod Worked
 pub mod NextRow
+pub mod Numeric
 pub mod AllRows
 pub mod PassedRows
 pub mod Told

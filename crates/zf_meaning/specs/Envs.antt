@@ -1,7 +1,13 @@
 -- The program's environments as environments.
+use Rattle.std.specs.Prelude.{List, ◌++◌}
 use Rattle.zf_term.specs.Definitions.{globals_of}
+use Rattle.zf_value.specs.declared.value.Outcome.{Outcome}
 use Rattle.zf_meaning.specs.declared.env.Env.{Env}
 use Rattle.zf_meaning.specs.Environments.{Environment}
 
 abbrev pub environment_of : Env → Environment
 environment_of e = record { globals = globals_of e.globals.now; sizes = e.sizes.items; outcomes = e.outcomes }
+
+-- the environment in which further names, behind all others, have these outcomes
+abbrev pub longer : Environment → List Outcome → Environment
+longer e os = record { globals = e.globals; sizes = e.sizes; outcomes = e.outcomes ++ os }

@@ -1,7 +1,7 @@
 //! Environments: the globals, with the sizes of given sets and free types, and the outcome of each.
-ghost use Rattle.std.specs.Prelude.{◌≡◌, None, Some, IfOk, IfErr, MatchOption, OnOk, slice_get};
+ghost use Rattle.std.specs.Prelude.{◌≡◌, [], ◌∷◌, None, Some, IfOk, IfErr, MatchOption, OnOk, length, slice_get};
 ghost use Rattle.zf_term.specs.Definitions.{globals_of};
-ghost use Rattle.zf_meaning.specs.Envs.{environment_of};
+ghost use Rattle.zf_meaning.specs.Envs.{environment_of, longer};
 ghost use Rattle.zf_meaning.specs.GlobalOutcomes.{IsEnvironment, AreWorkedOut};
 ghost use Rattle.zf_value.specs.Sets.{IsRegularOutcome};
 ghost use Rattle.zf_meaning.specs.Sizes.{given_sets, AreComplete, IsRefusal};
@@ -56,6 +56,34 @@ impl<'g, 'a> Env<'g, 'a> {
         ensures regular { MatchOption result (Unit {0}) (λ o. IsRegularOutcome o.now) }
     {
         self.outcomes.get(place)
+    }
+
+    /// How many names have an outcome.
+    pub fn count(&self) -> usize
+        ensures { result ≡ length (environment_of self.now).outcomes }
+    {
+        self.outcomes.len()
+    }
+
+    /// Gives the next name behind all others this outcome.
+    pub fn add(&mut self, outcome: Outcome) -> Result<(), AllocError>
+        requires { IsRegularOutcome outcome }
+        ensures { OnOk result (environment_of self.new ≡ longer (environment_of self.old) (outcome ∷ [])) }
+    {
+        self.outcomes.push(outcome)
+    }
+
+    /// The same globals at the same sizes.
+    pub fn copy(&self, alloc: Global) -> Result<Env<'g, 'a>, AllocError>
+        ensures { IfOk result (λ e. environment_of e ≡ environment_of self.now) }
+    {
+        let mut sizes = Vec::new(alloc);
+        sizes.extend_from_slice(&self.sizes)?;
+        Ok(Env {
+            globals: self.globals,
+            sizes,
+            outcomes: self.outcomes.copy(alloc)?,
+        })
     }
 
     pub(crate) fn allocator(&self) -> Global {

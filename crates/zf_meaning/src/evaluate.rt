@@ -16,6 +16,7 @@ mod binders;
 mod chains;
 pub(crate) mod early;
 pub(crate) mod memberships;
+pub(crate) mod numeric;
 mod operands;
 mod ranges;
 

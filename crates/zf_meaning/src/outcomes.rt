@@ -1,5 +1,5 @@
 //! Lists of regular outcomes.
-ghost use Rattle.std.specs.Prelude.{◌≡◌, [], ◌∷◌, ◌++◌, Some, None, OnOk, MatchOption, slice_get};
+ghost use Rattle.std.specs.Prelude.{◌≡◌, [], ◌∷◌, ◌++◌, Some, None, IfOk, OnOk, MatchOption, length, slice_get};
 ghost use Rattle.zf_value.specs.Sets.{IsRegularOutcome};
 
 use std::alloc::{AllocError, Global};
@@ -50,5 +50,24 @@ impl Outcomes {
         ensures regular { MatchOption result (Unit {0}) (λ o. IsRegularOutcome o.now) }
     {
         self.outcomes.get(place)
+    }
+
+    pub(crate) fn len(&self) -> usize
+        ensures { result ≡ length self.now }
+    {
+        self.outcomes.len()
+    }
+
+    pub(crate) fn copy(&self, alloc: Global) -> Result<Outcomes, AllocError>
+        ensures { IfOk result (λ s. s ≡ self.now) }
+    {
+        let mut copied = Outcomes::new(alloc);
+        for place in 0..self.len() {
+            let Some(outcome) = self.get(place) else {
+                unreachable!();
+            };
+            copied.push(outcome.copy(alloc)?)?;
+        }
+        Ok(copied)
     }
 }

@@ -1,5 +1,7 @@
 //! What relations say of the outcomes of their sides.
 ghost use Rattle.std.specs.Prelude.{◌≡◌, ◌↔◌, if◌then◌else◌, IsTrue};
+ghost use Rattle.zf_value.specs.declared.value.Outcome.TheVariants.{Is};
+ghost use Rattle.zf_value.specs.declared.value.Value.{Int};
 ghost use Rattle.zf_value.specs.Sets.{AreAmong, IsRegular, IsRegularOutcome, IsRegularSet};
 ghost use Rattle.zf_meaning.specs.Arithmetic.{AreOrdered, IsFrom};
 ghost use Rattle.zf_meaning.specs.Found.{found_outcome};
@@ -42,6 +44,13 @@ pub(crate) fn atom(relation: Relation, x: &Found<'_>, y: &Found<'_>) -> Truth
         (_, Found::Undefined) => Truth::False,
         (Found::Is(v), Found::Is(w)) => told(holds(relation, v.get(), w.get())),
     }
+}
+
+/// The truth of a relation between two numbers.
+pub(crate) fn between_numbers(relation: Relation, m: i64, n: i64) -> Truth
+    ensures { IsAtom (Is (Int m)) (Is (Int n)) (Holds relation) result }
+{
+    told(holds(relation, &Value::Int(m), &Value::Int(n)))
 }
 
 fn test(set: Infinite, relation: Relation, x: &Found<'_>) -> Truth

@@ -10,6 +10,7 @@ ghost use Rattle.zf_meaning.specs.Meaning.{HasOutcome, IsTruth};
 use crate::described::Described;
 use crate::env::Env;
 use crate::evaluate::memberships::described;
+use crate::evaluate::numeric::compared_in;
 use crate::evaluate::{outcome, truth};
 use crate::row::Row;
 use std::alloc::AllocError;
@@ -55,6 +56,9 @@ pub fn truth_of<'a, R: Row>(
     ensures { IfOk result (IsTruth (in_row (environment_of env.now) (R.values row.now)) (resolved_of term.now)) }
 {
     let none = no_variables();
+    if let Some(told) = compared_in(term, &*row, none, &*env) {
+        return Ok(told);
+    }
     truth(term, &*row, none, &*env)
 }
 

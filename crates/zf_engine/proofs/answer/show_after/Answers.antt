@@ -25,7 +25,7 @@ returns-in-Walked-clause-shows g c = λ file source is.
 
 pub returns-in-Planted-clause-shows : goal.returns-in-Planted-clause-shows
 returns-in-Planted-clause-shows g c = λ file source is.
-    shown (request_of c.args.request.now) file source (schema_of c.args.schema.now) (planted_goal c.in-Planted.found.search) c.in-Planted.found.search.stage c.args.elements.now (environment_of c.args.env.now) (option_copied c.args.after)
+    shown (request_of c.args.request.now) file source (schema_of c.args.schema.now) (planted_goal c.in-Planted.found.names c.in-Planted.found.search) c.in-Planted.found.search.stage c.args.elements.now (environment_of c.args.env.now) (option_copied c.args.after)
     is c.requires.named (rw c.in-Planted.is at c.in-Ok.ensures.begins) c.requires.elements false _ _ _ (search rules) c.show-in-Planted.ensures.ok c.show-in-Planted.ensures.err
 
 pub returns-in-Err-clause-shows : goal.returns-in-Err-clause-shows

@@ -5,4 +5,4 @@ use Rattle.zf_enum.specs.Property.{property}
 use Rattle.zf_enum.proofs.laws.same_events.Goals as goal
 
 pub returns : goal.returns
-returns c = λ e ps leaves trees same ranges after x. same_events value_order (planted (property e leaves) trees) (property e ps) same ranges after x
+returns c = λ e f ps leaves trees same ranges after x. same_events value_order (planted (property f leaves) trees) (property e ps) same ranges after x

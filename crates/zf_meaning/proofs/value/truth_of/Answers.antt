@@ -1,6 +1,10 @@
 use Rattle.zf_term.specs.ResolvedTrees.{resolved_of}
 use Rattle.zf_meaning.proofs.InRow.{truth-in-row}
 use Rattle.zf_meaning.proofs.Regulars.{regular-start}
+use Rattle.std.specs.Prelude.{Ok}
+use Rattle.zf_meaning.specs.Meaning.{IsTruth}
+use Rattle.zf_meaning.specs.Scopes.{scope_of}
+use Rattle.zf_meaning.proofs.Numeric.{at-some}
 use Rattle.zf_meaning.proofs.value.truth_of.Goals as goal
 
 pub truth-requires : goal.truth-requires
@@ -8,3 +12,12 @@ truth-requires g c = regular-start c.args.env.now (g.R.Row.values c.args.row.now
 
 pub returns : goal.returns
 returns g c = truth-in-row c.args.env.now (g.R.Row.values c.args.row.now) c.no_variables-none.result.now (resolved_of c.args.term.now) c.truth.result c.no_variables-none.ensures c.truth.ensures
+
+pub compared_in-requires : goal.compared_in-requires
+compared_in-requires g c = regular-start c.args.env.now (g.R.Row.values c.args.row.now) _ c.no_variables-none.ensures c.requires
+
+pub returns-in-Some : goal.returns-in-Some
+returns-in-Some g c =
+    let row = g.R.Row.values c.args.row.now in
+    let told = at-some (λ u. IsTruth (scope_of c.args.env.now row c.no_variables-none.result.now) (resolved_of c.args.term.now) u) c.compared_in.result c.in-Some.told c.in-Some.is c.compared_in.ensures in
+    truth-in-row c.args.env.now row c.no_variables-none.result.now (resolved_of c.args.term.now) (Ok c.in-Some.told) c.no_variables-none.ensures told

@@ -1,5 +1,5 @@
 -- A search begins before all events of the schema.
-use Rattle.std.proofs.Common.{List, length, map, ap, sym, subst}
+use Rattle.std.proofs.Common.{List, length, map, ap, sym, subst, ◌∙◌, arith}
 use Rattle.std.specs.Option.{option_copied}
 use Rattle.zf_term.specs.declared.conjunct.Conjunct.{Conjunct}
 use Rattle.zf_term.specs.declared.globals.Component.{Component}
@@ -9,20 +9,31 @@ use Rattle.zf_value.specs.declared.value.Value.{Value}
 use Rattle.zf_value.specs.Sets.{value_order}
 use Rattle.zf_value.proofs.Exact.{exact}
 use Rattle.zf_walk.specs.Progress.{AreAllAhead}
-use Rattle.zf_plan.specs.Trees.{planted}
+use Rattle.zf_plan.specs.Trees.{HaveLeavesWithin, planted}
 use Rattle.zf_plan.specs.Groves.{Grove, trees_of}
 use Rattle.zf_plan.specs.Alike.{SayTheSame}
 use Rattle.zf_plan.proofs.Alike.{all_ahead}
 use Rattle.zf_meaning.specs.Envs.{environment_of}
 use Rattle.zf_enum.specs.declared.property.Property.{Property}
 use Rattle.zf_enum.specs.Property.{property}
-use Rattle.zf_enum.specs.Searches.{judged}
+use Rattle.zf_enum.specs.Searches.{judged, with_first}
 use Rattle.zf_enum.specs.Components.{AreAllRanges}
 use Rattle.zf_enum.specs.Planting.{ArePlanted}
 use Rattle.zf_enum.specs.Ranges.{AreRanges}
+use Rattle.zf_enum.proofs.Naming.{as_many, dues_at, first_names, named_alike}
 use Rattle.zf_enum.proofs.Started.{ranges_ascend, named_within, needs_within}
 use Rattle.zf_enum.proofs.Planted.{say_the_same, leaves_within}
 use Rattle.zf_enum.proofs.instances.Instances.start.Goals as goal
+
+pub lifted-requires : goal.lifted-requires
+lifted-requires c =
+    let e = environment_of c.args.env.now in
+    let s = schema_of c.args.flat.now in
+    let rs = c.in_ok-ranges.ranges.items in
+    let all = subst (λ (ds : List Component). AreAllRanges e (map comp_of ds) rs) c.as_slice.ensures c.in_ok-ranges.ensures.is in
+    let p = c.in_ok-planting.planting in
+    let are_planted = subst (λ (cs : List Conjunct). ArePlanted (map conjunct_of cs) p.leaves.items (trees_of p.forest)) c.as_slice-2.ensures c.in_ok-planting.ensures in
+    λ k. omega (arith, are_planted.needs (length rs) (needs_within e s.comps rs s.conjuncts all.0 c.requires.due) k, c.in_ok-ranges.ranges.small)
 
 pub start-requires-clause-ascending : goal.start-requires-clause-ascending
 start-requires-clause-ascending c = ranges_ascend (environment_of c.args.env.now) _ c.in_ok-ranges.ranges.items c.in_ok-ranges.ensures.is.0
@@ -44,14 +55,18 @@ start-requires-clause-due c =
     let all = subst (λ (ds : List Component). AreAllRanges e (map comp_of ds) rs) c.as_slice.ensures c.in_ok-ranges.ensures.is in
     let p = c.in_ok-planting.planting in
     let are_planted = subst (λ (cs : List Conjunct). ArePlanted (map conjunct_of cs) p.leaves.items (trees_of p.forest)) c.as_slice-2.ensures c.in_ok-planting.ensures in
-    λ k l. are_planted.needs (length rs) (needs_within e s.comps rs s.conjuncts all.0 c.requires.due) k
+    let named = c.in_ok-property.property in
+    λ k l. omega (arith, dues_at (environment_of named.env.now) e (map resolved_of named.conjuncts.items) (map resolved_of p.leaves.items) c.in_ok-property.ensures.each k, are_planted.needs (length rs) (needs_within e s.comps rs s.conjuncts all.0 c.requires.due) k)
 
 pub start-requires-clause-leaves : goal.start-requires-clause-leaves
 start-requires-clause-leaves c =
+    let e = environment_of c.args.env.now in
     let s = schema_of c.args.flat.now in
     let p = c.in_ok-planting.planting in
     let are_planted = subst (λ (cs : List Conjunct). ArePlanted (map conjunct_of cs) p.leaves.items (trees_of p.forest)) c.as_slice-2.ensures c.in_ok-planting.ensures in
-    leaves_within s.conjuncts p.leaves.items (trees_of p.forest) are_planted
+    let named = c.in_ok-property.property in
+    let many = as_many (environment_of named.env.now) e (map resolved_of named.conjuncts.items) (map resolved_of p.leaves.items) c.in_ok-property.ensures.each in
+    subst (λ n. HaveLeavesWithin n (trees_of p.forest)) (sym many) (leaves_within s.conjuncts p.leaves.items (trees_of p.forest) are_planted)
 
 pub returns-clause-begins : goal.returns-clause-begins
 returns-clause-begins c =
@@ -61,14 +76,18 @@ returns-clause-begins c =
     let all = subst (λ (ds : List Component). AreAllRanges e (map comp_of ds) rs) c.as_slice.ensures c.in_ok-ranges.ensures.is in
     let p = c.in_ok-planting.planting in
     let are_planted = subst (λ (cs : List Conjunct). ArePlanted (map conjunct_of cs) p.leaves.items (trees_of p.forest)) c.as_slice-2.ensures c.in_ok-planting.ensures in
-    let same = say_the_same s.conjuncts p.leaves.items (trees_of p.forest) are_planted e in
+    let named = c.in_ok-property.property in
+    let f = environment_of named.env.now in
+    let terms = map resolved_of named.conjuncts.items in
+    let lifted = c.in_ok-property.ensures in
+    let same = named_alike f e terms (map resolved_of p.leaves.items) s.conjuncts (trees_of p.forest) lifted (say_the_same s.conjuncts p.leaves.items (trees_of p.forest) are_planted e) in
     let search = c.in_ok-search.search in
     let problem = c.in_ok-search.ensures.problem in
-    let ahead = all_ahead value_order (planted (property e (map resolved_of p.leaves.items)) (trees_of p.forest)) (property e s.conjuncts) same rs (option_copied c.args.after) search.stage.ahead c.in_ok-search.ensures.events in
+    let ahead = all_ahead value_order (planted (property f terms) (trees_of p.forest)) (property e s.conjuncts) same rs (option_copied c.args.after) search.stage.ahead c.in_ok-search.ensures.events in
     record {
-      environment = ap (λ (j : Property). environment_of j.env.now) problem.0;
+      environment = ap (λ (j : Property). with_first c.count.result (environment_of j.env.now)) problem.0 ∙ first_names e f c.count.result c.count.ensures lifted.longer;
       same = subst (λ (j : Property). SayTheSame (planted (judged j) (trees_of search.forest)) (property e s.conjuncts)) (sym problem.0)
-          (subst (λ (f : Grove). SayTheSame (planted (property e (map resolved_of p.leaves.items)) (trees_of f)) (property e s.conjuncts)) (sym problem.1) same);
+          (subst (λ (g : Grove). SayTheSame (planted (property f terms) (trees_of g)) (property e s.conjuncts)) (sym problem.1) same);
       ranges = subst (λ (ws : List (List Value)). AreRanges e s.comps ws) (sym problem.2) all.0;
       named = problem.3;
       none_out = all.1;

@@ -1,0 +1,118 @@
+-- Predicates in which closed parts are names: they say what they said, and so do trees over them.
+use Rattle.std.proofs.Common.{◌≡◌, ◌⊎◌, ⊎_elim, inl, inr, ◌↔◌, ℕ, zero, suc, ◌+◌, ◌<◌, ◌≤◌, max, List, [], ◌∷◌, ◌++◌, length, take, refl, sym, ap, ◌∙◌, arith}
+use Rattle.std.specs.Prelude.{slice_get}
+use Rattle.zf_reference.specs.declared.reference.Reference.{Reference}
+use Rattle.zf_reference.specs.declared.reference.Reference.TheVariants.{Component, Local, Global}
+use Rattle.zf_term.specs.ResolvedTrees.{ResolvedTree}
+use Rattle.zf_term.specs.TermLaws.{references}
+use Rattle.zf_value.specs.declared.value.Value.{Value}
+use Rattle.zf_value.specs.declared.value.Outcome.{Outcome}
+use Rattle.zf_value.specs.declared.value.Truth as meaning
+use Rattle.zf_walk.specs.declared.judge.Truth.{Truth}
+use Rattle.zf_walk.specs.declared.judge.Truth.TheVariants.{True, False, Out}
+use Rattle.zf_walk.specs.Conjuncts.{Conjuncts}
+use Rattle.zf_plan.specs.Alike.{SayTheSame}
+use Rattle.zf_plan.specs.Trees.{Tree, leaf, negated, both, either, opposite, IsOfBoth, IsOfEither, IsTreeTruth, planted, tree_at}
+use Rattle.zf_meaning.specs.Environments.{Environment}
+use Rattle.zf_meaning.specs.Envs.{longer}
+use Rattle.zf_meaning.specs.Laws.{IsBelow, AreBelow, UsesFirst}
+use Rattle.zf_lift.specs.Lifted.{IsLonger, AreEach, IsLifted, AreLifted}
+use Rattle.zf_enum.specs.Property.{place_named, greatest_place, due, due_of, HasTruth, told, property}
+use Rattle.zf_enum.specs.PropertyLaws.{uses_first}
+use Rattle.zf_enum.specs.Searches.{with_first}
+
+-- ---- what was not changed
+
+itself : (e : Environment) (t : ResolvedTree) → IsLifted e e t t
+itself e t = record { same = λ row a. (λ h. h, λ h. h); uses = λ k h. h }
+
+each_itself : (e : Environment) (ts : List ResolvedTree) → AreEach (IsLifted e e) ts ts
+each_itself e [] = tt
+each_itself e (t ∷ ts) = (itself e t, each_itself e ts)
+
+no_more : (xs : List Outcome) → xs ++ [] ≡ xs
+no_more [] = refl
+no_more (x ∷ xs) = ap (λ ys. x ∷ ys) (no_more xs)
+
+with_outcomes : Environment → List Outcome → Environment
+with_outcomes e os = record { globals = e.globals; sizes = e.sizes; outcomes = os }
+
+pub unchanged : (e : Environment) (ts : List ResolvedTree) → AreLifted e e ts ts
+unfolding with_outcomes
+unchanged e ts = record { longer = ([], sym (ap (with_outcomes e) (no_more e.outcomes))); each = each_itself e ts }
+
+-- ---- the first names
+
+front : (xs ys : List Outcome) → take (length xs) (xs ++ ys) ≡ xs
+front [] ys = refl
+front (x ∷ xs) ys = ap (λ zs. x ∷ zs) (front xs ys)
+
+pub first_names : (e f : Environment) (n : ℕ) → n ≡ length e.outcomes → IsLonger e f → with_first n f ≡ e
+unfolding with_outcomes
+first_names e f n is h = ap (λ x. with_first n x) h.1 ∙ ap (λ k. with_first k (longer e h.0)) is ∙ ap (with_outcomes e) (front e.outcomes h.0)
+
+-- ---- what is due
+
+place_within : (r : Reference) (k : ℕ) → IsBelow k r → place_named r ≤ k
+place_within (Component i) k h = omega arith
+place_within (Local i) k h = omega arith
+place_within (Global i) k h = omega arith
+
+all_within : (rs : List Reference) (k : ℕ) → AreBelow k rs → greatest_place rs ≤ k
+all_within [] k h = omega arith
+all_within (r ∷ rs) k h = omega (arith, place_within r k h.0, all_within rs k h.1)
+
+due_within : (t : ResolvedTree) (k : ℕ) → UsesFirst k t → due t ≤ k
+due_within t k h = all_within (references t) k h
+
+due_no_more : (f e : Environment) (t u : ResolvedTree) → IsLifted f e t u → due t ≤ due u
+due_no_more f e t u h = due_within t (due u) (h.uses (due u) (uses_first u (due u) (omega arith)))
+
+module _ (f e : Environment) where
+  pub dues_at : (ts us : List ResolvedTree) → AreEach (IsLifted f e) ts us → (c : ℕ) → due_of (slice_get ts c) ≤ due_of (slice_get us c)
+  dues_at [] [] h c = omega arith
+  dues_at [] (u ∷ us) h c = absurd h
+  dues_at (t ∷ ts) [] h c = absurd h
+  dues_at (t ∷ ts) (u ∷ us) h zero = due_no_more f e t u h.0
+  dues_at (t ∷ ts) (u ∷ us) h (suc c) = dues_at ts us h.1 c
+
+  pub as_many : (ts us : List ResolvedTree) → AreEach (IsLifted f e) ts us → length ts ≡ length us
+  as_many [] [] h = refl
+  as_many [] (u ∷ us) h = absurd h
+  as_many (t ∷ ts) [] h = absurd h
+  as_many (t ∷ ts) (u ∷ us) h = ap suc (as_many ts us h.1)
+
+  truths_at : (ts us : List ResolvedTree) → AreEach (IsLifted f e) ts us → (c : ℕ) (row : List Value) (a : meaning.Truth) → HasTruth f row (slice_get ts c) a ↔ HasTruth e row (slice_get us c) a
+  truths_at [] [] h c row a = (λ x. absurd x, λ x. absurd x)
+  truths_at [] (u ∷ us) h c row a = absurd h
+  truths_at (t ∷ ts) [] h c row a = absurd h
+  truths_at (t ∷ ts) (u ∷ us) h zero row a = h.0.same row a
+  truths_at (t ∷ ts) (u ∷ us) h (suc c) row a = truths_at ts us h.1 c row a
+
+-- ---- trees over leaves that say as much
+
+of_both : (P Q R S : Truth → Type 0) → ((u : Truth) → P u → R u) → ((u : Truth) → Q u → S u) → (u : Truth) → IsOfBoth P Q u → IsOfBoth R S u
+of_both P Q R S f g False h = ⊎_elim (λ a. inl (f False a)) (λ b. inr (g False b)) h
+of_both P Q R S f g True h = (f True h.0, g True h.1)
+of_both P Q R S f g Out h = (⊎_elim (λ a. inl (f True a)) (λ a. inr (f Out a)) h.0, ⊎_elim (λ b. inl (g True b)) (λ b. inr (g Out b)) h.1, ⊎_elim (λ a. inl (f Out a)) (λ b. inr (g Out b)) h.2)
+
+of_either : (P Q R S : Truth → Type 0) → ((u : Truth) → P u → R u) → ((u : Truth) → Q u → S u) → (u : Truth) → IsOfEither P Q u → IsOfEither R S u
+of_either P Q R S f g True h = ⊎_elim (λ a. inl (f True a)) (λ b. inr (g True b)) h
+of_either P Q R S f g False h = (f False h.0, g False h.1)
+of_either P Q R S f g Out h = (⊎_elim (λ a. inl (f False a)) (λ a. inr (f Out a)) h.0, ⊎_elim (λ b. inl (g False b)) (λ b. inr (g Out b)) h.1, ⊎_elim (λ a. inl (f Out a)) (λ b. inr (g Out b)) h.2)
+
+module _ (l m : Conjuncts Value) (says : (c : ℕ) (row : List Value) (t : Truth) → l.says c row t → m.says c row t) where
+  tree_truth : (tree : Tree) (row : List Value) (t : Truth) → IsTreeTruth l tree row t → IsTreeTruth m tree row t
+  tree_truth (leaf c) row t h = says c row t h
+  tree_truth (negated a) row t h = tree_truth a row (opposite t) h
+  tree_truth (both a b) row t h = of_both (IsTreeTruth l a row) (IsTreeTruth l b row) (IsTreeTruth m a row) (IsTreeTruth m b row) (tree_truth a row) (tree_truth b row) t h
+  tree_truth (either a b) row t h = of_either (IsTreeTruth l a row) (IsTreeTruth l b row) (IsTreeTruth m a row) (IsTreeTruth m b row) (tree_truth a row) (tree_truth b row) t h
+
+pub named_alike : (f e : Environment) (ts leaves ps : List ResolvedTree) (trees : List Tree) → AreLifted f e ts leaves → SayTheSame (planted (property e leaves) trees) (property e ps) → SayTheSame (planted (property f ts) trees) (property e ps)
+named_alike f e ts leaves ps trees h same = record {
+  number = same.number;
+  says = λ c l row t.
+      let there = tree_truth (property f ts) (property e leaves) (λ k r u. (truths_at f e ts leaves h.each k r (told u)).0) (tree_at trees c) row t in
+      let back = tree_truth (property e leaves) (property f ts) (λ k r u. (truths_at f e ts leaves h.each k r (told u)).1) (tree_at trees c) row t in
+      (λ x. (same.says c l row t).0 (there x), λ x. back ((same.says c l row t).1 x));
+}

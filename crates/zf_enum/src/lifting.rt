@@ -1,0 +1,39 @@
+//! Properties in which closed parts are names.
+ghost use Rattle.std.specs.Prelude.{◌<◌, ◌^◌, ℕ, IfOk, map, slice_get};
+ghost use Rattle.zf_term.specs.ResolvedTrees.{resolved_of};
+ghost use Rattle.zf_meaning.specs.Envs.{environment_of};
+ghost use Rattle.zf_lift.specs.Lifted.{AreLifted};
+ghost use Rattle.zf_enum.specs.Property.{due_of};
+
+use crate::property::Property;
+use bumpalo::Bump;
+use std::alloc::{AllocError, Global};
+use zf_lift::{Lifted, lift};
+use zf_meaning::env::Env;
+use zf_term::resolved::Resolved;
+
+/// The predicates as conjuncts, with names for their closed parts.
+pub(crate) fn lifted<'e, 'g, 'a>(
+    alloc: Global,
+    arena: &'a Bump,
+    conjuncts: Vec<Resolved<'a>>,
+    env: &'e Env<'g, 'a>,
+) -> Result<Property<'e, 'g, 'a>, AllocError>
+    requires small { (c : ℕ) → due_of (slice_get (map resolved_of conjuncts.items) c) < 2 ^ 64 }
+    ensures { IfOk result (λ p. AreLifted (environment_of p.env.now) (environment_of env.now) (map resolved_of p.conjuncts.items) (map resolved_of conjuncts.entry.items)) }
+{
+    match lift(alloc, arena, conjuncts.as_slice(), env)? {
+        None => {
+            let property: Property<'e, 'g, 'a> = Property { conjuncts, env };
+            Ok(property)
+        }
+        Some(lifted) => {
+            let Lifted { terms, env } = lifted;
+            let property: Property<'e, 'g, 'a> = Property {
+                conjuncts: terms,
+                env,
+            };
+            Ok(property)
+        }
+    }
+}

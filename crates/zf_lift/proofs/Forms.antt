@@ -1,0 +1,200 @@
+-- Terms of one form mean the same where their parts do.
+use Rattle.std.proofs.Common.{◌≡◌, ◌↔◌, ℕ, List, [], ◌∷◌, Option, None, refl, sym, ap, subst}
+use Rattle.std.specs.Prelude.{if◌then◌else◌}
+use Rattle.zf_tree.specs.declared.symbol.Constant.{Constant}
+use Rattle.zf_tree.specs.declared.symbol.Quantifier.{Quantifier}
+use Rattle.zf_tree.specs.declared.symbol.Relation.{Relation}
+use Rattle.zf_term.specs.declared.extent.Infinite.{Infinite}
+use Rattle.zf_tree.specs.declared.operator.Listed.{Listed}
+use Rattle.zf_tree.specs.declared.operator.Operator.{Operator}
+use Rattle.zf_tree.specs.declared.operator.Operator.TheVariants as operator
+use Rattle.zf_tree.specs.declared.operator.Unary.{Unary}
+use Rattle.zf_tree.specs.declared.operator.Unary.TheVariants as the_unary
+use Rattle.zf_reference.specs.declared.reference.Reference.{Reference}
+use Rattle.zf_extent.specs.Extents.{direct, extent_named, is_membership}
+use Rattle.zf_term.specs.ResolvedTrees.{ResolvedTree, reference, number, constant, empty_set, bracket, listed, builder, unary, binary, chain, quantified, ResolvedTrees, no_terms, term, ResolvedLinks, no_links, link, Ranges, no_ranges, range, ResolvedPart, absent, present}
+use Rattle.zf_value.specs.declared.value.Value.{Value}
+use Rattle.zf_value.specs.declared.value.Outcome.{Outcome}
+use Rattle.zf_value.specs.declared.value.Truth.{Truth}
+use Rattle.zf_meaning.specs.Environments.{Context, within, outcome_in}
+use Rattle.zf_meaning.specs.Meaning.{HasOutcome, HaveOutcomes, HaveRanges, Builds, IsConstraint, IsTruth, AreLinked, IsLink, infinite_right}
+use Rattle.zf_meaning.specs.Outcomes.{Several}
+use Rattle.zf_meaning.specs.Truths.{opposite, IsTold}
+use Rattle.zf_lift.proofs.Mapped as mapped
+use Rattle.zf_lift.specs.Same.{IsSame, AreSame, AreSameRanges, AreSameLinks, IsSamePart}
+
+itself : (X : Type 0) → X ↔ X
+itself X = (λ x. x, λ x. x)
+
+back : (X Y : Type 0) → X ↔ Y → Y ↔ X
+back X Y h = (h.1, h.0)
+
+pub opposite_way : (c : Context) (t : ResolvedTree) (d : Context) (u : ResolvedTree) → IsSame c t d u → IsSame d u c t
+opposite_way c t d u h = record { outcome = λ o. ((h.outcome o).1, (h.outcome o).0); truth = λ a. ((h.truth a).1, (h.truth a).0); infinite = sym h.infinite }
+
+-- ---- forms without parts
+
+pub same_reference : (c d : Context) (l : ℕ) (r : Reference) → outcome_in c r ≡ outcome_in d r → c.environment.globals ≡ d.environment.globals → IsSame c (reference l r) d (reference l r)
+same_reference c d l r e g = record {
+  outcome = λ o. (λ x. subst (λ y. o ≡ y) e x, λ x. subst (λ y. o ≡ y) (sym e) x);
+  truth = λ a. (λ x. x, λ x. x);
+  infinite = ap (λ gs. direct gs (reference l r)) g;
+}
+
+pub same_number : (c d : Context) (l n : ℕ) → IsSame c (number l n) d (number l n)
+same_number c d l n = record { outcome = λ o. (λ x. x, λ x. x); truth = λ a. (λ x. x, λ x. x); infinite = refl }
+
+pub same_constant : (c d : Context) (l : ℕ) (k : Constant) → IsSame c (constant l k) d (constant l k)
+same_constant c d l k = record { outcome = λ o. (λ x. x, λ x. x); truth = λ a. (λ x. x, λ x. x); infinite = refl }
+
+pub same_empty_set : (c d : Context) (l : ℕ) (t u : ResolvedTree) → IsSame c (empty_set l t) d (empty_set l u)
+same_empty_set c d l t u = record { outcome = λ o. (λ x. x, λ x. x); truth = λ a. (λ x. x, λ x. x); infinite = refl }
+
+-- ---- forms with operands
+
+pub same_bracket : (c d : Context) (l : ℕ) (t u : ResolvedTree) → IsSame c t d u → IsSame c (bracket l t) d (bracket l u)
+same_bracket c d l t u h = record { outcome = h.outcome; truth = h.truth; infinite = h.infinite }
+
+pub same_listed : (c d : Context) (l : ℕ) (form : Listed) (ts us : ResolvedTrees) → AreSame c ts d us → IsSame c (listed l form ts) d (listed l form us)
+same_listed c d l form ts us h = record {
+  outcome = λ o. (λ x. (x.0, (h x.0).0 x.1, x.2), λ x. (x.0, (h x.0).1 x.1, x.2));
+  truth = λ a. (λ x. x, λ x. x);
+  infinite = refl;
+}
+
+unary_outcome : (c d : Context) (l : ℕ) (op : Unary) (t u : ResolvedTree) → IsSame c t d u → (o : Outcome) → HasOutcome c (unary l op t) o → HasOutcome d (unary l op u) o
+unary_outcome c d l op t u h o x = (x.0, (h.outcome x.0).0 x.1, x.2)
+
+unary_truth : (c d : Context) (l : ℕ) (op : Unary) (t u : ResolvedTree) → IsSame c t d u → (a : Truth) → IsTruth c (unary l op t) a → IsTruth d (unary l op u) a
+unary_truth c d l the_unary.Not t u h a x = (h.truth (opposite a)).0 x
+unary_truth c d l (the_unary.Sign s) t u h a x = x
+unary_truth c d l the_unary.Inverse t u h a x = x
+
+pub same_unary : (c d : Context) (l : ℕ) (op : Unary) (t u : ResolvedTree) → IsSame c t d u → IsSame c (unary l op t) d (unary l op u)
+same_unary c d l op t u h = let k = opposite_way c t d u h in record {
+  outcome = λ o. (unary_outcome c d l op t u h o, unary_outcome d c l op u t k o);
+  truth = λ a. (unary_truth c d l op t u h a, unary_truth d c l op u t k a);
+  infinite = refl;
+}
+
+binary_outcome : (c d : Context) (l : ℕ) (op : Operator) (t u v w : ResolvedTree) → IsSame c t d v → IsSame c u d w → (o : Outcome) → HasOutcome c (binary l op t u) o → HasOutcome d (binary l op v w) o
+binary_outcome c d l op t u v w h k o x = (x.0, x.1, (h.outcome x.0).0 x.2, (k.outcome x.1).0 x.3, x.4)
+
+binary_truth : (c d : Context) (l : ℕ) (op : Operator) (t u v w : ResolvedTree) → IsSame c t d v → IsSame c u d w → (a : Truth) → IsTruth c (binary l op t u) a → IsTruth d (binary l op v w) a
+binary_truth c d l (operator.Connective n) t u v w h k a x = mapped.connected n (IsTruth c t) (IsTruth c u) (IsTruth d v) (IsTruth d w) (λ p. (h.truth p).0) (λ p. (k.truth p).0) a x
+binary_truth c d l (operator.Function n) t u v w h k a x = x
+binary_truth c d l (operator.Generic n) t u v w h k a x = x
+binary_truth c d l operator.Application t u v w h k a x = x
+binary_truth c d l operator.Image t u v w h k a x = x
+
+pub same_binary : (c d : Context) (l : ℕ) (op : Operator) (t u v w : ResolvedTree) → IsSame c t d v → IsSame c u d w → IsSame c (binary l op t u) d (binary l op v w)
+same_binary c d l op t u v w h k = let i = opposite_way c t d v h in let j = opposite_way c u d w k in record {
+  outcome = λ o. (binary_outcome c d l op t u v w h k o, binary_outcome d c l op v w t u i j o);
+  truth = λ a. (binary_truth c d l op t u v w h k a, binary_truth d c l op v w t u i j a);
+  infinite = refl;
+}
+
+pub same_chain : (c d : Context) (l : ℕ) (t u : ResolvedTree) (ks ls : ResolvedLinks) → IsSame c t d u → AreSameLinks c ks d ls → IsSame c (chain l t ks) d (chain l u ls)
+same_chain c d l t u ks ls h k = record {
+  outcome = λ o. (λ x. x, λ x. x);
+  truth = λ a. (λ x. (x.0, (h.outcome x.0).0 x.1, (k x.0 a).0 x.2), λ x. (x.0, (h.outcome x.0).1 x.1, (k x.0 a).1 x.2));
+  infinite = refl;
+}
+
+-- ---- forms that bind
+
+rows_told : (c d : Context) (q : Quantifier) (p r : ResolvedPart) (t u : ResolvedTree) → ((vs : List Value) → IsSamePart (within c vs) p (within d vs) r) → ((vs : List Value) → IsSame (within c vs) t (within d vs) u)
+    → (vs : List Value) (w : Truth) → IsTold q (λ a. IsConstraint (within c vs) p a) (λ b. IsTruth (within c vs) t b) w → IsTold q (λ a. IsConstraint (within d vs) r a) (λ b. IsTruth (within d vs) u b) w
+rows_told c d q p r t u h k vs w x =
+    mapped.told q (IsConstraint (within c vs) p) (IsTruth (within c vs) t) (IsConstraint (within d vs) r) (IsTruth (within d vs) u) (λ a. ((h vs).constraint a).0) (λ b. ((k vs).truth b).0) w x
+
+other_part : (c d : Context) (p r : ResolvedPart) → IsSamePart c p d r → IsSamePart d r c p
+other_part c d p r h = record { constraint = λ a. ((h.constraint a).1, (h.constraint a).0); builds = λ vs o. ((h.builds vs o).1, (h.builds vs o).0) }
+
+quantified_truth : (c d : Context) (l : ℕ) (q : Quantifier) (rs ss : Ranges) (p r : ResolvedPart) (t u : ResolvedTree) → AreSameRanges c rs d ss → ((vs : List Value) → IsSamePart (within c vs) p (within d vs) r) → ((vs : List Value) → IsSame (within c vs) t (within d vs) u)
+    → (a : Truth) → IsTruth c (quantified l q rs p t) a → IsTruth d (quantified l q ss r u) a
+quantified_truth c d l q rs ss p r t u g h k a x = (
+  x.0,
+  (g x.0).0 x.1,
+  mapped.quantified q x.0 (λ vs w. IsTold q (λ a. IsConstraint (within c vs) p a) (λ b. IsTruth (within c vs) t b) w) (λ vs w. IsTold q (λ a. IsConstraint (within d vs) r a) (λ b. IsTruth (within d vs) u b) w)
+      (rows_told c d q p r t u h k)
+      (rows_told d c q r p u t (λ vs. other_part (within c vs) (within d vs) p r (h vs)) (λ vs. opposite_way (within c vs) t (within d vs) u (k vs)))
+      a x.2,
+)
+
+pub same_quantified : (c d : Context) (l : ℕ) (q : Quantifier) (rs ss : Ranges) (p r : ResolvedPart) (t u : ResolvedTree) → AreSameRanges c rs d ss → ((vs : List Value) → IsSamePart (within c vs) p (within d vs) r) → ((vs : List Value) → IsSame (within c vs) t (within d vs) u)
+    → IsSame c (quantified l q rs p t) d (quantified l q ss r u)
+same_quantified c d l q rs ss p r t u g h k = record {
+  outcome = λ o. (λ x. x, λ x. x);
+  truth = λ a. (
+    quantified_truth c d l q rs ss p r t u g h k a,
+    quantified_truth d c l q ss rs r p u t (λ s. ((g s).1, (g s).0)) (λ vs. other_part (within c vs) (within d vs) p r (h vs)) (λ vs. opposite_way (within c vs) t (within d vs) u (k vs)) a,
+  );
+  infinite = refl;
+}
+
+builder_outcome : (c d : Context) (l : ℕ) (rs ss : Ranges) (p r t u : ResolvedPart) → AreSameRanges c rs d ss → ((vs : List Value) → IsSamePart (within c vs) p (within d vs) r) → ((vs : List Value) → IsSamePart (within c vs) t (within d vs) u)
+    → (o : Outcome) → HasOutcome c (builder l rs p t) o → HasOutcome d (builder l ss r u) o
+builder_outcome c d l rs ss p r t u g h k o x = (
+  x.0,
+  (g x.0).0 x.1,
+  mapped.built x.0 (λ vs a. IsConstraint (within c vs) p a) (λ vs a. IsConstraint (within d vs) r a) (λ vs z. Builds (within c vs) vs t z) (λ vs z. Builds (within d vs) vs u z)
+      (record { filter = λ vs a. (h vs).constraint a; term = λ vs z. (k vs).builds vs z }) o x.2,
+)
+
+pub same_builder : (c d : Context) (l : ℕ) (rs ss : Ranges) (p r t u : ResolvedPart) → AreSameRanges c rs d ss → ((vs : List Value) → IsSamePart (within c vs) p (within d vs) r) → ((vs : List Value) → IsSamePart (within c vs) t (within d vs) u)
+    → IsSame c (builder l rs p t) d (builder l ss r u)
+same_builder c d l rs ss p r t u g h k = record {
+  outcome = λ o. (
+    builder_outcome c d l rs ss p r t u g h k o,
+    builder_outcome d c l ss rs r p u t (λ s. ((g s).1, (g s).0)) (λ vs. other_part (within c vs) (within d vs) p r (h vs)) (λ vs. other_part (within c vs) (within d vs) t u (k vs)) o,
+  );
+  truth = λ a. (λ x. x, λ x. x);
+  infinite = refl;
+}
+
+-- ---- parts
+
+pub same_absent : (c d : Context) → IsSamePart c absent d absent
+same_absent c d = record { constraint = λ a. (λ x. x, λ x. x); builds = λ vs o. (λ x. x, λ x. x) }
+
+pub same_present : (c d : Context) (t u : ResolvedTree) → IsSame c t d u → IsSamePart c (present t) d (present u)
+same_present c d t u h = record { constraint = h.truth; builds = λ vs o. h.outcome o }
+
+-- ---- lists
+
+pub same_no_terms : (c d : Context) → AreSame c no_terms d no_terms
+same_no_terms c d = λ s. (λ x. x, λ x. x)
+
+pub same_terms : (c d : Context) (t u : ResolvedTree) (ts us : ResolvedTrees) → IsSame c t d u → AreSame c ts d us → AreSame c (term t ts) d (term u us)
+same_terms c d t u ts us h k = λ s. (
+  λ x. (x.0, x.1, (h.outcome x.0).0 x.2, (k x.1).0 x.3, x.4),
+  λ x. (x.0, x.1, (h.outcome x.0).1 x.2, (k x.1).1 x.3, x.4),
+)
+
+pub same_no_ranges : (c d : Context) → AreSameRanges c no_ranges d no_ranges
+same_no_ranges c d = λ s. (λ x. x, λ x. x)
+
+pub same_ranges : (c d : Context) (n : ℕ) (t u : ResolvedTree) (rs ss : Ranges) → IsSame c t d u → AreSameRanges c rs d ss → AreSameRanges c (range n t rs) d (range n u ss)
+same_ranges c d n t u rs ss h k = λ s. (
+  λ x. (x.0, x.1, (h.outcome x.0).0 x.2, (k x.1).0 x.3, x.4),
+  λ x. (x.0, x.1, (h.outcome x.0).1 x.2, (k x.1).1 x.3, x.4),
+)
+
+pub same_no_links : (c d : Context) → AreSameLinks c no_links d no_links
+same_no_links c d = λ x a. (λ y. y, λ y. y)
+
+link_truth : (c d : Context) (r : Relation) (t u : ResolvedTree) (ks ls : ResolvedLinks) → IsSame c t d u → AreSameLinks c ks d ls → (x : Outcome) (a : Truth) → AreLinked c x (link r t ks) a → AreLinked d x (link r u ls) a
+link_truth c d r t u ks ls h k x a y =
+    let e : infinite_right c r t ≡ infinite_right d r u = ap (λ (z : Option Infinite). if is_membership r then z else None) h.infinite in (
+      y.0,
+      (h.outcome y.0).0 y.1,
+      mapped.conjunction (λ p. IsLink (infinite_right c r t) r x y.0 p) (λ q. AreLinked c y.0 ks q) (λ p. IsLink (infinite_right d r u) r x y.0 p) (λ q. AreLinked d y.0 ls q)
+          (λ p z. subst (λ i. IsLink i r x y.0 p) e z) (λ q. (k y.0 q).0) a y.2,
+    )
+
+pub same_links : (c d : Context) (r : Relation) (t u : ResolvedTree) (ks ls : ResolvedLinks) → IsSame c t d u → AreSameLinks c ks d ls → AreSameLinks c (link r t ks) d (link r u ls)
+same_links c d r t u ks ls h k = λ x a. (
+  link_truth c d r t u ks ls h k x a,
+  link_truth d c r u t ls ks (opposite_way c t d u h) (λ y b. ((k y b).1, (k y b).0)) x a,
+)

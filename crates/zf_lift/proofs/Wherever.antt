@@ -1,0 +1,320 @@
+-- Terms of one form are lifts, or closed, where their parts are.
+use Rattle.std.proofs.Common.{◌≡◌, ◌↔◌, ℕ, ◌<◌, ◌≤◌, Bool, true, false, List, [], ◌∷◌, ◌++◌, length, Option, None, Some, refl, sym, ap, ◌∙◌, subst, arith}
+use Rattle.std.specs.Prelude.{slice_get}
+use Rattle.zf_tree.specs.declared.symbol.Constant.{Constant}
+use Rattle.zf_tree.specs.declared.symbol.Quantifier.{Quantifier}
+use Rattle.zf_tree.specs.declared.symbol.Relation.{Relation}
+use Rattle.zf_term.specs.declared.extent.Infinite.{Infinite}
+use Rattle.zf_tree.specs.declared.operator.Listed.{Listed}
+use Rattle.zf_tree.specs.declared.operator.Operator.{Operator}
+use Rattle.zf_tree.specs.declared.operator.Operator.TheVariants as operator
+use Rattle.zf_tree.specs.declared.operator.Unary.{Unary}
+use Rattle.zf_tree.specs.declared.operator.Unary.TheVariants as the_unary
+use Rattle.zf_reference.specs.declared.reference.Reference.{Reference}
+use Rattle.zf_reference.specs.declared.reference.Reference.TheVariants.{Component, Local, Global}
+use Rattle.zf_term.specs.Definitions.{Defined}
+use Rattle.zf_extent.specs.Extents.{direct, extent_found, extent_set}
+use Rattle.zf_term.specs.ResolvedTrees.{ResolvedTree, reference, number, constant, empty_set, bracket, listed, builder, unary, binary, chain, quantified, ResolvedTrees, no_terms, term, ResolvedLinks, no_links, link, Ranges, no_ranges, range, ResolvedPart, absent, present, terms, links, ranges}
+use Rattle.zf_value.specs.declared.value.Value.{Value}
+use Rattle.zf_value.specs.declared.value.Outcome.{Outcome}
+use Rattle.zf_value.specs.declared.value.Truth.{Truth}
+use Rattle.zf_value.specs.declared.value.Truth.TheVariants as truth
+use Rattle.zf_meaning.specs.Environments.{Environment, Context, within, outcome_in, outcome_or}
+use Rattle.zf_meaning.specs.Envs.{longer}
+use Rattle.zf_meaning.specs.Meaning.{HasOutcome, IsTruth}
+use Rattle.zf_meaning.proofs.Unique.{one_outcome}
+use Rattle.zf_lift.specs.Lifted.{IsLonger, AreEach, IsLifted}
+use Rattle.zf_lift.specs.Needs.{need}
+use Rattle.zf_lift.specs.Same.{IsSame, AreSame, AreSameRanges, AreSameLinks, IsSamePart}
+use Rattle.zf_lift.specs.Lifts.{at, Wherever, Whichever, IsLift, AreLifts, AreRangeLifts, AreLinkLifts, IsPartLift, IsClosed, AreClosed, AreRangesClosed, AreLinksClosed, IsPartClosed, is_liftable}
+use Rattle.zf_lift.specs.Lists.{AreAllLifts, IsRangeLift, IsLinkLift, IsRangeClosed, IsLinkClosed}
+use Rattle.zf_lift.proofs.Needs.{uses_no_more}
+use Rattle.zf_lift.proofs.Forms as forms
+use Rattle.zf_lift.proofs.Longer as longer_ones
+
+-- ---- in longer environments
+
+pub lift_later : (b : Bool) (f g e : Environment) (t u : ResolvedTree) → IsLonger f g → IsLift b f e t u → IsLift b g e t u
+unfolding IsLift
+lift_later b f g e t u h x = record { needs = x.needs; same = longer_ones.later b f g e (λ c d. IsSame c t d u) h x.same }
+
+pub range_later : (b : Bool) (f g e : Environment) (p q : ℕ × ResolvedTree) → IsLonger f g → IsRangeLift b f e p q → IsRangeLift b g e p q
+range_later b f g e p q h x = (x.0, lift_later b f g e p.1 q.1 h x.1)
+
+pub link_later : (b : Bool) (f g e : Environment) (p q : Relation × ResolvedTree) → IsLonger f g → IsLinkLift b f e p q → IsLinkLift b g e p q
+link_later b f g e p q h x = (x.0, lift_later b f g e p.1 q.1 h x.1)
+
+pub ranges_later : (b : Bool) (f g e : Environment) (rs ss : Ranges) → IsLonger f g → AreRangeLifts b f e rs ss → AreRangeLifts b g e rs ss
+unfolding AreRangeLifts
+ranges_later b f g e rs ss h x = record { needs = x.needs; same = longer_ones.later b f g e (λ c d. AreSameRanges c rs d ss) h x.same }
+
+pub part_later : (b : Bool) (f g e : Environment) (p q : ResolvedPart) → IsLonger f g → IsPartLift b f e p q → IsPartLift b g e p q
+unfolding IsPartLift
+part_later b f g e p q h x = record { needs = x.needs; same = longer_ones.later b f g e (λ c d. IsSamePart c p d q) h x.same }
+
+-- ---- names
+
+same_named : (e g : Environment) (row locals : List Value) (r : Reference) → IsLonger e g → ((i : ℕ) → r ≡ Global i → i < length e.outcomes) → outcome_in (at g row locals) r ≡ outcome_in (at e row locals) r
+same_named e g row locals (Component i) h k = refl
+same_named e g row locals (Local i) h k = refl
+same_named e g row locals (Global i) h k = ap outcome_or (longer_ones.same_outcome e g i (k i refl) h)
+
+pub name_lift : (b : Bool) (e f : Environment) (l : ℕ) (r : Reference) → ((i : ℕ) → r ≡ Global i → i < length e.outcomes) → IsLonger e f → IsLift b f e (reference l r) (reference l r)
+unfolding IsLift
+name_lift b e f l r k h = record {
+  needs = omega arith;
+  same = λ g x row locals o.
+      let y = longer_ones.further e f g h x in
+      forms.same_reference (at g row locals) (at e row locals) l r (same_named e g row locals r y k) (longer_ones.same_globals e g y);
+}
+
+pub local_closed : (e : Environment) (l i : ℕ) → IsClosed e (reference l (Local i))
+unfolding IsClosed
+local_closed e l i row locals = forms.same_reference (at e [] locals) (at e row locals) l (Local i) refl refl
+
+pub global_closed : (e : Environment) (l i : ℕ) → IsClosed e (reference l (Global i))
+unfolding IsClosed
+global_closed e l i row locals = forms.same_reference (at e [] locals) (at e row locals) l (Global i) refl refl
+
+-- ---- forms without parts
+
+pub number_lift : (b : Bool) (f e : Environment) (l n : ℕ) → IsLift b f e (number l n) (number l n)
+unfolding IsLift
+number_lift b f e l n = record { needs = omega arith; same = λ g x row locals o. forms.same_number (at g row locals) (at e row locals) l n }
+
+pub number_closed : (e : Environment) (l n : ℕ) → IsClosed e (number l n)
+unfolding IsClosed
+number_closed e l n row locals = forms.same_number (at e [] locals) (at e row locals) l n
+
+pub constant_lift : (b : Bool) (f e : Environment) (l : ℕ) (k : Constant) → IsLift b f e (constant l k) (constant l k)
+unfolding IsLift
+constant_lift b f e l k = record { needs = omega arith; same = λ g x row locals o. forms.same_constant (at g row locals) (at e row locals) l k }
+
+pub constant_closed : (e : Environment) (l : ℕ) (k : Constant) → IsClosed e (constant l k)
+unfolding IsClosed
+constant_closed e l k row locals = forms.same_constant (at e [] locals) (at e row locals) l k
+
+pub empty_set_lift : (b : Bool) (f e : Environment) (l : ℕ) (t u : ResolvedTree) → need t ≤ need u → IsLift b f e (empty_set l t) (empty_set l u)
+unfolding IsLift
+empty_set_lift b f e l t u h = record { needs = h; same = λ g x row locals o. forms.same_empty_set (at g row locals) (at e row locals) l t u }
+
+pub empty_set_closed : (e : Environment) (l : ℕ) (t : ResolvedTree) → IsClosed e (empty_set l t)
+unfolding IsClosed
+empty_set_closed e l t row locals = forms.same_empty_set (at e [] locals) (at e row locals) l t t
+
+-- ---- forms with operands
+
+pub bracket_lift : (b : Bool) (f e : Environment) (l : ℕ) (t u : ResolvedTree) → IsLift b f e t u → IsLift b f e (bracket l t) (bracket l u)
+unfolding IsLift
+bracket_lift b f e l t u h = record { needs = h.needs; same = λ g x row locals o. forms.same_bracket (at g row locals) (at e row locals) l t u (h.same g x row locals o) }
+
+-- without its brackets
+pub inner_lift : (b : Bool) (f e : Environment) (l : ℕ) (t u : ResolvedTree) → IsLift b f e t u → IsLift b f e t (bracket l u)
+unfolding IsLift
+inner_lift b f e l t u h = record { needs = h.needs; same = λ g x row locals o. let s = h.same g x row locals o in record { outcome = s.outcome; truth = s.truth; infinite = s.infinite } }
+
+pub bracket_closed : (e : Environment) (l : ℕ) (t : ResolvedTree) → IsClosed e t → IsClosed e (bracket l t)
+unfolding IsClosed
+bracket_closed e l t h row locals = forms.same_bracket (at e [] locals) (at e row locals) l t t (h row locals)
+
+pub listed_lift : (b : Bool) (f e : Environment) (l : ℕ) (form : Listed) (ts us : ResolvedTrees) → AreLifts b f e ts us → IsLift b f e (listed l form ts) (listed l form us)
+unfolding IsLift AreLifts
+listed_lift b f e l form ts us h = record { needs = h.needs; same = λ g x row locals o. forms.same_listed (at g row locals) (at e row locals) l form ts us (h.same g x row locals o) }
+
+pub listed_closed : (e : Environment) (l : ℕ) (form : Listed) (ts : ResolvedTrees) → AreClosed e ts → IsClosed e (listed l form ts)
+unfolding IsClosed AreClosed
+listed_closed e l form ts h row locals = forms.same_listed (at e [] locals) (at e row locals) l form ts ts (h row locals)
+
+pub unary_lift : (b : Bool) (f e : Environment) (l : ℕ) (op : Unary) (t u : ResolvedTree) → IsLift b f e t u → IsLift b f e (unary l op t) (unary l op u)
+unfolding IsLift
+unary_lift b f e l op t u h = record { needs = h.needs; same = λ g x row locals o. forms.same_unary (at g row locals) (at e row locals) l op t u (h.same g x row locals o) }
+
+pub unary_closed : (e : Environment) (l : ℕ) (op : Unary) (t : ResolvedTree) → IsClosed e t → IsClosed e (unary l op t)
+unfolding IsClosed
+unary_closed e l op t h row locals = forms.same_unary (at e [] locals) (at e row locals) l op t t (h row locals)
+
+pub binary_lift : (b : Bool) (f e : Environment) (l : ℕ) (op : Operator) (t u v w : ResolvedTree) → IsLift b f e t v → IsLift b f e u w → IsLift b f e (binary l op t u) (binary l op v w)
+unfolding IsLift
+binary_lift b f e l op t u v w h k = record { needs = omega (arith, h.needs, k.needs); same = λ g x row locals o. forms.same_binary (at g row locals) (at e row locals) l op t u v w (h.same g x row locals o) (k.same g x row locals o) }
+
+pub binary_closed : (e : Environment) (l : ℕ) (op : Operator) (t u : ResolvedTree) → IsClosed e t → IsClosed e u → IsClosed e (binary l op t u)
+unfolding IsClosed
+binary_closed e l op t u h k row locals = forms.same_binary (at e [] locals) (at e row locals) l op t u t u (h row locals) (k row locals)
+
+pub chain_lift : (b : Bool) (f e : Environment) (l : ℕ) (t u : ResolvedTree) (ks ls : ResolvedLinks) → IsLift b f e t u → AreLinkLifts b f e ks ls → IsLift b f e (chain l t ks) (chain l u ls)
+unfolding IsLift AreLinkLifts
+chain_lift b f e l t u ks ls h k = record { needs = omega (arith, h.needs, k.needs); same = λ g x row locals o. forms.same_chain (at g row locals) (at e row locals) l t u ks ls (h.same g x row locals o) (k.same g x row locals o) }
+
+pub chain_closed : (e : Environment) (l : ℕ) (t : ResolvedTree) (ks : ResolvedLinks) → IsClosed e t → AreLinksClosed e ks → IsClosed e (chain l t ks)
+unfolding IsClosed AreLinksClosed
+chain_closed e l t ks h k row locals = forms.same_chain (at e [] locals) (at e row locals) l t t ks ks (h row locals) (k row locals)
+
+-- ---- forms that bind
+
+not_outside : (xs : List Value) → false ≡ true → xs ≡ []
+not_outside xs h = absurd (cc)
+
+pub builder_lift : (b : Bool) (f e : Environment) (l : ℕ) (rs ss : Ranges) (p q t u : ResolvedPart) → AreRangeLifts b f e rs ss → IsPartLift false f e p q → IsPartLift false f e t u → IsLift b f e (builder l rs p t) (builder l ss q u)
+unfolding IsLift AreRangeLifts IsPartLift
+builder_lift b f e l rs ss p q t u h k m = record {
+  needs = omega (arith, h.needs, k.needs, m.needs);
+  same = λ g x row locals o. forms.same_builder (at g row locals) (at e row locals) l rs ss p q t u (h.same g x row locals o) (λ vs. k.same g x row (locals ++ vs) (not_outside (locals ++ vs))) (λ vs. m.same g x row (locals ++ vs) (not_outside (locals ++ vs)));
+}
+
+pub builder_closed : (e : Environment) (l : ℕ) (rs : Ranges) (p t : ResolvedPart) → AreRangesClosed e rs → IsPartClosed e p → IsPartClosed e t → IsClosed e (builder l rs p t)
+unfolding IsClosed AreRangesClosed IsPartClosed
+builder_closed e l rs p t h k m row locals =
+    forms.same_builder (at e [] locals) (at e row locals) l rs rs p p t t (h row locals) (λ vs. k row (locals ++ vs)) (λ vs. m row (locals ++ vs))
+
+pub quantified_lift : (b : Bool) (f e : Environment) (l : ℕ) (n : Quantifier) (rs ss : Ranges) (p q : ResolvedPart) (t u : ResolvedTree) → AreRangeLifts b f e rs ss → IsPartLift false f e p q → IsLift false f e t u → IsLift b f e (quantified l n rs p t) (quantified l n ss q u)
+unfolding IsLift AreRangeLifts IsPartLift
+quantified_lift b f e l n rs ss p q t u h k m = record {
+  needs = omega (arith, h.needs, k.needs, m.needs);
+  same = λ g x row locals o. forms.same_quantified (at g row locals) (at e row locals) l n rs ss p q t u (h.same g x row locals o) (λ vs. k.same g x row (locals ++ vs) (not_outside (locals ++ vs))) (λ vs. m.same g x row (locals ++ vs) (not_outside (locals ++ vs)));
+}
+
+pub quantified_closed : (e : Environment) (l : ℕ) (n : Quantifier) (rs : Ranges) (p : ResolvedPart) (t : ResolvedTree) → AreRangesClosed e rs → IsPartClosed e p → IsClosed e t → IsClosed e (quantified l n rs p t)
+unfolding IsClosed AreRangesClosed IsPartClosed
+quantified_closed e l n rs p t h k m row locals =
+    forms.same_quantified (at e [] locals) (at e row locals) l n rs rs p p t t (h row locals) (λ vs. k row (locals ++ vs)) (λ vs. m row (locals ++ vs))
+
+-- ---- parts
+
+pub absent_lift : (b : Bool) (f e : Environment) → IsPartLift b f e absent absent
+unfolding IsPartLift
+absent_lift b f e = record { needs = omega arith; same = λ g x row locals o. forms.same_absent (at g row locals) (at e row locals) }
+
+pub absent_closed : (e : Environment) → IsPartClosed e absent
+unfolding IsPartClosed
+absent_closed e row locals = forms.same_absent (at e [] locals) (at e row locals)
+
+pub present_lift : (b : Bool) (f e : Environment) (t u : ResolvedTree) → IsLift b f e t u → IsPartLift b f e (present t) (present u)
+unfolding IsLift IsPartLift
+present_lift b f e t u h = record { needs = h.needs; same = λ g x row locals o. forms.same_present (at g row locals) (at e row locals) t u (h.same g x row locals o) }
+
+pub present_closed : (e : Environment) (t : ResolvedTree) → IsClosed e t → IsPartClosed e (present t)
+unfolding IsClosed IsPartClosed
+present_closed e t h row locals = forms.same_present (at e [] locals) (at e row locals) t t (h row locals)
+
+-- ---- lists
+
+pub terms_lift : (b : Bool) (f e : Environment) (ts us : List ResolvedTree) → AreAllLifts b f e ts us → AreLifts b f e (terms ts) (terms us)
+unfolding IsLift AreLifts
+terms_lift b f e [] [] h = record { needs = omega arith; same = λ g x row locals o. forms.same_no_terms (at g row locals) (at e row locals) }
+terms_lift b f e [] (u ∷ us) h = absurd h
+terms_lift b f e (t ∷ ts) [] h = absurd h
+terms_lift b f e (t ∷ ts) (u ∷ us) h =
+    let rest = terms_lift b f e ts us h.1 in
+    record {
+      needs = omega (arith, h.0.needs, rest.needs);
+      same = λ g x row locals o. forms.same_terms (at g row locals) (at e row locals) t u (terms ts) (terms us) (h.0.same g x row locals o) (rest.same g x row locals o);
+    }
+
+pub terms_closed : (e : Environment) (ts us : List ResolvedTree) → AreEach (λ t u. IsClosed e u) ts us → AreClosed e (terms us)
+unfolding IsClosed AreClosed
+terms_closed e [] [] h row locals = forms.same_no_terms (at e [] locals) (at e row locals)
+terms_closed e [] (u ∷ us) h row locals = absurd h
+terms_closed e (t ∷ ts) [] h row locals = absurd h
+terms_closed e (t ∷ ts) (u ∷ us) h row locals = forms.same_terms (at e [] locals) (at e row locals) u u (terms us) (terms us) (h.0 row locals) (terms_closed e ts us h.1 row locals)
+
+pub ranges_lift : (b : Bool) (f e : Environment) (rs ss : List (ℕ × ResolvedTree)) → AreEach (IsRangeLift b f e) rs ss → AreRangeLifts b f e (ranges rs) (ranges ss)
+unfolding IsLift AreRangeLifts
+ranges_lift b f e [] [] h = record { needs = omega arith; same = λ g x row locals o. forms.same_no_ranges (at g row locals) (at e row locals) }
+ranges_lift b f e [] (s ∷ ss) h = absurd h
+ranges_lift b f e (r ∷ rs) [] h = absurd h
+ranges_lift b f e (r ∷ rs) (s ∷ ss) h =
+    let first = h.0.1 in let rest = ranges_lift b f e rs ss h.1 in
+    record {
+      needs = omega (arith, first.needs, rest.needs);
+      same = λ g x row locals o. subst (λ n. AreSameRanges (at g row locals) (range r.0 r.1 (ranges rs)) (at e row locals) (range n s.1 (ranges ss))) h.0.0
+          (forms.same_ranges (at g row locals) (at e row locals) r.0 r.1 s.1 (ranges rs) (ranges ss) (first.same g x row locals o) (rest.same g x row locals o));
+    }
+
+pub ranges_closed : (e : Environment) (rs ss : List (ℕ × ResolvedTree)) → AreEach (λ r s. IsRangeClosed e s) rs ss → AreRangesClosed e (ranges ss)
+unfolding IsClosed AreRangesClosed
+ranges_closed e [] [] h row locals = forms.same_no_ranges (at e [] locals) (at e row locals)
+ranges_closed e [] (s ∷ ss) h row locals = absurd h
+ranges_closed e (r ∷ rs) [] h row locals = absurd h
+ranges_closed e (r ∷ rs) (s ∷ ss) h row locals = forms.same_ranges (at e [] locals) (at e row locals) s.0 s.1 s.1 (ranges ss) (ranges ss) (h.0 row locals) (ranges_closed e rs ss h.1 row locals)
+
+pub links_lift : (b : Bool) (f e : Environment) (ks ls : List (Relation × ResolvedTree)) → AreEach (IsLinkLift b f e) ks ls → AreLinkLifts b f e (links ks) (links ls)
+unfolding IsLift AreLinkLifts
+links_lift b f e [] [] h = record { needs = omega arith; same = λ g x row locals o. forms.same_no_links (at g row locals) (at e row locals) }
+links_lift b f e [] (k ∷ ls) h = absurd h
+links_lift b f e (k ∷ ks) [] h = absurd h
+links_lift b f e (k ∷ ks) (m ∷ ls) h =
+    let first = h.0.1 in let rest = links_lift b f e ks ls h.1 in
+    record {
+      needs = omega (arith, first.needs, rest.needs);
+      same = λ g x row locals o. subst (λ r. AreSameLinks (at g row locals) (link k.0 k.1 (links ks)) (at e row locals) (link r m.1 (links ls))) h.0.0
+          (forms.same_links (at g row locals) (at e row locals) k.0 k.1 m.1 (links ks) (links ls) (first.same g x row locals o) (rest.same g x row locals o));
+    }
+
+pub links_closed : (e : Environment) (ks ls : List (Relation × ResolvedTree)) → AreEach (λ k m. IsLinkClosed e m) ks ls → AreLinksClosed e (links ls)
+unfolding IsClosed AreLinksClosed
+links_closed e [] [] h row locals = forms.same_no_links (at e [] locals) (at e row locals)
+links_closed e [] (m ∷ ls) h row locals = absurd h
+links_closed e (k ∷ ks) [] h row locals = absurd h
+links_closed e (k ∷ ks) (m ∷ ls) h row locals = forms.same_links (at e [] locals) (at e row locals) m.0 m.1 m.1 (links ls) (links ls) (h.0 row locals) (links_closed e ks ls h.1 row locals)
+
+-- ---- the name of what a closed part comes to
+
+no_predicate : (c : Context) (t : ResolvedTree) (a : Truth) → is_liftable t ≡ true → IsTruth c t a ↔ (a ≡ truth.False)
+no_predicate c (reference l r) a h = absurd (cc)
+no_predicate c (number l n) a h = absurd (cc)
+no_predicate c (constant l k) a h = absurd (cc)
+no_predicate c (empty_set l t) a h = (λ x. x, λ x. x)
+no_predicate c (bracket l t) a h = absurd (cc)
+no_predicate c (listed l form ts) a h = (λ x. x, λ x. x)
+no_predicate c (builder l rs p t) a h = (λ x. x, λ x. x)
+no_predicate c (unary l the_unary.Not t) a h = absurd (cc)
+no_predicate c (unary l (the_unary.Sign s) t) a h = (λ x. x, λ x. x)
+no_predicate c (unary l the_unary.Inverse t) a h = (λ x. x, λ x. x)
+no_predicate c (binary l (operator.Connective k) u v) a h = absurd (cc)
+no_predicate c (binary l (operator.Function k) u v) a h = (λ x. x, λ x. x)
+no_predicate c (binary l (operator.Generic k) u v) a h = (λ x. x, λ x. x)
+no_predicate c (binary l operator.Application u v) a h = (λ x. x, λ x. x)
+no_predicate c (binary l operator.Image u v) a h = (λ x. x, λ x. x)
+no_predicate c (chain l t ks) a h = absurd (cc)
+no_predicate c (quantified l q rs p t) a h = absurd (cc)
+
+no_infinite : (ds : List Defined) (t : ResolvedTree) → is_liftable t ≡ true → direct ds t ≡ None
+no_infinite ds (reference l r) h = absurd (cc)
+no_infinite ds (number l n) h = refl
+no_infinite ds (constant l k) h = absurd (cc)
+no_infinite ds (empty_set l t) h = refl
+no_infinite ds (bracket l t) h = absurd (cc)
+no_infinite ds (listed l form ts) h = refl
+no_infinite ds (builder l rs p t) h = refl
+no_infinite ds (unary l op t) h = refl
+no_infinite ds (binary l op u v) h = refl
+no_infinite ds (chain l t ks) h = refl
+no_infinite ds (quantified l q rs p t) h = refl
+
+found_none : (o : Option Defined) → o ≡ None → extent_set (extent_found o) ≡ None
+found_none o h = ap (λ p. extent_set (extent_found p)) h
+
+pub named_lift : (e f g : Environment) (l : ℕ) (t u : ResolvedTree) (x : Outcome) → IsLonger e f → length f.globals ≤ length f.outcomes → g ≡ longer f (x ∷ []) → is_liftable u ≡ true → IsClosed e u → IsLift true f e t u → HasOutcome (at f [] []) t x → IsLift true g e (reference l (Global (length f.outcomes))) u
+unfolding IsLift IsClosed
+named_lift e f g l t u x e-f behind is liftable closed lift has = record {
+  needs = omega arith;
+  same = λ h g-h row locals outside.
+      let none = outside refl in
+      let known : outcome_in (at h row locals) (Global (length f.outcomes)) ≡ x = ap outcome_or (longer_ones.new_outcome f g h x is g-h) in
+      let bare : HasOutcome (at e [] []) u x = ((lift.same f (longer_ones.itself f) [] [] (λ z. refl)).outcome x).0 has in
+      let here : HasOutcome (at e row locals) u x = subst (λ ls. HasOutcome (at e row ls) u x) (sym none) (((closed row []).outcome x).0 bare) in
+      let f-h = longer_ones.further f g h (x ∷ [], is) g-h in
+      record {
+        outcome = λ o. (λ y. subst (λ z. HasOutcome (at e row locals) u z) (sym (y ∙ known)) here, λ y. one_outcome (at e row locals) u o x y here ∙ sym known);
+        truth = λ a. (λ y. (no_predicate (at e row locals) u a liftable).1 y, λ y. (no_predicate (at e row locals) u a liftable).0 y);
+        infinite = found_none _ (longer_ones.no_global f h (length f.outcomes) behind f-h) ∙ sym (no_infinite e.globals u liftable);
+      };
+}
+
+-- a lift outside binders has the truths of its term, and uses no more components
+pub is_lifted : (f e : Environment) (t u : ResolvedTree) → IsLift true f e t u → IsLifted f e t u
+unfolding IsLift
+is_lifted f e t u h = record {
+  same = λ row a. (h.same f (longer_ones.itself f) row [] (λ z. refl)).truth a;
+  uses = uses_no_more t u h.needs;
+}

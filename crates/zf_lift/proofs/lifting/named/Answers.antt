@@ -1,0 +1,22 @@
+use Rattle.std.proofs.Common.{◌∙◌, ◌≤◌, true, List, sym, ap, length, subst, arith}
+use Rattle.zf_term.specs.Definitions.{Defined}
+use Rattle.zf_term.specs.ResolvedTrees.{reference, resolved_of}
+use Rattle.zf_term.proofs.ResolvedSeen.{of-Name}
+use Rattle.zf_reference.specs.declared.reference.Reference.TheVariants.{Global}
+use Rattle.zf_meaning.specs.Envs.{environment_of}
+use Rattle.zf_value.proofs.Regulars.{regular-nothing}
+use Rattle.zf_lift.specs.Lifts.{IsLift}
+use Rattle.zf_lift.proofs.Wherever.{named_lift}
+use Rattle.zf_lift.proofs.lifting.named.Goals as goal
+
+pub value_of-requires : goal.value_of-requires
+value_of-requires c = regular-nothing
+
+pub returns-clause-same : goal.returns-clause-same
+returns-clause-same c = λ e t longer liftable closed lift.
+    let f = environment_of c.args.own.now in
+    let counted = c.count-place.ensures in
+    let behind = subst (λ (ds : List Defined). length ds ≤ length f.outcomes) c.globals.ensures (omega (arith, c.len.ensures.len, counted, c.if-place-len.false)) in
+    subst (λ u. IsLift true (environment_of c.add.new.self) e u t) (sym (of-Name c.line.result (Global c.count-place.result)))
+    (subst (λ n. IsLift true (environment_of c.add.new.self) e (reference c.line.result (Global n)) t) (sym counted)
+    (named_lift e f (environment_of c.add.new.self) c.line.result (resolved_of c.args.found.part) t c.in_ok-outcome.outcome longer behind c.in_ok-add.ensures liftable closed lift c.in_ok-outcome.ensures.is))

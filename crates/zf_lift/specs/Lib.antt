@@ -1,0 +1,5 @@
+pub mod Lifted
+pub mod Same
+pub mod Needs
+pub mod Lifts
+pub mod Lists

@@ -1,0 +1,76 @@
+-- Terms in which closed parts are names of what they come to, which stand behind all others. Public clauses rest on `is_liftable` alone.
+use Rattle.std.specs.Prelude.{◌≡◌, ◌≤◌, ℕ, Bool, true, false, List, []}
+use Rattle.zf_tree.specs.declared.operator.Operator.TheVariants as operator
+use Rattle.zf_tree.specs.declared.operator.Unary.TheVariants as the_unary
+use Rattle.zf_term.specs.ResolvedTrees.{ResolvedTree, reference, number, constant, empty_set, bracket, listed, builder, unary, binary, chain, quantified, ResolvedTrees, ResolvedLinks, Ranges, ResolvedPart}
+use Rattle.zf_value.specs.declared.value.Value.{Value}
+use Rattle.zf_meaning.specs.Environments.{Environment, Context}
+use Rattle.zf_lift.specs.Lifted.{IsLonger}
+use Rattle.zf_lift.specs.Needs.{need, all_need, links_need, ranges_need, part_need}
+use Rattle.zf_lift.specs.Same.{IsSame, AreSame, AreSameRanges, AreSameLinks, IsSamePart}
+
+abbrev pub at : Environment → List Value → List Value → Context
+at e row locals = record { environment = e; row = row; locals = locals }
+
+-- in each environment longer than f as in e, whatever is bound; outside binders no variable is
+abbrev pub Wherever : Bool → Environment → Environment → (Context → Context → Type 0) → Type 0
+Wherever outside f e P = (g : Environment) → IsLonger f g → (row locals : List Value) → (outside ≡ true → locals ≡ []) → P (at g row locals) (at e row locals)
+
+-- whichever components are bound as if none is
+abbrev pub Whichever : Environment → (Context → Context → Type 0) → Type 0
+Whichever e P = (row locals : List Value) → P (at e [] locals) (at e row locals)
+
+-- it needs no more, and what is asked holds
+pub record Keeps (m n : ℕ) (P : Type 0) : Type 0 where
+  pub needs : m ≤ n
+  pub same : P
+
+unfoldable pub IsLift : Bool → Environment → Environment → ResolvedTree → ResolvedTree → Type 0
+IsLift outside f e t u = Keeps (need t) (need u) (Wherever outside f e (λ c d. IsSame c t d u))
+
+unfoldable pub AreLifts : Bool → Environment → Environment → ResolvedTrees → ResolvedTrees → Type 0
+AreLifts outside f e ts us = Keeps (all_need ts) (all_need us) (Wherever outside f e (λ c d. AreSame c ts d us))
+
+unfoldable pub AreRangeLifts : Bool → Environment → Environment → Ranges → Ranges → Type 0
+AreRangeLifts outside f e rs ss = Keeps (ranges_need rs) (ranges_need ss) (Wherever outside f e (λ c d. AreSameRanges c rs d ss))
+
+unfoldable pub AreLinkLifts : Bool → Environment → Environment → ResolvedLinks → ResolvedLinks → Type 0
+AreLinkLifts outside f e ks ls = Keeps (links_need ks) (links_need ls) (Wherever outside f e (λ c d. AreSameLinks c ks d ls))
+
+unfoldable pub IsPartLift : Bool → Environment → Environment → ResolvedPart → ResolvedPart → Type 0
+IsPartLift outside f e p q = Keeps (part_need p) (part_need q) (Wherever outside f e (λ c d. IsSamePart c p d q))
+
+unfoldable pub IsClosed : Environment → ResolvedTree → Type 0
+IsClosed e t = Whichever e (λ c d. IsSame c t d t)
+
+unfoldable pub AreClosed : Environment → ResolvedTrees → Type 0
+AreClosed e ts = Whichever e (λ c d. AreSame c ts d ts)
+
+unfoldable pub AreRangesClosed : Environment → Ranges → Type 0
+AreRangesClosed e rs = Whichever e (λ c d. AreSameRanges c rs d rs)
+
+unfoldable pub AreLinksClosed : Environment → ResolvedLinks → Type 0
+AreLinksClosed e ks = Whichever e (λ c d. AreSameLinks c ks d ks)
+
+unfoldable pub IsPartClosed : Environment → ResolvedPart → Type 0
+IsPartClosed e p = Whichever e (λ c d. IsSamePart c p d p)
+
+-- a form that builds a value: it is no predicate, and no infinite set
+abbrev pub is_liftable : ResolvedTree → Bool
+is_liftable (reference l r) = false
+is_liftable (number l n) = false
+is_liftable (constant l k) = false
+is_liftable (empty_set l t) = true
+is_liftable (bracket l t) = false
+is_liftable (listed l form ts) = true
+is_liftable (builder l rs p t) = true
+is_liftable (unary l the_unary.Not t) = false
+is_liftable (unary l (the_unary.Sign s) t) = true
+is_liftable (unary l the_unary.Inverse t) = true
+is_liftable (binary l (operator.Connective k) a b) = false
+is_liftable (binary l (operator.Function k) a b) = true
+is_liftable (binary l (operator.Generic k) a b) = true
+is_liftable (binary l operator.Application a b) = true
+is_liftable (binary l operator.Image a b) = true
+is_liftable (chain l t ks) = false
+is_liftable (quantified l q rs p t) = false

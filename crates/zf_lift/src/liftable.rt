@@ -1,0 +1,74 @@
+//! Which parts of a predicate are worth a name.
+ghost use Rattle.std.specs.Prelude.{◌≡◌, ℕ};
+ghost use Rattle.zf_term.specs.ResolvedTrees.{ResolvedTree, unary, binary, resolved_of};
+ghost use Rattle.zf_lift.specs.Lifts as spec;
+
+use zf_term::resolved::Resolved;
+use zf_tree::operator::{Listed, Operator, Unary};
+use zf_tree::symbol::{Infix, Prefix, Relation};
+use zf_tree::operator::Sign;
+
+/// Whether the term is of a form that builds a value.
+#[tactic(auto, using(zf_term::proofs::ResolvedSeen::seen))]
+pub fn is_liftable(term: &Resolved<'_>) -> bool
+    ensures { result ≡ spec.is_liftable (resolved_of term.now) }
+{
+    match term {
+        Resolved::Name(_, _) => false,
+        Resolved::Number(_, _) => false,
+        Resolved::Constant(_, _) => false,
+        Resolved::EmptySet(_, _) => true,
+        Resolved::Bracket(_, _) => false,
+        Resolved::Listed(_, _, _) => true,
+        Resolved::Builder(_, _, _, _) => true,
+        Resolved::Unary(_, operator, _) => builds(*operator),
+        Resolved::Binary(_, operator, _, _) => combines(*operator),
+        Resolved::Chain(_, _, _) => false,
+        Resolved::Quantified(_, _, _, _, _) => false,
+    }
+}
+
+/// Whether what stands behind a relation is asked only for whether it has a member, and then need not be built: a family of sets behind a membership.
+pub fn is_asked(relation: Relation, term: &Resolved<'_>) -> bool {
+    match relation {
+        Relation::Member => is_family(term),
+        Relation::NotMember => is_family(term),
+        _ => false,
+    }
+}
+
+/// Whether the term is a set that is told by what it is made of.
+fn is_family(term: &Resolved<'_>) -> bool {
+    match term {
+        Resolved::Listed(_, Listed::Product, _) => true,
+        Resolved::Unary(_, Unary::Sign(Sign::Symbol(Prefix::Power)), _) => true,
+        Resolved::Unary(_, Unary::Sign(Sign::Symbol(Prefix::Finset)), _) => true,
+        Resolved::Binary(_, Operator::Generic(_), _, _) => true,
+        Resolved::Binary(_, Operator::Function(Infix::UpTo), _, _) => true,
+        _ => false,
+    }
+}
+
+/// Whether what stands before or behind a term makes a value of it.
+fn builds(operator: Unary) -> bool
+    ensures { (l : ℕ) (t : ResolvedTree) → result ≡ spec.is_liftable (unary l operator t) }
+{
+    match operator {
+        Unary::Not => false,
+        Unary::Sign(_) => true,
+        Unary::Inverse => true,
+    }
+}
+
+/// Whether what stands between two terms makes a value of them.
+fn combines(operator: Operator) -> bool
+    ensures { (l : ℕ) (t u : ResolvedTree) → result ≡ spec.is_liftable (binary l operator t u) }
+{
+    match operator {
+        Operator::Connective(_) => false,
+        Operator::Function(_) => true,
+        Operator::Generic(_) => true,
+        Operator::Application => true,
+        Operator::Image => true,
+    }
+}

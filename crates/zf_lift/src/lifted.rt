@@ -1,0 +1,73 @@
+//! Predicates in which closed parts are names.
+ghost use Rattle.std.specs.Prelude.{◌≡◌, IfOk, IfSome, OnOk, true, map};
+ghost use Rattle.zf_term.specs.ResolvedTrees.{resolved_of};
+ghost use Rattle.zf_meaning.specs.Envs.{environment_of};
+ghost use Rattle.zf_lift.specs.Lifted.{IsLonger, AreLifted};
+ghost use Rattle.zf_lift.specs.Lists.{AreAllLifts};
+
+use crate::lifting::lifted;
+use crate::unlifted::Unlifted;
+use bumpalo::Bump;
+use std::alloc::{AllocError, Global};
+use zf_data::arena::Lasting;
+use zf_meaning::env::Env;
+use zf_term::resolved::Resolved;
+
+/// Predicates in which closed parts are names, and the environment in which these have the parts' outcomes.
+#[derive(Drop)]
+pub struct Lifted<'e, 'g, 'a> {
+    pub terms: Vec<Resolved<'a>>,
+    pub env: &'e Env<'g, 'a>,
+}
+
+/// The predicates with names for their closed parts, each of which is worked out. None if they have none.
+pub fn lift<'e, 'g, 'a>(
+    alloc: Global,
+    arena: &'a Bump,
+    terms: &[Resolved<'a>],
+    env: &'e Env<'g, 'a>,
+) -> Result<Option<Lifted<'e, 'g, 'a>>, AllocError>
+    ensures { IfOk result (λ found. IfSome found (λ l. AreLifted (environment_of l.env.now) (environment_of env.now) (map resolved_of l.terms.items) (map resolved_of terms.now))) }
+{
+    let mut own = env.copy(alloc)?;
+    let first = own.count();
+    match all_lifted(alloc, arena, terms, env, &mut own) {
+        Ok(terms) => {
+            if own.count() == first {
+                return Ok(None);
+            }
+            let env: &'e Env<'g, 'a> = kept(arena, own)?;
+            let lifted: Lifted<'e, 'g, 'a> = Lifted { terms, env };
+            Ok(Some(lifted))
+        }
+        Err(Unlifted::Foreign) => Ok(None),
+        Err(Unlifted::OutOfMemory) => Err(AllocError),
+    }
+}
+
+/// The environment, which lasts as long as the arena.
+fn kept<'e, 'g, 'a>(arena: &'e Bump, env: Env<'g, 'a>) -> Result<&'e Env<'g, 'a>, AllocError>
+    ensures { IfOk result (λ e. environment_of e.now ≡ environment_of env.entry) }
+{
+    let lasting = Lasting::new(arena, env)?;
+    Ok(lasting.get())
+}
+
+/// The predicates in which closed parts are names, which get their outcomes.
+fn all_lifted<'g, 'a>(
+    alloc: Global,
+    arena: &'a Bump,
+    terms: &[Resolved<'a>],
+    base: &Env<'g, 'a>,
+    own: &mut Env<'g, 'a>,
+) -> Result<Vec<Resolved<'a>>, Unlifted>
+    ensures grows { OnOk result (IsLonger (environment_of own.old) (environment_of own.new)) }
+    ensures same { IsLonger (environment_of base.now) (environment_of own.old) → IfOk result (λ ts. AreAllLifts true (environment_of own.new) (environment_of base.now) (map resolved_of ts.items) (map resolved_of terms.now)) }
+{
+    let mut all = Vec::with_capacity(alloc, terms.len())?;
+    for term in terms {
+        let found = lifted(term, arena, true, base, own)?;
+        all.push(found.part)?;
+    }
+    Ok(all)
+}

@@ -1,0 +1,100 @@
+-- Comparisons of numbers, and the numbers that terms come to.
+use Rattle.std.proofs.Common.{◌≡◌, ℕ, ℤ, to_z, of_z, ◌<◌, List, [], ◌∷◌, length, get_or, map, arith, Option, Some, None, Bool, true, false, IsTrue, ◌↔◌, if◌then◌else◌, refl, sym, ap, ◌∙◌, subst, inl}
+use Rattle.std.specs.Option.{IfSome}
+use Rattle.std.specs.Prelude.{FitsSigned}
+use Rattle.std.specs.Int.{w64}
+use Rattle.zf_value.proofs.Exactly.{same}
+use denote.Bor.{Bor}
+use Rattle.zf_tree.specs.declared.symbol.Infix.{Infix}
+use Rattle.zf_tree.specs.declared.symbol.Relation.{Relation}
+use Rattle.zf_tree.specs.declared.operator.Operator.TheVariants.{Application, Function}
+use Rattle.zf_extent.specs.Extents.{is_membership}
+use Rattle.zf_term.specs.declared.resolved.Resolved.{Resolved}
+use Rattle.zf_term.specs.declared.resolved.ResolvedLink.{ResolvedLink}
+use Rattle.zf_term.specs.ResolvedTrees.{ResolvedTree, binary, chain, links, resolved_of, resolved_link_of}
+use Rattle.zf_term.proofs.ResolvedSeen.{link-seen}
+use Rattle.zf_value.specs.declared.value.Value.{Value, Int}
+use Rattle.zf_value.specs.declared.value.Outcome.{Outcome}
+use Rattle.zf_value.specs.declared.value.Outcome.TheVariants.{Is}
+use Rattle.zf_value.specs.declared.value.Truth.{Truth}
+use Rattle.zf_value.specs.declared.value.Truth.TheVariants.{True, False, Out}
+use Rattle.zf_value.specs.Numbers.{number_of, OnNumbers}
+use Rattle.zf_value.specs.Operations.{IsApplied}
+use Rattle.zf_value.specs.Sets.{IsRegular, IsRegularOutcome, members}
+use Rattle.zf_value.proofs.Seen.{number_of-Int, is_Int}
+use Rattle.zf_meaning.specs.Environments.{Context}
+use Rattle.zf_meaning.specs.Found.{found_of}
+use Rattle.zf_meaning.specs.Meaning.{HasOutcome, IsTruth, IsLink, infinite_right}
+use Rattle.zf_meaning.specs.Symbols.{InfixOutcome, Holds}
+use Rattle.zf_meaning.specs.Truths.{IsAtom, IsConjunction, Tells}
+
+-- ---- names
+
+pub found-is : (f : Option (Bor Value)) (o : Outcome) → found_of f ≡ o → IfSome f (λ v. Is v.now ≡ o)
+found-is None o e = tt
+found-is (Some v) o e = e
+
+pub found-regular : (f : Option (Bor Value)) (o : Outcome) → found_of f ≡ o → IsRegularOutcome o → IfSome f (λ v. IsRegular v.now)
+found-regular None o e h = tt
+found-regular (Some v) o e h = subst IsRegularOutcome (sym e) h
+
+pub number-is : (v : Value) (o : Outcome) (r : Option ℤ) → Is v ≡ o → r ≡ number_of v → IfSome r (λ n. Is (Int n) ≡ o)
+number-is v o None e h = tt
+number-is v o (Some n) e h = ap Is (sym (is_Int v n h)) ∙ e
+
+pub number-in : (v : Value) (o : Outcome) (r : Option ℤ) → o ≡ Is v → r ≡ number_of v → IfSome r (λ n. o ≡ Is (Int n))
+number-in v o None e h = tt
+number-in v o (Some n) e h = e ∙ ap Is (is_Int v n h)
+
+-- ---- symbols
+
+-- numbers that were written as words are themselves
+pub written-both : (Q : ℤ → ℤ → Type 0) (m n : ℤ) → FitsSigned w64 m → FitsSigned w64 n → Q (to_z w64 (of_z w64 m)) (to_z w64 (of_z w64 n)) → Q m n
+written-both Q m n f g h = subst (λ x. Q x n) (same m f) (subst (λ y. Q (to_z w64 (of_z w64 m)) y) (same n g) h)
+
+pub told-by : (P : Type 0) (b : Bool) (t : Truth) → t ≡ (if b then True else False) → (IsTrue b ↔ P) → Tells P t
+told-by P true t e h = subst (Tells P) (sym e) (h.0 refl)
+told-by P false t e h = subst (Tells P) (sym e) (λ p. let no = h.1 p in (cc))
+
+pub on-numbers : (P : ℤ → ℤ → Outcome → Type 0) (m n : ℤ) (o : Outcome) (r : Option ℤ) → P m n o → IfSome r (λ k. o ≡ Is (Int k)) → IfSome r (λ k. OnNumbers (number_of (Int m)) (number_of (Int n)) P (Is (Int k)))
+on-numbers P m n o None h e = tt
+on-numbers P m n o (Some k) h e = rw (number_of-Int m, number_of-Int n) (subst (P m n) e h)
+
+pub both-numbers : (c : Context) (l : ℕ) (op : Infix) (a b : ResolvedTree) (m n : ℤ) (r : Option ℤ) → HasOutcome c a (Is (Int m)) → HasOutcome c b (Is (Int n)) → IfSome r (λ k. InfixOutcome op (Int m) (Int n) (Is (Int k)))
+    → IfSome r (λ k. HasOutcome c (binary l (Function op) a b) (Is (Int k)))
+both-numbers c l op a b m n None h g q = tt
+both-numbers c l op a b m n (Some k) h g q = (Is (Int m), Is (Int n), h, g, q)
+
+pub number-applied : (c : Context) (l : ℕ) (a b : ResolvedTree) (f x y : Value) (xs : List Value) (r : Option ℤ) → HasOutcome c a (Is f) → HasOutcome c b (Is x) → xs ≡ members f → IsApplied xs x (Is y) → r ≡ number_of y
+    → IfSome r (λ n. HasOutcome c (binary l Application a b) (Is (Int n)))
+number-applied c l a b f x y xs None h g e k q = tt
+number-applied c l a b f x y xs (Some n) h g e k q = (Is f, Is x, h, g, subst (λ (z : Value). IsApplied (members f) x (Is z)) (is_Int y n q) (subst (λ (zs : List Value). IsApplied zs x (Is y)) e k))
+
+-- ---- chains
+
+alone : (P : Truth → Type 0) (u : Truth) → P u → IsConjunction P (λ q. q ≡ True) u
+alone P True h = (h, refl)
+alone P False h = inl h
+alone P Out h = inl (h, inl refl)
+
+pub one-link : (ks : List ResolvedLink) (k : ResolvedLink) → 0 < length ks → length ks < 2 → k ≡ get_or ks 0 k → ks ≡ k ∷ []
+one-link [] k l m e = absurd (omega arith)
+one-link (j ∷ []) k l m e = ap (λ z. z ∷ []) (sym e)
+one-link (i ∷ j ∷ ks) k l m e = absurd (omega arith)
+
+comparison : (c : Context) (r : Relation) (t : ResolvedTree) (x y : Outcome) (u : Truth) → is_membership r ≡ false → IsAtom x y (Holds r) u → IsLink (infinite_right c r t) r x y u
+comparison c r t x y u e h = rw e h
+
+pub compared-told : (c : Context) (l : ℕ) (a : ResolvedTree) (k : ResolvedLink) (m n : ℤ) (u : Truth) → is_membership k.relation ≡ false → HasOutcome c a (Is (Int m)) → HasOutcome c (resolved_of k.right) (Is (Int n)) → IsAtom (Is (Int m)) (Is (Int n)) (Holds k.relation) u
+    → IsTruth c (chain l a (links (map resolved_link_of (k ∷ [])))) u
+compared-told c l a k m n u e h g q =
+    subst (λ z. IsTruth c (chain l a (links (z ∷ []))) u) (sym (link-seen k))
+    (Is (Int m), h, (Is (Int n), g, alone (IsLink (infinite_right c k.relation (resolved_of k.right)) k.relation (Is (Int m)) (Is (Int n))) u (comparison c k.relation (resolved_of k.right) (Is (Int m)) (Is (Int n)) u e q)))
+
+pub chain-compared : (c : Context) (d : ResolvedTree) (l : ℕ) (t a : Resolved) (ks sl : List ResolvedLink) (r : Option Truth) → d ≡ chain l (resolved_of t) (links (map resolved_link_of ks)) → a ≡ t → sl ≡ ks
+    → IfSome r (IsTruth c (chain l (resolved_of a) (links (map resolved_link_of sl)))) → IfSome r (IsTruth c d)
+chain-compared c d l t a ks sl r e f g h =
+    subst (λ z. IfSome r (IsTruth c z)) (sym e) (subst (λ zs. IfSome r (IsTruth c (chain l (resolved_of t) (links (map resolved_link_of zs))))) g (subst (λ z. IfSome r (IsTruth c (chain l (resolved_of z) (links (map resolved_link_of sl))))) f h))
+
+pub at-some : {A : Type 0} (P : A → Type 0) (r : Option A) (x : A) → r ≡ Some x → IfSome r P → P x
+at-some P r x e h = subst (λ o. IfSome o P) e h

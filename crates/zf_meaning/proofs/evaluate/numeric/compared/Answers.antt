@@ -1,0 +1,22 @@
+use Rattle.std.proofs.Common.{rules, w64, map, sym, subst, arith}
+use Rattle.zf_term.specs.ResolvedTrees.{chain, links, resolved_of, resolved_link_of}
+use Rattle.std.specs.Prelude.{FitsSigned}
+use Rattle.zf_value.specs.declared.value.Outcome.TheVariants.{Is}
+use Rattle.zf_value.specs.declared.value.Value.{Int}
+use Rattle.zf_meaning.specs.Meaning.{IsTruth}
+use Rattle.zf_meaning.specs.Scopes.{scope_of}
+use Rattle.zf_meaning.specs.Symbols.{Holds}
+use Rattle.zf_meaning.specs.Truths.{IsAtom}
+use Rattle.zf_meaning.proofs.Numeric.{compared-told, one-link, written-both}
+use Rattle.zf_meaning.proofs.evaluate.numeric.compared.Goals as goal
+
+pub returns : goal.returns
+returns g c =
+    let k = c.link-item in
+    let scope = scope_of c.args.env.now (g.R.Row.values c.args.row.now) c.args.locals.now in
+    let one = one-link c.args.links.now k.result (omega (arith, c.in-len1.len_at_least)) (omega (arith, c.in-len1.len_below)) k.is in
+    let f : FitsSigned w64 c.in-Some.m = search rules in
+    let h : FitsSigned w64 c.in-Some-number_at.n = search rules in
+    let told = written-both (λ x y. IsAtom (Is (Int x)) (Is (Int y)) (Holds k.result.relation) c.between_numbers.result) c.in-Some.m c.in-Some-number_at.n f h c.between_numbers.ensures in
+    λ line. subst (λ ks. IsTruth scope (chain line (resolved_of c.args.first.now) (links (map resolved_link_of ks))) c.between_numbers.result) (sym one)
+    (compared-told scope line (resolved_of c.args.first.now) k.result c.in-Some.m c.in-Some-number_at.n c.between_numbers.result (c.is_comparison.ensures c.if-not-is_comparison.false) c.in-Some.ensures c.in-Some-number_at.ensures told)

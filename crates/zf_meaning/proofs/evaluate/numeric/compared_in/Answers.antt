@@ -1,0 +1,11 @@
+use Rattle.std.proofs.Common.{ap, ◌∙◌}
+use Rattle.zf_term.specs.ResolvedTrees.{resolved_of}
+use Rattle.zf_term.proofs.ResolvedSeen.{of-Chain}
+use Rattle.zf_meaning.specs.Scopes.{scope_of}
+use Rattle.zf_meaning.proofs.Numeric.{chain-compared}
+use Rattle.zf_meaning.proofs.evaluate.numeric.compared_in.Goals as goal
+
+pub returns : goal.returns
+returns g c =
+    let i = c.in-Chain in
+    chain-compared (scope_of c.args.env.now (g.R.Row.values c.args.row.now) c.args.locals.now) (resolved_of c.args.term.now) i.field-0 i.first c.get.result.now i.links c.as_slice.result.now c.compared.result (ap resolved_of i.is ∙ of-Chain i.field-0 i.first i.links) c.get.ensures c.as_slice.ensures (c.compared.ensures i.field-0)

@@ -1,0 +1,23 @@
+use Rattle.std.proofs.Common.{sym, subst}
+use Rattle.std.specs.Option.{IfSome}
+use Rattle.zf_value.specs.declared.value.Outcome.TheVariants.{Is}
+use Rattle.zf_value.specs.declared.value.Value.{Int}
+use Rattle.zf_value.specs.Numbers.{IsSum, IsDifference, IsProduct}
+use Rattle.zf_meaning.specs.Symbols.{InfixOutcome}
+use Rattle.zf_meaning.proofs.Numeric.{on-numbers, written-both}
+use Rattle.zf_meaning.proofs.evaluate.numeric.of_numbers.Goals as goal
+
+pub returns-in-Plus : goal.returns-in-Plus
+returns-in-Plus c =
+    subst (λ op. IfSome c.number_in.result (λ k. InfixOutcome op (Int c.args.m) (Int c.args.n) (Is (Int k)))) (sym c.in-Plus.is)
+    (on-numbers IsSum c.args.m c.args.n c.sum.result c.number_in.result (written-both (λ x y. IsSum x y c.sum.result) c.args.m c.args.n c.ranges.m c.ranges.n c.sum.ensures.is) c.number_in.ensures)
+
+pub returns-in-Minus : goal.returns-in-Minus
+returns-in-Minus c =
+    subst (λ op. IfSome c.number_in-in-Minus.result (λ k. InfixOutcome op (Int c.args.m) (Int c.args.n) (Is (Int k)))) (sym c.in-Minus.is)
+    (on-numbers IsDifference c.args.m c.args.n c.difference.result c.number_in-in-Minus.result (written-both (λ x y. IsDifference x y c.difference.result) c.args.m c.args.n c.ranges.m c.ranges.n c.difference.ensures.is) c.number_in-in-Minus.ensures)
+
+pub returns-in-Times : goal.returns-in-Times
+returns-in-Times c =
+    subst (λ op. IfSome c.number_in-in-Times.result (λ k. InfixOutcome op (Int c.args.m) (Int c.args.n) (Is (Int k)))) (sym c.in-Times.is)
+    (on-numbers IsProduct c.args.m c.args.n c.product.result c.number_in-in-Times.result (written-both (λ x y. IsProduct x y c.product.result) c.args.m c.args.n c.ranges.m c.ranges.n c.product.ensures.is) c.number_in-in-Times.ensures)

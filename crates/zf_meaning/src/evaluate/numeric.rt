@@ -1,0 +1,298 @@
+//! Comparisons of numbers, told without values round the numbers.
+ghost use Rattle.std.specs.Prelude.{◌≡◌, ◌<◌, ℕ, pos, IfSome, IsTrue, false, map, slice_get};
+ghost use Rattle.zf_tree.specs.declared.operator.Operator.TheVariants.{Application, Function};
+ghost use Rattle.zf_extent.specs.Extents.{is_membership};
+ghost use Rattle.zf_term.specs.ResolvedTrees as tree;
+ghost use Rattle.zf_term.specs.ResolvedTrees.{resolved_of, resolved_link_of};
+ghost use Rattle.zf_term.specs.declared.resolved.Resolved.{size-Resolved};
+ghost use Rattle.zf_value.specs.declared.value.Outcome.TheVariants.{Is};
+ghost use Rattle.zf_value.specs.declared.value.Value.{Int};
+ghost use Rattle.zf_value.specs.Numbers.{IsNumber};
+ghost use Rattle.zf_value.specs.Sets.{IsRegular};
+ghost use Rattle.zf_meaning.specs.Environments as spec;
+ghost use Rattle.zf_meaning.specs.Envs.{environment_of};
+ghost use Rattle.zf_meaning.specs.Meaning.{HasOutcome, IsTruth};
+ghost use Rattle.zf_meaning.specs.Scopes.{scope_of, IsRegularScope};
+ghost use Rattle.zf_meaning.specs.Symbols.{InfixOutcome};
+
+use super::{component, local};
+use crate::env::Env;
+use crate::relation::between_numbers;
+use crate::row::Row;
+use zf_reference::reference::Reference;
+use zf_term::resolved::{Resolved, ResolvedLink};
+use zf_tree::operator::Operator;
+use zf_tree::symbol::{Infix, Relation};
+use zf_value::number::{difference, product, sum};
+use zf_value::relation::applied;
+use zf_value::value::{Outcome, Truth, Value};
+
+/// The truth of a predicate that compares two numbers, where these are told without values round them.
+#[tactic(auto, using(zf_term::proofs::ResolvedSeen::seen))]
+pub(crate) fn compared_in<'v, 'a, R: Row>(
+    term: &Resolved<'a>,
+    row: &'v R,
+    locals: &[&'v Value],
+    env: &'v Env<'_, 'a>,
+) -> Option<Truth>
+    requires { IsRegularScope (scope_of env.now (R.values row.now) locals.now) }
+    ensures { IfSome result (IsTruth (scope_of env.now (R.values row.now) locals.now) (resolved_of term.now)) }
+{
+    let Resolved::Chain(_, first, links) = term else {
+        return None;
+    };
+    compared(first.get(), links.as_slice(), row, locals, env)
+}
+
+/// The same of a chain.
+fn compared<'v, 'a, R: Row>(
+    first: &Resolved<'a>,
+    links: &[ResolvedLink<'a>],
+    row: &'v R,
+    locals: &[&'v Value],
+    env: &'v Env<'_, 'a>,
+) -> Option<Truth>
+    requires { IsRegularScope (scope_of env.now (R.values row.now) locals.now) }
+    ensures { (line : ℕ) → IfSome result (IsTruth (scope_of env.now (R.values row.now) locals.now) (tree.chain line (resolved_of first.now) (tree.links (map resolved_link_of links.now)))) }
+{
+    let [link] = links else {
+        return None;
+    };
+    if !is_comparison(link.relation) {
+        return None;
+    }
+    let Some(m) = number_at(first, row, locals, env) else {
+        return None;
+    };
+    let Some(n) = number_at(&link.right, row, locals, env) else {
+        return None;
+    };
+    Some(between_numbers(link.relation, m, n))
+}
+
+fn is_comparison(relation: Relation) -> bool
+    ensures { IsTrue result → is_membership relation ≡ false }
+{
+    match relation {
+        Relation::Equal => true,
+        Relation::NotEqual => true,
+        Relation::Less => true,
+        Relation::AtMost => true,
+        Relation::Greater => true,
+        Relation::AtLeast => true,
+        _ => false,
+    }
+}
+
+/// The number that a term comes to, if it is a name, a number, an application of a name to a name, or a sum, difference or product of such terms.
+#[cycle(numbers)]
+#[tactic(auto, using(zf_term::proofs::ResolvedSeen::seen))]
+fn number_at<'v, 'a, R: Row>(
+    term: &Resolved<'a>,
+    row: &'v R,
+    locals: &[&'v Value],
+    env: &'v Env<'_, 'a>,
+) -> Option<i64>
+    requires { IsRegularScope (scope_of env.now (R.values row.now) locals.now) }
+    ensures { IfSome result (λ n. HasOutcome (scope_of env.now (R.values row.now) locals.now) (resolved_of term.now) (Is (Int n))) }
+{
+    match term {
+        Resolved::Name(_, reference) => number_named(*reference, row, locals, env),
+        Resolved::Number(_, value) => signed(*value),
+        Resolved::Bracket(_, inner) => number_at(inner.get(), row, locals, env),
+        Resolved::Binary(_, op, left, right) => {
+            number_between(term, *op, left.get(), right.get(), row, locals, env)
+        }
+        _ => None,
+    }
+}
+
+/// The number that a symbol makes of two terms.
+#[cycle(numbers)]
+#[inline(never)]
+fn number_between<'v, 'a, R: Row>(
+    whole: &Resolved<'a>,
+    op: Operator,
+    left: &Resolved<'a>,
+    right: &Resolved<'a>,
+    row: &'v R,
+    locals: &[&'v Value],
+    env: &'v Env<'_, 'a>,
+) -> Option<i64>
+    requires left { size-Resolved left.now < size-Resolved whole.now }
+    requires right { size-Resolved right.now < size-Resolved whole.now }
+    requires regular { IsRegularScope (scope_of env.now (R.values row.now) locals.now) }
+    ensures { (line : ℕ) → IfSome result (λ n. HasOutcome (scope_of env.now (R.values row.now) locals.now) (tree.binary line op (resolved_of left.now) (resolved_of right.now)) (Is (Int n))) }
+{
+    match op {
+        Operator::Function(infix) => calculated(whole, infix, left, right, row, locals, env),
+        Operator::Application => number_applied(left, right, row, locals, env),
+        _ => None,
+    }
+}
+
+/// The sum, difference or product of two terms.
+#[cycle(numbers)]
+fn calculated<'v, 'a, R: Row>(
+    whole: &Resolved<'a>,
+    op: Infix,
+    left: &Resolved<'a>,
+    right: &Resolved<'a>,
+    row: &'v R,
+    locals: &[&'v Value],
+    env: &'v Env<'_, 'a>,
+) -> Option<i64>
+    requires left { size-Resolved left.now < size-Resolved whole.now }
+    requires right { size-Resolved right.now < size-Resolved whole.now }
+    requires regular { IsRegularScope (scope_of env.now (R.values row.now) locals.now) }
+    ensures { (line : ℕ) → IfSome result (λ n. HasOutcome (scope_of env.now (R.values row.now) locals.now) (tree.binary line (Function op) (resolved_of left.now) (resolved_of right.now)) (Is (Int n))) }
+{
+    if !is_calculated(op) {
+        return None;
+    }
+    let Some(m) = number_at(left, row, locals, env) else {
+        return None;
+    };
+    let Some(n) = number_at(right, row, locals, env) else {
+        return None;
+    };
+    of_numbers(op, m, n)
+}
+
+fn is_calculated(op: Infix) -> bool {
+    match op {
+        Infix::Plus => true,
+        Infix::Minus => true,
+        Infix::Times => true,
+        _ => false,
+    }
+}
+
+fn of_numbers(op: Infix, m: i64, n: i64) -> Option<i64>
+    ensures { IfSome result (λ k. InfixOutcome op (Int m) (Int n) (Is (Int k))) }
+{
+    match op {
+        Infix::Plus => number_in(&sum(m, n)),
+        Infix::Minus => number_in(&difference(m, n)),
+        Infix::Times => number_in(&product(m, n)),
+        _ => None,
+    }
+}
+
+/// The number that an outcome is.
+fn number_in(outcome: &Outcome) -> Option<i64>
+    ensures { IfSome result (λ n. outcome.now ≡ Is (Int n)) }
+{
+    match outcome {
+        Outcome::Is(value) => value.number(),
+        Outcome::Undefined => None,
+        Outcome::Out => None,
+    }
+}
+
+/// The number to which a name takes a name.
+fn number_applied<'v, 'a, R: Row>(
+    left: &Resolved<'a>,
+    right: &Resolved<'a>,
+    row: &'v R,
+    locals: &[&'v Value],
+    env: &'v Env<'_, 'a>,
+) -> Option<i64>
+    requires { IsRegularScope (scope_of env.now (R.values row.now) locals.now) }
+    ensures { (line : ℕ) → IfSome result (λ n. HasOutcome (scope_of env.now (R.values row.now) locals.now) (tree.binary line Application (resolved_of left.now) (resolved_of right.now)) (Is (Int n))) }
+{
+    let Some(f) = value_of_name(left, row, locals, env) else {
+        return None;
+    };
+    let Some(x) = value_of_name(right, row, locals, env) else {
+        return None;
+    };
+    match applied(f.members(), x) {
+        Some(y) => y.number(),
+        None => None,
+    }
+}
+
+/// The value of a term that is a name.
+#[tactic(auto, using(zf_term::proofs::ResolvedSeen::seen))]
+fn value_of_name<'v, 'a, R: Row>(
+    term: &Resolved<'a>,
+    row: &'v R,
+    locals: &[&'v Value],
+    env: &'v Env<'_, 'a>,
+) -> Option<&'v Value>
+    requires { IsRegularScope (scope_of env.now (R.values row.now) locals.now) }
+    ensures is { IfSome result (λ v. HasOutcome (scope_of env.now (R.values row.now) locals.now) (resolved_of term.now) (Is v.now)) }
+    ensures regular { IfSome result (λ v. IsRegular v.now) }
+{
+    match term {
+        Resolved::Name(_, reference) => value_named(*reference, row, locals, env),
+        Resolved::Bracket(_, inner) => value_of_name(inner.get(), row, locals, env),
+        _ => None,
+    }
+}
+
+/// The number that a name stands for.
+fn number_named<'v, 'a, R: Row>(
+    reference: Reference,
+    row: &'v R,
+    locals: &[&'v Value],
+    env: &'v Env<'_, 'a>,
+) -> Option<i64>
+    requires { IsRegularScope (scope_of env.now (R.values row.now) locals.now) }
+    ensures { IfSome result (λ n. Is (Int n) ≡ spec.outcome_in (scope_of env.now (R.values row.now) locals.now) reference) }
+{
+    match value_named(reference, row, locals, env) {
+        Some(value) => value.number(),
+        None => None,
+    }
+}
+
+/// The value that a name stands for.
+fn value_named<'v, 'a, R: Row>(
+    reference: Reference,
+    row: &'v R,
+    locals: &[&'v Value],
+    env: &'v Env<'_, 'a>,
+) -> Option<&'v Value>
+    requires { IsRegularScope (scope_of env.now (R.values row.now) locals.now) }
+    ensures is { IfSome result (λ v. Is v.now ≡ spec.outcome_in (scope_of env.now (R.values row.now) locals.now) reference) }
+    ensures regular { IfSome result (λ v. IsRegular v.now) }
+{
+    match reference {
+        Reference::Component(place) => component(row, place),
+        Reference::Local(place) => local(locals, place),
+        Reference::Global(place) => global_value(env, place),
+    }
+}
+
+/// The value of a global, if it has one.
+fn global_value<'v>(env: &'v Env<'_, '_>, place: usize) -> Option<&'v Value>
+    ensures is { IfSome result (λ v. Is v.now ≡ spec.outcome_or (slice_get (environment_of env.now).outcomes place)) }
+    ensures regular { IfSome result (λ v. IsRegular v.now) }
+{
+    match env.outcome(place) {
+        Some(outcome) => value_in(outcome),
+        None => None,
+    }
+}
+
+/// The value that an outcome is.
+fn value_in(outcome: &Outcome) -> Option<&Value>
+    ensures { IfSome result (λ v. Is v.now ≡ outcome.now) }
+{
+    match outcome {
+        Outcome::Is(value) => Some(value),
+        Outcome::Undefined => None,
+        Outcome::Out => None,
+    }
+}
+
+fn signed(value: u64) -> Option<i64>
+    ensures { IfSome result (λ n. IsNumber (pos value) (Is (Int n))) }
+{
+    match i64::try_from(value) {
+        Ok(n) => Some(n),
+        Err(_) => None,
+    }
+}
