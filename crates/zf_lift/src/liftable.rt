@@ -4,9 +4,8 @@ ghost use Rattle.zf_term.specs.ResolvedTrees.{ResolvedTree, unary, binary, resol
 ghost use Rattle.zf_lift.specs.Lifts as spec;
 
 use zf_term::resolved::Resolved;
-use zf_tree::operator::{Listed, Operator, Unary};
+use zf_tree::operator::{Listed, Operator, Sign, Unary};
 use zf_tree::symbol::{Infix, Prefix, Relation};
-use zf_tree::operator::Sign;
 
 /// Whether the term is of a form that builds a value.
 #[tactic(auto, using(zf_term::proofs::ResolvedSeen::seen))]
