@@ -23,7 +23,7 @@ use zf_reference::reference::Reference;
 use zf_term::resolved::{Resolved, ResolvedLink};
 use zf_tree::operator::Operator;
 use zf_tree::symbol::{Infix, Relation};
-use zf_value::number::{difference, product, sum};
+use zf_value::number::{difference, modulus, product, quotient, sum};
 use zf_value::relation::applied;
 use zf_value::value::{Outcome, Truth, Value};
 
@@ -84,7 +84,7 @@ fn is_comparison(relation: Relation) -> bool
     }
 }
 
-/// The number that a term comes to, if it is a name, a number, an application of a name to a name, or a sum, difference or product of such terms.
+/// The number that a term comes to, if it is a name, a number, an application of a name to a name, or a symbol of arithmetic between two such terms.
 #[cycle(numbers)]
 #[tactic(auto, using(zf_term::proofs::ResolvedSeen::seen))]
 fn number_at<'v, 'a, R: Row>(
@@ -131,7 +131,7 @@ fn number_between<'v, 'a, R: Row>(
     }
 }
 
-/// The sum, difference or product of two terms.
+/// What a symbol of arithmetic makes of two terms.
 #[cycle(numbers)]
 fn calculated<'v, 'a, R: Row>(
     whole: &Resolved<'a>,
@@ -164,6 +164,8 @@ fn is_calculated(op: Infix) -> bool {
         Infix::Plus => true,
         Infix::Minus => true,
         Infix::Times => true,
+        Infix::Div => true,
+        Infix::Mod => true,
         _ => false,
     }
 }
@@ -175,6 +177,8 @@ fn of_numbers(op: Infix, m: i64, n: i64) -> Option<i64>
         Infix::Plus => number_in(&sum(m, n)),
         Infix::Minus => number_in(&difference(m, n)),
         Infix::Times => number_in(&product(m, n)),
+        Infix::Div => number_in(&quotient(m, n)),
+        Infix::Mod => number_in(&modulus(m, n)),
         _ => None,
     }
 }

@@ -2,7 +2,7 @@ use Rattle.std.proofs.Common.{sym, subst}
 use Rattle.std.specs.Option.{IfSome}
 use Rattle.zf_value.specs.declared.value.Outcome.TheVariants.{Is}
 use Rattle.zf_value.specs.declared.value.Value.{Int}
-use Rattle.zf_value.specs.Numbers.{IsSum, IsDifference, IsProduct}
+use Rattle.zf_value.specs.Numbers.{IsSum, IsDifference, IsProduct, IsQuotient, IsModulus}
 use Rattle.zf_meaning.specs.Symbols.{InfixOutcome}
 use Rattle.zf_meaning.proofs.Numeric.{on-numbers, written-both}
 use Rattle.zf_meaning.proofs.evaluate.numeric.of_numbers.Goals as goal
@@ -21,3 +21,13 @@ pub returns-in-Times : goal.returns-in-Times
 returns-in-Times c =
     subst (λ op. IfSome c.number_in-in-Times.result (λ k. InfixOutcome op (Int c.args.m) (Int c.args.n) (Is (Int k)))) (sym c.in-Times.is)
     (on-numbers IsProduct c.args.m c.args.n c.product.result c.number_in-in-Times.result (written-both (λ x y. IsProduct x y c.product.result) c.args.m c.args.n c.ranges.m c.ranges.n c.product.ensures.is) c.number_in-in-Times.ensures)
+
+pub returns-in-Div : goal.returns-in-Div
+returns-in-Div c =
+    subst (λ op. IfSome c.number_in-in-Div.result (λ k. InfixOutcome op (Int c.args.m) (Int c.args.n) (Is (Int k)))) (sym c.in-Div.is)
+    (on-numbers IsQuotient c.args.m c.args.n c.quotient.result c.number_in-in-Div.result (written-both (λ x y. IsQuotient x y c.quotient.result) c.args.m c.args.n c.ranges.m c.ranges.n c.quotient.ensures.is) c.number_in-in-Div.ensures)
+
+pub returns-in-Mod : goal.returns-in-Mod
+returns-in-Mod c =
+    subst (λ op. IfSome c.number_in-in-Mod.result (λ k. InfixOutcome op (Int c.args.m) (Int c.args.n) (Is (Int k)))) (sym c.in-Mod.is)
+    (on-numbers IsModulus c.args.m c.args.n c.modulus.result c.number_in-in-Mod.result (written-both (λ x y. IsModulus x y c.modulus.result) c.args.m c.args.n c.ranges.m c.ranges.n c.modulus.ensures.is) c.number_in-in-Mod.ensures)
