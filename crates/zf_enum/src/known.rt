@@ -1,5 +1,6 @@
 //! Regular values.
-ghost use Rattle.std.specs.Prelude.{◌≡◌, IfOk};
+ghost use Rattle.std.specs.Prelude.{◌≡◌, IfOk, MatchOption};
+ghost use Rattle.std.specs.List.{AllByRecursion};
 ghost use Rattle.zf_value.specs.Sets.{IsRegular, AreRegular};
 
 use std::alloc::{AllocError, Global};
@@ -91,6 +92,24 @@ impl Ord for Known {
     fn cmp(&self, other: &Known) -> Ordering {
         self.value.cmp(&other.value)
     }
+}
+
+/// The same values, where there are some, known to be regular.
+pub fn held_known(
+    alloc: Global,
+    values: Vec<Option<Value>>,
+) -> Result<Vec<Option<Known>>, AllocError>
+    requires { AllByRecursion (λ h. MatchOption h (Unit {0}) IsRegular) values.items }
+    ensures { IfOk result (λ known. known.items ≡ values.items) }
+{
+    let mut known = Vec::with_capacity(alloc, values.len())?;
+    for value in values {
+        match value {
+            Some(held) => known.push(Some(Known::new(held)))?,
+            None => known.push(None)?,
+        }
+    }
+    Ok(known)
 }
 
 /// The same values, known to be regular.

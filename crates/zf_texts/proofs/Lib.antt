@@ -14,3 +14,4 @@ pub mod Misfits
 pub mod ValuesAt
 pub mod RegularRows
 pub mod Onward
+pub mod HeldSoFar
