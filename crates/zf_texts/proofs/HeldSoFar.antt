@@ -34,7 +34,7 @@ component_parts : (ss : List Spelling) (c : Comp) (v : Value) (rest : List ℕ) 
 component_parts ss c v rest = append_assoc (c.name ++ codes " == ") (value_text ss v) rest ∙ append_assoc c.name (codes " == ") (value_text ss v ++ rest)
 
 -- where a value of it stands, a component is named
-told_named : (ss : List Spelling) (c : Comp) (n : ℕ) (bytes rest : List ℕ) (v : Value) → bytes ≡ separator n ++ (component_text ss c v ++ rest) → IsNamedNext c n bytes
+pub told_named : (ss : List Spelling) (c : Comp) (n : ℕ) (bytes rest : List ℕ) (v : Value) → bytes ≡ separator n ++ (component_text ss c v ++ rest) → IsNamedNext c n bytes
 told_named ss c n bytes rest v is = (codes " == " ++ (value_text ss v ++ rest), refl, is ∙ ap (λ l. separator n ++ l) (component_parts ss c v rest))
 
 module _ (ss : List Spelling) (e : Environment) where
@@ -49,7 +49,7 @@ module _ (ss : List Spelling) (e : Environment) where
   one_more : (n : ℕ) → n + 1 ≡ suc n
   one_more n = omega arith
 
-  ends_more : (c : Comp) (cs : List Comp) (n : ℕ) (bytes : List ℕ) (held : List (Option Value)) → HoldNext ss e cs (n + 1) bytes held → EndsAs c.type bytes
+  pub ends_more : (c : Comp) (cs : List Comp) (n : ℕ) (bytes : List ℕ) (held : List (Option Value)) → HoldNext ss e cs (n + 1) bytes held → EndsAs c.type bytes
   ends_more c cs n bytes held h = ends_as c.type bytes (ends_next cs n bytes held (subst (λ m. HoldNext ss e cs m bytes held) (one_more n) h))
 
   -- the values that are held of these, behind n others

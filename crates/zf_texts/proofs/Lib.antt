@@ -15,3 +15,4 @@ pub mod ValuesAt
 pub mod RegularRows
 pub mod Onward
 pub mod HeldSoFar
+pub mod OneHeld
