@@ -30,7 +30,7 @@ not_both name rows (Show schema sizes after held limit tests) (other, inr bad) (
     no_bad_limit (first_of (codes "limit") rows) limit bad bound
 
 pub refused_ask_no_work : (words : List Text) (file : Text) (job : Job) → IsRefused words → IsAsked words (Work file job) → ⊥
-refused_ask_no_work words file job (inl (cause, among, memory, help)) (name, rows, are, asks) = subst (IsAmong cause) are.0 among
+refused_ask_no_work words file job (inl (cause, among, memory, help, version)) (name, rows, are, asks) = subst (IsAmong cause) are.0 among
 refused_ask_no_work words file job (inr (name, rows, are, refuses)) (other, others, matched, asks) =
     let same : (name, rows) ≡ (other, others) = same_Some (name, rows) (other, others) (sym are.1 ∙ matched.1) in
     not_both other others job (subst (λ (p : Text × List Row). Refuses p.0 p.1) same refuses) asks.1

@@ -8,7 +8,7 @@ use Rattle.clap.proofs.OnLiterals.{clap_on_literals}
 use Rattle.zf_command.specs.Apps.{zf_app}
 use Rattle.zf_command.specs.Jobs.{AreMatches, Asks, IsAsked}
 use Rattle.zf_command.specs.declared.job.Asked.{Asked}
-use Rattle.zf_command.specs.declared.job.Asked.TheVariants.{Help, Work}
+use Rattle.zf_command.specs.declared.job.Asked.TheVariants.{About, Work}
 use Rattle.zf_command.specs.declared.job.UsageFault.{UsageFault}
 use Rattle.clap.specs.declared.parser.matches.ArgMatches.{ArgMatches}
 use Rattle.clap.specs.declared.parser.matches.ArgMatches.TheViews.{out-ArgMatches, out-SubCommand}
@@ -58,5 +58,5 @@ are_matches app words m name rows is has taken called found =
 
 pub answered : (words : List Text) (name : Text) (rows : List Row) (r : Result Asked UsageFault) → AreMatches words name rows → IfOk r (Asks name rows) → IfOk r (IsAsked words)
 answered words name rows (Ok (Work file job)) are asks = (name, rows, are, asks)
-answered words name rows (Ok (Help text)) are asks = absurd asks
+answered words name rows (Ok (About text)) are asks = absurd asks
 answered words name rows (Err e) are asks = tt

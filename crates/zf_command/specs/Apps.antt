@@ -1,4 +1,4 @@
--- The command line, as the literals that `clap` reads words by: `check [-t] FILE` and `show [--after TEXT] [--with TEXT] [--limit N] [--tests] FILE SCHEMA [NAME=SIZE]...`.
+-- The command line, as the literals that `clap` reads words by: `--version`, `check [-t] FILE` and `show [--after TEXT] [--with TEXT] [--limit N] [--tests] FILE SCHEMA [NAME=SIZE]...`.
 use Rattle.std.specs.Prelude.{◌≡◌, Some, codes, true, false}
 use Rattle.clap.specs.Words.{App, Rule, Text, app_of, new_app, new_rule, rule_of, with_rule, with_subcommand}
 use Rattle.clap.specs.declared.builder.ArgAction.TheVariants.{Append, SetTrue}
@@ -38,9 +38,9 @@ show_options = with_rule (with_rule (with_rule (with_rule (new_app (codes "show"
 abbrev pub show_app : App
 show_app = with_rule (with_rule (with_rule show_options (required_rule (codes "FILE"))) (required_rule (codes "SCHEMA"))) sizes_rule
 
--- `zf`, which wants a subcommand, and whose words do not begin with its own name
+-- `zf [--version]`, which wants a subcommand, and whose words do not begin with its own name
 abbrev pub zf_top : App
-zf_top = record (new_app (codes "zf")) { top = record (new_app (codes "zf")).top { no_binary_name = true; subcommand_required = true } }
+zf_top = record (new_app (codes "zf")) { top = record (new_app (codes "zf")).top { has_version = true; no_binary_name = true; subcommand_required = true } }
 
 abbrev pub zf_app : App
 zf_app = with_subcommand (with_subcommand zf_top check_app.top) show_app.top

@@ -6,9 +6,9 @@ use Rattle.std.specs.List.{All, AllZip, Contains}
 use Rattle.std.specs.Str.Parse.{IsNumeral, digits_value}
 use Rattle.clap.specs.Words.{IsAmong, Row, Text, all_of, fault_of, first_of, subcommand_of}
 use Rattle.clap.specs.declared.error.kind.ErrorKind.{ErrorKind}
-use Rattle.clap.specs.declared.error.kind.ErrorKind.TheVariants.{DisplayHelp, OutOfMemory}
+use Rattle.clap.specs.declared.error.kind.ErrorKind.TheVariants.{DisplayHelp, DisplayVersion, OutOfMemory}
 use Rattle.zf_command.specs.declared.job.Asked.{Asked}
-use Rattle.zf_command.specs.declared.job.Asked.TheVariants.{Help, Work}
+use Rattle.zf_command.specs.declared.job.Asked.TheVariants.{About, Work}
 use Rattle.zf_command.specs.declared.job.Job.{Job}
 use Rattle.zf_command.specs.declared.job.Job.TheVariants.{Check, Show}
 use Rattle.zf_command.specs.declared.job.Size.{Size}
@@ -71,7 +71,7 @@ IsJob name rows (Show schema sizes after held limit tests) =
 -- the matches of the subcommand of this name ask for the work
 abbrev pub Asks : Text → List Row → Asked → Type 0
 Asks name rows (Work file job) = (file ≡ value_of (codes "FILE") rows) × IsJob name rows job
-Asks name rows (Help text) = ⊥
+Asks name rows (About text) = ⊥
 
 -- the subcommand is `show`, and a size word among its matches has another form, or the limit has
 abbrev pub Refuses : Text → List Row → Type 0
@@ -81,14 +81,14 @@ Refuses name rows = (name ≢ codes "check") × (HasBadSize (values_of (codes "N
 abbrev pub AreMatches : List Text → Text → List Row → Type 0
 AreMatches words name rows = (fault_of zf_app words ≡ []) × (subcommand_of zf_app words ≡ Some (name, rows))
 
--- what the words ask for: help, where `clap` answers that it is asked for, else what the subcommand's matches ask for
+-- what the words ask for: help or the version, where `clap` answers that it is asked for, else what the subcommand's matches ask for
 abbrev pub IsAsked : List Text → Asked → Type 0
-IsAsked words (Help text) = IsAmong DisplayHelp (fault_of zf_app words)
+IsAsked words (About text) = IsAmong DisplayHelp (fault_of zf_app words) ⊎ IsAmong DisplayVersion (fault_of zf_app words)
 IsAsked words (Work file job) = (name : Text) × (rows : List Row) × AreMatches words name rows × Asks name rows (Work file job)
 
--- `clap` refuses the words, for another cause than memory and help
+-- `clap` refuses the words, for another cause than memory, help and the version
 abbrev pub IsRefusedByClap : List Text → Type 0
-IsRefusedByClap words = (cause : ErrorKind) × IsAmong cause (fault_of zf_app words) × (cause ≢ OutOfMemory) × (cause ≢ DisplayHelp)
+IsRefusedByClap words = (cause : ErrorKind) × IsAmong cause (fault_of zf_app words) × (cause ≢ OutOfMemory) × (cause ≢ DisplayHelp) × (cause ≢ DisplayVersion)
 
 -- the words are refused: by `clap`, or since a size word or the limit among its matches has another form
 abbrev pub IsRefused : List Text → Type 0

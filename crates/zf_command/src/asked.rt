@@ -31,7 +31,11 @@ pub fn job_of<S: AsStr>(alloc: Global, words: &[S]) -> Result<Asked, UsageFault>
             ErrorKind::OutOfMemory => Err(UsageFault::OutOfMemory),
             ErrorKind::DisplayHelp => {
                 let text = error.to_string(alloc)?;
-                Ok(Asked::Help(Word { text }))
+                Ok(Asked::About(Word { text }))
+            }
+            ErrorKind::DisplayVersion => {
+                let text = error.to_string(alloc)?;
+                Ok(Asked::About(Word { text }))
             }
             _ => Err(UsageFault::BadWords),
         },

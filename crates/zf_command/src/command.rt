@@ -5,6 +5,9 @@ ghost use Rattle.zf_command.specs.Apps.{IsArg, IsCommand, IsTop, check_app, opti
 use clap::{Arg, ArgAction, Command};
 use std::alloc::{AllocError, Global};
 
+/// What `--version` tells.
+const VERSION: &str = "1.0";
+
 /// `zf`
 pub fn zf<'a>(alloc: Global) -> Result<Command<'a>, AllocError>
     ensures { IfOk result (λ c. IsTop c zf_app) }
@@ -22,6 +25,7 @@ fn top_command<'a>(alloc: Global) -> Result<Command<'a>, AllocError>
     let command = Command::new(alloc, "zf")
         .bin_name("zf")?
         .about("A type checker and finite animator for Z in the LaTeX markup of fuzz")
+        .version(VERSION)
         .no_binary_name(true)
         .subcommand_required(true);
     Ok(command)

@@ -37,8 +37,8 @@ pub enum Job {
 pub enum Asked {
     /// The file, as it was given, and the job on it.
     Work(Word, Job),
-    /// The text of help.
-    Help(Word),
+    /// The text of help, or of the version.
+    About(Word),
 }
 
 /// Why words are not read.

@@ -1,6 +1,6 @@
 -- The status that a process ends with, by what its words ask for.
 use Rattle.std.specs.Prelude.{◌≡◌, ◌⊎◌, ℕ, List, []}
-use Rattle.zf_command.specs.declared.job.Asked.TheVariants.{Help, Work}
+use Rattle.zf_command.specs.declared.job.Asked.TheVariants.{About, Work}
 use Rattle.zf_command.specs.declared.job.Job.{Job}
 use Rattle.zf_command.specs.Jobs.{IsAsked, IsRefused}
 use Rattle.zf_lines.specs.declared.fault.Status.{Status}
@@ -19,17 +19,17 @@ IsWorkStatus job file n = IsAnswered job file n ⊎ ((n ≡ 4) ⊎ (n ≡ 5))
 pub data IsStatus (words : List (List ℕ)) (n : ℕ) : Type 0 where
   -- the words are refused
   refused : IsRefused words → n ≡ 2 → IsStatus words n
-  -- their help is written, or its write failed
-  helped : (text : List ℕ) → IsAsked words (Help text) → (n ≡ 0) ⊎ (n ≡ 5) → IsStatus words n
+  -- help or the version is written, or its write failed
+  told : (text : List ℕ) → IsAsked words (About text) → (n ≡ 0) ⊎ (n ≡ 5) → IsStatus words n
   -- they ask for work
   worked : (file : List ℕ) (job : Job) → IsAsked words (Work file job) → IsWorkStatus job file n → IsStatus words n
   -- memory ran out before it was known what they ask for
   unread : n ≡ 4 → IsStatus words n
 
--- `clap` may answer the words with help
-abbrev pub AsksForHelp : List (List ℕ) → Type 0
-AsksForHelp words = IsAsked words (Help [])
+-- `clap` may answer the words with help or the version
+abbrev pub MayBeTold : List (List ℕ) → Type 0
+MayBeTold words = IsAsked words (About [])
 
--- the words are refused, and no help is asked for, so the status is 2, or 4 where memory ran out
+-- the words are refused, and neither help nor the version is asked for, so the status is 2, or 4 where memory ran out
 abbrev pub IsStatusOfRefused : List (List ℕ) → ℕ → Type 0
-IsStatusOfRefused words n = IsRefused words → (AsksForHelp words → ⊥) → (n ≡ 2) ⊎ (n ≡ 4)
+IsStatusOfRefused words n = IsRefused words → (MayBeTold words → ⊥) → (n ≡ 2) ⊎ (n ≡ 4)

@@ -23,7 +23,7 @@ pub fn program<R: Files + Input + Print + Eprint + AllocGlobal, S: AsStr>(rt: &R
 {
     match job_of(rt.alloc(), words) {
         Ok(Asked::Work(file, job)) => work(rt, file.as_str(), &job),
-        Ok(Asked::Help(text)) => help(rt, text.as_str()),
+        Ok(Asked::About(text)) => tell(rt, text.as_str()),
         Err(fault) => refuse(rt, fault),
     }
 }
@@ -38,8 +38,8 @@ pub fn refuse<R: Eprint>(rt: &R, fault: UsageFault) -> u8
     }
 }
 
-/// Writes the text of help.
-fn help<R: Print + Eprint>(rt: &R, text: &str) -> u8
+/// Writes the text of help, or of the version.
+fn tell<R: Print + Eprint>(rt: &R, text: &str) -> u8
     ensures { (result ≡ 0) ⊎ (result ≡ 5) }
 {
     match rt.print(text) {

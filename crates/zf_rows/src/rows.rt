@@ -169,7 +169,7 @@ fn status_of(
                 Err(_) => Err(io::Error::from(ErrorKind::Other)),
             }
         }
-        Ok(Asked::Help(text)) => {
+        Ok(Asked::About(text)) => {
             written.extend_from_slice(text.as_bytes())?;
             Ok("0")
         }

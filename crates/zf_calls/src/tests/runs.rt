@@ -21,6 +21,6 @@ pub fn ended<R: Read + Drop, W: Write + Drop>(
             let mut writer = Counted::new(writer);
             Ok(run(alloc, &job, file.as_str(), &mut reader, &mut writer))
         }
-        Asked::Help(_text) => Err(Fail::new("help")),
+        Asked::About(_text) => Err(Fail::new("help")),
     }
 }

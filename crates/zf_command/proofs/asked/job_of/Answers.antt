@@ -1,12 +1,16 @@
 -- The answers of `job_of`, from what `clap` ensures of its matches and its errors.
 use Rattle.std.proofs.Common.{sym, ◌∙◌, inl, inr, map}
-use Rattle.clap.specs.declared.error.kind.ErrorKind.TheVariants.{DisplayHelp}
+use Rattle.clap.specs.declared.error.kind.ErrorKind.TheVariants.{DisplayHelp, DisplayVersion}
 use Rattle.zf_command.proofs.Refusals.{among_kinds, answered, are_matches}
 use Rattle.zf_command.proofs.asked.job_of.Goals as goal
 
 pub returns-in-DisplayHelp-clause-asked : goal.returns-in-DisplayHelp-clause-asked
 returns-in-DisplayHelp-clause-asked g c =
-    among_kinds _ _ c.in-Err.error DisplayHelp c.in_ok-command.ensures.0 (sym c.kind.ensures ∙ c.in-DisplayHelp.is) (λ e. cc) c.in-Err.ensures.kinds
+    inl (among_kinds _ _ c.in-Err.error DisplayHelp c.in_ok-command.ensures.0 (sym c.kind.ensures ∙ c.in-DisplayHelp.is) (λ e. cc) c.in-Err.ensures.kinds)
+
+pub returns-in-DisplayVersion-clause-asked : goal.returns-in-DisplayVersion-clause-asked
+returns-in-DisplayVersion-clause-asked g c =
+    inr (among_kinds _ _ c.in-Err.error DisplayVersion c.in_ok-command.ensures.0 (sym c.kind.ensures ∙ c.in-DisplayVersion.is) (λ e. cc) c.in-Err.ensures.kinds)
 
 pub returns-in-Some-clause-asked : goal.returns-in-Some-clause-asked
 returns-in-Some-clause-asked g c =
@@ -23,5 +27,6 @@ returns g c = record {
     among_kinds _ _ c.in-Err.error c.kind.result c.in_ok-command.ensures.0 (sym c.kind.ensures) (λ e. c.in_default.not-OutOfMemory e) c.in-Err.ensures.kinds,
     λ e. c.in_default.not-OutOfMemory e,
     λ e. c.in_default.not-DisplayHelp e,
+    λ e. c.in_default.not-DisplayVersion e,
   );
 }

@@ -13,6 +13,6 @@ returns-in-Ok-Work-clause-status g c =
 pub returns-in-Ok-Work-clause-refused : goal.returns-in-Ok-Work-clause-refused
 returns-in-Ok-Work-clause-refused g c = status_of_refused (map g.S.AsStr.text c.args.words.now) c.work.result (returns-in-Ok-Work-clause-status g c)
 
-pub returns-in-Ok-Help-clause-status : goal.returns-in-Ok-Help-clause-status
-returns-in-Ok-Help-clause-status g c =
-    IsStatus.helped c.in-Ok-Help.text (subst (IsAsked (map g.S.AsStr.text c.args.words.now)) c.in-Ok-Help.field-0-is c.in-Ok-Help.ensures.asked) c.help.ensures
+pub returns-in-Ok-About-clause-status : goal.returns-in-Ok-About-clause-status
+returns-in-Ok-About-clause-status g c =
+    IsStatus.told c.in-Ok-About.text (subst (IsAsked (map g.S.AsStr.text c.args.words.now)) c.in-Ok-About.field-0-is c.in-Ok-About.ensures.asked) c.tell.ensures
