@@ -1,5 +1,6 @@
 -- The values of a range where one may be held.
-use Rattle.std.proofs.Common.{◌≡◌, List, [], ◌∷◌, Option, Some, None, sym, subst, inl, ⊎_elim}
+use Rattle.std.proofs.Common.{◌≡◌, List, [], ◌∷◌, ◌++◌, Option, Some, None, sym, subst, inl, ⊎_elim}
+use Rattle.std.specs.List.{AllByRecursion}
 use Rattle.zf_term.specs.Definitions.{DeclaredSets}
 use Rattle.zf_value.specs.declared.value.Value.{Value}
 use Rattle.zf_value.specs.Sets.{IsMember, IsRegular, AreRegular, IsRegularSet}
@@ -8,6 +9,11 @@ use Rattle.zf_enum.specs.DeclaredSets.{IsInSets}
 use Rattle.zf_enum.specs.Parts.{NarrowsAll, IsAllOfEach, IsAllWith}
 use Rattle.zf_enum.specs.Ranges.{IsHeld}
 use Rattle.zf_enum.proofs.Listing.{lists_same}
+
+-- what holds of all holds of one among them
+pub one_of_all : {A : Type 0} (P : A → Type 0) (xs ys : List A) (y : A) → AllByRecursion P (xs ++ y ∷ ys) → P y
+one_of_all P [] ys y h = h.0
+one_of_all P (x ∷ xs) ys y h = one_of_all P xs ys y h.1
 
 regular_one : (w : Value) → IsRegular w → IsRegularSet (w ∷ [])
 unfolding AreRegular

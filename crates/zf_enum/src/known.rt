@@ -104,12 +104,20 @@ pub fn held_known(
 {
     let mut known = Vec::with_capacity(alloc, values.len())?;
     for value in values {
-        match value {
-            Some(held) => known.push(Some(Known::new(held)))?,
-            None => known.push(None)?,
-        }
+        known.push(one_known(value))?;
     }
     Ok(known)
+}
+
+/// The same value, if there is one, known to be regular.
+fn one_known(value: Option<Value>) -> Option<Known>
+    requires { MatchOption value (Unit {0}) IsRegular }
+    ensures { result ≡ value.entry }
+{
+    match value {
+        Some(held) => Some(Known::new(held)),
+        None => None,
+    }
 }
 
 /// The same values, known to be regular.

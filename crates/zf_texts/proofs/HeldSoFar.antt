@@ -1,5 +1,7 @@
 -- What is read so far of a line of some components: each is named next or not, and holds a value where it is.
-use Rattle.std.proofs.Common.{◌≡◌, ℕ, suc, ◌+◌, ◌<◌, ◌≤◌, List, [], ◌∷◌, ◌++◌, length, map, drop, get_or, Option, Some, None, refl, sym, ap, ◌∙◌, subst, arith, codes}
+use Rattle.std.proofs.Common.{◌≡◌, ℕ, Bool, true, false, suc, ◌+◌, ◌<◌, ◌≤◌, List, [], ◌∷◌, ◌++◌, length, map, drop, get_or, Option, Some, None, refl, sym, ap, ◌∙◌, subst, arith, codes}
+use Rattle.std.specs.Prelude.{MatchBool, slice_get}
+use Rattle.std.proofs.lemmas.Option.{same_Some}
 use Rattle.std.proofs.lemmas.List.{append_assoc, append-nil, length-drop}
 use Rattle.zf_term.specs.declared.globals.Component.{Component}
 use Rattle.zf_term.specs.Definitions.{Comp, comp_of}
@@ -9,15 +11,37 @@ use Rattle.zf_meaning.specs.Rows.{IsOfType}
 use Rattle.zf_texts.specs.declared.spelling.Spelling.{Spelling}
 use Rattle.zf_texts.specs.ValueTexts.{separator, value_text}
 use Rattle.zf_texts.specs.BindingTexts.{component_text}
-use Rattle.zf_texts.specs.Clear.{Ends, AreClear}
+use Rattle.zf_texts.specs.Clear.{Ends, AreClear, is_in_word}
 use Rattle.zf_texts.specs.Held.{IsNamedNext, HoldNext, IsHeldLine, IsNoHeldLine}
-use Rattle.zf_texts.specs.Steps.{EndsAs, IsItem, IsNoItem, BeginsWithName, BeginsWithoutName, IsNamedAt, IsNotNamed, IsComponentAt, IsNoComponent, IsHeldAt, HoldsIfNamed, HoldsNothing}
+use Rattle.zf_texts.specs.Steps.{EndsAs, IsItem, IsNoItem, BeginsWithName, BeginsWithoutName, GoesOn, IsNamedAt, IsNotNamed, IsComponentAt, IsNoComponent, IsHeldAt, HoldsIfNamed, HoldsNothing}
 use Rattle.zf_texts.proofs.OneFront.{ends_as}
 use Rattle.zf_texts.proofs.OneRow.{one_component}
 use Rattle.zf_texts.proofs.Printing.{comps-drop, drop-end}
 use Rattle.zf_texts.proofs.Spelled.{cancel}
 
 -- ---- names
+
+pub ends_none : (bytes : List ℕ) → slice_get bytes 0 ≡ None → Ends bytes
+ends_none [] h = tt
+ends_none (b ∷ bytes) h = cc
+
+pub ends_so : (bytes : List ℕ) (b : ℕ) → slice_get bytes 0 ≡ Some b → is_in_word b ≡ false → Ends bytes
+ends_so [] b h k = tt
+ends_so (x ∷ bytes) b h k = let same : x ≡ b = same_Some x b h in ap is_in_word same ∙ k
+
+pub ends_not : (bytes : List ℕ) (b : ℕ) → slice_get bytes 0 ≡ Some b → is_in_word b ≡ true → GoesOn bytes
+unfolding GoesOn
+ends_not [] b h k e = cc
+ends_not (x ∷ bytes) b h k e = let same : x ≡ b = same_Some x b h in let both : false ≡ true = sym e ∙ ap is_in_word same ∙ k in cc
+
+pub of_ends : (r : Bool) (name bytes rest : List ℕ) → bytes ≡ name ++ rest → MatchBool r (Ends rest) (GoesOn rest) → MatchBool r (BeginsWithName name bytes) (BeginsWithoutName name bytes)
+unfolding BeginsWithoutName GoesOn
+of_ends true name bytes rest is h = (rest, h, is)
+of_ends false name bytes rest is h = λ w. h (subst Ends (cancel name w.0 rest (sym w.2 ∙ is)) w.1)
+
+pub none_begins : (name bytes : List ℕ) → IsNoItem name bytes → BeginsWithoutName name bytes
+unfolding BeginsWithoutName IsNoItem
+none_begins name bytes none (rest, ends, is) = none rest is
 
 pub not_separated : (c : Comp) (n : ℕ) (bytes : List ℕ) → IsNoItem (separator n) bytes → IsNotNamed c n bytes
 unfolding IsNoItem IsNotNamed

@@ -141,6 +141,10 @@ IsNoRest ss e cs n bytes = AreClear ss e.sizes → (vs : List Value) → IsRow e
 abbrev pub BeginsWithName : List ℕ → List ℕ → Type 0
 BeginsWithName name bytes = (rest : List ℕ) × Ends rest × (bytes ≡ name ++ rest)
 
+-- a word goes on with the bytes
+unfoldable pub GoesOn : List ℕ → Type 0
+GoesOn bytes = Ends bytes → ⊥
+
 unfoldable pub BeginsWithoutName : List ℕ → List ℕ → Type 0
 BeginsWithoutName name bytes = BeginsWithName name bytes → ⊥
 

@@ -4,9 +4,10 @@ ghost use Rattle.std.specs.List.{AllByRecursion};
 ghost use Rattle.zf_value.specs.Sets.{IsRegular};
 ghost use Rattle.zf_meaning.specs.Envs.{environment_of};
 ghost use Rattle.zf_term.specs.Definitions.{comp_of, schema_of};
+ghost use Rattle.zf_texts.specs.Clear.{Ends};
 ghost use Rattle.zf_texts.specs.Held.{IsHeldLine, IsNoHeldLine};
 ghost use Rattle.zf_texts.specs.Readings.{IfMisfit};
-ghost use Rattle.zf_texts.specs.Steps.{HoldsIfNamed, HoldsNothing, IsItem, IsNamedAt, IsNoItem, BeginsWithoutName, IsNotNamed, BeginsWithName};
+ghost use Rattle.zf_texts.specs.Steps.{HoldsIfNamed, HoldsNothing, IsItem, IsNamedAt, IsNoItem, BeginsWithoutName, IsNotNamed, BeginsWithName, GoesOn};
 ghost use Rattle.zf_texts.specs.ValueTexts.{separator};
 
 use crate::fault::AfterFault;
@@ -110,11 +111,23 @@ fn is_word(text: &[u8], place: usize, name: &[u8]) -> bool
     ensures { MatchBool result (BeginsWithName name.now (drop place text.now)) (BeginsWithoutName name.now (drop place text.now)) }
 {
     match behind(&text[place..], name) {
-        Some(rest) => match rest.first() {
-            Some(byte) => !is_in_word(*byte),
-            None => true,
-        },
+        Some(rest) => ends(rest),
         None => false,
+    }
+}
+
+/// Whether no word goes on with the bytes.
+fn ends(bytes: &[u8]) -> bool
+    ensures { MatchBool result (Ends bytes.now) (GoesOn bytes.now) }
+{
+    match bytes.first() {
+        Some(byte) => {
+            if is_in_word(*byte) {
+                return false;
+            }
+            true
+        }
+        None => true,
     }
 }
 
