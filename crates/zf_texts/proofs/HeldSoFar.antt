@@ -1,8 +1,8 @@
 -- What is read so far of a line of some components: each is named next or not, and holds a value where it is.
-use Rattle.std.proofs.Common.{◌≡◌, ℕ, Bool, true, false, suc, ◌+◌, ◌<◌, ◌≤◌, List, [], ◌∷◌, ◌++◌, length, map, drop, get_or, Option, Some, None, refl, sym, ap, ◌∙◌, subst, arith, codes}
+use Rattle.std.proofs.Common.{◌≡◌, ℕ, Bool, true, false, suc, ◌+◌, ◌-◌, ◌<◌, ◌≤◌, List, [], ◌∷◌, ◌++◌, length, map, take, drop, get_or, Option, Some, None, refl, sym, ap, ◌∙◌, subst, arith, codes}
 use Rattle.std.specs.Prelude.{MatchBool, slice_get}
 use Rattle.std.proofs.lemmas.Option.{same_Some}
-use Rattle.std.proofs.lemmas.List.{append_assoc, append-nil, length-drop}
+use Rattle.std.proofs.lemmas.List.{append_assoc, append-nil, length-drop, take_all}
 use Rattle.zf_term.specs.declared.globals.Component.{Component}
 use Rattle.zf_term.specs.Definitions.{Comp, comp_of}
 use Rattle.zf_value.specs.declared.value.Value.{Value}
@@ -34,14 +34,17 @@ unfolding GoesOn
 ends_not [] b h k e = cc
 ends_not (x ∷ bytes) b h k e = let same : x ≡ b = same_Some x b h in let both : false ≡ true = sym e ∙ ap is_in_word same ∙ k in cc
 
-pub of_ends : (r : Bool) (name bytes rest : List ℕ) → bytes ≡ name ++ rest → MatchBool r (Ends rest) (GoesOn rest) → MatchBool r (BeginsWithName name bytes) (BeginsWithoutName name bytes)
-unfolding BeginsWithoutName GoesOn
-of_ends true name bytes rest is h = (rest, h, is)
-of_ends false name bytes rest is h = λ w. h (subst Ends (cancel name w.0 rest (sym w.2 ∙ is)) w.1)
+pub sliced : (xs : List ℕ) (i : ℕ) → take (length xs - i) (drop i xs) ≡ drop i xs
+sliced xs i = let l = length-drop i xs in take_all (length xs - i) (drop i xs) (omega (arith, l))
 
-pub none_begins : (name bytes : List ℕ) → IsNoItem name bytes → BeginsWithoutName name bytes
+pub of_ends : (r : Bool) (name bytes here rest : List ℕ) → here ≡ bytes → here ≡ name ++ rest → MatchBool r (Ends rest) (GoesOn rest) → MatchBool r (BeginsWithName name bytes) (BeginsWithoutName name bytes)
+unfolding BeginsWithoutName GoesOn
+of_ends true name bytes here rest same is h = (rest, h, sym same ∙ is)
+of_ends false name bytes here rest same is h = λ w. h (subst Ends (cancel name w.0 rest (sym w.2 ∙ sym same ∙ is)) w.1)
+
+pub none_begins : (name bytes here : List ℕ) → here ≡ bytes → IsNoItem name here → BeginsWithoutName name bytes
 unfolding BeginsWithoutName IsNoItem
-none_begins name bytes none (rest, ends, is) = none rest is
+none_begins name bytes here same none (rest, ends, is) = none rest (same ∙ is)
 
 pub not_separated : (c : Comp) (n : ℕ) (bytes : List ℕ) → IsNoItem (separator n) bytes → IsNotNamed c n bytes
 unfolding IsNoItem IsNotNamed
@@ -167,6 +170,29 @@ module _ (ss : List Spelling) (e : Environment) where
   held_read cs i text at n held l k r =
       let here = subst (λ x. HeldSoFar (map comp_of cs) x text n held (drop at text)) (comps-end cs i l) r in
       subst (IsHeldLine ss e (map comp_of cs) text) (append-nil held) (here.whole [] (drop-end at text k))
+
+  -- one turn more
+  pub turn_taken : (cs : List Component) (i : ℕ) (c : Component) (text : List ℕ) (at n end place count later : ℕ) (held new now : List (Option Value)) (v : Value) → c ≡ get_or cs i c → i < length cs → n ≤ i
+      → HeldSoFar (map comp_of cs) (map comp_of (drop i cs)) text n held (drop at text) → HoldsIfNamed ss e (comp_of c) text n at (Some (v, end)) → new ≡ held ++ Some v ∷ [] → now ≡ new → place ≡ end → count ≡ n + 1 → later ≡ i + 1
+      → (place ≤ length text) × (count ≤ i + 1) × (later ≤ i + 1) × HeldSoFar (map comp_of cs) (map comp_of (drop (i + 1) cs)) text count now (drop place text)
+  turn_taken cs i c text at n end place count later held new now v got l few r k pushed same there counted next = (
+    subst (λ p. p ≤ length text) (sym there) k.held.stands.within,
+    omega (arith, few, counted),
+    omega (arith, next),
+    subst (λ p. HeldSoFar (map comp_of cs) (map comp_of (drop (i + 1) cs)) text count now (drop p text)) (sym there)
+        (subst (λ m. HeldSoFar (map comp_of cs) (map comp_of (drop (i + 1) cs)) text m now (drop end text)) (sym counted) (one_taken cs i c text at n end held now v got l r k (same ∙ pushed))),
+  )
+
+  pub turn_skipped : (cs : List Component) (i : ℕ) (c : Component) (text : List ℕ) (at n behind place count later : ℕ) (held new now : List (Option Value)) → c ≡ get_or cs i c → i < length cs → at ≤ length text → n ≤ i → behind ≤ i
+      → HeldSoFar (map comp_of cs) (map comp_of (drop i cs)) text n held (drop at text) → HoldsIfNamed ss e (comp_of c) text n at None → new ≡ held ++ None ∷ [] → now ≡ new → place ≡ at → count ≡ n → later ≡ behind
+      → (place ≤ length text) × (count ≤ i + 1) × (later ≤ i + 1) × HeldSoFar (map comp_of cs) (map comp_of (drop (i + 1) cs)) text count now (drop place text)
+  turn_skipped cs i c text at n behind place count later held new now got l within few before r k pushed same there counted next = (
+    subst (λ p. p ≤ length text) (sym there) within,
+    omega (arith, few, counted),
+    omega (arith, before, next),
+    subst (λ p. HeldSoFar (map comp_of cs) (map comp_of (drop (i + 1) cs)) text count now (drop p text)) (sym there)
+        (subst (λ m. HeldSoFar (map comp_of cs) (map comp_of (drop (i + 1) cs)) text m now (drop at text)) (sym counted) (one_skipped cs i c text at n held now got l r k (same ∙ pushed))),
+  )
 
   -- ---- one component
 
