@@ -62,6 +62,10 @@ decided_named c n bytes = decided_same
 -- ---- the values that are held
 
 module _ (ss : List Spelling) (e : Environment) where
+  -- the bytes go on with this value of the component, and then with a rest
+  abbrev Takes : Comp → List Comp → ℕ → List ℕ → Value → Type 0
+  Takes c cs n bytes v = (rest : List ℕ) × Follows (separator n ++ component_text ss c v) bytes rest × HasSome (HoldNext ss e cs (n + 1) rest)
+
   decided_next : (cs : List Comp) (n : ℕ) (bytes : List ℕ) → Decided (HasSome (HoldNext ss e cs n bytes))
   decided_next [] n [] = inl ([], refl)
   decided_next [] n (b ∷ bytes) = inr (λ h. none h.0 h.1)
@@ -76,10 +80,7 @@ module _ (ss : List Spelling) (e : Environment) where
       skipped not (None ∷ held) h = (held, h.1)
       skipped not (Some v ∷ held) (rest, of_type, is, h) = absurd (not (told_named ss c n bytes rest v is))
 
-      abbrev Takes : Value → Type 0
-      Takes v = (rest : List ℕ) × Follows (separator n ++ component_text ss c v) bytes rest × HasSome (HoldNext ss e cs (n + 1) rest)
-
-      taken : IsNamedNext c n bytes → (held : List (Option Value)) → HoldNext ss e (c ∷ cs) n bytes held → (v : Value) × IsOfType e c.type v × Takes v
+      taken : IsNamedNext c n bytes → (held : List (Option Value)) → HoldNext ss e (c ∷ cs) n bytes held → (v : Value) × IsOfType e c.type v × Takes c cs n bytes v
       taken named [] h = absurd h
       taken named (None ∷ held) h = absurd (h.0 named)
       taken named (Some v ∷ held) (rest, of_type, is, h) = (v, of_type, rest, is ∙ sym (append_assoc (separator n) (component_text ss c v) rest), held, h)
@@ -89,7 +90,7 @@ module _ (ss : List Spelling) (e : Environment) where
       of_named (inl named) = decided_same
           (λ h. (Some h.0 ∷ h.2.2.0, h.2.0, h.1, h.2.1 ∙ append_assoc (separator n) (component_text ss c h.0) h.2.0, h.2.2.1))
           (λ h. taken named h.0 h.1)
-          (decided_some Takes (values_listed e c.type) (λ v. decided_behind (separator n ++ component_text ss c v) bytes (λ rest. HasSome (HoldNext ss e cs (n + 1) rest)) (λ rest. decided_next cs (n + 1) rest)))
+          (decided_some (Takes c cs n bytes) (values_listed e c.type) (λ v. decided_behind (separator n ++ component_text ss c v) bytes (λ rest. HasSome (HoldNext ss e cs (n + 1) rest)) (λ rest. decided_next cs (n + 1) rest)))
 
 pub every_held_line_is_judged : EveryHeldLineIsJudged
 every_held_line_is_judged e comps None = inl ([], refl)

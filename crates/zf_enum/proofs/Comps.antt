@@ -1,8 +1,9 @@
 -- The ranges of components, one more at a time, and the first component that is out.
-use Rattle.std.proofs.Common.{◌≡◌, ℕ, zero, suc, ◌+◌, ◌<◌, ◌≤◌, List, [], ◌∷◌, ◌++◌, length, map, take, get_or, Option, Some, Result, Ok, Err, refl, sym, ap, ◌∙◌, subst, add-one, arith}
+use Rattle.std.proofs.Common.{◌≡◌, ℕ, zero, suc, ◌+◌, ◌<◌, ◌≤◌, List, [], ◌∷◌, ◌++◌, length, map, take, get_or, Option, Some, None, Result, Ok, Err, refl, sym, ap, ◌∙◌, subst, add-one, arith}
 use Rattle.std.specs.Prelude.{slice_get, IfErr, IsErrAnd}
 use Rattle.std.specs.List.{AllByRecursion}
 use Rattle.std.proofs.lemmas.List.{length-map}
+use Rattle.std.proofs.lemmas.Option.{same_Some}
 use Rattle.zf_term.specs.declared.globals.Component.{Component}
 use Rattle.zf_term.specs.Definitions.{Comp, comp_of, sets_of}
 use Rattle.zf_value.specs.declared.value.Value.{Value}
@@ -13,6 +14,21 @@ use Rattle.zf_enum.specs.Components.{IsOneRange, AreAllRanges, IsOutBy, held_at}
 use Rattle.zf_enum.specs.declared.start_fault.StartFault.{StartFault}
 use Rattle.zf_enum.specs.declared.start_fault.StartFault.TheVariants.{DeclaredOut, OutOfMemory}
 use Rattle.zf_enum.specs.Starts.{Refuses}
+
+-- ---- what is held
+
+pub held_got : (held : List (Option Value)) (place : ℕ) (h : Option Value) → slice_get held place ≡ Some h → held_at place held ≡ h
+held_got [] place h g = absurd (cc)
+held_got (x ∷ held) zero h g = same_Some x h g
+held_got (x ∷ held) (suc place) h g = held_got held place h g
+
+pub held_none : (held : List (Option Value)) (place : ℕ) → slice_get held place ≡ None → held_at place held ≡ None
+held_none [] zero g = refl
+held_none [] (suc place) g = held_none [] place refl
+held_none (x ∷ held) zero g = absurd (cc)
+held_none (x ∷ held) (suc place) g = held_none held place g
+
+-- ---- ranges
 
 ranges_next : (e : Environment) (cs : List Comp) (held : List (Option Value)) (i : ℕ) (c : Comp) (ranges : List (List Value)) (xs : List Value) → slice_get cs i ≡ Some c → AreRanges e (take i cs) held ranges → IsRange e c (held_at i held) xs → AreRanges e (take (suc i) cs) held (ranges ++ xs ∷ [])
 ranges_next e [] held i c ranges xs g h k = (cc)

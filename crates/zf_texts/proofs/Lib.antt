@@ -16,3 +16,4 @@ pub mod RegularRows
 pub mod Onward
 pub mod HeldSoFar
 pub mod OneHeld
+pub mod Chosen
