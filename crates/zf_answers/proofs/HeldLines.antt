@@ -66,31 +66,31 @@ module _ (ss : List Spelling) (e : Environment) where
   abbrev Takes : Comp → List Comp → ℕ → List ℕ → Value → Type 0
   Takes c cs n bytes v = (rest : List ℕ) × Follows (separator n ++ component_text ss c v) bytes rest × HasSome (HoldNext ss e cs (n + 1) rest)
 
+  skipped : (c : Comp) (cs : List Comp) (n : ℕ) (bytes : List ℕ) → (IsNamedNext c n bytes → ⊥) → (held : List (Option Value)) → HoldNext ss e (c ∷ cs) n bytes held → HasSome (HoldNext ss e cs n bytes)
+  skipped c cs n bytes not [] h = absurd h
+  skipped c cs n bytes not (None ∷ held) h = (held, h.1)
+  skipped c cs n bytes not (Some v ∷ held) (rest, of_type, is, h) = absurd (not (told_named ss c n bytes rest v is))
+
+  taken : (c : Comp) (cs : List Comp) (n : ℕ) (bytes : List ℕ) → IsNamedNext c n bytes → (held : List (Option Value)) → HoldNext ss e (c ∷ cs) n bytes held → (v : Value) × IsOfType e c.type v × Takes c cs n bytes v
+  taken c cs n bytes named [] h = absurd h
+  taken c cs n bytes named (None ∷ held) h = absurd (h.0 named)
+  taken c cs n bytes named (Some v ∷ held) (rest, of_type, is, h) = (v, of_type, (rest, is ∙ sym (append_assoc (separator n) (component_text ss c v) rest), (held, h)))
+
+  of_named : (c : Comp) (cs : List Comp) (n : ℕ) (bytes : List ℕ) → ((m : ℕ) (more : List ℕ) → Decided (HasSome (HoldNext ss e cs m more))) → Decided (IsNamedNext c n bytes) → Decided (HasSome (HoldNext ss e (c ∷ cs) n bytes))
+  of_named c cs n bytes later (inr not) = decided_same (λ h. (None ∷ h.0, (not, h.1))) (λ h. skipped c cs n bytes not h.0 h.1) (later n bytes)
+  of_named c cs n bytes later (inl named) = decided_same
+      (λ h. (Some h.0 ∷ h.2.2.0, (h.2.0, h.1, h.2.1 ∙ append_assoc (separator n) (component_text ss c h.0) h.2.0, h.2.2.1)))
+      (λ h. taken c cs n bytes named h.0 h.1)
+      (decided_some (Takes c cs n bytes) (values_listed e c.type) (λ v. decided_behind (separator n ++ component_text ss c v) bytes (λ rest. HasSome (HoldNext ss e cs (n + 1) rest)) (λ rest. later (n + 1) rest)))
+
+  none_behind : (n b : ℕ) (bytes : List ℕ) (held : List (Option Value)) → HoldNext ss e [] n (b ∷ bytes) held → ⊥
+  none_behind n b bytes [] h = cc
+  none_behind n b bytes (x ∷ held) h = h
+
   decided_next : (cs : List Comp) (n : ℕ) (bytes : List ℕ) → Decided (HasSome (HoldNext ss e cs n bytes))
   decided_next [] n [] = inl ([], refl)
-  decided_next [] n (b ∷ bytes) = inr (λ h. none h.0 h.1)
-    where
-      none : (held : List (Option Value)) → HoldNext ss e [] n (b ∷ bytes) held → ⊥
-      none [] h = cc
-      none (x ∷ held) h = h
-  decided_next (c ∷ cs) n bytes = of_named (decided_named c n bytes)
-    where
-      skipped : (IsNamedNext c n bytes → ⊥) → (held : List (Option Value)) → HoldNext ss e (c ∷ cs) n bytes held → HasSome (HoldNext ss e cs n bytes)
-      skipped not [] h = absurd h
-      skipped not (None ∷ held) h = (held, h.1)
-      skipped not (Some v ∷ held) (rest, of_type, is, h) = absurd (not (told_named ss c n bytes rest v is))
-
-      taken : IsNamedNext c n bytes → (held : List (Option Value)) → HoldNext ss e (c ∷ cs) n bytes held → (v : Value) × IsOfType e c.type v × Takes c cs n bytes v
-      taken named [] h = absurd h
-      taken named (None ∷ held) h = absurd (h.0 named)
-      taken named (Some v ∷ held) (rest, of_type, is, h) = (v, of_type, rest, is ∙ sym (append_assoc (separator n) (component_text ss c v) rest), held, h)
-
-      of_named : Decided (IsNamedNext c n bytes) → Decided (HasSome (HoldNext ss e (c ∷ cs) n bytes))
-      of_named (inr not) = decided_same (λ h. (None ∷ h.0, not, h.1)) (λ h. skipped not h.0 h.1) (decided_next cs n bytes)
-      of_named (inl named) = decided_same
-          (λ h. (Some h.0 ∷ h.2.2.0, h.2.0, h.1, h.2.1 ∙ append_assoc (separator n) (component_text ss c h.0) h.2.0, h.2.2.1))
-          (λ h. taken named h.0 h.1)
-          (decided_some (Takes c cs n bytes) (values_listed e c.type) (λ v. decided_behind (separator n ++ component_text ss c v) bytes (λ rest. HasSome (HoldNext ss e cs (n + 1) rest)) (λ rest. decided_next cs (n + 1) rest)))
+  decided_next [] n (b ∷ bytes) = inr (λ h. none_behind n b bytes h.0 h.1)
+  decided_next (c ∷ cs) n bytes = of_named c cs n bytes (λ m more. decided_next cs m more) (decided_named c n bytes)
 
 pub every_held_line_is_judged : EveryHeldLineIsJudged
 every_held_line_is_judged e comps None = inl ([], refl)

@@ -57,7 +57,7 @@ not_alone c name n bytes mid same b none (rest, ends, is) = none (rest, ends, ca
 named_next : (c : Comp) (n : ℕ) (bytes mid : List ℕ) → bytes ≡ separator n ++ mid → BeginsWithName c.name mid → IsNamedNext c n bytes
 named_next c n bytes mid b (rest, ends, is) = (rest, ends, b ∙ ap (λ l. separator n ++ l) is)
 
-component_parts : (ss : List Spelling) (c : Comp) (v : Value) (rest : List ℕ) → component_text ss c v ++ rest ≡ c.name ++ (codes " == " ++ (value_text ss v ++ rest))
+pub component_parts : (ss : List Spelling) (c : Comp) (v : Value) (rest : List ℕ) → component_text ss c v ++ rest ≡ c.name ++ (codes " == " ++ (value_text ss v ++ rest))
 component_parts ss c v rest = append_assoc (c.name ++ codes " == ") (value_text ss v) rest ∙ append_assoc c.name (codes " == ") (value_text ss v ++ rest)
 
 -- where a value of it stands, a component is named
