@@ -3,7 +3,6 @@ use Rattle.std.proofs.Common.{◌≡◌, ℕ, zero, suc, ◌+◌, ◌<◌, ◌�
 use Rattle.std.specs.Prelude.{slice_get, IfErr, IsErrAnd}
 use Rattle.std.specs.List.{AllByRecursion}
 use Rattle.std.proofs.lemmas.List.{length-map}
-use Rattle.std.proofs.lemmas.Option.{same_Some}
 use Rattle.zf_term.specs.declared.globals.Component.{Component}
 use Rattle.zf_term.specs.Definitions.{Comp, comp_of, sets_of}
 use Rattle.zf_value.specs.declared.value.Value.{Value}
@@ -17,16 +16,16 @@ use Rattle.zf_enum.specs.Starts.{Refuses}
 
 -- ---- what is held
 
-pub held_got : (held : List (Option Value)) (place : ℕ) (h : Option Value) → slice_get held place ≡ Some h → held_at place held ≡ h
-held_got [] place h g = absurd (cc)
-held_got (x ∷ held) zero h g = same_Some x h g
-held_got (x ∷ held) (suc place) h g = held_got held place h g
+pub held_got : (held : List (Option Value)) (place : ℕ) (h : Option Value) → place < length held → h ≡ get_or held place h → held_at place held ≡ h
+held_got [] place h l g = absurd (omega (arith, l))
+held_got (x ∷ held) zero h l g = sym g
+held_got (x ∷ held) (suc place) h l g = held_got held place h (omega (arith, l)) g
 
-pub held_none : (held : List (Option Value)) (place : ℕ) → slice_get held place ≡ None → held_at place held ≡ None
-held_none [] zero g = refl
-held_none [] (suc place) g = held_none [] place refl
-held_none (x ∷ held) zero g = absurd (cc)
-held_none (x ∷ held) (suc place) g = held_none held place g
+pub held_none : (held : List (Option Value)) (place : ℕ) → length held ≤ place → held_at place held ≡ None
+held_none [] zero l = refl
+held_none [] (suc place) l = held_none [] place (omega arith)
+held_none (x ∷ held) zero l = absurd (omega (arith, l))
+held_none (x ∷ held) (suc place) l = held_none held place (omega (arith, l))
 
 -- ---- ranges
 

@@ -1,5 +1,5 @@
 -- The values of a range where one may be held.
-use Rattle.std.proofs.Common.{◌≡◌, List, [], ◌∷◌, ◌++◌, Option, Some, None, sym, subst, inl, ⊎_elim}
+use Rattle.std.proofs.Common.{◌≡◌, List, [], ◌∷◌, ◌++◌, Option, Some, None, Result, Ok, Err, IfOk, sym, subst, inl, ⊎_elim}
 use Rattle.std.specs.List.{AllByRecursion}
 use Rattle.zf_term.specs.Definitions.{DeclaredSets}
 use Rattle.zf_value.specs.declared.value.Value.{Value}
@@ -33,3 +33,7 @@ module _ (e : Environment) (ds : DeclaredSets) where
       let here = subst (λ zs. NarrowsAll e ds zs xs) is h in
       (lists_same (λ v. IsMember v (w ∷ []) × IsInSets e ds v) (λ v. IsInSets e ds v × IsHeld (Some w) v) xs
       (λ v. (λ k. (k.1, ⊎_elim (λ (s : w ≡ v). sym s) (λ n. absurd n) k.0), λ k. (inl (sym k.1), k.0))) here.0, here.1)
+
+  pub one_ok : {X E : Type 0} (items : X → List Value) (r : Result X E) (w : Value) (ys : List Value) → ys ≡ w ∷ [] → IfOk r (λ x. NarrowsAll e ds ys (items x)) → IfOk r (λ x. IsAllWith e ds (Some w) (items x))
+  one_ok items (Ok x) w ys is h = of_one w ys (items x) is h
+  one_ok items (Err f) w ys is h = tt

@@ -21,7 +21,7 @@ pub loop-place-preserved : goal.loop-place-preserved
 loop-place-preserved c =
     subst (λ (rs : List (List Value)). AreAllRanges (environment_of c.args.env.now) (take (c.loop-place.place + 1) (map comp_of c.args.components.now)) c.args.held.now rs) (sym c.in_ok-push.ensures.items)
     (all_next (environment_of c.args.env.now) (map comp_of c.args.components.now) c.args.held.now c.loop-place.place (comp_of c.index-components-place.result) c.loop-place.ranges.items _
-    (comp_at c.args.components.now c.loop-place.place c.index-components-place.result c.index-components-place.is c.loop-place-test.true) c.loop-place.invariant (subst (λ (h : Option Value). IsOneRange (environment_of c.args.env.now) (comp_of c.index-components-place.result) h c.in_ok-range_at.field-0.values.items) c.value_held-of_this.ensures c.in_ok-range_at.ensures.is))
+    (comp_at c.args.components.now c.loop-place.place c.index-components-place.result c.index-components-place.is c.loop-place-test.true) c.loop-place.invariant (subst (λ (h : Option Value). IsOneRange (environment_of c.args.env.now) (comp_of c.index-components-place.result) h c.in_ok-range_at.field-0) c.value_held-of_this.ensures c.in_ok-range_at.ensures.is))
 
 pub returns-in_err-range_at-clause-refused : goal.returns-in_err-range_at-clause-refused
 returns-in_err-range_at-clause-refused c =
