@@ -112,7 +112,7 @@ pub fn held_known(
 /// The same value, if there is one, known to be regular.
 fn one_known(value: Option<Value>) -> Option<Known>
     requires { MatchOption value (Unit {0}) IsRegular }
-    ensures { result ≡ value.entry }
+    ensures { result ≡ value }
 {
     match value {
         Some(held) => Some(Known::new(held)),
