@@ -46,7 +46,7 @@ pub returns-then-is_spent-clause-same : goal.returns-then-is_spent-clause-same
 returns-then-is_spent-clause-same g c = (c.advance.ensures.goal ∙ c.lines.invariant.0.goal, same_later _ _ _ c.lines.invariant.0.same c.advance.ensures.ranges)
 
 pub lines-smaller : goal.lines-smaller
-lines-smaller g c = goes_on _ _ _ c.advance.ensures.ranges (rw c.in-Holds.is at c.in_ok-advance.ensures.answer)
+lines-smaller g c = goes_on (g.S.Search.goal c.lines.search) _ _ c.advance.ensures.ranges (rw c.in-Holds.is at c.in_ok-advance.ensures.answer)
 
 pub lines-preserved : goal.lines-preserved
 lines-preserved g c = (
