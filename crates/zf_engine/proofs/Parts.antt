@@ -91,12 +91,16 @@ module _ (r : Request) (file source : List ℕ) (a : Schema) (g : Goal) (b : Sta
 
   counted : (tests : Bool) (last : Option (List Value)) (text : List ℕ) → TellsTests tests g.environment a b last text → IsTestsLine tests e a p last text
   counted false last text h = h
-  counted true last text (number, h, is) = (number, record {
-    ranges = b.ranges;
-    of_components = begins.ranges;
-    counted = subst (λ f. IsNumberOfTests value_order (property f a.conjuncts) b.ranges p.after last number) begins.environment
-        (subst (λ n. IsNumberOfTests value_order (property g.environment a.conjuncts) b.ranges n last number) begins.named h);
-  }, is)
+  counted true last text (number, h, is) = (
+    number,
+    record {
+      ranges = b.ranges;
+      of_components = begins.ranges;
+      counted = subst (λ f. IsNumberOfTests value_order (property f a.conjuncts) b.ranges p.after last number) begins.environment
+          (subst (λ n. IsNumberOfTests value_order (property g.environment a.conjuncts) b.ranges n last number) begins.named h);
+    },
+    is,
+  )
 
   whole_answer : (tests : Bool) (text : List ℕ) (status : Status) → tests ≡ r.tests → WritesAll (binding_line ss a.comps) r.limit tests g.environment a b text status → ShowAnswer r file source text status
   whole_answer tests text status same w = ShowAnswer.bindings e.globals a e p w.last w.events w.written w.counted search_of

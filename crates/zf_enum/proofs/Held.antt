@@ -30,9 +30,11 @@ module _ (e : Environment) (ds : DeclaredSets) where
   -- this one is held, and lies in the declared sets or not
   pub of_one : (w : Value) (ys xs : List Value) → ys ≡ w ∷ [] → NarrowsAll e ds ys xs → IsAllWith e ds (Some w) xs
   of_one w ys xs is h =
-      let here = subst (λ zs. NarrowsAll e ds zs xs) is h in
-      (lists_same (λ v. IsMember v (w ∷ []) × IsInSets e ds v) (λ v. IsInSets e ds v × IsHeld (Some w) v) xs
-      (λ v. (λ k. (k.1, ⊎_elim (λ (s : w ≡ v). sym s) (λ n. absurd n) k.0), λ k. (inl (sym k.1), k.0))) here.0, here.1)
+      let here = subst (λ zs. NarrowsAll e ds zs xs) is h in (
+        lists_same (λ v. IsMember v (w ∷ []) × IsInSets e ds v) (λ v. IsInSets e ds v × IsHeld (Some w) v) xs
+            (λ v. (λ k. (k.1, ⊎_elim (λ (s : w ≡ v). sym s) (λ n. absurd n) k.0), λ k. (inl (sym k.1), k.0))) here.0,
+        here.1,
+      )
 
   pub one_ok : {X E : Type 0} (items : X → List Value) (r : Result X E) (w : Value) (ys : List Value) → ys ≡ w ∷ [] → IfOk r (λ x. NarrowsAll e ds ys (items x)) → IfOk r (λ x. IsAllWith e ds (Some w) (items x))
   one_ok items (Ok x) w ys is h = of_one w ys (items x) is h
