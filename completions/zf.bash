@@ -31,7 +31,7 @@ _zf() {
             skip=no
         elif [[ $options == yes && $word == -- ]]; then
             options=no
-        elif [[ $options == yes && ($word == --after || $word == --limit) ]]; then
+        elif [[ $options == yes && ($word == --after || $word == --with || $word == --limit) ]]; then
             skip=yes
         elif [[ $options == yes && $word == -?* ]]; then
             continue
@@ -47,7 +47,7 @@ _zf() {
     if [[ $options == yes && $current == -* ]]; then
         case $command in
             check) mapfile -t COMPREPLY < <(compgen -W '-t --help' -- "$current") ;;
-            show) mapfile -t COMPREPLY < <(compgen -W '--after --limit --tests --help' -- "$current") ;;
+            show) mapfile -t COMPREPLY < <(compgen -W '--after --with --limit --tests --help' -- "$current") ;;
             *) mapfile -t COMPREPLY < <(compgen -W '--help --version' -- "$current") ;;
         esac
     elif [[ -z $command ]]; then

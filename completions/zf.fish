@@ -6,7 +6,7 @@ function __zf_places
     for word in (commandline --tokenize --current-process --cut-at-cursor)
         if test $skip = yes
             set skip no
-        else if contains -- $word --after --limit
+        else if contains -- $word --after --with --limit
             set skip yes
         else if not string match --quiet -- '-?*' $word
             echo $word
@@ -40,6 +40,7 @@ complete -c zf -n 'test (count (__zf_places)) -eq 1' -a show -d 'Write the bindi
 complete -c zf -n 'test (count (__zf_places)) -eq 1' -a help -d 'Print help'
 complete -c zf -n '__zf_stands_behind check 2' -s t -d 'Write also what is defined, with its types'
 complete -c zf -n '__zf_stands_behind show 2' -x -l after -d 'Write only what comes after this binding'
+complete -c zf -n '__zf_stands_behind show 2' -x -l with -d 'Write only the bindings with these values'
 complete -c zf -n '__zf_stands_behind show 2' -x -l limit -d 'Write at most so many bindings'
 complete -c zf -n '__zf_stands_behind show 2' -l tests -d 'Write also how many tests were finished'
 complete -c zf -n '__zf_stands_at check 2; or __zf_stands_at show 2' -F

@@ -9,6 +9,7 @@ use Rattle.zf_value.specs.Sets.{value_order}
 use Rattle.zf_value.proofs.Exact.{exact}
 use Rattle.zf_walk.specs.Events.{Event}
 use Rattle.zf_meaning.specs.Environments.{Environment}
+use Rattle.zf_enum.specs.Portions.{Portion}
 use Rattle.zf_enum.specs.Property.{property}
 use Rattle.zf_enum.proofs.EventLaws.{one_ranges}
 use Rattle.zf_texts.specs.Spellings.{spellings}
@@ -24,32 +25,33 @@ use Rattle.zf_answers.proofs.FirstLines.{first_lines}
 use Rattle.zf_answers.proofs.Shown.{events_are_shown}
 
 -- nothing stands in the way of a search
-pub granted : (r : Request) (source : List ℕ) (g : List Defined) (a : Schema) (e : Environment) (after : Option (List Value)) → IsSearch r source g a e after → IsGranted r source g a e after
-granted r source g a e after search = record {
+pub granted : (r : Request) (source : List ℕ) (g : List Defined) (a : Schema) (e : Environment) (p : Portion) → IsSearch r source g a e p → IsGranted r source g a e p
+granted r source g a e p search = record {
   has_schema = search.asked.has_schema;
   complete = search.asked.complete;
   environment = search.asked.environment;
   finite = search.asked.finite;
   named = search.named;
+  held = search.held;
   none_out = search.none_out;
 }
 
-front_shown : (r : Request) (g : List Defined) (a : Schema) (e : Environment) (after last : Option (List Value)) (events : List (Event Value)) (first text : List ℕ) (status : Status)
-    → HasEvents e a after last events → IsBegun (binding_line (spellings g) a.comps) r.limit events last first → ShowsEvents r g a e after text status → IsFront text first
-front_shown r g a e after last events first text status listed begun shown =
+front_shown : (r : Request) (g : List Defined) (a : Schema) (e : Environment) (p : Portion) (last : Option (List Value)) (events : List (Event Value)) (first text : List ℕ) (status : Status)
+    → HasEvents e a p last events → IsBegun (binding_line (spellings g) a.comps) r.limit events last first → ShowsEvents r g a e p text status → IsFront text first
+front_shown r g a e p last events first text status listed begun shown =
     let there = shown.listed in
-    let same : there.ranges ≡ listed.ranges = one_ranges e a there.ranges listed.ranges there.of_components listed.of_components in
+    let same : there.ranges ≡ listed.ranges = one_ranges e a p.held there.ranges listed.ranges there.of_components listed.of_components in
     let line = binding_line (spellings g) a.comps in
-    let front = first_lines value_order order_laws.total-law exact (property e a.conjuncts) (property_told e a.conjuncts) listed.ranges after line r.limit events shown.events last shown.last
-    listed.listed (subst (λ ranges. AreEventsUpTo value_order (property e a.conjuncts) ranges after shown.last shown.events) same there.listed) begun.hold begun.within
+    let front = first_lines value_order order_laws.total-law exact (property e a.conjuncts) (property_told e a.conjuncts) listed.ranges p.after line r.limit events shown.events last shown.last
+    listed.listed (subst (λ ranges. AreEventsUpTo value_order (property e a.conjuncts) ranges p.after shown.last shown.events) same there.listed) begun.hold begun.within
     shown.lines status shown.ends in (
       front.0 ++ shown.counted,
       shown.whole ∙ ap (λ t. t ++ shown.counted) front.1 ∙ append_assoc (lines line events) front.0 shown.counted ∙ ap (λ t. t ++ (front.0 ++ shown.counted)) (sym begun.written),
     )
 
 pub first_lines_are_a_front : FirstLinesAreAFront
-first_lines_are_a_front r file source first text status (ShowBegins.bindings g a e after last events search listed begun) answer =
-    front_shown r g a e after last events first text status listed begun (events_are_shown r file source g a e after text status (granted r source g a e after search) answer)
+first_lines_are_a_front r file source first text status (ShowBegins.bindings g a e p last events search listed begun) answer =
+    front_shown r g a e p last events first text status listed begun (events_are_shown r file source g a e p text status (granted r source g a e p search) answer)
 
 -- ---- whatever is written
 
@@ -59,8 +61,8 @@ front_again text front written p q = (q.0 ++ p.0, p.1 ∙ ap (λ t. t ++ p.0) q.
 
 begun_front : (job : Job) (file source first text : List ℕ) (status : Status) → JobBegins job source first → Answer job file source text status → IsFront text first
 begun_front (Check types) file source first text status begins answer = absurd begins
-begun_front (Show name sizes after limit tests) file source first text status begins answer =
-    first_lines_are_a_front (request name sizes after limit tests) file source first text status begins answer
+begun_front (Show name sizes after held limit tests) file source first text status begins answer =
+    first_lines_are_a_front (request name sizes after held limit tests) file source first text status begins answer
 
 pub parts_are_fronts : EveryRequestIsAnswered → PartsAreFronts
 parts_are_fronts every job file source written limited (inl none) =

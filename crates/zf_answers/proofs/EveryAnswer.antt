@@ -19,15 +19,17 @@ use Rattle.zf_type.specs.declared.fault.TypeFault.{TypeFault}
 use Rattle.zf_value.specs.declared.value.Value.{Value}
 use Rattle.zf_meaning.specs.Environments.{Environment}
 use Rattle.zf_meaning.specs.Sizes.{given_sets, AreComplete}
+use Rattle.zf_enum.specs.Portions.{Portion, portion}
 use Rattle.zf_enum.specs.Ranges.{IsNoneOut}
 use Rattle.zf_texts.specs.Spellings.{spellings}
 use Rattle.zf_lines.specs.declared.fault.Status.{Status}
 use Rattle.zf_lines.specs.declared.fault.Status.TheVariants.{BadRequest, BadSpec, PastBounds}
 use Rattle.zf_lines.specs.Searches.{IsBelow}
 use Rattle.zf_lines.specs.Texts.{binding_line}
-use Rattle.zf_engine.specs.Answers.{Answer, Checks, HasSchema, IsAsked, IsLimited, IsNamed, IsNamedRow, IsSearch, JobAnswer, Request, ShowAnswer, check_status, check_text, request, size_fault_line, stated}
-use Rattle.zf_engine.specs.Texts.{declared_out_line, fault_line, no_schema_line, not_a_binding_line, not_finite_text, text_fault_line, type_fault_line}
+use Rattle.zf_engine.specs.Answers.{Answer, AreHeld, Checks, HasSchema, IsAsked, IsLimited, IsNamed, IsNamedRow, IsSearch, JobAnswer, Request, ShowAnswer, check_status, check_text, request, size_fault_line, stated}
+use Rattle.zf_engine.specs.Texts.{declared_out_line, fault_line, no_schema_line, not_a_binding_line, not_finite_text, not_held_line, text_fault_line, type_fault_line}
 use Rattle.zf_answers.specs.Laws.{EveryRequestIsAnswered, EverySourceIsRead}
+use Rattle.zf_answers.proofs.HeldLines.{every_held_line_is_judged}
 use Rattle.zf_answers.proofs.NamedRows.{every_line_is_judged}
 use Rattle.zf_found.proofs.Ranges.{first_out_or_none, some_ranges}
 use Rattle.zf_found.proofs.Searches.{some_search, some_tests_line}
@@ -79,26 +81,32 @@ module _ (r : Request) (file source : List ℕ) (limited : IsBelow r.limit 0) wh
   module _ (g : List Defined) where
     module _ (a : Schema) where
       module _ (e : Environment) (asked : IsAsked r source g a e) where
-        some_bindings : (after : Option (List Value)) → IsNamedRow e a.comps r.after after → IsNoneOut e a.comps → IsShown r file source
-        some_bindings after named none_out =
+        some_bindings : (p : Portion) → IsNamedRow e a.comps r.after p.after → AreHeld e a.comps r.held p.held → IsNoneOut e a.comps → IsShown r file source
+        some_bindings p named held none_out =
             let finite = asked.finite in
             let environment = asked.environment in
             let bounded = subst (λ h. AllByRecursion (λ (c : Comp). IsTrue (one_bounds h (sets_of c.sets))) a.comps) (sym environment.0) finite.bounded in
-            let ranges = some_ranges e a.comps bounded in
-            let s = some_search e a ranges.0 after r.limit (binding_line (spellings g) a.comps) ranges.1 limited in
-            let counted = some_tests_line e a ranges.0 after s.0 r.tests ranges.1 in
-            let search : IsSearch r source g a e after = record { asked = asked; named = named; none_out = none_out } in
-            (s.2 ++ counted.0, s.3, ShowAnswer.bindings g a e after s.0 s.1 s.2 counted.0 search s.4 s.5 counted.1 refl)
+            let ranges = some_ranges e a.comps p.held bounded in
+            let s = some_search e a ranges.0 p r.limit (binding_line (spellings g) a.comps) ranges.1 limited in
+            let counted = some_tests_line e a ranges.0 p s.0 r.tests ranges.1 in
+            let search : IsSearch r source g a e p = record { asked = asked; named = named; held = held; none_out = none_out } in
+            (s.2 ++ counted.0, s.3, ShowAnswer.bindings g a e p s.0 s.1 s.2 counted.0 search s.4 s.5 counted.1 refl)
 
-        some_at_sets : (after : Option (List Value)) → IsNamedRow e a.comps r.after after → IsShown r file source
-        some_at_sets after named = elim (first_out_or_none e a.comps) [
-          | inl out ↦ let here = out.1.here in (declared_out_line here.0.name, PastBounds, ShowAnswer.declared_out g a e after out.0 here.0 asked named out.1 here.1 refl refl)
-          | inr none ↦ some_bindings after named none
+        some_at_sets : (p : Portion) → IsNamedRow e a.comps r.after p.after → AreHeld e a.comps r.held p.held → IsShown r file source
+        some_at_sets p named held = elim (first_out_or_none e a.comps) [
+          | inl out ↦ let here = out.1.here in (declared_out_line here.0.name, PastBounds, ShowAnswer.declared_out g a e p out.0 here.0 asked named held out.1 here.1 refl refl)
+          | inr none ↦ some_bindings p named held none
+        ]
+
+        some_at_values : (after : Option (List Value)) → IsNamedRow e a.comps r.after after → IsShown r file source
+        some_at_values after named = elim (every_held_line_is_judged e a.comps r.held) [
+          | inl held ↦ some_at_sets (portion after held.0) named held.1
+          | inr none ↦ (not_held_line 0, BadRequest, ShowAnswer.holds_nothing g a e after 0 asked named none refl refl)
         ]
 
         some_at_row : IsShown r file source
         some_at_row = elim (every_line_is_judged e a.comps r.after) [
-          | inl named ↦ some_at_sets named.0 named.1
+          | inl named ↦ some_at_values named.0 named.1
           | inr none ↦ (not_a_binding_line 0, BadRequest, ShowAnswer.not_a_binding g a e 0 asked none refl refl)
         ]
 
@@ -129,15 +137,15 @@ module _ (r : Request) (file source : List ℕ) (limited : IsBelow r.limit 0) wh
 
 -- ---- answers of a job
 
-limited_of : (name : List ℕ) (sizes : List command.Size) (after : Option (List ℕ)) (limit : Option ℕ) (tests : Bool) → IsLimited (Show name sizes after limit tests) → IsBelow limit 0
-limited_of name sizes after None tests h = tt
-limited_of name sizes after (Some limit) tests h = h
+limited_of : (name : List ℕ) (sizes : List command.Size) (after held : Option (List ℕ)) (limit : Option ℕ) (tests : Bool) → IsLimited (Show name sizes after held limit tests) → IsBelow limit 0
+limited_of name sizes after held None tests h = tt
+limited_of name sizes after held (Some limit) tests h = h
 
 some_of_job : (job : Job) (file source : List ℕ) → IsLimited job → (g : List Defined) (faults : List TypeFault) → Checks source g faults
     → (text : List ℕ) × (status : Status) × JobAnswer job file source text status
 some_of_job (Check types) file source limited g faults checks = (check_text types file g faults, check_status faults, (g, faults, checks, refl, refl))
-some_of_job (Show name sizes after limit tests) file source limited g faults checks =
-    some_at_types (request name sizes after limit tests) file source (limited_of name sizes after limit tests limited) g faults checks
+some_of_job (Show name sizes after held limit tests) file source limited g faults checks =
+    some_at_types (request name sizes after held limit tests) file source (limited_of name sizes after held limit tests limited) g faults checks
 
 pub every_request_is_answered : EverySourceIsRead → EveryRequestIsAnswered
 every_request_is_answered every_source job file source limited = by (every_source source)

@@ -10,6 +10,7 @@ pub mod Shown
 pub mod EverySource
 pub mod ListedValues
 pub mod NamedRows
+pub mod HeldLines
 pub mod EveryAnswer
 pub mod FirstLines
 pub mod EarlyStops

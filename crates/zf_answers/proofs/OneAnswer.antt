@@ -13,14 +13,15 @@ use Rattle.zf_value.specs.declared.value.Value.{Value}
 use Rattle.zf_meaning.specs.Environments.{Environment}
 use Rattle.zf_meaning.specs.Sizes.{given_sets, AreComplete}
 use Rattle.zf_meaning.specs.GlobalOutcomes.{IsEnvironment}
+use Rattle.zf_enum.specs.Portions.{Portion, portion}
 use Rattle.zf_lines.specs.declared.fault.Status.{Status}
-use Rattle.zf_engine.specs.Answers.{Answer, CheckAnswer, Checks, IsNamedRow, JobAnswer, NamesNoRow, Request, UnreadAnswer, check_status, check_text, request, size_fault_line, stated}
+use Rattle.zf_engine.specs.Answers.{Answer, AreHeld, CheckAnswer, Checks, HoldsNoValues, IsNamedRow, JobAnswer, NamesNoRow, Request, UnreadAnswer, check_status, check_text, request, size_fault_line, stated}
 use Rattle.zf_engine.specs.Texts.{declared_out_line, fault_line, not_finite_text, type_fault_line}
 use Rattle.zf_answers.specs.Laws.{AreAlike, AreOfSame, OneStatus, OneText}
 use Rattle.zf_answers.proofs.OneSource.{none_and_some, one_checked, one_named, one_refused, some_and_none, unread}
-use Rattle.zf_answers.proofs.OneSearch.{clear_at, not_infinite, one_environment_at, one_first_out, one_named_row, one_shown}
+use Rattle.zf_answers.proofs.OneSearch.{clear_at, not_infinite, one_environment_at, one_first_out, one_held, one_named_row, one_shown}
 use Rattle.zf_answers.proofs.OneRefusal.{none_refused, one_refusal}
-use Rattle.zf_answers.proofs.Stages.{AtFiniteness, AtNamedRow, AtSchema, AtSearch, AtSizes, AtTypes, staged}
+use Rattle.zf_answers.proofs.Stages.{AtFiniteness, AtHeldValues, AtNamedRow, AtSchema, AtSearch, AtSizes, AtTypes, staged}
 
 -- one status, and texts that are alike
 abbrev IsOne : (file source one two : List ℕ) → (s t : Status) → Type 0
@@ -34,20 +35,32 @@ no_named_row e comps None after none named = none
 no_named_row e comps (Some text) None none named = named
 no_named_row e comps (Some text) (Some row) none named = none row named
 
+no_held_values : (e : Environment) (comps : List Comp) (text : Option (List ℕ)) (held : List (Option Value)) → HoldsNoValues e comps text → AreHeld e comps text held → ⊥
+no_held_values e comps None held none are = none
+no_held_values e comps (Some text) held none are = none held are
+
 -- ---- answers of `show`, stage by stage
 
 module _ (r : Request) (file source one two : List ℕ) (s t : Status) where
   module _ (g : List Defined) (checks : Checks source g []) where
     module _ (a : Schema) (complete : AreComplete (given_sets g) (stated r.sizes)) where
       module _ (e : Environment) (is : IsEnvironment g (stated r.sizes) e) where
-        one_at_search : (after : Option (List Value)) → AtSearch r file source one s g a e after → AtSearch r file source two t g a e after → IsOne file source one two s t
-        one_at_search after (inl x) (inl y) =
+        one_at_search : (p : Portion) → AtSearch r file source one s g a e p → AtSearch r file source two t g a e p → IsOne file source one two s t
+        one_at_search p (inl x) (inl y) =
             let place = one_first_out e a.comps x.place y.place x.first_out y.first_out in
             let component = same_Some x.component y.component (sym x.there ∙ ap (slice_get a.comps) place ∙ y.there) in
             of_same file source one two s t (x.past ∙ sym y.past) (x.told ∙ ap (λ (c : Comp). declared_out_line c.name) component ∙ sym y.told)
-        one_at_search after (inl x) (inr y) = absurd (y.0 x.place x.first_out.here)
-        one_at_search after (inr x) (inl y) = absurd (x.0 y.place y.first_out.here)
-        one_at_search after (inr x) (inr y) = let same = one_shown r g a e after one two s t x.1 y.1 in of_same file source one two s t same.1 same.0
+        one_at_search p (inl x) (inr y) = absurd (y.0 x.place x.first_out.here)
+        one_at_search p (inr x) (inl y) = absurd (x.0 y.place y.first_out.here)
+        one_at_search p (inr x) (inr y) = let same = one_shown r g a e p one two s t x.1 y.1 in of_same file source one two s t same.1 same.0
+
+        one_at_values : (after : Option (List Value)) → AtHeldValues r file source one s g a e after → AtHeldValues r file source two t g a e after → IsOne file source one two s t
+        one_at_values after (inl x) (inl y) = (x.bad ∙ sym y.bad, AreAlike.no_values x.place y.place x.told y.told)
+        one_at_values after (inl x) (inr y) = absurd (no_held_values e a.comps r.held y.0 x.none y.1)
+        one_at_values after (inr x) (inl y) = absurd (no_held_values e a.comps r.held x.0 y.none x.1)
+        one_at_values after (inr x) (inr y) =
+            let held = one_held e a.comps r.held x.0 y.0 (clear_at source g [] (stated r.sizes) e checks complete is) x.1 y.1 in
+            one_at_search (portion after y.0) (subst (λ values. AtSearch r file source one s g a e (portion after values)) held x.2) y.2
 
         one_at_row : AtNamedRow r file source one s g a e → AtNamedRow r file source two t g a e → IsOne file source one two s t
         one_at_row (inl x) (inl y) = (x.bad ∙ sym y.bad, AreAlike.no_binding x.place y.place x.told y.told)
@@ -55,7 +68,7 @@ module _ (r : Request) (file source one two : List ℕ) (s t : Status) where
         one_at_row (inr x) (inl y) = absurd (no_named_row e a.comps r.after x.0 y.none x.1)
         one_at_row (inr x) (inr y) =
             let row = one_named_row e a.comps r.after x.0 y.0 (clear_at source g [] (stated r.sizes) e checks complete is) x.1 y.1 in
-            one_at_search y.0 (subst (AtSearch r file source one s g a e) row x.2) y.2
+            one_at_values y.0 (subst (AtHeldValues r file source one s g a e) row x.2) y.2
 
       one_at_finiteness : AtFiniteness r file source one s g a → AtFiniteness r file source two t g a → IsOne file source one two s t
       one_at_finiteness (inl x) (inl y) =
@@ -114,10 +127,10 @@ one_check_answer types file source one two s t (g, es, p, told, done) (h, fs, q,
 -- what is read is not refused
 read_unread : (job : Job) (file source one two : List ℕ) (s t : Status) → UnreadAnswer file source one s → JobAnswer job file source two t → ⊥
 read_unread (Check types) file source one two s t (fault, refused, told, bad) (g, es, p, other_told, done) = unread source fault p.boxes refused p.reads
-read_unread (Show name sizes after limit tests) file source one two s t (fault, refused, told, bad) answer =
-    go (staged (request name sizes after limit tests) file source two t answer)
+read_unread (Show name sizes after held limit tests) file source one two s t (fault, refused, told, bad) answer =
+    go (staged (request name sizes after held limit tests) file source two t answer)
   where
-    go : AtTypes (request name sizes after limit tests) file source two t → ⊥
+    go : AtTypes (request name sizes after held limit tests) file source two t → ⊥
     go (inl x) = let checks = x.checks in unread source fault checks.boxes refused checks.reads
     go (inr x) = let checks = x.1 in unread source fault checks.boxes refused checks.reads
 
@@ -132,8 +145,8 @@ one_unread file source one two s t (e, refused, told, bad) (f, other_refused, ot
 
 one_job_answer : (job : Job) (file source one two : List ℕ) (s t : Status) → JobAnswer job file source one s → JobAnswer job file source two t → IsOne file source one two s t
 one_job_answer (Check types) file source one two s t x y = one_check_answer types file source one two s t x y
-one_job_answer (Show name sizes after limit tests) file source one two s t x y =
-    let r = request name sizes after limit tests in
+one_job_answer (Show name sizes after held limit tests) file source one two s t x y =
+    let r = request name sizes after held limit tests in
     one_at_types r file source one two s t (staged r file source one s x) (staged r file source two t y)
 
 pub one_answer : (job : Job) (file source one two : List ℕ) (s t : Status) → Answer job file source one s → Answer job file source two t → IsOne file source one two s t

@@ -20,18 +20,20 @@ use Rattle.zf_meaning.specs.GlobalOutcomes.{IsEnvironment}
 use Rattle.zf_meaning.specs.Sizes.{given_sets, AreComplete}
 use Rattle.zf_meaning.proofs.Environments.{one_environment}
 use Rattle.zf_enum.specs.Events.{AreTests}
+use Rattle.zf_enum.specs.Portions.{Portion}
 use Rattle.zf_enum.specs.Property.{property}
 use Rattle.zf_enum.specs.Ranges.{IsFirstOut}
 use Rattle.zf_enum.proofs.EventLaws.{one_ranges}
 use Rattle.zf_texts.specs.Clear.{AreClear}
 use Rattle.zf_texts.specs.Spellings.{spellings}
+use Rattle.zf_texts.proofs.OneHeld.{one_next}
 use Rattle.zf_texts.proofs.OneRow.{one_row}
 use Rattle.zf_names.proofs.Clear.{globals_clear}
 use Rattle.zf_lines.specs.declared.fault.Status.{Status}
 use Rattle.zf_lines.specs.Searches.{AreEventsUpTo, HasEvents, IsTestsLine, IsWritten}
 use Rattle.zf_lines.specs.Texts.{binding_line, tests_line}
 use Rattle.zf_found.proofs.Searches.{property_told}
-use Rattle.zf_engine.specs.Answers.{Checks, IsNamedRow, Request}
+use Rattle.zf_engine.specs.Answers.{AreHeld, Checks, IsNamedRow, Request}
 use Rattle.zf_answers.specs.Laws.{ShowsEvents}
 use Rattle.zf_answers.proofs.OneEnding.{AreOneEnd, one_ending}
 use Rattle.zf_answers.proofs.OneRefusal.{one_sizes}
@@ -69,6 +71,12 @@ one_named_row e comps (Some text) None two clear p q = absurd p
 one_named_row e comps (Some text) (Some x) None clear p q = absurd q
 one_named_row e comps (Some text) (Some x) (Some y) clear p q = ap Some (one_row (spellings e.globals) e clear comps x y p.0 q.0 (sym p.1 ∙ q.1))
 
+-- and it holds one list of values
+pub one_held : (e : Environment) (comps : List Comp) (text : Option (List ℕ)) (one two : List (Option Value)) → AreClear (spellings e.globals) e.sizes
+    → AreHeld e comps text one → AreHeld e comps text two → one ≡ two
+one_held e comps None one two clear p q = p ∙ sym q
+one_held e comps (Some text) one two clear p q = one_next (spellings e.globals) e clear comps 0 text one two p q
+
 -- ---- declared sets
 
 -- there is one first component with a declared set that is out
@@ -82,37 +90,37 @@ one_first_out e comps i j p q = go (cases_order i j)
 
 -- ---- the events
 
-one_search : (e : Environment) (a : Schema) (after : Option (List Value)) (line : List Value → List ℕ) (limit : Option ℕ) (xs ys : List (Event Value)) (last other_last : Option (List Value))
+one_search : (e : Environment) (a : Schema) (p : Portion) (line : List Value → List ℕ) (limit : Option ℕ) (xs ys : List (Event Value)) (last other_last : Option (List Value))
     (text other : List ℕ) (status other_status : Status)
-    → HasEvents e a after last xs → HasEvents e a after other_last ys → IsWritten line limit xs last text status → IsWritten line limit ys other_last other other_status → AreOneEnd line limit last other_last text other status other_status
-one_search e a after line limit xs ys last other_last text other status other_status h k w v =
-    let same : k.ranges ≡ h.ranges = one_ranges e a k.ranges h.ranges k.of_components h.of_components in
-    one_ending value_order order_laws.total-law exact (property e a.conjuncts) (property_told e a.conjuncts) h.ranges after line limit xs ys last other_last text other status other_status
-    h.listed (subst (λ ranges. AreEventsUpTo value_order (property e a.conjuncts) ranges after other_last ys) same k.listed) w v
+    → HasEvents e a p last xs → HasEvents e a p other_last ys → IsWritten line limit xs last text status → IsWritten line limit ys other_last other other_status → AreOneEnd line limit last other_last text other status other_status
+one_search e a p line limit xs ys last other_last text other status other_status h k w v =
+    let same : k.ranges ≡ h.ranges = one_ranges e a p.held k.ranges h.ranges k.of_components h.of_components in
+    one_ending value_order order_laws.total-law exact (property e a.conjuncts) (property_told e a.conjuncts) h.ranges p.after line limit xs ys last other_last text other status other_status
+    h.listed (subst (λ ranges. AreEventsUpTo value_order (property e a.conjuncts) ranges p.after other_last ys) same k.listed) w v
 
 -- ---- the tests
 
-one_number : (e : Environment) (a : Schema) (after whole : Option (List Value)) (m n : ℕ) → AreTests e a after whole m → AreTests e a after whole n → m ≡ n
-one_number e a after whole m n h k =
-    let same : k.ranges ≡ h.ranges = one_ranges e a k.ranges h.ranges k.of_components h.of_components in
-    let counted : IsNumberOfTests value_order (property e a.conjuncts) h.ranges after whole n =
-    subst (λ ranges. IsNumberOfTests value_order (property e a.conjuncts) ranges after whole n) same k.counted in
-    let P : List Value × ℕ → Type 0 = λ pair. IsWalked value_order (property e a.conjuncts) h.ranges after pair × IsUpTo value_order whole pair.0 in
-    let le = number-le P P m n h.counted counted (λ x p. p) in
-    let ge = number-le P P n m counted h.counted (λ x p. p) in
+one_number : (e : Environment) (a : Schema) (p : Portion) (whole : Option (List Value)) (m n : ℕ) → AreTests e a p whole m → AreTests e a p whole n → m ≡ n
+one_number e a p whole m n h k =
+    let same : k.ranges ≡ h.ranges = one_ranges e a p.held k.ranges h.ranges k.of_components h.of_components in
+    let counted : IsNumberOfTests value_order (property e a.conjuncts) h.ranges p.after whole n =
+    subst (λ ranges. IsNumberOfTests value_order (property e a.conjuncts) ranges p.after whole n) same k.counted in
+    let P : List Value × ℕ → Type 0 = λ pair. IsWalked value_order (property e a.conjuncts) h.ranges p.after pair × IsUpTo value_order whole pair.0 in
+    let le = number-le P P m n h.counted counted (λ x w. w) in
+    let ge = number-le P P n m counted h.counted (λ x w. w) in
     omega (arith, le, ge)
 
 -- the line of the number of tests is one
-one_tests_line : (tests : Bool) (e : Environment) (a : Schema) (after whole : Option (List Value)) (one two : List ℕ) → IsTestsLine tests e a after whole one → IsTestsLine tests e a after whole two → one ≡ two
-one_tests_line false e a after whole one two h k = h ∙ sym k
-one_tests_line true e a after whole one two h k = h.2 ∙ ap (λ n. tests_line (cut n)) (one_number e a after whole h.0 k.0 h.1 k.1) ∙ sym k.2
+one_tests_line : (tests : Bool) (e : Environment) (a : Schema) (p : Portion) (whole : Option (List Value)) (one two : List ℕ) → IsTestsLine tests e a p whole one → IsTestsLine tests e a p whole two → one ≡ two
+one_tests_line false e a p whole one two h k = h ∙ sym k
+one_tests_line true e a p whole one two h k = h.2 ∙ ap (λ n. tests_line (cut n)) (one_number e a p whole h.0 k.0 h.1 k.1) ∙ sym k.2
 
 -- ---- the answer
 
 -- events are shown in one way
-pub one_shown : (r : Request) (g : List Defined) (a : Schema) (e : Environment) (after : Option (List Value)) (one two : List ℕ) (s t : Status)
-    → ShowsEvents r g a e after one s → ShowsEvents r g a e after two t → (one ≡ two) × (s ≡ t)
-one_shown r g a e after one two s t x y =
-    let end = one_search e a after (binding_line (spellings g) a.comps) r.limit x.events y.events x.last y.last x.lines y.lines s t x.listed y.listed x.ends y.ends in
-    let counted = one_tests_line r.tests e a after y.last x.counted y.counted (subst (λ last. IsTestsLine r.tests e a after last x.counted) end.lasts x.numbered) y.numbered in
+pub one_shown : (r : Request) (g : List Defined) (a : Schema) (e : Environment) (p : Portion) (one two : List ℕ) (s t : Status)
+    → ShowsEvents r g a e p one s → ShowsEvents r g a e p two t → (one ≡ two) × (s ≡ t)
+one_shown r g a e p one two s t x y =
+    let end = one_search e a p (binding_line (spellings g) a.comps) r.limit x.events y.events x.last y.last x.lines y.lines s t x.listed y.listed x.ends y.ends in
+    let counted = one_tests_line r.tests e a p y.last x.counted y.counted (subst (λ last. IsTestsLine r.tests e a p last x.counted) end.lasts x.numbered) y.numbered in
     (x.whole ∙ ap (λ l. l ++ x.counted) end.texts ∙ ap (λ c. y.lines ++ c) counted ∙ sym y.whole, end.statuses)

@@ -12,6 +12,7 @@ use Rattle.zf_value.proofs.Exact.{exact}
 use Rattle.zf_walk.specs.declared.judge.Truth.TheVariants.{True}
 use Rattle.zf_walk.specs.Events.{Event}
 use Rattle.zf_meaning.specs.Environments.{Environment}
+use Rattle.zf_enum.specs.Portions.{Portion, behind}
 use Rattle.zf_enum.specs.Property.{property}
 use Rattle.zf_enum.proofs.EventLaws.{one_ranges}
 use Rattle.zf_texts.specs.BindingTexts.{binding_text}
@@ -45,8 +46,8 @@ paused InDoubt line limit rows last final status row (EndsLines.complete none be
 
 -- ---- both runs
 
-module _ (resuming : LinesAreRows) (r : Request) (n : ℕ) (limit : Option ℕ) (file source : List ℕ) (g : List Defined) (a : Schema) (e : Environment) (after : Option (List Value))
-    (first second : List ℕ) (s t : Status) (run : ShowsBindings (limited (Some n) r) g a e after first s) (row : List Value) (granted : IsGranted r source g a e after)
+module _ (resuming : LinesAreRows) (r : Request) (n : ℕ) (limit : Option ℕ) (file source : List ℕ) (g : List Defined) (a : Schema) (e : Environment) (p : Portion)
+    (first second : List ℕ) (s t : Status) (run : ShowsBindings (limited (Some n) r) g a e p first s) (row : List Value) (granted : IsGranted r source g a e p)
     (untold : r.tests ≡ false) (more : run.final ≡ codes "more\n") (at : run.last ≡ Some row) where
   abbrev line : List Value → List ℕ
   line = binding_line (spellings g) a.comps
@@ -55,69 +56,71 @@ module _ (resuming : LinesAreRows) (r : Request) (n : ℕ) (limit : Option ℕ) 
   next = resumed (binding_text (spellings g) a.comps row) limit r
 
   as_many : ((front : List (List Value)) × (run.rows ≡ front ++ row ∷ [])) × (Some n ≡ Some (length run.rows))
-  as_many = paused (IsInDoubt e a run.ranges after) line (Some n) run.rows run.last run.final s row run.ending more at
+  as_many = paused (IsInDoubt e a run.ranges p.after) line (Some n) run.rows run.last run.final s row run.ending more at
 
-  members : (x : List Value) → Contains run.rows x ↔ (IsBinding e a run.ranges after x × IsNotPast value_order (Some row) x)
-  members = subst (λ last. (x : List Value) → Contains run.rows x ↔ (IsBinding e a run.ranges after x × IsNotPast value_order last x)) at run.members
+  members : (x : List Value) → Contains run.rows x ↔ (IsBinding e a run.ranges p.after x × IsNotPast value_order (Some row) x)
+  members = subst (λ last. (x : List Value) → Contains run.rows x ↔ (IsBinding e a run.ranges p.after x × IsNotPast value_order last x)) at run.members
 
-  certain : (x : List Value) → IsInDoubt e a run.ranges after x → IsBefore value_order (Some row) x → ⊥
-  certain = subst (λ last. (x : List Value) → IsInDoubt e a run.ranges after x → IsBefore value_order last x → ⊥) at run.certain
+  certain : (x : List Value) → IsInDoubt e a run.ranges p.after x → IsBefore value_order (Some row) x → ⊥
+  certain = subst (λ last. (x : List Value) → IsInDoubt e a run.ranges p.after x → IsBefore value_order last x → ⊥) at run.certain
 
   abbrev events : List (Event Value)
   events = map (λ x. with_truth x True) run.rows
 
-  listed : AreEventsUpTo value_order (property e a.conjuncts) run.ranges after (Some row) events
-  listed = rows_are_events value_order order_laws.total-law exact (property e a.conjuncts) run.ranges after (property_told e a.conjuncts) (IsBinding e a run.ranges after) (IsInDoubt e a run.ranges after)
-      (binding_event e a run.ranges after) (doubt_event e a run.ranges after) run.rows as_many.0.0 row as_many.0.1 members run.ascending certain
+  listed : AreEventsUpTo value_order (property e a.conjuncts) run.ranges p.after (Some row) events
+  listed = rows_are_events value_order order_laws.total-law exact (property e a.conjuncts) run.ranges p.after (property_told e a.conjuncts) (IsBinding e a run.ranges p.after) (IsInDoubt e a run.ranges p.after)
+      (binding_event e a run.ranges p.after) (doubt_event e a run.ranges p.after) run.rows as_many.0.0 row as_many.0.1 members run.ascending certain
 
   row_event : (x : Event Value) × Contains events x × (x.row ≡ row)
-  row_event = last_is_event value_order order_laws.total-law exact (property e a.conjuncts) run.ranges after (property_told e a.conjuncts) (IsBinding e a run.ranges after) (IsInDoubt e a run.ranges after)
-      (binding_event e a run.ranges after) (doubt_event e a run.ranges after) run.rows as_many.0.0 row as_many.0.1 members run.ascending certain
+  row_event = last_is_event value_order order_laws.total-law exact (property e a.conjuncts) run.ranges p.after (property_told e a.conjuncts) (IsBinding e a run.ranges p.after) (IsInDoubt e a run.ranges p.after)
+      (binding_event e a run.ranges p.after) (doubt_event e a run.ranges p.after) run.rows as_many.0.0 row as_many.0.1 members run.ascending certain
 
   hold : Hold events
-  hold = rows_hold value_order order_laws.total-law exact (property e a.conjuncts) run.ranges after (property_told e a.conjuncts) (IsBinding e a run.ranges after) (IsInDoubt e a run.ranges after)
-      (binding_event e a run.ranges after) (doubt_event e a run.ranges after) run.rows as_many.0.0 row as_many.0.1 members run.ascending certain
+  hold = rows_hold value_order order_laws.total-law exact (property e a.conjuncts) run.ranges p.after (property_told e a.conjuncts) (IsBinding e a run.ranges p.after) (IsInDoubt e a run.ranges p.after)
+      (binding_event e a run.ranges p.after) (doubt_event e a run.ranges p.after) run.rows as_many.0.0 row as_many.0.1 members run.ascending certain
 
-  search : IsSearch r source g a e after
+  search : IsSearch r source g a e p
   search = record {
     asked = record { has_schema = granted.has_schema; complete = granted.complete; environment = granted.environment; finite = granted.finite };
     named = granted.named;
+    held = granted.held;
     none_out = granted.none_out;
   }
 
   -- the text of the last row names it
   named : IsLineOf e a.comps (binding_text (spellings g) a.comps row) row
   named =
-      let has : HasEvents e a after (Some row) events = record { ranges = run.ranges; of_components = run.of_components; listed = listed } in
-      let line_of = resuming r source g a e after (Some row) events row_event.0 search has row_event.1 in
+      let has : HasEvents e a p (Some row) events = record { ranges = run.ranges; of_components = run.of_components; listed = listed } in
+      let line_of = resuming r source g a e p (Some row) events row_event.0 search has row_event.1 in
       subst (λ h. IsLineOf e a.comps (binding_text (spellings h) a.comps row) row) granted.environment.0
       (subst (λ x. IsLineOf e a.comps (binding_text (spellings e.globals) a.comps x) x) row_event.2 line_of)
 
-  next_granted : IsGranted next source g a e (Some row)
+  next_granted : IsGranted next source g a e (behind row p)
   next_granted = record {
     has_schema = record { checks = granted.has_schema.checks; named = granted.has_schema.named };
     complete = granted.complete;
     environment = granted.environment;
     finite = granted.finite;
     named = named;
+    held = granted.held;
     none_out = granted.none_out;
   }
 
-  no_tests : (tests : Bool) (start last : Option (List Value)) (counted : List ℕ) → tests ≡ false → IsTestsLine tests e a start last counted → counted ≡ []
+  no_tests : (tests : Bool) (start : Portion) (last : Option (List Value)) (counted : List ℕ) → tests ≡ false → IsTestsLine tests e a start last counted → counted ≡ []
   no_tests tests start last counted none told = subst (λ b. IsTestsLine b e a start last counted) none told
 
-  module _ (shown : ShowsEvents next g a e (Some row) second t) where
+  module _ (shown : ShowsEvents next g a e (behind row p) second t) where
     same_ranges : shown.listed.ranges ≡ run.ranges
-    same_ranges = let there = shown.listed in one_ranges e a there.ranges run.ranges there.of_components run.of_components
+    same_ranges = let there = shown.listed in one_ranges e a p.held there.ranges run.ranges there.of_components run.of_components
 
     there_listed : AreEventsUpTo value_order (property e a.conjuncts) run.ranges (Some row) shown.last shown.events
     there_listed = let there = shown.listed in subst (λ ranges. AreEventsUpTo value_order (property e a.conjuncts) ranges (Some row) shown.last shown.events) same_ranges there.listed
 
-    both_have : HasEvents e a after shown.last (events ++ shown.events)
+    both_have : HasEvents e a p shown.last (events ++ shown.events)
     both_have = record {
       ranges = run.ranges;
       of_components = run.of_components;
-      listed = both_listed value_order order_laws.total-law exact (property e a.conjuncts) run.ranges after row shown.last events shown.events listed there_listed row_event
+      listed = both_listed value_order order_laws.total-law exact (property e a.conjuncts) run.ranges p.after row shown.last events shown.events listed there_listed row_event
           (last_event line limit shown.events shown.last shown.lines t shown.ends);
     }
 
@@ -130,18 +133,18 @@ module _ (resuming : LinesAreRows) (r : Request) (n : ℕ) (limit : Option ℕ) 
 
     text_of_both : flat_map line run.rows ++ second ≡ (lines line events ++ shown.lines) ++ []
     text_of_both =
-        let none : shown.counted ≡ [] = no_tests r.tests (Some row) shown.last shown.counted untold shown.numbered in
+        let none : shown.counted ≡ [] = no_tests r.tests (behind row p) shown.last shown.counted untold shown.numbered in
         let text : second ≡ shown.lines = shown.whole ∙ ap (λ c. shown.lines ++ c) none ∙ append-nil shown.lines in
         ap (λ u. flat_map line run.rows ++ u) text ∙ ap (λ u. u ++ shown.lines) (sym (flat_map-map (λ (x : Event Value). line x.row) (λ x. with_truth x True) run.rows))
         ∙ sym (append-nil (lines line events ++ shown.lines))
 
     both_shown : AnswersRequest (limited (together n limit) r) file source (flat_map line run.rows ++ second) t
-    both_shown = inr (ShowAnswer.bindings g a e after shown.last (events ++ shown.events) (lines line events ++ shown.lines) []
-        (record { asked = record { has_schema = record { checks = granted.has_schema.checks; named = granted.has_schema.named }; complete = granted.complete; environment = granted.environment; finite = granted.finite }; named = granted.named; none_out = granted.none_out })
-        both_have both_end (subst (λ b. IsTestsLine b e a after shown.last []) (sym untold) refl) text_of_both)
+    both_shown = inr (ShowAnswer.bindings g a e p shown.last (events ++ shown.events) (lines line events ++ shown.lines) []
+        (record { asked = record { has_schema = record { checks = granted.has_schema.checks; named = granted.has_schema.named }; complete = granted.complete; environment = granted.environment; finite = granted.finite }; named = granted.named; held = granted.held; none_out = granted.none_out })
+        both_have both_end (subst (λ b. IsTestsLine b e a p shown.last []) (sym untold) refl) text_of_both)
 
 pub runs_make_one : LinesAreRows → RunsMakeOne
-runs_make_one resuming r n limit file source g a e after first second s t run row granted untold more at answer =
-    both_shown resuming r n limit file source g a e after first second s t run row granted untold more at
-    (events_are_shown (resumed (binding_text (spellings g) a.comps row) limit r) file source g a e (Some row) second t
-    (next_granted resuming r n limit file source g a e after first second s t run row granted untold more at) answer)
+runs_make_one resuming r n limit file source g a e p first second s t run row granted untold more at answer =
+    both_shown resuming r n limit file source g a e p first second s t run row granted untold more at
+    (events_are_shown (resumed (binding_text (spellings g) a.comps row) limit r) file source g a e (behind row p) second t
+    (next_granted resuming r n limit file source g a e p first second s t run row granted untold more at) answer)

@@ -17,28 +17,39 @@ use Rattle.zf_meaning.specs.Environments.{Environment}
 use Rattle.zf_meaning.specs.InRow.{in_row}
 use Rattle.zf_meaning.specs.Meaning.{IsTruth}
 use Rattle.zf_meaning.specs.Sizes.{given_sets}
+use Rattle.zf_enum.specs.Portions.{Portion, portion}
 use Rattle.zf_enum.specs.Property.{HasTruth, property}
 use Rattle.zf_texts.specs.Spellings.{spellings}
 use Rattle.zf_lines.specs.declared.fault.Status.{Status}
 use Rattle.zf_lines.specs.Texts.{binding_line}
-use Rattle.zf_engine.specs.Answers.{IsNamedRow, NamesNoRow, Request, stated}
+use Rattle.zf_engine.specs.Answers.{AreHeld, HoldsNoValues, IsNamedRow, NamesNoRow, Request, stated}
 use Rattle.zf_answers.specs.Bindings.{IsBinding, IsInDoubt, ShowsBindings}
 use Rattle.zf_answers.specs.Laws.{AnswersRequest, EachBindingIsShown, EventsAreShown, IsGranted, IsShownInOneWay, ShowsEvents}
 use Rattle.zf_answers.proofs.OneSource.{unread, one_checked, one_named, some_and_none}
-use Rattle.zf_answers.proofs.OneSearch.{clear_at, not_infinite, one_environment_at, one_named_row, one_shown}
+use Rattle.zf_answers.proofs.OneSearch.{clear_at, not_infinite, one_environment_at, one_held, one_named_row, one_shown}
 use Rattle.zf_answers.proofs.OneRefusal.{none_refused}
-use Rattle.zf_answers.proofs.Stages.{AtFiniteness, AtNamedRow, AtSchema, AtSearch, AtSizes, AtTypes, staged}
+use Rattle.zf_answers.proofs.Stages.{AtFiniteness, AtHeldValues, AtNamedRow, AtSchema, AtSearch, AtSizes, AtTypes, staged}
 use Rattle.zf_answers.proofs.WrittenRows.{with_truth, written_rows}
 
 -- ---- the events
 
-module _ (r : Request) (file source : List ℕ) (g : List Defined) (a : Schema) (e : Environment) (after : Option (List Value)) (text : List ℕ) (status : Status) (granted : IsGranted r source g a e after) where
-  searched : AtSearch r file source text status g a e after → ShowsEvents r g a e after text status
+module _ (r : Request) (file source : List ℕ) (g : List Defined) (a : Schema) (e : Environment) (p : Portion) (text : List ℕ) (status : Status) (granted : IsGranted r source g a e p) where
+  searched : AtSearch r file source text status g a e p → ShowsEvents r g a e p text status
   searched (inl out) = absurd (granted.none_out out.place out.first_out.here)
   searched (inr shows) = shows.1
 
-  named_row : AtNamedRow r file source text status g a e → ShowsEvents r g a e after text status
-  named_row (inl none) = absurd (is_named r.after after none.none granted.named)
+  held_values : AtHeldValues r file source text status g a e p.after → ShowsEvents r g a e p text status
+  held_values (inl none) = absurd (are_held r.held p.held none.none granted.held)
+    where
+      are_held : (text : Option (List ℕ)) (held : List (Option Value)) → HoldsNoValues e a.comps text → AreHeld e a.comps text held → ⊥
+      are_held None held none are = none
+      are_held (Some text) held none are = none held are
+  held_values (inr there) =
+      let clear = clear_at source g [] (stated r.sizes) e granted.has_schema.checks granted.complete granted.environment in
+      searched (subst (λ held. AtSearch r file source text status g a e (portion p.after held)) (one_held e a.comps r.held there.0 p.held clear there.1 granted.held) there.2)
+
+  named_row : AtNamedRow r file source text status g a e → ShowsEvents r g a e p text status
+  named_row (inl none) = absurd (is_named r.after p.after none.none granted.named)
     where
       is_named : (text : Option (List ℕ)) (after : Option (List Value)) → NamesNoRow e a.comps text → IsNamedRow e a.comps text after → ⊥
       is_named None after none named = none
@@ -46,38 +57,38 @@ module _ (r : Request) (file source : List ℕ) (g : List Defined) (a : Schema) 
       is_named (Some text) (Some row) none named = none row named
   named_row (inr there) =
       let clear = clear_at source g [] (stated r.sizes) e granted.has_schema.checks granted.complete granted.environment in
-      searched (subst (AtSearch r file source text status g a e) (one_named_row e a.comps r.after there.0 after clear there.1 granted.named) there.2)
+      held_values (subst (AtHeldValues r file source text status g a e) (one_named_row e a.comps r.after there.0 p.after clear there.1 granted.named) there.2)
 
-  finite : AtFiniteness r file source text status g a → ShowsEvents r g a e after text status
+  finite : AtFiniteness r file source text status g a → ShowsEvents r g a e p text status
   finite (inl infinite) = absurd (not_infinite g a infinite.line granted.finite infinite.first_line)
   finite (inr ends) =
       let f = ends.1 in
       named_row (subst (AtNamedRow r file source text status g a) (one_environment_at g (stated r.sizes) f.0 e granted.complete f.1 granted.environment) f.2)
 
-  sized : AtSizes r file source text status g a → ShowsEvents r g a e after text status
+  sized : AtSizes r file source text status g a → ShowsEvents r g a e p text status
   sized (inl bad) = absurd (none_refused (given_sets g) (stated r.sizes) bad.fault granted.complete bad.some bad.refused)
   sized (inr fits) = finite fits.1
 
-  schema_named : AtSchema r file source text status g → ShowsEvents r g a e after text status
+  schema_named : AtSchema r file source text status g → ShowsEvents r g a e p text status
   schema_named (inl none) = absurd (none.none a granted.has_schema.named)
   schema_named (inr has) = sized (subst (AtSizes r file source text status g) (one_named g r.name has.0 a has.1 granted.has_schema.named) has.2)
 
-  typed : AtTypes r file source text status → ShowsEvents r g a e after text status
+  typed : AtTypes r file source text status → ShowsEvents r g a e p text status
   typed (inl bad) = absurd (some_and_none bad.faults bad.some (one_checked source bad.globals g bad.faults [] bad.checks granted.has_schema.checks).1)
   typed (inr well) = schema_named (subst (AtSchema r file source text status) (one_checked source well.0 g [] [] well.1 granted.has_schema.checks).0 well.2)
 
-  shown : AnswersRequest r file source text status → ShowsEvents r g a e after text status
+  shown : AnswersRequest r file source text status → ShowsEvents r g a e p text status
   shown (inl (fault, refused, told, bad)) =
       let checks = granted.has_schema.checks in
       absurd (unread source fault checks.boxes refused checks.reads)
   shown (inr answer) = typed (staged r file source text status answer)
 
 pub events_are_shown : EventsAreShown
-events_are_shown r file source g a e after text status granted answer = shown r file source g a e after text status granted answer
+events_are_shown r file source g a e p text status granted answer = shown r file source g a e p text status granted answer
 
 pub is_shown_in_one_way : IsShownInOneWay
-is_shown_in_one_way r file source g a e after one two s t granted x y =
-    one_shown r g a e after one two s t (shown r file source g a e after one s granted x) (shown r file source g a e after two t granted y)
+is_shown_in_one_way r file source g a e p one two s t granted x y =
+    one_shown r g a e p one two s t (shown r file source g a e p one s granted x) (shown r file source g a e p two t granted y)
 
 -- ---- the bindings
 
@@ -141,13 +152,13 @@ doubt_event e a ranges after row = (
       },
 )
 
-bindings_of : (r : Request) (g : List Defined) (a : Schema) (e : Environment) (after : Option (List Value)) (text : List ℕ) (status : Status) → ShowsEvents r g a e after text status
-    → ShowsBindings r g a e after text status
-bindings_of r g a e after text status s =
+bindings_of : (r : Request) (g : List Defined) (a : Schema) (e : Environment) (p : Portion) (text : List ℕ) (status : Status) → ShowsEvents r g a e p text status
+    → ShowsBindings r g a e p text status
+bindings_of r g a e p text status s =
     let listed = s.listed in
     let line = binding_line (spellings g) a.comps in
-    let w = written_rows value_order order_laws.total-law exact (property e a.conjuncts) listed.ranges after (IsBinding e a listed.ranges after) (IsInDoubt e a listed.ranges after)
-    (binding_event e a listed.ranges after) (doubt_event e a listed.ranges after) s.events s.last listed.listed line r.limit s.lines status s.ends in
+    let w = written_rows value_order order_laws.total-law exact (property e a.conjuncts) listed.ranges p.after (IsBinding e a listed.ranges p.after) (IsInDoubt e a listed.ranges p.after)
+    (binding_event e a listed.ranges p.after) (doubt_event e a listed.ranges p.after) s.events s.last listed.listed line r.limit s.lines status s.ends in
     record {
       ranges = listed.ranges;
       of_components = listed.of_components;
@@ -164,4 +175,4 @@ bindings_of r g a e after text status s =
     }
 
 pub each_binding_is_shown : EachBindingIsShown
-each_binding_is_shown r file source g a e after text status granted answer = bindings_of r g a e after text status (events_are_shown r file source g a e after text status granted answer)
+each_binding_is_shown r file source g a e p text status granted answer = bindings_of r g a e p text status (events_are_shown r file source g a e p text status granted answer)

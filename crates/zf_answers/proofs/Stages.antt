@@ -12,11 +12,12 @@ use Rattle.zf_meaning.specs.declared.sizes.SizeFault.TheVariants as size_faults
 use Rattle.zf_meaning.specs.Environments.{Environment}
 use Rattle.zf_meaning.specs.GlobalOutcomes.{IsEnvironment}
 use Rattle.zf_meaning.specs.Sizes.{given_sets, AreComplete, IsRefusal}
+use Rattle.zf_enum.specs.Portions.{Portion, portion}
 use Rattle.zf_enum.specs.Ranges.{IsFirstOut, IsNoneOut}
 use Rattle.zf_lines.specs.declared.fault.Status.{Status}
 use Rattle.zf_lines.specs.declared.fault.Status.TheVariants.{BadSpec, BadRequest, PastBounds}
-use Rattle.zf_engine.specs.Answers.{Checks, IsNamed, IsNamedRow, NamesNoRow, Request, ShowAnswer, size_fault_line, stated}
-use Rattle.zf_engine.specs.Texts.{declared_out_line, fault_line, no_schema_line, not_a_binding_line, not_finite_text, type_fault_line}
+use Rattle.zf_engine.specs.Answers.{AreHeld, Checks, HoldsNoValues, IsNamed, IsNamedRow, NamesNoRow, Request, ShowAnswer, size_fault_line, stated}
+use Rattle.zf_engine.specs.Texts.{declared_out_line, fault_line, no_schema_line, not_a_binding_line, not_finite_text, not_held_line, type_fault_line}
 use Rattle.zf_answers.specs.Laws.{ShowsEvents}
 
 module _ (r : Request) (file source text : List ℕ) (status : Status) where
@@ -54,6 +55,12 @@ module _ (r : Request) (file source text : List ℕ) (status : Status) where
     pub told : text ≡ not_a_binding_line place
     pub bad : status ≡ BadRequest
 
+  pub record HoldsNothing (a : Schema) (e : Environment) : Type 0 where
+    pub place : ℕ
+    pub none : HoldsNoValues e a.comps r.held
+    pub told : text ≡ not_held_line place
+    pub bad : status ≡ BadRequest
+
   pub record HasSetOut (a : Schema) (e : Environment) : Type 0 where
     pub place : ℕ
     pub component : Comp
@@ -65,11 +72,14 @@ module _ (r : Request) (file source text : List ℕ) (status : Status) where
   -- ---- the stages, the last one first
 
   -- what the request asks for is searched
-  abbrev pub AtSearch : List Defined → Schema → Environment → Option (List Value) → Type 0
-  AtSearch g a e after = HasSetOut a e ⊎ (IsNoneOut e a.comps × ShowsEvents r g a e after text status)
+  abbrev pub AtSearch : List Defined → Schema → Environment → Portion → Type 0
+  AtSearch g a e p = HasSetOut a e ⊎ (IsNoneOut e a.comps × ShowsEvents r g a e p text status)
+
+  abbrev pub AtHeldValues : List Defined → Schema → Environment → Option (List Value) → Type 0
+  AtHeldValues g a e after = HoldsNothing a e ⊎ ((held : List (Option Value)) × AreHeld e a.comps r.held held × AtSearch g a e (portion after held))
 
   abbrev pub AtNamedRow : List Defined → Schema → Environment → Type 0
-  AtNamedRow g a e = HasNoRow a e ⊎ ((after : Option (List Value)) × IsNamedRow e a.comps r.after after × AtSearch g a e after)
+  AtNamedRow g a e = HasNoRow a e ⊎ ((after : Option (List Value)) × IsNamedRow e a.comps r.after after × AtHeldValues g a e after)
 
   abbrev pub AtFiniteness : List Defined → Schema → Type 0
   AtFiniteness g a = IsInfinite g a ⊎ (IsFinite g a × ((e : Environment) × IsEnvironment g (stated r.sizes) e × AtNamedRow g a e))
@@ -94,7 +104,10 @@ module _ (r : Request) (file source text : List ℕ) (status : Status) where
   staged (ShowAnswer.not_a_binding g a e place asked none told bad) =
       let has = asked.has_schema in
       inr (g, has.checks, inr (a, has.named, inr (asked.complete, inr (asked.finite, (e, asked.environment, inl (record { place = place; none = none; told = told; bad = bad }))))))
-  staged (ShowAnswer.declared_out g a e after place c asked named first_out there told past) =
+  staged (ShowAnswer.holds_nothing g a e after place asked named none told bad) =
+      let has = asked.has_schema in
+      inr (g, has.checks, inr (a, has.named, inr (asked.complete, inr (asked.finite, (e, asked.environment, inr (after, named, inl (record { place = place; none = none; told = told; bad = bad })))))))
+  staged (ShowAnswer.declared_out g a e p place c asked named held first_out there told past) =
       let has = asked.has_schema in
       inr (
         g,
@@ -110,16 +123,16 @@ module _ (r : Request) (file source text : List ℕ) (status : Status) where
                 e,
                 asked.environment,
                 inr (
-                  after,
+                  p.after,
                   named,
-                  inl (record { place = place; component = c; first_out = first_out; there = there; told = told; past = past }),
+                  inr (p.held, held, inl (record { place = place; component = c; first_out = first_out; there = there; told = told; past = past })),
                 ),
               ),
             ),
           ),
         ),
       )
-  staged (ShowAnswer.bindings g a e after last events lines counted search listed written numbered whole) =
+  staged (ShowAnswer.bindings g a e p last events lines counted search listed written numbered whole) =
       let asked = search.asked in
       let has = asked.has_schema in
       inr (
@@ -136,9 +149,13 @@ module _ (r : Request) (file source text : List ℕ) (status : Status) where
                 e,
                 asked.environment,
                 inr (
-                  after,
+                  p.after,
                   search.named,
-                  inr (search.none_out, record { last = last; events = events; lines = lines; counted = counted; listed = listed; ends = written; numbered = numbered; whole = whole }),
+                  inr (
+                    p.held,
+                    search.held,
+                    inr (search.none_out, record { last = last; events = events; lines = lines; counted = counted; listed = listed; ends = written; numbered = numbered; whole = whole }),
+                  ),
                 ),
               ),
             ),

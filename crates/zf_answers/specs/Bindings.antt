@@ -11,6 +11,7 @@ use Rattle.zf_walk.specs.Rows.{ComesAfter, IsLater, IsRowOf}
 use Rattle.zf_meaning.specs.Environments.{Environment}
 use Rattle.zf_meaning.specs.InRow.{in_row}
 use Rattle.zf_meaning.specs.Meaning.{IsTruth}
+use Rattle.zf_enum.specs.Portions.{Portion}
 use Rattle.zf_enum.specs.Ranges.{AreRanges}
 use Rattle.zf_texts.specs.Spellings.{spellings}
 use Rattle.zf_lines.specs.declared.fault.Status.{Status}
@@ -67,23 +68,23 @@ pub data EndsLines {V : Type 0} (InDoubt : List V → Type 0) (line : List V →
   complete : last ≡ None → IsBelow limit (length rows)
       → final ≡ codes "end\n" → status ≡ Done → EndsLines InDoubt line limit rows last final status
 
--- The text and the status of `show` for a schema among these globals, in this environment, after the named row.
-pub record ShowsBindings (r : Request) (globals : List Defined) (a : Schema) (e : Environment) (after : Option (List Value)) (text : List ℕ) (status : Status) : Type 0 where
-  -- the range of each component: the values that lie in all its declared sets
+-- The text and the status of `show` for a schema among these globals, in this environment, after the named row and with the values that are held.
+pub record ShowsBindings (r : Request) (globals : List Defined) (a : Schema) (e : Environment) (p : Portion) (text : List ℕ) (status : Status) : Type 0 where
+  -- the range of each component: the values that lie in all its declared sets, or of them the one that is held
   pub ranges : List (List Value)
-  pub of_components : AreRanges e a.comps ranges
+  pub of_components : AreRanges e a.comps p.held ranges
   -- the rows that have a line, and the last one that is looked at
   pub rows : List (List Value)
   pub last : Option (List Value)
   -- they are exactly the bindings up to there
-  pub members : (row : List Value) → Contains rows row ↔ (IsBinding e a ranges after row × IsNotPast value_order last row)
+  pub members : (row : List Value) → Contains rows row ↔ (IsBinding e a ranges p.after row × IsNotPast value_order last row)
   -- each comes after those before it, so each has one line
   pub ascending : AllPairs (ComesAfter value_order) rows
   -- before the last one there is none of which it is not known
-  pub certain : (row : List Value) → IsInDoubt e a ranges after row → IsBefore value_order last row → ⊥
+  pub certain : (row : List Value) → IsInDoubt e a ranges p.after row → IsBefore value_order last row → ⊥
   -- their lines, the last line, and the number of tests, if it is asked for
   pub final : List ℕ
   pub counted : List ℕ
-  pub ending : EndsLines (IsInDoubt e a ranges after) (binding_line (spellings globals) a.comps) r.limit rows last final status
-  pub numbered : IsTestsLine r.tests e a after last counted
+  pub ending : EndsLines (IsInDoubt e a ranges p.after) (binding_line (spellings globals) a.comps) r.limit rows last final status
+  pub numbered : IsTestsLine r.tests e a p last counted
   pub written : text ≡ flat_map (binding_line (spellings globals) a.comps) rows ++ final ++ counted

@@ -17,59 +17,62 @@ use Rattle.zf_walk.specs.Events.{Event}
 use Rattle.zf_meaning.specs.Environments.{Environment}
 use Rattle.zf_meaning.specs.GlobalOutcomes.{IsEnvironment}
 use Rattle.zf_meaning.specs.Sizes.{given_sets, AreComplete}
+use Rattle.zf_enum.specs.Portions.{Portion}
 use Rattle.zf_enum.specs.Ranges.{IsNoneOut}
 use Rattle.zf_texts.specs.Spellings.{spellings}
 use Rattle.zf_lines.specs.declared.fault.Status.{Status}
 use Rattle.zf_lines.specs.Searches.{HasEvents, IsTestsLine, IsWritten}
 use Rattle.zf_lines.specs.Texts.{binding_line}
-use Rattle.zf_engine.specs.Answers.{Answer, Checks, HasSchema, IsLimited, IsNamedRow, NamesNoRow, Request, stated}
-use Rattle.zf_engine.specs.Texts.{not_a_binding_line, text_fault_line, type_fault_line}
+use Rattle.zf_engine.specs.Answers.{Answer, AreHeld, Checks, HasSchema, HoldsNoValues, IsLimited, IsNamedRow, NamesNoRow, Request, stated}
+use Rattle.zf_engine.specs.Texts.{not_a_binding_line, not_held_line, text_fault_line, type_fault_line}
 use Rattle.zf_answers.specs.Bindings.{ShowsBindings}
 
 -- ---- what `show` answers
 
 -- the text and the status answer the request
 abbrev pub AnswersRequest : Request → (file source text : List ℕ) → Status → Type 0
-AnswersRequest r file source text status = Answer (Show r.name r.sizes r.after r.limit r.tests) file source text status
+AnswersRequest r file source text status = Answer (Show r.name r.sizes r.after r.held r.limit r.tests) file source text status
 
 -- Nothing stands in the way of the request: a tree reads the source, it is well typed and this is its schema of the name, the sizes fit and this is the
--- environment at them, the schema is finite, the named row is this row of the schema's types, if one is named, and no declared set is out.
-pub record IsGranted (r : Request) (source : List ℕ) (globals : List Defined) (a : Schema) (e : Environment) (after : Option (List Value)) : Type 0 where
+-- environment at them, the schema is finite, the named row is this row of the schema's types, if one is named, these values are held, if a line of some
+-- components is given, and no declared set is out.
+pub record IsGranted (r : Request) (source : List ℕ) (globals : List Defined) (a : Schema) (e : Environment) (p : Portion) : Type 0 where
   pub has_schema : HasSchema source r.name globals a
   pub complete : AreComplete (given_sets globals) (stated r.sizes)
   pub environment : IsEnvironment globals (stated r.sizes) e
   pub finite : IsFinite globals a
-  pub named : IsNamedRow e a.comps r.after after
+  pub named : IsNamedRow e a.comps r.after p.after
+  pub held : AreHeld e a.comps r.held p.held
   pub none_out : IsNoneOut e a.comps
 
--- Then every answer has the lines of exactly the schema's bindings after the named row, each once, in ascending order, up to the limit or the first row that
+-- Then every answer has the lines of exactly the schema's bindings after the named row with the held values, each once, in ascending order, up to the limit or the first row that
 -- is out of bounds; then the last line, which says which of these ended it, and the number of tests, if it is asked for.
 abbrev pub EachBindingIsShown : Type 0
 EachBindingIsShown =
-    (r : Request) (file source : List ℕ) (globals : List Defined) (a : Schema) (e : Environment) (after : Option (List Value)) (text : List ℕ) (status : Status)
-    → IsGranted r source globals a e after → AnswersRequest r file source text status → ShowsBindings r globals a e after text status
+    (r : Request) (file source : List ℕ) (globals : List Defined) (a : Schema) (e : Environment) (p : Portion) (text : List ℕ) (status : Status)
+    → IsGranted r source globals a e p → AnswersRequest r file source text status → ShowsBindings r globals a e p text status
 
 -- So there is one answer.
 abbrev pub IsShownInOneWay : Type 0
 IsShownInOneWay =
-    (r : Request) (file source : List ℕ) (globals : List Defined) (a : Schema) (e : Environment) (after : Option (List Value)) (one two : List ℕ) (s t : Status)
-    → IsGranted r source globals a e after → AnswersRequest r file source one s → AnswersRequest r file source two t → (one ≡ two) × (s ≡ t)
+    (r : Request) (file source : List ℕ) (globals : List Defined) (a : Schema) (e : Environment) (p : Portion) (one two : List ℕ) (s t : Status)
+    → IsGranted r source globals a e p → AnswersRequest r file source one s → AnswersRequest r file source two t → (one ≡ two) × (s ≡ t)
 
--- the text and the status of the schema's events after the named row, as the contract of the lines has them
-pub record ShowsEvents (r : Request) (globals : List Defined) (a : Schema) (e : Environment) (after : Option (List Value)) (text : List ℕ) (status : Status) : Type 0 where
+-- the text and the status of the schema's events after the named row with the held values, as the contract of the lines has them
+pub record ShowsEvents (r : Request) (globals : List Defined) (a : Schema) (e : Environment) (p : Portion) (text : List ℕ) (status : Status) : Type 0 where
   pub last : Option (List Value)
   pub events : List (Event Value)
   pub lines : List ℕ
   pub counted : List ℕ
-  pub listed : HasEvents e a after last events
+  pub listed : HasEvents e a p last events
   pub ends : IsWritten (binding_line (spellings globals) a.comps) r.limit events last lines status
-  pub numbered : IsTestsLine r.tests e a after last counted
+  pub numbered : IsTestsLine r.tests e a p last counted
   pub whole : text ≡ lines ++ counted
 
 abbrev pub EventsAreShown : Type 0
 EventsAreShown =
-    (r : Request) (file source : List ℕ) (globals : List Defined) (a : Schema) (e : Environment) (after : Option (List Value)) (text : List ℕ) (status : Status)
-    → IsGranted r source globals a e after → AnswersRequest r file source text status → ShowsEvents r globals a e after text status
+    (r : Request) (file source : List ℕ) (globals : List Defined) (a : Schema) (e : Environment) (p : Portion) (text : List ℕ) (status : Status)
+    → IsGranted r source globals a e p → AnswersRequest r file source text status → ShowsEvents r globals a e p text status
 
 -- ---- one answer
 
@@ -94,13 +97,14 @@ AreOfSame (e ∷ es) [] = ⊥
 AreOfSame (e ∷ es) (f ∷ fs) = ((g : List Defined) × (item : Item) × OffendsItem g item e.kind e.line × OffendsItem g item f.kind f.line) × AreOfSame es fs
 
 -- Two texts are one, or differ in what is left open: which fault of the grammar an unread source has, which offence of an ill typed paragraph is told, and
--- the byte at which a text is no binding.
+-- the byte at which a text is no binding, or no line of some components.
 pub data AreAlike (file source one two : List ℕ) : Type 0 where
   same : one ≡ two → AreAlike file source one two
   grammar : TellsGrammar file source one → TellsGrammar file source two → AreAlike file source one two
   types : (globals : List Defined) (first second : List TypeFault) (listed : List ℕ) → Checks source globals first → Checks source globals second → first ≢ [] → AreOfSame first second
       → one ≡ flat_map (type_fault_line file) first ++ listed → two ≡ flat_map (type_fault_line file) second ++ listed → AreAlike file source one two
   no_binding : (first second : ℕ) → one ≡ not_a_binding_line first → two ≡ not_a_binding_line second → AreAlike file source one two
+  no_values : (first second : ℕ) → one ≡ not_held_line first → two ≡ not_held_line second → AreAlike file source one two
 
 -- A source has one text for a job, but for what is left open.
 abbrev pub OneText : Type 0
@@ -115,6 +119,10 @@ EverySourceIsRead = (source : List ℕ) → ((boxes : List BoxTree) × ReadsSour
 -- A text is the line of a row of the components' types, or of none; where no text is given no row is named.
 abbrev pub EveryLineIsJudged : Type 0
 EveryLineIsJudged = (e : Environment) (comps : List Comp) (text : Option (List ℕ)) → ((after : Option (List Value)) × IsNamedRow e comps text after) ⊎ NamesNoRow e comps text
+
+-- So is one a line of some of them, which holds these values, or of none; where no text is given nothing is held.
+abbrev pub EveryHeldLineIsJudged : Type 0
+EveryHeldLineIsJudged = (e : Environment) (comps : List Comp) (text : Option (List ℕ)) → ((held : List (Option Value)) × AreHeld e comps text held) ⊎ HoldsNoValues e comps text
 
 -- ---- every request
 

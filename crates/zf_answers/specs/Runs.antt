@@ -5,6 +5,7 @@ use Rattle.zf_command.specs.declared.job.Job.{Job}
 use Rattle.zf_term.specs.Definitions.{Defined, Schema}
 use Rattle.zf_value.specs.declared.value.Value.{Value}
 use Rattle.zf_meaning.specs.Environments.{Environment}
+use Rattle.zf_enum.specs.Portions.{Portion}
 use Rattle.zf_texts.specs.BindingTexts.{binding_text}
 use Rattle.zf_texts.specs.Spellings.{spellings}
 use Rattle.zf_lines.specs.declared.fault.Status.{Status}
@@ -30,11 +31,11 @@ PartsAreFronts =
 
 -- the same request with another limit
 abbrev pub limited : Option ℕ → Request → Request
-limited limit r = record { name = r.name; sizes = r.sizes; after = r.after; limit = limit; tests = r.tests }
+limited limit r = record { name = r.name; sizes = r.sizes; after = r.after; held = r.held; limit = limit; tests = r.tests }
 
 -- the same request with another limit, for what comes after the row of this text
 abbrev pub resumed : List ℕ → Option ℕ → Request → Request
-resumed text limit r = record { name = r.name; sizes = r.sizes; after = Some text; limit = limit; tests = r.tests }
+resumed text limit r = record { name = r.name; sizes = r.sizes; after = Some text; held = r.held; limit = limit; tests = r.tests }
 
 -- so many bindings, and then up to a limit
 abbrev pub together : ℕ → Option ℕ → Option ℕ
@@ -45,8 +46,8 @@ together n (Some m) = Some (n + m)
 -- the answer of one run, with both limits together. The number of tests is not asked for.
 abbrev pub RunsMakeOne : Type 0
 RunsMakeOne =
-    (r : Request) (n : ℕ) (limit : Option ℕ) (file source : List ℕ) (globals : List Defined) (a : Schema) (e : Environment) (after : Option (List Value))
-    (first second : List ℕ) (s t : Status) (run : ShowsBindings (limited (Some n) r) globals a e after first s) (row : List Value)
-    → IsGranted r source globals a e after → r.tests ≡ false → run.final ≡ codes "more\n" → run.last ≡ Some row
+    (r : Request) (n : ℕ) (limit : Option ℕ) (file source : List ℕ) (globals : List Defined) (a : Schema) (e : Environment) (p : Portion)
+    (first second : List ℕ) (s t : Status) (run : ShowsBindings (limited (Some n) r) globals a e p first s) (row : List Value)
+    → IsGranted r source globals a e p → r.tests ≡ false → run.final ≡ codes "more\n" → run.last ≡ Some row
     → AnswersRequest (resumed (binding_text (spellings globals) a.comps row) limit r) file source second t
     → AnswersRequest (limited (together n limit) r) file source (flat_map (binding_line (spellings globals) a.comps) run.rows ++ second) t

@@ -1,7 +1,7 @@
 //! Laws over what is answered, above the answers of the engine: each source has one answer, and that of `show` has each binding once.
 #![tactic(auto)]
 
-ghost use Rattle.zf_answers.specs.Laws.{EachBindingIsShown, EventsAreShown, EveryLineIsJudged, EveryRequestIsAnswered, EverySourceIsRead, IsShownInOneWay, OneStatus, OneText};
+ghost use Rattle.zf_answers.specs.Laws.{EachBindingIsShown, EventsAreShown, EveryHeldLineIsJudged, EveryLineIsJudged, EveryRequestIsAnswered, EverySourceIsRead, IsShownInOneWay, OneStatus, OneText};
 ghost use Rattle.zf_answers.specs.Limits.{LimitsAre};
 ghost use Rattle.zf_answers.specs.NamedLines.{OneRowOfALine, RefusedLinesAreOfNoRow};
 ghost use Rattle.zf_answers.specs.Runs.{FirstLinesAreAFront, PartsAreFronts, RunsMakeOne};
@@ -26,9 +26,10 @@ pub fn every_source_is_read()
     zf_scan::scan::one_cut();
 }
 
-/// A text is the line of a row of the components' types, or of none.
+/// A text is the line of a row of the components' types, or of none; so is one the line of some components, or of none.
 pub fn every_line_is_judged()
-    ensures { EveryLineIsJudged }
+    ensures whole { EveryLineIsJudged }
+    ensures held { EveryHeldLineIsJudged }
 {}
 
 /// Each request has an answer.

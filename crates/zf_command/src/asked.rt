@@ -63,12 +63,14 @@ fn job_in(alloc: Global, name: &str, matches: &ArgMatches<'_>) -> Result<Job, Us
     let schema = value_in(alloc, matches, "SCHEMA")?;
     let sizes = sizes_in(alloc, matches)?;
     let after = option_in(alloc, matches, "after")?;
+    let held = option_in(alloc, matches, "with")?;
     let limit = limit_in(matches)?;
     let tests = is_flagged(matches, "tests");
     Ok(Job::Show {
         schema,
         sizes,
         after,
+        held,
         limit,
         tests,
     })

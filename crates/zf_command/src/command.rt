@@ -42,13 +42,14 @@ fn check_command<'a>(alloc: Global) -> Result<Command<'a>, AllocError>
     Ok(command)
 }
 
-/// `show [--after TEXT] [--limit N] [--tests] FILE SCHEMA [NAME=SIZE]...`
+/// `show [--after TEXT] [--with TEXT] [--limit N] [--tests] FILE SCHEMA [NAME=SIZE]...`
 fn show_command<'a>(alloc: Global) -> Result<Command<'a>, AllocError>
     ensures { IfOk result (λ c. IsCommand c show_app) }
 {
     let command = Command::new(alloc, "show")
         .about("Writes the bindings of a schema, one a line")
         .arg(after_arg(alloc))?
+        .arg(with_arg(alloc))?
         .arg(limit_arg(alloc))?
         .arg(tests_arg(alloc))?
         .arg(file_arg(alloc))?
@@ -73,6 +74,14 @@ fn after_arg<'a>(alloc: Global) -> Arg<'a>
         .long("after")
         .value_name("TEXT")
         .help("Writes only what comes after this binding, a line of another run or one like it")
+}
+
+fn with_arg<'a>(alloc: Global) -> Arg<'a>
+    ensures { IsArg result (option_rule (codes "with")) }
+{
+    Arg::new(alloc, "with").long("with").value_name("TEXT").help(
+        "Writes only the bindings in which some components have these values, a line of only these components",
+    )
 }
 
 fn limit_arg<'a>(alloc: Global) -> Arg<'a>

@@ -19,12 +19,14 @@ pub enum Job {
     Check {
         types: bool,
     },
-    /// The bindings of the schema, where the given sets have these sizes: those that come after the named one,
-    /// at most as many as the limit says; then, if `tests`, how many tests were finished.
+    /// The bindings of the schema, where the given sets have these sizes: those that come after the named one and
+    /// have the values that are held, at most as many as the limit says; then, if `tests`, how many tests were
+    /// finished.
     Show {
         schema: Word,
         sizes: Items<Size>,
         after: Option<Word>,
+        held: Option<Word>,
         limit: Option<u64>,
         tests: bool,
     },

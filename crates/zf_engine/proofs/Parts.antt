@@ -1,5 +1,5 @@
 -- How the parts of an answer that are written come together.
-use Rattle.std.proofs.Common.{◌≡◌, ◌⊎◌, ◌++◌, ℕ, List, [], ◌∷◌, Option, Bool, Result, Ok, Err, IfOk, OnErr, refl, sym, ap, ◌∙◌, append-nil, inl, inr, subst}
+use Rattle.std.proofs.Common.{◌≡◌, ◌⊎◌, ◌++◌, ℕ, List, [], ◌∷◌, Option, Bool, true, false, Result, Ok, Err, IfOk, OnErr, refl, sym, ap, ◌∙◌, append-nil, inl, inr, subst}
 use Rattle.std.specs.Result.{IsErr}
 use Rattle.std.proofs.lemmas.Bool.{false≢true}
 use Rattle.std.specs.Io.KnownBytes.{Appends, Keeps}
@@ -9,22 +9,26 @@ use Rattle.zf_command.specs.declared.job.Job.TheVariants.{Show}
 use Rattle.zf_command.specs.declared.job.Size.{Size}
 use Rattle.zf_term.specs.Definitions.{Schema}
 use Rattle.zf_value.specs.declared.value.Value.{Value}
+use Rattle.zf_value.specs.Sets.{value_order}
 use Rattle.zf_meaning.specs.Environments.{Environment}
 use Rattle.zf_texts.specs.declared.spelling.Spelling.{Spelling}
 use Rattle.zf_texts.specs.Spellings.{spellings}
+use Rattle.zf_enum.specs.Portions.{Portion}
+use Rattle.zf_enum.specs.Property.{property}
 use Rattle.zf_enum.specs.Searches.{Goal}
 use Rattle.zf_enum.specs.Starts.{Begins}
 use Rattle.zf_lines.specs.declared.fault.RunFault.{RunFault}
 use Rattle.zf_lines.specs.declared.fault.Status.{Status}
 use Rattle.zf_engine.specs.declared.stop.Stop.{Stop}
 use Rattle.zf_engine.specs.declared.stop.Stop.TheVariants.{Answered, OutOfMemory}
-use Rattle.zf_engine.specs.Answers.{Answer, AnswersReader, AnswersSource, IsAsked, IsNamedRow, IsSearch, Request, ShowAnswer, ShowBegins, StopsInSource, StopsInReader}
+use Rattle.zf_engine.specs.Answers.{Answer, AnswersReader, AnswersSource, AreHeld, IsAsked, IsNamedRow, IsSearch, Request, ShowAnswer, ShowBegins, StopsInSource, StopsInReader}
 use Rattle.zf_walk.specs.Events.{Event}
 use Rattle.zf_walk.specs.Progress.{Stage}
+use Rattle.zf_walk.specs.Tests.{IsNumberOfTests}
 use Rattle.zf_lines.specs.Faults.{AppendsFront}
 use Rattle.zf_engine.specs.Faults.{Gave}
-use Rattle.zf_lines.specs.Searches.{HasEvents, IsBegun, IsTestsLine, IsWritten}
-use Rattle.zf_lines.specs.Shown.{IsSome, StopsShown, WritesAll}
+use Rattle.zf_lines.specs.Searches.{AreEventsUpTo, HasEvents, IsBegun, IsTestsLine, IsWritten}
+use Rattle.zf_lines.specs.Shown.{FindsEvents, IsSome, StopsShown, TellsTests, WritesAll}
 use Rattle.zf_lines.specs.Texts.{binding_line}
 use Rattle.zf_engine.specs.Stops.{AnswersRequest, IfAnswered, Shows, Tells}
 
@@ -33,7 +37,7 @@ use Rattle.zf_engine.specs.Stops.{AnswersRequest, IfAnswered, Shows, Tells}
 pub told : (r : Request) (file source : List ℕ) (stop : Stop) (a b : Option (List ℕ)) (result : Result Status RunFault) → AnswersRequest r file source stop → Tells stop a b result
     → Shows r file source a b result
 told r file source (Answered text status) a b (Ok given) answer (same, written) =
-    (text.items, subst (λ s. Answer (Show r.name r.sizes r.after r.limit r.tests) file source text.items s) same answer, written)
+    (text.items, subst (λ s. Answer (Show r.name r.sizes r.after r.held r.limit r.tests) file source text.items s) same answer, written)
 told r file source (Answered text status) a b (Err fault) answer (f, front, written) = (f, inr (inl (text.items, status, answer, front)), written)
 told r file source OutOfMemory a b (Ok given) answer h = absurd h
 told r file source OutOfMemory a b (Err fault) answer h = ([], inl refl, h)
@@ -52,47 +56,66 @@ stopped r file source a (Ok status) h = absurd (false≢true h)
 stopped r file source a (Err fault) h = ([], inl refl, Appends-nil a)
 
 -- what is shown for the request is the job's
-pub shows_ok : (r : Request) (job : Job) (file bytes source : List ℕ) (a b : Option (List ℕ)) (result : Result Status RunFault) → job ≡ Show r.name r.sizes r.after r.limit r.tests → bytes ≡ file
+pub shows_ok : (r : Request) (job : Job) (file bytes source : List ℕ) (a b : Option (List ℕ)) (result : Result Status RunFault) → job ≡ Show r.name r.sizes r.after r.held r.limit r.tests → bytes ≡ file
     → Shows r bytes source a b result → IfOk result (λ status. AnswersSource job file source a b status)
 shows_ok r job file bytes source a b (Ok status) same is h =
-    subst (λ j. AnswersSource j file source a b status) (sym same) (subst (λ n. AnswersSource (Show r.name r.sizes r.after r.limit r.tests) n source a b status) is h)
+    subst (λ j. AnswersSource j file source a b status) (sym same) (subst (λ n. AnswersSource (Show r.name r.sizes r.after r.held r.limit r.tests) n source a b status) is h)
 shows_ok r job file bytes source a b (Err fault) same is h = tt
 
-pub shows_err : (r : Request) (job : Job) (file bytes source : List ℕ) (a b : Option (List ℕ)) (result : Result Status RunFault) → job ≡ Show r.name r.sizes r.after r.limit r.tests → bytes ≡ file
+pub shows_err : (r : Request) (job : Job) (file bytes source : List ℕ) (a b : Option (List ℕ)) (result : Result Status RunFault) → job ≡ Show r.name r.sizes r.after r.held r.limit r.tests → bytes ≡ file
     → Shows r bytes source a b result → OnErr result (StopsInSource job file source a b)
 shows_err r job file bytes source a b (Ok status) same is h = tt
 shows_err r job file bytes source a b (Err fault) same is h =
-    subst (λ j. StopsInSource j file source a b) (sym same) (subst (λ n. StopsInSource (Show r.name r.sizes r.after r.limit r.tests) n source a b) is h)
+    subst (λ j. StopsInSource j file source a b) (sym same) (subst (λ n. StopsInSource (Show r.name r.sizes r.after r.held r.limit r.tests) n source a b) is h)
 
-pub same_job : {job : Job} {name given : List ℕ} {sizes stated : List Size} {after text : Option (List ℕ)} {limit : Option ℕ} {tests : Bool} → given ≡ name → stated ≡ sizes → text ≡ after
-    → job ≡ Show name sizes after limit tests → job ≡ Show given stated text limit tests
-same_job {job} {name} {given} {sizes} {stated} {after} {text} {limit} {tests} e f g h =
-    h ∙ ap (λ n. Show n sizes after limit tests) (sym e) ∙ ap (λ s. Show given s after limit tests) (sym f) ∙ ap (λ t. Show given stated t limit tests) (sym g)
+pub same_job : {job : Job} {name given : List ℕ} {sizes stated : List Size} {after text : Option (List ℕ)} {held values : Option (List ℕ)} {limit : Option ℕ} {tests : Bool} → given ≡ name → stated ≡ sizes → text ≡ after
+    → values ≡ held → job ≡ Show name sizes after held limit tests → job ≡ Show given stated text values limit tests
+same_job {job} {name} {given} {sizes} {stated} {after} {text} {held} {values} {limit} {tests} e f g k h =
+    h ∙ ap (λ n. Show n sizes after held limit tests) (sym e) ∙ ap (λ s. Show given s after held limit tests) (sym f) ∙ ap (λ t. Show given stated t held limit tests) (sym g)
+    ∙ ap (λ v. Show given stated text v limit tests) (sym k)
 
 -- ---- the lines of a search
 
-module _ (r : Request) (file source : List ℕ) (a : Schema) (g : Goal) (b : Stage Value) (ss : List Spelling) (e : Environment) (after : Option (List Value))
-    (is : IsAsked r source e.globals a e) (named : IsNamedRow e a.comps r.after after) (begins : Begins e a after g b) (spelled : ss ≡ spellings e.globals) where
-  search_of : IsSearch r source e.globals a e after
-  search_of = record { asked = is; named = named; none_out = begins.none_out }
+module _ (r : Request) (file source : List ℕ) (a : Schema) (g : Goal) (b : Stage Value) (ss : List Spelling) (e : Environment) (p : Portion)
+    (is : IsAsked r source e.globals a e) (named : IsNamedRow e a.comps r.after p.after) (held : AreHeld e a.comps r.held p.held) (begins : Begins e a p g b) (spelled : ss ≡ spellings e.globals) where
+  search_of : IsSearch r source e.globals a e p
+  search_of = record { asked = is; named = named; held = held; none_out = begins.none_out }
 
-  listed : (last : Option (List Value)) (events : List (Event Value)) → HasEvents g.environment a b.after last events → HasEvents e a after last events
-  listed last events h = subst (λ f. HasEvents f a after last events) begins.environment (subst (λ n. HasEvents g.environment a n last events) begins.named h)
+  listed : (last : Option (List Value)) (events : List (Event Value)) → FindsEvents g.environment a b last events → HasEvents e a p last events
+  listed last events h = record {
+    ranges = b.ranges;
+    of_components = begins.ranges;
+    listed = subst (λ f. AreEventsUpTo value_order (property f a.conjuncts) b.ranges p.after last events) begins.environment
+        (subst (λ n. AreEventsUpTo value_order (property g.environment a.conjuncts) b.ranges n last events) begins.named h);
+  }
 
-  whole_answer : (tests : Bool) (text : List ℕ) (status : Status) → tests ≡ r.tests → WritesAll (binding_line ss a.comps) r.limit tests g.environment a b.after text status → ShowAnswer r file source text status
-  whole_answer tests text status same w = ShowAnswer.bindings e.globals a e after w.last w.events w.written w.counted search_of
+  counted : (tests : Bool) (last : Option (List Value)) (text : List ℕ) → TellsTests tests g.environment a b last text → IsTestsLine tests e a p last text
+  counted false last text h = h
+  counted true last text (number, h, is) = (
+    number,
+    record {
+      ranges = b.ranges;
+      of_components = begins.ranges;
+      counted = subst (λ f. IsNumberOfTests value_order (property f a.conjuncts) b.ranges p.after last number) begins.environment
+          (subst (λ n. IsNumberOfTests value_order (property g.environment a.conjuncts) b.ranges n last number) begins.named h);
+    },
+    is,
+  )
+
+  whole_answer : (tests : Bool) (text : List ℕ) (status : Status) → tests ≡ r.tests → WritesAll (binding_line ss a.comps) r.limit tests g.environment a b text status → ShowAnswer r file source text status
+  whole_answer tests text status same w = ShowAnswer.bindings e.globals a e p w.last w.events w.written w.counted search_of
       (listed w.last w.events w.listed)
       (subst (λ k. IsWritten (binding_line k a.comps) r.limit w.events w.last w.written status) spelled w.ends)
-      (subst (λ t. IsTestsLine t e a after w.last w.counted) same (subst (λ f. IsTestsLine tests f a after w.last w.counted) begins.environment (subst (λ n. IsTestsLine tests g.environment a n w.last w.counted) begins.named w.numbered)))
+      (subst (λ t. IsTestsLine t e a p w.last w.counted) same (counted tests w.last w.counted w.numbered))
       w.whole
 
-  first_lines : (text : List ℕ) → IsSome (binding_line ss a.comps) r.limit g.environment a b.after text → (text ≡ []) ⊎ ShowBegins r source text
+  first_lines : (text : List ℕ) → IsSome (binding_line ss a.comps) r.limit g.environment a b text → (text ≡ []) ⊎ ShowBegins r source text
   first_lines text (inl none) = inl none
   first_lines text (inr (events, last, some, begun)) =
-      inr (ShowBegins.bindings e.globals a e after last events search_of (listed last events some) (subst (λ k. IsBegun (binding_line k a.comps) r.limit events last text) spelled begun))
+      inr (ShowBegins.bindings e.globals a e p last events search_of (listed last events some) (subst (λ k. IsBegun (binding_line k a.comps) r.limit events last text) spelled begun))
 
   stops_early : (text : List ℕ) (old new : Option (List ℕ)) → (text ≡ []) ⊎ ShowBegins r source text → AppendsFront old new text
-      → StopsInSource (Show r.name r.sizes r.after r.limit r.tests) file source old new
+      → StopsInSource (Show r.name r.sizes r.after r.held r.limit r.tests) file source old new
   stops_early text old new (inl none) (f, (rest, split), written) = (f, inl (nothing f rest (sym split ∙ none)), written) where
     nothing : (xs ys : List ℕ) → xs ++ ys ≡ [] → xs ≡ []
     nothing [] ys k = refl
@@ -101,8 +124,8 @@ module _ (r : Request) (file source : List ℕ) (a : Schema) (g : Goal) (b : Sta
 
   -- what is written of the search is the answer of the request, or a part of it
   pub shown : (tests : Bool) (old new : Option (List ℕ)) (result : Result Status RunFault) → tests ≡ r.tests
-      → IfOk result (λ status. (text : List ℕ) × WritesAll (binding_line ss a.comps) r.limit tests g.environment a b.after text status × Appends old new text)
-      → OnErr result (StopsShown (binding_line ss a.comps) r.limit tests g.environment a b.after old new) → Shows r file source old new result
+      → IfOk result (λ status. (text : List ℕ) × WritesAll (binding_line ss a.comps) r.limit tests g.environment a b text status × Appends old new text)
+      → OnErr result (StopsShown (binding_line ss a.comps) r.limit tests g.environment a b old new) → Shows r file source old new result
   shown tests old new (Ok status) same (text, w, written) stops = (text, inr (whole_answer tests text status same w), written)
   shown tests old new (Err fault) same all (inl (text, some, front)) = stops_early text old new (first_lines text some) front
   shown tests old new (Err fault) same all (inr (text, status, w, (f, front, written))) = (f, inr (inl (text, status, inr (whole_answer tests text status same w), front)), written)

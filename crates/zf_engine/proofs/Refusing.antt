@@ -11,12 +11,14 @@ use Rattle.zf_type.specs.declared.fault.TypeFault.{TypeFault}
 use Rattle.zf_schema.specs.WellTypedGlobals.{AreWellTyped}
 use Rattle.zf_schema.proofs.WellTyped.{globals_well_typed}
 use Rattle.zf_value.specs.declared.value.Value.{Value}
+use Rattle.zf_enum.specs.Portions.{Portion}
 use Rattle.zf_meaning.specs.Environments.{Environment}
 use Rattle.zf_meaning.specs.GlobalOutcomes.{IsEnvironment}
 use Rattle.zf_meaning.specs.Sizes.{given_sets, AreComplete}
 use Rattle.zf_texts.specs.declared.spelling.Spelling.{Spelling}
 use Rattle.zf_texts.specs.BindingTexts.{binding_text}
 use Rattle.zf_texts.specs.Clear.{AreClear}
+use Rattle.zf_texts.specs.Held.{IsHeldLine, IsNoHeldLine}
 use Rattle.zf_texts.specs.Readings.{IsNoLine}
 use Rattle.zf_texts.specs.Spellings.{spellings}
 use Rattle.zf_names.proofs.Clear.{globals_clear}
@@ -24,8 +26,8 @@ use Rattle.zf_lines.specs.declared.fault.Status.{Status}
 use Rattle.zf_lines.specs.declared.fault.Status.TheVariants.{BadSpec}
 use Rattle.zf_engine.specs.declared.stop.Stop.{Stop}
 use Rattle.zf_engine.specs.declared.stop.Stop.TheVariants.{Answered, OutOfMemory}
-use Rattle.zf_engine.specs.Answers.{Checks, HasSchema, IsAsked, IsNamed, IsNamedRow, Request, ShowAnswer, UnreadAnswer, stated}
-use Rattle.zf_engine.specs.Stops.{AnswersRequest, IfAnswered, IsFaultLine, TellsInfinite, TellsMisfit, TellsNoRow, TellsOut, TellsPlace}
+use Rattle.zf_engine.specs.Answers.{AreHeld, Checks, HasSchema, IsAsked, IsNamed, IsNamedRow, Request, ShowAnswer, UnreadAnswer, stated}
+use Rattle.zf_engine.specs.Stops.{AnswersRequest, IfAnswered, IsFaultLine, TellsInfinite, TellsMisfit, TellsNoRow, TellsNoValues, TellsOut, TellsPlace, TellsPlaceHeld}
 use Rattle.zf_engine.specs.Texts.{type_fault_line}
 
 pub weaker : (stop : Stop) {P Q : List ℕ → Status → Type 0} → ((text : List ℕ) (status : Status) → P text status → Q text status) → IfAnswered stop P → IfAnswered stop Q
@@ -69,6 +71,13 @@ unfolding IsNoLine
 no_row_told ss e comps text bytes stop place same is none told clear =
     weaker stop (λ written status t. ((λ row line. none clear row line.0 (is ∙ line.1 ∙ ap (λ k. binding_text k comps row) (sym same))), (place, t))) told
 
+-- where spellings are clear, a text that is the line of no components holds no values
+pub no_values_told : (ss : List Spelling) (e : Environment) (comps : List Comp) (text bytes : List ℕ) (stop : Stop) (place : ℕ) → ss ≡ spellings e.globals → bytes ≡ text → IsNoHeldLine ss e comps bytes
+    → IfAnswered stop (TellsPlaceHeld place) → AreClear ss e.sizes → IfAnswered stop (TellsNoValues e comps (Some text))
+unfolding IsNoHeldLine
+no_values_told ss e comps text bytes stop place same is none told clear =
+    weaker stop (λ written status t. ((λ held line. none clear held (subst (λ l. IsHeldLine ss e comps l held) (sym is) (subst (λ k. IsHeldLine k e comps text held) (sym same) line))), (place, t))) told
+
 -- the spellings of what is asked for are clear
 pub clear_of : (r : Request) (source : List ℕ) (a : Schema) (e : Environment) → IsAsked r source e.globals a e → (ss : List Spelling) → ss ≡ spellings e.globals → AreClear ss e.sizes
 clear_of r source a e is ss same =
@@ -95,5 +104,8 @@ module _ (r : Request) (file source : List ℕ) (g : List Defined) (a : Schema) 
     pub no_row_answers : (stop : Stop) → IfAnswered stop (TellsNoRow e a.comps r.after) → AnswersRequest r file source stop
     no_row_answers stop h = weaker stop (λ text status t. inr (ShowAnswer.not_a_binding g a e t.1.0 is t.0 t.1.1.0 t.1.1.1)) h
 
-    pub out_answers : (after : Option (List Value)) → IsNamedRow e a.comps r.after after → (stop : Stop) → IfAnswered stop (TellsOut e a.comps) → AnswersRequest r file source stop
-    out_answers after named stop h = weaker stop (λ text status t. inr (ShowAnswer.declared_out g a e after t.0 t.2.0 is named t.1 t.2.1 t.2.2 t.2.3)) h
+    pub no_values_answers : (after : Option (List Value)) → IsNamedRow e a.comps r.after after → (stop : Stop) → IfAnswered stop (TellsNoValues e a.comps r.held) → AnswersRequest r file source stop
+    no_values_answers after named stop h = weaker stop (λ text status t. inr (ShowAnswer.holds_nothing g a e after t.1.0 is named t.0 t.1.1.0 t.1.1.1)) h
+
+    pub out_answers : (p : Portion) → IsNamedRow e a.comps r.after p.after → AreHeld e a.comps r.held p.held → (stop : Stop) → IfAnswered stop (TellsOut e a.comps) → AnswersRequest r file source stop
+    out_answers p named held stop h = weaker stop (λ text status t. inr (ShowAnswer.declared_out g a e p t.0 t.2.0 is named held t.1 t.2.1 t.2.2 t.2.3)) h

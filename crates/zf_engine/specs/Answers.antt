@@ -24,8 +24,10 @@ use Rattle.zf_meaning.specs.Environments.{Environment}
 use Rattle.zf_meaning.specs.GlobalOutcomes.{IsEnvironment}
 use Rattle.zf_meaning.specs.Rows.{IsRow}
 use Rattle.zf_meaning.specs.Sizes.{given_sets, AreComplete, IsRefusal}
+use Rattle.zf_enum.specs.Portions.{Portion}
 use Rattle.zf_enum.specs.Ranges.{IsFirstOut, IsNoneOut}
 use Rattle.zf_texts.specs.BindingTexts.{binding_text}
+use Rattle.zf_texts.specs.Held.{IsHeldLine}
 use Rattle.zf_texts.specs.Spellings.{spellings}
 use Rattle.zf_lines.specs.declared.fault.Status.{Status}
 use Rattle.zf_lines.specs.declared.fault.Status.TheVariants.{Done, BadSpec, BadRequest, PastBounds}
@@ -33,7 +35,7 @@ use Rattle.zf_lines.specs.Faults.{IsFront}
 use Rattle.zf_lines.specs.Texts.{binding_line}
 use Rattle.zf_engine.specs.Faults.{Gave}
 use Rattle.zf_lines.specs.Searches.{HasEvents, IsTestsLine, IsWritten, IsBegun}
-use Rattle.zf_engine.specs.Texts.{text_fault_line, type_fault_line, fault_line, not_finite_text, no_schema_line, no_size_line, not_given_line, size_twice_line, size_too_large_line, not_a_binding_line, declared_out_line}
+use Rattle.zf_engine.specs.Texts.{text_fault_line, type_fault_line, fault_line, not_finite_text, no_schema_line, no_size_line, not_given_line, size_twice_line, size_too_large_line, not_a_binding_line, not_held_line, declared_out_line}
 
 -- a tree reads the source; it defines these globals, and has these faults of types
 pub record Checks (source : List ℕ) (globals : List Defined) (faults : List TypeFault) : Type 0 where
@@ -72,6 +74,7 @@ pub record Request : Type 0 where
   pub name : List ℕ
   pub sizes : List command.Size
   pub after : Option (List ℕ)
+  pub held : Option (List ℕ)
   pub limit : Option ℕ
   pub tests : Bool
 
@@ -110,10 +113,21 @@ abbrev pub NamesNoRow : Environment → List Comp → Option (List ℕ) → Type
 NamesNoRow e comps None = ⊥
 NamesNoRow e comps (Some text) = (row : List Value) → IsLineOf e comps text row → ⊥
 
--- the search goes over the events of the schema after the named row, and no declared set is out
-pub record IsSearch (r : Request) (source : List ℕ) (globals : List Defined) (a : Schema) (e : Environment) (after : Option (List Value)) : Type 0 where
+-- the values that are held, by the components' places, if a line of some components is given
+abbrev pub AreHeld : Environment → List Comp → Option (List ℕ) → List (Option Value) → Type 0
+AreHeld e comps None held = held ≡ []
+AreHeld e comps (Some text) held = IsHeldLine (spellings e.globals) e comps text held
+
+-- a text is given that is no such line
+abbrev pub HoldsNoValues : Environment → List Comp → Option (List ℕ) → Type 0
+HoldsNoValues e comps None = ⊥
+HoldsNoValues e comps (Some text) = (held : List (Option Value)) → IsHeldLine (spellings e.globals) e comps text held → ⊥
+
+-- the search goes over the events of the schema after the named row that have the values which are held, and no declared set is out
+pub record IsSearch (r : Request) (source : List ℕ) (globals : List Defined) (a : Schema) (e : Environment) (p : Portion) : Type 0 where
   pub asked : IsAsked r source globals a e
-  pub named : IsNamedRow e a.comps r.after after
+  pub named : IsNamedRow e a.comps r.after p.after
+  pub held : AreHeld e a.comps r.held p.held
   pub none_out : IsNoneOut e a.comps
 
 -- ---- `show`
@@ -130,17 +144,19 @@ pub data ShowAnswer (r : Request) (file source text : List ℕ) (status : Status
       → first (infinite_lines globals a) ≡ Some line → text ≡ fault_line file line not_finite_text → status ≡ BadSpec → ShowAnswer r file source text status
   not_a_binding : (globals : List Defined) (a : Schema) (e : Environment) (place : ℕ) → IsAsked r source globals a e → NamesNoRow e a.comps r.after
       → text ≡ not_a_binding_line place → status ≡ BadRequest → ShowAnswer r file source text status
-  declared_out : (globals : List Defined) (a : Schema) (e : Environment) (after : Option (List Value)) (place : ℕ) (c : Comp) → IsAsked r source globals a e
-      → IsNamedRow e a.comps r.after after → IsFirstOut e a.comps place → slice_get a.comps place ≡ Some c → text ≡ declared_out_line c.name
+  holds_nothing : (globals : List Defined) (a : Schema) (e : Environment) (after : Option (List Value)) (place : ℕ) → IsAsked r source globals a e
+      → IsNamedRow e a.comps r.after after → HoldsNoValues e a.comps r.held → text ≡ not_held_line place → status ≡ BadRequest → ShowAnswer r file source text status
+  declared_out : (globals : List Defined) (a : Schema) (e : Environment) (p : Portion) (place : ℕ) (c : Comp) → IsAsked r source globals a e
+      → IsNamedRow e a.comps r.after p.after → AreHeld e a.comps r.held p.held → IsFirstOut e a.comps place → slice_get a.comps place ≡ Some c → text ≡ declared_out_line c.name
       → status ≡ PastBounds → ShowAnswer r file source text status
-  bindings : (globals : List Defined) (a : Schema) (e : Environment) (after last : Option (List Value)) (events : List (Event Value)) (lines counted : List ℕ)
-      → IsSearch r source globals a e after → HasEvents e a after last events → IsWritten (binding_line (spellings globals) a.comps) r.limit events last lines status
-      → IsTestsLine r.tests e a after last counted → text ≡ lines ++ counted → ShowAnswer r file source text status
+  bindings : (globals : List Defined) (a : Schema) (e : Environment) (p : Portion) (last : Option (List Value)) (events : List (Event Value)) (lines counted : List ℕ)
+      → IsSearch r source globals a e p → HasEvents e a p last events → IsWritten (binding_line (spellings globals) a.comps) r.limit events last lines status
+      → IsTestsLine r.tests e a p last counted → text ≡ lines ++ counted → ShowAnswer r file source text status
 
 -- the first lines that `show` writes: those of the first bindings
 pub data ShowBegins (r : Request) (source text : List ℕ) : Type 0 where
-  bindings : (globals : List Defined) (a : Schema) (e : Environment) (after last : Option (List Value)) (events : List (Event Value))
-      → IsSearch r source globals a e after → HasEvents e a after last events → IsBegun (binding_line (spellings globals) a.comps) r.limit events last text
+  bindings : (globals : List Defined) (a : Schema) (e : Environment) (p : Portion) (last : Option (List Value)) (events : List (Event Value))
+      → IsSearch r source globals a e p → HasEvents e a p last events → IsBegun (binding_line (spellings globals) a.comps) r.limit events last text
       → ShowBegins r source text
 
 -- ---- jobs
@@ -148,19 +164,19 @@ pub data ShowBegins (r : Request) (source text : List ℕ) : Type 0 where
 -- a limit is at least 1
 abbrev pub IsLimited : Job → Type 0
 IsLimited (Check types) = Unit {0}
-IsLimited (Show name sizes after None tests) = Unit {0}
-IsLimited (Show name sizes after (Some limit) tests) = 0 < limit
+IsLimited (Show name sizes after held None tests) = Unit {0}
+IsLimited (Show name sizes after held (Some limit) tests) = 0 < limit
 
 -- the answer for a source with a fault of its text. Which fault of the grammar is told, and on which line, is open.
 abbrev pub UnreadAnswer : (file source text : List ℕ) → Status → Type 0
 UnreadAnswer file source text status = (fault : TextFault) × RefusesSource source fault × (text ≡ text_fault_line file fault) × (status ≡ BadSpec)
 
-abbrev pub request : List ℕ → List command.Size → Option (List ℕ) → Option ℕ → Bool → Request
-request name sizes after limit tests = record { name = name; sizes = sizes; after = after; limit = limit; tests = tests }
+abbrev pub request : List ℕ → List command.Size → (after held : Option (List ℕ)) → Option ℕ → Bool → Request
+request name sizes after held limit tests = record { name = name; sizes = sizes; after = after; held = held; limit = limit; tests = tests }
 
 abbrev pub JobAnswer : Job → (file source text : List ℕ) → Status → Type 0
 JobAnswer (Check types) file source text status = CheckAnswer types file source text status
-JobAnswer (Show name sizes after limit tests) file source text status = ShowAnswer (request name sizes after limit tests) file source text status
+JobAnswer (Show name sizes after held limit tests) file source text status = ShowAnswer (request name sizes after held limit tests) file source text status
 
 -- the text and the status that answer a job on a source
 abbrev pub Answer : Job → (file source text : List ℕ) → Status → Type 0
@@ -169,7 +185,7 @@ Answer job file source text status = UnreadAnswer file source text status ⊎ Jo
 -- the text is what an answer begins with, whatever follows
 abbrev pub JobBegins : Job → (source text : List ℕ) → Type 0
 JobBegins (Check types) source text = ⊥
-JobBegins (Show name sizes after limit tests) source text = ShowBegins (request name sizes after limit tests) source text
+JobBegins (Show name sizes after held limit tests) source text = ShowBegins (request name sizes after held limit tests) source text
 
 -- ---- what a run leaves
 

@@ -19,9 +19,9 @@ use Rattle.zf_lines.specs.declared.fault.Status.TheVariants.{BadSpec, BadRequest
 use Rattle.zf_engine.specs.declared.request.Request as program
 use Rattle.zf_engine.specs.declared.stop.Stop.{Stop}
 use Rattle.zf_engine.specs.declared.stop.Stop.TheVariants.{Answered, OutOfMemory}
-use Rattle.zf_engine.specs.Answers.{Answer, AnswersSource, Checks, NamesNoRow, Request, StopsInSource, size_fault_line}
+use Rattle.zf_engine.specs.Answers.{Answer, AnswersSource, Checks, HoldsNoValues, NamesNoRow, Request, StopsInSource, size_fault_line}
 use Rattle.zf_lines.specs.Faults.{AppendsFront}
-use Rattle.zf_engine.specs.Texts.{declared_out_line, fault_line, not_a_binding_line, not_finite_text, text_fault_line}
+use Rattle.zf_engine.specs.Texts.{declared_out_line, fault_line, not_a_binding_line, not_finite_text, not_held_line, text_fault_line}
 
 -- ---- answers that are whole
 
@@ -52,6 +52,13 @@ TellsPlace place text status = (text ≡ not_a_binding_line place) × (status �
 abbrev pub TellsNoRow : Environment → List Comp → Option (List ℕ) → List ℕ → Status → Type 0
 TellsNoRow e comps after text status = NamesNoRow e comps after × ((place : ℕ) × TellsPlace place text status)
 
+-- the answer tells a place of a text that is no line of some components
+abbrev pub TellsPlaceHeld : ℕ → List ℕ → Status → Type 0
+TellsPlaceHeld place text status = (text ≡ not_held_line place) × (status ≡ BadRequest)
+
+abbrev pub TellsNoValues : Environment → List Comp → Option (List ℕ) → List ℕ → Status → Type 0
+TellsNoValues e comps held text status = HoldsNoValues e comps held × ((place : ℕ) × TellsPlaceHeld place text status)
+
 -- the answer names the component at a place
 abbrev pub TellsComponent : List Comp → ℕ → List ℕ → Status → Type 0
 TellsComponent comps place text status = (c : Comp) × (slice_get comps place ≡ Some c) × (text ≡ declared_out_line c.name) × (status ≡ PastBounds)
@@ -62,11 +69,11 @@ TellsOut e comps text status = (place : ℕ) × IsFirstOut e comps place × Tell
 
 -- what is asked for, as the definitions have it
 abbrev pub request_of : program.Request → Request
-request_of r = record { name = r.name.now; sizes = r.sizes.now; after = option_map (λ t. t.now) r.after; limit = r.limit; tests = r.tests }
+request_of r = record { name = r.name.now; sizes = r.sizes.now; after = option_map (λ t. t.now) r.after; held = option_map (λ t. t.now) r.held; limit = r.limit; tests = r.tests }
 
 -- this answers the request
 abbrev pub AnswersRequest : Request → (file source : List ℕ) → Stop → Type 0
-AnswersRequest r file source stop = IfAnswered stop (Answer (Show r.name r.sizes r.after r.limit r.tests) file source)
+AnswersRequest r file source stop = IfAnswered stop (Answer (Show r.name r.sizes r.after r.held r.limit r.tests) file source)
 
 -- whatever is asked for, this is the answer
 abbrev pub AnswersShow : (file source : List ℕ) → Stop → Type 0
@@ -85,5 +92,5 @@ Tells OutOfMemory old new (Err fault) = Appends old new []
 
 -- the answer of the request is written, or a part of it
 abbrev pub Shows : Request → (file source : List ℕ) → Option (List ℕ) → Option (List ℕ) → Result Status RunFault → Type 0
-Shows r file source old new (Ok status) = AnswersSource (Show r.name r.sizes r.after r.limit r.tests) file source old new status
-Shows r file source old new (Err fault) = StopsInSource (Show r.name r.sizes r.after r.limit r.tests) file source old new
+Shows r file source old new (Ok status) = AnswersSource (Show r.name r.sizes r.after r.held r.limit r.tests) file source old new status
+Shows r file source old new (Err fault) = StopsInSource (Show r.name r.sizes r.after r.held r.limit r.tests) file source old new

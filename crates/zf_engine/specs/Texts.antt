@@ -68,5 +68,8 @@ size_too_large_line name = codes "zf: size of " ++ name ++ codes " is too large\
 abbrev pub not_a_binding_line : ℕ → List ℕ
 not_a_binding_line place = codes "zf: after: not a binding at byte " ++ decimal place ++ codes "\n"
 
+abbrev pub not_held_line : ℕ → List ℕ
+not_held_line place = codes "zf: with: not a binding at byte " ++ decimal place ++ codes "\n"
+
 abbrev pub declared_out_line : List ℕ → List ℕ
 declared_out_line name = codes "out of bounds in the declaration of " ++ name ++ codes "\n"

@@ -2,7 +2,7 @@
 ghost use Rattle.std.specs.Prelude.{◌≡◌, ℕ, List, [], true, IfOk, IfErr, OnErr, option_map};
 ghost use Rattle.std.specs.Option.{option_copied};
 ghost use Rattle.zf_command.specs.declared.job.Job.TheVariants.{Check};
-ghost use Rattle.zf_engine.specs.Answers.{Answer, AnswersSource, Checks, IsAsked, IsLimited, IsNamedRow, StopsInSource};
+ghost use Rattle.zf_engine.specs.Answers.{Answer, AnswersSource, AreHeld, Checks, IsAsked, IsLimited, IsNamedRow, StopsInSource};
 ghost use Rattle.zf_lines.specs.Counts.{device_of, failures_of};
 ghost use Rattle.zf_lines.specs.Faults.{read_failures, write_failures};
 ghost use Rattle.zf_engine.specs.Stops.{IfAnswered, Shows, Tells, request_of};
@@ -14,6 +14,7 @@ ghost use Rattle.zf_texts.specs.Spellings.{spellings};
 use crate::asked::{Asked, asked_in};
 use crate::begin::{Begun, begin, begin_counting};
 use crate::check::{check_answer, checked_in};
+use crate::held::values_held;
 use crate::named::named_row;
 use crate::request::Request;
 use crate::stop::Stop;
@@ -54,6 +55,7 @@ pub fn answer<W: Write>(
             schema,
             sizes,
             after,
+            held,
             limit,
             tests,
         } => {
@@ -61,6 +63,7 @@ pub fn answer<W: Write>(
                 name: schema.as_str(),
                 sizes: sizes.as_slice(),
                 after: text_in(after),
+                held: text_in(held),
                 limit: *limit,
                 tests: *tests,
             };
@@ -182,7 +185,7 @@ fn show_schema<'a, W: Write>(
 {
     let elements = spellings_of(alloc, env.globals())?;
     match named_row(alloc, schema, env, &elements, request.after) {
-        Ok(Some(row)) => show_after(
+        Ok(Some(row)) => show_with(
             alloc,
             arena,
             schema,
@@ -192,13 +195,13 @@ fn show_schema<'a, W: Write>(
             request,
             writer,
         ),
-        Ok(None) => show_after(alloc, arena, schema, env, &elements, None, request, writer),
+        Ok(None) => show_with(alloc, arena, schema, env, &elements, None, request, writer),
         Err(stop) => tell(stop, writer),
     }
 }
 
-/// Writes the answer of `show` for what comes after a row, if one is named.
-fn show_after<'a, W: Write>(
+/// Writes the answer of `show` for what comes after a row, if one is named, and has the values that are asked for.
+fn show_with<'a, W: Write>(
     alloc: Global,
     arena: &'a Bump,
     schema: &Flat<'a>,
@@ -217,10 +220,42 @@ fn show_after<'a, W: Write>(
     ensures count { failures_of writer.new ≡ write_failures result }
     ensures unread { read_failures result ≡ 0 }
 {
-    if request.tests {
-        return count_after(alloc, arena, schema, env, elements, after, request, writer);
+    match values_held(alloc, schema, env, elements, request.held) {
+        Ok(held) => show_after(
+            alloc, arena, schema, env, elements, after, &held, request, writer,
+        ),
+        Err(stop) => tell(stop, writer),
     }
-    match begin(alloc, arena, schema, env, after) {
+}
+
+/// Writes the answer of `show` for what comes after a row, if one is named, and has the values that are held.
+fn show_after<'a, W: Write>(
+    alloc: Global,
+    arena: &'a Bump,
+    schema: &Flat<'a>,
+    env: &Env<'_, 'a>,
+    elements: &[Spelling],
+    after: Option<&[Known]>,
+    held: &[Option<Known>],
+    request: &Request<'_>,
+    writer: &mut Counted<W>,
+) -> Result<Status, RunFault>
+    requires unfailed { failures_of writer.old ≡ 0 }
+    requires limited { HasLimit request.now.limit }
+    requires elements { elements.now ≡ spellings (environment_of env.now).globals }
+    requires asked { (source : List ℕ) × IsAsked (request_of request.now) source (environment_of env.now).globals (schema_of schema.now) (environment_of env.now) }
+    requires named { IsNamedRow (environment_of env.now) (schema_of schema.now).comps (request_of request.now).after (option_copied after) }
+    requires held { AreHeld (environment_of env.now) (schema_of schema.now).comps (request_of request.now).held held.now }
+    ensures shows { (file source : List ℕ) → IsAsked (request_of request.now) source (environment_of env.now).globals (schema_of schema.now) (environment_of env.now) → Shows (request_of request.now) file source (W.contents (device_of writer.old)) (W.contents (device_of writer.new)) result }
+    ensures count { failures_of writer.new ≡ write_failures result }
+    ensures unread { read_failures result ≡ 0 }
+{
+    if request.tests {
+        return count_after(
+            alloc, arena, schema, env, elements, after, held, request, writer,
+        );
+    }
+    match begin(alloc, arena, schema, env, after, held) {
         Ok(begun) => match begun {
             Begun::Walked(found) => {
                 let mut search = found;
@@ -243,6 +278,7 @@ fn count_after<'a, W: Write>(
     env: &Env<'_, 'a>,
     elements: &[Spelling],
     after: Option<&[Known]>,
+    held: &[Option<Known>],
     request: &Request<'_>,
     writer: &mut Counted<W>,
 ) -> Result<Status, RunFault>
@@ -252,11 +288,12 @@ fn count_after<'a, W: Write>(
     requires elements { elements.now ≡ spellings (environment_of env.now).globals }
     requires asked { (source : List ℕ) × IsAsked (request_of request.now) source (environment_of env.now).globals (schema_of schema.now) (environment_of env.now) }
     requires named { IsNamedRow (environment_of env.now) (schema_of schema.now).comps (request_of request.now).after (option_copied after) }
+    requires held { AreHeld (environment_of env.now) (schema_of schema.now).comps (request_of request.now).held held.now }
     ensures shows { (file source : List ℕ) → IsAsked (request_of request.now) source (environment_of env.now).globals (schema_of schema.now) (environment_of env.now) → Shows (request_of request.now) file source (W.contents (device_of writer.old)) (W.contents (device_of writer.new)) result }
     ensures count { failures_of writer.new ≡ write_failures result }
     ensures unread { read_failures result ≡ 0 }
 {
-    match begin_counting(alloc, arena, schema, env, after) {
+    match begin_counting(alloc, arena, schema, env, after, held) {
         Ok(found) => {
             let mut bindings = found;
             show_with_tests(

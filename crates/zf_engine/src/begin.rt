@@ -3,6 +3,7 @@ ghost use Rattle.std.specs.Prelude.{◌<◌, length, IfOk, IfErr};
 ghost use Rattle.std.specs.Option.{option_copied};
 ghost use Rattle.zf_engine.specs.Begun.{IsBegun};
 ghost use Rattle.zf_engine.specs.Stops.{IfAnswered, TellsComponent, TellsOut};
+ghost use Rattle.zf_enum.specs.Portions.{portion};
 ghost use Rattle.zf_enum.specs.Property.{property};
 ghost use Rattle.zf_enum.specs.Searches.{planted_goal};
 ghost use Rattle.zf_enum.specs.Starts.{Begins, BeginsCounting, Refuses};
@@ -31,24 +32,25 @@ pub enum Begun<'s, 'e, 'g, 'a> {
     Planted(Instances<'s, 'e, 'g, 'a>),
 }
 
-/// The search for the bindings of the schema that come after the named one.
+/// The search for the bindings of the schema that come after the named one and have the values that are held.
 pub fn begin<'s, 'e, 'g, 'a>(
     alloc: Global,
     arena: &'a Bump,
     flat: &Flat<'a>,
     env: &'e Env<'g, 'a>,
     after: Option<&'s [Known]>,
+    held: &[Option<Known>],
 ) -> Result<Begun<'s, 'e, 'g, 'a>, Stop>
     requires finite { IsFinite (environment_of env.now).globals (schema_of flat.now) }
     requires named { HasLength (option_copied after) (length (schema_of flat.now).comps) }
     requires due { AreDueWithin (property (environment_of env.now) (schema_of flat.now).conjuncts) (length (schema_of flat.now).comps) }
-    ensures begins { IfOk result (IsBegun (environment_of env.now) (schema_of flat.now) (option_copied after.entry)) }
+    ensures begins { IfOk result (IsBegun (environment_of env.now) (schema_of flat.now) (portion (option_copied after.entry) held.now)) }
     ensures stop { IfErr result (λ s. IfAnswered s (TellsOut (environment_of env.now) (schema_of flat.now).comps)) }
 {
     if gains_by_trees(alloc, arena, flat)? {
-        Ok(Begun::Planted(begin_planted(alloc, arena, flat, env, after)?))
+        Ok(Begun::Planted(begin_planted(alloc, arena, flat, env, after, held)?))
     } else {
-        Ok(Begun::Walked(begin_counting(alloc, arena, flat, env, after)?))
+        Ok(Begun::Walked(begin_counting(alloc, arena, flat, env, after, held)?))
     }
 }
 
@@ -59,14 +61,15 @@ fn begin_planted<'s, 'e, 'g, 'a>(
     flat: &Flat<'a>,
     env: &'e Env<'g, 'a>,
     after: Option<&'s [Known]>,
+    held: &[Option<Known>],
 ) -> Result<Instances<'s, 'e, 'g, 'a>, Stop>
     requires finite { IsFinite (environment_of env.now).globals (schema_of flat.now) }
     requires named { HasLength (option_copied after) (length (schema_of flat.now).comps) }
     requires due { AreDueWithin (property (environment_of env.now) (schema_of flat.now).conjuncts) (length (schema_of flat.now).comps) }
-    ensures begins { IfOk result (λ i. Begins (environment_of env.now) (schema_of flat.now) (option_copied after.entry) (planted_goal i.names i.search) i.search.stage) }
+    ensures begins { IfOk result (λ i. Begins (environment_of env.now) (schema_of flat.now) (portion (option_copied after.entry) held.now) (planted_goal i.names i.search) i.search.stage) }
     ensures stop { IfErr result (λ s. IfAnswered s (TellsOut (environment_of env.now) (schema_of flat.now).comps)) }
 {
-    match Instances::start(alloc, arena, flat, env, after) {
+    match Instances::start(alloc, arena, flat, env, after, held) {
         Ok(instances) => Ok(instances),
         Err(fault) => Err(not_begun(alloc, flat, fault)),
     }
@@ -79,14 +82,15 @@ pub fn begin_counting<'s, 'e, 'g, 'a>(
     flat: &Flat<'a>,
     env: &'e Env<'g, 'a>,
     after: Option<&'s [Known]>,
+    held: &[Option<Known>],
 ) -> Result<Bindings<'s, 'e, 'g, 'a>, Stop>
     requires finite { IsFinite (environment_of env.now).globals (schema_of flat.now) }
     requires named { HasLength (option_copied after) (length (schema_of flat.now).comps) }
     requires due { AreDueWithin (property (environment_of env.now) (schema_of flat.now).conjuncts) (length (schema_of flat.now).comps) }
-    ensures begins { IfOk result (λ b. BeginsCounting (environment_of env.now) (schema_of flat.now) (option_copied after.entry) b) }
+    ensures begins { IfOk result (λ b. BeginsCounting (environment_of env.now) (schema_of flat.now) (portion (option_copied after.entry) held.now) b) }
     ensures stop { IfErr result (λ s. IfAnswered s (TellsOut (environment_of env.now) (schema_of flat.now).comps)) }
 {
-    match Bindings::start(alloc, arena, flat, env, after) {
+    match Bindings::start(alloc, arena, flat, env, after, held) {
         Ok(bindings) => Ok(bindings),
         Err(fault) => Err(not_begun(alloc, flat, fault)),
     }

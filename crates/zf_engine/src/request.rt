@@ -9,6 +9,8 @@ pub struct Request<'j> {
     pub sizes: &'j [Size],
     /// The line of the binding after which it begins.
     pub after: Option<&'j str>,
+    /// The line of some components, whose values are held.
+    pub held: Option<&'j str>,
     /// How many bindings it writes at most.
     pub limit: Option<u64>,
     /// Whether it tells the number of tests.

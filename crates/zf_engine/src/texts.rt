@@ -148,6 +148,19 @@ pub fn not_a_binding_line(alloc: Global, place: usize) -> Result<Vec<u8>, AllocE
     )
 }
 
+/// `zf: with: not a binding at byte K`
+pub fn not_held_line(alloc: Global, place: usize) -> Result<Vec<u8>, AllocError>
+    ensures { IfOk result (λ v. v.items ≡ spec.not_held_line place) }
+{
+    let mut number = Buffer::new();
+    around(
+        alloc,
+        b"zf: with: not a binding at byte ",
+        number.format(place as u64).as_bytes(),
+        b"\n",
+    )
+}
+
 /// `out of bounds in the declaration of x`
 pub fn declared_out_line(alloc: Global, name: &[u8]) -> Result<Vec<u8>, AllocError>
     ensures { IfOk result (λ v. v.items ≡ spec.declared_out_line name.now) }

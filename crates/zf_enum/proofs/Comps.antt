@@ -1,5 +1,5 @@
 -- The ranges of components, one more at a time, and the first component that is out.
-use Rattle.std.proofs.Common.{◌≡◌, ℕ, zero, suc, ◌+◌, ◌<◌, ◌≤◌, List, [], ◌∷◌, ◌++◌, length, map, take, get_or, Some, Result, Ok, Err, refl, sym, ap, ◌∙◌, subst, add-one, arith}
+use Rattle.std.proofs.Common.{◌≡◌, ℕ, zero, suc, ◌+◌, ◌<◌, ◌≤◌, List, [], ◌∷◌, ◌++◌, length, map, take, get_or, Option, Some, None, Result, Ok, Err, refl, sym, ap, ◌∙◌, subst, add-one, arith}
 use Rattle.std.specs.Prelude.{slice_get, IfErr, IsErrAnd}
 use Rattle.std.specs.List.{AllByRecursion}
 use Rattle.std.proofs.lemmas.List.{length-map}
@@ -8,18 +8,33 @@ use Rattle.zf_term.specs.Definitions.{Comp, comp_of, sets_of}
 use Rattle.zf_value.specs.declared.value.Value.{Value}
 use Rattle.zf_meaning.specs.Environments.{Environment}
 use Rattle.zf_enum.specs.DeclaredSets.{IsOneOut}
-use Rattle.zf_enum.specs.Ranges.{IsRange, AreRanges, IsNoneOut, IsFirstOut}
-use Rattle.zf_enum.specs.Components.{IsOneRange, AreAllRanges, IsOutBy}
+use Rattle.zf_enum.specs.Ranges.{IsRange, AreRanges, IsNoneOut, IsFirstOut, later_held}
+use Rattle.zf_enum.specs.Components.{IsOneRange, AreAllRanges, IsOutBy, held_at}
 use Rattle.zf_enum.specs.declared.start_fault.StartFault.{StartFault}
 use Rattle.zf_enum.specs.declared.start_fault.StartFault.TheVariants.{DeclaredOut, OutOfMemory}
 use Rattle.zf_enum.specs.Starts.{Refuses}
 
-ranges_next : (e : Environment) (cs : List Comp) (i : ℕ) (c : Comp) (ranges : List (List Value)) (xs : List Value) → slice_get cs i ≡ Some c → AreRanges e (take i cs) ranges → IsRange e c xs → AreRanges e (take (suc i) cs) (ranges ++ xs ∷ [])
-ranges_next e [] i c ranges xs g h k = (cc)
-ranges_next e (d ∷ ds) zero c [] xs g h k = let s : c ≡ d = (cc) in (subst (λ z. IsRange e z xs) s k, tt)
-ranges_next e (d ∷ ds) zero c (r ∷ rs) xs g h k = absurd h
-ranges_next e (d ∷ ds) (suc i) c [] xs g h k = absurd h
-ranges_next e (d ∷ ds) (suc i) c (r ∷ rs) xs g h k = (h.0, ranges_next e ds i c rs xs g h.1 k)
+-- ---- what is held
+
+pub held_got : (held : List (Option Value)) (place : ℕ) (h : Option Value) → place < length held → h ≡ get_or held place h → held_at place held ≡ h
+held_got [] place h l g = absurd (omega (arith, l))
+held_got (x ∷ held) zero h l g = sym g
+held_got (x ∷ held) (suc place) h l g = held_got held place h (omega (arith, l)) g
+
+pub held_none : (held : List (Option Value)) (place : ℕ) → length held ≤ place → held_at place held ≡ None
+held_none [] zero l = refl
+held_none [] (suc place) l = held_none [] place (omega arith)
+held_none (x ∷ held) zero l = absurd (omega (arith, l))
+held_none (x ∷ held) (suc place) l = held_none held place (omega (arith, l))
+
+-- ---- ranges
+
+ranges_next : (e : Environment) (cs : List Comp) (held : List (Option Value)) (i : ℕ) (c : Comp) (ranges : List (List Value)) (xs : List Value) → slice_get cs i ≡ Some c → AreRanges e (take i cs) held ranges → IsRange e c (held_at i held) xs → AreRanges e (take (suc i) cs) held (ranges ++ xs ∷ [])
+ranges_next e [] held i c ranges xs g h k = (cc)
+ranges_next e (d ∷ ds) held zero c [] xs g h k = let s : c ≡ d = (cc) in (subst (λ z. IsRange e z (held_at zero held) xs) s k, tt)
+ranges_next e (d ∷ ds) held zero c (r ∷ rs) xs g h k = absurd h
+ranges_next e (d ∷ ds) held (suc i) c [] xs g h k = absurd h
+ranges_next e (d ∷ ds) held (suc i) c (r ∷ rs) xs g h k = (h.0, ranges_next e ds (later_held held) i c rs xs g h.1 k)
 
 none_next : (e : Environment) (cs : List Comp) (i : ℕ) (c : Comp) → slice_get cs i ≡ Some c → IsNoneOut e (take i cs) → (IsOneOut e (sets_of c.sets) → ⊥) → IsNoneOut e (take (suc i) cs)
 none_next e [] i c g h k place o = (cc (o.1))
@@ -28,8 +43,8 @@ none_next e (d ∷ ds) zero c g h k (suc place) o = (cc (o.1))
 none_next e (d ∷ ds) (suc i) c g h k zero o = h zero o
 none_next e (d ∷ ds) (suc i) c g h k (suc place) o = none_next e ds i c g (λ p q. h (suc p) q) k place o
 
-pub all_next : (e : Environment) (cs : List Comp) (i : ℕ) (c : Comp) (ranges : List (List Value)) (xs : List Value) → slice_get cs i ≡ Some c → AreAllRanges e (take i cs) ranges → IsOneRange e c xs → AreAllRanges e (take (i + 1) cs) (ranges ++ xs ∷ [])
-all_next e cs i c ranges xs g h k = rw add-one (ranges_next e cs i c ranges xs g h.0 k.0, none_next e cs i c g h.1 k.1)
+pub all_next : (e : Environment) (cs : List Comp) (held : List (Option Value)) (i : ℕ) (c : Comp) (ranges : List (List Value)) (xs : List Value) → slice_get cs i ≡ Some c → AreAllRanges e (take i cs) held ranges → IsOneRange e c (held_at i held) xs → AreAllRanges e (take (i + 1) cs) held (ranges ++ xs ∷ [])
+all_next e cs held i c ranges xs g h k = rw add-one (ranges_next e cs held i c ranges xs g h.0 k.0, none_next e cs i c g h.1 k.1)
 
 taken : (cs : List Comp) (i k : ℕ) → k < i → slice_get (take i cs) k ≡ slice_get cs k
 taken [] zero k l = absurd (omega arith)
@@ -56,8 +71,8 @@ all_at P [] i c g h = (cc)
 all_at P (d ∷ ds) zero c g h = let same : d ≡ c = (cc) in subst P same h.0
 all_at P (d ∷ ds) (suc i) c g h = all_at P ds i c g h.1
 
-pub none_yet : (e : Environment) (cs : List Comp) (rs : List (List Value)) → rs ≡ [] → AreAllRanges e (take 0 cs) rs
-none_yet e cs rs s = subst (λ (ys : List (List Value)). AreAllRanges e [] ys) (sym s) (tt, λ place o. (cc (o.1)))
+pub none_yet : (e : Environment) (cs : List Comp) (held : List (Option Value)) (rs : List (List Value)) → rs ≡ [] → AreAllRanges e (take 0 cs) held rs
+none_yet e cs held rs s = subst (λ (ys : List (List Value)). AreAllRanges e [] held ys) (sym s) (tt, λ place o. (cc (o.1)))
 
 whole : (cs : List Comp) (i : ℕ) → length cs ≤ i → take i cs ≡ cs
 whole [] zero l = refl
@@ -65,8 +80,8 @@ whole [] (suc i) l = refl
 whole (c ∷ cs) zero l = absurd (omega arith)
 whole (c ∷ cs) (suc i) l = ap (λ ds. c ∷ ds) (whole cs i (omega arith))
 
-pub all_done : (e : Environment) (xs : List Component) (i : ℕ) (rs : List (List Value)) → length xs ≤ i → AreAllRanges e (take i (map comp_of xs)) rs → AreAllRanges e (map comp_of xs) rs
-all_done e xs i rs l h = subst (λ (ds : List Comp). AreAllRanges e ds rs) (whole (map comp_of xs) i (rw (length-map xs comp_of) l)) h
+pub all_done : (e : Environment) (xs : List Component) (held : List (Option Value)) (i : ℕ) (rs : List (List Value)) → length xs ≤ i → AreAllRanges e (take i (map comp_of xs)) held rs → AreAllRanges e (map comp_of xs) held rs
+all_done e xs held i rs l h = subst (λ (ds : List Comp). AreAllRanges e ds held rs) (whole (map comp_of xs) i (rw (length-map xs comp_of) l)) h
 
 refuses : (e : Environment) (cs : List Comp) (i : ℕ) (c : Comp) (f : StartFault) → slice_get cs i ≡ Some c → IsNoneOut e (take i cs) → IsOutBy e c i f → Refuses e cs f
 refuses e cs i c (DeclaredOut place) g n h = subst (λ k. IsFirstOut e cs k) (sym h.0) (first_out e cs i c g n h.1)

@@ -1,5 +1,5 @@
 -- One list of ranges, one list of events; resuming, and the bound.
-use Rattle.std.proofs.Common.{◌≡◌, List, [], ◌∷◌, refl, ap, ◌∙◌, subst}
+use Rattle.std.proofs.Common.{◌≡◌, List, [], ◌∷◌, Option, refl, ap, ◌∙◌, subst}
 use Rattle.zf_term.specs.Definitions.{Comp}
 use Rattle.zf_value.specs.declared.value.Value.{Value}
 use Rattle.zf_value.specs.contracts.value.ValueOrd.TheImpl.Laws as order_laws
@@ -10,38 +10,39 @@ use Rattle.zf_walk.specs.Tests.{IsBound}
 use Rattle.zf_walk.proofs.LawProofs as walk
 use Rattle.zf_meaning.specs.Environments.{Environment}
 use Rattle.zf_enum.specs.Property.{property}
-use Rattle.zf_enum.specs.Ranges.{IsRange, AreRanges}
+use Rattle.zf_enum.specs.Portions.{Portion}
+use Rattle.zf_enum.specs.Ranges.{IsRange, AreRanges, first_held, later_held}
 use Rattle.zf_enum.specs.Events.{OneRanges, OneEvents, EventsResume, TestsAreBound}
 
-one_range : (e : Environment) (c : Comp) (xs ys : List Value) → IsRange e c xs → IsRange e c ys → xs ≡ ys
-one_range e c xs ys h k = once.one_list xs ys h.ascending k.ascending (λ z. (λ m. (k.members z).1 ((h.members z).0 m), λ m. (h.members z).1 ((k.members z).0 m)))
+one_range : (e : Environment) (c : Comp) (held : Option Value) (xs ys : List Value) → IsRange e c held xs → IsRange e c held ys → xs ≡ ys
+one_range e c held xs ys h k = once.one_list xs ys h.ascending k.ascending (λ z. (λ m. (k.members z).1 ((h.members z).0 m), λ m. (h.members z).1 ((k.members z).0 m)))
 
-same_ranges : (e : Environment) (cs : List Comp) (xs ys : List (List Value)) → AreRanges e cs xs → AreRanges e cs ys → xs ≡ ys
-same_ranges e [] [] [] h k = refl
-same_ranges e [] [] (y ∷ ys) h k = absurd k
-same_ranges e [] (x ∷ xs) ys h k = absurd h
-same_ranges e (c ∷ cs) [] ys h k = absurd h
-same_ranges e (c ∷ cs) (x ∷ xs) [] h k = absurd k
-same_ranges e (c ∷ cs) (x ∷ xs) (y ∷ ys) h k = ap (λ v. v ∷ xs) (one_range e c x y h.0 k.0) ∙ ap (λ vs. y ∷ vs) (same_ranges e cs xs ys h.1 k.1)
+same_ranges : (e : Environment) (cs : List Comp) (held : List (Option Value)) (xs ys : List (List Value)) → AreRanges e cs held xs → AreRanges e cs held ys → xs ≡ ys
+same_ranges e [] held [] [] h k = refl
+same_ranges e [] held [] (y ∷ ys) h k = absurd k
+same_ranges e [] held (x ∷ xs) ys h k = absurd h
+same_ranges e (c ∷ cs) held [] ys h k = absurd h
+same_ranges e (c ∷ cs) held (x ∷ xs) [] h k = absurd k
+same_ranges e (c ∷ cs) held (x ∷ xs) (y ∷ ys) h k = ap (λ v. v ∷ xs) (one_range e c (first_held held) x y h.0 k.0) ∙ ap (λ vs. y ∷ vs) (same_ranges e cs (later_held held) xs ys h.1 k.1)
 
 pub one_ranges : OneRanges
-one_ranges e s xs ys h k = same_ranges e s.comps xs ys h k
+one_ranges e s held xs ys h k = same_ranges e s.comps held xs ys h k
 
 pub one_events : OneEvents
-one_events e s after xs ys h k =
-    let same : k.ranges ≡ h.ranges = same_ranges e s.comps k.ranges h.ranges k.of_components h.of_components in
-    walk.one_list value_order order_laws.total-law (property e s.conjuncts) h.ranges after xs ys h.listed
-    (subst (λ ranges. IsEvents value_order (property e s.conjuncts) ranges after ys) same k.listed)
+one_events e s p xs ys h k =
+    let same : k.ranges ≡ h.ranges = same_ranges e s.comps p.held k.ranges h.ranges k.of_components h.of_components in
+    walk.one_list value_order order_laws.total-law (property e s.conjuncts) h.ranges p.after xs ys h.listed
+    (subst (λ ranges. IsEvents value_order (property e s.conjuncts) ranges p.after ys) same k.listed)
 
 pub events_resume : EventsResume
-events_resume e s after front x rest h = record {
+events_resume e s p front x rest h = record {
   ranges = h.ranges;
   of_components = h.of_components;
-  listed = walk.resumes value_order order_laws.total-law (property e s.conjuncts) h.ranges after front x rest h.listed;
+  listed = walk.resumes value_order order_laws.total-law (property e s.conjuncts) h.ranges p.after front x rest h.listed;
 }
 
 pub tests_are_bound : TestsAreBound
-tests_are_bound e s after whole number bound h k =
-    let same : k.ranges ≡ h.ranges = same_ranges e s.comps k.ranges h.ranges k.of_components h.of_components in
-    walk.stays_within_bound value_order order_laws.total-law (property e s.conjuncts) h.ranges after whole number bound h.counted
+tests_are_bound e s p whole number bound h k =
+    let same : k.ranges ≡ h.ranges = same_ranges e s.comps p.held k.ranges h.ranges k.of_components h.of_components in
+    walk.stays_within_bound value_order order_laws.total-law (property e s.conjuncts) h.ranges p.after whole number bound h.counted
     (subst (λ ranges. IsBound (property e s.conjuncts) ranges bound) same k.counted)

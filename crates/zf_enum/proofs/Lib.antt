@@ -2,6 +2,7 @@ pub mod Dues
 pub mod Rows
 pub mod Judging
 pub mod Listing
+pub mod Held
 pub mod EventLaws
 pub mod Numbers
 pub mod Single

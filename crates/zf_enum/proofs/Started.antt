@@ -14,7 +14,7 @@ use Rattle.zf_plan.proofs.Alike.{itself}
 use Rattle.zf_meaning.specs.Environments.{Environment}
 use Rattle.zf_enum.specs.Property.{due_of, property}
 use Rattle.zf_enum.specs.Planting.{NeedWithin}
-use Rattle.zf_enum.specs.Ranges.{AreRanges}
+use Rattle.zf_enum.specs.Ranges.{AreRanges, later_held}
 
 abbrev Below : Value → Value → Type 0
 Below v w = value_order v w ≡ Less
@@ -38,28 +38,28 @@ say_alike d e ts ps here same =
     subst (λ (f : Environment). SayTheSame (property d ts) (property f ps)) here (subst (λ (us : List ResolvedTree). SayTheSame (property d ts) (property d us)) same (itself (property d ts)))
 
 module _ (e : Environment) where
-  as_many : (cs : List Comp) (rs : List (List Value)) → AreRanges e cs rs → length cs ≡ length rs
-  as_many [] [] h = refl
-  as_many [] (xs ∷ rs) h = absurd h
-  as_many (c ∷ cs) [] h = absurd h
-  as_many (c ∷ cs) (xs ∷ rs) h = ap suc (as_many cs rs h.1)
+  as_many : (cs : List Comp) (held : List (Option Value)) (rs : List (List Value)) → AreRanges e cs held rs → length cs ≡ length rs
+  as_many [] held [] h = refl
+  as_many [] held (xs ∷ rs) h = absurd h
+  as_many (c ∷ cs) held [] h = absurd h
+  as_many (c ∷ cs) held (xs ∷ rs) h = ap suc (as_many cs (later_held held) rs h.1)
 
   -- so many components are due
-  pub needs_within : (cs : List Comp) (rs : List (List Value)) (ps : List ResolvedTree) → AreRanges e cs rs → AreDueWithin (property e ps) (length cs) → NeedWithin (length rs) ps
-  needs_within cs rs ps h d = subst (λ n. NeedWithin n ps) (as_many cs rs h) (need_at_all (length cs) ps d)
+  pub needs_within : (cs : List Comp) (held : List (Option Value)) (rs : List (List Value)) (ps : List ResolvedTree) → AreRanges e cs held rs → AreDueWithin (property e ps) (length cs) → NeedWithin (length rs) ps
+  needs_within cs held rs ps h d = subst (λ n. NeedWithin n ps) (as_many cs held rs h) (need_at_all (length cs) ps d)
 
-  pub ranges_ascend : (cs : List Comp) (rs : List (List Value)) → AreRanges e cs rs → AreAscending value_order rs
-  ranges_ascend [] [] h k d l = absurd (omega arith)
-  ranges_ascend [] (xs ∷ rs) h k d l = absurd h
-  ranges_ascend (c ∷ cs) [] h k d l = absurd h
-  ranges_ascend (c ∷ cs) (xs ∷ rs) h zero d l = ascending_pairs xs h.0.ascending
-  ranges_ascend (c ∷ cs) (xs ∷ rs) h (suc k) d l = ranges_ascend cs rs h.1 k d (omega arith)
+  pub ranges_ascend : (cs : List Comp) (held : List (Option Value)) (rs : List (List Value)) → AreRanges e cs held rs → AreAscending value_order rs
+  ranges_ascend [] held [] h k d l = absurd (omega arith)
+  ranges_ascend [] held (xs ∷ rs) h k d l = absurd h
+  ranges_ascend (c ∷ cs) held [] h k d l = absurd h
+  ranges_ascend (c ∷ cs) held (xs ∷ rs) h zero d l = ascending_pairs xs h.0.ascending
+  ranges_ascend (c ∷ cs) held (xs ∷ rs) h (suc k) d l = ranges_ascend cs (later_held held) rs h.1 k d (omega arith)
 
-  pub named_within : (cs : List Comp) (rs : List (List Value)) (after : Option (List Value)) → AreRanges e cs rs → HasLength after (length cs) → HasLength after (length rs)
-  named_within cs rs after h n = subst (HasLength after) (as_many cs rs h) n
+  pub named_within : (cs : List Comp) (held : List (Option Value)) (rs : List (List Value)) (after : Option (List Value)) → AreRanges e cs held rs → HasLength after (length cs) → HasLength after (length rs)
+  named_within cs held rs after h n = subst (HasLength after) (as_many cs held rs h) n
 
-  pub due_within : (cs : List Comp) (rs : List (List Value)) (ps ts : List ResolvedTree) → AreRanges e cs rs → ts ≡ ps → AreDueWithin (property e ps) (length cs) → AreDueWithin (property e ts) (length rs)
-  due_within cs rs ps ts h same d = subst (AreDueWithin (property e ts)) (as_many cs rs h) (subst (λ (us : List ResolvedTree). AreDueWithin (property e us) (length cs)) (sym same) d)
+  pub due_within : (cs : List Comp) (held : List (Option Value)) (rs : List (List Value)) (ps ts : List ResolvedTree) → AreRanges e cs held rs → ts ≡ ps → AreDueWithin (property e ps) (length cs) → AreDueWithin (property e ts) (length rs)
+  due_within cs held rs ps ts h same d = subst (AreDueWithin (property e ts)) (as_many cs held rs h) (subst (λ (us : List ResolvedTree). AreDueWithin (property e us) (length cs)) (sym same) d)
 
   pub ahead_of : (ps ts : List ResolvedTree) (rs ws : List (List Value)) (after : Option (List Value)) (a : Ahead Value) → ts ≡ ps → ws ≡ rs → AreAllAhead value_order (property e ts) rs after a → AreAllAhead value_order (property e ps) ws after a
   ahead_of ps ts rs ws after a same there h =

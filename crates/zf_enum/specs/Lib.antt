@@ -3,6 +3,7 @@ pub mod PropertyLaws
 pub mod Dues
 pub mod DeclaredSets
 pub mod Ranges
+pub mod Portions
 pub mod Events
 pub mod Parts
 pub mod Filters

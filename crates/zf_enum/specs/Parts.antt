@@ -1,5 +1,5 @@
 -- What declared sets leave of values. No public clause rests on this.
-use Rattle.std.specs.Prelude.{◌≡◌, ◌⊎◌, ◌↔◌, ℕ, ◌<◌, true, List, [], ◌∷◌, ◌++◌, length, get_or}
+use Rattle.std.specs.Prelude.{◌≡◌, ◌⊎◌, ◌↔◌, ℕ, ◌<◌, true, List, [], ◌∷◌, ◌++◌, length, get_or, Option}
 use Rattle.zf_term.specs.declared.globals.Domain.{Domain}
 use Rattle.zf_finite.specs.Finite.{bounds}
 use Rattle.zf_term.specs.Definitions.{Defined, DeclaredSet, DeclaredSets, set_of}
@@ -14,6 +14,7 @@ use Rattle.zf_meaning.specs.declared.described.Described.{Described}
 use Rattle.zf_meaning.specs.Described.{IsDescribed, IsInDescribed}
 use Rattle.zf_meaning.specs.Environments.{Environment}
 use Rattle.zf_enum.specs.DeclaredSets.{IsInSet, IsInSets, IsSetOut, IsOneOut}
+use Rattle.zf_enum.specs.Ranges.{IsHeld}
 
 -- the ascending list of exactly the values that pass
 pub record Lists (P : Value → Type 0) (xs : List Value) : Type 0 where
@@ -40,6 +41,10 @@ IsAllOf e d xs = Lists (IsInSet e d) xs × (IsSetOut e d → ⊥)
 -- the values that lie in each of several, of which none is out
 abbrev pub IsAllOfEach : Environment → DeclaredSets → List Value → Type 0
 IsAllOfEach e ds xs = Lists (IsInSets e ds) xs × (IsOneOut e ds → ⊥)
+
+-- the same where one value may be held
+abbrev pub IsAllWith : Environment → DeclaredSets → Option Value → List Value → Type 0
+IsAllWith e ds held xs = Lists (λ v. IsInSets e ds v × IsHeld held v) xs × (IsOneOut e ds → ⊥)
 
 -- the outcome can be listed, as this
 pub record IsListed (o : Outcome) (P : Value → Type 0) (xs : List Value) : Type 0 where

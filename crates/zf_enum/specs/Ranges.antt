@@ -1,22 +1,36 @@
--- The ranges of a schema's components, and which components have a declared set that is out.
-use Rattle.std.specs.Prelude.{◌≡◌, ◌↔◌, ℕ, ◌<◌, List, [], ◌∷◌, Some, slice_get}
+-- The ranges of a schema's components where some values are held, and which components have a declared set that is out.
+use Rattle.std.specs.Prelude.{◌≡◌, ◌↔◌, ℕ, ◌<◌, List, [], ◌∷◌, Option, Some, None, slice_get}
 use Rattle.zf_term.specs.Definitions.{Comp, sets_of}
 use Rattle.zf_value.specs.declared.value.Value.{Value}
 use Rattle.zf_value.specs.Sets.{IsMember, IsAscending}
 use Rattle.zf_meaning.specs.Environments.{Environment}
 use Rattle.zf_enum.specs.DeclaredSets.{IsInSets, IsOneOut}
 
--- the ascending list of exactly the values in the component's range
-pub record IsRange (e : Environment) (c : Comp) (xs : List Value) : Type 0 where
+-- where a value is held it is this one alone
+abbrev pub IsHeld : Option Value → Value → Type 0
+IsHeld None v = Unit {0}
+IsHeld (Some w) v = v ≡ w
+
+-- the ascending list of exactly the values in the component's range: those that lie in its declared sets, or of them the one that is held
+pub record IsRange (e : Environment) (c : Comp) (held : Option Value) (xs : List Value) : Type 0 where
   pub ascending : IsAscending xs
-  pub members : (v : Value) → IsMember v xs ↔ IsInSets e (sets_of c.sets) v
+  pub members : (v : Value) → IsMember v xs ↔ (IsInSets e (sets_of c.sets) v × IsHeld held v)
+
+-- what is held of the first component, and of the others; where the list ends nothing is
+abbrev pub first_held : List (Option Value) → Option Value
+first_held [] = None
+first_held (h ∷ held) = h
+
+abbrev pub later_held : List (Option Value) → List (Option Value)
+later_held [] = []
+later_held (h ∷ held) = held
 
 -- that of each component
-abbrev pub AreRanges : Environment → List Comp → List (List Value) → Type 0
-AreRanges e [] [] = Unit {0}
-AreRanges e [] (xs ∷ ranges) = ⊥
-AreRanges e (c ∷ cs) [] = ⊥
-AreRanges e (c ∷ cs) (xs ∷ ranges) = IsRange e c xs × AreRanges e cs ranges
+abbrev pub AreRanges : Environment → List Comp → (held : List (Option Value)) → List (List Value) → Type 0
+AreRanges e [] held [] = Unit {0}
+AreRanges e [] held (xs ∷ ranges) = ⊥
+AreRanges e (c ∷ cs) held [] = ⊥
+AreRanges e (c ∷ cs) held (xs ∷ ranges) = IsRange e c (first_held held) xs × AreRanges e cs (later_held held) ranges
 
 -- the component at this place has a declared set that is out
 abbrev pub IsOutAt : Environment → List Comp → ℕ → Type 0

@@ -1,36 +1,48 @@
 //! The ranges of components.
-ghost use Rattle.std.specs.Prelude.{◌≡◌, IsTrue, IfOk, IfErr, map};
+ghost use Rattle.std.specs.Prelude.{◌≡◌, IsTrue, IfOk, IfErr, map, option_map};
 ghost use Rattle.std.specs.List.{AllByRecursion};
 ghost use Rattle.zf_term.specs.Definitions.{comp_of, sets_of};
 ghost use Rattle.zf_finite.specs.Finite.{one_bounds};
 ghost use Rattle.zf_meaning.specs.Envs.{environment_of};
-ghost use Rattle.zf_enum.specs.Components.{AreAllRanges, IsOneRange, IsOutBy};
+ghost use Rattle.zf_enum.specs.Components.{AreAllRanges, IsOneRange, IsOutBy, held_at};
 ghost use Rattle.zf_enum.specs.Starts.{Refuses};
 
 use crate::known::{Known, all_known};
 use crate::lack::Lack;
-use crate::ranges::range;
+use crate::ranges::values_with;
 use crate::start_fault::StartFault;
 use std::alloc::Global;
 use zf_meaning::env::Env;
 use zf_term::globals::Component;
 use zf_walk::Range;
 
-/// The range of each component.
+/// The range of each component, where these values are held.
 pub(crate) fn ranges<'a>(
     alloc: Global,
     components: &[Component<'a>],
+    held: &[Option<Known>],
     env: &Env<'_, 'a>,
 ) -> Result<Vec<Range<Known>>, StartFault>
     requires { AllByRecursion (λ c. IsTrue (one_bounds (environment_of env.now).globals (sets_of c.sets))) (map comp_of components.now) }
-    ensures is { IfOk result (λ rs. AreAllRanges (environment_of env.now) (map comp_of components.now) rs.items) }
+    ensures is { IfOk result (λ rs. AreAllRanges (environment_of env.now) (map comp_of components.now) held.now rs.items) }
     ensures refused { IfErr result (Refuses (environment_of env.now) (map comp_of components.now)) }
 {
     let mut ranges = Vec::with_capacity(alloc, components.len())?;
     for place in 0..components.len() {
-        ranges.push(range_at(alloc, &components[place], place, env)?)?;
+        let of_this = value_held(held, place);
+        ranges.push(range_at(alloc, &components[place], place, of_this, env)?)?;
     }
     Ok(ranges)
+}
+
+/// What is held of the component at this place.
+fn value_held(held: &[Option<Known>], place: usize) -> Option<&Known>
+    ensures { option_map (λ k. k.now) result ≡ held_at place held.now }
+{
+    match held.get(place) {
+        Some(value) => value.as_ref(),
+        None => None,
+    }
 }
 
 /// The range of the component at this place.
@@ -38,13 +50,14 @@ fn range_at<'a>(
     alloc: Global,
     component: &Component<'a>,
     place: usize,
+    held: Option<&Known>,
     env: &Env<'_, 'a>,
 ) -> Result<Range<Known>, StartFault>
     requires { IsTrue (one_bounds (environment_of env.now).globals (sets_of (comp_of component.now).sets)) }
-    ensures is { IfOk result (IsOneRange (environment_of env.now) (comp_of component.now)) }
+    ensures is { IfOk result (IsOneRange (environment_of env.now) (comp_of component.now) (option_map (λ k. k.now) held.entry)) }
     ensures refused { IfErr result (IsOutBy (environment_of env.now) (comp_of component.now) place) }
 {
-    match range(alloc, component.domains.get().as_slice(), env) {
+    match values_with(alloc, component.domains.get().as_slice(), held, env) {
         Ok(values) => Ok(Range {
             values: all_known(alloc, values)?,
         }),

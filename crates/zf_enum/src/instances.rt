@@ -8,6 +8,7 @@ ghost use Rattle.zf_walk.specs.Progress.{AreDueWithin};
 ghost use Rattle.zf_meaning.specs.Envs.{environment_of};
 ghost use Rattle.zf_enum.specs.Property.{property};
 ghost use Rattle.zf_enum.specs.Searches.{planted_goal};
+ghost use Rattle.zf_enum.specs.Portions.{portion};
 ghost use Rattle.zf_enum.specs.Starts.{Begins, Refuses};
 
 use crate::component::ranges;
@@ -34,21 +35,22 @@ pub struct Instances<'s, 'e, 'g, 'a> {
 }
 
 impl<'s, 'e, 'g, 'a> Instances<'s, 'e, 'g, 'a> {
-    /// Stands before the first event of the schema. The named row need not lie in the ranges.
+    /// Stands before the first event of the schema that has the values which are held, by the components' places. Neither they nor the named row need lie in the ranges.
     pub fn start(
         alloc: Global,
         arena: &'a Bump,
         flat: &Flat<'a>,
         env: &'e Env<'g, 'a>,
         after: Option<&'s [Known]>,
+        held: &[Option<Known>],
     ) -> Result<Instances<'s, 'e, 'g, 'a>, StartFault>
         requires finite { IsFinite (environment_of env.now).globals (schema_of flat.now) }
         requires named { HasLength (option_copied after) (length (schema_of flat.now).comps) }
         requires due { AreDueWithin (property (environment_of env.now) (schema_of flat.now).conjuncts) (length (schema_of flat.now).comps) }
-        ensures begins { IfOk result (λ i. Begins (environment_of env.now) (schema_of flat.now) (option_copied after.entry) (planted_goal i.names i.search) i.search.stage) }
+        ensures begins { IfOk result (λ i. Begins (environment_of env.now) (schema_of flat.now) (portion (option_copied after.entry) held.now) (planted_goal i.names i.search) i.search.stage) }
         ensures refused { IfErr result (Refuses (environment_of env.now) (schema_of flat.now).comps) }
     {
-        let ranges = ranges(alloc, flat.components.as_slice(), env)?;
+        let ranges = ranges(alloc, flat.components.as_slice(), held, env)?;
         let planting = plant_all(alloc, arena, flat.conjuncts.as_slice())?;
         let Planting { leaves, forest } = planting;
         let property = lifted(alloc, arena, leaves, env)?;

@@ -1,5 +1,6 @@
 //! Regular values.
-ghost use Rattle.std.specs.Prelude.{◌≡◌, IfOk};
+ghost use Rattle.std.specs.Prelude.{◌≡◌, IfOk, MatchOption};
+ghost use Rattle.std.specs.List.{AllByRecursion};
 ghost use Rattle.zf_value.specs.Sets.{IsRegular, AreRegular};
 
 use std::alloc::{AllocError, Global};
@@ -90,6 +91,32 @@ impl Ord for Known {
 
     fn cmp(&self, other: &Known) -> Ordering {
         self.value.cmp(&other.value)
+    }
+}
+
+/// The same values, where there are some, known to be regular.
+pub fn held_known(
+    alloc: Global,
+    values: Vec<Option<Value>>,
+) -> Result<Vec<Option<Known>>, AllocError>
+    requires { AllByRecursion (λ h. MatchOption h (Unit {0}) IsRegular) values.items }
+    ensures { IfOk result (λ known. known.items ≡ values.items) }
+{
+    let mut known = Vec::with_capacity(alloc, values.len())?;
+    for value in values {
+        known.push(one_known(value))?;
+    }
+    Ok(known)
+}
+
+/// The same value, if there is one, known to be regular.
+fn one_known(value: Option<Value>) -> Option<Known>
+    requires { MatchOption value (Unit {0}) IsRegular }
+    ensures { result ≡ value }
+{
+    match value {
+        Some(held) => Some(Known::new(held)),
+        None => None,
     }
 }
 

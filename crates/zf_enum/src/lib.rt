@@ -29,7 +29,7 @@ mod weight;
 
 pub use bindings::Bindings;
 pub use instances::Instances;
-pub use known::{Known, all_known};
+pub use known::{Known, all_known, held_known};
 pub use planting::gains_by_trees;
 pub use property::Property;
 pub use search::Search;

@@ -1,5 +1,5 @@
 //! The members of a set that an expression comes to.
-ghost use Rattle.std.specs.Prelude.{◌≡◌, ◌↔◌, ◌++◌, ◌⊎◌, IsTrue, IfOk, IfErr, OnOk};
+ghost use Rattle.std.specs.Prelude.{◌≡◌, ◌↔◌, ◌++◌, ◌⊎◌, [], ◌∷◌, IsTrue, IfOk, IfErr, OnOk};
 ghost use Rattle.zf_value.specs.declared.value.Outcome.TheVariants as outcome;
 ghost use Rattle.zf_value.specs.Sets.{IsMember, IsRegularSet, IsRegularOutcome};
 ghost use Rattle.zf_meaning.specs.Described.{IsDescribed, IsRegularDescribed};
@@ -69,6 +69,15 @@ pub(crate) fn copied(alloc: Global, values: &[Value]) -> Result<Vec<Value>, Allo
     for value in values {
         out.push(value.copy(alloc)?)?;
     }
+    Ok(out)
+}
+
+/// The value alone.
+pub(crate) fn alone(alloc: Global, value: &Value) -> Result<Vec<Value>, AllocError>
+    ensures { IfOk result (λ out. out.items ≡ value.now ∷ []) }
+{
+    let mut out = Vec::new(alloc);
+    out.push(value.copy(alloc)?)?;
     Ok(out)
 }
 

@@ -1,28 +1,42 @@
 //! The values that lie in declared sets.
-ghost use Rattle.std.specs.Prelude.{◌≡◌, ◌≤◌, ◌<◌, true, IfOk, IfErr, MatchOption, length, map, slice_get};
+ghost use Rattle.std.specs.Prelude.{◌≡◌, ◌≤◌, ◌<◌, true, IfOk, IfErr, MatchOption, length, map, option_map, slice_get};
 ghost use Rattle.zf_term.specs.Definitions.{globals_of, set_of, sets_of};
 ghost use Rattle.zf_value.specs.Sets.{IsRegularSet};
 ghost use Rattle.zf_meaning.specs.Envs.{environment_of};
 ghost use Rattle.zf_finite.specs.Finite as spec;
 ghost use Rattle.zf_enum.specs.DeclaredSets.{IsSetOut, IsOneOut};
-ghost use Rattle.zf_enum.specs.Parts.{Narrows, NarrowsAll, IsAllOf, IsAllOfEach, Tells};
+ghost use Rattle.zf_enum.specs.Parts.{Narrows, NarrowsAll, IsAllOf, IsAllOfEach, IsAllWith, Tells};
 
 use crate::bounding::lightest_bounding;
+use crate::known::Known;
 use crate::lack::Lack;
 use crate::leaves::{among_carrier, among_plain, of_carrier, of_plain};
-use crate::members::{copied, merged};
+use crate::members::{alone, copied, merged};
 use std::alloc::Global;
 use zf_meaning::env::Env;
 use zf_term::globals::Domain;
 use zf_value::value::Value;
 
-/// The values that lie in each of the declared sets, of which one bounds; none where none does.
-#[cycle(listing)]
-pub(crate) fn range<'a>(
+/// The values that lie in each of the declared sets, of which one bounds; the one that is held alone, if one is.
+pub(crate) fn values_with<'a>(
     alloc: Global,
     domains: &[Domain<'a>],
+    held: Option<&Known>,
     env: &Env<'_, 'a>,
 ) -> Result<Vec<Value>, Lack>
+    requires { spec.one_bounds (environment_of env.now).globals (sets_of (map set_of domains.now)) ≡ true }
+    ensures is { IfOk result (λ xs. IsAllWith (environment_of env.now) (sets_of (map set_of domains.now)) (option_map (λ k. k.now) held.entry) xs.items) }
+    ensures out { IfErr result (λ lack. Tells lack (IsOneOut (environment_of env.now) (sets_of (map set_of domains.now)))) }
+{
+    match held {
+        Some(value) => narrowed(alloc, domains, alone(alloc, value.value())?, env),
+        None => range(alloc, domains, env),
+    }
+}
+
+/// The values that lie in each of the declared sets, of which one bounds; none where none does.
+#[cycle(listing)]
+fn range<'a>(alloc: Global, domains: &[Domain<'a>], env: &Env<'_, 'a>) -> Result<Vec<Value>, Lack>
     ensures is { spec.one_bounds (environment_of env.now).globals (sets_of (map set_of domains.now)) ≡ true → IfOk result (λ xs. IsAllOfEach (environment_of env.now) (sets_of (map set_of domains.now)) xs.items) }
     ensures regular { IfOk result (λ xs. IsRegularSet xs.items) }
     ensures out { spec.one_bounds (environment_of env.now).globals (sets_of (map set_of domains.now)) ≡ true → IfErr result (λ lack. Tells lack (IsOneOut (environment_of env.now) (sets_of (map set_of domains.now)))) }

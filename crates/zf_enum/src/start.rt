@@ -8,6 +8,7 @@ ghost use Rattle.zf_walk.specs.Progress.{AreDueWithin};
 ghost use Rattle.zf_walk.specs.Rows.{HasLength};
 ghost use Rattle.zf_meaning.specs.Envs.{environment_of};
 ghost use Rattle.zf_enum.specs.Property.{property};
+ghost use Rattle.zf_enum.specs.Portions.{portion};
 ghost use Rattle.zf_enum.specs.Starts.{Refuses, BeginsCounting};
 
 use crate::bindings::Bindings;
@@ -24,21 +25,22 @@ use zf_term::globals::Flat;
 use zf_term::resolved::Resolved;
 
 impl<'s, 'e, 'g, 'a> Bindings<'s, 'e, 'g, 'a> {
-    /// Stands before the first event of the schema. The named row need not lie in the ranges.
+    /// Stands before the first event of the schema that has the values which are held, by the components' places. Neither they nor the named row need lie in the ranges.
     pub fn start(
         alloc: Global,
         arena: &'a Bump,
         flat: &Flat<'a>,
         env: &'e Env<'g, 'a>,
         after: Option<&'s [Known]>,
+        held: &[Option<Known>],
     ) -> Result<Bindings<'s, 'e, 'g, 'a>, StartFault>
         requires finite { IsFinite (environment_of env.now).globals (schema_of flat.now) }
         requires named { HasLength (option_copied after) (length (schema_of flat.now).comps) }
         requires due { AreDueWithin (property (environment_of env.now) (schema_of flat.now).conjuncts) (length (schema_of flat.now).comps) }
-        ensures begins { IfOk result (λ b. BeginsCounting (environment_of env.now) (schema_of flat.now) (option_copied after.entry) b) }
+        ensures begins { IfOk result (λ b. BeginsCounting (environment_of env.now) (schema_of flat.now) (portion (option_copied after.entry) held.now) b) }
         ensures refused { IfErr result (Refuses (environment_of env.now) (schema_of flat.now).comps) }
     {
-        let ranges = ranges(alloc, flat.components.as_slice(), env)?;
+        let ranges = ranges(alloc, flat.components.as_slice(), held, env)?;
         let conjuncts = resolved(alloc, arena, flat.conjuncts.as_slice())?;
         let dues = dues(alloc, &conjuncts)?;
         let property = Property {

@@ -4,10 +4,12 @@ use Rattle.std.specs.Prelude.{slice_get, IsTrue}
 use Rattle.std.specs.List.{AllByRecursion}
 use Rattle.zf_term.specs.Definitions.{Comp, sets_of}
 use Rattle.zf_finite.specs.Finite.{one_bounds}
+use Rattle.zf_value.specs.declared.value.Value.{Value}
 use Rattle.zf_meaning.specs.Environments.{Environment}
 use Rattle.zf_enum.specs.DeclaredSets.{IsOneOut}
-use Rattle.zf_enum.specs.Ranges.{IsRange, AreRanges, IsOutAt, IsNoneOut, IsFirstOut}
-use Rattle.zf_total.proofs.Listed.{HasSome, Decided}
+use Rattle.zf_enum.specs.Ranges.{IsHeld, IsRange, AreRanges, IsOutAt, IsNoneOut, IsFirstOut, first_held, later_held}
+use Rattle.zf_total.proofs.Listed.{HasSome, Decided, listed_kept}
+use Rattle.zf_total.proofs.Values.{same_value}
 use Rattle.zf_total.proofs.Naturals.{first_or_none}
 use Rattle.zf_total.proofs.Sets.{ordered}
 use Rattle.zf_found.proofs.DeclaredSets.{decided_one_out, listed_in_sets}
@@ -33,9 +35,13 @@ first_out_or_none e cs =
 
 -- ---- ranges
 
-some_range : (e : Environment) (c : Comp) → IsTrue (one_bounds e.globals (sets_of c.sets)) → HasSome (IsRange e c)
-some_range e c b = let o = ordered (listed_in_sets e (sets_of c.sets) b) in (o.list, record { ascending = o.ascending; members = o.members })
+decided_held : (held : Option Value) (v : Value) → Decided (IsHeld held v)
+decided_held None v = inl tt
+decided_held (Some w) v = same_value v w
 
-pub some_ranges : (e : Environment) (cs : List Comp) → AllByRecursion (λ c. IsTrue (one_bounds e.globals (sets_of c.sets))) cs → HasSome (AreRanges e cs)
-some_ranges e [] h = ([], tt)
-some_ranges e (c ∷ cs) h = let xs = some_range e c h.0 in let rest = some_ranges e cs h.1 in (xs.0 ∷ rest.0, (xs.1, rest.1))
+some_range : (e : Environment) (c : Comp) (held : Option Value) → IsTrue (one_bounds e.globals (sets_of c.sets)) → HasSome (IsRange e c held)
+some_range e c held b = let o = ordered (listed_kept (IsHeld held) (listed_in_sets e (sets_of c.sets) b) (decided_held held)) in (o.list, record { ascending = o.ascending; members = o.members })
+
+pub some_ranges : (e : Environment) (cs : List Comp) (held : List (Option Value)) → AllByRecursion (λ c. IsTrue (one_bounds e.globals (sets_of c.sets))) cs → HasSome (AreRanges e cs held)
+some_ranges e [] held h = ([], tt)
+some_ranges e (c ∷ cs) held h = let xs = some_range e c (first_held held) h.0 in let rest = some_ranges e cs (later_held held) h.1 in (xs.0 ∷ rest.0, (xs.1, rest.1))

@@ -17,6 +17,7 @@ use Rattle.zf_meaning.specs.Environments.{Environment}
 use Rattle.zf_meaning.specs.InRow.{in_row}
 use Rattle.zf_meaning.specs.Meaning.{IsTruth}
 use Rattle.zf_enum.specs.Events.{AreEvents, IsBoundOf}
+use Rattle.zf_enum.specs.Portions.{Portion}
 use Rattle.zf_enum.specs.Property.{HasTruth, told, property}
 use Rattle.zf_enum.specs.PropertyLaws.{one_truth_in}
 use Rattle.zf_enum.specs.Ranges.{AreRanges}
@@ -63,24 +64,24 @@ property_told e ts = record {
 events_of : (e : Environment) (a : Schema) (ranges : List (List Value)) (after : Option (List Value)) → HasSome (IsEvents value_order (property e a.conjuncts) ranges after)
 events_of e a ranges after = some_events (property e a.conjuncts) (property_told e a.conjuncts) value_order total-law exact ranges after
 
-pub some_list : (e : Environment) (a : Schema) (ranges : List (List Value)) (after : Option (List Value)) → AreRanges e a.comps ranges → HasSome (AreEvents e a after)
-some_list e a ranges after r = let all = events_of e a ranges after in (all.0, record { ranges = ranges; of_components = r; listed = all.1 })
+pub some_list : (e : Environment) (a : Schema) (ranges : List (List Value)) (p : Portion) → AreRanges e a.comps p.held ranges → HasSome (AreEvents e a p)
+some_list e a ranges p r = let all = events_of e a ranges p.after in (all.0, record { ranges = ranges; of_components = r; listed = all.1 })
 
-pub some_bound_of : (e : Environment) (a : Schema) (ranges : List (List Value)) → AreRanges e a.comps ranges → HasSome (IsBoundOf e a)
-some_bound_of e a ranges r =
+pub some_bound_of : (e : Environment) (a : Schema) (held : List (Option Value)) (ranges : List (List Value)) → AreRanges e a.comps held ranges → HasSome (IsBoundOf e a held)
+some_bound_of e a held ranges r =
     let n = some_bound value_order (property e a.conjuncts) (property_told e a.conjuncts) ranges same_value in
     (n.0, record { ranges = ranges; of_components = r; counted = n.1 })
 
-pub some_search : (e : Environment) (a : Schema) (ranges : List (List Value)) (after : Option (List Value)) (limit : Option ℕ) (line : List Value → List ℕ) → AreRanges e a.comps ranges → IsBelow limit 0
-    → (last : Option (List Value)) × (events : List (Event Value)) × (text : List ℕ) × (status : Status) × HasEvents e a after last events × IsWritten line limit events last text status
-some_search e a ranges after limit line r l =
+pub some_search : (e : Environment) (a : Schema) (ranges : List (List Value)) (p : Portion) (limit : Option ℕ) (line : List Value → List ℕ) → AreRanges e a.comps p.held ranges → IsBelow limit 0
+    → (last : Option (List Value)) × (events : List (Event Value)) × (text : List ℕ) × (status : Status) × HasEvents e a p last events × IsWritten line limit events last text status
+some_search e a ranges p limit line r l =
     let s = property e a.conjuncts in
-    let all = events_of e a ranges after in
-    let w = some_written line limit all.0 l (not_false value_order total-law s ranges after all.0 all.1) in
-    (w.last, w.events, w.text, w.status, record { ranges = ranges; of_components = r; listed = cut_events value_order total-law s ranges after all.0 w.last w.events all.1 w.cut }, w.written)
+    let all = events_of e a ranges p.after in
+    let w = some_written line limit all.0 l (not_false value_order total-law s ranges p.after all.0 all.1) in
+    (w.last, w.events, w.text, w.status, record { ranges = ranges; of_components = r; listed = cut_events value_order total-law s ranges p.after all.0 w.last w.events all.1 w.cut }, w.written)
 
-pub some_tests_line : (e : Environment) (a : Schema) (ranges : List (List Value)) (after last : Option (List Value)) (tests : Bool) → AreRanges e a.comps ranges → HasSome (IsTestsLine tests e a after last)
-some_tests_line e a ranges after last false r = ([], refl)
-some_tests_line e a ranges after last true r =
-    let n = some_number_of_tests value_order (property e a.conjuncts) (property_told e a.conjuncts) ranges same_value after last in
+pub some_tests_line : (e : Environment) (a : Schema) (ranges : List (List Value)) (p : Portion) (last : Option (List Value)) (tests : Bool) → AreRanges e a.comps p.held ranges → HasSome (IsTestsLine tests e a p last)
+some_tests_line e a ranges p last false r = ([], refl)
+some_tests_line e a ranges p last true r =
+    let n = some_number_of_tests value_order (property e a.conjuncts) (property_told e a.conjuncts) ranges same_value p.after last in
     (tests_line (cut n.0), (n.0, record { ranges = ranges; of_components = r; counted = n.1 }, refl))

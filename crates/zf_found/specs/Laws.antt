@@ -7,6 +7,7 @@ use Rattle.zf_value.specs.declared.value.Value.{Value}
 use Rattle.zf_walk.specs.Events.{Event}
 use Rattle.zf_meaning.specs.Environments.{Environment}
 use Rattle.zf_enum.specs.Events.{AreEvents, IsBoundOf}
+use Rattle.zf_enum.specs.Portions.{Portion}
 use Rattle.zf_enum.specs.Ranges.{AreRanges, IsNoneOut, IsFirstOut}
 use Rattle.zf_lines.specs.declared.fault.Status.{Status}
 use Rattle.zf_lines.specs.Searches.{HasEvents, IsBelow, IsWritten, IsTestsLine}
@@ -15,24 +16,24 @@ use Rattle.zf_lines.specs.Searches.{HasEvents, IsBelow, IsWritten, IsTestsLine}
 abbrev pub OutIsDecided : Type 0
 OutIsDecided = (e : Environment) (cs : List Comp) → ((place : ℕ) × IsFirstOut e cs place) ⊎ IsNoneOut e cs
 
--- Components that are bounded have ranges. Those of a finite schema are.
+-- Components that are bounded have ranges, whatever is held. Those of a finite schema are.
 abbrev pub EveryRange : Type 0
-EveryRange = (e : Environment) (cs : List Comp) → AllByRecursion (λ c. IsTrue (one_bounds e.globals (sets_of c.sets))) cs → (ranges : List (List Value)) × AreRanges e cs ranges
+EveryRange = (e : Environment) (cs : List Comp) (held : List (Option Value)) → AllByRecursion (λ c. IsTrue (one_bounds e.globals (sets_of c.sets))) cs → (ranges : List (List Value)) × AreRanges e cs held ranges
 
 -- Where there are ranges, there is the list of the events after any row.
 abbrev pub EveryEvent : Type 0
-EveryEvent = (e : Environment) (a : Schema) (ranges : List (List Value)) (after : Option (List Value)) → AreRanges e a.comps ranges → (events : List (Event Value)) × AreEvents e a after events
+EveryEvent = (e : Environment) (a : Schema) (ranges : List (List Value)) (p : Portion) → AreRanges e a.comps p.held ranges → (events : List (Event Value)) × AreEvents e a p events
 
 -- Where there are ranges, each search has events, after any row and up to any limit from 1 on, and something to write of them.
 abbrev pub EverySearch : Type 0
 EverySearch =
-    (e : Environment) (a : Schema) (ranges : List (List Value)) (after : Option (List Value)) (limit : Option ℕ) (line : List Value → List ℕ) → AreRanges e a.comps ranges → IsBelow limit 0
-    → (last : Option (List Value)) × (events : List (Event Value)) × (text : List ℕ) × (status : Status) × HasEvents e a after last events × IsWritten line limit events last text status
+    (e : Environment) (a : Schema) (ranges : List (List Value)) (p : Portion) (limit : Option ℕ) (line : List Value → List ℕ) → AreRanges e a.comps p.held ranges → IsBelow limit 0
+    → (last : Option (List Value)) × (events : List (Event Value)) × (text : List ℕ) × (status : Status) × HasEvents e a p last events × IsWritten line limit events last text status
 
 -- Up to any row, or to the end, it has a number of tests.
 abbrev pub EveryNumberOfTests : Type 0
-EveryNumberOfTests = (e : Environment) (a : Schema) (ranges : List (List Value)) (after last : Option (List Value)) (tests : Bool) → AreRanges e a.comps ranges → (text : List ℕ) × IsTestsLine tests e a after last text
+EveryNumberOfTests = (e : Environment) (a : Schema) (ranges : List (List Value)) (p : Portion) (last : Option (List Value)) (tests : Bool) → AreRanges e a.comps p.held ranges → (text : List ℕ) × IsTestsLine tests e a p last text
 
 -- The tests of all searches have a bound.
 abbrev pub EveryBound : Type 0
-EveryBound = (e : Environment) (a : Schema) (ranges : List (List Value)) → AreRanges e a.comps ranges → (bound : ℕ) × IsBoundOf e a bound
+EveryBound = (e : Environment) (a : Schema) (held : List (Option Value)) (ranges : List (List Value)) → AreRanges e a.comps held ranges → (bound : ℕ) × IsBoundOf e a held bound

@@ -8,3 +8,4 @@ pub mod Searching
 pub mod Standing
 pub mod Keeping
 pub mod Parts
+pub mod Beginning

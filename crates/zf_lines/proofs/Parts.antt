@@ -8,8 +8,8 @@ use Rattle.zf_term.specs.Definitions.{Comp, comp_of}
 use Rattle.zf_term.specs.declared.globals.Component.{Component}
 use Rattle.zf_value.specs.declared.value.Value.{Value}
 use Rattle.zf_texts.specs.declared.spelling.Spelling.{Spelling}
-use Rattle.zf_texts.specs.Steps.{separator, goes_on}
-use Rattle.zf_texts.specs.ValueTexts.{value_text}
+use Rattle.zf_texts.specs.Steps.{goes_on}
+use Rattle.zf_texts.specs.ValueTexts.{value_text, separator}
 use Rattle.zf_texts.specs.BindingTexts.{component_text, component_texts}
 use Rattle.zf_texts.proofs.Printing.{ahead-further, texts-drop}
 use Rattle.zf_lines.specs.declared.column.Column.{Column}

@@ -17,8 +17,8 @@ use Rattle.zf_enum.specs.Searches.{Goal, conjuncts_of}
 use Rattle.zf_lines.specs.declared.ending.Ending as ending
 use Rattle.zf_lines.specs.declared.ending.Ending.TheVariants as endings
 use Rattle.zf_lines.specs.Faults.{AppendsFront}
-use Rattle.zf_lines.specs.Searches.{AreEventsUpTo, HasEvents, IsTestsLine, IsWritten, lines, out_line}
-use Rattle.zf_lines.specs.Shown.{IsAtStart, StopsLines, WritesAll}
+use Rattle.zf_lines.specs.Searches.{AreEventsUpTo, IsWritten, lines, out_line}
+use Rattle.zf_lines.specs.Shown.{FindsEvents, IsAtStart, StopsLines, TellsTests, WritesAll}
 use Rattle.zf_lines.specs.Ends.{EndsBy, IsEnd, ending_status, last_text}
 use Rattle.zf_lines.proofs.Fewer.{ahead_count, one_fewer}
 use Rattle.zf_lines.proofs.Lines.{IsFirst}
@@ -54,30 +54,27 @@ module _ (a : Schema) (g : Goal) (b : Stage Value) (start : IsAtStart a g b) whe
     pub none_left : Advances value_order (conjuncts_of g) End c d → IsNoneAhead value_order stated b.ranges b.after c.ahead
     none_left h = let t = advances value_order (conjuncts_of g) stated start.same End c d h in at_start (λ rs n. IsNoneAhead value_order stated rs n c.ahead) t.1
 
-  pub listed : (last : Option (List Value)) (events : List (Event Value)) → AreEventsUpTo value_order stated b.ranges b.after last events → HasEvents g.environment a b.after last events
-  listed last events h = record { ranges = b.ranges; of_components = start.ranges; listed = h }
-
   module _ (line : List Value → List ℕ) (limit : Option ℕ) where
     -- the lines that stop early
     pub stops : (last : Option (List Value)) (events : List (Event Value)) (old new : Option (List ℕ)) → IsFirst line limit stated b.ranges b.after last events
-        → AppendsFront old new (lines line events) → StopsLines line limit g.environment a b.after old new
+        → AppendsFront old new (lines line events) → StopsLines line limit g.environment a b old new
     stops last events old new (inl none) front = (lines line events, inl (ap (lines line) none), front)
-    stops last events old new (inr (known, begun)) front = (lines line events, inr (events, last, listed last events known, begun), front)
+    stops last events old new (inr (known, begun)) front = (lines line events, inr (events, last, known, begun), front)
 
     pub ends_by : (c : Stage Value) (by : ending.Ending) (events held : List (Event Value)) (last : Option (List Value)) (old new : Option (List ℕ)) → c.last ≡ last
-        → AreEventsUpTo value_order stated b.ranges b.after last events → IsEnd limit events held last by → Appends old new (lines line held) → EndsBy line limit g.environment a b.after by c old new
+        → AreEventsUpTo value_order stated b.ranges b.after last events → IsEnd limit events held last by → Appends old new (lines line held) → EndsBy line limit g.environment a b by c old new
     ends_by c by events held last old new is known ended written = record {
       events = events;
       held = held;
-      listed = subst (λ l. HasEvents g.environment a b.after l events) (sym is) (listed last events known);
+      listed = subst (λ l. FindsEvents g.environment a b l events) (sym is) known;
       ended = subst (λ l. IsEnd limit events held l by) (sym is) ended;
       written = written;
     }
 
 -- ---- the whole search, from the lines and their end
 
-module _ (line : List Value → List ℕ) (limit : Option ℕ) (e : Environment) (a : Schema) (after : Option (List Value)) where
-  end_text : (by : ending.Ending) (c : Stage Value) (values : List Value) (old new : Option (List ℕ)) (h : EndsBy line limit e a after by c old new) → values ≡ unwrap_or c.last []
+module _ (line : List Value → List ℕ) (limit : Option ℕ) (e : Environment) (a : Schema) (b : Stage Value) where
+  end_text : (by : ending.Ending) (c : Stage Value) (values : List Value) (old new : Option (List ℕ)) (h : EndsBy line limit e a b by c old new) → values ≡ unwrap_or c.last []
       → IsWritten line limit h.events c.last (lines line h.held ++ last_text line by values) (ending_status by)
   end_text endings.More c values old new h given = let m = h.ended in
       IsWritten.pauses m.0 m.1 m.2 m.3 m.4 m.5 (ap (λ (es : List (Event Value)). lines line es ++ codes "more\n") m.6) refl
@@ -87,9 +84,9 @@ module _ (line : List Value → List ℕ) (limit : Option ℕ) (e : Environment)
       IsWritten.ends m.0 m.1 m.2 (ap (λ (es : List (Event Value)). lines line es ++ codes "end\n") m.3) refl
 
   -- with what is written of the number of tests
-  pub all_text : (tests : Bool) (by : ending.Ending) (c : Stage Value) (values : List Value) (counted : List ℕ) (old new : Option (List ℕ)) (h : EndsBy line limit e a after by c old new) (ending : List ℕ)
-      → values ≡ unwrap_or c.last [] → IsTestsLine tests e a after c.last counted → ending ≡ last_text line by values ++ counted
-      → WritesAll line limit tests e a after (lines line h.held ++ ending) (ending_status by)
+  pub all_text : (tests : Bool) (by : ending.Ending) (c : Stage Value) (values : List Value) (counted : List ℕ) (old new : Option (List ℕ)) (h : EndsBy line limit e a b by c old new) (ending : List ℕ)
+      → values ≡ unwrap_or c.last [] → TellsTests tests e a b c.last counted → ending ≡ last_text line by values ++ counted
+      → WritesAll line limit tests e a b (lines line h.held ++ ending) (ending_status by)
   all_text tests by c values counted old new h ending given number is = record {
     last = c.last;
     events = h.events;
@@ -102,6 +99,6 @@ module _ (line : List Value → List ℕ) (limit : Option ℕ) (e : Environment)
   }
 
   -- where it isn't asked for
-  pub untold_text : (by : ending.Ending) (c : Stage Value) (values : List Value) (old new : Option (List ℕ)) (h : EndsBy line limit e a after by c old new) (ending : List ℕ)
-      → values ≡ unwrap_or c.last [] → ending ≡ last_text line by values → WritesAll line limit false e a after (lines line h.held ++ ending) (ending_status by)
+  pub untold_text : (by : ending.Ending) (c : Stage Value) (values : List Value) (old new : Option (List ℕ)) (h : EndsBy line limit e a b by c old new) (ending : List ℕ)
+      → values ≡ unwrap_or c.last [] → ending ≡ last_text line by values → WritesAll line limit false e a b (lines line h.held ++ ending) (ending_status by)
   untold_text by c values old new h ending given is = all_text false by c values [] old new h ending given refl (is ∙ sym (append-nil (last_text line by values)))

@@ -36,7 +36,7 @@ module _ (line : List Value → List ℕ) (limit : Option ℕ) (a : Schema) (g :
   }
 
   module _ (now : Goal) (c : Stage Value) (left : Option ℕ) (old new : Option (List ℕ)) (h : Standing line limit a g b now c left old new) where
-    pub stops_here : StopsLines line limit g.environment a b.after old new
+    pub stops_here : StopsLines line limit g.environment a b old new
     stops_here = searching.stops a g b start line limit c.last h.lines.events old new h.lines.first
         (lines.lines_so_far line limit (property g.environment a.conjuncts) b.ranges b.after c.ahead left c.last old new h.lines)
 
@@ -57,7 +57,7 @@ module _ (line : List Value → List ℕ) (limit : Option ℕ) (a : Schema) (g :
         shown : values ≡ row
         shown = given ∙ ap (λ (o : Option (List Value)). unwrap_or o []) last
 
-        pub stops_in_line : (later : Option (List ℕ)) → AppendsFront new later (line values) → StopsLines line limit g.environment a b.after old later
+        pub stops_in_line : (later : Option (List ℕ)) → AppendsFront new later (line values) → StopsLines line limit g.environment a b old later
         stops_in_line later w = searching.stops a g b start line limit (Some row) _ old later
             (lines.first_more line limit (property g.environment a.conjuncts) b.ranges b.after c.ahead d.ahead left c.last old new h.lines h.some row taken)
             (lines.part_of_line line limit (property g.environment a.conjuncts) b.ranges b.after c.ahead d.ahead left c.last old new h.lines h.some row taken later
@@ -72,13 +72,13 @@ module _ (line : List Value → List ℕ) (limit : Option ℕ) (a : Schema) (g :
           pub goes_on_line : (next : Goal) → next ≡ now → SameRanges c d → HasLimit less → Standing line limit a g b next d less old later
           goes_on_line next is same some = record { lines = longer; some = some; goal = is ∙ h.goal; same = searching.same_later b c d h.same same }
 
-          pub ends_at_limit : HasLimit limit → less ≡ Some 0 → EndsBy line limit g.environment a b.after endings.More d old later
+          pub ends_at_limit : HasLimit limit → less ≡ Some 0 → EndsBy line limit g.environment a b endings.More d old later
           ends_at_limit some none =
               let all = subst (λ l. HasLines line limit (property g.environment a.conjuncts) b.ranges b.after d.ahead l d.last old later) none longer in
               let m = lines.more_ended line limit (property g.environment a.conjuncts) b.ranges b.after d.ahead d.last old later all some in
               searching.ends_by a g b start line limit d endings.More all.events all.events d.last old later refl m.0 m.1 all.written
 
-      pub ends_out : Advances value_order (conjuncts_of now) Breaks c d → EndsBy line limit g.environment a b.after endings.Out d old new
+      pub ends_out : Advances value_order (conjuncts_of now) Breaks c d → EndsBy line limit g.environment a b endings.Out d old new
       ends_out answer =
           let t = searching.breaks a g b start c d h.same (by_goal Breaks answer) in
           searching.ends_by a g b start line limit d endings.Out (h.lines.events ++ record { row = t.0; truth = Out } ∷ []) h.lines.events (Some t.0) old new t.1
@@ -86,7 +86,7 @@ module _ (line : List Value → List ℕ) (limit : Option ℕ) (a : Schema) (g :
           (lines.out_ended line limit (property g.environment a.conjuncts) b.ranges b.after c.ahead d.ahead left c.last old new h.lines h.some t.0)
           h.lines.written
 
-      pub ends_at_end : Advances value_order (conjuncts_of now) End c d → EndsBy line limit g.environment a b.after endings.End d old new
+      pub ends_at_end : Advances value_order (conjuncts_of now) End c d → EndsBy line limit g.environment a b endings.End d old new
       ends_at_end answer =
           searching.ends_by a g b start line limit d endings.End h.lines.events h.lines.events None old new answer.0
           (lines.all_behind_end line limit (property g.environment a.conjuncts) b.ranges b.after c.ahead d.ahead left c.last old new h.lines h.some

@@ -3,8 +3,7 @@ use Rattle.std.specs.Prelude.{◌≡◌, ℕ, List, [], ◌++◌, codes, length,
 use Rattle.zf_term.specs.Definitions.{Comp}
 use Rattle.zf_value.specs.declared.value.Value.{Value}
 use Rattle.zf_texts.specs.declared.spelling.Spelling.{Spelling}
-use Rattle.zf_texts.specs.Steps.{separator}
-use Rattle.zf_texts.specs.ValueTexts.{value_text}
+use Rattle.zf_texts.specs.ValueTexts.{value_text, separator}
 use Rattle.zf_lines.specs.declared.column.Column.{Column}
 use Rattle.zf_lines.specs.declared.column.Kept.{Kept}
 

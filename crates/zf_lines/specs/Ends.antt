@@ -11,7 +11,8 @@ use Rattle.zf_lines.specs.declared.ending.Ending as ending
 use Rattle.zf_lines.specs.declared.ending.Ending.TheVariants as endings
 use Rattle.zf_lines.specs.declared.fault.Status.{Status}
 use Rattle.zf_lines.specs.declared.fault.Status.TheVariants.{Done, PastBounds}
-use Rattle.zf_lines.specs.Searches.{HasEvents, Hold, IsBelow, lines, out_line}
+use Rattle.zf_lines.specs.Searches.{Hold, IsBelow, lines, out_line}
+use Rattle.zf_lines.specs.Shown.{FindsEvents}
 
 abbrev pub ending_status : ending.Ending → Status
 ending_status endings.More = Done
@@ -29,10 +30,10 @@ IsEnd limit events held last endings.More = (front : List (Event Value)) × (e :
 IsEnd limit events held last endings.Out = (e : Event Value) × (events ≡ held ++ e ∷ []) × (last ≡ Some e.row) × Hold held × (e.truth ≡ Out) × IsBelow limit (length held)
 IsEnd limit events held last endings.End = (last ≡ None) × Hold events × IsBelow limit (length events) × (held ≡ events)
 
--- the lines of a search are written, which ends where it stands now
-pub record EndsBy (line : List Value → List ℕ) (limit : Option ℕ) (e : Environment) (a : Schema) (after : Option (List Value)) (by : ending.Ending) (c : Stage Value) (old new : Option (List ℕ)) : Type 0 where
+-- the lines of a search that began here are written, which ends where it stands now
+pub record EndsBy (line : List Value → List ℕ) (limit : Option ℕ) (e : Environment) (a : Schema) (b : Stage Value) (by : ending.Ending) (c : Stage Value) (old new : Option (List ℕ)) : Type 0 where
   pub events : List (Event Value)
   pub held : List (Event Value)
-  pub listed : HasEvents e a after c.last events
+  pub listed : FindsEvents e a b c.last events
   pub ended : IsEnd limit events held c.last by
   pub written : Appends old new (lines line held)

@@ -12,6 +12,7 @@ use Rattle.zf_value.specs.declared.value.Value.{Value}
 use Rattle.zf_value.specs.Sets.{value_order}
 use Rattle.zf_meaning.specs.Environments.{Environment}
 use Rattle.zf_enum.specs.Events.{AreTests}
+use Rattle.zf_enum.specs.Portions.{Portion}
 use Rattle.zf_enum.specs.Property.{property}
 use Rattle.zf_enum.specs.Ranges.{AreRanges}
 use Rattle.zf_lines.specs.Texts.{tests_line}
@@ -65,12 +66,12 @@ pub record IsBegun {V : Type 0} (line : List V → List ℕ) (limit : Option ℕ
 -- ---- of a schema
 
 -- the events of a schema up to a whole row, or all of them
-pub record HasEvents (e : Environment) (a : Schema) (after whole : Option (List Value)) (events : List (Event Value)) : Type 0 where
+pub record HasEvents (e : Environment) (a : Schema) (p : Portion) (whole : Option (List Value)) (events : List (Event Value)) : Type 0 where
   pub ranges : List (List Value)
-  pub of_components : AreRanges e a.comps ranges
-  pub listed : AreEventsUpTo value_order (property e a.conjuncts) ranges after whole events
+  pub of_components : AreRanges e a.comps p.held ranges
+  pub listed : AreEventsUpTo value_order (property e a.conjuncts) ranges p.after whole events
 
 -- the line of the number of tests up to a whole row, or of all, if it is asked for
-abbrev pub IsTestsLine : (tests : Bool) → Environment → Schema → (after whole : Option (List Value)) → List ℕ → Type 0
-IsTestsLine false e a after whole text = text ≡ []
-IsTestsLine true e a after whole text = (number : ℕ) × AreTests e a after whole number × (text ≡ tests_line (cut number))
+abbrev pub IsTestsLine : (tests : Bool) → Environment → Schema → Portion → (whole : Option (List Value)) → List ℕ → Type 0
+IsTestsLine false e a p whole text = text ≡ []
+IsTestsLine true e a p whole text = (number : ℕ) × AreTests e a p whole number × (text ≡ tests_line (cut number))

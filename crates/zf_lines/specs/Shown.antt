@@ -1,49 +1,67 @@
 -- What is written of a search that stands at its beginning.
-use Rattle.std.specs.Prelude.{◌≡◌, ◌⊎◌, ℕ, ◌<◌, Bool, List, [], ◌++◌, Option, Some, None}
+use Rattle.std.specs.Prelude.{◌≡◌, ◌⊎◌, ℕ, ◌<◌, Bool, true, false, List, [], ◌++◌, map, Option, Some, None}
 use Rattle.zf_term.specs.Definitions.{Schema}
 use Rattle.zf_value.specs.declared.value.Value.{Value}
 use Rattle.zf_walk.specs.Events.{Event}
-use Rattle.zf_walk.specs.Progress.{Stage}
+use Rattle.zf_term.specs.ResolvedTrees.{resolved_of}
+use Rattle.zf_value.specs.Sets.{value_order}
+use Rattle.zf_walk.specs.Progress.{AreAllAhead, Stage}
+use Rattle.zf_walk.specs.Tests.{IsNumberOfTests, cut}
+use Rattle.zf_plan.specs.Alike.{SayTheSame}
 use Rattle.zf_meaning.specs.Environments.{Environment}
 use Rattle.zf_enum.specs.declared.bindings.Bindings.{Bindings}
-use Rattle.zf_enum.specs.Searches.{Goal, counted_goal}
-use Rattle.zf_enum.specs.Starts.{Begins, BeginsCounting}
+use Rattle.zf_enum.specs.Property.{property}
+use Rattle.zf_enum.specs.Searches.{Goal, conjuncts_of, counted_goal}
 use Rattle.zf_lines.specs.declared.fault.Status.{Status}
 use Rattle.zf_lines.specs.Faults.{AppendsFront}
-use Rattle.zf_lines.specs.Searches.{HasEvents, IsBegun, IsTestsLine, IsWritten}
+use Rattle.zf_lines.specs.Searches.{AreEventsUpTo, IsBegun, IsWritten}
+use Rattle.zf_lines.specs.Texts.{tests_line}
 
 -- a limit is at least 1
 abbrev pub HasLimit : Option ℕ → Type 0
 HasLimit None = Unit {0}
 HasLimit (Some limit) = 0 < limit
 
--- the search for the bindings of the schema is at its beginning
-abbrev pub IsAtStart : Schema → Goal → Stage Value → Type 0
-IsAtStart a g b = Begins g.environment a b.after g b
+-- the search for the bindings of the schema that lie in its ranges and come after its row is at its beginning
+pub record IsAtStart (a : Schema) (g : Goal) (b : Stage Value) : Type 0 where
+  pub same : SayTheSame (conjuncts_of g) (property g.environment a.conjuncts)
+  pub ahead : AreAllAhead value_order (property g.environment a.conjuncts) b.ranges b.after b.ahead
+  pub first : b.last ≡ None
 
 -- the same of one that counts its tests
-abbrev pub IsCountingAtStart : Schema → Bindings → Type 0
-IsCountingAtStart a b = BeginsCounting (counted_goal b.walk).environment a b.walk.stage.after b
+pub record IsCountingAtStart (a : Schema) (b : Bindings) : Type 0 where
+  pub starts : IsAtStart a (counted_goal b.walk) b.walk.stage
+  pub conjuncts : map resolved_of b.walk.judge.conjuncts.items ≡ a.conjuncts
+  pub untested : b.walk.tests ≡ 0
+
+-- the events of such a search up to a whole row, or all of them
+abbrev pub FindsEvents : Environment → Schema → Stage Value → (whole : Option (List Value)) → List (Event Value) → Type 0
+FindsEvents e a b whole events = AreEventsUpTo value_order (property e a.conjuncts) b.ranges b.after whole events
+
+-- the line of the number of its tests up to a whole row, or of all, if it is asked for
+abbrev pub TellsTests : (tests : Bool) → Environment → Schema → Stage Value → (whole : Option (List Value)) → List ℕ → Type 0
+TellsTests false e a b whole text = text ≡ []
+TellsTests true e a b whole text = (number : ℕ) × IsNumberOfTests value_order (property e a.conjuncts) b.ranges b.after whole number × (text ≡ tests_line (cut number))
 
 -- nothing, or the first lines of a search
-abbrev pub IsSome : (List Value → List ℕ) → (limit : Option ℕ) → Environment → Schema → (after : Option (List Value)) → List ℕ → Type 0
-IsSome line limit e a after text = (text ≡ []) ⊎ ((events : List (Event Value)) × (last : Option (List Value)) × HasEvents e a after last events × IsBegun line limit events last text)
+abbrev pub IsSome : (List Value → List ℕ) → (limit : Option ℕ) → Environment → Schema → (b : Stage Value) → List ℕ → Type 0
+IsSome line limit e a b text = (text ≡ []) ⊎ ((events : List (Event Value)) × (last : Option (List Value)) × FindsEvents e a b last events × IsBegun line limit events last text)
 
 -- what is written when the lines stop early: a front of the first lines
-abbrev pub StopsLines : (List Value → List ℕ) → (limit : Option ℕ) → Environment → Schema → (after : Option (List Value)) → Option (List ℕ) → Option (List ℕ) → Type 0
-StopsLines line limit e a after old new = (text : List ℕ) × IsSome line limit e a after text × AppendsFront old new text
+abbrev pub StopsLines : (List Value → List ℕ) → (limit : Option ℕ) → Environment → Schema → (b : Stage Value) → Option (List ℕ) → Option (List ℕ) → Type 0
+StopsLines line limit e a b old new = (text : List ℕ) × IsSome line limit e a b text × AppendsFront old new text
 
 -- the text and the status of the whole search
-pub record WritesAll (line : List Value → List ℕ) (limit : Option ℕ) (tests : Bool) (e : Environment) (a : Schema) (after : Option (List Value)) (text : List ℕ) (status : Status) : Type 0 where
+pub record WritesAll (line : List Value → List ℕ) (limit : Option ℕ) (tests : Bool) (e : Environment) (a : Schema) (b : Stage Value) (text : List ℕ) (status : Status) : Type 0 where
   pub last : Option (List Value)
   pub events : List (Event Value)
   pub written : List ℕ
   pub counted : List ℕ
-  pub listed : HasEvents e a after last events
+  pub listed : FindsEvents e a b last events
   pub ends : IsWritten line limit events last written status
-  pub numbered : IsTestsLine tests e a after last counted
+  pub numbered : TellsTests tests e a b last counted
   pub whole : text ≡ written ++ counted
 
-abbrev pub StopsShown : (List Value → List ℕ) → (limit : Option ℕ) → (tests : Bool) → Environment → Schema → (after : Option (List Value)) → Option (List ℕ) → Option (List ℕ) → Type 0
-StopsShown line limit tests e a after old new = StopsLines line limit e a after old new
-    ⊎ ((text : List ℕ) × (status : Status) × WritesAll line limit tests e a after text status × AppendsFront old new text)
+abbrev pub StopsShown : (List Value → List ℕ) → (limit : Option ℕ) → (tests : Bool) → Environment → Schema → (b : Stage Value) → Option (List ℕ) → Option (List ℕ) → Type 0
+StopsShown line limit tests e a b old new = StopsLines line limit e a b old new
+    ⊎ ((text : List ℕ) × (status : Status) × WritesAll line limit tests e a b text status × AppendsFront old new text)

@@ -37,8 +37,8 @@ pub fn show<S: Search, W: Write>(
     requires unfailed { failures_of writer.old ≡ 0 }
     requires start { IsAtStart (schema_of flat.now) (S.goal search.old) (S.stage search.old) }
     requires limited { HasLimit limit }
-    ensures ok { IfOk result (λ status. (text : List ℕ) × WritesAll (binding_line elements.now (schema_of flat.now).comps) limit false (S.goal search.old).environment (schema_of flat.now) (S.stage search.old).after text status × Appends (W.contents (device_of writer.old)) (W.contents (device_of writer.new)) text) }
-    ensures err { OnErr result (StopsShown (binding_line elements.now (schema_of flat.now).comps) limit false (S.goal search.old).environment (schema_of flat.now) (S.stage search.old).after (W.contents (device_of writer.old)) (W.contents (device_of writer.new))) }
+    ensures ok { IfOk result (λ status. (text : List ℕ) × WritesAll (binding_line elements.now (schema_of flat.now).comps) limit false (S.goal search.old).environment (schema_of flat.now) (S.stage search.old) text status × Appends (W.contents (device_of writer.old)) (W.contents (device_of writer.new)) text) }
+    ensures err { OnErr result (StopsShown (binding_line elements.now (schema_of flat.now).comps) limit false (S.goal search.old).environment (schema_of flat.now) (S.stage search.old) (W.contents (device_of writer.old)) (W.contents (device_of writer.new))) }
     ensures count { failures_of writer.new ≡ write_failures result }
     ensures unread { read_failures result ≡ 0 }
 {
@@ -62,8 +62,8 @@ pub fn show_with_tests<W: Write>(
     requires unfailed { failures_of writer.old ≡ 0 }
     requires start { IsCountingAtStart (schema_of flat.now) bindings.old }
     requires limited { HasLimit limit }
-    ensures ok { IfOk result (λ status. (text : List ℕ) × WritesAll (binding_line elements.now (schema_of flat.now).comps) limit true (counted_goal bindings.old.walk).environment (schema_of flat.now) bindings.old.walk.stage.after text status × Appends (W.contents (device_of writer.old)) (W.contents (device_of writer.new)) text) }
-    ensures err { OnErr result (StopsShown (binding_line elements.now (schema_of flat.now).comps) limit true (counted_goal bindings.old.walk).environment (schema_of flat.now) bindings.old.walk.stage.after (W.contents (device_of writer.old)) (W.contents (device_of writer.new))) }
+    ensures ok { IfOk result (λ status. (text : List ℕ) × WritesAll (binding_line elements.now (schema_of flat.now).comps) limit true (counted_goal bindings.old.walk).environment (schema_of flat.now) bindings.old.walk.stage text status × Appends (W.contents (device_of writer.old)) (W.contents (device_of writer.new)) text) }
+    ensures err { OnErr result (StopsShown (binding_line elements.now (schema_of flat.now).comps) limit true (counted_goal bindings.old.walk).environment (schema_of flat.now) bindings.old.walk.stage (W.contents (device_of writer.old)) (W.contents (device_of writer.new))) }
     ensures count { failures_of writer.new ≡ write_failures result }
     ensures unread { read_failures result ≡ 0 }
 {
@@ -89,10 +89,10 @@ fn write_lines<S: Search, W: Write>(
     requires unfailed { failures_of writer.old ≡ 0 }
     requires start { IsAtStart (schema_of flat.now) (S.goal search.old) (S.stage search.old) }
     requires limited { HasLimit limit }
-    ensures ok { IfOk result (λ ending. EndsBy (binding_line elements.now (schema_of flat.now).comps) limit (S.goal search.old).environment (schema_of flat.now) (S.stage search.old).after ending (S.stage search.new) (W.contents (device_of writer.old)) (W.contents (device_of writer.new))) }
+    ensures ok { IfOk result (λ ending. EndsBy (binding_line elements.now (schema_of flat.now).comps) limit (S.goal search.old).environment (schema_of flat.now) (S.stage search.old) ending (S.stage search.new) (W.contents (device_of writer.old)) (W.contents (device_of writer.new))) }
     ensures same { OnOk result ((S.goal search.new ≡ S.goal search.old) × SameRanges (S.stage search.old) (S.stage search.new)) }
     ensures counts { OnOk result (S.Counts search.new) }
-    ensures err { OnErr result (StopsLines (binding_line elements.now (schema_of flat.now).comps) limit (S.goal search.old).environment (schema_of flat.now) (S.stage search.old).after (W.contents (device_of writer.old)) (W.contents (device_of writer.new))) }
+    ensures err { OnErr result (StopsLines (binding_line elements.now (schema_of flat.now).comps) limit (S.goal search.old).environment (schema_of flat.now) (S.stage search.old) (W.contents (device_of writer.old)) (W.contents (device_of writer.new))) }
     ensures count { failures_of writer.new ≡ write_failures result }
     ensures unread { read_failures result ≡ 0 }
 {

@@ -4,6 +4,7 @@ use Rattle.zf_term.specs.Definitions.{Defined, Schema}
 use Rattle.zf_value.specs.declared.value.Value.{Value}
 use Rattle.zf_walk.specs.Events.{Event}
 use Rattle.zf_meaning.specs.Environments.{Environment}
+use Rattle.zf_enum.specs.Portions.{Portion}
 use Rattle.zf_texts.specs.BindingTexts.{binding_text}
 use Rattle.zf_texts.specs.Spellings.{spellings}
 use Rattle.zf_lines.specs.Searches.{HasEvents}
@@ -12,5 +13,5 @@ use Rattle.zf_engine.specs.Answers.{Request, IsSearch, IsLineOf}
 -- the text of each event of a search is the line of a row of the schema's types: what the option for the named binding takes
 abbrev pub LinesAreRows : Type 0
 LinesAreRows =
-    (r : Request) (source : List ℕ) (globals : List Defined) (a : Schema) (e : Environment) (after last : Option (List Value)) (events : List (Event Value)) (x : Event Value)
-    → IsSearch r source globals a e after → HasEvents e a after last events → Contains events x → IsLineOf e a.comps (binding_text (spellings e.globals) a.comps x.row) x.row
+    (r : Request) (source : List ℕ) (globals : List Defined) (a : Schema) (e : Environment) (p : Portion) (last : Option (List Value)) (events : List (Event Value)) (x : Event Value)
+    → IsSearch r source globals a e p → HasEvents e a p last events → Contains events x → IsLineOf e a.comps (binding_text (spellings e.globals) a.comps x.row) x.row

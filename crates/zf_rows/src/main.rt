@@ -8,12 +8,13 @@ use std::process::ExitCode;
 use std::rt::Files;
 use std::{fs, io};
 
-static NAMES: [&str; 21] = [
+static NAMES: [&str; 22] = [
     "answers",
     "calculus",
     "command_lines",
     "disjunction",
     "examples",
+    "held",
     "large",
     "limits",
     "meaning",

@@ -14,3 +14,6 @@ pub mod Misfits
 pub mod ValuesAt
 pub mod RegularRows
 pub mod Onward
+pub mod HeldSoFar
+pub mod OneHeld
+pub mod Chosen

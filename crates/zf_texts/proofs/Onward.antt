@@ -10,9 +10,9 @@ use Rattle.zf_value.specs.declared.value.Value.{Value}
 use Rattle.zf_value.specs.Sets.{IsAscending}
 use Rattle.zf_meaning.specs.Environments.{Environment}
 use Rattle.zf_texts.specs.declared.spelling.Spelling.{Spelling}
-use Rattle.zf_texts.specs.ValueTexts.{parted, value_text}
+use Rattle.zf_texts.specs.ValueTexts.{parted, value_text, separator}
 use Rattle.zf_texts.specs.Readings.{IsLineOf, IsNoLine}
-use Rattle.zf_texts.specs.Steps.{separator, IsItem, IsNoItem, IsValueAt, IsNoValue, ArePartsAt, AreNoParts, IsNext, IsNoNext, AreMembersAt, AreNoMembers, IsComponentAt, IsNoComponent, IsNoRest}
+use Rattle.zf_texts.specs.Steps.{IsItem, IsNoItem, IsValueAt, IsNoValue, ArePartsAt, AreNoParts, IsNext, IsNoNext, AreMembersAt, AreNoMembers, IsComponentAt, IsNoComponent, IsNoRest}
 use Rattle.zf_texts.proofs.Printing.{comps-drop, drop-end}
 use Rattle.zf_texts.proofs.Reading.{parts_unseparated, parts_unread, parts_unclosed, members_unseparated, members_unread, members_full}
 use Rattle.zf_texts.proofs.RegularRows.{regular_values}

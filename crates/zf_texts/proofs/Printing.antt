@@ -7,9 +7,9 @@ use Rattle.zf_term.specs.declared.globals.Component.{Component}
 use Rattle.zf_value.specs.declared.value.Value.{Value}
 use Rattle.zf_texts.specs.declared.spelling.Spelling.{Spelling}
 use Rattle.zf_texts.specs.Spellings.{with_spelling, spellings}
-use Rattle.zf_texts.specs.ValueTexts.{later_parts}
+use Rattle.zf_texts.specs.ValueTexts.{later_parts, separator}
 use Rattle.zf_texts.specs.BindingTexts.{component_text, component_texts}
-use Rattle.zf_texts.specs.Steps.{separator, goes_on}
+use Rattle.zf_texts.specs.Steps.{goes_on}
 
 pub goes_on-nil : (n : ℕ) → goes_on n [] ≡ []
 goes_on-nil zero = refl

@@ -8,8 +8,8 @@ use Rattle.zf_value.specs.Sets.{Every, IsAscending, value_order}
 use Rattle.zf_meaning.specs.Environments.{Environment}
 use Rattle.zf_meaning.specs.Rows.{IsOfType}
 use Rattle.zf_texts.specs.declared.spelling.Spelling.{Spelling}
-use Rattle.zf_texts.specs.ValueTexts.{later_parts, value_text}
-use Rattle.zf_texts.specs.Steps.{EndsAs, separator, goes_on, IsNoItem, IsNoValue, AreNoParts, AreMembers, AreNoMembers, IsNoNext}
+use Rattle.zf_texts.specs.ValueTexts.{later_parts, value_text, separator}
+use Rattle.zf_texts.specs.Steps.{EndsAs, goes_on, IsNoItem, IsNoValue, AreNoParts, AreMembers, AreNoMembers, IsNoNext}
 use Rattle.zf_texts.proofs.OneFront.{ends_as, ends_later, one_front}
 use Rattle.zf_texts.proofs.Printing.{goes_on-nil, front, goes_on-later}
 use Rattle.zf_texts.proofs.Spelled.{cancel}

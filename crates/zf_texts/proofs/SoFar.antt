@@ -9,10 +9,10 @@ use Rattle.zf_value.specs.Sets.{Every, IsAscending}
 use Rattle.zf_meaning.specs.Environments.{Environment}
 use Rattle.zf_meaning.specs.Rows.{IsOfType, AreOfTypes, IsRow}
 use Rattle.zf_texts.specs.declared.spelling.Spelling.{Spelling}
-use Rattle.zf_texts.specs.ValueTexts.{parted, later_parts, value_text}
+use Rattle.zf_texts.specs.ValueTexts.{parted, later_parts, value_text, separator}
 use Rattle.zf_texts.specs.BindingTexts.{component_text, component_texts, binding_text}
 use Rattle.zf_texts.specs.Readings.{IsNoLine}
-use Rattle.zf_texts.specs.Steps.{EndsAs, separator, goes_on, IsNoItem, AreNoParts, AreMembers, AreNoMembers, IsNoComponent, IsNoRest}
+use Rattle.zf_texts.specs.Steps.{EndsAs, goes_on, IsNoItem, AreNoParts, AreMembers, AreNoMembers, IsNoComponent, IsNoRest}
 use Rattle.zf_texts.proofs.OneFront.{ends_as}
 use Rattle.zf_texts.proofs.OneRow.{one_component, ends_parts}
 use Rattle.zf_texts.proofs.Printing.{goes_on-nil, goes_on-first, front, goes_on-later}

@@ -1,5 +1,5 @@
 -- What is claimed of the texts alone.
-use Rattle.std.specs.Prelude.{◌≡◌, ℕ, List, ◌++◌}
+use Rattle.std.specs.Prelude.{◌≡◌, ℕ, List, ◌++◌, Option}
 use Rattle.zf_term.specs.Definitions.{Comp}
 use Rattle.zf_term.specs.Types.{Ty}
 use Rattle.zf_value.specs.declared.value.Value.{Value}
@@ -9,6 +9,7 @@ use Rattle.zf_texts.specs.declared.spelling.Spelling.{Spelling}
 use Rattle.zf_texts.specs.ValueTexts.{value_text}
 use Rattle.zf_texts.specs.BindingTexts.{binding_text}
 use Rattle.zf_texts.specs.Clear.{Ends, AreClear}
+use Rattle.zf_texts.specs.Held.{HaveClearNames, IsHeldLine, IsLineOfSome}
 
 -- values of one type with one text are one
 abbrev pub OneValue : Type 0
@@ -21,3 +22,15 @@ OneEnd = (ss : List Spelling) (e : Environment) (t : Ty) (v w : Value) (r s : Li
 -- rows of one schema with one line are one
 abbrev pub OneRow : Type 0
 OneRow = (ss : List Spelling) (e : Environment) (cs : List Comp) (vs ws : List Value) → AreClear ss e.sizes → IsRow e cs vs → IsRow e cs ws → binding_text ss cs vs ≡ binding_text ss cs ws → vs ≡ ws
+
+-- a line of some components holds one list of values
+abbrev pub OneHeldLine : Type 0
+OneHeldLine = (ss : List Spelling) (e : Environment) (cs : List Comp) (text : List ℕ) (held other : List (Option Value)) → AreClear ss e.sizes → IsHeldLine ss e cs text held → IsHeldLine ss e cs text other → held ≡ other
+
+-- it is the line of the row of these values, of the components of which they are held
+abbrev pub HeldIsLine : Type 0
+HeldIsLine = (ss : List Spelling) (e : Environment) (cs : List Comp) (text : List ℕ) (held : List (Option Value)) → IsHeldLine ss e cs text held → IsLineOfSome ss e cs text held
+
+-- and where names are clear each such line is one
+abbrev pub LineIsHeld : Type 0
+LineIsHeld = (ss : List Spelling) (e : Environment) (cs : List Comp) (text : List ℕ) (held : List (Option Value)) → HaveClearNames cs → IsLineOfSome ss e cs text held → IsHeldLine ss e cs text held

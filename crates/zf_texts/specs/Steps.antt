@@ -1,5 +1,5 @@
 -- What the steps of printing and reading say. No public clause rests on this file.
-use Rattle.std.specs.Prelude.{◌≡◌, ℕ, suc, zero, ◌+◌, ◌≤◌, Bool, true, false, ◌||◌, ◌<◌, ◌==◌, List, [], ◌∷◌, ◌++◌, length, map, drop, codes, Some, slice_get}
+use Rattle.std.specs.Prelude.{◌≡◌, ℕ, suc, zero, ◌+◌, ◌≤◌, Bool, true, false, ◌||◌, ◌<◌, ◌==◌, List, [], ◌∷◌, ◌++◌, length, map, drop, codes, Option, Some, None, slice_get}
 use Rattle.std.specs.List.{list_all}
 use Rattle.zf_term.specs.Definitions.{Comp}
 use Rattle.zf_term.specs.Types.{Ty, int, basic, power, product, Tys}
@@ -10,9 +10,10 @@ use Rattle.zf_meaning.specs.Environments.{Environment, type_number}
 use Rattle.zf_meaning.specs.Rows.{IsElement, IsOfType, AreOfTypes, IsRow}
 use Rattle.zf_texts.specs.declared.spelling.Spelling.{Spelling}
 use Rattle.zf_texts.specs.Spellings.{spelled}
-use Rattle.zf_texts.specs.ValueTexts.{parted, later_parts, value_text}
+use Rattle.zf_texts.specs.ValueTexts.{parted, later_parts, separator, value_text}
 use Rattle.zf_texts.specs.BindingTexts.{component_text, component_texts}
 use Rattle.zf_texts.specs.Clear.{is_in_word, Ends, IsClear, AreClear}
+use Rattle.zf_texts.specs.Held.{IsNamedNext}
 
 -- what may stand behind the text of a value of the type: behind a word none goes on
 abbrev pub EndsAs : Ty → List ℕ → Type 0
@@ -31,10 +32,6 @@ Closes [] = Unit {0}
 Closes (b ∷ r) = (is_in_word b ≡ false) × (is_opening b ≡ false)
 
 -- ---- parts behind so many others
-
-abbrev pub separator : ℕ → List ℕ
-separator zero = []
-separator (suc n) = codes ", "
 
 abbrev pub goes_on : ℕ → List (List ℕ) → List ℕ
 goes_on zero ts = parted ts
@@ -137,3 +134,38 @@ IsNoComponent ss e c bytes = AreClear ss e.sizes → (v : Value) (rest : List �
 -- behind n components the bytes are not the rest of a line
 unfoldable pub IsNoRest : List Spelling → Environment → List Comp → ℕ → List ℕ → Type 0
 IsNoRest ss e cs n bytes = AreClear ss e.sizes → (vs : List Value) → IsRow e cs vs → bytes ≡ goes_on n (component_texts ss cs vs) → ⊥
+
+-- ---- the values that a line of some components holds
+
+-- the bytes begin with the name, and no word goes on behind it
+abbrev pub BeginsWithName : List ℕ → List ℕ → Type 0
+BeginsWithName name bytes = (rest : List ℕ) × Ends rest × (bytes ≡ name ++ rest)
+
+-- a word goes on with the bytes
+unfoldable pub GoesOn : List ℕ → Type 0
+GoesOn bytes = Ends bytes → ⊥
+
+unfoldable pub BeginsWithoutName : List ℕ → List ℕ → Type 0
+BeginsWithoutName name bytes = BeginsWithName name bytes → ⊥
+
+-- the component is named next, from this place on
+pub record IsNamedAt (c : Comp) (bytes : List ℕ) (n place start : ℕ) : Type 0 where
+  pub stands : IsItem bytes place (separator n) start
+  pub named : BeginsWithName c.name (drop start bytes)
+
+unfoldable pub IsNotNamed : Comp → ℕ → List ℕ → Type 0
+IsNotNamed c n bytes = IsNamedNext c n bytes → ⊥
+
+-- of a component that is named next the line holds a value, up to this place
+pub record IsHeldAt (ss : List Spelling) (e : Environment) (c : Comp) (bytes : List ℕ) (n place : ℕ) (v : Value) (end : ℕ) : Type 0 where
+  pub start : ℕ
+  pub named : IsNamedAt c bytes n place start
+  pub held : IsComponentAt ss e c bytes start v end
+
+abbrev pub HoldsIfNamed : List Spelling → Environment → Comp → List ℕ → ℕ → ℕ → Option (Value × ℕ) → Type 0
+HoldsIfNamed ss e c bytes n place None = IsNotNamed c n (drop place bytes)
+HoldsIfNamed ss e c bytes n place (Some (v, end)) = IsHeldAt ss e c bytes n place v end
+
+-- the component is named next, and no value of it follows
+unfoldable pub HoldsNothing : List Spelling → Environment → Comp → ℕ → List ℕ → Type 0
+HoldsNothing ss e c n bytes = (mid : List ℕ) × (bytes ≡ separator n ++ mid) × BeginsWithName c.name mid × IsNoComponent ss e c mid

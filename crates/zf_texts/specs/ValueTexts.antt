@@ -1,5 +1,5 @@
 -- The texts of values.
-use Rattle.std.specs.Prelude.{ℕ, List, [], ◌∷◌, ◌++◌, codes}
+use Rattle.std.specs.Prelude.{ℕ, zero, suc, List, [], ◌∷◌, ◌++◌, codes}
 use Rattle.std.specs.Fmt.{signed_decimal}
 use Rattle.zf_value.specs.declared.value.Value.{Value, fold-Value}
 use Rattle.zf_value.specs.declared.value.Value.TheOpen.{Value-F}
@@ -22,6 +22,11 @@ value_step ss (Value-F.Int n) = signed_decimal n
 value_step ss (Value-F.Elem n i) = element_text ss n i
 value_step ss (Value-F.Tuple texts) = codes "(" ++ parted texts ++ codes ")"
 value_step ss (Value-F.SetOf texts) = codes "{" ++ parted texts ++ codes "}"
+
+-- what stands before a part behind n others
+abbrev pub separator : ℕ → List ℕ
+separator zero = []
+separator (suc n) = codes ", "
 
 unfoldable pub value_text : List Spelling → Value → List ℕ
 value_text ss = fold-Value (List ℕ) (value_step ss)

@@ -3,6 +3,7 @@
 
 mod elements;
 mod fault;
+mod held;
 pub mod laws;
 mod printed;
 mod read;
@@ -10,6 +11,7 @@ mod spelling;
 mod words;
 
 pub use fault::AfterFault;
+pub use held::read_held;
 pub use printed::{append_binding, append_value, binding_text};
 pub use read::read_binding;
 pub use spelling::{Spelling, spellings_of};

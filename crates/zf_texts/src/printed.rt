@@ -4,8 +4,7 @@ ghost use Rattle.std.specs.Fmt.{signed_decimal};
 ghost use Rattle.zf_term.specs.Definitions.{comp_of, schema_of};
 ghost use Rattle.zf_texts.specs.BindingTexts as spec;
 ghost use Rattle.zf_texts.specs.Spellings.{spelled, spelled_if, element_text};
-ghost use Rattle.zf_texts.specs.Steps.{separator};
-ghost use Rattle.zf_texts.specs.ValueTexts.{parted, value_text};
+ghost use Rattle.zf_texts.specs.ValueTexts.{parted, value_text, separator};
 
 use crate::spelling::Spelling;
 use itoa::Buffer;

@@ -45,7 +45,8 @@ pub fn read_binding(
     Ok(row)
 }
 
-fn read_component(
+/// The value of the component at the place, and the place behind it.
+pub(crate) fn read_component(
     alloc: Global,
     text: &[u8],
     place: usize,

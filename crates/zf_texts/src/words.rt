@@ -4,7 +4,8 @@ ghost use Rattle.std.specs.Fmt.{signed_decimal};
 ghost use Rattle.std.specs.Int.{w64};
 ghost use Rattle.zf_texts.specs.Clear as spec;
 ghost use Rattle.zf_texts.specs.Readings.{IfMisfit};
-ghost use Rattle.zf_texts.specs.Steps.{IsItem, IsNoItem, IsWordAt, separator};
+ghost use Rattle.zf_texts.specs.Steps.{IsItem, IsNoItem, IsWordAt};
+ghost use Rattle.zf_texts.specs.ValueTexts.{separator};
 
 use crate::fault::AfterFault;
 use itoa::Buffer;

@@ -1,7 +1,7 @@
 -- The rows that a search finds have the types of the schema's components.
-use Rattle.std.specs.Prelude.{◌≡◌, ℕ, List, Option, Some, slice_get}
+use Rattle.std.specs.Prelude.{◌≡◌, ℕ, List, [], ◌∷◌, MatchOption, Option, Some, slice_get}
 use Rattle.zf_tree.specs.Trees.{BoxTree}
-use Rattle.zf_term.specs.Definitions.{Defined, Schema, schema}
+use Rattle.zf_term.specs.Definitions.{Comp, Defined, Schema, schema}
 use Rattle.zf_type.specs.declared.fault.TypeFault.{TypeFault}
 use Rattle.zf_value.specs.declared.value.Value.{Value}
 use Rattle.zf_value.specs.Sets.{value_order}
@@ -10,34 +10,39 @@ use Rattle.zf_walk.specs.Rows.{IsRowOf}
 use Rattle.zf_meaning.specs.declared.sizes.Size.{Size}
 use Rattle.zf_meaning.specs.Environments.{Environment}
 use Rattle.zf_meaning.specs.GlobalOutcomes.{IsEnvironment}
-use Rattle.zf_meaning.specs.Rows.{IsRow}
+use Rattle.zf_meaning.specs.Rows.{IsOfType, IsRow}
 use Rattle.zf_enum.specs.Property.{property}
-use Rattle.zf_enum.specs.Ranges.{AreRanges}
+use Rattle.zf_enum.specs.Ranges.{AreRanges, first_held, later_held}
 use Rattle.zf_schema.specs.Checking.{IsChecked}
 use Rattle.zf_schema.specs.SchemaLaws.{AreDefinedOnce}
 use Rattle.zf_schema.specs.WellTypedGlobals.{AreWellTyped}
 
+-- each value that is held of a component is of its type
+abbrev pub AreHeldTyped : Environment → List Comp → List (Option Value) → Type 0
+AreHeldTyped e [] held = Unit {0}
+AreHeldTyped e (c ∷ cs) held = MatchOption (first_held held) (Unit {0}) (IsOfType e c.type) × AreHeldTyped e cs (later_held held)
+
 -- of a schema among well typed globals, each row of the ranges of its components has a value of its type for each of them
 abbrev pub RowsTyped : Type 0
 RowsTyped =
-    (g : List Defined) (stated : List Size) (e : Environment) (place : ℕ) (name : List ℕ) (a : Schema) (ranges : List (List Value)) (row : List Value)
+    (g : List Defined) (stated : List Size) (e : Environment) (place : ℕ) (name : List ℕ) (a : Schema) (held : List (Option Value)) (ranges : List (List Value)) (row : List Value)
     → AreWellTyped g → AreDefinedOnce g → IsEnvironment g stated e
-    → slice_get g place ≡ Some (record { name = name; definition = schema a }) → AreRanges e a.comps ranges
+    → slice_get g place ≡ Some (record { name = name; definition = schema a }) → AreHeldTyped e a.comps held → AreRanges e a.comps held ranges
     → IsRowOf ranges row → IsRow e a.comps row
 
 -- so has the row of each event
 abbrev pub EventsTyped : Type 0
 EventsTyped =
-    (g : List Defined) (stated : List Size) (e : Environment) (place : ℕ) (name : List ℕ) (a : Schema) (ranges : List (List Value)) (after : Option (List Value)) (x : Event Value)
+    (g : List Defined) (stated : List Size) (e : Environment) (place : ℕ) (name : List ℕ) (a : Schema) (held : List (Option Value)) (ranges : List (List Value)) (after : Option (List Value)) (x : Event Value)
     → AreWellTyped g → AreDefinedOnce g → IsEnvironment g stated e
-    → slice_get g place ≡ Some (record { name = name; definition = schema a }) → AreRanges e a.comps ranges
+    → slice_get g place ≡ Some (record { name = name; definition = schema a }) → AreHeldTyped e a.comps held → AreRanges e a.comps held ranges
     → IsEvent value_order (property e a.conjuncts) ranges after x → IsRow e a.comps x.row
 
 -- and of a schema that a text defines
 abbrev pub EventsOfTextsTyped : Type 0
 EventsOfTextsTyped =
     (boxes : List BoxTree) (g : List Defined) (faults : List TypeFault) (stated : List Size) (e : Environment) (place : ℕ) (name : List ℕ) (a : Schema)
-    (ranges : List (List Value)) (after : Option (List Value)) (x : Event Value)
+    (held : List (Option Value)) (ranges : List (List Value)) (after : Option (List Value)) (x : Event Value)
     → IsChecked boxes g faults → IsEnvironment g stated e
-    → slice_get g place ≡ Some (record { name = name; definition = schema a }) → AreRanges e a.comps ranges
+    → slice_get g place ≡ Some (record { name = name; definition = schema a }) → AreHeldTyped e a.comps held → AreRanges e a.comps held ranges
     → IsEvent value_order (property e a.conjuncts) ranges after x → IsRow e a.comps x.row

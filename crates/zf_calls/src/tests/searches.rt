@@ -108,7 +108,7 @@ fn begun<'e, 'g, 'a>(
     let Ok(()) = finite(schema, globals) else {
         return Err(Fail::new("not finite"));
     };
-    match Bindings::start(alloc, arena, schema, env, None) {
+    match Bindings::start(alloc, arena, schema, env, None, &[]) {
         Ok(bindings) => Ok(bindings),
         Err(StartFault::OutOfMemory) => Err(Fail::new("out of memory")),
         Err(StartFault::DeclaredOut(_)) => Err(Fail::new("a declared set is out")),
@@ -131,7 +131,7 @@ fn begun_uncounted<'e, 'g, 'a>(
     let Ok(()) = finite(schema, globals) else {
         return Err(Fail::new("not finite"));
     };
-    match Instances::start(alloc, arena, schema, env, None) {
+    match Instances::start(alloc, arena, schema, env, None, &[]) {
         Ok(instances) => Ok(instances),
         Err(StartFault::OutOfMemory) => Err(Fail::new("out of memory")),
         Err(StartFault::DeclaredOut(_)) => Err(Fail::new("a declared set is out")),

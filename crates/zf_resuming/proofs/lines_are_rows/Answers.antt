@@ -1,16 +1,5 @@
-use Rattle.std.proofs.Common.{refl}
-use Rattle.zf_term.specs.Definitions.{schema}
-use Rattle.zf_typed.proofs.Rows.{events_of_texts_typed}
-use Rattle.zf_engine.specs.Answers.{stated}
-use Rattle.zf_engine.proofs.OwnComponents.{named_at}
+use Rattle.zf_resuming.proofs.Rows.{lines_are_rows}
 use Rattle.zf_resuming.proofs.lines_are_rows.Goals as goal
 
 pub returns : goal.returns
-returns c = λ r source globals a e after last events x search has member.
-    let asked = search.asked in
-    let named = asked.has_schema.named in
-    let checks = asked.has_schema.checks in (
-      events_of_texts_typed checks.boxes globals _ (stated r.sizes) e named.0 r.name a has.ranges after x checks.judged asked.environment
-          (named_at r.name globals (named.0, record { name = r.name; definition = schema a }) named.1) has.of_components ((has.listed.members x).0 member).0,
-      refl,
-    )
+returns c = lines_are_rows

@@ -2,7 +2,9 @@ use Rattle.std.proofs.Common.{false, rules}
 use Rattle.std.specs.Option.{option_copied}
 use Rattle.zf_meaning.specs.Envs.{environment_of}
 use Rattle.zf_term.specs.Definitions.{schema_of}
+use Rattle.zf_enum.specs.Portions.{portion}
 use Rattle.zf_enum.specs.Searches.{counted_goal, planted_goal}
+use Rattle.zf_lines.proofs.Beginning.{at_start}
 use Rattle.zf_engine.specs.Stops.{request_of}
 use Rattle.zf_engine.proofs.DueWithin.{due_within}
 use Rattle.zf_engine.proofs.NamedRows.{named_length}
@@ -18,18 +20,24 @@ begin-requires-clause-due g c =
     let is = c.requires.asked.1 in
     due_within (environment_of c.args.env.now) (environment_of c.args.env.now).globals (request_of c.args.request.now).name (schema_of c.args.schema.now) (well_typed _ _ is.has_schema.checks) is.has_schema.named
 
+pub show-requires-clause-start : goal.show-requires-clause-start
+show-requires-clause-start g c = at_start _ _ _ _ _ (rw c.in-Walked.is at c.in-Ok.ensures.begins)
+
+pub show-in-Planted-requires-clause-start : goal.show-in-Planted-requires-clause-start
+show-in-Planted-requires-clause-start g c = at_start _ _ _ _ _ (rw c.in-Planted.is at c.in-Ok.ensures.begins)
+
 pub returns-in-Walked-clause-shows : goal.returns-in-Walked-clause-shows
 returns-in-Walked-clause-shows g c = λ file source is.
-    shown (request_of c.args.request.now) file source (schema_of c.args.schema.now) (counted_goal c.in-Walked.found.walk) c.in-Walked.found.walk.stage c.args.elements.now (environment_of c.args.env.now) (option_copied c.args.after)
-    is c.requires.named (rw c.in-Walked.is at c.in-Ok.ensures.begins) c.requires.elements false _ _ _ (search rules) c.show.ensures.ok c.show.ensures.err
+    shown (request_of c.args.request.now) file source (schema_of c.args.schema.now) (counted_goal c.in-Walked.found.walk) c.in-Walked.found.walk.stage c.args.elements.now (environment_of c.args.env.now) (portion (option_copied c.args.after) c.args.held.now)
+    is c.requires.named c.requires.held (rw c.in-Walked.is at c.in-Ok.ensures.begins) c.requires.elements false _ _ _ (search rules) c.show.ensures.ok c.show.ensures.err
 
 pub returns-in-Planted-clause-shows : goal.returns-in-Planted-clause-shows
 returns-in-Planted-clause-shows g c = λ file source is.
-    shown (request_of c.args.request.now) file source (schema_of c.args.schema.now) (planted_goal c.in-Planted.found.names c.in-Planted.found.search) c.in-Planted.found.search.stage c.args.elements.now (environment_of c.args.env.now) (option_copied c.args.after)
-    is c.requires.named (rw c.in-Planted.is at c.in-Ok.ensures.begins) c.requires.elements false _ _ _ (search rules) c.show-in-Planted.ensures.ok c.show-in-Planted.ensures.err
+    shown (request_of c.args.request.now) file source (schema_of c.args.schema.now) (planted_goal c.in-Planted.found.names c.in-Planted.found.search) c.in-Planted.found.search.stage c.args.elements.now (environment_of c.args.env.now) (portion (option_copied c.args.after) c.args.held.now)
+    is c.requires.named c.requires.held (rw c.in-Planted.is at c.in-Ok.ensures.begins) c.requires.elements false _ _ _ (search rules) c.show-in-Planted.ensures.ok c.show-in-Planted.ensures.err
 
 pub returns-in-Err-clause-shows : goal.returns-in-Err-clause-shows
 returns-in-Err-clause-shows g c = λ file source is.
     told (request_of c.args.request.now) file source c.in-Err.stop _ _ _
-    (out_answers (request_of c.args.request.now) file source _ (schema_of c.args.schema.now) (environment_of c.args.env.now) is (option_copied c.args.after) c.requires.named c.in-Err.stop c.in-Err.ensures.stop)
+    (out_answers (request_of c.args.request.now) file source _ (schema_of c.args.schema.now) (environment_of c.args.env.now) is (portion (option_copied c.args.after) c.args.held.now) c.requires.named c.requires.held c.in-Err.stop c.in-Err.ensures.stop)
     c.tell.ensures.told

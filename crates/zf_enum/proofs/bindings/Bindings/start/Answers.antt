@@ -13,26 +13,26 @@ use Rattle.zf_enum.proofs.Started.{ranges_ascend, named_within, due_within, ahea
 use Rattle.zf_enum.proofs.bindings.Bindings.start.Goals as goal
 
 pub over-requires-clause-ascending : goal.over-requires-clause-ascending
-over-requires-clause-ascending c = ranges_ascend (environment_of c.args.env.now) _ c.in_ok-ranges.ranges.items c.in_ok-ranges.ensures.is.0
+over-requires-clause-ascending c = ranges_ascend (environment_of c.args.env.now) _ c.args.held.now c.in_ok-ranges.ranges.items c.in_ok-ranges.ensures.is.0
 
 pub over-requires-clause-named : goal.over-requires-clause-named
 over-requires-clause-named c =
     let e = environment_of c.args.env.now in
-    let all = subst (λ (ds : List Component). AreAllRanges e (map comp_of ds) c.in_ok-ranges.ranges.items) c.as_slice.ensures c.in_ok-ranges.ensures.is in
-    named_within e (schema_of c.args.flat.now).comps c.in_ok-ranges.ranges.items (option_copied c.args.after) all.0 c.requires.named
+    let all = subst (λ (ds : List Component). AreAllRanges e (map comp_of ds) c.args.held.now c.in_ok-ranges.ranges.items) c.as_slice.ensures c.in_ok-ranges.ensures.is in
+    named_within e (schema_of c.args.flat.now).comps c.args.held.now c.in_ok-ranges.ranges.items (option_copied c.args.after) all.0 c.requires.named
 
 pub over-requires-clause-due : goal.over-requires-clause-due
 over-requires-clause-due c =
     let e = environment_of c.args.env.now in
-    let all = subst (λ (ds : List Component). AreAllRanges e (map comp_of ds) c.in_ok-ranges.ranges.items) c.as_slice.ensures c.in_ok-ranges.ensures.is in
-    due_within e (schema_of c.args.flat.now).comps c.in_ok-ranges.ranges.items (schema_of c.args.flat.now).conjuncts (map resolved_of c.in_ok-conjuncts.conjuncts.items) all.0
+    let all = subst (λ (ds : List Component). AreAllRanges e (map comp_of ds) c.args.held.now c.in_ok-ranges.ranges.items) c.as_slice.ensures c.in_ok-ranges.ensures.is in
+    due_within e (schema_of c.args.flat.now).comps c.args.held.now c.in_ok-ranges.ranges.items (schema_of c.args.flat.now).conjuncts (map resolved_of c.in_ok-conjuncts.conjuncts.items) all.0
     (c.in_ok-conjuncts.ensures ∙ ap (map conjunct_of) c.as_slice-2.ensures) c.requires.due
 
 pub returns-clause-begins : goal.returns-clause-begins
 returns-clause-begins c =
     let e = environment_of c.args.env.now in
     let s = schema_of c.args.flat.now in
-    let all = subst (λ (ds : List Component). AreAllRanges e (map comp_of ds) c.in_ok-ranges.ranges.items) c.as_slice.ensures c.in_ok-ranges.ensures.is in
+    let all = subst (λ (ds : List Component). AreAllRanges e (map comp_of ds) c.args.held.now c.in_ok-ranges.ranges.items) c.as_slice.ensures c.in_ok-ranges.ensures.is in
     let conjuncts = c.in_ok-conjuncts.ensures ∙ ap (map conjunct_of) c.as_slice-2.ensures in
     let walk = c.in_ok-over.field-0.walk in
     let problem = c.in_ok-over.ensures.problem in
@@ -42,7 +42,7 @@ returns-clause-begins c =
       begins = record {
         environment = here;
         same = say_alike _ e _ s.conjuncts here these;
-        ranges = subst (λ (rs : List (List Value)). AreRanges e s.comps rs) (sym problem.1) all.0;
+        ranges = subst (λ (rs : List (List Value)). AreRanges e s.comps c.args.held.now rs) (sym problem.1) all.0;
         named = problem.2;
         none_out = all.1;
         ahead = ahead_of e s.conjuncts (map resolved_of c.in_ok-conjuncts.conjuncts.items) c.in_ok-ranges.ranges.items walk.stage.ranges (option_copied c.args.after) walk.stage.ahead conjuncts problem.1 c.in_ok-over.ensures.events;

@@ -30,13 +30,13 @@ lifted-requires c =
     let e = environment_of c.args.env.now in
     let s = schema_of c.args.flat.now in
     let rs = c.in_ok-ranges.ranges.items in
-    let all = subst (λ (ds : List Component). AreAllRanges e (map comp_of ds) rs) c.as_slice.ensures c.in_ok-ranges.ensures.is in
+    let all = subst (λ (ds : List Component). AreAllRanges e (map comp_of ds) c.args.held.now rs) c.as_slice.ensures c.in_ok-ranges.ensures.is in
     let p = c.in_ok-planting.planting in
     let are_planted = subst (λ (cs : List Conjunct). ArePlanted (map conjunct_of cs) p.leaves.items (trees_of p.forest)) c.as_slice-2.ensures c.in_ok-planting.ensures in
-    record { small = λ k. omega (arith, are_planted.needs (length rs) (needs_within e s.comps rs s.conjuncts all.0 c.requires.due) k, c.in_ok-ranges.ranges.small) }
+    record { small = λ k. omega (arith, are_planted.needs (length rs) (needs_within e s.comps c.args.held.now rs s.conjuncts all.0 c.requires.due) k, c.in_ok-ranges.ranges.small) }
 
 pub start-requires-clause-ascending : goal.start-requires-clause-ascending
-start-requires-clause-ascending c = ranges_ascend (environment_of c.args.env.now) _ c.in_ok-ranges.ranges.items c.in_ok-ranges.ensures.is.0
+start-requires-clause-ascending c = ranges_ascend (environment_of c.args.env.now) _ c.args.held.now c.in_ok-ranges.ranges.items c.in_ok-ranges.ensures.is.0
 
 pub start-requires-clause-ties : goal.start-requires-clause-ties
 start-requires-clause-ties c = exact
@@ -44,19 +44,19 @@ start-requires-clause-ties c = exact
 pub start-requires-clause-named : goal.start-requires-clause-named
 start-requires-clause-named c =
     let e = environment_of c.args.env.now in
-    let all = subst (λ (ds : List Component). AreAllRanges e (map comp_of ds) c.in_ok-ranges.ranges.items) c.as_slice.ensures c.in_ok-ranges.ensures.is in
-    named_within e (schema_of c.args.flat.now).comps c.in_ok-ranges.ranges.items (option_copied c.args.after) all.0 c.requires.named
+    let all = subst (λ (ds : List Component). AreAllRanges e (map comp_of ds) c.args.held.now c.in_ok-ranges.ranges.items) c.as_slice.ensures c.in_ok-ranges.ensures.is in
+    named_within e (schema_of c.args.flat.now).comps c.args.held.now c.in_ok-ranges.ranges.items (option_copied c.args.after) all.0 c.requires.named
 
 pub start-requires-clause-due : goal.start-requires-clause-due
 start-requires-clause-due c =
     let e = environment_of c.args.env.now in
     let s = schema_of c.args.flat.now in
     let rs = c.in_ok-ranges.ranges.items in
-    let all = subst (λ (ds : List Component). AreAllRanges e (map comp_of ds) rs) c.as_slice.ensures c.in_ok-ranges.ensures.is in
+    let all = subst (λ (ds : List Component). AreAllRanges e (map comp_of ds) c.args.held.now rs) c.as_slice.ensures c.in_ok-ranges.ensures.is in
     let p = c.in_ok-planting.planting in
     let are_planted = subst (λ (cs : List Conjunct). ArePlanted (map conjunct_of cs) p.leaves.items (trees_of p.forest)) c.as_slice-2.ensures c.in_ok-planting.ensures in
     let named = c.in_ok-property.property in
-    λ k l. omega (arith, dues_at (environment_of named.env.now) e (map resolved_of named.conjuncts.items) (map resolved_of p.leaves.items) c.in_ok-property.ensures.each k, are_planted.needs (length rs) (needs_within e s.comps rs s.conjuncts all.0 c.requires.due) k)
+    λ k l. omega (arith, dues_at (environment_of named.env.now) e (map resolved_of named.conjuncts.items) (map resolved_of p.leaves.items) c.in_ok-property.ensures.each k, are_planted.needs (length rs) (needs_within e s.comps c.args.held.now rs s.conjuncts all.0 c.requires.due) k)
 
 pub start-requires-clause-leaves : goal.start-requires-clause-leaves
 start-requires-clause-leaves c =
@@ -73,7 +73,7 @@ returns-clause-begins c =
     let e = environment_of c.args.env.now in
     let s = schema_of c.args.flat.now in
     let rs = c.in_ok-ranges.ranges.items in
-    let all = subst (λ (ds : List Component). AreAllRanges e (map comp_of ds) rs) c.as_slice.ensures c.in_ok-ranges.ensures.is in
+    let all = subst (λ (ds : List Component). AreAllRanges e (map comp_of ds) c.args.held.now rs) c.as_slice.ensures c.in_ok-ranges.ensures.is in
     let p = c.in_ok-planting.planting in
     let are_planted = subst (λ (cs : List Conjunct). ArePlanted (map conjunct_of cs) p.leaves.items (trees_of p.forest)) c.as_slice-2.ensures c.in_ok-planting.ensures in
     let named = c.in_ok-property.property in
@@ -88,7 +88,7 @@ returns-clause-begins c =
       environment = ap (λ (j : Property). with_first c.count-names.result (environment_of j.env.now)) problem.0 ∙ first_names e f c.count-names.result c.count-names.ensures lifted.longer;
       same = subst (λ (j : Property). SayTheSame (planted (judged j) (trees_of search.forest)) (property e s.conjuncts)) (sym problem.0)
           (subst (λ (g : Grove). SayTheSame (planted (property f terms) (trees_of g)) (property e s.conjuncts)) (sym problem.1) same);
-      ranges = subst (λ (ws : List (List Value)). AreRanges e s.comps ws) (sym problem.2) all.0;
+      ranges = subst (λ (ws : List (List Value)). AreRanges e s.comps c.args.held.now ws) (sym problem.2) all.0;
       named = problem.3;
       none_out = all.1;
       ahead = subst (λ (ws : List (List Value)). AreAllAhead value_order (property e s.conjuncts) ws (option_copied c.args.after) search.stage.ahead) (sym problem.2) ahead;

@@ -1,0 +1,65 @@
+//! The values that are held.
+ghost use Rattle.std.specs.Prelude.{◌≡◌, Some, IfOk, IfErr, option_map};
+ghost use Rattle.zf_engine.specs.Answers.{AreHeld};
+ghost use Rattle.zf_engine.specs.Stops.{IfAnswered, TellsNoValues, TellsPlaceHeld};
+ghost use Rattle.zf_meaning.specs.Envs.{environment_of};
+ghost use Rattle.zf_term.specs.Definitions.{schema_of};
+ghost use Rattle.zf_texts.specs.Clear.{AreClear};
+ghost use Rattle.zf_texts.specs.Spellings.{spellings};
+
+use crate::stop::Stop;
+use crate::texts;
+use std::alloc::Global;
+use zf_enum::{Known, held_known};
+use zf_lines::fault::Status;
+use zf_meaning::env::Env;
+use zf_term::globals::Flat;
+use zf_texts::{AfterFault, Spelling, read_held};
+
+/// The values that are held, by the components' places, if a line of some components is given. The answer where the
+/// text is no such line.
+pub fn values_held(
+    alloc: Global,
+    flat: &Flat<'_>,
+    env: &Env<'_, '_>,
+    elements: &[Spelling],
+    held: Option<&str>,
+) -> Result<Vec<Option<Known>>, Stop>
+    requires { elements.now ≡ spellings (environment_of env.now).globals }
+    ensures held { IfOk result (λ values. AreHeld (environment_of env.now) (schema_of flat.now).comps (option_map (λ t. t.now) held.entry) values.items) }
+    ensures stop { IfErr result (λ s. AreClear elements.now (environment_of env.now).sizes → IfAnswered s (TellsNoValues (environment_of env.now) (schema_of flat.now).comps (option_map (λ t. t.now) held.entry))) }
+{
+    match held {
+        None => Ok(Vec::new(alloc)),
+        Some(text) => values_of(alloc, flat, env, elements, text),
+    }
+}
+
+/// The values of the components whose line the text is.
+fn values_of(
+    alloc: Global,
+    flat: &Flat<'_>,
+    env: &Env<'_, '_>,
+    elements: &[Spelling],
+    text: &str,
+) -> Result<Vec<Option<Known>>, Stop>
+    requires { elements.now ≡ spellings (environment_of env.now).globals }
+    ensures held { IfOk result (λ values. AreHeld (environment_of env.now) (schema_of flat.now).comps (Some text.now) values.items) }
+    ensures stop { IfErr result (λ s. AreClear elements.now (environment_of env.now).sizes → IfAnswered s (TellsNoValues (environment_of env.now) (schema_of flat.now).comps (Some text.now))) }
+{
+    match read_held(alloc, text.as_bytes(), flat, env, elements) {
+        Ok(values) => Ok(held_known(alloc, values)?),
+        Err(AfterFault::NotABinding(place)) => Err(not_held(alloc, place)),
+        Err(AfterFault::OutOfMemory) => Err(Stop::OutOfMemory),
+    }
+}
+
+/// The answer for a text that does not fit at a place.
+fn not_held(alloc: Global, place: usize) -> Stop
+    ensures { IfAnswered result (TellsPlaceHeld place) }
+{
+    match texts::not_held_line(alloc, place) {
+        Ok(line) => Stop::Answered(line, Status::BadRequest),
+        Err(_) => Stop::OutOfMemory,
+    }
+}

@@ -1,0 +1,41 @@
+-- The values of a range where one may be held.
+use Rattle.std.proofs.Common.{◌≡◌, List, [], ◌∷◌, ◌++◌, Option, Some, None, Result, Ok, Err, IfOk, sym, subst, inl, ⊎_elim}
+use Rattle.std.specs.List.{AllByRecursion}
+use Rattle.zf_term.specs.Definitions.{DeclaredSets}
+use Rattle.zf_value.specs.declared.value.Value.{Value}
+use Rattle.zf_value.specs.Sets.{IsMember, IsRegular, AreRegular, IsRegularSet}
+use Rattle.zf_meaning.specs.Environments.{Environment}
+use Rattle.zf_enum.specs.DeclaredSets.{IsInSets}
+use Rattle.zf_enum.specs.Parts.{NarrowsAll, IsAllOfEach, IsAllWith}
+use Rattle.zf_enum.specs.Ranges.{IsHeld}
+use Rattle.zf_enum.proofs.Listing.{lists_same}
+
+-- what holds of all holds of one among them
+pub one_of_all : {A : Type 0} (P : A → Type 0) (xs ys : List A) (y : A) → AllByRecursion P (xs ++ y ∷ ys) → P y
+one_of_all P [] ys y h = h.0
+one_of_all P (x ∷ xs) ys y h = one_of_all P xs ys y h.1
+
+regular_one : (w : Value) → IsRegular w → IsRegularSet (w ∷ [])
+unfolding AreRegular
+regular_one w h = record { ascending = (tt, tt); regular = (h, tt) }
+
+pub regular_alone : (w : Value) (ys : List Value) → ys ≡ w ∷ [] → IsRegular w → IsRegularSet ys
+regular_alone w ys is h = subst IsRegularSet (sym is) (regular_one w h)
+
+module _ (e : Environment) (ds : DeclaredSets) where
+  -- none is held
+  pub of_all : (xs : List Value) → IsAllOfEach e ds xs → IsAllWith e ds None xs
+  of_all xs h = (lists_same (IsInSets e ds) (λ v. IsInSets e ds v × IsHeld None v) xs (λ v. (λ i. (i, tt), λ i. i.0)) h.0, h.1)
+
+  -- this one is held, and lies in the declared sets or not
+  pub of_one : (w : Value) (ys xs : List Value) → ys ≡ w ∷ [] → NarrowsAll e ds ys xs → IsAllWith e ds (Some w) xs
+  of_one w ys xs is h =
+      let here = subst (λ zs. NarrowsAll e ds zs xs) is h in (
+        lists_same (λ v. IsMember v (w ∷ []) × IsInSets e ds v) (λ v. IsInSets e ds v × IsHeld (Some w) v) xs
+            (λ v. (λ k. (k.1, ⊎_elim (λ (s : w ≡ v). sym s) (λ n. absurd n) k.0), λ k. (inl (sym k.1), k.0))) here.0,
+        here.1,
+      )
+
+  pub one_ok : {X E : Type 0} (items : X → List Value) (r : Result X E) (w : Value) (ys : List Value) → ys ≡ w ∷ [] → IfOk r (λ x. NarrowsAll e ds ys (items x)) → IfOk r (λ x. IsAllWith e ds (Some w) (items x))
+  one_ok items (Ok x) w ys is h = of_one w ys (items x) is h
+  one_ok items (Err f) w ys is h = tt

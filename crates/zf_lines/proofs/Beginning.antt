@@ -1,0 +1,29 @@
+-- A search that begins is, for what writes its lines, at its beginning.
+use Rattle.std.proofs.Common.{sym, subst}
+use Rattle.zf_term.specs.Definitions.{Schema}
+use Rattle.zf_value.specs.declared.value.Value.{Value}
+use Rattle.zf_value.specs.Sets.{value_order}
+use Rattle.zf_walk.specs.Progress.{AreAllAhead, Stage}
+use Rattle.zf_plan.specs.Alike.{SayTheSame}
+use Rattle.zf_meaning.specs.Environments.{Environment}
+use Rattle.zf_enum.specs.declared.bindings.Bindings.{Bindings}
+use Rattle.zf_enum.specs.Portions.{Portion}
+use Rattle.zf_enum.specs.Property.{property}
+use Rattle.zf_enum.specs.Searches.{Goal, conjuncts_of, counted_goal}
+use Rattle.zf_enum.specs.Starts.{Begins, BeginsCounting}
+use Rattle.zf_lines.specs.Shown.{IsAtStart, IsCountingAtStart}
+
+pub at_start : (e : Environment) (s : Schema) (p : Portion) (g : Goal) (b : Stage Value) → Begins e s p g b → IsAtStart s g b
+at_start e s p g b h = record {
+  same = subst (λ f. SayTheSame (conjuncts_of g) (property f s.conjuncts)) (sym h.environment) h.same;
+  ahead = subst (λ n. AreAllAhead value_order (property g.environment s.conjuncts) b.ranges n b.ahead) (sym h.named)
+      (subst (λ f. AreAllAhead value_order (property f s.conjuncts) b.ranges p.after b.ahead) (sym h.environment) h.ahead);
+  first = h.first;
+}
+
+pub counting_at_start : (e : Environment) (s : Schema) (p : Portion) (b : Bindings) → BeginsCounting e s p b → IsCountingAtStart s b
+counting_at_start e s p b h = record {
+  starts = at_start e s p (counted_goal b.walk) b.walk.stage h.begins;
+  conjuncts = h.conjuncts;
+  untested = h.untested;
+}

@@ -1,0 +1,38 @@
+-- A line of some components holds one list of values, and they are regular.
+use Rattle.std.proofs.Common.{◌≡◌, ℕ, ◌+◌, List, [], ◌∷◌, ◌++◌, Option, Some, None, refl, sym, ap, ap₂, ◌∙◌, subst}
+use Rattle.std.specs.Prelude.{MatchOption}
+use Rattle.std.specs.List.{AllByRecursion}
+use Rattle.zf_term.specs.Definitions.{Comp}
+use Rattle.zf_value.specs.declared.value.Value.{Value}
+use Rattle.zf_value.specs.Sets.{IsRegular}
+use Rattle.zf_meaning.specs.Environments.{Environment}
+use Rattle.zf_texts.specs.declared.spelling.Spelling.{Spelling}
+use Rattle.zf_texts.specs.ValueTexts.{separator}
+use Rattle.zf_texts.specs.Clear.{AreClear}
+use Rattle.zf_texts.specs.Held.{HoldNext}
+use Rattle.zf_texts.proofs.HeldSoFar.{ends_more, told_named}
+use Rattle.zf_texts.proofs.OneRow.{one_component}
+use Rattle.zf_texts.proofs.RegularRows.{regular_value}
+use Rattle.zf_texts.proofs.Spelled.{cancel}
+
+module _ (ss : List Spelling) (e : Environment) where
+  pub one_next : (clear : AreClear ss e.sizes) (cs : List Comp) (n : ℕ) (bytes : List ℕ) (xs ys : List (Option Value)) → HoldNext ss e cs n bytes xs → HoldNext ss e cs n bytes ys → xs ≡ ys
+  one_next clear [] n bytes [] [] h g = refl
+  one_next clear [] n bytes [] (y ∷ ys) h g = absurd g
+  one_next clear [] n bytes (x ∷ xs) ys h g = absurd h
+  one_next clear (c ∷ cs) n bytes [] ys h g = absurd h
+  one_next clear (c ∷ cs) n bytes (None ∷ xs) [] h g = absurd g
+  one_next clear (c ∷ cs) n bytes (None ∷ xs) (None ∷ ys) h g = ap (λ zs. None ∷ zs) (one_next clear cs n bytes xs ys h.1 g.1)
+  one_next clear (c ∷ cs) n bytes (None ∷ xs) (Some w ∷ ys) h (rest, of_type, is, g) = absurd (h.0 (told_named ss c n bytes rest w is))
+  one_next clear (c ∷ cs) n bytes (Some v ∷ xs) [] h g = absurd g
+  one_next clear (c ∷ cs) n bytes (Some v ∷ xs) (None ∷ ys) (rest, of_type, is, h) g = absurd (g.0 (told_named ss c n bytes rest v is))
+  one_next clear (c ∷ cs) n bytes (Some v ∷ xs) (Some w ∷ ys) (rest, of_type, is, h) (more, other, are, g) =
+      let one = one_component ss e clear c v w rest more of_type other (ends_more ss e c cs n rest xs h) (ends_more ss e c cs n more ys g) (cancel (separator n) _ _ (sym is ∙ are)) in
+      ap₂ (λ (x : Value) (zs : List (Option Value)). Some x ∷ zs) one.0 (one_next clear cs (n + 1) more xs ys (subst (λ l. HoldNext ss e cs (n + 1) l xs) one.1 h) g)
+
+  pub held_regular : (cs : List Comp) (n : ℕ) (bytes : List ℕ) (held : List (Option Value)) → HoldNext ss e cs n bytes held → AllByRecursion (λ h. MatchOption h (Unit {0}) IsRegular) held
+  held_regular [] n bytes [] h = tt
+  held_regular [] n bytes (x ∷ held) h = absurd h
+  held_regular (c ∷ cs) n bytes [] h = absurd h
+  held_regular (c ∷ cs) n bytes (None ∷ held) h = (tt, held_regular cs n bytes held h.1)
+  held_regular (c ∷ cs) n bytes (Some v ∷ held) (rest, of_type, is, h) = (regular_value e c.type v of_type, held_regular cs (n + 1) rest held h)

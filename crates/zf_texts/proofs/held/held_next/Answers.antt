@@ -1,0 +1,11 @@
+use Rattle.zf_meaning.specs.Envs.{environment_of}
+use Rattle.zf_term.specs.Definitions.{comp_of}
+use Rattle.zf_texts.proofs.HeldSoFar.{nothing_held}
+use Rattle.zf_texts.proofs.Misfits.{passed}
+use Rattle.zf_texts.proofs.held.held_next.Goals as goal
+
+pub returns-in_err-value-in-Some-clause-refused : goal.returns-in_err-value-in-Some-clause-refused
+returns-in_err-value-in-Some-clause-refused c =
+    passed c.in_err-value-in-Some.field-0.0 c.from_residual.result _ _ c.from_residual.ensures.1
+    (nothing_held c.args.spellings.now (environment_of c.args.env.now) (comp_of c.args.component.now) c.args.text.now c.args.count c.args.place c.in-Some.start c.in-Some.ensures)
+    c.in_err-value-in-Some.ensures.refused
