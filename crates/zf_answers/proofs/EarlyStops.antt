@@ -1,26 +1,6 @@
 -- What a run that stops early has written is a front of an answer.
-use Rattle.std.proofs.Common.{◌≡◌, ℕ, List, ◌++◌, Option, sym, ap, ◌∙◌, append_assoc, inl, inr, subst}
-use Rattle.zf_command.specs.declared.job.Job.{Job}
-use Rattle.zf_command.specs.declared.job.Job.TheVariants.{Check, Show}
-use Rattle.zf_term.specs.Definitions.{Defined, Schema}
-use Rattle.zf_value.specs.declared.value.Value.{Value}
+use Rattle.zf_answers.proofs.Prelude.{◌++◌, ◌∙◌, ◌≡◌, ap, append_assoc, inl, inr, List, Option, subst, sym, ℕ, Event, exact, value_order, Value, Defined, Schema, Environment, spellings, one_ranges, Portion, property, Job, Check, Show, IsFront, AreEventsUpTo, HasEvents, IsBegun, lines, binding_line, Status, property_told, Answer, IsSearch, JobBegins, Request, request, ShowBegins, EveryRequestIsAnswered, IsGranted, ShowsEvents, FirstLinesAreAFront, PartsAreFronts}
 use Rattle.zf_value.specs.contracts.value.ValueOrd.TheImpl.Laws as order_laws
-use Rattle.zf_value.specs.Sets.{value_order}
-use Rattle.zf_value.proofs.Exact.{exact}
-use Rattle.zf_walk.specs.Events.{Event}
-use Rattle.zf_meaning.specs.Environments.{Environment}
-use Rattle.zf_enum.specs.Portions.{Portion}
-use Rattle.zf_enum.specs.Property.{property}
-use Rattle.zf_enum.proofs.EventLaws.{one_ranges}
-use Rattle.zf_texts.specs.Spellings.{spellings}
-use Rattle.zf_lines.specs.declared.fault.Status.{Status}
-use Rattle.zf_lines.specs.Faults.{IsFront}
-use Rattle.zf_lines.specs.Searches.{AreEventsUpTo, HasEvents, IsBegun, lines}
-use Rattle.zf_lines.specs.Texts.{binding_line}
-use Rattle.zf_found.proofs.Searches.{property_told}
-use Rattle.zf_engine.specs.Answers.{Answer, IsSearch, JobBegins, Request, ShowBegins, request}
-use Rattle.zf_answers.specs.Laws.{EveryRequestIsAnswered, IsGranted, ShowsEvents}
-use Rattle.zf_answers.specs.Runs.{FirstLinesAreAFront, PartsAreFronts}
 use Rattle.zf_answers.proofs.FirstLines.{first_lines}
 use Rattle.zf_answers.proofs.Shown.{events_are_shown}
 

@@ -1,38 +1,12 @@
 -- Each request has an answer: it is refused at a stage, or what is asked for is searched.
-use Rattle.std.proofs.Common.{◌≡◌, ℕ, ◌+◌, ◌⊎◌, IsTrue, Bool, true, false, if◌then◌else◌, List, [], ◌∷◌, ◌++◌, Option, Some, None, refl, sym, ap, ◌∙◌, inl, inr, subst}
+use Rattle.zf_answers.proofs.Prelude.{if◌then◌else◌, ◌++◌, ◌+◌, ◌∙◌, ◌∷◌, ◌≡◌, ◌⊎◌, [], ap, Bool, false, inl, inr, IsTrue, List, None, Option, refl, Some, subst, sym, true, ℕ, none-some, same_Some, AllByRecursion, flat_map, Value, BoxTree, TextFault, ReadsSource, RefusesSource, abbreviation, Comp, constructor, Defined, Definition, free_type, given_set, Schema, schema, sets_of, TypeFault, first, finite_without_lines, infinite_lines, one_bounds, Environment, AreComplete, given_sets, spellings, Portion, portion, IsNoneOut, Job, Check, Show, IsBelow, binding_line, Status, BadRequest, BadSpec, PastBounds, some_search, some_tests_line, Answer, AreHeld, check_status, check_text, Checks, HasSchema, IsAsked, IsLimited, IsNamed, IsNamedRow, IsSearch, JobAnswer, Request, request, ShowAnswer, size_fault_line, stated, declared_out_line, fault_line, no_schema_line, not_a_binding_line, not_finite_text, not_held_line, text_fault_line, type_fault_line, EveryRequestIsAnswered, EverySourceIsRead}
 use Rattle.std.specs.Str.{bytes_eq}
-use Rattle.std.specs.List.{AllByRecursion, flat_map}
-use Rattle.std.proofs.lemmas.Option.{same_Some, none-some}
-use Rattle.zf_command.specs.declared.job.Job.{Job}
-use Rattle.zf_command.specs.declared.job.Job.TheVariants.{Check, Show}
 use Rattle.zf_command.specs.declared.job.Size as command
-use Rattle.zf_scan.specs.declared.fault.TextFault.{TextFault}
-use Rattle.zf_text.specs.Parsing.{ReadsSource, RefusesSource}
-use Rattle.zf_finite.specs.Finite.{infinite_lines, one_bounds}
-use Rattle.zf_finite.proofs.FiniteSchemas.{finite_without_lines}
-use Rattle.zf_tree.specs.Trees.{BoxTree}
-use Rattle.zf_term.specs.Definitions.{Comp, Defined, Definition, Schema, given_set, free_type, constructor, abbreviation, schema, sets_of}
-use Rattle.zf_extent.specs.Extents.{first}
 use Rattle.zf_term.specs.FirstNamed.{first_named, later}
 use Rattle.zf_term.proofs.SameNames.{is_same}
-use Rattle.zf_type.specs.declared.fault.TypeFault.{TypeFault}
-use Rattle.zf_value.specs.declared.value.Value.{Value}
-use Rattle.zf_meaning.specs.Environments.{Environment}
-use Rattle.zf_meaning.specs.Sizes.{given_sets, AreComplete}
-use Rattle.zf_enum.specs.Portions.{Portion, portion}
-use Rattle.zf_enum.specs.Ranges.{IsNoneOut}
-use Rattle.zf_texts.specs.Spellings.{spellings}
-use Rattle.zf_lines.specs.declared.fault.Status.{Status}
-use Rattle.zf_lines.specs.declared.fault.Status.TheVariants.{BadRequest, BadSpec, PastBounds}
-use Rattle.zf_lines.specs.Searches.{IsBelow}
-use Rattle.zf_lines.specs.Texts.{binding_line}
-use Rattle.zf_engine.specs.Answers.{Answer, AreHeld, Checks, HasSchema, IsAsked, IsLimited, IsNamed, IsNamedRow, IsSearch, JobAnswer, Request, ShowAnswer, check_status, check_text, request, size_fault_line, stated}
-use Rattle.zf_engine.specs.Texts.{declared_out_line, fault_line, no_schema_line, not_a_binding_line, not_finite_text, not_held_line, text_fault_line, type_fault_line}
-use Rattle.zf_answers.specs.Laws.{EveryRequestIsAnswered, EverySourceIsRead}
 use Rattle.zf_answers.proofs.HeldLines.{every_held_line_is_judged}
 use Rattle.zf_answers.proofs.NamedRows.{every_line_is_judged}
 use Rattle.zf_found.proofs.Ranges.{first_out_or_none, some_ranges}
-use Rattle.zf_found.proofs.Searches.{some_search, some_tests_line}
 use Rattle.zf_total.proofs.Environments.{some_environment}
 use Rattle.zf_total.proofs.StatedSizes.{complete_or_refused}
 use Rattle.zf_verdicts.proofs.Items.{text_has_verdict}

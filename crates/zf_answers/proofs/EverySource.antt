@@ -1,18 +1,12 @@
 -- Each source is read by a tree, or is refused with a fault.
-use Rattle.std.proofs.Common.{◌≡◌, ℕ, ◌⊎◌, List, map, Ok, Err, inl, inr, refl}
-use Rattle.zf_scan.specs.declared.fault.TextFault.{TextFault}
+use Rattle.zf_answers.proofs.Prelude.{◌≡◌, ◌⊎◌, Err, inl, inr, List, map, Ok, refl, ℕ, box_of, BoxTree, TextFault, Token, parsed, refused, ReadsSource, RefusesSource, EverySourceIsRead}
 use Rattle.zf_scan.specs.declared.fault.TextFaultKind.TheVariants as fault
-use Rattle.zf_scan.specs.declared.token.Token.{Token}
 use Rattle.zf_scan.specs.Cuts.{HasFault, IsCutInto, IsCutOrFaults}
 use Rattle.zf_scan.specs.Separators.{reduced}
 use Rattle.zf_tree.specs.declared.tree.ZBox.{ZBox}
 use Rattle.zf_text.specs.BoxReading.{read_all}
 use Rattle.zf_text.specs.Height.{height_limit}
-use Rattle.zf_text.specs.Parsing.{ReadsSource, RefusesSource}
 use Rattle.zf_text.specs.TermReading.{Outcome, Refused, TooDeep}
-use Rattle.zf_tree.specs.Trees.{BoxTree, box_of}
-use Rattle.zf_text.proofs.Answers.{parsed, refused}
-use Rattle.zf_answers.specs.Laws.{EverySourceIsRead}
 
 -- a source that is read, or refused
 abbrev IsAnswered : List ℕ → Type 0

@@ -1,18 +1,5 @@
 -- The first lines of a search are a front of what is written of it.
-use Rattle.std.proofs.Common.{◌≡◌, ◌≤◌, ℕ, List, [], ◌∷◌, ◌++◌, length, Option, refl, sym, ap, ◌∙◌, append_assoc, append-nil, codes, inl, inr, subst}
-use Rattle.std.specs.Prelude.{Contains, AllPairs}
-use Rattle.std.specs.declared.cmp.Ordering.{Ordering}
-use Rattle.std.specs.Cmp.{IsTotalOrder}
-use Rattle.std.proofs.lemmas.Grind.{flat_map-append}
-use Rattle.zf_walk.specs.Conjuncts.{Conjuncts}
-use Rattle.zf_walk.specs.Rows.{TiesAreEqual}
-use Rattle.zf_walk.specs.Events.{Event}
-use Rattle.zf_walk.specs.Tests.{IsUpTo}
-use Rattle.zf_walk.proofs.Lists.{Contains-head, Contains-left, Contains-right, AllPairs-across}
-use Rattle.zf_lines.specs.declared.fault.Status.{Status}
-use Rattle.zf_lines.specs.Faults.{IsFront}
-use Rattle.zf_lines.specs.Searches.{AreEventsUpTo, Hold, IsWithin, IsWritten, lines, out_line}
-use Rattle.zf_found.proofs.Rows.{AreTold}
+use Rattle.zf_answers.proofs.Prelude.{◌++◌, ◌∙◌, ◌∷◌, ◌≡◌, ◌≤◌, [], ap, append-nil, append_assoc, codes, inl, inr, length, List, Option, refl, subst, sym, ℕ, flat_map-append, IsTotalOrder, AllPairs, Contains, Ordering, AllPairs-across, Contains-head, Contains-left, Contains-right, Conjuncts, Event, TiesAreEqual, IsUpTo, IsFront, AreEventsUpTo, Hold, IsWithin, IsWritten, lines, out_line, Status, AreTold}
 use Rattle.zf_answers.proofs.Rows.{before_last, nothing_more}
 use Rattle.zf_answers.proofs.OneEnding.{Follows, begins, held, last_of, never_itself}
 

@@ -1,21 +1,10 @@
 -- A text is the line of some of the components, which holds values of their types, or of none.
-use Rattle.std.proofs.Common.{◌≡◌, ◌⊎◌, ℕ, ◌+◌, Bool, true, false, List, [], ◌∷◌, ◌++◌, Option, Some, None, refl, sym, ap, ◌∙◌, inl, inr, subst, append_assoc}
-use Rattle.std.proofs.lemmas.Bool.{cases_eq}
-use Rattle.zf_term.specs.Definitions.{Comp}
-use Rattle.zf_value.specs.declared.value.Value.{Value}
-use Rattle.zf_meaning.specs.Environments.{Environment}
-use Rattle.zf_meaning.specs.Rows.{IsOfType}
+use Rattle.zf_answers.proofs.Prelude.{◌++◌, ◌+◌, ◌∙◌, ◌∷◌, ◌≡◌, ◌⊎◌, [], ap, append_assoc, Bool, false, inl, inr, List, None, Option, refl, Some, subst, sym, true, ℕ, cases_eq, Value, Comp, Environment, IsOfType, Decided, decided_same, decided_some, HasSome, component_text, Ends, is_in_word, spellings, AreHeld, HoldsNoValues, EveryHeldLineIsJudged}
 use Rattle.zf_texts.specs.declared.spelling.Spelling.{Spelling}
-use Rattle.zf_texts.specs.BindingTexts.{component_text}
-use Rattle.zf_texts.specs.Clear.{Ends, is_in_word}
 use Rattle.zf_texts.specs.Held.{HoldNext, IsNamedNext}
-use Rattle.zf_texts.specs.Spellings.{spellings}
 use Rattle.zf_texts.specs.ValueTexts.{separator}
 use Rattle.zf_texts.proofs.HeldSoFar.{told_named}
 use Rattle.zf_texts.proofs.Spelled.{cancel}
-use Rattle.zf_total.proofs.Listed.{HasSome, Decided, decided_same, decided_some}
-use Rattle.zf_engine.specs.Answers.{AreHeld, HoldsNoValues}
-use Rattle.zf_answers.specs.Laws.{EveryHeldLineIsJudged}
 use Rattle.zf_answers.proofs.ListedValues.{values_listed}
 
 -- ---- what the bytes begin with

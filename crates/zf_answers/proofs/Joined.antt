@@ -1,25 +1,5 @@
 -- Two searches of which the second begins behind the last row of the first are one search.
-use Rattle.std.proofs.Common.{◌≡◌, ◌↔◌, ℕ, ◌+◌, List, [], ◌∷◌, ◌++◌, length, map, Option, Some, None, refl, sym, ap, ◌∙◌, append_assoc, codes, inl, inr, arith, length-append, subst}
-use Rattle.std.specs.Prelude.{Contains, AllPairs}
-use Rattle.std.specs.declared.cmp.Ordering.{Ordering}
-use Rattle.std.specs.Cmp.{IsTotalOrder}
-use Rattle.std.specs.Cmp.Lexicographic.{lists_total}
-use Rattle.std.proofs.lemmas.Grind.{flat_map-append}
-use Rattle.std.proofs.lemmas.List.Elements.{All-append, All-nil, All-cons}
-use Rattle.zf_walk.specs.declared.judge.Truth.{Truth}
-use Rattle.zf_walk.specs.declared.judge.Truth.TheVariants.{True, False, Out}
-use Rattle.zf_walk.specs.Conjuncts.{Conjuncts}
-use Rattle.zf_walk.specs.Rows.{TiesAreEqual, ComesAfter, IsLater}
-use Rattle.zf_walk.specs.Events.{Event, IsEvent}
-use Rattle.zf_walk.specs.Tests.{IsUpTo}
-use Rattle.zf_walk.proofs.Lists.{Contains-head, Contains-later, Contains-left, Contains-right, Contains-either, AllPairs-cons, AllPairs-head, AllPairs-tail}
-use Rattle.zf_walk.proofs.Picks.{IsRowOf-length}
-use Rattle.zf_lines.specs.declared.fault.Status.{Status}
-use Rattle.zf_lines.specs.Searches.{AreEventsUpTo, Hold, IsBelow, IsWritten, lines, out_line}
-use Rattle.zf_found.proofs.Rows.{AreTold}
-use Rattle.zf_total.proofs.Orders.{AllPairs-mapped, Contains-map, Contains-mapped}
-use Rattle.zf_answers.specs.Bindings.{IsBefore, IsNotPast}
-use Rattle.zf_answers.specs.Runs.{together}
+use Rattle.zf_answers.proofs.Prelude.{◌++◌, ◌+◌, ◌↔◌, ◌∙◌, ◌∷◌, ◌≡◌, [], ap, append_assoc, arith, codes, inl, inr, length, length-append, List, map, None, Option, refl, Some, subst, sym, ℕ, flat_map-append, All-append, All-cons, All-nil, IsTotalOrder, lists_total, AllPairs, Contains, Ordering, AllPairs-cons, AllPairs-head, AllPairs-tail, Contains-either, Contains-head, Contains-later, Contains-left, Contains-right, IsRowOf-length, Conjuncts, Event, IsEvent, ComesAfter, IsLater, TiesAreEqual, IsUpTo, Truth, False, Out, True, AllPairs-mapped, Contains-map, Contains-mapped, AreEventsUpTo, Hold, IsBelow, IsWritten, lines, out_line, Status, AreTold, IsBefore, IsNotPast, together}
 use Rattle.zf_answers.proofs.OneEnding.{last_of, rows_compared, same_event}
 use Rattle.zf_answers.proofs.WrittenRows.{not_past, up_to, with_truth}
 

@@ -1,3 +1,4 @@
+mod Prelude
 pub mod Rows
 pub mod OneEnding
 pub mod WrittenRows

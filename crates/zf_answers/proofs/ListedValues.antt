@@ -1,15 +1,7 @@
 -- Each type has finitely many values, and there are finitely many rows of several types.
-use Rattle.std.proofs.Common.{◌≡◌, ℕ, ◌^◌, ◌<◌, ◌≤◌, ◌⊎◌, ℤ, List, [], ◌∷◌, length, Option, Some, None, refl, sym, ◌∙◌, inl, inr, subst}
-use Rattle.std.specs.Prelude.{slice_get, pos, negsuc, FitsSigned}
+use Rattle.zf_answers.proofs.Prelude.{◌<◌, ◌^◌, ◌∙◌, ◌∷◌, ◌≡◌, ◌≤◌, ◌⊎◌, [], inl, inr, length, List, None, Option, refl, Some, subst, sym, ℕ, ℤ, same_Some, FitsSigned, negsuc, pos, slice_get, SET_MAX, Elem, Int, SetOf, Tuple, Value, basic, int, no_types, power, product, Ty, type, Tys, Environment, type_number, AreOfTypes, IsElement, IsOfType, Listed, listed_either, listed_image, listed_kept, listed_none, listed_one, listed_pairs, listed_same}
 use Rattle.std.specs.Int.{w64}
-use Rattle.std.proofs.lemmas.Option.{same_Some}
-use Rattle.zf_term.specs.Types.{Ty, int, basic, power, product, Tys, no_types, type}
-use Rattle.zf_value.specs.declared.TheConstants.{SET_MAX}
-use Rattle.zf_value.specs.declared.value.Value.{Value, Int, Elem, Tuple, SetOf}
 use Rattle.zf_value.proofs.Among.{every_at, every_from}
-use Rattle.zf_meaning.specs.Environments.{Environment, type_number}
-use Rattle.zf_meaning.specs.Rows.{IsElement, IsOfType, AreOfTypes}
-use Rattle.zf_total.proofs.Listed.{Listed, listed_either, listed_image, listed_kept, listed_none, listed_one, listed_pairs, listed_same}
 use Rattle.zf_total.proofs.Naturals.{decided_le, listed_below}
 use Rattle.zf_total.proofs.Sets.{listed_parts}
 

@@ -1,13 +1,6 @@
 -- A line is that of one row, and what is told of a text that is refused is that it is the line of none.
-use Rattle.std.proofs.Common.{◌≡◌, ℕ, List, [], sym, ap, ◌∙◌, subst}
-use Rattle.zf_term.specs.Definitions.{Defined, Schema}
-use Rattle.zf_meaning.specs.declared.sizes.Size.{Size}
-use Rattle.zf_meaning.specs.Environments.{Environment}
-use Rattle.zf_texts.specs.BindingTexts.{binding_text}
-use Rattle.zf_texts.specs.Clear.{AreClear}
+use Rattle.zf_answers.proofs.Prelude.{◌∙◌, ◌≡◌, [], ap, List, subst, sym, ℕ, Defined, Schema, Environment, Size, one_row, binding_text, AreClear, spellings}
 use Rattle.zf_texts.specs.Readings.{IsNoLine}
-use Rattle.zf_texts.specs.Spellings.{spellings}
-use Rattle.zf_texts.proofs.OneRow.{one_row}
 use Rattle.zf_answers.specs.NamedLines.{IsSchemaAt, OneRowOfALine, RefusedLinesAreOfNoRow}
 use Rattle.zf_answers.proofs.OneSearch.{clear_at}
 

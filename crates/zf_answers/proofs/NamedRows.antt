@@ -1,14 +1,5 @@
 -- A text is the line of a row of the components' types, or of none.
-use Rattle.std.proofs.Common.{◌≡◌, ◌⊎◌, List, map, Option, Some, None, refl, inl, inr}
-use Rattle.std.proofs.lemmas.Bool.{cases_eq}
-use Rattle.zf_term.specs.Types.{types}
-use Rattle.zf_value.specs.declared.value.Value.{Value}
-use Rattle.zf_meaning.specs.Rows.{IsRow}
-use Rattle.zf_texts.specs.BindingTexts.{binding_text}
-use Rattle.zf_texts.specs.Spellings.{spellings}
-use Rattle.zf_total.proofs.Listed.{Decided, decided_lists, decided_some}
-use Rattle.zf_engine.specs.Answers.{IsNamedRow, NamesNoRow}
-use Rattle.zf_answers.specs.Laws.{EveryLineIsJudged}
+use Rattle.zf_answers.proofs.Prelude.{◌≡◌, ◌⊎◌, inl, inr, List, map, None, Option, refl, Some, cases_eq, Value, types, IsRow, Decided, decided_lists, decided_some, binding_text, spellings, IsNamedRow, NamesNoRow, EveryLineIsJudged}
 use Rattle.zf_answers.proofs.ListedValues.{rows_listed}
 
 pub every_line_is_judged : EveryLineIsJudged

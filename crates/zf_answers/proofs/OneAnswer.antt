@@ -1,23 +1,7 @@
 -- Two answers of one job on one source have one status, and one text but for what is left open.
-use Rattle.std.proofs.Common.{◌≡◌, ℕ, Bool, if◌then◌else◌, List, [], ◌∷◌, ◌++◌, Option, Some, None, sym, ap, ◌∙◌, inl, inr, subst}
-use Rattle.std.specs.Prelude.{slice_get}
-use Rattle.std.specs.List.{flat_map}
+use Rattle.zf_answers.proofs.Prelude.{if◌then◌else◌, ◌++◌, ◌∙◌, ◌∷◌, ◌≡◌, [], ap, Bool, inl, inr, List, None, Option, Some, subst, sym, ℕ, same_Some, flat_map, slice_get, Value, Comp, Defined, Schema, TypeFault, Environment, IsEnvironment, AreComplete, given_sets, Portion, portion, Job, Check, Show, Status, Answer, AreHeld, check_status, check_text, CheckAnswer, Checks, HoldsNoValues, IsNamedRow, JobAnswer, NamesNoRow, Request, request, size_fault_line, stated, UnreadAnswer, declared_out_line, fault_line, not_finite_text, type_fault_line, AreAlike, AreOfSame, OneStatus, OneText}
 use Rattle.std.proofs.lemmas.List.{append-nil}
-use Rattle.std.proofs.lemmas.Option.{same_Some}
-use Rattle.zf_command.specs.declared.job.Job.{Job}
-use Rattle.zf_command.specs.declared.job.Job.TheVariants.{Check, Show}
 use Rattle.zf_schema.specs.Listing.{listing}
-use Rattle.zf_term.specs.Definitions.{Comp, Defined, Schema}
-use Rattle.zf_type.specs.declared.fault.TypeFault.{TypeFault}
-use Rattle.zf_value.specs.declared.value.Value.{Value}
-use Rattle.zf_meaning.specs.Environments.{Environment}
-use Rattle.zf_meaning.specs.Sizes.{given_sets, AreComplete}
-use Rattle.zf_meaning.specs.GlobalOutcomes.{IsEnvironment}
-use Rattle.zf_enum.specs.Portions.{Portion, portion}
-use Rattle.zf_lines.specs.declared.fault.Status.{Status}
-use Rattle.zf_engine.specs.Answers.{Answer, AreHeld, CheckAnswer, Checks, HoldsNoValues, IsNamedRow, JobAnswer, NamesNoRow, Request, UnreadAnswer, check_status, check_text, request, size_fault_line, stated}
-use Rattle.zf_engine.specs.Texts.{declared_out_line, fault_line, not_finite_text, type_fault_line}
-use Rattle.zf_answers.specs.Laws.{AreAlike, AreOfSame, OneStatus, OneText}
 use Rattle.zf_answers.proofs.OneSource.{none_and_some, one_checked, one_named, one_refused, some_and_none, unread}
 use Rattle.zf_answers.proofs.OneSearch.{clear_at, not_infinite, one_environment_at, one_first_out, one_held, one_named_row, one_shown}
 use Rattle.zf_answers.proofs.OneRefusal.{none_refused, one_refusal}

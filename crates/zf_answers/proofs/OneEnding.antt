@@ -1,25 +1,9 @@
 -- Of one search there is one list of events up to where the lines end, one text of it and one status.
-use Rattle.std.proofs.Common.{◌≡◌, ℕ, ◌+◌, ◌<◌, ◌≤◌, ◌⊎◌, List, [], ◌∷◌, ◌++◌, length, take, Option, Some, None, refl, sym, ap, ◌∙◌, inl, inr, arith, subst}
-use Rattle.std.specs.Prelude.{Contains, AllPairs}
-use Rattle.std.proofs.lemmas.List.Elements.{All-contains}
-use Rattle.std.specs.declared.cmp.Ordering.{Ordering}
+use Rattle.zf_answers.proofs.Prelude.{◌++◌, ◌+◌, ◌<◌, ◌∙◌, ◌∷◌, ◌≡◌, ◌≤◌, ◌⊎◌, [], ap, arith, inl, inr, length, List, None, Option, refl, Some, subst, sym, take, ℕ, All-contains, IsTotalOrder, lists_total, slice_cmp, AllPairs, Contains, Ordering, AllPairs-across, Contains-head, Contains-right, IsRowOf-length, Conjuncts, IsTruthOf, Event, IsEvent, ComesAfter, TiesAreEqual, IsUpTo, Truth, Out, True, AreEventsUpTo, Hold, IsBelow, IsWithin, IsWritten, Status, AreTold, one_truth_of}
 use Rattle.std.specs.declared.cmp.Ordering.TheVariants.{Less, Equal, Greater}
-use Rattle.std.specs.Cmp.{IsTotalOrder}
-use Rattle.std.specs.Cmp.Lexicographic.{slice_cmp, lists_total}
 use Rattle.std.specs.Ordering.{ordering_reverse}
 use Rattle.std.proofs.lemmas.List.{length-append}
-use Rattle.zf_walk.specs.declared.judge.Truth.{Truth}
-use Rattle.zf_walk.specs.declared.judge.Truth.TheVariants.{True, Out}
-use Rattle.zf_walk.specs.Conjuncts.{Conjuncts, IsTruthOf}
-use Rattle.zf_walk.specs.Rows.{TiesAreEqual, ComesAfter}
-use Rattle.zf_walk.specs.Events.{Event, IsEvent}
-use Rattle.zf_walk.specs.Tests.{IsUpTo}
-use Rattle.zf_walk.proofs.Lists.{Contains-head, Contains-right, AllPairs-across}
 use Rattle.zf_walk.proofs.Order.{slice-ties}
-use Rattle.zf_walk.proofs.Picks.{IsRowOf-length}
-use Rattle.zf_lines.specs.declared.fault.Status.{Status}
-use Rattle.zf_lines.specs.Searches.{AreEventsUpTo, Hold, IsBelow, IsWithin, IsWritten}
-use Rattle.zf_found.proofs.Rows.{AreTold, one_truth_of}
 use Rattle.zf_answers.proofs.Rows.{nothing_more, before_last, same_last, All-front, one_begins}
 
 -- ---- what is written of events

@@ -1,15 +1,7 @@
 -- The sizes of an environment are one list, and sizes that don't fit have one first fault.
-use Rattle.std.proofs.Common.{◌≡◌, ℕ, ◌<◌, ◌≤◌, ◌⊎◌, List, [], ◌∷◌, ◌++◌, length, refl, sym, ap, ◌∙◌, inl, inr, arith, subst}
-use Rattle.std.specs.Prelude.{◌≢◌, Contains}
-use Rattle.std.proofs.lemmas.List.Elements.{All-contains}
-use Rattle.zf_walk.proofs.Lists.{Contains-head, Contains-cases, Contains-nil, Contains-right}
-use Rattle.zf_term.specs.Definitions.{Definition, given_set, free_type, constructor, abbreviation, schema, Defined}
-use Rattle.zf_value.specs.declared.TheConstants.{SET_MAX}
-use Rattle.zf_meaning.specs.declared.sizes.Size.{Size}
-use Rattle.zf_meaning.specs.declared.sizes.SizeFault.{SizeFault}
+use Rattle.zf_answers.proofs.Prelude.{◌++◌, ◌<◌, ◌∙◌, ◌∷◌, ◌≡◌, ◌≤◌, ◌⊎◌, [], ap, arith, inl, inr, length, List, refl, subst, sym, ℕ, All-contains, ◌≢◌, Contains, Contains-cases, Contains-head, Contains-nil, Contains-right, SET_MAX, abbreviation, constructor, Defined, Definition, free_type, given_set, schema, Size, SizeFault, Contains-map}
 use Rattle.zf_meaning.specs.declared.sizes.SizeFault.TheVariants.{NoSize, NotGiven, SizeTwice, SizeTooLarge, OutOfMemory}
 use Rattle.zf_meaning.specs.Sizes.{names, IsAccepted, AreAccepted, AreComplete, Refuses, RefusesSize, LacksSize, IsRefusal, IsStated, AddsSize, AreSizes}
-use Rattle.zf_total.proofs.Orders.{Contains-map}
 
 -- ---- two places of one list
 

@@ -1,40 +1,12 @@
 -- What is asked for is one environment and one named row, and its search has one text and one status.
-use Rattle.std.proofs.Common.{◌≡◌, ℕ, ◌<◌, ◌⊎◌, Bool, true, false, List, ◌++◌, Option, Some, None, sym, ap, ◌∙◌, inl, inr, arith, subst}
-use Rattle.std.proofs.lemmas.Bool.{cases_order}
-use Rattle.zf_finite.specs.Finite.{infinite_lines, IsFinite}
-use Rattle.zf_finite.proofs.FiniteSchemas.{finite_without_lines}
-use Rattle.zf_term.specs.Definitions.{Comp, Defined, Schema}
-use Rattle.zf_extent.specs.Extents.{first}
-use Rattle.zf_type.specs.declared.fault.TypeFault.{TypeFault}
+use Rattle.zf_answers.proofs.Prelude.{◌++◌, ◌<◌, ◌∙◌, ◌≡◌, ◌⊎◌, ap, arith, Bool, false, inl, inr, List, None, Option, Some, subst, sym, true, ℕ, cases_order, Event, cut, IsNumberOfTests, IsUpTo, IsWalked, exact, value_order, Value, Comp, Defined, Schema, TypeFault, first, finite_without_lines, infinite_lines, IsFinite, Environment, IsEnvironment, AreComplete, given_sets, Size, one_row, AreClear, spellings, one_ranges, Portion, property, IsFirstOut, AreEventsUpTo, HasEvents, IsTestsLine, IsWritten, binding_line, tests_line, Status, property_told, AreHeld, Checks, IsNamedRow, Request, ShowsEvents}
 use Rattle.zf_value.specs.declared.value.Outcome.{Outcome}
-use Rattle.zf_value.specs.declared.value.Value.{Value}
 use Rattle.zf_value.specs.contracts.value.ValueOrd.TheImpl.Laws as order_laws
-use Rattle.zf_value.specs.Sets.{value_order}
-use Rattle.zf_value.proofs.Exact.{exact}
-use Rattle.zf_walk.specs.Events.{Event}
-use Rattle.zf_walk.specs.Tests.{IsNumberOfTests, IsUpTo, IsWalked, cut}
 use Rattle.zf_walk.proofs.Counting.{number-le}
-use Rattle.zf_meaning.specs.declared.sizes.Size.{Size}
-use Rattle.zf_meaning.specs.Environments.{Environment}
-use Rattle.zf_meaning.specs.GlobalOutcomes.{IsEnvironment}
-use Rattle.zf_meaning.specs.Sizes.{given_sets, AreComplete}
 use Rattle.zf_meaning.proofs.Environments.{one_environment}
 use Rattle.zf_enum.specs.Events.{AreTests}
-use Rattle.zf_enum.specs.Portions.{Portion}
-use Rattle.zf_enum.specs.Property.{property}
-use Rattle.zf_enum.specs.Ranges.{IsFirstOut}
-use Rattle.zf_enum.proofs.EventLaws.{one_ranges}
-use Rattle.zf_texts.specs.Clear.{AreClear}
-use Rattle.zf_texts.specs.Spellings.{spellings}
 use Rattle.zf_texts.proofs.OneHeld.{one_next}
-use Rattle.zf_texts.proofs.OneRow.{one_row}
 use Rattle.zf_names.proofs.Clear.{globals_clear}
-use Rattle.zf_lines.specs.declared.fault.Status.{Status}
-use Rattle.zf_lines.specs.Searches.{AreEventsUpTo, HasEvents, IsTestsLine, IsWritten}
-use Rattle.zf_lines.specs.Texts.{binding_line, tests_line}
-use Rattle.zf_found.proofs.Searches.{property_told}
-use Rattle.zf_engine.specs.Answers.{AreHeld, Checks, IsNamedRow, Request}
-use Rattle.zf_answers.specs.Laws.{ShowsEvents}
 use Rattle.zf_answers.proofs.OneEnding.{AreOneEnd, one_ending}
 use Rattle.zf_answers.proofs.OneRefusal.{one_sizes}
 

@@ -1,23 +1,12 @@
 -- A source is read by one tree or refused, and defines one list of globals.
-use Rattle.std.proofs.Common.{◌≡◌, ℕ, ◌⊎◌, List, [], ◌∷◌, ◌++◌, refl, sym, ap, ◌∙◌, inl, inr, subst}
-use Rattle.std.specs.Prelude.{◌≢◌}
-use Rattle.zf_scan.specs.declared.fault.TextFault.{TextFault}
+use Rattle.zf_answers.proofs.Prelude.{◌++◌, ◌∙◌, ◌∷◌, ◌≡◌, ◌⊎◌, [], ap, inl, inr, List, refl, subst, sym, ℕ, ◌≢◌, BoxTree, TextFault, Token, only_one, IsGrammarFault, ReadsLow, ReadsSource, Refuses, RefusesSource, Defined, Schema, TypeFault, Checks, IsNamed, text_fault_line, AreOfSame, TellsGrammar}
 use Rattle.zf_scan.specs.declared.fault.TextFaultKind.{TextFaultKind}
 use Rattle.zf_scan.specs.declared.fault.TextFaultKind.TheVariants as fault
-use Rattle.zf_scan.specs.declared.token.Token.{Token}
 use Rattle.zf_scan.proofs.Laws.{is_cut_once, is_not_both, faults_once}
-use Rattle.zf_text.specs.Parsing.{IsGrammarFault, ReadsLow, ReadsSource, Refuses, RefusesSource}
-use Rattle.zf_tree.specs.Trees.{BoxTree}
-use Rattle.zf_text.proofs.Answers.{only_one}
-use Rattle.zf_term.specs.Definitions.{Defined, Schema}
-use Rattle.zf_type.specs.declared.fault.TypeFault.{TypeFault}
 use Rattle.zf_schema.specs.Checking as check
 use Rattle.zf_schema.specs.Checking.{Item, items, ChecksOne, IsChecked}
 use Rattle.zf_schema.proofs.OneCheck.{one_step}
 use Rattle.zf_schema.proofs.OneSchema.{one_base}
-use Rattle.zf_engine.specs.Answers.{Checks, IsNamed}
-use Rattle.zf_engine.specs.Texts.{text_fault_line}
-use Rattle.zf_answers.specs.Laws.{AreOfSame, TellsGrammar}
 
 -- ---- the text
 

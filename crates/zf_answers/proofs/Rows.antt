@@ -1,8 +1,5 @@
 -- Lists of rows, and of events: what stands in a front, at the end, and the order of two lists that ascend.
-use Rattle.std.proofs.Common.{◌≡◌, zero, suc, ◌≤◌, ◌⊎◌, List, [], ◌∷◌, ◌++◌, length, refl, sym, ap, ◌∙◌, inl, inr, arith, subst}
-use Rattle.std.specs.Prelude.{Contains, All, AllPairs}
-use Rattle.std.proofs.lemmas.List.Elements.{All-head, All-tail}
-use Rattle.zf_walk.proofs.Lists.{Contains-head, Contains-later, Contains-cases, Contains-left, AllPairs-nil, AllPairs-cons, AllPairs-head, AllPairs-tail}
+use Rattle.zf_answers.proofs.Prelude.{◌++◌, ◌∙◌, ◌∷◌, ◌≡◌, ◌≤◌, ◌⊎◌, [], ap, arith, inl, inr, length, List, refl, subst, suc, sym, zero, All-head, All-tail, All, AllPairs, Contains, AllPairs-cons, AllPairs-head, AllPairs-nil, AllPairs-tail, Contains-cases, Contains-head, Contains-later, Contains-left}
 
 -- ---- fronts
 

@@ -1,31 +1,7 @@
 -- Runs that follow each other make one.
-use Rattle.std.proofs.Common.{◌≡◌, ◌↔◌, ℕ, Bool, false, List, [], ◌∷◌, ◌++◌, length, map, Option, Some, None, refl, sym, ap, ◌∙◌, append-nil, codes, inr, subst}
-use Rattle.std.specs.Prelude.{Contains}
-use Rattle.std.specs.List.{flat_map}
-use Rattle.std.proofs.lemmas.List.{length-map}
-use Rattle.std.proofs.lemmas.List.Folds.{flat_map-map}
-use Rattle.zf_term.specs.Definitions.{Defined, Schema}
-use Rattle.zf_value.specs.declared.value.Value.{Value}
+use Rattle.zf_answers.proofs.Prelude.{◌++◌, ◌↔◌, ◌∙◌, ◌∷◌, ◌≡◌, [], ap, append-nil, Bool, codes, false, inr, length, List, map, None, Option, refl, Some, subst, sym, ℕ, length-map, flat_map-map, flat_map, Contains, Event, True, exact, value_order, Value, Defined, Schema, Environment, binding_text, spellings, one_ranges, behind, Portion, property, AreEventsUpTo, HasEvents, Hold, IsTestsLine, IsWritten, lines, binding_line, Status, property_told, IsLineOf, IsSearch, Request, ShowAnswer, EndsLines, IsBefore, IsBinding, IsInDoubt, IsNotPast, ShowsBindings, AnswersRequest, IsGranted, ShowsEvents, limited, resumed, RunsMakeOne, together}
 use Rattle.zf_value.specs.contracts.value.ValueOrd.TheImpl.Laws as order_laws
-use Rattle.zf_value.specs.Sets.{value_order}
-use Rattle.zf_value.proofs.Exact.{exact}
-use Rattle.zf_walk.specs.declared.judge.Truth.TheVariants.{True}
-use Rattle.zf_walk.specs.Events.{Event}
-use Rattle.zf_meaning.specs.Environments.{Environment}
-use Rattle.zf_enum.specs.Portions.{Portion, behind}
-use Rattle.zf_enum.specs.Property.{property}
-use Rattle.zf_enum.proofs.EventLaws.{one_ranges}
-use Rattle.zf_texts.specs.BindingTexts.{binding_text}
-use Rattle.zf_texts.specs.Spellings.{spellings}
-use Rattle.zf_lines.specs.declared.fault.Status.{Status}
-use Rattle.zf_lines.specs.Searches.{AreEventsUpTo, HasEvents, Hold, IsTestsLine, IsWritten, lines}
-use Rattle.zf_lines.specs.Texts.{binding_line}
-use Rattle.zf_found.proofs.Searches.{property_told}
-use Rattle.zf_engine.specs.Answers.{IsLineOf, IsSearch, Request, ShowAnswer}
 use Rattle.zf_resuming.specs.Laws.{LinesAreRows}
-use Rattle.zf_answers.specs.Bindings.{EndsLines, IsInDoubt, IsBinding, IsNotPast, IsBefore, ShowsBindings}
-use Rattle.zf_answers.specs.Laws.{AnswersRequest, IsGranted, ShowsEvents}
-use Rattle.zf_answers.specs.Runs.{RunsMakeOne, limited, resumed, together}
 use Rattle.zf_answers.proofs.Joined.{both_listed, both_written, last_event, last_is_event, rows_are_events, rows_hold}
 use Rattle.zf_answers.proofs.Shown.{binding_event, doubt_event, events_are_shown}
 use Rattle.zf_answers.proofs.WrittenRows.{with_truth}

@@ -1,30 +1,11 @@
 -- What `show` answers where nothing stands in the way of a request.
-use Rattle.std.proofs.Common.{◌↔◌, ℕ, zero, suc, ◌<◌, ◌⊎◌, List, [], ◌∷◌, ◌++◌, length, Option, Some, None, sym, ap, ◌∙◌, inl, inr, arith, subst}
-use Rattle.std.specs.Prelude.{Contains, All, slice_get}
-use Rattle.std.proofs.lemmas.List.Elements.{All-nil, All-cons, All-head, All-tail}
-use Rattle.zf_term.specs.Definitions.{Defined, Schema}
+use Rattle.zf_answers.proofs.Prelude.{◌++◌, ◌<◌, ◌↔◌, ◌∙◌, ◌∷◌, ◌⊎◌, [], ap, arith, inl, inr, length, List, None, Option, Some, subst, suc, sym, zero, ℕ, All-cons, All-head, All-nil, All-tail, All, Contains, slice_get, Contains-cases, Contains-head, Contains-later, Contains-nil, IsEvent, Out, True, exact, value_order, Value, Defined, Schema, Environment, given_sets, spellings, Portion, portion, HasTruth, property, binding_line, Status, AreHeld, HoldsNoValues, IsNamedRow, NamesNoRow, Request, stated, IsBinding, IsInDoubt, ShowsBindings, AnswersRequest, EachBindingIsShown, EventsAreShown, IsGranted, IsShownInOneWay, ShowsEvents}
 use Rattle.zf_term.specs.ResolvedTrees.{ResolvedTree}
-use Rattle.zf_value.specs.declared.value.Value.{Value}
 use Rattle.zf_value.specs.declared.value.Truth.{Truth}
 use Rattle.zf_value.specs.declared.value.Truth.TheVariants as truth
 use Rattle.zf_value.specs.contracts.value.ValueOrd.TheImpl.Laws as order_laws
-use Rattle.zf_value.specs.Sets.{value_order}
-use Rattle.zf_value.proofs.Exact.{exact}
-use Rattle.zf_walk.specs.declared.judge.Truth.TheVariants.{True, Out}
-use Rattle.zf_walk.specs.Events.{IsEvent}
-use Rattle.zf_walk.proofs.Lists.{Contains-head, Contains-later, Contains-cases, Contains-nil}
-use Rattle.zf_meaning.specs.Environments.{Environment}
 use Rattle.zf_meaning.specs.InRow.{in_row}
 use Rattle.zf_meaning.specs.Meaning.{IsTruth}
-use Rattle.zf_meaning.specs.Sizes.{given_sets}
-use Rattle.zf_enum.specs.Portions.{Portion, portion}
-use Rattle.zf_enum.specs.Property.{HasTruth, property}
-use Rattle.zf_texts.specs.Spellings.{spellings}
-use Rattle.zf_lines.specs.declared.fault.Status.{Status}
-use Rattle.zf_lines.specs.Texts.{binding_line}
-use Rattle.zf_engine.specs.Answers.{AreHeld, HoldsNoValues, IsNamedRow, NamesNoRow, Request, stated}
-use Rattle.zf_answers.specs.Bindings.{IsBinding, IsInDoubt, ShowsBindings}
-use Rattle.zf_answers.specs.Laws.{AnswersRequest, EachBindingIsShown, EventsAreShown, IsGranted, IsShownInOneWay, ShowsEvents}
 use Rattle.zf_answers.proofs.OneSource.{unread, one_checked, one_named, some_and_none}
 use Rattle.zf_answers.proofs.OneSearch.{clear_at, not_infinite, one_environment_at, one_held, one_named_row, one_shown}
 use Rattle.zf_answers.proofs.OneRefusal.{none_refused}

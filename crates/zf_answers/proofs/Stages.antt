@@ -1,24 +1,7 @@
 -- An answer of `show` by its stages: at each it is refused, or goes on with what the next one stands on.
+use Rattle.zf_answers.proofs.Prelude.{flat_map, slice_get, Value, Comp, Defined, Schema, TypeFault, first, infinite_lines, IsFinite, Environment, IsEnvironment, AreComplete, given_sets, IsRefusal, SizeFault, Portion, portion, IsFirstOut, IsNoneOut, Status, BadRequest, BadSpec, PastBounds, AreHeld, Checks, HoldsNoValues, IsNamed, IsNamedRow, NamesNoRow, Request, ShowAnswer, size_fault_line, stated, declared_out_line, fault_line, no_schema_line, not_a_binding_line, not_finite_text, not_held_line, type_fault_line, ShowsEvents}
 use Rattle.std.proofs.Common.{◌≡◌, ◌≢◌, ℕ, ◌⊎◌, List, [], Option, Some, inl, inr}
-use Rattle.std.specs.Prelude.{slice_get}
-use Rattle.std.specs.List.{flat_map}
-use Rattle.zf_finite.specs.Finite.{infinite_lines, IsFinite}
-use Rattle.zf_term.specs.Definitions.{Comp, Defined, Schema}
-use Rattle.zf_extent.specs.Extents.{first}
-use Rattle.zf_type.specs.declared.fault.TypeFault.{TypeFault}
-use Rattle.zf_value.specs.declared.value.Value.{Value}
-use Rattle.zf_meaning.specs.declared.sizes.SizeFault.{SizeFault}
 use Rattle.zf_meaning.specs.declared.sizes.SizeFault.TheVariants as size_faults
-use Rattle.zf_meaning.specs.Environments.{Environment}
-use Rattle.zf_meaning.specs.GlobalOutcomes.{IsEnvironment}
-use Rattle.zf_meaning.specs.Sizes.{given_sets, AreComplete, IsRefusal}
-use Rattle.zf_enum.specs.Portions.{Portion, portion}
-use Rattle.zf_enum.specs.Ranges.{IsFirstOut, IsNoneOut}
-use Rattle.zf_lines.specs.declared.fault.Status.{Status}
-use Rattle.zf_lines.specs.declared.fault.Status.TheVariants.{BadSpec, BadRequest, PastBounds}
-use Rattle.zf_engine.specs.Answers.{AreHeld, Checks, HoldsNoValues, IsNamed, IsNamedRow, NamesNoRow, Request, ShowAnswer, size_fault_line, stated}
-use Rattle.zf_engine.specs.Texts.{declared_out_line, fault_line, no_schema_line, not_a_binding_line, not_finite_text, not_held_line, type_fault_line}
-use Rattle.zf_answers.specs.Laws.{ShowsEvents}
 
 module _ (r : Request) (file source text : List ℕ) (status : Status) where
   -- ---- the refusals

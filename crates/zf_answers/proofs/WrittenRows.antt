@@ -1,24 +1,5 @@
 -- The rows that are written are exactly those that are found up to the last one, and none before it is in doubt.
-use Rattle.std.proofs.Common.{◌≡◌, ◌↔◌, ℕ, List, [], ◌∷◌, ◌++◌, length, map, Option, Some, None, refl, sym, ap, ◌∙◌, inl, inr, arith, subst, codes}
-use Rattle.std.specs.Prelude.{Contains, AllPairs}
-use Rattle.std.specs.List.{flat_map}
-use Rattle.std.proofs.lemmas.List.{length-map, map-append, take_all}
-use Rattle.std.proofs.lemmas.List.Folds.{flat_map-map}
-use Rattle.std.proofs.lemmas.List.Elements.{All-contains, Contains-push_cases}
-use Rattle.std.specs.declared.cmp.Ordering.{Ordering}
-use Rattle.std.specs.Cmp.{IsTotalOrder}
-use Rattle.zf_walk.specs.declared.judge.Truth.{Truth}
-use Rattle.zf_walk.specs.declared.judge.Truth.TheVariants.{True, Out}
-use Rattle.zf_walk.specs.Conjuncts.{Conjuncts}
-use Rattle.zf_walk.specs.Rows.{TiesAreEqual, ComesAfter, HasLength}
-use Rattle.zf_walk.specs.Events.{Event, IsEvent}
-use Rattle.zf_walk.specs.Tests.{IsUpTo}
-use Rattle.zf_walk.proofs.Lists.{Contains-left, Contains-right, Contains-head}
-use Rattle.zf_walk.proofs.Picks.{IsRowOf-length}
-use Rattle.zf_lines.specs.declared.fault.Status.{Status}
-use Rattle.zf_lines.specs.Searches.{AreEventsUpTo, Hold, lines, out_line, IsBelow, IsWritten}
-use Rattle.zf_answers.specs.Bindings.{IsBefore, IsNotPast, EndsLines}
-use Rattle.zf_total.proofs.Orders.{AllPairs-mapped, Contains-map, Contains-mapped}
+use Rattle.zf_answers.proofs.Prelude.{◌++◌, ◌↔◌, ◌∙◌, ◌∷◌, ◌≡◌, [], ap, arith, codes, inl, inr, length, List, map, None, Option, refl, Some, subst, sym, ℕ, length-map, map-append, take_all, All-contains, Contains-push_cases, flat_map-map, IsTotalOrder, flat_map, AllPairs, Contains, Ordering, Contains-head, Contains-left, Contains-right, IsRowOf-length, Conjuncts, Event, IsEvent, ComesAfter, HasLength, TiesAreEqual, IsUpTo, Truth, Out, True, AllPairs-mapped, Contains-map, Contains-mapped, AreEventsUpTo, Hold, IsBelow, IsWritten, lines, out_line, Status, EndsLines, IsBefore, IsNotPast}
 use Rattle.zf_answers.proofs.Rows.{AllPairs-front}
 use Rattle.zf_answers.proofs.OneEnding.{rows_compared, never_both, never_itself}
 

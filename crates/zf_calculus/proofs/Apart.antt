@@ -1,12 +1,6 @@
 -- Components are gone over from the front: whether each has a name of its own.
-use Rattle.std.proofs.Common.{◌≡◌, ℕ, ◌+◌, ◌-◌, ◌<◌, Bool, true, false, List, length, map, drop, take, get_or, Option, Some, None, sym, ap, ◌∙◌, subst, true≢false}
-use Rattle.std.proofs.lemmas.List.{take_rest}
+use Rattle.zf_calculus.proofs.Prelude.{◌+◌, ◌-◌, ◌<◌, ◌∙◌, ◌≡◌, ap, Bool, drop, false, get_or, length, List, map, None, Option, Some, subst, sym, take, true, true≢false, ℕ, take_rest, at_step, dropped, Comp, comp_of, found_as, Component, AreOnce, comp_named}
 use Rattle.std.specs.Option.{is_some}
-use Rattle.zf_term.specs.declared.globals.Component.{Component}
-use Rattle.zf_term.specs.Definitions.{Comp, comp_of}
-use Rattle.zf_term.proofs.Walk.{at_step, dropped}
-use Rattle.zf_term.specs.FirstNamed.{found_as}
-use Rattle.zf_calculus.specs.Calculus.{comp_named, AreOnce}
 
 pub none_found : {A B : Type 0} (f : A → B) (o : Option (ℕ × A)) (p : Option (ℕ × B)) (test : Bool) → test ≡ is_some o → test ≡ false → found_as f o ≡ p → p ≡ None
 none_found f None p test is fails e = sym e

@@ -1,17 +1,7 @@
 -- A schema beside another: what is counted of both, and what is left.
-use Rattle.std.proofs.Common.{◌≡◌, ℕ, ◌+◌, ◌-◌, ◌<◌, ◌≤◌, List, [], ◌∷◌, ◌++◌, length, map, refl, ap, ◌∙◌, arith, length-append}
-use Rattle.std.proofs.lemmas.List.{length-map}
-use Rattle.std.proofs.lemmas.List.Sums.{sum_by-append, sum_by-cons}
-use Rattle.std.specs.List.{AllByRecursion, sum_by}
-use Rattle.zf_term.specs.Definitions.{Comp, Schema, DeclaredSet}
-use Rattle.zf_term.specs.ResolvedTrees.{ResolvedTree}
-use Rattle.zf_term.specs.SetShapes.{set_count, set_nodes}
-use Rattle.zf_reference.specs.Numbering.{place_in}
-use Rattle.zf_term.specs.Shapes.{moved, nodes}
+use Rattle.zf_calculus.proofs.Prelude.{◌++◌, ◌+◌, ◌-◌, ◌<◌, ◌∙◌, ◌∷◌, ◌≡◌, ◌≤◌, [], ap, arith, length, length-append, List, map, refl, ℕ, length-map, sum_by-append, sum_by-cons, AllByRecursion, sum_by, place_in, Comp, DeclaredSet, Schema, ResolvedTree, set_count, set_nodes, moved, nodes, AreAt, counted, HasLeft, IsLow, IsWithin}
 use Rattle.zf_term.proofs.Renumbered.{same_height, same_nodes}
 use Rattle.zf_calculus.specs.Calculus.{conjoined, new_place, schema_of, with_comp, with_comps}
-use Rattle.zf_calculus.specs.Growth.{AreAt, HasLeft, counted}
-use Rattle.zf_calculus.specs.Limits.{IsWithin, IsLow}
 use Rattle.zf_calculus.proofs.Merging.{counts_more}
 use Rattle.zf_calculus.proofs.Monotony.{all_low}
 use Rattle.zf_calculus.proofs.Placing.{are_new_places}

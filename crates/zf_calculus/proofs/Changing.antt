@@ -1,15 +1,5 @@
 -- A schema beside its state after an operation.
-use Rattle.std.proofs.Common.{◌≡◌, inl, inr, ℕ, List, length, map, sym, ap, ◌∙◌, subst}
-use Rattle.zf_term.specs.declared.globals.Component.{Component}
-use Rattle.zf_term.specs.declared.globals.Flat.{Flat}
-use Rattle.zf_term.specs.Definitions.{Comp, Schema, comp_of, schema_of}
-use Rattle.zf_term.specs.ResolvedTrees.{ResolvedTree}
-use Rattle.zf_reference.specs.Numbering.{place_in}
-use Rattle.zf_term.specs.declared.fault.TypeFaultKind.{TypeFaultKind}
-use Rattle.zf_calculus.specs.Calculus.{Agree, with_comps, carried, conjoined, decorated, prime, delta, xi, new_place, all_unchanged}
-use Rattle.zf_calculus.specs.Growth.{IsTooLarge, constrained, equalities}
-use Rattle.zf_calculus.specs.Limits.{IsWithin}
-use Rattle.zf_calculus.specs.Steps.{Stops}
+use Rattle.zf_calculus.proofs.Prelude.{◌∙◌, ◌≡◌, ap, inl, inr, length, List, map, subst, sym, ℕ, place_in, Comp, comp_of, Schema, schema_of, ResolvedTree, TypeFaultKind, Component, Flat, Agree, all_unchanged, carried, conjoined, decorated, delta, new_place, prime, with_comps, xi, constrained, equalities, IsTooLarge, IsWithin, Stops}
 use Rattle.zf_calculus.proofs.Equalities.{same_equalities}
 use Rattle.zf_calculus.proofs.Monotony.{before_all, before_conjuncts}
 

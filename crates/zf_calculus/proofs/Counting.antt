@@ -1,8 +1,5 @@
 -- Lists that are gone over from the front: what is counted, and what holds of each.
-use Rattle.std.proofs.Common.{◌≡◌, ℕ, zero, suc, ◌+◌, ◌<◌, List, [], ◌∷◌, length, map, drop, get_or, sym, ap, ◌∙◌, subst, arith}
-use Rattle.std.specs.List.{AllByRecursion, sum_by}
-use Rattle.std.proofs.lemmas.List.Sums.{sum_by-cons}
-use Rattle.zf_term.proofs.Walk.{dropped}
+use Rattle.zf_calculus.proofs.Prelude.{◌+◌, ◌<◌, ◌∙◌, ◌∷◌, ◌≡◌, [], ap, arith, drop, get_or, length, List, map, subst, suc, sym, zero, ℕ, sum_by-cons, AllByRecursion, sum_by, dropped}
 
 -- what is counted of the rest is counted of its first, and of what is behind it
 pub counted_at : {X Y : Type 0} (f : Y → ℕ) (g : X → Y) (xs : List X) (i : ℕ) (x : X) → i < length xs → x ≡ get_or xs i x → sum_by f (map g (drop i xs)) ≡ f (g x) + sum_by f (map g (drop (i + 1) xs))

@@ -1,16 +1,7 @@
 -- Strokes change no size, and are added to one component after another.
+use Rattle.zf_calculus.proofs.Prelude.{set, drop-set-lt, drop_all, get_or_default, length-map, take_all, take_more_set, sum_by-cons, sum_by, dropped, pushed, Comp, comp_of, DeclaredSet, Schema, set_count, set_nodes, Component, counted, HasLeft, IsWithin}
 use Rattle.std.proofs.Common.{◌≡◌, ℕ, ◌+◌, ◌<◌, ◌≤◌, Bool, true, ◌==◌, eqb-true, length, sym, List, [], ◌∷◌, ◌++◌, map, take, drop, get_or, refl, ap, ◌∙◌, subst, arith, append-nil}
-use Rattle.std.proofs.Math.ListN.{set}
-use Rattle.std.proofs.lemmas.List.{length-map, get_or_default, take_all, drop_all, take_more_set, drop-set-lt}
-use Rattle.std.proofs.lemmas.List.Sums.{sum_by-cons}
-use Rattle.std.specs.List.{sum_by}
-use Rattle.zf_term.specs.declared.globals.Component.{Component}
-use Rattle.zf_term.specs.Definitions.{Comp, Schema, DeclaredSet, comp_of}
-use Rattle.zf_term.specs.SetShapes.{set_count, set_nodes}
-use Rattle.zf_term.proofs.Walk.{dropped, pushed}
 use Rattle.zf_calculus.specs.Calculus.{comp, schema_of, decorated}
-use Rattle.zf_calculus.specs.Growth.{HasLeft, counted}
-use Rattle.zf_calculus.specs.Limits.{IsWithin}
 
 abbrev pub stroked : List ℕ → Comp → Comp
 stroked strokes c = comp (c.name ++ strokes) c.type c.sets

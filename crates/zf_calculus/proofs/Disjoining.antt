@@ -1,20 +1,7 @@
 -- The components of disjunctions.
-use Rattle.std.proofs.Common.{◌≡◌, inr, ℕ, ◌<◌, List, [], ◌∷◌, length, map, refl, sym, ap, ◌∙◌, subst, arith}
-use Rattle.std.proofs.lemmas.List.{length-map}
-use Rattle.zf_term.specs.declared.globals.Component.{Component}
-use Rattle.zf_term.specs.declared.globals.Domain.{Domain}
+use Rattle.zf_calculus.proofs.Prelude.{◌<◌, ◌∙◌, ◌∷◌, ◌≡◌, [], ap, arith, inr, length, List, map, refl, subst, sym, ℕ, length-map, of-Either, Comp, comp_of, DeclaredSet, Schema, schema_of, set_of, sets_of, sides, type_of, TypeFaultKind, Component, Domain, Flat, ZType, comp, comp_named, disjoined, sets_on, with_comps, disjoined_over, either_comp, IsTooLarge, IsWithin, IsNext, Stops}
 use Rattle.zf_term.specs.declared.globals.Domain.TheVariants as v
-use Rattle.zf_term.specs.declared.globals.Flat.{Flat}
-use Rattle.zf_term.specs.declared.ztype.ZType.{ZType}
-use Rattle.zf_term.specs.Definitions.{Comp, Schema, DeclaredSet, sides, sets_of, set_of, comp_of, schema_of}
-use Rattle.zf_term.specs.Types.{type_of}
-use Rattle.zf_term.specs.declared.fault.TypeFaultKind.{TypeFaultKind}
 use Rattle.zf_term.specs.declared.fault.TypeFaultKind.TheVariants as kinds
-use Rattle.zf_calculus.specs.Calculus.{comp, comp_named, sets_on, with_comps, disjoined}
-use Rattle.zf_calculus.specs.Growth.{IsTooLarge, either_comp, disjoined_over}
-use Rattle.zf_calculus.specs.Steps.{IsNext, Stops}
-use Rattle.zf_calculus.specs.Limits.{IsWithin}
-use Rattle.zf_term.proofs.SetsSeen.{of-Either}
 use Rattle.zf_calculus.proofs.Merging.{none_shorter}
 use Rattle.zf_calculus.proofs.Placing.{TooMany}
 

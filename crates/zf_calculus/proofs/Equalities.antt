@@ -1,20 +1,9 @@
 -- The conjuncts of `\Xi`: what the program makes is what is wanted.
+use Rattle.zf_calculus.proofs.Prelude.{place_in, Equal, new_link, of-Chain, of-link, of-Name, dropped, Comp, Schema, chain, link, links, no_links, reference, resolved_link_of, resolved_of, ResolvedTree, TypeFaultKind, Resolved, ResolvedLink, all_unchanged, new_place, unchanged, constrained, equalities, equality, IsTooLarge, IsWithin}
 use Rattle.std.proofs.Common.{◌≡◌, ℕ, zero, suc, ◌+◌, ◌<◌, List, [], ◌∷◌, ◌++◌, length, map, drop, get_or, refl, sym, ap, ◌∙◌, subst, arith, append_assoc}
-use Rattle.zf_tree.specs.declared.symbol.Relation.TheVariants.{Equal}
 use Rattle.zf_reference.specs.declared.reference.Reference.TheVariants.{Component}
-use Rattle.zf_term.specs.declared.resolved.Resolved.{Resolved}
-use Rattle.zf_term.specs.declared.resolved.ResolvedLink.{ResolvedLink}
 use Rattle.zf_term.specs.declared.resolved.Resolved.TheVariants as v
-use Rattle.zf_term.specs.Definitions.{Comp, Schema}
-use Rattle.zf_term.specs.ResolvedTrees.{ResolvedTree, reference, chain, links, link, no_links, resolved_of, resolved_link_of}
-use Rattle.zf_reference.specs.Numbering.{place_in}
-use Rattle.zf_term.proofs.ResolvedSeen.{new_link, of-Name, of-Chain, of-link}
-use Rattle.zf_term.specs.declared.fault.TypeFaultKind.{TypeFaultKind}
 use Rattle.zf_calculus.specs.Calculus as calculus
-use Rattle.zf_calculus.specs.Calculus.{new_place, unchanged, all_unchanged}
-use Rattle.zf_calculus.specs.Growth.{IsTooLarge, constrained, equality, equalities}
-use Rattle.zf_calculus.specs.Limits.{IsWithin}
-use Rattle.zf_term.proofs.Walk.{dropped}
 use Rattle.zf_calculus.proofs.Monotony.{before_conjuncts}
 
 pub equality_seen : (l i p : ℕ) (t : Resolved) (ks : List ResolvedLink) → t ≡ v.Name l (Component i) → ks ≡ new_link Equal (v.Name l (Component p)) ∷ [] → resolved_of (v.Chain l t ks) ≡ equality l i p

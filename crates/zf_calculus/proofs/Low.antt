@@ -1,11 +1,5 @@
 -- Conjuncts with few nodes are not too high.
-use Rattle.std.proofs.Common.{◌≤◌, List, [], ◌∷◌, arith}
-use Rattle.std.specs.List.{AllByRecursion, sum_by}
-use Rattle.std.proofs.lemmas.List.Sums.{sum_by-cons}
-use Rattle.zf_term.specs.ResolvedTrees.{ResolvedTree}
-use Rattle.zf_term.specs.Shapes.{nodes}
-use Rattle.zf_shape.proofs.Heights.{below_nodes}
-use Rattle.zf_calculus.specs.Limits.{IsLow}
+use Rattle.zf_calculus.proofs.Prelude.{◌∷◌, ◌≤◌, [], arith, List, sum_by-cons, AllByRecursion, sum_by, ResolvedTree, nodes, below_nodes, IsLow}
 
 pub few_are_low : (ts : List ResolvedTree) → sum_by nodes ts ≤ 256 → AllByRecursion IsLow ts
 few_are_low [] e = tt

@@ -1,22 +1,9 @@
 -- That components lie in their declared sets.
-use Rattle.std.proofs.Common.{◌≡◌, ℕ, List, [], ◌∷◌, ◌++◌, length, map, sym, ap, ◌∙◌, arith}
-use Rattle.std.proofs.lemmas.List.{append-nil, map-append}
+use Rattle.zf_calculus.proofs.Prelude.{◌++◌, ◌∙◌, ◌∷◌, ◌≡◌, [], ap, arith, length, List, map, sym, ℕ, append-nil, map-append, Member, new_link, of-Chain, of-Constant, of-link, of-Name, of-Carrier, of-Either, of-Plain, DeclaredSet, set_of, chain, link, links, no_links, reference, resolved_link_of, resolved_of, ResolvedTree, line_of, Domain, Resolved, ResolvedLink, ZType, joined, membership, is_member}
 use Rattle.zf_tree.specs.declared.symbol.Constant.TheVariants.{True}
-use Rattle.zf_tree.specs.declared.symbol.Relation.TheVariants.{Member}
 use Rattle.zf_reference.specs.declared.reference.Reference.TheVariants.{Component}
-use Rattle.zf_term.specs.declared.resolved.Resolved.{Resolved}
-use Rattle.zf_term.specs.declared.resolved.ResolvedLink.{ResolvedLink}
 use Rattle.zf_term.specs.declared.resolved.Resolved.TheVariants as v
-use Rattle.zf_term.specs.declared.globals.Domain.{Domain}
 use Rattle.zf_term.specs.declared.globals.Domain.TheVariants as domains
-use Rattle.zf_term.specs.declared.ztype.ZType.{ZType}
-use Rattle.zf_term.specs.Definitions.{DeclaredSet, set_of}
-use Rattle.zf_term.specs.ResolvedTrees.{ResolvedTree, reference, chain, links, link, no_links, resolved_of, resolved_link_of}
-use Rattle.zf_term.specs.Shapes.{line_of}
-use Rattle.zf_term.proofs.ResolvedSeen.{new_link, of-Name, of-Constant, of-Chain, of-link}
-use Rattle.zf_calculus.specs.Calculus.{membership, joined}
-use Rattle.zf_term.proofs.SetsSeen.{of-Plain, of-Carrier, of-Either}
-use Rattle.zf_calculus.specs.Growth.{is_member}
 
 pub member_seen : (l i : ℕ) (e t : Resolved) (ks : List ResolvedLink) → l ≡ line_of (resolved_of e) → t ≡ v.Name l (Component i) → ks ≡ new_link Member e ∷ [] → resolved_of (v.Chain l t ks) ≡ is_member i (resolved_of e)
 member_seen l i e t ks m g h =

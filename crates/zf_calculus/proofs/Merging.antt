@@ -1,16 +1,5 @@
 -- One more component: which one changes, and what it adds to what is counted.
-use Rattle.std.proofs.Common.{◌≡◌, ◌⊎◌, inl, inr, ℕ, suc, ◌+◌, ◌<◌, ◌≤◌, if◌then◌else◌, Bool, true, false, List, [], ◌∷◌, ◌++◌, length, map, get_or, Option, Some, None, refl, sym, ap, ◌∙◌, subst, arith, add-one, length-append}
-use Rattle.std.proofs.Math.ListN.{set, length-set}
-use Rattle.std.proofs.lemmas.List.{get_or-map, get_or_default, map-set, map-append, length-map}
-use Rattle.std.specs.List.{sum_by}
-use Rattle.std.specs.Str.{bytes_eq}
-use Rattle.std.proofs.lemmas.List.Sums.{sum_by-cons, sum_by-append}
-use Rattle.zf_term.specs.declared.globals.Component.{Component}
-use Rattle.zf_term.specs.Definitions.{Comp, DeclaredSet, comp_of, set_of}
-use Rattle.zf_term.specs.FirstNamed.{later}
-use Rattle.zf_term.specs.Types.{type_of}
-use Rattle.zf_calculus.specs.Growth.{enriched, counted}
-use Rattle.zf_calculus.specs.Calculus.{comp, comp_named, with_comp, with_comps}
+use Rattle.zf_calculus.proofs.Prelude.{if◌then◌else◌, ◌++◌, ◌+◌, ◌<◌, ◌∙◌, ◌∷◌, ◌≡◌, ◌≤◌, ◌⊎◌, [], add-one, ap, arith, Bool, false, get_or, inl, inr, length, length-append, List, map, None, Option, refl, Some, subst, suc, sym, true, ℕ, length-set, set, get_or-map, get_or_default, length-map, map-append, map-set, sum_by-append, sum_by-cons, sum_by, bytes_eq, Comp, comp_of, DeclaredSet, set_of, later, type_of, Component, comp, comp_named, with_comp, with_comps, counted, enriched}
 
 some_alike : {A : Type 0} {x y : A} → Some x ≡ Some y → x ≡ y
 some_alike h = (cc)

@@ -1,14 +1,6 @@
 -- A schema that has grown is within the limits only if it was before.
-use Rattle.std.proofs.Common.{◌≡◌, ℕ, ◌+◌, ◌<◌, ◌≤◌, List, [], ◌∷◌, ◌++◌, length, arith, length-append}
-use Rattle.std.specs.List.{AllByRecursion, sum_by}
-use Rattle.std.proofs.lemmas.List.Sums.{sum_by-append, sum_by_push}
-use Rattle.zf_term.specs.Definitions.{Comp, Schema}
-use Rattle.zf_term.specs.ResolvedTrees.{ResolvedTree}
-use Rattle.zf_term.specs.SetShapes.{set_count, set_nodes}
-use Rattle.zf_term.specs.Shapes.{nodes, height}
+use Rattle.zf_calculus.proofs.Prelude.{◌++◌, ◌+◌, ◌<◌, ◌∷◌, ◌≡◌, ◌≤◌, [], arith, length, length-append, List, ℕ, sum_by-append, sum_by_push, AllByRecursion, sum_by, Comp, Schema, ResolvedTree, set_count, set_nodes, height, nodes, constrained, grown, HasLeft, all_nodes, IsLow, IsWithin}
 use Rattle.zf_calculus.specs.Calculus.{schema_of, with_comp, with_comps}
-use Rattle.zf_calculus.specs.Growth.{HasLeft, grown, constrained}
-use Rattle.zf_calculus.specs.Limits.{IsWithin, IsLow, all_nodes}
 use Rattle.zf_calculus.proofs.Merging.{counts_more, no_shorter}
 
 pub before_one : (cs : List Comp) (c : Comp) (ts : List ResolvedTree) → IsWithin (schema_of (with_comp cs c) ts) → IsWithin (schema_of cs ts)

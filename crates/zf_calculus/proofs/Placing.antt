@@ -1,19 +1,6 @@
 -- Where the components of a name are, and that they stay there.
-use Rattle.std.proofs.Common.{◌≡◌, ℕ, zero, suc, ◌+◌, ◌<◌, ◌≤◌, Bool, true, false, if◌then◌else◌, List, [], ◌∷◌, ◌++◌, length, map, get_or, Option, Some, None, slice_get, refl, sym, ap, ◌∙◌, subst, arith, add-one}
-use Rattle.std.proofs.lemmas.List.{append_assoc, append-nil, length-map}
-use Rattle.std.proofs.lemmas.Option.{same_Some, none-some, slice_get_past}
-use Rattle.std.specs.Str.{bytes_eq}
-use Rattle.zf_term.specs.declared.globals.Component.{Component}
-use Rattle.zf_term.specs.Definitions.{Comp, comp_of}
-use Rattle.zf_term.specs.FirstNamed.{later}
-use Rattle.zf_reference.specs.Numbering.{place_in}
-use Rattle.zf_term.proofs.Places.{in_full}
-use Rattle.zf_term.proofs.SameNames.{is_itself}
-use Rattle.zf_term.specs.declared.fault.TypeFaultKind.{TypeFaultKind}
+use Rattle.zf_calculus.proofs.Prelude.{if◌then◌else◌, ◌++◌, ◌+◌, ◌<◌, ◌∙◌, ◌∷◌, ◌≡◌, ◌≤◌, [], add-one, ap, arith, Bool, false, get_or, length, List, map, None, Option, refl, slice_get, Some, subst, suc, sym, true, zero, ℕ, append-nil, append_assoc, length-map, none-some, same_Some, slice_get_past, bytes_eq, place_in, in_full, is_itself, Comp, comp_of, later, TypeFaultKind, Component, comp, comp_named, new_place, place_of, place_or, with_comp, with_comps, AreAt, place_found, place_named, AreFew}
 use Rattle.zf_term.specs.declared.fault.TypeFaultKind.TheVariants as kinds
-use Rattle.zf_calculus.specs.Calculus.{comp, comp_named, new_place, place_of, place_or, with_comp, with_comps}
-use Rattle.zf_calculus.specs.Growth.{AreAt, place_found, place_named}
-use Rattle.zf_calculus.specs.Limits.{AreFew}
 use Rattle.zf_calculus.proofs.Merging.{none_shorter, nothing_before}
 
 -- ---- one more component

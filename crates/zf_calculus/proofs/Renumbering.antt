@@ -1,17 +1,7 @@
 -- The list of new places says where each component is.
-use Rattle.std.proofs.Common.{◌≡◌, ℕ, ◌+◌, ◌<◌, ◌≤◌, List, [], ◌∷◌, ◌++◌, length, map, get_or, Some, refl, sym, ap, ◌∙◌, subst, arith}
-use Rattle.std.proofs.lemmas.List.{get_or-map, length-map, map-append}
+use Rattle.zf_calculus.proofs.Prelude.{◌++◌, ◌+◌, ◌<◌, ◌∙◌, ◌∷◌, ◌≡◌, ◌≤◌, [], ap, arith, get_or, length, List, map, refl, Some, subst, sym, ℕ, get_or-map, length-map, map-append, slice_get-get_or, slice_get_past, place_in, AreFirst, in_full, one_more, unmoved, pushed, comp_of, conjunct_of, ResolvedTree, moved, Component, comp_named, new_place, place_of, place_or}
 use borrow.Author.Count.{below_more}
-use Rattle.std.proofs.lemmas.Option.{slice_get-get_or, slice_get_past}
 use Rattle.zf_term.specs.declared.conjunct.Conjunct.{Conjunct}
-use Rattle.zf_term.specs.declared.globals.Component.{Component}
-use Rattle.zf_term.specs.Definitions.{comp_of, conjunct_of}
-use Rattle.zf_term.specs.ResolvedTrees.{ResolvedTree}
-use Rattle.zf_reference.specs.Numbering.{place_in}
-use Rattle.zf_term.specs.Shapes.{moved}
-use Rattle.zf_term.proofs.Walk.{pushed}
-use Rattle.zf_term.proofs.Places.{AreFirst, one_more, in_full, unmoved}
-use Rattle.zf_calculus.specs.Calculus.{comp_named, place_or, place_of, new_place}
 
 -- the places of the first components are known
 abbrev pub ArePlaces : List ℕ → List Component → List Component → Type 0

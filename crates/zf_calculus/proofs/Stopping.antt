@@ -1,9 +1,7 @@
 -- What stops a step says why.
-use Rattle.std.proofs.Common.{Result, Ok, Err, IfErr, IfOk}
-use Rattle.zf_term.specs.declared.fault.TypeFaultKind.{TypeFaultKind}
+use Rattle.zf_calculus.proofs.Prelude.{Err, IfErr, IfOk, Ok, Result, TypeFaultKind, IfStopped}
 use Rattle.zf_calculus.specs.declared.stop.Stop.{Stop}
 use Rattle.zf_calculus.specs.declared.stop.Stop.TheVariants.{Clash, TooLarge, OutOfMemory}
-use Rattle.zf_calculus.specs.Growth.{IfStopped}
 
 pub weaker : (e : Stop) (P Q : TypeFaultKind → Type 0) → ((k : TypeFaultKind) → P k → Q k) → IfStopped e P → IfStopped e Q
 weaker Clash P Q f h = f _ h

@@ -1,16 +1,6 @@
 -- A schema that is taken into the one of no declarations is itself, where its components have names of their own.
-use Rattle.std.proofs.Common.{◌≡◌, ℕ, zero, suc, Bool, true, false, if◌then◌else◌, List, [], ◌∷◌, ◌++◌, Option, Some, None, slice_get, refl, sym, ap, ◌∙◌, subst, add-one}
+use Rattle.zf_calculus.proofs.Prelude.{if◌then◌else◌, ◌++◌, ◌∙◌, ◌∷◌, ◌≡◌, [], add-one, ap, Bool, false, List, None, Option, refl, slice_get, Some, subst, suc, sym, true, zero, ℕ, append-nil, append_assoc, none-some, same_Some, AllByRecursion, bytes_eq, unmoved, is_itself, is_same, swapped, Comp, Schema, later, ResolvedTree, moved}
 use Rattle.std.proofs.Math.Path.{fun_ext}
-use Rattle.std.proofs.lemmas.List.{append-nil, append_assoc}
-use Rattle.std.proofs.lemmas.Option.{same_Some, none-some}
-use Rattle.std.specs.List.{AllByRecursion}
-use Rattle.std.specs.Str.{bytes_eq}
-use Rattle.zf_term.specs.Definitions.{Comp, Schema}
-use Rattle.zf_term.specs.ResolvedTrees.{ResolvedTree}
-use Rattle.zf_term.specs.FirstNamed.{later}
-use Rattle.zf_term.specs.Shapes.{moved}
-use Rattle.zf_term.proofs.Places.{unmoved}
-use Rattle.zf_term.proofs.SameNames.{is_same, is_itself, swapped}
 use Rattle.zf_calculus.specs.Calculus.{carried, comp_named, conjoined, new_place, nothing, place_of, place_or, schema_of, with_comp, with_comps, AreOnce}
 use Rattle.zf_calculus.proofs.Merging.{new_last, nothing_before, none_known}
 use Rattle.zf_calculus.proofs.Renumbering.{all_same}

@@ -1,10 +1,8 @@
 -- What a parse reads of a command with one more argument, or with a text for help.
-use Rattle.std.proofs.Common.{◌≡◌, ◌∙◌, ap, ap₂, ◌||◌, ℕ, List, Option, Bor}
-use Rattle.clap.specs.Words.{App, Rule, AddsArg, AddsSubcommand, with_rule, with_subcommand}
+use Rattle.zf_command.proofs.Prelude.{◌||◌, ◌∙◌, ◌≡◌, ap, ap₂, Bor, List, Option, ℕ, AddsArg, AddsSubcommand, App, Rule, with_rule, with_subcommand, IsArg, IsCommand}
 use Rattle.clap.specs.declared.builder.Arg.{Arg}
 use Rattle.clap.specs.declared.builder.command.Command.{Command}
 use Rattle.clap.specs.declared.builder.command.Command.TheViews.{out-Command}
-use Rattle.zf_command.specs.Apps.{IsArg, IsCommand}
 
 pub with_one_more : (old new : Command) (a : Arg) (app : App) (r : Rule) → IsCommand old app → IsArg a r → AddsArg old a new → IsCommand new (with_rule app r)
 with_one_more old new a app r is_old is_arg adds =

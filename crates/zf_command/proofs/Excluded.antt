@@ -1,13 +1,8 @@
 -- Words that are refused ask for no work.
-use Rattle.std.proofs.Common.{◌≡◌, ℕ, zero, suc, List, [], ◌∷◌, Option, Some, None, sym, ◌∙◌, arith, inl, inr, subst, codes}
-use Rattle.std.specs.List.{AllZip, Contains}
+use Rattle.zf_command.proofs.Prelude.{◌∙◌, ◌∷◌, ◌≡◌, [], arith, codes, inl, inr, List, None, Option, Some, subst, suc, sym, zero, ℕ, AllZip, Contains, first_of, IsAmong, Row, Text, HasBadLimit, IsAsked, IsJob, IsLimit, IsRefused, ReadsSize, Refuses, values_of, Work, Size}
 use Rattle.std.proofs.lemmas.Option.{same_Some}
-use Rattle.clap.specs.Words.{IsAmong, Row, Text, first_of}
-use Rattle.zf_command.specs.declared.job.Asked.TheVariants.{Work}
 use Rattle.zf_command.specs.declared.job.Job.{Job}
 use Rattle.zf_command.specs.declared.job.Job.TheVariants.{Check, Show}
-use Rattle.zf_command.specs.declared.job.Size.{Size}
-use Rattle.zf_command.specs.Jobs.{HasBadLimit, IsAsked, IsJob, IsLimit, IsRefused, ReadsSize, Refuses, values_of}
 
 -- each word of which the sizes are read is one
 size_of : (words : List Text) (sizes : List Size) (word : Text) → AllZip ReadsSize words sizes → Contains words word → (size : Size) × ReadsSize word size

@@ -1,3 +1,4 @@
+mod Prelude
 pub mod Commands
 pub mod Numbers
 pub mod Refusals

@@ -1,9 +1,7 @@
 -- What `parse` reads of a numeral, and which texts are numerals.
-use Rattle.std.proofs.Common.{◌≡◌, ◌<◌, ◌^◌, ◌-◌, ◌↔◌, ℕ, List, length, get_or, Result, Ok, Err, arith}
+use Rattle.zf_command.proofs.Prelude.{◌-◌, ◌<◌, ◌^◌, ◌↔◌, ◌≡◌, arith, Err, get_or, length, List, Ok, Result, ℕ, AllDigits, digits_value, IsNumeral, ParsesUnsigned, ReadsNumber}
 use Rattle.std.specs.Int.{IsInRange}
-use Rattle.std.specs.Str.Parse.{AllDigits, IsNumeral, ParsesUnsigned, digits_value}
 use Rattle.std.proofs.lemmas.Str.Parse.{numerals_by_value, parse_digits, tells_by_index, tells_digits}
-use Rattle.zf_command.specs.Jobs.{ReadsNumber}
 
 pub digits_by_index : (ds : List ℕ) → ((i : ℕ) → i < length ds → IsInRange 48 57 (get_or ds i 0)) ↔ AllDigits 10 ds
 digits_by_index ds = ((numerals_by_value _ tells_by_index).to ds, (numerals_by_value _ tells_by_index).from ds)

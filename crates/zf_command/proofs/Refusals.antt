@@ -1,15 +1,9 @@
 -- What the matches and the refusals of `clap` say of the words, by the literal of the command line.
-use Rattle.std.proofs.Common.{◌≡◌, ◌∙◌, ap, ap₂, sym, true, refl, subst, inl, inr, List, [], Option, Some, None, Result, Ok, Err, IfOk, option_map, Box}
-use Rattle.clap.specs.Words.{App, HasKind, HasMatchesOf, IsAmong, Row, Text, subcommand_name_of, subcommand_rows, fault_of, is_simple, is_simple_and_free, kind_of, subcommand_of, subcommand_rows_of}
+use Rattle.zf_command.proofs.Prelude.{◌∙◌, ◌≡◌, [], ap, ap₂, Box, Err, IfOk, inl, inr, List, None, Ok, Option, option_map, refl, Result, Some, subst, sym, true, App, fault_of, HasKind, HasMatchesOf, is_simple, is_simple_and_free, IsAmong, kind_of, Row, subcommand_name_of, subcommand_of, subcommand_rows, subcommand_rows_of, Text, OutOfMemory, zf_app, AreMatches, Asks, IsAsked, About, Work, UsageFault}
 use Rattle.clap.specs.declared.error.Error.{Error}
 use Rattle.clap.specs.declared.error.kind.ErrorKind.{ErrorKind}
-use Rattle.clap.specs.declared.error.kind.ErrorKind.TheVariants.{OutOfMemory}
 use Rattle.clap.proofs.OnLiterals.{clap_on_literals}
-use Rattle.zf_command.specs.Apps.{zf_app}
-use Rattle.zf_command.specs.Jobs.{AreMatches, Asks, IsAsked}
 use Rattle.zf_command.specs.declared.job.Asked.{Asked}
-use Rattle.zf_command.specs.declared.job.Asked.TheVariants.{About, Work}
-use Rattle.zf_command.specs.declared.job.UsageFault.{UsageFault}
 use Rattle.clap.specs.declared.parser.matches.ArgMatches.{ArgMatches}
 use Rattle.clap.specs.declared.parser.matches.ArgMatches.TheViews.{out-ArgMatches, out-SubCommand}
 use Rattle.clap.specs.declared.parser.matches.SubCommand.{SubCommand}

@@ -1,11 +1,7 @@
 -- What `split_once` makes of a size word, and what a loop over size words has read.
-use Rattle.std.proofs.Common.{◌≡◌, ◌≢◌, ◌+◌, ◌++◌, ◌∷◌, ◌∙◌, ◌<◌, ℕ, List, [], length, get_or, take, map, Option, Some, None, MatchOption, Bor, sym, ap, subst, append_assoc, lit<}
-use Rattle.std.specs.List.{AllZip}
-use Rattle.std.specs.Str.Parse.{IsNumeral}
+use Rattle.zf_command.proofs.Prelude.{◌++◌, ◌+◌, ◌<◌, ◌∙◌, ◌∷◌, ◌≡◌, ◌≢◌, [], ap, append_assoc, Bor, get_or, length, List, lit<, map, MatchOption, None, Option, Some, subst, sym, take, ℕ, AllZip, IsNumeral, HasBadSize, IsBadSize, ReadsNumber, ReadsSize, Size}
 use Rattle.std.proofs.lemmas.List.{get_or-map, get_or_default, length-map, map_more}
 use Rattle.std.proofs.lemmas.Str.Pattern.{IsSplitOnceResult, split_after, split_parts}
-use Rattle.zf_command.specs.Jobs.{IsBadSize, HasBadSize, ReadsNumber, ReadsSize}
-use Rattle.zf_command.specs.declared.job.Size.{Size}
 
 -- where a word is read as a size, it is parted into the name and the digits
 pub parts_are : (word : List ℕ) (r : Option (Bor (List ℕ) × Bor (List ℕ))) (size : Size) → IsSplitOnceResult 61 word r → (read : ReadsSize word size)

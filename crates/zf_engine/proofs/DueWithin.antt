@@ -1,14 +1,6 @@
 -- A schema that a well typed text defines can be searched: each conjunct needs the components of the schema alone.
-use Rattle.std.proofs.Common.{◌≡◌, ℕ, zero, suc, ◌<◌, ◌≤◌, List, [], ◌∷◌, length, take, Some, arith}
+use Rattle.zf_engine.proofs.Prelude.{◌<◌, ◌∷◌, ◌≡◌, ◌≤◌, [], arith, length, List, Some, suc, take, zero, ℕ, none-some, AreDueWithin, Defined, Schema, schema, ResolvedTree, AreWellTyped, Environment, due_of, property, IsNamed}
 use Rattle.std.specs.Prelude.{slice_get}
-use Rattle.std.proofs.lemmas.Option.{none-some}
-use Rattle.zf_term.specs.Definitions.{Defined, Schema, schema}
-use Rattle.zf_term.specs.ResolvedTrees.{ResolvedTree}
-use Rattle.zf_walk.specs.Progress.{AreDueWithin}
-use Rattle.zf_meaning.specs.Environments.{Environment}
-use Rattle.zf_schema.specs.WellTypedGlobals.{AreWellTyped}
-use Rattle.zf_enum.specs.Property.{property, due_of}
-use Rattle.zf_engine.specs.Answers.{IsNamed}
 use Rattle.zf_engine.proofs.Within.{AreDue}
 use Rattle.zf_engine.proofs.OwnComponents.{IsOwn, AreOwn, named_at, own_schema}
 

@@ -1,3 +1,4 @@
+mod Prelude
 pub mod Refusing
 pub mod Parts
 pub mod Within

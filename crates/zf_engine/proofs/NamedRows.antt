@@ -1,11 +1,7 @@
 -- The row that is named has a value of each component.
-use Rattle.std.proofs.Common.{◌≡◌, ℕ, List, [], ◌∷◌, length, Option, Some, None, ap, arith}
-use Rattle.zf_term.specs.Definitions.{Comp}
-use Rattle.zf_value.specs.declared.value.Value.{Value}
+use Rattle.zf_engine.proofs.Prelude.{◌∷◌, ◌≡◌, [], ap, arith, length, List, None, Option, Some, ℕ, Value, Comp, Environment, IsNamedRow}
 use Rattle.zf_walk.specs.Rows.{HasLength}
-use Rattle.zf_meaning.specs.Environments.{Environment}
 use Rattle.zf_meaning.specs.Rows.{IsRow}
-use Rattle.zf_engine.specs.Answers.{IsNamedRow}
 
 row_length : (e : Environment) (comps : List Comp) (row : List Value) → IsRow e comps row → length row ≡ length comps
 row_length e [] row h = ap (λ (vs : List Value). length vs) h

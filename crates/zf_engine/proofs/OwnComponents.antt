@@ -1,31 +1,17 @@
 -- The conjuncts of each schema that a text defines name its own components alone.
-use Rattle.std.proofs.Common.{◌≡◌, ℕ, zero, suc, ◌+◌, ◌<◌, ◌≤◌, Bool, true, false, if◌then◌else◌, List, [], ◌∷◌, ◌++◌, length, map, Option, Some, None, refl, sym, subst, arith}
+use Rattle.zf_engine.proofs.Prelude.{if◌then◌else◌, ◌++◌, ◌+◌, ◌<◌, ◌∷◌, ◌≡◌, ◌≤◌, [], arith, Bool, false, length, List, map, None, Option, refl, Some, subst, suc, sym, true, zero, ℕ, length-map, none-some, same_Some, bytes_eq, Component, spelling, both, DeclTree, either, include, schema_bracket, schema_text, SchemaTree, Tree, vars, onto_behind, carrier, Comp, DeclaredSet, Defined, plain, Schema, schema, sides, first_named, later, binary, ResolvedTree, conjuncts, line_of, moved, references, resolved, due, greatest_place}
 use Rattle.std.specs.Prelude.{flat_map, fold, slice_get}
-use Rattle.std.proofs.lemmas.List.{length-map}
-use Rattle.std.proofs.lemmas.Option.{none-some, same_Some}
-use Rattle.std.specs.Str.{bytes_eq}
 use Rattle.zf_tree.specs.declared.symbol.Connective.TheVariants.{And}
 use Rattle.zf_tree.specs.declared.tree.Name.{Name}
 use Rattle.zf_tree.specs.declared.tree.RefMark.{RefMark}
 use Rattle.zf_tree.specs.declared.tree.RefMark.TheVariants.{Plain, Delta, Xi}
 use Rattle.zf_tree.specs.declared.tree.SchemaRef.{SchemaRef}
-use Rattle.zf_tree.specs.Trees.{Tree, DeclTree, vars, include, SchemaTree, schema_text, both, either, schema_bracket}
 use Rattle.zf_tree.specs.Trees as text
 use Rattle.zf_tree.specs.declared.operator.Operator.TheVariants.{Connective}
-use Rattle.zf_reference.specs.declared.reference.Reference.TheVariants.{Component}
-use Rattle.zf_term.specs.Definitions.{Comp, Schema, DeclaredSet, plain, carrier, sides, Defined, schema}
-use Rattle.zf_term.specs.FirstNamed.{first_named, later}
-use Rattle.zf_term.specs.ResolvedTrees.{ResolvedTree, binary}
-use Rattle.zf_term.specs.Shapes.{line_of, moved, conjuncts}
-use Rattle.zf_term.specs.TermLaws.{references}
 use Rattle.zf_term.specs.Types.{Ty}
 use Rattle.zf_term.proofs.SameNames.{is_itself}
-use Rattle.zf_type.specs.Resolving.{resolved}
-use Rattle.zf_tree.specs.Names.{spelling}
-use Rattle.zf_term.proofs.Behind.{onto_behind}
 use Rattle.zf_calculus.specs.Calculus.{nothing, comp, comp_named, with_comp, with_comps, place_or, place_of, new_place, conjoined, carried, decorated, prime, delta, all_unchanged, xi, marked, either_comps, membership, memberships, constraints, joined, disjoined}
 use Rattle.zf_schema.specs.Expressions.{outside, inside, Refers, AddsAll, DeclaresOne, Declares, TakesAll, Constrains, IsSchema}
-use Rattle.zf_enum.specs.Property.{greatest_place, due}
 use Rattle.zf_engine.proofs.Within.{joins, first_below, resolved_within, AreDue, due_joined, due_longer, due_both, conjuncts_due, moved_due}
 
 -- ---- names that are found

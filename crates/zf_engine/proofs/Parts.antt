@@ -1,36 +1,19 @@
 -- How the parts of an answer that are written come together.
-use Rattle.std.proofs.Common.{◌≡◌, ◌⊎◌, ◌++◌, ℕ, List, [], ◌∷◌, Option, Bool, true, false, Result, Ok, Err, IfOk, OnErr, refl, sym, ap, ◌∙◌, append-nil, inl, inr, subst}
+use Rattle.zf_engine.proofs.Prelude.{◌++◌, ◌∙◌, ◌∷◌, ◌≡◌, ◌⊎◌, [], ap, append-nil, Bool, Err, false, IfOk, inl, inr, List, Ok, OnErr, Option, refl, Result, subst, sym, true, ℕ, Appends-kept, Appends-nil, false≢true, Appends, Keeps, Stage, Value, Schema, Environment, spellings, Spelling, Portion, property, Goal, Status, Answer, AnswersReader, AnswersSource, AreHeld, IsAsked, IsNamedRow, IsSearch, Request, ShowAnswer, ShowBegins, StopsInReader, StopsInSource, AnswersRequest, IfAnswered, Shows, Tells, Stop, Answered, OutOfMemory}
 use Rattle.std.specs.Result.{IsErr}
-use Rattle.std.proofs.lemmas.Bool.{false≢true}
-use Rattle.std.specs.Io.KnownBytes.{Appends, Keeps}
-use Rattle.std.proofs.KnownBytes.{Appends-kept, Appends-nil}
 use Rattle.zf_command.specs.declared.job.Job.{Job}
 use Rattle.zf_command.specs.declared.job.Job.TheVariants.{Show}
 use Rattle.zf_command.specs.declared.job.Size.{Size}
-use Rattle.zf_term.specs.Definitions.{Schema}
-use Rattle.zf_value.specs.declared.value.Value.{Value}
 use Rattle.zf_value.specs.Sets.{value_order}
-use Rattle.zf_meaning.specs.Environments.{Environment}
-use Rattle.zf_texts.specs.declared.spelling.Spelling.{Spelling}
-use Rattle.zf_texts.specs.Spellings.{spellings}
-use Rattle.zf_enum.specs.Portions.{Portion}
-use Rattle.zf_enum.specs.Property.{property}
-use Rattle.zf_enum.specs.Searches.{Goal}
 use Rattle.zf_enum.specs.Starts.{Begins}
 use Rattle.zf_lines.specs.declared.fault.RunFault.{RunFault}
-use Rattle.zf_lines.specs.declared.fault.Status.{Status}
-use Rattle.zf_engine.specs.declared.stop.Stop.{Stop}
-use Rattle.zf_engine.specs.declared.stop.Stop.TheVariants.{Answered, OutOfMemory}
-use Rattle.zf_engine.specs.Answers.{Answer, AnswersReader, AnswersSource, AreHeld, IsAsked, IsNamedRow, IsSearch, Request, ShowAnswer, ShowBegins, StopsInSource, StopsInReader}
 use Rattle.zf_walk.specs.Events.{Event}
-use Rattle.zf_walk.specs.Progress.{Stage}
 use Rattle.zf_walk.specs.Tests.{IsNumberOfTests}
 use Rattle.zf_lines.specs.Faults.{AppendsFront}
 use Rattle.zf_engine.specs.Faults.{Gave}
 use Rattle.zf_lines.specs.Searches.{AreEventsUpTo, HasEvents, IsBegun, IsTestsLine, IsWritten}
 use Rattle.zf_lines.specs.Shown.{FindsEvents, IsSome, StopsShown, TellsTests, WritesAll}
 use Rattle.zf_lines.specs.Texts.{binding_line}
-use Rattle.zf_engine.specs.Stops.{AnswersRequest, IfAnswered, Shows, Tells}
 
 -- ---- answers that are whole
 

@@ -1,34 +1,19 @@
 -- The steps before the first binding make answers: refusals, in their order.
-use Rattle.std.proofs.Common.{◌≡◌, ◌⊎◌, ◌≢◌, ℕ, List, [], ◌∷◌, Bool, ◌==◌, false, true, length, Option, Some, Result, Ok, Err, IfErr, refl, sym, ap, ◌∙◌, arith, subst, inl, inr}
-use Rattle.std.specs.List.{flat_map}
-use Rattle.std.proofs.lemmas.Bool.{eqb-true}
+use Rattle.zf_engine.proofs.Prelude.{◌==◌, ◌∙◌, ◌∷◌, ◌≡◌, ◌≢◌, ◌⊎◌, [], ap, arith, Bool, Err, false, IfErr, inl, inr, length, List, Ok, Option, refl, Result, Some, subst, sym, true, ℕ, eqb-true, flat_map, Value, Comp, Defined, Schema, AreWellTyped, Environment, spellings, Spelling, Portion, Status, AreHeld, Checks, HasSchema, IsAsked, IsNamed, IsNamedRow, Request, ShowAnswer, stated, UnreadAnswer, AnswersRequest, IfAnswered, IsFaultLine, TellsInfinite, TellsMisfit, TellsNoRow, TellsNoValues, TellsOut, TellsPlace, TellsPlaceHeld, type_fault_line, Stop, Answered, OutOfMemory}
 use Rattle.zf_finite.specs.Finite.{IsFinite}
 use Rattle.zf_scan.specs.declared.fault.TextFault.{TextFault}
 use Rattle.zf_scan.specs.Cuts.{IsWantOfMemory}
 use Rattle.zf_text.specs.Parsing.{RefusesSource}
-use Rattle.zf_term.specs.Definitions.{Comp, Defined, Schema}
 use Rattle.zf_type.specs.declared.fault.TypeFault.{TypeFault}
-use Rattle.zf_schema.specs.WellTypedGlobals.{AreWellTyped}
 use Rattle.zf_schema.proofs.WellTyped.{globals_well_typed}
-use Rattle.zf_value.specs.declared.value.Value.{Value}
-use Rattle.zf_enum.specs.Portions.{Portion}
-use Rattle.zf_meaning.specs.Environments.{Environment}
 use Rattle.zf_meaning.specs.GlobalOutcomes.{IsEnvironment}
 use Rattle.zf_meaning.specs.Sizes.{given_sets, AreComplete}
-use Rattle.zf_texts.specs.declared.spelling.Spelling.{Spelling}
 use Rattle.zf_texts.specs.BindingTexts.{binding_text}
 use Rattle.zf_texts.specs.Clear.{AreClear}
 use Rattle.zf_texts.specs.Held.{IsHeldLine, IsNoHeldLine}
 use Rattle.zf_texts.specs.Readings.{IsNoLine}
-use Rattle.zf_texts.specs.Spellings.{spellings}
 use Rattle.zf_names.proofs.Clear.{globals_clear}
-use Rattle.zf_lines.specs.declared.fault.Status.{Status}
 use Rattle.zf_lines.specs.declared.fault.Status.TheVariants.{BadSpec}
-use Rattle.zf_engine.specs.declared.stop.Stop.{Stop}
-use Rattle.zf_engine.specs.declared.stop.Stop.TheVariants.{Answered, OutOfMemory}
-use Rattle.zf_engine.specs.Answers.{AreHeld, Checks, HasSchema, IsAsked, IsNamed, IsNamedRow, Request, ShowAnswer, UnreadAnswer, stated}
-use Rattle.zf_engine.specs.Stops.{AnswersRequest, IfAnswered, IsFaultLine, TellsInfinite, TellsMisfit, TellsNoRow, TellsNoValues, TellsOut, TellsPlace, TellsPlaceHeld}
-use Rattle.zf_engine.specs.Texts.{type_fault_line}
 
 pub weaker : (stop : Stop) {P Q : List ℕ → Status → Type 0} → ((text : List ℕ) (status : Status) → P text status → Q text status) → IfAnswered stop P → IfAnswered stop Q
 weaker (Answered text status) f h = f text.items status h

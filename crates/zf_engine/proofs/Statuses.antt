@@ -1,7 +1,6 @@
 -- The status of words that are refused.
-use Rattle.std.proofs.Common.{ℕ, List, inl, inr}
+use Rattle.zf_engine.proofs.Prelude.{inl, inr, List, ℕ, IsStatus, IsStatusOfRefused}
 use Rattle.zf_command.proofs.Excluded.{refused_ask_no_work}
-use Rattle.zf_engine.specs.Statuses.{IsStatus, IsStatusOfRefused}
 
 pub status_of_refused : (words : List (List ℕ)) (n : ℕ) → IsStatus words n → IsStatusOfRefused words n
 status_of_refused words n (IsStatus.refused bad two) refused untold = inl two

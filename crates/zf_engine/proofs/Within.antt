@@ -1,23 +1,11 @@
 -- The conjuncts of a schema name its own components alone.
-use Rattle.std.proofs.Common.{◌≡◌, ℕ, zero, suc, ◌+◌, ◌<◌, ◌≤◌, Bool, true, false, if◌then◌else◌, List, [], ◌∷◌, ◌++◌, length, map, Option, Some, None, refl, sym, ap, arith, subst}
-use Rattle.std.specs.Str.{bytes_eq}
+use Rattle.zf_engine.proofs.Prelude.{if◌then◌else◌, ◌++◌, ◌+◌, ◌<◌, ◌∷◌, ◌≡◌, ◌≤◌, [], ap, arith, Bool, false, length, List, map, None, Option, refl, Some, subst, suc, sym, true, zero, ℕ, bytes_eq, Component, Global, Local, spelling, Links, no_decls, no_trees, Perhaps, Tree, tree, Trees, var_decl, VarDecls, onto_behind, Comp, Defined, first_named, later, or_else, binary, bracket, builder, chain, constant, empty_set, listed, number, quantified, reference, ResolvedTree, unary, conjuncts, is_and, is_conjunction, moved, references, bound, referent, resolved, resolved_all, resolved_links, resolved_part, resolved_ranges, due, greatest_place, place_named}
 use Rattle.zf_tree.specs.Trees as text
-use Rattle.zf_tree.specs.Trees.{Tree, Trees, no_trees, tree, Links, VarDecls, no_decls, var_decl, Perhaps}
 use Rattle.zf_reference.specs.declared.reference.Reference.{Reference}
-use Rattle.zf_reference.specs.declared.reference.Reference.TheVariants.{Component, Local, Global}
-use Rattle.zf_term.specs.Definitions.{Comp, Defined}
-use Rattle.zf_term.specs.FirstNamed.{later, or_else, first_named}
 use Rattle.zf_term.specs.References.{onto, all_onto, links_onto, ranges_onto, part_onto}
-use Rattle.zf_term.specs.ResolvedTrees.{ResolvedTree, reference, number, constant, empty_set, bracket, listed, builder, unary, binary, chain, quantified}
 use Rattle.zf_reference.specs.Numbering.{renumbered}
-use Rattle.zf_term.specs.Shapes.{moved, conjuncts, is_and, is_conjunction}
-use Rattle.zf_term.specs.TermLaws.{references}
 use Rattle.zf_term.proofs.MovedReferences.{moved_keeps_variables}
-use Rattle.zf_type.specs.Resolving.{referent, bound, resolved, resolved_all, resolved_links, resolved_ranges, resolved_part}
 use Rattle.zf_type.specs.Scopes.{Scope, Var, last_named, with_local, with_comp, with_global, meaning}
-use Rattle.zf_tree.specs.Names.{spelling}
-use Rattle.zf_term.proofs.Behind.{onto_behind}
-use Rattle.zf_enum.specs.Property.{place_named, greatest_place, due}
 
 -- ---- places
 

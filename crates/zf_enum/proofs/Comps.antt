@@ -1,15 +1,6 @@
 -- The ranges of components, one more at a time, and the first component that is out.
-use Rattle.std.proofs.Common.{◌≡◌, ℕ, zero, suc, ◌+◌, ◌<◌, ◌≤◌, List, [], ◌∷◌, ◌++◌, length, map, take, get_or, Option, Some, None, Result, Ok, Err, refl, sym, ap, ◌∙◌, subst, add-one, arith}
-use Rattle.std.specs.Prelude.{slice_get, IfErr, IsErrAnd}
-use Rattle.std.specs.List.{AllByRecursion}
-use Rattle.std.proofs.lemmas.List.{length-map}
+use Rattle.zf_enum.proofs.Prelude.{◌++◌, ◌+◌, ◌<◌, ◌∙◌, ◌∷◌, ◌≡◌, ◌≤◌, [], add-one, ap, arith, Err, get_or, length, List, map, None, Ok, Option, refl, Result, Some, subst, suc, sym, take, zero, ℕ, length-map, AllByRecursion, IfErr, IsErrAnd, slice_get, Value, Comp, comp_of, sets_of, Environment, AreAllRanges, held_at, IsOneRange, IsOutBy, IsOneOut, AreRanges, IsFirstOut, IsNoneOut, IsRange, later_held}
 use Rattle.zf_term.specs.declared.globals.Component.{Component}
-use Rattle.zf_term.specs.Definitions.{Comp, comp_of, sets_of}
-use Rattle.zf_value.specs.declared.value.Value.{Value}
-use Rattle.zf_meaning.specs.Environments.{Environment}
-use Rattle.zf_enum.specs.DeclaredSets.{IsOneOut}
-use Rattle.zf_enum.specs.Ranges.{IsRange, AreRanges, IsNoneOut, IsFirstOut, later_held}
-use Rattle.zf_enum.specs.Components.{IsOneRange, AreAllRanges, IsOutBy, held_at}
 use Rattle.zf_enum.specs.declared.start_fault.StartFault.{StartFault}
 use Rattle.zf_enum.specs.declared.start_fault.StartFault.TheVariants.{DeclaredOut, OutOfMemory}
 use Rattle.zf_enum.specs.Starts.{Refuses}

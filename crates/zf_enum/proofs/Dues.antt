@@ -1,18 +1,8 @@
 -- The last component up to a place that a term names tells what is due, and whether a component is used; and that of the further items of a list.
-use Rattle.std.proofs.Common.{◌≡◌, ℕ, zero, suc, ◌+◌, ◌<◌, ◌≤◌, max, true, false, cond, eqb, List, [], ◌∷◌, ◌++◌, length, map, drop, get_or, refl, sym, ap, ◌∙◌, add-one, arith}
-use Rattle.std.specs.Prelude.{nat_le}
+use Rattle.zf_enum.proofs.Prelude.{◌++◌, ◌+◌, ◌<◌, ◌∙◌, ◌∷◌, ◌≡◌, ◌≤◌, [], add-one, ap, arith, cond, drop, eqb, false, get_or, length, List, map, max, refl, suc, sym, true, zero, ℕ, nat_le, Reference, Component, Global, Local, link-seen, range-seen, absent, binary, bracket, builder, chain, constant, empty_set, link, links, listed, no_links, no_ranges, no_terms, number, present, quantified, range, range_of, Ranges, ranges, reference, resolved_link_of, resolved_of, ResolvedLinks, ResolvedPart, ResolvedTree, ResolvedTrees, term, terms, unary, references, Resolved, ResolvedLink, all_need, links_need, need, part_need, place_up_to, ranges_need, due, greatest_place, is_among, is_component, place_named, uses}
 use Rattle.std.proofs.lemmas.Bool.Decides.{nat_tests}
-use Rattle.zf_reference.specs.declared.reference.Reference.{Reference}
-use Rattle.zf_reference.specs.declared.reference.Reference.TheVariants.{Component, Local, Global}
-use Rattle.zf_term.specs.declared.resolved.Resolved.{Resolved}
-use Rattle.zf_term.specs.declared.resolved.ResolvedLink.{ResolvedLink}
 use Rattle.zf_term.specs.declared.resolved.Range.{Range}
 use Rattle.zf_term.specs.References.{onto, all_onto, links_onto, ranges_onto, part_onto}
-use Rattle.zf_term.specs.ResolvedTrees.{ResolvedTree, reference, number, constant, empty_set, bracket, listed, builder, unary, binary, chain, quantified, ResolvedTrees, no_terms, term, ResolvedLinks, no_links, link, Ranges, no_ranges, range, ResolvedPart, absent, present, terms, links, ranges, resolved_of, resolved_link_of, range_of}
-use Rattle.zf_term.proofs.ResolvedSeen.{link-seen, range-seen}
-use Rattle.zf_term.specs.TermLaws.{references}
-use Rattle.zf_enum.specs.Property.{place_named, greatest_place, due, is_component, is_among, uses}
-use Rattle.zf_enum.specs.Dues.{place_up_to, need, all_need, links_need, ranges_need, part_need}
 
 -- the greatest place up to m, from 1, of a component among the references
 abbrev greatest_up_to : ℕ → List Reference → ℕ

@@ -1,14 +1,6 @@
 -- Equations and names, as terms are seen.
-use Rattle.std.proofs.Common.{◌≡◌, ℕ, ◌≤◌, List, [], ◌∷◌, length, map, get_or, Option, Some, None, IfSome, sym, ap, ◌∙◌, arith}
-use Rattle.zf_reference.specs.declared.reference.Reference.{Reference}
-use Rattle.zf_reference.specs.declared.reference.Reference.TheVariants.{Component}
-use Rattle.zf_tree.specs.declared.symbol.Relation.TheVariants.{Equal}
-use Rattle.zf_term.specs.declared.resolved.Resolved.{Resolved}
+use Rattle.zf_enum.proofs.Prelude.{◌∙◌, ◌∷◌, ◌≡◌, ◌≤◌, [], ap, arith, get_or, IfSome, length, List, map, None, Option, Some, sym, ℕ, Reference, Component, Equal, link-seen, of-Chain, of-Name, chain, link, links, no_links, reference, resolved_link_of, resolved_of, Resolved, ResolvedLink, IsName}
 use Rattle.zf_term.specs.declared.resolved.Resolved.TheVariants as form
-use Rattle.zf_term.specs.declared.resolved.ResolvedLink.{ResolvedLink}
-use Rattle.zf_term.specs.ResolvedTrees.{reference, chain, no_links, link, links, resolved_of, resolved_link_of}
-use Rattle.zf_term.proofs.ResolvedSeen.{of-Name, of-Chain, link-seen}
-use Rattle.zf_enum.specs.Fixing.{IsName}
 
 pub some_weaker : {X : Type 0} (r : Option X) (P Q : X → Type 0) → ((x : X) → P x → Q x) → IfSome r P → IfSome r Q
 some_weaker (Some x) P Q f h = f x h

@@ -1,17 +1,11 @@
 -- One list of ranges, one list of events; resuming, and the bound.
-use Rattle.std.proofs.Common.{◌≡◌, List, [], ◌∷◌, Option, refl, ap, ◌∙◌, subst}
-use Rattle.zf_term.specs.Definitions.{Comp}
-use Rattle.zf_value.specs.declared.value.Value.{Value}
+use Rattle.zf_enum.proofs.Prelude.{◌∙◌, ◌∷◌, ◌≡◌, [], ap, List, Option, refl, subst, value_order, Value, Comp, Environment, property, AreRanges, first_held, IsRange, later_held}
 use Rattle.zf_value.specs.contracts.value.ValueOrd.TheImpl.Laws as order_laws
-use Rattle.zf_value.specs.Sets.{value_order}
 use Rattle.zf_value.proofs.Once as once
 use Rattle.zf_walk.specs.Events.{IsEvents}
 use Rattle.zf_walk.specs.Tests.{IsBound}
 use Rattle.zf_walk.proofs.LawProofs as walk
-use Rattle.zf_meaning.specs.Environments.{Environment}
-use Rattle.zf_enum.specs.Property.{property}
 use Rattle.zf_enum.specs.Portions.{Portion}
-use Rattle.zf_enum.specs.Ranges.{IsRange, AreRanges, first_held, later_held}
 use Rattle.zf_enum.specs.Events.{OneRanges, OneEvents, EventsResume, TestsAreBound}
 
 one_range : (e : Environment) (c : Comp) (held : Option Value) (xs ys : List Value) → IsRange e c held xs → IsRange e c held ys → xs ≡ ys

@@ -1,27 +1,7 @@
 -- Equations that fix a component: where its value is another than the expression's, they are False.
-use Rattle.std.proofs.Common.{◌≡◌, ◌⊎◌, ⊎_elim, inl, inr, ℕ, zero, suc, ◌+◌, ◌<◌, ◌≤◌, max, Bool, true, false, cond, List, [], ◌∷◌, ◌++◌, length, get_or, Some, refl, sym, ap, ap₂, ◌∙◌, subst, arith}
-use Rattle.std.specs.Prelude.{Contains, slice_get}
-use Rattle.std.proofs.lemmas.Bool.{false≢true, eqb-true}
-use Rattle.zf_reference.specs.declared.reference.Reference.{Reference}
-use Rattle.zf_reference.specs.declared.reference.Reference.TheVariants.{Component, Local, Global}
-use Rattle.zf_tree.specs.declared.symbol.Relation.TheVariants.{Equal}
-use Rattle.zf_term.specs.ResolvedTrees.{ResolvedTree, reference, chain, no_links, link}
-use Rattle.zf_term.specs.TermLaws.{references}
-use Rattle.zf_value.specs.declared.value.Value.{Value}
-use Rattle.zf_value.specs.declared.value.Outcome.{Outcome}
-use Rattle.zf_value.specs.declared.value.Outcome.TheVariants.{Is, Undefined, Out}
+use Rattle.zf_enum.proofs.Prelude.{◌++◌, ◌+◌, ◌<◌, ◌∙◌, ◌∷◌, ◌≡◌, ◌≤◌, ◌⊎◌, [], ap, ap₂, arith, Bool, cond, false, get_or, inl, inr, length, List, max, refl, Some, subst, suc, sym, true, zero, ℕ, ⊎_elim, eqb-true, false≢true, Contains, slice_get, length-picked, AreWithin, picked, Leaves, Reference, Component, Global, Local, Outcome, Is, Out, Undefined, Value, Equal, chain, link, no_links, reference, ResolvedTree, references, Environment, value_or, in_row, HasOutcome, IsTruth, IsAtom, need, AreCandidates, Fixes, IsKept, due, greatest_place, HasTruth, is_among, is_component, place_named, property, uses}
 use Rattle.zf_value.specs.declared.value.Truth.TheVariants as truth
-use Rattle.zf_walk.specs.Picked.{picked, AreWithin}
-use Rattle.zf_walk.proofs.Picks.{length-picked}
-use Rattle.zf_plan.specs.Choices.{Leaves}
-use Rattle.zf_meaning.specs.Environments.{Environment, value_or}
-use Rattle.zf_meaning.specs.InRow.{in_row}
-use Rattle.zf_meaning.specs.Meaning.{HasOutcome, IsTruth}
 use Rattle.zf_meaning.specs.Symbols.{Holds}
-use Rattle.zf_meaning.specs.Truths.{IsAtom}
-use Rattle.zf_enum.specs.Dues.{need}
-use Rattle.zf_enum.specs.Fixing.{Fixes, IsKept, AreCandidates}
-use Rattle.zf_enum.specs.Property.{place_named, greatest_place, due, is_component, is_among, uses, HasTruth, property}
 use Rattle.zf_enum.proofs.Dues.{due_need}
 
 -- ---- which components are used

@@ -1,13 +1,5 @@
 -- The values of a range where one may be held.
-use Rattle.std.proofs.Common.{◌≡◌, List, [], ◌∷◌, ◌++◌, Option, Some, None, Result, Ok, Err, IfOk, sym, subst, inl, ⊎_elim}
-use Rattle.std.specs.List.{AllByRecursion}
-use Rattle.zf_term.specs.Definitions.{DeclaredSets}
-use Rattle.zf_value.specs.declared.value.Value.{Value}
-use Rattle.zf_value.specs.Sets.{IsMember, IsRegular, AreRegular, IsRegularSet}
-use Rattle.zf_meaning.specs.Environments.{Environment}
-use Rattle.zf_enum.specs.DeclaredSets.{IsInSets}
-use Rattle.zf_enum.specs.Parts.{NarrowsAll, IsAllOfEach, IsAllWith}
-use Rattle.zf_enum.specs.Ranges.{IsHeld}
+use Rattle.zf_enum.proofs.Prelude.{◌++◌, ◌∷◌, ◌≡◌, [], Err, IfOk, inl, List, None, Ok, Option, Result, Some, subst, sym, ⊎_elim, AllByRecursion, IsMember, IsRegular, IsRegularSet, AreRegular, Value, DeclaredSets, Environment, IsInSets, IsAllOfEach, IsAllWith, NarrowsAll, IsHeld}
 use Rattle.zf_enum.proofs.Listing.{lists_same}
 
 -- what holds of all holds of one among them

@@ -1,15 +1,6 @@
 -- The conjunct at a place, and its truth.
-use Rattle.std.proofs.Common.{◌≡◌, ℕ, zero, suc, ◌+◌, ◌<◌, ◌≤◌, List, [], ◌∷◌, ◌++◌, length, map, take, get_or, Some, refl, sym, ap, ap₂, ◌∙◌, subst, add-one, arith}
-use Rattle.std.specs.Prelude.{slice_get}
-use Rattle.std.proofs.lemmas.List.{length-map}
-use Rattle.zf_term.specs.declared.resolved.Resolved.{Resolved}
-use Rattle.zf_term.specs.ResolvedTrees.{ResolvedTree, resolved_of}
-use Rattle.zf_value.specs.declared.value.Value.{Value}
+use Rattle.zf_enum.proofs.Prelude.{◌++◌, ◌+◌, ◌<◌, ◌∙◌, ◌∷◌, ◌≡◌, ◌≤◌, [], add-one, ap, ap₂, arith, get_or, length, List, map, refl, Some, subst, suc, sym, take, zero, ℕ, length-map, slice_get, Value, resolved_of, ResolvedTree, Resolved, Environment, in_row, IsTruth, due, due_of, HasTruth}
 use Rattle.zf_value.specs.declared.value.Truth.{Truth}
-use Rattle.zf_meaning.specs.Environments.{Environment}
-use Rattle.zf_meaning.specs.Meaning.{IsTruth}
-use Rattle.zf_meaning.specs.InRow.{in_row}
-use Rattle.zf_enum.specs.Property.{due, due_of, HasTruth}
 
 pub at_place : (xs : List Resolved) (i : ℕ) (x : Resolved) → x ≡ get_or xs i x → i < length (map resolved_of xs) → slice_get (map resolved_of xs) i ≡ Some (resolved_of x)
 at_place [] i x at l = absurd (omega arith)

@@ -1,9 +1,7 @@
 -- Why values can't be listed, for a fact that follows from another.
-use Rattle.std.proofs.Common.{◌≡◌, Result, Ok, Err, sym, subst}
-use Rattle.std.specs.Prelude.{IfErr, IsErrAnd}
+use Rattle.zf_enum.proofs.Prelude.{◌≡◌, Err, Ok, Result, subst, sym, IfErr, IsErrAnd, Tells}
 use Rattle.zf_enum.specs.declared.lack.Lack.{Lack}
 use Rattle.zf_enum.specs.declared.lack.Lack.TheVariants.{Out, OutOfMemory}
-use Rattle.zf_enum.specs.Parts.{Tells}
 
 tells : (l : Lack) (P Q : Type 0) → (P → Q) → Tells l P → Tells l Q
 tells Out P Q f h = f h

@@ -1,3 +1,4 @@
+mod Prelude
 pub mod Dues
 pub mod Rows
 pub mod Judging

@@ -1,12 +1,5 @@
 -- Ascending lists of exactly the values that pass.
-use Rattle.std.proofs.Common.{◌≡◌, ◌⊎◌, ◌↔◌, ℕ, zero, suc, ◌+◌, ◌<◌, ◌≤◌, List, [], ◌∷◌, ◌++◌, length, take, get_or, sym, subst, inl, inr, ⊎_elim, add-one, arith}
-use Rattle.std.specs.declared.cmp.Ordering.TheVariants.{Less}
-use Rattle.zf_value.specs.declared.value.Value.{Value}
-use Rattle.zf_value.specs.Sets.{value_order, IsMember, IsAscending, HaveSameMembers, IsRegular, AreRegular, IsRegularSet, members}
-use Rattle.zf_value.proofs.Among.{every_from, every_at, member_at, members-take_more, members-push, members-append, take_all, ascending-push}
-use Rattle.zf_value.proofs.Regulars.{regular_member, are_regular}
-use Rattle.zf_value.specs.declared.value.Outcome.{Outcome}
-use Rattle.zf_value.specs.declared.value.Outcome.TheVariants.{Undefined}
+use Rattle.zf_enum.proofs.Prelude.{◌++◌, ◌+◌, ◌<◌, ◌↔◌, ◌∷◌, ◌≡◌, ◌≤◌, ◌⊎◌, [], add-one, arith, get_or, inl, inr, length, List, subst, suc, sym, take, zero, ℕ, ⊎_elim, Less, ascending-push, every_at, every_from, member_at, members-append, members-push, members-take_more, take_all, are_regular, regular_member, IsAscending, IsMember, IsRegular, IsRegularSet, members, value_order, AreRegular, HaveSameMembers, Outcome, Undefined, Value}
 use Rattle.zf_enum.specs.Parts.{Lists, Grows, IsListed, IsIn}
 
 -- the same values pass

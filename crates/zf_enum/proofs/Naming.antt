@@ -1,25 +1,9 @@
 -- Predicates in which closed parts are names: they say what they said, and so do trees over them.
-use Rattle.std.proofs.Common.{◌≡◌, ◌⊎◌, ⊎_elim, inl, inr, ◌↔◌, ℕ, zero, suc, ◌+◌, ◌<◌, ◌≤◌, max, List, [], ◌∷◌, ◌++◌, length, take, refl, sym, ap, ◌∙◌, arith}
-use Rattle.std.specs.Prelude.{slice_get}
-use Rattle.zf_reference.specs.declared.reference.Reference.{Reference}
-use Rattle.zf_reference.specs.declared.reference.Reference.TheVariants.{Component, Local, Global}
-use Rattle.zf_term.specs.ResolvedTrees.{ResolvedTree}
-use Rattle.zf_term.specs.TermLaws.{references}
-use Rattle.zf_value.specs.declared.value.Value.{Value}
-use Rattle.zf_value.specs.declared.value.Outcome.{Outcome}
+use Rattle.zf_enum.proofs.Prelude.{◌++◌, ◌+◌, ◌<◌, ◌↔◌, ◌∙◌, ◌∷◌, ◌≡◌, ◌≤◌, ◌⊎◌, [], ap, arith, inl, inr, length, List, max, refl, suc, sym, take, zero, ℕ, ⊎_elim, slice_get, Truth, SayTheSame, both, either, IsOfBoth, IsOfEither, IsTreeTruth, leaf, negated, opposite, planted, Tree, tree_at, Reference, Component, Global, Local, Outcome, Value, ResolvedTree, references, Environment, longer, AreEach, AreLifted, IsLifted, IsLonger, due, due_of, greatest_place, HasTruth, place_named, property, told, uses_first, with_first}
 use Rattle.zf_value.specs.declared.value.Truth as meaning
-use Rattle.zf_walk.specs.declared.judge.Truth.{Truth}
 use Rattle.zf_walk.specs.declared.judge.Truth.TheVariants.{True, False, Out}
 use Rattle.zf_walk.specs.Conjuncts.{Conjuncts}
-use Rattle.zf_plan.specs.Alike.{SayTheSame}
-use Rattle.zf_plan.specs.Trees.{Tree, leaf, negated, both, either, opposite, IsOfBoth, IsOfEither, IsTreeTruth, planted, tree_at}
-use Rattle.zf_meaning.specs.Environments.{Environment}
-use Rattle.zf_meaning.specs.Envs.{longer}
 use Rattle.zf_meaning.specs.Laws.{IsBelow, AreBelow, UsesFirst}
-use Rattle.zf_lift.specs.Lifted.{IsLonger, AreEach, IsLifted, AreLifted}
-use Rattle.zf_enum.specs.Property.{place_named, greatest_place, due, due_of, HasTruth, told, property}
-use Rattle.zf_enum.specs.PropertyLaws.{uses_first}
-use Rattle.zf_enum.specs.Searches.{with_first}
 
 -- ---- what was not changed
 

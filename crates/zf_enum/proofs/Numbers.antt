@@ -1,11 +1,8 @@
 -- Numbers in infinite sets.
+use Rattle.zf_enum.proofs.Prelude.{◌≤ℤ◌, is_Int, no_Int, number_of-Int, Int, Value, Infinite}
 use Rattle.std.proofs.Common.{◌≡◌, ◌↔◌, ℤ, pos, Bool, Some, None, IsTrue, ap, subst}
-use Rattle.std.specs.Prelude.{◌≤ℤ◌}
-use Rattle.zf_term.specs.declared.extent.Infinite.{Infinite}
 use Rattle.zf_term.specs.declared.extent.Infinite.TheVariants.{Num, Nat, Nat1}
-use Rattle.zf_value.specs.declared.value.Value.{Value, Int}
 use Rattle.zf_value.specs.Numbers.{number_of}
-use Rattle.zf_value.proofs.Seen.{number_of-Int, is_Int, no_Int}
 use Rattle.zf_meaning.specs.Symbols.{IsIn}
 use Rattle.zf_enum.specs.Filters.{IsFrom}
 

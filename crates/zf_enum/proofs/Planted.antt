@@ -1,30 +1,14 @@
 -- What is planted of a predicate has its truths.
-use Rattle.std.proofs.Common.{◌≡◌, ◌⊎◌, ⊎_elim, inl, inr, ◌↔◌, ℕ, zero, suc, ◌+◌, ◌<◌, ◌≤◌, max, List, [], ◌∷◌, ◌++◌, length, map, Some, refl, sym, ap, ◌∙◌, subst, arith}
-use Rattle.std.specs.Prelude.{slice_get, unwrap_or, All}
+use Rattle.zf_enum.proofs.Prelude.{◌++◌, ◌+◌, ◌<◌, ◌↔◌, ◌∙◌, ◌∷◌, ◌≡◌, ◌≤◌, ◌⊎◌, [], ap, arith, inl, inr, length, List, map, max, refl, Some, subst, suc, sym, zero, ℕ, ⊎_elim, All, slice_get, unwrap_or, Truth, SayTheSame, Grove, Grows, Takes, trees_made, trees_of, both, either, HasLeavesWithin, HaveLeavesWithin, IsOfBoth, IsOfEither, IsTreeTruth, leaf, negated, opposite, planted, Tree, tree_at, Value, Not, of-Binary, of-Unary, binary, resolved_of, ResolvedTree, unary, Resolved, Environment, in_row, IsTruth, IsConjunction, IsDisjunction, ArePlanted, IsPlanted, NeedWithin, Plants, PlantsNext, due, HasTruth, property, told}
 use Rattle.zf_tree.specs.declared.symbol.Connective as connective
 use Rattle.zf_tree.specs.declared.symbol.Connective.TheVariants as connectives
 use Rattle.zf_tree.specs.declared.operator.Operator.{Operator}
 use Rattle.zf_tree.specs.declared.operator.Operator.TheVariants.{Connective}
 use Rattle.zf_tree.specs.declared.operator.Unary.{Unary}
-use Rattle.zf_tree.specs.declared.operator.Unary.TheVariants.{Not}
-use Rattle.zf_term.specs.declared.resolved.Resolved.{Resolved}
 use Rattle.zf_term.specs.declared.resolved.Resolved.TheVariants as form
-use Rattle.zf_term.proofs.ResolvedSeen.{of-Unary, of-Binary}
-use Rattle.zf_term.specs.ResolvedTrees.{ResolvedTree, resolved_of, unary, binary}
-use Rattle.zf_value.specs.declared.value.Value.{Value}
 use Rattle.zf_value.specs.declared.value.Truth as value
-use Rattle.zf_walk.specs.declared.judge.Truth.{Truth}
 use Rattle.zf_walk.specs.declared.judge.Truth.TheVariants.{True, False, Out}
-use Rattle.zf_plan.specs.Trees.{Tree, leaf, negated, both, either, opposite, IsOfBoth, IsOfEither, IsTreeTruth, HasLeavesWithin, HaveLeavesWithin, tree_at, planted}
-use Rattle.zf_plan.specs.Groves.{Grove, Grows, Takes, trees_made, trees_of}
-use Rattle.zf_plan.specs.Alike.{SayTheSame}
-use Rattle.zf_meaning.specs.Environments.{Environment}
-use Rattle.zf_meaning.specs.InRow.{in_row}
-use Rattle.zf_meaning.specs.Meaning.{IsTruth}
-use Rattle.zf_meaning.specs.Truths.{IsConjunction, IsDisjunction}
 use Rattle.zf_meaning.specs.Truths as meaning
-use Rattle.zf_enum.specs.Property.{due, told, property, HasTruth}
-use Rattle.zf_enum.specs.Planting.{IsPlanted, NeedWithin, Plants, ArePlanted, PlantsNext}
 use Rattle.zf_enum.proofs.Dues.{due_need}
 
 -- ---- connectives of a tree and of a predicate

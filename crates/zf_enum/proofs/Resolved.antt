@@ -1,9 +1,5 @@
 -- The terms of conjuncts, one after another.
-use Rattle.std.proofs.Common.{◌≡◌, ℕ, zero, suc, ◌+◌, ◌<◌, ◌≤◌, List, [], ◌∷◌, ◌++◌, length, map, take, get_or, refl, sym, ap, ap₂, ◌∙◌, add-one, arith}
-use Rattle.zf_term.specs.declared.conjunct.Conjunct.{Conjunct}
-use Rattle.zf_term.specs.declared.resolved.Resolved.{Resolved}
-use Rattle.zf_term.specs.Definitions.{conjunct_of}
-use Rattle.zf_term.specs.ResolvedTrees.{ResolvedTree, resolved_of}
+use Rattle.zf_enum.proofs.Prelude.{◌++◌, ◌+◌, ◌<◌, ◌∙◌, ◌∷◌, ◌≡◌, ◌≤◌, [], add-one, ap, ap₂, arith, get_or, length, List, map, refl, suc, sym, take, zero, ℕ, conjunct_of, resolved_of, ResolvedTree, Conjunct, Resolved}
 
 pushed : (ts : List Resolved) (t : Resolved) → map resolved_of (ts ++ t ∷ []) ≡ map resolved_of ts ++ resolved_of t ∷ []
 pushed [] t = refl

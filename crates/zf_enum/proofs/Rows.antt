@@ -1,9 +1,5 @@
 -- Rows that are met value by value.
-use Rattle.std.proofs.Common.{◌≡◌, ℕ, zero, suc, ◌+◌, ◌≤◌, List, [], ◌∷◌, length, take, Some, subst, add-one, arith}
-use Rattle.std.specs.Prelude.{slice_get}
-use Rattle.zf_value.specs.declared.value.Value.{Value}
-use Rattle.zf_value.specs.Sets.{Every, IsRegular, AreRegular}
-use Rattle.zf_value.proofs.Among.{take_all}
+use Rattle.zf_enum.proofs.Prelude.{◌+◌, ◌∷◌, ◌≡◌, ◌≤◌, [], add-one, arith, length, List, Some, subst, suc, take, zero, ℕ, slice_get, take_all, Every, IsRegular, AreRegular, Value}
 
 every_next : (P : Value → Type 0) (xs : List Value) (i : ℕ) (x : Value) → slice_get xs i ≡ Some x → Every P (take i xs) → P x → Every P (take (suc i) xs)
 every_next P [] i x e h p = tt

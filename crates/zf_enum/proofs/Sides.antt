@@ -1,17 +1,6 @@
 -- Several declared sets, one after another, and the two sides of a disjunction.
-use Rattle.std.proofs.Common.{◌≡◌, true, ◌⊎◌, ◌↔◌, ℕ, zero, suc, ◌+◌, ◌-◌, ◌<◌, ◌≤◌, List, [], ◌∷◌, length, map, take, drop, get_or, refl, sym, ap, ◌∙◌, subst, inl, inr, ⊎_elim, add-one, arith}
-use Rattle.std.proofs.lemmas.Bool.{and_parts}
-use Rattle.std.proofs.lemmas.List.{length-drop}
-use Rattle.zf_term.specs.declared.globals.Domain.{Domain}
+use Rattle.zf_enum.proofs.Prelude.{◌+◌, ◌-◌, ◌<◌, ◌↔◌, ◌∙◌, ◌∷◌, ◌≡◌, ◌≤◌, ◌⊎◌, [], add-one, ap, arith, drop, get_or, inl, inr, length, List, map, refl, subst, suc, sym, take, true, zero, ℕ, ⊎_elim, and_parts, length-drop, IsMember, IsRegularSet, Value, of-Either, DeclaredSet, DeclaredSets, Defined, set_of, sets_of, sides, Domain, bounds, one_bounds, Environment, IsInSet, IsInSets, IsOneOut, IsSetOut, BoundsAt, IsAllOf, IsAllOfEach, Lists, Narrows, NarrowsAll}
 use Rattle.zf_term.specs.declared.globals.Domain.TheVariants as domain
-use Rattle.zf_term.specs.Definitions.{Defined, DeclaredSet, DeclaredSets, sides, set_of, sets_of}
-use Rattle.zf_term.proofs.SetsSeen.{of-Either}
-use Rattle.zf_finite.specs.Finite.{bounds, one_bounds}
-use Rattle.zf_value.specs.declared.value.Value.{Value}
-use Rattle.zf_value.specs.Sets.{IsMember, IsRegularSet}
-use Rattle.zf_meaning.specs.Environments.{Environment}
-use Rattle.zf_enum.specs.DeclaredSets.{IsInSet, IsInSets, IsSetOut, IsOneOut}
-use Rattle.zf_enum.specs.Parts.{Lists, Narrows, NarrowsAll, IsAllOf, IsAllOfEach, BoundsAt}
 use Rattle.zf_enum.proofs.Listing.{lists_same}
 
 abbrev pub front : ℕ → List Domain → DeclaredSets

@@ -1,27 +1,11 @@
 -- What a declared set that is no disjunction holds, by its outcome.
-use Rattle.std.proofs.Common.{◌≡◌, ◌↔◌, Bool, true, false, not, List, Option, Some, None, refl, sym, ap, subst}
-use Rattle.zf_term.specs.declared.extent.Infinite.{Infinite}
-use Rattle.zf_term.specs.Definitions.{plain, carrier}
-use Rattle.zf_extent.specs.Extents.{direct}
-use Rattle.zf_term.specs.ResolvedTrees.{ResolvedTree}
-use Rattle.zf_term.specs.Types.{Ty, has_numbers}
-use Rattle.zf_value.specs.declared.value.Value.{Value}
-use Rattle.zf_value.specs.declared.value.Outcome.{Outcome}
-use Rattle.zf_value.specs.declared.value.Outcome.TheVariants.{Is, Undefined, Out}
-use Rattle.zf_value.specs.Sets.{IsMember, members}
-use Rattle.zf_meaning.specs.Environments.{Environment, globally}
-use Rattle.zf_meaning.specs.Carriers.{IsCarrier}
-use Rattle.zf_meaning.specs.Meaning.{HasOutcome}
-use Rattle.zf_meaning.specs.Rows.{IsOfType}
+use Rattle.zf_enum.proofs.Prelude.{◌↔◌, ◌≡◌, ap, Bool, false, List, None, not, Option, refl, Some, subst, sym, true, IsMember, members, Outcome, Is, Out, Undefined, Value, carrier, plain, ResolvedTree, has_numbers, Ty, Infinite, direct, bounds, is_none, IsCarrier, Environment, globally, HasOutcome, IsOfType, IsCarrierOut, IsInCarrier, IsInOne, IsInPlain, IsPlainOut, IsSetOut, Filters, IsAllOf, IsIn, IsListed, Lists, Narrows}
 use Rattle.zf_meaning.specs.Symbols as symbols
 use Rattle.zf_meaning.specs.declared.described.Described.{Described}
 use Rattle.zf_meaning.specs.Described.{Describes, IsDescribed, IsInDescribed, IsRegularDescribed}
 use Rattle.zf_meaning.proofs.Tests.{there_is}
 use Rattle.zf_meaning.proofs.Environments.{one_carrier}
 use Rattle.zf_meaning.proofs.Unique.{one_outcome}
-use Rattle.zf_finite.specs.Finite.{is_none, bounds}
-use Rattle.zf_enum.specs.DeclaredSets.{IsInOne, IsInPlain, IsInCarrier, IsPlainOut, IsCarrierOut, IsSetOut}
-use Rattle.zf_enum.specs.Parts.{Lists, Filters, Narrows, IsAllOf, IsListed, IsIn}
 use Rattle.zf_enum.proofs.Listing.{lists_same}
 
 -- ---- by an outcome that is the only one

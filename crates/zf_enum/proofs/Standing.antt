@@ -1,14 +1,10 @@
 -- Where a value stands in an ascending range.
+use Rattle.zf_enum.proofs.Prelude.{cases_lt, AllPairs, slice_get, exact, value_order, Value}
 use Rattle.std.proofs.Common.{◌≡◌, ⊎_elim, ℕ, zero, suc, ◌<◌, List, [], ◌∷◌, length, get_or, Some, refl, sym, ap, ◌∙◌, Ok, Err, Less, arith}
-use Rattle.std.specs.Prelude.{AllPairs, slice_get}
 use Rattle.std.specs.Ordering.{ordering_index}
 use Rattle.std.specs.List.Sorted.{IsBinarySearchResult, IsNonDecreasingBy}
-use Rattle.std.proofs.lemmas.Bool.{cases_lt}
 use Rattle.std.proofs.lemmas.Cmp.{tied_itself}
-use Rattle.zf_value.specs.declared.value.Value.{Value}
 use Rattle.zf_value.specs.contracts.value.ValueOrd.TheImpl.Laws.{total-law}
-use Rattle.zf_value.specs.Sets.{value_order}
-use Rattle.zf_value.proofs.Exact.{exact}
 use Rattle.zf_value.proofs.Searched.{index_below}
 
 abbrev Below : Value → Value → Type 0

@@ -1,20 +1,6 @@
 -- What a walk asks of ranges and conjuncts, of those of a schema.
-use Rattle.std.proofs.Common.{◌≡◌, ℕ, ◌<◌, ◌≤◌, zero, suc, List, [], ◌∷◌, length, refl, sym, ap, subst, ⊎_elim, Option, arith}
-use Rattle.std.specs.Prelude.{Contains, AllPairs, slice_get}
-use Rattle.std.specs.declared.cmp.Ordering.TheVariants.{Less}
-use Rattle.zf_term.specs.Definitions.{Comp}
-use Rattle.zf_term.specs.ResolvedTrees.{ResolvedTree}
-use Rattle.zf_value.specs.declared.value.Value.{Value}
-use Rattle.zf_value.specs.Sets.{value_order, Every, IsAscending}
-use Rattle.zf_walk.specs.Progress.{AreDueWithin, Ahead, AreAllAhead}
-use Rattle.zf_walk.specs.Rows.{AreAscending, HasLength}
+use Rattle.zf_enum.proofs.Prelude.{◌<◌, ◌∷◌, ◌≡◌, ◌≤◌, [], ap, arith, length, List, Option, refl, subst, suc, sym, zero, ℕ, ⊎_elim, AllPairs, Contains, slice_get, Less, Ahead, AreAllAhead, AreDueWithin, AreAscending, HasLength, itself, SayTheSame, Every, IsAscending, value_order, Value, Comp, ResolvedTree, Environment, NeedWithin, due_of, property, AreRanges, later_held}
 use Rattle.zf_walk.proofs.Lists.{AllPairs-nil, AllPairs-cons, Contains-cases, Contains-nil}
-use Rattle.zf_plan.specs.Alike.{SayTheSame}
-use Rattle.zf_plan.proofs.Alike.{itself}
-use Rattle.zf_meaning.specs.Environments.{Environment}
-use Rattle.zf_enum.specs.Property.{due_of, property}
-use Rattle.zf_enum.specs.Planting.{NeedWithin}
-use Rattle.zf_enum.specs.Ranges.{AreRanges, later_held}
 
 abbrev Below : Value → Value → Type 0
 Below v w = value_order v w ≡ Less

@@ -1,23 +1,7 @@
 -- Candidates of an expression: the place of its value where all that it needs is bound, else those that there are with each value of one component more.
-use Rattle.std.proofs.Common.{◌≡◌, ⊎_elim, ℕ, zero, suc, ◌+◌, ◌<◌, ◌≤◌, true, List, [], ◌∷◌, ◌++◌, length, take, get_or, Some, refl, sym, ap₂, ◌∙◌, subst, length-append, arith}
+use Rattle.zf_enum.proofs.Prelude.{◌++◌, ◌+◌, ◌<◌, ◌∙◌, ◌∷◌, ◌≡◌, ◌≤◌, [], ap₂, arith, get_or, length, length-append, List, refl, Some, subst, suc, sym, take, true, zero, ℕ, ⊎_elim, cases_Bool, cases_lt, false≢true, slice_get, AreWithin-push, length-picked, nth-at, picked-push, AreWithin, picked, IsRowOf, StaysIn, Outcome, Is, Out, Undefined, Value, ResolvedTree, Environment, in_row, HasOutcome, AreCandidates, GoesOn, IsKept, due, uses, follows_outcome}
 use Rattle.std.proofs.Math.Seq.{take-append_seam}
-use Rattle.std.specs.Prelude.{slice_get}
-use Rattle.std.proofs.lemmas.Bool.{false≢true, cases_Bool, cases_lt}
-use Rattle.zf_term.specs.ResolvedTrees.{ResolvedTree}
-use Rattle.zf_value.specs.declared.value.Value.{Value}
-use Rattle.zf_value.specs.declared.value.Outcome.{Outcome}
-use Rattle.zf_value.specs.declared.value.Outcome.TheVariants.{Is, Undefined, Out}
-use Rattle.zf_walk.specs.Picked.{picked, AreWithin}
-use Rattle.zf_walk.specs.Rows.{IsRowOf}
 use Rattle.zf_walk.proofs.Order.{IsNth}
-use Rattle.zf_walk.proofs.Picks.{nth-at, length-picked, picked-push, AreWithin-push}
-use Rattle.zf_plan.specs.Choices.{StaysIn}
-use Rattle.zf_meaning.specs.Environments.{Environment}
-use Rattle.zf_meaning.specs.InRow.{in_row}
-use Rattle.zf_meaning.specs.Meaning.{HasOutcome}
-use Rattle.zf_enum.specs.Fixing.{IsKept, GoesOn, AreCandidates}
-use Rattle.zf_enum.specs.Property.{due, uses}
-use Rattle.zf_enum.specs.PropertyLaws.{follows_outcome}
 use Rattle.zf_enum.proofs.Fixed.{get_front, get_next, uses_below}
 
 -- ---- what is gathered stays

@@ -1,16 +1,6 @@
 -- Tests of the type of a value, form by form.
-use Rattle.std.proofs.Common.{◌≡◌, ◌↔◌, ℕ, zero, suc, ◌+◌, ◌<◌, ◌≤◌, Bool, false, List, [], ◌∷◌, length, map, drop, get_or, refl, sym, ap, ◌∙◌, subst, add-one, arith}
-use Rattle.std.specs.Prelude.{IsTrue}
-use Rattle.std.proofs.lemmas.Bool.{false≢true}
+use Rattle.zf_enum.proofs.Prelude.{◌+◌, ◌<◌, ◌↔◌, ◌∙◌, ◌∷◌, ◌≡◌, ◌≤◌, [], add-one, ap, arith, Bool, drop, false, get_or, length, List, map, refl, subst, suc, sym, zero, ℕ, false≢true, IsTrue, member_at, regular_member, regular_parts, regular_set, members-SetOf, parts-Tuple, Every, IsRegular, members, parts, AreRegular, SetOf, Tuple, Value, power, product, Ty, type_of, types, Tys, Environment, AreOfTypes, IsOfType}
 use Rattle.zf_term.specs.declared.ztype.ZType.{ZType}
-use Rattle.zf_term.specs.Types.{Ty, Tys, types, type_of, power, product}
-use Rattle.zf_value.specs.declared.value.Value.{Value, Tuple, SetOf}
-use Rattle.zf_value.specs.Sets.{Every, IsRegular, AreRegular, members, parts}
-use Rattle.zf_value.proofs.Regulars.{regular_set, regular_member, regular_parts}
-use Rattle.zf_value.proofs.Seen.{members-SetOf, parts-Tuple}
-use Rattle.zf_value.proofs.Among.{member_at}
-use Rattle.zf_meaning.specs.Environments.{Environment}
-use Rattle.zf_meaning.specs.Rows.{IsOfType, AreOfTypes}
 use Rattle.zf_enum.specs.OfTypes.{AreAllOf}
 
 pub never : (P : Type 0) → (P → ⊥) → IsTrue false ↔ P

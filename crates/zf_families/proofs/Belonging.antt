@@ -1,19 +1,6 @@
 -- What the tests of pairs say of functions and injections.
-use Rattle.std.proofs.Common.{◌≡◌, ◌↔◌, Bool, true, false, List, [], ◌∷◌, refl, sym, ap, ◌∙◌, subst, inl, inr, ⊎_elim, Ordering, Less, Equal, Greater}
-use Rattle.std.specs.Prelude.{IsTrue}
-use Rattle.std.specs.Ordering.{is_lt, ordering_reverse}
-use Rattle.std.proofs.lemmas.Bool.{and_parts, and_from, false≢true, both_ways}
-use Rattle.zf_value.specs.declared.value.Value.{Value, SetOf}
-use Rattle.zf_value.specs.declared.value.Value.TheVariants.{outs-Tuple}
+use Rattle.zf_families.proofs.Prelude.{◌↔◌, ◌∙◌, ◌∷◌, ◌≡◌, [], ap, Bool, Equal, false, Greater, inl, inr, Less, List, Ordering, refl, subst, sym, true, ⊎_elim, and_from, and_parts, both_ways, false≢true, is_lt, ordering_reverse, IsTrue, every_at, not_below_itself, exact, regular_set, members-SetOf, IsBetween, IsFunctional, IsInjective, IsRelationThat, IsSubset, IsTotal, pair, Every, IsAscending, IsMember, IsRegular, members, value_order, AreAmong, SetOf, Value, outs-Tuple, fits_any, fits_apart, pairs, first, first_at, firsts_rise, IsGraph, seconds_apart, IsFunctionFrom, IsInjectionFrom, IsPairOn}
 use Rattle.zf_value.specs.contracts.value.ValueOrd.TheImpl.Laws.{total-law}
-use Rattle.zf_value.specs.Sets.{value_order, IsMember, Every, IsAscending, AreAmong, IsRegular, members}
-use Rattle.zf_value.specs.Operations.{pair, IsSubset, IsBetween, IsFunctional, IsInjective, IsTotal, IsRelationThat}
-use Rattle.zf_value.proofs.Exact.{exact}
-use Rattle.zf_value.proofs.Seen.{members-SetOf}
-use Rattle.zf_value.proofs.Regulars.{regular_set}
-use Rattle.zf_value.proofs.Among.{every_at, not_below_itself}
-use Rattle.zf_families.specs.Selections.{fits_any, fits_apart, pairs}
-use Rattle.zf_families.specs.Tests.{IsPairOn, IsGraph, IsFunctionFrom, IsInjectionFrom, first_at, first, firsts_rise, seconds_apart}
 use Rattle.zf_families.proofs.Comparisons.{not_both, below_rest, pair_parts, first_below, member_map, from_member_map}
 use Rattle.zf_families.proofs.Functions.{GoesAll, none_all, all_to, all_from}
 use Rattle.zf_families.proofs.FunctionLaws.{functions, IsUnused, unused_from, unused_to, injective_more}

@@ -1,9 +1,5 @@
 -- Which rows are told: those that a law allows which goes by the first layer.
-use Rattle.std.proofs.Common.{◌≡◌, ◌⊎◌, ◌↔◌, Bool, true, List, [], ◌∷◌, map, subst, inl, inr, ⊎_elim}
-use Rattle.std.specs.List.{filter}
-use Rattle.zf_value.specs.declared.value.Value.{Value}
-use Rattle.zf_value.specs.Sets.{IsMember}
-use Rattle.zf_families.specs.Selections.{extended, extensions, whole, some}
+use Rattle.zf_families.proofs.Prelude.{◌↔◌, ◌∷◌, ◌≡◌, ◌⊎◌, [], Bool, inl, inr, List, map, subst, true, ⊎_elim, filter, IsMember, Value, extended, extensions, some, whole}
 use Rattle.zf_families.proofs.Lists.{In, in_left, in_right, in_either, in_map, in_from_map, in_filter, in_from_filter, in_flat_map, in_from_flat_map}
 use Rattle.zf_families.proofs.Told.{member_in, in_member}
 

@@ -1,14 +1,7 @@
 -- The order of values, and lists that ascend in it.
+use Rattle.zf_families.proofs.Prelude.{tied_itself, is_eq, ordering_reverse, ordering_then, every_at, every_from, not_below_itself, ties, parts-Tuple, pair, Every, IsAscending, IsMember, parts, row_order, value_order, Value}
 use Rattle.std.proofs.Common.{◌≡◌, ◌↔◌, Bool, true, false, IsTrue, ap₂, List, [], ◌∷◌, map, refl, sym, ap, ◌∙◌, inl, inr, ⊎_elim, Less}
-use Rattle.std.specs.Ordering.{is_eq, ordering_reverse, ordering_then}
-use Rattle.std.proofs.lemmas.Cmp.{tied_itself}
-use Rattle.zf_value.specs.declared.value.Value.{Value}
 use Rattle.zf_value.specs.contracts.value.ValueOrd.TheImpl.Laws.{total-law}
-use Rattle.zf_value.specs.Sets.{value_order, row_order, IsMember, Every, IsAscending, parts}
-use Rattle.zf_value.specs.Operations.{pair}
-use Rattle.zf_value.proofs.Seen.{parts-Tuple}
-use Rattle.zf_value.proofs.Exact.{ties}
-use Rattle.zf_value.proofs.Among.{every_from, every_at, not_below_itself}
 use Rattle.zf_families.proofs.Told.{tuple_order}
 
 pub every_map : (P : Value → Type 0) (f : Value → Value) (xs : List Value) → Every (λ x. P (f x)) xs → Every P (map f xs)

@@ -1,13 +1,5 @@
 -- How many rows there are, and counts that go no further than one more than a limit.
-use Rattle.std.proofs.Common.{◌≡◌, ℕ, zero, suc, ◌+◌, ◌*◌, ◌^◌, ◌<◌, ◌≤◌, true, List, [], ◌∷◌, ◌++◌, map, length, take, get_or, min, refl, sym, ap, ◌∙◌, ⊎_elim, arith}
-use Rattle.std.specs.List.{filter}
-use Rattle.std.proofs.lemmas.Bool.{cases_lt}
-use Rattle.std.proofs.lemmas.List.{length-map, length-append, map_more}
-use Rattle.std.proofs.Math.Nat.{pow-zero, pow-succ', mul_assoc}
-use Rattle.zf_value.specs.declared.value.Value.{Value}
-use Rattle.zf_value.specs.Sets.{members}
-use Rattle.zf_families.specs.Counts.{sizes}
-use Rattle.zf_families.specs.Selections.{extended, extensions, whole, some, fits_any}
+use Rattle.zf_families.proofs.Prelude.{◌*◌, ◌++◌, ◌+◌, ◌<◌, ◌^◌, ◌∙◌, ◌∷◌, ◌≡◌, ◌≤◌, [], ap, arith, get_or, length, List, map, min, refl, suc, sym, take, true, zero, ℕ, ⊎_elim, mul_assoc, pow-succ', pow-zero, cases_lt, length-append, length-map, map_more, filter, members, Value, sizes, extended, extensions, fits_any, some, whole}
 
 -- counting on from a count that was cut gives what counting on and cutting gives
 pub min_product : (m n c : ℕ) → min (min m c * n) c ≡ min (m * n) c

@@ -1,10 +1,5 @@
 -- Counts of injections that go no further than one more than a set may have.
-use Rattle.std.proofs.Common.{◌≡◌, ℕ, zero, suc, ◌+◌, ◌-◌, ◌*◌, ◌^◌, ◌≤◌, min, length, List, [], ◌∷◌, ◌++◌, take, drop, refl, sym, ap, ◌∙◌, subst, ⊎_elim, arith, add-one}
-use Rattle.std.proofs.lemmas.Bool.{cases_lt}
-use Rattle.std.proofs.lemmas.List.{length-drop, take-append-drop}
-use Rattle.std.proofs.Math.Nat.{pow-zero, pow-succ', mul_assoc, mul_comm, mul-le-mul_left}
-use Rattle.zf_value.specs.declared.TheConstants.{SET_MAX}
-use Rattle.zf_families.specs.Counts.{falling, partial_injection_count, stepped}
+use Rattle.zf_families.proofs.Prelude.{◌*◌, ◌++◌, ◌+◌, ◌-◌, ◌^◌, ◌∙◌, ◌∷◌, ◌≡◌, ◌≤◌, [], add-one, ap, arith, drop, length, List, min, refl, subst, suc, sym, take, zero, ℕ, ⊎_elim, mul-le-mul_left, mul_assoc, mul_comm, pow-succ', pow-zero, cases_lt, length-drop, take-append-drop, SET_MAX, falling, partial_injection_count, stepped}
 use Rattle.zf_families.proofs.Counts.{min_product}
 
 -- ---- falling products

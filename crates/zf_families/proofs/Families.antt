@@ -1,17 +1,5 @@
 -- What the rows of functions and injections are, and how many there are.
-use Rattle.std.proofs.Common.{◌≡◌, ◌↔◌, ℕ, suc, ◌+◌, ◌^◌, ◌<◌, ◌≤◌, min, ltb, length, get_or, Result, List, [], ◌∷◌, map, refl, sym, ap, ◌∙◌, arith}
-use Rattle.std.specs.Prelude.{IsTrue}
-use Rattle.std.specs.Result.{IfOk}
-use Rattle.std.specs.declared.alloc.AllocError.{AllocError}
-use Rattle.std.proofs.lemmas.List.{length-map}
-use Rattle.zf_value.specs.declared.value.Value.{Value, SetOf}
-use Rattle.zf_value.specs.declared.value.Outcome.{Outcome}
-use Rattle.zf_value.specs.declared.value.Outcome.TheVariants.{Is, Out}
-use Rattle.zf_value.specs.declared.TheConstants.{SET_MAX}
-use Rattle.zf_value.specs.Sets.{IsRegularSet, IsRegularOutcome}
-use Rattle.zf_value.specs.Operations.{pair, IsFunctional, IsTotal, IsRelationThat, ArePartialFunctions, AreTotalFunctions}
-use Rattle.zf_value.proofs.Regulars.{regular_made}
-use Rattle.zf_families.specs.Selections.{whole, some, fits_any, pairs}
+use Rattle.zf_families.proofs.Prelude.{◌+◌, ◌<◌, ◌^◌, ◌↔◌, ◌∙◌, ◌∷◌, ◌≡◌, ◌≤◌, [], ap, arith, get_or, length, List, ltb, map, min, refl, Result, suc, sym, ℕ, length-map, IsTrue, IfOk, AllocError, regular_made, IsFunctional, IsRelationThat, IsTotal, pair, ArePartialFunctions, AreTotalFunctions, IsRegularOutcome, IsRegularSet, SET_MAX, Outcome, Is, Out, SetOf, Value, fits_any, pairs, some, whole}
 use Rattle.zf_families.proofs.Told.{out_by_size, built_result}
 use Rattle.zf_families.proofs.Counts.{length_some, length_whole, sizes_same}
 use Rattle.zf_families.proofs.Relations.{relation_regular}

@@ -1,15 +1,6 @@
 -- The laws of functions and of injections, and which pairs fit.
-use Rattle.std.proofs.Common.{◌≡◌, true, not, List, [], ◌∷◌, refl, sym, ap, ◌∙◌, subst, inl, inr, ⊎_elim, Ordering, Less, Equal, Greater}
-use Rattle.std.specs.Ordering.{is_eq}
-use Rattle.std.proofs.lemmas.Bool.{and_parts, and_from, false≢true}
-use Rattle.std.proofs.lemmas.Cmp.{tied_itself}
-use Rattle.zf_value.specs.declared.value.Value.{Value}
-use Rattle.zf_value.specs.declared.value.Value.TheVariants.{outs-Tuple}
+use Rattle.zf_families.proofs.Prelude.{◌∙◌, ◌∷◌, ◌≡◌, [], ap, Equal, Greater, inl, inr, Less, List, not, Ordering, refl, subst, sym, true, ⊎_elim, and_from, and_parts, false≢true, tied_itself, is_eq, exact, IsBetween, IsFunctional, IsInjective, pair, Relates, IsMember, value_order, Value, outs-Tuple, fits_any, fits_apart, second, second_at}
 use Rattle.zf_value.specs.contracts.value.ValueOrd.TheImpl.Laws.{total-law}
-use Rattle.zf_value.specs.Sets.{value_order, IsMember}
-use Rattle.zf_value.specs.Operations.{pair, Relates, IsBetween, IsFunctional, IsInjective}
-use Rattle.zf_value.proofs.Exact.{exact}
-use Rattle.zf_families.specs.Selections.{fits_any, fits_apart, second_at, second}
 use Rattle.zf_families.proofs.Comparisons.{pair_parts}
 use Rattle.zf_families.proofs.Functions.{IsFree, IsLaw}
 

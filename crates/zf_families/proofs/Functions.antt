@@ -1,10 +1,5 @@
 -- The functions from a set to a set are the rows that take pairs with ascending firsts.
-use Rattle.std.proofs.Common.{◌≡◌, ◌⊎◌, ◌↔◌, Bool, true, List, [], ◌∷◌, map, refl, sym, ap, ◌∙◌, subst, inl, inr, ⊎_elim, Less}
-use Rattle.zf_value.specs.declared.value.Value.{Value, SetOf}
-use Rattle.zf_value.specs.Sets.{value_order, IsMember, Every, IsAscending}
-use Rattle.zf_value.specs.Operations.{pair, Relates, IsBetween, IsFunctional, IsTotal, IsRelationThat}
-use Rattle.zf_value.proofs.Among.{every_from, not_below_itself}
-use Rattle.zf_families.specs.Selections.{whole, some, pairs}
+use Rattle.zf_families.proofs.Prelude.{◌↔◌, ◌∙◌, ◌∷◌, ◌≡◌, ◌⊎◌, [], ap, Bool, inl, inr, Less, List, map, refl, subst, sym, true, ⊎_elim, every_from, not_below_itself, IsBetween, IsFunctional, IsRelationThat, IsTotal, pair, Relates, Every, IsAscending, IsMember, value_order, SetOf, Value, pairs, some, whole}
 use Rattle.zf_families.proofs.Lists.{Each, each_map}
 use Rattle.zf_families.proofs.InOrder.{IsLadder, ordered_some, ordered_whole}
 use Rattle.zf_families.proofs.Told.{Tells, set_order}

@@ -1,13 +1,6 @@
 -- The rows that are told are ascending, and are those that take their items of the layers.
-use Rattle.std.proofs.Common.{◌≡◌, Bool, List, [], ◌∷◌, refl, ap, ◌∙◌, Less}
-use Rattle.std.specs.List.{filter}
-use Rattle.std.specs.Ordering.{ordering_then}
-use Rattle.std.proofs.lemmas.Cmp.{tied_itself}
-use Rattle.zf_value.specs.declared.value.Value.{Value}
+use Rattle.zf_families.proofs.Prelude.{◌∙◌, ◌∷◌, ◌≡◌, [], ap, Bool, Less, List, refl, tied_itself, filter, ordering_then, every_also, Every, IsAscending, row_order, value_order, Value, extended, extensions, some, whole}
 use Rattle.zf_value.specs.contracts.value.ValueOrd.TheImpl.Laws.{total-law}
-use Rattle.zf_value.specs.Sets.{value_order, row_order, Every, IsAscending}
-use Rattle.zf_value.proofs.Among.{every_also}
-use Rattle.zf_families.specs.Selections.{extended, extensions, whole, some}
 use Rattle.zf_families.proofs.Lists.{Each, IsOrdered, each_append, each_map, each_weaker, ordered_append, ordered_filter, ordered_map}
 
 abbrev pub Below : List Value → List Value → Type 0

@@ -1,16 +1,7 @@
 -- How many injections there are.
-use Rattle.std.proofs.Common.{◌≡◌, ℕ, suc, ◌+◌, ◌-◌, ◌*◌, Bool, true, false, not, ◌&&◌, cond, length, List, [], ◌∷◌, ◌++◌, map, refl, ap, ◌∙◌, subst, inl, inr, ⊎_elim, Ordering, Less, Equal, Greater, arith}
-use Rattle.std.specs.List.{filter}
-use Rattle.std.specs.Ordering.{is_eq, ordering_reverse}
-use Rattle.std.proofs.lemmas.Cmp.{tied_itself}
-use Rattle.std.proofs.lemmas.List.{length-map, length-append}
+use Rattle.zf_families.proofs.Prelude.{◌&&◌, ◌*◌, ◌++◌, ◌+◌, ◌-◌, ◌∙◌, ◌∷◌, ◌≡◌, [], ap, arith, Bool, cond, Equal, false, Greater, inl, inr, length, Less, List, map, not, Ordering, refl, subst, suc, true, ℕ, ⊎_elim, tied_itself, length-append, length-map, filter, is_eq, ordering_reverse, pair, Every, IsAscending, IsMember, value_order, Value, falling, partial_injection_count, extended, extensions, fits_apart, pairs, second, some, whole}
 use Rattle.std.proofs.lemmas.List.Elements.{filter-append}
-use Rattle.zf_value.specs.declared.value.Value.{Value}
 use Rattle.zf_value.specs.contracts.value.ValueOrd.TheImpl.Laws.{total-law}
-use Rattle.zf_value.specs.Sets.{value_order, IsMember, Every, IsAscending}
-use Rattle.zf_value.specs.Operations.{pair}
-use Rattle.zf_families.specs.Selections.{extended, extensions, whole, some, fits_apart, pairs, second}
-use Rattle.zf_families.specs.Counts.{falling, partial_injection_count}
 use Rattle.zf_families.proofs.FunctionLaws.{second-pair}
 use Rattle.zf_families.proofs.Comparisons.{below_rest}
 

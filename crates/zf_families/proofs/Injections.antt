@@ -1,19 +1,5 @@
 -- What the rows of injections are, and how many there are.
-use Rattle.std.proofs.Common.{◌≡◌, ◌↔◌, ℕ, zero, suc, ◌+◌, ◌-◌, ◌*◌, ◌<◌, ◌≤◌, false, min, ltb, length, get_or, Result, List, [], ◌∷◌, ◌++◌, map, refl, sym, ap, ◌∙◌, arith}
-use Rattle.std.proofs.lemmas.List.{nil_from_length}
-use Rattle.std.specs.Prelude.{IsTrue}
-use Rattle.std.specs.Result.{IfOk}
-use Rattle.std.specs.List.{filter}
-use Rattle.std.specs.declared.alloc.AllocError.{AllocError}
-use Rattle.zf_value.specs.declared.value.Value.{Value, SetOf}
-use Rattle.zf_value.specs.declared.value.Outcome.{Outcome}
-use Rattle.zf_value.specs.declared.value.Outcome.TheVariants.{Is, Out}
-use Rattle.zf_value.specs.declared.TheConstants.{SET_MAX}
-use Rattle.zf_value.specs.Sets.{IsAscending, IsRegularSet, IsRegularOutcome}
-use Rattle.zf_value.specs.Operations.{pair, IsFunctional, IsInjective, IsTotal, IsRelationThat, ArePartialInjections, AreTotalInjections}
-use Rattle.zf_value.proofs.Regulars.{regular_made}
-use Rattle.zf_families.specs.Selections.{whole, some, fits_apart, pairs}
-use Rattle.zf_families.specs.Counts.{falling, partial_injection_count}
+use Rattle.zf_families.proofs.Prelude.{◌*◌, ◌++◌, ◌+◌, ◌-◌, ◌<◌, ◌↔◌, ◌∙◌, ◌∷◌, ◌≡◌, ◌≤◌, [], ap, arith, false, get_or, length, List, ltb, map, min, refl, Result, suc, sym, zero, ℕ, nil_from_length, filter, IsTrue, IfOk, AllocError, regular_made, IsFunctional, IsInjective, IsRelationThat, IsTotal, pair, ArePartialInjections, AreTotalInjections, IsAscending, IsRegularOutcome, IsRegularSet, SET_MAX, Outcome, Is, Out, SetOf, Value, falling, partial_injection_count, fits_apart, pairs, some, whole}
 use Rattle.zf_families.proofs.Told.{Tells, out_by_size, built_result}
 use Rattle.zf_families.proofs.InjectionCounts.{length_injections, length_partial_injections, filter_map_none, seconds, other_itself}
 use Rattle.zf_families.proofs.Relations.{relation_regular}

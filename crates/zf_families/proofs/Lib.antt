@@ -1,3 +1,4 @@
+mod Prelude
 pub mod Lists
 pub mod InOrder
 pub mod Told

@@ -1,22 +1,5 @@
 -- The relations from a set to a set are the subsets of the product.
-use Rattle.std.proofs.Common.{◌≡◌, ◌↔◌, ℕ, zero, suc, ◌+◌, ◌*◌, ◌^◌, ◌<◌, min, ltb, length, Result, List, [], ◌∷◌, ◌++◌, map, refl, sym, ap, ◌∙◌, subst, inl, inr, ⊎_elim, Less, arith}
-use Rattle.std.specs.Prelude.{IsTrue}
-use Rattle.std.specs.Result.{IfOk}
-use Rattle.std.specs.List.{flat_map}
-use Rattle.std.specs.declared.alloc.AllocError.{AllocError}
-use Rattle.std.proofs.lemmas.Bool.{cases_lt}
-use Rattle.std.proofs.lemmas.List.{length-append, length-map}
-use Rattle.std.proofs.Math.Nat.{pow-zero, pow-succ'}
-use Rattle.zf_value.specs.declared.value.Value.{Value, SetOf}
-use Rattle.zf_value.specs.declared.value.Outcome.{Outcome}
-use Rattle.zf_value.specs.declared.value.Outcome.TheVariants.{Is, Out}
-use Rattle.zf_value.specs.declared.TheConstants.{SET_MAX}
-use Rattle.zf_value.specs.Sets.{value_order, IsMember, Every, IsAscending, AreAmong, IsRegular, IsRegularSet, IsRegularOutcome}
-use Rattle.zf_value.specs.Operations.{pair, IsRelationThat, AreRelations}
-use Rattle.zf_value.proofs.Regulars.{regular_made, regular-SetOf, regular-pair, are_regular, regular_member}
-use Rattle.zf_value.proofs.Among.{every_from, members-append}
-use Rattle.zf_families.specs.Tests.{IsPairFrom}
-use Rattle.zf_families.specs.Selections.{some, fits_any, pairs, singles}
+use Rattle.zf_families.proofs.Prelude.{◌*◌, ◌++◌, ◌+◌, ◌<◌, ◌^◌, ◌↔◌, ◌∙◌, ◌∷◌, ◌≡◌, [], ap, arith, inl, inr, length, Less, List, ltb, map, min, refl, Result, subst, suc, sym, zero, ℕ, ⊎_elim, pow-succ', pow-zero, cases_lt, length-append, length-map, flat_map, IsTrue, IfOk, AllocError, every_from, members-append, are_regular, regular-pair, regular-SetOf, regular_made, regular_member, IsRelationThat, pair, AreRelations, Every, IsAscending, IsMember, IsRegular, IsRegularOutcome, IsRegularSet, value_order, AreAmong, SET_MAX, Outcome, Is, Out, SetOf, Value, fits_any, pairs, singles, some, IsPairFrom}
 use Rattle.zf_families.proofs.Told.{Tells, out_by_size, built_result}
 use Rattle.zf_families.proofs.Counts.{length_some, sizes_same}
 use Rattle.zf_families.proofs.Subsets.{power_told}

@@ -1,18 +1,6 @@
 -- The subsets of a set are the rows that take some of its members.
-use Rattle.std.proofs.Common.{◌≡◌, ◌⊎◌, ◌↔◌, ℕ, suc, ◌+◌, ◌^◌, min, ltb, length, Result, List, [], ◌∷◌, map, refl, sym, ◌∙◌, subst, inl, inr, ⊎_elim, Less}
-use Rattle.std.specs.Prelude.{IsTrue}
-use Rattle.std.specs.Result.{IfOk}
-use Rattle.std.specs.declared.alloc.AllocError.{AllocError}
-use Rattle.zf_value.specs.declared.value.Value.{Value, SetOf}
-use Rattle.zf_value.specs.declared.value.Outcome.{Outcome}
-use Rattle.zf_value.specs.declared.value.Outcome.TheVariants.{Is, Out}
-use Rattle.zf_value.specs.declared.TheConstants.{SET_MAX}
-use Rattle.zf_value.proofs.Regulars.{regular_made, regular-SetOf, are_regular, regular_member}
-use Rattle.zf_value.proofs.Among.{every_from, not_below_itself}
+use Rattle.zf_families.proofs.Prelude.{◌+◌, ◌^◌, ◌↔◌, ◌∙◌, ◌∷◌, ◌≡◌, ◌⊎◌, [], inl, inr, length, Less, List, ltb, map, min, refl, Result, subst, suc, sym, ℕ, ⊎_elim, IsTrue, IfOk, AllocError, every_from, not_below_itself, are_regular, regular-SetOf, regular_made, regular_member, IsSubset, IsPower, Every, IsAscending, IsRegular, IsRegularOutcome, IsRegularSet, value_order, AreAmong, SET_MAX, Outcome, Is, Out, SetOf, Value, fits_any, singles, some}
 use Rattle.zf_families.proofs.Counts.{length_some, sizes_same}
-use Rattle.zf_value.specs.Sets.{value_order, Every, IsAscending, AreAmong, IsRegular, IsRegularSet, IsRegularOutcome}
-use Rattle.zf_value.specs.Operations.{IsSubset, IsPower}
-use Rattle.zf_families.specs.Selections.{some, fits_any, singles}
 use Rattle.zf_families.proofs.Lists.{Each, each_map}
 use Rattle.zf_families.proofs.InOrder.{IsLadder, ordered_some}
 use Rattle.zf_families.proofs.Told.{Tells, set_order, out_by_size, built_result}

@@ -1,13 +1,5 @@
 -- The tests of members: what each turn and each end shows.
-use Rattle.std.proofs.Common.{◌≡◌, ◌↔◌, ℕ, suc, ◌+◌, ◌-◌, ◌<◌, ◌≤◌, Bool, true, false, List, [], ◌∷◌, length, take, drop, get_or, refl, sym, ap, ◌∙◌, subst, ⊎_elim, arith, add-one}
-use Rattle.std.specs.Prelude.{IsTrue}
-use Rattle.std.proofs.lemmas.Bool.{false≢true, both_ways}
-use Rattle.std.proofs.lemmas.List.{length-drop}
-use Rattle.zf_value.specs.declared.value.Value.{Value}
-use Rattle.zf_value.specs.Sets.{IsMember}
-use Rattle.zf_value.specs.Operations.{pair, IsBetween}
-use Rattle.zf_value.proofs.Among.{member_at, members-take_more}
-use Rattle.zf_families.specs.Tests.{IsPairFrom, IsPairOn, IsGraph, firsts_rise}
+use Rattle.zf_families.proofs.Prelude.{◌+◌, ◌-◌, ◌<◌, ◌↔◌, ◌∙◌, ◌∷◌, ◌≡◌, ◌≤◌, [], add-one, ap, arith, Bool, drop, false, get_or, length, List, refl, subst, suc, sym, take, true, ℕ, ⊎_elim, both_ways, false≢true, length-drop, IsTrue, member_at, members-take_more, IsBetween, pair, IsMember, Value, firsts_rise, IsGraph, IsPairFrom, IsPairOn}
 use Rattle.zf_families.proofs.Comparisons.{pair_parts}
 
 -- what is not so is what false says

@@ -1,20 +1,6 @@
 -- A test that a list of rows answers makes the set of these rows, or is out where they are too many.
-use Rattle.std.proofs.Common.{◌≡◌, ◌↔◌, ℕ, zero, suc, ◌+◌, ◌≤◌, ltb, List, [], ◌∷◌, map, length, take, min, Result, refl, sym, ap, ◌∙◌, subst, inl, inr, ⊎_elim, Less, arith}
-use Rattle.std.specs.Prelude.{IsTrue}
-use Rattle.std.specs.Result.{IfOk}
-use Rattle.std.specs.declared.alloc.AllocError.{AllocError}
-use Rattle.std.proofs.lemmas.Bool.{ltb-true, lt-ltb, cases_lt}
-use Rattle.std.proofs.lemmas.Result.{IfOk-weaker}
-use Rattle.std.proofs.lemmas.List.{length-map, length-take-le}
-use Rattle.zf_value.specs.declared.value.Value.{Value, SetOf, Tuple, out-Value}
-use Rattle.zf_value.specs.declared.value.Value.TheOpen.{Value-F}
-use Rattle.zf_value.specs.declared.value.Value.TheVariants.{outs-SetOf, outs-Tuple}
-use Rattle.zf_value.specs.declared.value.Outcome.{Outcome}
-use Rattle.zf_value.specs.declared.value.Outcome.TheVariants.{Is, Out}
-use Rattle.zf_value.specs.declared.TheConstants.{SET_MAX}
+use Rattle.zf_families.proofs.Prelude.{◌+◌, ◌↔◌, ◌∙◌, ◌∷◌, ◌≡◌, ◌≤◌, [], ap, arith, inl, inr, length, Less, List, ltb, map, min, refl, Result, subst, suc, sym, take, zero, ℕ, ⊎_elim, cases_lt, lt-ltb, ltb-true, length-map, length-take-le, IfOk-weaker, IsTrue, IfOk, AllocError, cmp_is, Every, IsAscending, IsMember, IsSetOf, row_order, value_order, SET_MAX, Outcome, Is, Out, out-Value, SetOf, Tuple, Value, Value-F, outs-SetOf, outs-Tuple}
 use Rattle.zf_value.specs.Order.{level_order}
-use Rattle.zf_value.specs.Sets.{value_order, row_order, IsMember, Every, IsAscending, IsSetOf}
-use Rattle.zf_value.proofs.Exact.{cmp_is}
 use Rattle.zf_value.proofs.Once.{one_set}
 use Rattle.zf_families.proofs.Lists.{Each, In, IsOrdered, ordered_map, ordered_take, in_map, in_from_map}
 use Rattle.zf_families.proofs.InOrder.{Below}

@@ -1,25 +1,6 @@
 -- The tuples of a product are the rows that take a member of each set.
-use Rattle.std.proofs.Common.{◌≡◌, ◌↔◌, ℕ, suc, ◌+◌, ◌<◌, min, ltb, length, get_or, Result, Bool, false, List, [], ◌∷◌, map, refl, sym, ap, ◌∙◌, subst, arith}
-use Rattle.std.proofs.lemmas.List.{nil_from_length}
-use Rattle.std.specs.Prelude.{IsTrue}
-use Rattle.std.specs.Result.{IfOk}
-use Rattle.std.specs.declared.alloc.AllocError.{AllocError}
-use Rattle.zf_value.specs.declared.value.Value.{Value, Tuple, SetOf, out-Value, roll-Value, roll-out-Value}
-use Rattle.zf_value.specs.declared.value.Value.TheOpen.{Value-F}
-use Rattle.zf_value.specs.declared.value.Value.TheVariants.{rolls-SetOf}
-use Rattle.zf_value.specs.declared.value.Outcome.{Outcome}
-use Rattle.zf_value.specs.declared.value.Outcome.TheVariants.{Is, Out}
-use Rattle.zf_value.specs.declared.TheConstants.{SET_MAX}
-use Rattle.zf_value.proofs.Regulars.{regular_made, regular-Tuple, regular_set, regular_none, regular_member}
-use Rattle.zf_families.specs.Counts.{sizes}
+use Rattle.zf_families.proofs.Prelude.{◌+◌, ◌<◌, ◌↔◌, ◌∙◌, ◌∷◌, ◌≡◌, [], ap, arith, Bool, false, get_or, length, List, ltb, map, min, refl, Result, subst, suc, sym, ℕ, false≢true, nil_from_length, IsTrue, IfOk, AllocError, member_at, regular-Tuple, regular_made, regular_member, regular_none, regular_set, parts-Tuple, AreFrom, IsCross, Every, IsAscending, IsRegular, IsRegularOutcome, IsRegularSet, members, members_at, parts, AreRegular, SET_MAX, Outcome, Is, Out, out-Value, roll-out-Value, roll-Value, SetOf, Tuple, Value, Value-F, rolls-SetOf, sizes, IsTupleFrom, fits_any, whole}
 use Rattle.zf_families.proofs.Counts.{length_whole}
-use Rattle.zf_value.specs.Sets.{Every, IsAscending, members_at, members, parts, IsRegular, AreRegular, IsRegularSet, IsRegularOutcome}
-use Rattle.zf_value.specs.Operations.{AreFrom, IsCross}
-use Rattle.zf_value.proofs.Seen.{parts-Tuple}
-use Rattle.zf_value.proofs.Among.{member_at}
-use Rattle.std.proofs.lemmas.Bool.{false≢true}
-use Rattle.zf_families.specs.Families.{IsTupleFrom}
-use Rattle.zf_families.specs.Selections.{whole, fits_any}
 use Rattle.zf_families.proofs.Lists.{Each, each_map}
 use Rattle.zf_families.proofs.InOrder.{ordered_whole}
 use Rattle.zf_families.proofs.Told.{Tells, tuple_order, out_by_size, built_result}

@@ -1,10 +1,6 @@
 -- A schema is finite where nothing makes it infinite.
-use Rattle.std.proofs.Common.{◌≡◌, ℕ, IsTrue, Bool, true, false, if◌then◌else◌, List, [], ◌∷◌, ◌++◌, flat_map, refl, sym, ◌∙◌, true≢false}
+use Rattle.zf_finite.proofs.Prelude.{if◌then◌else◌, ◌++◌, ◌∙◌, ◌∷◌, ◌≡◌, [], Bool, false, flat_map, IsTrue, List, refl, sym, true, true≢false, ℕ, flat_map-cons, Comp, Defined, Schema, sets_of, offending, all_set_lines, comp_lines, FiniteWithoutLines, first_plain, infinite_lines, IsFinite, one_bounds, unbounded}
 use Rattle.std.specs.List.{AllByRecursion}
-use Rattle.std.proofs.lemmas.List.Concat.{flat_map-cons}
-use Rattle.zf_term.specs.Definitions.{Comp, Schema, Defined, sets_of}
-use Rattle.zf_extent.specs.Extents.{offending}
-use Rattle.zf_finite.specs.Finite.{one_bounds, first_plain, unbounded, all_set_lines, comp_lines, infinite_lines, IsFinite, FiniteWithoutLines}
 
 both_none : (xs ys : List ℕ) → xs ++ ys ≡ [] → (xs ≡ []) × (ys ≡ [])
 both_none [] ys e = (refl, e)

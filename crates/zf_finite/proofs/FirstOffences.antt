@@ -1,13 +1,8 @@
 -- The first line in components and declared sets, and how it is found from the front.
-use Rattle.std.proofs.Common.{◌≡◌, ℕ, ◌+◌, ◌<◌, Option, Some, None, List, [], ◌∷◌, ◌++◌, length, map, drop, get_or, flat_map, refl, sym, ap, ◌∙◌}
-use Rattle.std.proofs.lemmas.List.Concat.{flat_map-cons}
+use Rattle.zf_finite.proofs.Prelude.{◌++◌, ◌+◌, ◌<◌, ◌∙◌, ◌∷◌, ◌≡◌, [], ap, drop, flat_map, get_or, length, List, map, None, Option, refl, Some, sym, ℕ, flat_map-cons, Defined, set_of, sets_of, or_else, first, all_plain_lines, all_set_lines, first_or, plain_lines, set_lines}
 use Rattle.std.proofs.lemmas.Option.{none-some}
 use Rattle.zf_term.specs.declared.globals.Domain.{Domain}
-use Rattle.zf_term.specs.Definitions.{Defined, sets_of, set_of}
-use Rattle.zf_extent.specs.Extents.{first}
-use Rattle.zf_term.specs.FirstNamed.{or_else}
 use Rattle.zf_extent.proofs.FirstLines.{first_of_both, line_step}
-use Rattle.zf_finite.specs.Finite.{plain_lines, all_plain_lines, first_or, set_lines, all_set_lines}
 
 -- what is found in the one, and then in the other
 pub both_after : (xs ys : List ℕ) (found a b : Option ℕ) → a ≡ or_else found (first xs) → b ≡ or_else a (first ys) → b ≡ or_else found (first (xs ++ ys))

@@ -1,2 +1,3 @@
+mod Prelude
 pub mod FirstOffences
 pub mod FiniteSchemas

@@ -1,24 +1,11 @@
 -- What is written of a list of events: up to the last one that is written, or all.
-use Rattle.std.proofs.Common.{◌≡◌, ◌⊎◌, ℕ, ◌+◌, List, [], ◌∷◌, ◌++◌, length, take, refl, sym, ap, ◌∙◌, subst, inl, inr, ⊎_elim, Option, Some, None, append_assoc, append-nil, length-append, arith}
-use Rattle.std.specs.Prelude.{◌≢◌, Contains, AllPairs, codes}
-use Rattle.std.specs.declared.cmp.Ordering.{Ordering}
-use Rattle.std.specs.declared.cmp.Ordering.TheVariants.{Less, Greater}
-use Rattle.std.specs.Cmp.{IsTotalOrder}
-use Rattle.std.specs.Cmp.Lexicographic.{slice_cmp, lists_total}
+use Rattle.zf_found.proofs.Prelude.{◌++◌, ◌+◌, ◌∙◌, ◌∷◌, ◌≡◌, ◌⊎◌, [], ap, append-nil, append_assoc, arith, inl, inr, length, length-append, List, None, Option, refl, Some, subst, sym, take, ℕ, ⊎_elim, cases_lt, IsTotalOrder, lists_total, slice_cmp, ◌≢◌, AllPairs, codes, Contains, Ordering, Greater, Less, Conjuncts, Event, IsEvent, IsEvents, ComesAfter, Truth, False, Out, True, AreEventsUpTo, breaks, ends, Hold, IsBelow, IsWritten, lines, out_line, pauses, Status}
 use Rattle.std.specs.Ordering.{ordering_reverse}
-use Rattle.std.proofs.lemmas.Bool.{cases_lt}
 use Rattle.std.proofs.lemmas.List.{take_all}
 use Rattle.std.proofs.lemmas.List.Elements.{All-nil, All-push}
-use Rattle.zf_walk.specs.declared.judge.Truth.{Truth}
-use Rattle.zf_walk.specs.declared.judge.Truth.TheVariants.{True, False, Out}
-use Rattle.zf_walk.specs.Conjuncts.{Conjuncts}
-use Rattle.zf_walk.specs.Events.{Event, IsEvent, IsEvents}
-use Rattle.zf_walk.specs.Rows.{ComesAfter}
 use Rattle.zf_walk.proofs.Lists.{Contains-head, Contains-later, Contains-cases, Contains-nil, Contains-left, Contains-right, Contains-either, AllPairs-nil, AllPairs-cons, AllPairs-head, AllPairs-tail, AllPairs-across, AllPairs-back}
 use Rattle.zf_walk.proofs.Picks.{IsRowOf-length}
-use Rattle.zf_lines.specs.declared.fault.Status.{Status}
 use Rattle.zf_lines.specs.declared.fault.Status.TheVariants.{Done, PastBounds}
-use Rattle.zf_lines.specs.Searches.{AreEventsUpTo, Hold, lines, out_line, IsBelow, IsWritten, pauses, breaks, ends}
 
 -- ---- a list of events is cut behind one of them, or not
 

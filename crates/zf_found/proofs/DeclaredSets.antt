@@ -1,27 +1,14 @@
 -- What lies in declared sets is decided, and where they are bounded it is listed.
-use Rattle.std.proofs.Common.{◌≡◌, Bool, true, false, not, subst, inl, inr, ⊎_elim, Option, Some, None}
-use Rattle.std.proofs.lemmas.Bool.{and_parts, or_cases}
+use Rattle.zf_found.proofs.Prelude.{◌≡◌, Bool, false, inl, inr, None, not, Option, Some, subst, true, ⊎_elim, and_parts, or_cases, IsMember, members, Value, carrier, DeclaredSet, DeclaredSets, no_sets, plain, set, sides, ResolvedTree, has_numbers, Ty, bounds, is_none, one_bounds, Environment, globally, HasOutcome, Decided, decided_both, decided_either, decided_in, Listed, listed_either, listed_kept, listed_none, listed_same, some_outcome, listed_members, same_value, IsCarrierOut, IsInCarrier, IsInOne, IsInPlain, IsInSet, IsInSets, IsOneOut, IsPlainOut, IsSetOut}
 use Rattle.zf_term.specs.declared.extent.Infinite.{Infinite}
-use Rattle.zf_term.specs.Definitions.{DeclaredSet, plain, carrier, sides, DeclaredSets, no_sets, set}
 use Rattle.zf_extent.specs.Extents.{direct}
-use Rattle.zf_term.specs.ResolvedTrees.{ResolvedTree}
-use Rattle.zf_term.specs.Types.{Ty, has_numbers}
-use Rattle.zf_finite.specs.Finite.{is_none, bounds, one_bounds}
-use Rattle.zf_value.specs.declared.value.Value.{Value}
 use Rattle.zf_value.specs.declared.value.Outcome.{Outcome}
 use Rattle.zf_value.specs.declared.value.Outcome.TheVariants.{Is, Undefined, Out}
-use Rattle.zf_value.specs.Sets.{IsMember, members}
-use Rattle.zf_meaning.specs.Environments.{Environment, globally}
-use Rattle.zf_meaning.specs.Meaning.{HasOutcome}
 use Rattle.zf_meaning.specs.Carriers.{IsCarrier}
 use Rattle.zf_meaning.proofs.Environments.{one_carrier}
 use Rattle.zf_meaning.proofs.Unique.{one_outcome}
-use Rattle.zf_enum.specs.DeclaredSets.{IsInOne, IsInPlain, IsInCarrier, IsInSet, IsInSets, IsPlainOut, IsCarrierOut, IsSetOut, IsOneOut}
-use Rattle.zf_total.proofs.Listed.{Decided, decided_both, decided_either, decided_in, Listed, listed_same, listed_none, listed_either, listed_kept}
 use Rattle.zf_total.proofs.Carriers.{some_carrier}
-use Rattle.zf_total.proofs.Terms.{some_outcome}
 use Rattle.zf_total.proofs.Truths.{decided_is_in}
-use Rattle.zf_total.proofs.Values.{same_value, listed_members}
 use Rattle.zf_found.proofs.Typed.{decided_of_type}
 
 -- ---- one set

@@ -1,16 +1,6 @@
 -- The first component that is out, and the ranges of bounded ones.
-use Rattle.std.proofs.Common.{◌≡◌, ◌⊎◌, ℕ, zero, suc, ◌<◌, List, [], ◌∷◌, length, refl, subst, inl, inr, ⊎_elim, Option, Some, None, arith}
-use Rattle.std.specs.Prelude.{slice_get, IsTrue}
+use Rattle.zf_found.proofs.Prelude.{◌<◌, ◌∷◌, ◌≡◌, ◌⊎◌, [], arith, inl, inr, length, List, None, Option, refl, Some, subst, suc, zero, ℕ, ⊎_elim, IsTrue, slice_get, Value, Comp, sets_of, one_bounds, Environment, Decided, HasSome, listed_kept, first_or_none, same_value, IsOneOut, AreRanges, first_held, IsFirstOut, IsHeld, IsNoneOut, IsOutAt, IsRange, later_held}
 use Rattle.std.specs.List.{AllByRecursion}
-use Rattle.zf_term.specs.Definitions.{Comp, sets_of}
-use Rattle.zf_finite.specs.Finite.{one_bounds}
-use Rattle.zf_value.specs.declared.value.Value.{Value}
-use Rattle.zf_meaning.specs.Environments.{Environment}
-use Rattle.zf_enum.specs.DeclaredSets.{IsOneOut}
-use Rattle.zf_enum.specs.Ranges.{IsHeld, IsRange, AreRanges, IsOutAt, IsNoneOut, IsFirstOut, first_held, later_held}
-use Rattle.zf_total.proofs.Listed.{HasSome, Decided, listed_kept}
-use Rattle.zf_total.proofs.Values.{same_value}
-use Rattle.zf_total.proofs.Naturals.{first_or_none}
 use Rattle.zf_total.proofs.Sets.{ordered}
 use Rattle.zf_found.proofs.DeclaredSets.{decided_one_out, listed_in_sets}
 

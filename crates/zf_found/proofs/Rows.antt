@@ -1,19 +1,6 @@
 -- Rows of finite ranges, the truth of each, and the list of the events.
-use Rattle.std.proofs.Common.{◌≡◌, ◌⊎◌, ◌↔◌, ℕ, ◌<◌, List, [], ◌∷◌, map, refl, sym, ap, subst, inl, inr, ⊎_elim, Option, Some, None}
-use Rattle.std.specs.Prelude.{◌≢◌, Contains}
-use Rattle.std.specs.declared.cmp.Ordering.{Ordering}
-use Rattle.std.specs.declared.cmp.Ordering.TheVariants.{Less, Equal, Greater}
-use Rattle.std.specs.Cmp.{IsTotalOrder}
-use Rattle.std.specs.Cmp.Lexicographic.{slice_cmp, lists_total}
-use Rattle.zf_walk.specs.declared.judge.Truth.{Truth}
-use Rattle.zf_walk.specs.declared.judge.Truth.TheVariants.{True, False, Out}
-use Rattle.zf_walk.specs.Conjuncts.{Conjuncts, IsTruthOf}
-use Rattle.zf_walk.specs.Events.{Event, IsEvent, IsEvents}
-use Rattle.zf_walk.specs.Rows.{TiesAreEqual, ComesAfter, IsLater, IsRowOf, IsFrontOf}
+use Rattle.zf_found.proofs.Prelude.{◌<◌, ◌↔◌, ◌∷◌, ◌≡◌, ◌⊎◌, [], ap, inl, inr, List, map, None, Option, refl, Some, subst, sym, ℕ, ⊎_elim, IsTotalOrder, lists_total, slice_cmp, ◌≢◌, Contains, Ordering, Equal, Greater, Less, Conjuncts, IsTruthOf, Event, IsEvent, IsEvents, ComesAfter, IsFrontOf, IsLater, IsRowOf, TiesAreEqual, Truth, False, Out, True, Decided, decided_not, HasSome, Listed, listed_either, listed_image, listed_kept, listed_one, listed_pairs, listed_same, one_or_all, swapped, listed_below, AllPairs-mapped, Contains-map, Contains-mapped, in_order}
 use Rattle.zf_walk.proofs.Order.{slice-ties}
-use Rattle.zf_total.proofs.Listed.{HasSome, Decided, decided_not, Listed, listed_same, listed_one, listed_either, listed_image, listed_kept, listed_pairs, one_or_all, swapped}
-use Rattle.zf_total.proofs.Naturals.{listed_below}
-use Rattle.zf_total.proofs.Orders.{in_order, Contains-map, Contains-mapped, AllPairs-mapped}
 
 -- ---- what is decided
 

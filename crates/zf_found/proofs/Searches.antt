@@ -1,32 +1,16 @@
 -- The property of a schema has one truth on each row, so a search has events and a number of tests.
-use Rattle.std.proofs.Common.{◌≡◌, ℕ, zero, suc, ◌<◌, List, [], ◌∷◌, length, refl, subst, inl, inr, ⊎_elim, Option, Some, None, Bool, true, false, arith}
-use Rattle.std.specs.Prelude.{slice_get}
-use Rattle.zf_term.specs.Definitions.{Schema}
-use Rattle.zf_term.specs.ResolvedTrees.{ResolvedTree}
+use Rattle.zf_found.proofs.Prelude.{◌<◌, ◌∷◌, ◌≡◌, [], arith, Bool, false, inl, inr, length, List, None, Option, refl, Some, subst, suc, true, zero, ℕ, ⊎_elim, slice_get, Event, IsEvents, cut, False, Out, True, value_order, Value, Schema, ResolvedTree, Environment, IsTruth, Decided, HasSome, some_truth, same_value, AreRanges, HasEvents, IsBelow, IsTestsLine, IsWritten, Status}
 use Rattle.zf_value.specs.contracts.value.ValueOrd.TheImpl.Laws.{total-law}
-use Rattle.zf_value.specs.declared.value.Value.{Value}
 use Rattle.zf_value.specs.declared.value.Truth.{Truth}
 use Rattle.zf_value.specs.declared.value.Truth.TheVariants as truth
-use Rattle.zf_value.specs.Sets.{value_order}
 use Rattle.zf_value.proofs.Exact.{exact}
 use Rattle.zf_walk.specs.declared.judge.Truth as walk
-use Rattle.zf_walk.specs.declared.judge.Truth.TheVariants.{True, False, Out}
-use Rattle.zf_walk.specs.Events.{Event, IsEvents}
-use Rattle.zf_walk.specs.Tests.{cut}
-use Rattle.zf_meaning.specs.Environments.{Environment}
 use Rattle.zf_meaning.specs.InRow.{in_row}
-use Rattle.zf_meaning.specs.Meaning.{IsTruth}
 use Rattle.zf_enum.specs.Events.{AreEvents, IsBoundOf}
 use Rattle.zf_enum.specs.Portions.{Portion}
 use Rattle.zf_enum.specs.Property.{HasTruth, told, property}
 use Rattle.zf_enum.specs.PropertyLaws.{one_truth_in}
-use Rattle.zf_enum.specs.Ranges.{AreRanges}
-use Rattle.zf_lines.specs.declared.fault.Status.{Status}
-use Rattle.zf_lines.specs.Searches.{HasEvents, IsBelow, IsWritten, IsTestsLine}
 use Rattle.zf_lines.specs.Texts.{tests_line}
-use Rattle.zf_total.proofs.Listed.{HasSome, Decided}
-use Rattle.zf_total.proofs.Terms.{some_truth}
-use Rattle.zf_total.proofs.Values.{same_value}
 use Rattle.zf_found.proofs.Cuts.{some_written, cut_events, not_false}
 use Rattle.zf_found.proofs.Rows.{AreTold, same_truth, some_events}
 use Rattle.zf_found.proofs.Tests.{some_bound, some_number_of_tests}

@@ -1,15 +1,5 @@
 -- The number of the tests of a walk.
-use Rattle.std.proofs.Common.{◌≡◌, ℕ, ◌<◌, List, length, take, refl, ap, inl, Option, Some, None}
-use Rattle.std.specs.declared.cmp.Ordering.{Ordering}
-use Rattle.std.specs.declared.cmp.Ordering.TheVariants.{Less, Greater}
-use Rattle.std.specs.Cmp.Lexicographic.{slice_cmp}
-use Rattle.std.proofs.lemmas.Bool.{cases_eq}
-use Rattle.zf_walk.specs.declared.judge.Truth.TheVariants.{False}
-use Rattle.zf_walk.specs.Conjuncts.{Conjuncts}
-use Rattle.zf_walk.specs.Tests.{IsPair, IsReached, IsWalked, IsUpTo, IsNumber, IsNumberOfTests, IsBound}
-use Rattle.zf_total.proofs.Listed.{HasSome, Decided, decided_both, decided_not, decided_then, decided_same, decided_all, decided_lists, Listed, listed_same, listed_kept, listed_pairs}
-use Rattle.zf_total.proofs.Naturals.{decided_lt, listed_below}
-use Rattle.zf_total.proofs.Orders.{distinct_of}
+use Rattle.zf_found.proofs.Prelude.{◌<◌, ◌≡◌, ap, inl, length, List, None, Option, refl, Some, take, ℕ, cases_eq, slice_cmp, Ordering, Greater, Less, Conjuncts, IsBound, IsNumber, IsNumberOfTests, IsPair, IsReached, IsUpTo, IsWalked, False, Decided, decided_all, decided_both, decided_lists, decided_not, decided_same, decided_then, HasSome, Listed, listed_kept, listed_pairs, listed_same, decided_lt, listed_below, distinct_of}
 use Rattle.zf_found.proofs.Rows.{AreTold, same_ordering, fronts_of}
 
 same_pair : {A B : Type 0} → ((x y : A) → Decided (x ≡ y)) → ((x y : B) → Decided (x ≡ y)) → (p q : A × B) → Decided (p ≡ q)

@@ -1,19 +1,10 @@
 -- Whether a value is of a type is decided.
-use Rattle.std.proofs.Common.{◌≡◌, ℕ, ◌<◌, ◌≤◌, ℤ, List, [], ◌∷◌, length, refl, sym, ap, ◌∙◌, subst, inl, inr, Option, Some, None}
-use Rattle.std.specs.Prelude.{slice_get, FitsSigned}
+use Rattle.zf_found.proofs.Prelude.{◌<◌, ◌∙◌, ◌∷◌, ◌≡◌, ◌≤◌, [], ap, inl, inr, length, List, None, Option, refl, Some, subst, sym, ℕ, ℤ, FitsSigned, slice_get, Less, Every, IsAscending, members, parts, value_order, Elem, Int, SetOf, Tuple, Value, basic, int, no_types, power, product, Ty, type, Tys, Environment, type_number, Decided, decided_both, decided_same, decided_some, decided_le, listed_below, same_row, same_value}
 use Rattle.std.specs.Int.{w64}
-use Rattle.std.specs.declared.cmp.Ordering.TheVariants.{Less}
-use Rattle.zf_term.specs.Types.{Ty, int, basic, power, product, Tys, no_types, type}
 use Rattle.zf_value.specs.declared.TheConstants.{SET_MAX}
-use Rattle.zf_value.specs.declared.value.Value.{Value, Int, Elem, Tuple, SetOf}
-use Rattle.zf_value.specs.Sets.{value_order, Every, IsAscending, members, parts}
 use Rattle.zf_value.proofs.Seen.{members-SetOf, parts-Tuple, same_number}
-use Rattle.zf_meaning.specs.Environments.{Environment, type_number}
 use Rattle.zf_meaning.specs.Rows.{IsElement, IsOfType, AreOfTypes}
-use Rattle.zf_total.proofs.Listed.{Decided, decided_both, decided_same, decided_some}
 use Rattle.zf_total.proofs.Numbers.{decided_fits, number_or_not}
-use Rattle.zf_total.proofs.Naturals.{decided_le, listed_below}
-use Rattle.zf_total.proofs.Values.{same_value, same_row}
 use Rattle.zf_found.proofs.Rows.{same_ordering}
 
 decided_every : (P : Value → Type 0) → ((v : Value) → Decided (P v)) → (xs : List Value) → Decided (Every P xs)

@@ -1,24 +1,9 @@
 -- What is made of a term's parts is a lift of the term, and the term is closed where its parts are.
-use Rattle.std.proofs.Common.{◌≡◌, ℕ, ◌+◌, ◌<◌, ◌≤◌, Bool, true, false, List, [], ◌∷◌, ◌++◌, length, map, take, get_or, Option, Some, None, refl, sym, ap, ◌∙◌, subst, arith}
-use Rattle.zf_tree.specs.declared.symbol.Constant.{Constant}
-use Rattle.zf_tree.specs.declared.symbol.Quantifier.{Quantifier}
-use Rattle.zf_tree.specs.declared.symbol.Relation.{Relation}
-use Rattle.zf_tree.specs.declared.operator.Listed.{Listed}
-use Rattle.zf_tree.specs.declared.operator.Operator.{Operator}
-use Rattle.zf_tree.specs.declared.operator.Unary.{Unary}
-use Rattle.zf_reference.specs.declared.reference.Reference.{Reference}
-use Rattle.zf_reference.specs.declared.reference.Reference.TheVariants.{Global}
+use Rattle.zf_lift.proofs.Prelude.{◌++◌, ◌+◌, ◌<◌, ◌∙◌, ◌∷◌, ◌≡◌, ◌≤◌, [], ap, arith, Bool, false, get_or, length, List, map, None, Option, refl, Some, subst, sym, take, true, ℕ, Reference, Global, Listed, Operator, Unary, Constant, Quantifier, Relation, link-seen, new_link, new_range, of-Binary, of-Bracket, of-Builder, of-Chain, of-Constant, of-EmptySet, of-link, of-Listed, of-Name, of-Number, of-Quantified, of-range, of-Unary, range-seen, binary, bracket, builder, chain, links, listed, part_of, quantified, range_of, ranges, reference, resolved_link_of, resolved_of, ResolvedTree, terms, unary, Environment, AreEach, IsLonger, AreClosed, AreLifts, AreLinkLifts, AreLinksClosed, AreRangeLifts, AreRangesClosed, IsClosed, IsLift, IsPartClosed, IsPartLift, IsLinkClosed, IsLinkLift, IsRangeClosed, IsRangeLift, need}
 use Rattle.zf_term.specs.declared.resolved.Range.{Range}
 use Rattle.zf_term.specs.declared.resolved.Resolved.{Resolved}
 use Rattle.zf_term.specs.declared.resolved.Resolved.TheVariants as v
 use Rattle.zf_term.specs.declared.resolved.ResolvedLink.{ResolvedLink}
-use Rattle.zf_term.specs.ResolvedTrees.{ResolvedTree, reference, bracket, listed, unary, binary, chain, quantified, builder, terms, links, ranges, part_of, resolved_of, resolved_link_of, range_of}
-use Rattle.zf_term.proofs.ResolvedSeen.{new_link, new_range, of-Name, of-Number, of-Constant, of-EmptySet, of-Bracket, of-Listed, of-Builder, of-Unary, of-Binary, of-Chain, of-Quantified, of-link, of-range, link-seen, range-seen}
-use Rattle.zf_meaning.specs.Environments.{Environment}
-use Rattle.zf_lift.specs.Lifted.{IsLonger, AreEach}
-use Rattle.zf_lift.specs.Needs.{need}
-use Rattle.zf_lift.specs.Lifts.{IsLift, AreLifts, AreRangeLifts, AreLinkLifts, IsPartLift, IsClosed, AreClosed, AreRangesClosed, AreLinksClosed, IsPartClosed}
-use Rattle.zf_lift.specs.Lists.{IsRangeLift, IsLinkLift, IsRangeClosed, IsLinkClosed}
 use Rattle.zf_lift.proofs.Each.{each_more, each_also, each_done}
 use Rattle.zf_lift.proofs.Wherever as made
 

@@ -1,27 +1,8 @@
 -- Terms of one form mean the same where their parts do.
-use Rattle.std.proofs.Common.{◌≡◌, ◌↔◌, ℕ, List, [], ◌∷◌, Option, None, refl, sym, ap, subst}
-use Rattle.std.specs.Prelude.{if◌then◌else◌}
-use Rattle.zf_tree.specs.declared.symbol.Constant.{Constant}
-use Rattle.zf_tree.specs.declared.symbol.Quantifier.{Quantifier}
-use Rattle.zf_tree.specs.declared.symbol.Relation.{Relation}
-use Rattle.zf_term.specs.declared.extent.Infinite.{Infinite}
-use Rattle.zf_tree.specs.declared.operator.Listed.{Listed}
-use Rattle.zf_tree.specs.declared.operator.Operator.{Operator}
+use Rattle.zf_lift.proofs.Prelude.{◌↔◌, ◌∷◌, ◌≡◌, [], ap, List, None, Option, refl, subst, sym, ℕ, if◌then◌else◌, Reference, Outcome, Truth, Value, Listed, Operator, Unary, Constant, Quantifier, Relation, absent, binary, bracket, builder, chain, constant, empty_set, link, listed, no_links, no_ranges, no_terms, number, present, quantified, range, Ranges, reference, ResolvedLinks, ResolvedPart, ResolvedTree, ResolvedTrees, term, unary, Infinite, direct, extent_named, is_membership, Context, outcome_in, within, AreLinked, Builds, HasOutcome, HaveOutcomes, HaveRanges, infinite_right, IsConstraint, IsLink, IsTruth, Several, IsTold, opposite, AreSame, AreSameLinks, AreSameRanges, IsSame, IsSamePart}
 use Rattle.zf_tree.specs.declared.operator.Operator.TheVariants as operator
-use Rattle.zf_tree.specs.declared.operator.Unary.{Unary}
 use Rattle.zf_tree.specs.declared.operator.Unary.TheVariants as the_unary
-use Rattle.zf_reference.specs.declared.reference.Reference.{Reference}
-use Rattle.zf_extent.specs.Extents.{direct, extent_named, is_membership}
-use Rattle.zf_term.specs.ResolvedTrees.{ResolvedTree, reference, number, constant, empty_set, bracket, listed, builder, unary, binary, chain, quantified, ResolvedTrees, no_terms, term, ResolvedLinks, no_links, link, Ranges, no_ranges, range, ResolvedPart, absent, present}
-use Rattle.zf_value.specs.declared.value.Value.{Value}
-use Rattle.zf_value.specs.declared.value.Outcome.{Outcome}
-use Rattle.zf_value.specs.declared.value.Truth.{Truth}
-use Rattle.zf_meaning.specs.Environments.{Context, within, outcome_in}
-use Rattle.zf_meaning.specs.Meaning.{HasOutcome, HaveOutcomes, HaveRanges, Builds, IsConstraint, IsTruth, AreLinked, IsLink, infinite_right}
-use Rattle.zf_meaning.specs.Outcomes.{Several}
-use Rattle.zf_meaning.specs.Truths.{opposite, IsTold}
 use Rattle.zf_lift.proofs.Mapped as mapped
-use Rattle.zf_lift.specs.Same.{IsSame, AreSame, AreSameRanges, AreSameLinks, IsSamePart}
 
 itself : (X : Type 0) → X ↔ X
 itself X = (λ x. x, λ x. x)

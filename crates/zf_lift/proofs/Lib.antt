@@ -1,3 +1,4 @@
+mod Prelude
 pub mod Mapped
 pub mod Forms
 pub mod Longer

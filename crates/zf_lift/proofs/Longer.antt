@@ -1,14 +1,6 @@
 -- Environments with further outcomes.
-use Rattle.std.proofs.Common.{◌≡◌, ℕ, zero, suc, ◌<◌, ◌≤◌, Bool, true, List, [], ◌∷◌, ◌++◌, length, Option, Some, None, refl, sym, ap, ◌∙◌, subst, arith}
-use Rattle.std.specs.Prelude.{slice_get}
+use Rattle.zf_lift.proofs.Prelude.{◌++◌, ◌<◌, ◌∙◌, ◌∷◌, ◌≡◌, ◌≤◌, [], ap, arith, Bool, length, List, None, Option, refl, Some, subst, suc, sym, true, zero, ℕ, slice_get, Outcome, Value, Defined, Context, Environment, longer, IsLonger, at, Wherever}
 use Rattle.std.proofs.lemmas.List.{append_assoc}
-use Rattle.zf_term.specs.Definitions.{Defined}
-use Rattle.zf_value.specs.declared.value.Value.{Value}
-use Rattle.zf_value.specs.declared.value.Outcome.{Outcome}
-use Rattle.zf_meaning.specs.Environments.{Environment, Context}
-use Rattle.zf_meaning.specs.Envs.{longer}
-use Rattle.zf_lift.specs.Lifted.{IsLonger}
-use Rattle.zf_lift.specs.Lifts.{at, Wherever}
 
 no_more : (xs : List Outcome) → xs ++ [] ≡ xs
 no_more [] = refl

@@ -1,19 +1,12 @@
 -- What connectives, quantifiers and builders say of parts, they say of parts that say as much.
-use Rattle.std.proofs.Common.{◌≡◌, ◌↔◌, List, inl, inr, ⊎_elim}
+use Rattle.zf_lift.proofs.Prelude.{◌↔◌, ◌≡◌, inl, inr, List, ⊎_elim, Outcome, Truth, Value, Quantifier, IsBuilt, IsBuiltBy, IsBuiltOver, IsOutOfBounds, IsWithinBounds, one_out, one_undefined, Several, values, HasTwo, IsConjunction, IsConnected, IsDisjunction, IsEquivalence, IsExists, IsExistsOne, IsForAll, IsOver, IsQuantified, IsTold, opposite}
 use Rattle.zf_tree.specs.declared.symbol.Connective.{Connective}
 use Rattle.zf_tree.specs.declared.symbol.Connective.TheVariants as connective
-use Rattle.zf_tree.specs.declared.symbol.Quantifier.{Quantifier}
 use Rattle.zf_tree.specs.declared.symbol.Quantifier.TheVariants as quantifier
-use Rattle.zf_value.specs.declared.value.Value.{Value}
-use Rattle.zf_value.specs.declared.value.Outcome.{Outcome}
 use Rattle.zf_value.specs.declared.value.Outcome.TheVariants.{Is, Undefined, Out as OutOf}
-use Rattle.zf_value.specs.declared.value.Truth.{Truth}
 use Rattle.zf_value.specs.declared.value.Truth.TheVariants.{True, False, Out}
 use Rattle.zf_value.specs.Operations.{AreFrom}
 use Rattle.zf_value.proofs.Making.{same_set}
-use Rattle.zf_meaning.specs.Meaning.{IsBuiltBy, IsWithinBounds, IsOutOfBounds, IsBuiltOver, IsBuilt}
-use Rattle.zf_meaning.specs.Outcomes.{Several, values, one_undefined, one_out}
-use Rattle.zf_meaning.specs.Truths.{opposite, IsConjunction, IsDisjunction, IsEquivalence, IsConnected, IsTold, HasTwo, IsForAll, IsExists, IsExistsOne, IsOver, IsQuantified}
 
 -- ---- connectives
 

@@ -1,12 +1,8 @@
 -- A term that needs no more components than another uses no more.
-use Rattle.std.proofs.Common.{◌≡◌, ℕ, zero, suc, ◌+◌, ◌<◌, ◌≤◌, max, List, [], ◌∷◌, ◌++◌, arith}
-use Rattle.zf_reference.specs.declared.reference.Reference.{Reference}
-use Rattle.zf_reference.specs.declared.reference.Reference.TheVariants.{Component, Local, Global}
+use Rattle.zf_lift.proofs.Prelude.{◌++◌, ◌+◌, ◌<◌, ◌∷◌, ◌≡◌, ◌≤◌, [], arith, List, max, suc, zero, ℕ, Reference, Component, Global, Local, absent, binary, bracket, builder, chain, constant, empty_set, link, listed, no_links, no_ranges, no_terms, number, present, quantified, range, Ranges, reference, ResolvedLinks, ResolvedPart, ResolvedTree, ResolvedTrees, term, unary, all_need, links_need, need, part_need, place, ranges_need}
 use Rattle.zf_term.specs.References.{onto, all_onto, links_onto, ranges_onto, part_onto}
-use Rattle.zf_term.specs.ResolvedTrees.{ResolvedTree, reference, number, constant, empty_set, bracket, listed, builder, unary, binary, chain, quantified, ResolvedTrees, no_terms, term, ResolvedLinks, no_links, link, Ranges, no_ranges, range, ResolvedPart, absent, present}
 use Rattle.zf_term.specs.TermLaws.{references}
 use Rattle.zf_meaning.specs.Laws.{IsBelow, AreBelow, UsesFirst}
-use Rattle.zf_lift.specs.Needs.{place, need, all_need, links_need, ranges_need, part_need}
 
 abbrev greatest : List Reference → ℕ
 greatest [] = 0

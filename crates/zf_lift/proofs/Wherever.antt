@@ -1,33 +1,9 @@
 -- Terms of one form are lifts, or closed, where their parts are.
-use Rattle.std.proofs.Common.{◌≡◌, ◌↔◌, ℕ, ◌<◌, ◌≤◌, Bool, true, false, List, [], ◌∷◌, ◌++◌, length, Option, None, Some, refl, sym, ap, ◌∙◌, subst, arith}
-use Rattle.std.specs.Prelude.{slice_get}
-use Rattle.zf_tree.specs.declared.symbol.Constant.{Constant}
-use Rattle.zf_tree.specs.declared.symbol.Quantifier.{Quantifier}
-use Rattle.zf_tree.specs.declared.symbol.Relation.{Relation}
-use Rattle.zf_term.specs.declared.extent.Infinite.{Infinite}
-use Rattle.zf_tree.specs.declared.operator.Listed.{Listed}
-use Rattle.zf_tree.specs.declared.operator.Operator.{Operator}
+use Rattle.zf_lift.proofs.Prelude.{◌++◌, ◌<◌, ◌↔◌, ◌∙◌, ◌∷◌, ◌≡◌, ◌≤◌, [], ap, arith, Bool, false, length, List, None, Option, refl, Some, subst, sym, true, ℕ, slice_get, Reference, Component, Global, Local, Outcome, Truth, Value, Listed, Operator, Unary, Constant, Quantifier, Relation, Defined, absent, binary, bracket, builder, chain, constant, empty_set, link, links, listed, no_links, no_ranges, no_terms, number, present, quantified, range, Ranges, ranges, reference, ResolvedLinks, ResolvedPart, ResolvedTree, ResolvedTrees, term, terms, unary, Infinite, direct, extent_found, extent_set, Context, Environment, outcome_in, outcome_or, within, longer, HasOutcome, IsTruth, AreEach, IsLifted, IsLonger, at, is_liftable, Wherever, Whichever, AreClosed, AreLifts, AreLinkLifts, AreLinksClosed, AreRangeLifts, AreRangesClosed, IsClosed, IsLift, IsPartClosed, IsPartLift, AreAllLifts, IsLinkClosed, IsLinkLift, IsRangeClosed, IsRangeLift, need, AreSame, AreSameLinks, AreSameRanges, IsSame, IsSamePart}
 use Rattle.zf_tree.specs.declared.operator.Operator.TheVariants as operator
-use Rattle.zf_tree.specs.declared.operator.Unary.{Unary}
 use Rattle.zf_tree.specs.declared.operator.Unary.TheVariants as the_unary
-use Rattle.zf_reference.specs.declared.reference.Reference.{Reference}
-use Rattle.zf_reference.specs.declared.reference.Reference.TheVariants.{Component, Local, Global}
-use Rattle.zf_term.specs.Definitions.{Defined}
-use Rattle.zf_extent.specs.Extents.{direct, extent_found, extent_set}
-use Rattle.zf_term.specs.ResolvedTrees.{ResolvedTree, reference, number, constant, empty_set, bracket, listed, builder, unary, binary, chain, quantified, ResolvedTrees, no_terms, term, ResolvedLinks, no_links, link, Ranges, no_ranges, range, ResolvedPart, absent, present, terms, links, ranges}
-use Rattle.zf_value.specs.declared.value.Value.{Value}
-use Rattle.zf_value.specs.declared.value.Outcome.{Outcome}
-use Rattle.zf_value.specs.declared.value.Truth.{Truth}
 use Rattle.zf_value.specs.declared.value.Truth.TheVariants as truth
-use Rattle.zf_meaning.specs.Environments.{Environment, Context, within, outcome_in, outcome_or}
-use Rattle.zf_meaning.specs.Envs.{longer}
-use Rattle.zf_meaning.specs.Meaning.{HasOutcome, IsTruth}
 use Rattle.zf_meaning.proofs.Unique.{one_outcome}
-use Rattle.zf_lift.specs.Lifted.{IsLonger, AreEach, IsLifted}
-use Rattle.zf_lift.specs.Needs.{need}
-use Rattle.zf_lift.specs.Same.{IsSame, AreSame, AreSameRanges, AreSameLinks, IsSamePart}
-use Rattle.zf_lift.specs.Lifts.{at, Wherever, Whichever, IsLift, AreLifts, AreRangeLifts, AreLinkLifts, IsPartLift, IsClosed, AreClosed, AreRangesClosed, AreLinksClosed, IsPartClosed, is_liftable}
-use Rattle.zf_lift.specs.Lists.{AreAllLifts, IsRangeLift, IsLinkLift, IsRangeClosed, IsLinkClosed}
 use Rattle.zf_lift.proofs.Needs.{uses_no_more}
 use Rattle.zf_lift.proofs.Forms as forms
 use Rattle.zf_lift.proofs.Longer as longer_ones

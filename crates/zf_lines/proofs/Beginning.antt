@@ -1,17 +1,8 @@
 -- A search that begins is, for what writes its lines, at its beginning.
-use Rattle.std.proofs.Common.{sym, subst}
-use Rattle.zf_term.specs.Definitions.{Schema}
-use Rattle.zf_value.specs.declared.value.Value.{Value}
-use Rattle.zf_value.specs.Sets.{value_order}
-use Rattle.zf_walk.specs.Progress.{AreAllAhead, Stage}
+use Rattle.zf_lines.proofs.Prelude.{subst, sym, AreAllAhead, Stage, value_order, Value, Schema, Environment, property, conjuncts_of, counted_goal, Goal, Bindings, IsAtStart, IsCountingAtStart}
 use Rattle.zf_plan.specs.Alike.{SayTheSame}
-use Rattle.zf_meaning.specs.Environments.{Environment}
-use Rattle.zf_enum.specs.declared.bindings.Bindings.{Bindings}
 use Rattle.zf_enum.specs.Portions.{Portion}
-use Rattle.zf_enum.specs.Property.{property}
-use Rattle.zf_enum.specs.Searches.{Goal, conjuncts_of, counted_goal}
 use Rattle.zf_enum.specs.Starts.{Begins, BeginsCounting}
-use Rattle.zf_lines.specs.Shown.{IsAtStart, IsCountingAtStart}
 
 pub at_start : (e : Environment) (s : Schema) (p : Portion) (g : Goal) (b : Stage Value) → Begins e s p g b → IsAtStart s g b
 at_start e s p g b h = record {

@@ -1,20 +1,6 @@
 -- The events that a walk has passed: they are those up to its last answer.
-use Rattle.std.proofs.Common.{◌≡◌, ◌⊎◌, List, [], ◌∷◌, ◌++◌, length, take, Option, Some, None, sym, ap, ◌∙◌, inl, inr, arith, subst}
-use Rattle.std.specs.Prelude.{Contains, AllPairs}
-use Rattle.std.specs.declared.cmp.Ordering.{Ordering}
-use Rattle.std.specs.declared.cmp.Ordering.TheVariants.{Less, Greater}
-use Rattle.std.specs.Cmp.{IsTotalOrder}
-use Rattle.std.specs.Cmp.Lexicographic.{slice_cmp, lists_total}
-use Rattle.std.specs.Ordering.{ordering_reverse}
-use Rattle.std.proofs.lemmas.Bool.{false≢true}
-use Rattle.std.proofs.lemmas.List.{take_all}
-use Rattle.zf_walk.specs.Conjuncts.{Conjuncts}
-use Rattle.zf_walk.specs.Rows.{ComesAfter}
-use Rattle.zf_walk.specs.Events.{Event, IsEvent}
-use Rattle.zf_walk.specs.Progress.{Ahead, IsAhead, past, Takes, AreAllAhead, IsNoneAhead, SameAhead}
-use Rattle.zf_walk.proofs.Lists.{Contains-head, Contains-cases, Contains-nil, Contains-left, Contains-right, Contains-either, AllPairs-nil, AllPairs-cons, AllPairs-head, AllPairs-tail, AllPairs-across}
+use Rattle.zf_lines.proofs.Prelude.{◌++◌, ◌∙◌, ◌∷◌, ◌≡◌, ◌⊎◌, [], ap, arith, inl, inr, length, List, None, Option, Some, subst, sym, take, false≢true, take_all, IsTotalOrder, lists_total, slice_cmp, ordering_reverse, AllPairs, Contains, Ordering, Greater, Less, AllPairs-across, AllPairs-cons, AllPairs-head, AllPairs-nil, AllPairs-tail, Contains-cases, Contains-either, Contains-head, Contains-left, Contains-nil, Contains-right, Conjuncts, Event, IsEvent, Ahead, AreAllAhead, IsAhead, IsNoneAhead, past, SameAhead, Takes, ComesAfter, AreEventsUpTo}
 use Rattle.zf_walk.proofs.Picks.{IsRowOf-length}
-use Rattle.zf_lines.specs.Searches.{AreEventsUpTo}
 
 -- one more element, above all others
 pub AllPairs-push : {X : Type 0} (R : X → X → Type 0) (xs : List X) (y : X) → AllPairs R xs → ((x : X) → Contains xs x → R x y) → AllPairs R (xs ++ y ∷ [])

@@ -1,19 +1,7 @@
 -- A search ends: with each event that is taken fewer rows are ahead.
-use Rattle.std.proofs.Common.{◌≡◌, ℕ, suc, ◌<◌, ◌≤◌, Bool, true, false, if◌then◌else◌, List, [], ◌∷◌, ◌++◌, length, map, take, Option, refl, sym, ap, ◌∙◌, inl, inr, arith, subst}
-use Rattle.std.specs.Prelude.{Contains}
-use Rattle.std.specs.declared.cmp.Ordering.{Ordering}
-use Rattle.std.specs.declared.cmp.Ordering.TheVariants.{Less, Equal, Greater}
-use Rattle.std.specs.Cmp.{IsTotalOrder}
-use Rattle.std.specs.Cmp.Lexicographic.{slice_cmp}
-use Rattle.std.specs.Ordering.{ordering_then}
-use Rattle.std.proofs.lemmas.Bool.{false≢true}
+use Rattle.zf_lines.proofs.Prelude.{if◌then◌else◌, ◌++◌, ◌<◌, ◌∙◌, ◌∷◌, ◌≡◌, ◌≤◌, [], ap, arith, Bool, false, inl, inr, length, List, map, Option, refl, subst, suc, sym, take, true, ℕ, false≢true, IsTotalOrder, slice_cmp, ordering_then, Contains, Ordering, Equal, Greater, Less, Contains-cases, Contains-head, Contains-later, Contains-left, Contains-nil, Contains-right, Conjuncts, Event, Ahead, IsAhead, Takes, IsRowOf}
 use Rattle.std.proofs.lemmas.Cmp.{tied_itself, alike_right}
-use Rattle.zf_walk.specs.Conjuncts.{Conjuncts}
-use Rattle.zf_walk.specs.Rows.{IsRowOf}
-use Rattle.zf_walk.specs.Events.{Event}
-use Rattle.zf_walk.specs.Progress.{Ahead, IsAhead, Takes}
 use Rattle.zf_walk.specs.Places.{first_of, reaches}
-use Rattle.zf_walk.proofs.Lists.{Contains-head, Contains-later, Contains-cases, Contains-nil, Contains-left, Contains-right}
 
 -- ---- how many pass a test
 

@@ -1,8 +1,5 @@
 -- Texts that are written one behind the other, and fronts of them.
-use Rattle.std.proofs.Common.{◌++◌, ℕ, List, [], Option, Result, Ok, Err, OnOk, OnErr, sym, ap, ◌∙◌, append_assoc, append-nil}
-use Rattle.std.specs.Io.KnownBytes.{Appends}
-use Rattle.std.proofs.KnownBytes.{Appends-trans}
-use Rattle.zf_lines.specs.Faults.{AppendsFront}
+use Rattle.zf_lines.proofs.Prelude.{◌++◌, ◌∙◌, [], ap, append-nil, append_assoc, Err, List, Ok, OnErr, OnOk, Option, Result, sym, ℕ, Appends-trans, Appends, AppendsFront}
 
 pub always_on_err : {T E : Type 0} (r : Result T E) {Q : Type 0} → Q → OnErr r Q
 always_on_err (Ok x) q = tt

@@ -1,7 +1,5 @@
 -- The lines of a search grow with each event that is written.
-use Rattle.std.proofs.Common.{◌≡◌, ℕ, ◌+◌, List, [], ◌∷◌, ◌++◌, length, Option, Some, None, refl, sym, ap, ◌∙◌, append_assoc, append-nil, arith, length-append, subst}
-use Rattle.zf_walk.specs.Events.{Event}
-use Rattle.zf_lines.specs.Searches.{Hold, lines, IsBelow, IsWithin, IsBegun}
+use Rattle.zf_lines.proofs.Prelude.{◌++◌, ◌+◌, ◌∙◌, ◌∷◌, ◌≡◌, [], ap, append-nil, append_assoc, arith, length, length-append, List, None, Option, refl, Some, subst, sym, ℕ, Event, Hold, IsBegun, IsBelow, IsWithin, lines}
 
 module _ {V : Type 0} (line : List V → List ℕ) where
   pub one_more_line : (front : List (Event V)) (e : Event V) → lines line (front ++ e ∷ []) ≡ lines line front ++ line e.row

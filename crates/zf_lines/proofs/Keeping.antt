@@ -1,9 +1,6 @@
 -- Slots, with the text of a place in each that is filled.
-use Rattle.std.proofs.Common.{◌≡◌, ◌⊎◌, ℕ, zero, suc, List, [], ◌∷◌, ◌++◌, length, Option, Some, None, refl, ap, inl, inr, subst}
-use Rattle.std.proofs.Math.ListN.{set}
-use Rattle.std.specs.Prelude.{slice_get}
+use Rattle.zf_lines.proofs.Prelude.{◌++◌, ◌∷◌, ◌≡◌, ◌⊎◌, [], ap, inl, inr, length, List, None, Option, refl, Some, subst, suc, zero, ℕ, set, slice_get, AreTexts}
 use Rattle.zf_lines.specs.declared.column.Kept.{Kept}
-use Rattle.zf_lines.specs.Columns.{AreTexts}
 
 -- what stands at a place after one more, and after a change
 pub at_push : {A : Type 0} (xs : List A) (y z : A) (n : ℕ) → slice_get (xs ++ y ∷ []) n ≡ Some z → (slice_get xs n ≡ Some z) ⊎ ((n ≡ length xs) × (y ≡ z))

@@ -1,21 +1,8 @@
 -- The lines of a search, one after another: what is written so far, and how it ends.
-use Rattle.std.proofs.Common.{◌≡◌, ◌⊎◌, ℕ, ◌+◌, ◌<◌, List, [], ◌∷◌, ◌++◌, length, Option, Some, None, refl, sym, ap, ◌∙◌, inl, inr, arith, length-append, subst}
-use Rattle.std.specs.Prelude.{option_map}
-use Rattle.std.specs.Io.KnownBytes.{Appends}
-use Rattle.std.proofs.KnownBytes.{Appends-trans, Appends-nil}
+use Rattle.zf_lines.proofs.Prelude.{◌++◌, ◌+◌, ◌<◌, ◌∙◌, ◌∷◌, ◌≡◌, ◌⊎◌, [], ap, arith, inl, inr, length, length-append, List, None, Option, refl, Some, subst, sym, ℕ, Appends-nil, Appends-trans, Appends, option_map, Conjuncts, Event, Ahead, AreAllAhead, IsNoneAhead, Takes, Out, True, value_order, Value, IsEnd, AppendsFront, AreEventsUpTo, Hold, IsBegun, IsBelow, lines, HasLimit}
 use Rattle.std.proofs.lemmas.List.Elements.{All-push}
 use Rattle.zf_value.specs.contracts.value.ValueOrd.TheImpl.Laws as order_laws
-use Rattle.zf_value.specs.declared.value.Value.{Value}
-use Rattle.zf_value.specs.Sets.{value_order}
-use Rattle.zf_walk.specs.declared.judge.Truth.TheVariants.{True, Out}
-use Rattle.zf_walk.specs.Conjuncts.{Conjuncts}
-use Rattle.zf_walk.specs.Events.{Event}
-use Rattle.zf_walk.specs.Progress.{Ahead, Takes, AreAllAhead, IsNoneAhead}
 use Rattle.zf_lines.specs.declared.ending.Ending.TheVariants as endings
-use Rattle.zf_lines.specs.Faults.{AppendsFront}
-use Rattle.zf_lines.specs.Searches.{AreEventsUpTo, Hold, IsBegun, IsBelow, lines}
-use Rattle.zf_lines.specs.Ends.{IsEnd}
-use Rattle.zf_lines.specs.Shown.{HasLimit}
 use Rattle.zf_lines.proofs.Behind.{Behind, none_behind, one_behind, up_to_last, up_to_end}
 use Rattle.zf_lines.proofs.Growing.{one_more_line, begun}
 use Rattle.zf_lines.proofs.Fronts.{front_behind, front_whole}

@@ -1,19 +1,8 @@
 -- Parts of lines, and columns of them.
-use Rattle.std.proofs.Common.{◌≡◌, ℕ, zero, suc, ◌+◌, ◌<◌, ◌≤◌, List, [], ◌∷◌, ◌++◌, codes, length, map, take, drop, get_or, Option, Some, None, refl, sym, ap, ◌∙◌, inl, inr, append_assoc, length-append, arith, subst}
-use Rattle.std.proofs.Math.ListN.{set}
-use Rattle.std.specs.Prelude.{IfSome, IsSomeAnd, option_map, slice_get, slice_index_or, unwrap_or}
-use Rattle.std.proofs.lemmas.Option.{get_or_from_slice_get, slice_get_read}
-use Rattle.std.proofs.lemmas.List.{length-map, length-set, length-take-le, map_more, take_all}
-use Rattle.zf_term.specs.Definitions.{Comp, comp_of}
+use Rattle.zf_lines.proofs.Prelude.{◌++◌, ◌+◌, ◌<◌, ◌∙◌, ◌∷◌, ◌≡◌, ◌≤◌, [], ap, append_assoc, arith, codes, drop, get_or, inl, inr, length, length-append, List, map, None, Option, refl, Some, subst, suc, sym, take, zero, ℕ, set, length-map, length-set, length-take-le, map_more, take_all, get_or_from_slice_get, slice_get_read, IfSome, IsSomeAnd, option_map, slice_get, slice_index_or, unwrap_or, Value, Comp, comp_of, ahead-further, texts-drop, component_text, component_texts, goes_on, Spelling, AreColumns, head_of, Keeps, part_at}
 use Rattle.zf_term.specs.declared.globals.Component.{Component}
-use Rattle.zf_value.specs.declared.value.Value.{Value}
-use Rattle.zf_texts.specs.declared.spelling.Spelling.{Spelling}
-use Rattle.zf_texts.specs.Steps.{goes_on}
 use Rattle.zf_texts.specs.ValueTexts.{value_text, separator}
-use Rattle.zf_texts.specs.BindingTexts.{component_text, component_texts}
-use Rattle.zf_texts.proofs.Printing.{ahead-further, texts-drop}
 use Rattle.zf_lines.specs.declared.column.Column.{Column}
-use Rattle.zf_lines.specs.Columns.{AreColumns, Keeps, head_of, part_at}
 use Rattle.zf_lines.proofs.Keeping.{at_push, at_set}
 
 module _ (head : List ℕ) (ss : List Spelling) (last : Option (List Value)) (i : ℕ) where

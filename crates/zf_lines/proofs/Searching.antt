@@ -1,25 +1,8 @@
 -- What the steps of a search say of its schema, wherever it stands.
-use Rattle.std.proofs.Common.{◌≡◌, ◌<◌, ℕ, Bool, false, codes, List, [], ◌++◌, Option, Some, refl, sym, ap, ◌∙◌, append_assoc, append-nil, inl, inr, subst}
-use Rattle.std.specs.Prelude.{unwrap_or}
-use Rattle.std.specs.Io.KnownBytes.{Appends}
-use Rattle.zf_term.specs.Definitions.{Schema}
-use Rattle.zf_value.specs.declared.value.Value.{Value}
-use Rattle.zf_value.specs.Sets.{value_order}
-use Rattle.zf_walk.specs.declared.step.Step.TheVariants.{Holds, Breaks, End}
-use Rattle.zf_walk.specs.declared.judge.Truth.TheVariants.{True, Out}
-use Rattle.zf_walk.specs.Conjuncts.{Conjuncts}
-use Rattle.zf_walk.specs.Events.{Event}
-use Rattle.zf_walk.specs.Progress.{Stage, SameRanges, Advances, Takes, IsNoneAhead}
+use Rattle.zf_lines.proofs.Prelude.{◌++◌, ◌<◌, ◌∙◌, ◌≡◌, [], ap, append-nil, append_assoc, Bool, codes, false, inl, inr, List, Option, refl, Some, subst, sym, ℕ, Appends, unwrap_or, Conjuncts, Event, Advances, IsNoneAhead, SameRanges, Stage, Takes, Out, True, Breaks, End, Holds, value_order, Value, Schema, Environment, property, conjuncts_of, Goal, ending_status, EndsBy, IsEnd, last_text, AppendsFront, AreEventsUpTo, IsWritten, lines, out_line, FindsEvents, IsAtStart, StopsLines, TellsTests, WritesAll}
 use Rattle.zf_plan.proofs.Alike.{advances}
-use Rattle.zf_meaning.specs.Environments.{Environment}
-use Rattle.zf_enum.specs.Property.{property}
-use Rattle.zf_enum.specs.Searches.{Goal, conjuncts_of}
 use Rattle.zf_lines.specs.declared.ending.Ending as ending
 use Rattle.zf_lines.specs.declared.ending.Ending.TheVariants as endings
-use Rattle.zf_lines.specs.Faults.{AppendsFront}
-use Rattle.zf_lines.specs.Searches.{AreEventsUpTo, IsWritten, lines, out_line}
-use Rattle.zf_lines.specs.Shown.{FindsEvents, IsAtStart, StopsLines, TellsTests, WritesAll}
-use Rattle.zf_lines.specs.Ends.{EndsBy, IsEnd, ending_status, last_text}
 use Rattle.zf_lines.proofs.Fewer.{ahead_count, one_fewer}
 use Rattle.zf_lines.proofs.Lines.{IsFirst}
 use Rattle.zf_value.specs.contracts.value.ValueOrd.TheImpl.Laws as order_laws

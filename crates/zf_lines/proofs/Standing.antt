@@ -1,19 +1,6 @@
 -- Where the loop over the lines of a search stands.
-use Rattle.std.proofs.Common.{◌≡◌, ℕ, ◌+◌, List, [], ◌∷◌, ◌++◌, Option, Some, None, refl, sym, ap, ◌∙◌, subst}
-use Rattle.std.specs.Prelude.{option_map, unwrap_or}
-use Rattle.std.specs.Io.KnownBytes.{Appends}
-use Rattle.zf_term.specs.Definitions.{Schema}
-use Rattle.zf_value.specs.declared.value.Value.{Value}
-use Rattle.zf_value.specs.Sets.{value_order}
+use Rattle.zf_lines.proofs.Prelude.{◌++◌, ◌+◌, ◌∙◌, ◌∷◌, ◌≡◌, [], ap, List, None, Option, refl, Some, subst, sym, ℕ, Appends, option_map, unwrap_or, Advances, SameRanges, Stage, Takes, Out, True, Breaks, End, Holds, value_order, Value, Schema, property, conjuncts_of, Goal, EndsBy, AppendsFront, HasLimit, IsAtStart, StopsLines}
 use Rattle.zf_walk.specs.declared.step.Step.{Step}
-use Rattle.zf_walk.specs.declared.step.Step.TheVariants.{Holds, Breaks, End}
-use Rattle.zf_walk.specs.declared.judge.Truth.TheVariants.{True, Out}
-use Rattle.zf_walk.specs.Progress.{Stage, SameRanges, Advances, Takes}
-use Rattle.zf_enum.specs.Property.{property}
-use Rattle.zf_enum.specs.Searches.{Goal, conjuncts_of}
-use Rattle.zf_lines.specs.Ends.{EndsBy}
-use Rattle.zf_lines.specs.Faults.{AppendsFront}
-use Rattle.zf_lines.specs.Shown.{HasLimit, IsAtStart, StopsLines}
 use Rattle.zf_lines.specs.declared.ending.Ending.TheVariants as endings
 use Rattle.zf_lines.proofs.Lines as lines
 use Rattle.zf_lines.proofs.Lines.{HasLines}

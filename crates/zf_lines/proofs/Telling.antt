@@ -1,18 +1,8 @@
 -- What a walk says of its tests is what an answer says of them.
-use Rattle.std.proofs.Common.{◌≡◌, List, Option, true, sym, ap, subst}
-use Rattle.zf_term.specs.Definitions.{Schema}
+use Rattle.zf_lines.proofs.Prelude.{◌≡◌, ap, List, Option, subst, sym, true, Progress, SameRanges, Stage, value_order, Value, Schema, Environment, property, counted_goal, Goal, judged, Bindings, IsCountingAtStart, TellsTests, tests_line}
 use Rattle.zf_term.specs.ResolvedTrees.{ResolvedTree}
-use Rattle.zf_value.specs.declared.value.Value.{Value}
-use Rattle.zf_value.specs.Sets.{value_order}
-use Rattle.zf_walk.specs.Progress.{Progress, SameRanges, Stage}
 use Rattle.zf_walk.specs.Progress as walk
 use Rattle.zf_walk.specs.Tests.{IsNumberOfTests}
-use Rattle.zf_meaning.specs.Environments.{Environment}
-use Rattle.zf_enum.specs.declared.bindings.Bindings.{Bindings}
-use Rattle.zf_enum.specs.Property.{property}
-use Rattle.zf_enum.specs.Searches.{Goal, counted_goal, judged}
-use Rattle.zf_lines.specs.Shown.{IsCountingAtStart, TellsTests}
-use Rattle.zf_lines.specs.Texts.{tests_line}
 
 -- the number that the walk has counted is that of the stated pairs
 tests_told : {J : Type 0} (e : Environment) (a : Schema) (b : Stage Value) (c : Progress Value J) (whole : Option (List Value)) → SameRanges b c.stage

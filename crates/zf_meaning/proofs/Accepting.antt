@@ -1,12 +1,7 @@
 -- Sizes one after another: which are accepted so far, and where a fault stands.
-use Rattle.std.proofs.Common.{◌≡◌, ℕ, ◌+◌, ◌<◌, ◌⊎◌, List, [], ◌∷◌, ◌++◌, length, get_or, take, drop, refl, sym, ap, ◌∙◌, subst, inl, inr, take-append-drop}
-use Rattle.std.specs.List.{Contains, All}
-use Rattle.std.proofs.lemmas.List.{take_more, drop_more, map-append}
-use Rattle.std.proofs.lemmas.List.Elements.{Contains-push_cases, All-more}
-use Rattle.zf_meaning.specs.declared.sizes.Size.{Size}
+use Rattle.zf_meaning.proofs.Prelude.{◌++◌, ◌+◌, ◌<◌, ◌∙◌, ◌∷◌, ◌≡◌, ◌⊎◌, [], ap, drop, get_or, inl, inr, length, List, refl, subst, sym, take, take-append-drop, ℕ, drop_more, map-append, take_more, All-more, Contains-push_cases, All, Contains, AreAccepted, IsAccepted, IsRefusal, LacksSize, names, Refuses, RefusesSize, Size}
 use Rattle.zf_meaning.specs.declared.sizes.SizeFault.{SizeFault}
 use Rattle.zf_meaning.specs.declared.sizes.SizeFault.TheVariants.{NoSize, NotGiven, SizeTwice, SizeTooLarge, OutOfMemory}
-use Rattle.zf_meaning.specs.Sizes.{names, IsAccepted, AreAccepted, Refuses, RefusesSize, LacksSize, IsRefusal}
 
 -- a list is what stands before a place, the element there, and what follows
 pub split_at : {X : Type 0} (xs : List X) (i : ℕ) (x : X) → i < length xs → x ≡ get_or xs i x → xs ≡ take i xs ++ x ∷ drop (i + 1) xs

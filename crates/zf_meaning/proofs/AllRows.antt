@@ -1,9 +1,5 @@
 -- All rows: they are those that take a value from each range, and none stands twice among them.
-use Rattle.std.proofs.Common.{◌≡◌, ◌⊎◌, List, [], ◌∷◌, ◌++◌, map, refl, sym, ap, subst, inl, inr, ⊎_elim}
-use Rattle.zf_value.specs.declared.value.Value.{Value}
-use Rattle.zf_value.specs.Operations.{AreFrom}
-use Rattle.zf_value.specs.Sets.{IsMember, members}
-use Rattle.zf_meaning.specs.Places.{headed, all_rows}
+use Rattle.zf_meaning.proofs.Prelude.{◌++◌, ◌∷◌, ◌≡◌, ◌⊎◌, [], ap, inl, inr, List, map, refl, subst, sym, ⊎_elim, AreFrom, IsMember, members, Value, headed, all_rows}
 
 -- the row is among these
 abbrev pub IsAmong : List Value → List (List Value) → Type 0

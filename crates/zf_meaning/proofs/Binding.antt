@@ -1,18 +1,7 @@
 -- Quantified predicates and builders, by their parts.
-use Rattle.std.proofs.Common.{◌≡◌, ℕ, List, map, Option, sym, ap, ◌∙◌, subst}
-use Rattle.zf_tree.specs.declared.symbol.Quantifier.{Quantifier}
-use Rattle.zf_term.specs.declared.resolved.Range.{Range}
-use Rattle.zf_term.specs.declared.resolved.Resolved.{Resolved}
+use Rattle.zf_meaning.proofs.Prelude.{◌∙◌, ◌≡◌, ap, List, map, Option, subst, sym, ℕ, Outcome, Truth, Quantifier, of-Builder, of-Quantified, part_of, range_of, ranges, resolved_of, Range, Resolved, Context, HasOutcome, HaveRanges, IsBuilt, IsTruth, Several, IsQuantified}
 use Rattle.zf_term.specs.declared.resolved.Resolved.TheViews.{out-Resolved}
 use Rattle.zf_term.specs.declared.resolved.Resolved.TheVariants as v
-use Rattle.zf_term.specs.ResolvedTrees.{ranges, range_of, part_of, resolved_of}
-use Rattle.zf_term.proofs.ResolvedSeen.{of-Quantified, of-Builder}
-use Rattle.zf_value.specs.declared.value.Outcome.{Outcome}
-use Rattle.zf_value.specs.declared.value.Truth.{Truth}
-use Rattle.zf_meaning.specs.Environments.{Context}
-use Rattle.zf_meaning.specs.Meaning.{HasOutcome, IsTruth, HaveRanges, IsBuilt}
-use Rattle.zf_meaning.specs.Outcomes.{Several}
-use Rattle.zf_meaning.specs.Truths.{IsQuantified}
 use Rattle.zf_meaning.proofs.Walking.{FilterIn, TermIn, ToldIn}
 
 pub same-quantifier : (q q' : Quantifier) (l l' : ℕ) (rs rs' : List Range) (p p' : Option Resolved) (e e' : Resolved) → v.Quantified q l rs p e ≡ v.Quantified q' l' rs' p' e' → q ≡ q'

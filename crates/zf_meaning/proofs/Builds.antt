@@ -1,16 +1,6 @@
 -- What a builder has built of the rows that are done.
-use Rattle.std.proofs.Common.{◌≡◌, ◌↔◌, ◌⊎◌, true, false, List, [], ◌∷◌, ◌++◌, refl, sym, subst, inl, inr, ⊎_elim}
-use Rattle.zf_value.specs.declared.value.Value.{Value}
-use Rattle.zf_value.specs.declared.value.Outcome.{Outcome}
-use Rattle.zf_value.specs.declared.value.Outcome.TheVariants.{Is, Undefined, Out}
-use Rattle.zf_value.specs.declared.value.Truth.{Truth}
+use Rattle.zf_meaning.proofs.Prelude.{◌++◌, ◌↔◌, ◌∷◌, ◌≡◌, ◌⊎◌, [], false, inl, inr, List, refl, subst, sym, true, ⊎_elim, every_also, members-push, same_set, IsDisplay, IsMember, HaveSameMembers, Outcome, Is, Out, Undefined, Truth, Value, AddsRow, IsBuiltBy, IsBuiltOver, IsWithinBounds}
 use Rattle.zf_value.specs.declared.value.Truth.TheVariants as truth
-use Rattle.zf_value.specs.Operations.{IsDisplay}
-use Rattle.zf_value.specs.Sets.{IsMember, HaveSameMembers}
-use Rattle.zf_value.proofs.Among.{members-push, every_also}
-use Rattle.zf_value.proofs.Making.{same_set}
-use Rattle.zf_meaning.specs.Building.{AddsRow}
-use Rattle.zf_meaning.specs.Meaning.{IsBuiltBy, IsWithinBounds, IsBuiltOver}
 use Rattle.zf_meaning.proofs.AllRows.{IsAmong}
 
 -- each test has one answer

@@ -1,23 +1,8 @@
 -- The carriers of several types, one after another.
-use Rattle.std.proofs.Common.{◌≡◌, ℕ, ◌+◌, ◌<◌, List, [], ◌∷◌, length, map, drop, get_or, refl, sym, ap, ◌∙◌, subst, Option, Some, None}
-use Rattle.std.specs.Prelude.{MatchOption}
-use denote.Bor.{Bor}
-use Rattle.std.proofs.lemmas.List.{drop_more}
+use Rattle.zf_meaning.proofs.Prelude.{◌+◌, ◌<◌, ◌∙◌, ◌∷◌, ◌≡◌, [], ap, drop, get_or, length, List, map, None, Option, refl, Some, subst, sym, ℕ, drop_more, MatchOption, Bor, are_regular, AreRegular, IsMember, Outcome, Value, Defined, definition_of, type_of, types, AreCarriers, IsCarrier, definition_number, Environment, found_number, lack_with, several_by, values_with, one_more, Several, values, Lack, Nothing}
 use Rattle.zf_term.specs.declared.globals.Entry.{Entry}
-use Rattle.zf_term.specs.Definitions.{Defined, definition_of}
 use Rattle.zf_term.specs.FirstNamed.{first_named}
-use Rattle.zf_value.specs.Sets.{IsMember, AreRegular}
-use Rattle.zf_value.proofs.Regulars.{are_regular}
 use Rattle.zf_term.specs.declared.ztype.ZType.{ZType}
-use Rattle.zf_term.specs.Types.{types, type_of}
-use Rattle.zf_value.specs.declared.value.Value.{Value}
-use Rattle.zf_value.specs.declared.value.Outcome.{Outcome}
-use Rattle.zf_meaning.specs.declared.gathered.Lack.{Lack}
-use Rattle.zf_meaning.specs.declared.gathered.Lack.TheVariants.{Nothing}
-use Rattle.zf_meaning.specs.Carriers.{IsCarrier, AreCarriers}
-use Rattle.zf_meaning.specs.Environments.{Environment, definition_number, found_number}
-use Rattle.zf_meaning.specs.Gathered.{lack_with, values_with, several_by}
-use Rattle.zf_meaning.specs.Outcomes.{Several, values, one_more}
 use Rattle.zf_meaning.proofs.Gathering.{joined, joined-begun, joined-all, joined-more}
 
 abbrev pub CarriersTo : Environment → List ZType → List ZType → Lack → List Value → Type 0

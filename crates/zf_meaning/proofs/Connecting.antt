@@ -1,13 +1,6 @@
 -- What connectives tell of the truths of their sides.
-use Rattle.std.proofs.Common.{◌≡◌, Some, refl, sym, subst, inl, inr}
-use Rattle.zf_tree.specs.declared.symbol.Connective.{Connective}
-use Rattle.zf_tree.specs.declared.symbol.Connective.TheVariants.{And, Or, Implies, Iff}
-use Rattle.zf_tree.specs.declared.symbol.Quantifier.{Quantifier}
-use Rattle.zf_tree.specs.declared.symbol.Quantifier.TheVariants.{ForAll, Exists, ExistsOne}
-use Rattle.zf_value.specs.declared.value.Truth.{Truth}
+use Rattle.zf_meaning.proofs.Prelude.{◌≡◌, inl, inr, refl, Some, subst, sym, Truth, Connective, And, Iff, Implies, Or, Quantifier, Exists, ExistsOne, ForAll, conjunction, connected, connective_of, decided, disjunction, equivalence, IsConjunction, IsConnected, IsDisjunction, IsEquivalence, IsTold, opposite}
 use Rattle.zf_value.specs.declared.value.Truth.TheVariants.{True, False, Out}
-use Rattle.zf_meaning.specs.Connected.{conjunction, disjunction, equivalence, connected, decided, connective_of}
-use Rattle.zf_meaning.specs.Truths.{opposite, IsConjunction, IsDisjunction, IsEquivalence, IsConnected, IsTold}
 
 pub conjoined : (p q : Truth) (P Q : Truth → Type 0) → P p → Q q → IsConjunction P Q (conjunction p q)
 conjoined True True P Q h k = (h, k)

@@ -1,30 +1,9 @@
 -- Parts of a binder that tell that rows do not count.
-use Rattle.std.proofs.Common.{◌≡◌, ℕ, suc, ◌+◌, ◌<◌, ◌≤◌, List, [], ◌∷◌, ◌++◌, Option, Some, None, length, refl, sym, ap, ◌∙◌, subst, inl, inr, arith}
-use denote.Bor.{Bor}
+use Rattle.zf_meaning.proofs.Prelude.{◌++◌, ◌+◌, ◌<◌, ◌∙◌, ◌∷◌, ◌≡◌, ◌≤◌, [], ap, arith, inl, inr, length, List, None, Option, refl, Some, subst, suc, sym, ℕ, take_all, All-push, All, Bor, AreFrom, Truth, False, Value, And, Quantifier, Exists, ExistsOne, ForAll, of-Binary, of-Bracket, of-Builder, of-Quantified, part_of, resolved_of, ResolvedTree, Range, Resolved, size-Resolved, IsBound, IsPart, IsPiece, neutral, AreNeutral, ArePassed, Falsifies, IsNeutral, Refutes, Context, within, IsConstraint, IsTruth, need, IsTold, Span}
 use Rattle.std.specs.Prelude.{IfSome}
-use Rattle.std.specs.List.{All}
-use Rattle.std.proofs.lemmas.List.{take_all}
-use Rattle.std.proofs.lemmas.List.Elements.{All-push}
-use Rattle.zf_tree.specs.declared.symbol.Connective.TheVariants.{And}
-use Rattle.zf_tree.specs.declared.symbol.Quantifier.{Quantifier}
-use Rattle.zf_tree.specs.declared.symbol.Quantifier.TheVariants.{ForAll, Exists, ExistsOne}
 use Rattle.zf_tree.specs.declared.operator.Operator.TheVariants.{Connective}
-use Rattle.zf_term.specs.declared.resolved.Range.{Range}
-use Rattle.zf_term.specs.declared.resolved.Resolved.{Resolved, size-Resolved}
 use Rattle.zf_term.specs.declared.resolved.Resolved.TheVariants as v
-use Rattle.zf_term.specs.ResolvedTrees.{ResolvedTree, resolved_of, part_of}
-use Rattle.zf_term.proofs.ResolvedSeen.{of-Bracket, of-Binary, of-Quantified, of-Builder}
-use Rattle.zf_value.specs.declared.value.Value.{Value}
-use Rattle.zf_value.specs.declared.value.Truth.{Truth}
-use Rattle.zf_value.specs.declared.value.Truth.TheVariants.{False}
-use Rattle.zf_value.specs.Operations.{AreFrom}
 use Rattle.zf_meaning.specs.declared.evaluate.early.Piece.{Piece}
-use Rattle.zf_meaning.specs.declared.evaluate.early.Span.{Span}
-use Rattle.zf_meaning.specs.Early.{neutral, IsNeutral, Refutes, Falsifies, IsPart, IsPiece, AreNeutral, ArePassed, IsBound}
-use Rattle.zf_meaning.specs.Environments.{Context, within}
-use Rattle.zf_meaning.specs.Meaning.{IsConstraint, IsTruth}
-use Rattle.zf_meaning.specs.Needs.{need}
-use Rattle.zf_meaning.specs.Truths.{IsTold}
 use Rattle.zf_meaning.proofs.SameLocals.{same-row}
 use Rattle.zf_meaning.proofs.Walking.{MayPass}
 

@@ -1,17 +1,6 @@
 -- A type has one carrier, and globals at the same sizes have one list of outcomes.
-use Rattle.std.proofs.Common.{◌≡◌, ℕ, zero, suc, ◌<◌, ◌≤◌, List, [], ◌∷◌, Option, Some, None, length, take, refl, sym, ap, ◌∙◌, subst, arith}
-use Rattle.std.specs.Prelude.{slice_get}
-use Rattle.zf_term.specs.Definitions.{Definition, given_set, free_type, constructor, abbreviation, schema}
-use Rattle.zf_term.specs.Types.{Ty, int, basic, power, product, Tys, no_types, type}
-use Rattle.zf_value.specs.declared.value.Outcome.{Outcome}
-use Rattle.zf_value.specs.Operations.{AreElements, IsPower, IsCross}
-use Rattle.zf_value.specs.Sets.{members}
+use Rattle.zf_meaning.proofs.Prelude.{◌<◌, ◌∙◌, ◌∷◌, ◌≡◌, ◌≤◌, [], ap, arith, length, List, None, Option, refl, Some, subst, suc, sym, take, zero, ℕ, slice_get, HasOne, one_set, AreElements, IsCross, IsPower, members, Outcome, abbreviation, constructor, Definition, free_type, given_set, schema, basic, int, no_types, power, product, Ty, type, Tys, AreCarriers, IsCarrier, IsTypeSetIf, AreElementsIf, before, element_count, Environment, globally, type_number, AreWorkedOut, IsOutcomeOf, OnOne, OnSeveral, Several}
 use Rattle.zf_value.proofs.Once as once
-use Rattle.zf_value.proofs.Once.{HasOne, one_set}
-use Rattle.zf_meaning.specs.Environments.{Environment, AreElementsIf, element_count, type_number, before, globally}
-use Rattle.zf_meaning.specs.Outcomes.{OnOne, Several, OnSeveral}
-use Rattle.zf_meaning.specs.Carriers.{IsTypeSetIf, IsCarrier, AreCarriers}
-use Rattle.zf_meaning.specs.GlobalOutcomes.{IsOutcomeOf, AreWorkedOut}
 use Rattle.zf_meaning.proofs.Unique.{one_outcome, one_on_one, one_on_several}
 
 one_elements : (n k : ℕ) → HasOne (AreElements n k)

@@ -1,7 +1,5 @@
 -- Fronts of lists of outcomes.
-use Rattle.std.proofs.Common.{◌≡◌, ℕ, zero, suc, ◌+◌, ◌<◌, ◌≤◌, List, [], ◌∷◌, ◌++◌, length, take, Option, Some, None, refl, sym, ap, add-one, arith}
-use Rattle.std.specs.Prelude.{slice_get}
-use Rattle.zf_value.specs.declared.value.Outcome.{Outcome}
+use Rattle.zf_meaning.proofs.Prelude.{◌++◌, ◌+◌, ◌<◌, ◌∷◌, ◌≡◌, ◌≤◌, [], add-one, ap, arith, length, List, None, Option, refl, Some, suc, sym, take, zero, ℕ, slice_get, Outcome}
 
 next : (xs : List Outcome) (i : ℕ) (x : Outcome) → slice_get xs i ≡ Some x → take (suc i) xs ≡ take i xs ++ x ∷ []
 next [] i x h = absurd (cc)

@@ -1,25 +1,8 @@
 -- Several values are gathered one after another.
-use Rattle.std.proofs.Common.{◌≡◌, ℕ, zero, suc, ◌+◌, ◌<◌, ◌≤◌, List, [], ◌∷◌, ◌++◌, length, map, take, drop, get_or, replicate, refl, sym, ap, ◌∙◌, subst, arith, append_assoc, append-nil, add-one}
-use Rattle.std.proofs.lemmas.List.{drop_more, map-append}
-use denote.Bor.{Bor}
-use Rattle.zf_term.specs.declared.resolved.Resolved.{Resolved}
-use Rattle.zf_term.specs.declared.resolved.Range.{Range}
-use Rattle.zf_term.specs.ResolvedTrees.{terms, ranges, resolved_of, range_of}
-use Rattle.zf_term.proofs.ResolvedSeen.{range-seen}
-use Rattle.zf_value.specs.declared.value.Value.{Value}
-use Rattle.zf_value.specs.declared.value.Outcome.{Outcome}
+use Rattle.zf_meaning.proofs.Prelude.{◌++◌, ◌+◌, ◌<◌, ◌∙◌, ◌∷◌, ◌≡◌, ◌≤◌, [], add-one, ap, append-nil, append_assoc, arith, drop, get_or, length, List, map, refl, replicate, subst, suc, sym, take, zero, ℕ, drop_more, map-append, Bor, members, Outcome, Value, range-seen, range_of, ranges, resolved_of, terms, Range, Resolved, Context, lack_with, several_by, values_with, HasOutcome, HaveOutcomes, HaveRanges, one_more, one_out, one_undefined, repeated, Several, values, seen, sets_with, spread, Spread, Lack}
 use Rattle.zf_value.specs.declared.value.Outcome.TheVariants as outcome
-use Rattle.zf_meaning.specs.declared.gathered.Lack.{Lack}
 use Rattle.zf_meaning.specs.declared.gathered.Lack.TheVariants.{Nothing, Undefined, Out}
-use Rattle.zf_meaning.specs.Environments.{Context}
-use Rattle.zf_meaning.specs.Gathered.{lack_with, values_with, several_by}
-use Rattle.zf_meaning.specs.Meaning.{HasOutcome, HaveOutcomes, HaveRanges}
-use Rattle.zf_meaning.specs.Outcomes.{Several, values, one_undefined, one_out, one_more, repeated}
-use Rattle.zf_meaning.specs.declared.evaluate.ranges.Spread.{Spread}
-use Rattle.zf_meaning.specs.Places.{seen}
-use Rattle.zf_meaning.specs.RangeSets.{sets_with, spread}
 use Rattle.zf_meaning.proofs.NextRow.{seen-append}
-use Rattle.zf_value.specs.Sets.{members}
 
 -- what was gathered, before what is still to come
 abbrev pub joined : Lack → List Value → Several → Several

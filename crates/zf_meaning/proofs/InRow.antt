@@ -1,23 +1,6 @@
 -- Where no variable is bound, a scope is the context of its row.
-use Rattle.std.proofs.Common.{◌≡◌, List, [], ap, sym, subst}
-use Rattle.std.specs.Prelude.{Result}
-use Rattle.std.specs.Result.{IfOk}
-use Rattle.std.specs.declared.alloc.AllocError.{AllocError}
-use Rattle.std.proofs.lemmas.Result.{IfOk-weaker}
-use denote.Bor.{Bor}
-use Rattle.zf_term.specs.ResolvedTrees.{ResolvedTree}
-use Rattle.zf_value.specs.declared.value.Value.{Value}
-use Rattle.zf_value.specs.declared.value.Outcome.{Outcome}
-use Rattle.zf_value.specs.declared.value.Truth.{Truth}
-use Rattle.zf_value.specs.Sets.{IsRegularOutcome}
-use Rattle.zf_meaning.specs.declared.env.Env.{Env}
-use Rattle.zf_meaning.specs.declared.described.Described.{Described}
-use Rattle.zf_meaning.specs.Described.{Describes}
-use Rattle.zf_meaning.specs.Envs.{environment_of}
+use Rattle.zf_meaning.proofs.Prelude.{◌≡◌, [], ap, List, subst, sym, IfOk-weaker, Result, IfOk, AllocError, Bor, IsRegularOutcome, Outcome, Truth, Value, ResolvedTree, Describes, environment_of, HasOutcome, IsTruth, seen, scope_of, Described, Env}
 use Rattle.zf_meaning.specs.InRow.{in_row}
-use Rattle.zf_meaning.specs.Meaning.{HasOutcome, IsTruth}
-use Rattle.zf_meaning.specs.Scopes.{scope_of}
-use Rattle.zf_meaning.specs.Places.{seen}
 
 none-bound : (env : Env) (row : List Value) (locals : List (Bor Value)) → locals ≡ [] → scope_of env row locals ≡ in_row (environment_of env) row
 none-bound env row locals e = ap (λ ls. record { environment = environment_of env; row = row; locals = seen ls }) e

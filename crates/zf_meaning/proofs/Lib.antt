@@ -1,3 +1,4 @@
+mod Prelude
 pub mod Unique
 pub mod SameRows
 pub mod SameLocals

@@ -1,25 +1,6 @@
 -- The links of a chain, one after another.
-use Rattle.std.proofs.Common.{◌≡◌, ℕ, ◌+◌, ◌<◌, ◌≤◌, List, ◌∷◌, length, map, drop, get_or, Option, None, refl, sym, ap, ◌∙◌, subst, inl}
-use Rattle.std.specs.Prelude.{Result}
-use Rattle.std.specs.Result.{IfOk}
-use Rattle.std.specs.declared.alloc.AllocError.{AllocError}
-use Rattle.std.proofs.lemmas.List.{drop_more}
-use Rattle.std.proofs.lemmas.Result.{IfOk-weaker}
-use Rattle.zf_term.specs.declared.resolved.Resolved.{Resolved}
-use Rattle.zf_term.specs.declared.resolved.ResolvedLink.{ResolvedLink}
-use Rattle.zf_term.specs.ResolvedTrees.{ResolvedTree, chain, links, resolved_of, resolved_link_of}
-use Rattle.zf_term.proofs.ResolvedSeen.{link-seen}
-use Rattle.zf_value.specs.declared.value.Outcome.{Outcome}
-use Rattle.zf_value.specs.declared.value.Truth.{Truth}
-use Rattle.zf_value.specs.declared.value.Truth.TheVariants.{True, False}
-use Rattle.zf_tree.specs.declared.symbol.Relation.{Relation}
-use Rattle.zf_term.specs.declared.extent.Infinite.{Infinite}
-use Rattle.zf_meaning.specs.declared.described.Described.{Described}
-use Rattle.zf_meaning.specs.Connected.{conjunction}
-use Rattle.zf_meaning.specs.Described.{Describes, IsDescribed, IsTruthIn}
+use Rattle.zf_meaning.proofs.Prelude.{◌+◌, ◌<◌, ◌∙◌, ◌∷◌, ◌≡◌, ◌≤◌, ap, drop, get_or, inl, length, List, map, None, Option, refl, subst, sym, ℕ, drop_more, IfOk-weaker, Result, IfOk, AllocError, Outcome, Truth, False, True, Relation, link-seen, chain, links, resolved_link_of, resolved_of, ResolvedTree, Infinite, Resolved, ResolvedLink, conjunction, IsDescribed, Describes, IsTruthIn, Context, AreLinked, HasOutcome, infinite_right, IsLink, IsTruth, Described}
 use Rattle.zf_meaning.specs.Linked.{IsLastLink}
-use Rattle.zf_meaning.specs.Environments.{Context}
-use Rattle.zf_meaning.specs.Meaning.{HasOutcome, IsTruth, AreLinked, IsLink, infinite_right}
 use Rattle.zf_meaning.proofs.Connecting.{conjoined, conjunction-assoc, conjunction-true, conjunction-false}
 use Rattle.zf_meaning.proofs.Gathering.{drop-past}
 

@@ -1,6 +1,5 @@
 -- A walk over all rows, of which some are done, some are passed and the others are ahead.
-use Rattle.std.proofs.Common.{◌≡◌, ◌⊎◌, List, [], ◌∷◌, refl, sym, subst, inl, inr, ⊎_elim}
-use Rattle.zf_value.specs.declared.value.Value.{Value}
+use Rattle.zf_meaning.proofs.Prelude.{◌∷◌, ◌≡◌, ◌⊎◌, [], inl, inr, List, refl, subst, sym, ⊎_elim, Value}
 use Rattle.zf_meaning.proofs.AllRows.{IsAmong, AreApart}
 
 -- N says which rows may be passed

@@ -1,19 +1,8 @@
 -- What the further items of a list need.
-use Rattle.std.proofs.Common.{◌≡◌, ℕ, zero, suc, ◌+◌, ◌<◌, ◌≤◌, max, Option, List, [], ◌∷◌, length, map, drop, get_or, sym, ap, ◌∙◌, subst, add-one, arith}
+use Rattle.zf_meaning.proofs.Prelude.{◌+◌, ◌<◌, ◌∙◌, ◌∷◌, ◌≡◌, ◌≤◌, [], add-one, ap, arith, drop, get_or, length, List, map, max, Option, subst, suc, sym, zero, ℕ, Reference, Listed, Operator, Unary, Quantifier, link-seen, of-Binary, of-Bracket, of-Builder, of-Chain, of-Constant, of-EmptySet, of-Listed, of-Name, of-Number, of-Quantified, of-Unary, range-seen, link, links, part_of, range, range_of, Ranges, ranges, resolved_link_of, resolved_of, ResolvedLinks, terms, Range, Resolved, ResolvedLink, all_need, links_need, need, part_need, place_below, ranges_need}
 use Rattle.std.proofs.Math.ListN.{drop_of_length-le}
-use Rattle.zf_reference.specs.declared.reference.Reference.{Reference}
 use Rattle.zf_tree.specs.declared.symbol.Constant.{Constant}
-use Rattle.zf_tree.specs.declared.symbol.Quantifier.{Quantifier}
-use Rattle.zf_tree.specs.declared.operator.Listed.{Listed}
-use Rattle.zf_tree.specs.declared.operator.Operator.{Operator}
-use Rattle.zf_tree.specs.declared.operator.Unary.{Unary}
-use Rattle.zf_term.specs.declared.resolved.Resolved.{Resolved}
 use Rattle.zf_term.specs.declared.resolved.Resolved.TheVariants as v
-use Rattle.zf_term.specs.declared.resolved.ResolvedLink.{ResolvedLink}
-use Rattle.zf_term.specs.declared.resolved.Range.{Range}
-use Rattle.zf_term.specs.ResolvedTrees.{ResolvedLinks, link, Ranges, range, terms, links, ranges, part_of, resolved_of, resolved_link_of, range_of}
-use Rattle.zf_term.proofs.ResolvedSeen.{link-seen, range-seen, of-Name, of-Number, of-Constant, of-EmptySet, of-Bracket, of-Listed, of-Builder, of-Unary, of-Binary, of-Chain, of-Quantified}
-use Rattle.zf_meaning.specs.Needs.{place_below, need, all_need, links_need, ranges_need, part_need}
 
 terms_next : (m : ℕ) (xs : List Resolved) (i : ℕ) (x : Resolved) → x ≡ get_or xs i x → i < length xs → all_need m (terms (map resolved_of (drop i xs))) ≡ max (need m (resolved_of x)) (all_need m (terms (map resolved_of (drop (suc i) xs))))
 terms_next m [] i x at l = absurd (omega arith)

@@ -1,14 +1,5 @@
 -- One row after another: the first, and the next.
-use Rattle.std.proofs.Common.{◌≡◌, ◌⊎◌, ⊎_elim, ℕ, zero, suc, ◌+◌, ◌<◌, ◌≤◌, List, [], ◌∷◌, ◌++◌, length, get_or, take, drop, set, replicate, eqb, true, false, refl, sym, ap, ◌∙◌, arith, subst, inl, inr, append-nil, length-append, append_assoc}
-use denote.Bor.{Bor}
-use Rattle.std.specs.List.{All, list_any}
-use Rattle.std.proofs.lemmas.Bool.{false≢true, or_cases, or_parts, or_left, or_right}
-use Rattle.std.proofs.lemmas.Bool.Decides.{nat_tests}
-use Rattle.std.proofs.lemmas.List.{take-set, take-set-le, drop-set, take_all}
-use Rattle.std.proofs.lemmas.List.Elements.{All-cons, All-replicate, All-head, All-tail}
-use Rattle.std.proofs.Math.Seq.{take-length}
-use Rattle.zf_value.specs.declared.value.Value.{Value}
-use Rattle.zf_meaning.specs.Places.{seen, headed, headed_from, with_value_at, all_rows, rows_after, picked, ArePlaces}
+use Rattle.zf_meaning.proofs.Prelude.{◌++◌, ◌+◌, ◌<◌, ◌∙◌, ◌∷◌, ◌≡◌, ◌≤◌, ◌⊎◌, [], ap, append-nil, append_assoc, arith, drop, eqb, false, get_or, inl, inr, length, length-append, List, refl, replicate, set, subst, suc, sym, take, true, zero, ℕ, ⊎_elim, take-length, false≢true, or_cases, or_left, or_parts, or_right, nat_tests, drop-set, take-set, take-set-le, take_all, All-cons, All-head, All-replicate, All-tail, All, list_any, Bor, Value, headed, headed_from, seen, with_value_at, all_rows, ArePlaces, picked, rows_after}
 
 -- ---- one range
 

@@ -1,32 +1,7 @@
 -- Comparisons of numbers, and the numbers that terms come to.
-use Rattle.std.proofs.Common.{◌≡◌, ℕ, ℤ, to_z, of_z, ◌<◌, List, [], ◌∷◌, length, get_or, map, arith, Option, Some, None, Bool, true, false, IsTrue, ◌↔◌, if◌then◌else◌, refl, sym, ap, ◌∙◌, subst, inl}
-use Rattle.std.specs.Option.{IfSome}
-use Rattle.std.specs.Prelude.{FitsSigned}
+use Rattle.zf_meaning.proofs.Prelude.{if◌then◌else◌, ◌<◌, ◌↔◌, ◌∙◌, ◌∷◌, ◌≡◌, [], ap, arith, Bool, false, get_or, inl, IsTrue, length, List, map, None, of_z, Option, refl, Some, subst, sym, to_z, true, ℕ, ℤ, IfSome, FitsSigned, Bor, same, is_Int, number_of-Int, number_of, OnNumbers, IsApplied, IsRegular, IsRegularOutcome, members, Outcome, Is, Truth, Int, Value, Application, Function, Infix, Relation, link-seen, binary, chain, links, resolved_link_of, resolved_of, ResolvedTree, Resolved, ResolvedLink, is_membership, Context, found_of, HasOutcome, infinite_right, IsLink, IsTruth, Holds, InfixOutcome, IsAtom, IsConjunction, Tells}
 use Rattle.std.specs.Int.{w64}
-use Rattle.zf_value.proofs.Exactly.{same}
-use denote.Bor.{Bor}
-use Rattle.zf_tree.specs.declared.symbol.Infix.{Infix}
-use Rattle.zf_tree.specs.declared.symbol.Relation.{Relation}
-use Rattle.zf_tree.specs.declared.operator.Operator.TheVariants.{Application, Function}
-use Rattle.zf_extent.specs.Extents.{is_membership}
-use Rattle.zf_term.specs.declared.resolved.Resolved.{Resolved}
-use Rattle.zf_term.specs.declared.resolved.ResolvedLink.{ResolvedLink}
-use Rattle.zf_term.specs.ResolvedTrees.{ResolvedTree, binary, chain, links, resolved_of, resolved_link_of}
-use Rattle.zf_term.proofs.ResolvedSeen.{link-seen}
-use Rattle.zf_value.specs.declared.value.Value.{Value, Int}
-use Rattle.zf_value.specs.declared.value.Outcome.{Outcome}
-use Rattle.zf_value.specs.declared.value.Outcome.TheVariants.{Is}
-use Rattle.zf_value.specs.declared.value.Truth.{Truth}
 use Rattle.zf_value.specs.declared.value.Truth.TheVariants.{True, False, Out}
-use Rattle.zf_value.specs.Numbers.{number_of, OnNumbers}
-use Rattle.zf_value.specs.Operations.{IsApplied}
-use Rattle.zf_value.specs.Sets.{IsRegular, IsRegularOutcome, members}
-use Rattle.zf_value.proofs.Seen.{number_of-Int, is_Int}
-use Rattle.zf_meaning.specs.Environments.{Context}
-use Rattle.zf_meaning.specs.Found.{found_of}
-use Rattle.zf_meaning.specs.Meaning.{HasOutcome, IsTruth, IsLink, infinite_right}
-use Rattle.zf_meaning.specs.Symbols.{InfixOutcome, Holds}
-use Rattle.zf_meaning.specs.Truths.{IsAtom, IsConjunction, Tells}
 
 -- ---- names
 

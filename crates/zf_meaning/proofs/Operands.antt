@@ -1,33 +1,7 @@
 -- What is described by the values of operands is what the symbol makes of them.
-use Rattle.std.proofs.Common.{◌≡◌, ◌⊎◌, ℕ, ⊎_elim, sym, subst}
-use Rattle.std.specs.Prelude.{Result}
-use Rattle.std.specs.Result.{IfOk}
-use Rattle.std.specs.declared.alloc.AllocError.{AllocError}
-use Rattle.std.proofs.lemmas.Result.{IfOk-weaker}
-use Rattle.zf_tree.specs.declared.symbol.Arrow.{Arrow}
-use Rattle.zf_tree.specs.declared.symbol.Infix.TheVariants.{UpTo}
+use Rattle.zf_meaning.proofs.Prelude.{◌≡◌, ◌⊎◌, subst, sym, ℕ, ⊎_elim, IfOk-weaker, Result, IfOk, AllocError, number_of, OnNumbers, IsInterval, IsCross, IsPower, members, Outcome, Is, Value, Listed, Operator, Function, Generic, Symbol, Unary, Sign, Arrow, UpTo, binary, listed, ResolvedTree, ResolvedTrees, unary, Describes, Context, HasOutcome, HaveOutcomes, OnBoth, OnOne, OnSeveral, Several, BinaryOutcome, ListedOutcome, UnaryOutcome, Described, Arrows}
 use Rattle.zf_tree.specs.declared.symbol.Prefix.TheVariants as prefix
-use Rattle.zf_tree.specs.declared.operator.Sign.TheVariants.{Symbol}
-use Rattle.zf_tree.specs.declared.operator.Listed.{Listed}
 use Rattle.zf_tree.specs.declared.operator.Listed.TheVariants as form
-use Rattle.zf_tree.specs.declared.operator.Operator.{Operator}
-use Rattle.zf_tree.specs.declared.operator.Operator.TheVariants.{Function, Generic}
-use Rattle.zf_tree.specs.declared.operator.Unary.{Unary}
-use Rattle.zf_tree.specs.declared.operator.Unary.TheVariants.{Sign}
-use Rattle.zf_term.specs.ResolvedTrees.{ResolvedTree, ResolvedTrees, unary, binary, listed}
-use Rattle.zf_value.specs.declared.value.Value.{Value}
-use Rattle.zf_value.specs.declared.value.Outcome.{Outcome}
-use Rattle.zf_value.specs.declared.value.Outcome.TheVariants.{Is}
-use Rattle.zf_value.specs.Numbers.{number_of, OnNumbers, IsInterval}
-use Rattle.zf_value.specs.Operations.{IsCross, IsPower}
-use Rattle.zf_value.specs.Sets.{members}
-use Rattle.zf_meaning.specs.declared.described.Described.{Described}
-use Rattle.zf_meaning.specs.declared.described.Described.TheVariants.{Arrows}
-use Rattle.zf_meaning.specs.Described.{Describes}
-use Rattle.zf_meaning.specs.Environments.{Context}
-use Rattle.zf_meaning.specs.Meaning.{HasOutcome, HaveOutcomes}
-use Rattle.zf_meaning.specs.Outcomes.{OnOne, OnBoth, Several, OnSeveral}
-use Rattle.zf_meaning.specs.Symbols.{UnaryOutcome, BinaryOutcome, ListedOutcome}
 
 -- the sign makes a power set
 abbrev pub IsPowerSign : Unary → Type 0

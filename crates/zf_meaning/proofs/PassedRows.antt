@@ -1,7 +1,5 @@
 -- The rows that a walk passes: those that begin with the same values.
-use Rattle.std.proofs.Common.{◌≡◌, ◌⊎◌, ℕ, zero, suc, ◌<◌, ◌≤◌, List, [], ◌∷◌, ◌++◌, length, map, take, refl, sym, ap, ◌∙◌, subst, inl, inr, ⊎_elim, arith, append-nil, append_assoc}
-use Rattle.zf_value.specs.declared.value.Value.{Value}
-use Rattle.zf_meaning.specs.Places.{headed, headed_from, with_value_at, all_rows, rows_after, picked, ArePlaces}
+use Rattle.zf_meaning.proofs.Prelude.{◌++◌, ◌<◌, ◌∙◌, ◌∷◌, ◌≡◌, ◌≤◌, ◌⊎◌, [], ap, append-nil, append_assoc, arith, inl, inr, length, List, map, refl, subst, suc, sym, take, zero, ℕ, ⊎_elim, Value, headed, headed_from, with_value_at, all_rows, ArePlaces, picked, rows_after}
 use Rattle.zf_meaning.proofs.AllRows.{IsAmong, AreApart, among-append, among-right}
 
 map_append : (x : Value) (rows more : List (List Value)) → map (λ row. x ∷ row) (rows ++ more) ≡ map (λ row. x ∷ row) rows ++ map (λ row. x ∷ row) more

@@ -1,25 +1,9 @@
 -- Regular values: what names stand for, the rows of ranges, and that their members are distinct.
-use Rattle.std.proofs.Common.{◌≡◌, ℕ, zero, suc, List, [], ◌∷◌, ◌++◌, Option, Some, None, replicate, refl, sym, ap, ◌∙◌, subst, inl, inr, ⊎_elim, ◌<◌, length, take, drop, get_or, ltb, arith, ◌-◌, add-one, ◌+◌, ◌≤◌}
+use Rattle.zf_meaning.proofs.Prelude.{◌++◌, ◌+◌, ◌-◌, ◌<◌, ◌∙◌, ◌∷◌, ◌≡◌, ◌≤◌, [], add-one, ap, arith, drop, get_or, inl, inr, length, List, ltb, None, Option, refl, replicate, Some, subst, suc, sym, take, zero, ℕ, ⊎_elim, ltb-true, is_some, Bor, every_at, members-append, not_below_itself, are_regular, regular-Tuple, regular_member, regular_none, regular_set, AreFrom, AreRegular, IsAscending, IsMember, IsRegular, IsRegularOutcome, IsRegularSet, members, members_at, value_order, Outcome, out-Value, roll-out-Value, roll-Value, Tuple, Value, Value-F, rolls-SetOf, value_or, row_value, seen, IsRegularScope, scope_of, Env}
 use Rattle.std.specs.Prelude.{slice_get, MatchOption, IfSome}
-use Rattle.std.specs.Option.{is_some}
-use Rattle.std.proofs.lemmas.Bool.{ltb-true}
 use Rattle.std.proofs.lemmas.Option.{slice_get_read}
-use denote.Bor.{Bor}
-use Rattle.zf_value.specs.declared.value.Value.{Value, Tuple, out-Value, roll-Value, roll-out-Value}
-use Rattle.zf_value.specs.declared.value.Value.TheOpen.{Value-F}
-use Rattle.zf_value.specs.declared.value.Value.TheVariants.{rolls-SetOf}
-use Rattle.zf_value.specs.declared.value.Outcome.{Outcome}
-use Rattle.zf_value.specs.Operations.{AreFrom}
-use Rattle.zf_value.specs.Sets.{IsMember, IsAscending, IsRegular, AreRegular, IsRegularSet, IsRegularOutcome, members_at, members, value_order}
 use Rattle.std.specs.declared.cmp.Ordering.TheVariants.{Less}
-use Rattle.zf_value.proofs.Among.{every_at, members-append, not_below_itself}
-use Rattle.zf_value.proofs.Regulars.{regular-Tuple, regular_set, regular_none, regular_member, are_regular}
-use Rattle.zf_meaning.specs.declared.env.Env.{Env}
-use Rattle.zf_meaning.specs.Environments.{value_or}
-use Rattle.zf_meaning.specs.Meaning.{row_value}
-use Rattle.zf_meaning.specs.Places.{seen}
 use Rattle.zf_meaning.specs.Regular.{AreRegularOutcomes}
-use Rattle.zf_meaning.specs.Scopes.{scope_of, IsRegularScope}
 use Rattle.zf_meaning.proofs.AllRows.{AreDistinct, HaveDistinct}
 
 -- ---- lists

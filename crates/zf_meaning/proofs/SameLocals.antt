@@ -1,21 +1,7 @@
 -- A term means the same where the bound variables that it names have the same values.
-use Rattle.std.proofs.Common.{◌≡◌, ◌⊎◌, ℕ, zero, suc, ◌+◌, ◌<◌, ◌≤◌, List, [], ◌∷◌, ◌++◌, length, take, cond, refl, ap, subst, inl, inr, ⊎_elim, arith}
-use Rattle.std.specs.Prelude.{slice_get, nat_lt}
-use Rattle.std.proofs.lemmas.Bool.Decides.{nat_tests}
+use Rattle.zf_meaning.proofs.Prelude.{◌++◌, ◌+◌, ◌<◌, ◌∷◌, ◌≡◌, ◌≤◌, ◌⊎◌, [], ap, arith, cond, inl, inr, length, List, refl, subst, suc, take, zero, ℕ, ⊎_elim, nat_tests, nat_lt, slice_get, Reference, Component, Global, Local, Outcome, Truth, Value, absent, binary, bracket, builder, chain, constant, empty_set, link, listed, no_links, no_ranges, no_terms, number, present, quantified, range, Ranges, reference, ResolvedLinks, ResolvedPart, ResolvedTree, ResolvedTrees, term, unary, Context, outcome_in, value_or, within, AreLinked, Builds, HasOutcome, HaveOutcomes, HaveRanges, infinite_right, IsBuilt, IsConstraint, IsLink, IsTruth, all_need, links_need, need, part_need, place_below, ranges_need, OnBoth, one_more, OnOne, OnSeveral, repeated, Several, BinaryOutcome, ListedOutcome, UnaryOutcome, IsConjunction, IsConnected, IsQuantified, IsTold, opposite}
 use Rattle.zf_tree.specs.declared.operator.Operator.TheVariants as operator
 use Rattle.zf_tree.specs.declared.operator.Unary.TheVariants as the_unary
-use Rattle.zf_reference.specs.declared.reference.Reference.{Reference}
-use Rattle.zf_reference.specs.declared.reference.Reference.TheVariants.{Component, Local, Global}
-use Rattle.zf_term.specs.ResolvedTrees.{ResolvedTree, reference, number, constant, empty_set, bracket, listed, builder, unary, binary, chain, quantified, ResolvedTrees, no_terms, term, ResolvedLinks, no_links, link, Ranges, no_ranges, range, ResolvedPart, absent, present}
-use Rattle.zf_value.specs.declared.value.Value.{Value}
-use Rattle.zf_value.specs.declared.value.Outcome.{Outcome}
-use Rattle.zf_value.specs.declared.value.Truth.{Truth}
-use Rattle.zf_meaning.specs.Environments.{Context, within, outcome_in, value_or}
-use Rattle.zf_meaning.specs.Needs.{place_below, need, all_need, links_need, ranges_need, part_need}
-use Rattle.zf_meaning.specs.Outcomes.{OnOne, OnBoth, Several, OnSeveral, one_more, repeated}
-use Rattle.zf_meaning.specs.Symbols.{BinaryOutcome, UnaryOutcome, ListedOutcome}
-use Rattle.zf_meaning.specs.Truths.{opposite, IsConjunction, IsConnected, IsTold, IsQuantified}
-use Rattle.zf_meaning.specs.Meaning.{HasOutcome, HaveOutcomes, HaveRanges, Builds, IsConstraint, IsTruth, AreLinked, IsLink, infinite_right, IsBuilt}
 
 -- the same context with other bound variables
 abbrev with_locals : Context → List Value → Context

@@ -1,15 +1,5 @@
 -- A term that uses the bound components alone means the same in every longer row.
-use Rattle.std.proofs.Common.{◌≡◌, ℕ, zero, suc, ◌<◌, List, [], ◌∷◌, ◌++◌, length, refl, sym, subst, arith}
-use Rattle.std.specs.Prelude.{slice_get}
-use Rattle.zf_reference.specs.declared.reference.Reference.{Reference}
-use Rattle.zf_reference.specs.declared.reference.Reference.TheVariants.{Component, Local, Global}
-use Rattle.zf_term.specs.References.{onto}
-use Rattle.zf_term.specs.ResolvedTrees.{ResolvedTree}
-use Rattle.zf_value.specs.declared.value.Value.{Value}
-use Rattle.zf_value.specs.declared.value.Outcome.{Outcome}
-use Rattle.zf_value.specs.declared.value.Truth.{Truth}
-use Rattle.zf_meaning.specs.Environments.{Context, with_further}
-use Rattle.zf_meaning.specs.Meaning.{HasOutcome, IsTruth}
+use Rattle.zf_meaning.proofs.Prelude.{◌++◌, ◌<◌, ◌∷◌, ◌≡◌, [], arith, length, List, refl, subst, suc, sym, zero, ℕ, slice_get, Reference, Component, Global, Local, Outcome, Truth, Value, onto, ResolvedTree, Context, with_further, HasOutcome, IsTruth}
 use Rattle.zf_meaning.specs.Laws.{IsBelow, AreBelow}
 use Rattle.zf_meaning.proofs.SameRows.{AgreeAt, Agree, same_outcome, same_truth}
 

@@ -1,14 +1,10 @@
 -- Sets that are told by what they are made of: each that is not out is there, and its members are told.
+use Rattle.zf_meaning.proofs.Prelude.{cases_lt, ◌+ℤ◌, ◌<ℤ◌, pos, either_way, members-SetOf, OnNumbers, IsBetweenNumbers, IsInterval, AreFrom, IsSubset, ArePartialFunctions, ArePartialInjections, AreRelations, AreTotalFunctions, AreTotalInjections, IsCross, IsPower, AreRegular, IsMember, IsRegular, IsRegularSet, IsSetOf, members, value_order, Outcome, Is, Out, Undefined, Truth, Int, out-Value, SetOf, Tuple, Value, Value-F, outs-Int, IsPartialFunction, IsPartialInjection, IsRelation, IsTotalFunction, IsTotalInjection, IsTupleFrom, Arrow, Relation, is_membership, IsDescribed, IsOfArrow, IsRegularDescribed, IsUnbuilt, told_in, Describes, IsInDescribed, IsTruthIn, found_outcome, one_out, one_undefined, OnOne, OnSeveral, Several, values, ArrowOutcome, Holds, IsAtom, Described, Arrows, Interval, Plain, Power, Product}
 use Rattle.std.proofs.Common.{◌≡◌, ◌↔◌, ◌≤◌, ◌<◌, ℕ, Bool, true, false, ℤ, Option, Some, None, List, [], ◌∷◌, map, Ok, refl, sym, ap, ◌∙◌, subst, ⊎_elim, Less, arith, IsTrue, Vec, Global}
-use Rattle.std.specs.Prelude.{pos, ◌+ℤ◌, ◌<ℤ◌}
 use Rattle.std.proofs.lemmas.Int.{ints}
 use Rattle.std.specs.Cmp.{int_cmp_is}
-use Rattle.zf_tree.specs.declared.symbol.Arrow.{Arrow}
 use Rattle.zf_tree.specs.declared.symbol.Arrow.TheVariants as arrow
-use Rattle.zf_tree.specs.declared.symbol.Relation.{Relation}
 use Rattle.zf_tree.specs.declared.symbol.Relation.TheVariants as relation
-use Rattle.zf_extent.specs.Extents.{is_membership}
-use Rattle.zf_families.specs.Families.{IsTupleFrom, IsRelation, IsPartialFunction, IsTotalFunction, IsPartialInjection, IsTotalInjection}
 use Rattle.zf_families.specs.Selections.{some, whole, fits_any, singles}
 use Rattle.zf_families.proofs.Families.{partial_rows, total_rows, partial_functions_built, total_functions_built}
 use Rattle.zf_families.proofs.Injections.{partial_injection_rows, injection_rows, partial_injections_built, total_injections_built}
@@ -16,32 +12,13 @@ use Rattle.zf_families.proofs.Relations.{product_of, relations_built}
 use Rattle.zf_families.proofs.Subsets.{power_built}
 use Rattle.zf_families.proofs.Tuples.{cross_built}
 use Rattle.zf_value.specs.declared.TheConstants.{SET_MAX}
-use Rattle.zf_value.specs.declared.value.Value.{Value, Int, SetOf, Tuple, out-Value}
-use Rattle.zf_value.specs.declared.value.Value.TheOpen.{Value-F}
-use Rattle.zf_value.specs.declared.value.Value.TheVariants.{outs-Int}
-use Rattle.zf_value.specs.declared.value.Outcome.{Outcome}
-use Rattle.zf_value.specs.declared.value.Outcome.TheVariants.{Is, Undefined, Out}
-use Rattle.zf_value.specs.declared.value.Truth.{Truth}
 use Rattle.zf_value.specs.declared.value.Truth.TheVariants as truth
-use Rattle.zf_value.specs.Numbers.{OnNumbers, IsInterval, IsBetweenNumbers}
-use Rattle.zf_value.specs.Operations.{IsSubset, IsPower, IsCross, AreFrom, AreRelations, ArePartialFunctions, AreTotalFunctions, ArePartialInjections, AreTotalInjections}
 use Rattle.zf_value.specs.Order.{level_order}
-use Rattle.zf_value.specs.Sets.{IsMember, IsSetOf, IsRegular, AreRegular, IsRegularSet, members, value_order}
 use Rattle.zf_value.proofs.Counted.{ascending-first, length-first}
-use Rattle.zf_value.proofs.Divisions.{either_way}
-use Rattle.std.proofs.lemmas.Bool.{cases_lt}
 use Rattle.zf_value.proofs.Exact.{cmp_is}
 use Rattle.zf_value.proofs.Intervals.{number_list, numbers_between, interval_out}
-use Rattle.zf_value.proofs.Seen.{members-SetOf}
-use Rattle.zf_meaning.specs.declared.described.Described.{Described}
-use Rattle.zf_meaning.specs.declared.described.Described.TheVariants.{Plain, Power, Arrows, Interval, Product}
-use Rattle.zf_meaning.specs.Outcomes.{OnOne, OnSeveral, Several, values, one_undefined, one_out}
-use Rattle.zf_meaning.specs.Described.{Describes, IsDescribed, IsInDescribed, IsRegularDescribed, IsUnbuilt, IsTruthIn, told_in, IsOfArrow}
 use Rattle.zf_meaning.specs.declared.found.Found.{Found}
 use Rattle.zf_meaning.specs.declared.found.Found.TheVariants as found
-use Rattle.zf_meaning.specs.Found.{found_outcome}
-use Rattle.zf_meaning.specs.Symbols.{Holds, ArrowOutcome}
-use Rattle.zf_meaning.specs.Truths.{IsAtom}
 use Rattle.zf_meaning.proofs.Regulars.{regular-members}
 
 -- ---- sets that are there

@@ -1,14 +1,6 @@
 -- What is known of the rows that a quantifier has met, and what follows for all rows.
-use Rattle.std.proofs.Common.{◌≡◌, ◌⊎◌, Bool, true, false, List, [], ◌∷◌, refl, sym, ◌∙◌, subst, inl, inr, ⊎_elim}
-use Rattle.zf_tree.specs.declared.symbol.Quantifier.{Quantifier}
-use Rattle.zf_tree.specs.declared.symbol.Quantifier.TheVariants.{ForAll, Exists, ExistsOne}
-use Rattle.zf_value.specs.declared.value.Value.{Value}
-use Rattle.zf_value.specs.declared.value.Truth.{Truth}
+use Rattle.zf_meaning.proofs.Prelude.{◌∙◌, ◌∷◌, ◌≡◌, ◌⊎◌, [], Bool, false, inl, inr, List, refl, subst, sym, true, ⊎_elim, Truth, Value, Quantifier, Exists, ExistsOne, ForAll, neutral, is_settled, none, truth_by, when_over, when_settled, with, HasTwo, IsExistsOne, IsOver, Tally}
 use Rattle.zf_value.specs.declared.value.Truth.TheVariants.{True, False, Out}
-use Rattle.zf_meaning.specs.declared.tally.Tally.{Tally}
-use Rattle.zf_meaning.specs.Tallies.{none, with, is_settled, when_settled, when_over, truth_by}
-use Rattle.zf_meaning.specs.Early.{neutral}
-use Rattle.zf_meaning.specs.Truths.{HasTwo, IsExistsOne, IsOver}
 use Rattle.zf_meaning.proofs.AllRows.{IsAmong}
 
 abbrev pub EachOne : (List Value → Truth → Type 0) → Type 0

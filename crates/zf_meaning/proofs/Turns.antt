@@ -1,30 +1,6 @@
 -- One turn of a walk over rows, for a quantifier and for a builder.
-use Rattle.std.proofs.Common.{◌≡◌, ℕ, ◌+◌, ◌<◌, Bool, true, List, [], ◌∷◌, Option, length, length-append, map, sym, ap, ◌∙◌, subst, inl, inr, ⊎_elim, arith}
-use Rattle.std.proofs.lemmas.List.{length-map}
-use denote.Bor.{Bor}
-use Rattle.zf_tree.specs.declared.symbol.Quantifier.{Quantifier}
-use Rattle.zf_term.specs.declared.resolved.Range.{Range}
-use Rattle.zf_term.specs.declared.resolved.Resolved.{Resolved}
+use Rattle.zf_meaning.proofs.Prelude.{◌+◌, ◌<◌, ◌∙◌, ◌∷◌, ◌≡◌, [], ap, arith, Bool, inl, inr, length, length-append, List, map, Option, subst, sym, true, ℕ, ⊎_elim, length-map, Bor, AreFrom, IsDisplay, members, Outcome, Truth, Value, Quantifier, part_of, resolved_of, ResolvedPart, ResolvedTree, Range, Resolved, AddsRow, IsBound, ArePassed, Context, within, Builds, IsBuiltOver, IsConstraint, IsTruth, seen, after, ahead, IsAt, IsFirst, IsNext, lists_of, row_of, scope_of, truth_by, IsOver, IsTold, Env, Span, Rows, Tally}
 use Rattle.zf_term.specs.declared.resolved.Resolved.TheVariants as v
-use Rattle.zf_term.specs.ResolvedTrees.{ResolvedTree, ResolvedPart, resolved_of, part_of}
-use Rattle.zf_value.specs.declared.value.Value.{Value}
-use Rattle.zf_value.specs.declared.value.Outcome.{Outcome}
-use Rattle.zf_value.specs.declared.value.Truth.{Truth}
-use Rattle.zf_value.specs.Operations.{AreFrom, IsDisplay}
-use Rattle.zf_value.specs.Sets.{members}
-use Rattle.zf_meaning.specs.declared.env.Env.{Env}
-use Rattle.zf_meaning.specs.declared.evaluate.early.Span.{Span}
-use Rattle.zf_meaning.specs.declared.rows.Rows.{Rows}
-use Rattle.zf_meaning.specs.declared.tally.Tally.{Tally}
-use Rattle.zf_meaning.specs.Building.{AddsRow}
-use Rattle.zf_meaning.specs.Early.{IsBound, ArePassed}
-use Rattle.zf_meaning.specs.Environments.{Context, within}
-use Rattle.zf_meaning.specs.Meaning.{IsConstraint, IsTruth, Builds, IsBuiltOver}
-use Rattle.zf_meaning.specs.Places.{seen}
-use Rattle.zf_meaning.specs.Rowed.{lists_of, row_of, ahead, after, IsAt, IsFirst, IsNext}
-use Rattle.zf_meaning.specs.Scopes.{scope_of}
-use Rattle.zf_meaning.specs.Tallies.{truth_by}
-use Rattle.zf_meaning.specs.Truths.{IsTold, IsOver}
 use Rattle.zf_meaning.proofs.Builds.{IsSingle, HasBuilt, built-all}
 use Rattle.zf_meaning.proofs.Early.{neutral-told, neutral-built, may-pass, from_length}
 use Rattle.zf_meaning.proofs.NextRow.{ArePlaces-length, picked-length, seen-length}

@@ -1,42 +1,17 @@
 -- A term has one outcome at most, and one truth.
-use Rattle.std.proofs.Common.{◌≡◌, List, Option, Some, None, refl, sym, ◌∙◌, subst, ⊎_elim}
-use Rattle.std.specs.Prelude.{pos}
-use Rattle.zf_tree.specs.declared.symbol.Arrow.{Arrow}
+use Rattle.zf_meaning.proofs.Prelude.{◌∙◌, ◌≡◌, List, None, Option, refl, Some, subst, sym, ⊎_elim, pos, one_Modulus, one_Quotient, HasOne, one_number, one_on_number, one_on_numbers, one_set, IsDifference, IsModulus, IsNegation, IsProduct, IsSum, IsInterval, IsQuotient, AreFrom, Outcome, Is, Out, Undefined, Truth, Value, Listed, Operator, Unary, Arrow, Connective, Infix, Composition, Difference, Div, DomainRestriction, DomainSubtraction, Intersection, Maplet, Minus, Mod, Overriding, Plus, RangeRestriction, RangeSubtraction, Times, Union, UpTo, Quantifier, Relation, absent, binary, bracket, builder, chain, constant, empty_set, link, listed, no_links, no_ranges, no_terms, number, present, quantified, range, Ranges, reference, ResolvedLinks, ResolvedPart, ResolvedTree, ResolvedTrees, term, unary, Infinite, Context, within, AreLinked, Builds, HasOutcome, HaveOutcomes, HaveRanges, infinite_right, IsBuilt, IsBuiltBy, IsBuiltOver, IsConstraint, IsLink, IsOutOfBounds, IsTruth, IsWithinBounds, OnBoth, one_out, one_undefined, OnOne, OnSeveral, Several, values, ArrowOutcome, BinaryOutcome, Holds, HoldsOf, InfixOutcome, ListedOutcome, PrefixOutcome, SignOutcome, UnaryOutcome, IsAtom, IsConjunction, IsConnected, IsDisjunction, IsEquivalence, IsExists, IsExistsOne, IsForAll, IsOver, IsQuantified, IsTest, IsTold, opposite, Tells}
 use Rattle.zf_tree.specs.declared.symbol.Arrow.TheVariants as arrow
-use Rattle.zf_tree.specs.declared.symbol.Connective.{Connective}
 use Rattle.zf_tree.specs.declared.symbol.Connective.TheVariants as connective
-use Rattle.zf_tree.specs.declared.symbol.Infix.{Infix}
-use Rattle.zf_tree.specs.declared.symbol.Infix.TheVariants.{Maplet, UpTo, Plus, Minus, Union, Difference, Times, Div, Mod, Intersection, Composition, Overriding, DomainRestriction, RangeRestriction, DomainSubtraction, RangeSubtraction}
 use Rattle.zf_tree.specs.declared.symbol.Prefix.{Prefix}
 use Rattle.zf_tree.specs.declared.symbol.Prefix.TheVariants as prefix
-use Rattle.zf_tree.specs.declared.symbol.Quantifier.{Quantifier}
 use Rattle.zf_tree.specs.declared.symbol.Quantifier.TheVariants as quantifier
-use Rattle.zf_tree.specs.declared.symbol.Relation.{Relation}
 use Rattle.zf_tree.specs.declared.operator.Sign.{Sign}
 use Rattle.zf_tree.specs.declared.operator.Sign.TheVariants as sign
-use Rattle.zf_term.specs.declared.extent.Infinite.{Infinite}
-use Rattle.zf_tree.specs.declared.operator.Listed.{Listed}
 use Rattle.zf_tree.specs.declared.operator.Listed.TheVariants as the_listed
-use Rattle.zf_tree.specs.declared.operator.Operator.{Operator}
 use Rattle.zf_tree.specs.declared.operator.Operator.TheVariants as operator
-use Rattle.zf_tree.specs.declared.operator.Unary.{Unary}
 use Rattle.zf_tree.specs.declared.operator.Unary.TheVariants as the_unary
-use Rattle.zf_term.specs.ResolvedTrees.{ResolvedTree, reference, number, constant, empty_set, bracket, listed, builder, unary, binary, chain, quantified, ResolvedTrees, no_terms, term, ResolvedLinks, no_links, link, Ranges, no_ranges, range, ResolvedPart, absent, present}
-use Rattle.zf_value.specs.declared.value.Value.{Value}
-use Rattle.zf_value.specs.declared.value.Outcome.{Outcome}
-use Rattle.zf_value.specs.declared.value.Outcome.TheVariants.{Is, Undefined, Out}
-use Rattle.zf_value.specs.declared.value.Truth.{Truth}
 use Rattle.zf_value.specs.declared.value.Truth.TheVariants as truth
-use Rattle.zf_value.specs.Numbers.{IsNegation, IsSum, IsDifference, IsProduct, IsQuotient, IsModulus, IsInterval}
-use Rattle.zf_value.specs.Operations.{AreFrom}
 use Rattle.zf_value.proofs.Once as once
-use Rattle.zf_value.proofs.Once.{HasOne, one_set, one_number, one_on_number, one_on_numbers}
-use Rattle.zf_value.proofs.Divisions.{one_Quotient, one_Modulus}
-use Rattle.zf_meaning.specs.Environments.{Context, within}
-use Rattle.zf_meaning.specs.Outcomes.{OnOne, OnBoth, Several, values, one_undefined, one_out, OnSeveral}
-use Rattle.zf_meaning.specs.Symbols.{InfixOutcome, ArrowOutcome, BinaryOutcome, PrefixOutcome, SignOutcome, UnaryOutcome, ListedOutcome, Holds, HoldsOf}
-use Rattle.zf_meaning.specs.Truths.{Tells, IsAtom, IsTest, opposite, IsConjunction, IsDisjunction, IsEquivalence, IsConnected, IsTold, IsForAll, IsExists, IsExistsOne, IsOver, IsQuantified}
-use Rattle.zf_meaning.specs.Meaning.{HasOutcome, HaveOutcomes, HaveRanges, Builds, IsConstraint, IsTruth, AreLinked, IsLink, infinite_right, IsBuiltBy, IsWithinBounds, IsOutOfBounds, IsBuiltOver, IsBuilt}
 
 one_infix : (op : Infix) (v w : Value) → HasOne (InfixOutcome op v w)
 one_infix Maplet v w o p h k = h ∙ sym k

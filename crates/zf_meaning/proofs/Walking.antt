@@ -1,23 +1,5 @@
 -- A walk over the rows of sets, with what it binds.
-use Rattle.std.proofs.Common.{◌≡◌, ◌⊎◌, ℕ, List, [], ◌∷◌, ◌++◌, length, map, take, drop, refl, sym, ap, ◌∙◌, subst, inl, inr, ⊎_elim, ◌≤◌, arith, length-append}
-use denote.Bor.{Bor}
-use Rattle.zf_term.specs.declared.resolved.Resolved.{Resolved}
-use Rattle.zf_term.specs.ResolvedTrees.{ResolvedTree, ResolvedPart, resolved_of}
-use Rattle.zf_tree.specs.declared.symbol.Quantifier.{Quantifier}
-use Rattle.zf_value.specs.declared.value.Value.{Value}
-use Rattle.zf_value.specs.declared.value.Outcome.{Outcome}
-use Rattle.zf_value.specs.declared.value.Truth.{Truth}
-use Rattle.zf_value.specs.Operations.{AreFrom}
-use Rattle.zf_value.specs.Sets.{AreRegular, members}
-use Rattle.zf_meaning.specs.declared.env.Env.{Env}
-use Rattle.zf_meaning.specs.declared.rows.Rows.{Rows}
-use Rattle.zf_meaning.specs.Early.{IsNeutral}
-use Rattle.zf_meaning.specs.Environments.{Context, within}
-use Rattle.zf_meaning.specs.Meaning.{IsConstraint, IsTruth, Builds}
-use Rattle.zf_meaning.specs.Places.{seen, all_rows}
-use Rattle.zf_meaning.specs.Rowed.{lists_of, row_of, ahead, after, IsAt, IsFirst, IsNext}
-use Rattle.zf_meaning.specs.Scopes.{scope_of, IsRegularScope}
-use Rattle.zf_meaning.specs.Truths.{IsTold}
+use Rattle.zf_meaning.proofs.Prelude.{◌++◌, ◌∙◌, ◌∷◌, ◌≡◌, ◌≤◌, ◌⊎◌, [], ap, arith, drop, inl, inr, length, length-append, List, map, refl, subst, sym, take, ℕ, ⊎_elim, Bor, AreFrom, AreRegular, members, Outcome, Truth, Value, Quantifier, resolved_of, ResolvedPart, ResolvedTree, Resolved, IsNeutral, Context, within, Builds, IsConstraint, IsTruth, seen, all_rows, after, ahead, IsAt, IsFirst, IsNext, lists_of, row_of, IsRegularScope, scope_of, IsTold, Env, Rows}
 use Rattle.zf_meaning.proofs.AllRows.{IsAmong, row-among, among-row, rows-apart}
 use Rattle.zf_meaning.proofs.Midway as midway
 use Rattle.zf_meaning.proofs.Midway.{IsMidway}

@@ -1,22 +1,8 @@
 -- Worked rows, as a check of the definitions.
-use Rattle.std.proofs.Common.{[], refl, inl, arith}
-use Rattle.std.specs.Prelude.{pos}
+use Rattle.zf_meaning.proofs.Prelude.{[], arith, inl, refl, pos, members-SetOf, number_of-Int, IsQuotient, IsSize, Is, Out, Undefined, False, True, Int, SetOf, Function, Symbol, Sign, Div, binary, chain, constant, empty_set, link, no_links, number, ResolvedTree, unary, Context, HasOutcome, IsTruth}
 use Rattle.zf_tree.specs.declared.symbol.Constant.TheVariants.{Integers}
-use Rattle.zf_tree.specs.declared.symbol.Infix.TheVariants.{Div}
 use Rattle.zf_tree.specs.declared.symbol.Prefix.TheVariants.{Size}
 use Rattle.zf_tree.specs.declared.symbol.Relation.TheVariants.{Member, NotMember}
-use Rattle.zf_tree.specs.declared.operator.Sign.TheVariants.{Symbol}
-use Rattle.zf_tree.specs.declared.operator.Operator.TheVariants.{Function}
-use Rattle.zf_tree.specs.declared.operator.Unary.TheVariants.{Sign}
-use Rattle.zf_term.specs.ResolvedTrees.{ResolvedTree, number, constant, empty_set, unary, binary, chain, no_links, link}
-use Rattle.zf_value.specs.declared.value.Value.{Int, SetOf}
-use Rattle.zf_value.specs.declared.value.Outcome.TheVariants.{Is, Undefined, Out}
-use Rattle.zf_value.specs.declared.value.Truth.TheVariants.{True, False}
-use Rattle.zf_value.specs.Numbers.{IsQuotient}
-use Rattle.zf_value.specs.Operations.{IsSize}
-use Rattle.zf_value.proofs.Seen.{number_of-Int, members-SetOf}
-use Rattle.zf_meaning.specs.Environments.{Context}
-use Rattle.zf_meaning.specs.Meaning.{HasOutcome, IsTruth}
 
 one_by_zero : ResolvedTree
 one_by_zero = binary 1 (Function Div) (number 1 1) (number 1 0)

@@ -1,12 +1,5 @@
 -- The outcomes of globals are worked out one after another.
-use Rattle.std.proofs.Common.{◌≡◌, ◌⊎◌, ℕ, zero, suc, ◌+◌, ◌<◌, List, [], ◌∷◌, ◌++◌, Some, length, take, refl, sym, ap, ◌∙◌, subst, inl, inr, ⊎_elim, arith, length-append}
-use Rattle.std.specs.Prelude.{slice_get}
-use Rattle.std.proofs.Math.Seq.{take-append_seam}
-use Rattle.std.proofs.lemmas.List.{take-append-le}
-use Rattle.zf_term.specs.Definitions.{Defined}
-use Rattle.zf_value.specs.declared.value.Outcome.{Outcome}
-use Rattle.zf_meaning.specs.Environments.{Environment, before}
-use Rattle.zf_meaning.specs.GlobalOutcomes.{IsOutcomeOf, IsWorkedOut, AreWorkedOut}
+use Rattle.zf_meaning.proofs.Prelude.{◌++◌, ◌+◌, ◌<◌, ◌∙◌, ◌∷◌, ◌≡◌, ◌⊎◌, [], ap, arith, inl, inr, length, length-append, List, refl, Some, subst, suc, sym, take, zero, ℕ, ⊎_elim, take-append_seam, take-append-le, slice_get, Outcome, Defined, before, Environment, AreWorkedOut, IsOutcomeOf, IsWorkedOut}
 
 -- the globals before this place are worked out
 pub record AreWorkedOutTo (n : ℕ) (e : Environment) : Type 0 where

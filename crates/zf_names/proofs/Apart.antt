@@ -1,15 +1,7 @@
 -- The constructors of a free type are names of which no two are the same.
-use Rattle.std.proofs.Common.{◌≡◌, ◌⊎◌, inl, inr, ℕ, ◌+◌, Bool, true, false, List, [], ◌∷◌, ◌++◌, map, Option, Some, None, refl, sym, subst}
-use Rattle.std.specs.Prelude.{if◌then◌else◌}
-use Rattle.std.proofs.lemmas.Option.{none-some}
-use Rattle.std.specs.Str.{bytes_eq}
-use Rattle.zf_tree.specs.declared.tree.Name.{Name}
+use Rattle.zf_names.proofs.Prelude.{◌++◌, ◌+◌, ◌∷◌, ◌≡◌, ◌⊎◌, [], Bool, false, inl, inr, List, map, None, Option, refl, Some, subst, sym, true, ℕ, none-some, if◌then◌else◌, bytes_eq, spelling, Name, constructor, Defined, Constructs, with_global, AreApart, IsNoneOf}
 use Rattle.zf_term.specs.FirstNamed.{first_named, later}
-use Rattle.zf_term.specs.Definitions.{Defined, constructor}
 use Rattle.zf_term.proofs.SameNames.{is_itself}
-use Rattle.zf_tree.specs.Names.{spelling}
-use Rattle.zf_schema.specs.Checking.{with_global, Constructs}
-use Rattle.zf_texts.specs.Clear.{IsNoneOf, AreApart}
 
 -- a global has the name
 abbrev Has : List Defined → List ℕ → Type 0

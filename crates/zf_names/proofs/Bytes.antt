@@ -1,15 +1,10 @@
 -- A name is spelled by the bytes of a name.
-use Rattle.std.proofs.Common.{◌≡◌, ℕ, List, [], ◌∷◌, ◌++◌, Bool, true, false, refl, sym, ◌∙◌, subst, arith, length-append}
-use Rattle.std.specs.Prelude.{◌&&◌, ◌||◌, ◌==◌}
-use Rattle.std.specs.List.{list_all}
+use Rattle.zf_names.proofs.Prelude.{◌++◌, ◌∙◌, ◌∷◌, ◌≡◌, [], arith, Bool, false, length-append, List, refl, subst, sym, true, ℕ, list_all, ◌&&◌, ◌==◌, ◌||◌, and_left, and_right, eq_is, is_in_name, IsName}
 use Rattle.std.proofs.lemmas.List.Folds.{list_all-append}
 use Rattle.zf_scan.specs.declared.pieces.Run.{Run}
 use Rattle.zf_scan.specs.declared.pieces.Run.TheVariants.{Base, Strokes}
 use Rattle.zf_scan.specs.Pieces.{is_letter, is_digit, is_one, is_two, is_run, is_base}
 use Rattle.zf_scan.proofs.Longest.{either}
-use Rattle.zf_scan.proofs.Runs.{and_left, and_right}
-use Rattle.zf_scan.proofs.Texts.{eq_is}
-use Rattle.zf_texts.specs.Clear.{is_in_name, IsName}
 
 -- one of seven, of which the first or the second holds
 first_of_seven : (l d a b c e f : Bool) → l ≡ true → (l || d || a || b || c || e || f) ≡ true

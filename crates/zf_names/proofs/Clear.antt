@@ -1,15 +1,12 @@
 -- The types of a text, at sizes of its given sets, have clear spellings.
-use Rattle.std.proofs.Common.{◌≡◌, ℕ, zero, suc, ◌+◌, ◌^◌, ◌<◌, List, [], ◌∷◌, ◌++◌, length, take, drop, drop-cons, Some, slice_get, refl, sym, ap, ◌∙◌, subst, arith}
+use Rattle.zf_names.proofs.Prelude.{◌++◌, ◌+◌, ◌<◌, ◌^◌, ◌∙◌, ◌∷◌, ◌≡◌, [], ap, arith, drop, drop-cons, length, List, refl, slice_get, Some, subst, suc, sym, take, zero, ℕ, none-some, same_Some, abbreviation, constructor, Defined, Definition, free_type, given_set, schema, IsClear}
 use Rattle.std.proofs.lemmas.List.{take-append-drop}
 use Rattle.std.proofs.lemmas.List.Sums.{sum_by-cons}
-use Rattle.std.proofs.lemmas.Option.{same_Some, none-some}
-use Rattle.zf_term.specs.Definitions.{Defined, Definition, given_set, free_type, constructor, abbreviation, schema}
 use Rattle.zf_term.specs.Numbers.{has_elements, next_number}
 use Rattle.zf_meaning.specs.declared.sizes.Size.{Size}
 use Rattle.zf_meaning.specs.Sizes.{given_sets, AreComplete, IsStated, AddsSize, AreSizes}
 use Rattle.zf_texts.specs.declared.spelling.Spelling.{Spelling}
 use Rattle.zf_texts.specs.declared.spelling.Spelling.TheVariants.{Numbered, Named}
-use Rattle.zf_texts.specs.Clear.{IsClear}
 use Rattle.zf_texts.specs.Spellings.{with_spelling, spellings}
 use Rattle.zf_names.specs.Laws.{GlobalsAreClear}
 use Rattle.zf_names.proofs.Named.{IsTypeNamed, AreTypesNamed, types_named}

@@ -1,15 +1,10 @@
 -- What a tree spells is a front of the symbols: the rest stands behind it.
-use Rattle.std.proofs.Common.{◌≡◌, List, [], ◌∷◌, ◌++◌, sym, ap, ◌∙◌, append_assoc}
+use Rattle.zf_names.proofs.Prelude.{◌++◌, ◌∙◌, ◌∷◌, ◌≡◌, [], ap, append_assoc, List, sym, DeclTree, include, reference, SchemaTree, Tree, vars, Name, separator, Symbol, symbol, Kind, Next, PartedBy, Spells, SpellsDecl, SpellsMarked, SpellsName, SpellsPredicates, SpellsSchema}
 use Rattle.zf_tree.specs.declared.symbol.Connective.TheVariants.{And, Or}
-use Rattle.zf_scan.specs.declared.token.Kind.{Kind}
 use Rattle.zf_scan.specs.declared.token.Kind.TheVariants as k
-use Rattle.zf_tree.specs.declared.tree.Name.{Name}
 use Rattle.zf_tree.specs.declared.tree.RefMark.{RefMark}
 use Rattle.zf_tree.specs.declared.tree.RefMark.TheVariants.{Plain, Delta, Xi}
-use Rattle.zf_scan.specs.Separators.{Symbol, symbol, separator}
-use Rattle.zf_text.specs.Spelling.{Next, PartedBy, Spells, SpellsName, SpellsMarked, SpellsDecl, SpellsPredicates, SpellsSchema}
 use Rattle.zf_tree.specs.Trees as shape
-use Rattle.zf_tree.specs.Trees.{Tree, DeclTree, vars, include, SchemaTree, reference}
 use Rattle.zf_text.proofs.TermsApart.{Spelling, Own, names_own, term_own}
 
 -- these symbols are a front and the rest

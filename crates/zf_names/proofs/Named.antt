@@ -1,15 +1,9 @@
 -- Each given set and free type of a text is named clearly, and there are no more of them than the text has bytes.
-use Rattle.std.proofs.Common.{inl, inr, ℕ, ◌+◌, ◌≤◌, List, [], ◌∷◌, length, map, sym, ap, subst, arith}
-use Rattle.zf_tree.specs.declared.tree.Name.{Name}
-use Rattle.zf_text.specs.Parsing.{ReadsSource}
-use Rattle.zf_tree.specs.Trees.{ParagraphTree, given, free, BoxTree}
+use Rattle.zf_names.proofs.Prelude.{◌+◌, ◌∷◌, ◌≤◌, [], ap, arith, inl, inr, length, List, map, subst, sym, ℕ, spelling, BoxTree, free, given, ParagraphTree, Name, ReadsSource, abbreviation, constructor, Defined, Definition, free_type, given_set, schema, AreApart, AreNames, IsName}
 use Rattle.zf_tree.specs.Trees as text
-use Rattle.zf_term.specs.Definitions.{Defined, Definition, given_set, free_type, constructor, abbreviation, schema}
 use Rattle.zf_type.specs.declared.fault.TypeFault.{TypeFault}
-use Rattle.zf_tree.specs.Names.{spelling}
 use Rattle.zf_schema.specs.Checking.{Item, a_paragraph, a_box, items, next_number, with_global, Gives, Constructs, DefinesParagraph, Defines, ChecksOne, Checks, IsChecked}
 use Rattle.zf_schema.proofs.Numbering.{next_more, defined_numbers}
-use Rattle.zf_texts.specs.Clear.{IsName, AreNames, AreApart}
 use Rattle.zf_names.proofs.Apart.{constructors_apart}
 use Rattle.zf_names.proofs.Spelled.{IsParagraphSpelled, IsItemSpelled, item_elements, AreItemsSpelled, items_spelled}
 

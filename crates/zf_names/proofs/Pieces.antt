@@ -1,19 +1,10 @@
 -- The name that a piece of a source is has the bytes of a name.
-use Rattle.std.proofs.Common.{◌≡◌, ℕ, List, [], ◌∷◌, ◌++◌, Bool, true, false, Some, refl, sym, ap, ◌∙◌, subst}
-use Rattle.std.specs.Prelude.{nat_le, if◌then◌else◌, codes}
-use Rattle.std.specs.List.{list_all}
-use Rattle.std.specs.Str.{bytes_eq}
-use Rattle.zf_scan.specs.declared.pieces.Piece.{Piece}
+use Rattle.zf_names.proofs.Prelude.{◌++◌, ◌∙◌, ◌∷◌, ◌≡◌, [], ap, Bool, false, List, refl, Some, subst, sym, true, ℕ, list_all, if◌then◌else◌, codes, nat_le, bytes_eq, and_left, and_right, both, pick, Stands, Piece, Kind, IsName}
 use Rattle.zf_scan.specs.declared.pieces.Piece.TheVariants.{Plain, Symbol, Refused}
 use Rattle.zf_scan.specs.declared.pieces.Place.{Place}
 use Rattle.zf_scan.specs.declared.pieces.Place.TheVariants as places
-use Rattle.zf_scan.specs.declared.token.Kind.{Kind}
 use Rattle.zf_scan.specs.declared.token.Kind.TheVariants as k
-use Rattle.zf_scan.specs.Cuts.{Stands}
 use Rattle.zf_scan.specs.Pieces.{look_up, symbols, openings, number_max, value, is_directive, InsideKind, fixed, closing, remark, name, numeral, unknown, SpellsInside, OutsideKind, opening, schema, escape, informal, SpellsOutside}
-use Rattle.zf_scan.proofs.Runs.{and_left, and_right}
-use Rattle.zf_scan.proofs.Texts.{both, pick}
-use Rattle.zf_texts.specs.Clear.{IsName}
 use Rattle.zf_names.proofs.Bytes.{spelled_name}
 
 -- if it is a name, it has the bytes of one

@@ -1,17 +1,9 @@
 -- What the paragraphs of a source define has names of the bytes of names, and they define no more types than the source has bytes.
-use Rattle.std.proofs.Common.{◌≡◌, ℕ, ◌+◌, ◌≤◌, List, [], ◌∷◌, ◌++◌, length, map, refl, sym, subst, arith, length-append}
+use Rattle.zf_names.proofs.Prelude.{◌++◌, ◌+◌, ◌∷◌, ◌≡◌, ◌≤◌, [], arith, length, length-append, List, map, refl, subst, sym, ℕ, spelling, Name, reduced, separator, Symbol, Kind, ReadsSource, PartedBy, SpellsBoxes, SpellsName, SpellsParagraph, a_box, a_paragraph, Item, items, items_in, AreNames, IsName}
 use Rattle.std.proofs.lemmas.List.Concat.{flat_map-cons}
-use Rattle.zf_scan.specs.declared.token.Kind.{Kind}
 use Rattle.zf_scan.specs.declared.token.Kind.TheVariants as k
-use Rattle.zf_scan.specs.Separators.{Symbol, separator, reduced}
-use Rattle.zf_tree.specs.declared.tree.Name.{Name}
-use Rattle.zf_text.specs.Parsing.{ReadsSource}
-use Rattle.zf_text.specs.Spelling.{PartedBy, SpellsName, SpellsParagraph, SpellsBoxes}
 use Rattle.zf_tree.specs.Trees.{ParagraphTree, given, free, abbreviation, definition, BoxTree, zed, schema_box}
-use Rattle.zf_tree.specs.Names.{spelling}
-use Rattle.zf_schema.specs.Checking.{Item, a_paragraph, a_box, items_in, items}
 use Rattle.zf_schema.specs.Runs.{elements}
-use Rattle.zf_texts.specs.Clear.{IsName, AreNames}
 use Rattle.zf_names.proofs.Fronts.{Behind, next_behind, name_behind, then, term_behind, decls_behind, predicates_behind, schema_behind}
 use Rattle.zf_names.proofs.Tokens.{AreSpelled, symbols_spelled}
 

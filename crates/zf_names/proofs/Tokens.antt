@@ -1,13 +1,8 @@
 -- The tokens of a source are no more than its bytes, and the names among them have the bytes of names.
-use Rattle.std.proofs.Common.{ℕ, ◌≤◌, List, [], ◌∷◌, ◌++◌, length, Bool, true, false, sym, ap, subst, arith, length-append}
-use Rattle.std.specs.Prelude.{◌||◌, if◌then◌else◌}
-use Rattle.zf_scan.specs.declared.pieces.Piece.{Piece}
+use Rattle.zf_names.proofs.Prelude.{◌++◌, ◌∷◌, ◌≤◌, [], ap, arith, Bool, false, length, length-append, List, subst, sym, true, ℕ, if◌then◌else◌, ◌||◌, Cuts, IsCutInto, past, Spot, Stands, start, tokens_from, tokens_of, canonical, is_separator, opens, reduced, reduced_after, starts_closed, Symbol, symbol_of, Piece, Kind}
 use Rattle.zf_scan.specs.declared.pieces.Piece.TheVariants as pieces
-use Rattle.zf_scan.specs.declared.token.Kind.{Kind}
 use Rattle.zf_scan.specs.declared.token.Kind.TheVariants as k
 use Rattle.zf_scan.specs.declared.token.Token.{Token}
-use Rattle.zf_scan.specs.Cuts.{Spot, past, Stands, Cuts, tokens_of, tokens_from, IsCutInto, start}
-use Rattle.zf_scan.specs.Separators.{Symbol, symbol_of, canonical, is_separator, opens, starts_closed, reduced, reduced_after}
 use Rattle.zf_scan.proofs.Same.{stands_some}
 use Rattle.zf_names.proofs.Pieces.{IsSpelled, symbol_spelled}
 

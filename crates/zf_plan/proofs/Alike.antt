@@ -1,13 +1,5 @@
 -- What is to be found by conjuncts that say the same is the same.
-use Rattle.std.proofs.Common.{◌≡◌, ◌⊎◌, ⊎_elim, inl, inr, ◌↔◌, ℕ, ◌<◌, List, Option, refl, sym, subst}
-use Rattle.std.specs.declared.cmp.Ordering.{Ordering}
-use Rattle.zf_walk.specs.declared.judge.Truth.{Truth}
-use Rattle.zf_walk.specs.declared.judge.Truth.TheVariants.{True, False, Out}
-use Rattle.zf_walk.specs.declared.step.Step.{Step}
-use Rattle.zf_walk.specs.declared.step.Step.TheVariants.{Holds, Breaks, End}
-use Rattle.zf_walk.specs.Conjuncts.{Conjuncts, IsTruthOf}
-use Rattle.zf_walk.specs.Events.{Event, IsEvent}
-use Rattle.zf_walk.specs.Progress.{Ahead, Stage, Takes, AreAllAhead, IsNoneAhead, SameAhead, Advances}
+use Rattle.zf_plan.proofs.Prelude.{◌<◌, ◌↔◌, ◌≡◌, ◌⊎◌, inl, inr, List, Option, refl, subst, sym, ℕ, ⊎_elim, Ordering, Conjuncts, IsTruthOf, Event, IsEvent, Advances, Ahead, AreAllAhead, IsNoneAhead, SameAhead, Stage, Takes, Truth, False, Out, True, Step, Breaks, End, Holds}
 use Rattle.zf_plan.specs.Alike.{SayTheSame}
 
 pub itself : {V : Type 0} → (s : Conjuncts V) → SayTheSame s s

@@ -1,7 +1,5 @@
 -- How the leaves that need so many values are forgotten, one after another.
-use Rattle.std.proofs.Common.{◌≡◌, ℕ, ◌<◌, ◌≤◌, List, length, get_or, Option, Some, None}
-use Rattle.zf_walk.specs.declared.judge.Truth.{Truth}
-use Rattle.zf_walk.specs.Conjuncts.{Conjuncts}
+use Rattle.zf_plan.proofs.Prelude.{◌<◌, ◌≡◌, ◌≤◌, get_or, length, List, None, Option, Some, ℕ, Conjuncts, Truth}
 
 -- the leaves before this one that need k values are forgotten, and this is the next one
 pub record AreForgotten {V : Type 0} (l : Conjuncts V) (k : ℕ) (leaf : ℕ) (old new : List (Option Truth)) : Type 0 where

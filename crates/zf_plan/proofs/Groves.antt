@@ -1,13 +1,7 @@
 -- The trees of a list of nodes: each is that of its node over the others.
-use Rattle.std.proofs.Common.{◌≡◌, ℕ, zero, suc, ◌+◌, ◌<◌, List, [], ◌∷◌, ◌++◌, length, get_or, map, Some, inl, inr, refl, sym, ap, ◌∙◌, subst, arith, length-append}
-use Rattle.std.specs.Prelude.{All, slice_get}
-use Rattle.std.proofs.lemmas.List.{get_or_append_left, map-append, length-map}
-use Rattle.std.proofs.Math.Seq.{get_or-append_seam}
-use Rattle.std.proofs.lemmas.Option.{slice_get_within, get_or_from_slice_get, slice_get-get_or}
-use Rattle.std.proofs.lemmas.Bool.{cases_lt}
+use Rattle.zf_plan.proofs.Prelude.{◌++◌, ◌+◌, ◌<◌, ◌∙◌, ◌∷◌, ◌≡◌, [], ap, arith, get_or, inl, inr, length, length-append, List, map, refl, Some, subst, suc, sym, zero, ℕ, get_or-append_seam, cases_lt, get_or_append_left, length-map, map-append, get_or_from_slice_get, slice_get-get_or, slice_get_within, All, slice_get, both, either, leaf, negated, Tree, tree_at}
 use Rattle.zf_plan.specs.declared.node.Node.{Node}
 use Rattle.zf_plan.specs.declared.node.Node.TheVariants.{Leaf, Not, And, Or}
-use Rattle.zf_plan.specs.Trees.{Tree, leaf, negated, both, either, tree_at}
 use Rattle.zf_plan.specs.Groves.{Grove, tree_of, trees_onto, trees_made, trees_of, IsOver, IsGrown, Grows, Takes}
 
 onto-append : (made : List Tree) (nodes : List Node) (node : Node) → trees_onto made (nodes ++ node ∷ []) ≡ trees_onto made nodes ++ tree_of (trees_onto made nodes) node ∷ []

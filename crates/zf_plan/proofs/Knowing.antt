@@ -1,12 +1,5 @@
 -- What is known of leaves, from what was told of them.
-use Rattle.std.proofs.Common.{◌≡◌, ℕ, zero, suc, ◌<◌, ◌≤◌, List, [], ◌∷◌, ◌++◌, length, get_or, take, drop, Option, Some, None, refl, sym, ap, ◌∙◌, subst, arith, append_assoc}
-use Rattle.std.proofs.lemmas.List.{length-take-le, take-append-drop}
-use Rattle.zf_walk.specs.declared.judge.Truth.{Truth}
-use Rattle.zf_walk.specs.Conjuncts.{Conjuncts, KeepTruths}
-use Rattle.zf_walk.specs.Picked.{AreWithin, picked}
-use Rattle.zf_walk.proofs.Picks.{AreWithin-tail, AreWithin-take, picked-cons, length-picked, slice_get-nth}
-use Rattle.zf_plan.specs.Trees.{leaf}
-use Rattle.zf_plan.specs.Knowing.{Tells, IsSettled, IsKnown}
+use Rattle.zf_plan.proofs.Prelude.{◌++◌, ◌<◌, ◌∙◌, ◌∷◌, ◌≡◌, ◌≤◌, [], ap, append_assoc, arith, drop, get_or, length, List, None, Option, refl, Some, subst, suc, sym, take, zero, ℕ, length-take-le, take-append-drop, AreWithin-tail, AreWithin-take, length-picked, picked-cons, slice_get-nth, Conjuncts, KeepTruths, AreWithin, picked, Truth, IsKnown, IsSettled, Tells, leaf}
 
 take-none : {V : Type 0} (k : ℕ) → take {A = V} k [] ≡ []
 take-none zero = refl

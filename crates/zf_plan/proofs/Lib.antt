@@ -1,3 +1,4 @@
+mod Prelude
 pub mod Groves
 pub mod Knowing
 pub mod TreeTruths

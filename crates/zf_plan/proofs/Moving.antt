@@ -1,24 +1,6 @@
 -- The moves of a search: the same events are ahead, and fewer steps.
-use Rattle.std.proofs.Common.{◌≡◌, ℕ, suc, ◌+◌, ◌-◌, ◌*◌, ◌<◌, ◌≤◌, Bool, true, false, cond, List, [], ◌∷◌, ◌++◌, length, get_or, set, drop, take, Option, Some, None, inl, inr, refl, sym, ap, ◌∙◌, arith, subst}
-use Rattle.std.specs.Prelude.{AllPairs}
-use Rattle.std.specs.declared.cmp.Ordering.{Ordering}
-use Rattle.std.specs.declared.cmp.Ordering.TheVariants.{Less, Equal, Greater}
-use Rattle.std.specs.Cmp.{IsTotalOrder}
-use Rattle.std.proofs.lemmas.Bool.{cases_eq, cases_lt}
-use Rattle.std.proofs.lemmas.List.{take-set-le, take_more_set, length-take-le, drop_more, length-set, take_more, take-take, get_or-take}
+use Rattle.zf_plan.proofs.Prelude.{◌*◌, ◌++◌, ◌+◌, ◌-◌, ◌<◌, ◌∙◌, ◌∷◌, ◌≡◌, ◌≤◌, [], ap, arith, Bool, cond, drop, false, get_or, inl, inr, length, List, None, Option, refl, set, Some, subst, suc, sym, take, true, ℕ, cases_eq, cases_lt, drop_more, get_or-take, length-set, length-take-le, take-set-le, take-take, take_more, take_more_set, IsTotalOrder, AllPairs, Ordering, Equal, Greater, Less, above-push, greater-at, IsNth, less-at, nth, reaches-push, reaches-under, tied-at, AreWithin-push, AreWithin-take, length-picked, nth-at, picked-push, Conjuncts, Event, IsEvent, AreWithin, picked, above, below, first_of, reaches, under, AreAscending, IsRowOf, TiesAreEqual, Truth, Tells, bound, Forgets, IsAt, KeepsEvents, Lands, path, steps_left, Place}
 use Rattle.std.proofs.Math.Nat.{mul-le-mul_right}
-use Rattle.zf_walk.specs.declared.judge.Truth.{Truth}
-use Rattle.zf_walk.specs.Conjuncts.{Conjuncts}
-use Rattle.zf_walk.specs.Rows.{TiesAreEqual, AreAscending, IsRowOf}
-use Rattle.zf_walk.specs.Events.{Event, IsEvent}
-use Rattle.zf_walk.specs.Picked.{AreWithin, picked}
-use Rattle.zf_walk.specs.Places.{first_of, reaches, under, below, above}
-use Rattle.zf_walk.proofs.Order.{IsNth, nth, less-at, tied-at, greater-at, reaches-push, reaches-under}
-use Rattle.zf_walk.proofs.Picks.{nth-at, AreWithin-take, AreWithin-push, length-picked, picked-push}
-use Rattle.zf_walk.proofs.Moving.{above-push}
-use Rattle.zf_plan.specs.declared.place.Place.{Place}
-use Rattle.zf_plan.specs.Knowing.{Tells}
-use Rattle.zf_plan.specs.Places.{IsAt, bound, path, steps_left, Forgets, Lands, KeepsEvents}
 
 -- what the row has behind a road is a row of the ranges behind it
 tail-row : {V : Type 0} (road tail : List V) (ranges : List (List V)) → IsRowOf ranges (road ++ tail) → IsRowOf (drop (length road) ranges) tail

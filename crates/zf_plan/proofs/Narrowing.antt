@@ -1,13 +1,6 @@
 -- What trees leave to the next component, and the next value that is tried.
-use Rattle.std.proofs.Common.{◌≡◌, ℕ, ◌<◌, ◌≤◌, List, [], ◌∷◌, length, get_or, sym, ◌∙◌, subst, arith}
-use Rattle.std.proofs.lemmas.List.{get_or_default}
-use Rattle.std.specs.Prelude.{Contains}
-use Rattle.zf_walk.specs.declared.judge.Truth.TheVariants.{False}
-use Rattle.zf_walk.specs.Conjuncts.{Conjuncts}
-use Rattle.zf_plan.specs.Trees.{Tree, either}
-use Rattle.zf_plan.specs.Knowing.{IsSettled}
+use Rattle.zf_plan.proofs.Prelude.{◌<◌, ◌∙◌, ◌∷◌, ◌≡◌, ◌≤◌, [], arith, get_or, length, List, subst, sym, ℕ, get_or_default, Contains, Conjuncts, False, Narrows, IsSettled, either, Tree}
 use Rattle.zf_plan.specs.Choices.{StaysIn}
-use Rattle.zf_plan.specs.Choosing.{Narrows}
 
 module _ {V : Type 0} (l : Conjuncts V) (ranges : List (List V)) (row range : List V) where
   -- sides

@@ -1,32 +1,8 @@
 -- The steps of a search: rows that hold no event are passed, and a whole row is an answer.
-use Rattle.std.proofs.Common.{◌≡◌, ℕ, ◌+◌, ◌<◌, ◌≤◌, true, false, cond, eqb, ◌⊎◌, List, [], ◌∷◌, ◌++◌, length, get_or, set, drop, take, replicate, Option, Some, None, inl, inr, refl, sym, ap, ◌∙◌, arith, subst, append_assoc, length-append}
-use Rattle.std.specs.Prelude.{◌≢◌, slice_get}
-use Rattle.std.specs.declared.cmp.Ordering.{Ordering}
-use Rattle.std.specs.declared.cmp.Ordering.TheVariants.{Less, Equal}
-use Rattle.std.specs.Cmp.{IsTotalOrder}
-use Rattle.std.proofs.lemmas.Bool.{false≢true, cases_eq}
-use Rattle.std.proofs.lemmas.List.{take_all, take-take, length-take-le, length-replicate, get_or-replicate, length-set, get_or-set_same, get_or-set_other}
-use Rattle.zf_walk.specs.declared.judge.Truth.{Truth}
-use Rattle.zf_walk.specs.declared.judge.Truth.TheVariants.{True, False, Out}
-use Rattle.zf_walk.specs.declared.step.Step.{Step}
-use Rattle.zf_walk.specs.declared.step.Step.TheVariants.{Holds, Breaks, End}
-use Rattle.zf_walk.specs.Conjuncts.{Conjuncts, HaveOneTruth, KeepTruths, IsTruthOf}
-use Rattle.zf_walk.specs.Rows.{ComesAfter, IsRowOf}
-use Rattle.zf_walk.specs.Events.{Event, IsEvent}
-use Rattle.zf_walk.specs.Progress.{Ahead, IsAhead, AreDueWithin, Takes, AreAllAhead, SameAhead, ended}
-use Rattle.zf_walk.specs.Picked.{AreWithin, picked}
-use Rattle.zf_walk.specs.Places.{reaches, is_reached, below, above}
-use Rattle.zf_walk.proofs.Order.{reaches-under}
-use Rattle.zf_walk.proofs.Picks.{picked-nil, slice_get-nth, IsFrontOf-picked, IsRowOf-front, IsRowOf-length}
+use Rattle.zf_plan.proofs.Prelude.{◌++◌, ◌+◌, ◌<◌, ◌∙◌, ◌∷◌, ◌≡◌, ◌≤◌, ◌⊎◌, [], ap, append_assoc, arith, cond, drop, eqb, false, get_or, inl, inr, length, length-append, List, None, Option, refl, replicate, set, Some, subst, sym, take, true, ℕ, cases_eq, false≢true, get_or-replicate, get_or-set_other, get_or-set_same, length-replicate, length-set, length-take-le, take-take, take_all, IsTotalOrder, ◌≢◌, slice_get, Ordering, Equal, Less, enough, reaches-under, IsFrontOf-picked, IsRowOf-front, IsRowOf-length, picked-nil, slice_get-nth, Conjuncts, HaveOneTruth, IsTruthOf, KeepTruths, Event, IsEvent, AreWithin, picked, above, below, is_reached, reaches, Ahead, AreAllAhead, AreDueWithin, ended, IsAhead, SameAhead, Takes, ComesAfter, IsRowOf, Truth, False, Out, True, Step, Breaks, End, Holds, IsChoice, IsChosen, Tells, ahead_of, bound, Forgets, Gives, GoesOn, is_over, IsAt, IsHopeless, IsSound, KeepsEvents, LandsNext, path, Stands, steps_left, planted, Tree, Place}
 use Rattle.zf_walk.proofs.Reaching.{IsLater-from, later-reached, unreached, IsAhead-from, IsAhead-to}
 use Rattle.zf_walk.proofs.Truths.{IsTruthOf-false, IsTruthOf-only}
-use Rattle.zf_walk.proofs.Moving.{enough}
-use Rattle.zf_plan.specs.declared.place.Place.{Place}
 use Rattle.zf_plan.specs.declared.plan.Plan.{Plan}
-use Rattle.zf_plan.specs.Trees.{Tree, planted}
-use Rattle.zf_plan.specs.Knowing.{Tells}
-use Rattle.zf_plan.specs.Choosing.{IsChosen, IsChoice}
-use Rattle.zf_plan.specs.Places.{IsAt, bound, path, ahead_of, Stands, IsSound, steps_left, is_over, IsHopeless, Forgets, LandsNext, KeepsEvents, GoesOn, Gives}
 use Rattle.zf_plan.proofs.TreeTruths.{planted-one, planted-kept, planted-due}
 use Rattle.zf_plan.proofs.Moving.{same-under, length-front, length-bound, length-path, IsFrom, from-fresh, from-past, landed, tells-landed}
 

@@ -1,13 +1,5 @@
 -- Trees have one truth and keep it, as their leaves; and the truth of all conjuncts, one after another.
-use Rattle.std.proofs.Common.{◌≡◌, ℕ, ◌+◌, ◌<◌, ◌≤◌, ◌⊎◌, List, [], ◌++◌, length, inl, inr, refl, sym, ap, ◌∙◌, subst, arith}
-use Rattle.std.proofs.lemmas.Bool.{cases_eq}
-use Rattle.std.proofs.lemmas.List.{append-nil}
-use Rattle.zf_walk.specs.declared.judge.Truth.{Truth}
-use Rattle.zf_walk.specs.declared.judge.Truth.TheVariants.{True, False, Out}
-use Rattle.zf_walk.specs.Conjuncts.{Conjuncts, HaveOneTruth, KeepTruths, IsTruthOf}
-use Rattle.zf_walk.specs.Progress.{AreDueWithin}
-use Rattle.zf_plan.specs.Trees.{Tree, leaf, negated, both, either, opposite, IsOfBoth, IsOfEither, IsTreeTruth, due_of, tree_at, HasLeavesWithin, HaveLeavesWithin, planted}
-use Rattle.zf_plan.specs.Knowing.{IsSettled, conjoined}
+use Rattle.zf_plan.proofs.Prelude.{◌++◌, ◌+◌, ◌<◌, ◌∙◌, ◌≡◌, ◌≤◌, ◌⊎◌, [], ap, arith, inl, inr, length, List, refl, subst, sym, ℕ, cases_eq, append-nil, Conjuncts, HaveOneTruth, IsTruthOf, KeepTruths, AreDueWithin, Truth, False, Out, True, conjoined, IsSettled, both, due_of, either, HasLeavesWithin, HaveLeavesWithin, IsOfBoth, IsOfEither, IsTreeTruth, leaf, negated, opposite, planted, Tree, tree_at}
 
 -- ---- one truth
 

@@ -1,13 +1,6 @@
 -- The spellings that no other shares its first bytes with, and the bytes that no spelling begins with.
-use Rattle.std.proofs.Common.{rules, ◌≡◌, ℕ, ◌-◌, ◌≤◌, ◌<◌, List, [], ◌∷◌, ◌++◌, length, take, drop, get_or, Bool, true, false, Option, Some, None, refl, sym, ◌∙◌, arith}
-use Rattle.std.specs.Prelude.{◌==◌, if◌then◌else◌, codes}
-use Rattle.std.specs.List.{list_all}
-use Rattle.std.specs.Str.{bytes_eq}
-use Rattle.std.proofs.lemmas.List.{take_rest}
-use Rattle.zf_scan.specs.declared.pieces.Piece.{Piece}
+use Rattle.zf_scan.proofs.Prelude.{◌++◌, ◌-◌, ◌<◌, ◌∙◌, ◌∷◌, ◌≡◌, ◌≤◌, [], arith, Bool, drop, false, get_or, length, List, None, Option, refl, rules, Some, sym, take, true, ℕ, take_rest, list_all, if◌then◌else◌, ◌==◌, codes, bytes_eq, look_up, symbols, piece_of, seen, Piece}
 use Rattle.zf_scan.specs.declared.pieces.Sight.{Sight}
-use Rattle.zf_scan.specs.Pieces.{look_up, symbols}
-use Rattle.zf_scan.specs.Sights.{seen, piece_of}
 use Rattle.zf_scan.proofs.Table.{hit}
 use Rattle.zf_scan.proofs.Texts.{both}
 

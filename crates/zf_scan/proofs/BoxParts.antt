@@ -1,25 +1,7 @@
 -- What the list of the symbols of a box is while the scanner fills it.
-use Rattle.std.proofs.Common.{◌≡◌, ℕ, ◌≤◌, List, [], ◌∷◌, ◌++◌, length, take, Bool, true, false, Some, refl, sym, ap, ◌∙◌, subst, inl, inr, append_assoc}
-use Rattle.std.proofs.lemmas.List.{append-nil}
-use Rattle.std.specs.Prelude.{if◌then◌else◌}
-use Rattle.std.specs.List.{list_all}
-use Rattle.std.specs.Str.{bytes_eq}
-use Rattle.zf_scan.specs.declared.fault.TextFaultKind.TheVariants.{NotInProfile}
-use Rattle.zf_scan.specs.declared.next.Next.{Next}
+use Rattle.zf_scan.proofs.Prelude.{◌++◌, ◌∙◌, ◌∷◌, ◌≡◌, ◌≤◌, [], ap, append_assoc, Bool, false, inl, inr, length, List, refl, Some, subst, sym, take, true, ℕ, append-nil, list_all, if◌then◌else◌, bytes_eq, begins_box, BeginsBox, ends_box, EndsOnce, Follows, IsBox, IsBoxAtMost, IsCutOn, IsCutUpTo, entered, escape, informal, is_directive, look_up, opening, OutsideKind, remark, schema, SpellsOutside, openings, kind_of, Found, NotInProfile, Next, Piece, Plain, Refused, Symbol, Place, Border, Kind, BeginSchema, BeginZed, EndBox, Token}
 use Rattle.zf_scan.specs.declared.next.Next.TheVariants as next
-use Rattle.zf_scan.specs.declared.pieces.Piece.{Piece}
-use Rattle.zf_scan.specs.declared.pieces.Piece.TheVariants.{Plain, Symbol, Refused}
-use Rattle.zf_scan.specs.declared.pieces.Place.{Place}
 use Rattle.zf_scan.specs.declared.pieces.Place.TheVariants.{Outside, Zed, Schema}
-use Rattle.zf_scan.specs.declared.scan.Border.{Border}
-use Rattle.zf_scan.specs.declared.token.Kind.{Kind}
-use Rattle.zf_scan.specs.declared.token.Kind.TheVariants.{BeginZed, BeginSchema, EndBox}
-use Rattle.zf_scan.specs.declared.token.Token.{Token}
-use Rattle.zf_scan.specs.Boxes.{IsCutUpTo, begins_box, ends_box, BeginsBox, EndsOnce, IsBox, IsBoxAtMost, Follows, IsCutOn}
-use Rattle.zf_scan.specs.Cuts.{entered}
-use Rattle.zf_scan.specs.Pieces.{look_up, openings, is_directive, OutsideKind, opening, schema, escape, remark, informal, SpellsOutside}
-use Rattle.zf_scan.specs.Sights.{kind_of}
-use Rattle.zf_scan.specs.Steps.{Found}
 use Rattle.zf_scan.proofs.Laws.{cut_whole}
 use Rattle.zf_scan.proofs.Runs.{and_left, and_right}
 use Rattle.zf_scan.proofs.Scanned.{StandsAt}

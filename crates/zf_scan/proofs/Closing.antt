@@ -1,15 +1,6 @@
 -- Inside a box: commands and the closing of the box, and all pieces together.
-use Rattle.std.proofs.Common.{◌≡◌, ℕ, ◌+◌, ◌≤◌, ◌<◌, ◌⊎◌, min, List, [], ◌∷◌, ◌++◌, length, take, drop, Bool, true, false, Option, Some, None, refl, sym, ap, ◌∙◌, subst, arith, ⊎_elim, inl, inr, append_assoc, take-append-drop, length-append, length-take-le, length-drop}
-use Rattle.std.specs.Prelude.{◌&&◌, not, ◌==◌, codes}
-use Rattle.std.proofs.Math.Numerals.{one-add}
-use Rattle.std.proofs.lemmas.Bool.Decides.{nat_tests}
+use Rattle.zf_scan.proofs.Prelude.{◌++◌, ◌+◌, ◌<◌, ◌∙◌, ◌∷◌, ◌≡◌, ◌≤◌, ◌⊎◌, [], ap, append_assoc, arith, Bool, drop, false, inl, inr, length, length-append, length-drop, length-take-le, List, min, None, Option, refl, Some, subst, sym, take, take-append-drop, true, ℕ, ⊎_elim, one-add, nat_tests, ◌&&◌, ◌==◌, codes, not, closing, fixed, InsideKind, is_digit, is_letter, is_run, IsCommand, look_up, name, numeral, remark, SpellsInside, unknown, symbols, begins, command_len, found, long_len, or_else, run_len, step_len, tail_len, command_found, comment_found, inside_found, number_found, short_command, Piece, Refused, Symbol, Digits, Letters, EndBox}
 use Rattle.zf_scan.specs.declared.fault.TextFaultKind.TheVariants as faults
-use Rattle.zf_scan.specs.declared.token.Kind.TheVariants.{EndBox}
-use Rattle.zf_scan.specs.declared.pieces.Piece.{Piece}
-use Rattle.zf_scan.specs.declared.pieces.Piece.TheVariants.{Symbol, Refused}
-use Rattle.zf_scan.specs.declared.pieces.Run.TheVariants.{Letters, Digits}
-use Rattle.zf_scan.specs.Pieces.{is_letter, is_digit, is_run, look_up, symbols, IsCommand, InsideKind, fixed, closing, remark, name, numeral, unknown, SpellsInside}
-use Rattle.zf_scan.specs.Steps.{step_len, run_len, begins, found, or_else, comment_found, command_len, tail_len, short_command, long_len, command_found, number_found, inside_found}
 use Rattle.zf_scan.proofs.Runs.{and_left, and_right, run_le, run_exact, run_all, run_within}
 use Rattle.zf_scan.proofs.Texts.{pick, eq_is, both, back_is, taken, front_le, tail_is, begins_is, is_begun}
 use Rattle.zf_scan.proofs.Table.{fits_command, ends_well}

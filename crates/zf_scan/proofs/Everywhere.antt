@@ -1,18 +1,7 @@
 -- Every source is cut, or has a fault.
-use Rattle.std.proofs.Common.{◌≡◌, ℕ, zero, suc, ◌+◌, ◌≤◌, ◌<◌, ◌⊎◌, List, [], ◌++◌, length, take, drop, refl, sym, subst, arith, inl, inr, length-drop}
+use Rattle.zf_scan.proofs.Prelude.{◌++◌, ◌+◌, ◌<◌, ◌≡◌, ◌≤◌, ◌⊎◌, [], arith, drop, inl, inr, length, length-drop, List, refl, subst, suc, sym, take, zero, ℕ, Before, entered, Fails, fault_line, HasFault, IsCutInto, IsCutOrFaults, IsRead, newlines, tokens_of, Found, found_at, TextFault, TextFaultKind, TooLong, UnclosedBox, Piece, Plain, Refused, Symbol, Place, SOURCE_MAX, Token}
 use Rattle.std.proofs.lemmas.Bool.{cases_lt}
-use Rattle.zf_scan.specs.declared.fault.TextFault.{TextFault}
-use Rattle.zf_scan.specs.declared.fault.TextFaultKind.{TextFaultKind}
-use Rattle.zf_scan.specs.declared.fault.TextFaultKind.TheVariants.{UnclosedBox, TooLong}
-use Rattle.zf_scan.specs.declared.pieces.Piece.{Piece}
-use Rattle.zf_scan.specs.declared.pieces.Piece.TheVariants.{Plain, Symbol, Refused}
-use Rattle.zf_scan.specs.declared.pieces.Place.{Place}
 use Rattle.zf_scan.specs.declared.pieces.Place.TheVariants as places
-use Rattle.zf_scan.specs.declared.scan.TheConstants.{SOURCE_MAX}
-use Rattle.zf_scan.specs.declared.token.Token.{Token}
-use Rattle.zf_scan.specs.Boxes.{Before}
-use Rattle.zf_scan.specs.Cuts.{IsRead, entered, tokens_of, newlines, IsCutInto, fault_line, Fails, HasFault, IsCutOrFaults}
-use Rattle.zf_scan.specs.Steps.{Found, found_at}
 use Rattle.zf_scan.proofs.Laws.{finished, stuck, refused, ended}
 use Rattle.zf_scan.proofs.Scanned.{Next, begun, found_next, goes, turned}
 

@@ -1,19 +1,7 @@
 -- Outside the boxes: what is found at the front of a text is of the first kind that fits.
-use Rattle.std.proofs.Common.{◌≡◌, ℕ, ◌+◌, ◌≤◌, ◌<◌, ◌⊎◌, min, List, [], ◌∷◌, ◌++◌, length, take, drop, Bool, true, false, Option, Some, None, refl, sym, ap, ◌∙◌, subst, arith, ⊎_elim, inl, inr, append_assoc, take-append-drop, length-append, length-take-le}
-use Rattle.std.specs.Prelude.{◌||◌, not, ◌==◌, if◌then◌else◌, codes}
-use Rattle.std.specs.List.{list_all}
+use Rattle.zf_scan.proofs.Prelude.{◌++◌, ◌+◌, ◌<◌, ◌∙◌, ◌∷◌, ◌≡◌, ◌≤◌, ◌⊎◌, [], ap, append_assoc, arith, Bool, drop, false, inl, inr, length, length-append, length-take-le, List, min, None, Option, refl, Some, subst, sym, take, take-append-drop, true, ℕ, ⊎_elim, one-add, nat_tests, list_all, if◌then◌else◌, ◌==◌, ◌||◌, codes, not, bytes_eq, StandsOutside, escape, informal, is_base, is_letter, is_run, look_up, opening, OutsideKind, remark, schema, SpellsOutside, turn, openings, symbols, base_len, begins, Found, has_no_name, plain, run_len, comment_found, opening_found, other_opening_found, outside_found, schema_found, Piece, Plain, Refused, Symbol, Base, Line, BeginSchema, BeginZed}
 use Rattle.std.specs.Option.{is_some}
-use Rattle.std.specs.Str.{bytes_eq}
-use Rattle.std.proofs.Math.Numerals.{one-add}
-use Rattle.std.proofs.lemmas.Bool.Decides.{nat_tests}
 use Rattle.zf_scan.specs.declared.fault.TextFaultKind.TheVariants as faults
-use Rattle.zf_scan.specs.declared.token.Kind.TheVariants.{BeginZed, BeginSchema}
-use Rattle.zf_scan.specs.Steps.{Found, run_len, begins, plain, comment_found, base_len, has_no_name, schema_found, other_opening_found, opening_found, outside_found}
-use Rattle.zf_scan.specs.declared.pieces.Piece.{Piece}
-use Rattle.zf_scan.specs.declared.pieces.Piece.TheVariants.{Plain, Symbol, Refused}
-use Rattle.zf_scan.specs.declared.pieces.Run.TheVariants.{Base, Line}
-use Rattle.zf_scan.specs.Pieces.{is_letter, is_run, look_up, symbols, openings, is_base, OutsideKind, opening, schema, escape, remark, informal, SpellsOutside, turn}
-use Rattle.zf_scan.specs.Cuts.{StandsOutside}
 use Rattle.zf_scan.proofs.Runs.{and_left, and_right, run_le, run_exact, run_within}
 use Rattle.zf_scan.proofs.Texts.{pick, eq_is, both, front_is, back_is, taken, front_le, head_is, tail_is, begins_is, is_begun, bytes_same}
 use Rattle.zf_scan.proofs.Table.{hit}

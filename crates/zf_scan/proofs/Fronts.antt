@@ -1,11 +1,6 @@
 -- Whether a text begins with another, byte by byte.
-use Rattle.std.proofs.Common.{◌≡◌, ℕ, ◌+◌, ◌<◌, List, [], ◌∷◌, ◌++◌, length, take, get_or, Bool, true, false, refl, sym, ap, ap₂, ◌∙◌, arith}
-use Rattle.std.proofs.lemmas.List.{take_all, take_more, get_or-take}
-use Rattle.std.proofs.lemmas.Slice.Eq.{bytes_eq-Decides}
-use Rattle.std.specs.Prelude.{nat_eq}
+use Rattle.zf_scan.proofs.Prelude.{◌++◌, ◌+◌, ◌<◌, ◌∙◌, ◌∷◌, ◌≡◌, [], ap, ap₂, arith, Bool, false, get_or, length, List, refl, sym, take, true, ℕ, get_or-take, take_all, take_more, bytes_eq-Decides, starts_with, nat_eq, bytes_eq}
 use Rattle.std.specs.Bool.{one_answer}
-use Rattle.std.specs.Str.{bytes_eq}
-use Rattle.std.specs.List.{starts_with}
 
 pub one_more : (s p : List ℕ) (i : ℕ) → i < length s → i < length p → take i s ≡ take i p → get_or s i 0 ≡ get_or p i 0 → take (i + 1) s ≡ take (i + 1) p
 one_more s p i h k e same = take_more s i 0 h ∙ ap₂ (λ t x. t ++ x ∷ []) e same ∙ sym (take_more p i 0 k)

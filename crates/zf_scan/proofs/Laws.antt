@@ -1,21 +1,8 @@
 -- A source is cut in one way, and where it fails nothing goes on.
-use Rattle.std.proofs.Common.{◌≡◌, ℕ, ◌≤◌, ◌<◌, ◌⊎◌, List, [], ◌∷◌, ◌++◌, length, take, drop, refl, sym, ap, ◌∙◌, subst, arith, ⊎_elim, inl, inr, length-append, take-append-drop}
-use Rattle.std.proofs.lemmas.List.{append-nil}
+use Rattle.zf_scan.proofs.Prelude.{◌++◌, ◌<◌, ◌∙◌, ◌∷◌, ◌≡◌, ◌≤◌, ◌⊎◌, [], ap, arith, drop, inl, inr, length, length-append, List, refl, subst, sym, take, take-append-drop, ℕ, ⊎_elim, append-nil, Before, IsCutUpTo, Cuts, Fails, fault_line, FaultsOnce, IsCutInto, IsCutOnce, IsNotBoth, IsRead, IsStuck, IsUncut, IsWantOfMemory, line_of, past, Spot, Stands, start, tokens_from, Found, TextFault, TextFaultKind, BadByte, UnclosedBox, Piece, Refused, Place, Border, SOURCE_MAX, Token}
 use Rattle.std.proofs.Math.ListN.{drop_of_length-le}
-use Rattle.zf_scan.specs.declared.fault.TextFault.{TextFault}
-use Rattle.zf_scan.specs.declared.fault.TextFaultKind.{TextFaultKind}
-use Rattle.zf_scan.specs.declared.fault.TextFaultKind.TheVariants.{BadByte, UnclosedBox}
-use Rattle.zf_scan.specs.Steps.{Found}
-use Rattle.zf_scan.specs.declared.pieces.Piece.{Piece}
-use Rattle.zf_scan.specs.declared.pieces.Piece.TheVariants.{Refused}
-use Rattle.zf_scan.specs.declared.pieces.Place.{Place}
 use Rattle.zf_scan.specs.declared.pieces.Place.TheVariants as places
-use Rattle.zf_scan.specs.declared.scan.TheConstants.{SOURCE_MAX}
-use Rattle.zf_scan.specs.declared.token.Token.{Token}
-use Rattle.zf_scan.specs.Cuts.{IsWantOfMemory, Stands, Spot, line_of, start, past, IsRead, Cuts, tokens_from, IsCutInto, IsUncut, fault_line, Fails, IsStuck, IsCutOnce, FaultsOnce, IsNotBoth}
 use Rattle.zf_scan.proofs.Same.{same, stands_some}
-use Rattle.zf_scan.specs.Boxes.{Before, IsCutUpTo}
-use Rattle.zf_scan.specs.declared.scan.Border.{Border}
 use Rattle.zf_scan.proofs.Scanned.{Next}
 
 -- the second cut goes on where the first ends

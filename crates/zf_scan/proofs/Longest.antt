@@ -1,16 +1,6 @@
 -- Inside a box: what is found at the front of a text is the longest, and where nothing is found no piece fits.
-use Rattle.std.proofs.Common.{◌≡◌, ℕ, ◌+◌, ◌≤◌, ◌<◌, ◌⊎◌, List, [], ◌∷◌, ◌++◌, length, take, drop, Bool, true, false, Option, Some, None, refl, sym, ap, ◌∙◌, arith, inl, inr, append_assoc, take-append-drop, length-append, length-take-le, length-drop}
-use Rattle.std.specs.Prelude.{◌&&◌, ◌||◌, ◌==◌, codes}
-use Rattle.std.proofs.Math.Numerals.{one-add}
-use Rattle.std.proofs.Math.Seq.{take-add}
-use Rattle.std.proofs.lemmas.Bool.Decides.{nat_tests}
+use Rattle.zf_scan.proofs.Prelude.{◌++◌, ◌+◌, ◌<◌, ◌∙◌, ◌∷◌, ◌≡◌, ◌≤◌, ◌⊎◌, [], ap, append_assoc, arith, Bool, drop, false, inl, inr, length, length-append, length-drop, length-take-le, List, None, Option, refl, Some, sym, take, take-append-drop, true, ℕ, one-add, take-add, nat_tests, ◌&&◌, ◌==◌, ◌||◌, codes, StandsInside, closing, comment, fixed, InsideKind, is_base, is_digit, is_letter, is_number, is_one, is_run, is_two, IsComment, look_up, name, number, numeral, remark, SpellsInside, unknown, symbols, base_len, begins, Found, found, name_of, or_else, run_len, strokes_len, symbol_len, word_len, symbol_found, word_found, Piece, Refused, Symbol, Base, Digits, Line, Strokes}
 use Rattle.zf_scan.specs.declared.fault.TextFaultKind.TheVariants as faults
-use Rattle.zf_scan.specs.Steps.{Found, run_len, begins, found, or_else, base_len, strokes_len, word_len, name_of, word_found, symbol_len, symbol_found}
-use Rattle.zf_scan.specs.declared.pieces.Piece.{Piece}
-use Rattle.zf_scan.specs.declared.pieces.Piece.TheVariants.{Symbol, Refused}
-use Rattle.zf_scan.specs.declared.pieces.Run.TheVariants.{Digits, Base, Strokes, Line}
-use Rattle.zf_scan.specs.Pieces.{is_letter, is_digit, is_one, is_two, is_run, look_up, symbols, IsComment, comment, is_base, is_number, number, InsideKind, fixed, closing, remark, name, numeral, unknown, SpellsInside}
-use Rattle.zf_scan.specs.Cuts.{StandsInside}
 use Rattle.zf_scan.proofs.Runs.{and_left, and_right, run_le, run_exact, run_all, run_within, run_len-one}
 use Rattle.zf_scan.proofs.Texts.{pick, eq_is, both, back_is, taken, front_le, head_is, tail_is, begins_is, is_begun, bytes_same}
 use Rattle.zf_scan.proofs.Table.{row_fits, fits_symbol, listed_fits}

@@ -1,13 +1,7 @@
 -- The commands of a backslash and one mark: what stands behind the mark doesn't matter. And what closes a box begins `\e`.
-use Rattle.std.proofs.Common.{◌≡◌, ℕ, suc, ◌+◌, ◌≤◌, List, [], ◌∷◌, length, take, drop, slice_index_or, false, Some, None, refl, sym, ap, ap₂, ◌∙◌, arith, length-take-le}
+use Rattle.zf_scan.proofs.Prelude.{◌+◌, ◌∙◌, ◌∷◌, ◌≡◌, ◌≤◌, [], ap, ap₂, arith, drop, false, length, length-take-le, List, None, refl, slice_index_or, Some, suc, sym, take, ℕ, is_letter, look_up, symbols, begins, command_len, found, long_len, or_else, run_len, step_len, tail_len, command_found, short_command, Piece, Symbol, Letters, CloseBrace, OpenBrace, Separator}
 use Rattle.std.specs.Prelude.{min}
-use Rattle.zf_scan.specs.declared.pieces.Piece.{Piece}
-use Rattle.zf_scan.specs.declared.pieces.Piece.TheVariants.{Symbol}
-use Rattle.zf_scan.specs.declared.pieces.Run.TheVariants.{Letters}
-use Rattle.zf_scan.specs.declared.token.Kind.TheVariants.{Separator, OpenBrace, CloseBrace}
 use Rattle.zf_scan.specs.declared.token.Separator.TheVariants as separators
-use Rattle.zf_scan.specs.Pieces.{is_letter, look_up, symbols}
-use Rattle.zf_scan.specs.Steps.{begins, found, or_else, step_len, run_len, command_len, tail_len, long_len, short_command, command_found}
 use Rattle.zf_scan.proofs.Closing.{tail_within}
 use Rattle.zf_scan.proofs.Fronts.{one_differs}
 use Rattle.zf_scan.proofs.Runs.{run_stop}

@@ -1,11 +1,6 @@
 -- The value of digits, one more at a time.
-use Rattle.std.proofs.Common.{◌≡◌, ℕ, ◌+◌, ◌-◌, ◌*◌, ◌/◌, ◌≤◌, ◌<◌, List, [], ◌∷◌, ◌++◌, length, take, drop, get_or, Some, None, sym, ap, ◌∙◌, arith, take-append-drop}
-use Rattle.std.proofs.lemmas.List.{take_all}
-use Rattle.std.specs.Prelude.{if◌then◌else◌, nat_le}
-use Rattle.std.specs.List.{fold}
+use Rattle.zf_scan.proofs.Prelude.{◌*◌, ◌++◌, ◌+◌, ◌-◌, ◌/◌, ◌<◌, ◌∙◌, ◌∷◌, ◌≡◌, ◌≤◌, [], ap, arith, drop, get_or, length, List, None, Some, sym, take, take-append-drop, ℕ, nat_tests, take_all, fold, if◌then◌else◌, nat_le, number_max, value}
 use Rattle.std.proofs.lemmas.List.Sums.{fold_more, fold-append}
-use Rattle.std.proofs.lemmas.Bool.Decides.{nat_tests}
-use Rattle.zf_scan.specs.Pieces.{value, number_max}
 
 abbrev with_digit : ℕ → ℕ → ℕ
 with_digit n b = 10 * n + (b - 48)

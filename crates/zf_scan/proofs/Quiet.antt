@@ -1,18 +1,6 @@
 -- No newline stands in the text of a symbol; which letters begin a word of one spelling.
-use Rattle.std.proofs.Common.{◌≡◌, ℕ, ◌≤◌, length, slice_index_or, List, [], ◌∷◌, ◌++◌, take, Bool, true, false, Option, Some, None, refl, sym, ap, ◌∙◌, subst, arith}
-use Rattle.std.specs.Prelude.{◌==◌, ◌||◌, ◌&&◌, not, codes}
-use Rattle.std.specs.List.{list_all}
-use Rattle.std.specs.Str.{bytes_eq}
-use Rattle.zf_scan.specs.declared.pieces.Piece.{Piece}
-use Rattle.zf_scan.specs.declared.pieces.Piece.TheVariants.{Plain, Symbol}
-use Rattle.zf_scan.specs.declared.pieces.Place.{Place}
+use Rattle.zf_scan.proofs.Prelude.{◌++◌, ◌∙◌, ◌∷◌, ◌≡◌, ◌≤◌, [], ap, arith, Bool, false, length, List, None, Option, refl, slice_index_or, Some, subst, sym, take, true, ℕ, list_all, ◌&&◌, ◌==◌, ◌||◌, codes, not, bytes_eq, newlines, closing, escape, fixed, informal, InsideKind, is_base, is_letter, is_one, is_run, is_two, look_up, name, numeral, opening, OutsideKind, remark, schema, SpellsInside, SpellsOutside, unknown, openings, symbols, Found, Piece, Plain, Symbol, Place, Run, Base, Digits, Letters, Line, Strokes, Kind}
 use Rattle.zf_scan.specs.declared.pieces.Place.TheVariants as places
-use Rattle.zf_scan.specs.declared.pieces.Run.{Run}
-use Rattle.zf_scan.specs.declared.pieces.Run.TheVariants.{Letters, Digits, Base, Strokes, Line}
-use Rattle.zf_scan.specs.declared.token.Kind.{Kind}
-use Rattle.zf_scan.specs.Cuts.{newlines}
-use Rattle.zf_scan.specs.Pieces.{is_letter, is_one, is_two, is_run, is_base, look_up, symbols, openings, InsideKind, fixed, closing, remark, name, numeral, unknown, SpellsInside, OutsideKind, opening, schema, escape, informal, SpellsOutside}
-use Rattle.zf_scan.specs.Steps.{Found}
 use Rattle.zf_scan.proofs.Alone.{differ}
 use Rattle.zf_scan.proofs.Runs.{and_left, and_right}
 use Rattle.zf_scan.proofs.Scanned.{StandsAt, newlines_append}

@@ -1,11 +1,5 @@
 -- Runs: the longest at the front of a text, and what stands behind it.
-use Rattle.std.proofs.Common.{◌≡◌, ℕ, suc, ◌+◌, ◌≤◌, List, [], ◌∷◌, ◌++◌, length, take, drop, Bool, true, false, refl, sym, ap, ◌∙◌, arith, zero-add}
-use Rattle.std.specs.Prelude.{◌&&◌}
-use Rattle.std.proofs.Math.Numerals.{one-add}
-use Rattle.std.proofs.lemmas.List.{drop-drop}
-use Rattle.zf_scan.specs.declared.pieces.Run.{Run}
-use Rattle.zf_scan.specs.Pieces.{is_one, is_two, is_run}
-use Rattle.zf_scan.specs.Steps.{step_len, run_len}
+use Rattle.zf_scan.proofs.Prelude.{◌++◌, ◌+◌, ◌∙◌, ◌∷◌, ◌≡◌, ◌≤◌, [], ap, arith, Bool, drop, false, length, List, refl, suc, sym, take, true, zero-add, ℕ, one-add, drop-drop, ◌&&◌, is_one, is_run, is_two, run_len, step_len, Run}
 
 pub and_left : (a b : Bool) → (a && b) ≡ true → a ≡ true
 and_left true b e = refl

@@ -1,21 +1,9 @@
 -- One piece stands at a place.
-use Rattle.std.proofs.Common.{◌≡◌, ℕ, ◌+◌, ◌≤◌, ◌<◌, ◌⊎◌, List, [], ◌∷◌, ◌++◌, length, take, drop, Bool, true, false, Option, Some, None, refl, sym, ap, ◌∙◌, arith, ⊎_elim, inl, inr, length-append, unwrap_or}
-use Rattle.std.specs.Prelude.{◌==◌, if◌then◌else◌, codes}
-use Rattle.std.specs.Str.{bytes_eq}
-use Rattle.std.proofs.Math.Numerals.{one-add}
+use Rattle.zf_scan.proofs.Prelude.{◌++◌, ◌+◌, ◌<◌, ◌∙◌, ◌∷◌, ◌≡◌, ◌≤◌, ◌⊎◌, [], ap, arith, Bool, drop, false, inl, inr, length, length-append, List, None, Option, refl, Some, sym, take, true, unwrap_or, ℕ, ⊎_elim, one-add, bytes_decides, if◌then◌else◌, ◌==◌, codes, bytes_eq, Stands, StandsInside, StandsOutside, comment, InsideKind, is_base, is_digit, is_letter, is_number, is_run, IsCommand, look_up, number, OutsideKind, SpellsInside, SpellsOutside, turn, openings, symbols, base_len, run_len, Piece, Plain, Refused, Symbol, Place, Base, Letters, Strokes, BeginSchema, EndBox, Name}
 use Rattle.zf_scan.specs.declared.fault.TextFaultKind.TheVariants as faults
-use Rattle.zf_scan.specs.declared.token.Kind.TheVariants.{BeginSchema, EndBox, Name}
-use Rattle.zf_scan.specs.declared.pieces.Piece.{Piece}
-use Rattle.zf_scan.specs.declared.pieces.Piece.TheVariants.{Plain, Symbol, Refused}
-use Rattle.zf_scan.specs.declared.pieces.Place.{Place}
 use Rattle.zf_scan.specs.declared.pieces.Place.TheVariants as places
-use Rattle.zf_scan.specs.declared.pieces.Run.TheVariants.{Letters, Base, Strokes}
 use Rattle.zf_scan.specs.Pieces
-use Rattle.zf_scan.specs.Pieces.{is_letter, is_digit, is_run, look_up, symbols, openings, comment, number, is_base, is_number, IsCommand, InsideKind, SpellsInside, OutsideKind, SpellsOutside, turn}
-use Rattle.zf_scan.specs.Cuts.{StandsInside, StandsOutside, Stands}
-use Rattle.zf_scan.specs.Steps.{run_len, base_len}
 use Rattle.zf_scan.proofs.Runs.{and_left, and_right, run_exact}
-use Rattle.std.specs.Cmp.Lexicographic.{bytes_decides}
 use Rattle.zf_scan.proofs.Texts.{both, fronts, front_is, back_is, bytes_same}
 use Rattle.zf_scan.proofs.Table.{row_fits, listed_fits}
 use Rattle.zf_scan.proofs.Longest.{letter_byte, digit_byte, digit_no_letter, digit_row, run_head, stroke_byte, no_step, spelled_some}

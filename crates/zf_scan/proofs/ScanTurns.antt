@@ -1,17 +1,8 @@
 -- One turn of the scanner's loop: a blank, another piece without a token, a symbol.
-use Rattle.std.proofs.Common.{◌≡◌, ℕ, ◌+◌, ◌<◌, List, [], ◌∷◌, ◌++◌, length, take, drop, map, refl, sym, ap, ◌∙◌, subst, inl, inr, arith, length-take-le}
+use Rattle.zf_scan.proofs.Prelude.{◌++◌, ◌+◌, ◌<◌, ◌∙◌, ◌∷◌, ◌≡◌, [], ap, arith, drop, inl, inr, length, length-take-le, List, map, refl, subst, sym, take, ℕ, Before, entered, IsRead, newlines, token_at, kind_of, piece_of, told, Found, found, found_at, Plain, Symbol, Place, Placed, Token}
 use Rattle.zf_scan.specs.declared.next.Next as symbol
 use Rattle.zf_scan.specs.declared.pieces.Found as code
-use Rattle.zf_scan.specs.declared.pieces.Piece.TheVariants.{Plain, Symbol}
-use Rattle.zf_scan.specs.declared.pieces.Place.{Place}
 use Rattle.zf_scan.specs.declared.pieces.Sight.TheVariants as sights
-use Rattle.zf_scan.specs.declared.placed.Placed.{Placed}
-use Rattle.zf_scan.specs.declared.token.Token.{Token}
-use Rattle.zf_scan.specs.Boxes.{Before}
-use Rattle.zf_scan.specs.Cuts.{IsRead, newlines, entered}
-use Rattle.zf_scan.specs.Placing.{token_at}
-use Rattle.zf_scan.specs.Sights.{kind_of, piece_of, told}
-use Rattle.zf_scan.specs.Steps.{Found, found, found_at}
 use Rattle.zf_scan.proofs.Quiet.{quiet}
 use Rattle.zf_scan.proofs.Scanned.{StandsAt, Next, found_next, seen_at, goes, turned, moved, told_plain, told_symbol, placed_told}
 

@@ -1,22 +1,9 @@
 -- What the loop of the scanner keeps, and what one turn does.
-use Rattle.std.proofs.Common.{◌≡◌, ℕ, ◌+◌, ◌≤◌, ◌<◌, ◌⊎◌, List, [], ◌∷◌, ◌++◌, length, take, drop, map, ◌-◌, Bool, true, false, refl, sym, ap, ◌∙◌, subst, arith, inl, inr, append_assoc, take-append-drop, length-append, length-take-le}
-use Rattle.std.specs.Prelude.{◌==◌, if◌then◌else◌, codes}
-use Rattle.std.proofs.lemmas.List.{append-nil, drop-drop, map-append}
+use Rattle.zf_scan.proofs.Prelude.{◌++◌, ◌+◌, ◌-◌, ◌<◌, ◌∙◌, ◌∷◌, ◌≡◌, ◌≤◌, ◌⊎◌, [], ap, append_assoc, arith, Bool, drop, false, inl, inr, length, length-append, length-take-le, List, map, refl, subst, sym, take, take-append-drop, true, ℕ, append-nil, drop-drop, map-append, if◌then◌else◌, ◌==◌, codes, Before, Cuts, entered, IsRead, line_of, newlines, past, Spot, Stands, start, tokens_from, tokens_of, token_at, kind_of, told, Found, found_at, Piece, Plain, Refused, Symbol, Place, Placed, Kind, Token}
 use Rattle.zf_scan.specs.declared.fault.TextFaultKind.TheVariants as faults
 use Rattle.zf_scan.specs.declared.next.Next as symbol
 use Rattle.zf_scan.specs.declared.pieces.Found as code
-use Rattle.zf_scan.specs.declared.pieces.Piece.{Piece}
-use Rattle.zf_scan.specs.declared.pieces.Piece.TheVariants.{Plain, Symbol, Refused}
-use Rattle.zf_scan.specs.declared.pieces.Place.{Place}
 use Rattle.zf_scan.specs.declared.pieces.Place.TheVariants as places
-use Rattle.zf_scan.specs.declared.placed.Placed.{Placed}
-use Rattle.zf_scan.specs.declared.token.Kind.{Kind}
-use Rattle.zf_scan.specs.declared.token.Token.{Token}
-use Rattle.zf_scan.specs.Cuts.{Stands, newlines, Spot, line_of, start, entered, past, IsRead, Cuts, tokens_of, tokens_from}
-use Rattle.zf_scan.specs.Boxes.{Before}
-use Rattle.zf_scan.specs.Placing.{token_at}
-use Rattle.zf_scan.specs.Sights.{kind_of, told}
-use Rattle.zf_scan.specs.Steps.{Found, found_at}
 use Rattle.zf_scan.proofs.Longest as longest
 use Rattle.zf_scan.proofs.Longest.{spelled_some}
 use Rattle.zf_scan.proofs.Closing.{zed_next, schema_next}

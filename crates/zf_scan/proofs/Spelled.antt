@@ -1,13 +1,7 @@
 -- What is told of a name by its lengths.
-use Rattle.std.proofs.Common.{◌≡◌, ℕ, zero, suc, ◌+◌, ◌≤◌, List, [], ◌∷◌, take, drop, None, refl, sym, ap, ◌∙◌, arith}
-use Rattle.std.proofs.lemmas.List.{drop-take}
+use Rattle.zf_scan.proofs.Prelude.{◌+◌, ◌∙◌, ◌∷◌, ◌≡◌, ◌≤◌, [], ap, arith, drop, List, None, refl, suc, sym, take, zero, ℕ, drop-take, look_up, symbols, told, base_len, Found, found, or_else, strokes_len, word_len, word_found, Symbol, BeginSchema, Name}
 use Rattle.zf_scan.specs.declared.next.Next.TheVariants as next
-use Rattle.zf_scan.specs.declared.pieces.Piece.TheVariants.{Symbol}
 use Rattle.zf_scan.specs.declared.pieces.Sight.TheVariants as sight
-use Rattle.zf_scan.specs.declared.token.Kind.TheVariants.{BeginSchema, Name}
-use Rattle.zf_scan.specs.Pieces.{look_up, symbols}
-use Rattle.zf_scan.specs.Sights.{told}
-use Rattle.zf_scan.specs.Steps.{Found, found, or_else, base_len, strokes_len, word_len, word_found}
 
 take-within : {A : Type 0} (n m : ℕ) (s : List A) → n ≤ m → take n (take m s) ≡ take n s
 take-within zero m s h = refl

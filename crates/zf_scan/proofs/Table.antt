@@ -1,12 +1,5 @@
 -- The tables: what holds of each row holds of what is looked up.
-use Rattle.std.proofs.Common.{◌≡◌, ℕ, List, [], ◌∷◌, length, drop, Bool, true, false, Some, refl, ap, ◌∙◌}
-use Rattle.std.specs.Prelude.{◌&&◌, ◌||◌, not, ◌==◌, if◌then◌else◌, codes}
-use Rattle.std.specs.List.{list_all}
-use Rattle.std.specs.Str.{bytes_eq}
-use Rattle.zf_scan.specs.declared.pieces.Piece.{Piece}
-use Rattle.zf_scan.specs.declared.pieces.Run.TheVariants.{Letters, Base}
-use Rattle.zf_scan.specs.Pieces.{is_letter, is_digit, is_run, look_up, symbols}
-use Rattle.zf_scan.specs.Steps.{run_len}
+use Rattle.zf_scan.proofs.Prelude.{◌∙◌, ◌∷◌, ◌≡◌, [], ap, Bool, drop, false, length, List, refl, Some, true, ℕ, list_all, if◌then◌else◌, ◌&&◌, ◌==◌, ◌||◌, codes, not, bytes_eq, is_digit, is_letter, is_run, look_up, symbols, run_len, Piece, Base, Letters}
 use Rattle.zf_scan.proofs.Runs.{and_left, and_right}
 use Rattle.zf_scan.proofs.Texts.{bytes_same}
 

@@ -1,8 +1,6 @@
 -- Globals that begin with others.
-use Rattle.std.proofs.Common.{◌≡◌, ◌+◌, ◌≤◌, List, [], ◌∷◌, ◌++◌, length, take, sym, ap, ◌∙◌, arith}
-use Rattle.std.proofs.lemmas.List.{length-append, take-append-le, take-take}
+use Rattle.zf_schema.proofs.Prelude.{◌++◌, ◌+◌, ◌∙◌, ◌∷◌, ◌≡◌, ◌≤◌, [], ap, arith, length, List, sym, take, length-append, take-append-le, take-take, Defined}
 use Rattle.std.proofs.Math.Seq.{take-length}
-use Rattle.zf_term.specs.Definitions.{Defined}
 
 abbrev pub Begins : List Defined → List Defined → Type 0
 Begins g h = take (length g) h ≡ g

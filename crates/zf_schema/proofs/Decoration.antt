@@ -1,8 +1,5 @@
 -- Decoration changes names alone.
-use Rattle.std.proofs.Common.{◌≡◌, ℕ, List, [], ◌∷◌, ◌++◌, map, refl, ap}
-use Rattle.zf_term.specs.Definitions.{Comp}
-use Rattle.zf_calculus.specs.Calculus.{comp}
-use Rattle.zf_schema.specs.SchemaLaws.{DecorationRenames}
+use Rattle.zf_schema.proofs.Prelude.{◌++◌, ◌∷◌, ◌≡◌, [], ap, List, map, refl, ℕ, Comp, comp, DecorationRenames}
 
 pub through : {A B C : Type 0} (f : A → B) (h : B → C) (xs : List A) → map h (map f xs) ≡ map (λ x. h (f x)) xs
 through f h [] = refl

@@ -1,25 +1,13 @@
 -- What is asked of a well typed term has the same answer where more is defined behind.
-use Rattle.std.proofs.Common.{◌≡◌, ℕ, Bool, ◌&&◌, if◌then◌else◌, List, ◌++◌, take, drop, Option, Some, None, slice_get, refl, sym, ap, ◌∙◌, subst}
-use Rattle.std.proofs.lemmas.List.{take-append-drop}
-use Rattle.std.proofs.lemmas.Option.{none-some}
+use Rattle.zf_schema.proofs.Prelude.{if◌then◌else◌, ◌&&◌, ◌++◌, ◌∙◌, ◌≡◌, ap, Bool, drop, List, None, Option, refl, slice_get, Some, subst, sym, take, ℕ, take-append-drop, none-some, spelling, Links, no_decls, no_trees, Perhaps, Tree, tree, Trees, var_decl, VarDecls, abbreviation, Comp, Defined, first_named, or_else, ResolvedTree, Ty, Tys, bound, referent, resolved, resolved_all, resolved_links, resolved_part, resolved_ranges, predicate, set_of, Sort, typed, outside, ExtentsKept}
 use Rattle.zf_tree.specs.declared.symbol.Relation.{Relation}
 use Rattle.zf_tree.specs.declared.operator.Listed.{Listed}
 use Rattle.zf_tree.specs.Trees as text
-use Rattle.zf_tree.specs.Trees.{Tree, Trees, no_trees, tree, Links, VarDecls, no_decls, var_decl, Perhaps}
 use Rattle.zf_reference.specs.declared.reference.Reference.{Reference}
-use Rattle.zf_term.specs.Definitions.{Comp, Defined, abbreviation}
 use Rattle.zf_extent.specs.Extents.{is_membership, is_last, tested, unless, name_lines, extent_by, extent_found, extent_named, extent_set, extent_of, direct, offending, all_offending, links_offending, ranges_offending, part_offending}
-use Rattle.zf_term.specs.FirstNamed.{or_else, first_named}
-use Rattle.zf_term.specs.ResolvedTrees.{ResolvedTree}
-use Rattle.zf_term.specs.Types.{Ty, Tys}
-use Rattle.zf_type.specs.Resolving.{referent, bound, resolved, resolved_all, resolved_links, resolved_ranges, resolved_part}
-use Rattle.zf_type.specs.Rules.{Sort, typed, predicate, set_of}
 use Rattle.zf_type.specs.Scopes.{Scope, Var, within, last_named, with_local, with_comp, with_global, meaning}
-use Rattle.zf_tree.specs.Names.{spelling}
 use Rattle.zf_type.specs.Typing.{IsOf, AreMembers, member_sort, AreLinked, Declare, Constrains, Builds}
 use Rattle.zf_type.proofs.ResolvedAlike.{resolved_within}
-use Rattle.zf_schema.specs.Expressions.{outside}
-use Rattle.zf_schema.specs.WellTypedGlobals.{ExtentsKept}
 use Rattle.zf_schema.proofs.Fronts.{in_front}
 use Rattle.zf_schema.proofs.Named.{named_there}
 use Rattle.zf_schema.proofs.WellTyped.{globals_well_typed}

@@ -1,11 +1,5 @@
 -- What is made of two schemas has the components of the first one first, in order.
-use Rattle.std.proofs.Common.{◌≡◌, ℕ, Bool, true, false, if◌then◌else◌, List, [], ◌∷◌, ◌++◌, refl, sym, ap, ◌∙◌}
-use Rattle.std.proofs.lemmas.List.{append-nil, append_assoc}
-use Rattle.std.specs.Str.{bytes_eq}
-use Rattle.zf_term.specs.Definitions.{Comp}
-use Rattle.zf_term.specs.Types.{Ty}
-use Rattle.zf_calculus.specs.Calculus.{comp, with_comp, with_comps, decorated, prime}
-use Rattle.zf_schema.specs.SchemaLaws.{signature, FirstKept, CompsOfEither}
+use Rattle.zf_schema.proofs.Prelude.{if◌then◌else◌, ◌++◌, ◌∙◌, ◌∷◌, ◌≡◌, [], ap, Bool, false, List, refl, sym, true, ℕ, append-nil, append_assoc, bytes_eq, Comp, Ty, comp, decorated, prime, with_comp, with_comps, CompsOfEither, FirstKept, signature}
 use Rattle.zf_schema.proofs.Decoration.{through}
 
 -- what more components add to the signature

@@ -1,6 +1,5 @@
 -- What stands in a list that goes on.
-use Rattle.std.proofs.Common.{◌≡◌, ◌⊎◌, inl, inr, ℕ, zero, suc, List, [], ◌∷◌, ◌++◌, length, take, Some, slice_get, refl, ap}
-use Rattle.std.proofs.lemmas.Option.{same_Some, none-some}
+use Rattle.zf_schema.proofs.Prelude.{◌++◌, ◌∷◌, ◌≡◌, ◌⊎◌, [], ap, inl, inr, length, List, refl, slice_get, Some, suc, take, zero, ℕ, none-some, same_Some}
 
 -- what stands in a list stands in one that goes on
 pub in_front : {A : Type 0} (xs ys : List A) (i : ℕ) (x : A) → slice_get xs i ≡ Some x → slice_get (xs ++ ys) i ≡ Some x

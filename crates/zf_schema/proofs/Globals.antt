@@ -1,20 +1,7 @@
 -- The globals of a text: where they stand, and that each has a name of its own.
-use Rattle.std.proofs.Common.{◌≡◌, ℕ, ◌+◌, Bool, true, false, if◌then◌else◌, List, [], ◌∷◌, ◌++◌, map, Option, Some, None, refl, sym, ap, ◌∙◌, subst, inl, inr}
-use Rattle.std.proofs.lemmas.List.{append-nil, append_assoc}
-use Rattle.std.proofs.lemmas.Option.{none-some}
-use Rattle.std.specs.Str.{bytes_eq}
-use Rattle.zf_tree.specs.declared.tree.Name.{Name}
-use Rattle.zf_tree.specs.Trees.{ParagraphTree, given, free, definition}
+use Rattle.zf_schema.proofs.Prelude.{if◌then◌else◌, ◌++◌, ◌+◌, ◌∙◌, ◌∷◌, ◌≡◌, [], ap, Bool, false, inl, inr, List, map, None, Option, refl, Some, subst, sym, true, ℕ, append-nil, append_assoc, none-some, bytes_eq, spelling, definition, free, given, ParagraphTree, Name, swapped, constructor, Defined, Definition, free_type, given_set, schema, first_named, later, resolved, TypeFault, outside, AreDefinedOnce, GlobalsKept, HasCompsOnce, HaveCompsOnce, NamesOnce}
 use Rattle.zf_tree.specs.Trees as text
-use Rattle.zf_term.specs.FirstNamed.{first_named, later}
-use Rattle.zf_term.specs.Definitions.{Defined, Definition, given_set, free_type, constructor, schema}
-use Rattle.zf_type.specs.declared.fault.TypeFault.{TypeFault}
-use Rattle.zf_type.specs.Resolving.{resolved}
-use Rattle.zf_tree.specs.Names.{spelling}
 use Rattle.zf_schema.specs.Checking.{Item, a_paragraph, a_box, items, IsNew, with_global, next_number, Gives, Constructs, DefinesParagraph, Defines, ChecksOne, Checks, abbreviated}
-use Rattle.zf_schema.specs.Expressions.{outside}
-use Rattle.zf_schema.specs.SchemaLaws.{AreDefinedOnce, HasCompsOnce, HaveCompsOnce, GlobalsKept, NamesOnce}
-use Rattle.zf_term.proofs.SameNames.{swapped}
 use Rattle.zf_schema.proofs.Once.{schema_once, text_once}
 
 -- ---- what is defined stands behind what was

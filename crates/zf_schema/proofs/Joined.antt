@@ -1,13 +1,5 @@
 -- Conjunction and disjunction by name, and where components of the second schema stand.
-use Rattle.std.proofs.Common.{◌≡◌, ℕ, zero, suc, Bool, true, false, if◌then◌else◌, map, List, [], ◌∷◌, Option, Some, None, slice_get, refl, sym, ap, ◌∙◌, subst}
-use Rattle.std.proofs.lemmas.Option.{same_Some, none-some, slice_get-map}
-use Rattle.std.specs.Option.{option_map}
-use Rattle.std.specs.Str.{bytes_eq}
-use Rattle.zf_term.specs.Definitions.{Comp, sides, sets_of}
-use Rattle.zf_term.specs.FirstNamed.{or_else, later}
-use Rattle.zf_term.specs.Types.{Ty}
-use Rattle.zf_calculus.specs.Calculus.{comp, comp_named, HasTypeOf, Agrees, Agree, with_comps, place_or, place_of, new_place, sets_on, either_comps, AreOnce}
-use Rattle.zf_schema.specs.SchemaLaws.{type_found, type_named, sets_found, StandsAt, TypesJoined, SetsJoined, PlacesCarried, TypesOfEither, SetsOfEither}
+use Rattle.zf_schema.proofs.Prelude.{if◌then◌else◌, ◌∙◌, ◌∷◌, ◌≡◌, [], ap, Bool, false, List, map, None, Option, refl, slice_get, Some, subst, suc, sym, true, zero, ℕ, none-some, same_Some, slice_get-map, option_map, bytes_eq, Comp, sets_of, sides, later, or_else, Ty, Agree, Agrees, AreOnce, comp, comp_named, either_comps, HasTypeOf, new_place, place_of, place_or, sets_on, with_comps, PlacesCarried, sets_found, SetsJoined, SetsOfEither, StandsAt, type_found, type_named, TypesJoined, TypesOfEither}
 use Rattle.zf_schema.proofs.Named.{found, stands_there, joined_type, joined_sets, type_of_once}
 
 pub types_joined : TypesJoined

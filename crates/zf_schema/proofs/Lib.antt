@@ -1,3 +1,4 @@
+mod Prelude
 pub mod OneSchema
 pub mod NoSchemaOffence
 pub mod OneDefinition

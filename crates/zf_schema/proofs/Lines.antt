@@ -1,10 +1,9 @@
 -- Lines of a listing, one after another.
+use Rattle.zf_schema.proofs.Prelude.{Defined, definition_of, globals_of, choices_text, definition_text, listing}
 use Rattle.std.proofs.Common.{◌≡◌, ℕ, zero, suc, ◌+◌, ◌<◌, List, [], ◌∷◌, ◌++◌, length, map, take, get_or, flat_map, append_assoc, append-nil, sym, ap, ◌∙◌, add-one, arith, codes, Vec, Global}
 use Rattle.std.proofs.lemmas.List.Folds.{flat_map-map}
 use Rattle.zf_term.specs.declared.globals.Entry.{Entry}
 use Rattle.zf_term.specs.declared.globals.Globals.{Globals}
-use Rattle.zf_term.specs.Definitions.{Defined, definition_of, globals_of}
-use Rattle.zf_schema.specs.Listing.{choices_text, definition_text, listing}
 
 one_text : {A : Type 0} (f : A → List ℕ) (xs : List A) (i : ℕ) (x : A) → x ≡ get_or xs i x → i < length xs → flat_map f (take (suc i) xs) ≡ flat_map f (take i xs) ++ f x
 one_text f [] i x at l = absurd (omega arith)

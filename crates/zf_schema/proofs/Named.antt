@@ -1,15 +1,5 @@
 -- Components by name: their types and declared sets, before and after one more.
-use Rattle.std.proofs.Common.{◌≡◌, ℕ, zero, suc, ◌+◌, Bool, true, false, if◌then◌else◌, List, [], ◌∷◌, ◌++◌, Option, Some, None, slice_get, refl, sym, arith, ap, ◌∙◌, subst}
-use Rattle.std.proofs.lemmas.List.{append-nil, append_assoc}
-use Rattle.std.proofs.lemmas.Option.{same_Some, none-some}
-use Rattle.std.specs.Str.{bytes_eq}
-use Rattle.zf_term.specs.Definitions.{Comp}
-use Rattle.zf_term.specs.FirstNamed.{later, or_else, first_named}
-use Rattle.zf_term.specs.Types.{Ty}
-use Rattle.zf_term.proofs.Choices.{or_none, or_else_assoc}
-use Rattle.zf_term.proofs.SameNames.{is_same, is_itself, swapped}
-use Rattle.zf_calculus.specs.Calculus.{comp, comp_named, with_comp, with_comps, AreOnce}
-use Rattle.zf_schema.specs.SchemaLaws.{type_found, type_named, sets_found, sets_named}
+use Rattle.zf_schema.proofs.Prelude.{if◌then◌else◌, ◌++◌, ◌+◌, ◌∙◌, ◌∷◌, ◌≡◌, [], ap, arith, Bool, false, List, None, Option, refl, slice_get, Some, subst, suc, sym, true, zero, ℕ, append-nil, append_assoc, none-some, same_Some, bytes_eq, or_else_assoc, or_none, is_itself, is_same, swapped, Comp, first_named, later, or_else, Ty, AreOnce, comp, comp_named, with_comp, with_comps, sets_found, sets_named, type_found, type_named}
 
 -- ---- what is found
 

@@ -1,14 +1,5 @@
 -- A conjunction has the components of the first schema, then those of the second that are new.
-use Rattle.std.proofs.Common.{◌≡◌, ℕ, ◌+◌, Bool, true, false, if◌then◌else◌, List, [], ◌∷◌, ◌++◌, Option, Some, None, refl, sym, ap, ◌∙◌}
-use Rattle.std.proofs.lemmas.List.{append-nil, append_assoc}
-use Rattle.std.proofs.lemmas.Option.{none-some}
-use Rattle.std.specs.Str.{bytes_eq}
-use Rattle.zf_term.specs.Definitions.{Comp}
-use Rattle.zf_term.specs.FirstNamed.{later, or_else}
-use Rattle.zf_calculus.specs.Calculus.{comp, comp_named, with_comp, with_comps, AreOnce}
-use Rattle.zf_schema.specs.SchemaLaws.{signature, type_found, type_named, unless_found, new_comps, CompsJoined}
-use Rattle.zf_term.proofs.Choices.{or_none}
-use Rattle.zf_term.proofs.SameNames.{swapped}
+use Rattle.zf_schema.proofs.Prelude.{if◌then◌else◌, ◌++◌, ◌+◌, ◌∙◌, ◌∷◌, ◌≡◌, [], ap, Bool, false, List, None, Option, refl, Some, sym, true, ℕ, append-nil, append_assoc, none-some, bytes_eq, or_none, swapped, Comp, later, or_else, AreOnce, comp, comp_named, with_comp, with_comps, CompsJoined, new_comps, signature, type_found, type_named, unless_found}
 use Rattle.zf_schema.proofs.Named.{type_one_more}
 
 -- ---- whether one is found

@@ -1,25 +1,7 @@
 -- A schema expression that is a schema has no offence.
-use Rattle.std.proofs.Common.{ℕ, List, [], ◌∷◌, refl, sym, ◌∙◌, subst, inl, inr}
-use Rattle.std.proofs.lemmas.Option.{same_Some, none-some}
-use Rattle.zf_tree.specs.declared.tree.Name.{Name}
-use Rattle.zf_tree.specs.declared.tree.SchemaRef.{SchemaRef}
-use Rattle.zf_tree.specs.Trees.{Tree, DeclTree, vars, include, SchemaTree, schema_text, reference, both, either, schema_bracket}
+use Rattle.zf_schema.proofs.Prelude.{◌∙◌, ◌∷◌, [], inl, inr, List, refl, subst, sym, ℕ, none-some, same_Some, spelling, both, DeclTree, either, include, reference, schema_bracket, schema_text, SchemaTree, Tree, vars, Name, SchemaRef, DeclaredSet, Defined, plain, Schema, schema, ResolvedTree, conjuncts, Ty, TypeFaultKind, no_offence, one_sort, same_set, Offends, resolved, predicate, set_of, Includes, IsNext, Stops, AddsAll, Constrains, Declares, DeclaresOne, inside, IsSchema, IsText, outside, Refers, TakesAll, AnyByRecursion, CantRefer, IsNoSchema, name_line, OffendsAfter, OffendsAlone, OffendsConjuncts, OffendsDecls, OffendsNames, OffendsPredicates, OffendsRef, OffendsSchema, OffendsText, OneConstrainsTooMuch, OneOffendsAfter, StopsEither}
 use Rattle.zf_tree.specs.declared.operator.Need.TheVariants as need
-use Rattle.zf_term.specs.Definitions.{Schema, DeclaredSet, plain, Defined, schema}
-use Rattle.zf_term.specs.ResolvedTrees.{ResolvedTree}
-use Rattle.zf_term.specs.Shapes.{conjuncts}
-use Rattle.zf_term.specs.Types.{Ty}
-use Rattle.zf_term.specs.declared.fault.TypeFaultKind.{TypeFaultKind}
-use Rattle.zf_type.specs.Offences.{Offends}
-use Rattle.zf_type.specs.Resolving.{resolved}
-use Rattle.zf_type.specs.Rules.{set_of, predicate}
-use Rattle.zf_tree.specs.Names.{spelling}
-use Rattle.zf_type.proofs.NoOffence.{no_offence}
-use Rattle.zf_type.proofs.OneSort.{same_set, one_sort}
 use Rattle.zf_calculus.specs.Calculus.{comp, schema_of, nothing, Agrees, Agree, with_comp, conjoined, decorated, marked, MarkAgrees, disjoined}
-use Rattle.zf_schema.specs.Expressions.{outside, inside, Refers, AddsAll, DeclaresOne, Declares, TakesAll, Constrains, IsText, IsSchema}
-use Rattle.zf_calculus.specs.Steps.{IsNext, Includes, Stops}
-use Rattle.zf_schema.specs.SchemaOffences.{IsNoSchema, CantRefer, OffendsRef, OffendsNames, AnyByRecursion, OffendsAlone, OffendsAfter, OneOffendsAfter, OffendsDecls, OffendsConjuncts, OneConstrainsTooMuch, OffendsPredicates, OffendsText, StopsEither, OffendsSchema, name_line}
 use Rattle.zf_schema.proofs.Once.{taken_comps}
 use Rattle.zf_schema.proofs.Texts.{same_judged}
 use Rattle.zf_schema.proofs.OneSchema.{one_base, one_reference, one_added, one_declaration, all_declared, one_constraint, one_schema}

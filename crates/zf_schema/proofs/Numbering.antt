@@ -1,17 +1,8 @@
 -- The number of the next given set or free type, after what is defined.
-use Rattle.std.proofs.Common.{◌≡◌, ℕ, ◌+◌, ◌≤◌, List, [], ◌∷◌, length, map, Result, Ok, Err, OnOk, is_err, false, ap, arith, true≢false}
+use Rattle.zf_schema.proofs.Prelude.{◌+◌, ◌∷◌, ◌≡◌, ◌≤◌, [], ap, arith, Err, false, is_err, length, List, map, Ok, OnOk, Result, true≢false, ℕ, spelling, definition, free, given, ParagraphTree, Name, abbreviation, constructor, Defined, Definition, free_type, given_set, schema, has_elements, next_number, resolved, abbreviated, Constructs, DefinesParagraph, Gives, with_global, outside, elements}
 use Rattle.std.proofs.lemmas.Grind.{common_steps}
 use Rattle.std.proofs.lemmas.List.Sums.{sum_by-cons}
-use Rattle.zf_tree.specs.declared.tree.Name.{Name}
-use Rattle.zf_tree.specs.Trees.{ParagraphTree, given, free, definition}
 use Rattle.zf_tree.specs.Trees as text
-use Rattle.zf_term.specs.Definitions.{Defined, Definition, given_set, free_type, constructor, abbreviation, schema}
-use Rattle.zf_term.specs.Numbers.{has_elements, next_number}
-use Rattle.zf_type.specs.Resolving.{resolved}
-use Rattle.zf_tree.specs.Names.{spelling}
-use Rattle.zf_schema.specs.Checking.{with_global, abbreviated, Gives, Constructs, DefinesParagraph}
-use Rattle.zf_schema.specs.Expressions.{outside}
-use Rattle.zf_schema.specs.Runs.{elements}
 
 at_most_one : (d : Definition) → has_elements d ≤ 1
 at_most_one (given_set n) = omega arith

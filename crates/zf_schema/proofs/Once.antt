@@ -1,26 +1,9 @@
 -- What is made of schemas whose components have names of their own is such a schema.
-use Rattle.std.proofs.Common.{◌≡◌, ℕ, ◌+◌, Bool, true, false, if◌then◌else◌, List, [], ◌∷◌, ◌++◌, map, Option, Some, None, refl, sym, ap, ◌∙◌, subst}
-use Rattle.std.proofs.lemmas.List.{append_cancel_right}
-use Rattle.std.proofs.lemmas.Option.{same_Some, none-some}
+use Rattle.zf_schema.proofs.Prelude.{if◌then◌else◌, ◌++◌, ◌+◌, ◌∙◌, ◌∷◌, ◌≡◌, [], ap, Bool, false, List, map, None, Option, refl, Some, subst, sym, true, ℕ, append_cancel_right, none-some, same_Some, bytes_eq, spelling, both, DeclTree, either, include, reference, schema_bracket, schema_text, SchemaTree, Tree, vars, Name, SchemaRef, is_same, swapped, tests_alike, Comp, DeclaredSet, Defined, plain, Schema, schema, first_named, later, ResolvedTree, conjuncts, Ty, resolved, AreOnce, comp, comp_named, decorated, either_comps, marked, nothing, prime, with_comp, with_comps, AddsAll, Constrains, Declares, DeclaresOne, inside, IsSchema, IsText, outside, Refers, TakesAll, HasCompsOnce, HaveCompsOnce, type_found, type_named}
 use Rattle.std.proofs.lemmas.Slice.Eq.{bytes_eq-Decides}
 use Rattle.std.specs.List.{AllByRecursion}
-use Rattle.std.specs.Str.{bytes_eq}
-use Rattle.zf_tree.specs.declared.tree.Name.{Name}
 use Rattle.zf_tree.specs.declared.tree.RefMark.{RefMark}
 use Rattle.zf_tree.specs.declared.tree.RefMark.TheVariants.{Plain, Delta, Xi}
-use Rattle.zf_tree.specs.declared.tree.SchemaRef.{SchemaRef}
-use Rattle.zf_tree.specs.Trees.{Tree, DeclTree, vars, include, SchemaTree, schema_text, reference, both, either, schema_bracket}
-use Rattle.zf_term.specs.FirstNamed.{first_named, later}
-use Rattle.zf_term.specs.Definitions.{Comp, Schema, DeclaredSet, plain, Defined, schema}
-use Rattle.zf_term.specs.ResolvedTrees.{ResolvedTree}
-use Rattle.zf_term.specs.Shapes.{conjuncts}
-use Rattle.zf_term.specs.Types.{Ty}
-use Rattle.zf_type.specs.Resolving.{resolved}
-use Rattle.zf_tree.specs.Names.{spelling}
-use Rattle.zf_calculus.specs.Calculus.{nothing, comp, comp_named, with_comp, with_comps, decorated, marked, prime, either_comps, AreOnce}
-use Rattle.zf_schema.specs.Expressions.{outside, inside, Refers, AddsAll, DeclaresOne, Declares, TakesAll, Constrains, IsText, IsSchema}
-use Rattle.zf_schema.specs.SchemaLaws.{type_found, type_named, HasCompsOnce, HaveCompsOnce}
-use Rattle.zf_term.proofs.SameNames.{is_same, tests_alike, swapped}
 use Rattle.zf_calculus.proofs.Merging.{none_known}
 use Rattle.zf_schema.proofs.Named.{later_type, not_found}
 

@@ -1,10 +1,5 @@
 -- What a text defines is one list of globals, and how many faults it has is one number.
-use Rattle.std.proofs.Common.{◌≡◌, ◌+◌, List, [], ◌∷◌, length, sym, ap, ◌∙◌, subst, inl, inr}
-use Rattle.std.proofs.lemmas.List.{length-append}
-use Rattle.zf_tree.specs.Trees.{BoxTree}
-use Rattle.zf_term.specs.Definitions.{Defined}
-use Rattle.zf_type.specs.declared.fault.TypeFault.{TypeFault}
-use Rattle.zf_schema.specs.Checking.{Item, items, ChecksOne, Checks, IsChecked}
+use Rattle.zf_schema.proofs.Prelude.{◌+◌, ◌∙◌, ◌∷◌, ◌≡◌, [], ap, inl, inr, length, List, subst, sym, length-append, BoxTree, Defined, TypeFault, Checks, ChecksOne, IsChecked, Item, items}
 use Rattle.zf_schema.proofs.OneDefinition.{one_definition}
 
 pub one_step :

@@ -1,18 +1,8 @@
 -- A paragraph or box defines one thing at most, and one that is well typed has no offence.
-use Rattle.std.proofs.Common.{◌≡◌, ℕ, ◌+◌, List, [], ◌∷◌, map, sym, ap, ◌∙◌, inl, inr, refl}
-use Rattle.zf_tree.specs.declared.tree.Name.{Name}
-use Rattle.zf_tree.specs.Trees.{ParagraphTree, given, free, definition}
+use Rattle.zf_schema.proofs.Prelude.{◌+◌, ◌∙◌, ◌∷◌, ◌≡◌, [], ap, inl, inr, List, map, refl, sym, ℕ, spelling, definition, free, given, ParagraphTree, Name, constructor, Defined, free_type, given_set, schema, TypeFaultKind, no_offence, one_sort, same_typed, resolved, typed, outside}
 use Rattle.zf_tree.specs.Trees as text
 use Rattle.zf_tree.specs.declared.operator.Need.TheVariants as need
-use Rattle.zf_term.specs.Definitions.{Defined, given_set, free_type, constructor, schema}
-use Rattle.zf_term.specs.declared.fault.TypeFaultKind.{TypeFaultKind}
-use Rattle.zf_type.specs.Resolving.{resolved}
-use Rattle.zf_type.specs.Rules.{typed}
-use Rattle.zf_tree.specs.Names.{spelling}
-use Rattle.zf_type.proofs.NoOffence.{no_offence}
-use Rattle.zf_type.proofs.OneSort.{same_typed, one_sort}
 use Rattle.zf_schema.specs.Checking.{Item, a_paragraph, a_box, with_global, abbreviated, next_number, Gives, Constructs, DefinesParagraph, Defines, OffendsGiven, OffendsConstructors, OffendsParagraph, OffendsItem}
-use Rattle.zf_schema.specs.Expressions.{outside}
 use Rattle.zf_schema.proofs.NoSchemaOffence.{no_schema_offence, no_text_offence}
 use Rattle.zf_schema.proofs.OneSchema.{one_schema, one_text}
 

@@ -1,21 +1,5 @@
 -- A schema expression, and each of its parts, is one schema at most.
-use Rattle.std.proofs.Common.{◌≡◌, ℕ, List, [], ◌∷◌, Some, sym, ap, ◌∙◌, subst}
-use Rattle.std.proofs.lemmas.Option.{same_Some}
-use Rattle.zf_tree.specs.declared.tree.Name.{Name}
-use Rattle.zf_tree.specs.declared.tree.SchemaRef.{SchemaRef}
-use Rattle.zf_tree.specs.Trees.{Tree, DeclTree, vars, include, SchemaTree, schema_text, reference, both, either, schema_bracket}
-use Rattle.zf_term.specs.FirstNamed.{first_named}
-use Rattle.zf_term.specs.Definitions.{Comp, Schema, DeclaredSet, plain, Defined, schema}
-use Rattle.zf_term.specs.ResolvedTrees.{ResolvedTree}
-use Rattle.zf_term.specs.Shapes.{conjuncts}
-use Rattle.zf_term.specs.Types.{Ty}
-use Rattle.zf_type.specs.Resolving.{resolved}
-use Rattle.zf_type.specs.Rules.{set_of}
-use Rattle.zf_tree.specs.Names.{spelling}
-use Rattle.zf_type.proofs.OneSort.{same_set, one_sort}
-use Rattle.zf_calculus.specs.Calculus.{comp, nothing, conjoined, decorated, marked, disjoined}
-use Rattle.zf_schema.specs.Expressions.{outside, inside, Refers, AddsAll, DeclaresOne, Declares, TakesAll, ConstrainsOne, Constrains, IsText, IsSchema}
-use Rattle.zf_calculus.specs.Steps.{Adds, Includes}
+use Rattle.zf_schema.proofs.Prelude.{◌∙◌, ◌∷◌, ◌≡◌, [], ap, List, Some, subst, sym, ℕ, same_Some, spelling, both, DeclTree, either, include, reference, schema_bracket, schema_text, SchemaTree, Tree, vars, Name, SchemaRef, Comp, DeclaredSet, Defined, plain, Schema, schema, first_named, ResolvedTree, conjuncts, Ty, one_sort, same_set, resolved, set_of, comp, conjoined, decorated, disjoined, marked, nothing, Adds, Includes, AddsAll, Constrains, ConstrainsOne, Declares, DeclaresOne, inside, IsSchema, IsText, outside, Refers, TakesAll}
 
 -- ---- the base of a reference
 

@@ -1,18 +1,7 @@
 -- References to schemas, out of what is named and what it is marked to be.
-use Rattle.std.proofs.Common.{◌≡◌, inl, inr, ℕ, List, Some, refl, ap, ◌∙◌, subst}
-use Rattle.zf_tree.specs.declared.tree.SchemaRef.{SchemaRef}
-use Rattle.zf_term.specs.Definitions.{Schema, Defined, schema}
-use Rattle.zf_term.specs.FirstNamed.{first_named}
-use Rattle.zf_term.specs.declared.fault.TypeFaultKind.{TypeFaultKind}
-use Rattle.zf_type.specs.Refusals.{IfFault}
-use Rattle.zf_calculus.specs.Calculus.{decorated, marked, MarkAgrees}
+use Rattle.zf_schema.proofs.Prelude.{◌∙◌, ◌≡◌, ap, inl, inr, List, refl, Some, subst, ℕ, SchemaRef, Defined, Schema, schema, first_named, TypeFaultKind, IfFault, decorated, MarkAgrees, marked, IfStopped, IsNext, Stops, Refers, IsNamed, refusal_of, OffendsRef}
 use Rattle.zf_calculus.specs.declared.stop.Stop.{Stop}
 use Rattle.zf_calculus.specs.declared.stop.Stop.TheVariants.{Clash, TooLarge, OutOfMemory}
-use Rattle.zf_schema.specs.Expressions.{Refers}
-use Rattle.zf_calculus.specs.Steps.{IsNext, Stops}
-use Rattle.zf_calculus.specs.Growth.{IfStopped}
-use Rattle.zf_schema.specs.Refusing.{IsNamed, refusal_of}
-use Rattle.zf_schema.specs.SchemaOffences.{OffendsRef}
 use Rattle.zf_calculus.proofs.Decorating.{within_decorated, decorated_within}
 
 pub refused_by : (e : Stop) (l : ℕ) (P : TypeFaultKind → Type 0) (Q : TypeFaultKind → ℕ → Type 0) → ((k : TypeFaultKind) → P k → Q k l) → IfStopped e P → IfFault (refusal_of e l) Q

@@ -1,15 +1,5 @@
 -- Items that are checked, one after another.
-use Rattle.std.proofs.Common.{◌≡◌, List, [], ◌∷◌, ◌++◌, Result, Ok, Err, OnOk, OnErr, IfErr, refl, sym, ap, ◌∙◌, subst, inl, inr}
-use Rattle.std.proofs.lemmas.List.{append-nil, append_assoc}
-use Rattle.zf_tree.specs.Trees.{BoxTree}
-use Rattle.zf_term.specs.Definitions.{Defined, globals_of}
-use Rattle.zf_type.specs.declared.fault.Refusal.{Refusal}
-use Rattle.zf_type.specs.declared.fault.Refusal.TheVariants.{Fault, OutOfMemory}
-use Rattle.zf_type.specs.declared.fault.TypeFault.{TypeFault}
-use Rattle.zf_type.specs.Refusals.{IfFault}
-use Rattle.zf_schema.specs.declared.checker.Checked.{Checked}
-use Rattle.zf_schema.specs.Checking.{Item, items, Defines, OffendsItem, Checks, IsChecked}
-use Rattle.zf_schema.specs.Runs.{Notes, RunsOne, Runs}
+use Rattle.zf_schema.proofs.Prelude.{◌++◌, ◌∙◌, ◌∷◌, ◌≡◌, [], ap, Err, IfErr, inl, inr, List, Ok, OnErr, OnOk, refl, Result, subst, sym, append-nil, append_assoc, BoxTree, Defined, globals_of, IfFault, Refusal, Fault, OutOfMemory, TypeFault, Checks, Defines, IsChecked, Item, items, OffendsItem, Notes, Runs, RunsOne, Checked}
 use Rattle.zf_schema.proofs.OneDefinition.{no_item_offence}
 
 -- what an item defines, or its fault that is noted

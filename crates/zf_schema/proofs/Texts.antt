@@ -1,23 +1,6 @@
 -- The steps of a text: a walk over its parts, and what stops one.
-use Rattle.std.proofs.Common.{◌≡◌, inl, inr, ℕ, ◌+◌, ◌<◌, ◌≤◌, List, ◌∷◌, [], length, drop, get_or, refl, sym, subst}
-use Rattle.std.proofs.lemmas.List.{drop_all}
-use Rattle.zf_tree.specs.declared.tree.SchemaRef.{SchemaRef}
-use Rattle.zf_tree.specs.Trees.{Tree, DeclTree, include}
+use Rattle.zf_schema.proofs.Prelude.{◌+◌, ◌<◌, ◌∷◌, ◌≡◌, ◌≤◌, [], drop, get_or, inl, inr, length, List, refl, subst, sym, ℕ, drop_all, DeclTree, include, Tree, SchemaRef, dropped, Comp, Defined, Schema, conjuncts, TypeFaultKind, Offends, IfFault, resolved, Refusal, Fault, OutOfMemory, Agree, conjoined, Stops, ConstrainsOne, DeclaresOne, inside, Refers, CantConstrain, CantDeclare, over, AnyByRecursion, OffendsDecls, OffendsPredicates}
 use Rattle.zf_tree.specs.declared.operator.Need.TheVariants as need
-use Rattle.zf_term.specs.Definitions.{Comp, Schema, Defined}
-use Rattle.zf_term.specs.Shapes.{conjuncts}
-use Rattle.zf_type.specs.declared.fault.Refusal.{Refusal}
-use Rattle.zf_type.specs.declared.fault.Refusal.TheVariants.{Fault, OutOfMemory}
-use Rattle.zf_term.specs.declared.fault.TypeFaultKind.{TypeFaultKind}
-use Rattle.zf_type.specs.Offences.{Offends}
-use Rattle.zf_type.specs.Refusals.{IfFault}
-use Rattle.zf_type.specs.Resolving.{resolved}
-use Rattle.zf_calculus.specs.Calculus.{Agree, conjoined}
-use Rattle.zf_schema.specs.Expressions.{inside, Refers, DeclaresOne, ConstrainsOne}
-use Rattle.zf_schema.specs.Refusing.{CantConstrain, CantDeclare, over}
-use Rattle.zf_schema.specs.SchemaOffences.{AnyByRecursion, OffendsDecls, OffendsPredicates}
-use Rattle.zf_calculus.specs.Steps.{Stops}
-use Rattle.zf_term.proofs.Walk.{dropped}
 use Rattle.zf_schema.proofs.Once.{taken_comps}
 
 -- what follows of each kind and line follows of the fault

@@ -1,11 +1,5 @@
 -- What `\Xi` adds to `\Delta`.
-use Rattle.std.proofs.Common.{◌≡◌, ℕ, zero, suc, ◌+◌, List, [], ◌∷◌, ◌++◌, Some, slice_get, refl, ap, ◌∙◌, arith}
-use Rattle.std.proofs.lemmas.Option.{same_Some, none-some, slice_get-map}
-use Rattle.std.specs.Option.{option_map}
-use Rattle.zf_term.specs.Definitions.{Comp}
-use Rattle.zf_term.specs.Types.{Ty}
-use Rattle.zf_calculus.specs.Calculus.{comp, with_comps, new_place, decorated, prime, unchanged, all_unchanged}
-use Rattle.zf_schema.specs.SchemaLaws.{signature, StandsAt, XiEquates}
+use Rattle.zf_schema.proofs.Prelude.{◌++◌, ◌+◌, ◌∙◌, ◌∷◌, ◌≡◌, [], ap, arith, List, refl, slice_get, Some, suc, zero, ℕ, none-some, same_Some, slice_get-map, option_map, Comp, Ty, all_unchanged, comp, decorated, new_place, prime, unchanged, with_comps, signature, StandsAt, XiEquates}
 use Rattle.zf_schema.proofs.FirstComponents.{more}
 use Rattle.zf_schema.proofs.Fronts.{in_front}
 use Rattle.zf_schema.proofs.Joined.{carried_place}

@@ -1,17 +1,7 @@
 -- What a text defines is well typed after what was defined before.
-use Rattle.std.proofs.Common.{◌≡◌, inl, inr, ℕ, ◌+◌, List, [], ◌∷◌, ◌++◌, length, map, Some, slice_get, refl, sym, ap, ◌∙◌, subst, arith}
-use Rattle.std.proofs.lemmas.List.{append_assoc, length-append}
-use Rattle.std.proofs.lemmas.Option.{none-some}
-use Rattle.zf_tree.specs.declared.tree.Name.{Name}
-use Rattle.zf_tree.specs.Trees.{ParagraphTree, given, free, definition, schema_text}
+use Rattle.zf_schema.proofs.Prelude.{◌++◌, ◌+◌, ◌∙◌, ◌∷◌, ◌≡◌, [], ap, arith, inl, inr, length, List, map, refl, slice_get, Some, subst, sym, ℕ, append_assoc, length-append, none-some, spelling, definition, free, given, ParagraphTree, schema_text, Name, constructor, Defined, Definition, free_type, given_set, schema, resolved, TypeFault, outside, AreWellTyped, GlobalsWellTyped, IsMadeAfter}
 use Rattle.zf_tree.specs.Trees as text
-use Rattle.zf_term.specs.Definitions.{Defined, Definition, given_set, free_type, constructor, schema}
-use Rattle.zf_type.specs.declared.fault.TypeFault.{TypeFault}
-use Rattle.zf_type.specs.Resolving.{resolved}
-use Rattle.zf_tree.specs.Names.{spelling}
 use Rattle.zf_schema.specs.Checking.{Item, a_paragraph, a_box, items, with_global, abbreviated, next_number, Gives, Constructs, DefinesParagraph, Defines, ChecksOne, Checks}
-use Rattle.zf_schema.specs.Expressions.{outside}
-use Rattle.zf_schema.specs.WellTypedGlobals.{IsMadeAfter, AreWellTyped, GlobalsWellTyped}
 use Rattle.zf_schema.proofs.Fronts.{in_front, at_seam, before_or_last}
 
 none_yet : AreWellTyped []

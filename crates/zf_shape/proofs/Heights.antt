@@ -1,13 +1,6 @@
 -- The height of terms, and of each of several.
-use Rattle.std.proofs.Common.{◌≡◌, ℕ, zero, suc, ◌+◌, ◌<◌, ◌≤◌, ◌-◌, max, Bool, true, false, IsTrue, true≢false, take, Option, List, [], ◌∷◌, length, map, get_or, sym, ap, ◌∙◌, add-one, arith}
-use Rattle.zf_term.specs.declared.resolved.Resolved.{Resolved}
-use Rattle.zf_term.specs.declared.resolved.ResolvedLink.{ResolvedLink}
-use Rattle.zf_term.specs.declared.resolved.Range.{Range}
+use Rattle.zf_shape.proofs.Prelude.{◌+◌, ◌-◌, ◌<◌, ◌∙◌, ◌∷◌, ◌≡◌, ◌≤◌, [], add-one, ap, arith, Bool, false, get_or, IsTrue, length, List, map, max, Option, suc, sym, take, true, true≢false, zero, ℕ, Quantifier, link-seen, of-Builder, of-Quantified, range-seen, absent, binary, bracket, builder, chain, constant, empty_set, link, links, listed, no_links, no_ranges, no_terms, number, part_of, present, quantified, range, range_of, Ranges, ranges, reference, resolved_link_of, resolved_of, ResolvedLinks, ResolvedPart, ResolvedTree, ResolvedTrees, term, terms, unary, all_nodes, height, link_nodes, nodes, part_height, part_nodes, range_nodes, tallest, tallest_link, tallest_range, Range, Resolved, ResolvedLink}
 use Rattle.zf_term.specs.declared.resolved.Resolved.TheVariants as v
-use Rattle.zf_tree.specs.declared.symbol.Quantifier.{Quantifier}
-use Rattle.zf_term.specs.ResolvedTrees.{ResolvedTree, ResolvedTrees, ResolvedLinks, Ranges, ResolvedPart, reference, number, constant, empty_set, bracket, listed, builder, unary, binary, chain, quantified, no_terms, term, no_links, link, no_ranges, range, absent, present, terms, links, ranges, resolved_of, resolved_link_of, range_of, part_of}
-use Rattle.zf_term.specs.Shapes.{height, tallest, tallest_link, tallest_range, part_height, nodes, all_nodes, link_nodes, range_nodes, part_nodes}
-use Rattle.zf_term.proofs.ResolvedSeen.{of-Builder, of-Quantified, link-seen, range-seen}
 
 -- none is without height
 pub some_height : (t : ResolvedTree) → 1 ≤ height t

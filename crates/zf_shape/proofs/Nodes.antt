@@ -1,14 +1,7 @@
 -- The nodes of terms, and of the first of several.
-use Rattle.std.proofs.Common.{◌≡◌, ℕ, zero, suc, ◌+◌, ◌<◌, ◌≤◌, Option, Some, None, List, [], ◌∷◌, length, map, take, get_or, sym, ap, ◌∙◌, add-one, arith}
+use Rattle.zf_shape.proofs.Prelude.{◌+◌, ◌<◌, ◌∙◌, ◌∷◌, ◌≡◌, ◌≤◌, [], add-one, ap, arith, get_or, length, List, map, None, Option, Some, suc, sym, take, zero, ℕ, Quantifier, link-seen, of-Builder, of-Quantified, range-seen, binary, bracket, builder, chain, constant, empty_set, links, listed, number, part_of, quantified, range_of, ranges, reference, resolved_link_of, resolved_of, ResolvedTree, terms, unary, all_nodes, link_nodes, nodes, part_nodes, range_nodes, Range, Resolved, ResolvedLink}
 use Rattle.std.specs.Prelude.{MatchOption}
-use Rattle.zf_tree.specs.declared.symbol.Quantifier.{Quantifier}
 use Rattle.zf_term.specs.declared.resolved.Resolved.TheVariants as v
-use Rattle.zf_term.specs.declared.resolved.Resolved.{Resolved}
-use Rattle.zf_term.specs.declared.resolved.ResolvedLink.{ResolvedLink}
-use Rattle.zf_term.specs.declared.resolved.Range.{Range}
-use Rattle.zf_term.specs.ResolvedTrees.{ResolvedTree, reference, number, constant, empty_set, bracket, listed, builder, unary, binary, chain, quantified, terms, links, ranges, resolved_of, resolved_link_of, range_of, part_of}
-use Rattle.zf_term.specs.Shapes.{nodes, all_nodes, link_nodes, range_nodes, part_nodes}
-use Rattle.zf_term.proofs.ResolvedSeen.{of-Builder, of-Quantified, link-seen, range-seen}
 
 pub some_node : (t : ResolvedTree) → 1 ≤ nodes t
 some_node (reference l r) = omega arith

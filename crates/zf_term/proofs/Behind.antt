@@ -1,9 +1,6 @@
 -- The references of a term behind others are the others and then its own.
-use Rattle.std.proofs.Common.{◌≡◌, List, [], ◌++◌, refl, sym, ap, ◌∙◌, append_assoc}
+use Rattle.zf_term.proofs.Prelude.{◌++◌, ◌∙◌, ◌≡◌, [], ap, append_assoc, List, refl, sym, Reference, all_onto, links_onto, onto, part_onto, ranges_onto, absent, binary, bracket, builder, chain, constant, empty_set, link, listed, no_links, no_ranges, no_terms, number, present, quantified, range, Ranges, reference, ResolvedLinks, ResolvedPart, ResolvedTree, ResolvedTrees, term, unary}
 use Rattle.std.proofs.lemmas.List.{append-nil}
-use Rattle.zf_reference.specs.declared.reference.Reference.{Reference}
-use Rattle.zf_term.specs.References.{onto, all_onto, links_onto, ranges_onto, part_onto}
-use Rattle.zf_term.specs.ResolvedTrees.{ResolvedTree, reference, number, constant, empty_set, bracket, listed, builder, unary, binary, chain, quantified, ResolvedTrees, no_terms, term, ResolvedLinks, no_links, link, Ranges, no_ranges, range, ResolvedPart, absent, present}
 
 seam : (rs xs zs : List Reference) {xs' ys ys' : List Reference} → xs' ≡ rs ++ xs → ys' ≡ xs' ++ zs → ys ≡ xs ++ zs → ys' ≡ rs ++ ys
 seam rs xs zs one two three = two ∙ ap (λ us. us ++ zs) one ∙ append_assoc rs xs zs ∙ sym (ap (λ us. rs ++ us) three)

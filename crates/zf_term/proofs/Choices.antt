@@ -1,6 +1,5 @@
 -- One value, or else another.
-use Rattle.std.proofs.Common.{◌≡◌, Option, Some, None, refl}
-use Rattle.zf_term.specs.FirstNamed.{or_else}
+use Rattle.zf_term.proofs.Prelude.{◌≡◌, None, Option, refl, Some, or_else}
 
 pub or_none : {A : Type 0} (o : Option A) → or_else o None ≡ o
 or_none None = refl

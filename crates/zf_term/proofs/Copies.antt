@@ -1,17 +1,6 @@
 -- A term is known by how it is seen.
-use Rattle.std.proofs.Common.{◌≡◌, ℕ, Option, Some, None, List, [], ◌∷◌, map, refl, sym, ap, ◌∙◌, subst}
-use Rattle.zf_tree.specs.declared.symbol.Relation.{Relation}
-use Rattle.zf_reference.specs.declared.reference.Reference.TheVariants.{Component, Local, Global}
-use Rattle.zf_term.specs.declared.resolved.Resolved.{Resolved}
-use Rattle.zf_term.specs.declared.resolved.ResolvedLink.{ResolvedLink}
-use Rattle.zf_term.specs.declared.resolved.Range.{Range}
-use Rattle.zf_term.specs.declared.resolved.Resolved.TheOpen.{Resolved-F}
-use Rattle.zf_term.specs.declared.resolved.Resolved.TheFolds.{ind-Resolved, map-Resolved}
+use Rattle.zf_term.proofs.Prelude.{◌∙◌, ◌∷◌, ◌≡◌, [], ap, List, map, None, Option, refl, Some, subst, sym, ℕ, place_in, Component, Global, Local, Relation, absent, binary, bracket, builder, chain, constant, empty_set, link, links, listed, no_links, no_ranges, no_terms, number, present, quantified, range, Ranges, ranges, reference, ResolvedLinks, ResolvedPart, ResolvedTree, ResolvedTrees, term, terms, unary, range_of, resolved_link_of, resolved_of, all_moved, links_moved, moved, part_moved, ranges_moved, Range, Resolved, ind-Resolved, map-Resolved, Resolved-F, roll-Range, roll-Resolved, roll-ResolvedLink, ResolvedLink}
 use Rattle.zf_term.specs.declared.resolved.Resolved.TheVariants as v
-use Rattle.zf_term.specs.declared.resolved.Resolved.TheViews.{roll-Resolved, roll-Range, roll-ResolvedLink}
-use Rattle.zf_term.specs.ResolvedTrees.{ResolvedTree, reference, number, constant, empty_set, bracket, listed, builder, unary, binary, chain, quantified, ResolvedTrees, no_terms, term, ResolvedLinks, no_links, link, Ranges, no_ranges, range, ResolvedPart, absent, present, terms, links, ranges, resolved_of, resolved_link_of, range_of}
-use Rattle.zf_reference.specs.Numbering.{place_in}
-use Rattle.zf_term.specs.Shapes.{moved, all_moved, links_moved, ranges_moved, part_moved}
 use Rattle.zf_term.proofs.ResolvedSeen.{form_of, rolled, new_link, new_range, of-link, of-range}
 
 -- by an empty list nothing is numbered anew

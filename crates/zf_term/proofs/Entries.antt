@@ -1,15 +1,6 @@
 -- How the entries of a map are found by name.
-use Rattle.std.proofs.Common.{◌≡◌, ◌↔◌, ℕ, ◌+◌, cond, if◌then◌else◌, Bool, true, false, not, IsTrue, List, [], ◌∷◌, ◌++◌, map, Option, Some, None, MatchOption, is_some, Bor, refl, sym, ap, ◌∙◌, true≢false}
-use Rattle.std.proofs.lemmas.List.{map-append}
-use Rattle.std.proofs.lemmas.Option.{none-some, same_Some}
-use Rattle.std.proofs.lemmas.Slice.Eq.{bytes_eq-Decides}
-use Rattle.std.specs.Map.{lookup}
+use Rattle.zf_term.proofs.Prelude.{if◌then◌else◌, ◌++◌, ◌+◌, ◌↔◌, ◌∙◌, ◌∷◌, ◌≡◌, [], ap, Bool, Bor, cond, false, is_some, IsTrue, List, map, MatchOption, None, not, Option, refl, Some, sym, true, true≢false, ℕ, map-append, none-some, same_Some, bytes_eq-Decides, lookup, Vec, bytes_eq, Defined, definition_of, first_named, later, Entry}
 use Rattle.std.specs.Option.{option_copied}
-use Rattle.std.specs.Prelude.{Vec}
-use Rattle.std.specs.Str.{bytes_eq}
-use Rattle.zf_term.specs.declared.globals.Entry.{Entry}
-use Rattle.zf_term.specs.Definitions.{Defined, definition_of}
-use Rattle.zf_term.specs.FirstNamed.{first_named, later}
 use Rattle.zf_term.proofs.SameNames.{swapped}
 
 abbrev global : List ℕ → Entry → Defined

@@ -1,13 +1,5 @@
 -- What is found by its name in a list, and among the entries of a map.
-use Rattle.std.proofs.Common.{◌≡◌, ℕ, zero, suc, ◌+◌, ◌<◌, if◌then◌else◌, Bool, true, false, List, [], ◌∷◌, ◌++◌, length, map, take, get_or, Option, Some, None, refl, sym, ap, ◌∙◌, arith, add-one}
-use Rattle.std.specs.Str.{bytes_eq}
-use Rattle.std.specs.Map.{keys_of}
-use Rattle.std.specs.Prelude.{Vec}
-use Rattle.std.proofs.lemmas.List.{take_more}
-use Rattle.std.proofs.lemmas.Slice.Eq.{bytes_eq-Decides}
-use Rattle.zf_term.specs.FirstNamed.{first_named, later}
-use Rattle.zf_term.specs.declared.globals.Entry.{Entry}
-use Rattle.zf_term.specs.Definitions.{entry_of}
+use Rattle.zf_term.proofs.Prelude.{if◌then◌else◌, ◌++◌, ◌+◌, ◌<◌, ◌∙◌, ◌∷◌, ◌≡◌, [], add-one, ap, arith, Bool, false, get_or, length, List, map, None, Option, refl, Some, suc, sym, take, true, zero, ℕ, take_more, bytes_eq-Decides, keys_of, Vec, bytes_eq, entry_of, first_named, later, Entry}
 use Rattle.zf_term.proofs.SameNames.{swapped}
 
 nothing_before : {A : Type 0} (b : Bool) (p : ℕ × A) (o : Option (ℕ × A)) → (if b then Some p else later o) ≡ None → (b ≡ false) × (o ≡ None)

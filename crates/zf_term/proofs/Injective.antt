@@ -1,8 +1,5 @@
 -- Types that are seen as the same are equal.
-use Rattle.std.proofs.Common.{◌≡◌, List, [], ◌∷◌, map, refl, sym, ap, ◌∙◌}
-use Rattle.zf_term.specs.declared.ztype.ZType.{ZType, out-ZType, roll-ZType, roll-out-ZType, map-ZType, ind-ZType}
-use Rattle.zf_term.specs.declared.ztype.ZType.TheOpen.{ZType-F}
-use Rattle.zf_term.specs.Types.{types, type_of}
+use Rattle.zf_term.proofs.Prelude.{◌∙◌, ◌∷◌, ◌≡◌, [], ap, List, map, refl, sym, types, type_of, ind-ZType, map-ZType, out-ZType, roll-out-ZType, roll-ZType, ZType, ZType-F}
 use Rattle.zf_term.proofs.TypeForms.{form_of, seen_type}
 use Rattle.zf_term.proofs.TypesSeen.{rolled}
 

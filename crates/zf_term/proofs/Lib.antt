@@ -1,3 +1,4 @@
+mod Prelude
 pub mod SameNames
 pub mod Choices
 pub mod Entries

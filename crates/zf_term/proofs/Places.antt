@@ -1,15 +1,9 @@
 -- A list of the numbers of the first places, and all numbers where the others keep theirs.
-use Rattle.std.proofs.Common.{◌≡◌, ◌⊎◌, inl, inr, ℕ, zero, suc, ◌+◌, ◌<◌, ◌≤◌, max, List, [], ◌∷◌, ◌++◌, length, get_or, Option, Some, None, sym, ap, ◌∙◌, arith, length-append}
+use Rattle.zf_term.proofs.Prelude.{◌++◌, ◌+◌, ◌<◌, ◌∙◌, ◌∷◌, ◌≡◌, ◌≤◌, ◌⊎◌, [], ap, arith, get_or, inl, inr, length, length-append, List, max, None, Option, Some, suc, sym, zero, ℕ, get_or_append_left, place_in, conjunct_of, ResolvedTree, resolved_of, moved, numbering, Resolved}
 use Rattle.std.proofs.Math.Path.{fun_ext}
-use Rattle.std.proofs.lemmas.List.{get_or_append_left}
 use Rattle.std.proofs.Math.ListN.{get_or-eq_default}
 use Rattle.std.proofs.Math.Seq.{get_or-append_seam}
 use Rattle.zf_term.specs.declared.conjunct.Conjunct.{Conjunct}
-use Rattle.zf_term.specs.declared.resolved.Resolved.{Resolved}
-use Rattle.zf_term.specs.Definitions.{conjunct_of}
-use Rattle.zf_term.specs.ResolvedTrees.{ResolvedTree, resolved_of}
-use Rattle.zf_reference.specs.Numbering.{place_in}
-use Rattle.zf_term.specs.Shapes.{moved, numbering}
 use Rattle.zf_term.proofs.Copies.{stays}
 use Rattle.zf_term.proofs.Renumbered.{at_once}
 

@@ -1,10 +1,7 @@
 -- The texts of types, part by part.
-use Rattle.std.proofs.Common.{◌≡◌, ℕ, zero, suc, ◌+◌, ◌<◌, List, [], ◌∷◌, ◌++◌, length, map, take, get_or, Result, Ok, Err, OnOk, is_ok, if◌then◌else◌, append_assoc, append-nil, refl, sym, ap, ◌∙◌, add-one, arith, codes}
+use Rattle.zf_term.proofs.Prelude.{if◌then◌else◌, ◌++◌, ◌+◌, ◌<◌, ◌∙◌, ◌∷◌, ◌≡◌, [], add-one, ap, append-nil, append_assoc, arith, codes, Err, get_or, is_ok, length, List, map, Ok, OnOk, refl, Result, suc, sym, take, zero, ℕ, later_parts_text, parts_text, type_text, types, type_of, ZType}
 use Rattle.std.proofs.lemmas.Result.{on_ok_weaker}
-use Rattle.zf_term.specs.declared.ztype.ZType.{ZType}
 use Rattle.zf_term.specs.declared.ztype.ZType.TheVariants as v
-use Rattle.zf_term.specs.Types.{types, type_of}
-use Rattle.zf_term.specs.TypeTexts.{type_text, parts_text, later_parts_text}
 use Rattle.zf_term.proofs.TypesSeen.{of-Power, of-Product}
 
 pub of_power : (a t : ZType) → a ≡ v.Power t → type_text (type_of a) ≡ codes "\\power " ++ type_text (type_of t)

@@ -1,7 +1,5 @@
 -- What a term keeps when its components are numbered anew, and that it can be done at once.
-use Rattle.std.proofs.Common.{◌≡◌, ℕ, ◌+◌, refl, ap}
-use Rattle.zf_reference.specs.declared.reference.Reference.TheVariants.{Component, Local, Global}
-use Rattle.zf_term.specs.ResolvedTrees.{ResolvedTree, reference, number, constant, empty_set, bracket, listed, builder, unary, binary, chain, quantified, ResolvedTrees, no_terms, term, ResolvedLinks, no_links, link, Ranges, no_ranges, range, ResolvedPart, absent, present}
+use Rattle.zf_term.proofs.Prelude.{◌+◌, ◌≡◌, ap, refl, ℕ, Component, Global, Local, absent, binary, bracket, builder, chain, constant, empty_set, link, listed, no_links, no_ranges, no_terms, number, present, quantified, range, Ranges, reference, ResolvedLinks, ResolvedPart, ResolvedTree, ResolvedTrees, term, unary}
 use Rattle.zf_term.specs.Shapes.{all_moved, all_nodes, height, line_of, link_nodes, links_moved, moved, nodes, part_height, part_moved, part_nodes, range_nodes, ranges_moved, tallest, tallest_link, tallest_range}
 
 -- ---- one after the other

@@ -1,20 +1,11 @@
 -- What each form of resolved term is seen as.
-use Rattle.std.proofs.Common.{◌≡◌, ℕ, List, map, Option, Some, None, sym, ap, ◌∙◌}
+use Rattle.zf_term.proofs.Prelude.{◌∙◌, ◌≡◌, ap, List, map, None, Option, Some, sym, ℕ, Reference, Relation, binary, bracket, builder, chain, constant, empty_set, links, listed, number, part_of, quantified, range_step, ranges, reference, resolved_link_step, resolved_step, ResolvedTree, terms, unary, range_of, resolved_link_of, resolved_of, Range, Resolved, fold-roll-Range, fold-roll-Resolved, fold-roll-ResolvedLink, map-Resolved, Resolved-F, out-Resolved, roll-out-Resolved, roll-Range, roll-Resolved, roll-ResolvedLink, ResolvedLink}
 use Rattle.zf_tree.specs.declared.symbol.Constant.{Constant}
 use Rattle.zf_tree.specs.declared.symbol.Quantifier.{Quantifier}
-use Rattle.zf_tree.specs.declared.symbol.Relation.{Relation}
 use Rattle.zf_tree.specs.declared.operator.Listed.{Listed}
 use Rattle.zf_tree.specs.declared.operator.Operator.{Operator}
 use Rattle.zf_tree.specs.declared.operator.Unary.{Unary}
-use Rattle.zf_reference.specs.declared.reference.Reference.{Reference}
-use Rattle.zf_term.specs.declared.resolved.Resolved.{Resolved}
-use Rattle.zf_term.specs.declared.resolved.ResolvedLink.{ResolvedLink}
-use Rattle.zf_term.specs.declared.resolved.Range.{Range}
-use Rattle.zf_term.specs.declared.resolved.Resolved.TheOpen.{Resolved-F}
-use Rattle.zf_term.specs.declared.resolved.Resolved.TheViews.{out-Resolved, roll-out-Resolved, roll-Resolved, roll-ResolvedLink, roll-Range}
 use Rattle.zf_term.specs.declared.resolved.Resolved.TheVariants as v
-use Rattle.zf_term.specs.declared.resolved.Resolved.TheFolds.{fold-roll-Resolved, fold-roll-ResolvedLink, fold-roll-Range, map-Resolved}
-use Rattle.zf_term.specs.ResolvedTrees.{ResolvedTree, reference, number, constant, empty_set, bracket, listed, builder, unary, binary, chain, quantified, terms, links, ranges, part_of, resolved_of, resolved_link_of, range_of, resolved_step, resolved_link_step, range_step}
 
 abbrev pub new_link : Relation → Resolved → ResolvedLink
 new_link r t = roll-ResolvedLink (record { relation = r; right = t })

@@ -1,7 +1,5 @@
 -- When two names are the same.
-use Rattle.std.proofs.Common.{◌≡◌, ℕ, Bool, true, false, List, length, refl, sym, ap, true≢false}
-use Rattle.std.proofs.lemmas.Slice.Eq.{bytes_eq-Decides}
-use Rattle.std.specs.Str.{bytes_eq}
+use Rattle.zf_term.proofs.Prelude.{◌≡◌, ap, Bool, false, length, List, refl, sym, true, true≢false, ℕ, bytes_eq-Decides, bytes_eq}
 
 pub is_same : (x y : List ℕ) → bytes_eq x y ≡ true → x ≡ y
 is_same x y e = (bytes_eq-Decides x y).0 e

@@ -1,10 +1,7 @@
 -- Which form a type has, by what it is seen as.
-use Rattle.std.proofs.Common.{◌≡◌, ℕ, ◌+◌, ◌<◌, ◌≤◌, List, map, Option, Some, None, refl, sym, ap, ◌∙◌, ◌↔◌, ◌⊎◌, ⊎_elim, arith}
+use Rattle.zf_term.proofs.Prelude.{◌+◌, ◌<◌, ◌↔◌, ◌∙◌, ◌≡◌, ◌≤◌, ◌⊎◌, ap, arith, List, map, None, Option, refl, Some, sym, ℕ, ⊎_elim, basic, int, nodes, nodes_of_all, power, product, Ty, type_step, types, Tys, type_of, map-ZType, out-ZType, roll-out-ZType, roll-ZType, ZType, ZType-F}
 use Rattle.std.specs.Prelude.{MatchOption}
-use Rattle.zf_term.specs.declared.ztype.ZType.{ZType, out-ZType, roll-ZType, roll-out-ZType, map-ZType}
-use Rattle.zf_term.specs.declared.ztype.ZType.TheOpen.{ZType-F}
 use Rattle.zf_term.specs.declared.ztype.ZType.TheVariants as v
-use Rattle.zf_term.specs.Types.{Ty, int, basic, power, product, Tys, types, type_of, type_step, nodes, nodes_of_all}
 use Rattle.zf_term.proofs.TypesSeen.{rolled, of-Int, of-Basic, of-Power, of-Product}
 
 abbrev pub form_of : ZType-F ZType → Ty

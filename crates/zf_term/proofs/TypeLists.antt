@@ -1,8 +1,6 @@
 -- Lists of types, compared from the front and counted from the back.
-use Rattle.std.proofs.Common.{◌≡◌, ℕ, zero, suc, ◌+◌, ◌<◌, List, [], ◌∷◌, length, map, take, drop, get_or, refl, sym, ap, ◌∙◌, ◌↔◌, arith, add-one}
-use Rattle.zf_term.specs.declared.ztype.ZType.{ZType}
+use Rattle.zf_term.proofs.Prelude.{◌+◌, ◌<◌, ◌↔◌, ◌∙◌, ◌∷◌, ◌≡◌, [], add-one, ap, arith, drop, get_or, length, List, map, refl, suc, sym, take, zero, ℕ, no_types, nodes, nodes_of_all, pair, product, Ty, type, types, Tys, type_of, ZType}
 use Rattle.zf_term.specs.declared.ztype.ZType.TheVariants as v
-use Rattle.zf_term.specs.Types.{Ty, Tys, no_types, type, product, types, type_of, nodes, nodes_of_all, pair}
 use Rattle.zf_term.proofs.TypesSeen.{of-Product}
 
 abbrev list_of : Tys → List Ty

@@ -1,9 +1,6 @@
 -- What each form of type is seen as.
-use Rattle.std.proofs.Common.{◌≡◌, ℕ, List, map, sym, ap, ◌∙◌}
-use Rattle.zf_term.specs.declared.ztype.ZType.{ZType, roll-ZType, fold-roll-ZType, map-ZType}
-use Rattle.zf_term.specs.declared.ztype.ZType.TheOpen.{ZType-F}
+use Rattle.zf_term.proofs.Prelude.{◌∙◌, ◌≡◌, ap, List, map, sym, ℕ, basic, int, power, product, Ty, type_step, types, type_of, fold-roll-ZType, map-ZType, roll-ZType, ZType, ZType-F}
 use Rattle.zf_term.specs.declared.ztype.ZType.TheVariants as v
-use Rattle.zf_term.specs.Types.{Ty, int, basic, power, product, types, type_of, type_step}
 
 pub rolled : (x : ZType-F ZType) → type_of (roll-ZType x) ≡ type_step (map-ZType ZType Ty type_of x)
 unfolding type_of

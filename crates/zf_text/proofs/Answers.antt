@@ -1,20 +1,7 @@
 -- What an outcome of the rules says of the trees that read the tokens.
-use Rattle.std.proofs.Common.{◌≡◌, ℕ, ◌≤◌, max, List, [], Result, Ok, Err, map, inl, inr, sym, ◌∙◌, ap, arith, refl}
-use Rattle.std.specs.Prelude.{◌⊎◌}
-use Rattle.zf_scan.specs.declared.fault.TextFault.{TextFault}
-use Rattle.zf_scan.specs.declared.fault.TextFaultKind.{TextFaultKind}
+use Rattle.zf_text.proofs.Prelude.{◌∙◌, ◌≡◌, ◌≤◌, [], ap, arith, Err, inl, inr, List, map, max, Ok, refl, Result, sym, ℕ, ◌⊎◌, box_of, BoxTree, ZBox, IsCutInto, IsWantOfMemory, reduced, Symbol, TextFault, TextFaultKind, Token, read_all, height_limit, highest, Parses, ReadsLow, ReadsSpec, Refuses, RefusesSource, Reads, Fails, Refused, TooDeep}
 use Rattle.zf_scan.specs.declared.fault.TextFaultKind.TheVariants as fault
-use Rattle.zf_scan.specs.declared.token.Token.{Token}
 use Rattle.zf_tree.specs.declared.tree.Spec.{Spec}
-use Rattle.zf_tree.specs.declared.tree.ZBox.{ZBox}
-use Rattle.zf_text.specs.BoxReading.{read_all}
-use Rattle.zf_scan.specs.Cuts.{IsCutInto, IsWantOfMemory}
-use Rattle.zf_text.specs.Height.{highest, height_limit}
-use Rattle.zf_text.specs.Parsing.{ReadsLow, Refuses, Parses, ReadsSpec, RefusesSource}
-use Rattle.zf_text.specs.Reads.{Reads}
-use Rattle.zf_scan.specs.Separators.{Symbol, reduced}
-use Rattle.zf_text.specs.TermReading.{Refused, TooDeep, Fails}
-use Rattle.zf_tree.specs.Trees.{BoxTree, box_of}
 use Rattle.zf_text.proofs.BoxesRead.{AreRead, all_sound, all_answers}
 use Rattle.zf_text.proofs.TermSteps.{ok_pair}
 

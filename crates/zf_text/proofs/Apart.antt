@@ -1,18 +1,7 @@
 -- Where a box ends: behind its end, whatever follows.
-use Rattle.std.proofs.Common.{◌≡◌, ℕ, ◌≤◌, true, false, List, [], ◌∷◌, ◌++◌, length, refl, sym, ap, ◌∙◌, subst, arith}
-use Rattle.std.specs.Prelude.{if◌then◌else◌}
-use Rattle.std.proofs.lemmas.List.{append_cancel_right}
-use Rattle.zf_tree.specs.declared.symbol.Connective.TheVariants.{And, Or}
-use Rattle.zf_scan.specs.declared.token.Kind.{Kind}
+use Rattle.zf_text.proofs.Prelude.{◌++◌, ◌∙◌, ◌∷◌, ◌≡◌, ◌≤◌, [], ap, arith, false, length, List, refl, subst, sym, true, ℕ, append_cancel_right, if◌then◌else◌, BoxTree, DeclTree, include, ParagraphTree, reference, schema_box, SchemaTree, Tree, vars, zed, And, Or, Name, RefMark, Delta, Plain, Xi, ends_box, separator, Symbol, symbol, Kind, IsOn, Next, PartedBy, Spells, SpellsBox, SpellsDecl, SpellsMarked, SpellsName, SpellsParagraph, SpellsPredicates, SpellsSchema}
 use Rattle.zf_scan.specs.declared.token.Kind.TheVariants as k
-use Rattle.zf_tree.specs.declared.tree.Name.{Name}
-use Rattle.zf_tree.specs.declared.tree.RefMark.{RefMark}
-use Rattle.zf_tree.specs.declared.tree.RefMark.TheVariants.{Plain, Delta, Xi}
-use Rattle.zf_scan.specs.Boxes.{ends_box}
-use Rattle.zf_scan.specs.Separators.{Symbol, symbol, separator}
-use Rattle.zf_text.specs.Spelling.{Next, PartedBy, Spells, SpellsName, SpellsMarked, SpellsDecl, SpellsPredicates, IsOn, SpellsSchema, SpellsParagraph, SpellsBox}
 use Rattle.zf_tree.specs.Trees as shape
-use Rattle.zf_tree.specs.Trees.{Tree, DeclTree, vars, include, SchemaTree, reference, ParagraphTree, BoxTree, zed, schema_box}
 use Rattle.zf_text.proofs.SchemaExps.{schema_shorter}
 use Rattle.zf_text.proofs.TermsApart.{behind, Spelling, Own, starts_own, next_own, nothing_own, as_own, two, then_own, three, four, parted_own, name_own, names_own, term_own}
 

@@ -1,34 +1,11 @@
 -- A source that is read box by box: what the boxes so far are, and what one that is refused says of the whole.
-use Rattle.std.proofs.Common.{◌≡◌, ℕ, ◌≤◌, List, [], ◌∷◌, ◌++◌, length, map, Result, Ok, Err, Bool, true, false, refl, sym, ap, ◌∙◌, subst, inl, inr, arith, append_assoc}
-use Rattle.std.specs.Prelude.{◌⊎◌, ◌||◌, ◌==◌, if◌then◌else◌}
-use Rattle.std.specs.List.{AllByRecursion}
-use Rattle.std.proofs.lemmas.List.{append-nil, map-append}
-use Rattle.zf_scan.specs.declared.fault.TextFault.{TextFault}
-use Rattle.zf_scan.specs.declared.fault.TextFaultKind.{TextFaultKind}
+use Rattle.zf_text.proofs.Prelude.{◌++◌, ◌∙◌, ◌∷◌, ◌≡◌, ◌≤◌, [], ap, append_assoc, arith, Bool, Err, false, inl, inr, length, List, map, Ok, refl, Result, subst, sym, true, ℕ, append-nil, map-append, AllByRecursion, if◌then◌else◌, ◌==◌, ◌||◌, ◌⊎◌, box_of, BoxTree, ZBox, begins_box, BeginsBox, ends_box, Follows, IsBoxAtMost, IsCutOn, IsCutUpTo, IsWantOfMemory, token_at, canonical, closes, is_separator, opens, reduced, reduced_after, starts_closed, Symbol, symbol_of, TextFault, TextFaultKind, Placed, Kind, Token, AreSoFar, Later, ReadsBox, ReadsOneBox, ReadsUpTo, RefusesBox, SpellsUpTo, read_box, read_only, box_height, height_limit, highest, BoxIsLevelled, ReadsSource, Refuses, RefusesSource, first, is_end, Reads, SpellsBox, SpellsBoxes, Fails, Gives, Refused, TooDeep}
 use Rattle.zf_scan.specs.declared.fault.TextFaultKind.TheVariants as fault
-use Rattle.zf_scan.specs.declared.placed.Placed.{Placed}
 use Rattle.zf_scan.specs.declared.scan.Border.{Border}
-use Rattle.zf_scan.specs.declared.token.Kind.{Kind}
 use Rattle.zf_scan.specs.declared.token.Kind.TheVariants as k
-use Rattle.zf_scan.specs.declared.token.Token.{Token}
 use Rattle.zf_scan.specs.Boxes as tokens
-use Rattle.zf_scan.specs.Boxes.{IsCutUpTo, IsCutOn, IsBoxAtMost, BeginsBox, Follows, begins_box, ends_box}
-use Rattle.zf_scan.specs.Cuts.{IsWantOfMemory}
-use Rattle.zf_scan.specs.Placing.{token_at}
-use Rattle.zf_scan.specs.Separators.{Symbol, canonical, symbol_of, is_separator, opens, closes, starts_closed, reduced, reduced_after}
 use Rattle.zf_scan.proofs.Laws.{cut_whole}
 use Rattle.zf_scan.proofs.Texts.{eq_is}
-use Rattle.zf_tree.specs.declared.tree.ZBox.{ZBox}
-use Rattle.zf_text.specs.BoxByBox.{ReadsBox, RefusesBox, ReadsOneBox, SpellsUpTo, Later, AreSoFar, ReadsUpTo}
-use Rattle.zf_text.specs.BoxReading.{read_box, read_only}
-use Rattle.zf_text.specs.Height.{box_height, highest, height_limit}
-use Rattle.zf_text.specs.Levels.{BoxIsLevelled}
-use Rattle.zf_text.specs.Parsing.{ReadsSource, Refuses, RefusesSource}
-use Rattle.zf_text.specs.Reading.{first, is_end}
-use Rattle.zf_text.specs.Reads.{Reads}
-use Rattle.zf_text.specs.Spelling.{SpellsBox, SpellsBoxes}
-use Rattle.zf_text.specs.TermReading.{Refused, TooDeep, Fails, Gives}
-use Rattle.zf_tree.specs.Trees.{BoxTree, box_of}
 use Rattle.zf_text.proofs.Answers.{refuses_source}
 use Rattle.zf_text.proofs.Apart.{EndsOnce, box_before, box_apart}
 use Rattle.zf_text.proofs.BoxItems.{most_append}

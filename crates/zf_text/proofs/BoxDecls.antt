@@ -1,30 +1,12 @@
 -- Schema references, declarations and predicates: what is read is spelled, and what is spelled is read.
-use Rattle.std.proofs.Common.{◌≡◌, ℕ, ◌+◌, ◌≤◌, Bool, true, false, List, [], ◌∷◌, length, map, Ok, Err, inl, inr, refl, sym, ap, ◌∙◌, subst, arith}
-use Rattle.std.specs.Prelude.{◌||◌, nat_le, if◌then◌else◌}
-use Rattle.std.specs.List.{AllByRecursion}
-use Rattle.std.proofs.lemmas.Bool.{leb-true, leb-false}
-use Rattle.zf_scan.specs.declared.next.Mark.{Mark}
+use Rattle.zf_text.proofs.Prelude.{◌+◌, ◌∙◌, ◌∷◌, ◌≡◌, ◌≤◌, [], ap, arith, Bool, Err, false, inl, inr, length, List, map, Ok, refl, subst, sym, true, ℕ, leb-false, leb-true, AllByRecursion, if◌then◌else◌, ◌||◌, nat_le, decl_of, DeclTree, include, Tree, vars, tree_of, Name, RefMark, Delta, Plain, Xi, Term, is_mark, next_of, separator, Symbol, symbol, Mark, Kind, decl_height, height, most, atom_level, DeclIsLevelled, expression_level, IsAt, IsLevelled, quantifier_level, first, read_name, rest, parted, Next, PartedBy, Spells, SpellsDecl, SpellsMarked, SpellsName, SpellsNames, SpellsPredicates, SpellsRef, binds, expect, lift, Outcome, read_names, Refused, tall, TooDeep, read_term, Tall}
 use Rattle.zf_scan.specs.declared.next.Mark.TheVariants as mark
 use Rattle.zf_scan.specs.declared.next.Next as code
-use Rattle.zf_text.specs.declared.tall.Tall.{Tall}
-use Rattle.zf_scan.specs.declared.token.Kind.{Kind}
 use Rattle.zf_scan.specs.declared.token.Kind.TheVariants as k
 use Rattle.zf_tree.specs.declared.tree.Decl.{Decl}
 use Rattle.zf_tree.specs.declared.tree.Decl.TheVariants as decl
-use Rattle.zf_tree.specs.declared.tree.Name.{Name}
-use Rattle.zf_tree.specs.declared.tree.RefMark.{RefMark}
-use Rattle.zf_tree.specs.declared.tree.RefMark.TheVariants.{Plain, Delta, Xi}
 use Rattle.zf_tree.specs.declared.tree.SchemaRef.{SchemaRef}
-use Rattle.zf_tree.specs.declared.tree.Term.{Term}
 use Rattle.zf_text.specs.BoxReading.{items, new_ref, marked, ref_by, read_ref, variables, inclusion, is_declared, read_decl, read_decls, predicates}
-use Rattle.zf_text.specs.Height.{height, most, decl_height}
-use Rattle.zf_text.specs.Levels.{quantifier_level, expression_level, atom_level, IsAt, IsLevelled, DeclIsLevelled}
-use Rattle.zf_scan.specs.Choosing.{next_of, is_mark}
-use Rattle.zf_text.specs.Reading.{first, rest, read_name, parted}
-use Rattle.zf_scan.specs.Separators.{Symbol, symbol, separator}
-use Rattle.zf_text.specs.Spelling.{Next, PartedBy, SpellsName, SpellsNames, Spells, SpellsMarked, SpellsRef, SpellsDecl, SpellsPredicates}
-use Rattle.zf_text.specs.TermReading.{Outcome, Refused, TooDeep, lift, expect, read_names, binds, tall, read_term}
-use Rattle.zf_tree.specs.Trees.{Tree, DeclTree, vars, include, tree_of, decl_of}
 use Rattle.zf_text.proofs.Marks as marks
 use Rattle.zf_text.proofs.Marks.{kind_of, seen, passed, next_shorter}
 use Rattle.zf_text.proofs.NamesRead.{name_shorter, names_shorter}

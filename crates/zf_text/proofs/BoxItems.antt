@@ -1,18 +1,6 @@
 -- Outcomes that follow a tree, and items with their heights, parted by a symbol: what is read is spelled, and what is spelled is read.
-use Rattle.std.proofs.Common.{◌≡◌, ℕ, zero, suc, ◌≤◌, ◌<◌, max, Bool, true, false, List, [], ◌∷◌, ◌++◌, length, map, Ok, Err, inl, inr, refl, sym, ap, ◌∙◌, subst, arith, append_assoc}
-use Rattle.std.specs.Prelude.{◌⊎◌, if◌then◌else◌}
-use Rattle.std.specs.List.{AllByRecursion}
-use Rattle.std.proofs.lemmas.List.{append-nil, map-append}
-use Rattle.zf_scan.specs.declared.next.Mark.{Mark}
+use Rattle.zf_text.proofs.Prelude.{◌++◌, ◌<◌, ◌∙◌, ◌∷◌, ◌≡◌, ◌≤◌, [], ap, append_assoc, arith, Bool, Err, false, inl, inr, length, List, map, max, Ok, refl, subst, suc, sym, true, zero, ℕ, append-nil, map-append, AllByRecursion, if◌then◌else◌, ◌⊎◌, is_mark, next_of, Symbol, Mark, with_item, items, items_from, most, first, rest, Next, PartedBy, and_then, Outcome, Parser, tall, TooDeep, Tall}
 use Rattle.zf_scan.specs.declared.next.Next as code
-use Rattle.zf_text.specs.declared.tall.Tall.{Tall}
-use Rattle.zf_text.specs.BoxReading.{with_item, items_from, items}
-use Rattle.zf_text.specs.Height.{most}
-use Rattle.zf_scan.specs.Choosing.{next_of, is_mark}
-use Rattle.zf_text.specs.Reading.{first, rest}
-use Rattle.zf_scan.specs.Separators.{Symbol}
-use Rattle.zf_text.specs.Spelling.{Next, PartedBy}
-use Rattle.zf_text.specs.TermReading.{Outcome, Parser, TooDeep, and_then, tall}
 use Rattle.zf_text.proofs.Marks.{kind_of, marked, seen, passed, next_shorter}
 use Rattle.zf_text.proofs.TermSteps.{ok_pair, bind_ok, if_cases}
 

@@ -1,23 +1,8 @@
 -- Boxes and whole texts: what is read is spelled, and what is spelled is read.
-use Rattle.std.proofs.Common.{◌≡◌, ℕ, zero, suc, ◌+◌, ◌≤◌, max, true, false, List, [], ◌∷◌, ◌++◌, length, map, Ok, refl, sym, ap, ◌∙◌, subst, arith, append_assoc}
-use Rattle.std.specs.List.{AllByRecursion}
-use Rattle.std.proofs.lemmas.List.{append-nil, map-append}
+use Rattle.zf_text.proofs.Prelude.{◌++◌, ◌+◌, ◌∙◌, ◌∷◌, ◌≡◌, ◌≤◌, [], ap, append_assoc, arith, false, length, List, map, max, Ok, refl, subst, suc, sym, true, zero, ℕ, append-nil, map-append, AllByRecursion, box_of, BoxTree, decl_of, DeclTree, paragraph_of, ParagraphTree, schema_box, Tree, zed, tree_of, Name, ZBox, is_mark, next_of, separator, Symbol, symbol, Kind, SpellsUpTo, box_by, predicates, read_decls, read_paragraph, boxes_from, items, read_all, read_box, read_boxes, read_schema_box, read_zed, box_height, decl_height, height, highest, most, paragraph_height, BoxIsLevelled, ParagraphIsLevelled, quantifier_level, first, is_end, read_opening, Next, PartedBy, SpellsBox, SpellsBoxes, SpellsParagraph, binds, expect, lift, Outcome}
 use Rattle.zf_scan.specs.declared.next.Mark.TheVariants as mark
-use Rattle.zf_scan.specs.declared.token.Kind.{Kind}
 use Rattle.zf_scan.specs.declared.token.Kind.TheVariants as k
-use Rattle.zf_tree.specs.declared.tree.Name.{Name}
-use Rattle.zf_tree.specs.declared.tree.ZBox.{ZBox}
 use Rattle.zf_tree.specs.declared.tree.ZBox.TheVariants as zbox
-use Rattle.zf_text.specs.BoxByBox.{SpellsUpTo}
-use Rattle.zf_text.specs.BoxReading.{items, read_decls, predicates, read_paragraph, read_zed, read_schema_box, box_by, read_box, boxes_from, read_boxes, read_all}
-use Rattle.zf_text.specs.Height.{height, most, decl_height, paragraph_height, box_height, highest}
-use Rattle.zf_text.specs.Levels.{quantifier_level, ParagraphIsLevelled, BoxIsLevelled}
-use Rattle.zf_scan.specs.Choosing.{next_of, is_mark}
-use Rattle.zf_text.specs.Reading.{first, is_end, read_opening}
-use Rattle.zf_scan.specs.Separators.{Symbol, symbol, separator}
-use Rattle.zf_text.specs.Spelling.{Next, PartedBy, SpellsParagraph, SpellsBox, SpellsBoxes}
-use Rattle.zf_text.specs.TermReading.{Outcome, lift, expect, binds}
-use Rattle.zf_tree.specs.Trees.{Tree, DeclTree, ParagraphTree, BoxTree, zed, schema_box, decl_of, tree_of, paragraph_of, box_of}
 use Rattle.zf_text.proofs.Marks.{next_shorter}
 use Rattle.zf_text.proofs.NamesRead.{opening_ok}
 use Rattle.zf_text.proofs.TermSteps.{ok_pair, bind_ok, if_ok, if_cases, expect_ok, ok_expect}

@@ -1,14 +1,8 @@
 -- What a term is seen as, by its form, and what a link of a chain is.
-use Rattle.std.proofs.Common.{◌≡◌, List}
-use Rattle.zf_tree.specs.declared.symbol.Relation.{Relation}
-use Rattle.zf_tree.specs.declared.tree.Name.{Name}
-use Rattle.zf_tree.specs.declared.tree.Term.{Term}
-use Rattle.zf_tree.specs.declared.tree.Link.{Link}
-use Rattle.zf_tree.specs.declared.tree.VarDecl.{VarDecl}
+use Rattle.zf_text.proofs.Prelude.{◌≡◌, List, decl_step, link_step, Tree, tree_step, link_of, tree_of, var_decl_of, Relation, Link, Name, Term, VarDecl}
 use Rattle.zf_tree.specs.declared.tree.Term.TheOpen.{Term-F}
 use Rattle.zf_tree.specs.declared.tree.Term.TheViews.{out-Term}
 use Rattle.zf_tree.specs.declared.tree.Term.TheFolds.{fold_out-Term, fold_out-Link, map-Term}
-use Rattle.zf_tree.specs.Trees.{Tree, tree_of, link_of, var_decl_of, tree_step, link_step, decl_step}
 
 -- one level of a term, with a tree in the place of each term in it
 abbrev pub form_of : Term-F Term Link VarDecl → Tree

@@ -1,3 +1,4 @@
+mod Prelude
 pub mod Cursored
 pub mod Reducing
 pub mod Turns

@@ -1,16 +1,10 @@
 -- The symbols that a rule asks for by themselves.
-use Rattle.std.proofs.Common.{◌≡◌, ◌+◌, ◌≤◌, Bool, true, false, List, [], ◌∷◌, length, Option, Some, None, refl, ap, ◌∙◌, subst, arith}
-use Rattle.std.specs.Prelude.{if◌then◌else◌}
-use Rattle.zf_scan.specs.declared.next.Mark.{Mark}
+use Rattle.zf_text.proofs.Prelude.{◌+◌, ◌∙◌, ◌∷◌, ◌≡◌, ◌≤◌, [], ap, arith, Bool, false, length, List, None, Option, refl, Some, subst, true, if◌then◌else◌, is_mark, next_of, separator, Symbol, symbol, Mark, Kind, Next}
 use Rattle.zf_scan.specs.declared.next.Mark.TheVariants as mark
 use Rattle.zf_scan.specs.declared.next.Next.TheVariants as next
-use Rattle.zf_scan.specs.declared.token.Kind.{Kind}
 use Rattle.zf_scan.specs.declared.token.Kind.TheVariants as k
 use Rattle.zf_scan.specs.declared.token.Separator.{Separator}
 use Rattle.zf_scan.specs.declared.token.Separator.TheVariants.{Semicolon, NewLine, Also}
-use Rattle.zf_scan.specs.Separators.{Symbol, symbol, separator}
-use Rattle.zf_text.specs.Spelling.{Next}
-use Rattle.zf_scan.specs.Choosing.{next_of, is_mark}
 use Rattle.zf_text.specs.Reading.{first, rest, expect, Outcome, Parser, and_then}
 
 abbrev pub kind_of : Mark → Kind

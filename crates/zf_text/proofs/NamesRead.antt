@@ -1,17 +1,8 @@
 -- Names: what is read is spelled, and what is spelled is read.
-use Rattle.std.proofs.Common.{◌≡◌, ℕ, zero, suc, ◌+◌, ◌≤◌, false, List, [], ◌∷◌, ◌++◌, length, Some, None, Ok, refl, sym, ap, ◌∙◌, subst, arith, append_assoc}
-use Rattle.std.proofs.lemmas.List.{append-nil}
-use Rattle.zf_scan.specs.declared.next.Mark.{Mark}
+use Rattle.zf_text.proofs.Prelude.{◌++◌, ◌+◌, ◌∙◌, ◌∷◌, ◌≡◌, ◌≤◌, [], ap, append_assoc, arith, false, length, List, None, Ok, refl, Some, subst, suc, sym, zero, ℕ, append-nil, Name, is_mark, Symbol, symbol, Mark, Kind, first, name_by, opening_by, read_name, read_opening, rest, parted, parted_from, Next, PartedBy, SpellsName, SpellsNames, Starts, lift}
 use Rattle.zf_scan.specs.declared.next.Mark.TheVariants as mark
-use Rattle.zf_scan.specs.declared.token.Kind.{Kind}
 use Rattle.zf_scan.specs.declared.token.Kind.TheVariants as k
-use Rattle.zf_tree.specs.declared.tree.Name.{Name}
 use Rattle.zf_text.specs.Reading as basic
-use Rattle.zf_scan.specs.Choosing.{is_mark}
-use Rattle.zf_text.specs.Reading.{first, rest, name_by, read_name, opening_by, read_opening, parted, parted_from}
-use Rattle.zf_scan.specs.Separators.{Symbol, symbol}
-use Rattle.zf_text.specs.Spelling.{Next, Starts, PartedBy, SpellsName, SpellsNames}
-use Rattle.zf_text.specs.TermReading.{lift}
 use Rattle.zf_text.proofs.Marks.{kind_of, seen, passed, next_shorter}
 use Rattle.zf_text.proofs.Parted.{some_is, parted_sound}
 

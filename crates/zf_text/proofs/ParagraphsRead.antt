@@ -1,23 +1,11 @@
 -- Paragraphs: what is read is spelled, and what is spelled is read.
-use Rattle.std.proofs.Common.{◌≡◌, ℕ, ◌≤◌, true, false, List, [], ◌∷◌, length, Ok, refl, sym, ap, ◌∙◌, subst, arith}
+use Rattle.zf_text.proofs.Prelude.{◌∙◌, ◌∷◌, ◌≡◌, ◌≤◌, [], ap, arith, false, length, List, Ok, refl, subst, sym, true, ℕ, is_bare, paragraph_of, ParagraphTree, schema_of, SchemaTree, Tree, tree_of, Name, is_mark, next_of, Symbol, symbol, Kind, height, paragraph_height, schema_height, expression_level, IsAt, ParagraphIsLevelled, SchemaIsLevelled, first, read_name, rest, parted, Next, PartedBy, Spells, SpellsName, SpellsNames, SpellsParagraph, SpellsSchema, binds, expect, lift, Outcome, read_names, tall, read_term, Tall}
 use Rattle.zf_scan.specs.declared.next.Mark.TheVariants as mark
 use Rattle.zf_scan.specs.declared.next.Next as code
-use Rattle.zf_text.specs.declared.tall.Tall.{Tall}
-use Rattle.zf_scan.specs.declared.token.Kind.{Kind}
 use Rattle.zf_scan.specs.declared.token.Kind.TheVariants as k
-use Rattle.zf_tree.specs.declared.tree.Name.{Name}
 use Rattle.zf_tree.specs.declared.tree.Paragraph.{Paragraph}
 use Rattle.zf_tree.specs.declared.tree.Paragraph.TheVariants as paragraph
-use Rattle.zf_tree.specs.Names.{is_bare}
 use Rattle.zf_text.specs.BoxReading.{given, free_type, abbreviation, definition, named_by, named, read_schema, read_paragraph}
-use Rattle.zf_text.specs.Height.{height, schema_height, paragraph_height}
-use Rattle.zf_text.specs.Levels.{expression_level, IsAt, SchemaIsLevelled, ParagraphIsLevelled}
-use Rattle.zf_scan.specs.Choosing.{next_of, is_mark}
-use Rattle.zf_text.specs.Reading.{first, rest, read_name, parted}
-use Rattle.zf_scan.specs.Separators.{Symbol, symbol}
-use Rattle.zf_text.specs.Spelling.{Next, PartedBy, SpellsName, SpellsNames, Spells, SpellsSchema, SpellsParagraph}
-use Rattle.zf_text.specs.TermReading.{Outcome, lift, expect, read_names, binds, tall, read_term}
-use Rattle.zf_tree.specs.Trees.{Tree, SchemaTree, ParagraphTree, tree_of, schema_of, paragraph_of}
 use Rattle.zf_tree.specs.Trees as shape
 use Rattle.zf_text.proofs.Marks.{marked, seen, passed, next_shorter}
 use Rattle.zf_text.proofs.NamesRead.{name_shorter, names_shorter, parted_names_shorter, parted_names_ok, ok_name, ok_parted_names}

@@ -1,9 +1,5 @@
 -- Items parted by a symbol: what is read is spelled.
-use Rattle.std.proofs.Common.{◌≡◌, ℕ, zero, suc, Bool, true, false, List, [], ◌∷◌, ◌++◌, length, Some, None, refl, subst}
-use Rattle.zf_scan.specs.declared.next.Mark.{Mark}
-use Rattle.zf_scan.specs.Separators.{Symbol}
-use Rattle.zf_text.specs.Spelling.{Next, PartedBy}
-use Rattle.zf_scan.specs.Choosing.{is_mark}
+use Rattle.zf_text.proofs.Prelude.{◌++◌, ◌∷◌, ◌≡◌, [], Bool, false, length, List, None, refl, Some, subst, suc, true, zero, ℕ, is_mark, Symbol, Mark, Next, PartedBy}
 use Rattle.zf_text.specs.Reading.{Outcome, Parser, first, rest, parted, parted_from}
 use Rattle.zf_text.proofs.Marks.{kind_of, marked, bound}
 

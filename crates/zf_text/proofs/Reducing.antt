@@ -1,15 +1,8 @@
 -- What a turn of the reduction leaves, and that places don't matter to it.
-use Rattle.std.proofs.Common.{◌≡◌, ℕ, suc, ◌+◌, ◌≤◌, ◌<◌, List, [], ◌∷◌, ◌++◌, length, take, drop, map, Bool, true, false, refl, sym, ap, ◌∙◌, arith, append_assoc, add-one, get_or, drop-cons, subst, ◌-◌, length-drop}
-use Rattle.std.specs.Prelude.{◌||◌, if◌then◌else◌}
+use Rattle.zf_text.proofs.Prelude.{◌++◌, ◌+◌, ◌-◌, ◌<◌, ◌∙◌, ◌∷◌, ◌≡◌, ◌≤◌, [], add-one, ap, append_assoc, arith, Bool, drop, drop-cons, false, get_or, length, length-drop, List, map, refl, subst, suc, sym, take, true, ℕ, append-nil, drop-set-lt, length-set, map-append, take_more_set, if◌then◌else◌, ◌||◌, kind_at, symbol_at, token_at, unplaced, canonical, closes, is_separator, opens, reduced, reduced_after, separator, starts_closed, Symbol, symbol, Placed, Kind, Token}
 use Rattle.std.proofs.Math.ListN.{set}
 use Rattle.std.proofs.Math.Seq.{take-append_seam}
-use Rattle.std.proofs.lemmas.List.{take_more_set, drop-set-lt, map-append, length-set, append-nil}
-use Rattle.zf_scan.specs.declared.placed.Placed.{Placed}
-use Rattle.zf_scan.specs.declared.token.Kind.{Kind}
 use Rattle.zf_scan.specs.declared.token.Kind.TheVariants as k
-use Rattle.zf_scan.specs.declared.token.Token.{Token}
-use Rattle.zf_scan.specs.Placing.{kind_at, token_at, symbol_at, unplaced}
-use Rattle.zf_scan.specs.Separators.{Symbol, symbol, separator, canonical, is_separator, opens, closes, starts_closed, reduced, reduced_after}
 
 -- ---- without places
 

@@ -1,28 +1,9 @@
 -- Schema expressions: what is read is spelled, and what is spelled is read.
-use Rattle.std.proofs.Common.{◌≡◌, ℕ, zero, suc, ◌+◌, ◌-◌, ◌≤◌, ◌<◌, max, Bool, true, false, List, [], ◌∷◌, length, map, Ok, Err, inl, inr, refl, sym, ap, ◌∙◌, subst, arith}
-use Rattle.std.specs.Prelude.{◌⊎◌, nat_le, if◌then◌else◌}
-use Rattle.std.specs.List.{AllByRecursion}
-use Rattle.std.proofs.lemmas.Bool.{leb-true, leb-false}
+use Rattle.zf_text.proofs.Prelude.{◌+◌, ◌-◌, ◌<◌, ◌∙◌, ◌∷◌, ◌≡◌, ◌≤◌, [], ap, arith, Bool, Err, false, inl, inr, length, List, map, max, Ok, refl, subst, suc, sym, true, zero, ℕ, leb-false, leb-true, AllByRecursion, if◌then◌else◌, ◌⊎◌, nat_le, both, decl_of, DeclTree, either, reference, schema_of, SchemaTree, Tree, tree_of, And, Or, Name, RefMark, Delta, Plain, Xi, SchemaExp, is_mark, next_of, separator, Symbol, symbol, Kind, is_and, is_or, predicates, read_decls, read_ref, schema_part_by, conjunction, disjunction, joined, read_schema, schema_bracket, schema_part, schema_text, decl_height, height, most, schema_height, DeclIsLevelled, IsLevelled, quantifier_level, schema_level, SchemaIsLevelled, first, rest, IsOn, Next, PartedBy, SpellsDecl, SpellsMarked, SpellsPredicates, SpellsSchema, and_then, binds, expect, here, Outcome, Parser, tall, TooDeep, Tall}
 use Rattle.zf_scan.specs.declared.next.Mark.TheVariants as mark
 use Rattle.zf_scan.specs.declared.next.Next as code
-use Rattle.zf_text.specs.declared.tall.Tall.{Tall}
-use Rattle.zf_tree.specs.declared.symbol.Connective.TheVariants.{And, Or}
-use Rattle.zf_scan.specs.declared.token.Kind.{Kind}
 use Rattle.zf_scan.specs.declared.token.Kind.TheVariants as k
-use Rattle.zf_tree.specs.declared.tree.Name.{Name}
-use Rattle.zf_tree.specs.declared.tree.RefMark.{RefMark}
-use Rattle.zf_tree.specs.declared.tree.RefMark.TheVariants.{Plain, Delta, Xi}
-use Rattle.zf_tree.specs.declared.tree.SchemaExp.{SchemaExp}
 use Rattle.zf_tree.specs.declared.tree.SchemaExp.TheVariants as schema
-use Rattle.zf_text.specs.BoxReading.{read_ref, read_decls, predicates, is_and, is_or, joined, schema_bracket, schema_text, schema_part_by, schema_part, conjunction, disjunction, read_schema}
-use Rattle.zf_text.specs.Height.{height, most, decl_height, schema_height}
-use Rattle.zf_text.specs.Levels.{quantifier_level, IsLevelled, DeclIsLevelled, schema_level, SchemaIsLevelled}
-use Rattle.zf_scan.specs.Choosing.{next_of, is_mark}
-use Rattle.zf_text.specs.Reading.{first, rest}
-use Rattle.zf_scan.specs.Separators.{Symbol, symbol, separator}
-use Rattle.zf_text.specs.Spelling.{Next, PartedBy, SpellsMarked, SpellsDecl, SpellsPredicates, IsOn, SpellsSchema}
-use Rattle.zf_text.specs.TermReading.{Outcome, Parser, TooDeep, and_then, expect, here, binds, tall}
-use Rattle.zf_tree.specs.Trees.{Tree, DeclTree, SchemaTree, reference, both, either, tree_of, decl_of, schema_of}
 use Rattle.zf_tree.specs.Trees as shape
 use Rattle.zf_text.proofs.Marks.{passed, next_shorter}
 use Rattle.zf_text.proofs.TermSteps.{ok_pair, bind_ok, if_ok, if_cases, expect_ok, ok_expect}

@@ -1,14 +1,6 @@
 -- One turn of reading what goes on with a schema expression.
-use Rattle.std.proofs.Common.{◌≡◌, ℕ, suc, ◌+◌, ◌≤◌, ◌<◌, max, Bool, true, List, Ok, Err, refl}
-use Rattle.std.proofs.lemmas.Bool.{le-leb, lt-leb}
-use Rattle.zf_scan.specs.declared.fault.TextFaultKind.{TextFaultKind}
+use Rattle.zf_text.proofs.Prelude.{◌+◌, ◌<◌, ◌≡◌, ◌≤◌, Bool, Err, List, max, Ok, refl, suc, true, ℕ, le-leb, lt-leb, SchemaExp, Symbol, TextFaultKind, joined, first, rest, Fails, Parser, tall, TooDeep, Tall}
 use Rattle.zf_scan.specs.declared.next.Next as code
-use Rattle.zf_text.specs.declared.tall.Tall.{Tall}
-use Rattle.zf_tree.specs.declared.tree.SchemaExp.{SchemaExp}
-use Rattle.zf_text.specs.BoxReading.{joined}
-use Rattle.zf_text.specs.Reading.{first, rest}
-use Rattle.zf_scan.specs.Separators.{Symbol}
-use Rattle.zf_text.specs.TermReading.{Parser, TooDeep, Fails, tall}
 use Rattle.zf_text.proofs.TermTurns.{fails_then}
 
 module _ (joins : code.Next → Bool) (operand : Parser (Tall SchemaExp)) (make : SchemaExp → SchemaExp → SchemaExp) (highest n : ℕ) (x : Tall SchemaExp) (ts : List Symbol) (is : joins (first ts) ≡ true) where

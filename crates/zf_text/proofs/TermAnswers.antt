@@ -1,15 +1,5 @@
 -- What an outcome of reading a term says of the trees that are spelled there.
-use Rattle.std.proofs.Common.{◌≡◌, ℕ, ◌+◌, ◌≤◌, ◌<◌, List, Ok, Err, ⊎_elim, refl, sym, ap, ◌∙◌, arith}
-use Rattle.std.proofs.lemmas.Bool.{cases_lt}
-use Rattle.zf_text.specs.declared.tall.Tall.{Tall}
-use Rattle.zf_tree.specs.declared.tree.Term.{Term}
-use Rattle.zf_text.specs.Height.{height}
-use Rattle.zf_text.specs.Levels.{IsAt}
-use Rattle.zf_text.specs.Reading.{first}
-use Rattle.zf_scan.specs.Separators.{Symbol}
-use Rattle.zf_text.specs.Spelling.{Spells}
-use Rattle.zf_text.specs.TermReading.{Outcome, Refused, TooDeep, binds, tall, read_term}
-use Rattle.zf_tree.specs.Trees.{Tree, tree_of}
+use Rattle.zf_text.proofs.Prelude.{◌+◌, ◌<◌, ◌∙◌, ◌≡◌, ◌≤◌, ap, arith, Err, List, Ok, refl, sym, ℕ, ⊎_elim, cases_lt, Tree, tree_of, Term, Symbol, height, IsAt, first, Spells, binds, Outcome, Refused, tall, TooDeep, read_term, Tall}
 use Rattle.zf_text.proofs.TermComplete.{term_complete}
 use Rattle.zf_text.proofs.TermMonotone.{refused_again, read_again}
 use Rattle.zf_text.proofs.TermSound.{term_sound}

@@ -1,30 +1,11 @@
 -- What begins a term: what is read there is levelled, of the stated height, and spells the symbols.
-use Rattle.std.proofs.Common.{◌≡◌, ℕ, ◌+◌, ◌≤◌, ◌<◌, max, List, [], ◌∷◌, length, Ok, true, refl, sym, ap, ◌∙◌, subst, arith}
-use Rattle.std.specs.Prelude.{nat_le}
-use Rattle.std.proofs.lemmas.Bool.{leb-true}
-use Rattle.zf_scan.specs.declared.next.Mark.{Mark}
+use Rattle.zf_text.proofs.Prelude.{◌+◌, ◌<◌, ◌∙◌, ◌∷◌, ◌≡◌, ◌≤◌, [], ap, arith, length, List, max, Ok, refl, subst, sym, true, ℕ, leb-true, nat_le, ident_of, bracket, constant, line_of, named, numeral, part_of, Tree, Trees, tree_of, Listed, Unary, Minus, Quantifier, Name, Term, is_mark, next_of, Symbol, symbol, Mark, Kind, tallest, AreAt, AreEnough, AreTwo, atom_level, expression_level, level, listed_level, member_place, quantifier_level, unary_level, first, After, Before, Closes, IsFirstLine, Opens, parting, SpellsItems, Tall}
 use Rattle.zf_scan.specs.declared.next.Mark.TheVariants as mark
-use Rattle.zf_text.specs.declared.tall.Tall.{Tall}
-use Rattle.zf_tree.specs.declared.symbol.Infix.TheVariants.{Minus}
-use Rattle.zf_scan.specs.declared.token.Kind.{Kind}
 use Rattle.zf_scan.specs.declared.token.Kind.TheVariants as k
-use Rattle.zf_tree.specs.declared.symbol.Quantifier.{Quantifier}
-use Rattle.zf_tree.specs.Names.{ident_of}
-use Rattle.zf_tree.specs.declared.tree.Name.{Name}
-use Rattle.zf_tree.specs.declared.operator.Listed.{Listed}
 use Rattle.zf_tree.specs.declared.operator.Listed.TheVariants as list
 use Rattle.zf_tree.specs.declared.operator.Sign.TheVariants as sign
-use Rattle.zf_tree.specs.declared.operator.Unary.{Unary}
 use Rattle.zf_tree.specs.declared.operator.Unary.TheVariants as one
-use Rattle.zf_tree.specs.declared.tree.Term.{Term}
 use Rattle.zf_tree.specs.declared.tree.Term.TheVariants as term
-use Rattle.zf_text.specs.Height.{tallest}
-use Rattle.zf_text.specs.Levels.{quantifier_level, expression_level, atom_level, unary_level, listed_level, member_place, level, AreTwo, AreEnough, AreAt}
-use Rattle.zf_scan.specs.Choosing.{next_of, is_mark}
-use Rattle.zf_text.specs.Reading.{first}
-use Rattle.zf_scan.specs.Separators.{Symbol, symbol}
-use Rattle.zf_text.specs.Spelling.{SpellsItems, IsFirstLine, Before, After, Opens, parting, Closes}
-use Rattle.zf_tree.specs.Trees.{line_of, Tree, named, numeral, constant, bracket, Trees, tree_of, part_of}
 use Rattle.zf_text.specs.TermReading.{expect, begins_decl, parted_by, closed_by, tall, further, decls, part, listed, empty_set, round_by, round, display, builder, braced, prefixed, quantified, beginning_by, beginning}
 use Rattle.zf_tree.specs.Trees as shape
 use Rattle.zf_text.proofs.Marks.{kind_of}

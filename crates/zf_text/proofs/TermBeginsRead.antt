@@ -1,29 +1,13 @@
 -- What begins a term: what a levelled tree spells there is read.
-use Rattle.std.proofs.Common.{◌≡◌, ℕ, ◌+◌, ◌≤◌, List, ◌∷◌, Ok, true, false, refl, sym, ap, ◌∙◌, subst, arith}
-use Rattle.std.proofs.lemmas.Bool.{le-leb}
+use Rattle.zf_text.proofs.Prelude.{◌+◌, ◌∙◌, ◌∷◌, ◌≡◌, ◌≤◌, ap, arith, false, List, Ok, refl, subst, sym, true, ℕ, le-leb, ident_of, Listed, Sign, Unary, Minus, Quantifier, Name, Term, is_mark, next_of, Symbol, symbol, height, tallest, AreAt, expression_level, IsLevelled, level, member_place, negation_level, quantifier_level, sign_level, unary_level, first, Closes, parting, Spells, SpellsFurther, Tall}
 use Rattle.zf_scan.specs.declared.next.Mark.TheVariants as mark
-use Rattle.zf_text.specs.declared.tall.Tall.{Tall}
 use Rattle.zf_tree.specs.declared.symbol.Constant.{Constant}
 use Rattle.zf_scan.specs.declared.token.Kind.TheVariants as k
-use Rattle.zf_tree.specs.declared.symbol.Quantifier.{Quantifier}
-use Rattle.zf_tree.specs.Names.{ident_of}
-use Rattle.zf_tree.specs.declared.tree.Name.{Name}
-use Rattle.zf_tree.specs.declared.operator.Listed.{Listed}
 use Rattle.zf_tree.specs.declared.operator.Listed.TheVariants as list
-use Rattle.zf_tree.specs.declared.operator.Sign.{Sign}
 use Rattle.zf_tree.specs.declared.operator.Sign.TheVariants as sign
-use Rattle.zf_tree.specs.declared.symbol.Infix.TheVariants.{Minus}
-use Rattle.zf_tree.specs.declared.operator.Unary.{Unary}
 use Rattle.zf_tree.specs.declared.operator.Unary.TheVariants as one
 use Rattle.zf_text.specs.Reading as basic
-use Rattle.zf_tree.specs.declared.tree.Term.{Term}
 use Rattle.zf_tree.specs.declared.tree.Term.TheVariants as term
-use Rattle.zf_text.specs.Height.{height, tallest}
-use Rattle.zf_text.specs.Levels.{quantifier_level, negation_level, expression_level, sign_level, unary_level, member_place, level, IsLevelled, AreAt}
-use Rattle.zf_scan.specs.Choosing.{next_of, is_mark}
-use Rattle.zf_text.specs.Reading.{first}
-use Rattle.zf_scan.specs.Separators.{Symbol, symbol}
-use Rattle.zf_text.specs.Spelling.{Spells, SpellsFurther, parting, Closes}
 use Rattle.zf_text.specs.TermReading.{Outcome, binds, begins_decl, parted_by, closed_by, tall, listed, empty_set, round, display, builder, braced, prefixed, quantified, beginning}
 use Rattle.zf_tree.specs.Trees.{Tree, named, numeral, constant, bracket, Trees, tree, VarDecls, Perhaps, tree_of}
 use Rattle.zf_tree.specs.Trees as shape

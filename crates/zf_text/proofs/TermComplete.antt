@@ -1,27 +1,14 @@
 -- A levelled tree that spells symbols is what is read of them.
-use Rattle.std.proofs.Common.{◌≡◌, ℕ, zero, suc, ◌+◌, ◌-◌, ◌≤◌, ◌<◌, max, List, [], ◌∷◌, length, Ok, false, refl, sym, ap, ◌∙◌, subst, arith}
-use Rattle.std.proofs.lemmas.Bool.{le-leb}
+use Rattle.zf_text.proofs.Prelude.{◌+◌, ◌-◌, ◌<◌, ◌∙◌, ◌∷◌, ◌≡◌, ◌≤◌, [], ap, arith, false, length, List, max, Ok, refl, subst, suc, sym, zero, ℕ, le-leb, bracket, chain, constant, line_of, link, Links, named, no_links, no_trees, numeral, Tree, tree, tree_of, Operator, Relation, Term, is_mark, Symbol, symbol, height, tallest_link, chain_level, expression_level, IsLevelled, left_place, level, LinksAreLevelled, operator_level, postfix_level, product_level, right_place, first, Behind, Spells, SpellsLinks, Role, Tall}
 use Rattle.zf_scan.specs.declared.next.Mark.TheVariants as mark
 use Rattle.zf_scan.specs.declared.next.Next as code
 use Rattle.zf_scan.specs.declared.next.Next.TheVariants as next
-use Rattle.zf_text.specs.declared.levels.Role.{Role}
 use Rattle.zf_text.specs.declared.levels.Role.TheVariants as role
-use Rattle.zf_text.specs.declared.tall.Tall.{Tall}
 use Rattle.zf_scan.specs.declared.token.Kind.TheVariants as k
-use Rattle.zf_tree.specs.declared.symbol.Relation.{Relation}
 use Rattle.zf_tree.specs.declared.operator.Listed.TheVariants as list
-use Rattle.zf_tree.specs.declared.operator.Operator.{Operator}
 use Rattle.zf_tree.specs.declared.operator.Operator.TheVariants as operator
 use Rattle.zf_tree.specs.declared.operator.Unary.TheVariants as one
-use Rattle.zf_tree.specs.declared.tree.Term.{Term}
 use Rattle.zf_tree.specs.declared.tree.Term.TheVariants as term
-use Rattle.zf_text.specs.Height.{height, tallest_link}
-use Rattle.zf_text.specs.Levels.{chain_level, expression_level, product_level, postfix_level, operator_level, left_place, right_place, level, IsLevelled, LinksAreLevelled}
-use Rattle.zf_scan.specs.Choosing.{is_mark}
-use Rattle.zf_text.specs.Reading.{first}
-use Rattle.zf_scan.specs.Separators.{Symbol, symbol}
-use Rattle.zf_text.specs.Spelling.{Behind, Spells, SpellsLinks}
-use Rattle.zf_tree.specs.Trees.{line_of, Tree, named, numeral, constant, bracket, chain, no_trees, tree, Links, no_links, link, tree_of}
 use Rattle.zf_text.specs.TermReading.{Outcome, role_of, bound_by, binds, place_before, ended_by, tall, chain_links, beginning, binary, chained, longer_by, climb, whole, read_term}
 use Rattle.zf_tree.specs.Trees as shape
 use Rattle.zf_text.proofs.TermFirsts.{Joins, joined}

@@ -1,23 +1,13 @@
 -- The first symbols of trees, and what follows them.
-use Rattle.std.proofs.Common.{◌≡◌, ℕ, ◌+◌, ◌≤◌, List, ◌∷◌, length, Bool, true, false, refl, sym, ap, ◌∙◌, subst, arith}
+use Rattle.zf_text.proofs.Prelude.{◌+◌, ◌∙◌, ◌∷◌, ◌≡◌, ◌≤◌, ap, arith, Bool, false, length, List, refl, subst, sym, true, ℕ, Listed, Operator, Unary, is_mark, next_of, Symbol, symbol, Kind, IsLevelled, level, postfix_level, right_place, first, rest, After, Before, Behind, Between, Closes, Next, Opens, parting, Spells, SpellsDecls, SpellsFurther, SpellsItems, SpellsLinks, SpellsPart, Starts, begins_decl, beyond, role_of}
 use Rattle.zf_scan.specs.declared.next.Mark.TheVariants as mark
-use Rattle.zf_scan.specs.declared.token.Kind.{Kind}
 use Rattle.zf_scan.specs.declared.token.Kind.TheVariants as k
 use Rattle.zf_text.specs.declared.levels.Role.TheVariants as role
-use Rattle.zf_tree.specs.declared.operator.Listed.{Listed}
 use Rattle.zf_tree.specs.declared.operator.Listed.TheVariants as list
-use Rattle.zf_tree.specs.declared.operator.Operator.{Operator}
 use Rattle.zf_tree.specs.declared.operator.Operator.TheVariants as operator
 use Rattle.zf_tree.specs.declared.operator.Sign.TheVariants as sign
-use Rattle.zf_tree.specs.declared.operator.Unary.{Unary}
 use Rattle.zf_tree.specs.declared.operator.Unary.TheVariants as one
-use Rattle.zf_text.specs.Levels.{postfix_level, right_place, level, IsLevelled}
-use Rattle.zf_scan.specs.Choosing.{next_of, is_mark}
-use Rattle.zf_text.specs.Reading.{first, rest}
-use Rattle.zf_scan.specs.Separators.{Symbol, symbol}
-use Rattle.zf_text.specs.Spelling.{Starts, Next, Before, After, Between, Behind, Opens, parting, Closes, Spells, SpellsItems, SpellsFurther, SpellsLinks, SpellsDecls, SpellsPart}
 use Rattle.zf_tree.specs.Trees.{Tree, named, numeral, constant, empty_set, bracket, listed, builder, unary, binary, chain, quantified, Trees, no_trees, tree, Links, no_links, link, VarDecls, no_decls, var_decl, Perhaps, absent, present}
-use Rattle.zf_text.specs.TermReading.{role_of, begins_decl, beyond}
 use Rattle.zf_text.proofs.Marks.{next_shorter}
 use Rattle.zf_text.proofs.NamesRead.{name_shorter, names_shorter}
 use Rattle.zf_text.proofs.TermTables.{sign_level_le, stands}

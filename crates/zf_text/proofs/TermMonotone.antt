@@ -1,31 +1,13 @@
 -- With more height allowed, an outcome other than TooDeep stays.
-use Rattle.std.proofs.Common.{◌≡◌, ℕ, zero, suc, ◌+◌, ◌≤◌, List, [], ◌∷◌, length, Ok, Err, Bool, true, false, refl, sym, ap, ◌∙◌, subst, arith, ⊎_elim, inl, inr}
-use Rattle.std.specs.Prelude.{◌⊎◌, nat_le, if◌then◌else◌}
-use Rattle.std.proofs.lemmas.Bool.{leb-true, le-leb}
-use Rattle.zf_scan.specs.declared.next.Mark.{Mark}
+use Rattle.zf_text.proofs.Prelude.{◌+◌, ◌∙◌, ◌∷◌, ◌≡◌, ◌≤◌, [], ap, arith, Bool, Err, false, inl, inr, length, List, Ok, refl, subst, suc, sym, true, zero, ℕ, ⊎_elim, le-leb, leb-true, if◌then◌else◌, ◌⊎◌, nat_le, tree_of, Listed, Operator, Unary, Minus, Quantifier, Link, Term, VarDecl, is_mark, Symbol, Mark, expression_level, level, member_place, quantifier_level, right_place, unary_level, first, rest, Role, Tall}
 use Rattle.zf_scan.specs.declared.next.Mark.TheVariants as mark
 use Rattle.zf_scan.specs.declared.next.Next.{Next}
 use Rattle.zf_scan.specs.declared.next.Next.TheVariants as next
-use Rattle.zf_text.specs.declared.tall.Tall.{Tall}
-use Rattle.zf_tree.specs.declared.symbol.Infix.TheVariants.{Minus}
-use Rattle.zf_tree.specs.declared.symbol.Quantifier.{Quantifier}
-use Rattle.zf_tree.specs.declared.tree.Link.{Link}
-use Rattle.zf_text.specs.declared.levels.Role.{Role}
 use Rattle.zf_text.specs.declared.levels.Role.TheVariants as role
-use Rattle.zf_tree.specs.declared.operator.Listed.{Listed}
 use Rattle.zf_tree.specs.declared.operator.Listed.TheVariants as list
-use Rattle.zf_tree.specs.declared.operator.Operator.{Operator}
 use Rattle.zf_tree.specs.declared.operator.Sign.TheVariants as sign
-use Rattle.zf_tree.specs.declared.operator.Unary.{Unary}
 use Rattle.zf_tree.specs.declared.operator.Unary.TheVariants as one
-use Rattle.zf_tree.specs.declared.tree.Term.{Term}
-use Rattle.zf_tree.specs.declared.tree.VarDecl.{VarDecl}
-use Rattle.zf_text.specs.Levels.{quantifier_level, expression_level, unary_level, right_place, member_place, level}
-use Rattle.zf_scan.specs.Choosing.{is_mark}
-use Rattle.zf_text.specs.Reading.{first, rest}
-use Rattle.zf_scan.specs.Separators.{Symbol}
 use Rattle.zf_text.specs.TermReading.{Outcome, Parser, Refused, TooDeep, and_then, expect, read_names, here, role_of, binds, place_before, begins_decl, beyond, parted_by, tall, with_term, with_link, with_decl, further_from, further, links_by, links_from, chain_links, read_decl, decls_from, decls, part, listed, empty_set, round_by, round, display, builder, braced, prefixed, quantified, beginning_by, beginning, binary, chained, longer_by, climb, whole, read_term}
-use Rattle.zf_tree.specs.Trees.{tree_of}
 
 abbrev pub Under : {A : Type 0} → Outcome A → Outcome A → Type 0
 Under r s = (r ≡ Err TooDeep) ⊎ (r ≡ s)

@@ -1,23 +1,7 @@
 -- Lists of parts: what is read is levelled, of the stated height, and spells the symbols.
-use Rattle.std.proofs.Common.{◌≡◌, ℕ, zero, suc, ◌≤◌, ◌<◌, max, List, [], ◌∷◌, ◌++◌, length, map, Option, Some, None, Ok, true, refl, sym, ap, ◌∙◌, subst, arith, append_assoc}
-use Rattle.std.proofs.lemmas.List.{append-nil}
-use Rattle.zf_scan.specs.declared.next.Mark.{Mark}
+use Rattle.zf_text.proofs.Prelude.{◌++◌, ◌<◌, ◌∙◌, ◌∷◌, ◌≡◌, ◌≤◌, [], ap, append_assoc, arith, length, List, map, max, None, Ok, Option, refl, Some, subst, suc, sym, true, zero, ℕ, append-nil, Relation, Link, Name, Term, VarDecl, is_mark, next_of, separator, Symbol, symbol, Mark, Kind, height, part_height, tallest, tallest_link, tallest_set, AreAt, atom_level, DeclsAreLevelled, expression_level, IsLevelled, level, LinksAreLevelled, PartIsAt, first, rest, Next, Spells, SpellsDecls, SpellsFurther, SpellsLinks, SpellsNames, SpellsPart, expect, links_by, Outcome, Parser, read_names, tall, with_decl, with_link, with_term, decls, decls_from, further_from, links_from, part, read_decl, Tall}
 use Rattle.zf_scan.specs.declared.next.Mark.TheVariants as mark
-use Rattle.zf_text.specs.declared.tall.Tall.{Tall}
-use Rattle.zf_scan.specs.declared.token.Kind.{Kind}
 use Rattle.zf_scan.specs.declared.token.Kind.TheVariants as k
-use Rattle.zf_tree.specs.declared.symbol.Relation.{Relation}
-use Rattle.zf_tree.specs.declared.tree.Link.{Link}
-use Rattle.zf_tree.specs.declared.tree.Name.{Name}
-use Rattle.zf_tree.specs.declared.tree.Term.{Term}
-use Rattle.zf_tree.specs.declared.tree.VarDecl.{VarDecl}
-use Rattle.zf_text.specs.Height.{height, tallest, tallest_link, tallest_set, part_height}
-use Rattle.zf_text.specs.Levels.{expression_level, atom_level, level, IsLevelled, AreAt, LinksAreLevelled, DeclsAreLevelled, PartIsAt}
-use Rattle.zf_scan.specs.Choosing.{next_of, is_mark}
-use Rattle.zf_text.specs.Reading.{first, rest}
-use Rattle.zf_scan.specs.Separators.{Symbol, symbol, separator}
-use Rattle.zf_text.specs.Spelling.{Next, SpellsNames, Spells, SpellsFurther, SpellsLinks, SpellsDecls, SpellsPart}
-use Rattle.zf_text.specs.TermReading.{Outcome, Parser, expect, read_names, tall, with_term, with_link, with_decl, further_from, links_by, links_from, read_decl, decls_from, decls, part}
 use Rattle.zf_tree.specs.Trees.{new_link, new_decl, Tree, Trees, Links, no_links, link, VarDecls, no_decls, var_decl, trees, links, var_decls, tree_of, link_of, var_decl_of}
 use Rattle.zf_text.proofs.Marks.{kind_of, marked}
 use Rattle.zf_tree.proofs.TermSeen as of

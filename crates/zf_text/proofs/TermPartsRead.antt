@@ -1,24 +1,8 @@
 -- Lists of parts: what levelled trees spell is read.
-use Rattle.std.proofs.Common.{◌≡◌, ℕ, zero, suc, ◌≤◌, ◌<◌, max, List, [], ◌∷◌, ◌++◌, length, Option, Some, None, Ok, Bool, true, false, refl, sym, ap, ◌∙◌, subst, arith, append_assoc}
-use Rattle.std.proofs.lemmas.List.{append-nil}
-use Rattle.zf_scan.specs.declared.next.Mark.{Mark}
+use Rattle.zf_text.proofs.Prelude.{◌++◌, ◌<◌, ◌∙◌, ◌∷◌, ◌≡◌, ◌≤◌, [], ap, append_assoc, arith, Bool, false, length, List, max, None, Ok, Option, refl, Some, subst, suc, sym, true, zero, ℕ, append-nil, Relation, Link, Name, Term, VarDecl, is_mark, next_of, Symbol, Mark, Kind, height, part_height, tallest, tallest_link, tallest_set, AreAt, chain_level, DeclsAreLevelled, expression_level, IsLevelled, level, LinksAreLevelled, PartIsAt, first, rest, Next, Spells, SpellsDecls, SpellsFurther, SpellsLinks, SpellsNames, SpellsPart, begins_decl, binds, links_by, Outcome, Parser, tall, with_decl, with_link, with_term, decls, decls_from, further, further_from, links_from, part, read_decl, Tall}
 use Rattle.zf_scan.specs.declared.next.Mark.TheVariants as mark
 use Rattle.zf_scan.specs.declared.next.Next as code
-use Rattle.zf_text.specs.declared.tall.Tall.{Tall}
-use Rattle.zf_scan.specs.declared.token.Kind.{Kind}
 use Rattle.zf_scan.specs.declared.token.Kind.TheVariants as k
-use Rattle.zf_tree.specs.declared.symbol.Relation.{Relation}
-use Rattle.zf_tree.specs.declared.tree.Link.{Link}
-use Rattle.zf_tree.specs.declared.tree.Name.{Name}
-use Rattle.zf_tree.specs.declared.tree.Term.{Term}
-use Rattle.zf_tree.specs.declared.tree.VarDecl.{VarDecl}
-use Rattle.zf_text.specs.Height.{height, tallest, tallest_link, tallest_set, part_height}
-use Rattle.zf_text.specs.Levels.{chain_level, expression_level, level, IsLevelled, AreAt, LinksAreLevelled, DeclsAreLevelled, PartIsAt}
-use Rattle.zf_scan.specs.Choosing.{next_of, is_mark}
-use Rattle.zf_text.specs.Reading.{first, rest}
-use Rattle.zf_scan.specs.Separators.{Symbol}
-use Rattle.zf_text.specs.Spelling.{Next, SpellsNames, Spells, SpellsFurther, SpellsLinks, SpellsDecls, SpellsPart}
-use Rattle.zf_text.specs.TermReading.{Outcome, Parser, binds, begins_decl, tall, with_term, with_link, with_decl, further_from, further, links_by, links_from, read_decl, decls_from, decls, part}
 use Rattle.zf_tree.specs.Trees.{new_link, new_decl, Tree, named, Trees, no_trees, tree, Links, no_links, link, VarDecls, no_decls, var_decl, Perhaps, absent, present, tree_of}
 use Rattle.zf_text.proofs.Marks.{kind_of, seen, passed, next_shorter}
 use Rattle.zf_text.proofs.NamesRead.{names_shorter}

@@ -1,26 +1,11 @@
 -- What is read is a levelled tree of the stated height that spells the symbols.
-use Rattle.std.proofs.Common.{◌≡◌, ℕ, zero, suc, ◌+◌, ◌≤◌, ◌<◌, max, List, [], ◌∷◌, length, Ok, refl, sym, ap, ◌∙◌, subst, arith}
-use Rattle.std.specs.Prelude.{nat_le}
-use Rattle.std.proofs.lemmas.Bool.{leb-true, leb-false}
+use Rattle.zf_text.proofs.Prelude.{◌+◌, ◌<◌, ◌∙◌, ◌∷◌, ◌≡◌, ◌≤◌, [], ap, arith, length, List, max, Ok, refl, subst, suc, sym, zero, ℕ, leb-false, leb-true, nat_le, chain, line_of, new_link, link_of, tree_of, Operator, Relation, Link, Term, next_of, Symbol, symbol, Kind, tallest_link, atom_level, chain_level, expression_level, left_place, level, LinksAreLevelled, operator_level, postfix_level, product_level, quantifier_level, right_place, first, Behind, Between, SpellsLinks, Tall}
 use Rattle.zf_scan.specs.declared.next.Mark.TheVariants as mark
-use Rattle.zf_text.specs.declared.tall.Tall.{Tall}
-use Rattle.zf_scan.specs.declared.token.Kind.{Kind}
 use Rattle.zf_scan.specs.declared.token.Kind.TheVariants as k
-use Rattle.zf_tree.specs.declared.symbol.Relation.{Relation}
 use Rattle.zf_tree.specs.declared.operator.Listed.TheVariants as list
-use Rattle.zf_tree.specs.declared.operator.Operator.{Operator}
 use Rattle.zf_tree.specs.declared.operator.Operator.TheVariants as operator
 use Rattle.zf_tree.specs.declared.operator.Unary.TheVariants as one
-use Rattle.zf_tree.specs.declared.tree.Link.{Link}
-use Rattle.zf_tree.specs.declared.tree.Term.{Term}
 use Rattle.zf_tree.specs.declared.tree.Term.TheVariants as term
-use Rattle.zf_text.specs.Height.{tallest_link}
-use Rattle.zf_text.specs.Levels.{quantifier_level, chain_level, expression_level, product_level, postfix_level, atom_level, operator_level, left_place, right_place, level, LinksAreLevelled}
-use Rattle.zf_scan.specs.Choosing.{next_of}
-use Rattle.zf_text.specs.Reading.{first}
-use Rattle.zf_scan.specs.Separators.{Symbol, symbol}
-use Rattle.zf_text.specs.Spelling.{Between, Behind, SpellsLinks}
-use Rattle.zf_tree.specs.Trees.{line_of, new_link, chain, tree_of, link_of}
 use Rattle.zf_text.specs.TermReading.{Outcome, role_of, binds, place_before, beyond, ended_by, tall, with_link, over, over_both, listed, links_from, chain_links, beginning, binary, chained, longer_by, climb, whole, read_term}
 use Rattle.zf_tree.specs.Trees as shape
 use Rattle.zf_tree.proofs.TermSeen as of

@@ -1,17 +1,8 @@
 -- What an outcome of a reading says of its steps.
-use Rattle.std.proofs.Common.{◌≡◌, ℕ, zero, suc, ◌≤◌, List, [], ◌∷◌, ◌++◌, length, Some, None, Ok, Err, Bool, true, false, refl, sym, ap, ◌∙◌, arith, append_assoc}
-use Rattle.std.proofs.lemmas.List.{append-nil}
-use Rattle.std.specs.Prelude.{if◌then◌else◌}
-use Rattle.zf_scan.specs.declared.next.Mark.{Mark}
+use Rattle.zf_text.proofs.Prelude.{◌++◌, ◌∙◌, ◌∷◌, ◌≡◌, ◌≤◌, [], ap, append_assoc, arith, Bool, Err, false, length, List, None, Ok, refl, Some, suc, sym, true, zero, ℕ, append-nil, if◌then◌else◌, Name, is_mark, Symbol, Mark, first, read_name, rest, Next, SpellsName, SpellsNames, and_then, expect, Fault, lift, Outcome, Parser, read_names}
 use Rattle.zf_scan.specs.declared.next.Mark.TheVariants as mark
 use Rattle.zf_scan.specs.declared.token.Kind.TheVariants as k
-use Rattle.zf_tree.specs.declared.tree.Name.{Name}
 use Rattle.zf_text.specs.Reading as basic
-use Rattle.zf_scan.specs.Choosing.{is_mark}
-use Rattle.zf_text.specs.Reading.{first, rest, read_name}
-use Rattle.zf_scan.specs.Separators.{Symbol}
-use Rattle.zf_text.specs.Spelling.{Next, SpellsName, SpellsNames}
-use Rattle.zf_text.specs.TermReading.{Fault, Outcome, Parser, and_then, lift, expect, read_names}
 use Rattle.zf_text.proofs.Marks.{kind_of, expected, expects, seen, passed, next_shorter}
 use Rattle.zf_text.proofs.NamesRead.{name_sound, names_sound}
 

@@ -1,19 +1,12 @@
 -- Bounds of the table of levels, and which symbols may stand behind which terms.
-use Rattle.std.proofs.Common.{ℕ, ◌+◌, ◌≤◌, ◌<◌, arith}
-use Rattle.zf_tree.specs.declared.symbol.Connective.TheVariants.{And, Or, Implies, Iff}
+use Rattle.zf_text.proofs.Prelude.{◌+◌, ◌<◌, ◌≤◌, arith, ℕ, Listed, Operator, Sign, Unary, And, Iff, Implies, Or, Maplet, atom_level, chain_level, expression_level, infix_level, left_place, level, listed_level, member_place, operator_level, postfix_level, priority, product_level, quantifier_level, right_place, sign_level, unary_level}
 use Rattle.zf_tree.specs.declared.symbol.Infix.{Infix}
 use Rattle.zf_tree.specs.declared.symbol.Prefix.TheVariants.{Power, Finset, Domain, Range, Size}
-use Rattle.zf_tree.specs.declared.operator.Listed.{Listed}
 use Rattle.zf_tree.specs.declared.operator.Listed.TheVariants as list
-use Rattle.zf_tree.specs.declared.operator.Operator.{Operator}
 use Rattle.zf_tree.specs.declared.operator.Operator.TheVariants as operator
-use Rattle.zf_tree.specs.declared.operator.Sign.{Sign}
 use Rattle.zf_tree.specs.declared.operator.Sign.TheVariants as sign
-use Rattle.zf_tree.specs.declared.operator.Unary.{Unary}
 use Rattle.zf_tree.specs.declared.operator.Unary.TheVariants as one
-use Rattle.zf_text.specs.Levels.{quantifier_level, chain_level, expression_level, product_level, postfix_level, atom_level, priority, infix_level, sign_level, unary_level, operator_level, left_place, right_place, listed_level, member_place, level}
 use Rattle.zf_tree.specs.Trees.{Tree, named, listed, unary, binary, chain, quantified}
-use Rattle.zf_tree.specs.declared.symbol.Infix.TheVariants.{Maplet}
 
 -- ---- bounds of the table
 

@@ -1,15 +1,6 @@
 -- One turn of reading what goes on with a term.
-use Rattle.std.proofs.Common.{◌≡◌, ℕ, suc, ◌≤◌, ◌<◌, List, Ok, Err, refl, ap}
-use Rattle.std.proofs.lemmas.Bool.{le-leb, lt-leb}
-use Rattle.zf_scan.specs.declared.fault.TextFaultKind.{TextFaultKind}
+use Rattle.zf_text.proofs.Prelude.{◌<◌, ◌≡◌, ◌≤◌, ap, Err, List, Ok, refl, suc, ℕ, le-leb, lt-leb, tree_of, Term, Symbol, TextFaultKind, level, first, and_then, binds, Fails, longer_by, Outcome, Parser, place_before, role_of, TooDeep, climb, Tall}
 use Rattle.zf_scan.specs.declared.fault.TextFaultKind.TheVariants as fault
-use Rattle.zf_text.specs.declared.tall.Tall.{Tall}
-use Rattle.zf_tree.specs.declared.tree.Term.{Term}
-use Rattle.zf_text.specs.Levels.{level}
-use Rattle.zf_text.specs.Reading.{first}
-use Rattle.zf_scan.specs.Separators.{Symbol}
-use Rattle.zf_text.specs.TermReading.{Outcome, Parser, TooDeep, and_then, Fails, role_of, binds, place_before, longer_by, climb}
-use Rattle.zf_tree.specs.Trees.{tree_of}
 
 pub fails_then : {A B : Type 0} (o : Outcome A) (f : A → Parser B) (kind : TextFaultKind) (line : ℕ) → Fails o kind line → Fails (and_then o f) kind line
 fails_then o f fault.OutOfMemory line h = h

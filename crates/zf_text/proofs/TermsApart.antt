@@ -1,20 +1,10 @@
 -- What a tree spells is a front of its own: it is the same before any rest, and no symbol of it ends a box.
-use Rattle.std.proofs.Common.{◌≡◌, ℕ, false, List, [], ◌∷◌, ◌++◌, refl, ap, ◌∙◌}
-use Rattle.std.specs.Prelude.{if◌then◌else◌}
-use Rattle.zf_scan.specs.declared.token.Kind.{Kind}
+use Rattle.zf_text.proofs.Prelude.{◌++◌, ◌∙◌, ◌∷◌, ◌≡◌, [], ap, false, List, refl, ℕ, if◌then◌else◌, Listed, Operator, Sign, Unary, Name, ends_box, separator, Symbol, symbol, Kind, After, Before, Behind, Between, Closes, Next, Opens, PartedBy, parting, sign_kind, Spells, SpellsDecls, SpellsFurther, SpellsItems, SpellsLinks, SpellsName, SpellsNames, SpellsPart, Starts}
 use Rattle.zf_scan.specs.declared.token.Kind.TheVariants as k
-use Rattle.zf_tree.specs.declared.tree.Name.{Name}
-use Rattle.zf_tree.specs.declared.operator.Listed.{Listed}
 use Rattle.zf_tree.specs.declared.operator.Listed.TheVariants as list
-use Rattle.zf_tree.specs.declared.operator.Operator.{Operator}
 use Rattle.zf_tree.specs.declared.operator.Operator.TheVariants as operator
-use Rattle.zf_tree.specs.declared.operator.Sign.{Sign}
 use Rattle.zf_tree.specs.declared.operator.Sign.TheVariants as sign
-use Rattle.zf_tree.specs.declared.operator.Unary.{Unary}
 use Rattle.zf_tree.specs.declared.operator.Unary.TheVariants as one
-use Rattle.zf_scan.specs.Boxes.{ends_box}
-use Rattle.zf_scan.specs.Separators.{Symbol, symbol, separator}
-use Rattle.zf_text.specs.Spelling.{Starts, Next, PartedBy, SpellsName, SpellsNames, sign_kind, Before, After, Between, Behind, Opens, parting, Closes, Spells, SpellsItems, SpellsFurther, SpellsLinks, SpellsDecls, SpellsPart}
 use Rattle.zf_tree.specs.Trees.{Tree, named, numeral, constant, empty_set, bracket, listed, builder, unary, binary, chain, quantified, Trees, no_trees, tree, Links, no_links, link, VarDecls, no_decls, var_decl, Perhaps, absent, present}
 
 -- what stands behind the first symbol that ends a box

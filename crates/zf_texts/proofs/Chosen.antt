@@ -1,17 +1,7 @@
 -- A line of some components is the line of a schema with these alone; where names are clear each such line is one.
+use Rattle.zf_texts.proofs.Prelude.{append_assoc, Value, Comp, Environment, IsOfType, IsRow, component_text, component_texts, AreApart, AreNames, Ends, IsName, IsNoneOf, HaveClearNames, held_comps, held_values, HoldNext, IsHeldLine, IsLineOfSome, goes_on, later_parts, separator, value_text, Spelling}
 use Rattle.std.proofs.Common.{◌≡◌, ℕ, zero, suc, ◌+◌, ◌<◌, List, [], ◌∷◌, ◌++◌, length, map, Option, Some, None, refl, sym, ap, ◌∙◌, subst, arith, codes, length-append}
-use Rattle.std.proofs.lemmas.List.{append_assoc}
-use Rattle.zf_term.specs.Definitions.{Comp}
-use Rattle.zf_value.specs.declared.value.Value.{Value}
-use Rattle.zf_meaning.specs.Environments.{Environment}
-use Rattle.zf_meaning.specs.Rows.{IsOfType, IsRow}
-use Rattle.zf_texts.specs.declared.spelling.Spelling.{Spelling}
-use Rattle.zf_texts.specs.ValueTexts.{later_parts, separator, value_text}
-use Rattle.zf_texts.specs.BindingTexts.{component_text, component_texts}
-use Rattle.zf_texts.specs.Clear.{AreApart, AreNames, Ends, IsName, IsNoneOf}
-use Rattle.zf_texts.specs.Held.{HoldNext, IsHeldLine, IsLineOfSome, HaveClearNames, held_comps, held_values}
 use Rattle.zf_texts.specs.Laws.{HeldIsLine, LineIsHeld, OneHeldLine}
-use Rattle.zf_texts.specs.Steps.{goes_on}
 use Rattle.zf_texts.proofs.HeldSoFar.{component_parts}
 use Rattle.zf_texts.proofs.OneHeld.{one_next}
 use Rattle.zf_texts.proofs.Printing.{goes_on-first, goes_on-later, goes_on-nil}

@@ -1,19 +1,6 @@
 -- What is read so far of a line of some components: each is named next or not, and holds a value where it is.
-use Rattle.std.proofs.Common.{◌≡◌, ℕ, Bool, true, false, suc, ◌+◌, ◌-◌, ◌<◌, ◌≤◌, List, [], ◌∷◌, ◌++◌, length, map, take, drop, get_or, Option, Some, None, refl, sym, ap, ◌∙◌, subst, arith, codes}
-use Rattle.std.specs.Prelude.{MatchBool, slice_get}
+use Rattle.zf_texts.proofs.Prelude.{◌++◌, ◌+◌, ◌-◌, ◌<◌, ◌∙◌, ◌∷◌, ◌≡◌, ◌≤◌, [], ap, arith, Bool, codes, drop, false, get_or, length, List, map, None, Option, refl, Some, subst, suc, sym, take, true, ℕ, append-nil, append_assoc, length-drop, take_all, MatchBool, slice_get, Value, Comp, comp_of, Component, Environment, IsOfType, component_text, AreClear, Ends, is_in_word, HoldNext, IsHeldLine, IsNamedNext, IsNoHeldLine, BeginsWithName, EndsAs, HoldsIfNamed, IsComponentAt, IsHeldAt, IsItem, IsNamedAt, BeginsWithoutName, GoesOn, HoldsNothing, IsNoComponent, IsNoItem, IsNotNamed, separator, value_text, Spelling}
 use Rattle.std.proofs.lemmas.Option.{same_Some}
-use Rattle.std.proofs.lemmas.List.{append_assoc, append-nil, length-drop, take_all}
-use Rattle.zf_term.specs.declared.globals.Component.{Component}
-use Rattle.zf_term.specs.Definitions.{Comp, comp_of}
-use Rattle.zf_value.specs.declared.value.Value.{Value}
-use Rattle.zf_meaning.specs.Environments.{Environment}
-use Rattle.zf_meaning.specs.Rows.{IsOfType}
-use Rattle.zf_texts.specs.declared.spelling.Spelling.{Spelling}
-use Rattle.zf_texts.specs.ValueTexts.{separator, value_text}
-use Rattle.zf_texts.specs.BindingTexts.{component_text}
-use Rattle.zf_texts.specs.Clear.{Ends, AreClear, is_in_word}
-use Rattle.zf_texts.specs.Held.{IsNamedNext, HoldNext, IsHeldLine, IsNoHeldLine}
-use Rattle.zf_texts.specs.Steps.{EndsAs, IsItem, IsNoItem, BeginsWithName, BeginsWithoutName, GoesOn, IsNamedAt, IsNotNamed, IsComponentAt, IsNoComponent, IsHeldAt, HoldsIfNamed, HoldsNothing}
 use Rattle.zf_texts.proofs.OneFront.{ends_as}
 use Rattle.zf_texts.proofs.OneRow.{one_component}
 use Rattle.zf_texts.proofs.Printing.{comps-drop, drop-end}

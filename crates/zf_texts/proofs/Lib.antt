@@ -1,3 +1,4 @@
+mod Prelude
 pub mod TextsSeen
 pub mod WordRuns
 pub mod Spelled

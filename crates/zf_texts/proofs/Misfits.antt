@@ -1,9 +1,7 @@
 -- What a misfit tells, where it is passed on.
-use Rattle.std.proofs.Common.{◌≡◌, sym, subst, Result, Ok, Err, IfErr}
-use Rattle.std.specs.Prelude.{IsErrAnd}
+use Rattle.zf_texts.proofs.Prelude.{◌≡◌, Err, IfErr, Ok, Result, subst, sym, IsErrAnd, IfMisfit}
 use Rattle.zf_texts.specs.declared.fault.AfterFault.{AfterFault}
 use Rattle.zf_texts.specs.declared.fault.AfterFault.TheVariants.{NotABinding, OutOfMemory}
-use Rattle.zf_texts.specs.Readings.{IfMisfit}
 
 tells : (x : AfterFault) (P Q : Type 0) → (P → Q) → IfMisfit P x → IfMisfit Q x
 tells (NotABinding place) P Q f h = f h

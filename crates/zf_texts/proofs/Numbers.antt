@@ -1,11 +1,5 @@
 -- Words that are the texts of numbers.
-use Rattle.std.proofs.Common.{◌≡◌, ℕ, ℤ, ◌<◌, ◌^◌, List, sym, ap, ◌∙◌, subst, Result, Ok, Err, Bool, true, false, to_z, of_z}
-use Rattle.zf_value.proofs.Exactly.{same}
-use Rattle.std.specs.Prelude.{decimal, FitsSigned, IsUtf8}
-use Rattle.std.specs.Fmt.{signed_decimal}
-use Rattle.std.specs.Int.{w64}
-use Rattle.std.specs.Str.Parse.{ParsesSigned, ParsesUnsigned}
-use Rattle.std.proofs.lemmas.Fmt.{parse-signed_decimal, parse-decimal, IsAscii-signed, IsAscii-decimal}
+use Rattle.zf_texts.proofs.Prelude.{◌<◌, ◌^◌, ◌∙◌, ◌≡◌, ap, Bool, Err, false, List, of_z, Ok, Result, subst, sym, to_z, true, ℕ, ℤ, IsAscii-decimal, IsAscii-signed, parse-decimal, parse-signed_decimal, signed_decimal, w64, decimal, FitsSigned, IsUtf8, ParsesSigned, ParsesUnsigned, same}
 use Rattle.std.proofs.lemmas.Str.{IsUtf8-from_ascii}
 use Rattle.zf_texts.proofs.OneFront.{magnitude}
 

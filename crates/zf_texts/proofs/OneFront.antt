@@ -1,23 +1,8 @@
 -- A text begins with the text of one value of a type alone.
-use Rattle.std.proofs.Common.{◌≡◌, ℕ, ℤ, pos, negsuc, ◌<◌, ◌^◌, List, [], ◌∷◌, ◌++◌, map, refl, sym, ap, ◌∙◌, subst, true, false, arith, codes, Option, Some, None}
-use Rattle.std.specs.Prelude.{slice_get, FitsSigned}
-use Rattle.std.specs.Fmt.{signed_decimal}
-use Rattle.std.specs.Int.{w64}
-use Rattle.zf_term.specs.Types.{Ty, int, basic, power, product, Tys, no_types, type}
-use Rattle.zf_value.specs.declared.value.Value.{Value, Int, Elem, Tuple, SetOf}
-use Rattle.zf_value.specs.Sets.{Every}
-use Rattle.zf_meaning.specs.Environments.{Environment, type_number}
-use Rattle.zf_meaning.specs.Rows.{IsElement, IsOfType, AreOfTypes}
-use Rattle.zf_texts.specs.declared.spelling.Spelling.{Spelling}
-use Rattle.zf_texts.specs.Spellings.{spelled, spelled_if}
-use Rattle.zf_texts.specs.ValueTexts.{parted, later_parts, value_text}
-use Rattle.zf_texts.specs.Clear.{is_in_word, Ends, AreClear}
-use Rattle.zf_texts.specs.Steps.{EndsAs, is_opening, Closes}
+use Rattle.zf_texts.proofs.Prelude.{◌++◌, ◌<◌, ◌^◌, ◌∙◌, ◌∷◌, ◌≡◌, [], ap, arith, codes, false, List, map, negsuc, None, Option, pos, refl, Some, subst, sym, true, ℕ, ℤ, decimal_nonempty, signed_decimal_injective, append_assoc, signed_decimal, w64, FitsSigned, slice_get, Every, Elem, Int, SetOf, Tuple, Value, basic, int, no_types, power, product, Ty, type, Tys, Environment, type_number, AreOfTypes, IsElement, IsOfType, AreClear, Ends, is_in_word, spelled, spelled_if, Closes, EndsAs, is_opening, later_parts, parted, value_text, Spelling}
 use Rattle.zf_texts.proofs.TextsSeen.{of-Int, of-Elem, of-Tuple, of-SetOf}
 use Rattle.zf_texts.proofs.WordRuns.{one_run, never, signed_in_word}
-use Rattle.std.proofs.lemmas.Fmt.{decimal_nonempty, signed_decimal_injective}
 use Rattle.std.specs.Int.Signed.{mag}
-use Rattle.std.proofs.lemmas.List.{append_assoc}
 use Rattle.zf_texts.proofs.Spelled.{IsWord, spelled_word, spelled_one}
 
 pub ends_closing : (r : List ℕ) → Closes r → Ends r

@@ -1,15 +1,5 @@
 -- A line of some components holds one list of values, and they are regular.
-use Rattle.std.proofs.Common.{◌≡◌, ℕ, ◌+◌, List, [], ◌∷◌, ◌++◌, Option, Some, None, refl, sym, ap, ap₂, ◌∙◌, subst}
-use Rattle.std.specs.Prelude.{MatchOption}
-use Rattle.std.specs.List.{AllByRecursion}
-use Rattle.zf_term.specs.Definitions.{Comp}
-use Rattle.zf_value.specs.declared.value.Value.{Value}
-use Rattle.zf_value.specs.Sets.{IsRegular}
-use Rattle.zf_meaning.specs.Environments.{Environment}
-use Rattle.zf_texts.specs.declared.spelling.Spelling.{Spelling}
-use Rattle.zf_texts.specs.ValueTexts.{separator}
-use Rattle.zf_texts.specs.Clear.{AreClear}
-use Rattle.zf_texts.specs.Held.{HoldNext}
+use Rattle.zf_texts.proofs.Prelude.{◌++◌, ◌+◌, ◌∙◌, ◌∷◌, ◌≡◌, [], ap, ap₂, List, None, Option, refl, Some, subst, sym, ℕ, AllByRecursion, MatchOption, IsRegular, Value, Comp, Environment, AreClear, HoldNext, separator, Spelling}
 use Rattle.zf_texts.proofs.HeldSoFar.{ends_more, told_named}
 use Rattle.zf_texts.proofs.OneRow.{one_component}
 use Rattle.zf_texts.proofs.RegularRows.{regular_value}

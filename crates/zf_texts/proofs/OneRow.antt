@@ -1,15 +1,5 @@
 -- Rows of one schema with one line are one.
-use Rattle.std.proofs.Common.{◌≡◌, ℕ, List, [], ◌∷◌, ◌++◌, refl, sym, ap, ◌∙◌, codes}
-use Rattle.zf_term.specs.Definitions.{Comp}
-use Rattle.std.proofs.lemmas.List.{append_assoc}
-use Rattle.zf_value.specs.declared.value.Value.{Value}
-use Rattle.zf_meaning.specs.Environments.{Environment}
-use Rattle.zf_meaning.specs.Rows.{IsOfType, IsRow}
-use Rattle.zf_texts.specs.declared.spelling.Spelling.{Spelling}
-use Rattle.zf_texts.specs.ValueTexts.{parted, later_parts, value_text}
-use Rattle.zf_texts.specs.BindingTexts.{component_text, component_texts}
-use Rattle.zf_texts.specs.Clear.{Ends, AreClear}
-use Rattle.zf_texts.specs.Steps.{EndsAs}
+use Rattle.zf_texts.proofs.Prelude.{◌++◌, ◌∙◌, ◌∷◌, ◌≡◌, [], ap, codes, List, refl, sym, ℕ, append_assoc, Value, Comp, Environment, IsOfType, IsRow, component_text, component_texts, AreClear, Ends, EndsAs, later_parts, parted, value_text, Spelling}
 use Rattle.zf_texts.proofs.Spelled.{cancel}
 use Rattle.zf_texts.proofs.OneFront.{ends_as, one_front}
 

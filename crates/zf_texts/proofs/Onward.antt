@@ -1,18 +1,6 @@
 -- One turn more of what reads the components of a line, the parts of a tuple, the members of a set.
-use Rattle.std.proofs.Common.{◌≡◌, ℕ, ◌+◌, ◌<◌, ◌≤◌, List, [], ◌∷◌, ◌++◌, length, map, drop, get_or, sym, ap, ◌∙◌, subst, arith, codes}
-use Rattle.std.proofs.lemmas.List.{append_assoc, drop_more, length-append, length-drop}
+use Rattle.zf_texts.proofs.Prelude.{◌++◌, ◌+◌, ◌<◌, ◌∙◌, ◌∷◌, ◌≡◌, ◌≤◌, [], ap, arith, codes, drop, get_or, length, List, map, subst, sym, ℕ, append_assoc, drop_more, length-append, length-drop, IsAscending, SET_MAX, Value, comp_of, no_types, Ty, type, type_of, types, Tys, Component, Environment, IsLineOf, IsNoLine, AreMembersAt, ArePartsAt, IsComponentAt, IsItem, IsNext, IsValueAt, AreNoMembers, AreNoParts, IsNoComponent, IsNoItem, IsNoNext, IsNoRest, IsNoValue, parted, separator, value_text, Spelling}
 use Rattle.zf_term.specs.declared.ztype.ZType.{ZType}
-use Rattle.zf_term.specs.declared.globals.Component.{Component}
-use Rattle.zf_term.specs.Definitions.{comp_of}
-use Rattle.zf_term.specs.Types.{Ty, Tys, no_types, type, types, type_of}
-use Rattle.zf_value.specs.declared.TheConstants.{SET_MAX}
-use Rattle.zf_value.specs.declared.value.Value.{Value}
-use Rattle.zf_value.specs.Sets.{IsAscending}
-use Rattle.zf_meaning.specs.Environments.{Environment}
-use Rattle.zf_texts.specs.declared.spelling.Spelling.{Spelling}
-use Rattle.zf_texts.specs.ValueTexts.{parted, value_text, separator}
-use Rattle.zf_texts.specs.Readings.{IsLineOf, IsNoLine}
-use Rattle.zf_texts.specs.Steps.{IsItem, IsNoItem, IsValueAt, IsNoValue, ArePartsAt, AreNoParts, IsNext, IsNoNext, AreMembersAt, AreNoMembers, IsComponentAt, IsNoComponent, IsNoRest}
 use Rattle.zf_texts.proofs.Printing.{comps-drop, drop-end}
 use Rattle.zf_texts.proofs.Reading.{parts_unseparated, parts_unread, parts_unclosed, members_unseparated, members_unread, members_full}
 use Rattle.zf_texts.proofs.RegularRows.{regular_values}

@@ -1,15 +1,6 @@
 -- What is still to be printed of several parts.
+use Rattle.zf_texts.proofs.Prelude.{drop_more, slice_get, Value, Comp, comp_of, Defined, Component, component_text, component_texts, spellings, with_spelling, goes_on, later_parts, separator, Spelling}
 use Rattle.std.proofs.Common.{◌≡◌, ℕ, zero, suc, ◌+◌, ◌<◌, ◌≤◌, List, [], ◌∷◌, ◌++◌, length, map, drop, get_or, refl, sym, ap, ◌∙◌, arith, Some, None, append_assoc, append-nil, add-one, Result, Ok, Err, OnOk, is_ok, if◌then◌else◌}
-use Rattle.std.specs.Prelude.{slice_get}
-use Rattle.std.proofs.lemmas.List.{drop_more}
-use Rattle.zf_term.specs.Definitions.{Comp, Defined, comp_of}
-use Rattle.zf_term.specs.declared.globals.Component.{Component}
-use Rattle.zf_value.specs.declared.value.Value.{Value}
-use Rattle.zf_texts.specs.declared.spelling.Spelling.{Spelling}
-use Rattle.zf_texts.specs.Spellings.{with_spelling, spellings}
-use Rattle.zf_texts.specs.ValueTexts.{later_parts, separator}
-use Rattle.zf_texts.specs.BindingTexts.{component_text, component_texts}
-use Rattle.zf_texts.specs.Steps.{goes_on}
 
 pub goes_on-nil : (n : ℕ) → goes_on n [] ≡ []
 goes_on-nil zero = refl

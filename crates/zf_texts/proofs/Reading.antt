@@ -1,15 +1,5 @@
 -- What follows a part that was read, of a tuple or of a set.
-use Rattle.std.proofs.Common.{◌≡◌, ℕ, suc, ◌+◌, List, [], ◌∷◌, ◌++◌, length, map, refl, sym, ap, ◌∙◌, subst, arith, codes, Less}
-use Rattle.std.proofs.lemmas.List.{append_assoc, length-append}
-use Rattle.zf_term.specs.Types.{Ty, Tys, no_types, type}
-use Rattle.zf_value.specs.declared.TheConstants.{SET_MAX}
-use Rattle.zf_value.specs.declared.value.Value.{Value}
-use Rattle.zf_value.specs.Sets.{Every, IsAscending, value_order}
-use Rattle.zf_meaning.specs.Environments.{Environment}
-use Rattle.zf_meaning.specs.Rows.{IsOfType}
-use Rattle.zf_texts.specs.declared.spelling.Spelling.{Spelling}
-use Rattle.zf_texts.specs.ValueTexts.{later_parts, value_text, separator}
-use Rattle.zf_texts.specs.Steps.{EndsAs, goes_on, IsNoItem, IsNoValue, AreNoParts, AreMembers, AreNoMembers, IsNoNext}
+use Rattle.zf_texts.proofs.Prelude.{◌++◌, ◌+◌, ◌∙◌, ◌∷◌, ◌≡◌, [], ap, arith, codes, length, Less, List, map, refl, subst, suc, sym, ℕ, append_assoc, length-append, Every, IsAscending, value_order, SET_MAX, Value, no_types, Ty, type, Tys, Environment, IsOfType, AreMembers, EndsAs, goes_on, AreNoMembers, AreNoParts, IsNoItem, IsNoNext, IsNoValue, later_parts, separator, value_text, Spelling}
 use Rattle.zf_texts.proofs.OneFront.{ends_as, ends_later, one_front}
 use Rattle.zf_texts.proofs.Printing.{goes_on-nil, front, goes_on-later}
 use Rattle.zf_texts.proofs.Spelled.{cancel}

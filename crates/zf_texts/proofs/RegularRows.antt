@@ -1,11 +1,6 @@
 -- Values of a type are regular.
-use Rattle.std.proofs.Common.{ℕ, List, [], ◌∷◌, sym, subst, Option, Some, None}
-use Rattle.zf_term.specs.Types.{Ty, Tys, int, basic, power, product, no_types, type}
-use Rattle.zf_value.specs.declared.value.Value.{Value}
-use Rattle.zf_value.specs.Sets.{Every, IsRegular, AreRegular}
+use Rattle.zf_texts.proofs.Prelude.{◌∷◌, [], List, None, Option, Some, subst, sym, ℕ, Every, IsRegular, AreRegular, Value, basic, int, no_types, power, product, Ty, type, Tys, Environment, type_number, AreOfTypes, IsElement, IsOfType}
 use Rattle.zf_value.proofs.Regulars.{regular-Int, regular-Elem, regular-Tuple, regular-SetOf, regular-nothing}
-use Rattle.zf_meaning.specs.Environments.{Environment, type_number}
-use Rattle.zf_meaning.specs.Rows.{IsElement, IsOfType, AreOfTypes}
 
 every_regular : (P : Value → Type 0) (f : (v : Value) → P v → IsRegular v) (vs : List Value) → Every P vs → AreRegular vs
 unfolding AreRegular

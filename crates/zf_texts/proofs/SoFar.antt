@@ -1,18 +1,5 @@
 -- What is read so far of the components of a line, the parts of a tuple, the members of a set.
-use Rattle.std.proofs.Common.{◌≡◌, ℕ, suc, ◌+◌, ◌<◌, List, [], ◌∷◌, ◌++◌, length, map, refl, sym, ap, ◌∙◌, subst, arith, codes}
-use Rattle.std.proofs.lemmas.List.{append_assoc, append-nil, length-append}
-use Rattle.zf_term.specs.Definitions.{Comp}
-use Rattle.zf_term.specs.Types.{Ty, Tys, no_types, type}
-use Rattle.zf_value.specs.declared.TheConstants.{SET_MAX}
-use Rattle.zf_value.specs.declared.value.Value.{Value}
-use Rattle.zf_value.specs.Sets.{Every, IsAscending}
-use Rattle.zf_meaning.specs.Environments.{Environment}
-use Rattle.zf_meaning.specs.Rows.{IsOfType, AreOfTypes, IsRow}
-use Rattle.zf_texts.specs.declared.spelling.Spelling.{Spelling}
-use Rattle.zf_texts.specs.ValueTexts.{parted, later_parts, value_text, separator}
-use Rattle.zf_texts.specs.BindingTexts.{component_text, component_texts, binding_text}
-use Rattle.zf_texts.specs.Readings.{IsNoLine}
-use Rattle.zf_texts.specs.Steps.{EndsAs, goes_on, IsNoItem, AreNoParts, AreMembers, AreNoMembers, IsNoComponent, IsNoRest}
+use Rattle.zf_texts.proofs.Prelude.{◌++◌, ◌+◌, ◌<◌, ◌∙◌, ◌∷◌, ◌≡◌, [], ap, arith, codes, length, List, map, refl, subst, suc, sym, ℕ, append-nil, append_assoc, length-append, Every, IsAscending, SET_MAX, Value, Comp, no_types, Ty, type, Tys, Environment, AreOfTypes, IsOfType, IsRow, binding_text, component_text, component_texts, IsNoLine, AreMembers, EndsAs, goes_on, AreNoMembers, AreNoParts, IsNoComponent, IsNoItem, IsNoRest, later_parts, parted, separator, value_text, Spelling}
 use Rattle.zf_texts.proofs.OneFront.{ends_as}
 use Rattle.zf_texts.proofs.OneRow.{one_component, ends_parts}
 use Rattle.zf_texts.proofs.Printing.{goes_on-nil, goes_on-first, front, goes_on-later}

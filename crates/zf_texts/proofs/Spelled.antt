@@ -1,12 +1,5 @@
 -- Spellings that are clear: words, and each of one element.
-use Rattle.std.proofs.Common.{◌≡◌, ℕ, zero, suc, ◌+◌, ◌<◌, List, [], ◌∷◌, ◌++◌, length, refl, sym, ap, arith, codes}
-use Rattle.std.specs.Prelude.{decimal, slice_get}
-use Rattle.std.proofs.lemmas.List.{length-append}
-use Rattle.std.proofs.lemmas.Fmt.{decimal_injective}
-use Rattle.zf_texts.specs.declared.spelling.Spelling.{Spelling}
-use Rattle.zf_texts.specs.declared.spelling.Spelling.TheVariants.{Numbered, Named}
-use Rattle.zf_texts.specs.Spellings.{or_empty, spelled}
-use Rattle.zf_texts.specs.Clear.{IsName, AreNames, IsNoneOf, AreApart, IsClear}
+use Rattle.zf_texts.proofs.Prelude.{◌++◌, ◌+◌, ◌<◌, ◌∷◌, ◌≡◌, [], ap, arith, codes, length, List, refl, suc, sym, zero, ℕ, decimal_injective, length-append, decimal, slice_get, AreApart, AreNames, IsClear, IsName, IsNoneOf, or_empty, spelled, Spelling, Named, Numbered}
 use Rattle.zf_texts.proofs.WordRuns.{AreInWord, name_in_word, decimal_in_word, append_in_word}
 
 abbrev pub IsWord : List ℕ → Type 0

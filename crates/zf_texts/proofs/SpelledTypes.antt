@@ -1,21 +1,8 @@
 -- Elements by their spellings.
-use Rattle.std.proofs.Common.{◌≡◌, ℕ, zero, suc, ◌+◌, ◌<◌, ◌≤◌, ◌^◌, List, [], ◌∷◌, ◌++◌, length, refl, sym, ap, ◌∙◌, subst, arith, codes, Option, Some, None, get_or, ◌⊎◌, inl, inr, ⊎_elim}
-use Rattle.std.specs.Prelude.{decimal, slice_get, MatchOption}
+use Rattle.zf_texts.proofs.Prelude.{◌++◌, ◌+◌, ◌<◌, ◌^◌, ◌∙◌, ◌∷◌, ◌≡◌, ◌≤◌, ◌⊎◌, [], ap, arith, codes, get_or, inl, inr, length, List, None, Option, refl, Some, subst, suc, sym, zero, ℕ, ⊎_elim, decimal_injective, append_assoc, decimal, MatchOption, slice_get, Value, Defined, definition_of, first_named, definition_number, Environment, found_number, type_number, IsElement, IsClear, or_empty, spelled, IsSpelledType, HasNoElements, IsNoItem, IsNoSpelledType, SpellsNone, Spelling, Named, Numbered}
 use denote.Bor.{Bor}
-use Rattle.std.proofs.lemmas.List.{append_assoc}
-use Rattle.std.proofs.lemmas.Fmt.{decimal_injective}
 use Rattle.zf_term.specs.declared.globals.Entry.{Entry}
-use Rattle.zf_term.specs.Definitions.{Defined, definition_of}
-use Rattle.zf_term.specs.FirstNamed.{first_named}
-use Rattle.zf_value.specs.declared.value.Value.{Value}
-use Rattle.zf_meaning.specs.Environments.{Environment, definition_number, found_number, type_number}
-use Rattle.zf_meaning.specs.Rows.{IsElement}
-use Rattle.zf_texts.specs.declared.spelling.Spelling.{Spelling}
-use Rattle.zf_texts.specs.declared.spelling.Spelling.TheVariants.{Numbered, Named}
-use Rattle.zf_texts.specs.Spellings.{or_empty, spelled}
-use Rattle.zf_texts.specs.Clear.{IsClear}
 use Rattle.zf_texts.proofs.Spelled.{cancel}
-use Rattle.zf_texts.specs.Steps.{IsNoItem, HasNoElements, IsSpelledType, IsNoSpelledType, SpellsNone}
 
 -- ---- the number of a type by name
 

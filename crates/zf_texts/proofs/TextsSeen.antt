@@ -1,12 +1,7 @@
 -- What each form of value is printed as.
-use Rattle.std.proofs.Common.{◌≡◌, ℕ, ℤ, List, ◌++◌, map, codes, sym, ap, ◌∙◌}
-use Rattle.std.specs.Fmt.{signed_decimal}
-use Rattle.zf_value.specs.declared.value.Value.{Value, Int, Elem, Tuple, SetOf, roll-Value, fold-roll-Value, map-Value}
+use Rattle.zf_texts.proofs.Prelude.{◌++◌, ◌∙◌, ◌≡◌, ap, codes, List, map, sym, ℕ, ℤ, signed_decimal, Elem, fold-roll-Value, Int, map-Value, roll-Value, SetOf, Tuple, Value, element_text, parted, value_step, value_text, Spelling}
 use Rattle.zf_value.specs.declared.value.Value.TheOpen.{Value-F}
 use Rattle.zf_value.specs.declared.value.Value.TheVariants.{rolls-Int, rolls-Elem, rolls-Tuple, rolls-SetOf}
-use Rattle.zf_texts.specs.declared.spelling.Spelling.{Spelling}
-use Rattle.zf_texts.specs.Spellings.{element_text}
-use Rattle.zf_texts.specs.ValueTexts.{parted, value_step, value_text}
 
 pub rolled : (ss : List Spelling) (x : Value-F Value) → value_text ss (roll-Value x) ≡ value_step ss (map-Value Value (List ℕ) (value_text ss) x)
 unfolding value_text

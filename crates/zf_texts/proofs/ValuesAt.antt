@@ -1,20 +1,5 @@
 -- Values of each form at a place of a line, and where none stands.
-use Rattle.std.proofs.Common.{◌≡◌, ℕ, ℤ, ◌+◌, ◌<◌, List, [], ◌++◌, length, map, drop, refl, sym, ap, ◌∙◌, subst, codes, Some}
-use Rattle.std.specs.Prelude.{slice_get, FitsSigned}
-use Rattle.std.specs.Fmt.{signed_decimal}
-use Rattle.std.specs.Int.{w64}
-use Rattle.std.proofs.lemmas.List.{append_assoc}
-use Rattle.zf_term.specs.Definitions.{Comp}
-use Rattle.zf_term.specs.Types.{Ty, Tys, int, basic, power, product}
-use Rattle.zf_value.specs.declared.value.Value.{Value, Int, Elem, Tuple, SetOf}
-use Rattle.zf_meaning.specs.Environments.{Environment}
-use Rattle.zf_meaning.specs.Rows.{IsElement}
-use Rattle.zf_texts.specs.declared.spelling.Spelling.{Spelling}
-use Rattle.zf_texts.specs.Spellings.{spelled, spelled_if}
-use Rattle.zf_texts.specs.ValueTexts.{parted, value_text}
-use Rattle.zf_texts.specs.BindingTexts.{component_text}
-use Rattle.zf_texts.specs.Clear.{IsClear}
-use Rattle.zf_texts.specs.Steps.{IsWordAt, IsItem, IsNoItem, IsValueAt, IsNoValue, IsSpelledType, IsNoSpelledType, SpellsNone, ArePartsAt, AreNoParts, AreMembersAt, AreNoMembers, IsNoComponent}
+use Rattle.zf_texts.proofs.Prelude.{◌++◌, ◌+◌, ◌<◌, ◌∙◌, ◌≡◌, [], ap, codes, drop, length, List, map, refl, Some, subst, sym, ℕ, ℤ, append_assoc, signed_decimal, w64, FitsSigned, slice_get, Elem, Int, SetOf, Tuple, Value, Comp, basic, int, power, product, Ty, Tys, Environment, IsElement, component_text, IsClear, spelled, spelled_if, AreMembersAt, ArePartsAt, IsItem, IsSpelledType, IsValueAt, IsWordAt, AreNoMembers, AreNoParts, IsNoComponent, IsNoItem, IsNoSpelledType, IsNoValue, SpellsNone, parted, value_text, Spelling}
 use Rattle.zf_texts.proofs.Spelled.{cancel, spelled_word}
 use Rattle.zf_texts.proofs.TextsSeen.{of-Int, of-Elem, of-Tuple, of-SetOf}
 use Rattle.zf_texts.proofs.WordRuns.{AreInWord, one_run, signed_in_word}

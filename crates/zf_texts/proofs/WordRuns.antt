@@ -1,15 +1,8 @@
 -- Words, and where they end.
-use Rattle.std.proofs.Common.{◌≡◌, ℕ, ℤ, pos, negsuc, suc, ◌<◌, ◌^◌, List, [], ◌∷◌, ◌++◌, refl, sym, ap, ◌∙◌, Bool, true, false, ◌||◌, ◌&&◌, arith}
-use Rattle.std.specs.Prelude.{decimal, FitsSigned}
-use Rattle.std.specs.Fmt.{signed_decimal}
-use Rattle.std.specs.Int.{w64, IsInRange}
-use Rattle.std.specs.List.{list_all}
-use Rattle.std.specs.Str.Parse.{AllDigits}
+use Rattle.zf_texts.proofs.Prelude.{◌&&◌, ◌++◌, ◌<◌, ◌^◌, ◌||◌, ◌∙◌, ◌∷◌, ◌≡◌, [], ap, arith, Bool, false, List, negsuc, pos, refl, suc, sym, true, ℕ, ℤ, decimal_is_IsNumeral, signed_decimal, IsInRange, w64, list_all, decimal, FitsSigned, AllDigits, Ends, is_in_name, is_in_word}
 use Rattle.std.specs.Char.{digit_value}
 use Rattle.std.proofs.lemmas.Str.Parse.{digit_from_value}
-use Rattle.std.proofs.lemmas.Fmt.{decimal_is_IsNumeral}
 use Rattle.zf_scan.specs.Pieces.{is_digit}
-use Rattle.zf_texts.specs.Clear.{is_in_name, is_in_word, Ends}
 
 abbrev pub AreInWord : List ℕ → Type 0
 AreInWord w = list_all is_in_word w ≡ true

@@ -1,9 +1,5 @@
 -- The longest word at a place.
-use Rattle.std.proofs.Common.{◌≡◌, ℕ, zero, suc, ◌+◌, ◌-◌, ◌<◌, ◌≤◌, List, [], ◌∷◌, ◌++◌, length, take, drop, get_or, refl, sym, ap, ◌∙◌, subst, true, false, ◌&&◌, arith}
-use Rattle.std.specs.List.{list_all}
-use Rattle.std.proofs.lemmas.List.{take-append-drop, drop_more, length-drop}
-use Rattle.zf_texts.specs.Clear.{is_in_word, Ends}
-use Rattle.zf_texts.specs.Steps.{IsWordAt}
+use Rattle.zf_texts.proofs.Prelude.{◌&&◌, ◌++◌, ◌+◌, ◌-◌, ◌<◌, ◌∙◌, ◌∷◌, ◌≡◌, ◌≤◌, [], ap, arith, drop, false, get_or, length, List, refl, subst, suc, sym, take, true, zero, ℕ, drop_more, length-drop, take-append-drop, list_all, Ends, is_in_word, IsWordAt}
 use Rattle.zf_texts.proofs.WordRuns.{AreInWord, first_and_rest}
 
 both : (b : ℕ) (w : List ℕ) → is_in_word b ≡ true → AreInWord w → AreInWord (b ∷ w)

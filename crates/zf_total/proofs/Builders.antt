@@ -1,14 +1,6 @@
 -- What a builder builds is a set, or is out.
-use Rattle.std.proofs.Common.{◌≡◌, ◌⊎◌, List, refl, subst, inl, inr}
-use Rattle.zf_value.specs.declared.value.Value.{Value, SetOf}
-use Rattle.zf_value.specs.declared.value.Outcome.{Outcome}
-use Rattle.zf_value.specs.declared.value.Outcome.TheVariants.{Is, Undefined, Out}
-use Rattle.zf_value.specs.declared.value.Truth.{Truth}
+use Rattle.zf_total.proofs.Prelude.{◌≡◌, ◌⊎◌, inl, inr, List, refl, subst, AreFrom, IsSetOf, Outcome, Is, Out, Undefined, Truth, SetOf, Value, IsBuilt, IsBuiltBy, IsBuiltOver, IsOutOfBounds, IsWithinBounds, one_out, one_undefined, Several, values}
 use Rattle.zf_value.specs.declared.value.Truth.TheVariants as truth
-use Rattle.zf_value.specs.Operations.{AreFrom}
-use Rattle.zf_value.specs.Sets.{IsSetOf}
-use Rattle.zf_meaning.specs.Outcomes.{Several, values, one_undefined, one_out}
-use Rattle.zf_meaning.specs.Meaning.{IsBuiltBy, IsWithinBounds, IsOutOfBounds, IsBuiltOver, IsBuilt}
 use Rattle.zf_total.proofs.Listed.{HasSome, one_or_all, Listed, listed_same, listed_none, listed_one, listed_some}
 use Rattle.zf_total.proofs.Sets.{set_of}
 use Rattle.zf_total.proofs.Values.{listed_rows}

@@ -1,11 +1,6 @@
 -- Each type has a carrier.
-use Rattle.std.proofs.Common.{ℕ, [], refl, Option, Some, None}
+use Rattle.zf_total.proofs.Prelude.{[], None, Option, refl, Some, ℕ, IsCross, IsPower, members, Out, Undefined, AreElementsIf, element_count, Environment, IsTypeSet, type_number, one_more, values}
 use Rattle.zf_term.specs.Types.{Ty, int, basic, power, product, Tys, no_types, type}
-use Rattle.zf_value.specs.declared.value.Outcome.TheVariants.{Undefined, Out}
-use Rattle.zf_value.specs.Operations.{IsPower, IsCross}
-use Rattle.zf_value.specs.Sets.{members}
-use Rattle.zf_meaning.specs.Environments.{Environment, AreElementsIf, element_count, IsTypeSet, type_number}
-use Rattle.zf_meaning.specs.Outcomes.{values, one_more}
 use Rattle.zf_meaning.specs.Carriers.{IsTypeSetIf, IsCarrier, AreCarriers}
 use Rattle.zf_total.proofs.Listed.{HasSome}
 use Rattle.zf_total.proofs.Operations.{some_elements, some_power, some_cross}

@@ -1,13 +1,6 @@
 -- Globals at complete sizes have an environment.
-use Rattle.std.proofs.Common.{◌≡◌, ℕ, zero, suc, ◌+◌, List, [], length, refl, subst, Option, Some, None, arith}
-use Rattle.std.specs.Prelude.{slice_get}
-use Rattle.zf_term.specs.Definitions.{Defined, Definition, given_set, free_type, constructor, abbreviation, schema}
-use Rattle.zf_value.specs.declared.value.Outcome.{Outcome}
-use Rattle.zf_value.specs.declared.value.Outcome.TheVariants.{Undefined}
-use Rattle.zf_meaning.specs.declared.sizes.Size.{Size}
-use Rattle.zf_meaning.specs.Environments.{Environment, element, globally}
+use Rattle.zf_total.proofs.Prelude.{◌+◌, ◌≡◌, [], arith, length, List, None, Option, refl, Some, subst, suc, zero, ℕ, slice_get, Outcome, Undefined, abbreviation, constructor, Defined, Definition, free_type, given_set, schema, element, Environment, globally, AreComplete, given_sets, Size}
 use Rattle.zf_meaning.specs.GlobalOutcomes.{IsOutcomeOf, AreWorkedOut, IsEnvironment}
-use Rattle.zf_meaning.specs.Sizes.{given_sets, AreComplete}
 use Rattle.zf_meaning.proofs.WorkedOut.{AreWorkedOutTo, none-worked_out, further, one-worked_out, all-worked_out}
 use Rattle.zf_total.proofs.Listed.{HasSome}
 use Rattle.zf_total.proofs.Carriers.{some_type_set}

@@ -1,3 +1,4 @@
+mod Prelude
 pub mod Listed
 pub mod Orders
 pub mod Naturals

@@ -1,7 +1,5 @@
 -- What is decided, and predicates whose members a list has.
-use Rattle.std.proofs.Common.{◌≡◌, ◌⊎◌, ◌↔◌, List, [], ◌∷◌, ◌++◌, refl, sym, subst, inl, inr, ⊎_elim}
-use Rattle.std.specs.Prelude.{Contains}
-use Rattle.zf_walk.proofs.Lists.{Contains-head, Contains-later, Contains-cases, Contains-nil, Contains-left, Contains-right, Contains-either}
+use Rattle.zf_total.proofs.Prelude.{◌++◌, ◌↔◌, ◌∷◌, ◌≡◌, ◌⊎◌, [], inl, inr, List, refl, subst, sym, ⊎_elim, Contains, Contains-cases, Contains-either, Contains-head, Contains-later, Contains-left, Contains-nil, Contains-right}
 
 -- something of which P holds
 abbrev pub HasSome : {A : Type 0} → (A → Type 0) → Type 0

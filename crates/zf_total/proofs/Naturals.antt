@@ -1,6 +1,5 @@
 -- Natural numbers: what is decided of them, those below a bound, and the first with a property.
-use Rattle.std.proofs.Common.{◌≡◌, ◌⊎◌, ℕ, zero, suc, ◌<◌, ◌≤◌, subst, sym, inl, inr, ⊎_elim, arith}
-use Rattle.std.proofs.lemmas.Bool.{cases_lt}
+use Rattle.zf_total.proofs.Prelude.{◌<◌, ◌≡◌, ◌≤◌, ◌⊎◌, arith, inl, inr, subst, suc, sym, zero, ℕ, ⊎_elim, cases_lt}
 use Rattle.zf_total.proofs.Listed.{Decided, Listed, listed_same, listed_none, listed_one, listed_either}
 
 pub decided_lt : (m n : ℕ) → Decided (m < n)

@@ -1,17 +1,11 @@
 -- Numbers: each operation on them has an outcome.
-use Rattle.std.proofs.Common.{◌≡◌, ◌⊎◌, ℕ, zero, suc, ◌^◌, ℤ, Option, Some, None, refl, sym, inl, inr, ⊎_elim, arith}
-use Rattle.std.specs.Prelude.{pos, negsuc, ◌+ℤ◌, ◌-ℤ◌, ◌≤ℤ◌, ◌<ℤ◌, neg_ℤ, FitsSigned}
+use Rattle.zf_total.proofs.Prelude.{◌^◌, ◌≡◌, ◌⊎◌, arith, inl, inr, None, Option, refl, Some, suc, sym, zero, ℕ, ℤ, ⊎_elim, cases_lt, ◌+ℤ◌, ◌-ℤ◌, ◌<ℤ◌, ◌≤ℤ◌, FitsSigned, neg_ℤ, negsuc, pos, is_Int, no_Int, Outcome, Is, Out, Undefined, Int, Value}
 use Rattle.std.specs.Int.{w64, Width}
 use Rattle.std.specs.Int.RustNames.{int_div, int_rem}
-use Rattle.std.proofs.lemmas.Bool.{cases_lt}
 use Rattle.std.proofs.lemmas.Int.{ints, by_lt_z}
 use mir.Val.{hbits}
-use Rattle.zf_value.specs.declared.value.Value.{Value, Int}
-use Rattle.zf_value.specs.declared.value.Outcome.{Outcome}
-use Rattle.zf_value.specs.declared.value.Outcome.TheVariants.{Is, Undefined, Out}
 use Rattle.zf_value.specs.Numbers.{number_of, IsNumber, OnNumber, OnNumbers, IsDivision, IsNegation, IsSum, IsDifference, IsProduct, IsQuotient, IsModulus, IsBetweenNumbers, IsInterval}
 use Rattle.zf_value.proofs.Divisions.{down, up}
-use Rattle.zf_value.proofs.Seen.{is_Int, no_Int}
 use Rattle.zf_total.proofs.Listed.{HasSome, Decided, decided_both, decided_either, Listed, listed_same, listed_none, listed_one, listed_either, listed_image}
 use Rattle.zf_total.proofs.Sets.{set_of}
 

@@ -1,10 +1,5 @@
 -- Sets and relations: each operation on them has an outcome.
-use Rattle.std.proofs.Common.{◌≡◌, ℕ, List, length, refl, sym, subst, inl, inr, ⊎_elim}
-use Rattle.std.specs.Prelude.{pos}
-use Rattle.zf_value.specs.declared.value.Value.{Value, Elem, Tuple, SetOf}
-use Rattle.zf_value.specs.declared.value.Outcome.TheVariants.{Is, Undefined}
-use Rattle.zf_value.specs.Operations.{pair, IsElement, AreElements, IsDisplay, IsUnion, IsIntersection, IsSetDifference, IsSize, IsCross, IsPower, Relates, IsInDomain, IsInRange, IsDomain, IsRange, IsInverse, IsImage, IsComposition, IsPairOf, IsOverriding, IsDomainRestriction, IsDomainSubtraction, IsRangeRestriction, IsRangeSubtraction, IsApplied, IsBetween, IsFunctional, IsInjective, IsTotal, IsRelationThat, AreRelations, ArePartialFunctions, AreTotalFunctions, ArePartialInjections, AreTotalInjections}
-use Rattle.zf_value.specs.Sets.{IsMember, IsAscending, AreAmong, IsSetOf}
+use Rattle.zf_total.proofs.Prelude.{◌≡◌, inl, inr, length, List, refl, subst, sym, ℕ, ⊎_elim, pos, IsBetween, IsFunctional, IsInDomain, IsInjective, IsInRange, IsPairOf, IsRelationThat, IsTotal, pair, Relates, AreElements, ArePartialFunctions, ArePartialInjections, AreRelations, AreTotalFunctions, AreTotalInjections, IsApplied, IsComposition, IsCross, IsDisplay, IsDomain, IsDomainRestriction, IsDomainSubtraction, IsElement, IsImage, IsIntersection, IsInverse, IsOverriding, IsPower, IsRange, IsRangeRestriction, IsRangeSubtraction, IsSetDifference, IsSize, IsUnion, IsAscending, IsMember, IsSetOf, AreAmong, Is, Undefined, Elem, SetOf, Tuple, Value}
 use Rattle.zf_total.proofs.Listed.{HasSome, Decided, decided_both, decided_not, decided_then, decided_same, decided_some, decided_all, decided_in, Listed, listed_same, listed_either, listed_image, listed_kept, listed_pairs}
 use Rattle.zf_total.proofs.Naturals.{listed_below}
 use Rattle.zf_total.proofs.Numbers.{some_number}

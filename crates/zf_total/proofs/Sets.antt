@@ -1,15 +1,6 @@
 -- Sets: what a list has is a set, or is out.
-use Rattle.std.proofs.Common.{◌≡◌, ◌⊎◌, ◌↔◌, ℕ, ◌+◌, ◌≤◌, List, [], ◌∷◌, length, take, refl, sym, ap, subst, inl, inr, ⊎_elim, Less, arith, length-take}
-use Rattle.std.specs.Prelude.{AllPairs}
-use Rattle.std.proofs.lemmas.Bool.{cases_lt}
-use Rattle.zf_walk.proofs.Lists.{AllPairs-head, AllPairs-tail}
+use Rattle.zf_total.proofs.Prelude.{◌+◌, ◌↔◌, ◌∷◌, ◌≡◌, ◌≤◌, ◌⊎◌, [], ap, arith, inl, inr, length, length-take, Less, List, refl, subst, sym, take, ℕ, ⊎_elim, cases_lt, AllPairs, AllPairs-head, AllPairs-tail, ascending-take, contained, every-take, every_at, every_from, member, not_below_itself, exact, Every, IsAscending, IsMember, IsSetOf, value_order, AreAmong, SET_MAX, Is, Out, SetOf, Value}
 use Rattle.zf_value.specs.contracts.value.ValueOrd.TheImpl.Laws.{total-law}
-use Rattle.zf_value.specs.declared.TheConstants.{SET_MAX}
-use Rattle.zf_value.specs.declared.value.Value.{Value, SetOf}
-use Rattle.zf_value.specs.declared.value.Outcome.TheVariants.{Is, Out}
-use Rattle.zf_value.specs.Sets.{value_order, IsMember, Every, IsAscending, AreAmong, IsSetOf}
-use Rattle.zf_value.proofs.Among.{every_from, every_at, every-take, ascending-take, contained, member, not_below_itself}
-use Rattle.zf_value.proofs.Exact.{exact}
 use Rattle.zf_total.proofs.Listed.{HasSome, Listed, listed_same, listed_one, listed_either, listed_image}
 use Rattle.zf_total.proofs.Orders.{in_order}
 use Rattle.zf_total.proofs.Values.{same_value}

@@ -1,15 +1,8 @@
 -- Stated sizes are complete, or one fault of theirs is the first.
-use Rattle.std.proofs.Common.{◌≡◌, ℕ, zero, suc, ◌+◌, ◌<◌, ◌≤◌, ◌⊎◌, List, [], ◌∷◌, length, get_or, take, refl, ap, subst, inl, inr, ⊎_elim, arith}
-use Rattle.std.specs.Prelude.{◌≢◌, All, Contains}
-use Rattle.std.proofs.lemmas.Bool.{cases_eq, cases_lt}
+use Rattle.zf_total.proofs.Prelude.{◌+◌, ◌<◌, ◌∷◌, ◌≡◌, ◌≤◌, ◌⊎◌, [], ap, arith, get_or, inl, inr, length, List, refl, subst, suc, take, zero, ℕ, ⊎_elim, cases_eq, cases_lt, ◌≢◌, All, Contains, Contains-cases, Contains-head, Contains-later, Contains-nil, SET_MAX, abbreviation, constructor, Defined, Definition, free_type, given_set, schema, AddsSize, AreAccepted, AreComplete, AreSizes, given_sets, IsAccepted, IsRefusal, IsStated, names, Refuses, with_given, Size}
 use Rattle.std.proofs.lemmas.List.Elements.{All-nil}
-use Rattle.zf_walk.proofs.Lists.{Contains-head, Contains-later, Contains-cases, Contains-nil}
-use Rattle.zf_value.specs.declared.TheConstants.{SET_MAX}
-use Rattle.zf_term.specs.Definitions.{Defined, Definition, given_set, free_type, constructor, abbreviation, schema}
-use Rattle.zf_meaning.specs.declared.sizes.Size.{Size}
 use Rattle.zf_meaning.specs.declared.sizes.SizeFault.{SizeFault}
 use Rattle.zf_meaning.specs.declared.sizes.SizeFault.TheVariants.{NoSize, NotGiven, SizeTwice, SizeTooLarge, OutOfMemory}
-use Rattle.zf_meaning.specs.Sizes.{with_given, given_sets, names, IsAccepted, AreAccepted, AreComplete, Refuses, IsRefusal, IsStated, AddsSize, AreSizes}
 use Rattle.zf_meaning.proofs.Accepting.{AreAccepted-none, AreAccepted-more, refusal-at, lack-at, sized-more}
 use Rattle.zf_total.proofs.Listed.{HasSome, Decided, decided_in, decided_lists}
 

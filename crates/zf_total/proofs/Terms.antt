@@ -1,6 +1,5 @@
 -- Each expression has an outcome, and each predicate a truth.
-use Rattle.std.proofs.Common.{List, [], refl}
-use Rattle.std.specs.Prelude.{pos}
+use Rattle.zf_total.proofs.Prelude.{[], List, refl, pos, pair, Outcome, Is, Out, Undefined, SetOf, Tuple, Value, Context, outcome_in, within, AreLinked, Builds, constant_outcome, constant_truth, HasOutcome, HaveOutcomes, HaveRanges, infinite_right, IsConstraint, IsLink, IsTruth, row_value, OnBoth, one_more, one_out, one_undefined, OnOne, OnSeveral, repeated, Several, values, ArrowOutcome, BinaryOutcome, InfixOutcome, ListedOutcome, PrefixOutcome, SignOutcome, UnaryOutcome, IsTold}
 use Rattle.zf_tree.specs.declared.symbol.Arrow.{Arrow}
 use Rattle.zf_tree.specs.declared.symbol.Arrow.TheVariants as arrow
 use Rattle.zf_tree.specs.declared.symbol.Infix.{Infix}
@@ -16,17 +15,8 @@ use Rattle.zf_tree.specs.declared.operator.Operator.TheVariants as operator
 use Rattle.zf_tree.specs.declared.operator.Unary.{Unary}
 use Rattle.zf_tree.specs.declared.operator.Unary.TheVariants as the_unary
 use Rattle.zf_term.specs.ResolvedTrees.{ResolvedTree, reference, number, constant, empty_set, bracket, listed, builder, unary, binary, chain, quantified, ResolvedTrees, no_terms, term, ResolvedLinks, no_links, link, Ranges, no_ranges, range, ResolvedPart, absent, present}
-use Rattle.zf_value.specs.declared.value.Value.{Value, Tuple, SetOf}
-use Rattle.zf_value.specs.declared.value.Outcome.{Outcome}
-use Rattle.zf_value.specs.declared.value.Outcome.TheVariants.{Is, Undefined, Out}
 use Rattle.zf_value.specs.declared.value.Truth.TheVariants as truth
 use Rattle.zf_value.specs.Numbers.{IsNegation, IsSum, IsDifference, IsProduct, IsQuotient, IsModulus, IsInterval}
-use Rattle.zf_value.specs.Operations.{pair}
-use Rattle.zf_meaning.specs.Environments.{Context, within, outcome_in}
-use Rattle.zf_meaning.specs.Outcomes.{OnOne, OnBoth, Several, values, one_undefined, one_out, one_more, repeated, OnSeveral}
-use Rattle.zf_meaning.specs.Symbols.{InfixOutcome, ArrowOutcome, BinaryOutcome, PrefixOutcome, SignOutcome, UnaryOutcome, ListedOutcome}
-use Rattle.zf_meaning.specs.Truths.{IsTold}
-use Rattle.zf_meaning.specs.Meaning.{constant_outcome, constant_truth, row_value, HasOutcome, HaveOutcomes, HaveRanges, Builds, IsConstraint, IsTruth, AreLinked, IsLink, infinite_right}
 use Rattle.zf_meaning.proofs.Unique.{one_truth, one_constraint, one_build, one_told_of}
 use Rattle.zf_total.proofs.Listed.{HasSome}
 use Rattle.zf_total.proofs.Numbers as numbers

@@ -1,6 +1,5 @@
 -- Atoms, connectives and quantifiers have a truth.
-use Rattle.std.proofs.Common.{◌≡◌, ◌⊎◌, ℤ, List, refl, sym, ◌∙◌, subst, inl, inr, ⊎_elim, Option, Some, None}
-use Rattle.std.specs.Prelude.{pos, ◌≤ℤ◌, ◌<ℤ◌}
+use Rattle.zf_total.proofs.Prelude.{◌∙◌, ◌≡◌, ◌⊎◌, inl, inr, List, None, Option, refl, Some, subst, sym, ℤ, ⊎_elim, ◌<ℤ◌, ◌≤ℤ◌, pos, same_number, AreFrom, members, Outcome, Truth, Int, Value, IsLink, one_out, one_undefined, Several, values, Compares, Holds, HoldsOf, IsIn, HasTwo, IsAtom, IsConjunction, IsConnected, IsDisjunction, IsEquivalence, IsExists, IsExistsOne, IsForAll, IsImplication, IsOver, IsQuantified, IsTest, IsTold, opposite, Tells}
 use Rattle.zf_tree.specs.declared.symbol.Connective.{Connective}
 use Rattle.zf_tree.specs.declared.symbol.Connective.TheVariants as connective
 use Rattle.zf_tree.specs.declared.symbol.Quantifier.{Quantifier}
@@ -9,18 +8,8 @@ use Rattle.zf_tree.specs.declared.symbol.Relation.{Relation}
 use Rattle.zf_tree.specs.declared.symbol.Relation.TheVariants as relation
 use Rattle.zf_term.specs.declared.extent.Infinite.{Infinite}
 use Rattle.zf_term.specs.declared.extent.Infinite.TheVariants.{Num, Nat, Nat1}
-use Rattle.zf_value.specs.declared.value.Value.{Value, Int}
-use Rattle.zf_value.specs.declared.value.Outcome.{Outcome}
 use Rattle.zf_value.specs.declared.value.Outcome.TheVariants as outcome
-use Rattle.zf_value.specs.declared.value.Truth.{Truth}
 use Rattle.zf_value.specs.declared.value.Truth.TheVariants.{True, False, Out}
-use Rattle.zf_value.specs.Operations.{AreFrom}
-use Rattle.zf_value.specs.Sets.{members}
-use Rattle.zf_value.proofs.Seen.{same_number}
-use Rattle.zf_meaning.specs.Meaning.{IsLink}
-use Rattle.zf_meaning.specs.Outcomes.{Several, values, one_undefined, one_out}
-use Rattle.zf_meaning.specs.Symbols.{Compares, Holds, IsIn, HoldsOf}
-use Rattle.zf_meaning.specs.Truths.{Tells, IsAtom, IsTest, opposite, IsConjunction, IsDisjunction, IsImplication, IsEquivalence, IsConnected, IsForAll, IsExists, HasTwo, IsExistsOne, IsOver, IsTold, IsQuantified}
 use Rattle.zf_total.proofs.Listed.{HasSome, Decided, decided_both, decided_not, decided_same, decided_some, one_or_all, swapped, Listed, listed_none, listed_pairs}
 use Rattle.zf_total.proofs.Numbers.{decided_below, decided_at_most, number_or_not}
 use Rattle.zf_total.proofs.Values.{same_value, same_row, decided_member, decided_among, listed_rows}

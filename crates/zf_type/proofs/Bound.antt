@@ -1,21 +1,7 @@
 -- Bound variables: names that are declared apart, and scopes with variables in them.
-use Rattle.std.proofs.Common.{◌≡◌, ℕ, if◌then◌else◌, Bool, true, false, List, [], ◌∷◌, ◌++◌, length, map, take, Option, Some, None, Ok, Err, refl, sym, ap, ◌∙◌, inl, inr, ⊎_elim, true≢false}
-use Rattle.std.proofs.lemmas.List.{take-map, map-append, length-map}
-use Rattle.std.proofs.Math.Seq.{take-append_seam}
-use Rattle.std.proofs.lemmas.Slice.Eq.{bytes_eq-Decides}
+use Rattle.zf_type.proofs.Prelude.{if◌then◌else◌, ◌++◌, ◌∙◌, ◌∷◌, ◌≡◌, [], ap, Bool, Err, false, inl, inr, length, List, map, None, Ok, Option, refl, Some, sym, take, true, true≢false, ℕ, ⊎_elim, take-append_seam, length-map, map-append, take-map, bytes_eq-Decides, bytes_eq, spelling, Name, comp_of, globals_of, later, or_else, TypeFaultKind, AreNew, AreRepeated, IsBound, IsRepeated, Repeats, last_named, Scope, Var, variable_of, within, scope_of, AreApart, IsApart, Variable}
 use Rattle.std.specs.Prelude.{◌⊎◌, Result, OnErr, OnOk}
-use Rattle.std.specs.Str.{bytes_eq}
-use Rattle.zf_tree.specs.declared.tree.Name.{Name}
-use Rattle.zf_term.specs.FirstNamed.{later, or_else}
-use Rattle.zf_term.specs.Definitions.{comp_of, globals_of}
-use Rattle.zf_term.specs.declared.fault.TypeFaultKind.{TypeFaultKind}
 use Rattle.zf_type.specs.declared.scope.Scope as program
-use Rattle.zf_type.specs.declared.variable.Variable.{Variable}
-use Rattle.zf_type.specs.Judging.{IsBound, AreNew, AreRepeated}
-use Rattle.zf_type.specs.Offences.{IsRepeated, Repeats}
-use Rattle.zf_type.specs.Scopes.{Scope, Var, last_named, scope_of, variable_of, within}
-use Rattle.zf_tree.specs.Names.{spelling}
-use Rattle.zf_type.specs.Typing.{IsApart, AreApart}
 
 -- ---- the variable of a name
 

@@ -1,9 +1,6 @@
 -- What a relation between two operands makes.
-use Rattle.std.proofs.Common.{refl}
-use Rattle.zf_tree.specs.declared.symbol.Relation.{Relation}
+use Rattle.zf_type.proofs.Prelude.{refl, relation_rule, Relation, predicate, Sort, Takes}
 use Rattle.zf_tree.specs.declared.symbol.Relation.TheVariants.{Equal, NotEqual, Member, NotMember, Subset, ProperSubset, Less, AtMost, Greater, AtLeast}
-use Rattle.zf_tree.specs.Operators.{relation_rule}
-use Rattle.zf_type.specs.Rules.{Sort, predicate, Takes}
 
 -- what a relation makes of two operands is a predicate
 pub compares : (r : Relation) (x y z : Sort) → Takes (relation_rule r) x y z → Takes (relation_rule r) x y predicate

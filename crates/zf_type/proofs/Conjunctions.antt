@@ -1,14 +1,10 @@
 -- How predicates are split.
+use Rattle.zf_type.proofs.Prelude.{Tree, conjuncts, is_and, is_conjunction, resolved, Scope}
 use Rattle.std.proofs.Common.{◌≡◌, ℕ, true, false, Result, Ok, Err, OnOk, List, ◌∷◌, [], ◌++◌, append_assoc, refl, sym, ap, ◌∙◌}
 use Rattle.zf_tree.specs.declared.operator.Operator.{Operator}
 use Rattle.zf_tree.specs.Trees as text
-use Rattle.zf_tree.specs.Trees.{Tree}
 use Rattle.zf_term.specs.ResolvedTrees.{ResolvedTree, bracket, binary}
 use Rattle.zf_term.specs.Shapes as shape
-use Rattle.zf_term.specs.Shapes.{conjuncts, is_and}
-use Rattle.zf_type.specs.Judging.{is_conjunction}
-use Rattle.zf_type.specs.Resolving.{resolved}
-use Rattle.zf_type.specs.Scopes.{Scope}
 
 -- a predicate is a conjunction where the term is
 same_conjunction : (s : Scope) (e : Tree) → shape.is_conjunction (resolved s e) ≡ is_conjunction e

@@ -1,7 +1,5 @@
 -- Variables that are looked through one by one, and those behind them.
-use Rattle.std.proofs.Common.{◌≡◌, ℕ, zero, suc, ◌+◌, ◌-◌, List, [], ◌∷◌, ◌++◌, length, map, take, Some, None, refl, sym, ap, ◌∙◌, arith, append_assoc}
-use Rattle.std.proofs.Math.Seq.{take-append_seam, take-nil}
-use Rattle.zf_type.specs.Scopes.{Var, last_named}
+use Rattle.zf_type.proofs.Prelude.{◌++◌, ◌+◌, ◌-◌, ◌∙◌, ◌∷◌, ◌≡◌, [], ap, append_assoc, arith, length, List, map, None, refl, Some, suc, sym, take, zero, ℕ, take-append_seam, take-nil, last_named, Var}
 
 module _ {A : Type 0} where
   pub take_both : (n : ℕ) (few many : List A) → take n few ++ take (n - length few) many ≡ take n (few ++ many)

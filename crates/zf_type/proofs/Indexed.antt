@@ -1,16 +1,6 @@
 -- Variables are found by the buckets of their names.
-use Rattle.std.proofs.Common.{◌≡◌, ℕ, zero, suc, ◌+◌, ◌-◌, ◌<◌, ◌≤◌, ◌==◌, if◌then◌else◌, Bool, true, false, List, [], ◌∷◌, ◌++◌, length, map, take, set, get_or, Option, Some, None, refl, sym, ap, ◌∙◌, inl, inr, ⊎_elim, arith, subst, true≢false}
+use Rattle.zf_type.proofs.Prelude.{if◌then◌else◌, ◌++◌, ◌+◌, ◌-◌, ◌<◌, ◌==◌, ◌∙◌, ◌∷◌, ◌≡◌, ◌≤◌, [], ap, arith, Bool, false, get_or, inl, inr, length, List, map, None, Option, refl, set, Some, subst, suc, sym, take, true, true≢false, zero, ℕ, ⊎_elim, take-append_seam, take-length, Decides-eqb, get_or-set_other, get_or-set_same, get_or-take, get_or_append_left, get_or_push, get_or_read_under, length-append, length-set, length-take-le, take-append-le, take-take, bytes_eq-Decides, bytes_eq, later, or_else, before, last_in, AreHeads, bucket, IsIndexed, last_named, Var, variable_of, Chained, Variable}
 use Rattle.std.proofs.Math.Nat.{eq-or-lt_of_le}
-use Rattle.std.proofs.Math.Seq.{take-append_seam, take-length}
-use Rattle.std.proofs.lemmas.Bool.Decides.{Decides-eqb}
-use Rattle.std.proofs.lemmas.List.{get_or-set_same, get_or-set_other, get_or_append_left, get_or_push, get_or_read_under, get_or-take, length-append, length-set, length-take-le, take-append-le, take-take}
-use Rattle.std.proofs.lemmas.Slice.Eq.{bytes_eq-Decides}
-use Rattle.std.specs.Str.{bytes_eq}
-use Rattle.zf_term.specs.FirstNamed.{later, or_else}
-use Rattle.zf_type.specs.declared.index.Chained.{Chained}
-use Rattle.zf_type.specs.declared.variable.Variable.{Variable}
-use Rattle.zf_type.specs.Buckets.{AreHeads, IsIndexed, before, bucket, last_in}
-use Rattle.zf_type.specs.Scopes.{Var, last_named, variable_of}
 use Rattle.zf_type.proofs.Named.{last_at}
 
 -- ---- the last of a bucket

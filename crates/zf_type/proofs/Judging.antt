@@ -1,30 +1,9 @@
 -- From the answers about the parts of a term to the answer about the term.
-use Rattle.std.proofs.Common.{◌≡◌, ℕ, Ok, Err, Option, Some, None, refl, sym, subst, inr, true≢false}
-use Rattle.std.specs.Prelude.{Result, IfOk, IfErr, IsErr, IsErrAnd}
-use Rattle.zf_tree.specs.declared.symbol.Prefix.TheVariants.{Power, Finset, Domain, Range, Size}
+use Rattle.zf_type.proofs.Prelude.{◌≡◌, Err, inr, None, Ok, Option, refl, Some, subst, sym, true≢false, ℕ, IfErr, IfOk, IsErr, IsErrAnd, Result, need_of, binary, bracket, builder, chain, constant, empty_set, listed, named, numeral, quantified, Tree, tree_of, unary, Need, Rule, Unary, Domain, Finset, Power, Range, Size, Term, resolved_of, pair, power, TypeFaultKind, IsJudged, Judges, Misplaced, Offends, IfFault, resolved, a_schema, Meets, number, predicate, set_of, Sort, sort_of, Takes, UnaryTakes, IsMade, IsMadeOfOne, Scope, IsOf, Refusal, Fault, OutOfMemory, Judged}
 use Rattle.zf_tree.specs.declared.operator.Sign.TheVariants as sign
-use Rattle.zf_tree.specs.Trees.{Tree, tree_of, named, numeral, constant, empty_set, bracket, listed, builder, unary, binary, chain, quantified}
-use Rattle.zf_tree.specs.Operators.{need_of}
-use Rattle.zf_term.specs.Types.{pair, power}
-use Rattle.zf_tree.specs.declared.operator.Need.{Need}
 use Rattle.zf_tree.specs.declared.operator.Need.TheVariants as need
-use Rattle.zf_tree.specs.declared.operator.Rule.{Rule}
-use Rattle.zf_tree.specs.declared.operator.Unary.{Unary}
 use Rattle.zf_tree.specs.declared.operator.Unary.TheVariants.{Sign, Inverse, Not}
-use Rattle.zf_tree.specs.declared.tree.Term.{Term}
-use Rattle.zf_term.specs.ResolvedTrees.{resolved_of}
-use Rattle.zf_type.specs.declared.fault.Refusal.{Refusal}
-use Rattle.zf_type.specs.declared.fault.Refusal.TheVariants.{Fault, OutOfMemory}
-use Rattle.zf_type.specs.declared.judge.Judged.{Judged}
-use Rattle.zf_term.specs.declared.fault.TypeFaultKind.{TypeFaultKind}
 use Rattle.zf_type.specs.declared.sort.Sort as program
-use Rattle.zf_type.specs.Judging.{IsJudged, Judges}
-use Rattle.zf_type.specs.Offences.{Offends, Misplaced}
-use Rattle.zf_type.specs.Refusals.{IfFault}
-use Rattle.zf_type.specs.Resolving.{resolved}
-use Rattle.zf_type.specs.Rules.{Sort, a_schema, sort_of, number, predicate, set_of, Meets, UnaryTakes, Takes, IsMade, IsMadeOfOne}
-use Rattle.zf_type.specs.Scopes.{Scope}
-use Rattle.zf_type.specs.Typing.{IsOf}
 
 -- ---- faults
 

@@ -1,3 +1,4 @@
+mod Prelude
 pub mod NoOffence
 pub mod OneSort
 pub mod ResolvedAlike

@@ -1,19 +1,5 @@
 -- Types of members, where they are not all the same, and where they are.
-use Rattle.std.proofs.Common.{◌≡◌, ◌<◌, ◌≤◌, zero, suc, arith, get_or, Some, None, ⊎_elim, ℕ, List, [], ◌∷◌, length, map, refl, sym, ap, ◌∙◌, subst, inl, inr}
-use Rattle.std.specs.Prelude.{slice_get}
-use Rattle.zf_tree.specs.declared.tree.Term.{Term}
-use Rattle.zf_tree.specs.Trees.{line_of, Tree, trees, tree_of}
-use Rattle.zf_term.specs.Types.{Ty, Tys, no_types, type, types, type_of}
-use Rattle.zf_tree.specs.declared.operator.Listed.{Listed}
-use Rattle.zf_tree.specs.declared.operator.Listed.TheVariants.{Tuple, Display, Product}
-use Rattle.zf_term.specs.declared.ztype.ZType.{ZType}
-use Rattle.zf_term.specs.declared.fault.TypeFaultKind.{TypeFaultKind}
-use Rattle.zf_term.specs.declared.fault.TypeFaultKind.TheVariants.{Mismatch}
-use Rattle.zf_type.specs.Judging.{IsOther, DiffersAt}
-use Rattle.zf_type.specs.Offences.{OneDiffers, Differ}
-use Rattle.zf_type.specs.Rules.{typed}
-use Rattle.zf_type.specs.Scopes.{Scope}
-use Rattle.zf_type.specs.Typing.{IsOf, AreMembers, AreAll}
+use Rattle.zf_type.proofs.Prelude.{◌<◌, ◌∙◌, ◌∷◌, ◌≡◌, ◌≤◌, [], ap, arith, get_or, inl, inr, length, List, map, None, refl, Some, subst, suc, sym, zero, ℕ, ⊎_elim, slice_get, line_of, Tree, tree_of, trees, Listed, Display, Product, Tuple, Term, no_types, Ty, type, type_of, types, Tys, TypeFaultKind, Mismatch, ZType, DiffersAt, IsOther, Differ, OneDiffers, typed, Scope, AreAll, AreMembers, IsOf}
 
 -- as many terms as types
 pub lengths : (form : Listed) (s : Scope) (es : List Tree) (us : List Ty) → AreMembers form s (trees es) (types us) → length es ≡ length us

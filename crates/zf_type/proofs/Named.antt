@@ -1,12 +1,5 @@
 -- What is found by its name in a list, from the back, and what a name means.
-use Rattle.std.proofs.Common.{◌≡◌, ℕ, suc, ◌+◌, ◌<◌, if◌then◌else◌, Bool, true, false, List, [], ◌∷◌, ◌++◌, length, map, take, get_or, Some, None, refl, sym, ap, ◌∙◌, arith, add-one}
-use Rattle.std.specs.Str.{bytes_eq}
-use Rattle.std.proofs.lemmas.List.{take_more, length-take}
-use Rattle.zf_term.specs.FirstNamed.{first_named}
-use Rattle.zf_reference.specs.declared.reference.Reference.TheVariants.{Component, Local, Global}
-use Rattle.zf_term.specs.Definitions.{Comp, Defined}
-use Rattle.zf_type.specs.Rules.{typed}
-use Rattle.zf_type.specs.Scopes.{Scope, Var, last_named, meaning, global_sort}
+use Rattle.zf_type.proofs.Prelude.{if◌then◌else◌, ◌++◌, ◌+◌, ◌<◌, ◌∙◌, ◌∷◌, ◌≡◌, [], add-one, ap, arith, Bool, false, get_or, length, List, map, None, refl, Some, suc, sym, take, true, ℕ, length-take, take_more, bytes_eq, Component, Global, Local, Comp, Defined, first_named, typed, global_sort, last_named, meaning, Scope, Var}
 
 module _ {X A : Type 0} (f : X → A) (name : A → List ℕ) (n : List ℕ) where
   -- the last of a list is looked at first

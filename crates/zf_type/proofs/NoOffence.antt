@@ -1,27 +1,9 @@
 -- A term that is well typed for its place has no offence there.
-use Rattle.std.proofs.Common.{◌⊎◌, ℕ, List, [], ◌∷◌, refl, sym, ◌∙◌, subst, inl, inr, ⊎_elim}
-use Rattle.std.proofs.lemmas.Option.{none-some}
-use Rattle.zf_tree.specs.declared.symbol.Prefix.{Prefix}
-use Rattle.zf_tree.specs.declared.symbol.Prefix.TheVariants.{Power, Finset, Domain, Range, Size}
-use Rattle.zf_tree.specs.declared.tree.Name.{Name}
-use Rattle.zf_tree.specs.declared.operator.Sign.{Sign}
+use Rattle.zf_type.proofs.Prelude.{◌∙◌, ◌∷◌, ◌⊎◌, [], inl, inr, List, refl, subst, sym, ℕ, ⊎_elim, none-some, left_need, need_of, prefix_need, relation_rule, right_need, rule_of, sign_need, absent, binary, bracket, builder, chain, constant, empty_set, link, Links, listed, named, no_decls, no_links, no_trees, numeral, Perhaps, present, quantified, Tree, tree, Trees, unary, var_decl, VarDecls, Listed, Display, Product, Tuple, Need, Rule, Sign, Unary, Prefix, Domain, Finset, Power, Range, Size, Name, IsSmall, power, Ty, type, Tys, TypeFaultKind, BuildsTooLarge, Clash, Differ, Disagree, IsRepeated, LinksOffend, ListedTooLarge, MakesTooLarge, MakeTooLarge, Misplaced, Offends, OneDiffers, OneOffends, PartOffends, Repeats, SetsOffend, IsSmallSort, Meets, predicate, PrefixTakes, set_of, SignTakes, Sort, Takes, typed, UnaryTakes, Scope, Var, within, AreAll, AreApart, AreLinked, AreMembers, Builds, Constrains, Declare, declared, IsApart, IsOf, Makes, member_need, member_sort}
 use Rattle.zf_tree.specs.declared.operator.Sign.TheVariants as sign
-use Rattle.zf_tree.specs.Trees.{Tree, named, numeral, constant, empty_set, bracket, listed, builder, unary, binary, chain, quantified, Trees, no_trees, tree, Links, no_links, link, VarDecls, no_decls, var_decl, Perhaps, absent, present}
-use Rattle.zf_tree.specs.Operators.{left_need, right_need, rule_of, relation_rule, prefix_need, sign_need, need_of}
-use Rattle.zf_term.specs.Types.{Ty, power, Tys, type, IsSmall}
-use Rattle.zf_tree.specs.declared.operator.Need.{Need}
 use Rattle.zf_tree.specs.declared.operator.Need.TheVariants as need
-use Rattle.zf_tree.specs.declared.operator.Listed.{Listed}
-use Rattle.zf_tree.specs.declared.operator.Listed.TheVariants.{Tuple, Display, Product}
-use Rattle.zf_tree.specs.declared.operator.Rule.{Rule}
 use Rattle.zf_tree.specs.declared.operator.Rule.TheVariants as rule
-use Rattle.zf_tree.specs.declared.operator.Unary.{Unary}
 use Rattle.zf_tree.specs.declared.operator.Unary.TheVariants as symbol
-use Rattle.zf_term.specs.declared.fault.TypeFaultKind.{TypeFaultKind}
-use Rattle.zf_type.specs.Rules.{Sort, typed, predicate, set_of, IsSmallSort, Meets, Takes, PrefixTakes, SignTakes, UnaryTakes}
-use Rattle.zf_type.specs.Scopes.{Scope, Var, within}
-use Rattle.zf_type.specs.Typing.{declared, member_need, member_sort, IsApart, AreApart, IsOf, AreMembers, AreAll, Makes, AreLinked, Declare, Constrains, Builds}
-use Rattle.zf_type.specs.Offences.{Misplaced, Disagree, MakeTooLarge, Clash, MakesTooLarge, IsRepeated, Repeats, OneDiffers, Differ, ListedTooLarge, BuildsTooLarge, Offends, OneOffends, LinksOffend, SetsOffend, PartOffends}
 use Rattle.zf_type.proofs.OneSort.{same_whole, same_unary, same_typed, one_sort, one_row, one_made, first_of_all, one_declared, one_built}
 
 -- ---- operands that a rule takes are what their places need

@@ -1,22 +1,8 @@
 -- A term is of one sort at most, and what it declares or builds is one thing.
-use Rattle.std.proofs.Common.{◌≡◌, List, ◌++◌, sym, ap, ◌∙◌, subst}
-use Rattle.std.proofs.lemmas.Option.{same_Some}
-use Rattle.zf_tree.specs.declared.symbol.Prefix.{Prefix}
-use Rattle.zf_tree.specs.declared.symbol.Prefix.TheVariants.{Power, Finset, Domain, Range, Size}
-use Rattle.zf_tree.specs.declared.operator.Sign.{Sign}
+use Rattle.zf_type.proofs.Prelude.{◌++◌, ◌∙◌, ◌≡◌, ap, List, subst, sym, same_Some, rule_of, absent, binary, bracket, builder, chain, constant, empty_set, listed, named, no_decls, no_trees, numeral, Perhaps, present, quantified, Tree, tree, Trees, unary, var_decl, VarDecls, Listed, Display, Product, Tuple, Rule, Sign, Unary, Prefix, Domain, Finset, Power, Range, Size, no_types, power, product, Ty, type, Tys, PrefixTakes, set_of, SignTakes, Sort, Takes, typed, UnaryTakes, Scope, Var, within, AreAll, AreMembers, Builds, Declare, IsOf, Makes, member_sort, variables}
 use Rattle.zf_tree.specs.declared.operator.Sign.TheVariants as sign
-use Rattle.zf_tree.specs.Trees.{Tree, named, numeral, constant, empty_set, bracket, listed, builder, unary, binary, chain, quantified, Trees, no_trees, tree, VarDecls, no_decls, var_decl, Perhaps, absent, present}
-use Rattle.zf_tree.specs.Operators.{rule_of}
-use Rattle.zf_tree.specs.declared.operator.Listed.{Listed}
-use Rattle.zf_tree.specs.declared.operator.Listed.TheVariants.{Tuple, Display, Product}
-use Rattle.zf_tree.specs.declared.operator.Rule.{Rule}
 use Rattle.zf_tree.specs.declared.operator.Rule.TheVariants as rule
-use Rattle.zf_tree.specs.declared.operator.Unary.{Unary}
 use Rattle.zf_tree.specs.declared.operator.Unary.TheVariants as symbol
-use Rattle.zf_term.specs.Types.{Ty, Tys, no_types, type, power, product}
-use Rattle.zf_type.specs.Rules.{Sort, typed, set_of, Takes, PrefixTakes, SignTakes, UnaryTakes}
-use Rattle.zf_type.specs.Scopes.{Scope, Var, within}
-use Rattle.zf_type.specs.Typing.{variables, member_sort, IsOf, AreMembers, AreAll, Makes, Declare, Builds}
 
 -- ---- of two operands, and of one, the whole is one
 

@@ -1,25 +1,12 @@
 -- What stands within declarations, from what its parts are.
-use Rattle.std.proofs.Common.{◌≡◌, ℕ, List, length, map, Option, Some, None, Ok, Err, refl, sym, ap, ◌∙◌, subst, true≢false}
-use Rattle.std.specs.Prelude.{Result, IfOk, IsErr, IsErrAnd}
+use Rattle.zf_type.proofs.Prelude.{◌∙◌, ◌≡◌, ap, Err, length, List, map, None, Ok, Option, refl, Some, subst, sym, true≢false, ℕ, IfOk, IsErr, IsErrAnd, Result, absent, builder, Perhaps, present, quantified, Tree, VarDecls, Need, type_of, ZType, IsPart, Judges, JudgesPart, PartOffends, IfFault, resolved, resolved_part, resolved_ranges, Scope, Var, within, Constrains, Declare, IsOf, row_type, Refusal, Judged}
 use Rattle.zf_tree.specs.declared.symbol.Quantifier.{Quantifier}
-use Rattle.zf_tree.specs.Trees.{Tree, VarDecls, Perhaps, absent, present, builder, quantified}
-use Rattle.zf_tree.specs.declared.operator.Need.{Need}
 use Rattle.zf_tree.specs.declared.operator.Need.TheVariants as need
 use Rattle.zf_term.specs.declared.resolved.Range.{Range}
 use Rattle.zf_term.specs.declared.resolved.Resolved.{Resolved}
 use Rattle.zf_term.specs.declared.resolved.Resolved.TheVariants as v
-use Rattle.zf_term.specs.declared.ztype.ZType.{ZType}
 use Rattle.zf_term.specs.ResolvedTrees as kept
-use Rattle.zf_term.specs.Types.{type_of}
 use Rattle.zf_term.proofs.ResolvedSeen as seen
-use Rattle.zf_type.specs.declared.fault.Refusal.{Refusal}
-use Rattle.zf_type.specs.declared.judge.Judged.{Judged}
-use Rattle.zf_type.specs.Judging.{IsPart, Judges, JudgesPart}
-use Rattle.zf_type.specs.Offences.{PartOffends}
-use Rattle.zf_type.specs.Refusals.{IfFault}
-use Rattle.zf_type.specs.Resolving.{resolved, resolved_part, resolved_ranges}
-use Rattle.zf_type.specs.Scopes.{Scope, Var, within}
-use Rattle.zf_type.specs.Typing.{IsOf, Constrains, Declare, row_type}
 use Rattle.zf_type.proofs.Judging.{judged_of, fault_of}
 use Rattle.zf_type.proofs.ResolvedAlike.{part_within, resolved_within}
 

@@ -1,21 +1,8 @@
 -- How a term is resolved depends on the names in scope alone, and not on the types of the bound variables.
-use Rattle.std.proofs.Common.{◌≡◌, ℕ, ◌+◌, Bool, true, false, if◌then◌else◌, List, [], ◌∷◌, ◌++◌, Option, Some, None, map, refl, sym, ap, ◌∙◌}
-use Rattle.std.proofs.lemmas.List.{map-append}
-use Rattle.std.specs.Str.{bytes_eq}
-use Rattle.zf_tree.specs.declared.tree.Name.{Name}
+use Rattle.zf_type.proofs.Prelude.{if◌then◌else◌, ◌++◌, ◌+◌, ◌∙◌, ◌∷◌, ◌≡◌, [], ap, Bool, false, List, map, None, Option, refl, Some, sym, true, ℕ, map-append, bytes_eq, Local, spelling, Links, no_decls, no_trees, Perhaps, Tree, tree, Trees, var_decl, VarDecls, Name, Comp, Defined, first_named, later, or_else, int, Ty, bound, referent, resolved, resolved_all, resolved_links, resolved_part, resolved_ranges, Sort, last_named, meaning, Scope, Var, with_comp, with_global, with_local, within, Declare, declared, variables}
 use Rattle.zf_tree.specs.Trees as text
-use Rattle.zf_tree.specs.Trees.{Tree, Trees, no_trees, tree, Links, VarDecls, no_decls, var_decl, Perhaps}
-use Rattle.zf_term.specs.FirstNamed.{later, or_else, first_named}
 use Rattle.zf_reference.specs.declared.reference.Reference.{Reference}
-use Rattle.zf_reference.specs.declared.reference.Reference.TheVariants.{Local}
-use Rattle.zf_term.specs.Definitions.{Comp, Defined}
 use Rattle.zf_term.specs.ResolvedTrees.{reference, empty_set, bracket, listed, unary, present}
-use Rattle.zf_term.specs.Types.{Ty, int}
-use Rattle.zf_type.specs.Rules.{Sort}
-use Rattle.zf_type.specs.Scopes.{Scope, Var, within, last_named, with_local, with_comp, with_global, meaning}
-use Rattle.zf_tree.specs.Names.{spelling}
-use Rattle.zf_type.specs.Typing.{variables, declared, Declare}
-use Rattle.zf_type.specs.Resolving.{referent, bound, resolved, resolved_all, resolved_links, resolved_ranges, resolved_part}
 
 abbrev pub names : List Var → List (List ℕ)
 names vs = map (λ v. v.name) vs

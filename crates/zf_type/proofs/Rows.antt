@@ -1,15 +1,6 @@
 -- What a builder without a term builds: the types of the variables within.
-use Rattle.std.proofs.Common.{◌≡◌, ℕ, ◌+◌, ◌<◌, ◌≤◌, List, [], ◌∷◌, ◌++◌, length, map, drop, get_or, refl, sym, ap, ◌∙◌}
-use Rattle.std.proofs.Math.Seq.{drop-append_seam}
-use Rattle.std.proofs.lemmas.List.{length-map, drop-map, drop_all}
-use Rattle.zf_term.specs.declared.ztype.ZType.{ZType}
-use Rattle.zf_term.specs.Types.{product, type, types, type_of}
-use Rattle.zf_term.proofs.Walk.{dropped}
+use Rattle.zf_type.proofs.Prelude.{◌++◌, ◌+◌, ◌<◌, ◌∙◌, ◌∷◌, ◌≡◌, ◌≤◌, [], ap, drop, get_or, length, List, map, refl, sym, ℕ, drop-append_seam, drop-map, drop_all, length-map, dropped, product, type, type_of, types, ZType, var_type, Scope, Var, variable_of, within, scope_of, row_type, types_of, Variable}
 use Rattle.zf_type.specs.declared.scope.Scope as program
-use Rattle.zf_type.specs.declared.variable.Variable.{Variable}
-use Rattle.zf_type.specs.Judging.{var_type}
-use Rattle.zf_type.specs.Scopes.{Scope, Var, scope_of, variable_of, within}
-use Rattle.zf_type.specs.Typing.{row_type, types_of}
 
 -- ---- the type of a row, from the types of its variables
 

@@ -1,14 +1,5 @@
 -- The carrier of a type is a set of values of the type.
-use Rattle.std.proofs.Common.{◌≡◌, ℕ, List, Option, Some, None, refl, subst}
-use Rattle.zf_term.specs.Types.{Ty, int, basic, power, product, Tys, no_types, type}
-use Rattle.zf_value.specs.declared.value.Value.{Value}
-use Rattle.zf_value.specs.declared.value.Outcome.TheVariants.{Is}
-use Rattle.zf_value.specs.Operations.{IsPower, IsCross}
-use Rattle.zf_value.specs.Sets.{members}
-use Rattle.zf_meaning.specs.Carriers.{IsCarrier, AreCarriers, IsTypeSetIf}
-use Rattle.zf_meaning.specs.Environments.{Environment, type_number}
-use Rattle.zf_meaning.specs.Outcomes.{values}
-use Rattle.zf_meaning.specs.Rows.{IsOfType, AreOfTypes}
+use Rattle.zf_typed.proofs.Prelude.{◌≡◌, List, None, Option, refl, Some, subst, ℕ, IsCross, IsPower, members, Is, Value, basic, int, no_types, power, product, Ty, type, Tys, AreCarriers, IsCarrier, IsTypeSetIf, Environment, type_number, values, AreOfTypes, IsOfType}
 use Rattle.zf_typed.proofs.Globals.{type_set_typed}
 use Rattle.zf_typed.proofs.OfTypes.{members_of}
 use Rattle.zf_typed.proofs.Relations.{a_power}

@@ -1,20 +1,10 @@
 -- The declared sets of components are sets for them, and stay so where schemas are made of others.
-use Rattle.std.proofs.Common.{◌≡◌, ℕ, zero, suc, Bool, true, false, if◌then◌else◌, List, [], ◌∷◌, ◌++◌, map, Option, Some, None, refl, sym, ap, ◌∙◌, subst}
-use Rattle.std.specs.Prelude.{slice_get}
-use Rattle.std.specs.Str.{bytes_eq}
-use Rattle.std.proofs.lemmas.Option.{same_Some, none-some}
+use Rattle.zf_typed.proofs.Prelude.{if◌then◌else◌, ◌++◌, ◌∙◌, ◌∷◌, ◌≡◌, [], ap, Bool, false, List, map, None, Option, refl, Some, subst, suc, sym, true, zero, ℕ, none-some, same_Some, slice_get, bytes_eq, swapped, Comp, DeclaredSet, Defined, Schema, sets_of, later, or_else, Ty, joined_type, named_there, type_of_once, type_one_more, decorated_once, joined_once, type_found, type_named}
 use Rattle.zf_tree.specs.declared.tree.RefMark.{RefMark}
 use Rattle.zf_tree.specs.declared.tree.RefMark.TheVariants.{Plain, Delta, Xi}
-use Rattle.zf_term.specs.Definitions.{Comp, Schema, DeclaredSet, Defined, sets_of}
-use Rattle.zf_term.specs.FirstNamed.{later, or_else}
-use Rattle.zf_term.specs.Types.{Ty}
 use Rattle.zf_term.proofs.Choices.{or_none}
-use Rattle.zf_term.proofs.SameNames.{swapped}
 use Rattle.zf_calculus.specs.Calculus.{comp, comp_named, with_comp, with_comps, HasTypeOf, Agrees, Agree, AreOnce, decorated, marked, prime, MarkAgrees, sets_on, either_comps}
 use Rattle.zf_calculus.proofs.Merging.{nothing_before}
-use Rattle.zf_schema.specs.SchemaLaws.{type_found, type_named}
-use Rattle.zf_schema.proofs.Named.{named_there, type_one_more, joined_type, type_of_once}
-use Rattle.zf_schema.proofs.Once.{decorated_once, joined_once}
 use Rattle.zf_typed.proofs.DeclaredSets.{IsSome, AreSetsFor}
 
 -- the component has declared sets, and they are sets for its type

@@ -1,32 +1,7 @@
 -- What lies in the declared sets of a component is of its type, where it can be listed.
-use Rattle.std.proofs.Common.{◌≡◌, ◌⊎◌, ◌↔◌, ℕ, ◌+◌, ◌^◌, ℤ, Bool, true, false, List, [], ◌∷◌, take, Option, Some, None, refl, sym, ap, ◌∙◌, subst, inl, inr, ⊎_elim, arith}
-use Rattle.std.specs.Prelude.{pos, negsuc, ◌≤ℤ◌, ◌<ℤ◌, FitsSigned, slice_get}
-use Rattle.std.proofs.lemmas.Option.{same_Some, none-some}
-use Rattle.std.specs.Int.{w64}
+use Rattle.zf_typed.proofs.Prelude.{◌+◌, ◌^◌, ◌↔◌, ◌∙◌, ◌∷◌, ◌≡◌, ◌⊎◌, [], ap, arith, Bool, false, inl, inr, List, None, Option, refl, Some, subst, sym, take, true, ℕ, ℤ, ⊎_elim, ints, none-some, same_Some, w64, ◌<ℤ◌, ◌≤ℤ◌, FitsSigned, negsuc, pos, slice_get, number_of-Int, same_number, number_of, IsMember, members, Outcome, Is, Int, Value, Tree, carrier, DeclaredSet, DeclaredSets, Defined, no_sets, plain, set, sides, ResolvedTree, has_numbers, int, power, Ty, Infinite, resolved, set_of, IsOf, direct, outside, AreWellTyped, Environment, globally, HasOutcome, IsOfType, IsIn}
 use Rattle.std.proofs.lemmas.Bool.{cases_lt}
-use Rattle.std.proofs.lemmas.Int.{ints}
-use Rattle.zf_tree.specs.Trees.{Tree}
-use Rattle.zf_term.specs.declared.extent.Infinite.{Infinite}
 use Rattle.zf_term.specs.declared.extent.Infinite.TheVariants.{Num, Nat, Nat1}
-use Rattle.zf_term.specs.Definitions.{Defined, DeclaredSet, plain, carrier, sides, DeclaredSets, no_sets, set}
-use Rattle.zf_extent.specs.Extents.{direct}
-use Rattle.zf_term.specs.ResolvedTrees.{ResolvedTree}
-use Rattle.zf_term.specs.Types.{Ty, int, power, has_numbers}
-use Rattle.zf_type.specs.Resolving.{resolved}
-use Rattle.zf_type.specs.Rules.{set_of}
-use Rattle.zf_type.specs.Typing.{IsOf}
-use Rattle.zf_schema.specs.Expressions.{outside}
-use Rattle.zf_schema.specs.WellTypedGlobals.{AreWellTyped}
-use Rattle.zf_value.specs.declared.value.Value.{Value, Int}
-use Rattle.zf_value.specs.declared.value.Outcome.{Outcome}
-use Rattle.zf_value.specs.declared.value.Outcome.TheVariants.{Is}
-use Rattle.zf_value.specs.Numbers.{number_of}
-use Rattle.zf_value.specs.Sets.{IsMember, members}
-use Rattle.zf_value.proofs.Seen.{number_of-Int, same_number}
-use Rattle.zf_meaning.specs.Environments.{Environment, globally}
-use Rattle.zf_meaning.specs.Meaning.{HasOutcome}
-use Rattle.zf_meaning.specs.Rows.{IsOfType}
-use Rattle.zf_meaning.specs.Symbols.{IsIn}
 use Rattle.zf_enum.specs.DeclaredSets.{IsInPlain, IsInCarrier, IsInSet, IsInSets}
 use Rattle.zf_typed.proofs.Carriers.{carrier_typed}
 use Rattle.zf_typed.proofs.Directs.{are_numbers}

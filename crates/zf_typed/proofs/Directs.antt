@@ -1,25 +1,7 @@
 -- A term that is an infinite set is a set of numbers.
-use Rattle.std.proofs.Common.{◌≡◌, ℕ, zero, suc, ◌<◌, List, [], ◌∷◌, take, Option, Some, None, refl, sym, ap, ◌∙◌, arith}
-use Rattle.std.specs.Prelude.{slice_get}
-use Rattle.std.proofs.lemmas.Option.{same_Some, none-some}
-use Rattle.zf_tree.specs.declared.symbol.Constant.{Constant}
+use Rattle.zf_typed.proofs.Prelude.{◌<◌, ◌∙◌, ◌∷◌, ◌≡◌, [], ap, arith, List, None, Option, refl, Some, suc, sym, take, zero, ℕ, none-some, same_Some, slice_get, Reference, spelling, Tree, Constant, abbreviation, constructor, Defined, Definition, free_type, given_set, schema, first_named, int, power, Ty, Infinite, referent, resolved, constant_sort, typed, definition_sort, with_global, IsOf, constant_set, definition_extent, direct, extent_by, extent_found, extent_named, extent_set, offending, named_there, outside, AreWellTyped, IsMadeAfter}
 use Rattle.zf_tree.specs.declared.symbol.Constant.TheVariants as constants
 use Rattle.zf_tree.specs.Trees as text
-use Rattle.zf_tree.specs.Trees.{Tree}
-use Rattle.zf_term.specs.declared.extent.Infinite.{Infinite}
-use Rattle.zf_reference.specs.declared.reference.Reference.{Reference}
-use Rattle.zf_term.specs.Definitions.{Defined, Definition, given_set, free_type, constructor, abbreviation, schema}
-use Rattle.zf_extent.specs.Extents.{direct, constant_set, definition_extent, extent_found, extent_named, extent_set, extent_by, offending}
-use Rattle.zf_term.specs.FirstNamed.{first_named}
-use Rattle.zf_term.specs.Types.{Ty, int, power}
-use Rattle.zf_type.specs.Resolving.{referent, resolved}
-use Rattle.zf_type.specs.Rules.{typed, constant_sort}
-use Rattle.zf_type.specs.Scopes.{definition_sort, with_global}
-use Rattle.zf_tree.specs.Names.{spelling}
-use Rattle.zf_type.specs.Typing.{IsOf}
-use Rattle.zf_schema.specs.Expressions.{outside}
-use Rattle.zf_schema.specs.WellTypedGlobals.{IsMadeAfter, AreWellTyped}
-use Rattle.zf_schema.proofs.Named.{named_there}
 use Rattle.zf_typed.proofs.Globals.{in_front}
 
 -- these globals are those up to that place, and maybe further ones

@@ -1,31 +1,11 @@
 -- Each value of a type is a member of the type's carrier, and the carrier is the outcome of the expression that spells the type.
-use Rattle.std.proofs.Common.{◌≡◌, ℕ, ◌^◌, ◌<◌, Bool, true, false, if◌then◌else◌, List, [], ◌∷◌, Option, Some, None, refl, sym, ap, ◌∙◌, subst, nat_lt}
-use Rattle.std.specs.Prelude.{slice_get}
-use Rattle.std.proofs.lemmas.Option.{same_Some}
+use Rattle.zf_typed.proofs.Prelude.{if◌then◌else◌, ◌<◌, ◌^◌, ◌∙◌, ◌∷◌, ◌≡◌, [], ap, Bool, false, List, nat_lt, None, Option, refl, Some, subst, sym, true, ℕ, same_Some, slice_get, every_at, members-SetOf, AreFrom, IsSubset, AreElements, IsCross, IsPower, IsAscending, IsMember, IsSetOf, members, AreAmong, Outcome, Is, Out, Undefined, Elem, SetOf, Tuple, Value, abbreviation, constructor, Defined, Definition, free_type, given_set, schema, listed, ResolvedTree, ResolvedTrees, term, unary, basic, int, no_types, power, product, Ty, type, Tys, named_there, AreCarriers, IsCarrier, IsTypeSetIf, AreElementsIf, before, definition_number, Environment, found_number, globally, IsTypeSet, outcome_or, type_number, AreWorkedOut, IsOutcomeOf, HasOutcome, HaveOutcomes, one_out, one_undefined, OnOne, OnSeveral, Several, values, AreOfTypes, IsElement, IsOfType, ListedOutcome, UnaryOutcome}
 use Rattle.zf_tree.specs.declared.symbol.Prefix.TheVariants.{Power}
 use Rattle.zf_tree.specs.declared.operator.Sign.TheVariants.{Symbol}
 use Rattle.zf_tree.specs.declared.operator.Listed.TheVariants.{Product}
 use Rattle.zf_tree.specs.declared.operator.Unary.TheVariants.{Sign}
-use Rattle.zf_term.specs.Definitions.{Defined, Definition, given_set, free_type, constructor, abbreviation, schema}
-use Rattle.zf_term.specs.ResolvedTrees.{ResolvedTree, listed, unary, ResolvedTrees, term}
-use Rattle.zf_term.specs.Types.{Ty, int, basic, power, product, Tys, no_types, type}
-use Rattle.zf_value.specs.declared.value.Value.{Value, Elem, Tuple, SetOf}
-use Rattle.zf_value.specs.declared.value.Outcome.{Outcome}
-use Rattle.zf_value.specs.declared.value.Outcome.TheVariants.{Is, Undefined, Out}
 use Rattle.zf_value.specs.Operations as op
-use Rattle.zf_value.specs.Operations.{AreElements, AreFrom, IsCross, IsPower, IsSubset}
-use Rattle.zf_value.specs.Sets.{AreAmong, IsAscending, IsMember, IsSetOf, members}
-use Rattle.zf_value.proofs.Among.{every_at}
-use Rattle.zf_value.proofs.Seen.{members-SetOf}
-use Rattle.zf_meaning.specs.Carriers.{IsCarrier, AreCarriers, IsTypeSetIf}
-use Rattle.zf_meaning.specs.Environments.{AreElementsIf, Environment, IsTypeSet, before, definition_number, found_number, globally, outcome_or, type_number}
-use Rattle.zf_meaning.specs.GlobalOutcomes.{AreWorkedOut, IsOutcomeOf}
-use Rattle.zf_meaning.specs.Meaning.{HasOutcome, HaveOutcomes}
-use Rattle.zf_meaning.specs.Outcomes.{OnOne, OnSeveral, Several, one_out, one_undefined, values}
-use Rattle.zf_meaning.specs.Rows.{AreOfTypes, IsElement, IsOfType}
-use Rattle.zf_meaning.specs.Symbols.{ListedOutcome, UnaryOutcome}
 use Rattle.zf_meaning.proofs.Environments.{one_carrier}
-use Rattle.zf_schema.proofs.Named.{named_there}
 use Rattle.zf_typed.specs.CarrierLaws.{CarriersAreExact, CarriersAreOutcomes, IsTypeAt, Spells, SpellAll}
 use Rattle.zf_typed.proofs.Carriers.{carrier_typed}
 use Rattle.zf_typed.proofs.OfTypes.{members_of}

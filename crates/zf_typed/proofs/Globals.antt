@@ -1,31 +1,10 @@
 -- The outcomes of globals are of their types.
-use Rattle.std.proofs.Common.{◌≡◌, ℕ, zero, suc, ◌+◌, ◌<◌, ◌^◌, Bool, true, false, if◌then◌else◌, List, [], ◌∷◌, length, take, map, Option, Some, None, refl, sym, ap, ◌∙◌, subst, arith, add-one}
+use Rattle.zf_typed.proofs.Prelude.{if◌then◌else◌, ◌+◌, ◌<◌, ◌^◌, ◌∙◌, ◌∷◌, ◌≡◌, [], add-one, ap, arith, Bool, false, length, List, map, None, Option, refl, Some, subst, suc, sym, take, true, zero, ℕ, none-some, same_Some, bytes_eq, AreElements, Outcome, Is, Undefined, Elem, Value, is_itself, is_same, abbreviation, Comp, constructor, Defined, Definition, free_type, given_set, schema, first_named, later, basic, power, types, typed, Var, types_of, EachOnce, outside, AreDefinedOnce, AreWellTyped, IsMadeAfter, AreElementsIf, before, Context, definition_number, element, Environment, found_number, globally, IsTypeSet, type_number, AreWorkedOut, IsEnvironment, IsOutcomeOf, HasOutcome, AreOfTypes, IsElement, IsFrontOfRow, IsOfType}
 use Rattle.std.specs.Prelude.{slice_get, nat_lt}
 use Rattle.std.proofs.lemmas.List.Sums.{sum_by-cons}
-use Rattle.std.proofs.lemmas.Option.{same_Some, none-some}
-use Rattle.std.specs.Str.{bytes_eq}
-use Rattle.zf_term.specs.Definitions.{Comp, Defined, Definition, given_set, free_type, constructor, abbreviation, schema}
-use Rattle.zf_term.specs.FirstNamed.{later, first_named}
 use Rattle.zf_term.specs.Numbers.{has_elements, next_number}
-use Rattle.zf_term.specs.Types.{basic, power, types}
-use Rattle.zf_term.proofs.SameNames.{is_same, is_itself}
-use Rattle.zf_type.specs.Scopes.{Var}
-use Rattle.zf_type.specs.Rules.{typed}
-use Rattle.zf_type.specs.Typing.{types_of}
-use Rattle.zf_calculus.specs.Calculus.{EachOnce}
-use Rattle.zf_schema.specs.Expressions.{outside}
-use Rattle.zf_schema.specs.SchemaLaws.{AreDefinedOnce}
-use Rattle.zf_schema.specs.WellTypedGlobals.{IsMadeAfter, AreWellTyped}
-use Rattle.zf_value.specs.declared.value.Value.{Value, Elem}
-use Rattle.zf_value.specs.declared.value.Outcome.{Outcome}
-use Rattle.zf_value.specs.declared.value.Outcome.TheVariants.{Is, Undefined}
-use Rattle.zf_value.specs.Operations.{AreElements}
 use Rattle.zf_value.specs.Operations as op
 use Rattle.zf_meaning.specs.declared.sizes.Size.{Size}
-use Rattle.zf_meaning.specs.Environments.{Environment, Context, before, globally, type_number, found_number, definition_number, AreElementsIf, IsTypeSet, element}
-use Rattle.zf_meaning.specs.GlobalOutcomes.{IsOutcomeOf, AreWorkedOut, IsEnvironment}
-use Rattle.zf_meaning.specs.Meaning.{HasOutcome}
-use Rattle.zf_meaning.specs.Rows.{IsOfType, AreOfTypes, IsElement, IsFrontOfRow}
 use Rattle.zf_meaning.specs.Sizes.{AreSizes}
 use Rattle.zf_typed.specs.OutcomeLaws.{scope, context, OutcomesTyped}
 use Rattle.zf_typed.proofs.Names.{HasValues, Fits}

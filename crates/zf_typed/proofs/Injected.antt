@@ -1,9 +1,6 @@
 -- A list whose members give members of another, each another one, is no longer than that.
-use Rattle.std.proofs.Common.{◌≡◌, ◌≤◌, List, [], ◌∷◌, ◌++◌, length, refl, sym, ap, subst, inl, inr, ⊎_elim, Less, arith}
+use Rattle.zf_typed.proofs.Prelude.{◌++◌, ◌∷◌, ◌≡◌, ◌≤◌, [], ap, arith, inl, inr, length, Less, List, refl, subst, sym, ⊎_elim, every_at, members-append, not_below_itself, IsAscending, IsMember, value_order, Value}
 use Rattle.std.proofs.lemmas.List.{length-append}
-use Rattle.zf_value.specs.declared.value.Value.{Value}
-use Rattle.zf_value.specs.Sets.{value_order, IsMember, IsAscending}
-use Rattle.zf_value.proofs.Among.{every_at, members-append, not_below_itself}
 
 -- what stands before a member, and what stands behind it
 split : (ys : List Value) (y : Value) → IsMember y ys → (a b : List Value) × (ys ≡ a ++ y ∷ b)

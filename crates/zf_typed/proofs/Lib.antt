@@ -1,3 +1,4 @@
+mod Prelude
 pub mod OfTypes
 pub mod Injected
 pub mod Relations

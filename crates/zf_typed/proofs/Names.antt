@@ -1,22 +1,7 @@
 -- What a name stands for has a value of the name's type, where each value that is bound has its own.
-use Rattle.std.proofs.Common.{◌≡◌, ℕ, zero, suc, ◌+◌, Bool, true, false, if◌then◌else◌, List, [], ◌∷◌, ◌++◌, Option, Some, None, refl, sym, ap, ◌∙◌, subst, add-one}
-use Rattle.std.specs.Prelude.{slice_get}
-use Rattle.std.specs.Str.{bytes_eq}
-use Rattle.std.proofs.lemmas.Option.{same_Some, none-some}
-use Rattle.zf_reference.specs.declared.reference.Reference.{Reference}
+use Rattle.zf_typed.proofs.Prelude.{if◌then◌else◌, ◌++◌, ◌+◌, ◌∙◌, ◌∷◌, ◌≡◌, [], add-one, ap, Bool, false, List, None, Option, refl, Some, subst, suc, sym, true, zero, ℕ, none-some, same_Some, slice_get, bytes_eq, Reference, Outcome, Is, Value, Comp, Defined, first_named, later, or_else, Sort, typed, global_sort, last_named, meaning, Scope, Var, with_comp, with_global, with_local, types_of, named_there, Context, Environment, outcome_in, outcome_or, value_or, within, AreOfTypes, IsOfType}
 use Rattle.zf_reference.specs.declared.reference.Reference.TheVariants.{Component, Local, Global}
-use Rattle.zf_term.specs.Definitions.{Comp, Defined}
-use Rattle.zf_term.specs.FirstNamed.{later, or_else, first_named}
-use Rattle.zf_type.specs.Rules.{Sort, typed}
-use Rattle.zf_type.specs.Scopes.{Scope, Var, last_named, global_sort, with_local, with_comp, with_global, meaning}
 use Rattle.zf_type.specs.Scopes as scopes
-use Rattle.zf_type.specs.Typing.{types_of}
-use Rattle.zf_schema.proofs.Named.{named_there}
-use Rattle.zf_value.specs.declared.value.Value.{Value}
-use Rattle.zf_value.specs.declared.value.Outcome.{Outcome}
-use Rattle.zf_value.specs.declared.value.Outcome.TheVariants.{Is}
-use Rattle.zf_meaning.specs.Environments.{Environment, Context, within, value_or, outcome_or, outcome_in}
-use Rattle.zf_meaning.specs.Rows.{IsOfType, AreOfTypes}
 use Rattle.zf_typed.proofs.OfTypes.{first_of_types}
 use Rattle.zf_typed.proofs.Operations.{IsOfSort, sorted}
 

@@ -1,17 +1,6 @@
 -- Values of types: the sets, pairs and tuples that are made of them, and the parts that these have.
-use Rattle.std.proofs.Common.{◌≡◌, ◌≤◌, ℤ, List, [], ◌∷◌, length, refl, sym, ap, ◌∙◌, subst}
-use Rattle.zf_term.specs.Types.{Ty, int, power, product, Tys, no_types, type, pair}
-use Rattle.zf_value.specs.declared.TheConstants.{SET_MAX}
-use Rattle.zf_value.specs.declared.value.Value.{Value, Tuple}
-use Rattle.zf_value.specs.declared.value.Outcome.TheVariants.{Is}
-use Rattle.zf_value.specs.Numbers.{IsNumber}
+use Rattle.zf_typed.proofs.Prelude.{◌∙◌, ◌∷◌, ◌≡◌, ◌≤◌, [], ap, length, List, refl, subst, sym, ℤ, every_at, every_from, members-SetOf, parts-Tuple, IsNumber, Relates, IsAscending, IsMember, IsSetOf, members, parts, SET_MAX, Is, Tuple, Value, int, no_types, pair, power, product, Ty, type, Tys, Environment, AreOfTypes, IsOfType}
 use Rattle.zf_value.specs.Operations as op
-use Rattle.zf_value.specs.Operations.{Relates}
-use Rattle.zf_value.specs.Sets.{IsMember, IsAscending, IsSetOf, members, parts}
-use Rattle.zf_value.proofs.Among.{every_from, every_at}
-use Rattle.zf_value.proofs.Seen.{members-SetOf, parts-Tuple}
-use Rattle.zf_meaning.specs.Environments.{Environment}
-use Rattle.zf_meaning.specs.Rows.{IsOfType, AreOfTypes}
 
 -- the members of a set of the type
 pub record AreMembers (e : Environment) (t : Ty) (xs : List Value) : Type 0 where

@@ -1,31 +1,14 @@
 -- What each symbol makes of values of the types that it takes is a value of the type that it gives.
-use Rattle.std.proofs.Common.{◌≡◌, ◌⊎◌, ℕ, ℤ, List, Some, sym, ap, ◌∙◌, subst, ⊎_elim, arith}
+use Rattle.zf_typed.proofs.Prelude.{◌∙◌, ◌≡◌, ◌⊎◌, ap, arith, List, Some, subst, sym, ℕ, ℤ, ⊎_elim, ints, w64, number_of-Int, number_of, OnNumber, OnNumbers, IsBetweenNumbers, IsDifference, IsInterval, IsModulus, IsNegation, IsProduct, IsQuotient, IsSum, IsInDomain, IsInRange, IsPairOf, Relates, IsApplied, IsComposition, IsDomain, IsDomainRestriction, IsDomainSubtraction, IsImage, IsIntersection, IsInverse, IsOverriding, IsRange, IsRangeRestriction, IsRangeSubtraction, IsSetDifference, IsSize, IsUnion, IsMember, IsSetOf, members, Outcome, Is, Undefined, Value, function_rule, rule_of, Operator, Unary, int, pair, power, Ty, a_schema, number, predicate, PrefixTakes, relation, set_of, Sort, Takes, typed, UnaryTakes, Environment, IsOfType, BinaryOutcome, InfixOutcome, PrefixOutcome, UnaryOutcome}
 use Rattle.std.specs.Prelude.{pos, negsuc, ◌≤ℤ◌, FitsSigned, Option, None}
-use Rattle.std.specs.Int.{w64}
-use Rattle.std.proofs.lemmas.Int.{ints}
 use Rattle.zf_tree.specs.declared.symbol.Infix.{Infix}
 use Rattle.zf_tree.specs.declared.symbol.Infix.TheVariants.{Maplet, UpTo, Plus, Minus, Union, Difference, Times, Div, Mod, Intersection, Composition, Overriding, DomainRestriction, RangeRestriction, DomainSubtraction, RangeSubtraction}
 use Rattle.zf_tree.specs.declared.symbol.Prefix.{Prefix}
 use Rattle.zf_tree.specs.declared.symbol.Prefix.TheVariants as prefix
 use Rattle.zf_tree.specs.declared.operator.Sign.TheVariants as sign
-use Rattle.zf_tree.specs.declared.operator.Operator.{Operator}
 use Rattle.zf_tree.specs.declared.operator.Operator.TheVariants as operator
-use Rattle.zf_tree.specs.declared.operator.Unary.{Unary}
 use Rattle.zf_tree.specs.declared.operator.Unary.TheVariants as unary
-use Rattle.zf_tree.specs.Operators.{rule_of, function_rule}
-use Rattle.zf_term.specs.Types.{Ty, int, power, pair}
-use Rattle.zf_type.specs.Rules.{Sort, typed, predicate, a_schema, number, set_of, relation, Takes, PrefixTakes, UnaryTakes}
-use Rattle.zf_value.specs.declared.value.Value.{Value}
-use Rattle.zf_value.specs.declared.value.Outcome.{Outcome}
-use Rattle.zf_value.specs.declared.value.Outcome.TheVariants.{Is, Undefined}
-use Rattle.zf_value.specs.Numbers.{number_of, OnNumber, OnNumbers, IsNegation, IsSum, IsDifference, IsProduct, IsQuotient, IsModulus, IsBetweenNumbers, IsInterval}
 use Rattle.zf_value.specs.Operations as op
-use Rattle.zf_value.specs.Operations.{Relates, IsPairOf, IsInDomain, IsInRange, IsUnion, IsIntersection, IsSetDifference, IsSize, IsDomain, IsRange, IsInverse, IsImage, IsComposition, IsOverriding, IsDomainRestriction, IsDomainSubtraction, IsRangeRestriction, IsRangeSubtraction, IsApplied}
-use Rattle.zf_value.specs.Sets.{IsMember, IsSetOf, members}
-use Rattle.zf_value.proofs.Seen.{number_of-Int}
-use Rattle.zf_meaning.specs.Environments.{Environment}
-use Rattle.zf_meaning.specs.Rows.{IsOfType}
-use Rattle.zf_meaning.specs.Symbols.{InfixOutcome, BinaryOutcome, PrefixOutcome, UnaryOutcome}
 use Rattle.zf_typed.proofs.OfTypes.{AreMembers, members_of, a_set, a_number, a_pair, related}
 use Rattle.zf_typed.proofs.Relations.{a_power, an_arrow}
 

@@ -1,20 +1,9 @@
 -- Sets of relations, functions and subsets are sets of sets of the type.
-use Rattle.std.proofs.Common.{◌≡◌, ◌≤◌, List, [], ◌∷◌, length, refl, sym, ap, ◌∙◌, subst, ⊎_elim, arith}
+use Rattle.zf_typed.proofs.Prelude.{◌∙◌, ◌∷◌, ◌≡◌, ◌≤◌, [], ap, arith, length, List, refl, subst, sym, ⊎_elim, every_from, members-SetOf, IsBetween, IsFunctional, IsInjective, IsRelationThat, IsSubset, IsTotal, ArePartialFunctions, ArePartialInjections, AreRelations, AreTotalFunctions, AreTotalInjections, IsPower, IsAscending, IsMember, IsSetOf, members, AreAmong, SET_MAX, Is, SetOf, Value, pair, power, Ty, Environment, IsOfType, ArrowOutcome}
 use Rattle.zf_tree.specs.declared.symbol.Arrow.{Arrow}
 use Rattle.zf_tree.specs.declared.symbol.Arrow.TheVariants as arrow
-use Rattle.zf_term.specs.Types.{Ty, power, pair}
-use Rattle.zf_value.specs.declared.TheConstants.{SET_MAX}
-use Rattle.zf_value.specs.declared.value.Value.{Value, SetOf}
-use Rattle.zf_value.specs.declared.value.Outcome.TheVariants.{Is}
 use Rattle.zf_value.specs.Operations as op
-use Rattle.zf_value.specs.Operations.{IsSubset, IsPower, IsBetween, IsFunctional, IsInjective, IsTotal, IsRelationThat, AreRelations, ArePartialFunctions, AreTotalFunctions, ArePartialInjections, AreTotalInjections}
-use Rattle.zf_value.specs.Sets.{IsMember, IsAscending, IsSetOf, AreAmong, members}
-use Rattle.zf_value.proofs.Among.{every_from}
 use Rattle.zf_value.proofs.Once as once
-use Rattle.zf_value.proofs.Seen.{members-SetOf}
-use Rattle.zf_meaning.specs.Environments.{Environment}
-use Rattle.zf_meaning.specs.Rows.{IsOfType}
-use Rattle.zf_meaning.specs.Symbols.{ArrowOutcome}
 use Rattle.zf_typed.proofs.Injected.{no_longer}
 use Rattle.zf_typed.proofs.OfTypes.{AreMembers, a_set, a_pair}
 

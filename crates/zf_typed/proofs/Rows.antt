@@ -1,15 +1,7 @@
 -- The rows of a schema's ranges are rows of its types.
-use Rattle.std.proofs.Common.{◌≡◌, ℕ, List, [], ◌∷◌, Option, Some, None, refl, sym, subst}
-use Rattle.std.specs.Prelude.{MatchOption, slice_get}
-use Rattle.zf_term.specs.Definitions.{Comp, Defined, schema, sets_of}
-use Rattle.zf_schema.specs.WellTypedGlobals.{AreWellTyped}
+use Rattle.zf_typed.proofs.Prelude.{◌∷◌, ◌≡◌, [], List, None, Option, refl, Some, subst, sym, ℕ, MatchOption, slice_get, member, Outcome, Value, Comp, Defined, schema, sets_of, AreWellTyped, Environment, IsOfType, IsRow}
 use Rattle.zf_schema.proofs.Globals.{names_once}
 use Rattle.zf_schema.proofs.WellTyped.{globals_well_typed}
-use Rattle.zf_value.specs.declared.value.Value.{Value}
-use Rattle.zf_value.specs.declared.value.Outcome.{Outcome}
-use Rattle.zf_value.proofs.Among.{member}
-use Rattle.zf_meaning.specs.Environments.{Environment}
-use Rattle.zf_meaning.specs.Rows.{IsOfType, IsRow}
 use Rattle.zf_walk.specs.Rows.{IsRowOf}
 use Rattle.zf_enum.specs.Ranges.{AreRanges, IsRange, first_held, later_held}
 use Rattle.zf_typed.specs.RowLaws.{AreHeldTyped, RowsTyped, EventsTyped, EventsOfTextsTyped}

@@ -1,21 +1,7 @@
 -- The declared sets of each schema that is defined are sets for its components.
-use Rattle.std.proofs.Common.{◌≡◌, ℕ, zero, suc, ◌<◌, List, [], ◌∷◌, take, Some, refl, sym, subst, arith}
-use Rattle.std.specs.Prelude.{slice_get}
+use Rattle.zf_typed.proofs.Prelude.{◌<◌, ◌∷◌, ◌≡◌, [], arith, List, refl, Some, subst, suc, sym, take, zero, ℕ, none-some, same_Some, slice_get, spelling, both, DeclTree, either, include, reference, schema_bracket, schema_text, SchemaTree, vars, Name, abbreviation, constructor, DeclaredSet, Defined, Definition, free_type, given_set, plain, Schema, schema, Ty, resolved, comp, marked, nothing, named_there, constrained_comps, reference_once, schema_once, AddsAll, Declares, DeclaresOne, IsSchema, outside, Refers, HasCompsOnce, HaveCompsOnce, AreWellTyped, IsMadeAfter}
 use Rattle.std.specs.List.{AllByRecursion}
-use Rattle.std.proofs.lemmas.Option.{same_Some, none-some}
-use Rattle.zf_tree.specs.declared.tree.Name.{Name}
 use Rattle.zf_tree.specs.declared.tree.SchemaRef.{SchemaRef}
-use Rattle.zf_tree.specs.Trees.{DeclTree, vars, include, SchemaTree, schema_text, reference, both, either, schema_bracket}
-use Rattle.zf_term.specs.Definitions.{Schema, DeclaredSet, plain, Defined, Definition, given_set, free_type, constructor, abbreviation, schema}
-use Rattle.zf_term.specs.Types.{Ty}
-use Rattle.zf_type.specs.Resolving.{resolved}
-use Rattle.zf_tree.specs.Names.{spelling}
-use Rattle.zf_calculus.specs.Calculus.{nothing, comp, marked}
-use Rattle.zf_schema.specs.Expressions.{outside, Refers, AddsAll, DeclaresOne, Declares, IsSchema}
-use Rattle.zf_schema.specs.SchemaLaws.{HasCompsOnce, HaveCompsOnce}
-use Rattle.zf_schema.specs.WellTypedGlobals.{IsMadeAfter, AreWellTyped}
-use Rattle.zf_schema.proofs.Named.{named_there}
-use Rattle.zf_schema.proofs.Once.{schema_once, reference_once, constrained_comps}
 use Rattle.zf_typed.proofs.DeclaredSets.{IsSetFor}
 use Rattle.zf_typed.proofs.Globals.{in_front}
 use Rattle.zf_typed.proofs.Components.{AreCompsFor, one_more_for, joined_for, decorated_for, marked_for, either_for}

@@ -1,40 +1,16 @@
 -- The outcome of a well typed term is of its type, where each value that is bound is of its own.
-use Rattle.std.proofs.Common.{◌≡◌, ℕ, List, [], ◌∷◌, ◌++◌, length, replicate, refl, sym, ap, ◌∙◌, subst, ⊎_elim, arith}
-use Rattle.std.specs.Prelude.{pos}
-use Rattle.zf_tree.specs.declared.symbol.Constant.{Constant}
+use Rattle.zf_typed.proofs.Prelude.{◌++◌, ◌∙◌, ◌∷◌, ◌≡◌, [], ap, arith, length, List, refl, replicate, subst, sym, ℕ, ⊎_elim, pos, AreFrom, IsCross, IsDisplay, IsMember, Outcome, Is, Out, Undefined, SetOf, Value, spelling, rule_of, no_decls, no_trees, Perhaps, Tree, tree, Trees, var_decl, VarDecls, Operator, Unary, Constant, Name, ResolvedPart, ResolvedTree, no_types, power, Ty, type, Tys, bound, referent, resolved, resolved_all, resolved_part, resolved_ranges, number, predicate, set_of, Sort, Takes, typed, UnaryTakes, Scope, Var, AreAll, AreMembers, Declare, IsOf, Makes, member_sort, row_type, types_of, variables, Context, Environment, outcome_in, within, constant_outcome, HasOutcome, HaveOutcomes, HaveRanges, IsBuilt, IsBuiltBy, IsConstraint, row_value, OnBoth, one_more, one_out, one_undefined, OnOne, OnSeveral, repeated, Several, values, AreOfTypes, IsOfType, BinaryOutcome, ListedOutcome, UnaryOutcome}
 use Rattle.zf_tree.specs.declared.symbol.Constant.TheVariants as constants
-use Rattle.zf_tree.specs.declared.tree.Name.{Name}
 use Rattle.zf_tree.specs.Trees as text
-use Rattle.zf_tree.specs.Trees.{Tree, Trees, no_trees, tree, VarDecls, no_decls, var_decl, Perhaps}
 use Rattle.zf_tree.specs.declared.operator.Listed.{Listed}
 use Rattle.zf_tree.specs.declared.operator.Listed.TheVariants.{Tuple, Display, Product}
-use Rattle.zf_tree.specs.declared.operator.Operator.{Operator}
-use Rattle.zf_tree.specs.declared.operator.Unary.{Unary}
-use Rattle.zf_tree.specs.Operators.{rule_of}
-use Rattle.zf_term.specs.ResolvedTrees.{ResolvedTree, ResolvedPart}
-use Rattle.zf_term.specs.Types.{Ty, Tys, power, no_types, type}
 use Rattle.zf_term.specs.Types as t
-use Rattle.zf_type.specs.Resolving.{referent, bound, resolved, resolved_all, resolved_ranges, resolved_part}
-use Rattle.zf_type.specs.Rules.{Sort, typed, predicate, number, set_of, Takes, UnaryTakes}
-use Rattle.zf_type.specs.Scopes.{Scope, Var}
-use Rattle.zf_tree.specs.Names.{spelling}
 use Rattle.zf_type.specs.Scopes as scopes
-use Rattle.zf_type.specs.Typing.{IsOf, AreMembers, AreAll, Makes, member_sort, Declare, types_of, row_type, variables}
 use Rattle.zf_type.specs.Typing as typing
 use Rattle.zf_type.proofs.ResolvedAlike.{part_within}
-use Rattle.zf_value.specs.declared.value.Value.{Value, SetOf}
 use Rattle.zf_value.specs.declared.value.Value as value
-use Rattle.zf_value.specs.declared.value.Outcome.{Outcome}
-use Rattle.zf_value.specs.declared.value.Outcome.TheVariants.{Is, Undefined, Out}
 use Rattle.zf_value.specs.declared.value.Truth.{Truth}
-use Rattle.zf_value.specs.Operations.{AreFrom, IsDisplay, IsCross}
-use Rattle.zf_value.specs.Sets.{IsMember}
-use Rattle.zf_meaning.specs.Environments.{Environment, Context, within, outcome_in}
-use Rattle.zf_meaning.specs.Meaning.{HasOutcome, HaveOutcomes, HaveRanges, IsBuilt, IsBuiltBy, constant_outcome, row_value, IsConstraint}
 use Rattle.zf_meaning.specs.Meaning as meaning
-use Rattle.zf_meaning.specs.Outcomes.{OnOne, OnBoth, Several, values, one_undefined, one_out, one_more, repeated, OnSeveral}
-use Rattle.zf_meaning.specs.Rows.{IsOfType, AreOfTypes}
-use Rattle.zf_meaning.specs.Symbols.{BinaryOutcome, UnaryOutcome, ListedOutcome}
 use Rattle.zf_typed.proofs.Names.{Fits, fits_within, named_typed}
 use Rattle.zf_typed.proofs.OfTypes.{members_of, a_set, a_number, first_of_types}
 use Rattle.zf_typed.proofs.Operations.{IsOfSort, sorted, binary, unary_made}

@@ -1,18 +1,10 @@
 -- Members of lists, and lists in order.
-use Rattle.std.proofs.Common.{IsTrue, true, false, ◌≡◌, ◌⊎◌, ◌↔◌, ℕ, zero, suc, ◌+◌, ◌-◌, ◌<◌, ◌≤◌, List, [], ◌∷◌, ◌++◌, length, take, drop, get_or, refl, sym, ap, ◌∙◌, subst, inl, inr, ⊎_elim, Less, arith, add-one}
-use Rattle.std.specs.List.{Contains, AllByRecursion, AllAdjacentBelow}
-use Rattle.std.specs.Ordering.{is_lt}
+use Rattle.zf_value.proofs.Prelude.{◌++◌, ◌+◌, ◌-◌, ◌<◌, ◌↔◌, ◌∙◌, ◌∷◌, ◌≡◌, ◌≤◌, ◌⊎◌, [], add-one, ap, arith, drop, false, get_or, inl, inr, IsTrue, length, Less, List, refl, subst, suc, sym, take, true, zero, ℕ, ⊎_elim, tied_itself, get_or_default, all_adjacent_more, AllAdjacentBelow, AllByRecursion, Contains, IsStrictlySortedBy, is_lt, Every, IsAscending, IsMember, value_order, AreAmong, Value}
 use Rattle.std.specs.declared.cmp.Ordering.{Ordering}
 use Rattle.std.specs.declared.cmp.Ordering.TheVariants.{Equal, Greater}
-use Rattle.std.specs.List.Sorted.{IsStrictlySortedBy}
-use Rattle.std.proofs.lemmas.Cmp.{tied_itself}
-use Rattle.std.proofs.lemmas.List.{get_or_default}
 use Rattle.std.proofs.lemmas.List.Elements.{Contains-get_or}
-use Rattle.std.proofs.lemmas.List.Sorted.{all_adjacent_more}
 use Rattle.std.proofs.lemmas.Map.Keys.{sorted_from_all_adjacent}
-use Rattle.zf_value.specs.declared.value.Value.{Value}
 use Rattle.zf_value.specs.contracts.value.ValueOrd.TheImpl.Laws.{total-law}
-use Rattle.zf_value.specs.Sets.{value_order, IsMember, Every, IsAscending, AreAmong}
 
 -- ---- each of a list
 

@@ -1,13 +1,5 @@
 -- The one pair among those that begin with a value.
-use Rattle.std.proofs.Common.{◌≡◌, ℕ, zero, suc, ◌+◌, ◌<◌, ◌≤◌, List, [], ◌∷◌, length, take, get_or, sym, ap, ◌∙◌, subst, inl, inr, ⊎_elim, true, false, Option, Some, None, Less, arith, add-one}
-use Rattle.std.specs.Option.{is_some, IfSome}
-use Rattle.std.specs.Prelude.{MatchOption}
-use denote.Ref.{Bor}
-use Rattle.zf_value.specs.declared.value.Value.{Value}
-use Rattle.zf_value.specs.declared.value.Outcome.TheVariants.{Is, Undefined}
-use Rattle.zf_value.specs.Operations.{pair, Relates, IsApplied}
-use Rattle.zf_value.specs.Sets.{value_order, IsMember, IsAscending, IsRegular, IsRegularSet}
-use Rattle.zf_value.specs.Steps.{AreRelated}
+use Rattle.zf_value.proofs.Prelude.{◌+◌, ◌<◌, ◌∙◌, ◌∷◌, ◌≡◌, ◌≤◌, [], add-one, ap, arith, false, get_or, inl, inr, length, Less, List, None, Option, Some, subst, suc, sym, take, true, zero, ℕ, ⊎_elim, IfSome, is_some, MatchOption, Bor, pair, Relates, IsApplied, IsAscending, IsMember, IsRegularSet, value_order, IsRegular, AreRelated, Is, Undefined, Value}
 use Rattle.zf_value.proofs.Among.{below_at, not_below_itself, member_at, members-take_more, take_all, before_in}
 use Rattle.zf_value.proofs.Gathered.{same_pair}
 use Rattle.zf_value.proofs.Regulars.{regular_member, regular_pair}

@@ -1,12 +1,5 @@
 -- Numbers and elements, compared by what they hold.
-use Rattle.std.proofs.Common.{◌≡◌, ℕ, ℤ, refl, sym, ap, ◌∙◌, Ordering, Equal}
-use Rattle.std.specs.Cmp.{nat_cmp_is}
-use Rattle.std.specs.Ordering.{ordering_then, nat_cmp, int_cmp}
-use Rattle.zf_value.specs.declared.value.Value.{Value, Int, Elem, out-Value}
-use Rattle.zf_value.specs.declared.value.Value.TheOpen.{Value-F}
-use Rattle.zf_value.specs.declared.value.Value.TheVariants.{outs-Int, outs-Elem}
-use Rattle.zf_value.specs.Order.{level_order}
-use Rattle.zf_value.specs.Sets.{value_order}
+use Rattle.zf_value.proofs.Prelude.{◌∙◌, ◌≡◌, ap, Equal, Ordering, refl, sym, ℕ, ℤ, nat_cmp_is, int_cmp, nat_cmp, ordering_then, level_order, value_order, Elem, Int, out-Value, Value, Value-F, outs-Elem, outs-Int}
 use Rattle.zf_value.proofs.Exact.{cmp_is}
 
 pub compared_numbers : (m n : ℤ) → value_order (Int m) (Int n) ≡ int_cmp m n

@@ -1,15 +1,5 @@
 -- What composition and overriding list.
-use Rattle.std.proofs.Common.{◌≡◌, ◌⊎◌, ◌↔◌, ℕ, ◌+◌, ◌<◌, ◌≤◌, List, [], ◌∷◌, ◌++◌, length, take, get_or, refl, sym, ap, ◌∙◌, subst, inl, inr, ⊎_elim, Result, add-one}
-use Rattle.std.specs.Result.{IfOk}
-use Rattle.std.specs.declared.alloc.AllocError.{AllocError}
-use Rattle.zf_value.specs.declared.part.Keep.TheVariants.{Others}
-use Rattle.zf_value.specs.declared.part.Part.TheVariants.{Whole, First}
-use Rattle.zf_value.specs.declared.value.Value.{Value}
-use Rattle.zf_value.specs.declared.value.Outcome.{Outcome}
-use Rattle.zf_value.specs.declared.value.Outcome.TheVariants.{Out}
-use Rattle.zf_value.specs.Operations.{pair, Relates, IsInDomain, IsPairOf, IsDisplay, IsComposition, IsOverriding}
-use Rattle.zf_value.specs.Sets.{IsMember, HaveSameMembers, IsRegular, IsRegularSet}
-use Rattle.zf_value.specs.Steps.{IsGathered, IsPartOf, IsSelected, AreRelated, AddsPairs}
+use Rattle.zf_value.proofs.Prelude.{◌++◌, ◌+◌, ◌<◌, ◌↔◌, ◌∙◌, ◌∷◌, ◌≡◌, ◌≤◌, ◌⊎◌, [], add-one, ap, get_or, inl, inr, length, List, refl, Result, subst, sym, take, ℕ, ⊎_elim, IfOk, AllocError, IsInDomain, IsPairOf, pair, Relates, IsComposition, IsDisplay, IsOverriding, IsMember, IsRegularSet, HaveSameMembers, IsRegular, AreRelated, IsPartOf, IsSelected, AddsPairs, IsGathered, Others, First, Whole, Outcome, Out, Value}
 use Rattle.zf_value.proofs.Among.{members-append, members-push, members-take_more, take_all, every_also, before_in}
 use Rattle.zf_value.proofs.Gathered.{same_pair, gathered_more, gathered_pass}
 use Rattle.zf_value.proofs.Listed.{IsMade, related_regular, pair_of_regular, in_domain, by_first}

@@ -1,8 +1,5 @@
 -- The first values of a sequence, in order.
-use Rattle.std.proofs.Common.{◌≡◌, ◌↔◌, ℕ, zero, suc, ◌<◌, List, [], ◌∷◌, ◌++◌, length, refl, sym, ap, ◌∙◌, subst, inl, inr, ⊎_elim, Less, arith, length-append}
-use Rattle.std.proofs.lemmas.Bool.{cases_lt}
-use Rattle.zf_value.specs.declared.value.Value.{Value}
-use Rattle.zf_value.specs.Sets.{value_order, IsMember, IsAscending}
+use Rattle.zf_value.proofs.Prelude.{◌++◌, ◌<◌, ◌↔◌, ◌∙◌, ◌∷◌, ◌≡◌, [], ap, arith, inl, inr, length, length-append, Less, List, refl, subst, suc, sym, zero, ℕ, ⊎_elim, cases_lt, IsAscending, IsMember, value_order, Value}
 use Rattle.zf_value.proofs.Among.{every_from, members-push, ascending-push}
 
 -- the first k values of f

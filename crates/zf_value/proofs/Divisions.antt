@@ -1,11 +1,6 @@
 -- A quotient and a remainder are the only ones.
-use Rattle.std.proofs.Common.{◌≡◌, ◌⊎◌, ℕ, zero, suc, ◌+◌, ◌*◌, ◌-◌, ◌<◌, ◌≤◌, ℤ, refl, sym, ap, ◌∙◌, subst, inl, inr, ⊎_elim, arith}
-use Rattle.std.specs.Prelude.{pos, negsuc, ◌+ℤ◌, ◌-ℤ◌, ◌*ℤ◌}
-use Rattle.std.proofs.lemmas.Bool.{cases_lt}
-use Rattle.std.proofs.lemmas.Int.{ints, quot-rem, rem_below}
-use Rattle.std.specs.Int.RustNames.{int_div, int_rem, unsigned_abs}
+use Rattle.zf_value.proofs.Prelude.{◌*◌, ◌+◌, ◌-◌, ◌<◌, ◌∙◌, ◌≡◌, ◌≤◌, ◌⊎◌, ap, arith, inl, inr, refl, subst, suc, sym, zero, ℕ, ℤ, ⊎_elim, cases_lt, ints, quot-rem, rem_below, int_div, int_rem, unsigned_abs, ◌*ℤ◌, ◌+ℤ◌, ◌-ℤ◌, negsuc, pos, DivisionsTell, IsDivision, IsNumber, IsRemainder, IsModulus, IsQuotient}
 use lib.IntN.{zero-*ℤ, +ℤ-suc_ℤ, suc_ℤ-*ℤ}
-use Rattle.zf_value.specs.Numbers.{IsNumber, IsRemainder, IsDivision, IsQuotient, IsModulus, DivisionsTell}
 use Rattle.zf_value.proofs.Once.{HasOne, one_number}
 
 -- ---- worked rows

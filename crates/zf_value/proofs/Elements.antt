@@ -1,16 +1,5 @@
 -- The elements of a type, in order.
-use Rattle.std.proofs.Common.{◌≡◌, ◌↔◌, ℕ, ◌+◌, ◌<◌, List, [], ◌∷◌, ◌++◌, sym, ap, ◌∙◌, subst, Less, Result, IsTrue, false, ltb, eqb, arith, add-one}
-use Rattle.std.specs.Cmp.{nat_cmp_is}
-use Rattle.std.specs.Ordering.{nat_cmp}
-use Rattle.std.proofs.lemmas.Bool.{ltb-true, lt-ltb, eqb-true}
-use Rattle.std.specs.Result.{IfOk}
-use Rattle.std.specs.declared.alloc.AllocError.{AllocError}
-use Rattle.zf_value.specs.declared.TheConstants.{SET_MAX}
-use Rattle.zf_value.specs.declared.value.Outcome.{Outcome}
-use Rattle.zf_value.specs.declared.value.Outcome.TheVariants.{Out}
-use Rattle.zf_value.specs.declared.value.Value.{Value, Elem}
-use Rattle.zf_value.specs.Operations.{IsElement, AreElements, IsDisplay}
-use Rattle.zf_value.specs.Sets.{value_order, IsMember, IsAscending, IsRegular}
+use Rattle.zf_value.proofs.Prelude.{◌++◌, ◌+◌, ◌<◌, ◌↔◌, ◌∙◌, ◌∷◌, ◌≡◌, [], add-one, ap, arith, eqb, false, IsTrue, Less, List, ltb, Result, subst, sym, ℕ, eqb-true, lt-ltb, ltb-true, nat_cmp_is, nat_cmp, IfOk, AllocError, AreElements, IsDisplay, IsElement, IsAscending, IsMember, value_order, IsRegular, SET_MAX, Outcome, Out, Elem, Value}
 use Rattle.zf_value.proofs.Counted.{first, members-first, ascending-first, length-first}
 use Rattle.zf_value.proofs.Compared.{compared_places}
 use Rattle.zf_value.proofs.Listed.{IsMade}

@@ -1,14 +1,8 @@
 -- The derived order is that of values, and values that tie are one.
-use Rattle.std.proofs.Common.{true, IsTrue, ◌↔◌, subst, ◌≡◌, List, [], ◌∷◌, map, refl, sym, ap, ◌∙◌, Ordering, Less, Equal, Greater}
-use Rattle.std.specs.Ordering.{ordering_then, is_eq}
-use Rattle.std.proofs.lemmas.Cmp.{tied_itself}
-use Rattle.std.specs.Cmp.Lexicographic.{slice_cmp}
+use Rattle.zf_value.proofs.Prelude.{◌↔◌, ◌∙◌, ◌∷◌, ◌≡◌, [], ap, Equal, Greater, IsTrue, Less, List, map, Ordering, refl, subst, sym, true, tied_itself, slice_cmp, is_eq, ordering_then, level_order, ind-Value, map-Value, out-roll-Value, out-Value, roll-out-Value, roll-Value, Value, Value-F}
 use Rattle.std.proofs.lemmas.Map.Lookups.{exact_unsigned, exact_signed}
-use Rattle.zf_value.specs.declared.value.Value.{Value, out-Value, roll-Value, ind-Value, map-Value, roll-out-Value, out-roll-Value}
-use Rattle.zf_value.specs.declared.value.Value.TheOpen.{Value-F}
 use Rattle.zf_value.specs.contracts.value.ValueOrd.TheImpl.{ghosts}
 use Rattle.zf_value.specs.contracts.value.ValueOrd.TheImpl.Laws.{is, total-law}
-use Rattle.zf_value.specs.Order.{level_order}
 
 abbrev pub cmp : Value → Value → Ordering
 cmp = ghosts.cmp

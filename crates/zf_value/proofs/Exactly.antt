@@ -1,17 +1,7 @@
 -- Numbers of 64 bits, or out.
-use Rattle.std.proofs.Common.{◌≡◌, ℕ, zero, suc, ℤ, to_z, of_z, refl, sym, ap, ◌∙◌, subst, inr, ⊎_elim, Option, Some, None, arith}
-use Rattle.std.specs.Prelude.{pos, negsuc, ◌+ℤ◌, ◌-ℤ◌, ◌*ℤ◌, neg_ℤ, ◌≤ℤ◌, FitsSigned, MatchOption}
+use Rattle.zf_value.proofs.Prelude.{◌∙◌, ◌≡◌, ap, arith, inr, None, of_z, Option, refl, Some, subst, suc, sym, to_z, zero, ℕ, ℤ, ⊎_elim, ints, to_z-of_z, int_div, int_rem, SomeIff, ◌*ℤ◌, ◌+ℤ◌, ◌-ℤ◌, ◌≤ℤ◌, FitsSigned, MatchOption, neg_ℤ, negsuc, pos, IsDivision, IsNumber, IsRemainder, IsModulus, IsNegation, IsQuotient, IsRegularOutcome, SET_MAX, Outcome, Is, Out, Int}
 use Rattle.std.specs.Int.{w64}
-use Rattle.std.proofs.lemmas.Int.{ints, to_z-of_z}
-use Rattle.std.specs.Option.{SomeIff}
-use Rattle.zf_value.specs.Sets.{IsRegularOutcome}
 use Rattle.zf_value.proofs.Regulars.{regular-Int}
-use Rattle.zf_value.specs.declared.TheConstants.{SET_MAX}
-use Rattle.zf_value.specs.declared.value.Value.{Int}
-use Rattle.zf_value.specs.declared.value.Outcome.{Outcome}
-use Rattle.zf_value.specs.declared.value.Outcome.TheVariants.{Is, Out}
-use Rattle.std.specs.Int.RustNames.{int_div, int_rem}
-use Rattle.zf_value.specs.Numbers.{IsNumber, IsRemainder, IsDivision, IsNegation, IsQuotient, IsModulus}
 use Rattle.zf_value.proofs.Divisions.{down, up}
 
 pub is_number : (m n : ℤ) → m ≡ n → FitsSigned w64 n → IsNumber n (Is (Int m))

@@ -1,14 +1,6 @@
 -- What a loop collects of the members of a list.
-use Rattle.std.proofs.Common.{◌≡◌, ◌⊎◌, ◌↔◌, ℕ, ◌+◌, ◌<◌, ◌≤◌, List, [], ◌∷◌, ◌++◌, length, take, get_or, refl, sym, ap, ◌∙◌, subst, inl, inr, ⊎_elim, Option, Some, None, Bool, true, false, not, IsTrue, add-one}
-use denote.Ref.{Bor}
-use Rattle.zf_value.specs.declared.value.Value.{Value}
-use Rattle.zf_value.specs.Operations.{pair}
-use Rattle.zf_value.specs.Sets.{IsMember, HaveSameMembers, parts}
-use Rattle.zf_value.specs.Steps.{IsGathered, GivesJust, IsPartOf, IsKept, IsSelected}
-use Rattle.zf_value.specs.declared.part.Keep.{Keep}
-use Rattle.zf_value.specs.declared.part.Keep.TheVariants.{Members, Others}
+use Rattle.zf_value.proofs.Prelude.{◌++◌, ◌+◌, ◌<◌, ◌↔◌, ◌∙◌, ◌∷◌, ◌≡◌, ◌≤◌, ◌⊎◌, [], add-one, ap, Bool, false, get_or, inl, inr, IsTrue, length, List, None, not, Option, refl, Some, subst, sym, take, true, ℕ, ⊎_elim, Bor, pair, IsMember, parts, HaveSameMembers, IsKept, IsPartOf, IsSelected, GivesJust, IsGathered, Keep, Members, Others, First, Second, Whole, Value}
 use Rattle.zf_value.specs.declared.part.Part.{Part}
-use Rattle.zf_value.specs.declared.part.Part.TheVariants.{Whole, First, Second}
 use Rattle.zf_value.proofs.Among.{members-take_more, members-push, take_all}
 use Rattle.zf_value.proofs.Seen.{parts-Tuple}
 

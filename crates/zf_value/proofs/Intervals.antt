@@ -1,21 +1,8 @@
 -- The numbers from one to another, in order.
-use Rattle.std.proofs.Common.{◌≡◌, ◌↔◌, ℕ, suc, ◌<◌, ℤ, List, [], ◌∷◌, ◌++◌, length, sym, ap, ◌∙◌, subst, ⊎_elim, Some, None, Less, Result, Vec, Global, IsTrue, true, false, arith}
-use Rattle.std.specs.Prelude.{pos, ◌+ℤ◌, ◌≤ℤ◌, ◌<ℤ◌}
-use Rattle.std.proofs.lemmas.Int.{ints}
+use Rattle.zf_value.proofs.Prelude.{◌++◌, ◌<◌, ◌↔◌, ◌∙◌, ◌∷◌, ◌≡◌, [], ap, arith, false, Global, IsTrue, length, Less, List, None, Result, Some, subst, suc, sym, true, Vec, ℕ, ℤ, ⊎_elim, ints, int_cmp_is, ◌+ℤ◌, ◌<ℤ◌, ◌≤ℤ◌, pos, IfOk, AllocError, number_of, IsBetweenNumbers, IsInterval, IsDisplay, IsAscending, IsMember, value_order, IsRegular, ListsNumbers, SET_MAX, Outcome, Out, Int, Value}
 use lib.Signed.{le_z}
-use Rattle.std.specs.Cmp.{int_cmp_is}
-use Rattle.std.specs.Result.{IfOk}
-use Rattle.std.specs.declared.alloc.AllocError.{AllocError}
-use Rattle.zf_value.specs.declared.TheConstants.{SET_MAX}
-use Rattle.zf_value.specs.declared.value.Value.{Value, Int}
-use Rattle.zf_value.specs.declared.value.Outcome.{Outcome}
-use Rattle.zf_value.specs.declared.value.Outcome.TheVariants.{Out}
-use Rattle.zf_value.specs.Numbers.{number_of, IsBetweenNumbers, IsInterval}
-use Rattle.zf_value.specs.Operations.{IsDisplay}
-use Rattle.zf_value.specs.Sets.{value_order, IsMember, IsAscending, IsRegular}
 use Rattle.zf_value.proofs.Among.{every_at}
 use Rattle.zf_value.proofs.Counted.{first, members-first, ascending-first, length-first}
-use Rattle.zf_value.specs.Steps.{ListsNumbers}
 use Rattle.zf_value.proofs.Divisions.{either_way}
 use Rattle.zf_value.proofs.Compared.{compared_numbers}
 use Rattle.zf_value.proofs.Listed.{IsMade}

@@ -1,15 +1,5 @@
 -- What each operation on sets and relations lists, and that it is regular.
-use Rattle.std.proofs.Common.{◌≡◌, ◌⊎◌, ◌↔◌, ℕ, ◌+◌, ◌<◌, length, take, get_or, List, [], ◌∷◌, ◌++◌, refl, sym, ap, ◌∙◌, subst, ⊎_elim, Result}
-use Rattle.std.specs.Result.{IfOk}
-use Rattle.std.specs.declared.alloc.AllocError.{AllocError}
-use Rattle.zf_value.specs.declared.part.Keep.{Keep}
-use Rattle.zf_value.specs.declared.part.Keep.TheVariants.{Members, Others}
-use Rattle.zf_value.specs.declared.part.Part.TheVariants.{Whole, First, Second}
-use Rattle.zf_value.specs.declared.value.Value.{Value}
-use Rattle.zf_value.specs.declared.value.Outcome.{Outcome}
-use Rattle.zf_value.specs.Operations.{pair, Relates, IsInDomain, IsInRange, IsPairOf, IsDisplay, IsUnion, IsIntersection, IsSetDifference, IsDomain, IsRange, IsInverse, IsImage, IsDomainRestriction, IsDomainSubtraction, IsRangeRestriction, IsRangeSubtraction}
-use Rattle.zf_value.specs.Sets.{IsMember, IsRegular, AreRegular, IsRegularSet, IsRegularOutcome}
-use Rattle.zf_value.specs.Steps.{IsGathered, IsJoined, IsPartOf, IsKept, IsSelected}
+use Rattle.zf_value.proofs.Prelude.{◌++◌, ◌+◌, ◌<◌, ◌↔◌, ◌∙◌, ◌∷◌, ◌≡◌, ◌⊎◌, [], ap, get_or, length, List, refl, Result, subst, sym, take, ℕ, ⊎_elim, IfOk, AllocError, IsInDomain, IsInRange, IsPairOf, pair, Relates, IsDisplay, IsDomain, IsDomainRestriction, IsDomainSubtraction, IsImage, IsIntersection, IsInverse, IsRange, IsRangeRestriction, IsRangeSubtraction, IsSetDifference, IsUnion, IsMember, IsRegularOutcome, IsRegularSet, AreRegular, IsRegular, IsKept, IsPartOf, IsSelected, IsGathered, IsJoined, Keep, Members, Others, First, Second, Whole, Outcome, Value}
 use Rattle.zf_value.proofs.Gathered.{same_pair, gathered_push, gathered_pass}
 use Rattle.zf_value.proofs.Making.{made, made_gathered}
 use Rattle.zf_value.proofs.Regulars.{regular_member, regular-pair, regular_pair, regular_made}

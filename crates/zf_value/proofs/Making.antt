@@ -1,27 +1,13 @@
 -- The one way in which sets are made: from an ascending list of the values that pass.
-use Rattle.std.proofs.Common.{Bool, true, false, ltb, ◌≡◌, ◌↔◌, ℕ, ◌+◌, ◌*◌, ◌<◌, ◌≤◌, List, [], length, take, refl, sym, ap, ◌∙◌, subst, arith, length-take}
+use Rattle.zf_value.proofs.Prelude.{◌*◌, ◌+◌, ◌<◌, ◌↔◌, ◌∙◌, ◌≡◌, ◌≤◌, [], ap, arith, Bool, false, length, length-take, List, ltb, refl, subst, sym, take, true, ℕ, ltb-false, ltb-true, Contains-permutation, IsPermutation-sym, IfOk-weaker, dedup, IsPermutation, IsSorted, IfOk, AllocError, IsDisplay, IsAscending, IsMember, IsSetOf, value_order, HaveSameMembers, IsGathered, SET_MAX, Outcome, Is, Out, Undefined, SetOf, Value}
 use Rattle.std.specs.Bool.{MatchBool}
-use Rattle.std.specs.Result.{IfOk}
-use Rattle.std.proofs.lemmas.Bool.{ltb-true, ltb-false}
-use Rattle.std.proofs.lemmas.Result.{IfOk-weaker}
-use Rattle.std.specs.List.Sorted.{IsPermutation, IsSorted}
 use Rattle.std.specs.List.Retain.{IsFiltered, DiffersFromLast}
-use Rattle.std.specs.List.{dedup}
 use Rattle.std.specs.Prelude.{Result}
-use Rattle.std.specs.declared.alloc.AllocError.{AllocError}
 use Rattle.std.proofs.lemmas.List.Filters.{dedup_is}
 use Rattle.std.proofs.lemmas.List.Kept.{Contains-dedup, Contains-from_dedup, IsStrictlySortedBy-dedup}
-use Rattle.std.proofs.lemmas.List.Sorted.{Contains-permutation, IsPermutation-sym}
-use Rattle.zf_value.specs.declared.value.Value.{Value, SetOf}
-use Rattle.zf_value.specs.declared.value.Outcome.{Outcome}
-use Rattle.zf_value.specs.declared.value.Outcome.TheVariants.{Is, Undefined, Out}
-use Rattle.zf_value.specs.declared.TheConstants.{SET_MAX}
 use Rattle.zf_value.specs.contracts.value.ValuePartialEq.TheImpl as equality
 use Rattle.zf_value.specs.contracts.value.ValueEq.TheImpl.Laws as equal_laws
 use Rattle.zf_value.specs.contracts.value.ValueOrd.TheImpl.Laws as order_laws
-use Rattle.zf_value.specs.Operations.{IsDisplay}
-use Rattle.zf_value.specs.Sets.{value_order, IsMember, IsAscending, HaveSameMembers, IsSetOf}
-use Rattle.zf_value.specs.Steps.{IsGathered}
 use Rattle.zf_value.proofs.Exact.{exact, is_eq_true}
 use Rattle.zf_value.proofs.Among.{every_from, every_also, every-take, ascending, ascending-take, contained, member}
 

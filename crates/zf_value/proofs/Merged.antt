@@ -1,15 +1,10 @@
 -- Two ascending lists, merged.
-use Rattle.std.proofs.Common.{◌≡◌, ◌⊎◌, ◌↔◌, ℕ, suc, ◌+◌, ◌<◌, ◌≤◌, List, [], ◌∷◌, ◌++◌, length, take, drop, get_or, sym, ap, ◌∙◌, subst, inl, inr, ⊎_elim, Less, Equal, Greater, arith, add-one}
+use Rattle.zf_value.proofs.Prelude.{◌++◌, ◌+◌, ◌<◌, ◌↔◌, ◌∙◌, ◌∷◌, ◌≡◌, ◌≤◌, ◌⊎◌, [], add-one, ap, arith, drop, Equal, get_or, Greater, inl, inr, length, Less, List, subst, suc, sym, take, ℕ, ⊎_elim, append-nil, take-append-drop, ordering_reverse, Every, IsAscending, IsMember, value_order, IsJoined, Value}
 use Rattle.std.proofs.Math.Seq.{drop-cons, append_snoc}
-use Rattle.std.proofs.lemmas.List.{append-nil, take-append-drop}
 use Rattle.std.proofs.Math.ListN.{drop_of_length-le}
-use Rattle.zf_value.specs.declared.value.Value.{Value}
 use Rattle.zf_value.specs.contracts.value.ValueOrd.TheImpl.Laws.{total-law}
-use Rattle.zf_value.specs.Sets.{value_order, IsMember, Every, IsAscending}
-use Rattle.zf_value.specs.Steps.{IsJoined}
 use Rattle.zf_value.proofs.Among.{every_from, every_at, members-append, members-push, members-take_more}
 use Rattle.zf_value.proofs.Exact.{exact}
-use Rattle.std.specs.Ordering.{ordering_reverse}
 
 -- what is out is in order before what is left of each list, and has the members of what was taken of both
 pub record IsMerging (a b : List Value) (i j : ℕ) (out : List Value) : Type 0 where

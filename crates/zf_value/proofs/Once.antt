@@ -1,12 +1,6 @@
 -- Each operation has one outcome at most.
-use Rattle.std.proofs.Common.{◌≡◌, ◌↔◌, ℕ, ℤ, ◌≤◌, List, [], ◌∷◌, Option, Some, None, length, refl, sym, ap, ◌∙◌, subst, inl, inr, ⊎_elim, Ordering, Less, Equal, Greater, arith}
-use Rattle.std.specs.Ordering.{ordering_reverse}
-use Rattle.zf_value.specs.declared.value.Value.{Value, SetOf}
-use Rattle.zf_value.specs.declared.value.Outcome.{Outcome}
-use Rattle.zf_value.specs.declared.value.Outcome.TheVariants.{Is, Undefined, Out}
+use Rattle.zf_value.proofs.Prelude.{◌↔◌, ◌∙◌, ◌∷◌, ◌≡◌, ◌≤◌, [], ap, arith, Equal, Greater, inl, inr, length, Less, List, None, Option, Ordering, refl, Some, subst, sym, ℕ, ℤ, ⊎_elim, ordering_reverse, IsNumber, OnNumber, OnNumbers, IsDifference, IsInterval, IsNegation, IsProduct, IsSum, IsAscending, IsMember, IsSetOf, value_order, Outcome, Is, Out, Undefined, SetOf, Value}
 use Rattle.zf_value.specs.contracts.value.ValueOrd.TheImpl.Laws.{total-law}
-use Rattle.zf_value.specs.Sets.{value_order, IsMember, IsAscending, IsSetOf}
-use Rattle.zf_value.specs.Numbers.{IsNumber, OnNumber, OnNumbers, IsNegation, IsSum, IsDifference, IsProduct, IsInterval}
 use Rattle.zf_value.specs.Operations as op
 use Rattle.zf_value.proofs.Among.{every_at, not_below_itself}
 use Rattle.zf_value.proofs.Exact.{exact}

@@ -1,17 +1,6 @@
 -- Regular values: what makes one, and what one holds.
-use Rattle.std.proofs.Common.{◌≡◌, ℤ, ℕ, zero, suc, List, [], ◌∷◌, ◌++◌, Some, refl, sym, ap, ◌∙◌, subst, inl, inr, ⊎_elim, Bool, true, false}
+use Rattle.zf_value.proofs.Prelude.{◌++◌, ◌∙◌, ◌∷◌, ◌≡◌, [], ap, Bool, false, inl, inr, List, refl, Some, subst, suc, sym, true, zero, ℕ, ℤ, ⊎_elim, IfOk-weaker, IfOk, AllocError, IsNumber, pair, IsDisplay, Every, IsAscending, IsMember, IsRegularOutcome, IsRegularSet, IsSetOf, members, parts, parts_at, AreRegular, HaveSameMembers, IsRegular, Outcome, Is, Out, Undefined, Elem, Int, out-Value, SetOf, Tuple, Value, Value-F, outs-Elem, outs-Int, outs-SetOf, outs-Tuple}
 use Rattle.std.specs.Prelude.{slice_get, Result}
-use Rattle.std.specs.Result.{IfOk}
-use Rattle.std.specs.declared.alloc.AllocError.{AllocError}
-use Rattle.std.proofs.lemmas.Result.{IfOk-weaker}
-use Rattle.zf_value.specs.declared.value.Value.{Value, Int, Elem, Tuple, SetOf, out-Value}
-use Rattle.zf_value.specs.declared.value.Value.TheOpen.{Value-F}
-use Rattle.zf_value.specs.declared.value.Value.TheVariants.{outs-Int, outs-Elem, outs-Tuple, outs-SetOf}
-use Rattle.zf_value.specs.declared.value.Outcome.{Outcome}
-use Rattle.zf_value.specs.declared.value.Outcome.TheVariants.{Is, Undefined, Out}
-use Rattle.zf_value.specs.Numbers.{IsNumber}
-use Rattle.zf_value.specs.Operations.{pair, IsDisplay}
-use Rattle.zf_value.specs.Sets.{IsMember, Every, IsAscending, HaveSameMembers, IsSetOf, parts_at, parts, IsRegular, AreRegular, IsRegularSet, IsRegularOutcome, members}
 use Rattle.zf_value.proofs.Among.{every_from, every_at, members-push}
 use Rattle.zf_value.proofs.Seen.{parts-Tuple, parts-SetOf, members-SetOf}
 

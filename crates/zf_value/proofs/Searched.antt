@@ -1,13 +1,6 @@
 -- Where a binary search in an ascending list ends.
-use Rattle.std.proofs.Common.{◌≡◌, ◌⊎◌, ◌↔◌, ℕ, ◌<◌, ◌≤◌, List, length, get_or, refl, ap, subst, ⊎_elim, Result, Ok, Err, IsTrue, Ordering, Less, Equal, Greater, arith}
-use Rattle.std.specs.Result.{is_ok}
-use Rattle.std.specs.Ordering.{ordering_index}
-use Rattle.std.specs.List.Sorted.{IsBinarySearchResult, IsSearchInRange, IsNonDecreasingBy}
-use Rattle.std.proofs.lemmas.Bool.{cases_lt}
-use Rattle.std.proofs.lemmas.Cmp.{tied_itself}
-use Rattle.zf_value.specs.declared.value.Value.{Value}
+use Rattle.zf_value.proofs.Prelude.{◌<◌, ◌↔◌, ◌≡◌, ◌≤◌, ◌⊎◌, ap, arith, Equal, Err, get_or, Greater, IsTrue, length, Less, List, Ok, Ordering, refl, Result, subst, ℕ, ⊎_elim, cases_lt, tied_itself, IsBinarySearchResult, IsNonDecreasingBy, IsSearchInRange, ordering_index, is_ok, IsAscending, IsMember, value_order, Value}
 use Rattle.zf_value.specs.contracts.value.ValueOrd.TheImpl.Laws.{total-law}
-use Rattle.zf_value.specs.Sets.{value_order, IsMember, IsAscending}
 use Rattle.zf_value.proofs.Exact.{exact}
 use Rattle.zf_value.proofs.Among.{below_at, contained, member}
 

@@ -1,10 +1,5 @@
 -- What the views of a value are at each of its forms. They do not compute in other crates.
-use Rattle.std.proofs.Common.{◌≡◌, ℕ, ℤ, List, [], Option, Some, None, refl, sym, ap, ◌∙◌}
-use Rattle.zf_value.specs.declared.value.Value.{Value, Int, Elem, Tuple, SetOf, out-Value, roll-Value, roll-out-Value}
-use Rattle.zf_value.specs.declared.value.Value.TheOpen.{Value-F}
-use Rattle.zf_value.specs.declared.value.Value.TheVariants.{outs-Int, outs-Elem, outs-Tuple, outs-SetOf, rolls-Int, rolls-SetOf}
-use Rattle.zf_value.specs.Numbers.{number_at, number_of}
-use Rattle.zf_value.specs.Sets.{members_at, members, parts_at, parts}
+use Rattle.zf_value.proofs.Prelude.{◌∙◌, ◌≡◌, [], ap, List, None, Option, refl, Some, sym, ℕ, ℤ, number_at, number_of, members, members_at, parts, parts_at, Elem, Int, out-Value, roll-out-Value, roll-Value, SetOf, Tuple, Value, Value-F, outs-Elem, outs-Int, outs-SetOf, outs-Tuple, rolls-Int, rolls-SetOf}
 
 pub number_of-Int : (n : ℤ) → number_of (Int n) ≡ Some n
 number_of-Int n = ap number_at (outs-Int n)

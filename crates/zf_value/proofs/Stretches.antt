@@ -1,20 +1,6 @@
 -- Where the pairs of an ascending relation that begin with one value stand.
-use Rattle.std.proofs.Common.{◌≡◌, ℕ, ◌+◌, ◌-◌, ◌<◌, ◌≤◌, List, [], ◌∷◌, length, take, drop, get_or, refl, sym, ap, ◌∙◌, ⊎_elim, true, false, Ordering, Less, Equal, Greater, arith, length-take, length-drop}
-use Rattle.std.proofs.lemmas.List.{get_or-take, get_or-drop}
-use Rattle.std.proofs.lemmas.Bool.{cases_lt}
-use Rattle.std.proofs.lemmas.Cmp.{tied_itself}
-use Rattle.std.specs.Ordering.{ordering_index, ordering_then, is_lt, is_le}
-use Rattle.std.specs.Cmp.Lexicographic.{slice_cmp}
-use Rattle.std.specs.List.{Contains}
-use Rattle.std.specs.List.Sorted.{IsPartitionedBy, IsPartitionPoint}
-use Rattle.zf_value.specs.declared.value.Value.{Value, out-Value}
-use Rattle.zf_value.specs.declared.value.Value.TheOpen.{Value-F}
-use Rattle.zf_value.specs.declared.value.Value.TheVariants.{outs-Tuple}
+use Rattle.zf_value.proofs.Prelude.{◌+◌, ◌-◌, ◌<◌, ◌∙◌, ◌∷◌, ◌≡◌, ◌≤◌, [], ap, arith, drop, Equal, false, get_or, Greater, length, length-drop, length-take, Less, List, Ordering, refl, sym, take, true, ℕ, ⊎_elim, cases_lt, tied_itself, get_or-drop, get_or-take, slice_cmp, Contains, IsPartitionedBy, IsPartitionPoint, is_le, is_lt, ordering_index, ordering_then, pair, level_order, IsAscending, IsMember, value_order, AreRelated, place_at, place_beside, place_of_first, out-Value, Value, Value-F, outs-Tuple}
 use Rattle.zf_value.specs.contracts.value.ValueOrd.TheImpl.Laws.{total-law}
-use Rattle.zf_value.specs.Operations.{pair}
-use Rattle.zf_value.specs.Order.{level_order}
-use Rattle.zf_value.specs.Sets.{value_order, IsMember, IsAscending}
-use Rattle.zf_value.specs.Steps.{place_of_first, place_at, place_beside, AreRelated}
 use Rattle.zf_value.proofs.Among.{contained, member, ascending-take, ascending-drop}
 use Rattle.zf_value.proofs.Exact.{cmp_is, exact}
 use Rattle.zf_value.proofs.Searched.{index_below, rising}

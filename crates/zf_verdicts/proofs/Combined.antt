@@ -1,18 +1,13 @@
 -- What operands that are what their places need make, by the rule of their symbol, or that the rule does not take them together.
-use Rattle.std.proofs.Common.{◌⊎◌, refl, inl, inr}
+use Rattle.zf_verdicts.proofs.Prelude.{◌⊎◌, inl, inr, refl, left_need, need_of, prefix_need, relation_rule, right_need, sign_need, Unary, Relation, int, pair, power, Meets, number, predicate, PrefixTakes, relation, set_of, SignTakes, Sort, Takes, typed, UnaryTakes}
 use Rattle.zf_tree.specs.declared.symbol.Prefix.{Prefix}
 use Rattle.zf_tree.specs.declared.symbol.Prefix.TheVariants.{Power, Finset, Domain, Range, Size}
-use Rattle.zf_tree.specs.declared.symbol.Relation.{Relation}
 use Rattle.zf_tree.specs.declared.symbol.Relation.TheVariants.{Equal, NotEqual, Member, NotMember, Subset, ProperSubset, Less, AtMost, Greater, AtLeast}
 use Rattle.zf_tree.specs.declared.operator.Sign.{Sign}
 use Rattle.zf_tree.specs.declared.operator.Sign.TheVariants as sign
-use Rattle.zf_tree.specs.Operators.{left_need, right_need, relation_rule, prefix_need, sign_need, need_of}
 use Rattle.zf_tree.specs.declared.operator.Rule.{Rule}
 use Rattle.zf_tree.specs.declared.operator.Rule.TheVariants as rule
-use Rattle.zf_tree.specs.declared.operator.Unary.{Unary}
 use Rattle.zf_tree.specs.declared.operator.Unary.TheVariants as unary
-use Rattle.zf_term.specs.Types.{int, power, pair}
-use Rattle.zf_type.specs.Rules.{Sort, typed, predicate, number, set_of, relation, Meets, Takes, PrefixTakes, SignTakes, UnaryTakes}
 use Rattle.zf_verdicts.proofs.Decided.{Decided, same_type, both}
 
 -- the rule takes the two together, or nothing is a whole of them

@@ -1,21 +1,12 @@
 -- What can be decided: whether names, types and sorts are the same, whether types are small, and what a place takes.
-use Rattle.std.proofs.Common.{◌≡◌, ◌⊎◌, ℕ, ◌<◌, ◌≤◌, Bool, true, false, List, [], ◌∷◌, refl, inl, inr, arith}
+use Rattle.zf_verdicts.proofs.Prelude.{◌<◌, ◌∷◌, ◌≡◌, ◌≤◌, ◌⊎◌, [], arith, Bool, false, inl, inr, List, refl, true, ℕ, spelling, Need, Name, basic, int, IsSmall, no_types, nodes, power, product, Ty, type, Tys, LocalTwice, IsRepeated, Repeats, a_schema, IsSmallSort, Meets, number, predicate, relation, set_of, Sort, typed, AreApart, IsApart, SomeOffence}
 use Rattle.std.specs.Bool.{Decides}
 use Rattle.std.specs.Str.{bytes_eq}
 use Rattle.std.specs.List.{AllByRecursion}
 use Rattle.std.proofs.lemmas.Bool.{cases_lt}
 use Rattle.std.proofs.lemmas.Bool.Decides.{not_from_Decides}
 use Rattle.std.proofs.lemmas.Slice.Eq.{bytes_eq-Decides}
-use Rattle.zf_tree.specs.declared.tree.Name.{Name}
-use Rattle.zf_tree.specs.declared.operator.Need.{Need}
 use Rattle.zf_tree.specs.declared.operator.Need.TheVariants as need
-use Rattle.zf_term.specs.Types.{Ty, int, basic, power, product, Tys, no_types, type, IsSmall, nodes}
-use Rattle.zf_term.specs.declared.fault.TypeFaultKind.TheVariants.{LocalTwice}
-use Rattle.zf_type.specs.Rules.{Sort, typed, predicate, a_schema, number, set_of, relation, IsSmallSort, Meets}
-use Rattle.zf_tree.specs.Names.{spelling}
-use Rattle.zf_type.specs.Typing.{IsApart, AreApart}
-use Rattle.zf_type.specs.Offences.{IsRepeated, Repeats}
-use Rattle.zf_verdicts.specs.Laws.{SomeOffence}
 
 abbrev pub Decided : Type 0 → Type 0
 Decided P = P ⊎ (P → ⊥)

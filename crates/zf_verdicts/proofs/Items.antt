@@ -1,25 +1,11 @@
 -- A paragraph or box defines something, or has an offence; so a text has its globals and its faults.
-use Rattle.std.proofs.Common.{◌≡◌, ◌⊎◌, ℕ, ◌+◌, List, [], ◌∷◌, map, Option, Some, None, refl, subst, inl, inr}
-use Rattle.zf_tree.specs.declared.tree.Name.{Name}
-use Rattle.zf_tree.specs.Trees.{Tree, ParagraphTree, given, free, definition, BoxTree}
+use Rattle.zf_verdicts.proofs.Prelude.{◌+◌, ◌∷◌, ◌≡◌, ◌⊎◌, [], inl, inr, List, map, None, Option, refl, Some, subst, ℕ, spelling, BoxTree, definition, free, given, ParagraphTree, Tree, Name, constructor, Defined, free_type, given_set, Schema, schema, first_named, Ty, TypeFaultKind, AlreadyDefined, Offends, resolved, typed, IsOf, OffendsSchema, OffendsText, SomeOffence}
 use Rattle.zf_tree.specs.Trees as text
 use Rattle.zf_tree.specs.declared.operator.Need.TheVariants as need
-use Rattle.zf_term.specs.Definitions.{Schema, Defined, given_set, free_type, constructor, schema}
-use Rattle.zf_term.specs.FirstNamed.{first_named}
-use Rattle.zf_term.specs.Types.{Ty}
 use Rattle.zf_type.specs.declared.fault.TypeFault.{TypeFault}
-use Rattle.zf_term.specs.declared.fault.TypeFaultKind.{TypeFaultKind}
-use Rattle.zf_term.specs.declared.fault.TypeFaultKind.TheVariants.{AlreadyDefined}
-use Rattle.zf_type.specs.Offences.{Offends}
-use Rattle.zf_type.specs.Resolving.{resolved}
-use Rattle.zf_type.specs.Rules.{typed}
-use Rattle.zf_tree.specs.Names.{spelling}
-use Rattle.zf_type.specs.Typing.{IsOf}
 use Rattle.zf_schema.specs.Expressions.{outside, IsText, IsSchema}
-use Rattle.zf_schema.specs.SchemaOffences.{OffendsText, OffendsSchema}
 use Rattle.zf_schema.specs.Checking.{Item, a_paragraph, a_box, items, IsNew, with_global, abbreviated, next_number, Gives, Constructs, DefinesParagraph, Defines, IsTaken, OffendsGiven, OffendsConstructors, OffendsParagraph, OffendsItem, Checks, IsChecked}
 use Rattle.zf_schema.proofs.OneDefinition.{no_item_offence}
-use Rattle.zf_verdicts.specs.Laws.{SomeOffence}
 use Rattle.zf_verdicts.proofs.Decided.{Decided}
 use Rattle.zf_verdicts.proofs.Schemas.{text_judged, schema_judged}
 use Rattle.zf_verdicts.proofs.Terms.{IsJudged, judged}

@@ -1,3 +1,4 @@
+mod Prelude
 pub mod Decided
 pub mod Combined
 pub mod Terms

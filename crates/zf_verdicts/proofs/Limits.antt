@@ -1,15 +1,8 @@
 -- What can be decided of schemas: whether their components agree, and whether they are within the limits. So there is a next schema, or it is told why not.
-use Rattle.std.proofs.Common.{◌≡◌, ◌⊎◌, ℕ, List, length, Option, Some, None, refl, inl, inr}
+use Rattle.zf_verdicts.proofs.Prelude.{◌≡◌, ◌⊎◌, inl, inr, length, List, None, Option, refl, Some, ℕ, Comp, Schema, TypeFaultKind, ComponentClash, TooLarge, Agree, Agrees, comp_named, decorated, HasTypeOf, MarkAgrees, prime, all_nodes, components_max, conjuncts_max, declared_sets, height_max, IsLow, IsWithin, nodes_max, sets_max, IsNext, Stops, SomeOffence}
 use Rattle.zf_tree.specs.declared.tree.RefMark.{RefMark}
 use Rattle.zf_tree.specs.declared.tree.RefMark.TheVariants.{Plain, Delta, Xi}
-use Rattle.zf_term.specs.Definitions.{Comp, Schema}
 use Rattle.zf_term.specs.Shapes.{height}
-use Rattle.zf_term.specs.declared.fault.TypeFaultKind.{TypeFaultKind}
-use Rattle.zf_term.specs.declared.fault.TypeFaultKind.TheVariants.{ComponentClash, TooLarge}
-use Rattle.zf_calculus.specs.Calculus.{comp_named, HasTypeOf, Agrees, Agree, decorated, prime, MarkAgrees}
-use Rattle.zf_calculus.specs.Steps.{IsNext, Stops}
-use Rattle.zf_calculus.specs.Limits.{components_max, sets_max, conjuncts_max, nodes_max, height_max, declared_sets, all_nodes, IsLow, IsWithin}
-use Rattle.zf_verdicts.specs.Laws.{SomeOffence}
 use Rattle.zf_verdicts.proofs.Decided.{Decided, both, decided_as, decided_all, at_most, same_type}
 
 pub is_within : (a : Schema) → Decided (IsWithin a)

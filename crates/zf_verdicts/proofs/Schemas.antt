@@ -1,28 +1,11 @@
 -- References, declarations, predicates and schema expressions are a schema, or have an offence.
-use Rattle.std.proofs.Common.{◌≡◌, ◌⊎◌, ℕ, List, [], ◌∷◌, ◌++◌, Option, Some, None, refl, subst, inl, inr}
-use Rattle.zf_tree.specs.declared.tree.Name.{Name}
+use Rattle.zf_verdicts.proofs.Prelude.{◌++◌, ◌∷◌, ◌≡◌, ◌⊎◌, [], inl, inr, List, None, Option, refl, Some, subst, ℕ, spelling, both, DeclTree, either, include, reference, schema_bracket, schema_text, SchemaTree, Tree, vars, Name, abbreviation, constructor, DeclaredSet, Defined, Definition, free_type, given_set, plain, Schema, schema, first_named, Ty, TypeFaultKind, ComponentClash, NotASchema, NotDeclared, TooLarge, Offends, resolved, predicate, set_of, IsOf, Agree, Agrees, comp, conjoined, decorated, disjoined, MarkAgrees, marked, nothing, schema_of, with_comp, IsWithin, Adds, Includes, IsNext, Stops, AnyByRecursion, IsNoSchema, name_line, OffendsAfter, OffendsAlone, OffendsConjuncts, OffendsDecls, OffendsNames, OffendsPredicates, OffendsRef, OffendsSchema, OffendsText, SomeOffence}
 use Rattle.zf_tree.specs.declared.tree.SchemaRef.{SchemaRef}
-use Rattle.zf_tree.specs.Trees.{Tree, DeclTree, vars, include, SchemaTree, schema_text, reference, both, either, schema_bracket}
 use Rattle.zf_tree.specs.declared.operator.Need.TheVariants as need
-use Rattle.zf_term.specs.Definitions.{Schema, DeclaredSet, plain, Defined, Definition, given_set, free_type, constructor, abbreviation, schema}
-use Rattle.zf_term.specs.FirstNamed.{first_named}
 use Rattle.zf_term.specs.ResolvedTrees.{ResolvedTree}
 use Rattle.zf_term.specs.Shapes.{line_of, conjuncts}
-use Rattle.zf_term.specs.Types.{Ty}
-use Rattle.zf_term.specs.declared.fault.TypeFaultKind.{TypeFaultKind}
-use Rattle.zf_term.specs.declared.fault.TypeFaultKind.TheVariants.{NotDeclared, NotASchema, ComponentClash, TooLarge}
-use Rattle.zf_type.specs.Offences.{Offends}
-use Rattle.zf_type.specs.Resolving.{resolved}
-use Rattle.zf_type.specs.Rules.{predicate, set_of}
-use Rattle.zf_tree.specs.Names.{spelling}
-use Rattle.zf_type.specs.Typing.{IsOf}
-use Rattle.zf_calculus.specs.Calculus.{comp, schema_of, nothing, Agrees, Agree, with_comp, conjoined, decorated, marked, MarkAgrees, disjoined}
 use Rattle.zf_schema.specs.Expressions.{outside, inside, Refers, AddsAll, DeclaresOne, Declares, TakesAll, ConstrainsOne, Constrains, IsText, IsSchema}
-use Rattle.zf_calculus.specs.Steps.{IsNext, Adds, Includes, Stops}
-use Rattle.zf_calculus.specs.Limits.{IsWithin}
-use Rattle.zf_schema.specs.SchemaOffences.{AnyByRecursion, IsNoSchema, OffendsRef, OffendsNames, OffendsAlone, OffendsAfter, OffendsDecls, OffendsConjuncts, OffendsPredicates, OffendsText, OffendsSchema, name_line}
 use Rattle.zf_schema.proofs.Once.{taken_comps}
-use Rattle.zf_verdicts.specs.Laws.{SomeOffence}
 use Rattle.zf_verdicts.proofs.Decided.{Decided}
 use Rattle.zf_verdicts.proofs.Limits.{is_within, agrees, agree, mark_agrees, next_or_stopped, next_at}
 use Rattle.zf_verdicts.proofs.Terms.{IsJudged, judged}

@@ -1,27 +1,13 @@
 -- A term has a sort that its place takes, or an offence there: its parts are judged first.
-use Rattle.std.proofs.Common.{◌≡◌, ◌⊎◌, ℕ, List, [], ◌++◌, Option, Some, None, refl, sym, subst, inl, inr}
-use Rattle.zf_tree.specs.declared.tree.Name.{Name}
-use Rattle.zf_tree.specs.Trees.{line_of, Tree, named, numeral, constant, empty_set, bracket, listed, builder, unary, binary, chain, quantified, Trees, no_trees, tree, Links, no_links, link, VarDecls, no_decls, var_decl, Perhaps, absent, present}
+use Rattle.zf_verdicts.proofs.Prelude.{◌++◌, ◌≡◌, ◌⊎◌, [], inl, inr, List, None, Option, refl, Some, subst, sym, ℕ, spelling, left_need, need_of, relation_rule, right_need, rule_of, absent, binary, bracket, builder, chain, constant, empty_set, line_of, link, Links, listed, named, no_decls, no_links, no_trees, numeral, Perhaps, present, quantified, Tree, tree, Trees, unary, var_decl, VarDecls, Need, Unary, Relation, Name, IsSmall, no_types, power, Ty, type, Tys, TypeFaultKind, Mismatch, NotDeclared, TooLarge, Clash, Differ, LinksOffend, MakesTooLarge, Misplaced, Offends, OneDiffers, OneOffends, PartOffends, Repeats, SetsOffend, a_schema, constant_sort, IsSmallSort, lack_of, Meets, number, predicate, set_of, Sort, Takes, typed, UnaryTakes, AreAll, AreApart, AreLinked, AreMembers, Builds, Constrains, Declare, declared, IsOf, Makes, member_need, member_sort, row_type, variables, SomeOffence}
 use Rattle.zf_tree.specs.declared.symbol.Quantifier.{Quantifier}
-use Rattle.zf_tree.specs.declared.symbol.Relation.{Relation}
-use Rattle.zf_tree.specs.Operators.{left_need, right_need, rule_of, relation_rule, need_of}
-use Rattle.zf_tree.specs.declared.operator.Need.{Need}
 use Rattle.zf_tree.specs.declared.operator.Need.TheVariants as need
 use Rattle.zf_tree.specs.declared.operator.Listed.{Listed}
 use Rattle.zf_tree.specs.declared.operator.Listed.TheVariants.{Tuple, Display, Product}
 use Rattle.zf_tree.specs.declared.operator.Operator.{Operator}
-use Rattle.zf_tree.specs.declared.operator.Unary.{Unary}
 use Rattle.zf_reference.specs.declared.reference.Reference.{Reference}
 use Rattle.zf_term.specs.Types as t
-use Rattle.zf_term.specs.Types.{Ty, power, Tys, no_types, type, IsSmall}
-use Rattle.zf_term.specs.declared.fault.TypeFaultKind.{TypeFaultKind}
-use Rattle.zf_term.specs.declared.fault.TypeFaultKind.TheVariants.{NotDeclared, Mismatch, TooLarge}
-use Rattle.zf_type.specs.Rules.{Sort, typed, predicate, a_schema, number, set_of, IsSmallSort, Meets, lack_of, Takes, UnaryTakes, constant_sort}
 use Rattle.zf_type.specs.Scopes.{Scope, Var, within, meaning}
-use Rattle.zf_tree.specs.Names.{spelling}
-use Rattle.zf_type.specs.Typing.{variables, declared, row_type, AreApart, IsOf, AreMembers, AreAll, Makes, member_need, member_sort, AreLinked, Declare, Constrains, Builds}
-use Rattle.zf_type.specs.Offences.{Misplaced, Clash, MakesTooLarge, Repeats, OneDiffers, Differ, Offends, OneOffends, LinksOffend, SetsOffend, PartOffends}
-use Rattle.zf_verdicts.specs.Laws.{SomeOffence}
 use Rattle.zf_verdicts.proofs.Combined.{AreCombined, combined, made, relates}
 use Rattle.zf_verdicts.proofs.Decided.{Decided, same_type, is_small, is_small_sort, meets, are_apart}
 

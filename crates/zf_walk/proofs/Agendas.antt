@@ -1,10 +1,5 @@
 -- How conjuncts are put in order by what they need, from the last one to the first.
-use Rattle.std.proofs.Common.{◌≡◌, ℕ, ◌+◌, ◌<◌, ◌≤◌, List, length, get_or, set, replicate, sym, ap, ◌∙◌, inl, inr, arith, subst}
-use Rattle.std.proofs.lemmas.Bool.{cases_eq}
-use Rattle.std.proofs.lemmas.List.{length-set, length-replicate, get_or-replicate, get_or-set_same, get_or-set_other}
-use Rattle.zf_walk.specs.declared.agenda.Agenda.{Agenda}
-use Rattle.zf_walk.specs.Conjuncts.{Conjuncts}
-use Rattle.zf_walk.specs.Places.{IsNextDue, IsAgenda}
+use Rattle.zf_walk.proofs.Prelude.{◌+◌, ◌<◌, ◌∙◌, ◌≡◌, ◌≤◌, ap, arith, get_or, inl, inr, length, List, replicate, set, subst, sym, ℕ, cases_eq, get_or-replicate, get_or-set_other, get_or-set_same, length-replicate, length-set, Conjuncts, IsAgenda, IsNextDue, Agenda}
 
 -- the conjuncts from c on are in order
 pub record IsFilled {V : Type 0} (s : Conjuncts V) (n c : ℕ) (first_ones next_ones : List ℕ) : Type 0 where

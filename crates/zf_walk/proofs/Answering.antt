@@ -1,23 +1,7 @@
 -- Where a walk begins, and what it answers.
-use Rattle.std.proofs.Common.{◌≡◌, ℕ, ◌+◌, ◌<◌, ◌≤◌, Bool, true, false, cond, eqb, ◌⊎◌, List, [], ◌∷◌, ◌++◌, length, get_or, take, replicate, Option, Some, None, refl, sym, ap, ◌∙◌, inl, inr, arith, subst, length-append}
-use Rattle.std.specs.Prelude.{◌≢◌}
-use Rattle.std.specs.declared.cmp.Ordering.TheVariants.{Less, Equal}
-use Rattle.std.specs.declared.cmp.Ordering.{Ordering}
-use Rattle.std.proofs.lemmas.Bool.{false≢true, cases_Bool, leb-true}
-use Rattle.std.proofs.lemmas.Bool.Decides.{nat_tests}
-use Rattle.std.proofs.lemmas.List.{length-replicate, get_or-replicate, take_all}
-use Rattle.zf_walk.specs.declared.judge.Truth.TheVariants.{True, False, Out}
-use Rattle.zf_walk.specs.declared.place.Place.{Place}
+use Rattle.zf_walk.proofs.Prelude.{◌++◌, ◌+◌, ◌<◌, ◌∙◌, ◌∷◌, ◌≡◌, ◌≤◌, ◌⊎◌, [], ap, arith, Bool, cond, eqb, false, get_or, inl, inr, length, length-append, List, None, Option, refl, replicate, Some, subst, sym, take, true, ℕ, cases_Bool, false≢true, leb-true, nat_tests, get_or-replicate, length-replicate, take_all, ◌≢◌, Ordering, Equal, Less, Conjuncts, IsTruthOf, Event, IsEvent, AreWithin, picked, ahead_of, is_due, is_over, IsAt, IsDone, IsReady, IsSoFar, Knows, path, reaches, Stands, Ahead, AreAllAhead, AreDueWithin, ended, IsAhead, SameAhead, Takes, ComesAfter, Answers, Gives, GoesOn, Keeps, KeepsEvents, Passes, cut, IsBound, IsNumber, IsNumberOfTests, IsPair, IsUpTo, IsWalked, False, Out, True, Place}
 use Rattle.zf_walk.specs.declared.step.Step.{Step}
 use Rattle.zf_walk.specs.declared.step.Step.TheVariants.{Holds, Breaks, End}
-use Rattle.zf_walk.specs.Conjuncts.{Conjuncts, IsTruthOf}
-use Rattle.zf_walk.specs.Rows.{ComesAfter}
-use Rattle.zf_walk.specs.Events.{Event, IsEvent}
-use Rattle.zf_walk.specs.Tests.{IsWalked, IsPair, IsUpTo, IsNumber, IsNumberOfTests, IsBound, cut}
-use Rattle.zf_walk.specs.Progress.{Ahead, IsAhead, AreDueWithin, Takes, AreAllAhead, SameAhead, ended}
-use Rattle.zf_walk.specs.Picked.{AreWithin, picked}
-use Rattle.zf_walk.specs.Places.{reaches, is_due, IsSoFar, IsDone, IsAt, Knows, IsReady, Stands, path, ahead_of, is_over}
-use Rattle.zf_walk.specs.Steps.{Passes, KeepsEvents, GoesOn, Gives, Answers, Keeps}
 use Rattle.zf_walk.proofs.Order.{reaches-under, further}
 use Rattle.zf_walk.proofs.Picks.{picked-nil, IsFrontOf-picked, IsRowOf-front, IsRowOf-length, IsFrontOf-length}
 use Rattle.zf_walk.proofs.Reaching.{IsLater-from, IsUpTo-from, IsUpTo-to, IsAhead-from, IsAhead-to}

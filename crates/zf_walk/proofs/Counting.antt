@@ -1,7 +1,5 @@
 -- Numbers of pairs.
-use Rattle.std.proofs.Common.{◌≡◌, ℕ, ◌+◌, ◌≤◌, ◌⊎◌, List, [], ◌∷◌, refl, sym, inl, inr, arith, subst}
-use Rattle.std.specs.Prelude.{◌≢◌, Contains}
-use Rattle.zf_walk.specs.Tests.{IsNumber, cut}
+use Rattle.zf_walk.proofs.Prelude.{◌+◌, ◌∷◌, ◌≡◌, ◌≤◌, ◌⊎◌, [], arith, inl, inr, List, refl, subst, sym, ℕ, ◌≢◌, Contains, cut, IsNumber}
 use Rattle.zf_walk.proofs.Lists.{Contains-head, Contains-later, Contains-cases, Contains-nil, AllPairs-nil, AllPairs-cons, no_longer}
 
 pub cut-le : (number : ℕ) → cut number ≤ number

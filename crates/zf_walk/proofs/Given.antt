@@ -1,8 +1,5 @@
 -- The row that a step gave, by the places of its values.
-use Rattle.std.proofs.Common.{◌≡◌, ◌<◌, ℕ, Bool, true, false, cond, List, [], length, get_or, take, Some, None, sym, ap, ◌∙◌, subst, arith}
-use Rattle.std.specs.Prelude.{IsSomeAnd, IfSome, slice_get}
-use Rattle.std.proofs.lemmas.List.{length-take, get_or-take, get_or_default}
-use Rattle.zf_walk.specs.Picked.{AreWithin, picked}
+use Rattle.zf_walk.proofs.Prelude.{◌<◌, ◌∙◌, ◌≡◌, [], ap, arith, Bool, cond, false, get_or, length, List, None, Some, subst, sym, take, true, ℕ, get_or-take, get_or_default, length-take, IfSome, IsSomeAnd, slice_get, AreWithin, picked}
 use Rattle.zf_walk.proofs.Picks.{length-picked, slice_get-picked}
 
 last-long : {V : Type 0} (given : Bool) (row : List V) (i : ℕ) → IsSomeAnd (cond given (Some row) None) (λ r. i < length r) → i < length row

@@ -1,19 +1,5 @@
 -- What is known of a place after each kind of step.
-use Rattle.std.proofs.Common.{◌≡◌, ℕ, ◌+◌, ◌<◌, ◌≤◌, Bool, true, false, List, [], ◌∷◌, ◌++◌, length, get_or, take, drop, Option, refl, sym, ap, ◌∙◌, inl, inr, arith, subst}
-use Rattle.std.specs.declared.cmp.Ordering.{Ordering}
-use Rattle.std.specs.Cmp.{IsTotalOrder}
-use Rattle.std.proofs.lemmas.Bool.{false≢true, cases_Bool, leb-true, leb-false}
-use Rattle.std.proofs.lemmas.Bool.Decides.{nat_tests}
-use Rattle.std.proofs.lemmas.List.{append-nil}
-use Rattle.zf_walk.specs.declared.place.Place.{Place}
-use Rattle.zf_walk.specs.declared.agenda.Agenda.{Agenda}
-use Rattle.zf_walk.specs.Conjuncts.{Conjuncts, HaveOneTruth, KeepTruths}
-use Rattle.zf_walk.specs.Rows.{TiesAreEqual, HasLength}
-use Rattle.zf_walk.specs.Events.{Event, IsEvent}
-use Rattle.zf_walk.specs.Tests.{IsWalked, IsNumber}
-use Rattle.zf_walk.specs.Picked.{picked}
-use Rattle.zf_walk.specs.Places.{reaches, is_reached, under, is_due, IsNextDue, IsSoFar, IsDone, IsAt, Knows, IsReady, IsSound, front, path, steps_left}
-use Rattle.zf_walk.specs.Steps.{Passes, Begins, Admits, KeepsEvents}
+use Rattle.zf_walk.proofs.Prelude.{◌++◌, ◌+◌, ◌<◌, ◌∙◌, ◌∷◌, ◌≡◌, ◌≤◌, [], ap, arith, Bool, drop, false, get_or, inl, inr, length, List, Option, refl, subst, sym, take, true, ℕ, cases_Bool, false≢true, leb-false, leb-true, nat_tests, append-nil, IsTotalOrder, Ordering, Conjuncts, HaveOneTruth, KeepTruths, Event, IsEvent, picked, front, is_due, is_reached, IsAt, IsDone, IsNextDue, IsReady, IsSoFar, IsSound, Knows, path, reaches, steps_left, under, HasLength, TiesAreEqual, Admits, Begins, KeepsEvents, Passes, IsNumber, IsWalked, Agenda, Place}
 use Rattle.zf_walk.proofs.Order.{reaches-both, begins, under-differs, under-at}
 use Rattle.zf_walk.proofs.Picks.{IsFrontOf-picked, IsRowOf-length, IsFrontOf-length}
 use Rattle.zf_walk.proofs.Reaching.{IsReached-from, is_reached-from, later-reached, unreached}

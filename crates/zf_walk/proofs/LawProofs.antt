@@ -1,18 +1,5 @@
 -- The laws of the definitions.
-use Rattle.std.proofs.Common.{◌≡◌, ℕ, zero, suc, ◌⊎◌, List, [], ◌∷◌, ◌++◌, length, take, Option, Some, None, refl, sym, ap, ◌∙◌, inl, inr, arith, subst}
-use Rattle.std.specs.Prelude.{◌≢◌, Contains, IsTrue}
-use Rattle.std.specs.declared.cmp.Ordering.{Ordering}
-use Rattle.std.specs.declared.cmp.Ordering.TheVariants.{Less, Equal, Greater}
-use Rattle.std.specs.Cmp.{IsTotalOrder}
-use Rattle.std.specs.Cmp.Lexicographic.{slice_cmp, lists_total}
-use Rattle.std.specs.Ordering.{ordering_reverse, ordering_then}
-use Rattle.std.proofs.lemmas.Bool.{false≢true}
-use Rattle.std.proofs.lemmas.List.{take_all}
-use Rattle.zf_walk.specs.Conjuncts.{Conjuncts}
-use Rattle.zf_walk.specs.Rows.{TiesAreEqual, ComesAfter, IsLater}
-use Rattle.zf_walk.specs.Events.{Event, IsEvent}
-use Rattle.zf_walk.specs.Tests.{IsWalked, IsUpTo, IsPair}
-use Rattle.zf_walk.specs.Progress.{Ahead, IsAhead, past, IsRest}
+use Rattle.zf_walk.proofs.Prelude.{◌++◌, ◌∙◌, ◌∷◌, ◌≡◌, ◌⊎◌, [], ap, arith, inl, inr, length, List, None, Option, refl, Some, subst, suc, sym, take, zero, ℕ, false≢true, take_all, IsTotalOrder, lists_total, slice_cmp, ordering_reverse, ordering_then, ◌≢◌, Contains, IsTrue, Ordering, Equal, Greater, Less, Conjuncts, Event, IsEvent, Ahead, IsAhead, IsRest, past, ComesAfter, IsLater, TiesAreEqual, IsPair, IsUpTo, IsWalked}
 use Rattle.zf_walk.specs.Laws.{HasOneList, Resumes, StartsWithAll, TakesFirst, EndsWithNone, StaysWithinBound}
 use Rattle.zf_walk.proofs.Lists.{Contains-head, Contains-later, Contains-cases, Contains-nil, Contains-right, Contains-either, AllPairs-nil, AllPairs-cons, AllPairs-head, AllPairs-tail, AllPairs-back, AllPairs-across, AllPairs-unique}
 use Rattle.zf_walk.proofs.Order.{slice-ties}

@@ -1,7 +1,5 @@
 -- Lists: what they contain, and relations of each element to each later one.
-use Rattle.std.proofs.Common.{◌≡◌, zero, suc, ◌<◌, ◌≤◌, ◌⊎◌, List, [], ◌∷◌, ◌++◌, length, get_or, refl, sym, ap, ◌∙◌, inl, inr, arith, subst, length-append}
-use Rattle.std.specs.Prelude.{◌≢◌, Contains, AllPairs}
-use Rattle.std.proofs.lemmas.List.{get_or_default}
+use Rattle.zf_walk.proofs.Prelude.{◌++◌, ◌<◌, ◌∙◌, ◌∷◌, ◌≡◌, ◌≤◌, ◌⊎◌, [], ap, arith, get_or, inl, inr, length, length-append, List, refl, subst, suc, sym, zero, get_or_default, ◌≢◌, AllPairs, Contains}
 
 pub Contains-head : {X : Type 0} (x : X) (xs : List X) → Contains (x ∷ xs) x
 Contains-head x xs = (zero, omega arith, refl)

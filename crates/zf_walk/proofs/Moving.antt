@@ -1,17 +1,5 @@
 -- The moves of a walk: the same rows and tests are ahead, and fewer steps.
-use Rattle.std.proofs.Common.{◌≡◌, ℕ, suc, ◌+◌, ◌-◌, ◌*◌, ◌<◌, ◌≤◌, Bool, true, false, cond, List, [], ◌∷◌, ◌++◌, length, get_or, set, drop, take, refl, sym, ap, ◌∙◌, arith, subst}
-use Rattle.std.specs.Prelude.{AllPairs}
-use Rattle.std.specs.declared.cmp.Ordering.{Ordering}
-use Rattle.std.specs.declared.cmp.Ordering.TheVariants.{Less}
-use Rattle.std.specs.Cmp.{IsTotalOrder}
-use Rattle.std.proofs.lemmas.List.{take-set-le, take_more_set, length-take-le, drop_more, length-set, take_more, take-take, get_or-take, get_or_default}
-use Rattle.std.proofs.lemmas.Bool.{false≢true}
-use Rattle.std.proofs.lemmas.Bool.Decides.{nat_tests}
-use Rattle.zf_walk.specs.declared.place.Place.{Place}
-use Rattle.zf_walk.specs.Rows.{AreAscending, IsRowOf, IsFrontOf}
-use Rattle.zf_walk.specs.Picked.{AreWithin, picked}
-use Rattle.zf_walk.specs.Places.{first_of, reaches, under, is_due, is_ahead, IsAt, front, path, below, above, steps_left}
-use Rattle.zf_walk.specs.Steps.{Passes, Binds, Moves}
+use Rattle.zf_walk.proofs.Prelude.{◌*◌, ◌++◌, ◌+◌, ◌-◌, ◌<◌, ◌∙◌, ◌∷◌, ◌≡◌, ◌≤◌, [], ap, arith, Bool, cond, drop, false, get_or, length, List, refl, set, subst, suc, sym, take, true, ℕ, false≢true, nat_tests, drop_more, get_or-take, get_or_default, length-set, length-take-le, take-set-le, take-take, take_more, take_more_set, IsTotalOrder, AllPairs, Ordering, Less, AreWithin, picked, above, below, first_of, front, is_ahead, is_due, IsAt, path, reaches, steps_left, under, AreAscending, IsFrontOf, IsRowOf, Binds, Moves, Passes, Place}
 use Rattle.zf_walk.proofs.Order.{IsNth, reaches-push, reaches-under, under-push, under-agree, under-front, at-first, at-next, at-last}
 use Rattle.zf_walk.proofs.Picks.{nth-at, AreWithin-take, AreWithin-push, length-picked, picked-push}
 

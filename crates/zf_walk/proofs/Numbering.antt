@@ -1,11 +1,6 @@
 -- Numbers whose digits are the places of used components.
-use Rattle.std.proofs.Common.{◌≡◌, ℕ, zero, suc, ◌+◌, ◌*◌, ◌<◌, ◌≤◌, List, [], ◌∷◌, length, get_or, drop, ap, inl, inr, arith, subst}
-use Rattle.std.specs.Prelude.{Contains}
+use Rattle.zf_walk.proofs.Prelude.{◌*◌, ◌+◌, ◌<◌, ◌∷◌, ◌≡◌, ◌≤◌, [], ap, arith, drop, get_or, inl, inr, length, List, subst, suc, zero, ℕ, cases_eq, cases_lt, drop_more, Contains, combinations, HavePlaces, number, Used}
 use Rattle.std.proofs.Math.Nat.{mul-le-mul_left}
-use Rattle.std.proofs.lemmas.Bool.{cases_eq, cases_lt}
-use Rattle.std.proofs.lemmas.List.{drop_more}
-use Rattle.zf_walk.specs.declared.table.Used.{Used}
-use Rattle.zf_walk.specs.Tables.{number, combinations, HavePlaces}
 use Rattle.zf_walk.proofs.Lists.{Contains-head, Contains-later, Contains-cases, Contains-nil}
 
 pub HavePlaces-tail : (u : Used) (us : List Used) (places : List ℕ) → HavePlaces (u ∷ us) places → HavePlaces us places

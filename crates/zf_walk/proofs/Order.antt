@@ -1,16 +1,5 @@
 -- The order of rows, value by value, over any totally ordered values.
-use Rattle.std.proofs.Common.{◌≡◌, ℕ, zero, suc, ◌+◌, ◌<◌, ◌≤◌, Bool, true, false, ◌⊎◌, List, [], ◌∷◌, ◌++◌, length, get_or, take, drop, refl, sym, ap, ◌∙◌, arith, inl, inr}
-use Rattle.std.specs.Prelude.{Contains, AllPairs}
-use Rattle.std.specs.declared.cmp.Ordering.{Ordering}
-use Rattle.std.specs.declared.cmp.Ordering.TheVariants.{Less, Equal, Greater}
-use Rattle.std.specs.Cmp.{IsTotalOrder}
-use Rattle.std.specs.Cmp.Lexicographic.{slice_cmp}
-use Rattle.std.specs.Ordering.{ordering_reverse, ordering_then}
-use Rattle.std.proofs.lemmas.Bool.{false≢true, cases_order}
-use Rattle.std.proofs.lemmas.Cmp.{tied_itself, alike_right}
-use Rattle.std.proofs.lemmas.List.{get_or_default}
-use Rattle.zf_walk.specs.Rows.{TiesAreEqual, IsRowOf, IsFrontOf}
-use Rattle.zf_walk.specs.Places.{first_of, reaches, under, is_due}
+use Rattle.zf_walk.proofs.Prelude.{◌++◌, ◌+◌, ◌<◌, ◌∙◌, ◌∷◌, ◌≡◌, ◌≤◌, ◌⊎◌, [], ap, arith, Bool, drop, false, get_or, inl, inr, length, List, refl, suc, sym, take, true, zero, ℕ, cases_order, false≢true, alike_right, tied_itself, get_or_default, IsTotalOrder, slice_cmp, ordering_reverse, ordering_then, AllPairs, Contains, Ordering, Equal, Greater, Less, first_of, is_due, reaches, under, IsFrontOf, IsRowOf, TiesAreEqual}
 
 -- x stands at place i
 pub record IsNth {V : Type 0} (range : List V) (i : ℕ) (x : V) : Type 0 where

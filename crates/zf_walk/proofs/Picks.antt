@@ -1,10 +1,5 @@
 -- Rows by the places of their values in ranges.
-use Rattle.std.proofs.Common.{◌≡◌, ℕ, zero, suc, ◌<◌, ◌≤◌, List, [], ◌∷◌, ◌++◌, length, get_or, take, Some, refl, sym, ap, ◌∙◌, subst, arith}
-use Rattle.std.specs.Prelude.{slice_get}
-use Rattle.std.proofs.lemmas.List.{length-take, get_or-take, take_all}
-use Rattle.std.proofs.lemmas.Option.{slice_get-get_or}
-use Rattle.zf_walk.specs.Picked.{picked, AreWithin}
-use Rattle.zf_walk.specs.Rows.{IsRowOf, IsFrontOf}
+use Rattle.zf_walk.proofs.Prelude.{◌++◌, ◌<◌, ◌∙◌, ◌∷◌, ◌≡◌, ◌≤◌, [], ap, arith, get_or, length, List, refl, Some, subst, suc, sym, take, zero, ℕ, get_or-take, length-take, take_all, slice_get-get_or, slice_get, AreWithin, picked, IsFrontOf, IsRowOf}
 use Rattle.zf_walk.proofs.Order.{IsNth}
 
 pub slice_get-nth : {V : Type 0} (range : List V) (i : ℕ) (x : V) → IsNth range i x → slice_get range i ≡ Some x

@@ -1,18 +1,5 @@
 -- What the order value by value says in the words of the definitions.
-use Rattle.std.proofs.Common.{◌≡◌, ℕ, ◌+◌, ◌<◌, ◌≤◌, Bool, true, false, ltb, List, [], ◌∷◌, ◌++◌, length, get_or, take, drop, Option, Some, None, refl, sym, ap, ◌∙◌, subst, arith, inl, inr, length-append}
-use Rattle.std.specs.Prelude.{◌≢◌, slice_get}
-use Rattle.std.specs.declared.cmp.Ordering.{Ordering}
-use Rattle.std.specs.declared.cmp.Ordering.TheVariants.{Less, Equal, Greater}
-use Rattle.std.specs.Cmp.{IsTotalOrder}
-use Rattle.std.specs.Cmp.Lexicographic.{slice_cmp, lists_total}
-use Rattle.std.proofs.lemmas.Bool.{false≢true, cases_eq, lt-ltb, le-ltb}
-use Rattle.std.proofs.lemmas.Cmp.{tied_itself}
-use Rattle.std.proofs.lemmas.List.{take_all, length-take-le, take-take, nil_from_length, append-nil, drop_more}
-use Rattle.std.proofs.lemmas.Option.{slice_get_within, get_or_from_slice_get}
-use Rattle.zf_walk.specs.Rows.{TiesAreEqual, ComesAfter, IsLater, HasLength}
-use Rattle.zf_walk.specs.Tests.{IsReached, IsUpTo}
-use Rattle.zf_walk.specs.Progress.{IsAhead}
-use Rattle.zf_walk.specs.Places.{first_of, reaches, is_reached}
+use Rattle.zf_walk.proofs.Prelude.{◌++◌, ◌+◌, ◌<◌, ◌∙◌, ◌∷◌, ◌≡◌, ◌≤◌, [], ap, arith, Bool, drop, false, get_or, inl, inr, length, length-append, List, ltb, None, Option, refl, Some, subst, sym, take, true, ℕ, cases_eq, false≢true, le-ltb, lt-ltb, tied_itself, append-nil, drop_more, length-take-le, nil_from_length, take-take, take_all, get_or_from_slice_get, slice_get_within, IsTotalOrder, lists_total, slice_cmp, ◌≢◌, slice_get, Ordering, Equal, Greater, Less, first_of, is_reached, reaches, IsAhead, ComesAfter, HasLength, IsLater, TiesAreEqual, IsReached, IsUpTo}
 use Rattle.zf_walk.proofs.Order.{reaches-cmp, reaches-take, reaches-front, slice-ties}
 
 less-of : (q : Ordering) → first_of q false ≡ true → q ≡ Less

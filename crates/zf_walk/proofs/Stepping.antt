@@ -1,16 +1,5 @@
 -- The steps of a walk: to another place, to another conjunct, or to an answer.
-use Rattle.std.proofs.Common.{◌≡◌, ℕ, ◌+◌, ◌<◌, ◌≤◌, Bool, true, false, List, [], ◌∷◌, ◌++◌, length, get_or, Option, refl, sym, ap, ◌∙◌, inl, inr, arith, subst, length-append}
-use Rattle.std.specs.declared.cmp.Ordering.{Ordering}
-use Rattle.std.proofs.lemmas.Bool.{false≢true, cases_eq, cases_Bool, leb-true}
-use Rattle.std.proofs.lemmas.List.{get_or-set_same, get_or-set_other, length-set, append-nil}
-use Rattle.zf_walk.specs.declared.judge.Truth.{Truth}
-use Rattle.zf_walk.specs.declared.judge.Truth.TheVariants.{True, False, Out}
-use Rattle.zf_walk.specs.declared.place.Place.{Place}
-use Rattle.zf_walk.specs.Conjuncts.{Conjuncts}
-use Rattle.zf_walk.specs.Tests.{IsWalked, IsNumber, cut}
-use Rattle.zf_walk.specs.Picked.{picked}
-use Rattle.zf_walk.specs.Places.{is_reached, is_due, is_ahead, IsSoFar, IsNextDue, IsAt, Knows, IsReady, front, path}
-use Rattle.zf_walk.specs.Steps.{Enters, Moves, Admits, Leaves, Tests, GoesOn}
+use Rattle.zf_walk.proofs.Prelude.{◌++◌, ◌+◌, ◌<◌, ◌∙◌, ◌∷◌, ◌≡◌, ◌≤◌, [], ap, arith, Bool, false, get_or, inl, inr, length, length-append, List, Option, refl, subst, sym, true, ℕ, cases_Bool, cases_eq, false≢true, leb-true, append-nil, get_or-set_other, get_or-set_same, length-set, Ordering, Conjuncts, picked, front, is_ahead, is_due, is_reached, IsAt, IsNextDue, IsReady, IsSoFar, Knows, path, Admits, Enters, GoesOn, Leaves, Moves, Tests, cut, IsNumber, IsWalked, Truth, False, Out, True, Place}
 use Rattle.zf_walk.proofs.Counting.{cut-more, number-same}
 use Rattle.zf_walk.proofs.Truths.{so_far-at, so_far-skip, so_far-deeper, so_far-true, so_far-out, IsTruthOf-false}
 use Rattle.zf_walk.proofs.Moving.{length-front, fewer-at, same-path, last-value}

@@ -1,16 +1,8 @@
 -- What tables tell of conjuncts is so.
-use Rattle.std.proofs.Common.{◌≡◌, ℕ, zero, suc, ◌+◌, ◌*◌, ◌<◌, ◌≤◌, ◌^◌, Bool, true, false, List, [], ◌∷◌, ◌++◌, length, get_or, set, replicate, Option, Some, None, refl, sym, ap, ◌∙◌, inl, inr, arith, subst, length-append}
-use Rattle.std.specs.Prelude.{slice_get, IfSome}
-use Rattle.std.proofs.lemmas.Bool.{false≢true, cases_eq, cases_lt}
-use Rattle.std.proofs.lemmas.List.{get_or-set_same, get_or-set_other, length-set, get_or_append_left, get_or_default}
+use Rattle.zf_walk.proofs.Prelude.{◌*◌, ◌++◌, ◌+◌, ◌<◌, ◌^◌, ◌∙◌, ◌∷◌, ◌≡◌, ◌≤◌, [], ap, arith, Bool, false, get_or, inl, inr, length, length-append, List, None, Option, refl, replicate, set, Some, subst, suc, sym, true, zero, ℕ, cases_eq, cases_lt, false≢true, get_or-set_other, get_or-set_same, get_or_append_left, get_or_default, length-set, IfSome, slice_get, Conjuncts, FollowUsed, AreWithin, picked, Truth, Table, Used}
 use Rattle.std.proofs.Math.Seq.{get_or-append_seam}
-use Rattle.zf_walk.specs.declared.judge.Truth.{Truth}
 use Rattle.zf_walk.specs.declared.entry.Entry.{Entry}
 use Rattle.zf_walk.specs.declared.entry.Entry.TheVariants.{Unknown}
-use Rattle.zf_walk.specs.declared.table.Used.{Used}
-use Rattle.zf_walk.specs.declared.table.Table.{Table}
-use Rattle.zf_walk.specs.Conjuncts.{Conjuncts, FollowUsed}
-use Rattle.zf_walk.specs.Picked.{AreWithin, picked}
 use Rattle.zf_walk.specs.Tables.{told, number, combinations, HavePlaces, Fits, Keeps, MayKeep, AreUsed, IsTableOf, AreTables, known_in}
 use Rattle.zf_walk.proofs.Lists.{Contains-head, Contains-nil, Contains-left, Contains-right, Contains-either, Contains-cases}
 use Rattle.zf_walk.proofs.Picks.{slice_get-picked, length-picked}

@@ -1,12 +1,5 @@
 -- What conjuncts say so far, and of a whole row.
-use Rattle.std.proofs.Common.{◌≡◌, ℕ, ◌+◌, ◌<◌, ◌≤◌, Bool, true, false, ◌⊎◌, List, ◌++◌, length, refl, sym, inl, inr, arith, subst}
-use Rattle.std.specs.Prelude.{◌≢◌}
-use Rattle.std.proofs.lemmas.Bool.{cases_eq, cases_lt}
-use Rattle.zf_walk.specs.declared.judge.Truth.{Truth}
-use Rattle.zf_walk.specs.declared.judge.Truth.TheVariants.{True, False, Out}
-use Rattle.zf_walk.specs.Conjuncts.{Conjuncts, HaveOneTruth, KeepTruths, IsTruthOf}
-use Rattle.zf_walk.specs.Progress.{AreDueWithin}
-use Rattle.zf_walk.specs.Places.{IsTested, IsSoFar, IsNextDue}
+use Rattle.zf_walk.proofs.Prelude.{◌++◌, ◌+◌, ◌<◌, ◌≡◌, ◌≤◌, ◌⊎◌, arith, Bool, false, inl, inr, length, List, refl, subst, sym, true, ℕ, cases_eq, cases_lt, ◌≢◌, Conjuncts, HaveOneTruth, IsTruthOf, KeepTruths, IsNextDue, IsSoFar, IsTested, AreDueWithin, Truth, False, Out, True}
 
 -- the truth of a row on which no conjunct is False
 abbrev pub truth_so : Bool → Truth

@@ -1,6 +1,4 @@
-use Rattle.std.proofs.Common.{map, refl}
-use Rattle.zf_term.specs.Definitions.{comp_of}
-use Rattle.zf_calculus.specs.Calculus.{Agrees}
+use Rattle.zf_calculus.proofs.Prelude.{map, refl, comp_of, Agrees}
 use Rattle.zf_calculus.proofs.Counting.{all_at, one_of_all}
 use Rattle.zf_calculus.proofs.components.agree.Goals as goal
 

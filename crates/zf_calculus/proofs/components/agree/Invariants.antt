@@ -1,6 +1,4 @@
-use Rattle.std.proofs.Common.{map, drop}
-use Rattle.zf_term.specs.Definitions.{comp_of}
-use Rattle.zf_calculus.specs.Calculus.{Agree}
+use Rattle.zf_calculus.proofs.Prelude.{drop, map, comp_of, Agree}
 use Rattle.zf_calculus.proofs.components.agree.Given as goal
 
 abbrev pub invariant-loop-other : goal.invariant-loop-other

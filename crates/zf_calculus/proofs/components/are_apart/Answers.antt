@@ -1,8 +1,4 @@
-use Rattle.std.proofs.Common.{List, map, refl}
-use Rattle.zf_term.proofs.Walk.{at_end}
-use Rattle.zf_term.specs.declared.globals.Component.{Component}
-use Rattle.zf_term.specs.Definitions.{comp_of}
-use Rattle.zf_calculus.specs.Calculus.{AreOnce}
+use Rattle.zf_calculus.proofs.Prelude.{List, map, refl, at_end, comp_of, Component, AreOnce}
 use Rattle.zf_calculus.proofs.Apart.{none_found, one_found_behind, once_ahead, one_more_apart}
 use Rattle.zf_calculus.proofs.components.are_apart.Goals as goal
 

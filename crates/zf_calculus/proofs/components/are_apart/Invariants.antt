@@ -1,6 +1,4 @@
-use Rattle.std.proofs.Common.{◌↔◌, map, drop}
-use Rattle.zf_term.specs.Definitions.{comp_of}
-use Rattle.zf_calculus.specs.Calculus.{AreOnce}
+use Rattle.zf_calculus.proofs.Prelude.{◌↔◌, drop, map, comp_of, AreOnce}
 use Rattle.zf_calculus.proofs.components.are_apart.Given as goal
 
 abbrev pub invariant-loop-place : goal.invariant-loop-place

@@ -1,8 +1,5 @@
-use Rattle.std.proofs.Common.{◌≡◌, ◌≤◌, length, map, arith, rules}
-use Rattle.zf_term.specs.Definitions.{comp_of}
-use Rattle.zf_term.specs.declared.fault.TypeFaultKind.{TypeFaultKind}
+use Rattle.zf_calculus.proofs.Prelude.{◌≡◌, ◌≤◌, arith, length, map, rules, comp_of, TypeFaultKind, with_comp}
 use Rattle.zf_term.specs.declared.fault.TypeFaultKind.TheVariants as kinds
-use Rattle.zf_calculus.specs.Calculus.{with_comp}
 use Rattle.zf_calculus.proofs.Merging.{named_below, joined_known, joined_new, length_known, length_new}
 use Rattle.zf_calculus.proofs.Placing.{placed_known, placed_new}
 use Rattle.zf_calculus.proofs.Stopping.{weaker}

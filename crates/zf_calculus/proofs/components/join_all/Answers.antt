@@ -1,10 +1,4 @@
-use Rattle.std.proofs.Common.{◌≡◌, List, [], length, map, sym, ap, ◌∙◌, subst, arith, rules}
-use Rattle.std.proofs.lemmas.List.{nil_from_length}
-use Rattle.std.specs.Vec.Iter.{into_iter_items}
-use Rattle.zf_term.specs.declared.globals.Component.{Component}
-use Rattle.zf_term.specs.Definitions.{Comp, comp_of}
-use Rattle.zf_calculus.specs.Calculus.{with_comps}
-use Rattle.zf_calculus.specs.Growth.{AreAt}
+use Rattle.zf_calculus.proofs.Prelude.{◌∙◌, ◌≡◌, [], ap, arith, length, List, map, rules, subst, sym, nil_from_length, into_iter_items, Comp, comp_of, Component, with_comps, AreAt}
 use Rattle.zf_calculus.proofs.Placing.{all_placed, still_placed, still_whole, stops_joining}
 use Rattle.zf_calculus.proofs.Stopping.{weaker}
 use Rattle.zf_calculus.proofs.components.join_all.Goals as goal

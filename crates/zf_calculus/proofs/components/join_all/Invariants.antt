@@ -1,8 +1,4 @@
-use Rattle.std.proofs.Common.{◌≡◌, map}
-use Rattle.std.specs.Vec.Iter.{into_iter_items}
-use Rattle.zf_term.specs.Definitions.{comp_of}
-use Rattle.zf_calculus.specs.Calculus.{with_comps}
-use Rattle.zf_calculus.specs.Limits.{AreFew}
+use Rattle.zf_calculus.proofs.Prelude.{◌≡◌, map, into_iter_items, comp_of, with_comps, AreFew}
 use Rattle.zf_calculus.proofs.Placing.{ArePlaced}
 use Rattle.zf_calculus.proofs.components.join_all.Given as goal
 

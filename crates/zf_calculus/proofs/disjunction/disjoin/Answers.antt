@@ -1,8 +1,4 @@
-use Rattle.std.proofs.Common.{refl}
-use Rattle.zf_term.specs.Definitions.{schema_of}
-use Rattle.zf_calculus.specs.Calculus.{Agree, disjoined}
-use Rattle.zf_calculus.specs.Steps.{IsNext, Stops}
-use Rattle.zf_calculus.specs.Growth.{IsTooLarge}
+use Rattle.zf_calculus.proofs.Prelude.{refl, schema_of, Agree, disjoined, IsTooLarge, IsNext, Stops}
 use Rattle.zf_calculus.proofs.Changing.{agreed}
 use Rattle.zf_calculus.proofs.Disjoining.{disjunction_made, stops_disjoining, next_disjoined}
 use Rattle.zf_calculus.proofs.Stopping.{stopped, if_ok}

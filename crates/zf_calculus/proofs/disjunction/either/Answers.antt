@@ -1,5 +1,4 @@
-use Rattle.std.proofs.Common.{map, ◌∙◌}
-use Rattle.zf_term.specs.Definitions.{comp_of}
+use Rattle.zf_calculus.proofs.Prelude.{◌∙◌, map, comp_of}
 use Rattle.zf_calculus.proofs.Disjoining.{either_seen}
 use Rattle.zf_calculus.proofs.disjunction.either.Goals as goal
 

@@ -1,6 +1,4 @@
-use Rattle.std.proofs.Common.{◌≡◌, map, take}
-use Rattle.zf_term.specs.Definitions.{comp_of}
-use Rattle.zf_calculus.specs.Growth.{either_comp}
+use Rattle.zf_calculus.proofs.Prelude.{◌≡◌, map, take, comp_of, either_comp}
 use Rattle.zf_calculus.proofs.disjunction.either_all.Given as goal
 
 abbrev pub invariant-loop-component : goal.invariant-loop-component

@@ -1,6 +1,4 @@
-use Rattle.std.proofs.Common.{◌≡◌, map, drop}
-use Rattle.zf_term.specs.ResolvedTrees.{resolved_of}
-use Rattle.zf_calculus.specs.Growth.{all_joined}
+use Rattle.zf_calculus.proofs.Prelude.{◌≡◌, drop, map, resolved_of, all_joined}
 use Rattle.zf_calculus.proofs.disjunction.joined_to.Given as goal
 
 abbrev pub invariant-loop-term : goal.invariant-loop-term

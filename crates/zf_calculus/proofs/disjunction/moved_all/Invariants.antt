@@ -1,7 +1,4 @@
-use Rattle.std.proofs.Common.{◌≡◌, map, take}
-use Rattle.zf_term.specs.ResolvedTrees.{resolved_of}
-use Rattle.zf_reference.specs.Numbering.{place_in}
-use Rattle.zf_term.specs.Shapes.{moved}
+use Rattle.zf_calculus.proofs.Prelude.{◌≡◌, map, take, place_in, resolved_of, moved}
 use Rattle.zf_calculus.proofs.disjunction.moved_all.Given as goal
 
 abbrev pub invariant-loop-term : goal.invariant-loop-term

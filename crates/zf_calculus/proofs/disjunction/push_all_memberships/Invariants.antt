@@ -1,7 +1,4 @@
-use Rattle.std.proofs.Common.{◌≡◌, ◌++◌, map, drop}
-use Rattle.zf_term.specs.Definitions.{comp_of}
-use Rattle.zf_term.specs.ResolvedTrees.{resolved_of}
-use Rattle.zf_calculus.specs.Calculus.{memberships}
+use Rattle.zf_calculus.proofs.Prelude.{◌++◌, ◌≡◌, drop, map, comp_of, resolved_of, memberships}
 use Rattle.zf_calculus.proofs.disjunction.push_all_memberships.Given as goal
 
 abbrev pub invariant-loop-place : goal.invariant-loop-place

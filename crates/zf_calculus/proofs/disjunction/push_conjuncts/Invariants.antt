@@ -1,6 +1,4 @@
-use Rattle.std.proofs.Common.{◌≡◌, ◌++◌, map, take}
-use Rattle.zf_term.specs.Definitions.{conjunct_of}
-use Rattle.zf_term.specs.ResolvedTrees.{resolved_of}
+use Rattle.zf_calculus.proofs.Prelude.{◌++◌, ◌≡◌, map, take, conjunct_of, resolved_of}
 use Rattle.zf_calculus.proofs.disjunction.push_conjuncts.Given as goal
 
 abbrev pub invariant-loop-conjunct : goal.invariant-loop-conjunct

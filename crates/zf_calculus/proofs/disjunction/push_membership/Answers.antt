@@ -1,7 +1,4 @@
-use Rattle.std.proofs.Common.{ap, ◌∙◌}
-use Rattle.std.proofs.lemmas.Result.{on_ok_weaker}
-use Rattle.zf_term.specs.ResolvedTrees.{resolved_of}
-use Rattle.zf_calculus.specs.Growth.{is_member}
+use Rattle.zf_calculus.proofs.Prelude.{◌∙◌, ap, on_ok_weaker, resolved_of, is_member}
 use Rattle.zf_calculus.proofs.Memberships.{pushed, none_of_carrier, none_of_sides}
 use Rattle.zf_calculus.proofs.disjunction.push_membership.Goals as goal
 

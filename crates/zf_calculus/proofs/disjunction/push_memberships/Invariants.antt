@@ -1,8 +1,5 @@
-use Rattle.std.proofs.Common.{◌≡◌, ◌++◌, map, drop}
+use Rattle.zf_calculus.proofs.Prelude.{◌++◌, ◌≡◌, drop, map, set_of, resolved_of, membership}
 use Rattle.std.specs.Prelude.{flat_map}
-use Rattle.zf_term.specs.Definitions.{set_of}
-use Rattle.zf_term.specs.ResolvedTrees.{resolved_of}
-use Rattle.zf_calculus.specs.Calculus.{membership}
 use Rattle.zf_calculus.proofs.disjunction.push_memberships.Given as goal
 
 abbrev pub invariant-loop-domain : goal.invariant-loop-domain

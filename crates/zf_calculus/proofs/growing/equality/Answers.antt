@@ -1,9 +1,5 @@
-use Rattle.std.proofs.Common.{◌≡◌, ◌∙◌}
-use Rattle.std.proofs.lemmas.Result.{IfOk-weaker}
+use Rattle.zf_calculus.proofs.Prelude.{◌∙◌, ◌≡◌, IfOk-weaker, conjunct_of, resolved_of, equality}
 use Rattle.zf_term.specs.declared.resolved.Resolved.TheVariants as v
-use Rattle.zf_term.specs.Definitions.{conjunct_of}
-use Rattle.zf_term.specs.ResolvedTrees.{resolved_of}
-use Rattle.zf_calculus.specs.Growth.{equality}
 use Rattle.zf_calculus.proofs.Equalities.{equality_seen}
 use Rattle.zf_calculus.proofs.growing.equality.Goals as goal
 

@@ -1,8 +1,4 @@
-use Rattle.std.proofs.Common.{◌≡◌, ◌∙◌, ℕ, List, refl, subst}
-use Rattle.std.proofs.lemmas.Result.{on_ok_weaker}
-use Rattle.zf_term.specs.ResolvedTrees.{ResolvedTree}
-use Rattle.zf_reference.specs.Numbering.{place_in}
-use Rattle.zf_term.specs.Shapes.{moved}
+use Rattle.zf_calculus.proofs.Prelude.{◌∙◌, ◌≡◌, List, refl, subst, ℕ, on_ok_weaker, place_in, ResolvedTree, moved}
 use Rattle.zf_calculus.proofs.Renumbering.{taken_as_they_are}
 use Rattle.zf_calculus.proofs.growing.take_moved.Goals as goal
 

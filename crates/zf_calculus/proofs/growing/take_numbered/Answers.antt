@@ -1,5 +1,4 @@
-use Rattle.std.specs.Vec.Iter.{into_iter_items}
-use Rattle.zf_term.specs.Shapes.{numbering}
+use Rattle.zf_calculus.proofs.Prelude.{into_iter_items, numbering}
 use Rattle.zf_calculus.proofs.Renumbering.{taken_step}
 use Rattle.zf_calculus.proofs.growing.take_numbered.Goals as goal
 

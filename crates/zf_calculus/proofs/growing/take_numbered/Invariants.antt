@@ -1,7 +1,4 @@
-use Rattle.std.proofs.Common.{◌≡◌, ◌++◌, map}
-use Rattle.std.specs.Vec.Iter.{into_iter_items}
-use Rattle.zf_term.specs.Definitions.{conjunct_of}
-use Rattle.zf_term.specs.Shapes.{moved, numbering}
+use Rattle.zf_calculus.proofs.Prelude.{◌++◌, ◌≡◌, map, into_iter_items, conjunct_of, moved, numbering}
 use Rattle.zf_calculus.proofs.growing.take_numbered.Given as goal
 
 abbrev pub invariant-loop-conjunct : goal.invariant-loop-conjunct

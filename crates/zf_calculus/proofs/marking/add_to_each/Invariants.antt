@@ -1,5 +1,4 @@
-use Rattle.std.proofs.Common.{◌≡◌, map}
-use Rattle.zf_term.specs.Definitions.{comp_of}
+use Rattle.zf_calculus.proofs.Prelude.{◌≡◌, map, comp_of}
 use Rattle.zf_calculus.proofs.Decorating.{stroked, with_strokes_from}
 use Rattle.zf_calculus.proofs.marking.add_to_each.Given as goal
 

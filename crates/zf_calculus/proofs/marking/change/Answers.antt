@@ -1,7 +1,4 @@
-use Rattle.std.proofs.Common.{◌≡◌, ap, ◌∙◌, refl, rules, subst}
-use Rattle.zf_term.specs.Definitions.{schema_of}
-use Rattle.zf_calculus.specs.Calculus.{Agree, conjoined, decorated, prime}
-use Rattle.zf_calculus.specs.Steps.{IsNext}
+use Rattle.zf_calculus.proofs.Prelude.{◌∙◌, ◌≡◌, ap, refl, rules, subst, schema_of, Agree, conjoined, decorated, prime, IsNext}
 use Rattle.zf_calculus.proofs.Changing.{agreed, stops_before, stops_after}
 use Rattle.zf_calculus.proofs.Stopping.{weaker}
 use Rattle.zf_calculus.proofs.marking.change.Goals as goal

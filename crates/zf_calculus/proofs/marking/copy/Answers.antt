@@ -1,6 +1,4 @@
-use Rattle.std.proofs.Common.{◌≡◌, [], ◌∙◌}
-use Rattle.zf_term.specs.Definitions.{schema_of}
-use Rattle.zf_calculus.specs.Calculus.{decorated}
+use Rattle.zf_calculus.proofs.Prelude.{◌∙◌, ◌≡◌, [], schema_of, decorated}
 use Rattle.zf_calculus.proofs.Decorating.{undecorated}
 use Rattle.zf_calculus.proofs.Stopping.{if_ok}
 use Rattle.zf_calculus.proofs.marking.copy.Goals as goal

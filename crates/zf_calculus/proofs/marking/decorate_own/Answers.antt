@@ -1,5 +1,4 @@
-use Rattle.std.proofs.Common.{List, ap, map}
-use Rattle.zf_term.specs.Definitions.{Comp, conjunct_of, schema_of}
+use Rattle.zf_calculus.proofs.Prelude.{ap, List, map, Comp, conjunct_of, schema_of}
 use Rattle.zf_calculus.specs.Calculus as calculus
 use Rattle.zf_calculus.proofs.Decorating.{left_decorated, unstroked}
 use Rattle.zf_calculus.proofs.marking.decorate_own.Goals as goal

@@ -1,5 +1,4 @@
-use Rattle.std.proofs.Common.{◌≡◌, map, take}
-use Rattle.zf_term.specs.Definitions.{comp_of}
+use Rattle.zf_calculus.proofs.Prelude.{◌≡◌, map, take, comp_of}
 use Rattle.zf_calculus.proofs.Decorating.{stroked}
 use Rattle.zf_calculus.proofs.marking.decorated_components.Given as goal
 

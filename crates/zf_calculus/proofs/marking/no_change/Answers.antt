@@ -1,7 +1,4 @@
-use Rattle.std.proofs.Common.{◌∙◌, rules, subst}
-use Rattle.zf_term.specs.Definitions.{schema_of}
-use Rattle.zf_calculus.specs.Growth.{equalities}
-use Rattle.zf_calculus.specs.Limits.{IsWithin}
+use Rattle.zf_calculus.proofs.Prelude.{◌∙◌, rules, subst, schema_of, equalities, IsWithin}
 use Rattle.zf_calculus.proofs.Changing.{stops_change, xi_made, stops_xi}
 use Rattle.zf_calculus.proofs.Stopping.{weaker}
 use Rattle.zf_calculus.proofs.marking.no_change.Goals as goal

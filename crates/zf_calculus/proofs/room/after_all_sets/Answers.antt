@@ -1,8 +1,4 @@
-use Rattle.std.proofs.Common.{◌<◌, map, arith, rules, ◌∙◌}
-use Rattle.std.specs.List.{sum_by}
-use Rattle.zf_term.specs.Definitions.{comp_of}
-use Rattle.zf_term.specs.SetShapes.{set_count}
-use Rattle.zf_calculus.specs.Growth.{counted}
+use Rattle.zf_calculus.proofs.Prelude.{◌<◌, ◌∙◌, arith, map, rules, sum_by, comp_of, set_count, counted}
 use Rattle.zf_calculus.proofs.Counting.{counted_at}
 use Rattle.zf_calculus.proofs.room.after_all_sets.Goals as goal
 

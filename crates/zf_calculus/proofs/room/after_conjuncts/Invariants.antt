@@ -1,7 +1,4 @@
-use Rattle.std.proofs.Common.{◌≡◌, ◌+◌, map, drop}
-use Rattle.std.specs.List.{sum_by}
-use Rattle.zf_term.specs.Definitions.{conjunct_of}
-use Rattle.zf_term.specs.Shapes.{nodes}
+use Rattle.zf_calculus.proofs.Prelude.{◌+◌, ◌≡◌, drop, map, sum_by, conjunct_of, nodes}
 use Rattle.zf_calculus.proofs.room.after_conjuncts.Given as goal
 
 abbrev pub invariant-loop-conjunct : goal.invariant-loop-conjunct

@@ -1,7 +1,4 @@
-use Rattle.std.proofs.Common.{◌<◌, map, arith, rules}
-use Rattle.std.specs.List.{sum_by}
-use Rattle.zf_term.specs.Definitions.{set_of}
-use Rattle.zf_term.specs.SetShapes.{set_count}
+use Rattle.zf_calculus.proofs.Prelude.{◌<◌, arith, map, rules, sum_by, set_of, set_count}
 use Rattle.zf_calculus.proofs.Counting.{counted_at}
 use Rattle.zf_calculus.proofs.room.after_sets.Goals as goal
 

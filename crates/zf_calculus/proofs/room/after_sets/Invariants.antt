@@ -1,7 +1,4 @@
-use Rattle.std.proofs.Common.{◌≡◌, ◌+◌, map, drop}
-use Rattle.std.specs.List.{sum_by}
-use Rattle.zf_term.specs.Definitions.{set_of}
-use Rattle.zf_term.specs.SetShapes.{set_count}
+use Rattle.zf_calculus.proofs.Prelude.{◌+◌, ◌≡◌, drop, map, sum_by, set_of, set_count}
 use Rattle.zf_calculus.proofs.room.after_sets.Given as goal
 
 abbrev pub invariant-loop-domain : goal.invariant-loop-domain

@@ -1,5 +1,4 @@
-use Rattle.std.proofs.Common.{refl, map, arith}
-use Rattle.zf_term.specs.Definitions.{conjunct_of}
+use Rattle.zf_calculus.proofs.Prelude.{arith, map, refl, conjunct_of}
 use Rattle.zf_calculus.proofs.Low.{few_are_low}
 use Rattle.zf_calculus.proofs.room.are_low.Goals as goal
 

@@ -1,6 +1,4 @@
-use Rattle.std.proofs.Common.{refl, arith}
-use Rattle.zf_term.specs.Definitions.{conjunct_of}
-use Rattle.zf_shape.proofs.Heights.{below_nodes}
+use Rattle.zf_calculus.proofs.Prelude.{arith, refl, conjunct_of, below_nodes}
 use Rattle.zf_calculus.proofs.room.is_low.Goals as goal
 
 pub returns-then-count-le-HEIGHT_MAX : goal.returns-then-count-le-HEIGHT_MAX

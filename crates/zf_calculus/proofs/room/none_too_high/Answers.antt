@@ -1,6 +1,4 @@
-use Rattle.std.proofs.Common.{refl}
-use Rattle.zf_term.specs.Definitions.{conjunct_of}
-use Rattle.zf_calculus.specs.Limits.{IsLow}
+use Rattle.zf_calculus.proofs.Prelude.{refl, conjunct_of, IsLow}
 use Rattle.zf_calculus.proofs.Counting.{all_at, one_of_all}
 use Rattle.zf_calculus.proofs.room.none_too_high.Goals as goal
 

@@ -1,7 +1,4 @@
-use Rattle.std.proofs.Common.{map, drop}
-use Rattle.std.specs.List.{AllByRecursion}
-use Rattle.zf_term.specs.Definitions.{conjunct_of}
-use Rattle.zf_calculus.specs.Limits.{IsLow}
+use Rattle.zf_calculus.proofs.Prelude.{drop, map, AllByRecursion, conjunct_of, IsLow}
 use Rattle.zf_calculus.proofs.room.none_too_high.Given as goal
 
 abbrev pub invariant-loop-conjunct : goal.invariant-loop-conjunct

@@ -1,8 +1,5 @@
 -- Which part of the matches refuses a job.
-use Rattle.std.proofs.Common.{◌≡◌, Err, ◌∙◌, ap, sym, inl, inr, rules}
-use Rattle.std.proofs.lemmas.Result.{err_from_is_err_and}
-use Rattle.zf_command.specs.declared.job.UsageFault.{UsageFault}
-use Rattle.zf_command.specs.declared.job.UsageFault.TheVariants.{BadWords}
+use Rattle.zf_command.proofs.Prelude.{◌∙◌, ◌≡◌, ap, Err, inl, inr, rules, sym, err_from_is_err_and, UsageFault, BadWords}
 use Rattle.zf_command.proofs.asked.job_in.Goals as goal
 
 pub returns-in_err-sizes-clause-refused : goal.returns-in_err-sizes-clause-refused

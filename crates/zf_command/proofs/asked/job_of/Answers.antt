@@ -1,6 +1,5 @@
 -- The answers of `job_of`, from what `clap` ensures of its matches and its errors.
-use Rattle.std.proofs.Common.{sym, ◌∙◌, inl, inr, map}
-use Rattle.clap.specs.declared.error.kind.ErrorKind.TheVariants.{DisplayHelp, DisplayVersion}
+use Rattle.zf_command.proofs.Prelude.{◌∙◌, inl, inr, map, sym, DisplayHelp, DisplayVersion}
 use Rattle.zf_command.proofs.Refusals.{among_kinds, answered, are_matches}
 use Rattle.zf_command.proofs.asked.job_of.Goals as goal
 

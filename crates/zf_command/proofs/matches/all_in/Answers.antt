@@ -1,7 +1,5 @@
 -- The values of an argument, by the rows of the matches.
-use Rattle.std.proofs.Common.{◌∙◌}
-use Rattle.clap.specs.Words.{found_of}
-use Rattle.clap.proofs.WalkLemmas.{raw_values-rows}
+use Rattle.zf_command.proofs.Prelude.{◌∙◌, raw_values-rows, found_of}
 use Rattle.zf_command.proofs.matches.all_in.Goals as goal
 
 pub returns : goal.returns

@@ -1,7 +1,5 @@
 -- The first value of an argument, by the rows of the matches.
-use Rattle.std.proofs.Common.{◌∙◌}
-use Rattle.clap.specs.Words.{found_of}
-use Rattle.clap.proofs.WalkLemmas.{first_value-rows}
+use Rattle.zf_command.proofs.Prelude.{◌∙◌, first_value-rows, found_of}
 use Rattle.zf_command.proofs.matches.first_in.Goals as goal
 
 pub returns : goal.returns

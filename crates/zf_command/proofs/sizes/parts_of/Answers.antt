@@ -1,6 +1,5 @@
 -- The name and the size of a word, from what `split_once` answers.
-use Rattle.std.proofs.Common.{arith}
-use Rattle.std.proofs.lemmas.Bool.Decides.{nat_tests}
+use Rattle.zf_command.proofs.Prelude.{arith, nat_tests}
 use Rattle.zf_command.proofs.SizeWords.{bad_unparted, bad_number, reads_parts}
 use Rattle.zf_command.proofs.sizes.parts_of.Goals as goal
 

@@ -1,9 +1,6 @@
 -- The sizes of words, word by word.
-use Rattle.std.proofs.Common.{◌≡◌, Err, ◌∙◌, ap, sym}
-use Rattle.std.proofs.lemmas.Result.{err_from_is_err_and}
+use Rattle.zf_command.proofs.Prelude.{◌∙◌, ◌≡◌, ap, Err, sym, err_from_is_err_and, UsageFault, BadWords}
 use Rattle.zf_command.proofs.SizeWords.{bad_among, reads_more}
-use Rattle.zf_command.specs.declared.job.UsageFault.{UsageFault}
-use Rattle.zf_command.specs.declared.job.UsageFault.TheVariants.{BadWords}
 use Rattle.zf_command.proofs.sizes.sizes_of.Goals as goal
 
 pub returns-in_err-size_of-clause-refused : goal.returns-in_err-size_of-clause-refused

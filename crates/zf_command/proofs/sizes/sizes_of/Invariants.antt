@@ -1,7 +1,5 @@
 -- The words so far are read as the sizes so far.
-use Rattle.std.proofs.Common.{map, take}
-use Rattle.std.specs.List.{AllZip}
-use Rattle.zf_command.specs.Jobs.{ReadsSize}
+use Rattle.zf_command.proofs.Prelude.{map, take, AllZip, ReadsSize}
 use Rattle.zf_command.proofs.sizes.sizes_of.Given as goal
 
 abbrev pub invariant-loop-word : goal.invariant-loop-word

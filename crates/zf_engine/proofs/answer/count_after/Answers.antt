@@ -1,11 +1,4 @@
-use Rattle.std.proofs.Common.{true, sym}
-use Rattle.std.specs.Option.{option_copied}
-use Rattle.zf_meaning.specs.Envs.{environment_of}
-use Rattle.zf_term.specs.Definitions.{schema_of}
-use Rattle.zf_enum.specs.Portions.{portion}
-use Rattle.zf_enum.specs.Searches.{counted_goal}
-use Rattle.zf_lines.proofs.Beginning.{counting_at_start}
-use Rattle.zf_engine.specs.Stops.{request_of}
+use Rattle.zf_engine.proofs.Prelude.{sym, true, option_copied, schema_of, environment_of, portion, counted_goal, counting_at_start, request_of}
 use Rattle.zf_engine.proofs.DueWithin.{due_within}
 use Rattle.zf_engine.proofs.NamedRows.{named_length}
 use Rattle.zf_engine.proofs.Parts.{shown, told}

@@ -1,8 +1,4 @@
-use Rattle.std.proofs.Common.{ap, ◌∙◌}
-use Rattle.zf_meaning.specs.Envs.{environment_of}
-use Rattle.zf_term.specs.Definitions.{schema_of}
-use Rattle.zf_texts.specs.Spellings.{spellings}
-use Rattle.zf_engine.specs.Stops.{request_of}
+use Rattle.zf_engine.proofs.Prelude.{◌∙◌, ap, schema_of, environment_of, spellings, request_of}
 use Rattle.zf_engine.proofs.Parts.{stopped, told}
 use Rattle.zf_engine.proofs.Refusing.{clear_of, no_row_answers}
 use Rattle.zf_engine.proofs.answer.show_schema.Goals as goal

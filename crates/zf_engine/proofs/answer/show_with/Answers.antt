@@ -1,7 +1,4 @@
-use Rattle.std.specs.Option.{option_copied}
-use Rattle.zf_meaning.specs.Envs.{environment_of}
-use Rattle.zf_term.specs.Definitions.{schema_of}
-use Rattle.zf_engine.specs.Stops.{request_of}
+use Rattle.zf_engine.proofs.Prelude.{option_copied, schema_of, environment_of, request_of}
 use Rattle.zf_engine.proofs.Parts.{told}
 use Rattle.zf_engine.proofs.Refusing.{clear_of, no_values_answers}
 use Rattle.zf_engine.proofs.answer.show_with.Goals as goal

@@ -1,9 +1,4 @@
-use Rattle.std.proofs.Common.{◌∙◌, ap, inr, refl, rules}
-use Rattle.zf_meaning.specs.Envs.{environment_of}
-use Rattle.zf_term.specs.Definitions.{globals_of, schema_of}
-use Rattle.zf_engine.specs.Answers.{ShowAnswer, stated}
-use Rattle.zf_engine.specs.Stops.{AnswersOver, IfAnswered, TellsInfinite, TellsMisfit, request_of}
-use Rattle.zf_engine.specs.Texts.{no_schema_line}
+use Rattle.zf_engine.proofs.Prelude.{◌∙◌, ap, inr, refl, rules, globals_of, schema_of, environment_of, ShowAnswer, stated, AnswersOver, IfAnswered, request_of, TellsInfinite, TellsMisfit, no_schema_line}
 use Rattle.zf_engine.proofs.Refusing.{asked, has_schema, infinite_answers, misfit_answers, weaker_err}
 use Rattle.zf_engine.proofs.asked.asked_in.Goals as goal
 

@@ -1,5 +1,4 @@
-use Rattle.std.proofs.Common.{◌≡◌, map, take}
-use Rattle.zf_engine.specs.Answers.{stated_size}
+use Rattle.zf_engine.proofs.Prelude.{◌≡◌, map, take, stated_size}
 use Rattle.zf_engine.proofs.asked.stated_sizes.Given as goal
 
 abbrev pub invariant-loop-size : goal.invariant-loop-size

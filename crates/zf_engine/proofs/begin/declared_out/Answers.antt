@@ -1,9 +1,6 @@
-use Rattle.std.proofs.Common.{◌≡◌, List, get_or, refl, ap, ◌∙◌, arith, subst}
-use Rattle.std.proofs.lemmas.List.{length-map}
+use Rattle.zf_engine.proofs.Prelude.{◌∙◌, ◌≡◌, ap, arith, get_or, List, refl, subst, length-map, comp_of, declared_out_line}
 use Rattle.zf_term.specs.declared.globals.Component.{Component}
-use Rattle.zf_term.specs.Definitions.{comp_of}
 use Rattle.zf_enum.proofs.Comps.{comp_at}
-use Rattle.zf_engine.specs.Texts.{declared_out_line}
 use Rattle.zf_engine.proofs.begin.declared_out.Goals as goal
 
 pub returns-in-Ok : goal.returns-in-Ok

@@ -1,7 +1,6 @@
 -- The status, by what the words ask for.
-use Rattle.std.proofs.Common.{map, subst}
+use Rattle.zf_engine.proofs.Prelude.{map, subst, IsStatus, IsWorkStatus}
 use Rattle.zf_command.specs.Jobs.{IsAsked}
-use Rattle.zf_engine.specs.Statuses.{IsStatus, IsWorkStatus}
 use Rattle.zf_engine.proofs.Statuses.{status_of_refused}
 use Rattle.zf_engine.proofs.program.program.Goals as goal
 

@@ -1,6 +1,4 @@
-use Rattle.std.proofs.Common.{◌++◌, take, arith, length-append}
-use Rattle.std.proofs.lemmas.List.{length-take}
-use Rattle.std.proofs.KnownBytes.{Consumes-trans}
+use Rattle.zf_engine.proofs.Prelude.{◌++◌, arith, length-append, take, Consumes-trans, length-take}
 use Rattle.zf_engine.proofs.reading.read_source.Goals as goal
 
 -- what was read last is not kept, and yet was given

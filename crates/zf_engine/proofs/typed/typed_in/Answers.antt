@@ -1,8 +1,4 @@
-use Rattle.std.proofs.Common.{◌∙◌, length, ap, ◌==◌, inr, subst}
-use Rattle.std.specs.List.{flat_map}
-use Rattle.zf_term.specs.Definitions.{globals_of}
-use Rattle.zf_engine.specs.Answers.{Checks}
-use Rattle.zf_engine.specs.Texts.{type_fault_line}
+use Rattle.zf_engine.proofs.Prelude.{◌==◌, ◌∙◌, ap, inr, length, subst, flat_map, globals_of, Checks, type_fault_line}
 use Rattle.zf_engine.proofs.Refusing.{ill_typed_answers, some_of, none_of}
 use Rattle.zf_engine.proofs.typed.typed_in.Goals as goal
 

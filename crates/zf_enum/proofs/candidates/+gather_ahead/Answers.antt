@@ -1,10 +1,4 @@
-use Rattle.std.proofs.Common.{◌≡◌, ℕ, ◌+◌, ◌<◌, true, List, [], ◌∷◌, ◌++◌, length, get_or, refl, sym, ap, ◌∙◌, subst, length-append, arith}
-use Rattle.zf_term.specs.ResolvedTrees.{resolved_of}
-use Rattle.zf_walk.specs.Picked.{picked, AreWithin}
-use Rattle.zf_walk.proofs.Moving.{range-is}
-use Rattle.zf_meaning.specs.Envs.{environment_of}
-use Rattle.zf_enum.specs.Fixing.{AreCandidates}
-use Rattle.zf_enum.specs.Property.{uses}
+use Rattle.zf_enum.proofs.Prelude.{◌++◌, ◌+◌, ◌<◌, ◌∙◌, ◌∷◌, ◌≡◌, [], ap, arith, get_or, length, length-append, List, refl, subst, sym, true, ℕ, range-is, AreWithin, picked, resolved_of, environment_of, AreCandidates, uses}
 use Rattle.zf_enum.proofs.Trying.{stays_on, within_push, as_before, one_tried, all_tried}
 use Rattle.zf_enum.proofs.candidates.+gather_ahead.Goals as goal
 

@@ -1,7 +1,4 @@
-use Rattle.std.proofs.Common.{◌≡◌, ◌-◌, [], length, get_or}
-use Rattle.zf_term.specs.ResolvedTrees.{resolved_of}
-use Rattle.zf_plan.specs.Choices.{StaysIn}
-use Rattle.zf_meaning.specs.Envs.{environment_of}
+use Rattle.zf_enum.proofs.Prelude.{◌-◌, ◌≡◌, [], get_or, length, StaysIn, resolved_of, environment_of}
 use Rattle.zf_enum.proofs.Trying.{TriedUpTo}
 use Rattle.zf_enum.proofs.candidates.+gather_ahead.Given as goal
 

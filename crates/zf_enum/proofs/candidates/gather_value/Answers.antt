@@ -1,17 +1,4 @@
-use Rattle.std.proofs.Common.{◌≡◌, List, [], get_or, sym, subst, arith}
-use Rattle.std.specs.Prelude.{AllPairs}
-use Rattle.std.specs.declared.cmp.Ordering.TheVariants.{Less}
-use Rattle.std.proofs.lemmas.Result.{IfOk-weaker}
-use Rattle.zf_term.specs.ResolvedTrees.{resolved_of}
-use Rattle.zf_value.specs.declared.value.Value.{Value}
-use Rattle.zf_value.specs.Sets.{value_order}
-use Rattle.zf_walk.specs.Picked.{picked}
-use Rattle.zf_walk.proofs.Moving.{range-is}
-use Rattle.zf_walk.proofs.Picks.{length-picked}
-use Rattle.zf_meaning.specs.Envs.{environment_of}
-use Rattle.zf_meaning.specs.InRow.{in_row}
-use Rattle.zf_meaning.specs.Meaning.{HasOutcome}
-use Rattle.zf_enum.specs.Fixing.{IsKept}
+use Rattle.zf_enum.proofs.Prelude.{◌≡◌, [], arith, get_or, List, subst, sym, IfOk-weaker, AllPairs, Less, range-is, length-picked, picked, value_order, Value, resolved_of, environment_of, in_row, HasOutcome, IsKept}
 use Rattle.zf_enum.proofs.Trying.{one_candidate}
 use Rattle.zf_enum.proofs.candidates.gather_value.Goals as goal
 

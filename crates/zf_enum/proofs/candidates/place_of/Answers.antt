@@ -1,8 +1,4 @@
-use Rattle.std.proofs.Common.{◌≡◌, List, subst, Some}
-use Rattle.std.specs.Prelude.{AllPairs, slice_get}
-use Rattle.std.specs.declared.cmp.Ordering.TheVariants.{Less}
-use Rattle.zf_value.specs.declared.value.Value.{Value}
-use Rattle.zf_value.specs.Sets.{value_order}
+use Rattle.zf_enum.proofs.Prelude.{◌≡◌, List, Some, subst, AllPairs, slice_get, Less, value_order, Value}
 use Rattle.zf_enum.proofs.Standing.{found_at, found_none}
 use Rattle.zf_enum.proofs.candidates.place_of.Goals as goal
 

@@ -1,11 +1,5 @@
 -- The ranges of components, one after another.
-use Rattle.std.proofs.Common.{◌+◌, List, Option, map, take, subst, sym}
-use Rattle.std.specs.Prelude.{IsTrue}
-use Rattle.zf_term.specs.Definitions.{comp_of, sets_of}
-use Rattle.zf_value.specs.declared.value.Value.{Value}
-use Rattle.zf_finite.specs.Finite.{one_bounds}
-use Rattle.zf_meaning.specs.Envs.{environment_of}
-use Rattle.zf_enum.specs.Components.{AreAllRanges, IsOneRange}
+use Rattle.zf_enum.proofs.Prelude.{◌+◌, List, map, Option, subst, sym, take, IsTrue, Value, comp_of, sets_of, one_bounds, environment_of, AreAllRanges, IsOneRange}
 use Rattle.zf_enum.proofs.Comps.{comp_at, all_at, none_yet, all_next, all_done, refused}
 use Rattle.zf_enum.proofs.component.ranges.Goals as goal
 

@@ -1,6 +1,4 @@
-use Rattle.std.proofs.Common.{◌≡◌, max, map, drop}
-use Rattle.zf_term.specs.ResolvedTrees.{resolved_of, resolved_link_of, range_of, terms, links, ranges}
-use Rattle.zf_enum.specs.Dues.{place_after, all_need, links_need, ranges_need}
+use Rattle.zf_enum.proofs.Prelude.{◌≡◌, drop, map, max, links, range_of, ranges, resolved_link_of, resolved_of, terms, all_need, links_need, place_after, ranges_need}
 use Rattle.zf_enum.proofs.due.+last.Given as goal
 
 abbrev pub invariant-last_of_terms-loop-term : goal.invariant-last_of_terms-loop-term

@@ -1,5 +1,4 @@
-use Rattle.std.proofs.Common.{◌-◌, ◌^◌, arith}
-use Rattle.zf_term.specs.ResolvedTrees.{resolved_of}
+use Rattle.zf_enum.proofs.Prelude.{◌-◌, ◌^◌, arith, resolved_of}
 use Rattle.zf_enum.proofs.Dues.{due_need}
 use Rattle.zf_enum.proofs.due.due.Goals as goal
 

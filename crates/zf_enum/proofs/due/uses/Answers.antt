@@ -1,5 +1,4 @@
-use Rattle.std.proofs.Common.{sym, arith}
-use Rattle.zf_term.specs.ResolvedTrees.{resolved_of}
+use Rattle.zf_enum.proofs.Prelude.{arith, sym, resolved_of}
 use Rattle.zf_enum.proofs.Dues.{uses_none, uses_found}
 use Rattle.zf_enum.proofs.due.uses.Goals as goal
 

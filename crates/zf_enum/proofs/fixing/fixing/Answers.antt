@@ -1,5 +1,4 @@
-use Rattle.std.proofs.Common.{arith}
-use Rattle.zf_term.specs.ResolvedTrees.{resolved_of}
+use Rattle.zf_enum.proofs.Prelude.{arith, resolved_of}
 use Rattle.zf_enum.proofs.Equations.{some_weaker, equation_seen}
 use Rattle.zf_enum.proofs.fixing.fixing.Goals as goal
 

@@ -1,6 +1,4 @@
-use Rattle.std.proofs.Common.{ap, ◌∙◌}
-use Rattle.std.proofs.lemmas.Bool.{eqb-true}
-use Rattle.zf_reference.specs.declared.reference.Reference.TheVariants.{Component}
+use Rattle.zf_enum.proofs.Prelude.{◌∙◌, ap, eqb-true, Component}
 use Rattle.zf_enum.proofs.fixing.is_named.Goals as goal
 
 pub returns-in-Component : goal.returns-in-Component

@@ -1,5 +1,4 @@
-use Rattle.zf_value.proofs.Among.{member_at}
-use Rattle.zf_value.proofs.Regulars.{regular_member}
+use Rattle.zf_enum.proofs.Prelude.{member_at, regular_member}
 use Rattle.zf_enum.proofs.Listing.{lists_begin, lists_step, lists_end}
 use Rattle.zf_enum.proofs.kept.kept.Goals as goal
 

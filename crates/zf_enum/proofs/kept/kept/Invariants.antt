@@ -1,6 +1,4 @@
-use Rattle.std.proofs.Common.{take}
-use Rattle.zf_value.specs.Sets.{IsMember}
-use Rattle.zf_enum.specs.Parts.{Lists}
+use Rattle.zf_enum.proofs.Prelude.{take, IsMember, Lists}
 use Rattle.zf_enum.proofs.kept.kept.Given as goal
 
 abbrev pub invariant-loop-value : goal.invariant-loop-value

@@ -1,9 +1,5 @@
 -- Each value is one of those that are given.
-use Rattle.std.proofs.Common.{◌≡◌, List, ◌∷◌, ◌++◌, refl, sym, subst, inl, inr, ap, ◌∙◌}
-use Rattle.zf_value.specs.declared.value.Value.{Value}
-use Rattle.zf_value.specs.Sets.{IsMember}
-use Rattle.zf_value.proofs.Among.{members-append}
-use Rattle.zf_value.proofs.Regulars.{regular_member}
+use Rattle.zf_enum.proofs.Prelude.{◌++◌, ◌∙◌, ◌∷◌, ◌≡◌, ap, inl, inr, List, refl, subst, sym, members-append, regular_member, IsMember, Value}
 use Rattle.zf_enum.proofs.known.all_known.Goals as goal
 
 pub new-requires : goal.new-requires

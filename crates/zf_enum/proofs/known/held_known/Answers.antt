@@ -1,9 +1,5 @@
 -- Each value is one of those that are given.
-use Rattle.std.proofs.Common.{◌≡◌, List, Option, ◌∷◌, ◌++◌, sym, subst, ap, ◌∙◌}
-use Rattle.std.specs.Prelude.{MatchOption}
-use Rattle.std.specs.List.{AllByRecursion}
-use Rattle.zf_value.specs.declared.value.Value.{Value}
-use Rattle.zf_value.specs.Sets.{IsRegular}
+use Rattle.zf_enum.proofs.Prelude.{◌++◌, ◌∙◌, ◌∷◌, ◌≡◌, ap, List, Option, subst, sym, AllByRecursion, MatchOption, IsRegular, Value}
 use Rattle.zf_enum.proofs.Held.{one_of_all}
 use Rattle.zf_enum.proofs.known.held_known.Goals as goal
 

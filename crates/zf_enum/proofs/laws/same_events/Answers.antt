@@ -1,7 +1,4 @@
-use Rattle.zf_value.specs.Sets.{value_order}
-use Rattle.zf_plan.specs.Trees.{planted}
-use Rattle.zf_plan.proofs.Alike.{same_events}
-use Rattle.zf_enum.specs.Property.{property}
+use Rattle.zf_enum.proofs.Prelude.{same_events, planted, value_order, property}
 use Rattle.zf_enum.proofs.laws.same_events.Goals as goal
 
 pub returns : goal.returns

@@ -1,8 +1,4 @@
-use Rattle.std.proofs.Common.{sym, ◌∙◌}
-use Rattle.std.proofs.lemmas.Result.{IfOk-weaker}
-use Rattle.zf_term.specs.Types.{type_of}
-use Rattle.zf_meaning.specs.Carriers.{IsCarrier}
-use Rattle.zf_meaning.specs.Envs.{environment_of}
+use Rattle.zf_enum.proofs.Prelude.{◌∙◌, sym, IfOk-weaker, type_of, IsCarrier, environment_of}
 use Rattle.zf_enum.proofs.Lacks.{told}
 use Rattle.zf_enum.proofs.Single.{filtered_by_carrier, typed_of_carrier, described_carrier_is_out, one_described}
 use Rattle.zf_enum.proofs.leaves.among_carrier.Goals as goal

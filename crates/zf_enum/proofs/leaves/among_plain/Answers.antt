@@ -1,13 +1,5 @@
-use Rattle.std.proofs.Common.{◌≡◌, List, Some, None, rules, sym, ◌∙◌, subst}
-use Rattle.std.proofs.lemmas.Result.{IfOk-weaker}
-use Rattle.zf_term.specs.Definitions.{Defined}
-use Rattle.zf_extent.specs.Extents.{direct}
-use Rattle.zf_term.specs.ResolvedTrees.{resolved_of}
+use Rattle.zf_enum.proofs.Prelude.{◌∙◌, ◌≡◌, List, None, rules, Some, subst, sym, IfOk-weaker, regular-nothing, Defined, resolved_of, direct, globally, environment_of, HasOutcome}
 use Rattle.zf_meaning.specs.Described.{Describes}
-use Rattle.zf_meaning.specs.Environments.{globally}
-use Rattle.zf_meaning.specs.Envs.{environment_of}
-use Rattle.zf_meaning.specs.Meaning.{HasOutcome}
-use Rattle.zf_value.proofs.Regulars.{regular-nothing}
 use Rattle.zf_enum.proofs.Lacks.{told}
 use Rattle.zf_enum.proofs.Single.{filtered_by_plain, numbers_of_plain, described_is_out, no_infinite, none_is_none}
 use Rattle.zf_enum.proofs.leaves.among_plain.Goals as goal

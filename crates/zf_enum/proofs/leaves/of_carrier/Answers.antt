@@ -1,6 +1,4 @@
-use Rattle.std.proofs.lemmas.Result.{IfOk-weaker}
-use Rattle.zf_term.specs.Types.{type_of, has_numbers}
-use Rattle.zf_meaning.specs.Envs.{environment_of}
+use Rattle.zf_enum.proofs.Prelude.{IfOk-weaker, has_numbers, type_of, environment_of}
 use Rattle.zf_enum.proofs.Lacks.{told}
 use Rattle.zf_enum.proofs.Listing.{lists_set}
 use Rattle.zf_enum.proofs.Single.{all_of_carrier, carrier_is_out, numberless}

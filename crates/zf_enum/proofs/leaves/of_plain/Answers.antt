@@ -1,6 +1,4 @@
-use Rattle.std.proofs.lemmas.Result.{IfOk-weaker}
-use Rattle.zf_term.specs.ResolvedTrees.{resolved_of}
-use Rattle.zf_meaning.specs.Envs.{environment_of}
+use Rattle.zf_enum.proofs.Prelude.{IfOk-weaker, resolved_of, environment_of}
 use Rattle.zf_enum.proofs.Lacks.{told}
 use Rattle.zf_enum.proofs.Listing.{lists_set}
 use Rattle.zf_enum.proofs.Single.{all_of_plain, plain_is_out}

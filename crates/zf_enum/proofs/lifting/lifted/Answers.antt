@@ -1,13 +1,7 @@
 -- Predicates with names for their closed parts need no more components; those without such parts say what they said.
-use Rattle.std.proofs.Common.{ℕ, ◌<◌, ◌^◌, Option, List, map, sym, ap, ◌∙◌, subst, arith}
+use Rattle.zf_enum.proofs.Prelude.{◌<◌, ◌^◌, ◌∙◌, ap, arith, List, map, Option, subst, sym, ℕ, slice_get, resolved_of, Resolved, environment_of, AreLifted, due, due_of}
 use Rattle.std.specs.Option.{IfSome}
-use Rattle.std.specs.Prelude.{slice_get}
-use Rattle.zf_term.specs.ResolvedTrees.{resolved_of}
-use Rattle.zf_term.specs.declared.resolved.Resolved.{Resolved}
-use Rattle.zf_meaning.specs.Envs.{environment_of}
-use Rattle.zf_lift.specs.Lifted.{AreLifted}
 use Rattle.zf_lift.specs.declared.lifted.Lifted.{Lifted}
-use Rattle.zf_enum.specs.Property.{due, due_of}
 use Rattle.zf_enum.proofs.Naming.{dues_at, unchanged}
 use Rattle.zf_enum.proofs.lifting.lifted.Goals as goal
 

@@ -1,10 +1,5 @@
 -- Which values are of a type.
-use Rattle.std.proofs.Common.{◌<◌, length, sym, ap, ◌∙◌, arith}
-use Rattle.std.proofs.lemmas.Bool.{both_ways}
-use Rattle.zf_term.specs.Types.{type_of, types}
-use Rattle.zf_value.specs.declared.value.Value.{Tuple, SetOf}
-use Rattle.zf_meaning.specs.Envs.{environment_of}
-use Rattle.zf_meaning.specs.Rows.{IsOfType}
+use Rattle.zf_enum.proofs.Prelude.{◌<◌, ◌∙◌, ap, arith, length, sym, both_ways, SetOf, Tuple, type_of, types, environment_of, IsOfType}
 use Rattle.zf_enum.proofs.Typed.{never, set_at, tuple_at, as_many, regular_at, every_next, every_not, fit_next, fit_not}
 use Rattle.zf_enum.proofs.of_type.+of_type.Goals as goal
 

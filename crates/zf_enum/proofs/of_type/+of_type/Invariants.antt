@@ -1,8 +1,4 @@
-use Rattle.std.proofs.Common.{◌↔◌, map, drop}
-use Rattle.zf_term.specs.Types.{type_of, types}
-use Rattle.zf_value.specs.Sets.{AreRegular, Every}
-use Rattle.zf_meaning.specs.Envs.{environment_of}
-use Rattle.zf_meaning.specs.Rows.{IsOfType, AreOfTypes}
+use Rattle.zf_enum.proofs.Prelude.{◌↔◌, drop, map, Every, AreRegular, type_of, types, environment_of, AreOfTypes, IsOfType}
 use Rattle.zf_enum.proofs.of_type.+of_type.Given as goal
 
 abbrev pub invariant-are_all_of-loop-value : goal.invariant-are_all_of-loop-value

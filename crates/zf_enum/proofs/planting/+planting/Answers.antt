@@ -1,9 +1,6 @@
 -- What is planted of a connective's sides, joined.
-use Rattle.std.proofs.Common.{refl}
-use Rattle.std.proofs.lemmas.Result.{IfOk-weaker}
+use Rattle.zf_enum.proofs.Prelude.{refl, IfOk-weaker, Not, resolved_of, unary}
 use Rattle.zf_tree.specs.declared.symbol.Connective.TheVariants.{And, Or, Implies}
-use Rattle.zf_tree.specs.declared.operator.Unary.TheVariants.{Not}
-use Rattle.zf_term.specs.ResolvedTrees.{resolved_of, unary}
 use Rattle.zf_enum.proofs.Planted.{unary_seen, binary_seen, plants_not, plants_and, plants_or, plants_implies}
 use Rattle.zf_enum.proofs.planting.+planting.Goals as goal
 

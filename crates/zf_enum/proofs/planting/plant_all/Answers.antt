@@ -1,9 +1,4 @@
-use Rattle.std.proofs.Common.{List, map, take, sym, subst}
-use Rattle.zf_term.specs.declared.conjunct.Conjunct.{Conjunct}
-use Rattle.zf_term.specs.Definitions.{conjunct_of}
-use Rattle.zf_term.specs.ResolvedTrees.{ResolvedTree}
-use Rattle.zf_plan.specs.Groves.{trees_of}
-use Rattle.zf_enum.specs.Planting.{ArePlanted}
+use Rattle.zf_enum.proofs.Prelude.{List, map, subst, sym, take, trees_of, conjunct_of, ResolvedTree, Conjunct, ArePlanted}
 use Rattle.zf_enum.proofs.Resolved.{one_conjunct_more, whole}
 use Rattle.zf_enum.proofs.planting.plant_all.Goals as goal
 

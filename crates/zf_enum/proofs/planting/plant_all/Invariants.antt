@@ -1,7 +1,4 @@
-use Rattle.std.proofs.Common.{map, take}
-use Rattle.zf_term.specs.Definitions.{conjunct_of}
-use Rattle.zf_plan.specs.Groves.{trees_of}
-use Rattle.zf_enum.specs.Planting.{ArePlanted}
+use Rattle.zf_enum.proofs.Prelude.{map, take, trees_of, conjunct_of, ArePlanted}
 use Rattle.zf_enum.proofs.planting.plant_all.Given as goal
 
 -- the conjuncts so far are planted

@@ -1,10 +1,4 @@
-use Rattle.std.proofs.Common.{◌≡◌, ℕ, List, ◌∷◌, [], ◌++◌, length, sym, subst, arith}
-use Rattle.std.proofs.lemmas.Result.{IfOk-weaker}
-use Rattle.zf_term.specs.declared.resolved.Resolved.{Resolved}
-use Rattle.zf_term.specs.ResolvedTrees.{resolved_of}
-use Rattle.zf_plan.specs.Trees.{leaf}
-use Rattle.zf_plan.specs.Groves.{Grows}
-use Rattle.zf_enum.specs.Planting.{Plants}
+use Rattle.zf_enum.proofs.Prelude.{◌++◌, ◌∷◌, ◌≡◌, [], arith, length, List, subst, sym, ℕ, IfOk-weaker, Grows, leaf, resolved_of, Resolved, Plants}
 use Rattle.zf_enum.proofs.Planted.{plants_leaf}
 use Rattle.zf_enum.proofs.planting.plant_leaf.Goals as goal
 

@@ -1,7 +1,4 @@
-use Rattle.std.proofs.Common.{subst}
-use Rattle.std.proofs.lemmas.Result.{on_ok_weaker}
-use Rattle.zf_term.specs.ResolvedTrees.{resolved_of}
-use Rattle.zf_enum.specs.Planting.{PlantsNext}
+use Rattle.zf_enum.proofs.Prelude.{subst, on_ok_weaker, resolved_of, PlantsNext}
 use Rattle.zf_enum.proofs.Planted.{next_planted}
 use Rattle.zf_enum.proofs.planting.plant_next.Goals as goal
 

@@ -1,7 +1,4 @@
-use Rattle.std.proofs.Common.{◌≡◌, ℕ, ◌+◌, ◌<◌, ◌^◌, List, map, take, ap, subst, sym}
-use Rattle.std.proofs.lemmas.List.{length-map}
-use Rattle.zf_term.specs.ResolvedTrees.{resolved_of}
-use Rattle.zf_enum.specs.Property.{due, due_of}
+use Rattle.zf_enum.proofs.Prelude.{◌+◌, ◌<◌, ◌^◌, ◌≡◌, ap, List, map, subst, sym, take, ℕ, length-map, resolved_of, due, due_of}
 use Rattle.zf_enum.proofs.Judging.{at_place, one_need_more, all_needs}
 use Rattle.zf_enum.proofs.property.dues.Goals as goal
 

@@ -1,6 +1,4 @@
-use Rattle.std.proofs.Common.{◌≡◌, map, take}
-use Rattle.zf_term.specs.ResolvedTrees.{resolved_of}
-use Rattle.zf_enum.specs.Property.{due}
+use Rattle.zf_enum.proofs.Prelude.{◌≡◌, map, take, resolved_of, due}
 use Rattle.zf_enum.proofs.property.dues.Given as goal
 
 abbrev pub invariant-loop-conjunct : goal.invariant-loop-conjunct

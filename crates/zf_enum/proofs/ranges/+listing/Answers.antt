@@ -1,14 +1,6 @@
 -- The values that lie in each of several declared sets.
-use Rattle.std.proofs.Common.{◌≡◌, true, suc, List, map, sym, ap, ◌∙◌, subst, rules}
-use Rattle.zf_term.specs.declared.globals.Domain.{Domain}
-use Rattle.zf_term.specs.Definitions.{DeclaredSet, set_of, sets_of}
-use Rattle.zf_term.proofs.SetsSeen.{of-Either}
+use Rattle.zf_enum.proofs.Prelude.{◌∙◌, ◌≡◌, ap, List, map, rules, subst, suc, sym, true, regular_none, IsRegularSet, of-Either, DeclaredSet, set_of, sets_of, Domain, environment_of, IsOneOut, IsAllOf, IsAllOfEach, NarrowsAll}
 use Rattle.zf_finite.specs.Finite as spec
-use Rattle.zf_value.specs.Sets.{IsRegularSet}
-use Rattle.zf_value.proofs.Regulars.{regular_none}
-use Rattle.zf_meaning.specs.Envs.{environment_of}
-use Rattle.zf_enum.specs.DeclaredSets.{IsOneOut}
-use Rattle.zf_enum.specs.Parts.{NarrowsAll, IsAllOf, IsAllOfEach}
 use Rattle.zf_enum.proofs.Lacks.{passed}
 use Rattle.zf_enum.proofs.Sides.{rest, sides_bound, out_at, out_before, out_behind, all_of_each, all_of_sides}
 use Rattle.zf_enum.proofs.ranges.+listing.Goals as goal

@@ -1,11 +1,5 @@
 -- The values that each declared set leaves.
-use Rattle.std.proofs.Common.{◌≡◌, List, map, sym, ap, ◌∙◌, subst, rules}
-use Rattle.zf_term.specs.declared.globals.Domain.{Domain}
-use Rattle.zf_term.specs.Definitions.{DeclaredSet, set_of, sets_of}
-use Rattle.zf_term.proofs.SetsSeen.{of-Either}
-use Rattle.zf_value.specs.declared.value.Value.{Value}
-use Rattle.zf_meaning.specs.Envs.{environment_of}
-use Rattle.zf_enum.specs.Parts.{Narrows, NarrowsAll}
+use Rattle.zf_enum.proofs.Prelude.{◌∙◌, ◌≡◌, ap, List, map, rules, subst, sym, Value, of-Either, DeclaredSet, set_of, sets_of, Domain, environment_of, Narrows, NarrowsAll}
 use Rattle.zf_enum.proofs.Lacks.{passed}
 use Rattle.zf_enum.proofs.Sides.{narrows_next, out_at, some_of_sides}
 use Rattle.zf_enum.proofs.ranges.+narrowing.Goals as goal

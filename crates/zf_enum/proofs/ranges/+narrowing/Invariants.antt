@@ -1,5 +1,4 @@
-use Rattle.zf_meaning.specs.Envs.{environment_of}
-use Rattle.zf_enum.specs.Parts.{NarrowsAll}
+use Rattle.zf_enum.proofs.Prelude.{environment_of, NarrowsAll}
 use Rattle.zf_enum.proofs.Sides.{front}
 use Rattle.zf_enum.proofs.ranges.+narrowing.Given as goal
 

@@ -1,8 +1,5 @@
 -- The values of a range, or of them the one that is held.
-use Rattle.std.proofs.Common.{List, [], ◌∷◌, map, ap, ◌∙◌}
-use Rattle.zf_term.specs.Definitions.{set_of, sets_of}
-use Rattle.zf_value.specs.declared.value.Value.{Value}
-use Rattle.zf_meaning.specs.Envs.{environment_of}
+use Rattle.zf_enum.proofs.Prelude.{◌∙◌, ◌∷◌, [], ap, List, map, Value, set_of, sets_of, environment_of}
 use Rattle.zf_enum.proofs.Held.{of_all, one_ok, regular_alone}
 use Rattle.zf_enum.proofs.ranges.values_with.Goals as goal
 

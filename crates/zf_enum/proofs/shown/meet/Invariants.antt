@@ -1,5 +1,4 @@
-use Rattle.std.proofs.Common.{take}
-use Rattle.zf_value.specs.Sets.{AreRegular}
+use Rattle.zf_enum.proofs.Prelude.{take, AreRegular}
 use Rattle.zf_enum.proofs.shown.meet.Given as goal
 
 abbrev pub invariant-loop-place : goal.invariant-loop-place

@@ -1,7 +1,4 @@
-use Rattle.std.proofs.Common.{◌≡◌, ◌+◌, List, map, take, subst, sym}
-use Rattle.zf_term.specs.declared.resolved.Resolved.{Resolved}
-use Rattle.zf_term.specs.Definitions.{conjunct_of}
-use Rattle.zf_term.specs.ResolvedTrees.{resolved_of}
+use Rattle.zf_enum.proofs.Prelude.{◌+◌, ◌≡◌, List, map, subst, sym, take, conjunct_of, resolved_of, Resolved}
 use Rattle.zf_enum.proofs.Resolved.{one_more, all_done}
 use Rattle.zf_enum.proofs.start.resolved.Goals as goal
 

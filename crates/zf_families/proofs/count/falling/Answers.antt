@@ -1,5 +1,4 @@
-use Rattle.std.proofs.Common.{◌+◌, ◌*◌, ◌∙◌, ap, min}
-use Rattle.zf_value.specs.declared.TheConstants.{SET_MAX}
+use Rattle.zf_families.proofs.Prelude.{◌*◌, ◌+◌, ◌∙◌, ap, min, SET_MAX}
 use Rattle.zf_families.proofs.CutCounts.{falling_turn}
 use Rattle.zf_families.proofs.count.falling.Goals as goal
 

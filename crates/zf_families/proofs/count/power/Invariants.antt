@@ -1,5 +1,4 @@
-use Rattle.std.proofs.Common.{◌≡◌, ◌+◌, ◌^◌, min}
-use Rattle.zf_value.specs.declared.TheConstants.{SET_MAX}
+use Rattle.zf_families.proofs.Prelude.{◌+◌, ◌^◌, ◌≡◌, min, SET_MAX}
 use Rattle.zf_families.proofs.count.power.Given as goal
 
 abbrev pub invariant-loop-turn : goal.invariant-loop-turn

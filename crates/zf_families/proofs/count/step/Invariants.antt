@@ -1,5 +1,4 @@
-use Rattle.std.proofs.Common.{◌≡◌, ◌-◌, ◌<◌, length, take, drop, ◌++◌}
-use Rattle.zf_families.specs.Counts.{stepped}
+use Rattle.zf_families.proofs.Prelude.{◌++◌, ◌-◌, ◌<◌, ◌≡◌, drop, length, take, stepped}
 use Rattle.zf_families.proofs.count.step.Given as goal
 
 abbrev pub invariant-loop-used : goal.invariant-loop-used

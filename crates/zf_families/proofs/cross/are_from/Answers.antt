@@ -1,6 +1,4 @@
-use Rattle.std.proofs.Common.{◌<◌, length, sym, subst, arith}
-use Rattle.zf_value.specs.Sets.{IsRegular}
-use Rattle.zf_value.specs.Operations.{AreFrom}
+use Rattle.zf_families.proofs.Prelude.{◌<◌, arith, length, subst, sym, AreFrom, IsRegular}
 use Rattle.zf_families.proofs.Tested.{never}
 use Rattle.zf_families.proofs.Tuples.{as_many, regular_at}
 use Rattle.zf_families.proofs.cross.are_from.Goals as goal

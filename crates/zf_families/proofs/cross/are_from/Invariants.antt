@@ -1,5 +1,4 @@
-use Rattle.std.proofs.Common.{◌↔◌, drop}
-use Rattle.zf_value.specs.Operations.{AreFrom}
+use Rattle.zf_families.proofs.Prelude.{◌↔◌, drop, AreFrom}
 use Rattle.zf_families.proofs.cross.are_from.Given as goal
 
 abbrev pub invariant-loop-place : goal.invariant-loop-place

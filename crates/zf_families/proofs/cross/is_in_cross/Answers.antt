@@ -1,5 +1,4 @@
-use Rattle.std.proofs.Common.{sym, ap, ◌∙◌}
-use Rattle.zf_value.specs.declared.value.Value.{Tuple}
+use Rattle.zf_families.proofs.Prelude.{◌∙◌, ap, sym, Tuple}
 use Rattle.zf_families.proofs.Tuples.{tuple_at, no_tuple}
 use Rattle.zf_families.proofs.cross.is_in_cross.Goals as goal
 

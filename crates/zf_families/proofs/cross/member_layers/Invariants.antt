@@ -1,5 +1,4 @@
-use Rattle.std.proofs.Common.{◌≡◌, map, take}
-use Rattle.zf_value.specs.Sets.{members}
+use Rattle.zf_families.proofs.Prelude.{◌≡◌, map, take, members}
 use Rattle.zf_families.proofs.cross.member_layers.Given as goal
 
 abbrev pub invariant-loop-set : goal.invariant-loop-set

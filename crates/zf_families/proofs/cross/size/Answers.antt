@@ -1,6 +1,4 @@
-use Rattle.std.proofs.Common.{◌≡◌, ◌+◌}
-use Rattle.zf_value.specs.Sets.{members}
-use Rattle.zf_value.specs.declared.TheConstants.{SET_MAX}
+use Rattle.zf_families.proofs.Prelude.{◌+◌, ◌≡◌, members, SET_MAX}
 use Rattle.zf_families.proofs.Counts.{count_more}
 use Rattle.zf_families.proofs.cross.size.Goals as goal
 

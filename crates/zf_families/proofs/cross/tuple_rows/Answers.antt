@@ -1,5 +1,4 @@
-use Rattle.std.proofs.Common.{sym, ◌∙◌}
-use Rattle.zf_value.specs.declared.TheConstants.{SET_MAX}
+use Rattle.zf_families.proofs.Prelude.{◌∙◌, sym, SET_MAX}
 use Rattle.zf_families.proofs.Tuples.{no_tuples}
 use Rattle.zf_families.proofs.cross.tuple_rows.Goals as goal
 

@@ -1,5 +1,4 @@
-use Rattle.std.proofs.Common.{◌+◌, ◌^◌, min, length, ap, ◌∙◌, add-one}
-use Rattle.zf_value.specs.declared.TheConstants.{SET_MAX}
+use Rattle.zf_families.proofs.Prelude.{◌+◌, ◌^◌, ◌∙◌, add-one, ap, length, min, SET_MAX}
 use Rattle.zf_families.proofs.Families.{partial_functions_out}
 use Rattle.zf_families.proofs.function.are_partial_functions_out.Goals as goal
 

@@ -1,5 +1,4 @@
-use Rattle.std.proofs.Common.{◌≡◌, map, take}
-use Rattle.zf_value.specs.Operations.{pair}
+use Rattle.zf_families.proofs.Prelude.{◌≡◌, map, take, pair}
 use Rattle.zf_families.proofs.function.constant.Given as goal
 
 abbrev pub invariant-loop-x : goal.invariant-loop-x

@@ -1,7 +1,4 @@
-use Rattle.std.proofs.Common.{sym, ap, ◌∙◌}
-use Rattle.zf_value.specs.declared.value.Value.{SetOf}
-use Rattle.zf_value.specs.Operations.{IsFunctional}
-use Rattle.zf_families.specs.Families.{IsPartialFunction}
+use Rattle.zf_families.proofs.Prelude.{◌∙◌, ap, sym, IsFunctional, SetOf, IsPartialFunction}
 use Rattle.zf_families.proofs.Belonging.{function_at, no_relation, ascending_pairs}
 use Rattle.zf_families.proofs.function.is_partial_function.Goals as goal
 

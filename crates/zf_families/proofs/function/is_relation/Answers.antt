@@ -1,6 +1,4 @@
-use Rattle.std.proofs.Common.{sym, ap, ◌∙◌}
-use Rattle.zf_value.specs.declared.value.Value.{SetOf}
-use Rattle.zf_families.specs.Families.{IsRelation}
+use Rattle.zf_families.proofs.Prelude.{◌∙◌, ap, sym, SetOf, IsRelation}
 use Rattle.zf_families.proofs.Belonging.{plain_relation_at, no_relation}
 use Rattle.zf_families.proofs.function.is_relation.Goals as goal
 

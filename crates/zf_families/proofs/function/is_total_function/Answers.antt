@@ -1,7 +1,4 @@
-use Rattle.std.proofs.Common.{sym, ap, ◌∙◌}
-use Rattle.zf_value.specs.declared.value.Value.{SetOf}
-use Rattle.zf_value.specs.Operations.{IsFunctional, IsTotal}
-use Rattle.zf_families.specs.Families.{IsTotalFunction}
+use Rattle.zf_families.proofs.Prelude.{◌∙◌, ap, sym, IsFunctional, IsTotal, SetOf, IsTotalFunction}
 use Rattle.zf_families.proofs.Belonging.{total_at, no_relation}
 use Rattle.zf_families.proofs.function.is_total_function.Goals as goal
 

@@ -1,6 +1,5 @@
-use Rattle.std.proofs.Common.{◌≡◌}
+use Rattle.zf_families.proofs.Prelude.{◌≡◌, iff_false}
 use Rattle.zf_families.proofs.Families.{partial_rows, partial_functions_built, partial_functions_regular}
-use Rattle.std.proofs.lemmas.Bool.{iff_false}
 use Rattle.zf_families.proofs.function.partial_functions.Goals as goal
 
 pub returns-clause-is : goal.returns-clause-is

@@ -1,7 +1,5 @@
-use Rattle.std.proofs.Common.{◌≡◌, [], ◌∷◌}
-use Rattle.zf_families.specs.Selections.{some, fits_any, singles}
+use Rattle.zf_families.proofs.Prelude.{◌∷◌, ◌≡◌, [], iff_false, fits_any, singles, some}
 use Rattle.zf_families.proofs.Relations.{product_of, relations_built, relations_regular}
-use Rattle.std.proofs.lemmas.Bool.{iff_false}
 use Rattle.zf_families.proofs.function.relations.Goals as goal
 
 pub returns-clause-is : goal.returns-clause-is

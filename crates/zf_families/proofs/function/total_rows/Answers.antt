@@ -1,5 +1,4 @@
-use Rattle.std.proofs.Common.{◌≡◌, [], ◌∷◌, ◌∙◌}
-use Rattle.std.proofs.lemmas.Result.{IfOk-weaker}
+use Rattle.zf_families.proofs.Prelude.{◌∙◌, ◌∷◌, ◌≡◌, [], IfOk-weaker}
 use Rattle.zf_families.proofs.Families.{total_rows, constant_rows}
 use Rattle.zf_families.proofs.function.total_rows.Goals as goal
 

@@ -1,7 +1,4 @@
-use Rattle.std.proofs.Common.{sym, ap, ◌∙◌}
-use Rattle.zf_value.specs.declared.value.Value.{SetOf}
-use Rattle.zf_value.specs.Operations.{IsFunctional, IsInjective}
-use Rattle.zf_families.specs.Families.{IsPartialInjection}
+use Rattle.zf_families.proofs.Prelude.{◌∙◌, ap, sym, IsFunctional, IsInjective, SetOf, IsPartialInjection}
 use Rattle.zf_families.proofs.Belonging.{injection_at, no_relation, ascending_pairs}
 use Rattle.zf_families.proofs.injection.is_partial_injection.Goals as goal
 

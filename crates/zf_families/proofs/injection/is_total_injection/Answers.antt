@@ -1,8 +1,4 @@
-use Rattle.std.proofs.Common.{sym, ap, ◌∙◌}
-use Rattle.zf_value.specs.declared.value.Value.{SetOf}
-use Rattle.zf_value.specs.Operations.{IsFunctional, IsInjective, IsTotal}
-use Rattle.zf_families.specs.Families.{IsTotalInjection}
-use Rattle.zf_families.specs.Tests.{seconds_apart}
+use Rattle.zf_families.proofs.Prelude.{◌∙◌, ap, sym, IsFunctional, IsInjective, IsTotal, SetOf, IsTotalInjection, seconds_apart}
 use Rattle.zf_families.proofs.Belonging.{total_injection_at, no_total_injection, no_relation}
 use Rattle.zf_families.proofs.injection.is_total_injection.Goals as goal
 

@@ -1,5 +1,4 @@
-use Rattle.std.proofs.Common.{◌≡◌, [], ◌∷◌}
-use Rattle.std.proofs.lemmas.Result.{IfOk-weaker}
+use Rattle.zf_families.proofs.Prelude.{◌∷◌, ◌≡◌, [], IfOk-weaker}
 use Rattle.zf_families.proofs.Injections.{single_pairs, single_pair_rows, partial_injection_rows}
 use Rattle.zf_families.proofs.injection.partial_rows.Goals as goal
 

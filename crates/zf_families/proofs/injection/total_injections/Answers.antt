@@ -1,6 +1,5 @@
-use Rattle.std.proofs.Common.{◌≡◌}
+use Rattle.zf_families.proofs.Prelude.{◌≡◌, iff_false}
 use Rattle.zf_families.proofs.Injections.{injection_rows, total_injections_built, total_injections_regular}
-use Rattle.std.proofs.lemmas.Bool.{iff_false}
 use Rattle.zf_families.proofs.injection.total_injections.Goals as goal
 
 pub returns-clause-is : goal.returns-clause-is

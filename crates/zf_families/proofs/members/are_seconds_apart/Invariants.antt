@@ -1,5 +1,4 @@
-use Rattle.std.proofs.Common.{◌≡◌, drop}
-use Rattle.zf_families.specs.Tests.{seconds_apart}
+use Rattle.zf_families.proofs.Prelude.{◌≡◌, drop, seconds_apart}
 use Rattle.zf_families.proofs.members.are_seconds_apart.Given as goal
 
 abbrev pub invariant-loop-place : goal.invariant-loop-place

@@ -1,5 +1,4 @@
-use Rattle.std.proofs.Common.{◌≡◌, ◌-◌, drop}
-use Rattle.zf_families.specs.Tests.{firsts_rise}
+use Rattle.zf_families.proofs.Prelude.{◌-◌, ◌≡◌, drop, firsts_rise}
 use Rattle.zf_families.proofs.members.do_firsts_rise.Given as goal
 
 abbrev pub invariant-loop-place : goal.invariant-loop-place

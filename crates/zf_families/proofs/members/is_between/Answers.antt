@@ -1,5 +1,4 @@
-use Rattle.std.proofs.lemmas.Bool.{iff_false}
-use Rattle.zf_value.specs.Operations.{IsBetween}
+use Rattle.zf_families.proofs.Prelude.{iff_false, IsBetween}
 use Rattle.zf_families.proofs.Tested.{never, between_more, not_between}
 use Rattle.zf_families.proofs.members.is_between.Goals as goal
 

@@ -1,5 +1,4 @@
-use Rattle.std.proofs.Common.{take}
-use Rattle.zf_value.specs.Operations.{IsBetween}
+use Rattle.zf_families.proofs.Prelude.{take, IsBetween}
 use Rattle.zf_families.proofs.members.is_between.Given as goal
 
 abbrev pub invariant-loop-z : goal.invariant-loop-z

@@ -1,5 +1,4 @@
-use Rattle.std.proofs.Common.{◌↔◌, drop}
-use Rattle.zf_families.specs.Tests.{IsGraph}
+use Rattle.zf_families.proofs.Prelude.{◌↔◌, drop, IsGraph}
 use Rattle.zf_families.proofs.members.is_graph.Given as goal
 
 abbrev pub invariant-loop-place : goal.invariant-loop-place

@@ -1,5 +1,4 @@
-use Rattle.std.proofs.Common.{sym, ap, ◌∙◌}
-use Rattle.zf_value.specs.declared.value.Value.{SetOf}
+use Rattle.zf_families.proofs.Prelude.{◌∙◌, ap, sym, SetOf}
 use Rattle.zf_families.proofs.Belonging.{subset_at, no_subset}
 use Rattle.zf_families.proofs.power.is_in_power.Goals as goal
 

@@ -1,6 +1,4 @@
-use Rattle.std.proofs.Common.{◌≡◌, [], ◌∷◌}
-use Rattle.std.proofs.lemmas.Bool.{iff_false}
-use Rattle.zf_families.specs.Selections.{some, fits_any, singles}
+use Rattle.zf_families.proofs.Prelude.{◌∷◌, ◌≡◌, [], iff_false, fits_any, singles, some}
 use Rattle.zf_families.proofs.Subsets.{power_built, power_regular}
 use Rattle.zf_families.proofs.power.power.Goals as goal
 

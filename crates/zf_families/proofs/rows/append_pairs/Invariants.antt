@@ -1,5 +1,4 @@
-use Rattle.std.proofs.Common.{◌≡◌, ◌++◌, take}
-use Rattle.zf_families.specs.Selections.{pairs}
+use Rattle.zf_families.proofs.Prelude.{◌++◌, ◌≡◌, take, pairs}
 use Rattle.zf_families.proofs.rows.append_pairs.Given as goal
 
 abbrev pub invariant-loop-y : goal.invariant-loop-y

@@ -1,5 +1,4 @@
-use Rattle.std.proofs.Common.{◌≡◌, ◌++◌, take}
-use Rattle.zf_families.specs.Selections.{fitting, extensions}
+use Rattle.zf_families.proofs.Prelude.{◌++◌, ◌≡◌, take, extensions, fitting}
 use Rattle.zf_families.proofs.rows.extend.Given as goal
 
 abbrev pub invariant-loop-p : goal.invariant-loop-p

@@ -1,5 +1,4 @@
-use Rattle.std.proofs.Common.{◌≡◌, ◌++◌, take}
-use Rattle.zf_families.specs.Selections.{fitting, extended}
+use Rattle.zf_families.proofs.Prelude.{◌++◌, ◌≡◌, take, extended, fitting}
 use Rattle.zf_families.proofs.rows.extend_by.Given as goal
 
 abbrev pub invariant-loop-row : goal.invariant-loop-row

@@ -1,5 +1,4 @@
-use Rattle.std.proofs.Common.{◌≡◌, true, take}
-use Rattle.zf_families.specs.Selections.{fits_apart}
+use Rattle.zf_families.proofs.Prelude.{◌≡◌, take, true, fits_apart}
 use Rattle.zf_families.proofs.rows.is_apart.Given as goal
 
 abbrev pub invariant-loop-q : goal.invariant-loop-q

@@ -1,5 +1,4 @@
-use Rattle.std.proofs.Common.{◌≡◌, map, take}
-use Rattle.zf_families.specs.Selections.{pairs}
+use Rattle.zf_families.proofs.Prelude.{◌≡◌, map, take, pairs}
 use Rattle.zf_families.proofs.rows.pair_layers.Given as goal
 
 abbrev pub invariant-loop-x : goal.invariant-loop-x

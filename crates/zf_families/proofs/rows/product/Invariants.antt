@@ -1,6 +1,4 @@
-use Rattle.std.proofs.Common.{◌≡◌, take}
-use Rattle.zf_families.specs.Selections.{pairs}
-use Rattle.std.specs.List.{flat_map}
+use Rattle.zf_families.proofs.Prelude.{◌≡◌, take, flat_map, pairs}
 use Rattle.zf_families.proofs.rows.product.Given as goal
 
 abbrev pub invariant-loop-x : goal.invariant-loop-x

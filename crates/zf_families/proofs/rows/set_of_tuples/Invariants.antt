@@ -1,6 +1,4 @@
-use Rattle.std.proofs.Common.{◌≡◌, ◌++◌, map}
-use Rattle.std.specs.Vec.Iter.{into_iter_items}
-use Rattle.zf_value.specs.declared.value.Value.{Tuple}
+use Rattle.zf_families.proofs.Prelude.{◌++◌, ◌≡◌, map, into_iter_items, Tuple}
 use Rattle.zf_families.proofs.rows.set_of_tuples.Given as goal
 
 abbrev pub invariant-loop-row : goal.invariant-loop-row

@@ -1,5 +1,4 @@
-use Rattle.std.proofs.Common.{◌≡◌, take}
-use Rattle.zf_families.specs.Selections.{singles}
+use Rattle.zf_families.proofs.Prelude.{◌≡◌, take, singles}
 use Rattle.zf_families.proofs.rows.single_layers.Given as goal
 
 abbrev pub invariant-loop-x : goal.invariant-loop-x

@@ -1,5 +1,4 @@
-use Rattle.std.proofs.Common.{◌≡◌, ◌≤◌, [], ◌∷◌, drop, length}
-use Rattle.zf_families.specs.Selections.{fitting, some}
+use Rattle.zf_families.proofs.Prelude.{◌∷◌, ◌≡◌, ◌≤◌, [], drop, length, fitting, some}
 use Rattle.zf_families.proofs.rows.some_rows.Given as goal
 
 abbrev pub invariant-loop-place : goal.invariant-loop-place

@@ -1,6 +1,4 @@
-use Rattle.std.proofs.Common.{◌≡◌, map, drop}
-use Rattle.zf_term.specs.Definitions.{globals_of, set_of, sets_of}
-use Rattle.zf_finite.specs.Finite.{one_bounds}
+use Rattle.zf_finite.proofs.Prelude.{◌≡◌, drop, map, globals_of, set_of, sets_of, one_bounds}
 use Rattle.zf_finite.proofs.finiteness.+bounds.Given as goal
 
 abbrev pub invariant-one_bounds-loop-domain : goal.invariant-one_bounds-loop-domain

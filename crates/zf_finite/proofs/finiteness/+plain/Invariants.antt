@@ -1,8 +1,4 @@
-use Rattle.std.proofs.Common.{◌≡◌, map, drop}
-use Rattle.zf_term.specs.Definitions.{set_of, sets_of}
-use Rattle.zf_extent.specs.Extents.{first}
-use Rattle.zf_term.specs.FirstNamed.{or_else}
-use Rattle.zf_finite.specs.Finite.{all_plain_lines}
+use Rattle.zf_finite.proofs.Prelude.{◌≡◌, drop, map, set_of, sets_of, or_else, first, all_plain_lines}
 use Rattle.zf_finite.proofs.finiteness.+plain.Given as goal
 
 abbrev pub invariant-all_plain_after-loop-domain : goal.invariant-all_plain_after-loop-domain

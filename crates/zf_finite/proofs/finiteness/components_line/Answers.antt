@@ -1,5 +1,4 @@
-use Rattle.zf_term.specs.Definitions.{comp_of, globals_of}
-use Rattle.zf_finite.specs.Finite.{comp_lines}
+use Rattle.zf_finite.proofs.Prelude.{comp_of, globals_of, comp_lines}
 use Rattle.zf_finite.proofs.FirstOffences.{flat_step}
 use Rattle.zf_finite.proofs.finiteness.components_line.Goals as goal
 

@@ -1,8 +1,4 @@
-use Rattle.std.proofs.Common.{◌≡◌, map, drop, flat_map}
-use Rattle.zf_term.specs.Definitions.{comp_of, globals_of}
-use Rattle.zf_extent.specs.Extents.{first}
-use Rattle.zf_term.specs.FirstNamed.{or_else}
-use Rattle.zf_finite.specs.Finite.{comp_lines}
+use Rattle.zf_finite.proofs.Prelude.{◌≡◌, drop, flat_map, map, comp_of, globals_of, or_else, first, comp_lines}
 use Rattle.zf_finite.proofs.finiteness.components_line.Given as goal
 
 abbrev pub invariant-loop-component : goal.invariant-loop-component

@@ -1,5 +1,4 @@
-use Rattle.zf_term.specs.Definitions.{conjunct_of, globals_of}
-use Rattle.zf_extent.specs.Extents.{offending}
+use Rattle.zf_finite.proofs.Prelude.{conjunct_of, globals_of, offending}
 use Rattle.zf_finite.proofs.FirstOffences.{flat_step}
 use Rattle.zf_finite.proofs.finiteness.conjuncts_after.Goals as goal
 

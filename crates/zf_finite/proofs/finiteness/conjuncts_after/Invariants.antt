@@ -1,7 +1,4 @@
-use Rattle.std.proofs.Common.{◌≡◌, map, drop, flat_map}
-use Rattle.zf_term.specs.Definitions.{conjunct_of, globals_of}
-use Rattle.zf_extent.specs.Extents.{first, offending}
-use Rattle.zf_term.specs.FirstNamed.{or_else}
+use Rattle.zf_finite.proofs.Prelude.{◌≡◌, drop, flat_map, map, conjunct_of, globals_of, or_else, first, offending}
 use Rattle.zf_finite.proofs.finiteness.conjuncts_after.Given as goal
 
 abbrev pub invariant-loop-conjunct : goal.invariant-loop-conjunct

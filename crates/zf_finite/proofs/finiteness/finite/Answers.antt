@@ -1,8 +1,4 @@
-use Rattle.std.proofs.Common.{◌++◌, map, flat_map, None, ap, ◌∙◌}
-use Rattle.zf_term.specs.Definitions.{comp_of, conjunct_of, globals_of, schema_of}
-use Rattle.zf_extent.specs.Extents.{first, offending}
-use Rattle.zf_term.specs.FirstNamed.{or_else}
-use Rattle.zf_finite.specs.Finite.{comp_lines}
+use Rattle.zf_finite.proofs.Prelude.{◌++◌, ◌∙◌, ap, flat_map, map, None, comp_of, conjunct_of, globals_of, schema_of, or_else, first, offending, comp_lines}
 use Rattle.zf_finite.proofs.FiniteSchemas.{is_finite}
 use Rattle.zf_finite.proofs.FirstOffences.{both_after, none_found}
 use Rattle.zf_finite.proofs.finiteness.finite.Goals as goal

@@ -1,6 +1,4 @@
-use Rattle.std.proofs.Common.{sym, ap, ◌∙◌}
-use Rattle.zf_term.specs.ResolvedTrees.{resolved_of}
-use Rattle.zf_term.proofs.ResolvedSeen.{of-Unary, of-Binary}
+use Rattle.zf_lift.proofs.Prelude.{◌∙◌, ap, sym, of-Binary, of-Unary, resolved_of}
 use Rattle.zf_lift.specs.Lifts as spec
 use Rattle.zf_lift.proofs.liftable.is_liftable.Goals as goal
 

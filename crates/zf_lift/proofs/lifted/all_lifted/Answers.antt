@@ -1,7 +1,4 @@
-use Rattle.std.proofs.Common.{true}
-use Rattle.zf_term.specs.ResolvedTrees.{resolved_of}
-use Rattle.zf_meaning.specs.Envs.{environment_of}
-use Rattle.zf_lift.specs.Lifts.{IsLift}
+use Rattle.zf_lift.proofs.Prelude.{true, resolved_of, environment_of, IsLift}
 use Rattle.zf_lift.proofs.Longer.{itself, further}
 use Rattle.zf_lift.proofs.Wherever.{lift_later}
 use Rattle.zf_lift.proofs.Each.{each_done}

@@ -1,8 +1,4 @@
-use Rattle.std.proofs.Common.{map, take, true}
-use Rattle.zf_term.specs.ResolvedTrees.{resolved_of}
-use Rattle.zf_meaning.specs.Envs.{environment_of}
-use Rattle.zf_lift.specs.Lifted.{IsLonger, AreEach}
-use Rattle.zf_lift.specs.Lifts.{IsLift}
+use Rattle.zf_lift.proofs.Prelude.{map, take, true, resolved_of, environment_of, AreEach, IsLonger, IsLift}
 use Rattle.zf_lift.proofs.lifted.all_lifted.Given as goal
 
 abbrev pub invariant-loop-term : goal.invariant-loop-term

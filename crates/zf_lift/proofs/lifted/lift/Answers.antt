@@ -1,9 +1,4 @@
-use Rattle.std.proofs.Common.{true, List, map, sym, subst}
-use Rattle.zf_term.specs.ResolvedTrees.{ResolvedTree, resolved_of}
-use Rattle.zf_meaning.specs.Environments.{Environment}
-use Rattle.zf_meaning.specs.Envs.{environment_of}
-use Rattle.zf_lift.specs.Lifted.{IsLonger, AreLifted, IsLifted}
-use Rattle.zf_lift.specs.Lifts.{IsLift}
+use Rattle.zf_lift.proofs.Prelude.{List, map, subst, sym, true, resolved_of, ResolvedTree, Environment, environment_of, AreLifted, IsLifted, IsLonger, IsLift}
 use Rattle.zf_lift.proofs.Each.{each_also}
 use Rattle.zf_lift.proofs.Longer.{itself, further}
 use Rattle.zf_lift.proofs.Wherever.{is_lifted}

@@ -1,10 +1,5 @@
-use Rattle.std.proofs.Common.{refl, sym, ◌∙◌}
-use Rattle.zf_term.specs.ResolvedTrees.{resolved_of, resolved_link_of, range_of}
-use Rattle.zf_meaning.specs.Envs.{environment_of}
-use Rattle.zf_lift.specs.Lifted.{IsLonger}
+use Rattle.zf_lift.proofs.Prelude.{◌∙◌, refl, sym, range_of, resolved_link_of, resolved_of, environment_of, IsLonger, IsClosed, IsLift, IsLinkClosed, IsLinkLift, IsRangeClosed, IsRangeLift}
 use Rattle.std.proofs.lemmas.Result.{IfOk-weaker}
-use Rattle.zf_lift.specs.Lifts.{IsLift, IsClosed}
-use Rattle.zf_lift.specs.Lists.{IsRangeLift, IsLinkLift, IsRangeClosed, IsLinkClosed}
 use Rattle.zf_lift.proofs.Longer.{itself, further}
 use Rattle.zf_lift.proofs.Wherever.{lift_later, range_later, link_later, ranges_later, part_later, terms_lift, terms_closed, ranges_lift, ranges_closed, links_lift, links_closed}
 use Rattle.zf_lift.proofs.Arms as arms

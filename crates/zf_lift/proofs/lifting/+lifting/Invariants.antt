@@ -1,9 +1,4 @@
-use Rattle.std.proofs.Common.{◌≡◌, true, map, take}
-use Rattle.zf_term.specs.ResolvedTrees.{resolved_of, resolved_link_of, range_of}
-use Rattle.zf_meaning.specs.Envs.{environment_of}
-use Rattle.zf_lift.specs.Lifted.{IsLonger, AreEach}
-use Rattle.zf_lift.specs.Lifts.{IsLift, IsClosed}
-use Rattle.zf_lift.specs.Lists.{IsRangeLift, IsLinkLift, IsRangeClosed, IsLinkClosed}
+use Rattle.zf_lift.proofs.Prelude.{◌≡◌, map, take, true, range_of, resolved_link_of, resolved_of, environment_of, AreEach, IsLonger, IsClosed, IsLift, IsLinkClosed, IsLinkLift, IsRangeClosed, IsRangeLift}
 use Rattle.zf_lift.proofs.lifting.+lifting.Given as goal
 
 abbrev pub invariant-lifted_terms-loop-term : goal.invariant-lifted_terms-loop-term

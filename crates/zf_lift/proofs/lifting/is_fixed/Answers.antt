@@ -1,7 +1,4 @@
-use Rattle.std.proofs.Common.{sym, subst, arith}
-use Rattle.zf_term.specs.ResolvedTrees.{reference}
-use Rattle.zf_meaning.specs.Envs.{environment_of}
-use Rattle.zf_lift.specs.Lifts.{IsClosed}
+use Rattle.zf_lift.proofs.Prelude.{arith, subst, sym, reference, environment_of, IsClosed}
 use Rattle.zf_lift.proofs.Arms.{same_place}
 use Rattle.zf_lift.proofs.Wherever.{local_closed, global_closed}
 use Rattle.zf_lift.proofs.lifting.is_fixed.Goals as goal

@@ -1,11 +1,5 @@
-use Rattle.std.proofs.Common.{◌∙◌, ◌≤◌, true, List, sym, ap, length, subst, arith}
-use Rattle.zf_term.specs.Definitions.{Defined}
-use Rattle.zf_term.specs.ResolvedTrees.{reference, resolved_of}
-use Rattle.zf_term.proofs.ResolvedSeen.{of-Name}
-use Rattle.zf_reference.specs.declared.reference.Reference.TheVariants.{Global}
-use Rattle.zf_meaning.specs.Envs.{environment_of}
+use Rattle.zf_lift.proofs.Prelude.{◌∙◌, ◌≤◌, ap, arith, length, List, subst, sym, true, Global, of-Name, Defined, reference, resolved_of, environment_of, IsLift}
 use Rattle.zf_value.proofs.Regulars.{regular-nothing}
-use Rattle.zf_lift.specs.Lifts.{IsLift}
 use Rattle.zf_lift.proofs.Wherever.{named_lift}
 use Rattle.zf_lift.proofs.lifting.named.Goals as goal
 

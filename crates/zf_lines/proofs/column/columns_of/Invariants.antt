@@ -1,8 +1,4 @@
-use Rattle.std.proofs.Common.{◌≤◌, List, length, map, take}
-use Rattle.zf_term.specs.Definitions.{comp_of}
-use Rattle.zf_value.specs.declared.value.Value.{Value}
-use Rattle.zf_texts.specs.declared.spelling.Spelling.{Spelling}
-use Rattle.zf_lines.specs.Columns.{AreColumns}
+use Rattle.zf_lines.proofs.Prelude.{◌≤◌, length, List, map, take, Value, comp_of, Spelling, AreColumns}
 use Rattle.zf_lines.proofs.column.columns_of.Given as goal
 
 abbrev pub invariant-loop-place : goal.invariant-loop-place

@@ -1,7 +1,4 @@
-use Rattle.std.proofs.Common.{◌<◌, length, map, drop, ap, ◌∙◌, arith}
-use Rattle.zf_term.specs.Definitions.{comp_of}
-use Rattle.zf_texts.specs.BindingTexts.{component_texts}
-use Rattle.zf_texts.proofs.Printing.{drop-end, line-ended, texts-nil}
+use Rattle.zf_lines.proofs.Prelude.{◌<◌, ◌∙◌, ap, arith, drop, length, map, comp_of, drop-end, line-ended, texts-nil, component_texts}
 use Rattle.zf_lines.proofs.Parts.{column_changed, column_there, part_ahead}
 use Rattle.zf_lines.proofs.kept.append_parts.Goals as goal
 

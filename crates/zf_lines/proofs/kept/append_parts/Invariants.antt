@@ -1,9 +1,5 @@
 -- What is still to be printed, and what is kept.
-use Rattle.std.proofs.Common.{◌≡◌, ◌≤◌, ◌++◌, map, drop, length}
-use Rattle.zf_term.specs.Definitions.{comp_of}
-use Rattle.zf_texts.specs.BindingTexts.{component_texts, binding_text}
-use Rattle.zf_texts.specs.Steps.{goes_on}
-use Rattle.zf_lines.specs.Columns.{AreColumns}
+use Rattle.zf_lines.proofs.Prelude.{◌++◌, ◌≡◌, ◌≤◌, drop, length, map, comp_of, binding_text, component_texts, goes_on, AreColumns}
 use Rattle.zf_lines.proofs.kept.append_parts.Given as goal
 
 abbrev pub invariant-loop-place : goal.invariant-loop-place

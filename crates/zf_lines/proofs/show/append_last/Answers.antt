@@ -1,7 +1,4 @@
-use Rattle.std.proofs.Common.{◌++◌, codes, sym, ap, ◌∙◌, append_assoc}
-use Rattle.zf_term.specs.Definitions.{schema_of}
-use Rattle.zf_lines.specs.Ends.{last_text}
-use Rattle.zf_lines.specs.Texts.{binding_line}
+use Rattle.zf_lines.proofs.Prelude.{◌++◌, ◌∙◌, ap, append_assoc, codes, sym, schema_of, last_text, binding_line}
 use Rattle.zf_lines.proofs.Fronts.{weaker_on_ok}
 use Rattle.zf_lines.proofs.show.append_last.Goals as goal
 

@@ -1,9 +1,5 @@
 -- What is written is the lines, and then the end.
-use Rattle.std.proofs.Common.{◌++◌, List, ℕ, inr, refl, sym, ap, ◌∙◌}
-use Rattle.std.proofs.KnownBytes.{Appends-trans}
-use Rattle.zf_term.specs.Definitions.{schema_of}
-use Rattle.zf_lines.specs.Ends.{last_text}
-use Rattle.zf_lines.specs.Texts.{binding_line}
+use Rattle.zf_lines.proofs.Prelude.{◌++◌, ◌∙◌, ap, inr, List, refl, sym, ℕ, Appends-trans, schema_of, last_text, binding_line}
 use Rattle.zf_lines.proofs.Fronts.{always_on_err, front_behind, front_longer, front_whole}
 use Rattle.zf_lines.proofs.Searching.{untold_text}
 use Rattle.zf_lines.proofs.show.show.Goals as goal

@@ -1,10 +1,6 @@
 -- What is written is the lines, the end, and the number of tests.
-use Rattle.std.proofs.Common.{◌++◌, List, ℕ, true, inr, refl, sym, ap, ◌∙◌}
+use Rattle.zf_lines.proofs.Prelude.{◌++◌, ◌∙◌, ap, inr, List, refl, sym, true, ℕ, Appends-trans, schema_of, last_text, binding_line, tests_line}
 use Rattle.std.specs.Prelude.{unwrap_or, []}
-use Rattle.std.proofs.KnownBytes.{Appends-trans}
-use Rattle.zf_term.specs.Definitions.{schema_of}
-use Rattle.zf_lines.specs.Ends.{last_text}
-use Rattle.zf_lines.specs.Texts.{binding_line, tests_line}
 use Rattle.zf_lines.proofs.Fronts.{always_on_err, front_behind, front_longer, front_whole}
 use Rattle.zf_lines.proofs.Searching.{all_text}
 use Rattle.zf_lines.proofs.Telling.{number_told}

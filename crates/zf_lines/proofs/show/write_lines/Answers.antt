@@ -1,6 +1,4 @@
-use Rattle.std.proofs.Common.{sym, subst, ◌∙◌, rules}
-use Rattle.zf_term.specs.Definitions.{schema_of}
-use Rattle.zf_lines.specs.Columns.{AreColumns}
+use Rattle.zf_lines.proofs.Prelude.{◌∙◌, rules, subst, sym, schema_of, AreColumns}
 use Rattle.zf_lines.proofs.Fronts.{always_on_err}
 use Rattle.zf_lines.proofs.Searching.{goes_on, same_later}
 use Rattle.zf_lines.proofs.Standing.{stands_first, stops_here, stops_in_line, goes_on_line, ends_at_limit, ends_out, ends_at_end}

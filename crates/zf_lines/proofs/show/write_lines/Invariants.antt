@@ -1,9 +1,4 @@
-use Rattle.std.proofs.Common.{◌≡◌}
-use Rattle.zf_term.specs.Definitions.{schema_of}
-use Rattle.zf_value.specs.Sets.{value_order}
-use Rattle.zf_lines.specs.Columns.{AreColumns}
-use Rattle.zf_lines.specs.Counts.{device_of, failures_of}
-use Rattle.zf_lines.specs.Texts.{binding_line}
+use Rattle.zf_lines.proofs.Prelude.{◌≡◌, value_order, schema_of, AreColumns, device_of, failures_of, binding_line}
 use Rattle.zf_lines.proofs.Fewer.{ahead_count}
 use Rattle.zf_lines.proofs.Standing.{Standing}
 use Rattle.zf_lines.proofs.show.write_lines.Given as goal

@@ -1,6 +1,4 @@
-use Rattle.std.proofs.Common.{◌≡◌, ◌-◌, ℕ, List, ◌++◌, take, drop, length, rules, sym, ap, ◌∙◌, append_assoc, take-append-drop}
-use Rattle.std.proofs.lemmas.List.{take_rest}
-use Rattle.std.proofs.KnownBytes.{Appends-trans}
+use Rattle.zf_lines.proofs.Prelude.{◌++◌, ◌-◌, ◌∙◌, ◌≡◌, ap, append_assoc, drop, length, List, rules, sym, take, take-append-drop, ℕ, Appends-trans, take_rest}
 use Rattle.zf_lines.proofs.writing.write_text.Goals as goal
 
 -- the front of what is left moves to what is done

@@ -1,7 +1,5 @@
 -- What is gone from `rest` was appended, and no call failed.
-use Rattle.std.proofs.Common.{◌≡◌, List, ℕ, ◌++◌, length}
-use Rattle.std.specs.Io.KnownBytes.{Appends}
-use Rattle.zf_lines.specs.Counts.{device_of, failures_of}
+use Rattle.zf_lines.proofs.Prelude.{◌++◌, ◌≡◌, length, List, ℕ, Appends, device_of, failures_of}
 use Rattle.zf_lines.proofs.writing.write_text.Given as goal
 
 abbrev pub invariant-loop-rest : goal.invariant-loop-rest

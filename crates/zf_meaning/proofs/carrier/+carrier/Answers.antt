@@ -1,9 +1,4 @@
-use Rattle.std.proofs.Common.{sym, subst}
-use Rattle.zf_term.specs.Types.{type_of}
-use Rattle.zf_value.specs.Sets.{IsRegularOutcome}
-use Rattle.zf_meaning.specs.Carriers.{IsCarrier}
-use Rattle.zf_meaning.specs.Envs.{environment_of}
-use Rattle.zf_meaning.specs.Found.{found_outcome}
+use Rattle.zf_meaning.proofs.Prelude.{subst, sym, IsRegularOutcome, type_of, IsCarrier, environment_of, found_outcome}
 use Rattle.zf_meaning.proofs.CarrierLists.{carriers-begun, carriers-more, carriers-all, no-values}
 use Rattle.zf_meaning.proofs.Gathering.{drop-past}
 use Rattle.zf_meaning.proofs.carrier.+carrier.Goals as goal

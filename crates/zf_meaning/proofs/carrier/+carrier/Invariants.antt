@@ -1,6 +1,4 @@
-use Rattle.std.proofs.Common.{drop}
-use Rattle.zf_value.specs.Sets.{AreRegular}
-use Rattle.zf_meaning.specs.Envs.{environment_of}
+use Rattle.zf_meaning.proofs.Prelude.{drop, AreRegular, environment_of}
 use Rattle.zf_meaning.proofs.CarrierLists.{CarriersTo}
 use Rattle.zf_meaning.proofs.carrier.+carrier.Given as goal
 

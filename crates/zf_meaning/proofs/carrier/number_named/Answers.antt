@@ -1,5 +1,4 @@
-use Rattle.std.proofs.Common.{refl}
-use Rattle.zf_term.specs.Definitions.{globals_of}
+use Rattle.zf_meaning.proofs.Prelude.{refl, globals_of}
 use Rattle.zf_term.proofs.Entries.{entry_found}
 use Rattle.zf_meaning.proofs.CarrierLists.{named_number}
 use Rattle.zf_meaning.proofs.carrier.number_named.Goals as goal

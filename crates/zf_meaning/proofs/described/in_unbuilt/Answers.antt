@@ -1,9 +1,6 @@
-use Rattle.std.proofs.Common.{sym, ap, ◌∙◌, subst}
-use Rattle.std.proofs.lemmas.Bool.{iff_false}
+use Rattle.zf_meaning.proofs.Prelude.{◌∙◌, ap, subst, sym, iff_false, IsDescribed, IsTruthIn, found_outcome}
 use Rattle.zf_value.specs.declared.value.Outcome.TheVariants as outcome
 use Rattle.zf_value.specs.declared.value.Truth.TheVariants as truth
-use Rattle.zf_meaning.specs.Described.{IsDescribed, IsTruthIn}
-use Rattle.zf_meaning.specs.Found.{found_outcome}
 use Rattle.zf_meaning.proofs.Tests.{out-in, undefined-unbuilt, lost-unbuilt, value-unbuilt}
 use Rattle.zf_meaning.proofs.described.in_unbuilt.Goals as goal
 

@@ -1,7 +1,4 @@
-use Rattle.std.proofs.Common.{rules, sym, ◌∙◌, w64}
-use Rattle.std.specs.Prelude.{FitsSigned}
-use Rattle.zf_value.proofs.Exactly.{same}
-use Rattle.zf_value.specs.Numbers.{number_of}
+use Rattle.zf_meaning.proofs.Prelude.{◌∙◌, rules, sym, w64, FitsSigned, same, number_of}
 use Rattle.zf_meaning.proofs.Tests.{no-left, no-right, both-numbers}
 use Rattle.zf_meaning.proofs.described.interval_between.Goals as goal
 

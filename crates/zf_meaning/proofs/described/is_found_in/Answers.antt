@@ -1,8 +1,6 @@
-use Rattle.std.proofs.Common.{ap, subst, IsTrue, ◌↔◌}
+use Rattle.zf_meaning.proofs.Prelude.{◌↔◌, ap, IsTrue, subst, IsMember, members, found_outcome}
 use Rattle.zf_meaning.specs.declared.found.Found.TheVariants.{Undefined, Out}
-use Rattle.zf_value.specs.Sets.{IsMember, members}
 use Rattle.zf_meaning.proofs.Tests.{in-found, in-no-set}
-use Rattle.zf_meaning.specs.Found.{found_outcome}
 use Rattle.zf_meaning.proofs.described.is_found_in.Goals as goal
 
 pub returns-in-Is : goal.returns-in-Is

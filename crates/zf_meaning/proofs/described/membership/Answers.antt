@@ -1,6 +1,4 @@
-use Rattle.std.proofs.Common.{sym, subst}
-use Rattle.zf_meaning.specs.Described.{IsDescribed, IsTruthIn}
-use Rattle.zf_meaning.specs.Found.{found_outcome}
+use Rattle.zf_meaning.proofs.Prelude.{subst, sym, IsDescribed, IsTruthIn, found_outcome}
 use Rattle.zf_meaning.proofs.Tests.{in-plain}
 use Rattle.zf_meaning.proofs.described.membership.Goals as goal
 

@@ -1,5 +1,4 @@
-use Rattle.zf_value.specs.Operations.{IsPower}
-use Rattle.zf_value.specs.Sets.{members}
+use Rattle.zf_meaning.proofs.Prelude.{IsPower, members}
 use Rattle.zf_meaning.proofs.Tests.{power-describes, one-undefined, one-out}
 use Rattle.zf_meaning.proofs.described.power_of.Goals as goal
 

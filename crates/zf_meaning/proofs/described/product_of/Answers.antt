@@ -1,5 +1,4 @@
-use Rattle.std.proofs.Common.{ap}
-use Rattle.zf_meaning.specs.Gathered.{several_by, several_of}
+use Rattle.zf_meaning.proofs.Prelude.{ap, several_by, several_of}
 use Rattle.zf_meaning.proofs.Tests.{product-describes, several-undefined, several-out}
 use Rattle.zf_meaning.proofs.described.product_of.Goals as goal
 

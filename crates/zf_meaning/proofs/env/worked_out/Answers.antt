@@ -1,7 +1,4 @@
-use Rattle.std.proofs.Common.{◌+◌, List, length, refl, sym, ap, subst, arith}
-use Rattle.zf_value.specs.declared.value.Outcome.{Outcome}
-use Rattle.zf_meaning.specs.Environments.{Environment}
-use Rattle.zf_meaning.specs.Envs.{environment_of}
+use Rattle.zf_meaning.proofs.Prelude.{◌+◌, ap, arith, length, List, refl, subst, sym, Outcome, Environment, environment_of}
 use Rattle.zf_meaning.proofs.WorkedOut.{AreWorkedOutTo, none-worked_out, one-worked_out, all-worked_out}
 use Rattle.zf_meaning.proofs.env.worked_out.Goals as goal
 

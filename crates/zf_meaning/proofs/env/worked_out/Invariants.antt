@@ -1,6 +1,4 @@
-use Rattle.std.proofs.Common.{◌≡◌}
-use Rattle.zf_term.specs.Definitions.{globals_of}
-use Rattle.zf_meaning.specs.Envs.{environment_of}
+use Rattle.zf_meaning.proofs.Prelude.{◌≡◌, globals_of, environment_of}
 use Rattle.zf_meaning.proofs.WorkedOut.{AreWorkedOutTo}
 use Rattle.zf_meaning.proofs.env.worked_out.Given as goal
 

@@ -1,17 +1,7 @@
-use Rattle.std.proofs.Common.{[], ◌∷◌, length, map, drop, refl, sym, ap, ◌∙◌, subst, true, false, rules, arith, ◌≤◌, ◌≡◌, ◌<◌, ◌+◌, inl}
-use Rattle.std.proofs.lemmas.Result.{IfOk-weaker}
-use Rattle.zf_term.specs.ResolvedTrees.{resolved_of, part_of}
+use Rattle.zf_meaning.proofs.Prelude.{◌+◌, ◌<◌, ◌∙◌, ◌∷◌, ◌≡◌, ◌≤◌, [], ap, arith, drop, false, inl, length, map, refl, rules, subst, sym, true, IfOk-weaker, All, IfOk, out_told, regular-push, regular_same, AreFrom, IsEmptySet, IsDisplay, AreRegular, IsRegularOutcome, of-Binary, of-Chain, of-Listed, of-Unary, part_of, resolved_of, size-Resolved, Describes, AreNeutralIf, IsPiece, neutral, AreNeutral, within, found_outcome, several_by, several_of, Builds, HasOutcome, IsBuilt, IsBuiltOver, IsConstraint, IsLink, IsTruth, row_value, seen, declared_of, spread, row_of, IsRegularScope, scope_of, is_settled, truth_by, IsConnected, IsOver, IsQuantified, IsTold, Arrows, Nothing}
 use Rattle.zf_term.specs.ResolvedTrees as tree
-use Rattle.zf_term.proofs.ResolvedSeen.{of-Unary, of-Binary, of-Listed, of-Chain}
-use Rattle.std.specs.Result.{IfOk}
 use Rattle.zf_value.specs.declared.value.Outcome.TheVariants as outcome
 use Rattle.zf_value.specs.declared.value.Truth.TheVariants.{Out}
-use Rattle.zf_value.specs.Operations.{AreFrom, IsDisplay, IsEmptySet}
-use Rattle.zf_meaning.specs.declared.gathered.Lack.TheVariants.{Nothing}
-use Rattle.zf_meaning.specs.Gathered.{several_by, several_of}
-use Rattle.zf_meaning.specs.RangeSets.{declared_of, spread}
-use Rattle.zf_meaning.specs.Truths.{IsConnected, IsTold, IsOver, IsQuantified}
-use Rattle.zf_meaning.specs.Tallies.{truth_by, is_settled}
 use Rattle.zf_meaning.proofs.Binding.{same-quantifier, same-constraint, quantified-told, builder-has}
 use Rattle.zf_meaning.proofs.Builds.{nothing, built-same, built-more, built-too-many, built-out, built-all}
 use Rattle.zf_meaning.proofs.Connecting.{decided-told, told-by}
@@ -19,25 +9,11 @@ use Rattle.zf_meaning.proofs.Early.{neutral-told, neutral-built, neutral-here, n
 use Rattle.zf_meaning.proofs.Told.{IsTallied, none-tallied, one-more, settled-truth, all-told}
 use Rattle.zf_meaning.proofs.Turns.{fewer, adds-here, told-here, one-told, one-filter, one-term, span-bound, row-bound, next-turn, told-ended, built-ended}
 use Rattle.zf_meaning.proofs.Walking.{walk-begun, walk-row, walk-done, walk-new, no-row, none-from, bound-row, walk-scope, outside-bound, FilterIn, TermIn, ToldIn, NeutralIn}
-use Rattle.zf_value.specs.Sets.{AreRegular, IsRegularOutcome}
-use Rattle.zf_meaning.specs.Found.{found_outcome}
-use Rattle.zf_meaning.specs.Meaning.{HasOutcome, IsTruth, IsConstraint, Builds, IsBuilt, IsBuiltOver, IsLink, row_value}
-use Rattle.zf_meaning.specs.Places.{seen}
-use Rattle.zf_meaning.specs.Rowed.{row_of}
-use Rattle.zf_meaning.specs.Scopes.{scope_of, IsRegularScope}
 use Rattle.zf_meaning.proofs.Gathering.{gather-begun, gather-more, gather-all, ranges-begun, ranges-more, ranges-all, drop-past}
-use Rattle.zf_meaning.specs.declared.described.Described.TheVariants.{Arrows}
-use Rattle.zf_meaning.specs.Described.{Describes}
 use Rattle.zf_meaning.proofs.Tests.{plain-describes}
 use Rattle.zf_meaning.proofs.Operands.{power-told, both-told, arrows-told, interval-told, product-told}
 use Rattle.zf_meaning.proofs.Linking.{link-more, link-false, link-all, link-last, last-described, last-worked, chain-told}
-use Rattle.zf_value.proofs.Making.{out_told}
-use Rattle.zf_value.proofs.Regulars.{regular-push, regular_same}
 use Rattle.zf_meaning.proofs.Regulars.{regular-nothing, regular-rest, seen-rest}
-use Rattle.std.specs.List.{All}
-use Rattle.zf_term.specs.declared.resolved.Resolved.{size-Resolved}
-use Rattle.zf_meaning.specs.Early.{IsPiece, AreNeutral, AreNeutralIf, neutral}
-use Rattle.zf_meaning.specs.Environments.{within}
 use Rattle.zf_meaning.proofs.evaluate.+meaning.Goals as goal
 
 pub operands::gather-loop-term-init : goal.operands::gather-loop-term-init

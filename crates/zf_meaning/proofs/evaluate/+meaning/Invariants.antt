@@ -1,19 +1,5 @@
-use Rattle.std.proofs.Common.{◌≡◌, ℕ, List, Option, length, map, drop}
-use Rattle.zf_tree.specs.declared.symbol.Quantifier.{Quantifier}
-use Rattle.zf_term.specs.declared.resolved.Range.{Range}
-use Rattle.zf_term.specs.declared.resolved.Resolved.{Resolved}
+use Rattle.zf_meaning.proofs.Prelude.{◌≡◌, drop, length, List, map, Option, ℕ, AreRegular, IsRegularOutcome, Truth, Value, Quantifier, links, part_of, resolved_link_of, resolved_of, Range, Resolved, conjunction, found_outcome, AreLinked, seen, spread, ahead, scope_of}
 use Rattle.zf_term.specs.declared.resolved.Resolved.TheVariants as form
-use Rattle.zf_term.specs.ResolvedTrees.{resolved_of, resolved_link_of, part_of, links}
-use Rattle.zf_value.specs.declared.value.Value.{Value}
-use Rattle.zf_value.specs.declared.value.Truth.{Truth}
-use Rattle.zf_value.specs.Sets.{AreRegular, IsRegularOutcome}
-use Rattle.zf_meaning.specs.Connected.{conjunction}
-use Rattle.zf_meaning.specs.Found.{found_outcome}
-use Rattle.zf_meaning.specs.Meaning.{AreLinked}
-use Rattle.zf_meaning.specs.Places.{seen}
-use Rattle.zf_meaning.specs.RangeSets.{spread}
-use Rattle.zf_meaning.specs.Rowed.{ahead}
-use Rattle.zf_meaning.specs.Scopes.{scope_of}
 use Rattle.zf_meaning.proofs.Builds.{HasBuilt}
 use Rattle.zf_meaning.proofs.Gathering.{GathersTo, RangesTo}
 use Rattle.zf_meaning.proofs.Told.{IsTallied}

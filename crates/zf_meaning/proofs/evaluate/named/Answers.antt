@@ -1,5 +1,4 @@
-use Rattle.std.proofs.Common.{refl, sym, ◌∙◌, subst}
-use Rattle.zf_value.specs.Sets.{IsRegularOutcome}
+use Rattle.zf_meaning.proofs.Prelude.{◌∙◌, refl, subst, sym, IsRegularOutcome}
 use Rattle.zf_meaning.proofs.Regulars.{regular-value_or}
 use Rattle.zf_meaning.proofs.evaluate.named.Goals as goal
 

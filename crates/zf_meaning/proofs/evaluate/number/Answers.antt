@@ -1,6 +1,4 @@
-use Rattle.std.proofs.Common.{sym, subst}
-use Rattle.zf_value.specs.Sets.{IsRegular}
-use Rattle.zf_value.proofs.Regulars.{regular-Int}
+use Rattle.zf_meaning.proofs.Prelude.{subst, sym, regular-Int, IsRegular}
 use Rattle.zf_meaning.proofs.evaluate.number.Goals as goal
 
 pub returns-in-Ok-clause-regular : goal.returns-in-Ok-clause-regular

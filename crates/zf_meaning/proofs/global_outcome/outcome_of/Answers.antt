@@ -1,5 +1,4 @@
-use Rattle.std.proofs.Common.{[]}
-use Rattle.zf_value.proofs.Regulars.{are_regular}
+use Rattle.zf_meaning.proofs.Prelude.{[], are_regular}
 use Rattle.zf_meaning.proofs.global_outcome.outcome_of.Goals as goal
 
 pub value_of-requires : goal.value_of-requires

@@ -1,6 +1,4 @@
-use Rattle.std.proofs.Common.{map, max, sym, ap, ◌∙◌, subst, ◌≡◌, arith}
-use Rattle.zf_term.specs.ResolvedTrees.{resolved_of, resolved_link_of, range_of, terms, links, ranges, part_of}
-use Rattle.zf_meaning.specs.Needs.{need, all_need, links_need, ranges_need, part_need}
+use Rattle.zf_meaning.proofs.Prelude.{◌∙◌, ◌≡◌, ap, arith, map, max, subst, sym, links, part_of, range_of, ranges, resolved_link_of, resolved_of, terms, all_need, links_need, need, part_need, ranges_need}
 use Rattle.zf_meaning.proofs.NeedsFound.{terms_step, links_step, ranges_step, terms_end, links_end, ranges_end, of_name, of_number, of_constant, of_empty_set, of_bracket, of_listed, of_builder, of_unary, of_binary, of_chain, of_quantified}
 use Rattle.zf_meaning.proofs.needs.+last.Goals as goal
 

@@ -1,6 +1,4 @@
-use Rattle.std.proofs.Common.{◌≡◌, max, map, drop}
-use Rattle.zf_term.specs.ResolvedTrees.{resolved_of, resolved_link_of, range_of, terms, links, ranges}
-use Rattle.zf_meaning.specs.Needs.{all_need, links_need, ranges_need}
+use Rattle.zf_meaning.proofs.Prelude.{◌≡◌, drop, map, max, links, range_of, ranges, resolved_link_of, resolved_of, terms, all_need, links_need, ranges_need}
 use Rattle.zf_meaning.proofs.needs.+last.Given as goal
 
 abbrev pub invariant-last_of_terms-loop-term : goal.invariant-last_of_terms-loop-term

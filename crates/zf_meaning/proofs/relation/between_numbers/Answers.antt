@@ -1,7 +1,4 @@
-use Rattle.zf_value.proofs.Regulars.{regular-Int}
-use Rattle.zf_value.specs.declared.value.Value.{Int}
-use Rattle.zf_meaning.specs.Symbols.{Holds}
-use Rattle.zf_meaning.specs.Truths.{Tells}
+use Rattle.zf_meaning.proofs.Prelude.{regular-Int, Int, Holds, Tells}
 use Rattle.zf_meaning.proofs.Numeric.{told-by, written-both}
 use Rattle.zf_meaning.proofs.relation.between_numbers.Goals as goal
 

@@ -1,5 +1,4 @@
-use Rattle.std.proofs.Common.{◌≡◌, ◌++◌, take}
-use Rattle.zf_meaning.specs.Places.{seen, picked}
+use Rattle.zf_meaning.proofs.Prelude.{◌++◌, ◌≡◌, take, seen, picked}
 use Rattle.zf_meaning.proofs.rows.bind.Given as goal
 
 abbrev pub invariant-loop-i : goal.invariant-loop-i

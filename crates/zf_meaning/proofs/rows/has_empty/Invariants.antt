@@ -1,6 +1,4 @@
-use Rattle.std.proofs.Common.{◌≡◌, eqb, false, length, take}
-use Rattle.std.specs.List.{list_any}
-use Rattle.zf_meaning.specs.Places.{seen}
+use Rattle.zf_meaning.proofs.Prelude.{◌≡◌, eqb, false, length, take, list_any, seen}
 use Rattle.zf_meaning.proofs.rows.has_empty.Given as goal
 
 abbrev pub invariant-loop-list : goal.invariant-loop-list

@@ -1,6 +1,5 @@
-use Rattle.std.proofs.Common.{◌≡◌, ◌-◌, ◌<◌, [], ◌⊎◌, ⊎_elim, inl, inr, arith, length, ap, refl}
+use Rattle.zf_meaning.proofs.Prelude.{◌-◌, ◌<◌, ◌≡◌, ◌⊎◌, [], ap, arith, inl, inr, length, refl, ⊎_elim, seen}
 use Rattle.zf_meaning.proofs.NextRow.{ArePlaces-at, ArePlaces-set, ArePlaces-length, seen-length, seen-at, turns-begun, turned-here, turns-past, zeros-here, none-here, none-behind}
-use Rattle.zf_meaning.specs.Places.{seen}
 use Rattle.zf_meaning.proofs.rows.turn.Goals as goal
 
 pub loop-i-init : goal.loop-i-init

@@ -1,6 +1,4 @@
-use Rattle.std.proofs.Common.{◌≡◌, drop}
-use Rattle.std.specs.List.{All}
-use Rattle.zf_meaning.specs.Places.{seen, ArePlaces}
+use Rattle.zf_meaning.proofs.Prelude.{◌≡◌, drop, All, seen, ArePlaces}
 use Rattle.zf_meaning.proofs.NextRow.{Turns}
 use Rattle.zf_meaning.proofs.rows.turn.Given as goal
 

@@ -1,5 +1,4 @@
-use Rattle.std.proofs.Common.{arith}
-use Rattle.std.proofs.lemmas.Result.{err_from_is_err_and}
+use Rattle.zf_meaning.proofs.Prelude.{arith, err_from_is_err_and}
 use Rattle.zf_meaning.proofs.Accepting.{AreAccepted-none, AreAccepted-more, refusal-at}
 use Rattle.zf_meaning.proofs.sizes.check_accepted.Goals as goal
 

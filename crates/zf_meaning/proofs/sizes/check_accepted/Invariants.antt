@@ -1,5 +1,4 @@
-use Rattle.std.proofs.Common.{take}
-use Rattle.zf_meaning.specs.Sizes.{AreAccepted}
+use Rattle.zf_meaning.proofs.Prelude.{take, AreAccepted}
 use Rattle.zf_meaning.proofs.sizes.check_accepted.Given as goal
 
 abbrev pub invariant-loop-i : goal.invariant-loop-i

@@ -1,7 +1,4 @@
-use Rattle.std.proofs.Common.{sym, ◌∙◌, arith, true≢false}
-use Rattle.std.specs.List.{Contains}
-use Rattle.std.proofs.lemmas.List.{take_all}
-use Rattle.zf_meaning.specs.Sizes.{names}
+use Rattle.zf_meaning.proofs.Prelude.{◌∙◌, arith, sym, true≢false, take_all, Contains, names}
 use Rattle.zf_meaning.proofs.Accepting.{lack-at, sized-more}
 use Rattle.zf_meaning.proofs.sizes.check_sizes.Goals as goal
 

@@ -1,6 +1,4 @@
-use Rattle.std.proofs.Common.{take}
-use Rattle.std.specs.List.{All, Contains}
-use Rattle.zf_meaning.specs.Sizes.{names}
+use Rattle.zf_meaning.proofs.Prelude.{take, All, Contains, names}
 use Rattle.zf_meaning.proofs.sizes.check_sizes.Given as goal
 
 -- The sets so far have sizes.

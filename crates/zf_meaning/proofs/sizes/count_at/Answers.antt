@@ -1,5 +1,4 @@
-use Rattle.std.proofs.Common.{Some, ap, ◌∙◌}
-use Rattle.zf_term.specs.Definitions.{Defined, definition_of, globals_of}
+use Rattle.zf_meaning.proofs.Prelude.{◌∙◌, ap, Some, Defined, definition_of, globals_of}
 use Rattle.zf_meaning.proofs.Counts.{count_given}
 use Rattle.zf_meaning.proofs.sizes.count_at.Goals as goal
 

@@ -1,6 +1,4 @@
-use Rattle.std.proofs.Common.{arith}
-use Rattle.std.proofs.lemmas.List.{take_all}
-use Rattle.std.specs.Cmp.Lexicographic.{other_text}
+use Rattle.zf_meaning.proofs.Prelude.{arith, take_all, other_text}
 use Rattle.zf_meaning.proofs.Accepting.{names-lack-more}
 use Rattle.zf_meaning.proofs.sizes.count_of.Goals as goal
 

@@ -1,6 +1,4 @@
-use Rattle.std.proofs.Common.{take}
-use Rattle.std.specs.List.{Contains}
-use Rattle.zf_meaning.specs.Sizes.{names}
+use Rattle.zf_meaning.proofs.Prelude.{take, Contains, names}
 use Rattle.zf_meaning.proofs.sizes.count_of.Given as goal
 
 abbrev pub invariant-loop-size : goal.invariant-loop-size

@@ -1,6 +1,4 @@
-use Rattle.std.proofs.Common.{◌≡◌, ◌++◌, drop}
-use Rattle.zf_term.specs.Definitions.{globals_of}
-use Rattle.zf_meaning.specs.Sizes.{given_sets}
+use Rattle.zf_meaning.proofs.Prelude.{◌++◌, ◌≡◌, drop, globals_of, given_sets}
 use Rattle.zf_meaning.proofs.sizes.given_names.Given as goal
 
 abbrev pub invariant-loop-place : goal.invariant-loop-place

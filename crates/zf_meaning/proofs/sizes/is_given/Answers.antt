@@ -1,7 +1,4 @@
-use Rattle.std.proofs.Common.{arith}
-use Rattle.std.proofs.lemmas.List.{take_all}
-use Rattle.std.proofs.lemmas.Bool.{false≢true}
-use Rattle.std.specs.Cmp.Lexicographic.{other_text}
+use Rattle.zf_meaning.proofs.Prelude.{arith, false≢true, take_all, other_text}
 use Rattle.zf_meaning.proofs.Accepting.{lacks-more}
 use Rattle.zf_meaning.proofs.sizes.is_given.Goals as goal
 

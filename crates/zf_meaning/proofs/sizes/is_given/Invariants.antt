@@ -1,5 +1,4 @@
-use Rattle.std.proofs.Common.{take}
-use Rattle.std.specs.List.{Contains}
+use Rattle.zf_meaning.proofs.Prelude.{take, Contains}
 use Rattle.zf_meaning.proofs.sizes.is_given.Given as goal
 
 abbrev pub invariant-loop-set : goal.invariant-loop-set

@@ -1,5 +1,4 @@
-use Rattle.std.proofs.Common.{arith}
-use Rattle.zf_term.specs.Definitions.{globals_of}
+use Rattle.zf_meaning.proofs.Prelude.{arith, globals_of}
 use Rattle.zf_meaning.proofs.Counts.{count-more, count-all}
 use Rattle.zf_meaning.proofs.sizes.sizes_of.Goals as goal
 

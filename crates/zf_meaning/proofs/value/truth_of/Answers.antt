@@ -1,9 +1,7 @@
-use Rattle.zf_term.specs.ResolvedTrees.{resolved_of}
+use Rattle.zf_meaning.proofs.Prelude.{resolved_of, IsTruth, scope_of}
 use Rattle.zf_meaning.proofs.InRow.{truth-in-row}
 use Rattle.zf_meaning.proofs.Regulars.{regular-start}
 use Rattle.std.specs.Prelude.{Ok}
-use Rattle.zf_meaning.specs.Meaning.{IsTruth}
-use Rattle.zf_meaning.specs.Scopes.{scope_of}
 use Rattle.zf_meaning.proofs.Numeric.{at-some}
 use Rattle.zf_meaning.proofs.value.truth_of.Goals as goal
 

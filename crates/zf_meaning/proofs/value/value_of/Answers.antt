@@ -1,5 +1,4 @@
-use Rattle.zf_term.specs.ResolvedTrees.{resolved_of}
-use Rattle.zf_meaning.specs.Found.{found_outcome}
+use Rattle.zf_meaning.proofs.Prelude.{resolved_of, found_outcome}
 use Rattle.zf_meaning.proofs.InRow.{outcome-in-row, regular-copy}
 use Rattle.zf_meaning.proofs.Regulars.{regular-start}
 use Rattle.zf_meaning.proofs.value.value_of.Goals as goal

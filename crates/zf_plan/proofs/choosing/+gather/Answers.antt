@@ -1,12 +1,4 @@
-use Rattle.std.proofs.Common.{[], length, get_or, Result, Ok, Err, rules}
-use Rattle.std.specs.Prelude.{IsTrue}
-use Rattle.std.specs.Result.{IfOk}
-use Rattle.zf_walk.specs.declared.judge.Truth.TheVariants.{False}
-use Rattle.zf_walk.specs.Picked.{picked}
-use Rattle.zf_plan.specs.Trees.{either, tree_at}
-use Rattle.zf_plan.specs.Groves.{trees_made}
-use Rattle.zf_plan.specs.Knowing.{IsSettled}
-use Rattle.zf_plan.specs.Choosing.{Narrows}
+use Rattle.zf_plan.proofs.Prelude.{[], Err, get_or, length, Ok, Result, rules, IsTrue, IfOk, picked, False, Narrows, trees_made, IsSettled, either, tree_at}
 use Rattle.zf_plan.proofs.Narrowing.{narrows-either, narrows-false, narrows-as}
 use Rattle.zf_plan.proofs.choosing.+gather.Goals as goal
 

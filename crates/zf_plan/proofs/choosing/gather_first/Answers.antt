@@ -1,7 +1,4 @@
-use Rattle.std.proofs.Common.{[], ◌∷◌, ◌++◌, get_or, subst}
-use Rattle.zf_walk.specs.declared.judge.Truth.TheVariants.{False}
-use Rattle.zf_walk.specs.Picked.{picked}
-use Rattle.zf_plan.specs.Trees.{IsTreeTruth}
+use Rattle.zf_plan.proofs.Prelude.{◌++◌, ◌∷◌, [], get_or, subst, picked, False, IsTreeTruth}
 use Rattle.zf_plan.proofs.choosing.gather_first.Goals as goal
 
 pub returns-then-found-clause-choice : goal.returns-then-found-clause-choice

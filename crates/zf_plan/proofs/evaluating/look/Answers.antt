@@ -1,7 +1,4 @@
-use Rattle.std.proofs.Common.{◌≡◌, length, take, ap, ◌∙◌, subst, arith}
-use Rattle.std.proofs.lemmas.List.{length-take-le}
-use Rattle.zf_walk.specs.Picked.{picked}
-use Rattle.zf_walk.proofs.Picks.{AreWithin-take, length-picked}
+use Rattle.zf_plan.proofs.Prelude.{◌∙◌, ◌≡◌, ap, arith, length, subst, take, length-take-le, AreWithin-take, length-picked, picked}
 use Rattle.zf_plan.proofs.Knowing.{known-later, known-told, settled-leaf}
 use Rattle.zf_plan.proofs.evaluating.look.Goals as goal
 

@@ -1,9 +1,4 @@
-use Rattle.std.proofs.Common.{length, subst, arith}
-use Rattle.zf_walk.specs.Picked.{picked}
-use Rattle.zf_walk.proofs.Picks.{length-picked}
-use Rattle.zf_plan.specs.Trees.{leaf, tree_at}
-use Rattle.zf_plan.specs.Groves.{trees_of}
-use Rattle.zf_plan.specs.Knowing.{IsKnown}
+use Rattle.zf_plan.proofs.Prelude.{arith, length, subst, length-picked, picked, trees_of, IsKnown, leaf, tree_at}
 use Rattle.zf_plan.proofs.TreeTruths.{due-within, settled-here}
 use Rattle.zf_plan.proofs.evaluating.truth_of.Goals as goal
 

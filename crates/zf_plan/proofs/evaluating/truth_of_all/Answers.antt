@@ -1,8 +1,4 @@
-use Rattle.std.proofs.Common.{◌+◌, sym, subst}
-use Rattle.zf_walk.specs.Conjuncts.{IsTruthOf}
-use Rattle.zf_walk.specs.Picked.{picked}
-use Rattle.zf_plan.specs.Trees.{planted}
-use Rattle.zf_plan.specs.Groves.{trees_of}
+use Rattle.zf_plan.proofs.Prelude.{◌+◌, subst, sym, IsTruthOf, picked, trees_of, planted}
 use Rattle.zf_plan.proofs.TreeTruths.{firsts, firsts-more}
 use Rattle.zf_plan.proofs.evaluating.truth_of_all.Goals as goal
 

@@ -1,8 +1,4 @@
-use Rattle.zf_walk.specs.Conjuncts.{IsTruthOf}
-use Rattle.zf_walk.specs.Picked.{picked}
-use Rattle.zf_plan.specs.Trees.{planted}
-use Rattle.zf_plan.specs.Groves.{trees_of}
-use Rattle.zf_plan.specs.Knowing.{Tells}
+use Rattle.zf_plan.proofs.Prelude.{IsTruthOf, picked, trees_of, Tells, planted}
 use Rattle.zf_plan.proofs.TreeTruths.{firsts}
 use Rattle.zf_plan.proofs.evaluating.truth_of_all.Given as goal
 

@@ -1,9 +1,4 @@
-use Rattle.std.proofs.Common.{◌≡◌, [], length, get_or, None, sym, ap, ◌∙◌, subst, arith}
-use Rattle.std.proofs.lemmas.List.{get_or_default}
-use Rattle.zf_walk.proofs.Moving.{range-is}
-use Rattle.zf_plan.specs.declared.place.Place.{Place}
-use Rattle.zf_plan.specs.Choosing.{IsNextChoice}
-use Rattle.zf_plan.specs.Places.{Lands}
+use Rattle.zf_plan.proofs.Prelude.{◌∙◌, ◌≡◌, [], ap, arith, get_or, length, None, subst, sym, get_or_default, range-is, IsNextChoice, Lands, Place}
 use Rattle.zf_plan.proofs.moves.descend.Goals as goal
 
 pub returns-clause-lands : goal.returns-clause-lands

@@ -1,6 +1,4 @@
-use Rattle.std.proofs.Common.{◌≡◌, ◌<◌, ℕ, [], length, get_or}
-use Rattle.zf_plan.specs.Groves.{trees_of}
-use Rattle.zf_plan.specs.Knowing.{AreBelow}
+use Rattle.zf_plan.proofs.Prelude.{◌<◌, ◌≡◌, [], get_or, length, ℕ, trees_of, AreBelow}
 use Rattle.zf_plan.proofs.plan.all_narrowing.Given as goal
 
 -- There is a list of conjuncts for each number so far.

@@ -1,6 +1,4 @@
-use Rattle.std.proofs.Common.{length}
-use Rattle.zf_plan.specs.Groves.{trees_of}
-use Rattle.zf_plan.specs.Knowing.{AreBelow}
+use Rattle.zf_plan.proofs.Prelude.{length, trees_of, AreBelow}
 use Rattle.zf_plan.proofs.plan.touched_at.Given as goal
 
 -- They are conjuncts.

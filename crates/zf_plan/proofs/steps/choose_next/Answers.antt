@@ -1,7 +1,4 @@
-use Rattle.std.proofs.Common.{◌≡◌, ◌<◌, ◌+◌, [], length, get_or, sym, ◌∙◌, subst, arith}
-use Rattle.std.proofs.lemmas.List.{get_or_default}
-use Rattle.zf_plan.specs.Groves.{trees_of}
-use Rattle.zf_plan.specs.Knowing.{AreBelow}
+use Rattle.zf_plan.proofs.Prelude.{◌+◌, ◌<◌, ◌∙◌, ◌≡◌, [], arith, get_or, length, subst, sym, get_or_default, trees_of, AreBelow}
 use Rattle.zf_plan.proofs.steps.choose_next.Goals as goal
 
 pub choose-requires-clause-conjuncts : goal.choose-requires-clause-conjuncts

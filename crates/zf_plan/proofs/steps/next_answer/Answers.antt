@@ -1,8 +1,4 @@
-use Rattle.std.proofs.Common.{subst}
-use Rattle.std.specs.Option.{option_copied}
-use Rattle.zf_plan.specs.Trees.{planted}
-use Rattle.zf_plan.specs.Groves.{trees_of}
-use Rattle.zf_plan.specs.Places.{Goes}
+use Rattle.zf_plan.proofs.Prelude.{subst, option_copied, trees_of, Goes, planted}
 use Rattle.zf_plan.proofs.Stepping.{setting-of, gives-on, SameAhead-from}
 use Rattle.zf_plan.proofs.steps.next_answer.Goals as goal
 

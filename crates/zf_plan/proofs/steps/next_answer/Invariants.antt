@@ -1,8 +1,4 @@
-use Rattle.std.proofs.Common.{◌≡◌, true}
-use Rattle.std.specs.Option.{option_copied}
-use Rattle.zf_plan.specs.Trees.{planted}
-use Rattle.zf_plan.specs.Groves.{trees_of}
-use Rattle.zf_plan.specs.Places.{Stands, KeepsEvents, steps_left, is_over}
+use Rattle.zf_plan.proofs.Prelude.{◌≡◌, true, option_copied, trees_of, is_over, KeepsEvents, Stands, steps_left, planted}
 use Rattle.zf_plan.proofs.steps.next_answer.Given as goal
 
 -- The same events are ahead, and a search that is over stays so.

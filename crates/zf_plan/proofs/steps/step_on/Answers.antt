@@ -1,15 +1,4 @@
-use Rattle.std.proofs.Common.{◌≡◌, ◌-◌, true, false, [], length, get_or, take, refl, ap, ◌∙◌, subst, arith}
-use Rattle.std.specs.Option.{option_copied}
-use Rattle.zf_walk.specs.declared.judge.Truth.TheVariants.{True, False, Out}
-use Rattle.zf_walk.specs.Conjuncts.{IsTruthOf}
-use Rattle.zf_walk.specs.Picked.{picked}
-use Rattle.zf_walk.specs.Places.{is_reached}
-use Rattle.zf_plan.specs.declared.place.Place.{Place}
-use Rattle.zf_plan.specs.Trees.{planted}
-use Rattle.zf_plan.specs.Groves.{trees_of}
-use Rattle.zf_plan.specs.Knowing.{Tells}
-use Rattle.zf_plan.specs.Choosing.{IsChoice}
-use Rattle.zf_plan.specs.Places.{IsHopeless, Forgets, path}
+use Rattle.zf_plan.proofs.Prelude.{◌-◌, ◌∙◌, ◌≡◌, [], ap, arith, false, get_or, length, refl, subst, take, true, option_copied, IsTruthOf, picked, is_reached, False, Out, True, IsChoice, trees_of, Tells, Forgets, IsHopeless, path, planted, Place}
 use Rattle.zf_plan.proofs.Moving.{length-bound}
 use Rattle.zf_plan.proofs.Stepping.{setting-of, descends, retreats, passes, refuted-whole, gives-end, takes-whole}
 use Rattle.zf_plan.proofs.steps.step_on.Goals as goal

@@ -1,5 +1,4 @@
-use Rattle.std.proofs.Common.{◌∙◌, ap, rules}
-use Rattle.zf_scan.specs.Sights.{told}
+use Rattle.zf_scan.proofs.Prelude.{◌∙◌, ap, rules, told}
 use Rattle.zf_scan.specs.Steps.{closing}
 use Rattle.zf_scan.proofs.MarkedCommands.{mark_found, backslash, open_brace, close_brace}
 use Rattle.zf_scan.proofs.inside.command_at.Goals as goal

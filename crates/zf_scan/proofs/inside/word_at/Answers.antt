@@ -1,9 +1,6 @@
-use Rattle.std.proofs.Common.{◌≡◌, ◌+◌, drop, take, sym, ap, ◌∙◌, None}
+use Rattle.zf_scan.proofs.Prelude.{◌+◌, ◌∙◌, ◌≡◌, ap, drop, None, sym, take, look_up, symbols, seen, told, Strokes}
 use Rattle.zf_scan.specs.declared.next.Next.TheVariants as next
-use Rattle.zf_scan.specs.declared.pieces.Run.TheVariants.{Strokes}
 use Rattle.zf_scan.specs.declared.pieces.Sight.TheVariants as sight
-use Rattle.zf_scan.specs.Pieces.{look_up, symbols}
-use Rattle.zf_scan.specs.Sights.{seen, told}
 use Rattle.zf_scan.specs.Steps as steps
 use Rattle.zf_scan.proofs.Spelled.{word_told}
 use Rattle.zf_scan.proofs.inside.word_at.Goals as goal

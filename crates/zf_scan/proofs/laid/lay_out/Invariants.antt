@@ -1,5 +1,4 @@
-use Rattle.std.proofs.Common.{take}
-use Rattle.zf_scan.specs.Laying.{IsLaid}
+use Rattle.zf_scan.proofs.Prelude.{take, IsLaid}
 use Rattle.zf_scan.proofs.laid.lay_out.Given as goal
 
 abbrev pub invariant-loop-i : goal.invariant-loop-i

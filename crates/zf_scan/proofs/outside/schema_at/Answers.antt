@@ -1,7 +1,4 @@
-use Rattle.std.proofs.Common.{◌∙◌, rules, ◌≡◌, ◌+◌, take, drop}
-use Rattle.zf_scan.specs.Steps.{schema_found, found}
-use Rattle.zf_scan.specs.declared.pieces.Piece.TheVariants.{Symbol}
-use Rattle.zf_scan.specs.declared.token.Kind.TheVariants.{BeginSchema}
+use Rattle.zf_scan.proofs.Prelude.{◌+◌, ◌∙◌, ◌≡◌, drop, rules, take, found, schema_found, Symbol, BeginSchema}
 use Rattle.zf_scan.proofs.Spelled.{schema_told}
 use Rattle.zf_scan.proofs.outside.schema_at.Goals as goal
 

@@ -1,5 +1,4 @@
-use Rattle.std.proofs.Common.{ap, ◌∙◌, arith, length, length-drop}
-use Rattle.zf_scan.specs.Steps.{step_len}
+use Rattle.zf_scan.proofs.Prelude.{◌∙◌, ap, arith, length, length-drop, step_len}
 use Rattle.zf_scan.proofs.Runs.{run_more, run_done}
 use Rattle.zf_scan.proofs.pieces.run_len.Goals as goal
 

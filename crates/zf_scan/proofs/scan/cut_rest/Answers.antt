@@ -1,5 +1,4 @@
-use Rattle.zf_scan.specs.Placing.{token_at}
-use Rattle.std.proofs.Common.{map, ◌++◌}
+use Rattle.zf_scan.proofs.Prelude.{◌++◌, map, token_at}
 use Rattle.zf_scan.proofs.BoxParts.{none_further, one_further, all_further}
 use Rattle.zf_scan.proofs.scan.cut_rest.Goals as goal
 

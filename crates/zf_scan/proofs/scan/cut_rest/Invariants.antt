@@ -1,6 +1,4 @@
-use Rattle.std.proofs.Common.{List, length, ◌++◌, ◌-◌}
-use Rattle.zf_scan.specs.Boxes.{Follows, IsCutUpTo}
-use Rattle.zf_scan.specs.declared.token.Token.{Token}
+use Rattle.zf_scan.proofs.Prelude.{◌++◌, ◌-◌, length, List, Follows, IsCutUpTo, Token}
 use Rattle.zf_scan.proofs.scan.cut_rest.Given as goal
 
 -- the tokens before, and more of them, are those up to the border

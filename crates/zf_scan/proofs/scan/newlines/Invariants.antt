@@ -1,5 +1,4 @@
-use Rattle.std.proofs.Common.{◌≡◌, ◌+◌, ◌≤◌, drop}
-use Rattle.zf_scan.specs.Cuts.{newlines}
+use Rattle.zf_scan.proofs.Prelude.{◌+◌, ◌≡◌, ◌≤◌, drop, newlines}
 use Rattle.zf_scan.proofs.scan.newlines.Given as goal
 
 abbrev pub invariant-loop-b : goal.invariant-loop-b

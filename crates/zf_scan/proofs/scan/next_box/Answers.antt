@@ -1,12 +1,5 @@
-use Rattle.std.proofs.Common.{◌≡◌, ◌+◌, ◌<◌, ◌++◌, ◌∷◌, [], length, drop, take, refl, sym, ap, ◌∙◌, subst, inr, arith, length-drop, length-take-le, map, true}
-use Rattle.std.proofs.lemmas.List.{map-append}
-use Rattle.zf_scan.specs.Boxes.{IsBox, begins_box}
-use Rattle.zf_scan.specs.Cuts.{newlines}
-use Rattle.zf_scan.specs.Placing.{between, token_at}
-use Rattle.zf_scan.specs.Sights.{kind_of, piece_of, told}
-use Rattle.zf_scan.specs.declared.pieces.Piece.TheVariants.{Refused, Symbol}
+use Rattle.zf_scan.proofs.Prelude.{◌++◌, ◌+◌, ◌<◌, ◌∙◌, ◌∷◌, ◌≡◌, [], ap, arith, drop, inr, length, length-drop, length-take-le, map, refl, subst, sym, take, true, map-append, begins_box, IsBox, newlines, between, token_at, kind_of, piece_of, told, Refused, Symbol, Placed}
 use Rattle.zf_scan.specs.declared.pieces.Place.TheVariants as places
-use Rattle.zf_scan.specs.declared.placed.Placed.{Placed}
 use Rattle.zf_scan.proofs.BoxParts.{IsPart, begins_there, begins_same, grown, closed, ended_outside}
 use Rattle.zf_scan.proofs.Scanned.{StandsAt, seen_at, line_le, moved}
 use Rattle.zf_scan.proofs.ScanTurns.{plain_stands, symbol_stands, blank_read, plain_read, symbol_read}

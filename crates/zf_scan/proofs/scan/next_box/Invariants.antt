@@ -1,8 +1,4 @@
-use Rattle.std.proofs.Common.{◌≤◌, ◌-◌, ◌++◌, List, length, map}
-use Rattle.zf_scan.specs.declared.scan.TheConstants.{SOURCE_MAX}
-use Rattle.zf_scan.specs.declared.token.Token.{Token}
-use Rattle.zf_scan.specs.Boxes.{Before, IsCutUpTo}
-use Rattle.zf_scan.specs.Placing.{token_at}
+use Rattle.zf_scan.proofs.Prelude.{◌++◌, ◌-◌, ◌≤◌, length, List, map, Before, IsCutUpTo, token_at, SOURCE_MAX, Token}
 use Rattle.zf_scan.proofs.BoxParts.{IsPart}
 use Rattle.zf_scan.proofs.scan.next_box.Given as goal
 

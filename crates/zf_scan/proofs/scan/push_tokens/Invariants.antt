@@ -1,5 +1,4 @@
-use Rattle.std.proofs.Common.{◌≡◌, ◌++◌, map, drop}
-use Rattle.zf_scan.specs.Placing.{token_at}
+use Rattle.zf_scan.proofs.Prelude.{◌++◌, ◌≡◌, drop, map, token_at}
 use Rattle.zf_scan.proofs.scan.push_tokens.Given as goal
 
 -- the tokens so far, and those of the symbols ahead, are the whole

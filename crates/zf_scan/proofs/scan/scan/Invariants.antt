@@ -1,5 +1,4 @@
-use Rattle.std.proofs.Common.{length, ◌-◌}
-use Rattle.zf_scan.specs.Boxes.{IsCutUpTo}
+use Rattle.zf_scan.proofs.Prelude.{◌-◌, length, IsCutUpTo}
 use Rattle.zf_scan.proofs.scan.scan.Given as goal
 
 -- the tokens so far are those up to the border

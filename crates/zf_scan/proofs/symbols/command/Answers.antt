@@ -1,5 +1,4 @@
-use Rattle.std.proofs.Common.{rules, ◌∷◌, [], get_or, refl}
-use Rattle.zf_scan.specs.Pieces.{symbols}
+use Rattle.zf_scan.proofs.Prelude.{◌∷◌, [], get_or, refl, rules, symbols}
 use Rattle.zf_scan.proofs.Alone.{alone, nothing, other, Apart, command_heads, commands_begin}
 use Rattle.zf_scan.proofs.symbols.command.Goals as goal
 

@@ -1,8 +1,4 @@
-use Rattle.std.proofs.Common.{[], ◌∷◌, map, sym, subst}
-use Rattle.std.proofs.lemmas.Result.{on_ok_weaker}
-use Rattle.zf_tree.specs.Trees.{box_of, decl_of, tree_of}
-use Rattle.zf_schema.specs.Checking.{a_box, items_in}
-use Rattle.zf_schema.specs.Runs.{Runs}
+use Rattle.zf_schema.proofs.Prelude.{◌∷◌, [], map, subst, sym, on_ok_weaker, box_of, decl_of, tree_of, a_box, items_in, Runs}
 use Rattle.zf_schema.proofs.Running.{run_one}
 use Rattle.zf_schema.proofs.checker.check_box.Goals as goal
 

@@ -1,9 +1,5 @@
-use Rattle.std.proofs.Common.{◌+◌, map, drop, arith}
-use Rattle.zf_tree.specs.Trees.{box_of}
-use Rattle.zf_schema.specs.Checking.{items, items_in}
-use Rattle.zf_schema.specs.Runs.{Runs}
+use Rattle.zf_schema.proofs.Prelude.{◌+◌, arith, drop, map, box_of, at_end, at_step, items, items_in, Runs}
 use Rattle.zf_schema.proofs.Running.{run_none, run_on}
-use Rattle.zf_term.proofs.Walk.{at_step, at_end}
 use Rattle.zf_schema.proofs.checker.check_boxes.Goals as goal
 
 pub loop-each-preserved : goal.loop-each-preserved

@@ -1,10 +1,4 @@
-use Rattle.std.proofs.Common.{◌≡◌, map, drop}
-use Rattle.zf_tree.specs.Trees.{box_of}
-use Rattle.zf_term.specs.Definitions.{globals_of}
-use Rattle.zf_term.specs.Numbers.{next_number}
-use Rattle.zf_schema.specs.declared.checker.Checked.{Checked}
-use Rattle.zf_schema.specs.Checking.{items}
-use Rattle.zf_schema.specs.Runs.{Runs}
+use Rattle.zf_schema.proofs.Prelude.{◌≡◌, drop, map, box_of, globals_of, next_number, items, Runs, Checked}
 use Rattle.zf_schema.proofs.checker.check_boxes.Given as goal
 
 abbrev pub invariant-loop-each : goal.invariant-loop-each

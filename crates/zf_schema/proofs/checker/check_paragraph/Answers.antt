@@ -1,7 +1,4 @@
-use Rattle.std.proofs.lemmas.Result.{on_ok_weaker}
-use Rattle.zf_tree.specs.Trees.{paragraph_of}
-use Rattle.zf_schema.specs.declared.checker.Checked.{Checked}
-use Rattle.zf_schema.specs.Checking.{a_paragraph}
+use Rattle.zf_schema.proofs.Prelude.{on_ok_weaker, paragraph_of, a_paragraph, Checked}
 use Rattle.zf_schema.proofs.Running.{noted}
 use Rattle.zf_schema.proofs.checker.check_paragraph.Goals as goal
 

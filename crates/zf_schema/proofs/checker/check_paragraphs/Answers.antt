@@ -1,9 +1,5 @@
-use Rattle.std.proofs.Common.{◌+◌, map, drop, arith}
-use Rattle.zf_tree.specs.Trees.{paragraph_of}
-use Rattle.zf_schema.specs.Checking.{a_paragraph}
-use Rattle.zf_schema.specs.Runs.{Runs}
+use Rattle.zf_schema.proofs.Prelude.{◌+◌, arith, drop, map, paragraph_of, at_end, at_step, a_paragraph, Runs}
 use Rattle.zf_schema.proofs.Running.{run_none, run_step}
-use Rattle.zf_term.proofs.Walk.{at_step, at_end}
 use Rattle.zf_schema.proofs.checker.check_paragraphs.Goals as goal
 
 pub loop-paragraph-preserved : goal.loop-paragraph-preserved

@@ -1,10 +1,4 @@
-use Rattle.std.proofs.Common.{◌≡◌, map, drop}
-use Rattle.zf_tree.specs.Trees.{paragraph_of}
-use Rattle.zf_term.specs.Definitions.{globals_of}
-use Rattle.zf_term.specs.Numbers.{next_number}
-use Rattle.zf_schema.specs.declared.checker.Checked.{Checked}
-use Rattle.zf_schema.specs.Checking.{a_paragraph}
-use Rattle.zf_schema.specs.Runs.{Runs}
+use Rattle.zf_schema.proofs.Prelude.{◌≡◌, drop, map, paragraph_of, globals_of, next_number, a_paragraph, Runs, Checked}
 use Rattle.zf_schema.proofs.checker.check_paragraphs.Given as goal
 
 abbrev pub invariant-loop-paragraph : goal.invariant-loop-paragraph

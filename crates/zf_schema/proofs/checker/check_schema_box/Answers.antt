@@ -1,8 +1,4 @@
-use Rattle.std.proofs.Common.{map}
-use Rattle.std.proofs.lemmas.Result.{on_ok_weaker}
-use Rattle.zf_tree.specs.Trees.{decl_of, tree_of}
-use Rattle.zf_schema.specs.declared.checker.Checked.{Checked}
-use Rattle.zf_schema.specs.Checking.{a_box}
+use Rattle.zf_schema.proofs.Prelude.{map, on_ok_weaker, decl_of, tree_of, a_box, Checked}
 use Rattle.zf_schema.proofs.Running.{noted}
 use Rattle.zf_schema.proofs.checker.check_schema_box.Goals as goal
 

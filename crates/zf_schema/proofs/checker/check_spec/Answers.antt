@@ -1,8 +1,4 @@
-use Rattle.std.proofs.Common.{map, subst}
-use Rattle.zf_tree.specs.Trees.{box_of}
-use Rattle.zf_term.specs.Definitions.{globals_of}
-use Rattle.zf_schema.specs.declared.checker.Checked.{Checked}
-use Rattle.zf_schema.specs.Checking.{IsChecked}
+use Rattle.zf_schema.proofs.Prelude.{map, subst, box_of, globals_of, IsChecked, Checked}
 use Rattle.zf_schema.proofs.Running.{run_all}
 use Rattle.zf_schema.proofs.checker.check_spec.Goals as goal
 

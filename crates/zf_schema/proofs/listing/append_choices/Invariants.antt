@@ -1,6 +1,5 @@
 -- The text has grown by the names so far.
-use Rattle.std.proofs.Common.{◌≡◌, ◌++◌, take}
-use Rattle.zf_schema.specs.Listing.{choices_text}
+use Rattle.zf_schema.proofs.Prelude.{◌++◌, ◌≡◌, take, choices_text}
 use Rattle.zf_schema.proofs.listing.append_choices.Given as goal
 
 abbrev pub invariant-loop-i : goal.invariant-loop-i

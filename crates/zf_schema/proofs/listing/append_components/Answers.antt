@@ -1,5 +1,4 @@
-use Rattle.zf_term.specs.Definitions.{comp_of}
-use Rattle.zf_schema.specs.Listing.{component_line}
+use Rattle.zf_schema.proofs.Prelude.{comp_of, component_line}
 use Rattle.zf_term.proofs.PrintedTypes.{both}
 use Rattle.zf_schema.proofs.Lines.{next_line}
 use Rattle.zf_schema.proofs.listing.append_components.Goals as goal

@@ -1,6 +1,4 @@
-use Rattle.std.proofs.Common.{◌≡◌, ◌++◌, ap, ◌∙◌, rules}
-use Rattle.zf_term.specs.Definitions.{definition_of}
-use Rattle.zf_schema.specs.Listing.{definition_text}
+use Rattle.zf_schema.proofs.Prelude.{◌++◌, ◌∙◌, ◌≡◌, ap, rules, definition_of, definition_text}
 use Rattle.zf_schema.proofs.Lines.{entry_text, all_ahead, one_ahead, none_ahead}
 use Rattle.zf_schema.proofs.listing.listing.Goals as goal
 

@@ -1,7 +1,5 @@
 -- What is written, and then the texts of what is ahead, is the whole listing.
-use Rattle.std.proofs.Common.{◌≡◌, ◌++◌, flat_map}
-use Rattle.zf_term.specs.Definitions.{globals_of}
-use Rattle.zf_schema.specs.Listing.{listing}
+use Rattle.zf_schema.proofs.Prelude.{◌++◌, ◌≡◌, flat_map, globals_of, listing}
 use Rattle.zf_schema.proofs.Lines.{entry_text}
 use Rattle.zf_schema.proofs.listing.listing.Given as goal
 

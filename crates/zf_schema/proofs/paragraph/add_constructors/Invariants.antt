@@ -1,8 +1,4 @@
-use Rattle.std.proofs.Common.{ℕ, ◌≤◌, List, length, drop}
-use Rattle.zf_term.specs.Definitions.{Defined, globals_of}
-use Rattle.zf_term.specs.declared.fault.TypeFaultKind.{TypeFaultKind}
-use Rattle.zf_tree.specs.Names.{spelling}
-use Rattle.zf_schema.specs.Checking.{Constructs, OffendsConstructors}
+use Rattle.zf_schema.proofs.Prelude.{◌≤◌, drop, length, List, ℕ, spelling, Defined, globals_of, TypeFaultKind, Constructs, OffendsConstructors}
 use Rattle.zf_schema.proofs.Beginning.{Begins}
 use Rattle.zf_schema.proofs.paragraph.add_constructors.Given as goal
 

@@ -1,5 +1,4 @@
-use Rattle.std.proofs.Common.{arith}
-use Rattle.zf_term.specs.Definitions.{globals_of}
+use Rattle.zf_schema.proofs.Prelude.{arith, globals_of}
 use Rattle.zf_schema.proofs.Beginning.{begins_one_more, begins_through, one_longer}
 use Rattle.zf_schema.proofs.paragraph.add_free.Goals as goal
 

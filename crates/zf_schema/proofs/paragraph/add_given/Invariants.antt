@@ -1,8 +1,4 @@
-use Rattle.std.proofs.Common.{◌≡◌, ℕ, ◌+◌, ◌<◌, ◌≤◌, ◌^◌, List, length, drop}
-use Rattle.zf_term.specs.Definitions.{Defined, globals_of}
-use Rattle.zf_term.specs.Numbers.{next_number}
-use Rattle.zf_term.specs.declared.fault.TypeFaultKind.{TypeFaultKind}
-use Rattle.zf_schema.specs.Checking.{Gives, OffendsGiven}
+use Rattle.zf_schema.proofs.Prelude.{◌+◌, ◌<◌, ◌^◌, ◌≡◌, ◌≤◌, drop, length, List, ℕ, Defined, globals_of, next_number, TypeFaultKind, Gives, OffendsGiven}
 use Rattle.zf_schema.proofs.Beginning.{Begins}
 use Rattle.zf_schema.proofs.paragraph.add_given.Given as goal
 

@@ -1,5 +1,4 @@
-use Rattle.std.proofs.Common.{◌≡◌, map, take}
-use Rattle.zf_tree.specs.Names.{spelling}
+use Rattle.zf_schema.proofs.Prelude.{◌≡◌, map, take, spelling}
 use Rattle.zf_schema.proofs.paragraph.all_spelled.Given as goal
 
 abbrev pub invariant-loop-name : goal.invariant-loop-name

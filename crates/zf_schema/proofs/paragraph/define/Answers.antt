@@ -1,6 +1,4 @@
-use Rattle.std.proofs.Common.{sym, ◌∙◌, arith}
-use Rattle.zf_tree.specs.Trees.{paragraph_of}
-use Rattle.zf_term.specs.Definitions.{globals_of}
+use Rattle.zf_schema.proofs.Prelude.{◌∙◌, arith, sym, paragraph_of, globals_of}
 use Rattle.zf_schema.proofs.Numbering.{few_numbers, numbered_after}
 use Rattle.zf_schema.proofs.paragraph.define.Goals as goal
 

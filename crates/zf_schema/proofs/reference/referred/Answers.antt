@@ -1,9 +1,4 @@
-use Rattle.std.proofs.Common.{sym, ap, subst}
-use Rattle.zf_term.specs.Definitions.{globals_of, schema_of}
-use Rattle.zf_term.specs.declared.fault.TypeFaultKind.{TypeFaultKind}
-use Rattle.zf_calculus.specs.Calculus.{marked, MarkAgrees}
-use Rattle.zf_calculus.specs.Steps.{IsNext, Stops}
-use Rattle.zf_schema.specs.SchemaOffences.{OffendsRef}
+use Rattle.zf_schema.proofs.Prelude.{ap, subst, sym, globals_of, schema_of, TypeFaultKind, MarkAgrees, marked, IsNext, Stops, OffendsRef}
 use Rattle.zf_schema.proofs.Referring.{refers, cant_refer, refused_by}
 use Rattle.zf_schema.proofs.reference.referred.Goals as goal
 

@@ -1,11 +1,4 @@
-use Rattle.std.proofs.Common.{ℕ, inl, inr, refl, rules}
-use Rattle.zf_term.specs.Definitions.{plain, schema_of}
-use Rattle.zf_term.specs.ResolvedTrees.{resolved_of}
-use Rattle.zf_term.specs.Types.{type_of}
-use Rattle.zf_term.specs.declared.fault.TypeFaultKind.{TypeFaultKind}
-use Rattle.zf_schema.specs.Expressions.{AddsAll}
-use Rattle.zf_schema.specs.Refusing.{CantAdd}
-use Rattle.zf_schema.specs.SchemaOffences.{OffendsNames}
+use Rattle.zf_schema.proofs.Prelude.{inl, inr, refl, rules, ℕ, plain, schema_of, resolved_of, type_of, TypeFaultKind, AddsAll, CantAdd, OffendsNames}
 use Rattle.zf_schema.proofs.Texts.{at_step, at_end, if_fault}
 use Rattle.zf_schema.proofs.text.add_all.Goals as goal
 

@@ -1,11 +1,4 @@
-use Rattle.std.proofs.Common.{ℕ, drop}
-use Rattle.zf_term.specs.Definitions.{Schema, plain, schema_of}
-use Rattle.zf_term.specs.ResolvedTrees.{resolved_of}
-use Rattle.zf_term.specs.Types.{type_of}
-use Rattle.zf_term.specs.declared.fault.TypeFaultKind.{TypeFaultKind}
-use Rattle.zf_schema.specs.Expressions.{AddsAll}
-use Rattle.zf_calculus.specs.Growth.{IsGrowing}
-use Rattle.zf_schema.specs.SchemaOffences.{OffendsNames}
+use Rattle.zf_schema.proofs.Prelude.{drop, ℕ, plain, Schema, schema_of, resolved_of, type_of, TypeFaultKind, IsGrowing, AddsAll, OffendsNames}
 use Rattle.zf_schema.proofs.text.add_all.Given as goal
 
 abbrev pub invariant-loop-name : goal.invariant-loop-name

@@ -1,10 +1,4 @@
-use Rattle.std.proofs.Common.{ℕ, map, refl, rules}
-use Rattle.zf_tree.specs.Trees.{tree_of}
-use Rattle.zf_term.specs.Definitions.{globals_of, schema_of}
-use Rattle.zf_term.specs.declared.fault.TypeFaultKind.{TypeFaultKind}
-use Rattle.zf_schema.specs.Expressions.{Constrains}
-use Rattle.zf_schema.specs.Refusing.{CantConstrain}
-use Rattle.zf_schema.specs.SchemaOffences.{OffendsPredicates}
+use Rattle.zf_schema.proofs.Prelude.{map, refl, rules, ℕ, tree_of, globals_of, schema_of, TypeFaultKind, Constrains, CantConstrain, OffendsPredicates}
 use Rattle.zf_schema.proofs.Texts.{at_step, at_end, if_fault, first_constrains, later_constrains}
 use Rattle.zf_schema.proofs.text.constrain_all.Goals as goal
 

@@ -1,10 +1,4 @@
-use Rattle.std.proofs.Common.{ℕ, map, drop}
-use Rattle.zf_tree.specs.Trees.{tree_of}
-use Rattle.zf_term.specs.Definitions.{Schema, globals_of, schema_of}
-use Rattle.zf_term.specs.declared.fault.TypeFaultKind.{TypeFaultKind}
-use Rattle.zf_schema.specs.Expressions.{Constrains}
-use Rattle.zf_calculus.specs.Growth.{IsGrowing}
-use Rattle.zf_schema.specs.SchemaOffences.{OffendsPredicates}
+use Rattle.zf_schema.proofs.Prelude.{drop, map, ℕ, tree_of, globals_of, Schema, schema_of, TypeFaultKind, IsGrowing, Constrains, OffendsPredicates}
 use Rattle.zf_schema.proofs.text.constrain_all.Given as goal
 
 abbrev pub invariant-loop-predicate : goal.invariant-loop-predicate

@@ -1,10 +1,4 @@
-use Rattle.std.proofs.Common.{ℕ, map, refl, rules}
-use Rattle.zf_tree.specs.Trees.{decl_of}
-use Rattle.zf_term.specs.Definitions.{globals_of, schema_of}
-use Rattle.zf_term.specs.declared.fault.TypeFaultKind.{TypeFaultKind}
-use Rattle.zf_schema.specs.Expressions.{Declares}
-use Rattle.zf_schema.specs.Refusing.{CantDeclare}
-use Rattle.zf_schema.specs.SchemaOffences.{OffendsDecls}
+use Rattle.zf_schema.proofs.Prelude.{map, refl, rules, ℕ, decl_of, globals_of, schema_of, TypeFaultKind, Declares, CantDeclare, OffendsDecls}
 use Rattle.zf_schema.proofs.Texts.{at_step, at_end, if_fault, first_declares, later_declares}
 use Rattle.zf_schema.proofs.text.declare_all.Goals as goal
 

@@ -1,10 +1,4 @@
-use Rattle.std.proofs.Common.{sym, ap, subst}
-use Rattle.zf_tree.specs.Trees.{include}
-use Rattle.zf_term.specs.Definitions.{globals_of, schema_of}
-use Rattle.zf_term.specs.declared.fault.TypeFaultKind.{TypeFaultKind}
-use Rattle.zf_calculus.specs.Calculus.{Agree, conjoined}
-use Rattle.zf_schema.specs.Refusing.{CantDeclare}
-use Rattle.zf_calculus.specs.Steps.{Stops}
+use Rattle.zf_schema.proofs.Prelude.{ap, subst, sym, include, globals_of, schema_of, TypeFaultKind, Agree, conjoined, Stops, CantDeclare}
 use Rattle.zf_schema.proofs.Referring.{refused_by}
 use Rattle.zf_schema.proofs.Texts.{cant_include}
 use Rattle.zf_schema.proofs.text.include.Goals as goal

@@ -1,10 +1,4 @@
-use Rattle.std.proofs.Common.{ℕ, inl, inr, map, refl, rules}
-use Rattle.zf_term.specs.Definitions.{schema_of}
-use Rattle.zf_term.specs.ResolvedTrees.{resolved_of}
-use Rattle.zf_term.specs.declared.fault.TypeFaultKind.{TypeFaultKind}
-use Rattle.zf_schema.specs.Expressions.{TakesAll}
-use Rattle.zf_schema.specs.Refusing.{CantTake}
-use Rattle.zf_schema.specs.SchemaOffences.{OffendsConjuncts}
+use Rattle.zf_schema.proofs.Prelude.{inl, inr, map, refl, rules, ℕ, schema_of, resolved_of, TypeFaultKind, TakesAll, CantTake, OffendsConjuncts}
 use Rattle.zf_schema.proofs.Texts.{at_step, at_end, if_fault}
 use Rattle.zf_schema.proofs.text.take_all.Goals as goal
 

@@ -1,10 +1,4 @@
-use Rattle.std.proofs.Common.{ℕ, map, drop}
-use Rattle.zf_term.specs.Definitions.{Schema, schema_of}
-use Rattle.zf_term.specs.ResolvedTrees.{resolved_of}
-use Rattle.zf_term.specs.declared.fault.TypeFaultKind.{TypeFaultKind}
-use Rattle.zf_schema.specs.Expressions.{TakesAll}
-use Rattle.zf_calculus.specs.Growth.{IsGrowing}
-use Rattle.zf_schema.specs.SchemaOffences.{OffendsConjuncts}
+use Rattle.zf_schema.proofs.Prelude.{drop, map, ℕ, Schema, schema_of, resolved_of, TypeFaultKind, IsGrowing, TakesAll, OffendsConjuncts}
 use Rattle.zf_schema.proofs.text.take_all.Given as goal
 
 abbrev pub invariant-loop-conjunct : goal.invariant-loop-conjunct

@@ -1,6 +1,4 @@
-use Rattle.std.proofs.Common.{◌≡◌, ◌+◌, map, take}
-use Rattle.zf_term.specs.Definitions.{set_of}
-use Rattle.zf_term.specs.SetShapes.{all_set_nodes}
+use Rattle.zf_shape.proofs.Prelude.{◌+◌, ◌≡◌, map, take, set_of, all_set_nodes}
 use Rattle.zf_shape.proofs.sets.+nodes.Given as goal
 
 abbrev pub invariant-room_after_all_nodes-loop-domain : goal.invariant-room_after_all_nodes-loop-domain

@@ -1,6 +1,4 @@
-use Rattle.std.proofs.Common.{◌≡◌, ◌+◌, map, take}
-use Rattle.zf_term.specs.ResolvedTrees.{resolved_of, resolved_link_of, range_of, terms, links, ranges}
-use Rattle.zf_term.specs.Shapes.{all_nodes, link_nodes, range_nodes}
+use Rattle.zf_shape.proofs.Prelude.{◌+◌, ◌≡◌, map, take, links, range_of, ranges, resolved_link_of, resolved_of, terms, all_nodes, link_nodes, range_nodes}
 use Rattle.zf_shape.proofs.terms.+room.Given as goal
 
 abbrev pub invariant-room_after_terms-loop-term : goal.invariant-room_after_terms-loop-term

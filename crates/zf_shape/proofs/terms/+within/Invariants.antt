@@ -1,6 +1,4 @@
-use Rattle.std.proofs.Common.{◌≤◌, map, take}
-use Rattle.zf_term.specs.ResolvedTrees.{resolved_of, resolved_link_of, range_of, terms, links, ranges}
-use Rattle.zf_term.specs.Shapes.{tallest, tallest_link, tallest_range}
+use Rattle.zf_shape.proofs.Prelude.{◌≤◌, map, take, links, range_of, ranges, resolved_link_of, resolved_of, terms, tallest, tallest_link, tallest_range}
 use Rattle.zf_shape.proofs.terms.+within.Given as goal
 
 abbrev pub invariant-are_terms_within-loop-term : goal.invariant-are_terms_within-loop-term

@@ -1,8 +1,4 @@
-use Rattle.std.proofs.Common.{◌≡◌, None, map, arith, sym, ◌∙◌, ap, subst}
-use Rattle.std.specs.Str.{bytes_eq}
-use Rattle.std.proofs.lemmas.List.{take_all}
-use Rattle.zf_term.specs.Definitions.{comp_of}
-use Rattle.zf_term.specs.FirstNamed.{first_named}
+use Rattle.zf_term.proofs.Prelude.{◌∙◌, ◌≡◌, ap, arith, map, None, subst, sym, take_all, bytes_eq, comp_of, first_named}
 use Rattle.zf_term.proofs.Found.{first_at, none_more}
 use Rattle.zf_term.proofs.named.component_of.Goals as goal
 

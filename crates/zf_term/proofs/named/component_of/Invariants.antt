@@ -1,6 +1,4 @@
-use Rattle.std.proofs.Common.{◌≡◌, map, take, None}
-use Rattle.zf_term.specs.Definitions.{comp_of}
-use Rattle.zf_term.specs.FirstNamed.{first_named}
+use Rattle.zf_term.proofs.Prelude.{◌≡◌, map, None, take, comp_of, first_named}
 use Rattle.zf_term.proofs.named.component_of.Given as goal
 
 abbrev pub invariant-loop-place : goal.invariant-loop-place

@@ -1,8 +1,5 @@
-use Rattle.std.proofs.Common.{◌≡◌, true, sym, ap, ◌∙◌}
-use Rattle.std.specs.Map.{keys_of}
+use Rattle.zf_term.proofs.Prelude.{◌∙◌, ◌≡◌, ap, sym, true, get_or_from_slice_get, slice_get_within, keys_of, bytes_eq}
 use Rattle.std.proofs.lemmas.List.Quantifiers.{position-Some}
-use Rattle.std.proofs.lemmas.Option.{slice_get_within, get_or_from_slice_get}
-use Rattle.std.specs.Str.{bytes_eq}
 use Rattle.zf_term.proofs.Entries.{no_global}
 use Rattle.zf_term.proofs.Found.{entry_at, key_of}
 use Rattle.zf_term.proofs.named.global_of.Goals as goal

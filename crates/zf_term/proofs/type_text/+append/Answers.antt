@@ -1,6 +1,4 @@
-use Rattle.std.proofs.Common.{◌≡◌, ◌++◌, map, refl, sym, ap, ◌∙◌, arith, codes}
-use Rattle.zf_term.specs.Types.{types, type_of}
-use Rattle.zf_term.specs.TypeTexts.{type_text, parts_text}
+use Rattle.zf_term.proofs.Prelude.{◌++◌, ◌∙◌, ◌≡◌, ap, arith, codes, map, refl, sym, parts_text, type_text, types, type_of}
 use Rattle.zf_term.proofs.PrintedTypes.{of_power, of_product, both_written, three_written, both, first_part, next_part}
 use Rattle.zf_term.proofs.type_text.+append.Goals as goal
 use Rattle.zf_term.proofs.type_text.+append.Goals.{append_parts-then-i-gt0+in_ok-extend_from_slice, append_parts-else-i-gt0}

@@ -1,5 +1,4 @@
-use Rattle.std.proofs.Common.{◌≡◌, map, drop}
-use Rattle.zf_term.specs.Types.{types, type_of, have_numbers}
+use Rattle.zf_term.proofs.Prelude.{◌≡◌, drop, map, have_numbers, types, type_of}
 use Rattle.zf_term.proofs.ztype.+numbers.Given as goal
 
 abbrev pub invariant-have_numbers-loop-part : goal.invariant-have_numbers-loop-part

@@ -1,5 +1,4 @@
-use Rattle.std.proofs.Common.{◌≡◌, ◌+◌, ◌-◌, map, ◌∙◌, sym, ap, arith}
-use Rattle.zf_term.specs.Types.{types, type_of, nodes, nodes_of_all}
+use Rattle.zf_term.proofs.Prelude.{◌+◌, ◌-◌, ◌∙◌, ◌≡◌, ap, arith, map, sym, nodes, nodes_of_all, types, type_of}
 use Rattle.zf_term.proofs.TypeForms.{some_nodes, one_node, nodes-Power, nodes-Product, left_of_both}
 use Rattle.zf_term.proofs.TypeLists.{counted}
 use Rattle.zf_term.proofs.ztype.+room.Goals as goal

@@ -1,5 +1,4 @@
-use Rattle.std.proofs.Common.{◌≡◌, ◌≤◌, ◌+◌, ◌*◌, map, drop}
-use Rattle.zf_term.specs.Types.{types, type_of, nodes, nodes_of_all}
+use Rattle.zf_term.proofs.Prelude.{◌*◌, ◌+◌, ◌≡◌, ◌≤◌, drop, map, nodes, nodes_of_all, types, type_of}
 use Rattle.zf_term.proofs.ztype.+room.Given as goal
 
 abbrev pub decreases-ZType::room_after : goal.decreases-ZType::room_after

@@ -1,5 +1,4 @@
-use Rattle.std.proofs.Common.{◌≡◌, ◌<◌, map, length, ◌∙◌, sym, ap, add-one, arith, true≢false}
-use Rattle.zf_term.specs.Types.{type_of}
+use Rattle.zf_term.proofs.Prelude.{◌<◌, ◌∙◌, ◌≡◌, add-one, ap, arith, length, map, sym, true≢false, type_of}
 use Rattle.zf_term.proofs.TypeLists.{grown, apart, same_products}
 use Rattle.zf_term.proofs.TypeForms.{same_basics, same_powers}
 use Rattle.zf_term.proofs.ztype.+same.Goals as goal

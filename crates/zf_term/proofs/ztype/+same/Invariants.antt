@@ -1,5 +1,4 @@
-use Rattle.std.proofs.Common.{◌≡◌, map, take, length}
-use Rattle.zf_term.specs.Types.{type_of}
+use Rattle.zf_term.proofs.Prelude.{◌≡◌, length, map, take, type_of}
 use Rattle.zf_term.proofs.ztype.+same.Given as goal
 
 abbrev pub invariant-same_all-loop-i : goal.invariant-same_all-loop-i

@@ -1,6 +1,4 @@
-use Rattle.std.proofs.Common.{rules, arith}
-use Rattle.std.proofs.lemmas.Grind.{common_steps}
-use Rattle.zf_text.specs.BoxReading.{read_boxes, boxes_from}
+use Rattle.zf_text.proofs.Prelude.{arith, rules, common_steps, boxes_from, read_boxes}
 use Rattle.zf_text.proofs.Turns.{one_more, no_more}
 use Rattle.zf_text.proofs.boxes.boxes.Goals as goal
 

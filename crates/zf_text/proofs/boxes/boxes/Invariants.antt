@@ -1,5 +1,4 @@
-use Rattle.std.proofs.Common.{◌≡◌, ◌-◌}
-use Rattle.zf_text.specs.BoxReading.{read_boxes, boxes_from}
+use Rattle.zf_text.proofs.Prelude.{◌-◌, ◌≡◌, boxes_from, read_boxes}
 use Rattle.zf_text.proofs.boxes.boxes.Given as goal
 
 -- the boxes so far, and those that are left, are the whole

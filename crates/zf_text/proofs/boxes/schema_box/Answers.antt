@@ -1,9 +1,5 @@
-use Rattle.std.proofs.Common.{◌≡◌, true, refl, arith}
-use Rattle.std.proofs.lemmas.Grind.{common_steps}
+use Rattle.zf_text.proofs.Prelude.{◌≡◌, arith, refl, true, common_steps, is_mark, read_schema_box, first}
 use Rattle.zf_scan.specs.declared.next.Mark.TheVariants as mark
-use Rattle.zf_text.specs.BoxReading.{read_schema_box}
-use Rattle.zf_scan.specs.Choosing.{is_mark}
-use Rattle.zf_text.specs.Reading.{first}
 use Rattle.zf_text.proofs.BoxDecls.{no_decls}
 use Rattle.zf_text.proofs.boxes.schema_box.Goals as goal
 

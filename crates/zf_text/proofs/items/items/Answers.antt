@@ -1,7 +1,4 @@
-use Rattle.std.proofs.Common.{rules, arith}
-use Rattle.std.proofs.lemmas.Grind.{common_steps}
-use Rattle.zf_text.specs.BoxReading.{items, items_from}
-use Rattle.zf_text.specs.TermReading.{tall}
+use Rattle.zf_text.proofs.Prelude.{arith, rules, common_steps, items, items_from, tall}
 use Rattle.zf_text.proofs.Turns.{one_more, no_more}
 use Rattle.zf_text.proofs.items.items.Goals as goal
 

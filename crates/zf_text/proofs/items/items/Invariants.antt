@@ -1,6 +1,4 @@
-use Rattle.std.proofs.Common.{◌≡◌, ◌-◌, ◌≤◌}
-use Rattle.zf_text.specs.BoxReading.{items, items_from}
-use Rattle.zf_text.specs.TermReading.{tall}
+use Rattle.zf_text.proofs.Prelude.{◌-◌, ◌≡◌, ◌≤◌, items, items_from, tall}
 use Rattle.zf_text.proofs.items.items.Given as goal
 
 -- the items so far, and those that are left, are the whole

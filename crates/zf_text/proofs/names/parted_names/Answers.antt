@@ -1,6 +1,4 @@
-use Rattle.std.proofs.Common.{rules, arith}
-use Rattle.std.proofs.lemmas.Grind.{common_steps}
-use Rattle.zf_text.specs.Reading.{parted, parted_from, read_name}
+use Rattle.zf_text.proofs.Prelude.{arith, rules, common_steps, read_name, parted, parted_from}
 use Rattle.zf_text.proofs.Turns.{one_more, no_more}
 use Rattle.zf_text.proofs.names.parted_names.Goals as goal
 

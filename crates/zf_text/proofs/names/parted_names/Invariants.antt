@@ -1,5 +1,4 @@
-use Rattle.std.proofs.Common.{◌≡◌, ◌-◌}
-use Rattle.zf_text.specs.Reading.{parted, parted_from, read_name}
+use Rattle.zf_text.proofs.Prelude.{◌-◌, ◌≡◌, read_name, parted, parted_from}
 use Rattle.zf_text.proofs.names.parted_names.Given as goal
 
 -- the names so far, and those that are left, are the whole

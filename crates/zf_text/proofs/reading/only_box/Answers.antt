@@ -1,7 +1,4 @@
-use Rattle.std.proofs.Common.{◌≡◌, ◌∙◌, map, ap, subst}
-use Rattle.zf_scan.specs.Placing.{symbol_at, token_at}
-use Rattle.zf_scan.specs.Separators.{reduced}
-use Rattle.zf_text.specs.BoxByBox.{ReadsOneBox}
+use Rattle.zf_text.proofs.Prelude.{◌∙◌, ◌≡◌, ap, map, subst, symbol_at, token_at, reduced, ReadsOneBox}
 use Rattle.zf_text.proofs.BoxByBox.{one_box}
 use Rattle.zf_text.proofs.reading.only_box.Goals as goal
 

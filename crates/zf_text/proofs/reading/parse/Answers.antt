@@ -1,5 +1,4 @@
-use Rattle.std.proofs.Common.{◌∙◌, map, sym, ap}
-use Rattle.zf_scan.specs.Placing.{symbol_at}
+use Rattle.zf_text.proofs.Prelude.{◌∙◌, ap, map, sym, symbol_at}
 use Rattle.zf_text.proofs.reading.parse.Goals as goal
 
 pub returns : goal.returns

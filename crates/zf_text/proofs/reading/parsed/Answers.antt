@@ -1,10 +1,4 @@
-use Rattle.std.proofs.Common.{◌≡◌, ◌∙◌, map, ap, Ok, subst, rules}
-use Rattle.zf_text.specs.BoxReading.{read_all}
-use Rattle.zf_text.specs.Height.{height_limit}
-use Rattle.zf_text.specs.Parsing.{Refuses}
-use Rattle.zf_scan.specs.Placing.{symbol_at}
-use Rattle.zf_scan.specs.Separators.{reduced}
-use Rattle.zf_text.specs.TermReading.{Fails}
+use Rattle.zf_text.proofs.Prelude.{◌∙◌, ◌≡◌, ap, map, Ok, rules, subst, symbol_at, reduced, read_all, height_limit, Refuses, Fails}
 use Rattle.zf_text.proofs.Answers.{parsed, refused}
 use Rattle.zf_text.proofs.Reducing.{same_reduced}
 use Rattle.zf_text.proofs.reading.parsed.Goals as goal

@@ -1,5 +1,4 @@
-use Rattle.std.proofs.Common.{map, sym, ◌∙◌, ◌++◌}
-use Rattle.zf_scan.specs.Placing.{token_at}
+use Rattle.zf_text.proofs.Prelude.{◌++◌, ◌∙◌, map, sym, token_at}
 use Rattle.zf_text.proofs.BoxByBox.{unmoved, added, refused_there, none_there, some_there, no_tokens, some_tokens}
 use Rattle.zf_text.proofs.reading.push_next.Goals as goal
 

@@ -1,5 +1,4 @@
-use Rattle.std.proofs.Common.{length, ◌-◌}
-use Rattle.zf_text.specs.BoxByBox.{ReadsUpTo}
+use Rattle.zf_text.proofs.Prelude.{◌-◌, length, ReadsUpTo}
 use Rattle.zf_text.proofs.reading.read_spec.Given as goal
 
 -- the boxes so far are those up to the border

@@ -1,7 +1,4 @@
-use Rattle.std.proofs.Common.{◌≡◌, ◌∙◌, ◌+◌, ◌<◌, ℕ, List, ◌∷◌, drop, length, map, sym, ap, refl, arith, rules, true}
-use Rattle.std.specs.Prelude.{◌||◌}
-use Rattle.zf_scan.specs.Placing.{token_at, symbol_at}
-use Rattle.zf_scan.specs.Separators.{reduced_after, starts_closed}
+use Rattle.zf_text.proofs.Prelude.{◌+◌, ◌<◌, ◌∙◌, ◌∷◌, ◌≡◌, ap, arith, drop, length, List, map, refl, rules, sym, true, ℕ, ◌||◌, symbol_at, token_at, reduced_after, starts_closed}
 use Rattle.zf_text.proofs.Reducing.{Reduced, left_out, stored, at_separator, at_needless, at_other, head, moved, rest_taken}
 use Rattle.zf_text.proofs.reading.reduce.Goals as goal
 use Rattle.zf_text.proofs.reading.reduce.Goals.{then-is_separator+then-not-drops+then-not-starts_closed, then-is_separator+else-not-drops, else-not-drops-via-then-not-drops+else-not-starts_closed, else-not-drops-via-else-not-drops, else-is_separator}

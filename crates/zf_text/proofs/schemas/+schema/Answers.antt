@@ -1,5 +1,4 @@
-use Rattle.std.proofs.Common.{arith}
-use Rattle.zf_text.specs.BoxReading.{read_schema}
+use Rattle.zf_text.proofs.Prelude.{arith, read_schema}
 use Rattle.zf_text.proofs.Turns.{deeper}
 use Rattle.zf_text.proofs.schemas.+schema.Goals as goal
 

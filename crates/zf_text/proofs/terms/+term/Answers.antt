@@ -1,5 +1,4 @@
-use Rattle.std.proofs.Common.{arith}
-use Rattle.zf_text.specs.TermReading.{read_term}
+use Rattle.zf_text.proofs.Prelude.{arith, read_term}
 use Rattle.zf_text.proofs.Turns.{deeper}
 use Rattle.zf_text.proofs.terms.+term.Goals as goal
 

@@ -1,6 +1,4 @@
-use Rattle.std.proofs.Common.{sym, ◌∙◌, arith}
-use Rattle.std.proofs.lemmas.Bool.Decides.{Decides-eqb}
-use Rattle.std.proofs.lemmas.Slice.Eq.{slice_eq-Decides}
+use Rattle.zf_texts.proofs.Prelude.{◌∙◌, arith, sym, Decides-eqb, slice_eq-Decides}
 use Rattle.zf_texts.proofs.Numbers.{never_both}
 use Rattle.zf_texts.proofs.SpelledTypes.{name_got, none_so_far}
 use Rattle.zf_texts.proofs.elements.named.Goals as goal

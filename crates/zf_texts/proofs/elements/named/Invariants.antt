@@ -1,7 +1,5 @@
 -- None of the names so far is the word.
-use Rattle.std.proofs.Common.{◌≡◌, ◌<◌, ℕ}
-use Rattle.std.specs.Prelude.{slice_get}
-use Rattle.zf_texts.specs.Spellings.{or_empty}
+use Rattle.zf_texts.proofs.Prelude.{◌<◌, ◌≡◌, ℕ, slice_get, or_empty}
 use Rattle.zf_texts.proofs.elements.named.Given as goal
 
 abbrev pub invariant-loop-place : goal.invariant-loop-place

@@ -1,5 +1,4 @@
-use Rattle.std.proofs.Common.{sym, ap, ◌∙◌}
-use Rattle.zf_texts.specs.declared.spelling.Spelling.TheVariants.{Numbered, Named}
+use Rattle.zf_texts.proofs.Prelude.{◌∙◌, ap, sym, Named, Numbered}
 use Rattle.zf_texts.proofs.SpelledTypes.{among_numbered, among_named}
 use Rattle.zf_texts.proofs.elements.place_among.Goals as goal
 

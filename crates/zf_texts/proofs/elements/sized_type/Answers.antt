@@ -1,6 +1,4 @@
-use Rattle.std.proofs.Common.{sym, ◌∙◌, arith, subst}
-use Rattle.zf_meaning.specs.Envs.{environment_of}
-use Rattle.zf_texts.specs.Steps.{HasNoElements}
+use Rattle.zf_texts.proofs.Prelude.{◌∙◌, arith, subst, sym, environment_of, HasNoElements}
 use Rattle.zf_texts.proofs.SpelledTypes.{too_large, unsized, unspelled}
 use Rattle.zf_texts.proofs.elements.sized_type.Goals as goal
 

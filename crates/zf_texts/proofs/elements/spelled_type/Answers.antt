@@ -1,7 +1,4 @@
-use Rattle.std.proofs.Common.{sym, ap, ◌∙◌}
-use Rattle.zf_meaning.specs.Environments.{found_number}
-use Rattle.zf_meaning.specs.Envs.{environment_of}
-use Rattle.zf_term.specs.FirstNamed.{first_named}
+use Rattle.zf_texts.proofs.Prelude.{◌∙◌, ap, sym, first_named, found_number, environment_of}
 use Rattle.zf_texts.proofs.SpelledTypes.{typed_by, unnamed}
 use Rattle.zf_texts.proofs.elements.spelled_type.Goals as goal
 

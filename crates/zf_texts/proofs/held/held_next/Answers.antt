@@ -1,5 +1,4 @@
-use Rattle.zf_meaning.specs.Envs.{environment_of}
-use Rattle.zf_term.specs.Definitions.{comp_of}
+use Rattle.zf_texts.proofs.Prelude.{comp_of, environment_of}
 use Rattle.zf_texts.proofs.HeldSoFar.{nothing_held}
 use Rattle.zf_texts.proofs.Misfits.{passed}
 use Rattle.zf_texts.proofs.held.held_next.Goals as goal

@@ -1,7 +1,4 @@
-use Rattle.std.proofs.Common.{List, Option, Vec, Global, length, map, sym, ap, subst, arith}
-use Rattle.zf_meaning.specs.Envs.{environment_of}
-use Rattle.zf_term.specs.Definitions.{comp_of}
-use Rattle.zf_value.specs.declared.value.Value.{Value}
+use Rattle.zf_texts.proofs.Prelude.{ap, arith, Global, length, List, map, Option, subst, sym, Vec, Value, comp_of, environment_of}
 use Rattle.zf_texts.proofs.HeldSoFar.{HeldSoFar, held_begun, held_read, no_value, none_further, turn_skipped, turn_taken}
 use Rattle.zf_texts.proofs.Misfits.{passed}
 use Rattle.zf_texts.proofs.OneHeld.{held_regular}

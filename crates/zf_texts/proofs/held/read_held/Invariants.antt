@@ -1,7 +1,5 @@
 -- What is read so far.
-use Rattle.std.proofs.Common.{◌≤◌, map, drop, length}
-use Rattle.zf_meaning.specs.Envs.{environment_of}
-use Rattle.zf_term.specs.Definitions.{comp_of}
+use Rattle.zf_texts.proofs.Prelude.{◌≤◌, drop, length, map, comp_of, environment_of}
 use Rattle.zf_texts.proofs.HeldSoFar.{HeldSoFar}
 use Rattle.zf_texts.proofs.held.read_held.Given as goal
 

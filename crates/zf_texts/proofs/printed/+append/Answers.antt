@@ -1,6 +1,4 @@
-use Rattle.std.proofs.Common.{◌++◌, map, sym, ap, ◌∙◌, arith}
-use Rattle.zf_texts.specs.Steps.{goes_on}
-use Rattle.zf_texts.specs.ValueTexts.{parted, value_text}
+use Rattle.zf_texts.proofs.Prelude.{◌++◌, ◌∙◌, ap, arith, map, sym, goes_on, parted, value_text}
 use Rattle.zf_texts.proofs.Printing.{begun, map-drop, drop-end, ahead-more, finished}
 use Rattle.zf_texts.proofs.printed.+append.Goals as goal
 

@@ -1,6 +1,4 @@
-use Rattle.std.proofs.Common.{◌≡◌, ◌++◌, map, drop}
-use Rattle.zf_texts.specs.Steps.{goes_on}
-use Rattle.zf_texts.specs.ValueTexts.{parted, value_text}
+use Rattle.zf_texts.proofs.Prelude.{◌++◌, ◌≡◌, drop, map, goes_on, parted, value_text}
 use Rattle.zf_texts.proofs.printed.+append.Given as goal
 
 abbrev pub invariant-append_parts-loop-place : goal.invariant-append_parts-loop-place

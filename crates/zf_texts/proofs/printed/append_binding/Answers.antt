@@ -1,7 +1,4 @@
-use Rattle.std.proofs.Common.{◌++◌, map, drop, refl, sym, ap, ◌∙◌, arith, length}
-use Rattle.zf_term.specs.Definitions.{comp_of}
-use Rattle.zf_texts.specs.BindingTexts.{component_texts}
-use Rattle.zf_texts.specs.Steps.{goes_on}
+use Rattle.zf_texts.proofs.Prelude.{◌++◌, ◌∙◌, ap, arith, drop, length, map, refl, sym, comp_of, component_texts, goes_on}
 use Rattle.zf_texts.proofs.Printing.{ahead-further, texts-drop, texts-nil, drop-end, line-ended}
 use Rattle.zf_texts.proofs.printed.append_binding.Goals as goal
 

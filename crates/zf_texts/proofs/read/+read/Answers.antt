@@ -1,7 +1,4 @@
-use Rattle.std.proofs.Common.{rules, map, sym, subst, arith}
-use Rattle.zf_meaning.specs.Envs.{environment_of}
-use Rattle.zf_term.specs.Types.{types, type_of}
-use Rattle.zf_value.specs.Sets.{IsAscending}
+use Rattle.zf_texts.proofs.Prelude.{arith, map, rules, subst, sym, IsAscending, type_of, types, environment_of}
 use Rattle.zf_texts.proofs.Misfits.{passed}
 use Rattle.zf_texts.proofs.Numbers.{never_both}
 use Rattle.zf_texts.proofs.Onward.{no_separator, no_part, one_part, no_end, parts_at, no_member_separator, no_member, one_member, no_room, members_at, pushed}

@@ -1,7 +1,5 @@
 -- What is read so far.
-use Rattle.std.proofs.Common.{◌≡◌, ◌≤◌, map, drop, length}
-use Rattle.zf_meaning.specs.Envs.{environment_of}
-use Rattle.zf_term.specs.Types.{types, type_of}
+use Rattle.zf_texts.proofs.Prelude.{◌≡◌, ◌≤◌, drop, length, map, type_of, types, environment_of}
 use Rattle.zf_texts.proofs.SoFar.{PartsSoFar, MembersSoFar}
 use Rattle.zf_texts.proofs.read.+read.Given as goal
 

@@ -1,7 +1,4 @@
-use Rattle.std.proofs.Common.{List, length, map, sym, ap, subst, arith}
-use Rattle.zf_meaning.specs.Envs.{environment_of}
-use Rattle.zf_term.specs.Definitions.{comp_of}
-use Rattle.zf_value.specs.declared.value.Value.{Value}
+use Rattle.zf_texts.proofs.Prelude.{ap, arith, length, List, map, subst, sym, Value, comp_of, environment_of}
 use Rattle.zf_texts.proofs.Misfits.{passed}
 use Rattle.zf_texts.proofs.Onward.{no_further, no_component, one_component, no_more, line_read}
 use Rattle.zf_texts.proofs.SoFar.{RowSoFar, row_begun}

@@ -1,5 +1,4 @@
-use Rattle.zf_meaning.specs.Envs.{environment_of}
-use Rattle.zf_term.specs.Definitions.{comp_of}
+use Rattle.zf_texts.proofs.Prelude.{comp_of, environment_of}
 use Rattle.zf_texts.proofs.Misfits.{passed, answered}
 use Rattle.zf_texts.proofs.ValuesAt.{unnamed, unequal, unvalued}
 use Rattle.zf_texts.proofs.read.read_component.Goals as goal

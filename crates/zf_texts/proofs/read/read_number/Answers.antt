@@ -1,5 +1,4 @@
-use Rattle.zf_value.proofs.Exactly.{same}
-use Rattle.zf_meaning.specs.Envs.{environment_of}
+use Rattle.zf_texts.proofs.Prelude.{same, environment_of}
 use Rattle.zf_texts.proofs.ValuesAt.{number_at, no_number}
 use Rattle.zf_texts.proofs.read.read_number.Goals as goal
 

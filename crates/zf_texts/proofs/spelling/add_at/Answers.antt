@@ -1,7 +1,5 @@
-use Rattle.std.proofs.Common.{◌++◌, drop, suc, sym, ap, ◌∙◌, add-one}
+use Rattle.zf_texts.proofs.Prelude.{◌++◌, ◌∙◌, add-one, ap, drop, suc, sym, globals_of, spellings}
 use Rattle.std.proofs.lemmas.Result.{on_ok_weaker}
-use Rattle.zf_term.specs.Definitions.{globals_of}
-use Rattle.zf_texts.specs.Spellings.{spellings}
 use Rattle.zf_texts.proofs.Printing.{spellings-none, spellings-some}
 use Rattle.zf_texts.proofs.spelling.add_at.Goals as goal
 

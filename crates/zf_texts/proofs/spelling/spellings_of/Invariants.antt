@@ -1,6 +1,4 @@
-use Rattle.std.proofs.Common.{◌≡◌, ◌++◌, drop}
-use Rattle.zf_term.specs.Definitions.{globals_of}
-use Rattle.zf_texts.specs.Spellings.{spellings}
+use Rattle.zf_texts.proofs.Prelude.{◌++◌, ◌≡◌, drop, globals_of, spellings}
 use Rattle.zf_texts.proofs.spelling.spellings_of.Given as goal
 
 abbrev pub invariant-loop-place : goal.invariant-loop-place

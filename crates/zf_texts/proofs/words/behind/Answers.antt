@@ -1,6 +1,4 @@
-use Rattle.std.proofs.lemmas.Bool.Decides.{Decides-eqb}
-use Rattle.std.proofs.lemmas.Slice.Eq.{strip_prefix_is}
-use Rattle.zf_texts.specs.Steps.{IsNoItem}
+use Rattle.zf_texts.proofs.Prelude.{Decides-eqb, strip_prefix_is, IsNoItem}
 use Rattle.zf_texts.proofs.words.behind.Goals as goal
 
 pub returns : goal.returns

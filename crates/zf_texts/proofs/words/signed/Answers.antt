@@ -1,6 +1,4 @@
-use Rattle.std.proofs.Common.{sym, ◌∙◌}
-use Rattle.std.proofs.lemmas.Bool.Decides.{Decides-eqb}
-use Rattle.std.proofs.lemmas.Slice.Eq.{slice_eq-Decides}
+use Rattle.zf_texts.proofs.Prelude.{◌∙◌, sym, Decides-eqb, slice_eq-Decides}
 use Rattle.zf_texts.proofs.Numbers.{never_both, parsed_again, printed_same, signed_utf8, signed_unparsed, signed_other}
 use Rattle.zf_texts.proofs.words.signed.Goals as goal
 

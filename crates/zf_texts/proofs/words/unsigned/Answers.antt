@@ -1,6 +1,4 @@
-use Rattle.std.proofs.Common.{◌∙◌}
-use Rattle.std.proofs.lemmas.Bool.Decides.{Decides-eqb}
-use Rattle.std.proofs.lemmas.Slice.Eq.{slice_eq-Decides}
+use Rattle.zf_texts.proofs.Prelude.{◌∙◌, Decides-eqb, slice_eq-Decides}
 use Rattle.zf_texts.proofs.Numbers.{never_both, unsigned_utf8, unsigned_unparsed, unsigned_other}
 use Rattle.zf_texts.proofs.words.unsigned.Goals as goal
 

@@ -1,7 +1,5 @@
 -- All so far is of a word.
-use Rattle.std.proofs.Common.{◌≡◌, ◌-◌, drop, take, true}
-use Rattle.std.specs.List.{list_all}
-use Rattle.zf_texts.specs.Clear.{is_in_word}
+use Rattle.zf_texts.proofs.Prelude.{◌-◌, ◌≡◌, drop, take, true, list_all, is_in_word}
 use Rattle.zf_texts.proofs.words.word_at.Given as goal
 
 abbrev pub invariant-loop-end : goal.invariant-loop-end

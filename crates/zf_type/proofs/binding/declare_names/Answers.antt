@@ -1,14 +1,4 @@
-use Rattle.std.proofs.Common.{◌≡◌, ◌+◌, ◌++◌, [], ◌∷◌, map, drop, sym, ap, ◌∙◌, subst, refl, inl, inr, arith, List, append-nil, true≢false}
-use Rattle.std.proofs.lemmas.List.{drop_all, map-append}
-use Rattle.zf_tree.specs.declared.tree.Name.{Name}
-use Rattle.zf_term.specs.Types.{type_of}
-use Rattle.zf_term.proofs.Walk.{dropped, pushed}
-use Rattle.zf_term.specs.declared.fault.TypeFaultKind.TheVariants.{LocalTwice}
-use Rattle.zf_type.specs.Judging.{IsBound, AreNew, AreRepeated}
-use Rattle.zf_type.specs.Refusals.{IfFault}
-use Rattle.zf_type.specs.Scopes.{variable_of}
-use Rattle.zf_tree.specs.Names.{spelling}
-use Rattle.zf_type.specs.Typing.{variables}
+use Rattle.zf_type.proofs.Prelude.{◌++◌, ◌+◌, ◌∙◌, ◌∷◌, ◌≡◌, [], ap, append-nil, arith, drop, inl, inr, List, map, refl, subst, sym, true≢false, drop_all, map-append, spelling, Name, dropped, pushed, type_of, LocalTwice, AreNew, AreRepeated, IsBound, IfFault, variable_of, variables}
 use Rattle.zf_type.proofs.Bound.{one_new, one_repeated}
 use Rattle.zf_type.proofs.binding.declare_names.Goals as goal
 

@@ -1,10 +1,4 @@
-use Rattle.std.proofs.Common.{◌≡◌, ℕ, List, ◌++◌, map, drop}
-use Rattle.zf_tree.specs.declared.tree.Name.{Name}
-use Rattle.zf_term.specs.Types.{type_of}
-use Rattle.zf_term.specs.declared.fault.TypeFaultKind.{TypeFaultKind}
-use Rattle.zf_type.specs.Judging.{AreNew, AreRepeated}
-use Rattle.zf_type.specs.Scopes.{variable_of}
-use Rattle.zf_type.specs.Typing.{variables}
+use Rattle.zf_type.proofs.Prelude.{◌++◌, ◌≡◌, drop, List, map, ℕ, Name, type_of, TypeFaultKind, AreNew, AreRepeated, variable_of, variables}
 use Rattle.zf_type.proofs.binding.declare_names.Given as goal
 
 abbrev pub invariant-loop-name : goal.invariant-loop-name

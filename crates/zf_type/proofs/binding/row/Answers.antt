@@ -1,10 +1,4 @@
-use Rattle.std.proofs.Common.{◌≡◌, List, [], ◌∷◌, length, map, sym, ap, ◌∙◌, append-nil, arith}
-use Rattle.std.proofs.lemmas.Result.{IfOk-weaker}
-use Rattle.zf_term.specs.Types.{type_of}
-use Rattle.zf_term.proofs.Walk.{pushed}
-use Rattle.zf_type.specs.Judging.{var_type}
-use Rattle.zf_type.specs.Scopes.{Scope, Var, scope_of, within}
-use Rattle.zf_type.specs.Typing.{row_type}
+use Rattle.zf_type.proofs.Prelude.{◌∙◌, ◌∷◌, ◌≡◌, [], ap, append-nil, arith, length, List, map, sym, IfOk-weaker, pushed, type_of, var_type, Scope, Var, within, scope_of, row_type}
 use Rattle.zf_type.proofs.Rows.{row_ahead, none_ahead, variables_within}
 use Rattle.zf_type.proofs.binding.row.Goals as goal
 

@@ -1,7 +1,4 @@
-use Rattle.std.proofs.Common.{◌≡◌, List, ◌++◌, map, drop}
-use Rattle.zf_term.specs.Types.{Ty, type_of}
-use Rattle.zf_type.specs.Judging.{var_type}
-use Rattle.zf_type.specs.Scopes.{variable_of}
+use Rattle.zf_type.proofs.Prelude.{◌++◌, ◌≡◌, drop, List, map, Ty, type_of, var_type, variable_of}
 use Rattle.zf_type.proofs.binding.row.Given as goal
 
 abbrev pub invariant-loop-place : goal.invariant-loop-place

@@ -1,9 +1,4 @@
-use Rattle.std.proofs.Common.{◌≡◌, List, map, ◌∙◌}
-use Rattle.std.proofs.lemmas.Result.{IfOk-weaker}
-use Rattle.zf_term.specs.Types.{product, types, type_of}
-use Rattle.zf_type.specs.Judging.{var_type}
-use Rattle.zf_type.specs.Scopes.{Var}
-use Rattle.zf_type.specs.Typing.{row_type}
+use Rattle.zf_type.proofs.Prelude.{◌∙◌, ◌≡◌, List, map, IfOk-weaker, product, type_of, types, var_type, Var, row_type}
 use Rattle.zf_type.proofs.Rows.{of_many}
 use Rattle.zf_type.proofs.binding.row_of.Goals as goal
 

@@ -1,11 +1,5 @@
-use Rattle.std.proofs.Common.{◌≡◌, OnOk, ◌++◌, map, sym, ap, ◌∙◌, subst}
-use Rattle.zf_tree.specs.Trees.{tree_of}
+use Rattle.zf_type.proofs.Prelude.{◌++◌, ◌∙◌, ◌≡◌, ap, map, OnOk, subst, sym, tree_of, resolved_of, conjuncts, is_conjunction, resolved, scope_of}
 use Rattle.zf_tree.proofs.TermSeen as seen
-use Rattle.zf_term.specs.ResolvedTrees.{resolved_of}
-use Rattle.zf_term.specs.Shapes.{conjuncts}
-use Rattle.zf_type.specs.Judging.{is_conjunction}
-use Rattle.zf_type.specs.Resolving.{resolved}
-use Rattle.zf_type.specs.Scopes.{scope_of}
 use Rattle.zf_type.proofs.Conjunctions.{of_bracket, of_whole_bracket, of_both, of_neither, both_pushed}
 use Rattle.zf_type.proofs.conjuncts.+push_conjuncts.Goals as goal
 

@@ -1,6 +1,4 @@
-use Rattle.std.proofs.Common.{◌≡◌, ◌<◌, ◌-◌, length, get_or, subst, sym, ap, ◌∙◌, arith, true≢false}
-use Rattle.std.proofs.lemmas.Bool.Decides.{Decides-eqb}
-use Rattle.std.specs.Str.{bytes_eq}
+use Rattle.zf_type.proofs.Prelude.{◌-◌, ◌<◌, ◌∙◌, ◌≡◌, ap, arith, get_or, length, subst, sym, true≢false, Decides-eqb, bytes_eq}
 use Rattle.zf_type.proofs.Indexed.{IsAhead, comes_before, first_ahead, have_heads, here_ahead, next_ahead, none_ahead}
 use Rattle.zf_type.proofs.index.found_along.Goals as goal
 

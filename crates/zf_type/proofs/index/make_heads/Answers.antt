@@ -1,6 +1,4 @@
-use Rattle.std.proofs.Common.{◌≡◌, length, inl, inr, refl, arith, sym, ◌∙◌, true≢false}
-use Rattle.std.proofs.lemmas.Bool.Decides.{Decides-eqb}
-use Rattle.zf_type.specs.Buckets.{AreHeads}
+use Rattle.zf_type.proofs.Prelude.{◌∙◌, ◌≡◌, arith, inl, inr, length, refl, sym, true≢false, Decides-eqb, AreHeads}
 use Rattle.zf_type.proofs.index.make_heads.Goals as goal
 
 pub returns-in_ok-resize-clause-ok : goal.returns-in_ok-resize-clause-ok

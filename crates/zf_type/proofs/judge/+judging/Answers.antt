@@ -1,30 +1,15 @@
-use Rattle.std.proofs.Common.{◌≡◌, ℕ, List, Some, None, ◌+◌, [], ◌∷◌, ◌++◌, length, map, drop, refl, arith, append-nil, Ok, Err, sym, ap, ◌∙◌, subst, inl, inr, ⊎_elim}
+use Rattle.zf_type.proofs.Prelude.{◌++◌, ◌+◌, ◌∙◌, ◌∷◌, ◌≡◌, [], ap, append-nil, arith, drop, Err, inl, inr, length, List, map, None, Ok, refl, Some, subst, sym, ℕ, ⊎_elim, left_need, need_of, relation_rule, right_need, rule_of, part_of, tree_of, trees, Name, at_end, at_step, pushed, range_of, resolved_link_of, resolved_of, no_types, type_of, types, TypeFaultKind, Mismatch, AreNew, AreRepeated, DeclarationsOffend, Judges, JudgesPart, LinksOffend, Offends, OneOffends, SetsOffend, IfFault, resolved, resolved_all, resolved_links, resolved_ranges, lack_of, Meets, predicate, Sort, sort_of, Takes, variable_of, within, scope_of, AreLinked, AreMembers, Declare, declared, IsOf, member_need, variables}
 use Rattle.std.proofs.lemmas.List.{length-map, append_assoc}
-use Rattle.zf_tree.specs.declared.tree.Name.{Name}
-use Rattle.zf_tree.specs.Trees.{tree_of, trees, part_of}
 use Rattle.zf_tree.specs.Trees as tree
 use Rattle.zf_tree.proofs.TermSeen as seen
-use Rattle.zf_tree.specs.Operators.{relation_rule, left_need, right_need, rule_of, need_of}
 use Rattle.zf_term.proofs.Ahead.{decl_ahead, link_ahead}
 use Rattle.zf_tree.specs.declared.operator.Need.TheVariants as need
 use Rattle.zf_term.specs.ResolvedTrees as kept
-use Rattle.zf_term.specs.ResolvedTrees.{resolved_of, resolved_link_of, range_of}
 use Rattle.zf_term.proofs.ResolvedSeen as kept_seen
-use Rattle.zf_type.specs.Judging.{Judges, JudgesPart, AreNew, AreRepeated, DeclarationsOffend}
-use Rattle.zf_term.specs.declared.fault.TypeFaultKind.{TypeFaultKind}
-use Rattle.zf_term.specs.declared.fault.TypeFaultKind.TheVariants.{Mismatch}
-use Rattle.zf_type.specs.Offences.{Offends, OneOffends, LinksOffend, SetsOffend}
-use Rattle.zf_type.specs.Refusals.{IfFault}
-use Rattle.zf_type.specs.Resolving.{resolved, resolved_all, resolved_links, resolved_ranges}
-use Rattle.zf_term.specs.Types.{types, no_types, type_of}
-use Rattle.zf_term.proofs.Walk.{at_step, at_end, pushed}
-use Rattle.zf_type.specs.Typing.{IsOf, AreLinked, AreMembers, Declare, declared, member_need, variables}
 use Rattle.zf_type.proofs.Members.{lengths}
 use Rattle.zf_type.proofs.Bound.{all_apart, some_repeated}
 use Rattle.zf_type.proofs.Parts.{no_part, part_judged, part_from, row_here}
 use Rattle.zf_type.proofs.Chains.{compares}
-use Rattle.zf_type.specs.Rules.{Sort, predicate, sort_of, Meets, lack_of, Takes}
-use Rattle.zf_type.specs.Scopes.{scope_of, variable_of, within}
 use Rattle.zf_type.proofs.Judging.{judged_of, judged_as, judges_ok, if_fault, fault_of, fault_from, from_fault, from_memory, from_part, no_schema}
 use Rattle.zf_type.proofs.judge.+judging.Goals as goal
 

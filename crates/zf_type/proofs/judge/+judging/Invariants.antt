@@ -1,16 +1,5 @@
-use Rattle.std.proofs.Common.{◌≡◌, ℕ, List, [], ◌++◌, map, drop}
-use Rattle.zf_tree.specs.declared.symbol.Relation.{Relation}
-use Rattle.zf_tree.specs.Trees.{line_of, Tree, tree_of, trees, link_of, links, var_decl_of, var_decls}
+use Rattle.zf_type.proofs.Prelude.{◌++◌, ◌≡◌, [], drop, List, map, ℕ, line_of, link_of, links, Tree, tree_of, trees, var_decl_of, var_decls, Relation, range_of, resolved_link_of, resolved_of, ResolvedTree, Ty, type_of, types, TypeFaultKind, AreNew, AreRepeated, LinksOffend, OneOffends, SetsOffend, resolved_all, resolved_links, resolved_ranges, sort_of, Var, variable_of, scope_of, AreLinked, AreMembers, Declare, declared, IsOf, member_need}
 use Rattle.zf_term.specs.ResolvedTrees as kept
-use Rattle.zf_term.specs.ResolvedTrees.{ResolvedTree, range_of, resolved_link_of, resolved_of}
-use Rattle.zf_term.specs.Types.{Ty, types, type_of}
-use Rattle.zf_term.specs.declared.fault.TypeFaultKind.{TypeFaultKind}
-use Rattle.zf_type.specs.Judging.{AreNew, AreRepeated}
-use Rattle.zf_type.specs.Offences.{OneOffends, LinksOffend, SetsOffend}
-use Rattle.zf_type.specs.Rules.{sort_of}
-use Rattle.zf_type.specs.Typing.{IsOf, AreLinked, AreMembers, Declare, declared, member_need}
-use Rattle.zf_type.specs.Resolving.{resolved_all, resolved_links, resolved_ranges}
-use Rattle.zf_type.specs.Scopes.{Var, scope_of, variable_of}
 use Rattle.zf_type.proofs.judge.+judging.Given as goal
 
 abbrev pub invariant-lists::judge_all-loop-member : goal.invariant-lists::judge_all-loop-member

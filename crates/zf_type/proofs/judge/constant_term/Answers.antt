@@ -1,5 +1,4 @@
-use Rattle.std.proofs.Common.{refl}
-use Rattle.zf_tree.specs.Trees.{constant}
+use Rattle.zf_type.proofs.Prelude.{refl, constant}
 use Rattle.zf_term.proofs.ResolvedSeen as seen
 use Rattle.zf_type.proofs.Judging.{from_memory}
 use Rattle.zf_type.proofs.judge.constant_term.Goals as goal

@@ -1,5 +1,4 @@
-use Rattle.zf_tree.specs.Trees.{tree_of}
-use Rattle.zf_type.specs.Scopes.{scope_of}
+use Rattle.zf_type.proofs.Prelude.{tree_of, scope_of}
 use Rattle.zf_type.proofs.Judging.{judges_met, judges_sort, judges_term, judges_wrong}
 use Rattle.zf_type.proofs.judge.judge.Goals as goal
 

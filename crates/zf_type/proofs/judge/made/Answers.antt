@@ -1,7 +1,4 @@
-use Rattle.std.proofs.Common.{sym, ◌∙◌, subst, true≢false, Err}
-use Rattle.zf_type.specs.declared.fault.Refusal.TheVariants.{Fault}
-use Rattle.zf_term.specs.declared.fault.TypeFaultKind.TheVariants.{TooLarge}
-use Rattle.zf_type.specs.Judging.{Judges}
+use Rattle.zf_type.proofs.Prelude.{◌∙◌, Err, subst, sym, true≢false, TooLarge, Judges, Fault}
 use Rattle.zf_type.proofs.Judging.{judges_err}
 use Rattle.zf_type.proofs.judge.made.Goals as goal
 

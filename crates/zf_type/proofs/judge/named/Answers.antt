@@ -1,14 +1,5 @@
-use Rattle.std.proofs.Common.{◌≡◌, Some, None, refl, sym, ap, ◌∙◌, subst, inl, Err}
-use Rattle.zf_tree.specs.Trees.{named}
-use Rattle.zf_term.specs.ResolvedTrees.{reference}
+use Rattle.zf_type.proofs.Prelude.{◌∙◌, ◌≡◌, ap, Err, inl, None, refl, Some, subst, sym, spelling, named, reference, NotDeclared, Judges, referent, sort_of, meaning, meant, scope_of, Fault}
 use Rattle.zf_term.proofs.ResolvedSeen as seen
-use Rattle.zf_type.specs.declared.fault.Refusal.TheVariants.{Fault}
-use Rattle.zf_term.specs.declared.fault.TypeFaultKind.TheVariants.{NotDeclared}
-use Rattle.zf_type.specs.Resolving.{referent}
-use Rattle.zf_type.specs.Rules.{sort_of}
-use Rattle.zf_type.specs.Scopes.{scope_of, meant, meaning}
-use Rattle.zf_tree.specs.Names.{spelling}
-use Rattle.zf_type.specs.Judging.{Judges}
 use Rattle.zf_type.proofs.Judging.{judges_err, from_memory}
 use Rattle.zf_type.proofs.judge.named.Goals as goal
 

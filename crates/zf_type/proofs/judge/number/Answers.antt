@@ -1,8 +1,6 @@
-use Rattle.std.proofs.Common.{refl, ap}
-use Rattle.zf_tree.specs.Trees.{numeral}
+use Rattle.zf_type.proofs.Prelude.{ap, refl, numeral, typed}
 use Rattle.zf_term.proofs.ResolvedSeen as seen
 use Rattle.zf_term.proofs.TypesSeen.{of-Int}
-use Rattle.zf_type.specs.Rules.{typed}
 use Rattle.zf_type.proofs.judge.number.Goals as goal
 
 pub returns : goal.returns

@@ -1,7 +1,4 @@
-use Rattle.std.proofs.Common.{sym, ◌∙◌, subst, true≢false, Err}
-use Rattle.zf_type.specs.declared.fault.Refusal.TheVariants.{Fault}
-use Rattle.zf_type.specs.Judging.{Judges}
-use Rattle.zf_type.specs.Rules.{sort_of}
+use Rattle.zf_type.proofs.Prelude.{◌∙◌, Err, subst, sym, true≢false, Judges, sort_of, Fault}
 use Rattle.zf_type.proofs.Judging.{judges_ok, judges_err, misplaced}
 use Rattle.zf_type.proofs.judge.placed.Goals as goal
 

@@ -1,5 +1,4 @@
-use Rattle.std.proofs.lemmas.Result.{IfOk-weaker}
-use Rattle.zf_type.specs.Rules.{IsMade, sort_of}
+use Rattle.zf_type.proofs.Prelude.{IfOk-weaker, sort_of, IsMade}
 use Rattle.zf_type.proofs.Taken.{IsAlike, alike, compared}
 use Rattle.zf_type.proofs.rules.combine.Goals as goal
 

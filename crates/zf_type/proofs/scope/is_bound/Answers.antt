@@ -1,6 +1,4 @@
-use Rattle.std.proofs.Common.{map, refl, sym, ap, ◌∙◌}
-use Rattle.zf_type.specs.Scopes.{variable_of}
-use Rattle.zf_term.specs.FirstNamed.{found_as}
+use Rattle.zf_type.proofs.Prelude.{◌∙◌, ap, map, refl, sym, found_as, variable_of}
 use Rattle.zf_type.proofs.Bound.{some_bound, none_bound}
 use Rattle.zf_type.proofs.scope.is_bound.Goals as goal
 

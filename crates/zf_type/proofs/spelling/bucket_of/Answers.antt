@@ -1,7 +1,5 @@
-use Rattle.std.proofs.Common.{◌+◌, ◌*◌, ◌∷◌, drop, refl, sym, ap, ◌∙◌, arith}
-use Rattle.std.proofs.lemmas.List.{at_drop_more, drop_all}
+use Rattle.zf_type.proofs.Prelude.{◌*◌, ◌+◌, ◌∙◌, ◌∷◌, ap, arith, drop, refl, sym, at_drop_more, drop_all, bucket_from, bucket}
 use Rattle.std.proofs.lemmas.Nat.{mod_below}
-use Rattle.zf_type.specs.Buckets.{bucket_from, bucket}
 use Rattle.zf_type.proofs.spelling.bucket_of.Goals as goal
 
 pub loop-byte-init : goal.loop-byte-init

@@ -1,5 +1,4 @@
-use Rattle.std.proofs.Common.{◌≡◌, ◌<◌, drop}
-use Rattle.zf_type.specs.Buckets.{bucket_from, bucket}
+use Rattle.zf_type.proofs.Prelude.{◌<◌, ◌≡◌, drop, bucket_from, bucket}
 use Rattle.zf_type.proofs.spelling.bucket_of.Given as goal
 
 abbrev pub invariant-loop-byte : goal.invariant-loop-byte

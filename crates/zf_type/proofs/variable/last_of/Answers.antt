@@ -1,6 +1,4 @@
-use Rattle.std.proofs.Common.{◌≡◌, ◌-◌, true, false, if◌then◌else◌, Some, map, take, arith, sym, ◌∙◌, ap}
-use Rattle.std.specs.Str.{bytes_eq}
-use Rattle.zf_type.specs.Scopes.{variable_of, last_named}
+use Rattle.zf_type.proofs.Prelude.{if◌then◌else◌, ◌-◌, ◌∙◌, ◌≡◌, ap, arith, false, map, Some, sym, take, true, bytes_eq, last_named, variable_of}
 use Rattle.zf_type.proofs.Named.{last_at}
 use Rattle.zf_type.proofs.variable.last_of.Goals as goal
 

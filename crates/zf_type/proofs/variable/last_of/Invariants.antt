@@ -1,5 +1,4 @@
-use Rattle.std.proofs.Common.{◌≡◌, ◌≤◌, map, take, length}
-use Rattle.zf_type.specs.Scopes.{variable_of, last_named}
+use Rattle.zf_type.proofs.Prelude.{◌≡◌, ◌≤◌, length, map, take, last_named, variable_of}
 use Rattle.zf_type.proofs.variable.last_of.Given as goal
 
 abbrev pub invariant-loop-place : goal.invariant-loop-place

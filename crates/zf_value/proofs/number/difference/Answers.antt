@@ -1,6 +1,4 @@
-use Rattle.std.proofs.Common.{ℤ}
-use Rattle.std.specs.Prelude.{◌-ℤ◌}
-use Rattle.zf_value.specs.Numbers.{IsDifference}
+use Rattle.zf_value.proofs.Prelude.{ℤ, ◌-ℤ◌, IsDifference}
 use Rattle.zf_value.proofs.Exactly.{checked, both_same}
 use Rattle.zf_value.proofs.number.difference.Goals as goal
 

@@ -1,5 +1,4 @@
-use Rattle.std.proofs.Common.{rules, w64}
-use Rattle.std.specs.Prelude.{FitsSigned}
+use Rattle.zf_value.proofs.Prelude.{rules, w64, FitsSigned}
 use Rattle.zf_value.proofs.Exactly.{same}
 use Rattle.zf_value.proofs.Intervals.{between_last, between_first, between_none}
 use Rattle.zf_value.proofs.number.is_in_interval.Goals as goal

@@ -1,8 +1,6 @@
-use Rattle.std.proofs.Common.{arith, subst, sym}
+use Rattle.zf_value.proofs.Prelude.{arith, subst, sym, ints, SET_MAX}
 use Rattle.std.specs.Prelude.{ℤ, pos, ◌+ℤ◌, FitsSigned}
 use Rattle.std.specs.Int.{w64}
-use Rattle.std.proofs.lemmas.Int.{ints}
-use Rattle.zf_value.specs.declared.TheConstants.{SET_MAX}
 use Rattle.zf_value.proofs.Exactly.{same, past_fits}
 use Rattle.zf_value.proofs.number.is_too_wide.Goals as goal
 

@@ -1,7 +1,5 @@
-use Rattle.std.proofs.Common.{rules, ◌∙◌, sym, inl, refl, to_z, of_z, w64}
+use Rattle.zf_value.proofs.Prelude.{◌∙◌, inl, of_z, refl, rules, sym, to_z, w64, int_rem, IsModulus}
 use Rattle.std.specs.Prelude.{ℤ, FitsSigned, ◌+ℤ◌}
-use Rattle.std.specs.Int.RustNames.{int_rem}
-use Rattle.zf_value.specs.Numbers.{IsModulus}
 use Rattle.zf_value.proofs.Exactly.{same, both_same, is_zero, not_zero, remainder_same, modulus_down, modulus_up}
 use Rattle.zf_value.proofs.number.modulus.Goals as goal
 

@@ -1,6 +1,4 @@
-use Rattle.std.proofs.Common.{ap}
-use Rattle.std.specs.Prelude.{neg_ℤ}
-use Rattle.zf_value.specs.Numbers.{IsNegation}
+use Rattle.zf_value.proofs.Prelude.{ap, neg_ℤ, IsNegation}
 use Rattle.zf_value.proofs.Exactly.{checked, same}
 use Rattle.zf_value.proofs.number.negation.Goals as goal
 

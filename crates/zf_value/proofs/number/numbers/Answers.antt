@@ -1,6 +1,4 @@
-use Rattle.std.proofs.Common.{◌≡◌, suc, arith, to_z, of_z, w64}
-use Rattle.std.specs.Prelude.{pos, ◌+ℤ◌, ◌<ℤ◌}
-use Rattle.std.proofs.lemmas.Int.{ints}
+use Rattle.zf_value.proofs.Prelude.{◌≡◌, arith, of_z, suc, to_z, w64, ints, ◌+ℤ◌, ◌<ℤ◌, pos}
 use Rattle.zf_value.proofs.Exactly.{same}
 use Rattle.zf_value.proofs.Intervals.{lists_none, lists_all, lists_same, number_more}
 use Rattle.zf_value.proofs.number.numbers.Goals as goal

@@ -1,5 +1,4 @@
-use Rattle.std.proofs.Common.{◌≡◌, ℕ}
-use Rattle.std.specs.Prelude.{◌+ℤ◌, pos, ◌≤ℤ◌}
+use Rattle.zf_value.proofs.Prelude.{◌≡◌, ℕ, ◌+ℤ◌, ◌≤ℤ◌, pos}
 use Rattle.zf_value.proofs.Intervals.{number_list}
 use Rattle.zf_value.proofs.number.numbers.Given as goal
 

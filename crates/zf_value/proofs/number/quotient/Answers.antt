@@ -1,8 +1,5 @@
-use Rattle.std.proofs.Common.{rules, ◌∙◌, ap, sym, subst, inl, refl, to_z, w64}
+use Rattle.zf_value.proofs.Prelude.{◌∙◌, ap, inl, refl, rules, subst, sym, to_z, w64, quot_is, rem_is, int_div, IsNegation, IsQuotient}
 use Rattle.std.specs.Prelude.{ℤ, pos, FitsSigned, ◌-ℤ◌}
-use Rattle.std.specs.Int.RustNames.{int_div}
-use Rattle.std.proofs.lemmas.Int.{quot_is, rem_is}
-use Rattle.zf_value.specs.Numbers.{IsQuotient, IsNegation}
 use Rattle.zf_value.proofs.Exactly.{checked, same, is_zero, not_zero, remainder_same, quotient_down, quotient_up, quotient_negated}
 use Rattle.zf_value.proofs.number.quotient.Goals as goal
 

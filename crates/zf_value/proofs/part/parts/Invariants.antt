@@ -1,5 +1,4 @@
-use Rattle.std.proofs.Common.{take}
-use Rattle.zf_value.specs.Steps.{IsGathered, IsPartOf}
+use Rattle.zf_value.proofs.Prelude.{take, IsPartOf, IsGathered}
 use Rattle.zf_value.proofs.part.parts.Given as goal
 
 abbrev pub invariant-loop-z : goal.invariant-loop-z

@@ -1,6 +1,4 @@
-use Rattle.std.proofs.Common.{ap, ◌∙◌, sym, subst, take, Vec, Global}
-use Rattle.zf_value.specs.declared.value.Value.{Value}
-use Rattle.zf_value.specs.Steps.{IsGathered, IsSelected}
+use Rattle.zf_value.proofs.Prelude.{◌∙◌, ap, Global, subst, sym, take, Vec, IsSelected, IsGathered, Value}
 use Rattle.zf_value.proofs.Gathered.{gathered_none, step_push, step_pass, gathered_all}
 use Rattle.zf_value.proofs.part.selected.Goals as goal
 use Rattle.zf_value.proofs.part.selected.Goals.{in-Some+in_ok-copy+in_ok-push, in_default}

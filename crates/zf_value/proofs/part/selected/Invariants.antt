@@ -1,5 +1,4 @@
-use Rattle.std.proofs.Common.{take}
-use Rattle.zf_value.specs.Steps.{IsGathered, IsSelected}
+use Rattle.zf_value.proofs.Prelude.{take, IsSelected, IsGathered}
 use Rattle.zf_value.proofs.part.selected.Given as goal
 
 abbrev pub invariant-loop-z : goal.invariant-loop-z

@@ -1,5 +1,4 @@
-use Rattle.std.proofs.Common.{sym, subst}
-use Rattle.zf_value.specs.Steps.{GivesJust, IsSelected}
+use Rattle.zf_value.proofs.Prelude.{subst, sym, IsSelected, GivesJust}
 use Rattle.zf_value.proofs.Gathered.{selected, not_kept, not_tested}
 use Rattle.zf_value.proofs.part.selected_of.Goals as goal
 

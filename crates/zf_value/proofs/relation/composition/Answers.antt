@@ -1,6 +1,4 @@
-use Rattle.std.proofs.Common.{◌+◌, sym, subst, take, Vec, Global}
-use Rattle.zf_value.specs.declared.value.Value.{Value}
-use Rattle.zf_value.specs.Steps.{IsGathered}
+use Rattle.zf_value.proofs.Prelude.{◌+◌, Global, subst, sym, take, Vec, IsGathered, Value}
 use Rattle.zf_value.proofs.Compositions.{Composes, composed_more, composed_pass, composition_made, composition_out}
 use Rattle.zf_value.proofs.Gathered.{gathered_none, gathered_same, gathered_all}
 use Rattle.zf_value.proofs.Making.{out_told}

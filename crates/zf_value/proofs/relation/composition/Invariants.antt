@@ -1,5 +1,4 @@
-use Rattle.std.proofs.Common.{take}
-use Rattle.zf_value.specs.Steps.{IsGathered}
+use Rattle.zf_value.proofs.Prelude.{take, IsGathered}
 use Rattle.zf_value.proofs.Compositions.{Composes}
 use Rattle.zf_value.proofs.relation.composition.Given as goal
 

@@ -1,6 +1,4 @@
-use Rattle.std.proofs.Common.{ap, ◌∙◌, sym, subst, take, Vec, Global}
-use Rattle.zf_value.specs.declared.value.Value.{Value}
-use Rattle.zf_value.specs.Steps.{IsGathered}
+use Rattle.zf_value.proofs.Prelude.{◌∙◌, ap, Global, subst, sym, take, Vec, IsGathered, Value}
 use Rattle.zf_value.proofs.Gathered.{gathered_none, gathered_all}
 use Rattle.zf_value.proofs.Listed.{IsTurned, inverse_made, turned_more, turned_pass}
 use Rattle.zf_value.proofs.relation.inverse.Goals as goal

@@ -1,5 +1,4 @@
-use Rattle.std.proofs.Common.{take}
-use Rattle.zf_value.specs.Steps.{IsGathered}
+use Rattle.zf_value.proofs.Prelude.{take, IsGathered}
 use Rattle.zf_value.proofs.Listed.{IsTurned}
 use Rattle.zf_value.proofs.relation.inverse.Given as goal
 

@@ -1,7 +1,4 @@
-use Rattle.std.proofs.Common.{subst}
-use Rattle.zf_value.specs.declared.part.Keep.TheVariants.{Others}
-use Rattle.zf_value.specs.declared.part.Part.TheVariants.{Whole, First}
-use Rattle.zf_value.specs.Steps.{IsGathered, IsSelected}
+use Rattle.zf_value.proofs.Prelude.{subst, IsSelected, IsGathered, Others, First, Whole}
 use Rattle.zf_value.proofs.Compositions.{overriding_made}
 use Rattle.zf_value.proofs.relation.overriding.Goals as goal
 

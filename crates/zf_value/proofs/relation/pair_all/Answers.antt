@@ -1,6 +1,4 @@
-use Rattle.std.proofs.Common.{ap, ◌∙◌, sym, subst, take, Vec, Global}
-use Rattle.zf_value.specs.declared.value.Value.{Value}
-use Rattle.zf_value.specs.Steps.{AddsPairs}
+use Rattle.zf_value.proofs.Prelude.{◌∙◌, ap, Global, subst, sym, take, Vec, AddsPairs, Value}
 use Rattle.zf_value.proofs.Compositions.{adds_none, adds_pass, adds_push, adds_all}
 use Rattle.zf_value.proofs.relation.pair_all.Goals as goal
 use Rattle.zf_value.proofs.relation.pair_all.Goals.{in-Some+in_ok-pair_of+in_ok-push, in_default}

@@ -1,5 +1,4 @@
-use Rattle.std.proofs.Common.{take}
-use Rattle.zf_value.specs.Steps.{AddsPairs}
+use Rattle.zf_value.proofs.Prelude.{take, AddsPairs}
 use Rattle.zf_value.proofs.relation.pair_all.Given as goal
 
 abbrev pub invariant-loop-z : goal.invariant-loop-z

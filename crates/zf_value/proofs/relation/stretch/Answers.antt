@@ -1,7 +1,4 @@
-use Rattle.std.proofs.Common.{rules}
-use Rattle.std.specs.Ordering.{is_lt, is_le}
-use Rattle.std.proofs.lemmas.List.Sorted.{IsPartitionPoint-from_clause}
-use Rattle.zf_value.specs.Steps.{place_beside}
+use Rattle.zf_value.proofs.Prelude.{rules, IsPartitionPoint-from_clause, is_le, is_lt, place_beside}
 use Rattle.zf_value.proofs.Stretches.{parted_before, parted_behind, in_order, related_between}
 use Rattle.zf_value.proofs.relation.stretch.Goals as goal
 

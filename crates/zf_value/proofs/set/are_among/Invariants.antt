@@ -1,5 +1,4 @@
-use Rattle.std.proofs.Common.{take}
-use Rattle.zf_value.specs.Sets.{AreAmong}
+use Rattle.zf_value.proofs.Prelude.{take, AreAmong}
 use Rattle.zf_value.proofs.set.are_among.Given as goal
 
 abbrev pub invariant-loop-z : goal.invariant-loop-z

@@ -1,6 +1,4 @@
-use Rattle.std.proofs.Common.{sym, subst, ◌∙◌}
-use Rattle.zf_value.specs.Sets.{IsRegular}
-use Rattle.zf_value.specs.declared.value.Value.{SetOf}
+use Rattle.zf_value.proofs.Prelude.{◌∙◌, subst, sym, IsRegular, SetOf}
 use Rattle.zf_value.proofs.Regulars.{regular-SetOf, regular_none}
 use Rattle.zf_value.proofs.set.empty_set.Goals as goal
 

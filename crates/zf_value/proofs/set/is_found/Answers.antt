@@ -1,6 +1,5 @@
-use Rattle.std.proofs.Common.{◌↔◌, IsTrue, rules, sym, subst}
+use Rattle.zf_value.proofs.Prelude.{◌↔◌, IsTrue, rules, subst, sym, IsMember, value_order}
 use Rattle.std.proofs.lemmas.Fn.{always_returns_same}
-use Rattle.zf_value.specs.Sets.{value_order, IsMember}
 use Rattle.zf_value.proofs.Searched.{found}
 use Rattle.zf_value.proofs.set.is_found.Goals as goal
 

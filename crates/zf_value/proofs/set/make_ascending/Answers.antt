@@ -1,5 +1,4 @@
-use Rattle.std.proofs.Common.{subst}
-use Rattle.zf_value.specs.Sets.{IsAscending}
+use Rattle.zf_value.proofs.Prelude.{subst, IsAscending}
 use Rattle.zf_value.proofs.Making.{sorted_out, same_list}
 use Rattle.zf_value.proofs.set.make_ascending.Goals as goal
 

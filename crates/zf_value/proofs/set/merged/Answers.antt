@@ -1,5 +1,4 @@
-use Rattle.std.proofs.Common.{◌⊎◌, ◌≤◌, ◌++◌, length, inl, inr, ap, ◌∙◌}
-use Rattle.std.proofs.lemmas.List.{take_rest}
+use Rattle.zf_value.proofs.Prelude.{◌++◌, ◌∙◌, ◌≤◌, ◌⊎◌, ap, inl, inr, length, take_rest}
 use Rattle.zf_value.proofs.Merged.{merging_none, merging_less, merging_equal, merging_greater, merged_all}
 use Rattle.zf_value.proofs.set.merged.Goals as goal
 use Rattle.zf_value.proofs.set.merged.Goals.{then-loop-i-test+else-j-b, else-loop-i-test}

@@ -1,5 +1,4 @@
-use Rattle.std.proofs.Common.{sym, subst}
-use Rattle.zf_value.specs.Sets.{IsRegular}
+use Rattle.zf_value.proofs.Prelude.{subst, sym, IsRegular}
 use Rattle.zf_value.proofs.Regulars.{regular-pair}
 use Rattle.zf_value.proofs.set.pair.Goals as goal
 

@@ -1,6 +1,4 @@
-use Rattle.std.proofs.Common.{◌<◌, ◌≤◌, length, ◌∙◌, arith}
-use Rattle.zf_value.specs.declared.TheConstants.{SET_MAX}
-use Rattle.zf_value.specs.Operations.{IsDisplay}
+use Rattle.zf_value.proofs.Prelude.{◌<◌, ◌∙◌, ◌≤◌, arith, length, IsDisplay, SET_MAX}
 use Rattle.zf_value.proofs.Making.{too_many, made_here}
 use Rattle.zf_value.proofs.set.set_of.Goals as goal
 

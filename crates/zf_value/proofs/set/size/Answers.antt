@@ -1,6 +1,5 @@
+use Rattle.zf_value.proofs.Prelude.{to_z-of_z, IsSize}
 use Rattle.std.proofs.Common.{sym, subst, ◌∙◌, w64, FitsSigned}
-use Rattle.std.proofs.lemmas.Int.{to_z-of_z}
-use Rattle.zf_value.specs.Operations.{IsSize}
 use Rattle.zf_value.proofs.Regulars.{regular-Int}
 use Rattle.zf_value.proofs.Exactly.{is_number}
 use Rattle.zf_value.proofs.set.size.Goals as goal

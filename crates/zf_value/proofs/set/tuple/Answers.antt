@@ -1,6 +1,4 @@
-use Rattle.std.proofs.Common.{sym, subst}
-use Rattle.zf_value.specs.Sets.{IsRegular}
-use Rattle.zf_value.specs.declared.value.Value.{Tuple}
+use Rattle.zf_value.proofs.Prelude.{subst, sym, IsRegular, Tuple}
 use Rattle.zf_value.proofs.Regulars.{regular-Tuple}
 use Rattle.zf_value.proofs.set.tuple.Goals as goal
 

@@ -1,6 +1,4 @@
-use Rattle.std.proofs.Common.{◌≡◌, ◌+◌, true, false, length, replicate, refl, rules}
-use Rattle.std.specs.Option.{option_copied}
-use Rattle.zf_walk.specs.declared.place.Place.{Place}
+use Rattle.zf_walk.proofs.Prelude.{◌+◌, ◌≡◌, false, length, refl, replicate, rules, true, option_copied, Place}
 use Rattle.zf_walk.proofs.Knowing.{setting-of, admitted}
 use Rattle.zf_walk.proofs.Answering.{IsAt-start, Knows-start, AreAllAhead-start}
 use Rattle.zf_walk.proofs.beginning.first_place.Goals as goal

@@ -1,6 +1,4 @@
-use Rattle.std.proofs.Common.{◌≡◌, ◌<◌, [], false, length, get_or, refl, sym, ap, ◌∙◌, subst, arith}
-use Rattle.std.proofs.lemmas.Bool.{eqb-true, eqb-false}
-use Rattle.zf_walk.specs.declared.place.Place.{Place}
+use Rattle.zf_walk.proofs.Prelude.{◌<◌, ◌∙◌, ◌≡◌, [], ap, arith, false, get_or, length, refl, subst, sym, eqb-false, eqb-true, Place}
 use Rattle.zf_walk.proofs.Picks.{nth-at}
 use Rattle.zf_walk.proofs.Moving.{range-is, moved-first, moved-empty}
 use Rattle.zf_walk.proofs.moves.descend.Goals as goal

@@ -1,7 +1,4 @@
-use Rattle.std.proofs.Common.{◌≡◌, ◌<◌, ◌≤◌, ◌+◌, ◌-◌, [], length, get_or, refl, sym, ◌∙◌, subst, arith}
-use Rattle.std.proofs.lemmas.List.{get_or_default}
-use Rattle.zf_walk.specs.declared.place.Place.{Place}
-use Rattle.zf_walk.specs.Steps.{Binds}
+use Rattle.zf_walk.proofs.Prelude.{◌+◌, ◌-◌, ◌<◌, ◌∙◌, ◌≡◌, ◌≤◌, [], arith, get_or, length, refl, subst, sym, get_or_default, Binds, Place}
 use Rattle.zf_walk.proofs.Picks.{nth-at}
 use Rattle.zf_walk.proofs.Moving.{range-is, moved-next, moved-last}
 use Rattle.zf_walk.proofs.moves.retreat.Goals as goal

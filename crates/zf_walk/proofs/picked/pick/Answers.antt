@@ -1,7 +1,4 @@
-use Rattle.std.proofs.Common.{◌≡◌, ◌<◌, [], length, get_or, refl, sym, ap, ◌∙◌, subst, arith}
-use Rattle.std.specs.Prelude.{slice_get}
-use Rattle.std.proofs.lemmas.List.{get_or_default}
-use Rattle.std.proofs.lemmas.Option.{slice_get_read}
+use Rattle.zf_walk.proofs.Prelude.{◌<◌, ◌∙◌, ◌≡◌, [], ap, arith, get_or, length, refl, subst, sym, get_or_default, slice_get_read, slice_get}
 use Rattle.zf_walk.proofs.Picks.{slice_get-picked}
 use Rattle.zf_walk.proofs.picked.pick.Goals as goal
 

@@ -1,7 +1,4 @@
-use Rattle.std.proofs.Common.{ltb, length, take, sym, ap, ◌∙◌}
-use Rattle.std.specs.Option.{option_copied}
-use Rattle.zf_walk.specs.Picked.{picked}
-use Rattle.zf_walk.specs.Places.{reaches, is_reached}
+use Rattle.zf_walk.proofs.Prelude.{◌∙◌, ap, length, ltb, sym, take, option_copied, picked, is_reached, reaches}
 use Rattle.zf_walk.proofs.Picks.{length-picked}
 use Rattle.zf_walk.proofs.reach.is_reached.Goals as goal
 

@@ -1,6 +1,4 @@
-use Rattle.std.proofs.Common.{sym, ap, ◌∙◌, drop, ◌+◌}
-use Rattle.zf_walk.specs.Picked.{picked}
-use Rattle.zf_walk.specs.Places.{first_of, reaches}
+use Rattle.zf_walk.proofs.Prelude.{◌+◌, ◌∙◌, ap, drop, sym, picked, first_of, reaches}
 use Rattle.zf_walk.proofs.Reaching.{reaches-drop}
 use Rattle.zf_walk.proofs.reach.reaches.Goals as goal
 

@@ -1,6 +1,4 @@
-use Rattle.std.proofs.Common.{◌≡◌, drop}
-use Rattle.zf_walk.specs.Picked.{picked}
-use Rattle.zf_walk.specs.Places.{reaches}
+use Rattle.zf_walk.proofs.Prelude.{◌≡◌, drop, picked, reaches}
 use Rattle.zf_walk.proofs.reach.reaches.Given as goal
 
 -- what is left decides

@@ -1,6 +1,4 @@
-use Rattle.std.proofs.Common.{subst}
-use Rattle.std.specs.Option.{option_copied}
-use Rattle.zf_walk.specs.Steps.{Goes}
+use Rattle.zf_walk.proofs.Prelude.{subst, option_copied, Goes}
 use Rattle.zf_walk.proofs.Knowing.{setting-of}
 use Rattle.zf_walk.proofs.Answering.{answers-on}
 use Rattle.zf_walk.proofs.steps.next_answer.Goals as goal

@@ -1,8 +1,4 @@
-use Rattle.std.proofs.Common.{◌≡◌, true}
-use Rattle.std.specs.Option.{option_copied}
-use Rattle.zf_walk.specs.Places.{steps_left, is_over}
-use Rattle.zf_walk.specs.Steps.{Keeps}
-use Rattle.zf_walk.specs.Tables.{AreTrue}
+use Rattle.zf_walk.proofs.Prelude.{◌≡◌, true, option_copied, is_over, steps_left, Keeps, AreTrue}
 use Rattle.zf_walk.proofs.steps.next_answer.Given as goal
 
 -- The same events are ahead, no test is forgotten, a walk that is over stays so, and all that is known is so.

@@ -1,8 +1,4 @@
-use Rattle.std.proofs.Common.{◌≡◌, ◌<◌, ◌≤◌, true, false, length, get_or, refl, sym, ◌∙◌, subst, arith}
-use Rattle.std.proofs.lemmas.Bool.{false≢true}
-use Rattle.std.proofs.lemmas.List.{get_or_default}
-use Rattle.zf_walk.specs.declared.place.Place.{Place}
-use Rattle.zf_walk.specs.Steps.{Moves}
+use Rattle.zf_walk.proofs.Prelude.{◌<◌, ◌∙◌, ◌≡◌, ◌≤◌, arith, false, get_or, length, refl, subst, sym, true, false≢true, get_or_default, Moves, Place}
 use Rattle.zf_walk.proofs.Knowing.{setting-of}
 use Rattle.zf_walk.proofs.Stepping.{goes-entered, goes-tested}
 use Rattle.zf_walk.proofs.Answering.{answers-over, answers-whole}

@@ -1,6 +1,4 @@
-use Rattle.std.proofs.Common.{length, sym, ap, ◌∙◌, arith}
-use Rattle.std.proofs.lemmas.List.{length-take-le}
-use Rattle.zf_walk.specs.declared.place.Place.{Place}
+use Rattle.zf_walk.proofs.Prelude.{◌∙◌, ap, arith, length, sym, length-take-le, Place}
 use Rattle.zf_walk.proofs.steps.test_next.Goals as goal
 
 pub truth_of-requires-clause-due : goal.truth_of-requires-clause-due

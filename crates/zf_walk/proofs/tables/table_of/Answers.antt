@@ -1,7 +1,4 @@
-use Rattle.std.proofs.Common.{◌≡◌, ◌+◌, ◌*◌, ℕ, List, [], ◌∷◌, ◌++◌, Vec, Global, refl, sym, ap, ◌∙◌, subst, arith}
-use Rattle.zf_walk.specs.declared.table.Used.{Used}
-use Rattle.zf_walk.specs.declared.table.Table.{Table}
-use Rattle.zf_walk.specs.Tables.{AreUsed, combinations}
+use Rattle.zf_walk.proofs.Prelude.{◌*◌, ◌++◌, ◌+◌, ◌∙◌, ◌∷◌, ◌≡◌, [], ap, arith, Global, List, refl, subst, sym, Vec, ℕ, AreUsed, combinations, Table, Used}
 use Rattle.zf_walk.proofs.Telling.{used-none, used-more, used-skip, combinations-more, table-new}
 use Rattle.zf_walk.proofs.tables.table_of.Goals as goal
 use Rattle.zf_walk.proofs.tables.table_of.Goals.{then-uses+else-not-have_room+in_ok-push, else-uses+then-count-gt1, else-uses+else-count-gt1}

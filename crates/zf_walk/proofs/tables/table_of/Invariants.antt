@@ -1,5 +1,4 @@
-use Rattle.std.proofs.Common.{◌≡◌, ◌≤◌}
-use Rattle.zf_walk.specs.Tables.{AreUsed, combinations}
+use Rattle.zf_walk.proofs.Prelude.{◌≡◌, ◌≤◌, AreUsed, combinations}
 use Rattle.zf_walk.proofs.tables.table_of.Given as goal
 
 -- The used ones of the components so far, and how many combinations of their values there are.

@@ -1,7 +1,4 @@
-use Rattle.std.proofs.Common.{refl, subst, List, map}
-use Rattle.zf_term.specs.declared.globals.Component.{Component}
-use Rattle.zf_term.specs.Definitions.{comp_of, schema_of}
-use Rattle.zf_calculus.specs.Calculus.{AreOnce}
+use Rattle.zf_calculus.proofs.Prelude.{List, map, refl, subst, comp_of, schema_of, Component, AreOnce}
 use Rattle.zf_calculus.proofs.Taken.{taken_whole}
 use Rattle.zf_calculus.proofs.growing.Growing.becomes.Goals as goal
 

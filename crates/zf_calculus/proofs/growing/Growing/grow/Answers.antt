@@ -1,7 +1,5 @@
-use Rattle.std.proofs.Common.{◌∙◌, List, refl, ap, sym, subst}
-use Rattle.zf_term.specs.Definitions.{comp_of, schema_of, Comp}
+use Rattle.zf_calculus.proofs.Prelude.{◌∙◌, ap, List, refl, subst, sym, Comp, comp_of, schema_of, grown, HasLeft}
 use Rattle.zf_calculus.specs.Calculus as calculus
-use Rattle.zf_calculus.specs.Growth.{HasLeft, grown}
 use Rattle.zf_calculus.proofs.Monotony.{left_grown, sets_passed, nodes_passed}
 use Rattle.zf_calculus.proofs.growing.Growing.grow.Goals as goal
 

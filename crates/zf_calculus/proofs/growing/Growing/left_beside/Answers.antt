@@ -1,8 +1,4 @@
-use Rattle.std.proofs.Common.{◌+◌, ◌-◌, ◌<◌, ◌≡◌, ◌≤◌, length, arith, rules}
-use Rattle.std.proofs.lemmas.List.{length-map}
-use Rattle.zf_term.specs.Definitions.{conjunct_of, schema_of}
-use Rattle.zf_calculus.specs.Calculus.{conjoined}
-use Rattle.zf_calculus.specs.Limits.{IsWithin}
+use Rattle.zf_calculus.proofs.Prelude.{◌+◌, ◌-◌, ◌<◌, ◌≡◌, ◌≤◌, arith, length, rules, length-map, conjunct_of, schema_of, conjoined, IsWithin}
 use Rattle.zf_calculus.proofs.Beside.{left_beside, nodes_beside, sets_beside}
 use Rattle.zf_calculus.proofs.growing.Growing.left_beside.Goals as goal
 

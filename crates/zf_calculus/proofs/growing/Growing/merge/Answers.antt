@@ -1,6 +1,4 @@
-use Rattle.std.proofs.Common.{map, sym, subst}
-use Rattle.zf_term.specs.Definitions.{Schema, comp_of, conjunct_of, schema_of}
-use Rattle.zf_calculus.specs.Growth.{HasLeft}
+use Rattle.zf_calculus.proofs.Prelude.{map, subst, sym, comp_of, conjunct_of, Schema, schema_of, HasLeft}
 use Rattle.zf_calculus.proofs.Beside.{both_made}
 use Rattle.zf_calculus.proofs.Placing.{are_new_places, as_many, same_places}
 use Rattle.zf_calculus.proofs.growing.Growing.merge.Goals as goal

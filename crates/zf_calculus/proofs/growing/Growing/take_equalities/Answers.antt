@@ -1,6 +1,4 @@
-use Rattle.std.proofs.Common.{arith, rules}
-use Rattle.std.proofs.lemmas.List.{get_or_default}
-use Rattle.zf_term.specs.Definitions.{schema_of, conjunct_of}
+use Rattle.zf_calculus.proofs.Prelude.{arith, rules, get_or_default, conjunct_of, schema_of}
 use Rattle.zf_calculus.proofs.Equalities.{stops_equalities}
 use Rattle.zf_calculus.proofs.Stopping.{weaker}
 use Rattle.zf_calculus.proofs.growing.Growing.take_equalities.Goals as goal

@@ -1,6 +1,4 @@
-use Rattle.std.proofs.Common.{◌≡◌, drop}
-use Rattle.zf_term.specs.Definitions.{schema_of}
-use Rattle.zf_calculus.specs.Growth.{IsGrowing, constrained, equalities}
+use Rattle.zf_calculus.proofs.Prelude.{◌≡◌, drop, schema_of, constrained, equalities, IsGrowing}
 use Rattle.zf_calculus.proofs.growing.Growing.take_equalities.Given as goal
 
 abbrev pub invariant-loop-place : goal.invariant-loop-place

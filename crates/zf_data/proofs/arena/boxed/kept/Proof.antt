@@ -1,43 +1,22 @@
 -- The pointer that `into_raw` gives goes to `from_raw`, and the right to free the block is let go.
-use Rattle.std.proofs.Common.{◌≡◌, List, [], ◌∷◌, ◌++◌, T, refl, sym, ap, ◌∙◌, subst}
-use Rattle.std.proofs.raw_atomic.Walks.{proved_at, leaves}
-use Rattle.std.proofs.alloc.Calls.{Al, token, Goes-blank}
+use Rattle.zf_data.proofs.Prelude.{◌++◌, ◌∙◌, ◌∷◌, ◌≡◌, [], ap, List, refl, subst, sym, T, Al, Goes-blank, token, leaves, proved_at, flft, fsep, ftrue, emp, ent, fst∗, id⊢, never, SProp, ◌⊑◌, ⊑_static, fact, fact_i, no, arg, bounded, layout, RattleType, block_ptr, in_a_block, null_ptr, Ptr, ptr_val, plain, heard, nothing, only, Lasts, lasts, stay_dropped, Stays, walk_of, inst_fn, a_type, dcons, Dict, dnil, impl, tcons, tnil, Ty, ty_struct, has_ty, Val, vnil, vptr, vstruct, WT, alloc_all, env, free_all, get, is, lands_as, lands_last, look_at, pass_all, sets, ◌$◌, ◌∵◌, ◌⊛◌, !, ‵, at_ret, await, by, drop, feq_i, feq_l, fjoin, fjoin3, fsplit, Item, join, keep, later, move, pick, qed, raw, some, split, split3, suffices, use0, use1, agg, and_then, blocks, enter, exec, first, no_more, of_opd, returns}
 use Rattle.std.proofs.BoxSteps.Form as box
 use Rattle.std.proofs.BoxSteps.Steps.{box_out, box_in}
 use Rattle.std.proofs.VecSteps.Shapes.{after}
 use Rattle.std.specs.Box.Ownership.{box_owns}
 use seplogic.Ra.Ura.{Ura}
-use mir.Syntax.{Ty, Dict, ty_struct, a_type, impl, dcons, dnil, tcons, tnil}
-use mir.MapTy.{inst_fn}
 use mir.Raw.{raw as bare}
-use mir.Val.{Val, vptr, vstruct, vnil, has_ty, WT}
-use base.Logic.{SProp, ent, emp, never, id⊢, fst∗}
-use base.Fml.{ftrue, fsep, flft}
 use prog.Wp.{WpFn}
 use types.Logic.{Logic, sem}
-use types.Kit.{Item, ‵, raw, ◌⊛◌, some, later, at_ret, ◌$◌, ◌∵◌, !, qed, by, move, keep, drop, split, split3, join, fsplit, fjoin, fjoin3, pick, use0, use1, await, feq_i, feq_l, suffices}
-use types.Part.{agg}
-use types.Run.{enter, of_opd, no_more, and_then, first, blocks, exec, returns}
-use types.ByLocal.{alloc_all, pass_all, free_all, look_at, get, sets, lands_as, lands_last, is, env}
-use contract.BorrowLft.{◌⊑◌, ⊑_static}
-use contract.Monad.{fact, fact_i}
 use contract.Running.{tables, tables_of}
 use denote.Builtin.{RawPtr}
-use denote.Exit.{no}
-use denote.Param.{bounded, layout, arg}
 use denote.Param.Laws.{Laws, arg_laws}
 use denote.Param.NoDrop.{glues}
-use denote.RattleType.{RattleType}
-use denote.RawPtr.{Ptr, block_ptr, null_ptr, ptr_val, in_a_block}
-use denote.Signature.{plain}
-use denote.Steps.{nothing, only, heard}
 use denote.Struct.Declared as Declared
 use denote.Struct.Struct.{Struct-Makes}
 use denote.Triple.Call.{calls_at, calls_at_last}
-use denote.Triple.Clauses.{Lasts, lasts}
 use denote.Triple.Spec.{triple_of}
 use denote.Triple.Table.{framed}
-use denote.Triple.Walked.{Stays, stay_dropped, walk_of}
 use Rattle.std.specs.contracts.boxed.Box.into_raw as into_raw
 use Rattle.std.proofs.boxed.Box.into_raw.Met as into_raw-met
 use Rattle.std.specs.contracts.boxed.Box.from_raw as from_raw

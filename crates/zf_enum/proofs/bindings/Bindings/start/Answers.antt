@@ -1,14 +1,6 @@
 -- A search begins before all events of the schema.
-use Rattle.std.proofs.Common.{List, map, ap, sym, subst, ◌∙◌}
-use Rattle.std.specs.Option.{option_copied}
+use Rattle.zf_enum.proofs.Prelude.{◌∙◌, ap, List, map, subst, sym, option_copied, Value, comp_of, conjunct_of, schema_of, resolved_of, environment_of, AreAllRanges, AreRanges, Property}
 use Rattle.zf_term.specs.declared.globals.Component.{Component}
-use Rattle.zf_term.specs.Definitions.{comp_of, conjunct_of, schema_of}
-use Rattle.zf_term.specs.ResolvedTrees.{resolved_of}
-use Rattle.zf_value.specs.declared.value.Value.{Value}
-use Rattle.zf_meaning.specs.Envs.{environment_of}
-use Rattle.zf_enum.specs.declared.property.Property.{Property}
-use Rattle.zf_enum.specs.Components.{AreAllRanges}
-use Rattle.zf_enum.specs.Ranges.{AreRanges}
 use Rattle.zf_enum.proofs.Started.{ranges_ascend, named_within, due_within, ahead_of, say_alike}
 use Rattle.zf_enum.proofs.bindings.Bindings.start.Goals as goal
 

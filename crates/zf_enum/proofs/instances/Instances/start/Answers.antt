@@ -1,25 +1,6 @@
 -- A search begins before all events of the schema.
-use Rattle.std.proofs.Common.{List, length, map, ap, sym, subst, ◌∙◌, arith}
-use Rattle.std.specs.Option.{option_copied}
-use Rattle.zf_term.specs.declared.conjunct.Conjunct.{Conjunct}
+use Rattle.zf_enum.proofs.Prelude.{◌∙◌, ap, arith, length, List, map, subst, sym, option_copied, AreAllAhead, all_ahead, SayTheSame, Grove, trees_of, HaveLeavesWithin, planted, exact, value_order, Value, comp_of, conjunct_of, schema_of, resolved_of, Conjunct, environment_of, AreAllRanges, ArePlanted, property, AreRanges, judged, with_first, Property}
 use Rattle.zf_term.specs.declared.globals.Component.{Component}
-use Rattle.zf_term.specs.Definitions.{comp_of, conjunct_of, schema_of}
-use Rattle.zf_term.specs.ResolvedTrees.{resolved_of}
-use Rattle.zf_value.specs.declared.value.Value.{Value}
-use Rattle.zf_value.specs.Sets.{value_order}
-use Rattle.zf_value.proofs.Exact.{exact}
-use Rattle.zf_walk.specs.Progress.{AreAllAhead}
-use Rattle.zf_plan.specs.Trees.{HaveLeavesWithin, planted}
-use Rattle.zf_plan.specs.Groves.{Grove, trees_of}
-use Rattle.zf_plan.specs.Alike.{SayTheSame}
-use Rattle.zf_plan.proofs.Alike.{all_ahead}
-use Rattle.zf_meaning.specs.Envs.{environment_of}
-use Rattle.zf_enum.specs.declared.property.Property.{Property}
-use Rattle.zf_enum.specs.Property.{property}
-use Rattle.zf_enum.specs.Searches.{judged, with_first}
-use Rattle.zf_enum.specs.Components.{AreAllRanges}
-use Rattle.zf_enum.specs.Planting.{ArePlanted}
-use Rattle.zf_enum.specs.Ranges.{AreRanges}
 use Rattle.zf_enum.proofs.Naming.{as_many, dues_at, first_names, named_alike}
 use Rattle.zf_enum.proofs.Started.{ranges_ascend, named_within, needs_within}
 use Rattle.zf_enum.proofs.Planted.{say_the_same, leaves_within}

@@ -1,8 +1,4 @@
-use Rattle.std.proofs.Common.{length, map, refl, ap, arith}
-use Rattle.std.proofs.lemmas.Result.{IfOk-weaker}
-use Rattle.zf_term.specs.ResolvedTrees.{resolved_of}
-use Rattle.zf_meaning.specs.Envs.{environment_of}
-use Rattle.zf_enum.specs.Property.{due_of}
+use Rattle.zf_enum.proofs.Prelude.{ap, arith, length, map, refl, IfOk-weaker, resolved_of, environment_of, due_of}
 use Rattle.zf_enum.proofs.Fixed.{side_due, candidates_left}
 use Rattle.zf_enum.proofs.Judging.{at_place}
 use Rattle.zf_enum.proofs.property.PropertyGuideKnown.narrow.Goals as goal

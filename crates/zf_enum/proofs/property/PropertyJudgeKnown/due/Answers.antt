@@ -1,5 +1,4 @@
-use Rattle.std.proofs.Common.{rules, ◌<◌, map, length, sym, subst}
-use Rattle.zf_term.specs.ResolvedTrees.{resolved_of}
+use Rattle.zf_enum.proofs.Prelude.{◌<◌, length, map, rules, subst, sym, resolved_of}
 use Rattle.zf_enum.proofs.Judging.{as_many, need_at}
 use Rattle.zf_enum.proofs.property.PropertyJudgeKnown.due.Goals as goal
 

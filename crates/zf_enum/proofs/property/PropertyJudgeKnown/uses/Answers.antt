@@ -1,5 +1,4 @@
-use Rattle.std.proofs.Common.{ap, sym, ◌∙◌}
-use Rattle.zf_enum.specs.Property.{uses_of}
+use Rattle.zf_enum.proofs.Prelude.{◌∙◌, ap, sym, uses_of}
 use Rattle.zf_enum.proofs.Judging.{at_place}
 use Rattle.zf_enum.proofs.property.PropertyJudgeKnown.uses.Goals as goal
 

@@ -1,6 +1,4 @@
-use Rattle.std.proofs.Common.{◌≡◌, ◌%◌, Some, refl, ap, ◌∙◌, subst}
-use Rattle.std.specs.Prelude.{slice_get}
-use Rattle.std.proofs.lemmas.Option.{slice_get_read}
+use Rattle.zf_lines.proofs.Prelude.{◌%◌, ◌∙◌, ◌≡◌, ap, refl, Some, subst, slice_get_read, slice_get}
 use Rattle.zf_lines.proofs.Keeping.{found}
 use Rattle.zf_lines.proofs.column.Column.find.Goals as goal
 

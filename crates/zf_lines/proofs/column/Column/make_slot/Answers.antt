@@ -1,5 +1,4 @@
-use Rattle.std.proofs.Common.{sym, subst}
-use Rattle.zf_lines.specs.Columns.{AreTexts}
+use Rattle.zf_lines.proofs.Prelude.{subst, sym, AreTexts}
 use Rattle.zf_lines.proofs.Keeping.{one_more_slot}
 use Rattle.zf_lines.proofs.column.Column.make_slot.Goals as goal
 

@@ -1,5 +1,4 @@
-use Rattle.std.proofs.Common.{◌≡◌, ℕ, List, ◌+◌, ◌-◌, length}
-use Rattle.zf_lines.specs.Columns.{Keeps}
+use Rattle.zf_lines.proofs.Prelude.{◌+◌, ◌-◌, ◌≡◌, length, List, ℕ, Keeps}
 use Rattle.zf_lines.proofs.column.Column.make_slot.Given as goal
 
 abbrev pub invariant-loop-self : goal.invariant-loop-self

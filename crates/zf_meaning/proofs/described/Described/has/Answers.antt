@@ -1,7 +1,4 @@
-use Rattle.std.proofs.Common.{◌↔◌, IsTrue, subst}
-use Rattle.zf_families.specs.Families.{IsTupleFrom}
-use Rattle.zf_value.specs.Operations.{IsSubset}
-use Rattle.zf_value.specs.Sets.{members}
+use Rattle.zf_meaning.proofs.Prelude.{◌↔◌, IsTrue, subst, IsSubset, members, IsTupleFrom}
 use Rattle.zf_meaning.proofs.Tests.{has-power, has-arrows, has-product}
 use Rattle.zf_meaning.proofs.described.Described.has.Goals as goal
 

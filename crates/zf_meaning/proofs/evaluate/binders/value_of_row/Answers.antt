@@ -1,6 +1,4 @@
-use Rattle.std.proofs.Common.{sym, subst, arith}
-use Rattle.std.proofs.lemmas.Result.{IfOk-weaker}
-use Rattle.zf_value.specs.Sets.{IsRegular}
+use Rattle.zf_meaning.proofs.Prelude.{arith, subst, sym, IfOk-weaker, IsRegular}
 use Rattle.zf_meaning.proofs.Regulars.{regular-seen, copied-more, copied-row, copied-regular}
 use Rattle.zf_meaning.proofs.evaluate.binders.value_of_row.Goals as goal
 

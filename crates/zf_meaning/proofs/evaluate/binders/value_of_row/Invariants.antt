@@ -1,5 +1,4 @@
-use Rattle.std.proofs.Common.{◌≡◌, take}
-use Rattle.zf_meaning.specs.Places.{seen}
+use Rattle.zf_meaning.proofs.Prelude.{◌≡◌, take, seen}
 use Rattle.zf_meaning.proofs.evaluate.binders.value_of_row.Given as goal
 
 abbrev pub invariant-loop-value : goal.invariant-loop-value

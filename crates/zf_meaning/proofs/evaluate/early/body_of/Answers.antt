@@ -1,7 +1,5 @@
-use Rattle.std.proofs.Common.{sym, ap, ◌∙◌, subst}
+use Rattle.zf_meaning.proofs.Prelude.{◌∙◌, ap, subst, sym, resolved_of, Refutes}
 use Rattle.zf_term.specs.declared.resolved.Resolved.TheVariants as form
-use Rattle.zf_term.specs.ResolvedTrees.{resolved_of}
-use Rattle.zf_meaning.specs.Early.{Refutes}
 use Rattle.zf_meaning.proofs.Early.{exists-refutes, exists-one-refutes}
 use Rattle.zf_meaning.proofs.evaluate.early.body_of.Goals as goal
 

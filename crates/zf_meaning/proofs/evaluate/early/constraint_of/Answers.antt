@@ -1,6 +1,4 @@
-use Rattle.std.proofs.Common.{sym, ◌∙◌, subst}
-use Rattle.zf_term.specs.ResolvedTrees.{resolved_of}
-use Rattle.zf_meaning.specs.Early.{Refutes}
+use Rattle.zf_meaning.proofs.Prelude.{◌∙◌, subst, sym, resolved_of, Refutes}
 use Rattle.zf_meaning.proofs.Early.{constraint-refutes}
 use Rattle.zf_meaning.proofs.evaluate.early.constraint_of.Goals as goal
 

@@ -1,6 +1,4 @@
-use Rattle.std.proofs.Common.{sym, subst}
-use Rattle.zf_term.specs.ResolvedTrees.{resolved_of}
-use Rattle.zf_meaning.specs.Early.{Falsifies}
+use Rattle.zf_meaning.proofs.Prelude.{subst, sym, resolved_of, Falsifies}
 use Rattle.zf_meaning.proofs.Early.{inner-falsifies}
 use Rattle.zf_meaning.proofs.evaluate.early.in_bracket.Goals as goal
 

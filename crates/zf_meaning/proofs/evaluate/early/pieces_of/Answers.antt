@@ -1,7 +1,4 @@
-use Rattle.std.proofs.Common.{sym, subst}
-use Rattle.std.specs.List.{All}
-use Rattle.std.proofs.lemmas.List.Elements.{All-nil}
-use Rattle.zf_meaning.specs.Early.{IsPiece}
+use Rattle.zf_meaning.proofs.Prelude.{subst, sym, All-nil, All, IsPiece}
 use Rattle.zf_meaning.proofs.evaluate.early.pieces_of.Goals as goal
 
 pub returns-then-not-are_many : goal.returns-then-not-are_many

@@ -1,7 +1,5 @@
-use Rattle.std.proofs.Common.{sym, ap, ◌∙◌, subst}
+use Rattle.zf_meaning.proofs.Prelude.{◌∙◌, ap, subst, sym, resolved_of, Falsifies}
 use Rattle.zf_term.specs.declared.resolved.Resolved.TheVariants as form
-use Rattle.zf_term.specs.ResolvedTrees.{resolved_of}
-use Rattle.zf_meaning.specs.Early.{Falsifies}
 use Rattle.zf_meaning.proofs.Early.{left-falsifies, right-falsifies}
 use Rattle.zf_meaning.proofs.evaluate.early.sides_of.Goals as goal
 

@@ -1,13 +1,4 @@
-use Rattle.std.proofs.Common.{rules, w64, sym, ap, ◌∙◌, subst}
-use Rattle.std.specs.Option.{IfSome}
-use Rattle.std.specs.Prelude.{FitsSigned}
-use Rattle.zf_term.specs.ResolvedTrees.{binary, resolved_of}
-use Rattle.zf_term.proofs.ResolvedSeen.{of-Binary}
-use Rattle.zf_value.specs.declared.value.Outcome.TheVariants.{Is}
-use Rattle.zf_value.specs.declared.value.Value.{Int}
-use Rattle.zf_meaning.specs.Meaning.{HasOutcome}
-use Rattle.zf_meaning.specs.Scopes.{scope_of}
-use Rattle.zf_meaning.specs.Symbols.{InfixOutcome}
+use Rattle.zf_meaning.proofs.Prelude.{◌∙◌, ap, rules, subst, sym, w64, IfSome, FitsSigned, Is, Int, of-Binary, binary, resolved_of, HasOutcome, scope_of, InfixOutcome}
 use Rattle.zf_meaning.proofs.Numeric.{both-numbers, written-both}
 use Rattle.zf_meaning.proofs.evaluate.numeric.+numbers.Goals as goal
 

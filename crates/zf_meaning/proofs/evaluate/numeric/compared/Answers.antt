@@ -1,12 +1,4 @@
-use Rattle.std.proofs.Common.{rules, w64, map, sym, subst, arith}
-use Rattle.zf_term.specs.ResolvedTrees.{chain, links, resolved_of, resolved_link_of}
-use Rattle.std.specs.Prelude.{FitsSigned}
-use Rattle.zf_value.specs.declared.value.Outcome.TheVariants.{Is}
-use Rattle.zf_value.specs.declared.value.Value.{Int}
-use Rattle.zf_meaning.specs.Meaning.{IsTruth}
-use Rattle.zf_meaning.specs.Scopes.{scope_of}
-use Rattle.zf_meaning.specs.Symbols.{Holds}
-use Rattle.zf_meaning.specs.Truths.{IsAtom}
+use Rattle.zf_meaning.proofs.Prelude.{arith, map, rules, subst, sym, w64, FitsSigned, Is, Int, chain, links, resolved_link_of, resolved_of, IsTruth, scope_of, Holds, IsAtom}
 use Rattle.zf_meaning.proofs.Numeric.{compared-told, one-link, written-both}
 use Rattle.zf_meaning.proofs.evaluate.numeric.compared.Goals as goal
 

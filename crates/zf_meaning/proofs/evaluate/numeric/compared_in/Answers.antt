@@ -1,7 +1,4 @@
-use Rattle.std.proofs.Common.{ap, ◌∙◌}
-use Rattle.zf_term.specs.ResolvedTrees.{resolved_of}
-use Rattle.zf_term.proofs.ResolvedSeen.{of-Chain}
-use Rattle.zf_meaning.specs.Scopes.{scope_of}
+use Rattle.zf_meaning.proofs.Prelude.{◌∙◌, ap, of-Chain, resolved_of, scope_of}
 use Rattle.zf_meaning.proofs.Numeric.{chain-compared}
 use Rattle.zf_meaning.proofs.evaluate.numeric.compared_in.Goals as goal
 

@@ -1,9 +1,4 @@
-use Rattle.std.proofs.Common.{sym, subst}
-use Rattle.std.specs.Option.{IfSome}
-use Rattle.zf_value.specs.declared.value.Outcome.TheVariants.{Is}
-use Rattle.zf_value.specs.declared.value.Value.{Int}
-use Rattle.zf_value.specs.Numbers.{IsSum, IsDifference, IsProduct, IsQuotient, IsModulus}
-use Rattle.zf_meaning.specs.Symbols.{InfixOutcome}
+use Rattle.zf_meaning.proofs.Prelude.{subst, sym, IfSome, IsDifference, IsModulus, IsProduct, IsSum, IsQuotient, Is, Int, InfixOutcome}
 use Rattle.zf_meaning.proofs.Numeric.{on-numbers, written-both}
 use Rattle.zf_meaning.proofs.evaluate.numeric.of_numbers.Goals as goal
 

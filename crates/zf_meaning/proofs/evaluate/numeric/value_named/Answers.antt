@@ -1,6 +1,4 @@
-use Rattle.std.proofs.Common.{refl, sym, ap, ◌∙◌}
-use Rattle.zf_meaning.specs.Environments.{outcome_in}
-use Rattle.zf_meaning.specs.Scopes.{scope_of}
+use Rattle.zf_meaning.proofs.Prelude.{◌∙◌, ap, refl, sym, outcome_in, scope_of}
 use Rattle.zf_meaning.proofs.Numeric.{found-is, found-regular}
 use Rattle.zf_meaning.proofs.Regulars.{regular-value_or}
 use Rattle.zf_meaning.proofs.evaluate.numeric.value_named.Goals as goal

@@ -1,7 +1,4 @@
-use Rattle.std.proofs.Common.{refl, sym, ap, ◌∙◌, subst}
-use Rattle.zf_value.specs.Sets.{AreRegular}
-use Rattle.zf_meaning.specs.declared.evaluate.ranges.Spread.{Spread}
-use Rattle.zf_meaning.specs.RangeSets.{spread}
+use Rattle.zf_meaning.proofs.Prelude.{◌∙◌, ap, refl, subst, sym, AreRegular, spread, Spread}
 use Rattle.zf_meaning.proofs.Gathering.{spread-push}
 use Rattle.zf_meaning.proofs.Regulars.{regular-append, regular-replicate}
 use Rattle.zf_meaning.proofs.evaluate.ranges.add.Goals as goal

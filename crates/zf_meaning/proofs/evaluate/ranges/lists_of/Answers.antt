@@ -1,5 +1,4 @@
-use Rattle.std.proofs.Common.{◌∙◌, ap}
-use Rattle.zf_value.specs.Sets.{members}
+use Rattle.zf_meaning.proofs.Prelude.{◌∙◌, ap, members}
 use Rattle.zf_meaning.proofs.Gathering.{lists-more}
 use Rattle.zf_meaning.proofs.evaluate.ranges.lists_of.Goals as goal
 

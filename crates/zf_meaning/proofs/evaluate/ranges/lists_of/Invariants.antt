@@ -1,7 +1,4 @@
-use Rattle.std.proofs.Common.{◌≡◌, map, take}
-use Rattle.zf_value.specs.Sets.{members}
-use Rattle.zf_meaning.specs.Places.{seen}
-use Rattle.zf_meaning.specs.RangeSets.{spread}
+use Rattle.zf_meaning.proofs.Prelude.{◌≡◌, map, take, members, seen, spread}
 use Rattle.zf_meaning.proofs.evaluate.ranges.lists_of.Given as goal
 
 abbrev pub invariant-loop-spread : goal.invariant-loop-spread

@@ -1,5 +1,4 @@
-use Rattle.std.proofs.Common.{◌≡◌, ◌++◌, replicate}
-use Rattle.zf_meaning.specs.Places.{seen}
+use Rattle.zf_meaning.proofs.Prelude.{◌++◌, ◌≡◌, replicate, seen}
 use Rattle.zf_meaning.proofs.evaluate.ranges.repeat.Given as goal
 
 abbrev pub invariant-loop : goal.invariant-loop

@@ -1,6 +1,4 @@
-use Rattle.std.proofs.Common.{sym, subst}
-use Rattle.zf_value.specs.Sets.{AreRegular, IsRegular}
-use Rattle.zf_value.proofs.Regulars.{regular-push}
+use Rattle.zf_meaning.proofs.Prelude.{subst, sym, regular-push, AreRegular, IsRegular}
 use Rattle.zf_meaning.proofs.gathered.Gathered.add.Goals as goal
 
 pub returns-in_ok-push-in-Is-clause-regular : goal.returns-in_ok-push-in-Is-clause-regular

@@ -1,6 +1,4 @@
-use Rattle.std.proofs.Common.{◌≡◌, ◌++◌, refl, sym, ap, ◌∙◌, eqb, false, length, rules}
-use Rattle.std.specs.List.{list_any}
-use Rattle.zf_meaning.specs.Places.{seen, picked}
+use Rattle.zf_meaning.proofs.Prelude.{◌++◌, ◌∙◌, ◌≡◌, ap, eqb, false, length, refl, rules, sym, list_any, seen, picked}
 use Rattle.zf_meaning.proofs.NextRow.{all_rows-none, bound-first, first-places, first-here}
 use Rattle.zf_meaning.proofs.rows.Rows.first.Goals as goal
 

@@ -1,6 +1,5 @@
-use Rattle.std.proofs.Common.{◌≡◌, ◌+◌, ◌-◌, ◌∷◌, ◌++◌, ℕ, List, length, take, refl, sym, ap, ◌∙◌, arith, subst}
+use Rattle.zf_meaning.proofs.Prelude.{◌++◌, ◌+◌, ◌-◌, ◌∙◌, ◌∷◌, ◌≡◌, ap, arith, length, List, refl, subst, sym, take, ℕ, seen, ArePlaces, picked, rows_after}
 use Rattle.std.specs.Vec.{with_items}
-use Rattle.zf_meaning.specs.Places.{seen, rows_after, picked, ArePlaces}
 use Rattle.zf_meaning.proofs.NextRow.{ArePlaces-length, bound-anew, places-bound, written-over}
 use Rattle.zf_meaning.proofs.rows.Rows.pass.Goals as goal
 

@@ -1,5 +1,4 @@
-use Rattle.std.proofs.Common.{cond, None, Some, sym, ap, ◌∙◌, subst}
-use Rattle.zf_plan.specs.Choosing.{IsNextChoice}
+use Rattle.zf_plan.proofs.Prelude.{◌∙◌, ap, cond, None, Some, subst, sym, IsNextChoice}
 use Rattle.zf_plan.proofs.choice.Choice.next.Goals as goal
 
 pub returns-else-self : goal.returns-else-self

@@ -1,5 +1,4 @@
-use Rattle.std.proofs.Common.{◌≡◌, length, refl, sym, subst, arith}
-use Rattle.zf_plan.specs.Groves.{Grove, trees_made, tree_of, IsOver, Grows}
+use Rattle.zf_plan.proofs.Prelude.{◌≡◌, arith, length, refl, subst, sym, Grove, Grows, IsOver, tree_of, trees_made}
 use Rattle.zf_plan.proofs.Groves.{grown, grown-still}
 use Rattle.zf_plan.proofs.forest.Forest.grow.Goals as goal
 

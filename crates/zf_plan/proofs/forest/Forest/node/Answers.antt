@@ -1,7 +1,4 @@
-use Rattle.std.proofs.Common.{◌≡◌, ◌<◌, length, refl, ap, subst, arith}
-use Rattle.std.proofs.lemmas.Option.{slice_get_read}
-use Rattle.zf_plan.specs.Trees.{tree_at}
-use Rattle.zf_plan.specs.Groves.{trees_made, tree_of}
+use Rattle.zf_plan.proofs.Prelude.{◌<◌, ◌≡◌, ap, arith, length, refl, subst, slice_get_read, tree_of, trees_made, tree_at}
 use Rattle.zf_plan.proofs.Groves.{length-made, made-at}
 use Rattle.zf_plan.proofs.forest.Forest.node.Goals as goal
 

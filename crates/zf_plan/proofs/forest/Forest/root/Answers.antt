@@ -1,5 +1,4 @@
-use Rattle.std.proofs.Common.{◌<◌, length, sym, subst}
-use Rattle.zf_plan.specs.Groves.{trees_made, trees_of}
+use Rattle.zf_plan.proofs.Prelude.{◌<◌, length, subst, sym, trees_made, trees_of}
 use Rattle.zf_plan.proofs.Groves.{root-within}
 use Rattle.zf_plan.proofs.forest.Forest.root.Goals as goal
 

@@ -1,9 +1,4 @@
-use Rattle.std.proofs.Common.{Result, Ok, Err, refl, subst}
-use Rattle.std.specs.Result.{OnErr}
-use Rattle.std.specs.Option.{option_copied}
-use Rattle.zf_plan.specs.Trees.{planted}
-use Rattle.zf_plan.specs.Groves.{trees_of}
-use Rattle.zf_plan.specs.Places.{Stands, KeepsEvents}
+use Rattle.zf_plan.proofs.Prelude.{Err, Ok, refl, Result, subst, option_copied, OnErr, trees_of, KeepsEvents, Stands, planted}
 use Rattle.zf_plan.proofs.Stepping.{setting-of, SameAhead-from, over-from}
 use Rattle.zf_plan.proofs.search.Search.advance.Goals as goal
 

@@ -1,6 +1,4 @@
-use Rattle.std.proofs.Common.{◌≡◌, ◌<◌, [], length, get_or, sym, subst, rules}
-use Rattle.std.specs.Prelude.{IsSomeAnd, IfSome, slice_get}
-use Rattle.zf_walk.proofs.Given.{placed_at, stands_there}
+use Rattle.zf_plan.proofs.Prelude.{◌<◌, ◌≡◌, [], get_or, length, rules, subst, sym, IfSome, IsSomeAnd, slice_get, placed_at, stands_there}
 use Rattle.zf_plan.proofs.search.Search.place.Goals as goal
 
 pub index-requires : goal.index-requires

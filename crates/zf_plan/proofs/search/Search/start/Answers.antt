@@ -1,10 +1,4 @@
-use Rattle.std.proofs.Common.{◌≡◌, true, None, length, replicate, refl, ap, ◌∙◌, subst, arith, rules}
-use Rattle.std.specs.Option.{option_copied}
-use Rattle.std.proofs.lemmas.Bool.{false≢true}
-use Rattle.zf_plan.specs.declared.place.Place.{Place}
-use Rattle.zf_plan.specs.Trees.{planted}
-use Rattle.zf_plan.specs.Groves.{trees_of}
-use Rattle.zf_plan.specs.Places.{IsPlan}
+use Rattle.zf_plan.proofs.Prelude.{◌∙◌, ◌≡◌, ap, arith, length, None, refl, replicate, rules, subst, true, false≢true, option_copied, trees_of, IsPlan, planted, Place}
 use Rattle.zf_plan.proofs.Stepping.{stands-first, ahead-begins}
 use Rattle.zf_plan.proofs.search.Search.start.Goals as goal
 

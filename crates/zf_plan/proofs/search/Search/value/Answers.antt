@@ -1,6 +1,4 @@
-use Rattle.std.proofs.Common.{◌<◌, length, take, sym, subst}
-use Rattle.std.specs.Prelude.{IsSomeAnd}
-use Rattle.zf_walk.proofs.Given.{placed}
+use Rattle.zf_plan.proofs.Prelude.{◌<◌, length, subst, sym, take, IsSomeAnd, placed}
 use Rattle.zf_plan.proofs.search.Search.value.Goals as goal
 
 pub pick-requires-clause-index : goal.pick-requires-clause-index

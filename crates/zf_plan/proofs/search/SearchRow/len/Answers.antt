@@ -1,6 +1,4 @@
-use Rattle.std.proofs.Common.{cond, [], length, Some, None, sym, ap, ◌∙◌}
-use Rattle.std.specs.Prelude.{unwrap_or}
-use Rattle.zf_plan.specs.Places.{path}
+use Rattle.zf_plan.proofs.Prelude.{◌∙◌, [], ap, cond, length, None, Some, sym, unwrap_or, path}
 use Rattle.zf_plan.proofs.Moving.{length-path}
 use Rattle.zf_plan.proofs.search.SearchRow.len.Goals as goal
 

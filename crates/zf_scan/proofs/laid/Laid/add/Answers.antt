@@ -1,8 +1,4 @@
-use Rattle.std.proofs.Common.{◌≡◌, ℕ, [], ◌∷◌, ◌++◌, length, sym, ap, ◌∙◌, subst, rules}
-use Rattle.zf_scan.specs.declared.next.Next.{Next}
-use Rattle.zf_scan.specs.declared.placed.Placed.{Placed}
-use Rattle.zf_scan.specs.Laying.{spelling, amount, IsLaid}
-use Rattle.zf_scan.specs.Choosing.{next_of}
+use Rattle.zf_scan.proofs.Prelude.{◌++◌, ◌∙◌, ◌∷◌, ◌≡◌, [], ap, length, rules, subst, sym, ℕ, next_of, amount, IsLaid, spelling, Next, Placed}
 use Rattle.zf_scan.proofs.LaidOut.{added}
 use Rattle.zf_scan.proofs.laid.Laid.add.Goals as goal
 

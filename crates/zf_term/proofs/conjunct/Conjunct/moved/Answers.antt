@@ -1,5 +1,4 @@
-use Rattle.std.proofs.Common.{refl}
-use Rattle.zf_term.specs.Shapes.{numbering}
+use Rattle.zf_term.proofs.Prelude.{refl, numbering}
 use Rattle.zf_term.proofs.Places.{renumbered_again}
 use Rattle.zf_term.proofs.conjunct.Conjunct.moved.Goals as goal
 

@@ -1,5 +1,4 @@
-use Rattle.std.proofs.Common.{ap, ◌∙◌}
-use Rattle.zf_term.specs.ResolvedTrees.{resolved_of}
+use Rattle.zf_term.proofs.Prelude.{◌∙◌, ap, resolved_of}
 use Rattle.zf_term.proofs.Places.{unmoved}
 use Rattle.zf_term.proofs.conjunct.Conjunct.of.Goals as goal
 

@@ -1,7 +1,5 @@
-use Rattle.std.proofs.Common.{◌≡◌, ◌++◌, [], ◌∷◌, None, sym, ap, ◌∙◌, subst}
+use Rattle.zf_term.proofs.Prelude.{◌++◌, ◌∙◌, ◌∷◌, ◌≡◌, [], ap, None, subst, sym, definition_of, globals_of, first_named}
 use Rattle.indexmap.proofs.CallerLemmas.{insert_entry-new}
-use Rattle.zf_term.specs.Definitions.{definition_of, globals_of}
-use Rattle.zf_term.specs.FirstNamed.{first_named}
 use Rattle.zf_term.proofs.Entries.{no_entry, seen_more}
 use Rattle.zf_term.proofs.globals.Globals.define.Goals as goal
 

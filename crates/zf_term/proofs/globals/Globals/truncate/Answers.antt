@@ -1,6 +1,4 @@
-use Rattle.std.proofs.Common.{map, sym, ap, ◌∙◌}
-use Rattle.std.proofs.lemmas.List.{take-map}
-use Rattle.zf_term.specs.Definitions.{definition_of}
+use Rattle.zf_term.proofs.Prelude.{◌∙◌, ap, map, sym, take-map, definition_of}
 use Rattle.zf_term.proofs.globals.Globals.truncate.Goals as goal
 
 pub returns : goal.returns

@@ -1,5 +1,4 @@
-use Rattle.std.proofs.Common.{sym, ap, ◌∙◌, true≢false}
-use Rattle.zf_term.specs.Types.{power}
+use Rattle.zf_term.proofs.Prelude.{◌∙◌, ap, sym, true≢false, power}
 use Rattle.zf_term.proofs.TypeForms.{is_power, of_members, members_of}
 use Rattle.zf_term.proofs.ztype.ZType.is_relation.Goals as goal
 

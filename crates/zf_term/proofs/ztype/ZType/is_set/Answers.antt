@@ -1,5 +1,4 @@
-use Rattle.std.proofs.Common.{refl, ap, ◌∙◌}
-use Rattle.zf_term.specs.Types.{type_of}
+use Rattle.zf_term.proofs.Prelude.{◌∙◌, ap, refl, type_of}
 use Rattle.zf_term.proofs.TypesSeen.{of-Power}
 use Rattle.zf_term.proofs.ztype.ZType.is_set.Goals as goal
 

@@ -1,5 +1,4 @@
-use Rattle.std.proofs.Common.{◌≡◌, ◌+◌, length, true}
-use Rattle.zf_text.specs.TermReading.{begins_decl}
+use Rattle.zf_text.proofs.Prelude.{◌+◌, ◌≡◌, length, true, begins_decl}
 use Rattle.zf_text.proofs.cursor.Cursor.begins_decl.Given as goal
 
 -- the names so far leave what the symbols ahead say

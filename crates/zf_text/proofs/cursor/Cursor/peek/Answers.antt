@@ -1,5 +1,4 @@
-use Rattle.std.proofs.Common.{◌∙◌, ap}
-use Rattle.zf_text.specs.Reading.{first}
+use Rattle.zf_text.proofs.Prelude.{◌∙◌, ap, first}
 use Rattle.zf_text.proofs.Cursored.{first_at}
 use Rattle.zf_text.proofs.cursor.Cursor.peek.Goals as goal
 

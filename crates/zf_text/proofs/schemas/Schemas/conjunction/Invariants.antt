@@ -1,6 +1,5 @@
-use Rattle.std.proofs.Common.{◌≡◌, ◌+◌, ◌-◌, ◌≤◌}
+use Rattle.zf_text.proofs.Prelude.{◌+◌, ◌-◌, ◌≡◌, ◌≤◌, is_and, conjunction, joined, read_schema, schema_part}
 use Rattle.zf_tree.specs.declared.tree.SchemaExp.TheVariants as schema
-use Rattle.zf_text.specs.BoxReading.{is_and, schema_part, joined, read_schema, conjunction}
 use Rattle.zf_text.proofs.schemas.Schemas.conjunction.Given as goal
 
 -- what was read so far, and the turns that are left, are the whole

@@ -1,9 +1,5 @@
-use Rattle.std.proofs.Common.{◌≡◌, ◌≤◌, ◌<◌, ◌+◌, max, true, Ok, sym, ◌∙◌, subst, rules, arith}
-use Rattle.std.proofs.lemmas.Grind.{common_steps}
+use Rattle.zf_text.proofs.Prelude.{◌+◌, ◌<◌, ◌∙◌, ◌≡◌, ◌≤◌, arith, max, Ok, rules, subst, sym, true, common_steps, is_or, conjunction, disjunction, joined, read_schema, first, rest, Fails, here}
 use Rattle.zf_tree.specs.declared.tree.SchemaExp.TheVariants as schema
-use Rattle.zf_text.specs.BoxReading.{is_or, conjunction, joined, read_schema, disjunction}
-use Rattle.zf_text.specs.Reading.{first, rest}
-use Rattle.zf_text.specs.TermReading.{here, Fails}
 use Rattle.zf_text.proofs.SchemaTurns.{goes_on, too_high, fails}
 use Rattle.zf_text.proofs.Turns.{one_more, no_more}
 use Rattle.zf_text.proofs.schemas.Schemas.disjunction.Goals as goal

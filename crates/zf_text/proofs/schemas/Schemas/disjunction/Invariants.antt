@@ -1,7 +1,5 @@
-use Rattle.std.proofs.Common.{◌≡◌, ◌+◌, ◌-◌, ◌≤◌}
+use Rattle.zf_text.proofs.Prelude.{◌+◌, ◌-◌, ◌≡◌, ◌≤◌, is_or, conjunction, disjunction, joined, read_schema, here}
 use Rattle.zf_tree.specs.declared.tree.SchemaExp.TheVariants as schema
-use Rattle.zf_text.specs.BoxReading.{is_or, conjunction, joined, read_schema, disjunction}
-use Rattle.zf_text.specs.TermReading.{here}
 use Rattle.zf_text.proofs.schemas.Schemas.disjunction.Given as goal
 
 -- what was read so far, and the turns that are left, are the whole

@@ -1,6 +1,4 @@
-use Rattle.std.proofs.Common.{rules, arith}
-use Rattle.std.proofs.lemmas.Grind.{common_steps}
-use Rattle.zf_text.specs.TermReading.{read_term, links_from, tall}
+use Rattle.zf_text.proofs.Prelude.{arith, rules, common_steps, tall, links_from, read_term}
 use Rattle.zf_text.proofs.Turns.{one_more, no_more}
 use Rattle.zf_text.proofs.terms.Grammar.chain_links.Goals as goal
 

@@ -1,5 +1,4 @@
-use Rattle.std.proofs.Common.{◌≡◌, ◌-◌, ◌≤◌}
-use Rattle.zf_text.specs.TermReading.{read_term, chain_links, links_from, tall}
+use Rattle.zf_text.proofs.Prelude.{◌-◌, ◌≡◌, ◌≤◌, chain_links, tall, links_from, read_term}
 use Rattle.zf_text.proofs.terms.Grammar.chain_links.Given as goal
 
 -- the links so far, and those that are left, are the whole

@@ -1,9 +1,4 @@
-use Rattle.std.proofs.Common.{◌≡◌, ◌≤◌, ◌<◌, Ok, sym, ap, ◌∙◌, subst, rules, arith, ◌+◌}
-use Rattle.std.proofs.lemmas.Grind.{common_steps}
-use Rattle.zf_text.specs.Levels.{level}
-use Rattle.zf_text.specs.Reading.{first}
-use Rattle.zf_text.specs.TermReading.{read_term, role_of, binds, bound_by, place_before, longer_by, climb, Fails}
-use Rattle.zf_tree.specs.Trees.{tree_of}
+use Rattle.zf_text.proofs.Prelude.{◌+◌, ◌<◌, ◌∙◌, ◌≡◌, ◌≤◌, ap, arith, Ok, rules, subst, sym, common_steps, tree_of, level, first, binds, bound_by, Fails, longer_by, place_before, role_of, climb, read_term}
 use Rattle.zf_text.proofs.TermTurns.{goes_on, too_high, fails}
 use Rattle.zf_text.proofs.Turns.{one_more, no_more}
 use Rattle.zf_text.proofs.terms.Grammar.climb.Goals as goal

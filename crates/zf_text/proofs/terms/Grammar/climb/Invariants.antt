@@ -1,5 +1,4 @@
-use Rattle.std.proofs.Common.{◌≡◌, ◌+◌, ◌-◌, ◌≤◌}
-use Rattle.zf_text.specs.TermReading.{read_term, climb}
+use Rattle.zf_text.proofs.Prelude.{◌+◌, ◌-◌, ◌≡◌, ◌≤◌, climb, read_term}
 use Rattle.zf_text.proofs.terms.Grammar.climb.Given as goal
 
 -- what was read so far, and the turns that are left, are the whole

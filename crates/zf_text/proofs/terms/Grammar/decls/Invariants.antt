@@ -1,5 +1,4 @@
-use Rattle.std.proofs.Common.{◌≡◌, ◌-◌, ◌≤◌}
-use Rattle.zf_text.specs.TermReading.{read_term, decls, decls_from, tall}
+use Rattle.zf_text.proofs.Prelude.{◌-◌, ◌≡◌, ◌≤◌, tall, decls, decls_from, read_term}
 use Rattle.zf_text.proofs.terms.Grammar.decls.Given as goal
 
 -- the declarations so far, and those that are left, are the whole

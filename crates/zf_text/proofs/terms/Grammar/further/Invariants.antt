@@ -1,5 +1,4 @@
-use Rattle.std.proofs.Common.{◌≡◌, ◌-◌, ◌≤◌, max}
-use Rattle.zf_text.specs.TermReading.{read_term, further, further_from, tall}
+use Rattle.zf_text.proofs.Prelude.{◌-◌, ◌≡◌, ◌≤◌, max, tall, further, further_from, read_term}
 use Rattle.zf_text.proofs.terms.Grammar.further.Given as goal
 
 -- the terms so far, and those that are left, are the whole

@@ -1,7 +1,4 @@
-use Rattle.std.proofs.Common.{◌≡◌, suc, ◌+◌, ◌≤◌, arith, ap, refl}
-use Rattle.std.proofs.lemmas.Bool.{le-leb}
-use Rattle.zf_text.specs.Reading.{first}
-use Rattle.zf_text.specs.TermReading.{bound_by, binds, climb, whole}
+use Rattle.zf_text.proofs.Prelude.{◌+◌, ◌≡◌, ◌≤◌, ap, arith, refl, suc, le-leb, first, binds, bound_by, climb, whole}
 use Rattle.zf_text.proofs.terms.Grammar.whole.Goals as goal
 
 pub returns-then-binds-least-clause-value : goal.returns-then-binds-least-clause-value

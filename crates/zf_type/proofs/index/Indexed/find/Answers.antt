@@ -1,6 +1,4 @@
-use Rattle.std.proofs.Common.{map, sym, subst, ap, ◌∙◌}
-use Rattle.zf_type.specs.Buckets.{IsIndexed}
-use Rattle.zf_type.specs.Scopes.{last_named, variable_of}
+use Rattle.zf_type.proofs.Prelude.{◌∙◌, ap, map, subst, sym, IsIndexed, last_named, variable_of}
 use Rattle.zf_type.proofs.Indexed.{same_vars, vars}
 use Rattle.zf_type.proofs.index.Indexed.find.Goals as goal
 

@@ -1,7 +1,4 @@
-use Rattle.std.proofs.Common.{◌≡◌, ◌<◌, subst, sym, ap, ◌∙◌, ◌∷◌, [], arith, length}
-use Rattle.std.proofs.lemmas.List.{length-append}
-use Rattle.std.specs.Prelude.{slice_set}
-use Rattle.zf_type.specs.Buckets.{IsIndexed, bucket}
+use Rattle.zf_type.proofs.Prelude.{◌<◌, ◌∙◌, ◌∷◌, ◌≡◌, [], ap, arith, length, subst, sym, length-append, slice_set, bucket, IsIndexed}
 use Rattle.zf_type.proofs.Indexed.{have_heads, one_popped}
 use Rattle.zf_type.proofs.index.Indexed.pop.Goals as goal
 

@@ -1,8 +1,4 @@
-use Rattle.std.proofs.Common.{◌≡◌, ◌<◌, ◌+◌, ◌∷◌, [], subst, sym, ap, ◌∙◌, arith, get_or, length}
-use Rattle.std.proofs.lemmas.List.{length-append}
-use Rattle.std.specs.Prelude.{slice_set}
-use Rattle.zf_type.specs.declared.index.Chained.{Chained}
-use Rattle.zf_type.specs.Buckets.{IsIndexed, bucket}
+use Rattle.zf_type.proofs.Prelude.{◌+◌, ◌<◌, ◌∙◌, ◌∷◌, ◌≡◌, [], ap, arith, get_or, length, subst, sym, length-append, slice_set, bucket, IsIndexed, Chained}
 use Rattle.zf_type.proofs.Indexed.{with_heads, one_pushed}
 use Rattle.zf_type.proofs.index.Indexed.push.Goals as goal
 

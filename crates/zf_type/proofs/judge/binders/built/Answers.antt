@@ -1,14 +1,6 @@
-use Rattle.std.proofs.Common.{◌≡◌, refl, sym, ap, ◌∙◌, subst, inl, inr, map}
-use Rattle.std.specs.Prelude.{IfOk}
+use Rattle.zf_type.proofs.Prelude.{◌∙◌, ◌≡◌, ap, inl, inr, map, refl, subst, sym, IfOk, range_of, ranges, IsSmall, power, type_of, JudgesPart, Offends, PartOffends, typed, within, row_type}
 use Rattle.zf_tree.specs.Trees as tree
-use Rattle.zf_term.specs.Types.{power, type_of, IsSmall}
 use Rattle.zf_tree.specs.declared.operator.Need.TheVariants as need
-use Rattle.zf_term.specs.ResolvedTrees.{range_of, ranges}
-use Rattle.zf_type.specs.Judging.{JudgesPart}
-use Rattle.zf_type.specs.Offences.{Offends, PartOffends}
-use Rattle.zf_type.specs.Rules.{typed}
-use Rattle.zf_type.specs.Scopes.{within}
-use Rattle.zf_type.specs.Typing.{row_type}
 use Rattle.zf_type.proofs.Judging.{from_memory, from_fault, if_fault}
 use Rattle.zf_type.proofs.Parts.{part_fault, part_of_judged, part_constrains, builder_kept}
 use Rattle.zf_type.proofs.judge.binders.built.Goals as goal

@@ -1,8 +1,5 @@
-use Rattle.std.proofs.Common.{◌≡◌, Some, None, ap, ◌∙◌, subst}
-use Rattle.std.proofs.lemmas.Result.{IfOk-weaker}
+use Rattle.zf_type.proofs.Prelude.{◌∙◌, ◌≡◌, ap, None, Some, subst, IfOk-weaker, IsPart, resolved_part}
 use Rattle.zf_term.specs.ResolvedTrees.{part_of}
-use Rattle.zf_type.specs.Judging.{IsPart}
-use Rattle.zf_type.specs.Resolving.{resolved_part}
 use Rattle.zf_type.proofs.Parts.{none_kept, some_kept}
 use Rattle.zf_type.proofs.judge.binders.in_box.Goals as goal
 

@@ -1,11 +1,6 @@
-use Rattle.std.proofs.Common.{refl, ap, ◌∙◌, subst, inl, inr, map}
+use Rattle.zf_type.proofs.Prelude.{◌∙◌, ap, inl, inr, map, refl, subst, range_of, ranges, resolved_of, Judges, JudgesPart, Offends, PartOffends, within, IsOf}
 use Rattle.zf_tree.specs.Trees as tree
 use Rattle.zf_tree.specs.declared.operator.Need.TheVariants as need
-use Rattle.zf_term.specs.ResolvedTrees.{range_of, ranges, resolved_of}
-use Rattle.zf_type.specs.Judging.{Judges, JudgesPart}
-use Rattle.zf_type.specs.Offences.{Offends, PartOffends}
-use Rattle.zf_type.specs.Scopes.{within}
-use Rattle.zf_type.specs.Typing.{IsOf}
 use Rattle.zf_type.proofs.Judging.{from_fault, from_memory, if_fault, fault_of, judged_of}
 use Rattle.zf_type.proofs.Parts.{part_fault, part_of_judged, part_constrains, quantified_kept}
 use Rattle.zf_type.proofs.judge.binders.with_body.Goals as goal

@@ -1,9 +1,4 @@
-use Rattle.std.proofs.Common.{◌≡◌, map, refl, sym, ap, ◌∙◌, subst, arith, true≢false}
-use Rattle.zf_tree.specs.Trees.{line_of, tree_of}
-use Rattle.zf_term.specs.declared.fault.TypeFaultKind.TheVariants.{Mismatch}
-use Rattle.zf_type.specs.Judging.{DiffersAt}
-use Rattle.zf_type.specs.Refusals.{IfFault}
-use Rattle.zf_term.specs.Types.{types, type_of, power}
+use Rattle.zf_type.proofs.Prelude.{◌∙◌, ◌≡◌, ap, arith, map, refl, subst, sym, true≢false, line_of, tree_of, power, type_of, types, Mismatch, DiffersAt, IfFault}
 use Rattle.zf_type.proofs.Members.{none_first, differs_at, first_among, all_same}
 use Rattle.zf_type.proofs.judge.lists.set_of.Goals as goal
 

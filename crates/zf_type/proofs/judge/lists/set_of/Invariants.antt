@@ -1,5 +1,4 @@
-use Rattle.std.proofs.Common.{◌≡◌, ℕ, ◌<◌, get_or}
-use Rattle.zf_term.specs.Types.{type_of}
+use Rattle.zf_type.proofs.Prelude.{◌<◌, ◌≡◌, get_or, ℕ, type_of}
 use Rattle.zf_type.proofs.judge.lists.set_of.Given as goal
 
 abbrev pub invariant-loop-place : goal.invariant-loop-place

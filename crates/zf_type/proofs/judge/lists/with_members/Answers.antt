@@ -1,14 +1,7 @@
-use Rattle.std.proofs.Common.{◌≡◌, refl, ap, ◌∙◌, inl, inr, map, ℕ}
+use Rattle.zf_type.proofs.Prelude.{◌∙◌, ◌≡◌, ap, inl, inr, map, refl, ℕ, tree_of, trees, Display, type_of, types, TypeFaultKind, Mismatch, DiffersAt, Offends}
 use Rattle.zf_tree.specs.Trees as tree
-use Rattle.zf_tree.specs.Trees.{tree_of, trees}
-use Rattle.zf_tree.specs.declared.operator.Listed.TheVariants.{Display}
 use Rattle.zf_term.specs.ResolvedTrees.{resolved_of, listed, terms}
-use Rattle.zf_term.specs.Types.{types, type_of}
 use Rattle.zf_term.proofs.ResolvedSeen as seen
-use Rattle.zf_term.specs.declared.fault.TypeFaultKind.TheVariants.{Mismatch}
-use Rattle.zf_term.specs.declared.fault.TypeFaultKind.{TypeFaultKind}
-use Rattle.zf_type.specs.Offences.{Offends}
-use Rattle.zf_type.specs.Judging.{DiffersAt}
 use Rattle.zf_type.proofs.Judging.{from_memory, if_fault, from_fault}
 use Rattle.zf_type.proofs.Members.{list_differs}
 use Rattle.zf_type.proofs.judge.lists.with_members.Goals as goal

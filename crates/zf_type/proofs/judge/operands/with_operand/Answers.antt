@@ -1,8 +1,7 @@
-use Rattle.std.proofs.Common.{refl, ap, ◌∙◌, inl, inr}
+use Rattle.zf_type.proofs.Prelude.{◌∙◌, ap, inl, inr, refl, sort_of}
 use Rattle.zf_tree.specs.Trees as tree
 use Rattle.zf_term.specs.ResolvedTrees.{resolved_of, unary}
 use Rattle.zf_term.proofs.ResolvedSeen as seen
-use Rattle.zf_type.specs.Rules.{sort_of}
 use Rattle.zf_type.proofs.Judging.{from_memory, unary_taken, takes_one, takes_not_one}
 use Rattle.zf_type.proofs.judge.operands.with_operand.Goals as goal
 

@@ -1,13 +1,7 @@
-use Rattle.std.proofs.Common.{refl, sym, ap, ◌∙◌, subst, inl, inr, Err}
-use Rattle.zf_tree.specs.Operators.{rule_of}
+use Rattle.zf_type.proofs.Prelude.{◌∙◌, ap, Err, inl, inr, refl, subst, sym, rule_of, Mismatch, Judges, resolved, sort_of, IsMade, Fault}
 use Rattle.zf_tree.specs.Trees as tree
 use Rattle.zf_term.specs.ResolvedTrees.{resolved_of, binary}
 use Rattle.zf_term.proofs.ResolvedSeen as seen
-use Rattle.zf_type.specs.declared.fault.Refusal.TheVariants.{Fault}
-use Rattle.zf_term.specs.declared.fault.TypeFaultKind.TheVariants.{Mismatch}
-use Rattle.zf_type.specs.Judging.{Judges}
-use Rattle.zf_type.specs.Resolving.{resolved}
-use Rattle.zf_type.specs.Rules.{sort_of, IsMade}
 use Rattle.zf_type.proofs.Judging.{judges_err, from_memory, takes_both, takes_not}
 use Rattle.zf_type.proofs.judge.operands.with_operands.Goals as goal
 

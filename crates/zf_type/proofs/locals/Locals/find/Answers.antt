@@ -1,5 +1,4 @@
-use Rattle.std.proofs.Common.{◌+◌, Some, map, ap, ◌∙◌}
-use Rattle.zf_type.specs.Scopes.{last_named, variable_of}
+use Rattle.zf_type.proofs.Prelude.{◌+◌, ◌∙◌, ap, map, Some, last_named, variable_of}
 use Rattle.zf_type.proofs.Halves.{last_behind, none_in_many}
 use Rattle.zf_type.proofs.locals.Locals.find.Goals as goal
 

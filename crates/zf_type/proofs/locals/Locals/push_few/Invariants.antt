@@ -1,5 +1,4 @@
-use Rattle.std.proofs.Common.{◌≡◌, ◌++◌}
-use Rattle.std.specs.Vec.Iter.{into_iter_items}
+use Rattle.zf_type.proofs.Prelude.{◌++◌, ◌≡◌, into_iter_items}
 use Rattle.zf_type.proofs.Halves.{BeginsWith}
 use Rattle.zf_type.proofs.locals.Locals.push_few.Given as goal
 

@@ -1,5 +1,4 @@
-use Rattle.std.proofs.Common.{◌≡◌, ◌++◌, map}
-use Rattle.std.specs.Vec.Iter.{into_iter_items}
+use Rattle.zf_type.proofs.Prelude.{◌++◌, ◌≡◌, map, into_iter_items}
 use Rattle.zf_type.proofs.Halves.{BeginsWith}
 use Rattle.zf_type.proofs.locals.Locals.push_many.Given as goal
 

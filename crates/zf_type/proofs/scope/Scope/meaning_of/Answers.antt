@@ -1,9 +1,4 @@
-use Rattle.std.proofs.Common.{Some, sym, ◌∙◌, ap}
-use Rattle.zf_reference.specs.declared.reference.Reference.TheVariants.{Component, Local, Global}
-use Rattle.zf_term.specs.Definitions.{comp_of, entry_of}
-use Rattle.zf_term.specs.Types.{type_of}
-use Rattle.zf_type.specs.Rules.{typed}
-use Rattle.zf_type.specs.Scopes.{scope_of, variable_of}
+use Rattle.zf_type.proofs.Prelude.{◌∙◌, ap, Some, sym, Component, Global, Local, comp_of, entry_of, type_of, typed, variable_of, scope_of}
 use Rattle.zf_type.proofs.Named.{means_local, means_component, means_global, means_nothing}
 use Rattle.zf_type.proofs.scope.Scope.meaning_of.Goals as goal
 

@@ -1,5 +1,4 @@
-use Rattle.std.proofs.Common.{◌≡◌, ◌↔◌, IsTrue, sym, subst, ap, ◌∙◌}
-use Rattle.std.specs.Ordering.{is_eq}
+use Rattle.zf_value.proofs.Prelude.{◌↔◌, ◌∙◌, ◌≡◌, ap, IsTrue, subst, sym, is_eq}
 use Rattle.zf_value.proofs.Exact.{ties}
 use Rattle.zf_value.proofs.value.Value.equals.Goals as goal
 

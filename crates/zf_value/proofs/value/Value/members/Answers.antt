@@ -1,5 +1,4 @@
-use Rattle.std.proofs.Common.{sym, subst}
-use Rattle.zf_value.specs.Sets.{IsRegular, IsRegularSet}
+use Rattle.zf_value.proofs.Prelude.{subst, sym, IsRegularSet, IsRegular}
 use Rattle.zf_value.proofs.Regulars.{regular_set, regular_none}
 use Rattle.zf_value.proofs.Seen.{no_members}
 use Rattle.zf_value.proofs.value.Value.members.Goals as goal

@@ -1,5 +1,4 @@
-use Rattle.std.proofs.Common.{◌≡◌, ◌+◌, ◌-◌, ◌<◌, ◌≤◌, length, get_or, set, replicate, sym, ap, ◌∙◌, subst, arith, rules}
-use Rattle.std.proofs.lemmas.List.{get_or_default}
+use Rattle.zf_walk.proofs.Prelude.{◌+◌, ◌-◌, ◌<◌, ◌∙◌, ◌≡◌, ◌≤◌, ap, arith, get_or, length, replicate, rules, set, subst, sym, get_or_default}
 use Rattle.zf_walk.proofs.Agendas.{IsFilled, filled-none, filled-more, filled-all}
 use Rattle.zf_walk.proofs.agenda.Agenda.new.Goals as goal
 

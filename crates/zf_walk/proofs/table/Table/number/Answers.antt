@@ -1,7 +1,5 @@
-use Rattle.std.proofs.Common.{arith}
-use Rattle.zf_walk.specs.declared.table.Used.{Used}
+use Rattle.zf_walk.proofs.Prelude.{arith, number, Used}
 use Rattle.zf_walk.proofs.Numbering.{next_digit, number_small, digit_small}
-use Rattle.zf_walk.specs.Tables.{number}
 use Rattle.zf_walk.proofs.table.Table.number.Goals as goal
 
 pub overflow_mul-number : goal.overflow_mul-number

@@ -1,5 +1,4 @@
-use Rattle.std.proofs.Common.{◌≡◌, drop}
-use Rattle.zf_walk.specs.Tables.{number}
+use Rattle.zf_walk.proofs.Prelude.{◌≡◌, drop, number}
 use Rattle.zf_walk.proofs.table.Table.number.Given as goal
 
 -- the digits that are left make the whole number

@@ -1,6 +1,4 @@
-use Rattle.std.proofs.Common.{◌≡◌, ◌+◌, ℕ, List, Option, sym, subst, arith}
-use Rattle.zf_walk.specs.declared.table.Table.{Table}
-use Rattle.zf_walk.specs.Tables.{AreTables}
+use Rattle.zf_walk.proofs.Prelude.{◌+◌, ◌≡◌, arith, List, Option, subst, sym, ℕ, AreTables, Table}
 use Rattle.zf_walk.proofs.Telling.{tables-none, tables-more}
 use Rattle.zf_walk.proofs.tables.Tables.new.Goals as goal
 

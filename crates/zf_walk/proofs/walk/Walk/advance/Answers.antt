@@ -1,7 +1,5 @@
-use Rattle.std.proofs.Common.{Result, Ok, Err, refl, subst}
+use Rattle.zf_walk.proofs.Prelude.{Err, Ok, refl, Result, subst, option_copied, Keeps}
 use Rattle.std.specs.Result.{OnErr}
-use Rattle.std.specs.Option.{option_copied}
-use Rattle.zf_walk.specs.Steps.{Keeps}
 use Rattle.zf_walk.proofs.Knowing.{setting-of}
 use Rattle.zf_walk.proofs.Answering.{SameAhead-from, over-from}
 use Rattle.zf_walk.proofs.walk.Walk.advance.Goals as goal

@@ -1,5 +1,4 @@
-use Rattle.std.proofs.Common.{◌≡◌, ◌<◌, [], length, get_or, sym, subst, rules}
-use Rattle.std.specs.Prelude.{IsSomeAnd, IfSome, slice_get}
+use Rattle.zf_walk.proofs.Prelude.{◌<◌, ◌≡◌, [], get_or, length, rules, subst, sym, IfSome, IsSomeAnd, slice_get}
 use Rattle.zf_walk.proofs.Given.{placed_at, stands_there}
 use Rattle.zf_walk.proofs.walk.Walk.place.Goals as goal
 

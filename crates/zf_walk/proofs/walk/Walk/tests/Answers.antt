@@ -1,5 +1,4 @@
-use Rattle.std.specs.Option.{option_copied}
-use Rattle.zf_walk.specs.Progress.{IsBounded}
+use Rattle.zf_walk.proofs.Prelude.{option_copied, IsBounded}
 use Rattle.zf_walk.specs.Walks.{view_of}
 use Rattle.zf_walk.proofs.Answering.{tests-before_event, tests-before_end, tests-within_bound}
 use Rattle.zf_walk.proofs.Knowing.{setting-of}

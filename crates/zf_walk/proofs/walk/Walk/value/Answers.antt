@@ -1,5 +1,4 @@
-use Rattle.std.proofs.Common.{◌<◌, length, take, sym, subst}
-use Rattle.std.specs.Prelude.{IsSomeAnd}
+use Rattle.zf_walk.proofs.Prelude.{◌<◌, length, subst, sym, take, IsSomeAnd}
 use Rattle.zf_walk.proofs.Given.{placed}
 use Rattle.zf_walk.proofs.walk.Walk.value.Goals as goal
 

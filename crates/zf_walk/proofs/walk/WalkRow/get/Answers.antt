@@ -1,5 +1,4 @@
-use Rattle.std.proofs.Common.{◌≡◌, ◌<◌, ℕ, List, [], length, Option, Some, None, arith}
-use Rattle.std.specs.Prelude.{IsSomeAnd, IfSome, slice_get, unwrap_or}
+use Rattle.zf_walk.proofs.Prelude.{◌<◌, ◌≡◌, [], arith, length, List, None, Option, Some, ℕ, IfSome, IsSomeAnd, slice_get, unwrap_or}
 use Rattle.zf_walk.proofs.walk.WalkRow.get.Goals as goal
 
 some-long : {V : Type 0} (last : Option (List V)) (i : ℕ) → i < length (unwrap_or last []) → IsSomeAnd last (λ row. i < length row)

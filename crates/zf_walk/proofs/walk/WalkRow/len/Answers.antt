@@ -1,6 +1,4 @@
-use Rattle.std.proofs.Common.{cond, [], length, Some, None, sym, ap, ◌∙◌, arith}
-use Rattle.std.specs.Prelude.{unwrap_or}
-use Rattle.zf_walk.specs.Places.{path}
+use Rattle.zf_walk.proofs.Prelude.{◌∙◌, [], ap, arith, cond, length, None, Some, sym, unwrap_or, path}
 use Rattle.zf_walk.proofs.Moving.{length-front}
 use Rattle.zf_walk.proofs.walk.WalkRow.len.Goals as goal
 

@@ -1,20 +1,5 @@
 -- It answers `Err`, whatever it is asked for.
-use Rattle.std.proofs.Common.{Err, false, [], ◌∷◌, refl, w64}
-use Rattle.std.proofs.raw_atomic.Walks.{proved}
-use Rattle.std.proofs.alloc.Calls.{Answer, answer_val, Answer-typed, Answer-err}
-use base.Fml.{ftrue, flft}
-use types.Kit.{‵, raw, ◌⊛◌, ◌$◌, ◌∵◌, !, qed, done, keep, move, split, join, fjoin, use0, suffices}
-use types.Part.{agg}
-use types.Run.{enter, lit, no_more, and_then, returns}
-use types.ByLocal.{alloc_all, pass_all, free_all, look_at, get, sets}
-use denote.Builtin.{usize, RefOf}
-use denote.Exit.{yes}
-use denote.Plain.{uint_vals, uint_Tells}
-use denote.RattleType.{owns}
-use denote.Ref.{shr_vals}
-use denote.Signature.{Slot, plain, types_at}
-use denote.Steps.{nothing}
-use denote.Triple.Walked.{Stays, walk_of, stay_dropped, Goes-dropped, ends_at}
+use Rattle.zf_data.proofs.Prelude.{◌∷◌, [], Err, false, refl, w64, Answer, Answer-err, Answer-typed, answer_val, proved, flft, ftrue, RefOf, usize, yes, uint_Tells, uint_vals, owns, shr_vals, plain, Slot, types_at, nothing, ends_at, Goes-dropped, stay_dropped, Stays, walk_of, alloc_all, free_all, get, look_at, pass_all, sets, ◌$◌, ◌∵◌, ◌⊛◌, !, ‵, done, fjoin, join, keep, move, qed, raw, split, suffices, use0, agg, and_then, enter, lit, no_more, returns}
 use Rattle.zf_data.specs.contracts.arena.nowhere.Nowhere as nowhere
 use Rattle.zf_data.specs.contracts.arena.nowhere.NowhereAllocator.allocate as f
 use Rattle.zf_data.proofs.arena.nowhere.NowhereAllocator.allocate.Statement.{statement}

@@ -1,21 +1,5 @@
 -- It does nothing, and the right to free the block is let go.
-use Rattle.std.proofs.Common.{[], ◌∷◌, refl, List, w64}
-use Rattle.std.proofs.raw_atomic.Walks.{proved}
-use base.Fml.{ftrue, flft}
-use mir.Val.{Val, vunit}
-use types.Kit.{‵, raw, ◌⊛◌, ◌$◌, ◌∵◌, !, qed, done, keep, move, split, join, fjoin, feq_i, suffices}
-use types.Run.{enter, unit_lit, of_opd, returns}
-use types.ByLocal.{alloc_all, pass_all, free_all, look_at, sets}
-use denote.Builtin.{usize, RefOf}
-use denote.Exit.{yes}
-use denote.Plain.{uint_vals, uint_Tells}
-use denote.RattleType.{owns}
-use denote.RawPtr.{RawPtr, rawptr_vals, rawptr_Tells}
-use denote.Ref.{shr_vals}
-use denote.Signature.{Slot, plain, types_at}
-use denote.Steps.{nothing}
-use denote.Triple.Walked.{Stays, walk_of, stay_dropped, Goes-dropped, ends_at}
-use Rattle.std.proofs.RcSteps.{Ptr-Good}
+use Rattle.zf_data.proofs.Prelude.{◌∷◌, [], List, refl, w64, Ptr-Good, proved, flft, ftrue, RefOf, usize, yes, uint_Tells, uint_vals, owns, RawPtr, rawptr_Tells, rawptr_vals, shr_vals, plain, Slot, types_at, nothing, ends_at, Goes-dropped, stay_dropped, Stays, walk_of, Val, vunit, alloc_all, free_all, look_at, pass_all, sets, ◌$◌, ◌∵◌, ◌⊛◌, !, ‵, done, feq_i, fjoin, join, keep, move, qed, raw, split, suffices, enter, of_opd, returns, unit_lit}
 use Rattle.zf_data.specs.contracts.arena.nowhere.Nowhere as nowhere
 use Rattle.zf_data.specs.contracts.arena.nowhere.NowhereAllocator.deallocate as f
 use Rattle.zf_data.proofs.arena.nowhere.NowhereAllocator.deallocate.Statement.{statement}

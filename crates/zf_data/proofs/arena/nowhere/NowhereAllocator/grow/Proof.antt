@@ -1,30 +1,5 @@
 -- It answers `Err`, and the block stays as it was.
-use Rattle.std.proofs.Common.{Err, false, [], ◌∷◌, refl, w64, ◌≤◌}
-use Rattle.std.proofs.raw_atomic.Walks.{proved}
-use Rattle.std.proofs.alloc.Calls.{Answer, answer_val, Answer-typed, Answer-err}
-use Rattle.std.specs.Allocator.{block_with_items, FitsBlock}
-use mir.MapTy.{inst_fn}
-use mir.Syntax.{a_type, dnil}
-use base.Fml.{Fml, ftrue, flft}
-use base.Logic.{id⊢}
-use contract.BorrowLft.{◌⊑◌}
-use contract.Monad.{fact}
-use types.Kit.{‵, raw, ◌⊛◌, ◌$◌, ◌∵◌, !, qed, done, keep, move, split, join, fjoin, use0, use1, suffices}
-use types.Part.{agg}
-use types.Run.{enter, lit, no_more, and_then, returns}
-use types.ByLocal.{alloc_all, pass_all, free_all, look_at, get, sets}
-use denote.Builtin.{usize, RefOf}
-use denote.Exit.{yes}
-use denote.Param.{bounded, param}
-use denote.Plain.{uint_vals, uint_Tells}
-use denote.RattleType.{RattleType, owns}
-use denote.RawPtr.{RawPtr, rawptr_vals, rawptr_Tells}
-use denote.Ref.{shr_vals}
-use denote.Signature.{Slot, plain, types_at}
-use denote.Steps.{nothing, heard}
-use denote.Triple.Clauses.{Ended}
-use denote.Triple.Walked.{Stays, walk_of, stay_dropped, Goes-dropped, ends_at}
-use Rattle.std.proofs.RcSteps.{Ptr-Good}
+use Rattle.zf_data.proofs.Prelude.{◌∷◌, ◌≤◌, [], Err, false, refl, w64, Ptr-Good, Answer, Answer-err, Answer-typed, answer_val, proved, block_with_items, FitsBlock, flft, Fml, ftrue, id⊢, ◌⊑◌, fact, RefOf, usize, yes, bounded, param, uint_Tells, uint_vals, owns, RattleType, RawPtr, rawptr_Tells, rawptr_vals, shr_vals, plain, Slot, types_at, heard, nothing, Ended, ends_at, Goes-dropped, stay_dropped, Stays, walk_of, inst_fn, a_type, dnil, alloc_all, free_all, get, look_at, pass_all, sets, ◌$◌, ◌∵◌, ◌⊛◌, !, ‵, done, fjoin, join, keep, move, qed, raw, split, suffices, use0, use1, agg, and_then, enter, lit, no_more, returns}
 use Rattle.zf_data.specs.contracts.arena.nowhere.Nowhere as nowhere
 use Rattle.zf_data.specs.contracts.arena.nowhere.NowhereAllocator.grow as f
 use Rattle.zf_data.proofs.arena.nowhere.NowhereAllocator.grow.Statement.{statement}

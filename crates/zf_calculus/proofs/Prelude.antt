@@ -1,0 +1,35 @@
+-- What the proofs of this crate take from elsewhere, passed on from one place.
+pub use Rattle.std.proofs.Common.{if◌then◌else◌, ◌++◌, ◌+◌, ◌-◌, ◌<◌, ◌↔◌, ◌∙◌, ◌∷◌, ◌≡◌, ◌≤◌, ◌⊎◌, [], add-one, ap, arith, Bool, drop, Err, false, get_or, IfErr, IfOk, inl, inr, length, length-append, List, map, None, Ok, Option, refl, Result, rules, slice_get, Some, subst, suc, sym, take, true, true≢false, zero, ℕ}
+pub use Rattle.std.proofs.Math.ListN.{length-set, set}
+pub use Rattle.std.proofs.lemmas.List.{append-nil, append_assoc, drop-set-lt, drop_all, get_or-map, get_or_default, length-map, map-append, map-set, nil_from_length, take_all, take_more_set, take_rest}
+pub use Rattle.std.proofs.lemmas.List.Sums.{sum_by-append, sum_by-cons, sum_by_push}
+pub use Rattle.std.proofs.lemmas.Option.{none-some, same_Some, slice_get-get_or, slice_get_past}
+pub use Rattle.std.proofs.lemmas.Result.{IfOk-weaker, on_ok_weaker}
+pub use Rattle.std.specs.List.{AllByRecursion, sum_by}
+pub use Rattle.std.specs.Str.{bytes_eq}
+pub use Rattle.std.specs.Vec.Iter.{into_iter_items}
+pub use Rattle.zf_reference.specs.Numbering.{place_in}
+pub use Rattle.zf_tree.specs.declared.symbol.Relation.TheVariants.{Equal, Member}
+pub use Rattle.zf_term.proofs.Places.{AreFirst, in_full, one_more, unmoved}
+pub use Rattle.zf_term.proofs.ResolvedSeen.{new_link, of-Chain, of-Constant, of-link, of-Name}
+pub use Rattle.zf_term.proofs.SameNames.{is_itself, is_same, swapped}
+pub use Rattle.zf_term.proofs.SetsSeen.{of-Carrier, of-Either, of-Plain}
+pub use Rattle.zf_term.proofs.Walk.{at_end, at_step, dropped, pushed}
+pub use Rattle.zf_term.specs.Definitions.{Comp, comp_of, conjunct_of, DeclaredSet, Schema, schema_of, set_of, sets_of, sides}
+pub use Rattle.zf_term.specs.FirstNamed.{found_as, later}
+pub use Rattle.zf_term.specs.ResolvedTrees.{chain, link, links, no_links, reference, resolved_link_of, resolved_of, ResolvedTree}
+pub use Rattle.zf_term.specs.SetShapes.{set_count, set_nodes}
+pub use Rattle.zf_term.specs.Shapes.{height, line_of, moved, nodes, numbering}
+pub use Rattle.zf_term.specs.Types.{type_of}
+pub use Rattle.zf_term.specs.declared.fault.TypeFaultKind.{TypeFaultKind}
+pub use Rattle.zf_term.specs.declared.globals.Component.{Component}
+pub use Rattle.zf_term.specs.declared.globals.Domain.{Domain}
+pub use Rattle.zf_term.specs.declared.globals.Flat.{Flat}
+pub use Rattle.zf_term.specs.declared.resolved.Resolved.{Resolved}
+pub use Rattle.zf_term.specs.declared.resolved.ResolvedLink.{ResolvedLink}
+pub use Rattle.zf_term.specs.declared.ztype.ZType.{ZType}
+pub use Rattle.zf_shape.proofs.Heights.{below_nodes}
+pub use Rattle.zf_calculus.specs.Calculus.{Agree, Agrees, all_unchanged, AreOnce, carried, comp, comp_named, conjoined, decorated, delta, disjoined, joined, membership, memberships, new_place, place_of, place_or, prime, sets_on, unchanged, with_comp, with_comps, xi}
+pub use Rattle.zf_calculus.specs.Growth.{all_joined, AreAt, constrained, counted, disjoined_over, either_comp, enriched, equalities, equality, grown, HasLeft, IfStopped, is_member, IsGrowing, IsTooLarge, place_found, place_named}
+pub use Rattle.zf_calculus.specs.Limits.{all_nodes, AreFew, IsLow, IsWithin}
+pub use Rattle.zf_calculus.specs.Steps.{IsNext, Stops}

@@ -1,0 +1,38 @@
+-- What the proofs of this crate take from elsewhere, passed on from one place.
+pub use Rattle.std.proofs.Common.{if◌then◌else◌, ◌++◌, ◌+◌, ◌-◌, ◌<◌, ◌==◌, ◌∙◌, ◌∷◌, ◌≡◌, ◌≢◌, ◌≤◌, ◌⊎◌, [], ap, append-nil, arith, Bool, Err, false, get_or, IfErr, IfOk, inl, inr, length, length-append, List, map, None, Ok, OnErr, Option, refl, Result, rules, Some, subst, suc, sym, take, true, vec_len, zero, ℕ}
+pub use Rattle.std.proofs.KnownBytes.{Appends-kept, Appends-nil, Consumes-trans}
+pub use Rattle.std.proofs.lemmas.Bool.{eqb-true, false≢true}
+pub use Rattle.std.proofs.lemmas.List.{length-map, length-take}
+pub use Rattle.std.proofs.lemmas.Option.{none-some, same_Some}
+pub use Rattle.std.specs.Io.KnownBytes.{Appends, Consumes, Keeps}
+pub use Rattle.std.specs.List.{flat_map}
+pub use Rattle.std.specs.Option.{option_copied}
+pub use Rattle.std.specs.Str.{bytes_eq}
+pub use Rattle.zf_walk.specs.Progress.{AreDueWithin, Stage}
+pub use Rattle.zf_reference.specs.declared.reference.Reference.TheVariants.{Component, Global, Local}
+pub use Rattle.zf_value.specs.declared.value.Value.{Value}
+pub use Rattle.zf_tree.specs.Names.{spelling}
+pub use Rattle.zf_tree.specs.Trees.{both, DeclTree, either, include, Links, no_decls, no_trees, Perhaps, schema_bracket, schema_text, SchemaTree, Tree, tree, Trees, var_decl, VarDecls, vars}
+pub use Rattle.zf_term.proofs.Behind.{onto_behind}
+pub use Rattle.zf_term.specs.Definitions.{carrier, Comp, comp_of, DeclaredSet, Defined, globals_of, plain, Schema, schema, schema_of, sides}
+pub use Rattle.zf_term.specs.FirstNamed.{first_named, later, or_else}
+pub use Rattle.zf_term.specs.ResolvedTrees.{binary, bracket, builder, chain, constant, empty_set, listed, number, quantified, reference, ResolvedTree, unary}
+pub use Rattle.zf_term.specs.Shapes.{conjuncts, is_and, is_conjunction, line_of, moved}
+pub use Rattle.zf_term.specs.TermLaws.{references}
+pub use Rattle.zf_type.specs.Resolving.{bound, referent, resolved, resolved_all, resolved_links, resolved_part, resolved_ranges}
+pub use Rattle.zf_schema.specs.WellTypedGlobals.{AreWellTyped}
+pub use Rattle.zf_meaning.specs.Environments.{Environment}
+pub use Rattle.zf_meaning.specs.Envs.{environment_of}
+pub use Rattle.zf_texts.specs.Spellings.{spellings}
+pub use Rattle.zf_texts.specs.declared.spelling.Spelling.{Spelling}
+pub use Rattle.zf_enum.specs.Portions.{Portion, portion}
+pub use Rattle.zf_enum.specs.Property.{due, due_of, greatest_place, place_named, property}
+pub use Rattle.zf_enum.specs.Searches.{counted_goal, Goal, planted_goal}
+pub use Rattle.zf_lines.proofs.Beginning.{at_start, counting_at_start}
+pub use Rattle.zf_lines.specs.declared.fault.Status.{Status}
+pub use Rattle.zf_engine.specs.Answers.{Answer, AnswersReader, AnswersSource, AreHeld, Checks, HasSchema, IsAsked, IsNamed, IsNamedRow, IsSearch, Request, ShowAnswer, ShowBegins, stated, stated_size, StopsInReader, StopsInSource, UnreadAnswer}
+pub use Rattle.zf_engine.specs.Statuses.{IsStatus, IsStatusOfRefused, IsWorkStatus}
+pub use Rattle.zf_engine.specs.Stops.{AnswersOver, AnswersRequest, IfAnswered, IsFaultLine, request_of, Shows, Tells, TellsInfinite, TellsMisfit, TellsNoRow, TellsNoValues, TellsOut, TellsPlace, TellsPlaceHeld}
+pub use Rattle.zf_engine.specs.Texts.{declared_out_line, no_schema_line, type_fault_line}
+pub use Rattle.zf_engine.specs.declared.stop.Stop.{Stop}
+pub use Rattle.zf_engine.specs.declared.stop.Stop.TheVariants.{Answered, OutOfMemory}

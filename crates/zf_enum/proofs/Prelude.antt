@@ -1,0 +1,65 @@
+-- What the proofs of this crate take from elsewhere, passed on from one place.
+pub use Rattle.std.proofs.Common.{◌++◌, ◌+◌, ◌-◌, ◌<◌, ◌^◌, ◌↔◌, ◌∙◌, ◌∷◌, ◌≡◌, ◌≤◌, ◌⊎◌, [], add-one, ap, ap₂, arith, Bool, cond, drop, eqb, Err, false, get_or, IfOk, IfSome, inl, inr, length, length-append, List, map, max, None, not, Ok, Option, refl, Result, rules, Some, subst, suc, sym, take, true, zero, ℕ, ⊎_elim}
+pub use Rattle.std.proofs.lemmas.Bool.{and_parts, both_ways, cases_Bool, cases_lt, eqb-true, false≢true}
+pub use Rattle.std.proofs.lemmas.List.{length-drop, length-map}
+pub use Rattle.std.proofs.lemmas.Result.{IfOk-weaker, on_ok_weaker}
+pub use Rattle.std.specs.List.{AllByRecursion}
+pub use Rattle.std.specs.Option.{option_copied}
+pub use Rattle.std.specs.Prelude.{◌≤ℤ◌, All, AllPairs, Contains, IfErr, IsErrAnd, IsTrue, MatchOption, nat_le, slice_get, unwrap_or}
+pub use Rattle.std.specs.declared.cmp.Ordering.TheVariants.{Less}
+pub use Rattle.zf_walk.proofs.Moving.{range-is}
+pub use Rattle.zf_walk.proofs.Picks.{AreWithin-push, length-picked, nth-at, picked-push}
+pub use Rattle.zf_walk.specs.Picked.{AreWithin, picked}
+pub use Rattle.zf_walk.specs.Progress.{Ahead, AreAllAhead, AreDueWithin}
+pub use Rattle.zf_walk.specs.Rows.{AreAscending, HasLength, IsRowOf}
+pub use Rattle.zf_walk.specs.declared.judge.Truth.{Truth}
+pub use Rattle.zf_plan.proofs.Alike.{all_ahead, itself, same_events}
+pub use Rattle.zf_plan.specs.Alike.{SayTheSame}
+pub use Rattle.zf_plan.specs.Choices.{Leaves, StaysIn}
+pub use Rattle.zf_plan.specs.Groves.{Grove, Grows, Takes, trees_made, trees_of}
+pub use Rattle.zf_plan.specs.Trees.{both, either, HasLeavesWithin, HaveLeavesWithin, IsOfBoth, IsOfEither, IsTreeTruth, leaf, negated, opposite, planted, Tree, tree_at}
+pub use Rattle.zf_reference.specs.declared.reference.Reference.{Reference}
+pub use Rattle.zf_reference.specs.declared.reference.Reference.TheVariants.{Component, Global, Local}
+pub use Rattle.zf_value.proofs.Among.{ascending-push, every_at, every_from, member_at, members-append, members-push, members-take_more, take_all}
+pub use Rattle.zf_value.proofs.Exact.{exact}
+pub use Rattle.zf_value.proofs.Regulars.{are_regular, regular-nothing, regular_member, regular_none, regular_parts, regular_set}
+pub use Rattle.zf_value.proofs.Seen.{is_Int, members-SetOf, no_Int, number_of-Int, parts-Tuple}
+pub use Rattle.zf_value.specs.Sets.{Every, IsAscending, IsMember, IsRegular, IsRegularSet, members, parts, value_order}
+unfoldable pub use Rattle.zf_value.specs.Sets.{AreRegular, HaveSameMembers}
+pub use Rattle.zf_value.specs.declared.value.Outcome.{Outcome}
+pub use Rattle.zf_value.specs.declared.value.Outcome.TheVariants.{Is, Out, Undefined}
+pub use Rattle.zf_value.specs.declared.value.Value.{Int, SetOf, Tuple, Value}
+pub use Rattle.zf_tree.specs.declared.operator.Unary.TheVariants.{Not}
+pub use Rattle.zf_tree.specs.declared.symbol.Relation.TheVariants.{Equal}
+pub use Rattle.zf_term.proofs.ResolvedSeen.{link-seen, of-Binary, of-Chain, of-Name, of-Unary, range-seen}
+pub use Rattle.zf_term.proofs.SetsSeen.{of-Either}
+pub use Rattle.zf_term.specs.Definitions.{carrier, Comp, comp_of, conjunct_of, DeclaredSet, DeclaredSets, Defined, globals_of, plain, schema_of, set_of, sets_of, sides}
+pub use Rattle.zf_term.specs.ResolvedTrees.{absent, binary, bracket, builder, chain, constant, empty_set, link, links, listed, no_links, no_ranges, no_terms, number, present, quantified, range, range_of, Ranges, ranges, reference, resolved_link_of, resolved_of, ResolvedLinks, ResolvedPart, ResolvedTree, ResolvedTrees, term, terms, unary}
+pub use Rattle.zf_term.specs.TermLaws.{references}
+pub use Rattle.zf_term.specs.Types.{has_numbers, power, product, Ty, type_of, types, Tys}
+pub use Rattle.zf_term.specs.declared.conjunct.Conjunct.{Conjunct}
+pub use Rattle.zf_term.specs.declared.extent.Infinite.{Infinite}
+pub use Rattle.zf_term.specs.declared.globals.Domain.{Domain}
+pub use Rattle.zf_term.specs.declared.resolved.Resolved.{Resolved}
+pub use Rattle.zf_term.specs.declared.resolved.ResolvedLink.{ResolvedLink}
+pub use Rattle.zf_extent.specs.Extents.{direct}
+pub use Rattle.zf_finite.specs.Finite.{bounds, is_none, one_bounds}
+pub use Rattle.zf_meaning.specs.Carriers.{IsCarrier}
+pub use Rattle.zf_meaning.specs.Environments.{Environment, globally, value_or}
+pub use Rattle.zf_meaning.specs.Envs.{environment_of, longer}
+pub use Rattle.zf_meaning.specs.InRow.{in_row}
+pub use Rattle.zf_meaning.specs.Meaning.{HasOutcome, IsTruth}
+pub use Rattle.zf_meaning.specs.Rows.{AreOfTypes, IsOfType}
+pub use Rattle.zf_meaning.specs.Truths.{IsAtom, IsConjunction, IsDisjunction}
+pub use Rattle.zf_lift.specs.Lifted.{AreEach, AreLifted, IsLifted, IsLonger}
+pub use Rattle.zf_enum.specs.Components.{AreAllRanges, held_at, IsOneRange, IsOutBy}
+pub use Rattle.zf_enum.specs.DeclaredSets.{IsCarrierOut, IsInCarrier, IsInOne, IsInPlain, IsInSet, IsInSets, IsOneOut, IsPlainOut, IsSetOut}
+pub use Rattle.zf_enum.specs.Dues.{all_need, links_need, need, part_need, place_after, place_up_to, ranges_need}
+pub use Rattle.zf_enum.specs.Fixing.{AreCandidates, Fixes, GoesOn, IsKept, IsName}
+pub use Rattle.zf_enum.specs.Parts.{BoundsAt, Filters, IsAllOf, IsAllOfEach, IsAllWith, IsIn, IsListed, Lists, Narrows, NarrowsAll, Tells}
+pub use Rattle.zf_enum.specs.Planting.{ArePlanted, IsPlanted, NeedWithin, Plants, PlantsNext}
+pub use Rattle.zf_enum.specs.Property.{due, due_of, greatest_place, HasTruth, is_among, is_component, place_named, property, told, uses, uses_of}
+pub use Rattle.zf_enum.specs.PropertyLaws.{follows_outcome, uses_first}
+pub use Rattle.zf_enum.specs.Ranges.{AreRanges, first_held, IsFirstOut, IsHeld, IsNoneOut, IsRange, later_held}
+pub use Rattle.zf_enum.specs.Searches.{judged, with_first}
+pub use Rattle.zf_enum.specs.declared.property.Property.{Property}

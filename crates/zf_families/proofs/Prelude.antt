@@ -1,0 +1,32 @@
+-- What the proofs of this crate take from elsewhere, passed on from one place.
+pub use Rattle.std.proofs.Common.{◌&&◌, ◌*◌, ◌++◌, ◌+◌, ◌-◌, ◌<◌, ◌^◌, ◌↔◌, ◌∙◌, ◌∷◌, ◌≡◌, ◌≤◌, ◌⊎◌, [], add-one, ap, arith, Bool, cond, drop, Equal, false, get_or, Greater, inl, inr, length, Less, List, ltb, map, min, not, Ordering, refl, Result, subst, suc, sym, take, true, zero, ℕ, ⊎_elim}
+pub use Rattle.std.proofs.Math.Nat.{mul-le-mul_left, mul_assoc, mul_comm, pow-succ', pow-zero}
+pub use Rattle.std.proofs.lemmas.Bool.{and_from, and_parts, both_ways, cases_lt, false≢true, iff_false, lt-ltb, ltb-true}
+pub use Rattle.std.proofs.lemmas.Cmp.{tied_itself}
+pub use Rattle.std.proofs.lemmas.List.{length-append, length-drop, length-map, length-take-le, map_more, nil_from_length, take-append-drop}
+pub use Rattle.std.proofs.lemmas.Result.{IfOk-weaker}
+pub use Rattle.std.specs.List.{filter, flat_map}
+pub use Rattle.std.specs.Ordering.{is_eq, is_lt, ordering_reverse, ordering_then}
+pub use Rattle.std.specs.Prelude.{IsTrue}
+pub use Rattle.std.specs.Result.{IfOk}
+pub use Rattle.std.specs.Vec.Iter.{into_iter_items}
+pub use Rattle.std.specs.declared.alloc.AllocError.{AllocError}
+pub use Rattle.zf_value.proofs.Among.{every_also, every_at, every_from, member_at, members-append, members-take_more, not_below_itself}
+pub use Rattle.zf_value.proofs.Exact.{cmp_is, exact, ties}
+pub use Rattle.zf_value.proofs.Regulars.{are_regular, regular-pair, regular-SetOf, regular-Tuple, regular_made, regular_member, regular_none, regular_set}
+pub use Rattle.zf_value.proofs.Seen.{members-SetOf, parts-Tuple}
+pub use Rattle.zf_value.specs.Operations.{AreFrom, IsBetween, IsFunctional, IsInjective, IsRelationThat, IsSubset, IsTotal, pair, Relates}
+unfoldable pub use Rattle.zf_value.specs.Operations.{ArePartialFunctions, ArePartialInjections, AreRelations, AreTotalFunctions, AreTotalInjections, IsCross, IsPower}
+pub use Rattle.zf_value.specs.Sets.{Every, IsAscending, IsMember, IsRegular, IsRegularOutcome, IsRegularSet, IsSetOf, members, members_at, parts, row_order, value_order}
+unfoldable pub use Rattle.zf_value.specs.Sets.{AreAmong, AreRegular}
+pub use Rattle.zf_value.specs.declared.TheConstants.{SET_MAX}
+pub use Rattle.zf_value.specs.declared.value.Outcome.{Outcome}
+pub use Rattle.zf_value.specs.declared.value.Outcome.TheVariants.{Is, Out}
+pub use Rattle.zf_value.specs.declared.value.Value.{out-Value, roll-out-Value, roll-Value, SetOf, Tuple, Value}
+pub use Rattle.zf_value.specs.declared.value.Value.TheOpen.{Value-F}
+pub use Rattle.zf_value.specs.declared.value.Value.TheVariants.{outs-SetOf, outs-Tuple, rolls-SetOf}
+pub use Rattle.zf_families.specs.Counts.{falling, partial_injection_count, sizes, stepped}
+unfoldable pub use Rattle.zf_families.specs.Families.{IsPartialFunction, IsPartialInjection, IsRelation, IsTotalFunction, IsTotalInjection, IsTupleFrom}
+pub use Rattle.zf_families.specs.Selections.{extended, extensions, fits_any, fits_apart, fitting, pairs, second, second_at, singles, some, whole}
+pub use Rattle.zf_families.specs.Tests.{first, first_at, firsts_rise, IsGraph, seconds_apart}
+unfoldable pub use Rattle.zf_families.specs.Tests.{IsFunctionFrom, IsInjectionFrom, IsPairFrom, IsPairOn}

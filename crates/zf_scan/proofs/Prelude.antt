@@ -1,0 +1,36 @@
+-- What the proofs of this crate take from elsewhere, passed on from one place.
+pub use Rattle.std.proofs.Common.{◌*◌, ◌++◌, ◌+◌, ◌-◌, ◌/◌, ◌<◌, ◌∙◌, ◌∷◌, ◌≡◌, ◌≤◌, ◌⊎◌, [], ap, append_assoc, ap₂, arith, Bool, drop, false, get_or, inl, inr, length, length-append, length-drop, length-take-le, List, map, min, None, Option, refl, rules, slice_index_or, Some, subst, suc, sym, take, take-append-drop, true, unwrap_or, zero, zero-add, ℕ, ⊎_elim}
+pub use Rattle.std.proofs.Math.Numerals.{one-add}
+pub use Rattle.std.proofs.Math.Seq.{drop-append_seam, take-add, take-append_seam}
+pub use Rattle.std.proofs.lemmas.Bool.Decides.{Decides-eqb, nat_tests}
+pub use Rattle.std.proofs.lemmas.List.{append-nil, drop-append-le, drop-drop, drop-take, get_or-take, map-append, take-append-le, take_all, take_more, take_rest}
+pub use Rattle.std.proofs.lemmas.Slice.Eq.{bytes_eq-Decides, starts_is}
+pub use Rattle.std.specs.Cmp.Lexicographic.{bytes_decides}
+pub use Rattle.std.specs.List.{fold, list_all, starts_with}
+pub use Rattle.std.specs.Prelude.{if◌then◌else◌, ◌&&◌, ◌==◌, ◌||◌, codes, nat_eq, nat_le, not}
+pub use Rattle.std.specs.Str.{bytes_eq}
+pub use Rattle.zf_scan.specs.Boxes.{Before, begins_box, BeginsBox, ends_box, EndsOnce, Follows, IsBox, IsBoxAtMost, IsCutOn, IsCutUpTo}
+pub use Rattle.zf_scan.specs.Choosing.{next_of}
+pub use Rattle.zf_scan.specs.Cuts.{Cuts, entered, Fails, fault_line, FaultsOnce, HasFault, IsCutInto, IsCutOnce, IsCutOrFaults, IsNotBoth, IsRead, IsStuck, IsUncut, IsWantOfMemory, line_of, newlines, past, Spot, Stands, StandsInside, StandsOutside, start, tokens_from, tokens_of}
+pub use Rattle.zf_scan.specs.Laying.{amount, AreWithin, IsLaid, spelling}
+pub use Rattle.zf_scan.specs.Pieces.{closing, comment, escape, fixed, informal, InsideKind, is_base, is_digit, is_directive, is_letter, is_number, is_one, is_run, is_two, IsCommand, IsComment, look_up, name, number, number_max, numeral, opening, OutsideKind, remark, schema, SpellsInside, SpellsOutside, turn, unknown, value}
+unfoldable pub use Rattle.zf_scan.specs.Pieces.{openings, symbols}
+pub use Rattle.zf_scan.specs.Placing.{between, symbol_at, token_at, unplaced}
+pub use Rattle.zf_scan.specs.Sights.{kind_of, piece_of, seen, told}
+pub use Rattle.zf_scan.specs.Steps.{base_len, begins, command_len, Found, found, has_no_name, long_len, name_of, or_else, plain, run_len, step_len, strokes_len, symbol_len, tail_len, word_len}
+unfoldable pub use Rattle.zf_scan.specs.Steps.{command_found, comment_found, found_at, inside_found, number_found, opening_found, other_opening_found, outside_found, schema_found, short_command, symbol_found, word_found}
+pub use Rattle.zf_scan.specs.declared.fault.TextFault.{TextFault}
+pub use Rattle.zf_scan.specs.declared.fault.TextFaultKind.{TextFaultKind}
+pub use Rattle.zf_scan.specs.declared.fault.TextFaultKind.TheVariants.{BadByte, NotInProfile, TooLong, UnclosedBox}
+pub use Rattle.zf_scan.specs.declared.next.Next.{Next}
+pub use Rattle.zf_scan.specs.declared.pieces.Piece.{Piece}
+pub use Rattle.zf_scan.specs.declared.pieces.Piece.TheVariants.{Plain, Refused, Symbol}
+pub use Rattle.zf_scan.specs.declared.pieces.Place.{Place}
+pub use Rattle.zf_scan.specs.declared.pieces.Run.{Run}
+pub use Rattle.zf_scan.specs.declared.pieces.Run.TheVariants.{Base, Digits, Letters, Line, Strokes}
+pub use Rattle.zf_scan.specs.declared.placed.Placed.{Placed}
+pub use Rattle.zf_scan.specs.declared.scan.Border.{Border}
+pub use Rattle.zf_scan.specs.declared.scan.TheConstants.{SOURCE_MAX}
+pub use Rattle.zf_scan.specs.declared.token.Kind.{Kind}
+pub use Rattle.zf_scan.specs.declared.token.Kind.TheVariants.{BeginSchema, BeginZed, CloseBrace, EndBox, Name, OpenBrace, Separator}
+pub use Rattle.zf_scan.specs.declared.token.Token.{Token}

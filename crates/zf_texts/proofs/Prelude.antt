@@ -1,0 +1,36 @@
+-- What the proofs of this crate take from elsewhere, passed on from one place.
+pub use Rattle.std.proofs.Common.{◌&&◌, ◌++◌, ◌+◌, ◌-◌, ◌<◌, ◌^◌, ◌||◌, ◌↔◌, ◌∙◌, ◌∷◌, ◌≡◌, ◌≤◌, ◌⊎◌, [], add-one, ap, ap₂, arith, Bool, codes, drop, Equal, Err, false, get_or, Global, Greater, IfErr, inl, inr, is_lt, IsTrue, length, Less, List, map, negsuc, None, of_z, Ok, Option, Ordering, pos, refl, Result, rules, Some, subst, suc, sym, take, to_z, true, Vec, zero, ℕ, ℤ, ⊎_elim}
+pub use Rattle.std.proofs.lemmas.Bool.Decides.{Decides-eqb}
+pub use Rattle.std.proofs.lemmas.Fmt.{decimal_injective, decimal_is_IsNumeral, decimal_nonempty, IsAscii-decimal, IsAscii-signed, parse-decimal, parse-signed_decimal, signed_decimal_injective}
+pub use Rattle.std.proofs.lemmas.List.{append-nil, append_assoc, drop_more, length-append, length-drop, take-append-drop, take_all}
+pub use Rattle.std.proofs.lemmas.Slice.Eq.{slice_eq-Decides, strip_prefix_is}
+pub use Rattle.std.specs.Fmt.{signed_decimal}
+pub use Rattle.std.specs.Int.{IsInRange, w64}
+pub use Rattle.std.specs.List.{AllByRecursion, list_all}
+pub use Rattle.std.specs.Prelude.{decimal, FitsSigned, IsErrAnd, IsUtf8, MatchBool, MatchOption, slice_get}
+pub use Rattle.std.specs.Str.Parse.{AllDigits, ParsesSigned, ParsesUnsigned}
+pub use Rattle.zf_value.proofs.Exactly.{same}
+pub use Rattle.zf_value.specs.Sets.{Every, IsAscending, IsRegular, value_order}
+unfoldable pub use Rattle.zf_value.specs.Sets.{AreRegular}
+pub use Rattle.zf_value.specs.declared.TheConstants.{SET_MAX}
+pub use Rattle.zf_value.specs.declared.value.Value.{Elem, fold-roll-Value, Int, map-Value, roll-Value, SetOf, Tuple, Value}
+pub use Rattle.zf_term.specs.Definitions.{Comp, comp_of, Defined, definition_of, globals_of}
+pub use Rattle.zf_term.specs.FirstNamed.{first_named}
+pub use Rattle.zf_term.specs.Types.{basic, int, no_types, power, product, Ty, type, type_of, types, Tys}
+pub use Rattle.zf_term.specs.declared.globals.Component.{Component}
+pub use Rattle.zf_meaning.specs.Environments.{definition_number, Environment, found_number, type_number}
+pub use Rattle.zf_meaning.specs.Envs.{environment_of}
+pub use Rattle.zf_meaning.specs.Rows.{AreOfTypes, IsElement, IsOfType, IsRow}
+pub use Rattle.zf_texts.specs.BindingTexts.{binding_text, component_text, component_texts}
+pub use Rattle.zf_texts.specs.Clear.{AreApart, AreClear, AreNames, Ends, is_in_name, is_in_word, IsClear, IsName, IsNoneOf}
+pub use Rattle.zf_texts.specs.Held.{HaveClearNames, held_comps, held_values, HoldNext, IsHeldLine, IsLineOfSome, IsNamedNext}
+unfoldable pub use Rattle.zf_texts.specs.Held.{IsNoHeldLine}
+pub use Rattle.zf_texts.specs.Readings.{IfMisfit, IsLineOf}
+unfoldable pub use Rattle.zf_texts.specs.Readings.{IsNoLine}
+pub use Rattle.zf_texts.specs.Spellings.{element_text, or_empty, spelled, spelled_if, spellings, with_spelling}
+pub use Rattle.zf_texts.specs.Steps.{AreMembers, AreMembersAt, ArePartsAt, BeginsWithName, Closes, EndsAs, goes_on, HoldsIfNamed, is_opening, IsComponentAt, IsHeldAt, IsItem, IsNamedAt, IsNext, IsSpelledType, IsValueAt, IsWordAt}
+unfoldable pub use Rattle.zf_texts.specs.Steps.{AreNoMembers, AreNoParts, BeginsWithoutName, GoesOn, HasNoElements, HoldsNothing, IsNoComponent, IsNoItem, IsNoNext, IsNoRest, IsNoSpelledType, IsNotNamed, IsNoValue, SpellsNone}
+pub use Rattle.zf_texts.specs.ValueTexts.{later_parts, parted, separator, value_step}
+unfoldable pub use Rattle.zf_texts.specs.ValueTexts.{value_text}
+pub use Rattle.zf_texts.specs.declared.spelling.Spelling.{Spelling}
+pub use Rattle.zf_texts.specs.declared.spelling.Spelling.TheVariants.{Named, Numbered}

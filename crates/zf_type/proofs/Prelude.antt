@@ -1,0 +1,52 @@
+-- What the proofs of this crate take from elsewhere, passed on from one place.
+pub use Rattle.std.proofs.Common.{if◌then◌else◌, ◌*◌, ◌++◌, ◌+◌, ◌-◌, ◌<◌, ◌==◌, ◌∙◌, ◌∷◌, ◌≡◌, ◌≤◌, ◌⊎◌, [], add-one, ap, append-nil, append_assoc, arith, Bool, drop, Err, false, get_or, inl, inr, length, List, map, None, Ok, OnOk, Option, refl, set, Some, subst, suc, sym, take, true, true≢false, zero, ℕ, ⊎_elim}
+pub use Rattle.std.proofs.Math.Seq.{drop-append_seam, take-append_seam, take-length, take-nil}
+pub use Rattle.std.proofs.lemmas.Bool.Decides.{Decides-eqb}
+pub use Rattle.std.proofs.lemmas.List.{at_drop_more, drop-map, drop_all, get_or-set_other, get_or-set_same, get_or-take, get_or_append_left, get_or_push, get_or_read_under, length-append, length-map, length-set, length-take, length-take-le, map-append, take-append-le, take-map, take-take, take_more}
+pub use Rattle.std.proofs.lemmas.Option.{none-some, same_Some}
+pub use Rattle.std.proofs.lemmas.Result.{IfOk-weaker}
+pub use Rattle.std.proofs.lemmas.Slice.Eq.{bytes_eq-Decides}
+pub use Rattle.std.specs.Prelude.{IfErr, IfOk, IsErr, IsErrAnd, MatchOption, Result, slice_get, slice_set}
+pub use Rattle.std.specs.Str.{bytes_eq}
+pub use Rattle.std.specs.Vec.Iter.{into_iter_items}
+pub use Rattle.zf_reference.specs.declared.reference.Reference.TheVariants.{Component, Global, Local}
+pub use Rattle.zf_tree.specs.Names.{spelling}
+pub use Rattle.zf_tree.specs.Operators.{left_need, need_of, prefix_need, relation_rule, right_need, rule_of, sign_need}
+pub use Rattle.zf_tree.specs.Trees.{absent, binary, bracket, builder, chain, constant, empty_set, line_of, link, link_of, Links, links, listed, named, no_decls, no_links, no_trees, numeral, part_of, Perhaps, present, quantified, Tree, tree, tree_of, Trees, trees, unary, var_decl, var_decl_of, var_decls, VarDecls}
+pub use Rattle.zf_tree.specs.declared.operator.Listed.{Listed}
+pub use Rattle.zf_tree.specs.declared.operator.Listed.TheVariants.{Display, Product, Tuple}
+pub use Rattle.zf_tree.specs.declared.operator.Need.{Need}
+pub use Rattle.zf_tree.specs.declared.operator.Rule.{Rule}
+pub use Rattle.zf_tree.specs.declared.operator.Sign.{Sign}
+pub use Rattle.zf_tree.specs.declared.operator.Unary.{Unary}
+pub use Rattle.zf_tree.specs.declared.symbol.Prefix.{Prefix}
+pub use Rattle.zf_tree.specs.declared.symbol.Prefix.TheVariants.{Domain, Finset, Power, Range, Size}
+pub use Rattle.zf_tree.specs.declared.symbol.Relation.{Relation}
+pub use Rattle.zf_tree.specs.declared.tree.Name.{Name}
+pub use Rattle.zf_tree.specs.declared.tree.Term.{Term}
+pub use Rattle.zf_term.proofs.Walk.{at_end, at_step, dropped, pushed}
+pub use Rattle.zf_term.specs.Definitions.{Comp, comp_of, Defined, entry_of, globals_of}
+pub use Rattle.zf_term.specs.FirstNamed.{first_named, found_as, later, or_else}
+pub use Rattle.zf_term.specs.ResolvedTrees.{range_of, ranges, reference, resolved_link_of, resolved_of, ResolvedTree}
+pub use Rattle.zf_term.specs.Shapes.{conjuncts, is_and}
+pub use Rattle.zf_term.specs.Types.{int, IsSmall, no_types, pair, power, product, Ty, type, type_of, types, Tys}
+pub use Rattle.zf_term.specs.declared.fault.TypeFaultKind.{TypeFaultKind}
+pub use Rattle.zf_term.specs.declared.fault.TypeFaultKind.TheVariants.{LocalTwice, Mismatch, NotDeclared, TooLarge}
+pub use Rattle.zf_term.specs.declared.ztype.ZType.{ZType}
+pub use Rattle.zf_type.specs.Buckets.{before, bucket_from, last_in}
+unfoldable pub use Rattle.zf_type.specs.Buckets.{AreHeads, bucket, IsIndexed}
+pub use Rattle.zf_type.specs.Judging.{AreNew, AreRepeated, DeclarationsOffend, DiffersAt, is_conjunction, IsBound, IsJudged, IsOther, IsPart, var_type}
+unfoldable pub use Rattle.zf_type.specs.Judging.{Judges, JudgesPart}
+pub use Rattle.zf_type.specs.Offences.{BuildsTooLarge, Clash, Differ, Disagree, IsRepeated, LinksOffend, ListedTooLarge, MakesTooLarge, MakeTooLarge, Misplaced, Offends, OneDiffers, OneOffends, PartOffends, Repeats, SetsOffend}
+pub use Rattle.zf_type.specs.Refusals.{IfFault}
+pub use Rattle.zf_type.specs.Resolving.{bound, referent, resolved, resolved_all, resolved_links, resolved_part, resolved_ranges}
+pub use Rattle.zf_type.specs.Rules.{a_schema, IsSmallSort, lack_of, Meets, number, predicate, PrefixTakes, set_of, SignTakes, Sort, sort_of, Takes, typed, UnaryTakes}
+unfoldable pub use Rattle.zf_type.specs.Rules.{IsMade, IsMadeOfOne}
+pub use Rattle.zf_type.specs.Scopes.{global_sort, last_named, meaning, meant, Scope, Var, variable_of, with_comp, with_global, with_local, within}
+unfoldable pub use Rattle.zf_type.specs.Scopes.{scope_of}
+pub use Rattle.zf_type.specs.Typing.{AreAll, AreApart, AreLinked, AreMembers, Builds, Constrains, Declare, declared, IsApart, IsOf, Makes, member_need, member_sort, row_type, types_of, variables}
+pub use Rattle.zf_type.specs.declared.fault.Refusal.{Refusal}
+pub use Rattle.zf_type.specs.declared.fault.Refusal.TheVariants.{Fault, OutOfMemory}
+pub use Rattle.zf_type.specs.declared.index.Chained.{Chained}
+pub use Rattle.zf_type.specs.declared.judge.Judged.{Judged}
+pub use Rattle.zf_type.specs.declared.variable.Variable.{Variable}

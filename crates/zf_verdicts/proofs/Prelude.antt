@@ -1,0 +1,23 @@
+-- What the proofs of this crate take from elsewhere, passed on from one place.
+pub use Rattle.std.proofs.Common.{◌++◌, ◌+◌, ◌<◌, ◌∷◌, ◌≡◌, ◌≤◌, ◌⊎◌, [], arith, Bool, false, inl, inr, length, List, map, None, Option, refl, Some, subst, sym, true, ℕ}
+pub use Rattle.zf_tree.specs.Names.{spelling}
+pub use Rattle.zf_tree.specs.Operators.{left_need, need_of, prefix_need, relation_rule, right_need, rule_of, sign_need}
+pub use Rattle.zf_tree.specs.Trees.{absent, binary, both, BoxTree, bracket, builder, chain, constant, DeclTree, definition, either, empty_set, free, given, include, line_of, link, Links, listed, named, no_decls, no_links, no_trees, numeral, ParagraphTree, Perhaps, present, quantified, reference, schema_bracket, schema_text, SchemaTree, Tree, tree, Trees, unary, var_decl, VarDecls, vars}
+pub use Rattle.zf_tree.specs.declared.operator.Need.{Need}
+pub use Rattle.zf_tree.specs.declared.operator.Unary.{Unary}
+pub use Rattle.zf_tree.specs.declared.symbol.Relation.{Relation}
+pub use Rattle.zf_tree.specs.declared.tree.Name.{Name}
+pub use Rattle.zf_term.specs.Definitions.{abbreviation, Comp, constructor, DeclaredSet, Defined, Definition, free_type, given_set, plain, Schema, schema}
+pub use Rattle.zf_term.specs.FirstNamed.{first_named}
+pub use Rattle.zf_term.specs.Types.{basic, int, IsSmall, no_types, nodes, pair, power, product, Ty, type, Tys}
+pub use Rattle.zf_term.specs.declared.fault.TypeFaultKind.{TypeFaultKind}
+pub use Rattle.zf_term.specs.declared.fault.TypeFaultKind.TheVariants.{AlreadyDefined, ComponentClash, LocalTwice, Mismatch, NotASchema, NotDeclared, TooLarge}
+pub use Rattle.zf_type.specs.Offences.{Clash, Differ, IsRepeated, LinksOffend, MakesTooLarge, Misplaced, Offends, OneDiffers, OneOffends, PartOffends, Repeats, SetsOffend}
+pub use Rattle.zf_type.specs.Resolving.{resolved}
+pub use Rattle.zf_type.specs.Rules.{a_schema, constant_sort, IsSmallSort, lack_of, Meets, number, predicate, PrefixTakes, relation, set_of, SignTakes, Sort, Takes, typed, UnaryTakes}
+pub use Rattle.zf_type.specs.Typing.{AreAll, AreApart, AreLinked, AreMembers, Builds, Constrains, Declare, declared, IsApart, IsOf, Makes, member_need, member_sort, row_type, variables}
+pub use Rattle.zf_calculus.specs.Calculus.{Agree, Agrees, comp, comp_named, conjoined, decorated, disjoined, HasTypeOf, MarkAgrees, marked, nothing, prime, schema_of, with_comp}
+pub use Rattle.zf_calculus.specs.Limits.{all_nodes, components_max, conjuncts_max, declared_sets, height_max, IsLow, IsWithin, nodes_max, sets_max}
+pub use Rattle.zf_calculus.specs.Steps.{Adds, Includes, IsNext, Stops}
+pub use Rattle.zf_schema.specs.SchemaOffences.{AnyByRecursion, IsNoSchema, name_line, OffendsAfter, OffendsAlone, OffendsConjuncts, OffendsDecls, OffendsNames, OffendsPredicates, OffendsRef, OffendsSchema, OffendsText}
+pub use Rattle.zf_verdicts.specs.Laws.{SomeOffence}

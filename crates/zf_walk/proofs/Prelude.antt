@@ -1,0 +1,29 @@
+-- What the proofs of this crate take from elsewhere, passed on from one place.
+pub use Rattle.std.proofs.Common.{◌*◌, ◌++◌, ◌+◌, ◌-◌, ◌<◌, ◌^◌, ◌∙◌, ◌∷◌, ◌≡◌, ◌≤◌, ◌⊎◌, [], ap, arith, Bool, cond, drop, eqb, Err, false, get_or, Global, inl, inr, length, length-append, List, ltb, None, Ok, Option, refl, replicate, Result, rules, set, Some, subst, suc, sym, take, true, Vec, zero, ℕ}
+pub use Rattle.std.proofs.lemmas.Bool.{cases_Bool, cases_eq, cases_lt, cases_order, eqb-false, eqb-true, false≢true, le-ltb, leb-false, leb-true, lt-ltb}
+pub use Rattle.std.proofs.lemmas.Bool.Decides.{nat_tests}
+pub use Rattle.std.proofs.lemmas.Cmp.{alike_right, tied_itself}
+pub use Rattle.std.proofs.lemmas.List.{append-nil, drop_more, get_or-replicate, get_or-set_other, get_or-set_same, get_or-take, get_or_append_left, get_or_default, length-replicate, length-set, length-take, length-take-le, nil_from_length, take-set-le, take-take, take_all, take_more, take_more_set}
+pub use Rattle.std.proofs.lemmas.Option.{get_or_from_slice_get, slice_get-get_or, slice_get_read, slice_get_within}
+pub use Rattle.std.specs.Cmp.{IsTotalOrder}
+pub use Rattle.std.specs.Cmp.Lexicographic.{lists_total, slice_cmp}
+pub use Rattle.std.specs.Option.{option_copied}
+pub use Rattle.std.specs.Ordering.{ordering_reverse, ordering_then}
+pub use Rattle.std.specs.Prelude.{◌≢◌, AllPairs, Contains, IfSome, IsSomeAnd, IsTrue, slice_get, unwrap_or}
+pub use Rattle.std.specs.declared.cmp.Ordering.{Ordering}
+pub use Rattle.std.specs.declared.cmp.Ordering.TheVariants.{Equal, Greater, Less}
+pub use Rattle.zf_walk.specs.Conjuncts.{Conjuncts, FollowUsed, HaveOneTruth, IsTruthOf, KeepTruths}
+pub use Rattle.zf_walk.specs.Events.{Event, IsEvent}
+pub use Rattle.zf_walk.specs.Picked.{AreWithin, picked}
+pub use Rattle.zf_walk.specs.Places.{above, ahead_of, below, first_of, front, is_ahead, is_due, is_over, is_reached, IsAgenda, IsAt, IsDone, IsNextDue, IsReady, IsSoFar, IsSound, IsTested, Knows, path, reaches, Stands, steps_left, under}
+pub use Rattle.zf_walk.specs.Progress.{Ahead, AreAllAhead, AreDueWithin, ended, IsAhead, IsBounded, IsRest, past, SameAhead, Takes}
+pub use Rattle.zf_walk.specs.Rows.{AreAscending, ComesAfter, HasLength, IsFrontOf, IsLater, IsRowOf, TiesAreEqual}
+pub use Rattle.zf_walk.specs.Steps.{Admits, Answers, Begins, Binds, Enters, Gives, Goes, GoesOn, Keeps, KeepsEvents, Leaves, Moves, Passes, Tests}
+pub use Rattle.zf_walk.specs.Tables.{AreTables, AreTrue, AreUsed, combinations, HavePlaces, number}
+pub use Rattle.zf_walk.specs.Tests.{cut, IsBound, IsNumber, IsNumberOfTests, IsPair, IsReached, IsUpTo, IsWalked}
+pub use Rattle.zf_walk.specs.declared.agenda.Agenda.{Agenda}
+pub use Rattle.zf_walk.specs.declared.judge.Truth.{Truth}
+pub use Rattle.zf_walk.specs.declared.judge.Truth.TheVariants.{False, Out, True}
+pub use Rattle.zf_walk.specs.declared.place.Place.{Place}
+pub use Rattle.zf_walk.specs.declared.table.Table.{Table}
+pub use Rattle.zf_walk.specs.declared.table.Used.{Used}
