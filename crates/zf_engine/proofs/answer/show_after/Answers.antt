@@ -16,8 +16,8 @@ begin-requires-clause-due g c =
 pub show-requires-clause-start : goal.show-requires-clause-start
 show-requires-clause-start g c = at_start _ _ _ _ _ (rw c.in-Walked.is at c.in-Ok.ensures.begins)
 
-pub show-in-Planted-requires-clause-start : goal.show-in-Planted-requires-clause-start
-show-in-Planted-requires-clause-start g c = at_start _ _ _ _ _ (rw c.in-Planted.is at c.in-Ok.ensures.begins)
+pub show-requires-in-Planted-clause-start : goal.show-requires-in-Planted-clause-start
+show-requires-in-Planted-clause-start g c = at_start _ _ _ _ _ (rw c.in-Planted.is at c.in-Ok.ensures.begins)
 
 pub returns-in-Walked-clause-shows : goal.returns-in-Walked-clause-shows
 returns-in-Walked-clause-shows g c = λ file source is.
