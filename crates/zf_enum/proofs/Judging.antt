@@ -1,14 +1,15 @@
 -- The conjunct at a place, and its truth.
-use Rattle.std.proofs.Common.{◌≡◌, ℕ, zero, suc, ◌<◌, List, [], ◌∷◌, length, map, get_or, Some, sym, ap, subst, arith}
+use Rattle.std.proofs.Common.{◌≡◌, ℕ, zero, suc, ◌+◌, ◌<◌, ◌≤◌, List, [], ◌∷◌, ◌++◌, length, map, take, get_or, Some, refl, sym, ap, ap₂, ◌∙◌, subst, add-one, arith}
 use Rattle.std.specs.Prelude.{slice_get}
+use Rattle.std.proofs.lemmas.List.{length-map}
 use Rattle.zf_term.specs.declared.resolved.Resolved.{Resolved}
-use Rattle.zf_term.specs.ResolvedTrees.{resolved_of}
+use Rattle.zf_term.specs.ResolvedTrees.{ResolvedTree, resolved_of}
 use Rattle.zf_value.specs.declared.value.Value.{Value}
 use Rattle.zf_value.specs.declared.value.Truth.{Truth}
 use Rattle.zf_meaning.specs.Environments.{Environment}
 use Rattle.zf_meaning.specs.Meaning.{IsTruth}
 use Rattle.zf_meaning.specs.InRow.{in_row}
-use Rattle.zf_enum.specs.Property.{HasTruth}
+use Rattle.zf_enum.specs.Property.{due, due_of, HasTruth}
 
 pub at_place : (xs : List Resolved) (i : ℕ) (x : Resolved) → x ≡ get_or xs i x → i < length (map resolved_of xs) → slice_get (map resolved_of xs) i ≡ Some (resolved_of x)
 at_place [] i x at l = absurd (omega arith)
@@ -18,3 +19,34 @@ at_place (y ∷ ys) (suc i) x at l = at_place ys i x at (omega arith)
 pub has_truth : (e : Environment) (row : List Value) (xs : List Resolved) (i : ℕ) (x : Resolved) (t u : Truth) → x ≡ get_or xs i x → i < length (map resolved_of xs) → IsTruth (in_row e row) (resolved_of x) t → u ≡ t → HasTruth e row (slice_get (map resolved_of xs) i) u
 has_truth e row xs i x t u at l h same =
     subst (λ p. HasTruth e row p u) (sym (at_place xs i x at l)) (subst (λ v. IsTruth (in_row e row) (resolved_of x) v) (sym same) h)
+
+-- ---- how many components conjuncts need
+
+front : (xs : List Resolved) (i : ℕ) (x : Resolved) → x ≡ get_or xs i x → i < length xs → map due (map resolved_of (take (suc i) xs)) ≡ map due (map resolved_of (take i xs)) ++ due (resolved_of x) ∷ []
+front [] i x at l = absurd (omega arith)
+front (y ∷ ys) zero x at l = ap (λ z. due (resolved_of z) ∷ []) (sym at)
+front (y ∷ ys) (suc i) x at l = ap (λ ns. due (resolved_of y) ∷ ns) (front ys i x at (omega arith))
+
+pub one_need_more : (ns : List ℕ) (xs : List Resolved) (i n : ℕ) (x : Resolved) → x ≡ get_or xs i x → i < length xs → ns ≡ map due (map resolved_of (take i xs)) → n ≡ due (resolved_of x) → ns ++ n ∷ [] ≡ map due (map resolved_of (take (i + 1) xs))
+one_need_more ns xs i n x at l h e = rw add-one (ap₂ (λ (ms : List ℕ) (m : ℕ). ms ++ m ∷ []) h e ∙ sym (front xs i x at l))
+
+whole : (xs : List Resolved) (i : ℕ) → length xs ≤ i → take i xs ≡ xs
+whole [] zero l = refl
+whole [] (suc i) l = refl
+whole (x ∷ xs) zero l = absurd (omega arith)
+whole (x ∷ xs) (suc i) l = ap (λ ys. x ∷ ys) (whole xs i (omega arith))
+
+pub all_needs : (ns : List ℕ) (xs : List Resolved) (i : ℕ) → length xs ≤ i → ns ≡ map due (map resolved_of (take i xs)) → ns ≡ map due (map resolved_of xs)
+all_needs ns xs i l h = h ∙ ap (λ ys. map due (map resolved_of ys)) (whole xs i l)
+
+-- so many are there as conjuncts
+pub as_many : (ns : List ℕ) (ts : List ResolvedTree) → ns ≡ map due ts → length ns ≡ length ts
+as_many ns ts h = ap length h ∙ length-map ts due
+
+need_of : (ts : List ResolvedTree) (i n : ℕ) → i < length ts → n ≡ get_or (map due ts) i n → n ≡ due_of (slice_get ts i)
+need_of [] i n l at = absurd (omega arith)
+need_of (t ∷ ts) zero n l at = at
+need_of (t ∷ ts) (suc i) n l at = need_of ts i n (omega arith) at
+
+pub need_at : (ns : List ℕ) (ts : List ResolvedTree) (i n : ℕ) → ns ≡ map due ts → i < length ts → n ≡ get_or ns i n → n ≡ due_of (slice_get ts i)
+need_at ns ts i n h l at = need_of ts i n l (at ∙ ap (λ (ms : List ℕ). get_or ms i n) h)

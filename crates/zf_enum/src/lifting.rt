@@ -5,7 +5,7 @@ ghost use Rattle.zf_meaning.specs.Envs.{environment_of};
 ghost use Rattle.zf_lift.specs.Lifted.{AreLifted};
 ghost use Rattle.zf_enum.specs.Property.{due_of};
 
-use crate::property::Property;
+use crate::property::{Property, dues};
 use bumpalo::Bump;
 use std::alloc::{AllocError, Global};
 use zf_lift::{Lifted, lift};
@@ -24,14 +24,21 @@ pub(crate) fn lifted<'e, 'g, 'a>(
 {
     match lift(alloc, arena, conjuncts.as_slice(), env)? {
         None => {
-            let property: Property<'e, 'g, 'a> = Property { conjuncts, env };
+            let dues = dues(alloc, &conjuncts)?;
+            let property: Property<'e, 'g, 'a> = Property {
+                conjuncts,
+                env,
+                dues,
+            };
             Ok(property)
         }
         Some(lifted) => {
             let Lifted { terms, env } = lifted;
+            let dues = dues(alloc, &terms)?;
             let property: Property<'e, 'g, 'a> = Property {
                 conjuncts: terms,
                 env,
+                dues,
             };
             Ok(property)
         }

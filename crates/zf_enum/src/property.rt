@@ -1,14 +1,14 @@
 //! The property of a schema in an environment, as the judge of a walk.
-ghost use Rattle.std.specs.Prelude.{◌≡◌, ◌<◌, ◌^◌, ℕ, map, slice_get};
+ghost use Rattle.std.specs.Prelude.{◌≡◌, ◌<◌, ◌^◌, ℕ, IfOk, map, slice_get};
 ghost use Rattle.zf_term.specs.ResolvedTrees.{resolved_of};
-ghost use Rattle.zf_enum.specs.Property.{due_of, told};
+ghost use Rattle.zf_enum.specs.Property.{due, due_of, told};
 
 use crate::candidates::gather_candidates;
 use crate::due::{due, uses};
 use crate::fixing::fixing;
 use crate::known::Known;
 use crate::shown::{Shown, meet};
-use std::alloc::AllocError;
+use std::alloc::{AllocError, Global};
 use zf_meaning::env::Env;
 use zf_meaning::value::truth_of;
 use zf_plan::Guide;
@@ -21,6 +21,9 @@ use zf_walk::{Judge, Range, Row, Truth};
 pub struct Property<'e, 'g, 'a> {
     pub conjuncts: Vec<Resolved<'a>>,
     pub env: &'e Env<'g, 'a>,
+    /// How many first components each conjunct needs.
+    pub dues: Vec<usize>,
+    ghost needed: { dues.items ≡ map due (map resolved_of conjuncts.items) },
     ghost small: { (c : ℕ) → due_of (slice_get (map resolved_of conjuncts.items) c) < 2 ^ 64 },
 }
 
@@ -44,7 +47,7 @@ impl<'e, 'g, 'a> Judge<Known> for Property<'e, 'g, 'a> {
     }
 
     fn due(&self, conjunct: usize) -> usize {
-        due(&self.conjuncts[conjunct])
+        self.dues[conjunct]
     }
 
     fn uses(&self, conjunct: usize, component: usize) -> bool {
@@ -78,6 +81,18 @@ impl<'e, 'g, 'a> Guide<Known> for Property<'e, 'g, 'a> {
             Some(side) => gather_candidates(side, ranges, places, self.env, gathered),
         }
     }
+}
+
+/// How many first components each of these needs.
+pub(crate) fn dues(alloc: Global, conjuncts: &[Resolved<'_>]) -> Result<Vec<usize>, AllocError>
+    requires { (c : ℕ) → due_of (slice_get (map resolved_of conjuncts.now) c) < 2 ^ 64 }
+    ensures { IfOk result (λ ds. ds.items ≡ map due (map resolved_of conjuncts.now)) }
+{
+    let mut dues = Vec::with_capacity(alloc, conjuncts.len())?;
+    for conjunct in conjuncts {
+        dues.push(due(conjunct))?;
+    }
+    Ok(dues)
 }
 
 /// What a walk calls a truth.

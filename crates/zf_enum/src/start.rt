@@ -13,7 +13,7 @@ ghost use Rattle.zf_enum.specs.Starts.{Refuses, BeginsCounting};
 use crate::bindings::Bindings;
 use crate::component::ranges;
 use crate::known::Known;
-use crate::property::Property;
+use crate::property::{Property, dues};
 use crate::start_fault::StartFault;
 use bumpalo::Bump;
 use std::alloc::{AllocError, Global};
@@ -40,7 +40,13 @@ impl<'s, 'e, 'g, 'a> Bindings<'s, 'e, 'g, 'a> {
     {
         let ranges = ranges(alloc, flat.components.as_slice(), env)?;
         let conjuncts = resolved(alloc, arena, flat.conjuncts.as_slice())?;
-        Ok(Bindings::over(alloc, Property { conjuncts, env }, ranges, after)?)
+        let dues = dues(alloc, &conjuncts)?;
+        let property = Property {
+            conjuncts,
+            env,
+            dues,
+        };
+        Ok(Bindings::over(alloc, property, ranges, after)?)
     }
 }
 

@@ -1,11 +1,12 @@
-use Rattle.std.proofs.Common.{ℕ, ◌<◌, ◌^◌, ap, sym, subst, ◌∙◌}
-use Rattle.zf_enum.specs.Property.{due_of}
-use Rattle.zf_enum.proofs.Judging.{at_place}
+use Rattle.std.proofs.Common.{rules, ◌<◌, map, length, sym, subst}
+use Rattle.zf_term.specs.ResolvedTrees.{resolved_of}
+use Rattle.zf_enum.proofs.Judging.{as_many, need_at}
 use Rattle.zf_enum.proofs.property.PropertyJudgeKnown.due.Goals as goal
 
-pub due-requires : goal.due-requires
-due-requires c =
-    subst (λ (n : ℕ). n < 2 ^ 64) (ap due_of (at_place c.args.self.now.conjuncts.items c.args.conjunct c.index.result.now c.index.ensures c.requires)) (c.args.self.now.small c.args.conjunct)
+pub index-requires : goal.index-requires
+index-requires c =
+    let l : c.args.conjunct < length c.args.self.now.dues.items = subst (λ n. c.args.conjunct < n) (sym (as_many c.args.self.now.dues.items (map resolved_of c.args.self.now.conjuncts.items) c.args.self.now.needed)) c.requires in
+    search (rules, l)
 
 pub returns : goal.returns
-returns c = c.due.ensures ∙ sym (ap due_of (at_place c.args.self.now.conjuncts.items c.args.conjunct c.index.result.now c.index.ensures c.requires))
+returns c = need_at c.args.self.now.dues.items (map resolved_of c.args.self.now.conjuncts.items) c.args.conjunct c.index.result.now c.args.self.now.needed c.requires c.index.ensures
