@@ -23,6 +23,7 @@ mod property;
 mod ranges;
 mod search;
 mod shown;
+mod spread;
 mod start;
 mod start_fault;
 mod weight;

@@ -3,11 +3,12 @@ ghost use Rattle.std.specs.Prelude.{◌≡◌, ◌<◌, ◌^◌, ℕ, IfOk, map,
 ghost use Rattle.zf_term.specs.ResolvedTrees.{resolved_of};
 ghost use Rattle.zf_enum.specs.Property.{due, due_of, told};
 
-use crate::candidates::gather_candidates;
+use crate::candidates::{Tie, gather_candidates};
 use crate::due::{due, uses};
 use crate::fixing::fixing;
 use crate::known::Known;
 use crate::shown::{Shown, meet};
+use crate::spread::{asked, gather_spread};
 use std::alloc::{AllocError, Global};
 use zf_meaning::env::Env;
 use zf_meaning::value::truth_of;
@@ -67,6 +68,7 @@ impl<'e, 'g, 'a> Judge<Known> for Property<'e, 'g, 'a> {
 impl<'e, 'g, 'a> Guide<Known> for Property<'e, 'g, 'a> {
     fn narrows(&self, leaf: usize, component: usize) -> bool {
         fixing(&self.conjuncts[leaf], component).is_some()
+            || asked(&self.conjuncts[leaf], component).is_some()
     }
 
     fn narrow(
@@ -76,9 +78,13 @@ impl<'e, 'g, 'a> Guide<Known> for Property<'e, 'g, 'a> {
         places: &[usize],
         gathered: &mut Vec<usize>,
     ) -> Result<bool, AllocError> {
-        match fixing(&self.conjuncts[leaf], places.len()) {
+        if let Some(side) = fixing(&self.conjuncts[leaf], places.len()) {
+            return gather_candidates(side, Tie::Value, ranges, places, self.env, gathered);
+        }
+        let conjunct = &self.conjuncts[leaf];
+        match asked(conjunct, places.len()) {
             None => Ok(false),
-            Some(side) => gather_candidates(side, ranges, places, self.env, gathered),
+            Some(side) => gather_spread(conjunct, side, ranges, places, self.env, gathered),
         }
     }
 }

@@ -2,7 +2,7 @@
 use Rattle.std.proofs.Common.{◌≡◌, ℕ, zero, suc, ◌+◌, ◌<◌, ◌≤◌, max, List, [], ◌∷◌, ◌++◌, arith}
 use Rattle.zf_reference.specs.declared.reference.Reference.{Reference}
 use Rattle.zf_reference.specs.declared.reference.Reference.TheVariants.{Component, Local, Global}
-use Rattle.zf_term.specs.Filling.{onto, all_onto, links_onto, ranges_onto, part_onto}
+use Rattle.zf_term.specs.References.{onto, all_onto, links_onto, ranges_onto, part_onto}
 use Rattle.zf_term.specs.ResolvedTrees.{ResolvedTree, reference, number, constant, empty_set, bracket, listed, builder, unary, binary, chain, quantified, ResolvedTrees, no_terms, term, ResolvedLinks, no_links, link, Ranges, no_ranges, range, ResolvedPart, absent, present}
 use Rattle.zf_term.specs.TermLaws.{references}
 use Rattle.zf_meaning.specs.Laws.{IsBelow, AreBelow, UsesFirst}

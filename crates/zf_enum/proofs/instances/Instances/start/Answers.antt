@@ -33,7 +33,7 @@ lifted-requires c =
     let all = subst (λ (ds : List Component). AreAllRanges e (map comp_of ds) rs) c.as_slice.ensures c.in_ok-ranges.ensures.is in
     let p = c.in_ok-planting.planting in
     let are_planted = subst (λ (cs : List Conjunct). ArePlanted (map conjunct_of cs) p.leaves.items (trees_of p.forest)) c.as_slice-2.ensures c.in_ok-planting.ensures in
-    λ k. omega (arith, are_planted.needs (length rs) (needs_within e s.comps rs s.conjuncts all.0 c.requires.due) k, c.in_ok-ranges.ranges.small)
+    record { small = λ k. omega (arith, are_planted.needs (length rs) (needs_within e s.comps rs s.conjuncts all.0 c.requires.due) k, c.in_ok-ranges.ranges.small) }
 
 pub start-requires-clause-ascending : goal.start-requires-clause-ascending
 start-requires-clause-ascending c = ranges_ascend (environment_of c.args.env.now) _ c.in_ok-ranges.ranges.items c.in_ok-ranges.ensures.is.0
@@ -85,7 +85,7 @@ returns-clause-begins c =
     let problem = c.in_ok-search.ensures.problem in
     let ahead = all_ahead value_order (planted (property f terms) (trees_of p.forest)) (property e s.conjuncts) same rs (option_copied c.args.after) search.stage.ahead c.in_ok-search.ensures.events in
     record {
-      environment = ap (λ (j : Property). with_first c.count.result (environment_of j.env.now)) problem.0 ∙ first_names e f c.count.result c.count.ensures lifted.longer;
+      environment = ap (λ (j : Property). with_first c.count-names.result (environment_of j.env.now)) problem.0 ∙ first_names e f c.count-names.result c.count-names.ensures lifted.longer;
       same = subst (λ (j : Property). SayTheSame (planted (judged j) (trees_of search.forest)) (property e s.conjuncts)) (sym problem.0)
           (subst (λ (g : Grove). SayTheSame (planted (property f terms) (trees_of g)) (property e s.conjuncts)) (sym problem.1) same);
       ranges = subst (λ (ws : List (List Value)). AreRanges e s.comps ws) (sym problem.2) all.0;

@@ -1,0 +1,30 @@
+use Rattle.std.proofs.Common.{◌≡◌, List, sym, subst, length, arith}
+use Rattle.zf_value.specs.declared.value.Value.{Value}
+use Rattle.zf_value.proofs.Among.{member_at}
+use Rattle.zf_value.proofs.Regulars.{regular_member}
+use Rattle.zf_value.specs.Sets.{IsRegular}
+use Rattle.zf_enum.specs.Fixing.{HasPlace}
+use Rattle.zf_enum.proofs.Trying.{stays_on}
+use Rattle.zf_enum.proofs.Asking.{placed_more, placed_all}
+use Rattle.zf_enum.proofs.candidates.gather_members.Goals as goal
+
+pub loop-value-init : goal.loop-value-init
+loop-value-init c = (λ i m. m, λ v m. absurd m)
+
+pub new-requires : goal.new-requires
+new-requires c = subst IsRegular (sym c.in_ok-copy.ensures) (regular_member c.args.values.now c.value-item.result c.requires.regular (member_at c.args.values.now c.loop-value.value-index c.value-item.result c.value-item.is c.loop-value-test.true))
+
+pub loop-value-preserved : goal.loop-value-preserved
+loop-value-preserved c =
+    let old = c.loop-value.gathered.items in
+    let new = c.gather_place.inside.gathered.items in
+    let stay = c.gather_place.ensures.stay in
+    let same : c.new.result ≡ c.value-item.result = ? in
+    (
+      stays_on c.args.gathered.now.items old new c.loop-value.invariant.0 stay,
+      placed_more c.args.values.now c.loop-value.value-index c.value-item.result c.args.range.now old new c.value-item.is c.loop-value-test.true stay
+          (subst (λ v. HasPlace v c.args.range.now new) same ?) c.loop-value.invariant.1,
+    )
+
+pub returns : goal.returns
+returns c = record { stay = c.loop-value.invariant.0; kept = placed_all c.args.values.now c.loop-value.value-index c.args.range.now c.loop-value.gathered.items c.loop-value-test.false c.loop-value.invariant.1 }

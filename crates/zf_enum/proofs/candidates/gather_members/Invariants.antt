@@ -1,0 +1,9 @@
+use Rattle.std.proofs.Common.{take}
+use Rattle.zf_value.specs.declared.value.Value.{Value}
+use Rattle.zf_value.specs.Sets.{IsMember}
+use Rattle.zf_plan.specs.Choices.{StaysIn}
+use Rattle.zf_enum.specs.Fixing.{HasPlace}
+use Rattle.zf_enum.proofs.candidates.gather_members.Given as goal
+
+abbrev pub invariant-loop-value : goal.invariant-loop-value
+invariant-loop-value l = StaysIn l.fn.gathered.items l.gathered.items × ((v : Value) → IsMember v (take l.value-index l.values) → HasPlace v l.range l.gathered.items)

@@ -1,0 +1,34 @@
+-- Predicates with names for their closed parts need no more components; those without such parts say what they said.
+use Rattle.std.proofs.Common.{ℕ, ◌<◌, ◌^◌, Option, List, map, sym, ap, ◌∙◌, subst, arith}
+use Rattle.std.specs.Option.{IfSome}
+use Rattle.std.specs.Prelude.{slice_get}
+use Rattle.zf_term.specs.ResolvedTrees.{resolved_of}
+use Rattle.zf_term.specs.declared.resolved.Resolved.{Resolved}
+use Rattle.zf_meaning.specs.Envs.{environment_of}
+use Rattle.zf_lift.specs.Lifted.{AreLifted}
+use Rattle.zf_lift.specs.declared.lifted.Lifted.{Lifted}
+use Rattle.zf_enum.specs.Property.{due, due_of}
+use Rattle.zf_enum.proofs.Naming.{dues_at, unchanged}
+use Rattle.zf_enum.proofs.lifting.lifted.Goals as goal
+
+pub returns-in-None : goal.returns-in-None
+returns-in-None c = unchanged (environment_of c.args.env.now) (map resolved_of c.args.conjuncts.items)
+
+pub dues-requires-in-Some : goal.dues-requires-in-Some
+dues-requires-in-Some c =
+    let e = environment_of c.args.env.now in
+    let l = c.in-Some.lifted in
+    let found = subst (λ (o : Option Lifted). IfSome o (λ l. AreLifted (environment_of l.env.now) e (map resolved_of l.terms.items) (map resolved_of c.as_slice.result.now))) c.in-Some.is c.in_ok-lift.ensures in
+    let each = subst (λ (ts : List Resolved). AreLifted (environment_of l.env.now) e (map resolved_of l.terms.items) (map resolved_of ts)) c.as_slice.ensures.value found in
+    subst (λ (ts : List Resolved). (k : ℕ) → due_of (slice_get (map resolved_of ts) k) < 2 ^ 64) (sym c.deref-in-Some.ensures.value)
+    (λ k. omega (arith, dues_at (environment_of l.env.now) e (map resolved_of l.terms.items) (map resolved_of c.args.conjuncts.items) each.each k, c.requires.small k))
+
+pub invariant_of-property-in-Some : goal.invariant_of-property-in-Some
+invariant_of-property-in-Some c =
+    let e = environment_of c.args.env.now in
+    let l = c.in-Some.lifted in
+    let found = subst (λ (o : Option Lifted). IfSome o (λ l. AreLifted (environment_of l.env.now) e (map resolved_of l.terms.items) (map resolved_of c.as_slice.result.now))) c.in-Some.is c.in_ok-lift.ensures in
+    let each = subst (λ (ts : List Resolved). AreLifted (environment_of l.env.now) e (map resolved_of l.terms.items) (map resolved_of ts)) c.as_slice.ensures.value found in record {
+      needed = c.in_ok-dues-in-Some.ensures ∙ ap (λ (ts : List Resolved). map due (map resolved_of ts)) c.deref-in-Some.ensures.value;
+      small = λ k. omega (arith, dues_at (environment_of l.env.now) e (map resolved_of l.terms.items) (map resolved_of c.args.conjuncts.items) each.each k, c.requires.small k);
+    }
