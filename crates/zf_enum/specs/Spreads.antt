@@ -1,14 +1,12 @@
 -- Predicates that ask for values of variables with which a component is equal to an expression. No public clause rests on this.
-use Rattle.std.specs.Prelude.{◌≡◌, ◌⊎◌, ℕ, List}
+use Rattle.std.specs.Prelude.{◌≡◌, ◌⊎◌, ℕ, List, Some, All, IfSome, slice_get}
 use Rattle.zf_tree.specs.declared.operator.Operator.TheVariants.{Connective}
 use Rattle.zf_tree.specs.declared.symbol.Connective.TheVariants as connective
 use Rattle.zf_tree.specs.declared.symbol.Quantifier.{Quantifier}
 use Rattle.zf_tree.specs.declared.symbol.Quantifier.TheVariants.{ForAll, Exists, ExistsOne}
-use Rattle.zf_term.specs.ResolvedTrees.{ResolvedTree, bracket, binary, chain, quantified, builder, absent, present}
-use Rattle.zf_value.specs.declared.value.Value.{Value}
-use Rattle.zf_meaning.specs.Environments.{Environment}
-use Rattle.zf_enum.specs.declared.candidates.Tie.TheVariants as tie
-use Rattle.zf_enum.specs.Fixing.{Fixes, AreCandidates}
+use Rattle.zf_term.specs.ResolvedTrees.{ResolvedTree, bracket, binary, chain, quantified, builder, absent, present, resolved_of}
+use Rattle.zf_enum.specs.declared.spread.Spread.{Spread}
+use Rattle.zf_enum.specs.Fixing.{Fixes}
 
 -- the quantifier asks for a row
 abbrev pub IsThere : Quantifier → Type 0
@@ -36,6 +34,13 @@ IsSetOver _ t set = ⊥
 abbrev pub IsSpread : ResolvedTree → ℕ → ResolvedTree → Type 0
 IsSpread p k set = (t : ResolvedTree) × AsksFor p k t × IsSetOver p t set
 
--- the members of that set are left of a range
-abbrev pub HasSetOf : Environment → ResolvedTree → ResolvedTree → List (List Value) → List Value → List Value → List ℕ → Type 0
-HasSetOf e p t ranges front range places = (set : ResolvedTree) × IsSetOver p t set × AreCandidates tie.Members e set ranges front range places
+-- what is kept of a conjunct is right
+abbrev pub IsSpreadOf : List ResolvedTree → Spread → Type 0
+IsSpreadOf ts s = IfSome (slice_get ts s.conjunct) (λ p. IsSpread p s.component (resolved_of s.set))
+
+abbrev pub AreSpreads : List ResolvedTree → List Spread → Type 0
+AreSpreads ts ss = All (IsSpreadOf ts) ss
+
+-- what is added is right of a conjunct that is this predicate
+abbrev pub AddsSpreads : ResolvedTree → ℕ → List Spread → List Spread → Type 0
+AddsSpreads p c old new = (ts : List ResolvedTree) → slice_get ts c ≡ Some p → AreSpreads ts old → AreSpreads ts new

@@ -6,6 +6,7 @@ ghost use Rattle.zf_lift.specs.Lifted.{AreLifted};
 ghost use Rattle.zf_enum.specs.Property.{due_of};
 
 use crate::property::{Property, dues};
+use crate::spread::spreads;
 use bumpalo::Bump;
 use std::alloc::{AllocError, Global};
 use zf_lift::{Lifted, lift};
@@ -25,20 +26,24 @@ pub(crate) fn lifted<'e, 'g, 'a>(
     match lift(alloc, arena, conjuncts.as_slice(), env)? {
         None => {
             let dues = dues(alloc, &conjuncts)?;
+            let spreads = spreads(alloc, arena, &conjuncts)?;
             let property: Property<'e, 'g, 'a> = Property {
                 conjuncts,
                 env,
                 dues,
+                spreads,
             };
             Ok(property)
         }
         Some(lifted) => {
             let Lifted { terms, env } = lifted;
             let dues = dues(alloc, &terms)?;
+            let spreads = spreads(alloc, arena, &terms)?;
             let property: Property<'e, 'g, 'a> = Property {
                 conjuncts: terms,
                 env,
                 dues,
+                spreads,
             };
             Ok(property)
         }

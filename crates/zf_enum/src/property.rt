@@ -8,7 +8,7 @@ use crate::due::{due, uses};
 use crate::fixing::fixing;
 use crate::known::Known;
 use crate::shown::{Shown, meet};
-use crate::spread::{asked, gather_spread};
+use crate::spread::{Spread, spread_at};
 use std::alloc::{AllocError, Global};
 use zf_meaning::env::Env;
 use zf_meaning::value::truth_of;
@@ -24,6 +24,8 @@ pub struct Property<'e, 'g, 'a> {
     pub env: &'e Env<'g, 'a>,
     /// How many first components each conjunct needs.
     pub dues: Vec<usize>,
+    /// What conjuncts leave that ask for values of variables.
+    pub(crate) spreads: Vec<Spread<'a>>,
     ghost needed: { dues.items ≡ map due (map resolved_of conjuncts.items) },
     ghost small: { (c : ℕ) → due_of (slice_get (map resolved_of conjuncts.items) c) < 2 ^ 64 },
 }
@@ -68,7 +70,7 @@ impl<'e, 'g, 'a> Judge<Known> for Property<'e, 'g, 'a> {
 impl<'e, 'g, 'a> Guide<Known> for Property<'e, 'g, 'a> {
     fn narrows(&self, leaf: usize, component: usize) -> bool {
         fixing(&self.conjuncts[leaf], component).is_some()
-            || asked(&self.conjuncts[leaf], component).is_some()
+            || spread_at(&self.spreads, leaf, component).is_some()
     }
 
     fn narrow(
@@ -81,10 +83,11 @@ impl<'e, 'g, 'a> Guide<Known> for Property<'e, 'g, 'a> {
         if let Some(side) = fixing(&self.conjuncts[leaf], places.len()) {
             return gather_candidates(side, Tie::Value, ranges, places, self.env, gathered);
         }
-        let conjunct = &self.conjuncts[leaf];
-        match asked(conjunct, places.len()) {
+        match spread_at(&self.spreads, leaf, places.len()) {
             None => Ok(false),
-            Some(side) => gather_spread(conjunct, side, ranges, places, self.env, gathered),
+            Some(set) => {
+                gather_candidates(set, Tie::Members, ranges, places, self.env, gathered)
+            }
         }
     }
 }

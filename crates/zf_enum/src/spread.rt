@@ -1,56 +1,115 @@
 //! Expressions that a quantifier equates a component with, for some values of its variables.
-ghost use Rattle.std.specs.Prelude.{◌≡◌, ◌<◌, ◌≤◌, ℕ, [], length, IfOk, IfSome, IsTrue, slice_index_or};
-ghost use Rattle.zf_term.specs.ResolvedTrees.{resolved_of};
-ghost use Rattle.zf_value.specs.Sets.{value_order};
-ghost use Rattle.zf_walk.specs.Picked.{AreWithin, picked};
-ghost use Rattle.zf_walk.specs.Rows.{AreAscending};
-ghost use Rattle.zf_plan.specs.Choices.{StaysIn};
-ghost use Rattle.zf_meaning.specs.Envs.{environment_of};
+ghost use Rattle.std.specs.Prelude.{◌≡◌, ◌<◌, ◌^◌, ℕ, List, Some, IfOk, IfSome, OnOk, IsTrue, map, slice_get};
+ghost use Rattle.zf_term.specs.ResolvedTrees.{ResolvedTree, resolved_of};
 ghost use Rattle.zf_enum.specs.Property as spec;
-ghost use Rattle.zf_enum.specs.Spreads.{AsksFor, Equates, HasSetOf, IsSetOver, IsThere};
+ghost use Rattle.zf_enum.specs.Spreads.{AddsSpreads, AreSpreads, AsksFor, Equates, IsSetOver, IsSpread, IsThere};
 
-use crate::candidates::{Tie, gather_candidates};
+use crate::due::due;
 use crate::fixing::fixing;
-use crate::known::Known;
 use bumpalo::Bump;
-use std::alloc::AllocError;
+use std::alloc::{AllocError, Global};
 use zf_data::arena::Boxed;
-use zf_meaning::env::Env;
 use zf_resolved::moving::copy;
 use zf_term::resolved::{Part, Resolved};
 use zf_tree::operator::Operator;
 use zf_tree::symbol::{Connective, Quantifier};
-use zf_walk::Range;
 
-/// Gathers the places of the next range at which members of the set stand of what an expression comes to with any values of a quantifier's variables. Answers false where it doesn't say.
-pub(crate) fn gather_spread<'a>(
-    whole: &Resolved<'a>,
-    side: &Resolved<'a>,
-    ranges: &[Range<Known>],
-    places: &[usize],
-    env: &Env<'_, 'a>,
-    gathered: &mut Vec<usize>,
-) -> Result<bool, AllocError>
-    requires asks { (k : ℕ) × AsksFor (resolved_of whole.now) k (resolved_of side.now) }
-    requires due { spec.due (resolved_of whole.now) ≤ length ranges.now }
-    requires ascending { AreAscending value_order ranges.now }
-    requires within { AreWithin ranges.now places.now }
-    requires deeper { length places.now < length ranges.now }
-    ensures stay { StaysIn gathered.old.items gathered.new.items }
-    ensures candidates { IfOk result (λ found. IsTrue found → HasSetOf (environment_of env.now) (resolved_of whole.now) (resolved_of side.now) ranges.now (picked ranges.now places.now) (slice_index_or ranges.now (length places.now) []) gathered.new.items) }
+/// The set of what a conjunct that asks for values of variables equates a component with.
+#[derive(Drop)]
+pub(crate) struct Spread<'a> {
+    pub(crate) conjunct: usize,
+    pub(crate) component: usize,
+    pub(crate) set: Resolved<'a>,
+}
+
+/// The sets of these conjuncts.
+pub(crate) fn spreads<'a>(
+    alloc: Global,
+    arena: &'a Bump,
+    conjuncts: &[Resolved<'a>],
+) -> Result<Vec<Spread<'a>>, AllocError>
+    requires { (c : ℕ) → spec.due_of (slice_get (map resolved_of conjuncts.now) c) < 2 ^ 64 }
+    ensures { IfOk result (λ found. AreSpreads (map resolved_of conjuncts.now) found.items) }
 {
-    let arena = Bump::new(*gathered.allocator());
-    let member = copy(side, &arena)?;
-    let term = copy(whole, &arena)?;
-    match set_over(&arena, term, member)? {
-        None => Ok(false),
-        Some(set) => gather_candidates(&set, Tie::Members, ranges, places, env, gathered),
+    let mut found = Vec::new(alloc);
+    for conjunct in 0..conjuncts.len() {
+        add_spreads(arena, conjunct, &conjuncts[conjunct], &mut found)?;
     }
+    Ok(found)
+}
+
+/// Adds the sets of a conjunct.
+fn add_spreads<'a>(
+    arena: &'a Bump,
+    conjunct: usize,
+    term: &Resolved<'a>,
+    found: &mut Vec<Spread<'a>>,
+) -> Result<(), AllocError>
+    requires { spec.due (resolved_of term.now) < 2 ^ 64 }
+    ensures { OnOk result (AddsSpreads (resolved_of term.now) conjunct found.old.items found.new.items) }
+{
+    for component in 0..due(term) {
+        add_spread(arena, conjunct, component, term, found)?;
+    }
+    Ok(())
+}
+
+/// Adds the set of a conjunct and a component, if there is one.
+fn add_spread<'a>(
+    arena: &'a Bump,
+    conjunct: usize,
+    component: usize,
+    term: &Resolved<'a>,
+    found: &mut Vec<Spread<'a>>,
+) -> Result<(), AllocError>
+    ensures { OnOk result (AddsSpreads (resolved_of term.now) conjunct found.old.items found.new.items) }
+{
+    let Some(set) = spread_of(arena, term, component)? else {
+        return Ok(());
+    };
+    found.push(Spread {
+        conjunct,
+        component,
+        set,
+    })?;
+    Ok(())
+}
+
+/// The set of a conjunct and a component, if there is one.
+pub(crate) fn spread_at<'s, 'a>(
+    spreads: &'s [Spread<'a>],
+    conjunct: usize,
+    component: usize,
+) -> Option<&'s Resolved<'a>>
+    ensures { (ts : List ResolvedTree) → AreSpreads ts spreads.now → IfSome result (λ set. IfSome (slice_get ts conjunct) (λ p. IsSpread p component (resolved_of set.now))) }
+{
+    for spread in spreads {
+        if spread.conjunct == conjunct && spread.component == component {
+            return Some(&spread.set);
+        }
+    }
+    None
+}
+
+/// The set of what a predicate equates the component with, if it asks for values of variables.
+fn spread_of<'a>(
+    arena: &'a Bump,
+    term: &Resolved<'a>,
+    component: usize,
+) -> Result<Option<Resolved<'a>>, AllocError>
+    ensures { IfOk result (λ found. IfSome found (λ set. IsSpread (resolved_of term.now) component (resolved_of set))) }
+{
+    let Some(side) = asked(term, component) else {
+        return Ok(None);
+    };
+    let member = copy(side, arena)?;
+    let whole = copy(term, arena)?;
+    set_over(arena, whole, member)
 }
 
 /// The expression that a predicate equates the component with, if it asks for values of variables.
 #[tactic(auto, using(zf_term::proofs::ResolvedSeen::seen))]
-pub(crate) fn asked<'t, 'a>(term: &'t Resolved<'a>, component: usize) -> Option<&'t Resolved<'a>>
+fn asked<'t, 'a>(term: &'t Resolved<'a>, component: usize) -> Option<&'t Resolved<'a>>
     ensures { IfSome result (λ side. AsksFor (resolved_of term.now) component (resolved_of side.now)) }
 {
     let Resolved::Quantified(quantifier, _, _, _, body) = term else {

@@ -45,6 +45,7 @@ impl<'s, 'e, 'g, 'a> Bindings<'s, 'e, 'g, 'a> {
             conjuncts,
             env,
             dues,
+            spreads: Vec::new(alloc),
         };
         Ok(Bindings::over(alloc, property, ranges, after)?)
     }

@@ -1,0 +1,7 @@
+use Rattle.std.proofs.Common.{map}
+use Rattle.zf_term.specs.ResolvedTrees.{resolved_of}
+use Rattle.zf_enum.specs.Spreads.{AreSpreads}
+use Rattle.zf_enum.proofs.spread.spreads.Given as goal
+
+abbrev pub invariant-loop-conjunct : goal.invariant-loop-conjunct
+invariant-loop-conjunct l = AreSpreads (map resolved_of l.conjuncts) l.found.items
