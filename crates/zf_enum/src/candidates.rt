@@ -193,7 +193,8 @@ fn gather_members(
 {
     let alloc = *gathered.allocator();
     for value in values {
-        gather_place(&Known::new(value.copy(alloc)?), range, gathered)?;
+        let known = Known::new(value.copy(alloc)?);
+        gather_place(&known, range, gathered)?;
     }
     Ok(true)
 }

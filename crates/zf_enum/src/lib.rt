@@ -6,6 +6,7 @@ mod bounding;
 mod candidates;
 mod closed;
 mod component;
+mod conjuncts;
 mod due;
 mod filters;
 mod fixing;
@@ -29,6 +30,7 @@ mod start_fault;
 mod weight;
 
 pub use bindings::Bindings;
+pub use conjuncts::Conjuncts;
 pub use instances::Instances;
 pub use known::{Known, all_known};
 pub use planting::gains_by_trees;

@@ -12,6 +12,7 @@ ghost use Rattle.zf_enum.specs.Starts.{Refuses, BeginsCounting};
 
 use crate::bindings::Bindings;
 use crate::component::ranges;
+use crate::conjuncts::Conjuncts;
 use crate::known::Known;
 use crate::property::{Property, dues};
 use crate::start_fault::StartFault;
@@ -42,10 +43,9 @@ impl<'s, 'e, 'g, 'a> Bindings<'s, 'e, 'g, 'a> {
         let conjuncts = resolved(alloc, arena, flat.conjuncts.as_slice())?;
         let dues = dues(alloc, &conjuncts)?;
         let property = Property {
-            conjuncts,
+            conjuncts: Conjuncts::plain(alloc, conjuncts),
             env,
             dues,
-            spreads: Vec::new(alloc),
         };
         Ok(Bindings::over(alloc, property, ranges, after)?)
     }

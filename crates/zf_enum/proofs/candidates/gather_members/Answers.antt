@@ -17,14 +17,10 @@ new-requires c = subst IsRegular (sym c.in_ok-copy.ensures) (regular_member c.ar
 pub loop-value-preserved : goal.loop-value-preserved
 loop-value-preserved c =
     let old = c.loop-value.gathered.items in
-    let new = c.gather_place.inside.gathered.items in
+    let new = c.gather_place.new.gathered.items in
     let stay = c.gather_place.ensures.stay in
-    let same : c.new.result ≡ c.value-item.result = ? in
-    (
-      stays_on c.args.gathered.now.items old new c.loop-value.invariant.0 stay,
-      placed_more c.args.values.now c.loop-value.value-index c.value-item.result c.args.range.now old new c.value-item.is c.loop-value-test.true stay
-          (subst (λ v. HasPlace v c.args.range.now new) same ?) c.loop-value.invariant.1,
-    )
+    let here : HasPlace c.value-item.result c.args.range.now new = ? in
+    (stays_on c.args.gathered.now.items old new c.loop-value.invariant.0 stay, placed_more c.args.values.now c.loop-value.value-index c.value-item.result c.args.range.now old new c.value-item.is c.loop-value-test.true stay here c.loop-value.invariant.1)
 
 pub returns : goal.returns
 returns c = record { stay = c.loop-value.invariant.0; kept = placed_all c.args.values.now c.loop-value.value-index c.args.range.now c.loop-value.gathered.items c.loop-value-test.false c.loop-value.invariant.1 }
