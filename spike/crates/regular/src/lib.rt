@@ -4,3 +4,4 @@
 pub mod items;
 pub mod plain;
 pub mod value;
+pub mod walk;

@@ -1,0 +1,7 @@
+use Rattle.std.proofs.Common.{take}
+use Rattle.zf_value.specs.Steps.{IsGathered}
+use Rattle.zf_value.proofs.Listed.{IsTurned}
+use Rattle.zf_value.proofs.relation.inverse.Given as goal
+
+abbrev pub invariant-loop-z : goal.invariant-loop-z
+invariant-loop-z l = IsGathered IsTurned (take l.z-index l.r) l.values.items

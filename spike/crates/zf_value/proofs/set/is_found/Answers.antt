@@ -1,0 +1,11 @@
+use Rattle.std.proofs.Common.{◌↔◌, IsTrue, rules, sym, subst}
+use Rattle.std.proofs.lemmas.Fn.{always_returns_same}
+use Rattle.zf_value.specs.Sets.{value_order, IsMember}
+use Rattle.zf_value.proofs.Searched.{found}
+use Rattle.zf_value.proofs.set.is_found.Goals as goal
+
+pub returns : goal.returns
+returns c =
+    let searched = c.binary_search_by.ensures in
+    let placed = searched.position (λ y. value_order y c.args.z.now) (always_returns_same _ _ _ (λ a r q k. search rules)) in
+    subst (λ b. IsTrue b ↔ IsMember c.args.z.now c.args.values.now) (sym c.is_ok.ensures.value) (found c.args.z.now c.args.values.now c.binary_search_by.result c.requires searched.bound placed)

@@ -1,0 +1,11 @@
+pub mod formers
+pub mod Order
+pub mod Lists
+pub mod Forms
+pub mod Sets
+pub mod Numbers
+pub mod Operations
+pub mod Held
+pub mod Steps
+pub mod Heights
+pub mod Falls

@@ -1,0 +1,205 @@
+//! The operations on relations. A relation is a set of pairs; what is no pair relates nothing.
+ghost use Rattle.std.specs.Prelude.{◌≡◌, ◌≤◌, length, slice_range, IfOk, IfSome, OnOk, MatchOption};
+ghost use Rattle.zf_value.specs.Operations.{pair, IsDomain, IsRange, IsInverse, IsImage, IsComposition, IsOverriding, IsDomainRestriction, IsDomainSubtraction, IsRangeRestriction, IsRangeSubtraction, IsApplied};
+ghost use Rattle.zf_value.specs.Sets.{IsAscending};
+ghost use Rattle.zf_value.specs.Steps.{AreRelated, AddsPairs, place_beside as place};
+
+use crate::part::{Keep, Part, parts, selected};
+use crate::set::{copy_onto, display, is_too_many, make_ascending, tuple_of_two};
+use crate::value::{Form, Outcome, Value};
+use std::alloc::{AllocError, Global};
+use std::cmp::Ordering;
+
+/// `\dom r`.
+pub fn domain(alloc: Global, r: &[Value]) -> Result<Outcome, AllocError>
+    ensures { IfOk result (IsDomain r.now) }
+{
+    display(alloc, parts(alloc, r, Part::First)?)
+}
+
+/// `\ran r`.
+pub fn range(alloc: Global, r: &[Value]) -> Result<Outcome, AllocError>
+    ensures { IfOk result (IsRange r.now) }
+{
+    display(alloc, parts(alloc, r, Part::Second)?)
+}
+
+/// `r \inv`.
+pub fn inverse(alloc: Global, r: &[Value]) -> Result<Outcome, AllocError>
+    ensures { IfOk result (IsInverse r.now) }
+{
+    let mut values = Vec::new(alloc);
+    for z in r {
+        if let Some((x, y)) = z.pair() {
+            values.push(pair_of(alloc, y, x)?)?;
+        }
+    }
+    display(alloc, values)
+}
+
+/// `r \limg a \rimg`.
+pub fn image(alloc: Global, r: &[Value], a: &[Value]) -> Result<Outcome, AllocError>
+    requires { IsAscending a.now }
+    ensures { IfOk result (IsImage r.now a.now) }
+{
+    display(
+        alloc,
+        selected(alloc, r, Part::First, Keep::Members, a, Part::Second)?,
+    )
+}
+
+/// `r \comp q`.
+pub fn composition(alloc: Global, r: &[Value], q: &[Value]) -> Result<Outcome, AllocError>
+    requires { IsAscending q.now }
+    ensures { IfOk result (IsComposition r.now q.now) }
+{
+    let mut values = Vec::new(alloc);
+    for z in r {
+        if let Some((x, y)) = z.pair() {
+            pair_all(alloc, &mut values, x, related(q, y))?;
+            if is_too_many(&mut values)? {
+                return Ok(Outcome::Out);
+            }
+        }
+    }
+    display(alloc, values)
+}
+
+/// `r \oplus q`.
+pub fn overriding(alloc: Global, r: &[Value], q: &[Value]) -> Result<Outcome, AllocError>
+    ensures { IfOk result (IsOverriding r.now q.now) }
+{
+    let mut firsts = parts(alloc, q, Part::First)?;
+    make_ascending(&mut firsts)?;
+    let mut values = selected(
+        alloc,
+        r,
+        Part::First,
+        Keep::Others,
+        firsts.as_slice(),
+        Part::Whole,
+    )?;
+    copy_onto(alloc, &mut values, q)?;
+    display(alloc, values)
+}
+
+/// `a \dres r`.
+pub fn domain_restriction(alloc: Global, a: &[Value], r: &[Value]) -> Result<Outcome, AllocError>
+    requires { IsAscending a.now }
+    ensures { IfOk result (IsDomainRestriction a.now r.now) }
+{
+    display(
+        alloc,
+        selected(alloc, r, Part::First, Keep::Members, a, Part::Whole)?,
+    )
+}
+
+/// `a \ndres r`.
+pub fn domain_subtraction(alloc: Global, a: &[Value], r: &[Value]) -> Result<Outcome, AllocError>
+    requires { IsAscending a.now }
+    ensures { IfOk result (IsDomainSubtraction a.now r.now) }
+{
+    display(
+        alloc,
+        selected(alloc, r, Part::First, Keep::Others, a, Part::Whole)?,
+    )
+}
+
+/// `r \rres b`.
+pub fn range_restriction(alloc: Global, r: &[Value], b: &[Value]) -> Result<Outcome, AllocError>
+    requires { IsAscending b.now }
+    ensures { IfOk result (IsRangeRestriction r.now b.now) }
+{
+    display(
+        alloc,
+        selected(alloc, r, Part::Second, Keep::Members, b, Part::Whole)?,
+    )
+}
+
+/// `r \nrres b`.
+pub fn range_subtraction(alloc: Global, r: &[Value], b: &[Value]) -> Result<Outcome, AllocError>
+    requires { IsAscending b.now }
+    ensures { IfOk result (IsRangeSubtraction r.now b.now) }
+{
+    display(
+        alloc,
+        selected(alloc, r, Part::Second, Keep::Others, b, Part::Whole)?,
+    )
+}
+
+/// What the relation takes the value to, if that is one value alone.
+pub fn applied<'a>(f: &'a [Value], x: &Value) -> Option<&'a Value>
+    requires { IsAscending f.now }
+    ensures { MatchOption result (IsApplied f.now x.now Outcome.Undefined) (λ y. IsApplied f.now x.now (Outcome.Is y.now)) }
+{
+    let mut found = None;
+    for z in related(f, x) {
+        if let Some((_, y)) = z.pair() {
+            if found.is_some() {
+                return None;
+            }
+            found = Some(y);
+        }
+    }
+    found
+}
+
+// ---- steps
+
+/// The members that begin with the value.
+fn related<'a>(r: &'a [Value], x: &Value) -> &'a [Value]
+    requires { IsAscending r.now }
+    ensures { AreRelated r.now x.now result.now }
+{
+    let (start, end) = stretch(r, x);
+    &r[start..end]
+}
+
+/// From where to where the members begin with the value.
+fn stretch(r: &[Value], x: &Value) -> (usize, usize)
+    requires { IsAscending r.now }
+    ensures order { result.0 ≤ result.1 }
+    ensures bound { result.1 ≤ length r.now }
+    ensures related { AreRelated r.now x.now (slice_range r.now result.0 result.1) }
+{
+    let start = r.partition_point(|z| place_beside(x, z).is_lt());
+    let end = r.partition_point(|z| place_beside(x, z).is_le());
+    (start, end)
+}
+
+/// Where the value stands beside the tuples that begin with x.
+fn place_beside(x: &Value, z: &Value) -> Ordering
+    ensures { result ≡ place x.now z.now }
+{
+    match &z.form {
+        Form::Int(_) | Form::Elem(_, _) => Ordering::Less,
+        Form::Tuple(items) => match items.as_slice() {
+            [] => Ordering::Less,
+            [y, ..] => y.order(x),
+        },
+        Form::SetOf(_) => Ordering::Greater,
+    }
+}
+
+fn pair_of(alloc: Global, x: &Value, y: &Value) -> Result<Value, AllocError>
+    ensures { IfOk result (λ v. v ≡ pair x.now y.now) }
+{
+    tuple_of_two(alloc, x.copy(alloc)?, y.copy(alloc)?)
+}
+
+/// Adds the pairs of x with the seconds of these.
+fn pair_all(
+    alloc: Global,
+    values: &mut Vec<Value>,
+    x: &Value,
+    pairs: &[Value],
+) -> Result<(), AllocError>
+    ensures { OnOk result (AddsPairs x.now pairs.now values.old.items values.new.items) }
+{
+    for z in pairs {
+        if let Some((_, y)) = z.pair() {
+            values.push(pair_of(alloc, x, y)?)?;
+        }
+    }
+    Ok(())
+}
