@@ -38,10 +38,10 @@ compared (form.SetOf xs) (form.Tuple ys) = is _ _ ∙ rw (outs-SetOf xs, outs-Tu
 compared (form.SetOf xs) (form.SetOf ys) = is _ _ ∙ rw (outs-SetOf xs, outs-SetOf ys) refl
 
 pub fed_alike : (f : Form) → fed.ghosts.hash_input (value_of f) ≡ fed_forms.ghosts.hash_input f
-fed_alike (form.Int m) = hashed.is _ ∙ rw (outs-Int m) refl
-fed_alike (form.Elem t i) = hashed.is _ ∙ rw (outs-Elem t i) refl
-fed_alike (form.Tuple xs) = hashed.is _ ∙ rw (outs-Tuple xs) refl
-fed_alike (form.SetOf xs) = hashed.is _ ∙ rw (outs-SetOf xs) refl
+fed_alike (form.Int m) = hashed.is _ _ ∙ rw (outs-Int m) refl
+fed_alike (form.Elem t i) = hashed.is _ _ ∙ rw (outs-Elem t i) refl
+fed_alike (form.Tuple xs) = hashed.is _ _ ∙ rw (outs-Tuple xs) refl
+fed_alike (form.SetOf xs) = hashed.is _ _ ∙ rw (outs-SetOf xs) refl
 
 pub equal_alike : (f g : Form) → plain_equality.ghosts.eq (value_of f) (value_of g) ≡ form_equality.ghosts.eq f g
 equal_alike f g = plain_laws.matches_eq-law _ _ ∙ ap is_eq (compared f g) ∙ sym (form_laws.matches_eq-law f g)

@@ -13,7 +13,8 @@ pub mod Merged
 pub mod Once
 pub mod Counted
 pub mod Divisions
-pub mod Regulars
 pub mod Searched
 pub mod Seen
 pub mod Stretches
+pub mod Levels
+pub mod Measures

@@ -6,7 +6,8 @@ use Rattle.zf_value.specs.declared.plain.Value.TheOpen.{Value-F}
 use Rattle.zf_value.specs.declared.value.Outcome.{Outcome}
 use Rattle.zf_value.specs.declared.value.Outcome.TheVariants.{Is, Undefined, Out}
 use Rattle.zf_value.specs.declared.TheConstants.{SET_MAX}
-pub use Rattle.zf_value.specs.Lists.{value_order, row_order, IsMember, Every, IsAscending, AreAmong, HaveSameMembers}
+pub use Rattle.zf_value.specs.Lists.{value_order, row_order, IsMember, Every, IsAscending}
+unfoldable pub use Rattle.zf_value.specs.Lists.{AreAmong, HaveSameMembers}
 
 -- ---- sets as values
 

@@ -6,7 +6,7 @@ ghost use Rattle.zf_value.specs.Steps.{ListsNumbers};
 
 use crate::SET_MAX;
 use crate::set::set_of;
-use crate::value::{Outcome, Value};
+use crate::value::{Form, Outcome, Value};
 use std::alloc::{AllocError, Global};
 
 pub fn negation(a: i64) -> Outcome
@@ -47,7 +47,7 @@ pub fn quotient(a: i64, b: i64) -> Outcome
     if !is_remainder(b, a % b) {
         return number_or_out(q.checked_sub(1));
     }
-    Outcome::Is(Value::of_int(q))
+    Outcome::Is(Value { form: Form::Int(q) })
 }
 
 /// `a \mod b`, what `\div` leaves.
@@ -59,9 +59,9 @@ pub fn modulus(a: i64, b: i64) -> Outcome
     }
     let r = a.wrapping_rem(b);
     if !is_remainder(b, r) {
-        return Outcome::Is(Value::of_int(r + b));
+        return Outcome::Is(Value { form: Form::Int(r + b) });
     }
-    Outcome::Is(Value::of_int(r))
+    Outcome::Is(Value { form: Form::Int(r) })
 }
 
 /// Whether `from \upto to` has more members than a set may have.
@@ -124,9 +124,9 @@ fn numbers(alloc: Global, from: i64, to: i64) -> Result<Vec<Value>, AllocError>
         return Ok(members);
     }
     for n in from..to {
-        members.push(Value::of_int(n))?;
+        members.push(Value { form: Form::Int(n) })?;
     }
-    members.push(Value::of_int(to))?;
+    members.push(Value { form: Form::Int(to) })?;
     Ok(members)
 }
 
@@ -135,7 +135,7 @@ fn number_or_out(number: Option<i64>) -> Outcome
     ensures { MatchOption number (result ≡ Outcome.Out) (λ n. result ≡ Outcome.Is (Int n)) }
 {
     match number {
-        Some(n) => Outcome::Is(Value::of_int(n)),
+        Some(n) => Outcome::Is(Value { form: Form::Int(n) }),
         None => Outcome::Out,
     }
 }

@@ -131,7 +131,7 @@ pub fn size(a: &[Value]) -> Outcome
     ensures { IsSize a.now result }
 {
     match i64::try_from(a.len()) {
-        Ok(n) => Outcome::Is(Value::of_int(n)),
+        Ok(n) => Outcome::Is(Value { form: Form::Int(n) }),
         Err(_) => Outcome::Out,
     }
 }

@@ -1,7 +1,6 @@
 //! Values, and what a term may have in place of one.
 ghost use Rattle.std.specs.Prelude.{◌≡◌, ◌↔◌, IsTrue, IfOk, IfSome, IfNone};
 ghost use Rattle.zf_value.specs.Numbers.{number_of};
-ghost use Rattle.zf_value.specs.declared.plain.Value.{Int};
 ghost use Rattle.zf_value.specs.Operations.{pair};
 ghost use Rattle.zf_value.specs.Sets.{IsAscending, members, value_order};
 
@@ -71,12 +70,6 @@ pub enum Truth {
 }
 
 impl Value {
-    pub fn of_int(n: i64) -> Value
-        ensures { result ≡ Int n }
-    {
-        Value { form: Form::Int(n) }
-    }
-
     /// The same value once more. Its lists are shared, and not copied.
     pub fn copy(&self, _alloc: Global) -> Result<Value, AllocError>
         ensures { IfOk result (λ v. v ≡ self.now) }

@@ -1,6 +1,8 @@
-use Rattle.std.proofs.Common.{sym, ◌∙◌}
+use Rattle.std.proofs.Common.{sym, ap, ◌∙◌}
+use Rattle.std.specs.List.{fold}
+use Rattle.zf_value.specs.contracts.plain.ValueHash.TheImpl as fed
 use Rattle.zf_value.proofs.Levels.{fed_alike}
 use Rattle.zf_value.proofs.value.+hashing.Goals as goal
 
 pub ValueHash::hash-returns : goal.ValueHash::hash-returns
-ValueHash::hash-returns g t c = ?
+ValueHash::hash-returns g t c = c.hash.ensures ∙ ap (fold g.__H.Hasher.write c.args.state.now) (sym (fed_alike c.self.inside.form) ∙ ap fed.ghosts.hash_input c.self.view_is)
