@@ -4,6 +4,7 @@
 ghost use Rattle.std.specs.Prelude.{◌≡◌};
 ghost use Rattle.regular.specs.declared.plain.Plain.{Int};
 ghost use Rattle.regular.specs.Plains.{IsAscending};
+ghost use Rattle.above.specs.Numbers.{number_of};
 
 use regular::value::{Form, Value};
 
@@ -17,9 +18,7 @@ pub enum Outcome {
 pub fn number(n: i64) -> Outcome
     ensures { result ≡ Outcome.Is (Int n) }
 {
-    Outcome::Is(Value {
-        form: Form::Int(n),
-    })
+    Outcome::Is(Value { form: Form::Int(n) })
 }
 
 /// The members of a set, which ascend.
@@ -54,5 +53,15 @@ pub fn holds_seven(value: &Value) -> bool {
             }
             false
         }
+    }
+}
+
+/// The number that a value is.
+pub fn number_in(value: &Value) -> Option<i64>
+    ensures { result ≡ number_of value.now }
+{
+    match value.form() {
+        Form::Int(n) => Some(*n),
+        _ => None,
     }
 }

@@ -5,7 +5,7 @@ use Rattle.regular.specs.declared.plain.Plain.TheOpen.{Plain-F}
 use Rattle.regular.specs.declared.plain.Plain.TheVariants.{outs-Int, outs-Elem, outs-Tuple, outs-SetOf, rolls-SetOf}
 use Rattle.regular.specs.declared.value.Form.{Form}
 use Rattle.regular.specs.declared.value.Form.TheVariants as form
-use Rattle.regular.specs.Forms.{value_of, members_at, members}
+use Rattle.regular.specs.Forms.{value_of, members_at, members, level_of}
 use Rattle.regular.specs.Heights.{greatest, height, height-Tuple, height-SetOf}
 use Rattle.regular.specs.declared.value.Value.TheDeep.{size-Value}
 use denote.Param.Weighed.{most}
@@ -57,3 +57,12 @@ set_falls v f xs ys e i s =
     let h = ap height (sym e ∙ ap value_of i) ∙ height-SetOf xs in
     let m = subst (λ us. most size-Value us ≤ 2 * (greatest (map height xs) + 1)) (sym s) (most_at_most xs) in
     omega (arith, h, m)
+
+level_is : (f : Form) → out-Plain (value_of f) ≡ level_of f
+level_is (form.Int n) = outs-Int n
+level_is (form.Elem t i) = outs-Elem t i
+level_is (form.Tuple xs) = outs-Tuple xs
+level_is (form.SetOf xs) = outs-SetOf xs
+
+pub out_is : (v : Plain) (f : Form) → value_of f ≡ v → out-Plain v ≡ level_of f
+out_is v f e = ap out-Plain (sym e) ∙ level_is f

@@ -27,3 +27,10 @@ members_at (Plain-F.Tuple xs) = []
 
 abbrev pub members : Plain → List Plain
 members v = members_at (out-Plain v)
+
+-- the form as one level of the value
+abbrev pub level_of : Form → Plain-F Plain
+level_of (form.Int n) = Plain-F.Int n
+level_of (form.Elem t i) = Plain-F.Elem t i
+level_of (form.Tuple xs) = Plain-F.Tuple xs
+level_of (form.SetOf xs) = Plain-F.SetOf xs

@@ -1,7 +1,8 @@
 //! Values, in which each set ascends.
 ghost use Rattle.std.specs.Prelude.{◌≡◌, IfOk};
 ghost use Rattle.regular.specs.Plains.{IsAscending};
-ghost use Rattle.regular.specs.Forms.{value_of, members, IsOrdered};
+ghost use Rattle.regular.specs.Forms.{value_of, members, level_of, IsOrdered};
+ghost use Rattle.regular.specs.declared.plain.Plain.{out-Plain};
 
 use crate::items::Items;
 use std::alloc::AllocError;
@@ -50,6 +51,15 @@ impl Model for Value {
 }
 
 impl Value {
+    /// The form of it.
+    #[inline(always)]
+    pub fn form(&self) -> &Form
+        ensures level { out-Plain self.now ≡ level_of result.now }
+        ensures ordered { IsOrdered result.now }
+    {
+        &self.form
+    }
+
     /// The same value once more. Its lists are shared, and not copied.
     pub fn copy(&self) -> Result<Value, AllocError>
         ensures { IfOk result (λ v. v ≡ self.now) }

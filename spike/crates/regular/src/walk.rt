@@ -54,7 +54,5 @@ pub fn set_of(alloc: Global, members: Vec<Value>) -> Result<Value, AllocError>
 pub fn number(n: i64) -> Value
     ensures { result ≡ Int n }
 {
-    Value {
-        form: Form::Int(n),
-    }
+    Value { form: Form::Int(n) }
 }

@@ -4,7 +4,6 @@ use Rattle.std.specs.Prelude.{pos, negsuc, ◌+ℤ◌, ◌-ℤ◌, ◌*ℤ◌, n
 use Rattle.std.specs.Int.{w64}
 use Rattle.std.proofs.lemmas.Int.{ints, to_z-of_z}
 use Rattle.std.specs.Option.{SomeIff}
-
 use Rattle.zf_value.specs.declared.TheConstants.{SET_MAX}
 use Rattle.zf_value.specs.declared.plain.Value.{Int}
 use Rattle.zf_value.specs.declared.value.Outcome.{Outcome}

@@ -5,7 +5,7 @@ use Rattle.zf_value.specs.declared.plain.Value.TheOpen.{Value-F}
 use Rattle.zf_value.specs.declared.plain.Value.TheVariants.{outs-Int, outs-Elem, outs-Tuple, outs-SetOf, rolls-SetOf}
 use Rattle.zf_value.specs.declared.value.Form.{Form}
 use Rattle.zf_value.specs.declared.value.Form.TheVariants as form
-use Rattle.zf_value.specs.Forms.{value_of}
+use Rattle.zf_value.specs.Forms.{value_of, level_of}
 use Rattle.zf_value.specs.Sets.{members_at, members, parts, value_order}
 use Rattle.zf_value.specs.Steps.{place_at, place_of_first, place_beside}
 use Rattle.zf_value.specs.Numbers.{number_at, number_of}
@@ -120,3 +120,12 @@ beside_some x z f xs ys y o e i s l g k = k ∙ first_some x y ys l g ∙ beside
 -- a pair has two items
 pub two_items : (v : Value) (f : Form) (xs ys : List Value) → value_of f ≡ v → f ≡ form.Tuple xs → ys ≡ xs → (x y : Value) → v ≡ pair x y → length ys ≡ 2
 two_items v f xs ys e i s x y p = ap length (s ∙ sym (parts-Tuple xs) ∙ ap parts (sym (ap value_of i) ∙ e ∙ p) ∙ parts-Tuple (x ∷ y ∷ []))
+
+level_is : (f : Form) → out-Value (value_of f) ≡ level_of f
+level_is (form.Int n) = outs-Int n
+level_is (form.Elem t i) = outs-Elem t i
+level_is (form.Tuple xs) = outs-Tuple xs
+level_is (form.SetOf xs) = outs-SetOf xs
+
+pub out_is : (v : Value) (f : Form) → value_of f ≡ v → out-Value v ≡ level_of f
+out_is v f e = ap out-Value (sym e) ∙ level_is f

@@ -59,7 +59,9 @@ pub fn modulus(a: i64, b: i64) -> Outcome
     }
     let r = a.wrapping_rem(b);
     if !is_remainder(b, r) {
-        return Outcome::Is(Value { form: Form::Int(r + b) });
+        return Outcome::Is(Value {
+            form: Form::Int(r + b),
+        });
     }
     Outcome::Is(Value { form: Form::Int(r) })
 }
@@ -126,7 +128,9 @@ fn numbers(alloc: Global, from: i64, to: i64) -> Result<Vec<Value>, AllocError>
     for n in from..to {
         members.push(Value { form: Form::Int(n) })?;
     }
-    members.push(Value { form: Form::Int(to) })?;
+    members.push(Value {
+        form: Form::Int(to),
+    })?;
     Ok(members)
 }
 

@@ -171,7 +171,7 @@ fn stretch(r: &[Value], x: &Value) -> (usize, usize)
 fn place_beside(x: &Value, z: &Value) -> Ordering
     ensures { result ≡ place x.now z.now }
 {
-    match &z.form {
+    match z.form() {
         Form::Int(_) | Form::Elem(_, _) => Ordering::Less,
         Form::Tuple(items) => match items.as_slice() {
             [] => Ordering::Less,

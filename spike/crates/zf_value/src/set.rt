@@ -22,13 +22,17 @@ pub fn pair(alloc: Global, x: Value, y: Value) -> Result<Outcome, AllocError>
 pub fn tuple(alloc: Global, values: Vec<Value>) -> Result<Outcome, AllocError>
     ensures { IfOk result (IsTuple values.items) }
 {
-    Ok(Outcome::Is(Value { form: Form::Tuple(Items::of(alloc, values)?) }))
+    Ok(Outcome::Is(Value {
+        form: Form::Tuple(Items::of(alloc, values)?),
+    }))
 }
 
 pub fn empty_set(alloc: Global) -> Result<Outcome, AllocError>
     ensures { IfOk result IsEmptySet }
 {
-    Ok(Outcome::Is(Value { form: Form::SetOf(Items::of(alloc, Vec::new(alloc))?) }))
+    Ok(Outcome::Is(Value {
+        form: Form::SetOf(Items::of(alloc, Vec::new(alloc))?),
+    }))
 }
 
 /// The set of these values, in any order and with repeats.
@@ -61,7 +65,9 @@ pub fn elements(alloc: Global, number: u32, count: u64) -> Result<Outcome, Alloc
     }
     let mut members = Vec::new(alloc);
     for index in 0..count {
-        members.push(Value { form: Form::Elem(number, index) })?;
+        members.push(Value {
+            form: Form::Elem(number, index),
+        })?;
     }
     set_of(alloc, members)
 }
@@ -217,7 +223,9 @@ pub(crate) fn set_of(alloc: Global, mut members: Vec<Value>) -> Result<Outcome, 
         return Ok(Outcome::Out);
     }
     give_room_back(&mut members);
-    Ok(Outcome::Is(Value { form: Form::SetOf(Items::of(alloc, members)?) }))
+    Ok(Outcome::Is(Value {
+        form: Form::SetOf(Items::of(alloc, members)?),
+    }))
 }
 
 /// Gives room back where values fill no more than half of it: what is gathered for a set may be many more values than its
@@ -252,5 +260,7 @@ pub(crate) fn tuple_of_two(alloc: Global, x: Value, y: Value) -> Result<Value, A
     let mut values = Vec::with_capacity(alloc, 2)?;
     values.push(x)?;
     values.push(y)?;
-    Ok(Value { form: Form::Tuple(Items::of(alloc, values)?) })
+    Ok(Value {
+        form: Form::Tuple(Items::of(alloc, values)?),
+    })
 }

@@ -2,6 +2,8 @@
 ghost use Rattle.std.specs.Prelude.{◌≡◌, ◌↔◌, IsTrue, IfOk, IfSome, IfNone};
 ghost use Rattle.zf_value.specs.Numbers.{number_of};
 ghost use Rattle.zf_value.specs.Operations.{pair};
+ghost use Rattle.zf_value.specs.Forms.{level_of, IsOrdered};
+ghost use Rattle.zf_value.specs.declared.plain.Value.{out-Value};
 ghost use Rattle.zf_value.specs.Sets.{IsAscending, members, value_order};
 
 use crate::items::Items;
@@ -75,10 +77,18 @@ impl Value {
         ensures { IfOk result (λ v. v ≡ self.now) }
     {
         match &self.form {
-            Form::Int(n) => Ok(Value { form: Form::Int(*n) }),
-            Form::Elem(number, index) => Ok(Value { form: Form::Elem(*number, *index) }),
-            Form::Tuple(items) => Ok(Value { form: Form::Tuple(items.copy()?) }),
-            Form::SetOf(items) => Ok(Value { form: Form::SetOf(items.copy()?) }),
+            Form::Int(n) => Ok(Value {
+                form: Form::Int(*n),
+            }),
+            Form::Elem(number, index) => Ok(Value {
+                form: Form::Elem(*number, *index),
+            }),
+            Form::Tuple(items) => Ok(Value {
+                form: Form::Tuple(items.copy()?),
+            }),
+            Form::SetOf(items) => Ok(Value {
+                form: Form::SetOf(items.copy()?),
+            }),
         }
     }
 
@@ -106,11 +116,20 @@ impl Value {
         }
     }
 
+    /// The form of it.
+    #[inline(always)]
+    pub fn form(&self) -> &Form
+        ensures level { out-Value self.now ≡ level_of result.now }
+        ensures ordered { IsOrdered result.now }
+    {
+        &self.form
+    }
+
     /// The number that this is.
     pub fn number(&self) -> Option<i64>
         ensures { result ≡ number_of self.now }
     {
-        match &self.form {
+        match self.form() {
             Form::Int(n) => Some(*n),
             _ => None,
         }
