@@ -3,7 +3,7 @@ ghost use Rattle.std.specs.Bool.{MatchBool};
 ghost use Rattle.std.specs.Prelude.{◌≡◌, true, ◌↔◌, ◌*◌, ◌≤◌, ◌++◌, length, IsTrue, IfOk, OnOk};
 ghost use Rattle.zf_value.specs.Operations.{pair, IsPair, IsTuple, IsEmptySet, IsElement, AreElements, IsDisplay, IsUnion, IsIntersection, IsSetDifference, IsSize};
 ghost use Rattle.zf_value.specs.Steps.{IsJoined};
-ghost use Rattle.zf_value.specs.Sets.{IsMember, IsAscending, AreAmong, HaveSameMembers};
+ghost use Rattle.zf_value.specs.Sets.{members, IsMember, IsAscending, AreAmong, HaveSameMembers};
 
 use crate::SET_MAX;
 use crate::items::Items;
@@ -102,12 +102,10 @@ pub fn are_among(values: &[Value], set: &[Value]) -> bool
     true
 }
 
-pub fn union(alloc: Global, a: &[Value], b: &[Value]) -> Result<Outcome, AllocError>
-    requires a { IsAscending a.now }
-    requires b { IsAscending b.now }
-    ensures { IfOk result (IsUnion a.now b.now) }
+pub fn union(alloc: Global, a: &Value, b: &Value) -> Result<Outcome, AllocError>
+    ensures { IfOk result (IsUnion (members a.now) (members b.now)) }
 {
-    let values = merged(alloc, a, b)?;
+    let values = merged(alloc, a.members(), b.members())?;
     set_of(alloc, values)
 }
 
