@@ -29,7 +29,7 @@ returns-clause-begins c =
     let walk = c.in_ok-over.field-0.walk in
     let problem = c.in_ok-over.ensures.problem in
     let here = ap (λ (j : Property). environment_of j.env.now) problem.0 in
-    let these = ap (λ (j : Property). map resolved_of j.conjuncts.items) problem.0 ∙ conjuncts in
+    let these = ap (λ (j : Property). map resolved_of j.conjuncts) problem.0 ∙ conjuncts in
     record {
       begins = record {
         environment = here;
