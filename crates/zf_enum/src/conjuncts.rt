@@ -38,7 +38,7 @@ impl<'a> Model for Conjuncts<'a> {
 impl<'a> Conjuncts<'a> {
     /// These terms; nothing is kept.
     pub(crate) fn plain(alloc: Global, terms: Vec<Resolved<'a>>) -> Conjuncts<'a>
-        ensures { result ≡ terms.items }
+        ensures { result ≡ terms.entry.items }
     {
         Conjuncts {
             terms,

@@ -1,6 +1,6 @@
 //! Expressions that a quantifier equates a component with, for some values of its variables.
 ghost use Rattle.std.specs.Prelude.{◌≡◌, ◌<◌, ◌^◌, ℕ, List, Some, IfOk, IfSome, OnOk, IsTrue, map, slice_get};
-ghost use Rattle.zf_term.specs.ResolvedTrees.{ResolvedTree, resolved_of};
+ghost use Rattle.zf_term.specs.ResolvedTrees.{ResolvedTree, absent, builder, present, range_of, ranges, resolved_of};
 ghost use Rattle.zf_enum.specs.Property as spec;
 ghost use Rattle.zf_enum.specs.Spreads.{AddsSpreads, AreSpreads, AsksFor, Equates, IsSetOver, IsSpread, IsThere};
 
@@ -8,9 +8,9 @@ use crate::due::due;
 use crate::fixing::fixing;
 use bumpalo::Bump;
 use std::alloc::{AllocError, Global};
-use zf_data::arena::Boxed;
+use zf_data::arena::{Boxed, Items};
 use zf_resolved::moving::copy;
-use zf_term::resolved::{Part, Resolved};
+use zf_term::resolved::{Part, Range, Resolved};
 use zf_tree::operator::Operator;
 use zf_tree::symbol::{Connective, Quantifier};
 
@@ -103,8 +103,7 @@ fn spread_of<'a>(
         return Ok(None);
     };
     let member = copy(side, arena)?;
-    let whole = copy(term, arena)?;
-    set_over(arena, whole, member)
+    set_over(arena, term, member)
 }
 
 /// The expression that a predicate equates the component with, if it asks for values of variables.
@@ -125,18 +124,57 @@ fn asked<'t, 'a>(term: &'t Resolved<'a>, component: usize) -> Option<&'t Resolve
 #[tactic(auto, using(zf_term::proofs::ResolvedSeen::seen))]
 fn set_over<'a>(
     arena: &'a Bump,
-    whole: Resolved<'a>,
+    whole: &Resolved<'a>,
     term: Resolved<'a>,
 ) -> Result<Option<Resolved<'a>>, AllocError>
-    ensures { IfOk result (λ found. IfSome found (λ set. IsSetOver (resolved_of whole.entry) (resolved_of term.entry) (resolved_of set))) }
+    ensures { IfOk result (λ found. IfSome found (λ set. IsSetOver (resolved_of whole.now) (resolved_of term.entry) (resolved_of set))) }
 {
-    let Resolved::Quantified(_, line, ranges, _, _) = whole else {
+    let Resolved::Quantified(_, line, variables, _, _) = whole else {
         return Ok(None);
     };
+    let variables = copied_ranges(arena, variables.as_slice())?;
+    let set = set_of_rows(arena, *line, variables, term)?;
+    Ok(Some(set))
+}
+
+/// The set of what a term comes to over these ranges.
+#[tactic(auto, using(zf_term::proofs::ResolvedSeen::seen))]
+fn set_of_rows<'a>(
+    arena: &'a Bump,
+    line: u32,
+    variables: Boxed<'a, Items<'a, Range<'a>>>,
+    term: Resolved<'a>,
+) -> Result<Resolved<'a>, AllocError>
+    ensures { IfOk result (λ set. resolved_of set ≡ builder line (ranges (map range_of variables.entry)) absent (present (resolved_of term.entry))) }
+{
     let filter: Part<'a> = Boxed::new(arena, None)?;
     let inner = Boxed::new(arena, term)?;
     let member: Part<'a> = Boxed::new(arena, Some(inner))?;
-    Ok(Some(Resolved::Builder(line, ranges, filter, member)))
+    Ok(Resolved::Builder(line, variables, filter, member))
+}
+
+/// The same ranges.
+fn copied_ranges<'a>(
+    arena: &'a Bump,
+    variables: &[Range<'a>],
+) -> Result<Boxed<'a, Items<'a, Range<'a>>>, AllocError>
+    ensures { IfOk result (λ s. map range_of s ≡ map range_of variables.now) }
+{
+    let mut all = Items::with_room(arena, variables.len())?;
+    for range in variables {
+        all.push(copied_range(arena, range)?)?;
+    }
+    Boxed::new(arena, all)
+}
+
+#[tactic(auto, using(zf_term::proofs::ResolvedSeen::parts_seen))]
+fn copied_range<'a>(arena: &'a Bump, range: &Range<'a>) -> Result<Range<'a>, AllocError>
+    ensures { IfOk result (λ r. range_of r ≡ range_of range.now) }
+{
+    Ok(Range {
+        variables: range.variables,
+        set: copy(&range.set, arena)?,
+    })
 }
 
 fn is_there(quantifier: Quantifier) -> bool

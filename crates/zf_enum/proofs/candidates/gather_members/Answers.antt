@@ -1,7 +1,7 @@
 use Rattle.zf_enum.proofs.Prelude.{◌≡◌, ◌∙◌, sym, subst, Value, member_at, regular_member, IsRegular}
 use Rattle.zf_enum.specs.Fixing.{HasPlace}
 use Rattle.zf_enum.proofs.Trying.{stays_on}
-use Rattle.zf_enum.proofs.Asking.{placed_more, placed_all}
+use Rattle.zf_enum.proofs.Placed.{placed_more, placed_all}
 use Rattle.zf_enum.proofs.candidates.gather_members.Goals as goal
 
 pub loop-value-init : goal.loop-value-init
