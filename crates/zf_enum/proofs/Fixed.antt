@@ -1,7 +1,9 @@
 -- Equations that fix a component: where its value is another than the expression's, they are False.
-use Rattle.zf_enum.proofs.Prelude.{◌++◌, ◌+◌, ◌<◌, ◌∙◌, ◌∷◌, ◌≡◌, ◌≤◌, ◌⊎◌, [], ap, ap₂, arith, Bool, cond, false, get_or, inl, inr, length, List, max, refl, Some, subst, suc, sym, true, zero, ℕ, ⊎_elim, eqb-true, false≢true, Contains, slice_get, length-picked, AreWithin, picked, Leaves, Reference, Component, Global, Local, Outcome, Is, Out, Undefined, Value, Equal, chain, link, no_links, reference, ResolvedTree, references, Environment, value_or, in_row, HasOutcome, IsTruth, IsAtom, need, AreCandidates, Fixes, IsKept, due, greatest_place, HasTruth, is_among, is_component, place_named, property, uses}
+use Rattle.zf_enum.proofs.Prelude.{◌++◌, ◌+◌, ◌<◌, ◌∙◌, ◌∷◌, ◌≡◌, ◌≤◌, ◌⊎◌, [], ap, ap₂, arith, Bool, cond, false, get_or, inl, inr, length, List, max, refl, Some, subst, suc, sym, true, zero, ℕ, ⊎_elim, eqb-true, false≢true, Contains, slice_get, length-picked, AreWithin, picked, Leaves, Reference, Component, Global, Local, Outcome, Is, Out, Undefined, Value, Equal, chain, link, no_links, ResolvedTree, references, Environment, value_or, in_row, HasOutcome, IsTruth, IsAtom, need, AreCandidates, Fixes, IsKept, due, greatest_place, HasTruth, is_among, is_component, place_named, property, uses}
 use Rattle.zf_value.specs.declared.value.Truth.TheVariants as truth
+use Rattle.zf_meaning.specs.Environments.{Context, outcome_in}
 use Rattle.zf_meaning.specs.Symbols.{Holds}
+use Rattle.zf_enum.specs.declared.candidates.Tie.TheVariants as tie
 use Rattle.zf_enum.proofs.Dues.{due_need}
 
 -- ---- which components are used
@@ -24,7 +26,7 @@ among_below k (r ∷ rs) e =
 pub uses_below : (t : ResolvedTree) (k : ℕ) → uses t k ≡ true → k < due t
 uses_below t k e = among_below k (references t) e
 
-side_need : (m k : ℕ) (p t : ResolvedTree) → Fixes p k t → need m t ≤ need m p
+pub side_need : (m k : ℕ) (p t : ResolvedTree) → Fixes p k t → need m t ≤ need m p
 side_need m k p t (line, left, right, is, (apart, inl (name, same))) =
     let whole : need m p ≡ max (need m left) (max (need m right) 0) = ap (need m) is in
     let part : need m t ≡ need m right = ap (need m) same in
@@ -45,7 +47,7 @@ side_due k p t f =
 -- ---- another value than the expression's
 
 -- the outcome is not out, and isn't this value
-abbrev IsOther : Outcome → Value → Type 0
+abbrev pub IsOther : Outcome → Value → Type 0
 IsOther (Is w) v = w ≡ v → ⊥
 IsOther Undefined v = Unit {0}
 IsOther Out v = ⊥
@@ -60,20 +62,18 @@ component_last (Is w) v h = h
 component_last Undefined v h = refl
 component_last Out v h = absurd h
 
-named : (e : Environment) (row : List Value) (k line : ℕ) (v : Value) → slice_get row k ≡ Some v → HasOutcome (in_row e row) (reference line (Component k)) (Is v)
-named e row k line v here = sym (ap value_or here)
-
-false_at : (e : Environment) (row : List Value) (k : ℕ) (p t : ResolvedTree) (v : Value) (o : Outcome) → Fixes p k t → slice_get row k ≡ Some v → HasOutcome (in_row e row) t o → IsOther o v → IsTruth (in_row e row) p truth.False
-false_at e row k p t v o (line, left, right, is, (apart, inl ((at, name), same))) here h other =
-    subst (λ q. IsTruth (in_row e row) q truth.False) (sym (is ∙ ap₂ (λ (a b : ResolvedTree). chain line a (link Equal b no_links)) name (sym same)))
-    (Is v, named e row k at v here, (o, h, inl (component_first o v other)))
-false_at e row k p t v o (line, left, right, is, (apart, inr ((at, name), same))) here h other =
-    subst (λ q. IsTruth (in_row e row) q truth.False) (sym (is ∙ ap₂ (λ (a b : ResolvedTree). chain line a (link Equal b no_links)) (sym same) name))
-    (o, h, (Is v, named e row k at v here, inl (component_last o v other)))
+-- an equation is false where the component has a value, and the expression another outcome
+pub false_in : (c : Context) (k : ℕ) (p t : ResolvedTree) (v : Value) (o : Outcome) → Fixes p k t → Is v ≡ outcome_in c (Component k) → HasOutcome c t o → IsOther o v → IsTruth c p truth.False
+false_in c k p t v o (line, left, right, is, (apart, inl ((at, name), same))) here h other =
+    subst (λ q. IsTruth c q truth.False) (sym (is ∙ ap₂ (λ (a b : ResolvedTree). chain line a (link Equal b no_links)) name (sym same)))
+    (Is v, here, (o, h, inl (component_first o v other)))
+false_in c k p t v o (line, left, right, is, (apart, inr ((at, name), same))) here h other =
+    subst (λ q. IsTruth c q truth.False) (sym (is ∙ ap₂ (λ (a b : ResolvedTree). chain line a (link Equal b no_links)) (sym same) name))
+    (o, h, (Is v, here, inl (component_last o v other)))
 
 -- ---- the places that are left
 
-other_at : (o : Outcome) (v : Value) (range : List Value) (places : List ℕ) (i : ℕ) → IsKept o range places → slice_get range i ≡ Some v → (Contains places i → ⊥) → IsOther o v
+other_at : (o : Outcome) (v : Value) (range : List Value) (places : List ℕ) (i : ℕ) → IsKept tie.Value o range places → slice_get range i ≡ Some v → (Contains places i → ⊥) → IsOther o v
 other_at (Is w) v range places i kept at out = λ same. out (kept i (subst (λ u. slice_get range i ≡ Some u) (sym same) at))
 other_at Undefined v range places i kept at out = tt
 other_at Out v range places i kept at out = absurd kept
@@ -89,14 +89,14 @@ get_next [] ys y (suc k) l = absurd (omega arith)
 get_next (x ∷ xs) ys y zero l = absurd (omega arith)
 get_next (x ∷ xs) ys y (suc k) l = get_next xs ys y k (omega arith)
 
-truth_at : (e : Environment) (row : List Value) (ts : List ResolvedTree) (c : ℕ) (p : ResolvedTree) → slice_get ts c ≡ Some p → IsTruth (in_row e row) p truth.False → HasTruth e row (slice_get ts c) truth.False
+pub truth_at : (e : Environment) (row : List Value) (ts : List ResolvedTree) (c : ℕ) (p : ResolvedTree) → slice_get ts c ≡ Some p → IsTruth (in_row e row) p truth.False → HasTruth e row (slice_get ts c) truth.False
 truth_at e row ts c p at h = subst (λ q. HasTruth e row q truth.False) (sym at) h
 
 -- an equation leaves the candidates of its expression
 pub candidates_left : (e : Environment) (ts : List ResolvedTree) (c k : ℕ) (p t : ResolvedTree) (ranges : List (List Value)) (places left : List ℕ) → slice_get ts c ≡ Some p → k ≡ length places → Fixes p k t → AreWithin ranges places
-    → AreCandidates e t ranges (picked ranges places) (get_or ranges (length places) []) left → Leaves (property e ts) c ranges places left
+    → AreCandidates tie.Value e t ranges (picked ranges places) (get_or ranges (length places) []) left → Leaves (property e ts) c ranges places left
 candidates_left e ts c k p t ranges places left at next fixed within candidates i v more there out is =
     let front = picked ranges places in
     let row = front ++ v ∷ more in
     let r = candidates row is (λ k l u. get_front front (v ∷ more) k l) in
-    truth_at e row ts c p at (false_at e row k p t v r.0 fixed (get_next front more v k (next ∙ sym (length-picked ranges places within))) r.1 (other_at r.0 v (get_or ranges (length places) []) left i r.2 there out))
+    truth_at e row ts c p at (false_in (in_row e row) k p t v r.0 fixed (sym (ap value_or (get_next front more v k (next ∙ sym (length-picked ranges places within))))) r.1 (other_at r.0 v (get_or ranges (length places) []) left i r.2 there out))

@@ -17,5 +17,7 @@ pub mod Planted
 pub mod Naming
 pub mod Fixed
 pub mod Trying
+pub mod Placed
+pub mod Spreading
 pub mod Equations
 pub mod Standing

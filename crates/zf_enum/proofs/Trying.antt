@@ -2,14 +2,19 @@
 use Rattle.zf_enum.proofs.Prelude.{◌++◌, ◌+◌, ◌<◌, ◌∙◌, ◌∷◌, ◌≡◌, ◌≤◌, [], ap₂, arith, get_or, length, length-append, List, refl, Some, subst, suc, sym, take, true, zero, ℕ, ⊎_elim, cases_Bool, cases_lt, false≢true, slice_get, AreWithin-push, length-picked, nth-at, picked-push, AreWithin, picked, IsRowOf, StaysIn, Outcome, Is, Out, Undefined, Value, ResolvedTree, Environment, in_row, HasOutcome, AreCandidates, GoesOn, IsKept, due, uses, follows_outcome}
 use Rattle.std.proofs.Math.Seq.{take-append_seam}
 use Rattle.zf_walk.proofs.Order.{IsNth}
+use Rattle.zf_enum.specs.declared.candidates.Tie.{Tie}
+use Rattle.zf_enum.specs.declared.candidates.Tie.TheVariants as tie
 use Rattle.zf_enum.proofs.Fixed.{get_front, get_next, uses_below}
 
 -- ---- what is gathered stays
 
-kept_more : (o : Outcome) (range : List Value) (xs ys : List ℕ) → StaysIn xs ys → IsKept o range xs → IsKept o range ys
-kept_more (Is v) range xs ys stay h = λ i at. stay i (h i at)
-kept_more Undefined range xs ys stay h = tt
-kept_more Out range xs ys stay h = absurd h
+kept_more : (n : Tie) (o : Outcome) (range : List Value) (xs ys : List ℕ) → StaysIn xs ys → IsKept n o range xs → IsKept n o range ys
+kept_more tie.Value (Is v) range xs ys stay h = λ i at. stay i (h i at)
+kept_more tie.Value Undefined range xs ys stay h = tt
+kept_more tie.Value Out range xs ys stay h = absurd h
+kept_more tie.Members (Is s) range xs ys stay h = λ v m i at. stay i (h v m i at)
+kept_more tie.Members Undefined range xs ys stay h = absurd h
+kept_more tie.Members Out range xs ys stay h = absurd h
 
 pub stays_on : (xs ys zs : List ℕ) → StaysIn xs ys → StaysIn ys zs → StaysIn xs zs
 stays_on xs ys zs one two i h = two i (one i h)
@@ -38,27 +43,27 @@ goes_on t front v row on here k l u =
 pub as_before : (places more told left : List ℕ) (place count : ℕ) → more ≡ places ++ place ∷ [] → told ≡ more → left ≡ take count told → count ≡ length places → left ≡ places
 as_before places more told left place count pushed same cut long = cut ∙ ap₂ take long (same ∙ pushed) ∙ take-append_seam places (place ∷ [])
 
-module _ (e : Environment) (t : ResolvedTree) (ranges : List (List Value)) (range : List Value) where
-  pub candidates_more : (front : List Value) (xs ys : List ℕ) → StaysIn xs ys → AreCandidates e t ranges front range xs → AreCandidates e t ranges front range ys
-  candidates_more front xs ys stay h row is on = let r = h row is on in (r.0, r.1, kept_more r.0 range xs ys stay r.2)
+module _ (n : Tie) (e : Environment) (t : ResolvedTree) (ranges : List (List Value)) (range : List Value) where
+  pub candidates_more : (front : List Value) (xs ys : List ℕ) → StaysIn xs ys → AreCandidates n e t ranges front range xs → AreCandidates n e t ranges front range ys
+  candidates_more front xs ys stay h row is on = let r = h row is on in (r.0, r.1, kept_more n r.0 range xs ys stay r.2)
 
-  pub one_candidate : (front : List Value) (xs : List ℕ) (o : Outcome) → due t ≤ length front → HasOutcome (in_row e front) t o → IsKept o range xs → AreCandidates e t ranges front range xs
+  pub one_candidate : (front : List Value) (xs : List ℕ) (o : Outcome) → due t ≤ length front → HasOutcome (in_row e front) t o → IsKept n o range xs → AreCandidates n e t ranges front range xs
   one_candidate front xs o bound h kept row is on = (o, follows_outcome e front row t o (λ k u. on k (let b = uses_below t k u in omega (arith, b, bound)) u) h, kept)
 
   -- each of the first places of the next component was tried
   abbrev pub TriedUpTo : List ℕ → ℕ → List ℕ → Type 0
-  TriedUpTo places end xs = (j : ℕ) → j < end → AreCandidates e t ranges (picked ranges (places ++ j ∷ [])) range xs
+  TriedUpTo places end xs = (j : ℕ) → j < end → AreCandidates n e t ranges (picked ranges (places ++ j ∷ [])) range xs
 
-  pub one_tried : (places : List ℕ) (end : ℕ) (xs ys : List ℕ) → StaysIn xs ys → TriedUpTo places end xs → AreCandidates e t ranges (picked ranges (places ++ end ∷ [])) range ys → TriedUpTo places (end + 1) ys
+  pub one_tried : (places : List ℕ) (end : ℕ) (xs ys : List ℕ) → StaysIn xs ys → TriedUpTo places end xs → AreCandidates n e t ranges (picked ranges (places ++ end ∷ [])) range ys → TriedUpTo places (end + 1) ys
   one_tried places end xs ys stay before this j l =
       ⊎_elim (λ less. candidates_more (picked ranges (places ++ j ∷ [])) xs ys stay (before j less))
-      (λ more. let last : end ≡ j = omega (arith, l, more) in subst (λ n. AreCandidates e t ranges (picked ranges (places ++ n ∷ [])) range ys) last this)
+      (λ more. let last : end ≡ j = omega (arith, l, more) in subst (λ m. AreCandidates n e t ranges (picked ranges (places ++ m ∷ [])) range ys) last this)
       (cases_lt j end)
 
   -- where each value of the next component was tried, or one where the expression doesn't use it
   pub all_tried : (places xs : List ℕ) (end : ℕ) → AreWithin ranges places → length places < length ranges
       → (uses t (length places) ≡ true → end ≡ length (get_or ranges (length places) [])) → (0 < length (get_or ranges (length places) []) → 0 < end)
-      → ((j : ℕ) → j < end → AreCandidates e t ranges (picked ranges (places ++ j ∷ [])) range xs) → AreCandidates e t ranges (picked ranges places) range xs
+      → ((j : ℕ) → j < end → AreCandidates n e t ranges (picked ranges (places ++ j ∷ [])) range xs) → AreCandidates n e t ranges (picked ranges places) range xs
   all_tried places xs end within near all some h row is on =
       let front = picked ranges places in
       let long : length front ≡ length places = length-picked ranges places within in

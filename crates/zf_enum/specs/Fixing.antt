@@ -6,10 +6,13 @@ use Rattle.zf_term.specs.ResolvedTrees.{ResolvedTree, reference, chain, no_links
 use Rattle.zf_value.specs.declared.value.Value.{Value}
 use Rattle.zf_value.specs.declared.value.Outcome.{Outcome}
 use Rattle.zf_value.specs.declared.value.Outcome.TheVariants.{Is, Undefined, Out}
+use Rattle.zf_value.specs.Sets.{IsMember, members}
 use Rattle.zf_walk.specs.Rows.{IsRowOf}
 use Rattle.zf_meaning.specs.Environments.{Environment}
 use Rattle.zf_meaning.specs.InRow.{in_row}
 use Rattle.zf_meaning.specs.Meaning.{HasOutcome}
+use Rattle.zf_enum.specs.declared.candidates.Tie.{Tie}
+use Rattle.zf_enum.specs.declared.candidates.Tie.TheVariants as tie
 use Rattle.zf_enum.specs.Property.{uses}
 
 -- ---- equations
@@ -28,16 +31,23 @@ Fixes p k t = (line : ℕ) × (left right : ResolvedTree) × (p ≡ chain line l
 
 -- ---- candidates
 
--- where the outcome is a value of the range, its place is among these; it is not out
-abbrev pub IsKept : Outcome → List Value → List ℕ → Type 0
-IsKept (Is v) range places = (i : ℕ) → slice_get range i ≡ Some v → Contains places i
-IsKept Undefined range places = Unit {0}
-IsKept Out range places = ⊥
+-- where the value stands in the range, its place is among these
+abbrev pub HasPlace : Value → List Value → List ℕ → Type 0
+HasPlace v range places = (i : ℕ) → slice_get range i ≡ Some v → Contains places i
+
+-- where what an outcome leaves stands in the range, its place is among these; it is not out
+abbrev pub IsKept : Tie → Outcome → List Value → List ℕ → Type 0
+IsKept tie.Value (Is v) range places = HasPlace v range places
+IsKept tie.Value Undefined range places = Unit {0}
+IsKept tie.Value Out range places = ⊥
+IsKept tie.Members (Is s) range places = (v : Value) → IsMember v (members s) → HasPlace v range places
+IsKept tie.Members Undefined range places = ⊥
+IsKept tie.Members Out range places = ⊥
 
 -- the row begins with these values, but for components that the term doesn't use
 abbrev pub GoesOn : ResolvedTree → List Value → List Value → Type 0
 GoesOn t front row = (k : ℕ) → k < length front → uses t k ≡ true → slice_get front k ≡ slice_get row k
 
--- on each row of the ranges that so begins, the place of the term's value in a range is among these
-abbrev pub AreCandidates : Environment → ResolvedTree → List (List Value) → List Value → List Value → List ℕ → Type 0
-AreCandidates e t ranges front range places = (row : List Value) → IsRowOf ranges row → GoesOn t front row → (o : Outcome) × HasOutcome (in_row e row) t o × IsKept o range places
+-- on each row of the ranges that so begins, the places of what the term leaves of a range are among these
+abbrev pub AreCandidates : Tie → Environment → ResolvedTree → List (List Value) → List Value → List Value → List ℕ → Type 0
+AreCandidates n e t ranges front range places = (row : List Value) → IsRowOf ranges row → GoesOn t front row → (o : Outcome) × HasOutcome (in_row e row) t o × IsKept n o range places

@@ -13,4 +13,5 @@ pub mod Searches
 pub mod OfTypes
 pub mod Planting
 pub mod Fixing
+pub mod Spreads
 pub mod Instances

@@ -29,11 +29,11 @@ conjuncts_of g = over (property g.further g.predicates) g.trees
 
 -- the conjuncts that a property has
 abbrev pub judged : judge.Property → Conjuncts Value
-judged p = property (environment_of p.env.now) (map resolved_of p.conjuncts.items)
+judged p = property (environment_of p.env.now) (map resolved_of p.conjuncts)
 
 -- a search that counts its tests goes by predicates
 abbrev pub counted_goal : walk.Progress Value judge.Property → Goal
-counted_goal w = record { environment = environment_of w.judge.env.now; further = environment_of w.judge.env.now; predicates = map resolved_of w.judge.conjuncts.items; trees = None }
+counted_goal w = record { environment = environment_of w.judge.env.now; further = environment_of w.judge.env.now; predicates = map resolved_of w.judge.conjuncts; trees = None }
 
 -- the environment of its first n names
 abbrev pub with_first : ℕ → Environment → Environment
@@ -44,6 +44,6 @@ abbrev pub planted_goal : ℕ → plan.Progress Value judge.Property → Goal
 planted_goal names s = record {
   environment = with_first names (environment_of s.judge.env.now);
   further = environment_of s.judge.env.now;
-  predicates = map resolved_of s.judge.conjuncts.items;
+  predicates = map resolved_of s.judge.conjuncts;
   trees = Some (trees_of s.forest);
 }

@@ -33,5 +33,5 @@ pub record Begins (e : Environment) (s : Schema) (p : Portion) (g : Goal) (b : S
 -- The same of one that counts its tests: its conjuncts are those of the schema, and none was tested.
 pub record BeginsCounting (e : Environment) (s : Schema) (p : Portion) (b : Bindings) : Type 0 where
   pub begins : Begins e s p (counted_goal b.walk) b.walk.stage
-  pub conjuncts : map resolved_of b.walk.judge.conjuncts.items ≡ s.conjuncts
+  pub conjuncts : map resolved_of b.walk.judge.conjuncts ≡ s.conjuncts
   pub untested : b.walk.tests ≡ 0

@@ -2,27 +2,39 @@
 ghost use Rattle.std.specs.Prelude.{◌≡◌, ◌<◌, ◌≤◌, ℕ, [], length, true, AllPairs, Some, IsTrue, IfOk, OnOk, slice_get, slice_index_or};
 ghost use Rattle.std.specs.declared.cmp.Ordering.TheVariants.{Less};
 ghost use Rattle.zf_term.specs.ResolvedTrees.{resolved_of};
-ghost use Rattle.zf_value.specs.Sets.{value_order, IsRegularOutcome};
+ghost use Rattle.zf_value.specs.declared.value.Value as value;
+ghost use Rattle.zf_value.specs.Sets.{value_order, AreRegular, IsMember, IsRegularOutcome};
 ghost use Rattle.zf_walk.specs.Picked.{AreWithin, picked};
 ghost use Rattle.zf_walk.specs.Rows.{AreAscending};
 ghost use Rattle.zf_plan.specs.Choices.{StaysIn};
 ghost use Rattle.zf_meaning.specs.Envs.{environment_of};
-ghost use Rattle.zf_enum.specs.Fixing.{IsKept, AreCandidates};
+ghost use Rattle.zf_enum.specs.Fixing.{HasPlace, IsKept, AreCandidates};
 ghost use Rattle.zf_enum.specs.Property as spec;
 
 use crate::due::{due, uses};
 use crate::known::Known;
 use crate::shown::{Shown, meet};
+use crate::weight::rows_weight;
 use std::alloc::AllocError;
 use zf_meaning::env::Env;
 use zf_meaning::value::value_of;
 use zf_term::resolved::Resolved;
-use zf_value::value::Outcome;
+use zf_value::value::{Outcome, Value};
 use zf_walk::{Picked, Range};
 
-/// Gathers the places of the next range at which a value of an expression stands, over all values of the components that it uses behind. Answers false where it is out, or where these are too many to pay.
+/// What of a range an expression leaves.
+#[derive(Clone, Copy)]
+pub(crate) enum Tie {
+    /// The value that it comes to.
+    Value,
+    /// The members of that value.
+    Members,
+}
+
+/// Gathers the places of the next range that an expression leaves, over all values of the components that it uses behind. Answers false where it is out, or where these are too many to pay.
 pub(crate) fn gather_candidates<'a>(
     side: &Resolved<'a>,
+    tie: Tie,
     ranges: &[Range<Known>],
     places: &[usize],
     env: &Env<'_, 'a>,
@@ -33,19 +45,61 @@ pub(crate) fn gather_candidates<'a>(
     requires within { AreWithin ranges.now places.now }
     requires deeper { length places.now < length ranges.now }
     ensures stay { StaysIn gathered.old.items gathered.new.items }
-    ensures candidates { IfOk result (λ found. IsTrue found → AreCandidates (environment_of env.now) (resolved_of side.now) ranges.now (picked ranges.now places.now) (slice_index_or ranges.now (length places.now) []) gathered.new.items) }
+    ensures candidates { IfOk result (λ found. IsTrue found → AreCandidates tie (environment_of env.now) (resolved_of side.now) ranges.now (picked ranges.now places.now) (slice_index_or ranges.now (length places.now) []) gathered.new.items) }
 {
     let next = places.len();
     let due = due(side);
     if due <= next {
-        return gather_value(side, ranges, places, next, env, gathered);
+        return gather_value(side, tie, ranges, places, next, env, gathered);
     }
     if !is_worth_it(side, ranges, next, due) {
         return Ok(false);
     }
     let mut longer = Vec::with_capacity(*gathered.allocator(), due)?;
     longer.extend_from_slice(places)?;
-    gather_ahead(side, ranges, &mut longer, next, due, env, gathered)
+    gather_ahead(side, tie, ranges, &mut longer, next, due, env, gathered)
+}
+
+/// Gathers the places of the next range at which members of a set over variables stand. Answers false where the set has no value, or where the variables have so many rows that a test of each value is likely to cost less.
+pub(crate) fn gather_spread<'a>(
+    set: &Resolved<'a>,
+    ranges: &[Range<Known>],
+    places: &[usize],
+    env: &Env<'_, 'a>,
+    gathered: &mut Vec<usize>,
+) -> Result<bool, AllocError>
+    requires due { spec.due (resolved_of set.now) ≤ length ranges.now }
+    requires ascending { AreAscending value_order ranges.now }
+    requires within { AreWithin ranges.now places.now }
+    requires deeper { length places.now < length ranges.now }
+    ensures stay { StaysIn gathered.old.items gathered.new.items }
+    ensures candidates { IfOk result (λ found. IsTrue found → AreCandidates Tie.Members (environment_of env.now) (resolved_of set.now) ranges.now (picked ranges.now places.now) (slice_index_or ranges.now (length places.now) []) gathered.new.items) }
+{
+    if !has_few_rows(set, ranges, places, env)? {
+        return Ok(false);
+    }
+    gather_candidates(set, Tie::Members, ranges, places, env, gathered)
+}
+
+/// Whether the variables of a set have few rows, by how many values there are in the next range.
+fn has_few_rows<'a>(
+    set: &Resolved<'a>,
+    ranges: &[Range<Known>],
+    places: &[usize],
+    env: &Env<'_, 'a>,
+) -> Result<bool, AllocError>
+    requires within { AreWithin ranges.now places.now }
+    requires deeper { length places.now < length ranges.now }
+{
+    let Resolved::Builder(_, variables, _, _) = set else {
+        return Ok(false);
+    };
+    let row = Picked::new(ranges, places);
+    meet(&row);
+    let shown = Shown { row: &row };
+    let rows = rows_weight(variables.as_slice(), &shown, env)?;
+    let next = &ranges[places.len()];
+    Ok(rows / 4 <= next.values.len())
 }
 
 /// Whether the components behind that an expression uses have values of which there are less than half as many as in the range.
@@ -67,6 +121,7 @@ fn is_worth_it(side: &Resolved<'_>, ranges: &[Range<Known>], next: usize, due: u
 /// The same from the first places on, of so many that the expression needs.
 fn gather_ahead<'a>(
     side: &Resolved<'a>,
+    tie: Tie,
     ranges: &[Range<Known>],
     places: &mut Vec<usize>,
     next: usize,
@@ -81,17 +136,17 @@ fn gather_ahead<'a>(
     requires within { AreWithin ranges.now places.old.items }
     ensures same { OnOk result (places.new.items ≡ places.old.items) }
     ensures stay { StaysIn gathered.old.items gathered.new.items }
-    ensures candidates { IfOk result (λ found. IsTrue found → AreCandidates (environment_of env.now) (resolved_of side.now) ranges.now (picked ranges.now places.old.items) (slice_index_or ranges.now next []) gathered.new.items) }
+    ensures candidates { IfOk result (λ found. IsTrue found → AreCandidates tie (environment_of env.now) (resolved_of side.now) ranges.now (picked ranges.now places.old.items) (slice_index_or ranges.now next []) gathered.new.items) }
 {
     let component = places.len();
     if due <= component {
-        return gather_value(side, ranges, places, next, env, gathered);
+        return gather_value(side, tie, ranges, places, next, env, gathered);
     }
     let range = &ranges[component];
     let end = tried(side, component, range.values.len());
     for place in 0..end {
         places.push(place)?;
-        let found = gather_ahead(side, ranges, places, next, due, env, gathered)?;
+        let found = gather_ahead(side, tie, ranges, places, next, due, env, gathered)?;
         places.truncate(component);
         if !found {
             return Ok(false);
@@ -116,6 +171,7 @@ fn tried(side: &Resolved<'_>, component: usize, count: usize) -> usize
 /// The place of the expression's value, where it needs no more than these.
 fn gather_value<'a>(
     side: &Resolved<'a>,
+    tie: Tie,
     ranges: &[Range<Known>],
     places: &[usize],
     next: usize,
@@ -127,36 +183,79 @@ fn gather_value<'a>(
     requires ascending { AreAscending value_order ranges.now }
     requires within { AreWithin ranges.now places.now }
     ensures stay { StaysIn gathered.old.items gathered.new.items }
-    ensures candidates { IfOk result (λ found. IsTrue found → AreCandidates (environment_of env.now) (resolved_of side.now) ranges.now (picked ranges.now places.now) (slice_index_or ranges.now next []) gathered.new.items) }
+    ensures candidates { IfOk result (λ found. IsTrue found → AreCandidates tie (environment_of env.now) (resolved_of side.now) ranges.now (picked ranges.now places.now) (slice_index_or ranges.now next []) gathered.new.items) }
 {
     let row = Picked::new(ranges, places);
     meet(&row);
     let shown = Shown { row: &row };
     let outcome = value_of(side, &shown, env)?;
-    gather_outcome(outcome, &ranges[next], gathered)
+    gather_outcome(outcome, tie, &ranges[next], gathered)
 }
 
-/// The place of an outcome in a range.
+/// The places of a range that an outcome leaves.
 fn gather_outcome(
     outcome: Outcome,
+    tie: Tie,
     range: &Range<Known>,
     gathered: &mut Vec<usize>,
 ) -> Result<bool, AllocError>
     requires regular { IsRegularOutcome outcome }
     requires ascending { AllPairs (λ v w. value_order v w ≡ Less) range.now }
     ensures stay { StaysIn gathered.old.items gathered.new.items }
-    ensures kept { IfOk result (λ found. IsTrue found → IsKept outcome range.now gathered.new.items) }
+    ensures kept { IfOk result (λ found. IsTrue found → IsKept tie outcome range.now gathered.new.items) }
 {
     match outcome {
-        Outcome::Is(value) => {
-            if let Some(place) = place_of(&Known::new(value), range) {
-                gathered.push(place)?;
-            }
-            Ok(true)
-        }
-        Outcome::Undefined => Ok(true),
+        Outcome::Is(value) => match tie {
+            Tie::Value => gather_place(&Known::new(value), range, gathered),
+            Tie::Members => gather_members(value.members(), range, gathered),
+        },
+        Outcome::Undefined => Ok(is_value(tie)),
         Outcome::Out => Ok(false),
     }
+}
+
+fn is_value(tie: Tie) -> bool
+    ensures { IsTrue result → tie ≡ Tie.Value }
+{
+    match tie {
+        Tie::Value => true,
+        Tie::Members => false,
+    }
+}
+
+/// The places of these values in a range.
+fn gather_members(
+    values: &[Value],
+    range: &Range<Known>,
+    gathered: &mut Vec<usize>,
+) -> Result<bool, AllocError>
+    requires regular { AreRegular values.now }
+    requires ascending { AllPairs (λ v w. value_order v w ≡ Less) range.now }
+    ensures stay { StaysIn gathered.old.items gathered.new.items }
+    ensures kept { OnOk result ((v : value.Value) → IsMember v values.now → HasPlace v range.now gathered.new.items) }
+{
+    let alloc = *gathered.allocator();
+    for value in values {
+        let known = Known::new(value.copy(alloc)?);
+        gather_place(&known, range, gathered)?;
+    }
+    Ok(true)
+}
+
+/// The place of a value in a range.
+fn gather_place(
+    value: &Known,
+    range: &Range<Known>,
+    gathered: &mut Vec<usize>,
+) -> Result<bool, AllocError>
+    requires { AllPairs (λ v w. value_order v w ≡ Less) range.now }
+    ensures stay { StaysIn gathered.old.items gathered.new.items }
+    ensures kept { OnOk result (HasPlace value.now range.now gathered.new.items) }
+{
+    if let Some(place) = place_of(value, range) {
+        gathered.push(place)?;
+    }
+    Ok(true)
 }
 
 /// The place of a value in a range, if it is there.

@@ -5,6 +5,7 @@ ghost use Rattle.zf_meaning.specs.Envs.{environment_of};
 ghost use Rattle.zf_lift.specs.Lifted.{AreLifted};
 ghost use Rattle.zf_enum.specs.Property.{due_of};
 
+use crate::conjuncts::Conjuncts;
 use crate::property::{Property, dues};
 use bumpalo::Bump;
 use std::alloc::{AllocError, Global};
@@ -20,11 +21,12 @@ pub(crate) fn lifted<'e, 'g, 'a>(
     env: &'e Env<'g, 'a>,
 ) -> Result<Property<'e, 'g, 'a>, AllocError>
     requires small { (c : ℕ) → due_of (slice_get (map resolved_of conjuncts.items) c) < 2 ^ 64 }
-    ensures { IfOk result (λ p. AreLifted (environment_of p.env.now) (environment_of env.now) (map resolved_of p.conjuncts.items) (map resolved_of conjuncts.entry.items)) }
+    ensures { IfOk result (λ p. AreLifted (environment_of p.env.now) (environment_of env.now) (map resolved_of p.conjuncts) (map resolved_of conjuncts.entry.items)) }
 {
     match lift(alloc, arena, conjuncts.as_slice(), env)? {
         None => {
             let dues = dues(alloc, &conjuncts)?;
+            let conjuncts = Conjuncts::narrowing(alloc, arena, conjuncts)?;
             let property: Property<'e, 'g, 'a> = Property {
                 conjuncts,
                 env,
@@ -35,8 +37,9 @@ pub(crate) fn lifted<'e, 'g, 'a>(
         Some(lifted) => {
             let Lifted { terms, env } = lifted;
             let dues = dues(alloc, &terms)?;
+            let conjuncts = Conjuncts::narrowing(alloc, arena, terms)?;
             let property: Property<'e, 'g, 'a> = Property {
-                conjuncts: terms,
+                conjuncts,
                 env,
                 dues,
             };

@@ -3,7 +3,8 @@ ghost use Rattle.std.specs.Prelude.{◌≡◌, ◌<◌, ◌^◌, ℕ, IfOk, map,
 ghost use Rattle.zf_term.specs.ResolvedTrees.{resolved_of};
 ghost use Rattle.zf_enum.specs.Property.{due, due_of, told};
 
-use crate::candidates::gather_candidates;
+use crate::candidates::{Tie, gather_candidates, gather_spread};
+use crate::conjuncts::Conjuncts;
 use crate::due::{due, uses};
 use crate::fixing::fixing;
 use crate::known::Known;
@@ -19,12 +20,12 @@ use zf_walk::{Judge, Range, Row, Truth};
 /// The conjuncts of a schema, in an environment.
 #[derive(Drop)]
 pub struct Property<'e, 'g, 'a> {
-    pub conjuncts: Vec<Resolved<'a>>,
+    pub conjuncts: Conjuncts<'a>,
     pub env: &'e Env<'g, 'a>,
     /// How many first components each conjunct needs.
     pub dues: Vec<usize>,
-    ghost needed: { dues.items ≡ map due (map resolved_of conjuncts.items) },
-    ghost small: { (c : ℕ) → due_of (slice_get (map resolved_of conjuncts.items) c) < 2 ^ 64 },
+    ghost needed: { dues.items ≡ map due (map resolved_of conjuncts) },
+    ghost small: { (c : ℕ) → due_of (slice_get (map resolved_of conjuncts) c) < 2 ^ 64 },
 }
 
 impl<'e, 'g, 'a> Judge<Known> for Property<'e, 'g, 'a> {
@@ -34,13 +35,13 @@ impl<'e, 'g, 'a> Judge<Known> for Property<'e, 'g, 'a> {
     ghost use Rattle.zf_enum.specs.Property as spec;
     ghost use Rattle.zf_enum.specs.PropertyLaws.{has_one_truth, keeps_truths, follows_used};
 
-    ghost conjuncts = { λ j. spec.property (environment_of j.env.now) (map resolved_of j.conjuncts.items) };
+    ghost conjuncts = { λ j. spec.property (environment_of j.env.now) (map resolved_of j.conjuncts) };
 
-    ghost one_truth = { λ j. has_one_truth (environment_of j.env.now) (map resolved_of j.conjuncts.items) };
+    ghost one_truth = { λ j. has_one_truth (environment_of j.env.now) (map resolved_of j.conjuncts) };
 
-    ghost kept = { λ j. keeps_truths (environment_of j.env.now) (map resolved_of j.conjuncts.items) };
+    ghost kept = { λ j. keeps_truths (environment_of j.env.now) (map resolved_of j.conjuncts) };
 
-    ghost follow_used = { λ j. follows_used (environment_of j.env.now) (map resolved_of j.conjuncts.items) };
+    ghost follow_used = { λ j. follows_used (environment_of j.env.now) (map resolved_of j.conjuncts) };
 
     fn count(&self) -> usize {
         self.conjuncts.len()
@@ -51,22 +52,23 @@ impl<'e, 'g, 'a> Judge<Known> for Property<'e, 'g, 'a> {
     }
 
     fn uses(&self, conjunct: usize, component: usize) -> bool {
-        uses(&self.conjuncts[conjunct], component)
+        uses(self.conjuncts.get(conjunct), component)
     }
 
     #[tactic(auto, using(crate::proofs::Judging::has_truth))]
     fn judge<R: Row<Known>>(&self, conjunct: usize, row: &R) -> Result<Truth, AllocError> {
         meet(row);
         let shown = Shown { row };
-        let truth = truth_of(&self.conjuncts[conjunct], &shown, self.env)?;
+        let truth = truth_of(self.conjuncts.get(conjunct), &shown, self.env)?;
         Ok(walked(truth))
     }
 }
 
-/// An equation of a component with an expression leaves the expression's values.
+/// An equation of a component with an expression leaves the expression's values, and a predicate that asks for values of variables those that it equates the component with.
 impl<'e, 'g, 'a> Guide<Known> for Property<'e, 'g, 'a> {
     fn narrows(&self, leaf: usize, component: usize) -> bool {
-        fixing(&self.conjuncts[leaf], component).is_some()
+        fixing(self.conjuncts.get(leaf), component).is_some()
+            || self.conjuncts.spread(leaf, component).is_some()
     }
 
     fn narrow(
@@ -76,9 +78,12 @@ impl<'e, 'g, 'a> Guide<Known> for Property<'e, 'g, 'a> {
         places: &[usize],
         gathered: &mut Vec<usize>,
     ) -> Result<bool, AllocError> {
-        match fixing(&self.conjuncts[leaf], places.len()) {
+        if let Some(side) = fixing(self.conjuncts.get(leaf), places.len()) {
+            return gather_candidates(side, Tie::Value, ranges, places, self.env, gathered);
+        }
+        match self.conjuncts.spread(leaf, places.len()) {
             None => Ok(false),
-            Some(side) => gather_candidates(side, ranges, places, self.env, gathered),
+            Some(set) => gather_spread(set, ranges, places, self.env, gathered),
         }
     }
 }

@@ -13,6 +13,7 @@ ghost use Rattle.zf_enum.specs.Starts.{Refuses, BeginsCounting};
 
 use crate::bindings::Bindings;
 use crate::component::ranges;
+use crate::conjuncts::Conjuncts;
 use crate::known::Known;
 use crate::property::{Property, dues};
 use crate::start_fault::StartFault;
@@ -44,7 +45,7 @@ impl<'s, 'e, 'g, 'a> Bindings<'s, 'e, 'g, 'a> {
         let conjuncts = resolved(alloc, arena, flat.conjuncts.as_slice())?;
         let dues = dues(alloc, &conjuncts)?;
         let property = Property {
-            conjuncts,
+            conjuncts: Conjuncts::plain(alloc, conjuncts),
             env,
             dues,
         };

@@ -31,7 +31,7 @@ pub record IsAtStart (a : Schema) (g : Goal) (b : Stage Value) : Type 0 where
 -- the same of one that counts its tests
 pub record IsCountingAtStart (a : Schema) (b : Bindings) : Type 0 where
   pub starts : IsAtStart a (counted_goal b.walk) b.walk.stage
-  pub conjuncts : map resolved_of b.walk.judge.conjuncts.items ≡ a.conjuncts
+  pub conjuncts : map resolved_of b.walk.judge.conjuncts ≡ a.conjuncts
   pub untested : b.walk.tests ≡ 0
 
 -- the events of such a search up to a whole row, or all of them

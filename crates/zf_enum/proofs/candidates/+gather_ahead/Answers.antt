@@ -20,8 +20,8 @@ loop-place-preserved t c =
     let pushed : c.push.new.self.items ≡ c.args.places.now.items ++ c.loop-place.place ∷ [] = c.in_ok-push.ensures.items ∙ ap (λ (ps : List ℕ). ps ++ c.loop-place.place ∷ []) inv.same in record {
       same = as_before places c.push.new.self.items c.gather_ahead.new.places.items c.truncate.new.self.items p c.len-component.result pushed c.in_ok-found.ensures.same c.truncate.ensures.items long;
       stay = stays_on c.args.gathered.now.items xs ys inv.stay c.gather_ahead.ensures.stay;
-      tried = one_tried e side ranges range places p xs ys c.gather_ahead.ensures.stay inv.tried
-          (subst (λ (ps : List ℕ). AreCandidates e side ranges (picked ranges ps) range ys) pushed (c.in_ok-found.ensures.candidates c.if-not-found.false));
+      tried = one_tried c.args.tie e side ranges range places p xs ys c.gather_ahead.ensures.stay inv.tried
+          (subst (λ (ps : List ℕ). AreCandidates c.args.tie e side ranges (picked ranges ps) range ys) pushed (c.in_ok-found.ensures.candidates c.if-not-found.false));
     }
 
 pub gather_ahead-requires : goal.gather_ahead-requires
@@ -68,6 +68,6 @@ returns-clause-candidates t c = λ found.
     let column = range-is c.args.ranges.now c.len-component.result c.index-ranges-component.result near c.index-ranges-component.is in
     let first : c.len.result ≡ length (get_or c.args.ranges.now c.len-component.result []) = omega (arith, c.len.ensures, v.ok.0, ap length c.range.view_is, ap length column) in
     let count : c.len.result ≡ length (get_or c.args.ranges.now (length c.args.places.now.items) []) = first ∙ ap (λ (n : ℕ). length (get_or c.args.ranges.now n [])) long in
-    all_tried (environment_of c.args.env.now) side ranges (get_or c.args.ranges.now c.args.next []) places c.loop-place.gathered.items c.tried-end.result c.requires.within (omega (arith, long, near))
+    all_tried c.args.tie (environment_of c.args.env.now) side ranges (get_or c.args.ranges.now c.args.next []) places c.loop-place.gathered.items c.tried-end.result c.requires.within (omega (arith, long, near))
     (λ u. c.tried-end.ensures.all (subst (λ (n : ℕ). uses side n ≡ true) (sym long) u) ∙ count) (λ h. c.tried-end.ensures.some (omega (arith, h, count)))
     (λ j l. c.loop-place.invariant.tried j (omega (arith, l, c.loop-place-test.false)))

@@ -10,5 +10,5 @@ abbrev pub invariant-loop-place : goal.invariant-loop-place
 invariant-loop-place l = record {
   same : l.places.items ≡ l.fn.places.items;
   stay : StaysIn l.fn.gathered.items l.gathered.items;
-  tried : TriedUpTo (environment_of l.env) (resolved_of l.side) l.ranges (get_or l.ranges l.next []) l.fn.places.items l.place l.gathered.items;
+  tried : TriedUpTo l.tie (environment_of l.env) (resolved_of l.side) l.ranges (get_or l.ranges l.next []) l.fn.places.items l.place l.gathered.items;
 }

@@ -21,5 +21,5 @@ returns c =
     let long = length-picked c.args.ranges.now c.args.places.now c.requires.within in record {
       stay = c.gather_outcome.ensures.stay;
       candidates = IfOk-weaker c.gather_outcome.result _ _
-          (λ found h u. one_candidate e t ranges (get_or c.args.ranges.now c.args.next []) front xs o (omega (arith, long, c.requires.due)) here (subst (λ (r : List Value). IsKept o r xs) (sym range) (h u))) c.gather_outcome.ensures.kept;
+          (λ found h u. one_candidate c.args.tie e t ranges (get_or c.args.ranges.now c.args.next []) front xs o (omega (arith, long, c.requires.due)) here (subst (λ (r : List Value). IsKept c.args.tie o r xs) (sym range) (h u))) c.gather_outcome.ensures.kept;
     }

@@ -37,7 +37,7 @@ start-requires-clause-due c =
     let p = c.in_ok-planting.planting in
     let are_planted = subst (λ (cs : List Conjunct). ArePlanted (map conjunct_of cs) p.leaves.items (trees_of p.forest)) c.as_slice-2.ensures c.in_ok-planting.ensures in
     let named = c.in_ok-property.property in
-    λ k l. omega (arith, dues_at (environment_of named.env.now) e (map resolved_of named.conjuncts.items) (map resolved_of p.leaves.items) c.in_ok-property.ensures.each k, are_planted.needs (length rs) (needs_within e s.comps c.args.held.now rs s.conjuncts all.0 c.requires.due) k)
+    λ k l. omega (arith, dues_at (environment_of named.env.now) e (map resolved_of named.conjuncts) (map resolved_of p.leaves.items) c.in_ok-property.ensures.each k, are_planted.needs (length rs) (needs_within e s.comps c.args.held.now rs s.conjuncts all.0 c.requires.due) k)
 
 pub start-requires-clause-leaves : goal.start-requires-clause-leaves
 start-requires-clause-leaves c =
@@ -46,7 +46,7 @@ start-requires-clause-leaves c =
     let p = c.in_ok-planting.planting in
     let are_planted = subst (λ (cs : List Conjunct). ArePlanted (map conjunct_of cs) p.leaves.items (trees_of p.forest)) c.as_slice-2.ensures c.in_ok-planting.ensures in
     let named = c.in_ok-property.property in
-    let many = as_many (environment_of named.env.now) e (map resolved_of named.conjuncts.items) (map resolved_of p.leaves.items) c.in_ok-property.ensures.each in
+    let many = as_many (environment_of named.env.now) e (map resolved_of named.conjuncts) (map resolved_of p.leaves.items) c.in_ok-property.ensures.each in
     subst (λ n. HaveLeavesWithin n (trees_of p.forest)) (sym many) (leaves_within s.conjuncts p.leaves.items (trees_of p.forest) are_planted)
 
 pub returns-clause-begins : goal.returns-clause-begins
@@ -59,7 +59,7 @@ returns-clause-begins c =
     let are_planted = subst (λ (cs : List Conjunct). ArePlanted (map conjunct_of cs) p.leaves.items (trees_of p.forest)) c.as_slice-2.ensures c.in_ok-planting.ensures in
     let named = c.in_ok-property.property in
     let f = environment_of named.env.now in
-    let terms = map resolved_of named.conjuncts.items in
+    let terms = map resolved_of named.conjuncts in
     let lifted = c.in_ok-property.ensures in
     let same = named_alike f e terms (map resolved_of p.leaves.items) s.conjuncts (trees_of p.forest) lifted (say_the_same s.conjuncts p.leaves.items (trees_of p.forest) are_planted e) in
     let search = c.in_ok-search.search in

@@ -1,0 +1,6 @@
+use Rattle.zf_enum.proofs.Prelude.{resolved_of}
+use Rattle.zf_enum.specs.Spreads.{AddsSpreads}
+use Rattle.zf_enum.proofs.spread.add_spreads.Given as goal
+
+abbrev pub invariant-loop-component : goal.invariant-loop-component
+invariant-loop-component l = AddsSpreads (resolved_of l.term) l.conjunct l.initial.found.items l.found.items
