@@ -1,38 +1,32 @@
 //! The operations on relations. A relation is a set of pairs; what is no pair relates nothing.
 ghost use Rattle.std.specs.Prelude.{◌≡◌, ◌≤◌, length, slice_range, IfOk, IfSome, OnOk, MatchOption};
 ghost use Rattle.zf_value.specs.Operations.{pair, IsDomain, IsRange, IsInverse, IsImage, IsComposition, IsOverriding, IsDomainRestriction, IsDomainSubtraction, IsRangeRestriction, IsRangeSubtraction, IsApplied};
-ghost use Rattle.zf_value.specs.Sets.{IsAscending, IsRegular, IsRegularSet, IsRegularOutcome};
+ghost use Rattle.zf_value.specs.Sets.{IsAscending};
 ghost use Rattle.zf_value.specs.Steps.{AreRelated, AddsPairs, place_beside as place};
 
 use crate::part::{Keep, Part, parts, selected};
 use crate::set::{copy_onto, display, is_too_many, make_ascending, tuple_of_two};
-use crate::value::{Outcome, Value};
+use crate::value::{Form, Outcome, Value};
 use std::alloc::{AllocError, Global};
 use std::cmp::Ordering;
 
 /// `\dom r`.
 pub fn domain(alloc: Global, r: &[Value]) -> Result<Outcome, AllocError>
-    requires { IsRegularSet r.now }
-    ensures is { IfOk result (IsDomain r.now) }
-    ensures regular { IfOk result IsRegularOutcome }
+    ensures { IfOk result (IsDomain r.now) }
 {
     display(alloc, parts(alloc, r, Part::First)?)
 }
 
 /// `\ran r`.
 pub fn range(alloc: Global, r: &[Value]) -> Result<Outcome, AllocError>
-    requires { IsRegularSet r.now }
-    ensures is { IfOk result (IsRange r.now) }
-    ensures regular { IfOk result IsRegularOutcome }
+    ensures { IfOk result (IsRange r.now) }
 {
     display(alloc, parts(alloc, r, Part::Second)?)
 }
 
 /// `r \inv`.
 pub fn inverse(alloc: Global, r: &[Value]) -> Result<Outcome, AllocError>
-    requires { IsRegularSet r.now }
-    ensures is { IfOk result (IsInverse r.now) }
-    ensures regular { IfOk result IsRegularOutcome }
+    ensures { IfOk result (IsInverse r.now) }
 {
     let mut values = Vec::new(alloc);
     for z in r {
@@ -45,10 +39,8 @@ pub fn inverse(alloc: Global, r: &[Value]) -> Result<Outcome, AllocError>
 
 /// `r \limg a \rimg`.
 pub fn image(alloc: Global, r: &[Value], a: &[Value]) -> Result<Outcome, AllocError>
-    requires r { IsRegularSet r.now }
-    requires a { IsRegularSet a.now }
-    ensures is { IfOk result (IsImage r.now a.now) }
-    ensures regular { IfOk result IsRegularOutcome }
+    requires { IsAscending a.now }
+    ensures { IfOk result (IsImage r.now a.now) }
 {
     display(
         alloc,
@@ -58,10 +50,8 @@ pub fn image(alloc: Global, r: &[Value], a: &[Value]) -> Result<Outcome, AllocEr
 
 /// `r \comp q`.
 pub fn composition(alloc: Global, r: &[Value], q: &[Value]) -> Result<Outcome, AllocError>
-    requires r { IsRegularSet r.now }
-    requires q { IsRegularSet q.now }
-    ensures is { IfOk result (IsComposition r.now q.now) }
-    ensures regular { IfOk result IsRegularOutcome }
+    requires { IsAscending q.now }
+    ensures { IfOk result (IsComposition r.now q.now) }
 {
     let mut values = Vec::new(alloc);
     for z in r {
@@ -77,10 +67,7 @@ pub fn composition(alloc: Global, r: &[Value], q: &[Value]) -> Result<Outcome, A
 
 /// `r \oplus q`.
 pub fn overriding(alloc: Global, r: &[Value], q: &[Value]) -> Result<Outcome, AllocError>
-    requires r { IsRegularSet r.now }
-    requires q { IsRegularSet q.now }
-    ensures is { IfOk result (IsOverriding r.now q.now) }
-    ensures regular { IfOk result IsRegularOutcome }
+    ensures { IfOk result (IsOverriding r.now q.now) }
 {
     let mut firsts = parts(alloc, q, Part::First)?;
     make_ascending(&mut firsts)?;
@@ -98,10 +85,8 @@ pub fn overriding(alloc: Global, r: &[Value], q: &[Value]) -> Result<Outcome, Al
 
 /// `a \dres r`.
 pub fn domain_restriction(alloc: Global, a: &[Value], r: &[Value]) -> Result<Outcome, AllocError>
-    requires a { IsRegularSet a.now }
-    requires r { IsRegularSet r.now }
-    ensures is { IfOk result (IsDomainRestriction a.now r.now) }
-    ensures regular { IfOk result IsRegularOutcome }
+    requires { IsAscending a.now }
+    ensures { IfOk result (IsDomainRestriction a.now r.now) }
 {
     display(
         alloc,
@@ -111,10 +96,8 @@ pub fn domain_restriction(alloc: Global, a: &[Value], r: &[Value]) -> Result<Out
 
 /// `a \ndres r`.
 pub fn domain_subtraction(alloc: Global, a: &[Value], r: &[Value]) -> Result<Outcome, AllocError>
-    requires a { IsRegularSet a.now }
-    requires r { IsRegularSet r.now }
-    ensures is { IfOk result (IsDomainSubtraction a.now r.now) }
-    ensures regular { IfOk result IsRegularOutcome }
+    requires { IsAscending a.now }
+    ensures { IfOk result (IsDomainSubtraction a.now r.now) }
 {
     display(
         alloc,
@@ -124,10 +107,8 @@ pub fn domain_subtraction(alloc: Global, a: &[Value], r: &[Value]) -> Result<Out
 
 /// `r \rres b`.
 pub fn range_restriction(alloc: Global, r: &[Value], b: &[Value]) -> Result<Outcome, AllocError>
-    requires r { IsRegularSet r.now }
-    requires b { IsRegularSet b.now }
-    ensures is { IfOk result (IsRangeRestriction r.now b.now) }
-    ensures regular { IfOk result IsRegularOutcome }
+    requires { IsAscending b.now }
+    ensures { IfOk result (IsRangeRestriction r.now b.now) }
 {
     display(
         alloc,
@@ -137,10 +118,8 @@ pub fn range_restriction(alloc: Global, r: &[Value], b: &[Value]) -> Result<Outc
 
 /// `r \nrres b`.
 pub fn range_subtraction(alloc: Global, r: &[Value], b: &[Value]) -> Result<Outcome, AllocError>
-    requires r { IsRegularSet r.now }
-    requires b { IsRegularSet b.now }
-    ensures is { IfOk result (IsRangeSubtraction r.now b.now) }
-    ensures regular { IfOk result IsRegularOutcome }
+    requires { IsAscending b.now }
+    ensures { IfOk result (IsRangeSubtraction r.now b.now) }
 {
     display(
         alloc,
@@ -150,9 +129,8 @@ pub fn range_subtraction(alloc: Global, r: &[Value], b: &[Value]) -> Result<Outc
 
 /// What the relation takes the value to, if that is one value alone.
 pub fn applied<'a>(f: &'a [Value], x: &Value) -> Option<&'a Value>
-    requires { IsRegularSet f.now }
-    ensures is { MatchOption result (IsApplied f.now x.now Outcome.Undefined) (λ y. IsApplied f.now x.now (Outcome.Is y.now)) }
-    ensures regular { IfSome result (λ y. IsRegular y.now) }
+    requires { IsAscending f.now }
+    ensures { MatchOption result (IsApplied f.now x.now Outcome.Undefined) (λ y. IsApplied f.now x.now (Outcome.Is y.now)) }
 {
     let mut found = None;
     for z in related(f, x) {
@@ -193,13 +171,13 @@ fn stretch(r: &[Value], x: &Value) -> (usize, usize)
 fn place_beside(x: &Value, z: &Value) -> Ordering
     ensures { result ≡ place x.now z.now }
 {
-    match z {
-        Value::Int(_) | Value::Elem(_, _) => Ordering::Less,
-        Value::Tuple(items) => match items.as_slice() {
+    match z.form() {
+        Form::Int(_) | Form::Elem(_, _) => Ordering::Less,
+        Form::Tuple(items) => match items.as_slice() {
             [] => Ordering::Less,
             [y, ..] => y.order(x),
         },
-        Value::SetOf(_) => Ordering::Greater,
+        Form::SetOf(_) => Ordering::Greater,
     }
 }
 

@@ -8,8 +8,8 @@ use Rattle.zf_value.proofs.relation.composition.Goals.{in-Some+in_ok-pair_all+in
 pub loop-z-init : goal.loop-z-init
 loop-z-init c = gathered_none _ _ c.new-values.ensures.items
 
-pub returns-then-branch-clause-is : goal.returns-then-branch-clause-is
-returns-then-branch-clause-is c =
+pub returns-then-branch : goal.returns-then-branch
+returns-then-branch c =
     let more = composed_more _ _ c.loop-z.z-index _ _ _ _ _ _ c.z-item.is c.loop-z-test.true c.in-Some.ensures.is c.related.ensures c.in_ok-pair_all.ensures c.loop-z.invariant in
     composition_out _ _ _ (c.loop-z.z-index + 1) (gathered_same _ _ _ _ c.in_ok-is_too_many.ensures.members more)
     (out_told _ _ c.if-branch.true c.in_ok-is_too_many.ensures.told)
@@ -25,4 +25,4 @@ loop-z-preserved c =
     ]
 
 pub returns : goal.returns
-returns c = composition_made _ _ _ _ c.requires.r c.requires.q (gathered_all _ _ c.loop-z.z-index _ c.loop-z-test.false c.loop-z.invariant) c.display.ensures.is
+returns c = composition_made _ _ _ _ (gathered_all _ _ c.loop-z.z-index _ c.loop-z-test.false c.loop-z.invariant) c.display.ensures

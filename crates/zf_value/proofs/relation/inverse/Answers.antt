@@ -17,4 +17,4 @@ loop-z-preserved c =
     ]
 
 pub returns : goal.returns
-returns c = inverse_made _ _ _ c.requires (gathered_all _ _ c.loop-z.z-index _ c.loop-z-test.false c.loop-z.invariant) c.display.ensures.is
+returns c = inverse_made _ _ _ (gathered_all _ _ c.loop-z.z-index _ c.loop-z-test.false c.loop-z.invariant) c.display.ensures
