@@ -1,7 +1,7 @@
 //! The operations on relations. A relation is a set of pairs; what is no pair relates nothing.
 ghost use Rattle.std.specs.Prelude.{◌≡◌, ◌≤◌, length, slice_range, IfOk, IfSome, OnOk, MatchOption};
 ghost use Rattle.zf_value.specs.Operations.{pair, IsDomain, IsRange, IsInverse, IsImage, IsComposition, IsOverriding, IsDomainRestriction, IsDomainSubtraction, IsRangeRestriction, IsRangeSubtraction, IsApplied};
-ghost use Rattle.zf_value.specs.Sets.{IsAscending};
+ghost use Rattle.zf_value.specs.Sets.{members, IsAscending};
 ghost use Rattle.zf_value.specs.Steps.{AreRelated, AddsPairs, place_beside as place};
 
 use crate::part::{Keep, Part, parts, selected};
@@ -11,25 +11,25 @@ use std::alloc::{AllocError, Global};
 use std::cmp::Ordering;
 
 /// `\dom r`.
-pub fn domain(alloc: Global, r: &[Value]) -> Result<Outcome, AllocError>
-    ensures { IfOk result (IsDomain r.now) }
+pub fn domain(alloc: Global, r: &Value) -> Result<Outcome, AllocError>
+    ensures { IfOk result (IsDomain (members r.now)) }
 {
-    display(alloc, parts(alloc, r, Part::First)?)
+    display(alloc, parts(alloc, r.members(), Part::First)?)
 }
 
 /// `\ran r`.
-pub fn range(alloc: Global, r: &[Value]) -> Result<Outcome, AllocError>
-    ensures { IfOk result (IsRange r.now) }
+pub fn range(alloc: Global, r: &Value) -> Result<Outcome, AllocError>
+    ensures { IfOk result (IsRange (members r.now)) }
 {
-    display(alloc, parts(alloc, r, Part::Second)?)
+    display(alloc, parts(alloc, r.members(), Part::Second)?)
 }
 
 /// `r \inv`.
-pub fn inverse(alloc: Global, r: &[Value]) -> Result<Outcome, AllocError>
-    ensures { IfOk result (IsInverse r.now) }
+pub fn inverse(alloc: Global, r: &Value) -> Result<Outcome, AllocError>
+    ensures { IfOk result (IsInverse (members r.now)) }
 {
     let mut values = Vec::new(alloc);
-    for z in r {
+    for z in r.members() {
         if let Some((x, y)) = z.pair() {
             values.push(pair_of(alloc, y, x)?)?;
         }
@@ -38,23 +38,26 @@ pub fn inverse(alloc: Global, r: &[Value]) -> Result<Outcome, AllocError>
 }
 
 /// `r \limg a \rimg`.
-pub fn image(alloc: Global, r: &[Value], a: &[Value]) -> Result<Outcome, AllocError>
-    requires { IsAscending a.now }
-    ensures { IfOk result (IsImage r.now a.now) }
+pub fn image(alloc: Global, r: &Value, a: &Value) -> Result<Outcome, AllocError>
+    ensures { IfOk result (IsImage (members r.now) (members a.now)) }
 {
-    display(
+    let kept = selected(
         alloc,
-        selected(alloc, r, Part::First, Keep::Members, a, Part::Second)?,
-    )
+        r.members(),
+        Part::First,
+        Keep::Members,
+        a.members(),
+        Part::Second,
+    )?;
+    display(alloc, kept)
 }
 
 /// `r \comp q`.
-pub fn composition(alloc: Global, r: &[Value], q: &[Value]) -> Result<Outcome, AllocError>
-    requires { IsAscending q.now }
-    ensures { IfOk result (IsComposition r.now q.now) }
+pub fn composition(alloc: Global, r: &Value, q: &Value) -> Result<Outcome, AllocError>
+    ensures { IfOk result (IsComposition (members r.now) (members q.now)) }
 {
     let mut values = Vec::new(alloc);
-    for z in r {
+    for z in r.members() {
         if let Some((x, y)) = z.pair() {
             pair_all(alloc, &mut values, x, related(q, y))?;
             if is_too_many(&mut values)? {
@@ -66,71 +69,87 @@ pub fn composition(alloc: Global, r: &[Value], q: &[Value]) -> Result<Outcome, A
 }
 
 /// `r \oplus q`.
-pub fn overriding(alloc: Global, r: &[Value], q: &[Value]) -> Result<Outcome, AllocError>
-    ensures { IfOk result (IsOverriding r.now q.now) }
+pub fn overriding(alloc: Global, r: &Value, q: &Value) -> Result<Outcome, AllocError>
+    ensures { IfOk result (IsOverriding (members r.now) (members q.now)) }
 {
-    let mut firsts = parts(alloc, q, Part::First)?;
+    let over = q.members();
+    let mut firsts = parts(alloc, over, Part::First)?;
     make_ascending(&mut firsts)?;
     let mut values = selected(
         alloc,
-        r,
+        r.members(),
         Part::First,
         Keep::Others,
         firsts.as_slice(),
         Part::Whole,
     )?;
-    copy_onto(alloc, &mut values, q)?;
+    copy_onto(alloc, &mut values, over)?;
     display(alloc, values)
 }
 
 /// `a \dres r`.
-pub fn domain_restriction(alloc: Global, a: &[Value], r: &[Value]) -> Result<Outcome, AllocError>
-    requires { IsAscending a.now }
-    ensures { IfOk result (IsDomainRestriction a.now r.now) }
+pub fn domain_restriction(alloc: Global, a: &Value, r: &Value) -> Result<Outcome, AllocError>
+    ensures { IfOk result (IsDomainRestriction (members a.now) (members r.now)) }
 {
-    display(
+    let kept = selected(
         alloc,
-        selected(alloc, r, Part::First, Keep::Members, a, Part::Whole)?,
-    )
+        r.members(),
+        Part::First,
+        Keep::Members,
+        a.members(),
+        Part::Whole,
+    )?;
+    display(alloc, kept)
 }
 
 /// `a \ndres r`.
-pub fn domain_subtraction(alloc: Global, a: &[Value], r: &[Value]) -> Result<Outcome, AllocError>
-    requires { IsAscending a.now }
-    ensures { IfOk result (IsDomainSubtraction a.now r.now) }
+pub fn domain_subtraction(alloc: Global, a: &Value, r: &Value) -> Result<Outcome, AllocError>
+    ensures { IfOk result (IsDomainSubtraction (members a.now) (members r.now)) }
 {
-    display(
+    let kept = selected(
         alloc,
-        selected(alloc, r, Part::First, Keep::Others, a, Part::Whole)?,
-    )
+        r.members(),
+        Part::First,
+        Keep::Others,
+        a.members(),
+        Part::Whole,
+    )?;
+    display(alloc, kept)
 }
 
 /// `r \rres b`.
-pub fn range_restriction(alloc: Global, r: &[Value], b: &[Value]) -> Result<Outcome, AllocError>
-    requires { IsAscending b.now }
-    ensures { IfOk result (IsRangeRestriction r.now b.now) }
+pub fn range_restriction(alloc: Global, r: &Value, b: &Value) -> Result<Outcome, AllocError>
+    ensures { IfOk result (IsRangeRestriction (members r.now) (members b.now)) }
 {
-    display(
+    let kept = selected(
         alloc,
-        selected(alloc, r, Part::Second, Keep::Members, b, Part::Whole)?,
-    )
+        r.members(),
+        Part::Second,
+        Keep::Members,
+        b.members(),
+        Part::Whole,
+    )?;
+    display(alloc, kept)
 }
 
 /// `r \nrres b`.
-pub fn range_subtraction(alloc: Global, r: &[Value], b: &[Value]) -> Result<Outcome, AllocError>
-    requires { IsAscending b.now }
-    ensures { IfOk result (IsRangeSubtraction r.now b.now) }
+pub fn range_subtraction(alloc: Global, r: &Value, b: &Value) -> Result<Outcome, AllocError>
+    ensures { IfOk result (IsRangeSubtraction (members r.now) (members b.now)) }
 {
-    display(
+    let kept = selected(
         alloc,
-        selected(alloc, r, Part::Second, Keep::Others, b, Part::Whole)?,
-    )
+        r.members(),
+        Part::Second,
+        Keep::Others,
+        b.members(),
+        Part::Whole,
+    )?;
+    display(alloc, kept)
 }
 
 /// What the relation takes the value to, if that is one value alone.
-pub fn applied<'a>(f: &'a [Value], x: &Value) -> Option<&'a Value>
-    requires { IsAscending f.now }
-    ensures { MatchOption result (IsApplied f.now x.now Outcome.Undefined) (λ y. IsApplied f.now x.now (Outcome.Is y.now)) }
+pub fn applied<'a>(f: &'a Value, x: &Value) -> Option<&'a Value>
+    ensures { MatchOption result (IsApplied (members f.now) x.now Outcome.Undefined) (λ y. IsApplied (members f.now) x.now (Outcome.Is y.now)) }
 {
     let mut found = None;
     for z in related(f, x) {
@@ -147,12 +166,12 @@ pub fn applied<'a>(f: &'a [Value], x: &Value) -> Option<&'a Value>
 // ---- steps
 
 /// The members that begin with the value.
-fn related<'a>(r: &'a [Value], x: &Value) -> &'a [Value]
-    requires { IsAscending r.now }
-    ensures { AreRelated r.now x.now result.now }
+fn related<'a>(r: &'a Value, x: &Value) -> &'a [Value]
+    ensures { AreRelated (members r.now) x.now result.now }
 {
-    let (start, end) = stretch(r, x);
-    &r[start..end]
+    let pairs = r.members();
+    let (start, end) = stretch(pairs, x);
+    &pairs[start..end]
 }
 
 /// From where to where the members begin with the value.

@@ -82,17 +82,15 @@ pub fn is_element(z: &Value, number: u32, count: u64) -> bool
     }
 }
 
-pub fn is_member(z: &Value, set: &[Value]) -> bool
-    requires { IsAscending set.now }
-    ensures { IsTrue result ↔ IsMember z.now set.now }
+pub fn is_member(z: &Value, set: &Value) -> bool
+    ensures { IsTrue result ↔ IsMember z.now (members set.now) }
 {
-    is_found(z, set)
+    is_found(z, set.members())
 }
 
 /// Whether each of these is a member of the set.
-pub fn are_among(values: &[Value], set: &[Value]) -> bool
-    requires { IsAscending set.now }
-    ensures { IsTrue result ↔ AreAmong values.now set.now }
+pub fn are_among(values: &[Value], set: &Value) -> bool
+    ensures { IsTrue result ↔ AreAmong values.now (members set.now) }
 {
     for z in values {
         if !is_member(z, set) {
@@ -109,32 +107,40 @@ pub fn union(alloc: Global, a: &Value, b: &Value) -> Result<Outcome, AllocError>
     set_of(alloc, values)
 }
 
-pub fn intersection(alloc: Global, a: &[Value], b: &[Value]) -> Result<Outcome, AllocError>
-    requires { IsAscending b.now }
-    ensures { IfOk result (IsIntersection a.now b.now) }
+pub fn intersection(alloc: Global, a: &Value, b: &Value) -> Result<Outcome, AllocError>
+    ensures { IfOk result (IsIntersection (members a.now) (members b.now)) }
 {
-    display(
+    let kept = selected(
         alloc,
-        selected(alloc, a, Part::Whole, Keep::Members, b, Part::Whole)?,
-    )
+        a.members(),
+        Part::Whole,
+        Keep::Members,
+        b.members(),
+        Part::Whole,
+    )?;
+    display(alloc, kept)
 }
 
 /// `a \setminus b`.
-pub fn set_difference(alloc: Global, a: &[Value], b: &[Value]) -> Result<Outcome, AllocError>
-    requires { IsAscending b.now }
-    ensures { IfOk result (IsSetDifference a.now b.now) }
+pub fn set_difference(alloc: Global, a: &Value, b: &Value) -> Result<Outcome, AllocError>
+    ensures { IfOk result (IsSetDifference (members a.now) (members b.now)) }
 {
-    display(
+    let kept = selected(
         alloc,
-        selected(alloc, a, Part::Whole, Keep::Others, b, Part::Whole)?,
-    )
+        a.members(),
+        Part::Whole,
+        Keep::Others,
+        b.members(),
+        Part::Whole,
+    )?;
+    display(alloc, kept)
 }
 
 /// `\# a`.
-pub fn size(a: &[Value]) -> Outcome
-    ensures { IsSize a.now result }
+pub fn size(a: &Value) -> Outcome
+    ensures { IsSize (members a.now) result }
 {
-    match i64::try_from(a.len()) {
+    match i64::try_from(a.members().len()) {
         Ok(n) => Outcome::Is(Value { form: Form::Int(n) }),
         Err(_) => Outcome::Out,
     }

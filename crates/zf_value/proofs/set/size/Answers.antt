@@ -7,8 +7,8 @@ pub returns-in-Ok : goal.returns-in-Ok
 unfolding IsSize
 returns-in-Ok c =
     let fits : FitsSigned w64 c.in-Ok.n = subst (FitsSigned w64) (sym c.in-Ok.ensures.1) c.in-Ok.ensures.0 in
-    is_number _ _ (to_z-of_z w64 c.in-Ok.n fits ∙ c.in-Ok.ensures.1) c.in-Ok.ensures.0
+    rw (← c.members.ensures.is) (is_number _ _ (to_z-of_z w64 c.in-Ok.n fits ∙ c.in-Ok.ensures.1) c.in-Ok.ensures.0)
 
 pub returns-in-Err : goal.returns-in-Err
 unfolding IsSize
-returns-in-Err c = c.in-Err.ensures
+returns-in-Err c = rw (← c.members.ensures.is) c.in-Err.ensures

@@ -1,0 +1,4 @@
+use Rattle.zf_value.proofs.relation.related.Goals as goal
+
+pub returns : goal.returns
+returns c = rw (← c.members-pairs.ensures.is) c.stretch.ensures.related
