@@ -28,7 +28,7 @@ pub use Rattle.zf_value.specs.Sets.{Every, IsAscending, IsMember, IsRegular, IsR
 unfoldable pub use Rattle.zf_value.specs.Sets.{AreRegular, HaveSameMembers}
 pub use Rattle.zf_value.specs.declared.value.Outcome.{Outcome}
 pub use Rattle.zf_value.specs.declared.value.Outcome.TheVariants.{Is, Out, Undefined}
-pub use Rattle.zf_value.specs.declared.value.Value.{Int, SetOf, Tuple, Value}
+pub use Rattle.zf_value.specs.declared.plain.Value.{Int, SetOf, Tuple, Value}
 pub use Rattle.zf_tree.specs.declared.operator.Unary.TheVariants.{Not}
 pub use Rattle.zf_tree.specs.declared.symbol.Relation.TheVariants.{Equal}
 pub use Rattle.zf_term.proofs.ResolvedSeen.{link-seen, of-Binary, of-Chain, of-Name, of-Unary, range-seen}

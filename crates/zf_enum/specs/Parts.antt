@@ -3,7 +3,7 @@ use Rattle.std.specs.Prelude.{◌≡◌, ◌⊎◌, ◌↔◌, ℕ, ◌<◌, tru
 use Rattle.zf_term.specs.declared.globals.Domain.{Domain}
 use Rattle.zf_finite.specs.Finite.{bounds}
 use Rattle.zf_term.specs.Definitions.{Defined, DeclaredSet, DeclaredSets, set_of}
-use Rattle.zf_value.specs.declared.value.Value.{Value}
+use Rattle.zf_value.specs.declared.plain.Value.{Value}
 use Rattle.zf_value.specs.Sets.{IsMember, IsAscending, AreRegular, members}
 use Rattle.zf_value.specs.declared.value.Outcome.{Outcome}
 use Rattle.zf_value.specs.declared.value.Outcome.TheVariants.{Is, Undefined}

@@ -1,6 +1,6 @@
 //! Tests of values, and the values that pass one.
 ghost use Rattle.std.specs.Prelude.{◌≡◌, ◌↔◌, IsTrue, IfOk, OnOk};
-ghost use Rattle.zf_value.specs.declared.value.Value as value;
+ghost use Rattle.zf_value.specs.declared.plain.Value as value;
 ghost use Rattle.zf_value.specs.Sets.{IsMember, IsRegular, IsRegularSet};
 ghost use Rattle.zf_enum.specs.Parts.{Lists, Grows};
 
@@ -10,7 +10,7 @@ use zf_value::value::Value;
 /// A test of values.
 pub(crate) trait Test {
     ghost use Rattle.std.specs.Prelude.{◌↔◌, IsTrue};
-    ghost use Rattle.zf_value.specs.declared.value.Value as value;
+    ghost use Rattle.zf_value.specs.declared.plain.Value as value;
     ghost use Rattle.zf_value.specs.Sets.{IsRegular};
 
     /// What passes.

@@ -15,9 +15,9 @@ pub struct Known {
 }
 
 impl Model for Known {
-    ghost use Rattle.zf_value.specs.declared.value.Value.{Value as Plain};
+    ghost use Rattle.zf_value.specs.declared.plain.Value.{Value as Plain};
     ghost use Rattle.zf_value.specs.Sets.{IsRegular};
-    ghost use Rattle.zf_value.specs.contracts.value.Value as stored;
+    ghost use Rattle.zf_value.specs.contracts.plain.Value as stored;
     ghost use Rattle.std.specs.Coded.{codes};
 
     ghost Value = { Plain };
@@ -46,8 +46,8 @@ impl Known {
 }
 
 impl PartialEq for Known {
-    ghost use Rattle.zf_value.specs.contracts.value.ValuePartialEq.TheImpl as of_values;
-    ghost use Rattle.zf_value.specs.contracts.value.ValuePartialEq.TheImpl.Laws as proved;
+    ghost use Rattle.zf_value.specs.contracts.plain.ValuePartialEq.TheImpl as of_values;
+    ghost use Rattle.zf_value.specs.contracts.plain.ValuePartialEq.TheImpl.Laws as proved;
 
     ghost eq = { of_values.ghosts.eq };
 
@@ -59,14 +59,14 @@ impl PartialEq for Known {
 }
 
 impl Eq for Known {
-    ghost use Rattle.zf_value.specs.contracts.value.ValueEq.TheImpl.Laws as proved;
+    ghost use Rattle.zf_value.specs.contracts.plain.ValueEq.TheImpl.Laws as proved;
 
     ghost laws = { proved.laws-law };
 }
 
 impl PartialOrd for Known {
-    ghost use Rattle.zf_value.specs.contracts.value.ValuePartialOrd.TheImpl as of_values;
-    ghost use Rattle.zf_value.specs.contracts.value.ValuePartialOrd.TheImpl.Laws as proved;
+    ghost use Rattle.zf_value.specs.contracts.plain.ValuePartialOrd.TheImpl as of_values;
+    ghost use Rattle.zf_value.specs.contracts.plain.ValuePartialOrd.TheImpl.Laws as proved;
 
     ghost partial_cmp = { of_values.ghosts.partial_cmp };
 
@@ -78,8 +78,8 @@ impl PartialOrd for Known {
 }
 
 impl Ord for Known {
-    ghost use Rattle.zf_value.specs.contracts.value.ValueOrd.TheImpl as of_values;
-    ghost use Rattle.zf_value.specs.contracts.value.ValueOrd.TheImpl.Laws as proved;
+    ghost use Rattle.zf_value.specs.contracts.plain.ValueOrd.TheImpl as of_values;
+    ghost use Rattle.zf_value.specs.contracts.plain.ValueOrd.TheImpl.Laws as proved;
 
     ghost cmp = { of_values.ghosts.cmp };
 

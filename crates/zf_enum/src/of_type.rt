@@ -1,7 +1,7 @@
 //! Which values are of a type.
 ghost use Rattle.std.specs.Prelude.{◌≡◌, ◌↔◌, ◌<◌, IsTrue, IsSomeAnd, map};
 ghost use Rattle.zf_term.specs.Types.{type_of, types, power, product};
-ghost use Rattle.zf_value.specs.declared.value.Value.{Elem};
+ghost use Rattle.zf_value.specs.declared.plain.Value.{Elem};
 ghost use Rattle.zf_value.specs.Sets.{AreRegular, IsRegular};
 ghost use Rattle.zf_meaning.specs.Environments.{type_number};
 ghost use Rattle.zf_meaning.specs.Envs.{environment_of};

@@ -22,9 +22,9 @@ unfoldable pub use Rattle.zf_value.specs.Sets.{AreAmong, AreRegular}
 pub use Rattle.zf_value.specs.declared.TheConstants.{SET_MAX}
 pub use Rattle.zf_value.specs.declared.value.Outcome.{Outcome}
 pub use Rattle.zf_value.specs.declared.value.Outcome.TheVariants.{Is, Out}
-pub use Rattle.zf_value.specs.declared.value.Value.{out-Value, roll-out-Value, roll-Value, SetOf, Tuple, Value}
-pub use Rattle.zf_value.specs.declared.value.Value.TheOpen.{Value-F}
-pub use Rattle.zf_value.specs.declared.value.Value.TheVariants.{outs-SetOf, outs-Tuple, rolls-SetOf}
+pub use Rattle.zf_value.specs.declared.plain.Value.{out-Value, roll-out-Value, roll-Value, SetOf, Tuple, Value}
+pub use Rattle.zf_value.specs.declared.plain.Value.TheOpen.{Value-F}
+pub use Rattle.zf_value.specs.declared.plain.Value.TheVariants.{outs-SetOf, outs-Tuple, rolls-SetOf}
 pub use Rattle.zf_families.specs.Counts.{falling, partial_injection_count, sizes, stepped}
 unfoldable pub use Rattle.zf_families.specs.Families.{IsPartialFunction, IsPartialInjection, IsRelation, IsTotalFunction, IsTotalInjection, IsTupleFrom}
 pub use Rattle.zf_families.specs.Selections.{extended, extensions, fits_any, fits_apart, fitting, pairs, second, second_at, singles, some, whole}

@@ -2,8 +2,8 @@
 use Rattle.std.specs.Prelude.{Bool, true, not, List, [], ◌∷◌, ◌++◌, map, filter}
 use Rattle.std.specs.List.{flat_map, list_all}
 use Rattle.std.specs.Ordering.{is_eq}
-use Rattle.zf_value.specs.declared.value.Value.{Value, out-Value}
-use Rattle.zf_value.specs.declared.value.Value.TheOpen.{Value-F}
+use Rattle.zf_value.specs.declared.plain.Value.{Value, out-Value}
+use Rattle.zf_value.specs.declared.plain.Value.TheOpen.{Value-F}
 use Rattle.zf_value.specs.Sets.{value_order}
 use Rattle.zf_value.specs.Operations.{pair}
 use Rattle.zf_families.specs.declared.rows.Fits.{Fits}

@@ -32,9 +32,9 @@ pub use Rattle.zf_value.specs.declared.value.Outcome.{Outcome}
 pub use Rattle.zf_value.specs.declared.value.Outcome.TheVariants.{Is, Out, Undefined}
 pub use Rattle.zf_value.specs.declared.value.Truth.{Truth}
 pub use Rattle.zf_value.specs.declared.value.Truth.TheVariants.{False, True}
-pub use Rattle.zf_value.specs.declared.value.Value.{Int, out-Value, roll-out-Value, roll-Value, SetOf, Tuple, Value}
-pub use Rattle.zf_value.specs.declared.value.Value.TheOpen.{Value-F}
-pub use Rattle.zf_value.specs.declared.value.Value.TheVariants.{outs-Int, rolls-SetOf}
+pub use Rattle.zf_value.specs.declared.plain.Value.{Int, out-Value, roll-out-Value, roll-Value, SetOf, Tuple, Value}
+pub use Rattle.zf_value.specs.declared.plain.Value.TheOpen.{Value-F}
+pub use Rattle.zf_value.specs.declared.plain.Value.TheVariants.{outs-Int, rolls-SetOf}
 unfoldable pub use Rattle.zf_families.specs.Families.{IsPartialFunction, IsPartialInjection, IsRelation, IsTotalFunction, IsTotalInjection, IsTupleFrom}
 pub use Rattle.zf_tree.specs.declared.operator.Listed.{Listed}
 pub use Rattle.zf_tree.specs.declared.operator.Operator.{Operator}

@@ -5,7 +5,7 @@ use Rattle.zf_tree.specs.declared.symbol.Arrow.TheVariants as arrow
 use Rattle.zf_tree.specs.declared.symbol.Relation.{Relation}
 use Rattle.zf_tree.specs.declared.symbol.Relation.TheVariants.{NotMember}
 use Rattle.zf_families.specs.Families.{IsRelation, IsPartialFunction, IsTotalFunction, IsPartialInjection, IsTotalInjection}
-use Rattle.zf_value.specs.declared.value.Value.{Value}
+use Rattle.zf_value.specs.declared.plain.Value.{Value}
 use Rattle.zf_value.specs.declared.value.Outcome.{Outcome}
 use Rattle.zf_value.specs.declared.value.Outcome.TheVariants.{Is}
 use Rattle.zf_value.specs.declared.value.Truth.{Truth}

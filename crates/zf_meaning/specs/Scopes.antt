@@ -1,7 +1,7 @@
 -- Contexts, by their parts. No public clause rests on this.
 use Rattle.std.specs.Prelude.{List}
 use denote.Bor.{Bor}
-use Rattle.zf_value.specs.declared.value.Value.{Value}
+use Rattle.zf_value.specs.declared.plain.Value.{Value}
 use Rattle.zf_value.specs.Sets.{AreRegular}
 use Rattle.zf_meaning.specs.declared.env.Env.{Env}
 use Rattle.zf_meaning.specs.Environments.{Context}

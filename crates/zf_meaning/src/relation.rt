@@ -1,7 +1,7 @@
 //! What relations say of the outcomes of their sides.
 ghost use Rattle.std.specs.Prelude.{◌≡◌, ◌↔◌, if◌then◌else◌, IsTrue};
 ghost use Rattle.zf_value.specs.declared.value.Outcome.TheVariants.{Is};
-ghost use Rattle.zf_value.specs.declared.value.Value.{Int};
+ghost use Rattle.zf_value.specs.declared.plain.Value.{Int};
 ghost use Rattle.zf_value.specs.Sets.{AreAmong, IsRegular, IsRegularOutcome, IsRegularSet};
 ghost use Rattle.zf_meaning.specs.Arithmetic.{AreOrdered, IsFrom};
 ghost use Rattle.zf_meaning.specs.Found.{found_outcome};

@@ -13,7 +13,7 @@ pub use Rattle.zf_value.proofs.Exactly.{same}
 pub use Rattle.zf_value.specs.Sets.{Every, IsAscending, IsRegular, value_order}
 unfoldable pub use Rattle.zf_value.specs.Sets.{AreRegular}
 pub use Rattle.zf_value.specs.declared.TheConstants.{SET_MAX}
-pub use Rattle.zf_value.specs.declared.value.Value.{Elem, fold-roll-Value, Int, map-Value, roll-Value, SetOf, Tuple, Value}
+pub use Rattle.zf_value.specs.declared.plain.Value.{Elem, fold-roll-Value, Int, map-Value, roll-Value, SetOf, Tuple, Value}
 pub use Rattle.zf_term.specs.Definitions.{Comp, comp_of, Defined, definition_of, globals_of}
 pub use Rattle.zf_term.specs.FirstNamed.{first_named}
 pub use Rattle.zf_term.specs.Types.{basic, int, no_types, power, product, Ty, type, type_of, types, Tys}

@@ -1,7 +1,7 @@
 -- What the reading of a line answers.
 use Rattle.std.specs.Prelude.{◌≡◌, ℕ, List}
 use Rattle.zf_term.specs.Definitions.{Comp}
-use Rattle.zf_value.specs.declared.value.Value.{Value}
+use Rattle.zf_value.specs.declared.plain.Value.{Value}
 use Rattle.zf_value.specs.Sets.{AreRegular}
 use Rattle.zf_meaning.specs.Environments.{Environment}
 use Rattle.zf_meaning.specs.Rows.{IsRow}

@@ -1,5 +1,5 @@
 -- The members of a form, and that they are less deep than it.
-use Rattle.zf_value.proofs.Prelude.{◌*◌, ◌+◌, ◌<◌, ◌∙◌, ◌∷◌, ◌≡◌, ◌≤◌, [], ap, arith, Bool, false, get_or, Greater, length, Less, List, map, None, Option, Ordering, refl, Some, subst, suc, sym, true, zero, ℕ, ℤ, level_of, value_of, number_at, number_of, pair, members, members_at, parts, value_order, place_at, place_beside, place_of_first, Elem, out-Value, roll-out-Value, roll-Value, SetOf, Value, Value-F, outs-Elem, outs-Int, outs-SetOf, outs-Tuple, rolls-SetOf, Form}
+use Rattle.zf_value.proofs.Prelude.{◌*◌, ◌+◌, ◌<◌, ◌∙◌, ◌∷◌, ◌≡◌, ◌≤◌, [], ap, arith, Bool, false, get_or, Greater, length, Less, List, map, None, Option, Ordering, refl, Some, subst, suc, sym, true, zero, ℕ, ℤ, level_of, value_of, number_at, number_of, pair, members, members_at, parts, value_order, place_at, place_beside, place_of_first, Elem, out-Value, roll-out-Value, roll-Value, SetOf, Tuple, Value, Value-F, outs-Elem, outs-Int, outs-SetOf, outs-Tuple, rolls-SetOf, Form}
 use Rattle.zf_value.specs.declared.value.Form.TheVariants as form
 use Rattle.zf_value.proofs.Seen.{number_of-Int, parts-Tuple}
 use Rattle.zf_value.specs.Heights.{greatest, height, height-Tuple, height-SetOf}
@@ -120,3 +120,29 @@ level_is (form.SetOf xs) = outs-SetOf xs
 
 pub out_is : (v : Value) (f : Form) → value_of f ≡ v → out-Value v ≡ level_of f
 out_is v f e = ap out-Value (sym e) ∙ level_is f
+
+abbrev is_set_at : Value-F Value → Bool
+is_set_at (Value-F.SetOf xs) = true
+is_set_at (Value-F.Int n) = false
+is_set_at (Value-F.Elem t i) = false
+is_set_at (Value-F.Tuple xs) = false
+
+-- what is no set as a form is none
+pub no_set_seen : (v : Value) (f : Form) → value_of f ≡ v → ((xs : List Value) → f ≡ form.SetOf xs → ⊥) → (xs : List Value) → v ≡ SetOf xs → ⊥
+no_set_seen v (form.Int n) e h xs k = let s = sym (ap is_set_at (outs-Int n)) ∙ ap (λ u. is_set_at (out-Value u)) (e ∙ k) ∙ ap is_set_at (outs-SetOf xs) in (cc)
+no_set_seen v (form.Elem t i) e h xs k = let s = sym (ap is_set_at (outs-Elem t i)) ∙ ap (λ u. is_set_at (out-Value u)) (e ∙ k) ∙ ap is_set_at (outs-SetOf xs) in (cc)
+no_set_seen v (form.Tuple ys) e h xs k = let s = sym (ap is_set_at (outs-Tuple ys)) ∙ ap (λ u. is_set_at (out-Value u)) (e ∙ k) ∙ ap is_set_at (outs-SetOf xs) in (cc)
+no_set_seen v (form.SetOf ys) e h xs k = h ys refl
+
+abbrev is_tuple_at : Value-F Value → Bool
+is_tuple_at (Value-F.Tuple xs) = true
+is_tuple_at (Value-F.Int n) = false
+is_tuple_at (Value-F.Elem t i) = false
+is_tuple_at (Value-F.SetOf xs) = false
+
+-- what is no tuple as a form is none
+pub no_tuple_seen : (v : Value) (f : Form) → value_of f ≡ v → ((xs : List Value) → f ≡ form.Tuple xs → ⊥) → (xs : List Value) → v ≡ Tuple xs → ⊥
+no_tuple_seen v (form.Int n) e h xs k = let s = sym (ap is_tuple_at (outs-Int n)) ∙ ap (λ u. is_tuple_at (out-Value u)) (e ∙ k) ∙ ap is_tuple_at (outs-Tuple xs) in (cc)
+no_tuple_seen v (form.Elem t i) e h xs k = let s = sym (ap is_tuple_at (outs-Elem t i)) ∙ ap (λ u. is_tuple_at (out-Value u)) (e ∙ k) ∙ ap is_tuple_at (outs-Tuple xs) in (cc)
+no_tuple_seen v (form.SetOf ys) e h xs k = let s = sym (ap is_tuple_at (outs-SetOf ys)) ∙ ap (λ u. is_tuple_at (out-Value u)) (e ∙ k) ∙ ap is_tuple_at (outs-Tuple xs) in (cc)
+no_tuple_seen v (form.Tuple ys) e h xs k = h ys refl

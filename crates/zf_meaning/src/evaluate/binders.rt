@@ -9,7 +9,7 @@ ghost use Rattle.zf_term.specs.declared.resolved.Resolved as resolved;
 ghost use Rattle.zf_term.specs.declared.resolved.Resolved.TheVariants as form;
 ghost use Rattle.zf_term.specs.ResolvedTrees.{resolved_of, part_of};
 ghost use Rattle.zf_value.specs.declared.value.Truth.TheVariants as truths;
-ghost use Rattle.zf_value.specs.declared.value.Value as value;
+ghost use Rattle.zf_value.specs.declared.plain.Value as value;
 ghost use Rattle.zf_value.specs.Operations.{AreFrom};
 ghost use Rattle.zf_value.specs.Sets.{AreRegular, IsRegular, IsRegularOutcome};
 ghost use Rattle.zf_meaning.specs.Building.{AddsRow, AddsValue};

@@ -2,7 +2,7 @@
 ghost use Rattle.std.specs.Prelude.{◌≡◌, ◌↔◌, IfOk, IsTrue, List, None, map};
 ghost use Rattle.zf_term.specs.ResolvedTrees as tree;
 ghost use Rattle.zf_term.specs.ResolvedTrees.{resolved_of, resolved_link_of};
-ghost use Rattle.zf_value.specs.declared.value.Value as value;
+ghost use Rattle.zf_value.specs.declared.plain.Value as value;
 ghost use Rattle.zf_value.specs.Sets.{IsRegularOutcome};
 ghost use Rattle.zf_extent.specs.Extents.{is_membership};
 ghost use Rattle.zf_meaning.specs.Envs.{environment_of};

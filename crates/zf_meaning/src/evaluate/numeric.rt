@@ -6,7 +6,7 @@ ghost use Rattle.zf_term.specs.ResolvedTrees as tree;
 ghost use Rattle.zf_term.specs.ResolvedTrees.{resolved_of, resolved_link_of};
 ghost use Rattle.zf_term.specs.declared.resolved.Resolved.{size-Resolved};
 ghost use Rattle.zf_value.specs.declared.value.Outcome.TheVariants.{Is};
-ghost use Rattle.zf_value.specs.declared.value.Value.{Int};
+ghost use Rattle.zf_value.specs.declared.plain.Value.{Int};
 ghost use Rattle.zf_value.specs.Numbers.{IsNumber};
 ghost use Rattle.zf_value.specs.Sets.{IsRegular};
 ghost use Rattle.zf_meaning.specs.Environments as spec;
