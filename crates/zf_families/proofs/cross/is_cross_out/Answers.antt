@@ -2,4 +2,4 @@ use Rattle.zf_families.proofs.Tuples.{cross_out}
 use Rattle.zf_families.proofs.cross.is_cross_out.Goals as goal
 
 pub returns : goal.returns
-returns c = cross_out c.args.sets.now c.requires c.size.result c.size.ensures
+returns c = cross_out c.args.sets.now c.size.ensures.ascending c.size.result c.size.ensures.is
