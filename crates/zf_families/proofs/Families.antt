@@ -1,6 +1,6 @@
 -- What the rows of functions and injections are, and how many there are.
 use Rattle.zf_families.proofs.Prelude.{◌+◌, ◌<◌, ◌^◌, ◌↔◌, ◌∙◌, ◌∷◌, ◌≡◌, ◌≤◌, [], ap, arith, get_or, length, List, ltb, map, min, refl, Result, suc, sym, ℕ, length-map, IsTrue, IfOk, AllocError, IsFunctional, IsRelationThat, IsTotal, pair, ArePartialFunctions, AreTotalFunctions, IsAscending, SET_MAX, Outcome, Is, Out, SetOf, Value, fits_any, pairs, some, whole, AreSets}
-use Rattle.zf_families.proofs.Told.{are_sets, out_by_size, built_result}
+use Rattle.zf_families.proofs.Told.{TellsOut, are_sets, out_by_size, built_result}
 use Rattle.zf_families.proofs.Relations.{relation_ascends}
 use Rattle.zf_families.proofs.Counts.{length_some, length_whole, sizes_same}
 use Rattle.zf_families.proofs.Functions.{partial_told, total_told}
@@ -14,7 +14,7 @@ total_rows a b = whole fits_any (map (pairs b) a)
 
 -- ---- partial functions
 
-pub partial_functions_out : (a b : List Value) → IsAscending a → IsAscending b → (count : ℕ) → count ≡ min (suc (length b) ^ length a) (SET_MAX + 1) → IsTrue (ltb SET_MAX count) ↔ ArePartialFunctions a b Out
+pub partial_functions_out : (a b : List Value) → IsAscending a → IsAscending b → (count : ℕ) → count ≡ min (suc (length b) ^ length a) (SET_MAX + 1) → TellsOut (ArePartialFunctions a b) (ltb SET_MAX count)
 unfolding ArePartialFunctions
 partial_functions_out a b h k count e =
     out_by_size SetOf (IsRelationThat IsFunctional a b) (partial_rows a b) (partial_told b fits_any IsFunctional functions a h k) (suc (length b) ^ length a) count
@@ -30,7 +30,7 @@ partial_functions_sets a b h k rows e = are_sets (IsRelationThat IsFunctional a 
 
 -- ---- total functions
 
-pub total_functions_out : (a b : List Value) → IsAscending a → IsAscending b → (count : ℕ) → count ≡ min (length b ^ length a) (SET_MAX + 1) → IsTrue (ltb SET_MAX count) ↔ AreTotalFunctions a b Out
+pub total_functions_out : (a b : List Value) → IsAscending a → IsAscending b → (count : ℕ) → count ≡ min (length b ^ length a) (SET_MAX + 1) → TellsOut (AreTotalFunctions a b) (ltb SET_MAX count)
 unfolding AreTotalFunctions
 total_functions_out a b h k count e =
     out_by_size SetOf (IsRelationThat (λ r. IsFunctional r × IsTotal a r) a b) (total_rows a b) (total_told b fits_any IsFunctional functions a h k) (length b ^ length a) count

@@ -1,6 +1,6 @@
 -- What the rows of injections are, and how many there are.
 use Rattle.zf_families.proofs.Prelude.{◌*◌, ◌++◌, ◌+◌, ◌-◌, ◌<◌, ◌↔◌, ◌∙◌, ◌∷◌, ◌≡◌, ◌≤◌, [], ap, arith, false, get_or, length, List, ltb, map, min, refl, Result, suc, sym, zero, ℕ, nil_from_length, filter, IsTrue, IfOk, AllocError, IsFunctional, IsInjective, IsRelationThat, IsTotal, pair, ArePartialInjections, AreTotalInjections, IsAscending, SET_MAX, Outcome, Is, Out, SetOf, Value, falling, partial_injection_count, fits_apart, pairs, some, whole, AreSets}
-use Rattle.zf_families.proofs.Told.{are_sets, Tells, out_by_size, built_result}
+use Rattle.zf_families.proofs.Told.{TellsOut, are_sets, Tells, out_by_size, built_result}
 use Rattle.zf_families.proofs.InjectionCounts.{length_injections, length_partial_injections, filter_map_none, seconds, other_itself}
 use Rattle.zf_families.proofs.Functions.{partial_told, total_told}
 use Rattle.zf_families.proofs.FunctionLaws.{injections}
@@ -17,7 +17,7 @@ IsInjection r = IsFunctional r × IsInjective r
 
 -- ---- partial injections
 
-pub partial_injections_out : (a b : List Value) → IsAscending a → IsAscending b → (count : ℕ) → count ≡ min (partial_injection_count (length a) (length b)) (SET_MAX + 1) → IsTrue (ltb SET_MAX count) ↔ ArePartialInjections a b Out
+pub partial_injections_out : (a b : List Value) → IsAscending a → IsAscending b → (count : ℕ) → count ≡ min (partial_injection_count (length a) (length b)) (SET_MAX + 1) → TellsOut (ArePartialInjections a b) (ltb SET_MAX count)
 unfolding ArePartialInjections
 partial_injections_out a b h k count e =
     out_by_size SetOf (IsRelationThat IsInjection a b) (partial_injection_rows a b) (partial_told b fits_apart IsInjection injections a h k) (partial_injection_count (length a) (length b)) count
@@ -44,7 +44,7 @@ total_injections_told a b h k =
       found = λ z p. t.found z (p.0, p.1, p.2, p.3, ((p.4.0, p.4.1), p.4.2));
     }
 
-pub total_injections_out : (a b : List Value) → IsAscending a → IsAscending b → (count : ℕ) → count ≡ min (falling (length b) (length a)) (SET_MAX + 1) → IsTrue (ltb SET_MAX count) ↔ AreTotalInjections a b Out
+pub total_injections_out : (a b : List Value) → IsAscending a → IsAscending b → (count : ℕ) → count ≡ min (falling (length b) (length a)) (SET_MAX + 1) → TellsOut (AreTotalInjections a b) (ltb SET_MAX count)
 unfolding AreTotalInjections
 total_injections_out a b h k count e =
     out_by_size SetOf (IsRelationThat (λ r. IsFunctional r × IsInjective r × IsTotal a r) a b) (injection_rows a b) (total_injections_told a b h k) (falling (length b) (length a)) count

@@ -1,6 +1,6 @@
 -- The relations from a set to a set are the subsets of the product.
 use Rattle.zf_families.proofs.Prelude.{◌*◌, ◌++◌, ◌+◌, ◌<◌, ◌^◌, ◌↔◌, ◌∙◌, ◌∷◌, ◌≡◌, [], ap, arith, inl, inr, length, Less, List, ltb, map, min, refl, Result, subst, suc, sym, zero, ℕ, ⊎_elim, pow-succ', pow-zero, cases_lt, length-append, length-map, flat_map, IsTrue, IfOk, AllocError, every_from, members-append, IsRelationThat, pair, AreRelations, Every, IsAscending, IsMember, value_order, AreAmong, SET_MAX, Outcome, Is, Out, SetOf, Value, fits_any, pairs, singles, some, IsPairFrom, AreSets}
-use Rattle.zf_families.proofs.Told.{are_sets, ascends, Tells, out_by_size, built_result}
+use Rattle.zf_families.proofs.Told.{TellsOut, are_sets, ascends, Tells, out_by_size, built_result}
 use Rattle.zf_families.proofs.Counts.{length_some, sizes_same}
 use Rattle.zf_families.proofs.Subsets.{power_told}
 use Rattle.zf_families.proofs.Comparisons.{member_map, from_member_map, below_rest, first_below, pairs_ascending}
@@ -74,7 +74,7 @@ min_power n c = ⊎_elim
     ap (λ k. min (2 ^ k) c) e ∙ omega (arith, p, q))
     (cases_lt n c)
 
-pub relations_out : (a b : List Value) → IsAscending a → IsAscending b → (size count : ℕ) → size ≡ min (length a * length b) (SET_MAX + 1) → count ≡ min (2 ^ size) (SET_MAX + 1) → IsTrue (ltb SET_MAX count) ↔ AreRelations a b Out
+pub relations_out : (a b : List Value) → IsAscending a → IsAscending b → (size count : ℕ) → size ≡ min (length a * length b) (SET_MAX + 1) → count ≡ min (2 ^ size) (SET_MAX + 1) → TellsOut (AreRelations a b) (ltb SET_MAX count)
 unfolding AreRelations
 relations_out a b h k size count e f =
     let all : length ([] ∷ some fits_any (singles (product_of a b))) ≡ 2 ^ (length a * length b) =

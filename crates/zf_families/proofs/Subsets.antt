@@ -3,7 +3,7 @@ use Rattle.zf_families.proofs.Prelude.{◌+◌, ◌^◌, ◌↔◌, ◌∙◌, �
 use Rattle.zf_families.proofs.Counts.{length_some, sizes_same}
 use Rattle.zf_families.proofs.Lists.{Each, each_map}
 use Rattle.zf_families.proofs.InOrder.{IsLadder, ordered_some}
-use Rattle.zf_families.proofs.Told.{are_sets, ascends, Tells, set_order, out_by_size, built_result}
+use Rattle.zf_families.proofs.Told.{TellsOut, are_sets, ascends, Tells, set_order, out_by_size, built_result}
 use Rattle.zf_families.proofs.Chosen.{Takes, in_some}
 use Rattle.zf_families.proofs.Comparisons.{not_both, below_rest}
 
@@ -63,7 +63,7 @@ power_told a h =
       found = λ z p. (p.0, sym p.1, (chosen p.0 h).1 (p.2, p.3));
     }
 
-pub power_out : (a : List Value) → IsAscending a → (count : ℕ) → count ≡ min (2 ^ length a) (SET_MAX + 1) → IsTrue (ltb SET_MAX count) ↔ IsPower a Out
+pub power_out : (a : List Value) → IsAscending a → (count : ℕ) → count ≡ min (2 ^ length a) (SET_MAX + 1) → TellsOut (IsPower a) (ltb SET_MAX count)
 unfolding IsPower
 power_out a h count e =
     let size : length ([] ∷ some fits_any (singles a)) ≡ 2 ^ length a = length_some (singles a) ∙ sizes_same suc 1 (λ x. x ∷ []) a (λ x. refl) in

@@ -1,5 +1,5 @@
 -- A test that a list of rows answers makes the set of these rows, or is out where they are too many.
-use Rattle.zf_families.proofs.Prelude.{◌+◌, ◌↔◌, ◌∙◌, ◌∷◌, ◌≡◌, ◌≤◌, [], ap, arith, inl, inr, length, Less, List, ltb, map, min, refl, Result, subst, suc, sym, take, zero, ℕ, ⊎_elim, cases_lt, lt-ltb, ltb-true, length-map, length-take-le, IfOk-weaker, IsTrue, IfOk, AllocError, cmp_is, members-SetOf, Every, IsAscending, IsMember, IsSetOf, members, row_order, value_order, SET_MAX, Outcome, Is, Out, out-Value, SetOf, Tuple, Value, Value-F, outs-SetOf, outs-Tuple, AllAscend, AreSets}
+use Rattle.zf_families.proofs.Prelude.{◌+◌, ◌↔◌, ◌∙◌, ◌∷◌, ◌≡◌, ◌≤◌, [], ap, arith, inl, inr, length, Less, List, ltb, map, min, refl, Result, subst, suc, sym, take, zero, ℕ, ⊎_elim, cases_lt, lt-ltb, ltb-true, length-map, length-take-le, IfOk-weaker, IsTrue, IfOk, AllocError, cmp_is, members-SetOf, Every, IsAscending, IsMember, IsSetOf, members, row_order, value_order, SET_MAX, Outcome, Is, Out, out-Value, SetOf, Tuple, Value, Value-F, outs-SetOf, outs-Tuple, AllAscend, AreSets, Bool, ◌⊎◌}
 use Rattle.zf_value.specs.Order.{level_order}
 use Rattle.zf_value.proofs.Once.{one_set}
 use Rattle.zf_families.proofs.Lists.{Each, In, IsOrdered, ordered_map, ordered_take, in_map, in_from_map}
@@ -77,10 +77,17 @@ told_in make P rows t h o = let e = one_set P (Is (SetOf (map make rows))) Out (
 
 -- ---- a size that is counted, and a set that is built
 
-pub out_by_size : (make : List Value → Value) (P : Value → Type 0) (rows : List (List Value)) → Tells make P rows → (n count : ℕ) → length rows ≡ n → count ≡ min n (SET_MAX + 1) → IsTrue (ltb SET_MAX count) ↔ IsSetOf P Out
+-- b tells whether it is out, and where it is not there is a value
+abbrev pub TellsOut : (Outcome → Type 0) → Bool → Type 0
+TellsOut S b = (IsTrue b ↔ S Out) × (IsTrue b ⊎ ((v : Value) × S (Is v)))
+
+pub out_by_size : (make : List Value → Value) (P : Value → Type 0) (rows : List (List Value)) → Tells make P rows → (n count : ℕ) → length rows ≡ n → count ≡ min n (SET_MAX + 1) → TellsOut (IsSetOf P) (ltb SET_MAX count)
 out_by_size make P rows t n count e h = (
-  λ g. let l = ltb-true SET_MAX count g in told_out make P rows t (omega (arith, e, h, l)),
-  λ o. lt-ltb SET_MAX count (⊎_elim (λ l. omega (arith, e, h, l)) (λ l. absurd (told_in make P rows t l o)) (cases_lt SET_MAX (length rows))),
+  (
+    λ g. let l = ltb-true SET_MAX count g in told_out make P rows t (omega (arith, e, h, l)),
+    λ o. lt-ltb SET_MAX count (⊎_elim (λ l. omega (arith, e, h, l)) (λ l. absurd (told_in make P rows t l o)) (cases_lt SET_MAX (length rows))),
+  ),
+  ⊎_elim (λ l. inl (lt-ltb SET_MAX count (omega (arith, e, h, l)))) (λ l. inr (SetOf (map make rows), told make P rows t l)) (cases_lt SET_MAX (length rows)),
 )
 
 built : (make : List Value → Value) (P : Value → Type 0) (rows : List (List Value)) → Tells make P rows → (IsSetOf P Out → ⊥) → IsSetOf P (Is (SetOf (map make rows)))

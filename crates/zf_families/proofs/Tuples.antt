@@ -3,7 +3,7 @@ use Rattle.zf_families.proofs.Prelude.{◌+◌, ◌<◌, ◌↔◌, ◌∙◌, �
 use Rattle.zf_families.proofs.Counts.{length_whole}
 use Rattle.zf_families.proofs.Lists.{Each, each_map}
 use Rattle.zf_families.proofs.InOrder.{ordered_whole}
-use Rattle.zf_families.proofs.Told.{made_ascending, Tells, tuple_order, out_by_size, built_result}
+use Rattle.zf_families.proofs.Told.{TellsOut, made_ascending, Tells, tuple_order, out_by_size, built_result}
 use Rattle.zf_families.proofs.Chosen.{Takes, in_whole}
 
 abbrev From : List Value → List Value → Type 0
@@ -35,7 +35,7 @@ cross_told sets h =
       found = λ z p. (p.0, sym p.1, (chosen p.0 tt).1 p.2);
     }
 
-pub cross_out : (sets : List Value) → Every (λ s. IsAscending (members s)) sets → (count : ℕ) → count ≡ min (sizes (λ n. n) (map members sets)) (SET_MAX + 1) → IsTrue (ltb SET_MAX count) ↔ IsCross sets Out
+pub cross_out : (sets : List Value) → Every (λ s. IsAscending (members s)) sets → (count : ℕ) → count ≡ min (sizes (λ n. n) (map members sets)) (SET_MAX + 1) → TellsOut (IsCross sets) (ltb SET_MAX count)
 unfolding IsCross
 cross_out sets h count e =
     out_by_size Tuple (λ z. (vs : List Value) × (z ≡ Tuple vs) × AreFrom vs sets) (whole fits_any (map members sets)) (cross_told sets h) (sizes (λ n. n) (map members sets)) count (length_whole (map members sets)) e

@@ -1,5 +1,6 @@
 //! Products.
-ghost use Rattle.std.specs.Prelude.{◌≡◌, ◌+◌, ◌↔◌, IsTrue, IfOk, map, min};
+ghost use Rattle.std.specs.Prelude.{◌≡◌, ◌+◌, ◌↔◌, ◌⊎◌, IsTrue, IfOk, map, min};
+ghost use Rattle.zf_value.specs.declared.plain.Value as plain;
 ghost use Rattle.zf_value.specs.Operations.{IsCross, AreFrom};
 ghost use Rattle.zf_value.specs.Sets.{Every, IsAscending, members};
 ghost use Rattle.zf_families.specs.Counts.{sizes};
@@ -28,7 +29,8 @@ pub fn cross(alloc: Global, sets: &[Lent<'_>]) -> Result<Outcome, AllocError>
 
 /// Whether the product has more members than a set may have.
 pub fn is_cross_out(sets: &[Lent<'_>]) -> bool
-    ensures { IsTrue result ↔ IsCross sets.now Outcome.Out }
+    ensures out { IsTrue result ↔ IsCross sets.now Outcome.Out }
+    ensures there { IsTrue result ⊎ ((v : plain.Value) × IsCross sets.now (Outcome.Is v)) }
 {
     size(sets) > SET_MAX
 }

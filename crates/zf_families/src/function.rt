@@ -1,5 +1,6 @@
 //! Relations and functions from a set to a set.
-ghost use Rattle.std.specs.Prelude.{◌≡◌, ◌∷◌, [], ◌↔◌, IsTrue, IfOk, map};
+ghost use Rattle.std.specs.Prelude.{◌≡◌, ◌∷◌, [], ◌↔◌, ◌⊎◌, IsTrue, IfOk, map};
+ghost use Rattle.zf_value.specs.declared.plain.Value as plain;
 ghost use Rattle.zf_value.specs.Operations.{pair, AreRelations, ArePartialFunctions, AreTotalFunctions};
 ghost use Rattle.zf_value.specs.Sets.{members};
 ghost use Rattle.zf_families.specs.Families.{IsRelation, IsPartialFunction, IsTotalFunction};
@@ -30,7 +31,8 @@ pub fn relations(alloc: Global, a: &Value, b: &Value) -> Result<Outcome, AllocEr
 
 /// Whether `a \rel b` has more members than a set may have.
 pub fn are_relations_out(a: &Value, b: &Value) -> bool
-    ensures { IsTrue result ↔ AreRelations (members a.now) (members b.now) Outcome.Out }
+    ensures out { IsTrue result ↔ AreRelations (members a.now) (members b.now) Outcome.Out }
+    ensures there { IsTrue result ⊎ ((v : plain.Value) × AreRelations (members a.now) (members b.now) (Outcome.Is v)) }
 {
     let pairs = count::product(a.members().len(), b.members().len());
     count::power(2, pairs) > SET_MAX
@@ -60,7 +62,8 @@ pub fn partial_functions(alloc: Global, a: &Value, b: &Value) -> Result<Outcome,
 
 /// Whether `a \pfun b` has more members than a set may have.
 pub fn are_partial_functions_out(a: &Value, b: &Value) -> bool
-    ensures { IsTrue result ↔ ArePartialFunctions (members a.now) (members b.now) Outcome.Out }
+    ensures out { IsTrue result ↔ ArePartialFunctions (members a.now) (members b.now) Outcome.Out }
+    ensures there { IsTrue result ⊎ ((v : plain.Value) × ArePartialFunctions (members a.now) (members b.now) (Outcome.Is v)) }
 {
     count::power(b.members().len() + 1, a.members().len()) > SET_MAX
 }
@@ -88,7 +91,8 @@ pub fn total_functions(alloc: Global, a: &Value, b: &Value) -> Result<Outcome, A
 
 /// Whether `a \fun b` has more members than a set may have.
 pub fn are_total_functions_out(a: &Value, b: &Value) -> bool
-    ensures { IsTrue result ↔ AreTotalFunctions (members a.now) (members b.now) Outcome.Out }
+    ensures out { IsTrue result ↔ AreTotalFunctions (members a.now) (members b.now) Outcome.Out }
+    ensures there { IsTrue result ⊎ ((v : plain.Value) × AreTotalFunctions (members a.now) (members b.now) (Outcome.Is v)) }
 {
     count::power(b.members().len(), a.members().len()) > SET_MAX
 }

@@ -1,5 +1,6 @@
 //! Injections from a set to a set.
-ghost use Rattle.std.specs.Prelude.{◌≡◌, [], ◌∷◌, ◌↔◌, IsTrue, IfOk, map};
+ghost use Rattle.std.specs.Prelude.{◌≡◌, [], ◌∷◌, ◌↔◌, ◌⊎◌, IsTrue, IfOk, map};
+ghost use Rattle.zf_value.specs.declared.plain.Value as plain;
 ghost use Rattle.zf_value.specs.Operations.{pair, ArePartialInjections, AreTotalInjections};
 ghost use Rattle.zf_value.specs.Sets.{members, IsAscending};
 ghost use Rattle.zf_families.specs.Families.{IsPartialInjection, IsTotalInjection};
@@ -26,7 +27,8 @@ pub fn partial_injections(alloc: Global, a: &Value, b: &Value) -> Result<Outcome
 
 /// Whether `a \pinj b` has more members than a set may have.
 pub fn are_partial_injections_out(a: &Value, b: &Value) -> bool
-    ensures { IsTrue result ↔ ArePartialInjections (members a.now) (members b.now) Outcome.Out }
+    ensures out { IsTrue result ↔ ArePartialInjections (members a.now) (members b.now) Outcome.Out }
+    ensures there { IsTrue result ⊎ ((v : plain.Value) × ArePartialInjections (members a.now) (members b.now) (Outcome.Is v)) }
 {
     count::partial_injections(a.members().len(), b.members().len()) > SET_MAX
 }
@@ -54,7 +56,8 @@ pub fn total_injections(alloc: Global, a: &Value, b: &Value) -> Result<Outcome, 
 
 /// Whether `a \inj b` has more members than a set may have.
 pub fn are_total_injections_out(a: &Value, b: &Value) -> bool
-    ensures { IsTrue result ↔ AreTotalInjections (members a.now) (members b.now) Outcome.Out }
+    ensures out { IsTrue result ↔ AreTotalInjections (members a.now) (members b.now) Outcome.Out }
+    ensures there { IsTrue result ⊎ ((v : plain.Value) × AreTotalInjections (members a.now) (members b.now) (Outcome.Is v)) }
 {
     count::falling(b.members().len(), a.members().len()) > SET_MAX
 }

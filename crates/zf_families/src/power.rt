@@ -1,5 +1,6 @@
 //! Power sets.
-ghost use Rattle.std.specs.Prelude.{◌↔◌, IsTrue, IfOk};
+ghost use Rattle.std.specs.Prelude.{◌↔◌, ◌⊎◌, IsTrue, IfOk};
+ghost use Rattle.zf_value.specs.declared.plain.Value as plain;
 ghost use Rattle.zf_value.specs.Operations.{IsPower, IsSubset};
 ghost use Rattle.zf_value.specs.Sets.{members};
 
@@ -24,7 +25,8 @@ pub fn power(alloc: Global, a: &Value) -> Result<Outcome, AllocError>
 
 /// Whether `\power a` has more members than a set may have.
 pub fn is_power_out(a: &Value) -> bool
-    ensures { IsTrue result ↔ IsPower (members a.now) Outcome.Out }
+    ensures out { IsTrue result ↔ IsPower (members a.now) Outcome.Out }
+    ensures there { IsTrue result ⊎ ((v : plain.Value) × IsPower (members a.now) (Outcome.Is v)) }
 {
     count::power(2, a.members().len()) > SET_MAX
 }

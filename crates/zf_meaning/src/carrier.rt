@@ -4,7 +4,7 @@ ghost use Rattle.zf_term.specs.Definitions.{definition_of, globals_of};
 ghost use Rattle.zf_term.specs.FirstNamed.{first_named};
 ghost use Rattle.zf_term.specs.Types.{type_of, types};
 ghost use Rattle.zf_value.specs.Operations.{IsPower};
-ghost use Rattle.zf_value.specs.Sets.{AreRegular, IsRegularOutcome, members};
+ghost use Rattle.zf_value.specs.Sets.{members};
 ghost use Rattle.zf_meaning.specs.Carriers.{IsCarrier, AreCarriers, IsTypeSetIf};
 ghost use Rattle.zf_meaning.specs.Environments.{definition_number, found_number, type_number};
 ghost use Rattle.zf_meaning.specs.Envs.{environment_of};
@@ -28,7 +28,6 @@ use zf_value::value::Outcome;
 #[tactic(auto, using(zf_term::proofs::TypesSeen::seen))]
 pub fn carrier_of(ztype: &ZType<'_>, env: &Env<'_, '_>) -> Result<Outcome, AllocError>
     ensures is { IfOk result (IsCarrier (environment_of env.now) (type_of ztype.now)) }
-    ensures regular { IfOk result IsRegularOutcome }
 {
     match ztype {
         ZType::Int => Ok(Outcome::Out),
@@ -48,7 +47,6 @@ pub fn carrier_of(ztype: &ZType<'_>, env: &Env<'_, '_>) -> Result<Outcome, Alloc
 #[cycle(carrier)]
 fn carriers_of(parts: &[ZType<'_>], env: &Env<'_, '_>) -> Result<Gathered, AllocError>
     ensures is { IfOk result (λ s. AreCarriers (environment_of env.now) (types (map type_of parts.now)) (several_of s)) }
-    ensures regular { IfOk result (λ s. AreRegular s.values.items) }
 {
     let alloc = env.allocator();
     let mut gathered = Gathered::new(alloc);
@@ -61,7 +59,6 @@ fn carriers_of(parts: &[ZType<'_>], env: &Env<'_, '_>) -> Result<Gathered, Alloc
 
 fn basic_carrier(name: &[u8], env: &Env<'_, '_>) -> Result<Outcome, AllocError>
     ensures is { IfOk result (IsTypeSetIf (environment_of env.now) (type_number (environment_of env.now) name.now)) }
-    ensures regular { IfOk result IsRegularOutcome }
 {
     match number_named(env.globals(), name) {
         Some(number) => type_set(env, number),
@@ -93,9 +90,7 @@ fn number_of(entry: &Entry<'_>) -> Option<usize>
 }
 
 fn power_of(alloc: Global, carrier: &Outcome) -> Result<Outcome, AllocError>
-    requires { IsRegularOutcome carrier.now }
     ensures is { IfOk result (OnOne carrier.now (λ v. IsPower (members v))) }
-    ensures regular { IfOk result IsRegularOutcome }
 {
     match carrier {
         Outcome::Is(set) => power(alloc, set.members()),

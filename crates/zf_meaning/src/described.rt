@@ -5,8 +5,8 @@ ghost use Rattle.zf_value.specs.declared.value.Outcome.TheVariants as outcome;
 ghost use Rattle.zf_meaning.specs.declared.described.Described.TheVariants as form;
 ghost use Rattle.zf_value.specs.Numbers.{number_of, OnNumbers, IsInterval};
 ghost use Rattle.zf_value.specs.Operations.{IsCross, IsPower};
-ghost use Rattle.zf_value.specs.Sets.{IsRegular, AreRegular, IsRegularOutcome, members};
-ghost use Rattle.zf_meaning.specs.Described.{Describes, IsDescribed, IsInDescribed, IsOfArrow, IsRegularDescribed, IsTruthIn, IsUnbuilt, told_in};
+ghost use Rattle.zf_value.specs.Sets.{members};
+ghost use Rattle.zf_meaning.specs.Described.{Describes, IsDescribed, IsInDescribed, IsOfArrow, IsTruthIn, IsUnbuilt, told_in};
 ghost use Rattle.zf_meaning.specs.Found.{found_outcome};
 ghost use Rattle.zf_meaning.specs.Gathered.{several_of};
 ghost use Rattle.zf_meaning.specs.Outcomes.{OnOne, OnSeveral};
@@ -50,7 +50,6 @@ pub enum Described<'v> {
 /// `\power`, of an outcome.
 pub(crate) fn power_of<'v>(alloc: Global, set: Found<'v>) -> Result<Described<'v>, AllocError>
     ensures is { IfOk result (Describes (OnOne (found_outcome set.entry) (λ v. IsPower (members v)))) }
-    ensures regular { IsRegularOutcome (found_outcome set.entry) → IfOk result IsRegularDescribed }
 {
     match set {
         Found::Is(set) => Ok(Described::Power(set.into_value(alloc)?)),
@@ -62,7 +61,6 @@ pub(crate) fn power_of<'v>(alloc: Global, set: Found<'v>) -> Result<Described<'v
 /// The numbers from the one to the other, if both are numbers.
 pub(crate) fn interval_between<'v>(v: &Value, w: &Value) -> Described<'v>
     ensures is { Describes (OnNumbers (number_of v.now) (number_of w.now) IsInterval) result }
-    ensures regular { IsRegularDescribed result }
 {
     let Some(from) = v.number() else {
         return Described::Plain(Found::Undefined);
@@ -75,9 +73,7 @@ pub(crate) fn interval_between<'v>(v: &Value, w: &Value) -> Described<'v>
 
 /// The product of the values, which are sets.
 pub(crate) fn product_of<'v>(alloc: Global, gathered: Gathered) -> Result<Described<'v>, AllocError>
-    requires { AreRegular gathered.values.items }
     ensures is { IfOk result (Describes (OnSeveral (several_of gathered) IsCross)) }
-    ensures regular { IfOk result IsRegularDescribed }
 {
     match gathered.lack {
         Lack::Nothing => Ok(Described::Product(owned(alloc, gathered.values)?)),
@@ -102,14 +98,12 @@ impl<'v> Described<'v> {
     /// What is known to come to this outcome.
     pub fn of(outcome: Outcome) -> Described<'v>
         ensures is { Describes (λ o. o ≡ outcome) result }
-        ensures regular { IsRegularOutcome outcome → IsRegularDescribed result }
     {
         Described::Plain(Found::own(outcome))
     }
 
     /// Whether it is out.
     pub fn is_out(&self) -> bool
-        requires { IsRegularDescribed self.now }
         ensures { IsTrue result ↔ IsDescribed self.now outcome.Out }
     {
         match self {
@@ -123,9 +117,7 @@ impl<'v> Described<'v> {
 
     /// Whether the value is a member. What is undefined has none.
     pub fn has(&self, v: &Value) -> bool
-        requires regular { IsRegularDescribed self.now }
         requires within { IsDescribed self.now outcome.Out → ⊥ }
-        requires value { IsRegular v.now }
         ensures { IsTrue result ↔ IsInDescribed self.now v.now }
     {
         match self {
@@ -141,8 +133,6 @@ impl<'v> Described<'v> {
 /// The truth of a membership in what is described.
 pub(crate) fn membership(relation: Relation, x: &Found<'_>, set: &Described<'_>) -> Truth
     requires relation { IsTrue (is_membership relation) }
-    requires x { IsRegularOutcome (found_outcome x.now) }
-    requires set { IsRegularDescribed set.now }
     ensures { IsTruthIn (IsDescribed set.now) relation (found_outcome x.now) result }
 {
     match set {
@@ -158,8 +148,6 @@ pub(crate) fn membership(relation: Relation, x: &Found<'_>, set: &Described<'_>)
 fn in_unbuilt(relation: Relation, x: &Found<'_>, set: &Described<'_>) -> Truth
     requires relation { IsTrue (is_membership relation) }
     requires unbuilt { IsUnbuilt set.now }
-    requires x { IsRegularOutcome (found_outcome x.now) }
-    requires set { IsRegularDescribed set.now }
     ensures { IsTruthIn (IsDescribed set.now) relation (found_outcome x.now) result }
 {
     if set.is_out() {
@@ -193,8 +181,6 @@ fn is_found_out(found: &Found<'_>) -> bool
 }
 
 fn is_found_in(found: &Found<'_>, v: &Value) -> bool
-    requires found { IsRegularOutcome (found_outcome found.now) }
-    requires value { IsRegular v.now }
     ensures { IsTrue result ↔ IsInDescribed (form.Plain found.now) v.now }
 {
     match found {
@@ -213,8 +199,6 @@ fn is_between(v: &Value, from: i64, to: i64) -> bool
 }
 
 fn are_arrows_out(kind: Arrow, v: &Value, w: &Value) -> bool
-    requires v { IsRegular v.now }
-    requires w { IsRegular w.now }
     ensures { IsTrue result ↔ ArrowOutcome kind v.now w.now outcome.Out }
 {
     let (from, to) = (v.members(), w.members());
@@ -229,9 +213,6 @@ fn are_arrows_out(kind: Arrow, v: &Value, w: &Value) -> bool
 
 /// Whether it is a relation or function of this kind from the members of the one to those of the other.
 fn is_of_arrow(kind: Arrow, f: &Value, v: &Value, w: &Value) -> bool
-    requires f { IsRegular f.now }
-    requires v { IsRegular v.now }
-    requires w { IsRegular w.now }
     ensures { IsTrue result ↔ IsOfArrow kind v.now w.now f.now }
 {
     let (from, to) = (v.members(), w.members());

@@ -3,7 +3,6 @@ ghost use Rattle.std.specs.Prelude.{◌≡◌, [], ◌∷◌, None, Some, IfOk, 
 ghost use Rattle.zf_term.specs.Definitions.{globals_of};
 ghost use Rattle.zf_meaning.specs.Envs.{environment_of, longer};
 ghost use Rattle.zf_meaning.specs.GlobalOutcomes.{IsEnvironment, AreWorkedOut};
-ghost use Rattle.zf_value.specs.Sets.{IsRegularOutcome};
 ghost use Rattle.zf_meaning.specs.Sizes.{given_sets, AreComplete, IsRefusal};
 
 use crate::global_outcome::outcome_at;
@@ -53,7 +52,6 @@ impl<'g, 'a> Env<'g, 'a> {
     /// The outcome of the global at this place.
     pub(crate) fn outcome(&self, place: usize) -> Option<&Outcome>
         ensures is { MatchOption result (slice_get (environment_of self.now).outcomes place ≡ None) (λ o. slice_get (environment_of self.now).outcomes place ≡ Some o.now) }
-        ensures regular { MatchOption result (Unit {0}) (λ o. IsRegularOutcome o.now) }
     {
         self.outcomes.get(place)
     }
@@ -67,7 +65,6 @@ impl<'g, 'a> Env<'g, 'a> {
 
     /// Gives the next name behind all others this outcome.
     pub fn add(&mut self, outcome: Outcome) -> Result<(), AllocError>
-        requires { IsRegularOutcome outcome }
         ensures { OnOk result (environment_of self.new ≡ longer (environment_of self.old) (outcome ∷ [])) }
     {
         self.outcomes.push(outcome)

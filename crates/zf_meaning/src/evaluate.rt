@@ -3,14 +3,13 @@ ghost use Rattle.std.specs.Prelude.{◌≡◌, IfOk, pos, slice_get};
 ghost use Rattle.zf_term.specs.ResolvedTrees.{resolved_of};
 ghost use Rattle.zf_value.specs.Numbers.{IsNumber};
 ghost use Rattle.zf_value.specs.Operations.{IsEmptySet};
-ghost use Rattle.zf_value.specs.Sets.{IsRegularOutcome};
 ghost use Rattle.zf_meaning.specs.Environments as spec;
 ghost use Rattle.zf_meaning.specs.Envs.{environment_of};
 ghost use Rattle.zf_meaning.specs.Found.{found_of, found_outcome};
 ghost use Rattle.zf_meaning.specs.Meaning as meaning;
 ghost use Rattle.zf_meaning.specs.Meaning.{HasOutcome, IsTruth};
 ghost use Rattle.zf_meaning.specs.Places.{seen};
-ghost use Rattle.zf_meaning.specs.Scopes.{scope_of, IsRegularScope};
+ghost use Rattle.zf_meaning.specs.Scopes.{scope_of};
 
 mod binders;
 mod chains;
@@ -44,9 +43,7 @@ pub(crate) fn outcome<'v, 'a, R: Row>(
     locals: &[&'v Value],
     env: &'v Env<'_, 'a>,
 ) -> Result<Found<'v>, AllocError>
-    requires { IsRegularScope (scope_of env.now (R.values row.now) locals.now) }
     ensures is { IfOk result (λ o. HasOutcome (scope_of env.now (R.values row.now) locals.now) (resolved_of term.now) (found_outcome o)) }
-    ensures regular { IfOk result (λ o. IsRegularOutcome (found_outcome o)) }
 {
     match term {
         Resolved::Name(_, reference) => Ok(named(*reference, row, locals, env)),
@@ -74,7 +71,6 @@ pub(crate) fn truth<'v, 'a, R: Row>(
     locals: &[&'v Value],
     env: &'v Env<'_, 'a>,
 ) -> Result<Truth, AllocError>
-    requires { IsRegularScope (scope_of env.now (R.values row.now) locals.now) }
     ensures { IfOk result (IsTruth (scope_of env.now (R.values row.now) locals.now) (resolved_of term.now)) }
 {
     match term {
@@ -100,9 +96,7 @@ fn named<'v, 'a, R: Row>(
     locals: &[&'v Value],
     env: &'v Env<'_, 'a>,
 ) -> Found<'v>
-    requires { IsRegularScope (scope_of env.now (R.values row.now) locals.now) }
     ensures is { found_outcome result ≡ spec.outcome_in (scope_of env.now (R.values row.now) locals.now) reference }
-    ensures regular { IsRegularOutcome (found_outcome result) }
 {
     match reference {
         Reference::Component(place) => Found::lent(component(row, place)),
@@ -133,7 +127,6 @@ fn local<'v>(locals: &[&'v Value], place: usize) -> Option<&'v Value>
 
 fn global<'v>(env: &'v Env<'_, '_>, place: usize) -> Found<'v>
     ensures is { found_outcome result ≡ spec.outcome_or (slice_get (environment_of env.now).outcomes place) }
-    ensures regular { IsRegularOutcome (found_outcome result) }
 {
     match env.outcome(place) {
         Some(outcome) => Found::seen(outcome),
@@ -143,7 +136,6 @@ fn global<'v>(env: &'v Env<'_, '_>, place: usize) -> Found<'v>
 
 fn number<'v>(value: u64) -> Found<'v>
     ensures is { IsNumber (pos value) (found_outcome result) }
-    ensures regular { IsRegularOutcome (found_outcome result) }
 {
     match i64::try_from(value) {
         Ok(n) => Found::Is(Lent::own(Value::Int(n))),
@@ -178,7 +170,6 @@ fn constant_truth(constant: Constant) -> Truth
 /// The set without members.
 fn empty_set<'v>(alloc: Global) -> Result<Found<'v>, AllocError>
     ensures is { IfOk result (λ o. IsEmptySet (found_outcome o)) }
-    ensures regular { IfOk result (λ o. IsRegularOutcome (found_outcome o)) }
 {
     Ok(Found::own(set::empty_set(alloc)?))
 }

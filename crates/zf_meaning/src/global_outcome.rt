@@ -1,7 +1,6 @@
 //! The outcomes of globals, each by those before it.
 ghost use Rattle.std.specs.Prelude.{◌≡◌, Some, IfOk, slice_get};
 ghost use Rattle.zf_term.specs.Definitions.{Defined, definition_of};
-ghost use Rattle.zf_value.specs.Sets.{IsRegularOutcome};
 ghost use Rattle.zf_meaning.specs.Environments as spec;
 ghost use Rattle.zf_meaning.specs.Environments.{IsTypeSet};
 ghost use Rattle.zf_meaning.specs.Envs.{environment_of};
@@ -17,7 +16,6 @@ use zf_value::value::{Outcome, Value};
 /// The outcome of the global at this place, by those that are worked out.
 pub(crate) fn outcome_at(env: &Env<'_, '_>, place: usize) -> Result<Outcome, AllocError>
     ensures is { (d : Defined) → slice_get (environment_of env.now).globals place ≡ Some d → IfOk result (IsOutcomeOf (environment_of env.now) d.definition) }
-    ensures regular { IfOk result IsRegularOutcome }
 {
     match env.globals().in_order(place) {
         Some((_, entry)) => outcome_of(env, entry),
@@ -27,7 +25,6 @@ pub(crate) fn outcome_at(env: &Env<'_, '_>, place: usize) -> Result<Outcome, All
 
 fn outcome_of<'a>(env: &Env<'_, 'a>, entry: &Entry<'a>) -> Result<Outcome, AllocError>
     ensures is { IfOk result (IsOutcomeOf (environment_of env.now) (definition_of entry.now)) }
-    ensures regular { IfOk result IsRegularOutcome }
 {
     let no_row: &[Value] = &[];
     match entry {
@@ -42,7 +39,6 @@ fn outcome_of<'a>(env: &Env<'_, 'a>, entry: &Entry<'a>) -> Result<Outcome, Alloc
 /// The set of all elements of the type of this number.
 pub(crate) fn type_set(env: &Env<'_, '_>, number: usize) -> Result<Outcome, AllocError>
     ensures is { IfOk result (IsTypeSet (environment_of env.now) number) }
-    ensures regular { IfOk result IsRegularOutcome }
 {
     match u32::try_from(number) {
         Ok(number) => elements_of(env, number),
@@ -52,7 +48,6 @@ pub(crate) fn type_set(env: &Env<'_, '_>, number: usize) -> Result<Outcome, Allo
 
 fn elements_of(env: &Env<'_, '_>, number: u32) -> Result<Outcome, AllocError>
     ensures is { IfOk result (spec.AreElementsIf number (slice_get (environment_of env.now).sizes number)) }
-    ensures regular { IfOk result IsRegularOutcome }
 {
     match env.size(number) {
         Some(count) => elements(env.allocator(), number, count),
@@ -63,7 +58,6 @@ fn elements_of(env: &Env<'_, '_>, number: u32) -> Result<Outcome, AllocError>
 /// The element at this place of the type of this number.
 fn element(number: usize, place: usize) -> Outcome
     ensures is { result ≡ spec.element number place }
-    ensures regular { IsRegularOutcome result }
 {
     match u32::try_from(number) {
         Ok(number) => Outcome::Is(Value::Elem(number, place as u64)),

@@ -2,7 +2,7 @@
 ghost use Rattle.std.specs.Prelude.{◌≡◌, ◌↔◌, if◌then◌else◌, IsTrue};
 ghost use Rattle.zf_value.specs.declared.value.Outcome.TheVariants.{Is};
 ghost use Rattle.zf_value.specs.declared.plain.Value.{Int};
-ghost use Rattle.zf_value.specs.Sets.{AreAmong, IsRegular, IsRegularOutcome, IsRegularSet};
+ghost use Rattle.zf_value.specs.Sets.{AreAmong};
 ghost use Rattle.zf_meaning.specs.Arithmetic.{AreOrdered, IsFrom};
 ghost use Rattle.zf_meaning.specs.Found.{found_outcome};
 ghost use Rattle.zf_meaning.specs.Meaning.{IsLink};
@@ -22,8 +22,6 @@ pub(crate) fn link(
     x: &Found<'_>,
     y: &Found<'_>,
 ) -> Truth
-    requires x { IsRegularOutcome (found_outcome x.now) }
-    requires y { IsRegularOutcome (found_outcome y.now) }
     ensures { IsLink infinite relation (found_outcome x.now) (found_outcome y.now) result }
 {
     match infinite {
@@ -33,8 +31,6 @@ pub(crate) fn link(
 }
 
 pub(crate) fn atom(relation: Relation, x: &Found<'_>, y: &Found<'_>) -> Truth
-    requires x { IsRegularOutcome (found_outcome x.now) }
-    requires y { IsRegularOutcome (found_outcome y.now) }
     ensures { IsAtom (found_outcome x.now) (found_outcome y.now) (Holds relation) result }
 {
     match (x, y) {
@@ -72,8 +68,6 @@ fn told(holds: bool) -> Truth
 
 /// Whether the relation holds between two values.
 fn holds(relation: Relation, v: &Value, w: &Value) -> bool
-    requires v { IsRegular v.now }
-    requires w { IsRegular w.now }
     ensures { IsTrue result ↔ Holds relation v.now w.now }
 {
     match relation {
@@ -91,8 +85,6 @@ fn holds(relation: Relation, v: &Value, w: &Value) -> bool
 }
 
 fn is_proper(values: &[Value], set: &[Value]) -> bool
-    requires values { IsRegularSet values.now }
-    requires set { IsRegularSet set.now }
     ensures { IsTrue result ↔ (AreAmong values.now set.now × (AreAmong set.now values.now → ⊥)) }
 {
     are_among(values, set) && !are_among(set, values)

@@ -1,6 +1,5 @@
 //! What each symbol makes of the outcomes of its operands.
 ghost use Rattle.std.specs.Prelude.{◌≡◌, IfOk};
-ghost use Rattle.zf_value.specs.Sets.{AreRegular, IsRegular, IsRegularOutcome};
 ghost use Rattle.zf_value.specs.Numbers.{number_of, OnNumbers};
 ghost use Rattle.zf_value.specs.Operations.{IsCross};
 ghost use Rattle.zf_meaning.specs.Arithmetic.{NumbersOutcome};
@@ -34,10 +33,7 @@ pub(crate) fn on_both(
     x: &Found<'_>,
     y: &Found<'_>,
 ) -> Result<Outcome, AllocError>
-    requires x { IsRegularOutcome (found_outcome x.now) }
-    requires y { IsRegularOutcome (found_outcome y.now) }
     ensures is { IfOk result (OnBoth (found_outcome x.now) (found_outcome y.now) (BinaryOutcome op)) }
-    ensures regular { IfOk result IsRegularOutcome }
 {
     match (x, y) {
         (Found::Out, _) => Ok(Outcome::Out),
@@ -50,9 +46,7 @@ pub(crate) fn on_both(
 
 /// A symbol before or behind an outcome.
 pub(crate) fn on_one(alloc: Global, op: Unary, x: &Found<'_>) -> Result<Outcome, AllocError>
-    requires { IsRegularOutcome (found_outcome x.now) }
     ensures is { IfOk result (OnOne (found_outcome x.now) (UnaryOutcome op)) }
-    ensures regular { IfOk result IsRegularOutcome }
 {
     match x {
         Found::Out => Ok(Outcome::Out),
@@ -67,9 +61,7 @@ pub(crate) fn on_several(
     form: Listed,
     gathered: Gathered,
 ) -> Result<Outcome, AllocError>
-    requires { AreRegular gathered.values.items }
     ensures is { IfOk result (OnSeveral (several_of gathered) (ListedOutcome form)) }
-    ensures regular { IfOk result IsRegularOutcome }
 {
     match gathered.lack {
         Lack::Nothing => listed(alloc, form, gathered.values),
@@ -79,9 +71,7 @@ pub(crate) fn on_several(
 }
 
 fn listed(alloc: Global, form: Listed, values: Vec<Value>) -> Result<Outcome, AllocError>
-    requires { AreRegular values.items }
     ensures is { IfOk result (ListedOutcome form values.items) }
-    ensures regular { IfOk result IsRegularOutcome }
 {
     match form {
         Listed::Tuple => tuple(alloc, values),
@@ -92,9 +82,7 @@ fn listed(alloc: Global, form: Listed, values: Vec<Value>) -> Result<Outcome, Al
 
 /// The product of the values, which are sets.
 fn product_of(alloc: Global, values: &[Value]) -> Result<Outcome, AllocError>
-    requires { AreRegular values.now }
     ensures is { IfOk result (IsCross values.now) }
-    ensures regular { IfOk result IsRegularOutcome }
 {
     let sets = lent(alloc, values)?;
     cross(alloc, sets.as_slice())
@@ -112,10 +100,7 @@ fn lent<'v>(alloc: Global, values: &'v [Value]) -> Result<Vec<Lent<'v>>, AllocEr
 }
 
 fn binary(alloc: Global, op: Operator, v: &Value, w: &Value) -> Result<Outcome, AllocError>
-    requires v { IsRegular v.now }
-    requires w { IsRegular w.now }
     ensures is { IfOk result (BinaryOutcome op v.now w.now) }
-    ensures regular { IfOk result IsRegularOutcome }
 {
     match op {
         Operator::Function(infix) => function(alloc, infix, v, w),
@@ -127,9 +112,7 @@ fn binary(alloc: Global, op: Operator, v: &Value, w: &Value) -> Result<Outcome, 
 }
 
 fn unary(alloc: Global, op: Unary, v: &Value) -> Result<Outcome, AllocError>
-    requires { IsRegular v.now }
     ensures is { IfOk result (UnaryOutcome op v.now) }
-    ensures regular { IfOk result IsRegularOutcome }
 {
     match op {
         Unary::Sign(Sign::Minus) => Ok(on_number(v)),
@@ -140,9 +123,7 @@ fn unary(alloc: Global, op: Unary, v: &Value) -> Result<Outcome, AllocError>
 }
 
 fn prefixed(alloc: Global, op: Prefix, v: &Value) -> Result<Outcome, AllocError>
-    requires { IsRegular v.now }
     ensures is { IfOk result (PrefixOutcome op v.now) }
-    ensures regular { IfOk result IsRegularOutcome }
 {
     match op {
         Prefix::Power => power(alloc, v.members()),
@@ -156,7 +137,6 @@ fn prefixed(alloc: Global, op: Prefix, v: &Value) -> Result<Outcome, AllocError>
 /// The opposite of a number.
 fn on_number(v: &Value) -> Outcome
     ensures is { SignOutcome Sign.Minus v.now result }
-    ensures regular { IsRegularOutcome result }
 {
     match v.number() {
         Some(n) => negation(n),
@@ -165,10 +145,7 @@ fn on_number(v: &Value) -> Outcome
 }
 
 fn application(alloc: Global, f: &Value, x: &Value) -> Result<Outcome, AllocError>
-    requires f { IsRegular f.now }
-    requires x { IsRegular x.now }
     ensures is { IfOk result (BinaryOutcome Operator.Application f.now x.now) }
-    ensures regular { IfOk result IsRegularOutcome }
 {
     match applied(f.members(), x) {
         Some(y) => Ok(Outcome::Is(y.copy(alloc)?)),
@@ -177,10 +154,7 @@ fn application(alloc: Global, f: &Value, x: &Value) -> Result<Outcome, AllocErro
 }
 
 fn function(alloc: Global, op: Infix, v: &Value, w: &Value) -> Result<Outcome, AllocError>
-    requires v { IsRegular v.now }
-    requires w { IsRegular w.now }
     ensures is { IfOk result (InfixOutcome op v.now w.now) }
-    ensures regular { IfOk result IsRegularOutcome }
 {
     match op {
         Infix::Maplet => pair(alloc, v.copy(alloc)?, w.copy(alloc)?),
@@ -204,7 +178,6 @@ fn function(alloc: Global, op: Infix, v: &Value, w: &Value) -> Result<Outcome, A
 
 fn on_numbers(alloc: Global, op: Infix, v: &Value, w: &Value) -> Result<Outcome, AllocError>
     ensures is { IfOk result (OnNumbers (number_of v.now) (number_of w.now) (NumbersOutcome op)) }
-    ensures regular { IfOk result IsRegularOutcome }
 {
     match (v.number(), w.number()) {
         (Some(a), Some(b)) => arithmetic(alloc, op, a, b),
@@ -214,7 +187,6 @@ fn on_numbers(alloc: Global, op: Infix, v: &Value, w: &Value) -> Result<Outcome,
 
 fn arithmetic(alloc: Global, op: Infix, a: i64, b: i64) -> Result<Outcome, AllocError>
     ensures is { IfOk result (NumbersOutcome op a b) }
-    ensures regular { IfOk result IsRegularOutcome }
 {
     match op {
         Infix::UpTo => interval(alloc, a, b),
@@ -228,10 +200,7 @@ fn arithmetic(alloc: Global, op: Infix, a: i64, b: i64) -> Result<Outcome, Alloc
 }
 
 fn arrow(alloc: Global, op: Arrow, v: &Value, w: &Value) -> Result<Outcome, AllocError>
-    requires v { IsRegular v.now }
-    requires w { IsRegular w.now }
     ensures is { IfOk result (ArrowOutcome op v.now w.now) }
-    ensures regular { IfOk result IsRegularOutcome }
 {
     match op {
         Arrow::Relation => relations(alloc, v.members(), w.members()),
