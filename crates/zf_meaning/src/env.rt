@@ -6,7 +6,6 @@ ghost use Rattle.zf_meaning.specs.GlobalOutcomes.{IsEnvironment, AreWorkedOut};
 ghost use Rattle.zf_meaning.specs.Sizes.{given_sets, AreComplete, IsRefusal};
 
 use crate::global_outcome::outcome_at;
-use crate::outcomes::Outcomes;
 use crate::sizes::{Size, SizeFault, check_sizes, given_names, sizes_of};
 use std::alloc::{AllocError, Global};
 use zf_term::globals::Globals;
@@ -17,7 +16,7 @@ use zf_value::value::Outcome;
 pub struct Env<'g, 'a> {
     globals: &'g Globals<'a>,
     sizes: Vec<u64>,
-    outcomes: Outcomes,
+    outcomes: Vec<Outcome>,
 }
 
 impl<'g, 'a> Env<'g, 'a> {
@@ -51,7 +50,7 @@ impl<'g, 'a> Env<'g, 'a> {
 
     /// The outcome of the global at this place.
     pub(crate) fn outcome(&self, place: usize) -> Option<&Outcome>
-        ensures is { MatchOption result (slice_get (environment_of self.now).outcomes place ≡ None) (λ o. slice_get (environment_of self.now).outcomes place ≡ Some o.now) }
+        ensures { MatchOption result (slice_get (environment_of self.now).outcomes place ≡ None) (λ o. slice_get (environment_of self.now).outcomes place ≡ Some o.now) }
     {
         self.outcomes.get(place)
     }
@@ -67,7 +66,8 @@ impl<'g, 'a> Env<'g, 'a> {
     pub fn add(&mut self, outcome: Outcome) -> Result<(), AllocError>
         ensures { OnOk result (environment_of self.new ≡ longer (environment_of self.old) (outcome ∷ [])) }
     {
-        self.outcomes.push(outcome)
+        self.outcomes.push(outcome)?;
+        Ok(())
     }
 
     /// The same globals at the same sizes.
@@ -79,7 +79,7 @@ impl<'g, 'a> Env<'g, 'a> {
         Ok(Env {
             globals: self.globals,
             sizes,
-            outcomes: self.outcomes.copy(alloc)?,
+            outcomes: copied(alloc, &self.outcomes)?,
         })
     }
 
@@ -101,11 +101,22 @@ fn worked_out<'g, 'a>(
     let mut env = Env {
         globals,
         sizes,
-        outcomes: Outcomes::new(alloc),
+        outcomes: Vec::new(alloc),
     };
     for place in 0..globals.len() {
         let outcome = outcome_at(&env, place)?;
         env.outcomes.push(outcome)?;
     }
     Ok(env)
+}
+
+/// The same outcomes.
+fn copied(alloc: Global, outcomes: &[Outcome]) -> Result<Vec<Outcome>, AllocError>
+    ensures { IfOk result (λ out. out.items ≡ outcomes.now) }
+{
+    let mut out = Vec::with_capacity(alloc, outcomes.len())?;
+    for outcome in outcomes {
+        out.push(outcome.copy(alloc)?)?;
+    }
+    Ok(out)
 }

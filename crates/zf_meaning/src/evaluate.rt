@@ -32,7 +32,7 @@ use zf_tree::operator::{Operator, Unary};
 use zf_tree::symbol::Constant;
 use zf_value::lent::Lent;
 use zf_value::set;
-use zf_value::value::{Outcome, Truth, Value};
+use zf_value::value::{Form, Outcome, Truth, Value};
 
 /// The outcome of an expression.
 #[cycle(meaning)]
@@ -43,7 +43,7 @@ pub(crate) fn outcome<'v, 'a, R: Row>(
     locals: &[&'v Value],
     env: &'v Env<'_, 'a>,
 ) -> Result<Found<'v>, AllocError>
-    ensures is { IfOk result (λ o. HasOutcome (scope_of env.now (R.values row.now) locals.now) (resolved_of term.now) (found_outcome o)) }
+    ensures { IfOk result (λ o. HasOutcome (scope_of env.now (R.values row.now) locals.now) (resolved_of term.now) (found_outcome o)) }
 {
     match term {
         Resolved::Name(_, reference) => Ok(named(*reference, row, locals, env)),
@@ -96,7 +96,7 @@ fn named<'v, 'a, R: Row>(
     locals: &[&'v Value],
     env: &'v Env<'_, 'a>,
 ) -> Found<'v>
-    ensures is { found_outcome result ≡ spec.outcome_in (scope_of env.now (R.values row.now) locals.now) reference }
+    ensures { found_outcome result ≡ spec.outcome_in (scope_of env.now (R.values row.now) locals.now) reference }
 {
     match reference {
         Reference::Component(place) => Found::lent(component(row, place)),
@@ -126,7 +126,7 @@ fn local<'v>(locals: &[&'v Value], place: usize) -> Option<&'v Value>
 }
 
 fn global<'v>(env: &'v Env<'_, '_>, place: usize) -> Found<'v>
-    ensures is { found_outcome result ≡ spec.outcome_or (slice_get (environment_of env.now).outcomes place) }
+    ensures { found_outcome result ≡ spec.outcome_or (slice_get (environment_of env.now).outcomes place) }
 {
     match env.outcome(place) {
         Some(outcome) => Found::seen(outcome),
@@ -135,10 +135,10 @@ fn global<'v>(env: &'v Env<'_, '_>, place: usize) -> Found<'v>
 }
 
 fn number<'v>(value: u64) -> Found<'v>
-    ensures is { IsNumber (pos value) (found_outcome result) }
+    ensures { IsNumber (pos value) (found_outcome result) }
 {
     match i64::try_from(value) {
-        Ok(n) => Found::Is(Lent::own(Value::Int(n))),
+        Ok(n) => Found::Is(Lent::own(Value { form: Form::Int(n) })),
         Err(_) => Found::Out,
     }
 }
@@ -169,7 +169,7 @@ fn constant_truth(constant: Constant) -> Truth
 
 /// The set without members.
 fn empty_set<'v>(alloc: Global) -> Result<Found<'v>, AllocError>
-    ensures is { IfOk result (λ o. IsEmptySet (found_outcome o)) }
+    ensures { IfOk result (λ o. IsEmptySet (found_outcome o)) }
 {
     Ok(Found::own(set::empty_set(alloc)?))
 }

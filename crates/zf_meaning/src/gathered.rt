@@ -39,7 +39,7 @@ impl Gathered {
 
     /// Adds the outcome of a further term.
     pub(crate) fn add(&mut self, alloc: Global, found: Found<'_>) -> Result<(), AllocError>
-        ensures is { OnOk result (spec.Adds self.old (found_outcome found.entry) self.new) }
+        ensures { OnOk result (spec.Adds self.old (found_outcome found.entry) self.new) }
     {
         match found {
             Found::Is(value) => self.values.push(value.into_value(alloc)?)?,

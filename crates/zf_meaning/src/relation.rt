@@ -2,7 +2,7 @@
 ghost use Rattle.std.specs.Prelude.{◌≡◌, ◌↔◌, if◌then◌else◌, IsTrue};
 ghost use Rattle.zf_value.specs.declared.value.Outcome.TheVariants.{Is};
 ghost use Rattle.zf_value.specs.declared.plain.Value.{Int};
-ghost use Rattle.zf_value.specs.Sets.{AreAmong};
+ghost use Rattle.zf_value.specs.Sets.{AreAmong, members};
 ghost use Rattle.zf_meaning.specs.Arithmetic.{AreOrdered, IsFrom};
 ghost use Rattle.zf_meaning.specs.Found.{found_outcome};
 ghost use Rattle.zf_meaning.specs.Meaning.{IsLink};
@@ -13,7 +13,7 @@ use crate::found::Found;
 use zf_term::extent::Infinite;
 use zf_tree::symbol::Relation;
 use zf_value::set::{are_among, is_member};
-use zf_value::value::{Truth, Value};
+use zf_value::value::{Form, Truth, Value};
 
 /// The truth of a link between two outcomes, where the right one may be an infinite set instead.
 pub(crate) fn link(
@@ -46,7 +46,7 @@ pub(crate) fn atom(relation: Relation, x: &Found<'_>, y: &Found<'_>) -> Truth
 pub(crate) fn between_numbers(relation: Relation, m: i64, n: i64) -> Truth
     ensures { IsAtom (Is (Int m)) (Is (Int n)) (Holds relation) result }
 {
-    told(holds(relation, &Value::Int(m), &Value::Int(n)))
+    told(holds(relation, &number(m), &number(n)))
 }
 
 fn test(set: Infinite, relation: Relation, x: &Found<'_>) -> Truth
@@ -57,6 +57,13 @@ fn test(set: Infinite, relation: Relation, x: &Found<'_>) -> Truth
         Found::Undefined => Truth::False,
         Found::Is(v) => told(holds_of(set, relation, v.get())),
     }
+}
+
+/// The number as a value.
+fn number(n: i64) -> Value
+    ensures { result ≡ Int n }
+{
+    Value { form: Form::Int(n) }
 }
 
 /// The truth of what holds or doesn't.
@@ -73,10 +80,10 @@ fn holds(relation: Relation, v: &Value, w: &Value) -> bool
     match relation {
         Relation::Equal => v.equals(w),
         Relation::NotEqual => !v.equals(w),
-        Relation::Member => is_member(v, w.members()),
-        Relation::NotMember => !is_member(v, w.members()),
-        Relation::Subset => are_among(v.members(), w.members()),
-        Relation::ProperSubset => is_proper(v.members(), w.members()),
+        Relation::Member => is_member(v, w),
+        Relation::NotMember => !is_member(v, w),
+        Relation::Subset => are_among(v.members(), w),
+        Relation::ProperSubset => is_proper(v, w),
         Relation::Less => compares(relation, v, w),
         Relation::AtMost => compares(relation, v, w),
         Relation::Greater => compares(relation, v, w),
@@ -84,10 +91,10 @@ fn holds(relation: Relation, v: &Value, w: &Value) -> bool
     }
 }
 
-fn is_proper(values: &[Value], set: &[Value]) -> bool
-    ensures { IsTrue result ↔ (AreAmong values.now set.now × (AreAmong set.now values.now → ⊥)) }
+fn is_proper(v: &Value, w: &Value) -> bool
+    ensures { IsTrue result ↔ (AreAmong (members v.now) (members w.now) × (AreAmong (members w.now) (members v.now) → ⊥)) }
 {
-    are_among(values, set) && !are_among(set, values)
+    are_among(v.members(), w) && !are_among(w.members(), v)
 }
 
 /// Whether both are numbers in this order.

@@ -22,7 +22,7 @@ pub fn value_of<'a, R: Row>(
     row: &R,
     env: &Env<'_, 'a>,
 ) -> Result<Outcome, AllocError>
-    ensures is { IfOk result (HasOutcome (in_row (environment_of env.now) (R.values row.now)) (resolved_of term.now)) }
+    ensures { IfOk result (HasOutcome (in_row (environment_of env.now) (R.values row.now)) (resolved_of term.now)) }
 {
     let none = no_variables();
     let found = outcome(term, &*row, none, &*env)?;
@@ -35,7 +35,7 @@ pub fn described_in<'v, 'a, R: Row>(
     row: &'v R,
     env: &'v Env<'_, 'a>,
 ) -> Result<Described<'v>, AllocError>
-    ensures is { IfOk result (Describes (HasOutcome (in_row (environment_of env.now) (R.values row.now)) (resolved_of term.now))) }
+    ensures { IfOk result (Describes (HasOutcome (in_row (environment_of env.now) (R.values row.now)) (resolved_of term.now))) }
 {
     let none = no_variables();
     described(term, row, none, env)

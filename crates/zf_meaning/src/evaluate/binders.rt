@@ -37,7 +37,7 @@ use std::alloc::{AllocError, Global};
 use zf_term::resolved::{Part, Resolved};
 use zf_value::items::Items;
 use zf_value::set;
-use zf_value::value::{Outcome, Truth, Value};
+use zf_value::value::{Form, Outcome, Truth, Value};
 
 /// A quantified predicate.
 #[cycle(meaning)]
@@ -48,7 +48,7 @@ pub(super) fn quantified<'v, 'a, R: Row>(
     locals: &[&'v Value],
     env: &'v Env<'_, 'a>,
 ) -> Result<Truth, AllocError>
-    requires form { IsQuantified term.now }
+    requires { IsQuantified term.now }
     ensures { IfOk result (IsTruth (scope_of env.now (R.values row.now) locals.now) (resolved_of term.now)) }
 {
     let Resolved::Quantified(quantifier, _, ranges, _, _) = term else {
@@ -71,7 +71,7 @@ fn over_rows<'v, 'a, R: Row>(
     locals: &[&'v Value],
     env: &'v Env<'_, 'a>,
 ) -> Result<Truth, AllocError>
-    requires form { IsQuantified term.now }
+    requires { IsQuantified term.now }
     ensures { (q : Quantifier) (l : ℕ) (rs : List range.Range) (p : Option resolved.Resolved) (e : resolved.Resolved) → term.now ≡ form.Quantified q l rs p e
         → IfOk result (IsOver q (λ vs. AreFrom vs (spread sets.now)) (λ vs w. IsTold q (λ a. IsConstraint (within (scope_of env.now (R.values row.now) locals.now) vs) (part_of p) a) (λ b. IsTruth (within (scope_of env.now (R.values row.now) locals.now) vs) (resolved_of e) b) w)) }
 {
@@ -152,7 +152,7 @@ fn refuted<'v, 'a, R: Row>(
     bound: &[&'v Value],
     env: &'v Env<'_, 'a>,
 ) -> Result<Option<usize>, AllocError>
-    requires pieces { All (IsPiece term.now span) pieces.now }
+    requires { All (IsPiece term.now span) pieces.now }
     ensures { (c : Context) (vs : List value.Value) → IsBound span (scope_of env.now (R.values row.now) bound.now) c vs
         → IfOk result (AreNeutralIf (resolved_of term.now) c vs) }
 {
@@ -175,7 +175,7 @@ fn told_at<'v, 'a, R: Row>(
     bound: &[&'v Value],
     env: &'v Env<'_, 'a>,
 ) -> Result<Truth, AllocError>
-    requires form { IsQuantified term.now }
+    requires { IsQuantified term.now }
     ensures { (q : Quantifier) (l : ℕ) (rs : List range.Range) (p : Option resolved.Resolved) (e : resolved.Resolved) → term.now ≡ form.Quantified q l rs p e
         → IfOk result (IsTold q (λ a. IsConstraint (scope_of env.now (R.values row.now) bound.now) (part_of p) a) (λ b. IsTruth (scope_of env.now (R.values row.now) bound.now) (resolved_of e) b)) }
 {
@@ -216,8 +216,8 @@ pub(super) fn builder<'v, 'a, R: Row>(
     locals: &[&'v Value],
     env: &'v Env<'_, 'a>,
 ) -> Result<Found<'v>, AllocError>
-    requires form { IsBuilder term.now }
-    ensures is { IfOk result (λ o. HasOutcome (scope_of env.now (R.values row.now) locals.now) (resolved_of term.now) (found_outcome o)) }
+    requires { IsBuilder term.now }
+    ensures { IfOk result (λ o. HasOutcome (scope_of env.now (R.values row.now) locals.now) (resolved_of term.now) (found_outcome o)) }
 {
     let Resolved::Builder(_, ranges, _, _) = term else {
         unreachable!();
@@ -239,8 +239,8 @@ fn built_over<'v, 'a, R: Row>(
     locals: &[&'v Value],
     env: &'v Env<'_, 'a>,
 ) -> Result<Outcome, AllocError>
-    requires form { IsBuilder term.now }
-    ensures is { (l : ℕ) (rs : List range.Range) (p e : Option resolved.Resolved) → term.now ≡ form.Builder l rs p e
+    requires { IsBuilder term.now }
+    ensures { (l : ℕ) (rs : List range.Range) (p e : Option resolved.Resolved) → term.now ≡ form.Builder l rs p e
         → IfOk result (IsBuiltOver (λ vs. AreFrom vs (spread sets.now)) (λ vs u. IsConstraint (within (scope_of env.now (R.values row.now) locals.now) vs) (part_of p) u) (λ vs x. Builds (within (scope_of env.now (R.values row.now) locals.now) vs) vs (part_of e) x)) }
 {
     let alloc = env.allocator();
@@ -318,7 +318,7 @@ fn add_row<'v, 'a, R: Row>(
 ) -> Result<bool, AllocError>
     requires form { IsBuilder term.now }
     requires outside { outside ≤ length bound.now }
-    ensures is { (l : ℕ) (rs : List range.Range) (p e : Option resolved.Resolved) → term.now ≡ form.Builder l rs p e
+    ensures { (l : ℕ) (rs : List range.Range) (p e : Option resolved.Resolved) → term.now ≡ form.Builder l rs p e
         → IfOk result (AddsRow (λ u. IsConstraint (scope_of env.now (R.values row.now) bound.now) (part_of p) u) (λ x. Builds (scope_of env.now (R.values row.now) bound.now) (drop outside (seen bound.now)) (part_of e) x) built.old.items built.new.items) }
 {
     let Resolved::Builder(_, _, filter, member) = term else {
@@ -341,8 +341,8 @@ fn add_member<'v, 'a, R: Row>(
     bound: &[&'v Value],
     env: &'v Env<'_, 'a>,
 ) -> Result<bool, AllocError>
-    requires outside { outside ≤ length bound.now }
-    ensures is { IfOk result (AddsValue (λ x. Builds (scope_of env.now (R.values row.now) bound.now) (drop outside (seen bound.now)) (part_of member.now) x) built.old.items built.new.items) }
+    requires { outside ≤ length bound.now }
+    ensures { IfOk result (AddsValue (λ x. Builds (scope_of env.now (R.values row.now) bound.now) (drop outside (seen bound.now)) (part_of member.now) x) built.old.items built.new.items) }
 {
     match member_outcome(member, outside, row, bound, env)? {
         Outcome::Is(value) => {
@@ -363,8 +363,8 @@ fn member_outcome<'v, 'a, R: Row>(
     bound: &[&'v Value],
     env: &'v Env<'_, 'a>,
 ) -> Result<Outcome, AllocError>
-    requires outside { outside ≤ length bound.now }
-    ensures is { IfOk result (Builds (scope_of env.now (R.values row.now) bound.now) (drop outside (seen bound.now)) (part_of member.now)) }
+    requires { outside ≤ length bound.now }
+    ensures { IfOk result (Builds (scope_of env.now (R.values row.now) bound.now) (drop outside (seen bound.now)) (part_of member.now)) }
 {
     let alloc = env.allocator();
     match member.get() {
@@ -375,7 +375,7 @@ fn member_outcome<'v, 'a, R: Row>(
 
 /// What a builder without a term builds: the one variable, or the tuple of all.
 fn value_of_row(alloc: Global, values: &[&Value]) -> Result<Value, AllocError>
-    ensures is { IfOk result (λ v. v ≡ row_value (seen values.now)) }
+    ensures { IfOk result (λ v. v ≡ row_value (seen values.now)) }
 {
     if values.len() == 1 {
         return values[0].copy(alloc);
@@ -384,5 +384,7 @@ fn value_of_row(alloc: Global, values: &[&Value]) -> Result<Value, AllocError>
     for value in values {
         copies.push(value.copy(alloc)?)?;
     }
-    Ok(Value::Tuple(Items::of(alloc, copies)?))
+    Ok(Value {
+        form: Form::Tuple(Items::of(alloc, copies)?),
+    })
 }

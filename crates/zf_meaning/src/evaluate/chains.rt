@@ -36,7 +36,7 @@ pub(super) fn chain<'v, 'a, R: Row>(
     locals: &[&'v Value],
     env: &'v Env<'_, 'a>,
 ) -> Result<Truth, AllocError>
-    requires form { IsChain term.now }
+    requires { IsChain term.now }
     ensures { IfOk result (IsTruth (scope_of env.now (R.values row.now) locals.now) (resolved_of term.now)) }
 {
     let Resolved::Chain(_, first, links) = term else {

@@ -36,7 +36,7 @@ pub(crate) fn described<'v, 'a, R: Row>(
     locals: &[&'v Value],
     env: &'v Env<'_, 'a>,
 ) -> Result<Described<'v>, AllocError>
-    ensures is { IfOk result (Describes (HasOutcome (scope_of env.now (R.values row.now) locals.now) (resolved_of term.now))) }
+    ensures { IfOk result (Describes (HasOutcome (scope_of env.now (R.values row.now) locals.now) (resolved_of term.now))) }
 {
     match term {
         Resolved::Bracket(_, inner) => described(inner.get(), row, locals, env),
@@ -59,7 +59,7 @@ fn of_one<'v, 'a, R: Row>(
     locals: &[&'v Value],
     env: &'v Env<'_, 'a>,
 ) -> Result<Described<'v>, AllocError>
-    ensures is { (line : ℕ) → IfOk result (Describes (HasOutcome (scope_of env.now (R.values row.now) locals.now) (tree.unary line op (resolved_of of.now)))) }
+    ensures { (line : ℕ) → IfOk result (Describes (HasOutcome (scope_of env.now (R.values row.now) locals.now) (tree.unary line op (resolved_of of.now)))) }
 {
     let operand = outcome(of, row, locals, env)?;
     let alloc = env.allocator();
@@ -83,7 +83,7 @@ fn of_both<'v, 'a, R: Row>(
 ) -> Result<Described<'v>, AllocError>
     requires left { size-Resolved left.now < size-Resolved whole.now }
     requires right { size-Resolved right.now < size-Resolved whole.now }
-    ensures is { (line : ℕ) → IfOk result (Describes (HasOutcome (scope_of env.now (R.values row.now) locals.now) (tree.binary line op (resolved_of left.now) (resolved_of right.now)))) }
+    ensures { (line : ℕ) → IfOk result (Describes (HasOutcome (scope_of env.now (R.values row.now) locals.now) (tree.binary line op (resolved_of left.now) (resolved_of right.now)))) }
 {
     let x = outcome(left, row, locals, env)?;
     let y = outcome(right, row, locals, env)?;
@@ -138,7 +138,7 @@ fn many<'v, 'a, R: Row>(
     locals: &[&'v Value],
     env: &'v Env<'_, 'a>,
 ) -> Result<Described<'v>, AllocError>
-    ensures is { (line : ℕ) → IfOk result (Describes (HasOutcome (scope_of env.now (R.values row.now) locals.now) (tree.listed line form (tree.terms (map resolved_of terms.now))))) }
+    ensures { (line : ℕ) → IfOk result (Describes (HasOutcome (scope_of env.now (R.values row.now) locals.now) (tree.listed line form (tree.terms (map resolved_of terms.now))))) }
 {
     let gathered = gather(terms, row, locals, env)?;
     match form {

@@ -204,7 +204,7 @@ fn number_applied<'v, 'a, R: Row>(
     let Some(x) = value_of_name(right, row, locals, env) else {
         return None;
     };
-    match applied(f.members(), x) {
+    match applied(f, x) {
         Some(y) => y.number(),
         None => None,
     }
@@ -218,7 +218,7 @@ fn value_of_name<'v, 'a, R: Row>(
     locals: &[&'v Value],
     env: &'v Env<'_, 'a>,
 ) -> Option<&'v Value>
-    ensures is { IfSome result (λ v. HasOutcome (scope_of env.now (R.values row.now) locals.now) (resolved_of term.now) (Is v.now)) }
+    ensures { IfSome result (λ v. HasOutcome (scope_of env.now (R.values row.now) locals.now) (resolved_of term.now) (Is v.now)) }
 {
     match term {
         Resolved::Name(_, reference) => value_named(*reference, row, locals, env),
@@ -249,7 +249,7 @@ fn value_named<'v, 'a, R: Row>(
     locals: &[&'v Value],
     env: &'v Env<'_, 'a>,
 ) -> Option<&'v Value>
-    ensures is { IfSome result (λ v. Is v.now ≡ spec.outcome_in (scope_of env.now (R.values row.now) locals.now) reference) }
+    ensures { IfSome result (λ v. Is v.now ≡ spec.outcome_in (scope_of env.now (R.values row.now) locals.now) reference) }
 {
     match reference {
         Reference::Component(place) => component(row, place),
@@ -260,7 +260,7 @@ fn value_named<'v, 'a, R: Row>(
 
 /// The value of a global, if it has one.
 fn global_value<'v>(env: &'v Env<'_, '_>, place: usize) -> Option<&'v Value>
-    ensures is { IfSome result (λ v. Is v.now ≡ spec.outcome_or (slice_get (environment_of env.now).outcomes place)) }
+    ensures { IfSome result (λ v. Is v.now ≡ spec.outcome_or (slice_get (environment_of env.now).outcomes place)) }
 {
     match env.outcome(place) {
         Some(outcome) => value_in(outcome),

@@ -30,7 +30,7 @@ pub(super) fn unary<'v, 'a, R: Row>(
     locals: &[&'v Value],
     env: &'v Env<'_, 'a>,
 ) -> Result<Found<'v>, AllocError>
-    ensures is { (line : ℕ) → IfOk result (λ o. HasOutcome (scope_of env.now (R.values row.now) locals.now) (tree.unary line op (resolved_of of.now)) (found_outcome o)) }
+    ensures { (line : ℕ) → IfOk result (λ o. HasOutcome (scope_of env.now (R.values row.now) locals.now) (tree.unary line op (resolved_of of.now)) (found_outcome o)) }
 {
     let operand = outcome(of, row, locals, env)?;
     Ok(Found::own(on_one(env.allocator(), op, &operand)?))
@@ -50,7 +50,7 @@ pub(super) fn binary<'v, 'a, R: Row>(
 ) -> Result<Found<'v>, AllocError>
     requires left { size-Resolved left.now < size-Resolved whole.now }
     requires right { size-Resolved right.now < size-Resolved whole.now }
-    ensures is { (line : ℕ) → IfOk result (λ o. HasOutcome (scope_of env.now (R.values row.now) locals.now) (tree.binary line op (resolved_of left.now) (resolved_of right.now)) (found_outcome o)) }
+    ensures { (line : ℕ) → IfOk result (λ o. HasOutcome (scope_of env.now (R.values row.now) locals.now) (tree.binary line op (resolved_of left.now) (resolved_of right.now)) (found_outcome o)) }
 {
     let x = outcome(left, row, locals, env)?;
     let y = outcome(right, row, locals, env)?;
@@ -67,7 +67,7 @@ pub(super) fn listed<'v, 'a, R: Row>(
     locals: &[&'v Value],
     env: &'v Env<'_, 'a>,
 ) -> Result<Found<'v>, AllocError>
-    ensures is { (line : ℕ) → IfOk result (λ o. HasOutcome (scope_of env.now (R.values row.now) locals.now) (tree.listed line form (tree.terms (map resolved_of terms.now))) (found_outcome o)) }
+    ensures { (line : ℕ) → IfOk result (λ o. HasOutcome (scope_of env.now (R.values row.now) locals.now) (tree.listed line form (tree.terms (map resolved_of terms.now))) (found_outcome o)) }
 {
     let gathered = gather(terms, row, locals, env)?;
     Ok(Found::own(on_several(env.allocator(), form, gathered)?))
@@ -81,7 +81,7 @@ pub(super) fn gather<'v, 'a, R: Row>(
     locals: &[&'v Value],
     env: &'v Env<'_, 'a>,
 ) -> Result<Gathered, AllocError>
-    ensures is { IfOk result (λ s. HaveOutcomes (scope_of env.now (R.values row.now) locals.now) (tree.terms (map resolved_of terms.now)) (several_of s)) }
+    ensures { IfOk result (λ s. HaveOutcomes (scope_of env.now (R.values row.now) locals.now) (tree.terms (map resolved_of terms.now)) (several_of s)) }
 {
     let alloc = env.allocator();
     let mut gathered = Gathered::new(alloc);
