@@ -75,7 +75,7 @@ fn size(sets: &[Lent<'_>]) -> usize
 /// The tuples as rows. Where a set is empty there are none, however many the others would make.
 fn tuple_rows(alloc: Global, sets: &[Lent<'_>]) -> Result<Vec<Items<Value>>, AllocError>
     ensures is { IfOk result (λ rows. rows.items ≡ whole fits_any (map members sets.now)) }
-    ensures ascending { Every (λ s. IsAscending (members s)) sets.now }
+    ensures ascending { IfOk result (λ rows. Every (λ s. IsAscending (members s)) sets.now) }
 {
     if size(sets) == 0 {
         return Ok(Vec::new(alloc));

@@ -77,7 +77,7 @@ pub(super) fn lists_of<'w>(
     sets: &'w [Spread<'_>],
 ) -> Result<Vec<&'w [Value]>, AllocError>
     ensures is { IfOk result (λ lists. seen lists.items ≡ map members (spread sets.now)) }
-    ensures ascending { Every (λ s. IsAscending (members s)) (spread sets.now) }
+    ensures ascending { IfOk result (λ lists. Every (λ s. IsAscending (members s)) (spread sets.now)) }
 {
     let mut lists = Vec::new(alloc);
     for spread in sets {
