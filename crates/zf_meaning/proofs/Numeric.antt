@@ -1,5 +1,5 @@
 -- Comparisons of numbers, and the numbers that terms come to.
-use Rattle.zf_meaning.proofs.Prelude.{if◌then◌else◌, ◌<◌, ◌↔◌, ◌∙◌, ◌∷◌, ◌≡◌, [], ap, arith, Bool, false, get_or, inl, IsTrue, length, List, map, None, of_z, Option, refl, Some, subst, sym, to_z, true, ℕ, ℤ, IfSome, FitsSigned, Bor, same, is_Int, number_of-Int, number_of, OnNumbers, IsApplied, IsRegular, IsRegularOutcome, members, Outcome, Is, Truth, Int, Value, Application, Function, Infix, Relation, link-seen, binary, chain, links, resolved_link_of, resolved_of, ResolvedTree, Resolved, ResolvedLink, is_membership, Context, found_of, HasOutcome, infinite_right, IsLink, IsTruth, Holds, InfixOutcome, IsAtom, IsConjunction, Tells}
+use Rattle.zf_meaning.proofs.Prelude.{if◌then◌else◌, ◌<◌, ◌↔◌, ◌∙◌, ◌∷◌, ◌≡◌, [], ap, arith, Bool, false, get_or, inl, IsTrue, length, List, map, None, of_z, Option, refl, Some, subst, sym, to_z, true, ℕ, ℤ, IfSome, FitsSigned, Bor, same, is_Int, number_of-Int, number_of, OnNumbers, IsApplied, members, Outcome, Is, Truth, Int, Value, Application, Function, Infix, Relation, link-seen, binary, chain, links, resolved_link_of, resolved_of, ResolvedTree, Resolved, ResolvedLink, is_membership, Context, found_of, HasOutcome, infinite_right, IsLink, IsTruth, Holds, InfixOutcome, IsAtom, IsConjunction, Tells}
 use Rattle.std.specs.Int.{w64}
 use Rattle.zf_value.specs.declared.value.Truth.TheVariants.{True, False, Out}
 
@@ -8,10 +8,6 @@ use Rattle.zf_value.specs.declared.value.Truth.TheVariants.{True, False, Out}
 pub found-is : (f : Option (Bor Value)) (o : Outcome) → found_of f ≡ o → IfSome f (λ v. Is v.now ≡ o)
 found-is None o e = tt
 found-is (Some v) o e = e
-
-pub found-regular : (f : Option (Bor Value)) (o : Outcome) → found_of f ≡ o → IsRegularOutcome o → IfSome f (λ v. IsRegular v.now)
-found-regular None o e h = tt
-found-regular (Some v) o e h = subst IsRegularOutcome (sym e) h
 
 pub number-is : (v : Value) (o : Outcome) (r : Option ℤ) → Is v ≡ o → r ≡ number_of v → IfSome r (λ n. Is (Int n) ≡ o)
 number-is v o None e h = tt
@@ -40,10 +36,10 @@ pub both-numbers : (c : Context) (l : ℕ) (op : Infix) (a b : ResolvedTree) (m 
 both-numbers c l op a b m n None h g q = tt
 both-numbers c l op a b m n (Some k) h g q = (Is (Int m), Is (Int n), h, g, q)
 
-pub number-applied : (c : Context) (l : ℕ) (a b : ResolvedTree) (f x y : Value) (xs : List Value) (r : Option ℤ) → HasOutcome c a (Is f) → HasOutcome c b (Is x) → xs ≡ members f → IsApplied xs x (Is y) → r ≡ number_of y
+pub number-applied : (c : Context) (l : ℕ) (a b : ResolvedTree) (f x y : Value) (r : Option ℤ) → HasOutcome c a (Is f) → HasOutcome c b (Is x) → IsApplied (members f) x (Is y) → r ≡ number_of y
     → IfSome r (λ n. HasOutcome c (binary l Application a b) (Is (Int n)))
-number-applied c l a b f x y xs None h g e k q = tt
-number-applied c l a b f x y xs (Some n) h g e k q = (Is f, Is x, h, g, subst (λ (z : Value). IsApplied (members f) x (Is z)) (is_Int y n q) (subst (λ (zs : List Value). IsApplied zs x (Is y)) e k))
+number-applied c l a b f x y None h g k q = tt
+number-applied c l a b f x y (Some n) h g k q = (Is f, Is x, h, g, subst (λ (z : Value). IsApplied (members f) x (Is z)) (is_Int y n q) k)
 
 -- ---- chains
 

@@ -1,6 +1,6 @@
 -- A walk over the rows of sets, with what it binds.
-use Rattle.zf_meaning.proofs.Prelude.{◌++◌, ◌∙◌, ◌∷◌, ◌≡◌, ◌≤◌, ◌⊎◌, [], ap, arith, drop, inl, inr, length, length-append, List, map, refl, subst, sym, take, ℕ, ⊎_elim, Bor, AreFrom, AreRegular, members, Outcome, Truth, Value, Quantifier, resolved_of, ResolvedPart, ResolvedTree, Resolved, IsNeutral, Context, within, Builds, IsConstraint, IsTruth, seen, all_rows, after, ahead, IsAt, IsFirst, IsNext, lists_of, row_of, IsRegularScope, scope_of, IsTold, Env, Rows}
-use Rattle.zf_meaning.proofs.AllRows.{IsAmong, row-among, among-row, rows-apart}
+use Rattle.zf_meaning.proofs.Prelude.{◌++◌, ◌∙◌, ◌∷◌, ◌≡◌, ◌≤◌, ◌⊎◌, [], ap, arith, drop, inl, inr, length, length-append, List, map, refl, subst, sym, take, ℕ, ⊎_elim, Bor, AreFrom, Every, IsAscending, value_order, every_at, not_below_itself, members, Outcome, Truth, Value, Quantifier, resolved_of, ResolvedPart, ResolvedTree, Resolved, IsNeutral, Context, within, Builds, IsConstraint, IsTruth, seen, all_rows, after, ahead, IsAt, IsFirst, IsNext, lists_of, row_of, scope_of, IsTold, Env, Rows}
+use Rattle.zf_meaning.proofs.AllRows.{AreDistinct, HaveDistinct, IsAmong, row-among, among-row, rows-apart}
 use Rattle.zf_meaning.proofs.Midway as midway
 use Rattle.zf_meaning.proofs.Midway.{IsMidway}
 use Rattle.zf_meaning.proofs.NextRow.{seen-length}
