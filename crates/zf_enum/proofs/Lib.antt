@@ -1,7 +1,6 @@
 mod Prelude
 pub mod Dues
-pub mod Rows
-pub mod Judging
+pub pub mod Judging
 pub mod Listing
 pub mod Held
 pub mod EventLaws

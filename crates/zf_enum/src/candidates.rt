@@ -2,7 +2,7 @@
 ghost use Rattle.std.specs.Prelude.{◌≡◌, ◌<◌, ◌≤◌, ℕ, [], length, true, AllPairs, Some, IsTrue, IfOk, OnOk, slice_get, slice_index_or};
 ghost use Rattle.std.specs.declared.cmp.Ordering.TheVariants.{Less};
 ghost use Rattle.zf_term.specs.ResolvedTrees.{resolved_of};
-ghost use Rattle.zf_value.specs.Sets.{value_order, IsRegularOutcome};
+ghost use Rattle.zf_value.specs.Sets.{value_order};
 ghost use Rattle.zf_walk.specs.Picked.{AreWithin, picked};
 ghost use Rattle.zf_walk.specs.Rows.{AreAscending};
 ghost use Rattle.zf_plan.specs.Choices.{StaysIn};
@@ -11,19 +11,19 @@ ghost use Rattle.zf_enum.specs.Fixing.{IsKept, AreCandidates};
 ghost use Rattle.zf_enum.specs.Property as spec;
 
 use crate::due::{due, uses};
-use crate::known::Known;
-use crate::shown::{Shown, meet};
+use crate::shown::Shown;
 use std::alloc::AllocError;
 use zf_meaning::env::Env;
 use zf_meaning::value::value_of;
 use zf_term::resolved::Resolved;
 use zf_value::value::Outcome;
+use zf_value::value::Value;
 use zf_walk::{Picked, Range};
 
 /// Gathers the places of the next range at which a value of an expression stands, over all values of the components that it uses behind. Answers false where it is out, or where these are too many to pay.
 pub(crate) fn gather_candidates<'a>(
     side: &Resolved<'a>,
-    ranges: &[Range<Known>],
+    ranges: &[Range<Value>],
     places: &[usize],
     env: &Env<'_, 'a>,
     gathered: &mut Vec<usize>,
@@ -49,7 +49,7 @@ pub(crate) fn gather_candidates<'a>(
 }
 
 /// Whether the components behind that an expression uses have values of which there are less than half as many as in the range.
-fn is_worth_it(side: &Resolved<'_>, ranges: &[Range<Known>], next: usize, due: usize) -> bool
+fn is_worth_it(side: &Resolved<'_>, ranges: &[Range<Value>], next: usize, due: usize) -> bool
     requires next { next < length ranges.now }
     requires due { due ≤ length ranges.now }
 {
@@ -67,7 +67,7 @@ fn is_worth_it(side: &Resolved<'_>, ranges: &[Range<Known>], next: usize, due: u
 /// The same from the first places on, of so many that the expression needs.
 fn gather_ahead<'a>(
     side: &Resolved<'a>,
-    ranges: &[Range<Known>],
+    ranges: &[Range<Value>],
     places: &mut Vec<usize>,
     next: usize,
     due: usize,
@@ -116,7 +116,7 @@ fn tried(side: &Resolved<'_>, component: usize, count: usize) -> usize
 /// The place of the expression's value, where it needs no more than these.
 fn gather_value<'a>(
     side: &Resolved<'a>,
-    ranges: &[Range<Known>],
+    ranges: &[Range<Value>],
     places: &[usize],
     next: usize,
     env: &Env<'_, 'a>,
@@ -130,7 +130,6 @@ fn gather_value<'a>(
     ensures candidates { IfOk result (λ found. IsTrue found → AreCandidates (environment_of env.now) (resolved_of side.now) ranges.now (picked ranges.now places.now) (slice_index_or ranges.now next []) gathered.new.items) }
 {
     let row = Picked::new(ranges, places);
-    meet(&row);
     let shown = Shown { row: &row };
     let outcome = value_of(side, &shown, env)?;
     gather_outcome(outcome, &ranges[next], gathered)
@@ -139,17 +138,16 @@ fn gather_value<'a>(
 /// The place of an outcome in a range.
 fn gather_outcome(
     outcome: Outcome,
-    range: &Range<Known>,
+    range: &Range<Value>,
     gathered: &mut Vec<usize>,
 ) -> Result<bool, AllocError>
-    requires regular { IsRegularOutcome outcome }
-    requires ascending { AllPairs (λ v w. value_order v w ≡ Less) range.now }
+    requires { AllPairs (λ v w. value_order v w ≡ Less) range.now }
     ensures stay { StaysIn gathered.old.items gathered.new.items }
     ensures kept { IfOk result (λ found. IsTrue found → IsKept outcome range.now gathered.new.items) }
 {
     match outcome {
         Outcome::Is(value) => {
-            if let Some(place) = place_of(&Known::new(value), range) {
+            if let Some(place) = place_of(&value, range) {
                 gathered.push(place)?;
             }
             Ok(true)
@@ -160,7 +158,7 @@ fn gather_outcome(
 }
 
 /// The place of a value in a range, if it is there.
-fn place_of(value: &Known, range: &Range<Known>) -> Option<usize>
+fn place_of(value: &Value, range: &Range<Value>) -> Option<usize>
     requires { AllPairs (λ v w. value_order v w ≡ Less) range.now }
     ensures { (i : ℕ) → slice_get range.now i ≡ Some value.now → result ≡ Some i }
 {

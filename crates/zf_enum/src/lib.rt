@@ -11,7 +11,6 @@ mod filters;
 mod fixing;
 mod instances;
 mod kept;
-mod known;
 mod lack;
 pub mod laws;
 mod leaves;
@@ -29,7 +28,6 @@ mod weight;
 
 pub use bindings::Bindings;
 pub use instances::Instances;
-pub use known::{Known, all_known, held_known};
 pub use planting::gains_by_trees;
 pub use property::Property;
 pub use search::Search;

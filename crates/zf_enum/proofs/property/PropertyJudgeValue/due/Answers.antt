@@ -1,6 +1,6 @@
 use Rattle.zf_enum.proofs.Prelude.{◌<◌, length, map, rules, subst, sym, resolved_of}
 use Rattle.zf_enum.proofs.Judging.{as_many, need_at}
-use Rattle.zf_enum.proofs.property.PropertyJudgeKnown.due.Goals as goal
+use Rattle.zf_enum.proofs.property.PropertyJudgeValue.due.Goals as goal
 
 pub index-requires : goal.index-requires
 index-requires c =

@@ -1,7 +1,7 @@
 use Rattle.zf_enum.proofs.Prelude.{ap, arith, length, map, refl, IfOk-weaker, resolved_of, environment_of, due_of}
 use Rattle.zf_enum.proofs.Fixed.{side_due, candidates_left}
 use Rattle.zf_enum.proofs.Judging.{at_place}
-use Rattle.zf_enum.proofs.property.PropertyGuideKnown.narrow.Goals as goal
+use Rattle.zf_enum.proofs.property.PropertyGuideValue.narrow.Goals as goal
 
 pub gather_candidates-requires-clause-due : goal.gather_candidates-requires-clause-due
 gather_candidates-requires-clause-due c =
