@@ -1,4 +1,4 @@
-use Rattle.zf_meaning.proofs.Prelude.{◌↔◌, IsTrue, subst, IsTupleFrom}
+use Rattle.zf_meaning.proofs.Prelude.{◌↔◌, IsTrue, subst, IsTupleFrom, IsWithin}
 use Rattle.zf_meaning.proofs.Tests.{has-power, has-arrows, has-product}
 use Rattle.zf_meaning.proofs.described.Described.has.Goals as goal
 
@@ -9,6 +9,9 @@ pub returns-in-Arrows : goal.returns-in-Arrows
 returns-in-Arrows c =
     let i = c.in-Arrows in
     has-arrows c.args.self.now i.kind i.from i.to c.args.v.now c.is_of_arrow.result i.is c.requires c.is_of_arrow.ensures
+
+pub is_between-requires : goal.is_between-requires
+is_between-requires c = subst IsWithin c.in-Interval.is c.requires
 
 pub returns-in-Product : goal.returns-in-Product
 returns-in-Product c =
