@@ -1,5 +1,5 @@
 -- The one pair among those that begin with a value.
-use Rattle.zf_value.proofs.Prelude.{◌+◌, ◌<◌, ◌∙◌, ◌∷◌, ◌≡◌, ◌≤◌, [], add-one, ap, arith, false, get_or, inl, inr, length, Less, List, None, Option, Some, subst, suc, sym, take, true, zero, ℕ, ⊎_elim, IfSome, is_some, MatchOption, Bor, pair, Relates, IsApplied, IsAscending, IsMember, value_order, AreRelated, Value, Is, Undefined}
+use Rattle.zf_value.proofs.Prelude.{◌+◌, ◌<◌, ◌∙◌, ◌∷◌, ◌≡◌, ◌≤◌, [], add-one, ap, arith, false, get_or, inl, inr, length, Less, List, None, Option, Some, subst, suc, sym, take, true, zero, ℕ, ⊎_elim, is_some, MatchOption, Bor, pair, Relates, IsApplied, IsAscending, IsMember, value_order, AreRelated, Value, Is, Undefined}
 use Rattle.zf_value.proofs.Among.{below_at, not_below_itself, member_at, members-take_more, take_all, before_in}
 use Rattle.zf_value.proofs.Gathered.{same_pair}
 

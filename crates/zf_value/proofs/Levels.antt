@@ -1,5 +1,5 @@
 -- How forms compare is how the values compare that they are.
-use Rattle.zf_value.proofs.Prelude.{◌∙◌, ◌≡◌, ap, List, Ordering, refl, Some, sym, is_eq, value_of, Elem, Int, SetOf, Tuple, Value, outs-Elem, outs-Int, outs-SetOf, outs-Tuple, Form}
+use Rattle.zf_value.proofs.Prelude.{◌∙◌, ◌≡◌, ap, refl, Some, sym, is_eq, value_of, outs-Elem, outs-Int, outs-SetOf, outs-Tuple, Form}
 use Rattle.zf_value.specs.declared.value.Form.TheVariants as form
 use Rattle.zf_value.specs.contracts.plain.ValueOrd.TheImpl as plain
 use Rattle.zf_value.specs.contracts.plain.ValueOrd.TheImpl.Laws.{is}

@@ -1,5 +1,5 @@
 -- What each operation on sets and relations lists.
-use Rattle.zf_value.proofs.Prelude.{◌++◌, ◌+◌, ◌<◌, ◌↔◌, ◌∙◌, ◌∷◌, ◌≡◌, ◌⊎◌, [], ap, get_or, length, List, refl, Result, subst, sym, take, ℕ, ⊎_elim, IfOk, AllocError, IsInDomain, IsInRange, IsPairOf, pair, Relates, IsDisplay, IsDomain, IsDomainRestriction, IsDomainSubtraction, IsImage, IsIntersection, IsInverse, IsRange, IsRangeRestriction, IsRangeSubtraction, IsSetDifference, IsUnion, IsMember, IsKept, IsPartOf, IsSelected, IsGathered, IsJoined, Keep, Members, Others, First, Second, Whole, Value, Outcome}
+use Rattle.zf_value.proofs.Prelude.{◌++◌, ◌+◌, ◌<◌, ◌↔◌, ◌∙◌, ◌∷◌, ◌≡◌, ◌⊎◌, [], ap, get_or, length, List, refl, Result, subst, sym, take, ℕ, IfOk, AllocError, IsInDomain, IsInRange, IsPairOf, pair, Relates, IsDisplay, IsDomain, IsDomainRestriction, IsDomainSubtraction, IsImage, IsIntersection, IsInverse, IsRange, IsRangeRestriction, IsRangeSubtraction, IsSetDifference, IsUnion, IsMember, IsKept, IsPartOf, IsSelected, IsGathered, IsJoined, Keep, Members, Others, First, Second, Whole, Value, Outcome}
 use Rattle.zf_value.proofs.Gathered.{same_pair, gathered_push, gathered_pass}
 use Rattle.zf_value.proofs.Making.{made, made_gathered}
 

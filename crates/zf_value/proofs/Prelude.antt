@@ -11,7 +11,7 @@ pub use Rattle.std.specs.Int.RustNames.{int_div, int_rem, unsigned_abs}
 pub use Rattle.std.specs.List.{AllAdjacentBelow, AllByRecursion, Contains, dedup, fold}
 pub use Rattle.std.specs.List.Sorted.{IsBinarySearchResult, IsNonDecreasingBy, IsPartitionedBy, IsPartitionPoint, IsPermutation, IsSearchInRange, IsSorted}
 unfoldable pub use Rattle.std.specs.List.Sorted.{IsStrictlySortedBy}
-pub use Rattle.std.specs.Option.{IfSome, is_some, SomeIff}
+pub use Rattle.std.specs.Option.{is_some, SomeIff}
 pub use Rattle.std.specs.Ordering.{int_cmp, is_eq, is_le, is_lt, nat_cmp, ordering_index, ordering_reverse, ordering_then}
 pub use Rattle.std.specs.Prelude.{◌*ℤ◌, ◌+ℤ◌, ◌-ℤ◌, ◌<ℤ◌, ◌≤ℤ◌, FitsSigned, MatchOption, neg_ℤ, negsuc, pos}
 pub use Rattle.std.specs.Result.{IfOk, is_ok}

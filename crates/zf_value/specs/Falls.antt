@@ -1,5 +1,5 @@
 -- What a form holds is less deep than it. No public clause rests on this file.
-use Rattle.std.specs.Prelude.{◌≤◌, ℕ, max}
+use Rattle.std.specs.Prelude.{◌≤◌, max}
 use Rattle.std.proofs.Common.{arith}
 use Rattle.zf_value.specs.declared.value.Form.{Form}
 use Rattle.zf_value.specs.declared.value.Form.TheVariants as form

@@ -1,8 +1,8 @@
 -- How deep a value is: a measure for what goes over its members. No public clause rests on this file.
 use Rattle.std.specs.Prelude.{◌≡◌, ◌+◌, ◌≤◌, ℕ, max, List, [], ◌∷◌}
-use Rattle.std.proofs.Common.{sym, ap, ◌∙◌, subst, arith, map}
+use Rattle.std.proofs.Common.{sym, ap, ◌∙◌, arith, map}
 use denote.Param.Weighed.{most}
-use Rattle.zf_value.specs.declared.plain.Value.{Value, Int, Elem, Tuple, SetOf, fold-Value, fold-roll-Value}
+use Rattle.zf_value.specs.declared.plain.Value.{Value, Tuple, SetOf, fold-Value, fold-roll-Value}
 use Rattle.zf_value.specs.declared.plain.Value.TheOpen.{Value-F}
 use Rattle.zf_value.specs.declared.plain.Value.TheVariants.{rolls-Tuple, rolls-SetOf}
 

@@ -1,4 +1,4 @@
-use Rattle.zf_value.proofs.Prelude.{◌+◌, Global, subst, sym, take, Vec, IsGathered, members, Value}
+use Rattle.zf_value.proofs.Prelude.{◌+◌, Global, subst, sym, take, Vec, members, IsGathered, Value}
 use Rattle.zf_value.proofs.Compositions.{Composes, composed_more, composed_pass, composition_made, composition_out}
 use Rattle.zf_value.proofs.Gathered.{gathered_none, gathered_same, gathered_all}
 use Rattle.zf_value.proofs.Making.{out_told}

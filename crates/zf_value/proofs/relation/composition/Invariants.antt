@@ -1,4 +1,4 @@
-use Rattle.zf_value.proofs.Prelude.{take, IsGathered, members}
+use Rattle.zf_value.proofs.Prelude.{take, members, IsGathered}
 use Rattle.zf_value.proofs.Compositions.{Composes}
 use Rattle.zf_value.proofs.relation.composition.Given as goal
 

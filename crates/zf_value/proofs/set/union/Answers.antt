@@ -1,4 +1,3 @@
-use Rattle.zf_value.proofs.Prelude.{◌≡◌, members, IsJoined}
 use Rattle.zf_value.proofs.Listed.{union_made}
 use Rattle.zf_value.proofs.set.union.Goals as goal
 
