@@ -1,5 +1,5 @@
 -- What the rows of functions and injections are, and how many there are.
-use Rattle.zf_families.proofs.Prelude.{◌+◌, ◌<◌, ◌^◌, ◌↔◌, ◌∙◌, ◌∷◌, ◌≡◌, ◌≤◌, [], ap, arith, get_or, length, List, ltb, map, min, refl, Result, suc, sym, ℕ, length-map, IsTrue, IfOk, AllocError, IsFunctional, IsRelationThat, IsTotal, pair, ArePartialFunctions, AreTotalFunctions, IsAscending, SET_MAX, Outcome, Is, Out, SetOf, Value, fits_any, pairs, some, whole, AreSets}
+use Rattle.zf_families.proofs.Prelude.{◌+◌, ◌<◌, ◌^◌, ◌↔◌, ◌∙◌, ◌∷◌, ◌≡◌, ◌≤◌, [], ap, arith, get_or, length, List, ltb, map, min, refl, Result, suc, sym, ℕ, length-map, IsTrue, IfOk, AllocError, IsFunctional, IsRelationThat, IsTotal, pair, ArePartialFunctions, AreTotalFunctions, IsAscending, SET_MAX, SetOf, Value, Outcome, Is, Out, AreSets, fits_any, pairs, some, whole}
 use Rattle.zf_families.proofs.Told.{TellsOut, are_sets, out_by_size, built_result}
 use Rattle.zf_families.proofs.Relations.{relation_ascends}
 use Rattle.zf_families.proofs.Counts.{length_some, length_whole, sizes_same}
@@ -27,7 +27,6 @@ partial_functions_built a b h k few rows e r g = built_result SetOf (IsRelationT
 pub partial_functions_sets : (a b : List Value) → IsAscending a → IsAscending b → (rows : List (List Value)) → rows ≡ partial_rows a b → AreSets rows
 partial_functions_sets a b h k rows e = are_sets (IsRelationThat IsFunctional a b) (partial_rows a b) rows (partial_told b fits_any IsFunctional functions a h k) (relation_ascends IsFunctional a b) e
 
-
 -- ---- total functions
 
 pub total_functions_out : (a b : List Value) → IsAscending a → IsAscending b → (count : ℕ) → count ≡ min (length b ^ length a) (SET_MAX + 1) → TellsOut (AreTotalFunctions a b) (ltb SET_MAX count)
@@ -42,7 +41,6 @@ total_functions_built a b h k few rows e r g = built_result SetOf (IsRelationTha
 
 pub total_functions_sets : (a b : List Value) → IsAscending a → IsAscending b → (rows : List (List Value)) → rows ≡ total_rows a b → AreSets rows
 total_functions_sets a b h k rows e = are_sets (IsRelationThat (λ r. IsFunctional r × IsTotal a r) a b) (total_rows a b) rows (total_told b fits_any IsFunctional functions a h k) (relation_ascends (λ r. IsFunctional r × IsTotal a r) a b) e
-
 
 -- of functions to one member there is one, which is constant
 pub constant : (a : List Value) (y : Value) → whole fits_any (map (pairs (y ∷ [])) a) ≡ map (λ x. pair x y) a ∷ []

@@ -1,6 +1,7 @@
 -- What the rows of injections are, and how many there are.
-use Rattle.zf_families.proofs.Prelude.{◌*◌, ◌++◌, ◌+◌, ◌-◌, ◌<◌, ◌↔◌, ◌∙◌, ◌∷◌, ◌≡◌, ◌≤◌, [], ap, arith, false, get_or, length, List, ltb, map, min, refl, Result, suc, sym, zero, ℕ, nil_from_length, filter, IsTrue, IfOk, AllocError, IsFunctional, IsInjective, IsRelationThat, IsTotal, pair, ArePartialInjections, AreTotalInjections, IsAscending, SET_MAX, Outcome, Is, Out, SetOf, Value, falling, partial_injection_count, fits_apart, pairs, some, whole, AreSets}
+use Rattle.zf_families.proofs.Prelude.{◌*◌, ◌++◌, ◌+◌, ◌-◌, ◌<◌, ◌↔◌, ◌∙◌, ◌∷◌, ◌≡◌, ◌≤◌, [], ap, arith, false, get_or, length, List, ltb, map, min, refl, Result, suc, sym, zero, ℕ, nil_from_length, filter, IsTrue, IfOk, AllocError, IsFunctional, IsInjective, IsRelationThat, IsTotal, pair, ArePartialInjections, AreTotalInjections, IsAscending, SET_MAX, SetOf, Value, Outcome, Is, Out, falling, partial_injection_count, AreSets, fits_apart, pairs, some, whole}
 use Rattle.zf_families.proofs.Told.{TellsOut, are_sets, Tells, out_by_size, built_result}
+use Rattle.zf_families.proofs.Relations.{relation_ascends}
 use Rattle.zf_families.proofs.InjectionCounts.{length_injections, length_partial_injections, filter_map_none, seconds, other_itself}
 use Rattle.zf_families.proofs.Functions.{partial_told, total_told}
 use Rattle.zf_families.proofs.FunctionLaws.{injections}
@@ -30,7 +31,6 @@ partial_injections_built a b h k few rows e r g = built_result SetOf (IsRelation
 pub partial_injections_sets : (a b : List Value) → IsAscending a → IsAscending b → (rows : List (List Value)) → rows ≡ partial_injection_rows a b → AreSets rows
 partial_injections_sets a b h k rows e = are_sets (IsRelationThat IsInjection a b) (partial_injection_rows a b) rows (partial_told b fits_apart IsInjection injections a h k) (relation_ascends IsInjection a b) e
 
-
 -- ---- total injections
 
 -- the law of injections with totality in the order of the definitions
@@ -57,7 +57,6 @@ total_injections_built a b h k few rows e r g =
 
 pub total_injections_sets : (a b : List Value) → IsAscending a → IsAscending b → (rows : List (List Value)) → rows ≡ injection_rows a b → AreSets rows
 total_injections_sets a b h k rows e = are_sets (IsRelationThat (λ r. IsFunctional r × IsInjective r × IsTotal a r) a b) (injection_rows a b) rows (total_injections_told a b h k) (relation_ascends (λ r. IsFunctional r × IsInjective r × IsTotal a r) a b) e
-
 
 falling_none : (n k : ℕ) → n < k → falling n k ≡ 0
 falling_none n zero h = absurd (omega arith)

@@ -1,4 +1,4 @@
-use Rattle.zf_families.proofs.Prelude.{◌+◌, ◌≡◌, map, min, take, members, SET_MAX, sizes, Every, IsAscending}
+use Rattle.zf_families.proofs.Prelude.{◌+◌, ◌≡◌, map, min, take, Every, IsAscending, members, SET_MAX, sizes}
 use Rattle.zf_families.proofs.cross.size.Given as goal
 
 abbrev pub invariant-loop-set : goal.invariant-loop-set

@@ -1,4 +1,4 @@
-use Rattle.zf_families.proofs.Prelude.{◌+◌, ◌^◌, ◌∙◌, add-one, ap, length, min, SET_MAX, ltb, members, ArePartialFunctions}
+use Rattle.zf_families.proofs.Prelude.{◌+◌, ◌^◌, ◌∙◌, add-one, ap, length, ltb, min, ArePartialFunctions, members, SET_MAX}
 use Rattle.zf_families.proofs.Told.{TellsOut}
 use Rattle.zf_families.proofs.Families.{partial_functions_out}
 use Rattle.zf_families.proofs.function.are_partial_functions_out.Goals as goal

@@ -1,4 +1,4 @@
-use Rattle.zf_families.proofs.Prelude.{ltb, members, SET_MAX, AreTotalFunctions}
+use Rattle.zf_families.proofs.Prelude.{ltb, AreTotalFunctions, members, SET_MAX}
 use Rattle.zf_families.proofs.Told.{TellsOut}
 use Rattle.zf_families.proofs.Families.{total_functions_out}
 use Rattle.zf_families.proofs.function.are_total_functions_out.Goals as goal

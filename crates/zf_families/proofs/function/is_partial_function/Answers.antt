@@ -1,4 +1,4 @@
-use Rattle.zf_families.proofs.Prelude.{members, IsFunctional, IsPartialFunction}
+use Rattle.zf_families.proofs.Prelude.{IsFunctional, members, IsPartialFunction}
 use Rattle.zf_families.proofs.Belonging.{function_at, no_relation}
 use Rattle.zf_families.proofs.function.is_partial_function.Goals as goal
 

@@ -1,4 +1,4 @@
-use Rattle.zf_families.proofs.Prelude.{members, IsFunctional, IsTotal, IsTotalFunction}
+use Rattle.zf_families.proofs.Prelude.{IsFunctional, IsTotal, members, IsTotalFunction}
 use Rattle.zf_families.proofs.Belonging.{total_at, no_relation}
 use Rattle.zf_families.proofs.function.is_total_function.Goals as goal
 

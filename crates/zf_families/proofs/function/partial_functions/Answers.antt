@@ -1,4 +1,4 @@
-use Rattle.zf_families.proofs.Prelude.{◌≡◌, iff_false, subst, IsAscending, members}
+use Rattle.zf_families.proofs.Prelude.{◌≡◌, subst, iff_false, IsAscending, members}
 use Rattle.zf_families.proofs.Families.{partial_rows, partial_functions_built, partial_functions_sets}
 use Rattle.zf_families.proofs.function.partial_functions.Goals as goal
 

@@ -1,4 +1,4 @@
-use Rattle.zf_families.proofs.Prelude.{◌∷◌, ◌≡◌, [], iff_false, fits_any, singles, some, subst, IsAscending, members}
+use Rattle.zf_families.proofs.Prelude.{◌∷◌, ◌≡◌, [], subst, iff_false, IsAscending, members, fits_any, singles, some}
 use Rattle.zf_families.proofs.Relations.{product_of, relations_built, relations_sets}
 use Rattle.zf_families.proofs.function.relations.Goals as goal
 

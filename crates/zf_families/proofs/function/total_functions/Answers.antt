@@ -1,4 +1,4 @@
-use Rattle.zf_families.proofs.Prelude.{◌≡◌, iff_false, subst, IsAscending, members}
+use Rattle.zf_families.proofs.Prelude.{◌≡◌, subst, iff_false, IsAscending, members}
 use Rattle.zf_families.proofs.Families.{total_rows, total_functions_built, total_functions_sets}
 use Rattle.zf_families.proofs.function.total_functions.Goals as goal
 

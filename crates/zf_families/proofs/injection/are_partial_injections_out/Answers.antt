@@ -1,4 +1,4 @@
-use Rattle.zf_families.proofs.Prelude.{ltb, members, SET_MAX, ArePartialInjections}
+use Rattle.zf_families.proofs.Prelude.{ltb, ArePartialInjections, members, SET_MAX}
 use Rattle.zf_families.proofs.Told.{TellsOut}
 use Rattle.zf_families.proofs.Injections.{partial_injections_out}
 use Rattle.zf_families.proofs.injection.are_partial_injections_out.Goals as goal

@@ -1,4 +1,4 @@
-use Rattle.zf_families.proofs.Prelude.{ltb, members, SET_MAX, AreTotalInjections}
+use Rattle.zf_families.proofs.Prelude.{ltb, AreTotalInjections, members, SET_MAX}
 use Rattle.zf_families.proofs.Told.{TellsOut}
 use Rattle.zf_families.proofs.Injections.{total_injections_out}
 use Rattle.zf_families.proofs.injection.are_total_injections_out.Goals as goal

@@ -1,4 +1,4 @@
-use Rattle.zf_families.proofs.Prelude.{members, IsFunctional, IsInjective, IsPartialInjection}
+use Rattle.zf_families.proofs.Prelude.{IsFunctional, IsInjective, members, IsPartialInjection}
 use Rattle.zf_families.proofs.Belonging.{injection_at, no_relation}
 use Rattle.zf_families.proofs.injection.is_partial_injection.Goals as goal
 

@@ -1,4 +1,4 @@
-use Rattle.zf_families.proofs.Prelude.{◌≡◌, iff_false, subst, IsAscending, members}
+use Rattle.zf_families.proofs.Prelude.{◌≡◌, subst, iff_false, IsAscending, members}
 use Rattle.zf_families.proofs.Injections.{partial_injection_rows, partial_injections_built, partial_injections_sets}
 use Rattle.zf_families.proofs.injection.partial_injections.Goals as goal
 

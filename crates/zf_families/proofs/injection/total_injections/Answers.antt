@@ -1,4 +1,4 @@
-use Rattle.zf_families.proofs.Prelude.{◌≡◌, iff_false, subst, IsAscending, members}
+use Rattle.zf_families.proofs.Prelude.{◌≡◌, subst, iff_false, IsAscending, members}
 use Rattle.zf_families.proofs.Injections.{injection_rows, total_injections_built, total_injections_sets}
 use Rattle.zf_families.proofs.injection.total_injections.Goals as goal
 

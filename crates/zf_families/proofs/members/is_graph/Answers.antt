@@ -1,5 +1,4 @@
-use Rattle.zf_value.specs.Sets.{members}
-use Rattle.zf_families.specs.Tests.{IsGraph}
+use Rattle.zf_families.proofs.Prelude.{members, IsGraph}
 use Rattle.zf_families.proofs.Tested.{never, graph_length}
 use Rattle.zf_families.proofs.members.is_graph.Goals as goal
 

@@ -1,4 +1,4 @@
-use Rattle.zf_families.proofs.Prelude.{◌↔◌, drop, IsGraph, members}
+use Rattle.zf_families.proofs.Prelude.{◌↔◌, drop, members, IsGraph}
 use Rattle.zf_families.proofs.members.is_graph.Given as goal
 
 abbrev pub invariant-loop-place : goal.invariant-loop-place

@@ -1,4 +1,4 @@
-use Rattle.zf_families.proofs.Prelude.{ltb, members, SET_MAX, IsPower}
+use Rattle.zf_families.proofs.Prelude.{ltb, IsPower, members, SET_MAX}
 use Rattle.zf_families.proofs.Told.{TellsOut}
 use Rattle.zf_families.proofs.Subsets.{power_out}
 use Rattle.zf_families.proofs.power.is_power_out.Goals as goal
