@@ -36,11 +36,6 @@ pub both-numbers : (c : Context) (l : ℕ) (op : Infix) (a b : ResolvedTree) (m 
 both-numbers c l op a b m n None h g q = tt
 both-numbers c l op a b m n (Some k) h g q = (Is (Int m), Is (Int n), h, g, q)
 
-pub number-applied : (c : Context) (l : ℕ) (a b : ResolvedTree) (f x y : Value) (r : Option ℤ) → HasOutcome c a (Is f) → HasOutcome c b (Is x) → IsApplied (members f) x (Is y) → r ≡ number_of y
-    → IfSome r (λ n. HasOutcome c (binary l Application a b) (Is (Int n)))
-number-applied c l a b f x y None h g k q = tt
-number-applied c l a b f x y (Some n) h g k q = (Is f, Is x, h, g, subst (λ (z : Value). IsApplied (members f) x (Is z)) (is_Int y n q) k)
-
 -- ---- chains
 
 alone : (P : Truth → Type 0) (u : Truth) → P u → IsConjunction P (λ q. q ≡ True) u
