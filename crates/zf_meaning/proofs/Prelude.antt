@@ -25,7 +25,7 @@ pub use Rattle.zf_value.specs.Numbers.{IsDifference, IsModulus, IsNegation, IsPr
 unfoldable pub use Rattle.zf_value.specs.Numbers.{IsBetweenNumbers, IsInterval, IsQuotient}
 pub use Rattle.zf_value.specs.Operations.{AreFrom, IsApplied, IsEmptySet, IsSubset}
 unfoldable pub use Rattle.zf_value.specs.Operations.{AreElements, ArePartialFunctions, ArePartialInjections, AreRelations, AreTotalFunctions, AreTotalInjections, IsCross, IsDisplay, IsPower, IsSize}
-pub use Rattle.zf_value.specs.Sets.{IsAscending, IsMember, IsSetOf, members, members_at, value_order}
+pub use Rattle.zf_value.specs.Sets.{Every, IsAscending, IsMember, IsSetOf, members, members_at, value_order}
 unfoldable pub use Rattle.zf_value.specs.Sets.{HaveSameMembers}
 pub use Rattle.zf_value.specs.declared.value.Outcome.{Outcome}
 pub use Rattle.zf_value.specs.declared.value.Outcome.TheVariants.{Is, Out, Undefined}

@@ -194,7 +194,7 @@ fn is_found_in(found: &Found<'_>, v: &Value) -> bool
 
 /// Whether the value is one of the numbers from the one to the other.
 fn is_between(v: &Value, from: i64, to: i64) -> bool
-    requires { IsWithin (form.Interval from to) }
+    requires { IsDescribed (form.Interval from to) outcome.Out → ⊥ }
     ensures { IsTrue result ↔ IsInDescribed (form.Interval from to) v.now }
 {
     is_in_interval(v, from, to)

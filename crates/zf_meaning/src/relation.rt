@@ -46,7 +46,10 @@ pub(crate) fn atom(relation: Relation, x: &Found<'_>, y: &Found<'_>) -> Truth
 pub(crate) fn between_numbers(relation: Relation, m: i64, n: i64) -> Truth
     ensures { IsAtom (Is (Int m)) (Is (Int n)) (Holds relation) result }
 {
-    told(holds(relation, &number(m), &number(n)))
+    let left = Value { form: Form::Int(m) };
+    let right = Value { form: Form::Int(n) };
+    let does = holds(relation, &left, &right);
+    told(does)
 }
 
 fn test(set: Infinite, relation: Relation, x: &Found<'_>) -> Truth
@@ -57,13 +60,6 @@ fn test(set: Infinite, relation: Relation, x: &Found<'_>) -> Truth
         Found::Undefined => Truth::False,
         Found::Is(v) => told(holds_of(set, relation, v.get())),
     }
-}
-
-/// The number as a value.
-fn number(n: i64) -> Value
-    ensures { result ≡ Int n }
-{
-    Value { form: Form::Int(n) }
 }
 
 /// The truth of what holds or doesn't.
@@ -101,10 +97,13 @@ fn is_proper(v: &Value, w: &Value) -> bool
 fn compares(relation: Relation, v: &Value, w: &Value) -> bool
     ensures { IsTrue result ↔ Compares (AreOrdered relation) v.now w.now }
 {
-    match (v.number(), w.number()) {
-        (Some(m), Some(n)) => are_ordered(relation, m, n),
-        _ => false,
-    }
+    let Some(m) = v.number() else {
+        return false;
+    };
+    let Some(n) = w.number() else {
+        return false;
+    };
+    are_ordered(relation, m, n)
 }
 
 fn are_ordered(relation: Relation, m: i64, n: i64) -> bool

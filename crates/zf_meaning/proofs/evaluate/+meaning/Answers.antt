@@ -106,7 +106,7 @@ pub memberships::many-returns-in_ok-on_several-in_default : goal.memberships::ma
 memberships::many-returns-in_ok-on_several-in_default g t c =
     let o = c.in_ok-on_several-in_default in
     λ line. plain-describes (HasOutcome (scope_of c.args.env.now (g.R.Row.values c.args.row.now) c.args.locals.now) (tree.listed line c.args.form (tree.terms (map resolved_of c.args.terms.now)))) c.own.result
-          (subst (HasOutcome (scope_of c.args.env.now (g.R.Row.values c.args.row.now) c.args.locals.now) (tree.listed line c.args.form (tree.terms (map resolved_of c.args.terms.now)))) (sym c.own.ensures) (several_of c.in_ok-gathered.gathered, c.in_ok-gathered.ensures, o.ensures))
+    (subst (HasOutcome (scope_of c.args.env.now (g.R.Row.values c.args.row.now) c.args.locals.now) (tree.listed line c.args.form (tree.terms (map resolved_of c.args.terms.now)))) (sym c.own.ensures) (several_of c.in_ok-gathered.gathered, c.in_ok-gathered.ensures, o.ensures))
 
 pub memberships::of_both-returns-in-Generic : goal.memberships::of_both-returns-in-Generic
 memberships::of_both-returns-in-Generic g t c =
@@ -116,7 +116,7 @@ memberships::of_both-returns-in-Generic g t c =
 pub memberships::of_both-returns-then-is_interval : goal.memberships::of_both-returns-then-is_interval
 memberships::of_both-returns-then-is_interval g t c =
     λ line. both-told (scope_of c.args.env.now (g.R.Row.values c.args.row.now) c.args.locals.now) line c.args.op (resolved_of c.args.left.now) (resolved_of c.args.right.now) (found_outcome c.in_ok-x.x) (found_outcome c.in_ok-y.y) c.in-Some.v.now c.in-Some.w.now c.interval_between.result c.in_ok-x.ensures c.in_ok-y.ensures (search rules) (search rules)
-          (interval-told c.args.op c.in-Some.v.now c.in-Some.w.now c.interval_between.result (c.is_interval.ensures c.if-is_interval.true) c.interval_between.ensures)
+    (interval-told c.args.op c.in-Some.v.now c.in-Some.w.now c.interval_between.result (c.is_interval.ensures c.if-is_interval.true) c.interval_between.ensures)
 
 pub memberships::of_both-returns : goal.memberships::of_both-returns
 memberships::of_both-returns g t c =

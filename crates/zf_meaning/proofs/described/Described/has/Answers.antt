@@ -1,4 +1,4 @@
-use Rattle.zf_meaning.proofs.Prelude.{◌↔◌, IsTrue, subst, IsTupleFrom, IsWithin}
+use Rattle.zf_meaning.proofs.Prelude.{◌↔◌, IsTrue, rules, subst, IsTupleFrom, IsWithin}
 use Rattle.zf_meaning.proofs.Tests.{has-power, has-arrows, has-product}
 use Rattle.zf_meaning.proofs.described.Described.has.Goals as goal
 
@@ -11,7 +11,7 @@ returns-in-Arrows c =
     has-arrows c.args.self.now i.kind i.from i.to c.args.v.now c.is_of_arrow.result i.is c.requires c.is_of_arrow.ensures
 
 pub is_between-requires : goal.is_between-requires
-is_between-requires c = subst IsWithin c.in-Interval.is c.requires
+is_between-requires c = let w = subst IsWithin c.in-Interval.is c.requires in let n = w.2 in search (rules, n)
 
 pub returns-in-Product : goal.returns-in-Product
 returns-in-Product c =
