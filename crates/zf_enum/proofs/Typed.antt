@@ -2,6 +2,13 @@
 use Rattle.zf_enum.proofs.Prelude.{◌+◌, ◌<◌, ◌↔◌, ◌∙◌, ◌∷◌, ◌≡◌, ◌≤◌, [], add-one, ap, arith, Bool, drop, false, get_or, length, List, map, refl, subst, suc, sym, zero, ℕ, false≢true, IsTrue, members-SetOf, parts-Tuple, Every, members, parts, SetOf, Tuple, Value, power, product, Ty, type_of, types, Tys, Environment, AreOfTypes, IsOfType, IsAscending}
 use Rattle.zf_term.specs.declared.ztype.ZType.{ZType}
 use Rattle.zf_enum.specs.OfTypes.{AreAllOf}
+use Rattle.std.proofs.Common.{ℤ, Option, Some, None, true, false, IsTrue, w64}
+use Rattle.std.specs.Prelude.{FitsSigned}
+use Rattle.zf_value.specs.Numbers.{number_of}
+use Rattle.zf_value.specs.declared.plain.Value.{Elem}
+use Rattle.zf_value.proofs.Seen.{is_Int, no_Int}
+use Rattle.zf_meaning.specs.Rows.{IsElement}
+use Rattle.zf_enum.specs.OfTypes.{IsNumberHere}
 
 pub never : (P : Type 0) → (P → ⊥) → IsTrue false ↔ P
 never P h = (λ e. absurd (false≢true e), λ p. absurd (h p))
@@ -29,6 +36,20 @@ tuple_at e ts xs v b is h = (
 
 pub no_tuple : (e : Environment) (ts : Tys) (v : Value) → ((xs : List Value) → v ≡ Tuple xs → ⊥) → IsTrue false ↔ IsOfType e (product ts) v
 no_tuple e ts v h = never (IsOfType e (product ts) v) (λ p. h p.0 p.1)
+
+-- ---- numbers and elements
+
+pub number_here : (v : Value) (n : ℤ) → Some n ≡ number_of v → FitsSigned w64 n → IsTrue true ↔ IsNumberHere v
+number_here v n e f = (λ g. (n, is_Int v n e, f), λ p. refl)
+
+pub no_number_here : (v : Value) → None ≡ number_of v → IsTrue false ↔ IsNumberHere v
+no_number_here v e = never (IsNumberHere v) (λ p. no_Int v p.0 e p.1)
+
+pub no_element : (e : Environment) (o : Option ℕ) (v : Value) → ((t i : ℕ) → v ≡ Elem t i → ⊥) → IsTrue false ↔ IsElement e o v
+no_element e None v h = never (IsElement e None v) (λ p. p)
+no_element e (Some n) v h = never (IsElement e (Some n) v) (λ p. h n p.1 p.4)
+
+-- ---- lists
 
 nothing : {A : Type 0} (xs : List A) (i : ℕ) → length xs ≤ i → drop i xs ≡ []
 nothing [] zero l = refl

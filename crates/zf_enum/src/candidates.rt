@@ -16,8 +16,7 @@ use std::alloc::AllocError;
 use zf_meaning::env::Env;
 use zf_meaning::value::value_of;
 use zf_term::resolved::Resolved;
-use zf_value::value::Outcome;
-use zf_value::value::Value;
+use zf_value::value::{Outcome, Value};
 use zf_walk::{Picked, Range};
 
 /// Gathers the places of the next range at which a value of an expression stands, over all values of the components that it uses behind. Answers false where it is out, or where these are too many to pay.

@@ -58,9 +58,7 @@ fn range_at<'a>(
     ensures refused { IfErr result (IsOutBy (environment_of env.now) (comp_of component.now) place) }
 {
     match values_with(alloc, component.domains.get().as_slice(), held, env) {
-        Ok(values) => Ok(Range {
-            values,
-        }),
+        Ok(values) => Ok(Range { values }),
         Err(Lack::Out) => Err(StartFault::DeclaredOut(place)),
         Err(Lack::OutOfMemory) => Err(StartFault::OutOfMemory),
     }

@@ -103,7 +103,13 @@ fn are_each_of(ztypes: &[ZType<'_>], values: &[Value], env: &Env<'_, '_>) -> boo
 fn is_number(value: &Value) -> bool
     ensures { IsTrue result ↔ IsNumberHere value.now }
 {
-    value.number().is_some()
+    match value.number() {
+        Some(number) => {
+            let _number = number;
+            true
+        }
+        None => false,
+    }
 }
 
 fn is_element(value: &Value, name: &[u8], env: &Env<'_, '_>) -> bool

@@ -56,7 +56,7 @@ impl<'e, 'g, 'a> Judge<Value> for Property<'e, 'g, 'a> {
 
     #[tactic(auto, using(crate::proofs::Judging::has_truth))]
     fn judge<R: Row<Value>>(&self, conjunct: usize, row: &R) -> Result<Truth, AllocError> {
-            let shown = Shown { row };
+        let shown = Shown { row };
         let truth = truth_of(&self.conjuncts[conjunct], &shown, self.env)?;
         Ok(walked(truth))
     }
