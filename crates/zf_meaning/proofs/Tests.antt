@@ -65,8 +65,8 @@ there (Product sets) u h = set-there _ h.0 h.1 h.2
 
 -- ---- what is not out
 
-pub not_out : {d : Described} {b : Bool} → IsTrue b ⊎ IsWithin d → b ≡ false → IsWithin d
-not_out {d} {b} h e = ⊎_elim (λ t. absurd (false≢true (sym e ∙ t))) (λ w. w) h
+pub not_out : (d : Described) (b : Bool) → IsTrue b ⊎ IsWithin d → b ≡ false → IsWithin d
+not_out d b h e = ⊎_elim (λ t. absurd (false≢true (sym e ∙ t))) (λ w. w) h
 
 within-by : (d : Described) (b : Bool) → IsTrue b ↔ IsDescribed d Out → (o : Outcome) → IsDescribed d o → IsTrue b ⊎ IsWithin d
 within-by d true h o p = inl refl

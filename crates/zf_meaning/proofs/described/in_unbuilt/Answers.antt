@@ -10,18 +10,18 @@ returns-then-is_out c = out-in (IsDescribed c.args.set.now) c.args.relation (fou
 pub returns-in-Out : goal.returns-in-Out
 returns-in-Out c =
     subst (λ x. IsTruthIn (IsDescribed c.args.set.now) c.args.relation x truth.Out) (sym (ap found_outcome c.in-Out.is))
-    (lost-unbuilt c.args.set.now c.args.relation c.requires.unbuilt (not_out c.is_out.ensures.within c.if-is_out.false))
+    (lost-unbuilt c.args.set.now c.args.relation c.requires.unbuilt (not_out _ _ c.is_out.ensures.within c.if-is_out.false))
 
 pub returns-in-Undefined : goal.returns-in-Undefined
 returns-in-Undefined c =
     subst (λ x. IsTruthIn (IsDescribed c.args.set.now) c.args.relation x truth.False) (sym (ap found_outcome c.in-Undefined.is))
-    (undefined-unbuilt c.args.set.now c.args.relation c.requires.unbuilt (not_out c.is_out.ensures.within c.if-is_out.false))
+    (undefined-unbuilt c.args.set.now c.args.relation c.requires.unbuilt (not_out _ _ c.is_out.ensures.within c.if-is_out.false))
 
 pub returns-in-Is : goal.returns-in-Is
 returns-in-Is c =
-    let told = value-unbuilt c.args.set.now c.args.relation c.get.result.now c.has.result c.requires.relation c.requires.unbuilt (not_out c.is_out.ensures.within c.if-is_out.false) c.has.ensures in
+    let told = value-unbuilt c.args.set.now c.args.relation c.get.result.now c.has.result c.requires.relation c.requires.unbuilt (not_out _ _ c.is_out.ensures.within c.if-is_out.false) c.has.ensures in
     subst (λ x. IsTruthIn (IsDescribed c.args.set.now) c.args.relation x c.told.result) (ap outcome.Is c.get.ensures ∙ sym (ap found_outcome c.in-Is.is))
     (subst (IsTruthIn (IsDescribed c.args.set.now) c.args.relation (outcome.Is c.get.result.now)) (sym c.told.ensures) told)
 
 pub has-requires : goal.has-requires
-has-requires c = not_out c.is_out.ensures.within c.if-is_out.false
+has-requires c = not_out _ _ c.is_out.ensures.within c.if-is_out.false

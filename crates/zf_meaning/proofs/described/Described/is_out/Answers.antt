@@ -1,4 +1,5 @@
-use Rattle.zf_meaning.proofs.Prelude.{found_outcome}
+use Rattle.zf_meaning.proofs.Prelude.{◌↔◌, rules, w64, IsTrue, FitsSigned, IsInterval, Out}
+use Rattle.zf_meaning.proofs.Numeric.{written-both}
 use Rattle.zf_meaning.proofs.Tests.{plain-within, power-within, arrows-within, interval-within, product-within}
 use Rattle.zf_meaning.proofs.described.Described.is_out.Goals as goal
 
@@ -15,8 +16,9 @@ returns-in-Arrows-clause-within c =
 
 pub returns-in-Interval-clause-within : goal.returns-in-Interval-clause-within
 returns-in-Interval-clause-within c =
-    let i = c.in-Interval in
-    interval-within c.args.self.now i.from i.to c.is_interval_out.result i.is c.is_interval_out.ensures
+    let f : FitsSigned w64 c.in-Interval.from = search rules in
+    let g : FitsSigned w64 c.in-Interval.to = search rules in
+    interval-within c.args.self.now c.in-Interval.from c.in-Interval.to c.is_interval_out.result c.in-Interval.is (written-both (λ x y. IsTrue c.is_interval_out.result ↔ IsInterval x y Out) c.in-Interval.from c.in-Interval.to f g c.is_interval_out.ensures)
 
 pub returns-in-Product-clause-within : goal.returns-in-Product-clause-within
 returns-in-Product-clause-within c =
