@@ -2,7 +2,7 @@
 use Rattle.zf_enum.proofs.Prelude.{◌+◌, ◌<◌, ◌↔◌, ◌∙◌, ◌∷◌, ◌≡◌, ◌≤◌, [], add-one, ap, arith, Bool, drop, false, get_or, length, List, map, refl, subst, suc, sym, zero, ℕ, false≢true, IsTrue, members-SetOf, parts-Tuple, Every, members, parts, SetOf, Tuple, Value, power, product, Ty, type_of, types, Tys, Environment, AreOfTypes, IsOfType, IsAscending}
 use Rattle.zf_term.specs.declared.ztype.ZType.{ZType}
 use Rattle.zf_enum.specs.OfTypes.{AreAllOf}
-use Rattle.std.proofs.Common.{ℤ, Option, Some, None, true, false, IsTrue, w64}
+use Rattle.std.proofs.Common.{ℤ, Option, Some, None, true, w64}
 use Rattle.std.specs.Prelude.{FitsSigned}
 use Rattle.zf_value.specs.Numbers.{number_of}
 use Rattle.zf_value.specs.declared.plain.Value.{Elem}
