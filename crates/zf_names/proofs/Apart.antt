@@ -17,7 +17,7 @@ has_last : (g : List Defined) (d : Defined) → Has (g ++ d ∷ []) d.name
 has_last [] d = inl refl
 has_last (e ∷ g) d = inr (has_last g d)
 
-none_later : (o : Option (ℕ × Defined)) → later o ≡ None → o ≡ None
+pub none_later : {A : Type 0} (o : Option (ℕ × A)) → later o ≡ None → o ≡ None
 none_later None h = refl
 none_later (Some p) h = absurd (none-some (p.0 + 1, p.1) (sym h))
 

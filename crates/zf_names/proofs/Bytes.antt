@@ -45,7 +45,7 @@ strokes_named =
       two = λ b c h. (byte_named b 95 refl (and_left (b == 95) (is_digit c) h), digit_named c (and_right (b == 95) (is_digit c) h));
     }
 
-both_true : (a b : Bool) → a ≡ true → b ≡ true → (a && b) ≡ true
+pub both_true : (a b : Bool) → a ≡ true → b ≡ true → (a && b) ≡ true
 both_true true b h g = g
 both_true false b h g = h
 

@@ -1,5 +1,5 @@
--- The types of a text, at sizes of its given sets, have clear spellings.
-use Rattle.zf_names.proofs.Prelude.{◌++◌, ◌+◌, ◌<◌, ◌^◌, ◌∙◌, ◌∷◌, ◌≡◌, [], ap, arith, drop, drop-cons, length, List, refl, slice_get, Some, subst, suc, sym, take, zero, ℕ, none-some, same_Some, abbreviation, constructor, Defined, Definition, free_type, given_set, schema, IsClear}
+-- The types of a text, at sizes of its given sets, have clear spellings, and the components of its schemas clear names.
+use Rattle.zf_names.proofs.Prelude.{◌++◌, ◌+◌, ◌<◌, ◌^◌, ◌∙◌, ◌∷◌, ◌≡◌, [], ap, arith, Bool, drop, false, None, Option, refl, true, if◌then◌else◌, bytes_eq, drop-cons, length, List, slice_get, Some, subst, suc, sym, take, zero, ℕ, none-some, same_Some, abbreviation, constructor, Defined, Definition, free_type, given_set, schema, IsClear}
 use Rattle.std.proofs.lemmas.List.{take-append-drop}
 use Rattle.std.proofs.lemmas.List.Sums.{sum_by-cons}
 use Rattle.zf_term.specs.Numbers.{has_elements, next_number}
@@ -8,8 +8,14 @@ use Rattle.zf_meaning.specs.Sizes.{given_sets, AreComplete, IsStated, AddsSize, 
 use Rattle.zf_texts.specs.declared.spelling.Spelling.{Spelling}
 use Rattle.zf_texts.specs.declared.spelling.Spelling.TheVariants.{Numbered, Named}
 use Rattle.zf_texts.specs.Spellings.{with_spelling, spellings}
-use Rattle.zf_names.specs.Laws.{GlobalsAreClear}
-use Rattle.zf_names.proofs.Named.{IsTypeNamed, AreTypesNamed, types_named}
+use Rattle.zf_names.specs.Laws.{ComponentsAreClear, EachLineIsHeld, GlobalsAreClear}
+use Rattle.zf_term.specs.Definitions.{Schema}
+use Rattle.zf_term.specs.FirstNamed.{first_named, later}
+use Rattle.zf_schema.specs.SchemaLaws.{HasCompsOnce, HaveCompsOnce}
+use Rattle.zf_schema.proofs.Globals.{names_once}
+use Rattle.zf_texts.proofs.Chosen.{line_is_held}
+use Rattle.zf_names.proofs.Components.{once_apart}
+use Rattle.zf_names.proofs.Named.{IsNamed, AreNamed, found_named, globals_named}
 
 -- ---- the stated sizes
 
@@ -41,7 +47,7 @@ abbrev AreSmall : List Size → Type 0
 AreSmall stated = (name : List ℕ) (count : ℕ) → IsStated stated name count → count < 2 ^ 64
 
 type_told :
-    (stated : List Size) → AreSmall stated → (name : List ℕ) (d : Definition) (R : List ℕ → Type 0) (ss : List Spelling) (total : ℕ) → IsTypeNamed name d
+    (stated : List Size) → AreSmall stated → (name : List ℕ) (d : Definition) (R : List ℕ → Type 0) (ss : List Spelling) (total : ℕ) → IsNamed name d
     → ((later : List ℕ) → R later → IsTold ss total later) → (ks : List ℕ) → AddsSize stated name d R ks → IsTold (with_spelling name d ss) (has_elements d + total) ks
 type_told stated small name (given_set n) R ss total named more ks p = one_told (Numbered name) p.0 ss total ks p.1 (named, small name p.0 p.2) (more p.1 p.3) p.4
 type_told stated small name (free_type n names) R ss total named more ks p =
@@ -50,17 +56,38 @@ type_told stated small name (constructor n of_type place) R ss total named more 
 type_told stated small name (abbreviation t r x) R ss total named more ks p = let told = more ks p in (told.0, omega (arith, told.1))
 type_told stated small name (schema a) R ss total named more ks p = let told = more ks p in (told.0, omega (arith, told.1))
 
-types_told : (stated : List Size) → AreSmall stated → (g : List Defined) (ks : List ℕ) → AreTypesNamed g → AreSizes stated g ks → IsTold (spellings g) (next_number g) ks
+types_told : (stated : List Size) → AreSmall stated → (g : List Defined) (ks : List ℕ) → AreNamed g → AreSizes stated g ks → IsTold (spellings g) (next_number g) ks
 types_told stated small [] ks named p = (λ n k at. absurd (none-some k (ap (λ ks. slice_get ks n) (sym p) ∙ at)), ap length p)
 types_told stated small (d ∷ g) ks named p =
     let sum = sum_by-cons (λ (x : Defined). has_elements x.definition) d g in
     let told = type_told stated small d.name d.definition (λ later. AreSizes stated g later) (spellings g) (next_number g) named.0 (λ later q. types_told stated small g later named.1 q) ks p in
     (told.0, told.1 ∙ sym sum)
 
--- ---- the law
+-- ---- the laws
 
 pub globals_clear : GlobalsAreClear
 globals_clear boxes source globals faults stated e reads checked complete environment =
-    let named = types_named boxes source globals faults reads checked in
+    let named = globals_named boxes source globals faults reads checked in
     let told = types_told stated (stated_small (given_sets globals) stated complete) globals e.sizes named.0 environment.1 in
     record { numbers = omega (arith, named.1, told.1, reads.1.short); spelled = told.0 }
+
+-- what holds of all holds of the schema that is found
+found_once : (x y : List ℕ) (i : ℕ) (a : Schema) (g : List Defined) → HaveCompsOnce g → first_named (λ d. d.name) x g ≡ Some (i, record { name = y; definition = schema a }) → HasCompsOnce (schema a)
+found_once x y i a [] all e = absurd (none-some _ e)
+found_once x y i a (d ∷ g) all e = by (bytes_eq d.name x) (first_named (λ d. d.name) x g) (λ j. found_once x y j a g all.1) e
+  where
+    by :
+        (t : Bool) (o : Option (ℕ × Defined)) → ((j : ℕ) → o ≡ Some (j, record { name = y; definition = schema a }) → HasCompsOnce (schema a))
+        → (if t then Some (0, d) else later o) ≡ Some (i, record { name = y; definition = schema a }) → HasCompsOnce (schema a)
+    by true o rest e = subst (λ q. HasCompsOnce q.1.definition) (same_Some (0, d) _ e) all.0
+    by false None rest e = absurd (none-some _ e)
+    by false (Some q) rest e = rest q.0 (ap (λ r. Some (q.0, r.1)) (same_Some (q.0 + 1, q.1) _ e))
+
+pub components_clear : ComponentsAreClear
+components_clear source globals a s =
+    let named = globals_named s.boxes source globals s.faults s.reads s.checked in
+    let once = found_once s.name s.name s.place a globals (names_once s.boxes globals s.faults s.checked).1 s.there in
+    (found_named s.name globals (s.place, record { name = s.name; definition = schema a }) named.0 s.there, once_apart a.comps once)
+
+pub lines_held : EachLineIsHeld
+lines_held source globals a e text held s line = line_is_held (spellings globals) e a.comps text held (components_clear source globals a s) line

@@ -47,7 +47,7 @@ marked_behind Plain n ts us h = name_behind {n = n} h
 marked_behind Delta n ts us h = then (next_behind {kind = k.Delta} h.1) (name_behind {n = n} h.2)
 marked_behind Xi n ts us h = then (next_behind {kind = k.Xi} h.1) (name_behind {n = n} h.2)
 
-decl_behind : (d : DeclTree) (ts us : List Symbol) → SpellsDecl d ts us → Behind ts us
+pub decl_behind : (d : DeclTree) (ts us : List Symbol) → SpellsDecl d ts us → Behind ts us
 decl_behind (vars ns t) ts us h = then (names_behind ns h.2) (then (next_behind {kind = k.Colon} h.3) (term_behind t h.4))
 decl_behind (include r) ts us h = marked_behind r.mark r.name ts us h
 

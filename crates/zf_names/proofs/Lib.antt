@@ -5,5 +5,6 @@ pub mod Tokens
 pub mod Fronts
 pub mod Spelled
 pub mod Apart
+pub mod Components
 pub mod Named
 pub mod Clear

@@ -1,6 +1,6 @@
 -- A line of some components is the line of a schema with these alone; where names are clear each such line is one.
-use Rattle.zf_texts.proofs.Prelude.{append_assoc, Value, Comp, Environment, IsOfType, IsRow, component_text, component_texts, AreApart, AreNames, Ends, IsName, IsNoneOf, HaveClearNames, held_comps, held_values, HoldNext, IsHeldLine, IsLineOfSome, goes_on, later_parts, separator, value_text, Spelling}
-use Rattle.std.proofs.Common.{◌≡◌, ℕ, zero, suc, ◌+◌, ◌<◌, List, [], ◌∷◌, ◌++◌, length, map, Option, Some, None, refl, sym, ap, ◌∙◌, subst, arith, codes, length-append}
+use Rattle.zf_texts.proofs.Prelude.{Value, Comp, Environment, IsOfType, IsRow, component_text, component_texts, AreApart, AreNames, Ends, IsName, IsNoneOf, held_comps, held_values, HoldNext, goes_on, later_parts, separator, value_text, Spelling}
+use Rattle.std.proofs.Common.{◌≡◌, ℕ, suc, ◌+◌, List, [], ◌∷◌, ◌++◌, length, map, Option, Some, None, refl, sym, ap, ◌∙◌, subst, arith, codes, length-append}
 use Rattle.zf_texts.specs.Laws.{HeldIsLine, LineIsHeld, OneHeldLine}
 use Rattle.zf_texts.proofs.HeldSoFar.{component_parts}
 use Rattle.zf_texts.proofs.OneHeld.{one_next}

@@ -1,5 +1,5 @@
 -- What is read so far of a line of some components: each is named next or not, and holds a value where it is.
-use Rattle.zf_texts.proofs.Prelude.{◌++◌, ◌+◌, ◌-◌, ◌<◌, ◌∙◌, ◌∷◌, ◌≡◌, ◌≤◌, [], ap, arith, Bool, codes, drop, false, get_or, length, List, map, None, Option, refl, Some, subst, suc, sym, take, true, ℕ, append-nil, append_assoc, length-drop, take_all, MatchBool, slice_get, Value, Comp, comp_of, Component, Environment, IsOfType, component_text, AreClear, Ends, is_in_word, HoldNext, IsHeldLine, IsNamedNext, IsNoHeldLine, BeginsWithName, EndsAs, HoldsIfNamed, IsComponentAt, IsHeldAt, IsItem, IsNamedAt, BeginsWithoutName, GoesOn, HoldsNothing, IsNoComponent, IsNoItem, IsNotNamed, separator, value_text, Spelling}
+use Rattle.zf_texts.proofs.Prelude.{◌++◌, ◌+◌, ◌-◌, ◌<◌, ◌∙◌, ◌∷◌, ◌≡◌, ◌≤◌, [], ap, arith, Bool, codes, drop, false, get_or, length, List, map, None, Option, refl, Some, subst, suc, sym, take, true, ℕ, append-nil, append_assoc, length-drop, take_all, MatchBool, slice_get, Value, Comp, comp_of, Component, Environment, IsOfType, component_text, AreClear, Ends, is_in_word, HoldNext, IsHeldLine, IsNamedNext, IsNoHeldLine, BeginsWithName, EndsAs, HoldsIfNamed, IsHeldAt, IsNamedAt, BeginsWithoutName, GoesOn, HoldsNothing, IsNoComponent, IsNoItem, IsNotNamed, separator, value_text, Spelling}
 use Rattle.std.proofs.lemmas.Option.{same_Some}
 use Rattle.zf_texts.proofs.OneFront.{ends_as}
 use Rattle.zf_texts.proofs.OneRow.{one_component}

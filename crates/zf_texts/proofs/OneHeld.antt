@@ -1,5 +1,5 @@
 -- A line of some components holds one list of values.
-use Rattle.zf_texts.proofs.Prelude.{◌++◌, ◌+◌, ◌∙◌, ◌∷◌, ◌≡◌, [], ap, ap₂, List, None, Option, refl, Some, subst, sym, ℕ, Value, Comp, Environment, AreClear, HoldNext, separator, Spelling}
+use Rattle.zf_texts.proofs.Prelude.{◌+◌, ◌∙◌, ◌∷◌, ◌≡◌, [], ap, ap₂, List, None, Option, refl, Some, subst, sym, ℕ, Value, Comp, Environment, AreClear, HoldNext, separator, Spelling}
 use Rattle.zf_texts.proofs.HeldSoFar.{ends_more, told_named}
 use Rattle.zf_texts.proofs.OneRow.{one_component}
 use Rattle.zf_texts.proofs.Spelled.{cancel}

@@ -1,6 +1,6 @@
 -- What is still to be printed of several parts.
 use Rattle.zf_texts.proofs.Prelude.{drop_more, slice_get, Value, Comp, comp_of, Defined, Component, component_text, component_texts, spellings, with_spelling, goes_on, later_parts, separator, Spelling}
-use Rattle.std.proofs.Common.{◌≡◌, ℕ, zero, suc, ◌+◌, ◌<◌, ◌≤◌, List, [], ◌∷◌, ◌++◌, length, map, drop, get_or, refl, sym, ap, ◌∙◌, arith, Some, None, append_assoc, append-nil, add-one, Result, Ok, Err, OnOk, is_ok, if◌then◌else◌}
+use Rattle.std.proofs.Common.{◌≡◌, ℕ, zero, suc, ◌+◌, ◌<◌, ◌≤◌, List, [], ◌∷◌, ◌++◌, length, map, drop, get_or, refl, sym, ap, ◌∙◌, arith, Some, None, append_assoc, append-nil, add-one}
 
 pub goes_on-nil : (n : ℕ) → goes_on n [] ≡ []
 goes_on-nil zero = refl
@@ -80,10 +80,8 @@ drop-end zero (x ∷ xs) l = absurd (omega arith)
 drop-end (suc n) [] l = refl
 drop-end (suc n) (x ∷ xs) l = drop-end n xs (omega arith)
 
-pub finished : {T E : Type 0} (r : Result T E) (text new closing whole other : List ℕ) (n : ℕ) (ts : List (List ℕ)) → ts ≡ [] → text ++ (goes_on n ts ++ closing) ≡ whole → new ≡ (if is_ok r then text ++ closing else other) → OnOk r (new ≡ whole)
-finished (Err e) text new closing whole other n ts none h i = tt
-finished (Ok x) text new closing whole other n ts none h i =
-    i ∙ ap (λ l. text ++ (l ++ closing)) (sym (ap (goes_on n) none ∙ goes_on-nil n)) ∙ h
+pub closed : (text new closing whole : List ℕ) (n : ℕ) (ts : List (List ℕ)) → ts ≡ [] → text ++ (goes_on n ts ++ closing) ≡ whole → new ≡ text ++ closing → new ≡ whole
+closed text new closing whole n ts none h e = e ∙ ap (λ l. text ++ (l ++ closing)) (sym (ap (goes_on n) none ∙ goes_on-nil n)) ∙ h
 
 pub line-ended : (text whole : List ℕ) (n : ℕ) (ts : List (List ℕ)) → ts ≡ [] → text ++ goes_on n ts ≡ whole → text ≡ whole
 line-ended text whole n ts none h =

@@ -1,6 +1,6 @@
 //! Values and bindings as they are printed.
-ghost use Rattle.std.specs.Prelude.{◌≡◌, ◌++◌, ℕ, IfOk, OnOk, codes, map};
-ghost use Rattle.std.specs.Fmt.{signed_decimal};
+ghost use Rattle.std.specs.Prelude.{◌≡◌, ◌<◌, ◌∷◌, ◌++◌, [], ℕ, IfOk, OnOk, codes, map};
+ghost use Rattle.std.specs.Fmt.{decimal, signed_decimal};
 ghost use Rattle.zf_term.specs.Definitions.{comp_of, schema_of};
 ghost use Rattle.zf_texts.specs.BindingTexts as spec;
 ghost use Rattle.zf_texts.specs.Spellings.{spelled, spelled_if, element_text};
@@ -67,7 +67,9 @@ fn append_separator(text: &mut Vec<u8>, count: usize) -> Result<(), AllocError>
     if count == 0 {
         return Ok(());
     }
-    text.extend_from_slice(b", ")
+    text.push(b',')?;
+    text.push(b' ')?;
+    Ok(())
 }
 
 /// Appends the text of a value. A refusal leaves a part of it.
@@ -83,8 +85,8 @@ pub fn append_value(
     match &value.form {
         Form::Int(n) => append_number(text, *n),
         Form::Elem(number, place) => append_element(text, spellings, *number, *place),
-        Form::Tuple(parts) => append_parts(text, spellings, b"(", parts.as_slice(), b")"),
-        Form::SetOf(members) => append_parts(text, spellings, b"{", members.as_slice(), b"}"),
+        Form::Tuple(parts) => append_parts(text, spellings, b'(', parts.as_slice(), b')'),
+        Form::SetOf(members) => append_parts(text, spellings, b'{', members.as_slice(), b'}'),
     }
 }
 
@@ -93,24 +95,37 @@ pub fn append_value(
 fn append_parts(
     text: &mut Vec<u8>,
     spellings: &[Spelling],
-    opening: &[u8],
+    opening: u8,
     parts: &[Value],
-    closing: &[u8],
+    closing: u8,
 ) -> Result<(), AllocError>
-    ensures { OnOk result (text.new.items ≡ text.old.items ++ (opening.now ++ parted (map (value_text spellings.now) parts.now) ++ closing.now)) }
+    ensures { OnOk result (text.new.items ≡ text.old.items ++ (opening ∷ parted (map (value_text spellings.now) parts.now) ++ closing ∷ [])) }
 {
-    text.extend_from_slice(opening)?;
+    text.push(opening)?;
     for place in 0..parts.len() {
         append_separator(text, place)?;
         append_value(text, spellings, &parts[place])?;
     }
-    text.extend_from_slice(closing)
+    text.push(closing)?;
+    Ok(())
 }
 
 fn append_number(text: &mut Vec<u8>, number: i64) -> Result<(), AllocError>
     ensures { OnOk result (text.new.items ≡ text.old.items ++ signed_decimal number) }
 {
+    if (0..10).contains(&number) {
+        return append_digit(text, number as u8);
+    }
     text.extend_from_slice(Buffer::new().format(number).as_bytes())
+}
+
+/// Appends a number of one digit.
+fn append_digit(text: &mut Vec<u8>, digit: u8) -> Result<(), AllocError>
+    requires { digit < 10 }
+    ensures { OnOk result (text.new.items ≡ text.old.items ++ decimal digit) }
+{
+    text.push(b'0' + digit)?;
+    Ok(())
 }
 
 fn append_element(

@@ -1,5 +1,5 @@
-use Rattle.zf_texts.proofs.Prelude.{◌++◌, ◌∙◌, ap, arith, map, sym, goes_on, parted, value_text}
-use Rattle.zf_texts.proofs.Printing.{begun, map-drop, drop-end, ahead-more, finished}
+use Rattle.zf_texts.proofs.Prelude.{◌++◌, ◌∙◌, ◌∷◌, [], ap, arith, map, sym, goes_on, parted, value_text}
+use Rattle.zf_texts.proofs.Printing.{begun, map-drop, drop-end, ahead-more, closed}
 use Rattle.std.proofs.Common.{rules}
 use Rattle.zf_value.specs.Forms.{value_of}
 use Rattle.zf_value.proofs.Measures.{tuple_falls, set_falls}
@@ -7,18 +7,18 @@ use Rattle.zf_texts.proofs.TextsSeen.{of-Int, of-Elem, of-Tuple, of-SetOf}
 use Rattle.zf_texts.proofs.printed.+append.Goals as goal
 
 pub append_parts-loop-place-init : goal.append_parts-loop-place-init
-append_parts-loop-place-init t c = begun c.args.text.now.items c.args.opening.now (parted (map (value_text c.args.spellings.now) c.args.parts.now)) c.args.closing.now _ c.in_ok-extend_from_slice.ensures.items
+append_parts-loop-place-init t c = begun c.args.text.now.items (c.args.opening ∷ []) (parted (map (value_text c.args.spellings.now) c.args.parts.now)) (c.args.closing ∷ []) _ c.in_ok-push.ensures.items
 
 pub append_parts-loop-place-preserved : goal.append_parts-loop-place-preserved
 append_parts-loop-place-preserved t c =
     let next = map-drop (value_text c.args.spellings.now) c.args.parts.now c.loop-place.place c.index-parts-place.result c.index-parts-place.is (omega arith) in
-    let ahead = ap (λ l. c.loop-place.text.items ++ (goes_on c.loop-place.place l ++ c.args.closing.now)) (sym next) ∙ c.loop-place.invariant in
-    ahead-more c.loop-place.text.items c.append_separator.new.text.items c.append_value.new.text.items c.args.closing.now _ _ c.loop-place.place _ ahead c.in_ok-append_separator.ensures c.in_ok-append_value.ensures
+    let ahead = ap (λ l. c.loop-place.text.items ++ (goes_on c.loop-place.place l ++ (c.args.closing ∷ []))) (sym next) ∙ c.loop-place.invariant in
+    ahead-more c.loop-place.text.items c.append_separator.new.text.items c.append_value.new.text.items (c.args.closing ∷ []) _ _ c.loop-place.place _ ahead c.in_ok-append_separator.ensures c.in_ok-append_value.ensures
 
 pub append_parts-returns : goal.append_parts-returns
 append_parts-returns t c =
     let none = ap (map (value_text c.args.spellings.now)) (drop-end c.loop-place.place c.args.parts.now (omega arith)) in
-    finished c.extend_from_slice-2.result c.loop-place.text.items _ c.args.closing.now _ _ c.loop-place.place _ none c.loop-place.invariant c.extend_from_slice-2.ensures.items
+    closed c.loop-place.text.items _ (c.args.closing ∷ []) _ c.loop-place.place _ none c.loop-place.invariant c.in_ok-push-2.ensures.items
 
 pub append_value-append_parts-requires : goal.append_value-append_parts-requires
 append_value-append_parts-requires t c = let f = tuple_falls _ _ _ _ c.value.view_is c.in-Tuple.is c.as_slice.ensures in search (rules, f)
