@@ -1,24 +1,7 @@
 -- A schema that has grown is within the limits only if it was before.
 use Rattle.zf_calculus.proofs.Prelude.{◌++◌, ◌+◌, ◌<◌, ◌∷◌, ◌≡◌, ◌≤◌, [], arith, length, length-append, List, ℕ, sum_by-append, sum_by_push, AllByRecursion, sum_by, Comp, Schema, ResolvedTree, set_count, set_nodes, height, nodes, constrained, grown, HasLeft, all_nodes, IsLow, IsWithin}
-use Rattle.zf_calculus.specs.Calculus.{schema_of, with_comp, with_comps}
-use Rattle.zf_calculus.proofs.Merging.{counts_more, no_shorter}
-
-pub before_one : (cs : List Comp) (c : Comp) (ts : List ResolvedTree) → IsWithin (schema_of (with_comp cs c) ts) → IsWithin (schema_of cs ts)
-before_one cs c ts w =
-    let l = no_shorter cs c in
-    let s = counts_more set_count cs c in
-    let n = counts_more set_nodes cs c in
-    record {
-      comps = omega arith;
-      sets = omega arith;
-      conjuncts = w.conjuncts;
-      nodes = omega arith;
-      low = w.low;
-    }
-
-pub before_all : (cs ds : List Comp) (ts : List ResolvedTree) → IsWithin (schema_of (with_comps cs ds) ts) → IsWithin (schema_of cs ts)
-before_all cs [] ts w = w
-before_all cs (d ∷ ds) ts w = before_one cs d ts (before_all (with_comp cs d) ds ts w)
+use Rattle.zf_calculus.specs.Calculus.{schema_of, with_comp}
+use Rattle.zf_calculus.proofs.Merging.{counts_more}
 
 first_low : (ts us : List ResolvedTree) → AllByRecursion IsLow (ts ++ us) → AllByRecursion IsLow ts
 first_low [] us h = tt

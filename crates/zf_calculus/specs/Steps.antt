@@ -4,7 +4,7 @@ use Rattle.zf_term.specs.declared.fault.TypeFaultKind.{TypeFaultKind}
 use Rattle.zf_term.specs.declared.fault.TypeFaultKind.TheVariants.{ComponentClash, TooLarge}
 use Rattle.zf_term.specs.Definitions.{Comp, Schema}
 use Rattle.zf_calculus.specs.Calculus.{schema_of, Agrees, Agree, with_comp, conjoined}
-use Rattle.zf_calculus.specs.Limits.{IsWithin}
+use Rattle.zf_term.specs.Limits.{IsWithin}
 
 -- the schema after one more, well typed and within the limits
 abbrev pub IsNext : Schema → Schema → Type 0

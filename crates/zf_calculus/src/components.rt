@@ -1,13 +1,13 @@
 //! Components of a schema: which has a name, which agree, and one more.
 ghost use Rattle.std.specs.Prelude.{◌≡◌, ◌++◌, ◌∷◌, [], ◌<◌, ◌≤◌, ◌↔◌, IsTrue, IfErr, IfOk, OnOk, MatchOption, Some, None, map, length, slice_index_or, slice_set};
-ghost use Rattle.zf_term.specs.declared.globals.Component.{Component};
+ghost use Rattle.zf_term.specs.declared.schema.Component.{Component};
 ghost use Rattle.zf_term.specs.Definitions.{Comp, comp_of};
 ghost use Rattle.zf_reference.specs.Numbering.{place_in};
 ghost use Rattle.zf_term.specs.declared.fault.TypeFaultKind.TheVariants as kinds;
 ghost use Rattle.zf_calculus.specs.Calculus as spec;
 ghost use Rattle.zf_calculus.specs.Calculus.{Agrees, Agree, comp_named, new_place, with_comp, with_comps, AreOnce};
 ghost use Rattle.zf_calculus.specs.Growth.{AreAt, IfStopped, enriched, place_named};
-ghost use Rattle.zf_calculus.specs.Limits.{AreFew, components_max};
+ghost use Rattle.zf_term.specs.Limits.{AreFew, components_max};
 
 use crate::limits::COMPONENTS_MAX;
 use crate::stop::Stop;
@@ -16,8 +16,8 @@ use std::alloc::AllocError;
 use std::mem;
 use std::mem::ManuallyDrop;
 use zf_data::arena::{Items, Shared};
-use zf_term::globals::{Component, Domain, Domains};
 use zf_term::named::component_of;
+use zf_term::schema::{Component, Domain, Domains};
 
 /// Whether none of the others has another type than the component that has its name.
 pub fn agree<'a>(components: &[Component<'a>], others: &[Component<'a>]) -> bool

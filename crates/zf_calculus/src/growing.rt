@@ -7,7 +7,7 @@ ghost use Rattle.zf_term.specs.Shapes.{moved, numbering};
 ghost use Rattle.zf_calculus.specs.Calculus.{Agree, Agrees, conjoined, new_place, nothing};
 ghost use Rattle.zf_calculus.specs.Steps.{Adds, Includes, IsNext, Stops};
 ghost use Rattle.zf_calculus.specs.Growth.{HasLeftBeside, IsGrowing, IfStopped, IsTooLarge, constrained, equalities, equality, grown};
-ghost use Rattle.zf_calculus.specs.Limits.{IsWithin};
+ghost use Rattle.zf_term.specs.Limits.{IsWithin};
 
 use crate::components::{agree, agrees, are_apart, join, join_all};
 use crate::limits::{COMPONENTS_MAX, CONJUNCTS_MAX, NODES_MAX, SETS_MAX};
@@ -22,8 +22,9 @@ use zf_data::arena::{Boxed, Items, Lasting};
 use zf_reference::reference::Reference;
 use zf_shape::conjunct::room_after;
 use zf_term::conjunct::Conjunct;
-use zf_term::globals::{Component, Flat};
+use zf_term::measured::{Left, Measured};
 use zf_term::resolved::{Resolved, ResolvedLink};
+use zf_term::schema::{Component, Flat};
 use zf_tree::symbol::Relation;
 
 /// A schema, with what is left of the limits, so that each step costs only what it adds.
@@ -73,6 +74,18 @@ impl<'a> Growing<'a> {
             sets_left,
             nodes_left,
         })
+    }
+
+    /// The schema, as it is kept.
+    pub fn measured(self) -> Measured<'a>
+        requires { IsGrowing self }
+        ensures { result ≡ self.entry.flat }
+    {
+        let left = Left {
+            sets: self.sets_left,
+            nodes: self.nodes_left,
+        };
+        Measured::of(self.flat, left)
     }
 
     /// One more component.
@@ -233,7 +246,7 @@ impl<'a> Growing<'a> {
 }
 
 /// Further conjuncts, whose components are at these places.
-fn take_moved<'a>(
+pub fn take_moved<'a>(
     conjuncts: &mut Items<'a, Conjunct<'a>>,
     arena: &'a Bump,
     further: Items<'a, Conjunct<'a>>,

@@ -1,9 +1,11 @@
 pub mod Types
 pub mod TypeTexts
 pub mod ResolvedTrees
-pub mod Definitions
 pub mod Shapes
+pub mod Schemas
 pub mod SetShapes
+pub mod Limits
+pub mod Definitions
 pub mod References
 pub mod Numbers
 pub mod FirstNamed
