@@ -15,7 +15,6 @@ ghost use Rattle.zf_term.specs.Limits.{AreFew};
 use crate::components::{agree, component_copies, join_all, new_places};
 use crate::growing::{Growing, take_moved};
 use crate::limits::COMPONENTS_MAX;
-use crate::room::none_too_high;
 use crate::stop::Stop;
 use bumpalo::Bump;
 use std::alloc::AllocError;
@@ -316,10 +315,6 @@ pub fn disjoin<'a>(
         right.components.as_slice(),
     )?;
     let flat = disjunction(arena, line, left, right, all.as_slice())?;
-    // Before its nodes are counted, which descends as far as it is high.
-    if !none_too_high(flat.conjuncts.as_slice()) {
-        return Err(Stop::TooLarge);
-    }
     within(flat)
 }
 

@@ -12,7 +12,8 @@ ghost use Rattle.zf_term.specs.Limits.{IsWithin};
 use crate::components::{agree, agrees, are_apart, join, join_all};
 use crate::limits::{COMPONENTS_MAX, CONJUNCTS_MAX, NODES_MAX, SETS_MAX};
 use crate::room::{
-    after_all_nodes, after_all_sets, after_conjuncts, after_nodes, after_sets, are_low, is_low,
+    after_all_nodes, after_all_sets, after_conjuncts, after_nodes, after_sets, is_low,
+    none_too_high,
 };
 use crate::spare::Spare;
 use crate::stop::Stop;
@@ -57,6 +58,10 @@ impl<'a> Growing<'a> {
     pub fn of(flat: Flat<'a>) -> Option<Growing<'a>>
         ensures { MatchOption result (IsWithin (schema_of flat.entry) → ⊥) (λ g. (schema_of g.flat ≡ schema_of flat.entry) × IsGrowing g) }
     {
+        // Before its nodes are counted, which descends as far as it is high.
+        if !none_too_high(flat.conjuncts.as_slice()) {
+            return None;
+        }
         if flat.components.len() > COMPONENTS_MAX {
             return None;
         }
@@ -66,9 +71,6 @@ impl<'a> Growing<'a> {
         let sets_left = after_all_sets(flat.components.as_slice(), SETS_MAX)?;
         let behind_sets = after_all_nodes(flat.components.as_slice(), NODES_MAX)?;
         let nodes_left = after_conjuncts(flat.conjuncts.as_slice(), behind_sets)?;
-        if !are_low(flat.conjuncts.as_slice(), behind_sets - nodes_left) {
-            return None;
-        }
         Some(Growing {
             flat,
             sets_left,

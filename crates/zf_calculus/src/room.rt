@@ -79,18 +79,7 @@ pub fn is_low(conjunct: &Conjunct<'_>, count: usize) -> bool
     conjunct::is_within(conjunct, HEIGHT_MAX)
 }
 
-/// Whether none of the conjuncts, which have so many nodes, is too high.
-pub fn are_low(conjuncts: &[Conjunct<'_>], count: usize) -> bool
-    requires { count ≡ sum_by nodes (map conjunct_of conjuncts.now) }
-    ensures { IsTrue result ↔ AllByRecursion IsLow (map conjunct_of conjuncts.now) }
-{
-    if count <= HEIGHT_MAX {
-        return true;
-    }
-    none_too_high(conjuncts)
-}
-
-/// Whether none of the conjuncts is too high, however many nodes they have. It descends no further than they may be high.
+/// Whether none of the conjuncts is too high. It descends no further than they may be high.
 pub fn none_too_high(conjuncts: &[Conjunct<'_>]) -> bool
     ensures { IsTrue result ↔ AllByRecursion IsLow (map conjunct_of conjuncts.now) }
 {
