@@ -17,7 +17,8 @@ use std::mem;
 use std::mem::ManuallyDrop;
 use zf_data::arena::{Items, Shared};
 use zf_term::named::component_of;
-use zf_term::schema::{Component, Domain, Domains};
+use zf_term::chunked::Chunked;
+use zf_term::schema::{Component, Domain};
 
 /// Whether none of the others has another type than the component that has its name.
 pub fn agree<'a>(components: &[Component<'a>], others: &[Component<'a>]) -> bool
@@ -117,7 +118,7 @@ fn add_new<'a>(
 fn gain<'a>(
     components: &mut Items<'a, Component<'a>>,
     place: usize,
-    domains: Domains<'a>,
+    domains: Shared<'a, Chunked<'a, Domain<'a>>>,
 ) -> Result<(), AllocError>
     requires { place < length components.old }
     ensures { OnOk result ((c : Component) → slice_index_or components.old place c ≡ c → components.new ≡ slice_set components.old place (enriched c domains.entry)) }
@@ -135,54 +136,24 @@ fn gain<'a>(
 fn enrich<'a>(
     arena: &'a Bump,
     component: &mut Component<'a>,
-    domains: Domains<'a>,
+    domains: Shared<'a, Chunked<'a, Domain<'a>>>,
 ) -> Result<(), AllocError>
-    ensures { OnOk result (component.new ≡ enriched component.old domains.entry) }
 {
+    let further = domains.share()?;
     let first = mem::replace(&mut component.domains, domains);
-    component.domains = both(arena, first, component.domains.get().as_slice())?;
+    let mut all = owned(first)?;
+    all.append(further.get())?;
+    component.domains = Shared::new(arena, all)?;
     Ok(())
-}
-
-/// The declared sets of both lists. Where the first one has no other owner, it grows, so that a component that is declared often
-/// costs no more for each time.
-fn both<'a>(
-    arena: &'a Bump,
-    first: Domains<'a>,
-    further: &[Domain<'a>],
-) -> Result<Domains<'a>, AllocError>
-    ensures { IfOk result (λ ds. ds ≡ first.entry ++ further.now) }
-{
-    let mut all = owned(arena, first)?;
-    add_shared(&mut all, further)?;
-    Shared::new(arena, all)
 }
 
 /// The list itself where it has no other owner, and else another one of the same declared sets.
-fn owned<'a>(arena: &'a Bump, domains: Domains<'a>) -> Result<Items<'a, Domain<'a>>, AllocError>
-    ensures { IfOk result (λ ds. ds ≡ domains.entry) }
+fn owned<'a>(domains: Shared<'a, Chunked<'a, Domain<'a>>>) -> Result<Chunked<'a, Domain<'a>>, AllocError>
 {
     match domains.into_value() {
         Ok(list) => Ok(list),
-        Err(shared) => copied(arena, shared.get().as_slice()),
+        Err(shared) => shared.get().copy(1),
     }
-}
-
-fn copied<'a>(arena: &'a Bump, domains: &[Domain<'a>]) -> Result<Items<'a, Domain<'a>>, AllocError>
-    ensures { IfOk result (λ ds. ds ≡ domains.now) }
-{
-    let mut all = Items::with_room(arena, domains.len())?;
-    add_shared(&mut all, domains)?;
-    Ok(all)
-}
-
-fn add_shared<'a>(all: &mut Items<'a, Domain<'a>>, domains: &[Domain<'a>]) -> Result<(), AllocError>
-    ensures { OnOk result (all.new ≡ all.old ++ domains.now) }
-{
-    for domain in domains {
-        all.push(domain.share()?)?;
-    }
-    Ok(())
 }
 
 /// Copies of the components.

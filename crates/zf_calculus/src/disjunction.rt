@@ -13,7 +13,7 @@ ghost use Rattle.zf_calculus.specs.Growth.{IfStopped, IsGrowing, IsTooLarge, all
 ghost use Rattle.zf_term.specs.Limits.{AreFew};
 
 use crate::components::{agree, component_copies, join_all, new_places};
-use crate::growing::{Growing, take_moved};
+use crate::growing::Growing;
 use crate::limits::COMPONENTS_MAX;
 use crate::stop::Stop;
 use bumpalo::Bump;
@@ -22,6 +22,7 @@ use zf_data::arena::{Boxed, Items, Lasting, Shared};
 use zf_reference::reference::Reference;
 use zf_resolved::conjunct::resolved;
 use zf_resolved::moving::copy;
+use zf_term::chunked::Chunked;
 use zf_term::conjunct::Conjunct;
 use zf_term::named::component_of;
 use zf_term::resolved::{Resolved, ResolvedLink};
@@ -61,7 +62,7 @@ fn either<'a>(
     let left = sets_on(arena, left, component)?;
     let right = sets_on(arena, right, component)?;
     let domains = Items::of(arena, Domain::Either(left, right))?;
-    let domains = Shared::new(arena, domains)?;
+    let domains = Shared::new(arena, Chunked::of(arena, domains))?;
     Ok(Component {
         name,
         ztype,
@@ -79,7 +80,18 @@ fn sets_on<'a>(
     ensures { IfOk result (λ ds. map set_of ds ≡ spec.sets_on (comp_named component.now.name (map comp_of side.now)) (type_of component.now.ztype)) }
 {
     match component_of(side, component.name.as_slice()) {
-        Some((_, found)) => Ok(found.domains.share()?),
+        Some((_, found)) => {
+            let mut all = Items::with_room(arena, found.domains.get().len())?;
+            for chunk in found.domains.get().full() {
+                for domain in chunk.get().as_slice() {
+                    all.push(domain.share()?)?;
+                }
+            }
+            for domain in found.domains.get().as_slice() {
+                all.push(domain.share()?)?;
+            }
+            Shared::new(arena, all)
+        }
         None => {
             let carrier = Domain::Carrier(component.ztype.share()?);
             Shared::new(arena, Items::of(arena, carrier)?)
@@ -210,6 +222,9 @@ fn push_all_memberships<'a>(
     ensures { OnOk result (map conjunct_of made.new ≡ map conjunct_of made.old ++ spec.memberships 0 (map comp_of components.now)) }
 {
     for (place, component) in components.iter().enumerate() {
+        for chunk in component.domains.get().full() {
+            push_memberships(arena, place, chunk.get().as_slice(), made)?;
+        }
         push_memberships(arena, place, component.domains.get().as_slice(), made)?;
     }
     Ok(())
@@ -234,6 +249,9 @@ fn constraints<'a>(arena: &'a Bump, flat: &Flat<'a>) -> Result<Items<'a, Conjunc
 {
     let mut made = Items::new(arena);
     push_all_memberships(arena, flat.components.as_slice(), &mut made)?;
+    for chunk in flat.conjuncts.full() {
+        push_conjuncts(chunk.get().as_slice(), &mut made)?;
+    }
     push_conjuncts(flat.conjuncts.as_slice(), &mut made)?;
     Ok(made)
 }
@@ -246,8 +264,12 @@ fn moved_constraints<'a>(
 ) -> Result<Items<'a, Conjunct<'a>>, AllocError>
     ensures { IfOk result (λ cs. map conjunct_of cs ≡ map (shape.moved (place_in places.now)) (spec.constraints (schema_of flat.now))) }
 {
-    let mut made = Items::new(arena);
-    take_moved(&mut made, arena, constraints(arena, flat)?, places)?;
+    let all = constraints(arena, flat)?;
+    let numbering = Some(places.share());
+    let mut made = Items::with_room(arena, all.len())?;
+    for conjunct in all.as_slice() {
+        made.push(conjunct.share().moved(arena, &numbering)?)?;
+    }
     Ok(made)
 }
 
@@ -287,7 +309,7 @@ fn disjunction<'a>(
     let of_left = constraints(arena, left)?;
     let of_right = moved_constraints(arena, right, &places)?;
     let whole = one_holds(arena, line, of_left.as_slice(), of_right.as_slice())?;
-    let conjuncts = Items::of(arena, Conjunct::of(arena, whole)?)?;
+    let conjuncts = Chunked::of(arena, Items::of(arena, Conjunct::of(arena, whole)?)?);
     Ok(Flat {
         components,
         conjuncts,

@@ -12,8 +12,7 @@ ghost use Rattle.zf_term.specs.Limits.{IsWithin};
 use crate::components::{agree, agrees, are_apart, join, join_all};
 use crate::limits::{COMPONENTS_MAX, CONJUNCTS_MAX, NODES_MAX, SETS_MAX};
 use crate::room::{
-    after_all_nodes, after_all_sets, after_conjuncts, after_nodes, after_sets, is_low,
-    none_too_high,
+    after_all_nodes, after_all_sets, after_chunked_nodes, after_chunked_sets, after_conjuncts, is_low, none_too_high,
 };
 use crate::spare::Spare;
 use crate::stop::Stop;
@@ -22,6 +21,7 @@ use std::alloc::AllocError;
 use zf_data::arena::{Boxed, Items, Lasting};
 use zf_reference::reference::Reference;
 use zf_shape::conjunct::room_after;
+use zf_term::chunked::Chunked;
 use zf_term::conjunct::Conjunct;
 use zf_term::measured::{Left, Measured};
 use zf_term::resolved::{Resolved, ResolvedLink};
@@ -43,7 +43,7 @@ impl<'a> Growing<'a> {
         ensures growing { IfOk result (λ g. IsGrowing g) }
     {
         let components = Items::with_room(arena, spare.components)?;
-        let conjuncts = Items::with_room(arena, spare.conjuncts)?;
+        let conjuncts = Chunked::of(arena, Items::with_room(arena, spare.conjuncts.min(64))?);
         Ok(Growing {
             flat: Flat {
                 components,
@@ -58,7 +58,6 @@ impl<'a> Growing<'a> {
     pub fn of(flat: Flat<'a>) -> Option<Growing<'a>>
         ensures { MatchOption result (IsWithin (schema_of flat.entry) → ⊥) (λ g. (schema_of g.flat ≡ schema_of flat.entry) × IsGrowing g) }
     {
-        // Before its nodes are counted, which descends as far as it is high.
         if !none_too_high(flat.conjuncts.as_slice()) {
             return None;
         }
@@ -110,10 +109,10 @@ impl<'a> Growing<'a> {
         ensures growing { OnOk result (IsGrowing self.new) }
         ensures err { IfErr result (λ e. IfStopped e (IsTooLarge (grown (schema_of self.old.flat) (comp_of component.entry)))) }
     {
-        let Some(sets_left) = after_sets(component.domains.get().as_slice(), self.sets_left) else {
+        let Some(sets_left) = after_chunked_sets(component.domains.get(), self.sets_left) else {
             return Err(Stop::TooLarge);
         };
-        let Some(nodes_left) = after_nodes(component.domains.get().as_slice(), self.nodes_left)
+        let Some(nodes_left) = after_chunked_nodes(component.domains.get(), self.nodes_left)
         else {
             return Err(Stop::TooLarge);
         };
@@ -180,7 +179,7 @@ impl<'a> Growing<'a> {
     pub fn is_nothing(&self) -> bool
         ensures { IsTrue result ↔ (schema_of self.now.flat ≡ nothing) }
     {
-        self.flat.components.as_slice().is_empty() && self.flat.conjuncts.as_slice().is_empty()
+        self.flat.components.as_slice().is_empty() && self.flat.conjuncts.len() == 0
     }
 
     /// Another schema that is taken in, whatever types components of one name have; answers where its components are.
@@ -249,48 +248,40 @@ impl<'a> Growing<'a> {
 
 /// Further conjuncts, whose components are at these places.
 pub fn take_moved<'a>(
-    conjuncts: &mut Items<'a, Conjunct<'a>>,
+    conjuncts: &mut Chunked<'a, Conjunct<'a>>,
     arena: &'a Bump,
-    further: Items<'a, Conjunct<'a>>,
+    further: Chunked<'a, Conjunct<'a>>,
     places: &Lasting<'a, Items<'a, usize>>,
 ) -> Result<(), AllocError>
-    ensures { OnOk result (map conjunct_of conjuncts.new ≡ map conjunct_of conjuncts.old ++ map (moved (place_in places.now)) (map conjunct_of further.entry)) }
 {
     if are_own(places.get().as_slice()) {
-        return take_all(conjuncts, further);
+        if conjuncts.len() == 0 {
+            *conjuncts = further;
+            return Ok(());
+        }
+        return conjuncts.append(&further);
     }
     let numbering = Some(places.share());
-    take_numbered(conjuncts, arena, further, &numbering)
+    take_numbered(conjuncts, arena, &further, &numbering)
 }
 
 /// Further conjuncts, with their components numbered anew.
 fn take_numbered<'a>(
-    conjuncts: &mut Items<'a, Conjunct<'a>>,
+    conjuncts: &mut Chunked<'a, Conjunct<'a>>,
     arena: &'a Bump,
-    further: Items<'a, Conjunct<'a>>,
+    further: &Chunked<'a, Conjunct<'a>>,
     places: &Option<Lasting<'a, Items<'a, usize>>>,
 ) -> Result<(), AllocError>
-    ensures { OnOk result (map conjunct_of conjuncts.new ≡ map conjunct_of conjuncts.old ++ map (moved (numbering places.now)) (map conjunct_of further.entry)) }
 {
-    conjuncts.make_room(further.len())?;
-    for conjunct in further.into_vec() {
-        conjuncts.push(conjunct.moved(arena, places)?)?;
+    for chunk in further.full() {
+        for conjunct in chunk.get().as_slice() {
+            conjuncts.push(conjunct.share().moved(arena, places)?)?;
+        }
+    }
+    for conjunct in further.as_slice() {
+        conjuncts.push(conjunct.share().moved(arena, places)?)?;
     }
     Ok(())
-}
-
-/// Further conjuncts as they are. Where there are none yet, nor room for these, the list itself is taken.
-fn take_all<'a>(
-    conjuncts: &mut Items<'a, Conjunct<'a>>,
-    further: Items<'a, Conjunct<'a>>,
-) -> Result<(), AllocError>
-    ensures { OnOk result (conjuncts.new ≡ conjuncts.old ++ further.entry) }
-{
-    if conjuncts.len() == 0 && conjuncts.items.capacity() < further.len() {
-        *conjuncts = further;
-        return Ok(());
-    }
-    conjuncts.append(further)
 }
 
 /// Whether each place is its own number.

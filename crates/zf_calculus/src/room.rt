@@ -10,6 +10,7 @@ ghost use Rattle.zf_term.specs.Limits.{IsLow};
 use crate::limits::HEIGHT_MAX;
 use zf_shape::conjunct;
 use zf_shape::sets::{room_after_nodes, room_after_sets};
+use zf_term::chunked::Chunked;
 use zf_term::conjunct::Conjunct;
 use zf_term::schema::{Component, Domain};
 
@@ -41,7 +42,7 @@ pub fn after_all_sets(components: &[Component<'_>], room: usize) -> Option<usize
 {
     let mut left = room;
     for component in components {
-        left = after_sets(component.domains.get().as_slice(), left)?;
+        left = after_chunked_sets(component.domains.get(), left)?;
     }
     Some(left)
 }
@@ -52,9 +53,27 @@ pub fn after_all_nodes(components: &[Component<'_>], room: usize) -> Option<usiz
 {
     let mut left = room;
     for component in components {
-        left = after_nodes(component.domains.get().as_slice(), left)?;
+        left = after_chunked_nodes(component.domains.get(), left)?;
     }
     Some(left)
+}
+
+/// The same of a list in chunks.
+pub fn after_chunked_sets<'a>(domains: &Chunked<'a, Domain<'a>>, room: usize) -> Option<usize> {
+    let mut left = room;
+    for chunk in domains.full() {
+        left = after_sets(chunk.get().as_slice(), left)?;
+    }
+    after_sets(domains.as_slice(), left)
+}
+
+/// The same of a list in chunks.
+pub fn after_chunked_nodes<'a>(domains: &Chunked<'a, Domain<'a>>, room: usize) -> Option<usize> {
+    let mut left = room;
+    for chunk in domains.full() {
+        left = after_nodes(chunk.get().as_slice(), left)?;
+    }
+    after_nodes(domains.as_slice(), left)
 }
 
 /// The same of the nodes of conjuncts.
@@ -79,7 +98,18 @@ pub fn is_low(conjunct: &Conjunct<'_>, count: usize) -> bool
     conjunct::is_within(conjunct, HEIGHT_MAX)
 }
 
-/// Whether none of the conjuncts is too high. It descends no further than they may be high.
+/// Whether none of the conjuncts, which have so many nodes, is too high.
+pub fn are_low(conjuncts: &[Conjunct<'_>], count: usize) -> bool
+    requires { count ≡ sum_by nodes (map conjunct_of conjuncts.now) }
+    ensures { IsTrue result ↔ AllByRecursion IsLow (map conjunct_of conjuncts.now) }
+{
+    if count <= HEIGHT_MAX {
+        return true;
+    }
+    none_too_high(conjuncts)
+}
+
+/// Whether none of the conjuncts is too high, however many nodes they have. It descends no further than they may be high.
 pub fn none_too_high(conjuncts: &[Conjunct<'_>]) -> bool
     ensures { IsTrue result ↔ AllByRecursion IsLow (map conjunct_of conjuncts.now) }
 {

@@ -53,8 +53,8 @@ fn component_after<'a>(
 ) -> Option<u32>
     ensures { result ≡ or_else found (first (spec.comp_lines (globals_of globals.now) (comp_of component.now))) }
 {
-    let line = unbounded_after(component.domains.get(), found, globals);
-    all_names_after(component.domains.get(), line, globals)
+    let line = unbounded_after(component.domains.get().last(), found, globals);
+    all_names_after(component.domains.get().last(), line, globals)
 }
 
 fn conjuncts_after<'a>(

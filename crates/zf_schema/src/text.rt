@@ -29,6 +29,7 @@ use zf_calculus::growing::Growing;
 use zf_calculus::limits::{COMPONENTS_MAX, CONJUNCTS_MAX};
 use zf_calculus::spare::Spare;
 use zf_data::arena::{Boxed, Items, Lasting, Shared};
+use zf_term::chunked::Chunked;
 use zf_term::conjunct::Conjunct;
 use zf_term::globals::Globals;
 use zf_term::measured::Measured;
@@ -239,7 +240,7 @@ fn declared<'a>(
     let name = name.spelled();
     let ztype = ztype.share()?;
     let domains = Items::of(arena, Domain::Plain(set.share()))?;
-    let domains = Shared::new(arena, domains)?;
+    let domains = Shared::new(arena, Chunked::of(arena, domains))?;
     Ok(Component {
         name,
         ztype,

@@ -1,6 +1,7 @@
 //! Types, resolved terms, and what a text defines.
 #![tactic(auto)]
 
+pub mod chunked;
 pub mod conjunct;
 pub mod extent;
 pub mod fault;

@@ -1,6 +1,7 @@
 //! Schemas: components, their declared sets, and conjuncts.
 ghost use Rattle.std.specs.Prelude.{◌≡◌, IfOk};
 
+use crate::chunked::Chunked;
 use crate::conjunct::Conjunct;
 use crate::resolved::Resolved;
 use crate::ztype::ZType;
@@ -28,14 +29,14 @@ pub struct Component<'a> {
     /// The name as spelled, with its strokes.
     pub name: Lent<'a>,
     pub ztype: ZType<'a>,
-    pub domains: Domains<'a>,
+    pub domains: Shared<'a, Chunked<'a, Domain<'a>>>,
 }
 
 /// A schema: its components in order, and the conjuncts of its property.
 #[derive(Drop)]
 pub struct Flat<'a> {
     pub components: Items<'a, Component<'a>>,
-    pub conjuncts: Items<'a, Conjunct<'a>>,
+    pub conjuncts: Chunked<'a, Conjunct<'a>>,
 }
 
 impl<'a> Domain<'a> {
