@@ -83,12 +83,8 @@ fn change<'a>(
 }
 
 /// The same schema, with room for what is expected of it.
-fn copy<'a>(
-    arena: &'a Bump,
-    schema: &Measured<'a>,
-    spare: Spare,
-) -> Result<Growing<'a>, AllocError>
-    ensures ok { IfOk result (λ g. schema_of g.flat ≡ schema_of schema.now) }
+fn copy<'a>(arena: &'a Bump, schema: &Measured<'a>, spare: Spare) -> Result<Growing<'a>, AllocError>
+    ensures ok { IfOk result (λ g. IsNext (schema_of schema.now) (schema_of g.flat)) }
     ensures growing { IfOk result (λ g. IsGrowing g) }
 {
     let left = schema.left();
