@@ -292,7 +292,7 @@ fn constrain<'a>(
 {
     let components = growing.flat.components.as_slice();
     let conjuncts = conjuncts_over(arena, globals, components, predicate)?;
-    take_all(arena, growing, conjuncts)
+    take_all(arena, growing, into_bump_slice(conjuncts.into_vec()))
 }
 
 /// The conjuncts of a predicate where the globals and these components are in scope.
@@ -301,15 +301,15 @@ fn conjuncts_over<'a>(
     globals: &Globals<'a>,
     components: &[Component<'a>],
     predicate: &Boxed<'a, Term<'a>>,
-) -> Result<&'a [Resolved<'a>], Refusal<'a>>
+) -> Result<Items<'a, Resolved<'a>>, Refusal<'a>>
     ensures is { OnOk result (IsOf (over (globals_of globals.now) (map comp_of components.now)) (tree_of predicate.now) rules.predicate) }
-    ensures ok { IfOk result (λ ts. map resolved_of ts.now ≡ shape.conjuncts (resolved (over (globals_of globals.now) (map comp_of components.now)) (tree_of predicate.now))) }
+    ensures ok { IfOk result (λ ts. map resolved_of ts ≡ shape.conjuncts (resolved (over (globals_of globals.now) (map comp_of components.now)) (tree_of predicate.now))) }
     ensures wrong { IfErr result (λ e. IfFault e (Offends (over (globals_of globals.now) (map comp_of components.now)) needs.Predicate (tree_of predicate.now))) }
 {
     let mut scope = scope_over(globals, components);
     let mut conjuncts = Items::new(arena);
     push_conjuncts(predicate.get(), arena, &mut scope, &mut conjuncts)?;
-    Ok(into_bump_slice(conjuncts.into_vec()))
+    Ok(conjuncts)
 }
 
 /// Takes the conjuncts, one after another.
