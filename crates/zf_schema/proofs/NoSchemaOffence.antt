@@ -1,5 +1,5 @@
 -- A schema expression that is a schema has no offence.
-use Rattle.zf_schema.proofs.Prelude.{◌∙◌, ◌++◌, ◌∷◌, [], inl, inr, List, refl, subst, sym, ℕ, None, none-some, Option, same_Some, spelling, both, DeclTree, either, include, reference, schema_bracket, schema_text, SchemaTree, Tree, vars, Name, SchemaRef, DeclaredSet, Defined, plain, Schema, schema, ResolvedTree, conjuncts, Comp, Ty, Offence, no_offence, one_sort, same_set, Offends, resolved, predicate, set_of, Clashes, Differs, Includes, IsNext, IsTooLarge, IsWithin, Keeps, Limit, MarkClashes, OneClashes, Stops, AddsAll, Constrains, Declares, DeclaresOne, inside, IsSchema, IsText, outside, Refers, TakesAll, AnyByRecursion, CantRefer, IsNoSchema, name_line, OffendsAfter, OffendsAlone, OffendsConjuncts, OffendsDecls, OffendsNames, OffendsPredicates, OffendsRef, OffendsSchema, OffendsText, OneConstrainsTooMuch, OneOffendsAfter, StopsEither}
+use Rattle.zf_schema.proofs.Prelude.{◌∙◌, ◌++◌, ◌∷◌, [], inl, inr, List, refl, subst, sym, ℕ, None, none-some, Option, same_Some, Some, spelling, both, DeclTree, either, include, reference, schema_bracket, schema_text, SchemaTree, Tree, vars, Name, SchemaRef, DeclaredSet, Defined, plain, Schema, schema, ResolvedTree, conjuncts, Comp, Ty, Offence, no_offence, one_sort, same_set, Offends, resolved, predicate, set_of, Clashes, Differs, Includes, IsNext, IsTooLarge, IsWithin, Keeps, Limit, MarkClashes, OneClashes, Stops, AddsAll, Constrains, Declares, DeclaresOne, inside, IsSchema, IsText, outside, Refers, TakesAll, AnyByRecursion, CantRefer, IsNoSchema, name_line, OffendsAfter, OffendsAlone, OffendsConjuncts, OffendsDecls, OffendsNames, OffendsPredicates, OffendsRef, OffendsSchema, OffendsText, OneConstrainsTooMuch, OneOffendsAfter, StopsEither}
 use Rattle.zf_tree.specs.declared.operator.Need.TheVariants as need
 use Rattle.zf_tree.specs.declared.tree.RefMark.{RefMark}
 use Rattle.zf_tree.specs.declared.tree.RefMark.TheVariants.{Plain, Delta, Xi}

@@ -10,7 +10,7 @@ ghost use Rattle.zf_type.specs.Scopes as spec;
 ghost use Rattle.zf_type.specs.Scopes.{Var, scope_of, variable_of, within};
 ghost use Rattle.zf_tree.specs.Names.{spelling};
 ghost use Rattle.zf_type.specs.Typing as typing;
-ghost use Rattle.zf_term.specs.Faults.{Offence};
+ghost use Rattle.zf_term.specs.Faults as faults;
 
 use crate::fault::{Offence, Refusal, refused};
 use crate::locals::Locals;
@@ -33,7 +33,7 @@ pub(crate) fn declare_names<'a>(
     requires { Meets needs.Set (sort_of set.now) }
     ensures ok { OnOk result ((u : Ty) × (sort_of set.now ≡ set_of u) × (map variable_of variables.new ≡ map variable_of variables.old ++ typing.variables names.now u)) }
     ensures apart { OnOk result ((ns : List program.Name) → AreNew (map variable_of variables.new) ns → AreNew (map variable_of variables.old) (names.now ++ ns)) }
-    ensures later { OnOk result ((ns : List program.Name) (offence : Offence) (line : ℕ) → AreRepeated (map variable_of variables.new) ns offence line → AreRepeated (map variable_of variables.old) (names.now ++ ns) offence line) }
+    ensures later { OnOk result ((ns : List program.Name) (offence : faults.Offence) (line : ℕ) → AreRepeated (map variable_of variables.new) ns offence line → AreRepeated (map variable_of variables.old) (names.now ++ ns) offence line) }
     ensures repeated { IfErr result (λ e. IfFault e (λ offence line. (ns : List program.Name) → AreRepeated (map variable_of variables.old) (names.now ++ ns) offence line)) }
 {
     let Some(members) = set.member() else {
