@@ -5,12 +5,13 @@ ghost use Rattle.zf_term.specs.ResolvedTrees.{resolved_of};
 ghost use Rattle.zf_reference.specs.Numbering.{place_in};
 ghost use Rattle.zf_term.specs.Shapes as shape;
 ghost use Rattle.zf_term.specs.Types.{type_of};
-ghost use Rattle.zf_term.specs.declared.fault.TypeFaultKind.TheVariants as kinds;
+ghost use Rattle.zf_term.specs.Faults.{too_large};
+ghost use Rattle.zf_term.specs.declared.fault.Limit.TheVariants as limit;
 ghost use Rattle.zf_calculus.specs.Calculus as spec;
 ghost use Rattle.zf_calculus.specs.Calculus.{Agree, comp_named, disjoined, with_comps};
-ghost use Rattle.zf_calculus.specs.Steps.{IsNext, Stops};
-ghost use Rattle.zf_calculus.specs.Growth.{IfStopped, IsGrowing, IsTooLarge, all_joined, both_hold, disjoined_over, either_comp, is_member, one_holds};
-ghost use Rattle.zf_term.specs.Limits.{AreFew};
+ghost use Rattle.zf_calculus.specs.Steps.{IsNext, OneClashes, Stops};
+ghost use Rattle.zf_calculus.specs.Growth.{IfStopped, IsGrowing, all_joined, both_hold, disjoined_over, either_comp, is_member, one_holds};
+ghost use Rattle.zf_term.specs.Limits.{AreFew, IsTooLarge};
 
 use crate::components::{agree, component_copies, join_all, new_places};
 use crate::growing::{Growing, take_moved};
@@ -23,6 +24,7 @@ use zf_reference::reference::Reference;
 use zf_resolved::conjunct::resolved;
 use zf_resolved::moving::copy;
 use zf_term::conjunct::Conjunct;
+use zf_term::fault::Limit;
 use zf_term::named::component_of;
 use zf_term::resolved::{Resolved, ResolvedLink};
 use zf_term::schema::{Component, Domain, Domains, Flat};
@@ -34,12 +36,12 @@ fn all_components<'a>(
     arena: &'a Bump,
     left: &[Component<'a>],
     right: &[Component<'a>],
-) -> Result<Items<'a, Component<'a>>, Stop>
+) -> Result<Items<'a, Component<'a>>, Stop<'a>>
     ensures ok { IfOk result (λ cs. map comp_of cs ≡ with_comps (map comp_of left.now) (map comp_of right.now)) }
-    ensures err { IfErr result (λ e. IfStopped e (λ k. (k ≡ kinds.TooLarge) × (AreFew (with_comps (map comp_of left.now) (map comp_of right.now)) → ⊥))) }
+    ensures err { IfErr result (λ e. IfStopped e (λ o. (o ≡ too_large limit.Components) × (AreFew (with_comps (map comp_of left.now) (map comp_of right.now)) → ⊥))) }
 {
     if left.len() > COMPONENTS_MAX {
-        return Err(Stop::TooLarge);
+        return Err(Stop::TooLarge(Limit::Components));
     }
     let mut all = component_copies(arena, left)?;
     let further = component_copies(arena, right)?;
@@ -300,15 +302,13 @@ pub fn disjoin<'a>(
     line: u32,
     left: &Flat<'a>,
     right: &Flat<'a>,
-) -> Result<Growing<'a>, Stop>
+) -> Result<Growing<'a>, Stop<'a>>
     ensures agree { IfOk result (λ g. Agree (schema_of left.now).comps (schema_of right.now).comps) }
     ensures ok { IfOk result (λ g. IsNext (disjoined line (schema_of left.now) (schema_of right.now)) (schema_of g.flat)) }
     ensures growing { IfOk result (λ g. IsGrowing g) }
-    ensures err { IfErr result (λ e. IfStopped e (Stops (Agree (schema_of left.now).comps (schema_of right.now).comps) (disjoined line (schema_of left.now) (schema_of right.now)))) }
+    ensures err { IfErr result (λ e. IfStopped e (Stops (OneClashes (schema_of left.now).comps (schema_of right.now).comps) (Agree (schema_of left.now).comps (schema_of right.now).comps) (disjoined line (schema_of left.now) (schema_of right.now)))) }
 {
-    if !agree(left.components.as_slice(), right.components.as_slice()) {
-        return Err(Stop::Clash);
-    }
+    agree(left.components.as_slice(), right.components.as_slice())?;
     let all = all_components(
         arena,
         left.components.as_slice(),
@@ -319,13 +319,13 @@ pub fn disjoin<'a>(
 }
 
 /// The schema, if it is within the limits.
-fn within<'a>(flat: Flat<'a>) -> Result<Growing<'a>, Stop>
+fn within<'a>(flat: Flat<'a>) -> Result<Growing<'a>, Stop<'a>>
     ensures ok { IfOk result (λ g. IsNext (schema_of flat.entry) (schema_of g.flat)) }
     ensures growing { IfOk result (λ g. IsGrowing g) }
     ensures err { IfErr result (λ e. IfStopped e (IsTooLarge (schema_of flat.entry))) }
 {
     match Growing::of(flat) {
-        Some(growing) => Ok(growing),
-        None => Err(Stop::TooLarge),
+        Ok(growing) => Ok(growing),
+        Err(limit) => Err(Stop::TooLarge(limit)),
     }
 }

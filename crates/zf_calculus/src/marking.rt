@@ -4,7 +4,7 @@ ghost use Rattle.zf_term.specs.Definitions.{comp_of, schema_of};
 ghost use Rattle.zf_reference.specs.Numbering.{place_in};
 ghost use Rattle.zf_calculus.specs.Calculus as spec;
 ghost use Rattle.zf_calculus.specs.Calculus.{Agree, MarkAgrees, comp, decorated, delta, new_place, prime, xi};
-ghost use Rattle.zf_calculus.specs.Steps.{IsNext, Stops};
+ghost use Rattle.zf_calculus.specs.Steps.{IsNext, MarkClashes, OneClashes, Stops};
 ghost use Rattle.zf_calculus.specs.Growth.{IfStopped, IsGrowing};
 
 use crate::components::agree;
@@ -28,11 +28,11 @@ pub fn marked<'a>(
     line: u32,
     schema: &Measured<'a>,
     spare: Spare,
-) -> Result<Growing<'a>, Stop>
+) -> Result<Growing<'a>, Stop<'a>>
     ensures agree { IfOk result (λ g. MarkAgrees mark (schema_of schema.now)) }
     ensures ok { IfOk result (λ g. IsNext (spec.marked mark line (schema_of schema.now)) (schema_of g.flat)) }
     ensures growing { IfOk result (λ g. IsGrowing g) }
-    ensures err { IfErr result (λ e. IfStopped e (Stops (MarkAgrees mark (schema_of schema.now)) (spec.marked mark line (schema_of schema.now)))) }
+    ensures err { IfErr result (λ e. IfStopped e (Stops (MarkClashes mark (schema_of schema.now)) (MarkAgrees mark (schema_of schema.now)) (spec.marked mark line (schema_of schema.now)))) }
 {
     match mark {
         RefMark::Plain => Ok(copy(arena, schema, spare)?),
@@ -47,11 +47,11 @@ fn no_change<'a>(
     line: u32,
     schema: &Measured<'a>,
     spare: Spare,
-) -> Result<Growing<'a>, Stop>
+) -> Result<Growing<'a>, Stop<'a>>
     ensures agree { IfOk result (λ g. Agree (schema_of schema.now).comps (decorated prime (schema_of schema.now)).comps) }
     ensures ok { IfOk result (λ g. IsNext (xi line (schema_of schema.now)) (schema_of g.flat)) }
     ensures growing { IfOk result (λ g. IsGrowing g) }
-    ensures err { IfErr result (λ e. IfStopped e (Stops (Agree (schema_of schema.now).comps (decorated prime (schema_of schema.now)).comps) (xi line (schema_of schema.now)))) }
+    ensures err { IfErr result (λ e. IfStopped e (Stops (OneClashes (schema_of schema.now).comps (decorated prime (schema_of schema.now)).comps) (Agree (schema_of schema.now).comps (decorated prime (schema_of schema.now)).comps) (xi line (schema_of schema.now)))) }
 {
     let spare = spare.and_conjuncts(schema.flat().components.len());
     let (mut growing, places) = change(arena, schema, spare)?;
@@ -64,19 +64,17 @@ fn change<'a>(
     arena: &'a Bump,
     schema: &Measured<'a>,
     spare: Spare,
-) -> Result<(Growing<'a>, Lasting<'a, Items<'a, usize>>), Stop>
+) -> Result<(Growing<'a>, Lasting<'a, Items<'a, usize>>), Stop<'a>>
     ensures agree { IfOk result (λ p. Agree (schema_of schema.now).comps (decorated prime (schema_of schema.now)).comps) }
     ensures ok { IfOk result (λ p. IsNext (delta (schema_of schema.now)) (schema_of p.0.flat)) }
     ensures growing { IfOk result (λ p. IsGrowing p.0) }
     ensures places { IfOk result (λ p. place_in p.1 ≡ new_place (decorated prime (schema_of schema.now)).comps (delta (schema_of schema.now)).comps) }
     ensures each { IfOk result (λ p. length p.1 ≡ length (schema_of schema.now).comps) }
-    ensures err { IfErr result (λ e. IfStopped e (Stops (Agree (schema_of schema.now).comps (decorated prime (schema_of schema.now)).comps) (delta (schema_of schema.now)))) }
+    ensures err { IfErr result (λ e. IfStopped e (Stops (OneClashes (schema_of schema.now).comps (decorated prime (schema_of schema.now)).comps) (Agree (schema_of schema.now).comps (decorated prime (schema_of schema.now)).comps) (delta (schema_of schema.now)))) }
 {
     let flat = schema.flat();
     let after = decorate(arena, b"'", flat, Spare::none())?;
-    if !agree(flat.components.as_slice(), after.components.as_slice()) {
-        return Err(Stop::Clash);
-    }
+    agree(flat.components.as_slice(), after.components.as_slice())?;
     let mut growing = copy(arena, schema, spare.and(&after))?;
     let after = alike(&growing, after);
     let places = growing.merge(arena, after)?;

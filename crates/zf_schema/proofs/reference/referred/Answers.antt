@@ -1,4 +1,4 @@
-use Rattle.zf_schema.proofs.Prelude.{ap, subst, sym, globals_of, schema_of, TypeFaultKind, MarkAgrees, marked, IsNext, Stops, OffendsRef}
+use Rattle.zf_schema.proofs.Prelude.{ap, subst, sym, globals_of, schema_of, Offence, MarkAgrees, MarkClashes, marked, IsNext, Stops, OffendsRef}
 use Rattle.zf_schema.proofs.Referring.{refers, cant_refer, refused_by}
 use Rattle.zf_schema.proofs.reference.referred.Goals as goal
 
@@ -16,5 +16,5 @@ returns-in-Err-marked-clause-fault c =
     let r = c.args.reference.now in
     let a = schema_of c.in-Ok.schema.now in
     let line = c.name.inside.line in
-    let offends = subst (λ l. (k : TypeFaultKind) → Stops (MarkAgrees r.mark a) (marked r.mark l a) k → OffendsRef g r k l) (ap (λ n. n.line) (sym c.name.view_is)) (cant_refer g r c.base.result.now a c.in-Ok.ensures.ok c.base.ensures) in
-    rw c.refusal.ensures (refused_by c.in-Err-marked.stop line (Stops (MarkAgrees r.mark a) (marked r.mark line a)) (OffendsRef g r) offends c.in-Err-marked.ensures.err)
+    let offends = subst (λ l. (k : Offence) → Stops (MarkClashes r.mark a) (MarkAgrees r.mark a) (marked r.mark l a) k → OffendsRef g r k l) (ap (λ n. n.line) (sym c.name.view_is)) (cant_refer g r c.base.result.now a c.in-Ok.ensures.ok c.base.ensures) in
+    refused_by c.in-Err-marked.stop line c.refusal.result (Stops (MarkClashes r.mark a) (MarkAgrees r.mark a) (marked r.mark line a)) (OffendsRef g r) offends c.refusal.ensures c.in-Err-marked.ensures.err
