@@ -4,11 +4,10 @@ ghost use Rattle.zf_term.specs.Definitions as spec;
 ghost use Rattle.zf_term.specs.Definitions.{definition_of, globals_of, schema_of};
 ghost use Rattle.zf_term.specs.FirstNamed.{first_named};
 
-pub use crate::schema::{Component, Domain, Domains, Flat};
-
 use crate::extent::Extent;
 use crate::measured::Measured;
 use crate::resolved::Resolved;
+pub use crate::schema::{Component, Domain, Domains, Flat};
 use crate::ztype::ZType;
 use indexmap::IndexMap;
 use std::alloc::{AllocError, Global};

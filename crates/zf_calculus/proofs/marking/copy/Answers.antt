@@ -1,4 +1,4 @@
-use Rattle.zf_calculus.proofs.Prelude.{◌∙◌, ◌≡◌, [], ap, schema_of, decorated}
+use Rattle.zf_calculus.proofs.Prelude.{◌∙◌, [], ap, schema_of, decorated}
 use Rattle.zf_calculus.proofs.Decorating.{left_decorated, undecorated}
 use Rattle.zf_calculus.proofs.marking.copy.Goals as goal
 
