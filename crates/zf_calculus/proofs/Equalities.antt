@@ -34,10 +34,10 @@ same_equalities l primed all cs ps e h = all_equal l 0 primed all cs ps e (λ k 
 
 pub stops_equalities : (a b : Schema) (l : ℕ) (ps : List ℕ) (i p : ℕ) (t : ResolvedTree) → i < length ps → p ≡ get_or ps i p → t ≡ equality l i p → constrained a (equalities l i (drop i ps)) ≡ constrained b (equalities l 0 ps) → (k : Offence) → IsTooLarge (constrained a (t ∷ [])) k → IsTooLarge (constrained b (equalities l 0 ps)) k
 stops_equalities a b l ps i p t m e g whole k h = still_large (constrained a (t ∷ [])) (constrained b (equalities l 0 ps)) k
-  (λ x w.
-      let rest = equalities l (i + 1) (drop (i + 1) ps) in
-      let now : Keeps x (constrained a (equalities l i (drop i ps))) = subst (Keeps x) (sym whole) w in
-      let next : Keeps x (constrained a (equality l i p ∷ rest)) = subst (λ (qs : List ℕ). Keeps x (constrained a (equalities l i qs))) (dropped ps i p m e) now in
-      let parted : Keeps x (calculus.schema_of a.comps ((a.conjuncts ++ equality l i p ∷ []) ++ rest)) = subst (λ (ts : List ResolvedTree). Keeps x (calculus.schema_of a.comps ts)) (sym (append_assoc a.conjuncts (equality l i p ∷ []) rest)) next in
-      let one : Keeps x (constrained a (equality l i p ∷ [])) = before_conjuncts x a.comps (a.conjuncts ++ equality l i p ∷ []) rest parted in
-      subst (λ (u : ResolvedTree). Keeps x (constrained a (u ∷ []))) (sym g) one) h
+    (λ x w.
+    let rest = equalities l (i + 1) (drop (i + 1) ps) in
+    let now : Keeps x (constrained a (equalities l i (drop i ps))) = subst (Keeps x) (sym whole) w in
+    let next : Keeps x (constrained a (equality l i p ∷ rest)) = subst (λ (qs : List ℕ). Keeps x (constrained a (equalities l i qs))) (dropped ps i p m e) now in
+    let parted : Keeps x (calculus.schema_of a.comps ((a.conjuncts ++ equality l i p ∷ []) ++ rest)) = subst (λ (ts : List ResolvedTree). Keeps x (calculus.schema_of a.comps ts)) (sym (append_assoc a.conjuncts (equality l i p ∷ []) rest)) next in
+    let one : Keeps x (constrained a (equality l i p ∷ [])) = before_conjuncts x a.comps (a.conjuncts ++ equality l i p ∷ []) rest parted in
+    subst (λ (u : ResolvedTree). Keeps x (constrained a (u ∷ []))) (sym g) one) h

@@ -35,10 +35,7 @@ pub fn agree<'a>(components: &[Component<'a>], others: &[Component<'a>]) -> Resu
 }
 
 /// That the component has the type of the one that has its name, if one has.
-pub fn agrees<'a>(
-    components: &[Component<'a>],
-    component: &Component<'a>,
-) -> Result<(), Stop<'a>>
+pub fn agrees<'a>(components: &[Component<'a>], component: &Component<'a>) -> Result<(), Stop<'a>>
     ensures ok { OnOk result (Agrees (map comp_of components.now) (comp_of component.now)) }
     ensures err { IfErr result (λ e. IfStopped e (Clashes (map comp_of components.now) (comp_of component.now))) }
 {
@@ -63,10 +60,7 @@ fn clashing<'a>(known: &Component<'a>, other: &Component<'a>) -> Stop<'a>
 }
 
 /// The name of the second, and both types.
-fn both_types<'a>(
-    known: &Component<'a>,
-    other: &Component<'a>,
-) -> Result<Clash<'a>, AllocError>
+fn both_types<'a>(known: &Component<'a>, other: &Component<'a>) -> Result<Clash<'a>, AllocError>
     ensures name { IfOk result (λ c. c.name ≡ other.now.name) }
     ensures left { IfOk result (λ c. c.left ≡ known.now.ztype) }
     ensures right { IfOk result (λ c. c.right ≡ other.now.ztype) }

@@ -88,12 +88,7 @@ pub fn refused<'a>(arena: &'a Bump, offence: Offence<'a>, line: u32) -> Refusal<
 
 /// The refusal of a term of this sort at this line, where something else is needed.
 #[inline(never)]
-pub(crate) fn misplaced<'a>(
-    arena: &'a Bump,
-    need: Need,
-    found: &Sort<'a>,
-    line: u32,
-) -> Refusal<'a>
+pub(crate) fn misplaced<'a>(arena: &'a Bump, need: Need, found: &Sort<'a>, line: u32) -> Refusal<'a>
     ensures { IsRefusal result (misplaced need (sort_of found.now)) line }
 {
     match found.share() {

@@ -147,7 +147,12 @@ fn named<'a>(
     let Some((reference, sort)) = scope.meaning(arena, name)? else {
         return Err(refused(arena, Offence::NotDeclared(name.spelled()), line));
     };
-    placed(arena, Place { need, line }, sort, Resolved::Name(line, reference))
+    placed(
+        arena,
+        Place { need, line },
+        sort,
+        Resolved::Name(line, reference),
+    )
 }
 
 #[inline(never)]

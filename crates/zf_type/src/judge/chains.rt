@@ -95,11 +95,7 @@ fn judge_links<'a>(
 }
 
 /// A place of this need takes the operand.
-fn check_left<'a>(
-    arena: &'a Bump,
-    left: &Operand<'a>,
-    need: Need,
-) -> Result<(), Refusal<'a>>
+fn check_left<'a>(arena: &'a Bump, left: &Operand<'a>, need: Need) -> Result<(), Refusal<'a>>
     ensures ok { OnOk result (Meets need (sort_of left.now.sort)) }
     ensures wrong { IfErr result (λ e. IfFault e (λ offence line. (Meets need (sort_of left.now.sort) → ⊥) × (offence ≡ fault.misplaced need (sort_of left.now.sort)) × (line ≡ left.now.line))) }
 {

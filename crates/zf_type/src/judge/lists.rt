@@ -161,9 +161,10 @@ fn set_of<'a>(
         return Err(refused(arena, Offence::NoMembers, line));
     };
     for place in 1..types.len() {
-        if !first.same(&types[place]) {
+        let other = &types[place];
+        if !first.same(other) {
             let line = terms[place].get().line();
-            return Err(differing(arena, first, &types[place], line));
+            return Err(differing(arena, first, other, line));
         }
     }
     Ok(set_type(arena, first.share()?)?)

@@ -91,5 +91,10 @@ fn with_operands<'a>(
     };
     let left = Boxed::new(arena, left.term)?;
     let right = Boxed::new(arena, right.term)?;
-    made(arena, place, sort, Resolved::Binary(place.line, op, left, right))
+    made(
+        arena,
+        place,
+        sort,
+        Resolved::Binary(place.line, op, left, right),
+    )
 }
