@@ -46,8 +46,8 @@ _zf() {
     [[ $skip == no ]] || return 0
     if [[ $options == yes && $current == -* ]]; then
         case $command in
-            check) mapfile -t COMPREPLY < <(compgen -W '-t --help' -- "$current") ;;
-            show) mapfile -t COMPREPLY < <(compgen -W '--after --with --limit --tests --help' -- "$current") ;;
+            check) mapfile -t COMPREPLY < <(compgen -W '-t --details --help' -- "$current") ;;
+            show) mapfile -t COMPREPLY < <(compgen -W '--after --with --limit --tests --details --help' -- "$current") ;;
             *) mapfile -t COMPREPLY < <(compgen -W '--help --version' -- "$current") ;;
         esac
     elif [[ -z $command ]]; then

@@ -39,10 +39,12 @@ complete -c zf -n 'test (count (__zf_places)) -eq 1' -a check -d 'Write the faul
 complete -c zf -n 'test (count (__zf_places)) -eq 1' -a show -d 'Write the bindings of a schema'
 complete -c zf -n 'test (count (__zf_places)) -eq 1' -a help -d 'Print help'
 complete -c zf -n '__zf_stands_behind check 2' -s t -d 'Write also what is defined, with its types'
+complete -c zf -n '__zf_stands_behind check 2' -s d -l details -d 'Write behind each fault what it is about'
 complete -c zf -n '__zf_stands_behind show 2' -x -l after -d 'Write only what comes after this binding'
 complete -c zf -n '__zf_stands_behind show 2' -x -l with -d 'Write only the bindings with these values'
 complete -c zf -n '__zf_stands_behind show 2' -x -l limit -d 'Write at most so many bindings'
 complete -c zf -n '__zf_stands_behind show 2' -l tests -d 'Write also how many tests were finished'
+complete -c zf -n '__zf_stands_behind show 2' -s d -l details -d 'Write behind each fault what it is about'
 complete -c zf -n '__zf_stands_at check 2; or __zf_stands_at show 2' -F
 complete -c zf -n '__zf_stands_at show 3' -a '(__zf_listed Schema)' -d schema
 complete -c zf -n '__zf_stands_behind show 4' -a '(__zf_listed Given | string replace --regex \$ =)' -d 'given set'

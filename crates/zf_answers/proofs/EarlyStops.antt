@@ -40,9 +40,9 @@ front_again : (text front written : List ℕ) → IsFront text front → IsFront
 front_again text front written p q = (q.0 ++ p.0, p.1 ∙ ap (λ t. t ++ p.0) q.1 ∙ append_assoc written q.0 p.0)
 
 begun_front : (job : Job) (file source first text : List ℕ) (status : Status) → JobBegins job source first → Answer job file source text status → IsFront text first
-begun_front (Check types) file source first text status begins answer = absurd begins
-begun_front (Show name sizes after held limit tests) file source first text status begins answer =
-    first_lines_are_a_front (request name sizes after held limit tests) file source first text status begins answer
+begun_front (Check types details) file source first text status begins answer = absurd begins
+begun_front (Show name sizes after held limit tests details) file source first text status begins answer =
+    first_lines_are_a_front (request name sizes after held limit tests details) file source first text status begins answer
 
 pub parts_are_fronts : EveryRequestIsAnswered → PartsAreFronts
 parts_are_fronts every job file source written limited (inl none) =

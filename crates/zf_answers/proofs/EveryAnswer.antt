@@ -1,5 +1,5 @@
 -- Each request has an answer: it is refused at a stage, or what is asked for is searched.
-use Rattle.zf_answers.proofs.Prelude.{if◌then◌else◌, ◌++◌, ◌+◌, ◌∙◌, ◌∷◌, ◌≡◌, ◌⊎◌, [], ap, Bool, false, inl, inr, IsTrue, List, None, Option, refl, Some, subst, sym, true, ℕ, none-some, same_Some, AllByRecursion, flat_map, Value, BoxTree, TextFault, ReadsSource, RefusesSource, abbreviation, Comp, constructor, Defined, Definition, free_type, given_set, Schema, schema, sets_of, TypeFault, first, finite_without_lines, infinite_lines, one_bounds, Environment, AreComplete, given_sets, spellings, Portion, portion, IsNoneOut, Job, Check, Show, IsBelow, binding_line, Status, BadRequest, BadSpec, PastBounds, some_search, some_tests_line, Answer, AreHeld, check_status, check_text, Checks, HasSchema, IsAsked, IsLimited, IsNamed, IsNamedRow, IsSearch, JobAnswer, Request, request, ShowAnswer, size_fault_line, stated, declared_out_line, fault_line, no_schema_line, not_a_binding_line, not_finite_text, not_held_line, text_fault_line, type_fault_line, EveryRequestIsAnswered, EverySourceIsRead}
+use Rattle.zf_answers.proofs.Prelude.{if◌then◌else◌, ◌++◌, ◌+◌, ◌∙◌, ◌∷◌, ◌≡◌, ◌⊎◌, [], ap, Bool, false, inl, inr, IsTrue, List, None, Option, refl, Some, subst, sym, true, ℕ, none-some, same_Some, AllByRecursion, flat_map, Value, BoxTree, TextFault, ReadsSource, RefusesSource, abbreviation, Comp, constructor, Defined, Definition, free_type, given_set, Schema, schema, sets_of, Fault, first, finite_without_cause, causes, NotFinite, one_bounds, Environment, AreComplete, given_sets, spellings, Portion, portion, IsNoneOut, Job, Check, Show, IsBelow, binding_line, Status, BadRequest, BadSpec, PastBounds, some_search, some_tests_line, Answer, AreHeld, check_status, check_text, Checks, HasSchema, IsAsked, IsLimited, IsNamed, IsNamedRow, IsSearch, JobAnswer, Request, request, ShowAnswer, size_fault_line, stated, wants_details, declared_out_line, no_schema_line, not_a_binding_line, not_finite_lines, not_held_line, text_fault_lines, type_fault_lines, EveryRequestIsAnswered, EverySourceIsRead}
 use Rattle.std.specs.Str.{bytes_eq}
 use Rattle.zf_command.specs.declared.job.Size as command
 use Rattle.zf_term.specs.FirstNamed.{first_named, later}
@@ -85,13 +85,13 @@ module _ (r : Request) (file source : List ℕ) (limited : IsBelow r.limit 0) wh
         ]
 
       some_at_finiteness : HasSchema source r.name g a → AreComplete (given_sets g) (stated r.sizes) → IsShown r file source
-      some_at_finiteness has complete = by (infinite_lines g a) refl
+      some_at_finiteness has complete = by (causes g a) refl
         where
-          by : (lines : List ℕ) → infinite_lines g a ≡ lines → IsShown r file source
+          by : (them : List NotFinite) → causes g a ≡ them → IsShown r file source
           by [] none =
               let e = some_environment g (stated r.sizes) complete in
-              some_at_row e.0 (record { has_schema = has; complete = complete; environment = e.1; finite = (finite_without_lines g a).1 none })
-          by (line ∷ lines) some = (fault_line file line not_finite_text, BadSpec, ShowAnswer.not_finite g a line has complete (ap first some) refl refl)
+              some_at_row e.0 (record { has_schema = has; complete = complete; environment = e.1; finite = (finite_without_cause g a).1 none })
+          by (cause ∷ them) some = (not_finite_lines r.details file g cause, BadSpec, ShowAnswer.not_finite g a cause has complete (ap first some) refl refl)
 
       some_at_sizes : HasSchema source r.name g a → IsShown r file source
       some_at_sizes has = elim (complete_or_refused (given_sets g) (stated r.sizes)) [
@@ -105,21 +105,21 @@ module _ (r : Request) (file source : List ℕ) (limited : IsBelow r.limit 0) wh
       | inr none ↦ (no_schema_line r.name, BadRequest, ShowAnswer.no_schema g checks none refl refl)
     ]
 
-  some_at_types : (g : List Defined) (faults : List TypeFault) → Checks source g faults → IsShown r file source
+  some_at_types : (g : List Defined) (faults : List Fault) → Checks source g faults → IsShown r file source
   some_at_types g [] checks = some_at_schema g checks
-  some_at_types g (fault ∷ faults) checks = (flat_map (type_fault_line file) (fault ∷ faults), BadSpec, ShowAnswer.ill_typed g (fault ∷ faults) checks (λ none. cc) refl refl)
+  some_at_types g (fault ∷ faults) checks = (flat_map (type_fault_lines r.details file) (fault ∷ faults), BadSpec, ShowAnswer.ill_typed g (fault ∷ faults) checks (λ none. cc) refl refl)
 
 -- ---- answers of a job
 
-limited_of : (name : List ℕ) (sizes : List command.Size) (after held : Option (List ℕ)) (limit : Option ℕ) (tests : Bool) → IsLimited (Show name sizes after held limit tests) → IsBelow limit 0
-limited_of name sizes after held None tests h = tt
-limited_of name sizes after held (Some limit) tests h = h
+limited_of : (name : List ℕ) (sizes : List command.Size) (after held : Option (List ℕ)) (limit : Option ℕ) (tests details : Bool) → IsLimited (Show name sizes after held limit tests details) → IsBelow limit 0
+limited_of name sizes after held None tests details h = tt
+limited_of name sizes after held (Some limit) tests details h = h
 
-some_of_job : (job : Job) (file source : List ℕ) → IsLimited job → (g : List Defined) (faults : List TypeFault) → Checks source g faults
+some_of_job : (job : Job) (file source : List ℕ) → IsLimited job → (g : List Defined) (faults : List Fault) → Checks source g faults
     → (text : List ℕ) × (status : Status) × JobAnswer job file source text status
-some_of_job (Check types) file source limited g faults checks = (check_text types file g faults, check_status faults, (g, faults, checks, refl, refl))
-some_of_job (Show name sizes after held limit tests) file source limited g faults checks =
-    some_at_types (request name sizes after held limit tests) file source (limited_of name sizes after held limit tests limited) g faults checks
+some_of_job (Check types details) file source limited g faults checks = (check_text types details file g faults, check_status faults, (g, faults, checks, refl, refl))
+some_of_job (Show name sizes after held limit tests details) file source limited g faults checks =
+    some_at_types (request name sizes after held limit tests details) file source (limited_of name sizes after held limit tests details limited) g faults checks
 
 pub every_request_is_answered : EverySourceIsRead → EveryRequestIsAnswered
 every_request_is_answered every_source job file source limited = by (every_source source)
@@ -129,4 +129,4 @@ every_request_is_answered every_source job file source limited = by (every_sourc
         let judged = text_has_verdict read.0 in
         let answer = some_of_job job file source limited judged.0 judged.1 (record { boxes = read.0; reads = read.1; judged = judged.2 }) in
         (answer.0, answer.1, inr answer.2)
-    by (inr refused) = (text_fault_line file refused.0, BadSpec, inl (refused.0, refused.1, refl, refl))
+    by (inr refused) = (text_fault_lines (wants_details job) file refused.0 [], BadSpec, inl (refused.0, [], refused.1, refl, refl))

@@ -1,5 +1,5 @@
 -- Two answers of one job on one source have one status, and one text but for what is left open.
-use Rattle.zf_answers.proofs.Prelude.{if◌then◌else◌, ◌++◌, ◌∙◌, ◌∷◌, ◌≡◌, [], ap, Bool, inl, inr, List, None, Option, Some, subst, sym, ℕ, same_Some, flat_map, slice_get, Value, Comp, Defined, Schema, TypeFault, Environment, IsEnvironment, AreComplete, given_sets, Portion, portion, Job, Check, Show, Status, Answer, AreHeld, check_status, check_text, CheckAnswer, Checks, HoldsNoValues, IsNamedRow, JobAnswer, NamesNoRow, Request, request, size_fault_line, stated, UnreadAnswer, declared_out_line, fault_line, not_finite_text, type_fault_line, AreAlike, AreOfSame, OneStatus, OneText}
+use Rattle.zf_answers.proofs.Prelude.{if◌then◌else◌, ◌++◌, ◌∙◌, ◌∷◌, ◌≡◌, [], ap, Bool, inl, inr, List, None, Option, Some, subst, sym, ℕ, same_Some, flat_map, slice_get, Value, Comp, Defined, Schema, Fault, Environment, IsEnvironment, AreComplete, given_sets, Portion, portion, Job, Check, Show, Status, Answer, AreHeld, check_status, check_text, CheckAnswer, Checks, HoldsNoValues, IsNamedRow, JobAnswer, NamesNoRow, Request, request, size_fault_line, stated, UnreadAnswer, wants_details, declared_out_line, not_finite_lines, type_fault_lines, AreAlike, AreOfSame, OneStatus, OneText}
 use Rattle.std.proofs.lemmas.List.{append-nil}
 use Rattle.zf_schema.specs.Listing.{listing}
 use Rattle.zf_answers.proofs.OneSource.{none_and_some, one_checked, one_named, one_refused, some_and_none, unread}
@@ -8,11 +8,11 @@ use Rattle.zf_answers.proofs.OneRefusal.{none_refused, one_refusal}
 use Rattle.zf_answers.proofs.Stages.{AtFiniteness, AtHeldValues, AtNamedRow, AtSchema, AtSearch, AtSizes, AtTypes, staged}
 
 -- one status, and texts that are alike
-abbrev IsOne : (file source one two : List ℕ) → (s t : Status) → Type 0
-IsOne file source one two s t = (s ≡ t) × AreAlike file source one two
+abbrev IsOne : (details : Bool) → (file source one two : List ℕ) → (s t : Status) → Type 0
+IsOne details file source one two s t = (s ≡ t) × AreAlike details file source one two
 
-of_same : (file source one two : List ℕ) (s t : Status) → s ≡ t → one ≡ two → IsOne file source one two s t
-of_same file source one two s t e f = (e, AreAlike.same f)
+of_same : (details : Bool) (file source one two : List ℕ) (s t : Status) → s ≡ t → one ≡ two → IsOne details file source one two s t
+of_same details file source one two s t e f = (e, AreAlike.same f)
 
 no_named_row : (e : Environment) (comps : List Comp) (text : Option (List ℕ)) (after : Option (List Value)) → NamesNoRow e comps text → IsNamedRow e comps text after → ⊥
 no_named_row e comps None after none named = none
@@ -29,16 +29,16 @@ module _ (r : Request) (file source one two : List ℕ) (s t : Status) where
   module _ (g : List Defined) (checks : Checks source g []) where
     module _ (a : Schema) (complete : AreComplete (given_sets g) (stated r.sizes)) where
       module _ (e : Environment) (is : IsEnvironment g (stated r.sizes) e) where
-        one_at_search : (p : Portion) → AtSearch r file source one s g a e p → AtSearch r file source two t g a e p → IsOne file source one two s t
+        one_at_search : (p : Portion) → AtSearch r file source one s g a e p → AtSearch r file source two t g a e p → IsOne r.details file source one two s t
         one_at_search p (inl x) (inl y) =
             let place = one_first_out e a.comps x.place y.place x.first_out y.first_out in
             let component = same_Some x.component y.component (sym x.there ∙ ap (slice_get a.comps) place ∙ y.there) in
-            of_same file source one two s t (x.past ∙ sym y.past) (x.told ∙ ap (λ (c : Comp). declared_out_line c.name) component ∙ sym y.told)
+            of_same r.details file source one two s t (x.past ∙ sym y.past) (x.told ∙ ap (λ (c : Comp). declared_out_line c.name) component ∙ sym y.told)
         one_at_search p (inl x) (inr y) = absurd (y.0 x.place x.first_out.here)
         one_at_search p (inr x) (inl y) = absurd (x.0 y.place y.first_out.here)
-        one_at_search p (inr x) (inr y) = let same = one_shown r g a e p one two s t x.1 y.1 in of_same file source one two s t same.1 same.0
+        one_at_search p (inr x) (inr y) = let same = one_shown r g a e p one two s t x.1 y.1 in of_same r.details file source one two s t same.1 same.0
 
-        one_at_values : (after : Option (List Value)) → AtHeldValues r file source one s g a e after → AtHeldValues r file source two t g a e after → IsOne file source one two s t
+        one_at_values : (after : Option (List Value)) → AtHeldValues r file source one s g a e after → AtHeldValues r file source two t g a e after → IsOne r.details file source one two s t
         one_at_values after (inl x) (inl y) = (x.bad ∙ sym y.bad, AreAlike.no_values x.place y.place x.told y.told)
         one_at_values after (inl x) (inr y) = absurd (no_held_values e a.comps r.held y.0 x.none y.1)
         one_at_values after (inr x) (inl y) = absurd (no_held_values e a.comps r.held x.0 y.none x.1)
@@ -46,7 +46,7 @@ module _ (r : Request) (file source one two : List ℕ) (s t : Status) where
             let held = one_held e a.comps r.held x.0 y.0 (clear_at source g [] (stated r.sizes) e checks complete is) x.1 y.1 in
             one_at_search (portion after y.0) (subst (λ values. AtSearch r file source one s g a e (portion after values)) held x.2) y.2
 
-        one_at_row : AtNamedRow r file source one s g a e → AtNamedRow r file source two t g a e → IsOne file source one two s t
+        one_at_row : AtNamedRow r file source one s g a e → AtNamedRow r file source two t g a e → IsOne r.details file source one two s t
         one_at_row (inl x) (inl y) = (x.bad ∙ sym y.bad, AreAlike.no_binding x.place y.place x.told y.told)
         one_at_row (inl x) (inr y) = absurd (no_named_row e a.comps r.after y.0 x.none y.1)
         one_at_row (inr x) (inl y) = absurd (no_named_row e a.comps r.after x.0 y.none x.1)
@@ -54,38 +54,38 @@ module _ (r : Request) (file source one two : List ℕ) (s t : Status) where
             let row = one_named_row e a.comps r.after x.0 y.0 (clear_at source g [] (stated r.sizes) e checks complete is) x.1 y.1 in
             one_at_values y.0 (subst (AtHeldValues r file source one s g a e) row x.2) y.2
 
-      one_at_finiteness : AtFiniteness r file source one s g a → AtFiniteness r file source two t g a → IsOne file source one two s t
+      one_at_finiteness : AtFiniteness r file source one s g a → AtFiniteness r file source two t g a → IsOne r.details file source one two s t
       one_at_finiteness (inl x) (inl y) =
-          let line = same_Some x.line y.line (sym x.first_line ∙ y.first_line) in
-          of_same file source one two s t (x.bad ∙ sym y.bad) (x.told ∙ ap (λ n. fault_line file n not_finite_text) line ∙ sym y.told)
-      one_at_finiteness (inl x) (inr y) = absurd (not_infinite g a x.line y.0 x.first_line)
-      one_at_finiteness (inr x) (inl y) = absurd (not_infinite g a y.line x.0 y.first_line)
+          let cause = same_Some x.cause y.cause (sym x.first_cause ∙ y.first_cause) in
+          of_same r.details file source one two s t (x.bad ∙ sym y.bad) (x.told ∙ ap (not_finite_lines r.details file g) cause ∙ sym y.told)
+      one_at_finiteness (inl x) (inr y) = absurd (not_infinite g a x.cause y.0 x.first_cause)
+      one_at_finiteness (inr x) (inl y) = absurd (not_infinite g a y.cause x.0 y.first_cause)
       one_at_finiteness (inr x) (inr y) =
           let u = x.1 in
           let v = y.1 in
           let environment = one_environment_at g (stated r.sizes) u.0 v.0 complete u.1 v.1 in
           one_at_row v.0 v.1 (subst (AtNamedRow r file source one s g a) environment u.2) v.2
 
-    one_at_sizes : (a : Schema) → AtSizes r file source one s g a → AtSizes r file source two t g a → IsOne file source one two s t
+    one_at_sizes : (a : Schema) → AtSizes r file source one s g a → AtSizes r file source two t g a → IsOne r.details file source one two s t
     one_at_sizes a (inl x) (inl y) =
         let fault = one_refusal (given_sets g) (stated r.sizes) x.fault y.fault x.some y.some x.refused y.refused in
-        of_same file source one two s t (x.bad ∙ sym y.bad) (x.told ∙ ap size_fault_line fault ∙ sym y.told)
+        of_same r.details file source one two s t (x.bad ∙ sym y.bad) (x.told ∙ ap size_fault_line fault ∙ sym y.told)
     one_at_sizes a (inl x) (inr y) = absurd (none_refused (given_sets g) (stated r.sizes) x.fault y.0 x.some x.refused)
     one_at_sizes a (inr x) (inl y) = absurd (none_refused (given_sets g) (stated r.sizes) y.fault x.0 y.some y.refused)
     one_at_sizes a (inr x) (inr y) = one_at_finiteness a y.0 x.1 y.1
 
-    one_at_schema : AtSchema r file source one s g → AtSchema r file source two t g → IsOne file source one two s t
-    one_at_schema (inl x) (inl y) = of_same file source one two s t (x.bad ∙ sym y.bad) (x.told ∙ sym y.told)
+    one_at_schema : AtSchema r file source one s g → AtSchema r file source two t g → IsOne r.details file source one two s t
+    one_at_schema (inl x) (inl y) = of_same r.details file source one two s t (x.bad ∙ sym y.bad) (x.told ∙ sym y.told)
     one_at_schema (inl x) (inr y) = absurd (x.none y.0 y.1)
     one_at_schema (inr x) (inl y) = absurd (y.none x.0 x.1)
     one_at_schema (inr x) (inr y) = one_at_sizes y.0 (subst (AtSizes r file source one s g) (one_named g r.name x.0 y.0 x.1 y.1) x.2) y.2
 
-  one_at_types : AtTypes r file source one s → AtTypes r file source two t → IsOne file source one two s t
+  one_at_types : AtTypes r file source one s → AtTypes r file source two t → IsOne r.details file source one two s t
   one_at_types (inl x) (inl y) =
       let c = one_checked source x.globals y.globals x.faults y.faults x.checks y.checks in (
         x.bad ∙ sym y.bad,
         AreAlike.types y.globals x.faults y.faults [] (subst (λ h. Checks source h x.faults) c.0 x.checks) y.checks x.some c.1
-            (x.told ∙ sym (append-nil (flat_map (type_fault_line file) x.faults))) (y.told ∙ sym (append-nil (flat_map (type_fault_line file) y.faults))),
+            (x.told ∙ sym (append-nil (flat_map (type_fault_lines r.details file) x.faults))) (y.told ∙ sym (append-nil (flat_map (type_fault_lines r.details file) y.faults))),
       )
   one_at_types (inl x) (inr y) = absurd (some_and_none x.faults x.some (one_checked source x.globals y.0 x.faults [] x.checks y.1).1)
   one_at_types (inr x) (inl y) = absurd (none_and_some y.faults y.some (one_checked source x.0 y.globals [] y.faults x.1 y.checks).1)
@@ -93,48 +93,43 @@ module _ (r : Request) (file source one two : List ℕ) (s t : Status) where
 
 -- ---- answers of `check`
 
-alike_faults : (file source : List ℕ) (g : List Defined) (es fs : List TypeFault) (listed one two : List ℕ) (s t : Status) → Checks source g es → Checks source g fs → AreOfSame es fs
-    → one ≡ flat_map (type_fault_line file) es ++ listed → two ≡ flat_map (type_fault_line file) fs ++ listed → s ≡ check_status es → t ≡ check_status fs → IsOne file source one two s t
-alike_faults file source g [] [] listed one two s t p q same told other_told done other_done = of_same file source one two s t (done ∙ sym other_done) (told ∙ sym other_told)
-alike_faults file source g [] (f ∷ fs) listed one two s t p q same told other_told done other_done = absurd same
-alike_faults file source g (e ∷ es) [] listed one two s t p q same told other_told done other_done = absurd same
-alike_faults file source g (e ∷ es) (f ∷ fs) listed one two s t p q same told other_told done other_done = (done ∙ sym other_done, AreAlike.types g (e ∷ es) (f ∷ fs) listed p q (λ none. cc) same told other_told)
+alike_faults : (details : Bool) (file source : List ℕ) (g : List Defined) (es fs : List Fault) (listed one two : List ℕ) (s t : Status) → Checks source g es → Checks source g fs → AreOfSame es fs
+    → one ≡ flat_map (type_fault_lines details file) es ++ listed → two ≡ flat_map (type_fault_lines details file) fs ++ listed → s ≡ check_status es → t ≡ check_status fs → IsOne details file source one two s t
+alike_faults details file source g [] [] listed one two s t p q same told other_told done other_done = of_same details file source one two s t (done ∙ sym other_done) (told ∙ sym other_told)
+alike_faults details file source g [] (f ∷ fs) listed one two s t p q same told other_told done other_done = absurd same
+alike_faults details file source g (e ∷ es) [] listed one two s t p q same told other_told done other_done = absurd same
+alike_faults details file source g (e ∷ es) (f ∷ fs) listed one two s t p q same told other_told done other_done = (done ∙ sym other_done, AreAlike.types g (e ∷ es) (f ∷ fs) listed p q (λ none. cc) same told other_told)
 
-one_check_answer : (types : Bool) (file source one two : List ℕ) (s t : Status) → CheckAnswer types file source one s → CheckAnswer types file source two t → IsOne file source one two s t
-one_check_answer types file source one two s t (g, es, p, told, done) (h, fs, q, other_told, other_done) =
+one_check_answer : (types details : Bool) (file source one two : List ℕ) (s t : Status) → CheckAnswer types details file source one s → CheckAnswer types details file source two t → IsOne details file source one two s t
+one_check_answer types details file source one two s t (g, es, p, told, done) (h, fs, q, other_told, other_done) =
     let c = one_checked source g h es fs p q in
-    alike_faults file source h es fs (if types then listing h else []) one two s t (subst (λ h. Checks source h es) c.0 p) q c.1
-    (told ∙ ap (λ h. check_text types file h es) c.0) other_told done other_done
+    alike_faults details file source h es fs (if types then listing h else []) one two s t (subst (λ h. Checks source h es) c.0 p) q c.1
+    (told ∙ ap (λ h. check_text types details file h es) c.0) other_told done other_done
 
 -- ---- answers of a job
 
 -- what is read is not refused
-read_unread : (job : Job) (file source one two : List ℕ) (s t : Status) → UnreadAnswer file source one s → JobAnswer job file source two t → ⊥
-read_unread (Check types) file source one two s t (fault, refused, told, bad) (g, es, p, other_told, done) = unread source fault p.boxes refused p.reads
-read_unread (Show name sizes after held limit tests) file source one two s t (fault, refused, told, bad) answer =
-    go (staged (request name sizes after held limit tests) file source two t answer)
+read_unread : (job : Job) (file source one two : List ℕ) (s t : Status) → UnreadAnswer (wants_details job) file source one s → JobAnswer job file source two t → ⊥
+read_unread (Check types details) file source one two s t (fault, symbol, refused, told, bad) (g, es, p, other_told, done) = unread source fault p.boxes refused p.reads
+read_unread (Show name sizes after held limit tests details) file source one two s t (fault, symbol, refused, told, bad) answer =
+    go (staged (request name sizes after held limit tests details) file source two t answer)
   where
-    go : AtTypes (request name sizes after held limit tests) file source two t → ⊥
+    go : AtTypes (request name sizes after held limit tests details) file source two t → ⊥
     go (inl x) = let checks = x.checks in unread source fault checks.boxes refused checks.reads
     go (inr x) = let checks = x.1 in unread source fault checks.boxes refused checks.reads
 
-one_unread : (file source one two : List ℕ) (s t : Status) → UnreadAnswer file source one s → UnreadAnswer file source two t → IsOne file source one two s t
-one_unread file source one two s t (e, refused, told, bad) (f, other_refused, other_told, other_bad) = (
-  bad ∙ sym other_bad,
-  elim (one_refused file source one two e f refused other_refused told other_told) [
-    | inl same ↦ AreAlike.same same
-    | inr both ↦ AreAlike.grammar both.0 both.1
-  ],
-)
+one_unread : (details : Bool) (file source one two : List ℕ) (s t : Status) → UnreadAnswer details file source one s → UnreadAnswer details file source two t → IsOne details file source one two s t
+one_unread details file source one two s t (e, x, refused, told, bad) (f, y, other_refused, other_told, other_bad) =
+    (bad ∙ sym other_bad, one_refused details file source one two e f x y refused other_refused told other_told)
 
-one_job_answer : (job : Job) (file source one two : List ℕ) (s t : Status) → JobAnswer job file source one s → JobAnswer job file source two t → IsOne file source one two s t
-one_job_answer (Check types) file source one two s t x y = one_check_answer types file source one two s t x y
-one_job_answer (Show name sizes after held limit tests) file source one two s t x y =
-    let r = request name sizes after held limit tests in
+one_job_answer : (job : Job) (file source one two : List ℕ) (s t : Status) → JobAnswer job file source one s → JobAnswer job file source two t → IsOne (wants_details job) file source one two s t
+one_job_answer (Check types details) file source one two s t x y = one_check_answer types details file source one two s t x y
+one_job_answer (Show name sizes after held limit tests details) file source one two s t x y =
+    let r = request name sizes after held limit tests details in
     one_at_types r file source one two s t (staged r file source one s x) (staged r file source two t y)
 
-pub one_answer : (job : Job) (file source one two : List ℕ) (s t : Status) → Answer job file source one s → Answer job file source two t → IsOne file source one two s t
-one_answer job file source one two s t (inl x) (inl y) = one_unread file source one two s t x y
+pub one_answer : (job : Job) (file source one two : List ℕ) (s t : Status) → Answer job file source one s → Answer job file source two t → IsOne (wants_details job) file source one two s t
+one_answer job file source one two s t (inl x) (inl y) = one_unread (wants_details job) file source one two s t x y
 one_answer job file source one two s t (inl x) (inr y) = absurd (read_unread job file source one two s t x y)
 one_answer job file source one two s t (inr x) (inl y) = absurd (read_unread job file source two one t s y x)
 one_answer job file source one two s t (inr x) (inr y) = one_job_answer job file source one two s t x y

@@ -1,5 +1,5 @@
 -- What is asked for is one environment and one named row, and its search has one text and one status.
-use Rattle.zf_answers.proofs.Prelude.{◌++◌, ◌<◌, ◌∙◌, ◌≡◌, ◌⊎◌, ap, arith, Bool, false, inl, inr, List, None, Option, Some, subst, sym, true, ℕ, cases_order, Event, cut, IsNumberOfTests, IsUpTo, IsWalked, exact, value_order, Value, Comp, Defined, Schema, TypeFault, first, finite_without_lines, infinite_lines, IsFinite, Environment, IsEnvironment, AreComplete, given_sets, Size, one_row, AreClear, spellings, one_ranges, Portion, property, IsFirstOut, AreEventsUpTo, HasEvents, IsTestsLine, IsWritten, binding_line, tests_line, Status, property_told, AreHeld, Checks, IsNamedRow, Request, ShowsEvents}
+use Rattle.zf_answers.proofs.Prelude.{◌++◌, ◌<◌, ◌∙◌, ◌≡◌, ◌⊎◌, ap, arith, Bool, false, inl, inr, List, None, Option, Some, subst, sym, true, ℕ, cases_order, Event, cut, IsNumberOfTests, IsUpTo, IsWalked, exact, value_order, Value, Comp, Defined, Schema, Fault, first, finite_without_cause, causes, IsFinite, NotFinite, Environment, IsEnvironment, AreComplete, given_sets, Size, one_row, AreClear, spellings, one_ranges, Portion, property, IsFirstOut, AreEventsUpTo, HasEvents, IsTestsLine, IsWritten, binding_line, tests_line, Status, property_told, AreHeld, Checks, IsNamedRow, Request, ShowsEvents}
 use Rattle.zf_value.specs.declared.value.Outcome.{Outcome}
 use Rattle.zf_value.specs.contracts.value.ValueOrd.TheImpl.Laws as order_laws
 use Rattle.zf_walk.proofs.Counting.{number-le}
@@ -12,9 +12,9 @@ use Rattle.zf_answers.proofs.OneRefusal.{one_sizes}
 
 -- ---- finiteness
 
--- a schema that is finite has no line that makes it infinite
-pub not_infinite : (g : List Defined) (a : Schema) (line : ℕ) → IsFinite g a → first (infinite_lines g a) ≡ Some line → ⊥
-not_infinite g a line finite e = let none : None ≡ Some line = sym (ap first ((finite_without_lines g a).0 finite)) ∙ e in cc
+-- a schema that is finite has no cause that makes it infinite
+pub not_infinite : (g : List Defined) (a : Schema) (cause : NotFinite) → IsFinite g a → first (causes g a) ≡ Some cause → ⊥
+not_infinite g a cause finite e = let none : None ≡ Some cause = sym (ap first ((finite_without_cause g a).0 finite)) ∙ e in cc
 
 -- ---- the environment
 
@@ -30,7 +30,7 @@ one_environment_at g sizes e f complete p q =
 
 -- ---- the named row
 
-pub clear_at : (source : List ℕ) (g : List Defined) (faults : List TypeFault) (sizes : List Size) (e : Environment) → Checks source g faults → AreComplete (given_sets g) sizes → IsEnvironment g sizes e
+pub clear_at : (source : List ℕ) (g : List Defined) (faults : List Fault) (sizes : List Size) (e : Environment) → Checks source g faults → AreComplete (given_sets g) sizes → IsEnvironment g sizes e
     → AreClear (spellings e.globals) e.sizes
 clear_at source g faults sizes e checks complete is =
     subst (λ h. AreClear (spellings h) e.sizes) (sym is.0) (globals_clear checks.boxes source g faults sizes e checks.reads checks.judged complete is)

@@ -1,5 +1,5 @@
 -- A source is read by one tree or refused, and defines one list of globals.
-use Rattle.zf_answers.proofs.Prelude.{◌++◌, ◌∙◌, ◌∷◌, ◌≡◌, ◌⊎◌, [], ap, inl, inr, List, refl, subst, sym, ℕ, ◌≢◌, BoxTree, TextFault, Token, only_one, IsGrammarFault, ReadsLow, ReadsSource, Refuses, RefusesSource, Defined, Schema, TypeFault, Checks, IsNamed, text_fault_line, AreOfSame, TellsGrammar}
+use Rattle.zf_answers.proofs.Prelude.{◌++◌, ◌∙◌, ◌∷◌, ◌≡◌, ◌⊎◌, [], ap, Bool, inl, inr, List, refl, subst, sym, ℕ, ◌≢◌, BoxTree, TextFault, Token, only_one, IsGrammarFault, ReadsLow, ReadsSource, Refuses, RefusesSource, Defined, Schema, Fault, Checks, IsNamed, text_fault_lines, AreAlike, AreOfSame}
 use Rattle.zf_scan.specs.declared.fault.TextFaultKind.{TextFaultKind}
 use Rattle.zf_scan.specs.declared.fault.TextFaultKind.TheVariants as fault
 use Rattle.zf_scan.proofs.Laws.{is_cut_once, is_not_both, faults_once}
@@ -31,26 +31,26 @@ unread source fault boxes (inr f) r =
     none_reads fault.kind fault.line f.0 boxes f.3 f.2 (subst (λ ts. ReadsLow boxes ts) tokens r.2)
 
 -- a source is refused with one fault, or with faults of the grammar
-pub one_refused : (file source one two : List ℕ) (e f : TextFault) → RefusesSource source e → RefusesSource source f → one ≡ text_fault_line file e → two ≡ text_fault_line file f
-    → (one ≡ two) ⊎ (TellsGrammar file source one × TellsGrammar file source two)
-one_refused file source one two e f (inl p) (inl q) told other_told = inl (told ∙ ap (text_fault_line file) (faults_once source e f p q) ∙ sym other_told)
-one_refused file source one two e f (inl p) (inr q) told other_told = absurd (is_not_both source q.0 e q.1 p)
-one_refused file source one two e f (inr p) (inl q) told other_told = absurd (is_not_both source p.0 f p.1 q)
-one_refused file source one two e f (inr p) (inr q) told other_told = inr (
-  record { fault = e; tokens = p.0; cut = p.1; kind = p.3; refused = p.2; told = told },
-  record { fault = f; tokens = q.0; cut = q.1; kind = q.3; refused = q.2; told = other_told },
-)
+pub one_refused : (details : Bool) (file source one two : List ℕ) (e f : TextFault) (x y : List ℕ) → RefusesSource source e → RefusesSource source f
+    → one ≡ text_fault_lines details file e x → two ≡ text_fault_lines details file f y → AreAlike details file source one two
+one_refused details file source one two e f x y (inl p) (inl q) told other_told =
+    AreAlike.symbol f x y (inl q) (told ∙ ap (λ (fault : TextFault). text_fault_lines details file fault x) (faults_once source e f p q)) other_told
+one_refused details file source one two e f x y (inl p) (inr q) told other_told = absurd (is_not_both source q.0 e q.1 p)
+one_refused details file source one two e f x y (inr p) (inl q) told other_told = absurd (is_not_both source p.0 f p.1 q)
+one_refused details file source one two e f x y (inr p) (inr q) told other_told = AreAlike.grammar
+    (record { fault = e; symbol = x; tokens = p.0; cut = p.1; kind = p.3; refused = p.2; told = told })
+    (record { fault = f; symbol = y; tokens = q.0; cut = q.1; kind = q.3; refused = q.2; told = other_told })
 
 -- ---- what it defines
 
-same_joined : (a b c d : List TypeFault) → AreOfSame a b → AreOfSame c d → AreOfSame (a ++ c) (b ++ d)
+same_joined : (a b c d : List Fault) → AreOfSame a b → AreOfSame c d → AreOfSame (a ++ c) (b ++ d)
 same_joined [] [] c d h k = k
 same_joined [] (f ∷ b) c d h k = absurd h
 same_joined (e ∷ a) [] c d h k = absurd h
 same_joined (e ∷ a) (f ∷ b) c d h k = (h.0, same_joined a b c d h.1 k)
 
 -- faults of one paragraph or box
-same_step : (g : List Defined) (item : Item) (h i : List Defined) (es fs : List TypeFault) → ChecksOne g item h es → ChecksOne g item i fs → AreOfSame es fs
+same_step : (g : List Defined) (item : Item) (h i : List Defined) (es fs : List Fault) → ChecksOne g item h es → ChecksOne g item i fs → AreOfSame es fs
 same_step g item h i es fs (inl p) (inl q) = subst (λ xs. AreOfSame xs fs) (sym p.1) (subst (λ xs. AreOfSame [] xs) (sym q.1) tt)
 same_step g item h i es fs (inl p) (inr q) = absurd (q.0 h p.0)
 same_step g item h i es fs (inr p) (inl q) = absurd (p.0 i q.0)
@@ -60,7 +60,7 @@ same_step g item h i es fs (inr p) (inr q) =
     let both : AreOfSame (e ∷ []) (f ∷ []) = ((g, item, p.2.1, q.2.1), tt) in
     subst (λ xs. AreOfSame xs fs) (sym p.2.2) (subst (λ xs. AreOfSame (e ∷ []) xs) (sym q.2.2) both)
 
-same_run : (g : List Defined) (steps : List Item) (h i : List Defined) (es fs : List TypeFault) → check.Checks g steps h es → check.Checks g steps i fs → (h ≡ i) × AreOfSame es fs
+same_run : (g : List Defined) (steps : List Item) (h i : List Defined) (es fs : List Fault) → check.Checks g steps h es → check.Checks g steps i fs → (h ≡ i) × AreOfSame es fs
 same_run g [] h i es fs p q = (p.0 ∙ sym q.0, subst (λ xs. AreOfSame xs fs) (sym p.1) (subst (λ xs. AreOfSame [] xs) (sym q.1) tt))
 same_run g (item ∷ steps) h i es fs p q =
     let first = one_step g item p.0 q.0 p.1 q.1 p.3 q.3 in
@@ -69,17 +69,17 @@ same_run g (item ∷ steps) h i es fs p q =
     (rest.0, subst (λ xs. AreOfSame xs fs) (sym p.5) (subst (λ xs. AreOfSame (p.1 ++ p.2) xs) (sym q.5) both))
 
 -- a source defines one list of globals, and its faults are of the same paragraphs
-pub one_checked : (source : List ℕ) (g h : List Defined) (es fs : List TypeFault) → Checks source g es → Checks source h fs → (g ≡ h) × AreOfSame es fs
+pub one_checked : (source : List ℕ) (g h : List Defined) (es fs : List Fault) → Checks source g es → Checks source h fs → (g ≡ h) × AreOfSame es fs
 one_checked source g h es fs p q =
     let boxes = one_tree source p.boxes q.boxes p.reads q.reads in
     same_run [] (items q.boxes) g h es fs (subst (λ bs. IsChecked bs g es) boxes p.judged) q.judged
 
 -- some faults are not the same as none
-pub some_and_none : (es : List TypeFault) → es ≢ [] → AreOfSame es [] → ⊥
+pub some_and_none : (es : List Fault) → es ≢ [] → AreOfSame es [] → ⊥
 some_and_none [] some h = some refl
 some_and_none (e ∷ es) some h = h
 
-pub none_and_some : (fs : List TypeFault) → fs ≢ [] → AreOfSame [] fs → ⊥
+pub none_and_some : (fs : List Fault) → fs ≢ [] → AreOfSame [] fs → ⊥
 none_and_some [] some h = some refl
 none_and_some (f ∷ fs) some h = h
 

@@ -30,10 +30,11 @@ pub use Rattle.zf_text.proofs.Answers.{only_one, parsed, refused}
 pub use Rattle.zf_text.specs.Parsing.{IsGrammarFault, ReadsLow, ReadsSource, Refuses, RefusesSource}
 pub use Rattle.zf_term.specs.Definitions.{abbreviation, Comp, constructor, Defined, Definition, free_type, given_set, Schema, schema, sets_of}
 pub use Rattle.zf_term.specs.Types.{basic, int, no_types, power, product, Ty, type, types, Tys}
-pub use Rattle.zf_type.specs.declared.fault.TypeFault.{TypeFault}
+pub use Rattle.zf_term.specs.Faults.{Fault}
 pub use Rattle.zf_extent.specs.Extents.{first}
-pub use Rattle.zf_finite.proofs.FiniteSchemas.{finite_without_lines}
-pub use Rattle.zf_finite.specs.Finite.{infinite_lines, IsFinite, one_bounds}
+pub use Rattle.zf_finite.proofs.FiniteSchemas.{finite_without_cause}
+pub use Rattle.zf_finite.specs.declared.not_finite.NotFinite.{NotFinite}
+pub use Rattle.zf_finite.specs.Finite.{causes, IsFinite, one_bounds}
 pub use Rattle.zf_meaning.specs.Environments.{Environment, type_number}
 pub use Rattle.zf_meaning.specs.GlobalOutcomes.{IsEnvironment}
 pub use Rattle.zf_meaning.specs.Rows.{AreOfTypes, IsElement, IsOfType, IsRow}
@@ -59,8 +60,9 @@ pub use Rattle.zf_lines.specs.declared.fault.Status.{Status}
 pub use Rattle.zf_lines.specs.declared.fault.Status.TheVariants.{BadRequest, BadSpec, PastBounds}
 pub use Rattle.zf_found.proofs.Rows.{AreTold, one_truth_of}
 pub use Rattle.zf_found.proofs.Searches.{property_told, some_search, some_tests_line}
-pub use Rattle.zf_engine.specs.Answers.{Answer, AreHeld, check_status, check_text, CheckAnswer, Checks, HasSchema, HoldsNoValues, IsAsked, IsLimited, IsLineOf, IsNamed, IsNamedRow, IsSearch, JobAnswer, JobBegins, NamesNoRow, Request, request, ShowAnswer, ShowBegins, size_fault_line, stated, UnreadAnswer}
-pub use Rattle.zf_engine.specs.Texts.{declared_out_line, fault_line, no_schema_line, not_a_binding_line, not_finite_text, not_held_line, text_fault_line, type_fault_line}
+pub use Rattle.zf_engine.specs.Answers.{Answer, AreHeld, check_status, check_text, CheckAnswer, Checks, HasSchema, HoldsNoValues, IsAsked, IsLimited, IsLineOf, IsNamed, IsNamedRow, IsSearch, JobAnswer, JobBegins, NamesNoRow, Request, request, ShowAnswer, ShowBegins, size_fault_line, stated, UnreadAnswer, wants_details}
+pub use Rattle.zf_engine.specs.Details.{not_finite_lines, text_fault_lines, type_fault_lines}
+pub use Rattle.zf_engine.specs.Texts.{declared_out_line, no_schema_line, not_a_binding_line, not_held_line}
 pub use Rattle.zf_answers.specs.Bindings.{EndsLines, IsBefore, IsBinding, IsInDoubt, IsNotPast, ShowsBindings}
 pub use Rattle.zf_answers.specs.Laws.{AnswersRequest, AreAlike, AreOfSame, EachBindingIsShown, EventsAreShown, EveryHeldLineIsJudged, EveryLineIsJudged, EveryRequestIsAnswered, EverySourceIsRead, IsGranted, IsShownInOneWay, OneStatus, OneText, ShowsEvents, TellsGrammar}
 pub use Rattle.zf_answers.specs.Runs.{FirstLinesAreAFront, limited, PartsAreFronts, resumed, RunsMakeOne, together}

@@ -41,7 +41,7 @@ module _ (r : Request) (file source : List ℕ) (g : List Defined) (a : Schema) 
       held_values (subst (AtHeldValues r file source text status g a e) (one_named_row e a.comps r.after there.0 p.after clear there.1 granted.named) there.2)
 
   finite : AtFiniteness r file source text status g a → ShowsEvents r g a e p text status
-  finite (inl infinite) = absurd (not_infinite g a infinite.line granted.finite infinite.first_line)
+  finite (inl infinite) = absurd (not_infinite g a infinite.cause granted.finite infinite.first_cause)
   finite (inr ends) =
       let f = ends.1 in
       named_row (subst (AtNamedRow r file source text status g a) (one_environment_at g (stated r.sizes) f.0 e granted.complete f.1 granted.environment) f.2)
@@ -59,7 +59,7 @@ module _ (r : Request) (file source : List ℕ) (g : List Defined) (a : Schema) 
   typed (inr well) = schema_named (subst (AtSchema r file source text status) (one_checked source well.0 g [] [] well.1 granted.has_schema.checks).0 well.2)
 
   shown : AnswersRequest r file source text status → ShowsEvents r g a e p text status
-  shown (inl (fault, refused, told, bad)) =
+  shown (inl (fault, symbol, refused, told, bad)) =
       let checks = granted.has_schema.checks in
       absurd (unread source fault checks.boxes refused checks.reads)
   shown (inr answer) = typed (staged r file source text status answer)

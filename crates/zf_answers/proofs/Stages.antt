@@ -1,5 +1,5 @@
 -- An answer of `show` by its stages: at each it is refused, or goes on with what the next one stands on.
-use Rattle.zf_answers.proofs.Prelude.{flat_map, slice_get, Value, Comp, Defined, Schema, TypeFault, first, infinite_lines, IsFinite, Environment, IsEnvironment, AreComplete, given_sets, IsRefusal, SizeFault, Portion, portion, IsFirstOut, IsNoneOut, Status, BadRequest, BadSpec, PastBounds, AreHeld, Checks, HoldsNoValues, IsNamed, IsNamedRow, NamesNoRow, Request, ShowAnswer, size_fault_line, stated, declared_out_line, fault_line, no_schema_line, not_a_binding_line, not_finite_text, not_held_line, type_fault_line, ShowsEvents}
+use Rattle.zf_answers.proofs.Prelude.{flat_map, slice_get, Value, Comp, Defined, Schema, Fault, first, causes, IsFinite, NotFinite, Environment, IsEnvironment, AreComplete, given_sets, IsRefusal, SizeFault, Portion, portion, IsFirstOut, IsNoneOut, Status, BadRequest, BadSpec, PastBounds, AreHeld, Checks, HoldsNoValues, IsNamed, IsNamedRow, NamesNoRow, Request, ShowAnswer, size_fault_line, stated, declared_out_line, no_schema_line, not_a_binding_line, not_finite_lines, not_held_line, type_fault_lines, ShowsEvents}
 use Rattle.std.proofs.Common.{◌≡◌, ◌≢◌, ℕ, ◌⊎◌, List, [], Option, Some, inl, inr}
 use Rattle.zf_meaning.specs.declared.sizes.SizeFault.TheVariants as size_faults
 
@@ -8,10 +8,10 @@ module _ (r : Request) (file source text : List ℕ) (status : Status) where
 
   pub record IsIllTyped : Type 0 where
     pub globals : List Defined
-    pub faults : List TypeFault
+    pub faults : List Fault
     pub checks : Checks source globals faults
     pub some : faults ≢ []
-    pub told : text ≡ flat_map (type_fault_line file) faults
+    pub told : text ≡ flat_map (type_fault_lines r.details file) faults
     pub bad : status ≡ BadSpec
 
   pub record HasNoSchema (g : List Defined) : Type 0 where
@@ -27,9 +27,9 @@ module _ (r : Request) (file source text : List ℕ) (status : Status) where
     pub bad : status ≡ BadRequest
 
   pub record IsInfinite (g : List Defined) (a : Schema) : Type 0 where
-    pub line : ℕ
-    pub first_line : first (infinite_lines g a) ≡ Some line
-    pub told : text ≡ fault_line file line not_finite_text
+    pub cause : NotFinite
+    pub first_cause : first (causes g a) ≡ Some cause
+    pub told : text ≡ not_finite_lines r.details file g cause
     pub bad : status ≡ BadSpec
 
   pub record HasNoRow (a : Schema) (e : Environment) : Type 0 where
@@ -82,8 +82,8 @@ module _ (r : Request) (file source text : List ℕ) (status : Status) where
   staged (ShowAnswer.no_schema g checks none told bad) = inr (g, checks, inl (record { none = none; told = told; bad = bad }))
   staged (ShowAnswer.bad_sizes g a fault has refused some told bad) =
       inr (g, has.checks, inr (a, has.named, inl (record { fault = fault; refused = refused; some = some; told = told; bad = bad })))
-  staged (ShowAnswer.not_finite g a line has complete first_line told bad) =
-      inr (g, has.checks, inr (a, has.named, inr (complete, inl (record { line = line; first_line = first_line; told = told; bad = bad }))))
+  staged (ShowAnswer.not_finite g a cause has complete first_cause told bad) =
+      inr (g, has.checks, inr (a, has.named, inr (complete, inl (record { cause = cause; first_cause = first_cause; told = told; bad = bad }))))
   staged (ShowAnswer.not_a_binding g a e place asked none told bad) =
       let has = asked.has_schema in
       inr (g, has.checks, inr (a, has.named, inr (asked.complete, inr (asked.finite, (e, asked.environment, inl (record { place = place; none = none; told = told; bad = bad }))))))

@@ -1,5 +1,5 @@
 -- What is claimed of the answers.
-use Rattle.std.specs.Prelude.{◌≡◌, ◌≢◌, ◌⊎◌, ℕ, List, [], ◌∷◌, ◌++◌, Option}
+use Rattle.std.specs.Prelude.{◌≡◌, ◌≢◌, ◌⊎◌, ℕ, Bool, List, [], ◌∷◌, ◌++◌, Option}
 use Rattle.std.specs.List.{flat_map}
 use Rattle.zf_command.specs.declared.job.Job.{Job}
 use Rattle.zf_command.specs.declared.job.Job.TheVariants.{Show}
@@ -10,7 +10,7 @@ use Rattle.zf_scan.specs.Cuts.{IsCutInto}
 use Rattle.zf_text.specs.Parsing.{IsGrammarFault, ReadsSource, Refuses, RefusesSource}
 use Rattle.zf_tree.specs.Trees.{BoxTree}
 use Rattle.zf_term.specs.Definitions.{Comp, Defined, Schema}
-use Rattle.zf_type.specs.declared.fault.TypeFault.{TypeFault}
+use Rattle.zf_term.specs.Faults.{Fault}
 use Rattle.zf_schema.specs.Checking.{Item, OffendsItem}
 use Rattle.zf_value.specs.declared.value.Value.{Value}
 use Rattle.zf_walk.specs.Events.{Event}
@@ -23,15 +23,16 @@ use Rattle.zf_texts.specs.Spellings.{spellings}
 use Rattle.zf_lines.specs.declared.fault.Status.{Status}
 use Rattle.zf_lines.specs.Searches.{HasEvents, IsTestsLine, IsWritten}
 use Rattle.zf_lines.specs.Texts.{binding_line}
-use Rattle.zf_engine.specs.Answers.{Answer, AreHeld, Checks, HasSchema, HoldsNoValues, IsLimited, IsNamedRow, NamesNoRow, Request, stated}
-use Rattle.zf_engine.specs.Texts.{not_a_binding_line, not_held_line, text_fault_line, type_fault_line}
+use Rattle.zf_engine.specs.Answers.{Answer, AreHeld, Checks, HasSchema, HoldsNoValues, IsLimited, IsNamedRow, NamesNoRow, Request, stated, wants_details}
+use Rattle.zf_engine.specs.Details.{text_fault_lines, type_fault_lines}
+use Rattle.zf_engine.specs.Texts.{not_a_binding_line, not_held_line}
 use Rattle.zf_answers.specs.Bindings.{ShowsBindings}
 
 -- ---- what `show` answers
 
 -- the text and the status answer the request
 abbrev pub AnswersRequest : Request → (file source text : List ℕ) → Status → Type 0
-AnswersRequest r file source text status = Answer (Show r.name r.sizes r.after r.held r.limit r.tests) file source text status
+AnswersRequest r file source text status = Answer (Show r.name r.sizes r.after r.held r.limit r.tests r.details) file source text status
 
 -- Nothing stands in the way of the request: a tree reads the source, it is well typed and this is its schema of the name, the sizes fit and this is the
 -- environment at them, the schema is finite, the named row is this row of the schema's types, if one is named, these values are held, if a line of some
@@ -81,34 +82,37 @@ abbrev pub OneStatus : Type 0
 OneStatus = (job : Job) (file source one two : List ℕ) (s t : Status) → Answer job file source one s → Answer job file source two t → s ≡ t
 
 -- the text tells that no tree reads the source, or none that is low enough
-pub record TellsGrammar (file source text : List ℕ) : Type 0 where
+pub record TellsGrammar (details : Bool) (file source text : List ℕ) : Type 0 where
   pub fault : TextFault
+  pub symbol : List ℕ
   pub tokens : List Token
   pub cut : IsCutInto source tokens
   pub kind : IsGrammarFault fault.kind
   pub refused : Refuses fault.kind fault.line tokens
-  pub told : text ≡ text_fault_line file fault
+  pub told : text ≡ text_fault_lines details file fault symbol
 
 -- as many faults in both, and those at one place are offences of one paragraph or box
-abbrev pub AreOfSame : List TypeFault → List TypeFault → Type 0
+abbrev pub AreOfSame : List Fault → List Fault → Type 0
 AreOfSame [] [] = Unit {0}
 AreOfSame [] (f ∷ fs) = ⊥
 AreOfSame (e ∷ es) [] = ⊥
-AreOfSame (e ∷ es) (f ∷ fs) = ((g : List Defined) × (item : Item) × OffendsItem g item e.kind e.line × OffendsItem g item f.kind f.line) × AreOfSame es fs
+AreOfSame (e ∷ es) (f ∷ fs) = ((g : List Defined) × (item : Item) × OffendsItem g item e.offence e.line × OffendsItem g item f.offence f.line) × AreOfSame es fs
 
--- Two texts are one, or differ in what is left open: which fault of the grammar an unread source has, which offence of an ill typed paragraph is told, and
--- the byte at which a text is no binding, or no line of some components.
-pub data AreAlike (file source one two : List ℕ) : Type 0 where
-  same : one ≡ two → AreAlike file source one two
-  grammar : TellsGrammar file source one → TellsGrammar file source two → AreAlike file source one two
-  types : (globals : List Defined) (first second : List TypeFault) (listed : List ℕ) → Checks source globals first → Checks source globals second → first ≢ [] → AreOfSame first second
-      → one ≡ flat_map (type_fault_line file) first ++ listed → two ≡ flat_map (type_fault_line file) second ++ listed → AreAlike file source one two
-  no_binding : (first second : ℕ) → one ≡ not_a_binding_line first → two ≡ not_a_binding_line second → AreAlike file source one two
-  no_values : (first second : ℕ) → one ≡ not_held_line first → two ≡ not_held_line second → AreAlike file source one two
+-- Two texts are one, or differ in what is left open: which fault of the grammar an unread source has, which symbol a fault of it is about, which offence of
+-- an ill typed paragraph is told, and the byte at which a text is no binding, or no line of some components.
+pub data AreAlike (details : Bool) (file source one two : List ℕ) : Type 0 where
+  same : one ≡ two → AreAlike details file source one two
+  symbol : (fault : TextFault) (first second : List ℕ) → RefusesSource source fault → one ≡ text_fault_lines details file fault first
+      → two ≡ text_fault_lines details file fault second → AreAlike details file source one two
+  grammar : TellsGrammar details file source one → TellsGrammar details file source two → AreAlike details file source one two
+  types : (globals : List Defined) (first second : List Fault) (listed : List ℕ) → Checks source globals first → Checks source globals second → first ≢ [] → AreOfSame first second
+      → one ≡ flat_map (type_fault_lines details file) first ++ listed → two ≡ flat_map (type_fault_lines details file) second ++ listed → AreAlike details file source one two
+  no_binding : (first second : ℕ) → one ≡ not_a_binding_line first → two ≡ not_a_binding_line second → AreAlike details file source one two
+  no_values : (first second : ℕ) → one ≡ not_held_line first → two ≡ not_held_line second → AreAlike details file source one two
 
 -- A source has one text for a job, but for what is left open.
 abbrev pub OneText : Type 0
-OneText = (job : Job) (file source one two : List ℕ) (s t : Status) → Answer job file source one s → Answer job file source two t → AreAlike file source one two
+OneText = (job : Job) (file source one two : List ℕ) (s t : Status) → Answer job file source one s → Answer job file source two t → AreAlike (wants_details job) file source one two
 
 -- ---- what is always one of two
 

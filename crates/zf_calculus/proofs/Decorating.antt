@@ -1,5 +1,6 @@
 -- Strokes change no size, and are added to one component after another.
-use Rattle.zf_calculus.proofs.Prelude.{set, drop-set-lt, drop_all, get_or_default, length-map, take_all, take_more_set, sum_by-cons, sum_by, dropped, pushed, Comp, comp_of, DeclaredSet, Schema, set_count, set_nodes, Component, counted, HasLeft, IsWithin}
+use Rattle.zf_calculus.proofs.Prelude.{set, drop-set-lt, drop_all, get_or_default, length-map, take_all, take_more_set, sum_by-cons, sum_by, dropped, pushed, Comp, comp_of, DeclaredSet, Schema, set_count, set_nodes, Component, counted, HasLeft, IsWithin, Keeps, Limit}
+use Rattle.zf_term.specs.declared.fault.Limit.TheVariants as limit
 use Rattle.std.proofs.Common.{◌≡◌, ℕ, ◌+◌, ◌<◌, ◌≤◌, Bool, true, ◌==◌, eqb-true, length, sym, List, [], ◌∷◌, ◌++◌, map, take, drop, get_or, refl, ap, ◌∙◌, subst, arith, append-nil}
 use Rattle.zf_calculus.specs.Calculus.{comp, schema_of, decorated}
 
@@ -28,21 +29,13 @@ within_decorated strokes a w =
       low = w.low;
     }
 
-pub decorated_within : (strokes : List ℕ) (a : Schema) → IsWithin (decorated strokes a) → IsWithin a
-decorated_within strokes a w =
-    let l = length-map a.comps (stroked strokes) in
-    let s = counts_same set_count strokes a.comps in
-    let n = counts_same set_nodes strokes a.comps in
-    let comps = w.comps in
-    let sets = w.sets in
-    let nodes = w.nodes in
-    record {
-      comps = omega arith;
-      sets = omega arith;
-      conjuncts = w.conjuncts;
-      nodes = omega arith;
-      low = w.low;
-    }
+pub keeps_undecorated : (l : Limit) (strokes : List ℕ) (a : Schema) → Keeps l (decorated strokes a) → Keeps l a
+keeps_undecorated limit.TypeNodes strokes a w = tt
+keeps_undecorated limit.Components strokes a w = omega (arith, length-map a.comps (stroked strokes), w)
+keeps_undecorated limit.Sets strokes a w = omega (arith, counts_same set_count strokes a.comps, w)
+keeps_undecorated limit.Conjuncts strokes a w = w
+keeps_undecorated limit.Nodes strokes a w = omega (arith, counts_same set_nodes strokes a.comps, w)
+keeps_undecorated limit.Height strokes a w = w
 
 pub left_decorated : (strokes : List ℕ) (a b : Schema) (s n : ℕ) → HasLeft a s n → b ≡ decorated strokes a → HasLeft b s n
 left_decorated strokes a b s n h e =

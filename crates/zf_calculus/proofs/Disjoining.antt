@@ -1,11 +1,11 @@
 -- The components of disjunctions.
-use Rattle.zf_calculus.proofs.Prelude.{◌<◌, ◌∙◌, ◌∷◌, ◌≡◌, [], ap, arith, inr, length, List, map, refl, subst, sym, ℕ, length-map, of-Either, Comp, comp_of, DeclaredSet, Schema, schema_of, set_of, sets_of, sides, type_of, TypeFaultKind, Component, Domain, Flat, ZType, comp, comp_named, disjoined, sets_on, with_comps, disjoined_over, either_comp, IsTooLarge, IsWithin, IsNext, Stops}
+use Rattle.zf_calculus.proofs.Prelude.{◌<◌, ◌∙◌, ◌∷◌, ◌≡◌, [], ap, arith, inr, length, List, map, refl, subst, sym, ℕ, length-map, of-Either, Comp, comp_of, DeclaredSet, Schema, schema_of, set_of, sets_of, sides, type_of, Offence, too_large, Component, Domain, Flat, ZType, comp, comp_named, disjoined, sets_on, with_comps, disjoined_over, either_comp, IsTooLarge, IsWithin, IsNext, Stops}
 use Rattle.zf_term.specs.declared.globals.Domain.TheVariants as v
-use Rattle.zf_term.specs.declared.fault.TypeFaultKind.TheVariants as kinds
+use Rattle.zf_term.specs.declared.fault.Limit.TheVariants as limit
 use Rattle.zf_calculus.proofs.Merging.{none_shorter}
 use Rattle.zf_calculus.proofs.Placing.{TooMany}
 
-pub too_many : (cs ds : List Component) → 64 < length cs → TooMany (with_comps (map comp_of cs) (map comp_of ds)) kinds.TooLarge
+pub too_many : (cs ds : List Component) → 64 < length cs → TooMany (with_comps (map comp_of cs) (map comp_of ds)) (too_large limit.Components)
 too_many cs ds l = (refl, λ w. omega (arith, none_shorter (map comp_of cs) (map comp_of ds), length-map cs comp_of))
 
 pub either_seen : (c : Component) (cs ds : List Comp) (name : List ℕ) (t : ZType) (domains left right : List Domain) → name ≡ c.name → t ≡ c.ztype → map set_of left ≡ sets_on (comp_named c.name cs) (type_of c.ztype) → map set_of right ≡ sets_on (comp_named c.name ds) (type_of c.ztype) → domains ≡ v.Either left right ∷ [] → comp_of (record { name = name; ztype = t; domains = domains }) ≡ either_comp cs ds (comp_of c)
@@ -27,8 +27,8 @@ disjunction_made l left right flat all given cs ds made g whole e f =
     in
     made ∙ ap (λ (xs : List Comp). disjoined_over xs l (schema_of left) (schema_of right)) joined
 
-pub stops_disjoining : (agree : Type 0) (a b : Schema) → a ≡ b → agree → (k : TypeFaultKind) → IsTooLarge a k → Stops agree b k
-stops_disjoining agree a b e ok k h = inr (h.0, ok, λ w. h.1 (subst IsWithin (sym e) w))
+pub stops_disjoining : (clashes : Offence → Type 0) (agree : Type 0) (a b : Schema) → a ≡ b → agree → (k : Offence) → IsTooLarge a k → Stops clashes agree b k
+stops_disjoining clashes agree a b e ok k h = inr (ok, subst (λ (s : Schema). IsTooLarge s k) e h)
 
 pub next_disjoined : (a b c : Schema) → a ≡ b → IsNext a c → IsNext b c
 next_disjoined a b c e n = (n.0 ∙ e, subst IsWithin e n.1)

@@ -1,10 +1,10 @@
 -- The conjuncts of `\Xi`: what the program makes is what is wanted.
-use Rattle.zf_calculus.proofs.Prelude.{place_in, Equal, new_link, of-Chain, of-link, of-Name, dropped, Comp, Schema, chain, link, links, no_links, reference, resolved_link_of, resolved_of, ResolvedTree, TypeFaultKind, Resolved, ResolvedLink, all_unchanged, new_place, unchanged, constrained, equalities, equality, IsTooLarge, IsWithin}
+use Rattle.zf_calculus.proofs.Prelude.{place_in, Equal, new_link, of-Chain, of-link, of-Name, dropped, Comp, Schema, chain, link, links, no_links, reference, resolved_link_of, resolved_of, ResolvedTree, Offence, Limit, Resolved, ResolvedLink, all_unchanged, new_place, unchanged, constrained, equalities, equality, IsTooLarge, Keeps}
 use Rattle.std.proofs.Common.{◌≡◌, ℕ, zero, suc, ◌+◌, ◌<◌, List, [], ◌∷◌, ◌++◌, length, map, drop, get_or, refl, sym, ap, ◌∙◌, subst, arith, append_assoc}
 use Rattle.zf_reference.specs.declared.reference.Reference.TheVariants.{Component}
 use Rattle.zf_term.specs.declared.resolved.Resolved.TheVariants as v
 use Rattle.zf_calculus.specs.Calculus as calculus
-use Rattle.zf_calculus.proofs.Monotony.{before_conjuncts}
+use Rattle.zf_calculus.proofs.Monotony.{before_conjuncts, still_large}
 
 pub equality_seen : (l i p : ℕ) (t : Resolved) (ks : List ResolvedLink) → t ≡ v.Name l (Component i) → ks ≡ new_link Equal (v.Name l (Component p)) ∷ [] → resolved_of (v.Chain l t ks) ≡ equality l i p
 equality_seen l i p t ks e f =
@@ -32,14 +32,12 @@ same_equalities l primed all cs ps e h = all_equal l 0 primed all cs ps e (λ k 
     other (x ∷ xs) zero d e m = refl
     other (x ∷ xs) (suc k) d e m = other xs k d e (omega arith)
 
-pub stops_equalities : (a b : Schema) (l : ℕ) (ps : List ℕ) (i p : ℕ) (t : ResolvedTree) → i < length ps → p ≡ get_or ps i p → t ≡ equality l i p → constrained a (equalities l i (drop i ps)) ≡ constrained b (equalities l 0 ps) → (k : TypeFaultKind) → IsTooLarge (constrained a (t ∷ [])) k → IsTooLarge (constrained b (equalities l 0 ps)) k
-stops_equalities a b l ps i p t m e g whole k h = (
-  h.0,
-  λ w.
-      let rest = equalities l (i + 1) (drop (i + 1) ps) in
-      let now : IsWithin (constrained a (equalities l i (drop i ps))) = subst IsWithin (sym whole) w in
-      let next : IsWithin (constrained a (equality l i p ∷ rest)) = subst (λ (qs : List ℕ). IsWithin (constrained a (equalities l i qs))) (dropped ps i p m e) now in
-      let parted : IsWithin (calculus.schema_of a.comps ((a.conjuncts ++ equality l i p ∷ []) ++ rest)) = subst (λ (ts : List ResolvedTree). IsWithin (calculus.schema_of a.comps ts)) (sym (append_assoc a.conjuncts (equality l i p ∷ []) rest)) next in
-      let one : IsWithin (constrained a (equality l i p ∷ [])) = before_conjuncts a.comps (a.conjuncts ++ equality l i p ∷ []) rest parted in
-      h.1 (subst (λ (u : ResolvedTree). IsWithin (constrained a (u ∷ []))) (sym g) one),
-)
+pub stops_equalities : (a b : Schema) (l : ℕ) (ps : List ℕ) (i p : ℕ) (t : ResolvedTree) → i < length ps → p ≡ get_or ps i p → t ≡ equality l i p → constrained a (equalities l i (drop i ps)) ≡ constrained b (equalities l 0 ps) → (k : Offence) → IsTooLarge (constrained a (t ∷ [])) k → IsTooLarge (constrained b (equalities l 0 ps)) k
+stops_equalities a b l ps i p t m e g whole k h = still_large (constrained a (t ∷ [])) (constrained b (equalities l 0 ps)) k
+    (λ x w.
+    let rest = equalities l (i + 1) (drop (i + 1) ps) in
+    let now : Keeps x (constrained a (equalities l i (drop i ps))) = subst (Keeps x) (sym whole) w in
+    let next : Keeps x (constrained a (equality l i p ∷ rest)) = subst (λ (qs : List ℕ). Keeps x (constrained a (equalities l i qs))) (dropped ps i p m e) now in
+    let parted : Keeps x (calculus.schema_of a.comps ((a.conjuncts ++ equality l i p ∷ []) ++ rest)) = subst (λ (ts : List ResolvedTree). Keeps x (calculus.schema_of a.comps ts)) (sym (append_assoc a.conjuncts (equality l i p ∷ []) rest)) next in
+    let one : Keeps x (constrained a (equality l i p ∷ [])) = before_conjuncts x a.comps (a.conjuncts ++ equality l i p ∷ []) rest parted in
+    subst (λ (u : ResolvedTree). Keeps x (constrained a (u ∷ []))) (sym g) one) h

@@ -1,40 +1,36 @@
--- A schema that has grown is within the limits only if it was before.
-use Rattle.zf_calculus.proofs.Prelude.{◌++◌, ◌+◌, ◌<◌, ◌∷◌, ◌≡◌, ◌≤◌, [], arith, length, length-append, List, ℕ, sum_by-append, sum_by_push, AllByRecursion, sum_by, Comp, Schema, ResolvedTree, set_count, set_nodes, height, nodes, constrained, grown, HasLeft, all_nodes, IsLow, IsWithin}
+-- A schema that has grown is within a limit only if it was before.
+use Rattle.zf_calculus.proofs.Prelude.{◌++◌, ◌+◌, ◌<◌, ◌∷◌, ◌≡◌, ◌≤◌, [], arith, length, length-append, List, ℕ, sum_by-append, sum_by_push, AllByRecursion, sum_by, Comp, Schema, ResolvedTree, set_count, set_nodes, height, nodes, constrained, grown, HasLeft, all_nodes, IsLow, IsTooLarge, IsWithin, Keeps, Limit, Offence}
+use Rattle.zf_term.specs.declared.fault.Limit.TheVariants as limit
 use Rattle.zf_calculus.specs.Calculus.{schema_of, with_comp, with_comps}
 use Rattle.zf_calculus.proofs.Merging.{counts_more, no_shorter}
 
-pub before_one : (cs : List Comp) (c : Comp) (ts : List ResolvedTree) → IsWithin (schema_of (with_comp cs c) ts) → IsWithin (schema_of cs ts)
-before_one cs c ts w =
-    let l = no_shorter cs c in
-    let s = counts_more set_count cs c in
-    let n = counts_more set_nodes cs c in
-    record {
-      comps = omega arith;
-      sets = omega arith;
-      conjuncts = w.conjuncts;
-      nodes = omega arith;
-      low = w.low;
-    }
+-- what passes a limit passes it with more
+pub still_large : (a b : Schema) (o : Offence) → ((l : Limit) → Keeps l b → Keeps l a) → IsTooLarge a o → IsTooLarge b o
+still_large a b o keep h = (h.0, h.1, λ w. h.2 (keep h.0 w))
 
-pub before_all : (cs ds : List Comp) (ts : List ResolvedTree) → IsWithin (schema_of (with_comps cs ds) ts) → IsWithin (schema_of cs ts)
-before_all cs [] ts w = w
-before_all cs (d ∷ ds) ts w = before_one cs d ts (before_all (with_comp cs d) ds ts w)
+pub before_one : (l : Limit) (cs : List Comp) (c : Comp) (ts : List ResolvedTree) → Keeps l (schema_of (with_comp cs c) ts) → Keeps l (schema_of cs ts)
+before_one limit.TypeNodes cs c ts w = tt
+before_one limit.Components cs c ts w = omega (arith, no_shorter cs c, w)
+before_one limit.Sets cs c ts w = omega (arith, counts_more set_count cs c, w)
+before_one limit.Conjuncts cs c ts w = w
+before_one limit.Nodes cs c ts w = omega (arith, counts_more set_nodes cs c, w)
+before_one limit.Height cs c ts w = w
+
+pub before_all : (l : Limit) (cs ds : List Comp) (ts : List ResolvedTree) → Keeps l (schema_of (with_comps cs ds) ts) → Keeps l (schema_of cs ts)
+before_all l cs [] ts w = w
+before_all l cs (d ∷ ds) ts w = before_one l cs d ts (before_all l (with_comp cs d) ds ts w)
 
 first_low : (ts us : List ResolvedTree) → AllByRecursion IsLow (ts ++ us) → AllByRecursion IsLow ts
 first_low [] us h = tt
 first_low (t ∷ ts) us h = (h.0, first_low ts us h.1)
 
-pub before_conjuncts : (cs : List Comp) (ts us : List ResolvedTree) → IsWithin (schema_of cs (ts ++ us)) → IsWithin (schema_of cs ts)
-before_conjuncts cs ts us w =
-    let l = length-append ts us in
-    let n = sum_by-append nodes ts us in
-    record {
-      comps = w.comps;
-      sets = w.sets;
-      conjuncts = omega arith;
-      nodes = omega arith;
-      low = first_low ts us w.low;
-    }
+pub before_conjuncts : (l : Limit) (cs : List Comp) (ts us : List ResolvedTree) → Keeps l (schema_of cs (ts ++ us)) → Keeps l (schema_of cs ts)
+before_conjuncts limit.TypeNodes cs ts us w = tt
+before_conjuncts limit.Components cs ts us w = w
+before_conjuncts limit.Sets cs ts us w = w
+before_conjuncts limit.Conjuncts cs ts us w = omega (arith, length-append ts us, w)
+before_conjuncts limit.Nodes cs ts us w = omega (arith, sum_by-append nodes ts us, w)
+before_conjuncts limit.Height cs ts us w = first_low ts us w
 
 -- ---- what is left of the limits
 
@@ -56,11 +52,11 @@ left_grown a c s n t m h e f l =
       };
     }
 
-pub sets_passed : (a : Schema) (c : Comp) (s n : ℕ) → HasLeft a s n → s < sum_by set_count c.sets → IsWithin (grown a c) → ⊥
-sets_passed a c s n h e w = omega (arith, counts_more set_count a.comps c, h.sets, w.sets)
+pub sets_passed : (a : Schema) (c : Comp) (s n : ℕ) → HasLeft a s n → s < sum_by set_count c.sets → Keeps limit.Sets (grown a c) → ⊥
+sets_passed a c s n h e w = omega (arith, counts_more set_count a.comps c, h.sets, w)
 
-pub nodes_passed : (a : Schema) (c : Comp) (s n : ℕ) → HasLeft a s n → n < sum_by set_nodes c.sets → IsWithin (grown a c) → ⊥
-nodes_passed a c s n h e w = omega (arith, counts_more set_nodes a.comps c, h.nodes, w.nodes)
+pub nodes_passed : (a : Schema) (c : Comp) (s n : ℕ) → HasLeft a s n → n < sum_by set_nodes c.sets → Keeps limit.Nodes (grown a c) → ⊥
+nodes_passed a c s n h e w = omega (arith, counts_more set_nodes a.comps c, h.nodes, w)
 
 pub all_low : (ts us : List ResolvedTree) → AllByRecursion IsLow ts → AllByRecursion IsLow us → AllByRecursion IsLow (ts ++ us)
 all_low [] us h g = g
@@ -91,11 +87,11 @@ left_taken a t s n m h e l low =
       };
     }
 
-pub term_passed : (a : Schema) (t : ResolvedTree) (s n : ℕ) → HasLeft a s n → n < nodes t → IsWithin (constrained a (t ∷ [])) → ⊥
-term_passed a t s n h e w = omega (arith, more_nodes a t, h.nodes, w.nodes)
+pub term_passed : (a : Schema) (t : ResolvedTree) (s n : ℕ) → HasLeft a s n → n < nodes t → Keeps limit.Nodes (constrained a (t ∷ [])) → ⊥
+term_passed a t s n h e w = omega (arith, more_nodes a t, h.nodes, w)
 
-pub conjuncts_passed : (a : Schema) (t : ResolvedTree) → 4096 ≤ length a.conjuncts → IsWithin (constrained a (t ∷ [])) → ⊥
-conjuncts_passed a t e w = omega (arith, length-append a.conjuncts (t ∷ []), w.conjuncts)
+pub conjuncts_passed : (a : Schema) (t : ResolvedTree) → 4096 ≤ length a.conjuncts → Keeps limit.Conjuncts (constrained a (t ∷ [])) → ⊥
+conjuncts_passed a t e w = omega (arith, length-append a.conjuncts (t ∷ []), w)
 
-pub height_passed : (a : Schema) (t : ResolvedTree) → (height t ≤ 256 → ⊥) → IsWithin (constrained a (t ∷ [])) → ⊥
-height_passed a t e w = e (last_low a.conjuncts t w.low)
+pub height_passed : (a : Schema) (t : ResolvedTree) → (height t ≤ 256 → ⊥) → Keeps limit.Height (constrained a (t ∷ [])) → ⊥
+height_passed a t e w = e (last_low a.conjuncts t w)

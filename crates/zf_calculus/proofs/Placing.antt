@@ -1,6 +1,6 @@
 -- Where the components of a name are, and that they stay there.
-use Rattle.zf_calculus.proofs.Prelude.{if◌then◌else◌, ◌++◌, ◌+◌, ◌<◌, ◌∙◌, ◌∷◌, ◌≡◌, ◌≤◌, [], add-one, ap, arith, Bool, false, get_or, length, List, map, None, Option, refl, slice_get, Some, subst, suc, sym, true, zero, ℕ, append-nil, append_assoc, length-map, none-some, same_Some, slice_get_past, bytes_eq, place_in, in_full, is_itself, Comp, comp_of, later, TypeFaultKind, Component, comp, comp_named, new_place, place_of, place_or, with_comp, with_comps, AreAt, place_found, place_named, AreFew}
-use Rattle.zf_term.specs.declared.fault.TypeFaultKind.TheVariants as kinds
+use Rattle.zf_calculus.proofs.Prelude.{if◌then◌else◌, ◌++◌, ◌+◌, ◌<◌, ◌∙◌, ◌∷◌, ◌≡◌, ◌≤◌, [], add-one, ap, arith, Bool, false, get_or, length, List, map, None, Option, refl, slice_get, Some, subst, suc, sym, true, zero, ℕ, append-nil, append_assoc, length-map, none-some, same_Some, slice_get_past, bytes_eq, place_in, in_full, is_itself, Comp, comp_of, later, Offence, too_large, Component, comp, comp_named, new_place, place_of, place_or, with_comp, with_comps, AreAt, place_found, place_named, AreFew}
+use Rattle.zf_term.specs.declared.fault.Limit.TheVariants as limit
 use Rattle.zf_calculus.proofs.Merging.{none_shorter, nothing_before}
 
 -- ---- one more component
@@ -116,10 +116,10 @@ all_placed all places ahead first none before =
     subst (λ (qs : List ℕ). AreAt all qs (map comp_of first)) (append-nil places) (before [] (subst (λ (ys : List Component). AreAt all [] (map comp_of ys)) (sym none) tt))
 
 -- more components than a schema can have
-abbrev pub TooMany : List Comp → TypeFaultKind → Type 0
-TooMany cs k = (k ≡ kinds.TooLarge) × (AreFew cs → ⊥)
+abbrev pub TooMany : List Comp → Offence → Type 0
+TooMany cs k = (k ≡ too_large limit.Components) × (AreFew cs → ⊥)
 
-pub stops_joining : (cs all : List Comp) (c : Component) (ahead rest : List Component) → ahead ≡ c ∷ rest → with_comps cs (map comp_of ahead) ≡ all → (k : TypeFaultKind) → TooMany (with_comp cs (comp_of c)) k → TooMany all k
+pub stops_joining : (cs all : List Comp) (c : Component) (ahead rest : List Component) → ahead ≡ c ∷ rest → with_comps cs (map comp_of ahead) ≡ all → (k : Offence) → TooMany (with_comp cs (comp_of c)) k → TooMany all k
 stops_joining cs all c ahead rest step whole k h =
     let less = none_shorter (with_comp cs (comp_of c)) (map comp_of rest) in
     let same = ap length (ap (λ (ys : List Component). with_comps cs (map comp_of ys)) (sym step) ∙ whole) in

@@ -21,7 +21,8 @@ pub use Rattle.zf_term.specs.ResolvedTrees.{chain, link, links, no_links, refere
 pub use Rattle.zf_term.specs.SetShapes.{set_count, set_nodes}
 pub use Rattle.zf_term.specs.Shapes.{height, line_of, moved, nodes, numbering}
 pub use Rattle.zf_term.specs.Types.{type_of}
-pub use Rattle.zf_term.specs.declared.fault.TypeFaultKind.{TypeFaultKind}
+pub use Rattle.zf_term.specs.Faults.{clash, Offence, too_large}
+pub use Rattle.zf_term.specs.declared.fault.Limit.{Limit}
 pub use Rattle.zf_term.specs.declared.globals.Component.{Component}
 pub use Rattle.zf_term.specs.declared.globals.Domain.{Domain}
 pub use Rattle.zf_term.specs.declared.globals.Flat.{Flat}
@@ -30,6 +31,6 @@ pub use Rattle.zf_term.specs.declared.resolved.ResolvedLink.{ResolvedLink}
 pub use Rattle.zf_term.specs.declared.ztype.ZType.{ZType}
 pub use Rattle.zf_shape.proofs.Heights.{below_nodes}
 pub use Rattle.zf_calculus.specs.Calculus.{Agree, Agrees, all_unchanged, AreOnce, carried, comp, comp_named, conjoined, decorated, delta, disjoined, joined, membership, memberships, new_place, place_of, place_or, prime, sets_on, unchanged, with_comp, with_comps, xi}
-pub use Rattle.zf_calculus.specs.Growth.{all_joined, AreAt, constrained, counted, disjoined_over, either_comp, enriched, equalities, equality, grown, HasLeft, IfStopped, is_member, IsGrowing, IsTooLarge, place_found, place_named}
-pub use Rattle.zf_calculus.specs.Limits.{all_nodes, AreFew, IsLow, IsWithin}
-pub use Rattle.zf_calculus.specs.Steps.{IsNext, Stops}
+pub use Rattle.zf_calculus.specs.Growth.{all_joined, AreAt, constrained, counted, disjoined_over, either_comp, enriched, equalities, equality, grown, HasLeft, IfStopped, is_member, IsGrowing, place_found, place_named}
+pub use Rattle.zf_calculus.specs.Limits.{all_nodes, AreFew, IsLow, IsTooLarge, IsWithin, Keeps}
+pub use Rattle.zf_calculus.specs.Steps.{Clashes, Differs, IsNext, OneClashes, Stops}

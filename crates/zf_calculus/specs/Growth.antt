@@ -10,9 +10,8 @@ use Rattle.zf_reference.specs.declared.reference.Reference.TheVariants as place
 use Rattle.zf_term.specs.Definitions.{Comp, Schema, DeclaredSet, sides, sets_of, schema_of}
 use Rattle.zf_term.specs.ResolvedTrees.{ResolvedTree, reference, binary, chain, no_links, link}
 use Rattle.zf_term.specs.Shapes.{line_of}
-use Rattle.zf_term.specs.declared.fault.TypeFaultKind.{TypeFaultKind}
-use Rattle.zf_term.specs.declared.fault.TypeFaultKind.TheVariants.{ComponentClash}
-use Rattle.zf_term.specs.declared.fault.TypeFaultKind.TheVariants as kind
+use Rattle.zf_term.specs.Faults.{Offence, clash, too_large}
+use Rattle.zf_term.specs.Types.{type_of}
 use Rattle.zf_calculus.specs.declared.growing.Growing.{Growing}
 use Rattle.zf_calculus.specs.declared.stop.Stop.{Stop}
 use Rattle.zf_calculus.specs.declared.stop.Stop.TheVariants.{Clash, TooLarge, OutOfMemory}
@@ -48,19 +47,15 @@ AreAt all [] (c ∷ cs) = ⊥
 AreAt all (p ∷ ps) [] = ⊥
 AreAt all (p ∷ ps) (c ∷ cs) = (place_named c.name all ≡ Some p) × AreAt all ps cs
 
--- the fact holds of the kind of fault, unless memory ran out
-abbrev pub IfStopped : Stop → (TypeFaultKind → Type 0) → Type 0
-IfStopped Clash P = P ComponentClash
-IfStopped TooLarge P = P kind.TooLarge
+-- the fact holds of what is wrong, unless memory ran out
+abbrev pub IfStopped : Stop → (Offence → Type 0) → Type 0
+IfStopped (Clash c) P = P (clash c.name (type_of c.left) (type_of c.right))
+IfStopped (TooLarge l) P = P (too_large l)
 IfStopped OutOfMemory P = Unit {0}
 
 -- a component with further declared sets
 abbrev pub enriched : Component → List Domain → Component
 enriched c domains = record { name = c.name; ztype = c.ztype; domains = c.domains ++ domains }
-
--- the next schema passes a limit
-abbrev pub IsTooLarge : Schema → TypeFaultKind → Type 0
-IsTooLarge next k = (k ≡ kind.TooLarge) × (IsWithin next → ⊥)
 
 -- with one more component, whatever type one of its name has
 abbrev pub grown : Schema → Comp → Schema

@@ -1,7 +1,10 @@
 -- The limits of a schema.
-use Rattle.std.specs.Prelude.{ℕ, ◌+◌, ◌≤◌, List, length}
+use Rattle.std.specs.Prelude.{◌≡◌, ℕ, ◌+◌, ◌≤◌, List, length}
 use Rattle.std.specs.List.{AllByRecursion, sum_by}
 use Rattle.zf_term.specs.Definitions.{Comp, Schema}
+use Rattle.zf_term.specs.declared.fault.Limit.{Limit}
+use Rattle.zf_term.specs.declared.fault.Limit.TheVariants as limit
+use Rattle.zf_term.specs.Faults.{Offence, too_large}
 use Rattle.zf_term.specs.ResolvedTrees.{ResolvedTree}
 use Rattle.zf_term.specs.SetShapes.{set_count, set_nodes}
 use Rattle.zf_term.specs.Shapes.{nodes, height}
@@ -41,3 +44,16 @@ pub record IsWithin (a : Schema) : Type 0 where
   pub conjuncts : length a.conjuncts ≤ conjuncts_max
   pub nodes : all_nodes a ≤ nodes_max
   pub low : AllByRecursion IsLow a.conjuncts
+
+-- the schema is within this limit
+abbrev pub Keeps : Limit → Schema → Type 0
+Keeps limit.TypeNodes a = Unit {0}
+Keeps limit.Components a = AreFew a.comps
+Keeps limit.Sets a = declared_sets a ≤ sets_max
+Keeps limit.Conjuncts a = length a.conjuncts ≤ conjuncts_max
+Keeps limit.Nodes a = all_nodes a ≤ nodes_max
+Keeps limit.Height a = AllByRecursion IsLow a.conjuncts
+
+-- it passes one: which one is told
+abbrev pub IsTooLarge : Schema → Offence → Type 0
+IsTooLarge a o = (l : Limit) × (o ≡ too_large l) × (Keeps l a → ⊥)

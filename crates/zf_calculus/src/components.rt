@@ -3,11 +3,14 @@ ghost use Rattle.std.specs.Prelude.{◌≡◌, ◌++◌, ◌∷◌, [], ◌<◌,
 ghost use Rattle.zf_term.specs.declared.globals.Component.{Component};
 ghost use Rattle.zf_term.specs.Definitions.{Comp, comp_of};
 ghost use Rattle.zf_reference.specs.Numbering.{place_in};
-ghost use Rattle.zf_term.specs.declared.fault.TypeFaultKind.TheVariants as kinds;
+ghost use Rattle.zf_term.specs.Faults.{clash, too_large};
+ghost use Rattle.zf_term.specs.Types.{type_of};
+ghost use Rattle.zf_term.specs.declared.fault.Limit.TheVariants as limit;
 ghost use Rattle.zf_calculus.specs.Calculus as spec;
 ghost use Rattle.zf_calculus.specs.Calculus.{Agrees, Agree, comp_named, new_place, with_comp, with_comps, AreOnce};
 ghost use Rattle.zf_calculus.specs.Growth.{AreAt, IfStopped, enriched, place_named};
 ghost use Rattle.zf_calculus.specs.Limits.{AreFew, components_max};
+ghost use Rattle.zf_calculus.specs.Steps.{Clashes, OneClashes};
 
 use crate::limits::COMPONENTS_MAX;
 use crate::stop::Stop;
@@ -16,29 +19,56 @@ use std::alloc::AllocError;
 use std::mem;
 use std::mem::ManuallyDrop;
 use zf_data::arena::{Items, Shared};
+use zf_term::fault::{Clash, Limit};
 use zf_term::globals::{Component, Domain, Domains};
 use zf_term::named::component_of;
 
-/// Whether none of the others has another type than the component that has its name.
-pub fn agree<'a>(components: &[Component<'a>], others: &[Component<'a>]) -> bool
-    ensures { IsTrue result ↔ Agree (map comp_of components.now) (map comp_of others.now) }
+/// That none of the others has another type than the component that has its name.
+pub fn agree<'a>(components: &[Component<'a>], others: &[Component<'a>]) -> Result<(), Stop<'a>>
+    ensures ok { OnOk result (Agree (map comp_of components.now) (map comp_of others.now)) }
+    ensures err { IfErr result (λ e. IfStopped e (OneClashes (map comp_of components.now) (map comp_of others.now))) }
 {
     for other in others {
-        if !agrees(components, other) {
-            return false;
-        }
+        agrees(components, other)?;
     }
-    true
+    Ok(())
 }
 
-/// Whether the component has the type of the one that has its name, if one has.
-pub fn agrees<'a>(components: &[Component<'a>], component: &Component<'a>) -> bool
-    ensures { IsTrue result ↔ Agrees (map comp_of components.now) (comp_of component.now) }
+/// That the component has the type of the one that has its name, if one has.
+pub fn agrees<'a>(components: &[Component<'a>], component: &Component<'a>) -> Result<(), Stop<'a>>
+    ensures ok { OnOk result (Agrees (map comp_of components.now) (comp_of component.now)) }
+    ensures err { IfErr result (λ e. IfStopped e (Clashes (map comp_of components.now) (comp_of component.now))) }
 {
-    match component_of(components, component.name.as_slice()) {
-        Some((_, known)) => known.ztype.same(&component.ztype),
-        None => true,
+    let Some((_, known)) = component_of(components, component.name.as_slice()) else {
+        return Ok(());
+    };
+    if known.ztype.same(&component.ztype) {
+        return Ok(());
     }
+    Err(clashing(known, component))
+}
+
+/// The stop at a component that has another type than one of its name.
+#[inline(never)]
+fn clashing<'a>(known: &Component<'a>, other: &Component<'a>) -> Stop<'a>
+    ensures { IfStopped result (λ o. o ≡ clash other.now.name (type_of known.now.ztype) (type_of other.now.ztype)) }
+{
+    match both_types(known, other) {
+        Ok(clash) => Stop::Clash(clash),
+        Err(_) => Stop::OutOfMemory,
+    }
+}
+
+/// The name of the second, and both types.
+fn both_types<'a>(known: &Component<'a>, other: &Component<'a>) -> Result<Clash<'a>, AllocError>
+    ensures name { IfOk result (λ c. c.name ≡ other.now.name) }
+    ensures left { IfOk result (λ c. c.left ≡ known.now.ztype) }
+    ensures right { IfOk result (λ c. c.right ≡ other.now.ztype) }
+{
+    let name = other.name.share();
+    let left = known.ztype.share()?;
+    let right = other.ztype.share()?;
+    Ok(Clash { name, left, right })
 }
 
 /// Whether each component has a name of its own.
@@ -59,12 +89,12 @@ pub fn join_all<'a>(
     components: &mut Items<'a, Component<'a>>,
     arena: &'a Bump,
     further: Items<'a, Component<'a>>,
-) -> Result<Items<'a, usize>, Stop>
+) -> Result<Items<'a, usize>, Stop<'a>>
     requires { AreFew (map comp_of components.old) }
     ensures ok { OnOk result (map comp_of components.new ≡ with_comps (map comp_of components.old) (map comp_of further.entry)) }
     ensures places { IfOk result (λ places. AreAt (map comp_of components.new) places (map comp_of further.entry)) }
     ensures room { OnOk result (AreFew (with_comps (map comp_of components.old) (map comp_of further.entry))) }
-    ensures err { IfErr result (λ e. IfStopped e (λ kind. (kind ≡ kinds.TooLarge) × (AreFew (with_comps (map comp_of components.old) (map comp_of further.entry)) → ⊥))) }
+    ensures err { IfErr result (λ e. IfStopped e (λ o. (o ≡ too_large limit.Components) × (AreFew (with_comps (map comp_of components.old) (map comp_of further.entry)) → ⊥))) }
 {
     let mut places = Items::with_room(arena, further.len())?;
     for component in further.into_vec() {
@@ -77,12 +107,12 @@ pub fn join_all<'a>(
 pub fn join<'a>(
     components: &mut Items<'a, Component<'a>>,
     component: Component<'a>,
-) -> Result<usize, Stop>
+) -> Result<usize, Stop<'a>>
     requires { AreFew (map comp_of components.old) }
     ensures ok { OnOk result (map comp_of components.new ≡ with_comp (map comp_of components.old) (comp_of component.entry)) }
     ensures place { IfOk result (λ place. place_named component.entry.name (with_comp (map comp_of components.old) (comp_of component.entry)) ≡ Some place) }
     ensures room { OnOk result (AreFew (with_comp (map comp_of components.old) (comp_of component.entry))) }
-    ensures err { IfErr result (λ e. IfStopped e (λ kind. (kind ≡ kinds.TooLarge) × (AreFew (with_comp (map comp_of components.old) (comp_of component.entry)) → ⊥))) }
+    ensures err { IfErr result (λ e. IfStopped e (λ o. (o ≡ too_large limit.Components) × (AreFew (with_comp (map comp_of components.old) (comp_of component.entry)) → ⊥))) }
 {
     match place_of(components.as_slice(), component.name.as_slice()) {
         Some(place) => {
@@ -101,13 +131,13 @@ pub fn join<'a>(
 fn add_new<'a>(
     components: &mut Items<'a, Component<'a>>,
     component: Component<'a>,
-) -> Result<(), Stop>
+) -> Result<(), Stop<'a>>
     ensures ok { OnOk result (components.new ≡ components.old ++ component.entry ∷ []) }
     ensures room { OnOk result (length components.old < components_max) }
-    ensures err { IfErr result (λ e. IfStopped e (λ kind. (kind ≡ kinds.TooLarge) × (components_max ≤ length components.old))) }
+    ensures err { IfErr result (λ e. IfStopped e (λ o. (o ≡ too_large limit.Components) × (components_max ≤ length components.old))) }
 {
     if components.len() >= COMPONENTS_MAX {
-        return Err(Stop::TooLarge);
+        return Err(Stop::TooLarge(Limit::Components));
     }
     components.push(component)?;
     Ok(())

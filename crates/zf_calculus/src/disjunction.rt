@@ -5,10 +5,11 @@ ghost use Rattle.zf_term.specs.ResolvedTrees.{resolved_of};
 ghost use Rattle.zf_reference.specs.Numbering.{place_in};
 ghost use Rattle.zf_term.specs.Shapes as shape;
 ghost use Rattle.zf_term.specs.Types.{type_of};
-ghost use Rattle.zf_term.specs.declared.fault.TypeFaultKind.TheVariants as kinds;
+ghost use Rattle.zf_term.specs.Faults.{too_large};
+ghost use Rattle.zf_term.specs.declared.fault.Limit.TheVariants as limit;
 ghost use Rattle.zf_calculus.specs.Calculus as spec;
 ghost use Rattle.zf_calculus.specs.Calculus.{Agree, comp_named, disjoined, with_comps};
-ghost use Rattle.zf_calculus.specs.Steps.{IsNext, Stops};
+ghost use Rattle.zf_calculus.specs.Steps.{IsNext, OneClashes, Stops};
 ghost use Rattle.zf_calculus.specs.Growth.{IfStopped, IsGrowing, all_joined, both_hold, disjoined_over, either_comp, is_member, one_holds};
 ghost use Rattle.zf_calculus.specs.Limits.{AreFew};
 
@@ -25,6 +26,7 @@ use zf_reference::reference::Reference;
 use zf_resolved::conjunct;
 use zf_resolved::moving::{copy, moved};
 use zf_term::conjunct::Conjunct;
+use zf_term::fault::Limit;
 use zf_term::globals::{Component, Domain, Domains, Flat};
 use zf_term::named::component_of;
 use zf_term::resolved::{Resolved, ResolvedLink};
@@ -36,12 +38,12 @@ fn all_components<'a>(
     arena: &'a Bump,
     left: &[Component<'a>],
     right: &[Component<'a>],
-) -> Result<Items<'a, Component<'a>>, Stop>
+) -> Result<Items<'a, Component<'a>>, Stop<'a>>
     ensures ok { IfOk result (λ cs. map comp_of cs ≡ with_comps (map comp_of left.now) (map comp_of right.now)) }
-    ensures err { IfErr result (λ e. IfStopped e (λ k. (k ≡ kinds.TooLarge) × (AreFew (with_comps (map comp_of left.now) (map comp_of right.now)) → ⊥))) }
+    ensures err { IfErr result (λ e. IfStopped e (λ o. (o ≡ too_large limit.Components) × (AreFew (with_comps (map comp_of left.now) (map comp_of right.now)) → ⊥))) }
 {
     if left.len() > COMPONENTS_MAX {
-        return Err(Stop::TooLarge);
+        return Err(Stop::TooLarge(Limit::Components));
     }
     let mut all = component_copies(arena, left)?;
     let further = component_copies(arena, right)?;
@@ -303,15 +305,13 @@ pub fn disjoin<'a>(
     line: u32,
     left: &Flat<'a>,
     right: &Flat<'a>,
-) -> Result<Growing<'a>, Stop>
+) -> Result<Growing<'a>, Stop<'a>>
     ensures agree { IfOk result (λ g. Agree (schema_of left.now).comps (schema_of right.now).comps) }
     ensures ok { IfOk result (λ g. IsNext (disjoined line (schema_of left.now) (schema_of right.now)) (schema_of g.flat)) }
     ensures growing { IfOk result (λ g. IsGrowing g) }
-    ensures err { IfErr result (λ e. IfStopped e (Stops (Agree (schema_of left.now).comps (schema_of right.now).comps) (disjoined line (schema_of left.now) (schema_of right.now)))) }
+    ensures err { IfErr result (λ e. IfStopped e (Stops (OneClashes (schema_of left.now).comps (schema_of right.now).comps) (Agree (schema_of left.now).comps (schema_of right.now).comps) (disjoined line (schema_of left.now) (schema_of right.now)))) }
 {
-    if !agree(left.components.as_slice(), right.components.as_slice()) {
-        return Err(Stop::Clash);
-    }
+    agree(left.components.as_slice(), right.components.as_slice())?;
     let all = all_components(
         arena,
         left.components.as_slice(),
@@ -320,7 +320,7 @@ pub fn disjoin<'a>(
     let flat = disjunction(arena, line, left, right, all.as_slice())?;
     // Before its nodes are counted, which descends as far as it is high.
     if !none_too_high(flat.conjuncts.as_slice()) {
-        return Err(Stop::TooLarge);
+        return Err(Stop::TooLarge(Limit::Height));
     }
     within(flat)
 }

@@ -1,13 +1,13 @@
 //! Schemas that grow within the limits.
-ghost use Rattle.std.specs.Prelude.{◌≡◌, ◌∷◌, [], ◌++◌, ◌↔◌, IfErr, IfOk, IsTrue, MatchOption, OnOk, length, map};
+ghost use Rattle.std.specs.Prelude.{◌≡◌, ◌∷◌, [], ◌++◌, ◌↔◌, IfErr, IfOk, IsTrue, OnOk, length, map};
 ghost use Rattle.zf_term.specs.Definitions.{comp_of, conjunct_of, schema_of};
 ghost use Rattle.zf_term.specs.ResolvedTrees.{ResolvedTree};
 ghost use Rattle.zf_reference.specs.Numbering.{place_in};
 ghost use Rattle.zf_term.specs.Shapes.{moved, numbering};
 ghost use Rattle.zf_calculus.specs.Calculus.{Agree, Agrees, conjoined, new_place, nothing};
-ghost use Rattle.zf_calculus.specs.Steps.{Adds, Includes, IsNext, Stops};
-ghost use Rattle.zf_calculus.specs.Growth.{HasLeftBeside, IsGrowing, IfStopped, IsTooLarge, constrained, equalities, equality, grown};
-ghost use Rattle.zf_calculus.specs.Limits.{IsWithin};
+ghost use Rattle.zf_calculus.specs.Steps.{Adds, Clashes, Includes, IsNext, OneClashes, Stops};
+ghost use Rattle.zf_calculus.specs.Growth.{HasLeftBeside, IsGrowing, IfStopped, constrained, equalities, equality, grown};
+ghost use Rattle.zf_calculus.specs.Limits.{IsTooLarge, Keeps};
 
 use crate::components::{agree, agrees, are_apart, join, join_all};
 use crate::limits::{COMPONENTS_MAX, CONJUNCTS_MAX, NODES_MAX, SETS_MAX};
@@ -22,6 +22,7 @@ use zf_data::arena::{Boxed, Items, Lasting};
 use zf_reference::reference::Reference;
 use zf_shape::conjunct::room_after;
 use zf_term::conjunct::Conjunct;
+use zf_term::fault::Limit;
 use zf_term::globals::{Component, Flat};
 use zf_term::resolved::{Resolved, ResolvedLink};
 use zf_tree::symbol::Relation;
@@ -53,22 +54,29 @@ impl<'a> Growing<'a> {
     }
 
     /// A schema that was made elsewhere, if it is within the limits.
-    pub fn of(flat: Flat<'a>) -> Option<Growing<'a>>
-        ensures { MatchOption result (IsWithin (schema_of flat.entry) → ⊥) (λ g. (schema_of g.flat ≡ schema_of flat.entry) × IsGrowing g) }
+    pub fn of(flat: Flat<'a>) -> Result<Growing<'a>, Limit>
+        ensures ok { IfOk result (λ g. (schema_of g.flat ≡ schema_of flat.entry) × IsGrowing g) }
+        ensures passed { IfErr result (λ l. Keeps l (schema_of flat.entry) → ⊥) }
     {
         if flat.components.len() > COMPONENTS_MAX {
-            return None;
+            return Err(Limit::Components);
         }
         if flat.conjuncts.len() > CONJUNCTS_MAX {
-            return None;
+            return Err(Limit::Conjuncts);
         }
-        let sets_left = after_all_sets(flat.components.as_slice(), SETS_MAX)?;
-        let behind_sets = after_all_nodes(flat.components.as_slice(), NODES_MAX)?;
-        let nodes_left = after_conjuncts(flat.conjuncts.as_slice(), behind_sets)?;
+        let Some(sets_left) = after_all_sets(flat.components.as_slice(), SETS_MAX) else {
+            return Err(Limit::Sets);
+        };
+        let Some(behind_sets) = after_all_nodes(flat.components.as_slice(), NODES_MAX) else {
+            return Err(Limit::Nodes);
+        };
+        let Some(nodes_left) = after_conjuncts(flat.conjuncts.as_slice(), behind_sets) else {
+            return Err(Limit::Nodes);
+        };
         if !are_low(flat.conjuncts.as_slice(), behind_sets - nodes_left) {
-            return None;
+            return Err(Limit::Height);
         }
-        Some(Growing {
+        Ok(Growing {
             flat,
             sets_left,
             nodes_left,
@@ -76,31 +84,29 @@ impl<'a> Growing<'a> {
     }
 
     /// One more component.
-    pub fn add(&mut self, component: Component<'a>) -> Result<(), Stop>
+    pub fn add(&mut self, component: Component<'a>) -> Result<(), Stop<'a>>
         requires { IsGrowing self.old }
         ensures ok { OnOk result (Adds (schema_of self.old.flat) (comp_of component.entry) (schema_of self.new.flat)) }
         ensures growing { OnOk result (IsGrowing self.new) }
-        ensures err { IfErr result (λ e. IfStopped e (Stops (Agrees (schema_of self.old.flat).comps (comp_of component.entry)) (grown (schema_of self.old.flat) (comp_of component.entry)))) }
+        ensures err { IfErr result (λ e. IfStopped e (Stops (Clashes (schema_of self.old.flat).comps (comp_of component.entry)) (Agrees (schema_of self.old.flat).comps (comp_of component.entry)) (grown (schema_of self.old.flat) (comp_of component.entry)))) }
     {
-        if !agrees(self.flat.components.as_slice(), &component) {
-            return Err(Stop::Clash);
-        }
+        agrees(self.flat.components.as_slice(), &component)?;
         self.grow(component)
     }
 
     /// One more component, whatever type one of its name has.
-    pub fn grow(&mut self, component: Component<'a>) -> Result<(), Stop>
+    pub fn grow(&mut self, component: Component<'a>) -> Result<(), Stop<'a>>
         requires { IsGrowing self.old }
         ensures ok { OnOk result (IsNext (grown (schema_of self.old.flat) (comp_of component.entry)) (schema_of self.new.flat)) }
         ensures growing { OnOk result (IsGrowing self.new) }
         ensures err { IfErr result (λ e. IfStopped e (IsTooLarge (grown (schema_of self.old.flat) (comp_of component.entry)))) }
     {
         let Some(sets_left) = after_sets(component.domains.get().as_slice(), self.sets_left) else {
-            return Err(Stop::TooLarge);
+            return Err(Stop::TooLarge(Limit::Sets));
         };
         let Some(nodes_left) = after_nodes(component.domains.get().as_slice(), self.nodes_left)
         else {
-            return Err(Stop::TooLarge);
+            return Err(Stop::TooLarge(Limit::Nodes));
         };
         join(&mut self.flat.components, component)?;
         self.sets_left = sets_left;
@@ -109,20 +115,20 @@ impl<'a> Growing<'a> {
     }
 
     /// One more conjunct.
-    pub fn take(&mut self, conjunct: Conjunct<'a>) -> Result<(), Stop>
+    pub fn take(&mut self, conjunct: Conjunct<'a>) -> Result<(), Stop<'a>>
         requires { IsGrowing self.old }
         ensures ok { OnOk result (IsNext (constrained (schema_of self.old.flat) (conjunct_of conjunct.entry ∷ [])) (schema_of self.new.flat)) }
         ensures growing { OnOk result (IsGrowing self.new) }
         ensures err { IfErr result (λ e. IfStopped e (IsTooLarge (constrained (schema_of self.old.flat) (conjunct_of conjunct.entry ∷ [])))) }
     {
         let Some(nodes_left) = room_after(&conjunct, self.nodes_left) else {
-            return Err(Stop::TooLarge);
+            return Err(Stop::TooLarge(Limit::Nodes));
         };
         if self.flat.conjuncts.len() >= CONJUNCTS_MAX {
-            return Err(Stop::TooLarge);
+            return Err(Stop::TooLarge(Limit::Conjuncts));
         }
         if !is_low(&conjunct, self.nodes_left - nodes_left) {
-            return Err(Stop::TooLarge);
+            return Err(Stop::TooLarge(Limit::Height));
         }
         self.flat.conjuncts.push(conjunct)?;
         self.nodes_left = nodes_left;
@@ -130,19 +136,17 @@ impl<'a> Growing<'a> {
     }
 
     /// Another schema that is taken in: its components, and then its conjuncts.
-    pub fn include(&mut self, arena: &'a Bump, other: Growing<'a>) -> Result<(), Stop>
+    pub fn include(&mut self, arena: &'a Bump, other: Growing<'a>) -> Result<(), Stop<'a>>
         requires before { IsGrowing self.old }
         requires further { IsGrowing other }
         ensures ok { OnOk result (Includes (schema_of self.old.flat) (schema_of other.entry.flat) (schema_of self.new.flat)) }
         ensures growing { OnOk result (IsGrowing self.new) }
-        ensures err { IfErr result (λ e. IfStopped e (Stops (Agree (schema_of self.old.flat).comps (schema_of other.entry.flat).comps) (conjoined (schema_of self.old.flat) (schema_of other.entry.flat)))) }
+        ensures err { IfErr result (λ e. IfStopped e (Stops (OneClashes (schema_of self.old.flat).comps (schema_of other.entry.flat).comps) (Agree (schema_of self.old.flat).comps (schema_of other.entry.flat).comps) (conjoined (schema_of self.old.flat) (schema_of other.entry.flat)))) }
     {
-        if !agree(
+        agree(
             self.flat.components.as_slice(),
             other.flat.components.as_slice(),
-        ) {
-            return Err(Stop::Clash);
-        }
+        )?;
         if self.becomes(&other) {
             *self = other;
             return Ok(());
@@ -173,7 +177,7 @@ impl<'a> Growing<'a> {
         &mut self,
         arena: &'a Bump,
         other: Growing<'a>,
-    ) -> Result<Lasting<'a, Items<'a, usize>>, Stop>
+    ) -> Result<Lasting<'a, Items<'a, usize>>, Stop<'a>>
         requires before { IsGrowing self.old }
         requires further { IsGrowing other }
         ensures ok { OnOk result (IsNext (conjoined (schema_of self.old.flat) (schema_of other.entry.flat)) (schema_of self.new.flat)) }
@@ -182,8 +186,9 @@ impl<'a> Growing<'a> {
         ensures each { IfOk result (λ places. length places ≡ length (schema_of other.entry.flat).comps) }
         ensures err { IfErr result (λ e. IfStopped e (IsTooLarge (conjoined (schema_of self.old.flat) (schema_of other.entry.flat)))) }
     {
-        let Some(left) = self.left_beside(&other) else {
-            return Err(Stop::TooLarge);
+        let left = match self.left_beside(&other) {
+            Ok(left) => left,
+            Err(limit) => return Err(Stop::TooLarge(limit)),
         };
         let Flat {
             components,
@@ -198,17 +203,22 @@ impl<'a> Growing<'a> {
     }
 
     /// How many declared sets and nodes are left beside another schema, where there is room for it and its conjuncts.
-    fn left_beside(&self, other: &Growing<'a>) -> Option<(usize, usize)>
+    fn left_beside(&self, other: &Growing<'a>) -> Result<(usize, usize), Limit>
         requires before { IsGrowing self.now }
         requires further { IsGrowing other.now }
-        ensures { MatchOption result (IsWithin (conjoined (schema_of self.now.flat) (schema_of other.now.flat)) → ⊥) (HasLeftBeside (schema_of self.now.flat) (schema_of other.now.flat)) }
+        ensures ok { IfOk result (HasLeftBeside (schema_of self.now.flat) (schema_of other.now.flat)) }
+        ensures passed { IfErr result (λ l. Keeps l (conjoined (schema_of self.now.flat) (schema_of other.now.flat)) → ⊥) }
     {
-        let sets_left = self.sets_left.checked_sub(SETS_MAX - other.sets_left)?;
-        let nodes_left = self.nodes_left.checked_sub(NODES_MAX - other.nodes_left)?;
+        let Some(sets_left) = self.sets_left.checked_sub(SETS_MAX - other.sets_left) else {
+            return Err(Limit::Sets);
+        };
+        let Some(nodes_left) = self.nodes_left.checked_sub(NODES_MAX - other.nodes_left) else {
+            return Err(Limit::Nodes);
+        };
         if self.flat.conjuncts.len() + other.flat.conjuncts.len() > CONJUNCTS_MAX {
-            return None;
+            return Err(Limit::Conjuncts);
         }
-        Some((sets_left, nodes_left))
+        Ok((sets_left, nodes_left))
     }
 
     /// That each component is equal to the one at the place in the list, one after another.
@@ -217,7 +227,7 @@ impl<'a> Growing<'a> {
         arena: &'a Bump,
         line: u32,
         places: &[usize],
-    ) -> Result<(), Stop>
+    ) -> Result<(), Stop<'a>>
         requires { IsGrowing self.old }
         ensures ok { OnOk result (schema_of self.new.flat ≡ constrained (schema_of self.old.flat) (equalities line 0 places.now)) }
         ensures growing { OnOk result (IsGrowing self.new) }

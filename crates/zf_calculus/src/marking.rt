@@ -4,8 +4,9 @@ ghost use Rattle.zf_term.specs.Definitions.{comp_of, schema_of};
 ghost use Rattle.zf_reference.specs.Numbering.{place_in};
 ghost use Rattle.zf_calculus.specs.Calculus as spec;
 ghost use Rattle.zf_calculus.specs.Calculus.{Agree, MarkAgrees, comp, decorated, delta, new_place, prime, xi};
-ghost use Rattle.zf_calculus.specs.Steps.{IsNext, Stops};
-ghost use Rattle.zf_calculus.specs.Growth.{IfStopped, IsGrowing, IsTooLarge};
+ghost use Rattle.zf_calculus.specs.Steps.{IsNext, MarkClashes, OneClashes, Stops};
+ghost use Rattle.zf_calculus.specs.Growth.{IfStopped, IsGrowing};
+ghost use Rattle.zf_calculus.specs.Limits.{IsTooLarge};
 
 use crate::components::agree;
 use crate::growing::Growing;
@@ -27,11 +28,11 @@ pub fn marked<'a>(
     line: u32,
     flat: &Flat<'a>,
     spare: Spare,
-) -> Result<Growing<'a>, Stop>
+) -> Result<Growing<'a>, Stop<'a>>
     ensures agree { IfOk result (λ g. MarkAgrees mark (schema_of flat.now)) }
     ensures ok { IfOk result (λ g. IsNext (spec.marked mark line (schema_of flat.now)) (schema_of g.flat)) }
     ensures growing { IfOk result (λ g. IsGrowing g) }
-    ensures err { IfErr result (λ e. IfStopped e (Stops (MarkAgrees mark (schema_of flat.now)) (spec.marked mark line (schema_of flat.now)))) }
+    ensures err { IfErr result (λ e. IfStopped e (Stops (MarkClashes mark (schema_of flat.now)) (MarkAgrees mark (schema_of flat.now)) (spec.marked mark line (schema_of flat.now)))) }
 {
     match mark {
         RefMark::Plain => within(copy(arena, flat, spare)?),
@@ -46,11 +47,11 @@ fn no_change<'a>(
     line: u32,
     flat: &Flat<'a>,
     spare: Spare,
-) -> Result<Growing<'a>, Stop>
+) -> Result<Growing<'a>, Stop<'a>>
     ensures agree { IfOk result (λ g. Agree (schema_of flat.now).comps (decorated prime (schema_of flat.now)).comps) }
     ensures ok { IfOk result (λ g. IsNext (xi line (schema_of flat.now)) (schema_of g.flat)) }
     ensures growing { IfOk result (λ g. IsGrowing g) }
-    ensures err { IfErr result (λ e. IfStopped e (Stops (Agree (schema_of flat.now).comps (decorated prime (schema_of flat.now)).comps) (xi line (schema_of flat.now)))) }
+    ensures err { IfErr result (λ e. IfStopped e (Stops (OneClashes (schema_of flat.now).comps (decorated prime (schema_of flat.now)).comps) (Agree (schema_of flat.now).comps (decorated prime (schema_of flat.now)).comps) (xi line (schema_of flat.now)))) }
 {
     let spare = spare.and_conjuncts(flat.components.len());
     let (mut growing, places) = change(arena, flat, spare)?;
@@ -63,18 +64,16 @@ fn change<'a>(
     arena: &'a Bump,
     flat: &Flat<'a>,
     spare: Spare,
-) -> Result<(Growing<'a>, Lasting<'a, Items<'a, usize>>), Stop>
+) -> Result<(Growing<'a>, Lasting<'a, Items<'a, usize>>), Stop<'a>>
     ensures agree { IfOk result (λ p. Agree (schema_of flat.now).comps (decorated prime (schema_of flat.now)).comps) }
     ensures ok { IfOk result (λ p. IsNext (delta (schema_of flat.now)) (schema_of p.0.flat)) }
     ensures growing { IfOk result (λ p. IsGrowing p.0) }
     ensures places { IfOk result (λ p. place_in p.1 ≡ new_place (decorated prime (schema_of flat.now)).comps (delta (schema_of flat.now)).comps) }
     ensures each { IfOk result (λ p. length p.1 ≡ length (schema_of flat.now).comps) }
-    ensures err { IfErr result (λ e. IfStopped e (Stops (Agree (schema_of flat.now).comps (decorated prime (schema_of flat.now)).comps) (delta (schema_of flat.now)))) }
+    ensures err { IfErr result (λ e. IfStopped e (Stops (OneClashes (schema_of flat.now).comps (decorated prime (schema_of flat.now)).comps) (Agree (schema_of flat.now).comps (decorated prime (schema_of flat.now)).comps) (delta (schema_of flat.now)))) }
 {
     let after = decorate(arena, b"'", flat, Spare::none())?;
-    if !agree(flat.components.as_slice(), after.components.as_slice()) {
-        return Err(Stop::Clash);
-    }
+    agree(flat.components.as_slice(), after.components.as_slice())?;
     let before = copy(arena, flat, spare.and(&after))?;
     let mut growing = within(before)?;
     let after = alike(&growing, after);
@@ -83,14 +82,14 @@ fn change<'a>(
 }
 
 /// The schema, if it is within the limits.
-pub fn within<'a>(flat: Flat<'a>) -> Result<Growing<'a>, Stop>
+pub fn within<'a>(flat: Flat<'a>) -> Result<Growing<'a>, Stop<'a>>
     ensures ok { IfOk result (λ g. IsNext (schema_of flat.entry) (schema_of g.flat)) }
     ensures growing { IfOk result (λ g. IsGrowing g) }
     ensures err { IfErr result (λ e. IfStopped e (IsTooLarge (schema_of flat.entry))) }
 {
     match Growing::of(flat) {
-        Some(growing) => Ok(growing),
-        None => Err(Stop::TooLarge),
+        Ok(growing) => Ok(growing),
+        Err(limit) => Err(Stop::TooLarge(limit)),
     }
 }
 

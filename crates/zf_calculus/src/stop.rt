@@ -2,33 +2,34 @@
 ghost use Rattle.std.specs.Prelude.{◌≡◌};
 
 use std::alloc::{AllocError, AllocFailed};
+use zf_term::fault::{Clash, Limit};
 
 /// Why there is no next schema.
 #[derive(Drop)]
-pub enum Stop {
+pub enum Stop<'a> {
     /// A component gets two types.
-    Clash,
+    Clash(Clash<'a>),
     /// A limit is passed.
-    TooLarge,
+    TooLarge(Limit),
     OutOfMemory,
 }
 
-impl From<AllocError> for Stop {
+impl<'a> From<AllocError> for Stop<'a> {
     ghost use Rattle.zf_calculus.specs.declared.stop.Stop.TheVariants.{OutOfMemory};
 
     ghost from_gives = { λ _ stop. stop ≡ OutOfMemory };
 
-    fn from(_error: AllocError) -> Stop {
+    fn from(_error: AllocError) -> Stop<'a> {
         Stop::OutOfMemory
     }
 }
 
-impl<T: Drop> From<AllocFailed<T>> for Stop {
+impl<'a, T: Drop> From<AllocFailed<T>> for Stop<'a> {
     ghost use Rattle.zf_calculus.specs.declared.stop.Stop.TheVariants.{OutOfMemory};
 
     ghost from_gives = { λ _ stop. stop ≡ OutOfMemory };
 
-    fn from(_error: AllocFailed<T>) -> Stop {
+    fn from(_error: AllocFailed<T>) -> Stop<'a> {
         Stop::OutOfMemory
     }
 }

@@ -1,4 +1,4 @@
--- The command line, as the literals that `clap` reads words by: `--version`, `check [-t] FILE` and `show [--after TEXT] [--with TEXT] [--limit N] [--tests] FILE SCHEMA [NAME=SIZE]...`.
+-- The command line, as the literals that `clap` reads words by: `--version`, `check [-t] [--details] FILE` and `show [--after TEXT] [--with TEXT] [--limit N] [--tests] [--details] FILE SCHEMA [NAME=SIZE]...`.
 use Rattle.std.specs.Prelude.{◌≡◌, Some, codes, true, false}
 use Rattle.clap.specs.Words.{App, Rule, Text, app_of, new_app, new_rule, rule_of, with_rule, with_subcommand}
 use Rattle.clap.specs.declared.builder.ArgAction.TheVariants.{Append, SetTrue}
@@ -18,6 +18,10 @@ sizes_rule = record (new_rule (codes "NAME=SIZE")) { action = Some Append }
 abbrev pub types_rule : Rule
 types_rule = record (new_rule (codes "types")) { short = Some 116; action = Some SetTrue }
 
+-- `[-d]` or `[--details]`; the letter is the character 100
+abbrev pub details_rule : Rule
+details_rule = record (new_rule (codes "details")) { short = Some 100; long = Some (codes "details"); action = Some SetTrue }
+
 -- `[--NAME VALUE]`, with one name for its value in the text of help
 abbrev pub option_rule : Text → Rule
 option_rule name = record (new_rule name) { long = Some name; value_names = 1 }
@@ -26,15 +30,16 @@ option_rule name = record (new_rule name) { long = Some name; value_names = 1 }
 abbrev pub tests_rule : Rule
 tests_rule = record (new_rule (codes "tests")) { long = Some (codes "tests"); action = Some SetTrue }
 
--- `check [-t] FILE`
+-- `check [-t] [--details] FILE`
 abbrev pub check_app : App
-check_app = with_rule (with_rule (new_app (codes "check")) types_rule) (required_rule (codes "FILE"))
+check_app = with_rule (with_rule (with_rule (new_app (codes "check")) types_rule) details_rule) (required_rule (codes "FILE"))
 
 -- the options of `show`
 abbrev pub show_options : App
-show_options = with_rule (with_rule (with_rule (with_rule (new_app (codes "show")) (option_rule (codes "after"))) (option_rule (codes "with"))) (option_rule (codes "limit"))) tests_rule
+show_options =
+    with_rule (with_rule (with_rule (with_rule (with_rule (new_app (codes "show")) (option_rule (codes "after"))) (option_rule (codes "with"))) (option_rule (codes "limit"))) tests_rule) details_rule
 
--- `show [--after TEXT] [--with TEXT] [--limit N] [--tests] FILE SCHEMA [NAME=SIZE]...`
+-- `show [--after TEXT] [--with TEXT] [--limit N] [--tests] [--details] FILE SCHEMA [NAME=SIZE]...`
 abbrev pub show_app : App
 show_app = with_rule (with_rule (with_rule show_options (required_rule (codes "FILE"))) (required_rule (codes "SCHEMA"))) sizes_rule
 

@@ -58,7 +58,8 @@ fn job_in(alloc: Global, name: &str, matches: &ArgMatches<'_>) -> Result<Job, Us
 {
     if name == "check" {
         let types = is_flagged(matches, "types");
-        return Ok(Job::Check { types });
+        let details = is_flagged(matches, "details");
+        return Ok(Job::Check { types, details });
     }
     let schema = value_in(alloc, matches, "SCHEMA")?;
     let sizes = sizes_in(alloc, matches)?;
@@ -66,6 +67,7 @@ fn job_in(alloc: Global, name: &str, matches: &ArgMatches<'_>) -> Result<Job, Us
     let held = option_in(alloc, matches, "with")?;
     let limit = limit_in(matches)?;
     let tests = is_flagged(matches, "tests");
+    let details = is_flagged(matches, "details");
     Ok(Job::Show {
         schema,
         sizes,
@@ -73,6 +75,7 @@ fn job_in(alloc: Global, name: &str, matches: &ArgMatches<'_>) -> Result<Job, Us
         held,
         limit,
         tests,
+        details,
     })
 }
 

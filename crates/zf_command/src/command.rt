@@ -1,6 +1,6 @@
 //! The command that `clap` is given, one small function for each argument.
 ghost use Rattle.std.specs.Prelude.{◌≡◌, IfOk, codes};
-ghost use Rattle.zf_command.specs.Apps.{IsArg, IsCommand, IsTop, check_app, option_rule, required_rule, show_app, sizes_rule, tests_rule, types_rule, zf_app, zf_top};
+ghost use Rattle.zf_command.specs.Apps.{IsArg, IsCommand, IsTop, check_app, details_rule, option_rule, required_rule, show_app, sizes_rule, tests_rule, types_rule, zf_app, zf_top};
 
 use clap::{Arg, ArgAction, Command};
 use std::alloc::{AllocError, Global};
@@ -31,18 +31,19 @@ fn top_command<'a>(alloc: Global) -> Result<Command<'a>, AllocError>
     Ok(command)
 }
 
-/// `check [-t] FILE`
+/// `check [-t] [--details] FILE`
 fn check_command<'a>(alloc: Global) -> Result<Command<'a>, AllocError>
     ensures { IfOk result (λ c. IsCommand c check_app) }
 {
     let command = Command::new(alloc, "check")
         .about("Writes the faults of a specification, one a line")
         .arg(types_arg(alloc))?
+        .arg(details_arg(alloc))?
         .arg(file_arg(alloc))?;
     Ok(command)
 }
 
-/// `show [--after TEXT] [--with TEXT] [--limit N] [--tests] FILE SCHEMA [NAME=SIZE]...`
+/// `show [--after TEXT] [--with TEXT] [--limit N] [--tests] [--details] FILE SCHEMA [NAME=SIZE]...`
 fn show_command<'a>(alloc: Global) -> Result<Command<'a>, AllocError>
     ensures { IfOk result (λ c. IsCommand c show_app) }
 {
@@ -52,6 +53,7 @@ fn show_command<'a>(alloc: Global) -> Result<Command<'a>, AllocError>
         .arg(with_arg(alloc))?
         .arg(limit_arg(alloc))?
         .arg(tests_arg(alloc))?
+        .arg(details_arg(alloc))?
         .arg(file_arg(alloc))?
         .arg(schema_arg(alloc))?
         .arg(sizes_arg(alloc))?;
@@ -65,6 +67,16 @@ fn types_arg<'a>(alloc: Global) -> Arg<'a>
         .short('t')
         .action(ArgAction::SetTrue)
         .help("Writes also what is defined, with its types")
+}
+
+fn details_arg<'a>(alloc: Global) -> Arg<'a>
+    ensures { IsArg result details_rule }
+{
+    Arg::new(alloc, "details")
+        .short('d')
+        .long("details")
+        .action(ArgAction::SetTrue)
+        .help("Writes behind each fault what it is about")
 }
 
 fn after_arg<'a>(alloc: Global) -> Arg<'a>

@@ -15,13 +15,15 @@ pub struct Size {
 /// What is asked of a file.
 #[derive(Drop)]
 pub enum Job {
-    /// The faults of types; then, if `types`, what is defined, with its types.
+    /// The faults; if `details`, with lines that say what each is about; then, if `types`, what is defined, with its
+    /// types.
     Check {
         types: bool,
+        details: bool,
     },
     /// The bindings of the schema, where the given sets have these sizes: those that come after the named one and
     /// have the values that are held, at most as many as the limit says; then, if `tests`, how many tests were
-    /// finished.
+    /// finished. Faults come with lines that say what each is about, if `details`.
     Show {
         schema: Word,
         sizes: Items<Size>,
@@ -29,6 +31,7 @@ pub enum Job {
         held: Option<Word>,
         limit: Option<u64>,
         tests: bool,
+        details: bool,
     },
 }
 

@@ -19,6 +19,7 @@ pub use Rattle.zf_term.specs.FirstNamed.{first_named, later, or_else}
 pub use Rattle.zf_term.specs.ResolvedTrees.{binary, bracket, builder, chain, constant, empty_set, listed, number, quantified, reference, ResolvedTree, unary}
 pub use Rattle.zf_term.specs.Shapes.{conjuncts, is_and, is_conjunction, line_of, moved}
 pub use Rattle.zf_term.specs.TermLaws.{references}
+pub use Rattle.zf_type.specs.Refusals.{fault_of}
 pub use Rattle.zf_type.specs.Resolving.{bound, referent, resolved, resolved_all, resolved_links, resolved_part, resolved_ranges}
 pub use Rattle.zf_schema.specs.WellTypedGlobals.{AreWellTyped}
 pub use Rattle.zf_meaning.specs.Environments.{Environment}
@@ -32,7 +33,8 @@ pub use Rattle.zf_lines.proofs.Beginning.{at_start, counting_at_start}
 pub use Rattle.zf_lines.specs.declared.fault.Status.{Status}
 pub use Rattle.zf_engine.specs.Answers.{Answer, AnswersReader, AnswersSource, AreHeld, Checks, HasSchema, IsAsked, IsNamed, IsNamedRow, IsSearch, Request, ShowAnswer, ShowBegins, stated, stated_size, StopsInReader, StopsInSource, UnreadAnswer}
 pub use Rattle.zf_engine.specs.Statuses.{IsStatus, IsStatusOfRefused, IsWorkStatus}
-pub use Rattle.zf_engine.specs.Stops.{AnswersOver, AnswersRequest, IfAnswered, IsFaultLine, request_of, Shows, Tells, TellsInfinite, TellsMisfit, TellsNoRow, TellsNoValues, TellsOut, TellsPlace, TellsPlaceHeld}
-pub use Rattle.zf_engine.specs.Texts.{declared_out_line, no_schema_line, type_fault_line}
+pub use Rattle.zf_engine.specs.Stops.{AnswersOver, AnswersRequest, AnswersShow, IfAnswered, IsFaultLine, request_of, Shows, Tells, TellsInfinite, TellsMisfit, TellsNoRow, TellsNoValues, TellsOut, TellsPlace, TellsPlaceHeld}
+pub use Rattle.zf_engine.specs.Details.{type_fault_lines}
+pub use Rattle.zf_engine.specs.Texts.{declared_out_line, no_schema_line}
 pub use Rattle.zf_engine.specs.declared.stop.Stop.{Stop}
 pub use Rattle.zf_engine.specs.declared.stop.Stop.TheVariants.{Answered, OutOfMemory}

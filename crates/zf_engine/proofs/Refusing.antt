@@ -1,10 +1,10 @@
 -- The steps before the first binding make answers: refusals, in their order.
-use Rattle.zf_engine.proofs.Prelude.{◌==◌, ◌∙◌, ◌∷◌, ◌≡◌, ◌≢◌, ◌⊎◌, [], ap, arith, Bool, Err, false, IfErr, inl, inr, length, List, Ok, Option, refl, Result, Some, subst, sym, true, ℕ, eqb-true, flat_map, Value, Comp, Defined, Schema, AreWellTyped, Environment, spellings, Spelling, Portion, Status, AreHeld, Checks, HasSchema, IsAsked, IsNamed, IsNamedRow, Request, ShowAnswer, stated, UnreadAnswer, AnswersRequest, IfAnswered, IsFaultLine, TellsInfinite, TellsMisfit, TellsNoRow, TellsNoValues, TellsOut, TellsPlace, TellsPlaceHeld, type_fault_line, Stop, Answered, OutOfMemory}
+use Rattle.zf_engine.proofs.Prelude.{◌==◌, ◌∙◌, ◌∷◌, ◌≡◌, ◌≢◌, ◌⊎◌, [], ap, arith, Bool, Err, false, IfErr, inl, inr, length, List, map, Ok, Option, refl, Result, Some, subst, sym, true, ℕ, eqb-true, flat_map, Value, Comp, Defined, Schema, AreWellTyped, Environment, spellings, Spelling, Portion, Status, AreHeld, Checks, HasSchema, IsAsked, IsNamed, IsNamedRow, Request, ShowAnswer, stated, UnreadAnswer, AnswersRequest, AnswersShow, IfAnswered, IsFaultLine, TellsInfinite, TellsMisfit, TellsNoRow, TellsNoValues, TellsOut, TellsPlace, TellsPlaceHeld, type_fault_lines, Stop, Answered, OutOfMemory}
 use Rattle.zf_finite.specs.Finite.{IsFinite}
 use Rattle.zf_scan.specs.declared.fault.TextFault.{TextFault}
 use Rattle.zf_scan.specs.Cuts.{IsWantOfMemory}
 use Rattle.zf_text.specs.Parsing.{RefusesSource}
-use Rattle.zf_type.specs.declared.fault.TypeFault.{TypeFault}
+use Rattle.zf_term.specs.Faults.{Fault}
 use Rattle.zf_schema.proofs.WellTyped.{globals_well_typed}
 use Rattle.zf_meaning.specs.GlobalOutcomes.{IsEnvironment}
 use Rattle.zf_meaning.specs.Sizes.{given_sets, AreComplete}
@@ -23,21 +23,31 @@ pub weaker_err : {A : Type 0} (r : Result A Stop) (P Q : Stop → Type 0) → ((
 weaker_err (Ok x) P Q f h = tt
 weaker_err (Err stop) P Q f h = f stop h
 
-pub unread_answers : (file source : List ℕ) (fault : TextFault) (stop : Stop) → IsWantOfMemory fault ⊎ RefusesSource source fault → IfAnswered stop (IsFaultLine file fault)
-    → IfAnswered stop (UnreadAnswer file source)
-unread_answers file source fault OutOfMemory (inl memory) h = tt
-unread_answers file source fault OutOfMemory (inr refuses) h = tt
-unread_answers file source fault (Answered text status) (inl memory) h = absurd (h.0 memory.0)
-unread_answers file source fault (Answered text status) (inr refuses) h = (fault, refuses, h.1, h.2)
+pub unread_answers : (details : Bool) (file source : List ℕ) (fault : TextFault) (symbol : List ℕ) (stop : Stop) → IsWantOfMemory fault ⊎ RefusesSource source fault
+    → IfAnswered stop (IsFaultLine details file fault symbol) → IfAnswered stop (UnreadAnswer details file source)
+unread_answers details file source fault symbol OutOfMemory (inl memory) h = tt
+unread_answers details file source fault symbol OutOfMemory (inr refuses) h = tt
+unread_answers details file source fault symbol (Answered text status) (inl memory) h = absurd (h.0 memory.0)
+unread_answers details file source fault symbol (Answered text status) (inr refuses) h = (fault, symbol, refuses, h.1, h.2)
 
-pub ill_typed_answers : (file source text : List ℕ) (globals : List Defined) (faults : List TypeFault) → Checks source globals faults → faults ≢ []
-    → text ≡ flat_map (type_fault_line file) faults → (r : Request) → ShowAnswer r file source text BadSpec
-ill_typed_answers file source text globals faults checks some is r = ShowAnswer.ill_typed globals faults checks some is refl
+-- a source that is not read is answered so, whatever else is asked for
+pub unread_shown : (details : Bool) (file source : List ℕ) (stop : Stop) → IfAnswered stop (UnreadAnswer details file source) → AnswersShow details file source stop
+unread_shown details file source stop told r same = weaker stop (λ text status u. inl (subst (λ d. UnreadAnswer d file source text status) (sym same) u)) told
+
+pub ill_typed_answers : (details : Bool) (file source text : List ℕ) (globals : List Defined) (faults : List Fault) → Checks source globals faults → faults ≢ []
+    → text ≡ flat_map (type_fault_lines details file) faults → (r : Request) → r.details ≡ details → ShowAnswer r file source text BadSpec
+ill_typed_answers details file source text globals faults checks some is r same =
+    ShowAnswer.ill_typed globals faults checks some (is ∙ ap (λ d. flat_map (type_fault_lines d file) faults) (sym same)) refl
 
 pub some_of : {A : Type 0} (xs : List A) (b : Bool) → b ≡ false → b ≡ (length xs == 0) → xs ≡ [] → ⊥
 some_of xs b unset test none =
     let both : false ≡ true = sym unset ∙ test ∙ ap (λ xs. length xs == 0) none in
     cc
+
+-- what is made of each of some is not nothing
+pub some_mapped : {A B : Type 0} (f : A → B) (xs : List A) → (xs ≡ [] → ⊥) → map f xs ≡ [] → ⊥
+some_mapped f [] some e = some refl
+some_mapped f (x ∷ xs) some e = cc
 
 pub none_of : {A : Type 0} (xs : List A) (b : Bool) → b ≡ true → b ≡ (length xs == 0) → xs ≡ []
 none_of [] b set test = refl
@@ -46,7 +56,7 @@ none_of (x ∷ xs) b set test =
     let l : length (x ∷ xs) ≡ 0 = eqb-true (length (x ∷ xs)) 0 some in absurd (omega (arith, l))
 
 -- what a source that is read and checked defines is well typed
-pub well_typed : (source : List ℕ) (globals : List Defined) {faults : List TypeFault} → Checks source globals faults → AreWellTyped globals
+pub well_typed : (source : List ℕ) (globals : List Defined) {faults : List Fault} → Checks source globals faults → AreWellTyped globals
 well_typed source globals {faults} checks = globals_well_typed checks.boxes globals faults checks.judged
 
 -- where spellings are clear, a text that is no line names no row
@@ -78,7 +88,7 @@ module _ (r : Request) (file source : List ℕ) (g : List Defined) (a : Schema) 
   pub misfit_answers : HasSchema source r.name g a → (stop : Stop) → IfAnswered stop (TellsMisfit g (stated r.sizes)) → AnswersRequest r file source stop
   misfit_answers has stop h = weaker stop (λ text status t. inr (ShowAnswer.bad_sizes g a t.0 has t.1 t.2.0 t.2.1 t.2.2)) h
 
-  pub infinite_answers : HasSchema source r.name g a → AreComplete (given_sets g) (stated r.sizes) → (stop : Stop) → IfAnswered stop (TellsInfinite g a file) → AnswersRequest r file source stop
+  pub infinite_answers : HasSchema source r.name g a → AreComplete (given_sets g) (stated r.sizes) → (stop : Stop) → IfAnswered stop (TellsInfinite g a r.details file) → AnswersRequest r file source stop
   infinite_answers has complete stop h = weaker stop (λ text status t. inr (ShowAnswer.not_finite g a t.0 has complete t.1 t.2 t.3)) h
 
   -- the schema is asked for in this environment

@@ -7,14 +7,15 @@ use Rattle.zf_command.specs.declared.job.Job.TheVariants.{Check, Show}
 use Rattle.zf_command.specs.declared.job.Size as command
 use Rattle.zf_schema.specs.Checking.{IsChecked}
 use Rattle.zf_schema.specs.Listing.{listing}
-use Rattle.zf_finite.specs.Finite.{IsFinite, infinite_lines}
+use Rattle.zf_finite.specs.declared.not_finite.NotFinite.{NotFinite}
+use Rattle.zf_finite.specs.Finite.{IsFinite, causes}
 use Rattle.zf_scan.specs.declared.fault.TextFault.{TextFault}
 use Rattle.zf_text.specs.Parsing.{ReadsSource, RefusesSource}
 use Rattle.zf_tree.specs.Trees.{BoxTree}
 use Rattle.zf_term.specs.Definitions.{Comp, Defined, Schema, schema}
 use Rattle.zf_extent.specs.Extents.{first}
+use Rattle.zf_term.specs.Faults.{Fault}
 use Rattle.zf_term.specs.FirstNamed.{first_named}
-use Rattle.zf_type.specs.declared.fault.TypeFault.{TypeFault}
 use Rattle.zf_value.specs.declared.value.Value.{Value}
 use Rattle.zf_walk.specs.Events.{Event}
 use Rattle.zf_meaning.specs.declared.sizes.Size.{Size}
@@ -35,10 +36,11 @@ use Rattle.zf_lines.specs.Faults.{IsFront}
 use Rattle.zf_lines.specs.Texts.{binding_line}
 use Rattle.zf_engine.specs.Faults.{Gave}
 use Rattle.zf_lines.specs.Searches.{HasEvents, IsTestsLine, IsWritten, IsBegun}
-use Rattle.zf_engine.specs.Texts.{text_fault_line, type_fault_line, fault_line, not_finite_text, no_schema_line, no_size_line, not_given_line, size_twice_line, size_too_large_line, not_a_binding_line, not_held_line, declared_out_line}
+use Rattle.zf_engine.specs.Details.{text_fault_lines, type_fault_lines, not_finite_lines}
+use Rattle.zf_engine.specs.Texts.{no_schema_line, no_size_line, not_given_line, size_twice_line, size_too_large_line, not_a_binding_line, not_held_line, declared_out_line}
 
 -- a tree reads the source; it defines these globals, and has these faults of types
-pub record Checks (source : List ℕ) (globals : List Defined) (faults : List TypeFault) : Type 0 where
+pub record Checks (source : List ℕ) (globals : List Defined) (faults : List Fault) : Type 0 where
   pub boxes : List BoxTree
   pub reads : ReadsSource boxes source
   pub judged : IsChecked boxes globals faults
@@ -55,18 +57,18 @@ pub record HasSchema (source name : List ℕ) (globals : List Defined) (a : Sche
 -- ---- `check`
 
 -- a text with a fault is a bad specification
-abbrev pub check_status : List TypeFault → Status
+abbrev pub check_status : List Fault → Status
 check_status [] = Done
 check_status (fault ∷ faults) = BadSpec
 
 -- the lines of the faults, and the listing if it is asked for
-abbrev pub check_text : (types : Bool) → (file : List ℕ) → List Defined → List TypeFault → List ℕ
-check_text types file globals faults = flat_map (type_fault_line file) faults ++ (if types then listing globals else [])
+abbrev pub check_text : (types details : Bool) → (file : List ℕ) → List Defined → List Fault → List ℕ
+check_text types details file globals faults = flat_map (type_fault_lines details file) faults ++ (if types then listing globals else [])
 
 -- the answer of `check` for a source that is read
-abbrev pub CheckAnswer : (types : Bool) → (file source text : List ℕ) → Status → Type 0
-CheckAnswer types file source text status =
-    (globals : List Defined) × (faults : List TypeFault) × Checks source globals faults × (text ≡ check_text types file globals faults) × (status ≡ check_status faults)
+abbrev pub CheckAnswer : (types details : Bool) → (file source text : List ℕ) → Status → Type 0
+CheckAnswer types details file source text status =
+    (globals : List Defined) × (faults : List Fault) × Checks source globals faults × (text ≡ check_text types details file globals faults) × (status ≡ check_status faults)
 
 -- ---- what `show` is asked for
 
@@ -77,6 +79,7 @@ pub record Request : Type 0 where
   pub held : Option (List ℕ)
   pub limit : Option ℕ
   pub tests : Bool
+  pub details : Bool
 
 abbrev pub stated_size : command.Size → Size
 stated_size s = record { name = s.name; count = s.count }
@@ -134,14 +137,14 @@ pub record IsSearch (r : Request) (source : List ℕ) (globals : List Defined) (
 
 -- the answer of `show` for a source that is read, with the refusals in their order
 pub data ShowAnswer (r : Request) (file source text : List ℕ) (status : Status) : Type 0 where
-  ill_typed : (globals : List Defined) (faults : List TypeFault) → Checks source globals faults → faults ≢ [] → text ≡ flat_map (type_fault_line file) faults
+  ill_typed : (globals : List Defined) (faults : List Fault) → Checks source globals faults → faults ≢ [] → text ≡ flat_map (type_fault_lines r.details file) faults
       → status ≡ BadSpec → ShowAnswer r file source text status
   no_schema : (globals : List Defined) → Checks source globals [] → ((a : Schema) → IsNamed globals r.name a → ⊥) → text ≡ no_schema_line r.name
       → status ≡ BadRequest → ShowAnswer r file source text status
   bad_sizes : (globals : List Defined) (a : Schema) (fault : SizeFault) → HasSchema source r.name globals a → IsRefusal (given_sets globals) (stated r.sizes) fault
       → fault ≢ OutOfMemory → text ≡ size_fault_line fault → status ≡ BadRequest → ShowAnswer r file source text status
-  not_finite : (globals : List Defined) (a : Schema) (line : ℕ) → HasSchema source r.name globals a → AreComplete (given_sets globals) (stated r.sizes)
-      → first (infinite_lines globals a) ≡ Some line → text ≡ fault_line file line not_finite_text → status ≡ BadSpec → ShowAnswer r file source text status
+  not_finite : (globals : List Defined) (a : Schema) (cause : NotFinite) → HasSchema source r.name globals a → AreComplete (given_sets globals) (stated r.sizes)
+      → first (causes globals a) ≡ Some cause → text ≡ not_finite_lines r.details file globals cause → status ≡ BadSpec → ShowAnswer r file source text status
   not_a_binding : (globals : List Defined) (a : Schema) (e : Environment) (place : ℕ) → IsAsked r source globals a e → NamesNoRow e a.comps r.after
       → text ≡ not_a_binding_line place → status ≡ BadRequest → ShowAnswer r file source text status
   holds_nothing : (globals : List Defined) (a : Schema) (e : Environment) (after : Option (List Value)) (place : ℕ) → IsAsked r source globals a e
@@ -163,29 +166,36 @@ pub data ShowBegins (r : Request) (source text : List ℕ) : Type 0 where
 
 -- a limit is at least 1
 abbrev pub IsLimited : Job → Type 0
-IsLimited (Check types) = Unit {0}
-IsLimited (Show name sizes after held None tests) = Unit {0}
-IsLimited (Show name sizes after held (Some limit) tests) = 0 < limit
+IsLimited (Check types details) = Unit {0}
+IsLimited (Show name sizes after held None tests details) = Unit {0}
+IsLimited (Show name sizes after held (Some limit) tests details) = 0 < limit
 
--- the answer for a source with a fault of its text. Which fault of the grammar is told, and on which line, is open.
-abbrev pub UnreadAnswer : (file source text : List ℕ) → Status → Type 0
-UnreadAnswer file source text status = (fault : TextFault) × RefusesSource source fault × (text ≡ text_fault_line file fault) × (status ≡ BadSpec)
+-- whether it is asked what faults are about
+abbrev pub wants_details : Job → Bool
+wants_details (Check types details) = details
+wants_details (Show name sizes after held limit tests details) = details
 
-abbrev pub request : List ℕ → List command.Size → (after held : Option (List ℕ)) → Option ℕ → Bool → Request
-request name sizes after held limit tests = record { name = name; sizes = sizes; after = after; held = held; limit = limit; tests = tests }
+-- the answer for a source with a fault of its text. Which fault of the grammar is told, on which line, and which symbol any fault is about, is open.
+abbrev pub UnreadAnswer : (details : Bool) → (file source text : List ℕ) → Status → Type 0
+UnreadAnswer details file source text status =
+    (fault : TextFault) × (symbol : List ℕ) × RefusesSource source fault × (text ≡ text_fault_lines details file fault symbol) × (status ≡ BadSpec)
+
+abbrev pub request : List ℕ → List command.Size → (after held : Option (List ℕ)) → Option ℕ → (tests details : Bool) → Request
+request name sizes after held limit tests details =
+    record { name = name; sizes = sizes; after = after; held = held; limit = limit; tests = tests; details = details }
 
 abbrev pub JobAnswer : Job → (file source text : List ℕ) → Status → Type 0
-JobAnswer (Check types) file source text status = CheckAnswer types file source text status
-JobAnswer (Show name sizes after held limit tests) file source text status = ShowAnswer (request name sizes after held limit tests) file source text status
+JobAnswer (Check types details) file source text status = CheckAnswer types details file source text status
+JobAnswer (Show name sizes after held limit tests details) file source text status = ShowAnswer (request name sizes after held limit tests details) file source text status
 
 -- the text and the status that answer a job on a source
 abbrev pub Answer : Job → (file source text : List ℕ) → Status → Type 0
-Answer job file source text status = UnreadAnswer file source text status ⊎ JobAnswer job file source text status
+Answer job file source text status = UnreadAnswer (wants_details job) file source text status ⊎ JobAnswer job file source text status
 
 -- the text is what an answer begins with, whatever follows
 abbrev pub JobBegins : Job → (source text : List ℕ) → Type 0
-JobBegins (Check types) source text = ⊥
-JobBegins (Show name sizes after held limit tests) source text = ShowBegins (request name sizes after held limit tests) source text
+JobBegins (Check types details) source text = ⊥
+JobBegins (Show name sizes after held limit tests details) source text = ShowBegins (request name sizes after held limit tests details) source text
 
 -- ---- what a run leaves
 

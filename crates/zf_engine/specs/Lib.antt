@@ -1,5 +1,6 @@
 pub mod Faults
 pub mod Texts
+pub mod Details
 pub mod Answers
 pub mod Stops
 pub mod Begun

@@ -1,8 +1,9 @@
 -- What the steps of an answer ensure. No public clause rests on this file.
-use Rattle.std.specs.Prelude.{◌≡◌, ◌≢◌, ℕ, List, [], Option, Some, Result, Ok, Err, option_map, slice_get}
+use Rattle.std.specs.Prelude.{◌≡◌, ◌≢◌, ℕ, Bool, List, [], Option, Some, Result, Ok, Err, option_map, slice_get}
 use Rattle.std.specs.Io.KnownBytes.{Appends}
 use Rattle.zf_command.specs.declared.job.Job.TheVariants.{Show}
-use Rattle.zf_finite.specs.Finite.{infinite_lines}
+use Rattle.zf_finite.specs.declared.not_finite.NotFinite.{NotFinite}
+use Rattle.zf_finite.specs.Finite.{causes}
 use Rattle.zf_scan.specs.declared.fault.TextFault.{TextFault}
 use Rattle.zf_scan.specs.declared.fault.TextFaultKind.TheVariants as text_faults
 use Rattle.zf_term.specs.Definitions.{Comp, Defined, Schema}
@@ -21,7 +22,8 @@ use Rattle.zf_engine.specs.declared.stop.Stop.{Stop}
 use Rattle.zf_engine.specs.declared.stop.Stop.TheVariants.{Answered, OutOfMemory}
 use Rattle.zf_engine.specs.Answers.{Answer, AnswersSource, Checks, HoldsNoValues, NamesNoRow, Request, StopsInSource, size_fault_line}
 use Rattle.zf_lines.specs.Faults.{AppendsFront}
-use Rattle.zf_engine.specs.Texts.{declared_out_line, fault_line, not_a_binding_line, not_finite_text, not_held_line, text_fault_line}
+use Rattle.zf_engine.specs.Details.{not_finite_lines, text_fault_lines}
+use Rattle.zf_engine.specs.Texts.{declared_out_line, not_a_binding_line, not_held_line}
 
 -- ---- answers that are whole
 
@@ -30,8 +32,8 @@ abbrev pub IfAnswered : Stop → (List ℕ → Status → Type 0) → Type 0
 IfAnswered (Answered text status) P = P text.items status
 IfAnswered OutOfMemory P = Unit {0}
 
-abbrev pub IsFaultLine : List ℕ → TextFault → List ℕ → Status → Type 0
-IsFaultLine file fault text status = (fault.kind ≢ text_faults.OutOfMemory) × (text ≡ text_fault_line file fault) × (status ≡ BadSpec)
+abbrev pub IsFaultLine : (details : Bool) → (file : List ℕ) → TextFault → (symbol : List ℕ) → List ℕ → Status → Type 0
+IsFaultLine details file fault symbol text status = (fault.kind ≢ text_faults.OutOfMemory) × (text ≡ text_fault_lines details file fault symbol) × (status ≡ BadSpec)
 
 abbrev pub IsMisfit : SizeFault → List ℕ → Status → Type 0
 IsMisfit fault text status = (fault ≢ size_faults.OutOfMemory) × (text ≡ size_fault_line fault) × (status ≡ BadRequest)
@@ -40,10 +42,10 @@ IsMisfit fault text status = (fault ≢ size_faults.OutOfMemory) × (text ≡ si
 abbrev pub TellsMisfit : List Defined → List Size → List ℕ → Status → Type 0
 TellsMisfit g sizes text status = (fault : SizeFault) × IsRefusal (given_sets g) sizes fault × IsMisfit fault text status
 
--- the answer names the first line that makes the schema infinite
-abbrev pub TellsInfinite : List Defined → Schema → (file : List ℕ) → List ℕ → Status → Type 0
-TellsInfinite g a file text status =
-    (line : ℕ) × (first (infinite_lines g a) ≡ Some line) × (text ≡ fault_line file line not_finite_text) × (status ≡ BadSpec)
+-- the answer tells the first that makes the schema infinite
+abbrev pub TellsInfinite : List Defined → Schema → (details : Bool) → (file : List ℕ) → List ℕ → Status → Type 0
+TellsInfinite g a details file text status =
+    (cause : NotFinite) × (first (causes g a) ≡ Some cause) × (text ≡ not_finite_lines details file g cause) × (status ≡ BadSpec)
 
 -- the answer tells a place of a text that is the line of no row
 abbrev pub TellsPlace : ℕ → List ℕ → Status → Type 0
@@ -69,15 +71,15 @@ TellsOut e comps text status = (place : ℕ) × IsFirstOut e comps place × Tell
 
 -- what is asked for, as the definitions have it
 abbrev pub request_of : program.Request → Request
-request_of r = record { name = r.name.now; sizes = r.sizes.now; after = option_map (λ t. t.now) r.after; held = option_map (λ t. t.now) r.held; limit = r.limit; tests = r.tests }
+request_of r = record { name = r.name.now; sizes = r.sizes.now; after = option_map (λ t. t.now) r.after; held = option_map (λ t. t.now) r.held; limit = r.limit; tests = r.tests; details = r.details }
 
 -- this answers the request
 abbrev pub AnswersRequest : Request → (file source : List ℕ) → Stop → Type 0
-AnswersRequest r file source stop = IfAnswered stop (Answer (Show r.name r.sizes r.after r.held r.limit r.tests) file source)
+AnswersRequest r file source stop = IfAnswered stop (Answer (Show r.name r.sizes r.after r.held r.limit r.tests r.details) file source)
 
--- whatever is asked for, this is the answer
-abbrev pub AnswersShow : (file source : List ℕ) → Stop → Type 0
-AnswersShow file source stop = (r : Request) → AnswersRequest r file source stop
+-- whatever else is asked for, this is the answer
+abbrev pub AnswersShow : (details : Bool) → (file source : List ℕ) → Stop → Type 0
+AnswersShow details file source stop = (r : Request) → r.details ≡ details → AnswersRequest r file source stop
 
 -- the same of a source that is well typed and defines these globals
 abbrev pub AnswersOver : List Defined → Request → (file : List ℕ) → Stop → Type 0
@@ -92,5 +94,5 @@ Tells OutOfMemory old new (Err fault) = Appends old new []
 
 -- the answer of the request is written, or a part of it
 abbrev pub Shows : Request → (file source : List ℕ) → Option (List ℕ) → Option (List ℕ) → Result Status RunFault → Type 0
-Shows r file source old new (Ok status) = AnswersSource (Show r.name r.sizes r.after r.held r.limit r.tests) file source old new status
-Shows r file source old new (Err fault) = StopsInSource (Show r.name r.sizes r.after r.held r.limit r.tests) file source old new
+Shows r file source old new (Ok status) = AnswersSource (Show r.name r.sizes r.after r.held r.limit r.tests r.details) file source old new status
+Shows r file source old new (Err fault) = StopsInSource (Show r.name r.sizes r.after r.held r.limit r.tests r.details) file source old new

@@ -3,7 +3,7 @@ use Rattle.std.specs.Prelude.{ℕ, List, ◌++◌, codes, decimal}
 use Rattle.zf_scan.specs.declared.fault.TextFault.{TextFault}
 use Rattle.zf_scan.specs.declared.fault.TextFaultKind.{TextFaultKind}
 use Rattle.zf_scan.specs.declared.fault.TextFaultKind.TheVariants.{BadByte, UnknownCommand, NotInProfile, UnclosedBox, Unexpected, NumberTooLarge, TooDeep, TooLong, OutOfMemory}
-use Rattle.zf_type.specs.declared.fault.TypeFault.{TypeFault}
+use Rattle.zf_term.specs.Faults.{Fault, kind_of}
 use Rattle.zf_term.specs.declared.fault.TypeFaultKind.{TypeFaultKind}
 use Rattle.zf_term.specs.declared.fault.TypeFaultKind.TheVariants.{NotDeclared, AlreadyDefined, Mismatch, NotASet, NotANumber, NotARelation, NotAPredicate, NotAnExpression, ComponentClash, NotASchema, LocalTwice, TooLarge}
 
@@ -46,8 +46,8 @@ too_long_line file = file ++ codes ": source too long\n"
 abbrev pub text_fault_line : List ℕ → TextFault → List ℕ
 text_fault_line file fault = elim fault.kind [ TooLong ↦ too_long_line file | _ ↦ fault_line file fault.line (text_fault_text fault.kind) ]
 
-abbrev pub type_fault_line : List ℕ → TypeFault → List ℕ
-type_fault_line file fault = fault_line file fault.line (type_fault_text fault.kind)
+abbrev pub type_fault_line : List ℕ → Fault → List ℕ
+type_fault_line file fault = fault_line file fault.line (type_fault_text (kind_of fault.offence))
 
 abbrev pub no_schema_line : List ℕ → List ℕ
 no_schema_line schema = codes "zf: no schema " ++ schema ++ codes "\n"

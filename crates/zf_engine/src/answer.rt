@@ -50,7 +50,9 @@ pub fn answer<W: Write>(
 {
     let file = file_name.as_bytes();
     match job {
-        Job::Check { types } => tell(checked(alloc, *types, file, source), writer),
+        Job::Check { types, details } => {
+            tell(checked(alloc, *types, *details, file, source), writer)
+        }
         Job::Show {
             schema,
             sizes,
@@ -58,6 +60,7 @@ pub fn answer<W: Write>(
             held,
             limit,
             tests,
+            details,
         } => {
             let request = Request {
                 name: schema.as_str(),
@@ -66,6 +69,7 @@ pub fn answer<W: Write>(
                 held: text_in(held),
                 limit: *limit,
                 tests: *tests,
+                details: *details,
             };
             show_source(alloc, &request, file, source, writer)
         }
@@ -83,10 +87,10 @@ fn text_in(word: &Option<Word>) -> Option<&str>
 }
 
 /// The answer of `check`.
-fn checked(alloc: Global, types: bool, file: &[u8], source: &[u8]) -> Stop
-    ensures { IfAnswered result (Answer (Check types) file.now source.now) }
+fn checked(alloc: Global, types: bool, details: bool, file: &[u8], source: &[u8]) -> Stop
+    ensures { IfAnswered result (Answer (Check types details) file.now source.now) }
 {
-    match checked_text(alloc, types, file, source) {
+    match checked_text(alloc, types, details, file, source) {
         Ok((text, status)) => Stop::Answered(text, status),
         Err(stop) => stop,
     }
@@ -95,16 +99,17 @@ fn checked(alloc: Global, types: bool, file: &[u8], source: &[u8]) -> Stop
 fn checked_text(
     alloc: Global,
     types: bool,
+    details: bool,
     file: &[u8],
     source: &[u8],
 ) -> Result<(Vec<u8>, Status), Stop>
-    ensures answer { IfOk result (λ p. Answer (Check types) file.now source.now p.0.items p.1) }
-    ensures stop { IfErr result (λ s. IfAnswered s (Answer (Check types) file.now source.now)) }
+    ensures answer { IfOk result (λ p. Answer (Check types details) file.now source.now p.0.items p.1) }
+    ensures stop { IfErr result (λ s. IfAnswered s (Answer (Check types details) file.now source.now)) }
 {
     let trees = Bump::new(alloc);
     let arena = Bump::new(alloc);
-    let checked = checked_in(alloc, &trees, &arena, file, source)?;
-    Ok(check_answer(alloc, types, file, &checked)?)
+    let checked = checked_in(alloc, &trees, &arena, details, file, source)?;
+    Ok(check_answer(alloc, types, details, file, &checked)?)
 }
 
 /// Writes an answer that is whole.
@@ -139,7 +144,7 @@ fn show_source<W: Write>(
 {
     let trees = Bump::new(alloc);
     let arena = Bump::new(alloc);
-    match typed_in(alloc, &trees, &arena, file, source) {
+    match typed_in(alloc, &trees, &arena, request.details, file, source) {
         Ok(globals) => show_globals(alloc, &arena, &globals, request, file, writer),
         Err(stop) => tell(stop, writer),
     }

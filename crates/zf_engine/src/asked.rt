@@ -9,6 +9,7 @@ ghost use Rattle.zf_meaning.specs.GlobalOutcomes.{IsEnvironment};
 ghost use Rattle.zf_meaning.specs.Sizes.{given_sets, AreComplete};
 ghost use Rattle.zf_term.specs.Definitions.{globals_of, schema_of};
 
+use crate::details::not_finite_lines;
 use crate::request::Request;
 use crate::stop::Stop;
 use crate::texts;
@@ -43,7 +44,7 @@ pub fn asked_in<'g, 'a>(
         return Err(Stop::Answered(line, Status::BadRequest));
     };
     let env = env_in(alloc, globals, request.sizes)?;
-    check_end(alloc, file, globals, schema)?;
+    check_end(alloc, request.details, file, globals, schema)?;
     Ok(Asked { schema, env })
 }
 
@@ -104,19 +105,19 @@ fn misfit(alloc: Global, fault: SizeFault) -> Stop
 /// Refuses a schema that is not finite.
 fn check_end<'a>(
     alloc: Global,
+    details: bool,
     file: &[u8],
     globals: &Globals<'a>,
     schema: &Flat<'a>,
 ) -> Result<(), Stop>
     ensures ok { OnOk result (IsFinite (globals_of globals.now) (schema_of schema.now)) }
-    ensures stop { IfErr result (λ s. IfAnswered s (TellsInfinite (globals_of globals.now) (schema_of schema.now) file.now)) }
+    ensures stop { IfErr result (λ s. IfAnswered s (TellsInfinite (globals_of globals.now) (schema_of schema.now) details file.now)) }
 {
     match finite(schema, globals) {
         Ok(()) => Ok(()),
-        Err(fault) => {
-            let infinite = texts::not_finite_text();
-            let line = texts::fault_line(alloc, file, u64::from(fault.line), infinite)?;
-            Err(Stop::Answered(line, Status::BadSpec))
+        Err(cause) => {
+            let lines = not_finite_lines(alloc, details, file, globals, &cause)?;
+            Err(Stop::Answered(lines, Status::BadSpec))
         }
     }
 }

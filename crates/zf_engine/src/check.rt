@@ -1,15 +1,16 @@
 //! What a source defines, its faults, and the answer of `check`.
-ghost use Rattle.std.specs.Prelude.{◌≡◌, [], IfOk, IfErr};
+ghost use Rattle.std.specs.Prelude.{◌≡◌, [], IfOk, IfErr, map};
 ghost use Rattle.std.specs.List.{flat_map};
 ghost use Rattle.zf_engine.specs.Answers.{Checks, CheckAnswer, UnreadAnswer, check_status, check_text};
 ghost use Rattle.zf_engine.specs.Stops.{IfAnswered, IsFaultLine};
-ghost use Rattle.zf_engine.specs.Texts.{type_fault_line};
+ghost use Rattle.zf_engine.specs.Details.{type_fault_lines};
 ghost use Rattle.zf_text.specs.Parsing.{ReadsSource};
 ghost use Rattle.zf_tree.specs.Trees.{boxes_of};
 ghost use Rattle.zf_term.specs.Definitions.{globals_of};
+ghost use Rattle.zf_type.specs.Refusals.{fault_of};
 
+use crate::details::{text_fault_lines, type_fault_lines};
 use crate::stop::Stop;
-use crate::texts;
 use bumpalo::Bump;
 use std::alloc::{AllocError, Global};
 use zf_lines::fault::Status;
@@ -26,13 +27,14 @@ pub fn checked_in<'a>(
     alloc: Global,
     trees: &'a Bump,
     arena: &'a Bump,
+    details: bool,
     file: &[u8],
     source: &'a [u8],
 ) -> Result<Checked<'a>, Stop>
-    ensures checks { IfOk result (λ c. Checks source.now (globals_of c.globals) c.faults) }
-    ensures stop { IfErr result (λ s. IfAnswered s (UnreadAnswer file.now source.now)) }
+    ensures checks { IfOk result (λ c. Checks source.now (globals_of c.globals) (map fault_of c.faults)) }
+    ensures stop { IfErr result (λ s. IfAnswered s (UnreadAnswer details file.now source.now)) }
 {
-    let spec = spec_in(alloc, trees, file, source)?;
+    let spec = spec_in(alloc, trees, details, file, source)?;
     let checked = check_spec(alloc, arena, &spec)?;
     Ok(checked)
 }
@@ -41,14 +43,15 @@ pub fn checked_in<'a>(
 pub fn check_answer(
     alloc: Global,
     types: bool,
+    details: bool,
     file: &[u8],
     checked: &Checked<'_>,
 ) -> Result<(Vec<u8>, Status), AllocError>
-    ensures text { IfOk result (λ p. p.0.items ≡ check_text types file.now (globals_of checked.now.globals) checked.now.faults) }
-    ensures status { IfOk result (λ p. p.1 ≡ check_status checked.now.faults) }
+    ensures text { IfOk result (λ p. p.0.items ≡ check_text types details file.now (globals_of checked.now.globals) (map fault_of checked.now.faults)) }
+    ensures status { IfOk result (λ p. p.1 ≡ check_status (map fault_of checked.now.faults)) }
 {
     let faults = checked.faults.as_slice();
-    let mut text = fault_lines(alloc, file, faults)?;
+    let mut text = fault_lines(alloc, details, file, faults)?;
     if types {
         let defined = listing(alloc, &checked.globals)?;
         text.extend_from_slice(defined.as_slice())?;
@@ -57,8 +60,8 @@ pub fn check_answer(
 }
 
 /// A text with a fault is a bad specification.
-fn check_status(faults: &[TypeFault]) -> Status
-    ensures { result ≡ check_status faults.now }
+fn check_status(faults: &[TypeFault<'_>]) -> Status
+    ensures { result ≡ check_status (map fault_of faults.now) }
 {
     if faults.is_empty() {
         Status::Done
@@ -68,13 +71,18 @@ fn check_status(faults: &[TypeFault]) -> Status
 }
 
 /// The lines of faults.
-pub fn fault_lines(alloc: Global, file: &[u8], faults: &[TypeFault]) -> Result<Vec<u8>, AllocError>
-    ensures { IfOk result (λ v. v.items ≡ flat_map (type_fault_line file.now) faults.now) }
+pub fn fault_lines(
+    alloc: Global,
+    details: bool,
+    file: &[u8],
+    faults: &[TypeFault<'_>],
+) -> Result<Vec<u8>, AllocError>
+    ensures { IfOk result (λ v. v.items ≡ flat_map (type_fault_lines details file.now) (map fault_of faults.now)) }
 {
     let mut lines = Vec::new(alloc);
     for fault in faults {
-        let line = texts::type_fault_line(alloc, file, *fault)?;
-        lines.extend_from_slice(&line)?;
+        let told = type_fault_lines(alloc, details, file, fault)?;
+        lines.extend_from_slice(&told)?;
     }
     Ok(lines)
 }
@@ -83,27 +91,28 @@ pub fn fault_lines(alloc: Global, file: &[u8], faults: &[TypeFault]) -> Result<V
 fn spec_in<'a>(
     alloc: Global,
     arena: &'a Bump,
+    details: bool,
     file: &[u8],
     source: &'a [u8],
 ) -> Result<Spec<'a>, Stop>
     ensures reads { IfOk result (λ s. ReadsSource (boxes_of s) source.now) }
-    ensures stop { IfErr result (λ s. IfAnswered s (UnreadAnswer file.now source.now)) }
+    ensures stop { IfErr result (λ s. IfAnswered s (UnreadAnswer details file.now source.now)) }
 {
     match read_spec(alloc, arena, source) {
         Ok(spec) => Ok(spec),
-        Err(fault) => Err(unread(alloc, file, fault)),
+        Err(unread) => Err(refusal(alloc, details, file, unread.fault, unread.symbol)),
     }
 }
 
-/// The answer for a fault of a text.
-fn unread(alloc: Global, file: &[u8], fault: TextFault) -> Stop
-    ensures { IfAnswered result (IsFaultLine file.now fault) }
+/// The answer for a fault of a text, which is about this symbol.
+fn refusal(alloc: Global, details: bool, file: &[u8], fault: TextFault, symbol: &[u8]) -> Stop
+    ensures { IfAnswered result (IsFaultLine details file.now fault symbol.now) }
 {
     if fault.kind == TextFaultKind::OutOfMemory {
         return Stop::OutOfMemory;
     }
-    match texts::text_fault_line(alloc, file, fault) {
-        Ok(line) => Stop::Answered(line, Status::BadSpec),
+    match text_fault_lines(alloc, details, file, fault, symbol) {
+        Ok(lines) => Stop::Answered(lines, Status::BadSpec),
         Err(_) => Stop::OutOfMemory,
     }
 }

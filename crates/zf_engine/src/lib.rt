@@ -5,6 +5,7 @@ mod answer;
 mod asked;
 mod begin;
 mod check;
+mod details;
 mod held;
 mod named;
 pub mod program;

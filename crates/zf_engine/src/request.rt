@@ -15,4 +15,6 @@ pub struct Request<'j> {
     pub limit: Option<u64>,
     /// Whether it tells the number of tests.
     pub tests: bool,
+    /// Whether it tells what faults are about.
+    pub details: bool,
 }

@@ -1,6 +1,7 @@
 //! The lines of refusals, each with its newline.
 ghost use Rattle.std.specs.Prelude.{◌≡◌, ◌++◌, IfOk};
 ghost use Rattle.zf_engine.specs.Texts as spec;
+ghost use Rattle.zf_type.specs.Refusals.{fault_of};
 
 use itoa::Buffer;
 use std::alloc::{AllocError, Global};
@@ -77,10 +78,14 @@ pub fn text_fault_line(alloc: Global, file: &[u8], fault: TextFault) -> Result<V
 }
 
 /// The line of a fault of a type.
-pub fn type_fault_line(alloc: Global, file: &[u8], fault: TypeFault) -> Result<Vec<u8>, AllocError>
-    ensures { IfOk result (λ v. v.items ≡ spec.type_fault_line file.now fault) }
+pub fn type_fault_line(
+    alloc: Global,
+    file: &[u8],
+    fault: &TypeFault<'_>,
+) -> Result<Vec<u8>, AllocError>
+    ensures { IfOk result (λ v. v.items ≡ spec.type_fault_line file.now (fault_of fault.now)) }
 {
-    fault_line(alloc, file, fault.line, type_fault_text(fault.kind))
+    fault_line(alloc, file, fault.line, type_fault_text(fault.kind()))
 }
 
 /// The name between the two parts of its line.

@@ -16,15 +16,16 @@ pub fn typed_in<'a>(
     alloc: Global,
     trees: &'a Bump,
     arena: &'a Bump,
+    details: bool,
     file: &[u8],
     source: &'a [u8],
 ) -> Result<Globals<'a>, Stop>
     ensures checks { IfOk result (λ g. Checks source.now (globals_of g) []) }
-    ensures stop { IfErr result (AnswersShow file.now source.now) }
+    ensures stop { IfErr result (AnswersShow details file.now source.now) }
 {
-    let checked = checked_in(alloc, trees, arena, file, source)?;
+    let checked = checked_in(alloc, trees, arena, details, file, source)?;
     if !checked.faults.as_slice().is_empty() {
-        let lines = fault_lines(alloc, file, checked.faults.as_slice())?;
+        let lines = fault_lines(alloc, details, file, checked.faults.as_slice())?;
         return Err(Stop::Answered(lines, Status::BadSpec));
     }
     Ok(checked.globals)

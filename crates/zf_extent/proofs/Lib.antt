@@ -1,2 +1,2 @@
-pub mod FirstLines
+pub mod FirstOffenders
 pub mod SameOffences

@@ -1,10 +1,10 @@
--- A term whose components are numbered anew has the same names that offend.
+-- In a term whose components are numbered anew the same offends.
 use Rattle.std.proofs.Common.{◌≡◌, ℕ, List, None, ◌&&◌, if◌then◌else◌, refl, ap, ◌∙◌}
 use Rattle.zf_tree.specs.declared.symbol.Relation.{Relation}
 use Rattle.zf_reference.specs.declared.reference.Reference.{Reference}
 use Rattle.zf_reference.specs.declared.reference.Reference.TheVariants.{Component, Local, Global}
 use Rattle.zf_term.specs.Definitions.{Defined}
-use Rattle.zf_extent.specs.Extents.{direct, extent_named, extent_set, is_last, is_membership, name_lines, links_offending, all_offending, offending, part_offending, ranges_offending, tested}
+use Rattle.zf_extent.specs.Extents.{direct, extent_named, extent_set, is_last, is_membership, name_offenders, links_offending, all_offending, offending, part_offending, ranges_offending, tested}
 use Rattle.zf_term.specs.ResolvedTrees.{ResolvedTree, reference, number, constant, empty_set, bracket, listed, builder, unary, binary, chain, quantified, ResolvedTrees, no_terms, term, ResolvedLinks, no_links, link, Ranges, no_ranges, range, ResolvedPart, absent, present}
 use Rattle.zf_reference.specs.Numbering.{renumbered}
 use Rattle.zf_term.specs.Shapes.{all_moved, links_moved, moved, part_moved, ranges_moved}
@@ -13,6 +13,11 @@ same_extent : (g : List Defined) (f : ℕ → ℕ) (r : Reference) → extent_na
 same_extent g f (Component i) = refl
 same_extent g f (Local i) = refl
 same_extent g f (Global i) = refl
+
+same_name : (g : List Defined) (f : ℕ → ℕ) (l : ℕ) (r : Reference) → name_offenders l (renumbered f r) (extent_named g (renumbered f r)) ≡ name_offenders l r (extent_named g r)
+same_name g f l (Component i) = refl
+same_name g f l (Local i) = refl
+same_name g f l (Global i) = refl
 
 same_set : (g : List Defined) (f : ℕ → ℕ) (t : ResolvedTree) → direct g (moved f t) ≡ direct g t
 same_set g f (reference l r) = ap extent_set (same_extent g f r)
@@ -36,7 +41,7 @@ same_test g f r t ks = ap (λ b. tested g r b (moved f t)) (same_end f ks) ∙ a
 
 mutual
   pub same_offences : (g : List Defined) (f : ℕ → ℕ) (t : ResolvedTree) → offending g (moved f t) ≡ offending g t
-  same_offences g f (reference l r) = ap (name_lines l) (same_extent g f r)
+  same_offences g f (reference l r) = same_name g f l r
   same_offences g f (number l v) = refl
   same_offences g f (constant l c) = refl
   same_offences g f (empty_set l t) = refl

@@ -12,6 +12,8 @@ use Rattle.zf_term.specs.declared.extent.Infinite.{Infinite}
 use Rattle.zf_term.specs.declared.extent.Infinite.TheVariants.{Num, Nat, Nat1}
 use Rattle.zf_reference.specs.declared.reference.Reference.{Reference}
 use Rattle.zf_reference.specs.declared.reference.Reference.TheVariants.{Component, Local, Global}
+use Rattle.zf_extent.specs.declared.offender.Offender.{Offender}
+use Rattle.zf_extent.specs.declared.offender.Offender.TheVariants.{Name, Symbol}
 use Rattle.zf_term.specs.Definitions.{Defined, Definition, given_set, free_type, constructor, abbreviation, schema}
 use Rattle.zf_term.specs.ResolvedTrees.{ResolvedTree, reference, number, constant, empty_set, bracket, listed, builder, unary, binary, chain, quantified, ResolvedTrees, no_terms, term, ResolvedLinks, no_links, link, Ranges, no_ranges, range, ResolvedPart, absent, present}
 
@@ -53,7 +55,7 @@ direct g (constant l c) = constant_set c
 direct g (bracket l t) = direct g t
 direct g _ = None
 
--- ---- the names that offend
+-- ---- what offends
 
 abbrev pub is_membership : Relation → Bool
 is_membership Equal = false
@@ -76,26 +78,36 @@ abbrev pub tested : List Defined → Relation → (last : Bool) → ResolvedTree
 tested g r last t = if is_membership r && last then direct g t else None
 
 -- where a term may be an infinite set as a whole, that is no offence
-abbrev pub unless : Option Infinite → List ℕ → List ℕ
-unless None lines = lines
-unless (Some s) lines = []
+abbrev pub unless : Option Infinite → List Offender → List Offender
+unless None offenders = offenders
+unless (Some s) offenders = []
 
--- the line of a name of this extent, if it offends
-abbrev pub name_lines : ℕ → Extent → List ℕ
-name_lines l (extent.Infinite s) = l ∷ []
-name_lines l extent.Open = l ∷ []
-name_lines l extent.Closed = []
+-- the name of a global of this extent, if it offends
+abbrev pub global_offenders : (line place : ℕ) → Extent → List Offender
+global_offenders l i (extent.Infinite s) = Name l i ∷ []
+global_offenders l i extent.Open = Name l i ∷ []
+global_offenders l i extent.Closed = []
 
-abbrev pub constant_lines : ℕ → Option Infinite → List ℕ
-constant_lines l None = []
-constant_lines l (Some s) = l ∷ []
+abbrev pub name_offenders : (line : ℕ) → Reference → Extent → List Offender
+name_offenders l (Component i) x = []
+name_offenders l (Local i) x = []
+name_offenders l (Global i) x = global_offenders l i x
 
--- the lines of the names in a term that offend, from left to right: an infinite set where none may stand, or a name whose term has one there
+abbrev pub constant_offenders : (line : ℕ) → Constant → Option Infinite → List Offender
+constant_offenders l c None = []
+constant_offenders l c (Some s) = Symbol l c ∷ []
+
+-- the line of what offends
+abbrev pub offender_line : Offender → ℕ
+offender_line (Name l i) = l
+offender_line (Symbol l c) = l
+
+-- what offends in a term, from left to right: an infinite set where none may stand, or a name whose term has one there
 abbrev mutual
-  pub offending : List Defined → ResolvedTree → List ℕ
-  offending g (reference l r) = name_lines l (extent_named g r)
+  pub offending : List Defined → ResolvedTree → List Offender
+  offending g (reference l r) = name_offenders l r (extent_named g r)
   offending g (number l v) = []
-  offending g (constant l c) = constant_lines l (constant_set c)
+  offending g (constant l c) = constant_offenders l c (constant_set c)
   offending g (empty_set l t) = []
   offending g (bracket l t) = offending g t
   offending g (listed l form ts) = all_offending g ts
@@ -105,36 +117,36 @@ abbrev mutual
   offending g (chain l t ks) = offending g t ++ links_offending g ks
   offending g (quantified l q rs p t) = ranges_offending g rs ++ part_offending g p ++ offending g t
 
-  pub all_offending : List Defined → ResolvedTrees → List ℕ
+  pub all_offending : List Defined → ResolvedTrees → List Offender
   all_offending g no_terms = []
   all_offending g (term t ts) = offending g t ++ all_offending g ts
 
-  pub links_offending : List Defined → ResolvedLinks → List ℕ
+  pub links_offending : List Defined → ResolvedLinks → List Offender
   links_offending g no_links = []
   links_offending g (link r t ks) = unless (tested g r (is_last ks) t) (offending g t) ++ links_offending g ks
 
-  pub ranges_offending : List Defined → Ranges → List ℕ
+  pub ranges_offending : List Defined → Ranges → List Offender
   ranges_offending g no_ranges = []
   ranges_offending g (range n t rs) = offending g t ++ ranges_offending g rs
 
-  pub part_offending : List Defined → ResolvedPart → List ℕ
+  pub part_offending : List Defined → ResolvedPart → List Offender
   part_offending g absent = []
   part_offending g (present t) = offending g t
 
 -- where a term that is an infinite set as a whole does not offend
-abbrev pub offending_within : List Defined → ResolvedTree → List ℕ
+abbrev pub offending_within : List Defined → ResolvedTree → List Offender
 offending_within g t = unless (direct g t) (offending g t)
 
-abbrev pub first : List ℕ → Option ℕ
+abbrev pub first : {A : Type 0} → List A → Option A
 first [] = None
-first (l ∷ ls) = Some l
+first (x ∷ xs) = Some x
 
 -- ---- what a name has that is defined as a term
 
-abbrev pub extent_by : Option Infinite → List ℕ → Extent
-extent_by (Some s) lines = extent.Infinite s
+abbrev pub extent_by : Option Infinite → List Offender → Extent
+extent_by (Some s) offenders = extent.Infinite s
 extent_by None [] = extent.Closed
-extent_by None (l ∷ ls) = extent.Open
+extent_by None (o ∷ os) = extent.Open
 
 abbrev pub extent_of : List Defined → ResolvedTree → Extent
 extent_of g t = extent_by (direct g t) (offending g t)

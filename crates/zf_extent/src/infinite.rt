@@ -1,10 +1,11 @@
-//! Infinite sets in terms: which terms are one, and which names offend.
+//! Infinite sets in terms: which terms are one, and what offends.
 ghost use Rattle.std.specs.Prelude.{◌≡◌, map};
 ghost use Rattle.zf_term.specs.Definitions.{definition_of, globals_of};
 ghost use Rattle.zf_extent.specs.Extents as spec;
 ghost use Rattle.zf_term.specs.ResolvedTrees.{resolved_of, resolved_link_of, range_of, terms, links, ranges, part_of};
 ghost use Rattle.zf_term.specs.FirstNamed.{or_else};
 
+use crate::offender::Offender;
 use zf_data::arena::{Boxed, Items};
 use zf_reference::reference::Reference;
 use zf_term::extent::{Extent, Infinite};
@@ -45,22 +46,22 @@ pub fn extent_of<'a>(term: &Resolved<'a>, globals: &Globals<'a>) -> Extent
     }
 }
 
-/// The line of the first name in the term that offends.
+/// The first in the term that offends.
 #[cycle(offending)]
-#[tactic(auto, using(zf_term::proofs::ResolvedSeen::seen, crate::proofs::FirstLines::first_of_both))]
-pub fn offending<'a>(term: &Resolved<'a>, globals: &Globals<'a>) -> Option<u32>
+#[tactic(auto, using(zf_term::proofs::ResolvedSeen::seen, crate::proofs::FirstOffenders::first_of_both))]
+pub fn offending<'a>(term: &Resolved<'a>, globals: &Globals<'a>) -> Option<Offender>
     ensures { result ≡ spec.first (spec.offending (globals_of globals.now) (resolved_of term.now)) }
 {
     match term {
-        Resolved::Name(line, reference) => name_line(*line, extent_named(globals, *reference)),
+        Resolved::Name(line, reference) => name_offender(*line, *reference, globals),
         Resolved::Number(_, _) => None,
-        Resolved::Constant(line, constant) => constant_line(*line, *constant),
+        Resolved::Constant(line, constant) => constant_offender(*line, *constant),
         Resolved::EmptySet(_, _) => None,
         Resolved::Bracket(_, inner) => offending(inner.get(), globals),
         Resolved::Listed(_, _, items) => terms_offending(items, globals),
         Resolved::Builder(_, variables, filter, term) => {
-            let line = ranges_offending(variables, globals);
-            part_after(term, part_after(filter, line, globals), globals)
+            let found = ranges_offending(variables, globals);
+            part_after(term, part_after(filter, found, globals), globals)
         }
         Resolved::Unary(_, _, of) => offending(of.get(), globals),
         Resolved::Binary(_, _, left, right) => {
@@ -70,23 +71,23 @@ pub fn offending<'a>(term: &Resolved<'a>, globals: &Globals<'a>) -> Option<u32>
             links_after(further, offending(first.get(), globals), globals)
         }
         Resolved::Quantified(_, _, variables, constraint, body) => {
-            let line = ranges_offending(variables, globals);
-            offending_after(body.get(), part_after(constraint, line, globals), globals)
+            let found = ranges_offending(variables, globals);
+            offending_after(body.get(), part_after(constraint, found, globals), globals)
         }
     }
 }
 
-/// The line that was found before, or that of the first name in the term that offends.
+/// What was found before, or the first in the term that offends.
 #[cycle(offending)]
 pub fn offending_after<'a>(
     term: &Resolved<'a>,
-    found: Option<u32>,
+    found: Option<Offender>,
     globals: &Globals<'a>,
-) -> Option<u32>
+) -> Option<Offender>
     ensures { result ≡ or_else found (spec.first (spec.offending (globals_of globals.now) (resolved_of term.now))) }
 {
     match found {
-        Some(line) => Some(line),
+        Some(offender) => Some(offender),
         None => offending(term, globals),
     }
 }
@@ -95,9 +96,9 @@ pub fn offending_after<'a>(
 #[cycle(offending)]
 pub fn offending_within_after<'a>(
     term: &Resolved<'a>,
-    found: Option<u32>,
+    found: Option<Offender>,
     globals: &Globals<'a>,
-) -> Option<u32>
+) -> Option<Offender>
     ensures { result ≡ or_else found (spec.first (spec.offending_within (globals_of globals.now) (resolved_of term.now))) }
 {
     match direct(term, globals) {
@@ -107,38 +108,42 @@ pub fn offending_within_after<'a>(
 }
 
 #[cycle(offending)]
-fn terms_offending<'a>(items: &Terms<'a>, globals: &Globals<'a>) -> Option<u32>
+fn terms_offending<'a>(items: &Terms<'a>, globals: &Globals<'a>) -> Option<Offender>
     ensures { result ≡ spec.first (spec.all_offending (globals_of globals.now) (terms (map resolved_of items.now))) }
 {
-    let mut line = None;
+    let mut offender = None;
     for term in items.as_slice() {
-        line = offending_after(term, line, globals);
+        offender = offending_after(term, offender, globals);
     }
-    line
+    offender
 }
 
 #[cycle(offending)]
-fn links_after<'a>(further: &Links<'a>, found: Option<u32>, globals: &Globals<'a>) -> Option<u32>
+fn links_after<'a>(
+    further: &Links<'a>,
+    found: Option<Offender>,
+    globals: &Globals<'a>,
+) -> Option<Offender>
     ensures { result ≡ or_else found (spec.first (spec.links_offending (globals_of globals.now) (links (map resolved_link_of further.now)))) }
 {
-    let mut line = found;
+    let mut offender = found;
     let all = further.as_slice();
     for (place, link) in all.iter().enumerate() {
         let is_last = all[place + 1..].is_empty();
-        line = right_after(&link.right, line, link.relation, is_last, globals);
+        offender = right_after(&link.right, offender, link.relation, is_last, globals);
     }
-    line
+    offender
 }
 
 /// The same of the right side of a link.
 #[cycle(offending)]
 fn right_after<'a>(
     right: &Resolved<'a>,
-    found: Option<u32>,
+    found: Option<Offender>,
     relation: Relation,
     is_last: bool,
     globals: &Globals<'a>,
-) -> Option<u32>
+) -> Option<Offender>
     ensures { result ≡ or_else found (spec.first (spec.unless (spec.tested (globals_of globals.now) relation is_last (resolved_of right.now)) (spec.offending (globals_of globals.now) (resolved_of right.now)))) }
 {
     if is_membership(relation) && is_last {
@@ -152,18 +157,22 @@ fn right_after<'a>(
 fn ranges_offending<'a>(
     variables: &Boxed<'a, Items<'a, Range<'a>>>,
     globals: &Globals<'a>,
-) -> Option<u32>
+) -> Option<Offender>
     ensures { result ≡ spec.first (spec.ranges_offending (globals_of globals.now) (ranges (map range_of variables.now))) }
 {
-    let mut line = None;
+    let mut offender = None;
     for range in variables.as_slice() {
-        line = offending_after(&range.set, line, globals);
+        offender = offending_after(&range.set, offender, globals);
     }
-    line
+    offender
 }
 
 #[cycle(offending)]
-fn part_after<'a>(part: &Part<'a>, found: Option<u32>, globals: &Globals<'a>) -> Option<u32>
+fn part_after<'a>(
+    part: &Part<'a>,
+    found: Option<Offender>,
+    globals: &Globals<'a>,
+) -> Option<Offender>
     ensures { result ≡ or_else found (spec.first (spec.part_offending (globals_of globals.now) (part_of part.now))) }
 {
     match part.get() {
@@ -198,23 +207,34 @@ pub(crate) fn constant_set(constant: Constant) -> Option<Infinite>
     }
 }
 
-/// The line, if a name of this extent offends.
-pub(crate) fn name_line(line: u32, extent: Extent) -> Option<u32>
-    ensures { result ≡ spec.first (spec.name_lines line extent) }
+/// The name, if it offends.
+fn name_offender(line: u32, reference: Reference, globals: &Globals<'_>) -> Option<Offender>
+    ensures { result ≡ spec.first (spec.name_offenders line reference (spec.extent_named (globals_of globals.now) reference)) }
+{
+    match reference {
+        Reference::Component(_) => None,
+        Reference::Local(_) => None,
+        Reference::Global(place) => global_offender(line, place, extent_named(globals, reference)),
+    }
+}
+
+/// The name of the global at this place, if one of this extent offends.
+fn global_offender(line: u32, place: usize, extent: Extent) -> Option<Offender>
+    ensures { result ≡ spec.first (spec.global_offenders line place extent) }
 {
     match extent {
-        Extent::Infinite(_) => Some(line),
-        Extent::Open => Some(line),
+        Extent::Infinite(_) => Some(Offender::Name(line, place)),
+        Extent::Open => Some(Offender::Name(line, place)),
         Extent::Closed => None,
     }
 }
 
-/// The line, if the constant offends.
-pub(crate) fn constant_line(line: u32, constant: Constant) -> Option<u32>
-    ensures { result ≡ spec.first (spec.constant_lines line (spec.constant_set constant)) }
+/// The constant, if it offends.
+fn constant_offender(line: u32, constant: Constant) -> Option<Offender>
+    ensures { result ≡ spec.first (spec.constant_offenders line constant (spec.constant_set constant)) }
 {
     match constant_set(constant) {
-        Some(_) => Some(line),
+        Some(_) => Some(Offender::Symbol(line, constant)),
         None => None,
     }
 }

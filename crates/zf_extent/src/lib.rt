@@ -3,3 +3,4 @@
 
 pub mod conjunct;
 pub mod infinite;
+pub mod offender;

@@ -1,3 +1,3 @@
 mod Prelude
-pub mod FirstOffences
+pub mod FirstCauses
 pub mod FiniteSchemas

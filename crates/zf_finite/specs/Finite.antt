@@ -1,9 +1,12 @@
 -- Which schemas are finite: whose bindings are among those of finite sets, where each given set is finite.
-use Rattle.std.specs.Prelude.{◌≡◌, ◌↔◌, IsTrue, ℕ, Bool, true, false, not, ◌&&◌, ◌||◌, if◌then◌else◌, List, [], ◌∷◌, ◌++◌, flat_map, Option, Some, None}
+use Rattle.std.specs.Prelude.{◌≡◌, ◌↔◌, IsTrue, ℕ, Bool, true, false, not, ◌&&◌, ◌||◌, if◌then◌else◌, List, [], ◌∷◌, ◌++◌, flat_map, map, Option, Some, None}
 use Rattle.std.specs.List.{AllByRecursion}
 use Rattle.zf_term.specs.declared.extent.Infinite.{Infinite}
 use Rattle.zf_term.specs.Definitions.{Comp, Schema, DeclaredSet, plain, carrier, sides, DeclaredSets, no_sets, set, sets_of, Defined}
-use Rattle.zf_extent.specs.Extents.{direct, offending, offending_within}
+use Rattle.zf_extent.specs.declared.offender.Offender.{Offender}
+use Rattle.zf_extent.specs.Extents.{direct, offender_line, offending, offending_within}
+use Rattle.zf_finite.specs.declared.not_finite.NotFinite.{NotFinite}
+use Rattle.zf_finite.specs.declared.not_finite.NotFinite.TheVariants.{Unbounded, Offends}
 use Rattle.zf_term.specs.Shapes.{line_of}
 use Rattle.zf_term.specs.Types.{has_numbers}
 
@@ -43,38 +46,43 @@ abbrev mutual
 abbrev pub first_plain : DeclaredSets → ℕ
 first_plain ds = first_or (all_plain_lines ds) 0
 
--- that line, where nothing bounds
-abbrev pub unbounded : List Defined → DeclaredSets → List ℕ
-unbounded g ds = if one_bounds g ds then [] else first_plain ds ∷ []
+-- the component, with that line, where nothing bounds it
+abbrev pub unbounded : List Defined → (name : List ℕ) → DeclaredSets → List NotFinite
+unbounded g name ds = if one_bounds g ds then [] else Unbounded (first_plain ds) name ∷ []
 
--- ---- the names in it that offend
+-- ---- what offends in it
 
 -- a declared set that is infinite as a whole does not offend: it filters
 abbrev mutual
-  pub set_lines : List Defined → DeclaredSet → List ℕ
-  set_lines g (plain t) = offending_within g t
-  set_lines g (carrier t) = []
-  set_lines g (sides left right) = all_set_lines g left ++ all_set_lines g right
+  pub set_offenders : List Defined → DeclaredSet → List Offender
+  set_offenders g (plain t) = offending_within g t
+  set_offenders g (carrier t) = []
+  set_offenders g (sides left right) = all_set_offenders g left ++ all_set_offenders g right
 
-  pub all_set_lines : List Defined → DeclaredSets → List ℕ
-  all_set_lines g no_sets = []
-  all_set_lines g (set d ds) = set_lines g d ++ all_set_lines g ds
+  pub all_set_offenders : List Defined → DeclaredSets → List Offender
+  all_set_offenders g no_sets = []
+  all_set_offenders g (set d ds) = set_offenders g d ++ all_set_offenders g ds
 
 -- ---- schemas
 
-abbrev pub comp_lines : List Defined → Comp → List ℕ
-comp_lines g c = unbounded g (sets_of c.sets) ++ all_set_lines g (sets_of c.sets)
+abbrev pub comp_causes : List Defined → Comp → List NotFinite
+comp_causes g c = unbounded g c.name (sets_of c.sets) ++ map Offends (all_set_offenders g (sets_of c.sets))
 
--- the lines of what makes a schema infinite: of its components with their declared sets, and then of its conjuncts
-abbrev pub infinite_lines : List Defined → Schema → List ℕ
-infinite_lines g a = flat_map (comp_lines g) a.comps ++ flat_map (offending g) a.conjuncts
+-- what makes a schema infinite: its components with their declared sets, and then its conjuncts
+abbrev pub causes : List Defined → Schema → List NotFinite
+causes g a = flat_map (comp_causes g) a.comps ++ map Offends (flat_map (offending g) a.conjuncts)
 
--- each component has a declared set that bounds it, and no name offends
+-- the line on which it stands
+abbrev pub cause_line : NotFinite → ℕ
+cause_line (Unbounded l name) = l
+cause_line (Offends o) = offender_line o
+
+-- each component has a declared set that bounds it, and nothing offends
 pub record IsFinite (g : List Defined) (a : Schema) : Type 0 where
   pub bounded : AllByRecursion (λ c. IsTrue (one_bounds g (sets_of c.sets))) a.comps
-  pub sets : AllByRecursion (λ c. all_set_lines g (sets_of c.sets) ≡ []) a.comps
+  pub sets : AllByRecursion (λ c. all_set_offenders g (sets_of c.sets) ≡ []) a.comps
   pub conjuncts : AllByRecursion (λ t. offending g t ≡ []) a.conjuncts
 
 -- a schema is finite exactly where nothing makes it infinite
-abbrev pub FiniteWithoutLines : Type 0
-FiniteWithoutLines = (g : List Defined) (a : Schema) → IsFinite g a ↔ (infinite_lines g a ≡ [])
+abbrev pub FiniteWithoutCause : Type 0
+FiniteWithoutCause = (g : List Defined) (a : Schema) → IsFinite g a ↔ (causes g a ≡ [])

@@ -7,93 +7,67 @@ ghost use Rattle.zf_term.specs.FirstNamed.{or_else};
 ghost use Rattle.zf_finite.specs.Finite as spec;
 ghost use Rattle.zf_finite.specs.Finite.{IsFinite};
 
-use thiserror::Error;
+use crate::not_finite::NotFinite;
 use zf_data::arena::Items;
 use zf_extent::conjunct::offending_after;
 use zf_extent::infinite::{direct, offending_within_after};
+use zf_extent::offender::Offender;
 use zf_term::conjunct::Conjunct;
 use zf_term::globals::{Component, Domain, Flat, Globals};
 
-/// Why a schema is not finite: the line of the first infinite set that would be searched.
-#[derive(Clone, Copy, Debug, PartialEq, Eq, Error)]
-#[error("not finite")]
-pub struct NotFinite {
-    pub line: u32,
-}
-
 /// Whether the schema is finite, after the globals that it is made of.
-pub fn finite<'a>(schema: &Flat<'a>, globals: &Globals<'a>) -> Result<(), NotFinite>
+pub fn finite<'a>(schema: &Flat<'a>, globals: &Globals<'a>) -> Result<(), NotFinite<'a>>
     ensures ok { OnOk result (IsFinite (globals_of globals.now) (schema_of schema.now)) }
-    ensures err { IfErr result (λ e. first (spec.infinite_lines (globals_of globals.now) (schema_of schema.now)) ≡ Some e.line) }
+    ensures err { IfErr result (λ e. first (spec.causes (globals_of globals.now) (schema_of schema.now)) ≡ Some e) }
 {
-    let line = components_line(schema.components.as_slice(), globals);
-    match conjuncts_after(schema.conjuncts.as_slice(), line, globals) {
-        Some(line) => Err(NotFinite { line }),
-        None => Ok(()),
+    match components_cause(schema.components.as_slice(), globals) {
+        Some(cause) => Err(cause),
+        None => match conjuncts_offender(schema.conjuncts.as_slice(), globals) {
+            Some(offender) => Err(NotFinite::Offends(offender)),
+            None => Ok(()),
+        },
     }
 }
 
-/// The line of the first name in the components that offends, or of the first that nothing bounds.
-fn components_line<'a>(components: &[Component<'a>], globals: &Globals<'a>) -> Option<u32>
-    ensures { result ≡ first (flat_map (spec.comp_lines (globals_of globals.now)) (map comp_of components.now)) }
+/// The first that makes the components infinite.
+fn components_cause<'a>(
+    components: &[Component<'a>],
+    globals: &Globals<'a>,
+) -> Option<NotFinite<'a>>
+    ensures { result ≡ first (flat_map (spec.comp_causes (globals_of globals.now)) (map comp_of components.now)) }
 {
-    let mut line = None;
     for component in components {
-        line = component_after(component, line, globals);
+        match component_cause(component, globals) {
+            Some(cause) => return Some(cause),
+            None => {}
+        }
     }
-    line
+    None
 }
 
-/// As for all that follow: the line that was found before, or else that of the first in this.
-#[tactic(auto, using(crate::proofs::FirstOffences::both_after))]
-fn component_after<'a>(
-    component: &Component<'a>,
-    found: Option<u32>,
-    globals: &Globals<'a>,
-) -> Option<u32>
-    ensures { result ≡ or_else found (first (spec.comp_lines (globals_of globals.now) (comp_of component.now))) }
+/// That nothing bounds the component, or the first in its declared sets that offends.
+fn component_cause<'a>(component: &Component<'a>, globals: &Globals<'a>) -> Option<NotFinite<'a>>
+    ensures { result ≡ first (spec.comp_causes (globals_of globals.now) (comp_of component.now)) }
 {
-    let line = unbounded_after(component.domains.get(), found, globals);
-    all_names_after(component.domains.get(), line, globals)
+    let sets = component.domains.get();
+    if !one_bounds(sets, globals) {
+        return Some(NotFinite::Unbounded(first_plain(sets), component.name.share()));
+    }
+    match all_offending_after(sets, None, globals) {
+        Some(offender) => Some(NotFinite::Offends(offender)),
+        None => None,
+    }
 }
 
-fn conjuncts_after<'a>(
-    conjuncts: &[Conjunct<'a>],
-    found: Option<u32>,
-    globals: &Globals<'a>,
-) -> Option<u32>
-    ensures { result ≡ or_else found (first (flat_map (extents.offending (globals_of globals.now)) (map conjunct_of conjuncts.now))) }
+/// The first in the conjuncts that offends.
+fn conjuncts_offender<'a>(conjuncts: &[Conjunct<'a>], globals: &Globals<'a>) -> Option<Offender>
+    ensures { result ≡ first (flat_map (extents.offending (globals_of globals.now)) (map conjunct_of conjuncts.now)) }
 {
-    let mut line = found;
+    let mut offender = None;
     for conjunct in conjuncts {
-        line = conjunct_after(conjunct, line, globals);
+        offender = offending_after(conjunct, offender, globals);
     }
-    line
-}
-
-#[tactic(auto, using(zf_extent::proofs::SameOffences::same_offences))]
-fn conjunct_after<'a>(
-    conjunct: &Conjunct<'a>,
-    found: Option<u32>,
-    globals: &Globals<'a>,
-) -> Option<u32>
-    ensures { result ≡ or_else found (first (extents.offending (globals_of globals.now) (conjunct_of conjunct.now))) }
-{
-    offending_after(conjunct, found, globals)
-}
-
-/// The line of the first set of a declaration, if nothing bounds the component.
-fn unbounded_after<'a>(
-    domains: &Items<'a, Domain<'a>>,
-    found: Option<u32>,
-    globals: &Globals<'a>,
-) -> Option<u32>
-    ensures { result ≡ or_else found (first (spec.unbounded (globals_of globals.now) (sets_of (map set_of domains.now)))) }
-{
-    if one_bounds(domains, globals) {
-        return found;
-    }
-    or_line(found, first_plain(domains))
+    offender
 }
 
 /// Whether the declared set bounds a component.
@@ -133,7 +107,7 @@ fn first_plain<'a>(domains: &Items<'a, Domain<'a>>) -> u32
 }
 
 #[cycle(plain)]
-#[tactic(auto, using(zf_term::proofs::SetsSeen::seen, crate::proofs::FirstOffences::both_after))]
+#[tactic(auto, using(zf_term::proofs::SetsSeen::seen, crate::proofs::FirstCauses::both_after))]
 fn plain_after<'a>(domain: &Domain<'a>, found: Option<u32>) -> Option<u32>
     ensures { result ≡ or_else found (first (spec.plain_lines (set_of domain.now))) }
 {
@@ -167,33 +141,37 @@ fn all_plain_after<'a>(domains: &Items<'a, Domain<'a>>, found: Option<u32>) -> O
     line
 }
 
-/// The line of the first name in the declared set that offends.
-#[cycle(names)]
-#[tactic(auto, using(zf_term::proofs::SetsSeen::seen, crate::proofs::FirstOffences::both_after))]
-fn names_after<'a>(domain: &Domain<'a>, found: Option<u32>, globals: &Globals<'a>) -> Option<u32>
-    ensures { result ≡ or_else found (first (spec.set_lines (globals_of globals.now) (set_of domain.now))) }
+/// What was found before, or the first in the declared set that offends.
+#[cycle(sets)]
+#[tactic(auto, using(zf_term::proofs::SetsSeen::seen, crate::proofs::FirstCauses::both_after))]
+fn set_offending_after<'a>(
+    domain: &Domain<'a>,
+    found: Option<Offender>,
+    globals: &Globals<'a>,
+) -> Option<Offender>
+    ensures { result ≡ or_else found (first (spec.set_offenders (globals_of globals.now) (set_of domain.now))) }
 {
     match domain {
         Domain::Plain(set) => offending_within_after(set.get(), found, globals),
         Domain::Carrier(_) => found,
         Domain::Either(left, right) => {
-            let line = all_names_after(left.get(), found, globals);
-            all_names_after(right.get(), line, globals)
+            let offender = all_offending_after(left.get(), found, globals);
+            all_offending_after(right.get(), offender, globals)
         }
     }
 }
 
-#[cycle(names)]
-fn all_names_after<'a>(
+#[cycle(sets)]
+fn all_offending_after<'a>(
     domains: &Items<'a, Domain<'a>>,
-    found: Option<u32>,
+    found: Option<Offender>,
     globals: &Globals<'a>,
-) -> Option<u32>
-    ensures { result ≡ or_else found (first (spec.all_set_lines (globals_of globals.now) (sets_of (map set_of domains.now)))) }
+) -> Option<Offender>
+    ensures { result ≡ or_else found (first (spec.all_set_offenders (globals_of globals.now) (sets_of (map set_of domains.now)))) }
 {
-    let mut line = found;
+    let mut offender = found;
     for domain in domains.as_slice() {
-        line = names_after(domain, line, globals);
+        offender = set_offending_after(domain, offender, globals);
     }
-    line
+    offender
 }

@@ -1,7 +1,7 @@
 //! What holds of every schema.
-ghost use Rattle.zf_finite.specs.Finite.{FiniteWithoutLines};
+ghost use Rattle.zf_finite.specs.Finite.{FiniteWithoutCause};
 
 /// A schema is finite exactly where nothing makes it infinite.
-pub fn finite_without_lines()
-    ensures { FiniteWithoutLines }
+pub fn finite_without_cause()
+    ensures { FiniteWithoutCause }
 {}

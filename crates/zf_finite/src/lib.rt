@@ -1,7 +1,8 @@
-//! Which schemas are finite: Ok, or the line of the first name that makes one infinite.
+//! Which schemas are finite: Ok, or the first that makes one infinite.
 #![tactic(auto)]
 
 mod finiteness;
 pub mod laws;
+pub mod not_finite;
 
-pub use finiteness::{NotFinite, finite};
+pub use finiteness::finite;

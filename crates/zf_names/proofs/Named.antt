@@ -8,7 +8,7 @@ use Rattle.zf_term.specs.FirstNamed.{first_named, later}
 use Rattle.zf_term.specs.Types.{Ty}
 use Rattle.zf_type.specs.Resolving.{resolved}
 use Rattle.zf_calculus.specs.Calculus.{comp, marked, nothing}
-use Rattle.zf_type.specs.declared.fault.TypeFault.{TypeFault}
+use Rattle.zf_term.specs.Faults.{Fault}
 use Rattle.zf_schema.specs.Checking.{Item, a_paragraph, a_box, items, next_number, with_global, Gives, Constructs, DefinesParagraph, Defines, ChecksOne, Checks, IsChecked}
 use Rattle.zf_schema.specs.Expressions.{AddsAll, Declares, DeclaresOne, IsSchema, IsText, outside, Refers}
 use Rattle.zf_schema.proofs.Numbering.{next_more, defined_numbers}
@@ -115,12 +115,12 @@ item_named g (a_box n ds ps) h p names = (
   omega (arith, ap next_number p.1.2, next_more g n (schema p.1.0)),
 )
 
-step_named : (g : List Defined) (item : Item) (h : List Defined) (fs : List TypeFault) → ChecksOne g item h fs → IsItemSpelled item → IsNamedAfter g (item_elements item) h
+step_named : (g : List Defined) (item : Item) (h : List Defined) (fs : List Fault) → ChecksOne g item h fs → IsItemSpelled item → IsNamedAfter g (item_elements item) h
 step_named g item h fs (inl p) names = item_named g item h p.0 names
 step_named g item h fs (inr p) names = (λ all. subst AreNamed (sym p.1) all, omega (arith, ap next_number p.1))
 
 run_named :
-    (most made : ℕ) (g : List Defined) (steps : List Item) (h : List Defined) (fs : List TypeFault) → Checks g steps h fs → AreItemsSpelled most made steps → next_number g ≤ made
+    (most made : ℕ) (g : List Defined) (steps : List Item) (h : List Defined) (fs : List Fault) → Checks g steps h fs → AreItemsSpelled most made steps → next_number g ≤ made
     → AreNamed g → AreNamed h × (next_number h ≤ most)
 run_named most made g [] h fs p names few all = (subst AreNamed (sym p.0) all, omega (arith, ap next_number p.0, names))
 run_named most made g (item ∷ steps) h fs p names few all =
@@ -129,6 +129,6 @@ run_named most made g (item ∷ steps) h fs p names few all =
 
 -- the globals of a source
 pub globals_named :
-    (boxes : List BoxTree) (source : List ℕ) (g : List Defined) (faults : List TypeFault) → ReadsSource boxes source → IsChecked boxes g faults
+    (boxes : List BoxTree) (source : List ℕ) (g : List Defined) (faults : List Fault) → ReadsSource boxes source → IsChecked boxes g faults
     → AreNamed g × (next_number g ≤ length source)
 globals_named boxes source g faults r c = run_named (length source) 0 [] (items boxes) g faults c (items_spelled boxes source r) (omega arith) tt

@@ -4,7 +4,7 @@ use Rattle.zf_text.specs.Parsing.{ReadsSource}
 use Rattle.zf_tree.specs.Trees.{BoxTree}
 use Rattle.zf_term.specs.Definitions.{Defined, Schema, schema}
 use Rattle.zf_term.specs.FirstNamed.{first_named}
-use Rattle.zf_type.specs.declared.fault.TypeFault.{TypeFault}
+use Rattle.zf_term.specs.Faults.{Fault}
 use Rattle.zf_schema.specs.Checking.{IsChecked}
 use Rattle.zf_meaning.specs.declared.sizes.Size.{Size}
 use Rattle.zf_meaning.specs.Environments.{Environment}
@@ -18,13 +18,13 @@ use Rattle.zf_value.specs.declared.value.Value.{Value}
 -- the globals of a text, at sizes of all its given sets, have clear spellings
 abbrev pub GlobalsAreClear : Type 0
 GlobalsAreClear =
-    (boxes : List BoxTree) (source : List ℕ) (globals : List Defined) (faults : List TypeFault) (stated : List Size) (e : Environment)
+    (boxes : List BoxTree) (source : List ℕ) (globals : List Defined) (faults : List Fault) (stated : List Size) (e : Environment)
     → ReadsSource boxes source → IsChecked boxes globals faults → AreComplete (given_sets globals) stated → IsEnvironment globals stated e → AreClear (spellings globals) e.sizes
 
 -- a schema that a text defines
 pub record IsSchemaOf (source : List ℕ) (globals : List Defined) (a : Schema) : Type 0 where
   pub boxes : List BoxTree
-  pub faults : List TypeFault
+  pub faults : List Fault
   pub place : ℕ
   pub name : List ℕ
   pub reads : ReadsSource boxes source

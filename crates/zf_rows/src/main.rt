@@ -8,10 +8,11 @@ use std::process::ExitCode;
 use std::rt::Files;
 use std::{fs, io};
 
-static NAMES: [&str; 22] = [
+static NAMES: [&str; 23] = [
     "answers",
     "calculus",
     "command_lines",
+    "details",
     "disjunction",
     "examples",
     "held",

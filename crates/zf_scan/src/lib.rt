@@ -9,6 +9,7 @@ pub mod next;
 mod outside;
 mod pieces;
 pub mod placed;
+pub mod refused;
 pub mod scan;
 mod signs;
 mod symbols;

@@ -26,7 +26,7 @@ pub struct Placed {
 const OPENING: usize = 15;
 
 /// The bytes of a text from one place to another.
-fn between(text: &[u8], start: usize, stop: usize) -> &[u8]
+pub(crate) fn between(text: &[u8], start: usize, stop: usize) -> &[u8]
     ensures { result.now ≡ spec.between start stop text.now }
 {
     let behind = back(text, start);

@@ -44,7 +44,7 @@ impl Border {
 }
 
 /// The symbols of the next box, with their places, instead of those in the list; none where no box is left. The border is then
-/// the one behind the box.
+/// the one behind the box; of a piece that is refused, its place.
 pub fn next_box(
     source: &[u8],
     border: &mut Border,
@@ -87,7 +87,10 @@ pub fn next_box(
                 }
                 place = behind(place, line, next);
             }
-            Sight::Refused(kind) => return Err(fault_at(kind, place, line)),
+            Sight::Refused(kind) => {
+                *border = Border { line, start };
+                return Err(fault_at(kind, place, line));
+            }
         }
         start += len;
     }
@@ -100,15 +103,19 @@ pub fn next_box(
     }
 }
 
-/// Whether the rest of a source is cut, behind the border; else the fault of the source. The list lends its room.
-pub fn cut_rest(source: &[u8], border: Border, symbols: &mut Vec<Placed>) -> Result<(), TextFault>
-    requires { IsBorder source.now border }
-    ensures cut { OnOk result ((tokens : List Token) → IsCutUpTo source.now border tokens → IsCutOn source.now tokens) }
+/// Whether the rest of a source is cut, behind the border; else the fault of the source, whose piece is then at the border. The
+/// list lends its room.
+pub fn cut_rest(
+    source: &[u8],
+    border: &mut Border,
+    symbols: &mut Vec<Placed>,
+) -> Result<(), TextFault>
+    requires { IsBorder source.now border.old }
+    ensures cut { OnOk result ((tokens : List Token) → IsCutUpTo source.now border.old tokens → IsCutOn source.now tokens) }
     ensures fault { IfErr result (λ fault. cuts.IsWantOfMemory fault ⊎ cuts.IsStuck source.now fault) }
 {
-    let mut border = border;
     while border.start < source.len() {
-        next_box(source, &mut border, symbols)?;
+        next_box(source, border, symbols)?;
     }
     Ok(())
 }

@@ -4,7 +4,7 @@ use Rattle.zf_tree.specs.declared.symbol.Relation.{Relation}
 use Rattle.zf_tree.specs.declared.operator.Listed.{Listed}
 use Rattle.zf_tree.specs.Trees as text
 use Rattle.zf_reference.specs.declared.reference.Reference.{Reference}
-use Rattle.zf_extent.specs.Extents.{is_membership, is_last, tested, unless, name_lines, extent_by, extent_found, extent_named, extent_set, extent_of, direct, offending, all_offending, links_offending, ranges_offending, part_offending}
+use Rattle.zf_extent.specs.Extents.{is_membership, is_last, tested, unless, name_offenders, extent_by, extent_found, extent_named, extent_set, extent_of, direct, offending, all_offending, links_offending, ranges_offending, part_offending}
 use Rattle.zf_type.specs.Scopes.{Scope, Var, within, last_named, with_local, with_comp, with_global, meaning}
 use Rattle.zf_type.specs.Typing.{IsOf, AreMembers, member_sort, AreLinked, Declare, Constrains, Builds}
 use Rattle.zf_type.proofs.ResolvedAlike.{resolved_within}
@@ -16,7 +16,7 @@ use Rattle.zf_schema.proofs.WellTyped.{globals_well_typed}
 abbrev pub Same : {A : Type 0} → List Defined → List Defined → (List Defined → A) → Type 0
 Same g more asked = asked (g ++ more) ≡ asked g
 
--- the infinite set that the term is, and the lines of its names that offend
+-- the infinite set that the term is, and what offends in it
 abbrev pub IsSame : List Defined → List Defined → ResolvedTree → Type 0
 IsSame g more t = Same g more (λ h. direct h t) × Same g more (λ h. offending h t)
 
@@ -37,10 +37,10 @@ name_same s x r z more e =
 
 -- ---- terms
 
-both : (a b c d : List ℕ) → a ≡ b → c ≡ d → a ++ c ≡ b ++ d
+both : {A : Type 0} (a b c d : List A) → a ≡ b → c ≡ d → a ++ c ≡ b ++ d
 both a b c d left right = (cc)
 
-three : (a b c d e f : List ℕ) → a ≡ b → c ≡ d → e ≡ f → a ++ c ++ e ≡ b ++ d ++ f
+three : {A : Type 0} (a b c d e f : List A) → a ≡ b → c ≡ d → e ≡ f → a ++ c ++ e ≡ b ++ d ++ f
 three a b c d e f first second third = (cc)
 
 tested_same :
@@ -58,7 +58,7 @@ bound_same s ds vs e more p same = subst (IsSame s.globals more) (sym (resolved_
 
 mutual
   pub term_same : (s : Scope) (e : Tree) (z : Sort) (more : List Defined) → IsOf s e z → IsSame s.globals more (resolved s e)
-  term_same s (text.named n) z more p = let same = name_same s (spelling n) p.0 z more p.1 in (ap extent_set same, ap (name_lines n.line) same)
+  term_same s (text.named n) z more p = let same = name_same s (spelling n) p.0 z more p.1 in (ap extent_set same, ap (name_offenders n.line (referent (meaning s (spelling n)))) same)
   term_same s (text.numeral l v) z more p = (refl, refl)
   term_same s (text.constant l c) z more p = (refl, refl)
   term_same s (text.empty_set l e) z more p = (refl, refl)

@@ -16,6 +16,7 @@ pub mod Globals
 pub mod WellTyped
 pub mod Extended
 pub mod Referring
+pub mod Stopping
 pub mod Running
 pub mod Beginning
 pub mod Texts

@@ -1,6 +1,6 @@
 -- What the proofs of this crate take from elsewhere, passed on from one place.
 pub use Rattle.std.proofs.Common.{if◌then◌else◌, ◌&&◌, ◌++◌, ◌+◌, ◌<◌, ◌^◌, ◌∙◌, ◌∷◌, ◌≡◌, ◌≤◌, ◌⊎◌, [], ap, arith, Bool, drop, Err, false, flat_map, get_or, IfErr, inl, inr, is_err, length, List, map, None, Ok, OnErr, OnOk, Option, refl, Result, rules, slice_get, Some, subst, suc, sym, take, true, true≢false, zero, ℕ}
-pub use Rattle.std.proofs.lemmas.List.{append-nil, append_assoc, append_cancel_right, drop_all, length-append, take-append-drop, take-append-le, take-take}
+pub use Rattle.std.proofs.lemmas.List.{append-nil, append_assoc, append_cancel_right, drop_all, length-append, map-append, take-append-drop, take-append-le, take-take}
 pub use Rattle.std.proofs.lemmas.Option.{none-some, same_Some, slice_get-map}
 pub use Rattle.std.proofs.lemmas.Result.{on_ok_weaker}
 pub use Rattle.std.specs.Option.{option_map}
@@ -18,23 +18,24 @@ pub use Rattle.zf_term.specs.Numbers.{has_elements, next_number}
 pub use Rattle.zf_term.specs.ResolvedTrees.{resolved_of, ResolvedTree}
 pub use Rattle.zf_term.specs.Shapes.{conjuncts}
 pub use Rattle.zf_term.specs.Types.{Ty, type_of, Tys}
-pub use Rattle.zf_term.specs.declared.fault.TypeFaultKind.{TypeFaultKind}
+pub use Rattle.zf_term.specs.Faults.{Fault, Offence}
+pub use Rattle.zf_term.specs.declared.fault.Limit.{Limit}
 pub use Rattle.zf_type.proofs.NoOffence.{no_offence}
+pub use Rattle.zf_type.proofs.Judging.{told}
 pub use Rattle.zf_type.proofs.OneSort.{one_sort, same_set, same_typed}
 pub use Rattle.zf_type.specs.Offences.{Offends}
-pub use Rattle.zf_type.specs.Refusals.{IfFault}
+pub use Rattle.zf_type.specs.Refusals.{fault_of, IfFault, IsRefusal, offence_of}
 pub use Rattle.zf_type.specs.Resolving.{bound, referent, resolved, resolved_all, resolved_links, resolved_part, resolved_ranges}
 pub use Rattle.zf_type.specs.Rules.{predicate, set_of, Sort, typed}
 pub use Rattle.zf_type.specs.declared.fault.Refusal.{Refusal}
-pub use Rattle.zf_type.specs.declared.fault.Refusal.TheVariants.{Fault, OutOfMemory}
-pub use Rattle.zf_type.specs.declared.fault.TypeFault.{TypeFault}
 pub use Rattle.zf_calculus.specs.Calculus.{Agree, Agrees, all_unchanged, AreOnce, comp, comp_named, conjoined, decorated, disjoined, either_comps, HasTypeOf, MarkAgrees, marked, new_place, nothing, place_of, place_or, prime, sets_on, unchanged, with_comp, with_comps}
 pub use Rattle.zf_calculus.specs.Growth.{IfStopped, IsGrowing}
-pub use Rattle.zf_calculus.specs.Steps.{Adds, Includes, IsNext, Stops}
+pub use Rattle.zf_calculus.specs.Limits.{IsTooLarge, IsWithin, Keeps}
+pub use Rattle.zf_calculus.specs.Steps.{Adds, Clashes, Differs, Includes, IsNext, MarkClashes, OneClashes, Stops}
 pub use Rattle.zf_schema.specs.Checking.{a_box, a_paragraph, abbreviated, Checks, ChecksOne, Constructs, Defines, DefinesParagraph, Gives, IsChecked, Item, items, items_in, OffendsConstructors, OffendsGiven, OffendsItem, with_global}
 pub use Rattle.zf_schema.specs.Expressions.{AddsAll, Constrains, ConstrainsOne, Declares, DeclaresOne, inside, IsSchema, IsText, outside, Refers, TakesAll}
 pub use Rattle.zf_schema.specs.Listing.{choices_text, component_line, definition_text, listing}
-pub use Rattle.zf_schema.specs.Refusing.{CantAdd, CantConstrain, CantDeclare, CantTake, IsNamed, over, refusal_of}
+pub use Rattle.zf_schema.specs.Refusing.{CantAdd, CantConjoin, CantConstrain, CantDeclare, CantTake, either_line, IsNamed, LacksSchema, over, Refuses}
 pub use Rattle.zf_schema.specs.Runs.{elements, Notes}
 unfoldable pub use Rattle.zf_schema.specs.Runs.{Runs, RunsOne}
 pub use Rattle.zf_schema.specs.SchemaLaws.{AreDefinedOnce, CompsJoined, CompsOfEither, DecorationRenames, FirstKept, GlobalsKept, HasCompsOnce, HaveCompsOnce, NamesOnce, new_comps, PlacesCarried, sets_found, sets_named, SetsJoined, SetsOfEither, signature, StandsAt, type_found, type_named, TypesJoined, TypesOfEither, unless_found, XiEquates}

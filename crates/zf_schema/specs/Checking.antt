@@ -10,9 +10,7 @@ pub use Rattle.zf_term.specs.Numbers.{has_elements, next_number}
 use Rattle.zf_extent.specs.Extents.{extent_of}
 use Rattle.zf_term.specs.ResolvedTrees.{ResolvedTree}
 use Rattle.zf_term.specs.Types.{Ty}
-use Rattle.zf_type.specs.declared.fault.TypeFault.{TypeFault}
-use Rattle.zf_term.specs.declared.fault.TypeFaultKind.{TypeFaultKind}
-use Rattle.zf_term.specs.declared.fault.TypeFaultKind.TheVariants.{AlreadyDefined}
+use Rattle.zf_term.specs.Faults.{Offence, Fault, already_defined}
 use Rattle.zf_type.specs.Offences.{Offends}
 use Rattle.zf_type.specs.Resolving.{resolved}
 use Rattle.zf_type.specs.Rules.{typed}
@@ -70,44 +68,44 @@ Defines g (a_box n ds ps) h = IsNew g n × ((a : Schema) × IsText g ds ps a × 
 -- ---- what is wrong with one that is not well typed
 
 -- the name is that of a global
-abbrev pub IsTaken : List Defined → Name → TypeFaultKind → ℕ → Type 0
-IsTaken g n k m = (k ≡ AlreadyDefined) × (m ≡ n.line) × (IsNew g n → ⊥)
+abbrev pub IsTaken : List Defined → Name → Offence → ℕ → Type 0
+IsTaken g n o m = (o ≡ already_defined (spelling n)) × (m ≡ n.line) × (IsNew g n → ⊥)
 
-abbrev pub OffendsGiven : List Defined → List Name → TypeFaultKind → ℕ → Type 0
-OffendsGiven g [] k m = ⊥
-OffendsGiven g (n ∷ ns) k m = IsTaken g n k m ⊎ OffendsGiven (with_global g n (given_set (next_number g))) ns k m
+abbrev pub OffendsGiven : List Defined → List Name → Offence → ℕ → Type 0
+OffendsGiven g [] o m = ⊥
+OffendsGiven g (n ∷ ns) o m = IsTaken g n o m ⊎ OffendsGiven (with_global g n (given_set (next_number g))) ns o m
 
-abbrev pub OffendsConstructors : List Defined → (number : ℕ) → (of_type : List ℕ) → (place : ℕ) → List Name → TypeFaultKind → ℕ → Type 0
-OffendsConstructors g number of_type place [] k m = ⊥
-OffendsConstructors g number of_type place (n ∷ ns) k m =
-    IsTaken g n k m ⊎ OffendsConstructors (with_global g n (constructor number of_type place)) number of_type (place + 1) ns k m
+abbrev pub OffendsConstructors : List Defined → (number : ℕ) → (of_type : List ℕ) → (place : ℕ) → List Name → Offence → ℕ → Type 0
+OffendsConstructors g number of_type place [] o m = ⊥
+OffendsConstructors g number of_type place (n ∷ ns) o m =
+    IsTaken g n o m ⊎ OffendsConstructors (with_global g n (constructor number of_type place)) number of_type (place + 1) ns o m
 
-abbrev pub OffendsParagraph : List Defined → ParagraphTree → TypeFaultKind → ℕ → Type 0
-OffendsParagraph g (given ns) k m = OffendsGiven g ns k m
-OffendsParagraph g (free n ns) k m =
-    IsTaken g n k m ⊎ OffendsConstructors (with_global g n (free_type (next_number g) (map spelling ns))) (next_number g) (spelling n) 0 ns k m
-OffendsParagraph g (text.abbreviation n e) k m = IsTaken g n k m ⊎ Offends (outside g) need.Expression e k m
-OffendsParagraph g (definition n x) k m = IsTaken g n k m ⊎ OffendsSchema g x k m
+abbrev pub OffendsParagraph : List Defined → ParagraphTree → Offence → ℕ → Type 0
+OffendsParagraph g (given ns) o m = OffendsGiven g ns o m
+OffendsParagraph g (free n ns) o m =
+    IsTaken g n o m ⊎ OffendsConstructors (with_global g n (free_type (next_number g) (map spelling ns))) (next_number g) (spelling n) 0 ns o m
+OffendsParagraph g (text.abbreviation n e) o m = IsTaken g n o m ⊎ Offends (outside g) need.Expression e o m
+OffendsParagraph g (definition n x) o m = IsTaken g n o m ⊎ OffendsSchema g x o m
 
--- the kind, at the line, is an offence of the paragraph or box after the globals g
-abbrev pub OffendsItem : List Defined → Item → TypeFaultKind → ℕ → Type 0
-OffendsItem g (a_paragraph p) k m = OffendsParagraph g p k m
-OffendsItem g (a_box n ds ps) k m = IsTaken g n k m ⊎ OffendsText g ds ps k m
+-- the offence, at the line, is one of the paragraph or box after the globals g
+abbrev pub OffendsItem : List Defined → Item → Offence → ℕ → Type 0
+OffendsItem g (a_paragraph p) o m = OffendsParagraph g p o m
+OffendsItem g (a_box n ds ps) o m = IsTaken g n o m ⊎ OffendsText g ds ps o m
 
 -- ---- one after another
 
 -- it is well typed and defines what it does, or it is not, defines nothing and has one fault
-abbrev pub ChecksOne : List Defined → Item → List Defined → List TypeFault → Type 0
+abbrev pub ChecksOne : List Defined → Item → List Defined → List Fault → Type 0
 ChecksOne g item h faults =
     (Defines g item h × (faults ≡ []))
-    ⊎ (((other : List Defined) → Defines g item other → ⊥) × (h ≡ g) × ((f : TypeFault) × OffendsItem g item f.kind f.line × (faults ≡ f ∷ [])))
+    ⊎ (((other : List Defined) → Defines g item other → ⊥) × (h ≡ g) × ((f : Fault) × OffendsItem g item f.offence f.line × (faults ≡ f ∷ [])))
 
 -- what the items define after the globals g, and their faults, in order
-abbrev pub Checks : List Defined → List Item → List Defined → List TypeFault → Type 0
+abbrev pub Checks : List Defined → List Item → List Defined → List Fault → Type 0
 Checks g [] h faults = (h ≡ g) × (faults ≡ [])
 Checks g (item ∷ rest) h faults =
-    (mid : List Defined) × (first more : List TypeFault) × ChecksOne g item mid first × Checks mid rest h more × (faults ≡ first ++ more)
+    (mid : List Defined) × (first more : List Fault) × ChecksOne g item mid first × Checks mid rest h more × (faults ≡ first ++ more)
 
 -- what a text defines, and its faults
-abbrev pub IsChecked : List BoxTree → List Defined → List TypeFault → Type 0
+abbrev pub IsChecked : List BoxTree → List Defined → List Fault → Type 0
 IsChecked boxes globals faults = Checks [] (items boxes) globals faults

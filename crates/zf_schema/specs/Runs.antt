@@ -1,10 +1,12 @@
 -- How far a check of a text has come, for private contracts alone.
-use Rattle.std.specs.Prelude.{◌≡◌, ℕ, length, List, [], ◌∷◌, ◌++◌, Result, Ok, Err}
+use Rattle.std.specs.Prelude.{◌≡◌, ℕ, length, List, [], ◌∷◌, ◌++◌, map, Result, Ok, Err}
 use Rattle.zf_tree.specs.Trees.{ParagraphTree, given, free, abbreviation, definition}
 use Rattle.zf_term.specs.Definitions.{globals_of}
 use Rattle.zf_type.specs.declared.fault.Refusal.{Refusal}
 use Rattle.zf_type.specs.declared.fault.Refusal.TheVariants.{Fault, OutOfMemory}
 use Rattle.zf_type.specs.declared.fault.TypeFault.{TypeFault}
+use Rattle.zf_type.specs.Refusals.{fault_of}
+use Rattle.zf_term.specs.Faults as fault
 use Rattle.zf_schema.specs.declared.checker.Checked.{Checked}
 use Rattle.zf_schema.specs.Checking.{Item, ChecksOne, Checks}
 
@@ -23,8 +25,8 @@ elements (definition n x) = 0
 
 -- one more item is checked
 unfoldable pub RunsOne : Checked → Item → Checked → Type 0
-RunsOne a item b = (more : List TypeFault) × ChecksOne (globals_of a.globals) item (globals_of b.globals) more × (b.faults ≡ a.faults ++ more)
+RunsOne a item b = (more : List fault.Fault) × ChecksOne (globals_of a.globals) item (globals_of b.globals) more × (map fault_of b.faults ≡ map fault_of a.faults ++ more)
 
 -- more items are
 unfoldable pub Runs : Checked → List Item → Checked → Type 0
-Runs a items b = (more : List TypeFault) × Checks (globals_of a.globals) items (globals_of b.globals) more × (b.faults ≡ a.faults ++ more)
+Runs a items b = (more : List fault.Fault) × Checks (globals_of a.globals) items (globals_of b.globals) more × (map fault_of b.faults ≡ map fault_of a.faults ++ more)

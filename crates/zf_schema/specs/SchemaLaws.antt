@@ -9,8 +9,7 @@ use Rattle.zf_term.specs.Definitions.{Comp, Schema, DeclaredSet, sides, sets_of,
 use Rattle.zf_term.specs.ResolvedTrees.{reference, chain, no_links, link}
 use Rattle.zf_term.specs.FirstNamed.{or_else}
 use Rattle.zf_term.specs.Types.{Ty}
-use Rattle.zf_type.specs.declared.fault.TypeFault.{TypeFault}
-use Rattle.zf_term.specs.declared.fault.TypeFaultKind.{TypeFaultKind}
+use Rattle.zf_term.specs.Faults.{Offence, Fault}
 use Rattle.zf_calculus.specs.Calculus.{EachOnce, AreOnce, comp, comp_named, Agree, with_comps, new_place, conjoined, decorated, prime, delta, all_unchanged, xi, MarkAgrees, sets_on, disjoined}
 use Rattle.zf_schema.specs.Checking.{Item, Defines, OffendsItem, IsChecked}
 use Rattle.zf_schema.specs.Expressions.{IsSchema}
@@ -22,7 +21,7 @@ OneSchema = (g : List Defined) (x : SchemaTree) (a b : Schema) → IsSchema g x 
 
 -- one that is a schema has no offence
 abbrev pub NoSchemaOffence : Type 0
-NoSchemaOffence = (g : List Defined) (x : SchemaTree) (a : Schema) (k : TypeFaultKind) (m : ℕ) → IsSchema g x a → OffendsSchema g x k m → ⊥
+NoSchemaOffence = (g : List Defined) (x : SchemaTree) (a : Schema) (o : Offence) (m : ℕ) → IsSchema g x a → OffendsSchema g x o m → ⊥
 
 -- a paragraph or box makes one list of globals at most
 abbrev pub OneDefinition : Type 0
@@ -30,12 +29,12 @@ OneDefinition = (g : List Defined) (item : Item) (h i : List Defined) → Define
 
 -- one that is well typed has no offence
 abbrev pub NoItemOffence : Type 0
-NoItemOffence = (g : List Defined) (item : Item) (h : List Defined) (k : TypeFaultKind) (m : ℕ) → Defines g item h → OffendsItem g item k m → ⊥
+NoItemOffence = (g : List Defined) (item : Item) (h : List Defined) (o : Offence) (m : ℕ) → Defines g item h → OffendsItem g item o m → ⊥
 
 -- a text defines one list of globals, and has one number of faults
 abbrev pub OneCheck : Type 0
 OneCheck =
-    (boxes : List BoxTree) (g h : List Defined) (es fs : List TypeFault)
+    (boxes : List BoxTree) (g h : List Defined) (es fs : List Fault)
     → IsChecked boxes g es → IsChecked boxes h fs → (g ≡ h) × (length es ≡ length fs)
 
 -- ---- the schema calculus
@@ -162,4 +161,4 @@ CompsOnce = (g : List Defined) (x : SchemaTree) (a : Schema) → HaveCompsOnce g
 
 -- a name is defined once, and is one component of a schema at most
 abbrev pub NamesOnce : Type 0
-NamesOnce = (boxes : List BoxTree) (g : List Defined) (faults : List TypeFault) → IsChecked boxes g faults → AreDefinedOnce g × HaveCompsOnce g
+NamesOnce = (boxes : List BoxTree) (g : List Defined) (faults : List Fault) → IsChecked boxes g faults → AreDefinedOnce g × HaveCompsOnce g

@@ -9,8 +9,7 @@ use Rattle.zf_term.specs.Definitions.{Schema, DeclaredSet, plain, Defined, Defin
 use Rattle.zf_term.specs.ResolvedTrees.{ResolvedTree}
 use Rattle.zf_term.specs.Shapes.{line_of, conjuncts}
 use Rattle.zf_term.specs.Types.{Ty}
-use Rattle.zf_term.specs.declared.fault.TypeFaultKind.{TypeFaultKind}
-use Rattle.zf_term.specs.declared.fault.TypeFaultKind.TheVariants.{NotDeclared, ComponentClash, NotASchema, TooLarge}
+use Rattle.zf_term.specs.Faults.{Offence, not_declared, not_a_schema}
 use Rattle.zf_type.specs.Offences.{Offends}
 use Rattle.zf_type.specs.Resolving.{resolved}
 use Rattle.zf_type.specs.Rules.{set_of, predicate}
@@ -18,8 +17,8 @@ use Rattle.zf_tree.specs.Names.{spelling}
 use Rattle.zf_type.specs.Typing.{IsOf}
 use Rattle.zf_calculus.specs.Calculus.{comp, schema_of, nothing, Agrees, Agree, with_comp, conjoined, decorated, marked, MarkAgrees, disjoined}
 use Rattle.zf_schema.specs.Expressions.{outside, inside, Refers, DeclaresOne, Declares, ConstrainsOne, IsSchema}
-use Rattle.zf_calculus.specs.Steps.{IsNext, Adds, Stops}
-use Rattle.zf_calculus.specs.Limits.{IsWithin}
+use Rattle.zf_calculus.specs.Steps.{IsNext, Adds, Clashes, OneClashes, MarkClashes, Stops}
+use Rattle.zf_calculus.specs.Limits.{IsTooLarge}
 
 -- it holds of one of them
 abbrev pub AnyByRecursion : {A : Type 0} → (A → Type 0) → List A → Type 0
@@ -34,62 +33,62 @@ IsNoSchema (abbreviation t r x) = Unit {0}
 IsNoSchema (schema a) = ⊥
 
 -- the base of a reference is not declared, or is no schema; or the schema can't be taken as it is marked
-abbrev pub CantRefer : List Defined → SchemaRef → TypeFaultKind → Type 0
-CantRefer g r k =
-    ((k ≡ NotDeclared) × (first_named (λ d. d.name) r.name.base g ≡ None))
-    ⊎ (((k ≡ NotASchema) × (i : ℕ) × (d : Defined) × (first_named (λ e. e.name) r.name.base g ≡ Some (i, d)) × IsNoSchema d.definition)
+abbrev pub CantRefer : List Defined → SchemaRef → Offence → Type 0
+CantRefer g r o =
+    ((o ≡ not_declared (spelling r.name)) × (first_named (λ d. d.name) r.name.base g ≡ None))
+    ⊎ (((o ≡ not_a_schema (spelling r.name)) × (i : ℕ) × (d : Defined) × (first_named (λ e. e.name) r.name.base g ≡ Some (i, d)) × IsNoSchema d.definition)
     ⊎ ((i : ℕ) × (x : List ℕ) × (a : Schema) × (first_named (λ d. d.name) r.name.base g ≡ Some (i, record { name = x; definition = schema a }))
-    × Stops (MarkAgrees r.mark a) (decorated r.name.strokes (marked r.mark r.name.line a)) k))
+    × Stops (MarkClashes r.mark a) (MarkAgrees r.mark a) (decorated r.name.strokes (marked r.mark r.name.line a)) o))
 
-abbrev pub OffendsRef : List Defined → SchemaRef → TypeFaultKind → ℕ → Type 0
-OffendsRef g r k m = (m ≡ r.name.line) × CantRefer g r k
+abbrev pub OffendsRef : List Defined → SchemaRef → Offence → ℕ → Type 0
+OffendsRef g r o m = (m ≡ r.name.line) × CantRefer g r o
 
 -- one of the names can't be declared to be in the set, after those before it
-abbrev pub OffendsNames : Schema → List Name → Ty → DeclaredSet → TypeFaultKind → ℕ → Type 0
-OffendsNames a [] t d k m = ⊥
-OffendsNames a (n ∷ ns) t d k m =
-    ((m ≡ n.line) × Stops (Agrees a.comps (comp (spelling n) t (d ∷ []))) (schema_of (with_comp a.comps (comp (spelling n) t (d ∷ []))) a.conjuncts) k)
-    ⊎ ((mid : Schema) × Adds a (comp (spelling n) t (d ∷ [])) mid × OffendsNames mid ns t d k m)
+abbrev pub OffendsNames : Schema → List Name → Ty → DeclaredSet → Offence → ℕ → Type 0
+OffendsNames a [] t d o m = ⊥
+OffendsNames a (n ∷ ns) t d o m =
+    ((m ≡ n.line) × Stops (Clashes a.comps (comp (spelling n) t (d ∷ []))) (Agrees a.comps (comp (spelling n) t (d ∷ []))) (schema_of (with_comp a.comps (comp (spelling n) t (d ∷ []))) a.conjuncts) o)
+    ⊎ ((mid : Schema) × Adds a (comp (spelling n) t (d ∷ [])) mid × OffendsNames mid ns t d o m)
 
 -- what a declaration offends wherever it stands: its set is none, or its reference can't be taken
-abbrev pub OffendsAlone : List Defined → DeclTree → TypeFaultKind → ℕ → Type 0
-OffendsAlone g (vars ns e) k m = Offends (outside g) need.Set e k m
-OffendsAlone g (include r) k m = OffendsRef g r k m
+abbrev pub OffendsAlone : List Defined → DeclTree → Offence → ℕ → Type 0
+OffendsAlone g (vars ns e) o m = Offends (outside g) need.Set e o m
+OffendsAlone g (include r) o m = OffendsRef g r o m
 
 -- what it offends after those before it: a component gets two types, or a limit is passed
-abbrev pub OffendsAfter : List Defined → Schema → DeclTree → TypeFaultKind → ℕ → Type 0
-OffendsAfter g a (vars ns e) k m = (t : Ty) × IsOf (outside g) e (set_of t) × OffendsNames a ns t (plain (resolved (outside g) e)) k m
-OffendsAfter g a (include r) k m = (c : Schema) × Refers g r c × (m ≡ r.name.line) × Stops (Agree a.comps c.comps) (conjoined a c) k
+abbrev pub OffendsAfter : List Defined → Schema → DeclTree → Offence → ℕ → Type 0
+OffendsAfter g a (vars ns e) o m = (t : Ty) × IsOf (outside g) e (set_of t) × OffendsNames a ns t (plain (resolved (outside g) e)) o m
+OffendsAfter g a (include r) o m = (c : Schema) × Refers g r c × (m ≡ r.name.line) × Stops (OneClashes a.comps c.comps) (Agree a.comps c.comps) (conjoined a c) o
 
-abbrev pub OneOffendsAfter : List Defined → Schema → List DeclTree → TypeFaultKind → ℕ → Type 0
-OneOffendsAfter g a [] k m = ⊥
-OneOffendsAfter g a (d ∷ ds) k m = OffendsAfter g a d k m ⊎ ((mid : Schema) × DeclaresOne g a d mid × OneOffendsAfter g mid ds k m)
+abbrev pub OneOffendsAfter : List Defined → Schema → List DeclTree → Offence → ℕ → Type 0
+OneOffendsAfter g a [] o m = ⊥
+OneOffendsAfter g a (d ∷ ds) o m = OffendsAfter g a d o m ⊎ ((mid : Schema) × DeclaresOne g a d mid × OneOffendsAfter g mid ds o m)
 
-abbrev pub OffendsDecls : List Defined → Schema → List DeclTree → TypeFaultKind → ℕ → Type 0
-OffendsDecls g a ds k m = AnyByRecursion (λ d. OffendsAlone g d k m) ds ⊎ OneOffendsAfter g a ds k m
+abbrev pub OffendsDecls : List Defined → Schema → List DeclTree → Offence → ℕ → Type 0
+OffendsDecls g a ds o m = AnyByRecursion (λ d. OffendsAlone g d o m) ds ⊎ OneOffendsAfter g a ds o m
 
 -- one of the conjuncts passes a limit, after those before it
-abbrev pub OffendsConjuncts : Schema → List ResolvedTree → TypeFaultKind → ℕ → Type 0
-OffendsConjuncts a [] k m = ⊥
-OffendsConjuncts a (c ∷ cs) k m =
-    ((k ≡ TooLarge) × (m ≡ line_of c) × (IsWithin (schema_of a.comps (a.conjuncts ++ c ∷ [])) → ⊥))
-    ⊎ ((mid : Schema) × IsNext (schema_of a.comps (a.conjuncts ++ c ∷ [])) mid × OffendsConjuncts mid cs k m)
+abbrev pub OffendsConjuncts : Schema → List ResolvedTree → Offence → ℕ → Type 0
+OffendsConjuncts a [] o m = ⊥
+OffendsConjuncts a (c ∷ cs) o m =
+    ((m ≡ line_of c) × IsTooLarge (schema_of a.comps (a.conjuncts ++ c ∷ [])) o)
+    ⊎ ((mid : Schema) × IsNext (schema_of a.comps (a.conjuncts ++ c ∷ [])) mid × OffendsConjuncts mid cs o m)
 
 -- what a predicate offends after those before it
-abbrev pub ConstrainsTooMuch : List Defined → Schema → Tree → TypeFaultKind → ℕ → Type 0
-ConstrainsTooMuch g a p k m = IsOf (inside g a) p predicate × OffendsConjuncts a (conjuncts (resolved (inside g a) p)) k m
+abbrev pub ConstrainsTooMuch : List Defined → Schema → Tree → Offence → ℕ → Type 0
+ConstrainsTooMuch g a p o m = IsOf (inside g a) p predicate × OffendsConjuncts a (conjuncts (resolved (inside g a) p)) o m
 
-abbrev pub OneConstrainsTooMuch : List Defined → Schema → List Tree → TypeFaultKind → ℕ → Type 0
-OneConstrainsTooMuch g a [] k m = ⊥
-OneConstrainsTooMuch g a (p ∷ ps) k m = ConstrainsTooMuch g a p k m ⊎ ((mid : Schema) × ConstrainsOne g a p mid × OneConstrainsTooMuch g mid ps k m)
+abbrev pub OneConstrainsTooMuch : List Defined → Schema → List Tree → Offence → ℕ → Type 0
+OneConstrainsTooMuch g a [] o m = ⊥
+OneConstrainsTooMuch g a (p ∷ ps) o m = ConstrainsTooMuch g a p o m ⊎ ((mid : Schema) × ConstrainsOne g a p mid × OneConstrainsTooMuch g mid ps o m)
 
 -- one that is no predicate offends wherever it stands
-abbrev pub OffendsPredicates : List Defined → Schema → List Tree → TypeFaultKind → ℕ → Type 0
-OffendsPredicates g a ps k m = AnyByRecursion (λ p. Offends (inside g a) need.Predicate p k m) ps ⊎ OneConstrainsTooMuch g a ps k m
+abbrev pub OffendsPredicates : List Defined → Schema → List Tree → Offence → ℕ → Type 0
+OffendsPredicates g a ps o m = AnyByRecursion (λ p. Offends (inside g a) need.Predicate p o m) ps ⊎ OneConstrainsTooMuch g a ps o m
 
 -- predicates are judged over the components that the declarations make
-abbrev pub OffendsText : List Defined → List DeclTree → List Tree → TypeFaultKind → ℕ → Type 0
-OffendsText g ds ps k m = OffendsDecls g nothing ds k m ⊎ ((mid : Schema) × Declares g nothing ds mid × OffendsPredicates g mid ps k m)
+abbrev pub OffendsText : List Defined → List DeclTree → List Tree → Offence → ℕ → Type 0
+OffendsText g ds ps o m = OffendsDecls g nothing ds o m ⊎ ((mid : Schema) × Declares g nothing ds mid × OffendsPredicates g mid ps o m)
 
 -- the line of the first name
 abbrev pub names_line : List Name → ℕ
@@ -109,19 +108,18 @@ name_line (either l x y) = name_line x
 name_line (schema_bracket x) = name_line x
 
 -- a disjunction that begins at the line l can't be: a clash has the line of a name, a limit that of the disjunction
-abbrev pub StopsEither : Type 0 → Schema → (l name : ℕ) → TypeFaultKind → ℕ → Type 0
-StopsEither agree next l name k m =
-    ((k ≡ ComponentClash) × (m ≡ name) × (agree → ⊥)) ⊎ ((k ≡ TooLarge) × (m ≡ l) × agree × (IsWithin next → ⊥))
+abbrev pub StopsEither : (Offence → Type 0) → Type 0 → Schema → (l name : ℕ) → Offence → ℕ → Type 0
+StopsEither clashes agree next l name o m = ((m ≡ name) × clashes o) ⊎ ((m ≡ l) × agree × IsTooLarge next o)
 
-abbrev pub OffendsSchema : List Defined → SchemaTree → TypeFaultKind → ℕ → Type 0
-OffendsSchema g (schema_text ds ps) k m = OffendsText g ds ps k m
-OffendsSchema g (reference r) k m = OffendsRef g r k m
-OffendsSchema g (both x y) k m =
-    OffendsSchema g x k m
-    ⊎ (OffendsSchema g y k m
-    ⊎ ((a b : Schema) × IsSchema g x a × IsSchema g y b × (m ≡ name_line y) × Stops (Agree a.comps b.comps) (conjoined a b) k))
-OffendsSchema g (either l x y) k m =
-    OffendsSchema g x k m
-    ⊎ (OffendsSchema g y k m
-    ⊎ ((a b : Schema) × IsSchema g x a × IsSchema g y b × StopsEither (Agree a.comps b.comps) (disjoined l a b) l (name_line y) k m))
-OffendsSchema g (schema_bracket x) k m = OffendsSchema g x k m
+abbrev pub OffendsSchema : List Defined → SchemaTree → Offence → ℕ → Type 0
+OffendsSchema g (schema_text ds ps) o m = OffendsText g ds ps o m
+OffendsSchema g (reference r) o m = OffendsRef g r o m
+OffendsSchema g (both x y) o m =
+    OffendsSchema g x o m
+    ⊎ (OffendsSchema g y o m
+    ⊎ ((a b : Schema) × IsSchema g x a × IsSchema g y b × (m ≡ name_line y) × Stops (OneClashes a.comps b.comps) (Agree a.comps b.comps) (conjoined a b) o))
+OffendsSchema g (either l x y) o m =
+    OffendsSchema g x o m
+    ⊎ (OffendsSchema g y o m
+    ⊎ ((a b : Schema) × IsSchema g x a × IsSchema g y b × StopsEither (OneClashes a.comps b.comps) (Agree a.comps b.comps) (disjoined l a b) l (name_line y) o m))
+OffendsSchema g (schema_bracket x) o m = OffendsSchema g x o m

@@ -6,7 +6,7 @@ use Rattle.zf_term.specs.Definitions.{Defined, Definition, given_set, free_type,
 use Rattle.zf_extent.specs.Extents.{extent_of}
 use Rattle.zf_term.specs.ResolvedTrees.{ResolvedTree}
 use Rattle.zf_term.specs.Types.{Ty}
-use Rattle.zf_type.specs.declared.fault.TypeFault.{TypeFault}
+use Rattle.zf_term.specs.Faults.{Fault}
 use Rattle.zf_type.specs.Resolving.{resolved}
 use Rattle.zf_type.specs.Rules.{typed}
 use Rattle.zf_type.specs.Typing.{IsOf}
@@ -32,10 +32,10 @@ abbrev pub AreWellTyped : List Defined → Type 0
 AreWellTyped g = (i : ℕ) (d : Defined) → slice_get g i ≡ Some d → IsMadeAfter (take i g) d.name d.definition
 
 abbrev pub GlobalsWellTyped : Type 0
-GlobalsWellTyped = (boxes : List BoxTree) (g : List Defined) (faults : List TypeFault) → IsChecked boxes g faults → AreWellTyped g
+GlobalsWellTyped = (boxes : List BoxTree) (g : List Defined) (faults : List Fault) → IsChecked boxes g faults → AreWellTyped g
 
 -- the extent that is kept with an abbreviation is that of its term after all globals, and not only after those before it
 abbrev pub ExtentsKept : Type 0
 ExtentsKept =
-    (boxes : List BoxTree) (g : List Defined) (faults : List TypeFault) (i : ℕ) (name : List ℕ) (t : Ty) (r : ResolvedTree) (x : Extent)
+    (boxes : List BoxTree) (g : List Defined) (faults : List Fault) (i : ℕ) (name : List ℕ) (t : Ty) (r : ResolvedTree) (x : Extent)
     → IsChecked boxes g faults → slice_get g i ≡ Some (record { name = name; definition = abbreviation t r x }) → x ≡ extent_of g r

@@ -3,6 +3,7 @@ ghost use Rattle.std.specs.Prelude.{◌≡◌, [], map, IfOk, OnOk};
 ghost use Rattle.zf_tree.specs.Trees.{boxes_of, box_of, paragraph_of, decl_of, tree_of};
 ghost use Rattle.zf_term.specs.Definitions.{globals_of};
 ghost use Rattle.zf_term.specs.Numbers.{next_number};
+ghost use Rattle.zf_type.specs.Refusals.{fault_of};
 ghost use Rattle.zf_schema.specs.Checking.{a_paragraph, a_box, items, items_in, IsChecked};
 ghost use Rattle.zf_schema.specs.Runs.{Notes, Runs, RunsOne};
 
@@ -19,7 +20,7 @@ use zf_type::fault::{Refusal, TypeFault};
 #[derive(Drop)]
 pub struct Checked<'a> {
     pub globals: Globals<'a>,
-    pub faults: Items<TypeFault>,
+    pub faults: Items<TypeFault<'a>>,
 }
 
 /// Checks a text. Each paragraph or box that is not well typed has one fault, and defines nothing. What the text defines stands in the
@@ -29,7 +30,7 @@ pub fn check_spec<'a>(
     arena: &'a Bump,
     spec: &Spec<'a>,
 ) -> Result<Checked<'a>, AllocError>
-    ensures { IfOk result (λ c. IsChecked (boxes_of spec.now) (globals_of c.globals) c.faults) }
+    ensures { IfOk result (λ c. IsChecked (boxes_of spec.now) (globals_of c.globals) (map fault_of c.faults)) }
 {
     let globals = Globals::with_room(alloc, spec.boxes.len())?;
     let mut checked = Checked {
@@ -130,8 +131,11 @@ fn check_schema_box<'a>(
 }
 
 /// Puts the fault, if there is one, behind the others.
-fn note(faults: &mut Items<TypeFault>, defined: Result<(), Refusal>) -> Result<(), AllocError>
-    ensures { OnOk result (Notes defined faults.old faults.new) }
+fn note<'a>(
+    faults: &mut Items<TypeFault<'a>>,
+    defined: Result<(), Refusal<'a>>,
+) -> Result<(), AllocError>
+    ensures { OnOk result (Notes defined.entry faults.old faults.new) }
 {
     match defined {
         Ok(()) => Ok(()),

@@ -6,20 +6,19 @@ ghost use Rattle.zf_term.specs.Definitions.{globals_of, schema_of};
 ghost use Rattle.zf_type.specs.Refusals.{IfFault};
 ghost use Rattle.zf_calculus.specs.Calculus.{Agree, conjoined, disjoined};
 ghost use Rattle.zf_schema.specs.Expressions.{IsSchema};
-ghost use Rattle.zf_calculus.specs.Steps.{IsNext};
+ghost use Rattle.zf_calculus.specs.Steps.{IsNext, OneClashes};
 ghost use Rattle.zf_calculus.specs.Growth.{IsGrowing};
 ghost use Rattle.zf_schema.specs.Refusing.{CantConjoin};
 ghost use Rattle.zf_schema.specs.SchemaOffences as spec;
 ghost use Rattle.zf_schema.specs.SchemaOffences.{OffendsSchema, StopsEither};
 
 use crate::reference::referred;
-use crate::stop::refusal;
+use crate::stop::{either_line, refusal};
 use crate::text::growing_text;
 use bumpalo::Bump;
 use zf_calculus::disjunction::disjoin;
 use zf_calculus::growing::Growing;
 use zf_calculus::spare::Spare;
-use zf_calculus::stop::Stop;
 use zf_term::globals::{Flat, Globals};
 use zf_tree::tree::{Decl, Name, SchemaExp};
 use zf_type::fault::Refusal;
@@ -29,7 +28,7 @@ pub fn schema_of_expression<'a>(
     exp: &SchemaExp<'a>,
     arena: &'a Bump,
     globals: &Globals<'a>,
-) -> Result<Flat<'a>, Refusal>
+) -> Result<Flat<'a>, Refusal<'a>>
     ensures ok { IfOk result (λ f. IsSchema (globals_of globals.now) (tree.schema_of exp.now) (schema_of f)) }
     ensures wrong { IfErr result (λ e. IfFault e (OffendsSchema (globals_of globals.now) (tree.schema_of exp.now))) }
 {
@@ -42,7 +41,7 @@ fn growing_schema<'a>(
     exp: &SchemaExp<'a>,
     arena: &'a Bump,
     globals: &Globals<'a>,
-) -> Result<Growing<'a>, Refusal>
+) -> Result<Growing<'a>, Refusal<'a>>
     ensures ok { IfOk result (λ g. IsSchema (globals_of globals.now) (tree.schema_of exp.now) (schema_of g.flat)) }
     ensures growing { IfOk result (λ g. IsGrowing g) }
     ensures wrong { IfErr result (λ e. IfFault e (OffendsSchema (globals_of globals.now) (tree.schema_of exp.now))) }
@@ -81,7 +80,7 @@ fn conjunction<'a>(
     line: u32,
     left: Growing<'a>,
     right: Growing<'a>,
-) -> Result<Growing<'a>, Refusal>
+) -> Result<Growing<'a>, Refusal<'a>>
     requires first { IsGrowing left }
     requires second { IsGrowing right }
     ensures agree { IfOk result (λ g. Agree (schema_of left.entry.flat).comps (schema_of right.entry.flat).comps) }
@@ -92,7 +91,7 @@ fn conjunction<'a>(
     let mut whole = left;
     match whole.include(arena, right) {
         Ok(()) => Ok(whole),
-        Err(stop) => Err(refusal(stop, line)),
+        Err(stop) => Err(refusal(arena, stop, line)),
     }
 }
 
@@ -103,16 +102,18 @@ fn disjunction<'a>(
     name: u32,
     left: &Flat<'a>,
     right: &Flat<'a>,
-) -> Result<Growing<'a>, Refusal>
+) -> Result<Growing<'a>, Refusal<'a>>
     ensures agree { IfOk result (λ g. Agree (schema_of left.now).comps (schema_of right.now).comps) }
     ensures ok { IfOk result (λ g. IsNext (disjoined line (schema_of left.now) (schema_of right.now)) (schema_of g.flat)) }
     ensures growing { IfOk result (λ g. IsGrowing g) }
-    ensures wrong { IfErr result (λ e. IfFault e (StopsEither (Agree (schema_of left.now).comps (schema_of right.now).comps) (disjoined line (schema_of left.now) (schema_of right.now)) line name)) }
+    ensures wrong { IfErr result (λ e. IfFault e (StopsEither (OneClashes (schema_of left.now).comps (schema_of right.now).comps) (Agree (schema_of left.now).comps (schema_of right.now).comps) (disjoined line (schema_of left.now) (schema_of right.now)) line name)) }
 {
     match disjoin(arena, line, left, right) {
         Ok(growing) => Ok(growing),
-        Err(Stop::Clash) => Err(refusal(Stop::Clash, name)),
-        Err(stop) => Err(refusal(stop, line)),
+        Err(stop) => {
+            let line = either_line(&stop, line, name);
+            Err(refusal(arena, stop, line))
+        }
     }
 }
 

@@ -22,11 +22,10 @@ use bumpalo::Bump;
 use std::alloc::AllocError;
 use zf_data::arena::{Boxed, Items, Lent, Shared};
 use zf_extent::infinite::extent_of;
-use zf_term::fault::TypeFaultKind;
 use zf_term::globals::{Entry, Globals};
 use zf_tree::operator::Need;
 use zf_tree::tree::{Decl, Name, Paragraph, SchemaExp, Term};
-use zf_type::fault::{Refusal, refused};
+use zf_type::fault::{Offence, Refusal, refused};
 use zf_type::judge::{Judged, judge};
 
 /// Defines what the paragraph does, or leaves the globals as they were. Keeps the number of the next given set or free type.
@@ -35,10 +34,10 @@ pub fn define<'a>(
     globals: &mut Globals<'a>,
     next: &mut usize,
     paragraph: &Paragraph<'a>,
-) -> Result<(), Refusal>
+) -> Result<(), Refusal<'a>>
     requires { next.old ≡ next_number (globals_of globals.old) }
     ensures ok { OnOk result (DefinesParagraph (globals_of globals.old) (paragraph_of paragraph.now) (globals_of globals.new)) }
-    ensures fault { IfErr result (λ e. IfFault e (λ kind line. OffendsParagraph (globals_of globals.old) (paragraph_of paragraph.now) kind line)) }
+    ensures fault { IfErr result (λ e. IfFault e (λ offence line. OffendsParagraph (globals_of globals.old) (paragraph_of paragraph.now) offence line)) }
     ensures kept { OnErr result (globals_of globals.new ≡ globals_of globals.old) }
     ensures numbered { next.new ≡ next_number (globals_of globals.new) }
 {
@@ -72,13 +71,13 @@ pub fn define_box<'a>(
     name: &Name<'a>,
     decls: &[Decl<'a>],
     predicates: &[Boxed<'a, Term<'a>>],
-) -> Result<(), Refusal>
+) -> Result<(), Refusal<'a>>
     ensures ok { OnOk result (Defines (globals_of globals.old) (a_box name.now (map decl_of decls.now) (map tree_of predicates.now)) (globals_of globals.new)) }
-    ensures fault { IfErr result (λ e. IfFault e (λ kind line. OffendsItem (globals_of globals.old) (a_box name.now (map decl_of decls.now) (map tree_of predicates.now)) kind line)) }
+    ensures fault { IfErr result (λ e. IfFault e (λ offence line. OffendsItem (globals_of globals.old) (a_box name.now (map decl_of decls.now) (map tree_of predicates.now)) offence line)) }
     ensures kept { OnErr result (globals_of globals.new ≡ globals_of globals.old) }
     ensures numbered { next_number (globals_of globals.new) ≡ next_number (globals_of globals.old) }
 {
-    let spelled = new_name(globals, name)?;
+    let spelled = new_name(arena, globals, name)?;
     let schema = text_of(arena, globals, decls, predicates)?;
     globals.define(spelled, Entry::Schema(schema))?;
     Ok(())
@@ -90,30 +89,35 @@ fn add<'a>(
     globals: &mut Globals<'a>,
     next: usize,
     paragraph: &Paragraph<'a>,
-) -> Result<(), Refusal>
+) -> Result<(), Refusal<'a>>
     requires number { next ≡ next_number (globals_of globals.old) }
     requires small { next < 2 ^ 63 }
     ensures ok { OnOk result (DefinesParagraph (globals_of globals.old) (paragraph_of paragraph.now) (globals_of globals.new)) }
-    ensures fault { IfErr result (λ e. IfFault e (λ kind line. OffendsParagraph (globals_of globals.old) (paragraph_of paragraph.now) kind line)) }
+    ensures fault { IfErr result (λ e. IfFault e (λ offence line. OffendsParagraph (globals_of globals.old) (paragraph_of paragraph.now) offence line)) }
     ensures begun { take (length (globals_of globals.old)) (globals_of globals.new) ≡ globals_of globals.old }
 {
     match paragraph {
-        Paragraph::Given(names) => add_given(globals, next, names.as_slice()),
+        Paragraph::Given(names) => add_given(arena, globals, next, names.as_slice()),
         Paragraph::Free(name, names) => add_free(arena, globals, next, name, names.as_slice()),
         Paragraph::Abbrev(name, term) => add_abbreviation(arena, globals, name, term.get()),
         Paragraph::Defs(name, exp) => add_schema(arena, globals, name, exp),
     }
 }
 
-fn add_given<'a>(globals: &mut Globals<'a>, first: usize, names: &[Name<'a>]) -> Result<(), Refusal>
+fn add_given<'a>(
+    arena: &'a Bump,
+    globals: &mut Globals<'a>,
+    first: usize,
+    names: &[Name<'a>],
+) -> Result<(), Refusal<'a>>
     requires number { first ≡ next_number (globals_of globals.old) }
     requires small { first < 2 ^ 63 }
     ensures ok { OnOk result (Gives (globals_of globals.old) names.now (globals_of globals.new)) }
-    ensures fault { IfErr result (λ e. IfFault e (λ kind line. OffendsGiven (globals_of globals.old) names.now kind line)) }
+    ensures fault { IfErr result (λ e. IfFault e (λ offence line. OffendsGiven (globals_of globals.old) names.now offence line)) }
     ensures begun { take (length (globals_of globals.old)) (globals_of globals.new) ≡ globals_of globals.old }
 {
     for (place, name) in names.iter().enumerate() {
-        add_name(globals, name, Entry::Given(first + place))?;
+        add_name(arena, globals, name, Entry::Given(first + place))?;
     }
     Ok(())
 }
@@ -124,31 +128,32 @@ fn add_free<'a>(
     number: usize,
     name: &Name<'a>,
     names: &[Name<'a>],
-) -> Result<(), Refusal>
+) -> Result<(), Refusal<'a>>
     requires { number ≡ next_number (globals_of globals.old) }
     ensures ok { OnOk result (DefinesParagraph (globals_of globals.old) (text.free name.now names.now) (globals_of globals.new)) }
-    ensures fault { IfErr result (λ e. IfFault e (λ kind line. OffendsParagraph (globals_of globals.old) (text.free name.now names.now) kind line)) }
+    ensures fault { IfErr result (λ e. IfFault e (λ offence line. OffendsParagraph (globals_of globals.old) (text.free name.now names.now) offence line)) }
     ensures begun { take (length (globals_of globals.old)) (globals_of globals.new) ≡ globals_of globals.old }
 {
     let constructors = all_spelled(arena, names)?;
-    add_name(globals, name, Entry::Free(number, constructors))?;
-    add_constructors(globals, number, name, names)
+    add_name(arena, globals, name, Entry::Free(number, constructors))?;
+    add_constructors(arena, globals, number, name, names)
 }
 
 fn add_constructors<'a>(
+    arena: &'a Bump,
     globals: &mut Globals<'a>,
     number: usize,
     of_type: &Name<'a>,
     names: &[Name<'a>],
-) -> Result<(), Refusal>
+) -> Result<(), Refusal<'a>>
     ensures ok { OnOk result (Constructs (globals_of globals.old) number (spelling of_type.now) 0 names.now (globals_of globals.new)) }
-    ensures fault { IfErr result (λ e. IfFault e (λ kind line. OffendsConstructors (globals_of globals.old) number (spelling of_type.now) 0 names.now kind line)) }
+    ensures fault { IfErr result (λ e. IfFault e (λ offence line. OffendsConstructors (globals_of globals.old) number (spelling of_type.now) 0 names.now offence line)) }
     ensures begun { take (length (globals_of globals.old)) (globals_of globals.new) ≡ globals_of globals.old }
 {
     let type_name = of_type.spelled();
     for (place, name) in names.iter().enumerate() {
         let entry = Entry::Constructor(number, type_name.share(), place);
-        add_name(globals, name, entry)?;
+        add_name(arena, globals, name, entry)?;
     }
     Ok(())
 }
@@ -158,12 +163,12 @@ fn add_abbreviation<'a>(
     globals: &mut Globals<'a>,
     name: &Name<'a>,
     term: &Term<'a>,
-) -> Result<(), Refusal>
+) -> Result<(), Refusal<'a>>
     ensures ok { OnOk result (DefinesParagraph (globals_of globals.old) (text.abbreviation name.now (tree_of term.now)) (globals_of globals.new)) }
-    ensures fault { IfErr result (λ e. IfFault e (λ kind line. OffendsParagraph (globals_of globals.old) (text.abbreviation name.now (tree_of term.now)) kind line)) }
+    ensures fault { IfErr result (λ e. IfFault e (λ offence line. OffendsParagraph (globals_of globals.old) (text.abbreviation name.now (tree_of term.now)) offence line)) }
     ensures begun { take (length (globals_of globals.old)) (globals_of globals.new) ≡ globals_of globals.old }
 {
-    let spelled = new_name(globals, name)?;
+    let spelled = new_name(arena, globals, name)?;
     let entry = abbreviation_of(arena, globals, term)?;
     globals.define(spelled, entry)?;
     Ok(())
@@ -174,38 +179,48 @@ fn add_schema<'a>(
     globals: &mut Globals<'a>,
     name: &Name<'a>,
     exp: &SchemaExp<'a>,
-) -> Result<(), Refusal>
+) -> Result<(), Refusal<'a>>
     ensures ok { OnOk result (DefinesParagraph (globals_of globals.old) (text.definition name.now (text.schema_of exp.now)) (globals_of globals.new)) }
-    ensures fault { IfErr result (λ e. IfFault e (λ kind line. OffendsParagraph (globals_of globals.old) (text.definition name.now (text.schema_of exp.now)) kind line)) }
+    ensures fault { IfErr result (λ e. IfFault e (λ offence line. OffendsParagraph (globals_of globals.old) (text.definition name.now (text.schema_of exp.now)) offence line)) }
     ensures begun { take (length (globals_of globals.old)) (globals_of globals.new) ≡ globals_of globals.old }
 {
-    let spelled = new_name(globals, name)?;
+    let spelled = new_name(arena, globals, name)?;
     let schema = schema_of_expression(exp, arena, globals)?;
     globals.define(spelled, Entry::Schema(schema))?;
     Ok(())
 }
 
 /// Defines one name.
-fn add_name<'a>(globals: &mut Globals<'a>, name: &Name<'a>, entry: Entry<'a>) -> Result<(), Refusal>
+fn add_name<'a>(
+    arena: &'a Bump,
+    globals: &mut Globals<'a>,
+    name: &Name<'a>,
+    entry: Entry<'a>,
+) -> Result<(), Refusal<'a>>
     ensures new { OnOk result (IsNew (globals_of globals.old) name.now) }
     ensures ok { OnOk result (globals_of globals.new ≡ with_global (globals_of globals.old) name.now (definition_of entry.entry)) }
-    ensures fault { IfErr result (λ e. IfFault e (λ kind line. IsTaken (globals_of globals.old) name.now kind line)) }
+    ensures fault { IfErr result (λ e. IfFault e (λ offence line. IsTaken (globals_of globals.old) name.now offence line)) }
     ensures kept { OnErr result (globals_of globals.new ≡ globals_of globals.old) }
 {
-    let spelled = new_name(globals, name)?;
+    let spelled = new_name(arena, globals, name)?;
     globals.define(spelled, entry)?;
     Ok(())
 }
 
 /// The name as spelled, if no global has it.
-fn new_name<'a>(globals: &Globals<'a>, name: &Name<'a>) -> Result<Lent<'a>, Refusal>
+fn new_name<'a>(
+    arena: &'a Bump,
+    globals: &Globals<'a>,
+    name: &Name<'a>,
+) -> Result<Lent<'a>, Refusal<'a>>
     ensures ok { IfOk result (λ t. t ≡ spelling name.now) }
     ensures new { OnOk result (IsNew (globals_of globals.now) name.now) }
-    ensures fault { IfErr result (λ e. IfFault e (λ kind line. IsTaken (globals_of globals.now) name.now kind line)) }
+    ensures fault { IfErr result (λ e. IfFault e (λ offence line. IsTaken (globals_of globals.now) name.now offence line)) }
 {
     let spelled = name.spelled();
     if !globals.is_new(spelled.as_slice()) {
-        return Err(refused(TypeFaultKind::AlreadyDefined, name.line));
+        let offence = Offence::AlreadyDefined(spelled);
+        return Err(refused(arena, offence, name.line));
     }
     Ok(spelled)
 }
@@ -225,9 +240,9 @@ fn abbreviation_of<'a>(
     arena: &'a Bump,
     globals: &Globals<'a>,
     term: &Term<'a>,
-) -> Result<Entry<'a>, Refusal>
+) -> Result<Entry<'a>, Refusal<'a>>
     ensures ok { IfOk result (λ e. (t : Ty) × IsOf (outside (globals_of globals.now)) (tree_of term.now) (typed t) × (definition_of e ≡ abbreviated (globals_of globals.now) t (resolved (outside (globals_of globals.now)) (tree_of term.now)))) }
-    ensures fault { IfErr result (λ e. IfFault e (λ kind line. Offends (outside (globals_of globals.now)) need.Expression (tree_of term.now) kind line)) }
+    ensures fault { IfErr result (λ e. IfFault e (λ offence line. Offends (outside (globals_of globals.now)) need.Expression (tree_of term.now) offence line)) }
 {
     let Judged { term, sort } = judge(
         term,

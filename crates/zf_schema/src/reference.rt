@@ -2,7 +2,7 @@
 ghost use Rattle.std.specs.Prelude.{◌≡◌, ◌⊎◌, ℕ, IfErr, IfOk, MatchOption, Some, None};
 ghost use Rattle.zf_term.specs.Definitions.{Defined, definition_of, globals_of, schema, schema_of};
 ghost use Rattle.zf_term.specs.FirstNamed.{first_named};
-ghost use Rattle.zf_type.specs.Refusals.{IfFault};
+ghost use Rattle.zf_type.specs.Refusals.{IfFault, offence_of};
 ghost use Rattle.zf_schema.specs.Expressions.{Refers};
 ghost use Rattle.zf_calculus.specs.Growth.{IsGrowing};
 ghost use Rattle.zf_schema.specs.Refusing.{IsNamed, LacksSchema};
@@ -13,11 +13,10 @@ use bumpalo::Bump;
 use zf_calculus::growing::Growing;
 use zf_calculus::marking::{decorate_own, marked};
 use zf_calculus::spare::Spare;
-use zf_term::fault::TypeFaultKind;
 use zf_term::globals::{Entry, Flat, Globals};
 use zf_term::named::global_of;
-use zf_tree::tree::SchemaRef;
-use zf_type::fault::{Refusal, refused};
+use zf_tree::tree::{Name, SchemaRef};
+use zf_type::fault::{Offence, Refusal, refused};
 
 /// The schema that is referred to, with what is left of the limits, and with room for what is expected of it.
 pub fn referred<'a>(
@@ -25,36 +24,36 @@ pub fn referred<'a>(
     globals: &Globals<'a>,
     reference: &SchemaRef<'a>,
     spare: Spare,
-) -> Result<Growing<'a>, Refusal>
+) -> Result<Growing<'a>, Refusal<'a>>
     ensures ok { IfOk result (λ g. Refers (globals_of globals.now) reference.now (schema_of g.flat)) }
     ensures growing { IfOk result (λ g. IsGrowing g) }
     ensures fault { IfErr result (λ e. IfFault e (OffendsRef (globals_of globals.now) reference.now)) }
 {
     let name = &reference.name;
-    let flat = match schema_named(globals, name.base()) {
+    let flat = match schema_named(globals, name) {
         Ok(flat) => flat,
-        Err(kind) => return Err(refused(kind, name.line)),
+        Err(offence) => return Err(refused(arena, offence, name.line)),
     };
     match marked(arena, reference.mark, name.line, flat, spare.behind(flat)) {
         Ok(growing) => Ok(decorate_own(arena, name.strokes(), growing)?),
-        Err(stop) => Err(refusal(stop, name.line)),
+        Err(stop) => Err(refusal(arena, stop, name.line)),
     }
 }
 
-/// The schema of the name, or why there is none.
+/// The schema of the name without its strokes, or what is wrong with the name.
 fn schema_named<'a, 'b>(
     globals: &'b Globals<'a>,
-    name: &[u8],
-) -> Result<&'b Flat<'a>, TypeFaultKind>
-    ensures ok { IfOk result (λ f. IsNamed (globals_of globals.now) name.now (schema_of f.now)) }
-    ensures err { IfErr result (LacksSchema (globals_of globals.now) name.now) }
+    name: &Name<'a>,
+) -> Result<&'b Flat<'a>, Offence<'a>>
+    ensures ok { IfOk result (λ f. IsNamed (globals_of globals.now) name.now.base (schema_of f.now)) }
+    ensures err { IfErr result (λ o. LacksSchema (globals_of globals.now) name.now (offence_of o)) }
 {
-    let Some((_, entry)) = global_of(globals, name) else {
-        return Err(TypeFaultKind::NotDeclared);
+    let Some((_, entry)) = global_of(globals, name.base()) else {
+        return Err(Offence::NotDeclared(name.spelled()));
     };
     match as_schema(entry) {
         Some(flat) => Ok(flat),
-        None => Err(TypeFaultKind::NotASchema),
+        None => Err(Offence::NotASchema(name.spelled())),
     }
 }
 

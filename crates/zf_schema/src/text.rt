@@ -47,7 +47,7 @@ pub fn text_of<'a>(
     globals: &Globals<'a>,
     decls: &[Decl<'a>],
     predicates: &[Boxed<'a, Term<'a>>],
-) -> Result<Flat<'a>, Refusal>
+) -> Result<Flat<'a>, Refusal<'a>>
     ensures ok { IfOk result (λ f. IsText (globals_of globals.now) (map decl_of decls.now) (map tree_of predicates.now) (schema_of f)) }
     ensures wrong { IfErr result (λ e. IfFault e (OffendsText (globals_of globals.now) (map decl_of decls.now) (map tree_of predicates.now))) }
 {
@@ -60,7 +60,7 @@ pub fn growing_text<'a>(
     globals: &Globals<'a>,
     decls: &[Decl<'a>],
     predicates: &[Boxed<'a, Term<'a>>],
-) -> Result<Growing<'a>, Refusal>
+) -> Result<Growing<'a>, Refusal<'a>>
     ensures ok { IfOk result (λ g. IsText (globals_of globals.now) (map decl_of decls.now) (map tree_of predicates.now) (schema_of g.flat)) }
     ensures growing { IfOk result (λ g. IsGrowing g) }
     ensures wrong { IfErr result (λ e. IfFault e (OffendsText (globals_of globals.now) (map decl_of decls.now) (map tree_of predicates.now))) }
@@ -102,7 +102,7 @@ fn declare_all<'a>(
     growing: &mut Growing<'a>,
     decls: &[Decl<'a>],
     spare: Spare,
-) -> Result<(), Refusal>
+) -> Result<(), Refusal<'a>>
     requires { IsGrowing growing.old }
     ensures ok { OnOk result (Declares (globals_of globals.now) (schema_of growing.old.flat) (map decl_of decls.now) (schema_of growing.new.flat)) }
     ensures growing { OnOk result (IsGrowing growing.new) }
@@ -121,7 +121,7 @@ fn declare<'a>(
     growing: &mut Growing<'a>,
     decl: &Decl<'a>,
     spare: Spare,
-) -> Result<(), Refusal>
+) -> Result<(), Refusal<'a>>
     requires { IsGrowing growing.old }
     ensures ok { OnOk result (DeclaresOne (globals_of globals.now) (schema_of growing.old.flat) (decl_of decl.now) (schema_of growing.new.flat)) }
     ensures growing { OnOk result (IsGrowing growing.new) }
@@ -142,7 +142,7 @@ fn declare_names<'a>(
     growing: &mut Growing<'a>,
     names: &[Name<'a>],
     set: &Term<'a>,
-) -> Result<(), Refusal>
+) -> Result<(), Refusal<'a>>
     requires { IsGrowing growing.old }
     ensures ok { OnOk result (DeclaresOne (globals_of globals.now) (schema_of growing.old.flat) (vars names.now (tree_of set.now)) (schema_of growing.new.flat)) }
     ensures growing { OnOk result (IsGrowing growing.new) }
@@ -163,7 +163,7 @@ fn include<'a>(
     growing: &mut Growing<'a>,
     reference: &SchemaRef<'a>,
     spare: Spare,
-) -> Result<(), Refusal>
+) -> Result<(), Refusal<'a>>
     requires { IsGrowing growing.old }
     ensures ok { OnOk result (DeclaresOne (globals_of globals.now) (schema_of growing.old.flat) (include reference.now) (schema_of growing.new.flat)) }
     ensures growing { OnOk result (IsGrowing growing.new) }
@@ -172,7 +172,7 @@ fn include<'a>(
     let other = referred(arena, globals, reference, room_of(growing, spare))?;
     match growing.include(arena, other) {
         Ok(()) => Ok(()),
-        Err(stop) => Err(refusal(stop, reference.name.line)),
+        Err(stop) => Err(refusal(arena, stop, reference.name.line)),
     }
 }
 
@@ -192,7 +192,7 @@ fn add_all<'a>(
     names: &[Name<'a>],
     ztype: &ZType<'a>,
     set: &Lasting<'a, Resolved<'a>>,
-) -> Result<(), Refusal>
+) -> Result<(), Refusal<'a>>
     requires { IsGrowing growing.old }
     ensures ok { OnOk result (AddsAll (schema_of growing.old.flat) names.now (type_of ztype.now) (plain (resolved_of set.now)) (schema_of growing.new.flat)) }
     ensures growing { OnOk result (IsGrowing growing.new) }
@@ -211,7 +211,7 @@ fn add<'a>(
     name: &Name<'a>,
     ztype: &ZType<'a>,
     set: &Lasting<'a, Resolved<'a>>,
-) -> Result<(), Refusal>
+) -> Result<(), Refusal<'a>>
     requires { IsGrowing growing.old }
     ensures ok { OnOk result (Adds (schema_of growing.old.flat) (comp (spelling name.now) (type_of ztype.now) (plain (resolved_of set.now) ∷ [])) (schema_of growing.new.flat)) }
     ensures growing { OnOk result (IsGrowing growing.new) }
@@ -220,7 +220,7 @@ fn add<'a>(
     let component = declared(arena, name, ztype, set)?;
     match growing.add(component) {
         Ok(()) => Ok(()),
-        Err(stop) => Err(refusal(stop, name.line)),
+        Err(stop) => Err(refusal(arena, stop, name.line)),
     }
 }
 
@@ -266,7 +266,7 @@ fn constrain_all<'a>(
     globals: &Globals<'a>,
     growing: &mut Growing<'a>,
     predicates: &[Boxed<'a, Term<'a>>],
-) -> Result<(), Refusal>
+) -> Result<(), Refusal<'a>>
     requires { IsGrowing growing.old }
     ensures ok { OnOk result (Constrains (globals_of globals.now) (schema_of growing.old.flat) (map tree_of predicates.now) (schema_of growing.new.flat)) }
     ensures growing { OnOk result (IsGrowing growing.new) }
@@ -284,7 +284,7 @@ fn constrain<'a>(
     globals: &Globals<'a>,
     growing: &mut Growing<'a>,
     predicate: &Boxed<'a, Term<'a>>,
-) -> Result<(), Refusal>
+) -> Result<(), Refusal<'a>>
     requires { IsGrowing growing.old }
     ensures ok { OnOk result (ConstrainsOne (globals_of globals.now) (schema_of growing.old.flat) (tree_of predicate.now) (schema_of growing.new.flat)) }
     ensures growing { OnOk result (IsGrowing growing.new) }
@@ -292,7 +292,7 @@ fn constrain<'a>(
 {
     let components = growing.flat.components.as_slice();
     let conjuncts = conjuncts_over(arena, globals, components, predicate)?;
-    take_all(growing, conjuncts)
+    take_all(arena, growing, into_bump_slice(conjuncts.into_vec()))
 }
 
 /// The conjuncts of a predicate where the globals and these components are in scope.
@@ -301,32 +301,40 @@ fn conjuncts_over<'a>(
     globals: &Globals<'a>,
     components: &[Component<'a>],
     predicate: &Boxed<'a, Term<'a>>,
-) -> Result<&'a [Resolved<'a>], Refusal>
+) -> Result<Items<'a, Resolved<'a>>, Refusal<'a>>
     ensures is { OnOk result (IsOf (over (globals_of globals.now) (map comp_of components.now)) (tree_of predicate.now) rules.predicate) }
-    ensures ok { IfOk result (λ ts. map resolved_of ts.now ≡ shape.conjuncts (resolved (over (globals_of globals.now) (map comp_of components.now)) (tree_of predicate.now))) }
+    ensures ok { IfOk result (λ ts. map resolved_of ts ≡ shape.conjuncts (resolved (over (globals_of globals.now) (map comp_of components.now)) (tree_of predicate.now))) }
     ensures wrong { IfErr result (λ e. IfFault e (Offends (over (globals_of globals.now) (map comp_of components.now)) needs.Predicate (tree_of predicate.now))) }
 {
     let mut scope = scope_over(globals, components);
     let mut conjuncts = Items::new(arena);
     push_conjuncts(predicate.get(), arena, &mut scope, &mut conjuncts)?;
-    Ok(into_bump_slice(conjuncts.into_vec()))
+    Ok(conjuncts)
 }
 
 /// Takes the conjuncts, one after another.
-fn take_all<'a>(growing: &mut Growing<'a>, conjuncts: &'a [Resolved<'a>]) -> Result<(), Refusal>
+fn take_all<'a>(
+    arena: &'a Bump,
+    growing: &mut Growing<'a>,
+    conjuncts: &'a [Resolved<'a>],
+) -> Result<(), Refusal<'a>>
     requires { IsGrowing growing.old }
     ensures ok { OnOk result (TakesAll (schema_of growing.old.flat) (map resolved_of conjuncts.now) (schema_of growing.new.flat)) }
     ensures growing { OnOk result (IsGrowing growing.new) }
     ensures wrong { IfErr result (λ e. IfFault e (OffendsConjuncts (schema_of growing.old.flat) (map resolved_of conjuncts.now))) }
 {
     for conjunct in conjuncts {
-        take(growing, conjunct)?;
+        take(arena, growing, conjunct)?;
     }
     Ok(())
 }
 
 /// Takes one conjunct.
-fn take<'a>(growing: &mut Growing<'a>, conjunct: &'a Resolved<'a>) -> Result<(), Refusal>
+fn take<'a>(
+    arena: &'a Bump,
+    growing: &mut Growing<'a>,
+    conjunct: &'a Resolved<'a>,
+) -> Result<(), Refusal<'a>>
     requires { IsGrowing growing.old }
     ensures ok { OnOk result (IsNext (constrained (schema_of growing.old.flat) (resolved_of conjunct.now ∷ [])) (schema_of growing.new.flat)) }
     ensures growing { OnOk result (IsGrowing growing.new) }
@@ -334,6 +342,6 @@ fn take<'a>(growing: &mut Growing<'a>, conjunct: &'a Resolved<'a>) -> Result<(),
 {
     match growing.take(Conjunct::lasting(conjunct)) {
         Ok(()) => Ok(()),
-        Err(stop) => Err(refusal(stop, conjunct.line())),
+        Err(stop) => Err(refusal(arena, stop, conjunct.line())),
     }
 }

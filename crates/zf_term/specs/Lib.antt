@@ -1,5 +1,6 @@
 pub mod Types
 pub mod TypeTexts
+pub mod Faults
 pub mod ResolvedTrees
 pub mod Definitions
 pub mod Shapes

@@ -60,7 +60,3 @@ refuses_source fault.Unexpected line source tokens cut h = inr (inr (tokens, cut
 refuses_source fault.NotInProfile line source tokens cut h = inr (inr (tokens, cut, h, tt))
 refuses_source fault.TooDeep line source tokens cut h = inr (inr (tokens, cut, h, tt))
 refuses_source _ line source tokens cut h = absurd h
-
-pub reads_spec : (result : Result Spec TextFault) (source : List ℕ) (tokens : List Token) → IsCutInto source tokens → Parses result tokens → ReadsSpec result source
-reads_spec (Ok spec) source tokens cut h = (tokens, cut, h)
-reads_spec (Err fault) source tokens cut h = refuses_source fault.kind fault.line source tokens cut h

@@ -40,16 +40,15 @@ none_low n ts e b lev h low = by (box_answers n b ts [] lev h)
     by (inl a) = let read = a.read in cc
     by (inr d) = let above = d.above in omega arith
 
-only_refused : (kind : TextFaultKind) (line : ℕ) (ts : List Symbol) → Fails (read_only height_limit ts) kind line → RefusesBox kind line ts
+pub only_refused : (kind : TextFaultKind) (line : ℕ) (ts : List Symbol) → Fails (read_only height_limit ts) kind line → RefusesBox kind line ts
 only_refused fault.OutOfMemory line ts h = h
 only_refused fault.Unexpected line ts h = none_reads height_limit ts h
 only_refused fault.NotInProfile line ts h = none_reads height_limit ts h
 only_refused fault.TooDeep line ts h = λ b r. none_low height_limit ts h b r.levelled r.spelled r.low
 only_refused _ line ts h = absurd h
 
-pub one_box : (result : Result ZBox TextFault) (ts us : List Symbol) → Gives (read_only height_limit ts) result us → ReadsOneBox result ts
-one_box (Ok b) ts us h = only_sound height_limit ts us b refl h
-one_box (Err e) ts us h = only_refused e.kind e.line ts h
+pub box_read : (b : ZBox) (ts us : List Symbol) → read_only height_limit ts ≡ Ok (b, us) → ReadsBox (box_of b) ts
+box_read b ts us h = only_sound height_limit ts us b refl h
 
 -- ---- the reduced list of tokens and of those of further boxes
 

@@ -1,7 +1,6 @@
 -- Reading a source box by box. No public clause rests on this file.
 use Rattle.std.specs.Prelude.{◌≡◌, ℕ, ◌≤◌, List, [], ◌∷◌, ◌++◌, Result, Ok, Err, map}
 use Rattle.std.specs.List.{AllByRecursion}
-use Rattle.zf_scan.specs.declared.fault.TextFault.{TextFault}
 use Rattle.zf_scan.specs.declared.fault.TextFaultKind.{TextFaultKind}
 use Rattle.zf_scan.specs.declared.fault.TextFaultKind.TheVariants.{Unexpected, NotInProfile, TooDeep, OutOfMemory}
 use Rattle.zf_scan.specs.declared.scan.Border.{Border}
@@ -9,6 +8,7 @@ use Rattle.zf_scan.specs.declared.token.Token.{Token}
 use Rattle.zf_scan.specs.Boxes.{IsCutUpTo}
 use Rattle.zf_scan.specs.Separators.{Symbol, reduced}
 use Rattle.zf_tree.specs.declared.tree.ZBox.{ZBox}
+use Rattle.zf_text.specs.declared.unread.Unread.{Unread}
 use Rattle.zf_text.specs.Height.{box_height, highest, height_limit}
 use Rattle.zf_text.specs.Levels.{BoxIsLevelled}
 use Rattle.zf_text.specs.Spelling.{SpellsBox, SpellsBoxes}
@@ -29,9 +29,9 @@ RefusesBox TooDeep line ts = (b : BoxTree) → ReadsBox b ts → ⊥
 RefusesBox OutOfMemory line ts = line ≡ 0
 RefusesBox _ line ts = ⊥
 
-abbrev pub ReadsOneBox : Result ZBox TextFault → List Symbol → Type 0
+abbrev pub ReadsOneBox : Result ZBox Unread → List Symbol → Type 0
 ReadsOneBox (Ok b) ts = ReadsBox (box_of b) ts
-ReadsOneBox (Err fault) ts = RefusesBox fault.kind fault.line ts
+ReadsOneBox (Err unread) ts = RefusesBox unread.fault.kind unread.fault.line ts
 
 -- ---- the boxes so far
 

@@ -6,6 +6,7 @@ use Rattle.zf_scan.specs.declared.fault.TextFaultKind.TheVariants.{Unexpected, N
 use Rattle.zf_scan.specs.declared.token.Token.{Token}
 use Rattle.zf_tree.specs.declared.tree.Spec.{Spec}
 use Rattle.zf_scan.specs.Cuts.{IsCutInto, HasFault, IsWantOfMemory}
+use Rattle.zf_text.specs.declared.unread.Unread.{Unread}
 use Rattle.zf_text.specs.Height.{highest, height_limit}
 use Rattle.zf_text.specs.Reads.{Reads}
 use Rattle.zf_tree.specs.Trees.{BoxTree, boxes_of}
@@ -42,6 +43,6 @@ abbrev pub RefusesSource : List ℕ → TextFault → Type 0
 RefusesSource source fault =
     HasFault source fault ⊎ ((tokens : List Token) × IsCutInto source tokens × Refuses fault.kind fault.line tokens × IsGrammarFault fault.kind)
 
-abbrev pub ReadsSpec : Result Spec TextFault → List ℕ → Type 0
+abbrev pub ReadsSpec : Result Spec Unread → List ℕ → Type 0
 ReadsSpec (Ok spec) source = ReadsSource (boxes_of spec) source
-ReadsSpec (Err fault) source = IsWantOfMemory fault ⊎ RefusesSource source fault
+ReadsSpec (Err unread) source = IsWantOfMemory unread.fault ⊎ RefusesSource source unread.fault

@@ -12,3 +12,4 @@ pub mod reading;
 mod schemas;
 mod tall;
 mod terms;
+pub mod unread;

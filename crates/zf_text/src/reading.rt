@@ -1,8 +1,9 @@
 //! Trees out of tokens, and out of a source.
-ghost use Rattle.std.specs.Prelude.{◌≡◌, ◌≤◌, ◌<◌, ◌⊎◌, ℕ, List, IfOk, IfErr, OnOk, length, map, slice_index_or, slice_set};
+ghost use Rattle.std.specs.Prelude.{◌≡◌, ◌≤◌, ◌<◌, ◌⊎◌, ◌++◌, ℕ, List, IfOk, IfErr, OnOk, length, map, slice_index_or, slice_set};
 ghost use Rattle.zf_text.specs.BoxByBox.{ReadsOneBox, ReadsUpTo};
 ghost use Rattle.zf_text.specs.Parsing.{Parses, ReadsSpec, RefusesSource};
-ghost use Rattle.zf_scan.specs.Cuts.{IsWantOfMemory};
+ghost use Rattle.zf_scan.specs.Boxes.{IsBorder, IsBoxAtMost, IsCutOn, IsCutUpTo};
+ghost use Rattle.zf_scan.specs.Cuts.{IsStuck, IsWantOfMemory};
 ghost use Rattle.zf_scan.specs.Placing.{symbol_at, token_at, unplaced};
 ghost use Rattle.zf_text.specs.Reads.{Reads};
 ghost use Rattle.zf_scan.specs.Separators.{reduced, starts_closed};
@@ -12,13 +13,15 @@ ghost use Rattle.zf_scan.specs.declared.token.Token.{Token};
 
 use crate::boxes::{all, only};
 use crate::cursor::Cursor;
+use crate::unread::Unread;
 use bumpalo::Bump;
 use bumpalo::collections::into_bump_slice;
 use std::alloc::Global;
 use zf_data::Items;
-use zf_scan::fault::TextFault;
+use zf_scan::fault::{TextFault, TextFaultKind};
 use zf_scan::laid::{Laid, lay_out};
 use zf_scan::placed::Placed;
+use zf_scan::refused::refused_at;
 use zf_scan::scan::{Border, cut_rest, next_box};
 use zf_scan::token::Token;
 use zf_tree::tree::{Spec, ZBox};
@@ -94,17 +97,82 @@ pub fn parse<'a>(alloc: Global, arena: &'a Bump, tokens: &[Token]) -> Result<Spe
     parsed(alloc, arena, into_bump_slice(text), symbols)
 }
 
+/// The symbol that a fault of the grammar is about, where so many are left: the next one, or, of a form that is not read, the
+/// one before it.
+fn symbol_at_fault<'a>(
+    fault: TextFault,
+    text: &'a [u8],
+    symbols: &[Placed],
+    left: usize,
+) -> &'a [u8] {
+    let next = symbols.len().saturating_sub(left);
+    let place = match fault.kind {
+        TextFaultKind::NotInProfile => next.saturating_sub(1),
+        _ => next,
+    };
+    match symbols.get(place) {
+        Some(symbol) => symbol.spelled(text),
+        None => b"",
+    }
+}
+
 /// The box that the symbols are, and nothing behind it.
 fn only_box<'a>(
     arena: &'a Bump,
     text: &'a [u8],
     symbols: &mut Vec<Placed>,
-) -> Result<ZBox<'a>, TextFault>
+) -> Result<ZBox<'a>, Unread<'a>>
     ensures { ReadsOneBox result (reduced (map (token_at text.now) symbols.old.items)) }
 {
     reduce(symbols);
     let mut cursor = Cursor::new(text, symbols.as_slice());
-    only(arena, &mut cursor, HEIGHT_LIMIT)
+    match only(arena, &mut cursor, HEIGHT_LIMIT) {
+        Ok(next) => Ok(next),
+        Err(fault) => Err(Unread {
+            fault,
+            symbol: symbol_at_fault(fault, text, symbols.as_slice(), cursor.left()),
+        }),
+    }
+}
+
+/// The symbols of the next box, as `next_box` gives them, or the piece that is refused.
+fn cut_next<'a>(
+    source: &'a [u8],
+    border: &mut Border,
+    symbols: &mut Vec<Placed>,
+) -> Result<(), Unread<'a>>
+    requires { IsBorder source.now border.old }
+    ensures cut { OnOk result ((tokens : List Token) → IsCutUpTo source.now border.old tokens → IsCutUpTo source.now border.new (tokens ++ map (token_at source.now) symbols.new.items)) }
+    ensures one { OnOk result (IsBoxAtMost (map (token_at source.now) symbols.new.items)) }
+    ensures further { OnOk result (border.old.start < length source.now → border.old.start < border.new.start) }
+    ensures fault { IfErr result (λ unread. IsWantOfMemory unread.fault ⊎ IsStuck source.now unread.fault) }
+{
+    match next_box(source, border, symbols) {
+        Ok(()) => Ok(()),
+        Err(fault) => Err(Unread {
+            fault,
+            symbol: refused_at(source, border.start),
+        }),
+    }
+}
+
+/// Whether the rest of the source is cut, as `cut_rest` tells it, or the piece that is refused.
+fn cut_others<'a>(
+    source: &'a [u8],
+    border: &mut Border,
+    symbols: &mut Vec<Placed>,
+) -> Result<(), Unread<'a>>
+    requires { IsBorder source.now border.old }
+    ensures cut { OnOk result ((tokens : List Token) → IsCutUpTo source.now border.old tokens → IsCutOn source.now tokens) }
+    ensures fault { IfErr result (λ unread. IsWantOfMemory unread.fault ⊎ IsStuck source.now unread.fault) }
+{
+    match cut_rest(source, border, symbols) {
+        Ok(()) => Ok(()),
+        Err(fault) => Err(Unread {
+            fault,
+            symbol: refused_at(source, border.start),
+        }),
+    }
 }
 
 /// Adds the next box, if one is left. Where it is refused, the fault of a source that is not cut comes first.
@@ -114,13 +182,13 @@ fn push_next<'a>(
     border: &mut Border,
     symbols: &mut Vec<Placed>,
     boxes: &mut Items<ZBox<'a>>,
-) -> Result<(), TextFault>
+) -> Result<(), Unread<'a>>
     requires { ReadsUpTo source.now border.old boxes.old }
     ensures ok { OnOk result (ReadsUpTo source.now border.new boxes.new) }
     ensures further { OnOk result (border.old.start < length source.now → border.old.start < border.new.start) }
-    ensures wrong { IfErr result (λ fault. IsWantOfMemory fault ⊎ RefusesSource source.now fault) }
+    ensures wrong { IfErr result (λ unread. IsWantOfMemory unread.fault ⊎ RefusesSource source.now unread.fault) }
 {
-    next_box(source, border, symbols)?;
+    cut_next(source, border, symbols)?;
     if symbols.as_slice().is_empty() {
         return Ok(());
     }
@@ -129,9 +197,9 @@ fn push_next<'a>(
             boxes.push(next)?;
             Ok(())
         }
-        Err(fault) => {
-            cut_rest(source, *border, symbols)?;
-            Err(fault)
+        Err(unread) => {
+            cut_others(source, border, symbols)?;
+            Err(unread)
         }
     }
 }
@@ -144,10 +212,13 @@ pub fn read_spec<'a>(
     alloc: Global,
     arena: &'a Bump,
     source: &'a [u8],
-) -> Result<Spec<'a>, TextFault>
+) -> Result<Spec<'a>, Unread<'a>>
     ensures { ReadsSpec result source.now }
 {
-    let mut border = Border::of(source)?;
+    let mut border = match Border::of(source) {
+        Ok(border) => border,
+        Err(fault) => return Err(Unread::of(fault)),
+    };
     let mut symbols = Vec::new(alloc);
     let mut boxes = Items::with_room(alloc, source.len() / BYTES_OF_A_BOX)?;
     while border.start < source.len() {

@@ -25,6 +25,7 @@ use bumpalo::Bump;
 use std::alloc::{AllocError, Global};
 use std::io;
 use std::io::ErrorKind;
+use zf_scan::fault::TextFault;
 use zf_text::reading::read_spec;
 
 /// What came of rows.
@@ -215,7 +216,10 @@ impl Rows {
                 Asked::TreeWithLines => printed(alloc, &spec, true),
                 Asked::Fault => Ok(String::from_str(alloc, "read")?),
             },
-            Err(fault) => Ok(format!(in alloc; "{}: {}", fault.line, fault.kind)?),
+            Err(unread) => {
+                let TextFault { line, kind } = unread.fault;
+                Ok(format!(in alloc; "{line}: {kind}")?)
+            }
         }
     }
 }

@@ -1,5 +1,5 @@
 -- From the answers about the parts of a term to the answer about the term.
-use Rattle.zf_type.proofs.Prelude.{◌≡◌, Err, inr, None, Ok, Option, refl, Some, subst, sym, true≢false, ℕ, IfErr, IfOk, IsErr, IsErrAnd, Result, need_of, binary, bracket, builder, chain, constant, empty_set, listed, named, numeral, quantified, Tree, tree_of, unary, Need, Rule, Unary, Domain, Finset, Power, Range, Size, Term, resolved_of, pair, power, TypeFaultKind, IsJudged, Judges, Misplaced, Offends, IfFault, resolved, a_schema, Meets, number, predicate, set_of, Sort, sort_of, Takes, UnaryTakes, IsMade, IsMadeOfOne, Scope, IsOf, Refusal, Fault, OutOfMemory, Judged}
+use Rattle.zf_type.proofs.Prelude.{◌≡◌, Err, inr, None, Ok, Option, refl, Some, subst, sym, true≢false, ℕ, IfErr, IfOk, IsErr, IsErrAnd, Result, need_of, binary, bracket, builder, chain, constant, empty_set, listed, named, numeral, quantified, Tree, tree_of, unary, Need, Rule, Unary, Domain, Finset, Power, Range, Size, Term, resolved_of, pair, power, Offence, IsJudged, Judges, Misplaced, Offends, IfFault, IsRefusal, offence_of, resolved, a_schema, Meets, number, predicate, set_of, Sort, sort_of, Takes, UnaryTakes, IsMade, IsMadeOfOne, Scope, IsOf, Refusal, Fault, OutOfMemory, Judged}
 use Rattle.zf_tree.specs.declared.operator.Sign.TheVariants as sign
 use Rattle.zf_tree.specs.declared.operator.Need.TheVariants as need
 use Rattle.zf_tree.specs.declared.operator.Unary.TheVariants.{Sign, Inverse, Not}
@@ -8,11 +8,16 @@ use Rattle.zf_type.specs.declared.sort.Sort as program
 -- ---- faults
 
 -- what follows of each kind and line follows of the fault
-pub if_fault : (r : Refusal) (P Q : TypeFaultKind → ℕ → Type 0) → ((k : TypeFaultKind) (m : ℕ) → P k m → Q k m) → IfFault r P → IfFault r Q
-if_fault (Fault f) P Q step h = step f.kind f.line h
+pub if_fault : (r : Refusal) (P Q : Offence → ℕ → Type 0) → ((k : Offence) (m : ℕ) → P k m → Q k m) → IfFault r P → IfFault r Q
+if_fault (Fault f) P Q step h = step (offence_of f.offence) f.line h
 if_fault OutOfMemory P Q step h = tt
 
-pub fault_from : {T : Type 0} (x : Refusal) (P : TypeFaultKind → ℕ → Type 0) (r : Result T Refusal) → IfFault x P → IsErr r → IsErrAnd r (λ y. y ≡ x) → IfErr r (λ y. IfFault y P)
+-- what holds of the offence that a refusal tells holds of its fault
+pub told : (r : Refusal) (o : Offence) (m : ℕ) (P : Offence → ℕ → Type 0) → IsRefusal r o m → P o m → IfFault r P
+told (Fault f) o m P h p = subst (λ q. P q f.line) (sym h.0) (subst (λ l. P o l) (sym h.1) p)
+told OutOfMemory o m P h p = tt
+
+pub fault_from : {T : Type 0} (x : Refusal) (P : Offence → ℕ → Type 0) (r : Result T Refusal) → IfFault x P → IsErr r → IsErrAnd r (λ y. y ≡ x) → IfErr r (λ y. IfFault y P)
 fault_from x P (Ok j) h p g = absurd (true≢false (sym p))
 fault_from x P (Err y) h p g = subst (λ z. IfFault z P) (sym g) h
 
@@ -42,14 +47,14 @@ pub from_memory : (s : Scope) (n : Need) (e : Tree) (r : Result Judged Refusal) 
 from_memory s n e r p g = from_fault s n e OutOfMemory r tt p g
 
 -- what offends of a part offends of the whole
-pub from_part : (s t : Scope) (n m : Need) (e f : Tree) (x : Refusal) (r : Result Judged Refusal) → ((k : TypeFaultKind) (l : ℕ) → Offends s n e k l → Offends t m f k l) → Judges s n e (Err x) → IsErr r → IsErrAnd r (λ y. y ≡ x) → Judges t m f r
+pub from_part : (s t : Scope) (n m : Need) (e f : Tree) (x : Refusal) (r : Result Judged Refusal) → ((k : Offence) (l : ℕ) → Offends s n e k l → Offends t m f k l) → Judges s n e (Err x) → IsErr r → IsErrAnd r (λ y. y ≡ x) → Judges t m f r
 from_part s t n m e f x r step h p g = from_fault t m f x r (if_fault x (λ k l. Offends s n e k l) (λ k l. Offends t m f k l) step (fault_of s n e x h)) p g
 
 -- the same scope and need, and a term that stands in a box
 pub judged_as : (s t : Scope) (n m : Need) (e f : Term) (r : Result Judged Refusal) → t ≡ s → m ≡ n → f ≡ e → Judges t m (tree_of f) r → Judges s n (tree_of e) r
 judged_as s t n m e f r scope need is h = subst (λ z. Judges z n (tree_of e) r) scope (subst (λ o. Judges t o (tree_of e) r) need (subst (λ x. Judges t m (tree_of x) r) is h))
 
-pub misplaced : (s : Scope) (n : Need) (e : Tree) (k : TypeFaultKind) (m : ℕ) → Misplaced s n e k m → Offends s n e k m
+pub misplaced : (s : Scope) (n : Need) (e : Tree) (k : Offence) (m : ℕ) → Misplaced s n e k m → Offends s n e k m
 misplaced s n (named x) k m h = inr h
 misplaced s n (numeral l v) k m h = h
 misplaced s n (constant l c) k m h = h

@@ -30,17 +30,17 @@ pub use Rattle.zf_term.specs.FirstNamed.{first_named, found_as, later, or_else}
 pub use Rattle.zf_term.specs.ResolvedTrees.{range_of, ranges, reference, resolved_link_of, resolved_of, ResolvedTree}
 pub use Rattle.zf_term.specs.Shapes.{conjuncts, is_and}
 pub use Rattle.zf_term.specs.Types.{int, IsSmall, no_types, pair, power, product, Ty, type, type_of, types, Tys}
-pub use Rattle.zf_term.specs.declared.fault.TypeFaultKind.{TypeFaultKind}
-pub use Rattle.zf_term.specs.declared.fault.TypeFaultKind.TheVariants.{LocalTwice, Mismatch, NotDeclared, TooLarge}
+pub use Rattle.zf_term.specs.Faults.{local_twice, mismatch, no_members, not_declared, Offence, too_large}
+pub use Rattle.zf_term.specs.declared.fault.Limit.TheVariants.{TypeNodes}
 pub use Rattle.zf_term.specs.declared.ztype.ZType.{ZType}
 pub use Rattle.zf_type.specs.Buckets.{before, bucket_from, last_in}
 unfoldable pub use Rattle.zf_type.specs.Buckets.{AreHeads, bucket, IsIndexed}
 pub use Rattle.zf_type.specs.Judging.{AreNew, AreRepeated, DeclarationsOffend, DiffersAt, is_conjunction, IsBound, IsJudged, IsOther, IsPart, var_type}
 unfoldable pub use Rattle.zf_type.specs.Judging.{Judges, JudgesPart}
 pub use Rattle.zf_type.specs.Offences.{BuildsTooLarge, Clash, Differ, Disagree, IsRepeated, LinksOffend, ListedTooLarge, MakesTooLarge, MakeTooLarge, Misplaced, Offends, OneDiffers, OneOffends, PartOffends, Repeats, SetsOffend}
-pub use Rattle.zf_type.specs.Refusals.{IfFault}
+pub use Rattle.zf_type.specs.Refusals.{IfFault, IsRefusal, offence_of}
 pub use Rattle.zf_type.specs.Resolving.{bound, referent, resolved, resolved_all, resolved_links, resolved_part, resolved_ranges}
-pub use Rattle.zf_type.specs.Rules.{a_schema, IsSmallSort, lack_of, Meets, number, predicate, PrefixTakes, set_of, SignTakes, Sort, sort_of, Takes, typed, UnaryTakes}
+pub use Rattle.zf_type.specs.Rules.{a_schema, IsSmallSort, Meets, number, predicate, PrefixTakes, set_of, SignTakes, Sort, sort_of, Takes, typed, UnaryTakes}
 unfoldable pub use Rattle.zf_type.specs.Rules.{IsMade, IsMadeOfOne}
 pub use Rattle.zf_type.specs.Scopes.{global_sort, last_named, meaning, meant, Scope, Var, variable_of, with_comp, with_global, with_local, within}
 unfoldable pub use Rattle.zf_type.specs.Scopes.{scope_of}

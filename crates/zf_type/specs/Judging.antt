@@ -13,12 +13,11 @@ use Rattle.zf_term.specs.Shapes.{is_and}
 use Rattle.zf_term.specs.Types.{Ty, Tys, no_types, type}
 use Rattle.zf_type.specs.declared.fault.Refusal.{Refusal}
 use Rattle.zf_type.specs.declared.judge.Judged.{Judged}
-use Rattle.zf_term.specs.declared.fault.TypeFaultKind.{TypeFaultKind}
-use Rattle.zf_term.specs.declared.fault.TypeFaultKind.TheVariants.{LocalTwice}
+use Rattle.zf_term.specs.Faults.{Offence, local_twice, mismatch, no_members}
 use Rattle.zf_type.specs.Offences.{Offends, PartOffends, SetsOffend, Repeats, IsRepeated}
 use Rattle.zf_type.specs.Refusals.{IfFault}
 use Rattle.zf_type.specs.Resolving.{resolved}
-use Rattle.zf_type.specs.Rules.{sort_of, Meets}
+use Rattle.zf_type.specs.Rules.{typed, sort_of, Meets}
 use Rattle.zf_type.specs.Scopes.{Scope, Var}
 use Rattle.zf_tree.specs.Names.{spelling}
 use Rattle.zf_type.specs.Typing.{IsOf, IsApart, declared}
@@ -31,7 +30,7 @@ pub record IsJudged (s : Scope) (n : Need) (e : Tree) (j : Judged) : Type 0 wher
 
 -- the answer is what the term is, or an offence of it
 unfoldable pub Judges : Scope → Need → Tree → Result Judged Refusal → Type 0
-Judges s n e result = IfOk result (λ j. IsJudged s n e j) × IfErr result (λ r. IfFault r (λ k m. Offends s n e k m))
+Judges s n e result = IfOk result (λ j. IsJudged s n e j) × IfErr result (λ r. IfFault r (λ o m. Offends s n e o m))
 
 -- a conjunction, within brackets or without
 abbrev pub is_conjunction : Tree → Bool
@@ -52,17 +51,17 @@ IsBuilder t = (l : ℕ) × (ds : List VarDecl) × (p e : Option Term) × (t ≡ 
 
 -- ---- members of tuples, displays and products
 
--- the line of a term whose type is another
-abbrev pub IsOther : Ty → List Tree → Tys → ℕ → Type 0
-IsOther u [] us m = ⊥
-IsOther u (e ∷ es) no_types m = ⊥
-IsOther u (e ∷ es) (type v vs) m = ((u ≡ v → ⊥) × (m ≡ line_of e)) ⊎ IsOther u es vs m
+-- a term has another type than this: the offence, and its line
+abbrev pub IsOther : Ty → List Tree → Tys → Offence → ℕ → Type 0
+IsOther u [] us o m = ⊥
+IsOther u (e ∷ es) no_types o m = ⊥
+IsOther u (e ∷ es) (type v vs) o m = ((u ≡ v → ⊥) × (o ≡ mismatch (typed u) (typed v)) × (m ≡ line_of e)) ⊎ IsOther u es vs o m
 
--- of a term whose type is not that of the first; where there is none, that of the whole
-abbrev pub DiffersAt : (line : ℕ) → List Tree → Tys → ℕ → Type 0
-DiffersAt l [] us m = (us ≡ no_types) × (m ≡ l)
-DiffersAt l (e ∷ es) no_types m = ⊥
-DiffersAt l (e ∷ es) (type u us) m = IsOther u es us m
+-- another type than the first one; where there is none, the line is that of the whole
+abbrev pub DiffersAt : (line : ℕ) → List Tree → Tys → Offence → ℕ → Type 0
+DiffersAt l [] us o m = (us ≡ no_types) × (o ≡ no_members) × (m ≡ l)
+DiffersAt l (e ∷ es) no_types o m = ⊥
+DiffersAt l (e ∷ es) (type u us) o m = IsOther u es us o m
 
 -- ---- parts that may be left out
 
@@ -74,7 +73,7 @@ IsPart s n (present e) None = ⊥
 IsPart s n (present e) (Some j) = IsJudged s n e j
 
 unfoldable pub JudgesPart : Scope → Need → Perhaps → Result (Option Judged) Refusal → Type 0
-JudgesPart s n p result = IfOk result (λ o. IsPart s n p o) × IfErr result (λ r. IfFault r (λ k m. PartOffends s n p k m))
+JudgesPart s n p result = IfOk result (λ j. IsPart s n p j) × IfErr result (λ r. IfFault r (λ o m. PartOffends s n p o m))
 
 -- ---- bound variables
 
@@ -89,13 +88,13 @@ AreNew vs [] = Unit {0}
 AreNew vs (n ∷ ns) = (IsBound (spelling n) vs → ⊥) × IsApart n ns × AreNew vs ns
 
 -- one of the names is declared again, among them or as a variable
-abbrev pub AreRepeated : List Var → List Name → TypeFaultKind → ℕ → Type 0
-AreRepeated vs [] k m = ⊥
-AreRepeated vs (n ∷ ns) k m = (IsBound (spelling n) vs × (k ≡ LocalTwice) × (m ≡ n.line)) ⊎ (IsRepeated n ns k m ⊎ AreRepeated vs ns k m)
+abbrev pub AreRepeated : List Var → List Name → Offence → ℕ → Type 0
+AreRepeated vs [] o m = ⊥
+AreRepeated vs (n ∷ ns) o m = (IsBound (spelling n) vs × (o ≡ local_twice (spelling n)) × (m ≡ n.line)) ⊎ (IsRepeated n ns o m ⊎ AreRepeated vs ns o m)
 
 -- no variables are bound by declarations with this offence
-abbrev pub DeclarationsOffend : Scope → VarDecls → TypeFaultKind → ℕ → Type 0
-DeclarationsOffend s ds k m = Repeats (declared ds) k m ⊎ SetsOffend s ds k m
+abbrev pub DeclarationsOffend : Scope → VarDecls → Offence → ℕ → Type 0
+DeclarationsOffend s ds o m = Repeats (declared ds) o m ⊎ SetsOffend s ds o m
 
 -- the type of a variable
 abbrev pub var_type : Var → Ty

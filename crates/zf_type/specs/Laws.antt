@@ -2,7 +2,7 @@
 use Rattle.std.specs.Prelude.{◌≡◌, ℕ}
 use Rattle.zf_tree.specs.Trees.{Tree}
 use Rattle.zf_tree.specs.declared.operator.Need.{Need}
-use Rattle.zf_term.specs.declared.fault.TypeFaultKind.{TypeFaultKind}
+use Rattle.zf_term.specs.Faults.{Offence}
 use Rattle.zf_type.specs.Rules.{Sort, Meets}
 use Rattle.zf_type.specs.Scopes.{Scope}
 use Rattle.zf_type.specs.Typing.{IsOf}
@@ -14,4 +14,4 @@ OneSort = (s : Scope) (e : Tree) (x y : Sort) → IsOf s e x → IsOf s e y → 
 
 -- a term that is well typed for its place has no offence there
 abbrev pub NoOffence : Type 0
-NoOffence = (s : Scope) (n : Need) (e : Tree) (z : Sort) (k : TypeFaultKind) (m : ℕ) → IsOf s e z → Meets n z → Offends s n e k m → ⊥
+NoOffence = (s : Scope) (n : Need) (e : Tree) (z : Sort) (o : Offence) (m : ℕ) → IsOf s e z → Meets n z → Offends s n e o m → ⊥

@@ -1,10 +1,33 @@
--- What a refusal says.
-use Rattle.std.specs.Prelude.{ℕ}
-use Rattle.zf_term.specs.declared.fault.TypeFaultKind.{TypeFaultKind}
+-- What a refusal says, and the program's faults as plain data.
+use Rattle.std.specs.Prelude.{◌≡◌, ℕ}
+use Rattle.zf_term.specs.Faults.{Offence, Fault, not_declared, already_defined, not_a_schema, local_twice, mismatch, no_members, misplaced, clash, too_large}
+use Rattle.zf_term.specs.Types.{type_of}
+use Rattle.zf_type.specs.declared.fault.Offence as program
+use Rattle.zf_type.specs.declared.fault.Offence.TheVariants as variant
+use Rattle.zf_type.specs.declared.fault.TypeFault.{TypeFault}
 use Rattle.zf_type.specs.declared.fault.Refusal.{Refusal}
-use Rattle.zf_type.specs.declared.fault.Refusal.TheVariants.{Fault, OutOfMemory}
+use Rattle.zf_type.specs.declared.fault.Refusal.TheVariants as refusal
+use Rattle.zf_type.specs.Rules.{sort_of}
+
+abbrev pub offence_of : program.Offence → Offence
+offence_of (variant.NotDeclared x) = not_declared x
+offence_of (variant.AlreadyDefined x) = already_defined x
+offence_of (variant.NotASchema x) = not_a_schema x
+offence_of (variant.LocalTwice x) = local_twice x
+offence_of (variant.Mismatch x y) = mismatch (sort_of x) (sort_of y)
+offence_of variant.NoMembers = no_members
+offence_of (variant.Misplaced n z) = misplaced n (sort_of z)
+offence_of (variant.Clash c) = clash c.name (type_of c.left) (type_of c.right)
+offence_of (variant.TooLarge l) = too_large l
+
+abbrev pub fault_of : TypeFault → Fault
+fault_of f = record { offence = offence_of f.offence; line = f.line }
 
 -- the fact holds of the fault, unless memory ran out
-abbrev pub IfFault : Refusal → (TypeFaultKind → ℕ → Type 0) → Type 0
-IfFault (Fault f) P = P f.kind f.line
-IfFault OutOfMemory P = Unit {0}
+abbrev pub IfFault : Refusal → (Offence → ℕ → Type 0) → Type 0
+IfFault (refusal.Fault f) P = P (offence_of f.offence) f.line
+IfFault refusal.OutOfMemory P = Unit {0}
+
+-- the fault is this one, unless memory ran out
+abbrev pub IsRefusal : Refusal → Offence → ℕ → Type 0
+IsRefusal r o m = IfFault r (λ p l. (p ≡ o) × (l ≡ m))

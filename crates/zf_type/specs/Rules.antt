@@ -13,16 +13,9 @@ use Rattle.zf_tree.specs.declared.operator.Rule.{Rule}
 use Rattle.zf_tree.specs.declared.operator.Rule.TheVariants as rule
 use Rattle.zf_tree.specs.declared.operator.Unary.{Unary}
 use Rattle.zf_tree.specs.declared.operator.Unary.TheVariants as unary
-use Rattle.zf_term.specs.declared.fault.TypeFaultKind.{TypeFaultKind}
-use Rattle.zf_term.specs.declared.fault.TypeFaultKind.TheVariants.{NotASet, NotANumber, NotARelation, NotAPredicate, NotAnExpression}
+pub use Rattle.zf_term.specs.Faults.{Sort, typed, predicate, a_schema}
 use Rattle.zf_type.specs.declared.sort.Sort as program
 use Rattle.zf_type.specs.declared.sort.Sort.TheVariants.{Typed}
-
--- what a term is: an expression of a type, a predicate, or the name of a schema
-pub data Sort : Type 0 where
-  typed : Ty → Sort
-  predicate : Sort
-  a_schema : Sort
 
 abbrev pub sort_of : program.Sort → Sort
 sort_of (Typed t) = typed (type_of t)
@@ -51,24 +44,6 @@ Meets need.Number z = z ≡ number
 Meets need.Set z = (t : Ty) × (z ≡ set_of t)
 Meets need.Relation z = (t u : Ty) × (z ≡ relation t u)
 Meets need.Predicate z = z ≡ predicate
-
--- the fault of an expression that does not meet the need
-abbrev pub lack : Need → TypeFaultKind
-lack need.Expression = NotAnExpression
-lack need.Number = NotANumber
-lack need.Set = NotASet
-lack need.Relation = NotARelation
-lack need.Predicate = NotAPredicate
-
--- of a predicate or a schema's name
-abbrev pub untyped_lack : Need → TypeFaultKind
-untyped_lack need.Predicate = NotAPredicate
-untyped_lack _ = NotAnExpression
-
-abbrev pub lack_of : Need → Sort → TypeFaultKind
-lack_of n (typed t) = lack n
-lack_of n predicate = untyped_lack n
-lack_of n a_schema = untyped_lack n
 
 -- the left operand, the right one, and the whole
 abbrev pub Takes : Rule → Sort → Sort → Sort → Type 0

@@ -10,9 +10,9 @@ ghost use Rattle.zf_type.specs.Scopes as spec;
 ghost use Rattle.zf_type.specs.Scopes.{Var, scope_of, variable_of, within};
 ghost use Rattle.zf_tree.specs.Names.{spelling};
 ghost use Rattle.zf_type.specs.Typing as typing;
-ghost use Rattle.zf_term.specs.declared.fault.TypeFaultKind as faults;
+ghost use Rattle.zf_term.specs.Faults as faults;
 
-use crate::fault::{Refusal, refused};
+use crate::fault::{Offence, Refusal, refused};
 use crate::locals::Locals;
 use crate::scope::{Scope, is_bound};
 use crate::sort::Sort;
@@ -20,21 +20,21 @@ use crate::variable::Variable;
 use bumpalo::Bump;
 use std::alloc::AllocError;
 use zf_data::arena::Items;
-use zf_term::fault::TypeFaultKind;
 use zf_term::ztype::{ZType, product_type};
 use zf_tree::tree::Name;
 
 /// Adds variables of these names, which are members of a set of this sort.
 pub(crate) fn declare_names<'a>(
+    arena: &'a Bump,
     names: &[Name<'a>],
     set: &Sort<'a>,
     variables: &mut Locals<'a>,
-) -> Result<(), Refusal>
+) -> Result<(), Refusal<'a>>
     requires { Meets needs.Set (sort_of set.now) }
     ensures ok { OnOk result ((u : Ty) × (sort_of set.now ≡ set_of u) × (map variable_of variables.new ≡ map variable_of variables.old ++ typing.variables names.now u)) }
     ensures apart { OnOk result ((ns : List program.Name) → AreNew (map variable_of variables.new) ns → AreNew (map variable_of variables.old) (names.now ++ ns)) }
-    ensures later { OnOk result ((ns : List program.Name) (kind : faults.TypeFaultKind) (line : ℕ) → AreRepeated (map variable_of variables.new) ns kind line → AreRepeated (map variable_of variables.old) (names.now ++ ns) kind line) }
-    ensures repeated { IfErr result (λ e. IfFault e (λ kind line. (ns : List program.Name) → AreRepeated (map variable_of variables.old) (names.now ++ ns) kind line)) }
+    ensures later { OnOk result ((ns : List program.Name) (offence : faults.Offence) (line : ℕ) → AreRepeated (map variable_of variables.new) ns offence line → AreRepeated (map variable_of variables.old) (names.now ++ ns) offence line) }
+    ensures repeated { IfErr result (λ e. IfFault e (λ offence line. (ns : List program.Name) → AreRepeated (map variable_of variables.old) (names.now ++ ns) offence line)) }
 {
     let Some(members) = set.member() else {
         unreachable!();
@@ -42,7 +42,7 @@ pub(crate) fn declare_names<'a>(
     for name in names {
         let variable = variable(name, members)?;
         if is_bound(variables, variable.name.as_slice()) {
-            return Err(refused(TypeFaultKind::LocalTwice, name.line));
+            return Err(refused(arena, Offence::LocalTwice(name.spelled()), name.line));
         }
         variables.push(variable)?;
     }

@@ -60,10 +60,10 @@ pub fn push_conjuncts<'a>(
     arena: &'a Bump,
     scope: &mut Scope<'a, '_>,
     conjuncts: &mut Items<'a, Resolved<'a>>,
-) -> Result<(), Refusal>
+) -> Result<(), Refusal<'a>>
     ensures is { OnOk result (IsOf (scope_of scope.old) (tree_of term.now) predicate) }
     ensures ok { OnOk result (map resolved_of conjuncts.new ≡ map resolved_of conjuncts.old ++ spec.conjuncts (resolved (scope_of scope.old) (tree_of term.now))) }
-    ensures wrong { IfErr result (λ e. IfFault e (λ kind line. Offends (scope_of scope.old) needs.Predicate (tree_of term.now) kind line)) }
+    ensures wrong { IfErr result (λ e. IfFault e (λ offence line. Offends (scope_of scope.old) needs.Predicate (tree_of term.now) offence line)) }
     ensures scope { scope_of scope.new ≡ scope_of scope.old }
 {
     match term {
@@ -100,10 +100,10 @@ fn push_whole<'a>(
     arena: &'a Bump,
     scope: &mut Scope<'a, '_>,
     conjuncts: &mut Items<'a, Resolved<'a>>,
-) -> Result<(), Refusal>
+) -> Result<(), Refusal<'a>>
     ensures is { OnOk result (IsOf (scope_of scope.old) (tree_of term.now) predicate) }
     ensures ok { OnOk result (map resolved_of conjuncts.new ≡ map resolved_of conjuncts.old ++ resolved (scope_of scope.old) (tree_of term.now) ∷ []) }
-    ensures wrong { IfErr result (λ e. IfFault e (λ kind line. Offends (scope_of scope.old) needs.Predicate (tree_of term.now) kind line)) }
+    ensures wrong { IfErr result (λ e. IfFault e (λ offence line. Offends (scope_of scope.old) needs.Predicate (tree_of term.now) offence line)) }
     ensures scope { scope_of scope.new ≡ scope_of scope.old }
 {
     let judged = judge(term, arena, Need::Predicate, scope)?;

@@ -2,6 +2,7 @@
 ghost use Rattle.std.specs.Prelude.{◌≡◌, IfOk, IfErr};
 ghost use Rattle.zf_tree.specs.Trees as tree;
 ghost use Rattle.zf_tree.specs.Trees.{Tree, named, numeral, tree_of};
+ghost use Rattle.zf_term.specs.Faults.{too_large};
 ghost use Rattle.zf_term.specs.ResolvedTrees.{resolved_of};
 ghost use Rattle.zf_type.specs.Judging.{Judges};
 ghost use Rattle.zf_type.specs.Offences.{Offends};
@@ -17,7 +18,7 @@ mod chains;
 mod lists;
 mod operands;
 
-use crate::fault::{Refusal, refused};
+use crate::fault::{Offence, Refusal, misplaced, refused};
 use crate::rules::constant_sort;
 use crate::scope::Scope;
 use crate::sort::Sort;
@@ -27,7 +28,7 @@ use chains::chain;
 use lists::listed;
 use operands::{binary, unary};
 use zf_data::arena::Boxed;
-use zf_term::fault::TypeFaultKind;
+use zf_term::fault::Limit;
 use zf_term::resolved::Resolved;
 use zf_term::ztype::ZType;
 use zf_tree::operator::Need;
@@ -54,11 +55,11 @@ pub fn judge<'a>(
     arena: &'a Bump,
     need: Need,
     scope: &mut Scope<'a, '_>,
-) -> Result<Judged<'a>, Refusal>
+) -> Result<Judged<'a>, Refusal<'a>>
     ensures sort { IfOk result (λ j. IsOf (scope_of scope.old) (tree_of term.now) (sort_of j.sort)) }
     ensures met { IfOk result (λ j. Meets need (sort_of j.sort)) }
     ensures term { IfOk result (λ j. resolved_of j.term ≡ resolved (scope_of scope.old) (tree_of term.now)) }
-    ensures wrong { IfErr result (λ e. IfFault e (λ kind line. Offends (scope_of scope.old) need (tree_of term.now) kind line)) }
+    ensures wrong { IfErr result (λ e. IfFault e (λ offence line. Offends (scope_of scope.old) need (tree_of term.now) offence line)) }
     ensures scope { scope_of scope.new ≡ scope_of scope.old }
 {
     judge_term(term, arena, need, scope)
@@ -71,7 +72,7 @@ fn judge_boxed<'a>(
     arena: &'a Bump,
     need: Need,
     scope: &mut Scope<'a, '_>,
-) -> Result<Judged<'a>, Refusal>
+) -> Result<Judged<'a>, Refusal<'a>>
     ensures judged { Judges (scope_of scope.old) need (tree_of term.now) result }
     ensures scope { scope_of scope.new ≡ scope_of scope.old }
 {
@@ -85,7 +86,7 @@ fn judge_term<'a>(
     arena: &'a Bump,
     need: Need,
     scope: &mut Scope<'a, '_>,
-) -> Result<Judged<'a>, Refusal>
+) -> Result<Judged<'a>, Refusal<'a>>
     ensures judged { Judges (scope_of scope.old) need (tree_of term.now) result }
     ensures scope { scope_of scope.new ≡ scope_of scope.old }
 {
@@ -93,7 +94,7 @@ fn judge_term<'a>(
         Term::Name(line, name) => named(arena, need, &name.at(*line), scope),
         Term::Number(line, value) => {
             let line = *line;
-            number(Place { need, line }, *value)
+            number(arena, Place { need, line }, *value)
         }
         Term::Constant(line, constant) => {
             let line = *line;
@@ -139,21 +140,27 @@ fn named<'a>(
     need: Need,
     name: &Name<'a>,
     scope: &Scope<'a, '_>,
-) -> Result<Judged<'a>, Refusal>
+) -> Result<Judged<'a>, Refusal<'a>>
     ensures { Judges (scope_of scope.now) need (named name.now) result }
 {
     let line = name.line;
     let Some((reference, sort)) = scope.meaning(arena, name)? else {
-        return Err(refused(TypeFaultKind::NotDeclared, line));
+        return Err(refused(arena, Offence::NotDeclared(name.spelled()), line));
     };
-    placed(Place { need, line }, sort, Resolved::Name(line, reference))
+    placed(
+        arena,
+        Place { need, line },
+        sort,
+        Resolved::Name(line, reference),
+    )
 }
 
 #[inline(never)]
-fn number<'a>(place: Place, value: u64) -> Result<Judged<'a>, Refusal>
+fn number<'a>(arena: &'a Bump, place: Place, value: u64) -> Result<Judged<'a>, Refusal<'a>>
     ensures { (s : spec.Scope) → Judges s place.need (numeral place.line value) result }
 {
     placed(
+        arena,
         place,
         Sort::Typed(ZType::Int),
         Resolved::Number(place.line, value),
@@ -165,11 +172,11 @@ fn constant_term<'a>(
     arena: &'a Bump,
     place: Place,
     constant: Constant,
-) -> Result<Judged<'a>, Refusal>
+) -> Result<Judged<'a>, Refusal<'a>>
     ensures { (s : spec.Scope) → Judges s place.need (tree.constant place.line constant) result }
 {
     let sort = constant_sort(arena, constant)?;
-    placed(place, sort, Resolved::Constant(place.line, constant))
+    placed(arena, place, sort, Resolved::Constant(place.line, constant))
 }
 
 #[cycle(judging)]
@@ -179,13 +186,13 @@ fn empty_set<'a>(
     arena: &'a Bump,
     place: Place,
     scope: &mut Scope<'a, '_>,
-) -> Result<Judged<'a>, Refusal>
+) -> Result<Judged<'a>, Refusal<'a>>
     ensures judged { Judges (scope_of scope.old) place.need (tree.empty_set place.line (tree_of of.now)) result }
     ensures scope { scope_of scope.new ≡ scope_of scope.old }
 {
     let Judged { term, sort } = judge_term(of, arena, Need::Set, scope)?;
     let term = Resolved::EmptySet(place.line, Boxed::new(arena, term)?);
-    placed(place, sort, term)
+    placed(arena, place, sort, term)
 }
 
 #[cycle(judging)]
@@ -195,7 +202,7 @@ fn bracket<'a>(
     arena: &'a Bump,
     place: Place,
     scope: &mut Scope<'a, '_>,
-) -> Result<Judged<'a>, Refusal>
+) -> Result<Judged<'a>, Refusal<'a>>
     ensures judged { Judges (scope_of scope.old) place.need (tree.bracket place.line (tree_of inner.now)) result }
     ensures scope { scope_of scope.new ≡ scope_of scope.old }
 {
@@ -205,21 +212,31 @@ fn bracket<'a>(
 }
 
 /// The term, where its place takes one of this sort.
-fn placed<'a>(place: Place, sort: Sort<'a>, term: Resolved<'a>) -> Result<Judged<'a>, Refusal>
+fn placed<'a>(
+    arena: &'a Bump,
+    place: Place,
+    sort: Sort<'a>,
+    term: Resolved<'a>,
+) -> Result<Judged<'a>, Refusal<'a>>
     ensures { (s : spec.Scope) (e : Tree) → IsOf s e (sort_of sort.entry) → resolved_of term.entry ≡ resolved s e → place.line ≡ tree.line_of e → Judges s place.need e result }
 {
     if !sort.meets(place.need) {
-        return Err(refused(sort.lack(place.need), place.line));
+        return Err(misplaced(arena, place.need, &sort, place.line));
     }
     Ok(Judged { term, sort })
 }
 
 /// The same of a term that is made of others, whose type has to be within the limit.
-fn made<'a>(place: Place, sort: Sort<'a>, term: Resolved<'a>) -> Result<Judged<'a>, Refusal>
-    ensures { (s : spec.Scope) (e : Tree) → (IsSmallSort (sort_of sort.entry) → IsOf s e (sort_of sort.entry)) → ((IsSmallSort (sort_of sort.entry) → ⊥) → Offends s place.need e TypeFaultKind.TooLarge place.line) → resolved_of term.entry ≡ resolved s e → place.line ≡ tree.line_of e → Judges s place.need e result }
+fn made<'a>(
+    arena: &'a Bump,
+    place: Place,
+    sort: Sort<'a>,
+    term: Resolved<'a>,
+) -> Result<Judged<'a>, Refusal<'a>>
+    ensures { (s : spec.Scope) (e : Tree) → (IsSmallSort (sort_of sort.entry) → IsOf s e (sort_of sort.entry)) → ((IsSmallSort (sort_of sort.entry) → ⊥) → Offends s place.need e (too_large Limit.TypeNodes) place.line) → resolved_of term.entry ≡ resolved s e → place.line ≡ tree.line_of e → Judges s place.need e result }
 {
     if !sort.is_small() {
-        return Err(refused(TypeFaultKind::TooLarge, place.line));
+        return Err(refused(arena, Offence::TooLarge(Limit::TypeNodes), place.line));
     }
-    placed(place, sort, term)
+    placed(arena, place, sort, term)
 }

@@ -1,5 +1,6 @@
 -- A term that is an infinite set is a set of numbers.
 use Rattle.zf_typed.proofs.Prelude.{◌<◌, ◌∙◌, ◌∷◌, ◌≡◌, [], ap, arith, List, None, Option, refl, Some, suc, sym, take, zero, ℕ, none-some, same_Some, slice_get, Reference, spelling, Tree, Constant, abbreviation, constructor, Defined, Definition, free_type, given_set, schema, first_named, int, power, Ty, Infinite, referent, resolved, constant_sort, typed, definition_sort, with_global, IsOf, constant_set, definition_extent, direct, extent_by, extent_found, extent_named, extent_set, offending, named_there, outside, AreWellTyped, IsMadeAfter}
+use Rattle.zf_extent.specs.declared.offender.Offender.{Offender}
 use Rattle.zf_tree.specs.declared.symbol.Constant.TheVariants as constants
 use Rattle.zf_tree.specs.Trees as text
 use Rattle.zf_typed.proofs.Globals.{in_front}
@@ -17,10 +18,10 @@ front_of (suc j) (suc i) (d ∷ g) l = front_of j i g (omega (arith, l))
 none_found : {X : Type 0} {A : Type 0} (x : A) → None ≡ Some x → X
 none_found x e = absurd (none-some x e)
 
-extent_infinite : (o : Option Infinite) (lines : List ℕ) (s : Infinite) → extent_set (extent_by o lines) ≡ Some s → o ≡ Some s
-extent_infinite (Some r) lines s e = e
+extent_infinite : (o : Option Infinite) (offenders : List Offender) (s : Infinite) → extent_set (extent_by o offenders) ≡ Some s → o ≡ Some s
+extent_infinite (Some r) offenders s e = e
 extent_infinite None [] s e = none_found s e
-extent_infinite None (l ∷ ls) s e = none_found s e
+extent_infinite None (a ∷ others) s e = none_found s e
 
 typed_same : (t u : Ty) → typed t ≡ typed u → t ≡ u
 typed_same t u e = cc

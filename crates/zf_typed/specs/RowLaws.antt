@@ -2,7 +2,7 @@
 use Rattle.std.specs.Prelude.{◌≡◌, ℕ, List, [], ◌∷◌, MatchOption, Option, Some, slice_get}
 use Rattle.zf_tree.specs.Trees.{BoxTree}
 use Rattle.zf_term.specs.Definitions.{Comp, Defined, Schema, schema}
-use Rattle.zf_type.specs.declared.fault.TypeFault.{TypeFault}
+use Rattle.zf_term.specs.Faults.{Fault}
 use Rattle.zf_value.specs.declared.value.Value.{Value}
 use Rattle.zf_value.specs.Sets.{value_order}
 use Rattle.zf_walk.specs.Events.{Event, IsEvent}
@@ -41,7 +41,7 @@ EventsTyped =
 -- and of a schema that a text defines
 abbrev pub EventsOfTextsTyped : Type 0
 EventsOfTextsTyped =
-    (boxes : List BoxTree) (g : List Defined) (faults : List TypeFault) (stated : List Size) (e : Environment) (place : ℕ) (name : List ℕ) (a : Schema)
+    (boxes : List BoxTree) (g : List Defined) (faults : List Fault) (stated : List Size) (e : Environment) (place : ℕ) (name : List ℕ) (a : Schema)
     (held : List (Option Value)) (ranges : List (List Value)) (after : Option (List Value)) (x : Event Value)
     → IsChecked boxes g faults → IsEnvironment g stated e
     → slice_get g place ≡ Some (record { name = name; definition = schema a }) → AreHeldTyped e a.comps held → AreRanges e a.comps held ranges

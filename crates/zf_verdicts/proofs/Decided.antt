@@ -1,5 +1,5 @@
 -- What can be decided: whether names, types and sorts are the same, whether types are small, and what a place takes.
-use Rattle.zf_verdicts.proofs.Prelude.{◌<◌, ◌∷◌, ◌≡◌, ◌≤◌, ◌⊎◌, [], arith, Bool, false, inl, inr, List, refl, true, ℕ, spelling, Need, Name, basic, int, IsSmall, no_types, nodes, power, product, Ty, type, Tys, LocalTwice, IsRepeated, Repeats, a_schema, IsSmallSort, Meets, number, predicate, relation, set_of, Sort, typed, AreApart, IsApart, SomeOffence}
+use Rattle.zf_verdicts.proofs.Prelude.{◌<◌, ◌∷◌, ◌≡◌, ◌≤◌, ◌⊎◌, [], arith, Bool, false, inl, inr, List, refl, true, ℕ, spelling, Need, Name, basic, int, IsSmall, no_types, nodes, power, product, Ty, type, Tys, local_twice, IsRepeated, Repeats, a_schema, IsSmallSort, Meets, number, predicate, relation, set_of, Sort, typed, AreApart, IsApart, SomeOffence}
 use Rattle.std.specs.Bool.{Decides}
 use Rattle.std.specs.Str.{bytes_eq}
 use Rattle.std.specs.List.{AllByRecursion}
@@ -130,7 +130,7 @@ is_apart n [] = inl tt
 is_apart n (m ∷ ms) = by (same_bytes (spelling n) (spelling m)) (is_apart n ms)
   where
     by : Decided (spelling n ≡ spelling m) → IsApart n ms ⊎ SomeOffence (IsRepeated n ms) → IsApart n (m ∷ ms) ⊎ SomeOffence (IsRepeated n (m ∷ ms))
-    by (inl e) rest = inr (LocalTwice, m.line, inl (e, refl, refl))
+    by (inl e) rest = inr (local_twice (spelling m), m.line, inl (e, refl, refl))
     by (inr e) (inl apart) = inl (e, apart)
     by (inr e) (inr o) = inr (o.0, o.1, inr o.2)
 

@@ -1,8 +1,7 @@
 -- A paragraph or box defines something, or has an offence; so a text has its globals and its faults.
-use Rattle.zf_verdicts.proofs.Prelude.{◌+◌, ◌∷◌, ◌≡◌, ◌⊎◌, [], inl, inr, List, map, None, Option, refl, Some, subst, ℕ, spelling, BoxTree, definition, free, given, ParagraphTree, Tree, Name, constructor, Defined, free_type, given_set, Schema, schema, first_named, Ty, TypeFaultKind, AlreadyDefined, Offends, resolved, typed, IsOf, OffendsSchema, OffendsText, SomeOffence}
+use Rattle.zf_verdicts.proofs.Prelude.{◌+◌, ◌∷◌, ◌≡◌, ◌⊎◌, [], inl, inr, List, map, None, Option, refl, Some, subst, ℕ, spelling, BoxTree, definition, free, given, ParagraphTree, Tree, Name, constructor, Defined, free_type, given_set, Schema, schema, first_named, Ty, already_defined, Fault, Offence, Offends, resolved, typed, IsOf, OffendsSchema, OffendsText, SomeOffence}
 use Rattle.zf_tree.specs.Trees as text
 use Rattle.zf_tree.specs.declared.operator.Need.TheVariants as need
-use Rattle.zf_type.specs.declared.fault.TypeFault.{TypeFault}
 use Rattle.zf_schema.specs.Expressions.{outside, IsText, IsSchema}
 use Rattle.zf_schema.specs.Checking.{Item, a_paragraph, a_box, items, IsNew, with_global, abbreviated, next_number, Gives, Constructs, DefinesParagraph, Defines, IsTaken, OffendsGiven, OffendsConstructors, OffendsParagraph, OffendsItem, Checks, IsChecked}
 use Rattle.zf_schema.proofs.OneDefinition.{no_item_offence}
@@ -19,9 +18,9 @@ is_new g n = by (first_named (λ d. d.name) (spelling n) g)
 
 -- ---- a name is that of a global, or what it is given to is judged
 
-module _ (g : List Defined) (n : Name) (Made : List Defined → Type 0) (Later : TypeFaultKind → ℕ → Type 0) where
+module _ (g : List Defined) (n : Name) (Made : List Defined → Type 0) (Later : Offence → ℕ → Type 0) where
   if_new : Decided (IsNew g n) → ((h : List Defined) × Made h) ⊎ SomeOffence Later → ((h : List Defined) × (IsNew g n × Made h)) ⊎ SomeOffence (λ k m. IsTaken g n k m ⊎ Later k m)
-  if_new (inr taken) rest = inr (AlreadyDefined, n.line, inl (refl, refl, taken))
+  if_new (inr taken) rest = inr (already_defined (spelling n), n.line, inl (refl, refl, taken))
   if_new (inl new) (inl p) = inl (p.0, (new, p.1))
   if_new (inl new) (inr o) = inr (o.0, o.1, inr o.2)
 
@@ -48,7 +47,7 @@ of_term g n e (inl p) = inl (with_global g n (abbreviated g p.2.0 (resolved (out
 of_term g n e (inr o) = inr o
 
 -- what a name of a schema stands for
-module _ (g : List Defined) (n : Name) (IsOne : Schema → Type 0) (Later : TypeFaultKind → ℕ → Type 0) where
+module _ (g : List Defined) (n : Name) (IsOne : Schema → Type 0) (Later : Offence → ℕ → Type 0) where
   of_schema : ((a : Schema) × IsOne a) ⊎ SomeOffence Later → ((h : List Defined) × ((a : Schema) × IsOne a × (h ≡ with_global g n (schema a)))) ⊎ SomeOffence Later
   of_schema (inl p) = inl (with_global g n (schema p.0), (p.0, p.1, refl))
   of_schema (inr o) = inr o
@@ -75,18 +74,18 @@ item_judged g (a_box n ds ps) =
 -- ---- one after another
 
 abbrev HasVerdict : List Defined → List Item → Type 0
-HasVerdict g steps = (h : List Defined) × (faults : List TypeFault) × Checks g steps h faults
+HasVerdict g steps = (h : List Defined) × (faults : List Fault) × Checks g steps h faults
 
 of_item : (g : List Defined) (item : Item) (steps : List Item) → ((h : List Defined) × Defines g item h) ⊎ SomeOffence (OffendsItem g item) → ((mid : List Defined) → HasVerdict mid steps) → HasVerdict g (item ∷ steps)
 of_item g item steps (inl p) rest = let q = rest p.0 in (q.0, q.1, (p.0, [], q.1, inl (p.1, refl), q.2, refl))
 of_item g item steps (inr o) rest =
     let q = rest g in
-    let f : TypeFault = record { kind = o.0; line = o.1 } in
+    let f : Fault = record { offence = o.0; line = o.1 } in
     (q.0, f ∷ q.1, (g, f ∷ [], q.1, inr (λ other d. no_item_offence g item other o.0 o.1 d o.2, refl, (f, o.2, refl)), q.2, refl))
 
 steps_judged : (g : List Defined) (steps : List Item) → HasVerdict g steps
 steps_judged g [] = (g, [], (refl, refl))
 steps_judged g (item ∷ steps) = of_item g item steps (item_judged g item) (λ mid. steps_judged mid steps)
 
-pub text_has_verdict : (boxes : List BoxTree) → (globals : List Defined) × (faults : List TypeFault) × IsChecked boxes globals faults
+pub text_has_verdict : (boxes : List BoxTree) → (globals : List Defined) × (faults : List Fault) × IsChecked boxes globals faults
 text_has_verdict boxes = steps_judged [] (items boxes)

@@ -1,18 +1,17 @@
 -- References, declarations, predicates and schema expressions are a schema, or have an offence.
-use Rattle.zf_verdicts.proofs.Prelude.{◌++◌, ◌∷◌, ◌≡◌, ◌⊎◌, [], inl, inr, List, None, Option, refl, Some, subst, ℕ, spelling, both, DeclTree, either, include, reference, schema_bracket, schema_text, SchemaTree, Tree, vars, Name, abbreviation, constructor, DeclaredSet, Defined, Definition, free_type, given_set, plain, Schema, schema, first_named, Ty, TypeFaultKind, ComponentClash, NotASchema, NotDeclared, TooLarge, Offends, resolved, predicate, set_of, IsOf, Agree, Agrees, comp, conjoined, decorated, disjoined, MarkAgrees, marked, nothing, schema_of, with_comp, IsWithin, Adds, Includes, IsNext, Stops, AnyByRecursion, IsNoSchema, name_line, OffendsAfter, OffendsAlone, OffendsConjuncts, OffendsDecls, OffendsNames, OffendsPredicates, OffendsRef, OffendsSchema, OffendsText, SomeOffence}
+use Rattle.zf_verdicts.proofs.Prelude.{◌++◌, ◌∷◌, ◌≡◌, ◌⊎◌, [], inl, inr, List, None, Option, refl, Some, subst, ℕ, spelling, both, DeclTree, either, include, reference, schema_bracket, schema_text, SchemaTree, Tree, vars, Name, abbreviation, constructor, DeclaredSet, Defined, Definition, free_type, given_set, plain, Schema, schema, first_named, Ty, not_a_schema, not_declared, Offence, Offends, resolved, predicate, set_of, IsOf, Agree, Agrees, comp, conjoined, decorated, disjoined, MarkAgrees, marked, nothing, schema_of, with_comp, IsTooLarge, IsWithin, Adds, Clashes, Includes, IsNext, MarkClashes, OneClashes, Stops, AnyByRecursion, IsNoSchema, name_line, OffendsAfter, OffendsAlone, OffendsConjuncts, OffendsDecls, OffendsNames, OffendsPredicates, OffendsRef, OffendsSchema, OffendsText, SomeOffence}
 use Rattle.zf_tree.specs.declared.tree.SchemaRef.{SchemaRef}
 use Rattle.zf_tree.specs.declared.operator.Need.TheVariants as need
 use Rattle.zf_term.specs.ResolvedTrees.{ResolvedTree}
 use Rattle.zf_term.specs.Shapes.{line_of, conjuncts}
 use Rattle.zf_schema.specs.Expressions.{outside, inside, Refers, AddsAll, DeclaresOne, Declares, TakesAll, ConstrainsOne, Constrains, IsText, IsSchema}
 use Rattle.zf_schema.proofs.Once.{taken_comps}
-use Rattle.zf_verdicts.proofs.Decided.{Decided}
-use Rattle.zf_verdicts.proofs.Limits.{is_within, agrees, agree, mark_agrees, next_or_stopped, next_at}
+use Rattle.zf_verdicts.proofs.Limits.{OrTold, is_within, agrees, agree, mark_agrees, next_or_stopped, next_at}
 use Rattle.zf_verdicts.proofs.Terms.{IsJudged, judged}
 
 -- ---- one step and then the rest: the step stops, or what is made goes into the rest
 
-module _ (Step : Schema → Type 0) (Rest : Schema → Schema → Type 0) (Stopped : TypeFaultKind → ℕ → Type 0) (Later : Schema → TypeFaultKind → ℕ → Type 0) where
+module _ (Step : Schema → Type 0) (Rest : Schema → Schema → Type 0) (Stopped : Offence → ℕ → Type 0) (Later : Schema → Offence → ℕ → Type 0) where
   then_rest :
       ((mid : Schema) × Step mid) ⊎ SomeOffence Stopped → ((mid : Schema) → ((b : Schema) × Rest mid b) ⊎ SomeOffence (Later mid))
       → ((b : Schema) × ((mid : Schema) × Step mid × Rest mid b)) ⊎ SomeOffence (λ k m. Stopped k m ⊎ ((mid : Schema) × Step mid × Later mid k m))
@@ -29,7 +28,7 @@ module _ (g : List Defined) (r : SchemaRef) where
   no_schema :
       (i : ℕ) (d : Defined) → first_named (λ e. e.name) r.name.base g ≡ Some (i, d) → IsNoSchema d.definition
       → ((b : Schema) × Refers g r b) ⊎ SomeOffence (OffendsRef g r)
-  no_schema i d e h = inr (NotASchema, r.name.line, (refl, inr (inl (refl, i, d, e, h))))
+  no_schema i d e h = inr (not_a_schema (spelling r.name), r.name.line, (refl, inr (inl (refl, i, d, e, h))))
 
   of_definition :
       (i : ℕ) (x : List ℕ) (d : Definition) → first_named (λ e. e.name) r.name.base g ≡ Some (i, record { name = x; definition = d })
@@ -38,17 +37,17 @@ module _ (g : List Defined) (r : SchemaRef) where
   of_definition i x (free_type n names) e = no_schema i (record { name = x; definition = free_type n names }) e tt
   of_definition i x (constructor n of_type place) e = no_schema i (record { name = x; definition = constructor n of_type place }) e tt
   of_definition i x (abbreviation t u w) e = no_schema i (record { name = x; definition = abbreviation t u w }) e tt
-  of_definition i x (schema a) e = by (next_or_stopped (MarkAgrees r.mark a) (decorated r.name.strokes (marked r.mark r.name.line a)) (mark_agrees r.mark a))
+  of_definition i x (schema a) e = by (next_or_stopped (MarkClashes r.mark a) (MarkAgrees r.mark a) (decorated r.name.strokes (marked r.mark r.name.line a)) (mark_agrees r.mark a))
     where
       by :
           (MarkAgrees r.mark a × IsNext (decorated r.name.strokes (marked r.mark r.name.line a)) (decorated r.name.strokes (marked r.mark r.name.line a)))
-          ⊎ ((k : TypeFaultKind) × Stops (MarkAgrees r.mark a) (decorated r.name.strokes (marked r.mark r.name.line a)) k)
+          ⊎ ((k : Offence) × Stops (MarkClashes r.mark a) (MarkAgrees r.mark a) (decorated r.name.strokes (marked r.mark r.name.line a)) k)
           → ((b : Schema) × Refers g r b) ⊎ SomeOffence (OffendsRef g r)
       by (inl p) = inl (decorated r.name.strokes (marked r.mark r.name.line a), (i, x, a, e, p.0, p.1))
       by (inr o) = inr (o.0, r.name.line, (refl, inr (inr (i, x, a, e, o.1))))
 
   of_base : (o : Option (ℕ × Defined)) → first_named (λ e. e.name) r.name.base g ≡ o → ((b : Schema) × Refers g r b) ⊎ SomeOffence (OffendsRef g r)
-  of_base None e = inr (NotDeclared, r.name.line, (refl, inl (refl, e)))
+  of_base None e = inr (not_declared (spelling r.name), r.name.line, (refl, inl (refl, e)))
   of_base (Some p) e = of_definition p.0 p.1.name p.1.definition e
 
   pub reference_judged : ((b : Schema) × Refers g r b) ⊎ SomeOffence (OffendsRef g r)
@@ -61,8 +60,8 @@ names_judged a [] t d = inl (a, refl)
 names_judged a (n ∷ ns) t d =
     let c = comp (spelling n) t (d ∷ []) in
     let next = schema_of (with_comp a.comps c) a.conjuncts in
-    then_rest (Adds a c) (λ mid b. AddsAll mid ns t d b) (λ k m. (m ≡ n.line) × Stops (Agrees a.comps c) next k) (λ mid k m. OffendsNames mid ns t d k m)
-    (next_at n.line (Agrees a.comps c) next (agrees a.comps c)) (λ mid. names_judged mid ns t d)
+    then_rest (Adds a c) (λ mid b. AddsAll mid ns t d b) (λ k m. (m ≡ n.line) × Stops (Clashes a.comps c) (Agrees a.comps c) next k) (λ mid k m. OffendsNames mid ns t d k m)
+    (next_at n.line (Clashes a.comps c) (Agrees a.comps c) next (agrees a.comps c)) (λ mid. names_judged mid ns t d)
 
 -- a declaration is taken, or it offends alone, or after those before it
 abbrev IsTakenIn : List Defined → Schema → DeclTree → Type 0
@@ -80,9 +79,9 @@ of_vars g a ns e (inl p) = by (subst (IsOf (outside g) e) p.2.1 p.1) (names_judg
 
 of_include : (g : List Defined) (a : Schema) (r : SchemaRef) → ((c : Schema) × Refers g r c) ⊎ SomeOffence (OffendsRef g r) → IsTakenIn g a (include r)
 of_include g a r (inr o) = inr (inl o)
-of_include g a r (inl c) = by (next_at r.name.line (Agree a.comps c.0.comps) (conjoined a c.0) (agree a.comps c.0.comps))
+of_include g a r (inl c) = by (next_at r.name.line (OneClashes a.comps c.0.comps) (Agree a.comps c.0.comps) (conjoined a c.0) (agree a.comps c.0.comps))
   where
-    by : ((b : Schema) × Includes a c.0 b) ⊎ SomeOffence (λ k m. (m ≡ r.name.line) × Stops (Agree a.comps c.0.comps) (conjoined a c.0) k) → IsTakenIn g a (include r)
+    by : ((b : Schema) × Includes a c.0 b) ⊎ SomeOffence (λ k m. (m ≡ r.name.line) × Stops (OneClashes a.comps c.0.comps) (Agree a.comps c.0.comps) (conjoined a c.0) k) → IsTakenIn g a (include r)
     by (inl q) = inl (q.0, (c.0, c.1, q.1))
     by (inr o) = inr (inr (o.0, o.1, (c.0, c.1, o.2.0, o.2.1)))
 
@@ -91,7 +90,7 @@ declaration_judged g a (vars ns e) = of_vars g a ns e (judged (outside g) need.S
 declaration_judged g a (include r) = of_include g a r (reference_judged g r)
 
 later_declared :
-    (g : List Defined) (a mid : Schema) (d : DeclTree) (ds : List DeclTree) (k : TypeFaultKind) (m : ℕ)
+    (g : List Defined) (a mid : Schema) (d : DeclTree) (ds : List DeclTree) (k : Offence) (m : ℕ)
     → DeclaresOne g a d mid → OffendsDecls g mid ds k m → OffendsDecls g a (d ∷ ds) k m
 later_declared g a mid d ds k m p (inl o) = inl (inr o)
 later_declared g a mid d ds k m p (inr o) = inr (inr (mid, p, o))
@@ -116,22 +115,22 @@ declarations_judged g a (d ∷ ds) = first_declared g a d ds (declaration_judged
 
 conjunct_judged :
     (line : ℕ) (next : Schema)
-    → ((mid : Schema) × IsNext next mid) ⊎ SomeOffence (λ k m. (k ≡ TooLarge) × (m ≡ line) × (IsWithin next → ⊥))
+    → ((mid : Schema) × IsNext next mid) ⊎ SomeOffence (λ k m. (m ≡ line) × IsTooLarge next k)
 conjunct_judged line next = by (is_within next)
   where
-    by : Decided (IsWithin next) → ((mid : Schema) × IsNext next mid) ⊎ SomeOffence (λ k m. (k ≡ TooLarge) × (m ≡ line) × (IsWithin next → ⊥))
+    by : OrTold (IsWithin next) (IsTooLarge next) → ((mid : Schema) × IsNext next mid) ⊎ SomeOffence (λ k m. (m ≡ line) × IsTooLarge next k)
     by (inl within) = inl (next, (refl, within))
-    by (inr large) = inr (TooLarge, line, (refl, refl, large))
+    by (inr large) = inr (large.0, line, (refl, large.1))
 
 conjuncts_judged : (a : Schema) (cs : List ResolvedTree) → ((b : Schema) × TakesAll a cs b) ⊎ SomeOffence (OffendsConjuncts a cs)
 conjuncts_judged a [] = inl (a, refl)
 conjuncts_judged a (c ∷ cs) =
     let next = schema_of a.comps (a.conjuncts ++ c ∷ []) in
-    then_rest (IsNext next) (λ mid b. TakesAll mid cs b) (λ k m. (k ≡ TooLarge) × (m ≡ line_of c) × (IsWithin next → ⊥)) (λ mid k m. OffendsConjuncts mid cs k m)
+    then_rest (IsNext next) (λ mid b. TakesAll mid cs b) (λ k m. (m ≡ line_of c) × IsTooLarge next k) (λ mid k m. OffendsConjuncts mid cs k m)
     (conjunct_judged (line_of c) next) (λ mid. conjuncts_judged mid cs)
 
 later_constrained :
-    (g : List Defined) (a mid : Schema) (p : Tree) (ps : List Tree) (k : TypeFaultKind) (m : ℕ)
+    (g : List Defined) (a mid : Schema) (p : Tree) (ps : List Tree) (k : Offence) (m : ℕ)
     → ConstrainsOne g a p mid → OffendsPredicates g mid ps k m → OffendsPredicates g a (p ∷ ps) k m
 later_constrained g a mid p ps k m q (inl o) =
     let comps = taken_comps a (conjuncts (resolved (inside g a) p)) mid q.1 in
@@ -174,10 +173,10 @@ module _ (g : List Defined) (x y : SchemaTree) where
       → ((c : Schema) × IsSchema g (both x y) c) ⊎ SomeOffence (OffendsSchema g (both x y))
   of_both (inr o) right = inr (o.0, o.1, inl o.2)
   of_both (inl p) (inr o) = inr (o.0, o.1, inr (inl o.2))
-  of_both (inl p) (inl q) = by (next_or_stopped (Agree p.0.comps q.0.comps) (conjoined p.0 q.0) (agree p.0.comps q.0.comps))
+  of_both (inl p) (inl q) = by (next_or_stopped (OneClashes p.0.comps q.0.comps) (Agree p.0.comps q.0.comps) (conjoined p.0 q.0) (agree p.0.comps q.0.comps))
     where
       by :
-          (Agree p.0.comps q.0.comps × IsNext (conjoined p.0 q.0) (conjoined p.0 q.0)) ⊎ ((k : TypeFaultKind) × Stops (Agree p.0.comps q.0.comps) (conjoined p.0 q.0) k)
+          (Agree p.0.comps q.0.comps × IsNext (conjoined p.0 q.0) (conjoined p.0 q.0)) ⊎ ((k : Offence) × Stops (OneClashes p.0.comps q.0.comps) (Agree p.0.comps q.0.comps) (conjoined p.0 q.0) k)
           → ((c : Schema) × IsSchema g (both x y) c) ⊎ SomeOffence (OffendsSchema g (both x y))
       by (inl n) = inl (conjoined p.0 q.0, (p.0, q.0, p.1, q.1, n.0, n.1))
       by (inr o) = inr (o.0, name_line y, inr (inr (p.0, q.0, p.1, q.1, refl, o.1)))
@@ -189,13 +188,13 @@ module _ (g : List Defined) (x y : SchemaTree) where
   of_either l (inl p) (inr o) = inr (o.0, o.1, inr (inl o.2))
   of_either l (inl p) (inl q) = by (agree p.0.comps q.0.comps)
     where
-      sized : Agree p.0.comps q.0.comps → Decided (IsWithin (disjoined l p.0 q.0)) → ((c : Schema) × IsSchema g (either l x y) c) ⊎ SomeOffence (OffendsSchema g (either l x y))
+      sized : Agree p.0.comps q.0.comps → OrTold (IsWithin (disjoined l p.0 q.0)) (IsTooLarge (disjoined l p.0 q.0)) → ((c : Schema) × IsSchema g (either l x y) c) ⊎ SomeOffence (OffendsSchema g (either l x y))
       sized agreed (inl within) = inl (disjoined l p.0 q.0, (p.0, q.0, p.1, q.1, agreed, (refl, within)))
-      sized agreed (inr large) = inr (TooLarge, l, inr (inr (p.0, q.0, p.1, q.1, inr (refl, refl, agreed, large))))
+      sized agreed (inr large) = inr (large.0, l, inr (inr (p.0, q.0, p.1, q.1, inr (refl, agreed, large.1))))
 
-      by : Decided (Agree p.0.comps q.0.comps) → ((c : Schema) × IsSchema g (either l x y) c) ⊎ SomeOffence (OffendsSchema g (either l x y))
+      by : OrTold (Agree p.0.comps q.0.comps) (OneClashes p.0.comps q.0.comps) → ((c : Schema) × IsSchema g (either l x y) c) ⊎ SomeOffence (OffendsSchema g (either l x y))
       by (inl agreed) = sized agreed (is_within (disjoined l p.0 q.0))
-      by (inr clash) = inr (ComponentClash, name_line y, inr (inr (p.0, q.0, p.1, q.1, inl (refl, refl, clash))))
+      by (inr clash) = inr (clash.0, name_line y, inr (inr (p.0, q.0, p.1, q.1, inl (refl, clash.1))))
 
 pub schema_judged : (g : List Defined) (x : SchemaTree) → ((a : Schema) × IsSchema g x a) ⊎ SomeOffence (OffendsSchema g x)
 schema_judged g (schema_text ds ps) = text_judged g ds ps

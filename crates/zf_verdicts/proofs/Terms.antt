@@ -1,11 +1,12 @@
 -- A term has a sort that its place takes, or an offence there: its parts are judged first.
-use Rattle.zf_verdicts.proofs.Prelude.{◌++◌, ◌≡◌, ◌⊎◌, [], inl, inr, List, None, Option, refl, Some, subst, sym, ℕ, spelling, left_need, need_of, relation_rule, right_need, rule_of, absent, binary, bracket, builder, chain, constant, empty_set, line_of, link, Links, listed, named, no_decls, no_links, no_trees, numeral, Perhaps, present, quantified, Tree, tree, Trees, unary, var_decl, VarDecls, Need, Unary, Relation, Name, IsSmall, no_types, power, Ty, type, Tys, TypeFaultKind, Mismatch, NotDeclared, TooLarge, Clash, Differ, LinksOffend, MakesTooLarge, Misplaced, Offends, OneDiffers, OneOffends, PartOffends, Repeats, SetsOffend, a_schema, constant_sort, IsSmallSort, lack_of, Meets, number, predicate, set_of, Sort, Takes, typed, UnaryTakes, AreAll, AreApart, AreLinked, AreMembers, Builds, Constrains, Declare, declared, IsOf, Makes, member_need, member_sort, row_type, variables, SomeOffence}
+use Rattle.zf_verdicts.proofs.Prelude.{◌++◌, ◌≡◌, ◌⊎◌, [], inl, inr, List, None, Option, refl, Some, subst, sym, ℕ, spelling, left_need, need_of, relation_rule, right_need, rule_of, absent, binary, bracket, builder, chain, constant, empty_set, line_of, link, Links, listed, named, no_decls, no_links, no_trees, numeral, Perhaps, present, quantified, Tree, tree, Trees, unary, var_decl, VarDecls, Need, Unary, Relation, Name, IsSmall, no_types, power, Ty, type, Tys, mismatch, no_members, not_declared, Offence, too_large, TypeNodes, Clash, Differ, LinksOffend, MakesTooLarge, Misplaced, Offends, OneDiffers, OneOffends, PartOffends, Repeats, SetsOffend, a_schema, constant_sort, IsSmallSort, Meets, number, predicate, set_of, Sort, Takes, typed, UnaryTakes, AreAll, AreApart, AreLinked, AreMembers, Builds, Constrains, Declare, declared, IsOf, Makes, member_need, member_sort, row_type, variables, SomeOffence}
 use Rattle.zf_tree.specs.declared.symbol.Quantifier.{Quantifier}
 use Rattle.zf_tree.specs.declared.operator.Need.TheVariants as need
 use Rattle.zf_tree.specs.declared.operator.Listed.{Listed}
 use Rattle.zf_tree.specs.declared.operator.Listed.TheVariants.{Tuple, Display, Product}
 use Rattle.zf_tree.specs.declared.operator.Operator.{Operator}
 use Rattle.zf_reference.specs.declared.reference.Reference.{Reference}
+use Rattle.zf_term.specs.Faults as fault
 use Rattle.zf_term.specs.Types as t
 use Rattle.zf_type.specs.Scopes.{Scope, Var, within, meaning}
 use Rattle.zf_verdicts.proofs.Combined.{AreCombined, combined, made, relates}
@@ -17,17 +18,17 @@ IsJudged s n e = ((x : Sort) × IsOf s e x × Meets n x) ⊎ SomeOffence (Offend
 -- ---- a term whose sort is known: its place takes it, or it is misplaced
 
 module _ (s : Scope) (n : Need) (e : Tree) where
-  placed : (x : Sort) → IsOf s e x → ((k : TypeFaultKind) (m : ℕ) → Misplaced s n e k m → Offends s n e k m) → IsJudged s n e
+  placed : (x : Sort) → IsOf s e x → ((k : Offence) (m : ℕ) → Misplaced s n e k m → Offends s n e k m) → IsJudged s n e
   placed x p offends = by (meets n x)
     where
       by : Decided (Meets n x) → IsJudged s n e
       by (inl h) = inl (x, p, h)
-      by (inr h) = inr (lack_of n x, line_of e, offends (lack_of n x) (line_of e) (x, p, h, refl, refl))
+      by (inr h) = inr (fault.misplaced n x, line_of e, offends (fault.misplaced n x) (line_of e) (x, p, h, refl, refl))
 
 -- ---- forms, from what is judged of their parts
 
 of_name : (s : Scope) (n : Need) (x : Name) (o : Option (Reference × Sort)) → meaning s (spelling x) ≡ o → IsJudged s n (named x)
-of_name s n x None e = inr (NotDeclared, x.line, inl (e, refl, refl))
+of_name s n x None e = inr (not_declared (spelling x), x.line, inl (e, refl, refl))
 of_name s n x (Some r) e = placed s n (named x) r.1 (r.0, e) (λ k m o. inr o)
 
 of_empty_set : (s : Scope) (n : Need) (l : ℕ) (e : Tree) → IsJudged s need.Set e → IsJudged s n (empty_set l e)
@@ -62,13 +63,13 @@ alike s u (tree e es) us p = by (same_type u p.0) (alike s u es p.1 p.3)
     by : Decided (u ≡ p.0) → AreAll (type u p.1) u ⊎ SomeOffence (OneDiffers s u es) → AreAll (type u us) u ⊎ SomeOffence (OneDiffers s u (tree e es))
     by (inl h) (inl all) = inl (subst (λ vs. AreAll (type u vs) u) (sym p.4) (then all h))
     by (inl h) (inr o) = inr (o.0, o.1, inr o.2)
-    by (inr h) rest = inr (Mismatch, line_of e, inl (p.0, p.2, h, refl, refl))
+    by (inr h) rest = inr (mismatch (typed u) (typed p.0), line_of e, inl (p.0, p.2, h, refl, refl))
 
 -- members make something, or those of a display differ
 makes : (form : Listed) (s : Scope) (l : ℕ) (es : Trees) (us : Tys) → AreMembers form s es us → ((u : Ty) × Makes form us u) ⊎ SomeOffence (Differ form s l es)
 makes Tuple s l es us p = inl (t.product us, refl)
 makes Product s l es us p = inl (power (t.product us), refl)
-makes Display s l no_trees us p = inr (Mismatch, l, (refl, refl))
+makes Display s l no_trees us p = inr (no_members, l, (refl, refl))
 makes Display s l (tree e es) us p = by (alike s p.0 es p.1 p.3)
   where
     by : AreAll (type p.0 p.1) p.0 ⊎ SomeOffence (OneDiffers s p.0 es) → ((u : Ty) × Makes Display us u) ⊎ SomeOffence (Differ Display s l (tree e es))
@@ -81,7 +82,7 @@ of_listed s n l form es (inl p) = by (makes form s l es p.0 p.1)
   where
     sized : (u : Ty) → Makes form p.0 u → Decided (IsSmall u) → IsJudged s n (listed l form es)
     sized u made (inl small) = placed s n (listed l form es) (typed u) (p.0, u, p.1, made, small, refl) (λ k m o. inr (inr (inr o)))
-    sized u made (inr large) = inr (TooLarge, l, inr (inr (inl (p.0, u, p.1, made, large, refl, refl))))
+    sized u made (inr large) = inr (too_large TypeNodes, l, inr (inr (inl (p.0, u, p.1, made, large, refl, refl))))
 
     by : ((u : Ty) × Makes form p.0 u) ⊎ SomeOffence (Differ form s l es) → IsJudged s n (listed l form es)
     by (inl a) = sized a.0 a.1 (is_small a.0)
@@ -93,7 +94,7 @@ of_unary s n l op a (inl p) = by (made op p.0 p.2)
   where
     sized : (z : Sort) → UnaryTakes op p.0 z → Decided (IsSmallSort z) → IsJudged s n (unary l op a)
     sized z w (inl small) = placed s n (unary l op a) z (p.0, p.1, w, small) (λ k m o. inr (inr o))
-    sized z w (inr large) = inr (TooLarge, l, inr (inl (p.0, z, p.1, w, large, refl, refl)))
+    sized z w (inr large) = inr (too_large TypeNodes, l, inr (inl (p.0, z, p.1, w, large, refl, refl)))
 
     by : (z : Sort) × UnaryTakes op p.0 z → IsJudged s n (unary l op a)
     by w = sized w.0 w.1 (is_small_sort w.0)
@@ -106,11 +107,11 @@ of_binary s n l op a b (inl p) (inl q) = by (combined (rule_of op) p.0 q.0 p.2 q
   where
     sized : (z : Sort) → Takes (rule_of op) p.0 q.0 z → Decided (IsSmallSort z) → IsJudged s n (binary l op a b)
     sized z w (inl small) = placed s n (binary l op a b) z (p.0, q.0, p.1, q.1, w, small) (λ k m o. inr (inr (inr o)))
-    sized z w (inr large) = inr (TooLarge, l, inr (inr (inl (inr (p.0, q.0, z, p.1, q.1, w, large, refl, refl)))))
+    sized z w (inr large) = inr (too_large TypeNodes, l, inr (inr (inl (inr (p.0, q.0, z, p.1, q.1, w, large, refl, refl)))))
 
     by : AreCombined (rule_of op) p.0 q.0 → IsJudged s n (binary l op a b)
     by (inl w) = sized w.0 w.1 (is_small_sort w.0)
-    by (inr none) = inr (Mismatch, line_of b, inr (inr (inl (inl (p.0, q.0, p.1, q.1, p.2, q.2, none, refl, refl)))))
+    by (inr none) = inr (mismatch p.0 q.0, line_of b, inr (inr (inl (inl (p.0, q.0, p.1, q.1, p.2, q.2, none, refl, refl)))))
 
 -- a chain behind an operand
 module _ (s : Scope) (left : Tree) (x : Sort) (r : Relation) (e : Tree) (ks : Links) where
@@ -118,7 +119,7 @@ module _ (s : Scope) (left : Tree) (x : Sort) (r : Relation) (e : Tree) (ks : Li
       IsOf s left x → Decided (Meets (left_need (relation_rule r)) x) → IsJudged s (right_need (relation_rule r)) e
       → ((y : Sort) → IsOf s e y → AreLinked s y ks ⊎ SomeOffence (LinksOffend s e ks))
       → AreLinked s x (link r e ks) ⊎ SomeOffence (LinksOffend s left (link r e ks))
-  of_link p (inr h) right rest = inr (lack_of (left_need (relation_rule r)) x, line_of left, inl (x, p, h, refl, refl))
+  of_link p (inr h) right rest = inr (fault.misplaced (left_need (relation_rule r)) x, line_of left, inl (x, p, h, refl, refl))
   of_link p (inl h) (inr o) rest = inr (o.0, o.1, inr (inl o.2))
   of_link p (inl h) (inl q) rest = by (combined (relation_rule r) x q.0 h q.2)
     where
@@ -128,7 +129,7 @@ module _ (s : Scope) (left : Tree) (x : Sort) (r : Relation) (e : Tree) (ks : Li
 
       by : AreCombined (relation_rule r) x q.0 → AreLinked s x (link r e ks) ⊎ SomeOffence (LinksOffend s left (link r e ks))
       by (inl w) = linked w.0 w.1 (rest q.0 q.1)
-      by (inr none) = inr (Mismatch, line_of e, inr (inr (inl (x, q.0, p, q.1, h, q.2, none, refl, refl))))
+      by (inr none) = inr (mismatch x q.0, line_of e, inr (inr (inl (x, q.0, p, q.1, h, q.2, none, refl, refl))))
 
 of_chain :
     (s : Scope) (n : Need) (l : ℕ) (e : Tree) (ks : Links) → IsJudged s need.Expression e
@@ -153,7 +154,7 @@ module _ (s : Scope) (n : Need) (l : ℕ) (ds : VarDecls) (p e : Perhaps) where
     where
       sized : Constrains (within s d.0) p → (u : Ty) → Builds (within s d.0) d.0 e u → Decided (IsSmall (power u)) → IsJudged s n (builder l ds p e)
       sized c u b (inl small) = placed s n (builder l ds p e) (set_of u) (d.0, u, apart, d.1, c, b, small, refl) (λ k m o. inr (inr (inr o)))
-      sized c u b (inr large) = inr (TooLarge, l, inr (inr (inl (d.0, (apart, d.1), inr (inr (u, b, large, refl, refl))))))
+      sized c u b (inr large) = inr (too_large TypeNodes, l, inr (inr (inl (d.0, (apart, d.1), inr (inr (u, b, large, refl, refl))))))
 
       by : Constrains (within s d.0) p ⊎ SomeOffence (PartOffends (within s d.0) need.Predicate p) → ((u : Ty) × Builds (within s d.0) d.0 e u) ⊎ SomeOffence (PartOffends (within s d.0) need.Expression e) → IsJudged s n (builder l ds p e)
       by (inr o) term = inr (o.0, o.1, inr (inr (inl (d.0, (apart, d.1), inl o.2))))

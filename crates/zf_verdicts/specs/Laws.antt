@@ -3,8 +3,7 @@ use Rattle.std.specs.Prelude.{◌⊎◌, ℕ, List}
 use Rattle.zf_tree.specs.Trees.{Tree, DeclTree, SchemaTree, BoxTree}
 use Rattle.zf_tree.specs.declared.operator.Need.{Need}
 use Rattle.zf_term.specs.Definitions.{Schema, Defined}
-use Rattle.zf_type.specs.declared.fault.TypeFault.{TypeFault}
-use Rattle.zf_term.specs.declared.fault.TypeFaultKind.{TypeFaultKind}
+use Rattle.zf_term.specs.Faults.{Offence, Fault}
 use Rattle.zf_type.specs.Offences.{Offends}
 use Rattle.zf_type.specs.Rules.{Sort, Meets}
 use Rattle.zf_type.specs.Scopes.{Scope}
@@ -13,9 +12,9 @@ use Rattle.zf_schema.specs.Expressions.{IsText, IsSchema}
 use Rattle.zf_schema.specs.SchemaOffences.{OffendsText, OffendsSchema}
 use Rattle.zf_schema.specs.Checking.{Item, Defines, OffendsItem, IsChecked}
 
--- there is an offence: one of some kind, at some line
-abbrev pub SomeOffence : (TypeFaultKind → ℕ → Type 0) → Type 0
-SomeOffence offends = (kind : TypeFaultKind) × (line : ℕ) × offends kind line
+-- there is an offence, at some line
+abbrev pub SomeOffence : (Offence → ℕ → Type 0) → Type 0
+SomeOffence offends = (offence : Offence) × (line : ℕ) × offends offence line
 
 -- a term has a sort that its place takes, or an offence there
 abbrev pub EveryTermIsJudged : Type 0
@@ -35,4 +34,4 @@ EveryItemIsJudged = (g : List Defined) (item : Item) → ((h : List Defined) × 
 
 -- a text defines globals and has faults: none for what is well typed, and one that is an offence for each paragraph or box that is not
 abbrev pub EveryTextHasAVerdict : Type 0
-EveryTextHasAVerdict = (boxes : List BoxTree) → (globals : List Defined) × (faults : List TypeFault) × IsChecked boxes globals faults
+EveryTextHasAVerdict = (boxes : List BoxTree) → (globals : List Defined) × (faults : List Fault) × IsChecked boxes globals faults

@@ -3,7 +3,7 @@ use bumpalo::Bump;
 use std::alloc::Global;
 use std::test::Fail;
 use zf_extent::infinite::direct;
-use zf_finite::{NotFinite, finite};
+use zf_finite::finite;
 use zf_schema::checker::check_spec;
 use zf_term::extent::Infinite;
 use zf_term::globals::Entry;
@@ -66,7 +66,7 @@ fn line_of(alloc: Global, exp: &str) -> Result<u32, Fail> {
     let schema = checked.globals.schema("S").ok_or("no schema")?;
     match finite(schema, &checked.globals) {
         Ok(()) => Ok(0),
-        Err(NotFinite { line }) => Ok(line),
+        Err(cause) => Ok(cause.line()),
     }
 }
 

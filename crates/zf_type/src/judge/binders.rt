@@ -44,7 +44,7 @@ pub(super) fn quantified<'a>(
     arena: &'a Bump,
     need: Need,
     scope: &mut Scope<'a, '_>,
-) -> Result<Judged<'a>, Refusal>
+) -> Result<Judged<'a>, Refusal<'a>>
     requires { IsQuantified term.now }
     ensures judged { Judges (scope_of scope.old) need (tree_of term.now) result }
     ensures scope { scope_of scope.new ≡ scope_of scope.old }
@@ -76,7 +76,7 @@ pub(super) fn builder<'a>(
     arena: &'a Bump,
     need: Need,
     scope: &mut Scope<'a, '_>,
-) -> Result<Judged<'a>, Refusal>
+) -> Result<Judged<'a>, Refusal<'a>>
     requires { IsBuilder term.now }
     ensures judged { Judges (scope_of scope.old) need (tree_of term.now) result }
     ensures scope { scope_of scope.new ≡ scope_of scope.old }
@@ -100,10 +100,10 @@ fn declare<'a>(
     decls: &[VarDecl<'a>],
     arena: &'a Bump,
     scope: &mut Scope<'a, '_>,
-) -> Result<Items<'a, Range<'a>>, Refusal>
+) -> Result<Items<'a, Range<'a>>, Refusal<'a>>
     ensures ok { OnOk result ((vs : List Var) × Binds (scope_of scope.old) (tree.var_decls (map var_decl_of decls.now)) vs × (scope_of scope.new ≡ within (scope_of scope.old) vs)) }
     ensures ranges { IfOk result (λ rs. kept.ranges (map range_of rs) ≡ resolved_ranges (scope_of scope.old) (tree.var_decls (map var_decl_of decls.now))) }
-    ensures wrong { IfErr result (λ e. IfFault e (λ kind line. DeclarationsOffend (scope_of scope.old) (tree.var_decls (map var_decl_of decls.now)) kind line)) }
+    ensures wrong { IfErr result (λ e. IfFault e (λ offence line. DeclarationsOffend (scope_of scope.old) (tree.var_decls (map var_decl_of decls.now)) offence line)) }
     ensures scope { OnErr result (scope_of scope.new ≡ scope_of scope.old) }
 {
     let Declared { variables, ranges } = judge_sets(decls, arena, scope)?;
@@ -117,17 +117,17 @@ fn judge_sets<'a>(
     decls: &[VarDecl<'a>],
     arena: &'a Bump,
     scope: &mut Scope<'a, '_>,
-) -> Result<Declared<'a>, Refusal>
+) -> Result<Declared<'a>, Refusal<'a>>
     ensures ok { IfOk result (λ d. Binds (scope_of scope.old) (tree.var_decls (map var_decl_of decls.now)) (map variable_of d.variables)) }
     ensures ranges { IfOk result (λ d. kept.ranges (map range_of d.ranges) ≡ resolved_ranges (scope_of scope.old) (tree.var_decls (map var_decl_of decls.now))) }
-    ensures wrong { IfErr result (λ e. IfFault e (λ kind line. DeclarationsOffend (scope_of scope.old) (tree.var_decls (map var_decl_of decls.now)) kind line)) }
+    ensures wrong { IfErr result (λ e. IfFault e (λ offence line. DeclarationsOffend (scope_of scope.old) (tree.var_decls (map var_decl_of decls.now)) offence line)) }
     ensures scope { scope_of scope.new ≡ scope_of scope.old }
 {
     let mut variables = Locals::new(scope.locals.allocator());
     let mut ranges = Items::with_room(arena, decls.len())?;
     for decl in decls {
         let Judged { term, sort } = judge_boxed(&decl.set, arena, Need::Set, scope)?;
-        declare_names(decl.names.as_slice(), &sort, &mut variables)?;
+        declare_names(arena, decl.names.as_slice(), &sort, &mut variables)?;
         ranges.push(Range {
             variables: decl.names.len(),
             set: term,
@@ -142,7 +142,7 @@ fn judge_part<'a>(
     arena: &'a Bump,
     need: Need,
     scope: &mut Scope<'a, '_>,
-) -> Result<Option<Judged<'a>>, Refusal>
+) -> Result<Option<Judged<'a>>, Refusal<'a>>
     ensures judged { JudgesPart (scope_of scope.old) need (part_of part.now) result }
     ensures scope { scope_of scope.new ≡ scope_of scope.old }
 {
@@ -161,9 +161,9 @@ fn with_body<'a>(
     place: Place,
     quantifier: Quantifier,
     ranges: Items<'a, Range<'a>>,
-    constraint: Result<Option<Judged<'a>>, Refusal>,
-    body: Result<Judged<'a>, Refusal>,
-) -> Result<Judged<'a>, Refusal>
+    constraint: Result<Option<Judged<'a>>, Refusal<'a>>,
+    body: Result<Judged<'a>, Refusal<'a>>,
+) -> Result<Judged<'a>, Refusal<'a>>
     ensures { (s : spec.Scope) (ds : tree.VarDecls) (vs : List Var) (p : tree.Perhaps) (e : Tree) → Binds s ds vs → kept.ranges (map range_of ranges.entry) ≡ resolved_ranges s ds → JudgesPart (within s vs) needs.Predicate p constraint.entry → Judges (within s vs) needs.Predicate e body.entry → Judges s place.need (tree.quantified place.line quantifier ds p e) result }
 {
     let constraint = constraint?;
@@ -172,6 +172,7 @@ fn with_body<'a>(
     let condition = in_box(arena, constraint)?;
     let predicate = Boxed::new(arena, body.term)?;
     placed(
+        arena,
         place,
         Sort::Predicate,
         Resolved::Quantified(quantifier, place.line, ranges, condition, predicate),
@@ -184,10 +185,10 @@ fn built<'a>(
     arena: &'a Bump,
     place: Place,
     ranges: Items<'a, Range<'a>>,
-    filter: Result<Option<Judged<'a>>, Refusal>,
-    member: Result<Option<Judged<'a>>, Refusal>,
+    filter: Result<Option<Judged<'a>>, Refusal<'a>>,
+    member: Result<Option<Judged<'a>>, Refusal<'a>>,
     row: Result<ZType<'a>, AllocError>,
-) -> Result<Judged<'a>, Refusal>
+) -> Result<Judged<'a>, Refusal<'a>>
     ensures { (s : spec.Scope) (ds : tree.VarDecls) (vs : List Var) (p e : tree.Perhaps) → Binds s ds vs → kept.ranges (map range_of ranges.entry) ≡ resolved_ranges s ds → JudgesPart (within s vs) needs.Predicate p filter.entry → JudgesPart (within s vs) needs.Expression e member.entry → IfOk row.entry (λ t. type_of t ≡ row_type vs) → Judges s place.need (tree.builder place.line ds p e) result }
 {
     let filter = filter?;
@@ -199,6 +200,7 @@ fn built<'a>(
     let condition = in_box(arena, filter)?;
     let term = in_box(arena, member)?;
     made(
+        arena,
         place,
         Sort::Typed(set),
         Resolved::Builder(place.line, ranges, condition, term),

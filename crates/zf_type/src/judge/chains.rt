@@ -1,5 +1,6 @@
 //! Chains of relations.
 ghost use Rattle.std.specs.Prelude.{◌≡◌, IfOk, IfErr, OnOk, map};
+ghost use Rattle.zf_term.specs.Faults as fault;
 ghost use Rattle.zf_tree.specs.Trees as tree;
 ghost use Rattle.zf_tree.specs.Trees.{Tree, link_of, tree_of};
 ghost use Rattle.zf_term.specs.ResolvedTrees as kept;
@@ -14,13 +15,12 @@ ghost use Rattle.zf_type.specs.Scopes.{scope_of};
 ghost use Rattle.zf_type.specs.Typing.{AreLinked, IsOf};
 
 use super::{Judged, Place, judge_boxed, judge_term, placed};
-use crate::fault::{Refusal, refused};
+use crate::fault::{Refusal, mismatched, misplaced};
 use crate::rules::combine;
 use crate::scope::Scope;
 use crate::sort::Sort;
 use bumpalo::Bump;
 use zf_data::arena::{Boxed, Items};
-use zf_term::fault::TypeFaultKind;
 use zf_term::resolved::{Resolved, ResolvedLink};
 use zf_tree::operator::{Need, Rule, relation_rule};
 use zf_tree::tree::{Link, Term};
@@ -40,7 +40,7 @@ pub(super) fn chain<'a>(
     arena: &'a Bump,
     need: Need,
     scope: &mut Scope<'a, '_>,
-) -> Result<Judged<'a>, Refusal>
+) -> Result<Judged<'a>, Refusal<'a>>
     requires { IsChain term.now }
     ensures judged { Judges (scope_of scope.old) need (tree_of term.now) result }
     ensures scope { scope_of scope.new ≡ scope_of scope.old }
@@ -58,6 +58,7 @@ pub(super) fn chain<'a>(
     let first = Boxed::new(arena, term)?;
     let further = Boxed::new(arena, links)?;
     placed(
+        arena,
         Place { need, line },
         Sort::Predicate,
         Resolved::Chain(line, first, further),
@@ -70,17 +71,17 @@ fn judge_links<'a>(
     arena: &'a Bump,
     first: Operand<'a>,
     scope: &mut Scope<'a, '_>,
-) -> Result<Items<'a, ResolvedLink<'a>>, Refusal>
+) -> Result<Items<'a, ResolvedLink<'a>>, Refusal<'a>>
     ensures ok { OnOk result (AreLinked (scope_of scope.old) (sort_of first.entry.sort) (tree.links (map link_of links.now))) }
     ensures resolved { IfOk result (λ ks. kept.links (map resolved_link_of ks) ≡ resolved_links (scope_of scope.old) (tree.links (map link_of links.now))) }
-    ensures wrong { (a : Tree) → IsOf (scope_of scope.old) a (sort_of first.entry.sort) → first.entry.line ≡ tree.line_of a → IfErr result (λ e. IfFault e (λ kind line. LinksOffend (scope_of scope.old) a (tree.links (map link_of links.now)) kind line)) }
+    ensures wrong { (a : Tree) → IsOf (scope_of scope.old) a (sort_of first.entry.sort) → first.entry.line ≡ tree.line_of a → IfErr result (λ e. IfFault e (λ offence line. LinksOffend (scope_of scope.old) a (tree.links (map link_of links.now)) offence line)) }
     ensures scope { scope_of scope.new ≡ scope_of scope.old }
 {
     let mut left = first;
     let mut resolved = Items::with_room(arena, links.len())?;
     for link in links {
         let rule = relation_rule(link.relation);
-        check_left(&left, rule.left_need())?;
+        check_left(arena, &left, rule.left_need())?;
         let Judged { term, sort } = judge_boxed(&link.right, arena, rule.right_need(), scope)?;
         let line = link.right.get().line();
         relate(arena, rule, &left.sort, &sort, line)?;
@@ -94,14 +95,14 @@ fn judge_links<'a>(
 }
 
 /// A place of this need takes the operand.
-fn check_left(left: &Operand<'_>, need: Need) -> Result<(), Refusal>
+fn check_left<'a>(arena: &'a Bump, left: &Operand<'a>, need: Need) -> Result<(), Refusal<'a>>
     ensures ok { OnOk result (Meets need (sort_of left.now.sort)) }
-    ensures wrong { IfErr result (λ e. IfFault e (λ kind line. (Meets need (sort_of left.now.sort) → ⊥) × (kind ≡ rules.lack_of need (sort_of left.now.sort)) × (line ≡ left.now.line))) }
+    ensures wrong { IfErr result (λ e. IfFault e (λ offence line. (Meets need (sort_of left.now.sort) → ⊥) × (offence ≡ fault.misplaced need (sort_of left.now.sort)) × (line ≡ left.now.line))) }
 {
     if left.sort.meets(need) {
         return Ok(());
     }
-    Err(refused(left.sort.lack(need), left.line))
+    Err(misplaced(arena, need, &left.sort, left.line))
 }
 
 /// The rule takes both operands; the line is that of the right one.
@@ -112,12 +113,12 @@ fn relate<'a>(
     left: &Sort<'a>,
     right: &Sort<'a>,
     line: u32,
-) -> Result<(), Refusal>
+) -> Result<(), Refusal<'a>>
     ensures ok { OnOk result ((z : rules.Sort) × Takes rule (sort_of left.now) (sort_of right.now) z) }
-    ensures wrong { IfErr result (λ e. IfFault e (λ kind m. ((z : rules.Sort) → Takes rule (sort_of left.now) (sort_of right.now) z → ⊥) × (kind ≡ TypeFaultKind.Mismatch) × (m ≡ line))) }
+    ensures wrong { IfErr result (λ e. IfFault e (λ offence m. ((z : rules.Sort) → Takes rule (sort_of left.now) (sort_of right.now) z → ⊥) × (offence ≡ fault.mismatch (sort_of left.now) (sort_of right.now)) × (m ≡ line))) }
 {
     match combine(arena, rule, left, right)? {
         Some(_) => Ok(()),
-        None => Err(refused(TypeFaultKind::Mismatch, line)),
+        None => Err(mismatched(arena, left, right, line)),
     }
 }

@@ -17,13 +17,12 @@ ghost use Rattle.zf_type.specs.Typing as typing;
 ghost use Rattle.zf_type.specs.Typing.{AreMembers, Makes, member_sort};
 
 use super::{Judged, Place, judge_term, made};
-use crate::fault::{Refusal, refused};
+use crate::fault::{Offence, Refusal, differing, refused};
 use crate::scope::Scope;
 use crate::sort::Sort;
 use bumpalo::Bump;
 use std::alloc::AllocError;
 use zf_data::arena::{Boxed, Items};
-use zf_term::fault::TypeFaultKind;
 use zf_term::resolved::Resolved;
 use zf_term::ztype::{ZType, product_type, set_type};
 use zf_tree::operator::{Listed, Need};
@@ -45,7 +44,7 @@ pub(super) fn listed<'a>(
     place: Place,
     form: Listed,
     scope: &mut Scope<'a, '_>,
-) -> Result<Judged<'a>, Refusal>
+) -> Result<Judged<'a>, Refusal<'a>>
     ensures judged { Judges (scope_of scope.old) place.need (tree.listed place.line form (trees (map tree_of terms.now))) result }
     ensures scope { scope_of scope.new ≡ scope_of scope.old }
 {
@@ -59,10 +58,10 @@ fn judge_all<'a>(
     arena: &'a Bump,
     form: Listed,
     scope: &mut Scope<'a, '_>,
-) -> Result<Members<'a>, Refusal>
+) -> Result<Members<'a>, Refusal<'a>>
     ensures ok { IfOk result (λ ms. AreMembers form (scope_of scope.old) (trees (map tree_of terms.now)) (tys.types (map type_of ms.types))) }
     ensures resolved { IfOk result (λ ms. kept.terms (map resolved_of ms.resolved) ≡ resolved_all (scope_of scope.old) (trees (map tree_of terms.now))) }
-    ensures wrong { IfErr result (λ e. IfFault e (λ kind line. OneOffends (scope_of scope.old) (typing.member_need form) (trees (map tree_of terms.now)) kind line)) }
+    ensures wrong { IfErr result (λ e. IfFault e (λ offence line. OneOffends (scope_of scope.old) (typing.member_need form) (trees (map tree_of terms.now)) offence line)) }
     ensures scope { scope_of scope.new ≡ scope_of scope.old }
 {
     let mut resolved = Items::with_room(arena, terms.len())?;
@@ -117,13 +116,13 @@ fn with_members<'a>(
     form: Listed,
     terms: &[Boxed<'a, Term<'a>>],
     members: Members<'a>,
-) -> Result<Judged<'a>, Refusal>
+) -> Result<Judged<'a>, Refusal<'a>>
     requires { length terms.now ≡ length members.types }
     ensures { (s : spec.Scope) → AreMembers form s (trees (map tree_of terms.now)) (tys.types (map type_of members.entry.types)) → kept.terms (map resolved_of members.entry.resolved) ≡ resolved_all s (trees (map tree_of terms.now)) → Judges s place.need (tree.listed place.line form (trees (map tree_of terms.now))) result }
 {
     let ztype = made_of(arena, form, place.line, terms, members.types)?;
     let term = Resolved::Listed(place.line, form, Boxed::new(arena, members.resolved)?);
-    made(place, Sort::Typed(ztype), term)
+    made(arena, place, Sort::Typed(ztype), term)
 }
 
 /// The type of what members of these types make.
@@ -134,10 +133,10 @@ fn made_of<'a>(
     line: u32,
     terms: &[Boxed<'a, Term<'a>>],
     types: Items<'a, ZType<'a>>,
-) -> Result<ZType<'a>, Refusal>
+) -> Result<ZType<'a>, Refusal<'a>>
     requires { length terms.now ≡ length types }
     ensures ok { IfOk result (λ t. Makes form (tys.types (map type_of types.entry)) (type_of t)) }
-    ensures wrong { IfErr result (λ e. IfFault e (λ kind m. (form ≡ Listed.Display) × (kind ≡ TypeFaultKind.Mismatch) × DiffersAt line (map tree_of terms.now) (tys.types (map type_of types.entry)) m)) }
+    ensures wrong { IfErr result (λ e. IfFault e (λ offence m. (form ≡ Listed.Display) × DiffersAt line (map tree_of terms.now) (tys.types (map type_of types.entry)) offence m)) }
 {
     match form {
         Listed::Tuple => Ok(product_type(arena, types)?),
@@ -153,17 +152,19 @@ fn set_of<'a>(
     line: u32,
     terms: &[Boxed<'a, Term<'a>>],
     types: &[ZType<'a>],
-) -> Result<ZType<'a>, Refusal>
+) -> Result<ZType<'a>, Refusal<'a>>
     requires { length terms.now ≡ length types.now }
     ensures ok { IfOk result (λ t. Makes Listed.Display (tys.types (map type_of types.now)) (type_of t)) }
-    ensures wrong { IfErr result (λ e. IfFault e (λ kind m. (kind ≡ TypeFaultKind.Mismatch) × DiffersAt line (map tree_of terms.now) (tys.types (map type_of types.now)) m)) }
+    ensures wrong { IfErr result (λ e. IfFault e (λ offence m. DiffersAt line (map tree_of terms.now) (tys.types (map type_of types.now)) offence m)) }
 {
     let Some(first) = types.first() else {
-        return Err(refused(TypeFaultKind::Mismatch, line));
+        return Err(refused(arena, Offence::NoMembers, line));
     };
     for place in 1..types.len() {
-        if !first.same(&types[place]) {
-            return Err(refused(TypeFaultKind::Mismatch, terms[place].get().line()));
+        let other = &types[place];
+        if !first.same(other) {
+            let line = terms[place].get().line();
+            return Err(differing(arena, first, other, line));
         }
     }
     Ok(set_type(arena, first.share()?)?)

@@ -10,12 +10,11 @@ ghost use Rattle.zf_type.specs.Scopes as spec;
 ghost use Rattle.zf_type.specs.Scopes.{scope_of};
 
 use super::{Judged, Place, judge_term, made};
-use crate::fault::{Refusal, refused};
+use crate::fault::{Refusal, mismatched};
 use crate::rules::{apply, combine};
 use crate::scope::Scope;
 use bumpalo::Bump;
 use zf_data::arena::Boxed;
-use zf_term::fault::TypeFaultKind;
 use zf_term::resolved::Resolved;
 use zf_tree::operator::{Operator, Unary};
 use zf_tree::tree::Term;
@@ -28,7 +27,7 @@ pub(super) fn unary<'a>(
     place: Place,
     op: Unary,
     scope: &mut Scope<'a, '_>,
-) -> Result<Judged<'a>, Refusal>
+) -> Result<Judged<'a>, Refusal<'a>>
     ensures judged { Judges (scope_of scope.old) place.need (tree.unary place.line op (tree_of operand.now)) result }
     ensures scope { scope_of scope.new ≡ scope_of scope.old }
 {
@@ -42,7 +41,7 @@ fn with_operand<'a>(
     place: Place,
     op: Unary,
     operand: Judged<'a>,
-) -> Result<Judged<'a>, Refusal>
+) -> Result<Judged<'a>, Refusal<'a>>
     requires { Meets (need_of op) (sort_of operand.sort) }
     ensures { (s : spec.Scope) (e : Tree) → IsJudged s (need_of op) e operand.entry → Judges s place.need (tree.unary place.line op e) result }
 {
@@ -50,7 +49,7 @@ fn with_operand<'a>(
         unreachable!();
     };
     let term = Resolved::Unary(place.line, op, Boxed::new(arena, operand.term)?);
-    made(place, sort, term)
+    made(arena, place, sort, term)
 }
 
 /// What two terms make, which are parts of the whole.
@@ -64,7 +63,7 @@ pub(super) fn binary<'a>(
     left: &Term<'a>,
     right: &Term<'a>,
     scope: &mut Scope<'a, '_>,
-) -> Result<Judged<'a>, Refusal>
+) -> Result<Judged<'a>, Refusal<'a>>
     requires left { size-Term left.now < size-Term _whole.now }
     requires right { size-Term right.now < size-Term _whole.now }
     ensures judged { Judges (scope_of scope.old) place.need (tree.binary place.line op (tree_of left.now) (tree_of right.now)) result }
@@ -84,13 +83,18 @@ fn with_operands<'a>(
     left: Judged<'a>,
     right: Judged<'a>,
     line: u32,
-) -> Result<Judged<'a>, Refusal>
+) -> Result<Judged<'a>, Refusal<'a>>
     ensures { (s : spec.Scope) (a b : Tree) → IsJudged s (left_need (rule_of op)) a left.entry → IsJudged s (right_need (rule_of op)) b right.entry → line ≡ line_of b → Judges s place.need (tree.binary place.line op a b) result }
 {
     let Some(sort) = combine(arena, op.rule(), &left.sort, &right.sort)? else {
-        return Err(refused(TypeFaultKind::Mismatch, line));
+        return Err(mismatched(arena, &left.sort, &right.sort, line));
     };
     let left = Boxed::new(arena, left.term)?;
     let right = Boxed::new(arena, right.term)?;
-    made(place, sort, Resolved::Binary(place.line, op, left, right))
+    made(
+        arena,
+        place,
+        sort,
+        Resolved::Binary(place.line, op, left, right),
+    )
 }

@@ -1,5 +1,5 @@
-use Rattle.zf_calculus.proofs.Prelude.{◌≡◌, ◌≤◌, arith, length, map, rules, comp_of, TypeFaultKind, with_comp}
-use Rattle.zf_term.specs.declared.fault.TypeFaultKind.TheVariants as kinds
+use Rattle.zf_calculus.proofs.Prelude.{◌≡◌, ◌≤◌, arith, length, map, rules, comp_of, Offence, too_large, with_comp}
+use Rattle.zf_term.specs.declared.fault.Limit.TheVariants as limit
 use Rattle.zf_calculus.proofs.Merging.{named_below, joined_known, joined_new, length_known, length_new}
 use Rattle.zf_calculus.proofs.Placing.{placed_known, placed_new}
 use Rattle.zf_calculus.proofs.Stopping.{weaker}
@@ -37,7 +37,7 @@ returns-in_ok-add_new-in-None-clause-room c =
 pub returns-in_err-add_new-in-None-clause-err : goal.returns-in_err-add_new-in-None-clause-err
 returns-in_err-add_new-in-None-clause-err c =
     let l = length_new c.args.component c.as_slice-2.result.now c.as_slice.result.now c.args.components.now c.as_slice-2.ensures c.as_slice.ensures c.in-None.ensures in
-    let step : (k : TypeFaultKind) → (k ≡ kinds.TooLarge) × (64 ≤ length c.args.components.now) → (k ≡ kinds.TooLarge) × (length (with_comp (map comp_of c.args.components.now) (comp_of c.args.component)) ≤ 64 → ⊥) =
+    let step : (k : Offence) → (k ≡ too_large limit.Components) × (64 ≤ length c.args.components.now) → (k ≡ too_large limit.Components) × (length (with_comp (map comp_of c.args.components.now) (comp_of c.args.component)) ≤ 64 → ⊥) =
     λ k h. (h.0, λ w. omega (arith, h.1)) in
     let fact = weaker _ _ _ step c.in_err-add_new-in-None.ensures.err in
     search rules

@@ -9,6 +9,7 @@ returns c =
     let held = with_one_more _ _ _ _ _ after c.with_arg.ensures c.in_ok-arg-2.ensures in
     let limited = with_one_more _ _ _ _ _ held c.limit_arg.ensures c.in_ok-arg-3.ensures in
     let counted = with_one_more _ _ _ _ _ limited c.tests_arg.ensures c.in_ok-arg-4.ensures in
-    let one = with_one_more _ _ _ _ _ counted c.file_arg.ensures c.in_ok-arg-5.ensures in
-    let two = with_one_more _ _ _ _ _ one c.schema_arg.ensures c.in_ok-arg-6.ensures in
+    let detailed = with_one_more _ _ _ _ _ counted c.details_arg.ensures c.in_ok-arg-5.ensures in
+    let one = with_one_more _ _ _ _ _ detailed c.file_arg.ensures c.in_ok-arg-6.ensures in
+    let two = with_one_more _ _ _ _ _ one c.schema_arg.ensures c.in_ok-arg-7.ensures in
     with_one_more _ _ _ _ _ two c.sizes_arg.ensures c.in_ok-command.ensures

@@ -13,7 +13,7 @@ returns-in_err-env-clause-stop c =
 
 pub returns-in_err-check_end-clause-stop : goal.returns-in_err-check_end-clause-stop
 returns-in_err-check_end-clause-stop c =
-    weaker_err _ (λ s. IfAnswered s (TellsInfinite (globals_of c.args.globals.now) (schema_of c.in-Some.schema.now) c.args.file.now)) (AnswersOver (globals_of c.args.globals.now) (request_of c.args.request.now) c.args.file.now)
+    weaker_err _ (λ s. IfAnswered s (TellsInfinite (globals_of c.args.globals.now) (schema_of c.in-Some.schema.now) (request_of c.args.request.now).details c.args.file.now)) (AnswersOver (globals_of c.args.globals.now) (request_of c.args.request.now) c.args.file.now)
     (λ stop told source checks. infinite_answers (request_of c.args.request.now) c.args.file.now source _ _ (has_schema (request_of c.args.request.now) c.args.file.now source _ _ checks c.in-Some.ensures) c.in_ok-env.ensures.complete stop told) (search rules)
 
 pub returns-clause-asked : goal.returns-clause-asked

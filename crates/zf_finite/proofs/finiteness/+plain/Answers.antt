@@ -1,4 +1,4 @@
-use Rattle.zf_finite.proofs.FirstOffences.{plain_step}
+use Rattle.zf_finite.proofs.FirstCauses.{plain_step}
 use Rattle.zf_finite.proofs.finiteness.+plain.Goals as goal
 
 pub all_plain_after-loop-domain-preserved : goal.all_plain_after-loop-domain-preserved

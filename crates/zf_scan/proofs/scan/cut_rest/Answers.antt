@@ -3,7 +3,7 @@ use Rattle.zf_scan.proofs.BoxParts.{none_further, one_further, all_further}
 use Rattle.zf_scan.proofs.scan.cut_rest.Goals as goal
 
 pub loop-border-init : goal.loop-border-init
-loop-border-init c = λ tokens up. none_further c.args.source.now c.args.border tokens up
+loop-border-init c = λ tokens up. none_further c.args.source.now c.args.border.now tokens up
 
 pub next_box-requires : goal.next_box-requires
 next_box-requires c = let h = c.loop-border.invariant c.requires.0 c.requires.1 in (c.requires.0 ++ h.0, h.2)

@@ -1,5 +1,6 @@
-use Rattle.zf_schema.proofs.Prelude.{ap, subst, sym, globals_of, schema_of, TypeFaultKind, MarkAgrees, marked, IsNext, Stops, OffendsRef}
-use Rattle.zf_schema.proofs.Referring.{refers, cant_refer, refused_by}
+use Rattle.zf_schema.proofs.Prelude.{ap, refl, subst, sym, told, globals_of, schema_of, Offence, offence_of, MarkAgrees, MarkClashes, marked, IsNext, Stops, OffendsRef}
+use Rattle.zf_schema.proofs.Referring.{refers, cant_refer, lacks}
+use Rattle.zf_schema.proofs.Stopping.{refused_by}
 use Rattle.zf_schema.proofs.reference.referred.Goals as goal
 
 pub returns-in_ok-decorate_own-in-Ok-marked-clause-ok : goal.returns-in_ok-decorate_own-in-Ok-marked-clause-ok
@@ -8,7 +9,7 @@ returns-in_ok-decorate_own-in-Ok-marked-clause-ok c =
     let a = schema_of c.in-Ok.flat.now in
     let m = schema_of c.in-Ok-marked.growing.flat in
     let next = subst (λ l. IsNext (marked r.mark l a) m) (ap (λ n. n.line) c.name.view_is) c.in-Ok-marked.ensures.ok in
-    refers (globals_of c.args.globals.now) r c.base.result.now c.strokes.result.now a m (schema_of c.in_ok-decorate_own-in-Ok-marked.field-0.flat) c.in-Ok.ensures.ok c.base.ensures c.strokes.ensures c.in-Ok-marked.ensures.agree next c.in_ok-decorate_own-in-Ok-marked.ensures.ok
+    refers (globals_of c.args.globals.now) r r.name.base c.strokes.result.now a m (schema_of c.in_ok-decorate_own-in-Ok-marked.field-0.flat) c.in-Ok.ensures.ok refl c.strokes.ensures c.in-Ok-marked.ensures.agree next c.in_ok-decorate_own-in-Ok-marked.ensures.ok
 
 pub returns-in-Err-marked-clause-fault : goal.returns-in-Err-marked-clause-fault
 returns-in-Err-marked-clause-fault c =
@@ -16,5 +17,12 @@ returns-in-Err-marked-clause-fault c =
     let r = c.args.reference.now in
     let a = schema_of c.in-Ok.flat.now in
     let line = c.name.inside.line in
-    let offends = subst (λ l. (k : TypeFaultKind) → Stops (MarkAgrees r.mark a) (marked r.mark l a) k → OffendsRef g r k l) (ap (λ n. n.line) (sym c.name.view_is)) (cant_refer g r c.base.result.now a c.in-Ok.ensures.ok c.base.ensures) in
-    rw c.refusal.ensures (refused_by c.in-Err-marked.stop line (Stops (MarkAgrees r.mark a) (marked r.mark line a)) (OffendsRef g r) offends c.in-Err-marked.ensures.err)
+    let offends = subst (λ l. (k : Offence) → Stops (MarkClashes r.mark a) (MarkAgrees r.mark a) (marked r.mark l a) k → OffendsRef g r k l) (ap (λ n. n.line) (sym c.name.view_is)) (cant_refer g r r.name.base a c.in-Ok.ensures.ok refl) in
+    refused_by c.in-Err-marked.stop line c.refusal.result (Stops (MarkClashes r.mark a) (MarkAgrees r.mark a) (marked r.mark line a)) (OffendsRef g r) offends c.refusal.ensures c.in-Err-marked.ensures.err
+
+pub returns-in-Err-clause-fault : goal.returns-in-Err-clause-fault
+returns-in-Err-clause-fault c =
+    let g = globals_of c.args.globals.now in
+    let r = c.args.reference.now in
+    let k = offence_of c.in-Err.offence in
+    told c.refused.result k c.name.inside.line (OffendsRef g r) c.refused.ensures (subst (OffendsRef g r k) (ap (λ n. n.line) (sym c.name.view_is)) (lacks g r k c.in-Err.ensures.err))

@@ -1,5 +1,5 @@
-use Rattle.zf_schema.proofs.Prelude.{ap, subst, sym, include, globals_of, schema_of, TypeFaultKind, Agree, conjoined, Stops, CantDeclare}
-use Rattle.zf_schema.proofs.Referring.{refused_by}
+use Rattle.zf_schema.proofs.Prelude.{ap, subst, sym, include, globals_of, schema_of, Offence, Agree, conjoined, OneClashes, Stops, CantDeclare}
+use Rattle.zf_schema.proofs.Stopping.{refused_by}
 use Rattle.zf_schema.proofs.Texts.{cant_include}
 use Rattle.zf_schema.proofs.text.include.Goals as goal
 
@@ -9,9 +9,9 @@ returns-in-Err-clause-wrong c =
     let a = schema_of c.args.growing.now.flat in
     let b = schema_of c.in_ok-other.other.flat in
     let r = c.args.reference.now in
-    let stops = Stops (Agree a.comps b.comps) (conjoined a b) in
-    let offends = subst (λ l. (k : TypeFaultKind) → stops k → CantDeclare g a (include r) k l) (ap (λ m. m.name.line) (sym c.reference.view_is)) (cant_include g a r b c.in_ok-other.ensures.ok) in
-    rw c.refusal.ensures (refused_by c.in-Err.stop _ stops (CantDeclare g a (include r)) offends c.in-Err.ensures.err)
+    let stops = Stops (OneClashes a.comps b.comps) (Agree a.comps b.comps) (conjoined a b) in
+    let offends = subst (λ l. (k : Offence) → stops k → CantDeclare g a (include r) k l) (ap (λ m. m.name.line) (sym c.reference.view_is)) (cant_include g a r b c.in_ok-other.ensures.ok) in
+    refused_by c.in-Err.stop _ c.refusal.result stops (CantDeclare g a (include r)) offends c.refusal.ensures c.in-Err.ensures.err
 
 pub returns-in-Ok-clause-ok : goal.returns-in-Ok-clause-ok
 returns-in-Ok-clause-ok c = (schema_of c.in_ok-other.other.flat, c.in_ok-other.ensures.ok, c.in-Ok.ensures.ok)

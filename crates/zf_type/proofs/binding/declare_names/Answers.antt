@@ -1,5 +1,6 @@
-use Rattle.zf_type.proofs.Prelude.{◌++◌, ◌+◌, ◌∙◌, ◌∷◌, ◌≡◌, [], ap, append-nil, arith, drop, inl, inr, List, map, refl, subst, sym, true≢false, drop_all, map-append, spelling, Name, dropped, pushed, type_of, LocalTwice, AreNew, AreRepeated, IsBound, IfFault, variable_of, variables}
+use Rattle.zf_type.proofs.Prelude.{◌++◌, ◌+◌, ◌∙◌, ◌∷◌, ◌≡◌, [], ap, append-nil, arith, drop, inl, inr, List, map, refl, subst, sym, true≢false, drop_all, map-append, spelling, Name, dropped, pushed, type_of, local_twice, AreNew, AreRepeated, IsBound, variable_of, variables}
 use Rattle.zf_type.proofs.Bound.{one_new, one_repeated}
+use Rattle.zf_type.proofs.Judging.{told}
 use Rattle.zf_type.proofs.binding.declare_names.Goals as goal
 
 pub loop-name-preserved : goal.loop-name-preserved
@@ -45,5 +46,6 @@ returns-then-is_bound-clause-repeated c =
     let named : v.name ≡ spelling n = ap (λ w. w.name) c.in_ok-variable.ensures in
     let found : IsBound v.name old = subst (λ x. IsBound x old) c.as_slice.ensures (c.is_bound.ensures.0 c.if-is_bound.true) in
     let bound : IsBound (spelling n) old = subst (λ x. IsBound x old) named found in
-    subst (λ r. IfFault r (λ k m. (ns : List Name) → AreRepeated (map variable_of c.args.variables.now) (c.args.names.now ++ ns) k m)) (sym c.refused.ensures)
-    (λ ns. c.loop-name.invariant.repeated ns LocalTwice c.name.inside.line (subst (λ xs. AreRepeated old (xs ++ ns) LocalTwice c.name.inside.line) (sym ahead) (inl (bound, refl, ap (λ m. m.line) c.name.view_is))))
+    let o = local_twice c.spelled.result in
+    told c.refused.result o c.name.inside.line (λ k m. (ns : List Name) → AreRepeated (map variable_of c.args.variables.now) (c.args.names.now ++ ns) k m) c.refused.ensures
+    (λ ns. c.loop-name.invariant.repeated ns o c.name.inside.line (subst (λ xs. AreRepeated old (xs ++ ns) o c.name.inside.line) (sym ahead) (inl (bound, ap local_twice c.spelled.ensures, ap (λ m. m.line) c.name.view_is))))

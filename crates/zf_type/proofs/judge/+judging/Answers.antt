@@ -1,4 +1,4 @@
-use Rattle.zf_type.proofs.Prelude.{◌++◌, ◌+◌, ◌∙◌, ◌∷◌, ◌≡◌, [], ap, append-nil, arith, drop, Err, inl, inr, length, List, map, None, Ok, refl, Some, subst, sym, ℕ, ⊎_elim, left_need, need_of, relation_rule, right_need, rule_of, part_of, tree_of, trees, Name, at_end, at_step, pushed, range_of, resolved_link_of, resolved_of, no_types, type_of, types, TypeFaultKind, Mismatch, AreNew, AreRepeated, DeclarationsOffend, Judges, JudgesPart, LinksOffend, Offends, OneOffends, SetsOffend, IfFault, resolved, resolved_all, resolved_links, resolved_ranges, lack_of, Meets, predicate, Sort, sort_of, Takes, variable_of, within, scope_of, AreLinked, AreMembers, Declare, declared, IsOf, member_need, variables}
+use Rattle.zf_type.proofs.Prelude.{◌++◌, ◌+◌, ◌∙◌, ◌∷◌, ◌≡◌, [], ap, append-nil, arith, drop, Err, inl, inr, length, List, map, None, Ok, refl, Some, subst, sym, ℕ, ⊎_elim, left_need, need_of, relation_rule, right_need, rule_of, part_of, tree_of, trees, Name, at_end, at_step, pushed, range_of, resolved_link_of, resolved_of, no_types, type_of, types, mismatch, Offence, AreNew, AreRepeated, DeclarationsOffend, Judges, JudgesPart, LinksOffend, Offends, OneOffends, SetsOffend, IfFault, resolved, resolved_all, resolved_links, resolved_ranges, Meets, predicate, Sort, sort_of, Takes, variable_of, within, scope_of, AreLinked, AreMembers, Declare, declared, IsOf, member_need, variables}
 use Rattle.std.proofs.lemmas.List.{length-map, append_assoc}
 use Rattle.zf_tree.specs.Trees as tree
 use Rattle.zf_tree.proofs.TermSeen as seen
@@ -6,6 +6,7 @@ use Rattle.zf_term.proofs.Ahead.{decl_ahead, link_ahead}
 use Rattle.zf_tree.specs.declared.operator.Need.TheVariants as need
 use Rattle.zf_term.specs.ResolvedTrees as kept
 use Rattle.zf_term.proofs.ResolvedSeen as kept_seen
+use Rattle.zf_term.specs.Faults as fault
 use Rattle.zf_type.proofs.Members.{lengths}
 use Rattle.zf_type.proofs.Bound.{all_apart, some_repeated}
 use Rattle.zf_type.proofs.Parts.{no_part, part_judged, part_from, row_here}
@@ -187,9 +188,9 @@ lists::judge_all-returns-in_err-term-clause-wrong t c =
     let r = c.member-item.result in
     let e = tree_of r in
     let x = c.in_err-term.field-0.0 in
-    let P : TypeFaultKind → ℕ → Type 0 = λ k m. OneOffends s n (trees (map tree_of all)) k m in
+    let P : Offence → ℕ → Type 0 = λ k m. OneOffends s n (trees (map tree_of all)) k m in
     let judged = judged_as s _ n _ r _ (Err x) c.loop-member.invariant.same c.member_need.ensures c.get.ensures c.in_err-term.ensures.judged in
-    let step : (k : TypeFaultKind) (m : ℕ) → Offends s n e k m → P k m =
+    let step : (k : Offence) (m : ℕ) → Offends s n e k m → P k m =
     λ k m o. c.loop-member.invariant.offends k m (at_step (λ rs. OneOffends s n (trees (map tree_of rs)) k m) all c.loop-member.member-index r c.member-item.is (omega arith) (inl o)) in
     fault_from x P c.from_residual-in_err-term.result (if_fault x (λ k m. Offends s n e k m) P step (fault_of s n e x judged)) c.from_residual-in_err-term.ensures.0 c.from_residual-in_err-term.ensures.1
 
@@ -260,10 +261,10 @@ chains::judge_links-returns-in_err-term-clause-wrong t c = λ a h l.
     let n = right_need (relation_rule k.relation) in
     let e = tree_of k.right in
     let x = c.in_err-term.field-0.0 in
-    let P : TypeFaultKind → ℕ → Type 0 = λ f m. LinksOffend s a (tree.links (map tree.link_of all)) f m in
+    let P : Offence → ℕ → Type 0 = λ f m. LinksOffend s a (tree.links (map tree.link_of all)) f m in
     let b = c.loop-link.invariant.offends a h l in
     let judged = judged_as s _ n _ k.right _ (Err x) c.loop-link.invariant.same (c.right_need.ensures ∙ ap right_need c.relation_rule-rule.ensures) refl c.in_err-term.ensures.judged in
-    let step : (f : TypeFaultKind) (m : ℕ) → Offends s n e f m → P f m =
+    let step : (f : Offence) (m : ℕ) → Offends s n e f m → P f m =
     λ f m o. b.3 f m (link_ahead (λ q. LinksOffend s b.0 q f m) all c.loop-link.link-index k c.link-item.is (omega arith) (inr (inl o))) in
     fault_from x P c.from_residual-in_err-term.result (if_fault x (λ f m. Offends s n e f m) P step (fault_of s n e x judged)) c.from_residual-in_err-term.ensures.0 c.from_residual-in_err-term.ensures.1
 
@@ -275,13 +276,13 @@ chains::judge_links-returns-in_err-check_left-clause-wrong t c = λ a h l.
     let n = left_need (relation_rule k.relation) in
     let z = sort_of c.loop-link.left.sort in
     let x = c.in_err-check_left.field-0.0 in
-    let P : TypeFaultKind → ℕ → Type 0 = λ f m. LinksOffend s a (tree.links (map tree.link_of all)) f m in
+    let P : Offence → ℕ → Type 0 = λ f m. LinksOffend s a (tree.links (map tree.link_of all)) f m in
     let b = c.loop-link.invariant.offends a h l in
     let is : c.left_need.result ≡ n = c.left_need.ensures ∙ ap left_need c.relation_rule-rule.ensures in
-    let Q : TypeFaultKind → ℕ → Type 0 = λ f m. (Meets c.left_need.result z → ⊥) × (f ≡ lack_of c.left_need.result z) × (m ≡ c.loop-link.left.line) in
-    let step : (f : TypeFaultKind) (m : ℕ) → Q f m → P f m =
+    let Q : Offence → ℕ → Type 0 = λ f m. (Meets c.left_need.result z → ⊥) × (f ≡ fault.misplaced c.left_need.result z) × (m ≡ c.loop-link.left.line) in
+    let step : (f : Offence) (m : ℕ) → Q f m → P f m =
     λ f m o. b.3 f m (link_ahead (λ q. LinksOffend s b.0 q f m) all c.loop-link.link-index k c.link-item.is (omega arith)
-    (inl (z, b.1, (λ meets. o.0 (subst (λ q. Meets q z) (sym is) meets)), o.1 ∙ ap (λ q. lack_of q z) is, o.2 ∙ b.2))) in
+    (inl (z, b.1, (λ meets. o.0 (subst (λ q. Meets q z) (sym is) meets)), o.1 ∙ ap (λ q. fault.misplaced q z) is, o.2 ∙ b.2))) in
     fault_from x P c.from_residual-in_err-check_left.result (if_fault x Q P step c.in_err-check_left.ensures.wrong) c.from_residual-in_err-check_left.ensures.0 c.from_residual-in_err-check_left.ensures.1
 
 pub chains::judge_links-returns-in_err-relate-clause-wrong : goal.chains::judge_links-returns-in_err-relate-clause-wrong
@@ -295,13 +296,13 @@ chains::judge_links-returns-in_err-relate-clause-wrong t c = λ a h l.
     let y = sort_of c.loop-link.left.sort in
     let z = sort_of j.sort in
     let x = c.in_err-relate.field-0.0 in
-    let P : TypeFaultKind → ℕ → Type 0 = λ f m. LinksOffend s a (tree.links (map tree.link_of all)) f m in
+    let P : Offence → ℕ → Type 0 = λ f m. LinksOffend s a (tree.links (map tree.link_of all)) f m in
     let b = c.loop-link.invariant.offends a h l in
     let judged = judged_of s (right_need rule) e j (judged_as s _ (right_need rule) _ k.right _ (Ok j) c.loop-link.invariant.same (c.right_need.ensures ∙ ap right_need c.relation_rule-rule.ensures) refl c.in_ok-term.ensures.judged) in
     let meets : Meets (left_need rule) y = subst (λ n. Meets n y) (c.left_need.ensures ∙ ap left_need c.relation_rule-rule.ensures) c.in_ok-check_left.ensures.ok in
     let line : c.line-line.result ≡ tree.line_of e = c.line-line.ensures ∙ ap (λ y. tree.line_of (tree_of y)) c.get.ensures in
-    let Q : TypeFaultKind → ℕ → Type 0 = λ f m. ((q : Sort) → Takes c.relation_rule-rule.result y z q → ⊥) × (f ≡ Mismatch) × (m ≡ c.line-line.result) in
-    let step : (f : TypeFaultKind) (m : ℕ) → Q f m → P f m =
+    let Q : Offence → ℕ → Type 0 = λ f m. ((q : Sort) → Takes c.relation_rule-rule.result y z q → ⊥) × (f ≡ mismatch y z) × (m ≡ c.line-line.result) in
+    let step : (f : Offence) (m : ℕ) → Q f m → P f m =
     λ f m o. b.3 f m (link_ahead (λ q. LinksOffend s b.0 q f m) all c.loop-link.link-index k c.link-item.is (omega arith)
     (inr (inr (inl (y, z, b.1, judged.is_of, meets, judged.met, (λ q takes. o.0 q (subst (λ r. Takes r y z q) (sym c.relation_rule-rule.ensures) takes)), o.1, o.2 ∙ line))))) in
     fault_from x P c.from_residual-in_err-relate.result (if_fault x Q P step c.in_err-relate.ensures.wrong) c.from_residual-in_err-relate.ensures.0 c.from_residual-in_err-relate.ensures.1
@@ -466,9 +467,9 @@ binders::judge_sets-returns-in_err-term-clause-wrong t c =
     let d = c.decl-item.result in
     let e = tree_of d.set in
     let x = c.in_err-term.field-0.0 in
-    let P : TypeFaultKind → ℕ → Type 0 = λ k m. DeclarationsOffend s (tree.var_decls (map tree.var_decl_of all)) k m in
+    let P : Offence → ℕ → Type 0 = λ k m. DeclarationsOffend s (tree.var_decls (map tree.var_decl_of all)) k m in
     let judged = judged_as s _ need.Set need.Set d.set _ (Err x) c.loop-decl.invariant.same refl refl c.in_err-term.ensures.judged in
-    let step : (k : TypeFaultKind) (m : ℕ) → Offends s need.Set e k m → P k m =
+    let step : (k : Offence) (m : ℕ) → Offends s need.Set e k m → P k m =
     λ k m o. inr (c.loop-decl.invariant.offends k m (decl_ahead (λ ds. SetsOffend s ds k m) all c.loop-decl.decl-index d c.decl-item.is (omega arith) (inl o))) in
     fault_from x P c.from_residual-in_err-term.result (if_fault x (λ k m. Offends s need.Set e k m) P step (fault_of s need.Set e x judged)) c.from_residual-in_err-term.ensures.0 c.from_residual-in_err-term.ensures.1
 
@@ -481,9 +482,9 @@ binders::judge_sets-returns-in_err-declare_names-clause-wrong t c =
     let x = c.in_err-declare_names.field-0.0 in
     let old = map variable_of c.loop-decl.variables in
     let rest = declared (tree.var_decls (map tree.var_decl_of (drop (i + 1) all))) in
-    let P : TypeFaultKind → ℕ → Type 0 = λ k m. DeclarationsOffend s (tree.var_decls (map tree.var_decl_of all)) k m in
-    let Q : TypeFaultKind → ℕ → Type 0 = λ k m. (ns : List Name) → AreRepeated old (c.as_slice.result.now ++ ns) k m in
-    let step : (k : TypeFaultKind) (m : ℕ) → Q k m → P k m =
+    let P : Offence → ℕ → Type 0 = λ k m. DeclarationsOffend s (tree.var_decls (map tree.var_decl_of all)) k m in
+    let Q : Offence → ℕ → Type 0 = λ k m. (ns : List Name) → AreRepeated old (c.as_slice.result.now ++ ns) k m in
+    let step : (k : Offence) (m : ℕ) → Q k m → P k m =
     λ k m o. inl (some_repeated (declared (tree.var_decls (map tree.var_decl_of all))) k m (c.loop-decl.invariant.repeated k m (decl_ahead (λ ds. AreRepeated old (declared ds) k m) all i d c.decl-item.is (omega arith)
     (subst (λ ns. AreRepeated old (ns ++ rest) k m) c.as_slice.ensures (o rest))))) in
     fault_from x P c.from_residual-in_err-declare_names.result (if_fault x Q P step c.in_err-declare_names.ensures.repeated) c.from_residual-in_err-declare_names.ensures.0 c.from_residual-in_err-declare_names.ensures.1

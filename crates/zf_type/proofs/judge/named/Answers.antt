@@ -1,6 +1,6 @@
-use Rattle.zf_type.proofs.Prelude.{◌∙◌, ◌≡◌, ap, Err, inl, None, refl, Some, subst, sym, spelling, named, reference, NotDeclared, Judges, referent, sort_of, meaning, meant, scope_of, Fault}
+use Rattle.zf_type.proofs.Prelude.{◌∙◌, ◌≡◌, ap, inl, None, Some, sym, spelling, named, reference, not_declared, Offends, referent, sort_of, meaning, meant, scope_of}
 use Rattle.zf_term.proofs.ResolvedSeen as seen
-use Rattle.zf_type.proofs.Judging.{judges_err, from_memory}
+use Rattle.zf_type.proofs.Judging.{judges_err, from_memory, told}
 use Rattle.zf_type.proofs.judge.named.Goals as goal
 
 pub returns-in_err-reference : goal.returns-in_err-reference
@@ -9,8 +9,10 @@ returns-in_err-reference c = from_memory (scope_of c.args.scope.now) c.args.need
 pub returns-in_default : goal.returns-in_default
 returns-in_default c =
     let found : None ≡ meaning (scope_of c.args.scope.now) (spelling c.args.name.now) = sym (ap meant c.in_default.is) ∙ c.in_ok-reference.ensures in
-    subst (λ r. Judges (scope_of c.args.scope.now) c.args.need (named c.args.name.now) (Err r)) (sym c.refused.ensures)
-    (judges_err (scope_of c.args.scope.now) c.args.need (named c.args.name.now) (Fault (record { kind = NotDeclared; line = c.name.inside.line })) (inl (sym found, refl, ap (λ n. n.line) c.name.view_is)))
+    let s = scope_of c.args.scope.now in
+    let e = named c.args.name.now in
+    judges_err s c.args.need e c.refused.result
+    (told c.refused.result (not_declared c.spelled.result) c.name.inside.line (Offends s c.args.need e) c.refused.ensures (inl (sym found, ap not_declared c.spelled.ensures, ap (λ n. n.line) c.name.view_is)))
 
 pub returns : goal.returns
 returns c =

@@ -1,15 +1,16 @@
 use Rattle.zf_calculus.proofs.Prelude.{◌∙◌, ap, List, refl, subst, sym, Comp, comp_of, schema_of, grown, HasLeft}
+use Rattle.zf_term.specs.declared.fault.Limit.TheVariants as limit
 use Rattle.zf_calculus.specs.Calculus as calculus
 use Rattle.zf_calculus.proofs.Monotony.{left_grown, sets_passed, nodes_passed}
 use Rattle.zf_calculus.proofs.growing.Growing.grow.Goals as goal
 
 pub returns-in_default-clause-err : goal.returns-in_default-clause-err
 returns-in_default-clause-err c =
-    (refl, sets_passed (schema_of c.args.self.now.flat) (comp_of c.args.component) c.args.self.now.sets_left c.args.self.now.nodes_left c.requires (rw (c.as_slice.ensures ∙ c.get.ensures) at c.in_default.ensures))
+    (limit.Sets, refl, sets_passed (schema_of c.args.self.now.flat) (comp_of c.args.component) c.args.self.now.sets_left c.args.self.now.nodes_left c.requires (rw (c.as_slice.ensures ∙ c.get.ensures) at c.in_default.ensures))
 
 pub returns-in_default-after_nodes-clause-err : goal.returns-in_default-after_nodes-clause-err
 returns-in_default-after_nodes-clause-err c =
-    (refl, nodes_passed (schema_of c.args.self.now.flat) (comp_of c.args.component) c.args.self.now.sets_left c.args.self.now.nodes_left c.requires (rw (c.as_slice-2.ensures ∙ c.get-2.ensures) at c.in_default-after_nodes.ensures))
+    (limit.Nodes, refl, nodes_passed (schema_of c.args.self.now.flat) (comp_of c.args.component) c.args.self.now.sets_left c.args.self.now.nodes_left c.requires (rw (c.as_slice-2.ensures ∙ c.get-2.ensures) at c.in_default-after_nodes.ensures))
 
 pub returns-clause-growing : goal.returns-clause-growing
 returns-clause-growing c =

@@ -7,13 +7,13 @@ pub returns-clause-ok : goal.returns-clause-ok
 returns-clause-ok c =
     let at = same_places (map comp_of c.join_all.new.components) c.in_ok-places.places c.in_ok-places-2.places (map comp_of c.args.other.flat.components) c.in_ok-places-2.ensures c.in_ok-places.ensures.places in
     let made = both_made (schema_of c.args.self.now.flat) (schema_of c.args.other.flat) (map comp_of c.join_all.new.components) (map conjunct_of c.take_moved.new.conjuncts) c.in_ok-places-2.places c.in_ok-places.ensures.ok at c.in_ok-take_moved.ensures in
-    (made, (c.in-Some.ensures c.in_ok-places.ensures.room).within)
+    (made, (c.in-Ok.ensures.ok c.in_ok-places.ensures.room).within)
 
 pub returns-clause-growing : goal.returns-clause-growing
 returns-clause-growing c =
     let at = same_places (map comp_of c.join_all.new.components) c.in_ok-places.places c.in_ok-places-2.places (map comp_of c.args.other.flat.components) c.in_ok-places-2.ensures c.in_ok-places.ensures.places in
     let made = both_made (schema_of c.args.self.now.flat) (schema_of c.args.other.flat) (map comp_of c.join_all.new.components) (map conjunct_of c.take_moved.new.conjuncts) c.in_ok-places-2.places c.in_ok-places.ensures.ok at c.in_ok-take_moved.ensures in
-    subst (λ (a : Schema). HasLeft a c.in-Some.left.0 c.in-Some.left.1) (sym made) (c.in-Some.ensures c.in_ok-places.ensures.room)
+    subst (λ (a : Schema). HasLeft a c.in-Ok.left.0 c.in-Ok.left.1) (sym made) (c.in-Ok.ensures.ok c.in_ok-places.ensures.room)
 
 pub returns-clause-places : goal.returns-clause-places
 returns-clause-places c =

@@ -1,20 +1,25 @@
-use Rattle.zf_type.proofs.Prelude.{◌∙◌, ◌≡◌, ap, arith, map, refl, subst, sym, true≢false, line_of, tree_of, power, type_of, types, Mismatch, DiffersAt, IfFault}
+use Rattle.zf_type.proofs.Prelude.{◌∙◌, ◌≡◌, ap, arith, map, sym, subst, true≢false, line_of, tree_of, power, type_of, types, mismatch, no_members, Offence, DiffersAt, typed, ℕ}
+use Rattle.zf_type.proofs.Judging.{told}
 use Rattle.zf_type.proofs.Members.{none_first, differs_at, first_among, all_same}
 use Rattle.zf_type.proofs.judge.lists.set_of.Goals as goal
 
 pub returns-in_default : goal.returns-in_default
-returns-in_default c = record {
-  ok = tt;
-  wrong = subst (λ r. IfFault r (λ k m. (k ≡ Mismatch) × DiffersAt c.args.line (map tree_of c.args.terms.now) (types (map type_of c.args.types.now)) m)) (sym c.refused.ensures) (refl, none_first c.args.types.now c.args.terms.now c.args.line c.in_default.ensures.value c.requires);
-}
+returns-in_default c =
+    let P : Offence → ℕ → Type 0 = λ o m. DiffersAt c.args.line (map tree_of c.args.terms.now) (types (map type_of c.args.types.now)) o m in
+    record {
+      ok = tt;
+      wrong = told c.refused.result no_members c.args.line P c.refused.ensures (none_first c.args.types.now c.args.terms.now c.args.line c.in_default.ensures.value c.requires);
+    }
 
 pub returns-then-not-same : goal.returns-then-not-same
 returns-then-not-same c =
+    let P : Offence → ℕ → Type 0 = λ o m. DiffersAt c.args.line (map tree_of c.args.terms.now) (types (map type_of c.args.types.now)) o m in
+    let o = mismatch (typed (type_of c.in-Some.first.now)) (typed (type_of c.index-types-place.result)) in
     let other : type_of c.in-Some.first.now ≡ type_of c.index-types-place.result → ⊥ = λ e. true≢false (sym (c.same.ensures.1 e) ∙ c.if-not-same.true) in
     let at = differs_at c.args.types.now c.args.terms.now c.in-Some.first.now c.args.line c.loop-place.place c.index-types-place.result c.index-terms-place.result c.in-Some.ensures.value (omega (arith, c.loop-place.auto.place)) (omega arith) c.requires c.index-types-place.is c.index-terms-place.is other in
     record {
       ok = tt;
-      wrong = subst (λ r. IfFault r (λ k m. (k ≡ Mismatch) × DiffersAt c.args.line (map tree_of c.args.terms.now) (types (map type_of c.args.types.now)) m)) (sym c.refused-then-not-same.ensures) (refl, subst (λ m. DiffersAt c.args.line (map tree_of c.args.terms.now) (types (map type_of c.args.types.now)) m) (ap (λ t. line_of (tree_of t)) (sym c.get.ensures) ∙ sym c.line.ensures) at);
+      wrong = told c.differing.result o c.line-line.result P c.differing.ensures (subst (λ m. P o m) (ap (λ t. line_of (tree_of t)) (sym c.get.ensures) ∙ sym c.line-line.ensures) at);
     }
 
 pub returns : goal.returns

@@ -1,4 +1,4 @@
-use Rattle.zf_type.proofs.Prelude.{◌∙◌, ◌≡◌, ap, inl, inr, map, refl, ℕ, tree_of, trees, Display, type_of, types, TypeFaultKind, Mismatch, DiffersAt, Offends}
+use Rattle.zf_type.proofs.Prelude.{◌∙◌, ◌≡◌, ap, inl, inr, map, refl, ℕ, tree_of, trees, Display, type_of, types, Offence, DiffersAt, Offends}
 use Rattle.zf_tree.specs.Trees as tree
 use Rattle.zf_term.specs.ResolvedTrees.{resolved_of, listed, terms}
 use Rattle.zf_term.proofs.ResolvedSeen as seen
@@ -15,7 +15,7 @@ returns-in_err-ztype c = λ s h kept.
     let us = types (map type_of c.args.members.types) in
     let x = c.in_err-ztype.field-0.0 in
     let whole = tree.listed l form (trees es) in
-    let P : TypeFaultKind → ℕ → Type 0 = λ k m. (form ≡ Display) × (k ≡ Mismatch) × DiffersAt l es us m in
+    let P : Offence → ℕ → Type 0 = λ k m. (form ≡ Display) × DiffersAt l es us k m in
     from_fault s n whole x c.from_residual.result
     (if_fault x P (λ k m. Offends s n whole k m) (λ k m d. inr (inl (list_differs form s l es us k m h d))) c.in_err-ztype.ensures.wrong)
     c.from_residual.ensures.0 c.from_residual.ensures.1

@@ -1,8 +1,8 @@
-use Rattle.zf_type.proofs.Prelude.{◌∙◌, ap, Err, inl, inr, refl, subst, sym, rule_of, Mismatch, Judges, resolved, sort_of, IsMade, Fault}
+use Rattle.zf_type.proofs.Prelude.{◌∙◌, ap, inl, inr, refl, subst, rule_of, mismatch, Offends, resolved, sort_of, IsMade}
 use Rattle.zf_tree.specs.Trees as tree
 use Rattle.zf_term.specs.ResolvedTrees.{resolved_of, binary}
 use Rattle.zf_term.proofs.ResolvedSeen as seen
-use Rattle.zf_type.proofs.Judging.{judges_err, from_memory, takes_both, takes_not}
+use Rattle.zf_type.proofs.Judging.{judges_err, from_memory, takes_both, takes_not, told}
 use Rattle.zf_type.proofs.judge.operands.with_operands.Goals as goal
 
 pub returns-in_err-sort : goal.returns-in_err-sort
@@ -15,8 +15,8 @@ returns-in_default c = λ s a b g h line.
     let y = sort_of c.args.right.sort in
     let made = subst (λ u. IsMade u x y c.in_ok-sort.field-0) c.rule.ensures c.in_ok-sort.ensures in
     let none = takes_not (rule_of c.args.op) x y c.in_ok-sort.field-0 c.in_default.is made in
-    subst (λ r. Judges s c.args.place.need whole (Err r)) (sym c.refused.ensures)
-    (judges_err s c.args.place.need whole (Fault (record { kind = Mismatch; line = c.args.line })) (inr (inr (inl (inl (x, y, g.is_of, h.is_of, g.met, h.met, none, refl, line))))))
+    judges_err s c.args.place.need whole c.mismatched.result
+    (told c.mismatched.result (mismatch x y) c.args.line (Offends s c.args.place.need whole) c.mismatched.ensures (inr (inr (inl (inl (x, y, g.is_of, h.is_of, g.met, h.met, none, refl, line))))))
 
 pub returns-in_err-left : goal.returns-in_err-left
 returns-in_err-left c = λ s a b g h line. from_memory s c.args.place.need (tree.binary c.args.place.line c.args.op a b) c.from_residual-in_err-left.result c.from_residual-in_err-left.ensures.0 c.from_residual-in_err-left.ensures.1

@@ -1,4 +1,4 @@
--- The first of several lines, and how it is found from the front.
+-- The first of several that offend, and how it is found from the front.
 use Rattle.std.proofs.Common.{◌≡◌, ℕ, ◌+◌, ◌-◌, ◌<◌, ◌≤◌, ◌==◌, Bool, Option, List, [], ◌∷◌, ◌++◌, length, map, take, drop, get_or, refl, sym, ap, ◌∙◌}
 use Rattle.std.proofs.lemmas.List.{drop_all, take_rest}
 use Rattle.std.proofs.Math.Dec.{eqb-suc-zero}
@@ -7,6 +7,7 @@ use Rattle.zf_term.specs.declared.resolved.Resolved.{Resolved}
 use Rattle.zf_term.specs.declared.resolved.Resolved.TheVariants as v
 use Rattle.zf_term.specs.declared.resolved.ResolvedLink.{ResolvedLink}
 use Rattle.zf_term.specs.Definitions.{Defined}
+use Rattle.zf_extent.specs.declared.offender.Offender.{Offender}
 use Rattle.zf_extent.specs.Extents.{first, unless, tested, is_last, offending, all_offending, links_offending, ranges_offending, part_offending}
 use Rattle.zf_term.specs.ResolvedTrees.{resolved_of, resolved_link_of, range_of, terms, links, ranges, part_of}
 use Rattle.zf_term.specs.FirstNamed.{or_else}
@@ -14,31 +15,31 @@ use Rattle.zf_term.proofs.Choices.{or_none, or_else_assoc}
 use Rattle.zf_term.proofs.Walk.{dropped}
 use Rattle.zf_term.proofs.ResolvedSeen.{of-Builder, link-seen, range-seen}
 
-abbrev pub lines_of_terms : List Defined → List Resolved → List ℕ
-lines_of_terms g ts = all_offending g (terms (map resolved_of ts))
+abbrev pub offending_terms : List Defined → List Resolved → List Offender
+offending_terms g ts = all_offending g (terms (map resolved_of ts))
 
-abbrev pub lines_of_links : List Defined → List ResolvedLink → List ℕ
-lines_of_links g ks = links_offending g (links (map resolved_link_of ks))
+abbrev pub offending_links : List Defined → List ResolvedLink → List Offender
+offending_links g ks = links_offending g (links (map resolved_link_of ks))
 
-abbrev pub lines_of_ranges : List Defined → List Range → List ℕ
-lines_of_ranges g rs = ranges_offending g (ranges (map range_of rs))
+abbrev pub offending_ranges : List Defined → List Range → List Offender
+offending_ranges g rs = ranges_offending g (ranges (map range_of rs))
 
-pub first_of_both : (xs ys : List ℕ) → first (xs ++ ys) ≡ or_else (first xs) (first ys)
+pub first_of_both : {A : Type 0} (xs ys : List A) → first (xs ++ ys) ≡ or_else (first xs) (first ys)
 first_of_both [] ys = refl
 first_of_both (x ∷ xs) ys = refl
 
--- one item further: its lines come before those of the items behind it
-pub line_step :
-    {X : Type 0} (lines behind : List X → List ℕ) (xs : List X) (i : ℕ) (x : X) (here : List ℕ) (whole found next : Option ℕ)
+-- one item further: what it has comes before what the items behind it have
+pub first_step :
+    {X A : Type 0} (all behind : List X → List A) (xs : List X) (i : ℕ) (x : X) (here : List A) (whole found next : Option A)
     → x ≡ get_or xs i x → i < length xs
-    → lines (x ∷ drop (i + 1) xs) ≡ here ++ behind (drop (i + 1) xs)
-    → whole ≡ or_else found (first (lines (drop i xs)))
+    → all (x ∷ drop (i + 1) xs) ≡ here ++ behind (drop (i + 1) xs)
+    → whole ≡ or_else found (first (all (drop i xs)))
     → next ≡ or_else found (first here)
     → whole ≡ or_else next (first (behind (drop (i + 1) xs)))
-line_step lines behind xs i x here whole found next at l parts before step =
+first_step all behind xs i x here whole found next at l parts before step =
     let rest = behind (drop (i + 1) xs) in
     before
-    ∙ ap (λ ys. or_else found (first (lines ys))) (dropped xs i x l at)
+    ∙ ap (λ ys. or_else found (first (all ys))) (dropped xs i x l at)
     ∙ ap (λ ls. or_else found (first ls)) parts
     ∙ ap (or_else found) (first_of_both here rest)
     ∙ sym (or_else_assoc found (first here) (first rest))
@@ -46,37 +47,37 @@ line_step lines behind xs i x here whole found next at l parts before step =
 
 -- terms, links and ranges, one further
 pub terms_step :
-    (g : List Defined) (xs : List Resolved) (i : ℕ) (x : Resolved) (whole found next : Option ℕ)
+    (g : List Defined) (xs : List Resolved) (i : ℕ) (x : Resolved) (whole found next : Option Offender)
     → x ≡ get_or xs i x → i < length xs
-    → whole ≡ or_else found (first (lines_of_terms g (drop i xs)))
+    → whole ≡ or_else found (first (offending_terms g (drop i xs)))
     → next ≡ or_else found (first (offending g (resolved_of x)))
-    → whole ≡ or_else next (first (lines_of_terms g (drop (i + 1) xs)))
-terms_step g xs i x whole found next at l = line_step (lines_of_terms g) (lines_of_terms g) xs i x (offending g (resolved_of x)) whole found next at l refl
+    → whole ≡ or_else next (first (offending_terms g (drop (i + 1) xs)))
+terms_step g xs i x whole found next at l = first_step (offending_terms g) (offending_terms g) xs i x (offending g (resolved_of x)) whole found next at l refl
 
 pub ranges_step :
-    (g : List Defined) (xs : List Range) (i : ℕ) (x : Range) (whole found next : Option ℕ)
+    (g : List Defined) (xs : List Range) (i : ℕ) (x : Range) (whole found next : Option Offender)
     → x ≡ get_or xs i x → i < length xs
-    → whole ≡ or_else found (first (lines_of_ranges g (drop i xs)))
+    → whole ≡ or_else found (first (offending_ranges g (drop i xs)))
     → next ≡ or_else found (first (offending g (resolved_of x.set)))
-    → whole ≡ or_else next (first (lines_of_ranges g (drop (i + 1) xs)))
+    → whole ≡ or_else next (first (offending_ranges g (drop (i + 1) xs)))
 ranges_step g xs i x whole found next at l =
-    line_step (lines_of_ranges g) (lines_of_ranges g) xs i x (offending g (resolved_of x.set)) whole found next at l
+    first_step (offending_ranges g) (offending_ranges g) xs i x (offending g (resolved_of x.set)) whole found next at l
     (ap (λ r. ranges_offending g (ranges (r ∷ map range_of (drop (i + 1) xs)))) (range-seen x))
 
 abbrev ends : List ResolvedLink → Bool
 ends ks = is_last (links (map resolved_link_of ks))
 
 pub links_step :
-    (g : List Defined) (xs : List ResolvedLink) (i : ℕ) (x : ResolvedLink) (last : Bool) (whole found next : Option ℕ)
+    (g : List Defined) (xs : List ResolvedLink) (i : ℕ) (x : ResolvedLink) (last : Bool) (whole found next : Option Offender)
     → x ≡ get_or xs i x → i < length xs
     → last ≡ ends (drop (i + 1) xs)
-    → whole ≡ or_else found (first (lines_of_links g (drop i xs)))
+    → whole ≡ or_else found (first (offending_links g (drop i xs)))
     → next ≡ or_else found (first (unless (tested g x.relation last (resolved_of x.right)) (offending g (resolved_of x.right))))
-    → whole ≡ or_else next (first (lines_of_links g (drop (i + 1) xs)))
+    → whole ≡ or_else next (first (offending_links g (drop (i + 1) xs)))
 links_step g xs i x last whole found next at l end =
     let t = resolved_of x.right in
     let rest = map resolved_link_of (drop (i + 1) xs) in
-    line_step (lines_of_links g) (lines_of_links g) xs i x (unless (tested g x.relation last t) (offending g t)) whole found next at l
+    first_step (offending_links g) (offending_links g) xs i x (unless (tested g x.relation last t) (offending g t)) whole found next at l
     (ap (λ k. links_offending g (links (k ∷ rest))) (link-seen x) ∙ ap (λ b. unless (tested g x.relation b t) (offending g t) ++ links_offending g (links rest)) (sym end))
 
 ends_where : (ks : List ResolvedLink) → (length ks == 0) ≡ ends ks
@@ -88,20 +89,20 @@ pub ends_at : (xs : List ResolvedLink) (n : ℕ) → (length (take (length xs - 
 ends_at xs n = ap (λ ks. length ks == 0) (take_rest xs n) ∙ ends_where (drop n xs)
 
 -- no item is ahead
-pub line_end :
-    {X : Type 0} (lines : List X → List ℕ) (xs : List X) (i : ℕ) (whole found : Option ℕ)
-    → lines [] ≡ [] → length xs ≤ i → whole ≡ or_else found (first (lines (drop i xs))) → found ≡ whole
-line_end lines xs i whole found none h before =
-    sym (before ∙ ap (λ ys. or_else found (first (lines ys))) (drop_all i xs h) ∙ ap (λ ls. or_else found (first ls)) none ∙ or_none found)
+pub first_end :
+    {X A : Type 0} (all : List X → List A) (xs : List X) (i : ℕ) (whole found : Option A)
+    → all [] ≡ [] → length xs ≤ i → whole ≡ or_else found (first (all (drop i xs))) → found ≡ whole
+first_end all xs i whole found none h before =
+    sym (before ∙ ap (λ ys. or_else found (first (all ys))) (drop_all i xs h) ∙ ap (λ os. or_else found (first os)) none ∙ or_none found)
 
 -- a builder: its ranges, the filter, and the term
-pub builder_line :
-    (g : List Defined) (l : ℕ) (rs : List Range) (p t : Option Resolved) (whole : Resolved) (a b c : Option ℕ) → whole ≡ v.Builder l rs p t
+pub first_of_builder :
+    (g : List Defined) (l : ℕ) (rs : List Range) (p t : Option Resolved) (whole : Resolved) (a b c : Option Offender) → whole ≡ v.Builder l rs p t
     → a ≡ first (ranges_offending g (ranges (map range_of rs)))
     → b ≡ or_else a (first (part_offending g (part_of p)))
     → c ≡ or_else b (first (part_offending g (part_of t)))
     → c ≡ first (offending g (resolved_of whole))
-builder_line g l rs p t whole a b c is e f h =
+first_of_builder g l rs p t whole a b c is e f h =
     let here = ranges_offending g (ranges (map range_of rs)) in
     let filter = part_offending g (part_of p) in
     let last = part_offending g (part_of t) in

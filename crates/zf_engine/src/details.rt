@@ -1,0 +1,282 @@
+//! The lines that say what a fault is about, behind its own.
+ghost use Rattle.std.specs.Prelude.{◌≡◌, ◌++◌, codes, IfOk, OnOk, slice_get};
+ghost use Rattle.zf_engine.specs.Details as spec;
+ghost use Rattle.zf_term.specs.Definitions.{globals_of};
+ghost use Rattle.zf_term.specs.TypeTexts.{type_text};
+ghost use Rattle.zf_term.specs.Types.{type_of};
+ghost use Rattle.zf_type.specs.Refusals.{fault_of, offence_of};
+ghost use Rattle.zf_type.specs.Rules.{sort_of};
+
+use crate::texts::{fault_line, not_finite_text, text_fault_line, type_fault_line};
+use itoa::Buffer;
+use std::alloc::{AllocError, Global};
+use zf_extent::offender::Offender;
+use zf_finite::not_finite::NotFinite;
+use zf_scan::fault::{TextFault, TextFaultKind};
+use zf_term::fault::{Clash, Limit};
+use zf_term::globals::Globals;
+use zf_term::type_text::append_type;
+use zf_term::ztype::ZType;
+use zf_tree::symbol::Constant;
+use zf_type::fault::{Offence, TypeFault};
+use zf_type::sort::Sort;
+
+/// `    WORD: TEXT`. As for all that follow, a refusal leaves a part of it.
+fn append_detail(lines: &mut Vec<u8>, word: &[u8], text: &[u8]) -> Result<(), AllocError>
+    ensures { OnOk result (lines.new.items ≡ lines.old.items ++ spec.detail word.now text.now) }
+{
+    lines.extend_from_slice(b"    ")?;
+    lines.extend_from_slice(word)?;
+    lines.extend_from_slice(b": ")?;
+    lines.extend_from_slice(text)?;
+    lines.extend_from_slice(b"\n")
+}
+
+/// The same, of a text that may be missing.
+fn append_if_any(lines: &mut Vec<u8>, word: &[u8], text: &[u8]) -> Result<(), AllocError>
+    ensures { OnOk result (lines.new.items ≡ lines.old.items ++ spec.detail_if_any word.now text.now) }
+{
+    match text {
+        [] => Ok(()),
+        [_, ..] => append_detail(lines, word, text),
+    }
+}
+
+/// `    WORD: TYPE`
+fn append_type_detail(lines: &mut Vec<u8>, word: &[u8], ztype: &ZType<'_>) -> Result<(), AllocError>
+    ensures { OnOk result (lines.new.items ≡ lines.old.items ++ spec.detail word.now (type_text (type_of ztype.now))) }
+{
+    lines.extend_from_slice(b"    ")?;
+    lines.extend_from_slice(word)?;
+    lines.extend_from_slice(b": ")?;
+    append_type(lines, ztype)?;
+    lines.extend_from_slice(b"\n")
+}
+
+// ---- faults of types
+
+/// What a term is.
+fn append_sort(lines: &mut Vec<u8>, word: &[u8], sort: &Sort<'_>) -> Result<(), AllocError>
+    ensures { OnOk result (lines.new.items ≡ lines.old.items ++ spec.detail word.now (spec.sort_text (sort_of sort.now))) }
+{
+    match sort {
+        Sort::Typed(ztype) => append_type_detail(lines, word, ztype),
+        Sort::Predicate => append_detail(lines, word, b"a predicate"),
+        Sort::Schema => append_detail(lines, word, b"a schema"),
+    }
+}
+
+/// A limit, in words.
+fn limit_text(limit: Limit) -> &'static [u8]
+    ensures { result.now ≡ spec.limit_text limit }
+{
+    match limit {
+        Limit::TypeNodes => b"256 nodes in a type",
+        Limit::Components => b"64 components in a schema",
+        Limit::Sets => b"4096 declared sets in a schema",
+        Limit::Conjuncts => b"4096 conjuncts in a schema",
+        Limit::Nodes => b"65536 nodes in the terms of a schema",
+        Limit::Height => b"256 levels in a conjunct",
+    }
+}
+
+/// Two types.
+fn append_types(lines: &mut Vec<u8>, left: &ZType<'_>, right: &ZType<'_>) -> Result<(), AllocError>
+    ensures { OnOk result (lines.new.items ≡ lines.old.items ++ (spec.detail (codes "left") (type_text (type_of left.now)) ++ spec.detail (codes "right") (type_text (type_of right.now)))) }
+{
+    append_type_detail(lines, b"left", left)?;
+    append_type_detail(lines, b"right", right)
+}
+
+/// A component that has two types.
+fn append_clash(lines: &mut Vec<u8>, clash: &Clash<'_>) -> Result<(), AllocError>
+    ensures { OnOk result (lines.new.items ≡ lines.old.items ++ (spec.detail (codes "component") clash.now.name ++ (spec.detail (codes "left") (type_text (type_of clash.now.left)) ++ spec.detail (codes "right") (type_text (type_of clash.now.right))))) }
+{
+    append_detail(lines, b"component", clash.name.as_slice())?;
+    append_types(lines, &clash.left, &clash.right)
+}
+
+/// What is wrong with types.
+fn append_offence(lines: &mut Vec<u8>, offence: &Offence<'_>) -> Result<(), AllocError>
+    ensures { OnOk result (lines.new.items ≡ lines.old.items ++ spec.offence_details (offence_of offence.now)) }
+{
+    match offence {
+        Offence::NotDeclared(name) => append_detail(lines, b"name", name.as_slice()),
+        Offence::AlreadyDefined(name) => append_detail(lines, b"name", name.as_slice()),
+        Offence::NotASchema(name) => append_detail(lines, b"name", name.as_slice()),
+        Offence::LocalTwice(name) => append_detail(lines, b"name", name.as_slice()),
+        Offence::Mismatch(left, right) => {
+            append_sort(lines, b"left", left)?;
+            append_sort(lines, b"right", right)
+        }
+        Offence::NoMembers => Ok(()),
+        Offence::Misplaced(_, found) => append_sort(lines, b"found", found),
+        Offence::Clash(clash) => append_clash(lines, clash),
+        Offence::TooLarge(limit) => append_detail(lines, b"limit", limit_text(*limit)),
+    }
+}
+
+/// The lines of a fault of types.
+pub fn type_fault_lines(
+    alloc: Global,
+    details: bool,
+    file: &[u8],
+    fault: &TypeFault<'_>,
+) -> Result<Vec<u8>, AllocError>
+    ensures { IfOk result (λ v. v.items ≡ spec.type_fault_lines details file.now (fault_of fault.now)) }
+{
+    let mut lines = type_fault_line(alloc, file, fault)?;
+    if details {
+        append_offence(&mut lines, fault.offence.get())?;
+    }
+    Ok(lines)
+}
+
+// ---- faults of the text
+
+/// A symbol as it is told: the command that ends a box is not.
+fn symbol_text(symbol: &[u8]) -> &[u8]
+    ensures { result.now ≡ spec.symbol_text symbol.now }
+{
+    if symbol.starts_with(b"\\end{") {
+        return b"end of the box";
+    }
+    symbol
+}
+
+fn is_printed(byte: u8) -> bool
+    ensures { result ≡ spec.is_printed byte }
+{
+    33 <= byte && byte <= 126
+}
+
+/// A byte, or its number.
+fn append_byte(lines: &mut Vec<u8>, byte: u8) -> Result<(), AllocError>
+    ensures { OnOk result (lines.new.items ≡ lines.old.items ++ spec.detail (codes "byte") (spec.byte_text byte)) }
+{
+    if is_printed(byte) {
+        return append_detail(lines, b"byte", &[byte]);
+    }
+    let mut number = Buffer::new();
+    append_detail(lines, b"byte", number.format(u64::from(byte)).as_bytes())
+}
+
+/// A byte that begins no piece, or the command behind which something is missing.
+fn append_bad(lines: &mut Vec<u8>, symbol: &[u8]) -> Result<(), AllocError>
+    ensures { OnOk result (lines.new.items ≡ lines.old.items ++ spec.byte_details symbol.now) }
+{
+    match symbol {
+        [] => Ok(()),
+        [byte] => append_byte(lines, *byte),
+        [_, _, ..] => append_detail(lines, b"symbol", symbol),
+    }
+}
+
+/// What a fault of the text is about.
+fn append_text_details(
+    lines: &mut Vec<u8>,
+    kind: TextFaultKind,
+    symbol: &[u8],
+) -> Result<(), AllocError>
+    ensures { OnOk result (lines.new.items ≡ lines.old.items ++ spec.text_details kind symbol.now) }
+{
+    match kind {
+        TextFaultKind::BadByte => append_bad(lines, symbol),
+        TextFaultKind::UnknownCommand => append_if_any(lines, b"command", symbol),
+        TextFaultKind::NotInProfile => append_if_any(lines, b"symbol", symbol),
+        TextFaultKind::UnclosedBox => Ok(()),
+        TextFaultKind::Unexpected => append_if_any(lines, b"symbol", symbol_text(symbol)),
+        TextFaultKind::NumberTooLarge => append_detail(lines, b"limit", b"9223372036854775807"),
+        TextFaultKind::TooDeep => append_detail(lines, b"limit", b"128 levels"),
+        TextFaultKind::TooLong => append_detail(lines, b"limit", b"1048576 bytes"),
+        TextFaultKind::OutOfMemory => Ok(()),
+    }
+}
+
+/// The lines of a fault of the text, which is about this symbol.
+pub fn text_fault_lines(
+    alloc: Global,
+    details: bool,
+    file: &[u8],
+    fault: TextFault,
+    symbol: &[u8],
+) -> Result<Vec<u8>, AllocError>
+    ensures { IfOk result (λ v. v.items ≡ spec.text_fault_lines details file.now fault symbol.now) }
+{
+    let mut lines = text_fault_line(alloc, file, fault)?;
+    if details {
+        append_text_details(&mut lines, fault.kind, symbol)?;
+    }
+    Ok(lines)
+}
+
+// ---- schemas that are not finite
+
+/// How a constant is spelled.
+fn constant_text(constant: Constant) -> &'static [u8]
+    ensures { result.now ≡ spec.constant_text constant }
+{
+    match constant {
+        Constant::True => b"true",
+        Constant::False => b"false",
+        Constant::Integers => b"\\num",
+        Constant::Naturals => b"\\nat",
+        Constant::Positives => b"\\nat_1",
+    }
+}
+
+/// The name of the global at this place.
+fn name_at<'g>(globals: &'g Globals<'_>, place: usize) -> &'g [u8]
+    ensures { result.now ≡ spec.name_of (slice_get (globals_of globals.now) place) }
+{
+    match globals.in_order(place) {
+        Some((name, _)) => name,
+        None => b"",
+    }
+}
+
+/// The name or symbol that offends.
+fn append_offender(
+    lines: &mut Vec<u8>,
+    globals: &Globals<'_>,
+    offender: Offender,
+) -> Result<(), AllocError>
+    ensures { OnOk result (lines.new.items ≡ lines.old.items ++ spec.detail (codes "name") (spec.offender_text (globals_of globals.now) offender)) }
+{
+    match offender {
+        Offender::Name(_, place) => append_detail(lines, b"name", name_at(globals, place)),
+        Offender::Symbol(_, constant) => append_detail(lines, b"name", constant_text(constant)),
+    }
+}
+
+/// What makes a schema infinite.
+fn append_cause(
+    lines: &mut Vec<u8>,
+    globals: &Globals<'_>,
+    cause: &NotFinite<'_>,
+) -> Result<(), AllocError>
+    ensures { OnOk result (lines.new.items ≡ lines.old.items ++ spec.cause_details (globals_of globals.now) cause.now) }
+{
+    match cause {
+        NotFinite::Unbounded(_, name) => append_detail(lines, b"component", name.as_slice()),
+        NotFinite::Offends(offender) => append_offender(lines, globals, *offender),
+    }
+}
+
+/// The lines of a schema that is not finite.
+pub fn not_finite_lines(
+    alloc: Global,
+    details: bool,
+    file: &[u8],
+    globals: &Globals<'_>,
+    cause: &NotFinite<'_>,
+) -> Result<Vec<u8>, AllocError>
+    ensures { IfOk result (λ v. v.items ≡ spec.not_finite_lines details file.now (globals_of globals.now) cause.now) }
+{
+    let line = u64::from(cause.line());
+    let mut lines = fault_line(alloc, file, line, not_finite_text())?;
+    if details {
+        append_cause(&mut lines, globals, cause)?;
+    }
+    Ok(lines)
+}

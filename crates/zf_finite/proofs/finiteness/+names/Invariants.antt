@@ -1,7 +1,0 @@
-use Rattle.zf_finite.proofs.Prelude.{◌≡◌, drop, map, globals_of, set_of, sets_of, or_else, first, all_set_lines}
-use Rattle.zf_finite.proofs.finiteness.+names.Given as goal
-
-abbrev pub invariant-all_names_after-loop-domain : goal.invariant-all_names_after-loop-domain
-invariant-all_names_after-loop-domain l =
-    or_else l.fn.found (first (all_set_lines (globals_of l.globals) (sets_of (map set_of l.domains))))
-    ≡ or_else l.line (first (all_set_lines (globals_of l.globals) (sets_of (map set_of (drop l.domain-index l.domain-items)))))

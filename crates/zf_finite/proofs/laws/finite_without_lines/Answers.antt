@@ -1,5 +1,0 @@
-use Rattle.zf_finite.proofs.FiniteSchemas as schemas
-use Rattle.zf_finite.proofs.laws.finite_without_lines.Goals as goal
-
-pub returns : goal.returns
-returns c = schemas.finite_without_lines

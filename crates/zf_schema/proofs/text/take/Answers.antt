@@ -1,0 +1,12 @@
+use Rattle.zf_schema.proofs.Prelude.{◌∷◌, [], schema_of, resolved_of, IsTooLarge, CantTake}
+use Rattle.zf_term.specs.Definitions.{conjunct_of}
+use Rattle.zf_calculus.specs.Growth.{constrained}
+use Rattle.zf_schema.proofs.Stopping.{refused_by, cant_take}
+use Rattle.zf_schema.proofs.text.take.Goals as goal
+
+pub returns-in-Err-clause-wrong : goal.returns-in-Err-clause-wrong
+returns-in-Err-clause-wrong c =
+    let a = schema_of c.args.growing.now.flat in
+    let t = resolved_of c.args.conjunct.now in
+    let u = conjunct_of c.lasting.result in
+    refused_by c.in-Err.stop c.line.result c.refusal.result (IsTooLarge (constrained a (u ∷ []))) (CantTake a t) (cant_take a t u c.line.result c.lasting.ensures c.line.ensures) c.refusal.ensures c.in-Err.ensures.err
