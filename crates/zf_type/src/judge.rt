@@ -212,6 +212,7 @@ fn bracket<'a>(
 }
 
 /// The term, where its place takes one of this sort.
+#[inline(always)]
 fn placed<'a>(
     arena: &'a Bump,
     place: Place,
@@ -227,6 +228,7 @@ fn placed<'a>(
 }
 
 /// The same of a term that is made of others, whose type has to be within the limit.
+#[inline(always)]
 fn made<'a>(
     arena: &'a Bump,
     place: Place,
