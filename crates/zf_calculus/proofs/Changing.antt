@@ -1,18 +1,11 @@
 -- A schema beside its state after an operation.
-use Rattle.zf_calculus.proofs.Prelude.{◌∙◌, ◌≡◌, ap, inl, inr, length, List, map, subst, sym, ℕ, place_in, Comp, comp_of, Schema, schema_of, ResolvedTree, Offence, Limit, Component, Flat, Agree, all_unchanged, carried, conjoined, decorated, delta, new_place, prime, with_comps, xi, constrained, equalities, IsTooLarge, Keeps, OneClashes, Stops}
+use Rattle.zf_calculus.proofs.Prelude.{◌∙◌, ◌≡◌, ap, inl, inr, length, List, map, subst, sym, ℕ, place_in, Comp, comp_of, Schema, schema_of, ResolvedTree, Offence, Limit, Component, Flat, Agree, all_unchanged, conjoined, decorated, delta, new_place, prime, xi, constrained, equalities, IsTooLarge, Keeps, OneClashes, Stops}
 use Rattle.zf_calculus.proofs.Equalities.{same_equalities}
-use Rattle.zf_calculus.proofs.Monotony.{before_all, before_conjuncts, still_large}
-
-pub within_first : (l : Limit) (a b : Schema) → Keeps l (conjoined a b) → Keeps l a
-within_first l a b w =
-    before_all l a.comps b.comps a.conjuncts (before_conjuncts l (with_comps a.comps b.comps) a.conjuncts (carried b.comps (with_comps a.comps b.comps) b.conjuncts) w)
+use Rattle.zf_calculus.proofs.Monotony.{before_conjuncts, still_large}
 
 pub agreed : (flat after : Flat) (d : Schema) (cs ds : List Component) → cs ≡ flat.components → ds ≡ after.components → schema_of after ≡ d → Agree (map comp_of cs) (map comp_of ds) → Agree (schema_of flat).comps d.comps
 agreed flat after d cs ds e f g h =
     subst (λ (es : List Comp). Agree (map comp_of flat.components) es) (ap (map comp_of) f ∙ ap (λ (s : Schema). s.comps) g) (subst (λ (es : List Component). Agree (map comp_of es) (map comp_of ds)) e h)
-
-pub stops_before : (a b : Schema) → b ≡ a → Agree a.comps (decorated prime a).comps → (k : Offence) → IsTooLarge b k → Stops (OneClashes a.comps (decorated prime a).comps) (Agree a.comps (decorated prime a).comps) (delta a) k
-stops_before a b e agree k h = inr (agree, still_large b (delta a) k (λ l w. subst (Keeps l) (sym e) (within_first l a (decorated prime a) w)) h)
 
 pub stops_after : (a b d : Schema) → b ≡ a → d ≡ decorated prime a → Agree a.comps (decorated prime a).comps → (k : Offence) → IsTooLarge (conjoined b d) k → Stops (OneClashes a.comps (decorated prime a).comps) (Agree a.comps (decorated prime a).comps) (delta a) k
 stops_after a b d e f agree k h =

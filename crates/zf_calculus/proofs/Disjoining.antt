@@ -1,6 +1,6 @@
 -- The components of disjunctions.
 use Rattle.zf_calculus.proofs.Prelude.{◌<◌, ◌∙◌, ◌∷◌, ◌≡◌, [], ap, arith, inr, length, List, map, refl, subst, sym, ℕ, length-map, of-Either, Comp, comp_of, DeclaredSet, Schema, schema_of, set_of, sets_of, sides, type_of, Offence, too_large, Component, Domain, Flat, ZType, comp, comp_named, disjoined, sets_on, with_comps, disjoined_over, either_comp, IsTooLarge, IsWithin, IsNext, Stops}
-use Rattle.zf_term.specs.declared.globals.Domain.TheVariants as v
+use Rattle.zf_term.specs.declared.schema.Domain.TheVariants as v
 use Rattle.zf_term.specs.declared.fault.Limit.TheVariants as limit
 use Rattle.zf_calculus.proofs.Merging.{none_shorter}
 use Rattle.zf_calculus.proofs.Placing.{TooMany}

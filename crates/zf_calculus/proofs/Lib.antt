@@ -1,6 +1,5 @@
 mod Prelude
 pub mod Counting
-pub mod Low
 pub mod Merging
 pub mod Placing
 pub mod Monotony

@@ -58,7 +58,7 @@ counts_more f (d ∷ ds) c = by (bytes_eq d.name c.name) (counts_more f ds c)
     by true e = omega (arith, sum_by-cons (λ e. sum_by f e.sets) (comp d.name d.type (d.sets ++ c.sets)) ds, sum_by-cons (λ e. sum_by f e.sets) d ds, sum_by-append f d.sets c.sets)
     by false e = omega (arith, sum_by-cons (λ e. sum_by f e.sets) d (with_comp ds c), sum_by-cons (λ e. sum_by f e.sets) d ds)
 
-pub no_shorter : (cs : List Comp) (c : Comp) → length cs ≤ length (with_comp cs c)
+no_shorter : (cs : List Comp) (c : Comp) → length cs ≤ length (with_comp cs c)
 no_shorter [] c = omega arith
 no_shorter (d ∷ ds) c = by (bytes_eq d.name c.name) (no_shorter ds c)
   where

@@ -1,24 +1,12 @@
 -- A schema that has grown is within a limit only if it was before.
 use Rattle.zf_calculus.proofs.Prelude.{◌++◌, ◌+◌, ◌<◌, ◌∷◌, ◌≡◌, ◌≤◌, [], arith, length, length-append, List, ℕ, sum_by-append, sum_by_push, AllByRecursion, sum_by, Comp, Schema, ResolvedTree, set_count, set_nodes, height, nodes, constrained, grown, HasLeft, all_nodes, IsLow, IsTooLarge, IsWithin, Keeps, Limit, Offence}
 use Rattle.zf_term.specs.declared.fault.Limit.TheVariants as limit
-use Rattle.zf_calculus.specs.Calculus.{schema_of, with_comp, with_comps}
-use Rattle.zf_calculus.proofs.Merging.{counts_more, no_shorter}
+use Rattle.zf_calculus.specs.Calculus.{schema_of, with_comp}
+use Rattle.zf_calculus.proofs.Merging.{counts_more}
 
 -- what passes a limit passes it with more
 pub still_large : (a b : Schema) (o : Offence) → ((l : Limit) → Keeps l b → Keeps l a) → IsTooLarge a o → IsTooLarge b o
 still_large a b o keep h = (h.0, h.1, λ w. h.2 (keep h.0 w))
-
-pub before_one : (l : Limit) (cs : List Comp) (c : Comp) (ts : List ResolvedTree) → Keeps l (schema_of (with_comp cs c) ts) → Keeps l (schema_of cs ts)
-before_one limit.TypeNodes cs c ts w = tt
-before_one limit.Components cs c ts w = omega (arith, no_shorter cs c, w)
-before_one limit.Sets cs c ts w = omega (arith, counts_more set_count cs c, w)
-before_one limit.Conjuncts cs c ts w = w
-before_one limit.Nodes cs c ts w = omega (arith, counts_more set_nodes cs c, w)
-before_one limit.Height cs c ts w = w
-
-pub before_all : (l : Limit) (cs ds : List Comp) (ts : List ResolvedTree) → Keeps l (schema_of (with_comps cs ds) ts) → Keeps l (schema_of cs ts)
-before_all l cs [] ts w = w
-before_all l cs (d ∷ ds) ts w = before_one l cs d ts (before_all l (with_comp cs d) ds ts w)
 
 first_low : (ts us : List ResolvedTree) → AllByRecursion IsLow (ts ++ us) → AllByRecursion IsLow ts
 first_low [] us h = tt

@@ -4,8 +4,8 @@ use Rattle.std.specs.List.{sum_by}
 use Rattle.zf_tree.specs.declared.symbol.Relation.TheVariants.{Equal, Member}
 use Rattle.zf_tree.specs.declared.symbol.Connective.TheVariants.{And, Or}
 use Rattle.zf_tree.specs.declared.operator.Operator.TheVariants.{Connective}
-use Rattle.zf_term.specs.declared.globals.Component.{Component}
-use Rattle.zf_term.specs.declared.globals.Domain.{Domain}
+use Rattle.zf_term.specs.declared.schema.Component.{Component}
+use Rattle.zf_term.specs.declared.schema.Domain.{Domain}
 use Rattle.zf_reference.specs.declared.reference.Reference.TheVariants as place
 use Rattle.zf_term.specs.Definitions.{Comp, Schema, DeclaredSet, sides, sets_of, schema_of}
 use Rattle.zf_term.specs.ResolvedTrees.{ResolvedTree, reference, binary, chain, no_links, link}
@@ -17,14 +17,9 @@ use Rattle.zf_calculus.specs.declared.stop.Stop.{Stop}
 use Rattle.zf_calculus.specs.declared.stop.Stop.TheVariants.{Clash, TooLarge, OutOfMemory}
 use Rattle.zf_calculus.specs.Calculus as calculus
 use Rattle.zf_calculus.specs.Calculus.{with_comp, with_comps}
-use Rattle.zf_calculus.specs.Limits.{AreFew, declared_sets, all_nodes, sets_max, nodes_max, IsWithin}
+use Rattle.zf_term.specs.Limits.{AreFew, HasLeft, IsWithin}
 
--- a schema within the limits, with what is left of two of them
-pub record HasLeft (a : Schema) (sets_left nodes_left : ℕ) : Type 0 where
-  pub sets : sets_left + declared_sets a ≡ sets_max
-  pub nodes : nodes_left + all_nodes a ≡ nodes_max
-  pub within : IsWithin a
-
+-- its numbers are what is left of the limits
 abbrev pub IsGrowing : Growing → Type 0
 IsGrowing g = HasLeft (schema_of g.flat) g.sets_left g.nodes_left
 

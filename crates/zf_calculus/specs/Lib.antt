@@ -1,4 +1,3 @@
 pub mod Calculus
-pub mod Limits
 pub mod Steps
 pub mod Growth

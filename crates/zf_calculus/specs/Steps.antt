@@ -5,7 +5,7 @@ use Rattle.zf_tree.specs.declared.tree.RefMark.TheVariants.{Plain, Delta, Xi}
 use Rattle.zf_term.specs.Faults.{Offence, clash}
 use Rattle.zf_term.specs.Definitions.{Comp, Schema}
 use Rattle.zf_calculus.specs.Calculus.{schema_of, comp_named, Agrees, Agree, with_comp, conjoined, decorated, prime}
-use Rattle.zf_calculus.specs.Limits.{IsWithin, IsTooLarge}
+use Rattle.zf_term.specs.Limits.{IsWithin, IsTooLarge}
 
 -- the schema after one more, well typed and within the limits
 abbrev pub IsNext : Schema → Schema → Type 0

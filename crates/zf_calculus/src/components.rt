@@ -1,6 +1,6 @@
 //! Components of a schema: which has a name, which agree, and one more.
 ghost use Rattle.std.specs.Prelude.{◌≡◌, ◌++◌, ◌∷◌, [], ◌<◌, ◌≤◌, ◌↔◌, IsTrue, IfErr, IfOk, OnOk, MatchOption, Some, None, map, length, slice_index_or, slice_set};
-ghost use Rattle.zf_term.specs.declared.globals.Component.{Component};
+ghost use Rattle.zf_term.specs.declared.schema.Component.{Component};
 ghost use Rattle.zf_term.specs.Definitions.{Comp, comp_of};
 ghost use Rattle.zf_reference.specs.Numbering.{place_in};
 ghost use Rattle.zf_term.specs.Faults.{clash, too_large};
@@ -9,7 +9,7 @@ ghost use Rattle.zf_term.specs.declared.fault.Limit.TheVariants as limit;
 ghost use Rattle.zf_calculus.specs.Calculus as spec;
 ghost use Rattle.zf_calculus.specs.Calculus.{Agrees, Agree, comp_named, new_place, with_comp, with_comps, AreOnce};
 ghost use Rattle.zf_calculus.specs.Growth.{AreAt, IfStopped, enriched, place_named};
-ghost use Rattle.zf_calculus.specs.Limits.{AreFew, components_max};
+ghost use Rattle.zf_term.specs.Limits.{AreFew, components_max};
 ghost use Rattle.zf_calculus.specs.Steps.{Clashes, OneClashes};
 
 use crate::limits::COMPONENTS_MAX;
@@ -20,8 +20,8 @@ use std::mem;
 use std::mem::ManuallyDrop;
 use zf_data::arena::{Items, Shared};
 use zf_term::fault::{Clash, Limit};
-use zf_term::globals::{Component, Domain, Domains};
 use zf_term::named::component_of;
+use zf_term::schema::{Component, Domain, Domains};
 
 /// That none of the others has another type than the component that has its name.
 pub fn agree<'a>(components: &[Component<'a>], others: &[Component<'a>]) -> Result<(), Stop<'a>>

@@ -11,25 +11,23 @@ ghost use Rattle.zf_calculus.specs.Calculus as spec;
 ghost use Rattle.zf_calculus.specs.Calculus.{Agree, comp_named, disjoined, with_comps};
 ghost use Rattle.zf_calculus.specs.Steps.{IsNext, OneClashes, Stops};
 ghost use Rattle.zf_calculus.specs.Growth.{IfStopped, IsGrowing, all_joined, both_hold, disjoined_over, either_comp, is_member, one_holds};
-ghost use Rattle.zf_calculus.specs.Limits.{AreFew};
+ghost use Rattle.zf_term.specs.Limits.{AreFew, IsTooLarge};
 
 use crate::components::{agree, component_copies, join_all, new_places};
-use crate::growing::Growing;
+use crate::growing::{Growing, take_moved};
 use crate::limits::COMPONENTS_MAX;
-use crate::marking::within;
-use crate::room::none_too_high;
 use crate::stop::Stop;
 use bumpalo::Bump;
 use std::alloc::AllocError;
-use zf_data::arena::{Boxed, Items, Shared};
+use zf_data::arena::{Boxed, Items, Lasting, Shared};
 use zf_reference::reference::Reference;
-use zf_resolved::conjunct;
-use zf_resolved::moving::{copy, moved};
+use zf_resolved::conjunct::resolved;
+use zf_resolved::moving::copy;
 use zf_term::conjunct::Conjunct;
 use zf_term::fault::Limit;
-use zf_term::globals::{Component, Domain, Domains, Flat};
 use zf_term::named::component_of;
 use zf_term::resolved::{Resolved, ResolvedLink};
+use zf_term::schema::{Component, Domain, Domains, Flat};
 use zf_tree::operator::Operator;
 use zf_tree::symbol::{Connective, Constant, Relation};
 
@@ -132,26 +130,26 @@ fn membership<'a>(
 fn joined<'a>(
     arena: &'a Bump,
     line: u32,
-    terms: &[Resolved<'a>],
+    conjuncts: &[Conjunct<'a>],
 ) -> Result<Resolved<'a>, AllocError>
-    ensures { IfOk result (λ t. resolved_of t ≡ spec.joined line (map resolved_of terms.now)) }
+    ensures { IfOk result (λ t. resolved_of t ≡ spec.joined line (map conjunct_of conjuncts.now)) }
 {
-    match terms.split_first() {
+    match conjuncts.split_first() {
         None => Ok(Resolved::Constant(line, Constant::True)),
-        Some((first, further)) => joined_to(arena, copy(first, arena)?, further),
+        Some((first, further)) => joined_to(arena, resolved(first, arena)?, further),
     }
 }
 
 fn joined_to<'a>(
     arena: &'a Bump,
     first: Resolved<'a>,
-    further: &[Resolved<'a>],
+    further: &[Conjunct<'a>],
 ) -> Result<Resolved<'a>, AllocError>
-    ensures { IfOk result (λ t. resolved_of t ≡ all_joined (resolved_of first.entry) (map resolved_of further.now)) }
+    ensures { IfOk result (λ t. resolved_of t ≡ all_joined (resolved_of first.entry) (map conjunct_of further.now)) }
 {
     let mut whole = first;
-    for term in further {
-        let right = copy(term, arena)?;
+    for conjunct in further {
+        let right = resolved(conjunct, arena)?;
         whole = both(arena, whole, right)?;
     }
     Ok(whole)
@@ -177,15 +175,15 @@ fn push_membership<'a>(
     arena: &'a Bump,
     place: usize,
     domain: &Domain<'a>,
-    made: &mut Items<'a, Resolved<'a>>,
+    made: &mut Items<'a, Conjunct<'a>>,
 ) -> Result<(), AllocError>
-    ensures { OnOk result (map resolved_of made.new ≡ map resolved_of made.old ++ spec.membership place (set_of domain.now)) }
+    ensures { OnOk result (map conjunct_of made.new ≡ map conjunct_of made.old ++ spec.membership place (set_of domain.now)) }
 {
     match domain {
         Domain::Plain(set) => {
             let set = copy(set.get(), arena)?;
             let term = membership(arena, place, set)?;
-            made.push(term)
+            made.push(Conjunct::of(arena, term)?)
         }
         Domain::Carrier(_) => Ok(()),
         Domain::Either(_, _) => Ok(()),
@@ -196,9 +194,9 @@ fn push_memberships<'a>(
     arena: &'a Bump,
     place: usize,
     domains: &[Domain<'a>],
-    made: &mut Items<'a, Resolved<'a>>,
+    made: &mut Items<'a, Conjunct<'a>>,
 ) -> Result<(), AllocError>
-    ensures { OnOk result (map resolved_of made.new ≡ map resolved_of made.old ++ flat_map (spec.membership place) (map set_of domains.now)) }
+    ensures { OnOk result (map conjunct_of made.new ≡ map conjunct_of made.old ++ flat_map (spec.membership place) (map set_of domains.now)) }
 {
     for domain in domains {
         push_membership(arena, place, domain, made)?;
@@ -209,9 +207,9 @@ fn push_memberships<'a>(
 fn push_all_memberships<'a>(
     arena: &'a Bump,
     components: &[Component<'a>],
-    made: &mut Items<'a, Resolved<'a>>,
+    made: &mut Items<'a, Conjunct<'a>>,
 ) -> Result<(), AllocError>
-    ensures { OnOk result (map resolved_of made.new ≡ map resolved_of made.old ++ spec.memberships 0 (map comp_of components.now)) }
+    ensures { OnOk result (map conjunct_of made.new ≡ map conjunct_of made.old ++ spec.memberships 0 (map comp_of components.now)) }
 {
     for (place, component) in components.iter().enumerate() {
         push_memberships(arena, place, component.domains.get().as_slice(), made)?;
@@ -220,39 +218,38 @@ fn push_all_memberships<'a>(
 }
 
 fn push_conjuncts<'a>(
-    arena: &'a Bump,
     conjuncts: &[Conjunct<'a>],
-    made: &mut Items<'a, Resolved<'a>>,
+    made: &mut Items<'a, Conjunct<'a>>,
 ) -> Result<(), AllocError>
-    ensures { OnOk result (map resolved_of made.new ≡ map resolved_of made.old ++ map conjunct_of conjuncts.now) }
+    ensures { OnOk result (made.new ≡ made.old ++ conjuncts.now) }
 {
+    made.make_room(conjuncts.len())?;
     for conjunct in conjuncts {
-        made.push(conjunct::resolved(conjunct, arena)?)?;
+        made.push(conjunct.share())?;
     }
     Ok(())
 }
 
 /// That the components lie in their declared sets, and the conjuncts.
-fn constraints<'a>(arena: &'a Bump, flat: &Flat<'a>) -> Result<Items<'a, Resolved<'a>>, AllocError>
-    ensures { IfOk result (λ ts. map resolved_of ts ≡ spec.constraints (schema_of flat.now)) }
+fn constraints<'a>(arena: &'a Bump, flat: &Flat<'a>) -> Result<Items<'a, Conjunct<'a>>, AllocError>
+    ensures { IfOk result (λ cs. map conjunct_of cs ≡ spec.constraints (schema_of flat.now)) }
 {
     let mut made = Items::new(arena);
     push_all_memberships(arena, flat.components.as_slice(), &mut made)?;
-    push_conjuncts(arena, flat.conjuncts.as_slice(), &mut made)?;
+    push_conjuncts(flat.conjuncts.as_slice(), &mut made)?;
     Ok(made)
 }
 
-fn moved_all<'a>(
+/// The same, of a schema whose components are at these places.
+fn moved_constraints<'a>(
     arena: &'a Bump,
-    terms: &[Resolved<'a>],
-    places: &[usize],
-) -> Result<Items<'a, Resolved<'a>>, AllocError>
-    ensures { IfOk result (λ ts. map resolved_of ts ≡ map (shape.moved (place_in places.now)) (map resolved_of terms.now)) }
+    flat: &Flat<'a>,
+    places: &Lasting<'a, Items<'a, usize>>,
+) -> Result<Items<'a, Conjunct<'a>>, AllocError>
+    ensures { IfOk result (λ cs. map conjunct_of cs ≡ map (shape.moved (place_in places.now)) (spec.constraints (schema_of flat.now))) }
 {
     let mut made = Items::new(arena);
-    for term in terms {
-        made.push(moved(term, arena, places)?)?;
-    }
+    take_moved(&mut made, arena, constraints(arena, flat)?, places)?;
     Ok(made)
 }
 
@@ -261,10 +258,10 @@ fn moved_all<'a>(
 fn one_holds<'a>(
     arena: &'a Bump,
     line: u32,
-    left: &[Resolved<'a>],
-    right: &[Resolved<'a>],
+    left: &[Conjunct<'a>],
+    right: &[Conjunct<'a>],
 ) -> Result<Resolved<'a>, AllocError>
-    ensures { IfOk result (λ t. resolved_of t ≡ one_holds line (map resolved_of left.now) (map resolved_of right.now)) }
+    ensures { IfOk result (λ t. resolved_of t ≡ one_holds line (map conjunct_of left.now) (map conjunct_of right.now)) }
 {
     let left = Boxed::new(arena, joined(arena, line, left)?)?;
     let right = Boxed::new(arena, joined(arena, line, right)?)?;
@@ -288,10 +285,10 @@ fn disjunction<'a>(
         right.components.as_slice(),
     )?;
     let places = new_places(arena, right.components.as_slice(), all)?;
+    let places = Lasting::new(arena, places)?;
     let of_left = constraints(arena, left)?;
-    let of_right = constraints(arena, right)?;
-    let moved = moved_all(arena, of_right.as_slice(), places.as_slice())?;
-    let whole = one_holds(arena, line, of_left.as_slice(), moved.as_slice())?;
+    let of_right = moved_constraints(arena, right, &places)?;
+    let whole = one_holds(arena, line, of_left.as_slice(), of_right.as_slice())?;
     let conjuncts = Items::of(arena, Conjunct::of(arena, whole)?)?;
     Ok(Flat {
         components,
@@ -318,9 +315,17 @@ pub fn disjoin<'a>(
         right.components.as_slice(),
     )?;
     let flat = disjunction(arena, line, left, right, all.as_slice())?;
-    // Before its nodes are counted, which descends as far as it is high.
-    if !none_too_high(flat.conjuncts.as_slice()) {
-        return Err(Stop::TooLarge(Limit::Height));
-    }
     within(flat)
+}
+
+/// The schema, if it is within the limits.
+fn within<'a>(flat: Flat<'a>) -> Result<Growing<'a>, Stop<'a>>
+    ensures ok { IfOk result (λ g. IsNext (schema_of flat.entry) (schema_of g.flat)) }
+    ensures growing { IfOk result (λ g. IsGrowing g) }
+    ensures err { IfErr result (λ e. IfStopped e (IsTooLarge (schema_of flat.entry))) }
+{
+    match Growing::of(flat) {
+        Ok(growing) => Ok(growing),
+        Err(limit) => Err(Stop::TooLarge(limit)),
+    }
 }

@@ -7,12 +7,13 @@ ghost use Rattle.zf_term.specs.Shapes.{moved, numbering};
 ghost use Rattle.zf_calculus.specs.Calculus.{Agree, Agrees, conjoined, new_place, nothing};
 ghost use Rattle.zf_calculus.specs.Steps.{Adds, Clashes, Includes, IsNext, OneClashes, Stops};
 ghost use Rattle.zf_calculus.specs.Growth.{HasLeftBeside, IsGrowing, IfStopped, constrained, equalities, equality, grown};
-ghost use Rattle.zf_calculus.specs.Limits.{IsTooLarge, Keeps};
+ghost use Rattle.zf_term.specs.Limits.{IsTooLarge, Keeps};
 
 use crate::components::{agree, agrees, are_apart, join, join_all};
 use crate::limits::{COMPONENTS_MAX, CONJUNCTS_MAX, NODES_MAX, SETS_MAX};
 use crate::room::{
-    after_all_nodes, after_all_sets, after_conjuncts, after_nodes, after_sets, are_low, is_low,
+    after_all_nodes, after_all_sets, after_conjuncts, after_nodes, after_sets, is_low,
+    none_too_high,
 };
 use crate::spare::Spare;
 use crate::stop::Stop;
@@ -23,8 +24,9 @@ use zf_reference::reference::Reference;
 use zf_shape::conjunct::room_after;
 use zf_term::conjunct::Conjunct;
 use zf_term::fault::Limit;
-use zf_term::globals::{Component, Flat};
+use zf_term::measured::{Left, Measured};
 use zf_term::resolved::{Resolved, ResolvedLink};
+use zf_term::schema::{Component, Flat};
 use zf_tree::symbol::Relation;
 
 /// A schema, with what is left of the limits, so that each step costs only what it adds.
@@ -58,6 +60,10 @@ impl<'a> Growing<'a> {
         ensures ok { IfOk result (λ g. (schema_of g.flat ≡ schema_of flat.entry) × IsGrowing g) }
         ensures passed { IfErr result (λ l. Keeps l (schema_of flat.entry) → ⊥) }
     {
+        // Before its nodes are counted, which descends as far as it is high.
+        if !none_too_high(flat.conjuncts.as_slice()) {
+            return Err(Limit::Height);
+        }
         if flat.components.len() > COMPONENTS_MAX {
             return Err(Limit::Components);
         }
@@ -73,14 +79,23 @@ impl<'a> Growing<'a> {
         let Some(nodes_left) = after_conjuncts(flat.conjuncts.as_slice(), behind_sets) else {
             return Err(Limit::Nodes);
         };
-        if !are_low(flat.conjuncts.as_slice(), behind_sets - nodes_left) {
-            return Err(Limit::Height);
-        }
         Ok(Growing {
             flat,
             sets_left,
             nodes_left,
         })
+    }
+
+    /// The schema, as it is kept.
+    pub fn measured(self) -> Measured<'a>
+        requires { IsGrowing self }
+        ensures { result ≡ self.entry.flat }
+    {
+        let left = Left {
+            sets: self.sets_left,
+            nodes: self.nodes_left,
+        };
+        Measured::of(self.flat, left)
     }
 
     /// One more component.
@@ -243,7 +258,7 @@ impl<'a> Growing<'a> {
 }
 
 /// Further conjuncts, whose components are at these places.
-fn take_moved<'a>(
+pub fn take_moved<'a>(
     conjuncts: &mut Items<'a, Conjunct<'a>>,
     arena: &'a Bump,
     further: Items<'a, Conjunct<'a>>,

@@ -6,7 +6,6 @@ ghost use Rattle.zf_calculus.specs.Calculus as spec;
 ghost use Rattle.zf_calculus.specs.Calculus.{Agree, MarkAgrees, comp, decorated, delta, new_place, prime, xi};
 ghost use Rattle.zf_calculus.specs.Steps.{IsNext, MarkClashes, OneClashes, Stops};
 ghost use Rattle.zf_calculus.specs.Growth.{IfStopped, IsGrowing};
-ghost use Rattle.zf_calculus.specs.Limits.{IsTooLarge};
 
 use crate::components::agree;
 use crate::growing::Growing;
@@ -18,7 +17,8 @@ use std::mem;
 use std::mem::ManuallyDrop;
 use zf_data::arena::{Items, Lasting, Lent};
 use zf_term::conjunct::Conjunct;
-use zf_term::globals::{Component, Flat};
+use zf_term::measured::Measured;
+use zf_term::schema::{Component, Flat};
 use zf_tree::tree::RefMark;
 
 /// The schema as it is marked: itself, or it and its state after an operation, and then that no component changes.
@@ -26,18 +26,18 @@ pub fn marked<'a>(
     arena: &'a Bump,
     mark: RefMark,
     line: u32,
-    flat: &Flat<'a>,
+    schema: &Measured<'a>,
     spare: Spare,
 ) -> Result<Growing<'a>, Stop<'a>>
-    ensures agree { IfOk result (λ g. MarkAgrees mark (schema_of flat.now)) }
-    ensures ok { IfOk result (λ g. IsNext (spec.marked mark line (schema_of flat.now)) (schema_of g.flat)) }
+    ensures agree { IfOk result (λ g. MarkAgrees mark (schema_of schema.now)) }
+    ensures ok { IfOk result (λ g. IsNext (spec.marked mark line (schema_of schema.now)) (schema_of g.flat)) }
     ensures growing { IfOk result (λ g. IsGrowing g) }
-    ensures err { IfErr result (λ e. IfStopped e (Stops (MarkClashes mark (schema_of flat.now)) (MarkAgrees mark (schema_of flat.now)) (spec.marked mark line (schema_of flat.now)))) }
+    ensures err { IfErr result (λ e. IfStopped e (Stops (MarkClashes mark (schema_of schema.now)) (MarkAgrees mark (schema_of schema.now)) (spec.marked mark line (schema_of schema.now)))) }
 {
     match mark {
-        RefMark::Plain => within(copy(arena, flat, spare)?),
-        RefMark::Delta => Ok(change(arena, flat, spare)?.0),
-        RefMark::Xi => no_change(arena, line, flat, spare),
+        RefMark::Plain => Ok(copy(arena, schema, spare)?),
+        RefMark::Delta => Ok(change(arena, schema, spare)?.0),
+        RefMark::Xi => no_change(arena, line, schema, spare),
     }
 }
 
@@ -45,16 +45,16 @@ pub fn marked<'a>(
 fn no_change<'a>(
     arena: &'a Bump,
     line: u32,
-    flat: &Flat<'a>,
+    schema: &Measured<'a>,
     spare: Spare,
 ) -> Result<Growing<'a>, Stop<'a>>
-    ensures agree { IfOk result (λ g. Agree (schema_of flat.now).comps (decorated prime (schema_of flat.now)).comps) }
-    ensures ok { IfOk result (λ g. IsNext (xi line (schema_of flat.now)) (schema_of g.flat)) }
+    ensures agree { IfOk result (λ g. Agree (schema_of schema.now).comps (decorated prime (schema_of schema.now)).comps) }
+    ensures ok { IfOk result (λ g. IsNext (xi line (schema_of schema.now)) (schema_of g.flat)) }
     ensures growing { IfOk result (λ g. IsGrowing g) }
-    ensures err { IfErr result (λ e. IfStopped e (Stops (OneClashes (schema_of flat.now).comps (decorated prime (schema_of flat.now)).comps) (Agree (schema_of flat.now).comps (decorated prime (schema_of flat.now)).comps) (xi line (schema_of flat.now)))) }
+    ensures err { IfErr result (λ e. IfStopped e (Stops (OneClashes (schema_of schema.now).comps (decorated prime (schema_of schema.now)).comps) (Agree (schema_of schema.now).comps (decorated prime (schema_of schema.now)).comps) (xi line (schema_of schema.now)))) }
 {
-    let spare = spare.and_conjuncts(flat.components.len());
-    let (mut growing, places) = change(arena, flat, spare)?;
+    let spare = spare.and_conjuncts(schema.flat().components.len());
+    let (mut growing, places) = change(arena, schema, spare)?;
     growing.take_equalities(arena, line, places.get().as_slice())?;
     Ok(growing)
 }
@@ -62,42 +62,37 @@ fn no_change<'a>(
 /// A schema and its state after an operation, and where the components of that state are.
 fn change<'a>(
     arena: &'a Bump,
-    flat: &Flat<'a>,
+    schema: &Measured<'a>,
     spare: Spare,
 ) -> Result<(Growing<'a>, Lasting<'a, Items<'a, usize>>), Stop<'a>>
-    ensures agree { IfOk result (λ p. Agree (schema_of flat.now).comps (decorated prime (schema_of flat.now)).comps) }
-    ensures ok { IfOk result (λ p. IsNext (delta (schema_of flat.now)) (schema_of p.0.flat)) }
+    ensures agree { IfOk result (λ p. Agree (schema_of schema.now).comps (decorated prime (schema_of schema.now)).comps) }
+    ensures ok { IfOk result (λ p. IsNext (delta (schema_of schema.now)) (schema_of p.0.flat)) }
     ensures growing { IfOk result (λ p. IsGrowing p.0) }
-    ensures places { IfOk result (λ p. place_in p.1 ≡ new_place (decorated prime (schema_of flat.now)).comps (delta (schema_of flat.now)).comps) }
-    ensures each { IfOk result (λ p. length p.1 ≡ length (schema_of flat.now).comps) }
-    ensures err { IfErr result (λ e. IfStopped e (Stops (OneClashes (schema_of flat.now).comps (decorated prime (schema_of flat.now)).comps) (Agree (schema_of flat.now).comps (decorated prime (schema_of flat.now)).comps) (delta (schema_of flat.now)))) }
+    ensures places { IfOk result (λ p. place_in p.1 ≡ new_place (decorated prime (schema_of schema.now)).comps (delta (schema_of schema.now)).comps) }
+    ensures each { IfOk result (λ p. length p.1 ≡ length (schema_of schema.now).comps) }
+    ensures err { IfErr result (λ e. IfStopped e (Stops (OneClashes (schema_of schema.now).comps (decorated prime (schema_of schema.now)).comps) (Agree (schema_of schema.now).comps (decorated prime (schema_of schema.now)).comps) (delta (schema_of schema.now)))) }
 {
+    let flat = schema.flat();
     let after = decorate(arena, b"'", flat, Spare::none())?;
     agree(flat.components.as_slice(), after.components.as_slice())?;
-    let before = copy(arena, flat, spare.and(&after))?;
-    let mut growing = within(before)?;
+    let mut growing = copy(arena, schema, spare.and(&after))?;
     let after = alike(&growing, after);
     let places = growing.merge(arena, after)?;
     Ok((growing, places))
 }
 
-/// The schema, if it is within the limits.
-pub fn within<'a>(flat: Flat<'a>) -> Result<Growing<'a>, Stop<'a>>
-    ensures ok { IfOk result (λ g. IsNext (schema_of flat.entry) (schema_of g.flat)) }
-    ensures growing { IfOk result (λ g. IsGrowing g) }
-    ensures err { IfErr result (λ e. IfStopped e (IsTooLarge (schema_of flat.entry))) }
-{
-    match Growing::of(flat) {
-        Ok(growing) => Ok(growing),
-        Err(limit) => Err(Stop::TooLarge(limit)),
-    }
-}
-
 /// The same schema, with room for what is expected of it.
-fn copy<'a>(arena: &'a Bump, flat: &Flat<'a>, spare: Spare) -> Result<Flat<'a>, AllocError>
-    ensures { IfOk result (λ f. schema_of f ≡ schema_of flat.now) }
+fn copy<'a>(arena: &'a Bump, schema: &Measured<'a>, spare: Spare) -> Result<Growing<'a>, AllocError>
+    ensures ok { IfOk result (λ g. IsNext (schema_of schema.now) (schema_of g.flat)) }
+    ensures growing { IfOk result (λ g. IsGrowing g) }
 {
-    decorate(arena, b"", flat, spare)
+    let left = schema.left();
+    let flat = decorate(arena, b"", schema.flat(), spare)?;
+    Ok(Growing {
+        flat,
+        sets_left: left.sets,
+        nodes_left: left.nodes,
+    })
 }
 
 /// A schema that is another one decorated, so that as much is left of the limits.

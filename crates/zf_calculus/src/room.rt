@@ -5,13 +5,13 @@ ghost use Rattle.zf_term.specs.Definitions.{comp_of, conjunct_of, set_of};
 ghost use Rattle.zf_term.specs.SetShapes.{set_count, set_nodes};
 ghost use Rattle.zf_term.specs.Shapes.{nodes};
 ghost use Rattle.zf_calculus.specs.Growth.{counted};
-ghost use Rattle.zf_calculus.specs.Limits.{IsLow};
+ghost use Rattle.zf_term.specs.Limits.{IsLow};
 
 use crate::limits::HEIGHT_MAX;
 use zf_shape::conjunct;
 use zf_shape::sets::{room_after_nodes, room_after_sets};
 use zf_term::conjunct::Conjunct;
-use zf_term::globals::{Component, Domain};
+use zf_term::schema::{Component, Domain};
 
 /// How much of the room for declared sets is left behind these, where there is enough.
 pub fn after_sets(domains: &[Domain<'_>], room: usize) -> Option<usize>
@@ -79,18 +79,7 @@ pub fn is_low(conjunct: &Conjunct<'_>, count: usize) -> bool
     conjunct::is_within(conjunct, HEIGHT_MAX)
 }
 
-/// Whether none of the conjuncts, which have so many nodes, is too high.
-pub fn are_low(conjuncts: &[Conjunct<'_>], count: usize) -> bool
-    requires { count ≡ sum_by nodes (map conjunct_of conjuncts.now) }
-    ensures { IsTrue result ↔ AllByRecursion IsLow (map conjunct_of conjuncts.now) }
-{
-    if count <= HEIGHT_MAX {
-        return true;
-    }
-    none_too_high(conjuncts)
-}
-
-/// Whether none of the conjuncts is too high, however many nodes they have. It descends no further than they may be high.
+/// Whether none of the conjuncts is too high. It descends no further than they may be high.
 pub fn none_too_high(conjuncts: &[Conjunct<'_>]) -> bool
     ensures { IsTrue result ↔ AllByRecursion IsLow (map conjunct_of conjuncts.now) }
 {

@@ -39,7 +39,7 @@ pub use Rattle.zf_term.specs.TermLaws.{references}
 pub use Rattle.zf_term.specs.Types.{has_numbers, power, product, Ty, type_of, types, Tys}
 pub use Rattle.zf_term.specs.declared.conjunct.Conjunct.{Conjunct}
 pub use Rattle.zf_term.specs.declared.extent.Infinite.{Infinite}
-pub use Rattle.zf_term.specs.declared.globals.Domain.{Domain}
+pub use Rattle.zf_term.specs.declared.schema.Domain.{Domain}
 pub use Rattle.zf_term.specs.declared.resolved.Resolved.{Resolved}
 pub use Rattle.zf_term.specs.declared.resolved.ResolvedLink.{ResolvedLink}
 pub use Rattle.zf_extent.specs.Extents.{direct}

@@ -1,6 +1,6 @@
 -- Several declared sets, one after another, and the two sides of a disjunction.
 use Rattle.zf_enum.proofs.Prelude.{◌+◌, ◌-◌, ◌<◌, ◌↔◌, ◌∙◌, ◌∷◌, ◌≡◌, ◌≤◌, ◌⊎◌, [], add-one, ap, arith, drop, get_or, inl, inr, length, List, map, refl, subst, suc, sym, take, true, zero, ℕ, ⊎_elim, and_parts, length-drop, IsMember, IsRegularSet, Value, of-Either, DeclaredSet, DeclaredSets, Defined, set_of, sets_of, sides, Domain, bounds, one_bounds, Environment, IsInSet, IsInSets, IsOneOut, IsSetOut, BoundsAt, IsAllOf, IsAllOfEach, Lists, Narrows, NarrowsAll}
-use Rattle.zf_term.specs.declared.globals.Domain.TheVariants as domain
+use Rattle.zf_term.specs.declared.schema.Domain.TheVariants as domain
 use Rattle.zf_enum.proofs.Listing.{lists_same}
 
 abbrev pub front : ℕ → List Domain → DeclaredSets

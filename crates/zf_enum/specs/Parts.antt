@@ -1,6 +1,6 @@
 -- What declared sets leave of values. No public clause rests on this.
 use Rattle.std.specs.Prelude.{◌≡◌, ◌⊎◌, ◌↔◌, ℕ, ◌<◌, true, List, [], ◌∷◌, ◌++◌, length, get_or, Option}
-use Rattle.zf_term.specs.declared.globals.Domain.{Domain}
+use Rattle.zf_term.specs.declared.schema.Domain.{Domain}
 use Rattle.zf_finite.specs.Finite.{bounds}
 use Rattle.zf_term.specs.Definitions.{Defined, DeclaredSet, DeclaredSets, set_of}
 use Rattle.zf_value.specs.declared.value.Value.{Value}

@@ -1,7 +1,7 @@
 -- The first in components and declared sets, and how it is found from the front.
 use Rattle.zf_finite.proofs.Prelude.{◌++◌, ◌+◌, ◌<◌, ◌∙◌, ◌∷◌, ◌≡◌, [], ap, drop, flat_map, get_or, length, List, map, None, Option, option_map, refl, Some, sym, ℕ, flat_map-cons, Defined, set_of, sets_of, or_else, Offender, first, all_plain_lines, all_set_offenders, first_or, plain_lines, set_offenders}
 use Rattle.std.proofs.lemmas.Option.{none-some}
-use Rattle.zf_term.specs.declared.globals.Domain.{Domain}
+use Rattle.zf_term.specs.declared.schema.Domain.{Domain}
 use Rattle.zf_extent.proofs.FirstOffenders.{first_of_both, first_step}
 
 -- what is found in the one, and then in the other

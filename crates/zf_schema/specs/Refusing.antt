@@ -23,7 +23,7 @@ use Rattle.zf_schema.specs.Expressions.{inside}
 use Rattle.zf_schema.specs.SchemaOffences.{IsNoSchema, OffendsAlone, OffendsAfter, ConstrainsTooMuch}
 use Rattle.zf_calculus.specs.Steps.{Clashes, OneClashes, Stops}
 use Rattle.zf_calculus.specs.Growth.{grown, constrained}
-use Rattle.zf_calculus.specs.Limits.{IsTooLarge}
+use Rattle.zf_term.specs.Limits.{IsTooLarge}
 
 -- the refusal is that of the stop, at the line
 abbrev pub Refuses : Stop → (line : ℕ) → Refusal → Type 0

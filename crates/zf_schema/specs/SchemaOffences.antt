@@ -18,7 +18,7 @@ use Rattle.zf_type.specs.Typing.{IsOf}
 use Rattle.zf_calculus.specs.Calculus.{comp, schema_of, nothing, Agrees, Agree, with_comp, conjoined, decorated, marked, MarkAgrees, disjoined}
 use Rattle.zf_schema.specs.Expressions.{outside, inside, Refers, DeclaresOne, Declares, ConstrainsOne, IsSchema}
 use Rattle.zf_calculus.specs.Steps.{IsNext, Adds, Clashes, OneClashes, MarkClashes, Stops}
-use Rattle.zf_calculus.specs.Limits.{IsTooLarge}
+use Rattle.zf_term.specs.Limits.{IsTooLarge}
 
 -- it holds of one of them
 abbrev pub AnyByRecursion : {A : Type 0} → (A → Type 0) → List A → Type 0

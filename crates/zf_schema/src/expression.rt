@@ -19,7 +19,9 @@ use bumpalo::Bump;
 use zf_calculus::disjunction::disjoin;
 use zf_calculus::growing::Growing;
 use zf_calculus::spare::Spare;
-use zf_term::globals::{Flat, Globals};
+use zf_term::globals::Globals;
+use zf_term::measured::Measured;
+use zf_term::schema::Flat;
 use zf_tree::tree::{Decl, Name, SchemaExp};
 use zf_type::fault::Refusal;
 
@@ -28,14 +30,14 @@ pub fn schema_of_expression<'a>(
     exp: &SchemaExp<'a>,
     arena: &'a Bump,
     globals: &Globals<'a>,
-) -> Result<Flat<'a>, Refusal<'a>>
+) -> Result<Measured<'a>, Refusal<'a>>
     ensures ok { IfOk result (λ f. IsSchema (globals_of globals.now) (tree.schema_of exp.now) (schema_of f)) }
     ensures wrong { IfErr result (λ e. IfFault e (OffendsSchema (globals_of globals.now) (tree.schema_of exp.now))) }
 {
-    Ok(growing_schema(exp, arena, globals)?.flat)
+    Ok(growing_schema(exp, arena, globals)?.measured())
 }
 
-/// The same schema, with what is left of the limits.
+/// The same schema, which may grow.
 #[tactic(auto, using(zf_tree::proofs::SchemaSeen::seen))]
 fn growing_schema<'a>(
     exp: &SchemaExp<'a>,

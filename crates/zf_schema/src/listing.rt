@@ -8,7 +8,8 @@ ghost use Rattle.zf_schema.specs.Listing as spec;
 use std::alloc::{AllocError, Global};
 use zf_data::Text;
 use zf_data::arena::Lent;
-use zf_term::globals::{Component, Entry, Flat, Globals};
+use zf_term::globals::{Entry, Globals};
+use zf_term::schema::{Component, Flat};
 use zf_term::type_text::append_type;
 use zf_term::ztype::ZType;
 
@@ -33,7 +34,7 @@ fn append_entry(text: &mut Vec<u8>, name: &[u8], entry: &Entry) -> Result<(), Al
         Entry::Free(_, constructors) => append_free(text, name, constructors.as_slice()),
         Entry::Constructor(_, _, _) => Ok(()),
         Entry::Abbrev(ztype, _, _) => append_abbreviation(text, name, ztype),
-        Entry::Schema(schema) => append_schema(text, name, schema),
+        Entry::Schema(schema) => append_schema(text, name, schema.flat()),
     }
 }
 

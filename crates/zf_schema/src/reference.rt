@@ -13,12 +13,13 @@ use bumpalo::Bump;
 use zf_calculus::growing::Growing;
 use zf_calculus::marking::{decorate_own, marked};
 use zf_calculus::spare::Spare;
-use zf_term::globals::{Entry, Flat, Globals};
+use zf_term::globals::{Entry, Globals};
+use zf_term::measured::Measured;
 use zf_term::named::global_of;
 use zf_tree::tree::{Name, SchemaRef};
 use zf_type::fault::{Offence, Refusal, refused};
 
-/// The schema that is referred to, with what is left of the limits, and with room for what is expected of it.
+/// The schema that is referred to, with room for what is expected of it.
 pub fn referred<'a>(
     arena: &'a Bump,
     globals: &Globals<'a>,
@@ -30,11 +31,12 @@ pub fn referred<'a>(
     ensures fault { IfErr result (λ e. IfFault e (OffendsRef (globals_of globals.now) reference.now)) }
 {
     let name = &reference.name;
-    let flat = match schema_named(globals, name) {
-        Ok(flat) => flat,
+    let schema = match schema_named(globals, name) {
+        Ok(schema) => schema,
         Err(offence) => return Err(refused(arena, offence, name.line)),
     };
-    match marked(arena, reference.mark, name.line, flat, spare.behind(flat)) {
+    let spare = spare.behind(schema.flat());
+    match marked(arena, reference.mark, name.line, schema, spare) {
         Ok(growing) => Ok(decorate_own(arena, name.strokes(), growing)?),
         Err(stop) => Err(refusal(arena, stop, name.line)),
     }
@@ -44,7 +46,7 @@ pub fn referred<'a>(
 fn schema_named<'a, 'b>(
     globals: &'b Globals<'a>,
     name: &Name<'a>,
-) -> Result<&'b Flat<'a>, Offence<'a>>
+) -> Result<&'b Measured<'a>, Offence<'a>>
     ensures ok { IfOk result (λ f. IsNamed (globals_of globals.now) name.now.base (schema_of f.now)) }
     ensures err { IfErr result (λ o. LacksSchema (globals_of globals.now) name.now (offence_of o)) }
 {
@@ -52,16 +54,16 @@ fn schema_named<'a, 'b>(
         return Err(Offence::NotDeclared(name.spelled()));
     };
     match as_schema(entry) {
-        Some(flat) => Ok(flat),
+        Some(schema) => Ok(schema),
         None => Err(Offence::NotASchema(name.spelled())),
     }
 }
 
-fn as_schema<'a, 'b>(entry: &'b Entry<'a>) -> Option<&'b Flat<'a>>
+fn as_schema<'a, 'b>(entry: &'b Entry<'a>) -> Option<&'b Measured<'a>>
     ensures { MatchOption result (IsNoSchema (definition_of entry.now)) (λ f. definition_of entry.now ≡ schema (schema_of f.now)) }
 {
     match entry {
-        Entry::Schema(flat) => Some(flat),
+        Entry::Schema(schema) => Some(schema),
         Entry::Given(_)
         | Entry::Free(_, _)
         | Entry::Constructor(_, _, _)

@@ -30,8 +30,10 @@ use zf_calculus::limits::{COMPONENTS_MAX, CONJUNCTS_MAX};
 use zf_calculus::spare::Spare;
 use zf_data::arena::{Boxed, Items, Lasting, Shared};
 use zf_term::conjunct::Conjunct;
-use zf_term::globals::{Component, Domain, Flat, Globals};
+use zf_term::globals::Globals;
+use zf_term::measured::Measured;
 use zf_term::resolved::Resolved;
+use zf_term::schema::{Component, Domain};
 use zf_term::ztype::ZType;
 use zf_tree::operator::Need;
 use zf_tree::tree::{Decl, Name, SchemaRef, Term};
@@ -47,14 +49,14 @@ pub fn text_of<'a>(
     globals: &Globals<'a>,
     decls: &[Decl<'a>],
     predicates: &[Boxed<'a, Term<'a>>],
-) -> Result<Flat<'a>, Refusal<'a>>
+) -> Result<Measured<'a>, Refusal<'a>>
     ensures ok { IfOk result (λ f. IsText (globals_of globals.now) (map decl_of decls.now) (map tree_of predicates.now) (schema_of f)) }
     ensures wrong { IfErr result (λ e. IfFault e (OffendsText (globals_of globals.now) (map decl_of decls.now) (map tree_of predicates.now))) }
 {
-    Ok(growing_text(arena, globals, decls, predicates)?.flat)
+    Ok(growing_text(arena, globals, decls, predicates)?.measured())
 }
 
-/// The same schema, with what is left of the limits.
+/// The same schema, which may grow.
 pub fn growing_text<'a>(
     arena: &'a Bump,
     globals: &Globals<'a>,

@@ -1,6 +1,6 @@
 -- What is counted of the first of several declared sets.
 use Rattle.zf_shape.proofs.Prelude.{◌+◌, ◌<◌, ◌∷◌, ◌≡◌, ◌≤◌, [], add-one, ap, arith, get_or, length, List, map, suc, take, zero, ℕ, set_of, all_set_counts, all_set_nodes, set_count, set_nodes}
-use Rattle.zf_term.specs.declared.globals.Domain.{Domain}
+use Rattle.zf_term.specs.declared.schema.Domain.{Domain}
 
 pub counts_before : (xs : List Domain) (i : ℕ) (x : Domain) → x ≡ get_or xs i x → i < length xs → all_set_counts (map set_of (take i xs)) + set_count (set_of x) ≤ all_set_counts (map set_of xs)
 counts_before [] i x at l = absurd (omega arith)

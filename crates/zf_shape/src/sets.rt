@@ -5,7 +5,7 @@ ghost use Rattle.zf_term.specs.SetShapes.{set_count, set_nodes, all_set_counts, 
 
 use crate::terms;
 use zf_data::arena::Items;
-use zf_term::globals::Domain;
+use zf_term::schema::Domain;
 
 /// What is left of room for so many declared sets, if there are no more in this.
 #[cycle(sets)]

@@ -1,8 +1,8 @@
 -- What each form of declared set is seen as.
 use Rattle.zf_term.proofs.Prelude.{◌∙◌, ◌≡◌, ap, List, map, sym, carrier, DeclaredSet, domain_step, plain, sets_of, sides, set_of, resolved_of, type_of, Resolved, ZType}
-use Rattle.zf_term.specs.declared.globals.Domain.{Domain, roll-Domain, fold-roll-Domain, map-Domain}
-use Rattle.zf_term.specs.declared.globals.Domain.TheOpen.{Domain-F}
-use Rattle.zf_term.specs.declared.globals.Domain.TheVariants as v
+use Rattle.zf_term.specs.declared.schema.Domain.{Domain, roll-Domain, fold-roll-Domain, map-Domain}
+use Rattle.zf_term.specs.declared.schema.Domain.TheOpen.{Domain-F}
+use Rattle.zf_term.specs.declared.schema.Domain.TheVariants as v
 
 rolled : (x : Domain-F Domain) → set_of (roll-Domain x) ≡ domain_step (map-Domain Domain DeclaredSet set_of x)
 unfolding set_of

@@ -2,9 +2,11 @@ pub mod Types
 pub mod TypeTexts
 pub mod Faults
 pub mod ResolvedTrees
-pub mod Definitions
 pub mod Shapes
+pub mod Schemas
 pub mod SetShapes
+pub mod Limits
+pub mod Definitions
 pub mod References
 pub mod Numbers
 pub mod FirstNamed

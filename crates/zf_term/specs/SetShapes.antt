@@ -1,6 +1,6 @@
 -- How large declared sets are.
 use Rattle.std.specs.Prelude.{ℕ, ◌+◌, List}
-use Rattle.zf_term.specs.Definitions.{DeclaredSet, plain, carrier, sides, DeclaredSets, no_sets, set, sets_of}
+use Rattle.zf_term.specs.Schemas.{DeclaredSet, plain, carrier, sides, DeclaredSets, no_sets, set, sets_of}
 use Rattle.zf_term.specs.Shapes.{nodes}
 
 -- the sets that are held: one for that of a declaration or of a type

@@ -4,45 +4,14 @@ ghost use Rattle.zf_term.specs.Definitions as spec;
 ghost use Rattle.zf_term.specs.Definitions.{definition_of, globals_of, schema_of};
 ghost use Rattle.zf_term.specs.FirstNamed.{first_named};
 
-use crate::conjunct::Conjunct;
 use crate::extent::Extent;
+use crate::measured::Measured;
 use crate::resolved::Resolved;
+pub use crate::schema::{Component, Domain, Domains, Flat};
 use crate::ztype::ZType;
-use bumpalo::Bump;
 use indexmap::IndexMap;
 use std::alloc::{AllocError, Global};
-use std::marker::Model;
-use zf_data::arena::{Items, Lasting, Lent, Shared};
-
-/// A declared set of a component.
-#[derive(Drop)]
-pub enum Domain<'a> {
-    /// The set that a declaration names.
-    Plain(Lasting<'a, Resolved<'a>>),
-    /// All values of the type: of a component that one side of a disjunction lacks.
-    Carrier(ZType<'a>),
-    /// Both sides of a disjunction: what lies in all of the left or in all of the right.
-    Either(Domains<'a>, Domains<'a>),
-}
-
-/// Declared sets, which several components may share.
-pub type Domains<'a> = Shared<'a, Items<'a, Domain<'a>>>;
-
-/// A component of a schema, with its declared sets.
-#[derive(Drop)]
-pub struct Component<'a> {
-    /// The name as spelled, with its strokes.
-    pub name: Lent<'a>,
-    pub ztype: ZType<'a>,
-    pub domains: Domains<'a>,
-}
-
-/// A schema: its components in order, and the conjuncts of its property.
-#[derive(Drop)]
-pub struct Flat<'a> {
-    pub components: Items<'a, Component<'a>>,
-    pub conjuncts: Items<'a, Conjunct<'a>>,
-}
+use zf_data::arena::{Items, Lent};
 
 /// What a global name is defined as. The number of a given set or free type is its place among them.
 #[derive(Drop)]
@@ -54,42 +23,13 @@ pub enum Entry<'a> {
     Constructor(usize, Lent<'a>, usize),
     /// An abbreviation: its type, its term, and the extent of that.
     Abbrev(ZType<'a>, Resolved<'a>, Extent),
-    Schema(Flat<'a>),
+    Schema(Measured<'a>),
 }
 
 /// The names that a text defines, in order.
 #[derive(Drop)]
 pub struct Globals<'a> {
     pub entries: IndexMap<Vec<u8>, Entry<'a>>,
-}
-
-impl<'a> Domain<'a> {
-    /// The same declared set, of which nothing is copied.
-    pub fn share(&self) -> Result<Domain<'a>, AllocError>
-        ensures { IfOk result (λ d. d ≡ self.now) }
-    {
-        match self {
-            Domain::Plain(set) => Ok(Domain::Plain(set.share())),
-            Domain::Carrier(ztype) => Ok(Domain::Carrier(ztype.share()?)),
-            Domain::Either(left, right) => Ok(Domain::Either(left.share()?, right.share()?)),
-        }
-    }
-}
-
-impl<'a> Component<'a> {
-    /// The same component, of which nothing is copied.
-    pub fn share(&self) -> Result<Component<'a>, AllocError>
-        ensures { IfOk result (λ c. c ≡ self.now) }
-    {
-        let name = self.name.share();
-        let ztype = self.ztype.share()?;
-        let domains = self.domains.share()?;
-        Ok(Component {
-            name,
-            ztype,
-            domains,
-        })
-    }
 }
 
 impl<'a> Globals<'a> {
@@ -127,7 +67,7 @@ impl<'a> Globals<'a> {
         ensures { MatchOption result ((i : ℕ) (a : spec.Schema) → first_named (λ d. d.name) name.now (globals_of self.now) ≡ Some (i, record { name = name.now; definition = spec.schema a }) → ⊥) (λ f. (i : ℕ) × (first_named (λ d. d.name) name.now (globals_of self.now) ≡ Some (i, record { name = name.now; definition = spec.schema (schema_of f.now) }))) }
     {
         match self.entry(name)? {
-            Entry::Schema(schema) => Some(schema),
+            Entry::Schema(schema) => Some(schema.flat()),
             _ => None,
         }
     }

@@ -17,7 +17,7 @@ pub use Rattle.zf_value.specs.declared.value.Value.{Elem, fold-roll-Value, Int, 
 pub use Rattle.zf_term.specs.Definitions.{Comp, comp_of, Defined, definition_of, globals_of}
 pub use Rattle.zf_term.specs.FirstNamed.{first_named}
 pub use Rattle.zf_term.specs.Types.{basic, int, no_types, power, product, Ty, type, type_of, types, Tys}
-pub use Rattle.zf_term.specs.declared.globals.Component.{Component}
+pub use Rattle.zf_term.specs.declared.schema.Component.{Component}
 pub use Rattle.zf_meaning.specs.Environments.{definition_number, Environment, found_number, type_number}
 pub use Rattle.zf_meaning.specs.Envs.{environment_of}
 pub use Rattle.zf_meaning.specs.Rows.{AreOfTypes, IsElement, IsOfType, IsRow}

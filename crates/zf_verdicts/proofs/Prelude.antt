@@ -18,7 +18,7 @@ pub use Rattle.zf_type.specs.Resolving.{resolved}
 pub use Rattle.zf_type.specs.Rules.{a_schema, constant_sort, IsSmallSort, Meets, number, predicate, PrefixTakes, relation, set_of, SignTakes, Sort, Takes, typed, UnaryTakes}
 pub use Rattle.zf_type.specs.Typing.{AreAll, AreApart, AreLinked, AreMembers, Builds, Constrains, Declare, declared, IsApart, IsOf, Makes, member_need, member_sort, row_type, variables}
 pub use Rattle.zf_calculus.specs.Calculus.{Agree, Agrees, comp, comp_named, conjoined, decorated, disjoined, HasTypeOf, MarkAgrees, marked, nothing, prime, schema_of, with_comp}
-pub use Rattle.zf_calculus.specs.Limits.{all_nodes, AreFew, components_max, conjuncts_max, declared_sets, height_max, IsLow, IsTooLarge, IsWithin, Keeps, nodes_max, sets_max}
+pub use Rattle.zf_term.specs.Limits.{all_nodes, AreFew, components_max, conjuncts_max, declared_sets, height_max, IsLow, IsTooLarge, IsWithin, Keeps, nodes_max, sets_max}
 pub use Rattle.zf_calculus.specs.Steps.{Adds, Clashes, Differs, Includes, IsNext, MarkClashes, OneClashes, Stops}
 pub use Rattle.zf_schema.specs.SchemaOffences.{AnyByRecursion, IsNoSchema, name_line, OffendsAfter, OffendsAlone, OffendsConjuncts, OffendsDecls, OffendsNames, OffendsPredicates, OffendsRef, OffendsSchema, OffendsText}
 pub use Rattle.zf_verdicts.specs.Laws.{SomeOffence}

@@ -4,7 +4,7 @@ use Rattle.zf_calculus.proofs.Disjoining.{disjunction_made, stops_disjoining, ne
 use Rattle.zf_calculus.proofs.Stopping.{stopped, if_ok}
 use Rattle.std.specs.List.{AllByRecursion}
 use Rattle.zf_term.specs.Faults.{too_large}
-use Rattle.zf_calculus.specs.Limits.{IsLow}
+use Rattle.zf_term.specs.Limits.{IsLow}
 use Rattle.zf_term.specs.declared.fault.Limit.TheVariants as limit
 use Rattle.zf_calculus.proofs.disjunction.disjoin.Goals as goal
 

@@ -1,5 +1,5 @@
-use Rattle.zf_calculus.proofs.Prelude.{◌++◌, ◌≡◌, map, take, conjunct_of, resolved_of}
+use Rattle.std.proofs.Common.{◌++◌, ◌≡◌, take}
 use Rattle.zf_calculus.proofs.disjunction.push_conjuncts.Given as goal
 
 abbrev pub invariant-loop-conjunct : goal.invariant-loop-conjunct
-invariant-loop-conjunct l = map resolved_of l.made ≡ map resolved_of l.initial.made ++ map conjunct_of (take l.conjunct-index l.conjuncts)
+invariant-loop-conjunct l = l.made ≡ l.initial.made ++ take l.conjunct-index l.conjuncts

@@ -1,8 +1,11 @@
-use Rattle.zf_calculus.proofs.Prelude.{◌∙◌, ◌≡◌, [], schema_of, decorated}
-use Rattle.zf_calculus.proofs.Decorating.{undecorated}
-use Rattle.zf_calculus.proofs.Stopping.{if_ok}
+use Rattle.zf_calculus.proofs.Prelude.{◌∙◌, [], ap, schema_of, decorated}
+use Rattle.zf_calculus.proofs.Decorating.{left_decorated, undecorated}
 use Rattle.zf_calculus.proofs.marking.copy.Goals as goal
 
-pub returns : goal.returns
-returns c =
-    if_ok c.decorate.result (λ f. schema_of f ≡ decorated [] (schema_of c.args.flat.now)) (λ f. schema_of f ≡ schema_of c.args.flat.now) (λ f e. e ∙ undecorated (schema_of c.args.flat.now)) c.decorate.ensures
+pub returns-clause-ok : goal.returns-clause-ok
+returns-clause-ok c = (c.in_ok-flat.ensures ∙ undecorated (schema_of c.flat.result.now) ∙ ap schema_of c.flat.ensures, c.left-left.ensures.within)
+
+pub returns-clause-growing : goal.returns-clause-growing
+returns-clause-growing c =
+    let made = c.in_ok-flat.ensures ∙ ap (λ f. decorated [] (schema_of f)) c.flat.ensures in
+    left_decorated [] (schema_of c.args.schema.now) (schema_of c.in_ok-flat.flat) c.left-left.result.sets c.left-left.result.nodes c.left-left.ensures made

@@ -6,7 +6,7 @@ use Rattle.zf_schema.proofs.reference.referred.Goals as goal
 pub returns-in_ok-decorate_own-in-Ok-marked-clause-ok : goal.returns-in_ok-decorate_own-in-Ok-marked-clause-ok
 returns-in_ok-decorate_own-in-Ok-marked-clause-ok c =
     let r = c.args.reference.now in
-    let a = schema_of c.in-Ok.flat.now in
+    let a = schema_of c.in-Ok.schema.now in
     let m = schema_of c.in-Ok-marked.growing.flat in
     let next = subst (λ l. IsNext (marked r.mark l a) m) (ap (λ n. n.line) c.name.view_is) c.in-Ok-marked.ensures.ok in
     refers (globals_of c.args.globals.now) r r.name.base c.strokes.result.now a m (schema_of c.in_ok-decorate_own-in-Ok-marked.field-0.flat) c.in-Ok.ensures.ok refl c.strokes.ensures c.in-Ok-marked.ensures.agree next c.in_ok-decorate_own-in-Ok-marked.ensures.ok
@@ -15,7 +15,7 @@ pub returns-in-Err-marked-clause-fault : goal.returns-in-Err-marked-clause-fault
 returns-in-Err-marked-clause-fault c =
     let g = globals_of c.args.globals.now in
     let r = c.args.reference.now in
-    let a = schema_of c.in-Ok.flat.now in
+    let a = schema_of c.in-Ok.schema.now in
     let line = c.name.inside.line in
     let offends = subst (λ l. (k : Offence) → Stops (MarkClashes r.mark a) (MarkAgrees r.mark a) (marked r.mark l a) k → OffendsRef g r k l) (ap (λ n. n.line) (sym c.name.view_is)) (cant_refer g r r.name.base a c.in-Ok.ensures.ok refl) in
     refused_by c.in-Err-marked.stop line c.refusal.result (Stops (MarkClashes r.mark a) (MarkAgrees r.mark a) (marked r.mark line a)) (OffendsRef g r) offends c.refusal.ensures c.in-Err-marked.ensures.err

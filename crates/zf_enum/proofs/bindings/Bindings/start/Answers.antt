@@ -1,6 +1,6 @@
 -- A search begins before all events of the schema.
 use Rattle.zf_enum.proofs.Prelude.{◌∙◌, ap, List, map, subst, sym, option_copied, Value, comp_of, conjunct_of, schema_of, Resolved, resolved_of, environment_of, AreAllRanges, AreRanges, Property}
-use Rattle.zf_term.specs.declared.globals.Component.{Component}
+use Rattle.zf_term.specs.declared.schema.Component.{Component}
 use Rattle.zf_enum.proofs.Started.{ranges_ascend, named_within, due_within, ahead_of, say_alike}
 use Rattle.zf_enum.proofs.bindings.Bindings.start.Goals as goal
 

@@ -1,6 +1,6 @@
 -- A search begins before all events of the schema.
 use Rattle.zf_enum.proofs.Prelude.{◌∙◌, ap, arith, length, List, map, subst, sym, option_copied, AreAllAhead, all_ahead, SayTheSame, Grove, trees_of, HaveLeavesWithin, planted, exact, value_order, Value, comp_of, conjunct_of, schema_of, resolved_of, Conjunct, environment_of, AreAllRanges, ArePlanted, property, AreRanges, judged, with_first, Property}
-use Rattle.zf_term.specs.declared.globals.Component.{Component}
+use Rattle.zf_term.specs.declared.schema.Component.{Component}
 use Rattle.zf_enum.proofs.Naming.{as_many, dues_at, first_names, named_alike}
 use Rattle.zf_enum.proofs.Started.{ranges_ascend, named_within, needs_within}
 use Rattle.zf_enum.proofs.Planted.{say_the_same, leaves_within}

@@ -1,7 +1,7 @@
 -- The limits of a schema.
 use Rattle.std.specs.Prelude.{◌≡◌, ℕ, ◌+◌, ◌≤◌, List, length}
 use Rattle.std.specs.List.{AllByRecursion, sum_by}
-use Rattle.zf_term.specs.Definitions.{Comp, Schema}
+use Rattle.zf_term.specs.Schemas.{Comp, Schema}
 use Rattle.zf_term.specs.declared.fault.Limit.{Limit}
 use Rattle.zf_term.specs.declared.fault.Limit.TheVariants as limit
 use Rattle.zf_term.specs.Faults.{Offence, too_large}
@@ -44,6 +44,12 @@ pub record IsWithin (a : Schema) : Type 0 where
   pub conjuncts : length a.conjuncts ≤ conjuncts_max
   pub nodes : all_nodes a ≤ nodes_max
   pub low : AllByRecursion IsLow a.conjuncts
+
+-- a schema within the limits, with what is left of two of them
+pub record HasLeft (a : Schema) (sets_left nodes_left : ℕ) : Type 0 where
+  pub sets : sets_left + declared_sets a ≡ sets_max
+  pub nodes : nodes_left + all_nodes a ≡ nodes_max
+  pub within : IsWithin a
 
 -- the schema is within this limit
 abbrev pub Keeps : Limit → Schema → Type 0
