@@ -1,11 +1,7 @@
-use Rattle.zf_calculus.proofs.Prelude.{map, refl, subst, sym, conjunct_of, schema_of, Agree, disjoined, IsTooLarge, IsNext, OneClashes, Stops}
+use Rattle.zf_calculus.proofs.Prelude.{refl, schema_of, Agree, disjoined, IsTooLarge, IsNext, OneClashes, Stops}
 use Rattle.zf_calculus.proofs.Changing.{agreed}
 use Rattle.zf_calculus.proofs.Disjoining.{disjunction_made, stops_disjoining, next_disjoined}
 use Rattle.zf_calculus.proofs.Stopping.{stopped, if_ok}
-use Rattle.std.specs.List.{AllByRecursion}
-use Rattle.zf_term.specs.Faults.{too_large}
-use Rattle.zf_term.specs.Limits.{IsLow}
-use Rattle.zf_term.specs.declared.fault.Limit.TheVariants as limit
 use Rattle.zf_calculus.proofs.disjunction.disjoin.Goals as goal
 
 pub returns-clause-ok : goal.returns-clause-ok
@@ -22,12 +18,3 @@ returns-clause-err c =
     let ok : all_agree = agreed c.args.left.now c.args.right.now (schema_of c.args.right.now) c.as_slice.result.now c.as_slice-2.result.now c.as_slice.ensures c.as_slice-2.ensures refl c.in_ok-agree.ensures.ok in
     let clashes = OneClashes (schema_of c.args.left.now).comps (schema_of c.args.right.now).comps in
     stopped c.within.result (IsTooLarge (schema_of c.in_ok-flat.flat)) (Stops clashes all_agree whole) (stops_disjoining clashes all_agree (schema_of c.in_ok-flat.flat) whole made ok) c.within.ensures.err
-
-pub returns-then-not-none_too_high-clause-err : goal.returns-then-not-none_too_high-clause-err
-returns-then-not-none_too_high-clause-err c =
-    let whole = disjoined c.args.line (schema_of c.args.left.now) (schema_of c.args.right.now) in
-    let all_agree = Agree (schema_of c.args.left.now).comps (schema_of c.args.right.now).comps in
-    let made = disjunction_made c.args.line c.args.left.now c.args.right.now c.in_ok-flat.flat c.in_ok-all.all c.as_slice-5.result.now c.as_slice-3.result.now c.as_slice-4.result.now c.in_ok-flat.ensures c.as_slice-5.ensures c.in_ok-all.ensures.ok c.as_slice-3.ensures c.as_slice-4.ensures in
-    let ok : all_agree = agreed c.args.left.now c.args.right.now (schema_of c.args.right.now) c.as_slice.result.now c.as_slice-2.result.now c.as_slice.ensures c.as_slice-2.ensures refl c.in_ok-agree.ensures.ok in
-    let clashes = OneClashes (schema_of c.args.left.now).comps (schema_of c.args.right.now).comps in
-    stops_disjoining clashes all_agree (schema_of c.in_ok-flat.flat) whole made ok (too_large limit.Height) (limit.Height, refl, λ low. let holds = c.none_too_high.ensures.1 (subst (λ cs. AllByRecursion IsLow (map conjunct_of cs)) (sym c.as_slice-6.ensures) low) in absurd (cc))
