@@ -51,7 +51,7 @@ fn carriers_of(parts: &[ZType<'_>], env: &Env<'_, '_>) -> Result<Gathered, Alloc
     ensures regular { IfOk result (λ s. AreRegular s.values.items) }
 {
     let alloc = env.allocator();
-    let mut gathered = Gathered::new(alloc);
+    let mut gathered = Gathered::with_room(alloc, parts.len())?;
     for part in parts {
         let carrier = carrier_of(part, env)?;
         gathered.add(alloc, Found::own(carrier))?;

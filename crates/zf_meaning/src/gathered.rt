@@ -1,5 +1,5 @@
 //! The values of several terms.
-ghost use Rattle.std.specs.Prelude.{◌≡◌, [], OnOk};
+ghost use Rattle.std.specs.Prelude.{◌≡◌, [], IfOk, OnOk};
 ghost use Rattle.zf_value.specs.Sets.{AreRegular, IsRegularOutcome};
 ghost use Rattle.zf_meaning.specs.Found.{found_outcome};
 ghost use Rattle.zf_meaning.specs.Gathered as spec;
@@ -28,14 +28,16 @@ pub(crate) struct Gathered {
 impl Gathered {
     ghost use Rattle.zf_meaning.specs.Gathered as spec;
 
-    pub(crate) fn new(alloc: Global) -> Gathered
-        ensures values { result.values.items ≡ [] }
-        ensures lack { result.lack ≡ Lack.Nothing }
+    /// No values, with room for so many.
+    pub(crate) fn with_room(alloc: Global, room: usize) -> Result<Gathered, AllocError>
+        ensures values { IfOk result (λ g. g.values.items ≡ []) }
+        ensures lack { IfOk result (λ g. g.lack ≡ Lack.Nothing) }
     {
-        Gathered {
-            values: Vec::new(alloc),
+        let values = Vec::with_capacity(alloc, room)?;
+        Ok(Gathered {
+            values,
             lack: Lack::Nothing,
-        }
+        })
     }
 
     /// Adds the outcome of a further term.

@@ -93,7 +93,7 @@ pub(super) fn gather<'v, 'a, R: Row>(
     ensures regular { IfOk result (λ s. AreRegular s.values.items) }
 {
     let alloc = env.allocator();
-    let mut gathered = Gathered::new(alloc);
+    let mut gathered = Gathered::with_room(alloc, terms.len())?;
     for term in terms {
         let found = outcome(term, row, locals, env)?;
         gathered.add(alloc, found)?;

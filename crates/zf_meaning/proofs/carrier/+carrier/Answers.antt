@@ -5,8 +5,8 @@ use Rattle.zf_meaning.proofs.carrier.+carrier.Goals as goal
 
 pub carriers_of-loop-part-init : goal.carriers_of-loop-part-init
 carriers_of-loop-part-init t c = record {
-  gathers = carriers-begun (environment_of c.args.env.now) c.args.parts.now c.new-gathered.result.lack c.new-gathered.result.values.items c.new-gathered.ensures.lack c.new-gathered.ensures.values;
-  regular = no-values c.new-gathered.result.values.items c.new-gathered.ensures.values;
+  gathers = carriers-begun (environment_of c.args.env.now) c.args.parts.now c.in_ok-gathered.gathered.lack c.in_ok-gathered.gathered.values.items c.in_ok-gathered.ensures.lack c.in_ok-gathered.ensures.values;
+  regular = no-values c.in_ok-gathered.gathered.values.items c.in_ok-gathered.ensures.values;
 }
 
 pub carriers_of-loop-part-preserved : goal.carriers_of-loop-part-preserved

@@ -18,8 +18,8 @@ use Rattle.zf_meaning.proofs.evaluate.+meaning.Goals as goal
 
 pub operands::gather-loop-term-init : goal.operands::gather-loop-term-init
 operands::gather-loop-term-init g t c = record {
-  gathers = gather-begun (scope_of c.args.env.now (g.R.Row.values c.args.row.now) c.args.locals.now) c.args.terms.now c.args.terms.now c.new-gathered.result.lack c.new-gathered.result.values.items refl c.new-gathered.ensures.lack c.new-gathered.ensures.values;
-  regular = regular-nothing c.new-gathered.result.values.items c.new-gathered.ensures.values;
+  gathers = gather-begun (scope_of c.args.env.now (g.R.Row.values c.args.row.now) c.args.locals.now) c.args.terms.now c.args.terms.now c.in_ok-gathered.gathered.lack c.in_ok-gathered.gathered.values.items refl c.in_ok-gathered.ensures.lack c.in_ok-gathered.ensures.values;
+  regular = regular-nothing c.in_ok-gathered.gathered.values.items c.in_ok-gathered.ensures.values;
 }
 
 pub operands::gather-loop-term-preserved : goal.operands::gather-loop-term-preserved
