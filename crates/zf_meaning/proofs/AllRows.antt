@@ -1,10 +1,6 @@
 -- All rows: they are those that take a value from each range, and none stands twice among them.
+pub use Rattle.zf_meaning.specs.Places.{IsAmong}
 use Rattle.zf_meaning.proofs.Prelude.{◌++◌, ◌∷◌, ◌≡◌, ◌⊎◌, [], ap, inl, inr, List, map, refl, subst, sym, ⊎_elim, AreFrom, IsMember, members, Value, headed, all_rows}
-
--- the row is among these
-abbrev pub IsAmong : List Value → List (List Value) → Type 0
-IsAmong vs [] = ⊥
-IsAmong vs (ws ∷ rows) = (ws ≡ vs) ⊎ IsAmong vs rows
 
 -- no row stands twice
 abbrev pub AreApart : List (List Value) → Type 0

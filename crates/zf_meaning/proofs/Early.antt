@@ -1,10 +1,11 @@
 -- Parts of a binder that tell that rows do not count.
-use Rattle.zf_meaning.proofs.Prelude.{◌++◌, ◌+◌, ◌<◌, ◌∙◌, ◌∷◌, ◌≡◌, ◌≤◌, [], ap, arith, inl, inr, length, List, None, Option, refl, Some, subst, suc, sym, ℕ, take_all, All-push, All, Bor, AreFrom, Truth, False, Value, And, Quantifier, Exists, ExistsOne, ForAll, of-Binary, of-Bracket, of-Builder, of-Quantified, part_of, resolved_of, ResolvedTree, Range, Resolved, size-Resolved, IsBound, IsPart, IsPiece, neutral, AreNeutral, ArePassed, Falsifies, IsNeutral, Refutes, Context, within, IsConstraint, IsTruth, need, IsTold, Span}
-use Rattle.std.specs.Prelude.{IfSome}
+use Rattle.zf_meaning.proofs.Prelude.{◌++◌, ◌+◌, ◌<◌, ◌↔◌, ◌∙◌, ◌∷◌, ◌≡◌, ◌≤◌, [], ap, arith, Bool, false, get_or, inl, inr, length, List, map, None, Option, refl, Some, slice_get, subst, suc, sym, take, true, zero, ℕ, ⊎_elim, take_all, false≢true, All-push, All, Bor, IfSome, AreFrom, Is, Out, Outcome, Undefined, Truth, False, Value, And, Quantifier, Exists, ExistsOne, ForAll, Local, Reference, link-seen, of-Binary, of-Bracket, of-Builder, of-Chain, of-Name, of-Quantified, chain, link, links, no_links, part_of, reference, resolved_link_of, resolved_of, ResolvedTree, Range, Resolved, ResolvedLink, size-Resolved, IsEarlier, seen, AreNeutral, AreNeutralIf, IsBound, IsEquation, IsOther, IsPart, IsPiece, IsVariable, IsWanted, neutral, PassesBy, ArePassed, Falsifies, IsNeutral, Refutes, Wants, Context, value_or, within, HasOutcome, IsConstraint, IsTruth, need, Front, IsPassed, Passing, Holds, IsAtom, IsTold, Span, Wanted}
+use Rattle.std.proofs.lemmas.Option.{same_Some}
+use Rattle.zf_tree.specs.declared.symbol.Relation.TheVariants.{Equal}
 use Rattle.zf_tree.specs.declared.operator.Operator.TheVariants.{Connective}
 use Rattle.zf_term.specs.declared.resolved.Resolved.TheVariants as v
 use Rattle.zf_meaning.specs.declared.evaluate.early.Piece.{Piece}
-use Rattle.zf_meaning.proofs.SameLocals.{same-row}
+use Rattle.zf_meaning.proofs.SameLocals.{same-row, same-row-outcome}
 use Rattle.zf_meaning.proofs.Walking.{MayPass}
 
 -- ---- rows that do not count
@@ -65,28 +66,135 @@ found-part whole (Some x) r s = record { refutes = r; smaller = s }
 pub one-piece-more : (whole : Resolved) (span : Span) (piece : Piece) (old new : List Piece) → new ≡ old ++ piece ∷ [] → IsPiece whole span piece → All (IsPiece whole span) old → All (IsPiece whole span) new
 one-piece-more whole span piece old new e p h = subst (All (IsPiece whole span)) (sym e) (All-push (IsPiece whole span) old piece h p)
 
+-- ---- what a variable has to equal
+
+other_left : (v : Option Value) (o : Outcome) → IsOther o v → IsAtom (value_or v) o (Holds Equal) False
+other_left None (Is w) h = refl
+other_left None Undefined h = refl
+other_left None Out h = absurd h
+other_left (Some v) (Is w) h = λ e. h (ap Some e)
+other_left (Some v) Undefined h = refl
+other_left (Some v) Out h = absurd h
+
+other_right : (v : Option Value) (o : Outcome) → IsOther o v → IsAtom o (value_or v) (Holds Equal) False
+other_right None (Is w) h = refl
+other_right None Undefined h = refl
+other_right None Out h = absurd h
+other_right (Some v) (Is w) h = λ e. h (ap Some (sym e))
+other_right (Some v) Undefined h = refl
+other_right (Some v) Out h = absurd h
+
+variable_outcome : (c : Context) (place : ℕ) (v : ResolvedTree) → IsVariable place v → HasOutcome c v (value_or (slice_get c.locals place))
+variable_outcome c place v h = subst (λ t. HasOutcome c t (value_or (slice_get c.locals place))) (sym h.1) refl
+
+pub wants-right : (v e t : ResolvedTree) (place : ℕ) → IsVariable place v → IsEquation v e t → Wants t place e
+unfolding Wants
+wants-right v e t place v-is t-is =
+    λ c o h k. subst (λ x. IsTruth c x False) (sym t-is.1) (value_or (slice_get c.locals place), variable_outcome c place v v-is, (o, h, inl (other_left (slice_get c.locals place) o k)))
+
+pub wants-left : (v e t : ResolvedTree) (place : ℕ) → IsVariable place v → IsEquation e v t → Wants t place e
+unfolding Wants
+wants-left v e t place v-is t-is =
+    λ c o h k. subst (λ x. IsTruth c x False) (sym t-is.1) (o, h, (value_or (slice_get c.locals place), variable_outcome c place v v-is, inl (other_right (slice_get c.locals place) o k)))
+
+pub variable-of : (t : Resolved) (l : ℕ) (r : Reference) (o : Option ℕ) → t ≡ v.Name l r → IfSome o (λ place. r ≡ Local place) → IfSome o (λ place. IsVariable place (resolved_of t))
+variable-of t l r None i h = tt
+variable-of t l r (Some place) i h = (l, ap resolved_of i ∙ of-Name l r ∙ ap (reference l) h)
+
+-- a chain of one link that is an equation
+pub one-equation : (t : Resolved) (l : ℕ) (a b : Resolved) (ks : List ResolvedLink) (k : ResolvedLink) → t ≡ v.Chain l a ks → ks ≡ k ∷ [] → k.relation ≡ Equal → k.right ≡ b → IsEquation (resolved_of a) (resolved_of b) (resolved_of t)
+one-equation t l a b ks k i one equal right =
+    (l, ap resolved_of i ∙ of-Chain l a ks ∙ ap (λ xs. chain l (resolved_of a) (links (map resolved_link_of xs))) one ∙ ap (λ x. chain l (resolved_of a) (link x.0 x.1 no_links)) (link-seen k) ∙ ap (λ r. chain l (resolved_of a) (link r (resolved_of k.right) no_links)) equal ∙ ap (λ x. chain l (resolved_of a) (link Equal (resolved_of x) no_links)) right)
+
+pub wanted-right : (term left right : Resolved) (span : Span) (wanted : Option Wanted) → IsEquation (resolved_of left) (resolved_of right) (resolved_of term) → size-Resolved right < size-Resolved term
+    → IfSome wanted (λ w. IsVariable w.local (resolved_of left)) → IfSome wanted (λ w. w.term.now ≡ right) → IfSome wanted (IsEarlier span) → IfSome wanted (IsWanted term span)
+wanted-right term left right span None e s variable is earlier = tt
+wanted-right term left right span (Some w) e s variable is earlier = record {
+  wants = wants-right (resolved_of left) (resolved_of w.term.now) (resolved_of term) w.local variable (subst (λ x. IsEquation (resolved_of left) (resolved_of x) (resolved_of term)) (sym is) e);
+  smaller = subst (λ x. size-Resolved x < size-Resolved term) (sym is) s;
+  earlier = earlier;
+}
+
+pub wanted-left : (term left right : Resolved) (span : Span) (wanted : Option Wanted) → IsEquation (resolved_of left) (resolved_of right) (resolved_of term) → size-Resolved left < size-Resolved term
+    → IfSome wanted (λ w. IsVariable w.local (resolved_of right)) → IfSome wanted (λ w. w.term.now ≡ left) → IfSome wanted (IsEarlier span) → IfSome wanted (IsWanted term span)
+wanted-left term left right span None e s variable is earlier = tt
+wanted-left term left right span (Some w) e s variable is earlier = record {
+  wants = wants-left (resolved_of right) (resolved_of w.term.now) (resolved_of term) w.local variable (subst (λ x. IsEquation (resolved_of x) (resolved_of right) (resolved_of term)) (sym is) e);
+  smaller = subst (λ x. size-Resolved x < size-Resolved term) (sym is) s;
+  earlier = earlier;
+}
+
+pub only-one : {A : Type 0} (xs : List A) (x : A) → length xs ≡ 1 → x ≡ get_or xs 0 x → xs ≡ x ∷ []
+only-one [] x l e = absurd (omega (arith, l))
+only-one (y ∷ []) x l e = ap (λ z. z ∷ []) (sym e)
+only-one (y ∷ z ∷ xs) x l e = absurd (omega (arith, l))
+
+-- what is bound at the place
+pub bound-at : (bound : List (Bor Value)) (place : ℕ) (x : Bor Value) (w : Value) (told : Bool) → place < length bound → x ≡ get_or bound place x → (told ≡ true) ↔ (x.now ≡ w) → (told ≡ true) ↔ (slice_get (seen bound) place ≡ Some w)
+bound-at [] place x w told l e h = absurd (omega (arith, l))
+bound-at (y ∷ bound) zero x w told l e h = (λ t. ap Some (ap (λ z. z.now) (sym e) ∙ h.0 t), λ s. h.1 (ap (λ z. z.now) e ∙ same_Some y.now w s))
+bound-at (y ∷ bound) (suc place) x w told l e h = bound-at bound place x w told (omega (arith, l)) e h
+
+pub not-bound : (bound : List (Bor Value)) (place : ℕ) (w : Value) → length bound ≤ place → (false ≡ true) ↔ (slice_get (seen bound) place ≡ Some w)
+not-bound [] place w l = (λ t. absurd (false≢true t), λ s. let d : None ≡ Some w = s in absurd (cc))
+not-bound (y ∷ bound) zero w l = absurd (omega (arith, l))
+not-bound (y ∷ bound) (suc place) w l = not-bound bound place w (omega (arith, l))
+
 -- ---- rows that begin with the same values
 
 -- a part that is false here
-pub neutral-by : (whole : Resolved) (span : Span) (piece : Piece) (here c : Context) (row : List Value) → IsPiece whole span piece → IsBound span here c row → IsTruth here (resolved_of piece.term.now) False → AreNeutral (resolved_of whole) c row piece.front
-unfolding AreNeutral Refutes
+pub neutral-by : (whole : Resolved) (span : Span) (piece : Piece) (here c : Context) (row : List Value) → IsPiece whole span piece → IsBound span here c row → IsTruth here (resolved_of piece.term.now) False → AreNeutral (resolved_of whole) c row (Front piece.front)
+unfolding ArePassed Refutes
 neutral-by whole span piece here c row p b h =
-    λ vs l e. p.part.refutes (within c vs)
-    (same-row c piece.front row vs (resolved_of piece.term.now) False (sym l) (sym e)
-    (subst (λ n. need n (resolved_of piece.term.now) ≤ length c.locals + piece.front) (sym b.whole ∙ ap (λ n. length c.locals + n) (sym l)) (subst (λ n. need span.whole (resolved_of piece.term.now) ≤ n + piece.front) (sym b.outside) p.needs))
-    (subst (λ k. IsTruth k (resolved_of piece.term.now) False) b.is h))
+    let false = subst (λ k. IsTruth k (resolved_of piece.term.now) False) b.is h in
+    record {
+      here = p.part.refutes (within c row) false;
+      passed = λ vs l e. inr (p.part.refutes (within c vs)
+          (same-row c piece.front row vs (resolved_of piece.term.now) False (sym l) (sym e)
+          (subst (λ n. need n (resolved_of piece.term.now) ≤ length c.locals + piece.front) (sym b.whole ∙ ap (λ n. length c.locals + n) (sym l)) (subst (λ n. need span.whole (resolved_of piece.term.now) ≤ n + piece.front) (sym b.outside) p.needs))
+          false));
+    }
 
--- the row itself is one of them
-pub neutral-here : (whole : ResolvedTree) (c : Context) (row : List Value) (front : ℕ) → AreNeutral whole c row front → IsNeutral whole (within c row)
-unfolding AreNeutral
-neutral-here whole c row front h = h row refl refl
+value_behind : (ls vs : List Value) (place : ℕ) → slice_get (ls ++ vs) (length ls + place) ≡ slice_get vs place
+value_behind [] vs place = let same : 0 + place ≡ place = omega arith in ap (slice_get vs) same
+value_behind (x ∷ ls) vs place = let next : length (x ∷ ls) + place ≡ suc (length ls + place) = omega arith in ap (slice_get (x ∷ ls ++ vs)) next ∙ value_behind ls vs place
 
-pub neutral-passed : (whole : ResolvedTree) (c : Context) (row : List Value) (front : ℕ) → AreNeutral whole c row front → ArePassed whole c row front
-unfolding AreNeutral ArePassed
-neutral-passed whole c row front h = λ vs l e. inr (h vs l e)
+same_before : (o : Outcome) (row vs : List Value) (place : ℕ) (p : Passing) → PassesBy o place p → IsPassed p row vs → take place vs ≡ take place row
+same_before (Is w) row vs place p b h = (subst (λ q. IsPassed q row vs) b h).0
+same_before Undefined row vs place p b h = subst (λ q. IsPassed q row vs) b h
+same_before Out row vs place p b h = absurd b
+
+other_there : (o : Outcome) (row vs : List Value) (place : ℕ) (p : Passing) → PassesBy o place p → IsOther o (slice_get row place) → IsPassed p row vs → IsOther o (slice_get vs place)
+other_there (Is w) row vs place p b n h = λ e. ⊎_elim (λ same. n (sym same ∙ e)) (λ other. other e) (subst (λ q. IsPassed q row vs) b h).1
+other_there Undefined row vs place p b n h = tt
+other_there Out row vs place p b n h = absurd b
+
+-- a variable that has another value than it has to
+pub neutral-other : (whole : Resolved) (span : Span) (term : Resolved) (wanted : Wanted) (here c : Context) (row : List Value) (o : Outcome) (place : ℕ) (p : Passing) → IsPart whole term → IsWanted term span wanted → IsBound span here c row → HasOutcome here (resolved_of wanted.term.now) o → IsOther o (slice_get here.locals wanted.local) → span.outside + place ≡ wanted.local → PassesBy o place p
+    → AreNeutral (resolved_of whole) c row p
+unfolding ArePassed Refutes Wants
+neutral-other whole span term wanted here c row o place p part w b h n at by =
+    let e = resolved_of wanted.term.now in
+    let outcome = subst (λ k. HasOutcome k e o) b.is h in
+    let other = subst (λ k. IsOther o (slice_get k.locals wanted.local)) b.is n in
+    let local : length c.locals + place ≡ wanted.local = ap (λ m. m + place) b.outside ∙ at in
+    let here-other = subst (IsOther o) (value_behind c.locals row place) (subst (λ i. IsOther o (slice_get (c.locals ++ row) i)) (sym local) other) in
+    record {
+      here = part.refutes (within c row) (w.wants (within c row) o outcome other);
+      passed = λ vs l i. inr (part.refutes (within c vs) (w.wants (within c vs) o
+          (same-row-outcome c place row vs e o (sym l) (sym (same_before o row vs place p by i))
+          (subst (λ m. need m e ≤ length c.locals + place) (sym b.whole ∙ ap (λ m. length c.locals + m) (sym l)) (subst (λ m. need span.whole e ≤ m) (sym local) w.earlier.needs))
+          outcome)
+          (subst (λ j. IsOther o (slice_get (c.locals ++ vs) j)) local (subst (IsOther o) (sym (value_behind c.locals vs place)) (other_there o row vs place p by here-other i)))));
+    }
+
+pub neutral-other-if : (whole : Resolved) (span : Span) (term : Resolved) (wanted : Wanted) (here c : Context) (row : List Value) (o : Outcome) (p : Option Passing) → IsPart whole term → IsWanted term span wanted → IsBound span here c row → HasOutcome here (resolved_of wanted.term.now) o → IfSome p (λ x. IsOther o (slice_get here.locals wanted.local))
+    → IfSome p (λ x. (place : ℕ) × (span.outside + place ≡ wanted.local) × PassesBy o place x) → AreNeutralIf (resolved_of whole) c row p
+neutral-other-if whole span term wanted here c row o None part w b h n by = tt
+neutral-other-if whole span term wanted here c row o (Some p) part w b h n by = neutral-other whole span term wanted here c row o by.0 p part w b h n by.1 by.2
 
 -- only this row begins with all its values
-pub itself-passed : (whole : ResolvedTree) (span : Span) (here c : Context) (row : List Value) → IsBound span here c row → ArePassed whole c row span.whole
+pub itself-passed : (whole : ResolvedTree) (span : Span) (here c : Context) (row : List Value) → IsBound span here c row → ArePassed whole c row (Front span.whole)
 unfolding ArePassed
 itself-passed whole span here c row b =
     λ vs l e. inl (sym (take_all span.whole vs (omega (arith, l, b.whole))) ∙ e ∙ take_all span.whole row (omega (arith, b.whole)))
@@ -97,6 +205,6 @@ from_length [] (v ∷ vs) h = absurd h
 from_length (s ∷ ss) [] h = absurd h
 from_length (s ∷ ss) (v ∷ vs) h = ap suc (from_length ss vs h.1)
 
-pub may-pass : (whole : ResolvedTree) (c : Context) (ss row : List Value) (front : ℕ) → AreFrom row ss → ArePassed whole c row front → MayPass (λ vs. IsNeutral whole (within c vs)) ss row front
+pub may-pass : (whole : ResolvedTree) (c : Context) (ss row : List Value) (passing : Passing) → AreFrom row ss → ArePassed whole c row passing → MayPass (λ vs. IsNeutral whole (within c vs)) ss row passing
 unfolding ArePassed
-may-pass whole c ss row front r h = λ vs k e. h vs (from_length ss vs k ∙ sym (from_length ss row r)) e
+may-pass whole c ss row passing r h = λ vs k e. h vs (from_length ss vs k ∙ sym (from_length ss row r)) e

@@ -115,7 +115,7 @@ pub turned-here : (lists : List (List Value)) (old row : List ℕ) (front i j ne
 turned-here lists old row front i j next d r e h t z f n lt =
     sym (t.below (omega (arith, e, f))) ∙ (rw e (rows_after-turned lists row j next d r h n lt (rw e at z)))
 
-before_or : (j front : ℕ) → (j < front) ⊎ (front ≤ j)
+pub before_or : (j front : ℕ) → (j < front) ⊎ (front ≤ j)
 before_or j zero = inr (omega arith)
 before_or zero (suc front) = inl (omega arith)
 before_or (suc j) (suc front) = ⊎_elim (λ h. inl (omega (arith, h))) (λ h. inr (omega (arith, h))) (before_or j front)

@@ -65,8 +65,8 @@ pub use Rattle.zf_meaning.specs.Carriers.{AreCarriers, IsCarrier, IsTypeSetIf}
 pub use Rattle.zf_meaning.specs.Connected.{conjunction, connected, connective_of, decided, disjunction, equivalence}
 pub use Rattle.zf_meaning.specs.Described.{IsDescribed, IsOfArrow, IsRegularDescribed, IsUnbuilt, told_in}
 unfoldable pub use Rattle.zf_meaning.specs.Described.{Describes, IsInDescribed, IsTruthIn}
-pub use Rattle.zf_meaning.specs.Early.{AreNeutralIf, IsBound, IsPart, IsPiece, neutral}
-unfoldable pub use Rattle.zf_meaning.specs.Early.{AreNeutral, ArePassed, Falsifies, IsNeutral, Refutes}
+pub use Rattle.zf_meaning.specs.Early.{AreNeutral, AreNeutralIf, IsBound, IsEarlier, IsEquation, IsOther, IsPart, IsPiece, IsVariable, IsWanted, neutral, PassesBy}
+unfoldable pub use Rattle.zf_meaning.specs.Early.{ArePassed, Falsifies, IsNeutral, Refutes, Wants}
 pub use Rattle.zf_meaning.specs.Environments.{AreElementsIf, before, Context, definition_number, element_count, Environment, found_number, globally, outcome_in, type_number, value_or, with_further, within}
 pub use Rattle.zf_meaning.specs.Envs.{environment_of}
 pub use Rattle.zf_meaning.specs.Found.{found_of, found_outcome}
@@ -78,7 +78,7 @@ pub use Rattle.zf_meaning.specs.Outcomes.{OnBoth, one_more, one_out, one_undefin
 pub use Rattle.zf_meaning.specs.Places.{headed, headed_from, seen, with_value_at}
 unfoldable pub use Rattle.zf_meaning.specs.Places.{all_rows, ArePlaces, picked, rows_after}
 pub use Rattle.zf_meaning.specs.RangeSets.{declared_of, sets_with, spread}
-pub use Rattle.zf_meaning.specs.Rowed.{after, ahead, IsAt, IsFirst, IsNext, lists_of, row_of}
+pub use Rattle.zf_meaning.specs.Rowed.{ahead, AreOthers, IsAt, IsFirst, IsNext, IsPassed, lists_of, row_of, Skips}
 pub use Rattle.zf_meaning.specs.Scopes.{IsRegularScope, scope_of}
 pub use Rattle.zf_meaning.specs.Sizes.{AreAccepted, AreComplete, AreSizes, given_sets, IsAccepted, IsRefusal, IsStated, LacksSize, names, Refuses, RefusesSize, with_given}
 pub use Rattle.zf_meaning.specs.Symbols.{ArrowOutcome, BinaryOutcome, Holds, HoldsOf, InfixOutcome, ListedOutcome, PrefixOutcome, SignOutcome, UnaryOutcome}
@@ -88,9 +88,12 @@ pub use Rattle.zf_meaning.specs.declared.described.Described.{Described}
 pub use Rattle.zf_meaning.specs.declared.described.Described.TheVariants.{Arrows, Interval, Plain, Power, Product}
 pub use Rattle.zf_meaning.specs.declared.env.Env.{Env}
 pub use Rattle.zf_meaning.specs.declared.evaluate.early.Span.{Span}
+pub use Rattle.zf_meaning.specs.declared.evaluate.early.Wanted.{Wanted}
 pub use Rattle.zf_meaning.specs.declared.evaluate.ranges.Spread.{Spread}
 pub use Rattle.zf_meaning.specs.declared.gathered.Lack.{Lack}
 pub use Rattle.zf_meaning.specs.declared.gathered.Lack.TheVariants.{Nothing}
+pub use Rattle.zf_meaning.specs.declared.rows.Passing.{Passing}
+pub use Rattle.zf_meaning.specs.declared.rows.Passing.TheVariants.{Front, Others}
 pub use Rattle.zf_meaning.specs.declared.rows.Rows.{Rows}
 pub use Rattle.zf_meaning.specs.declared.sizes.Size.{Size}
 pub use Rattle.zf_meaning.specs.declared.tally.Tally.{Tally}

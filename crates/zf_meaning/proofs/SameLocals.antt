@@ -128,7 +128,11 @@ lengths_behind (x ∷ ls) us vs l = ap suc (lengths_behind ls us vs l)
 rows_alike : (ls : List Value) (front : ℕ) (us vs : List Value) → length us ≡ length vs → take front us ≡ take front vs → AreAlike (length ls + front) (length ls + length vs) (ls ++ us) (ls ++ vs)
 rows_alike ls front us vs l e = record { lengths = lengths_behind ls us vs l; each = λ i k. behind ls front us vs i l e k }
 
--- a predicate that needs the first variables alone is so in each row that begins with the same values
+-- what needs the first variables alone is so in each row that begins with the same values
+pub same-row-outcome : (c : Context) (front : ℕ) (us vs : List Value) (t : ResolvedTree) (o : Outcome) → length us ≡ length vs → take front us ≡ take front vs → need (length c.locals + length vs) t ≤ length c.locals + front → HasOutcome (within c us) t o → HasOutcome (within c vs) t o
+same-row-outcome c front us vs t o l e h p =
+    subst (λ X. X) (same_outcome (within c us) (c.locals ++ vs) (length c.locals + front) (length c.locals + length vs) t (rows_alike c.locals front us vs l e) h o) p
+
 pub same-row : (c : Context) (front : ℕ) (us vs : List Value) (t : ResolvedTree) (u : Truth) → length us ≡ length vs → take front us ≡ take front vs → need (length c.locals + length vs) t ≤ length c.locals + front → IsTruth (within c us) t u → IsTruth (within c vs) t u
 same-row c front us vs t u l e h p =
     subst (λ X. X) (same_truth (within c us) (c.locals ++ vs) (length c.locals + front) (length c.locals + length vs) t (rows_alike c.locals front us vs l e) h u) p

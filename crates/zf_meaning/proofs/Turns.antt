@@ -1,16 +1,16 @@
 -- One turn of a walk over rows, for a quantifier and for a builder.
-use Rattle.zf_meaning.proofs.Prelude.{◌+◌, ◌<◌, ◌∙◌, ◌∷◌, ◌≡◌, [], ap, arith, Bool, inl, inr, length, length-append, List, map, Option, subst, sym, true, ℕ, ⊎_elim, length-map, Bor, AreFrom, IsDisplay, members, Outcome, Truth, Value, Quantifier, part_of, resolved_of, ResolvedPart, ResolvedTree, Range, Resolved, AddsRow, IsBound, ArePassed, Context, within, Builds, IsBuiltOver, IsConstraint, IsTruth, seen, after, ahead, IsAt, IsFirst, IsNext, lists_of, row_of, scope_of, truth_by, IsOver, IsTold, Env, Span, Rows, Tally}
+use Rattle.zf_meaning.proofs.Prelude.{◌+◌, ◌<◌, ◌∙◌, ◌∷◌, ◌≡◌, [], ap, arith, Bool, inl, inr, length, length-append, List, map, Option, subst, sym, ℕ, ⊎_elim, length-map, Bor, AreFrom, IsDisplay, members, Outcome, Truth, Value, Quantifier, part_of, resolved_of, ResolvedPart, ResolvedTree, Range, Resolved, AddsRow, IsBound, ArePassed, Context, within, Builds, IsBuiltOver, IsConstraint, IsTruth, seen, ahead, IsFirst, IsNext, lists_of, Passing, row_of, Skips, scope_of, truth_by, IsOver, IsTold, Env, Span, Rows, Tally}
 use Rattle.zf_term.specs.declared.resolved.Resolved.TheVariants as v
 use Rattle.zf_meaning.proofs.Builds.{IsSingle, HasBuilt, built-all}
 use Rattle.zf_meaning.proofs.Early.{neutral-told, neutral-built, may-pass, from_length}
 use Rattle.zf_meaning.proofs.NextRow.{ArePlaces-length, picked-length, seen-length}
-use Rattle.zf_meaning.proofs.PassedRows.{after-fewer}
+use Rattle.zf_meaning.proofs.PassedRows.{left-fewer}
 use Rattle.zf_meaning.proofs.Told.{EachOne, IsTallied, told-of-all}
 use Rattle.zf_meaning.proofs.Unique.{one_constraint, one_build, one_truth, one_told_of}
 use Rattle.zf_meaning.proofs.Walking.{WalksOver, walk-next, walk-ended, walk-row, walk-done, scope-row, FilterIn, TermIn, ToldIn, NeutralIn}
 
-pub fewer : (outside : List Value) (front : ℕ) (old new : Rows) → IsAt old outside → IsNext outside front old new → length (ahead new) < length (ahead old)
-fewer outside front old new a n = omega (arith, ap length n.2, after-fewer (lists_of old) old.places.items front a.0)
+pub fewer : (outside : List Value) (passing : Passing) (old new : Rows) → IsNext outside passing old new → length (ahead new) < length (ahead old)
+fewer outside passing old new n = omega (arith, left-fewer passing (row_of old) (ahead old) (row_of new ∷ ahead new) n.2)
 
 pub adds-here : (d c : Context) (vs ws : List Value) (p e : ResolvedPart) (old new : List Value) (a b : Bool) → d ≡ within c vs → ws ≡ vs → a ≡ b → AddsRow (λ u. IsConstraint d p u) (λ x. Builds d ws e x) old new a → AddsRow (FilterIn c p vs) (TermIn c e vs) old new b
 adds-here d c vs ws p e old new a b s w t h =
@@ -45,21 +45,21 @@ row-bound N env row locals bound r ss done span e o w h = record {
 
 -- ---- rows that do not count are passed
 
-pub next-turn : (d : Resolved) (c : Context) (old new : Rows) (outside ss : List Value) (done : List (List Value)) (front : ℕ) → WalksOver (NeutralIn d c) old outside ss done → ArePassed (resolved_of d) c (row_of old) front → IsNext outside front old new → WalksOver (NeutralIn d c) new outside ss (row_of old ∷ done)
-next-turn d c old new outside ss done front h a n = walk-next (NeutralIn d c) old new outside ss done front h (may-pass (resolved_of d) c ss (row_of old) front (walk-row (NeutralIn d c) old outside ss done h) a) n
+pub next-turn : (d : Resolved) (c : Context) (old new : Rows) (outside ss : List Value) (done : List (List Value)) (passing : Passing) → WalksOver (NeutralIn d c) old outside ss done → ArePassed (resolved_of d) c (row_of old) passing → IsNext outside passing old new → WalksOver (NeutralIn d c) new outside ss (row_of old ∷ done)
+next-turn d c old new outside ss done passing h a n = walk-next (NeutralIn d c) old new outside ss done passing h (may-pass (resolved_of d) c ss (row_of old) passing (walk-row (NeutralIn d c) old outside ss done h) a) n
 
 -- what a quantifier tells where no row is left
-pub told-ended : (d : Resolved) (q : Quantifier) (l : ℕ) (rs : List Range) (p : Option Resolved) (e : Resolved) (c : Context) (r : Rows) (outside ss : List Value) (done : List (List Value)) (front : ℕ) (t : Tally) → d ≡ v.Quantified q l rs p e → WalksOver (NeutralIn d c) r outside ss done
-    → ArePassed (resolved_of d) c (row_of r) front → after r front ≡ [] → IsTallied (ToldIn c q (part_of p) (resolved_of e)) (row_of r ∷ done) t → IsOver q (λ vs. AreFrom vs ss) (ToldIn c q (part_of p) (resolved_of e)) (truth_by q t)
-told-ended d q l rs p e c r outside ss done front t i h a n k =
+pub told-ended : (d : Resolved) (q : Quantifier) (l : ℕ) (rs : List Range) (p : Option Resolved) (e : Resolved) (c : Context) (r : Rows) (outside ss : List Value) (done : List (List Value)) (passing : Passing) (t : Tally) → d ≡ v.Quantified q l rs p e → WalksOver (NeutralIn d c) r outside ss done
+    → ArePassed (resolved_of d) c (row_of r) passing → Skips passing (row_of r) (ahead r) [] → IsTallied (ToldIn c q (part_of p) (resolved_of e)) (row_of r ∷ done) t → IsOver q (λ vs. AreFrom vs ss) (ToldIn c q (part_of p) (resolved_of e)) (truth_by q t)
+told-ended d q l rs p e c r outside ss done passing t i h a n k =
     told-of-all q (λ vs. AreFrom vs ss) (ToldIn c q (part_of p) (resolved_of e)) (row_of r ∷ done) t (one-told c q (part_of p) (resolved_of e))
-    (λ vs f. ⊎_elim (λ m. inl m) (λ x. inr (neutral-told d q l rs p e (within c vs) i x)) (walk-ended (NeutralIn d c) r outside ss done front h (may-pass (resolved_of d) c ss (row_of r) front (walk-row (NeutralIn d c) r outside ss done h) a) n vs f))
+    (λ vs f. ⊎_elim (λ m. inl m) (λ x. inr (neutral-told d q l rs p e (within c vs) i x)) (walk-ended (NeutralIn d c) r outside ss done passing h (may-pass (resolved_of d) c ss (row_of r) passing (walk-row (NeutralIn d c) r outside ss done h) a) n vs f))
     (walk-done (NeutralIn d c) r outside ss done h) k
 
 -- what a builder builds where no row is left
-pub built-ended : (d : Resolved) (l : ℕ) (rs : List Range) (p e : Option Resolved) (c : Context) (r : Rows) (outside ss : List Value) (done : List (List Value)) (front : ℕ) (built : List Value) (o : Outcome) → d ≡ v.Builder l rs p e → WalksOver (NeutralIn d c) r outside ss done
-    → ArePassed (resolved_of d) c (row_of r) front → after r front ≡ [] → HasBuilt (FilterIn c (part_of p)) (TermIn c (part_of e)) (row_of r ∷ done) built → IsDisplay built o → IsBuiltOver (λ vs. AreFrom vs ss) (FilterIn c (part_of p)) (TermIn c (part_of e)) o
-built-ended d l rs p e c r outside ss done front built o i h a n k s =
+pub built-ended : (d : Resolved) (l : ℕ) (rs : List Range) (p e : Option Resolved) (c : Context) (r : Rows) (outside ss : List Value) (done : List (List Value)) (passing : Passing) (built : List Value) (o : Outcome) → d ≡ v.Builder l rs p e → WalksOver (NeutralIn d c) r outside ss done
+    → ArePassed (resolved_of d) c (row_of r) passing → Skips passing (row_of r) (ahead r) [] → HasBuilt (FilterIn c (part_of p)) (TermIn c (part_of e)) (row_of r ∷ done) built → IsDisplay built o → IsBuiltOver (λ vs. AreFrom vs ss) (FilterIn c (part_of p)) (TermIn c (part_of e)) o
+built-ended d l rs p e c r outside ss done passing built o i h a n k s =
     built-all (λ vs. AreFrom vs ss) (FilterIn c (part_of p)) (TermIn c (part_of e)) (row_of r ∷ done) built o (one-filter c (part_of p))
-    (λ vs f. ⊎_elim (λ m. inl m) (λ x. inr (neutral-built d l rs p e (within c vs) i x)) (walk-ended (NeutralIn d c) r outside ss done front h (may-pass (resolved_of d) c ss (row_of r) front (walk-row (NeutralIn d c) r outside ss done h) a) n vs f))
+    (λ vs f. ⊎_elim (λ m. inl m) (λ x. inr (neutral-built d l rs p e (within c vs) i x)) (walk-ended (NeutralIn d c) r outside ss done passing h (may-pass (resolved_of d) c ss (row_of r) passing (walk-row (NeutralIn d c) r outside ss done h) a) n vs f))
     (walk-done (NeutralIn d c) r outside ss done h) k s

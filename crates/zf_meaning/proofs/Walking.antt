@@ -1,10 +1,10 @@
 -- A walk over the rows of sets, with what it binds.
-use Rattle.zf_meaning.proofs.Prelude.{◌++◌, ◌∙◌, ◌∷◌, ◌≡◌, ◌≤◌, ◌⊎◌, [], ap, arith, drop, inl, inr, length, length-append, List, map, refl, subst, sym, take, ℕ, ⊎_elim, Bor, AreFrom, AreRegular, members, Outcome, Truth, Value, Quantifier, resolved_of, ResolvedPart, ResolvedTree, Resolved, IsNeutral, Context, within, Builds, IsConstraint, IsTruth, seen, all_rows, after, ahead, IsAt, IsFirst, IsNext, lists_of, row_of, IsRegularScope, scope_of, IsTold, Env, Rows}
+use Rattle.zf_meaning.proofs.Prelude.{◌++◌, ◌∙◌, ◌∷◌, ◌≡◌, ◌≤◌, ◌⊎◌, [], ap, arith, drop, inl, inr, length, length-append, List, map, refl, subst, sym, ⊎_elim, Bor, AreFrom, AreRegular, members, Outcome, Truth, Value, Quantifier, resolved_of, ResolvedPart, ResolvedTree, Resolved, IsNeutral, Context, within, Builds, IsConstraint, IsTruth, seen, all_rows, ahead, IsAt, IsFirst, IsNext, IsPassed, lists_of, Passing, row_of, Skips, IsRegularScope, scope_of, IsTold, Env, Rows}
 use Rattle.zf_meaning.proofs.AllRows.{IsAmong, row-among, among-row, rows-apart}
 use Rattle.zf_meaning.proofs.Midway as midway
 use Rattle.zf_meaning.proofs.Midway.{IsMidway}
 use Rattle.zf_meaning.proofs.NextRow.{seen-length}
-use Rattle.zf_meaning.proofs.PassedRows.{passed-or-after, after-ahead, after-apart}
+use Rattle.zf_meaning.proofs.PassedRows.{passed-or-left, left-ahead, left-apart}
 use Rattle.zf_meaning.proofs.Regulars.{have_distinct, regular-row, regular-scope}
 
 -- the rows that are done, and the one that it is at; N says which rows may be passed
@@ -20,29 +20,29 @@ walk-begun N r outside ss lists e h f = record {
   midway = midway.begin N (all_rows (map members ss)) (row_of r ∷ ahead r) (ap all_rows (sym e) ∙ f.2) (rows-apart ss (have_distinct ss h));
 }
 
--- all rows that begin with the same values as this one, but it, may be passed
-abbrev pub MayPass : (List Value → Type 0) → List Value → List Value → ℕ → Type 0
-MayPass N ss row front = (vs : List Value) → AreFrom vs ss → take front vs ≡ take front row → (vs ≡ row) ⊎ N vs
+-- all rows that are passed beside this one, but it, may be
+abbrev pub MayPass : (List Value → Type 0) → List Value → List Value → Passing → Type 0
+MayPass N ss row passing = (vs : List Value) → AreFrom vs ss → IsPassed passing row vs → (vs ≡ row) ⊎ N vs
 
--- those that are left are after all that begin with the same values
-walk-passed : (N : List Value → Type 0) (r : Rows) (outside ss : List Value) (done : List (List Value)) (front : ℕ) → WalksOver N r outside ss done → MayPass N ss (row_of r) front → IsMidway N (all_rows (map members ss)) (row_of r ∷ done) (after r front)
-walk-passed N r outside ss done front h f =
+-- of those that are left out each may be
+walk-passed : (N : List Value → Type 0) (r : Rows) (outside ss : List Value) (done rest : List (List Value)) (passing : Passing) → WalksOver N r outside ss done → MayPass N ss (row_of r) passing → Skips passing (row_of r) (ahead r) rest → IsMidway N (all_rows (map members ss)) (row_of r ∷ done) rest
+walk-passed N r outside ss done rest passing h f s =
     let m = midway.step N (all_rows (map members ss)) done (ahead r) (row_of r) h.midway in
-    midway.skip N (all_rows (map members ss)) (row_of r ∷ done) (ahead r) (after r front)
-    (λ vs a. ⊎_elim (λ e. ⊎_elim (λ same. absurd (h.midway.apart.0 (subst (λ us. IsAmong us (ahead r)) same a))) (λ n. inl n) (f vs (among-row ss vs (m.come vs a)) e)) (λ b. inr b) (passed-or-after (lists_of r) r.places.items front vs h.at.0 a))
-    (λ vs a. after-ahead (lists_of r) r.places.items front vs h.at.0 a) (after-apart (lists_of r) r.places.items front h.at.0 h.midway.apart.1) m
+    midway.skip N (all_rows (map members ss)) (row_of r ∷ done) (ahead r) rest
+    (λ vs a. ⊎_elim (λ e. ⊎_elim (λ same. absurd (h.midway.apart.0 (subst (λ us. IsAmong us (ahead r)) same a))) (λ n. inl n) (f vs (among-row ss vs (m.come vs a)) e)) (λ b. inr b) (passed-or-left passing (row_of r) (ahead r) rest vs s a))
+    (λ vs a. left-ahead passing (row_of r) (ahead r) rest vs s a) (left-apart passing (row_of r) (ahead r) rest s h.midway.apart.1) m
 
-pub walk-next : (N : List Value → Type 0) (old new : Rows) (outside ss : List Value) (done : List (List Value)) (front : ℕ) → WalksOver N old outside ss done → MayPass N ss (row_of old) front → IsNext outside front old new → WalksOver N new outside ss (row_of old ∷ done)
-walk-next N old new outside ss done front h f n = record {
+pub walk-next : (N : List Value → Type 0) (old new : Rows) (outside ss : List Value) (done : List (List Value)) (passing : Passing) → WalksOver N old outside ss done → MayPass N ss (row_of old) passing → IsNext outside passing old new → WalksOver N new outside ss (row_of old ∷ done)
+walk-next N old new outside ss done passing h f n = record {
   at = n.0;
   lists = n.1 ∙ h.lists;
-  midway = subst (IsMidway N (all_rows (map members ss)) (row_of old ∷ done)) n.2 (walk-passed N old outside ss done front h f);
+  midway = walk-passed N old outside ss done (row_of new ∷ ahead new) passing h f n.2;
 }
 
 -- where none is left, each row is done, the one that it is at, or may be passed
-pub walk-ended : (N : List Value → Type 0) (r : Rows) (outside ss : List Value) (done : List (List Value)) (front : ℕ) → WalksOver N r outside ss done → MayPass N ss (row_of r) front → after r front ≡ [] → (vs : List Value) → AreFrom vs ss → IsAmong vs (row_of r ∷ done) ⊎ N vs
-walk-ended N r outside ss done front h f e vs k =
-    midway.ended N (all_rows (map members ss)) (row_of r ∷ done) (subst (IsMidway N (all_rows (map members ss)) (row_of r ∷ done)) e (walk-passed N r outside ss done front h f)) vs (row-among ss vs k)
+pub walk-ended : (N : List Value → Type 0) (r : Rows) (outside ss : List Value) (done : List (List Value)) (passing : Passing) → WalksOver N r outside ss done → MayPass N ss (row_of r) passing → Skips passing (row_of r) (ahead r) [] → (vs : List Value) → AreFrom vs ss → IsAmong vs (row_of r ∷ done) ⊎ N vs
+walk-ended N r outside ss done passing h f s vs k =
+    midway.ended N (all_rows (map members ss)) (row_of r ∷ done) (walk-passed N r outside ss done [] passing h f s) vs (row-among ss vs k)
 
 pub walk-row : (N : List Value → Type 0) (r : Rows) (outside ss : List Value) (done : List (List Value)) → WalksOver N r outside ss done → AreFrom (row_of r) ss
 walk-row N r outside ss done h = among-row ss (row_of r) (midway.is_next N _ _ _ _ h.midway)

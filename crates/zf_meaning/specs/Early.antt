@@ -1,17 +1,25 @@
 -- Rows that do not count, and the parts of a binder that tell so before all variables are bound. No public clause rests on this.
-use Rattle.std.specs.Prelude.{◌≡◌, ◌⊎◌, ℕ, ◌+◌, ◌<◌, ◌≤◌, List, length, take, Option, Some, None}
+use Rattle.std.specs.Prelude.{◌≡◌, ◌⊎◌, ℕ, ◌+◌, ◌<◌, ◌≤◌, List, length, Option, Some, None, IfSome, slice_get}
+use Rattle.zf_reference.specs.declared.reference.Reference.TheVariants.{Local}
 use Rattle.zf_tree.specs.declared.symbol.Quantifier.{Quantifier}
 use Rattle.zf_tree.specs.declared.symbol.Quantifier.TheVariants.{ForAll, Exists, ExistsOne}
+use Rattle.zf_tree.specs.declared.symbol.Relation.TheVariants.{Equal}
 use Rattle.zf_term.specs.declared.resolved.Resolved.{Resolved, size-Resolved}
-use Rattle.zf_term.specs.ResolvedTrees.{ResolvedTree, reference, number, constant, empty_set, bracket, listed, builder, unary, binary, chain, quantified, resolved_of}
+use Rattle.zf_term.specs.ResolvedTrees.{ResolvedTree, reference, number, constant, empty_set, bracket, listed, builder, unary, binary, chain, quantified, link, no_links, resolved_of}
 use Rattle.zf_value.specs.declared.value.Value.{Value}
+use Rattle.zf_value.specs.declared.value.Outcome.{Outcome}
+use Rattle.zf_value.specs.declared.value.Outcome.TheVariants as outcome
 use Rattle.zf_value.specs.declared.value.Truth.{Truth}
 use Rattle.zf_value.specs.declared.value.Truth.TheVariants.{True, False}
 use Rattle.zf_meaning.specs.declared.evaluate.early.Piece.{Piece}
 use Rattle.zf_meaning.specs.declared.evaluate.early.Span.{Span}
+use Rattle.zf_meaning.specs.declared.evaluate.early.Wanted.{Wanted}
+use Rattle.zf_meaning.specs.declared.rows.Passing.{Passing}
+use Rattle.zf_meaning.specs.declared.rows.Passing.TheVariants as passing
 use Rattle.zf_meaning.specs.Environments.{Context, within}
-use Rattle.zf_meaning.specs.Meaning.{IsConstraint, IsTruth}
+use Rattle.zf_meaning.specs.Meaning.{HasOutcome, IsConstraint, IsTruth}
 use Rattle.zf_meaning.specs.Needs.{need}
+use Rattle.zf_meaning.specs.Rowed.{IsPassed}
 use Rattle.zf_meaning.specs.Truths.{IsTold}
 
 -- what a quantifier tells of a row that does not count
@@ -47,18 +55,56 @@ pub record IsPart (whole part : Resolved) : Type 0 where
   pub refutes : Refutes (resolved_of part) (resolved_of whole)
   pub smaller : size-Resolved part < size-Resolved whole
 
+-- ---- what a variable has to equal
+
+abbrev pub IsVariable : ℕ → ResolvedTree → Type 0
+IsVariable place t = (l : ℕ) × (t ≡ reference l (Local place))
+
+abbrev pub IsEquation : ResolvedTree → ResolvedTree → ResolvedTree → Type 0
+IsEquation a b t = (l : ℕ) × (t ≡ chain l a (link Equal b no_links))
+
+-- an outcome, not out, other than that of a variable with this value
+abbrev pub IsOther : Outcome → Option Value → Type 0
+IsOther (outcome.Is w) v = v ≡ Some w → ⊥
+IsOther outcome.Undefined v = Unit {0}
+IsOther outcome.Out v = ⊥
+
+-- the predicate is false where the term has another outcome than the variable at the place
+unfoldable pub Wants : ResolvedTree → ℕ → ResolvedTree → Type 0
+Wants t place e = (c : Context) (o : Outcome) → HasOutcome c e o → IsOther o (slice_get c.locals place) → IsTruth c t False
+
+-- the term needs only variables before the one that it is wanted for, which is of the binder
+pub record IsEarlier (span : Span) (wanted : Wanted) : Type 0 where
+  pub outside : span.outside ≤ wanted.local
+  pub needs : need span.whole (resolved_of wanted.term.now) ≤ wanted.local
+
+pub record IsWanted (term : Resolved) (span : Span) (wanted : Wanted) : Type 0 where
+  pub wants : Wants (resolved_of term) wanted.local (resolved_of wanted.term.now)
+  pub smaller : size-Resolved wanted.term.now < size-Resolved term
+  pub earlier : IsEarlier span wanted
+
+-- which rows are passed for a term of this outcome, of which the place of the row tells
+abbrev pub PassesBy : Outcome → ℕ → Passing → Type 0
+PassesBy (outcome.Is w) place p = p ≡ passing.Others place w
+PassesBy outcome.Undefined place p = p ≡ passing.Front place
+PassesBy outcome.Out place p = ⊥
+
+-- ---- pieces
+
 -- such a part, which needs as many first variables as it says
 pub record IsPiece (whole : Resolved) (span : Span) (piece : Piece) : Type 0 where
   pub part : IsPart whole piece.term.now
   pub needs : need span.whole (resolved_of piece.term.now) ≤ span.outside + piece.front
+  pub wanted : IfSome piece.wanted (IsWanted piece.term.now span)
 
--- no row counts that begins with the same values as this one, so many
-unfoldable pub AreNeutral : ResolvedTree → Context → List Value → ℕ → Type 0
-AreNeutral whole c row front = (vs : List Value) → length vs ≡ length row → take front vs ≡ take front row → IsNeutral whole (within c vs)
+-- of the rows that may be passed beside this one, none counts but it
+unfoldable pub ArePassed : ResolvedTree → Context → List Value → Passing → Type 0
+ArePassed whole c row passing = (vs : List Value) → length vs ≡ length row → IsPassed passing row vs → (vs ≡ row) ⊎ IsNeutral whole (within c vs)
 
--- no row but this one counts that begins with the same values, so many
-unfoldable pub ArePassed : ResolvedTree → Context → List Value → ℕ → Type 0
-ArePassed whole c row front = (vs : List Value) → length vs ≡ length row → take front vs ≡ take front row → (vs ≡ row) ⊎ IsNeutral whole (within c vs)
+-- nor does it
+pub record AreNeutral (whole : ResolvedTree) (c : Context) (row : List Value) (passing : Passing) : Type 0 where
+  pub here : IsNeutral whole (within c row)
+  pub passed : ArePassed whole c row passing
 
 -- the variables of the span are bound to the row
 pub record IsBound (span : Span) (here c : Context) (row : List Value) : Type 0 where
@@ -66,10 +112,10 @@ pub record IsBound (span : Span) (here c : Context) (row : List Value) : Type 0 
   pub outside : length c.locals ≡ span.outside
   pub whole : length c.locals + length row ≡ span.whole
 
-abbrev pub AreNeutralIf : ResolvedTree → Context → List Value → Option ℕ → Type 0
+abbrev pub AreNeutralIf : ResolvedTree → Context → List Value → Option Passing → Type 0
 AreNeutralIf whole c row None = Unit {0}
-AreNeutralIf whole c row (Some front) = AreNeutral whole c row front
+AreNeutralIf whole c row (Some p) = AreNeutral whole c row p
 
-abbrev pub ArePassedIf : ResolvedTree → Context → List Value → Option ℕ → Type 0
+abbrev pub ArePassedIf : ResolvedTree → Context → List Value → Option Passing → Type 0
 ArePassedIf whole c row None = Unit {0}
-ArePassedIf whole c row (Some front) = ArePassed whole c row front
+ArePassedIf whole c row (Some p) = ArePassed whole c row p

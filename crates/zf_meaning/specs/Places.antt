@@ -1,11 +1,16 @@
 -- The rows of ranges one after another, as a walk by places in the ranges meets them. No public clause rests on this.
-use Rattle.std.specs.Prelude.{ℕ, zero, suc, ◌<◌, List, [], ◌∷◌, ◌++◌, length, map}
+use Rattle.std.specs.Prelude.{◌≡◌, ◌⊎◌, ℕ, zero, suc, ◌<◌, List, [], ◌∷◌, ◌++◌, length, map}
 use denote.Bor.{Bor}
 use Rattle.zf_value.specs.declared.value.Value.{Value}
 
 -- what references stand for
 abbrev pub seen : {A : Type 0} → List (Bor A) → List A
 seen xs = map (λ x. x.now) xs
+
+-- the row is among these
+abbrev pub IsAmong : List Value → List (List Value) → Type 0
+IsAmong vs [] = ⊥
+IsAmong vs (ws ∷ rows) = (ws ≡ vs) ⊎ IsAmong vs rows
 
 -- the rows that begin with one of these values and go on with one of these rows
 abbrev pub headed : List Value → List (List Value) → List (List Value)

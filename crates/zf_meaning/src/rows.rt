@@ -3,10 +3,21 @@ ghost use Rattle.std.specs.Prelude.{◌≡◌, ◌⊎◌, ◌==◌, ◌+◌, ◌
 ghost use Rattle.std.specs.List.{list_any};
 ghost use Rattle.zf_value.specs.declared.value.Value as value;
 ghost use Rattle.zf_meaning.specs.Places.{seen, all_rows, rows_after, picked, ArePlaces};
-ghost use Rattle.zf_meaning.specs.Rowed.{after, IsAt, IsFirst, IsNext};
+ghost use Rattle.zf_meaning.specs.declared.rows.Passing.TheVariants as passing;
+ghost use Rattle.zf_meaning.specs.Rowed.{ahead, row_of, AreOthers, IsAt, IsFirst, IsNext, Skips};
 
 use std::alloc::{AllocError, Global};
+use zf_value::lent::Lent;
 use zf_value::value::Value;
+
+/// Which rows may be passed, as one row tells.
+#[derive(Drop)]
+pub(crate) enum Passing<'v> {
+    /// Those that begin with the same values, so many.
+    Front(usize),
+    /// Those that begin with the same values before a place, and have another value there than this.
+    Others(usize, Lent<'v>),
+}
 
 /// A row of ranges, behind the variables that are bound outside.
 #[derive(Drop)]
@@ -54,13 +65,13 @@ impl<'v> Rows<'v> {
         self.bound.as_slice()
     }
 
-    /// Goes to the next row after all that begin with the same values, so many. Answers how many first values it does not share all of, if there is one.
-    pub(crate) fn pass(&mut self, front: usize) -> Result<Option<usize>, AllocError>
+    /// Goes to the next row, and passes only rows that may be. Answers how many first values it does not share all of, if there is one.
+    pub(crate) fn pass(&mut self, passing: &Passing<'_>) -> Result<Option<usize>, AllocError>
         requires { (outside : List value.Value) × IsAt self.old outside }
-        ensures { (outside : List value.Value) → IsAt self.old outside → IfOk result (λ turned. MatchOption turned (after self.old front ≡ []) (λ anew. IsNext outside front self.old self.new)) }
+        ensures { (outside : List value.Value) → IsAt self.old outside → IfOk result (λ turned. MatchOption turned (Skips passing.now (row_of self.old) (ahead self.old) []) (λ anew. IsNext outside passing.now self.old self.new)) }
     {
         let outside = self.bound.len() - self.places.len();
-        let Some(turned) = turn(&self.lists, &mut self.places, front) else {
+        let Some(turned) = turn_on(&self.lists, &mut self.places, passing) else {
             return Ok(None);
         };
         self.bound.truncate(outside);
@@ -79,6 +90,59 @@ fn has_empty(lists: &[&[Value]]) -> bool
         }
     }
     false
+}
+
+/// Turns to the next row, and passes only rows that may be. Answers how many places there are up to the one that went up.
+fn turn_on(lists: &[&[Value]], places: &mut [usize], passing: &Passing<'_>) -> Option<usize>
+    requires { ArePlaces (seen lists.now) places.old }
+    ensures places { ArePlaces (seen lists.now) places.new }
+    ensures turned { MatchOption result (Skips passing.now (picked (seen lists.now) places.old) (rows_after (seen lists.now) places.old) []) (λ anew. Skips passing.now (picked (seen lists.now) places.old) (rows_after (seen lists.now) places.old) (picked (seen lists.now) places.new ∷ rows_after (seen lists.now) places.new)) }
+{
+    let front = go_on(lists, places, passing);
+    turn(lists, places, front)
+}
+
+/// Goes on in the list of the variable of which a value is wanted, past others. Answers how many first places decide what else is passed.
+fn go_on(lists: &[&[Value]], places: &mut [usize], passing: &Passing<'_>) -> usize
+    requires { ArePlaces (seen lists.now) places.old }
+    ensures places { ArePlaces (seen lists.now) places.new }
+    ensures skips { Skips passing.now (picked (seen lists.now) places.old) (rows_after (seen lists.now) places.old) (rows_after (seen lists.now) (take result places.new)) }
+{
+    match passing {
+        Passing::Front(front) => *front,
+        Passing::Others(place, value) => go_on_at(lists, places, *place, value.get()),
+    }
+}
+
+/// The same, of a value at a place.
+#[inline(never)]
+fn go_on_at(lists: &[&[Value]], places: &mut [usize], place: usize, wanted: &Value) -> usize
+    requires { ArePlaces (seen lists.now) places.old }
+    ensures places { ArePlaces (seen lists.now) places.new }
+    ensures skips { Skips (passing.Others place wanted.now) (picked (seen lists.now) places.old) (rows_after (seen lists.now) places.old) (rows_after (seen lists.now) (take result places.new)) }
+{
+    if place >= places.len() {
+        return place;
+    }
+    places[place] = before_wanted(lists[place], places[place], wanted);
+    place + 1
+}
+
+/// The place from which on in the list the next value is the wanted one, or none is left.
+fn before_wanted(list: &[Value], from: usize, wanted: &Value) -> usize
+    requires { from < length list.now }
+    ensures from { from ≤ result }
+    ensures place { result < length list.now }
+    ensures others { AreOthers list.now from result wanted.now }
+{
+    let mut before = from;
+    for place in from + 1..list.len() {
+        if list[place].equals(wanted) {
+            return before;
+        }
+        before = place;
+    }
+    before
 }
 
 /// Turns to the next row after all that have the same first places, so many: the last of these that can goes up by one, and all after it begin again. Answers how many places there are up to the one that went up.

@@ -24,7 +24,7 @@ ghost use Rattle.zf_meaning.specs.Scopes.{scope_of, IsRegularScope};
 ghost use Rattle.zf_meaning.specs.Truths.{IsTold, IsOver};
 
 use super::chains::is_false;
-use super::early::{Piece, Span, neutral, pieces_of, span_of};
+use super::early::{Piece, Span, neutral, passing_by, pieces_of, span_of};
 use super::ranges::{Spread, declared_sets, lists_of};
 use super::{empty_set, outcome, truth};
 use crate::connected::{connected, connective_of, decided};
@@ -32,7 +32,7 @@ use crate::env::Env;
 use crate::found::Found;
 use crate::gathered::Lack;
 use crate::row::Row;
-use crate::rows::Rows;
+use crate::rows::{Passing, Rows};
 use crate::tally::Tally;
 use std::alloc::{AllocError, Global};
 use zf_term::resolved::{Part, Resolved};
@@ -96,18 +96,18 @@ fn over_rows<'v, 'a, R: Row>(
         if tally.is_settled(*quantifier) {
             return Ok(tally.truth(*quantifier));
         }
-        match rows.pass(met.front)? {
+        match rows.pass(&met.passing)? {
             None => return Ok(tally.truth(*quantifier)),
             Some(turned) => anew = turned,
         }
     }
 }
 
-/// What a quantifier tells of a row. The others that begin with the same values, so many, do not count.
-#[derive(Clone, Copy)]
-pub(crate) struct Met {
+/// What a quantifier tells of a row, and which others do not count.
+#[derive(Drop)]
+pub(crate) struct Met<'v> {
     pub truth: Truth,
-    pub front: usize,
+    pub passing: Passing<'v>,
 }
 
 /// What a quantifier tells of the row that is bound, of which some first values are anew.
@@ -120,7 +120,7 @@ fn met_at<'v, 'a, R: Row>(
     row: &'v R,
     bound: &[&'v Value],
     env: &'v Env<'_, 'a>,
-) -> Result<Met, AllocError>
+) -> Result<Met<'v>, AllocError>
     requires form { IsQuantified term.now }
     requires pieces { All (IsPiece term.now span) pieces.now }
     requires regular { IsRegularScope (scope_of env.now (R.values row.now) bound.now) }
@@ -128,26 +128,27 @@ fn met_at<'v, 'a, R: Row>(
         → (q : Quantifier) (l : ℕ) (rs : List range.Range) (p : Option resolved.Resolved) (e : resolved.Resolved) → term.now ≡ form.Quantified q l rs p e
         → IfOk result (λ m. IsTold q (λ a. IsConstraint (within c vs) (part_of p) a) (λ b. IsTruth (within c vs) (resolved_of e) b) m.truth) }
     ensures passed { (c : Context) (vs : List value.Value) → IsBound span (scope_of env.now (R.values row.now) bound.now) c vs
-        → IfOk result (λ m. ArePassed (resolved_of term.now) c vs m.front) }
+        → IfOk result (λ m. ArePassed (resolved_of term.now) c vs m.passing) }
 {
     let Resolved::Quantified(quantifier, _, _, _, _) = term else {
         unreachable!();
     };
-    if let Some(front) = refuted(term, span, pieces, anew, row, bound, env)? {
+    if let Some(passing) = refuted(term, span, pieces, anew, row, bound, env)? {
         return Ok(Met {
             truth: neutral(*quantifier),
-            front,
+            passing,
         });
     }
     let truth = told_at(term, row, bound, env)?;
     Ok(Met {
         truth,
-        front: span.whole,
+        passing: Passing::Front(span.whole),
     })
 }
 
-/// How many first values decide that the row that is bound does not count, if a part tells so that needs some that are anew.
+/// Which rows beside the one that is bound do not count, if a part tells so that needs some values that are anew.
 #[cycle(meaning)]
+#[inline(always)]
 fn refuted<'v, 'a, R: Row>(
     term: &Resolved<'a>,
     span: Span,
@@ -156,7 +157,7 @@ fn refuted<'v, 'a, R: Row>(
     row: &'v R,
     bound: &[&'v Value],
     env: &'v Env<'_, 'a>,
-) -> Result<Option<usize>, AllocError>
+) -> Result<Option<Passing<'v>>, AllocError>
     requires pieces { All (IsPiece term.now span) pieces.now }
     requires regular { IsRegularScope (scope_of env.now (R.values row.now) bound.now) }
     ensures { (c : Context) (vs : List value.Value) → IsBound span (scope_of env.now (R.values row.now) bound.now) c vs
@@ -164,13 +165,40 @@ fn refuted<'v, 'a, R: Row>(
 {
     for piece in pieces {
         if piece.front >= anew {
-            let told = truth(piece.term, row, bound, env)?;
-            if is_false(told) {
-                return Ok(Some(piece.front));
+            if let Some(passing) = passing_at(term, span, piece, row, bound, env)? {
+                return Ok(Some(passing));
             }
         }
     }
     Ok(None)
+}
+
+/// Which rows beside the one that is bound do not count, if the part tells so.
+#[cycle(meaning)]
+#[inline(never)]
+fn passing_at<'v, 'a, R: Row>(
+    term: &Resolved<'a>,
+    span: Span,
+    piece: &Piece<'_, 'a>,
+    row: &'v R,
+    bound: &[&'v Value],
+    env: &'v Env<'_, 'a>,
+) -> Result<Option<Passing<'v>>, AllocError>
+    requires piece { IsPiece term.now span piece.now }
+    requires regular { IsRegularScope (scope_of env.now (R.values row.now) bound.now) }
+    ensures { (c : Context) (vs : List value.Value) → IsBound span (scope_of env.now (R.values row.now) bound.now) c vs
+        → IfOk result (AreNeutralIf (resolved_of term.now) c vs) }
+{
+    if let Some(wanted) = &piece.wanted {
+        let found = outcome(wanted.term, row, bound, env)?;
+        return Ok(passing_by(found, wanted.local, span.outside, bound));
+    }
+    let told = truth(piece.term, row, bound, env)?;
+    if is_false(told) {
+        Ok(Some(Passing::Front(piece.front)))
+    } else {
+        Ok(None)
+    }
 }
 
 /// What a quantifier tells of the row that is bound.
@@ -265,7 +293,7 @@ fn built_over<'v, 'a, R: Row>(
     let pieces = pieces_of(alloc, term, span, &rows)?;
     let mut anew = 0;
     'walk: loop {
-        let Some(front) = built_at(
+        let Some(passing) = built_at(
             term,
             span,
             &pieces,
@@ -281,14 +309,14 @@ fn built_over<'v, 'a, R: Row>(
         if set::is_too_many(&mut built)? {
             return Ok(Outcome::Out);
         }
-        match rows.pass(front)? {
+        match rows.pass(&passing)? {
             None => return set::display(alloc, built),
             Some(turned) => anew = turned,
         }
     }
 }
 
-/// Adds what is built of the row that is bound, of which some first values are anew. Answers how many first values it has with others of which nothing is built; None where it is out.
+/// Adds what is built of the row that is bound, of which some first values are anew. Answers which others nothing is built of; None where it is out.
 #[cycle(meaning)]
 fn built_at<'v, 'a, R: Row>(
     term: &Resolved<'a>,
@@ -299,7 +327,7 @@ fn built_at<'v, 'a, R: Row>(
     row: &'v R,
     bound: &[&'v Value],
     env: &'v Env<'_, 'a>,
-) -> Result<Option<usize>, AllocError>
+) -> Result<Option<Passing<'v>>, AllocError>
     requires form { IsBuilder term.now }
     requires pieces { All (IsPiece term.now span) pieces.now }
     requires outside { span.outside ≤ length bound.now }
@@ -307,16 +335,16 @@ fn built_at<'v, 'a, R: Row>(
     requires regular { IsRegularScope (scope_of env.now (R.values row.now) bound.now) }
     ensures is { (c : Context) (vs : List value.Value) → IsBound span (scope_of env.now (R.values row.now) bound.now) c vs → drop span.outside (seen bound.now) ≡ vs
         → (l : ℕ) (rs : List range.Range) (p e : Option resolved.Resolved) → term.now ≡ form.Builder l rs p e
-        → IfOk result (λ front. AddsRow (λ u. IsConstraint (within c vs) (part_of p) u) (λ x. Builds (within c vs) vs (part_of e) x) built.old.items built.new.items (is_some front)) }
+        → IfOk result (λ passing. AddsRow (λ u. IsConstraint (within c vs) (part_of p) u) (λ x. Builds (within c vs) vs (part_of e) x) built.old.items built.new.items (is_some passing)) }
     ensures passed { (c : Context) (vs : List value.Value) → IsBound span (scope_of env.now (R.values row.now) bound.now) c vs
         → IfOk result (ArePassedIf (resolved_of term.now) c vs) }
     ensures regular { AreRegular built.new.items }
 {
-    if let Some(front) = refuted(term, span, pieces, anew, row, bound, env)? {
-        return Ok(Some(front));
+    if let Some(passing) = refuted(term, span, pieces, anew, row, bound, env)? {
+        return Ok(Some(passing));
     }
     if add_row(term, built, span.outside, row, bound, env)? {
-        Ok(Some(span.whole))
+        Ok(Some(Passing::Front(span.whole)))
     } else {
         Ok(None)
     }

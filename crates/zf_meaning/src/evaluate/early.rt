@@ -1,20 +1,27 @@
 //! What of a binder tells that rows do not count before all its variables are bound: parts of what has to hold, each with the variables that it needs.
-ghost use Rattle.std.specs.Prelude.{◌≡◌, ◌<◌, IfOk, IfSome, IsTrue, OnOk, length};
+ghost use Rattle.std.specs.Prelude.{◌≡◌, ◌↔◌, ◌+◌, ◌<◌, ◌≤◌, [], ◌∷◌, ℕ, IfOk, IfSome, IsTrue, OnOk, Some, length, slice_get};
 ghost use Rattle.std.specs.List.{All};
+ghost use Rattle.zf_reference.specs.declared.reference.Reference.TheVariants as references;
 ghost use Rattle.zf_tree.specs.declared.symbol.Connective.TheVariants.{And};
 ghost use Rattle.zf_tree.specs.declared.operator.Operator.TheVariants as symbol;
+ghost use Rattle.zf_tree.specs.declared.symbol.Relation.TheVariants as relations;
 ghost use Rattle.zf_term.specs.declared.resolved.Resolved as resolved;
+ghost use Rattle.zf_term.specs.declared.resolved.ResolvedLink as link;
 ghost use Rattle.zf_term.specs.declared.resolved.Resolved.{size-Resolved};
 ghost use Rattle.zf_term.specs.ResolvedTrees.{resolved_of};
 ghost use Rattle.zf_meaning.specs.Early as spec;
-ghost use Rattle.zf_meaning.specs.Early.{Falsifies, IsPart, IsPiece, Refutes};
+ghost use Rattle.zf_meaning.specs.Early.{Falsifies, IsEarlier, IsEquation, IsOther, IsPart, IsPiece, IsVariable, IsWanted, PassesBy, Refutes};
+ghost use Rattle.zf_meaning.specs.Found.{found_outcome};
+ghost use Rattle.zf_meaning.specs.Places.{seen};
 
+use crate::found::Found;
 use crate::needs::last_local;
-use crate::rows::Rows;
+use crate::rows::{Passing, Rows};
 use std::alloc::{AllocError, Global};
-use zf_term::resolved::Resolved;
+use zf_reference::reference::Reference;
+use zf_term::resolved::{Resolved, ResolvedLink};
 use zf_tree::operator::Operator;
-use zf_tree::symbol::{Connective, Quantifier};
+use zf_tree::symbol::{Connective, Quantifier, Relation};
 use zf_value::value::{Truth, Value};
 
 /// A part of what has to hold for a row to count, and how many first variables it needs.
@@ -22,6 +29,14 @@ use zf_value::value::{Truth, Value};
 pub(crate) struct Piece<'t, 'a> {
     pub term: &'t Resolved<'a>,
     pub front: usize,
+    pub wanted: Option<Wanted<'t, 'a>>,
+}
+
+/// The term that a variable has to equal, by the variable's place.
+#[derive(Drop)]
+pub(crate) struct Wanted<'t, 'a> {
+    pub term: &'t Resolved<'a>,
+    pub local: usize,
 }
 
 /// How many variables are bound outside a binder, and how many with its own.
@@ -197,7 +212,7 @@ fn is_conjunction(connective: Connective) -> bool
     }
 }
 
-/// Adds a predicate, if it does not need the last variable.
+/// Adds a predicate, if it does not need the last variable, or tells which value that has to have.
 fn add<'t, 'a>(
     term: &'t Resolved<'a>,
     span: Span,
@@ -206,12 +221,136 @@ fn add<'t, 'a>(
     ensures { (whole : resolved.Resolved) → IsPart whole term.now → All (IsPiece whole span) pieces.old.items → OnOk result (All (IsPiece whole span) pieces.new.items) }
 {
     let last = last_local(term, span.whole);
-    if last >= span.whole {
+    let wanted = wanted_by(term, span);
+    if last >= span.whole && wanted.is_none() {
         return Ok(());
     }
     let front = last.saturating_sub(span.outside);
-    pieces.push(Piece { term, front })?;
+    pieces.push(Piece {
+        term,
+        front,
+        wanted,
+    })?;
     Ok(())
+}
+
+/// What an equation wants a variable of the binder to be, if its other side names earlier ones alone.
+fn wanted_by<'t, 'a>(term: &'t Resolved<'a>, span: Span) -> Option<Wanted<'t, 'a>>
+    ensures { IfSome result (IsWanted term.now span) }
+{
+    let Some((left, right)) = equated(term) else {
+        return None;
+    };
+    match wanted_of(left, right, span) {
+        None => wanted_of(right, left, span),
+        Some(wanted) => Some(wanted),
+    }
+}
+
+/// What a variable of the binder has to be if the two are equal.
+fn wanted_of<'t, 'a>(
+    variable: &Resolved<'a>,
+    term: &'t Resolved<'a>,
+    span: Span,
+) -> Option<Wanted<'t, 'a>>
+    ensures variable { IfSome result (λ w. IsVariable w.local (resolved_of variable.now)) }
+    ensures term { IfSome result (λ w. w.term.now ≡ term.now) }
+    ensures earlier { IfSome result (IsEarlier span) }
+{
+    let Some(local) = local_of(variable) else {
+        return None;
+    };
+    if local < span.outside {
+        return None;
+    }
+    if last_local(term, span.whole) > local {
+        return None;
+    }
+    Some(Wanted { term, local })
+}
+
+/// The place of a bound variable, if the term is one.
+fn local_of(term: &Resolved<'_>) -> Option<usize>
+    ensures { IfSome result (λ place. IsVariable place (resolved_of term.now)) }
+{
+    let Resolved::Name(_, reference) = term else {
+        return None;
+    };
+    place_of(*reference)
+}
+
+fn place_of(reference: Reference) -> Option<usize>
+    ensures { IfSome result (λ place. reference ≡ references.Local place) }
+{
+    match reference {
+        Reference::Local(place) => Some(place),
+        Reference::Component(_) => None,
+        Reference::Global(_) => None,
+    }
+}
+
+/// Both sides of an equation.
+fn equated<'t, 'a>(term: &'t Resolved<'a>) -> Option<(&'t Resolved<'a>, &'t Resolved<'a>)>
+    ensures is { IfSome result (λ both. IsEquation (resolved_of both.0.now) (resolved_of both.1.now) (resolved_of term.now)) }
+    ensures smaller_left { IfSome result (λ both. size-Resolved both.0.now < size-Resolved term.now) }
+    ensures smaller_right { IfSome result (λ both. size-Resolved both.1.now < size-Resolved term.now) }
+{
+    let Resolved::Chain(_, first, further) = term else {
+        return None;
+    };
+    match equal_to(further.as_slice()) {
+        None => None,
+        Some(right) => Some((first.get(), right)),
+    }
+}
+
+/// The operand behind the one link of a chain, if that is an equation.
+fn equal_to<'t, 'a>(links: &'t [ResolvedLink<'a>]) -> Option<&'t Resolved<'a>>
+    ensures { IfSome result (λ x. (k : link.ResolvedLink) × (links.now ≡ k ∷ []) × (k.relation ≡ relations.Equal) × (k.right ≡ x.now)) }
+{
+    if links.len() != 1 {
+        return None;
+    }
+    let link = &links[0];
+    match link.relation {
+        Relation::Equal => Some(&link.right),
+        _ => None,
+    }
+}
+
+/// Which rows may be passed where a variable has to equal what was found.
+pub(super) fn passing_by<'v>(
+    found: Found<'v>,
+    local: usize,
+    outside: usize,
+    bound: &[&Value],
+) -> Option<Passing<'v>>
+    ensures other { IfSome result (λ p. IsOther (found_outcome found.entry) (slice_get (seen bound.now) local)) }
+    ensures passes { outside ≤ local → IfSome result (λ p. (place : ℕ) × (outside + place ≡ local) × PassesBy (found_outcome found.entry) place p) }
+{
+    let place = local.saturating_sub(outside);
+    match found {
+        Found::Out => None,
+        Found::Undefined => Some(Passing::Front(place)),
+        Found::Is(value) => {
+            if is_bound(bound, local, value.get()) {
+                None
+            } else {
+                Some(Passing::Others(place, value))
+            }
+        }
+    }
+}
+
+/// Whether the variable at the place is bound to the value.
+fn is_bound(bound: &[&Value], place: usize, value: &Value) -> bool
+    ensures { IsTrue result ↔ (slice_get (seen bound.now) place ≡ Some value.now) }
+{
+    if place < bound.len() {
+        bound[place].equals(value)
+    } else {
+        false
+    }
 }
 
 /// What a quantifier tells of a row that does not count.

@@ -1,11 +1,11 @@
-use Rattle.zf_meaning.proofs.Prelude.{◌+◌, ◌<◌, ◌∙◌, ◌∷◌, ◌≡◌, ◌≤◌, [], ap, arith, drop, false, inl, length, map, refl, rules, subst, sym, true, IfOk-weaker, All, IfOk, out_told, regular-push, regular_same, AreFrom, IsEmptySet, IsDisplay, AreRegular, IsRegularOutcome, of-Binary, of-Chain, of-Listed, of-Unary, part_of, resolved_of, size-Resolved, Describes, AreNeutralIf, IsPiece, neutral, AreNeutral, within, found_outcome, several_by, several_of, Builds, HasOutcome, IsBuilt, IsBuiltOver, IsConstraint, IsLink, IsTruth, row_value, seen, declared_of, spread, row_of, IsRegularScope, scope_of, is_settled, truth_by, IsConnected, IsOver, IsQuantified, IsTold, Arrows, Nothing}
+use Rattle.zf_meaning.proofs.Prelude.{◌+◌, ◌<◌, ◌∙◌, ◌∷◌, ◌≡◌, ◌≤◌, [], ap, arith, drop, false, inl, length, map, refl, rules, subst, sym, true, IfOk-weaker, All, IfOk, IfSome, out_told, regular-push, regular_same, AreFrom, IsEmptySet, IsDisplay, AreRegular, IsRegularOutcome, of-Binary, of-Chain, of-Listed, of-Unary, part_of, resolved_of, size-Resolved, Describes, AreNeutral, AreNeutralIf, IsPart, IsPiece, IsWanted, neutral, within, found_outcome, several_by, several_of, Builds, HasOutcome, IsBuilt, IsBuiltOver, IsConstraint, IsLink, IsTruth, row_value, seen, declared_of, spread, row_of, IsRegularScope, scope_of, is_settled, truth_by, IsConnected, IsOver, IsQuantified, IsTold, Arrows, Nothing}
 use Rattle.zf_term.specs.ResolvedTrees as tree
 use Rattle.zf_value.specs.declared.value.Outcome.TheVariants as outcome
 use Rattle.zf_value.specs.declared.value.Truth.TheVariants.{Out}
 use Rattle.zf_meaning.proofs.Binding.{same-quantifier, same-constraint, quantified-told, builder-has}
 use Rattle.zf_meaning.proofs.Builds.{nothing, built-same, built-more, built-too-many, built-out, built-all}
 use Rattle.zf_meaning.proofs.Connecting.{decided-told, told-by}
-use Rattle.zf_meaning.proofs.Early.{neutral-told, neutral-built, neutral-here, neutral-passed, neutral-by, itself-passed}
+use Rattle.zf_meaning.proofs.Early.{neutral-told, neutral-built, neutral-by, neutral-other-if, itself-passed}
 use Rattle.zf_meaning.proofs.Told.{IsTallied, none-tallied, one-more, settled-truth, all-told}
 use Rattle.zf_meaning.proofs.Turns.{fewer, adds-here, told-here, one-told, one-filter, one-term, span-bound, row-bound, next-turn, told-ended, built-ended}
 use Rattle.zf_meaning.proofs.Walking.{walk-begun, walk-row, walk-done, walk-new, no-row, none-from, bound-row, walk-scope, outside-bound, FilterIn, TermIn, ToldIn, NeutralIn}
@@ -289,14 +289,14 @@ binders::over_rows-walk-preserved g t c =
     let b = row-bound (NeutralIn c.args.term.now k) env values c.args.locals.now c.bound.result.now c.walk.rows ss inv.0 c.span_of-span.result c.bound.ensures c.span_of-span.ensures.outside wide inv.1 in
     let next = rw c.in-Some-2.is at (c.in_ok-pass.ensures outside inv.1.at) in (
       row ∷ inv.0,
-      next-turn c.args.term.now k c.walk.rows c.pass.new.self outside ss inv.0 c.in_ok-met.met.front inv.1 (c.in_ok-met.ensures.passed k row b) next,
+      next-turn c.args.term.now k c.walk.rows c.pass.new.self outside ss inv.0 c.in_ok-met.met.passing inv.1 (c.in_ok-met.ensures.passed k row b) next,
       λ q l rs p e is. subst (IsTallied (ToldIn k q (part_of p) (resolved_of e)) (row ∷ inv.0)) (sym c.with-tally.ensures) (one-more (ToldIn k q (part_of p) (resolved_of e)) inv.0 c.walk.tally row c.in_ok-met.met.truth (one-told k q (part_of p) (resolved_of e)) (walk-new (NeutralIn c.args.term.now k) c.walk.rows outside ss inv.0 inv.1) (c.in_ok-met.ensures.told k row b q l rs p e is) (inv.2 q l rs p e is)),
     )
 
 pub binders::over_rows-walk-smaller : goal.binders::over_rows-walk-smaller
 binders::over_rows-walk-smaller g t c =
     let outside = seen c.args.locals.now in
-    fewer outside c.in_ok-met.met.front c.walk.rows c.pass.new.self c.walk.invariant.1.at (rw c.in-Some-2.is at (c.in_ok-pass.ensures outside c.walk.invariant.1.at))
+    fewer outside c.in_ok-met.met.passing c.walk.rows c.pass.new.self (rw c.in-Some-2.is at (c.in_ok-pass.ensures outside c.walk.invariant.1.at))
 
 pub binders::over_rows-returns-in_default-2 : goal.binders::over_rows-returns-in_default-2
 binders::over_rows-returns-in_default-2 g t c =
@@ -355,7 +355,7 @@ binders::over_rows-returns-in-None g t c =
     let tallied : IsTallied (ToldIn k q (part_of p) (resolved_of e)) (row ∷ inv.0) c.with-tally.result = subst (IsTallied (ToldIn k q (part_of p) (resolved_of e)) (row ∷ inv.0)) (sym c.with-tally.ensures) (one-more (ToldIn k q (part_of p) (resolved_of e)) inv.0 c.walk.tally row c.in_ok-met.met.truth (one-told k q (part_of p) (resolved_of e)) (walk-new (NeutralIn c.args.term.now k) c.walk.rows outside ss inv.0 inv.1) (c.in_ok-met.ensures.told k row b q l rs p e is) (inv.2 q l rs p e is)) in
     let none = rw c.in-None.is at (c.in_ok-pass.ensures outside inv.1.at) in
     subst (IsOver q (λ vs. AreFrom vs ss) (ToldIn k q (part_of p) (resolved_of e))) (sym (c.truth-in-None.ensures ∙ ap (λ z. truth_by z c.with-tally.result) sq))
-    (told-ended c.args.term.now q l rs p e k c.walk.rows outside ss inv.0 c.in_ok-met.met.front c.with-tally.result is inv.1 (c.in_ok-met.ensures.passed k row b) none tallied)
+    (told-ended c.args.term.now q l rs p e k c.walk.rows outside ss inv.0 c.in_ok-met.met.passing c.with-tally.result is inv.1 (c.in_ok-met.ensures.passed k row b) none tallied)
 
 pub binders::built_over-walk-init : goal.binders::built_over-walk-init
 binders::built_over-walk-init g t c =
@@ -378,19 +378,19 @@ binders::built_over-walk-preserved g t c =
     let wide : length (seen c.args.locals.now) + length (spread c.args.sets.now) ≡ c.span_of-span.result.whole = span-bound c.in-Some.rows outside ss (seen c.in_ok-lists_of.field-0.items) c.span_of-span.result.whole c.in_ok-lists_of.ensures (rw c.in-Some.is at c.in_ok-rows.ensures) c.span_of-span.ensures.whole in
     let b = row-bound (NeutralIn c.args.term.now k) env values c.args.locals.now c.bound.result.now c.walk.rows ss inv.0 c.span_of-span.result c.bound.ensures c.span_of-span.ensures.outside wide inv.1 in
     let rest : drop c.span_of-span.result.outside (seen c.bound.result.now) ≡ row = subst (λ n. drop n (seen c.bound.result.now) ≡ row) (sym c.span_of-span.ensures.outside) (bound-row c.args.locals.now c.bound.result.now row (ap seen c.bound.ensures ∙ inv.1.at.1)) in
-    let passed = rw c.in-Some-2.is at (c.in_ok-front.ensures.passed k row b) in
+    let passed = rw c.in-Some-2.is at (c.in_ok-passing.ensures.passed k row b) in
     let next = rw c.in-Some-3.is at (c.in_ok-pass.ensures outside inv.1.at) in (
       row ∷ inv.0,
-      next-turn c.args.term.now k c.walk.rows c.pass.new.self outside ss inv.0 c.in-Some-2.front inv.1 passed next,
-      regular_same _ _ c.in_ok-is_too_many.ensures.members c.in_ok-front.ensures.regular,
+      next-turn c.args.term.now k c.walk.rows c.pass.new.self outside ss inv.0 c.in-Some-2.passing inv.1 passed next,
+      regular_same _ _ c.in_ok-is_too_many.ensures.members c.in_ok-passing.ensures.regular,
       λ l rs p e is. built-same (FilterIn k (part_of p)) (TermIn k (part_of e)) (row ∷ inv.0) c.built_at.new.built.items c.is_too_many.new.values.items c.in_ok-is_too_many.ensures.members
-          (built-more (FilterIn k (part_of p)) (TermIn k (part_of e)) inv.0 c.walk.built.items c.built_at.new.built.items row (one-filter k (part_of p)) (one-term k (part_of e)) (rw c.in-Some-2.is at (c.in_ok-front.ensures.is k row b rest l rs p e is)) (inv.3 l rs p e is)),
+          (built-more (FilterIn k (part_of p)) (TermIn k (part_of e)) inv.0 c.walk.built.items c.built_at.new.built.items row (one-filter k (part_of p)) (one-term k (part_of e)) (rw c.in-Some-2.is at (c.in_ok-passing.ensures.is k row b rest l rs p e is)) (inv.3 l rs p e is)),
     )
 
 pub binders::built_over-walk-smaller : goal.binders::built_over-walk-smaller
 binders::built_over-walk-smaller g t c =
     let outside = seen c.args.locals.now in
-    fewer outside c.in-Some-2.front c.walk.rows c.pass.new.self c.walk.invariant.1.at (rw c.in-Some-3.is at (c.in_ok-pass.ensures outside c.walk.invariant.1.at))
+    fewer outside c.in-Some-2.passing c.walk.rows c.pass.new.self (rw c.in-Some-3.is at (c.in_ok-pass.ensures outside c.walk.invariant.1.at))
 
 pub binders::built_over-built_at-requires : goal.binders::built_over-built_at-requires
 binders::built_over-built_at-requires g t c =
@@ -421,11 +421,14 @@ binders::met_at-returns-in-Some-clause-told g t c =
     λ k vs b q l rs p e is.
     let i = c.in-Quantified in
     let sq = same-quantifier i.quantifier q i.field-1 l i.field-2 rs i.field-3 p i.field-4 e (sym i.is ∙ is) in
-    let none : AreNeutral (resolved_of c.args.term.now) k vs c.in-Some.front = subst (AreNeutralIf (resolved_of c.args.term.now) k vs) c.in-Some.is (c.in_ok-front.ensures k vs b) in
-    subst (ToldIn k q (part_of p) (resolved_of e) vs) (sym (c.neutral.ensures ∙ ap neutral sq)) (neutral-told c.args.term.now q l rs p e (within k vs) is (neutral-here (resolved_of c.args.term.now) k vs c.in-Some.front none))
+    let none : AreNeutral (resolved_of c.args.term.now) k vs c.in-Some.passing = subst (AreNeutralIf (resolved_of c.args.term.now) k vs) c.in-Some.is (c.in_ok-passing.ensures k vs b) in
+    subst (ToldIn k q (part_of p) (resolved_of e) vs) (sym (c.neutral.ensures ∙ ap neutral sq)) (neutral-told c.args.term.now q l rs p e (within k vs) is none.here)
 
 pub binders::met_at-returns-in-Some-clause-passed : goal.binders::met_at-returns-in-Some-clause-passed
-binders::met_at-returns-in-Some-clause-passed g t c = λ k vs b. neutral-passed (resolved_of c.args.term.now) k vs c.in-Some.front (subst (AreNeutralIf (resolved_of c.args.term.now) k vs) c.in-Some.is (c.in_ok-front.ensures k vs b))
+binders::met_at-returns-in-Some-clause-passed g t c =
+    λ k vs b.
+    let none : AreNeutral (resolved_of c.args.term.now) k vs c.in-Some.passing = subst (AreNeutralIf (resolved_of c.args.term.now) k vs) c.in-Some.is (c.in_ok-passing.ensures k vs b) in
+    none.passed
 
 pub binders::met_at-returns-clause-told : goal.binders::met_at-returns-clause-told
 binders::met_at-returns-clause-told g t c = λ k vs b q l rs p e is. told-here _ k vs q (part_of p) (resolved_of e) c.in_ok-truth.truth b.is (c.in_ok-truth.ensures q l rs p e is)
@@ -433,27 +436,47 @@ binders::met_at-returns-clause-told g t c = λ k vs b q l rs p e is. told-here _
 pub binders::met_at-returns-clause-passed : goal.binders::met_at-returns-clause-passed
 binders::met_at-returns-clause-passed g t c = λ k vs b. itself-passed (resolved_of c.args.term.now) c.args.span _ k vs b
 
-pub binders::refuted-truth-requires : goal.binders::refuted-truth-requires
-binders::refuted-truth-requires g t c =
+pub binders::refuted-passing_at-requires : goal.binders::refuted-passing_at-requires
+binders::refuted-passing_at-requires g t c =
     let piece : IsPiece c.args.term.now c.args.span c.piece-item.result = subst (IsPiece c.args.term.now c.args.span) (sym c.piece-item.is) (c.requires.pieces c.loop-piece.piece-index c.piece-item.result c.loop-piece-test.true) in
-    let less : size-Resolved c.piece-item.result.term.now < size-Resolved c.args.term.now = piece.part.smaller in
+    search (rules, piece)
+
+pub binders::passing_at-truth-requires : goal.binders::passing_at-truth-requires
+binders::passing_at-truth-requires g t c =
+    let less : size-Resolved c.args.piece.now.term.now < size-Resolved c.args.term.now = c.requires.piece.part.smaller in
     search (rules, less)
 
-pub binders::refuted-returns-then-is_false : goal.binders::refuted-returns-then-is_false
-binders::refuted-returns-then-is_false g t c =
+pub binders::passing_at-outcome-requires : goal.binders::passing_at-outcome-requires
+binders::passing_at-outcome-requires g t c =
+    let whole : IsPart c.args.term.now c.args.piece.now.term.now = c.requires.piece.part in
+    let wanted : IsWanted c.args.piece.now.term.now c.args.span c.in-Some.wanted.now = subst (λ o. IfSome o (IsWanted c.args.piece.now.term.now c.args.span)) c.in-Some.is c.requires.piece.wanted in
+    let less : size-Resolved c.in-Some.wanted.now.term.now < size-Resolved c.args.term.now = omega (arith, wanted.smaller, whole.smaller) in
+    search (rules, less)
+
+pub binders::passing_at-returns-in_ok-found-in-Some : goal.binders::passing_at-returns-in_ok-found-in-Some
+binders::passing_at-returns-in_ok-found-in-Some g t c =
     λ k vs b.
-    let piece : IsPiece c.args.term.now c.args.span c.piece-item.result = subst (IsPiece c.args.term.now c.args.span) (sym c.piece-item.is) (c.requires.pieces c.loop-piece.piece-index c.piece-item.result c.loop-piece-test.true) in
     let here = scope_of c.args.env.now (g.R.Row.values c.args.row.now) c.args.bound.now in
-    neutral-by c.args.term.now c.args.span c.piece-item.result here k vs piece b (subst (IsTruth here (resolved_of c.piece-item.result.term.now)) (c.is_false.ensures.0 c.if-is_false.true) c.in_ok-told.ensures)
+    let wanted : IsWanted c.args.piece.now.term.now c.args.span c.in-Some.wanted.now = subst (λ o. IfSome o (IsWanted c.args.piece.now.term.now c.args.span)) c.in-Some.is c.requires.piece.wanted in
+    neutral-other-if c.args.term.now c.args.span c.args.piece.now.term.now c.in-Some.wanted.now here k vs (found_outcome c.in_ok-found.found) c.passing_by.result c.requires.piece.part wanted b c.in_ok-found.ensures.is c.passing_by.ensures.other (c.passing_by.ensures.passes wanted.earlier.outside)
+
+pub binders::passing_at-returns-then-is_false : goal.binders::passing_at-returns-then-is_false
+binders::passing_at-returns-then-is_false g t c =
+    λ k vs b.
+    let here = scope_of c.args.env.now (g.R.Row.values c.args.row.now) c.args.bound.now in
+    neutral-by c.args.term.now c.args.span c.args.piece.now here k vs c.requires.piece b (subst (IsTruth here (resolved_of c.args.piece.now.term.now)) (c.is_false.ensures.0 c.if-is_false.true) c.in_ok-told.ensures)
 
 pub binders::built_at-returns-in-Some-clause-is : goal.binders::built_at-returns-in-Some-clause-is
 binders::built_at-returns-in-Some-clause-is g t c =
     λ k vs b d l rs p e is.
-    let none : AreNeutral (resolved_of c.args.term.now) k vs c.in-Some.front = subst (AreNeutralIf (resolved_of c.args.term.now) k vs) c.in-Some.is (c.in_ok-front.ensures k vs b) in
-    inl (neutral-built c.args.term.now l rs p e (within k vs) is (neutral-here (resolved_of c.args.term.now) k vs c.in-Some.front none), refl)
+    let none : AreNeutral (resolved_of c.args.term.now) k vs c.in-Some.passing = subst (AreNeutralIf (resolved_of c.args.term.now) k vs) c.in-Some.is (c.in_ok-passing.ensures k vs b) in
+    inl (neutral-built c.args.term.now l rs p e (within k vs) is none.here, refl)
 
 pub binders::built_at-returns-in-Some-clause-passed : goal.binders::built_at-returns-in-Some-clause-passed
-binders::built_at-returns-in-Some-clause-passed g t c = λ k vs b. neutral-passed (resolved_of c.args.term.now) k vs c.in-Some.front (subst (AreNeutralIf (resolved_of c.args.term.now) k vs) c.in-Some.is (c.in_ok-front.ensures k vs b))
+binders::built_at-returns-in-Some-clause-passed g t c =
+    λ k vs b.
+    let none : AreNeutral (resolved_of c.args.term.now) k vs c.in-Some.passing = subst (AreNeutralIf (resolved_of c.args.term.now) k vs) c.in-Some.is (c.in_ok-passing.ensures k vs b) in
+    none.passed
 
 pub binders::built_at-returns-then-branch-clause-is : goal.binders::built_at-returns-then-branch-clause-is
 binders::built_at-returns-then-branch-clause-is g t c = λ k vs b d l rs p e is. adds-here _ k vs _ (part_of p) (part_of e) c.args.built.now.items c.add_row.new.built.items c.in_ok-add_row.field-0 true b.is d c.if-branch.true (c.in_ok-add_row.ensures.is l rs p e is)
@@ -477,7 +500,7 @@ binders::built_over-returns-in_default-2-clause-is g t c =
     let wide : length (seen c.args.locals.now) + length (spread c.args.sets.now) ≡ c.span_of-span.result.whole = span-bound c.in-Some.rows outside ss (seen c.in_ok-lists_of.field-0.items) c.span_of-span.result.whole c.in_ok-lists_of.ensures (rw c.in-Some.is at c.in_ok-rows.ensures) c.span_of-span.ensures.whole in
     let b = row-bound (NeutralIn c.args.term.now k) env values c.args.locals.now c.bound.result.now c.walk.rows ss inv.0 c.span_of-span.result c.bound.ensures c.span_of-span.ensures.outside wide inv.1 in
     let rest : drop c.span_of-span.result.outside (seen c.bound.result.now) ≡ row = subst (λ n. drop n (seen c.bound.result.now) ≡ row) (sym c.span_of-span.ensures.outside) (bound-row c.args.locals.now c.bound.result.now row (ap seen c.bound.ensures ∙ inv.1.at.1)) in
-    built-out (λ vs. AreFrom vs ss) (FilterIn k (part_of p)) (TermIn k (part_of e)) c.walk.built.items c.built_at.new.built.items row (walk-row (NeutralIn c.args.term.now k) c.walk.rows outside ss inv.0 inv.1) (rw c.in_default-2.is at (c.in_ok-front.ensures.is k row b rest l rs p e is))
+    built-out (λ vs. AreFrom vs ss) (FilterIn k (part_of p)) (TermIn k (part_of e)) c.walk.built.items c.built_at.new.built.items row (walk-row (NeutralIn c.args.term.now k) c.walk.rows outside ss inv.0 inv.1) (rw c.in_default-2.is at (c.in_ok-passing.ensures.is k row b rest l rs p e is))
 
 pub binders::built_over-returns-then-branch-clause-is : goal.binders::built_over-returns-then-branch-clause-is
 binders::built_over-returns-then-branch-clause-is g t c =
@@ -494,7 +517,7 @@ binders::built_over-returns-then-branch-clause-is g t c =
     let rest : drop c.span_of-span.result.outside (seen c.bound.result.now) ≡ row = subst (λ n. drop n (seen c.bound.result.now) ≡ row) (sym c.span_of-span.ensures.outside) (bound-row c.args.locals.now c.bound.result.now row (ap seen c.bound.ensures ∙ inv.1.at.1)) in
     built-too-many (λ vs. AreFrom vs ss) (FilterIn k (part_of p)) (TermIn k (part_of e)) (row ∷ inv.0) c.is_too_many.new.values.items (walk-done (NeutralIn c.args.term.now k) c.walk.rows outside ss inv.0 inv.1)
     (built-same (FilterIn k (part_of p)) (TermIn k (part_of e)) (row ∷ inv.0) c.built_at.new.built.items c.is_too_many.new.values.items c.in_ok-is_too_many.ensures.members
-    (built-more (FilterIn k (part_of p)) (TermIn k (part_of e)) inv.0 c.walk.built.items c.built_at.new.built.items row (one-filter k (part_of p)) (one-term k (part_of e)) (rw c.in-Some-2.is at (c.in_ok-front.ensures.is k row b rest l rs p e is)) (inv.3 l rs p e is)))
+    (built-more (FilterIn k (part_of p)) (TermIn k (part_of e)) inv.0 c.walk.built.items c.built_at.new.built.items row (one-filter k (part_of p)) (one-term k (part_of e)) (rw c.in-Some-2.is at (c.in_ok-passing.ensures.is k row b rest l rs p e is)) (inv.3 l rs p e is)))
     (out_told _ _ c.if-branch.true c.in_ok-is_too_many.ensures.told)
 
 pub binders::built_over-returns-in-None-clause-is : goal.binders::built_over-returns-in-None-clause-is
@@ -510,12 +533,12 @@ binders::built_over-returns-in-None-clause-is g t c =
     let wide : length (seen c.args.locals.now) + length (spread c.args.sets.now) ≡ c.span_of-span.result.whole = span-bound c.in-Some.rows outside ss (seen c.in_ok-lists_of.field-0.items) c.span_of-span.result.whole c.in_ok-lists_of.ensures (rw c.in-Some.is at c.in_ok-rows.ensures) c.span_of-span.ensures.whole in
     let b = row-bound (NeutralIn c.args.term.now k) env values c.args.locals.now c.bound.result.now c.walk.rows ss inv.0 c.span_of-span.result c.bound.ensures c.span_of-span.ensures.outside wide inv.1 in
     let rest : drop c.span_of-span.result.outside (seen c.bound.result.now) ≡ row = subst (λ n. drop n (seen c.bound.result.now) ≡ row) (sym c.span_of-span.ensures.outside) (bound-row c.args.locals.now c.bound.result.now row (ap seen c.bound.ensures ∙ inv.1.at.1)) in
-    let passed = rw c.in-Some-2.is at (c.in_ok-front.ensures.passed k row b) in
+    let passed = rw c.in-Some-2.is at (c.in_ok-passing.ensures.passed k row b) in
     let none = rw c.in-None.is at (c.in_ok-pass.ensures outside inv.1.at) in
     let built = built-same (FilterIn k (part_of p)) (TermIn k (part_of e)) (row ∷ inv.0) c.built_at.new.built.items c.is_too_many.new.values.items c.in_ok-is_too_many.ensures.members
-    (built-more (FilterIn k (part_of p)) (TermIn k (part_of e)) inv.0 c.walk.built.items c.built_at.new.built.items row (one-filter k (part_of p)) (one-term k (part_of e)) (rw c.in-Some-2.is at (c.in_ok-front.ensures.is k row b rest l rs p e is)) (inv.3 l rs p e is)) in
+    (built-more (FilterIn k (part_of p)) (TermIn k (part_of e)) inv.0 c.walk.built.items c.built_at.new.built.items row (one-filter k (part_of p)) (one-term k (part_of e)) (rw c.in-Some-2.is at (c.in_ok-passing.ensures.is k row b rest l rs p e is)) (inv.3 l rs p e is)) in
     IfOk-weaker c.display-in-None.result (IsDisplay c.is_too_many.new.values.items) (IsBuiltOver (λ vs. AreFrom vs ss) (FilterIn k (part_of p)) (TermIn k (part_of e)))
-    (λ o h. built-ended c.args.term.now l rs p e k c.walk.rows outside ss inv.0 c.in-Some-2.front c.is_too_many.new.values.items o is inv.1 passed none built h) c.display-in-None.ensures.is
+    (λ o h. built-ended c.args.term.now l rs p e k c.walk.rows outside ss inv.0 c.in-Some-2.passing c.is_too_many.new.values.items o is inv.1 passed none built h) c.display-in-None.ensures.is
 
 pub binders::built_over-returns-in-None-clause-regular : goal.binders::built_over-returns-in-None-clause-regular
-binders::built_over-returns-in-None-clause-regular g t c = c.display-in-None.ensures.regular (regular_same _ _ c.in_ok-is_too_many.ensures.members c.in_ok-front.ensures.regular)
+binders::built_over-returns-in-None-clause-regular g t c = c.display-in-None.ensures.regular (regular_same _ _ c.in_ok-is_too_many.ensures.members c.in_ok-passing.ensures.regular)
