@@ -421,7 +421,7 @@ binders::passing_at-returns-in_ok-found-in-Some g t c =
     λ k vs b.
     let here = scope_of c.args.env.now (g.R.Row.values c.args.row.now) c.args.bound.now in
     let wanted : IsWanted c.args.piece.now.term.now c.args.span c.in-Some.wanted.now = subst (λ o. IfSome o (IsWanted c.args.piece.now.term.now c.args.span)) c.in-Some.is c.requires.wanted in
-    neutral-other-if c.args.term.now c.args.span c.args.piece.now.term.now c.in-Some.wanted.now here k vs (found_outcome c.in_ok-found.found) c.passing_by.result c.requires.part wanted b c.in_ok-found.ensures.is c.passing_by.ensures.other (c.passing_by.ensures.passes wanted.earlier.outside)
+    neutral-other-if c.args.term.now c.args.span c.args.piece.now.term.now c.in-Some.wanted.now here k vs (found_outcome c.in_ok-found.found) c.passing_by.result c.requires.part wanted b c.in_ok-found.ensures c.passing_by.ensures.other (c.passing_by.ensures.passes wanted.earlier.outside)
 
 pub binders::passing_at-returns-then-is_false : goal.binders::passing_at-returns-then-is_false
 binders::passing_at-returns-then-is_false g t c =
