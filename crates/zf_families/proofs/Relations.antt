@@ -1,5 +1,5 @@
 -- The relations from a set to a set are the subsets of the product.
-use Rattle.zf_families.proofs.Prelude.{◌*◌, ◌++◌, ◌+◌, ◌<◌, ◌^◌, ◌↔◌, ◌∙◌, ◌∷◌, ◌≡◌, [], ap, arith, inl, inr, length, Less, List, ltb, map, min, refl, Result, subst, suc, sym, zero, ℕ, ⊎_elim, pow-succ', pow-zero, cases_lt, length-append, length-map, flat_map, IsTrue, IfOk, AllocError, every_from, members-append, IsRelationThat, pair, AreRelations, Every, IsAscending, IsMember, value_order, AreAmong, SET_MAX, SetOf, Value, Outcome, Is, Out, AreSets, fits_any, pairs, singles, some, IsPairFrom}
+use Rattle.zf_families.proofs.Prelude.{◌*◌, ◌++◌, ◌+◌, ◌<◌, ◌^◌, ◌∙◌, ◌∷◌, ◌≡◌, [], ap, arith, inl, inr, length, Less, List, ltb, map, min, refl, Result, subst, suc, sym, zero, ℕ, ⊎_elim, pow-succ', pow-zero, cases_lt, length-append, length-map, flat_map, IfOk, AllocError, every_from, members-append, IsRelationThat, pair, AreRelations, Every, IsAscending, IsMember, value_order, AreAmong, SET_MAX, SetOf, Value, Outcome, Is, Out, AreSets, fits_any, pairs, singles, some, IsPairFrom}
 use Rattle.zf_families.proofs.Told.{TellsOut, are_sets, ascends, Tells, out_by_size, built_result}
 use Rattle.zf_families.proofs.Counts.{length_some, sizes_same}
 use Rattle.zf_families.proofs.Subsets.{power_told}

@@ -1,5 +1,5 @@
 -- The subsets of a set are the rows that take some of its members.
-use Rattle.zf_families.proofs.Prelude.{◌+◌, ◌^◌, ◌↔◌, ◌∙◌, ◌∷◌, ◌≡◌, ◌⊎◌, [], inl, inr, length, Less, List, ltb, map, min, refl, Result, subst, suc, sym, ℕ, ⊎_elim, IsTrue, IfOk, AllocError, every_from, not_below_itself, IsSubset, IsPower, Every, IsAscending, value_order, AreAmong, SET_MAX, SetOf, Value, Outcome, Is, Out, AreSets, fits_any, singles, some}
+use Rattle.zf_families.proofs.Prelude.{◌+◌, ◌^◌, ◌↔◌, ◌∙◌, ◌∷◌, ◌≡◌, ◌⊎◌, [], inl, inr, length, Less, List, ltb, map, min, refl, Result, subst, suc, sym, ℕ, ⊎_elim, IfOk, AllocError, every_from, not_below_itself, IsSubset, IsPower, Every, IsAscending, value_order, AreAmong, SET_MAX, SetOf, Value, Outcome, Is, Out, AreSets, fits_any, singles, some}
 use Rattle.zf_families.proofs.Counts.{length_some, sizes_same}
 use Rattle.zf_families.proofs.Lists.{Each, each_map}
 use Rattle.zf_families.proofs.InOrder.{IsLadder, ordered_some}

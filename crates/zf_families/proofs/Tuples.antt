@@ -1,5 +1,5 @@
 -- The tuples of a product are the rows that take a member of each set.
-use Rattle.zf_families.proofs.Prelude.{◌+◌, ◌<◌, ◌↔◌, ◌∙◌, ◌∷◌, ◌≡◌, [], add-one, ap, arith, Bool, false, get_or, length, List, ltb, map, min, refl, Result, subst, suc, sym, take, ℕ, ⊎_elim, false≢true, nil_from_length, IsTrue, IfOk, AllocError, every_at, every_from, members-take_more, parts-Tuple, AreFrom, IsCross, Every, IsAscending, IsMember, members, members_at, parts, SET_MAX, out-Value, roll-out-Value, roll-Value, SetOf, Tuple, Value, Value-F, rolls-SetOf, Outcome, Is, Out, sizes, IsTupleFrom, fits_any, whole}
+use Rattle.zf_families.proofs.Prelude.{◌+◌, ◌<◌, ◌↔◌, ◌∙◌, ◌∷◌, ◌≡◌, [], add-one, ap, arith, Bool, false, get_or, length, List, ltb, map, min, refl, Result, subst, suc, sym, take, ℕ, ⊎_elim, false≢true, nil_from_length, IsTrue, IfOk, AllocError, every_at, every_from, members-take_more, parts-Tuple, AreFrom, IsCross, Every, IsAscending, IsMember, members, parts, SET_MAX, SetOf, Tuple, Value, Outcome, Is, Out, sizes, IsTupleFrom, fits_any, whole}
 use Rattle.zf_families.proofs.Counts.{length_whole}
 use Rattle.zf_families.proofs.Lists.{Each, each_map}
 use Rattle.zf_families.proofs.InOrder.{ordered_whole}
