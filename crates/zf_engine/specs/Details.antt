@@ -70,6 +70,13 @@ symbol_text symbol = if starts_with nat_eq symbol (codes "\\end{") then codes "e
 abbrev pub is_printed : ℕ → Bool
 is_printed b = nat_le 33 b && nat_le b 126
 
+-- a command; without the byte behind its backslash, where that is not printed
+abbrev pub command_text : List ℕ → List ℕ
+command_text [] = []
+command_text (a ∷ []) = a ∷ []
+command_text (a ∷ b ∷ []) = if is_printed b then a ∷ b ∷ [] else a ∷ []
+command_text (a ∷ b ∷ c ∷ text) = a ∷ b ∷ c ∷ text
+
 abbrev pub byte_text : ℕ → List ℕ
 byte_text b = if is_printed b then b ∷ [] else decimal b
 
@@ -81,7 +88,7 @@ byte_details (b ∷ c ∷ text) = detail (codes "symbol") (b ∷ c ∷ text)
 
 abbrev pub text_details : TextFaultKind → (symbol : List ℕ) → List ℕ
 text_details BadByte symbol = byte_details symbol
-text_details UnknownCommand symbol = detail_if_any (codes "command") symbol
+text_details UnknownCommand symbol = detail_if_any (codes "command") (command_text symbol)
 text_details NotInProfile symbol = detail_if_any (codes "symbol") symbol
 text_details UnclosedBox symbol = []
 text_details Unexpected symbol = detail_if_any (codes "symbol") (symbol_text symbol)

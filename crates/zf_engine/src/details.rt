@@ -150,6 +150,24 @@ fn is_printed(byte: u8) -> bool
     33 <= byte && byte <= 126
 }
 
+/// A command as it is told: without the byte behind its backslash, where that is not printed.
+fn command_text(command: &[u8]) -> &[u8]
+    ensures { result.now ≡ spec.command_text command.now }
+{
+    match command {
+        [] => command,
+        [_] => command,
+        [_, byte] => {
+            if is_printed(*byte) {
+                command
+            } else {
+                &command[..1]
+            }
+        }
+        [_, _, _, ..] => command,
+    }
+}
+
 /// A byte, or its number.
 fn append_byte(lines: &mut Vec<u8>, byte: u8) -> Result<(), AllocError>
     ensures { OnOk result (lines.new.items ≡ lines.old.items ++ spec.detail (codes "byte") (spec.byte_text byte)) }
@@ -182,7 +200,7 @@ fn append_text_details(
 {
     match kind {
         TextFaultKind::BadByte => append_bad(lines, symbol),
-        TextFaultKind::UnknownCommand => append_if_any(lines, b"command", symbol),
+        TextFaultKind::UnknownCommand => append_if_any(lines, b"command", command_text(symbol)),
         TextFaultKind::NotInProfile => append_if_any(lines, b"symbol", symbol),
         TextFaultKind::UnclosedBox => Ok(()),
         TextFaultKind::Unexpected => append_if_any(lines, b"symbol", symbol_text(symbol)),

@@ -66,12 +66,12 @@ impl<'v> Rows<'v> {
     }
 
     /// Goes to the next row, and passes only rows that may be. Answers how many first values it does not share all of, if there is one.
-    pub(crate) fn pass(&mut self, passing: &Passing<'_>) -> Result<Option<usize>, AllocError>
+    pub(crate) fn pass(&mut self, passing: Passing<'_>) -> Result<Option<usize>, AllocError>
         requires { (outside : List value.Value) × IsAt self.old outside }
-        ensures { (outside : List value.Value) → IsAt self.old outside → IfOk result (λ turned. MatchOption turned (Skips passing.now (row_of self.old) (ahead self.old) []) (λ anew. IsNext outside passing.now self.old self.new)) }
+        ensures { (outside : List value.Value) → IsAt self.old outside → IfOk result (λ turned. MatchOption turned (Skips passing.entry (row_of self.old) (ahead self.old) []) (λ anew. IsNext outside passing.entry self.old self.new)) }
     {
         let outside = self.bound.len() - self.places.len();
-        let Some(turned) = turn_on(&self.lists, &mut self.places, passing) else {
+        let Some(turned) = turn_on(&self.lists, &mut self.places, &passing) else {
             return Ok(None);
         };
         self.bound.truncate(outside);
@@ -115,7 +115,6 @@ fn go_on(lists: &[&[Value]], places: &mut [usize], passing: &Passing<'_>) -> usi
 }
 
 /// The same, of a value at a place.
-#[inline(never)]
 fn go_on_at(lists: &[&[Value]], places: &mut [usize], place: usize, wanted: &Value) -> usize
     requires { ArePlaces (seen lists.now) places.old }
     ensures places { ArePlaces (seen lists.now) places.new }

@@ -92,7 +92,7 @@ fn over_rows<'v, 'a, R: Row>(
         if tally.is_settled(*quantifier) {
             return Ok(tally.truth(*quantifier));
         }
-        match rows.pass(&met.passing)? {
+        match rows.pass(met.passing)? {
             None => return Ok(tally.truth(*quantifier)),
             Some(turned) => anew = turned,
         }
@@ -143,7 +143,6 @@ fn met_at<'v, 'a, R: Row>(
 
 /// Which rows beside the one that is bound do not count, if a part tells so that needs some values that are anew.
 #[cycle(meaning)]
-#[inline(always)]
 fn refuted<'v, 'a, R: Row>(
     term: &Resolved<'a>,
     span: Span,
@@ -169,7 +168,6 @@ fn refuted<'v, 'a, R: Row>(
 
 /// Which rows beside the one that is bound do not count, if the part tells so.
 #[cycle(meaning)]
-#[inline(never)]
 fn passing_at<'v, 'a, R: Row>(
     term: &Resolved<'a>,
     span: Span,
@@ -295,7 +293,7 @@ fn built_over<'v, 'a, R: Row>(
         if set::is_too_many(&mut built)? {
             return Ok(Outcome::Out);
         }
-        match rows.pass(&passing)? {
+        match rows.pass(passing)? {
             None => return set::display(alloc, built),
             Some(turned) => anew = turned,
         }

@@ -412,16 +412,16 @@ binders::passing_at-truth-requires g t c =
 pub binders::passing_at-outcome-requires : goal.binders::passing_at-outcome-requires
 binders::passing_at-outcome-requires g t c =
     let whole : IsPart c.args.term.now c.args.piece.now.term.now = c.requires.part in
-    let wanted : IsWanted c.args.piece.now.term.now c.args.span c.in-Some.wanted.now = subst (λ o. IfSome o (IsWanted c.args.piece.now.term.now c.args.span)) c.in-Some.is c.requires.wanted in
-    let less : size-Resolved c.in-Some.wanted.now.term.now < size-Resolved c.args.term.now = omega (arith, wanted.smaller, whole.smaller) in
+    let wanted : IsWanted c.args.piece.now.term.now c.args.span c.in-Some.wanted = subst (λ o. IfSome o (IsWanted c.args.piece.now.term.now c.args.span)) c.in-Some.is c.requires.wanted in
+    let less : size-Resolved c.in-Some.wanted.term.now < size-Resolved c.args.term.now = omega (arith, wanted.smaller, whole.smaller) in
     search (rules, less)
 
-pub binders::passing_at-returns-in_ok-found-in-Some : goal.binders::passing_at-returns-in_ok-found-in-Some
-binders::passing_at-returns-in_ok-found-in-Some g t c =
+pub binders::passing_at-returns-in-Some : goal.binders::passing_at-returns-in-Some
+binders::passing_at-returns-in-Some g t c =
     λ k vs b.
     let here = scope_of c.args.env.now (g.R.Row.values c.args.row.now) c.args.bound.now in
-    let wanted : IsWanted c.args.piece.now.term.now c.args.span c.in-Some.wanted.now = subst (λ o. IfSome o (IsWanted c.args.piece.now.term.now c.args.span)) c.in-Some.is c.requires.wanted in
-    neutral-other-if c.args.term.now c.args.span c.args.piece.now.term.now c.in-Some.wanted.now here k vs (found_outcome c.in_ok-found.found) c.passing_by.result c.requires.part wanted b c.in_ok-found.ensures c.passing_by.ensures.other (c.passing_by.ensures.passes wanted.earlier.outside)
+    let wanted : IsWanted c.args.piece.now.term.now c.args.span c.in-Some.wanted = subst (λ o. IfSome o (IsWanted c.args.piece.now.term.now c.args.span)) c.in-Some.is c.requires.wanted in
+    neutral-other-if c.args.term.now c.args.span c.args.piece.now.term.now c.in-Some.wanted here k vs (found_outcome c.in_ok-found.found) c.passing_by.result c.requires.part wanted b c.in_ok-found.ensures c.passing_by.ensures.other (c.passing_by.ensures.passes wanted.earlier.outside)
 
 pub binders::passing_at-returns-then-is_false : goal.binders::passing_at-returns-then-is_false
 binders::passing_at-returns-then-is_false g t c =
