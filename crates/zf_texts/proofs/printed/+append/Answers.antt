@@ -1,4 +1,5 @@
-use Rattle.zf_texts.proofs.Prelude.{◌++◌, ◌∙◌, ◌∷◌, [], ap, arith, map, sym, goes_on, parted, value_text}
+use Rattle.zf_texts.proofs.Prelude.{◌++◌, ◌∙◌, ◌∷◌, ◌≡◌, [], ap, arith, map, subst, sym, ℤ, w64, signed_decimal, FitsSigned, same, goes_on, parted, value_text}
+use Rattle.std.specs.Prelude.{OnOk}
 use Rattle.zf_texts.proofs.Printing.{begun, map-drop, drop-end, ahead-more, closed}
 use Rattle.std.proofs.Common.{rules}
 use Rattle.zf_value.specs.Forms.{value_of}
@@ -27,7 +28,10 @@ pub append_value-append_parts-requires-in-SetOf : goal.append_value-append_parts
 append_value-append_parts-requires-in-SetOf t c = let f = set_falls _ _ _ _ c.value.view_is c.in-SetOf.is c.as_slice-in-SetOf.ensures in search (rules, f)
 
 pub append_value-returns-in-Int : goal.append_value-returns-in-Int
-append_value-returns-in-Int t c = let e = sym c.value.view_is ∙ ap value_of c.in-Int.is in rw (e, of-Int c.args.spellings.now _) c.append_number.ensures
+append_value-returns-in-Int t c =
+    let e = sym c.value.view_is ∙ ap value_of c.in-Int.is in
+    let f : FitsSigned w64 c.in-Int.n = search rules in
+    rw (e, of-Int c.args.spellings.now c.in-Int.n) (subst (λ (m : ℤ). OnOk c.append_number.result (c.append_number.new.text.items ≡ c.args.text.now.items ++ signed_decimal m)) (same c.in-Int.n f) c.append_number.ensures)
 
 pub append_value-returns-in-Elem : goal.append_value-returns-in-Elem
 append_value-returns-in-Elem t c = let e = sym c.value.view_is ∙ ap value_of c.in-Elem.is in rw (e, of-Elem c.args.spellings.now _ _) c.append_element.ensures
