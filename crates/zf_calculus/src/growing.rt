@@ -119,8 +119,7 @@ impl<'a> Growing<'a> {
         let Some(sets_left) = after_sets(component.domains.get(), self.sets_left) else {
             return Err(Stop::TooLarge(Limit::Sets));
         };
-        let Some(nodes_left) = after_nodes(component.domains.get(), self.nodes_left)
-        else {
+        let Some(nodes_left) = after_nodes(component.domains.get(), self.nodes_left) else {
             return Err(Stop::TooLarge(Limit::Nodes));
         };
         join(&mut self.flat.components, component)?;

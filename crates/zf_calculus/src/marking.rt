@@ -165,7 +165,8 @@ pub fn decorate<'a>(
     ensures { IfOk result (λ f. schema_of f ≡ decorated strokes.now (schema_of flat.now)) }
 {
     let components = decorated_components(arena, strokes, flat.components.as_slice(), spare)?;
-    let conjuncts = flat.conjuncts.share(spare.conjuncts)?;
+    // What is taken in mostly gains a conjunct.
+    let conjuncts = flat.conjuncts.share(spare.conjuncts.max(1))?;
     Ok(Flat {
         components,
         conjuncts,

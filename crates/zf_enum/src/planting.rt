@@ -13,7 +13,6 @@ use std::alloc::{AllocError, Global};
 use zf_plan::Forest;
 use zf_resolved::conjunct::resolved;
 use zf_resolved::moving::copy;
-use zf_data::arena::Chunked;
 use zf_term::conjunct::Conjunct;
 use zf_term::globals::Flat;
 use zf_term::resolved::Resolved;
@@ -33,7 +32,8 @@ pub fn gains_by_trees<'a>(
     arena: &'a Bump,
     flat: &Flat<'a>,
 ) -> Result<bool, AllocError> {
-    let planting = plant_all(alloc, arena, &flat.conjuncts)?;
+    let conjuncts = flat.conjuncts.flat()?;
+    let planting = plant_all(alloc, arena, conjuncts.as_slice())?;
     if planting.leaves.len() > flat.conjuncts.len() {
         return Ok(true);
     }
@@ -57,13 +57,13 @@ fn fixes_its_last(leaf: &Resolved<'_>) -> bool {
 pub(crate) fn plant_all<'a>(
     alloc: Global,
     arena: &'a Bump,
-    conjuncts: &Chunked<'a, Conjunct<'a>>,
+    conjuncts: &[Conjunct<'a>],
 ) -> Result<Planting<'a>, AllocError>
     ensures { IfOk result (λ planting. ArePlanted (map conjunct_of conjuncts.now) planting.leaves.items (trees_of planting.forest)) }
 {
     let mut leaves = Vec::new(alloc);
     let mut forest = Forest::new(alloc);
-    for conjunct in conjuncts.iter() {
+    for conjunct in conjuncts {
         plant_next(conjunct, arena, &mut leaves, &mut forest)?;
     }
     Ok(Planting { leaves, forest })

@@ -21,7 +21,6 @@ use bumpalo::Bump;
 use std::alloc::{AllocError, Global};
 use zf_meaning::env::Env;
 use zf_resolved::conjunct;
-use zf_data::arena::Chunked;
 use zf_term::conjunct::Conjunct;
 use zf_term::globals::Flat;
 use zf_term::resolved::Resolved;
@@ -43,7 +42,8 @@ impl<'s, 'e, 'g, 'a> Bindings<'s, 'e, 'g, 'a> {
         ensures refused { IfErr result (Refuses (environment_of env.now) (schema_of flat.now).comps) }
     {
         let ranges = ranges(alloc, flat.components.as_slice(), held, env)?;
-        let conjuncts = resolved(alloc, arena, &flat.conjuncts)?;
+        let all = flat.conjuncts.flat()?;
+        let conjuncts = resolved(alloc, arena, all.as_slice())?;
         let dues = dues(alloc, &conjuncts)?;
         let property = Property {
             conjuncts: Conjuncts::plain(alloc, conjuncts),
@@ -58,12 +58,12 @@ impl<'s, 'e, 'g, 'a> Bindings<'s, 'e, 'g, 'a> {
 fn resolved<'a>(
     alloc: Global,
     arena: &'a Bump,
-    conjuncts: &Chunked<'a, Conjunct<'a>>,
+    conjuncts: &[Conjunct<'a>],
 ) -> Result<Vec<Resolved<'a>>, AllocError>
     ensures { IfOk result (λ terms. map resolved_of terms.items ≡ map conjunct_of conjuncts.now) }
 {
     let mut terms = Vec::with_capacity(alloc, conjuncts.len())?;
-    for conjunct in conjuncts.iter() {
+    for conjunct in conjuncts {
         terms.push(conjunct::resolved(conjunct, arena)?)?;
     }
     Ok(terms)

@@ -72,10 +72,7 @@ fn is_bounded<'a>(domains: &Chunked<'a, Domain<'a>>, globals: &Globals<'a>) -> b
 }
 
 /// The first in the declared sets that offends.
-fn offender_in<'a>(
-    domains: &Chunked<'a, Domain<'a>>,
-    globals: &Globals<'a>,
-) -> Option<Offender>
+fn offender_in<'a>(domains: &Chunked<'a, Domain<'a>>, globals: &Globals<'a>) -> Option<Offender>
     ensures { result ≡ first (spec.all_set_offenders (globals_of globals.now) (sets_of (map set_of domains.now))) }
 {
     let mut offender = None;
