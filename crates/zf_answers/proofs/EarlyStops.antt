@@ -1,6 +1,6 @@
 -- What a run that stops early has written is a front of an answer.
 use Rattle.zf_answers.proofs.Prelude.{◌++◌, ◌∙◌, ◌≡◌, ap, append_assoc, inl, inr, List, Option, subst, sym, ℕ, Event, exact, value_order, Value, Defined, Schema, Environment, spellings, one_ranges, Portion, property, Job, Check, Show, IsFront, AreEventsUpTo, HasEvents, IsBegun, lines, binding_line, Status, property_told, Answer, IsSearch, JobBegins, Request, request, ShowBegins, EveryRequestIsAnswered, IsGranted, ShowsEvents, FirstLinesAreAFront, PartsAreFronts}
-use Rattle.zf_value.specs.contracts.value.ValueOrd.TheImpl.Laws as order_laws
+use Rattle.zf_value.specs.contracts.plain.ValueOrd.TheImpl.Laws as order_laws
 use Rattle.zf_answers.proofs.FirstLines.{first_lines}
 use Rattle.zf_answers.proofs.Shown.{events_are_shown}
 

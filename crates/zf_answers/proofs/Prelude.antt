@@ -22,7 +22,7 @@ pub use Rattle.zf_walk.specs.declared.judge.Truth.TheVariants.{False, Out, True}
 pub use Rattle.zf_value.proofs.Exact.{exact}
 pub use Rattle.zf_value.specs.Sets.{value_order}
 pub use Rattle.zf_value.specs.declared.TheConstants.{SET_MAX}
-pub use Rattle.zf_value.specs.declared.value.Value.{Elem, Int, SetOf, Tuple, Value}
+pub use Rattle.zf_value.specs.declared.plain.Value.{Elem, Int, SetOf, Tuple, Value}
 pub use Rattle.zf_tree.specs.Trees.{box_of, BoxTree}
 pub use Rattle.zf_scan.specs.declared.fault.TextFault.{TextFault}
 pub use Rattle.zf_scan.specs.declared.token.Token.{Token}

@@ -1,6 +1,6 @@
 -- Runs that follow each other make one.
 use Rattle.zf_answers.proofs.Prelude.{◌++◌, ◌↔◌, ◌∙◌, ◌∷◌, ◌≡◌, [], ap, append-nil, Bool, codes, false, inr, length, List, map, None, Option, refl, Some, subst, sym, ℕ, length-map, flat_map-map, flat_map, Contains, Event, True, exact, value_order, Value, Defined, Schema, Environment, binding_text, spellings, one_ranges, behind, Portion, property, AreEventsUpTo, HasEvents, Hold, IsTestsLine, IsWritten, lines, binding_line, Status, property_told, IsLineOf, IsSearch, Request, ShowAnswer, EndsLines, IsBefore, IsBinding, IsInDoubt, IsNotPast, ShowsBindings, AnswersRequest, IsGranted, ShowsEvents, limited, resumed, RunsMakeOne, together}
-use Rattle.zf_value.specs.contracts.value.ValueOrd.TheImpl.Laws as order_laws
+use Rattle.zf_value.specs.contracts.plain.ValueOrd.TheImpl.Laws as order_laws
 use Rattle.zf_resuming.specs.Laws.{LinesAreRows}
 use Rattle.zf_answers.proofs.Joined.{both_listed, both_written, last_event, last_is_event, rows_are_events, rows_hold}
 use Rattle.zf_answers.proofs.Shown.{binding_event, doubt_event, events_are_shown}

@@ -4,7 +4,7 @@ use Rattle.std.specs.List.{flat_map}
 use Rattle.std.specs.declared.cmp.Ordering.{Ordering}
 use Rattle.zf_term.specs.Definitions.{Defined, Schema}
 use Rattle.zf_term.specs.ResolvedTrees.{ResolvedTree}
-use Rattle.zf_value.specs.declared.value.Value.{Value}
+use Rattle.zf_value.specs.declared.plain.Value.{Value}
 use Rattle.zf_value.specs.declared.value.Truth.TheVariants.{True, Out}
 use Rattle.zf_value.specs.Sets.{value_order}
 use Rattle.zf_walk.specs.Rows.{ComesAfter, IsLater, IsRowOf}

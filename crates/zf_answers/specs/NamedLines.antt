@@ -1,7 +1,7 @@
 -- Lines that name a row, in a source that is read and well typed, at sizes of all its given sets.
 use Rattle.std.specs.Prelude.{◌≡◌, ◌↔◌, ℕ, List, Some}
 use Rattle.zf_term.specs.Definitions.{Defined, Schema}
-use Rattle.zf_value.specs.declared.value.Value.{Value}
+use Rattle.zf_value.specs.declared.plain.Value.{Value}
 use Rattle.zf_meaning.specs.declared.sizes.Size.{Size}
 use Rattle.zf_meaning.specs.Environments.{Environment}
 use Rattle.zf_meaning.specs.GlobalOutcomes.{IsEnvironment}

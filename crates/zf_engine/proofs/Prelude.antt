@@ -10,7 +10,7 @@ pub use Rattle.std.specs.Option.{option_copied}
 pub use Rattle.std.specs.Str.{bytes_eq}
 pub use Rattle.zf_walk.specs.Progress.{AreDueWithin, Stage}
 pub use Rattle.zf_reference.specs.declared.reference.Reference.TheVariants.{Component, Global, Local}
-pub use Rattle.zf_value.specs.declared.value.Value.{Value}
+pub use Rattle.zf_value.specs.declared.plain.Value.{Value}
 pub use Rattle.zf_tree.specs.Names.{spelling}
 pub use Rattle.zf_tree.specs.Trees.{both, DeclTree, either, include, Links, no_decls, no_trees, Perhaps, schema_bracket, schema_text, SchemaTree, Tree, tree, Trees, var_decl, VarDecls, vars}
 pub use Rattle.zf_term.proofs.Behind.{onto_behind}

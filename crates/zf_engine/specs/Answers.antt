@@ -16,7 +16,7 @@ use Rattle.zf_term.specs.Definitions.{Comp, Defined, Schema, schema}
 use Rattle.zf_extent.specs.Extents.{first}
 use Rattle.zf_term.specs.Faults.{Fault}
 use Rattle.zf_term.specs.FirstNamed.{first_named}
-use Rattle.zf_value.specs.declared.value.Value.{Value}
+use Rattle.zf_value.specs.declared.plain.Value.{Value}
 use Rattle.zf_walk.specs.Events.{Event}
 use Rattle.zf_meaning.specs.declared.sizes.Size.{Size}
 use Rattle.zf_meaning.specs.declared.sizes.SizeFault.{SizeFault}

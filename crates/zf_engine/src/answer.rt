@@ -24,7 +24,6 @@ use std::alloc::Global;
 use std::io::Write;
 use zf_command::job::Job;
 use zf_data::Word;
-use zf_enum::Known;
 use zf_lines::counted::Counted;
 use zf_lines::fault::{RunFault, Status};
 use zf_lines::show::{show, show_with_tests};
@@ -32,6 +31,7 @@ use zf_lines::writing::write_text;
 use zf_meaning::env::Env;
 use zf_term::globals::{Flat, Globals};
 use zf_texts::{Spelling, spellings_of};
+use zf_value::value::Value;
 
 /// Writes the answer of a job for a source, as it is found.
 pub fn answer<W: Write>(
@@ -212,7 +212,7 @@ fn show_with<'a, W: Write>(
     schema: &Flat<'a>,
     env: &Env<'_, 'a>,
     elements: &[Spelling],
-    after: Option<&[Known]>,
+    after: Option<&[Value]>,
     request: &Request<'_>,
     writer: &mut Counted<W>,
 ) -> Result<Status, RunFault>
@@ -240,8 +240,8 @@ fn show_after<'a, W: Write>(
     schema: &Flat<'a>,
     env: &Env<'_, 'a>,
     elements: &[Spelling],
-    after: Option<&[Known]>,
-    held: &[Option<Known>],
+    after: Option<&[Value]>,
+    held: &[Option<Value>],
     request: &Request<'_>,
     writer: &mut Counted<W>,
 ) -> Result<Status, RunFault>
@@ -282,8 +282,8 @@ fn count_after<'a, W: Write>(
     schema: &Flat<'a>,
     env: &Env<'_, 'a>,
     elements: &[Spelling],
-    after: Option<&[Known]>,
-    held: &[Option<Known>],
+    after: Option<&[Value]>,
+    held: &[Option<Value>],
     request: &Request<'_>,
     writer: &mut Counted<W>,
 ) -> Result<Status, RunFault>

@@ -18,10 +18,11 @@ use crate::stop::Stop;
 use crate::texts;
 use bumpalo::Bump;
 use std::alloc::Global;
-use zf_enum::{Bindings, Instances, Known, StartFault, gains_by_trees};
+use zf_enum::{Bindings, Instances, StartFault, gains_by_trees};
 use zf_lines::fault::Status;
 use zf_meaning::env::Env;
 use zf_term::globals::Flat;
+use zf_value::value::Value;
 
 /// A search whose tests nobody asks for.
 #[derive(Drop)]
@@ -38,8 +39,8 @@ pub fn begin<'s, 'e, 'g, 'a>(
     arena: &'a Bump,
     flat: &Flat<'a>,
     env: &'e Env<'g, 'a>,
-    after: Option<&'s [Known]>,
-    held: &[Option<Known>],
+    after: Option<&'s [Value]>,
+    held: &[Option<Value>],
 ) -> Result<Begun<'s, 'e, 'g, 'a>, Stop>
     requires finite { IsFinite (environment_of env.now).globals (schema_of flat.now) }
     requires named { HasLength (option_copied after) (length (schema_of flat.now).comps) }
@@ -60,8 +61,8 @@ fn begin_planted<'s, 'e, 'g, 'a>(
     arena: &'a Bump,
     flat: &Flat<'a>,
     env: &'e Env<'g, 'a>,
-    after: Option<&'s [Known]>,
-    held: &[Option<Known>],
+    after: Option<&'s [Value]>,
+    held: &[Option<Value>],
 ) -> Result<Instances<'s, 'e, 'g, 'a>, Stop>
     requires finite { IsFinite (environment_of env.now).globals (schema_of flat.now) }
     requires named { HasLength (option_copied after) (length (schema_of flat.now).comps) }
@@ -81,8 +82,8 @@ pub fn begin_counting<'s, 'e, 'g, 'a>(
     arena: &'a Bump,
     flat: &Flat<'a>,
     env: &'e Env<'g, 'a>,
-    after: Option<&'s [Known]>,
-    held: &[Option<Known>],
+    after: Option<&'s [Value]>,
+    held: &[Option<Value>],
 ) -> Result<Bindings<'s, 'e, 'g, 'a>, Stop>
     requires finite { IsFinite (environment_of env.now).globals (schema_of flat.now) }
     requires named { HasLength (option_copied after) (length (schema_of flat.now).comps) }

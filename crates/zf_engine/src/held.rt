@@ -10,11 +10,11 @@ ghost use Rattle.zf_texts.specs.Spellings.{spellings};
 use crate::stop::Stop;
 use crate::texts;
 use std::alloc::Global;
-use zf_enum::{Known, held_known};
 use zf_lines::fault::Status;
 use zf_meaning::env::Env;
 use zf_term::globals::Flat;
 use zf_texts::{AfterFault, Spelling, read_held};
+use zf_value::value::Value;
 
 /// The values that are held, by the components' places, if a line of some components is given. The answer where the
 /// text is no such line.
@@ -24,7 +24,7 @@ pub fn values_held(
     env: &Env<'_, '_>,
     elements: &[Spelling],
     held: Option<&str>,
-) -> Result<Vec<Option<Known>>, Stop>
+) -> Result<Vec<Option<Value>>, Stop>
     requires { elements.now ≡ spellings (environment_of env.now).globals }
     ensures held { IfOk result (λ values. AreHeld (environment_of env.now) (schema_of flat.now).comps (option_map (λ t. t.now) held.entry) values.items) }
     ensures stop { IfErr result (λ s. AreClear elements.now (environment_of env.now).sizes → IfAnswered s (TellsNoValues (environment_of env.now) (schema_of flat.now).comps (option_map (λ t. t.now) held.entry))) }
@@ -42,13 +42,13 @@ fn values_of(
     env: &Env<'_, '_>,
     elements: &[Spelling],
     text: &str,
-) -> Result<Vec<Option<Known>>, Stop>
+) -> Result<Vec<Option<Value>>, Stop>
     requires { elements.now ≡ spellings (environment_of env.now).globals }
     ensures held { IfOk result (λ values. AreHeld (environment_of env.now) (schema_of flat.now).comps (Some text.now) values.items) }
     ensures stop { IfErr result (λ s. AreClear elements.now (environment_of env.now).sizes → IfAnswered s (TellsNoValues (environment_of env.now) (schema_of flat.now).comps (Some text.now))) }
 {
     match read_held(alloc, text.as_bytes(), flat, env, elements) {
-        Ok(values) => Ok(held_known(alloc, values)?),
+        Ok(values) => Ok(values),
         Err(AfterFault::NotABinding(place)) => Err(not_held(alloc, place)),
         Err(AfterFault::OutOfMemory) => Err(Stop::OutOfMemory),
     }

@@ -10,11 +10,11 @@ ghost use Rattle.zf_texts.specs.Spellings.{spellings};
 use crate::stop::Stop;
 use crate::texts;
 use std::alloc::Global;
-use zf_enum::{Known, all_known};
 use zf_lines::fault::Status;
 use zf_meaning::env::Env;
 use zf_term::globals::Flat;
 use zf_texts::{AfterFault, Spelling, read_binding};
+use zf_value::value::Value;
 
 /// The row that is named, if one is. The answer where the text is no line of a row.
 pub fn named_row(
@@ -23,7 +23,7 @@ pub fn named_row(
     env: &Env<'_, '_>,
     elements: &[Spelling],
     after: Option<&str>,
-) -> Result<Option<Vec<Known>>, Stop>
+) -> Result<Option<Vec<Value>>, Stop>
     requires { elements.now ≡ spellings (environment_of env.now).globals }
     ensures named { IfOk result (λ row. IsNamedRow (environment_of env.now) (schema_of flat.now).comps (option_map (λ t. t.now) after.entry) (option_map (λ v. v.items) row)) }
     ensures stop { IfErr result (λ s. AreClear elements.now (environment_of env.now).sizes → IfAnswered s (TellsNoRow (environment_of env.now) (schema_of flat.now).comps (option_map (λ t. t.now) after.entry))) }
@@ -41,13 +41,13 @@ fn row_of(
     env: &Env<'_, '_>,
     elements: &[Spelling],
     text: &str,
-) -> Result<Vec<Known>, Stop>
+) -> Result<Vec<Value>, Stop>
     requires { elements.now ≡ spellings (environment_of env.now).globals }
     ensures named { IfOk result (λ row. IsLineOf (environment_of env.now) (schema_of flat.now).comps text.now row.items) }
     ensures stop { IfErr result (λ s. AreClear elements.now (environment_of env.now).sizes → IfAnswered s (TellsNoRow (environment_of env.now) (schema_of flat.now).comps (Some text.now))) }
 {
     match read_binding(alloc, text.as_bytes(), flat, env, elements) {
-        Ok(row) => Ok(all_known(alloc, row)?),
+        Ok(row) => Ok(row),
         Err(AfterFault::NotABinding(place)) => Err(not_a_binding(alloc, place)),
         Err(AfterFault::OutOfMemory) => Err(Stop::OutOfMemory),
     }

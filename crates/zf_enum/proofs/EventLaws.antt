@@ -1,6 +1,6 @@
 -- One list of ranges, one list of events; resuming, and the bound.
 use Rattle.zf_enum.proofs.Prelude.{◌∙◌, ◌∷◌, ◌≡◌, [], ap, List, Option, refl, subst, value_order, Value, Comp, Environment, property, AreRanges, first_held, IsRange, later_held}
-use Rattle.zf_value.specs.contracts.value.ValueOrd.TheImpl.Laws as order_laws
+use Rattle.zf_value.specs.contracts.plain.ValueOrd.TheImpl.Laws as order_laws
 use Rattle.zf_value.proofs.Once as once
 use Rattle.zf_walk.specs.Events.{IsEvents}
 use Rattle.zf_walk.specs.Tests.{IsBound}

@@ -1,18 +1,9 @@
 -- The values of a range where one may be held.
-use Rattle.zf_enum.proofs.Prelude.{◌++◌, ◌∷◌, ◌≡◌, [], Err, IfOk, inl, List, None, Ok, Option, Result, Some, subst, sym, ⊎_elim, AllByRecursion, IsMember, IsRegular, IsRegularSet, AreRegular, Value, DeclaredSets, Environment, IsInSets, IsAllOfEach, IsAllWith, NarrowsAll, IsHeld}
+use Rattle.zf_enum.proofs.Prelude.{◌++◌, ◌∷◌, ◌≡◌, [], Err, IfOk, inl, List, None, Ok, Option, Result, Some, subst, sym, ⊎_elim, IsMember, Value, DeclaredSets, Environment, IsInSets, IsAllOfEach, IsAllWith, NarrowsAll, IsHeld, IsAscending}
 use Rattle.zf_enum.proofs.Listing.{lists_same}
 
--- what holds of all holds of one among them
-pub one_of_all : {A : Type 0} (P : A → Type 0) (xs ys : List A) (y : A) → AllByRecursion P (xs ++ y ∷ ys) → P y
-one_of_all P [] ys y h = h.0
-one_of_all P (x ∷ xs) ys y h = one_of_all P xs ys y h.1
-
-regular_one : (w : Value) → IsRegular w → IsRegularSet (w ∷ [])
-unfolding AreRegular
-regular_one w h = record { ascending = (tt, tt); regular = (h, tt) }
-
-pub regular_alone : (w : Value) (ys : List Value) → ys ≡ w ∷ [] → IsRegular w → IsRegularSet ys
-regular_alone w ys is h = subst IsRegularSet (sym is) (regular_one w h)
+pub ascending_alone : (w : Value) (ys : List Value) → ys ≡ w ∷ [] → IsAscending ys
+ascending_alone w ys is = subst IsAscending (sym is) (tt, tt)
 
 module _ (e : Environment) (ds : DeclaredSets) where
   -- none is held

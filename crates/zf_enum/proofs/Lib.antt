@@ -1,6 +1,5 @@
 mod Prelude
 pub mod Dues
-pub mod Rows
 pub mod Judging
 pub mod Listing
 pub mod Held

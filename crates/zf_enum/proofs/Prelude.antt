@@ -22,13 +22,12 @@ pub use Rattle.zf_reference.specs.declared.reference.Reference.{Reference}
 pub use Rattle.zf_reference.specs.declared.reference.Reference.TheVariants.{Component, Global, Local}
 pub use Rattle.zf_value.proofs.Among.{ascending-push, every_at, every_from, member_at, members-append, members-push, members-take_more, take_all}
 pub use Rattle.zf_value.proofs.Exact.{exact}
-pub use Rattle.zf_value.proofs.Regulars.{are_regular, regular-nothing, regular_member, regular_none, regular_parts, regular_set}
 pub use Rattle.zf_value.proofs.Seen.{is_Int, members-SetOf, no_Int, number_of-Int, parts-Tuple}
-pub use Rattle.zf_value.specs.Sets.{Every, IsAscending, IsMember, IsRegular, IsRegularSet, members, parts, value_order}
-unfoldable pub use Rattle.zf_value.specs.Sets.{AreRegular, HaveSameMembers}
+pub use Rattle.zf_value.specs.Sets.{Every, IsAscending, IsMember, members, parts, value_order}
+unfoldable pub use Rattle.zf_value.specs.Sets.{HaveSameMembers}
 pub use Rattle.zf_value.specs.declared.value.Outcome.{Outcome}
 pub use Rattle.zf_value.specs.declared.value.Outcome.TheVariants.{Is, Out, Undefined}
-pub use Rattle.zf_value.specs.declared.value.Value.{Int, SetOf, Tuple, Value}
+pub use Rattle.zf_value.specs.declared.plain.Value.{Int, SetOf, Tuple, Value}
 pub use Rattle.zf_tree.specs.declared.operator.Unary.TheVariants.{Not}
 pub use Rattle.zf_tree.specs.declared.symbol.Relation.TheVariants.{Equal}
 pub use Rattle.zf_term.proofs.ResolvedSeen.{link-seen, of-Binary, of-Chain, of-Name, of-Unary, range-seen}

@@ -1,5 +1,5 @@
 -- Several declared sets, one after another, and the two sides of a disjunction.
-use Rattle.zf_enum.proofs.Prelude.{◌+◌, ◌-◌, ◌<◌, ◌↔◌, ◌∙◌, ◌∷◌, ◌≡◌, ◌≤◌, ◌⊎◌, [], add-one, ap, arith, drop, get_or, inl, inr, length, List, map, refl, subst, suc, sym, take, true, zero, ℕ, ⊎_elim, and_parts, length-drop, IsMember, IsRegularSet, Value, of-Either, DeclaredSet, DeclaredSets, Defined, set_of, sets_of, sides, Domain, bounds, one_bounds, Environment, IsInSet, IsInSets, IsOneOut, IsSetOut, BoundsAt, IsAllOf, IsAllOfEach, Lists, Narrows, NarrowsAll}
+use Rattle.zf_enum.proofs.Prelude.{◌+◌, ◌-◌, ◌<◌, ◌↔◌, ◌∙◌, ◌∷◌, ◌≡◌, ◌≤◌, ◌⊎◌, [], add-one, ap, arith, drop, get_or, inl, inr, length, List, map, refl, subst, suc, sym, take, true, zero, ℕ, ⊎_elim, and_parts, length-drop, IsMember, IsAscending, Value, of-Either, DeclaredSet, DeclaredSets, Defined, set_of, sets_of, sides, Domain, bounds, one_bounds, Environment, IsInSet, IsInSets, IsOneOut, IsSetOut, BoundsAt, IsAllOf, IsAllOfEach, Lists, Narrows, NarrowsAll}
 use Rattle.zf_term.specs.declared.schema.Domain.TheVariants as domain
 use Rattle.zf_enum.proofs.Listing.{lists_same}
 
@@ -31,9 +31,9 @@ out_at e [] i x at l h = absurd (omega arith)
 out_at e (y ∷ ys) zero x at l h = inl (subst (λ z. IsSetOut e (set_of z)) at h)
 out_at e (y ∷ ys) (suc i) x at l h = inr (out_at e ys i x at (omega arith) h)
 
-pub narrows_none : (e : Environment) (xs : List Domain) (vs found : List Value) → found ≡ vs → IsRegularSet vs → NarrowsAll e (front 0 xs) vs found
+pub narrows_none : (e : Environment) (xs : List Domain) (vs found : List Value) → found ≡ vs → IsAscending vs → NarrowsAll e (front 0 xs) vs found
 narrows_none e xs vs found s h =
-    (subst (λ ys. Lists (λ v. IsMember v vs × Unit {0}) ys) (sym s) (record { ascending = h.ascending; regular = h.regular; members = λ v. (λ m. (m, tt), λ k. k.0) }), λ k. k)
+    (subst (λ ys. Lists (λ v. IsMember v vs × Unit {0}) ys) (sym s) (record { ascending = h; members = λ v. (λ m. (m, tt), λ k. k.0) }), λ k. k)
 
 next : (e : Environment) (xs : List Domain) (i : ℕ) (x : Domain) (vs found new : List Value) → x ≡ get_or xs i x → i < length xs → NarrowsAll e (front i xs) vs found → Narrows e (set_of x) found new → NarrowsAll e (front (suc i) xs) vs new
 next e xs i x vs found new at l h k = (

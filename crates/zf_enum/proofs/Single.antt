@@ -2,8 +2,7 @@
 use Rattle.zf_enum.proofs.Prelude.{◌↔◌, ◌≡◌, ap, Bool, false, List, None, not, Option, refl, Some, subst, sym, true, IsMember, members, Outcome, Is, Out, Undefined, Value, carrier, plain, ResolvedTree, has_numbers, Ty, Infinite, direct, bounds, is_none, IsCarrier, Environment, globally, HasOutcome, IsOfType, IsCarrierOut, IsInCarrier, IsInOne, IsInPlain, IsPlainOut, IsSetOut, Filters, IsAllOf, IsIn, IsListed, Lists, Narrows}
 use Rattle.zf_meaning.specs.Symbols as symbols
 use Rattle.zf_meaning.specs.declared.described.Described.{Described}
-use Rattle.zf_meaning.specs.Described.{Describes, IsDescribed, IsInDescribed, IsRegularDescribed}
-use Rattle.zf_meaning.proofs.Tests.{there_is}
+use Rattle.zf_meaning.specs.Described.{Describes, IsDescribed, IsInDescribed}
 use Rattle.zf_meaning.proofs.Environments.{one_carrier}
 use Rattle.zf_meaning.proofs.Unique.{one_outcome}
 use Rattle.zf_enum.proofs.Listing.{lists_same}
@@ -19,12 +18,12 @@ among : (P Q : Value → Type 0) (xs : List Value) → ((v : Value) → P v ↔ 
 among P Q xs f v = (λ k. (k.0, (f v).0 k.1), λ k. (k.0, (f v).1 k.1))
 
 -- what is described by the only outcome of which S says so, and filters values
-listed : (S : Outcome → Type 0) (d : Described) (xs ys : List Value) → ((p q : Outcome) → S p → S q → p ≡ q) → Describes S d → IsRegularDescribed d → Filters d xs ys → (o : Outcome) × S o × IsListed o (λ v. IsMember v xs × IsIn o v) ys
+listed : (S : Outcome → Type 0) (d : Described) (xs ys : List Value) → ((p q : Outcome) → S p → S q → p ≡ q) → Describes S d → Filters d xs ys → (o : Outcome) × S o × IsListed o (λ v. IsMember v xs × IsIn o v) ys
 unfolding Describes IsInDescribed
-listed S d xs ys one f r h =
-    let o = there_is d r h.1 in
+listed S d xs ys one f h =
+    let o = h.1 in
     let same = in_one (IsDescribed d) o.0 o.1 (λ p q. one o.0 p (f o.0 o.1) (f p q)) in
-    (o.0, f o.0 o.1, record { within = λ e. h.1 (subst (IsDescribed d) e o.1); lists = lists_same _ (λ v. IsMember v xs × IsIn o.0 v) ys (among (IsInDescribed d) (IsIn o.0) xs (λ v. ((same v).1, (same v).0))) h.0 })
+    (o.0, f o.0 o.1, record { within = λ e. o.2 (subst (IsDescribed d) e o.1); lists = lists_same _ (λ v. IsMember v xs × IsIn o.0 v) ys (among (IsInDescribed d) (IsIn o.0) xs (λ v. ((same v).1, (same v).0))) h.0 })
 
 -- ---- the set of a declaration
 
@@ -42,9 +41,9 @@ some_of e t (Some s) o xs ys n h k = (cc)
 some_of_plain : (e : Environment) (t : ResolvedTree) (o : Outcome) (xs ys : List Value) → direct e.globals t ≡ None → HasOutcome (globally e) t o → IsListed o (λ v. IsMember v xs × IsIn o v) ys → Narrows e (plain t) xs ys
 some_of_plain e t o xs ys n h k = some_of e t (direct e.globals t) o xs ys n h k
 
-pub filtered_by_plain : (e : Environment) (t : ResolvedTree) (d : Described) (xs ys : List Value) → direct e.globals t ≡ None → Describes (HasOutcome (globally e) t) d → IsRegularDescribed d → Filters d xs ys → Narrows e (plain t) xs ys
-filtered_by_plain e t d xs ys n f r h =
-    let l = listed (HasOutcome (globally e) t) d xs ys (λ p q. one_outcome (globally e) t p q) f r h in
+pub filtered_by_plain : (e : Environment) (t : ResolvedTree) (d : Described) (xs ys : List Value) → direct e.globals t ≡ None → Describes (HasOutcome (globally e) t) d → Filters d xs ys → Narrows e (plain t) xs ys
+filtered_by_plain e t d xs ys n f h =
+    let l = listed (HasOutcome (globally e) t) d xs ys (λ p q. one_outcome (globally e) t p q) f h in
     some_of_plain e t l.0 xs ys n l.1 l.2
 
 numbers_of : (e : Environment) (t : ResolvedTree) (d : Option Infinite) (s : Infinite) (xs ys : List Value) → d ≡ Some s → Lists (λ v. IsMember v xs × symbols.IsIn s v) ys → Lists (λ v. IsMember v xs × IsInPlain e d t v) ys × (IsPlainOut e d t → ⊥)
@@ -86,9 +85,9 @@ pub one_described : (S : Outcome → Type 0) (o : Outcome) (d : Described) → S
 unfolding Describes
 one_described S o d s f p h = subst S (sym (f p h)) s
 
-pub filtered_by_carrier : (e : Environment) (t : Ty) (d : Described) (xs ys : List Value) → has_numbers t ≡ false → Describes (IsCarrier e t) d → IsRegularDescribed d → Filters d xs ys → Narrows e (carrier t) xs ys
-filtered_by_carrier e t d xs ys n f r h =
-    let l = listed (IsCarrier e t) d xs ys (λ p q. one_carrier e t p q) f r h in
+pub filtered_by_carrier : (e : Environment) (t : Ty) (d : Described) (xs ys : List Value) → has_numbers t ≡ false → Describes (IsCarrier e t) d → Filters d xs ys → Narrows e (carrier t) xs ys
+filtered_by_carrier e t d xs ys n f h =
+    let l = listed (IsCarrier e t) d xs ys (λ p q. one_carrier e t p q) f h in
     some_of_carrier e t l.0 xs ys n l.1 l.2
 
 typed_in : (e : Environment) (t : Ty) (b : Bool) (xs ys : List Value) → b ≡ true → Lists (λ v. IsMember v xs × IsOfType e t v) ys → Lists (λ v. IsMember v xs × IsInCarrier e b t v) ys × (IsCarrierOut e b t → ⊥)

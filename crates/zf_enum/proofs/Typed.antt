@@ -1,7 +1,14 @@
 -- Tests of the type of a value, form by form.
-use Rattle.zf_enum.proofs.Prelude.{◌+◌, ◌<◌, ◌↔◌, ◌∙◌, ◌∷◌, ◌≡◌, ◌≤◌, [], add-one, ap, arith, Bool, drop, false, get_or, length, List, map, refl, subst, suc, sym, zero, ℕ, false≢true, IsTrue, member_at, regular_member, regular_parts, regular_set, members-SetOf, parts-Tuple, Every, IsRegular, members, parts, AreRegular, SetOf, Tuple, Value, power, product, Ty, type_of, types, Tys, Environment, AreOfTypes, IsOfType}
+use Rattle.zf_enum.proofs.Prelude.{◌+◌, ◌<◌, ◌↔◌, ◌∙◌, ◌∷◌, ◌≡◌, ◌≤◌, [], add-one, ap, arith, Bool, drop, false, get_or, length, List, map, refl, subst, suc, sym, zero, ℕ, false≢true, IsTrue, members-SetOf, parts-Tuple, Every, members, parts, SetOf, Tuple, Value, power, product, Ty, type_of, types, Tys, Environment, AreOfTypes, IsOfType, IsAscending}
 use Rattle.zf_term.specs.declared.ztype.ZType.{ZType}
 use Rattle.zf_enum.specs.OfTypes.{AreAllOf}
+use Rattle.std.proofs.Common.{ℤ, Option, Some, None, true, w64}
+use Rattle.std.specs.Prelude.{FitsSigned}
+use Rattle.zf_value.specs.Numbers.{number_of}
+use Rattle.zf_value.specs.declared.plain.Value.{Elem}
+use Rattle.zf_value.proofs.Seen.{is_Int, no_Int}
+use Rattle.zf_meaning.specs.Rows.{IsElement}
+use Rattle.zf_enum.specs.OfTypes.{IsNumberHere}
 
 pub never : (P : Type 0) → (P → ⊥) → IsTrue false ↔ P
 never P h = (λ e. absurd (false≢true e), λ p. absurd (h p))
@@ -12,27 +19,37 @@ same_members xs ys e = sym (members-SetOf xs) ∙ ap members e ∙ members-SetOf
 same_parts : (xs ys : List Value) → Tuple xs ≡ Tuple ys → xs ≡ ys
 same_parts xs ys e = sym (parts-Tuple xs) ∙ ap parts e ∙ parts-Tuple ys
 
-pub set_at : (e : Environment) (t : Ty) (xs : List Value) (v : Value) (b : Bool) → v ≡ SetOf xs → IsRegular v → (AreRegular xs → IsTrue b ↔ AreAllOf e t xs) → IsTrue b ↔ IsOfType e (power t) v
-set_at e t xs v b is r h =
-    let regular = regular_set xs (subst IsRegular is r) in
-    let told = h regular.regular in (
-      λ k. let all = told.0 k in (xs, is, regular.ascending, all.0, all.1),
-      λ p. told.1 (subst (AreAllOf e t) (same_members p.0 xs (sym p.1 ∙ is)) (p.3, p.4)),
-    )
+pub set_at : (e : Environment) (t : Ty) (xs : List Value) (v : Value) (b : Bool) → v ≡ SetOf xs → IsAscending xs → IsTrue b ↔ AreAllOf e t xs → IsTrue b ↔ IsOfType e (power t) v
+set_at e t xs v b is up h = (
+  λ k. let all = h.0 k in (xs, is, up, all.0, all.1),
+  λ p. h.1 (subst (AreAllOf e t) (same_members p.0 xs (sym p.1 ∙ is)) (p.3, p.4)),
+)
 
 pub no_set : (e : Environment) (t : Ty) (v : Value) → ((xs : List Value) → v ≡ SetOf xs → ⊥) → IsTrue false ↔ IsOfType e (power t) v
 no_set e t v h = never (IsOfType e (power t) v) (λ p. h p.0 p.1)
 
-pub tuple_at : (e : Environment) (ts : Tys) (xs : List Value) (v : Value) (b : Bool) → v ≡ Tuple xs → IsRegular v → (AreRegular xs → IsTrue b ↔ AreOfTypes e ts xs) → IsTrue b ↔ IsOfType e (product ts) v
-tuple_at e ts xs v b is r h =
-    let regular = subst AreRegular (ap parts is ∙ parts-Tuple xs) (regular_parts v r) in
-    let told = h regular in (
-      λ k. (xs, is, told.0 k),
-      λ p. told.1 (subst (AreOfTypes e ts) (same_parts p.0 xs (sym p.1 ∙ is)) p.2),
-    )
+pub tuple_at : (e : Environment) (ts : Tys) (xs : List Value) (v : Value) (b : Bool) → v ≡ Tuple xs → IsTrue b ↔ AreOfTypes e ts xs → IsTrue b ↔ IsOfType e (product ts) v
+tuple_at e ts xs v b is h = (
+  λ k. (xs, is, h.0 k),
+  λ p. h.1 (subst (AreOfTypes e ts) (same_parts p.0 xs (sym p.1 ∙ is)) p.2),
+)
 
 pub no_tuple : (e : Environment) (ts : Tys) (v : Value) → ((xs : List Value) → v ≡ Tuple xs → ⊥) → IsTrue false ↔ IsOfType e (product ts) v
 no_tuple e ts v h = never (IsOfType e (product ts) v) (λ p. h p.0 p.1)
+
+-- ---- numbers and elements
+
+pub number_here : (v : Value) (n : ℤ) → Some n ≡ number_of v → FitsSigned w64 n → IsTrue true ↔ IsNumberHere v
+number_here v n e f = (λ g. (n, is_Int v n e, f), λ p. refl)
+
+pub no_number_here : (v : Value) → None ≡ number_of v → IsTrue false ↔ IsNumberHere v
+no_number_here v e = never (IsNumberHere v) (λ p. no_Int v p.0 e p.1)
+
+pub no_element : (e : Environment) (o : Option ℕ) (v : Value) → ((t i : ℕ) → v ≡ Elem t i → ⊥) → IsTrue false ↔ IsElement e o v
+no_element e None v h = never (IsElement e None v) (λ p. p)
+no_element e (Some n) v h = never (IsElement e (Some n) v) (λ p. h n p.1 p.4)
+
+-- ---- lists
 
 nothing : {A : Type 0} (xs : List A) (i : ℕ) → length xs ≤ i → drop i xs ≡ []
 nothing [] zero l = refl
@@ -43,9 +60,6 @@ nothing (x ∷ xs) (suc i) l = nothing xs i (omega arith)
 pub as_many : (e : Environment) (ts : List ZType) (xs : List Value) → AreOfTypes e (types (map type_of ts)) xs → length xs ≡ length ts
 as_many e [] xs h = ap length h
 as_many e (t ∷ ts) xs h = ap length h.2 ∙ ap suc (as_many e ts h.1 h.4)
-
-pub regular_at : (xs : List Value) (i : ℕ) (x : Value) → AreRegular xs → x ≡ get_or xs i x → i < length xs → IsRegular x
-regular_at xs i x h e l = regular_member xs x h (member_at xs i x e l)
 
 module _ (P : Value → Type 0) where
   next : (xs : List Value) (i : ℕ) (x : Value) → x ≡ get_or xs i x → i < length xs → Every P (drop i xs) ↔ (P x × Every P (drop (suc i) xs))

@@ -1,7 +1,7 @@
 -- The ranges of components one after another. No public clause rests on this.
 use Rattle.std.specs.Prelude.{◌≡◌, ℕ, suc, zero, List, Option}
 use Rattle.zf_term.specs.Definitions.{Comp, sets_of}
-use Rattle.zf_value.specs.declared.value.Value.{Value}
+use Rattle.zf_value.specs.declared.plain.Value.{Value}
 use Rattle.zf_meaning.specs.Environments.{Environment}
 use Rattle.zf_enum.specs.declared.start_fault.StartFault.{StartFault}
 use Rattle.zf_enum.specs.declared.start_fault.StartFault.TheVariants.{DeclaredOut, OutOfMemory}

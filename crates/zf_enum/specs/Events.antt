@@ -1,7 +1,7 @@
 -- The events of a schema in an environment: the bindings that come after the named one, have the values that are held and are not False, each with its truth.
 use Rattle.std.specs.Prelude.{◌≡◌, ℕ, ◌≤◌, List, ◌∷◌, ◌++◌, Option}
 use Rattle.zf_term.specs.Definitions.{Schema}
-use Rattle.zf_value.specs.declared.value.Value.{Value}
+use Rattle.zf_value.specs.declared.plain.Value.{Value}
 use Rattle.zf_value.specs.Sets.{value_order}
 use Rattle.zf_walk.specs.Events.{Event, IsEvents}
 use Rattle.zf_walk.specs.Tests.{IsBound, IsNumberOfTests}

@@ -3,7 +3,7 @@ use Rattle.std.specs.Prelude.{◌≡◌, ◌⊎◌, ℕ, ◌<◌, true, false, L
 use Rattle.zf_reference.specs.declared.reference.Reference.TheVariants.{Component}
 use Rattle.zf_tree.specs.declared.symbol.Relation.TheVariants.{Equal}
 use Rattle.zf_term.specs.ResolvedTrees.{ResolvedTree, reference, chain, no_links, link}
-use Rattle.zf_value.specs.declared.value.Value.{Value}
+use Rattle.zf_value.specs.declared.plain.Value.{Value}
 use Rattle.zf_value.specs.declared.value.Outcome.{Outcome}
 use Rattle.zf_value.specs.declared.value.Outcome.TheVariants.{Is, Undefined, Out}
 use Rattle.zf_value.specs.Sets.{IsMember, members}

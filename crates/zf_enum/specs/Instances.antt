@@ -1,7 +1,7 @@
 -- That trees over leaves have the events of a schema.
 use Rattle.std.specs.Prelude.{◌↔◌, List, Option}
 use Rattle.zf_term.specs.ResolvedTrees.{ResolvedTree}
-use Rattle.zf_value.specs.declared.value.Value.{Value}
+use Rattle.zf_value.specs.declared.plain.Value.{Value}
 use Rattle.zf_value.specs.Sets.{value_order}
 use Rattle.zf_walk.specs.Events.{Event, IsEvent}
 use Rattle.zf_plan.specs.Trees.{Tree, planted}

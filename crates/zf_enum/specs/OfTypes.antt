@@ -3,7 +3,7 @@ use Rattle.std.specs.Prelude.{◌≡◌, ◌≤◌, ℤ, List, length, FitsSigne
 use Rattle.std.specs.Int.{w64}
 use Rattle.zf_term.specs.Types.{Ty}
 use Rattle.zf_value.specs.declared.TheConstants.{SET_MAX}
-use Rattle.zf_value.specs.declared.value.Value.{Value, Int}
+use Rattle.zf_value.specs.declared.plain.Value.{Value, Int}
 use Rattle.zf_value.specs.Sets.{Every}
 use Rattle.zf_meaning.specs.Environments.{Environment}
 use Rattle.zf_meaning.specs.Rows.{IsOfType}

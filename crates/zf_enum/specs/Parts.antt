@@ -3,15 +3,15 @@ use Rattle.std.specs.Prelude.{◌≡◌, ◌⊎◌, ◌↔◌, ℕ, ◌<◌, tru
 use Rattle.zf_term.specs.declared.schema.Domain.{Domain}
 use Rattle.zf_finite.specs.Finite.{bounds}
 use Rattle.zf_term.specs.Definitions.{Defined, DeclaredSet, DeclaredSets, set_of}
-use Rattle.zf_value.specs.declared.value.Value.{Value}
-use Rattle.zf_value.specs.Sets.{IsMember, IsAscending, AreRegular, members}
+use Rattle.zf_value.specs.declared.plain.Value.{Value}
+use Rattle.zf_value.specs.Sets.{IsMember, IsAscending, members}
 use Rattle.zf_value.specs.declared.value.Outcome.{Outcome}
 use Rattle.zf_value.specs.declared.value.Outcome.TheVariants.{Is, Undefined}
 use Rattle.zf_value.specs.declared.value.Outcome.TheVariants as outcome
 use Rattle.zf_enum.specs.declared.lack.Lack.{Lack}
 use Rattle.zf_enum.specs.declared.lack.Lack.TheVariants.{Out, OutOfMemory}
 use Rattle.zf_meaning.specs.declared.described.Described.{Described}
-use Rattle.zf_meaning.specs.Described.{IsDescribed, IsInDescribed}
+use Rattle.zf_meaning.specs.Described.{IsInDescribed, IsWithin}
 use Rattle.zf_meaning.specs.Environments.{Environment}
 use Rattle.zf_enum.specs.DeclaredSets.{IsInSet, IsInSets, IsSetOut, IsOneOut}
 use Rattle.zf_enum.specs.Ranges.{IsHeld}
@@ -19,7 +19,6 @@ use Rattle.zf_enum.specs.Ranges.{IsHeld}
 -- the ascending list of exactly the values that pass
 pub record Lists (P : Value → Type 0) (xs : List Value) : Type 0 where
   pub ascending : IsAscending xs
-  pub regular : AreRegular xs
   pub members : (v : Value) → IsMember v xs ↔ P v
 
 -- the value is put behind the others if it passes
@@ -53,7 +52,7 @@ pub record IsListed (o : Outcome) (P : Value → Type 0) (xs : List Value) : Typ
 
 -- the values of xs that lie in what is described, which is not out
 abbrev pub Filters : Described → List Value → List Value → Type 0
-Filters d xs ys = Lists (λ v. IsMember v xs × IsInDescribed d v) ys × (IsDescribed d outcome.Out → ⊥)
+Filters d xs ys = Lists (λ v. IsMember v xs × IsInDescribed d v) ys × IsWithin d
 
 -- a member of the set that this is; what is undefined has none
 abbrev pub IsIn : Outcome → Value → Type 0

@@ -2,7 +2,7 @@
 use Rattle.std.specs.Prelude.{◌≡◌, ◌↔◌, ℕ, ◌<◌, ◌≤◌, List, [], ◌∷◌, ◌++◌, length, map, Some, slice_get}
 use Rattle.zf_term.specs.declared.resolved.Resolved.{Resolved}
 use Rattle.zf_term.specs.ResolvedTrees.{ResolvedTree, resolved_of}
-use Rattle.zf_value.specs.declared.value.Value.{Value}
+use Rattle.zf_value.specs.declared.plain.Value.{Value}
 use Rattle.zf_walk.specs.declared.judge.Truth.{Truth}
 use Rattle.zf_plan.specs.Trees.{Tree, IsTreeTruth, HasLeavesWithin, tree_at}
 use Rattle.zf_plan.specs.Groves.{Grove, trees_made, trees_of}

@@ -1,6 +1,6 @@
 -- Which of a schema's bindings a search is for.
 use Rattle.std.specs.Prelude.{List, Option, Some}
-use Rattle.zf_value.specs.declared.value.Value.{Value}
+use Rattle.zf_value.specs.declared.plain.Value.{Value}
 
 -- those that come after a row, if one is named, and in which components have the values that are held of them, by their places
 pub record Portion : Type 0 where

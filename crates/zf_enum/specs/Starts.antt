@@ -2,7 +2,7 @@
 use Rattle.std.specs.Prelude.{◌≡◌, List, map, None}
 use Rattle.zf_term.specs.Definitions.{Comp, Schema}
 use Rattle.zf_term.specs.ResolvedTrees.{resolved_of}
-use Rattle.zf_value.specs.declared.value.Value.{Value}
+use Rattle.zf_value.specs.declared.plain.Value.{Value}
 use Rattle.zf_value.specs.Sets.{value_order}
 use Rattle.zf_walk.specs.Progress.{AreAllAhead, Stage}
 use Rattle.zf_plan.specs.Alike.{SayTheSame}

@@ -6,7 +6,6 @@ ghost use Rattle.zf_walk.specs.Rows.{AreAscending, HasLength};
 ghost use Rattle.zf_walk.specs.Progress.{AreDueWithin, ended, AreAllAhead, SameProblem, Advances, Stays, AreTests, IsBounded};
 ghost use Rattle.zf_enum.specs.Searches.{judged};
 
-use crate::known::Known;
 use crate::property::Property;
 use crate::search::Search;
 use std::alloc::{AllocError, Global};
@@ -17,7 +16,7 @@ use zf_walk::{Range, Step, Walk};
 /// The bindings of a schema that are not False, one after another in ascending order.
 #[derive(Drop)]
 pub struct Bindings<'s, 'e, 'g, 'a> {
-    walk: Walk<'s, Known, Property<'e, 'g, 'a>>,
+    walk: Walk<'s, Value, Property<'e, 'g, 'a>>,
 }
 
 impl<'s, 'e, 'g, 'a> Bindings<'s, 'e, 'g, 'a> {
@@ -25,8 +24,8 @@ impl<'s, 'e, 'g, 'a> Bindings<'s, 'e, 'g, 'a> {
     pub fn over(
         alloc: Global,
         property: Property<'e, 'g, 'a>,
-        ranges: Vec<Range<Known>>,
-        after: Option<&'s [Known]>,
+        ranges: Vec<Range<Value>>,
+        after: Option<&'s [Value]>,
     ) -> Result<Bindings<'s, 'e, 'g, 'a>, AllocError>
         requires ascending { AreAscending value_order ranges.items }
         requires named { HasLength (option_copied after) (length ranges.items) }
@@ -71,7 +70,7 @@ impl<'s, 'e, 'g, 'a> Row for Bindings<'s, 'e, 'g, 'a> {
     }
 
     fn get(&self, place: usize) -> &Value {
-        zf_walk::Row::get(&self.walk, place).value()
+        zf_walk::Row::get(&self.walk, place)
     }
 }
 

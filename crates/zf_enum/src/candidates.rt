@@ -2,8 +2,8 @@
 ghost use Rattle.std.specs.Prelude.{◌≡◌, ◌<◌, ◌≤◌, ℕ, [], length, true, AllPairs, Some, IsTrue, IfOk, OnOk, slice_get, slice_index_or};
 ghost use Rattle.std.specs.declared.cmp.Ordering.TheVariants.{Less};
 ghost use Rattle.zf_term.specs.ResolvedTrees.{resolved_of};
-ghost use Rattle.zf_value.specs.declared.value.Value as value;
-ghost use Rattle.zf_value.specs.Sets.{value_order, AreRegular, IsMember, IsRegularOutcome};
+ghost use Rattle.zf_value.specs.declared.plain.Value as value;
+ghost use Rattle.zf_value.specs.Sets.{value_order, IsMember};
 ghost use Rattle.zf_walk.specs.Picked.{AreWithin, picked};
 ghost use Rattle.zf_walk.specs.Rows.{AreAscending};
 ghost use Rattle.zf_plan.specs.Choices.{StaysIn};
@@ -12,8 +12,7 @@ ghost use Rattle.zf_enum.specs.Fixing.{HasPlace, IsKept, AreCandidates};
 ghost use Rattle.zf_enum.specs.Property as spec;
 
 use crate::due::{due, uses};
-use crate::known::Known;
-use crate::shown::{Shown, meet};
+use crate::shown::Shown;
 use crate::weight::rows_weight;
 use std::alloc::AllocError;
 use zf_meaning::env::Env;
@@ -35,7 +34,7 @@ pub(crate) enum Tie {
 pub(crate) fn gather_candidates<'a>(
     side: &Resolved<'a>,
     tie: Tie,
-    ranges: &[Range<Known>],
+    ranges: &[Range<Value>],
     places: &[usize],
     env: &Env<'_, 'a>,
     gathered: &mut Vec<usize>,
@@ -63,7 +62,7 @@ pub(crate) fn gather_candidates<'a>(
 /// Gathers the places of the next range at which members of a set over variables stand. Answers false where the set has no value, or where the variables have so many rows that a test of each value is likely to cost less.
 pub(crate) fn gather_spread<'a>(
     set: &Resolved<'a>,
-    ranges: &[Range<Known>],
+    ranges: &[Range<Value>],
     places: &[usize],
     env: &Env<'_, 'a>,
     gathered: &mut Vec<usize>,
@@ -84,7 +83,7 @@ pub(crate) fn gather_spread<'a>(
 /// Whether the variables of a set have few rows, by how many values there are in the next range.
 fn has_few_rows<'a>(
     set: &Resolved<'a>,
-    ranges: &[Range<Known>],
+    ranges: &[Range<Value>],
     places: &[usize],
     env: &Env<'_, 'a>,
 ) -> Result<bool, AllocError>
@@ -95,7 +94,6 @@ fn has_few_rows<'a>(
         return Ok(false);
     };
     let row = Picked::new(ranges, places);
-    meet(&row);
     let shown = Shown { row: &row };
     let rows = rows_weight(variables.as_slice(), &shown, env)?;
     let next = &ranges[places.len()];
@@ -103,7 +101,7 @@ fn has_few_rows<'a>(
 }
 
 /// Whether the components behind that an expression uses have values of which there are less than half as many as in the range.
-fn is_worth_it(side: &Resolved<'_>, ranges: &[Range<Known>], next: usize, due: usize) -> bool
+fn is_worth_it(side: &Resolved<'_>, ranges: &[Range<Value>], next: usize, due: usize) -> bool
     requires next { next < length ranges.now }
     requires due { due ≤ length ranges.now }
 {
@@ -122,7 +120,7 @@ fn is_worth_it(side: &Resolved<'_>, ranges: &[Range<Known>], next: usize, due: u
 fn gather_ahead<'a>(
     side: &Resolved<'a>,
     tie: Tie,
-    ranges: &[Range<Known>],
+    ranges: &[Range<Value>],
     places: &mut Vec<usize>,
     next: usize,
     due: usize,
@@ -172,7 +170,7 @@ fn tried(side: &Resolved<'_>, component: usize, count: usize) -> usize
 fn gather_value<'a>(
     side: &Resolved<'a>,
     tie: Tie,
-    ranges: &[Range<Known>],
+    ranges: &[Range<Value>],
     places: &[usize],
     next: usize,
     env: &Env<'_, 'a>,
@@ -186,7 +184,6 @@ fn gather_value<'a>(
     ensures candidates { IfOk result (λ found. IsTrue found → AreCandidates tie (environment_of env.now) (resolved_of side.now) ranges.now (picked ranges.now places.now) (slice_index_or ranges.now next []) gathered.new.items) }
 {
     let row = Picked::new(ranges, places);
-    meet(&row);
     let shown = Shown { row: &row };
     let outcome = value_of(side, &shown, env)?;
     gather_outcome(outcome, tie, &ranges[next], gathered)
@@ -196,17 +193,16 @@ fn gather_value<'a>(
 fn gather_outcome(
     outcome: Outcome,
     tie: Tie,
-    range: &Range<Known>,
+    range: &Range<Value>,
     gathered: &mut Vec<usize>,
 ) -> Result<bool, AllocError>
-    requires regular { IsRegularOutcome outcome }
-    requires ascending { AllPairs (λ v w. value_order v w ≡ Less) range.now }
+    requires { AllPairs (λ v w. value_order v w ≡ Less) range.now }
     ensures stay { StaysIn gathered.old.items gathered.new.items }
     ensures kept { IfOk result (λ found. IsTrue found → IsKept tie outcome range.now gathered.new.items) }
 {
     match outcome {
         Outcome::Is(value) => match tie {
-            Tie::Value => gather_place(&Known::new(value), range, gathered),
+            Tie::Value => gather_place(&value, range, gathered),
             Tie::Members => gather_members(value.members(), range, gathered),
         },
         Outcome::Undefined => Ok(is_value(tie)),
@@ -226,26 +222,23 @@ fn is_value(tie: Tie) -> bool
 /// The places of these values in a range.
 fn gather_members(
     values: &[Value],
-    range: &Range<Known>,
+    range: &Range<Value>,
     gathered: &mut Vec<usize>,
 ) -> Result<bool, AllocError>
-    requires regular { AreRegular values.now }
-    requires ascending { AllPairs (λ v w. value_order v w ≡ Less) range.now }
+    requires { AllPairs (λ v w. value_order v w ≡ Less) range.now }
     ensures stay { StaysIn gathered.old.items gathered.new.items }
     ensures kept { OnOk result ((v : value.Value) → IsMember v values.now → HasPlace v range.now gathered.new.items) }
 {
-    let alloc = *gathered.allocator();
     for value in values {
-        let known = Known::new(value.copy(alloc)?);
-        gather_place(&known, range, gathered)?;
+        gather_place(value, range, gathered)?;
     }
     Ok(true)
 }
 
 /// The place of a value in a range.
 fn gather_place(
-    value: &Known,
-    range: &Range<Known>,
+    value: &Value,
+    range: &Range<Value>,
     gathered: &mut Vec<usize>,
 ) -> Result<bool, AllocError>
     requires { AllPairs (λ v w. value_order v w ≡ Less) range.now }
@@ -259,7 +252,7 @@ fn gather_place(
 }
 
 /// The place of a value in a range, if it is there.
-fn place_of(value: &Known, range: &Range<Known>) -> Option<usize>
+fn place_of(value: &Value, range: &Range<Value>) -> Option<usize>
     requires { AllPairs (λ v w. value_order v w ≡ Less) range.now }
     ensures { (i : ℕ) → slice_get range.now i ≡ Some value.now → result ≡ Some i }
 {

@@ -7,22 +7,22 @@ ghost use Rattle.zf_meaning.specs.Envs.{environment_of};
 ghost use Rattle.zf_enum.specs.Components.{AreAllRanges, IsOneRange, IsOutBy, held_at};
 ghost use Rattle.zf_enum.specs.Starts.{Refuses};
 
-use crate::known::{Known, all_known};
 use crate::lack::Lack;
 use crate::ranges::values_with;
 use crate::start_fault::StartFault;
 use std::alloc::Global;
 use zf_meaning::env::Env;
 use zf_term::globals::Component;
+use zf_value::value::Value;
 use zf_walk::Range;
 
 /// The range of each component, where these values are held.
 pub(crate) fn ranges<'a>(
     alloc: Global,
     components: &[Component<'a>],
-    held: &[Option<Known>],
+    held: &[Option<Value>],
     env: &Env<'_, 'a>,
-) -> Result<Vec<Range<Known>>, StartFault>
+) -> Result<Vec<Range<Value>>, StartFault>
     requires { AllByRecursion (λ c. IsTrue (one_bounds (environment_of env.now).globals (sets_of c.sets))) (map comp_of components.now) }
     ensures is { IfOk result (λ rs. AreAllRanges (environment_of env.now) (map comp_of components.now) held.now rs.items) }
     ensures refused { IfErr result (Refuses (environment_of env.now) (map comp_of components.now)) }
@@ -36,7 +36,7 @@ pub(crate) fn ranges<'a>(
 }
 
 /// What is held of the component at this place.
-fn value_held(held: &[Option<Known>], place: usize) -> Option<&Known>
+fn value_held(held: &[Option<Value>], place: usize) -> Option<&Value>
     ensures { option_map (λ k. k.now) result ≡ held_at place held.now }
 {
     match held.get(place) {
@@ -50,17 +50,15 @@ fn range_at<'a>(
     alloc: Global,
     component: &Component<'a>,
     place: usize,
-    held: Option<&Known>,
+    held: Option<&Value>,
     env: &Env<'_, 'a>,
-) -> Result<Range<Known>, StartFault>
+) -> Result<Range<Value>, StartFault>
     requires { IsTrue (one_bounds (environment_of env.now).globals (sets_of (comp_of component.now).sets)) }
     ensures is { IfOk result (IsOneRange (environment_of env.now) (comp_of component.now) (option_map (λ k. k.now) held.entry)) }
     ensures refused { IfErr result (IsOutBy (environment_of env.now) (comp_of component.now) place) }
 {
     match values_with(alloc, component.domains.get().as_slice(), held, env) {
-        Ok(values) => Ok(Range {
-            values: all_known(alloc, values)?,
-        }),
+        Ok(values) => Ok(Range { values }),
         Err(Lack::Out) => Err(StartFault::DeclaredOut(place)),
         Err(Lack::OutOfMemory) => Err(StartFault::OutOfMemory),
     }

@@ -12,7 +12,6 @@ ghost use Rattle.zf_enum.specs.Portions.{portion};
 ghost use Rattle.zf_enum.specs.Starts.{Begins, Refuses};
 
 use crate::component::ranges;
-use crate::known::Known;
 use crate::lifting::lifted;
 use crate::planting::{Planting, plant_all};
 use crate::property::Property;
@@ -29,7 +28,7 @@ use zf_walk::Step;
 /// The bindings of a schema that are not False, one after another in ascending order. Rows that hold none are passed over, and no test is counted. Closed parts of the schema's conjuncts are worked out once, at the start.
 #[derive(Drop)]
 pub struct Instances<'s, 'e, 'g, 'a> {
-    search: zf_plan::Search<'s, Known, Property<'e, 'g, 'a>>,
+    search: zf_plan::Search<'s, Value, Property<'e, 'g, 'a>>,
     /// How many names the environment of the schema has.
     names: usize,
 }
@@ -41,8 +40,8 @@ impl<'s, 'e, 'g, 'a> Instances<'s, 'e, 'g, 'a> {
         arena: &'a Bump,
         flat: &Flat<'a>,
         env: &'e Env<'g, 'a>,
-        after: Option<&'s [Known]>,
-        held: &[Option<Known>],
+        after: Option<&'s [Value]>,
+        held: &[Option<Value>],
     ) -> Result<Instances<'s, 'e, 'g, 'a>, StartFault>
         requires finite { IsFinite (environment_of env.now).globals (schema_of flat.now) }
         requires named { HasLength (option_copied after) (length (schema_of flat.now).comps) }
@@ -71,7 +70,7 @@ impl<'s, 'e, 'g, 'a> Row for Instances<'s, 'e, 'g, 'a> {
     }
 
     fn get(&self, place: usize) -> &Value {
-        zf_walk::Row::get(&self.search, place).value()
+        zf_walk::Row::get(&self.search, place)
     }
 }
 

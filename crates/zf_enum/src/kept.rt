@@ -1,7 +1,7 @@
 //! Tests of values, and the values that pass one.
 ghost use Rattle.std.specs.Prelude.{◌≡◌, ◌↔◌, IsTrue, IfOk, OnOk};
-ghost use Rattle.zf_value.specs.declared.value.Value as value;
-ghost use Rattle.zf_value.specs.Sets.{IsMember, IsRegular, IsRegularSet};
+ghost use Rattle.zf_value.specs.declared.plain.Value as value;
+ghost use Rattle.zf_value.specs.Sets.{IsAscending, IsMember};
 ghost use Rattle.zf_enum.specs.Parts.{Lists, Grows};
 
 use std::alloc::{AllocError, Global};
@@ -10,8 +10,7 @@ use zf_value::value::Value;
 /// A test of values.
 pub(crate) trait Test {
     ghost use Rattle.std.specs.Prelude.{◌↔◌, IsTrue};
-    ghost use Rattle.zf_value.specs.declared.value.Value as value;
-    ghost use Rattle.zf_value.specs.Sets.{IsRegular};
+    ghost use Rattle.zf_value.specs.declared.plain.Value as value;
 
     /// What passes.
     ghost passes: { Self → value.Value → Type 0 };
@@ -20,8 +19,7 @@ pub(crate) trait Test {
     ghost ready: { Self → Type 0 };
 
     fn admits(&self, value: &Value) -> bool
-        requires ready { ready self.now }
-        requires value { IsRegular value.now }
+        requires { ready self.now }
         ensures { IsTrue result ↔ passes self.now value.now };
 }
 
@@ -31,7 +29,7 @@ pub(crate) fn kept<T: Test>(
     values: &[Value],
     test: &T,
 ) -> Result<Vec<Value>, AllocError>
-    requires values { IsRegularSet values.now }
+    requires values { IsAscending values.now }
     requires ready { T.ready test.now }
     ensures { IfOk result (λ out. Lists (λ v. IsMember v values.now × T.passes test.now v) out.items) }
 {
@@ -49,8 +47,7 @@ fn keep<T: Test>(
     value: &Value,
     test: &T,
 ) -> Result<(), AllocError>
-    requires value { IsRegular value.now }
-    requires ready { T.ready test.now }
+    requires { T.ready test.now }
     ensures { OnOk result (Grows (T.passes test.now) value.now out.old.items out.new.items) }
 {
     if test.admits(value) {

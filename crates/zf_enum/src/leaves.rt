@@ -3,7 +3,7 @@ ghost use Rattle.std.specs.Prelude.{◌≡◌, true, IfOk, IfErr};
 ghost use Rattle.zf_term.specs.Definitions.{plain, carrier};
 ghost use Rattle.zf_term.specs.ResolvedTrees.{resolved_of};
 ghost use Rattle.zf_term.specs.Types.{type_of};
-ghost use Rattle.zf_value.specs.Sets.{IsRegularSet, IsRegularOutcome};
+ghost use Rattle.zf_value.specs.Sets.{IsAscending};
 ghost use Rattle.zf_meaning.specs.Environments.{globally};
 ghost use Rattle.zf_meaning.specs.Envs.{environment_of};
 ghost use Rattle.zf_meaning.specs.Meaning.{HasOutcome};
@@ -33,7 +33,7 @@ pub(crate) fn of_plain<'a>(
     env: &Env<'_, 'a>,
 ) -> Result<Vec<Value>, Lack>
     ensures is { spec.bounds (environment_of env.now).globals (plain (resolved_of set.now)) ≡ true → IfOk result (λ xs. IsAllOf (environment_of env.now) (plain (resolved_of set.now)) xs.items) }
-    ensures regular { IfOk result (λ xs. IsRegularSet xs.items) }
+    ensures ascending { IfOk result (λ xs. IsAscending xs.items) }
     ensures out { spec.bounds (environment_of env.now).globals (plain (resolved_of set.now)) ≡ true → IfErr result (λ lack. Tells lack (IsSetOut (environment_of env.now) (plain (resolved_of set.now)))) }
 {
     let outcome = outcome_of(set, env)?;
@@ -42,8 +42,7 @@ pub(crate) fn of_plain<'a>(
 
 /// The outcome of the set that a declaration names. No component is in scope there.
 fn outcome_of<'a>(set: &Resolved<'a>, env: &Env<'_, 'a>) -> Result<Outcome, AllocError>
-    ensures is { IfOk result (HasOutcome (globally (environment_of env.now)) (resolved_of set.now)) }
-    ensures regular { IfOk result IsRegularOutcome }
+    ensures { IfOk result (HasOutcome (globally (environment_of env.now)) (resolved_of set.now)) }
 {
     let none: &[Value] = &[];
     value_of(set, &none, env)
@@ -56,7 +55,7 @@ pub(crate) fn of_carrier<'a>(
     env: &Env<'_, 'a>,
 ) -> Result<Vec<Value>, Lack>
     ensures is { spec.bounds (environment_of env.now).globals (carrier (type_of ztype.now)) ≡ true → IfOk result (λ xs. IsAllOf (environment_of env.now) (carrier (type_of ztype.now)) xs.items) }
-    ensures regular { IfOk result (λ xs. IsRegularSet xs.items) }
+    ensures ascending { IfOk result (λ xs. IsAscending xs.items) }
     ensures out { spec.bounds (environment_of env.now).globals (carrier (type_of ztype.now)) ≡ true → IfErr result (λ lack. Tells lack (IsSetOut (environment_of env.now) (carrier (type_of ztype.now)))) }
 {
     let outcome = carrier_of(ztype, env)?;
@@ -70,7 +69,7 @@ pub(crate) fn among_plain<'a>(
     set: &Resolved<'a>,
     env: &Env<'_, 'a>,
 ) -> Result<Vec<Value>, Lack>
-    requires { IsRegularSet values.now }
+    requires { IsAscending values.now }
     ensures is { IfOk result (λ xs. Narrows (environment_of env.now) (plain (resolved_of set.now)) values.now xs.items) }
     ensures out { IfErr result (λ lack. Tells lack (IsSetOut (environment_of env.now) (plain (resolved_of set.now)))) }
 {
@@ -90,7 +89,7 @@ pub(crate) fn among_carrier<'a>(
     ztype: &ZType<'a>,
     env: &Env<'_, 'a>,
 ) -> Result<Vec<Value>, Lack>
-    requires { IsRegularSet values.now }
+    requires { IsAscending values.now }
     ensures is { IfOk result (λ xs. Narrows (environment_of env.now) (carrier (type_of ztype.now)) values.now xs.items) }
     ensures out { IfErr result (λ lack. Tells lack (IsSetOut (environment_of env.now) (carrier (type_of ztype.now)))) }
 {

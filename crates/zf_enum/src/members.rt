@@ -1,8 +1,8 @@
 //! The members of a set that an expression comes to.
 ghost use Rattle.std.specs.Prelude.{◌≡◌, ◌↔◌, ◌++◌, ◌⊎◌, [], ◌∷◌, IsTrue, IfOk, IfErr, OnOk};
 ghost use Rattle.zf_value.specs.declared.value.Outcome.TheVariants as outcome;
-ghost use Rattle.zf_value.specs.Sets.{IsMember, IsRegularSet, IsRegularOutcome};
-ghost use Rattle.zf_meaning.specs.Described.{IsDescribed, IsRegularDescribed};
+ghost use Rattle.zf_value.specs.Sets.{IsAscending, IsMember};
+ghost use Rattle.zf_meaning.specs.Described.{IsDescribed};
 ghost use Rattle.zf_enum.specs.Parts.{Lists, Filters, IsListed, IsIn, Tells};
 
 use crate::kept::{Test, kept};
@@ -18,12 +18,11 @@ pub(crate) struct InSet<'d, 'v> {
 }
 
 impl<'d, 'v> Test for InSet<'d, 'v> {
-    ghost use Rattle.zf_value.specs.declared.value.Outcome.TheVariants.{Out};
-    ghost use Rattle.zf_meaning.specs.Described.{IsDescribed, IsInDescribed, IsRegularDescribed};
+    ghost use Rattle.zf_meaning.specs.Described.{IsInDescribed, IsWithin};
 
     ghost passes = { λ t v. IsInDescribed t.set.now v };
 
-    ghost ready = { λ t. IsRegularDescribed t.set.now × (IsDescribed t.set.now Out → ⊥) };
+    ghost ready = { λ t. IsWithin t.set.now };
 
     fn admits(&self, value: &Value) -> bool {
         self.set.has(value)
@@ -36,8 +35,7 @@ pub(crate) fn members_among(
     values: &[Value],
     of: &Described<'_>,
 ) -> Result<Vec<Value>, Lack>
-    requires values { IsRegularSet values.now }
-    requires of { IsRegularDescribed of.now }
+    requires { IsAscending values.now }
     ensures is { IfOk result (λ out. Filters of.now values.now out.items) }
     ensures out { IfErr result (λ lack. Tells lack (IsDescribed of.now outcome.Out)) }
 {
@@ -50,7 +48,6 @@ pub(crate) fn members_among(
 
 /// The members. What is undefined has none.
 pub(crate) fn members_of(alloc: Global, of: &Outcome) -> Result<Vec<Value>, Lack>
-    requires { IsRegularOutcome of.now }
     ensures is { IfOk result (λ out. IsListed of.now (IsIn of.now) out.items) }
     ensures out { IfErr result (λ lack. Tells lack (of.now ≡ outcome.Out)) }
 {
@@ -83,8 +80,6 @@ pub(crate) fn alone(alloc: Global, value: &Value) -> Result<Vec<Value>, AllocErr
 
 /// The members of both, in ascending order.
 pub(crate) fn merged(mut left: Vec<Value>, right: Vec<Value>) -> Result<Vec<Value>, AllocError>
-    requires left { IsRegularSet left.items }
-    requires right { IsRegularSet right.items }
     ensures { IfOk result (λ out. Lists (λ v. IsMember v left.items ⊎ IsMember v right.items) out.items) }
 {
     let mut right = right;

@@ -1,8 +1,7 @@
 //! Which values are of a type.
 ghost use Rattle.std.specs.Prelude.{◌≡◌, ◌↔◌, ◌<◌, IsTrue, IsSomeAnd, map};
 ghost use Rattle.zf_term.specs.Types.{type_of, types, power, product};
-ghost use Rattle.zf_value.specs.declared.value.Value.{Elem};
-ghost use Rattle.zf_value.specs.Sets.{AreRegular, IsRegular};
+ghost use Rattle.zf_value.specs.declared.plain.Value.{Elem};
 ghost use Rattle.zf_meaning.specs.Environments.{type_number};
 ghost use Rattle.zf_meaning.specs.Envs.{environment_of};
 ghost use Rattle.zf_meaning.specs.Rows.{IsElement, IsOfType, AreOfTypes};
@@ -13,7 +12,7 @@ use zf_meaning::carrier::number_named;
 use zf_meaning::env::Env;
 use zf_term::ztype::ZType;
 use zf_value::SET_MAX;
-use zf_value::value::Value;
+use zf_value::value::{Form, Value};
 
 /// Whether a value is of a type.
 #[derive(Drop)]
@@ -39,7 +38,7 @@ impl<'t, 'e, 'g, 'a> Test for OfType<'t, 'e, 'g, 'a> {
 #[cycle(of_type)]
 #[tactic(auto, using(zf_term::proofs::TypesSeen::seen))]
 fn is_of_type(ztype: &ZType<'_>, value: &Value, env: &Env<'_, '_>) -> bool
-    ensures { IsRegular value.now → (IsTrue result ↔ IsOfType (environment_of env.now) (type_of ztype.now) value.now) }
+    ensures { IsTrue result ↔ IsOfType (environment_of env.now) (type_of ztype.now) value.now }
 {
     match ztype {
         ZType::Int => is_number(value),
@@ -52,17 +51,17 @@ fn is_of_type(ztype: &ZType<'_>, value: &Value, env: &Env<'_, '_>) -> bool
 /// Whether the value is a set of values of the type, of no more than a set may have.
 #[cycle(of_type)]
 fn is_set_of(ztype: &ZType<'_>, value: &Value, env: &Env<'_, '_>) -> bool
-    ensures { IsRegular value.now → (IsTrue result ↔ IsOfType (environment_of env.now) (power (type_of ztype.now)) value.now) }
+    ensures { IsTrue result ↔ IsOfType (environment_of env.now) (power (type_of ztype.now)) value.now }
 {
-    match value {
-        Value::SetOf(members) => are_all_of(ztype, members.as_slice(), env),
-        _ => false,
+    match value.as_set() {
+        Some(members) => are_all_of(ztype, members, env),
+        None => false,
     }
 }
 
 #[cycle(of_type)]
 fn are_all_of(ztype: &ZType<'_>, values: &[Value], env: &Env<'_, '_>) -> bool
-    ensures { AreRegular values.now → (IsTrue result ↔ AreAllOf (environment_of env.now) (type_of ztype.now) values.now) }
+    ensures { IsTrue result ↔ AreAllOf (environment_of env.now) (type_of ztype.now) values.now }
 {
     if values.len() > SET_MAX {
         return false;
@@ -78,17 +77,17 @@ fn are_all_of(ztype: &ZType<'_>, values: &[Value], env: &Env<'_, '_>) -> bool
 /// Whether the value is a tuple of a value of each type.
 #[cycle(of_type)]
 fn is_tuple_of(ztypes: &[ZType<'_>], value: &Value, env: &Env<'_, '_>) -> bool
-    ensures { IsRegular value.now → (IsTrue result ↔ IsOfType (environment_of env.now) (product (types (map type_of ztypes.now))) value.now) }
+    ensures { IsTrue result ↔ IsOfType (environment_of env.now) (product (types (map type_of ztypes.now))) value.now }
 {
-    match value {
-        Value::Tuple(parts) => are_each_of(ztypes, parts.as_slice(), env),
-        _ => false,
+    match value.as_tuple() {
+        Some(parts) => are_each_of(ztypes, parts, env),
+        None => false,
     }
 }
 
 #[cycle(of_type)]
 fn are_each_of(ztypes: &[ZType<'_>], values: &[Value], env: &Env<'_, '_>) -> bool
-    ensures { AreRegular values.now → (IsTrue result ↔ AreOfTypes (environment_of env.now) (types (map type_of ztypes.now)) values.now) }
+    ensures { IsTrue result ↔ AreOfTypes (environment_of env.now) (types (map type_of ztypes.now)) values.now }
 {
     if values.len() != ztypes.len() {
         return false;
@@ -104,20 +103,20 @@ fn are_each_of(ztypes: &[ZType<'_>], values: &[Value], env: &Env<'_, '_>) -> boo
 fn is_number(value: &Value) -> bool
     ensures { IsTrue result ↔ IsNumberHere value.now }
 {
-    match value {
-        Value::Int(number) => {
-            let _number = *number;
+    match value.number() {
+        Some(number) => {
+            let _number = number;
             true
         }
-        _ => false,
+        None => false,
     }
 }
 
 fn is_element(value: &Value, name: &[u8], env: &Env<'_, '_>) -> bool
     ensures { IsTrue result ↔ IsElement (environment_of env.now) (type_number (environment_of env.now) name.now) value.now }
 {
-    match value {
-        Value::Elem(number, index) => is_among(*number, *index, name, env),
+    match &value.form {
+        Form::Elem(number, index) => is_among(*number, *index, name, env),
         _ => false,
     }
 }

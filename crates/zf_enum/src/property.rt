@@ -7,14 +7,14 @@ use crate::candidates::{Tie, gather_candidates, gather_spread};
 use crate::conjuncts::Conjuncts;
 use crate::due::{due, uses};
 use crate::fixing::fixing;
-use crate::known::Known;
-use crate::shown::{Shown, meet};
+use crate::shown::Shown;
 use std::alloc::{AllocError, Global};
 use zf_meaning::env::Env;
 use zf_meaning::value::truth_of;
 use zf_plan::Guide;
 use zf_term::resolved::Resolved;
 use zf_value::value;
+use zf_value::value::Value;
 use zf_walk::{Judge, Range, Row, Truth};
 
 /// The conjuncts of a schema, in an environment.
@@ -28,7 +28,7 @@ pub struct Property<'e, 'g, 'a> {
     ghost small: { (c : ℕ) → due_of (slice_get (map resolved_of conjuncts) c) < 2 ^ 64 },
 }
 
-impl<'e, 'g, 'a> Judge<Known> for Property<'e, 'g, 'a> {
+impl<'e, 'g, 'a> Judge<Value> for Property<'e, 'g, 'a> {
     ghost use Rattle.std.specs.Prelude.{map};
     ghost use Rattle.zf_term.specs.ResolvedTrees.{resolved_of};
     ghost use Rattle.zf_meaning.specs.Envs.{environment_of};
@@ -56,8 +56,7 @@ impl<'e, 'g, 'a> Judge<Known> for Property<'e, 'g, 'a> {
     }
 
     #[tactic(auto, using(crate::proofs::Judging::has_truth))]
-    fn judge<R: Row<Known>>(&self, conjunct: usize, row: &R) -> Result<Truth, AllocError> {
-        meet(row);
+    fn judge<R: Row<Value>>(&self, conjunct: usize, row: &R) -> Result<Truth, AllocError> {
         let shown = Shown { row };
         let truth = truth_of(self.conjuncts.get(conjunct), &shown, self.env)?;
         Ok(walked(truth))
@@ -65,7 +64,7 @@ impl<'e, 'g, 'a> Judge<Known> for Property<'e, 'g, 'a> {
 }
 
 /// An equation of a component with an expression leaves the expression's values, and a predicate that asks for values of variables those that it equates the component with.
-impl<'e, 'g, 'a> Guide<Known> for Property<'e, 'g, 'a> {
+impl<'e, 'g, 'a> Guide<Value> for Property<'e, 'g, 'a> {
     fn narrows(&self, leaf: usize, component: usize) -> bool {
         fixing(self.conjuncts.get(leaf), component).is_some()
             || self.conjuncts.spread(leaf, component).is_some()
@@ -74,7 +73,7 @@ impl<'e, 'g, 'a> Guide<Known> for Property<'e, 'g, 'a> {
     fn narrow(
         &self,
         leaf: usize,
-        ranges: &[Range<Known>],
+        ranges: &[Range<Value>],
         places: &[usize],
         gathered: &mut Vec<usize>,
     ) -> Result<bool, AllocError> {

@@ -1,14 +1,13 @@
 //! The values that lie in declared sets.
 ghost use Rattle.std.specs.Prelude.{◌≡◌, ◌≤◌, ◌<◌, true, IfOk, IfErr, MatchOption, length, map, option_map, slice_get};
 ghost use Rattle.zf_term.specs.Definitions.{globals_of, set_of, sets_of};
-ghost use Rattle.zf_value.specs.Sets.{IsRegularSet};
 ghost use Rattle.zf_meaning.specs.Envs.{environment_of};
 ghost use Rattle.zf_finite.specs.Finite as spec;
+ghost use Rattle.zf_value.specs.Sets.{IsAscending};
 ghost use Rattle.zf_enum.specs.DeclaredSets.{IsSetOut, IsOneOut};
 ghost use Rattle.zf_enum.specs.Parts.{Narrows, NarrowsAll, IsAllOf, IsAllOfEach, IsAllWith, Tells};
 
 use crate::bounding::lightest_bounding;
-use crate::known::Known;
 use crate::lack::Lack;
 use crate::leaves::{among_carrier, among_plain, of_carrier, of_plain};
 use crate::members::{alone, copied, merged};
@@ -21,7 +20,7 @@ use zf_value::value::Value;
 pub(crate) fn values_with<'a>(
     alloc: Global,
     domains: &[Domain<'a>],
-    held: Option<&Known>,
+    held: Option<&Value>,
     env: &Env<'_, 'a>,
 ) -> Result<Vec<Value>, Lack>
     requires { spec.one_bounds (environment_of env.now).globals (sets_of (map set_of domains.now)) ≡ true }
@@ -29,7 +28,7 @@ pub(crate) fn values_with<'a>(
     ensures out { IfErr result (λ lack. Tells lack (IsOneOut (environment_of env.now) (sets_of (map set_of domains.now)))) }
 {
     match held {
-        Some(value) => narrowed(alloc, domains, alone(alloc, value.value())?, env),
+        Some(value) => narrowed(alloc, domains, alone(alloc, value)?, env),
         None => range(alloc, domains, env),
     }
 }
@@ -38,7 +37,7 @@ pub(crate) fn values_with<'a>(
 #[cycle(listing)]
 fn range<'a>(alloc: Global, domains: &[Domain<'a>], env: &Env<'_, 'a>) -> Result<Vec<Value>, Lack>
     ensures is { spec.one_bounds (environment_of env.now).globals (sets_of (map set_of domains.now)) ≡ true → IfOk result (λ xs. IsAllOfEach (environment_of env.now) (sets_of (map set_of domains.now)) xs.items) }
-    ensures regular { IfOk result (λ xs. IsRegularSet xs.items) }
+    ensures ascending { IfOk result (λ xs. IsAscending xs.items) }
     ensures out { spec.one_bounds (environment_of env.now).globals (sets_of (map set_of domains.now)) ≡ true → IfErr result (λ lack. Tells lack (IsOneOut (environment_of env.now) (sets_of (map set_of domains.now)))) }
 {
     let place = lightest_bounding(domains, env)?;
@@ -56,7 +55,7 @@ fn range<'a>(alloc: Global, domains: &[Domain<'a>], env: &Env<'_, 'a>) -> Result
 #[tactic(auto, using(zf_term::proofs::SetsSeen::seen))]
 fn values<'a>(alloc: Global, domain: &Domain<'a>, env: &Env<'_, 'a>) -> Result<Vec<Value>, Lack>
     ensures is { spec.bounds (environment_of env.now).globals (set_of domain.now) ≡ true → IfOk result (λ xs. IsAllOf (environment_of env.now) (set_of domain.now) xs.items) }
-    ensures regular { IfOk result (λ xs. IsRegularSet xs.items) }
+    ensures ascending { IfOk result (λ xs. IsAscending xs.items) }
     ensures out { spec.bounds (environment_of env.now).globals (set_of domain.now) ≡ true → IfErr result (λ lack. Tells lack (IsSetOut (environment_of env.now) (set_of domain.now))) }
 {
     match domain {
@@ -78,7 +77,7 @@ fn narrowed<'a>(
     values: Vec<Value>,
     env: &Env<'_, 'a>,
 ) -> Result<Vec<Value>, Lack>
-    requires { IsRegularSet values.items }
+    requires { IsAscending values.items }
     ensures is { IfOk result (λ xs. NarrowsAll (environment_of env.now) (sets_of (map set_of domains.now)) values.items xs.items) }
     ensures out { IfErr result (λ lack. Tells lack (IsOneOut (environment_of env.now) (sets_of (map set_of domains.now)))) }
 {
@@ -98,7 +97,7 @@ fn narrowed_by<'a>(
     values: Vec<Value>,
     env: &Env<'_, 'a>,
 ) -> Result<Vec<Value>, Lack>
-    requires { IsRegularSet values.items }
+    requires { IsAscending values.items }
     ensures is { IfOk result (λ xs. Narrows (environment_of env.now) (set_of domain.now) values.items xs.items) }
     ensures out { IfErr result (λ lack. Tells lack (IsSetOut (environment_of env.now) (set_of domain.now))) }
 {

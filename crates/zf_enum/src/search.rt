@@ -10,7 +10,7 @@ use zf_walk::Step;
 
 /// The bindings of a schema that are not False, one after another in ascending order. It is also the binding that the last step gave; no values where it gave none.
 pub trait Search: Row {
-    ghost use Rattle.zf_value.specs.declared.value.Value as value;
+    ghost use Rattle.zf_value.specs.declared.plain.Value as value;
     ghost use Rattle.zf_walk.specs.Progress.{Stage};
     ghost use Rattle.zf_enum.specs.Searches.{Goal};
 

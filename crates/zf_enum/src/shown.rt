@@ -1,8 +1,6 @@
-//! Rows of regular values, as rows of values.
+//! Rows of a walk, as rows of values.
 ghost use Rattle.std.specs.Prelude.{◌≡◌};
-ghost use Rattle.zf_value.specs.Sets.{AreRegular};
 
-use crate::known::Known;
 use zf_meaning::row::Row;
 use zf_value::value::Value;
 
@@ -12,7 +10,7 @@ pub(crate) struct Shown<'r, R> {
     pub(crate) row: &'r R,
 }
 
-impl<'r, R: zf_walk::Row<Known>> Row for Shown<'r, R> {
+impl<'r, R: zf_walk::Row<Value>> Row for Shown<'r, R> {
     ghost values = { λ s. R.values s.row.now };
 
     fn len(&self) -> usize {
@@ -20,15 +18,6 @@ impl<'r, R: zf_walk::Row<Known>> Row for Shown<'r, R> {
     }
 
     fn get(&self, place: usize) -> &Value {
-        self.row.get(place).value()
-    }
-}
-
-/// Meets each value of a row: so each is regular.
-pub(crate) fn meet<R: zf_walk::Row<Known>>(row: &R)
-    ensures { AreRegular (R.values row.now) }
-{
-    for place in 0..row.len() {
-        let _value = row.get(place).value();
+        self.row.get(place)
     }
 }

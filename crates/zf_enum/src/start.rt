@@ -14,7 +14,6 @@ ghost use Rattle.zf_enum.specs.Starts.{Refuses, BeginsCounting};
 use crate::bindings::Bindings;
 use crate::component::ranges;
 use crate::conjuncts::Conjuncts;
-use crate::known::Known;
 use crate::property::{Property, dues};
 use crate::start_fault::StartFault;
 use bumpalo::Bump;
@@ -24,6 +23,7 @@ use zf_resolved::conjunct;
 use zf_term::conjunct::Conjunct;
 use zf_term::globals::Flat;
 use zf_term::resolved::Resolved;
+use zf_value::value::Value;
 
 impl<'s, 'e, 'g, 'a> Bindings<'s, 'e, 'g, 'a> {
     /// Stands before the first event of the schema that has the values which are held, by the components' places. Neither they nor the named row need lie in the ranges.
@@ -32,8 +32,8 @@ impl<'s, 'e, 'g, 'a> Bindings<'s, 'e, 'g, 'a> {
         arena: &'a Bump,
         flat: &Flat<'a>,
         env: &'e Env<'g, 'a>,
-        after: Option<&'s [Known]>,
-        held: &[Option<Known>],
+        after: Option<&'s [Value]>,
+        held: &[Option<Value>],
     ) -> Result<Bindings<'s, 'e, 'g, 'a>, StartFault>
         requires finite { IsFinite (environment_of env.now).globals (schema_of flat.now) }
         requires named { HasLength (option_copied after) (length (schema_of flat.now).comps) }

@@ -1,5 +1,4 @@
 //! How many values a declared set may have, as far as it can be told without listing them. It decides what is listed and tried, and nothing that is found.
-ghost use Rattle.zf_value.specs.Sets.{AreRegular};
 
 use std::alloc::AllocError;
 use zf_meaning::described::Described;
@@ -31,9 +30,7 @@ pub(crate) fn rows_weight<'a, R: Row>(
     ranges: &[Range<'a>],
     row: &R,
     env: &Env<'_, 'a>,
-) -> Result<usize, AllocError>
-    requires { AreRegular (R.values row.now) }
-{
+) -> Result<usize, AllocError> {
     let mut rows: usize = 1;
     for range in ranges {
         let values = set_weight(&range.set, row, env)?;
@@ -46,9 +43,7 @@ fn set_weight<'a, R: Row>(
     set: &Resolved<'a>,
     row: &R,
     env: &Env<'_, 'a>,
-) -> Result<usize, AllocError>
-    requires { AreRegular (R.values row.now) }
-{
+) -> Result<usize, AllocError> {
     let described = described_in(set, row, env)?;
     Ok(weight_of(&described))
 }

@@ -1,6 +1,6 @@
 -- What the tests of pairs say of functions and injections.
-use Rattle.zf_families.proofs.Prelude.{◌↔◌, ◌∙◌, ◌∷◌, ◌≡◌, [], ap, Bool, Equal, false, Greater, inl, inr, Less, List, Ordering, refl, subst, sym, true, ⊎_elim, and_from, and_parts, both_ways, false≢true, is_lt, ordering_reverse, IsTrue, every_at, not_below_itself, exact, regular_set, members-SetOf, IsBetween, IsFunctional, IsInjective, IsRelationThat, IsSubset, IsTotal, pair, Every, IsAscending, IsMember, IsRegular, members, value_order, AreAmong, SetOf, Value, outs-Tuple, fits_any, fits_apart, pairs, first, first_at, firsts_rise, IsGraph, seconds_apart, IsFunctionFrom, IsInjectionFrom, IsPairOn}
-use Rattle.zf_value.specs.contracts.value.ValueOrd.TheImpl.Laws.{total-law}
+use Rattle.zf_families.proofs.Prelude.{◌↔◌, ◌∙◌, ◌∷◌, ◌≡◌, [], ap, Bool, Equal, false, Greater, inl, inr, Less, List, Ordering, refl, subst, sym, true, ⊎_elim, and_from, and_parts, both_ways, false≢true, is_lt, ordering_reverse, IsTrue, every_at, not_below_itself, exact, members-SetOf, IsBetween, IsFunctional, IsInjective, IsRelationThat, IsSubset, IsTotal, pair, Every, IsAscending, IsMember, members, value_order, AreAmong, SetOf, Value, outs-Tuple, fits_any, fits_apart, pairs, first, first_at, firsts_rise, IsGraph, seconds_apart, IsFunctionFrom, IsInjectionFrom, IsPairOn}
+use Rattle.zf_value.specs.contracts.plain.ValueOrd.TheImpl.Laws.{total-law}
 use Rattle.zf_families.proofs.Comparisons.{not_both, below_rest, pair_parts, first_below, member_map, from_member_map}
 use Rattle.zf_families.proofs.Functions.{GoesAll, none_all, all_to, all_from}
 use Rattle.zf_families.proofs.FunctionLaws.{functions, IsUnused, unused_from, unused_to, injective_more}
@@ -136,12 +136,9 @@ graph_from (x ∷ a) b (z ∷ r) h g =
 same_pairs : (r s : List Value) → SetOf r ≡ SetOf s → r ≡ s
 same_pairs r s e = sym (members-SetOf r) ∙ ap members e ∙ members-SetOf s
 
-pub ascending_pairs : (v : Value) (r : List Value) → v ≡ SetOf r → IsRegular v → IsAscending r
-ascending_pairs v r e h = (regular_set r (subst IsRegular e h)).ascending
-
-pub relation_at : (P : List Value → Type 0) (a b r : List Value) (v : Value) (t : Bool) → v ≡ SetOf r → IsRegular v → IsTrue t ↔ (IsBetween a b r × P r) → IsTrue t ↔ IsRelationThat P a b v
+pub relation_at : (P : List Value → Type 0) (a b r : List Value) (v : Value) (t : Bool) → v ≡ SetOf r → IsAscending r → IsTrue t ↔ (IsBetween a b r × P r) → IsTrue t ↔ IsRelationThat P a b v
 relation_at P a b r v t e h k = (
-  λ g. let p = k.0 g in (r, e, ascending_pairs v r e h, p.0, p.1),
+  λ g. let p = k.0 g in (r, e, h, p.0, p.1),
   λ p.
       let same : p.0 ≡ r = same_pairs p.0 r (sym p.1 ∙ e) in
       k.1 (subst (λ s. IsBetween a b s × P s) same (p.3, p.4)),
@@ -150,42 +147,42 @@ relation_at P a b r v t e h k = (
 pub no_relation : (P : List Value → Type 0) (a b : List Value) (v : Value) → ((r : List Value) → v ≡ SetOf r → ⊥) → IsTrue false ↔ IsRelationThat P a b v
 no_relation P a b v h = (λ e. absurd (false≢true e), λ p. absurd (h p.0 p.1))
 
-pub total_at : (a b r : List Value) (v : Value) (t : Bool) → IsAscending a → v ≡ SetOf r → IsRegular v → IsTrue t ↔ IsGraph b a r → IsTrue t ↔ IsRelationThat (λ r. IsFunctional r × IsTotal a r) a b v
+pub total_at : (a b r : List Value) (v : Value) (t : Bool) → IsAscending a → v ≡ SetOf r → IsAscending r → IsTrue t ↔ IsGraph b a r → IsTrue t ↔ IsRelationThat (λ r. IsFunctional r × IsTotal a r) a b v
 total_at a b r v t h e g k =
     relation_at (λ r. IsFunctional r × IsTotal a r) a b r v t e g (
       λ m. let q = graph_from a b r h (k.0 m) in (q.0.1, (q.0.2, q.1)),
-      λ p. k.1 (graph_to a b r h ((ascending_pairs v r e g, p.0, p.1.0), p.1.1)),
+      λ p. k.1 (graph_to a b r h ((g, p.0, p.1.0), p.1.1)),
     )
 
-pub total_injection_at : (a b r : List Value) (v : Value) (t : Bool) → IsAscending a → v ≡ SetOf r → IsRegular v → IsGraph b a r → t ≡ seconds_apart r → IsTrue t ↔ IsRelationThat (λ r. IsFunctional r × IsInjective r × IsTotal a r) a b v
+pub total_injection_at : (a b r : List Value) (v : Value) (t : Bool) → IsAscending a → v ≡ SetOf r → IsAscending r → IsGraph b a r → t ≡ seconds_apart r → IsTrue t ↔ IsRelationThat (λ r. IsFunctional r × IsInjective r × IsTotal a r) a b v
 total_injection_at a b r v t h e g k s =
     let q = graph_from a b r h k in
     relation_at (λ r. IsFunctional r × IsInjective r × IsTotal a r) a b r v t e g (
       λ m. (q.0.1, (q.0.2, apart_from a b r q.0.1 (sym s ∙ m), q.1)),
-      λ p. s ∙ apart_to a b r (ascending_pairs v r e g) p.0 p.1.1,
+      λ p. s ∙ apart_to a b r g p.0 p.1.1,
     )
 
-pub no_total_injection : (a b r : List Value) (v : Value) (t : Bool) → IsAscending a → v ≡ SetOf r → IsRegular v → IsTrue t ↔ IsGraph b a r → t ≡ false → IsTrue t ↔ IsRelationThat (λ r. IsFunctional r × IsInjective r × IsTotal a r) a b v
+pub no_total_injection : (a b r : List Value) (v : Value) (t : Bool) → IsAscending a → v ≡ SetOf r → IsAscending r → IsTrue t ↔ IsGraph b a r → t ≡ false → IsTrue t ↔ IsRelationThat (λ r. IsFunctional r × IsInjective r × IsTotal a r) a b v
 no_total_injection a b r v t h e g k f =
     relation_at (λ r. IsFunctional r × IsInjective r × IsTotal a r) a b r v t e g (
       λ m. absurd (both_ways t f m),
-      λ p. k.1 (graph_to a b r h ((ascending_pairs v r e g, p.0, p.1.0), p.1.2)),
+      λ p. k.1 (graph_to a b r h ((g, p.0, p.1.0), p.1.2)),
     )
 
-pub plain_relation_at : (a b r : List Value) (v : Value) (t : Bool) → v ≡ SetOf r → IsRegular v → IsTrue t ↔ IsBetween a b r → IsTrue t ↔ IsRelationThat (λ r. Unit {0}) a b v
+pub plain_relation_at : (a b r : List Value) (v : Value) (t : Bool) → v ≡ SetOf r → IsAscending r → IsTrue t ↔ IsBetween a b r → IsTrue t ↔ IsRelationThat (λ r. Unit {0}) a b v
 plain_relation_at a b r v t e h k = relation_at (λ r. Unit {0}) a b r v t e h (λ m. (k.0 m, tt), λ p. k.1 p.0)
 
-pub function_at : (a b r : List Value) (v : Value) (t : Bool) → v ≡ SetOf r → IsRegular v → IsTrue t ↔ IsFunctionFrom a b r → IsTrue t ↔ IsRelationThat IsFunctional a b v
+pub function_at : (a b r : List Value) (v : Value) (t : Bool) → v ≡ SetOf r → IsAscending r → IsTrue t ↔ IsFunctionFrom a b r → IsTrue t ↔ IsRelationThat IsFunctional a b v
 unfolding IsFunctionFrom
 function_at a b r v t e h k = relation_at IsFunctional a b r v t e h k
 
-pub injection_at : (a b r : List Value) (v : Value) (t : Bool) → v ≡ SetOf r → IsRegular v → IsTrue t ↔ IsInjectionFrom a b r → IsTrue t ↔ IsRelationThat (λ r. IsFunctional r × IsInjective r) a b v
+pub injection_at : (a b r : List Value) (v : Value) (t : Bool) → v ≡ SetOf r → IsAscending r → IsTrue t ↔ IsInjectionFrom a b r → IsTrue t ↔ IsRelationThat (λ r. IsFunctional r × IsInjective r) a b v
 unfolding IsInjectionFrom
 injection_at a b r v t e h k = relation_at (λ r. IsFunctional r × IsInjective r) a b r v t e h k
 
-pub subset_at : (a r : List Value) (v : Value) (t : Bool) → v ≡ SetOf r → IsRegular v → IsTrue t ↔ AreAmong r a → IsTrue t ↔ IsSubset a v
+pub subset_at : (a r : List Value) (v : Value) (t : Bool) → v ≡ SetOf r → IsAscending r → IsTrue t ↔ AreAmong r a → IsTrue t ↔ IsSubset a v
 subset_at a r v t e h k = (
-  λ g. (r, e, ascending_pairs v r e h, k.0 g),
+  λ g. (r, e, h, k.0 g),
   λ p. k.1 (subst (λ s. AreAmong s a) (same_pairs p.0 r (sym p.1 ∙ e)) p.3),
 )
 

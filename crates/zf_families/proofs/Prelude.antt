@@ -11,22 +11,21 @@ pub use Rattle.std.specs.Prelude.{IsTrue}
 pub use Rattle.std.specs.Result.{IfOk}
 pub use Rattle.std.specs.Vec.Iter.{into_iter_items}
 pub use Rattle.std.specs.declared.alloc.AllocError.{AllocError}
-pub use Rattle.zf_value.proofs.Among.{every_also, every_at, every_from, member_at, members-append, members-take_more, not_below_itself}
+pub use Rattle.zf_value.proofs.Among.{every_also, every_at, every_from, member_at, members-append, members-take_more, not_below_itself, take_all}
 pub use Rattle.zf_value.proofs.Exact.{cmp_is, exact, ties}
-pub use Rattle.zf_value.proofs.Regulars.{are_regular, regular-pair, regular-SetOf, regular-Tuple, regular_made, regular_member, regular_none, regular_set}
 pub use Rattle.zf_value.proofs.Seen.{members-SetOf, parts-Tuple}
 pub use Rattle.zf_value.specs.Operations.{AreFrom, IsBetween, IsFunctional, IsInjective, IsRelationThat, IsSubset, IsTotal, pair, Relates}
 unfoldable pub use Rattle.zf_value.specs.Operations.{ArePartialFunctions, ArePartialInjections, AreRelations, AreTotalFunctions, AreTotalInjections, IsCross, IsPower}
-pub use Rattle.zf_value.specs.Sets.{Every, IsAscending, IsMember, IsRegular, IsRegularOutcome, IsRegularSet, IsSetOf, members, members_at, parts, row_order, value_order}
-unfoldable pub use Rattle.zf_value.specs.Sets.{AreAmong, AreRegular}
+pub use Rattle.zf_value.specs.Sets.{Every, IsAscending, IsMember, IsSetOf, members, members_at, parts, row_order, value_order}
+unfoldable pub use Rattle.zf_value.specs.Sets.{AreAmong}
 pub use Rattle.zf_value.specs.declared.TheConstants.{SET_MAX}
+pub use Rattle.zf_value.specs.declared.plain.Value.{out-Value, roll-out-Value, roll-Value, SetOf, Tuple, Value}
+pub use Rattle.zf_value.specs.declared.plain.Value.TheOpen.{Value-F}
+pub use Rattle.zf_value.specs.declared.plain.Value.TheVariants.{outs-SetOf, outs-Tuple, rolls-SetOf}
 pub use Rattle.zf_value.specs.declared.value.Outcome.{Outcome}
 pub use Rattle.zf_value.specs.declared.value.Outcome.TheVariants.{Is, Out}
-pub use Rattle.zf_value.specs.declared.value.Value.{out-Value, roll-out-Value, roll-Value, SetOf, Tuple, Value}
-pub use Rattle.zf_value.specs.declared.value.Value.TheOpen.{Value-F}
-pub use Rattle.zf_value.specs.declared.value.Value.TheVariants.{outs-SetOf, outs-Tuple, rolls-SetOf}
 pub use Rattle.zf_families.specs.Counts.{falling, partial_injection_count, sizes, stepped}
 unfoldable pub use Rattle.zf_families.specs.Families.{IsPartialFunction, IsPartialInjection, IsRelation, IsTotalFunction, IsTotalInjection, IsTupleFrom}
-pub use Rattle.zf_families.specs.Selections.{extended, extensions, fits_any, fits_apart, fitting, pairs, second, second_at, singles, some, whole}
+pub use Rattle.zf_families.specs.Selections.{AllAscend, AreSets, extended, extensions, fits_any, fits_apart, fitting, pairs, second, second_at, singles, some, whole}
 pub use Rattle.zf_families.specs.Tests.{first, first_at, firsts_rise, IsGraph, seconds_apart}
 unfoldable pub use Rattle.zf_families.specs.Tests.{IsFunctionFrom, IsInjectionFrom, IsPairFrom, IsPairOn}

@@ -1,6 +1,6 @@
 -- The relations from a set to a set are the subsets of the product.
-use Rattle.zf_families.proofs.Prelude.{◌*◌, ◌++◌, ◌+◌, ◌<◌, ◌^◌, ◌↔◌, ◌∙◌, ◌∷◌, ◌≡◌, [], ap, arith, inl, inr, length, Less, List, ltb, map, min, refl, Result, subst, suc, sym, zero, ℕ, ⊎_elim, pow-succ', pow-zero, cases_lt, length-append, length-map, flat_map, IsTrue, IfOk, AllocError, every_from, members-append, are_regular, regular-pair, regular-SetOf, regular_made, regular_member, IsRelationThat, pair, AreRelations, Every, IsAscending, IsMember, IsRegular, IsRegularOutcome, IsRegularSet, value_order, AreAmong, SET_MAX, Outcome, Is, Out, SetOf, Value, fits_any, pairs, singles, some, IsPairFrom}
-use Rattle.zf_families.proofs.Told.{Tells, out_by_size, built_result}
+use Rattle.zf_families.proofs.Prelude.{◌*◌, ◌++◌, ◌+◌, ◌<◌, ◌^◌, ◌∙◌, ◌∷◌, ◌≡◌, [], ap, arith, inl, inr, length, Less, List, ltb, map, min, refl, Result, subst, suc, sym, zero, ℕ, ⊎_elim, pow-succ', pow-zero, cases_lt, length-append, length-map, flat_map, IfOk, AllocError, every_from, members-append, IsRelationThat, pair, AreRelations, Every, IsAscending, IsMember, value_order, AreAmong, SET_MAX, SetOf, Value, Outcome, Is, Out, AreSets, fits_any, pairs, singles, some, IsPairFrom}
+use Rattle.zf_families.proofs.Told.{TellsOut, are_sets, ascends, Tells, out_by_size, built_result}
 use Rattle.zf_families.proofs.Counts.{length_some, sizes_same}
 use Rattle.zf_families.proofs.Subsets.{power_told}
 use Rattle.zf_families.proofs.Comparisons.{member_map, from_member_map, below_rest, first_below, pairs_ascending}
@@ -74,28 +74,21 @@ min_power n c = ⊎_elim
     ap (λ k. min (2 ^ k) c) e ∙ omega (arith, p, q))
     (cases_lt n c)
 
-pub relations_out : (a b : List Value) → IsRegularSet a → IsRegularSet b → (size count : ℕ) → size ≡ min (length a * length b) (SET_MAX + 1) → count ≡ min (2 ^ size) (SET_MAX + 1) → IsTrue (ltb SET_MAX count) ↔ AreRelations a b Out
+pub relations_out : (a b : List Value) → IsAscending a → IsAscending b → (size count : ℕ) → size ≡ min (length a * length b) (SET_MAX + 1) → count ≡ min (2 ^ size) (SET_MAX + 1) → TellsOut (AreRelations a b) (ltb SET_MAX count)
 unfolding AreRelations
 relations_out a b h k size count e f =
     let all : length ([] ∷ some fits_any (singles (product_of a b))) ≡ 2 ^ (length a * length b) =
     length_some (singles (product_of a b)) ∙ sizes_same suc 1 (λ x. x ∷ []) (product_of a b) (λ x. refl) ∙ ap (λ n. 2 ^ n) (length_product a b) in
-    out_by_size SetOf (IsRelationThat (λ r. Unit {0}) a b) ([] ∷ some fits_any (singles (product_of a b))) (relations_told a b h.ascending k.ascending) (2 ^ (length a * length b)) count all
+    out_by_size SetOf (IsRelationThat (λ r. Unit {0}) a b) ([] ∷ some fits_any (singles (product_of a b))) (relations_told a b h k) (2 ^ (length a * length b)) count all
     (f ∙ ap (λ n. min (2 ^ n) (SET_MAX + 1)) e ∙ min_power (length a * length b) (SET_MAX + 1))
 
-pub relations_built : (a b : List Value) → IsRegularSet a → IsRegularSet b → (AreRelations a b Out → ⊥) → (rows : List (List Value)) → rows ≡ [] ∷ some fits_any (singles (product_of a b)) → (r : Result Outcome AllocError) → IfOk r (λ o. o ≡ Is (SetOf (map SetOf rows))) → IfOk r (AreRelations a b)
+pub relations_built : (a b : List Value) → IsAscending a → IsAscending b → (AreRelations a b Out → ⊥) → (rows : List (List Value)) → rows ≡ [] ∷ some fits_any (singles (product_of a b)) → (r : Result Outcome AllocError) → IfOk r (λ o. o ≡ Is (SetOf (map SetOf rows))) → IfOk r (AreRelations a b)
 unfolding AreRelations
-relations_built a b h k few rows e r g = built_result SetOf (IsRelationThat (λ r. Unit {0}) a b) ([] ∷ some fits_any (singles (product_of a b))) rows (relations_told a b h.ascending k.ascending) few e r g
+relations_built a b h k few rows e r g = built_result SetOf (IsRelationThat (λ r. Unit {0}) a b) ([] ∷ some fits_any (singles (product_of a b))) rows (relations_told a b h k) few e r g
 
--- a relation between regular sets is regular
-pub relation_regular : (P : List Value → Type 0) (a b : List Value) → IsRegularSet a → IsRegularSet b → (z : Value) → IsRelationThat P a b z → IsRegular z
-relation_regular P a b h k z p =
-    subst IsRegular (sym p.1) (regular-SetOf p.0 (record {
-      ascending = p.2;
-      regular = are_regular p.0 (λ u m.
-          let q = p.3 u m in
-          subst IsRegular (sym q.2) (regular-pair q.0 q.1 (regular_member a q.0 h.regular q.3) (regular_member b q.1 k.regular q.4)));
-    }))
+-- a relation ascends
+pub relation_ascends : (P : List Value → Type 0) (a b r : List Value) → IsRelationThat P a b (SetOf r) → IsAscending r
+relation_ascends P a b r p = ascends r p.0 p.1 p.2
 
-pub relations_regular : (a b : List Value) → IsRegularSet a → IsRegularSet b → (r : Result Outcome AllocError) → IfOk r (AreRelations a b) → IfOk r IsRegularOutcome
-unfolding AreRelations
-relations_regular a b h k r g = regular_made (IsRelationThat (λ r. Unit {0}) a b) r (relation_regular (λ r. Unit {0}) a b h k) g
+pub relations_sets : (a b : List Value) → IsAscending a → IsAscending b → (rows : List (List Value)) → rows ≡ [] ∷ some fits_any (singles (product_of a b)) → AreSets rows
+relations_sets a b h k rows e = are_sets (IsRelationThat (λ r. Unit {0}) a b) ([] ∷ some fits_any (singles (product_of a b))) rows (relations_told a b h k) (relation_ascends (λ r. Unit {0}) a b) e

@@ -1,9 +1,9 @@
 -- The subsets of a set are the rows that take some of its members.
-use Rattle.zf_families.proofs.Prelude.{◌+◌, ◌^◌, ◌↔◌, ◌∙◌, ◌∷◌, ◌≡◌, ◌⊎◌, [], inl, inr, length, Less, List, ltb, map, min, refl, Result, subst, suc, sym, ℕ, ⊎_elim, IsTrue, IfOk, AllocError, every_from, not_below_itself, are_regular, regular-SetOf, regular_made, regular_member, IsSubset, IsPower, Every, IsAscending, IsRegular, IsRegularOutcome, IsRegularSet, value_order, AreAmong, SET_MAX, Outcome, Is, Out, SetOf, Value, fits_any, singles, some}
+use Rattle.zf_families.proofs.Prelude.{◌+◌, ◌^◌, ◌↔◌, ◌∙◌, ◌∷◌, ◌≡◌, ◌⊎◌, [], inl, inr, length, Less, List, ltb, map, min, refl, Result, subst, suc, sym, ℕ, ⊎_elim, IfOk, AllocError, every_from, not_below_itself, IsSubset, IsPower, Every, IsAscending, value_order, AreAmong, SET_MAX, SetOf, Value, Outcome, Is, Out, AreSets, fits_any, singles, some}
 use Rattle.zf_families.proofs.Counts.{length_some, sizes_same}
 use Rattle.zf_families.proofs.Lists.{Each, each_map}
 use Rattle.zf_families.proofs.InOrder.{IsLadder, ordered_some}
-use Rattle.zf_families.proofs.Told.{Tells, set_order, out_by_size, built_result}
+use Rattle.zf_families.proofs.Told.{TellsOut, are_sets, ascends, Tells, set_order, out_by_size, built_result}
 use Rattle.zf_families.proofs.Chosen.{Takes, in_some}
 use Rattle.zf_families.proofs.Comparisons.{not_both, below_rest}
 
@@ -63,16 +63,15 @@ power_told a h =
       found = λ z p. (p.0, sym p.1, (chosen p.0 h).1 (p.2, p.3));
     }
 
-pub power_out : (a : List Value) → IsRegularSet a → (count : ℕ) → count ≡ min (2 ^ length a) (SET_MAX + 1) → IsTrue (ltb SET_MAX count) ↔ IsPower a Out
+pub power_out : (a : List Value) → IsAscending a → (count : ℕ) → count ≡ min (2 ^ length a) (SET_MAX + 1) → TellsOut (IsPower a) (ltb SET_MAX count)
 unfolding IsPower
 power_out a h count e =
     let size : length ([] ∷ some fits_any (singles a)) ≡ 2 ^ length a = length_some (singles a) ∙ sizes_same suc 1 (λ x. x ∷ []) a (λ x. refl) in
-    out_by_size SetOf (IsSubset a) ([] ∷ some fits_any (singles a)) (power_told a h.ascending) (2 ^ length a) count size e
+    out_by_size SetOf (IsSubset a) ([] ∷ some fits_any (singles a)) (power_told a h) (2 ^ length a) count size e
 
-pub power_built : (a : List Value) → IsRegularSet a → (IsPower a Out → ⊥) → (rows : List (List Value)) → rows ≡ [] ∷ some fits_any (singles a) → (r : Result Outcome AllocError) → IfOk r (λ o. o ≡ Is (SetOf (map SetOf rows))) → IfOk r (IsPower a)
+pub power_built : (a : List Value) → IsAscending a → (IsPower a Out → ⊥) → (rows : List (List Value)) → rows ≡ [] ∷ some fits_any (singles a) → (r : Result Outcome AllocError) → IfOk r (λ o. o ≡ Is (SetOf (map SetOf rows))) → IfOk r (IsPower a)
 unfolding IsPower
-power_built a h few rows e r k = built_result SetOf (IsSubset a) ([] ∷ some fits_any (singles a)) rows (power_told a h.ascending) few e r k
+power_built a h few rows e r k = built_result SetOf (IsSubset a) ([] ∷ some fits_any (singles a)) rows (power_told a h) few e r k
 
-pub power_regular : (a : List Value) → IsRegularSet a → (r : Result Outcome AllocError) → IfOk r (IsPower a) → IfOk r IsRegularOutcome
-unfolding IsPower AreAmong
-power_regular a h r k = regular_made (IsSubset a) r (λ z p. subst IsRegular (sym p.1) (regular-SetOf p.0 (record { ascending = p.2; regular = are_regular p.0 (λ u m. regular_member a u h.regular (p.3 u m)) }))) k
+pub power_sets : (a : List Value) → IsAscending a → (rows : List (List Value)) → rows ≡ [] ∷ some fits_any (singles a) → AreSets rows
+power_sets a h rows e = are_sets (IsSubset a) ([] ∷ some fits_any (singles a)) rows (power_told a h) (λ r p. ascends r p.0 p.1 p.2) e

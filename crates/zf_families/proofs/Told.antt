@@ -1,5 +1,5 @@
 -- A test that a list of rows answers makes the set of these rows, or is out where they are too many.
-use Rattle.zf_families.proofs.Prelude.{◌+◌, ◌↔◌, ◌∙◌, ◌∷◌, ◌≡◌, ◌≤◌, [], ap, arith, inl, inr, length, Less, List, ltb, map, min, refl, Result, subst, suc, sym, take, zero, ℕ, ⊎_elim, cases_lt, lt-ltb, ltb-true, length-map, length-take-le, IfOk-weaker, IsTrue, IfOk, AllocError, cmp_is, Every, IsAscending, IsMember, IsSetOf, row_order, value_order, SET_MAX, Outcome, Is, Out, out-Value, SetOf, Tuple, Value, Value-F, outs-SetOf, outs-Tuple}
+use Rattle.zf_families.proofs.Prelude.{◌+◌, ◌↔◌, ◌∙◌, ◌∷◌, ◌≡◌, ◌≤◌, ◌⊎◌, [], ap, arith, Bool, inl, inr, length, Less, List, ltb, map, min, refl, Result, subst, suc, sym, take, zero, ℕ, ⊎_elim, cases_lt, lt-ltb, ltb-true, length-map, length-take-le, IfOk-weaker, IsTrue, IfOk, AllocError, cmp_is, members-SetOf, Every, IsAscending, IsMember, IsSetOf, members, row_order, value_order, SET_MAX, out-Value, SetOf, Tuple, Value, Value-F, outs-SetOf, outs-Tuple, Outcome, Is, Out, AllAscend, AreSets}
 use Rattle.zf_value.specs.Order.{level_order}
 use Rattle.zf_value.proofs.Once.{one_set}
 use Rattle.zf_families.proofs.Lists.{Each, In, IsOrdered, ordered_map, ordered_take, in_map, in_from_map}
@@ -35,7 +35,7 @@ pub record Tells (make : List Value → Value) (P : Value → Type 0) (rows : Li
   pub passes : (r : List Value) → In r rows → P (make r)
   pub found : (z : Value) → P z → (r : List Value) × (make r ≡ z) × In r rows
 
-made_ascending : (make : List Value → Value) → ((r s : List Value) → value_order (make r) (make s) ≡ row_order r s) → (rows : List (List Value)) → IsOrdered Below rows → IsAscending (map make rows)
+pub made_ascending : (make : List Value → Value) → ((r s : List Value) → value_order (make r) (make s) ≡ row_order r s) → (rows : List (List Value)) → IsOrdered Below rows → IsAscending (map make rows)
 made_ascending make k rows h = ascending_from (map make rows) (ordered_map Below (λ x y. value_order x y ≡ Less) make rows (λ r s l. k r s ∙ l) h)
 
 pub told : (make : List Value → Value) (P : Value → Type 0) (rows : List (List Value)) → Tells make P rows → length rows ≤ SET_MAX → IsSetOf P (Is (SetOf (map make rows)))
@@ -77,10 +77,17 @@ told_in make P rows t h o = let e = one_set P (Is (SetOf (map make rows))) Out (
 
 -- ---- a size that is counted, and a set that is built
 
-pub out_by_size : (make : List Value → Value) (P : Value → Type 0) (rows : List (List Value)) → Tells make P rows → (n count : ℕ) → length rows ≡ n → count ≡ min n (SET_MAX + 1) → IsTrue (ltb SET_MAX count) ↔ IsSetOf P Out
+-- b tells whether it is out, and where it is not there is a value
+abbrev pub TellsOut : (Outcome → Type 0) → Bool → Type 0
+TellsOut S b = (IsTrue b ↔ S Out) × (IsTrue b ⊎ ((v : Value) × S (Is v)))
+
+pub out_by_size : (make : List Value → Value) (P : Value → Type 0) (rows : List (List Value)) → Tells make P rows → (n count : ℕ) → length rows ≡ n → count ≡ min n (SET_MAX + 1) → TellsOut (IsSetOf P) (ltb SET_MAX count)
 out_by_size make P rows t n count e h = (
-  λ g. let l = ltb-true SET_MAX count g in told_out make P rows t (omega (arith, e, h, l)),
-  λ o. lt-ltb SET_MAX count (⊎_elim (λ l. omega (arith, e, h, l)) (λ l. absurd (told_in make P rows t l o)) (cases_lt SET_MAX (length rows))),
+  (
+    λ g. let l = ltb-true SET_MAX count g in told_out make P rows t (omega (arith, e, h, l)),
+    λ o. lt-ltb SET_MAX count (⊎_elim (λ l. omega (arith, e, h, l)) (λ l. absurd (told_in make P rows t l o)) (cases_lt SET_MAX (length rows))),
+  ),
+  ⊎_elim (λ l. inl (lt-ltb SET_MAX count (omega (arith, e, h, l)))) (λ l. inr (SetOf (map make rows), told make P rows t l)) (cases_lt SET_MAX (length rows)),
 )
 
 built : (make : List Value → Value) (P : Value → Type 0) (rows : List (List Value)) → Tells make P rows → (IsSetOf P Out → ⊥) → IsSetOf P (Is (SetOf (map make rows)))
@@ -88,3 +95,16 @@ built make P rows t few = ⊎_elim (λ l. absurd (few (told_out make P rows t (o
 
 pub built_result : (make : List Value → Value) (P : Value → Type 0) (rows these : List (List Value)) → Tells make P rows → (IsSetOf P Out → ⊥) → these ≡ rows → (r : Result Outcome AllocError) → IfOk r (λ o. o ≡ Is (SetOf (map make these))) → IfOk r (IsSetOf P)
 built_result make P rows these t few e r h = IfOk-weaker r (λ o. o ≡ Is (SetOf (map make these))) (IsSetOf P) (λ o q. subst (IsSetOf P) (ap (λ rs. Is (SetOf (map make rs))) (sym e) ∙ sym q) (built make P rows t few)) h
+
+-- ---- rows of which sets are made
+
+pub ascends : (r xs : List Value) → SetOf r ≡ SetOf xs → IsAscending xs → IsAscending r
+ascends r xs e h = subst IsAscending (sym (members-SetOf xs) ∙ sym (ap members e) ∙ members-SetOf r) h
+
+all_ascend : (rows : List (List Value)) → ((r : List Value) → In r rows → IsAscending r) → AllAscend rows
+all_ascend [] h = tt
+all_ascend (r ∷ rows) h = (h r (inl refl), all_ascend rows (λ s m. h s (inr m)))
+
+-- where only ascending lists make sets of which P holds
+pub are_sets : (P : Value → Type 0) (rows these : List (List Value)) → Tells SetOf P rows → ((r : List Value) → P (SetOf r) → IsAscending r) → these ≡ rows → AreSets these
+are_sets P rows these t h e = subst AreSets (sym e) (all_ascend rows (λ r m. h r (t.passes r m)), made_ascending SetOf t.kept rows t.ordered)

@@ -1,9 +1,9 @@
 -- The tuples of a product are the rows that take a member of each set.
-use Rattle.zf_families.proofs.Prelude.{◌+◌, ◌<◌, ◌↔◌, ◌∙◌, ◌∷◌, ◌≡◌, [], ap, arith, Bool, false, get_or, length, List, ltb, map, min, refl, Result, subst, suc, sym, ℕ, false≢true, nil_from_length, IsTrue, IfOk, AllocError, member_at, regular-Tuple, regular_made, regular_member, regular_none, regular_set, parts-Tuple, AreFrom, IsCross, Every, IsAscending, IsRegular, IsRegularOutcome, IsRegularSet, members, members_at, parts, AreRegular, SET_MAX, Outcome, Is, Out, out-Value, roll-out-Value, roll-Value, SetOf, Tuple, Value, Value-F, rolls-SetOf, sizes, IsTupleFrom, fits_any, whole}
+use Rattle.zf_families.proofs.Prelude.{◌+◌, ◌<◌, ◌↔◌, ◌∙◌, ◌∷◌, ◌≡◌, [], add-one, ap, arith, Bool, false, get_or, length, List, ltb, map, min, refl, Result, subst, suc, sym, take, ℕ, ⊎_elim, false≢true, nil_from_length, IsTrue, IfOk, AllocError, every_at, every_from, members-take_more, parts-Tuple, AreFrom, IsCross, Every, IsAscending, IsMember, members, parts, SET_MAX, SetOf, Tuple, Value, Outcome, Is, Out, sizes, IsTupleFrom, fits_any, whole}
 use Rattle.zf_families.proofs.Counts.{length_whole}
 use Rattle.zf_families.proofs.Lists.{Each, each_map}
 use Rattle.zf_families.proofs.InOrder.{ordered_whole}
-use Rattle.zf_families.proofs.Told.{Tells, tuple_order, out_by_size, built_result}
+use Rattle.zf_families.proofs.Told.{TellsOut, made_ascending, Tells, tuple_order, out_by_size, built_result}
 use Rattle.zf_families.proofs.Chosen.{Takes, in_whole}
 
 abbrev From : List Value → List Value → Type 0
@@ -35,48 +35,18 @@ cross_told sets h =
       found = λ z p. (p.0, sym p.1, (chosen p.0 tt).1 p.2);
     }
 
--- ---- sets that are regular
-
-members_seen : (v : Value) (x : Value-F Value) → out-Value v ≡ x → IsRegular v → IsRegularSet (members v)
-members_seen v (Value-F.SetOf xs) e h = subst IsRegularSet (sym (ap members_at e)) (regular_set xs (subst IsRegular (sym (roll-out-Value v) ∙ ap roll-Value e ∙ rolls-SetOf xs) h))
-members_seen v (Value-F.Int n) e h = subst IsRegularSet (sym (ap members_at e)) regular_none
-members_seen v (Value-F.Elem t i) e h = subst IsRegularSet (sym (ap members_at e)) regular_none
-members_seen v (Value-F.Tuple xs) e h = subst IsRegularSet (sym (ap members_at e)) regular_none
-
-pub regular_members : (v : Value) → IsRegular v → IsRegularSet (members v)
-regular_members v h = members_seen v (out-Value v) refl h
-
-all_ascending : (sets : List Value) → Every IsRegular sets → Every (λ s. IsAscending (members s)) sets
-all_ascending [] h = tt
-all_ascending (s ∷ sets) h = (let r = regular_members s h.0 in r.ascending, all_ascending sets h.1)
-
-ascending_sets : (sets : List Value) → AreRegular sets → Every (λ s. IsAscending (members s)) sets
-unfolding AreRegular
-ascending_sets sets h = all_ascending sets h
-
-parts_regular : (vs sets : List Value) → Every IsRegular sets → AreFrom vs sets → Every IsRegular vs
-parts_regular [] [] h f = tt
-parts_regular [] (s ∷ sets) h f = absurd f
-parts_regular (v ∷ vs) [] h f = absurd f
-parts_regular (v ∷ vs) (s ∷ sets) h f = (let r = regular_members s h.0 in regular_member (members s) v r.regular f.0, parts_regular vs sets h.1 f.1)
-
-from_regular : (vs sets : List Value) → AreRegular sets → AreFrom vs sets → AreRegular vs
-unfolding AreRegular
-from_regular vs sets h f = parts_regular vs sets h f
-
-pub cross_out : (sets : List Value) → AreRegular sets → (count : ℕ) → count ≡ min (sizes (λ n. n) (map members sets)) (SET_MAX + 1) → IsTrue (ltb SET_MAX count) ↔ IsCross sets Out
+pub cross_out : (sets : List Value) → Every (λ s. IsAscending (members s)) sets → (count : ℕ) → count ≡ min (sizes (λ n. n) (map members sets)) (SET_MAX + 1) → TellsOut (IsCross sets) (ltb SET_MAX count)
 unfolding IsCross
 cross_out sets h count e =
-    out_by_size Tuple (λ z. (vs : List Value) × (z ≡ Tuple vs) × AreFrom vs sets) (whole fits_any (map members sets)) (cross_told sets (ascending_sets sets h)) (sizes (λ n. n) (map members sets)) count (length_whole (map members sets)) e
+    out_by_size Tuple (λ z. (vs : List Value) × (z ≡ Tuple vs) × AreFrom vs sets) (whole fits_any (map members sets)) (cross_told sets h) (sizes (λ n. n) (map members sets)) count (length_whole (map members sets)) e
 
-pub cross_built : (sets : List Value) → AreRegular sets → (IsCross sets Out → ⊥) → (rows : List (List Value)) → rows ≡ whole fits_any (map members sets) → (r : Result Outcome AllocError) → IfOk r (λ o. o ≡ Is (SetOf (map Tuple rows))) → IfOk r (IsCross sets)
+pub cross_built : (sets : List Value) → Every (λ s. IsAscending (members s)) sets → (IsCross sets Out → ⊥) → (rows : List (List Value)) → rows ≡ whole fits_any (map members sets) → (r : Result Outcome AllocError) → IfOk r (λ o. o ≡ Is (SetOf (map Tuple rows))) → IfOk r (IsCross sets)
 unfolding IsCross
 cross_built sets h few rows e r k =
-    built_result Tuple (λ z. (vs : List Value) × (z ≡ Tuple vs) × AreFrom vs sets) (whole fits_any (map members sets)) rows (cross_told sets (ascending_sets sets h)) few e r k
+    built_result Tuple (λ z. (vs : List Value) × (z ≡ Tuple vs) × AreFrom vs sets) (whole fits_any (map members sets)) rows (cross_told sets h) few e r k
 
-pub cross_regular : (sets : List Value) → AreRegular sets → (r : Result Outcome AllocError) → IfOk r (IsCross sets) → IfOk r IsRegularOutcome
-unfolding IsCross
-cross_regular sets h r k = regular_made (λ z. (vs : List Value) × (z ≡ Tuple vs) × AreFrom vs sets) r (λ z p. subst IsRegular (sym p.1) (regular-Tuple p.0 (from_regular p.0 sets h p.2))) k
+pub tuples_ascend : (sets : List Value) → Every (λ s. IsAscending (members s)) sets → (rows : List (List Value)) → rows ≡ whole fits_any (map members sets) → IsAscending (map Tuple rows)
+tuples_ascend sets h rows e = let t = cross_told sets h in subst (λ rs. IsAscending (map Tuple rs)) (sym e) (made_ascending Tuple t.kept (whole fits_any (map members sets)) t.ordered)
 
 -- where the product is empty there is no row
 pub no_tuples : (sets : List Value) (size c : ℕ) → size ≡ min (sizes (λ n. n) (map members sets)) (c + 1) → size ≡ 0 → whole fits_any (map members sets) ≡ []
@@ -101,5 +71,6 @@ as_many [] (s ∷ sets) f = absurd f
 as_many (v ∷ vs) [] f = absurd f
 as_many (v ∷ vs) (s ∷ sets) f = ap suc (as_many vs sets f.1)
 
-pub regular_at : (sets : List Value) (i : ℕ) (s : Value) → AreRegular sets → s ≡ get_or sets i s → i < length sets → IsRegular s
-regular_at sets i s h e l = regular_member sets s h (member_at sets i s e l)
+-- what holds of the first and of the next
+pub every_next : (P : Value → Type 0) (xs : List Value) (i : ℕ) (x : Value) → i < length xs → x ≡ get_or xs i x → P x → Every P (take i xs) → Every P (take (i + 1) xs)
+every_next P xs i x l e p h = every_from P (take (i + 1) xs) (λ z m. ⊎_elim (λ n. every_at P (take i xs) z h n) (λ s. subst P s p) ((members-take_more xs i x e l z).0 (subst (λ n. IsMember z (take n xs)) (add-one i) m)))

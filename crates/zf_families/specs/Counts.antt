@@ -1,6 +1,6 @@
 -- How many rows and injections there are. No public clause rests on this file.
 use Rattle.std.specs.Prelude.{ℕ, zero, suc, ◌+◌, ◌-◌, ◌*◌, min, List, [], ◌∷◌, length}
-use Rattle.zf_value.specs.declared.value.Value.{Value}
+use Rattle.zf_value.specs.declared.plain.Value.{Value}
 use Rattle.zf_value.specs.declared.TheConstants.{SET_MAX}
 
 -- the sizes of these layers, each counted as is said, multiplied

@@ -1,6 +1,6 @@
 -- What the members of products and of sets of relations are, each as a word.
 use Rattle.std.specs.Prelude.{◌≡◌, List}
-use Rattle.zf_value.specs.declared.value.Value.{Value, Tuple}
+use Rattle.zf_value.specs.declared.plain.Value.{Value, Tuple}
 use Rattle.zf_value.specs.Operations.{AreFrom, IsFunctional, IsInjective, IsTotal, IsRelationThat}
 
 -- a tuple of members of these sets

@@ -2,9 +2,9 @@
 use Rattle.std.specs.Prelude.{Bool, true, not, List, [], ◌∷◌, ◌++◌, map, filter}
 use Rattle.std.specs.List.{flat_map, list_all}
 use Rattle.std.specs.Ordering.{is_eq}
-use Rattle.zf_value.specs.declared.value.Value.{Value, out-Value}
-use Rattle.zf_value.specs.declared.value.Value.TheOpen.{Value-F}
-use Rattle.zf_value.specs.Sets.{value_order}
+use Rattle.zf_value.specs.declared.plain.Value.{Value, SetOf, out-Value}
+use Rattle.zf_value.specs.declared.plain.Value.TheOpen.{Value-F}
+use Rattle.zf_value.specs.Sets.{value_order, IsAscending}
 use Rattle.zf_value.specs.Operations.{pair}
 use Rattle.zf_families.specs.declared.rows.Fits.{Fits}
 use Rattle.zf_families.specs.declared.rows.Fits.TheVariants.{Any, Apart}
@@ -54,3 +54,12 @@ fits_apart p r = list_all (λ q. not (is_eq (value_order (second p) (second q)))
 abbrev pub fitting : Fits → Value → List Value → Bool
 fitting Any = fits_any
 fitting Apart = fits_apart
+
+-- each row ascends
+abbrev pub AllAscend : List (List Value) → Type 0
+AllAscend [] = Unit {0}
+AllAscend (r ∷ rs) = IsAscending r × AllAscend rs
+
+-- the rows are the members of sets, and these sets ascend
+abbrev pub AreSets : List (List Value) → Type 0
+AreSets rows = AllAscend rows × IsAscending (map SetOf rows)

@@ -1,8 +1,8 @@
 -- What the tests of members go by. No public clause rests on this file.
 use Rattle.std.specs.Prelude.{◌≡◌, Bool, true, ◌&&◌, List, [], ◌∷◌}
 use Rattle.std.specs.Ordering.{is_lt}
-use Rattle.zf_value.specs.declared.value.Value.{Value, out-Value}
-use Rattle.zf_value.specs.declared.value.Value.TheOpen.{Value-F}
+use Rattle.zf_value.specs.declared.plain.Value.{Value, out-Value}
+use Rattle.zf_value.specs.declared.plain.Value.TheOpen.{Value-F}
 use Rattle.zf_value.specs.Sets.{value_order, IsMember}
 use Rattle.zf_value.specs.Operations.{pair, IsBetween, IsFunctional, IsInjective}
 use Rattle.zf_families.specs.Selections.{fits_apart}

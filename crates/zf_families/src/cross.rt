@@ -1,7 +1,8 @@
 //! Products.
-ghost use Rattle.std.specs.Prelude.{◌≡◌, ◌+◌, ◌↔◌, IsTrue, IfOk, map, min};
+ghost use Rattle.std.specs.Prelude.{◌≡◌, ◌+◌, ◌↔◌, ◌⊎◌, IsTrue, IfOk, map, min};
+ghost use Rattle.zf_value.specs.declared.plain.Value as plain;
 ghost use Rattle.zf_value.specs.Operations.{IsCross, AreFrom};
-ghost use Rattle.zf_value.specs.Sets.{AreRegular, IsRegularOutcome, members};
+ghost use Rattle.zf_value.specs.Sets.{Every, IsAscending, members};
 ghost use Rattle.zf_families.specs.Counts.{sizes};
 ghost use Rattle.zf_families.specs.Families.{IsTupleFrom};
 ghost use Rattle.zf_families.specs.Selections.{whole, fits_any};
@@ -17,9 +18,7 @@ use zf_value::value::{Outcome, Value};
 
 /// `s_1 \cross s_2 \cross ..`, of sets.
 pub fn cross(alloc: Global, sets: &[Lent<'_>]) -> Result<Outcome, AllocError>
-    requires { AreRegular sets.now }
-    ensures is { IfOk result (IsCross sets.now) }
-    ensures regular { IfOk result IsRegularOutcome }
+    ensures { IfOk result (IsCross sets.now) }
 {
     if is_cross_out(sets) {
         return Ok(Outcome::Out);
@@ -30,33 +29,31 @@ pub fn cross(alloc: Global, sets: &[Lent<'_>]) -> Result<Outcome, AllocError>
 
 /// Whether the product has more members than a set may have.
 pub fn is_cross_out(sets: &[Lent<'_>]) -> bool
-    requires { AreRegular sets.now }
-    ensures { IsTrue result ↔ IsCross sets.now Outcome.Out }
+    ensures out { IsTrue result ↔ IsCross sets.now Outcome.Out }
+    ensures there { IsTrue result ⊎ ((v : plain.Value) × IsCross sets.now (Outcome.Is v)) }
 {
     size(sets) > SET_MAX
 }
 
 /// Whether the value is a tuple of members of these sets.
 pub fn is_in_cross(v: &Value, sets: &[Lent<'_>]) -> bool
-    requires { AreRegular sets.now }
     ensures { IsTrue result ↔ IsTupleFrom sets.now v.now }
 {
-    match v {
-        Value::Tuple(parts) => are_from(parts.as_slice(), sets),
-        _ => false,
+    match v.as_tuple() {
+        Some(parts) => are_from(parts, sets),
+        None => false,
     }
 }
 
 /// Whether each is a member of the set at its place.
 fn are_from(parts: &[Value], sets: &[Lent<'_>]) -> bool
-    requires { AreRegular sets.now }
     ensures { IsTrue result ↔ AreFrom parts.now sets.now }
 {
     if parts.len() != sets.len() {
         return false;
     }
     for place in 0..parts.len() {
-        if !is_member(&parts[place], sets[place].get().members()) {
+        if !is_member(&parts[place], sets[place].get()) {
             return false;
         }
     }
@@ -65,7 +62,8 @@ fn are_from(parts: &[Value], sets: &[Lent<'_>]) -> bool
 
 /// How many members the product has, counted no further than one more than a set may have.
 fn size(sets: &[Lent<'_>]) -> usize
-    ensures { result ≡ min (sizes (λ n. n) (map members sets.now)) (SET_MAX + 1) }
+    ensures is { result ≡ min (sizes (λ n. n) (map members sets.now)) (SET_MAX + 1) }
+    ensures ascending { Every (λ s. IsAscending (members s)) sets.now }
 {
     let mut size = 1;
     for set in sets {
@@ -76,7 +74,8 @@ fn size(sets: &[Lent<'_>]) -> usize
 
 /// The tuples as rows. Where a set is empty there are none, however many the others would make.
 fn tuple_rows(alloc: Global, sets: &[Lent<'_>]) -> Result<Vec<Items<Value>>, AllocError>
-    ensures { IfOk result (λ rows. rows.items ≡ whole fits_any (map members sets.now)) }
+    ensures is { IfOk result (λ rows. rows.items ≡ whole fits_any (map members sets.now)) }
+    ensures ascending { IfOk result (λ rows. Every (λ s. IsAscending (members s)) sets.now) }
 {
     if size(sets) == 0 {
         return Ok(Vec::new(alloc));

@@ -1,7 +1,8 @@
 //! Relations and functions from a set to a set.
-ghost use Rattle.std.specs.Prelude.{◌≡◌, ◌∷◌, [], ◌↔◌, IsTrue, IfOk, map};
+ghost use Rattle.std.specs.Prelude.{◌≡◌, ◌∷◌, [], ◌↔◌, ◌⊎◌, IsTrue, IfOk, map};
+ghost use Rattle.zf_value.specs.declared.plain.Value as plain;
 ghost use Rattle.zf_value.specs.Operations.{pair, AreRelations, ArePartialFunctions, AreTotalFunctions};
-ghost use Rattle.zf_value.specs.Sets.{IsRegular, IsRegularSet, IsRegularOutcome};
+ghost use Rattle.zf_value.specs.Sets.{members};
 ghost use Rattle.zf_families.specs.Families.{IsRelation, IsPartialFunction, IsTotalFunction};
 ghost use Rattle.zf_families.specs.Selections.{whole, fits_any, pairs};
 
@@ -16,114 +17,93 @@ use zf_value::items::Items;
 use zf_value::value::{Outcome, Value};
 
 /// `a \rel b`.
-pub fn relations(alloc: Global, a: &[Value], b: &[Value]) -> Result<Outcome, AllocError>
-    requires from { IsRegularSet a.now }
-    requires to { IsRegularSet b.now }
-    ensures is { IfOk result (AreRelations a.now b.now) }
-    ensures regular { IfOk result IsRegularOutcome }
+pub fn relations(alloc: Global, a: &Value, b: &Value) -> Result<Outcome, AllocError>
+    ensures { IfOk result (AreRelations (members a.now) (members b.now)) }
 {
     if are_relations_out(a, b) {
         return Ok(Outcome::Out);
     }
-    let pairs = product(alloc, a, b)?;
+    let pairs = product(alloc, a.members(), b.members())?;
     let layers = single_layers(alloc, pairs.as_slice())?;
     let rows = some_rows(alloc, Fits::Any, layers.as_slice())?;
     set_of_sets(alloc, rows)
 }
 
 /// Whether `a \rel b` has more members than a set may have.
-pub fn are_relations_out(a: &[Value], b: &[Value]) -> bool
-    requires from { IsRegularSet a.now }
-    requires to { IsRegularSet b.now }
-    ensures { IsTrue result ↔ AreRelations a.now b.now Outcome.Out }
+pub fn are_relations_out(a: &Value, b: &Value) -> bool
+    ensures out { IsTrue result ↔ AreRelations (members a.now) (members b.now) Outcome.Out }
+    ensures there { IsTrue result ⊎ ((v : plain.Value) × AreRelations (members a.now) (members b.now) (Outcome.Is v)) }
 {
-    let pairs = count::product(a.len(), b.len());
+    let pairs = count::product(a.members().len(), b.members().len());
     count::power(2, pairs) > SET_MAX
 }
 
 /// Whether the value is a relation from a to b.
-pub fn is_relation(v: &Value, a: &[Value], b: &[Value]) -> bool
-    requires value { IsRegular v.now }
-    requires from { IsRegularSet a.now }
-    requires to { IsRegularSet b.now }
-    ensures { IsTrue result ↔ IsRelation a.now b.now v.now }
+pub fn is_relation(v: &Value, a: &Value, b: &Value) -> bool
+    ensures { IsTrue result ↔ IsRelation (members a.now) (members b.now) v.now }
 {
-    match v {
-        Value::SetOf(r) => is_between(r.as_slice(), a, b),
-        _ => false,
+    match v.as_set() {
+        Some(r) => is_between(r, a, b),
+        None => false,
     }
 }
 
 /// `a \pfun b`.
-pub fn partial_functions(alloc: Global, a: &[Value], b: &[Value]) -> Result<Outcome, AllocError>
-    requires from { IsRegularSet a.now }
-    requires to { IsRegularSet b.now }
-    ensures is { IfOk result (ArePartialFunctions a.now b.now) }
-    ensures regular { IfOk result IsRegularOutcome }
+pub fn partial_functions(alloc: Global, a: &Value, b: &Value) -> Result<Outcome, AllocError>
+    ensures { IfOk result (ArePartialFunctions (members a.now) (members b.now)) }
 {
     if are_partial_functions_out(a, b) {
         return Ok(Outcome::Out);
     }
-    let layers = pair_layers(alloc, a, b)?;
+    let layers = pair_layers(alloc, a.members(), b.members())?;
     let rows = some_rows(alloc, Fits::Any, layers.as_slice())?;
     set_of_sets(alloc, rows)
 }
 
 /// Whether `a \pfun b` has more members than a set may have.
-pub fn are_partial_functions_out(a: &[Value], b: &[Value]) -> bool
-    requires from { IsRegularSet a.now }
-    requires to { IsRegularSet b.now }
-    ensures { IsTrue result ↔ ArePartialFunctions a.now b.now Outcome.Out }
+pub fn are_partial_functions_out(a: &Value, b: &Value) -> bool
+    ensures out { IsTrue result ↔ ArePartialFunctions (members a.now) (members b.now) Outcome.Out }
+    ensures there { IsTrue result ⊎ ((v : plain.Value) × ArePartialFunctions (members a.now) (members b.now) (Outcome.Is v)) }
 {
-    count::power(b.len() + 1, a.len()) > SET_MAX
+    count::power(b.members().len() + 1, a.members().len()) > SET_MAX
 }
 
 /// Whether the value is a partial function from a to b.
-pub fn is_partial_function(v: &Value, a: &[Value], b: &[Value]) -> bool
-    requires value { IsRegular v.now }
-    requires from { IsRegularSet a.now }
-    requires to { IsRegularSet b.now }
-    ensures { IsTrue result ↔ IsPartialFunction a.now b.now v.now }
+pub fn is_partial_function(v: &Value, a: &Value, b: &Value) -> bool
+    ensures { IsTrue result ↔ IsPartialFunction (members a.now) (members b.now) v.now }
 {
-    match v {
-        Value::SetOf(r) => is_function(r.as_slice(), a, b),
-        _ => false,
+    match v.as_set() {
+        Some(r) => is_function(r, a, b),
+        None => false,
     }
 }
 
 /// `a \fun b`.
-pub fn total_functions(alloc: Global, a: &[Value], b: &[Value]) -> Result<Outcome, AllocError>
-    requires from { IsRegularSet a.now }
-    requires to { IsRegularSet b.now }
-    ensures is { IfOk result (AreTotalFunctions a.now b.now) }
-    ensures regular { IfOk result IsRegularOutcome }
+pub fn total_functions(alloc: Global, a: &Value, b: &Value) -> Result<Outcome, AllocError>
+    ensures { IfOk result (AreTotalFunctions (members a.now) (members b.now)) }
 {
     if are_total_functions_out(a, b) {
         return Ok(Outcome::Out);
     }
-    let rows = total_rows(alloc, a, b)?;
+    let rows = total_rows(alloc, a.members(), b.members())?;
     set_of_sets(alloc, rows)
 }
 
 /// Whether `a \fun b` has more members than a set may have.
-pub fn are_total_functions_out(a: &[Value], b: &[Value]) -> bool
-    requires from { IsRegularSet a.now }
-    requires to { IsRegularSet b.now }
-    ensures { IsTrue result ↔ AreTotalFunctions a.now b.now Outcome.Out }
+pub fn are_total_functions_out(a: &Value, b: &Value) -> bool
+    ensures out { IsTrue result ↔ AreTotalFunctions (members a.now) (members b.now) Outcome.Out }
+    ensures there { IsTrue result ⊎ ((v : plain.Value) × AreTotalFunctions (members a.now) (members b.now) (Outcome.Is v)) }
 {
-    count::power(b.len(), a.len()) > SET_MAX
+    count::power(b.members().len(), a.members().len()) > SET_MAX
 }
 
 /// Whether the value is a function from all of a to b.
-pub fn is_total_function(v: &Value, a: &[Value], b: &[Value]) -> bool
-    requires value { IsRegular v.now }
-    requires from { IsRegularSet a.now }
-    requires to { IsRegularSet b.now }
-    ensures { IsTrue result ↔ IsTotalFunction a.now b.now v.now }
+pub fn is_total_function(v: &Value, a: &Value, b: &Value) -> bool
+    ensures { IsTrue result ↔ IsTotalFunction (members a.now) (members b.now) v.now }
 {
-    match v {
-        Value::SetOf(r) => is_graph(r.as_slice(), a, b),
-        _ => false,
+    match v.as_set() {
+        Some(r) => is_graph(r, a.members(), b),
+        None => false,
     }
 }
 

@@ -1,7 +1,8 @@
 //! Injections from a set to a set.
-ghost use Rattle.std.specs.Prelude.{◌≡◌, [], ◌∷◌, ◌↔◌, IsTrue, IfOk, map};
+ghost use Rattle.std.specs.Prelude.{◌≡◌, [], ◌∷◌, ◌↔◌, ◌⊎◌, IsTrue, IfOk, map};
+ghost use Rattle.zf_value.specs.declared.plain.Value as plain;
 ghost use Rattle.zf_value.specs.Operations.{pair, ArePartialInjections, AreTotalInjections};
-ghost use Rattle.zf_value.specs.Sets.{IsRegular, IsRegularSet, IsRegularOutcome};
+ghost use Rattle.zf_value.specs.Sets.{members, IsAscending};
 ghost use Rattle.zf_families.specs.Families.{IsPartialInjection, IsTotalInjection};
 ghost use Rattle.zf_families.specs.Selections.{whole, some, fits_apart, pairs};
 
@@ -14,74 +15,60 @@ use zf_value::items::Items;
 use zf_value::value::{Outcome, Value};
 
 /// `a \pinj b`.
-pub fn partial_injections(alloc: Global, a: &[Value], b: &[Value]) -> Result<Outcome, AllocError>
-    requires from { IsRegularSet a.now }
-    requires to { IsRegularSet b.now }
-    ensures is { IfOk result (ArePartialInjections a.now b.now) }
-    ensures regular { IfOk result IsRegularOutcome }
+pub fn partial_injections(alloc: Global, a: &Value, b: &Value) -> Result<Outcome, AllocError>
+    ensures { IfOk result (ArePartialInjections (members a.now) (members b.now)) }
 {
     if are_partial_injections_out(a, b) {
         return Ok(Outcome::Out);
     }
-    let rows = partial_rows(alloc, a, b)?;
+    let rows = partial_rows(alloc, a.members(), b.members())?;
     set_of_sets(alloc, rows)
 }
 
 /// Whether `a \pinj b` has more members than a set may have.
-pub fn are_partial_injections_out(a: &[Value], b: &[Value]) -> bool
-    requires from { IsRegularSet a.now }
-    requires to { IsRegularSet b.now }
-    ensures { IsTrue result ↔ ArePartialInjections a.now b.now Outcome.Out }
+pub fn are_partial_injections_out(a: &Value, b: &Value) -> bool
+    ensures out { IsTrue result ↔ ArePartialInjections (members a.now) (members b.now) Outcome.Out }
+    ensures there { IsTrue result ⊎ ((v : plain.Value) × ArePartialInjections (members a.now) (members b.now) (Outcome.Is v)) }
 {
-    count::partial_injections(a.len(), b.len()) > SET_MAX
+    count::partial_injections(a.members().len(), b.members().len()) > SET_MAX
 }
 
 /// Whether the value is a partial injection from a to b.
-pub fn is_partial_injection(v: &Value, a: &[Value], b: &[Value]) -> bool
-    requires value { IsRegular v.now }
-    requires from { IsRegularSet a.now }
-    requires to { IsRegularSet b.now }
-    ensures { IsTrue result ↔ IsPartialInjection a.now b.now v.now }
+pub fn is_partial_injection(v: &Value, a: &Value, b: &Value) -> bool
+    ensures { IsTrue result ↔ IsPartialInjection (members a.now) (members b.now) v.now }
 {
-    match v {
-        Value::SetOf(r) => is_injection(r.as_slice(), a, b),
-        _ => false,
+    match v.as_set() {
+        Some(r) => is_injection(r, a, b),
+        None => false,
     }
 }
 
 /// `a \inj b`.
-pub fn total_injections(alloc: Global, a: &[Value], b: &[Value]) -> Result<Outcome, AllocError>
-    requires from { IsRegularSet a.now }
-    requires to { IsRegularSet b.now }
-    ensures is { IfOk result (AreTotalInjections a.now b.now) }
-    ensures regular { IfOk result IsRegularOutcome }
+pub fn total_injections(alloc: Global, a: &Value, b: &Value) -> Result<Outcome, AllocError>
+    ensures { IfOk result (AreTotalInjections (members a.now) (members b.now)) }
 {
     if are_total_injections_out(a, b) {
         return Ok(Outcome::Out);
     }
-    let rows = total_rows(alloc, a, b)?;
+    let rows = total_rows(alloc, a.members(), b.members())?;
     set_of_sets(alloc, rows)
 }
 
 /// Whether `a \inj b` has more members than a set may have.
-pub fn are_total_injections_out(a: &[Value], b: &[Value]) -> bool
-    requires from { IsRegularSet a.now }
-    requires to { IsRegularSet b.now }
-    ensures { IsTrue result ↔ AreTotalInjections a.now b.now Outcome.Out }
+pub fn are_total_injections_out(a: &Value, b: &Value) -> bool
+    ensures out { IsTrue result ↔ AreTotalInjections (members a.now) (members b.now) Outcome.Out }
+    ensures there { IsTrue result ⊎ ((v : plain.Value) × AreTotalInjections (members a.now) (members b.now) (Outcome.Is v)) }
 {
-    count::falling(b.len(), a.len()) > SET_MAX
+    count::falling(b.members().len(), a.members().len()) > SET_MAX
 }
 
 /// Whether the value is an injection from all of a to b.
-pub fn is_total_injection(v: &Value, a: &[Value], b: &[Value]) -> bool
-    requires value { IsRegular v.now }
-    requires from { IsRegularSet a.now }
-    requires to { IsRegularSet b.now }
-    ensures { IsTrue result ↔ IsTotalInjection a.now b.now v.now }
+pub fn is_total_injection(v: &Value, a: &Value, b: &Value) -> bool
+    ensures { IsTrue result ↔ IsTotalInjection (members a.now) (members b.now) v.now }
 {
-    match v {
-        Value::SetOf(r) => is_graph(r.as_slice(), a, b) && are_seconds_apart(r.as_slice()),
-        _ => false,
+    match v.as_set() {
+        Some(r) => is_graph(r, a.members(), b) && are_seconds_apart(r),
+        None => false,
     }
 }
 
@@ -98,7 +85,7 @@ fn partial_rows(alloc: Global, a: &[Value], b: &[Value]) -> Result<Vec<Items<Val
 
 /// The total injections as rows of pairs. From a larger set there are none, however many a part of it would make.
 fn total_rows(alloc: Global, a: &[Value], b: &[Value]) -> Result<Vec<Items<Value>>, AllocError>
-    requires { IsRegularSet b.now }
+    requires { IsAscending b.now }
     ensures { IfOk result (λ rows. rows.items ≡ whole fits_apart (map (pairs b.now) a.now)) }
 {
     if a.len() > b.len() {

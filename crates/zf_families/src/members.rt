@@ -1,19 +1,17 @@
 //! What the members of a relation are, tested without building anything.
 ghost use Rattle.std.specs.Prelude.{◌≡◌, ◌↔◌, IsTrue};
 ghost use Rattle.zf_value.specs.Operations.{IsBetween};
-ghost use Rattle.zf_value.specs.Sets.{IsAscending, IsRegularSet};
+ghost use Rattle.zf_value.specs.Sets.{members, IsAscending};
 ghost use Rattle.zf_families.specs.Tests as tests;
 ghost use Rattle.zf_families.specs.Tests.{IsPairFrom, IsPairOn, IsGraph, IsFunctionFrom, IsInjectionFrom, firsts_rise, seconds_apart};
 
 use crate::rows::is_apart;
 use zf_value::set::is_member;
-use zf_value::value::Value;
+use zf_value::value::{Form, Value};
 
 /// Whether the pairs go from the one set to the other.
-pub fn is_between(r: &[Value], a: &[Value], b: &[Value]) -> bool
-    requires from { IsRegularSet a.now }
-    requires to { IsRegularSet b.now }
-    ensures { IsTrue result ↔ IsBetween a.now b.now r.now }
+pub fn is_between(r: &[Value], a: &Value, b: &Value) -> bool
+    ensures { IsTrue result ↔ IsBetween (members a.now) (members b.now) r.now }
 {
     for z in r {
         if !is_pair_from(z, a, b) {
@@ -23,10 +21,8 @@ pub fn is_between(r: &[Value], a: &[Value], b: &[Value]) -> bool
     true
 }
 
-fn is_pair_from(z: &Value, a: &[Value], b: &[Value]) -> bool
-    requires from { IsRegularSet a.now }
-    requires to { IsRegularSet b.now }
-    ensures { IsTrue result ↔ IsPairFrom a.now b.now z.now }
+fn is_pair_from(z: &Value, a: &Value, b: &Value) -> bool
+    ensures { IsTrue result ↔ IsPairFrom (members a.now) (members b.now) z.now }
 {
     match z.pair() {
         Some((x, y)) => is_member(x, a) && is_member(y, b),
@@ -35,9 +31,8 @@ fn is_pair_from(z: &Value, a: &[Value], b: &[Value]) -> bool
 }
 
 /// Whether the pairs take each member of the one set, in its order, to a member of the other.
-pub fn is_graph(r: &[Value], a: &[Value], b: &[Value]) -> bool
-    requires { IsRegularSet b.now }
-    ensures { IsTrue result ↔ IsGraph b.now a.now r.now }
+pub fn is_graph(r: &[Value], a: &[Value], b: &Value) -> bool
+    ensures { IsTrue result ↔ IsGraph (members b.now) a.now r.now }
 {
     if r.len() != a.len() {
         return false;
@@ -50,9 +45,8 @@ pub fn is_graph(r: &[Value], a: &[Value], b: &[Value]) -> bool
     true
 }
 
-fn is_pair_on(z: &Value, x: &Value, b: &[Value]) -> bool
-    requires { IsRegularSet b.now }
-    ensures { IsTrue result ↔ IsPairOn x.now b.now z.now }
+fn is_pair_on(z: &Value, x: &Value, b: &Value) -> bool
+    ensures { IsTrue result ↔ IsPairOn x.now (members b.now) z.now }
 {
     match z.pair() {
         Some((u, y)) => u.equals(x) && is_member(y, b),
@@ -76,8 +70,8 @@ fn do_firsts_rise(r: &[Value]) -> bool
 fn first(z: &Value) -> &Value
     ensures { result.now ≡ tests.first z.now }
 {
-    match z {
-        Value::Tuple(items) => match items.as_slice() {
+    match z.form() {
+        Form::Tuple(items) => match items.as_slice() {
             [x, _] => x,
             _ => z,
         },
@@ -98,21 +92,17 @@ pub fn are_seconds_apart(r: &[Value]) -> bool
 }
 
 /// Whether the pairs are a function between the two sets.
-pub fn is_function(r: &[Value], a: &[Value], b: &[Value]) -> bool
-    requires pairs { IsAscending r.now }
-    requires from { IsRegularSet a.now }
-    requires to { IsRegularSet b.now }
-    ensures { IsTrue result ↔ IsFunctionFrom a.now b.now r.now }
+pub fn is_function(r: &[Value], a: &Value, b: &Value) -> bool
+    requires { IsAscending r.now }
+    ensures { IsTrue result ↔ IsFunctionFrom (members a.now) (members b.now) r.now }
 {
     is_between(r, a, b) && do_firsts_rise(r)
 }
 
 /// Whether the pairs are an injection between the two sets.
-pub fn is_injection(r: &[Value], a: &[Value], b: &[Value]) -> bool
-    requires pairs { IsAscending r.now }
-    requires from { IsRegularSet a.now }
-    requires to { IsRegularSet b.now }
-    ensures { IsTrue result ↔ IsInjectionFrom a.now b.now r.now }
+pub fn is_injection(r: &[Value], a: &Value, b: &Value) -> bool
+    requires { IsAscending r.now }
+    ensures { IsTrue result ↔ IsInjectionFrom (members a.now) (members b.now) r.now }
 {
     is_function(r, a, b) && are_seconds_apart(r)
 }

@@ -3,13 +3,14 @@ ghost use Rattle.std.specs.Prelude.{◌≡◌, ◌<◌, [], ◌∷◌, ◌++◌,
 ghost use Rattle.std.specs.List.{flat_map};
 ghost use Rattle.std.specs.Ordering.{is_eq};
 ghost use Rattle.zf_value.specs.Operations.{pair};
-ghost use Rattle.zf_value.specs.Sets.{value_order};
+ghost use Rattle.zf_value.specs.Sets.{value_order, IsAscending};
+ghost use Rattle.zf_value.specs.declared.plain.Value.{Tuple, SetOf};
 ghost use Rattle.zf_families.specs.Selections as rows;
-ghost use Rattle.zf_families.specs.Selections.{fitting, extended, extensions, whole, some, singles, pairs};
+ghost use Rattle.zf_families.specs.Selections.{fitting, extended, extensions, whole, some, singles, pairs, AreSets};
 
 use std::alloc::{AllocError, Global};
 use zf_value::items::Items;
-use zf_value::value::{Outcome, Value};
+use zf_value::value::{Form, Outcome, Value};
 
 /// Which items may stand before a row.
 #[derive(Clone, Copy)]
@@ -183,8 +184,8 @@ fn have_one_second(p: &Value, q: &Value) -> bool
 fn second(p: &Value) -> &Value
     ensures { result.now ≡ rows.second p.now }
 {
-    match p {
-        Value::Tuple(items) => match items.as_slice() {
+    match p.form() {
+        Form::Tuple(items) => match items.as_slice() {
             [_, y] => y,
             _ => p,
         },
@@ -248,27 +249,39 @@ pub fn pair(alloc: Global, x: &Value, y: &Value) -> Result<Value, AllocError>
     let mut parts = Vec::with_capacity(alloc, 2)?;
     parts.push(x.copy(alloc)?)?;
     parts.push(y.copy(alloc)?)?;
-    Ok(Value::Tuple(Items::of(alloc, parts)?))
+    Ok(Value {
+        form: Form::Tuple(Items::of(alloc, parts)?),
+    })
 }
 
 /// The set of the sets that have these members.
 pub fn set_of_sets(alloc: Global, rows: Vec<Items<Value>>) -> Result<Outcome, AllocError>
-    ensures { IfOk result (λ o. o ≡ Outcome.Is (Value.SetOf (map Value.SetOf rows.items))) }
+    requires { AreSets rows.items }
+    ensures { IfOk result (λ o. o ≡ Outcome.Is (SetOf (map SetOf rows.items))) }
 {
     let mut members = Vec::new(alloc);
     for row in rows {
-        members.push(Value::SetOf(row))?;
+        members.push(Value {
+            form: Form::SetOf(row),
+        })?;
     }
-    Ok(Outcome::Is(Value::SetOf(Items::of(alloc, members)?)))
+    Ok(Outcome::Is(Value {
+        form: Form::SetOf(Items::of(alloc, members)?),
+    }))
 }
 
 /// The set of the tuples that have these parts.
 pub fn set_of_tuples(alloc: Global, rows: Vec<Items<Value>>) -> Result<Outcome, AllocError>
-    ensures { IfOk result (λ o. o ≡ Outcome.Is (Value.SetOf (map Value.Tuple rows.items))) }
+    requires { IsAscending (map Tuple rows.items) }
+    ensures { IfOk result (λ o. o ≡ Outcome.Is (SetOf (map Tuple rows.items))) }
 {
     let mut members = Vec::new(alloc);
     for row in rows {
-        members.push(Value::Tuple(row))?;
+        members.push(Value {
+            form: Form::Tuple(row),
+        })?;
     }
-    Ok(Outcome::Is(Value::SetOf(Items::of(alloc, members)?)))
+    Ok(Outcome::Is(Value {
+        form: Form::SetOf(Items::of(alloc, members)?),
+    }))
 }

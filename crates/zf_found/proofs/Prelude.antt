@@ -13,7 +13,7 @@ pub use Rattle.zf_walk.specs.Tests.{cut, IsBound, IsNumber, IsNumberOfTests, IsP
 pub use Rattle.zf_walk.specs.declared.judge.Truth.{Truth}
 pub use Rattle.zf_walk.specs.declared.judge.Truth.TheVariants.{False, Out, True}
 pub use Rattle.zf_value.specs.Sets.{Every, IsAscending, IsMember, members, parts, value_order}
-pub use Rattle.zf_value.specs.declared.value.Value.{Elem, Int, SetOf, Tuple, Value}
+pub use Rattle.zf_value.specs.declared.plain.Value.{Elem, Int, SetOf, Tuple, Value}
 pub use Rattle.zf_term.specs.Definitions.{carrier, Comp, DeclaredSet, DeclaredSets, no_sets, plain, Schema, set, sets_of, sides}
 pub use Rattle.zf_term.specs.ResolvedTrees.{ResolvedTree}
 pub use Rattle.zf_term.specs.Types.{basic, has_numbers, int, no_types, power, product, Ty, type, Tys}

@@ -1,6 +1,6 @@
 -- The property of a schema has one truth on each row, so a search has events and a number of tests.
 use Rattle.zf_found.proofs.Prelude.{◌<◌, ◌∷◌, ◌≡◌, [], arith, Bool, false, inl, inr, length, List, None, Option, refl, Some, subst, suc, true, zero, ℕ, ⊎_elim, slice_get, Event, IsEvents, cut, False, Out, True, value_order, Value, Schema, ResolvedTree, Environment, IsTruth, Decided, HasSome, some_truth, same_value, AreRanges, HasEvents, IsBelow, IsTestsLine, IsWritten, Status}
-use Rattle.zf_value.specs.contracts.value.ValueOrd.TheImpl.Laws.{total-law}
+use Rattle.zf_value.specs.contracts.plain.ValueOrd.TheImpl.Laws.{total-law}
 use Rattle.zf_value.specs.declared.value.Truth.{Truth}
 use Rattle.zf_value.specs.declared.value.Truth.TheVariants as truth
 use Rattle.zf_value.proofs.Exact.{exact}

@@ -3,7 +3,7 @@ use Rattle.std.specs.Prelude.{◌⊎◌, IsTrue, ℕ, Bool, List, Option}
 use Rattle.std.specs.List.{AllByRecursion}
 use Rattle.zf_term.specs.Definitions.{Comp, Schema, sets_of}
 use Rattle.zf_finite.specs.Finite.{one_bounds}
-use Rattle.zf_value.specs.declared.value.Value.{Value}
+use Rattle.zf_value.specs.declared.plain.Value.{Value}
 use Rattle.zf_walk.specs.Events.{Event}
 use Rattle.zf_meaning.specs.Environments.{Environment}
 use Rattle.zf_enum.specs.Events.{AreEvents, IsBoundOf}

@@ -5,7 +5,7 @@ pub use Rattle.zf_reference.specs.declared.reference.Reference.{Reference}
 pub use Rattle.zf_reference.specs.declared.reference.Reference.TheVariants.{Component, Global, Local}
 pub use Rattle.zf_value.specs.declared.value.Outcome.{Outcome}
 pub use Rattle.zf_value.specs.declared.value.Truth.{Truth}
-pub use Rattle.zf_value.specs.declared.value.Value.{Value}
+pub use Rattle.zf_value.specs.declared.plain.Value.{Value}
 pub use Rattle.zf_tree.specs.declared.operator.Listed.{Listed}
 pub use Rattle.zf_tree.specs.declared.operator.Operator.{Operator}
 pub use Rattle.zf_tree.specs.declared.operator.Unary.{Unary}

@@ -2,7 +2,7 @@
 use Rattle.std.specs.Prelude.{◌≡◌, ◌↔◌, List}
 use Rattle.zf_extent.specs.Extents.{direct}
 use Rattle.zf_term.specs.ResolvedTrees.{ResolvedTree, ResolvedTrees, ResolvedLinks, Ranges, ResolvedPart}
-use Rattle.zf_value.specs.declared.value.Value.{Value}
+use Rattle.zf_value.specs.declared.plain.Value.{Value}
 use Rattle.zf_value.specs.declared.value.Outcome.{Outcome}
 use Rattle.zf_value.specs.declared.value.Truth.{Truth}
 use Rattle.zf_meaning.specs.Environments.{Context}

@@ -1,7 +1,7 @@
 -- The lines of a search, one after another: what is written so far, and how it ends.
 use Rattle.zf_lines.proofs.Prelude.{◌++◌, ◌+◌, ◌<◌, ◌∙◌, ◌∷◌, ◌≡◌, ◌⊎◌, [], ap, arith, inl, inr, length, length-append, List, None, Option, refl, Some, subst, sym, ℕ, Appends-nil, Appends-trans, Appends, option_map, Conjuncts, Event, Ahead, AreAllAhead, IsNoneAhead, Takes, Out, True, value_order, Value, IsEnd, AppendsFront, AreEventsUpTo, Hold, IsBegun, IsBelow, lines, HasLimit}
 use Rattle.std.proofs.lemmas.List.Elements.{All-push}
-use Rattle.zf_value.specs.contracts.value.ValueOrd.TheImpl.Laws as order_laws
+use Rattle.zf_value.specs.contracts.plain.ValueOrd.TheImpl.Laws as order_laws
 use Rattle.zf_lines.specs.declared.ending.Ending.TheVariants as endings
 use Rattle.zf_lines.proofs.Behind.{Behind, none_behind, one_behind, up_to_last, up_to_end}
 use Rattle.zf_lines.proofs.Growing.{one_more_line, begun}

@@ -20,7 +20,7 @@ pub use Rattle.zf_walk.specs.Rows.{ComesAfter, IsRowOf}
 pub use Rattle.zf_walk.specs.declared.judge.Truth.TheVariants.{Out, True}
 pub use Rattle.zf_walk.specs.declared.step.Step.TheVariants.{Breaks, End, Holds}
 pub use Rattle.zf_value.specs.Sets.{value_order}
-pub use Rattle.zf_value.specs.declared.value.Value.{Value}
+pub use Rattle.zf_value.specs.declared.plain.Value.{Value}
 pub use Rattle.zf_term.specs.Definitions.{Comp, comp_of, Schema, schema_of}
 pub use Rattle.zf_meaning.specs.Environments.{Environment}
 pub use Rattle.zf_texts.proofs.Printing.{ahead-further, drop-end, line-ended, texts-drop, texts-nil}

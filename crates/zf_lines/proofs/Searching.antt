@@ -5,7 +5,7 @@ use Rattle.zf_lines.specs.declared.ending.Ending as ending
 use Rattle.zf_lines.specs.declared.ending.Ending.TheVariants as endings
 use Rattle.zf_lines.proofs.Fewer.{ahead_count, one_fewer}
 use Rattle.zf_lines.proofs.Lines.{IsFirst}
-use Rattle.zf_value.specs.contracts.value.ValueOrd.TheImpl.Laws as order_laws
+use Rattle.zf_value.specs.contracts.plain.ValueOrd.TheImpl.Laws as order_laws
 
 -- fewer rows are ahead after a step that gives one
 pub goes_on : (g : Goal) (c d : Stage Value) → SameRanges c d → Advances value_order (conjuncts_of g) Holds c d → ahead_count value_order d.ranges d.ahead < ahead_count value_order c.ranges c.ahead

@@ -1,7 +1,7 @@
 -- What is kept of the lines that were printed. No public clause rests on this file.
 use Rattle.std.specs.Prelude.{◌≡◌, ℕ, List, [], ◌++◌, codes, length, Option, Some, option_map, slice_get, slice_index_or, unwrap_or}
 use Rattle.zf_term.specs.Definitions.{Comp}
-use Rattle.zf_value.specs.declared.value.Value.{Value}
+use Rattle.zf_value.specs.declared.plain.Value.{Value}
 use Rattle.zf_texts.specs.declared.spelling.Spelling.{Spelling}
 use Rattle.zf_texts.specs.ValueTexts.{value_text, separator}
 use Rattle.zf_lines.specs.declared.column.Column.{Column}

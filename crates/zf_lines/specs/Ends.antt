@@ -2,7 +2,7 @@
 use Rattle.std.specs.Prelude.{◌≡◌, ℕ, List, ◌∷◌, [], ◌++◌, codes, length, Option, Some, None}
 use Rattle.std.specs.Io.KnownBytes.{Appends}
 use Rattle.zf_term.specs.Definitions.{Schema}
-use Rattle.zf_value.specs.declared.value.Value.{Value}
+use Rattle.zf_value.specs.declared.plain.Value.{Value}
 use Rattle.zf_walk.specs.declared.judge.Truth.TheVariants.{Out}
 use Rattle.zf_walk.specs.Events.{Event}
 use Rattle.zf_walk.specs.Progress.{Stage}

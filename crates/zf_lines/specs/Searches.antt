@@ -8,7 +8,7 @@ use Rattle.zf_walk.specs.Rows.{ComesAfter}
 use Rattle.zf_walk.specs.Events.{Event, IsEvent}
 use Rattle.zf_walk.specs.Tests.{IsUpTo, cut}
 use Rattle.zf_term.specs.Definitions.{Schema}
-use Rattle.zf_value.specs.declared.value.Value.{Value}
+use Rattle.zf_value.specs.declared.plain.Value.{Value}
 use Rattle.zf_value.specs.Sets.{value_order}
 use Rattle.zf_meaning.specs.Environments.{Environment}
 use Rattle.zf_enum.specs.Events.{AreTests}

@@ -1,7 +1,7 @@
 -- What is written of a search that stands at its beginning.
 use Rattle.std.specs.Prelude.{◌≡◌, ◌⊎◌, ℕ, ◌<◌, Bool, true, false, List, [], ◌++◌, map, Option, Some, None}
 use Rattle.zf_term.specs.Definitions.{Schema}
-use Rattle.zf_value.specs.declared.value.Value.{Value}
+use Rattle.zf_value.specs.declared.plain.Value.{Value}
 use Rattle.zf_walk.specs.Events.{Event}
 use Rattle.zf_term.specs.ResolvedTrees.{resolved_of}
 use Rattle.zf_value.specs.Sets.{value_order}

@@ -1,7 +1,7 @@
 -- The lines of bindings and of the number of tests. Each ends in a newline byte.
 use Rattle.std.specs.Prelude.{ℕ, List, ◌++◌, codes, decimal}
 use Rattle.zf_term.specs.Definitions.{Comp}
-use Rattle.zf_value.specs.declared.value.Value.{Value}
+use Rattle.zf_value.specs.declared.plain.Value.{Value}
 use Rattle.zf_texts.specs.declared.spelling.Spelling.{Spelling}
 use Rattle.zf_texts.specs.BindingTexts.{binding_text}
 

@@ -3,7 +3,7 @@ ghost use Rattle.std.specs.Prelude.{◌≡◌, ◌<◌, ◌++◌, ℕ, List, len
 ghost use Rattle.zf_lines.specs.Columns.{AreColumns, Keeps, head_of};
 ghost use Rattle.zf_term.specs.Definitions.{comp_of, schema_of};
 ghost use Rattle.zf_texts.specs.declared.spelling.Spelling as spelling;
-ghost use Rattle.zf_value.specs.declared.value.Value as value;
+ghost use Rattle.zf_value.specs.declared.plain.Value as value;
 
 use std::alloc::{AllocError, Global};
 use zf_data::Text;

@@ -1,5 +1,5 @@
 -- The carriers of several types, one after another.
-use Rattle.zf_meaning.proofs.Prelude.{◌+◌, ◌<◌, ◌∙◌, ◌∷◌, ◌≡◌, [], ap, drop, get_or, length, List, map, None, Option, refl, Some, subst, sym, ℕ, drop_more, MatchOption, Bor, are_regular, AreRegular, IsMember, Outcome, Value, Defined, definition_of, type_of, types, AreCarriers, IsCarrier, definition_number, Environment, found_number, lack_with, several_by, values_with, one_more, Several, values, Lack, Nothing}
+use Rattle.zf_meaning.proofs.Prelude.{◌+◌, ◌<◌, ◌∙◌, ◌∷◌, ◌≡◌, [], ap, drop, get_or, length, List, map, None, Option, refl, Some, subst, sym, ℕ, drop_more, MatchOption, Bor, Outcome, Value, Defined, definition_of, type_of, types, AreCarriers, IsCarrier, definition_number, Environment, found_number, lack_with, several_by, values_with, one_more, Several, values, Lack, Nothing}
 use Rattle.zf_term.specs.declared.globals.Entry.{Entry}
 use Rattle.zf_term.specs.FirstNamed.{first_named}
 use Rattle.zf_term.specs.declared.ztype.ZType.{ZType}
@@ -19,9 +19,6 @@ carriers-more e all i t l k vs ws x h d g o f w s r =
 
 pub carriers-all : (e : Environment) (all rest : List ZType) (l : Lack) (vs : List Value) → rest ≡ [] → CarriersTo e all rest l vs → AreCarriers e (types (map type_of all)) (several_by l vs)
 carriers-all e all rest l vs d g = subst (AreCarriers e (types (map type_of all))) (joined-all l vs) (g (values []) (subst (λ ts. AreCarriers e (types (map type_of ts)) (values [])) (sym d) refl))
-
-pub no-values : (xs : List Value) → xs ≡ [] → AreRegular xs
-no-values xs e = are_regular xs (λ z m. absurd (subst (IsMember z) e m))
 
 -- ---- the number of a type by name
 

@@ -1,5 +1,5 @@
 -- Fronts of lists of outcomes.
-use Rattle.zf_meaning.proofs.Prelude.{◌++◌, ◌+◌, ◌<◌, ◌∷◌, ◌≡◌, ◌≤◌, [], add-one, ap, arith, length, List, None, Option, refl, Some, suc, sym, take, zero, ℕ, slice_get, Outcome}
+use Rattle.zf_meaning.proofs.Prelude.{◌++◌, ◌+◌, ◌<◌, ◌∷◌, ◌≡◌, ◌≤◌, [], add-one, ap, arith, length, List, None, refl, Some, suc, take, zero, ℕ, slice_get, Outcome}
 
 next : (xs : List Outcome) (i : ℕ) (x : Outcome) → slice_get xs i ≡ Some x → take (suc i) xs ≡ take i xs ++ x ∷ []
 next [] i x h = absurd (cc)

@@ -1,5 +1,5 @@
 -- Where no variable is bound, a scope is the context of its row.
-use Rattle.zf_meaning.proofs.Prelude.{◌≡◌, [], ap, List, subst, sym, IfOk-weaker, Result, IfOk, AllocError, Bor, IsRegularOutcome, Outcome, Truth, Value, ResolvedTree, Describes, environment_of, HasOutcome, IsTruth, seen, scope_of, Described, Env}
+use Rattle.zf_meaning.proofs.Prelude.{◌≡◌, [], ap, List, subst, sym, IfOk-weaker, Result, IfOk, AllocError, Bor, Outcome, Truth, Value, ResolvedTree, Describes, environment_of, HasOutcome, IsTruth, seen, scope_of, Described, Env}
 use Rattle.zf_meaning.specs.InRow.{in_row}
 
 none-bound : (env : Env) (row : List Value) (locals : List (Bor Value)) → locals ≡ [] → scope_of env row locals ≡ in_row (environment_of env) row
@@ -15,6 +15,3 @@ truth-in-row env row locals t r e h = subst (λ c. IfOk r (IsTruth c t)) (none-b
 
 pub described-in-row : (env : Env) (row : List Value) (locals : List (Bor Value)) (t : ResolvedTree) (r : Result Described AllocError) → locals ≡ [] → IfOk r (Describes (HasOutcome (scope_of env row locals) t)) → IfOk r (Describes (HasOutcome (in_row (environment_of env) row) t))
 described-in-row env row locals t r e h = subst (λ c. IfOk r (Describes (HasOutcome c t))) (none-bound env row locals e) h
-
-pub regular-copy : (x : Outcome) (r : Result Outcome AllocError) → IsRegularOutcome x → IfOk r (λ o. o ≡ x) → IfOk r IsRegularOutcome
-regular-copy x r h k = IfOk-weaker r (λ o. o ≡ x) IsRegularOutcome (λ o q. subst IsRegularOutcome (sym q) h) k

@@ -11,7 +11,7 @@ pub mod Numeric
 pub mod AllRows
 pub mod PassedRows
 pub mod Told
-pub mod Regulars
+pub mod RowValues
 pub mod Tests
 pub mod Operands
 pub mod Gathering

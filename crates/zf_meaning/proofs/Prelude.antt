@@ -20,21 +20,20 @@ pub use Rattle.zf_value.proofs.Divisions.{either_way, one_Modulus, one_Quotient}
 pub use Rattle.zf_value.proofs.Exactly.{same}
 pub use Rattle.zf_value.proofs.Making.{out_told, same_set}
 pub use Rattle.zf_value.proofs.Once.{HasOne, one_number, one_on_number, one_on_numbers, one_set}
-pub use Rattle.zf_value.proofs.Regulars.{are_regular, regular-Int, regular-push, regular-Tuple, regular_member, regular_none, regular_same, regular_set}
 pub use Rattle.zf_value.proofs.Seen.{is_Int, members-SetOf, number_of-Int}
 pub use Rattle.zf_value.specs.Numbers.{IsDifference, IsModulus, IsNegation, IsProduct, IsSum, number_of, OnNumbers}
 unfoldable pub use Rattle.zf_value.specs.Numbers.{IsBetweenNumbers, IsInterval, IsQuotient}
 pub use Rattle.zf_value.specs.Operations.{AreFrom, IsApplied, IsEmptySet, IsSubset}
 unfoldable pub use Rattle.zf_value.specs.Operations.{AreElements, ArePartialFunctions, ArePartialInjections, AreRelations, AreTotalFunctions, AreTotalInjections, IsCross, IsDisplay, IsPower, IsSize}
-pub use Rattle.zf_value.specs.Sets.{AreRegular, IsAscending, IsMember, IsRegular, IsRegularOutcome, IsRegularSet, IsSetOf, members, members_at, value_order}
+pub use Rattle.zf_value.specs.Sets.{Every, IsAscending, IsMember, IsSetOf, members, members_at, value_order}
 unfoldable pub use Rattle.zf_value.specs.Sets.{HaveSameMembers}
 pub use Rattle.zf_value.specs.declared.value.Outcome.{Outcome}
 pub use Rattle.zf_value.specs.declared.value.Outcome.TheVariants.{Is, Out, Undefined}
 pub use Rattle.zf_value.specs.declared.value.Truth.{Truth}
 pub use Rattle.zf_value.specs.declared.value.Truth.TheVariants.{False, True}
-pub use Rattle.zf_value.specs.declared.value.Value.{Int, out-Value, roll-out-Value, roll-Value, SetOf, Tuple, Value}
-pub use Rattle.zf_value.specs.declared.value.Value.TheOpen.{Value-F}
-pub use Rattle.zf_value.specs.declared.value.Value.TheVariants.{outs-Int, rolls-SetOf}
+pub use Rattle.zf_value.specs.declared.plain.Value.{Int, out-Value, roll-out-Value, roll-Value, SetOf, Tuple, Value}
+pub use Rattle.zf_value.specs.declared.plain.Value.TheOpen.{Value-F}
+pub use Rattle.zf_value.specs.declared.plain.Value.TheVariants.{outs-Int, rolls-SetOf}
 unfoldable pub use Rattle.zf_families.specs.Families.{IsPartialFunction, IsPartialInjection, IsRelation, IsTotalFunction, IsTotalInjection, IsTupleFrom}
 pub use Rattle.zf_tree.specs.declared.operator.Listed.{Listed}
 pub use Rattle.zf_tree.specs.declared.operator.Operator.{Operator}
@@ -63,7 +62,7 @@ pub use Rattle.zf_extent.specs.Extents.{is_membership}
 pub use Rattle.zf_meaning.specs.Building.{AddsRow}
 pub use Rattle.zf_meaning.specs.Carriers.{AreCarriers, IsCarrier, IsTypeSetIf}
 pub use Rattle.zf_meaning.specs.Connected.{conjunction, connected, connective_of, decided, disjunction, equivalence}
-pub use Rattle.zf_meaning.specs.Described.{IsDescribed, IsOfArrow, IsRegularDescribed, IsUnbuilt, told_in}
+pub use Rattle.zf_meaning.specs.Described.{IsDescribed, IsOfArrow, IsWithin, IsUnbuilt, told_in}
 unfoldable pub use Rattle.zf_meaning.specs.Described.{Describes, IsInDescribed, IsTruthIn}
 pub use Rattle.zf_meaning.specs.Early.{AreNeutral, AreNeutralIf, IsBound, IsEarlier, IsEquation, IsOther, IsPart, IsPiece, IsVariable, IsWanted, neutral, PassesBy}
 unfoldable pub use Rattle.zf_meaning.specs.Early.{ArePassed, Falsifies, IsNeutral, Refutes, Wants}
@@ -79,7 +78,7 @@ pub use Rattle.zf_meaning.specs.Places.{headed, headed_from, seen, with_value_at
 unfoldable pub use Rattle.zf_meaning.specs.Places.{all_rows, ArePlaces, picked, rows_after}
 pub use Rattle.zf_meaning.specs.RangeSets.{declared_of, sets_with, spread}
 pub use Rattle.zf_meaning.specs.Rowed.{ahead, AreOthers, IsAt, IsFirst, IsNext, IsPassed, lists_of, row_of, Skips}
-pub use Rattle.zf_meaning.specs.Scopes.{IsRegularScope, scope_of}
+pub use Rattle.zf_meaning.specs.Scopes.{scope_of}
 pub use Rattle.zf_meaning.specs.Sizes.{AreAccepted, AreComplete, AreSizes, given_sets, IsAccepted, IsRefusal, IsStated, LacksSize, names, Refuses, RefusesSize, with_given}
 pub use Rattle.zf_meaning.specs.Symbols.{ArrowOutcome, BinaryOutcome, Holds, HoldsOf, InfixOutcome, ListedOutcome, PrefixOutcome, SignOutcome, UnaryOutcome}
 pub use Rattle.zf_meaning.specs.Tallies.{is_settled, none, truth_by, when_over, when_settled, with}

@@ -1,16 +1,11 @@
 -- Sets that are told by what they are made of: each that is not out is there, and its members are told.
-use Rattle.zf_meaning.proofs.Prelude.{cases_lt, ◌+ℤ◌, ◌<ℤ◌, pos, either_way, members-SetOf, OnNumbers, IsBetweenNumbers, IsInterval, AreFrom, IsSubset, ArePartialFunctions, ArePartialInjections, AreRelations, AreTotalFunctions, AreTotalInjections, IsCross, IsPower, AreRegular, IsMember, IsRegular, IsRegularSet, IsSetOf, members, value_order, Outcome, Is, Out, Undefined, Truth, Int, out-Value, SetOf, Tuple, Value, Value-F, outs-Int, IsPartialFunction, IsPartialInjection, IsRelation, IsTotalFunction, IsTotalInjection, IsTupleFrom, Arrow, Relation, is_membership, IsDescribed, IsOfArrow, IsRegularDescribed, IsUnbuilt, told_in, Describes, IsInDescribed, IsTruthIn, found_outcome, one_out, one_undefined, OnOne, OnSeveral, Several, values, ArrowOutcome, Holds, IsAtom, Described, Arrows, Interval, Plain, Power, Product}
-use Rattle.std.proofs.Common.{◌≡◌, ◌↔◌, ◌≤◌, ◌<◌, ℕ, Bool, true, false, ℤ, Option, Some, None, List, [], ◌∷◌, map, Ok, refl, sym, ap, ◌∙◌, subst, ⊎_elim, Less, arith, IsTrue, Vec, Global}
+use Rattle.zf_meaning.proofs.Prelude.{cases_lt, ◌+ℤ◌, ◌<ℤ◌, pos, either_way, members-SetOf, OnNumbers, IsBetweenNumbers, IsInterval, AreFrom, IsSubset, ArePartialFunctions, ArePartialInjections, AreRelations, AreTotalFunctions, AreTotalInjections, IsCross, IsPower, IsMember, IsSetOf, members, value_order, Outcome, Is, Out, Undefined, Truth, Int, out-Value, SetOf, Tuple, Value, Value-F, outs-Int, IsPartialFunction, IsPartialInjection, IsRelation, IsTotalFunction, IsTotalInjection, IsTupleFrom, Arrow, Relation, is_membership, IsDescribed, IsOfArrow, IsUnbuilt, told_in, Describes, IsInDescribed, IsTruthIn, found_outcome, one_out, one_undefined, OnOne, OnSeveral, Several, values, ArrowOutcome, Holds, IsAtom, Described, Arrows, Interval, Plain, Power, Product, IsWithin}
+use Rattle.std.proofs.Common.{◌≡◌, ◌↔◌, ◌⊎◌, inl, inr, ◌≤◌, ◌<◌, ℕ, Bool, true, false, ℤ, Option, Some, None, List, [], refl, sym, ap, ◌∙◌, subst, ⊎_elim, Less, arith, IsTrue, Vec, Global}
+use Rattle.std.proofs.lemmas.Bool.{false≢true}
 use Rattle.std.proofs.lemmas.Int.{ints}
 use Rattle.std.specs.Cmp.{int_cmp_is}
 use Rattle.zf_tree.specs.declared.symbol.Arrow.TheVariants as arrow
 use Rattle.zf_tree.specs.declared.symbol.Relation.TheVariants as relation
-use Rattle.zf_families.specs.Selections.{some, whole, fits_any, singles}
-use Rattle.zf_families.proofs.Families.{partial_rows, total_rows, partial_functions_built, total_functions_built}
-use Rattle.zf_families.proofs.Injections.{partial_injection_rows, injection_rows, partial_injections_built, total_injections_built}
-use Rattle.zf_families.proofs.Relations.{product_of, relations_built}
-use Rattle.zf_families.proofs.Subsets.{power_built}
-use Rattle.zf_families.proofs.Tuples.{cross_built}
 use Rattle.zf_value.specs.declared.TheConstants.{SET_MAX}
 use Rattle.zf_value.specs.declared.value.Truth.TheVariants as truth
 use Rattle.zf_value.specs.Order.{level_order}
@@ -19,58 +14,12 @@ use Rattle.zf_value.proofs.Exact.{cmp_is}
 use Rattle.zf_value.proofs.Intervals.{number_list, numbers_between, interval_out}
 use Rattle.zf_meaning.specs.declared.found.Found.{Found}
 use Rattle.zf_meaning.specs.declared.found.Found.TheVariants as found
-use Rattle.zf_meaning.proofs.Regulars.{regular-members}
 
 -- ---- sets that are there
 
 -- there is such a set
 abbrev pub IsThere : (Outcome → Type 0) → Type 0
 IsThere S = (w : Value) × S (Is w)
-
-built : (S : Outcome → Type 0) (w : Value) → S (Is w) → IsThere S
-built S w s = (w, s)
-
-power-there : (a : List Value) → IsRegularSet a → (IsPower a Out → ⊥) → IsThere (IsPower a)
-power-there a h f =
-    let rows = [] ∷ some fits_any (singles a) in
-    (SetOf (map SetOf rows), power_built a h f rows refl (Ok (Is (SetOf (map SetOf rows)))) refl)
-
-relations-there : (a b : List Value) → IsRegularSet a → IsRegularSet b → (AreRelations a b Out → ⊥) → IsThere (AreRelations a b)
-relations-there a b h k f =
-    let rows = [] ∷ some fits_any (singles (product_of a b)) in
-    (SetOf (map SetOf rows), relations_built a b h k f rows refl (Ok (Is (SetOf (map SetOf rows)))) refl)
-
-partial_functions-there : (a b : List Value) → IsRegularSet a → IsRegularSet b → (ArePartialFunctions a b Out → ⊥) → IsThere (ArePartialFunctions a b)
-partial_functions-there a b h k f =
-    let rows = partial_rows a b in
-    (SetOf (map SetOf rows), partial_functions_built a b h k f rows refl (Ok (Is (SetOf (map SetOf rows)))) refl)
-
-total_functions-there : (a b : List Value) → IsRegularSet a → IsRegularSet b → (AreTotalFunctions a b Out → ⊥) → IsThere (AreTotalFunctions a b)
-total_functions-there a b h k f =
-    let rows = total_rows a b in
-    (SetOf (map SetOf rows), total_functions_built a b h k f rows refl (Ok (Is (SetOf (map SetOf rows)))) refl)
-
-partial_injections-there : (a b : List Value) → IsRegularSet a → IsRegularSet b → (ArePartialInjections a b Out → ⊥) → IsThere (ArePartialInjections a b)
-partial_injections-there a b h k f =
-    let rows = partial_injection_rows a b in
-    (SetOf (map SetOf rows), partial_injections_built a b h k f rows refl (Ok (Is (SetOf (map SetOf rows)))) refl)
-
-total_injections-there : (a b : List Value) → IsRegularSet a → IsRegularSet b → (AreTotalInjections a b Out → ⊥) → IsThere (AreTotalInjections a b)
-total_injections-there a b h k f =
-    let rows = injection_rows a b in
-    (SetOf (map SetOf rows), total_injections_built a b h k f rows refl (Ok (Is (SetOf (map SetOf rows)))) refl)
-
-arrows-there : (kind : Arrow) (v w : Value) → IsRegular v → IsRegular w → (ArrowOutcome kind v w Out → ⊥) → IsThere (ArrowOutcome kind v w)
-arrows-there arrow.Relation v w h k f = relations-there (members v) (members w) (regular-members v h) (regular-members w k) f
-arrows-there arrow.PartialFunction v w h k f = partial_functions-there (members v) (members w) (regular-members v h) (regular-members w k) f
-arrows-there arrow.TotalFunction v w h k f = total_functions-there (members v) (members w) (regular-members v h) (regular-members w k) f
-arrows-there arrow.PartialInjection v w h k f = partial_injections-there (members v) (members w) (regular-members v h) (regular-members w k) f
-arrows-there arrow.TotalInjection v w h k f = total_injections-there (members v) (members w) (regular-members v h) (regular-members w k) f
-
-cross-there : (sets : List Value) → AreRegular sets → (IsCross sets Out → ⊥) → IsThere (IsCross sets)
-cross-there sets h f =
-    let rows = whole fits_any (map members sets) in
-    (SetOf (map Tuple rows), cross_built sets h f rows refl (Ok (Is (SetOf (map Tuple rows)))) refl)
 
 number-rises : (a : ℤ) (i j : ℕ) → i < j → value_order (Int (a +ℤ pos i)) (Int (a +ℤ pos j)) ≡ Less
 number-rises a i j l =
@@ -96,21 +45,55 @@ interval-there a b f =
     (λ p. (SetOf [], no-numbers a b (omega (arith, ints, p.1))))
     (either_way a (b +ℤ pos 1))
 
--- a set that is described and not out is there
-pub there : (d : Described) → IsUnbuilt d → IsRegularDescribed d → (IsDescribed d Out → ⊥) → IsThere (IsDescribed d)
-there (Plain found) u h f = absurd u
-there (Power v) u h f = power-there (members v) (regular-members v h) f
-there (Arrows kind v w) u h f = arrows-there kind v w h.0 h.1 f
-there (Interval a b) u h f = interval-there a b f
-there (Product sets) u h f = cross-there sets.items h f
+set-there : (P : Value → Type 0) (o : Outcome) → IsSetOf P o → (IsSetOf P Out → ⊥) → IsThere (IsSetOf P)
+set-there P (Is w) s f = (w, s)
+set-there P Undefined s f = absurd s
+set-there P Out s f = absurd (f s)
 
--- what is described and not out has an outcome
-pub there_is : (d : Described) → IsRegularDescribed d → (IsDescribed d Out → ⊥) → (o : Outcome) × IsDescribed d o
-there_is (Plain found) h f = (found_outcome found, refl)
-there_is (Power v) h f = let t = there (Power v) tt h f in (Is t.0, t.1)
-there_is (Arrows kind v w) h f = let t = there (Arrows kind v w) tt h f in (Is t.0, t.1)
-there_is (Interval a b) h f = let t = there (Interval a b) tt h f in (Is t.0, t.1)
-there_is (Product sets) h f = let t = there (Product sets) tt h f in (Is t.0, t.1)
+-- a set that is described and not out is there
+pub there : (d : Described) → IsUnbuilt d → IsWithin d → IsThere (IsDescribed d)
+unfolding IsPower IsInterval IsCross AreRelations ArePartialFunctions AreTotalFunctions ArePartialInjections AreTotalInjections
+there (Plain found) u h = absurd u
+there (Power v) u h = set-there _ h.0 h.1 h.2
+there (Arrows arrow.Relation v w) u h = set-there _ h.0 h.1 h.2
+there (Arrows arrow.PartialFunction v w) u h = set-there _ h.0 h.1 h.2
+there (Arrows arrow.TotalFunction v w) u h = set-there _ h.0 h.1 h.2
+there (Arrows arrow.PartialInjection v w) u h = set-there _ h.0 h.1 h.2
+there (Arrows arrow.TotalInjection v w) u h = set-there _ h.0 h.1 h.2
+there (Interval a b) u h = set-there _ h.0 h.1 h.2
+there (Product sets) u h = set-there _ h.0 h.1 h.2
+
+-- ---- what is not out
+
+pub not_out : (d : Described) (b : Bool) → IsTrue b ⊎ IsWithin d → b ≡ false → IsWithin d
+not_out d b h e = ⊎_elim (λ t. absurd (false≢true (sym e ∙ t))) (λ w. w) h
+
+within-by : (d : Described) (b : Bool) → IsTrue b ↔ IsDescribed d Out → (o : Outcome) → IsDescribed d o → IsTrue b ⊎ IsWithin d
+within-by d true h o p = inl refl
+within-by d false h o p = inr (o, p, λ q. false≢true (h.1 q))
+
+within-there : (d : Described) (b : Bool) → IsTrue b ↔ IsDescribed d Out → IsTrue b ⊎ IsThere (IsDescribed d) → IsTrue b ⊎ IsWithin d
+within-there d b h t = ⊎_elim (λ e. inl e) (λ w. within-by d b h (Is w.0) w.1) t
+
+pub plain-within : (d : Described) (f : Found) (b : Bool) → d ≡ Plain f → IsTrue b ↔ IsDescribed (Plain f) Out → IsTrue b ⊎ IsWithin d
+plain-within d f b e h = subst (λ k. IsTrue b ⊎ IsWithin k) (sym e) (within-by (Plain f) b h (found_outcome f) refl)
+
+pub power-within : (d : Described) (s : Value) (b : Bool) → d ≡ Power s → IsTrue b ↔ IsPower (members s) Out → IsTrue b ⊎ IsThere (IsPower (members s)) → IsTrue b ⊎ IsWithin d
+power-within d s b e h t = subst (λ k. IsTrue b ⊎ IsWithin k) (sym e) (within-there (Power s) b h t)
+
+pub arrows-within : (d : Described) (kind : Arrow) (x y : Value) (b : Bool) → d ≡ Arrows kind x y → IsTrue b ↔ ArrowOutcome kind x y Out → IsTrue b ⊎ IsThere (ArrowOutcome kind x y) → IsTrue b ⊎ IsWithin d
+arrows-within d kind x y b e h t = subst (λ k. IsTrue b ⊎ IsWithin k) (sym e) (within-there (Arrows kind x y) b h t)
+
+pub interval-within : (d : Described) (m n : ℤ) (b : Bool) → d ≡ Interval m n → IsTrue b ↔ IsInterval m n Out → IsTrue b ⊎ IsWithin d
+interval-within d m n b e h = subst (λ k. IsTrue b ⊎ IsWithin k) (sym e) (at b h)
+  where
+    at : (c : Bool) → IsTrue c ↔ IsInterval m n Out → IsTrue c ⊎ IsWithin (Interval m n)
+    at true g = inl refl
+    at false g = let t = interval-there m n (λ q. false≢true (g.1 q)) in inr (Is t.0, t.1, λ q. false≢true (g.1 q))
+
+pub product-within : (d : Described) (sets : Vec Value Global) (xs : List Value) (b : Bool) → d ≡ Product sets → xs ≡ sets.items → IsTrue b ↔ IsCross xs Out → IsTrue b ⊎ IsThere (IsCross xs) → IsTrue b ⊎ IsWithin d
+product-within d sets xs b e s h t =
+    subst (λ k. IsTrue b ⊎ IsWithin k) (sym e) (within-there (Product sets) b (subst (λ ys. IsTrue b ↔ IsCross ys Out) s h) (subst (λ ys. IsTrue b ⊎ IsThere (IsCross ys)) s t))
 
 -- ---- what is described
 
@@ -164,44 +147,42 @@ tells P w s z = subst (λ xs. IsMember z xs ↔ P z) (sym (ap members s.1 ∙ me
 in-set : (P : Value → Type 0) (v : Value) (b : Bool) → IsThere (IsSetOf P) → IsTrue b ↔ P v → IsTrue b ↔ ((w : Value) × IsSetOf P (Is w) × IsMember v (members w))
 in-set P v b t h = (λ i. (t.0, t.1, (tells P t.0 t.1 v).1 (h.0 i)), λ p. h.1 ((tells P p.0 p.1 v).0 p.2))
 
-in-power : (s v : Value) (b : Bool) → IsRegular s → (IsPower (members s) Out → ⊥) → IsTrue b ↔ IsSubset (members s) v → IsTrue b ↔ IsInDescribed (Power s) v
+in-power : (s v : Value) (b : Bool) → IsWithin (Power s) → IsTrue b ↔ IsSubset (members s) v → IsTrue b ↔ IsInDescribed (Power s) v
 unfolding IsInDescribed IsPower
-in-power s v b r f h = in-set (IsSubset (members s)) v b (power-there (members s) (regular-members s r) f) h
+in-power s v b w h = in-set (IsSubset (members s)) v b (there (Power s) tt w) h
 
 -- the same, where a description is known to be this
-pub has-power : (d : Described) (s v : Value) (b : Bool) → d ≡ Power s → IsRegularDescribed d → (IsDescribed d Out → ⊥) → IsTrue b ↔ IsSubset (members s) v → IsTrue b ↔ IsInDescribed d v
-has-power d s v b e r f h = subst (λ k. IsTrue b ↔ IsInDescribed k v) (sym e) (in-power s v b (subst IsRegularDescribed e r) (λ o. f (subst (λ k. IsDescribed k Out) (sym e) o)) h)
+pub has-power : (d : Described) (s v : Value) (b : Bool) → d ≡ Power s → IsWithin d → IsTrue b ↔ IsSubset (members s) v → IsTrue b ↔ IsInDescribed d v
+has-power d s v b e w h = subst (λ k. IsTrue b ↔ IsInDescribed k v) (sym e) (in-power s v b (subst IsWithin e w) h)
 
-in-arrows : (kind : Arrow) (x y v : Value) (b : Bool) → IsRegular x → IsRegular y → (ArrowOutcome kind x y Out → ⊥) → IsTrue b ↔ IsOfArrow kind x y v → IsTrue b ↔ IsInDescribed (Arrows kind x y) v
+in-arrows : (kind : Arrow) (x y v : Value) (b : Bool) → IsWithin (Arrows kind x y) → IsTrue b ↔ IsOfArrow kind x y v → IsTrue b ↔ IsInDescribed (Arrows kind x y) v
 unfolding IsInDescribed AreRelations ArePartialFunctions AreTotalFunctions ArePartialInjections AreTotalInjections IsRelation IsPartialFunction IsTotalFunction IsPartialInjection IsTotalInjection
-in-arrows arrow.Relation x y v b r q f h = in-set (IsRelation (members x) (members y)) v b (arrows-there arrow.Relation x y r q f) h
-in-arrows arrow.PartialFunction x y v b r q f h = in-set (IsPartialFunction (members x) (members y)) v b (arrows-there arrow.PartialFunction x y r q f) h
-in-arrows arrow.TotalFunction x y v b r q f h = in-set (IsTotalFunction (members x) (members y)) v b (arrows-there arrow.TotalFunction x y r q f) h
-in-arrows arrow.PartialInjection x y v b r q f h = in-set (IsPartialInjection (members x) (members y)) v b (arrows-there arrow.PartialInjection x y r q f) h
-in-arrows arrow.TotalInjection x y v b r q f h = in-set (IsTotalInjection (members x) (members y)) v b (arrows-there arrow.TotalInjection x y r q f) h
+in-arrows arrow.Relation x y v b w h = in-set (IsRelation (members x) (members y)) v b (there (Arrows arrow.Relation x y) tt w) h
+in-arrows arrow.PartialFunction x y v b w h = in-set (IsPartialFunction (members x) (members y)) v b (there (Arrows arrow.PartialFunction x y) tt w) h
+in-arrows arrow.TotalFunction x y v b w h = in-set (IsTotalFunction (members x) (members y)) v b (there (Arrows arrow.TotalFunction x y) tt w) h
+in-arrows arrow.PartialInjection x y v b w h = in-set (IsPartialInjection (members x) (members y)) v b (there (Arrows arrow.PartialInjection x y) tt w) h
+in-arrows arrow.TotalInjection x y v b w h = in-set (IsTotalInjection (members x) (members y)) v b (there (Arrows arrow.TotalInjection x y) tt w) h
 
-pub has-arrows : (d : Described) (kind : Arrow) (x y v : Value) (b : Bool) → d ≡ Arrows kind x y → IsRegularDescribed d → (IsDescribed d Out → ⊥) → IsTrue b ↔ IsOfArrow kind x y v → IsTrue b ↔ IsInDescribed d v
-has-arrows d kind x y v b e r f h =
-    let q = subst IsRegularDescribed e r in
-    subst (λ k. IsTrue b ↔ IsInDescribed k v) (sym e) (in-arrows kind x y v b q.0 q.1 (λ o. f (subst (λ k. IsDescribed k Out) (sym e) o)) h)
+pub has-arrows : (d : Described) (kind : Arrow) (x y v : Value) (b : Bool) → d ≡ Arrows kind x y → IsWithin d → IsTrue b ↔ IsOfArrow kind x y v → IsTrue b ↔ IsInDescribed d v
+has-arrows d kind x y v b e w h = subst (λ k. IsTrue b ↔ IsInDescribed k v) (sym e) (in-arrows kind x y v b (subst IsWithin e w) h)
 
 pub in-interval : (m n : ℤ) (v : Value) (b : Bool) → (IsInterval m n Out → ⊥) → IsTrue b ↔ IsBetweenNumbers m n v → IsTrue b ↔ IsInDescribed (Interval m n) v
 unfolding IsInDescribed IsInterval
 in-interval m n v b f h = in-set (IsBetweenNumbers m n) v b (interval-there m n f) h
 
-pub has-interval : (d : Described) (m n : ℤ) (v : Value) (b : Bool) → d ≡ Interval m n → (IsDescribed d Out → ⊥) → IsTrue b ↔ IsBetweenNumbers m n v → IsTrue b ↔ IsInDescribed d v
-has-interval d m n v b e f h = subst (λ k. IsTrue b ↔ IsInDescribed k v) (sym e) (in-interval m n v b (λ o. f (subst (λ k. IsDescribed k Out) (sym e) o)) h)
+pub has-interval : (d : Described) (m n : ℤ) (v : Value) (b : Bool) → d ≡ Interval m n → IsWithin d → IsTrue b ↔ IsBetweenNumbers m n v → IsTrue b ↔ IsInDescribed d v
+has-interval d m n v b e w h = subst (λ k. IsTrue b ↔ IsInDescribed k v) (sym e) (in-interval m n v b (subst IsWithin e w).2 h)
 
 -- the numbers that are passed on are those that were given
 pub same-interval : (m n p q : ℤ) (v : Value) (b : Bool) → p ≡ m → q ≡ n → IsTrue b ↔ IsBetweenNumbers p q v → IsTrue b ↔ IsBetweenNumbers m n v
 same-interval m n p q v b e f h = subst (λ x. IsTrue b ↔ IsBetweenNumbers x n v) e (subst (λ y. IsTrue b ↔ IsBetweenNumbers p y v) f h)
 
-in-product : (sets : Vec Value Global) (v : Value) (b : Bool) → AreRegular sets.items → (IsCross sets.items Out → ⊥) → IsTrue b ↔ IsTupleFrom sets.items v → IsTrue b ↔ IsInDescribed (Product sets) v
+in-product : (sets : Vec Value Global) (v : Value) (b : Bool) → IsWithin (Product sets) → IsTrue b ↔ IsTupleFrom sets.items v → IsTrue b ↔ IsInDescribed (Product sets) v
 unfolding IsInDescribed IsCross IsTupleFrom
-in-product sets v b r f h = in-set (λ z. (vs : List Value) × (z ≡ Tuple vs) × AreFrom vs sets.items) v b (cross-there sets.items r f) h
+in-product sets v b w h = in-set (λ z. (vs : List Value) × (z ≡ Tuple vs) × AreFrom vs sets.items) v b (there (Product sets) tt w) h
 
-pub has-product : (d : Described) (sets : Vec Value Global) (v : Value) (b : Bool) → d ≡ Product sets → IsRegularDescribed d → (IsDescribed d Out → ⊥) → IsTrue b ↔ IsTupleFrom sets.items v → IsTrue b ↔ IsInDescribed d v
-has-product d sets v b e r f h = subst (λ k. IsTrue b ↔ IsInDescribed k v) (sym e) (in-product sets v b (subst IsRegularDescribed e r) (λ o. f (subst (λ k. IsDescribed k Out) (sym e) o)) h)
+pub has-product : (d : Described) (sets : Vec Value Global) (v : Value) (b : Bool) → d ≡ Product sets → IsWithin d → IsTrue b ↔ IsTupleFrom sets.items v → IsTrue b ↔ IsInDescribed d v
+has-product d sets v b e w h = subst (λ k. IsTrue b ↔ IsInDescribed k v) (sym e) (in-product sets v b (subst IsWithin e w) h)
 
 -- of a value that is there
 pub in-found : (found : Found) (v : Value) (b : Bool) (s : Value) → found_outcome found ≡ Is s → IsTrue b ↔ IsMember v (members s) → IsTrue b ↔ IsInDescribed (Plain found) v
@@ -270,12 +251,12 @@ value-in S relation.Greater v b m t h = absurd (never m)
 value-in S relation.AtLeast v b m t h = absurd (never m)
 
 -- a set that is not there as a value, and is not out
-pub undefined-unbuilt : (d : Described) (r : Relation) → IsUnbuilt d → IsRegularDescribed d → (IsDescribed d Out → ⊥) → IsTruthIn (IsDescribed d) r Undefined truth.False
-undefined-unbuilt d r u h f = undefined-in (IsDescribed d) r (there d u h f)
+pub undefined-unbuilt : (d : Described) (r : Relation) → IsUnbuilt d → IsWithin d → IsTruthIn (IsDescribed d) r Undefined truth.False
+undefined-unbuilt d r u h = undefined-in (IsDescribed d) r (there d u h)
 
-pub lost-unbuilt : (d : Described) (r : Relation) → IsUnbuilt d → IsRegularDescribed d → (IsDescribed d Out → ⊥) → IsTruthIn (IsDescribed d) r Out truth.Out
-lost-unbuilt d r u h f = lost-in (IsDescribed d) r (there d u h f)
+pub lost-unbuilt : (d : Described) (r : Relation) → IsUnbuilt d → IsWithin d → IsTruthIn (IsDescribed d) r Out truth.Out
+lost-unbuilt d r u h = lost-in (IsDescribed d) r (there d u h)
 
-pub value-unbuilt : (d : Described) (r : Relation) (v : Value) (b : Bool) → IsTrue (is_membership r) → IsUnbuilt d → IsRegularDescribed d → (IsDescribed d Out → ⊥) → IsTrue b ↔ IsInDescribed d v → IsTruthIn (IsDescribed d) r (Is v) (told_in r b)
+pub value-unbuilt : (d : Described) (r : Relation) (v : Value) (b : Bool) → IsTrue (is_membership r) → IsUnbuilt d → IsWithin d → IsTrue b ↔ IsInDescribed d v → IsTruthIn (IsDescribed d) r (Is v) (told_in r b)
 unfolding IsInDescribed
-value-unbuilt d r v b m u h f k = value-in (IsDescribed d) r v b m (there d u h f) k
+value-unbuilt d r v b m u h k = value-in (IsDescribed d) r v b m (there d u h) k

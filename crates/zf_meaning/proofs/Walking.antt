@@ -1,11 +1,11 @@
 -- A walk over the rows of sets, with what it binds.
-use Rattle.zf_meaning.proofs.Prelude.{◌++◌, ◌∙◌, ◌∷◌, ◌≡◌, ◌≤◌, ◌⊎◌, [], ap, arith, drop, inl, inr, length, length-append, List, map, refl, subst, sym, ⊎_elim, Bor, AreFrom, AreRegular, members, Outcome, Truth, Value, Quantifier, resolved_of, ResolvedPart, ResolvedTree, Resolved, IsNeutral, Context, within, Builds, IsConstraint, IsTruth, seen, all_rows, ahead, IsAt, IsFirst, IsNext, IsPassed, lists_of, Passing, row_of, Skips, IsRegularScope, scope_of, IsTold, Env, Rows}
-use Rattle.zf_meaning.proofs.AllRows.{IsAmong, row-among, among-row, rows-apart}
+use Rattle.zf_meaning.proofs.Prelude.{◌++◌, ◌∙◌, ◌∷◌, ◌≡◌, ◌≤◌, ◌⊎◌, [], ap, arith, drop, inl, inr, length, length-append, List, map, refl, subst, sym, ⊎_elim, Bor, AreFrom, Every, IsAscending, value_order, every_at, not_below_itself, members, Outcome, Truth, Value, Quantifier, resolved_of, ResolvedPart, ResolvedTree, Resolved, IsNeutral, Context, within, Builds, IsConstraint, IsTruth, seen, all_rows, ahead, IsAt, IsFirst, IsNext, IsPassed, lists_of, Passing, row_of, Skips, scope_of, IsTold, Env, Rows}
+use Rattle.std.proofs.Common.{Less}
+use Rattle.zf_meaning.proofs.AllRows.{AreDistinct, HaveDistinct, IsAmong, row-among, among-row, rows-apart}
 use Rattle.zf_meaning.proofs.Midway as midway
 use Rattle.zf_meaning.proofs.Midway.{IsMidway}
 use Rattle.zf_meaning.proofs.NextRow.{seen-length}
 use Rattle.zf_meaning.proofs.PassedRows.{passed-or-left, left-ahead, left-apart}
-use Rattle.zf_meaning.proofs.Regulars.{have_distinct, regular-row, regular-scope}
 
 -- the rows that are done, and the one that it is at; N says which rows may be passed
 pub record WalksOver (N : List Value → Type 0) (r : Rows) (outside ss : List Value) (done : List (List Value)) : Type 0 where
@@ -13,7 +13,15 @@ pub record WalksOver (N : List Value → Type 0) (r : Rows) (outside ss : List V
   pub lists : lists_of r ≡ map members ss
   pub midway : IsMidway N (all_rows (map members ss)) done (row_of r ∷ ahead r)
 
-pub walk-begun : (N : List Value → Type 0) (r : Rows) (outside ss : List Value) (lists : List (List Value)) → lists ≡ map members ss → AreRegular ss → IsFirst outside lists r → WalksOver N r outside ss []
+distinct : (xs : List Value) → IsAscending xs → AreDistinct xs
+distinct [] h = tt
+distinct (x ∷ xs) h = (λ m. not_below_itself x (every_at (λ y. value_order x y ≡ Less) xs x h.0 m), distinct xs h.1)
+
+have_distinct : (ss : List Value) → Every (λ s. IsAscending (members s)) ss → HaveDistinct ss
+have_distinct [] h = tt
+have_distinct (s ∷ ss) h = (distinct (members s) h.0, have_distinct ss h.1)
+
+pub walk-begun : (N : List Value → Type 0) (r : Rows) (outside ss : List Value) (lists : List (List Value)) → lists ≡ map members ss → Every (λ s. IsAscending (members s)) ss → IsFirst outside lists r → WalksOver N r outside ss []
 walk-begun N r outside ss lists e h f = record {
   at = f.0;
   lists = f.1 ∙ e;
@@ -72,10 +80,6 @@ drop-front (x ∷ xs) ys = drop-front xs ys
 
 pub bound-row : (locals bound : List (Bor Value)) (vs : List Value) → seen bound ≡ seen locals ++ vs → drop (length locals) (seen bound) ≡ vs
 bound-row locals bound vs e = ap (drop (length locals)) e ∙ ap (λ n. drop n (seen locals ++ vs)) (sym (seen-length locals)) ∙ drop-front (seen locals) vs
-
-pub walk-scope : (N : List Value → Type 0) (env : Env) (row : List Value) (locals bound : List (Bor Value)) (r : Rows) (ss : List Value) (done : List (List Value)) → bound ≡ r.bound.items → AreRegular ss → IsRegularScope (scope_of env row locals) → WalksOver N r (seen locals) ss done → IsRegularScope (scope_of env row bound)
-walk-scope N env row locals bound r ss done e g s h =
-    regular-scope env row locals bound (row_of r) s (regular-row ss (row_of r) g (walk-row N r (seen locals) ss done h)) (ap seen e ∙ h.at.1)
 
 -- ---- what is asked of a row
 

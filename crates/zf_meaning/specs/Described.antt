@@ -5,14 +5,14 @@ use Rattle.zf_tree.specs.declared.symbol.Arrow.TheVariants as arrow
 use Rattle.zf_tree.specs.declared.symbol.Relation.{Relation}
 use Rattle.zf_tree.specs.declared.symbol.Relation.TheVariants.{NotMember}
 use Rattle.zf_families.specs.Families.{IsRelation, IsPartialFunction, IsTotalFunction, IsPartialInjection, IsTotalInjection}
-use Rattle.zf_value.specs.declared.value.Value.{Value}
+use Rattle.zf_value.specs.declared.plain.Value.{Value}
 use Rattle.zf_value.specs.declared.value.Outcome.{Outcome}
-use Rattle.zf_value.specs.declared.value.Outcome.TheVariants.{Is}
+use Rattle.zf_value.specs.declared.value.Outcome.TheVariants.{Is, Out}
 use Rattle.zf_value.specs.declared.value.Truth.{Truth}
 use Rattle.zf_value.specs.declared.value.Truth.TheVariants.{True, False}
 use Rattle.zf_value.specs.Numbers.{IsInterval}
 use Rattle.zf_value.specs.Operations.{IsCross, IsPower}
-use Rattle.zf_value.specs.Sets.{IsMember, IsRegular, AreRegular, IsRegularOutcome, members}
+use Rattle.zf_value.specs.Sets.{IsMember, members}
 use Rattle.zf_meaning.specs.declared.described.Described.{Described}
 use Rattle.zf_meaning.specs.declared.described.Described.TheVariants.{Plain, Power, Arrows, Interval, Product}
 use Rattle.zf_meaning.specs.Found.{found_outcome}
@@ -31,13 +31,9 @@ IsDescribed (Product sets) o = IsCross sets.items o
 unfoldable pub IsInDescribed : Described → Value → Type 0
 IsInDescribed d v = (w : Value) × IsDescribed d (Is w) × IsMember v (members w)
 
--- what it is made of is regular
-abbrev pub IsRegularDescribed : Described → Type 0
-IsRegularDescribed (Plain found) = IsRegularOutcome (found_outcome found)
-IsRegularDescribed (Power v) = IsRegular v
-IsRegularDescribed (Arrows kind v w) = IsRegular v × IsRegular w
-IsRegularDescribed (Interval a b) = Unit {0}
-IsRegularDescribed (Product sets) = AreRegular sets.items
+-- it has an outcome, and is not out
+abbrev pub IsWithin : Described → Type 0
+IsWithin d = (o : Outcome) × IsDescribed d o × (IsDescribed d Out → ⊥)
 
 -- it is not there as a value
 abbrev pub IsUnbuilt : Described → Type 0

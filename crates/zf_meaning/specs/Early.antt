@@ -6,7 +6,7 @@ use Rattle.zf_tree.specs.declared.symbol.Quantifier.TheVariants.{ForAll, Exists,
 use Rattle.zf_tree.specs.declared.symbol.Relation.TheVariants.{Equal}
 use Rattle.zf_term.specs.declared.resolved.Resolved.{Resolved, size-Resolved}
 use Rattle.zf_term.specs.ResolvedTrees.{ResolvedTree, reference, number, constant, empty_set, bracket, listed, builder, unary, binary, chain, quantified, link, no_links, resolved_of}
-use Rattle.zf_value.specs.declared.value.Value.{Value}
+use Rattle.zf_value.specs.declared.plain.Value.{Value}
 use Rattle.zf_value.specs.declared.value.Outcome.{Outcome}
 use Rattle.zf_value.specs.declared.value.Outcome.TheVariants as outcome
 use Rattle.zf_value.specs.declared.value.Truth.{Truth}

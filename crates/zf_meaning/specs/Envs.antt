@@ -6,7 +6,7 @@ use Rattle.zf_meaning.specs.declared.env.Env.{Env}
 use Rattle.zf_meaning.specs.Environments.{Environment}
 
 abbrev pub environment_of : Env → Environment
-environment_of e = record { globals = globals_of e.globals.now; sizes = e.sizes.items; outcomes = e.outcomes }
+environment_of e = record { globals = globals_of e.globals.now; sizes = e.sizes.items; outcomes = e.outcomes.items }
 
 -- the environment in which further names, behind all others, have these outcomes
 abbrev pub longer : Environment → List Outcome → Environment

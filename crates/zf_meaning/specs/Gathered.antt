@@ -1,6 +1,6 @@
 -- The values of several terms, one after another. No public clause rests on this.
 use Rattle.std.specs.Prelude.{◌≡◌, List, [], ◌∷◌, ◌++◌}
-use Rattle.zf_value.specs.declared.value.Value.{Value}
+use Rattle.zf_value.specs.declared.plain.Value.{Value}
 use Rattle.zf_value.specs.declared.value.Outcome.{Outcome}
 use Rattle.zf_value.specs.declared.value.Outcome.TheVariants as outcome
 use Rattle.zf_meaning.specs.declared.gathered.Gathered.{Gathered}

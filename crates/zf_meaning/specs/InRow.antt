@@ -1,6 +1,6 @@
 -- The context of a row.
 use Rattle.std.specs.Prelude.{List, []}
-use Rattle.zf_value.specs.declared.value.Value.{Value}
+use Rattle.zf_value.specs.declared.plain.Value.{Value}
 use Rattle.zf_meaning.specs.Environments.{Environment, Context}
 
 -- where these components are bound, and no variables

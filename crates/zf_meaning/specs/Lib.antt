@@ -10,7 +10,6 @@ pub mod Carriers
 pub mod Laws
 pub mod Envs
 pub mod InRow
-pub mod Regular
 pub mod Places
 pub mod Rowed
 pub mod Found

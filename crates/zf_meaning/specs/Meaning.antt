@@ -9,7 +9,7 @@ use Rattle.zf_tree.specs.declared.operator.Operator.TheVariants.{Connective}
 use Rattle.zf_tree.specs.declared.operator.Unary.TheVariants.{Not}
 use Rattle.zf_extent.specs.Extents.{direct, is_membership}
 use Rattle.zf_term.specs.ResolvedTrees.{ResolvedTree, reference, number, constant, empty_set, bracket, listed, builder, unary, binary, chain, quantified, ResolvedTrees, no_terms, term, ResolvedLinks, no_links, link, Ranges, no_ranges, range, ResolvedPart, absent, present}
-use Rattle.zf_value.specs.declared.value.Value.{Value, Tuple}
+use Rattle.zf_value.specs.declared.plain.Value.{Value, Tuple}
 use Rattle.zf_value.specs.declared.value.Outcome.{Outcome}
 use Rattle.zf_value.specs.declared.value.Outcome.TheVariants.{Is, Undefined, Out}
 use Rattle.zf_value.specs.declared.value.Truth.{Truth}

@@ -1,7 +1,7 @@
 -- The rows of ranges one after another, as a walk by places in the ranges meets them. No public clause rests on this.
 use Rattle.std.specs.Prelude.{◌≡◌, ◌⊎◌, ℕ, zero, suc, ◌<◌, List, [], ◌∷◌, ◌++◌, length, map}
 use denote.Bor.{Bor}
-use Rattle.zf_value.specs.declared.value.Value.{Value}
+use Rattle.zf_value.specs.declared.plain.Value.{Value}
 
 -- what references stand for
 abbrev pub seen : {A : Type 0} → List (Bor A) → List A

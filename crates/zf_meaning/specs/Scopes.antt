@@ -1,8 +1,7 @@
 -- Contexts, by their parts. No public clause rests on this.
 use Rattle.std.specs.Prelude.{List}
 use denote.Bor.{Bor}
-use Rattle.zf_value.specs.declared.value.Value.{Value}
-use Rattle.zf_value.specs.Sets.{AreRegular}
+use Rattle.zf_value.specs.declared.plain.Value.{Value}
 use Rattle.zf_meaning.specs.declared.env.Env.{Env}
 use Rattle.zf_meaning.specs.Environments.{Context}
 use Rattle.zf_meaning.specs.Envs.{environment_of}
@@ -11,8 +10,3 @@ use Rattle.zf_meaning.specs.Places.{seen}
 -- what a row and bound variables give
 abbrev pub scope_of : Env → List Value → List (Bor Value) → Context
 scope_of e row locals = record { environment = environment_of e; row = row; locals = seen locals }
-
--- what is bound is regular
-pub record IsRegularScope (c : Context) : Type 0 where
-  pub row : AreRegular c.row
-  pub locals : AreRegular c.locals

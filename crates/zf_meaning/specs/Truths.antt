@@ -4,7 +4,7 @@ use Rattle.zf_tree.specs.declared.symbol.Connective.{Connective}
 use Rattle.zf_tree.specs.declared.symbol.Connective.TheVariants as connective
 use Rattle.zf_tree.specs.declared.symbol.Quantifier.{Quantifier}
 use Rattle.zf_tree.specs.declared.symbol.Quantifier.TheVariants as quantifier
-use Rattle.zf_value.specs.declared.value.Value.{Value}
+use Rattle.zf_value.specs.declared.plain.Value.{Value}
 use Rattle.zf_value.specs.declared.value.Outcome.{Outcome}
 use Rattle.zf_value.specs.declared.value.Outcome.TheVariants as outcome
 use Rattle.zf_value.specs.declared.value.Truth.{Truth}

@@ -4,7 +4,7 @@ ghost use Rattle.zf_term.specs.Definitions.{definition_of, globals_of};
 ghost use Rattle.zf_term.specs.FirstNamed.{first_named};
 ghost use Rattle.zf_term.specs.Types.{type_of, types};
 ghost use Rattle.zf_value.specs.Operations.{IsPower};
-ghost use Rattle.zf_value.specs.Sets.{AreRegular, IsRegularOutcome, members};
+ghost use Rattle.zf_value.specs.Sets.{members};
 ghost use Rattle.zf_meaning.specs.Carriers.{IsCarrier, AreCarriers, IsTypeSetIf};
 ghost use Rattle.zf_meaning.specs.Environments.{definition_number, found_number, type_number};
 ghost use Rattle.zf_meaning.specs.Envs.{environment_of};
@@ -27,8 +27,7 @@ use zf_value::value::Outcome;
 #[cycle(carrier)]
 #[tactic(auto, using(zf_term::proofs::TypesSeen::seen))]
 pub fn carrier_of(ztype: &ZType<'_>, env: &Env<'_, '_>) -> Result<Outcome, AllocError>
-    ensures is { IfOk result (IsCarrier (environment_of env.now) (type_of ztype.now)) }
-    ensures regular { IfOk result IsRegularOutcome }
+    ensures { IfOk result (IsCarrier (environment_of env.now) (type_of ztype.now)) }
 {
     match ztype {
         ZType::Int => Ok(Outcome::Out),
@@ -47,8 +46,7 @@ pub fn carrier_of(ztype: &ZType<'_>, env: &Env<'_, '_>) -> Result<Outcome, Alloc
 /// The carriers of several types.
 #[cycle(carrier)]
 fn carriers_of(parts: &[ZType<'_>], env: &Env<'_, '_>) -> Result<Gathered, AllocError>
-    ensures is { IfOk result (λ s. AreCarriers (environment_of env.now) (types (map type_of parts.now)) (several_of s)) }
-    ensures regular { IfOk result (λ s. AreRegular s.values.items) }
+    ensures { IfOk result (λ s. AreCarriers (environment_of env.now) (types (map type_of parts.now)) (several_of s)) }
 {
     let alloc = env.allocator();
     let mut gathered = Gathered::with_room(alloc, parts.len())?;
@@ -60,8 +58,7 @@ fn carriers_of(parts: &[ZType<'_>], env: &Env<'_, '_>) -> Result<Gathered, Alloc
 }
 
 fn basic_carrier(name: &[u8], env: &Env<'_, '_>) -> Result<Outcome, AllocError>
-    ensures is { IfOk result (IsTypeSetIf (environment_of env.now) (type_number (environment_of env.now) name.now)) }
-    ensures regular { IfOk result IsRegularOutcome }
+    ensures { IfOk result (IsTypeSetIf (environment_of env.now) (type_number (environment_of env.now) name.now)) }
 {
     match number_named(env.globals(), name) {
         Some(number) => type_set(env, number),
@@ -93,12 +90,10 @@ fn number_of(entry: &Entry<'_>) -> Option<usize>
 }
 
 fn power_of(alloc: Global, carrier: &Outcome) -> Result<Outcome, AllocError>
-    requires { IsRegularOutcome carrier.now }
-    ensures is { IfOk result (OnOne carrier.now (λ v. IsPower (members v))) }
-    ensures regular { IfOk result IsRegularOutcome }
+    ensures { IfOk result (OnOne carrier.now (λ v. IsPower (members v))) }
 {
     match carrier {
-        Outcome::Is(set) => power(alloc, set.members()),
+        Outcome::Is(set) => power(alloc, set),
         Outcome::Undefined => Ok(Outcome::Undefined),
         Outcome::Out => Ok(Outcome::Out),
     }

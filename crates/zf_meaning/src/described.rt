@@ -1,12 +1,13 @@
 //! Sets that are tested for members without being built.
-ghost use Rattle.std.specs.Prelude.{◌≡◌, ◌↔◌, IsTrue, IfOk};
+ghost use Rattle.std.specs.Prelude.{◌≡◌, ◌↔◌, ◌⊎◌, IsTrue, IfOk};
 ghost use Rattle.zf_extent.specs.Extents.{is_membership};
 ghost use Rattle.zf_value.specs.declared.value.Outcome.TheVariants as outcome;
+ghost use Rattle.zf_value.specs.declared.plain.Value as value;
 ghost use Rattle.zf_meaning.specs.declared.described.Described.TheVariants as form;
 ghost use Rattle.zf_value.specs.Numbers.{number_of, OnNumbers, IsInterval};
 ghost use Rattle.zf_value.specs.Operations.{IsCross, IsPower};
-ghost use Rattle.zf_value.specs.Sets.{IsRegular, AreRegular, IsRegularOutcome, members};
-ghost use Rattle.zf_meaning.specs.Described.{Describes, IsDescribed, IsInDescribed, IsOfArrow, IsRegularDescribed, IsTruthIn, IsUnbuilt, told_in};
+ghost use Rattle.zf_value.specs.Sets.{members};
+ghost use Rattle.zf_meaning.specs.Described.{Describes, IsDescribed, IsInDescribed, IsOfArrow, IsTruthIn, IsUnbuilt, IsWithin, told_in};
 ghost use Rattle.zf_meaning.specs.Found.{found_outcome};
 ghost use Rattle.zf_meaning.specs.Gathered.{several_of};
 ghost use Rattle.zf_meaning.specs.Outcomes.{OnOne, OnSeveral};
@@ -49,8 +50,7 @@ pub enum Described<'v> {
 
 /// `\power`, of an outcome.
 pub(crate) fn power_of<'v>(alloc: Global, set: Found<'v>) -> Result<Described<'v>, AllocError>
-    ensures is { IfOk result (Describes (OnOne (found_outcome set.entry) (λ v. IsPower (members v)))) }
-    ensures regular { IsRegularOutcome (found_outcome set.entry) → IfOk result IsRegularDescribed }
+    ensures { IfOk result (Describes (OnOne (found_outcome set.entry) (λ v. IsPower (members v)))) }
 {
     match set {
         Found::Is(set) => Ok(Described::Power(set.into_value(alloc)?)),
@@ -61,8 +61,7 @@ pub(crate) fn power_of<'v>(alloc: Global, set: Found<'v>) -> Result<Described<'v
 
 /// The numbers from the one to the other, if both are numbers.
 pub(crate) fn interval_between<'v>(v: &Value, w: &Value) -> Described<'v>
-    ensures is { Describes (OnNumbers (number_of v.now) (number_of w.now) IsInterval) result }
-    ensures regular { IsRegularDescribed result }
+    ensures { Describes (OnNumbers (number_of v.now) (number_of w.now) IsInterval) result }
 {
     let Some(from) = v.number() else {
         return Described::Plain(Found::Undefined);
@@ -75,9 +74,7 @@ pub(crate) fn interval_between<'v>(v: &Value, w: &Value) -> Described<'v>
 
 /// The product of the values, which are sets.
 pub(crate) fn product_of<'v>(alloc: Global, gathered: Gathered) -> Result<Described<'v>, AllocError>
-    requires { AreRegular gathered.values.items }
-    ensures is { IfOk result (Describes (OnSeveral (several_of gathered) IsCross)) }
-    ensures regular { IfOk result IsRegularDescribed }
+    ensures { IfOk result (Describes (OnSeveral (several_of gathered) IsCross)) }
 {
     match gathered.lack {
         Lack::Nothing => Ok(Described::Product(owned(alloc, gathered.values)?)),
@@ -101,20 +98,19 @@ fn owned<'v>(alloc: Global, values: Vec<Value>) -> Result<Vec<Lent<'v>>, AllocEr
 impl<'v> Described<'v> {
     /// What is known to come to this outcome.
     pub fn of(outcome: Outcome) -> Described<'v>
-        ensures is { Describes (λ o. o ≡ outcome) result }
-        ensures regular { IsRegularOutcome outcome → IsRegularDescribed result }
+        ensures { Describes (λ o. o ≡ outcome) result }
     {
         Described::Plain(Found::own(outcome))
     }
 
     /// Whether it is out.
     pub fn is_out(&self) -> bool
-        requires { IsRegularDescribed self.now }
-        ensures { IsTrue result ↔ IsDescribed self.now outcome.Out }
+        ensures out { IsTrue result ↔ IsDescribed self.now outcome.Out }
+        ensures within { IsTrue result ⊎ IsWithin self.now }
     {
         match self {
             Described::Plain(found) => is_found_out(found),
-            Described::Power(set) => is_power_out(set.members()),
+            Described::Power(set) => is_power_out(set),
             Described::Arrows(kind, from, to) => are_arrows_out(*kind, from, to),
             Described::Interval(from, to) => is_interval_out(*from, *to),
             Described::Product(sets) => is_cross_out(sets.as_slice()),
@@ -123,14 +119,12 @@ impl<'v> Described<'v> {
 
     /// Whether the value is a member. What is undefined has none.
     pub fn has(&self, v: &Value) -> bool
-        requires regular { IsRegularDescribed self.now }
-        requires within { IsDescribed self.now outcome.Out → ⊥ }
-        requires value { IsRegular v.now }
+        requires { IsWithin self.now }
         ensures { IsTrue result ↔ IsInDescribed self.now v.now }
     {
         match self {
             Described::Plain(found) => is_found_in(found, v),
-            Described::Power(set) => is_in_power(v, set.members()),
+            Described::Power(set) => is_in_power(v, set),
             Described::Arrows(kind, from, to) => is_of_arrow(*kind, v, from, to),
             Described::Interval(from, to) => is_between(v, *from, *to),
             Described::Product(sets) => is_in_cross(v, sets.as_slice()),
@@ -140,9 +134,7 @@ impl<'v> Described<'v> {
 
 /// The truth of a membership in what is described.
 pub(crate) fn membership(relation: Relation, x: &Found<'_>, set: &Described<'_>) -> Truth
-    requires relation { IsTrue (is_membership relation) }
-    requires x { IsRegularOutcome (found_outcome x.now) }
-    requires set { IsRegularDescribed set.now }
+    requires { IsTrue (is_membership relation) }
     ensures { IsTruthIn (IsDescribed set.now) relation (found_outcome x.now) result }
 {
     match set {
@@ -158,8 +150,6 @@ pub(crate) fn membership(relation: Relation, x: &Found<'_>, set: &Described<'_>)
 fn in_unbuilt(relation: Relation, x: &Found<'_>, set: &Described<'_>) -> Truth
     requires relation { IsTrue (is_membership relation) }
     requires unbuilt { IsUnbuilt set.now }
-    requires x { IsRegularOutcome (found_outcome x.now) }
-    requires set { IsRegularDescribed set.now }
     ensures { IsTruthIn (IsDescribed set.now) relation (found_outcome x.now) result }
 {
     if set.is_out() {
@@ -193,12 +183,10 @@ fn is_found_out(found: &Found<'_>) -> bool
 }
 
 fn is_found_in(found: &Found<'_>, v: &Value) -> bool
-    requires found { IsRegularOutcome (found_outcome found.now) }
-    requires value { IsRegular v.now }
     ensures { IsTrue result ↔ IsInDescribed (form.Plain found.now) v.now }
 {
     match found {
-        Found::Is(set) => is_member(v, set.get().members()),
+        Found::Is(set) => is_member(v, set.get()),
         Found::Undefined => false,
         Found::Out => false,
     }
@@ -213,33 +201,27 @@ fn is_between(v: &Value, from: i64, to: i64) -> bool
 }
 
 fn are_arrows_out(kind: Arrow, v: &Value, w: &Value) -> bool
-    requires v { IsRegular v.now }
-    requires w { IsRegular w.now }
-    ensures { IsTrue result ↔ ArrowOutcome kind v.now w.now outcome.Out }
+    ensures out { IsTrue result ↔ ArrowOutcome kind v.now w.now outcome.Out }
+    ensures there { IsTrue result ⊎ ((s : value.Value) × ArrowOutcome kind v.now w.now (outcome.Is s)) }
 {
-    let (from, to) = (v.members(), w.members());
     match kind {
-        Arrow::Relation => are_relations_out(from, to),
-        Arrow::PartialFunction => are_partial_functions_out(from, to),
-        Arrow::TotalFunction => are_total_functions_out(from, to),
-        Arrow::PartialInjection => are_partial_injections_out(from, to),
-        Arrow::TotalInjection => are_total_injections_out(from, to),
+        Arrow::Relation => are_relations_out(v, w),
+        Arrow::PartialFunction => are_partial_functions_out(v, w),
+        Arrow::TotalFunction => are_total_functions_out(v, w),
+        Arrow::PartialInjection => are_partial_injections_out(v, w),
+        Arrow::TotalInjection => are_total_injections_out(v, w),
     }
 }
 
 /// Whether it is a relation or function of this kind from the members of the one to those of the other.
 fn is_of_arrow(kind: Arrow, f: &Value, v: &Value, w: &Value) -> bool
-    requires f { IsRegular f.now }
-    requires v { IsRegular v.now }
-    requires w { IsRegular w.now }
     ensures { IsTrue result ↔ IsOfArrow kind v.now w.now f.now }
 {
-    let (from, to) = (v.members(), w.members());
     match kind {
-        Arrow::Relation => is_relation(f, from, to),
-        Arrow::PartialFunction => is_partial_function(f, from, to),
-        Arrow::TotalFunction => is_total_function(f, from, to),
-        Arrow::PartialInjection => is_partial_injection(f, from, to),
-        Arrow::TotalInjection => is_total_injection(f, from, to),
+        Arrow::Relation => is_relation(f, v, w),
+        Arrow::PartialFunction => is_partial_function(f, v, w),
+        Arrow::TotalFunction => is_total_function(f, v, w),
+        Arrow::PartialInjection => is_partial_injection(f, v, w),
+        Arrow::TotalInjection => is_total_injection(f, v, w),
     }
 }

@@ -3,11 +3,9 @@ ghost use Rattle.std.specs.Prelude.{◌≡◌, [], ◌∷◌, None, Some, IfOk, 
 ghost use Rattle.zf_term.specs.Definitions.{globals_of};
 ghost use Rattle.zf_meaning.specs.Envs.{environment_of, longer};
 ghost use Rattle.zf_meaning.specs.GlobalOutcomes.{IsEnvironment, AreWorkedOut};
-ghost use Rattle.zf_value.specs.Sets.{IsRegularOutcome};
 ghost use Rattle.zf_meaning.specs.Sizes.{given_sets, AreComplete, IsRefusal};
 
 use crate::global_outcome::outcome_at;
-use crate::outcomes::Outcomes;
 use crate::sizes::{Size, SizeFault, check_sizes, given_names, sizes_of};
 use std::alloc::{AllocError, Global};
 use zf_term::globals::Globals;
@@ -18,7 +16,7 @@ use zf_value::value::Outcome;
 pub struct Env<'g, 'a> {
     globals: &'g Globals<'a>,
     sizes: Vec<u64>,
-    outcomes: Outcomes,
+    outcomes: Vec<Outcome>,
 }
 
 impl<'g, 'a> Env<'g, 'a> {
@@ -52,8 +50,7 @@ impl<'g, 'a> Env<'g, 'a> {
 
     /// The outcome of the global at this place.
     pub(crate) fn outcome(&self, place: usize) -> Option<&Outcome>
-        ensures is { MatchOption result (slice_get (environment_of self.now).outcomes place ≡ None) (λ o. slice_get (environment_of self.now).outcomes place ≡ Some o.now) }
-        ensures regular { MatchOption result (Unit {0}) (λ o. IsRegularOutcome o.now) }
+        ensures { MatchOption result (slice_get (environment_of self.now).outcomes place ≡ None) (λ o. slice_get (environment_of self.now).outcomes place ≡ Some o.now) }
     {
         self.outcomes.get(place)
     }
@@ -67,10 +64,10 @@ impl<'g, 'a> Env<'g, 'a> {
 
     /// Gives the next name behind all others this outcome.
     pub fn add(&mut self, outcome: Outcome) -> Result<(), AllocError>
-        requires { IsRegularOutcome outcome }
         ensures { OnOk result (environment_of self.new ≡ longer (environment_of self.old) (outcome ∷ [])) }
     {
-        self.outcomes.push(outcome)
+        self.outcomes.push(outcome)?;
+        Ok(())
     }
 
     /// The same globals at the same sizes.
@@ -82,7 +79,7 @@ impl<'g, 'a> Env<'g, 'a> {
         Ok(Env {
             globals: self.globals,
             sizes,
-            outcomes: self.outcomes.copy(alloc)?,
+            outcomes: copied(alloc, &self.outcomes)?,
         })
     }
 
@@ -104,11 +101,22 @@ fn worked_out<'g, 'a>(
     let mut env = Env {
         globals,
         sizes,
-        outcomes: Outcomes::new(alloc),
+        outcomes: Vec::new(alloc),
     };
     for place in 0..globals.len() {
         let outcome = outcome_at(&env, place)?;
         env.outcomes.push(outcome)?;
     }
     Ok(env)
+}
+
+/// The same outcomes.
+fn copied(alloc: Global, outcomes: &[Outcome]) -> Result<Vec<Outcome>, AllocError>
+    ensures { IfOk result (λ out. out.items ≡ outcomes.now) }
+{
+    let mut out = Vec::with_capacity(alloc, outcomes.len())?;
+    for outcome in outcomes {
+        out.push(outcome.copy(alloc)?)?;
+    }
+    Ok(out)
 }

@@ -3,14 +3,13 @@ ghost use Rattle.std.specs.Prelude.{◌≡◌, IfOk, pos, slice_get};
 ghost use Rattle.zf_term.specs.ResolvedTrees.{resolved_of};
 ghost use Rattle.zf_value.specs.Numbers.{IsNumber};
 ghost use Rattle.zf_value.specs.Operations.{IsEmptySet};
-ghost use Rattle.zf_value.specs.Sets.{IsRegularOutcome};
 ghost use Rattle.zf_meaning.specs.Environments as spec;
 ghost use Rattle.zf_meaning.specs.Envs.{environment_of};
 ghost use Rattle.zf_meaning.specs.Found.{found_of, found_outcome};
 ghost use Rattle.zf_meaning.specs.Meaning as meaning;
 ghost use Rattle.zf_meaning.specs.Meaning.{HasOutcome, IsTruth};
 ghost use Rattle.zf_meaning.specs.Places.{seen};
-ghost use Rattle.zf_meaning.specs.Scopes.{scope_of, IsRegularScope};
+ghost use Rattle.zf_meaning.specs.Scopes.{scope_of};
 
 mod binders;
 mod chains;
@@ -33,7 +32,7 @@ use zf_tree::operator::{Operator, Unary};
 use zf_tree::symbol::Constant;
 use zf_value::lent::Lent;
 use zf_value::set;
-use zf_value::value::{Outcome, Truth, Value};
+use zf_value::value::{Form, Outcome, Truth, Value};
 
 /// The outcome of an expression.
 #[cycle(meaning)]
@@ -44,9 +43,7 @@ pub(crate) fn outcome<'v, 'a, R: Row>(
     locals: &[&'v Value],
     env: &'v Env<'_, 'a>,
 ) -> Result<Found<'v>, AllocError>
-    requires { IsRegularScope (scope_of env.now (R.values row.now) locals.now) }
-    ensures is { IfOk result (λ o. HasOutcome (scope_of env.now (R.values row.now) locals.now) (resolved_of term.now) (found_outcome o)) }
-    ensures regular { IfOk result (λ o. IsRegularOutcome (found_outcome o)) }
+    ensures { IfOk result (λ o. HasOutcome (scope_of env.now (R.values row.now) locals.now) (resolved_of term.now) (found_outcome o)) }
 {
     match term {
         Resolved::Name(_, reference) => Ok(named(*reference, row, locals, env)),
@@ -74,7 +71,6 @@ pub(crate) fn truth<'v, 'a, R: Row>(
     locals: &[&'v Value],
     env: &'v Env<'_, 'a>,
 ) -> Result<Truth, AllocError>
-    requires { IsRegularScope (scope_of env.now (R.values row.now) locals.now) }
     ensures { IfOk result (IsTruth (scope_of env.now (R.values row.now) locals.now) (resolved_of term.now)) }
 {
     match term {
@@ -100,9 +96,7 @@ fn named<'v, 'a, R: Row>(
     locals: &[&'v Value],
     env: &'v Env<'_, 'a>,
 ) -> Found<'v>
-    requires { IsRegularScope (scope_of env.now (R.values row.now) locals.now) }
-    ensures is { found_outcome result ≡ spec.outcome_in (scope_of env.now (R.values row.now) locals.now) reference }
-    ensures regular { IsRegularOutcome (found_outcome result) }
+    ensures { found_outcome result ≡ spec.outcome_in (scope_of env.now (R.values row.now) locals.now) reference }
 {
     match reference {
         Reference::Component(place) => Found::lent(component(row, place)),
@@ -132,8 +126,7 @@ fn local<'v>(locals: &[&'v Value], place: usize) -> Option<&'v Value>
 }
 
 fn global<'v>(env: &'v Env<'_, '_>, place: usize) -> Found<'v>
-    ensures is { found_outcome result ≡ spec.outcome_or (slice_get (environment_of env.now).outcomes place) }
-    ensures regular { IsRegularOutcome (found_outcome result) }
+    ensures { found_outcome result ≡ spec.outcome_or (slice_get (environment_of env.now).outcomes place) }
 {
     match env.outcome(place) {
         Some(outcome) => Found::seen(outcome),
@@ -142,11 +135,10 @@ fn global<'v>(env: &'v Env<'_, '_>, place: usize) -> Found<'v>
 }
 
 fn number<'v>(value: u64) -> Found<'v>
-    ensures is { IsNumber (pos value) (found_outcome result) }
-    ensures regular { IsRegularOutcome (found_outcome result) }
+    ensures { IsNumber (pos value) (found_outcome result) }
 {
     match i64::try_from(value) {
-        Ok(n) => Found::Is(Lent::own(Value::Int(n))),
+        Ok(n) => Found::Is(Lent::own(Value { form: Form::Int(n) })),
         Err(_) => Found::Out,
     }
 }
@@ -177,8 +169,7 @@ fn constant_truth(constant: Constant) -> Truth
 
 /// The set without members.
 fn empty_set<'v>(alloc: Global) -> Result<Found<'v>, AllocError>
-    ensures is { IfOk result (λ o. IsEmptySet (found_outcome o)) }
-    ensures regular { IfOk result (λ o. IsRegularOutcome (found_outcome o)) }
+    ensures { IfOk result (λ o. IsEmptySet (found_outcome o)) }
 {
     Ok(Found::own(set::empty_set(alloc)?))
 }

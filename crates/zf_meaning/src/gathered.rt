@@ -1,6 +1,5 @@
 //! The values of several terms.
 ghost use Rattle.std.specs.Prelude.{◌≡◌, [], IfOk, OnOk};
-ghost use Rattle.zf_value.specs.Sets.{AreRegular, IsRegularOutcome};
 ghost use Rattle.zf_meaning.specs.Found.{found_outcome};
 ghost use Rattle.zf_meaning.specs.Gathered as spec;
 
@@ -42,8 +41,7 @@ impl Gathered {
 
     /// Adds the outcome of a further term.
     pub(crate) fn add(&mut self, alloc: Global, found: Found<'_>) -> Result<(), AllocError>
-        ensures is { OnOk result (spec.Adds self.old (found_outcome found.entry) self.new) }
-        ensures regular { AreRegular self.old.values.items → IsRegularOutcome (found_outcome found.entry) → OnOk result (AreRegular self.new.values.items) }
+        ensures { OnOk result (spec.Adds self.old (found_outcome found.entry) self.new) }
     {
         match found {
             Found::Is(value) => self.values.push(value.into_value(alloc)?)?,

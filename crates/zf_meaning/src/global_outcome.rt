@@ -1,7 +1,6 @@
 //! The outcomes of globals, each by those before it.
 ghost use Rattle.std.specs.Prelude.{◌≡◌, Some, IfOk, slice_get};
 ghost use Rattle.zf_term.specs.Definitions.{Defined, definition_of};
-ghost use Rattle.zf_value.specs.Sets.{IsRegularOutcome};
 ghost use Rattle.zf_meaning.specs.Environments as spec;
 ghost use Rattle.zf_meaning.specs.Environments.{IsTypeSet};
 ghost use Rattle.zf_meaning.specs.Envs.{environment_of};
@@ -12,12 +11,11 @@ use crate::value::value_of;
 use std::alloc::AllocError;
 use zf_term::globals::Entry;
 use zf_value::set::elements;
-use zf_value::value::{Outcome, Value};
+use zf_value::value::{Form, Outcome, Value};
 
 /// The outcome of the global at this place, by those that are worked out.
 pub(crate) fn outcome_at(env: &Env<'_, '_>, place: usize) -> Result<Outcome, AllocError>
-    ensures is { (d : Defined) → slice_get (environment_of env.now).globals place ≡ Some d → IfOk result (IsOutcomeOf (environment_of env.now) d.definition) }
-    ensures regular { IfOk result IsRegularOutcome }
+    ensures { (d : Defined) → slice_get (environment_of env.now).globals place ≡ Some d → IfOk result (IsOutcomeOf (environment_of env.now) d.definition) }
 {
     match env.globals().in_order(place) {
         Some((_, entry)) => outcome_of(env, entry),
@@ -26,8 +24,7 @@ pub(crate) fn outcome_at(env: &Env<'_, '_>, place: usize) -> Result<Outcome, All
 }
 
 fn outcome_of<'a>(env: &Env<'_, 'a>, entry: &Entry<'a>) -> Result<Outcome, AllocError>
-    ensures is { IfOk result (IsOutcomeOf (environment_of env.now) (definition_of entry.now)) }
-    ensures regular { IfOk result IsRegularOutcome }
+    ensures { IfOk result (IsOutcomeOf (environment_of env.now) (definition_of entry.now)) }
 {
     let no_row: &[Value] = &[];
     match entry {
@@ -41,8 +38,7 @@ fn outcome_of<'a>(env: &Env<'_, 'a>, entry: &Entry<'a>) -> Result<Outcome, Alloc
 
 /// The set of all elements of the type of this number.
 pub(crate) fn type_set(env: &Env<'_, '_>, number: usize) -> Result<Outcome, AllocError>
-    ensures is { IfOk result (IsTypeSet (environment_of env.now) number) }
-    ensures regular { IfOk result IsRegularOutcome }
+    ensures { IfOk result (IsTypeSet (environment_of env.now) number) }
 {
     match u32::try_from(number) {
         Ok(number) => elements_of(env, number),
@@ -51,8 +47,7 @@ pub(crate) fn type_set(env: &Env<'_, '_>, number: usize) -> Result<Outcome, Allo
 }
 
 fn elements_of(env: &Env<'_, '_>, number: u32) -> Result<Outcome, AllocError>
-    ensures is { IfOk result (spec.AreElementsIf number (slice_get (environment_of env.now).sizes number)) }
-    ensures regular { IfOk result IsRegularOutcome }
+    ensures { IfOk result (spec.AreElementsIf number (slice_get (environment_of env.now).sizes number)) }
 {
     match env.size(number) {
         Some(count) => elements(env.allocator(), number, count),
@@ -62,11 +57,12 @@ fn elements_of(env: &Env<'_, '_>, number: u32) -> Result<Outcome, AllocError>
 
 /// The element at this place of the type of this number.
 fn element(number: usize, place: usize) -> Outcome
-    ensures is { result ≡ spec.element number place }
-    ensures regular { IsRegularOutcome result }
+    ensures { result ≡ spec.element number place }
 {
     match u32::try_from(number) {
-        Ok(number) => Outcome::Is(Value::Elem(number, place as u64)),
+        Ok(number) => Outcome::Is(Value {
+            form: Form::Elem(number, place as u64),
+        }),
         Err(_) => Outcome::Undefined,
     }
 }

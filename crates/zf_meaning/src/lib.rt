@@ -11,7 +11,6 @@ mod gathered;
 mod global_outcome;
 pub mod laws;
 mod needs;
-mod outcomes;
 mod relation;
 pub mod row;
 mod rows;

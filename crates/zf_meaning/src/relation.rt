@@ -1,8 +1,8 @@
 //! What relations say of the outcomes of their sides.
 ghost use Rattle.std.specs.Prelude.{◌≡◌, ◌↔◌, if◌then◌else◌, IsTrue};
 ghost use Rattle.zf_value.specs.declared.value.Outcome.TheVariants.{Is};
-ghost use Rattle.zf_value.specs.declared.value.Value.{Int};
-ghost use Rattle.zf_value.specs.Sets.{AreAmong, IsRegular, IsRegularOutcome, IsRegularSet};
+ghost use Rattle.zf_value.specs.declared.plain.Value.{Int};
+ghost use Rattle.zf_value.specs.Sets.{AreAmong, members};
 ghost use Rattle.zf_meaning.specs.Arithmetic.{AreOrdered, IsFrom};
 ghost use Rattle.zf_meaning.specs.Found.{found_outcome};
 ghost use Rattle.zf_meaning.specs.Meaning.{IsLink};
@@ -13,7 +13,7 @@ use crate::found::Found;
 use zf_term::extent::Infinite;
 use zf_tree::symbol::Relation;
 use zf_value::set::{are_among, is_member};
-use zf_value::value::{Truth, Value};
+use zf_value::value::{Form, Truth, Value};
 
 /// The truth of a link between two outcomes, where the right one may be an infinite set instead.
 pub(crate) fn link(
@@ -22,8 +22,6 @@ pub(crate) fn link(
     x: &Found<'_>,
     y: &Found<'_>,
 ) -> Truth
-    requires x { IsRegularOutcome (found_outcome x.now) }
-    requires y { IsRegularOutcome (found_outcome y.now) }
     ensures { IsLink infinite relation (found_outcome x.now) (found_outcome y.now) result }
 {
     match infinite {
@@ -33,8 +31,6 @@ pub(crate) fn link(
 }
 
 pub(crate) fn atom(relation: Relation, x: &Found<'_>, y: &Found<'_>) -> Truth
-    requires x { IsRegularOutcome (found_outcome x.now) }
-    requires y { IsRegularOutcome (found_outcome y.now) }
     ensures { IsAtom (found_outcome x.now) (found_outcome y.now) (Holds relation) result }
 {
     match (x, y) {
@@ -50,7 +46,10 @@ pub(crate) fn atom(relation: Relation, x: &Found<'_>, y: &Found<'_>) -> Truth
 pub(crate) fn between_numbers(relation: Relation, m: i64, n: i64) -> Truth
     ensures { IsAtom (Is (Int m)) (Is (Int n)) (Holds relation) result }
 {
-    told(holds(relation, &Value::Int(m), &Value::Int(n)))
+    let left = Value { form: Form::Int(m) };
+    let right = Value { form: Form::Int(n) };
+    let does = holds(relation, &left, &right);
+    told(does)
 }
 
 fn test(set: Infinite, relation: Relation, x: &Found<'_>) -> Truth
@@ -72,17 +71,15 @@ fn told(holds: bool) -> Truth
 
 /// Whether the relation holds between two values.
 fn holds(relation: Relation, v: &Value, w: &Value) -> bool
-    requires v { IsRegular v.now }
-    requires w { IsRegular w.now }
     ensures { IsTrue result ↔ Holds relation v.now w.now }
 {
     match relation {
         Relation::Equal => v.equals(w),
         Relation::NotEqual => !v.equals(w),
-        Relation::Member => is_member(v, w.members()),
-        Relation::NotMember => !is_member(v, w.members()),
-        Relation::Subset => are_among(v.members(), w.members()),
-        Relation::ProperSubset => is_proper(v.members(), w.members()),
+        Relation::Member => is_member(v, w),
+        Relation::NotMember => !is_member(v, w),
+        Relation::Subset => are_among(v.members(), w),
+        Relation::ProperSubset => is_proper(v, w),
         Relation::Less => compares(relation, v, w),
         Relation::AtMost => compares(relation, v, w),
         Relation::Greater => compares(relation, v, w),
@@ -90,22 +87,23 @@ fn holds(relation: Relation, v: &Value, w: &Value) -> bool
     }
 }
 
-fn is_proper(values: &[Value], set: &[Value]) -> bool
-    requires values { IsRegularSet values.now }
-    requires set { IsRegularSet set.now }
-    ensures { IsTrue result ↔ (AreAmong values.now set.now × (AreAmong set.now values.now → ⊥)) }
+fn is_proper(v: &Value, w: &Value) -> bool
+    ensures { IsTrue result ↔ (AreAmong (members v.now) (members w.now) × (AreAmong (members w.now) (members v.now) → ⊥)) }
 {
-    are_among(values, set) && !are_among(set, values)
+    are_among(v.members(), w) && !are_among(w.members(), v)
 }
 
 /// Whether both are numbers in this order.
 fn compares(relation: Relation, v: &Value, w: &Value) -> bool
     ensures { IsTrue result ↔ Compares (AreOrdered relation) v.now w.now }
 {
-    match (v.number(), w.number()) {
-        (Some(m), Some(n)) => are_ordered(relation, m, n),
-        _ => false,
-    }
+    let Some(m) = v.number() else {
+        return false;
+    };
+    let Some(n) = w.number() else {
+        return false;
+    };
+    are_ordered(relation, m, n)
 }
 
 fn are_ordered(relation: Relation, m: i64, n: i64) -> bool

@@ -6,7 +6,7 @@ use zf_value::value::Value;
 /// A list of values that are lent.
 pub trait Row {
     ghost use Rattle.std.specs.Prelude.{List};
-    ghost use Rattle.zf_value.specs.declared.value.Value as value;
+    ghost use Rattle.zf_value.specs.declared.plain.Value as value;
 
     /// The values.
     ghost values: { Self → List value.Value };

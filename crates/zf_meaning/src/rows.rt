@@ -1,7 +1,7 @@
 //! The rows of ranges, one after another.
 ghost use Rattle.std.specs.Prelude.{◌≡◌, ◌⊎◌, ◌==◌, ◌+◌, ◌<◌, ◌≤◌, [], ◌∷◌, ◌++◌, IfOk, OnOk, MatchOption, List, length, take, slice_index_or};
 ghost use Rattle.std.specs.List.{list_any};
-ghost use Rattle.zf_value.specs.declared.value.Value as value;
+ghost use Rattle.zf_value.specs.declared.plain.Value as value;
 ghost use Rattle.zf_meaning.specs.Places.{seen, all_rows, rows_after, picked, ArePlaces};
 ghost use Rattle.zf_meaning.specs.declared.rows.Passing.TheVariants as passing;
 ghost use Rattle.zf_meaning.specs.Rowed.{ahead, row_of, AreOthers, IsAt, IsFirst, IsNext, Skips};

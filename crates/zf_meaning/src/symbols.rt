@@ -1,6 +1,5 @@
 //! What each symbol makes of the outcomes of its operands.
 ghost use Rattle.std.specs.Prelude.{◌≡◌, IfOk};
-ghost use Rattle.zf_value.specs.Sets.{AreRegular, IsRegular, IsRegularOutcome};
 ghost use Rattle.zf_value.specs.Numbers.{number_of, OnNumbers};
 ghost use Rattle.zf_value.specs.Operations.{IsCross};
 ghost use Rattle.zf_meaning.specs.Arithmetic.{NumbersOutcome};
@@ -34,10 +33,7 @@ pub(crate) fn on_both(
     x: &Found<'_>,
     y: &Found<'_>,
 ) -> Result<Outcome, AllocError>
-    requires x { IsRegularOutcome (found_outcome x.now) }
-    requires y { IsRegularOutcome (found_outcome y.now) }
-    ensures is { IfOk result (OnBoth (found_outcome x.now) (found_outcome y.now) (BinaryOutcome op)) }
-    ensures regular { IfOk result IsRegularOutcome }
+    ensures { IfOk result (OnBoth (found_outcome x.now) (found_outcome y.now) (BinaryOutcome op)) }
 {
     match (x, y) {
         (Found::Out, _) => Ok(Outcome::Out),
@@ -50,9 +46,7 @@ pub(crate) fn on_both(
 
 /// A symbol before or behind an outcome.
 pub(crate) fn on_one(alloc: Global, op: Unary, x: &Found<'_>) -> Result<Outcome, AllocError>
-    requires { IsRegularOutcome (found_outcome x.now) }
-    ensures is { IfOk result (OnOne (found_outcome x.now) (UnaryOutcome op)) }
-    ensures regular { IfOk result IsRegularOutcome }
+    ensures { IfOk result (OnOne (found_outcome x.now) (UnaryOutcome op)) }
 {
     match x {
         Found::Out => Ok(Outcome::Out),
@@ -67,9 +61,7 @@ pub(crate) fn on_several(
     form: Listed,
     gathered: Gathered,
 ) -> Result<Outcome, AllocError>
-    requires { AreRegular gathered.values.items }
-    ensures is { IfOk result (OnSeveral (several_of gathered) (ListedOutcome form)) }
-    ensures regular { IfOk result IsRegularOutcome }
+    ensures { IfOk result (OnSeveral (several_of gathered) (ListedOutcome form)) }
 {
     match gathered.lack {
         Lack::Nothing => listed(alloc, form, gathered.values),
@@ -79,9 +71,7 @@ pub(crate) fn on_several(
 }
 
 fn listed(alloc: Global, form: Listed, values: Vec<Value>) -> Result<Outcome, AllocError>
-    requires { AreRegular values.items }
-    ensures is { IfOk result (ListedOutcome form values.items) }
-    ensures regular { IfOk result IsRegularOutcome }
+    ensures { IfOk result (ListedOutcome form values.items) }
 {
     match form {
         Listed::Tuple => tuple(alloc, values),
@@ -92,9 +82,7 @@ fn listed(alloc: Global, form: Listed, values: Vec<Value>) -> Result<Outcome, Al
 
 /// The product of the values, which are sets.
 fn product_of(alloc: Global, values: &[Value]) -> Result<Outcome, AllocError>
-    requires { AreRegular values.now }
-    ensures is { IfOk result (IsCross values.now) }
-    ensures regular { IfOk result IsRegularOutcome }
+    ensures { IfOk result (IsCross values.now) }
 {
     let sets = lent(alloc, values)?;
     cross(alloc, sets.as_slice())
@@ -112,51 +100,43 @@ fn lent<'v>(alloc: Global, values: &'v [Value]) -> Result<Vec<Lent<'v>>, AllocEr
 }
 
 fn binary(alloc: Global, op: Operator, v: &Value, w: &Value) -> Result<Outcome, AllocError>
-    requires v { IsRegular v.now }
-    requires w { IsRegular w.now }
-    ensures is { IfOk result (BinaryOutcome op v.now w.now) }
-    ensures regular { IfOk result IsRegularOutcome }
+    ensures { IfOk result (BinaryOutcome op v.now w.now) }
 {
     match op {
         Operator::Function(infix) => function(alloc, infix, v, w),
         Operator::Generic(kind) => arrow(alloc, kind, v, w),
         Operator::Connective(_) => Ok(Outcome::Undefined),
         Operator::Application => application(alloc, v, w),
-        Operator::Image => image(alloc, v.members(), w.members()),
+        Operator::Image => image(alloc, v, w),
     }
 }
 
 fn unary(alloc: Global, op: Unary, v: &Value) -> Result<Outcome, AllocError>
-    requires { IsRegular v.now }
-    ensures is { IfOk result (UnaryOutcome op v.now) }
-    ensures regular { IfOk result IsRegularOutcome }
+    ensures { IfOk result (UnaryOutcome op v.now) }
 {
     match op {
         Unary::Sign(Sign::Minus) => Ok(on_number(v)),
         Unary::Sign(Sign::Symbol(prefix)) => prefixed(alloc, prefix, v),
-        Unary::Inverse => inverse(alloc, v.members()),
+        Unary::Inverse => inverse(alloc, v),
         Unary::Not => Ok(Outcome::Undefined),
     }
 }
 
 fn prefixed(alloc: Global, op: Prefix, v: &Value) -> Result<Outcome, AllocError>
-    requires { IsRegular v.now }
-    ensures is { IfOk result (PrefixOutcome op v.now) }
-    ensures regular { IfOk result IsRegularOutcome }
+    ensures { IfOk result (PrefixOutcome op v.now) }
 {
     match op {
-        Prefix::Power => power(alloc, v.members()),
-        Prefix::Finset => power(alloc, v.members()),
-        Prefix::Domain => domain(alloc, v.members()),
-        Prefix::Range => range(alloc, v.members()),
-        Prefix::Size => Ok(size(v.members())),
+        Prefix::Power => power(alloc, v),
+        Prefix::Finset => power(alloc, v),
+        Prefix::Domain => domain(alloc, v),
+        Prefix::Range => range(alloc, v),
+        Prefix::Size => Ok(size(v)),
     }
 }
 
 /// The opposite of a number.
 fn on_number(v: &Value) -> Outcome
-    ensures is { SignOutcome Sign.Minus v.now result }
-    ensures regular { IsRegularOutcome result }
+    ensures { SignOutcome Sign.Minus v.now result }
 {
     match v.number() {
         Some(n) => negation(n),
@@ -165,22 +145,16 @@ fn on_number(v: &Value) -> Outcome
 }
 
 fn application(alloc: Global, f: &Value, x: &Value) -> Result<Outcome, AllocError>
-    requires f { IsRegular f.now }
-    requires x { IsRegular x.now }
-    ensures is { IfOk result (BinaryOutcome Operator.Application f.now x.now) }
-    ensures regular { IfOk result IsRegularOutcome }
+    ensures { IfOk result (BinaryOutcome Operator.Application f.now x.now) }
 {
-    match applied(f.members(), x) {
+    match applied(f, x) {
         Some(y) => Ok(Outcome::Is(y.copy(alloc)?)),
         None => Ok(Outcome::Undefined),
     }
 }
 
 fn function(alloc: Global, op: Infix, v: &Value, w: &Value) -> Result<Outcome, AllocError>
-    requires v { IsRegular v.now }
-    requires w { IsRegular w.now }
-    ensures is { IfOk result (InfixOutcome op v.now w.now) }
-    ensures regular { IfOk result IsRegularOutcome }
+    ensures { IfOk result (InfixOutcome op v.now w.now) }
 {
     match op {
         Infix::Maplet => pair(alloc, v.copy(alloc)?, w.copy(alloc)?),
@@ -190,21 +164,20 @@ fn function(alloc: Global, op: Infix, v: &Value, w: &Value) -> Result<Outcome, A
         Infix::Times => on_numbers(alloc, op, v, w),
         Infix::Div => on_numbers(alloc, op, v, w),
         Infix::Mod => on_numbers(alloc, op, v, w),
-        Infix::Union => union(alloc, v.members(), w.members()),
-        Infix::Difference => set_difference(alloc, v.members(), w.members()),
-        Infix::Intersection => intersection(alloc, v.members(), w.members()),
-        Infix::Composition => composition(alloc, v.members(), w.members()),
-        Infix::Overriding => overriding(alloc, v.members(), w.members()),
-        Infix::DomainRestriction => domain_restriction(alloc, v.members(), w.members()),
-        Infix::RangeRestriction => range_restriction(alloc, v.members(), w.members()),
-        Infix::DomainSubtraction => domain_subtraction(alloc, v.members(), w.members()),
-        Infix::RangeSubtraction => range_subtraction(alloc, v.members(), w.members()),
+        Infix::Union => union(alloc, v, w),
+        Infix::Difference => set_difference(alloc, v, w),
+        Infix::Intersection => intersection(alloc, v, w),
+        Infix::Composition => composition(alloc, v, w),
+        Infix::Overriding => overriding(alloc, v, w),
+        Infix::DomainRestriction => domain_restriction(alloc, v, w),
+        Infix::RangeRestriction => range_restriction(alloc, v, w),
+        Infix::DomainSubtraction => domain_subtraction(alloc, v, w),
+        Infix::RangeSubtraction => range_subtraction(alloc, v, w),
     }
 }
 
 fn on_numbers(alloc: Global, op: Infix, v: &Value, w: &Value) -> Result<Outcome, AllocError>
-    ensures is { IfOk result (OnNumbers (number_of v.now) (number_of w.now) (NumbersOutcome op)) }
-    ensures regular { IfOk result IsRegularOutcome }
+    ensures { IfOk result (OnNumbers (number_of v.now) (number_of w.now) (NumbersOutcome op)) }
 {
     match (v.number(), w.number()) {
         (Some(a), Some(b)) => arithmetic(alloc, op, a, b),
@@ -213,8 +186,7 @@ fn on_numbers(alloc: Global, op: Infix, v: &Value, w: &Value) -> Result<Outcome,
 }
 
 fn arithmetic(alloc: Global, op: Infix, a: i64, b: i64) -> Result<Outcome, AllocError>
-    ensures is { IfOk result (NumbersOutcome op a b) }
-    ensures regular { IfOk result IsRegularOutcome }
+    ensures { IfOk result (NumbersOutcome op a b) }
 {
     match op {
         Infix::UpTo => interval(alloc, a, b),
@@ -228,16 +200,13 @@ fn arithmetic(alloc: Global, op: Infix, a: i64, b: i64) -> Result<Outcome, Alloc
 }
 
 fn arrow(alloc: Global, op: Arrow, v: &Value, w: &Value) -> Result<Outcome, AllocError>
-    requires v { IsRegular v.now }
-    requires w { IsRegular w.now }
-    ensures is { IfOk result (ArrowOutcome op v.now w.now) }
-    ensures regular { IfOk result IsRegularOutcome }
+    ensures { IfOk result (ArrowOutcome op v.now w.now) }
 {
     match op {
-        Arrow::Relation => relations(alloc, v.members(), w.members()),
-        Arrow::PartialFunction => partial_functions(alloc, v.members(), w.members()),
-        Arrow::TotalFunction => total_functions(alloc, v.members(), w.members()),
-        Arrow::PartialInjection => partial_injections(alloc, v.members(), w.members()),
-        Arrow::TotalInjection => total_injections(alloc, v.members(), w.members()),
+        Arrow::Relation => relations(alloc, v, w),
+        Arrow::PartialFunction => partial_functions(alloc, v, w),
+        Arrow::TotalFunction => total_functions(alloc, v, w),
+        Arrow::PartialInjection => partial_injections(alloc, v, w),
+        Arrow::TotalInjection => total_injections(alloc, v, w),
     }
 }

@@ -1,8 +1,7 @@
 //! What terms mean in a row.
 ghost use Rattle.std.specs.Prelude.{◌≡◌, [], IfOk};
 ghost use Rattle.zf_term.specs.ResolvedTrees.{resolved_of};
-ghost use Rattle.zf_value.specs.Sets.{AreRegular, IsRegularOutcome};
-ghost use Rattle.zf_meaning.specs.Described.{Describes, IsRegularDescribed};
+ghost use Rattle.zf_meaning.specs.Described.{Describes};
 ghost use Rattle.zf_meaning.specs.InRow.{in_row};
 ghost use Rattle.zf_meaning.specs.Envs.{environment_of};
 ghost use Rattle.zf_meaning.specs.Meaning.{HasOutcome, IsTruth};
@@ -23,9 +22,7 @@ pub fn value_of<'a, R: Row>(
     row: &R,
     env: &Env<'_, 'a>,
 ) -> Result<Outcome, AllocError>
-    requires { AreRegular (R.values row.now) }
-    ensures is { IfOk result (HasOutcome (in_row (environment_of env.now) (R.values row.now)) (resolved_of term.now)) }
-    ensures regular { IfOk result IsRegularOutcome }
+    ensures { IfOk result (HasOutcome (in_row (environment_of env.now) (R.values row.now)) (resolved_of term.now)) }
 {
     let none = no_variables();
     let found = outcome(term, &*row, none, &*env)?;
@@ -38,9 +35,7 @@ pub fn described_in<'v, 'a, R: Row>(
     row: &'v R,
     env: &'v Env<'_, 'a>,
 ) -> Result<Described<'v>, AllocError>
-    requires { AreRegular (R.values row.now) }
-    ensures is { IfOk result (Describes (HasOutcome (in_row (environment_of env.now) (R.values row.now)) (resolved_of term.now))) }
-    ensures regular { IfOk result IsRegularDescribed }
+    ensures { IfOk result (Describes (HasOutcome (in_row (environment_of env.now) (R.values row.now)) (resolved_of term.now))) }
 {
     let none = no_variables();
     described(term, row, none, env)
@@ -52,7 +47,6 @@ pub fn truth_of<'a, R: Row>(
     row: &R,
     env: &Env<'_, 'a>,
 ) -> Result<Truth, AllocError>
-    requires { AreRegular (R.values row.now) }
     ensures { IfOk result (IsTruth (in_row (environment_of env.now) (R.values row.now)) (resolved_of term.now)) }
 {
     let none = no_variables();

@@ -13,7 +13,7 @@ use Rattle.zf_meaning.specs.Sizes.{given_sets, AreComplete}
 use Rattle.zf_texts.specs.Clear.{AreClear}
 use Rattle.zf_texts.specs.Held.{HaveClearNames, IsHeldLine, IsLineOfSome}
 use Rattle.zf_texts.specs.Spellings.{spellings}
-use Rattle.zf_value.specs.declared.value.Value.{Value}
+use Rattle.zf_value.specs.declared.plain.Value.{Value}
 
 -- the globals of a text, at sizes of all its given sets, have clear spellings
 abbrev pub GlobalsAreClear : Type 0

@@ -1,7 +1,7 @@
 -- What is claimed of the lines that a run writes.
 use Rattle.std.specs.Prelude.{List, ℕ, Option, Contains}
 use Rattle.zf_term.specs.Definitions.{Defined, Schema}
-use Rattle.zf_value.specs.declared.value.Value.{Value}
+use Rattle.zf_value.specs.declared.plain.Value.{Value}
 use Rattle.zf_walk.specs.Events.{Event}
 use Rattle.zf_meaning.specs.Environments.{Environment}
 use Rattle.zf_enum.specs.Portions.{Portion}

@@ -1,6 +1,6 @@
 -- When a list stays ascending with one more value behind it.
 use Rattle.zf_texts.proofs.Prelude.{◌++◌, ◌-◌, ◌↔◌, ◌∙◌, ◌∷◌, ◌≡◌, [], ap, arith, Bool, Equal, Greater, is_lt, IsTrue, length, Less, List, Ordering, refl, Some, sym, true, slice_get, Every, IsAscending, value_order, Value}
-use Rattle.zf_value.specs.contracts.value.ValueOrd.TheImpl.Laws.{total-law}
+use Rattle.zf_value.specs.contracts.plain.ValueOrd.TheImpl.Laws.{total-law}
 
 abbrev last_of : Value → List Value → Value
 last_of x [] = x

@@ -13,7 +13,6 @@ pub mod SpelledTypes
 pub mod WordsAt
 pub mod Misfits
 pub mod ValuesAt
-pub mod RegularRows
 pub mod Onward
 pub mod HeldSoFar
 pub mod OneHeld

@@ -1,8 +1,7 @@
--- A line of some components holds one list of values, and they are regular.
-use Rattle.zf_texts.proofs.Prelude.{◌+◌, ◌∙◌, ◌∷◌, ◌≡◌, [], ap, ap₂, List, None, Option, refl, Some, subst, sym, ℕ, AllByRecursion, MatchOption, IsRegular, Value, Comp, Environment, AreClear, HoldNext, separator, Spelling}
+-- A line of some components holds one list of values.
+use Rattle.zf_texts.proofs.Prelude.{◌+◌, ◌∙◌, ◌∷◌, ◌≡◌, [], ap, ap₂, List, None, Option, refl, Some, subst, sym, ℕ, Value, Comp, Environment, AreClear, HoldNext, separator, Spelling}
 use Rattle.zf_texts.proofs.HeldSoFar.{ends_more, told_named}
 use Rattle.zf_texts.proofs.OneRow.{one_component}
-use Rattle.zf_texts.proofs.RegularRows.{regular_value}
 use Rattle.zf_texts.proofs.Spelled.{cancel}
 
 module _ (ss : List Spelling) (e : Environment) where
@@ -19,10 +18,3 @@ module _ (ss : List Spelling) (e : Environment) where
   one_next clear (c ∷ cs) n bytes (Some v ∷ xs) (Some w ∷ ys) (rest, of_type, is, h) (more, other, are, g) =
       let one = one_component ss e clear c v w rest more of_type other (ends_more ss e c cs n rest xs h) (ends_more ss e c cs n more ys g) (cancel (separator n) _ _ (sym is ∙ are)) in
       ap₂ (λ (x : Value) (zs : List (Option Value)). Some x ∷ zs) one.0 (one_next clear cs (n + 1) more xs ys (subst (λ l. HoldNext ss e cs (n + 1) l xs) one.1 h) g)
-
-  pub held_regular : (cs : List Comp) (n : ℕ) (bytes : List ℕ) (held : List (Option Value)) → HoldNext ss e cs n bytes held → AllByRecursion (λ h. MatchOption h (Unit {0}) IsRegular) held
-  held_regular [] n bytes [] h = tt
-  held_regular [] n bytes (x ∷ held) h = absurd h
-  held_regular (c ∷ cs) n bytes [] h = absurd h
-  held_regular (c ∷ cs) n bytes (None ∷ held) h = (tt, held_regular cs n bytes held h.1)
-  held_regular (c ∷ cs) n bytes (Some v ∷ held) (rest, of_type, is, h) = (regular_value e c.type v of_type, held_regular cs (n + 1) rest held h)

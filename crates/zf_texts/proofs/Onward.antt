@@ -3,7 +3,6 @@ use Rattle.zf_texts.proofs.Prelude.{◌++◌, ◌+◌, ◌<◌, ◌∙◌, ◌�
 use Rattle.zf_term.specs.declared.ztype.ZType.{ZType}
 use Rattle.zf_texts.proofs.Printing.{comps-drop, drop-end}
 use Rattle.zf_texts.proofs.Reading.{parts_unseparated, parts_unread, parts_unclosed, members_unseparated, members_unread, members_full}
-use Rattle.zf_texts.proofs.RegularRows.{regular_values}
 use Rattle.zf_texts.proofs.SoFar.{RowSoFar, row_unseparated, row_unread, row_behind, row_more, row_all, PartsSoFar, parts_more, parts_all, MembersSoFar, members_more, members_all}
 
 types-drop : (ts : List ZType) (i : ℕ) (t : ZType) → t ≡ get_or ts i t → i < length ts → types (map type_of (drop i ts)) ≡ type (type_of t) (types (map type_of (drop (i + 1) ts)))
@@ -103,4 +102,4 @@ module _ (ss : List Spelling) (e : Environment) where
   pub line_read : (cs : List Component) (i : ℕ) (text : List ℕ) (at : ℕ) (vs : List Value) → length cs ≤ i → length text ≤ at → RowSoFar ss e (map comp_of cs) (map comp_of (drop i cs)) text i vs (drop at text) → IsLineOf ss e (map comp_of cs) text vs
   line_read cs i text at vs l k r =
       let whole = row_all ss e (map comp_of cs) text i vs (drop at text) (subst (λ x. RowSoFar ss e (map comp_of cs) x text i vs (drop at text)) (comps-end cs i l) r) (drop-end at text k) in
-      record { row = whole.0; regular = regular_values e _ vs whole.0; line = whole.1 }
+      record { row = whole.0; line = whole.1 }

@@ -10,10 +10,9 @@ pub use Rattle.std.specs.List.{AllByRecursion, list_all}
 pub use Rattle.std.specs.Prelude.{decimal, FitsSigned, IsErrAnd, IsUtf8, MatchBool, MatchOption, slice_get}
 pub use Rattle.std.specs.Str.Parse.{AllDigits, ParsesSigned, ParsesUnsigned}
 pub use Rattle.zf_value.proofs.Exactly.{same}
-pub use Rattle.zf_value.specs.Sets.{Every, IsAscending, IsRegular, value_order}
-unfoldable pub use Rattle.zf_value.specs.Sets.{AreRegular}
+pub use Rattle.zf_value.specs.Sets.{Every, IsAscending, value_order}
 pub use Rattle.zf_value.specs.declared.TheConstants.{SET_MAX}
-pub use Rattle.zf_value.specs.declared.value.Value.{Elem, fold-roll-Value, Int, map-Value, roll-Value, SetOf, Tuple, Value}
+pub use Rattle.zf_value.specs.declared.plain.Value.{Elem, fold-roll-Value, Int, map-Value, roll-Value, SetOf, Tuple, Value}
 pub use Rattle.zf_term.specs.Definitions.{Comp, comp_of, Defined, definition_of, globals_of}
 pub use Rattle.zf_term.specs.FirstNamed.{first_named}
 pub use Rattle.zf_term.specs.Types.{basic, int, no_types, power, product, Ty, type, type_of, types, Tys}

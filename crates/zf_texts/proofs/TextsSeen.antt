@@ -1,7 +1,7 @@
 -- What each form of value is printed as.
 use Rattle.zf_texts.proofs.Prelude.{◌++◌, ◌∙◌, ◌≡◌, ap, codes, List, map, sym, ℕ, ℤ, signed_decimal, Elem, fold-roll-Value, Int, map-Value, roll-Value, SetOf, Tuple, Value, element_text, parted, value_step, value_text, Spelling}
-use Rattle.zf_value.specs.declared.value.Value.TheOpen.{Value-F}
-use Rattle.zf_value.specs.declared.value.Value.TheVariants.{rolls-Int, rolls-Elem, rolls-Tuple, rolls-SetOf}
+use Rattle.zf_value.specs.declared.plain.Value.TheOpen.{Value-F}
+use Rattle.zf_value.specs.declared.plain.Value.TheVariants.{rolls-Int, rolls-Elem, rolls-Tuple, rolls-SetOf}
 
 pub rolled : (ss : List Spelling) (x : Value-F Value) → value_text ss (roll-Value x) ≡ value_step ss (map-Value Value (List ℕ) (value_text ss) x)
 unfolding value_text

@@ -2,7 +2,7 @@
 use Rattle.std.specs.Prelude.{◌≡◌, ℕ, List, ◌++◌, Option}
 use Rattle.zf_term.specs.Definitions.{Comp}
 use Rattle.zf_term.specs.Types.{Ty}
-use Rattle.zf_value.specs.declared.value.Value.{Value}
+use Rattle.zf_value.specs.declared.plain.Value.{Value}
 use Rattle.zf_meaning.specs.Environments.{Environment}
 use Rattle.zf_meaning.specs.Rows.{IsOfType, IsRow}
 use Rattle.zf_texts.specs.declared.spelling.Spelling.{Spelling}

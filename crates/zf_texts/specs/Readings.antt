@@ -1,8 +1,7 @@
 -- What the reading of a line answers.
 use Rattle.std.specs.Prelude.{◌≡◌, ℕ, List}
 use Rattle.zf_term.specs.Definitions.{Comp}
-use Rattle.zf_value.specs.declared.value.Value.{Value}
-use Rattle.zf_value.specs.Sets.{AreRegular}
+use Rattle.zf_value.specs.declared.plain.Value.{Value}
 use Rattle.zf_meaning.specs.Environments.{Environment}
 use Rattle.zf_meaning.specs.Rows.{IsRow}
 use Rattle.zf_texts.specs.declared.fault.AfterFault.{AfterFault}
@@ -14,7 +13,6 @@ use Rattle.zf_texts.specs.Clear.{AreClear}
 -- the line of this row of the schema's types
 pub record IsLineOf (ss : List Spelling) (e : Environment) (cs : List Comp) (text : List ℕ) (vs : List Value) : Type 0 where
   pub row : IsRow e cs vs
-  pub regular : AreRegular vs
   pub line : text ≡ binding_text ss cs vs
 
 -- the line of no row of the schema's types

@@ -4,7 +4,7 @@ use Rattle.std.specs.List.{list_all}
 use Rattle.zf_term.specs.Definitions.{Comp}
 use Rattle.zf_term.specs.Types.{Ty, int, basic, power, product, Tys}
 use Rattle.zf_value.specs.declared.TheConstants.{SET_MAX}
-use Rattle.zf_value.specs.declared.value.Value.{Value}
+use Rattle.zf_value.specs.declared.plain.Value.{Value}
 use Rattle.zf_value.specs.Sets.{Every, IsAscending}
 use Rattle.zf_meaning.specs.Environments.{Environment, type_number}
 use Rattle.zf_meaning.specs.Rows.{IsElement, IsOfType, AreOfTypes, IsRow}

@@ -15,7 +15,7 @@ use crate::words::{behind, unsigned, word_at};
 use zf_data::Text;
 use zf_meaning::env::Env;
 use zf_term::globals::{Entry, Globals};
-use zf_value::value::Value;
+use zf_value::value::{Form, Value};
 
 /// The element of the type of this name at the place.
 pub(crate) fn read_element(
@@ -34,7 +34,10 @@ pub(crate) fn read_element(
     };
     let word = word_at(text, place);
     match place_among(word, spelling, count) {
-        Some(index) => Ok((Value::Elem(number, index), place + word.len())),
+        Some(index) => {
+            let form = Form::Elem(number, index);
+            Ok((Value { form }, place + word.len()))
+        }
         None => Err(AfterFault::NotABinding(misfit(text, place, word, spelling))),
     }
 }

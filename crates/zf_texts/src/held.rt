@@ -1,7 +1,6 @@
 //! Lines of some components, as they are read.
 ghost use Rattle.std.specs.Prelude.{◌≤◌, length, drop, IfOk, IfErr, MatchBool, MatchOption};
 ghost use Rattle.std.specs.List.{AllByRecursion};
-ghost use Rattle.zf_value.specs.Sets.{IsRegular};
 ghost use Rattle.zf_meaning.specs.Envs.{environment_of};
 ghost use Rattle.zf_term.specs.Definitions.{comp_of, schema_of};
 ghost use Rattle.zf_texts.specs.Clear.{Ends};
@@ -27,7 +26,6 @@ pub fn read_held(
     env: &Env<'_, '_>,
     spellings: &[Spelling],
 ) -> Result<Vec<Option<Value>>, AfterFault>
-    ensures regular { IfOk result (λ held. AllByRecursion (λ h. MatchOption h (Unit {0}) IsRegular) held.items) }
     ensures read { IfOk result (λ held. IsHeldLine spellings.now (environment_of env.now) (schema_of flat.now).comps text.now held.items) }
     ensures refused { IfErr result (IfMisfit (IsNoHeldLine spellings.now (environment_of env.now) (schema_of flat.now).comps text.now)) }
 {

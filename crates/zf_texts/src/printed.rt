@@ -11,7 +11,7 @@ use itoa::Buffer;
 use std::alloc::{AllocError, Global};
 use zf_meaning::row::Row;
 use zf_term::globals::{Component, Flat};
-use zf_value::value::Value;
+use zf_value::value::{Form, Value};
 
 /// The line of a row, without the end of the line.
 pub fn binding_text<R: Row>(
@@ -82,11 +82,11 @@ pub fn append_value(
 ) -> Result<(), AllocError>
     ensures { OnOk result (text.new.items ≡ text.old.items ++ value_text spellings.now value.now) }
 {
-    match value {
-        Value::Int(n) => append_number(text, *n),
-        Value::Elem(number, place) => append_element(text, spellings, *number, *place),
-        Value::Tuple(parts) => append_parts(text, spellings, b'(', parts.as_slice(), b')'),
-        Value::SetOf(members) => append_parts(text, spellings, b'{', members.as_slice(), b'}'),
+    match &value.form {
+        Form::Int(n) => append_number(text, *n),
+        Form::Elem(number, place) => append_element(text, spellings, *number, *place),
+        Form::Tuple(parts) => append_parts(text, spellings, b'(', parts.as_slice(), b')'),
+        Form::SetOf(members) => append_parts(text, spellings, b'{', members.as_slice(), b'}'),
     }
 }
 

@@ -17,7 +17,7 @@ use zf_term::globals::{Component, Flat};
 use zf_term::ztype::ZType;
 use zf_value::SET_MAX;
 use zf_value::items::Items;
-use zf_value::value::Value;
+use zf_value::value::{Form, Value};
 
 /// The row whose line the text is.
 pub fn read_binding(
@@ -119,7 +119,10 @@ fn read_number(
 {
     let word = word_at(text, place);
     match signed(word) {
-        Some(number) => Ok((Value::Int(number), place + word.len())),
+        Some(number) => {
+            let form = Form::Int(number);
+            Ok((Value { form }, place + word.len()))
+        }
         None => Err(AfterFault::NotABinding(crate::words::misfit(text, place, b"-"))),
     }
 }
@@ -139,7 +142,8 @@ fn read_tuple(
 {
     let start = item(text, place, b"(")?;
     let (values, end) = read_parts(alloc, text, start, parts, env, spellings)?;
-    Ok((Value::Tuple(Items::of(alloc, values)?), end))
+    let form = Form::Tuple(Items::of(alloc, values)?);
+    Ok((Value { form }, end))
 }
 
 /// The parts of a tuple, up to its end.
@@ -183,7 +187,8 @@ fn read_set(
 {
     let start = item(text, place, b"{")?;
     let (members, end) = read_members(alloc, text, start, member, env, spellings)?;
-    Ok((Value::SetOf(Items::of(alloc, members)?), end))
+    let form = Form::SetOf(Items::of(alloc, members)?);
+    Ok((Value { form }, end))
 }
 
 /// The members of a set, up to its end.

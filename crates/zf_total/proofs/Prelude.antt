@@ -15,7 +15,7 @@ pub use Rattle.zf_value.specs.declared.TheConstants.{SET_MAX}
 pub use Rattle.zf_value.specs.declared.value.Outcome.{Outcome}
 pub use Rattle.zf_value.specs.declared.value.Outcome.TheVariants.{Is, Out, Undefined}
 pub use Rattle.zf_value.specs.declared.value.Truth.{Truth}
-pub use Rattle.zf_value.specs.declared.value.Value.{Elem, Int, SetOf, Tuple, Value}
+pub use Rattle.zf_value.specs.declared.plain.Value.{Elem, Int, SetOf, Tuple, Value}
 pub use Rattle.zf_term.specs.Definitions.{abbreviation, constructor, Defined, Definition, free_type, given_set, schema}
 pub use Rattle.zf_meaning.specs.Environments.{AreElementsIf, Context, element, element_count, Environment, globally, IsTypeSet, outcome_in, type_number, within}
 pub use Rattle.zf_meaning.specs.Meaning.{AreLinked, Builds, constant_outcome, constant_truth, HasOutcome, HaveOutcomes, HaveRanges, infinite_right, IsBuilt, IsBuiltBy, IsBuiltOver, IsConstraint, IsLink, IsOutOfBounds, IsTruth, IsWithinBounds, row_value}

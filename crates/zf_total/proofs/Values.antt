@@ -1,6 +1,6 @@
 -- Values and members: what is decided of them, and what lists have.
 use Rattle.zf_total.proofs.Prelude.{◌↔◌, ◌∙◌, ◌∷◌, ◌≡◌, [], ap, Equal, Greater, inl, inr, Less, List, Ordering, refl, subst, sym, ordering_reverse, contained, member, not_below_itself, exact, parts-Tuple, AreFrom, pair, Relates, IsMember, members, parts, value_order, AreAmong, Value}
-use Rattle.zf_value.specs.contracts.value.ValueOrd.TheImpl.Laws.{total-law}
+use Rattle.zf_value.specs.contracts.plain.ValueOrd.TheImpl.Laws.{total-law}
 use Rattle.zf_total.proofs.Listed.{Decided, decided_all, decided_in, decided_lists, Listed, listed_same, listed_none, listed_one, listed_some, listed_image, listed_pairs}
 
 below_from_above : (x y : Value) → value_order x y ≡ Greater → value_order y x ≡ Less

@@ -17,7 +17,7 @@ unfoldable pub use Rattle.zf_value.specs.Sets.{AreAmong}
 pub use Rattle.zf_value.specs.declared.TheConstants.{SET_MAX}
 pub use Rattle.zf_value.specs.declared.value.Outcome.{Outcome}
 pub use Rattle.zf_value.specs.declared.value.Outcome.TheVariants.{Is, Out, Undefined}
-pub use Rattle.zf_value.specs.declared.value.Value.{Elem, Int, SetOf, Tuple, Value}
+pub use Rattle.zf_value.specs.declared.plain.Value.{Elem, Int, SetOf, Tuple, Value}
 pub use Rattle.zf_tree.specs.Names.{spelling}
 pub use Rattle.zf_tree.specs.Operators.{function_rule, rule_of}
 pub use Rattle.zf_tree.specs.Trees.{both, DeclTree, either, include, no_decls, no_trees, Perhaps, reference, schema_bracket, schema_text, SchemaTree, Tree, tree, Trees, var_decl, VarDecls, vars}

@@ -8,7 +8,7 @@ use Rattle.zf_term.specs.Types as t
 use Rattle.zf_type.specs.Scopes as scopes
 use Rattle.zf_type.specs.Typing as typing
 use Rattle.zf_type.proofs.ResolvedAlike.{part_within}
-use Rattle.zf_value.specs.declared.value.Value as value
+use Rattle.zf_value.specs.declared.plain.Value as value
 use Rattle.zf_value.specs.declared.value.Truth.{Truth}
 use Rattle.zf_meaning.specs.Meaning as meaning
 use Rattle.zf_typed.proofs.Names.{Fits, fits_within, named_typed}

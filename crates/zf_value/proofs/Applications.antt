@@ -1,8 +1,7 @@
 -- The one pair among those that begin with a value.
-use Rattle.zf_value.proofs.Prelude.{◌+◌, ◌<◌, ◌∙◌, ◌∷◌, ◌≡◌, ◌≤◌, [], add-one, ap, arith, false, get_or, inl, inr, length, Less, List, None, Option, Some, subst, suc, sym, take, true, zero, ℕ, ⊎_elim, IfSome, is_some, MatchOption, Bor, pair, Relates, IsApplied, IsAscending, IsMember, IsRegularSet, value_order, IsRegular, AreRelated, Is, Undefined, Value}
+use Rattle.zf_value.proofs.Prelude.{◌+◌, ◌<◌, ◌∙◌, ◌∷◌, ◌≡◌, ◌≤◌, [], add-one, ap, arith, false, get_or, inl, inr, length, Less, List, None, Option, Some, subst, suc, sym, take, true, zero, ℕ, ⊎_elim, is_some, MatchOption, Bor, pair, Relates, IsApplied, IsAscending, IsMember, value_order, AreRelated, Value, Is, Undefined}
 use Rattle.zf_value.proofs.Among.{below_at, not_below_itself, member_at, members-take_more, take_all, before_in}
 use Rattle.zf_value.proofs.Gathered.{same_pair}
-use Rattle.zf_value.proofs.Regulars.{regular_member, regular_pair}
 
 -- the second of the only pair of the list, if there is one pair
 abbrev pub IsOnly : List Value → Option (Bor Value) → Type 0
@@ -44,16 +43,13 @@ only_twice f xs x i z a y (Some w) h e l s b o = λ v only.
         ⊎_elim (λ t. not_below_itself v (subst (λ n. value_order n v ≡ Less) t (subst (λ n. value_order u n ≡ Less) (sym p) (below_at (u ∷ us) 0 (suc k) v g (omega arith) q)))) (λ n. not_twice us k v g.1 p (omega arith) n) m
 
 -- at the end of the list
-pub only_one : (f xs : List Value) (x : Value) (i : ℕ) (r : Option (Bor Value)) → IsRegularSet f → AreRelated f x xs → length xs ≤ i → IsOnly (take i xs) r → record { is : MatchOption r (IsApplied f x Undefined) (λ y. IsApplied f x (Is y.now)); regular : IfSome r (λ y. IsRegular y.now) }
+pub only_one : (f xs : List Value) (x : Value) (i : ℕ) (r : Option (Bor Value)) → AreRelated f x xs → length xs ≤ i → IsOnly (take i xs) r → MatchOption r (IsApplied f x Undefined) (λ y. IsApplied f x (Is y.now))
 unfolding IsApplied
-only_one f xs x i None g h l o =
+only_one f xs x i None h l o =
     let all : IsOnly xs None = subst (λ ys. IsOnly ys None) (take_all i xs l) o in
-    record { is = λ y only. all x y ((h.same y).1 only.0); regular = tt }
-only_one f xs x i (Some w) g h l o =
+    λ y only. all x y ((h.same y).1 only.0)
+only_one f xs x i (Some w) h l o =
     let all : IsOnly xs (Some w) = subst (λ ys. IsOnly ys (Some w)) (take_all i xs l) o in
     let u_is = h.first all.0 w.now all.1 in
     let here = (h.same w.now).0 (subst (λ u. IsMember (pair u w.now) xs) u_is all.1) in
-    record {
-      is = (here, λ y m. (same_pair x y all.0 w.now (all.2 x y ((h.same y).1 m))).1);
-      regular = (regular_pair x w.now (regular_member f (pair x w.now) g.regular here)).1;
-    }
+    (here, λ y m. (same_pair x y all.0 w.now (all.2 x y ((h.same y).1 m))).1)

@@ -1,10 +1,9 @@
 -- What composition and overriding list.
-use Rattle.zf_value.proofs.Prelude.{◌++◌, ◌+◌, ◌<◌, ◌↔◌, ◌∙◌, ◌∷◌, ◌≡◌, ◌≤◌, ◌⊎◌, [], add-one, ap, get_or, inl, inr, length, List, refl, Result, subst, sym, take, ℕ, ⊎_elim, IfOk, AllocError, IsInDomain, IsPairOf, pair, Relates, IsComposition, IsDisplay, IsOverriding, IsMember, IsRegularSet, HaveSameMembers, IsRegular, AreRelated, IsPartOf, IsSelected, AddsPairs, IsGathered, Others, First, Whole, Outcome, Out, Value}
+use Rattle.zf_value.proofs.Prelude.{◌++◌, ◌+◌, ◌<◌, ◌↔◌, ◌∙◌, ◌∷◌, ◌≡◌, ◌≤◌, ◌⊎◌, [], add-one, ap, get_or, inl, inr, length, List, refl, Result, subst, sym, take, ℕ, ⊎_elim, IfOk, AllocError, IsInDomain, IsPairOf, pair, Relates, IsComposition, IsDisplay, IsOverriding, IsMember, HaveSameMembers, AreRelated, IsPartOf, IsSelected, AddsPairs, IsGathered, Others, First, Whole, Value, Outcome, Out}
 use Rattle.zf_value.proofs.Among.{members-append, members-push, members-take_more, take_all, every_also, before_in}
 use Rattle.zf_value.proofs.Gathered.{same_pair, gathered_more, gathered_pass}
-use Rattle.zf_value.proofs.Listed.{IsMade, related_regular, pair_of_regular, in_domain, by_first}
+use Rattle.zf_value.proofs.Listed.{IsMade, in_domain, by_first}
 use Rattle.zf_value.proofs.Making.{made, made_gathered}
-use Rattle.zf_value.proofs.Regulars.{regular_member, regular-pair, regular_made}
 
 -- ---- the pairs of one value
 
@@ -61,11 +60,9 @@ composed : (q r : List Value) (w : Value) → ((z : Value) × IsMember z r × Co
 composed q r w =
     (λ s. (s.2.0, s.2.1, s.2.2, s.2.5, subst (λ u. IsMember u r) s.2.3 s.1, s.2.4), λ p. (pair p.0 p.1, p.4, (p.0, p.1, p.2, refl, p.5, p.3)))
 
-pub composition_made : (r q all : List Value) (o : Result Outcome AllocError) → IsRegularSet r → IsRegularSet q → IsGathered (Composes q) r all → IfOk o (IsDisplay all) → IsMade (IsComposition r q) o
+pub composition_made : (r q all : List Value) (o : Result Outcome AllocError) → IsGathered (Composes q) r all → IfOk o (IsDisplay all) → IsMade (IsComposition r q) o
 unfolding IsComposition
-composition_made r q all o h k g d =
-    let is = made_gathered (Composes q) (IsComposed r q) r all o g (composed q r) d in
-    record { is = is; regular = regular_made (IsComposed r q) o (λ w p. subst IsRegular (sym p.3) (regular-pair p.0 p.2 (related_regular r p.0 p.1 h.regular p.4).0 (related_regular q p.1 p.2 k.regular p.5).1)) is }
+composition_made r q all o g d = made_gathered (Composes q) (IsComposed r q) r all o g (composed q r) d
 
 -- more than a set may have, before the end
 pub composition_out : (r q all : List Value) (i : ℕ) → IsGathered (Composes q) (take i r) all → IsDisplay all Out → IsComposition r q Out
@@ -74,9 +71,9 @@ composition_out r q all i g d = (d.0, d.1, d.2, every_also (λ z. IsMember z all
 
 -- ---- overriding
 
-pub overriding_made : (r q firsts ordered kept all : List Value) (o : Result Outcome AllocError) → IsRegularSet r → IsRegularSet q → IsGathered (IsPartOf First) q firsts → HaveSameMembers firsts ordered → IsGathered (IsSelected First Others ordered Whole) r kept → all ≡ kept ++ q → IfOk o (IsDisplay all) → IsMade (IsOverriding r q) o
+pub overriding_made : (r q firsts ordered kept all : List Value) (o : Result Outcome AllocError) → IsGathered (IsPartOf First) q firsts → HaveSameMembers firsts ordered → IsGathered (IsSelected First Others ordered Whole) r kept → all ≡ kept ++ q → IfOk o (IsDisplay all) → IsMade (IsOverriding r q) o
 unfolding IsOverriding IsGathered HaveSameMembers
-overriding_made r q firsts ordered kept all o h k f s g e d =
+overriding_made r q firsts ordered kept all o f s g e d =
     let in_firsts : (x : Value) → IsMember x ordered ↔ IsInDomain q x = λ x. (λ m. (in_domain q x).0 ((f x).0 ((s x).1 m)), λ p. (s x).0 ((f x).1 ((in_domain q x).1 p))) in
     let P : Value → Type 0 = λ w. IsMember w q ⊎ IsPairOf r (λ x y. IsInDomain q x → ⊥) w in
     let lists : (w : Value) → IsMember w all ↔ P w = λ w.
@@ -84,5 +81,4 @@ overriding_made r q firsts ordered kept all o h k f s g e d =
       λ m. ⊎_elim (λ a. let p = (by_first Others ordered r w).0 ((g w).0 a) in inr (p.0, p.1, p.2, p.3, λ i. p.4 ((in_firsts p.0).1 i))) (λ b. inl b) (both.0 (subst (IsMember w) e m)),
       λ m. subst (IsMember w) (sym e) (both.1 (⊎_elim (λ b. inr b) (λ p. inl ((g w).1 ((by_first Others ordered r w).1 (p.0, p.1, p.2, p.3, λ i. p.4 ((in_firsts p.0).0 i))))) m)),
     ) in
-    let is = made P all o lists d in
-    record { is = is; regular = regular_made P o (λ z m. ⊎_elim (λ b. regular_member q z k.regular b) (λ p. pair_of_regular r (λ x y. IsInDomain q x → ⊥) z h.regular p) m) is }
+    made P all o lists d

@@ -1,10 +1,9 @@
 -- The elements of a type, in order.
-use Rattle.zf_value.proofs.Prelude.{◌++◌, ◌+◌, ◌<◌, ◌↔◌, ◌∙◌, ◌∷◌, ◌≡◌, [], add-one, ap, arith, eqb, false, IsTrue, Less, List, ltb, Result, subst, sym, ℕ, eqb-true, lt-ltb, ltb-true, nat_cmp_is, nat_cmp, IfOk, AllocError, AreElements, IsDisplay, IsElement, IsAscending, IsMember, value_order, IsRegular, SET_MAX, Outcome, Out, Elem, Value}
+use Rattle.zf_value.proofs.Prelude.{◌++◌, ◌+◌, ◌<◌, ◌↔◌, ◌∙◌, ◌∷◌, ◌≡◌, [], add-one, ap, arith, eqb, false, IsTrue, Less, List, ltb, Result, subst, sym, ℕ, eqb-true, lt-ltb, ltb-true, nat_cmp_is, nat_cmp, IfOk, AllocError, AreElements, IsDisplay, IsElement, IsAscending, IsMember, value_order, SET_MAX, Elem, Value, Outcome, Out}
 use Rattle.zf_value.proofs.Counted.{first, members-first, ascending-first, length-first}
 use Rattle.zf_value.proofs.Compared.{compared_places}
 use Rattle.zf_value.proofs.Listed.{IsMade}
 use Rattle.zf_value.proofs.Making.{made, too_many}
-use Rattle.zf_value.proofs.Regulars.{regular-Elem, regular_made}
 use Rattle.zf_value.proofs.Seen.{same_element}
 
 -- the first k elements of the type
@@ -34,8 +33,7 @@ pub elements_made : (n k i : ℕ) (xs : List Value) (r : Result Outcome AllocErr
 unfolding AreElements IsElement
 elements_made n k i xs r e s d =
     let same : xs ≡ element_list n k = e ∙ ap (element_list n) s in
-    let is = made (IsElement n k) xs r (λ z. subst (λ ys. IsMember z ys ↔ IsElement n k z) (sym same) (members-element_list n k z)) d in
-    record { is = is; regular = regular_made (IsElement n k) r (λ z p. subst IsRegular (sym p.1) (regular-Elem n p.0)) is }
+    made (IsElement n k) xs r (λ z. subst (λ ys. IsMember z ys ↔ IsElement n k z) (sym same) (members-element_list n k z)) d
 
 pub elements_out : (n k : ℕ) → SET_MAX < k → AreElements n k Out
 unfolding AreElements

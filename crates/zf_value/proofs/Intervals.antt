@@ -1,5 +1,5 @@
 -- The numbers from one to another, in order.
-use Rattle.zf_value.proofs.Prelude.{◌++◌, ◌<◌, ◌↔◌, ◌∙◌, ◌∷◌, ◌≡◌, [], ap, arith, false, Global, IsTrue, length, Less, List, None, Result, Some, subst, suc, sym, true, Vec, ℕ, ℤ, ⊎_elim, ints, int_cmp_is, ◌+ℤ◌, ◌<ℤ◌, ◌≤ℤ◌, pos, IfOk, AllocError, number_of, IsBetweenNumbers, IsInterval, IsDisplay, IsAscending, IsMember, value_order, IsRegular, ListsNumbers, SET_MAX, Outcome, Out, Int, Value}
+use Rattle.zf_value.proofs.Prelude.{◌++◌, ◌<◌, ◌↔◌, ◌∙◌, ◌∷◌, ◌≡◌, [], ap, arith, false, Global, IsTrue, length, Less, List, None, Result, Some, subst, suc, sym, true, Vec, ℕ, ℤ, ⊎_elim, ints, int_cmp_is, ◌+ℤ◌, ◌<ℤ◌, ◌≤ℤ◌, pos, IfOk, AllocError, number_of, IsBetweenNumbers, IsInterval, IsDisplay, IsAscending, IsMember, value_order, ListsNumbers, SET_MAX, Int, Value, Outcome, Out}
 use lib.Signed.{le_z}
 use Rattle.zf_value.proofs.Among.{every_at}
 use Rattle.zf_value.proofs.Counted.{first, members-first, ascending-first, length-first}
@@ -8,7 +8,6 @@ use Rattle.zf_value.proofs.Compared.{compared_numbers}
 use Rattle.zf_value.proofs.Listed.{IsMade}
 use Rattle.zf_value.proofs.Making.{made, too_many}
 use Rattle.zf_value.proofs.Once.{no_longer}
-use Rattle.zf_value.proofs.Regulars.{regular-Int, regular_made}
 use Rattle.zf_value.proofs.Seen.{is_Int, no_Int, same_number}
 
 -- the first k numbers from a on
@@ -62,8 +61,7 @@ lists_same a b x y v e f h = subst (λ n. ListsNumbers n y v) e (subst (λ n. Li
 pub interval_made : (a b : ℤ) (v : Vec Value Global) (r : Result Outcome AllocError) → ListsNumbers a b v → IfOk r (IsDisplay v.items) → IsMade (IsInterval a b) r
 unfolding IsInterval IsBetweenNumbers
 interval_made a b v r h d =
-    let is = made (IsBetweenNumbers a b) v.items r h.members d in
-    record { is = is; regular = regular_made (IsBetweenNumbers a b) r (λ z p. subst IsRegular (sym p.1) (regular-Int p.0)) is }
+    made (IsBetweenNumbers a b) v.items r h.members d
 
 -- ---- out of size
 

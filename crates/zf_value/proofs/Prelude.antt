@@ -5,34 +5,35 @@ pub use Rattle.std.proofs.lemmas.Cmp.{tied_itself}
 pub use Rattle.std.proofs.lemmas.Int.{ints, quot-rem, quot_is, rem_below, rem_is, to_z-of_z}
 pub use Rattle.std.proofs.lemmas.List.{append-nil, get_or-drop, get_or-take, get_or_default, take-append-drop, take_rest}
 pub use Rattle.std.proofs.lemmas.List.Sorted.{all_adjacent_more, Contains-permutation, IsPartitionPoint-from_clause, IsPermutation-sym}
-pub use Rattle.std.proofs.lemmas.Result.{IfOk-weaker}
 pub use Rattle.std.specs.Cmp.{int_cmp_is, nat_cmp_is}
 pub use Rattle.std.specs.Cmp.Lexicographic.{slice_cmp}
 pub use Rattle.std.specs.Int.RustNames.{int_div, int_rem, unsigned_abs}
-pub use Rattle.std.specs.List.{AllAdjacentBelow, AllByRecursion, Contains, dedup}
+pub use Rattle.std.specs.List.{AllAdjacentBelow, AllByRecursion, Contains, dedup, fold}
 pub use Rattle.std.specs.List.Sorted.{IsBinarySearchResult, IsNonDecreasingBy, IsPartitionedBy, IsPartitionPoint, IsPermutation, IsSearchInRange, IsSorted}
 unfoldable pub use Rattle.std.specs.List.Sorted.{IsStrictlySortedBy}
-pub use Rattle.std.specs.Option.{IfSome, is_some, SomeIff}
+pub use Rattle.std.specs.Option.{is_some, SomeIff}
 pub use Rattle.std.specs.Ordering.{int_cmp, is_eq, is_le, is_lt, nat_cmp, ordering_index, ordering_reverse, ordering_then}
 pub use Rattle.std.specs.Prelude.{◌*ℤ◌, ◌+ℤ◌, ◌-ℤ◌, ◌<ℤ◌, ◌≤ℤ◌, FitsSigned, MatchOption, neg_ℤ, negsuc, pos}
 pub use Rattle.std.specs.Result.{IfOk, is_ok}
 pub use Rattle.std.specs.declared.alloc.AllocError.{AllocError}
 pub use denote.Ref.{Bor}
+pub use Rattle.zf_value.specs.Forms.{level_of, value_of}
 pub use Rattle.zf_value.specs.Numbers.{DivisionsTell, IsDivision, IsNumber, IsRemainder, number_at, number_of, OnNumber, OnNumbers}
 unfoldable pub use Rattle.zf_value.specs.Numbers.{IsBetweenNumbers, IsDifference, IsInterval, IsModulus, IsNegation, IsProduct, IsQuotient, IsSum}
 pub use Rattle.zf_value.specs.Operations.{IsInDomain, IsInRange, IsPairOf, pair, Relates}
 unfoldable pub use Rattle.zf_value.specs.Operations.{AreElements, IsApplied, IsComposition, IsDisplay, IsDomain, IsDomainRestriction, IsDomainSubtraction, IsElement, IsImage, IsIntersection, IsInverse, IsOverriding, IsRange, IsRangeRestriction, IsRangeSubtraction, IsSetDifference, IsSize, IsUnion}
 pub use Rattle.zf_value.specs.Order.{level_order}
-pub use Rattle.zf_value.specs.Sets.{Every, IsAscending, IsMember, IsRegularOutcome, IsRegularSet, IsSetOf, members, members_at, parts, parts_at, value_order}
-unfoldable pub use Rattle.zf_value.specs.Sets.{AreAmong, AreRegular, HaveSameMembers, IsRegular}
+pub use Rattle.zf_value.specs.Sets.{Every, IsAscending, IsMember, IsSetOf, members, members_at, parts, parts_at, value_order}
+unfoldable pub use Rattle.zf_value.specs.Sets.{AreAmong, HaveSameMembers}
 pub use Rattle.zf_value.specs.Steps.{AreRelated, IsKept, IsPartOf, IsSelected, ListsNumbers, place_at, place_beside, place_of_first}
 unfoldable pub use Rattle.zf_value.specs.Steps.{AddsPairs, GivesJust, IsGathered, IsJoined}
 pub use Rattle.zf_value.specs.declared.TheConstants.{SET_MAX}
 pub use Rattle.zf_value.specs.declared.part.Keep.{Keep}
 pub use Rattle.zf_value.specs.declared.part.Keep.TheVariants.{Members, Others}
 pub use Rattle.zf_value.specs.declared.part.Part.TheVariants.{First, Second, Whole}
+pub use Rattle.zf_value.specs.declared.plain.Value.{Elem, ind-Value, Int, map-Value, out-roll-Value, out-Value, roll-out-Value, roll-Value, SetOf, Tuple, Value}
+pub use Rattle.zf_value.specs.declared.plain.Value.TheOpen.{Value-F}
+pub use Rattle.zf_value.specs.declared.plain.Value.TheVariants.{outs-Elem, outs-Int, outs-SetOf, outs-Tuple, rolls-Int, rolls-SetOf}
+pub use Rattle.zf_value.specs.declared.value.Form.{Form}
 pub use Rattle.zf_value.specs.declared.value.Outcome.{Outcome}
 pub use Rattle.zf_value.specs.declared.value.Outcome.TheVariants.{Is, Out, Undefined}
-pub use Rattle.zf_value.specs.declared.value.Value.{Elem, ind-Value, Int, map-Value, out-roll-Value, out-Value, roll-out-Value, roll-Value, SetOf, Tuple, Value}
-pub use Rattle.zf_value.specs.declared.value.Value.TheOpen.{Value-F}
-pub use Rattle.zf_value.specs.declared.value.Value.TheVariants.{outs-Elem, outs-Int, outs-SetOf, outs-Tuple, rolls-Int, rolls-SetOf}

@@ -1,5 +1,5 @@
 -- The value that is lent or owned.
-use Rattle.zf_value.specs.declared.value.Value.{Value}
+use Rattle.zf_value.specs.declared.plain.Value.{Value}
 use Rattle.zf_value.specs.declared.held.Held.{Held}
 use Rattle.zf_value.specs.declared.held.Held.TheVariants.{Lent, Own}
 

@@ -6,8 +6,8 @@ use Rattle.zf_value.specs.declared.part.Keep.{Keep}
 use Rattle.zf_value.specs.declared.part.Keep.TheVariants.{Members, Others}
 use Rattle.zf_value.specs.declared.part.Part.{Part}
 use Rattle.zf_value.specs.declared.part.Part.TheVariants.{Whole, First, Second}
-use Rattle.zf_value.specs.declared.value.Value.{Value, out-Value}
-use Rattle.zf_value.specs.declared.value.Value.TheOpen.{Value-F}
+use Rattle.zf_value.specs.declared.plain.Value.{Value, out-Value}
+use Rattle.zf_value.specs.declared.plain.Value.TheOpen.{Value-F}
 use Rattle.zf_value.specs.Operations.{pair, Relates}
 use Rattle.zf_value.specs.Sets.{IsMember, IsAscending, value_order}
 use Rattle.zf_value.specs.Numbers.{IsBetweenNumbers}

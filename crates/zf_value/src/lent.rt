@@ -13,8 +13,8 @@ pub struct Lent<'a> {
 }
 
 impl<'a> Model for Lent<'a> {
-    ghost use Rattle.zf_value.specs.declared.value.Value as value;
-    ghost use Rattle.zf_value.specs.contracts.value.Value as values;
+    ghost use Rattle.zf_value.specs.declared.plain.Value as value;
+    ghost use Rattle.zf_value.specs.contracts.plain.Value as values;
     ghost use Rattle.zf_value.specs.Held.{held_value};
 
     ghost Value = { value.Value };

@@ -1,46 +1,41 @@
 //! The operations on numbers.
 ghost use Rattle.std.specs.Prelude.{◌≡◌, ◌↔◌, pos, ◌+ℤ◌, ◌≤ℤ◌, IsTrue, IfOk, MatchOption};
 ghost use Rattle.zf_value.specs.Numbers.{IsNegation, IsSum, IsDifference, IsProduct, IsQuotient, IsModulus, IsInterval, IsBetweenNumbers, IsRemainder};
-ghost use Rattle.zf_value.specs.Sets.{IsRegularOutcome};
+ghost use Rattle.zf_value.specs.declared.plain.Value.{Int};
 ghost use Rattle.zf_value.specs.Steps.{ListsNumbers};
 
 use crate::SET_MAX;
 use crate::set::set_of;
-use crate::value::{Outcome, Value};
+use crate::value::{Form, Outcome, Value};
 use std::alloc::{AllocError, Global};
 
 pub fn negation(a: i64) -> Outcome
-    ensures is { IsNegation a result }
-    ensures regular { IsRegularOutcome result }
+    ensures { IsNegation a result }
 {
     number_or_out(a.checked_neg())
 }
 
 pub fn sum(a: i64, b: i64) -> Outcome
-    ensures is { IsSum a b result }
-    ensures regular { IsRegularOutcome result }
+    ensures { IsSum a b result }
 {
     number_or_out(a.checked_add(b))
 }
 
 pub fn difference(a: i64, b: i64) -> Outcome
-    ensures is { IsDifference a b result }
-    ensures regular { IsRegularOutcome result }
+    ensures { IsDifference a b result }
 {
     number_or_out(a.checked_sub(b))
 }
 
 pub fn product(a: i64, b: i64) -> Outcome
-    ensures is { IsProduct a b result }
-    ensures regular { IsRegularOutcome result }
+    ensures { IsProduct a b result }
 {
     number_or_out(a.checked_mul(b))
 }
 
 /// `a \div b`, rounded down.
 pub fn quotient(a: i64, b: i64) -> Outcome
-    ensures is { IsQuotient a b result }
-    ensures regular { IsRegularOutcome result }
+    ensures { IsQuotient a b result }
 {
     if b == 0 {
         return Outcome::Undefined;
@@ -52,22 +47,23 @@ pub fn quotient(a: i64, b: i64) -> Outcome
     if !is_remainder(b, a % b) {
         return number_or_out(q.checked_sub(1));
     }
-    Outcome::Is(Value::Int(q))
+    Outcome::Is(Value { form: Form::Int(q) })
 }
 
 /// `a \mod b`, what `\div` leaves.
 pub fn modulus(a: i64, b: i64) -> Outcome
-    ensures is { IsModulus a b result }
-    ensures regular { IsRegularOutcome result }
+    ensures { IsModulus a b result }
 {
     if b == 0 {
         return Outcome::Undefined;
     }
     let r = a.wrapping_rem(b);
     if !is_remainder(b, r) {
-        return Outcome::Is(Value::Int(r + b));
+        return Outcome::Is(Value {
+            form: Form::Int(r + b),
+        });
     }
-    Outcome::Is(Value::Int(r))
+    Outcome::Is(Value { form: Form::Int(r) })
 }
 
 /// Whether `from \upto to` has more members than a set may have.
@@ -89,8 +85,7 @@ pub fn is_in_interval(z: &Value, from: i64, to: i64) -> bool
 
 /// `from \upto to`.
 pub fn interval(alloc: Global, from: i64, to: i64) -> Result<Outcome, AllocError>
-    ensures is { IfOk result (IsInterval from to) }
-    ensures regular { IfOk result IsRegularOutcome }
+    ensures { IfOk result (IsInterval from to) }
 {
     if is_too_wide(from, to) {
         return Ok(Outcome::Out);
@@ -131,18 +126,20 @@ fn numbers(alloc: Global, from: i64, to: i64) -> Result<Vec<Value>, AllocError>
         return Ok(members);
     }
     for n in from..to {
-        members.push(Value::Int(n))?;
+        members.push(Value { form: Form::Int(n) })?;
     }
-    members.push(Value::Int(to))?;
+    members.push(Value {
+        form: Form::Int(to),
+    })?;
     Ok(members)
 }
 
 /// The number, or out where there is none of 64 bits.
 fn number_or_out(number: Option<i64>) -> Outcome
-    ensures { MatchOption number (result ≡ Outcome.Out) (λ n. result ≡ Outcome.Is (Value.Int n)) }
+    ensures { MatchOption number (result ≡ Outcome.Out) (λ n. result ≡ Outcome.Is (Int n)) }
 {
     match number {
-        Some(n) => Outcome::Is(Value::Int(n)),
+        Some(n) => Outcome::Is(Value { form: Form::Int(n) }),
         None => Outcome::Out,
     }
 }

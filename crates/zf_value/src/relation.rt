@@ -1,41 +1,35 @@
 //! The operations on relations. A relation is a set of pairs; what is no pair relates nothing.
 ghost use Rattle.std.specs.Prelude.{◌≡◌, ◌≤◌, length, slice_range, IfOk, IfSome, OnOk, MatchOption};
 ghost use Rattle.zf_value.specs.Operations.{pair, IsDomain, IsRange, IsInverse, IsImage, IsComposition, IsOverriding, IsDomainRestriction, IsDomainSubtraction, IsRangeRestriction, IsRangeSubtraction, IsApplied};
-ghost use Rattle.zf_value.specs.Sets.{IsAscending, IsRegular, IsRegularSet, IsRegularOutcome};
+ghost use Rattle.zf_value.specs.Sets.{members, IsAscending};
 ghost use Rattle.zf_value.specs.Steps.{AreRelated, AddsPairs, place_beside as place};
 
 use crate::part::{Keep, Part, parts, selected};
 use crate::set::{copy_onto, display, is_too_many, make_ascending, tuple_of_two};
-use crate::value::{Outcome, Value};
+use crate::value::{Form, Outcome, Value};
 use std::alloc::{AllocError, Global};
 use std::cmp::Ordering;
 
 /// `\dom r`.
-pub fn domain(alloc: Global, r: &[Value]) -> Result<Outcome, AllocError>
-    requires { IsRegularSet r.now }
-    ensures is { IfOk result (IsDomain r.now) }
-    ensures regular { IfOk result IsRegularOutcome }
+pub fn domain(alloc: Global, r: &Value) -> Result<Outcome, AllocError>
+    ensures { IfOk result (IsDomain (members r.now)) }
 {
-    display(alloc, parts(alloc, r, Part::First)?)
+    display(alloc, parts(alloc, r.members(), Part::First)?)
 }
 
 /// `\ran r`.
-pub fn range(alloc: Global, r: &[Value]) -> Result<Outcome, AllocError>
-    requires { IsRegularSet r.now }
-    ensures is { IfOk result (IsRange r.now) }
-    ensures regular { IfOk result IsRegularOutcome }
+pub fn range(alloc: Global, r: &Value) -> Result<Outcome, AllocError>
+    ensures { IfOk result (IsRange (members r.now)) }
 {
-    display(alloc, parts(alloc, r, Part::Second)?)
+    display(alloc, parts(alloc, r.members(), Part::Second)?)
 }
 
 /// `r \inv`.
-pub fn inverse(alloc: Global, r: &[Value]) -> Result<Outcome, AllocError>
-    requires { IsRegularSet r.now }
-    ensures is { IfOk result (IsInverse r.now) }
-    ensures regular { IfOk result IsRegularOutcome }
+pub fn inverse(alloc: Global, r: &Value) -> Result<Outcome, AllocError>
+    ensures { IfOk result (IsInverse (members r.now)) }
 {
     let mut values = Vec::new(alloc);
-    for z in r {
+    for z in r.members() {
         if let Some((x, y)) = z.pair() {
             values.push(pair_of(alloc, y, x)?)?;
         }
@@ -44,27 +38,26 @@ pub fn inverse(alloc: Global, r: &[Value]) -> Result<Outcome, AllocError>
 }
 
 /// `r \limg a \rimg`.
-pub fn image(alloc: Global, r: &[Value], a: &[Value]) -> Result<Outcome, AllocError>
-    requires r { IsRegularSet r.now }
-    requires a { IsRegularSet a.now }
-    ensures is { IfOk result (IsImage r.now a.now) }
-    ensures regular { IfOk result IsRegularOutcome }
+pub fn image(alloc: Global, r: &Value, a: &Value) -> Result<Outcome, AllocError>
+    ensures { IfOk result (IsImage (members r.now) (members a.now)) }
 {
-    display(
+    let kept = selected(
         alloc,
-        selected(alloc, r, Part::First, Keep::Members, a, Part::Second)?,
-    )
+        r.members(),
+        Part::First,
+        Keep::Members,
+        a.members(),
+        Part::Second,
+    )?;
+    display(alloc, kept)
 }
 
 /// `r \comp q`.
-pub fn composition(alloc: Global, r: &[Value], q: &[Value]) -> Result<Outcome, AllocError>
-    requires r { IsRegularSet r.now }
-    requires q { IsRegularSet q.now }
-    ensures is { IfOk result (IsComposition r.now q.now) }
-    ensures regular { IfOk result IsRegularOutcome }
+pub fn composition(alloc: Global, r: &Value, q: &Value) -> Result<Outcome, AllocError>
+    ensures { IfOk result (IsComposition (members r.now) (members q.now)) }
 {
     let mut values = Vec::new(alloc);
-    for z in r {
+    for z in r.members() {
         if let Some((x, y)) = z.pair() {
             pair_all(alloc, &mut values, x, related(q, y))?;
             if is_too_many(&mut values)? {
@@ -76,83 +69,87 @@ pub fn composition(alloc: Global, r: &[Value], q: &[Value]) -> Result<Outcome, A
 }
 
 /// `r \oplus q`.
-pub fn overriding(alloc: Global, r: &[Value], q: &[Value]) -> Result<Outcome, AllocError>
-    requires r { IsRegularSet r.now }
-    requires q { IsRegularSet q.now }
-    ensures is { IfOk result (IsOverriding r.now q.now) }
-    ensures regular { IfOk result IsRegularOutcome }
+pub fn overriding(alloc: Global, r: &Value, q: &Value) -> Result<Outcome, AllocError>
+    ensures { IfOk result (IsOverriding (members r.now) (members q.now)) }
 {
-    let mut firsts = parts(alloc, q, Part::First)?;
+    let over = q.members();
+    let mut firsts = parts(alloc, over, Part::First)?;
     make_ascending(&mut firsts)?;
     let mut values = selected(
         alloc,
-        r,
+        r.members(),
         Part::First,
         Keep::Others,
         firsts.as_slice(),
         Part::Whole,
     )?;
-    copy_onto(alloc, &mut values, q)?;
+    copy_onto(alloc, &mut values, over)?;
     display(alloc, values)
 }
 
 /// `a \dres r`.
-pub fn domain_restriction(alloc: Global, a: &[Value], r: &[Value]) -> Result<Outcome, AllocError>
-    requires a { IsRegularSet a.now }
-    requires r { IsRegularSet r.now }
-    ensures is { IfOk result (IsDomainRestriction a.now r.now) }
-    ensures regular { IfOk result IsRegularOutcome }
+pub fn domain_restriction(alloc: Global, a: &Value, r: &Value) -> Result<Outcome, AllocError>
+    ensures { IfOk result (IsDomainRestriction (members a.now) (members r.now)) }
 {
-    display(
+    let kept = selected(
         alloc,
-        selected(alloc, r, Part::First, Keep::Members, a, Part::Whole)?,
-    )
+        r.members(),
+        Part::First,
+        Keep::Members,
+        a.members(),
+        Part::Whole,
+    )?;
+    display(alloc, kept)
 }
 
 /// `a \ndres r`.
-pub fn domain_subtraction(alloc: Global, a: &[Value], r: &[Value]) -> Result<Outcome, AllocError>
-    requires a { IsRegularSet a.now }
-    requires r { IsRegularSet r.now }
-    ensures is { IfOk result (IsDomainSubtraction a.now r.now) }
-    ensures regular { IfOk result IsRegularOutcome }
+pub fn domain_subtraction(alloc: Global, a: &Value, r: &Value) -> Result<Outcome, AllocError>
+    ensures { IfOk result (IsDomainSubtraction (members a.now) (members r.now)) }
 {
-    display(
+    let kept = selected(
         alloc,
-        selected(alloc, r, Part::First, Keep::Others, a, Part::Whole)?,
-    )
+        r.members(),
+        Part::First,
+        Keep::Others,
+        a.members(),
+        Part::Whole,
+    )?;
+    display(alloc, kept)
 }
 
 /// `r \rres b`.
-pub fn range_restriction(alloc: Global, r: &[Value], b: &[Value]) -> Result<Outcome, AllocError>
-    requires r { IsRegularSet r.now }
-    requires b { IsRegularSet b.now }
-    ensures is { IfOk result (IsRangeRestriction r.now b.now) }
-    ensures regular { IfOk result IsRegularOutcome }
+pub fn range_restriction(alloc: Global, r: &Value, b: &Value) -> Result<Outcome, AllocError>
+    ensures { IfOk result (IsRangeRestriction (members r.now) (members b.now)) }
 {
-    display(
+    let kept = selected(
         alloc,
-        selected(alloc, r, Part::Second, Keep::Members, b, Part::Whole)?,
-    )
+        r.members(),
+        Part::Second,
+        Keep::Members,
+        b.members(),
+        Part::Whole,
+    )?;
+    display(alloc, kept)
 }
 
 /// `r \nrres b`.
-pub fn range_subtraction(alloc: Global, r: &[Value], b: &[Value]) -> Result<Outcome, AllocError>
-    requires r { IsRegularSet r.now }
-    requires b { IsRegularSet b.now }
-    ensures is { IfOk result (IsRangeSubtraction r.now b.now) }
-    ensures regular { IfOk result IsRegularOutcome }
+pub fn range_subtraction(alloc: Global, r: &Value, b: &Value) -> Result<Outcome, AllocError>
+    ensures { IfOk result (IsRangeSubtraction (members r.now) (members b.now)) }
 {
-    display(
+    let kept = selected(
         alloc,
-        selected(alloc, r, Part::Second, Keep::Others, b, Part::Whole)?,
-    )
+        r.members(),
+        Part::Second,
+        Keep::Others,
+        b.members(),
+        Part::Whole,
+    )?;
+    display(alloc, kept)
 }
 
 /// What the relation takes the value to, if that is one value alone.
-pub fn applied<'a>(f: &'a [Value], x: &Value) -> Option<&'a Value>
-    requires { IsRegularSet f.now }
-    ensures is { MatchOption result (IsApplied f.now x.now Outcome.Undefined) (λ y. IsApplied f.now x.now (Outcome.Is y.now)) }
-    ensures regular { IfSome result (λ y. IsRegular y.now) }
+pub fn applied<'a>(f: &'a Value, x: &Value) -> Option<&'a Value>
+    ensures { MatchOption result (IsApplied (members f.now) x.now Outcome.Undefined) (λ y. IsApplied (members f.now) x.now (Outcome.Is y.now)) }
 {
     let mut found = None;
     for z in related(f, x) {
@@ -169,12 +166,12 @@ pub fn applied<'a>(f: &'a [Value], x: &Value) -> Option<&'a Value>
 // ---- steps
 
 /// The members that begin with the value.
-fn related<'a>(r: &'a [Value], x: &Value) -> &'a [Value]
-    requires { IsAscending r.now }
-    ensures { AreRelated r.now x.now result.now }
+fn related<'a>(r: &'a Value, x: &Value) -> &'a [Value]
+    ensures { AreRelated (members r.now) x.now result.now }
 {
-    let (start, end) = stretch(r, x);
-    &r[start..end]
+    let pairs = r.members();
+    let (start, end) = stretch(pairs, x);
+    &pairs[start..end]
 }
 
 /// From where to where the members begin with the value.
@@ -193,13 +190,13 @@ fn stretch(r: &[Value], x: &Value) -> (usize, usize)
 fn place_beside(x: &Value, z: &Value) -> Ordering
     ensures { result ≡ place x.now z.now }
 {
-    match z {
-        Value::Int(_) | Value::Elem(_, _) => Ordering::Less,
-        Value::Tuple(items) => match items.as_slice() {
+    match z.form() {
+        Form::Int(_) | Form::Elem(_, _) => Ordering::Less,
+        Form::Tuple(items) => match items.as_slice() {
             [] => Ordering::Less,
             [y, ..] => y.order(x),
         },
-        Value::SetOf(_) => Ordering::Greater,
+        Form::SetOf(_) => Ordering::Greater,
     }
 }
 

@@ -3,41 +3,41 @@ ghost use Rattle.std.specs.Bool.{MatchBool};
 ghost use Rattle.std.specs.Prelude.{◌≡◌, true, ◌↔◌, ◌*◌, ◌≤◌, ◌++◌, length, IsTrue, IfOk, OnOk};
 ghost use Rattle.zf_value.specs.Operations.{pair, IsPair, IsTuple, IsEmptySet, IsElement, AreElements, IsDisplay, IsUnion, IsIntersection, IsSetDifference, IsSize};
 ghost use Rattle.zf_value.specs.Steps.{IsJoined};
-ghost use Rattle.zf_value.specs.Sets.{IsMember, IsAscending, AreAmong, HaveSameMembers, IsRegular, AreRegular, IsRegularSet, IsRegularOutcome};
+ghost use Rattle.zf_value.specs.Sets.{members, IsMember, IsAscending, AreAmong, HaveSameMembers};
 
 use crate::SET_MAX;
 use crate::items::Items;
 use crate::part::{Keep, Part, selected};
-use crate::value::{Outcome, Value};
+use crate::value::{Form, Outcome, Value};
 use std::alloc::{AllocError, Global};
 use std::cmp::Ordering;
 
 /// `x \mapsto y`.
 pub fn pair(alloc: Global, x: Value, y: Value) -> Result<Outcome, AllocError>
-    ensures is { IfOk result (IsPair x y) }
-    ensures regular { IsRegular x → IsRegular y → IfOk result IsRegularOutcome }
+    ensures { IfOk result (IsPair x y) }
 {
     Ok(Outcome::Is(tuple_of_two(alloc, x, y)?))
 }
 
 pub fn tuple(alloc: Global, values: Vec<Value>) -> Result<Outcome, AllocError>
-    ensures is { IfOk result (IsTuple values.items) }
-    ensures regular { AreRegular values.items → IfOk result IsRegularOutcome }
+    ensures { IfOk result (IsTuple values.items) }
 {
-    Ok(Outcome::Is(Value::Tuple(Items::of(alloc, values)?)))
+    Ok(Outcome::Is(Value {
+        form: Form::Tuple(Items::of(alloc, values)?),
+    }))
 }
 
 pub fn empty_set(alloc: Global) -> Result<Outcome, AllocError>
-    ensures is { IfOk result IsEmptySet }
-    ensures regular { IfOk result IsRegularOutcome }
+    ensures { IfOk result IsEmptySet }
 {
-    Ok(Outcome::Is(Value::SetOf(Items::of(alloc, Vec::new(alloc))?)))
+    Ok(Outcome::Is(Value {
+        form: Form::SetOf(Items::of(alloc, Vec::new(alloc))?),
+    }))
 }
 
 /// The set of these values, in any order and with repeats.
 pub fn display(alloc: Global, mut values: Vec<Value>) -> Result<Outcome, AllocError>
-    ensures is { IfOk result (IsDisplay values.items) }
-    ensures regular { AreRegular values.items → IfOk result IsRegularOutcome }
+    ensures { IfOk result (IsDisplay values.items) }
 {
     make_ascending(&mut values)?;
     set_of(alloc, values)
@@ -58,15 +58,16 @@ pub fn is_too_many(values: &mut Vec<Value>) -> Result<bool, AllocError>
 
 /// The elements of the type of this number, which has so many.
 pub fn elements(alloc: Global, number: u32, count: u64) -> Result<Outcome, AllocError>
-    ensures is { IfOk result (AreElements number count) }
-    ensures regular { IfOk result IsRegularOutcome }
+    ensures { IfOk result (AreElements number count) }
 {
     if count > SET_MAX as u64 {
         return Ok(Outcome::Out);
     }
     let mut members = Vec::new(alloc);
     for index in 0..count {
-        members.push(Value::Elem(number, index))?;
+        members.push(Value {
+            form: Form::Elem(number, index),
+        })?;
     }
     set_of(alloc, members)
 }
@@ -75,23 +76,21 @@ pub fn elements(alloc: Global, number: u32, count: u64) -> Result<Outcome, Alloc
 pub fn is_element(z: &Value, number: u32, count: u64) -> bool
     ensures { IsTrue result ↔ IsElement number count z.now }
 {
-    match z {
-        Value::Elem(n, i) => *n == number && *i < count,
+    match &z.form {
+        Form::Elem(n, i) => *n == number && *i < count,
         _ => false,
     }
 }
 
-pub fn is_member(z: &Value, set: &[Value]) -> bool
-    requires { IsRegularSet set.now }
-    ensures { IsTrue result ↔ IsMember z.now set.now }
+pub fn is_member(z: &Value, set: &Value) -> bool
+    ensures { IsTrue result ↔ IsMember z.now (members set.now) }
 {
-    is_found(z, set)
+    is_found(z, set.members())
 }
 
 /// Whether each of these is a member of the set.
-pub fn are_among(values: &[Value], set: &[Value]) -> bool
-    requires { IsRegularSet set.now }
-    ensures { IsTrue result ↔ AreAmong values.now set.now }
+pub fn are_among(values: &[Value], set: &Value) -> bool
+    ensures { IsTrue result ↔ AreAmong values.now (members set.now) }
 {
     for z in values {
         if !is_member(z, set) {
@@ -101,48 +100,48 @@ pub fn are_among(values: &[Value], set: &[Value]) -> bool
     true
 }
 
-pub fn union(alloc: Global, a: &[Value], b: &[Value]) -> Result<Outcome, AllocError>
-    requires a { IsRegularSet a.now }
-    requires b { IsRegularSet b.now }
-    ensures is { IfOk result (IsUnion a.now b.now) }
-    ensures regular { IfOk result IsRegularOutcome }
+pub fn union(alloc: Global, a: &Value, b: &Value) -> Result<Outcome, AllocError>
+    ensures { IfOk result (IsUnion (members a.now) (members b.now)) }
 {
-    let values = merged(alloc, a, b)?;
+    let values = merged(alloc, a.members(), b.members())?;
     set_of(alloc, values)
 }
 
-pub fn intersection(alloc: Global, a: &[Value], b: &[Value]) -> Result<Outcome, AllocError>
-    requires a { IsRegularSet a.now }
-    requires b { IsRegularSet b.now }
-    ensures is { IfOk result (IsIntersection a.now b.now) }
-    ensures regular { IfOk result IsRegularOutcome }
+pub fn intersection(alloc: Global, a: &Value, b: &Value) -> Result<Outcome, AllocError>
+    ensures { IfOk result (IsIntersection (members a.now) (members b.now)) }
 {
-    display(
+    let kept = selected(
         alloc,
-        selected(alloc, a, Part::Whole, Keep::Members, b, Part::Whole)?,
-    )
+        a.members(),
+        Part::Whole,
+        Keep::Members,
+        b.members(),
+        Part::Whole,
+    )?;
+    display(alloc, kept)
 }
 
 /// `a \setminus b`.
-pub fn set_difference(alloc: Global, a: &[Value], b: &[Value]) -> Result<Outcome, AllocError>
-    requires a { IsRegularSet a.now }
-    requires b { IsRegularSet b.now }
-    ensures is { IfOk result (IsSetDifference a.now b.now) }
-    ensures regular { IfOk result IsRegularOutcome }
+pub fn set_difference(alloc: Global, a: &Value, b: &Value) -> Result<Outcome, AllocError>
+    ensures { IfOk result (IsSetDifference (members a.now) (members b.now)) }
 {
-    display(
+    let kept = selected(
         alloc,
-        selected(alloc, a, Part::Whole, Keep::Others, b, Part::Whole)?,
-    )
+        a.members(),
+        Part::Whole,
+        Keep::Others,
+        b.members(),
+        Part::Whole,
+    )?;
+    display(alloc, kept)
 }
 
 /// `\# a`.
-pub fn size(a: &[Value]) -> Outcome
-    ensures is { IsSize a.now result }
-    ensures regular { IsRegularOutcome result }
+pub fn size(a: &Value) -> Outcome
+    ensures { IsSize (members a.now) result }
 {
-    match i64::try_from(a.len()) {
-        Ok(n) => Outcome::Is(Value::Int(n)),
+    match i64::try_from(a.members().len()) {
+        Ok(n) => Outcome::Is(Value { form: Form::Int(n) }),
         Err(_) => Outcome::Out,
     }
 }
@@ -228,7 +227,9 @@ pub(crate) fn set_of(alloc: Global, mut members: Vec<Value>) -> Result<Outcome, 
         return Ok(Outcome::Out);
     }
     give_room_back(&mut members);
-    Ok(Outcome::Is(Value::SetOf(Items::of(alloc, members)?)))
+    Ok(Outcome::Is(Value {
+        form: Form::SetOf(Items::of(alloc, members)?),
+    }))
 }
 
 /// Gives room back where values fill no more than half of it: what is gathered for a set may be many more values than its
@@ -263,5 +264,7 @@ pub(crate) fn tuple_of_two(alloc: Global, x: Value, y: Value) -> Result<Value, A
     let mut values = Vec::with_capacity(alloc, 2)?;
     values.push(x)?;
     values.push(y)?;
-    Ok(Value::Tuple(Items::of(alloc, values)?))
+    Ok(Value {
+        form: Form::Tuple(Items::of(alloc, values)?),
+    })
 }

@@ -9,9 +9,8 @@ ghost use Rattle.zf_term.specs.declared.resolved.Resolved as resolved;
 ghost use Rattle.zf_term.specs.declared.resolved.Resolved.TheVariants as form;
 ghost use Rattle.zf_term.specs.ResolvedTrees.{resolved_of, part_of};
 ghost use Rattle.zf_value.specs.declared.value.Truth.TheVariants as truths;
-ghost use Rattle.zf_value.specs.declared.value.Value as value;
+ghost use Rattle.zf_value.specs.declared.plain.Value as value;
 ghost use Rattle.zf_value.specs.Operations.{AreFrom};
-ghost use Rattle.zf_value.specs.Sets.{AreRegular, IsRegular, IsRegularOutcome};
 ghost use Rattle.zf_meaning.specs.Building.{AddsRow, AddsValue};
 ghost use Rattle.zf_meaning.specs.RangeSets.{spread};
 ghost use Rattle.zf_meaning.specs.Early.{IsPiece, IsBound, AreNeutralIf, ArePassed, ArePassedIf};
@@ -20,7 +19,7 @@ ghost use Rattle.zf_meaning.specs.Forms.{IsQuantified, IsBuilder};
 ghost use Rattle.zf_meaning.specs.Found.{found_outcome};
 ghost use Rattle.zf_meaning.specs.Meaning.{HasOutcome, IsTruth, IsConstraint, Builds, IsBuiltOver, row_value};
 ghost use Rattle.zf_meaning.specs.Places.{seen};
-ghost use Rattle.zf_meaning.specs.Scopes.{scope_of, IsRegularScope};
+ghost use Rattle.zf_meaning.specs.Scopes.{scope_of};
 ghost use Rattle.zf_meaning.specs.Truths.{IsTold, IsOver};
 
 use super::chains::is_false;
@@ -38,7 +37,7 @@ use std::alloc::{AllocError, Global};
 use zf_term::resolved::{Part, Resolved};
 use zf_value::items::Items;
 use zf_value::set;
-use zf_value::value::{Outcome, Truth, Value};
+use zf_value::value::{Form, Outcome, Truth, Value};
 
 /// A quantified predicate.
 #[cycle(meaning)]
@@ -49,8 +48,7 @@ pub(super) fn quantified<'v, 'a, R: Row>(
     locals: &[&'v Value],
     env: &'v Env<'_, 'a>,
 ) -> Result<Truth, AllocError>
-    requires form { IsQuantified term.now }
-    requires regular { IsRegularScope (scope_of env.now (R.values row.now) locals.now) }
+    requires { IsQuantified term.now }
     ensures { IfOk result (IsTruth (scope_of env.now (R.values row.now) locals.now) (resolved_of term.now)) }
 {
     let Resolved::Quantified(quantifier, _, ranges, _, _) = term else {
@@ -73,9 +71,7 @@ fn over_rows<'v, 'a, R: Row>(
     locals: &[&'v Value],
     env: &'v Env<'_, 'a>,
 ) -> Result<Truth, AllocError>
-    requires form { IsQuantified term.now }
-    requires sets { AreRegular (spread sets.now) }
-    requires regular { IsRegularScope (scope_of env.now (R.values row.now) locals.now) }
+    requires { IsQuantified term.now }
     ensures { (q : Quantifier) (l : ℕ) (rs : List range.Range) (p : Option resolved.Resolved) (e : resolved.Resolved) → term.now ≡ form.Quantified q l rs p e
         → IfOk result (IsOver q (λ vs. AreFrom vs (spread sets.now)) (λ vs w. IsTold q (λ a. IsConstraint (within (scope_of env.now (R.values row.now) locals.now) vs) (part_of p) a) (λ b. IsTruth (within (scope_of env.now (R.values row.now) locals.now) vs) (resolved_of e) b) w)) }
 {
@@ -123,7 +119,6 @@ fn met_at<'v, 'a, R: Row>(
 ) -> Result<Met<'v>, AllocError>
     requires form { IsQuantified term.now }
     requires pieces { All (IsPiece term.now span) pieces.now }
-    requires regular { IsRegularScope (scope_of env.now (R.values row.now) bound.now) }
     ensures told { (c : Context) (vs : List value.Value) → IsBound span (scope_of env.now (R.values row.now) bound.now) c vs
         → (q : Quantifier) (l : ℕ) (rs : List range.Range) (p : Option resolved.Resolved) (e : resolved.Resolved) → term.now ≡ form.Quantified q l rs p e
         → IfOk result (λ m. IsTold q (λ a. IsConstraint (within c vs) (part_of p) a) (λ b. IsTruth (within c vs) (resolved_of e) b) m.truth) }
@@ -157,8 +152,7 @@ fn refuted<'v, 'a, R: Row>(
     bound: &[&'v Value],
     env: &'v Env<'_, 'a>,
 ) -> Result<Option<Passing<'v>>, AllocError>
-    requires pieces { All (IsPiece term.now span) pieces.now }
-    requires regular { IsRegularScope (scope_of env.now (R.values row.now) bound.now) }
+    requires { All (IsPiece term.now span) pieces.now }
     ensures { (c : Context) (vs : List value.Value) → IsBound span (scope_of env.now (R.values row.now) bound.now) c vs
         → IfOk result (AreNeutralIf (resolved_of term.now) c vs) }
 {
@@ -182,8 +176,7 @@ fn passing_at<'v, 'a, R: Row>(
     bound: &[&'v Value],
     env: &'v Env<'_, 'a>,
 ) -> Result<Option<Passing<'v>>, AllocError>
-    requires piece { IsPiece term.now span piece.now }
-    requires regular { IsRegularScope (scope_of env.now (R.values row.now) bound.now) }
+    requires { IsPiece term.now span piece.now }
     ensures { (c : Context) (vs : List value.Value) → IsBound span (scope_of env.now (R.values row.now) bound.now) c vs
         → IfOk result (AreNeutralIf (resolved_of term.now) c vs) }
 {
@@ -207,8 +200,7 @@ fn told_at<'v, 'a, R: Row>(
     bound: &[&'v Value],
     env: &'v Env<'_, 'a>,
 ) -> Result<Truth, AllocError>
-    requires form { IsQuantified term.now }
-    requires regular { IsRegularScope (scope_of env.now (R.values row.now) bound.now) }
+    requires { IsQuantified term.now }
     ensures { (q : Quantifier) (l : ℕ) (rs : List range.Range) (p : Option resolved.Resolved) (e : resolved.Resolved) → term.now ≡ form.Quantified q l rs p e
         → IfOk result (IsTold q (λ a. IsConstraint (scope_of env.now (R.values row.now) bound.now) (part_of p) a) (λ b. IsTruth (scope_of env.now (R.values row.now) bound.now) (resolved_of e) b)) }
 {
@@ -232,7 +224,6 @@ fn constraint_truth<'v, 'a, R: Row>(
     bound: &[&'v Value],
     env: &'v Env<'_, 'a>,
 ) -> Result<Truth, AllocError>
-    requires { IsRegularScope (scope_of env.now (R.values row.now) bound.now) }
     ensures { IfOk result (IsConstraint (scope_of env.now (R.values row.now) bound.now) (part_of part.now)) }
 {
     match part.get() {
@@ -250,10 +241,8 @@ pub(super) fn builder<'v, 'a, R: Row>(
     locals: &[&'v Value],
     env: &'v Env<'_, 'a>,
 ) -> Result<Found<'v>, AllocError>
-    requires form { IsBuilder term.now }
-    requires regular { IsRegularScope (scope_of env.now (R.values row.now) locals.now) }
-    ensures is { IfOk result (λ o. HasOutcome (scope_of env.now (R.values row.now) locals.now) (resolved_of term.now) (found_outcome o)) }
-    ensures regular { IfOk result (λ o. IsRegularOutcome (found_outcome o)) }
+    requires { IsBuilder term.now }
+    ensures { IfOk result (λ o. HasOutcome (scope_of env.now (R.values row.now) locals.now) (resolved_of term.now) (found_outcome o)) }
 {
     let Resolved::Builder(_, ranges, _, _) = term else {
         unreachable!();
@@ -275,12 +264,9 @@ fn built_over<'v, 'a, R: Row>(
     locals: &[&'v Value],
     env: &'v Env<'_, 'a>,
 ) -> Result<Outcome, AllocError>
-    requires form { IsBuilder term.now }
-    requires sets { AreRegular (spread sets.now) }
-    requires regular { IsRegularScope (scope_of env.now (R.values row.now) locals.now) }
-    ensures is { (l : ℕ) (rs : List range.Range) (p e : Option resolved.Resolved) → term.now ≡ form.Builder l rs p e
+    requires { IsBuilder term.now }
+    ensures { (l : ℕ) (rs : List range.Range) (p e : Option resolved.Resolved) → term.now ≡ form.Builder l rs p e
         → IfOk result (IsBuiltOver (λ vs. AreFrom vs (spread sets.now)) (λ vs u. IsConstraint (within (scope_of env.now (R.values row.now) locals.now) vs) (part_of p) u) (λ vs x. Builds (within (scope_of env.now (R.values row.now) locals.now) vs) vs (part_of e) x)) }
-    ensures regular { IfOk result IsRegularOutcome }
 {
     let alloc = env.allocator();
     let mut built = Vec::new(alloc);
@@ -329,14 +315,11 @@ fn built_at<'v, 'a, R: Row>(
     requires form { IsBuilder term.now }
     requires pieces { All (IsPiece term.now span) pieces.now }
     requires outside { span.outside ≤ length bound.now }
-    requires built { AreRegular built.old.items }
-    requires regular { IsRegularScope (scope_of env.now (R.values row.now) bound.now) }
     ensures is { (c : Context) (vs : List value.Value) → IsBound span (scope_of env.now (R.values row.now) bound.now) c vs → drop span.outside (seen bound.now) ≡ vs
         → (l : ℕ) (rs : List range.Range) (p e : Option resolved.Resolved) → term.now ≡ form.Builder l rs p e
         → IfOk result (λ passing. AddsRow (λ u. IsConstraint (within c vs) (part_of p) u) (λ x. Builds (within c vs) vs (part_of e) x) built.old.items built.new.items (is_some passing)) }
     ensures passed { (c : Context) (vs : List value.Value) → IsBound span (scope_of env.now (R.values row.now) bound.now) c vs
         → IfOk result (ArePassedIf (resolved_of term.now) c vs) }
-    ensures regular { AreRegular built.new.items }
 {
     if let Some(passing) = refuted(term, span, pieces, anew, row, bound, env)? {
         return Ok(Some(passing));
@@ -360,11 +343,8 @@ fn add_row<'v, 'a, R: Row>(
 ) -> Result<bool, AllocError>
     requires form { IsBuilder term.now }
     requires outside { outside ≤ length bound.now }
-    requires built { AreRegular built.old.items }
-    requires regular { IsRegularScope (scope_of env.now (R.values row.now) bound.now) }
-    ensures is { (l : ℕ) (rs : List range.Range) (p e : Option resolved.Resolved) → term.now ≡ form.Builder l rs p e
+    ensures { (l : ℕ) (rs : List range.Range) (p e : Option resolved.Resolved) → term.now ≡ form.Builder l rs p e
         → IfOk result (AddsRow (λ u. IsConstraint (scope_of env.now (R.values row.now) bound.now) (part_of p) u) (λ x. Builds (scope_of env.now (R.values row.now) bound.now) (drop outside (seen bound.now)) (part_of e) x) built.old.items built.new.items) }
-    ensures regular { AreRegular built.new.items }
 {
     let Resolved::Builder(_, _, filter, member) = term else {
         unreachable!();
@@ -386,11 +366,8 @@ fn add_member<'v, 'a, R: Row>(
     bound: &[&'v Value],
     env: &'v Env<'_, 'a>,
 ) -> Result<bool, AllocError>
-    requires outside { outside ≤ length bound.now }
-    requires built { AreRegular built.old.items }
-    requires regular { IsRegularScope (scope_of env.now (R.values row.now) bound.now) }
-    ensures is { IfOk result (AddsValue (λ x. Builds (scope_of env.now (R.values row.now) bound.now) (drop outside (seen bound.now)) (part_of member.now) x) built.old.items built.new.items) }
-    ensures regular { AreRegular built.new.items }
+    requires { outside ≤ length bound.now }
+    ensures { IfOk result (AddsValue (λ x. Builds (scope_of env.now (R.values row.now) bound.now) (drop outside (seen bound.now)) (part_of member.now) x) built.old.items built.new.items) }
 {
     match member_outcome(member, outside, row, bound, env)? {
         Outcome::Is(value) => {
@@ -411,10 +388,8 @@ fn member_outcome<'v, 'a, R: Row>(
     bound: &[&'v Value],
     env: &'v Env<'_, 'a>,
 ) -> Result<Outcome, AllocError>
-    requires outside { outside ≤ length bound.now }
-    requires regular { IsRegularScope (scope_of env.now (R.values row.now) bound.now) }
-    ensures is { IfOk result (Builds (scope_of env.now (R.values row.now) bound.now) (drop outside (seen bound.now)) (part_of member.now)) }
-    ensures regular { IfOk result IsRegularOutcome }
+    requires { outside ≤ length bound.now }
+    ensures { IfOk result (Builds (scope_of env.now (R.values row.now) bound.now) (drop outside (seen bound.now)) (part_of member.now)) }
 {
     let alloc = env.allocator();
     match member.get() {
@@ -425,9 +400,7 @@ fn member_outcome<'v, 'a, R: Row>(
 
 /// What a builder without a term builds: the one variable, or the tuple of all.
 fn value_of_row(alloc: Global, values: &[&Value]) -> Result<Value, AllocError>
-    requires { AreRegular (seen values.now) }
-    ensures is { IfOk result (λ v. v ≡ row_value (seen values.now)) }
-    ensures regular { IfOk result IsRegular }
+    ensures { IfOk result (λ v. v ≡ row_value (seen values.now)) }
 {
     if values.len() == 1 {
         return values[0].copy(alloc);
@@ -436,5 +409,7 @@ fn value_of_row(alloc: Global, values: &[&Value]) -> Result<Value, AllocError>
     for value in values {
         copies.push(value.copy(alloc)?)?;
     }
-    Ok(Value::Tuple(Items::of(alloc, copies)?))
+    Ok(Value {
+        form: Form::Tuple(Items::of(alloc, copies)?),
+    })
 }

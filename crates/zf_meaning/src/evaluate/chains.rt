@@ -2,8 +2,7 @@
 ghost use Rattle.std.specs.Prelude.{◌≡◌, ◌↔◌, IfOk, IsTrue, List, None, map};
 ghost use Rattle.zf_term.specs.ResolvedTrees as tree;
 ghost use Rattle.zf_term.specs.ResolvedTrees.{resolved_of, resolved_link_of};
-ghost use Rattle.zf_value.specs.declared.value.Value as value;
-ghost use Rattle.zf_value.specs.Sets.{IsRegularOutcome};
+ghost use Rattle.zf_value.specs.declared.plain.Value as value;
 ghost use Rattle.zf_extent.specs.Extents.{is_membership};
 ghost use Rattle.zf_meaning.specs.Envs.{environment_of};
 ghost use Rattle.zf_meaning.specs.Found.{found_outcome};
@@ -11,7 +10,7 @@ ghost use Rattle.zf_meaning.specs.Linked.{IsLastLink};
 ghost use Rattle.zf_meaning.specs.Meaning.{IsTruth, AreLinked};
 ghost use Rattle.zf_meaning.specs.Forms.{IsChain};
 ghost use Rattle.zf_meaning.specs.Meaning as spec;
-ghost use Rattle.zf_meaning.specs.Scopes.{scope_of, IsRegularScope};
+ghost use Rattle.zf_meaning.specs.Scopes.{scope_of};
 
 use super::memberships::described;
 use super::outcome;
@@ -37,8 +36,7 @@ pub(super) fn chain<'v, 'a, R: Row>(
     locals: &[&'v Value],
     env: &'v Env<'_, 'a>,
 ) -> Result<Truth, AllocError>
-    requires form { IsChain term.now }
-    requires regular { IsRegularScope (scope_of env.now (R.values row.now) locals.now) }
+    requires { IsChain term.now }
     ensures { IfOk result (IsTruth (scope_of env.now (R.values row.now) locals.now) (resolved_of term.now)) }
 {
     let Resolved::Chain(_, first, links) = term else {
@@ -57,8 +55,6 @@ fn linked<'v, 'a, R: Row>(
     locals: &[&'v Value],
     env: &'v Env<'_, 'a>,
 ) -> Result<Truth, AllocError>
-    requires first { IsRegularOutcome (found_outcome first) }
-    requires regular { IsRegularScope (scope_of env.now (R.values row.now) locals.now) }
     ensures { IfOk result (AreLinked (scope_of env.now (R.values row.now) locals.now) (found_outcome first.entry) (tree.links (map resolved_link_of links.now))) }
 {
     let mut left = first;
@@ -91,8 +87,6 @@ fn last_link<'v, 'a, R: Row>(
     locals: &[&'v Value],
     env: &'v Env<'_, 'a>,
 ) -> Result<Truth, AllocError>
-    requires left { IsRegularOutcome (found_outcome left.now) }
-    requires regular { IsRegularScope (scope_of env.now (R.values row.now) locals.now) }
     ensures { IfOk result (IsLastLink (scope_of env.now (R.values row.now) locals.now) relation (resolved_of right.now) (found_outcome left.now)) }
 {
     let infinite = infinite_right(relation, right, env);

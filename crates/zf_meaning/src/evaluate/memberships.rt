@@ -10,9 +10,9 @@ ghost use Rattle.zf_meaning.specs.Found.{found_outcome};
 ghost use Rattle.zf_term.specs.ResolvedTrees as tree;
 ghost use Rattle.zf_term.specs.ResolvedTrees.{resolved_of};
 ghost use Rattle.zf_term.specs.declared.resolved.Resolved.{size-Resolved};
-ghost use Rattle.zf_meaning.specs.Described.{Describes, IsRegularDescribed};
+ghost use Rattle.zf_meaning.specs.Described.{Describes};
 ghost use Rattle.zf_meaning.specs.Meaning.{HasOutcome};
-ghost use Rattle.zf_meaning.specs.Scopes.{scope_of, IsRegularScope};
+ghost use Rattle.zf_meaning.specs.Scopes.{scope_of};
 
 use super::operands::gather;
 use super::outcome;
@@ -36,9 +36,7 @@ pub(crate) fn described<'v, 'a, R: Row>(
     locals: &[&'v Value],
     env: &'v Env<'_, 'a>,
 ) -> Result<Described<'v>, AllocError>
-    requires { IsRegularScope (scope_of env.now (R.values row.now) locals.now) }
-    ensures is { IfOk result (Describes (HasOutcome (scope_of env.now (R.values row.now) locals.now) (resolved_of term.now))) }
-    ensures regular { IfOk result IsRegularDescribed }
+    ensures { IfOk result (Describes (HasOutcome (scope_of env.now (R.values row.now) locals.now) (resolved_of term.now))) }
 {
     match term {
         Resolved::Bracket(_, inner) => described(inner.get(), row, locals, env),
@@ -61,9 +59,7 @@ fn of_one<'v, 'a, R: Row>(
     locals: &[&'v Value],
     env: &'v Env<'_, 'a>,
 ) -> Result<Described<'v>, AllocError>
-    requires { IsRegularScope (scope_of env.now (R.values row.now) locals.now) }
-    ensures is { (line : ℕ) → IfOk result (Describes (HasOutcome (scope_of env.now (R.values row.now) locals.now) (tree.unary line op (resolved_of of.now)))) }
-    ensures regular { IfOk result IsRegularDescribed }
+    ensures { (line : ℕ) → IfOk result (Describes (HasOutcome (scope_of env.now (R.values row.now) locals.now) (tree.unary line op (resolved_of of.now)))) }
 {
     let operand = outcome(of, row, locals, env)?;
     let alloc = env.allocator();
@@ -87,9 +83,7 @@ fn of_both<'v, 'a, R: Row>(
 ) -> Result<Described<'v>, AllocError>
     requires left { size-Resolved left.now < size-Resolved whole.now }
     requires right { size-Resolved right.now < size-Resolved whole.now }
-    requires regular { IsRegularScope (scope_of env.now (R.values row.now) locals.now) }
-    ensures is { (line : ℕ) → IfOk result (Describes (HasOutcome (scope_of env.now (R.values row.now) locals.now) (tree.binary line op (resolved_of left.now) (resolved_of right.now)))) }
-    ensures regular { IfOk result IsRegularDescribed }
+    ensures { (line : ℕ) → IfOk result (Describes (HasOutcome (scope_of env.now (R.values row.now) locals.now) (tree.binary line op (resolved_of left.now) (resolved_of right.now)))) }
 {
     let x = outcome(left, row, locals, env)?;
     let y = outcome(right, row, locals, env)?;
@@ -144,9 +138,7 @@ fn many<'v, 'a, R: Row>(
     locals: &[&'v Value],
     env: &'v Env<'_, 'a>,
 ) -> Result<Described<'v>, AllocError>
-    requires { IsRegularScope (scope_of env.now (R.values row.now) locals.now) }
-    ensures is { (line : ℕ) → IfOk result (Describes (HasOutcome (scope_of env.now (R.values row.now) locals.now) (tree.listed line form (tree.terms (map resolved_of terms.now))))) }
-    ensures regular { IfOk result IsRegularDescribed }
+    ensures { (line : ℕ) → IfOk result (Describes (HasOutcome (scope_of env.now (R.values row.now) locals.now) (tree.listed line form (tree.terms (map resolved_of terms.now))))) }
 {
     let gathered = gather(terms, row, locals, env)?;
     match form {

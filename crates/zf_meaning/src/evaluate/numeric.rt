@@ -6,13 +6,12 @@ ghost use Rattle.zf_term.specs.ResolvedTrees as tree;
 ghost use Rattle.zf_term.specs.ResolvedTrees.{resolved_of, resolved_link_of};
 ghost use Rattle.zf_term.specs.declared.resolved.Resolved.{size-Resolved};
 ghost use Rattle.zf_value.specs.declared.value.Outcome.TheVariants.{Is};
-ghost use Rattle.zf_value.specs.declared.value.Value.{Int};
+ghost use Rattle.zf_value.specs.declared.plain.Value.{Int};
 ghost use Rattle.zf_value.specs.Numbers.{IsNumber};
-ghost use Rattle.zf_value.specs.Sets.{IsRegular};
 ghost use Rattle.zf_meaning.specs.Environments as spec;
 ghost use Rattle.zf_meaning.specs.Envs.{environment_of};
 ghost use Rattle.zf_meaning.specs.Meaning.{HasOutcome, IsTruth};
-ghost use Rattle.zf_meaning.specs.Scopes.{scope_of, IsRegularScope};
+ghost use Rattle.zf_meaning.specs.Scopes.{scope_of};
 ghost use Rattle.zf_meaning.specs.Symbols.{InfixOutcome};
 
 use super::{component, local};
@@ -35,7 +34,6 @@ pub(crate) fn compared_in<'v, 'a, R: Row>(
     locals: &[&'v Value],
     env: &'v Env<'_, 'a>,
 ) -> Option<Truth>
-    requires { IsRegularScope (scope_of env.now (R.values row.now) locals.now) }
     ensures { IfSome result (IsTruth (scope_of env.now (R.values row.now) locals.now) (resolved_of term.now)) }
 {
     let Resolved::Chain(_, first, links) = term else {
@@ -52,7 +50,6 @@ fn compared<'v, 'a, R: Row>(
     locals: &[&'v Value],
     env: &'v Env<'_, 'a>,
 ) -> Option<Truth>
-    requires { IsRegularScope (scope_of env.now (R.values row.now) locals.now) }
     ensures { (line : ℕ) → IfSome result (IsTruth (scope_of env.now (R.values row.now) locals.now) (tree.chain line (resolved_of first.now) (tree.links (map resolved_link_of links.now)))) }
 {
     let [link] = links else {
@@ -93,7 +90,6 @@ fn number_at<'v, 'a, R: Row>(
     locals: &[&'v Value],
     env: &'v Env<'_, 'a>,
 ) -> Option<i64>
-    requires { IsRegularScope (scope_of env.now (R.values row.now) locals.now) }
     ensures { IfSome result (λ n. HasOutcome (scope_of env.now (R.values row.now) locals.now) (resolved_of term.now) (Is (Int n))) }
 {
     match term {
@@ -121,7 +117,6 @@ fn number_between<'v, 'a, R: Row>(
 ) -> Option<i64>
     requires left { size-Resolved left.now < size-Resolved whole.now }
     requires right { size-Resolved right.now < size-Resolved whole.now }
-    requires regular { IsRegularScope (scope_of env.now (R.values row.now) locals.now) }
     ensures { (line : ℕ) → IfSome result (λ n. HasOutcome (scope_of env.now (R.values row.now) locals.now) (tree.binary line op (resolved_of left.now) (resolved_of right.now)) (Is (Int n))) }
 {
     match op {
@@ -144,7 +139,6 @@ fn calculated<'v, 'a, R: Row>(
 ) -> Option<i64>
     requires left { size-Resolved left.now < size-Resolved whole.now }
     requires right { size-Resolved right.now < size-Resolved whole.now }
-    requires regular { IsRegularScope (scope_of env.now (R.values row.now) locals.now) }
     ensures { (line : ℕ) → IfSome result (λ n. HasOutcome (scope_of env.now (R.values row.now) locals.now) (tree.binary line (Function op) (resolved_of left.now) (resolved_of right.now)) (Is (Int n))) }
 {
     if !is_calculated(op) {
@@ -202,7 +196,6 @@ fn number_applied<'v, 'a, R: Row>(
     locals: &[&'v Value],
     env: &'v Env<'_, 'a>,
 ) -> Option<i64>
-    requires { IsRegularScope (scope_of env.now (R.values row.now) locals.now) }
     ensures { (line : ℕ) → IfSome result (λ n. HasOutcome (scope_of env.now (R.values row.now) locals.now) (tree.binary line Application (resolved_of left.now) (resolved_of right.now)) (Is (Int n))) }
 {
     let Some(f) = value_of_name(left, row, locals, env) else {
@@ -211,7 +204,7 @@ fn number_applied<'v, 'a, R: Row>(
     let Some(x) = value_of_name(right, row, locals, env) else {
         return None;
     };
-    match applied(f.members(), x) {
+    match applied(f, x) {
         Some(y) => y.number(),
         None => None,
     }
@@ -225,9 +218,7 @@ fn value_of_name<'v, 'a, R: Row>(
     locals: &[&'v Value],
     env: &'v Env<'_, 'a>,
 ) -> Option<&'v Value>
-    requires { IsRegularScope (scope_of env.now (R.values row.now) locals.now) }
-    ensures is { IfSome result (λ v. HasOutcome (scope_of env.now (R.values row.now) locals.now) (resolved_of term.now) (Is v.now)) }
-    ensures regular { IfSome result (λ v. IsRegular v.now) }
+    ensures { IfSome result (λ v. HasOutcome (scope_of env.now (R.values row.now) locals.now) (resolved_of term.now) (Is v.now)) }
 {
     match term {
         Resolved::Name(_, reference) => value_named(*reference, row, locals, env),
@@ -243,7 +234,6 @@ fn number_named<'v, 'a, R: Row>(
     locals: &[&'v Value],
     env: &'v Env<'_, 'a>,
 ) -> Option<i64>
-    requires { IsRegularScope (scope_of env.now (R.values row.now) locals.now) }
     ensures { IfSome result (λ n. Is (Int n) ≡ spec.outcome_in (scope_of env.now (R.values row.now) locals.now) reference) }
 {
     match value_named(reference, row, locals, env) {
@@ -259,9 +249,7 @@ fn value_named<'v, 'a, R: Row>(
     locals: &[&'v Value],
     env: &'v Env<'_, 'a>,
 ) -> Option<&'v Value>
-    requires { IsRegularScope (scope_of env.now (R.values row.now) locals.now) }
-    ensures is { IfSome result (λ v. Is v.now ≡ spec.outcome_in (scope_of env.now (R.values row.now) locals.now) reference) }
-    ensures regular { IfSome result (λ v. IsRegular v.now) }
+    ensures { IfSome result (λ v. Is v.now ≡ spec.outcome_in (scope_of env.now (R.values row.now) locals.now) reference) }
 {
     match reference {
         Reference::Component(place) => component(row, place),
@@ -272,8 +260,7 @@ fn value_named<'v, 'a, R: Row>(
 
 /// The value of a global, if it has one.
 fn global_value<'v>(env: &'v Env<'_, '_>, place: usize) -> Option<&'v Value>
-    ensures is { IfSome result (λ v. Is v.now ≡ spec.outcome_or (slice_get (environment_of env.now).outcomes place)) }
-    ensures regular { IfSome result (λ v. IsRegular v.now) }
+    ensures { IfSome result (λ v. Is v.now ≡ spec.outcome_or (slice_get (environment_of env.now).outcomes place)) }
 {
     match env.outcome(place) {
         Some(outcome) => value_in(outcome),

@@ -3,11 +3,10 @@ ghost use Rattle.std.specs.Prelude.{◌≡◌, ◌<◌, ℕ, IfOk, map};
 ghost use Rattle.zf_term.specs.ResolvedTrees as tree;
 ghost use Rattle.zf_term.specs.ResolvedTrees.{resolved_of};
 ghost use Rattle.zf_term.specs.declared.resolved.Resolved.{size-Resolved};
-ghost use Rattle.zf_value.specs.Sets.{AreRegular, IsRegularOutcome};
 ghost use Rattle.zf_meaning.specs.Found.{found_outcome};
 ghost use Rattle.zf_meaning.specs.Gathered.{several_of};
 ghost use Rattle.zf_meaning.specs.Meaning.{HasOutcome, HaveOutcomes, IsTruth};
-ghost use Rattle.zf_meaning.specs.Scopes.{scope_of, IsRegularScope};
+ghost use Rattle.zf_meaning.specs.Scopes.{scope_of};
 
 use super::{outcome, truth};
 use crate::connected::{connected, decided, opposite};
@@ -31,9 +30,7 @@ pub(super) fn unary<'v, 'a, R: Row>(
     locals: &[&'v Value],
     env: &'v Env<'_, 'a>,
 ) -> Result<Found<'v>, AllocError>
-    requires { IsRegularScope (scope_of env.now (R.values row.now) locals.now) }
-    ensures is { (line : ℕ) → IfOk result (λ o. HasOutcome (scope_of env.now (R.values row.now) locals.now) (tree.unary line op (resolved_of of.now)) (found_outcome o)) }
-    ensures regular { IfOk result (λ o. IsRegularOutcome (found_outcome o)) }
+    ensures { (line : ℕ) → IfOk result (λ o. HasOutcome (scope_of env.now (R.values row.now) locals.now) (tree.unary line op (resolved_of of.now)) (found_outcome o)) }
 {
     let operand = outcome(of, row, locals, env)?;
     Ok(Found::own(on_one(env.allocator(), op, &operand)?))
@@ -53,9 +50,7 @@ pub(super) fn binary<'v, 'a, R: Row>(
 ) -> Result<Found<'v>, AllocError>
     requires left { size-Resolved left.now < size-Resolved whole.now }
     requires right { size-Resolved right.now < size-Resolved whole.now }
-    requires regular { IsRegularScope (scope_of env.now (R.values row.now) locals.now) }
-    ensures is { (line : ℕ) → IfOk result (λ o. HasOutcome (scope_of env.now (R.values row.now) locals.now) (tree.binary line op (resolved_of left.now) (resolved_of right.now)) (found_outcome o)) }
-    ensures regular { IfOk result (λ o. IsRegularOutcome (found_outcome o)) }
+    ensures { (line : ℕ) → IfOk result (λ o. HasOutcome (scope_of env.now (R.values row.now) locals.now) (tree.binary line op (resolved_of left.now) (resolved_of right.now)) (found_outcome o)) }
 {
     let x = outcome(left, row, locals, env)?;
     let y = outcome(right, row, locals, env)?;
@@ -72,9 +67,7 @@ pub(super) fn listed<'v, 'a, R: Row>(
     locals: &[&'v Value],
     env: &'v Env<'_, 'a>,
 ) -> Result<Found<'v>, AllocError>
-    requires { IsRegularScope (scope_of env.now (R.values row.now) locals.now) }
-    ensures is { (line : ℕ) → IfOk result (λ o. HasOutcome (scope_of env.now (R.values row.now) locals.now) (tree.listed line form (tree.terms (map resolved_of terms.now))) (found_outcome o)) }
-    ensures regular { IfOk result (λ o. IsRegularOutcome (found_outcome o)) }
+    ensures { (line : ℕ) → IfOk result (λ o. HasOutcome (scope_of env.now (R.values row.now) locals.now) (tree.listed line form (tree.terms (map resolved_of terms.now))) (found_outcome o)) }
 {
     let gathered = gather(terms, row, locals, env)?;
     Ok(Found::own(on_several(env.allocator(), form, gathered)?))
@@ -88,9 +81,7 @@ pub(super) fn gather<'v, 'a, R: Row>(
     locals: &[&'v Value],
     env: &'v Env<'_, 'a>,
 ) -> Result<Gathered, AllocError>
-    requires { IsRegularScope (scope_of env.now (R.values row.now) locals.now) }
-    ensures is { IfOk result (λ s. HaveOutcomes (scope_of env.now (R.values row.now) locals.now) (tree.terms (map resolved_of terms.now)) (several_of s)) }
-    ensures regular { IfOk result (λ s. AreRegular s.values.items) }
+    ensures { IfOk result (λ s. HaveOutcomes (scope_of env.now (R.values row.now) locals.now) (tree.terms (map resolved_of terms.now)) (several_of s)) }
 {
     let alloc = env.allocator();
     let mut gathered = Gathered::with_room(alloc, terms.len())?;
@@ -111,7 +102,6 @@ pub(super) fn not<'v, 'a, R: Row>(
     locals: &[&'v Value],
     env: &'v Env<'_, 'a>,
 ) -> Result<Truth, AllocError>
-    requires { IsRegularScope (scope_of env.now (R.values row.now) locals.now) }
     ensures { (line : ℕ) → IfOk result (IsTruth (scope_of env.now (R.values row.now) locals.now) (tree.unary line op (resolved_of of.now))) }
 {
     match op {
@@ -135,7 +125,6 @@ pub(super) fn connective<'v, 'a, R: Row>(
 ) -> Result<Truth, AllocError>
     requires left { size-Resolved left.now < size-Resolved whole.now }
     requires right { size-Resolved right.now < size-Resolved whole.now }
-    requires regular { IsRegularScope (scope_of env.now (R.values row.now) locals.now) }
     ensures { (line : ℕ) → IfOk result (IsTruth (scope_of env.now (R.values row.now) locals.now) (tree.binary line op (resolved_of left.now) (resolved_of right.now))) }
 {
     let Operator::Connective(connective) = op else {

@@ -2,13 +2,13 @@
 ghost use Rattle.std.specs.Prelude.{◌≡◌, ◌++◌, [], IfOk, OnOk, map, replicate};
 ghost use Rattle.zf_term.specs.ResolvedTrees as tree;
 ghost use Rattle.zf_term.specs.ResolvedTrees.{range_of};
-ghost use Rattle.zf_value.specs.Sets.{AreRegular, IsRegularOutcome, members};
+ghost use Rattle.zf_value.specs.Sets.{Every, IsAscending, members};
 ghost use Rattle.zf_meaning.specs.RangeSets as spec;
 ghost use Rattle.zf_meaning.specs.RangeSets.{spread, declared_of};
 ghost use Rattle.zf_meaning.specs.Found.{found_outcome};
 ghost use Rattle.zf_meaning.specs.Meaning.{HaveRanges};
 ghost use Rattle.zf_meaning.specs.Places.{seen};
-ghost use Rattle.zf_meaning.specs.Scopes.{scope_of, IsRegularScope};
+ghost use Rattle.zf_meaning.specs.Scopes.{scope_of};
 
 use super::outcome;
 use crate::env::Env;
@@ -42,9 +42,7 @@ pub(super) fn declared_sets<'v, 'a, R: Row>(
     locals: &[&'v Value],
     env: &'v Env<'_, 'a>,
 ) -> Result<Declared<'v>, AllocError>
-    requires { IsRegularScope (scope_of env.now (R.values row.now) locals.now) }
-    ensures is { IfOk result (λ s. HaveRanges (scope_of env.now (R.values row.now) locals.now) (tree.ranges (map range_of ranges.now)) (declared_of s)) }
-    ensures regular { IfOk result (λ s. AreRegular (spread s.sets.items)) }
+    ensures { IfOk result (λ s. HaveRanges (scope_of env.now (R.values row.now) locals.now) (tree.ranges (map range_of ranges.now)) (declared_of s)) }
 {
     let mut declared = Declared {
         sets: Vec::new(env.allocator()),
@@ -63,8 +61,7 @@ fn add<'v>(
     variables: usize,
     found: Found<'v>,
 ) -> Result<(), AllocError>
-    ensures is { OnOk result (spec.Adds declared.old variables (found_outcome found.entry) declared.new) }
-    ensures regular { AreRegular (spread declared.old.sets.items) → IsRegularOutcome (found_outcome found.entry) → OnOk result (AreRegular (spread declared.new.sets.items)) }
+    ensures { OnOk result (spec.Adds declared.old variables (found_outcome found.entry) declared.new) }
 {
     match found {
         Found::Is(set) => declared.sets.push(Spread { variables, set })?,
@@ -79,7 +76,8 @@ pub(super) fn lists_of<'w>(
     alloc: Global,
     sets: &'w [Spread<'_>],
 ) -> Result<Vec<&'w [Value]>, AllocError>
-    ensures { IfOk result (λ lists. seen lists.items ≡ map members (spread sets.now)) }
+    ensures is { IfOk result (λ lists. seen lists.items ≡ map members (spread sets.now)) }
+    ensures ascending { IfOk result (λ lists. Every (λ s. IsAscending (members s)) (spread sets.now)) }
 {
     let mut lists = Vec::new(alloc);
     for spread in sets {

@@ -1,5 +1,3 @@
-use Rattle.zf_enum.proofs.Prelude.{◌≡◌, ◌∙◌, sym, subst, Value, member_at, regular_member, IsRegular}
-use Rattle.zf_enum.specs.Fixing.{HasPlace}
 use Rattle.zf_enum.proofs.Trying.{stays_on}
 use Rattle.zf_enum.proofs.Placed.{placed_more, placed_all}
 use Rattle.zf_enum.proofs.candidates.gather_members.Goals as goal
@@ -7,16 +5,12 @@ use Rattle.zf_enum.proofs.candidates.gather_members.Goals as goal
 pub loop-value-init : goal.loop-value-init
 loop-value-init c = (λ i m. m, λ v m. absurd m)
 
-pub new-known-requires : goal.new-known-requires
-new-known-requires c = subst IsRegular (sym c.in_ok-copy.ensures) (regular_member c.args.values.now c.value-item.result c.requires.regular (member_at c.args.values.now c.loop-value.value-index c.value-item.result c.value-item.is c.loop-value-test.true))
-
 pub loop-value-preserved : goal.loop-value-preserved
 loop-value-preserved c =
     let old = c.loop-value.gathered.items in
     let new = c.gather_place.new.gathered.items in
     let stay = c.gather_place.ensures.stay in
-    let same : c.new-known.result ≡ c.value-item.result = c.new-known.ensures ∙ c.in_ok-copy.ensures in
-    let here = subst (λ (v : Value). HasPlace v c.args.range.now new) same c.in_ok-gather_place.ensures.kept in
+    let here = c.in_ok-gather_place.ensures.kept in
     (stays_on c.args.gathered.now.items old new c.loop-value.invariant.0 stay, placed_more c.args.values.now c.loop-value.value-index c.value-item.result c.args.range.now old new c.value-item.is c.loop-value-test.true stay here c.loop-value.invariant.1)
 
 pub returns : goal.returns

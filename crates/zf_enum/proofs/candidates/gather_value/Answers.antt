@@ -3,10 +3,7 @@ use Rattle.zf_enum.proofs.Trying.{one_candidate}
 use Rattle.zf_enum.proofs.candidates.gather_value.Goals as goal
 
 pub gather_outcome-requires : goal.gather_outcome-requires
-gather_outcome-requires c = record {
-  regular = c.in_ok-outcome.ensures.regular;
-  ascending = subst (λ (r : List Value). AllPairs (λ v w. value_order v w ≡ Less) r) (sym c.index-ranges-next.is) (c.requires.ascending c.args.next c.index-ranges-next.result c.requires.next);
-}
+gather_outcome-requires c = subst (λ (r : List Value). AllPairs (λ v w. value_order v w ≡ Less) r) (sym c.index-ranges-next.is) (c.requires.ascending c.args.next c.index-ranges-next.result c.requires.next)
 
 pub returns : goal.returns
 returns c =
@@ -17,7 +14,7 @@ returns c =
     let o = c.in_ok-outcome.outcome in
     let xs = c.gather_outcome.new.gathered.items in
     let range = range-is c.args.ranges.now c.args.next c.index-ranges-next.result c.requires.next c.index-ranges-next.is in
-    let here = subst (λ (vs : List Value). HasOutcome (in_row e vs) t o) c.new-row.ensures c.in_ok-outcome.ensures.is in
+    let here = subst (λ (vs : List Value). HasOutcome (in_row e vs) t o) c.new-row.ensures c.in_ok-outcome.ensures in
     let long = length-picked c.args.ranges.now c.args.places.now c.requires.within in record {
       stay = c.gather_outcome.ensures.stay;
       candidates = IfOk-weaker c.gather_outcome.result _ _

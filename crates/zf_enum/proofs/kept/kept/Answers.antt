@@ -1,12 +1,8 @@
-use Rattle.zf_enum.proofs.Prelude.{member_at, regular_member}
 use Rattle.zf_enum.proofs.Listing.{lists_begin, lists_step, lists_end}
 use Rattle.zf_enum.proofs.kept.kept.Goals as goal
 
 pub loop-value-init : goal.loop-value-init
 loop-value-init g c = lists_begin (g.T.Test.passes c.args.test.now) c.new-out.result.items c.new-out.ensures.items
-
-pub keep-requires-clause-value : goal.keep-requires-clause-value
-keep-requires-clause-value g c = regular_member c.args.values.now c.value-item.result c.requires.values.regular (member_at c.args.values.now c.loop-value.value-index c.value-item.result c.value-item.is c.loop-value-test.true)
 
 pub loop-value-preserved : goal.loop-value-preserved
 loop-value-preserved g c =

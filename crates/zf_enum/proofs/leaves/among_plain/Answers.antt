@@ -1,4 +1,4 @@
-use Rattle.zf_enum.proofs.Prelude.{◌∙◌, ◌≡◌, List, None, rules, Some, subst, sym, IfOk-weaker, regular-nothing, Defined, resolved_of, direct, globally, environment_of, HasOutcome}
+use Rattle.zf_enum.proofs.Prelude.{◌∙◌, ◌≡◌, List, None, rules, Some, subst, sym, IfOk-weaker, Defined, resolved_of, direct, globally, environment_of, HasOutcome}
 use Rattle.zf_meaning.specs.Described.{Describes}
 use Rattle.zf_enum.proofs.Lacks.{told}
 use Rattle.zf_enum.proofs.Single.{filtered_by_plain, numbers_of_plain, described_is_out, no_infinite, none_is_none}
@@ -9,14 +9,11 @@ returns-in-Some-clause-is c =
     let known = subst (λ (g : List Defined). direct g (resolved_of c.args.set.now) ≡ Some c.in-Some.infinite) c.globals.ensures (sym c.direct.ensures ∙ c.in-Some.is) in
     numbers_of_plain (environment_of c.args.env.now) (resolved_of c.args.set.now) c.in-Some.infinite c.args.values.now c.in_ok-kept.field-0.items known c.in_ok-kept.ensures
 
-pub described_in-requires : goal.described_in-requires
-described_in-requires c = regular-nothing
-
 pub returns-clause-is : goal.returns-clause-is
 returns-clause-is c =
     let none = subst (λ (g : List Defined). direct g (resolved_of c.args.set.now) ≡ None) c.globals.ensures (sym c.direct.ensures ∙ no_infinite c.direct.result c.in_default.not-Some) in
     let is : Describes (HasOutcome (globally (environment_of c.args.env.now)) (resolved_of c.args.set.now)) c.in_ok-described.described = search rules in
-    IfOk-weaker c.members_among.result _ _ (λ xs h. filtered_by_plain (environment_of c.args.env.now) (resolved_of c.args.set.now) c.in_ok-described.described c.args.values.now xs.items none is c.in_ok-described.ensures.regular h) c.members_among.ensures.is
+    IfOk-weaker c.members_among.result _ _ (λ xs h. filtered_by_plain (environment_of c.args.env.now) (resolved_of c.args.set.now) c.in_ok-described.described c.args.values.now xs.items none is h) c.members_among.ensures.is
 
 pub returns-clause-out : goal.returns-clause-out
 returns-clause-out c =

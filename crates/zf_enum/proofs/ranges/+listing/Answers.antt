@@ -1,5 +1,5 @@
 -- The values that lie in each of several declared sets.
-use Rattle.zf_enum.proofs.Prelude.{◌∙◌, ◌≡◌, ap, List, map, rules, subst, suc, sym, true, regular_none, IsRegularSet, of-Either, DeclaredSet, set_of, sets_of, Domain, environment_of, IsOneOut, IsAllOf, IsAllOfEach, NarrowsAll}
+use Rattle.zf_enum.proofs.Prelude.{◌∙◌, ◌≡◌, ap, List, map, rules, subst, suc, sym, true, IsAscending, of-Either, DeclaredSet, set_of, sets_of, Domain, environment_of, IsOneOut, IsAllOf, IsAllOfEach, NarrowsAll}
 use Rattle.zf_finite.specs.Finite as spec
 use Rattle.zf_enum.proofs.Lacks.{passed}
 use Rattle.zf_enum.proofs.Sides.{rest, sides_bound, out_at, out_before, out_behind, all_of_each, all_of_sides}
@@ -43,5 +43,5 @@ values-returns-in_ok-merged-in-Either-clause-is t c b =
     subst (λ (d : DeclaredSet). IsAllOf e d c.in_ok-merged-in-Either.field-0.items) (sym (ap set_of c.in-Either.is ∙ of-Either c.in-Either.left c.in-Either.right))
     (all_of_sides e (sets_of (map set_of c.in-Either.left)) (sets_of (map set_of c.in-Either.right)) c.in_ok-left-in-Either.left.items c.in_ok-right-in-Either.right.items c.in_ok-merged-in-Either.field-0.items left right c.in_ok-merged-in-Either.ensures)
 
-pub range-returns-then-place-domains-clause-regular : goal.range-returns-then-place-domains-clause-regular
-range-returns-then-place-domains-clause-regular t c = subst IsRegularSet (sym c.new.ensures.items) regular_none
+pub range-returns-then-place-domains-clause-ascending : goal.range-returns-then-place-domains-clause-ascending
+range-returns-then-place-domains-clause-ascending t c = subst IsAscending (sym c.new.ensures.items) tt

@@ -1,11 +1,11 @@
-use Rattle.zf_families.proofs.Prelude.{◌∙◌, ap, sym, SetOf, IsRelation}
+use Rattle.zf_families.proofs.Prelude.{members, IsRelation}
 use Rattle.zf_families.proofs.Belonging.{plain_relation_at, no_relation}
 use Rattle.zf_families.proofs.function.is_relation.Goals as goal
 
-pub returns-in-SetOf : goal.returns-in-SetOf
+pub returns-in-Some : goal.returns-in-Some
 unfolding IsRelation
-returns-in-SetOf c = plain_relation_at c.args.a.now c.args.b.now c.as_slice.result.now c.args.v.now c.is_between.result (c.in-SetOf.is ∙ ap SetOf (sym c.as_slice.ensures)) c.requires.value c.is_between.ensures
+returns-in-Some c = plain_relation_at (members c.args.a.now) (members c.args.b.now) c.in-Some.r.now c.args.v.now c.is_between.result c.in-Some.ensures.is c.in-Some.ensures.ascending c.is_between.ensures
 
-pub returns-in_default : goal.returns-in_default
+pub returns-in-None : goal.returns-in-None
 unfolding IsRelation
-returns-in_default c = no_relation (λ r. Unit {0}) c.args.a.now c.args.b.now c.args.v.now c.in_default.not-SetOf
+returns-in-None c = no_relation (λ r. Unit {0}) (members c.args.a.now) (members c.args.b.now) c.args.v.now c.in-None.ensures.none

@@ -1,11 +1,17 @@
-use Rattle.zf_families.proofs.Prelude.{◌≡◌, iff_false}
-use Rattle.zf_families.proofs.Families.{total_rows, total_functions_built, total_functions_regular}
+use Rattle.zf_families.proofs.Prelude.{◌≡◌, subst, iff_false, IsAscending, members}
+use Rattle.zf_families.proofs.Families.{total_rows, total_functions_built, total_functions_sets}
 use Rattle.zf_families.proofs.function.total_functions.Goals as goal
 
-pub returns-clause-is : goal.returns-clause-is
-returns-clause-is c =
-    let rows : c.in_ok-rows.rows.items ≡ total_rows c.args.a.now c.args.b.now = cc (c.in_ok-rows.ensures) in
-    total_functions_built c.args.a.now c.args.b.now c.requires.from c.requires.to (iff_false c.are_total_functions_out.ensures c.if-are_total_functions_out.false) c.in_ok-rows.rows.items rows c.set_of_sets.result c.set_of_sets.ensures
+pub set_of_sets-requires : goal.set_of_sets-requires
+set_of_sets-requires c =
+    let h = subst IsAscending c.members.ensures.is c.members.ensures.ascending in
+    let k = subst IsAscending c.members-2.ensures.is c.members-2.ensures.ascending in
+    let rows : c.in_ok-rows.rows.items ≡ total_rows (members c.args.a.now) (members c.args.b.now) = cc (c.in_ok-rows.ensures, c.members.ensures.is, c.members-2.ensures.is) in
+    total_functions_sets (members c.args.a.now) (members c.args.b.now) h k c.in_ok-rows.rows.items rows
 
-pub returns-clause-regular : goal.returns-clause-regular
-returns-clause-regular c = total_functions_regular c.args.a.now c.args.b.now c.requires.from c.requires.to c.set_of_sets.result (returns-clause-is c)
+pub returns : goal.returns
+returns c =
+    let h = subst IsAscending c.members.ensures.is c.members.ensures.ascending in
+    let k = subst IsAscending c.members-2.ensures.is c.members-2.ensures.ascending in
+    let rows : c.in_ok-rows.rows.items ≡ total_rows (members c.args.a.now) (members c.args.b.now) = cc (c.in_ok-rows.ensures, c.members.ensures.is, c.members-2.ensures.is) in
+    total_functions_built (members c.args.a.now) (members c.args.b.now) h k (iff_false c.are_total_functions_out.ensures.out c.if-are_total_functions_out.false) c.in_ok-rows.rows.items rows c.set_of_sets.result c.set_of_sets.ensures

@@ -1,14 +1,11 @@
-use Rattle.zf_families.proofs.Prelude.{◌∙◌, ap, sym, IsFunctional, IsInjective, SetOf, IsPartialInjection}
-use Rattle.zf_families.proofs.Belonging.{injection_at, no_relation, ascending_pairs}
+use Rattle.zf_families.proofs.Prelude.{IsFunctional, IsInjective, members, IsPartialInjection}
+use Rattle.zf_families.proofs.Belonging.{injection_at, no_relation}
 use Rattle.zf_families.proofs.injection.is_partial_injection.Goals as goal
 
-pub is_injection-requires-clause-pairs : goal.is_injection-requires-clause-pairs
-is_injection-requires-clause-pairs c = ascending_pairs c.args.v.now c.as_slice.result.now (c.in-SetOf.is ∙ ap SetOf (sym c.as_slice.ensures)) c.requires.value
-
-pub returns-in-SetOf : goal.returns-in-SetOf
+pub returns-in-Some : goal.returns-in-Some
 unfolding IsPartialInjection
-returns-in-SetOf c = injection_at c.args.a.now c.args.b.now c.as_slice.result.now c.args.v.now c.is_injection.result (c.in-SetOf.is ∙ ap SetOf (sym c.as_slice.ensures)) c.requires.value c.is_injection.ensures
+returns-in-Some c = injection_at (members c.args.a.now) (members c.args.b.now) c.in-Some.r.now c.args.v.now c.is_injection.result c.in-Some.ensures.is c.in-Some.ensures.ascending c.is_injection.ensures
 
-pub returns-in_default : goal.returns-in_default
+pub returns-in-None : goal.returns-in-None
 unfolding IsPartialInjection
-returns-in_default c = no_relation (λ r. IsFunctional r × IsInjective r) c.args.a.now c.args.b.now c.args.v.now c.in_default.not-SetOf
+returns-in-None c = no_relation (λ r. IsFunctional r × IsInjective r) (members c.args.a.now) (members c.args.b.now) c.args.v.now c.in-None.ensures.none

@@ -1,11 +1,17 @@
-use Rattle.zf_families.proofs.Prelude.{◌≡◌, iff_false}
-use Rattle.zf_families.proofs.Injections.{injection_rows, total_injections_built, total_injections_regular}
+use Rattle.zf_families.proofs.Prelude.{◌≡◌, subst, iff_false, IsAscending, members}
+use Rattle.zf_families.proofs.Injections.{injection_rows, total_injections_built, total_injections_sets}
 use Rattle.zf_families.proofs.injection.total_injections.Goals as goal
 
-pub returns-clause-is : goal.returns-clause-is
-returns-clause-is c =
-    let rows : c.in_ok-rows.rows.items ≡ injection_rows c.args.a.now c.args.b.now = cc (c.in_ok-rows.ensures) in
-    total_injections_built c.args.a.now c.args.b.now c.requires.from c.requires.to (iff_false c.are_total_injections_out.ensures c.if-are_total_injections_out.false) c.in_ok-rows.rows.items rows c.set_of_sets.result c.set_of_sets.ensures
+pub set_of_sets-requires : goal.set_of_sets-requires
+set_of_sets-requires c =
+    let h = subst IsAscending c.members.ensures.is c.members.ensures.ascending in
+    let k = subst IsAscending c.members-2.ensures.is c.members-2.ensures.ascending in
+    let rows : c.in_ok-rows.rows.items ≡ injection_rows (members c.args.a.now) (members c.args.b.now) = cc (c.in_ok-rows.ensures, c.members.ensures.is, c.members-2.ensures.is) in
+    total_injections_sets (members c.args.a.now) (members c.args.b.now) h k c.in_ok-rows.rows.items rows
 
-pub returns-clause-regular : goal.returns-clause-regular
-returns-clause-regular c = total_injections_regular c.args.a.now c.args.b.now c.requires.from c.requires.to c.set_of_sets.result (returns-clause-is c)
+pub returns : goal.returns
+returns c =
+    let h = subst IsAscending c.members.ensures.is c.members.ensures.ascending in
+    let k = subst IsAscending c.members-2.ensures.is c.members-2.ensures.ascending in
+    let rows : c.in_ok-rows.rows.items ≡ injection_rows (members c.args.a.now) (members c.args.b.now) = cc (c.in_ok-rows.ensures, c.members.ensures.is, c.members-2.ensures.is) in
+    total_injections_built (members c.args.a.now) (members c.args.b.now) h k (iff_false c.are_total_injections_out.ensures.out c.if-are_total_injections_out.false) c.in_ok-rows.rows.items rows c.set_of_sets.result c.set_of_sets.ensures

@@ -1,10 +1,6 @@
 use Rattle.zf_lift.proofs.Prelude.{◌∙◌, ◌≤◌, ap, arith, length, List, subst, sym, true, Global, of-Name, Defined, reference, resolved_of, environment_of, IsLift}
-use Rattle.zf_value.proofs.Regulars.{regular-nothing}
 use Rattle.zf_lift.proofs.Wherever.{named_lift}
 use Rattle.zf_lift.proofs.lifting.named.Goals as goal
-
-pub value_of-requires : goal.value_of-requires
-value_of-requires c = regular-nothing
 
 pub returns-clause-same : goal.returns-clause-same
 returns-clause-same c = λ e t longer liftable closed lift.
@@ -13,4 +9,4 @@ returns-clause-same c = λ e t longer liftable closed lift.
     let behind = subst (λ (ds : List Defined). length ds ≤ length f.outcomes) c.globals.ensures (omega (arith, c.len.ensures.len, counted, c.if-place-len.false)) in
     subst (λ u. IsLift true (environment_of c.add.new.self) e u t) (sym (of-Name c.line.result (Global c.count-place.result)))
     (subst (λ n. IsLift true (environment_of c.add.new.self) e (reference c.line.result (Global n)) t) (sym counted)
-    (named_lift e f (environment_of c.add.new.self) c.line.result (resolved_of c.args.found.part) t c.in_ok-outcome.outcome longer behind c.in_ok-add.ensures liftable closed lift c.in_ok-outcome.ensures.is))
+    (named_lift e f (environment_of c.add.new.self) c.line.result (resolved_of c.args.found.part) t c.in_ok-outcome.outcome longer behind c.in_ok-add.ensures liftable closed lift c.in_ok-outcome.ensures))

@@ -6,7 +6,7 @@ use Rattle.zf_meaning.proofs.described.is_found_in.Goals as goal
 pub returns-in-Is : goal.returns-in-Is
 returns-in-Is c =
     in-found c.args.found.now c.args.v.now c.is_member.result c.in-Is.set (ap found_outcome c.in-Is.is)
-    (subst (λ s. IsTrue c.is_member.result ↔ IsMember c.args.v.now (members s)) c.get.ensures (subst (λ xs. IsTrue c.is_member.result ↔ IsMember c.args.v.now xs) c.members.ensures.is c.is_member.ensures))
+    (subst (λ s. IsTrue c.is_member.result ↔ IsMember c.args.v.now (members s)) c.get.ensures c.is_member.ensures)
 
 pub returns-in-Undefined : goal.returns-in-Undefined
 returns-in-Undefined c = in-no-set c.args.found.now c.args.v.now Undefined c.in-Undefined.is tt

@@ -1,4 +1,4 @@
-use Rattle.zf_meaning.proofs.Prelude.{◌≡◌, drop, length, List, map, Option, ℕ, AreRegular, IsRegularOutcome, Truth, Value, Quantifier, links, part_of, resolved_link_of, resolved_of, Range, Resolved, conjunction, found_outcome, AreLinked, seen, spread, ahead, scope_of}
+use Rattle.zf_meaning.proofs.Prelude.{◌≡◌, drop, length, List, map, Option, ℕ, Truth, Value, Quantifier, links, part_of, resolved_link_of, resolved_of, Range, Resolved, conjunction, found_outcome, AreLinked, seen, spread, ahead, scope_of}
 use Rattle.zf_term.specs.declared.resolved.Resolved.TheVariants as form
 use Rattle.zf_meaning.proofs.Builds.{HasBuilt}
 use Rattle.zf_meaning.proofs.Gathering.{GathersTo, RangesTo}
@@ -8,7 +8,7 @@ use Rattle.zf_meaning.proofs.evaluate.+meaning.Given as goal
 
 abbrev pub invariant-binders::built_over-walk : goal.invariant-binders::built_over-walk
 invariant-binders::built_over-walk g l =
-    (done : List (List Value)) × WalksOver (NeutralIn l.term (scope_of l.env (g.R.Row.values l.row) l.locals)) l.rows (seen l.locals) (spread l.sets) done × AreRegular l.built.items
+    (done : List (List Value)) × WalksOver (NeutralIn l.term (scope_of l.env (g.R.Row.values l.row) l.locals)) l.rows (seen l.locals) (spread l.sets) done
     × ((n : ℕ) (rs : List Range) (p e : Option Resolved) → l.term ≡ form.Builder n rs p e → HasBuilt (FilterIn (scope_of l.env (g.R.Row.values l.row) l.locals) (part_of p)) (TermIn (scope_of l.env (g.R.Row.values l.row) l.locals) (part_of e)) done l.built.items)
 
 abbrev pub decreases-binders::built_over-walk : goal.decreases-binders::built_over-walk
@@ -23,20 +23,14 @@ abbrev pub decreases-binders::over_rows-walk : goal.decreases-binders::over_rows
 decreases-binders::over_rows-walk g l = length (ahead l.rows)
 
 abbrev pub invariant-chains::linked-loop-place : goal.invariant-chains::linked-loop-place
-invariant-chains::linked-loop-place g l = record {
-  linked : (u : Truth) → AreLinked (scope_of l.env (g.R.Row.values l.row) l.locals) (found_outcome l.left) (links (map resolved_link_of (drop l.place l.links))) u
-      → AreLinked (scope_of l.env (g.R.Row.values l.row) l.locals) (found_outcome l.initial.left) (links (map resolved_link_of l.links)) (conjunction l.truth u);
-  regular : IsRegularOutcome (found_outcome l.left);
-}
+invariant-chains::linked-loop-place g l =
+    (u : Truth) → AreLinked (scope_of l.env (g.R.Row.values l.row) l.locals) (found_outcome l.left) (links (map resolved_link_of (drop l.place l.links))) u
+    → AreLinked (scope_of l.env (g.R.Row.values l.row) l.locals) (found_outcome l.initial.left) (links (map resolved_link_of l.links)) (conjunction l.truth u)
 
 abbrev pub invariant-operands::gather-loop-term : goal.invariant-operands::gather-loop-term
-invariant-operands::gather-loop-term g l = record {
-  gathers : GathersTo (scope_of l.env (g.R.Row.values l.row) l.locals) l.terms (drop l.term-index l.terms) l.gathered.lack l.gathered.values.items;
-  regular : AreRegular l.gathered.values.items;
-}
+invariant-operands::gather-loop-term g l =
+    GathersTo (scope_of l.env (g.R.Row.values l.row) l.locals) l.terms (drop l.term-index l.terms) l.gathered.lack l.gathered.values.items
 
 abbrev pub invariant-ranges::declared_sets-loop-range : goal.invariant-ranges::declared_sets-loop-range
-invariant-ranges::declared_sets-loop-range g l = record {
-  gathers : RangesTo (scope_of l.env (g.R.Row.values l.row) l.locals) l.ranges (drop l.range-index l.ranges) l.declared.lack (spread l.declared.sets.items);
-  regular : AreRegular (spread l.declared.sets.items);
-}
+invariant-ranges::declared_sets-loop-range g l =
+    RangesTo (scope_of l.env (g.R.Row.values l.row) l.locals) l.ranges (drop l.range-index l.ranges) l.declared.lack (spread l.declared.sets.items)

@@ -1,4 +1,4 @@
-use Rattle.zf_meaning.proofs.Prelude.{◌-◌, ◌<◌, ◌≡◌, ◌⊎◌, [], ap, arith, inl, inr, length, refl, ⊎_elim, seen}
+use Rattle.zf_meaning.proofs.Prelude.{◌-◌, ◌<◌, ◌≡◌, [], ap, arith, inl, inr, length, refl, ⊎_elim, seen}
 use Rattle.zf_meaning.proofs.NextRow.{ArePlaces-at, ArePlaces-set, ArePlaces-length, seen-length, seen-at, turns-begun, turned-here, turns-past, zeros-here, none-here, none-behind}
 use Rattle.zf_meaning.proofs.rows.turn.Goals as goal
 

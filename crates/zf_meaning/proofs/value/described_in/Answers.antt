@@ -1,10 +1,6 @@
 use Rattle.zf_term.specs.ResolvedTrees.{resolved_of}
 use Rattle.zf_meaning.proofs.InRow.{described-in-row}
-use Rattle.zf_meaning.proofs.Regulars.{regular-start}
 use Rattle.zf_meaning.proofs.value.described_in.Goals as goal
 
-pub described-requires : goal.described-requires
-described-requires g c = regular-start c.args.env.now (g.R.Row.values c.args.row.now) _ c.no_variables-none.ensures c.requires
-
-pub returns-clause-is : goal.returns-clause-is
-returns-clause-is g c = described-in-row c.args.env.now (g.R.Row.values c.args.row.now) c.no_variables-none.result.now (resolved_of c.args.term.now) c.described.result c.no_variables-none.ensures c.described.ensures.is
+pub returns : goal.returns
+returns g c = described-in-row c.args.env.now (g.R.Row.values c.args.row.now) c.no_variables-none.result.now (resolved_of c.args.term.now) c.described.result c.no_variables-none.ensures c.described.ensures

@@ -1,7 +1,6 @@
 use Rattle.zf_texts.proofs.Prelude.{ap, arith, Global, length, List, map, Option, subst, sym, Vec, Value, comp_of, environment_of}
 use Rattle.zf_texts.proofs.HeldSoFar.{HeldSoFar, held_begun, held_read, no_value, none_further, turn_skipped, turn_taken}
 use Rattle.zf_texts.proofs.Misfits.{passed}
-use Rattle.zf_texts.proofs.OneHeld.{held_regular}
 use Rattle.zf_texts.proofs.held.read_held.Goals.{in-Some+in_ok-push-in-Some, in-None+in_ok-push-in-None}
 use Rattle.zf_texts.proofs.held.read_held.Goals as goal
 
@@ -38,9 +37,3 @@ pub returns-clause-read : goal.returns-clause-read
 returns-clause-read c =
     let long = ap length c.as_slice-components.ensures in
     held_read c.args.spellings.now (environment_of c.args.env.now) c.args.flat.now.components c.loop-next.next c.args.text.now c.loop-next.place c.loop-next.count c.loop-next.held.items (omega (arith, long, c.loop-next-test.false)) (omega (arith, c.if-place-text.false)) c.loop-next.invariant.3
-
-pub returns-clause-regular : goal.returns-clause-regular
-returns-clause-regular c =
-    let long = ap length c.as_slice-components.ensures in
-    held_regular c.args.spellings.now (environment_of c.args.env.now) (map comp_of c.args.flat.now.components) 0 c.args.text.now c.loop-next.held.items
-    (held_read c.args.spellings.now (environment_of c.args.env.now) c.args.flat.now.components c.loop-next.next c.args.text.now c.loop-next.place c.loop-next.count c.loop-next.held.items (omega (arith, long, c.loop-next-test.false)) (omega (arith, c.if-place-text.false)) c.loop-next.invariant.3)

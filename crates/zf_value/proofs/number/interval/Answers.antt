@@ -2,8 +2,8 @@ use Rattle.zf_value.proofs.Exactly.{same, wide}
 use Rattle.zf_value.proofs.Intervals.{interval_out, interval_made, lists_same}
 use Rattle.zf_value.proofs.number.interval.Goals as goal
 
-pub returns-then-is_too_wide-clause-is : goal.returns-then-is_too_wide-clause-is
-returns-then-is_too_wide-clause-is c = interval_out c.args.from c.args.to (wide c.args.from c.args.to _ _ (same _ c.ranges.from) (same _ c.ranges.to) (c.is_too_wide.ensures.0 c.if-is_too_wide.true))
+pub returns-then-is_too_wide : goal.returns-then-is_too_wide
+returns-then-is_too_wide c = interval_out c.args.from c.args.to (wide c.args.from c.args.to _ _ (same _ c.ranges.from) (same _ c.ranges.to) (c.is_too_wide.ensures.0 c.if-is_too_wide.true))
 
 pub set_of-requires : goal.set_of-requires
 set_of-requires c = c.in_ok-members.ensures.ascending

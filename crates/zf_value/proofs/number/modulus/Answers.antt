@@ -3,9 +3,9 @@ use Rattle.std.specs.Prelude.{ℤ, FitsSigned, ◌+ℤ◌}
 use Rattle.zf_value.proofs.Exactly.{same, both_same, is_zero, not_zero, remainder_same, modulus_down, modulus_up}
 use Rattle.zf_value.proofs.number.modulus.Goals as goal
 
-pub returns-then-b-eq0-clause-is : goal.returns-then-b-eq0-clause-is
+pub returns-then-b-eq0 : goal.returns-then-b-eq0
 unfolding IsModulus
-returns-then-b-eq0-clause-is c = inl (is_zero c.args.b c.ranges.b c.if-b-eq0.true, refl)
+returns-then-b-eq0 c = inl (is_zero c.args.b c.ranges.b c.if-b-eq0.true, refl)
 
 pub returns-then-not-is_remainder : goal.returns-then-not-is_remainder
 returns-then-not-is_remainder c =

@@ -3,13 +3,13 @@ use Rattle.std.specs.Prelude.{ℤ, pos, FitsSigned, ◌-ℤ◌}
 use Rattle.zf_value.proofs.Exactly.{checked, same, is_zero, not_zero, remainder_same, quotient_down, quotient_up, quotient_negated}
 use Rattle.zf_value.proofs.number.quotient.Goals as goal
 
-pub returns-then-b-eq0-clause-is : goal.returns-then-b-eq0-clause-is
+pub returns-then-b-eq0 : goal.returns-then-b-eq0
 unfolding IsQuotient
-returns-then-b-eq0-clause-is c = inl (is_zero c.args.b c.ranges.b c.if-b-eq0.true, refl)
+returns-then-b-eq0 c = inl (is_zero c.args.b c.ranges.b c.if-b-eq0.true, refl)
 
 pub returns-then-b-eqminus1 : goal.returns-then-b-eqminus1
 returns-then-b-eqminus1 c =
-    quotient_negated c.args.a c.args.b _ (sym (same c.args.b c.ranges.b) ∙ ap (to_z w64) c.if-b-eqminus1.true) (subst (λ n. IsNegation n c.negation.result) (same _ c.ranges.a) c.negation.ensures.is) c.negation.ensures.regular
+    quotient_negated c.args.a c.args.b _ (sym (same c.args.b c.ranges.b) ∙ ap (to_z w64) c.if-b-eqminus1.true) (subst (λ n. IsNegation n c.negation.result) (same _ c.ranges.a) c.negation.ensures)
 
 pub returns-then-not-is_remainder : goal.returns-then-not-is_remainder
 returns-then-not-is_remainder c =

@@ -5,10 +5,7 @@ use Rattle.zf_value.proofs.relation.applied.Goals.{in-Some+else-is_some, in_defa
 
 pub returns-then-is_some : goal.returns-then-is_some
 returns-then-is_some c =
-    record {
-      is = only_twice _ _ _ c.loop-z.z-index _ _ _ _ c.related-z-items.ensures c.z-item.is c.loop-z-test.true c.in-Some.ensures.is (sym c.is_some.ensures ∙ c.if-is_some.true) c.loop-z.invariant;
-      regular = tt;
-    }
+    only_twice _ _ _ c.loop-z.z-index _ _ _ _ c.related-z-items.ensures c.z-item.is c.loop-z-test.true c.in-Some.ensures.is (sym c.is_some.ensures ∙ c.if-is_some.true) c.loop-z.invariant
 
 pub loop-z-preserved : goal.loop-z-preserved
 loop-z-preserved c =
@@ -20,4 +17,4 @@ loop-z-preserved c =
     ]
 
 pub returns : goal.returns
-returns c = only_one _ _ _ c.loop-z.z-index _ c.requires c.related-z-items.ensures c.loop-z-test.false c.loop-z.invariant
+returns c = only_one _ _ _ c.loop-z.z-index _ c.related-z-items.ensures c.loop-z-test.false c.loop-z.invariant

@@ -2,4 +2,4 @@ use Rattle.zf_value.proofs.Listed.{image_made}
 use Rattle.zf_value.proofs.relation.image.Goals as goal
 
 pub returns : goal.returns
-returns c = image_made _ _ _ _ c.requires.r c.in_ok-selected.ensures c.display.ensures.is
+returns c = rw (← c.members.ensures.is, ← c.members-2.ensures.is) (image_made _ _ _ _ c.in_ok-kept.ensures c.display.ensures)

@@ -1,5 +1,5 @@
-use Rattle.zf_value.proofs.Prelude.{take, AreAmong}
+use Rattle.zf_value.proofs.Prelude.{take, members, AreAmong}
 use Rattle.zf_value.proofs.set.are_among.Given as goal
 
 abbrev pub invariant-loop-z : goal.invariant-loop-z
-invariant-loop-z l = AreAmong (take l.z-index l.values) l.set
+invariant-loop-z l = AreAmong (take l.z-index l.values) (members l.set)

@@ -2,8 +2,8 @@ use Rattle.std.proofs.Common.{◌≡◌, arith}
 use Rattle.zf_value.proofs.Elements.{element_more, ascending_elements, elements_made, elements_out}
 use Rattle.zf_value.proofs.set.elements.Goals as goal
 
-pub returns-then-count-clause-is : goal.returns-then-count-clause-is
-returns-then-count-clause-is c = elements_out _ _ c.if-count.true
+pub returns-then-count : goal.returns-then-count
+returns-then-count c = elements_out _ _ c.if-count.true
 
 pub loop-index-preserved : goal.loop-index-preserved
 loop-index-preserved c = element_more _ _ _ _ c.loop-index.invariant c.in_ok-push.ensures.items

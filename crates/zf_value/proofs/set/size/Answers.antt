@@ -1,18 +1,14 @@
 use Rattle.zf_value.proofs.Prelude.{to_z-of_z, IsSize}
 use Rattle.std.proofs.Common.{sym, subst, ◌∙◌, w64, FitsSigned}
-use Rattle.zf_value.proofs.Regulars.{regular-Int}
 use Rattle.zf_value.proofs.Exactly.{is_number}
 use Rattle.zf_value.proofs.set.size.Goals as goal
 
-pub returns-in-Ok-clause-is : goal.returns-in-Ok-clause-is
+pub returns-in-Ok : goal.returns-in-Ok
 unfolding IsSize
-returns-in-Ok-clause-is c =
+returns-in-Ok c =
     let fits : FitsSigned w64 c.in-Ok.n = subst (FitsSigned w64) (sym c.in-Ok.ensures.1) c.in-Ok.ensures.0 in
-    is_number _ _ (to_z-of_z w64 c.in-Ok.n fits ∙ c.in-Ok.ensures.1) c.in-Ok.ensures.0
-
-pub returns-in-Ok-clause-regular : goal.returns-in-Ok-clause-regular
-returns-in-Ok-clause-regular c = regular-Int _
+    rw (← c.members.ensures.is) (is_number _ _ (to_z-of_z w64 c.in-Ok.n fits ∙ c.in-Ok.ensures.1) c.in-Ok.ensures.0)
 
 pub returns-in-Err : goal.returns-in-Err
 unfolding IsSize
-returns-in-Err c = record { is = c.in-Err.ensures; regular = tt }
+returns-in-Err c = rw (← c.members.ensures.is) c.in-Err.ensures

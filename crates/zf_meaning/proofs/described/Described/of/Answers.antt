@@ -2,5 +2,5 @@ use Rattle.std.proofs.Common.{◌≡◌}
 use Rattle.zf_meaning.proofs.Tests.{plain-describes}
 use Rattle.zf_meaning.proofs.described.Described.of.Goals as goal
 
-pub returns-clause-is : goal.returns-clause-is
-returns-clause-is c = plain-describes (λ o. o ≡ c.args.outcome) c.own.result c.own.ensures
+pub returns : goal.returns
+returns c = plain-describes (λ o. o ≡ c.args.outcome) c.own.result c.own.ensures

@@ -1,10 +1,9 @@
-use Rattle.zf_value.proofs.Prelude.{subst, sym, IsRegularSet, IsRegular}
-use Rattle.zf_value.proofs.Regulars.{regular_set, regular_none}
-use Rattle.zf_value.proofs.Seen.{no_members}
+use Rattle.zf_value.proofs.Prelude.{◌∙◌, ap, sym, members}
+use Rattle.zf_value.proofs.Measures.{members_of_set, no_members}
 use Rattle.zf_value.proofs.value.Value.members.Goals as goal
 
-pub returns-in-SetOf-clause-regular : goal.returns-in-SetOf-clause-regular
-returns-in-SetOf-clause-regular c h = subst IsRegularSet (sym c.as_slice.ensures) (regular_set _ (subst IsRegular c.in-SetOf.is h))
+pub returns-in-SetOf-clause-is : goal.returns-in-SetOf-clause-is
+returns-in-SetOf-clause-is c = c.as_slice.ensures ∙ sym (members_of_set c.self.inside.form _ c.in-SetOf.is) ∙ ap members c.self.view_is
 
 pub returns-in_default : goal.returns-in_default
-returns-in_default c = record { is = sym (no_members _ c.in_default.not-SetOf); regular = λ h. regular_none }
+returns-in_default c = record { is = sym (no_members c.self.inside.form c.in_default.not-SetOf) ∙ ap members c.self.view_is; ascending = tt }

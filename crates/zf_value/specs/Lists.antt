@@ -1,0 +1,36 @@
+-- Lists of values, and which ascend.
+use Rattle.std.specs.Prelude.{◌≡◌, ◌⊎◌, ◌↔◌, List, [], ◌∷◌}
+use Rattle.std.specs.declared.cmp.Ordering.{Ordering}
+use Rattle.std.specs.declared.cmp.Ordering.TheVariants.{Less}
+use Rattle.std.specs.Cmp.Lexicographic.{slice_cmp}
+use Rattle.zf_value.specs.declared.plain.Value.{Value}
+use Rattle.zf_value.specs.contracts.plain.ValueOrd.TheImpl.{ghosts}
+
+-- `cmp` of values
+abbrev pub value_order : Value → Value → Ordering
+value_order = ghosts.cmp
+
+-- rows of values go lexicographically
+abbrev pub row_order : List Value → List Value → Ordering
+row_order = slice_cmp value_order
+
+abbrev pub IsMember : Value → List Value → Type 0
+IsMember z [] = ⊥
+IsMember z (x ∷ xs) = (x ≡ z) ⊎ IsMember z xs
+
+-- P holds of each
+abbrev pub Every : (Value → Type 0) → List Value → Type 0
+Every P [] = Unit {0}
+Every P (x ∷ xs) = P x × Every P xs
+
+-- strictly ascending
+abbrev pub IsAscending : List Value → Type 0
+IsAscending [] = Unit {0}
+IsAscending (x ∷ xs) = Every (λ y. value_order x y ≡ Less) xs × IsAscending xs
+
+-- each is among the others
+unfoldable pub AreAmong : List Value → List Value → Type 0
+AreAmong xs ys = (z : Value) → IsMember z xs → IsMember z ys
+
+unfoldable pub HaveSameMembers : List Value → List Value → Type 0
+HaveSameMembers xs ys = (z : Value) → IsMember z xs ↔ IsMember z ys
