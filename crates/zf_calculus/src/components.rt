@@ -18,7 +18,7 @@ use bumpalo::Bump;
 use std::alloc::AllocError;
 use std::mem;
 use std::mem::ManuallyDrop;
-use zf_data::arena::{Items, Shared};
+use zf_data::arena::{Chunked, Items, Shared};
 use zf_term::fault::{Clash, Limit};
 use zf_term::named::component_of;
 use zf_term::schema::{Component, Domain, Domains};
@@ -170,7 +170,7 @@ fn enrich<'a>(
     ensures { OnOk result (component.new ≡ enriched component.old domains.entry) }
 {
     let first = mem::replace(&mut component.domains, domains);
-    component.domains = both(arena, first, component.domains.get().as_slice())?;
+    component.domains = both(arena, first, component.domains.get())?;
     Ok(())
 }
 
@@ -179,40 +179,23 @@ fn enrich<'a>(
 fn both<'a>(
     arena: &'a Bump,
     first: Domains<'a>,
-    further: &[Domain<'a>],
+    further: &Chunked<'a, Domain<'a>>,
 ) -> Result<Domains<'a>, AllocError>
     ensures { IfOk result (λ ds. ds ≡ first.entry ++ further.now) }
 {
-    let mut all = owned(arena, first)?;
-    add_shared(&mut all, further)?;
+    let mut all = owned(first)?;
+    all.append(further)?;
     Shared::new(arena, all)
 }
 
 /// The list itself where it has no other owner, and else another one of the same declared sets.
-fn owned<'a>(arena: &'a Bump, domains: Domains<'a>) -> Result<Items<'a, Domain<'a>>, AllocError>
+fn owned<'a>(domains: Domains<'a>) -> Result<Chunked<'a, Domain<'a>>, AllocError>
     ensures { IfOk result (λ ds. ds ≡ domains.entry) }
 {
     match domains.into_value() {
         Ok(list) => Ok(list),
-        Err(shared) => copied(arena, shared.get().as_slice()),
+        Err(shared) => shared.get().share(1),
     }
-}
-
-fn copied<'a>(arena: &'a Bump, domains: &[Domain<'a>]) -> Result<Items<'a, Domain<'a>>, AllocError>
-    ensures { IfOk result (λ ds. ds ≡ domains.now) }
-{
-    let mut all = Items::with_room(arena, domains.len())?;
-    add_shared(&mut all, domains)?;
-    Ok(all)
-}
-
-fn add_shared<'a>(all: &mut Items<'a, Domain<'a>>, domains: &[Domain<'a>]) -> Result<(), AllocError>
-    ensures { OnOk result (all.new ≡ all.old ++ domains.now) }
-{
-    for domain in domains {
-        all.push(domain.share()?)?;
-    }
-    Ok(())
 }
 
 /// Copies of the components.

@@ -14,12 +14,12 @@ ghost use Rattle.zf_calculus.specs.Growth.{IfStopped, IsGrowing, all_joined, bot
 ghost use Rattle.zf_term.specs.Limits.{AreFew, IsTooLarge};
 
 use crate::components::{agree, component_copies, join_all, new_places};
-use crate::growing::{Growing, take_moved};
+use crate::growing::{Growing, are_own};
 use crate::limits::COMPONENTS_MAX;
 use crate::stop::Stop;
 use bumpalo::Bump;
 use std::alloc::AllocError;
-use zf_data::arena::{Boxed, Items, Lasting, Shared};
+use zf_data::arena::{Boxed, Chunked, Items, Lasting, Shared};
 use zf_reference::reference::Reference;
 use zf_resolved::conjunct::resolved;
 use zf_resolved::moving::copy;
@@ -27,7 +27,7 @@ use zf_term::conjunct::Conjunct;
 use zf_term::fault::Limit;
 use zf_term::named::component_of;
 use zf_term::resolved::{Resolved, ResolvedLink};
-use zf_term::schema::{Component, Domain, Domains, Flat};
+use zf_term::schema::{Component, Domain, Flat, Side};
 use zf_tree::operator::Operator;
 use zf_tree::symbol::{Connective, Constant, Relation};
 
@@ -62,7 +62,7 @@ fn either<'a>(
     let ztype = component.ztype.share()?;
     let left = sets_on(arena, left, component)?;
     let right = sets_on(arena, right, component)?;
-    let domains = Items::of(arena, Domain::Either(left, right))?;
+    let domains = Chunked::of(arena, Domain::Either(left, right))?;
     let domains = Shared::new(arena, domains)?;
     Ok(Component {
         name,
@@ -77,11 +77,11 @@ fn sets_on<'a>(
     arena: &'a Bump,
     side: &[Component<'a>],
     component: &Component<'a>,
-) -> Result<Domains<'a>, AllocError>
+) -> Result<Side<'a>, AllocError>
     ensures { IfOk result (λ ds. map set_of ds ≡ spec.sets_on (comp_named component.now.name (map comp_of side.now)) (type_of component.now.ztype)) }
 {
     match component_of(side, component.name.as_slice()) {
-        Some((_, found)) => Ok(found.domains.share()?),
+        Some((_, found)) => Shared::new(arena, found.domains.get().flat()?),
         None => {
             let carrier = Domain::Carrier(component.ztype.share()?);
             Shared::new(arena, Items::of(arena, carrier)?)
@@ -193,12 +193,12 @@ fn push_membership<'a>(
 fn push_memberships<'a>(
     arena: &'a Bump,
     place: usize,
-    domains: &[Domain<'a>],
+    domains: &Chunked<'a, Domain<'a>>,
     made: &mut Items<'a, Conjunct<'a>>,
 ) -> Result<(), AllocError>
     ensures { OnOk result (map conjunct_of made.new ≡ map conjunct_of made.old ++ flat_map (spec.membership place) (map set_of domains.now)) }
 {
-    for domain in domains {
+    for domain in domains.iter() {
         push_membership(arena, place, domain, made)?;
     }
     Ok(())
@@ -212,19 +212,19 @@ fn push_all_memberships<'a>(
     ensures { OnOk result (map conjunct_of made.new ≡ map conjunct_of made.old ++ spec.memberships 0 (map comp_of components.now)) }
 {
     for (place, component) in components.iter().enumerate() {
-        push_memberships(arena, place, component.domains.get().as_slice(), made)?;
+        push_memberships(arena, place, component.domains.get(), made)?;
     }
     Ok(())
 }
 
 fn push_conjuncts<'a>(
-    conjuncts: &[Conjunct<'a>],
+    conjuncts: &Chunked<'a, Conjunct<'a>>,
     made: &mut Items<'a, Conjunct<'a>>,
 ) -> Result<(), AllocError>
     ensures { OnOk result (made.new ≡ made.old ++ conjuncts.now) }
 {
     made.make_room(conjuncts.len())?;
-    for conjunct in conjuncts {
+    for conjunct in conjuncts.iter() {
         made.push(conjunct.share())?;
     }
     Ok(())
@@ -236,7 +236,7 @@ fn constraints<'a>(arena: &'a Bump, flat: &Flat<'a>) -> Result<Items<'a, Conjunc
 {
     let mut made = Items::new(arena);
     push_all_memberships(arena, flat.components.as_slice(), &mut made)?;
-    push_conjuncts(flat.conjuncts.as_slice(), &mut made)?;
+    push_conjuncts(&flat.conjuncts, &mut made)?;
     Ok(made)
 }
 
@@ -248,8 +248,26 @@ fn moved_constraints<'a>(
 ) -> Result<Items<'a, Conjunct<'a>>, AllocError>
     ensures { IfOk result (λ cs. map conjunct_of cs ≡ map (shape.moved (place_in places.now)) (spec.constraints (schema_of flat.now))) }
 {
-    let mut made = Items::new(arena);
-    take_moved(&mut made, arena, constraints(arena, flat)?, places)?;
+    let all = constraints(arena, flat)?;
+    if are_own(places.get().as_slice()) {
+        return Ok(all);
+    }
+    let numbering = Some(places.share());
+    numbered(arena, all, &numbering)
+}
+
+/// The conjuncts, with their components numbered anew.
+fn numbered<'a>(
+    arena: &'a Bump,
+    conjuncts: Items<'a, Conjunct<'a>>,
+    places: &Option<Lasting<'a, Items<'a, usize>>>,
+) -> Result<Items<'a, Conjunct<'a>>, AllocError>
+    ensures { IfOk result (λ cs. map conjunct_of cs ≡ map (shape.moved (shape.numbering places.now)) (map conjunct_of conjuncts.entry)) }
+{
+    let mut made = Items::with_room(arena, conjuncts.len())?;
+    for conjunct in conjuncts.into_vec() {
+        made.push(conjunct.moved(arena, places)?)?;
+    }
     Ok(made)
 }
 
@@ -289,7 +307,7 @@ fn disjunction<'a>(
     let of_left = constraints(arena, left)?;
     let of_right = moved_constraints(arena, right, &places)?;
     let whole = one_holds(arena, line, of_left.as_slice(), of_right.as_slice())?;
-    let conjuncts = Items::of(arena, Conjunct::of(arena, whole)?)?;
+    let conjuncts = Chunked::of(arena, Conjunct::of(arena, whole)?)?;
     Ok(Flat {
         components,
         conjuncts,

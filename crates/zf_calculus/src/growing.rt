@@ -19,7 +19,7 @@ use crate::spare::Spare;
 use crate::stop::Stop;
 use bumpalo::Bump;
 use std::alloc::AllocError;
-use zf_data::arena::{Boxed, Items, Lasting};
+use zf_data::arena::{Boxed, Chunked, Items, Lasting};
 use zf_reference::reference::Reference;
 use zf_shape::conjunct::room_after;
 use zf_term::conjunct::Conjunct;
@@ -44,7 +44,7 @@ impl<'a> Growing<'a> {
         ensures growing { IfOk result (λ g. IsGrowing g) }
     {
         let components = Items::with_room(arena, spare.components)?;
-        let conjuncts = Items::with_room(arena, spare.conjuncts)?;
+        let conjuncts = Chunked::with_room(arena, spare.conjuncts)?;
         Ok(Growing {
             flat: Flat {
                 components,
@@ -61,7 +61,7 @@ impl<'a> Growing<'a> {
         ensures passed { IfErr result (λ l. Keeps l (schema_of flat.entry) → ⊥) }
     {
         // Before its nodes are counted, which descends as far as it is high.
-        if !none_too_high(flat.conjuncts.as_slice()) {
+        if !none_too_high(&flat.conjuncts) {
             return Err(Limit::Height);
         }
         if flat.components.len() > COMPONENTS_MAX {
@@ -76,7 +76,7 @@ impl<'a> Growing<'a> {
         let Some(behind_sets) = after_all_nodes(flat.components.as_slice(), NODES_MAX) else {
             return Err(Limit::Nodes);
         };
-        let Some(nodes_left) = after_conjuncts(flat.conjuncts.as_slice(), behind_sets) else {
+        let Some(nodes_left) = after_conjuncts(&flat.conjuncts, behind_sets) else {
             return Err(Limit::Nodes);
         };
         Ok(Growing {
@@ -116,11 +116,10 @@ impl<'a> Growing<'a> {
         ensures growing { OnOk result (IsGrowing self.new) }
         ensures err { IfErr result (λ e. IfStopped e (IsTooLarge (grown (schema_of self.old.flat) (comp_of component.entry)))) }
     {
-        let Some(sets_left) = after_sets(component.domains.get().as_slice(), self.sets_left) else {
+        let Some(sets_left) = after_sets(component.domains.get(), self.sets_left) else {
             return Err(Stop::TooLarge(Limit::Sets));
         };
-        let Some(nodes_left) = after_nodes(component.domains.get().as_slice(), self.nodes_left)
-        else {
+        let Some(nodes_left) = after_nodes(component.domains.get(), self.nodes_left) else {
             return Err(Stop::TooLarge(Limit::Nodes));
         };
         join(&mut self.flat.components, component)?;
@@ -184,7 +183,7 @@ impl<'a> Growing<'a> {
     pub fn is_nothing(&self) -> bool
         ensures { IsTrue result ↔ (schema_of self.now.flat ≡ nothing) }
     {
-        self.flat.components.as_slice().is_empty() && self.flat.conjuncts.as_slice().is_empty()
+        self.flat.components.as_slice().is_empty() && self.flat.conjuncts.len() == 0
     }
 
     /// Another schema that is taken in, whatever types components of one name have; answers where its components are.
@@ -259,9 +258,9 @@ impl<'a> Growing<'a> {
 
 /// Further conjuncts, whose components are at these places.
 pub fn take_moved<'a>(
-    conjuncts: &mut Items<'a, Conjunct<'a>>,
+    conjuncts: &mut Chunked<'a, Conjunct<'a>>,
     arena: &'a Bump,
-    further: Items<'a, Conjunct<'a>>,
+    further: Chunked<'a, Conjunct<'a>>,
     places: &Lasting<'a, Items<'a, usize>>,
 ) -> Result<(), AllocError>
     ensures { OnOk result (map conjunct_of conjuncts.new ≡ map conjunct_of conjuncts.old ++ map (moved (place_in places.now)) (map conjunct_of further.entry)) }
@@ -270,41 +269,40 @@ pub fn take_moved<'a>(
         return take_all(conjuncts, further);
     }
     let numbering = Some(places.share());
-    take_numbered(conjuncts, arena, further, &numbering)
+    take_numbered(conjuncts, arena, &further, &numbering)
 }
 
 /// Further conjuncts, with their components numbered anew.
 fn take_numbered<'a>(
-    conjuncts: &mut Items<'a, Conjunct<'a>>,
+    conjuncts: &mut Chunked<'a, Conjunct<'a>>,
     arena: &'a Bump,
-    further: Items<'a, Conjunct<'a>>,
+    further: &Chunked<'a, Conjunct<'a>>,
     places: &Option<Lasting<'a, Items<'a, usize>>>,
 ) -> Result<(), AllocError>
-    ensures { OnOk result (map conjunct_of conjuncts.new ≡ map conjunct_of conjuncts.old ++ map (moved (numbering places.now)) (map conjunct_of further.entry)) }
+    ensures { OnOk result (map conjunct_of conjuncts.new ≡ map conjunct_of conjuncts.old ++ map (moved (numbering places.now)) (map conjunct_of further.now)) }
 {
-    conjuncts.make_room(further.len())?;
-    for conjunct in further.into_vec() {
-        conjuncts.push(conjunct.moved(arena, places)?)?;
+    for conjunct in further.iter() {
+        conjuncts.push(conjunct.share().moved(arena, places)?)?;
     }
     Ok(())
 }
 
-/// Further conjuncts as they are. Where there are none yet, nor room for these, the list itself is taken.
+/// Further conjuncts as they are. Where there are none yet, the list itself is taken.
 fn take_all<'a>(
-    conjuncts: &mut Items<'a, Conjunct<'a>>,
-    further: Items<'a, Conjunct<'a>>,
+    conjuncts: &mut Chunked<'a, Conjunct<'a>>,
+    further: Chunked<'a, Conjunct<'a>>,
 ) -> Result<(), AllocError>
     ensures { OnOk result (conjuncts.new ≡ conjuncts.old ++ further.entry) }
 {
-    if conjuncts.len() == 0 && conjuncts.items.capacity() < further.len() {
+    if conjuncts.len() == 0 {
         *conjuncts = further;
         return Ok(());
     }
-    conjuncts.append(further)
+    conjuncts.append(&further)
 }
 
 /// Whether each place is its own number.
-fn are_own(places: &[usize]) -> bool
+pub(crate) fn are_own(places: &[usize]) -> bool
     ensures { IsTrue result → (t : ResolvedTree) → moved (place_in places.now) t ≡ t }
 {
     for (place, other) in places.iter().enumerate() {

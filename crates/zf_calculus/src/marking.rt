@@ -16,7 +16,6 @@ use std::alloc::AllocError;
 use std::mem;
 use std::mem::ManuallyDrop;
 use zf_data::arena::{Items, Lasting, Lent};
-use zf_term::conjunct::Conjunct;
 use zf_term::measured::Measured;
 use zf_term::schema::{Component, Flat};
 use zf_tree::tree::RefMark;
@@ -166,7 +165,8 @@ pub fn decorate<'a>(
     ensures { IfOk result (λ f. schema_of f ≡ decorated strokes.now (schema_of flat.now)) }
 {
     let components = decorated_components(arena, strokes, flat.components.as_slice(), spare)?;
-    let conjuncts = shared(arena, flat.conjuncts.as_slice(), spare)?;
+    // What is taken in mostly gains a conjunct.
+    let conjuncts = flat.conjuncts.share(spare.conjuncts.max(1))?;
     Ok(Flat {
         components,
         conjuncts,
@@ -213,19 +213,4 @@ fn stroked<'a>(arena: &'a Bump, name: &Lent<'a>, strokes: &[u8]) -> Result<Lent<
         return Ok(name.share());
     }
     Lent::joined(arena, name.as_slice(), strokes)
-}
-
-/// The same conjuncts.
-fn shared<'a>(
-    arena: &'a Bump,
-    conjuncts: &[Conjunct<'a>],
-    spare: Spare,
-) -> Result<Items<'a, Conjunct<'a>>, AllocError>
-    ensures { IfOk result (λ cs. cs ≡ conjuncts.now) }
-{
-    let mut same = Items::with_room(arena, conjuncts.len().saturating_add(spare.conjuncts))?;
-    for conjunct in conjuncts {
-        same.push(conjunct.share())?;
-    }
-    Ok(same)
 }

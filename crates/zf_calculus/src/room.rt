@@ -8,28 +8,29 @@ ghost use Rattle.zf_calculus.specs.Growth.{counted};
 ghost use Rattle.zf_term.specs.Limits.{IsLow};
 
 use crate::limits::HEIGHT_MAX;
+use zf_data::arena::Chunked;
 use zf_shape::conjunct;
 use zf_shape::sets::{room_after_nodes, room_after_sets};
 use zf_term::conjunct::Conjunct;
 use zf_term::schema::{Component, Domain};
 
 /// How much of the room for declared sets is left behind these, where there is enough.
-pub fn after_sets(domains: &[Domain<'_>], room: usize) -> Option<usize>
+pub fn after_sets<'a>(domains: &Chunked<'a, Domain<'a>>, room: usize) -> Option<usize>
     ensures { MatchOption result (room < sum_by set_count (map set_of domains.now)) (λ left. left + sum_by set_count (map set_of domains.now) ≡ room) }
 {
     let mut left = room;
-    for domain in domains {
+    for domain in domains.iter() {
         left = room_after_sets(domain, left)?;
     }
     Some(left)
 }
 
 /// How much of the room for nodes is left behind these, where there is enough.
-pub fn after_nodes(domains: &[Domain<'_>], room: usize) -> Option<usize>
+pub fn after_nodes<'a>(domains: &Chunked<'a, Domain<'a>>, room: usize) -> Option<usize>
     ensures { MatchOption result (room < sum_by set_nodes (map set_of domains.now)) (λ left. left + sum_by set_nodes (map set_of domains.now) ≡ room) }
 {
     let mut left = room;
-    for domain in domains {
+    for domain in domains.iter() {
         left = room_after_nodes(domain, left)?;
     }
     Some(left)
@@ -41,7 +42,7 @@ pub fn after_all_sets(components: &[Component<'_>], room: usize) -> Option<usize
 {
     let mut left = room;
     for component in components {
-        left = after_sets(component.domains.get().as_slice(), left)?;
+        left = after_sets(component.domains.get(), left)?;
     }
     Some(left)
 }
@@ -52,17 +53,17 @@ pub fn after_all_nodes(components: &[Component<'_>], room: usize) -> Option<usiz
 {
     let mut left = room;
     for component in components {
-        left = after_nodes(component.domains.get().as_slice(), left)?;
+        left = after_nodes(component.domains.get(), left)?;
     }
     Some(left)
 }
 
 /// The same of the nodes of conjuncts.
-pub fn after_conjuncts(conjuncts: &[Conjunct<'_>], room: usize) -> Option<usize>
+pub fn after_conjuncts<'a>(conjuncts: &Chunked<'a, Conjunct<'a>>, room: usize) -> Option<usize>
     ensures { MatchOption result (room < sum_by nodes (map conjunct_of conjuncts.now)) (λ left. left + sum_by nodes (map conjunct_of conjuncts.now) ≡ room) }
 {
     let mut left = room;
-    for conjunct in conjuncts {
+    for conjunct in conjuncts.iter() {
         left = conjunct::room_after(conjunct, left)?;
     }
     Some(left)
@@ -80,10 +81,10 @@ pub fn is_low(conjunct: &Conjunct<'_>, count: usize) -> bool
 }
 
 /// Whether none of the conjuncts is too high. It descends no further than they may be high.
-pub fn none_too_high(conjuncts: &[Conjunct<'_>]) -> bool
+pub fn none_too_high<'a>(conjuncts: &Chunked<'a, Conjunct<'a>>) -> bool
     ensures { IsTrue result ↔ AllByRecursion IsLow (map conjunct_of conjuncts.now) }
 {
-    for conjunct in conjuncts {
+    for conjunct in conjuncts.iter() {
         if !conjunct::is_within(conjunct, HEIGHT_MAX) {
             return false;
         }

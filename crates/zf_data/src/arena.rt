@@ -1,5 +1,6 @@
 //! Lists, boxes and shared values that stand in an arena, and bytes that are lent. Nothing of them is dropped, and the arena keeps its chunks until the process ends.
 mod boxed;
+mod chunked;
 mod items;
 mod lasting;
 mod lent;
@@ -7,6 +8,7 @@ mod nowhere;
 mod shared;
 
 pub use boxed::Boxed;
+pub use chunked::{Chunked, ChunkedIter, Share};
 pub use items::Items;
 pub use lasting::Lasting;
 pub use lent::Lent;

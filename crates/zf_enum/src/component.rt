@@ -57,7 +57,8 @@ fn range_at<'a>(
     ensures is { IfOk result (IsOneRange (environment_of env.now) (comp_of component.now) (option_map (λ k. k.now) held.entry)) }
     ensures refused { IfErr result (IsOutBy (environment_of env.now) (comp_of component.now) place) }
 {
-    match values_with(alloc, component.domains.get().as_slice(), held, env) {
+    let domains = component.domains.get().flat()?;
+    match values_with(alloc, domains.as_slice(), held, env) {
         Ok(values) => Ok(Range { values }),
         Err(Lack::Out) => Err(StartFault::DeclaredOut(place)),
         Err(Lack::OutOfMemory) => Err(StartFault::OutOfMemory),

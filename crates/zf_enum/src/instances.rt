@@ -50,7 +50,8 @@ impl<'s, 'e, 'g, 'a> Instances<'s, 'e, 'g, 'a> {
         ensures refused { IfErr result (Refuses (environment_of env.now) (schema_of flat.now).comps) }
     {
         let ranges = ranges(alloc, flat.components.as_slice(), held, env)?;
-        let planting = plant_all(alloc, arena, flat.conjuncts.as_slice())?;
+        let conjuncts = flat.conjuncts.flat()?;
+        let planting = plant_all(alloc, arena, conjuncts.as_slice())?;
         let Planting { leaves, forest } = planting;
         let property = lifted(alloc, arena, leaves, env)?;
         let search = zf_plan::Search::start(alloc, property, forest, ranges, after)?;

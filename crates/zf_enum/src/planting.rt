@@ -32,7 +32,8 @@ pub fn gains_by_trees<'a>(
     arena: &'a Bump,
     flat: &Flat<'a>,
 ) -> Result<bool, AllocError> {
-    let planting = plant_all(alloc, arena, flat.conjuncts.as_slice())?;
+    let conjuncts = flat.conjuncts.flat()?;
+    let planting = plant_all(alloc, arena, conjuncts.as_slice())?;
     if planting.leaves.len() > flat.conjuncts.len() {
         return Ok(true);
     }

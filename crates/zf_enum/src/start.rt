@@ -42,7 +42,8 @@ impl<'s, 'e, 'g, 'a> Bindings<'s, 'e, 'g, 'a> {
         ensures refused { IfErr result (Refuses (environment_of env.now) (schema_of flat.now).comps) }
     {
         let ranges = ranges(alloc, flat.components.as_slice(), held, env)?;
-        let conjuncts = resolved(alloc, arena, flat.conjuncts.as_slice())?;
+        let all = flat.conjuncts.flat()?;
+        let conjuncts = resolved(alloc, arena, all.as_slice())?;
         let dues = dues(alloc, &conjuncts)?;
         let property = Property {
             conjuncts: Conjuncts::plain(alloc, conjuncts),

@@ -56,6 +56,17 @@ pub sets_step :
 sets_step g xs i x whole found next at l =
     first_step (λ ds. all_set_offenders g (sets_of (map set_of ds))) (λ ds. all_set_offenders g (sets_of (map set_of ds))) xs i x (set_offenders g (set_of x)) whole found next at l refl
 
+-- the same where what is ahead is a list of its own
+pub step_ahead :
+    {X A : Type 0} (f : List X → List A) (here : List A) (ahead rest : List X) (x : X) (whole found next : Option A)
+    → ahead ≡ x ∷ rest
+    → f (x ∷ rest) ≡ here ++ f rest
+    → whole ≡ or_else found (first (f ahead))
+    → next ≡ or_else found (first here)
+    → whole ≡ or_else next (first (f rest))
+step_ahead f here ahead rest x whole found next step parts before one =
+    before ∙ ap (λ ys. or_else found (first (f ys))) step ∙ ap (λ zs. or_else found (first zs)) parts ∙ sym (both_after here (f rest) found next _ one refl)
+
 -- ---- the first of two lists, of which the second is made of another
 
 pub first_in_front : {A : Type 0} (xs ys : List A) (x : A) → Some x ≡ first xs → first (xs ++ ys) ≡ Some x

@@ -8,7 +8,7 @@ ghost use Rattle.zf_finite.specs.Finite as spec;
 ghost use Rattle.zf_finite.specs.Finite.{IsFinite};
 
 use crate::not_finite::NotFinite;
-use zf_data::arena::Items;
+use zf_data::arena::{Chunked, Items};
 use zf_extent::conjunct::offending_after;
 use zf_extent::infinite::{direct, offending_within_after};
 use zf_extent::offender::Offender;
@@ -22,7 +22,7 @@ pub fn finite<'a>(schema: &Flat<'a>, globals: &Globals<'a>) -> Result<(), NotFin
 {
     match components_cause(schema.components.as_slice(), globals) {
         Some(cause) => Err(cause),
-        None => match conjuncts_offender(schema.conjuncts.as_slice(), globals) {
+        None => match conjuncts_offender(&schema.conjuncts, globals) {
             Some(offender) => Err(NotFinite::Offends(offender)),
             None => Ok(()),
         },
@@ -50,21 +50,68 @@ fn component_cause<'a>(component: &Component<'a>, globals: &Globals<'a>) -> Opti
     ensures { result ≡ first (spec.comp_causes (globals_of globals.now) (comp_of component.now)) }
 {
     let sets = component.domains.get();
-    if !one_bounds(sets, globals) {
+    if !is_bounded(sets, globals) {
         return Some(NotFinite::Unbounded(first_plain(sets), component.name.share()));
     }
-    match all_offending_after(sets, None, globals) {
+    match offender_in(sets, globals) {
         Some(offender) => Some(NotFinite::Offends(offender)),
         None => None,
     }
 }
 
+/// Whether one of the declared sets bounds a component.
+fn is_bounded<'a>(domains: &Chunked<'a, Domain<'a>>, globals: &Globals<'a>) -> bool
+    ensures { result ≡ spec.one_bounds (globals_of globals.now) (sets_of (map set_of domains.now)) }
+{
+    for domain in domains.iter() {
+        if bounds(domain, globals) {
+            return true;
+        }
+    }
+    false
+}
+
+/// The first in the declared sets that offends.
+fn offender_in<'a>(domains: &Chunked<'a, Domain<'a>>, globals: &Globals<'a>) -> Option<Offender>
+    ensures { result ≡ first (spec.all_set_offenders (globals_of globals.now) (sets_of (map set_of domains.now))) }
+{
+    let mut offender = None;
+    for domain in domains.iter() {
+        offender = set_offending_after(domain, offender, globals);
+    }
+    offender
+}
+
+/// The line of the first set of a declaration.
+fn first_plain<'a>(domains: &Chunked<'a, Domain<'a>>) -> u32
+    ensures { result ≡ spec.first_plain (sets_of (map set_of domains.now)) }
+{
+    match plain_in(domains) {
+        Some(line) => line,
+        None => 0,
+    }
+}
+
+/// The line of the first set of a declaration, if there is one.
+fn plain_in<'a>(domains: &Chunked<'a, Domain<'a>>) -> Option<u32>
+    ensures { result ≡ first (spec.all_plain_lines (sets_of (map set_of domains.now))) }
+{
+    let mut line = None;
+    for domain in domains.iter() {
+        line = plain_after(domain, line);
+    }
+    line
+}
+
 /// The first in the conjuncts that offends.
-fn conjuncts_offender<'a>(conjuncts: &[Conjunct<'a>], globals: &Globals<'a>) -> Option<Offender>
+fn conjuncts_offender<'a>(
+    conjuncts: &Chunked<'a, Conjunct<'a>>,
+    globals: &Globals<'a>,
+) -> Option<Offender>
     ensures { result ≡ first (flat_map (extents.offending (globals_of globals.now)) (map conjunct_of conjuncts.now)) }
 {
     let mut offender = None;
-    for conjunct in conjuncts {
+    for conjunct in conjuncts.iter() {
         offender = offending_after(conjunct, offender, globals);
     }
     offender
@@ -94,16 +141,6 @@ fn one_bounds<'a>(domains: &Items<'a, Domain<'a>>, globals: &Globals<'a>) -> boo
         }
     }
     false
-}
-
-/// The line of the first set of a declaration.
-fn first_plain<'a>(domains: &Items<'a, Domain<'a>>) -> u32
-    ensures { result ≡ spec.first_plain (sets_of (map set_of domains.now)) }
-{
-    match all_plain_after(domains, None) {
-        Some(line) => line,
-        None => 0,
-    }
 }
 
 #[cycle(plain)]

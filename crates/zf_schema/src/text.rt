@@ -28,7 +28,7 @@ use std::alloc::AllocError;
 use zf_calculus::growing::Growing;
 use zf_calculus::limits::{COMPONENTS_MAX, CONJUNCTS_MAX};
 use zf_calculus::spare::Spare;
-use zf_data::arena::{Boxed, Items, Lasting, Shared};
+use zf_data::arena::{Boxed, Chunked, Items, Lasting, Shared};
 use zf_term::conjunct::Conjunct;
 use zf_term::globals::Globals;
 use zf_term::measured::Measured;
@@ -238,7 +238,7 @@ fn declared<'a>(
 {
     let name = name.spelled();
     let ztype = ztype.share()?;
-    let domains = Items::of(arena, Domain::Plain(set.share()))?;
+    let domains = Chunked::of(arena, Domain::Plain(set.share()))?;
     let domains = Shared::new(arena, domains)?;
     Ok(Component {
         name,

@@ -8,7 +8,7 @@ ghost use Rattle.zf_reference.specs.Numbering as numbers;
 use crate::resolved::Resolved;
 use bumpalo::Bump;
 use std::alloc::AllocError;
-use zf_data::arena::{Items, Lasting};
+use zf_data::arena::{Items, Lasting, Share};
 use zf_reference::reference::place_in;
 
 /// A conjunct of a schema: a predicate, which is shared with the schemas that take in the schema, and the places of its components in this
@@ -71,6 +71,12 @@ impl<'a> Conjunct<'a> {
         ensures { result ≡ spec.line_of (conjunct_of self.now) }
     {
         self.term.get().line()
+    }
+}
+
+impl<'a> Share for Conjunct<'a> {
+    fn shared(&self) -> Result<Conjunct<'a>, AllocError> {
+        Ok(self.share())
     }
 }
 

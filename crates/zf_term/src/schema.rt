@@ -6,7 +6,7 @@ use crate::resolved::Resolved;
 use crate::ztype::ZType;
 use bumpalo::Bump;
 use std::alloc::AllocError;
-use zf_data::arena::{Items, Lasting, Lent, Shared};
+use zf_data::arena::{Chunked, Items, Lasting, Lent, Share, Shared};
 
 /// A declared set of a component.
 #[derive(Drop)]
@@ -16,11 +16,14 @@ pub enum Domain<'a> {
     /// All values of the type: of a component that one side of a disjunction lacks.
     Carrier(ZType<'a>),
     /// Both sides of a disjunction: what lies in all of the left or in all of the right.
-    Either(Domains<'a>, Domains<'a>),
+    Either(Side<'a>, Side<'a>),
 }
 
+/// The declared sets of a component on one side of a disjunction.
+pub type Side<'a> = Shared<'a, Items<'a, Domain<'a>>>;
+
 /// Declared sets, which several components may share.
-pub type Domains<'a> = Shared<'a, Items<'a, Domain<'a>>>;
+pub type Domains<'a> = Shared<'a, Chunked<'a, Domain<'a>>>;
 
 /// A component of a schema, with its declared sets.
 #[derive(Drop)]
@@ -35,14 +38,11 @@ pub struct Component<'a> {
 #[derive(Drop)]
 pub struct Flat<'a> {
     pub components: Items<'a, Component<'a>>,
-    pub conjuncts: Items<'a, Conjunct<'a>>,
+    pub conjuncts: Chunked<'a, Conjunct<'a>>,
 }
 
-impl<'a> Domain<'a> {
-    /// The same declared set, of which nothing is copied.
-    pub fn share(&self) -> Result<Domain<'a>, AllocError>
-        ensures { IfOk result (λ d. d ≡ self.now) }
-    {
+impl<'a> Share for Domain<'a> {
+    fn shared(&self) -> Result<Domain<'a>, AllocError> {
         match self {
             Domain::Plain(set) => Ok(Domain::Plain(set.share())),
             Domain::Carrier(ztype) => Ok(Domain::Carrier(ztype.share()?)),

@@ -28,7 +28,8 @@ fn decoration_captures_nothing(rt: HostRuntime) -> Result<(), Fail> {
         return Err(Fail::new("other components"));
     };
     assert_eq!(rt; component.name.as_slice(), b"x'".as_slice());
-    let [conjunct] = schema.conjuncts.as_slice() else {
+    let conjuncts = schema.conjuncts.flat()?;
+    let [conjunct] = conjuncts.as_slice() else {
         return Err(Fail::new("other conjuncts"));
     };
     let term = resolved(conjunct, &arena)?;

@@ -49,7 +49,8 @@ fn values_and_truths(rt: HostRuntime) -> Result<(), Fail> {
         assert!(rt; is_outcome(rt.alloc(), &outcome, wanted)?, "{name}");
     }
     let schema = globals.schema("S").ok_or("no schema")?;
-    let conjuncts = schema.conjuncts.as_slice();
+    let conjuncts = schema.conjuncts.flat()?;
+    let conjuncts = conjuncts.as_slice();
     assert!(rt; conjuncts.len() == TRUTHS.len());
     for (conjunct, wanted) in conjuncts.iter().zip(TRUTHS) {
         let term = resolved(conjunct, &arena)?;

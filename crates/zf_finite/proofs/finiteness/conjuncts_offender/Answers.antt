@@ -1,7 +1,8 @@
-use Rattle.zf_finite.proofs.Prelude.{conjunct_of, globals_of, offending}
-use Rattle.zf_finite.proofs.FirstCauses.{flat_step}
+use Rattle.zf_finite.proofs.Prelude.{flat_map, map, conjunct_of, globals_of, flat_map-cons, offending}
+use Rattle.zf_finite.proofs.FirstCauses.{step_ahead}
 use Rattle.zf_finite.proofs.finiteness.conjuncts_offender.Goals as goal
 
 pub loop-conjunct-preserved : goal.loop-conjunct-preserved
 loop-conjunct-preserved c =
-    flat_step (offending (globals_of c.args.globals.now)) conjunct_of _ _ _ _ _ _ c.conjunct-item.is c.loop-conjunct-test.true c.loop-conjunct.invariant c.offending_after-offender.ensures
+    let g = globals_of c.args.globals.now in
+    step_ahead (λ cs. flat_map (offending g) (map conjunct_of cs)) (offending g (conjunct_of c.in-Some.conjunct.now)) _ _ _ _ _ _ c.in-Some.ensures.steps (flat_map-cons (offending g) (conjunct_of c.in-Some.conjunct.now) (map conjunct_of c.next.new.self)) c.loop-conjunct.invariant c.offending_after-offender.ensures

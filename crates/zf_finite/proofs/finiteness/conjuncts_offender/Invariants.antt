@@ -1,7 +1,7 @@
-use Rattle.zf_finite.proofs.Prelude.{◌≡◌, drop, flat_map, map, conjunct_of, globals_of, or_else, first, offending}
+use Rattle.zf_finite.proofs.Prelude.{◌≡◌, flat_map, map, conjunct_of, globals_of, or_else, first, offending}
 use Rattle.zf_finite.proofs.finiteness.conjuncts_offender.Given as goal
 
 abbrev pub invariant-loop-conjunct : goal.invariant-loop-conjunct
 invariant-loop-conjunct l =
     first (flat_map (offending (globals_of l.globals)) (map conjunct_of l.conjuncts))
-    ≡ or_else l.offender (first (flat_map (offending (globals_of l.globals)) (map conjunct_of (drop l.conjunct-index l.conjuncts))))
+    ≡ or_else l.offender (first (flat_map (offending (globals_of l.globals)) (map conjunct_of l.conjunct-iterator)))

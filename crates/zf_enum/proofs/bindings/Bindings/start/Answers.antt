@@ -18,14 +18,14 @@ over-requires-clause-due c =
     let e = environment_of c.args.env.now in
     let all = subst (λ (ds : List Component). AreAllRanges e (map comp_of ds) c.args.held.now c.in_ok-ranges.ranges.items) c.as_slice.ensures c.in_ok-ranges.ensures.is in
     due_within e (schema_of c.args.flat.now).comps c.args.held.now c.in_ok-ranges.ranges.items (schema_of c.args.flat.now).conjuncts (map resolved_of c.plain.result) all.0
-    (ap (λ (ts : List Resolved). map resolved_of ts) c.plain.ensures ∙ c.in_ok-conjuncts.ensures ∙ ap (map conjunct_of) c.as_slice-2.ensures) c.requires.due
+    (ap (λ (ts : List Resolved). map resolved_of ts) c.plain.ensures ∙ c.in_ok-conjuncts.ensures ∙ ap (map conjunct_of) (c.as_slice-2.ensures ∙ c.in_ok-all.ensures)) c.requires.due
 
 pub returns-clause-begins : goal.returns-clause-begins
 returns-clause-begins c =
     let e = environment_of c.args.env.now in
     let s = schema_of c.args.flat.now in
     let all = subst (λ (ds : List Component). AreAllRanges e (map comp_of ds) c.args.held.now c.in_ok-ranges.ranges.items) c.as_slice.ensures c.in_ok-ranges.ensures.is in
-    let conjuncts = ap (λ (ts : List Resolved). map resolved_of ts) c.plain.ensures ∙ c.in_ok-conjuncts.ensures ∙ ap (map conjunct_of) c.as_slice-2.ensures in
+    let conjuncts = ap (λ (ts : List Resolved). map resolved_of ts) c.plain.ensures ∙ c.in_ok-conjuncts.ensures ∙ ap (map conjunct_of) (c.as_slice-2.ensures ∙ c.in_ok-all.ensures) in
     let walk = c.in_ok-over.field-0.walk in
     let problem = c.in_ok-over.ensures.problem in
     let here = ap (λ (j : Property). environment_of j.env.now) problem.0 in

@@ -1,0 +1,294 @@
+//! Lists in chunks, which other lists share.
+ghost use Rattle.std.specs.Prelude.{◌≡◌, ◌++◌, ◌∷◌, [], ◌<◌, IfOk, OnErr, OnOk, length};
+ghost use Rattle.std.specs.Iterator.{YieldsFirstRef, item_count};
+ghost use Rattle.std.specs.Mem.{manually_drop_value};
+ghost use Rattle.zf_data.specs.Chunks.{all_of};
+
+use super::Items;
+use bumpalo::Bump;
+use bumpalo::collections::into_bump_slice;
+use std::alloc::AllocError;
+use std::marker::Model;
+use std::mem;
+use std::mem::ManuallyDrop;
+
+/// How many items a chunk has at most that is copied where there is room for it.
+const CHUNK: usize = 64;
+
+/// What may have one more owner.
+pub trait Share: Sized {
+    /// The same value, of which nothing is copied.
+    fn shared(&self) -> Result<Self, AllocError>
+        ensures { IfOk result (λ t. t ≡ self.now) };
+}
+
+/// One or more items, which last as long as the arena they stand in.
+#[derive(Drop)]
+struct Chunk<'a, T> {
+    items: &'a [T],
+}
+
+impl<'a, T> Model for Chunk<'a, T> {
+    ghost use Rattle.std.specs.Prelude.{◌<◌, List, length};
+    ghost use Rattle.std.specs.Coded.{coded_list};
+
+    ghost Value = { List T };
+
+    ghost coded = { coded_list T.code };
+
+    ghost view = { λ c. c.items.now };
+
+    ghost invariant = { λ c. 0 < length c.items.now };
+}
+
+impl<'a, T> Chunk<'a, T> {
+    fn new(items: &'a [T]) -> Chunk<'a, T>
+        requires { 0 < length items.now }
+        ensures { result ≡ items.entry.now }
+    {
+        Chunk { items }
+    }
+
+    /// The same items, of which nothing is copied.
+    fn share(&self) -> Chunk<'a, T>
+        ensures { result ≡ self.now }
+    {
+        Chunk { items: self.items }
+    }
+
+    fn as_slice(&self) -> &[T]
+        ensures items { result.now ≡ self.now }
+        ensures some { 0 < length self.now }
+    {
+        self.items
+    }
+}
+
+/// A list that contracts see as the list of its items. All but the last of them stand in chunks, which other lists share.
+#[derive(Drop)]
+pub struct Chunked<'a, T> {
+    chunks: ManuallyDrop<Vec<Chunk<'a, T>, &'a Bump>>,
+    last: Items<'a, T>,
+    count: usize,
+}
+
+impl<'a, T> Model for Chunked<'a, T> {
+    ghost use Rattle.std.specs.Prelude.{◌≡◌, ◌++◌, List, length};
+    ghost use Rattle.std.specs.Coded.{coded_list};
+    ghost use Rattle.std.specs.Mem.{manually_drop_value};
+    ghost use Rattle.zf_data.specs.Chunks.{all_of};
+
+    ghost Value = { List T };
+
+    ghost coded = { coded_list T.code };
+
+    ghost view = { λ c. all_of (manually_drop_value c.chunks).items ++ c.last };
+
+    ghost invariant = { λ c. c.count ≡ length (all_of (manually_drop_value c.chunks).items ++ c.last) };
+}
+
+impl<'a, T> Chunked<'a, T> {
+    pub fn len(&self) -> usize
+        ensures { result ≡ length self.now }
+    {
+        self.count
+    }
+
+    /// Where the list stands.
+    pub fn arena(&self) -> &'a Bump {
+        self.last.arena()
+    }
+
+    /// The items, one after another.
+    pub fn iter(&self) -> ChunkedIter<'_, 'a, T>
+        ensures { result ≡ self.now }
+    {
+        ChunkedIter {
+            items: &[],
+            chunks: self.chunks.as_slice(),
+            last: self.last.as_slice(),
+        }
+    }
+}
+
+impl<'a, T: Drop> Chunked<'a, T> {
+    pub fn new(arena: &'a Bump) -> Chunked<'a, T>
+        ensures { result ≡ [] }
+    {
+        Chunked {
+            chunks: ManuallyDrop::new(Vec::new(arena)),
+            last: Items::new(arena),
+            count: 0,
+        }
+    }
+
+    /// The list of no items, with room for so many, as far as they stand in one chunk.
+    pub fn with_room(arena: &'a Bump, room: usize) -> Result<Chunked<'a, T>, AllocError>
+        ensures { IfOk result (λ c. c ≡ []) }
+    {
+        Ok(Chunked {
+            chunks: ManuallyDrop::new(Vec::new(arena)),
+            last: Items::with_room(arena, room.min(CHUNK))?,
+            count: 0,
+        })
+    }
+
+    /// The list of one item.
+    pub fn of(arena: &'a Bump, item: T) -> Result<Chunked<'a, T>, AllocError>
+        ensures { IfOk result (λ c. c ≡ item ∷ []) }
+    {
+        Ok(Chunked {
+            chunks: ManuallyDrop::new(Vec::new(arena)),
+            last: Items::of(arena, item)?,
+            count: 1,
+        })
+    }
+
+    pub fn push(&mut self, item: T) -> Result<(), AllocError>
+        ensures ok { OnOk result (self.new ≡ self.old ++ item ∷ []) }
+        ensures err { OnErr result (self.new ≡ self.old) }
+    {
+        let Some(count) = self.count.checked_add(1) else {
+            return Err(AllocError);
+        };
+        if self.last.len() >= CHUNK {
+            seal(&mut self.chunks, &mut self.last)?;
+        }
+        self.last.push(item)?;
+        self.count = count;
+        Ok(())
+    }
+
+    /// Adds a chunk, which is shared.
+    fn push_chunk(&mut self, chunk: &Chunk<'a, T>) -> Result<(), AllocError>
+        ensures { OnOk result (self.new ≡ self.old ++ chunk.now) }
+    {
+        let Some(count) = self.count.checked_add(chunk.as_slice().len()) else {
+            return Err(AllocError);
+        };
+        seal(&mut self.chunks, &mut self.last)?;
+        self.chunks.push(chunk.share())?;
+        self.count = count;
+        Ok(())
+    }
+}
+
+/// The last items become a chunk, if there are any.
+fn seal<'a, T: Drop>(
+    chunks: &mut ManuallyDrop<Vec<Chunk<'a, T>, &'a Bump>>,
+    last: &mut Items<'a, T>,
+) -> Result<(), AllocError>
+    ensures whole { all_of (manually_drop_value chunks.new).items ++ last.new ≡ all_of (manually_drop_value chunks.old).items ++ last.old }
+    ensures none { OnOk result (last.new ≡ []) }
+{
+    if last.len() == 0 {
+        return Ok(());
+    }
+    chunks.reserve(1)?;
+    let arena = last.arena();
+    let sealed = mem::replace(last, Items::new(arena));
+    chunks.push_reserved(Chunk::new(into_bump_slice(sealed.into_vec())));
+    Ok(())
+}
+
+impl<'a, T: Drop + Share> Chunked<'a, T> {
+    /// The same list, with room for so many more items. Its chunks are shared, and each item of the last one.
+    pub fn share(&self, spare: usize) -> Result<Chunked<'a, T>, AllocError>
+        ensures { IfOk result (λ c. c ≡ self.now) }
+    {
+        let room = self.last.len().saturating_add(spare);
+        let mut same = Chunked::with_room(self.arena(), room)?;
+        same.chunks.reserve_exact(self.chunks.len())?;
+        same.append(self)?;
+        Ok(same)
+    }
+
+    /// Adds the items of the other list, whose chunks are shared.
+    pub fn append(&mut self, other: &Chunked<'a, T>) -> Result<(), AllocError>
+        ensures { OnOk result (self.new ≡ self.old ++ other.now) }
+    {
+        for chunk in other.chunks.as_slice() {
+            self.append_chunk(chunk)?;
+        }
+        self.append_items(other.last.as_slice())
+    }
+
+    /// Adds the items of a chunk. A small one is copied behind the last items, so that chunks stay few.
+    fn append_chunk(&mut self, chunk: &Chunk<'a, T>) -> Result<(), AllocError>
+        ensures { OnOk result (self.new ≡ self.old ++ chunk.now) }
+    {
+        if self.is_roomy(chunk.as_slice().len()) {
+            return self.append_items(chunk.as_slice());
+        }
+        self.push_chunk(chunk)
+    }
+
+    /// Whether so many items stand in one chunk with the last ones, of which there are some.
+    fn is_roomy(&self, more: usize) -> bool {
+        self.last.len() > 0 && self.last.len().saturating_add(more) <= CHUNK
+    }
+
+    fn append_items(&mut self, items: &[T]) -> Result<(), AllocError>
+        ensures { OnOk result (self.new ≡ self.old ++ items.now) }
+    {
+        for item in items {
+            self.push(item.shared()?)?;
+        }
+        Ok(())
+    }
+
+    /// The items, in one piece.
+    pub fn flat(&self) -> Result<Items<'a, T>, AllocError>
+        ensures { IfOk result (λ items. items ≡ self.now) }
+    {
+        let mut items = Items::with_room(self.arena(), self.count)?;
+        for item in self.iter() {
+            items.push(item.shared()?)?;
+        }
+        Ok(items)
+    }
+}
+
+/// The items of a list in chunks that are still ahead.
+#[derive(Drop)]
+pub struct ChunkedIter<'b, 'a, T> {
+    items: &'b [T],
+    chunks: &'b [Chunk<'a, T>],
+    last: &'b [T],
+}
+
+impl<'b, 'a, T> Model for ChunkedIter<'b, 'a, T> {
+    ghost use Rattle.std.specs.Prelude.{◌++◌, List};
+    ghost use Rattle.std.specs.Coded.{coded_list};
+    ghost use Rattle.zf_data.specs.Chunks.{all_of};
+
+    ghost Value = { List T };
+
+    ghost coded = { coded_list T.code };
+
+    ghost view = { λ i. i.items.now ++ (all_of i.chunks.now ++ i.last.now) };
+}
+
+impl<'b, 'a, T> Iterator for ChunkedIter<'b, 'a, T> {
+    type Item = &'b T;
+
+    ghost next_gives = { YieldsFirstRef (λ i. i) };
+
+    ghost remaining = { item_count (λ i. i) };
+
+    fn next(&mut self) -> Option<&'b T> {
+        if let Some((first, items)) = self.items.split_first() {
+            self.items = items;
+            return Some(first);
+        }
+        if !self.chunks.is_empty() {
+            let (first, items) = self.chunks[0].as_slice().split_first()?;
+            self.items = items;
+            self.chunks = &self.chunks[1..];
+            return Some(first);
+        }
+        let (first, last) = self.last.split_first()?;
+        self.last = last;
+        Some(first)
+    }
+}
