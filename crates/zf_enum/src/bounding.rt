@@ -10,7 +10,8 @@ use std::alloc::AllocError;
 use zf_data::arena::Items;
 use zf_extent::infinite::direct;
 use zf_meaning::env::Env;
-use zf_term::globals::{Domain, Globals};
+use zf_term::globals::Globals;
+use zf_term::schema::Domain;
 
 /// The place of the lightest declared set that bounds, or their number where none does. Which one it is makes a difference to time alone.
 pub(crate) fn lightest_bounding<'a>(

@@ -13,7 +13,8 @@ use zf_extent::conjunct::offending_after;
 use zf_extent::infinite::{direct, offending_within_after};
 use zf_extent::offender::Offender;
 use zf_term::conjunct::Conjunct;
-use zf_term::globals::{Component, Domain, Flat, Globals};
+use zf_term::globals::Globals;
+use zf_term::schema::{Component, Domain, Flat};
 
 /// Whether the schema is finite, after the globals that it is made of.
 pub fn finite<'a>(schema: &Flat<'a>, globals: &Globals<'a>) -> Result<(), NotFinite<'a>>
