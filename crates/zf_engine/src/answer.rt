@@ -29,7 +29,8 @@ use zf_lines::fault::{RunFault, Status};
 use zf_lines::show::{show, show_with_tests};
 use zf_lines::writing::write_text;
 use zf_meaning::env::Env;
-use zf_term::globals::{Flat, Globals};
+use zf_term::globals::Globals;
+use zf_term::schema::Flat;
 use zf_texts::{Spelling, spellings_of};
 use zf_value::value::Value;
 

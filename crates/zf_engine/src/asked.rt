@@ -20,7 +20,8 @@ use zf_finite::finite;
 use zf_lines::fault::Status;
 use zf_meaning::env::Env;
 use zf_meaning::sizes::{Size as StatedSize, SizeFault};
-use zf_term::globals::{Flat, Globals};
+use zf_term::globals::Globals;
+use zf_term::schema::Flat;
 
 /// A finite schema in an environment.
 #[derive(Drop)]

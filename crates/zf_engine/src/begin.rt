@@ -21,7 +21,7 @@ use std::alloc::Global;
 use zf_enum::{Bindings, Instances, StartFault, gains_by_trees};
 use zf_lines::fault::Status;
 use zf_meaning::env::Env;
-use zf_term::globals::Flat;
+use zf_term::schema::Flat;
 use zf_value::value::Value;
 
 /// A search whose tests nobody asks for.

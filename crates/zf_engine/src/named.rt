@@ -12,7 +12,7 @@ use crate::texts;
 use std::alloc::Global;
 use zf_lines::fault::Status;
 use zf_meaning::env::Env;
-use zf_term::globals::Flat;
+use zf_term::schema::Flat;
 use zf_texts::{AfterFault, Spelling, read_binding};
 use zf_value::value::Value;
 

@@ -12,7 +12,7 @@ use crate::ranges::values_with;
 use crate::start_fault::StartFault;
 use std::alloc::Global;
 use zf_meaning::env::Env;
-use zf_term::globals::Component;
+use zf_term::schema::Component;
 use zf_value::value::Value;
 use zf_walk::Range;
 

@@ -21,7 +21,7 @@ use bumpalo::Bump;
 use std::alloc::{AllocError, Global};
 use zf_meaning::env::Env;
 use zf_meaning::row::Row;
-use zf_term::globals::Flat;
+use zf_term::schema::Flat;
 use zf_value::value::Value;
 use zf_walk::Step;
 

@@ -14,8 +14,8 @@ use zf_plan::Forest;
 use zf_resolved::conjunct::resolved;
 use zf_resolved::moving::copy;
 use zf_term::conjunct::Conjunct;
-use zf_term::globals::Flat;
 use zf_term::resolved::Resolved;
+use zf_term::schema::Flat;
 use zf_tree::operator::{Operator, Unary};
 use zf_tree::symbol::Connective;
 

@@ -21,8 +21,8 @@ use std::alloc::{AllocError, Global};
 use zf_meaning::env::Env;
 use zf_resolved::conjunct;
 use zf_term::conjunct::Conjunct;
-use zf_term::globals::Flat;
 use zf_term::resolved::Resolved;
+use zf_term::schema::Flat;
 use zf_value::value::Value;
 
 impl<'s, 'e, 'g, 'a> Bindings<'s, 'e, 'g, 'a> {

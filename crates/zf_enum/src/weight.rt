@@ -6,8 +6,8 @@ use zf_meaning::env::Env;
 use zf_meaning::found::Found;
 use zf_meaning::row::Row;
 use zf_meaning::value::described_in;
-use zf_term::globals::Domain;
 use zf_term::resolved::{Range, Resolved};
+use zf_term::schema::Domain;
 use zf_value::lent::Lent;
 use zf_value::value::Value;
 

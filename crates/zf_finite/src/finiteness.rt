@@ -13,7 +13,8 @@ use zf_extent::conjunct::offending_after;
 use zf_extent::infinite::{direct, offending_within_after};
 use zf_extent::offender::Offender;
 use zf_term::conjunct::Conjunct;
-use zf_term::globals::{Component, Domain, Flat, Globals};
+use zf_term::globals::Globals;
+use zf_term::schema::{Component, Domain, Flat};
 
 /// Whether the schema is finite, after the globals that it is made of.
 pub fn finite<'a>(schema: &Flat<'a>, globals: &Globals<'a>) -> Result<(), NotFinite<'a>>
@@ -120,7 +121,7 @@ fn conjuncts_offender<'a>(
 /// Whether the declared set bounds a component.
 #[cycle(bounds)]
 #[tactic(auto, using(zf_term::proofs::SetsSeen::seen))]
-fn bounds<'a>(domain: &Domain<'a>, globals: &Globals<'a>) -> bool
+pub fn bounds<'a>(domain: &Domain<'a>, globals: &Globals<'a>) -> bool
     ensures { result ≡ spec.bounds (globals_of globals.now) (set_of domain.now) }
 {
     match domain {

@@ -7,7 +7,7 @@ ghost use Rattle.zf_value.specs.declared.plain.Value as value;
 
 use std::alloc::{AllocError, Global};
 use zf_data::Text;
-use zf_term::globals::{Component, Flat};
+use zf_term::schema::{Component, Flat};
 
 /// How many bytes all that is kept of a search may take.
 const ROOM: usize = 2_097_152;

@@ -8,7 +8,7 @@ ghost use Rattle.zf_texts.specs.BindingTexts.{binding_text};
 use crate::column::Column;
 use std::alloc::AllocError;
 use zf_enum::Search;
-use zf_term::globals::Flat;
+use zf_term::schema::Flat;
 use zf_texts::{Spelling, append_value};
 
 /// Appends the line of the binding that the last step gave. A refusal leaves a part of it.

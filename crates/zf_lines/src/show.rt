@@ -21,7 +21,7 @@ use crate::writing::write_text;
 use std::alloc::{AllocError, Global};
 use std::io::Write;
 use zf_enum::{Bindings, Search};
-use zf_term::globals::Flat;
+use zf_term::schema::Flat;
 use zf_texts::Spelling;
 use zf_walk::Step;
 

@@ -6,7 +6,7 @@ ghost use Rattle.zf_term.specs.Definitions.{schema_of};
 use itoa::Buffer;
 use std::alloc::AllocError;
 use zf_meaning::row::Row;
-use zf_term::globals::Flat;
+use zf_term::schema::Flat;
 use zf_texts::{Spelling, append_binding};
 
 /// Appends the line of a row. A refusal leaves a part of it.

@@ -7,7 +7,7 @@ ghost use Rattle.zf_term.specs.FirstNamed.{first_named};
 use crate::extent::Extent;
 use crate::measured::Measured;
 use crate::resolved::Resolved;
-pub use crate::schema::{Component, Domain, Domains, Flat};
+use crate::schema::Flat;
 use crate::ztype::ZType;
 use indexmap::IndexMap;
 use std::alloc::{AllocError, Global};

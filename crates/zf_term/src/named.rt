@@ -3,7 +3,8 @@ ghost use Rattle.std.specs.Prelude.{◌≡◌, map};
 ghost use Rattle.zf_term.specs.FirstNamed.{first_named, found_as};
 ghost use Rattle.zf_term.specs.Definitions.{comp_of, entry_of, globals_of};
 
-use crate::globals::{Component, Entry, Globals};
+use crate::globals::{Entry, Globals};
+use crate::schema::Component;
 use crate::spelling::is_same;
 
 /// The component of the name, with its place.

@@ -15,7 +15,7 @@ use crate::spelling::Spelling;
 use crate::words::{behind, is_in_word, stands};
 use std::alloc::Global;
 use zf_meaning::env::Env;
-use zf_term::globals::{Component, Flat};
+use zf_term::schema::{Component, Flat};
 use zf_value::value::Value;
 
 /// The values that a line of some of the components holds, by the components' places.

@@ -10,7 +10,7 @@ use crate::spelling::Spelling;
 use itoa::Buffer;
 use std::alloc::{AllocError, Global};
 use zf_meaning::row::Row;
-use zf_term::globals::{Component, Flat};
+use zf_term::schema::{Component, Flat};
 use zf_value::value::{Form, Value};
 
 /// The line of a row, without the end of the line.

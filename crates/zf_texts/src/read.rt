@@ -13,7 +13,7 @@ use crate::spelling::Spelling;
 use crate::words::{is_in_word, item, separated, signed, stands, word_at};
 use std::alloc::Global;
 use zf_meaning::env::Env;
-use zf_term::globals::{Component, Flat};
+use zf_term::schema::{Component, Flat};
 use zf_term::ztype::ZType;
 use zf_value::SET_MAX;
 use zf_value::items::Items;

@@ -13,8 +13,9 @@ use bumpalo::Bump;
 use std::alloc::AllocError;
 use zf_data::arena::{Lent, Shared};
 use zf_reference::reference::Reference;
-use zf_term::globals::{Component, Entry, Globals};
+use zf_term::globals::{Entry, Globals};
 use zf_term::named::{component_of, global_of};
+use zf_term::schema::Component;
 use zf_term::ztype::ZType;
 use zf_tree::tree::Name;
 
