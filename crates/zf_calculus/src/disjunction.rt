@@ -1,7 +1,7 @@
 //! Disjunctions of schemas.
 ghost use Rattle.std.specs.Prelude.{◌≡◌, ◌++◌, ◌∷◌, ◌≤◌, IfErr, IfOk, OnOk, flat_map, length, map};
-ghost use Rattle.zf_term.specs.Definitions.{comp_of, conjunct_of, schema_of, set_of};
-ghost use Rattle.zf_term.specs.ResolvedTrees.{resolved_of};
+ghost use Rattle.zf_data.specs.Chunks.{all_of};
+ghost use Rattle.zf_term.specs.Definitions.{batch_of, comp_of, conjunct_of, schema_of, set_of};
 ghost use Rattle.zf_reference.specs.Numbering.{place_in};
 ghost use Rattle.zf_term.specs.Shapes as shape;
 ghost use Rattle.zf_term.specs.Types.{type_of};
@@ -10,7 +10,7 @@ ghost use Rattle.zf_term.specs.declared.fault.Limit.TheVariants as limit;
 ghost use Rattle.zf_calculus.specs.Calculus as spec;
 ghost use Rattle.zf_calculus.specs.Calculus.{Agree, comp_named, disjoined, with_comps};
 ghost use Rattle.zf_calculus.specs.Steps.{IsNext, OneClashes, Stops};
-ghost use Rattle.zf_calculus.specs.Growth.{IfStopped, IsGrowing, all_joined, both_hold, disjoined_over, either_comp, is_member, one_holds};
+ghost use Rattle.zf_calculus.specs.Growth.{IfStopped, IsGrowing, disjoined_over, either_comp};
 ghost use Rattle.zf_term.specs.Limits.{AreFew, IsTooLarge};
 
 use crate::components::{agree, component_copies, join_all, new_places};
@@ -19,17 +19,11 @@ use crate::limits::COMPONENTS_MAX;
 use crate::stop::Stop;
 use bumpalo::Bump;
 use std::alloc::AllocError;
-use zf_data::arena::{Boxed, Chunked, Items, Lasting, Shared};
-use zf_reference::reference::Reference;
-use zf_resolved::conjunct::resolved;
-use zf_resolved::moving::copy;
-use zf_term::conjunct::Conjunct;
+use zf_data::arena::{Chunked, Items, Lasting, Piece, Shared};
+use zf_term::conjunct::{Batch, Batches, Conjunct, Places};
 use zf_term::fault::Limit;
 use zf_term::named::component_of;
-use zf_term::resolved::{Resolved, ResolvedLink};
 use zf_term::schema::{Component, Domain, Flat, Side};
-use zf_tree::operator::Operator;
-use zf_tree::symbol::{Connective, Constant, Relation};
 
 /// The components of the left side, and those of the right side that are new.
 fn all_components<'a>(
@@ -105,74 +99,9 @@ fn either_all<'a>(
     Ok(made)
 }
 
-/// That a component lies in a declared set that a declaration names.
-#[tactic(auto, using(zf_term::proofs::ResolvedSeen::seen))]
-fn membership<'a>(
-    arena: &'a Bump,
-    place: usize,
-    set: Resolved<'a>,
-) -> Result<Resolved<'a>, AllocError>
-    ensures { IfOk result (λ t. resolved_of t ≡ is_member place (resolved_of set.entry)) }
-{
-    let first = set.line();
-    let left = Boxed::new(arena, Resolved::Name(first, Reference::Component(place)))?;
-    let links = Items::of(
-        arena,
-        ResolvedLink {
-            relation: Relation::Member,
-            right: set,
-        },
-    )?;
-    Ok(Resolved::Chain(first, left, Boxed::new(arena, links)?))
-}
-
-/// Joined to the left by `\land`.
-fn joined<'a>(
-    arena: &'a Bump,
-    line: u32,
-    conjuncts: &[Conjunct<'a>],
-) -> Result<Resolved<'a>, AllocError>
-    ensures { IfOk result (λ t. resolved_of t ≡ spec.joined line (map conjunct_of conjuncts.now)) }
-{
-    match conjuncts.split_first() {
-        None => Ok(Resolved::Constant(line, Constant::True)),
-        Some((first, further)) => joined_to(arena, resolved(first, arena)?, further),
-    }
-}
-
-fn joined_to<'a>(
-    arena: &'a Bump,
-    first: Resolved<'a>,
-    further: &[Conjunct<'a>],
-) -> Result<Resolved<'a>, AllocError>
-    ensures { IfOk result (λ t. resolved_of t ≡ all_joined (resolved_of first.entry) (map conjunct_of further.now)) }
-{
-    let mut whole = first;
-    for conjunct in further {
-        let right = resolved(conjunct, arena)?;
-        whole = both(arena, whole, right)?;
-    }
-    Ok(whole)
-}
-
-#[tactic(auto, using(zf_term::proofs::ResolvedSeen::seen))]
-fn both<'a>(
-    arena: &'a Bump,
-    left: Resolved<'a>,
-    right: Resolved<'a>,
-) -> Result<Resolved<'a>, AllocError>
-    ensures { IfOk result (λ t. resolved_of t ≡ both_hold (resolved_of left.entry) (resolved_of right.entry)) }
-{
-    let first = left.line();
-    let left = Boxed::new(arena, left)?;
-    let right = Boxed::new(arena, right)?;
-    Ok(Resolved::Binary(first, Operator::Connective(Connective::And), left, right))
-}
-
 /// That a component lies in a declared set, where a declaration names it.
 #[tactic(auto, using(zf_term::proofs::SetsSeen::seen))]
 fn push_membership<'a>(
-    arena: &'a Bump,
     place: usize,
     domain: &Domain<'a>,
     made: &mut Items<'a, Conjunct<'a>>,
@@ -180,18 +109,13 @@ fn push_membership<'a>(
     ensures { OnOk result (map conjunct_of made.new ≡ map conjunct_of made.old ++ spec.membership place (set_of domain.now)) }
 {
     match domain {
-        Domain::Plain(set) => {
-            let set = copy(set.get(), arena)?;
-            let term = membership(arena, place, set)?;
-            made.push(Conjunct::of(arena, term)?)
-        }
+        Domain::Plain(set) => made.push(Conjunct::member(place, set.share())),
         Domain::Carrier(_) => Ok(()),
         Domain::Either(_, _) => Ok(()),
     }
 }
 
 fn push_memberships<'a>(
-    arena: &'a Bump,
     place: usize,
     domains: &Chunked<'a, Domain<'a>>,
     made: &mut Items<'a, Conjunct<'a>>,
@@ -199,91 +123,71 @@ fn push_memberships<'a>(
     ensures { OnOk result (map conjunct_of made.new ≡ map conjunct_of made.old ++ flat_map (spec.membership place) (map set_of domains.now)) }
 {
     for domain in domains.iter() {
-        push_membership(arena, place, domain, made)?;
+        push_membership(place, domain, made)?;
     }
     Ok(())
 }
 
 fn push_all_memberships<'a>(
-    arena: &'a Bump,
     components: &[Component<'a>],
     made: &mut Items<'a, Conjunct<'a>>,
 ) -> Result<(), AllocError>
     ensures { OnOk result (map conjunct_of made.new ≡ map conjunct_of made.old ++ spec.memberships 0 (map comp_of components.now)) }
 {
     for (place, component) in components.iter().enumerate() {
-        push_memberships(arena, place, component.domains.get(), made)?;
+        push_memberships(place, component.domains.get(), made)?;
     }
     Ok(())
 }
 
-fn push_conjuncts<'a>(
-    conjuncts: &Chunked<'a, Conjunct<'a>>,
-    made: &mut Items<'a, Conjunct<'a>>,
-) -> Result<(), AllocError>
-    ensures { OnOk result (made.new ≡ made.old ++ conjuncts.now) }
-{
-    made.make_room(conjuncts.len())?;
-    for conjunct in conjuncts.iter() {
-        made.push(conjunct.share())?;
-    }
-    Ok(())
-}
-
-/// That the components lie in their declared sets, and the conjuncts.
-fn constraints<'a>(arena: &'a Bump, flat: &Flat<'a>) -> Result<Items<'a, Conjunct<'a>>, AllocError>
-    ensures { IfOk result (λ cs. map conjunct_of cs ≡ spec.constraints (schema_of flat.now)) }
-{
-    let mut made = Items::new(arena);
-    push_all_memberships(arena, flat.components.as_slice(), &mut made)?;
-    push_conjuncts(&flat.conjuncts, &mut made)?;
-    Ok(made)
-}
-
-/// The same, of a schema whose components are at these places.
-fn moved_constraints<'a>(
+/// That the components lie in their declared sets, and the conjuncts, of a schema whose components are at these places.
+fn constraints<'a>(
     arena: &'a Bump,
     flat: &Flat<'a>,
-    places: &Lasting<'a, Items<'a, usize>>,
-) -> Result<Items<'a, Conjunct<'a>>, AllocError>
-    ensures { IfOk result (λ cs. map conjunct_of cs ≡ map (shape.moved (place_in places.now)) (spec.constraints (schema_of flat.now))) }
+    places: &Places<'a>,
+) -> Result<Batches<'a>, AllocError>
+    ensures { IfOk result (λ bs. all_of (map batch_of bs) ≡ map (shape.moved (shape.numbering places.now)) (spec.constraints (schema_of flat.now))) }
 {
-    let all = constraints(arena, flat)?;
-    if are_own(places.get().as_slice()) {
-        return Ok(all);
+    let pieces = flat.conjuncts.pieces()?;
+    let mut batches = Items::with_room(arena, pieces.len().saturating_add(1))?;
+    let mut memberships = Items::new(arena);
+    push_all_memberships(flat.components.as_slice(), &mut memberships)?;
+    push_batch(Shared::new(arena, memberships)?, places, &mut batches)?;
+    for piece in pieces.as_slice() {
+        push_batch(piece.share()?, places, &mut batches)?;
     }
-    let numbering = Some(places.share());
-    numbered(arena, all, &numbering)
+    Shared::new(arena, batches)
 }
 
-/// The conjuncts, with their components numbered anew.
-fn numbered<'a>(
-    arena: &'a Bump,
-    conjuncts: Items<'a, Conjunct<'a>>,
-    places: &Option<Lasting<'a, Items<'a, usize>>>,
-) -> Result<Items<'a, Conjunct<'a>>, AllocError>
-    ensures { IfOk result (λ cs. map conjunct_of cs ≡ map (shape.moved (shape.numbering places.now)) (map conjunct_of conjuncts.entry)) }
+/// Several conjuncts, if there are any, of a schema whose components are at these places.
+fn push_batch<'a>(
+    conjuncts: Piece<'a, Conjunct<'a>>,
+    places: &Places<'a>,
+    batches: &mut Items<'a, Batch<'a>>,
+) -> Result<(), AllocError>
 {
-    let mut made = Items::with_room(arena, conjuncts.len())?;
-    for conjunct in conjuncts.into_vec() {
-        made.push(conjunct.moved(arena, places)?)?;
+    if conjuncts.get().len() == 0 {
+        return Ok(());
     }
-    Ok(made)
+    let places = match places {
+        None => None,
+        Some(places) => Some(places.share()),
+    };
+    batches.push(Batch { conjuncts, places })
 }
 
-/// That one side holds or the other.
-#[tactic(auto, using(zf_term::proofs::ResolvedSeen::seen))]
-fn one_holds<'a>(
+/// Where these components are among the others, if not each at its own place.
+fn other_places<'a>(
     arena: &'a Bump,
-    line: u32,
-    left: &[Conjunct<'a>],
-    right: &[Conjunct<'a>],
-) -> Result<Resolved<'a>, AllocError>
-    ensures { IfOk result (λ t. resolved_of t ≡ one_holds line (map conjunct_of left.now) (map conjunct_of right.now)) }
+    components: &[Component<'a>],
+    among: &[Component<'a>],
+) -> Result<Places<'a>, AllocError>
 {
-    let left = Boxed::new(arena, joined(arena, line, left)?)?;
-    let right = Boxed::new(arena, joined(arena, line, right)?)?;
-    Ok(Resolved::Binary(line, Operator::Connective(Connective::Or), left, right))
+    let places = new_places(arena, components, among)?;
+    if are_own(places.as_slice()) {
+        return Ok(None);
+    }
+    Ok(Some(Lasting::new(arena, places)?))
 }
 
 /// The disjunction, over these components.
@@ -302,12 +206,10 @@ fn disjunction<'a>(
         left.components.as_slice(),
         right.components.as_slice(),
     )?;
-    let places = new_places(arena, right.components.as_slice(), all)?;
-    let places = Lasting::new(arena, places)?;
-    let of_left = constraints(arena, left)?;
-    let of_right = moved_constraints(arena, right, &places)?;
-    let whole = one_holds(arena, line, of_left.as_slice(), of_right.as_slice())?;
-    let conjuncts = Chunked::of(arena, Conjunct::of(arena, whole)?)?;
+    let places = other_places(arena, right.components.as_slice(), all)?;
+    let of_left = constraints(arena, left, &None)?;
+    let of_right = constraints(arena, right, &places)?;
+    let conjuncts = Chunked::of(arena, Conjunct::either(line, of_left, of_right))?;
     Ok(Flat {
         components,
         conjuncts,

@@ -6,15 +6,130 @@ ghost use Rattle.zf_term.specs.ResolvedTrees.{resolved_of};
 use crate::moving::{copy, moved};
 use bumpalo::Bump;
 use std::alloc::AllocError;
-use zf_term::conjunct::Conjunct;
-use zf_term::resolved::Resolved;
+use zf_data::arena::{Boxed, Items};
+use zf_reference::reference::Reference;
+use zf_term::conjunct::{Batch, Conjunct, Places};
+use zf_term::resolved::{Resolved, ResolvedLink};
+use zf_tree::operator::Operator;
+use zf_tree::symbol::{Connective, Constant, Relation};
 
 /// The term, by the places in the schema.
+#[cycle(resolved)]
 pub fn resolved<'a>(conjunct: &Conjunct<'a>, arena: &'a Bump) -> Result<Resolved<'a>, AllocError>
     ensures { IfOk result (λ t. resolved_of t ≡ conjunct_of conjunct.now) }
 {
-    match &conjunct.places {
-        None => copy(conjunct.term.get(), arena),
-        Some(places) => moved(conjunct.term.get(), arena, places.get().as_slice()),
+    match conjunct {
+        Conjunct::Term(term, places) => placed(arena, term.get(), places),
+        Conjunct::Member(place, set, places) => {
+            let set = copy(set.get(), arena)?;
+            let term = membership(arena, *place, set)?;
+            numbered(arena, term, places)
+        }
+        Conjunct::Either(line, left, right, places) => {
+            let left = joined(left.get(), *line, arena)?;
+            let right = joined(right.get(), *line, arena)?;
+            let term = one_holds(arena, *line, left, right)?;
+            numbered(arena, term, places)
+        }
     }
+}
+
+/// A copy of the term, by these places.
+fn placed<'a>(
+    arena: &'a Bump,
+    term: &Resolved<'a>,
+    places: &Places<'a>,
+) -> Result<Resolved<'a>, AllocError> {
+    match places {
+        None => copy(term, arena),
+        Some(places) => moved(term, arena, places.get().as_slice()),
+    }
+}
+
+/// The term, by these places.
+fn numbered<'a>(
+    arena: &'a Bump,
+    term: Resolved<'a>,
+    places: &Places<'a>,
+) -> Result<Resolved<'a>, AllocError> {
+    match places {
+        None => Ok(term),
+        Some(places) => moved(&term, arena, places.get().as_slice()),
+    }
+}
+
+/// That a component lies in a declared set that a declaration names.
+fn membership<'a>(
+    arena: &'a Bump,
+    place: usize,
+    set: Resolved<'a>,
+) -> Result<Resolved<'a>, AllocError> {
+    let first = set.line();
+    let left = Boxed::new(arena, Resolved::Name(first, Reference::Component(place)))?;
+    let links = Items::of(
+        arena,
+        ResolvedLink {
+            relation: Relation::Member,
+            right: set,
+        },
+    )?;
+    Ok(Resolved::Chain(first, left, Boxed::new(arena, links)?))
+}
+
+/// The terms of the conjuncts, joined to the left by `\land`.
+#[cycle(resolved)]
+fn joined<'a>(
+    batches: &Items<'a, Batch<'a>>,
+    line: u32,
+    arena: &'a Bump,
+) -> Result<Resolved<'a>, AllocError> {
+    let mut whole = None;
+    for batch in batches.as_slice() {
+        whole = all_joined(batch, whole, arena)?;
+    }
+    match whole {
+        None => Ok(Resolved::Constant(line, Constant::True)),
+        Some(term) => Ok(term),
+    }
+}
+
+/// What is there, if anything is, and the terms of further conjuncts behind it.
+#[cycle(resolved)]
+fn all_joined<'a>(
+    batch: &Batch<'a>,
+    before: Option<Resolved<'a>>,
+    arena: &'a Bump,
+) -> Result<Option<Resolved<'a>>, AllocError> {
+    let mut whole = before;
+    for conjunct in batch.conjuncts.get().as_slice() {
+        let term = numbered(arena, resolved(conjunct, arena)?, &batch.places)?;
+        whole = Some(both(arena, whole, term)?);
+    }
+    Ok(whole)
+}
+
+fn both<'a>(
+    arena: &'a Bump,
+    before: Option<Resolved<'a>>,
+    right: Resolved<'a>,
+) -> Result<Resolved<'a>, AllocError> {
+    let Some(left) = before else {
+        return Ok(right);
+    };
+    let first = left.line();
+    let left = Boxed::new(arena, left)?;
+    let right = Boxed::new(arena, right)?;
+    Ok(Resolved::Binary(first, Operator::Connective(Connective::And), left, right))
+}
+
+/// That one of the two holds.
+fn one_holds<'a>(
+    arena: &'a Bump,
+    line: u32,
+    left: Resolved<'a>,
+    right: Resolved<'a>,
+) -> Result<Resolved<'a>, AllocError> {
+    let left = Boxed::new(arena, left)?;
+    let right = Boxed::new(arena, right)?;
+    Ok(Resolved::Binary(line, Operator::Connective(Connective::Or), left, right))
 }
