@@ -8,12 +8,12 @@ ghost use Rattle.zf_term.specs.Types.{type_of};
 ghost use Rattle.zf_term.specs.Faults.{too_large};
 ghost use Rattle.zf_term.specs.declared.fault.Limit.TheVariants as limit;
 ghost use Rattle.zf_calculus.specs.Calculus as spec;
-ghost use Rattle.zf_calculus.specs.Calculus.{Agree, comp_named, disjoined, with_comps};
+ghost use Rattle.zf_calculus.specs.Calculus.{Agree, comp_named, disjoined, either_comps, with_comps};
 ghost use Rattle.zf_calculus.specs.Steps.{IsNext, OneClashes, Stops};
 ghost use Rattle.zf_calculus.specs.Growth.{IfStopped, IsGrowing, disjoined_over, either_comp};
 ghost use Rattle.zf_term.specs.Limits.{AreFew, IsTooLarge};
 
-use crate::components::{agree, component_copies, join_all, new_places};
+use crate::components::{agree, new_places};
 use crate::growing::{Growing, are_own};
 use crate::limits::COMPONENTS_MAX;
 use crate::stop::Stop;
@@ -24,24 +24,6 @@ use zf_term::conjunct::{Batch, Batches, Conjunct, Places};
 use zf_term::fault::Limit;
 use zf_term::named::component_of;
 use zf_term::schema::{Component, Domain, Flat, Side};
-
-/// The components of the left side, and those of the right side that are new.
-fn all_components<'a>(
-    arena: &'a Bump,
-    left: &[Component<'a>],
-    right: &[Component<'a>],
-) -> Result<Items<'a, Component<'a>>, Stop<'a>>
-    ensures ok { IfOk result (λ cs. map comp_of cs ≡ with_comps (map comp_of left.now) (map comp_of right.now)) }
-    ensures err { IfErr result (λ e. IfStopped e (λ o. (o ≡ too_large limit.Components) × (AreFew (with_comps (map comp_of left.now) (map comp_of right.now)) → ⊥))) }
-{
-    if left.len() > COMPONENTS_MAX {
-        return Err(Stop::TooLarge(Limit::Components));
-    }
-    let mut all = component_copies(arena, left)?;
-    let further = component_copies(arena, right)?;
-    let _places = join_all(&mut all, arena, further)?;
-    Ok(all)
-}
 
 /// The component of a disjunction: its declared sets on either side.
 fn either<'a>(
@@ -75,7 +57,7 @@ fn sets_on<'a>(
     ensures { IfOk result (λ ds. map set_of ds ≡ spec.sets_on (comp_named component.now.name (map comp_of side.now)) (type_of component.now.ztype)) }
 {
     match component_of(side, component.name.as_slice()) {
-        Some((_, found)) => Shared::new(arena, found.domains.get().flat()?),
+        Some((_, found)) => found.domains.get().piece(),
         None => {
             let carrier = Domain::Carrier(component.ztype.share()?);
             Shared::new(arena, Items::of(arena, carrier)?)
@@ -83,17 +65,37 @@ fn sets_on<'a>(
     }
 }
 
-/// The components of a disjunction, one for each of these.
+/// The components of a disjunction: those of the left side, and those of the right side that are new.
 fn either_all<'a>(
     arena: &'a Bump,
-    components: &[Component<'a>],
+    left: &[Component<'a>],
+    right: &[Component<'a>],
+) -> Result<Items<'a, Component<'a>>, Stop<'a>>
+    ensures ok { IfOk result (λ cs. map comp_of cs ≡ either_comps (map comp_of left.now) (map comp_of right.now)) }
+    ensures err { IfErr result (λ e. IfStopped e (λ o. (o ≡ too_large limit.Components) × (AreFew (with_comps (map comp_of left.now) (map comp_of right.now)) → ⊥))) }
+{
+    let mut made = either_left(arena, left, right)?;
+    for component in right {
+        if component_of(made.as_slice(), component.name.as_slice()).is_none() {
+            if made.len() >= COMPONENTS_MAX {
+                return Err(Stop::TooLarge(Limit::Components));
+            }
+            made.push(either(arena, component, left, right)?)?;
+        }
+    }
+    Ok(made)
+}
+
+/// The components of a disjunction that the left side has.
+fn either_left<'a>(
+    arena: &'a Bump,
     left: &[Component<'a>],
     right: &[Component<'a>],
 ) -> Result<Items<'a, Component<'a>>, AllocError>
-    ensures { IfOk result (λ cs. map comp_of cs ≡ map (either_comp (map comp_of left.now) (map comp_of right.now)) (map comp_of components.now)) }
+    ensures { IfOk result (λ cs. map comp_of cs ≡ map (either_comp (map comp_of left.now) (map comp_of right.now)) (map comp_of left.now)) }
 {
-    let mut made = Items::with_room(arena, components.len())?;
-    for component in components {
+    let mut made = Items::with_room(arena, left.len())?;
+    for component in left {
         made.push(either(arena, component, left, right)?)?;
     }
     Ok(made)
@@ -190,23 +192,17 @@ fn other_places<'a>(
     Ok(Some(Lasting::new(arena, places)?))
 }
 
-/// The disjunction, over these components.
+/// The disjunction, which has these components.
 fn disjunction<'a>(
     arena: &'a Bump,
     line: u32,
     left: &Flat<'a>,
     right: &Flat<'a>,
-    all: &[Component<'a>],
+    components: Items<'a, Component<'a>>,
 ) -> Result<Flat<'a>, AllocError>
-    ensures { IfOk result (λ f. schema_of f ≡ disjoined_over (map comp_of all.now) line (schema_of left.now) (schema_of right.now)) }
+    ensures { IfOk result (λ f. schema_of f ≡ disjoined_over (map comp_of components.entry) line (schema_of left.now) (schema_of right.now)) }
 {
-    let components = either_all(
-        arena,
-        all,
-        left.components.as_slice(),
-        right.components.as_slice(),
-    )?;
-    let places = other_places(arena, right.components.as_slice(), all)?;
+    let places = other_places(arena, right.components.as_slice(), components.as_slice())?;
     let of_left = constraints(arena, left, &None)?;
     let of_right = constraints(arena, right, &places)?;
     let conjuncts = Chunked::of(arena, Conjunct::either(line, of_left, of_right))?;
@@ -229,13 +225,12 @@ pub fn disjoin<'a>(
     ensures err { IfErr result (λ e. IfStopped e (Stops (OneClashes (schema_of left.now).comps (schema_of right.now).comps) (Agree (schema_of left.now).comps (schema_of right.now).comps) (disjoined line (schema_of left.now) (schema_of right.now)))) }
 {
     agree(left.components.as_slice(), right.components.as_slice())?;
-    let all = all_components(
+    let components = either_all(
         arena,
         left.components.as_slice(),
         right.components.as_slice(),
     )?;
-    let flat = disjunction(arena, line, left, right, all.as_slice())?;
-    within(flat)
+    within(disjunction(arena, line, left, right, components)?)
 }
 
 /// The schema, if it is within the limits.

@@ -96,7 +96,8 @@ impl<'a> Growing<'a> {
             nodes: self.nodes_left,
         };
         let mut flat = self.flat;
-        flat.conjuncts.settle();
+        // Where there is no memory for that, the list stays as it is.
+        let _settled = flat.conjuncts.settle();
         Measured::of(flat, left)
     }
 

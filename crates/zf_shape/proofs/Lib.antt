@@ -2,3 +2,4 @@ mod Prelude
 pub mod Nodes
 pub mod Heights
 pub mod SetsCounted
+pub mod Joined

@@ -1,9 +1,9 @@
 //! The nodes and the height of conjuncts.
-ghost use Rattle.std.specs.Prelude.{◌≡◌, ◌+◌, ◌<◌, ◌≤◌, ◌↔◌, IsTrue, MatchOption, map, length};
+ghost use Rattle.std.specs.Prelude.{◌≡◌, ◌+◌, ◌<◌, ◌≤◌, ◌↔◌, ◌^◌, IsTrue, MatchOption, length, map};
 ghost use Rattle.std.specs.List.{sum_by};
 ghost use Rattle.zf_data.specs.Chunks.{all_of};
-ghost use Rattle.zf_shape.specs.Joined as joined;
-ghost use Rattle.zf_term.specs.Definitions.{batch_of, conjunct_of};
+ghost use Rattle.zf_shape.specs.Joined.{AreLow};
+ghost use Rattle.zf_term.specs.Definitions.{batch_of, conjunct_of, joined};
 ghost use Rattle.zf_term.specs.Shapes as spec;
 
 use crate::terms;
@@ -27,13 +27,27 @@ pub fn room_after<'a>(conjunct: &Conjunct<'a>, room: usize) -> Option<usize>
     }
 }
 
-/// The same of terms that are joined: for each but the first there is a node more, and one where there is none.
+/// The same of terms that are joined: between two of them there is a node more, and one where there are none.
 #[cycle(room)]
 fn room_after_joined<'a>(batches: &Items<'a, Batch<'a>>, room: usize) -> Option<usize>
-    ensures { MatchOption result (room < joined.joined_nodes (all_of (map batch_of batches.now))) (λ left. left + joined.joined_nodes (all_of (map batch_of batches.now)) ≡ room) }
+    ensures { MatchOption result (room < spec.nodes (joined 0 (all_of (map batch_of batches.now)))) (λ left. left + spec.nodes (joined 0 (all_of (map batch_of batches.now))) ≡ room) }
 {
-    let left = room.checked_sub(joints(count_of(batches)))?;
-    room_after_batches(batches, left)
+    let rest = room_after_count(batches, room)?;
+    if rest == room {
+        return room.checked_sub(1);
+    }
+    room_after_batches(batches, rest + 1)
+}
+
+/// What is left of room for so many, if there are no more terms.
+fn room_after_count<'a>(batches: &Items<'a, Batch<'a>>, room: usize) -> Option<usize>
+    ensures { MatchOption result (room < length (all_of (map batch_of batches.now))) (λ left. left + length (all_of (map batch_of batches.now)) ≡ room) }
+{
+    let mut left = room;
+    for batch in batches.as_slice() {
+        left = left.checked_sub(batch.conjuncts.get().len())?;
+    }
+    Some(left)
 }
 
 /// The same of all terms.
@@ -60,23 +74,6 @@ fn room_after_all<'a>(conjuncts: &Items<'a, Conjunct<'a>>, room: usize) -> Optio
     Some(left)
 }
 
-/// How many nodes stand beside so many terms that are joined: one between two, and one where there is none.
-fn joints(count: usize) -> usize {
-    match count {
-        0 => 1,
-        _ => count - 1,
-    }
-}
-
-/// How many conjuncts there are.
-fn count_of<'a>(batches: &Items<'a, Batch<'a>>) -> usize {
-    let mut count = 0usize;
-    for batch in batches.as_slice() {
-        count = count.saturating_add(batch.conjuncts.get().len());
-    }
-    count
-}
-
 /// Whether the term is no higher.
 #[cycle(within)]
 pub fn is_within<'a>(conjunct: &Conjunct<'a>, highest: usize) -> bool
@@ -100,35 +97,40 @@ pub fn is_within<'a>(conjunct: &Conjunct<'a>, highest: usize) -> bool
 /// The same of terms that are joined to the left: of n terms the one at place j stands n - max(j, 1) deeper.
 #[cycle(within)]
 fn is_joined_within<'a>(batches: &Items<'a, Batch<'a>>, highest: usize) -> bool
+    ensures { IsTrue result ↔ spec.height (joined 0 (all_of (map batch_of batches.now))) ≤ highest }
 {
-    let count = count_of(batches);
-    if count == 0 {
+    let Some(below) = room_after_count(batches, highest) else {
+        return false;
+    };
+    if below == highest {
         return highest > 0;
     }
-    if count > highest {
-        return false;
-    }
-    are_batches_within(batches, highest - count)
+    are_batches_within(batches, below)
 }
 
+/// Whether none of the terms is higher than so much and its place.
 #[cycle(within)]
 fn are_batches_within<'a>(batches: &Items<'a, Batch<'a>>, below: usize) -> bool
+    requires { below + length (all_of (map batch_of batches.now)) < 2 ^ 64 }
+    ensures { IsTrue result ↔ AreLow below 0 (all_of (map batch_of batches.now)) }
 {
     let mut place = 0usize;
     for batch in batches.as_slice() {
-        let conjuncts = batch.conjuncts.get();
-        if !are_within(conjuncts, place, below) {
+        if !are_within(batch.conjuncts.get(), place, below) {
             return false;
         }
-        place += conjuncts.len();
+        place += batch.conjuncts.get().len();
     }
     true
 }
 
+/// The same of terms from that place on.
 #[cycle(within)]
-fn are_within<'a>(conjuncts: &Items<'a, Conjunct<'a>>, before: usize, below: usize) -> bool
+fn are_within<'a>(conjuncts: &Items<'a, Conjunct<'a>>, first: usize, below: usize) -> bool
+    requires { below + (first + length conjuncts.now) < 2 ^ 64 }
+    ensures { IsTrue result ↔ AreLow below first (map conjunct_of conjuncts.now) }
 {
-    let mut place = before;
+    let mut place = first;
     for conjunct in conjuncts.as_slice() {
         if !is_within(conjunct, below + place.max(1)) {
             return false;

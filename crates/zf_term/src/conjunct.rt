@@ -1,5 +1,5 @@
 //! Conjuncts of schemas.
-ghost use Rattle.std.specs.Prelude.{◌≡◌, ℕ, IfOk};
+ghost use Rattle.std.specs.Prelude.{◌≡◌, ℕ, IfOk, map};
 ghost use Rattle.zf_data.specs.Chunks.{all_of};
 ghost use Rattle.zf_term.specs.Definitions.{batch_of, conjunct_of, is_member, one_holds};
 ghost use Rattle.zf_term.specs.ResolvedTrees.{resolved_of};
@@ -40,7 +40,7 @@ pub type Batches<'a> = Shared<'a, Items<'a, Batch<'a>>>;
 
 impl<'a> Conjunct<'a> {
     /// The predicate, with its components at their own places.
-    #[tactic(auto, using(crate::proofs::ConjunctsSeen::seen))]
+    #[tactic(auto, using(crate::proofs::ConjunctsSeen::own))]
     pub fn of(arena: &'a Bump, term: Resolved<'a>) -> Result<Conjunct<'a>, AllocError>
         ensures { IfOk result (λ c. conjunct_of c ≡ resolved_of term.entry) }
     {
@@ -48,7 +48,7 @@ impl<'a> Conjunct<'a> {
     }
 
     /// The predicate, which stands in an arena, with its components at their own places.
-    #[tactic(auto, using(crate::proofs::ConjunctsSeen::seen))]
+    #[tactic(auto, using(crate::proofs::ConjunctsSeen::own))]
     pub fn lasting(term: &'a Resolved<'a>) -> Conjunct<'a>
         ensures { conjunct_of result ≡ resolved_of term.now }
     {
@@ -56,7 +56,7 @@ impl<'a> Conjunct<'a> {
     }
 
     /// That the component at the place lies in the set.
-    #[tactic(auto, using(crate::proofs::ConjunctsSeen::seen))]
+    #[tactic(auto, using(crate::proofs::ConjunctsSeen::own))]
     pub fn member(place: usize, set: Lasting<'a, Resolved<'a>>) -> Conjunct<'a>
         ensures { conjunct_of result ≡ is_member place (resolved_of set.entry) }
     {
@@ -64,7 +64,7 @@ impl<'a> Conjunct<'a> {
     }
 
     /// That all conjuncts of the left side hold, or all of the right.
-    #[tactic(auto, using(crate::proofs::ConjunctsSeen::seen))]
+    #[tactic(auto, using(crate::proofs::ConjunctsSeen::own))]
     pub fn either(line: u32, left: Batches<'a>, right: Batches<'a>) -> Conjunct<'a>
         ensures { conjunct_of result ≡ one_holds line (all_of (map batch_of left.entry)) (all_of (map batch_of right.entry)) }
     {

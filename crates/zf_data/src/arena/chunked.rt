@@ -163,12 +163,25 @@ impl<'a, T: Drop> Chunked<'a, T> {
         })
     }
 
-    /// The same list. Its last items become a chunk, so that who shares the list copies nothing.
-    pub fn settle(&mut self)
+    /// The list of one item, which stands in a chunk.
+    pub fn one_chunk(arena: &'a Bump, item: T) -> Result<Chunked<'a, T>, AllocError>
+        ensures { IfOk result (λ c. c ≡ item ∷ []) }
+    {
+        let piece = Shared::new(arena, Items::of(arena, item)?)?;
+        let mut chunks = Vec::with_capacity(arena, 1)?;
+        chunks.push_reserved(Chunk::new(piece));
+        Ok(Chunked {
+            chunks: ManuallyDrop::new(chunks),
+            last: Items::new(arena),
+            count: 1,
+        })
+    }
+
+    /// The same list. Its last items become a chunk, so that who shares the list copies none of them.
+    pub fn settle(&mut self) -> Result<(), AllocError>
         ensures { self.new ≡ self.old }
     {
-        // Where there is no memory for that, the list stays as it is.
-        let _settled = seal(&mut self.chunks, &mut self.last);
+        seal(&mut self.chunks, &mut self.last)
     }
 
     /// Adds a chunk.
@@ -196,7 +209,12 @@ fn seal<'a, T: Drop>(
     if last.len() == 0 {
         return Ok(());
     }
-    chunks.reserve(1)?;
+    // Most lists have one chunk: the first gets room for itself alone.
+    if chunks.is_empty() {
+        chunks.reserve_exact(1)?;
+    } else {
+        chunks.reserve(1)?;
+    }
     let arena = last.arena();
     match Shared::new_or_back(arena, mem::replace(last, Items::new(arena))) {
         Ok(piece) => {
@@ -279,11 +297,11 @@ impl<'a, T: Drop + Share> Chunked<'a, T> {
         Ok(same)
     }
 
-    /// The room for the last items, if there are any, and so many more.
+    /// The room for the last items, if there are any, and so many more: at least for one, which most lists gain.
     fn room_beside(&self, spare: usize) -> usize {
         match self.last.len() {
             0 => 0,
-            last => last.saturating_add(spare),
+            last => last.saturating_add(spare.max(1)),
         }
     }
 
@@ -352,15 +370,30 @@ impl<'a, T: Drop + Share> Chunked<'a, T> {
     pub fn pieces(&self) -> Result<Items<'a, Piece<'a, T>>, AllocError>
         ensures { IfOk result (λ pieces. all_of pieces ≡ self.now) }
     {
-        let mut pieces = Items::with_room(self.arena(), self.chunks.len().saturating_add(1))?;
+        let mut pieces = Items::new(self.arena());
+        pieces.make_room(self.chunks.len())?;
         for chunk in self.chunks.as_slice() {
             pieces.push(chunk.piece()?)?;
         }
         if self.last.len() > 0 {
-            let last = copied(self.arena(), self.last.as_slice(), self.last.len())?;
-            pieces.push(Shared::new(self.arena(), last)?)?;
+            pieces.push(copied_piece(&self.last)?)?;
         }
         Ok(pieces)
+    }
+
+    /// The items, as one list that is shared.
+    pub fn piece(&self) -> Result<Piece<'a, T>, AllocError>
+        ensures { IfOk result (λ piece. piece ≡ self.now) }
+    {
+        match self.chunks.as_slice() {
+            [chunk] => {
+                if self.last.len() == 0 {
+                    return chunk.piece();
+                }
+            }
+            _ => {}
+        }
+        Shared::new(self.arena(), self.flat()?)
     }
 
     /// The items, in one piece.
@@ -373,6 +406,14 @@ impl<'a, T: Drop + Share> Chunked<'a, T> {
         }
         Ok(items)
     }
+}
+
+/// The same items, as a list that is shared.
+fn copied_piece<'a, T: Drop + Share>(items: &Items<'a, T>) -> Result<Piece<'a, T>, AllocError>
+    ensures { IfOk result (λ piece. piece ≡ items.now) }
+{
+    let same = copied(items.arena(), items.as_slice(), items.len())?;
+    Shared::new(items.arena(), same)
 }
 
 /// The items of a list in chunks that are still ahead.
