@@ -1,7 +1,6 @@
 -- Each request has an answer: it is refused at a stage, or what is asked for is searched.
-use Rattle.zf_answers.proofs.Prelude.{if◌then◌else◌, ◌++◌, ◌+◌, ◌∙◌, ◌∷◌, ◌≡◌, ◌⊎◌, [], ap, Bool, false, inl, inr, IsTrue, List, None, Option, refl, Some, subst, sym, true, ℕ, none-some, same_Some, AllByRecursion, flat_map, Value, BoxTree, TextFault, ReadsSource, RefusesSource, abbreviation, Comp, constructor, Defined, Definition, free_type, given_set, Schema, schema, sets_of, Fault, first, finite_without_cause, causes, NotFinite, one_bounds, Environment, AreComplete, given_sets, spellings, Portion, portion, IsNoneOut, Job, Check, Show, IsBelow, binding_line, Status, BadRequest, BadSpec, PastBounds, some_search, some_tests_line, Answer, AreHeld, check_status, check_text, Checks, HasSchema, IsAsked, IsLimited, IsNamed, IsNamedRow, IsSearch, JobAnswer, Request, request, ShowAnswer, size_fault_line, stated, wants_details, declared_out_line, no_schema_line, not_a_binding_line, not_finite_lines, not_held_line, text_fault_lines, type_fault_lines, EveryRequestIsAnswered, EverySourceIsRead}
+use Rattle.zf_answers.proofs.Prelude.{if◌then◌else◌, ◌++◌, ◌+◌, ◌∙◌, ◌∷◌, ◌≡◌, ◌⊎◌, [], ap, Bool, false, inl, inr, IsTrue, List, None, Option, refl, Some, subst, sym, true, ℕ, none-some, same_Some, AllByRecursion, flat_map, Value, BoxTree, TextFault, ReadsSource, RefusesSource, abbreviation, Comp, constructor, Defined, Definition, free_type, given_set, Schema, schema, sets_of, Fault, first, finite_without_cause, causes, NotFinite, one_bounds, Environment, AreComplete, given_sets, spellings, Portion, portion, IsNoneOut, Job, Check, Show, HasLimit, IsBelow, binding_line, Status, BadRequest, BadSpec, PastBounds, some_search, some_tests_line, Answer, AreHeld, check_status, check_text, Checks, HasSchema, IsAsked, IsLimited, IsNamed, IsNamedRow, IsSearch, JobAnswer, Request, ShowAnswer, size_fault_line, stated, wants_details, declared_out_line, no_schema_line, not_a_binding_line, not_finite_lines, not_held_line, text_fault_lines, type_fault_lines, EveryRequestIsAnswered, EverySourceIsRead}
 use Rattle.std.specs.Str.{bytes_eq}
-use Rattle.zf_command.specs.declared.job.Size as command
 use Rattle.zf_term.specs.FirstNamed.{first_named, later}
 use Rattle.zf_term.proofs.SameNames.{is_same}
 use Rattle.zf_answers.proofs.HeldLines.{every_held_line_is_judged}
@@ -111,15 +110,14 @@ module _ (r : Request) (file source : List ℕ) (limited : IsBelow r.limit 0) wh
 
 -- ---- answers of a job
 
-limited_of : (name : List ℕ) (sizes : List command.Size) (after held : Option (List ℕ)) (limit : Option ℕ) (tests details : Bool) → IsLimited (Show name sizes after held limit tests details) → IsBelow limit 0
-limited_of name sizes after held None tests details h = tt
-limited_of name sizes after held (Some limit) tests details h = h
+limited_of : (limit : Option ℕ) → HasLimit limit → IsBelow limit 0
+limited_of None h = tt
+limited_of (Some limit) h = h
 
 some_of_job : (job : Job) (file source : List ℕ) → IsLimited job → (g : List Defined) (faults : List Fault) → Checks source g faults
     → (text : List ℕ) × (status : Status) × JobAnswer job file source text status
 some_of_job (Check types details) file source limited g faults checks = (check_text types details file g faults, check_status faults, (g, faults, checks, refl, refl))
-some_of_job (Show name sizes after held limit tests details) file source limited g faults checks =
-    some_at_types (request name sizes after held limit tests details) file source (limited_of name sizes after held limit tests details limited) g faults checks
+some_of_job (Show r) file source limited g faults checks = some_at_types r file source (limited_of r.limit limited) g faults checks
 
 pub every_request_is_answered : EverySourceIsRead → EveryRequestIsAnswered
 every_request_is_answered every_source job file source limited = by (every_source source)

@@ -1,5 +1,5 @@
 -- Two answers of one job on one source have one status, and one text but for what is left open.
-use Rattle.zf_answers.proofs.Prelude.{if◌then◌else◌, ◌++◌, ◌∙◌, ◌∷◌, ◌≡◌, [], ap, Bool, inl, inr, List, None, Option, Some, subst, sym, ℕ, same_Some, flat_map, slice_get, Value, Comp, Defined, Schema, Fault, Environment, IsEnvironment, AreComplete, given_sets, Portion, portion, Job, Check, Show, Status, Answer, AreHeld, check_status, check_text, CheckAnswer, Checks, HoldsNoValues, IsNamedRow, JobAnswer, NamesNoRow, Request, request, size_fault_line, stated, UnreadAnswer, wants_details, declared_out_line, not_finite_lines, type_fault_lines, AreAlike, AreOfSame, OneStatus, OneText}
+use Rattle.zf_answers.proofs.Prelude.{if◌then◌else◌, ◌++◌, ◌∙◌, ◌∷◌, ◌≡◌, [], ap, Bool, inl, inr, List, None, Option, Some, subst, sym, ℕ, same_Some, flat_map, slice_get, Value, Comp, Defined, Schema, Fault, Environment, IsEnvironment, AreComplete, given_sets, Portion, portion, Job, Check, Show, Status, Answer, AreHeld, check_status, check_text, CheckAnswer, Checks, HoldsNoValues, IsNamedRow, JobAnswer, NamesNoRow, Request, size_fault_line, stated, UnreadAnswer, wants_details, declared_out_line, not_finite_lines, type_fault_lines, AreAlike, AreOfSame, OneStatus, OneText}
 use Rattle.std.proofs.lemmas.List.{append-nil}
 use Rattle.zf_schema.specs.Listing.{listing}
 use Rattle.zf_answers.proofs.OneSource.{none_and_some, one_checked, one_named, one_refused, some_and_none, unread}
@@ -111,10 +111,10 @@ one_check_answer types details file source one two s t (g, es, p, told, done) (h
 -- what is read is not refused
 read_unread : (job : Job) (file source one two : List ℕ) (s t : Status) → UnreadAnswer (wants_details job) file source one s → JobAnswer job file source two t → ⊥
 read_unread (Check types details) file source one two s t (fault, symbol, refused, told, bad) (g, es, p, other_told, done) = unread source fault p.boxes refused p.reads
-read_unread (Show name sizes after held limit tests details) file source one two s t (fault, symbol, refused, told, bad) answer =
-    go (staged (request name sizes after held limit tests details) file source two t answer)
+read_unread (Show r) file source one two s t (fault, symbol, refused, told, bad) answer =
+    go (staged r file source two t answer)
   where
-    go : AtTypes (request name sizes after held limit tests details) file source two t → ⊥
+    go : AtTypes r file source two t → ⊥
     go (inl x) = let checks = x.checks in unread source fault checks.boxes refused checks.reads
     go (inr x) = let checks = x.1 in unread source fault checks.boxes refused checks.reads
 
@@ -124,8 +124,7 @@ one_unread details file source one two s t (e, x, refused, told, bad) (f, y, oth
 
 one_job_answer : (job : Job) (file source one two : List ℕ) (s t : Status) → JobAnswer job file source one s → JobAnswer job file source two t → IsOne (wants_details job) file source one two s t
 one_job_answer (Check types details) file source one two s t x y = one_check_answer types details file source one two s t x y
-one_job_answer (Show name sizes after held limit tests details) file source one two s t x y =
-    let r = request name sizes after held limit tests details in
+one_job_answer (Show r) file source one two s t x y =
     one_at_types r file source one two s t (staged r file source one s x) (staged r file source two t y)
 
 pub one_answer : (job : Job) (file source one two : List ℕ) (s t : Status) → Answer job file source one s → Answer job file source two t → IsOne (wants_details job) file source one two s t

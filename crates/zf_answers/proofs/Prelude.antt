@@ -53,14 +53,16 @@ pub use Rattle.zf_enum.specs.Property.{HasTruth, property}
 pub use Rattle.zf_enum.specs.Ranges.{IsFirstOut, IsNoneOut}
 pub use Rattle.zf_command.specs.declared.job.Job.{Job}
 pub use Rattle.zf_command.specs.declared.job.Job.TheVariants.{Check, Show}
+pub use Rattle.zf_command.specs.declared.job.Request.{Request}
 pub use Rattle.zf_lines.specs.Faults.{IsFront}
 pub use Rattle.zf_lines.specs.Searches.{AreEventsUpTo, HasEvents, Hold, IsBegun, IsBelow, IsTestsLine, IsWithin, IsWritten, lines, out_line}
+pub use Rattle.zf_lines.specs.Shown.{HasLimit}
 pub use Rattle.zf_lines.specs.Texts.{binding_line, tests_line}
 pub use Rattle.zf_lines.specs.declared.fault.Status.{Status}
 pub use Rattle.zf_lines.specs.declared.fault.Status.TheVariants.{BadRequest, BadSpec, PastBounds}
 pub use Rattle.zf_found.proofs.Rows.{AreTold, one_truth_of}
 pub use Rattle.zf_found.proofs.Searches.{property_told, some_search, some_tests_line}
-pub use Rattle.zf_engine.specs.Answers.{Answer, AreHeld, check_status, check_text, CheckAnswer, Checks, HasSchema, HoldsNoValues, IsAsked, IsLimited, IsLineOf, IsNamed, IsNamedRow, IsSearch, JobAnswer, JobBegins, NamesNoRow, Request, request, ShowAnswer, ShowBegins, size_fault_line, stated, UnreadAnswer, wants_details}
+pub use Rattle.zf_engine.specs.Answers.{Answer, AreHeld, check_status, check_text, CheckAnswer, Checks, HasSchema, HoldsNoValues, IsAsked, IsLimited, IsLineOf, IsNamed, IsNamedRow, IsSearch, JobAnswer, JobBegins, NamesNoRow, ShowAnswer, ShowBegins, size_fault_line, stated, UnreadAnswer, wants_details}
 pub use Rattle.zf_engine.specs.Details.{not_finite_lines, text_fault_lines, type_fault_lines}
 pub use Rattle.zf_engine.specs.Texts.{declared_out_line, no_schema_line, not_a_binding_line, not_held_line}
 pub use Rattle.zf_answers.specs.Bindings.{EndsLines, IsBefore, IsBinding, IsInDoubt, IsNotPast, ShowsBindings}

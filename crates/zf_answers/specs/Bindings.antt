@@ -18,7 +18,7 @@ use Rattle.zf_lines.specs.declared.fault.Status.{Status}
 use Rattle.zf_lines.specs.declared.fault.Status.TheVariants.{Done, PastBounds}
 use Rattle.zf_lines.specs.Searches.{IsBelow, IsTestsLine, out_line}
 use Rattle.zf_lines.specs.Texts.{binding_line}
-use Rattle.zf_engine.specs.Answers.{Request}
+use Rattle.zf_command.specs.declared.job.Request.{Request}
 
 -- ---- rows
 

@@ -23,7 +23,8 @@ use Rattle.zf_texts.specs.Spellings.{spellings}
 use Rattle.zf_lines.specs.declared.fault.Status.{Status}
 use Rattle.zf_lines.specs.Searches.{HasEvents, IsTestsLine, IsWritten}
 use Rattle.zf_lines.specs.Texts.{binding_line}
-use Rattle.zf_engine.specs.Answers.{Answer, AreHeld, Checks, HasSchema, HoldsNoValues, IsLimited, IsNamedRow, NamesNoRow, Request, stated, wants_details}
+use Rattle.zf_command.specs.declared.job.Request.{Request}
+use Rattle.zf_engine.specs.Answers.{Answer, AreHeld, Checks, HasSchema, HoldsNoValues, IsLimited, IsNamedRow, NamesNoRow, stated, wants_details}
 use Rattle.zf_engine.specs.Details.{text_fault_lines, type_fault_lines}
 use Rattle.zf_engine.specs.Texts.{not_a_binding_line, not_held_line}
 use Rattle.zf_answers.specs.Bindings.{ShowsBindings}
@@ -32,7 +33,7 @@ use Rattle.zf_answers.specs.Bindings.{ShowsBindings}
 
 -- the text and the status answer the request
 abbrev pub AnswersRequest : Request → (file source text : List ℕ) → Status → Type 0
-AnswersRequest r file source text status = Answer (Show r.name r.sizes r.after r.held r.limit r.tests r.details) file source text status
+AnswersRequest r file source text status = Answer (Show r) file source text status
 
 -- Nothing stands in the way of the request: a tree reads the source, it is well typed and this is its schema of the name, the sizes fit and this is the
 -- environment at them, the schema is finite, the named row is this row of the schema's types, if one is named, these values are held, if a line of some

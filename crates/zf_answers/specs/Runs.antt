@@ -11,7 +11,8 @@ use Rattle.zf_texts.specs.Spellings.{spellings}
 use Rattle.zf_lines.specs.declared.fault.Status.{Status}
 use Rattle.zf_lines.specs.Faults.{IsFront}
 use Rattle.zf_lines.specs.Texts.{binding_line}
-use Rattle.zf_engine.specs.Answers.{Answer, IsLimited, IsPartOfAnswer, Request, ShowBegins}
+use Rattle.zf_command.specs.declared.job.Request.{Request}
+use Rattle.zf_engine.specs.Answers.{Answer, IsLimited, IsPartOfAnswer, ShowBegins}
 use Rattle.zf_answers.specs.Bindings.{ShowsBindings}
 use Rattle.zf_answers.specs.Laws.{AnswersRequest, IsGranted}
 

@@ -2,6 +2,7 @@
 mod answers;
 mod calls;
 mod captures;
+mod chunks;
 mod finiteness;
 mod fronts;
 mod program;

@@ -19,10 +19,10 @@ no_bad_limit (Some digits) (Some n) bad is = bad n is
 
 not_both : (name : Text) (rows : List Row) (job : Job) → Refuses name rows → IsJob name rows job → ⊥
 not_both name rows (Check types details) (other, bad) (is, typed, detailed) = other is
-not_both name rows (Show schema sizes after held limit tests details) (other, inl (word, among, bad)) (named, is, read, asked, held_so, bound, flagged, detailed) =
-    let size = size_of (values_of (codes "NAME=SIZE") rows) sizes word read among in bad size.0 size.1
-not_both name rows (Show schema sizes after held limit tests details) (other, inr bad) (named, is, read, asked, held_so, bound, flagged, detailed) =
-    no_bad_limit (first_of (codes "limit") rows) limit bad bound
+not_both name rows (Show r) (other, inl (word, among, bad)) (named, is, read, asked, held_so, bound, flagged, detailed) =
+    let size = size_of (values_of (codes "NAME=SIZE") rows) r.sizes word read among in bad size.0 size.1
+not_both name rows (Show r) (other, inr bad) (named, is, read, asked, held_so, bound, flagged, detailed) =
+    no_bad_limit (first_of (codes "limit") rows) r.limit bad bound
 
 pub refused_ask_no_work : (words : List Text) (file : Text) (job : Job) → IsRefused words → IsAsked words (Work file job) → ⊥
 refused_ask_no_work words file job (inl (cause, among, memory, help, version)) (name, rows, are, asks) = subst (IsAmong cause) are.0 among

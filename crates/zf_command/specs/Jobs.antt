@@ -64,10 +64,10 @@ HasBadLimit (Some digits) = IsBadLimit digits
 -- the job is `check` where the subcommand has this name, else `show`, read from the matches of its arguments
 abbrev pub IsJob : Text → List Row → Job → Type 0
 IsJob name rows (Check types details) = (name ≡ codes "check") × (types ≡ is_flagged (codes "types") rows) × (details ≡ is_flagged (codes "details") rows)
-IsJob name rows (Show schema sizes after held limit tests details) =
-    (name ≢ codes "check") × (schema ≡ value_of (codes "SCHEMA") rows) × AllZip ReadsSize (values_of (codes "NAME=SIZE") rows) sizes
-    × (after ≡ first_of (codes "after") rows) × (held ≡ first_of (codes "with") rows) × IsLimit (first_of (codes "limit") rows) limit × (tests ≡ is_flagged (codes "tests") rows)
-    × (details ≡ is_flagged (codes "details") rows)
+IsJob name rows (Show r) =
+    (name ≢ codes "check") × (r.name ≡ value_of (codes "SCHEMA") rows) × AllZip ReadsSize (values_of (codes "NAME=SIZE") rows) r.sizes
+    × (r.after ≡ first_of (codes "after") rows) × (r.held ≡ first_of (codes "with") rows) × IsLimit (first_of (codes "limit") rows) r.limit
+    × (r.tests ≡ is_flagged (codes "tests") rows) × (r.details ≡ is_flagged (codes "details") rows)
 
 -- the matches of the subcommand of this name ask for the work
 abbrev pub Asks : Text → List Row → Asked → Type 0

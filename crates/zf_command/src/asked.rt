@@ -6,7 +6,7 @@ ghost use Rattle.zf_command.specs.Jobs.{IsAsked, IsRefused, IsJob, IsLimit, Asks
 ghost use Rattle.zf_command.specs.declared.job.UsageFault.TheVariants.{BadWords};
 
 use crate::command::zf;
-use crate::job::{Asked, Job, Size, UsageFault};
+use crate::job::{Asked, Job, Request, Size, UsageFault};
 use crate::limit::limit_of;
 use crate::matches::{all_in, first_in, is_flagged, option_in, value_in};
 use crate::sizes::sizes_of;
@@ -61,22 +61,22 @@ fn job_in(alloc: Global, name: &str, matches: &ArgMatches<'_>) -> Result<Job, Us
         let details = is_flagged(matches, "details");
         return Ok(Job::Check { types, details });
     }
-    let schema = value_in(alloc, matches, "SCHEMA")?;
+    let name = value_in(alloc, matches, "SCHEMA")?;
     let sizes = sizes_in(alloc, matches)?;
     let after = option_in(alloc, matches, "after")?;
     let held = option_in(alloc, matches, "with")?;
     let limit = limit_in(matches)?;
     let tests = is_flagged(matches, "tests");
     let details = is_flagged(matches, "details");
-    Ok(Job::Show {
-        schema,
+    Ok(Job::Show(Request {
+        name,
         sizes,
         after,
         held,
         limit,
         tests,
         details,
-    })
+    }))
 }
 
 fn sizes_in(alloc: Global, matches: &ArgMatches<'_>) -> Result<Items<Size>, UsageFault>

@@ -12,27 +12,33 @@ pub struct Size {
     pub count: u64,
 }
 
+/// What `show` is asked for.
+#[derive(Drop)]
+pub struct Request {
+    /// The name of the schema.
+    pub name: Word,
+    /// The sizes of the given sets.
+    pub sizes: Items<Size>,
+    /// The line of the binding after which it begins.
+    pub after: Option<Word>,
+    /// The line of some components, whose values are held.
+    pub held: Option<Word>,
+    /// How many bindings it writes at most.
+    pub limit: Option<u64>,
+    /// Whether it tells the number of tests.
+    pub tests: bool,
+    /// Whether it tells what faults are about.
+    pub details: bool,
+}
+
 /// What is asked of a file.
 #[derive(Drop)]
 pub enum Job {
     /// The faults; if `details`, with lines that say what each is about; then, if `types`, what is defined, with its
     /// types.
-    Check {
-        types: bool,
-        details: bool,
-    },
-    /// The bindings of the schema, where the given sets have these sizes: those that come after the named one and
-    /// have the values that are held, at most as many as the limit says; then, if `tests`, how many tests were
-    /// finished. Faults come with lines that say what each is about, if `details`.
-    Show {
-        schema: Word,
-        sizes: Items<Size>,
-        after: Option<Word>,
-        held: Option<Word>,
-        limit: Option<u64>,
-        tests: bool,
-        details: bool,
-    },
+    Check { types: bool, details: bool },
+    /// The bindings of a schema.
+    Show(Request),
 }
 
 /// What the words of a command line ask for.

@@ -1,9 +1,8 @@
 -- How the parts of an answer that are written come together.
-use Rattle.zf_engine.proofs.Prelude.{◌++◌, ◌∙◌, ◌∷◌, ◌≡◌, ◌⊎◌, [], ap, append-nil, Bool, Err, false, IfOk, inl, inr, List, Ok, OnErr, Option, refl, Result, subst, sym, true, ℕ, Appends-kept, Appends-nil, false≢true, Appends, Keeps, Stage, Value, Schema, Environment, spellings, Spelling, Portion, property, Goal, Status, Answer, AnswersReader, AnswersSource, AreHeld, IsAsked, IsNamedRow, IsSearch, Request, ShowAnswer, ShowBegins, StopsInReader, StopsInSource, AnswersRequest, IfAnswered, Shows, Tells, Stop, Answered, OutOfMemory}
+use Rattle.zf_engine.proofs.Prelude.{◌++◌, ◌∙◌, ◌∷◌, ◌≡◌, ◌⊎◌, [], append-nil, Bool, Err, false, IfOk, inl, inr, List, Ok, OnErr, Option, refl, Result, subst, sym, true, ℕ, Appends-kept, Appends-nil, false≢true, Appends, Keeps, Stage, Value, Schema, Environment, spellings, Spelling, Portion, property, Goal, Status, Answer, AnswersReader, AnswersSource, AreHeld, IsAsked, IsNamedRow, IsSearch, Request, ShowAnswer, ShowBegins, StopsInReader, StopsInSource, AnswersRequest, IfAnswered, Shows, Tells, Stop, Answered, OutOfMemory}
 use Rattle.std.specs.Result.{IsErr}
 use Rattle.zf_command.specs.declared.job.Job.{Job}
 use Rattle.zf_command.specs.declared.job.Job.TheVariants.{Show}
-use Rattle.zf_command.specs.declared.job.Size.{Size}
 use Rattle.zf_value.specs.Sets.{value_order}
 use Rattle.zf_enum.specs.Starts.{Begins}
 use Rattle.zf_lines.specs.declared.fault.RunFault.{RunFault}
@@ -20,7 +19,7 @@ use Rattle.zf_lines.specs.Texts.{binding_line}
 pub told : (r : Request) (file source : List ℕ) (stop : Stop) (a b : Option (List ℕ)) (result : Result Status RunFault) → AnswersRequest r file source stop → Tells stop a b result
     → Shows r file source a b result
 told r file source (Answered text status) a b (Ok given) answer (same, written) =
-    (text.items, subst (λ s. Answer (Show r.name r.sizes r.after r.held r.limit r.tests r.details) file source text.items s) same answer, written)
+    (text.items, subst (λ s. Answer (Show r) file source text.items s) same answer, written)
 told r file source (Answered text status) a b (Err fault) answer (f, front, written) = (f, inr (inl (text.items, status, answer, front)), written)
 told r file source OutOfMemory a b (Ok given) answer h = absurd h
 told r file source OutOfMemory a b (Err fault) answer h = ([], inl refl, h)
@@ -50,23 +49,17 @@ stopped r file source a (Ok status) h = absurd (false≢true h)
 stopped r file source a (Err fault) h = ([], inl refl, Appends-nil a)
 
 -- what is shown for the request is the job's
-pub shows_ok : (r : Request) (job : Job) (file bytes source : List ℕ) (a b : Option (List ℕ)) (result : Result Status RunFault) → job ≡ Show r.name r.sizes r.after r.held r.limit r.tests r.details → bytes ≡ file
+pub shows_ok : (r : Request) (job : Job) (file bytes source : List ℕ) (a b : Option (List ℕ)) (result : Result Status RunFault) → job ≡ Show r → bytes ≡ file
     → Shows r bytes source a b result → IfOk result (λ status. AnswersSource job file source a b status)
 shows_ok r job file bytes source a b (Ok status) same is h =
-    subst (λ j. AnswersSource j file source a b status) (sym same) (subst (λ n. AnswersSource (Show r.name r.sizes r.after r.held r.limit r.tests r.details) n source a b status) is h)
+    subst (λ j. AnswersSource j file source a b status) (sym same) (subst (λ n. AnswersSource (Show r) n source a b status) is h)
 shows_ok r job file bytes source a b (Err fault) same is h = tt
 
-pub shows_err : (r : Request) (job : Job) (file bytes source : List ℕ) (a b : Option (List ℕ)) (result : Result Status RunFault) → job ≡ Show r.name r.sizes r.after r.held r.limit r.tests r.details → bytes ≡ file
+pub shows_err : (r : Request) (job : Job) (file bytes source : List ℕ) (a b : Option (List ℕ)) (result : Result Status RunFault) → job ≡ Show r → bytes ≡ file
     → Shows r bytes source a b result → OnErr result (StopsInSource job file source a b)
 shows_err r job file bytes source a b (Ok status) same is h = tt
 shows_err r job file bytes source a b (Err fault) same is h =
-    subst (λ j. StopsInSource j file source a b) (sym same) (subst (λ n. StopsInSource (Show r.name r.sizes r.after r.held r.limit r.tests r.details) n source a b) is h)
-
-pub same_job : {job : Job} {name given : List ℕ} {sizes stated : List Size} {after text : Option (List ℕ)} {held values : Option (List ℕ)} {limit : Option ℕ} {tests details : Bool} → given ≡ name → stated ≡ sizes → text ≡ after
-    → values ≡ held → job ≡ Show name sizes after held limit tests details → job ≡ Show given stated text values limit tests details
-same_job {job} {name} {given} {sizes} {stated} {after} {text} {held} {values} {limit} {tests} {details} e f g k h =
-    h ∙ ap (λ n. Show n sizes after held limit tests details) (sym e) ∙ ap (λ s. Show given s after held limit tests details) (sym f)
-    ∙ ap (λ t. Show given stated t held limit tests details) (sym g) ∙ ap (λ v. Show given stated text v limit tests details) (sym k)
+    subst (λ j. StopsInSource j file source a b) (sym same) (subst (λ n. StopsInSource (Show r) n source a b) is h)
 
 -- ---- the lines of a search
 
@@ -109,7 +102,7 @@ module _ (r : Request) (file source : List ℕ) (a : Schema) (g : Goal) (b : Sta
       inr (ShowBegins.bindings e.globals a e p last events search_of (listed last events some) (subst (λ k. IsBegun (binding_line k a.comps) r.limit events last text) spelled begun))
 
   stops_early : (text : List ℕ) (old new : Option (List ℕ)) → (text ≡ []) ⊎ ShowBegins r source text → AppendsFront old new text
-      → StopsInSource (Show r.name r.sizes r.after r.held r.limit r.tests r.details) file source old new
+      → StopsInSource (Show r) file source old new
   stops_early text old new (inl none) (f, (rest, split), written) = (f, inl (nothing f rest (sym split ∙ none)), written) where
     nothing : (xs ys : List ℕ) → xs ++ ys ≡ [] → xs ≡ []
     nothing [] ys k = refl

@@ -29,11 +29,12 @@ pub use Rattle.zf_texts.specs.declared.spelling.Spelling.{Spelling}
 pub use Rattle.zf_enum.specs.Portions.{Portion, portion}
 pub use Rattle.zf_enum.specs.Property.{due, due_of, greatest_place, place_named, property}
 pub use Rattle.zf_enum.specs.Searches.{counted_goal, Goal, planted_goal}
+pub use Rattle.zf_command.specs.declared.job.Request.{Request}
 pub use Rattle.zf_lines.proofs.Beginning.{at_start, counting_at_start}
 pub use Rattle.zf_lines.specs.declared.fault.Status.{Status}
-pub use Rattle.zf_engine.specs.Answers.{Answer, AnswersReader, AnswersSource, AreHeld, Checks, HasSchema, IsAsked, IsNamed, IsNamedRow, IsSearch, Request, ShowAnswer, ShowBegins, stated, stated_size, StopsInReader, StopsInSource, UnreadAnswer}
+pub use Rattle.zf_engine.specs.Answers.{Answer, AnswersReader, AnswersSource, AreHeld, Checks, HasSchema, IsAsked, IsNamed, IsNamedRow, IsSearch, ShowAnswer, ShowBegins, stated, stated_size, StopsInReader, StopsInSource, UnreadAnswer}
 pub use Rattle.zf_engine.specs.Statuses.{IsStatus, IsStatusOfRefused, IsWorkStatus}
-pub use Rattle.zf_engine.specs.Stops.{AnswersOver, AnswersRequest, AnswersShow, IfAnswered, IsFaultLine, request_of, Shows, Tells, TellsInfinite, TellsMisfit, TellsNoRow, TellsNoValues, TellsOut, TellsPlace, TellsPlaceHeld}
+pub use Rattle.zf_engine.specs.Stops.{AnswersOver, AnswersRequest, AnswersShow, IfAnswered, IsFaultLine, Shows, Tells, TellsInfinite, TellsMisfit, TellsNoRow, TellsNoValues, TellsOut, TellsPlace, TellsPlaceHeld}
 pub use Rattle.zf_engine.specs.Details.{type_fault_lines}
 pub use Rattle.zf_engine.specs.Texts.{declared_out_line, no_schema_line}
 pub use Rattle.zf_engine.specs.declared.stop.Stop.{Stop}

@@ -1,9 +1,10 @@
 -- What a run writes and answers, by the first case that applies.
-use Rattle.std.specs.Prelude.{◌≡◌, ◌≢◌, ◌⊎◌, ℕ, ◌<◌, Bool, if◌then◌else◌, List, [], ◌∷◌, ◌++◌, map, Option, Some, None, IsSomeAnd, slice_get}
+use Rattle.std.specs.Prelude.{◌≡◌, ◌≢◌, ◌⊎◌, ℕ, Bool, if◌then◌else◌, List, [], ◌∷◌, ◌++◌, map, Option, Some, None, IsSomeAnd, slice_get}
 use Rattle.std.specs.List.{flat_map}
 use Rattle.std.specs.Io.KnownBytes.{Appends}
 use Rattle.zf_command.specs.declared.job.Job.{Job}
 use Rattle.zf_command.specs.declared.job.Job.TheVariants.{Check, Show}
+use Rattle.zf_command.specs.declared.job.Request.{Request}
 use Rattle.zf_command.specs.declared.job.Size as command
 use Rattle.zf_schema.specs.Checking.{IsChecked}
 use Rattle.zf_schema.specs.Listing.{listing}
@@ -36,6 +37,7 @@ use Rattle.zf_lines.specs.Faults.{IsFront}
 use Rattle.zf_lines.specs.Texts.{binding_line}
 use Rattle.zf_engine.specs.Faults.{Gave}
 use Rattle.zf_lines.specs.Searches.{HasEvents, IsTestsLine, IsWritten, IsBegun}
+use Rattle.zf_lines.specs.Shown.{HasLimit}
 use Rattle.zf_engine.specs.Details.{text_fault_lines, type_fault_lines, not_finite_lines}
 use Rattle.zf_engine.specs.Texts.{no_schema_line, no_size_line, not_given_line, size_twice_line, size_too_large_line, not_a_binding_line, not_held_line, declared_out_line}
 
@@ -71,15 +73,6 @@ CheckAnswer types details file source text status =
     (globals : List Defined) × (faults : List Fault) × Checks source globals faults × (text ≡ check_text types details file globals faults) × (status ≡ check_status faults)
 
 -- ---- what `show` is asked for
-
-pub record Request : Type 0 where
-  pub name : List ℕ
-  pub sizes : List command.Size
-  pub after : Option (List ℕ)
-  pub held : Option (List ℕ)
-  pub limit : Option ℕ
-  pub tests : Bool
-  pub details : Bool
 
 abbrev pub stated_size : command.Size → Size
 stated_size s = record { name = s.name; count = s.count }
@@ -167,26 +160,21 @@ pub data ShowBegins (r : Request) (source text : List ℕ) : Type 0 where
 -- a limit is at least 1
 abbrev pub IsLimited : Job → Type 0
 IsLimited (Check types details) = Unit {0}
-IsLimited (Show name sizes after held None tests details) = Unit {0}
-IsLimited (Show name sizes after held (Some limit) tests details) = 0 < limit
+IsLimited (Show r) = HasLimit r.limit
 
 -- whether it is asked what faults are about
 abbrev pub wants_details : Job → Bool
 wants_details (Check types details) = details
-wants_details (Show name sizes after held limit tests details) = details
+wants_details (Show r) = r.details
 
 -- the answer for a source with a fault of its text. Which fault of the grammar is told, on which line, and which symbol any fault is about, is open.
 abbrev pub UnreadAnswer : (details : Bool) → (file source text : List ℕ) → Status → Type 0
 UnreadAnswer details file source text status =
     (fault : TextFault) × (symbol : List ℕ) × RefusesSource source fault × (text ≡ text_fault_lines details file fault symbol) × (status ≡ BadSpec)
 
-abbrev pub request : List ℕ → List command.Size → (after held : Option (List ℕ)) → Option ℕ → (tests details : Bool) → Request
-request name sizes after held limit tests details =
-    record { name = name; sizes = sizes; after = after; held = held; limit = limit; tests = tests; details = details }
-
 abbrev pub JobAnswer : Job → (file source text : List ℕ) → Status → Type 0
 JobAnswer (Check types details) file source text status = CheckAnswer types details file source text status
-JobAnswer (Show name sizes after held limit tests details) file source text status = ShowAnswer (request name sizes after held limit tests details) file source text status
+JobAnswer (Show r) file source text status = ShowAnswer r file source text status
 
 -- the text and the status that answer a job on a source
 abbrev pub Answer : Job → (file source text : List ℕ) → Status → Type 0
@@ -195,7 +183,7 @@ Answer job file source text status = UnreadAnswer (wants_details job) file sourc
 -- the text is what an answer begins with, whatever follows
 abbrev pub JobBegins : Job → (source text : List ℕ) → Type 0
 JobBegins (Check types details) source text = ⊥
-JobBegins (Show name sizes after held limit tests details) source text = ShowBegins (request name sizes after held limit tests details) source text
+JobBegins (Show r) source text = ShowBegins r source text
 
 -- ---- what a run leaves
 

@@ -1,5 +1,5 @@
 -- What the steps of an answer ensure. No public clause rests on this file.
-use Rattle.std.specs.Prelude.{◌≡◌, ◌≢◌, ℕ, Bool, List, [], Option, Some, Result, Ok, Err, option_map, slice_get}
+use Rattle.std.specs.Prelude.{◌≡◌, ◌≢◌, ℕ, Bool, List, [], Option, Some, Result, Ok, Err, slice_get}
 use Rattle.std.specs.Io.KnownBytes.{Appends}
 use Rattle.zf_command.specs.declared.job.Job.TheVariants.{Show}
 use Rattle.zf_finite.specs.declared.not_finite.NotFinite.{NotFinite}
@@ -17,10 +17,10 @@ use Rattle.zf_enum.specs.Ranges.{IsFirstOut}
 use Rattle.zf_lines.specs.declared.fault.RunFault.{RunFault}
 use Rattle.zf_lines.specs.declared.fault.Status.{Status}
 use Rattle.zf_lines.specs.declared.fault.Status.TheVariants.{BadSpec, BadRequest, PastBounds}
-use Rattle.zf_engine.specs.declared.request.Request as program
 use Rattle.zf_engine.specs.declared.stop.Stop.{Stop}
 use Rattle.zf_engine.specs.declared.stop.Stop.TheVariants.{Answered, OutOfMemory}
-use Rattle.zf_engine.specs.Answers.{Answer, AnswersSource, Checks, HoldsNoValues, NamesNoRow, Request, StopsInSource, size_fault_line}
+use Rattle.zf_command.specs.declared.job.Request.{Request}
+use Rattle.zf_engine.specs.Answers.{Answer, AnswersSource, Checks, HoldsNoValues, NamesNoRow, StopsInSource, size_fault_line}
 use Rattle.zf_lines.specs.Faults.{AppendsFront}
 use Rattle.zf_engine.specs.Details.{not_finite_lines, text_fault_lines}
 use Rattle.zf_engine.specs.Texts.{declared_out_line, not_a_binding_line, not_held_line}
@@ -69,13 +69,9 @@ TellsComponent comps place text status = (c : Comp) × (slice_get comps place �
 abbrev pub TellsOut : Environment → List Comp → List ℕ → Status → Type 0
 TellsOut e comps text status = (place : ℕ) × IsFirstOut e comps place × TellsComponent comps place text status
 
--- what is asked for, as the definitions have it
-abbrev pub request_of : program.Request → Request
-request_of r = record { name = r.name.now; sizes = r.sizes.now; after = option_map (λ t. t.now) r.after; held = option_map (λ t. t.now) r.held; limit = r.limit; tests = r.tests; details = r.details }
-
 -- this answers the request
 abbrev pub AnswersRequest : Request → (file source : List ℕ) → Stop → Type 0
-AnswersRequest r file source stop = IfAnswered stop (Answer (Show r.name r.sizes r.after r.held r.limit r.tests r.details) file source)
+AnswersRequest r file source stop = IfAnswered stop (Answer (Show r) file source)
 
 -- whatever else is asked for, this is the answer
 abbrev pub AnswersShow : (details : Bool) → (file source : List ℕ) → Stop → Type 0
@@ -94,5 +90,5 @@ Tells OutOfMemory old new (Err fault) = Appends old new []
 
 -- the answer of the request is written, or a part of it
 abbrev pub Shows : Request → (file source : List ℕ) → Option (List ℕ) → Option (List ℕ) → Result Status RunFault → Type 0
-Shows r file source old new (Ok status) = AnswersSource (Show r.name r.sizes r.after r.held r.limit r.tests r.details) file source old new status
-Shows r file source old new (Err fault) = StopsInSource (Show r.name r.sizes r.after r.held r.limit r.tests r.details) file source old new
+Shows r file source old new (Ok status) = AnswersSource (Show r) file source old new status
+Shows r file source old new (Err fault) = StopsInSource (Show r) file source old new

@@ -1,11 +1,11 @@
 //! What is written of a job on a source.
-ghost use Rattle.std.specs.Prelude.{◌≡◌, ℕ, List, [], true, IfOk, IfErr, OnErr, option_map};
+ghost use Rattle.std.specs.Prelude.{◌≡◌, ℕ, List, [], true, IfOk, IfErr, OnErr};
 ghost use Rattle.std.specs.Option.{option_copied};
 ghost use Rattle.zf_command.specs.declared.job.Job.TheVariants.{Check};
 ghost use Rattle.zf_engine.specs.Answers.{Answer, AnswersSource, AreHeld, Checks, IsAsked, IsLimited, IsNamedRow, StopsInSource};
 ghost use Rattle.zf_lines.specs.Counts.{device_of, failures_of};
 ghost use Rattle.zf_lines.specs.Faults.{read_failures, write_failures};
-ghost use Rattle.zf_engine.specs.Stops.{IfAnswered, Shows, Tells, request_of};
+ghost use Rattle.zf_engine.specs.Stops.{IfAnswered, Shows, Tells};
 ghost use Rattle.zf_lines.specs.Shown.{HasLimit};
 ghost use Rattle.zf_meaning.specs.Envs.{environment_of};
 ghost use Rattle.zf_term.specs.Definitions.{globals_of, schema_of};
@@ -16,14 +16,12 @@ use crate::begin::{Begun, begin, begin_counting};
 use crate::check::{check_answer, checked_in};
 use crate::held::values_held;
 use crate::named::named_row;
-use crate::request::Request;
 use crate::stop::Stop;
 use crate::typed::typed_in;
 use bumpalo::Bump;
 use std::alloc::Global;
 use std::io::Write;
-use zf_command::job::Job;
-use zf_data::Word;
+use zf_command::job::{Job, Request};
 use zf_lines::counted::Counted;
 use zf_lines::fault::{RunFault, Status};
 use zf_lines::show::{show, show_with_tests};
@@ -54,36 +52,7 @@ pub fn answer<W: Write>(
         Job::Check { types, details } => {
             tell(checked(alloc, *types, *details, file, source), writer)
         }
-        Job::Show {
-            schema,
-            sizes,
-            after,
-            held,
-            limit,
-            tests,
-            details,
-        } => {
-            let request = Request {
-                name: schema.as_str(),
-                sizes: sizes.as_slice(),
-                after: text_in(after),
-                held: text_in(held),
-                limit: *limit,
-                tests: *tests,
-                details: *details,
-            };
-            show_source(alloc, &request, file, source, writer)
-        }
-    }
-}
-
-/// The text of a word, if there is one.
-fn text_in(word: &Option<Word>) -> Option<&str>
-    ensures { option_map (λ t. t.now) result ≡ word.now }
-{
-    match word {
-        Some(text) => Some(text.as_str()),
-        None => None,
+        Job::Show(request) => show_source(alloc, request, file, source, writer),
     }
 }
 
@@ -132,14 +101,14 @@ fn tell<W: Write>(stop: Stop, writer: &mut Counted<W>) -> Result<Status, RunFaul
 /// Writes the answer of `show` for a source.
 fn show_source<W: Write>(
     alloc: Global,
-    request: &Request<'_>,
+    request: &Request,
     file: &[u8],
     source: &[u8],
     writer: &mut Counted<W>,
 ) -> Result<Status, RunFault>
     requires unfailed { failures_of writer.old ≡ 0 }
     requires limited { HasLimit request.now.limit }
-    ensures shows { Shows (request_of request.now) file.now source.now (W.contents (device_of writer.old)) (W.contents (device_of writer.new)) result }
+    ensures shows { Shows request.now file.now source.now (W.contents (device_of writer.old)) (W.contents (device_of writer.new)) result }
     ensures count { failures_of writer.new ≡ write_failures result }
     ensures unread { read_failures result ≡ 0 }
 {
@@ -156,14 +125,14 @@ fn show_globals<'a, W: Write>(
     alloc: Global,
     arena: &'a Bump,
     globals: &Globals<'a>,
-    request: &Request<'_>,
+    request: &Request,
     file: &[u8],
     writer: &mut Counted<W>,
 ) -> Result<Status, RunFault>
     requires unfailed { failures_of writer.old ≡ 0 }
     requires limited { HasLimit request.now.limit }
     requires checks { (source : List ℕ) × Checks source (globals_of globals.now) [] }
-    ensures shows { (source : List ℕ) → Checks source (globals_of globals.now) [] → Shows (request_of request.now) file.now source (W.contents (device_of writer.old)) (W.contents (device_of writer.new)) result }
+    ensures shows { (source : List ℕ) → Checks source (globals_of globals.now) [] → Shows request.now file.now source (W.contents (device_of writer.old)) (W.contents (device_of writer.new)) result }
     ensures count { failures_of writer.new ≡ write_failures result }
     ensures unread { read_failures result ≡ 0 }
 {
@@ -179,18 +148,18 @@ fn show_schema<'a, W: Write>(
     arena: &'a Bump,
     schema: &Flat<'a>,
     env: &Env<'_, 'a>,
-    request: &Request<'_>,
+    request: &Request,
     writer: &mut Counted<W>,
 ) -> Result<Status, RunFault>
     requires unfailed { failures_of writer.old ≡ 0 }
     requires limited { HasLimit request.now.limit }
-    requires asked { (source : List ℕ) × IsAsked (request_of request.now) source (environment_of env.now).globals (schema_of schema.now) (environment_of env.now) }
-    ensures shows { (file source : List ℕ) → IsAsked (request_of request.now) source (environment_of env.now).globals (schema_of schema.now) (environment_of env.now) → Shows (request_of request.now) file source (W.contents (device_of writer.old)) (W.contents (device_of writer.new)) result }
+    requires asked { (source : List ℕ) × IsAsked request.now source (environment_of env.now).globals (schema_of schema.now) (environment_of env.now) }
+    ensures shows { (file source : List ℕ) → IsAsked request.now source (environment_of env.now).globals (schema_of schema.now) (environment_of env.now) → Shows request.now file source (W.contents (device_of writer.old)) (W.contents (device_of writer.new)) result }
     ensures count { failures_of writer.new ≡ write_failures result }
     ensures unread { read_failures result ≡ 0 }
 {
     let elements = spellings_of(alloc, env.globals())?;
-    match named_row(alloc, schema, env, &elements, request.after) {
+    match named_row(alloc, schema, env, &elements, &request.after) {
         Ok(Some(row)) => show_with(
             alloc,
             arena,
@@ -214,19 +183,19 @@ fn show_with<'a, W: Write>(
     env: &Env<'_, 'a>,
     elements: &[Spelling],
     after: Option<&[Value]>,
-    request: &Request<'_>,
+    request: &Request,
     writer: &mut Counted<W>,
 ) -> Result<Status, RunFault>
     requires unfailed { failures_of writer.old ≡ 0 }
     requires limited { HasLimit request.now.limit }
     requires elements { elements.now ≡ spellings (environment_of env.now).globals }
-    requires asked { (source : List ℕ) × IsAsked (request_of request.now) source (environment_of env.now).globals (schema_of schema.now) (environment_of env.now) }
-    requires named { IsNamedRow (environment_of env.now) (schema_of schema.now).comps (request_of request.now).after (option_copied after) }
-    ensures shows { (file source : List ℕ) → IsAsked (request_of request.now) source (environment_of env.now).globals (schema_of schema.now) (environment_of env.now) → Shows (request_of request.now) file source (W.contents (device_of writer.old)) (W.contents (device_of writer.new)) result }
+    requires asked { (source : List ℕ) × IsAsked request.now source (environment_of env.now).globals (schema_of schema.now) (environment_of env.now) }
+    requires named { IsNamedRow (environment_of env.now) (schema_of schema.now).comps request.now.after (option_copied after) }
+    ensures shows { (file source : List ℕ) → IsAsked request.now source (environment_of env.now).globals (schema_of schema.now) (environment_of env.now) → Shows request.now file source (W.contents (device_of writer.old)) (W.contents (device_of writer.new)) result }
     ensures count { failures_of writer.new ≡ write_failures result }
     ensures unread { read_failures result ≡ 0 }
 {
-    match values_held(alloc, schema, env, elements, request.held) {
+    match values_held(alloc, schema, env, elements, &request.held) {
         Ok(held) => show_after(
             alloc, arena, schema, env, elements, after, &held, request, writer,
         ),
@@ -243,16 +212,16 @@ fn show_after<'a, W: Write>(
     elements: &[Spelling],
     after: Option<&[Value]>,
     held: &[Option<Value>],
-    request: &Request<'_>,
+    request: &Request,
     writer: &mut Counted<W>,
 ) -> Result<Status, RunFault>
     requires unfailed { failures_of writer.old ≡ 0 }
     requires limited { HasLimit request.now.limit }
     requires elements { elements.now ≡ spellings (environment_of env.now).globals }
-    requires asked { (source : List ℕ) × IsAsked (request_of request.now) source (environment_of env.now).globals (schema_of schema.now) (environment_of env.now) }
-    requires named { IsNamedRow (environment_of env.now) (schema_of schema.now).comps (request_of request.now).after (option_copied after) }
-    requires held { AreHeld (environment_of env.now) (schema_of schema.now).comps (request_of request.now).held held.now }
-    ensures shows { (file source : List ℕ) → IsAsked (request_of request.now) source (environment_of env.now).globals (schema_of schema.now) (environment_of env.now) → Shows (request_of request.now) file source (W.contents (device_of writer.old)) (W.contents (device_of writer.new)) result }
+    requires asked { (source : List ℕ) × IsAsked request.now source (environment_of env.now).globals (schema_of schema.now) (environment_of env.now) }
+    requires named { IsNamedRow (environment_of env.now) (schema_of schema.now).comps request.now.after (option_copied after) }
+    requires held { AreHeld (environment_of env.now) (schema_of schema.now).comps request.now.held held.now }
+    ensures shows { (file source : List ℕ) → IsAsked request.now source (environment_of env.now).globals (schema_of schema.now) (environment_of env.now) → Shows request.now file source (W.contents (device_of writer.old)) (W.contents (device_of writer.new)) result }
     ensures count { failures_of writer.new ≡ write_failures result }
     ensures unread { read_failures result ≡ 0 }
 {
@@ -285,17 +254,17 @@ fn count_after<'a, W: Write>(
     elements: &[Spelling],
     after: Option<&[Value]>,
     held: &[Option<Value>],
-    request: &Request<'_>,
+    request: &Request,
     writer: &mut Counted<W>,
 ) -> Result<Status, RunFault>
     requires unfailed { failures_of writer.old ≡ 0 }
     requires limited { HasLimit request.now.limit }
     requires counted { request.now.tests ≡ true }
     requires elements { elements.now ≡ spellings (environment_of env.now).globals }
-    requires asked { (source : List ℕ) × IsAsked (request_of request.now) source (environment_of env.now).globals (schema_of schema.now) (environment_of env.now) }
-    requires named { IsNamedRow (environment_of env.now) (schema_of schema.now).comps (request_of request.now).after (option_copied after) }
-    requires held { AreHeld (environment_of env.now) (schema_of schema.now).comps (request_of request.now).held held.now }
-    ensures shows { (file source : List ℕ) → IsAsked (request_of request.now) source (environment_of env.now).globals (schema_of schema.now) (environment_of env.now) → Shows (request_of request.now) file source (W.contents (device_of writer.old)) (W.contents (device_of writer.new)) result }
+    requires asked { (source : List ℕ) × IsAsked request.now source (environment_of env.now).globals (schema_of schema.now) (environment_of env.now) }
+    requires named { IsNamedRow (environment_of env.now) (schema_of schema.now).comps request.now.after (option_copied after) }
+    requires held { AreHeld (environment_of env.now) (schema_of schema.now).comps request.now.held held.now }
+    ensures shows { (file source : List ℕ) → IsAsked request.now source (environment_of env.now).globals (schema_of schema.now) (environment_of env.now) → Shows request.now file source (W.contents (device_of writer.old)) (W.contents (device_of writer.new)) result }
     ensures count { failures_of writer.new ≡ write_failures result }
     ensures unread { read_failures result ≡ 0 }
 {

@@ -2,7 +2,7 @@
 ghost use Rattle.std.specs.Prelude.{◌≡◌, ℕ, List, [], IfOk, IfErr, OnOk};
 ghost use Rattle.zf_engine.specs.Answers as spec;
 ghost use Rattle.zf_engine.specs.Answers.{Checks, IsAsked, stated};
-ghost use Rattle.zf_engine.specs.Stops.{AnswersOver, IfAnswered, IsMisfit, TellsInfinite, TellsMisfit, request_of};
+ghost use Rattle.zf_engine.specs.Stops.{AnswersOver, IfAnswered, IsMisfit, TellsInfinite, TellsMisfit};
 ghost use Rattle.zf_finite.specs.Finite.{IsFinite};
 ghost use Rattle.zf_meaning.specs.Envs.{environment_of};
 ghost use Rattle.zf_meaning.specs.GlobalOutcomes.{IsEnvironment};
@@ -10,11 +10,10 @@ ghost use Rattle.zf_meaning.specs.Sizes.{given_sets, AreComplete};
 ghost use Rattle.zf_term.specs.Definitions.{globals_of, schema_of};
 
 use crate::details::not_finite_lines;
-use crate::request::Request;
 use crate::stop::Stop;
 use crate::texts;
 use std::alloc::{AllocError, Global};
-use zf_command::job::Size;
+use zf_command::job::{Request, Size};
 use zf_data::Text;
 use zf_finite::finite;
 use zf_lines::fault::Status;
@@ -34,17 +33,17 @@ pub struct Asked<'g, 'a> {
 pub fn asked_in<'g, 'a>(
     alloc: Global,
     globals: &'g Globals<'a>,
-    request: &Request<'_>,
+    request: &Request,
     file: &[u8],
 ) -> Result<Asked<'g, 'a>, Stop>
-    ensures asked { IfOk result (λ p. (source : List ℕ) → Checks source (globals_of globals.now) [] → IsAsked (request_of request.now) source (environment_of p.env).globals (schema_of p.schema.now) (environment_of p.env)) }
-    ensures stop { IfErr result (AnswersOver (globals_of globals.now) (request_of request.now) file.now) }
+    ensures asked { IfOk result (λ p. (source : List ℕ) → Checks source (globals_of globals.now) [] → IsAsked request.now source (environment_of p.env).globals (schema_of p.schema.now) (environment_of p.env)) }
+    ensures stop { IfErr result (AnswersOver (globals_of globals.now) request.now file.now) }
 {
-    let Some(schema) = globals.schema(request.name) else {
+    let Some(schema) = globals.schema(request.name.as_str()) else {
         let line = texts::no_schema_line(alloc, request.name.as_bytes())?;
         return Err(Stop::Answered(line, Status::BadRequest));
     };
-    let env = env_in(alloc, globals, request.sizes)?;
+    let env = env_in(alloc, globals, request.sizes.as_slice())?;
     check_end(alloc, request.details, file, globals, schema)?;
     Ok(Asked { schema, env })
 }

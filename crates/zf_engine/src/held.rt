@@ -1,5 +1,5 @@
 //! The values that are held.
-ghost use Rattle.std.specs.Prelude.{◌≡◌, Some, IfOk, IfErr, option_map};
+ghost use Rattle.std.specs.Prelude.{◌≡◌, Some, IfOk, IfErr};
 ghost use Rattle.zf_engine.specs.Answers.{AreHeld};
 ghost use Rattle.zf_engine.specs.Stops.{IfAnswered, TellsNoValues, TellsPlaceHeld};
 ghost use Rattle.zf_meaning.specs.Envs.{environment_of};
@@ -10,6 +10,7 @@ ghost use Rattle.zf_texts.specs.Spellings.{spellings};
 use crate::stop::Stop;
 use crate::texts;
 use std::alloc::Global;
+use zf_data::Word;
 use zf_lines::fault::Status;
 use zf_meaning::env::Env;
 use zf_term::schema::Flat;
@@ -23,11 +24,11 @@ pub fn values_held(
     flat: &Flat<'_>,
     env: &Env<'_, '_>,
     elements: &[Spelling],
-    held: Option<&str>,
+    held: &Option<Word>,
 ) -> Result<Vec<Option<Value>>, Stop>
     requires { elements.now ≡ spellings (environment_of env.now).globals }
-    ensures held { IfOk result (λ values. AreHeld (environment_of env.now) (schema_of flat.now).comps (option_map (λ t. t.now) held.entry) values.items) }
-    ensures stop { IfErr result (λ s. AreClear elements.now (environment_of env.now).sizes → IfAnswered s (TellsNoValues (environment_of env.now) (schema_of flat.now).comps (option_map (λ t. t.now) held.entry))) }
+    ensures held { IfOk result (λ values. AreHeld (environment_of env.now) (schema_of flat.now).comps held.now values.items) }
+    ensures stop { IfErr result (λ s. AreClear elements.now (environment_of env.now).sizes → IfAnswered s (TellsNoValues (environment_of env.now) (schema_of flat.now).comps held.now)) }
 {
     match held {
         None => Ok(Vec::new(alloc)),
@@ -41,7 +42,7 @@ fn values_of(
     flat: &Flat<'_>,
     env: &Env<'_, '_>,
     elements: &[Spelling],
-    text: &str,
+    text: &Word,
 ) -> Result<Vec<Option<Value>>, Stop>
     requires { elements.now ≡ spellings (environment_of env.now).globals }
     ensures held { IfOk result (λ values. AreHeld (environment_of env.now) (schema_of flat.now).comps (Some text.now) values.items) }

@@ -10,7 +10,6 @@ mod held;
 mod named;
 pub mod program;
 mod reading;
-mod request;
 pub mod run;
 mod stop;
 mod texts;

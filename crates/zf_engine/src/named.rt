@@ -10,6 +10,7 @@ ghost use Rattle.zf_texts.specs.Spellings.{spellings};
 use crate::stop::Stop;
 use crate::texts;
 use std::alloc::Global;
+use zf_data::Word;
 use zf_lines::fault::Status;
 use zf_meaning::env::Env;
 use zf_term::schema::Flat;
@@ -22,11 +23,11 @@ pub fn named_row(
     flat: &Flat<'_>,
     env: &Env<'_, '_>,
     elements: &[Spelling],
-    after: Option<&str>,
+    after: &Option<Word>,
 ) -> Result<Option<Vec<Value>>, Stop>
     requires { elements.now ≡ spellings (environment_of env.now).globals }
-    ensures named { IfOk result (λ row. IsNamedRow (environment_of env.now) (schema_of flat.now).comps (option_map (λ t. t.now) after.entry) (option_map (λ v. v.items) row)) }
-    ensures stop { IfErr result (λ s. AreClear elements.now (environment_of env.now).sizes → IfAnswered s (TellsNoRow (environment_of env.now) (schema_of flat.now).comps (option_map (λ t. t.now) after.entry))) }
+    ensures named { IfOk result (λ row. IsNamedRow (environment_of env.now) (schema_of flat.now).comps after.now (option_map (λ v. v.items) row)) }
+    ensures stop { IfErr result (λ s. AreClear elements.now (environment_of env.now).sizes → IfAnswered s (TellsNoRow (environment_of env.now) (schema_of flat.now).comps after.now)) }
 {
     match after {
         None => Ok(None),
@@ -40,7 +41,7 @@ fn row_of(
     flat: &Flat<'_>,
     env: &Env<'_, '_>,
     elements: &[Spelling],
-    text: &str,
+    text: &Word,
 ) -> Result<Vec<Value>, Stop>
     requires { elements.now ≡ spellings (environment_of env.now).globals }
     ensures named { IfOk result (λ row. IsLineOf (environment_of env.now) (schema_of flat.now).comps text.now row.items) }

@@ -1,5 +1,5 @@
 -- The values of a range where one may be held.
-use Rattle.zf_enum.proofs.Prelude.{◌++◌, ◌∷◌, ◌≡◌, [], Err, IfOk, inl, List, None, Ok, Option, Result, Some, subst, sym, ⊎_elim, IsMember, Value, DeclaredSets, Environment, IsInSets, IsAllOfEach, IsAllWith, NarrowsAll, IsHeld, IsAscending}
+use Rattle.zf_enum.proofs.Prelude.{◌∷◌, ◌≡◌, [], Err, IfOk, inl, List, None, Ok, Result, Some, subst, sym, ⊎_elim, IsMember, Value, DeclaredSets, Environment, IsInSets, IsAllOfEach, IsAllWith, NarrowsAll, IsHeld, IsAscending}
 use Rattle.zf_enum.proofs.Listing.{lists_same}
 
 pub ascending_alone : (w : Value) (ys : List Value) → ys ≡ w ∷ [] → IsAscending ys

@@ -4,7 +4,6 @@ pub mod Judging
 pub mod Listing
 pub mod Held
 pub mod EventLaws
-pub mod Numbers
 pub mod Single
 pub mod Sides
 pub mod Comps

@@ -6,7 +6,6 @@ pub mod Ranges
 pub mod Portions
 pub mod Events
 pub mod Parts
-pub mod Filters
 pub mod Components
 pub mod Starts
 pub mod Searches

@@ -7,8 +7,7 @@ ghost use Rattle.zf_enum.specs.Parts.{BoundsAt};
 
 use crate::weight::weight;
 use std::alloc::AllocError;
-use zf_data::arena::Items;
-use zf_extent::infinite::direct;
+use zf_finite::bounds;
 use zf_meaning::env::Env;
 use zf_term::globals::Globals;
 use zf_term::schema::Domain;
@@ -48,30 +47,4 @@ pub(crate) fn first_bounding<'a>(domains: &[Domain<'a>], globals: &Globals<'a>) 
         }
     }
     domains.len()
-}
-
-/// Whether the declared set bounds a component.
-#[cycle(bounds)]
-#[tactic(auto, using(zf_term::proofs::SetsSeen::seen))]
-fn bounds<'a>(domain: &Domain<'a>, globals: &Globals<'a>) -> bool
-    ensures { result ≡ spec.bounds (globals_of globals.now) (set_of domain.now) }
-{
-    match domain {
-        Domain::Plain(set) => direct(set.get(), globals).is_none(),
-        Domain::Carrier(ztype) => !ztype.has_numbers(),
-        Domain::Either(left, right) => one_bounds(left.get(), globals)
-            && one_bounds(right.get(), globals),
-    }
-}
-
-#[cycle(bounds)]
-fn one_bounds<'a>(domains: &Items<'a, Domain<'a>>, globals: &Globals<'a>) -> bool
-    ensures { result ≡ spec.one_bounds (globals_of globals.now) (sets_of (map set_of domains.now)) }
-{
-    for domain in domains.as_slice() {
-        if bounds(domain, globals) {
-            return true;
-        }
-    }
-    false
 }

@@ -1,6 +1,6 @@
 //! Declared sets that only filter.
 ghost use Rattle.std.specs.Prelude.{◌↔◌, IsTrue};
-ghost use Rattle.zf_enum.specs.Filters.{IsFrom};
+ghost use Rattle.zf_meaning.specs.Arithmetic.{IsFrom};
 
 use crate::kept::Test;
 use zf_term::extent::Infinite;

@@ -121,7 +121,7 @@ fn conjuncts_offender<'a>(
 /// Whether the declared set bounds a component.
 #[cycle(bounds)]
 #[tactic(auto, using(zf_term::proofs::SetsSeen::seen))]
-fn bounds<'a>(domain: &Domain<'a>, globals: &Globals<'a>) -> bool
+pub fn bounds<'a>(domain: &Domain<'a>, globals: &Globals<'a>) -> bool
     ensures { result ≡ spec.bounds (globals_of globals.now) (set_of domain.now) }
 {
     match domain {

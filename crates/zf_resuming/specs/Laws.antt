@@ -8,7 +8,8 @@ use Rattle.zf_enum.specs.Portions.{Portion}
 use Rattle.zf_texts.specs.BindingTexts.{binding_text}
 use Rattle.zf_texts.specs.Spellings.{spellings}
 use Rattle.zf_lines.specs.Searches.{HasEvents}
-use Rattle.zf_engine.specs.Answers.{Request, IsSearch, IsLineOf}
+use Rattle.zf_command.specs.declared.job.Request.{Request}
+use Rattle.zf_engine.specs.Answers.{IsSearch, IsLineOf}
 
 -- the text of each event of a search is the line of a row of the schema's types: what the option for the named binding takes
 abbrev pub LinesAreRows : Type 0

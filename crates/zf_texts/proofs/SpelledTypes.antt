@@ -1,19 +1,7 @@
 -- Elements by their spellings.
-use Rattle.zf_texts.proofs.Prelude.{◌++◌, ◌+◌, ◌<◌, ◌^◌, ◌∙◌, ◌∷◌, ◌≡◌, ◌≤◌, ◌⊎◌, [], ap, arith, codes, get_or, inl, inr, length, List, None, Option, refl, Some, subst, suc, sym, zero, ℕ, ⊎_elim, decimal_injective, append_assoc, decimal, MatchOption, slice_get, Value, Defined, definition_of, first_named, definition_number, Environment, found_number, type_number, IsElement, IsClear, or_empty, spelled, IsSpelledType, HasNoElements, IsNoItem, IsNoSpelledType, SpellsNone, Spelling, Named, Numbered}
+use Rattle.zf_texts.proofs.Prelude.{◌++◌, ◌+◌, ◌<◌, ◌^◌, ◌∙◌, ◌∷◌, ◌≡◌, ◌≤◌, ◌⊎◌, [], ap, arith, codes, get_or, inl, inr, length, List, None, Option, refl, Some, subst, suc, sym, zero, ℕ, ⊎_elim, decimal_injective, append_assoc, decimal, MatchOption, slice_get, Value, Environment, type_number, IsElement, IsClear, or_empty, spelled, IsSpelledType, HasNoElements, IsNoItem, IsNoSpelledType, SpellsNone, Spelling, Named, Numbered}
 use denote.Bor.{Bor}
-use Rattle.zf_term.specs.declared.globals.Entry.{Entry}
 use Rattle.zf_texts.proofs.Spelled.{cancel}
-
--- ---- the number of a type by name
-
-abbrev number_by : Option (Bor Entry) → Option ℕ
-number_by None = None
-number_by (Some e) = definition_number (definition_of e.now)
-
-pub named_number : (g : List Defined) (name : List ℕ) (r : Option (Bor Entry)) → MatchOption r (first_named (λ d. d.name) name g ≡ None) (λ e. (i : ℕ) × (first_named (λ d. d.name) name g ≡ Some (i, record { name = name; definition = definition_of e.now })))
-    → (o : Option ℕ) → o ≡ number_by r → o ≡ found_number (first_named (λ d. d.name) name g)
-named_number g name None h o e = e ∙ sym (ap found_number h)
-named_number g name (Some x) h o e = e ∙ sym (ap found_number h.1)
 
 -- ---- types without elements
 

@@ -1,9 +1,7 @@
 //! Elements by their spellings.
 ghost use Rattle.std.specs.Prelude.{◌≡◌, ◌+◌, ◌≤◌, ◌<◌, ◌^◌, ◌++◌, ℕ, Some, List, length, drop, codes, decimal, slice_get, IfOk, IfErr, MatchOption};
-ghost use Rattle.zf_meaning.specs.Environments.{definition_number, found_number, type_number};
+ghost use Rattle.zf_meaning.specs.Environments.{type_number};
 ghost use Rattle.zf_meaning.specs.Envs.{environment_of};
-ghost use Rattle.zf_term.specs.Definitions.{definition_of, globals_of};
-ghost use Rattle.zf_term.specs.FirstNamed.{first_named};
 ghost use Rattle.zf_term.specs.Types.{basic};
 ghost use Rattle.zf_texts.specs.Readings.{IfMisfit};
 ghost use Rattle.zf_texts.specs.Spellings.{spelled, or_empty};
@@ -13,8 +11,8 @@ use crate::fault::AfterFault;
 use crate::spelling::Spelling;
 use crate::words::{behind, unsigned, word_at};
 use zf_data::Text;
+use zf_meaning::carrier::number_named;
 use zf_meaning::env::Env;
-use zf_term::globals::{Entry, Globals};
 use zf_value::value::{Form, Value};
 
 /// The element of the type of this name at the place.
@@ -73,29 +71,6 @@ fn sized_type<'s>(
             None => None,
         },
         Err(_) => None,
-    }
-}
-
-/// The number of the given set or free type of this name.
-fn number_named(globals: &Globals<'_>, name: &[u8]) -> Option<usize>
-    ensures { result ≡ found_number (first_named (λ d. d.name) name.now (globals_of globals.now)) }
-{
-    match globals.entries.get(name) {
-        Some(entry) => number_of(entry),
-        None => None,
-    }
-}
-
-/// The number of what is defined, if it is a given set or free type.
-fn number_of(entry: &Entry<'_>) -> Option<usize>
-    ensures { result ≡ definition_number (definition_of entry.now) }
-{
-    match entry {
-        Entry::Given(number) => Some(*number),
-        Entry::Free(number, _) => Some(*number),
-        Entry::Constructor(_, _, _) => None,
-        Entry::Abbrev(_, _, _) => None,
-        Entry::Schema(_) => None,
     }
 }
 

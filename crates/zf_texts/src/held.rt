@@ -1,6 +1,5 @@
 //! Lines of some components, as they are read.
 ghost use Rattle.std.specs.Prelude.{◌≤◌, length, drop, IfOk, IfErr, MatchBool, MatchOption};
-ghost use Rattle.std.specs.List.{AllByRecursion};
 ghost use Rattle.zf_meaning.specs.Envs.{environment_of};
 ghost use Rattle.zf_term.specs.Definitions.{comp_of, schema_of};
 ghost use Rattle.zf_texts.specs.Clear.{Ends};

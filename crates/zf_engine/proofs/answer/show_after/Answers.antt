@@ -1,4 +1,4 @@
-use Rattle.zf_engine.proofs.Prelude.{false, rules, option_copied, schema_of, environment_of, portion, counted_goal, planted_goal, at_start, request_of}
+use Rattle.zf_engine.proofs.Prelude.{false, rules, option_copied, schema_of, environment_of, portion, counted_goal, planted_goal, at_start}
 use Rattle.zf_engine.proofs.DueWithin.{due_within}
 use Rattle.zf_engine.proofs.NamedRows.{named_length}
 use Rattle.zf_engine.proofs.Parts.{shown, told}
@@ -11,7 +11,7 @@ begin-requires-clause-named g c = named_length _ _ _ _ c.requires.named
 pub begin-requires-clause-due : goal.begin-requires-clause-due
 begin-requires-clause-due g c =
     let is = c.requires.asked.1 in
-    due_within (environment_of c.args.env.now) (environment_of c.args.env.now).globals (request_of c.args.request.now).name (schema_of c.args.schema.now) (well_typed _ _ is.has_schema.checks) is.has_schema.named
+    due_within (environment_of c.args.env.now) (environment_of c.args.env.now).globals c.args.request.now.name (schema_of c.args.schema.now) (well_typed _ _ is.has_schema.checks) is.has_schema.named
 
 pub show-requires-clause-start : goal.show-requires-clause-start
 show-requires-clause-start g c = at_start _ _ _ _ _ (rw c.in-Walked.is at c.in-Ok.ensures.begins)
@@ -21,16 +21,16 @@ show-requires-in-Planted-clause-start g c = at_start _ _ _ _ _ (rw c.in-Planted.
 
 pub returns-in-Walked-clause-shows : goal.returns-in-Walked-clause-shows
 returns-in-Walked-clause-shows g c = λ file source is.
-    shown (request_of c.args.request.now) file source (schema_of c.args.schema.now) (counted_goal c.in-Walked.found.walk) c.in-Walked.found.walk.stage c.args.elements.now (environment_of c.args.env.now) (portion (option_copied c.args.after) c.args.held.now)
+    shown c.args.request.now file source (schema_of c.args.schema.now) (counted_goal c.in-Walked.found.walk) c.in-Walked.found.walk.stage c.args.elements.now (environment_of c.args.env.now) (portion (option_copied c.args.after) c.args.held.now)
     is c.requires.named c.requires.held (rw c.in-Walked.is at c.in-Ok.ensures.begins) c.requires.elements false _ _ _ (search rules) c.show.ensures.ok c.show.ensures.err
 
 pub returns-in-Planted-clause-shows : goal.returns-in-Planted-clause-shows
 returns-in-Planted-clause-shows g c = λ file source is.
-    shown (request_of c.args.request.now) file source (schema_of c.args.schema.now) (planted_goal c.in-Planted.found.names c.in-Planted.found.search) c.in-Planted.found.search.stage c.args.elements.now (environment_of c.args.env.now) (portion (option_copied c.args.after) c.args.held.now)
+    shown c.args.request.now file source (schema_of c.args.schema.now) (planted_goal c.in-Planted.found.names c.in-Planted.found.search) c.in-Planted.found.search.stage c.args.elements.now (environment_of c.args.env.now) (portion (option_copied c.args.after) c.args.held.now)
     is c.requires.named c.requires.held (rw c.in-Planted.is at c.in-Ok.ensures.begins) c.requires.elements false _ _ _ (search rules) c.show-in-Planted.ensures.ok c.show-in-Planted.ensures.err
 
 pub returns-in-Err-clause-shows : goal.returns-in-Err-clause-shows
 returns-in-Err-clause-shows g c = λ file source is.
-    told (request_of c.args.request.now) file source c.in-Err.stop _ _ _
-    (out_answers (request_of c.args.request.now) file source _ (schema_of c.args.schema.now) (environment_of c.args.env.now) is (portion (option_copied c.args.after) c.args.held.now) c.requires.named c.requires.held c.in-Err.stop c.in-Err.ensures.stop)
+    told c.args.request.now file source c.in-Err.stop _ _ _
+    (out_answers c.args.request.now file source _ (schema_of c.args.schema.now) (environment_of c.args.env.now) is (portion (option_copied c.args.after) c.args.held.now) c.requires.named c.requires.held c.in-Err.stop c.in-Err.ensures.stop)
     c.tell.ensures.told

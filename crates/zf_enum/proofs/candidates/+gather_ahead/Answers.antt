@@ -54,6 +54,9 @@ gather_ahead-requires t c =
       ),
     )
 
+pub returns-in_err-found-clause-stay : goal.returns-in_err-found-clause-stay
+returns-in_err-found-clause-stay t c = stays_on c.args.gathered.now.items c.loop-place.gathered.items c.gather_ahead.new.gathered.items c.loop-place.invariant.stay c.gather_ahead.ensures.stay
+
 pub returns-then-not-found-clause-stay : goal.returns-then-not-found-clause-stay
 returns-then-not-found-clause-stay t c = stays_on c.args.gathered.now.items c.loop-place.gathered.items c.gather_ahead.new.gathered.items c.loop-place.invariant.stay c.gather_ahead.ensures.stay
 

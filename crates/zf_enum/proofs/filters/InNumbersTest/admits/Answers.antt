@@ -2,7 +2,7 @@ use Rattle.std.proofs.Common.{◌↔◌, ◌∙◌, rules, subst, sym, w64, IsTr
 use Rattle.std.specs.Prelude.{FitsSigned}
 use Rattle.zf_value.proofs.Exactly.{same}
 use Rattle.zf_meaning.proofs.Numeric.{in-infinite, none-infinite}
-use Rattle.zf_enum.specs.Filters.{IsFrom}
+use Rattle.zf_meaning.specs.Arithmetic.{IsFrom}
 use Rattle.zf_enum.proofs.filters.InNumbersTest.admits.Goals as goal
 
 pub returns-in-Some : goal.returns-in-Some
