@@ -1,6 +1,8 @@
 -- What the proofs of this crate take from elsewhere, passed on from one place.
-pub use Rattle.std.proofs.Common.{◌++◌, ◌+◌, ◌-◌, ◌<◌, ◌↔◌, ◌∙◌, ◌∷◌, ◌≡◌, ◌≤◌, [], add-one, ap, arith, Bool, false, get_or, IsTrue, length, List, map, MatchOption, max, None, Option, refl, Some, suc, sym, take, true, true≢false, zero, ℕ}
+pub use Rattle.std.proofs.Common.{◌++◌, ◌+◌, ◌-◌, ◌<◌, ◌↔◌, ◌∙◌, ◌∷◌, ◌≡◌, ◌≤◌, [], add-one, ap, append-nil, append_assoc, arith, Bool, false, get_or, IsTrue, length, length-append, List, map, MatchOption, max, None, Option, refl, Some, subst, suc, sym, take, true, true≢false, zero, ℕ}
 pub use Rattle.zf_tree.specs.declared.symbol.Quantifier.{Quantifier}
+pub use Rattle.std.proofs.lemmas.List.{length-map}
+pub use Rattle.zf_term.proofs.ConjunctsSeen.{batch-seen}
 pub use Rattle.zf_term.proofs.ResolvedSeen.{link-seen, of-Builder, of-Quantified, range-seen}
 pub use Rattle.zf_data.specs.Chunks.{all_of}
 pub use Rattle.zf_term.specs.Definitions.{all_joined, both_hold, joined, one_holds, is_member, set_of}

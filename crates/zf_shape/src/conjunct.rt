@@ -1,9 +1,9 @@
 //! The nodes and the height of conjuncts.
 ghost use Rattle.std.specs.Prelude.{◌≡◌, ◌+◌, ◌<◌, ◌≤◌, ◌↔◌, ◌^◌, IsTrue, MatchOption, length, map};
-ghost use Rattle.std.specs.List.{sum_by};
 ghost use Rattle.zf_data.specs.Chunks.{all_of};
 ghost use Rattle.zf_shape.specs.Joined.{AreLow};
 ghost use Rattle.zf_term.specs.Definitions.{batch_of, conjunct_of, joined};
+ghost use Rattle.zf_term.specs.ResolvedTrees.{terms};
 ghost use Rattle.zf_term.specs.Shapes as spec;
 
 use crate::terms;
@@ -40,6 +40,7 @@ fn room_after_joined<'a>(batches: &Items<'a, Batch<'a>>, room: usize) -> Option<
 }
 
 /// What is left of room for so many, if there are no more terms.
+#[tactic(auto, using(crate::proofs::Joined::count_before))]
 fn room_after_count<'a>(batches: &Items<'a, Batch<'a>>, room: usize) -> Option<usize>
     ensures { MatchOption result (room < length (all_of (map batch_of batches.now))) (λ left. left + length (all_of (map batch_of batches.now)) ≡ room) }
 {
@@ -52,8 +53,9 @@ fn room_after_count<'a>(batches: &Items<'a, Batch<'a>>, room: usize) -> Option<u
 
 /// The same of all terms.
 #[cycle(room)]
+#[tactic(auto, using(crate::proofs::Joined::batches_before))]
 fn room_after_batches<'a>(batches: &Items<'a, Batch<'a>>, room: usize) -> Option<usize>
-    ensures { MatchOption result (room < sum_by spec.nodes (all_of (map batch_of batches.now))) (λ left. left + sum_by spec.nodes (all_of (map batch_of batches.now)) ≡ room) }
+    ensures { MatchOption result (room < spec.all_nodes (terms (all_of (map batch_of batches.now)))) (λ left. left + spec.all_nodes (terms (all_of (map batch_of batches.now))) ≡ room) }
 {
     let mut left = room;
     for batch in batches.as_slice() {
@@ -64,8 +66,9 @@ fn room_after_batches<'a>(batches: &Items<'a, Batch<'a>>, room: usize) -> Option
 
 /// The same of these terms.
 #[cycle(room)]
+#[tactic(auto, using(crate::proofs::Joined::conjuncts_before))]
 fn room_after_all<'a>(conjuncts: &Items<'a, Conjunct<'a>>, room: usize) -> Option<usize>
-    ensures { MatchOption result (room < sum_by spec.nodes (map conjunct_of conjuncts.now)) (λ left. left + sum_by spec.nodes (map conjunct_of conjuncts.now) ≡ room) }
+    ensures { MatchOption result (room < spec.all_nodes (terms (map conjunct_of conjuncts.now))) (λ left. left + spec.all_nodes (terms (map conjunct_of conjuncts.now)) ≡ room) }
 {
     let mut left = room;
     for conjunct in conjuncts.as_slice() {

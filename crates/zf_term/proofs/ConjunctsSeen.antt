@@ -1,6 +1,6 @@
 -- What each form of conjunct is seen as.
 use Rattle.zf_term.proofs.Prelude.{◌∙◌, ◌≡◌, all_of, ap, batch_of, batch_step, conjunct_of, conjunct_step, is_member, List, map, moved, None, numbering, one_holds, Option, Resolved, resolved_of, ResolvedTree, sym, ℕ}
-use Rattle.zf_term.proofs.Places.{unmoved}
+use Rattle.zf_term.proofs.Places.{numbered_again, unmoved}
 use Rattle.zf_term.specs.declared.conjunct.Batch.{Batch}
 use Rattle.zf_term.specs.declared.conjunct.Conjunct.{Conjunct}
 use Rattle.zf_term.specs.declared.conjunct.Conjunct.TheFolds.{fold-roll-Batch, fold-roll-Conjunct, map-Conjunct}
@@ -45,3 +45,30 @@ pub own_either : (l : ℕ) (left right : List Batch) → conjunct_of (v.Either l
 own_either l left right = of-Either l left right None ∙ unmoved (one_holds l (all_of (map batch_of left)) (all_of (map batch_of right)))
 
 pub ruleset own = (own_term, own_member, own_either)
+
+-- ---- numbered anew
+
+pub moved_term : (own ps : Option (List ℕ)) (g : ℕ → ℕ) (t u : Resolved) (whole : Conjunct) → whole ≡ v.Term t own → u ≡ t → numbering ps ≡ (λ (i : ℕ). g (numbering own i)) → conjunct_of (v.Term u ps) ≡ moved g (conjunct_of whole)
+moved_term own ps g t u whole is same e =
+    of-Term u ps
+    ∙ ap (λ (s : Resolved). moved (numbering ps) (resolved_of s)) same
+    ∙ numbered_again own ps g (conjunct_of whole) (resolved_of t) (ap conjunct_of is ∙ of-Term t own) e
+
+pub moved_member : (own ps : Option (List ℕ)) (g : ℕ → ℕ) (n : ℕ) (t u : Resolved) (whole : Conjunct) → whole ≡ v.Member n t own → u ≡ t → numbering ps ≡ (λ (i : ℕ). g (numbering own i)) → conjunct_of (v.Member n u ps) ≡ moved g (conjunct_of whole)
+moved_member own ps g n t u whole is same e =
+    of-Member n u ps
+    ∙ ap (λ (s : Resolved). moved (numbering ps) (is_member n (resolved_of s))) same
+    ∙ numbered_again own ps g (conjunct_of whole) (is_member n (resolved_of t)) (ap conjunct_of is ∙ of-Member n t own) e
+
+abbrev sides : ℕ → List Batch → List Batch → ResolvedTree
+sides l bs ds = one_holds l (all_of (map batch_of bs)) (all_of (map batch_of ds))
+
+pub moved_either :
+    (own ps : Option (List ℕ)) (g : ℕ → ℕ) (l : ℕ) (left right bs ds : List Batch) (whole : Conjunct)
+    → whole ≡ v.Either l left right own → bs ≡ left → ds ≡ right → numbering ps ≡ (λ (i : ℕ). g (numbering own i))
+    → conjunct_of (v.Either l bs ds ps) ≡ moved g (conjunct_of whole)
+moved_either own ps g l left right bs ds whole is one other e =
+    of-Either l bs ds ps
+    ∙ ap (λ (xs : List Batch). moved (numbering ps) (sides l xs ds)) one
+    ∙ ap (λ (xs : List Batch). moved (numbering ps) (sides l left xs)) other
+    ∙ numbered_again own ps g (conjunct_of whole) (sides l left right) (ap conjunct_of is ∙ of-Either l left right own) e
