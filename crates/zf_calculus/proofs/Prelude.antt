@@ -15,7 +15,9 @@ pub use Rattle.zf_term.proofs.ResolvedSeen.{new_link, of-Chain, of-Constant, of-
 pub use Rattle.zf_term.proofs.SameNames.{is_itself, is_same, swapped}
 pub use Rattle.zf_term.proofs.SetsSeen.{of-Carrier, of-Either, of-Plain}
 pub use Rattle.zf_term.proofs.Walk.{at_end, at_step, dropped, pushed}
-pub use Rattle.zf_term.specs.Definitions.{Comp, comp_of, conjunct_of, DeclaredSet, Schema, schema_of, set_of, sets_of, sides}
+pub use Rattle.zf_data.specs.Chunks.{all_of}
+pub use Rattle.zf_term.specs.declared.conjunct.Batch.{Batch}
+pub use Rattle.zf_term.specs.Definitions.{batch_of, Comp, comp_of, conjunct_of, DeclaredSet, is_member, one_holds, Schema, schema_of, set_of, sets_of, sides}
 pub use Rattle.zf_term.specs.FirstNamed.{found_as, later}
 pub use Rattle.zf_term.specs.Limits.{all_nodes, AreFew, HasLeft, IsLow, IsTooLarge, IsWithin, Keeps}
 pub use Rattle.zf_term.specs.ResolvedTrees.{chain, link, links, no_links, reference, resolved_link_of, resolved_of, ResolvedTree}
@@ -33,5 +35,5 @@ pub use Rattle.zf_term.specs.declared.resolved.ResolvedLink.{ResolvedLink}
 pub use Rattle.zf_term.specs.declared.ztype.ZType.{ZType}
 pub use Rattle.zf_shape.proofs.Heights.{below_nodes}
 pub use Rattle.zf_calculus.specs.Calculus.{Agree, Agrees, all_unchanged, AreOnce, carried, comp, comp_named, conjoined, decorated, delta, disjoined, joined, membership, memberships, new_place, place_of, place_or, prime, sets_on, unchanged, with_comp, with_comps, xi}
-pub use Rattle.zf_calculus.specs.Growth.{all_joined, AreAt, constrained, counted, disjoined_over, either_comp, enriched, equalities, equality, grown, IfStopped, is_member, IsGrowing, place_found, place_named}
+pub use Rattle.zf_calculus.specs.Growth.{AreAt, constrained, counted, disjoined_over, either_comp, enriched, equalities, equality, grown, IfStopped, IsGrowing, place_found, place_named}
 pub use Rattle.zf_calculus.specs.Steps.{Clashes, Differs, IsNext, OneClashes, Stops}
