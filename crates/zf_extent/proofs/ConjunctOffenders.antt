@@ -75,10 +75,10 @@ pub first_of_member : (g : List Defined) (i : ℕ) (t : Resolved) (ps : Option (
 first_of_member g i t ps whole found next is e =
     e
     ∙ sym (ap (λ (os : List Offender). or_else found (first os)) (
-        ap (λ (c : Conjunct). offending g (conjunct_of c)) is
-        ∙ ap (offending g) (of-Member i t ps)
-        ∙ same_offences g (numbering ps) (is_member i (resolved_of t))
-        ∙ append-nil (offending_within g (resolved_of t))))
+    ap (λ (c : Conjunct). offending g (conjunct_of c)) is
+    ∙ ap (offending g) (of-Member i t ps)
+    ∙ same_offences g (numbering ps) (is_member i (resolved_of t))
+    ∙ append-nil (offending_within g (resolved_of t))))
 
 pub first_of_either :
     (g : List Defined) (l : ℕ) (left right : List Batch) (ps : Option (List ℕ)) (whole : Conjunct) (found middle next : Option Offender) → whole ≡ v.Either l left right ps
@@ -92,8 +92,8 @@ first_of_either g l left right ps whole found middle next is one other =
     ∙ or_else_assoc found (first (all_offenders g ts)) (first (all_offenders g us))
     ∙ ap (or_else found) (sym (first_of_both (all_offenders g ts) (all_offenders g us)))
     ∙ sym (ap (λ (os : List Offender). or_else found (first os)) (
-        ap (λ (c : Conjunct). offending g (conjunct_of c)) is
-        ∙ ap (offending g) (of-Either l left right ps)
-        ∙ same_offences g (numbering ps) (one_holds l ts us)
-        ∙ ap (λ (os : List Offender). os ++ offending g (joined l us)) (offending_joined g l ts)
-        ∙ ap (λ (os : List Offender). all_offenders g ts ++ os) (offending_joined g l us)))
+    ap (λ (c : Conjunct). offending g (conjunct_of c)) is
+    ∙ ap (offending g) (of-Either l left right ps)
+    ∙ same_offences g (numbering ps) (one_holds l ts us)
+    ∙ ap (λ (os : List Offender). os ++ offending g (joined l us)) (offending_joined g l ts)
+    ∙ ap (λ (os : List Offender). all_offenders g ts ++ os) (offending_joined g l us)))

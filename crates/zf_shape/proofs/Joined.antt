@@ -26,19 +26,17 @@ none_joined l (t ∷ ts) none = absurd (omega (arith, none))
 pub joined_low : (below i : ℕ) (t : ResolvedTree) (ts : List ResolvedTree) → 1 ≤ i → (height (all_joined t ts) ≤ below + (i + length ts)) ↔ ((height t ≤ below + i) × AreLow below i ts)
 joined_low below i t [] some = (λ h. (omega (arith, h), tt), λ h. omega (arith, h.0))
 joined_low below i t (u ∷ us) some =
-    let rest = joined_low below (i + 1) (both_hold t u) us (omega arith) in
-    (
-        λ h. let both = rest.0 (omega (arith, h)) in (omega (arith, both.0), (omega (arith, both.0, some), both.1)),
-        λ h. omega (arith, rest.1 (omega (arith, h.0, h.1.0, some), h.1.1)),
+    let rest = joined_low below (i + 1) (both_hold t u) us (omega arith) in (
+      λ h. let both = rest.0 (omega (arith, h)) in (omega (arith, both.0), (omega (arith, both.0, some), both.1)),
+      λ h. omega (arith, rest.1 (omega (arith, h.0, h.1.0, some), h.1.1)),
     )
 
 pub low_joined : (l below n : ℕ) (ts : List ResolvedTree) → below + length ts ≡ n → 0 < length ts → (height (joined l ts) ≤ n) ↔ AreLow below 0 ts
 low_joined l below n [] e some = absurd (omega (arith, some))
 low_joined l below n (t ∷ ts) e some =
-    let rest = joined_low below 1 t ts (omega arith) in
-    (
-        λ h. let both = rest.0 (omega (arith, h, e)) in (omega (arith, both.0), both.1),
-        λ h. omega (arith, e, rest.1 (omega (arith, h.0), h.1)),
+    let rest = joined_low below 1 t ts (omega arith) in (
+      λ h. let both = rest.0 (omega (arith, h, e)) in (omega (arith, both.0), both.1),
+      λ h. omega (arith, e, rest.1 (omega (arith, h.0), h.1)),
     )
 
 pub none_low : (l : ℕ) (ts : List ResolvedTree) → length ts ≡ 0 → height (joined l ts) ≡ 1
@@ -143,11 +141,12 @@ parts : (xs : List Batch) (i : ℕ) (x : Batch) → x ≡ get_or xs i x → i < 
 parts [] i x at l = absurd (omega arith)
 parts (y ∷ xs) zero x at l = (all_in xs, ap (λ b. batch_of b ++ all_in xs) (sym at))
 parts (y ∷ xs) (suc i) x at l =
-    let later = parts xs i x at (omega arith) in
-    (later.0,
-        ap (λ ts. batch_of y ++ ts) later.1
-        ∙ sym (append_assoc (batch_of y) (all_in (take i xs) ++ batch_of x) later.0)
-        ∙ ap (λ ts. ts ++ later.0) (sym (append_assoc (batch_of y) (all_in (take i xs)) (batch_of x))))
+    let later = parts xs i x at (omega arith) in (
+      later.0,
+      ap (λ ts. batch_of y ++ ts) later.1
+          ∙ sym (append_assoc (batch_of y) (all_in (take i xs) ++ batch_of x) later.0)
+          ∙ ap (λ ts. ts ++ later.0) (sym (append_assoc (batch_of y) (all_in (take i xs)) (batch_of x))),
+    )
 
 pub count_before : (xs : List Batch) (i : ℕ) (x : Batch) → x ≡ get_or xs i x → i < length xs → length (all_in (take i xs)) + length x.conjuncts ≤ length (all_in xs)
 count_before xs i x at l =

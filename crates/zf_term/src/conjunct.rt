@@ -90,11 +90,7 @@ impl<'a> Conjunct<'a> {
 
     /// The conjunct with its components numbered anew.
     #[tactic(auto, using(crate::proofs::ConjunctsSeen::seen))]
-    pub fn moved(
-        &self,
-        arena: &'a Bump,
-        places: &Places<'a>,
-    ) -> Result<Conjunct<'a>, AllocError>
+    pub fn moved(&self, arena: &'a Bump, places: &Places<'a>) -> Result<Conjunct<'a>, AllocError>
         ensures { IfOk result (λ c. conjunct_of c ≡ spec.moved (spec.numbering places.now) (conjunct_of self.now)) }
     {
         match self {
@@ -144,9 +140,7 @@ impl<'a> Share for Conjunct<'a> {
     }
 }
 
-fn shared<'a>(
-    places: &Places<'a>,
-) -> Places<'a>
+fn shared<'a>(places: &Places<'a>) -> Places<'a>
     ensures { result ≡ places.now }
 {
     match places {
