@@ -1,3 +1,3 @@
 pub mod FirstOffenders
+pub mod JoinedOffences
 pub mod SameOffences
-pub mod ConjunctOffenders
