@@ -13,3 +13,4 @@ pub mod Decorating
 pub mod Changing
 pub mod Memberships
 pub mod Disjoining
+pub mod Batches

@@ -2,15 +2,14 @@
 ghost use Rattle.std.specs.Prelude.{◌≡◌, ◌++◌, ◌∷◌, ◌≤◌, IfErr, IfOk, OnOk, flat_map, length, map};
 ghost use Rattle.zf_data.specs.Chunks.{all_of};
 ghost use Rattle.zf_term.specs.Definitions.{batch_of, comp_of, conjunct_of, schema_of, set_of};
-ghost use Rattle.zf_reference.specs.Numbering.{place_in};
 ghost use Rattle.zf_term.specs.Shapes as shape;
 ghost use Rattle.zf_term.specs.Types.{type_of};
 ghost use Rattle.zf_term.specs.Faults.{too_large};
 ghost use Rattle.zf_term.specs.declared.fault.Limit.TheVariants as limit;
 ghost use Rattle.zf_calculus.specs.Calculus as spec;
-ghost use Rattle.zf_calculus.specs.Calculus.{Agree, comp_named, disjoined, either_comps, with_comps};
+ghost use Rattle.zf_calculus.specs.Calculus.{Agree, comp_named, disjoined, either_comps, new_place, with_comp, with_comps};
 ghost use Rattle.zf_calculus.specs.Steps.{IsNext, OneClashes, Stops};
-ghost use Rattle.zf_calculus.specs.Growth.{IfStopped, IsGrowing, disjoined_over, either_comp};
+ghost use Rattle.zf_calculus.specs.Growth.{AreEither, IfStopped, IsGrowing, disjoined_over, either_comp};
 ghost use Rattle.zf_term.specs.Limits.{AreFew, IsTooLarge};
 
 use crate::components::{agree, new_places};
@@ -76,14 +75,31 @@ fn either_all<'a>(
 {
     let mut made = either_left(arena, left, right)?;
     for component in right {
-        if component_of(made.as_slice(), component.name.as_slice()).is_none() {
-            if made.len() >= COMPONENTS_MAX {
-                return Err(Stop::TooLarge(Limit::Components));
-            }
-            made.push(either(arena, component, left, right)?)?;
-        }
+        push_new(arena, component, left, right, &mut made)?;
     }
     Ok(made)
+}
+
+/// A component of the right side, if there is none of its name yet, and if there is room.
+fn push_new<'a>(
+    arena: &'a Bump,
+    component: &Component<'a>,
+    left: &[Component<'a>],
+    right: &[Component<'a>],
+    made: &mut Items<'a, Component<'a>>,
+) -> Result<(), Stop<'a>>
+    requires { AreEither (map comp_of left.now) (map comp_of right.now) (map comp_of made.old) }
+    ensures ok { OnOk result (map comp_of made.new ≡ map (either_comp (map comp_of left.now) (map comp_of right.now)) (with_comp (map comp_of made.old) (comp_of component.now))) }
+    ensures err { IfErr result (λ e. IfStopped e (λ o. (o ≡ too_large limit.Components) × (AreFew (with_comp (map comp_of made.old) (comp_of component.now)) → ⊥))) }
+{
+    if component_of(made.as_slice(), component.name.as_slice()).is_some() {
+        return Ok(());
+    }
+    if made.len() >= COMPONENTS_MAX {
+        return Err(Stop::TooLarge(Limit::Components));
+    }
+    made.push(either(arena, component, left, right)?)?;
+    Ok(())
 }
 
 /// The components of a disjunction that the left side has.
@@ -167,15 +183,24 @@ fn push_batch<'a>(
     places: &Places<'a>,
     batches: &mut Items<'a, Batch<'a>>,
 ) -> Result<(), AllocError>
+    ensures { OnOk result (all_of (map batch_of batches.new) ≡ all_of (map batch_of batches.old) ++ map (shape.moved (shape.numbering places.now)) (map conjunct_of conjuncts.entry)) }
 {
     if conjuncts.get().len() == 0 {
         return Ok(());
     }
-    let places = match places {
+    let places = same_places(places);
+    batches.push(Batch { conjuncts, places })
+}
+
+fn same_places<'a>(
+    places: &Places<'a>,
+) -> Places<'a>
+    ensures { result ≡ places.now }
+{
+    match places {
         None => None,
         Some(places) => Some(places.share()),
-    };
-    batches.push(Batch { conjuncts, places })
+    }
 }
 
 /// Where these components are among the others, if not each at its own place.
@@ -184,6 +209,7 @@ fn other_places<'a>(
     components: &[Component<'a>],
     among: &[Component<'a>],
 ) -> Result<Places<'a>, AllocError>
+    ensures { IfOk result (λ places. shape.moved (shape.numbering places) ≡ shape.moved (new_place (map comp_of components.now) (map comp_of among.now))) }
 {
     let places = new_places(arena, components, among)?;
     if are_own(places.as_slice()) {
