@@ -1,9 +1,11 @@
--- The components of disjunctions.
-use Rattle.zf_calculus.proofs.Prelude.{if◌then◌else◌, ◌++◌, ◌+◌, ◌∙◌, ◌∷◌, ◌≡◌, [], ap, arith, Bool, false, inr, length, List, map, None, Option, refl, slice_get, Some, subst, sym, true, ℕ, length-map, map-append, none-some, same_Some, bytes_eq, of-Either, Comp, comp_of, DeclaredSet, one_holds, Schema, schema_of, set_of, sets_of, sides, later, ResolvedTree, moved, type_of, Offence, Component, Domain, Flat, ZType, carried, comp, comp_named, constraints, disjoined, either_comps, place_of, place_or, sets_on, with_comp, with_comps, AreEither, disjoined_over, either_comp, place_found, place_named, IsTooLarge, IsWithin, IsNext, Stops}
+-- The components of disjunctions, and the places of a side's components.
+use Rattle.zf_calculus.proofs.Prelude.{if◌then◌else◌, ◌++◌, ◌+◌, ◌<◌, ◌∙◌, ◌∷◌, ◌≡◌, ◌≤◌, [], add-one, ap, arith, bytes_eq, Bool, carried, Comp, comp, comp_named, comp_of, Component, DeclaredSet, disjoined, disjoined_over, Domain, either_comp, false, Flat, get_or, inr, IsNext, IsTooLarge, IsWithin, later, length, length-append, length-map, List, map, map-append, moved, new_place, None, none-some, numbering, Offence, of-Either, one_holds, Option, place_found, place_named, place_of, place_or, refl, ResolvedTree, same_Some, Schema, schema_of, set, set_of, sets_of, sets_on, sides, slice_get, Some, Stops, subst, suc, sym, take, too_large, true, type_of, unmoved, with_comp, with_comps, zero, ZType, ℕ}
 use Rattle.std.proofs.Math.Path.{fun_ext}
+use Rattle.std.proofs.Math.Seq.{map-set_same}
 use Rattle.zf_term.specs.declared.schema.Domain.TheVariants as v
-use Rattle.zf_calculus.specs.Calculus.{schema_of as new_schema}
-use Rattle.zf_calculus.proofs.Merging.{new_last, none_shorter}
+use Rattle.zf_term.specs.declared.fault.Limit.TheVariants as limit
+use Rattle.zf_calculus.specs.Calculus.{constraints, either_comps}
+use Rattle.zf_calculus.proofs.Merging.{known_in_place, known_is, new_last, none_shorter}
 use Rattle.zf_calculus.proofs.Placing.{TooMany}
 
 pub either_seen : (c : Component) (cs ds : List Comp) (name : List ℕ) (t : ZType) (domains left right : List Domain) → name ≡ c.name → t ≡ c.ztype → map set_of left ≡ sets_on (comp_named c.name cs) (type_of c.ztype) → map set_of right ≡ sets_on (comp_named c.name ds) (type_of c.ztype) → domains ≡ v.Either left right ∷ [] → comp_of (record { name = name; ztype = t; domains = domains }) ≡ either_comp cs ds (comp_of c)
@@ -15,126 +17,128 @@ either_seen c cs ds name t domains left right e f l r h =
     ∙ ap (λ (xs : List DeclaredSet). comp c.name (type_of c.ztype) (sides (sets_of xs) (sets_of (map set_of right)) ∷ [])) l
     ∙ ap (λ (xs : List DeclaredSet). comp c.name (type_of c.ztype) (sides (sets_of (sets_on (comp_named c.name cs) (type_of c.ztype))) (sets_of xs) ∷ [])) r
 
--- ---- each component by its name and type alone
+-- ---- one more component, of which a disjunction keeps the name and the type alone
 
-either_twice : (cs ds es : List Comp) → map (either_comp cs ds) (map (either_comp cs ds) es) ≡ map (either_comp cs ds) es
-either_twice cs ds [] = refl
-either_twice cs ds (e ∷ es) = ap (λ (xs : List Comp). either_comp cs ds e ∷ xs) (either_twice cs ds es)
+either_kept : (cs ds xs : List Comp) (c d : Comp) (i : ℕ) → comp_named c.name xs ≡ Some (i, d) → map (either_comp cs ds) (with_comp xs c) ≡ map (either_comp cs ds) xs
+either_kept cs ds xs c d i h =
+    let y = comp d.name d.type (d.sets ++ c.sets) in
+    ap (map (either_comp cs ds)) (known_in_place xs c d i h)
+    ∙ map-set_same (either_comp cs ds) xs i y d (ap (either_comp cs ds) (sym (known_is c.name xs d i h).1))
 
-with_either : (cs ds es : List Comp) (c : Comp) → map (either_comp cs ds) (with_comp (map (either_comp cs ds) es) c) ≡ map (either_comp cs ds) (with_comp es c)
-with_either cs ds [] c = refl
-with_either cs ds (e ∷ es) c = by (bytes_eq e.name c.name) (with_either cs ds es c)
+later_found : (o q : Option (ℕ × Comp)) → place_found o ≡ place_found q → place_found (later o) ≡ place_found (later q)
+later_found None None e = refl
+later_found None (Some r) e = absurd (none-some r.0 e)
+later_found (Some p) None e = absurd (none-some p.0 (sym e))
+later_found (Some p) (Some r) e = ap (λ n. Some (n + 1)) (same_Some p.0 r.0 e)
+
+pub place_kept : (cs ds xs : List Comp) (x : List ℕ) → place_named x (map (either_comp cs ds) xs) ≡ place_named x xs
+place_kept cs ds [] x = refl
+place_kept cs ds (d ∷ es) x = by (bytes_eq d.name x) (place_kept cs ds es x)
   where
-    by :
-        (t : Bool) → map (either_comp cs ds) (with_comp (map (either_comp cs ds) es) c) ≡ map (either_comp cs ds) (with_comp es c)
-        → map (either_comp cs ds) (if t then comp e.name e.type ((either_comp cs ds e).sets ++ c.sets) ∷ map (either_comp cs ds) es else either_comp cs ds e ∷ with_comp (map (either_comp cs ds) es) c)
-        ≡ map (either_comp cs ds) (if t then comp e.name e.type (e.sets ++ c.sets) ∷ es else e ∷ with_comp es c)
-    by true rest = ap (λ (xs : List Comp). either_comp cs ds e ∷ xs) (either_twice cs ds es)
-    by false rest = ap (λ (xs : List Comp). either_comp cs ds e ∷ xs) rest
+    by : (b : Bool) → place_named x (map (either_comp cs ds) es) ≡ place_named x es → place_found (if b then Some (0, either_comp cs ds d) else later (comp_named x (map (either_comp cs ds) es))) ≡ place_found (if b then Some (0, d) else later (comp_named x es))
+    by true rest = refl
+    by false rest = later_found (comp_named x (map (either_comp cs ds) es)) (comp_named x es) rest
 
-all_either : (cs ds es fs : List Comp) → map (either_comp cs ds) (with_comps (map (either_comp cs ds) es) fs) ≡ map (either_comp cs ds) (with_comps es fs)
-all_either cs ds es [] = either_twice cs ds es
-all_either cs ds es (f ∷ fs) =
-    sym (all_either cs ds (with_comp (map (either_comp cs ds) es) f) fs)
-    ∙ ap (λ (xs : List Comp). map (either_comp cs ds) (with_comps xs fs)) (with_either cs ds es f)
-    ∙ all_either cs ds (with_comp es f) fs
+pub found_before : (o : Option (ℕ × Comp)) (i : ℕ) → place_found o ≡ Some i → (d : Comp) × (o ≡ Some (i, d))
+found_before None i h = absurd (none-some i h)
+found_before (Some p) i h = (p.1, ap (λ n. Some (n, p.1)) (sym (same_Some i p.0 (sym h))))
 
--- ---- one component more
+none_before : (o : Option (ℕ × Comp)) → place_found o ≡ None → o ≡ None
+none_before None h = refl
+none_before (Some p) h = absurd (none-some p.0 (sym h))
 
--- one that is there already adds nothing
-pub known_same : (cs ds es : List Comp) (c : Comp) → (comp_named c.name es ≡ None → ⊥) → map (either_comp cs ds) (with_comp es c) ≡ map (either_comp cs ds) es
-known_same cs ds [] c known = absurd (known refl)
-known_same cs ds (e ∷ es) c known = by (bytes_eq e.name c.name) known (known_same cs ds es c)
-  where
-    by :
-        (t : Bool) → ((if t then Some (0, e) else later (comp_named c.name es)) ≡ None → ⊥)
-        → ((comp_named c.name es ≡ None → ⊥) → map (either_comp cs ds) (with_comp es c) ≡ map (either_comp cs ds) es)
-        → map (either_comp cs ds) (if t then comp e.name e.type (e.sets ++ c.sets) ∷ es else e ∷ with_comp es c) ≡ map (either_comp cs ds) (e ∷ es)
-    by true there rest = refl
-    by false there rest = ap (λ (xs : List Comp). either_comp cs ds e ∷ xs) (rest (λ none. there (ap later none)))
+place_among : (cs ds xs : List Comp) (x : List ℕ) (c : Component) (slice made : List Component) → x ≡ c.name → slice ≡ made → map comp_of made ≡ map (either_comp cs ds) xs → place_named x (map comp_of slice) ≡ place_named c.name xs
+place_among cs ds xs x c slice made e f is =
+    ap (λ (y : List ℕ). place_named y (map comp_of slice)) e
+    ∙ ap (λ (es : List Component). place_named c.name (map comp_of es)) f
+    ∙ ap (place_named c.name) is
+    ∙ place_kept cs ds xs c.name
 
-pub new_pushed : (cs ds es : List Comp) (c : Comp) → AreEither cs ds es → comp_named c.name es ≡ None → es ++ either_comp cs ds c ∷ [] ≡ map (either_comp cs ds) (with_comp es c)
-new_pushed cs ds es c own none =
-    ap (λ (xs : List Comp). xs ++ either_comp cs ds c ∷ []) (sym own)
-    ∙ sym (map-append (either_comp cs ds) es (c ∷ []))
-    ∙ ap (map (either_comp cs ds)) (sym (new_last es c none))
+pub more_known :
+    (cs ds : List Comp) (x : List ℕ) (c : Component) (slice made : List Component) (i : ℕ) → x ≡ c.name → slice ≡ made → (d : Comp) × (comp_named x (map comp_of slice) ≡ Some (i, d))
+    → (xs : List Comp) → map comp_of made ≡ map (either_comp cs ds) xs → map comp_of made ≡ map (either_comp cs ds) (with_comp xs (comp_of c))
+more_known cs ds x c slice made i e f h xs is =
+    let there = found_before (comp_named c.name xs) i (sym (place_among cs ds xs x c slice made e f is) ∙ ap place_found h.1) in
+    is ∙ sym (either_kept cs ds xs (comp_of c) there.0 i there.1)
+
+unknown : (cs ds : List Comp) (x : List ℕ) (c : Component) (slice made : List Component) → x ≡ c.name → slice ≡ made → comp_named x (map comp_of slice) ≡ None → (xs : List Comp) → map comp_of made ≡ map (either_comp cs ds) xs → with_comp xs (comp_of c) ≡ xs ++ comp_of c ∷ []
+unknown cs ds x c slice made e f h xs is = new_last xs (comp_of c) (none_before (comp_named c.name xs) (sym (place_among cs ds xs x c slice made e f is) ∙ ap place_found h))
+
+pub more_new :
+    (cs ds : List Comp) (x : List ℕ) (c new : Component) (slice made more : List Component) → x ≡ c.name → slice ≡ made → comp_named x (map comp_of slice) ≡ None
+    → comp_of new ≡ either_comp cs ds (comp_of c) → more ≡ made ++ new ∷ []
+    → (xs : List Comp) → map comp_of made ≡ map (either_comp cs ds) xs → map comp_of more ≡ map (either_comp cs ds) (with_comp xs (comp_of c))
+more_new cs ds x c new slice made more e f h one push xs is =
+    ap (map comp_of) push
+    ∙ map-append comp_of made (new ∷ [])
+    ∙ ap (λ (es : List Comp). es ++ comp_of new ∷ []) is
+    ∙ ap (λ (d : Comp). map (either_comp cs ds) xs ++ d ∷ []) one
+    ∙ sym (map-append (either_comp cs ds) xs (comp_of c ∷ []))
+    ∙ ap (map (either_comp cs ds)) (sym (unknown cs ds x c slice made e f h xs is))
+
+pub more_than_few :
+    (cs ds : List Comp) (x : List ℕ) (c : Component) (slice made : List Component) → x ≡ c.name → slice ≡ made → comp_named x (map comp_of slice) ≡ None → 64 ≤ length made
+    → (xs : List Comp) → map comp_of made ≡ map (either_comp cs ds) xs → length (with_comp xs (comp_of c)) ≤ 64 → ⊥
+more_than_few cs ds x c slice made e f h many xs is few =
+    omega (arith, many, few, ap length (unknown cs ds x c slice made e f h xs is), length-append xs (comp_of c ∷ []), ap length is, length-map made comp_of, length-map xs (either_comp cs ds))
 
 -- ---- all components
 
--- what is made so far, and what comes of those ahead
-pub record SoFar (cs ds made ahead : List Comp) : Type 0 where
-  pub own : AreEither cs ds made
-  pub whole : map (either_comp cs ds) (with_comps made ahead) ≡ either_comps cs ds
+further : (cs : List Comp) (xs : List Component) (i : ℕ) (x : Component) → x ≡ get_or xs i x → i < length xs → with_comps cs (map comp_of (take (suc i) xs)) ≡ with_comp (with_comps cs (map comp_of (take i xs))) (comp_of x)
+further cs [] i x at l = absurd (omega arith)
+further cs (y ∷ ys) zero x at l = ap (λ z. with_comp cs (comp_of z)) (sym at)
+further cs (y ∷ ys) (suc i) x at l = further (with_comp cs (comp_of y)) ys i x at (omega arith)
 
-pub first_made : (cs ds made : List Comp) → made ≡ map (either_comp cs ds) cs → SoFar cs ds made ds
-first_made cs ds made e = record {
-  own = ap (map (either_comp cs ds)) e ∙ either_twice cs ds cs ∙ sym e;
-  whole = ap (λ (xs : List Comp). map (either_comp cs ds) (with_comps xs ds)) e ∙ all_either cs ds cs ds;
-}
+pub one_further : (cs : List Comp) (xs : List Component) (i : ℕ) (x : Component) → x ≡ get_or xs i x → i < length xs → with_comps cs (map comp_of (take (i + 1) xs)) ≡ with_comp (with_comps cs (map comp_of (take i xs))) (comp_of x)
+one_further cs xs i x at l = rw add-one (further cs xs i x at l)
 
-pub one_made : (cs ds made more ahead : List Comp) (c : Comp) → more ≡ map (either_comp cs ds) (with_comp made c) → SoFar cs ds made (c ∷ ahead) → SoFar cs ds more ahead
-one_made cs ds made more ahead c e h = record {
-  own = ap (map (either_comp cs ds)) e ∙ either_twice cs ds (with_comp made c) ∙ sym e;
-  whole = ap (λ (xs : List Comp). map (either_comp cs ds) (with_comps xs ahead)) e ∙ all_either cs ds (with_comp made c) ahead ∙ h.whole;
-}
+no_more : (cs : List Comp) (xs : List Component) (i : ℕ) (x : Component) → x ≡ get_or xs i x → i < length xs → length (with_comp (with_comps cs (map comp_of (take i xs))) (comp_of x)) ≤ length (with_comps cs (map comp_of xs))
+no_more cs [] i x at l = absurd (omega arith)
+no_more cs (y ∷ ys) zero x at l = omega (arith, none_shorter (with_comp cs (comp_of y)) (map comp_of ys), ap (λ z. length (with_comp cs (comp_of z))) at)
+no_more cs (y ∷ ys) (suc i) x at l = no_more (with_comp cs (comp_of y)) ys i x at (omega arith)
 
-pub all_made : (cs ds made : List Comp) → SoFar cs ds made [] → made ≡ either_comps cs ds
-all_made cs ds made h = sym h.own ∙ h.whole
+-- one that is too many among the first is too many among all
+pub stops_among :
+    (cs ds : List Comp) (xs : List Component) (i : ℕ) (x : Component) (made : List Comp) → x ≡ get_or xs i x → i < length xs
+    → made ≡ map (either_comp cs ds) (with_comps cs (map comp_of (take i xs)))
+    → (k : Offence) → (k ≡ too_large limit.Components) × ((es : List Comp) → made ≡ map (either_comp cs ds) es → length (with_comp es (comp_of x)) ≤ 64 → ⊥)
+    → TooMany (with_comps cs (map comp_of xs)) k
+stops_among cs ds xs i x made at l is k h = (h.0, λ few. h.1 (with_comps cs (map comp_of (take i xs))) is (omega (arith, few, no_more cs xs i x at l)))
 
-pub stops_making : (cs ds made ahead : List Comp) (c : Comp) → SoFar cs ds made (c ∷ ahead) → (k : Offence) → TooMany (with_comp made c) k → TooMany (with_comps cs ds) k
-stops_making cs ds made ahead c h k stop =
-    let less = none_shorter (with_comp made c) ahead in
-    let first = length-map (with_comps (with_comp made c) ahead) (either_comp cs ds) in
-    let second = length-map (with_comps cs ds) (either_comp cs ds) in
-    let same = ap length h.whole in
-    (stop.0, λ w. stop.1 (omega arith))
+-- ---- places
 
--- ---- the disjunction
+or_kept : (o q : Option (ℕ × Comp)) (i : ℕ) → place_found o ≡ place_found q → place_or o i ≡ place_or q i
+or_kept None None i e = refl
+or_kept None (Some r) i e = absurd (none-some r.0 e)
+or_kept (Some p) None i e = absurd (none-some p.0 (sym e))
+or_kept (Some p) (Some r) i e = sym (same_Some p.0 r.0 e)
 
--- places go by names alone
-found_either : (cs ds : List Comp) (o q : Option (ℕ × Comp)) → place_found o ≡ place_found q → (i : ℕ) → place_or o i ≡ place_or q i
-found_either cs ds None None e i = refl
-found_either cs ds None (Some q) e i = absurd (none-some q.0 e)
-found_either cs ds (Some p) None e i = absurd (none-some p.0 (sym e))
-found_either cs ds (Some p) (Some q) e i = same_Some p.0 q.0 e
+of_kept : (cs ds xs : List Comp) (o : Option Comp) (i : ℕ) → place_of o (map (either_comp cs ds) xs) i ≡ place_of o xs i
+of_kept cs ds xs None i = refl
+of_kept cs ds xs (Some c) i = or_kept (comp_named c.name (map (either_comp cs ds) xs)) (comp_named c.name xs) i (place_kept cs ds xs c.name)
 
-named_either : (cs ds es : List Comp) (x : List ℕ) → place_named x (map (either_comp cs ds) es) ≡ place_named x es
-named_either cs ds [] x = refl
-named_either cs ds (e ∷ es) x = by (bytes_eq e.name x) (later_either (comp_named x (map (either_comp cs ds) es)) (comp_named x es) (named_either cs ds es x))
-  where
-    later_either : (o q : Option (ℕ × Comp)) → place_found o ≡ place_found q → place_found (later o) ≡ place_found (later q)
-    later_either None None h = refl
-    later_either None (Some q) h = absurd (none-some q.0 h)
-    later_either (Some p) None h = absurd (none-some p.0 (sym h))
-    later_either (Some p) (Some q) h = ap (λ (n : ℕ). Some (n + 1)) (same_Some p.0 q.0 h)
+carried_kept : (cs ds xs es : List Comp) (ts : List ResolvedTree) → carried es (map (either_comp cs ds) xs) ts ≡ carried es xs ts
+carried_kept cs ds xs es ts = ap (λ (f : ℕ → ℕ). map (moved f) ts) (fun_ext (λ i. of_kept cs ds xs (slice_get es i) i))
 
-    by : (t : Bool) → place_found (later (comp_named x (map (either_comp cs ds) es))) ≡ place_found (later (comp_named x es)) → place_found (if t then Some (0, either_comp cs ds e) else later (comp_named x (map (either_comp cs ds) es))) ≡ place_found (if t then Some (0, e) else later (comp_named x es))
-    by true rest = refl
-    by false rest = rest
+pub all_alike : (f g : ResolvedTree → ResolvedTree) (ts : List ResolvedTree) → ((t : ResolvedTree) → f t ≡ g t) → map f ts ≡ map g ts
+all_alike f g [] same = refl
+all_alike f g (t ∷ ts) same = let here = same t in let rest = all_alike f g ts same in (cc)
 
-place_either : (cs ds es : List Comp) (o : Option Comp) (i : ℕ) → place_of o (map (either_comp cs ds) es) i ≡ place_of o es i
-place_either cs ds es None i = refl
-place_either cs ds es (Some c) i = found_either cs ds (comp_named c.name (map (either_comp cs ds) es)) (comp_named c.name es) (named_either cs ds es c.name) i
+-- ---- the whole
 
-carried_either : (cs ds es fs : List Comp) (ts : List ResolvedTree) → carried fs (map (either_comp cs ds) es) ts ≡ carried fs es ts
-carried_either cs ds es fs ts = ap (λ (f : ℕ → ℕ). map (moved f) ts) (fun_ext (λ i. place_either cs ds es (slice_get fs i) i))
-
-pub whole_made : (l : ℕ) (a b : Schema) (all : List Comp) → all ≡ either_comps a.comps b.comps → disjoined_over all l a b ≡ disjoined l a b
-whole_made l a b all e =
-    ap (λ (es : List Comp). disjoined_over es l a b) e
-    ∙ ap (λ (ts : List ResolvedTree). new_schema (either_comps a.comps b.comps) (one_holds l (constraints a) ts ∷ [])) (carried_either a.comps b.comps (with_comps a.comps b.comps) b.comps (constraints b))
-
-pub disjunction_made :
-    (l : ℕ) (left right flat : Flat) (all cs ds : List Component) → schema_of flat ≡ disjoined_over (map comp_of all) l (schema_of left) (schema_of right)
-    → map comp_of all ≡ either_comps (map comp_of cs) (map comp_of ds) → cs ≡ left.components → ds ≡ right.components
-    → schema_of flat ≡ disjoined l (schema_of left) (schema_of right)
-disjunction_made l left right flat all cs ds made whole e f =
-    let joined : map comp_of all ≡ either_comps (map comp_of left.components) (map comp_of right.components) =
-    whole
+pub disjunction_made : (l : ℕ) (left right flat : Flat) (all given cs ds : List Component) → schema_of flat ≡ disjoined_over (map comp_of given) l (schema_of left) (schema_of right) → given ≡ all → map comp_of all ≡ either_comps (map comp_of cs) (map comp_of ds) → cs ≡ left.components → ds ≡ right.components → schema_of flat ≡ disjoined l (schema_of left) (schema_of right)
+disjunction_made l left right flat all given cs ds made g whole e f =
+    let a = schema_of left in
+    let b = schema_of right in
+    let joined : map comp_of given ≡ either_comps a.comps b.comps =
+    ap (map comp_of) g
+    ∙ whole
     ∙ ap (λ (xs : List Component). either_comps (map comp_of xs) (map comp_of ds)) e
     ∙ ap (λ (xs : List Component). either_comps (map comp_of left.components) (map comp_of xs)) f
     in
-    made ∙ whole_made l (schema_of left) (schema_of right) (map comp_of all) joined
+    made
+    ∙ ap (λ (xs : List Comp). disjoined_over xs l a b) joined
+    ∙ ap (λ (ts : List ResolvedTree). record { comps = either_comps a.comps b.comps; conjuncts = one_holds l (constraints a) ts ∷ [] }) (carried_kept a.comps b.comps (with_comps a.comps b.comps) b.comps (constraints b))
 
 pub stops_disjoining : (clashes : Offence → Type 0) (agree : Type 0) (a b : Schema) → a ≡ b → agree → (k : Offence) → IsTooLarge a k → Stops clashes agree b k
 stops_disjoining clashes agree a b e ok k h = inr (ok, subst (λ (s : Schema). IsTooLarge s k) e h)

@@ -13,4 +13,3 @@ pub mod Decorating
 pub mod Changing
 pub mod Memberships
 pub mod Disjoining
-pub mod Batches

@@ -1,5 +1,5 @@
 -- A schema that grows within the limits, and what stops it.
-use Rattle.std.specs.Prelude.{◌≡◌, ℕ, ◌+◌, ◌++◌, List, [], ◌∷◌, map, Option, Some, None}
+use Rattle.std.specs.Prelude.{◌≡◌, ℕ, ◌+◌, ◌++◌, List, [], ◌∷◌, Option, Some, None}
 use Rattle.std.specs.List.{sum_by}
 use Rattle.zf_tree.specs.declared.symbol.Relation.TheVariants.{Equal}
 use Rattle.zf_term.specs.declared.schema.Component.{Component}
@@ -75,10 +75,6 @@ equalities l i (p ∷ ps) = equality l i p ∷ equalities l (i + 1) ps
 -- a component of a disjunction, with its declared sets on either side
 abbrev pub either_comp : List Comp → List Comp → Comp → Comp
 either_comp cs ds c = calculus.comp c.name c.type (sides (sets_of (calculus.sets_on (calculus.comp_named c.name cs) c.type)) (sets_of (calculus.sets_on (calculus.comp_named c.name ds) c.type)) ∷ [])
-
--- the components are those of a disjunction, as far as they go
-abbrev pub AreEither : List Comp → List Comp → List Comp → Type 0
-AreEither cs ds es = map (either_comp cs ds) es ≡ es
 
 -- the disjunction, which has these components
 abbrev pub disjoined_over : List Comp → (line : ℕ) → Schema → Schema → Schema

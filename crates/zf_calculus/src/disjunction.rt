@@ -1,7 +1,8 @@
 //! Disjunctions of schemas.
-ghost use Rattle.std.specs.Prelude.{◌≡◌, ◌++◌, ◌∷◌, ◌≤◌, IfErr, IfOk, OnOk, flat_map, length, map};
+ghost use Rattle.std.specs.Prelude.{◌≡◌, ◌++◌, IfErr, IfOk, List, OnOk, flat_map, map};
 ghost use Rattle.zf_data.specs.Chunks.{all_of};
-ghost use Rattle.zf_term.specs.Definitions.{batch_of, comp_of, conjunct_of, schema_of, set_of};
+ghost use Rattle.zf_term.specs.Definitions.{Comp, batch_of, comp_of, conjunct_of, schema_of, set_of};
+ghost use Rattle.zf_term.specs.ResolvedTrees.{ResolvedTree};
 ghost use Rattle.zf_term.specs.Shapes as shape;
 ghost use Rattle.zf_term.specs.Types.{type_of};
 ghost use Rattle.zf_term.specs.Faults.{too_large};
@@ -9,10 +10,10 @@ ghost use Rattle.zf_term.specs.declared.fault.Limit.TheVariants as limit;
 ghost use Rattle.zf_calculus.specs.Calculus as spec;
 ghost use Rattle.zf_calculus.specs.Calculus.{Agree, comp_named, disjoined, either_comps, new_place, with_comp, with_comps};
 ghost use Rattle.zf_calculus.specs.Steps.{IsNext, OneClashes, Stops};
-ghost use Rattle.zf_calculus.specs.Growth.{AreEither, IfStopped, IsGrowing, disjoined_over, either_comp};
+ghost use Rattle.zf_calculus.specs.Growth.{IfStopped, IsGrowing, disjoined_over, either_comp};
 ghost use Rattle.zf_term.specs.Limits.{AreFew, IsTooLarge};
 
-use crate::components::{agree, new_places};
+use crate::components::{agree, new_places, place_of};
 use crate::growing::{Growing, are_own};
 use crate::limits::COMPONENTS_MAX;
 use crate::stop::Stop;
@@ -75,31 +76,32 @@ fn either_all<'a>(
 {
     let mut made = either_left(arena, left, right)?;
     for component in right {
-        push_new(arena, component, left, right, &mut made)?;
+        either_more(arena, &mut made, component, left, right)?;
     }
     Ok(made)
 }
 
-/// A component of the right side, if there is none of its name yet, and if there is room.
-fn push_new<'a>(
+/// One more component of a disjunction, if none has its name, and if there is room.
+fn either_more<'a>(
     arena: &'a Bump,
+    made: &mut Items<'a, Component<'a>>,
     component: &Component<'a>,
     left: &[Component<'a>],
     right: &[Component<'a>],
-    made: &mut Items<'a, Component<'a>>,
 ) -> Result<(), Stop<'a>>
-    requires { AreEither (map comp_of left.now) (map comp_of right.now) (map comp_of made.old) }
-    ensures ok { OnOk result (map comp_of made.new ≡ map (either_comp (map comp_of left.now) (map comp_of right.now)) (with_comp (map comp_of made.old) (comp_of component.now))) }
-    ensures err { IfErr result (λ e. IfStopped e (λ o. (o ≡ too_large limit.Components) × (AreFew (with_comp (map comp_of made.old) (comp_of component.now)) → ⊥))) }
+    ensures ok { OnOk result ((cs : List Comp) → map comp_of made.old ≡ map (either_comp (map comp_of left.now) (map comp_of right.now)) cs → map comp_of made.new ≡ map (either_comp (map comp_of left.now) (map comp_of right.now)) (with_comp cs (comp_of component.now))) }
+    ensures err { IfErr result (λ e. IfStopped e (λ o. (o ≡ too_large limit.Components) × ((cs : List Comp) → map comp_of made.old ≡ map (either_comp (map comp_of left.now) (map comp_of right.now)) cs → AreFew (with_comp cs (comp_of component.now)) → ⊥))) }
 {
-    if component_of(made.as_slice(), component.name.as_slice()).is_some() {
-        return Ok(());
+    match place_of(made.as_slice(), component.name.as_slice()) {
+        Some(_) => Ok(()),
+        None => {
+            if made.len() >= COMPONENTS_MAX {
+                return Err(Stop::TooLarge(Limit::Components));
+            }
+            made.push(either(arena, component, left, right)?)?;
+            Ok(())
+        }
     }
-    if made.len() >= COMPONENTS_MAX {
-        return Err(Stop::TooLarge(Limit::Components));
-    }
-    made.push(either(arena, component, left, right)?)?;
-    Ok(())
 }
 
 /// The components of a disjunction that the left side has.
@@ -171,10 +173,21 @@ fn constraints<'a>(
     let mut memberships = Items::new(arena);
     push_all_memberships(flat.components.as_slice(), &mut memberships)?;
     push_batch(Shared::new(arena, memberships)?, places, &mut batches)?;
-    for piece in pieces.as_slice() {
-        push_batch(piece.share()?, places, &mut batches)?;
-    }
+    push_batches(pieces.as_slice(), places, &mut batches)?;
     Shared::new(arena, batches)
+}
+
+fn push_batches<'a>(
+    pieces: &[Piece<'a, Conjunct<'a>>],
+    places: &Places<'a>,
+    batches: &mut Items<'a, Batch<'a>>,
+) -> Result<(), AllocError>
+    ensures { OnOk result (all_of (map batch_of batches.new) ≡ all_of (map batch_of batches.old) ++ map (shape.moved (shape.numbering places.now)) (map conjunct_of (all_of pieces.now))) }
+{
+    for piece in pieces {
+        push_batch(piece.share()?, places, batches)?;
+    }
+    Ok(())
 }
 
 /// Several conjuncts, if there are any, of a schema whose components are at these places.
@@ -188,19 +201,7 @@ fn push_batch<'a>(
     if conjuncts.get().len() == 0 {
         return Ok(());
     }
-    let places = same_places(places);
-    batches.push(Batch { conjuncts, places })
-}
-
-fn same_places<'a>(
-    places: &Places<'a>,
-) -> Places<'a>
-    ensures { result ≡ places.now }
-{
-    match places {
-        None => None,
-        Some(places) => Some(places.share()),
-    }
+    batches.push(Batch::of(conjuncts, places))
 }
 
 /// Where these components are among the others, if not each at its own place.
@@ -209,7 +210,7 @@ fn other_places<'a>(
     components: &[Component<'a>],
     among: &[Component<'a>],
 ) -> Result<Places<'a>, AllocError>
-    ensures { IfOk result (λ places. shape.moved (shape.numbering places) ≡ shape.moved (new_place (map comp_of components.now) (map comp_of among.now))) }
+    ensures { IfOk result (λ places. (t : ResolvedTree) → shape.moved (shape.numbering places) t ≡ shape.moved (new_place (map comp_of components.now) (map comp_of among.now)) t) }
 {
     let places = new_places(arena, components, among)?;
     if are_own(places.as_slice()) {

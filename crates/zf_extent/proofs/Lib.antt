@@ -1,2 +1,3 @@
 pub mod FirstOffenders
 pub mod SameOffences
+pub mod ConjunctOffenders

@@ -13,7 +13,6 @@ use zf_term::globals::Globals;
 
 /// What was found before, or the first in the conjunct that offends.
 #[cycle(conjuncts)]
-#[tactic(auto, using(zf_term::proofs::ConjunctsSeen::seen, crate::proofs::SameOffences::same_offences))]
 pub fn offending_after<'a>(
     conjunct: &Conjunct<'a>,
     found: Option<Offender>,

@@ -1,7 +1,13 @@
 //! Conjuncts, by the places in their schema.
-ghost use Rattle.std.specs.Prelude.{◌≡◌, IfOk};
-ghost use Rattle.zf_term.specs.Definitions.{conjunct_of};
-ghost use Rattle.zf_term.specs.ResolvedTrees.{resolved_of};
+ghost use Rattle.std.specs.Prelude.{◌≡◌, IfOk, map};
+ghost use Rattle.zf_data.specs.Chunks.{all_of};
+ghost use Rattle.zf_tree.specs.declared.operator.Operator.TheVariants as operator;
+ghost use Rattle.zf_tree.specs.declared.symbol.Connective.TheVariants as connective;
+ghost use Rattle.zf_term.specs.Definitions as spec;
+ghost use Rattle.zf_term.specs.Definitions.{batch_of, conjunct_of};
+ghost use Rattle.zf_term.specs.ResolvedTrees.{binary, resolved_of};
+ghost use Rattle.zf_term.specs.Shapes as shape;
+ghost use Rattle.zf_resolved.specs.Behind.{behind, onto, tree_in};
 
 use crate::moving::{copy, moved};
 use bumpalo::Bump;
@@ -15,6 +21,7 @@ use zf_tree::symbol::{Connective, Constant, Relation};
 
 /// The term, by the places in the schema.
 #[cycle(resolved)]
+#[tactic(auto, using(zf_term::proofs::ConjunctsSeen::seen))]
 pub fn resolved<'a>(conjunct: &Conjunct<'a>, arena: &'a Bump) -> Result<Resolved<'a>, AllocError>
     ensures { IfOk result (λ t. resolved_of t ≡ conjunct_of conjunct.now) }
 {
@@ -39,7 +46,9 @@ fn placed<'a>(
     arena: &'a Bump,
     term: &Resolved<'a>,
     places: &Places<'a>,
-) -> Result<Resolved<'a>, AllocError> {
+) -> Result<Resolved<'a>, AllocError>
+    ensures { IfOk result (λ t. resolved_of t ≡ shape.moved (shape.numbering places.now) (resolved_of term.now)) }
+{
     match places {
         None => copy(term, arena),
         Some(places) => moved(term, arena, places.get().as_slice()),
@@ -51,7 +60,9 @@ fn numbered<'a>(
     arena: &'a Bump,
     term: Resolved<'a>,
     places: &Places<'a>,
-) -> Result<Resolved<'a>, AllocError> {
+) -> Result<Resolved<'a>, AllocError>
+    ensures { IfOk result (λ t. resolved_of t ≡ shape.moved (shape.numbering places.now) (resolved_of term.entry)) }
+{
     match places {
         None => Ok(term),
         Some(places) => moved(&term, arena, places.get().as_slice()),
@@ -59,11 +70,14 @@ fn numbered<'a>(
 }
 
 /// That a component lies in a declared set that a declaration names.
+#[tactic(auto, using(zf_term::proofs::ResolvedSeen::seen))]
 fn membership<'a>(
     arena: &'a Bump,
     place: usize,
     set: Resolved<'a>,
-) -> Result<Resolved<'a>, AllocError> {
+) -> Result<Resolved<'a>, AllocError>
+    ensures { IfOk result (λ t. resolved_of t ≡ spec.is_member place (resolved_of set.entry)) }
+{
     let first = set.line();
     let left = Boxed::new(arena, Resolved::Name(first, Reference::Component(place)))?;
     let links = Items::of(
@@ -82,7 +96,9 @@ fn joined<'a>(
     batches: &Items<'a, Batch<'a>>,
     line: u32,
     arena: &'a Bump,
-) -> Result<Resolved<'a>, AllocError> {
+) -> Result<Resolved<'a>, AllocError>
+    ensures { IfOk result (λ t. resolved_of t ≡ spec.joined line (all_of (map batch_of batches.now))) }
+{
     let mut whole = None;
     for batch in batches.as_slice() {
         whole = all_joined(batch, whole, arena)?;
@@ -99,7 +115,9 @@ fn all_joined<'a>(
     batch: &Batch<'a>,
     before: Option<Resolved<'a>>,
     arena: &'a Bump,
-) -> Result<Option<Resolved<'a>>, AllocError> {
+) -> Result<Option<Resolved<'a>>, AllocError>
+    ensures { IfOk result (λ o. tree_in o ≡ onto (tree_in before.entry) (batch_of batch.now)) }
+{
     let mut whole = before;
     for conjunct in batch.conjuncts.get().as_slice() {
         let term = numbered(arena, resolved(conjunct, arena)?, &batch.places)?;
@@ -108,11 +126,15 @@ fn all_joined<'a>(
     Ok(whole)
 }
 
+/// The term behind what is there, if anything is.
+#[tactic(auto, using(zf_term::proofs::ResolvedSeen::seen))]
 fn both<'a>(
     arena: &'a Bump,
     before: Option<Resolved<'a>>,
     right: Resolved<'a>,
-) -> Result<Resolved<'a>, AllocError> {
+) -> Result<Resolved<'a>, AllocError>
+    ensures { IfOk result (λ t. resolved_of t ≡ behind (tree_in before.entry) (resolved_of right.entry)) }
+{
     let Some(left) = before else {
         return Ok(right);
     };
@@ -123,12 +145,15 @@ fn both<'a>(
 }
 
 /// That one of the two holds.
+#[tactic(auto, using(zf_term::proofs::ResolvedSeen::seen))]
 fn one_holds<'a>(
     arena: &'a Bump,
     line: u32,
     left: Resolved<'a>,
     right: Resolved<'a>,
-) -> Result<Resolved<'a>, AllocError> {
+) -> Result<Resolved<'a>, AllocError>
+    ensures { IfOk result (λ t. resolved_of t ≡ binary line (operator.Connective connective.Or) (resolved_of left.entry) (resolved_of right.entry)) }
+{
     let left = Boxed::new(arena, left)?;
     let right = Boxed::new(arena, right)?;
     Ok(Resolved::Binary(line, Operator::Connective(Connective::Or), left, right))

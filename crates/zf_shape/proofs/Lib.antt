@@ -3,3 +3,4 @@ pub mod Nodes
 pub mod Heights
 pub mod SetsCounted
 pub mod Joined
+pub mod Conjuncts

@@ -33,6 +33,8 @@ of-batch cs ps = fold-roll-Batch ResolvedTree (List ResolvedTree) conjunct_step 
 pub batch-seen : (b : Batch) → batch_of b ≡ map (moved (numbering b.places)) (map conjunct_of b.conjuncts)
 batch-seen b = of-batch b.conjuncts b.places
 
+pub ruleset batches_seen = (batch-seen)
+
 -- ---- where each component has its own place
 
 pub own_term : (t : Resolved) → conjunct_of (v.Term t None) ≡ resolved_of t

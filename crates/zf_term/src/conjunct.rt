@@ -125,6 +125,19 @@ impl<'a> Conjunct<'a> {
     }
 }
 
+impl<'a> Batch<'a> {
+    /// These conjuncts, with their components at these places.
+    #[tactic(auto, using(crate::proofs::ConjunctsSeen::batches_seen))]
+    pub fn of(conjuncts: Piece<'a, Conjunct<'a>>, places: &Places<'a>) -> Batch<'a>
+        ensures { batch_of result ≡ map (spec.moved (spec.numbering places.now)) (map conjunct_of conjuncts.entry) }
+    {
+        Batch {
+            conjuncts,
+            places: shared(places),
+        }
+    }
+}
+
 impl<'a> Share for Conjunct<'a> {
     fn shared(&self) -> Result<Conjunct<'a>, AllocError> {
         self.share()

@@ -1,6 +1,5 @@
-use Rattle.zf_calculus.proofs.Prelude.{drop, map, comp_of}
-use Rattle.zf_calculus.proofs.Disjoining.{SoFar}
+use Rattle.zf_calculus.proofs.Prelude.{◌≡◌, map, take, comp_of, either_comp, with_comps}
 use Rattle.zf_calculus.proofs.disjunction.either_all.Given as goal
 
 abbrev pub invariant-loop-component : goal.invariant-loop-component
-invariant-loop-component l = SoFar (map comp_of l.left) (map comp_of l.right) (map comp_of l.made) (map comp_of (drop l.component-index l.right))
+invariant-loop-component l = map comp_of l.made ≡ map (either_comp (map comp_of l.left) (map comp_of l.right)) (with_comps (map comp_of l.left) (map comp_of (take l.component-index l.right)))
