@@ -1,9 +1,11 @@
 -- Terms that are joined one after another, and conjuncts as terms.
-use Rattle.std.proofs.Common.{◌++◌, ◌∙◌, ◌∷◌, ◌≡◌, [], ap, drop, get_or, length, List, map, None, Option, refl, Some, sym, ◌<◌, ◌+◌, ℕ}
+use Rattle.std.proofs.Common.{◌++◌, ◌∙◌, ◌∷◌, ◌≡◌, [], ap, drop, get_or, length, List, map, None, Option, refl, Some, sym, ◌<◌, ◌+◌, ◌≤◌, ℕ}
+use Rattle.std.proofs.lemmas.List.{drop_all}
 use Rattle.zf_data.specs.Chunks.{all_of}
 use Rattle.zf_reference.specs.declared.reference.Reference.TheVariants.{Component}
 use Rattle.zf_tree.specs.declared.operator.Operator.TheVariants.{Connective}
 use Rattle.zf_tree.specs.declared.symbol.Connective.TheVariants.{Or}
+use Rattle.zf_tree.specs.declared.symbol.Constant.TheVariants.{True}
 use Rattle.zf_tree.specs.declared.symbol.Relation.TheVariants.{Member}
 use Rattle.zf_term.specs.declared.conjunct.Batch.{Batch}
 use Rattle.zf_term.specs.declared.conjunct.Conjunct.{Conjunct}
@@ -16,7 +18,7 @@ use Rattle.zf_term.specs.ResolvedTrees.{ResolvedTree, binary, chain, link, links
 use Rattle.zf_term.specs.Shapes.{line_of, moved, numbering}
 use Rattle.zf_term.proofs.ConjunctsSeen.{batch-seen, of-Either, of-Member, of-Term}
 use Rattle.zf_term.proofs.Places.{unmoved}
-use Rattle.zf_term.proofs.ResolvedSeen.{new_link, of-Chain, of-link, of-Name}
+use Rattle.zf_term.proofs.ResolvedSeen.{new_link, of-Chain, of-Constant, of-link, of-Name}
 use Rattle.zf_term.proofs.Walk.{dropped}
 use Rattle.zf_resolved.specs.Behind.{behind, onto, or_true, tree_in}
 
@@ -99,3 +101,14 @@ of_either l left right ps whole a b m u is one other made e =
     ∙ ap (λ (t : ResolvedTree). moved (numbering ps) (binary l (Connective Or) t (resolved_of b))) one
     ∙ ap (λ (t : ResolvedTree). moved (numbering ps) (binary l (Connective Or) (joined l (all_of (map batch_of left))) t)) other
     ∙ sym (ap conjunct_of is ∙ of-Either l left right ps)
+
+-- ---- no batch is ahead
+
+all_done : (xs : List Batch) (i : ℕ) (whole : Option ResolvedTree) (ts : List ResolvedTree) → length xs ≤ i → onto whole (all_of (map batch_of (drop i xs))) ≡ onto None ts → whole ≡ onto None ts
+all_done xs i whole ts past is = ap (λ (ys : List Batch). onto whole (all_of (map batch_of ys))) (sym (drop_all i xs past)) ∙ is
+
+pub none_joined : (l : ℕ) (xs : List Batch) (i : ℕ) (whole : Option Resolved) (ts : List ResolvedTree) → whole ≡ None → length xs ≤ i → onto (tree_in whole) (all_of (map batch_of (drop i xs))) ≡ onto None ts → resolved_of (v.Constant l True) ≡ joined l ts
+none_joined l xs i whole ts none past is = of-Constant l True ∙ ap (or_true l) (sym (ap tree_in none) ∙ all_done xs i (tree_in whole) ts past is) ∙ whole_joined l ts
+
+pub some_joined : (l : ℕ) (xs : List Batch) (i : ℕ) (whole : Option Resolved) (t : Resolved) (ts : List ResolvedTree) → whole ≡ Some t → length xs ≤ i → onto (tree_in whole) (all_of (map batch_of (drop i xs))) ≡ onto None ts → resolved_of t ≡ joined l ts
+some_joined l xs i whole t ts some past is = ap (or_true l) (sym (ap tree_in some) ∙ all_done xs i (tree_in whole) ts past is) ∙ whole_joined l ts

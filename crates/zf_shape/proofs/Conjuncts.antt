@@ -44,9 +44,9 @@ second_told r b x y z m n e step first holds second =
 pub first_told : (r : Bool) (x y z m n : ℕ) → x ≡ max y z + 1 → (1 ≤ n) × (m ≡ n - 1) → IsTrue r ↔ y ≤ m → r ≡ false → IsTrue r ↔ x ≤ n
 first_told r x y z m n e step first fails = (λ h. absurd (true≢false (sym h ∙ fails)), λ h. first.1 (omega (arith, e, step.0, step.1, h)))
 
-pub joined_told : (b : Bool) (below n : ℕ) (ts : List ResolvedTree) → below + length ts ≡ n → 0 < length ts → IsTrue b ↔ AreLow below 0 ts → IsTrue b ↔ height (joined 0 ts) ≤ n
-joined_told b below n ts e some told =
-    let same = low_joined 0 below n ts e some in
+pub joined_told : (b : Bool) (n m : ℕ) (ts : List ResolvedTree) → m ≡ length ts → 0 < m → IsTrue b ↔ AreLow n (m - 1) m ts → IsTrue b ↔ height (joined 0 ts) ≤ n
+joined_told b n m ts e some told =
+    let same = low_joined 0 n m ts e some in
     (λ h. same.1 (told.0 h), λ h. told.1 (same.0 h))
 
 -- ---- nodes

@@ -1,5 +1,5 @@
 -- What the proofs of this crate take from elsewhere, passed on from one place.
-pub use Rattle.std.proofs.Common.{◌++◌, ◌+◌, ◌-◌, ◌<◌, ◌↔◌, ◌∙◌, ◌∷◌, ◌≡◌, ◌≤◌, [], add-one, ap, append-nil, append_assoc, arith, Bool, false, get_or, IsTrue, length, length-append, List, map, MatchOption, max, None, Option, refl, Some, subst, suc, sym, take, true, true≢false, zero, ℕ}
+pub use Rattle.std.proofs.Common.{◌++◌, ◌+◌, ◌-◌, ◌<◌, ◌↔◌, ◌∙◌, ◌∷◌, ◌≡◌, ◌≤◌, [], add-one, ap, append-nil, append_assoc, arith, Bool, false, get_or, IsTrue, length, length-append, List, map, MatchOption, max, min, None, Option, refl, Some, subst, suc, sym, take, true, true≢false, zero, ℕ}
 pub use Rattle.zf_tree.specs.declared.symbol.Quantifier.{Quantifier}
 pub use Rattle.std.proofs.lemmas.List.{length-map}
 pub use Rattle.zf_term.proofs.ConjunctsSeen.{batch-seen}

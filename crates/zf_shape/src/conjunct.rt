@@ -1,5 +1,5 @@
 //! The nodes and the height of conjuncts.
-ghost use Rattle.std.specs.Prelude.{◌≡◌, ◌+◌, ◌<◌, ◌≤◌, ◌↔◌, ◌^◌, IsTrue, MatchOption, length, map};
+ghost use Rattle.std.specs.Prelude.{◌≡◌, ◌+◌, ◌<◌, ◌≤◌, ◌↔◌, IsTrue, MatchOption, length, map};
 ghost use Rattle.zf_data.specs.Chunks.{all_of};
 ghost use Rattle.zf_shape.specs.Joined.{AreLow};
 ghost use Rattle.zf_term.specs.Definitions.{batch_of, conjunct_of, joined};
@@ -102,43 +102,55 @@ pub fn is_within<'a>(conjunct: &Conjunct<'a>, highest: usize) -> bool
 fn is_joined_within<'a>(batches: &Items<'a, Batch<'a>>, highest: usize) -> bool
     ensures { IsTrue result ↔ spec.height (joined 0 (all_of (map batch_of batches.now))) ≤ highest }
 {
-    let Some(below) = room_after_count(batches, highest) else {
+    let Some(beside) = room_after_count(batches, highest) else {
         return false;
     };
-    if below == highest {
+    let count = highest - beside;
+    if count == 0 {
         return highest > 0;
     }
-    are_batches_within(batches, below)
+    are_batches_within(batches, highest, count - 1, count)
 }
 
-/// Whether none of the terms is higher than so much and its place.
+/// The same of so many terms, each of which stands as much deeper as are ahead, itself among them, and at most so deep.
 #[cycle(within)]
-fn are_batches_within<'a>(batches: &Items<'a, Batch<'a>>, below: usize) -> bool
-    requires { below + length (all_of (map batch_of batches.now)) < 2 ^ 64 }
-    ensures { IsTrue result ↔ AreLow below 0 (all_of (map batch_of batches.now)) }
+fn are_batches_within<'a>(
+    batches: &Items<'a, Batch<'a>>,
+    highest: usize,
+    deepest: usize,
+    count: usize,
+) -> bool
+    ensures { IsTrue result ↔ AreLow highest deepest count (all_of (map batch_of batches.now)) }
 {
-    let mut place = 0usize;
+    let mut ahead = count;
     for batch in batches.as_slice() {
-        if !are_within(batch.conjuncts.get(), place, below) {
+        if !are_within(batch.conjuncts.get(), highest, deepest, ahead) {
             return false;
         }
-        place += batch.conjuncts.get().len();
+        ahead = ahead.saturating_sub(batch.conjuncts.get().len());
     }
     true
 }
 
-/// The same of terms from that place on.
+/// The same of the first of so many terms.
 #[cycle(within)]
-fn are_within<'a>(conjuncts: &Items<'a, Conjunct<'a>>, first: usize, below: usize) -> bool
-    requires { below + (first + length conjuncts.now) < 2 ^ 64 }
-    ensures { IsTrue result ↔ AreLow below first (map conjunct_of conjuncts.now) }
+fn are_within<'a>(
+    conjuncts: &Items<'a, Conjunct<'a>>,
+    highest: usize,
+    deepest: usize,
+    count: usize,
+) -> bool
+    ensures { IsTrue result ↔ AreLow highest deepest count (map conjunct_of conjuncts.now) }
 {
-    let mut place = first;
+    let mut ahead = count;
     for conjunct in conjuncts.as_slice() {
-        if !is_within(conjunct, below + place.max(1)) {
+        let Some(lower) = highest.checked_sub(ahead.min(deepest)) else {
+            return false;
+        };
+        if !is_within(conjunct, lower) {
             return false;
         }
-        place += 1;
+        ahead = ahead.saturating_sub(1);
     }
     true
 }
