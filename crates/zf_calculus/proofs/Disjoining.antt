@@ -1,5 +1,5 @@
 -- The components of disjunctions, and the places of a side's components.
-use Rattle.zf_calculus.proofs.Prelude.{if◌then◌else◌, ◌++◌, ◌+◌, ◌<◌, ◌∙◌, ◌∷◌, ◌≡◌, ◌≤◌, [], add-one, ap, arith, bytes_eq, Bool, carried, Comp, comp, comp_named, comp_of, Component, DeclaredSet, disjoined, disjoined_over, Domain, either_comp, false, Flat, get_or, inr, IsNext, IsTooLarge, IsWithin, later, length, length-append, length-map, List, map, map-append, moved, new_place, None, none-some, numbering, Offence, of-Either, one_holds, Option, place_found, place_named, place_of, place_or, refl, ResolvedTree, same_Some, Schema, schema_of, set, set_of, sets_of, sets_on, sides, slice_get, Some, Stops, subst, suc, sym, take, too_large, true, type_of, unmoved, with_comp, with_comps, zero, ZType, ℕ}
+use Rattle.zf_calculus.proofs.Prelude.{if◌then◌else◌, ◌++◌, ◌+◌, ◌<◌, ◌∙◌, ◌∷◌, ◌≡◌, ◌≤◌, [], add-one, all_of, ap, arith, batch_of, bytes_eq, Batch, Bool, carried, Conjunct, conjunct_of, Comp, comp, comp_named, comp_of, Component, DeclaredSet, disjoined, disjoined_over, Domain, either_comp, false, Flat, get_or, inr, IsNext, IsTooLarge, IsWithin, later, length, length-append, length-map, List, map, map-append, moved, new_place, None, none-some, numbering, Offence, of-Either, one_holds, Option, place_found, place_in, place_named, place_of, place_or, refl, ResolvedTree, same_Some, Schema, schema_of, set, set_of, sets_of, sets_on, sides, slice_get, Some, Stops, subst, suc, sym, take, too_large, true, type_of, unmoved, with_comp, with_comps, zero, ZType, ℕ}
 use Rattle.std.proofs.Math.Path.{fun_ext}
 use Rattle.std.proofs.Math.Seq.{map-set_same}
 use Rattle.zf_term.specs.declared.schema.Domain.TheVariants as v
@@ -7,6 +7,7 @@ use Rattle.zf_term.specs.declared.fault.Limit.TheVariants as limit
 use Rattle.zf_calculus.specs.Calculus.{constraints, either_comps}
 use Rattle.zf_calculus.proofs.Merging.{known_in_place, known_is, new_last, none_shorter}
 use Rattle.zf_calculus.proofs.Placing.{TooMany}
+use Rattle.zf_calculus.proofs.Renumbering.{all_same}
 
 pub either_seen : (c : Component) (cs ds : List Comp) (name : List ℕ) (t : ZType) (domains left right : List Domain) → name ≡ c.name → t ≡ c.ztype → map set_of left ≡ sets_on (comp_named c.name cs) (type_of c.ztype) → map set_of right ≡ sets_on (comp_named c.name ds) (type_of c.ztype) → domains ≡ v.Either left right ∷ [] → comp_of (record { name = name; ztype = t; domains = domains }) ≡ either_comp cs ds (comp_of c)
 either_seen c cs ds name t domains left right e f l r h =
@@ -124,7 +125,28 @@ pub all_alike : (f g : ResolvedTree → ResolvedTree) (ts : List ResolvedTree) �
 all_alike f g [] same = refl
 all_alike f g (t ∷ ts) same = let here = same t in let rest = all_alike f g ts same in (cc)
 
+-- each component has its own place
+pub own_places : (f : ℕ → ℕ) (ps qs : List ℕ) → qs ≡ ps → place_in ps ≡ f → ((t : ResolvedTree) → moved (place_in qs) t ≡ t) → (t : ResolvedTree) → moved (numbering None) t ≡ moved f t
+own_places f ps qs e places own t = unmoved t ∙ sym (own t) ∙ ap (λ (rs : List ℕ). moved (place_in rs) t) e ∙ ap (λ (g : ℕ → ℕ). moved g t) places
+
+pub further_places : (f : ℕ → ℕ) (ps qs : List ℕ) → qs ≡ ps → place_in ps ≡ f → (t : ResolvedTree) → moved (numbering (Some qs)) t ≡ moved f t
+further_places f ps qs e places t = ap (λ (rs : List ℕ). moved (place_in rs) t) e ∙ ap (λ (g : ℕ → ℕ). moved g t) places
+
 -- ---- the whole
+
+-- the one conjunct, that one side holds or the other
+pub sides_seen :
+    (l : ℕ) (all : List Comp) (a b : Schema) (c : Conjunct) (conjuncts : List Conjunct) (left right : List Batch) (ps : Option (List ℕ)) → conjuncts ≡ c ∷ []
+    → conjunct_of c ≡ one_holds l (all_of (map batch_of left)) (all_of (map batch_of right))
+    → all_of (map batch_of left) ≡ map (moved (numbering None)) (constraints a)
+    → all_of (map batch_of right) ≡ map (moved (numbering ps)) (constraints b)
+    → ((t : ResolvedTree) → moved (numbering ps) t ≡ moved (new_place b.comps all) t)
+    → map conjunct_of conjuncts ≡ one_holds l (constraints a) (carried b.comps all (constraints b)) ∷ []
+sides_seen l all a b c conjuncts left right ps made is first second places =
+    ap (map conjunct_of) made
+    ∙ ap (λ (t : ResolvedTree). t ∷ []) is
+    ∙ ap (λ (ts : List ResolvedTree). one_holds l ts (all_of (map batch_of right)) ∷ []) (first ∙ all_same (moved (numbering None)) (constraints a) unmoved)
+    ∙ ap (λ (ts : List ResolvedTree). one_holds l (constraints a) ts ∷ []) (second ∙ all_alike (moved (numbering ps)) (moved (new_place b.comps all)) (constraints b) places)
 
 pub disjunction_made : (l : ℕ) (left right flat : Flat) (all given cs ds : List Component) → schema_of flat ≡ disjoined_over (map comp_of given) l (schema_of left) (schema_of right) → given ≡ all → map comp_of all ≡ either_comps (map comp_of cs) (map comp_of ds) → cs ≡ left.components → ds ≡ right.components → schema_of flat ≡ disjoined l (schema_of left) (schema_of right)
 disjunction_made l left right flat all given cs ds made g whole e f =
