@@ -112,7 +112,7 @@ or_kept : (o q : Option (ℕ × Comp)) (i : ℕ) → place_found o ≡ place_fou
 or_kept None None i e = refl
 or_kept None (Some r) i e = absurd (none-some r.0 e)
 or_kept (Some p) None i e = absurd (none-some p.0 (sym e))
-or_kept (Some p) (Some r) i e = sym (same_Some p.0 r.0 e)
+or_kept (Some p) (Some r) i e = same_Some p.0 r.0 e
 
 of_kept : (cs ds xs : List Comp) (o : Option Comp) (i : ℕ) → place_of o (map (either_comp cs ds) xs) i ≡ place_of o xs i
 of_kept cs ds xs None i = refl

@@ -1,7 +1,6 @@
 -- That components lie in their declared sets.
-use Rattle.zf_calculus.proofs.Prelude.{◌++◌, ◌∙◌, ◌∷◌, ◌≡◌, [], all_of, ap, append-nil, append_assoc, arith, batch_of, Batch, conjunct_of, Conjunct, DeclaredSet, Domain, is_member, length, List, map, map-append, membership, moved, None, numbering, of-Carrier, of-Either, of-Plain, Option, Resolved, resolved_of, ResolvedTree, set_of, sym, unmoved, ZType, ℕ}
-use Rattle.std.proofs.Common.{◌+◌, ◌<◌, get_or, take}
-use Rattle.std.proofs.lemmas.List.{flat_map_more}
+use Rattle.zf_calculus.proofs.Prelude.{◌++◌, ◌∙◌, ◌∷◌, ◌≡◌, [], all_of, ap, append-nil, append_assoc, arith, batch_of, Batch, conjunct_of, Conjunct, DeclaredSet, Domain, is_member, length, List, map, map-append, membership, moved, numbering, of-Carrier, of-Either, of-Plain, Option, Resolved, resolved_of, ResolvedTree, set_of, sym, ZType, ℕ}
+use Rattle.std.proofs.Common.{◌+◌, ◌<◌, add-one, get_or, suc, take, zero}
 use Rattle.std.proofs.lemmas.List.Concat.{flat_map-append}
 use Rattle.zf_term.specs.declared.schema.Domain.TheVariants as domains
 
@@ -32,12 +31,16 @@ batch_pushed ps cs b old new is made =
     ∙ all_append old (b ∷ [])
     ∙ ap (λ (ts : List ResolvedTree). all_of (map batch_of old) ++ ts) (append-nil (batch_of b) ∙ is)
 
-pub none_pushed : (ps : Option (List ℕ)) (cs : List Conjunct) (ts : List ResolvedTree) → length cs ≡ 0 → ts ≡ ts ++ numbered_anew ps cs
-none_pushed ps [] ts none = sym (append-nil ts)
-none_pushed ps (c ∷ cs) ts none = absurd (omega (arith, none))
-
 pub numbered_append : (ps : Option (List ℕ)) (cs ds : List Conjunct) → numbered_anew ps (cs ++ ds) ≡ numbered_anew ps cs ++ numbered_anew ps ds
 numbered_append ps cs ds = ap (map (moved (numbering ps))) (map-append conjunct_of cs ds) ∙ map-append (moved (numbering ps)) (map conjunct_of cs) (map conjunct_of ds)
+
+all_more_from : (xs : List (List Conjunct)) (i : ℕ) (x : List Conjunct) → x ≡ get_or xs i x → i < length xs → all_of (take i xs) ++ x ≡ all_of (take (suc i) xs)
+all_more_from [] i x at l = absurd (omega arith)
+all_more_from (y ∷ ys) zero x at l = at ∙ sym (append-nil y)
+all_more_from (y ∷ ys) (suc i) x at l = append_assoc y (all_of (take i ys)) x ∙ ap (λ (zs : List Conjunct). y ++ zs) (all_more_from ys i x at (omega arith))
+
+all_more : (xs : List (List Conjunct)) (i : ℕ) (x : List Conjunct) → x ≡ get_or xs i x → i < length xs → all_of (take i xs) ++ x ≡ all_of (take (i + 1) xs)
+all_more xs i x at l = rw add-one (all_more_from xs i x at l)
 
 -- one piece further
 pub pieces_step :
@@ -51,7 +54,7 @@ pieces_step ps xs i x y whole old new at l same before step =
     ∙ append_assoc whole (numbered_anew ps here) (numbered_anew ps y)
     ∙ ap (λ (zs : List Conjunct). whole ++ (numbered_anew ps here ++ numbered_anew ps zs)) same
     ∙ ap (λ (ts : List ResolvedTree). whole ++ ts) (sym (numbered_append ps here x))
-    ∙ ap (λ (zs : List Conjunct). whole ++ numbered_anew ps zs) (sym (flat_map_more (λ (zs : List Conjunct). zs) xs i x l at))
+    ∙ ap (λ (zs : List Conjunct). whole ++ numbered_anew ps zs) (all_more xs i x at l)
 
 -- the memberships, and then the conjuncts
 pub constraints_made :

@@ -1,4 +1,4 @@
-use Rattle.zf_calculus.proofs.Prelude.{◌∙◌, ap, map, rules, comp_of, either_comp, sym, with_comps}
+use Rattle.zf_calculus.proofs.Prelude.{◌∙◌, ap, map, rules, sym, take, comp_of, either_comp, with_comps}
 use Rattle.zf_calculus.proofs.Disjoining.{one_further, stops_among}
 use Rattle.zf_calculus.proofs.Stopping.{weaker}
 use Rattle.zf_calculus.proofs.disjunction.either_all.Goals as goal
@@ -6,7 +6,7 @@ use Rattle.zf_calculus.proofs.disjunction.either_all.Goals as goal
 pub loop-component-preserved : goal.loop-component-preserved
 loop-component-preserved c =
     let cs = map comp_of c.args.left.now in
-    c.in_ok-either_more.ensures.ok (with_comps cs _) c.loop-component.invariant
+    c.in_ok-either_more.ensures.ok (with_comps cs (map comp_of (take c.loop-component.component-index c.args.right.now))) c.loop-component.invariant
     ∙ ap (map (either_comp cs (map comp_of c.args.right.now))) (sym (one_further cs c.args.right.now c.loop-component.component-index c.component-item.result c.component-item.is c.loop-component-test.true))
 
 pub returns-in_err-either_more-clause-err : goal.returns-in_err-either_more-clause-err

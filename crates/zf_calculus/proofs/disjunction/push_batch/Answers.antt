@@ -1,5 +1,5 @@
-use Rattle.zf_calculus.proofs.Prelude.{on_ok_weaker, ap, ◌∙◌, sym, length, all_of, map, batch_of}
-use Rattle.zf_calculus.proofs.Memberships.{batch_pushed, none_pushed}
+use Rattle.zf_calculus.proofs.Prelude.{on_ok_weaker}
+use Rattle.zf_calculus.proofs.Memberships.{batch_pushed}
 use Rattle.zf_calculus.proofs.disjunction.push_batch.Goals as goal
 
 pub returns : goal.returns
