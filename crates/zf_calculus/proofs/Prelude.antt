@@ -9,18 +9,20 @@ pub use Rattle.std.specs.List.{AllByRecursion, sum_by}
 pub use Rattle.std.specs.Str.{bytes_eq}
 pub use Rattle.std.specs.Vec.Iter.{into_iter_items}
 pub use Rattle.zf_reference.specs.Numbering.{place_in}
-pub use Rattle.zf_tree.specs.declared.symbol.Relation.TheVariants.{Equal, Member}
+pub use Rattle.zf_tree.specs.declared.symbol.Relation.TheVariants.{Equal}
 pub use Rattle.zf_term.proofs.Places.{AreFirst, in_full, one_more, unmoved}
-pub use Rattle.zf_term.proofs.ResolvedSeen.{new_link, of-Chain, of-Constant, of-link, of-Name}
+pub use Rattle.zf_term.proofs.ResolvedSeen.{new_link, of-Chain, of-link, of-Name}
 pub use Rattle.zf_term.proofs.SameNames.{is_itself, is_same, swapped}
 pub use Rattle.zf_term.proofs.SetsSeen.{of-Carrier, of-Either, of-Plain}
 pub use Rattle.zf_term.proofs.Walk.{at_end, at_step, dropped, pushed}
-pub use Rattle.zf_term.specs.Definitions.{Comp, comp_of, conjunct_of, DeclaredSet, Schema, schema_of, set_of, sets_of, sides}
+pub use Rattle.zf_data.specs.Chunks.{all_of}
+pub use Rattle.zf_term.specs.declared.conjunct.Batch.{Batch}
+pub use Rattle.zf_term.specs.Definitions.{batch_of, Comp, comp_of, conjunct_of, DeclaredSet, is_member, one_holds, Schema, schema_of, set_of, sets_of, sides}
 pub use Rattle.zf_term.specs.FirstNamed.{found_as, later}
 pub use Rattle.zf_term.specs.Limits.{all_nodes, AreFew, HasLeft, IsLow, IsTooLarge, IsWithin, Keeps}
 pub use Rattle.zf_term.specs.ResolvedTrees.{chain, link, links, no_links, reference, resolved_link_of, resolved_of, ResolvedTree}
 pub use Rattle.zf_term.specs.SetShapes.{set_count, set_nodes}
-pub use Rattle.zf_term.specs.Shapes.{height, line_of, moved, nodes, numbering}
+pub use Rattle.zf_term.specs.Shapes.{height, moved, nodes, numbering}
 pub use Rattle.zf_term.specs.Types.{type_of}
 pub use Rattle.zf_term.specs.declared.conjunct.Conjunct.{Conjunct}
 pub use Rattle.zf_term.specs.Faults.{clash, Offence, too_large}
@@ -32,6 +34,6 @@ pub use Rattle.zf_term.specs.declared.resolved.Resolved.{Resolved}
 pub use Rattle.zf_term.specs.declared.resolved.ResolvedLink.{ResolvedLink}
 pub use Rattle.zf_term.specs.declared.ztype.ZType.{ZType}
 pub use Rattle.zf_shape.proofs.Heights.{below_nodes}
-pub use Rattle.zf_calculus.specs.Calculus.{Agree, Agrees, all_unchanged, AreOnce, carried, comp, comp_named, conjoined, decorated, delta, disjoined, joined, membership, memberships, new_place, place_of, place_or, prime, sets_on, unchanged, with_comp, with_comps, xi}
-pub use Rattle.zf_calculus.specs.Growth.{all_joined, AreAt, constrained, counted, disjoined_over, either_comp, enriched, equalities, equality, grown, IfStopped, is_member, IsGrowing, place_found, place_named}
+pub use Rattle.zf_calculus.specs.Calculus.{Agree, Agrees, all_unchanged, AreOnce, carried, comp, comp_named, conjoined, decorated, delta, disjoined, membership, memberships, new_place, place_of, place_or, prime, sets_on, unchanged, with_comp, with_comps, xi}
+pub use Rattle.zf_calculus.specs.Growth.{AreAt, constrained, counted, disjoined_over, either_comp, enriched, equalities, equality, grown, IfStopped, IsGrowing, place_found, place_named}
 pub use Rattle.zf_calculus.specs.Steps.{Clashes, Differs, IsNext, OneClashes, Stops}

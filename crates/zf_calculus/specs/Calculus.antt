@@ -2,17 +2,15 @@
 use Rattle.std.specs.Prelude.{◌≡◌, ℕ, ◌+◌, List, [], ◌∷◌, ◌++◌, map, fold, flat_map, Option, Some, None, slice_get, if◌then◌else◌}
 use Rattle.std.specs.List.{AllByRecursion}
 use Rattle.std.specs.Str.{bytes_eq}
-use Rattle.zf_tree.specs.declared.symbol.Connective.TheVariants.{And, Or}
-use Rattle.zf_tree.specs.declared.symbol.Constant.TheVariants.{True}
-use Rattle.zf_tree.specs.declared.symbol.Relation.TheVariants.{Equal, Member}
+use Rattle.zf_tree.specs.declared.symbol.Relation.TheVariants.{Equal}
 use Rattle.zf_tree.specs.declared.tree.RefMark.{RefMark}
 use Rattle.zf_tree.specs.declared.tree.RefMark.TheVariants.{Plain, Delta, Xi}
-use Rattle.zf_tree.specs.declared.operator.Operator.TheVariants.{Connective}
 use Rattle.zf_reference.specs.declared.reference.Reference.TheVariants.{Component}
-use Rattle.zf_term.specs.Definitions.{Comp, Schema, DeclaredSet, plain, carrier, sides, sets_of}
-use Rattle.zf_term.specs.ResolvedTrees.{ResolvedTree, reference, constant, binary, chain, no_links, link}
+use Rattle.zf_term.specs.Definitions.{Comp, Schema, DeclaredSet, plain, carrier, sides, sets_of, is_member, one_holds}
+pub use Rattle.zf_term.specs.Definitions.{joined}
+use Rattle.zf_term.specs.ResolvedTrees.{ResolvedTree, reference, chain, no_links, link}
 use Rattle.zf_term.specs.FirstNamed.{first_named}
-use Rattle.zf_term.specs.Shapes.{line_of, moved}
+use Rattle.zf_term.specs.Shapes.{moved}
 use Rattle.zf_term.specs.Types.{Ty}
 
 abbrev pub comp : List ℕ → Ty → List DeclaredSet → Comp
@@ -132,7 +130,7 @@ either_comps cs ds =
 
 -- `x \in E`, of a declared set that a declaration names; other declared sets give no constraint
 abbrev pub membership : (place : ℕ) → DeclaredSet → List ResolvedTree
-membership i (plain e) = chain (line_of e) (reference (line_of e) (Component i)) (link Member e no_links) ∷ []
+membership i (plain e) = is_member i e ∷ []
 membership i (carrier t) = []
 membership i (sides a b) = []
 
@@ -144,12 +142,7 @@ memberships i (c ∷ cs) = flat_map (membership i) c.sets ++ memberships (i + 1)
 abbrev pub constraints : Schema → List ResolvedTree
 constraints a = memberships 0 a.comps ++ a.conjuncts
 
--- joined to the left by `\land`
-abbrev pub joined : (line : ℕ) → List ResolvedTree → ResolvedTree
-joined l [] = constant l True
-joined l (t ∷ ts) = fold (λ u v. binary (line_of u) (Connective And) u v) t ts
-
 abbrev pub disjoined : (line : ℕ) → Schema → Schema → Schema
 disjoined l a b =
     schema_of (either_comps a.comps b.comps)
-    (binary l (Connective Or) (joined l (constraints a)) (joined l (carried b.comps (with_comps a.comps b.comps) (constraints b))) ∷ [])
+    (one_holds l (constraints a) (carried b.comps (with_comps a.comps b.comps) (constraints b)) ∷ [])

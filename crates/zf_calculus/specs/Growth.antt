@@ -1,15 +1,12 @@
 -- A schema that grows within the limits, and what stops it.
-use Rattle.std.specs.Prelude.{◌≡◌, ℕ, ◌+◌, ◌++◌, List, [], ◌∷◌, fold, map, Option, Some, None}
+use Rattle.std.specs.Prelude.{◌≡◌, ℕ, ◌+◌, ◌++◌, List, [], ◌∷◌, Option, Some, None}
 use Rattle.std.specs.List.{sum_by}
-use Rattle.zf_tree.specs.declared.symbol.Relation.TheVariants.{Equal, Member}
-use Rattle.zf_tree.specs.declared.symbol.Connective.TheVariants.{And, Or}
-use Rattle.zf_tree.specs.declared.operator.Operator.TheVariants.{Connective}
+use Rattle.zf_tree.specs.declared.symbol.Relation.TheVariants.{Equal}
 use Rattle.zf_term.specs.declared.schema.Component.{Component}
 use Rattle.zf_term.specs.declared.schema.Domain.{Domain}
 use Rattle.zf_reference.specs.declared.reference.Reference.TheVariants as place
-use Rattle.zf_term.specs.Definitions.{Comp, Schema, DeclaredSet, sides, sets_of, schema_of}
-use Rattle.zf_term.specs.ResolvedTrees.{ResolvedTree, reference, binary, chain, no_links, link}
-use Rattle.zf_term.specs.Shapes.{line_of}
+use Rattle.zf_term.specs.Definitions.{Comp, Schema, DeclaredSet, sides, sets_of, schema_of, one_holds}
+use Rattle.zf_term.specs.ResolvedTrees.{ResolvedTree, reference, chain, no_links, link}
 use Rattle.zf_term.specs.Faults.{Offence, clash, too_large}
 use Rattle.zf_term.specs.Types.{type_of}
 use Rattle.zf_calculus.specs.declared.growing.Growing.{Growing}
@@ -79,21 +76,6 @@ equalities l i (p ∷ ps) = equality l i p ∷ equalities l (i + 1) ps
 abbrev pub either_comp : List Comp → List Comp → Comp → Comp
 either_comp cs ds c = calculus.comp c.name c.type (sides (sets_of (calculus.sets_on (calculus.comp_named c.name cs) c.type)) (sets_of (calculus.sets_on (calculus.comp_named c.name ds) c.type)) ∷ [])
 
--- the component is a member of the set
-abbrev pub is_member : (at : ℕ) → ResolvedTree → ResolvedTree
-is_member i e = chain (line_of e) (reference (line_of e) (place.Component i)) (link Member e no_links)
-
-abbrev pub both_hold : ResolvedTree → ResolvedTree → ResolvedTree
-both_hold u v = binary (line_of u) (Connective And) u v
-
-abbrev pub all_joined : ResolvedTree → List ResolvedTree → ResolvedTree
-all_joined = fold both_hold
-
-abbrev pub one_holds : (line : ℕ) → List ResolvedTree → List ResolvedTree → ResolvedTree
-one_holds l ts us = binary l (Connective Or) (calculus.joined l ts) (calculus.joined l us)
-
--- the disjunction, over these components
+-- the disjunction, which has these components
 abbrev pub disjoined_over : List Comp → (line : ℕ) → Schema → Schema → Schema
-disjoined_over all l a b =
-    calculus.schema_of (map (either_comp a.comps b.comps) all)
-    (one_holds l (calculus.constraints a) (calculus.carried b.comps all (calculus.constraints b)) ∷ [])
+disjoined_over all l a b = calculus.schema_of all (one_holds l (calculus.constraints a) (calculus.carried b.comps all (calculus.constraints b)) ∷ [])

@@ -198,20 +198,6 @@ fn owned<'a>(domains: Domains<'a>) -> Result<Chunked<'a, Domain<'a>>, AllocError
     }
 }
 
-/// Copies of the components.
-pub fn component_copies<'a>(
-    arena: &'a Bump,
-    components: &[Component<'a>],
-) -> Result<Items<'a, Component<'a>>, AllocError>
-    ensures { IfOk result (λ cs. cs ≡ components.now) }
-{
-    let mut made = Items::with_room(arena, components.len())?;
-    for component in components {
-        made.push(component.share()?)?;
-    }
-    Ok(made)
-}
-
 /// Where the components of the one list are in the other, by their names; one that is not there keeps its place.
 pub fn new_places<'a>(
     arena: &'a Bump,
@@ -239,7 +225,7 @@ fn place_or(components: &[Component<'_>], name: &[u8], otherwise: usize) -> usiz
 }
 
 /// The place of the component of the name.
-fn place_of(components: &[Component<'_>], name: &[u8]) -> Option<usize>
+pub(crate) fn place_of(components: &[Component<'_>], name: &[u8]) -> Option<usize>
     ensures { MatchOption result (comp_named name.now (map comp_of components.now) ≡ None) (λ place. (c : Comp) × (comp_named name.now (map comp_of components.now) ≡ Some (place, c))) }
 {
     match component_of(components, name) {

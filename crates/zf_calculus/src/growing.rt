@@ -95,7 +95,10 @@ impl<'a> Growing<'a> {
             sets: self.sets_left,
             nodes: self.nodes_left,
         };
-        Measured::of(self.flat, left)
+        let mut flat = self.flat;
+        // Where there is no memory for that, the list stays as it is.
+        let _settled = flat.conjuncts.settle();
+        Measured::of(flat, left)
     }
 
     /// One more component.
@@ -282,7 +285,7 @@ fn take_numbered<'a>(
     ensures { OnOk result (map conjunct_of conjuncts.new ≡ map conjunct_of conjuncts.old ++ map (moved (numbering places.now)) (map conjunct_of further.now)) }
 {
     for conjunct in further.iter() {
-        conjuncts.push(conjunct.share().moved(arena, places)?)?;
+        conjuncts.push(conjunct.moved(arena, places)?)?;
     }
     Ok(())
 }

@@ -165,8 +165,7 @@ pub fn decorate<'a>(
     ensures { IfOk result (λ f. schema_of f ≡ decorated strokes.now (schema_of flat.now)) }
 {
     let components = decorated_components(arena, strokes, flat.components.as_slice(), spare)?;
-    // What is taken in mostly gains a conjunct.
-    let conjuncts = flat.conjuncts.share(spare.conjuncts.max(1))?;
+    let conjuncts = flat.conjuncts.share(spare.conjuncts)?;
     Ok(Flat {
         components,
         conjuncts,

@@ -8,7 +8,7 @@ mod nowhere;
 mod shared;
 
 pub use boxed::Boxed;
-pub use chunked::{Chunked, ChunkedIter, Share};
+pub use chunked::{Chunked, ChunkedIter, Piece, Share};
 pub use items::Items;
 pub use lasting::Lasting;
 pub use lent::Lent;

@@ -13,7 +13,7 @@ ghost use Rattle.zf_enum.specs.Starts.{Begins, Refuses};
 
 use crate::component::ranges;
 use crate::lifting::lifted;
-use crate::planting::{Planting, plant_all};
+use crate::planting::{Planting, plant_schema};
 use crate::property::Property;
 use crate::search::Search;
 use crate::start_fault::StartFault;
@@ -50,8 +50,7 @@ impl<'s, 'e, 'g, 'a> Instances<'s, 'e, 'g, 'a> {
         ensures refused { IfErr result (Refuses (environment_of env.now) (schema_of flat.now).comps) }
     {
         let ranges = ranges(alloc, flat.components.as_slice(), held, env)?;
-        let conjuncts = flat.conjuncts.flat()?;
-        let planting = plant_all(alloc, arena, conjuncts.as_slice())?;
+        let planting = plant_schema(alloc, arena, flat)?;
         let Planting { leaves, forest } = planting;
         let property = lifted(alloc, arena, leaves, env)?;
         let search = zf_plan::Search::start(alloc, property, forest, ranges, after)?;

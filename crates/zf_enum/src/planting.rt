@@ -1,6 +1,6 @@
 //! Predicates as trees over their parts that are no connectives.
 ghost use Rattle.std.specs.Prelude.{◌≡◌, IfOk, OnOk, map};
-ghost use Rattle.zf_term.specs.Definitions.{conjunct_of};
+ghost use Rattle.zf_term.specs.Definitions.{conjunct_of, schema_of};
 ghost use Rattle.zf_term.specs.ResolvedTrees.{resolved_of};
 ghost use Rattle.zf_plan.specs.Groves.{trees_of};
 ghost use Rattle.zf_enum.specs.Planting.{Plants, PlantsNext, ArePlanted};
@@ -32,8 +32,7 @@ pub fn gains_by_trees<'a>(
     arena: &'a Bump,
     flat: &Flat<'a>,
 ) -> Result<bool, AllocError> {
-    let conjuncts = flat.conjuncts.flat()?;
-    let planting = plant_all(alloc, arena, conjuncts.as_slice())?;
+    let planting = plant_schema(alloc, arena, flat)?;
     if planting.leaves.len() > flat.conjuncts.len() {
         return Ok(true);
     }
@@ -54,7 +53,19 @@ fn fixes_its_last(leaf: &Resolved<'_>) -> bool {
 }
 
 /// Plants the conjuncts of a schema.
-pub(crate) fn plant_all<'a>(
+pub(crate) fn plant_schema<'a>(
+    alloc: Global,
+    arena: &'a Bump,
+    flat: &Flat<'a>,
+) -> Result<Planting<'a>, AllocError>
+    ensures { IfOk result (λ planting. ArePlanted (schema_of flat.now).conjuncts planting.leaves.items (trees_of planting.forest)) }
+{
+    let conjuncts = flat.conjuncts.flat()?;
+    plant_all(alloc, arena, conjuncts.as_slice())
+}
+
+/// Plants conjuncts, one tree for each.
+fn plant_all<'a>(
     alloc: Global,
     arena: &'a Bump,
     conjuncts: &[Conjunct<'a>],

@@ -1,2 +1,3 @@
 pub mod FirstOffenders
+pub mod JoinedOffences
 pub mod SameOffences

@@ -1,1 +1,2 @@
 pub mod MovedLists
+pub mod Joining

@@ -238,8 +238,10 @@ fn declared<'a>(
 {
     let name = name.spelled();
     let ztype = ztype.share()?;
-    let domains = Chunked::of(arena, Domain::Plain(set.share()))?;
-    let domains = Shared::new(arena, domains)?;
+    let domains = Shared::new(
+        arena,
+        Chunked::one_chunk(arena, Domain::Plain(set.share()))?,
+    )?;
     Ok(Component {
         name,
         ztype,

@@ -2,3 +2,5 @@ mod Prelude
 pub mod Nodes
 pub mod Heights
 pub mod SetsCounted
+pub mod Joined
+pub mod Conjuncts

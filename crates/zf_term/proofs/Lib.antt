@@ -14,6 +14,7 @@ pub mod MovedReferences
 pub mod Behind
 pub mod Renumbered
 pub mod Places
+pub mod ConjunctsSeen
 pub mod SetsSeen
 pub mod Walk
 pub mod Ahead

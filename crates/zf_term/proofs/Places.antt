@@ -1,9 +1,8 @@
 -- A list of the numbers of the first places, and all numbers where the others keep theirs.
-use Rattle.zf_term.proofs.Prelude.{◌++◌, ◌+◌, ◌<◌, ◌∙◌, ◌∷◌, ◌≡◌, ◌≤◌, ◌⊎◌, [], ap, arith, get_or, inl, inr, length, length-append, List, max, None, Option, Some, suc, sym, zero, ℕ, get_or_append_left, place_in, conjunct_of, ResolvedTree, resolved_of, moved, numbering, Resolved}
+use Rattle.zf_term.proofs.Prelude.{◌++◌, ◌+◌, ◌<◌, ◌∙◌, ◌∷◌, ◌≡◌, ◌≤◌, ◌⊎◌, [], ap, arith, get_or, inl, inr, length, length-append, List, max, None, Option, Some, suc, sym, zero, ℕ, get_or_append_left, place_in, ResolvedTree, moved, numbering}
 use Rattle.std.proofs.Math.Path.{fun_ext}
 use Rattle.std.proofs.Math.ListN.{get_or-eq_default}
 use Rattle.std.proofs.Math.Seq.{get_or-append_seam}
-use Rattle.zf_term.specs.declared.conjunct.Conjunct.{Conjunct}
 use Rattle.zf_term.proofs.Copies.{stays}
 use Rattle.zf_term.proofs.Renumbered.{at_once}
 
@@ -48,11 +47,6 @@ composed one other f g a b ps qs first then a_is b_is made is =
     ∙ sym (ap {B = ℕ → ℕ} (λ (o : Option (List ℕ)) (i : ℕ). numbering o (place_in f i)) then)
     ∙ sym (ap {B = ℕ → ℕ} (λ (o : Option (List ℕ)) (i : ℕ). numbering other (numbering o i)) first)
 
--- a conjunct whose term is shared
-pub renumbered_again : (whole : Conjunct) (s : Resolved) (places : Option (List ℕ)) (g : ℕ → ℕ) → s ≡ whole.term → numbering places ≡ (λ (i : ℕ). g (numbering whole.places i)) → moved (numbering places) (resolved_of s) ≡ moved g (conjunct_of whole)
-renumbered_again whole s places g e h =
-    ap (λ (u : Resolved). moved (numbering places) (resolved_of u)) e ∙ ap (λ (f : ℕ → ℕ). moved f (resolved_of whole.term)) h ∙ sym (at_once g (numbering whole.places) (resolved_of whole.term))
-
-pub kept_term : (whole : Conjunct) (s : Resolved) (t : ResolvedTree) → whole.places ≡ None → s ≡ whole.term → t ≡ resolved_of s → t ≡ conjunct_of whole
-kept_term whole s t none e is =
-    is ∙ ap resolved_of e ∙ sym (unmoved (resolved_of whole.term)) ∙ sym (ap (λ (o : Option (List ℕ)). moved (numbering o) (resolved_of whole.term)) none)
+-- what was numbered is numbered again
+pub numbered_again : (own ps : Option (List ℕ)) (g : ℕ → ℕ) (t u : ResolvedTree) → t ≡ moved (numbering own) u → numbering ps ≡ (λ (i : ℕ). g (numbering own i)) → moved (numbering ps) u ≡ moved g t
+numbered_again own ps g t u is e = ap (λ (f : ℕ → ℕ). moved f u) e ∙ sym (at_once g (numbering own) u) ∙ sym (ap (moved g) is)

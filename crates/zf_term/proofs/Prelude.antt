@@ -10,8 +10,9 @@ pub use Rattle.zf_reference.specs.Numbering.{place_in, renumbered}
 pub use Rattle.zf_reference.specs.declared.reference.Reference.{Reference}
 pub use Rattle.zf_reference.specs.declared.reference.Reference.TheVariants.{Component, Global, Local}
 pub use Rattle.zf_tree.specs.declared.symbol.Relation.{Relation}
-pub use Rattle.zf_term.specs.Definitions.{carrier, comp_of, conjunct_of, DeclaredSet, Defined, definition_of, domain_step, entry_of, globals_of, plain, sets_of, sides}
-unfoldable pub use Rattle.zf_term.specs.Definitions.{set_of}
+pub use Rattle.zf_data.specs.Chunks.{all_of}
+pub use Rattle.zf_term.specs.Definitions.{all_joined, batch_step, both_hold, carrier, comp_of, conjunct_step, DeclaredSet, Defined, definition_of, domain_step, entry_of, globals_of, is_member, joined, one_holds, plain, sets_of, sides}
+unfoldable pub use Rattle.zf_term.specs.Definitions.{batch_of, conjunct_of, set_of}
 pub use Rattle.zf_term.specs.FirstNamed.{first_named, later, or_else}
 pub use Rattle.zf_term.specs.References.{all_onto, links_onto, onto, part_onto, ranges_onto}
 pub use Rattle.zf_term.specs.ResolvedTrees.{absent, binary, bracket, builder, chain, constant, empty_set, link, links, listed, no_links, no_ranges, no_terms, number, part_of, present, quantified, range, range_step, Ranges, ranges, reference, resolved_link_step, resolved_step, ResolvedLinks, ResolvedPart, ResolvedTree, ResolvedTrees, term, terms, unary}

@@ -6,8 +6,8 @@ use Rattle.zf_term.specs.declared.globals.Entry.TheVariants as entry
 use Rattle.zf_term.specs.declared.globals.Globals.{Globals}
 use Rattle.zf_term.specs.ResolvedTrees.{ResolvedTree, resolved_of}
 use Rattle.zf_term.specs.Types.{Ty, type_of}
-pub use Rattle.zf_term.specs.Schemas.{DeclaredSet, plain, carrier, sides, DeclaredSets, no_sets, set, Comp, Schema, sets_of, domain_step, comp_of, conjunct_of, schema_of}
-unfoldable pub use Rattle.zf_term.specs.Schemas.{set_of}
+pub use Rattle.zf_term.specs.Schemas.{DeclaredSet, plain, carrier, sides, DeclaredSets, no_sets, set, Comp, Schema, sets_of, domain_step, is_member, both_hold, all_joined, joined, one_holds, conjunct_step, batch_step, comp_of, schema_of}
+unfoldable pub use Rattle.zf_term.specs.Schemas.{set_of, conjunct_of, batch_of}
 
 -- a given set or free type has its number among these
 pub data Definition : Type 0 where

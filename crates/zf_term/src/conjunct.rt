@@ -1,6 +1,7 @@
 //! Conjuncts of schemas.
-ghost use Rattle.std.specs.Prelude.{◌≡◌, ℕ, IfOk};
-ghost use Rattle.zf_term.specs.Definitions.{conjunct_of};
+ghost use Rattle.std.specs.Prelude.{◌≡◌, ℕ, IfOk, map};
+ghost use Rattle.zf_data.specs.Chunks.{all_of};
+ghost use Rattle.zf_term.specs.Definitions.{batch_of, conjunct_of, is_member, one_holds};
 ghost use Rattle.zf_term.specs.ResolvedTrees.{resolved_of};
 ghost use Rattle.zf_term.specs.Shapes as spec;
 ghost use Rattle.zf_reference.specs.Numbering as numbers;
@@ -8,81 +9,138 @@ ghost use Rattle.zf_reference.specs.Numbering as numbers;
 use crate::resolved::Resolved;
 use bumpalo::Bump;
 use std::alloc::AllocError;
-use zf_data::arena::{Items, Lasting, Share};
+use zf_data::arena::{Items, Lasting, Piece, Share, Shared};
 use zf_reference::reference::place_in;
 
-/// A conjunct of a schema: a predicate, which is shared with the schemas that take in the schema, and the places of its components in this
-/// one, where they are others.
+/// The places of the components of a schema in another one, where they are others.
+pub type Places<'a> = Option<Lasting<'a, Items<'a, usize>>>;
+
+/// A conjunct of a schema: a predicate of which nothing is copied for the schemas that take in the schema, and the places of its components
+/// in this one.
+#[cycle(conjunct)]
 #[derive(Drop)]
-pub struct Conjunct<'a> {
-    pub term: Lasting<'a, Resolved<'a>>,
-    pub places: Option<Lasting<'a, Items<'a, usize>>>,
+pub enum Conjunct<'a> {
+    Term(Lasting<'a, Resolved<'a>>, Places<'a>),
+    /// That the component at the place lies in the set.
+    Member(usize, Lasting<'a, Resolved<'a>>, Places<'a>),
+    /// A disjunction of two schemas, with its line: that all conjuncts of the left side hold, or all of the right.
+    Either(u32, Batches<'a>, Batches<'a>, Places<'a>),
 }
+
+/// Conjuncts of another schema, which are shared, and the places of their components in this one.
+#[cycle(conjunct)]
+#[derive(Drop)]
+pub struct Batch<'a> {
+    pub conjuncts: Piece<'a, Conjunct<'a>>,
+    pub places: Places<'a>,
+}
+
+/// One side of a disjunction.
+pub type Batches<'a> = Shared<'a, Items<'a, Batch<'a>>>;
 
 impl<'a> Conjunct<'a> {
     /// The predicate, with its components at their own places.
+    #[tactic(auto, using(crate::proofs::ConjunctsSeen::own))]
     pub fn of(arena: &'a Bump, term: Resolved<'a>) -> Result<Conjunct<'a>, AllocError>
         ensures { IfOk result (λ c. conjunct_of c ≡ resolved_of term.entry) }
     {
-        Ok(Conjunct {
-            term: Lasting::new(arena, term)?,
-            places: None,
-        })
+        Ok(Conjunct::Term(Lasting::new(arena, term)?, None))
     }
 
     /// The predicate, which stands in an arena, with its components at their own places.
+    #[tactic(auto, using(crate::proofs::ConjunctsSeen::own))]
     pub fn lasting(term: &'a Resolved<'a>) -> Conjunct<'a>
         ensures { conjunct_of result ≡ resolved_of term.now }
     {
-        Conjunct {
-            term: Lasting { inner: term },
-            places: None,
-        }
+        Conjunct::Term(Lasting { inner: term }, None)
+    }
+
+    /// That the component at the place lies in the set.
+    #[tactic(auto, using(crate::proofs::ConjunctsSeen::own))]
+    pub fn member(place: usize, set: Lasting<'a, Resolved<'a>>) -> Conjunct<'a>
+        ensures { conjunct_of result ≡ is_member place (resolved_of set.entry) }
+    {
+        Conjunct::Member(place, set, None)
+    }
+
+    /// That all conjuncts of the left side hold, or all of the right.
+    #[tactic(auto, using(crate::proofs::ConjunctsSeen::own))]
+    pub fn either(line: u32, left: Batches<'a>, right: Batches<'a>) -> Conjunct<'a>
+        ensures { conjunct_of result ≡ one_holds line (all_of (map batch_of left.entry)) (all_of (map batch_of right.entry)) }
+    {
+        Conjunct::Either(line, left, right, None)
     }
 
     /// The same conjunct, of which nothing is copied.
-    pub fn share(&self) -> Conjunct<'a>
-        ensures { result ≡ self.now }
+    pub fn share(&self) -> Result<Conjunct<'a>, AllocError>
+        ensures { IfOk result (λ c. c ≡ self.now) }
     {
-        Conjunct {
-            term: self.term.share(),
-            places: shared(&self.places),
+        match self {
+            Conjunct::Term(term, places) => Ok(Conjunct::Term(term.share(), shared(places))),
+            Conjunct::Member(place, set, places) => {
+                Ok(Conjunct::Member(*place, set.share(), shared(places)))
+            }
+            Conjunct::Either(line, left, right, places) => {
+                let left = left.share()?;
+                let right = right.share()?;
+                Ok(Conjunct::Either(*line, left, right, shared(places)))
+            }
         }
     }
 
     /// The conjunct with its components numbered anew.
-    pub fn moved(
-        self,
-        arena: &'a Bump,
-        places: &Option<Lasting<'a, Items<'a, usize>>>,
-    ) -> Result<Conjunct<'a>, AllocError>
-        ensures { IfOk result (λ c. conjunct_of c ≡ spec.moved (spec.numbering places.now) (conjunct_of self.entry)) }
+    #[tactic(auto, using(crate::proofs::ConjunctsSeen::seen))]
+    pub fn moved(&self, arena: &'a Bump, places: &Places<'a>) -> Result<Conjunct<'a>, AllocError>
+        ensures { IfOk result (λ c. conjunct_of c ≡ spec.moved (spec.numbering places.now) (conjunct_of self.now)) }
     {
-        let places = composed(arena, &self.places, places)?;
-        Ok(Conjunct {
-            term: self.term,
-            places,
-        })
+        match self {
+            Conjunct::Term(term, own) => {
+                Ok(Conjunct::Term(term.share(), composed(arena, own, places)?))
+            }
+            Conjunct::Member(place, set, own) => {
+                Ok(Conjunct::Member(*place, set.share(), composed(arena, own, places)?))
+            }
+            Conjunct::Either(line, left, right, own) => {
+                let left = left.share()?;
+                let right = right.share()?;
+                Ok(Conjunct::Either(*line, left, right, composed(arena, own, places)?))
+            }
+        }
     }
 
     /// The line of the first token.
-    #[tactic(auto, using(crate::proofs::Renumbered::kept))]
+    #[tactic(auto, using(crate::proofs::ConjunctsSeen::seen, crate::proofs::Renumbered::kept))]
     pub fn line(&self) -> u32
         ensures { result ≡ spec.line_of (conjunct_of self.now) }
     {
-        self.term.get().line()
+        match self {
+            Conjunct::Term(term, _) => term.get().line(),
+            Conjunct::Member(_, set, _) => set.get().line(),
+            Conjunct::Either(line, _, _, _) => *line,
+        }
+    }
+}
+
+impl<'a> Batch<'a> {
+    /// These conjuncts, with their components at these places.
+    #[tactic(auto, using(crate::proofs::ConjunctsSeen::batches_seen))]
+    pub fn of(conjuncts: Piece<'a, Conjunct<'a>>, places: &Places<'a>) -> Batch<'a>
+        ensures { batch_of result ≡ map (spec.moved (spec.numbering places.now)) (map conjunct_of conjuncts.entry) }
+    {
+        Batch {
+            conjuncts,
+            places: shared(places),
+        }
     }
 }
 
 impl<'a> Share for Conjunct<'a> {
     fn shared(&self) -> Result<Conjunct<'a>, AllocError> {
-        Ok(self.share())
+        self.share()
     }
 }
 
-fn shared<'a>(
-    places: &Option<Lasting<'a, Items<'a, usize>>>,
-) -> Option<Lasting<'a, Items<'a, usize>>>
+fn shared<'a>(places: &Places<'a>) -> Places<'a>
     ensures { result ≡ places.now }
 {
     match places {
@@ -94,9 +152,9 @@ fn shared<'a>(
 /// The one numbering, and then the other.
 fn composed<'a>(
     arena: &'a Bump,
-    first: &Option<Lasting<'a, Items<'a, usize>>>,
-    then: &Option<Lasting<'a, Items<'a, usize>>>,
-) -> Result<Option<Lasting<'a, Items<'a, usize>>>, AllocError>
+    first: &Places<'a>,
+    then: &Places<'a>,
+) -> Result<Places<'a>, AllocError>
     ensures { IfOk result (λ ps. spec.numbering ps ≡ (λ (i : ℕ). spec.numbering then.now (spec.numbering first.now i))) }
 {
     match (first, then) {

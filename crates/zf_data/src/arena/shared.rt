@@ -40,6 +40,19 @@ impl<'a, T: Drop> Shared<'a, T> {
         })
     }
 
+    /// The value as it was, where there is no memory.
+    pub fn new_or_back(arena: &'a Bump, value: T) -> Result<Shared<'a, T>, T>
+        ensures ok { IfOk result (λ s. s ≡ value) }
+        ensures err { IfErr result (λ back. back ≡ value) }
+    {
+        match Rc::new(arena, value) {
+            Ok(inner) => Ok(Shared {
+                inner: ManuallyDrop::new(inner),
+            }),
+            Err(failed) => Err(failed.value),
+        }
+    }
+
     /// The value, where it has no other owner.
     pub fn into_value(self) -> Result<T, Shared<'a, T>>
         ensures ok { IfOk result (λ value. value ≡ self.entry) }

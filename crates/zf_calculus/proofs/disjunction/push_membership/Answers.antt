@@ -2,9 +2,9 @@ use Rattle.zf_calculus.proofs.Prelude.{◌∙◌, ap, on_ok_weaker, resolved_of,
 use Rattle.zf_calculus.proofs.Memberships.{pushed, none_of_carrier, none_of_sides}
 use Rattle.zf_calculus.proofs.disjunction.push_membership.Goals as goal
 
-pub returns-in_ok-of-in-Plain : goal.returns-in_ok-of-in-Plain
-returns-in_ok-of-in-Plain c =
-    on_ok_weaker c.push.result (pushed c.args.place c.args.domain.now c.in-Plain.set c.in_ok-of-in-Plain.field-0 c.args.made.now c.push.new.self c.in-Plain.is (c.in_ok-of-in-Plain.ensures ∙ c.in_ok-term-in-Plain.ensures ∙ ap (is_member c.args.place) (ap resolved_of (c.in_ok-set-in-Plain.ensures ∙ c.get.ensures)))) c.push.ensures.ok
+pub returns-in-Plain : goal.returns-in-Plain
+returns-in-Plain c =
+    on_ok_weaker c.push.result (pushed c.args.place c.args.domain.now c.in-Plain.set c.member.result c.args.made.now c.push.new.self c.in-Plain.is (c.member.ensures ∙ ap (is_member c.args.place) (ap resolved_of c.share.ensures))) c.push.ensures.ok
 
 pub returns-in-Carrier : goal.returns-in-Carrier
 returns-in-Carrier c = none_of_carrier c.args.place c.args.domain.now _ c.args.made.now c.in-Carrier.is

@@ -1,5 +1,5 @@
 -- A search begins before all events of the schema.
-use Rattle.zf_enum.proofs.Prelude.{◌∙◌, ap, arith, length, List, map, subst, sym, option_copied, AreAllAhead, all_ahead, SayTheSame, Grove, trees_of, HaveLeavesWithin, planted, exact, value_order, Value, comp_of, conjunct_of, schema_of, resolved_of, Conjunct, environment_of, AreAllRanges, ArePlanted, property, AreRanges, judged, with_first, Property}
+use Rattle.zf_enum.proofs.Prelude.{◌∙◌, ap, arith, length, List, map, subst, sym, option_copied, AreAllAhead, all_ahead, SayTheSame, Grove, trees_of, HaveLeavesWithin, planted, exact, value_order, Value, comp_of, schema_of, resolved_of, environment_of, AreAllRanges, property, AreRanges, judged, with_first, Property}
 use Rattle.zf_term.specs.declared.schema.Component.{Component}
 use Rattle.zf_enum.proofs.Naming.{as_many, dues_at, first_names, named_alike}
 use Rattle.zf_enum.proofs.Started.{ranges_ascend, named_within, needs_within}
@@ -13,7 +13,7 @@ lifted-requires c =
     let rs = c.in_ok-ranges.ranges.items in
     let all = subst (λ (ds : List Component). AreAllRanges e (map comp_of ds) c.args.held.now rs) c.as_slice.ensures c.in_ok-ranges.ensures.is in
     let p = c.in_ok-planting.planting in
-    let are_planted = subst (λ (cs : List Conjunct). ArePlanted (map conjunct_of cs) p.leaves.items (trees_of p.forest)) (c.as_slice-2.ensures ∙ c.in_ok-conjuncts.ensures) c.in_ok-planting.ensures in
+    let are_planted = c.in_ok-planting.ensures in
     record { small = λ k. omega (arith, are_planted.needs (length rs) (needs_within e s.comps c.args.held.now rs s.conjuncts all.0 c.requires.due) k, c.in_ok-ranges.ranges.small) }
 
 pub start-requires-clause-ascending : goal.start-requires-clause-ascending
@@ -35,7 +35,7 @@ start-requires-clause-due c =
     let rs = c.in_ok-ranges.ranges.items in
     let all = subst (λ (ds : List Component). AreAllRanges e (map comp_of ds) c.args.held.now rs) c.as_slice.ensures c.in_ok-ranges.ensures.is in
     let p = c.in_ok-planting.planting in
-    let are_planted = subst (λ (cs : List Conjunct). ArePlanted (map conjunct_of cs) p.leaves.items (trees_of p.forest)) (c.as_slice-2.ensures ∙ c.in_ok-conjuncts.ensures) c.in_ok-planting.ensures in
+    let are_planted = c.in_ok-planting.ensures in
     let named = c.in_ok-property.property in
     λ k l. omega (arith, dues_at (environment_of named.env.now) e (map resolved_of named.conjuncts) (map resolved_of p.leaves.items) c.in_ok-property.ensures.each k, are_planted.needs (length rs) (needs_within e s.comps c.args.held.now rs s.conjuncts all.0 c.requires.due) k)
 
@@ -44,7 +44,7 @@ start-requires-clause-leaves c =
     let e = environment_of c.args.env.now in
     let s = schema_of c.args.flat.now in
     let p = c.in_ok-planting.planting in
-    let are_planted = subst (λ (cs : List Conjunct). ArePlanted (map conjunct_of cs) p.leaves.items (trees_of p.forest)) (c.as_slice-2.ensures ∙ c.in_ok-conjuncts.ensures) c.in_ok-planting.ensures in
+    let are_planted = c.in_ok-planting.ensures in
     let named = c.in_ok-property.property in
     let many = as_many (environment_of named.env.now) e (map resolved_of named.conjuncts) (map resolved_of p.leaves.items) c.in_ok-property.ensures.each in
     subst (λ n. HaveLeavesWithin n (trees_of p.forest)) (sym many) (leaves_within s.conjuncts p.leaves.items (trees_of p.forest) are_planted)
@@ -56,7 +56,7 @@ returns-clause-begins c =
     let rs = c.in_ok-ranges.ranges.items in
     let all = subst (λ (ds : List Component). AreAllRanges e (map comp_of ds) c.args.held.now rs) c.as_slice.ensures c.in_ok-ranges.ensures.is in
     let p = c.in_ok-planting.planting in
-    let are_planted = subst (λ (cs : List Conjunct). ArePlanted (map conjunct_of cs) p.leaves.items (trees_of p.forest)) (c.as_slice-2.ensures ∙ c.in_ok-conjuncts.ensures) c.in_ok-planting.ensures in
+    let are_planted = c.in_ok-planting.ensures in
     let named = c.in_ok-property.property in
     let f = environment_of named.env.now in
     let terms = map resolved_of named.conjuncts in

@@ -1,6 +1,0 @@
-use Rattle.std.proofs.Common.{◌∙◌}
-use Rattle.zf_calculus.proofs.Memberships.{member_seen}
-use Rattle.zf_calculus.proofs.disjunction.membership.Goals as goal
-
-pub returns : goal.returns
-returns c = member_seen c.line-first.result c.args.place c.args.set c.in_ok-left.left c.in_ok-new.field-0 c.line-first.ensures c.in_ok-left.ensures (c.in_ok-new.ensures ∙ c.in_ok-links.ensures)

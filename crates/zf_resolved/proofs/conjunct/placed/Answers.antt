@@ -1,0 +1,11 @@
+use Rattle.std.proofs.Common.{ap}
+use Rattle.std.proofs.lemmas.Result.{IfOk-weaker}
+use Rattle.std.proofs.Common.{◌≡◌, ◌∙◌}
+use Rattle.zf_term.specs.ResolvedTrees.{resolved_of}
+use Rattle.zf_term.specs.Shapes.{moved, numbering}
+use Rattle.zf_resolved.proofs.Joining.{kept}
+use Rattle.zf_resolved.proofs.conjunct.placed.Goals as goal
+
+pub returns-in-None : goal.returns-in-None
+returns-in-None c =
+    IfOk-weaker c.copy.result (λ t. t ≡ c.args.term.now) (λ t. resolved_of t ≡ moved (numbering c.args.places.now) (resolved_of c.args.term.now)) (λ t e. kept t (resolved_of c.args.term.now) c.args.places.now c.in-None.is (ap resolved_of e)) c.copy.ensures
