@@ -11,8 +11,11 @@ use std::marker::Model;
 use std::mem;
 use std::mem::ManuallyDrop;
 
-/// How many items a chunk has at most that is copied where there is room for it.
+/// How many items a chunk has at most that items are added to.
 const CHUNK: usize = 64;
+
+/// How many items are copied at most, so that chunks stay few.
+const COPIED: usize = 32;
 
 /// What may have one more owner.
 pub trait Share: Sized {
@@ -243,7 +246,7 @@ fn open<'a, T: Drop + Share>(
         return Ok(());
     };
     let room = chunk.len().saturating_add(more);
-    if room > CHUNK {
+    if room > COPIED {
         return Ok(());
     }
     let items = copied(last.arena(), chunk.as_slice(), room)?;
@@ -289,7 +292,8 @@ impl<'a, T: Drop + Share> Chunked<'a, T> {
         ensures { IfOk result (λ c. c ≡ self.now) }
     {
         let mut same = Chunked::with_room(self.arena(), self.room_beside(spare))?;
-        same.chunks.reserve_exact(self.chunks.len())?;
+        same.chunks
+            .reserve_exact(self.chunks.len().saturating_add(1))?;
         same.append(self)?;
         if spare > 0 {
             same.make_room(spare)?;
@@ -316,10 +320,13 @@ impl<'a, T: Drop + Share> Chunked<'a, T> {
         self.last.make_room(more)
     }
 
-    /// Adds the items of the other list, whose chunks are shared.
+    /// Adds the items of the other list, whose chunks are shared. After an error some of them may stand there.
     pub fn append(&mut self, other: &Chunked<'a, T>) -> Result<(), AllocError>
         ensures { OnOk result (self.new ≡ self.old ++ other.now) }
     {
+        if other.chunks.len() > self.chunks.len() {
+            self.chunks.reserve(other.chunks.len())?;
+        }
         for chunk in other.chunks.as_slice() {
             self.append_chunk(chunk)?;
         }
@@ -339,7 +346,7 @@ impl<'a, T: Drop + Share> Chunked<'a, T> {
     /// Whether so many items stand in one chunk with the last ones, of which there are some.
     fn is_roomy(&self, more: usize) -> bool {
         let last = self.last_piece();
-        last > 0 && last.saturating_add(more) <= CHUNK
+        last > 0 && last.saturating_add(more) <= COPIED
     }
 
     /// How many items stand together at the end.
