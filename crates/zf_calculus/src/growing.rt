@@ -44,7 +44,7 @@ impl<'a> Growing<'a> {
         ensures growing { IfOk result (λ g. IsGrowing g) }
     {
         let components = Items::with_room(arena, spare.components)?;
-        let conjuncts = Chunked::with_room(arena, spare.conjuncts)?;
+        let conjuncts = Chunked::with_room(arena, spare.conjuncts);
         Ok(Growing {
             flat: Flat {
                 components,
@@ -95,10 +95,7 @@ impl<'a> Growing<'a> {
             sets: self.sets_left,
             nodes: self.nodes_left,
         };
-        let mut flat = self.flat;
-        // Where there is no memory for that, the list stays as it is.
-        let _settled = flat.conjuncts.settle();
-        Measured::of(flat, left)
+        Measured::of(self.flat, left)
     }
 
     /// One more component.

@@ -238,10 +238,7 @@ fn declared<'a>(
 {
     let name = name.spelled();
     let ztype = ztype.share()?;
-    let domains = Shared::new(
-        arena,
-        Chunked::one_chunk(arena, Domain::Plain(set.share()))?,
-    )?;
+    let domains = Shared::new(arena, Chunked::of(arena, Domain::Plain(set.share()))?)?;
     Ok(Component {
         name,
         ztype,

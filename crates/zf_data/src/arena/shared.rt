@@ -1,6 +1,7 @@
 //! Values with several owners, in an arena.
-ghost use Rattle.std.specs.Prelude.{◌≡◌, IfOk, IfErr};
+ghost use Rattle.std.specs.Prelude.{◌≡◌, [], ◌∷◌, ◌++◌, IfOk, IfErr, MatchOption, OnErr};
 
+use super::Items;
 use bumpalo::Bump;
 use std::alloc::AllocError;
 use std::marker::Model;
@@ -40,19 +41,6 @@ impl<'a, T: Drop> Shared<'a, T> {
         })
     }
 
-    /// The value as it was, where there is no memory.
-    pub fn new_or_back(arena: &'a Bump, value: T) -> Result<Shared<'a, T>, T>
-        ensures ok { IfOk result (λ s. s ≡ value) }
-        ensures err { IfErr result (λ back. back ≡ value) }
-    {
-        match Rc::new(arena, value) {
-            Ok(inner) => Ok(Shared {
-                inner: ManuallyDrop::new(inner),
-            }),
-            Err(failed) => Err(failed.value),
-        }
-    }
-
     /// The value, where it has no other owner.
     pub fn into_value(self) -> Result<T, Shared<'a, T>>
         ensures ok { IfOk result (λ value. value ≡ self.entry) }
@@ -74,5 +62,31 @@ impl<'a, T: Drop> Shared<'a, T> {
         Ok(Shared {
             inner: ManuallyDrop::new(owner.clone()?),
         })
+    }
+}
+
+impl<'a, T> Shared<'a, T> {
+    /// Whether the value has no other owner.
+    pub fn is_lone(&self) -> bool {
+        Rc::strong_count(&self.inner) == 1
+    }
+}
+
+impl<'a, T: Drop> Shared<'a, Items<'a, T>> {
+    /// Adds an item, which comes back where the list has another owner.
+    pub fn with(self, item: T) -> (Shared<'a, Items<'a, T>>, Result<Option<T>, AllocError>)
+        ensures ok { IfOk result.1 (λ back. MatchOption back (result.0 ≡ self.entry ++ item ∷ []) (λ same. (same ≡ item) × (result.0 ≡ self.entry))) }
+        ensures err { OnErr result.1 (result.0 ≡ self.entry) }
+    {
+        let mut owner = ManuallyDrop::into_inner(self.inner);
+        let answer = match Rc::get_mut(&mut owner) {
+            None => Ok(Some(item)),
+            Some(items) => match items.push(item) {
+                Ok(()) => Ok(None),
+                Err(failed) => Err(failed),
+            },
+        };
+        let inner = ManuallyDrop::new(owner);
+        (Shared { inner }, answer)
     }
 }
