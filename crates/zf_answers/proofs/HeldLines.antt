@@ -1,5 +1,5 @@
 -- A text is the line of some of the components, which holds values of their types, or of none.
-use Rattle.zf_answers.proofs.Prelude.{◌++◌, ◌+◌, ◌∙◌, ◌∷◌, ◌≡◌, ◌⊎◌, [], ap, append_assoc, Bool, false, inl, inr, List, None, Option, refl, Some, subst, sym, true, ℕ, cases_eq, Value, Comp, Environment, IsOfType, Decided, decided_same, decided_some, HasSome, component_text, Ends, is_in_word, spellings, AreHeld, HoldsNoValues, EveryHeldLineIsJudged}
+use Rattle.zf_answers.proofs.Prelude.{◌++◌, ◌+◌, ◌∙◌, ◌∷◌, ◌≡◌, [], ap, append_assoc, Bool, false, inl, inr, List, None, Option, refl, Some, subst, sym, true, ℕ, cases_eq, Value, Comp, Environment, IsOfType, Decided, decided_same, decided_some, HasSome, component_text, Ends, is_in_word, spellings, EveryHeldLineIsJudged}
 use Rattle.zf_texts.specs.declared.spelling.Spelling.{Spelling}
 use Rattle.zf_texts.specs.Held.{HoldNext, IsNamedNext}
 use Rattle.zf_texts.specs.ValueTexts.{separator}

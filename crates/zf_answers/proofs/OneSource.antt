@@ -1,5 +1,5 @@
 -- A source is read by one tree or refused, and defines one list of globals.
-use Rattle.zf_answers.proofs.Prelude.{◌++◌, ◌∙◌, ◌∷◌, ◌≡◌, ◌⊎◌, [], ap, Bool, inl, inr, List, refl, subst, sym, ℕ, ◌≢◌, BoxTree, TextFault, Token, only_one, IsGrammarFault, ReadsLow, ReadsSource, Refuses, RefusesSource, Defined, Schema, Fault, Checks, IsNamed, text_fault_lines, AreAlike, AreOfSame}
+use Rattle.zf_answers.proofs.Prelude.{◌++◌, ◌∙◌, ◌∷◌, ◌≡◌, [], ap, Bool, inl, inr, List, refl, subst, sym, ℕ, ◌≢◌, BoxTree, TextFault, Token, only_one, IsGrammarFault, ReadsLow, ReadsSource, Refuses, RefusesSource, Defined, Schema, Fault, Checks, IsNamed, text_fault_lines, AreAlike, AreOfSame}
 use Rattle.zf_scan.specs.declared.fault.TextFaultKind.{TextFaultKind}
 use Rattle.zf_scan.specs.declared.fault.TextFaultKind.TheVariants as fault
 use Rattle.zf_scan.proofs.Laws.{is_cut_once, is_not_both, faults_once}

@@ -1,5 +1,5 @@
 -- A schema beside its state after an operation.
-use Rattle.zf_calculus.proofs.Prelude.{◌∙◌, ◌≡◌, ap, inl, inr, length, List, map, subst, sym, ℕ, place_in, Comp, comp_of, Schema, schema_of, ResolvedTree, Offence, Limit, Component, Flat, Agree, all_unchanged, conjoined, decorated, delta, new_place, prime, xi, constrained, equalities, IsTooLarge, Keeps, OneClashes, Stops}
+use Rattle.zf_calculus.proofs.Prelude.{◌∙◌, ◌≡◌, ap, inl, inr, length, List, map, subst, ℕ, place_in, Comp, comp_of, Schema, schema_of, ResolvedTree, Offence, Limit, Component, Flat, Agree, all_unchanged, conjoined, decorated, delta, new_place, prime, xi, constrained, equalities, IsTooLarge, Keeps, OneClashes, Stops}
 use Rattle.zf_calculus.proofs.Equalities.{same_equalities}
 use Rattle.zf_calculus.proofs.Monotony.{before_conjuncts, still_large}
 

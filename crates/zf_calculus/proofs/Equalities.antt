@@ -1,5 +1,5 @@
 -- The conjuncts of `\Xi`: what the program makes is what is wanted.
-use Rattle.zf_calculus.proofs.Prelude.{place_in, Equal, new_link, of-Chain, of-link, of-Name, dropped, Comp, Schema, chain, link, links, no_links, reference, resolved_link_of, resolved_of, ResolvedTree, Offence, Limit, Resolved, ResolvedLink, all_unchanged, new_place, unchanged, constrained, equalities, equality, IsTooLarge, Keeps}
+use Rattle.zf_calculus.proofs.Prelude.{place_in, Equal, new_link, of-Chain, of-link, of-Name, dropped, Comp, Schema, chain, link, links, no_links, reference, resolved_link_of, resolved_of, ResolvedTree, Offence, Resolved, ResolvedLink, all_unchanged, new_place, unchanged, constrained, equalities, equality, IsTooLarge, Keeps}
 use Rattle.std.proofs.Common.{◌≡◌, ℕ, zero, suc, ◌+◌, ◌<◌, List, [], ◌∷◌, ◌++◌, length, map, drop, get_or, refl, sym, ap, ◌∙◌, subst, arith, append_assoc}
 use Rattle.zf_reference.specs.declared.reference.Reference.TheVariants.{Component}
 use Rattle.zf_term.specs.declared.resolved.Resolved.TheVariants as v

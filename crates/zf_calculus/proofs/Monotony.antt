@@ -1,5 +1,5 @@
 -- A schema that has grown is within a limit only if it was before.
-use Rattle.zf_calculus.proofs.Prelude.{◌++◌, ◌+◌, ◌<◌, ◌∷◌, ◌≡◌, ◌≤◌, [], arith, length, length-append, List, ℕ, sum_by-append, sum_by_push, AllByRecursion, sum_by, Comp, Schema, ResolvedTree, set_count, set_nodes, height, nodes, constrained, grown, HasLeft, all_nodes, IsLow, IsTooLarge, IsWithin, Keeps, Limit, Offence}
+use Rattle.zf_calculus.proofs.Prelude.{◌++◌, ◌+◌, ◌<◌, ◌∷◌, ◌≡◌, ◌≤◌, [], arith, length, length-append, List, ℕ, sum_by-append, sum_by_push, AllByRecursion, sum_by, Comp, Schema, ResolvedTree, set_count, set_nodes, height, nodes, constrained, grown, HasLeft, all_nodes, IsLow, IsTooLarge, Keeps, Limit, Offence}
 use Rattle.zf_term.specs.declared.fault.Limit.TheVariants as limit
 use Rattle.zf_calculus.specs.Calculus.{schema_of, with_comp}
 use Rattle.zf_calculus.proofs.Merging.{counts_more}

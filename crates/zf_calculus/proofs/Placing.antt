@@ -1,5 +1,5 @@
 -- Where the components of a name are, and that they stay there.
-use Rattle.zf_calculus.proofs.Prelude.{if◌then◌else◌, ◌++◌, ◌+◌, ◌<◌, ◌∙◌, ◌∷◌, ◌≡◌, ◌≤◌, [], add-one, ap, arith, Bool, false, get_or, length, List, map, None, Option, refl, slice_get, Some, subst, suc, sym, true, zero, ℕ, append-nil, append_assoc, length-map, none-some, same_Some, slice_get_past, bytes_eq, place_in, in_full, is_itself, Comp, comp_of, later, Offence, too_large, Component, comp, comp_named, new_place, place_of, place_or, with_comp, with_comps, AreAt, place_found, place_named, AreFew}
+use Rattle.zf_calculus.proofs.Prelude.{if◌then◌else◌, ◌++◌, ◌+◌, ◌<◌, ◌∙◌, ◌∷◌, ◌≡◌, [], add-one, ap, arith, Bool, false, get_or, length, List, map, None, Option, refl, slice_get, Some, subst, suc, sym, true, zero, ℕ, append-nil, append_assoc, length-map, none-some, same_Some, slice_get_past, bytes_eq, place_in, in_full, is_itself, Comp, comp_of, later, Offence, too_large, Component, comp, comp_named, new_place, place_of, place_or, with_comp, with_comps, AreAt, place_found, place_named, AreFew}
 use Rattle.zf_term.specs.declared.fault.Limit.TheVariants as limit
 use Rattle.zf_calculus.proofs.Merging.{none_shorter, nothing_before}
 

@@ -61,7 +61,7 @@ fn job_in(alloc: Global, name: &str, matches: &ArgMatches<'_>) -> Result<Job, Us
         let details = is_flagged(matches, "details");
         return Ok(Job::Check { types, details });
     }
-    let name = value_in(alloc, matches, "SCHEMA")?;
+    let schema = value_in(alloc, matches, "SCHEMA")?;
     let sizes = sizes_in(alloc, matches)?;
     let after = option_in(alloc, matches, "after")?;
     let held = option_in(alloc, matches, "with")?;
@@ -69,7 +69,7 @@ fn job_in(alloc: Global, name: &str, matches: &ArgMatches<'_>) -> Result<Job, Us
     let tests = is_flagged(matches, "tests");
     let details = is_flagged(matches, "details");
     Ok(Job::Show(Request {
-        name,
+        name: schema,
         sizes,
         after,
         held,

@@ -5,7 +5,6 @@ use Rattle.zf_value.proofs.Once as once
 use Rattle.zf_walk.specs.Events.{IsEvents}
 use Rattle.zf_walk.specs.Tests.{IsBound}
 use Rattle.zf_walk.proofs.LawProofs as walk
-use Rattle.zf_enum.specs.Portions.{Portion}
 use Rattle.zf_enum.specs.Events.{OneRanges, OneEvents, EventsResume, TestsAreBound}
 
 one_range : (e : Environment) (c : Comp) (held : Option Value) (xs ys : List Value) → IsRange e c held xs → IsRange e c held ys → xs ≡ ys

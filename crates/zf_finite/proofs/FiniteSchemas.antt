@@ -1,5 +1,5 @@
 -- A schema is finite where nothing makes it infinite.
-use Rattle.zf_finite.proofs.Prelude.{if◌then◌else◌, ◌++◌, ◌∙◌, ◌∷◌, ◌≡◌, [], ap, Bool, false, flat_map, IsTrue, List, map, refl, sym, true, true≢false, ℕ, flat_map-cons, Comp, Defined, Schema, sets_of, offending, all_set_offenders, causes, comp_causes, FiniteWithoutCause, IsFinite, NotFinite, Offends, one_bounds, unbounded}
+use Rattle.zf_finite.proofs.Prelude.{if◌then◌else◌, ◌++◌, ◌∙◌, ◌∷◌, ◌≡◌, [], ap, Bool, false, flat_map, IsTrue, List, map, refl, sym, true, true≢false, flat_map-cons, Comp, Defined, Schema, sets_of, offending, all_set_offenders, causes, comp_causes, FiniteWithoutCause, IsFinite, Offends, one_bounds, unbounded}
 use Rattle.std.specs.List.{AllByRecursion}
 
 both_none : {A : Type 0} (xs ys : List A) → xs ++ ys ≡ [] → (xs ≡ []) × (ys ≡ [])

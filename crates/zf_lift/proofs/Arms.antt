@@ -1,5 +1,5 @@
 -- What is made of a term's parts is a lift of the term, and the term is closed where its parts are.
-use Rattle.zf_lift.proofs.Prelude.{◌++◌, ◌+◌, ◌<◌, ◌∙◌, ◌∷◌, ◌≡◌, ◌≤◌, [], ap, arith, Bool, false, get_or, length, List, map, None, Option, refl, Some, subst, sym, take, true, ℕ, Reference, Global, Listed, Operator, Unary, Constant, Quantifier, Relation, link-seen, new_link, new_range, of-Binary, of-Bracket, of-Builder, of-Chain, of-Constant, of-EmptySet, of-link, of-Listed, of-Name, of-Number, of-Quantified, of-range, of-Unary, range-seen, binary, bracket, builder, chain, links, listed, part_of, quantified, range_of, ranges, reference, resolved_link_of, resolved_of, ResolvedTree, terms, unary, Environment, AreEach, IsLonger, AreClosed, AreLifts, AreLinkLifts, AreLinksClosed, AreRangeLifts, AreRangesClosed, IsClosed, IsLift, IsPartClosed, IsPartLift, IsLinkClosed, IsLinkLift, IsRangeClosed, IsRangeLift, need}
+use Rattle.zf_lift.proofs.Prelude.{◌++◌, ◌+◌, ◌<◌, ◌∙◌, ◌∷◌, ◌≡◌, ◌≤◌, [], ap, arith, Bool, false, get_or, length, List, map, None, Option, refl, Some, subst, sym, take, ℕ, Reference, Global, Listed, Operator, Unary, Constant, Quantifier, Relation, link-seen, new_link, new_range, of-Binary, of-Bracket, of-Builder, of-Chain, of-Constant, of-EmptySet, of-link, of-Listed, of-Name, of-Number, of-Quantified, of-range, of-Unary, range-seen, links, part_of, range_of, ranges, reference, resolved_link_of, resolved_of, ResolvedTree, terms, Environment, AreEach, IsLonger, AreClosed, AreLifts, AreLinkLifts, AreLinksClosed, AreRangeLifts, AreRangesClosed, IsClosed, IsLift, IsPartClosed, IsPartLift, IsLinkClosed, IsLinkLift, IsRangeClosed, IsRangeLift, need}
 use Rattle.zf_term.specs.declared.resolved.Range.{Range}
 use Rattle.zf_term.specs.declared.resolved.Resolved.{Resolved}
 use Rattle.zf_term.specs.declared.resolved.Resolved.TheVariants as v

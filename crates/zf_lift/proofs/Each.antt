@@ -1,5 +1,5 @@
 -- Lists of which each two items stand in a relation.
-use Rattle.zf_lift.proofs.Prelude.{◌++◌, ◌+◌, ◌<◌, ◌∷◌, ◌≡◌, ◌≤◌, [], add-one, ap, arith, get_or, length, List, map, Option, refl, Some, subst, suc, sym, take, zero, ℕ, slice_get, AreEach}
+use Rattle.zf_lift.proofs.Prelude.{◌++◌, ◌+◌, ◌<◌, ◌∷◌, ◌≡◌, ◌≤◌, [], add-one, ap, arith, get_or, length, List, map, refl, Some, subst, suc, sym, take, zero, ℕ, slice_get, AreEach}
 
 pub each_also : {A : Type 0} → (R S : A → A → Type 0) (xs ys : List A) → ((x y : A) → R x y → S x y) → AreEach R xs ys → AreEach S xs ys
 each_also R S [] [] f h = tt

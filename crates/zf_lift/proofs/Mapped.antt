@@ -1,5 +1,5 @@
 -- What connectives, quantifiers and builders say of parts, they say of parts that say as much.
-use Rattle.zf_lift.proofs.Prelude.{◌↔◌, ◌≡◌, inl, inr, List, ⊎_elim, Outcome, Truth, Value, Quantifier, IsBuilt, IsBuiltBy, IsBuiltOver, IsOutOfBounds, IsWithinBounds, one_out, one_undefined, Several, values, HasTwo, IsConjunction, IsConnected, IsDisjunction, IsEquivalence, IsExists, IsExistsOne, IsForAll, IsOver, IsQuantified, IsTold, opposite}
+use Rattle.zf_lift.proofs.Prelude.{◌↔◌, inl, inr, List, ⊎_elim, Outcome, Truth, Value, Quantifier, IsBuilt, IsBuiltBy, IsBuiltOver, IsOutOfBounds, IsWithinBounds, one_out, one_undefined, Several, values, HasTwo, IsConjunction, IsConnected, IsDisjunction, IsEquivalence, IsExists, IsExistsOne, IsForAll, IsOver, IsQuantified, IsTold, opposite}
 use Rattle.zf_tree.specs.declared.symbol.Connective.{Connective}
 use Rattle.zf_tree.specs.declared.symbol.Connective.TheVariants as connective
 use Rattle.zf_tree.specs.declared.symbol.Quantifier.TheVariants as quantifier

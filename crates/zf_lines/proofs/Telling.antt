@@ -1,5 +1,5 @@
 -- What a walk says of its tests is what an answer says of them.
-use Rattle.zf_lines.proofs.Prelude.{◌≡◌, ap, List, Option, subst, sym, true, Progress, SameRanges, Stage, value_order, Value, Schema, Environment, property, counted_goal, Goal, judged, Bindings, IsCountingAtStart, TellsTests, tests_line}
+use Rattle.zf_lines.proofs.Prelude.{◌≡◌, ap, List, Option, subst, true, Progress, SameRanges, Stage, value_order, Value, Schema, Environment, property, counted_goal, Goal, judged, Bindings, IsCountingAtStart, TellsTests, tests_line}
 use Rattle.zf_term.specs.ResolvedTrees.{ResolvedTree}
 use Rattle.zf_walk.specs.Progress as walk
 use Rattle.zf_walk.specs.Tests.{IsNumberOfTests}

@@ -13,10 +13,10 @@ use Rattle.zf_term.specs.declared.conjunct.Conjunct.TheVariants as conjuncts
 use Rattle.zf_term.specs.declared.resolved.Resolved.{Resolved}
 use Rattle.zf_term.specs.declared.resolved.Resolved.TheVariants as v
 use Rattle.zf_term.specs.declared.resolved.ResolvedLink.{ResolvedLink}
-use Rattle.zf_term.specs.Definitions.{all_joined, batch_of, both_hold, conjunct_of, is_member, joined, one_holds}
+use Rattle.zf_term.specs.Definitions.{all_joined, batch_of, both_hold, conjunct_of, is_member, joined}
 use Rattle.zf_term.specs.ResolvedTrees.{ResolvedTree, binary, chain, link, links, no_links, reference, resolved_link_of, resolved_of}
 use Rattle.zf_term.specs.Shapes.{line_of, moved, numbering}
-use Rattle.zf_term.proofs.ConjunctsSeen.{batch-seen, of-Either, of-Member, of-Term}
+use Rattle.zf_term.proofs.ConjunctsSeen.{of-Either, of-Member, of-Term}
 use Rattle.zf_term.proofs.Places.{unmoved}
 use Rattle.zf_term.proofs.ResolvedSeen.{new_link, of-Chain, of-Constant, of-link, of-Name}
 use Rattle.zf_term.proofs.Walk.{dropped}

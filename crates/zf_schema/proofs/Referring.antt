@@ -1,5 +1,5 @@
 -- References to schemas, out of what is named and what it is marked to be.
-use Rattle.zf_schema.proofs.Prelude.{◌∙◌, ◌≡◌, ap, inl, inr, List, refl, Some, subst, sym, ℕ, SchemaRef, Defined, Schema, schema, first_named, Offence, decorated, MarkAgrees, marked, IsNext, Stops, Refers, IsNamed, LacksSchema, MarkClashes, OffendsRef}
+use Rattle.zf_schema.proofs.Prelude.{◌∙◌, ◌≡◌, ap, inl, inr, List, refl, Some, subst, ℕ, SchemaRef, Defined, Schema, schema, first_named, Offence, decorated, MarkAgrees, marked, IsNext, Stops, Refers, IsNamed, LacksSchema, MarkClashes, OffendsRef}
 use Rattle.zf_calculus.proofs.Decorating.{within_decorated, keeps_undecorated}
 use Rattle.zf_calculus.proofs.Monotony.{still_large}
 

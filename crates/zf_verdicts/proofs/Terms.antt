@@ -1,5 +1,5 @@
 -- A term has a sort that its place takes, or an offence there: its parts are judged first.
-use Rattle.zf_verdicts.proofs.Prelude.{◌++◌, ◌≡◌, ◌⊎◌, [], inl, inr, List, None, Option, refl, Some, subst, sym, ℕ, spelling, left_need, need_of, relation_rule, right_need, rule_of, absent, binary, bracket, builder, chain, constant, empty_set, line_of, link, Links, listed, named, no_decls, no_links, no_trees, numeral, Perhaps, present, quantified, Tree, tree, Trees, unary, var_decl, VarDecls, Need, Unary, Relation, Name, IsSmall, no_types, power, Ty, type, Tys, mismatch, no_members, not_declared, Offence, too_large, TypeNodes, Clash, Differ, LinksOffend, MakesTooLarge, Misplaced, Offends, OneDiffers, OneOffends, PartOffends, Repeats, SetsOffend, a_schema, constant_sort, IsSmallSort, Meets, number, predicate, set_of, Sort, Takes, typed, UnaryTakes, AreAll, AreApart, AreLinked, AreMembers, Builds, Constrains, Declare, declared, IsOf, Makes, member_need, member_sort, row_type, variables, SomeOffence}
+use Rattle.zf_verdicts.proofs.Prelude.{◌++◌, ◌≡◌, ◌⊎◌, [], inl, inr, List, None, Option, refl, Some, subst, sym, ℕ, spelling, left_need, need_of, relation_rule, right_need, rule_of, absent, binary, bracket, builder, chain, constant, empty_set, line_of, link, Links, listed, named, no_decls, no_links, no_trees, numeral, Perhaps, present, quantified, Tree, tree, Trees, unary, var_decl, VarDecls, Need, Unary, Relation, Name, IsSmall, no_types, power, Ty, type, Tys, mismatch, no_members, not_declared, Offence, too_large, TypeNodes, Differ, LinksOffend, Misplaced, Offends, OneDiffers, OneOffends, PartOffends, Repeats, SetsOffend, a_schema, constant_sort, IsSmallSort, Meets, number, predicate, set_of, Sort, Takes, typed, UnaryTakes, AreAll, AreApart, AreLinked, AreMembers, Builds, Constrains, Declare, declared, IsOf, Makes, member_need, member_sort, row_type, variables, SomeOffence}
 use Rattle.zf_tree.specs.declared.symbol.Quantifier.{Quantifier}
 use Rattle.zf_tree.specs.declared.operator.Need.TheVariants as need
 use Rattle.zf_tree.specs.declared.operator.Listed.{Listed}

@@ -1,5 +1,5 @@
 -- The values that lie in each of several declared sets.
-use Rattle.zf_enum.proofs.Prelude.{◌∙◌, ◌≡◌, ap, List, map, rules, subst, suc, sym, true, IsAscending, of-Either, DeclaredSet, set_of, sets_of, Domain, environment_of, IsOneOut, IsAllOf, IsAllOfEach, NarrowsAll}
+use Rattle.zf_enum.proofs.Prelude.{◌∙◌, ◌≡◌, ap, List, map, subst, suc, sym, true, IsAscending, of-Either, DeclaredSet, set_of, sets_of, Domain, environment_of, IsOneOut, IsAllOf, IsAllOfEach, NarrowsAll}
 use Rattle.zf_finite.specs.Finite as spec
 use Rattle.zf_enum.proofs.Lacks.{passed}
 use Rattle.zf_enum.proofs.Sides.{rest, sides_bound, out_at, out_before, out_behind, all_of_each, all_of_sides}

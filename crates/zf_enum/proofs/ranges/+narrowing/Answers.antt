@@ -1,5 +1,5 @@
 -- The values that each declared set leaves.
-use Rattle.zf_enum.proofs.Prelude.{◌∙◌, ◌≡◌, ap, List, map, rules, subst, sym, Value, of-Either, DeclaredSet, set_of, sets_of, Domain, environment_of, Narrows, NarrowsAll}
+use Rattle.zf_enum.proofs.Prelude.{◌∙◌, ◌≡◌, ap, List, map, subst, sym, Value, of-Either, DeclaredSet, set_of, sets_of, Domain, environment_of, Narrows, NarrowsAll}
 use Rattle.zf_enum.proofs.Lacks.{passed}
 use Rattle.zf_enum.proofs.Sides.{narrows_next, out_at, some_of_sides}
 use Rattle.zf_enum.proofs.ranges.+narrowing.Goals as goal

@@ -1,6 +1,6 @@
 -- The values of a range, or of them the one that is held.
 use Rattle.zf_enum.proofs.Prelude.{map, set_of, sets_of, environment_of}
-use Rattle.zf_enum.proofs.Held.{of_all, one_ok, ascending_alone}
+use Rattle.zf_enum.proofs.Held.{one_ok, ascending_alone}
 use Rattle.zf_enum.proofs.ranges.values_with.Goals as goal
 
 pub narrowed-requires : goal.narrowed-requires

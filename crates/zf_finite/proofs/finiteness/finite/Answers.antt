@@ -1,4 +1,4 @@
-use Rattle.zf_finite.proofs.Prelude.{◌∙◌, ap, flat_map, map, comp_of, conjunct_of, globals_of, schema_of, first, offending, comp_causes, Offends}
+use Rattle.zf_finite.proofs.Prelude.{◌∙◌, ap, flat_map, map, comp_of, globals_of, schema_of, first, comp_causes, Offends}
 use Rattle.zf_finite.proofs.FiniteSchemas.{is_finite}
 use Rattle.zf_finite.proofs.FirstCauses.{first_behind, first_in_front, none_found}
 use Rattle.zf_finite.proofs.finiteness.finite.Goals as goal

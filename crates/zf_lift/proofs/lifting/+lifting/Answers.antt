@@ -1,4 +1,4 @@
-use Rattle.zf_lift.proofs.Prelude.{◌∙◌, refl, sym, range_of, resolved_link_of, resolved_of, environment_of, IsLonger, IsClosed, IsLift, IsLinkClosed, IsLinkLift, IsRangeClosed, IsRangeLift}
+use Rattle.zf_lift.proofs.Prelude.{◌∙◌, sym, range_of, resolved_link_of, resolved_of, environment_of, IsLonger, IsClosed, IsLift, IsLinkClosed, IsLinkLift, IsRangeClosed, IsRangeLift}
 use Rattle.std.proofs.lemmas.Result.{IfOk-weaker}
 use Rattle.zf_lift.proofs.Longer.{itself, further}
 use Rattle.zf_lift.proofs.Wherever.{lift_later, range_later, link_later, ranges_later, part_later, terms_lift, terms_closed, ranges_lift, ranges_closed, links_lift, links_closed}

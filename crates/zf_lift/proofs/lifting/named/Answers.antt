@@ -1,4 +1,4 @@
-use Rattle.zf_lift.proofs.Prelude.{◌∙◌, ◌≤◌, ap, arith, length, List, subst, sym, true, Global, of-Name, Defined, reference, resolved_of, environment_of, IsLift}
+use Rattle.zf_lift.proofs.Prelude.{◌≤◌, arith, length, List, subst, sym, true, Global, of-Name, Defined, reference, resolved_of, environment_of, IsLift}
 use Rattle.zf_lift.proofs.Wherever.{named_lift}
 use Rattle.zf_lift.proofs.lifting.named.Goals as goal
 

@@ -1,6 +1,6 @@
 use Rattle.std.proofs.Common.{ap}
 use Rattle.std.proofs.lemmas.Result.{IfOk-weaker}
-use Rattle.std.proofs.Common.{◌≡◌, ◌∙◌}
+use Rattle.std.proofs.Common.{◌≡◌}
 use Rattle.zf_term.specs.ResolvedTrees.{resolved_of}
 use Rattle.zf_term.specs.Shapes.{moved, numbering}
 use Rattle.zf_resolved.proofs.Joining.{kept}

@@ -1,4 +1,4 @@
-use Rattle.zf_shape.proofs.Prelude.{◌+◌, ◌-◌, ◌<◌, ◌≡◌, ◌∙◌, all_of, ap, arith, conjunct_of, height, length, List, map, refl, resolved_of, subst, sym, true≢false, Batch, Conjunct}
+use Rattle.zf_shape.proofs.Prelude.{◌+◌, ◌-◌, ◌∙◌, ap, arith, conjunct_of, height, length, List, map, refl, resolved_of, subst, sym, true≢false, Batch, Conjunct}
 use Rattle.zf_shape.specs.Joined.{AreLow}
 use Rattle.zf_shape.proofs.Conjuncts.{first_told, height_member, height_sides, height_term, joined_told, lower_told, none_low_enough, same_height_told, second_told}
 use Rattle.zf_shape.proofs.Heights.{some_height}

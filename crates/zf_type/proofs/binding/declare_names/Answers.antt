@@ -1,4 +1,4 @@
-use Rattle.zf_type.proofs.Prelude.{◌++◌, ◌+◌, ◌∙◌, ◌∷◌, ◌≡◌, [], ap, append-nil, arith, drop, inl, inr, List, map, refl, subst, sym, true≢false, drop_all, map-append, spelling, Name, dropped, pushed, type_of, local_twice, AreNew, AreRepeated, IsBound, variable_of, variables}
+use Rattle.zf_type.proofs.Prelude.{◌++◌, ◌+◌, ◌∙◌, ◌∷◌, ◌≡◌, [], ap, append-nil, arith, drop, inl, inr, List, map, subst, sym, true≢false, drop_all, map-append, spelling, Name, dropped, pushed, type_of, local_twice, AreNew, AreRepeated, IsBound, variable_of, variables}
 use Rattle.zf_type.proofs.Bound.{one_new, one_repeated}
 use Rattle.zf_type.proofs.Judging.{told}
 use Rattle.zf_type.proofs.binding.declare_names.Goals as goal
