@@ -132,18 +132,16 @@ one_stated sets stated all name k l h g =
 abbrev HasOneSize : List Size → Type 0
 HasOneSize stated = (name : List ℕ) (k l : ℕ) → IsStated stated name k → IsStated stated name l → k ≡ l
 
-one_added : (stated : List Size) → HasOneSize stated → (name : List ℕ) (d : Definition) (R : List ℕ → Type 0) → ((k l : List ℕ) → R k → R l → k ≡ l)
-    → (k l : List ℕ) → AddsSize stated name d R k → AddsSize stated name d R l → k ≡ l
-one_added stated one name (given_set n) R more k l p q =
-    p.4 ∙ ap (λ c. c ∷ p.1) (one name p.0 q.0 p.2 q.2) ∙ ap (λ cs. q.0 ∷ cs) (more p.1 q.1 p.3 q.3) ∙ sym q.4
-one_added stated one name (free_type n names) R more k l p q = p.2 ∙ ap (λ cs. length names ∷ cs) (more p.0 q.0 p.1 q.1) ∙ sym q.2
-one_added stated one name (constructor n of_type place) R more k l p q = more k l p q
-one_added stated one name (abbreviation t r x) R more k l p q = more k l p q
-one_added stated one name (schema a) R more k l p q = more k l p q
+one_added : (stated : List Size) → HasOneSize stated → (name : List ℕ) (d : Definition) (later other k l : List ℕ) → later ≡ other → AddsSize stated name d later k → AddsSize stated name d other l → k ≡ l
+one_added stated one name (given_set n) later other k l e p q = p.2 ∙ ap (λ c. c ∷ later) (one name p.0 q.0 p.1 q.1) ∙ ap (λ cs. q.0 ∷ cs) e ∙ sym q.2
+one_added stated one name (free_type n names) later other k l e p q = p ∙ ap (λ cs. length names ∷ cs) e ∙ sym q
+one_added stated one name (constructor n of_type place) later other k l e p q = p ∙ e ∙ sym q
+one_added stated one name (abbreviation t r x) later other k l e p q = p ∙ e ∙ sym q
+one_added stated one name (schema a) later other k l e p q = p ∙ e ∙ sym q
 
 added_all : (stated : List Size) → HasOneSize stated → (g : List Defined) (k l : List ℕ) → AreSizes stated g k → AreSizes stated g l → k ≡ l
 added_all stated one [] k l p q = p ∙ sym q
-added_all stated one (d ∷ g) k l p q = one_added stated one d.name d.definition (λ later. AreSizes stated g later) (λ x y h i. added_all stated one g x y h i) k l p q
+added_all stated one (d ∷ g) k l p q = one_added stated one d.name d.definition p.0 q.0 k l (added_all stated one g p.0 q.0 p.1 q.1) p.2 q.2
 
 -- the sizes of the given sets and free types are one list
 pub one_sizes : (sets : List (List ℕ)) (stated : List Size) → AreComplete sets stated → (g : List Defined) (k l : List ℕ) → AreSizes stated g k → AreSizes stated g l → k ≡ l

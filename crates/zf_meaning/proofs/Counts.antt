@@ -33,11 +33,11 @@ given-all g n names l h = sym (append-nil names) ∙ ap (λ xs. names ++ given_s
 -- ---- sizes
 
 counted : (stated : List Size) (name : List ℕ) (d : Definition) (o : Option ℕ) (later : List ℕ) (g : List Defined) → CountsFor stated name d o → AreSizes stated g later → AreSizes stated (record { name = name; definition = d } ∷ g) (option_to_list o ++ later)
-counted stated name (given_set n) o later g h k = (h.0, later, h.1, k, ap (λ p. option_to_list p ++ later) h.2)
+counted stated name (given_set n) o later g h k = (later, k, (h.0, h.1, ap (λ p. option_to_list p ++ later) h.2))
 counted stated name (free_type n xs) o later g h k = (later, k, ap (λ p. option_to_list p ++ later) h)
-counted stated name (constructor n t place) o later g h k = subst (λ p. AreSizes stated g (option_to_list p ++ later)) (sym h) k
-counted stated name (abbreviation t r x) o later g h k = subst (λ p. AreSizes stated g (option_to_list p ++ later)) (sym h) k
-counted stated name (schema a) o later g h k = subst (λ p. AreSizes stated g (option_to_list p ++ later)) (sym h) k
+counted stated name (constructor n t place) o later g h k = (later, k, ap (λ p. option_to_list p ++ later) h)
+counted stated name (abbreviation t r x) o later g h k = (later, k, ap (λ p. option_to_list p ++ later) h)
+counted stated name (schema a) o later g h k = (later, k, ap (λ p. option_to_list p ++ later) h)
 
 count-suc : (stated : List Size) (g : List Defined) (place : ℕ) (o : Option ℕ) (later : List ℕ) → CountsAt stated place g o → AreSizes stated (drop (suc place) g) later → AreSizes stated (drop place g) (option_to_list o ++ later)
 count-suc stated [] zero o later h k = subst (λ p. option_to_list p ++ later ≡ []) (sym h) k

@@ -1,4 +1,4 @@
--- What connectives tell of two truths, as functions. No public clause rests on this.
+-- The tables of the connectives: the truth that each makes of those of its sides.
 use Rattle.std.specs.Prelude.{Option, Some, None}
 use Rattle.zf_tree.specs.declared.symbol.Connective.{Connective}
 use Rattle.zf_tree.specs.declared.symbol.Connective.TheVariants.{And, Or, Implies, Iff}
@@ -32,6 +32,8 @@ connected And p q = conjunction p q
 connected Or p q = disjunction p q
 connected Implies p q = disjunction (opposite p) q
 connected Iff p q = equivalence p q
+
+-- ---- no public clause rests on what follows
 
 -- the truth where the left side decides
 abbrev pub decided : Connective → Truth → Option Truth

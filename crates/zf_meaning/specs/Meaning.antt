@@ -50,7 +50,7 @@ abbrev pub IsLink : Option Infinite → Relation → Outcome → Outcome → Tru
 IsLink None r x y t = IsAtom x y (Holds r) t
 IsLink (Some s) r x y t = IsTest x (HoldsOf s r) t
 
--- ---- builders, over the rows that R admits, where F and T say the truth of a row's filter and the outcome of its term
+-- ---- builders, over the rows that `rows` admits, where `filter` and `outcome` say the truth of a row's filter and the outcome of its term
 
 -- what a builder without a term builds: the one variable, or the tuple of all
 abbrev pub row_value : List Value → Value
@@ -59,26 +59,26 @@ row_value vs = Tuple vs
 
 -- the value is that of the term in a row where the filter is true
 abbrev pub IsBuiltBy : (List Value → Type 0) → (List Value → Truth → Type 0) → (List Value → Outcome → Type 0) → Value → Type 0
-IsBuiltBy R F T z = (vs : List Value) × R vs × F vs truth.True × T vs (Is z)
+IsBuiltBy rows filter outcome z = (vs : List Value) × rows vs × filter vs truth.True × outcome vs (Is z)
 
 -- the filter is false, or it is true and the term is not out
 abbrev pub IsWithinBounds : (List Value → Truth → Type 0) → (List Value → Outcome → Type 0) → List Value → Type 0
-IsWithinBounds F T vs = F vs truth.False ⊎ (F vs truth.True × (T vs Undefined ⊎ ((z : Value) × T vs (Is z))))
+IsWithinBounds filter outcome vs = filter vs truth.False ⊎ (filter vs truth.True × (outcome vs Undefined ⊎ ((z : Value) × outcome vs (Is z))))
 
 -- the filter is out, or it is true and the term is out
 abbrev pub IsOutOfBounds : (List Value → Truth → Type 0) → (List Value → Outcome → Type 0) → List Value → Type 0
-IsOutOfBounds F T vs = F vs truth.Out ⊎ (F vs truth.True × T vs Out)
+IsOutOfBounds filter outcome vs = filter vs truth.Out ⊎ (filter vs truth.True × outcome vs Out)
 
 abbrev pub IsBuiltOver : (List Value → Type 0) → (List Value → Truth → Type 0) → (List Value → Outcome → Type 0) → Outcome → Type 0
-IsBuiltOver R F T (Is v) = ((vs : List Value) → R vs → IsWithinBounds F T vs) × IsSetOf (IsBuiltBy R F T) (Is v)
-IsBuiltOver R F T Undefined = ⊥
-IsBuiltOver R F T Out = ((vs : List Value) × R vs × IsOutOfBounds F T vs) ⊎ IsSetOf (IsBuiltBy R F T) Out
+IsBuiltOver rows filter outcome (Is v) = ((vs : List Value) → rows vs → IsWithinBounds filter outcome vs) × IsSetOf (IsBuiltBy rows filter outcome) (Is v)
+IsBuiltOver rows filter outcome Undefined = ⊥
+IsBuiltOver rows filter outcome Out = ((vs : List Value) × rows vs × IsOutOfBounds filter outcome vs) ⊎ IsSetOf (IsBuiltBy rows filter outcome) Out
 
 -- out where a range is out, else over no row where one is undefined
 abbrev pub IsBuilt : Several → (List Value → Truth → Type 0) → (List Value → Outcome → Type 0) → Outcome → Type 0
-IsBuilt one_out F T o = o ≡ Out
-IsBuilt one_undefined F T o = IsEmptySet o
-IsBuilt (values ss) F T o = IsBuiltOver (λ vs. AreFrom vs ss) F T o
+IsBuilt one_out filter outcome o = o ≡ Out
+IsBuilt one_undefined filter outcome o = IsEmptySet o
+IsBuilt (values ss) filter outcome o = IsBuiltOver (λ vs. AreFrom vs ss) filter outcome o
 
 -- ---- terms
 

@@ -80,15 +80,15 @@ IsRefusal sets sizes fault = RefusesSize sets sizes fault
 abbrev pub IsStated : List Size → List ℕ → ℕ → Type 0
 IsStated sizes name count = Contains sizes (record { name = name; count = count })
 
--- a given set has the size that is stated, a free type as many elements as constructors; R says what the sizes of later ones are
-abbrev pub AddsSize : List Size → List ℕ → Definition → (List ℕ → Type 0) → List ℕ → Type 0
-AddsSize stated name (given_set n) R sizes = (count : ℕ) × (later : List ℕ) × IsStated stated name count × R later × (sizes ≡ count ∷ later)
-AddsSize stated name (free_type n names) R sizes = (later : List ℕ) × R later × (sizes ≡ length names ∷ later)
-AddsSize stated name (constructor n of_type place) R sizes = R sizes
-AddsSize stated name (abbreviation t r x) R sizes = R sizes
-AddsSize stated name (schema a) R sizes = R sizes
+-- the sizes from this definition on, where `later` are those behind it: a given set has the size that is stated, a free type as many elements as constructors
+abbrev pub AddsSize : List Size → List ℕ → Definition → List ℕ → List ℕ → Type 0
+AddsSize stated name (given_set n) later sizes = (count : ℕ) × IsStated stated name count × (sizes ≡ count ∷ later)
+AddsSize stated name (free_type n names) later sizes = sizes ≡ length names ∷ later
+AddsSize stated name (constructor n of_type place) later sizes = sizes ≡ later
+AddsSize stated name (abbreviation t r x) later sizes = sizes ≡ later
+AddsSize stated name (schema a) later sizes = sizes ≡ later
 
 -- how many elements each given set and free type has, in order of definition
 abbrev pub AreSizes : List Size → List Defined → List ℕ → Type 0
 AreSizes stated [] sizes = sizes ≡ []
-AreSizes stated (d ∷ g) sizes = AddsSize stated d.name d.definition (λ later. AreSizes stated g later) sizes
+AreSizes stated (d ∷ g) sizes = (later : List ℕ) × AreSizes stated g later × AddsSize stated d.name d.definition later sizes

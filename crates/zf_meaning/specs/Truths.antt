@@ -16,25 +16,25 @@ use Rattle.zf_meaning.specs.Outcomes.{Several, values, one_undefined, one_out}
 
 -- t is the truth of a fact
 abbrev pub Tells : Type 0 → Truth → Type 0
-Tells P True = P
-Tells P False = P → ⊥
-Tells P Out = ⊥
+Tells fact True = fact
+Tells fact False = fact → ⊥
+Tells fact Out = ⊥
 
 -- out where a side is out, else false where a side is undefined
 abbrev pub IsAtom : Outcome → Outcome → (Value → Value → Type 0) → Truth → Type 0
-IsAtom outcome.Out y P t = t ≡ Out
-IsAtom outcome.Undefined outcome.Out P t = t ≡ Out
-IsAtom outcome.Undefined outcome.Undefined P t = t ≡ False
-IsAtom outcome.Undefined (outcome.Is w) P t = t ≡ False
-IsAtom (outcome.Is v) outcome.Out P t = t ≡ Out
-IsAtom (outcome.Is v) outcome.Undefined P t = t ≡ False
-IsAtom (outcome.Is v) (outcome.Is w) P t = Tells (P v w) t
+IsAtom outcome.Out y holds t = t ≡ Out
+IsAtom outcome.Undefined outcome.Out holds t = t ≡ Out
+IsAtom outcome.Undefined outcome.Undefined holds t = t ≡ False
+IsAtom outcome.Undefined (outcome.Is w) holds t = t ≡ False
+IsAtom (outcome.Is v) outcome.Out holds t = t ≡ Out
+IsAtom (outcome.Is v) outcome.Undefined holds t = t ≡ False
+IsAtom (outcome.Is v) (outcome.Is w) holds t = Tells (holds v w) t
 
 -- the same of one side
 abbrev pub IsTest : Outcome → (Value → Type 0) → Truth → Type 0
-IsTest outcome.Out P t = t ≡ Out
-IsTest outcome.Undefined P t = t ≡ False
-IsTest (outcome.Is v) P t = Tells (P v) t
+IsTest outcome.Out holds t = t ≡ Out
+IsTest outcome.Undefined holds t = t ≡ False
+IsTest (outcome.Is v) holds t = Tells (holds v) t
 
 -- ---- connectives
 
@@ -43,29 +43,29 @@ opposite True = False
 opposite False = True
 opposite Out = Out
 
--- below P and Q say of a truth that it is that of a side
+-- below `left` and `right` say of a truth that it is that side's
 
 -- false if a side is false, else out if a side is out, else true
 abbrev pub IsConjunction : (Truth → Type 0) → (Truth → Type 0) → Truth → Type 0
-IsConjunction P Q True = P True × Q True
-IsConjunction P Q False = P False ⊎ Q False
-IsConjunction P Q Out = (P Out × (Q True ⊎ Q Out)) ⊎ (P True × Q Out)
+IsConjunction left right True = left True × right True
+IsConjunction left right False = left False ⊎ right False
+IsConjunction left right Out = (left Out × (right True ⊎ right Out)) ⊎ (left True × right Out)
 
 -- true if a side is true, else out if a side is out, else false
 abbrev pub IsDisjunction : (Truth → Type 0) → (Truth → Type 0) → Truth → Type 0
-IsDisjunction P Q True = P True ⊎ Q True
-IsDisjunction P Q False = P False × Q False
-IsDisjunction P Q Out = (P Out × (Q False ⊎ Q Out)) ⊎ (P False × Q Out)
+IsDisjunction left right True = left True ⊎ right True
+IsDisjunction left right False = left False × right False
+IsDisjunction left right Out = (left Out × (right False ⊎ right Out)) ⊎ (left False × right Out)
 
 -- the disjunction of the left side's opposite and the right side
 abbrev pub IsImplication : (Truth → Type 0) → (Truth → Type 0) → Truth → Type 0
-IsImplication P Q t = IsDisjunction (λ p. P (opposite p)) Q t
+IsImplication left right t = IsDisjunction (λ p. left (opposite p)) right t
 
 -- out if a side is out, else true where both agree
 abbrev pub IsEquivalence : (Truth → Type 0) → (Truth → Type 0) → Truth → Type 0
-IsEquivalence P Q True = (P True × Q True) ⊎ (P False × Q False)
-IsEquivalence P Q False = (P True × Q False) ⊎ (P False × Q True)
-IsEquivalence P Q Out = P Out ⊎ Q Out
+IsEquivalence left right True = (left True × right True) ⊎ (left False × right False)
+IsEquivalence left right False = (left True × right False) ⊎ (left False × right True)
+IsEquivalence left right Out = left Out ⊎ right Out
 
 abbrev pub IsConnected : Connective → (Truth → Type 0) → (Truth → Type 0) → Truth → Type 0
 IsConnected connective.And = IsConjunction
@@ -73,26 +73,26 @@ IsConnected connective.Or = IsDisjunction
 IsConnected connective.Implies = IsImplication
 IsConnected connective.Iff = IsEquivalence
 
--- ---- quantifiers, over the rows that R admits, where P vs u says that u is the truth of the row vs
+-- ---- quantifiers, over the rows that `rows` admits, where `truth vs u` says that u is the truth of the row vs
 
 abbrev pub IsForAll : (List Value → Type 0) → (List Value → Truth → Type 0) → Truth → Type 0
-IsForAll R P True = (vs : List Value) → R vs → P vs True
-IsForAll R P False = (vs : List Value) × R vs × P vs False
-IsForAll R P Out = ((vs : List Value) × R vs × P vs Out) × ((vs : List Value) → R vs → P vs True ⊎ P vs Out)
+IsForAll rows truth True = (vs : List Value) → rows vs → truth vs True
+IsForAll rows truth False = (vs : List Value) × rows vs × truth vs False
+IsForAll rows truth Out = ((vs : List Value) × rows vs × truth vs Out) × ((vs : List Value) → rows vs → truth vs True ⊎ truth vs Out)
 
 abbrev pub IsExists : (List Value → Type 0) → (List Value → Truth → Type 0) → Truth → Type 0
-IsExists R P True = (vs : List Value) × R vs × P vs True
-IsExists R P False = (vs : List Value) → R vs → P vs False
-IsExists R P Out = ((vs : List Value) × R vs × P vs Out) × ((vs : List Value) → R vs → P vs False ⊎ P vs Out)
+IsExists rows truth True = (vs : List Value) × rows vs × truth vs True
+IsExists rows truth False = (vs : List Value) → rows vs → truth vs False
+IsExists rows truth Out = ((vs : List Value) × rows vs × truth vs Out) × ((vs : List Value) → rows vs → truth vs False ⊎ truth vs Out)
 
 -- two rows are true
 abbrev pub HasTwo : (List Value → Type 0) → (List Value → Truth → Type 0) → Type 0
-HasTwo R P = (vs ws : List Value) × R vs × R ws × P vs True × P ws True × (vs ≡ ws → ⊥)
+HasTwo rows truth = (vs ws : List Value) × rows vs × rows ws × truth vs True × truth ws True × (vs ≡ ws → ⊥)
 
 abbrev pub IsExistsOne : (List Value → Type 0) → (List Value → Truth → Type 0) → Truth → Type 0
-IsExistsOne R P True = (vs : List Value) × R vs × P vs True × ((ws : List Value) → R ws → (vs ≡ ws) ⊎ P ws False)
-IsExistsOne R P False = HasTwo R P ⊎ ((vs : List Value) → R vs → P vs False)
-IsExistsOne R P Out = ((vs : List Value) × R vs × P vs Out) × (HasTwo R P → ⊥)
+IsExistsOne rows truth True = (vs : List Value) × rows vs × truth vs True × ((ws : List Value) → rows ws → (vs ≡ ws) ⊎ truth ws False)
+IsExistsOne rows truth False = HasTwo rows truth ⊎ ((vs : List Value) → rows vs → truth vs False)
+IsExistsOne rows truth Out = ((vs : List Value) × rows vs × truth vs Out) × (HasTwo rows truth → ⊥)
 
 abbrev pub IsOver : Quantifier → (List Value → Type 0) → (List Value → Truth → Type 0) → Truth → Type 0
 IsOver quantifier.ForAll = IsForAll
@@ -107,6 +107,6 @@ IsTold quantifier.ExistsOne = IsConjunction
 
 -- over the rows of ranges: out where a range is out, else over no row where one is undefined
 abbrev pub IsQuantified : Quantifier → Several → (List Value → Truth → Type 0) → Truth → Type 0
-IsQuantified q one_out P t = t ≡ Out
-IsQuantified q one_undefined P t = IsOver q (λ vs. ⊥) P t
-IsQuantified q (values ss) P t = IsOver q (λ vs. AreFrom vs ss) P t
+IsQuantified q one_out truth t = t ≡ Out
+IsQuantified q one_undefined truth t = IsOver q (λ vs. ⊥) truth t
+IsQuantified q (values ss) truth t = IsOver q (λ vs. AreFrom vs ss) truth t

@@ -46,21 +46,23 @@ one_told s k ss total ks later clear more e = (subst (Tells (s ∷ ss)) (sym e) 
 abbrev AreSmall : List Size → Type 0
 AreSmall stated = (name : List ℕ) (count : ℕ) → IsStated stated name count → count < 2 ^ 64
 
+none_told : (ss : List Spelling) (total : ℕ) (ks later : List ℕ) → IsTold ss total later → ks ≡ later → IsTold ss (0 + total) ks
+none_told ss total ks later more e = (subst (Tells ss) (sym e) more.0, omega (arith, ap length e, more.1))
+
 type_told :
-    (stated : List Size) → AreSmall stated → (name : List ℕ) (d : Definition) (R : List ℕ → Type 0) (ss : List Spelling) (total : ℕ) → IsNamed name d
-    → ((later : List ℕ) → R later → IsTold ss total later) → (ks : List ℕ) → AddsSize stated name d R ks → IsTold (with_spelling name d ss) (has_elements d + total) ks
-type_told stated small name (given_set n) R ss total named more ks p = one_told (Numbered name) p.0 ss total ks p.1 (named, small name p.0 p.2) (more p.1 p.3) p.4
-type_told stated small name (free_type n names) R ss total named more ks p =
-    one_told (Named names) (length names) ss total ks p.0 (named.0, named.1, omega arith) (more p.0 p.1) p.2
-type_told stated small name (constructor n of_type place) R ss total named more ks p = let told = more ks p in (told.0, omega (arith, told.1))
-type_told stated small name (abbreviation t r x) R ss total named more ks p = let told = more ks p in (told.0, omega (arith, told.1))
-type_told stated small name (schema a) R ss total named more ks p = let told = more ks p in (told.0, omega (arith, told.1))
+    (stated : List Size) → AreSmall stated → (name : List ℕ) (d : Definition) (ss : List Spelling) (total : ℕ) (ks later : List ℕ) → IsNamed name d
+    → IsTold ss total later → AddsSize stated name d later ks → IsTold (with_spelling name d ss) (has_elements d + total) ks
+type_told stated small name (given_set n) ss total ks later named more p = one_told (Numbered name) p.0 ss total ks later (named, small name p.0 p.1) more p.2
+type_told stated small name (free_type n names) ss total ks later named more p = one_told (Named names) (length names) ss total ks later (named.0, named.1, omega arith) more p
+type_told stated small name (constructor n of_type place) ss total ks later named more p = none_told ss total ks later more p
+type_told stated small name (abbreviation t r x) ss total ks later named more p = none_told ss total ks later more p
+type_told stated small name (schema a) ss total ks later named more p = none_told ss total ks later more p
 
 types_told : (stated : List Size) → AreSmall stated → (g : List Defined) (ks : List ℕ) → AreNamed g → AreSizes stated g ks → IsTold (spellings g) (next_number g) ks
 types_told stated small [] ks named p = (λ n k at. absurd (none-some k (ap (λ ks. slice_get ks n) (sym p) ∙ at)), ap length p)
 types_told stated small (d ∷ g) ks named p =
     let sum = sum_by-cons (λ (x : Defined). has_elements x.definition) d g in
-    let told = type_told stated small d.name d.definition (λ later. AreSizes stated g later) (spellings g) (next_number g) named.0 (λ later q. types_told stated small g later named.1 q) ks p in
+    let told = type_told stated small d.name d.definition (spellings g) (next_number g) ks p.0 named.0 (types_told stated small g p.0 named.1 p.1) p.2 in
     (told.0, told.1 ∙ sym sum)
 
 -- ---- the laws

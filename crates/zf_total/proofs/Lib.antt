@@ -9,6 +9,7 @@ pub mod Operations
 pub mod Truths
 pub mod Builders
 pub mod Terms
+pub mod Tables
 pub mod Carriers
 pub mod StatedSizes
 pub mod Environments

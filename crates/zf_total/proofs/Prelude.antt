@@ -22,5 +22,5 @@ pub use Rattle.zf_meaning.specs.Meaning.{AreLinked, Builds, constant_outcome, co
 pub use Rattle.zf_meaning.specs.Outcomes.{OnBoth, one_more, one_out, one_undefined, OnOne, OnSeveral, repeated, Several, values}
 pub use Rattle.zf_meaning.specs.Sizes.{AddsSize, AreAccepted, AreComplete, AreSizes, given_sets, IsAccepted, IsRefusal, IsStated, names, Refuses, with_given}
 pub use Rattle.zf_meaning.specs.Symbols.{ArrowOutcome, BinaryOutcome, Compares, Holds, HoldsOf, InfixOutcome, IsIn, ListedOutcome, PrefixOutcome, SignOutcome, UnaryOutcome}
-pub use Rattle.zf_meaning.specs.Truths.{HasTwo, IsAtom, IsConjunction, IsConnected, IsDisjunction, IsEquivalence, IsExists, IsExistsOne, IsForAll, IsImplication, IsOver, IsQuantified, IsTest, IsTold, opposite, Tells}
+pub use Rattle.zf_meaning.specs.Truths.{HasTwo, IsAtom, IsConjunction, IsConnected, IsExists, IsExistsOne, IsForAll, IsOver, IsQuantified, IsTest, IsTold, opposite, Tells}
 pub use Rattle.zf_meaning.specs.declared.sizes.Size.{Size}

@@ -77,20 +77,26 @@ stated_for (s ∷ stated) name m =
 abbrev AreAllStated : List Size → List (List ℕ) → Type 0
 AreAllStated stated sets = (set : List ℕ) → Contains sets set → Contains (names stated) set
 
-added : (stated : List Size) (name : List ℕ) (d : Definition) (g : List Defined) → AreAllStated stated (with_given name d (given_sets g)) → (AreAllStated stated (given_sets g) → HasSome (AreSizes stated g))
-    → HasSome (AddsSize stated name d (λ later. AreSizes stated g later))
-added stated name (given_set n) g h f =
-    let here = stated_for stated name (h name (Contains-head name (given_sets g))) in
-    let later = f (λ set m. h set (Contains-later name (given_sets g) set m)) in
-    (here.0 ∷ later.0, (here.0, later.0, here.1, later.1, refl))
-added stated name (free_type n constructors) g h f = let later = f h in (length constructors ∷ later.0, (later.0, later.1, refl))
-added stated name (constructor n of_type place) g h f = f h
-added stated name (abbreviation t r x) g h f = f h
-added stated name (schema a) g h f = f h
+others_stated : (stated : List Size) (name : List ℕ) (d : Definition) (sets : List (List ℕ)) → AreAllStated stated (with_given name d sets) → AreAllStated stated sets
+others_stated stated name (given_set n) sets h = λ set m. h set (Contains-later name sets set m)
+others_stated stated name (free_type n constructors) sets h = h
+others_stated stated name (constructor n of_type place) sets h = h
+others_stated stated name (abbreviation t r x) sets h = h
+others_stated stated name (schema a) sets h = h
+
+added : (stated : List Size) (name : List ℕ) (d : Definition) (sets : List (List ℕ)) (later : List ℕ) → AreAllStated stated (with_given name d sets) → HasSome (AddsSize stated name d later)
+added stated name (given_set n) sets later h = let here = stated_for stated name (h name (Contains-head name sets)) in (here.0 ∷ later, (here.0, here.1, refl))
+added stated name (free_type n constructors) sets later h = (length constructors ∷ later, refl)
+added stated name (constructor n of_type place) sets later h = (later, refl)
+added stated name (abbreviation t r x) sets later h = (later, refl)
+added stated name (schema a) sets later h = (later, refl)
 
 some_sizes_if : (stated : List Size) (g : List Defined) → AreAllStated stated (given_sets g) → HasSome (AreSizes stated g)
 some_sizes_if stated [] h = ([], refl)
-some_sizes_if stated (d ∷ g) h = added stated d.name d.definition g h (λ k. some_sizes_if stated g k)
+some_sizes_if stated (d ∷ g) h =
+    let later = some_sizes_if stated g (others_stated stated d.name d.definition (given_sets g) h) in
+    let whole = added stated d.name d.definition (given_sets g) later.0 h in
+    (whole.0, (later.0, later.1, whole.1))
 
 -- what all of a list have a member of it has
 at_member : {A : Type 0} (P : A → Type 0) (xs : List A) (x : A) → All P xs → Contains xs x → P x

@@ -1,7 +1,6 @@
 -- Atoms, connectives and quantifiers have a truth.
-use Rattle.zf_total.proofs.Prelude.{◌∙◌, ◌≡◌, ◌⊎◌, inl, inr, List, None, Option, refl, Some, subst, sym, ℤ, ⊎_elim, ◌<ℤ◌, ◌≤ℤ◌, pos, same_number, AreFrom, members, Outcome, Truth, Int, Value, IsLink, one_out, one_undefined, Several, values, Compares, Holds, HoldsOf, IsIn, HasTwo, IsAtom, IsConjunction, IsConnected, IsDisjunction, IsEquivalence, IsExists, IsExistsOne, IsForAll, IsImplication, IsOver, IsQuantified, IsTest, IsTold, opposite, Tells}
+use Rattle.zf_total.proofs.Prelude.{◌∙◌, ◌≡◌, ◌⊎◌, inl, inr, List, None, Option, refl, Some, subst, sym, ℤ, ⊎_elim, ◌<ℤ◌, ◌≤ℤ◌, pos, same_number, AreFrom, members, Outcome, Truth, Int, Value, IsLink, one_out, one_undefined, Several, values, Compares, Holds, HoldsOf, IsIn, HasTwo, IsAtom, IsConjunction, IsConnected, IsExists, IsExistsOne, IsForAll, IsOver, IsQuantified, IsTest, IsTold, opposite, Tells}
 use Rattle.zf_tree.specs.declared.symbol.Connective.{Connective}
-use Rattle.zf_tree.specs.declared.symbol.Connective.TheVariants as connective
 use Rattle.zf_tree.specs.declared.symbol.Quantifier.{Quantifier}
 use Rattle.zf_tree.specs.declared.symbol.Quantifier.TheVariants as quantifier
 use Rattle.zf_tree.specs.declared.symbol.Relation.{Relation}
@@ -10,6 +9,8 @@ use Rattle.zf_term.specs.declared.extent.Infinite.{Infinite}
 use Rattle.zf_term.specs.declared.extent.Infinite.TheVariants.{Num, Nat, Nat1}
 use Rattle.zf_value.specs.declared.value.Outcome.TheVariants as outcome
 use Rattle.zf_value.specs.declared.value.Truth.TheVariants.{True, False, Out}
+use Rattle.zf_meaning.specs.Connected.{conjunction, connected, connective_of}
+use Rattle.zf_meaning.proofs.Connecting.{conjoined, twice, connected-told, told-by}
 use Rattle.zf_total.proofs.Listed.{HasSome, Decided, decided_both, decided_not, decided_same, decided_some, one_or_all, swapped, Listed, listed_none, listed_pairs}
 use Rattle.zf_total.proofs.Numbers.{decided_below, decided_at_most, number_or_not}
 use Rattle.zf_total.proofs.Values.{same_value, same_row, decided_member, decided_among, listed_rows}
@@ -85,59 +86,19 @@ pub some_link : (s : Option Infinite) (r : Relation) (x y : Outcome) → HasSome
 some_link None r x y = some_atom x y (Holds r) (decided_holds r)
 some_link (Some s) r x y = some_test x (HoldsOf s r) (decided_holds_of s r)
 
--- ---- connectives
-
-conjunction_of : (P Q : Truth → Type 0) (t u : Truth) → P t → Q u → HasSome (IsConjunction P Q)
-conjunction_of P Q True True p q = (True, (p, q))
-conjunction_of P Q True False p q = (False, inr q)
-conjunction_of P Q True Out p q = (Out, inr (p, q))
-conjunction_of P Q False u p q = (False, inl p)
-conjunction_of P Q Out True p q = (Out, inl (p, inl q))
-conjunction_of P Q Out False p q = (False, inr q)
-conjunction_of P Q Out Out p q = (Out, inl (p, inr q))
+-- ---- connectives, by their tables
 
 pub some_conjunction : (P Q : Truth → Type 0) → HasSome P → HasSome Q → HasSome (IsConjunction P Q)
-some_conjunction P Q h k = conjunction_of P Q h.0 k.0 h.1 k.1
-
-disjunction_of : (P Q : Truth → Type 0) (t u : Truth) → P t → Q u → HasSome (IsDisjunction P Q)
-disjunction_of P Q True u p q = (True, inl p)
-disjunction_of P Q False True p q = (True, inr q)
-disjunction_of P Q False False p q = (False, (p, q))
-disjunction_of P Q False Out p q = (Out, inr (p, q))
-disjunction_of P Q Out True p q = (True, inr q)
-disjunction_of P Q Out False p q = (Out, inl (p, inl q))
-disjunction_of P Q Out Out p q = (Out, inl (p, inr q))
-
-opposite_of : (P : Truth → Type 0) (t : Truth) → P t → HasSome (λ u. P (opposite u))
-opposite_of P True p = (False, p)
-opposite_of P False p = (True, p)
-opposite_of P Out p = (Out, p)
+some_conjunction P Q h k = (conjunction h.0 k.0, conjoined h.0 k.0 P Q h.1 k.1)
 
 pub some_opposite : (P : Truth → Type 0) → HasSome P → HasSome (λ u. P (opposite u))
-some_opposite P h = opposite_of P h.0 h.1
-
-some_implication : (P Q : Truth → Type 0) → HasSome P → HasSome Q → HasSome (IsImplication P Q)
-some_implication P Q h k = let n = some_opposite P h in disjunction_of (λ p. P (opposite p)) Q n.0 k.0 n.1 k.1
-
-equivalence_of : (P Q : Truth → Type 0) (t u : Truth) → P t → Q u → HasSome (IsEquivalence P Q)
-equivalence_of P Q True True p q = (True, inl (p, q))
-equivalence_of P Q True False p q = (False, inl (p, q))
-equivalence_of P Q True Out p q = (Out, inr q)
-equivalence_of P Q False True p q = (False, inr (p, q))
-equivalence_of P Q False False p q = (True, inr (p, q))
-equivalence_of P Q False Out p q = (Out, inr q)
-equivalence_of P Q Out u p q = (Out, inl p)
+some_opposite P h = (opposite h.0, subst P (sym (twice h.0)) h.1)
 
 pub some_connected : (k : Connective) (P Q : Truth → Type 0) → HasSome P → HasSome Q → HasSome (IsConnected k P Q)
-some_connected connective.And P Q h k = some_conjunction P Q h k
-some_connected connective.Or P Q h k = disjunction_of P Q h.0 k.0 h.1 k.1
-some_connected connective.Implies P Q h k = some_implication P Q h k
-some_connected connective.Iff P Q h k = equivalence_of P Q h.0 k.0 h.1 k.1
+some_connected x P Q h k = (connected x h.0 k.0, connected-told x h.0 k.0 P Q h.1 k.1)
 
 pub some_told_of : (q : Quantifier) (P Q : Truth → Type 0) → HasSome P → HasSome Q → HasSome (IsTold q P Q)
-some_told_of quantifier.ForAll P Q h k = some_implication P Q h k
-some_told_of quantifier.Exists P Q h k = some_conjunction P Q h k
-some_told_of quantifier.ExistsOne P Q h k = some_conjunction P Q h k
+some_told_of q P Q h k = let u = some_connected (connective_of q) P Q h k in (u.0, told-by q P Q u.0 u.1)
 
 -- ---- quantifiers
 

@@ -1,7 +1,9 @@
 -- Everything has a meaning: there is an outcome, a truth, a carrier, an environment. That there is no second one are laws of `zf_meaning`.
-use Rattle.std.specs.Prelude.{◌≢◌, ◌⊎◌, ℕ, List}
+use Rattle.std.specs.Prelude.{◌≡◌, ◌≢◌, ◌⊎◌, ◌↔◌, ℕ, List}
+use Rattle.zf_tree.specs.declared.operator.Operator.TheVariants as operator
+use Rattle.zf_tree.specs.declared.symbol.Connective.{Connective}
 use Rattle.zf_term.specs.Definitions.{Defined}
-use Rattle.zf_term.specs.ResolvedTrees.{ResolvedTree}
+use Rattle.zf_term.specs.ResolvedTrees.{ResolvedTree, binary}
 use Rattle.zf_term.specs.Types.{Ty}
 use Rattle.zf_value.specs.declared.value.Outcome.{Outcome}
 use Rattle.zf_value.specs.declared.value.Truth.{Truth}
@@ -9,6 +11,7 @@ use Rattle.zf_meaning.specs.declared.sizes.Size.{Size}
 use Rattle.zf_meaning.specs.declared.sizes.SizeFault.{SizeFault}
 use Rattle.zf_meaning.specs.declared.sizes.SizeFault.TheVariants.{OutOfMemory}
 use Rattle.zf_meaning.specs.Carriers.{IsCarrier}
+use Rattle.zf_meaning.specs.Connected.{connected}
 use Rattle.zf_meaning.specs.Environments.{Environment, Context}
 use Rattle.zf_meaning.specs.GlobalOutcomes.{IsEnvironment}
 use Rattle.zf_meaning.specs.Meaning.{HasOutcome, IsTruth}
@@ -21,6 +24,10 @@ EveryOutcome = (c : Context) (t : ResolvedTree) → (o : Outcome) × HasOutcome 
 -- Every predicate has a truth: true, false, or out.
 abbrev pub EveryTruth : Type 0
 EveryTruth = (c : Context) (t : ResolvedTree) → (u : Truth) × IsTruth c t u
+
+-- The truth of a connective is the one that its table makes of the truths of its sides.
+abbrev pub ConnectivesByTable : Type 0
+ConnectivesByTable = (c : Context) (l : ℕ) (k : Connective) (a b : ResolvedTree) (u : Truth) → IsTruth c (binary l (operator.Connective k) a b) u ↔ ((p q : Truth) × IsTruth c a p × IsTruth c b q × (u ≡ connected k p q))
 
 -- Every type has a carrier.
 abbrev pub EveryCarrier : Type 0

@@ -1,5 +1,5 @@
 //! Laws of the definitions.
-ghost use Rattle.zf_total.specs.Laws.{EveryOutcome, EveryTruth, EveryCarrier, SizesAreJudged, EveryEnvironment};
+ghost use Rattle.zf_total.specs.Laws.{EveryOutcome, EveryTruth, ConnectivesByTable, EveryCarrier, SizesAreJudged, EveryEnvironment};
 
 /// Every expression has an outcome.
 pub fn every_outcome()
@@ -9,6 +9,11 @@ pub fn every_outcome()
 /// Every predicate has a truth.
 pub fn every_truth()
     ensures { EveryTruth }
+{}
+
+/// The truth of a connective is that of its table.
+pub fn connectives_by_table()
+    ensures { ConnectivesByTable }
 {}
 
 /// Every type has a carrier.

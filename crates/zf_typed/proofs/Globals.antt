@@ -5,7 +5,7 @@ use Rattle.std.proofs.lemmas.List.Sums.{sum_by-cons}
 use Rattle.zf_term.specs.Numbers.{has_elements, next_number}
 use Rattle.zf_value.specs.Operations as op
 use Rattle.zf_meaning.specs.declared.sizes.Size.{Size}
-use Rattle.zf_meaning.specs.Sizes.{AreSizes}
+use Rattle.zf_meaning.specs.Sizes.{AddsSize, AreSizes}
 use Rattle.zf_typed.specs.OutcomeLaws.{scope, context, OutcomesTyped}
 use Rattle.zf_typed.proofs.Names.{HasValues, Fits}
 use Rattle.zf_typed.proofs.OfTypes.{a_set, first_of_types}
@@ -38,8 +38,19 @@ first_at {A} name (y ∷ xs) (suc i) x once at = go (bytes_eq (name y) (name x))
 none_more : (n : ℕ) → 0 + n ≡ n
 none_more n = omega arith
 
-size_more : (k n : ℕ) (sizes : List ℕ) (m : ℕ) → slice_get sizes n ≡ Some m → slice_get (k ∷ sizes) (1 + n) ≡ Some m
-size_more k n sizes m e = subst (λ i. slice_get (k ∷ sizes) i ≡ Some m) (let l : suc n ≡ 1 + n = omega arith in l) e
+one_behind : (k n : ℕ) (later sizes : List ℕ) → sizes ≡ k ∷ later → slice_get sizes (1 + n) ≡ slice_get later n
+one_behind k n later sizes e = ap (λ xs. slice_get xs (1 + n)) e ∙ ap (slice_get (k ∷ later)) (let l : 1 + n ≡ suc n = omega arith in l)
+
+none_behind : (n : ℕ) (later sizes : List ℕ) → sizes ≡ later → slice_get sizes (0 + n) ≡ slice_get later n
+none_behind n later sizes e = ap (λ xs. slice_get xs (0 + n)) e ∙ ap (slice_get later) (none_more n)
+
+-- what stands behind the size of a definition
+size_behind : (stated : List Size) (name : List ℕ) (d : Definition) (later sizes : List ℕ) (n : ℕ) → AddsSize stated name d later sizes → slice_get sizes (has_elements d + n) ≡ slice_get later n
+size_behind stated name (given_set m) later sizes n h = one_behind h.0 n later sizes h.2
+size_behind stated name (free_type m ns) later sizes n h = one_behind (length ns) n later sizes h
+size_behind stated name (constructor m t p) later sizes n h = none_behind n later sizes h
+size_behind stated name (abbreviation t r x) later sizes n h = none_behind n later sizes h
+size_behind stated name (schema a) later sizes n h = none_behind n later sizes h
 
 pub size_at : (stated : List Size) (g : List Defined) (sizes : List ℕ) (i : ℕ) (name : List ℕ) (n : ℕ) (names : List (List ℕ)) → AreSizes stated g sizes → slice_get g i ≡ Some (record { name = name; definition = free_type n names }) → slice_get sizes (next_number (take i g)) ≡ Some (length names)
 size_at stated [] sizes i name n names h at = absurd (none-some _ at)
@@ -47,23 +58,9 @@ size_at stated (d ∷ g) sizes zero name n names h at = here d (same_Some d _ at
   where
     here : (d : Defined) → d ≡ record { name = name; definition = free_type n names } → AreSizes stated (d ∷ g) sizes → slice_get sizes 0 ≡ Some (length names)
     here d e k = ap (λ s. slice_get s 0) (subst (λ (x : Defined). AreSizes stated (x ∷ g) sizes) e k).2
-size_at stated (d ∷ g) sizes (suc i) name n names h at = by d.definition (λ later k. size_at stated g later i name n names k at) h
-  where
-    by :
-        (x : Definition) → ((later : List ℕ) → AreSizes stated g later → slice_get later (next_number (take i g)) ≡ Some (length names))
-        → AreSizes stated (record { name = d.name; definition = x } ∷ g) sizes → slice_get sizes (next_number (record { name = d.name; definition = x } ∷ take i g)) ≡ Some (length names)
-    by (given_set m) ih k =
-        ap (slice_get sizes) (sum_by-cons (λ d. has_elements d.definition) (record { name = d.name; definition = given_set m }) (take i g))
-        ∙ ap (λ xs. slice_get xs (1 + next_number (take i g))) k.4 ∙ size_more k.0 (next_number (take i g)) k.1 (length names) (ih k.1 k.3)
-    by (free_type m ns) ih k =
-        ap (slice_get sizes) (sum_by-cons (λ d. has_elements d.definition) (record { name = d.name; definition = free_type m ns }) (take i g))
-        ∙ ap (λ xs. slice_get xs (1 + next_number (take i g))) k.2 ∙ size_more (length ns) (next_number (take i g)) k.0 (length names) (ih k.0 k.1)
-    by (constructor m t p) ih k =
-        ap (slice_get sizes) (sum_by-cons (λ d. has_elements d.definition) (record { name = d.name; definition = constructor m t p }) (take i g) ∙ none_more (next_number (take i g))) ∙ ih sizes k
-    by (abbreviation t r x) ih k =
-        ap (slice_get sizes) (sum_by-cons (λ d. has_elements d.definition) (record { name = d.name; definition = abbreviation t r x }) (take i g) ∙ none_more (next_number (take i g))) ∙ ih sizes k
-    by (schema a) ih k =
-        ap (slice_get sizes) (sum_by-cons (λ d. has_elements d.definition) (record { name = d.name; definition = schema a }) (take i g) ∙ none_more (next_number (take i g))) ∙ ih sizes k
+size_at stated (d ∷ g) sizes (suc i) name n names h at =
+    ap (slice_get sizes) (sum_by-cons (λ (x : Defined). has_elements x.definition) d (take i g)) ∙ size_behind stated d.name d.definition h.0 sizes (next_number (take i g)) h.2
+    ∙ size_at stated g h.0 i name n names h.1 at
 
 -- ---- elements
 
