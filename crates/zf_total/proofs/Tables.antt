@@ -1,5 +1,5 @@
 -- The truth of a connective is that of its table.
-use Rattle.zf_total.proofs.Prelude.{◌≡◌, subst, sym, Truth, Context, IsTruth}
+use Rattle.zf_total.proofs.Prelude.{◌≡◌, subst, sym, Truth, IsTruth}
 use Rattle.zf_tree.specs.declared.operator.Operator.TheVariants as operator
 use Rattle.zf_tree.specs.declared.symbol.Connective.{Connective}
 use Rattle.zf_term.specs.ResolvedTrees.{ResolvedTree, binary}
