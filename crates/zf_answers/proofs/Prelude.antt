@@ -66,5 +66,5 @@ pub use Rattle.zf_engine.specs.Answers.{Answer, AreHeld, check_status, check_tex
 pub use Rattle.zf_engine.specs.Details.{not_finite_lines, text_fault_lines, type_fault_lines}
 pub use Rattle.zf_engine.specs.Texts.{declared_out_line, no_schema_line, not_a_binding_line, not_held_line}
 pub use Rattle.zf_answers.specs.Bindings.{EndsLines, IsBefore, IsBinding, IsInDoubt, IsNotPast, ShowsBindings}
-pub use Rattle.zf_answers.specs.Laws.{AnswersRequest, AreAlike, AreOfSame, EachBindingIsShown, EventsAreShown, EveryHeldLineIsJudged, EveryLineIsJudged, EveryRequestIsAnswered, EverySourceIsRead, IsGranted, IsShownInOneWay, OneStatus, OneText, ShowsEvents, TellsGrammar}
+pub use Rattle.zf_answers.specs.Laws.{AnswersRequest, AreAlike, AreOfSame, EachBindingIsShown, EventsAreShown, EveryHeldLineIsJudged, EveryLineIsJudged, EveryRequestIsAnswered, EverySourceIsRead, IsGranted, IsShownInOneWay, OneStatus, OneText, ShowsEvents}
 pub use Rattle.zf_answers.specs.Runs.{FirstLinesAreAFront, limited, PartsAreFronts, resumed, RunsMakeOne, together}

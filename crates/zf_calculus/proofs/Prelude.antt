@@ -25,7 +25,7 @@ pub use Rattle.zf_term.specs.SetShapes.{set_count, set_nodes}
 pub use Rattle.zf_term.specs.Shapes.{height, moved, nodes, numbering}
 pub use Rattle.zf_term.specs.Types.{type_of}
 pub use Rattle.zf_term.specs.declared.conjunct.Conjunct.{Conjunct}
-pub use Rattle.zf_term.specs.Faults.{clash, Offence, too_large}
+pub use Rattle.zf_term.specs.Faults.{Offence, too_large}
 pub use Rattle.zf_term.specs.declared.fault.Limit.{Limit}
 pub use Rattle.zf_term.specs.declared.schema.Component.{Component}
 pub use Rattle.zf_term.specs.declared.schema.Domain.{Domain}
@@ -36,4 +36,4 @@ pub use Rattle.zf_term.specs.declared.ztype.ZType.{ZType}
 pub use Rattle.zf_shape.proofs.Heights.{below_nodes}
 pub use Rattle.zf_calculus.specs.Calculus.{Agree, Agrees, all_unchanged, AreOnce, carried, comp, comp_named, conjoined, decorated, delta, disjoined, membership, memberships, new_place, place_of, place_or, prime, sets_on, unchanged, with_comp, with_comps, xi}
 pub use Rattle.zf_calculus.specs.Growth.{AreAt, constrained, counted, disjoined_over, either_comp, enriched, equalities, equality, grown, IfStopped, IsGrowing, place_found, place_named}
-pub use Rattle.zf_calculus.specs.Steps.{Clashes, Differs, IsNext, OneClashes, Stops}
+pub use Rattle.zf_calculus.specs.Steps.{Clashes, IsNext, OneClashes, Stops}

@@ -183,18 +183,18 @@ fn both<'a>(
 ) -> Result<Domains<'a>, AllocError>
     ensures { IfOk result (λ ds. ds ≡ first.entry ++ further.now) }
 {
-    let mut all = owned(first)?;
+    let mut all = owned(first, further.len())?;
     all.append(further)?;
     Shared::new(arena, all)
 }
 
-/// The list itself where it has no other owner, and else another one of the same declared sets.
-fn owned<'a>(domains: Domains<'a>) -> Result<Chunked<'a, Domain<'a>>, AllocError>
+/// The list itself where it has no other owner, and else another one of the same declared sets, with room for so many more.
+fn owned<'a>(domains: Domains<'a>, more: usize) -> Result<Chunked<'a, Domain<'a>>, AllocError>
     ensures { IfOk result (λ ds. ds ≡ domains.entry) }
 {
     match domains.into_value() {
         Ok(list) => Ok(list),
-        Err(shared) => shared.get().share(1),
+        Err(shared) => shared.get().share(more),
     }
 }
 

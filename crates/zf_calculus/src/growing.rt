@@ -266,7 +266,7 @@ pub fn take_moved<'a>(
     ensures { OnOk result (map conjunct_of conjuncts.new ≡ map conjunct_of conjuncts.old ++ map (moved (place_in places.now)) (map conjunct_of further.entry)) }
 {
     if are_own(places.get().as_slice()) {
-        return take_all(conjuncts, further);
+        return conjuncts.take(further);
     }
     let numbering = Some(places.share());
     take_numbered(conjuncts, arena, &further, &numbering)
@@ -285,20 +285,6 @@ fn take_numbered<'a>(
         conjuncts.push(conjunct.moved(arena, places)?)?;
     }
     Ok(())
-}
-
-/// Further conjuncts as they are. Where there are none yet, the list itself is taken.
-fn take_all<'a>(
-    conjuncts: &mut Chunked<'a, Conjunct<'a>>,
-    further: Chunked<'a, Conjunct<'a>>,
-) -> Result<(), AllocError>
-    ensures { OnOk result (conjuncts.new ≡ conjuncts.old ++ further.entry) }
-{
-    if conjuncts.len() == 0 {
-        *conjuncts = further;
-        return Ok(());
-    }
-    conjuncts.append(&further)
 }
 
 /// Whether each place is its own number.

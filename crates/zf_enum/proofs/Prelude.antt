@@ -5,7 +5,7 @@ pub use Rattle.std.proofs.lemmas.List.{length-drop, length-map}
 pub use Rattle.std.proofs.lemmas.Result.{IfOk-weaker, on_ok_weaker}
 pub use Rattle.std.specs.List.{AllByRecursion}
 pub use Rattle.std.specs.Option.{option_copied}
-pub use Rattle.std.specs.Prelude.{◌≤ℤ◌, All, AllPairs, Contains, IfErr, IsErrAnd, IsTrue, MatchOption, nat_le, slice_get, unwrap_or}
+pub use Rattle.std.specs.Prelude.{All, AllPairs, Contains, IfErr, IsErrAnd, IsTrue, nat_le, slice_get, unwrap_or}
 pub use Rattle.std.specs.declared.cmp.Ordering.TheVariants.{Less}
 pub use Rattle.zf_walk.proofs.Moving.{range-is}
 pub use Rattle.zf_walk.proofs.Picks.{AreWithin-push, length-picked, nth-at, picked-push}
@@ -22,12 +22,12 @@ pub use Rattle.zf_reference.specs.declared.reference.Reference.{Reference}
 pub use Rattle.zf_reference.specs.declared.reference.Reference.TheVariants.{Component, Global, Local}
 pub use Rattle.zf_value.proofs.Among.{ascending-push, every_at, every_from, member_at, members-append, members-push, members-take_more, take_all}
 pub use Rattle.zf_value.proofs.Exact.{exact}
-pub use Rattle.zf_value.proofs.Seen.{is_Int, members-SetOf, no_Int, number_of-Int, parts-Tuple}
+pub use Rattle.zf_value.proofs.Seen.{members-SetOf, parts-Tuple}
 pub use Rattle.zf_value.specs.Sets.{Every, IsAscending, IsMember, members, parts, value_order}
 unfoldable pub use Rattle.zf_value.specs.Sets.{HaveSameMembers}
 pub use Rattle.zf_value.specs.declared.value.Outcome.{Outcome}
 pub use Rattle.zf_value.specs.declared.value.Outcome.TheVariants.{Is, Out, Undefined}
-pub use Rattle.zf_value.specs.declared.plain.Value.{Int, SetOf, Tuple, Value}
+pub use Rattle.zf_value.specs.declared.plain.Value.{SetOf, Tuple, Value}
 pub use Rattle.zf_tree.specs.declared.operator.Unary.TheVariants.{Not}
 pub use Rattle.zf_tree.specs.declared.symbol.Relation.TheVariants.{Equal}
 pub use Rattle.zf_term.proofs.ResolvedSeen.{link-seen, of-Binary, of-Chain, of-Name, of-Unary, range-seen}

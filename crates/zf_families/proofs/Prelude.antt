@@ -16,12 +16,12 @@ pub use Rattle.zf_value.proofs.Exact.{cmp_is, exact, ties}
 pub use Rattle.zf_value.proofs.Seen.{members-SetOf, parts-Tuple}
 pub use Rattle.zf_value.specs.Operations.{AreFrom, IsBetween, IsFunctional, IsInjective, IsRelationThat, IsSubset, IsTotal, pair, Relates}
 unfoldable pub use Rattle.zf_value.specs.Operations.{ArePartialFunctions, ArePartialInjections, AreRelations, AreTotalFunctions, AreTotalInjections, IsCross, IsPower}
-pub use Rattle.zf_value.specs.Sets.{Every, IsAscending, IsMember, IsSetOf, members, members_at, parts, row_order, value_order}
+pub use Rattle.zf_value.specs.Sets.{Every, IsAscending, IsMember, IsSetOf, members, parts, row_order, value_order}
 unfoldable pub use Rattle.zf_value.specs.Sets.{AreAmong}
 pub use Rattle.zf_value.specs.declared.TheConstants.{SET_MAX}
-pub use Rattle.zf_value.specs.declared.plain.Value.{out-Value, roll-out-Value, roll-Value, SetOf, Tuple, Value}
+pub use Rattle.zf_value.specs.declared.plain.Value.{out-Value, SetOf, Tuple, Value}
 pub use Rattle.zf_value.specs.declared.plain.Value.TheOpen.{Value-F}
-pub use Rattle.zf_value.specs.declared.plain.Value.TheVariants.{outs-SetOf, outs-Tuple, rolls-SetOf}
+pub use Rattle.zf_value.specs.declared.plain.Value.TheVariants.{outs-SetOf, outs-Tuple}
 pub use Rattle.zf_value.specs.declared.value.Outcome.{Outcome}
 pub use Rattle.zf_value.specs.declared.value.Outcome.TheVariants.{Is, Out}
 pub use Rattle.zf_families.specs.Counts.{falling, partial_injection_count, sizes, stepped}

@@ -5,6 +5,5 @@ pub use Rattle.zf_term.specs.Definitions.{Comp, comp_of, conjunct_of, Defined, g
 pub use Rattle.zf_term.specs.FirstNamed.{or_else}
 pub use Rattle.zf_extent.specs.declared.offender.Offender.{Offender}
 pub use Rattle.zf_extent.specs.Extents.{first, offending}
-pub use Rattle.zf_finite.specs.declared.not_finite.NotFinite.{NotFinite}
 pub use Rattle.zf_finite.specs.declared.not_finite.NotFinite.TheVariants.{Offends}
-pub use Rattle.zf_finite.specs.Finite.{all_plain_lines, all_set_offenders, causes, comp_causes, FiniteWithoutCause, first_or, first_plain, IsFinite, one_bounds, plain_lines, set_offenders, unbounded}
+pub use Rattle.zf_finite.specs.Finite.{all_plain_lines, all_set_offenders, causes, comp_causes, FiniteWithoutCause, first_or, IsFinite, one_bounds, plain_lines, set_offenders, unbounded}

@@ -16,14 +16,14 @@ pub use Rattle.zf_term.proofs.ResolvedSeen.{link-seen, new_link, new_range, of-B
 pub use Rattle.zf_term.specs.Definitions.{Defined}
 pub use Rattle.zf_term.specs.ResolvedTrees.{absent, binary, bracket, builder, chain, constant, empty_set, link, links, listed, no_links, no_ranges, no_terms, number, part_of, present, quantified, range, range_of, Ranges, ranges, reference, resolved_link_of, resolved_of, ResolvedLinks, ResolvedPart, ResolvedTree, ResolvedTrees, term, terms, unary}
 pub use Rattle.zf_term.specs.declared.extent.Infinite.{Infinite}
-pub use Rattle.zf_extent.specs.Extents.{direct, extent_found, extent_named, extent_set, is_membership}
+pub use Rattle.zf_extent.specs.Extents.{direct, extent_found, extent_set, is_membership}
 pub use Rattle.zf_meaning.specs.Environments.{Context, Environment, outcome_in, outcome_or, within}
 pub use Rattle.zf_meaning.specs.Envs.{environment_of, longer}
-pub use Rattle.zf_meaning.specs.Meaning.{AreLinked, Builds, HasOutcome, HaveOutcomes, HaveRanges, infinite_right, IsBuilt, IsBuiltBy, IsBuiltOver, IsConstraint, IsLink, IsOutOfBounds, IsTruth, IsWithinBounds}
+pub use Rattle.zf_meaning.specs.Meaning.{AreLinked, Builds, HasOutcome, infinite_right, IsBuilt, IsBuiltBy, IsBuiltOver, IsConstraint, IsLink, IsOutOfBounds, IsTruth, IsWithinBounds}
 pub use Rattle.zf_meaning.specs.Outcomes.{one_out, one_undefined, Several, values}
 pub use Rattle.zf_meaning.specs.Truths.{HasTwo, IsConjunction, IsConnected, IsDisjunction, IsEquivalence, IsExists, IsExistsOne, IsForAll, IsOver, IsQuantified, IsTold, opposite}
 pub use Rattle.zf_lift.specs.Lifted.{AreEach, AreLifted, IsLifted, IsLonger}
-pub use Rattle.zf_lift.specs.Lifts.{at, is_liftable, Wherever, Whichever}
+pub use Rattle.zf_lift.specs.Lifts.{at, is_liftable, Wherever}
 unfoldable pub use Rattle.zf_lift.specs.Lifts.{AreClosed, AreLifts, AreLinkLifts, AreLinksClosed, AreRangeLifts, AreRangesClosed, IsClosed, IsLift, IsPartClosed, IsPartLift}
 pub use Rattle.zf_lift.specs.Lists.{AreAllLifts, IsLinkClosed, IsLinkLift, IsRangeClosed, IsRangeLift}
 pub use Rattle.zf_lift.specs.Needs.{all_need, links_need, need, part_need, place, ranges_need}

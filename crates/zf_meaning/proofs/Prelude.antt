@@ -1,21 +1,21 @@
 -- What the proofs of this crate take from elsewhere, passed on from one place.
-pub use Rattle.std.proofs.Common.{if◌then◌else◌, ◌++◌, ◌+◌, ◌-◌, ◌<◌, ◌↔◌, ◌∙◌, ◌∷◌, ◌≡◌, ◌≤◌, ◌⊎◌, [], add-one, ap, append-nil, append_assoc, arith, Bool, cond, drop, eqb, false, get_or, inl, inr, IsTrue, length, length-append, List, ltb, map, max, None, of_z, Option, refl, replicate, rules, set, Some, subst, suc, sym, take, take-append-drop, to_z, true, true≢false, w64, zero, ℕ, ℤ, ⊎_elim}
+pub use Rattle.std.proofs.Common.{if◌then◌else◌, ◌++◌, ◌+◌, ◌-◌, ◌<◌, ◌↔◌, ◌∙◌, ◌∷◌, ◌≡◌, ◌≤◌, ◌⊎◌, [], add-one, ap, append-nil, append_assoc, arith, Bool, cond, drop, eqb, false, get_or, inl, inr, IsTrue, length, length-append, List, map, max, None, of_z, Option, refl, replicate, rules, set, Some, subst, suc, sym, take, take-append-drop, to_z, true, true≢false, w64, zero, ℕ, ℤ, ⊎_elim}
 pub use Rattle.std.proofs.Math.Seq.{take-append_seam, take-length}
-pub use Rattle.std.proofs.lemmas.Bool.{cases_lt, false≢true, iff_false, ltb-true, or_cases, or_left, or_parts, or_right}
+pub use Rattle.std.proofs.lemmas.Bool.{cases_lt, false≢true, iff_false, or_cases, or_left, or_parts, or_right}
 pub use Rattle.std.proofs.lemmas.Bool.Decides.{nat_tests}
 pub use Rattle.std.proofs.lemmas.List.{drop-set, drop_more, length-map, map-append, take-append-le, take-set, take-set-le, take_all, take_more}
 pub use Rattle.std.proofs.lemmas.List.Elements.{All-cons, All-contains, All-head, All-more, All-nil, All-push, All-replicate, All-tail, Contains-append_left, Contains-append_right, Contains-push_cases}
 pub use Rattle.std.proofs.lemmas.Result.{err_from_is_err_and, IfOk-weaker}
 pub use Rattle.std.specs.Cmp.Lexicographic.{other_text}
 pub use Rattle.std.specs.List.{All, Contains, list_any}
-pub use Rattle.std.specs.Option.{IfSome, is_some}
+pub use Rattle.std.specs.Option.{IfSome}
 pub use Rattle.std.specs.Prelude.{◌+ℤ◌, ◌<ℤ◌, FitsSigned, MatchOption, nat_lt, option_to_list, pos, Result, slice_get}
 pub use Rattle.std.specs.Result.{IfOk}
 pub use Rattle.std.specs.declared.alloc.AllocError.{AllocError}
 pub use denote.Bor.{Bor}
 pub use Rattle.zf_reference.specs.declared.reference.Reference.{Reference}
 pub use Rattle.zf_reference.specs.declared.reference.Reference.TheVariants.{Component, Global, Local}
-pub use Rattle.zf_value.proofs.Among.{every_also, every_at, members-append, members-push, not_below_itself}
+pub use Rattle.zf_value.proofs.Among.{every_also, every_at, members-push, not_below_itself}
 pub use Rattle.zf_value.proofs.Divisions.{either_way, one_Modulus, one_Quotient}
 pub use Rattle.zf_value.proofs.Exactly.{same}
 pub use Rattle.zf_value.proofs.Making.{out_told, same_set}
@@ -25,15 +25,15 @@ pub use Rattle.zf_value.specs.Numbers.{IsDifference, IsModulus, IsNegation, IsPr
 unfoldable pub use Rattle.zf_value.specs.Numbers.{IsBetweenNumbers, IsInterval, IsQuotient}
 pub use Rattle.zf_value.specs.Operations.{AreFrom, IsApplied, IsEmptySet, IsSubset}
 unfoldable pub use Rattle.zf_value.specs.Operations.{AreElements, ArePartialFunctions, ArePartialInjections, AreRelations, AreTotalFunctions, AreTotalInjections, IsCross, IsDisplay, IsPower, IsSize}
-pub use Rattle.zf_value.specs.Sets.{Every, IsAscending, IsMember, IsSetOf, members, members_at, value_order}
+pub use Rattle.zf_value.specs.Sets.{Every, IsAscending, IsMember, IsSetOf, members, value_order}
 unfoldable pub use Rattle.zf_value.specs.Sets.{HaveSameMembers}
 pub use Rattle.zf_value.specs.declared.value.Outcome.{Outcome}
 pub use Rattle.zf_value.specs.declared.value.Outcome.TheVariants.{Is, Out, Undefined}
 pub use Rattle.zf_value.specs.declared.value.Truth.{Truth}
 pub use Rattle.zf_value.specs.declared.value.Truth.TheVariants.{False, True}
-pub use Rattle.zf_value.specs.declared.plain.Value.{Int, out-Value, roll-out-Value, roll-Value, SetOf, Tuple, Value}
+pub use Rattle.zf_value.specs.declared.plain.Value.{Int, out-Value, SetOf, Tuple, Value}
 pub use Rattle.zf_value.specs.declared.plain.Value.TheOpen.{Value-F}
-pub use Rattle.zf_value.specs.declared.plain.Value.TheVariants.{outs-Int, rolls-SetOf}
+pub use Rattle.zf_value.specs.declared.plain.Value.TheVariants.{outs-Int}
 unfoldable pub use Rattle.zf_families.specs.Families.{IsPartialFunction, IsPartialInjection, IsRelation, IsTotalFunction, IsTotalInjection, IsTupleFrom}
 pub use Rattle.zf_tree.specs.declared.operator.Listed.{Listed}
 pub use Rattle.zf_tree.specs.declared.operator.Operator.{Operator}

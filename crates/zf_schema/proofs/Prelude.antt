@@ -24,7 +24,7 @@ pub use Rattle.zf_type.proofs.NoOffence.{no_offence}
 pub use Rattle.zf_type.proofs.Judging.{told}
 pub use Rattle.zf_type.proofs.OneSort.{one_sort, same_set, same_typed}
 pub use Rattle.zf_type.specs.Offences.{Offends}
-pub use Rattle.zf_type.specs.Refusals.{fault_of, IfFault, IsRefusal, offence_of}
+pub use Rattle.zf_type.specs.Refusals.{fault_of, IfFault, offence_of}
 pub use Rattle.zf_type.specs.Resolving.{bound, referent, resolved, resolved_all, resolved_links, resolved_part, resolved_ranges}
 pub use Rattle.zf_type.specs.Rules.{predicate, set_of, Sort, typed}
 pub use Rattle.zf_type.specs.declared.fault.Refusal.{Refusal}

@@ -11,7 +11,7 @@ pub use Rattle.zf_reference.specs.declared.reference.Reference.{Reference}
 pub use Rattle.zf_reference.specs.declared.reference.Reference.TheVariants.{Component, Global, Local}
 pub use Rattle.zf_tree.specs.declared.symbol.Relation.{Relation}
 pub use Rattle.zf_data.specs.Chunks.{all_of}
-pub use Rattle.zf_term.specs.Definitions.{all_joined, batch_step, both_hold, carrier, comp_of, conjunct_step, DeclaredSet, Defined, definition_of, domain_step, entry_of, globals_of, is_member, joined, one_holds, plain, sets_of, sides}
+pub use Rattle.zf_term.specs.Definitions.{batch_step, carrier, comp_of, conjunct_step, DeclaredSet, Defined, definition_of, domain_step, entry_of, globals_of, is_member, one_holds, plain, sets_of, sides}
 unfoldable pub use Rattle.zf_term.specs.Definitions.{batch_of, conjunct_of, set_of}
 pub use Rattle.zf_term.specs.FirstNamed.{first_named, later, or_else}
 pub use Rattle.zf_term.specs.References.{all_onto, links_onto, onto, part_onto, ranges_onto}

@@ -10,9 +10,6 @@ use zf_data::arena::Items;
 use zf_scan::fault::TextFault;
 use zf_scan::next::Mark;
 
-/// Most lists of a text have no more items, and many have more than one.
-const FEW: usize = 4;
-
 /// A rule of the grammar, which reads items of one type up to a height.
 pub trait Rule<'a> {
     type Item: Drop;
@@ -44,8 +41,7 @@ pub fn items<'a, R: Rule<'a>>(
     ensures low { IfOk result (λ x. x.height ≤ R.limit rule.now) }
 {
     let first = rule.read(tokens)?;
-    let mut items = Items::with_room(arena, FEW)?;
-    items.push(first.part)?;
+    let mut items = Items::of(arena, first.part)?;
     let mut height = first.height;
     for _turn in 0..tokens.left() {
         if !tokens.is_at(part) {

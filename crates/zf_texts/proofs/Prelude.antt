@@ -6,23 +6,23 @@ pub use Rattle.std.proofs.lemmas.List.{append-nil, append_assoc, drop_more, leng
 pub use Rattle.std.proofs.lemmas.Slice.Eq.{slice_eq-Decides, strip_prefix_is}
 pub use Rattle.std.specs.Fmt.{signed_decimal}
 pub use Rattle.std.specs.Int.{IsInRange, w64}
-pub use Rattle.std.specs.List.{AllByRecursion, list_all}
+pub use Rattle.std.specs.List.{list_all}
 pub use Rattle.std.specs.Prelude.{decimal, FitsSigned, IsErrAnd, IsUtf8, MatchBool, MatchOption, slice_get}
 pub use Rattle.std.specs.Str.Parse.{AllDigits, ParsesSigned, ParsesUnsigned}
 pub use Rattle.zf_value.proofs.Exactly.{same}
 pub use Rattle.zf_value.specs.Sets.{Every, IsAscending, value_order}
 pub use Rattle.zf_value.specs.declared.TheConstants.{SET_MAX}
 pub use Rattle.zf_value.specs.declared.plain.Value.{Elem, fold-roll-Value, Int, map-Value, roll-Value, SetOf, Tuple, Value}
-pub use Rattle.zf_term.specs.Definitions.{Comp, comp_of, Defined, definition_of, globals_of}
+pub use Rattle.zf_term.specs.Definitions.{Comp, comp_of, Defined, globals_of}
 pub use Rattle.zf_term.specs.FirstNamed.{first_named}
 pub use Rattle.zf_term.specs.Types.{basic, int, no_types, power, product, Ty, type, type_of, types, Tys}
 pub use Rattle.zf_term.specs.declared.schema.Component.{Component}
-pub use Rattle.zf_meaning.specs.Environments.{definition_number, Environment, found_number, type_number}
+pub use Rattle.zf_meaning.specs.Environments.{Environment, found_number, type_number}
 pub use Rattle.zf_meaning.specs.Envs.{environment_of}
 pub use Rattle.zf_meaning.specs.Rows.{AreOfTypes, IsElement, IsOfType, IsRow}
 pub use Rattle.zf_texts.specs.BindingTexts.{binding_text, component_text, component_texts}
 pub use Rattle.zf_texts.specs.Clear.{AreApart, AreClear, AreNames, Ends, is_in_name, is_in_word, IsClear, IsName, IsNoneOf}
-pub use Rattle.zf_texts.specs.Held.{HaveClearNames, held_comps, held_values, HoldNext, IsHeldLine, IsLineOfSome, IsNamedNext}
+pub use Rattle.zf_texts.specs.Held.{held_comps, held_values, HoldNext, IsHeldLine, IsNamedNext}
 unfoldable pub use Rattle.zf_texts.specs.Held.{IsNoHeldLine}
 pub use Rattle.zf_texts.specs.Readings.{IfMisfit, IsLineOf}
 unfoldable pub use Rattle.zf_texts.specs.Readings.{IsNoLine}

@@ -1,5 +1,5 @@
 //! The operations on relations. A relation is a set of pairs; what is no pair relates nothing.
-ghost use Rattle.std.specs.Prelude.{◌≡◌, ◌≤◌, length, slice_range, IfOk, IfSome, OnOk, MatchOption};
+ghost use Rattle.std.specs.Prelude.{◌≡◌, ◌≤◌, length, slice_range, IfOk, OnOk, MatchOption};
 ghost use Rattle.zf_value.specs.Operations.{pair, IsDomain, IsRange, IsInverse, IsImage, IsComposition, IsOverriding, IsDomainRestriction, IsDomainSubtraction, IsRangeRestriction, IsRangeSubtraction, IsApplied};
 ghost use Rattle.zf_value.specs.Sets.{members, IsAscending};
 ghost use Rattle.zf_value.specs.Steps.{AreRelated, AddsPairs, place_beside as place};

@@ -13,7 +13,7 @@ pub use Rattle.zf_term.specs.Types.{basic, int, IsSmall, no_types, nodes, pair, 
 pub use Rattle.zf_term.specs.Faults.{already_defined, clash, Fault, local_twice, mismatch, no_members, not_a_schema, not_declared, Offence, too_large}
 pub use Rattle.zf_term.specs.declared.fault.Limit.{Limit}
 pub use Rattle.zf_term.specs.declared.fault.Limit.TheVariants.{TypeNodes}
-pub use Rattle.zf_type.specs.Offences.{Clash, Differ, IsRepeated, LinksOffend, MakesTooLarge, Misplaced, Offends, OneDiffers, OneOffends, PartOffends, Repeats, SetsOffend}
+pub use Rattle.zf_type.specs.Offences.{Differ, IsRepeated, LinksOffend, Misplaced, Offends, OneDiffers, OneOffends, PartOffends, Repeats, SetsOffend}
 pub use Rattle.zf_type.specs.Resolving.{resolved}
 pub use Rattle.zf_type.specs.Rules.{a_schema, constant_sort, IsSmallSort, Meets, number, predicate, PrefixTakes, relation, set_of, SignTakes, Sort, Takes, typed, UnaryTakes}
 pub use Rattle.zf_type.specs.Typing.{AreAll, AreApart, AreLinked, AreMembers, Builds, Constrains, Declare, declared, IsApart, IsOf, Makes, member_need, member_sort, row_type, variables}

@@ -120,6 +120,16 @@ impl<'a, T: Drop + Share> Chunk<'a, T> {
         let items = copied(arena, self.as_slice(), room)?;
         Ok(Chunk::new(Shared::new(arena, items)?))
     }
+
+    /// A copy, with these items behind.
+    fn followed(&self, arena: &'a Bump, further: &[T]) -> Result<Chunk<'a, T>, AllocError>
+        ensures { IfOk result (λ c. c ≡ self.now ++ further.now) }
+    {
+        let room = self.len().saturating_add(further.len());
+        let mut items = copied(arena, self.as_slice(), room)?;
+        push_copies(&mut items, further)?;
+        Ok(Chunk::new(Shared::new(arena, items)?))
+    }
 }
 
 /// A list that contracts see as the list of its items. It stands in chunks, which other lists share.
@@ -297,6 +307,73 @@ impl<'a, T: Drop + Share> Chunked<'a, T> {
         Ok(())
     }
 
+    /// Adds the items of the other list, which is used up. Behind one chunk that list itself is taken, with the chunk before it.
+    pub fn take(&mut self, other: Chunked<'a, T>) -> Result<(), AllocError>
+        ensures { OnOk result (self.new ≡ self.old ++ other.entry) }
+    {
+        match self.chunks.as_slice() {
+            [] => {
+                *self = other;
+                Ok(())
+            }
+            [chunk] => {
+                let chunk = chunk.share()?;
+                let mut whole = other;
+                whole.prepend(chunk)?;
+                *self = whole;
+                Ok(())
+            }
+            _ => self.append(&other),
+        }
+    }
+
+    /// Puts the items of a chunk first. Where they and those of the first chunk are few, they stand in one.
+    fn prepend(&mut self, chunk: Chunk<'a, T>) -> Result<(), AllocError>
+        ensures { OnOk result (self.new ≡ chunk.entry ++ self.old) }
+    {
+        if !self.is_roomy_before(chunk.len()) {
+            return self.insert_first(chunk);
+        }
+        match self.remove_first() {
+            None => self.insert_first(chunk),
+            Some(first) => {
+                let both = chunk.followed(self.arena(), first.as_slice())?;
+                self.insert_first(both)
+            }
+        }
+    }
+
+    /// Whether so many items stand in one small chunk with the first ones, of which there are some.
+    fn is_roomy_before(&self, more: usize) -> bool {
+        match self.chunks.first() {
+            None => false,
+            Some(chunk) => chunk.len().saturating_add(more) <= COPIED,
+        }
+    }
+
+    fn insert_first(&mut self, chunk: Chunk<'a, T>) -> Result<(), AllocError>
+        ensures { OnOk result (self.new ≡ chunk.entry ++ self.old) }
+    {
+        let Some(count) = self.count.checked_add(chunk.len()) else {
+            return Err(AllocError);
+        };
+        self.chunks.insert(0, chunk)?;
+        self.count = count;
+        Ok(())
+    }
+
+    /// Takes the first chunk off.
+    fn remove_first(&mut self) -> Option<Chunk<'a, T>>
+        ensures { MatchOption result (self.new ≡ self.old) (λ chunk. self.old ≡ chunk ++ self.new) }
+    {
+        if self.chunks.is_empty() {
+            return None;
+        }
+        let chunk = self.chunks.remove(0);
+        self.count -= chunk.len();
+        Some(chunk)
+    }
+
     /// Adds the items of a chunk. A small one is copied behind the last items, so that chunks stay few.
     fn append_chunk(&mut self, chunk: &Chunk<'a, T>) -> Result<(), AllocError>
         ensures { OnOk result (self.new ≡ self.old ++ chunk.now) }
@@ -368,10 +445,21 @@ fn copied<'a, T: Drop + Share>(
     ensures { IfOk result (λ same. same ≡ items.now) }
 {
     let mut same = Items::with_room(arena, room)?;
-    for item in items {
-        same.push(item.shared()?)?;
-    }
+    push_copies(&mut same, items)?;
     Ok(same)
+}
+
+/// The same items behind the others.
+fn push_copies<'a, T: Drop + Share>(
+    others: &mut Items<'a, T>,
+    items: &[T],
+) -> Result<(), AllocError>
+    ensures { OnOk result (others.new ≡ others.old ++ items.now) }
+{
+    for item in items {
+        others.push(item.shared()?)?;
+    }
+    Ok(())
 }
 
 /// The items of a list in chunks that are still ahead.

@@ -6,4 +6,4 @@ pub returns-then-are_own : goal.returns-then-are_own
 returns-then-are_own c =
     let places = c.args.places.now in
     let same = subst (λ (ps : List ℕ). (t : ResolvedTree) → moved (place_in ps) t ≡ t) (c.as_slice.ensures ∙ c.get.ensures) (c.if-are_own.ensures refl) in
-    on_ok_weaker c.take_all.result (taken_as_they_are (place_in places) c.args.conjuncts.now c.take_all.new.conjuncts c.args.further same) c.take_all.ensures
+    on_ok_weaker c.take.result (taken_as_they_are (place_in places) c.args.conjuncts.now c.take.new.self c.args.further same) c.take.ensures
