@@ -31,6 +31,19 @@ fn chunks_are_one_list(rt: HostRuntime) -> Result<(), Fail> {
     Ok(())
 }
 
+/// Three lists, each taken by the one before it, are one list.
+#[test]
+fn lists_that_are_taken_are_one(rt: HostRuntime) -> Result<(), Fail> {
+    let arena = Bump::new(rt.alloc());
+    let mut list = counted(&arena, 0, 2)?;
+    list.take(counted(&arena, 2, 2)?)?;
+    list.take(counted(&arena, 4, 126)?)?;
+    list.take(counted(&arena, 130, 130)?)?;
+    assert_eq!(rt; list.len(), 260);
+    assert!(rt; counts(&list, 260));
+    Ok(())
+}
+
 /// So many numbers, from the first one on.
 fn counted<'a>(
     arena: &'a Bump,
