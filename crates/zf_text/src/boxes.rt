@@ -49,7 +49,9 @@ fn schema_box<'a>(
 {
     let name = tokens.opening()?;
     if tokens.is_at(Mark::OpenSquare) {
-        return Err(TextFault::not_in_profile(tokens.line()));
+        let line = tokens.line();
+        tokens.skip();
+        return Err(TextFault::not_in_profile(line));
     }
     let decls = decls(arena, tokens, highest)?;
     let predicates = predicates(arena, tokens, highest, Mark::Where)?;

@@ -1,7 +1,7 @@
 //! The rules of paragraphs.
 ghost use Rattle.std.specs.Prelude.{◌≤◌, IfOk};
 ghost use Rattle.zf_text.specs.BoxReading as spec;
-ghost use Rattle.zf_text.specs.TermReading.{Gives};
+ghost use Rattle.zf_text.specs.TermReading.{Gives, past};
 
 use crate::cursor::Cursor;
 use crate::items::Rule;
@@ -65,7 +65,7 @@ fn abbreviation<'a>(
     })
 }
 
-/// The schema expression of a definition, whose name has no strokes.
+/// A definition behind its name, which has no strokes.
 #[tactic(auto, unfolding(crate::specs::BoxReading::definition))]
 fn definition<'a>(
     arena: &'a Bump,
@@ -74,12 +74,13 @@ fn definition<'a>(
     name: Name<'a>,
 ) -> Result<Tall<Paragraph<'a>>, TextFault>
     requires { highest ≤ 1000 }
-    ensures value { Gives (spec.definition highest name.entry tokens.old) result tokens.new }
+    ensures value { Gives (past (spec.definition highest name.entry) tokens.old) result tokens.new }
     ensures low { IfOk result (λ x. x.height ≤ highest) }
 {
     if !name.is_bare() {
         return Err(tokens.unexpected());
     }
+    tokens.skip();
     let schema = schema(arena, tokens, highest)?;
     Ok(Tall {
         part: Paragraph::Defs(name, schema.part),
@@ -108,10 +109,7 @@ fn named<'a>(
             tokens.skip();
             abbreviation(arena, tokens, highest, name)
         }
-        Next::Defines => {
-            tokens.skip();
-            definition(arena, tokens, highest, name)
-        }
+        Next::Defines => definition(arena, tokens, highest, name),
         _ => Err(tokens.unexpected()),
     }
 }
