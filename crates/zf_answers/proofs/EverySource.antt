@@ -1,7 +1,8 @@
 -- Each source is read by a tree, or is refused with a fault.
 use Rattle.zf_answers.proofs.Prelude.{◌≡◌, ◌⊎◌, Err, inl, inr, List, map, Ok, refl, ℕ, box_of, BoxTree, TextFault, Token, parsed, refused, ReadsSource, RefusesSource, EverySourceIsRead}
 use Rattle.zf_scan.specs.declared.fault.TextFaultKind.TheVariants as fault
-use Rattle.zf_scan.specs.Cuts.{HasFault, IsCutInto, IsCutOrFaults}
+use Rattle.zf_scan.specs.Cuts.{HasFault, IsCutInto}
+use Rattle.zf_scan.specs.CutLaws.{IsCutOrFaults}
 use Rattle.zf_scan.specs.Separators.{reduced}
 use Rattle.zf_tree.specs.declared.tree.ZBox.{ZBox}
 use Rattle.zf_text.specs.BoxReading.{read_all}

@@ -15,7 +15,8 @@ pub use Rattle.zf_walk.proofs.Lists.{AllPairs-across, AllPairs-cons, AllPairs-he
 pub use Rattle.zf_walk.proofs.Picks.{IsRowOf-length}
 pub use Rattle.zf_walk.specs.Conjuncts.{Conjuncts, IsTruthOf}
 pub use Rattle.zf_walk.specs.Events.{Event, IsEvent}
-pub use Rattle.zf_walk.specs.Rows.{ComesAfter, HasLength, IsLater, TiesAreEqual}
+pub use Rattle.zf_walk.specs.Rows.{ComesAfter, IsLater}
+pub use Rattle.zf_walk.specs.RowLaws.{HasLength, TiesAreEqual}
 pub use Rattle.zf_walk.specs.Tests.{cut, IsNumberOfTests, IsUpTo, IsWalked}
 pub use Rattle.zf_walk.specs.declared.judge.Truth.{Truth}
 pub use Rattle.zf_walk.specs.declared.judge.Truth.TheVariants.{False, Out, True}
@@ -23,7 +24,8 @@ pub use Rattle.zf_value.proofs.Exact.{exact}
 pub use Rattle.zf_value.specs.Sets.{value_order}
 pub use Rattle.zf_value.specs.declared.TheConstants.{SET_MAX}
 pub use Rattle.zf_value.specs.declared.plain.Value.{Elem, Int, SetOf, Tuple, Value}
-pub use Rattle.zf_tree.specs.Trees.{box_of, BoxTree}
+pub use Rattle.zf_tree.specs.TreeViews.{box_of}
+pub use Rattle.zf_tree.specs.Trees.{BoxTree}
 pub use Rattle.zf_scan.specs.declared.fault.TextFault.{TextFault}
 pub use Rattle.zf_scan.specs.declared.token.Token.{Token}
 pub use Rattle.zf_text.proofs.Answers.{only_one, parsed, refused}
@@ -45,18 +47,19 @@ pub use Rattle.zf_total.proofs.Listed.{Decided, decided_lists, decided_same, dec
 pub use Rattle.zf_total.proofs.Orders.{AllPairs-mapped, Contains-map, Contains-mapped}
 pub use Rattle.zf_texts.proofs.OneRow.{one_row}
 pub use Rattle.zf_texts.specs.BindingTexts.{binding_text, component_text}
-pub use Rattle.zf_texts.specs.Clear.{AreClear, Ends, is_in_word}
+pub use Rattle.zf_texts.specs.Clear.{AreClear}
+pub use Rattle.zf_texts.specs.Words.{Ends, is_in_word}
 pub use Rattle.zf_texts.specs.Spellings.{spellings}
 pub use Rattle.zf_enum.proofs.EventLaws.{one_ranges}
-pub use Rattle.zf_enum.specs.Portions.{behind, Portion, portion}
+pub use Rattle.zf_enum.specs.PortionViews.{behind, portion}
+pub use Rattle.zf_enum.specs.Portions.{Portion}
 pub use Rattle.zf_enum.specs.Property.{HasTruth, property}
 pub use Rattle.zf_enum.specs.Ranges.{IsFirstOut, IsNoneOut}
 pub use Rattle.zf_command.specs.declared.job.Job.{Job}
 pub use Rattle.zf_command.specs.declared.job.Job.TheVariants.{Check, Show}
 pub use Rattle.zf_command.specs.declared.job.Request.{Request}
 pub use Rattle.zf_lines.specs.Faults.{IsFront}
-pub use Rattle.zf_lines.specs.Searches.{AreEventsUpTo, HasEvents, Hold, IsBegun, IsBelow, IsTestsLine, IsWithin, IsWritten, lines, out_line}
-pub use Rattle.zf_lines.specs.Shown.{HasLimit}
+pub use Rattle.zf_lines.specs.Searches.{AreEventsUpTo, HasEvents, Hold, IsBegun, IsBelow, IsTestsLine, IsWithin, IsWritten, lines, out_line, HasLimit}
 pub use Rattle.zf_lines.specs.Texts.{binding_line, tests_line}
 pub use Rattle.zf_lines.specs.declared.fault.Status.{Status}
 pub use Rattle.zf_lines.specs.declared.fault.Status.TheVariants.{BadRequest, BadSpec, PastBounds}

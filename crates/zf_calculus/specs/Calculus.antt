@@ -26,14 +26,6 @@ nothing = schema_of [] []
 abbrev pub comp_named : List ℕ → List Comp → Option (ℕ × Comp)
 comp_named = first_named (λ c. c.name)
 
--- no two have one name
-abbrev pub EachOnce : {A : Type 0} → (A → List ℕ) → List A → Type 0
-EachOnce name [] = Unit {0}
-EachOnce name (a ∷ rest) = (first_named name (name a) rest ≡ None) × EachOnce name rest
-
-abbrev pub AreOnce : List Comp → Type 0
-AreOnce = EachOnce (λ c. c.name)
-
 -- ---- components of one name
 
 -- the component has the type of the one that has its name, if one has

@@ -1,3 +1,4 @@
 pub mod Calculus
+pub mod CalculusLaws
 pub mod Steps
 pub mod Growth

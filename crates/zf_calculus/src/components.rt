@@ -1,13 +1,15 @@
 //! Components of a schema: which has a name, which agree, and one more.
 ghost use Rattle.std.specs.Prelude.{◌≡◌, ◌++◌, ◌∷◌, [], ◌<◌, ◌≤◌, ◌↔◌, IsTrue, IfErr, IfOk, OnOk, MatchOption, Some, None, map, length, slice_index_or, slice_set};
 ghost use Rattle.zf_term.specs.declared.schema.Component.{Component};
-ghost use Rattle.zf_term.specs.Definitions.{Comp, comp_of};
-ghost use Rattle.zf_reference.specs.Numbering.{place_in};
+ghost use Rattle.zf_term.specs.Definitions.{Comp};
+ghost use Rattle.zf_term.specs.SchemaViews.{comp_of};
+ghost use Rattle.zf_reference.specs.NumberingViews.{place_in};
 ghost use Rattle.zf_term.specs.Faults.{clash, too_large};
-ghost use Rattle.zf_term.specs.Types.{type_of};
+ghost use Rattle.zf_term.specs.TypeViews.{type_of};
 ghost use Rattle.zf_term.specs.declared.fault.Limit.TheVariants as limit;
 ghost use Rattle.zf_calculus.specs.Calculus as spec;
-ghost use Rattle.zf_calculus.specs.Calculus.{Agrees, Agree, comp_named, new_place, with_comp, with_comps, AreOnce};
+ghost use Rattle.zf_calculus.specs.Calculus.{Agrees, Agree, comp_named, new_place, with_comp, with_comps};
+ghost use Rattle.zf_calculus.specs.CalculusLaws.{AreOnce};
 ghost use Rattle.zf_calculus.specs.Growth.{AreAt, IfStopped, enriched, place_named};
 ghost use Rattle.zf_term.specs.Limits.{AreFew, components_max};
 ghost use Rattle.zf_calculus.specs.Steps.{Clashes, OneClashes};

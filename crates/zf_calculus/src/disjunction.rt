@@ -1,10 +1,12 @@
 //! Disjunctions of schemas.
 ghost use Rattle.std.specs.Prelude.{◌≡◌, ◌++◌, IfErr, IfOk, List, OnOk, flat_map, map};
 ghost use Rattle.zf_data.specs.Chunks.{all_of};
-ghost use Rattle.zf_term.specs.Definitions.{Comp, batch_of, comp_of, conjunct_of, schema_of, set_of};
+ghost use Rattle.zf_term.specs.Definitions.{Comp};
+ghost use Rattle.zf_term.specs.SchemaViews.{batch_of, comp_of, conjunct_of, schema_of, set_of};
 ghost use Rattle.zf_term.specs.ResolvedTrees.{ResolvedTree};
 ghost use Rattle.zf_term.specs.Shapes as shape;
-ghost use Rattle.zf_term.specs.Types.{type_of};
+ghost use Rattle.zf_term.specs.ShapeViews as shape_views;
+ghost use Rattle.zf_term.specs.TypeViews.{type_of};
 ghost use Rattle.zf_term.specs.Faults.{too_large};
 ghost use Rattle.zf_term.specs.declared.fault.Limit.TheVariants as limit;
 ghost use Rattle.zf_calculus.specs.Calculus as spec;
@@ -166,7 +168,7 @@ fn constraints<'a>(
     flat: &Flat<'a>,
     places: &Places<'a>,
 ) -> Result<Batches<'a>, AllocError>
-    ensures { IfOk result (λ bs. all_of (map batch_of bs) ≡ map (shape.moved (shape.numbering places.now)) (spec.constraints (schema_of flat.now))) }
+    ensures { IfOk result (λ bs. all_of (map batch_of bs) ≡ map (shape.moved (shape_views.numbering places.now)) (spec.constraints (schema_of flat.now))) }
 {
     let pieces = flat.conjuncts.pieces()?;
     let mut batches = Items::with_room(arena, pieces.len().saturating_add(1))?;
@@ -182,7 +184,7 @@ fn push_batches<'a>(
     places: &Places<'a>,
     batches: &mut Items<'a, Batch<'a>>,
 ) -> Result<(), AllocError>
-    ensures { OnOk result (all_of (map batch_of batches.new) ≡ all_of (map batch_of batches.old) ++ map (shape.moved (shape.numbering places.now)) (map conjunct_of (all_of pieces.now))) }
+    ensures { OnOk result (all_of (map batch_of batches.new) ≡ all_of (map batch_of batches.old) ++ map (shape.moved (shape_views.numbering places.now)) (map conjunct_of (all_of pieces.now))) }
 {
     for piece in pieces {
         push_batch(piece.share()?, places, batches)?;
@@ -196,7 +198,7 @@ fn push_batch<'a>(
     places: &Places<'a>,
     batches: &mut Items<'a, Batch<'a>>,
 ) -> Result<(), AllocError>
-    ensures { OnOk result (all_of (map batch_of batches.new) ≡ all_of (map batch_of batches.old) ++ map (shape.moved (shape.numbering places.now)) (map conjunct_of conjuncts.entry)) }
+    ensures { OnOk result (all_of (map batch_of batches.new) ≡ all_of (map batch_of batches.old) ++ map (shape.moved (shape_views.numbering places.now)) (map conjunct_of conjuncts.entry)) }
 {
     if conjuncts.get().len() == 0 {
         return Ok(());
@@ -210,7 +212,7 @@ fn other_places<'a>(
     components: &[Component<'a>],
     among: &[Component<'a>],
 ) -> Result<Places<'a>, AllocError>
-    ensures { IfOk result (λ places. (t : ResolvedTree) → shape.moved (shape.numbering places) t ≡ shape.moved (new_place (map comp_of components.now) (map comp_of among.now)) t) }
+    ensures { IfOk result (λ places. (t : ResolvedTree) → shape.moved (shape_views.numbering places) t ≡ shape.moved (new_place (map comp_of components.now) (map comp_of among.now)) t) }
 {
     let places = new_places(arena, components, among)?;
     if are_own(places.as_slice()) {

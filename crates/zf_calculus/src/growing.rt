@@ -1,9 +1,10 @@
 //! Schemas that grow within the limits.
 ghost use Rattle.std.specs.Prelude.{◌≡◌, ◌∷◌, [], ◌++◌, ◌↔◌, IfErr, IfOk, IsTrue, OnOk, length, map};
-ghost use Rattle.zf_term.specs.Definitions.{comp_of, conjunct_of, schema_of};
+ghost use Rattle.zf_term.specs.SchemaViews.{comp_of, conjunct_of, schema_of};
 ghost use Rattle.zf_term.specs.ResolvedTrees.{ResolvedTree};
-ghost use Rattle.zf_reference.specs.Numbering.{place_in};
-ghost use Rattle.zf_term.specs.Shapes.{moved, numbering};
+ghost use Rattle.zf_reference.specs.NumberingViews.{place_in};
+ghost use Rattle.zf_term.specs.Shapes.{moved};
+ghost use Rattle.zf_term.specs.ShapeViews.{numbering};
 ghost use Rattle.zf_calculus.specs.Calculus.{Agree, Agrees, conjoined, new_place, nothing};
 ghost use Rattle.zf_calculus.specs.Steps.{Adds, Clashes, Includes, IsNext, OneClashes, Stops};
 ghost use Rattle.zf_calculus.specs.Growth.{HasLeftBeside, IsGrowing, IfStopped, constrained, equalities, equality, grown};

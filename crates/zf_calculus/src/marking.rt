@@ -1,7 +1,7 @@
 //! Decorated schemas, and those of operations on a state.
 ghost use Rattle.std.specs.Prelude.{◌≡◌, ◌++◌, ℕ, IfErr, IfOk, List, OnOk, length, map};
-ghost use Rattle.zf_term.specs.Definitions.{comp_of, schema_of};
-ghost use Rattle.zf_reference.specs.Numbering.{place_in};
+ghost use Rattle.zf_term.specs.SchemaViews.{comp_of, schema_of};
+ghost use Rattle.zf_reference.specs.NumberingViews.{place_in};
 ghost use Rattle.zf_calculus.specs.Calculus as spec;
 ghost use Rattle.zf_calculus.specs.Calculus.{Agree, MarkAgrees, comp, decorated, delta, new_place, prime, xi};
 ghost use Rattle.zf_calculus.specs.Steps.{IsNext, MarkClashes, OneClashes, Stops};

@@ -8,7 +8,7 @@ use Rattle.zf_enum.specs.Starts.{Begins}
 use Rattle.zf_lines.specs.declared.fault.RunFault.{RunFault}
 use Rattle.zf_walk.specs.Events.{Event}
 use Rattle.zf_walk.specs.Tests.{IsNumberOfTests}
-use Rattle.zf_lines.specs.Faults.{AppendsFront}
+use Rattle.zf_lines.specs.FaultViews.{AppendsFront}
 use Rattle.zf_engine.specs.Faults.{Gave}
 use Rattle.zf_lines.specs.Searches.{AreEventsUpTo, HasEvents, IsBegun, IsTestsLine, IsWritten}
 use Rattle.zf_lines.specs.Shown.{FindsEvents, IsSome, StopsShown, TellsTests, WritesAll}

@@ -14,11 +14,13 @@ pub use Rattle.zf_value.specs.declared.plain.Value.{Value}
 pub use Rattle.zf_tree.specs.Names.{spelling}
 pub use Rattle.zf_tree.specs.Trees.{both, DeclTree, either, include, Links, no_decls, no_trees, Perhaps, schema_bracket, schema_text, SchemaTree, Tree, tree, Trees, var_decl, VarDecls, vars}
 pub use Rattle.zf_term.proofs.Behind.{onto_behind}
-pub use Rattle.zf_term.specs.Definitions.{carrier, Comp, comp_of, DeclaredSet, Defined, globals_of, plain, Schema, schema, schema_of, sides}
+pub use Rattle.zf_term.specs.Definitions.{carrier, Comp, DeclaredSet, Defined, plain, Schema, schema, sides}
+pub use Rattle.zf_term.specs.SchemaViews.{comp_of, schema_of}
+pub use Rattle.zf_term.specs.DefinitionViews.{globals_of}
 pub use Rattle.zf_term.specs.FirstNamed.{first_named, later, or_else}
 pub use Rattle.zf_term.specs.ResolvedTrees.{binary, bracket, builder, chain, constant, empty_set, listed, number, quantified, reference, ResolvedTree, unary}
 pub use Rattle.zf_term.specs.Shapes.{conjuncts, is_and, is_conjunction, line_of, moved}
-pub use Rattle.zf_term.specs.TermLaws.{references}
+pub use Rattle.zf_term.specs.References.{references}
 pub use Rattle.zf_type.specs.Refusals.{fault_of}
 pub use Rattle.zf_type.specs.Resolving.{bound, referent, resolved, resolved_all, resolved_links, resolved_part, resolved_ranges}
 pub use Rattle.zf_schema.specs.WellTypedGlobals.{AreWellTyped}
@@ -26,15 +28,16 @@ pub use Rattle.zf_meaning.specs.Environments.{Environment}
 pub use Rattle.zf_meaning.specs.Envs.{environment_of}
 pub use Rattle.zf_texts.specs.Spellings.{spellings}
 pub use Rattle.zf_texts.specs.declared.spelling.Spelling.{Spelling}
-pub use Rattle.zf_enum.specs.Portions.{Portion, portion}
+pub use Rattle.zf_enum.specs.Portions.{Portion}
+pub use Rattle.zf_enum.specs.PortionViews.{portion}
 pub use Rattle.zf_enum.specs.Property.{due, due_of, greatest_place, place_named, property}
 pub use Rattle.zf_enum.specs.Searches.{counted_goal, Goal, planted_goal}
 pub use Rattle.zf_command.specs.declared.job.Request.{Request}
 pub use Rattle.zf_lines.proofs.Beginning.{at_start, counting_at_start}
 pub use Rattle.zf_lines.specs.declared.fault.Status.{Status}
-pub use Rattle.zf_engine.specs.Answers.{Answer, AnswersReader, AnswersSource, AreHeld, Checks, HasSchema, IsAsked, IsNamed, IsNamedRow, IsSearch, ShowAnswer, ShowBegins, stated, stated_size, StopsInReader, StopsInSource, UnreadAnswer}
+pub use Rattle.zf_engine.specs.Answers.{Answer, AnswersReader, AnswersSource, AreHeld, Checks, HasSchema, IsAsked, IsNamed, IsNamedRow, IsSearch, ShowAnswer, ShowBegins, stated, stated_size, StopsInReader, UnreadAnswer}
+pub use Rattle.zf_engine.specs.Stops.{StopsInSource, AnswersOver, AnswersRequest, AnswersShow, IfAnswered, IsFaultLine, Shows, Tells, TellsInfinite, TellsMisfit, TellsNoRow, TellsNoValues, TellsOut, TellsPlace, TellsPlaceHeld}
 pub use Rattle.zf_engine.specs.Statuses.{IsStatus, IsStatusOfRefused, IsWorkStatus}
-pub use Rattle.zf_engine.specs.Stops.{AnswersOver, AnswersRequest, AnswersShow, IfAnswered, IsFaultLine, Shows, Tells, TellsInfinite, TellsMisfit, TellsNoRow, TellsNoValues, TellsOut, TellsPlace, TellsPlaceHeld}
 pub use Rattle.zf_engine.specs.Details.{type_fault_lines}
 pub use Rattle.zf_engine.specs.Texts.{declared_out_line, no_schema_line}
 pub use Rattle.zf_engine.specs.declared.stop.Stop.{Stop}

@@ -2,7 +2,7 @@
 use Rattle.zf_engine.proofs.Prelude.{◌==◌, ◌∙◌, ◌∷◌, ◌≡◌, ◌≢◌, ◌⊎◌, [], ap, arith, Bool, Err, false, IfErr, inl, inr, length, List, map, Ok, Option, refl, Result, Some, subst, sym, true, ℕ, eqb-true, flat_map, Value, Comp, Defined, Schema, AreWellTyped, Environment, spellings, Spelling, Portion, Status, AreHeld, Checks, HasSchema, IsAsked, IsNamed, IsNamedRow, Request, ShowAnswer, stated, UnreadAnswer, AnswersRequest, AnswersShow, IfAnswered, IsFaultLine, TellsInfinite, TellsMisfit, TellsNoRow, TellsNoValues, TellsOut, TellsPlace, TellsPlaceHeld, type_fault_lines, Stop, Answered, OutOfMemory}
 use Rattle.zf_finite.specs.Finite.{IsFinite}
 use Rattle.zf_scan.specs.declared.fault.TextFault.{TextFault}
-use Rattle.zf_scan.specs.Cuts.{IsWantOfMemory}
+use Rattle.zf_scan.specs.CutViews.{IsWantOfMemory}
 use Rattle.zf_text.specs.Parsing.{RefusesSource}
 use Rattle.zf_term.specs.Faults.{Fault}
 use Rattle.zf_schema.proofs.WellTyped.{globals_well_typed}
@@ -10,7 +10,8 @@ use Rattle.zf_meaning.specs.GlobalOutcomes.{IsEnvironment}
 use Rattle.zf_meaning.specs.Sizes.{given_sets, AreComplete}
 use Rattle.zf_texts.specs.BindingTexts.{binding_text}
 use Rattle.zf_texts.specs.Clear.{AreClear}
-use Rattle.zf_texts.specs.Held.{IsHeldLine, IsNoHeldLine}
+use Rattle.zf_texts.specs.Held.{IsHeldLine}
+use Rattle.zf_texts.specs.HeldLaws.{IsNoHeldLine}
 use Rattle.zf_texts.specs.Readings.{IsNoLine}
 use Rattle.zf_names.proofs.Clear.{globals_clear}
 use Rattle.zf_lines.specs.declared.fault.Status.TheVariants.{BadSpec}

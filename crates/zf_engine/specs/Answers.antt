@@ -36,8 +36,7 @@ use Rattle.zf_lines.specs.declared.fault.Status.TheVariants.{Done, BadSpec, BadR
 use Rattle.zf_lines.specs.Faults.{IsFront}
 use Rattle.zf_lines.specs.Texts.{binding_line}
 use Rattle.zf_engine.specs.Faults.{Gave}
-use Rattle.zf_lines.specs.Searches.{HasEvents, IsTestsLine, IsWritten, IsBegun}
-use Rattle.zf_lines.specs.Shown.{HasLimit}
+use Rattle.zf_lines.specs.Searches.{HasEvents, IsTestsLine, IsWritten, IsBegun, HasLimit}
 use Rattle.zf_engine.specs.Details.{text_fault_lines, type_fault_lines, not_finite_lines}
 use Rattle.zf_engine.specs.Texts.{no_schema_line, no_size_line, not_given_line, size_twice_line, size_too_large_line, not_a_binding_line, not_held_line, declared_out_line}
 
@@ -196,9 +195,6 @@ abbrev pub IsPartOfAnswer : Job → List ℕ → List ℕ → List ℕ → Type 
 IsPartOfAnswer job file source written =
     (written ≡ []) ⊎ (((text : List ℕ) × (status : Status) × Answer job file source text status × IsFront text written)
     ⊎ ((text : List ℕ) × JobBegins job source text × IsFront text written))
-
-abbrev pub StopsInSource : Job → List ℕ → List ℕ → Option (List ℕ) → Option (List ℕ) → Type 0
-StopsInSource job file source old new = (written : List ℕ) × IsPartOfAnswer job file source written × Appends old new written
 
 -- the same for the bytes that a reader gave, which had `given` before the call and has `left` after it
 abbrev pub AnswersReader : Job → List ℕ → Option (List ℕ) → Option (List ℕ) → Option (List ℕ) → Option (List ℕ) → Status → Type 0

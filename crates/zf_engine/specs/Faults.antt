@@ -1,18 +1,7 @@
 -- The statuses of a process, and what a reader gave.
 use Rattle.std.specs.Prelude.{◌≡◌, ◌≤◌, ℕ, ◌+◌, ◌⊎◌, List, length, Option}
 use Rattle.std.specs.Io.KnownBytes.{Consumes, IsAtEnd}
-use Rattle.zf_command.specs.declared.job.UsageFault.{UsageFault}
-use Rattle.zf_command.specs.declared.job.UsageFault.TheVariants.{BadWords, OutOfMemory}
 use Rattle.zf_scan.specs.declared.scan.TheConstants.{SOURCE_MAX}
-
--- the status where the words are refused
-abbrev pub refused_number : UsageFault → ℕ
-refused_number BadWords = 2
-refused_number OutOfMemory = 4
-
--- the greatest: a file can't be opened, or a read or a write failed
-abbrev pub number_max : ℕ
-number_max = 5
 
 -- the reader gave these bytes, and is at its end or gave one byte more than a source may have
 abbrev pub Gave : Option (List ℕ) → Option (List ℕ) → List ℕ → Type 0

@@ -4,8 +4,19 @@ use Rattle.zf_command.specs.declared.job.Asked.TheVariants.{About, Work}
 use Rattle.zf_command.specs.declared.job.Job.{Job}
 use Rattle.zf_command.specs.Jobs.{IsAsked, IsRefused}
 use Rattle.zf_lines.specs.declared.fault.Status.{Status}
-use Rattle.zf_lines.specs.Faults.{number}
+use Rattle.zf_lines.specs.FaultViews.{number}
 use Rattle.zf_engine.specs.Answers.{Answer}
+use Rattle.zf_command.specs.declared.job.UsageFault.{UsageFault}
+use Rattle.zf_command.specs.declared.job.UsageFault.TheVariants.{BadWords, OutOfMemory}
+
+-- the status where the words are refused
+abbrev pub refused_number : UsageFault → ℕ
+refused_number BadWords = 2
+refused_number OutOfMemory = 4
+
+-- the greatest: a file can't be opened, or a read or a write failed
+abbrev pub number_max : ℕ
+number_max = 5
 
 -- the number of the status of an answer of the job on some source: which bytes the file has is not known here
 abbrev pub IsAnswered : Job → (file : List ℕ) → ℕ → Type 0

@@ -20,10 +20,14 @@ use Rattle.zf_lines.specs.declared.fault.Status.TheVariants.{BadSpec, BadRequest
 use Rattle.zf_engine.specs.declared.stop.Stop.{Stop}
 use Rattle.zf_engine.specs.declared.stop.Stop.TheVariants.{Answered, OutOfMemory}
 use Rattle.zf_command.specs.declared.job.Request.{Request}
-use Rattle.zf_engine.specs.Answers.{Answer, AnswersSource, Checks, HoldsNoValues, NamesNoRow, StopsInSource, size_fault_line}
-use Rattle.zf_lines.specs.Faults.{AppendsFront}
+use Rattle.zf_engine.specs.Answers.{Answer, AnswersSource, Checks, HoldsNoValues, NamesNoRow, size_fault_line, IsPartOfAnswer}
+use Rattle.zf_lines.specs.FaultViews.{AppendsFront}
 use Rattle.zf_engine.specs.Details.{not_finite_lines, text_fault_lines}
 use Rattle.zf_engine.specs.Texts.{declared_out_line, not_a_binding_line, not_held_line}
+use Rattle.zf_command.specs.declared.job.Job.{Job}
+
+abbrev pub StopsInSource : Job → List ℕ → List ℕ → Option (List ℕ) → Option (List ℕ) → Type 0
+StopsInSource job file source old new = (written : List ℕ) × IsPartOfAnswer job file source written × Appends old new written
 
 -- ---- answers that are whole
 

@@ -2,13 +2,14 @@
 ghost use Rattle.std.specs.Prelude.{◌≡◌, ℕ, List, [], true, IfOk, IfErr, OnErr};
 ghost use Rattle.std.specs.Option.{option_copied};
 ghost use Rattle.zf_command.specs.declared.job.Job.TheVariants.{Check};
-ghost use Rattle.zf_engine.specs.Answers.{Answer, AnswersSource, AreHeld, Checks, IsAsked, IsLimited, IsNamedRow, StopsInSource};
+ghost use Rattle.zf_engine.specs.Answers.{Answer, AnswersSource, AreHeld, Checks, IsAsked, IsLimited, IsNamedRow};
+ghost use Rattle.zf_engine.specs.Stops.{StopsInSource, IfAnswered, Shows, Tells};
 ghost use Rattle.zf_lines.specs.Counts.{device_of, failures_of};
 ghost use Rattle.zf_lines.specs.Faults.{read_failures, write_failures};
-ghost use Rattle.zf_engine.specs.Stops.{IfAnswered, Shows, Tells};
-ghost use Rattle.zf_lines.specs.Shown.{HasLimit};
+ghost use Rattle.zf_lines.specs.Searches.{HasLimit};
 ghost use Rattle.zf_meaning.specs.Envs.{environment_of};
-ghost use Rattle.zf_term.specs.Definitions.{globals_of, schema_of};
+ghost use Rattle.zf_term.specs.DefinitionViews.{globals_of};
+ghost use Rattle.zf_term.specs.SchemaViews.{schema_of};
 ghost use Rattle.zf_texts.specs.Spellings.{spellings};
 
 use crate::asked::{Asked, asked_in};

@@ -7,7 +7,8 @@ ghost use Rattle.zf_finite.specs.Finite.{IsFinite};
 ghost use Rattle.zf_meaning.specs.Envs.{environment_of};
 ghost use Rattle.zf_meaning.specs.GlobalOutcomes.{IsEnvironment};
 ghost use Rattle.zf_meaning.specs.Sizes.{given_sets, AreComplete};
-ghost use Rattle.zf_term.specs.Definitions.{globals_of, schema_of};
+ghost use Rattle.zf_term.specs.DefinitionViews.{globals_of};
+ghost use Rattle.zf_term.specs.SchemaViews.{schema_of};
 
 use crate::details::not_finite_lines;
 use crate::stop::Stop;

@@ -5,8 +5,8 @@ ghost use Rattle.zf_engine.specs.Answers.{Checks, CheckAnswer, UnreadAnswer, che
 ghost use Rattle.zf_engine.specs.Stops.{IfAnswered, IsFaultLine};
 ghost use Rattle.zf_engine.specs.Details.{type_fault_lines};
 ghost use Rattle.zf_text.specs.Parsing.{ReadsSource};
-ghost use Rattle.zf_tree.specs.Trees.{boxes_of};
-ghost use Rattle.zf_term.specs.Definitions.{globals_of};
+ghost use Rattle.zf_tree.specs.TreeViews.{boxes_of};
+ghost use Rattle.zf_term.specs.DefinitionViews.{globals_of};
 ghost use Rattle.zf_type.specs.Refusals.{fault_of};
 
 use crate::details::{text_fault_lines, type_fault_lines};

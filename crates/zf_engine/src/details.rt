@@ -1,11 +1,11 @@
 //! The lines that say what a fault is about, behind its own.
 ghost use Rattle.std.specs.Prelude.{◌≡◌, ◌++◌, codes, IfOk, OnOk, slice_get};
 ghost use Rattle.zf_engine.specs.Details as spec;
-ghost use Rattle.zf_term.specs.Definitions.{globals_of};
+ghost use Rattle.zf_term.specs.DefinitionViews.{globals_of};
 ghost use Rattle.zf_term.specs.TypeTexts.{type_text};
-ghost use Rattle.zf_term.specs.Types.{type_of};
+ghost use Rattle.zf_term.specs.TypeViews.{type_of};
 ghost use Rattle.zf_type.specs.Refusals.{fault_of, offence_of};
-ghost use Rattle.zf_type.specs.Rules.{sort_of};
+ghost use Rattle.zf_type.specs.RuleViews.{sort_of};
 
 use crate::texts::{fault_line, not_finite_text, text_fault_line, type_fault_line};
 use itoa::Buffer;

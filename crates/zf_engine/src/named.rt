@@ -3,7 +3,7 @@ ghost use Rattle.std.specs.Prelude.{◌≡◌, IfOk, IfErr, option_map};
 ghost use Rattle.zf_engine.specs.Answers.{IsLineOf, IsNamedRow, NamesNoRow};
 ghost use Rattle.zf_engine.specs.Stops.{IfAnswered, TellsNoRow, TellsPlace};
 ghost use Rattle.zf_meaning.specs.Envs.{environment_of};
-ghost use Rattle.zf_term.specs.Definitions.{schema_of};
+ghost use Rattle.zf_term.specs.SchemaViews.{schema_of};
 ghost use Rattle.zf_texts.specs.Clear.{AreClear};
 ghost use Rattle.zf_texts.specs.Spellings.{spellings};
 

@@ -1,8 +1,7 @@
 //! All that the program does: words in, a status out.
 ghost use Rattle.std.specs.Prelude.{◌≡◌, ◌≤◌, ◌⊎◌, map};
 ghost use Rattle.zf_engine.specs.Answers.{IsLimited};
-ghost use Rattle.zf_engine.specs.Faults.{number_max, refused_number};
-ghost use Rattle.zf_engine.specs.Statuses.{IsStatus, IsStatusOfRefused, IsWorkStatus};
+ghost use Rattle.zf_engine.specs.Statuses.{number_max, refused_number, IsStatus, IsStatusOfRefused, IsWorkStatus};
 
 use crate::run::run;
 use std::convert::AsStr;

@@ -2,7 +2,7 @@
 ghost use Rattle.std.specs.Prelude.{[], IfOk, IfErr};
 ghost use Rattle.zf_engine.specs.Answers.{Checks};
 ghost use Rattle.zf_engine.specs.Stops.{AnswersShow};
-ghost use Rattle.zf_term.specs.Definitions.{globals_of};
+ghost use Rattle.zf_term.specs.DefinitionViews.{globals_of};
 
 use crate::check::{checked_in, fault_lines};
 use crate::stop::Stop;

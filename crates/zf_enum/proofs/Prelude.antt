@@ -11,7 +11,8 @@ pub use Rattle.zf_walk.proofs.Moving.{range-is}
 pub use Rattle.zf_walk.proofs.Picks.{AreWithin-push, length-picked, nth-at, picked-push}
 pub use Rattle.zf_walk.specs.Picked.{AreWithin, picked}
 pub use Rattle.zf_walk.specs.Progress.{Ahead, AreAllAhead, AreDueWithin}
-pub use Rattle.zf_walk.specs.Rows.{AreAscending, HasLength, IsRowOf}
+pub use Rattle.zf_walk.specs.RowLaws.{AreAscending, HasLength}
+pub use Rattle.zf_walk.specs.Rows.{IsRowOf}
 pub use Rattle.zf_walk.specs.declared.judge.Truth.{Truth}
 pub use Rattle.zf_plan.proofs.Alike.{all_ahead, itself, same_events}
 pub use Rattle.zf_plan.specs.Alike.{SayTheSame}
@@ -23,8 +24,9 @@ pub use Rattle.zf_reference.specs.declared.reference.Reference.TheVariants.{Comp
 pub use Rattle.zf_value.proofs.Among.{ascending-push, every_at, every_from, member_at, members-append, members-push, members-take_more, take_all}
 pub use Rattle.zf_value.proofs.Exact.{exact}
 pub use Rattle.zf_value.proofs.Seen.{members-SetOf, parts-Tuple}
-pub use Rattle.zf_value.specs.Sets.{Every, IsAscending, IsMember, members, parts, value_order}
-unfoldable pub use Rattle.zf_value.specs.Sets.{HaveSameMembers}
+pub use Rattle.zf_value.specs.Sets.{Every, IsAscending, IsMember, members, value_order}
+pub use Rattle.zf_value.specs.SetLaws.{parts}
+unfoldable pub use Rattle.zf_value.specs.ListLaws.{HaveSameMembers}
 pub use Rattle.zf_value.specs.declared.value.Outcome.{Outcome}
 pub use Rattle.zf_value.specs.declared.value.Outcome.TheVariants.{Is, Out, Undefined}
 pub use Rattle.zf_value.specs.declared.plain.Value.{SetOf, Tuple, Value}
@@ -32,10 +34,14 @@ pub use Rattle.zf_tree.specs.declared.operator.Unary.TheVariants.{Not}
 pub use Rattle.zf_tree.specs.declared.symbol.Relation.TheVariants.{Equal}
 pub use Rattle.zf_term.proofs.ResolvedSeen.{link-seen, of-Binary, of-Chain, of-Name, of-Unary, range-seen}
 pub use Rattle.zf_term.proofs.SetsSeen.{of-Either}
-pub use Rattle.zf_term.specs.Definitions.{carrier, Comp, comp_of, conjunct_of, DeclaredSet, DeclaredSets, Defined, globals_of, plain, schema_of, set_of, sets_of, sides}
-pub use Rattle.zf_term.specs.ResolvedTrees.{absent, binary, bracket, builder, chain, constant, empty_set, link, links, listed, no_links, no_ranges, no_terms, number, present, quantified, range, range_of, Ranges, ranges, reference, resolved_link_of, resolved_of, ResolvedLinks, ResolvedPart, ResolvedTree, ResolvedTrees, term, terms, unary}
-pub use Rattle.zf_term.specs.TermLaws.{references}
-pub use Rattle.zf_term.specs.Types.{has_numbers, power, product, Ty, type_of, types, Tys}
+pub use Rattle.zf_term.specs.Definitions.{carrier, Comp, DeclaredSet, DeclaredSets, Defined, plain, sets_of, sides}
+pub use Rattle.zf_term.specs.SchemaViews.{comp_of, conjunct_of, schema_of, set_of}
+pub use Rattle.zf_term.specs.DefinitionViews.{globals_of}
+pub use Rattle.zf_term.specs.ResolvedTrees.{absent, binary, bracket, builder, chain, constant, empty_set, link, listed, no_links, no_ranges, no_terms, number, present, quantified, range, Ranges, reference, ResolvedLinks, ResolvedPart, ResolvedTree, ResolvedTrees, term, unary}
+pub use Rattle.zf_term.specs.ResolvedViews.{links, range_of, ranges, resolved_link_of, resolved_of, terms}
+pub use Rattle.zf_term.specs.References.{references}
+pub use Rattle.zf_term.specs.Types.{has_numbers, power, product, Ty, types, Tys}
+pub use Rattle.zf_term.specs.TypeViews.{type_of}
 pub use Rattle.zf_term.specs.declared.conjunct.Conjunct.{Conjunct}
 pub use Rattle.zf_term.specs.declared.extent.Infinite.{Infinite}
 pub use Rattle.zf_term.specs.declared.schema.Domain.{Domain}

@@ -4,7 +4,9 @@ pub mod Dues
 pub mod DeclaredSets
 pub mod Ranges
 pub mod Portions
+pub mod PortionViews
 pub mod Events
+pub mod EventLaws
 pub mod Parts
 pub mod Components
 pub mod Starts

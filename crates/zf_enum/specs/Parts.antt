@@ -2,7 +2,8 @@
 use Rattle.std.specs.Prelude.{◌≡◌, ◌⊎◌, ◌↔◌, ℕ, ◌<◌, true, List, [], ◌∷◌, ◌++◌, length, get_or, Option}
 use Rattle.zf_term.specs.declared.schema.Domain.{Domain}
 use Rattle.zf_finite.specs.Finite.{bounds}
-use Rattle.zf_term.specs.Definitions.{Defined, DeclaredSet, DeclaredSets, set_of}
+use Rattle.zf_term.specs.Definitions.{Defined, DeclaredSet, DeclaredSets}
+use Rattle.zf_term.specs.SchemaViews.{set_of}
 use Rattle.zf_value.specs.declared.plain.Value.{Value}
 use Rattle.zf_value.specs.Sets.{IsMember, IsAscending, members}
 use Rattle.zf_value.specs.declared.value.Outcome.{Outcome}

@@ -1,7 +1,8 @@
 -- Predicates as trees over their parts that are no connectives. No public clause rests on this.
 use Rattle.std.specs.Prelude.{◌≡◌, ◌↔◌, ℕ, ◌<◌, ◌≤◌, List, [], ◌∷◌, ◌++◌, length, map, Some, slice_get}
 use Rattle.zf_term.specs.declared.resolved.Resolved.{Resolved}
-use Rattle.zf_term.specs.ResolvedTrees.{ResolvedTree, resolved_of}
+use Rattle.zf_term.specs.ResolvedTrees.{ResolvedTree}
+use Rattle.zf_term.specs.ResolvedViews.{resolved_of}
 use Rattle.zf_value.specs.declared.plain.Value.{Value}
 use Rattle.zf_walk.specs.declared.judge.Truth.{Truth}
 use Rattle.zf_plan.specs.Trees.{Tree, IsTreeTruth, HasLeavesWithin, tree_at}

@@ -1,6 +1,7 @@
 -- What a search for bindings is seen as.
 use Rattle.std.specs.Prelude.{ℕ, List, Option, Some, None, map, take}
-use Rattle.zf_term.specs.ResolvedTrees.{ResolvedTree, resolved_of}
+use Rattle.zf_term.specs.ResolvedTrees.{ResolvedTree}
+use Rattle.zf_term.specs.ResolvedViews.{resolved_of}
 use Rattle.zf_value.specs.declared.plain.Value.{Value}
 use Rattle.zf_walk.specs.Conjuncts.{Conjuncts}
 use Rattle.zf_walk.specs.Progress as walk

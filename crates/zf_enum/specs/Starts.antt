@@ -1,7 +1,7 @@
 -- What a search begins with, and why none can be started.
 use Rattle.std.specs.Prelude.{◌≡◌, List, map, None}
 use Rattle.zf_term.specs.Definitions.{Comp, Schema}
-use Rattle.zf_term.specs.ResolvedTrees.{resolved_of}
+use Rattle.zf_term.specs.ResolvedViews.{resolved_of}
 use Rattle.zf_value.specs.declared.plain.Value.{Value}
 use Rattle.zf_value.specs.Sets.{value_order}
 use Rattle.zf_walk.specs.Progress.{AreAllAhead, Stage}

@@ -2,7 +2,7 @@
 ghost use Rattle.std.specs.Prelude.{◌≡◌, ◌≤◌, length, IfOk, OnOk, OnErr};
 ghost use Rattle.std.specs.Option.{option_copied};
 ghost use Rattle.zf_value.specs.Sets.{value_order};
-ghost use Rattle.zf_walk.specs.Rows.{AreAscending, HasLength};
+ghost use Rattle.zf_walk.specs.RowLaws.{AreAscending, HasLength};
 ghost use Rattle.zf_walk.specs.Progress.{AreDueWithin, ended, AreAllAhead, SameProblem, Advances, Stays, AreTests, IsBounded};
 ghost use Rattle.zf_enum.specs.Searches.{judged};
 

@@ -1,7 +1,8 @@
 //! The ranges of components.
 ghost use Rattle.std.specs.Prelude.{◌≡◌, IsTrue, IfOk, IfErr, map, option_map};
 ghost use Rattle.std.specs.List.{AllByRecursion};
-ghost use Rattle.zf_term.specs.Definitions.{comp_of, sets_of};
+ghost use Rattle.zf_term.specs.SchemaViews.{comp_of};
+ghost use Rattle.zf_term.specs.Definitions.{sets_of};
 ghost use Rattle.zf_finite.specs.Finite.{one_bounds};
 ghost use Rattle.zf_meaning.specs.Envs.{environment_of};
 ghost use Rattle.zf_enum.specs.Components.{AreAllRanges, IsOneRange, IsOutBy, held_at};

@@ -1,6 +1,6 @@
 //! Conjuncts, with what those leave that ask for values of variables.
 ghost use Rattle.std.specs.Prelude.{◌≡◌, ◌<◌, ◌^◌, ℕ, IfOk, IfSome, get_or, length, map, slice_get};
-ghost use Rattle.zf_term.specs.ResolvedTrees.{resolved_of};
+ghost use Rattle.zf_term.specs.ResolvedViews.{resolved_of};
 ghost use Rattle.zf_enum.specs.Property.{due_of};
 ghost use Rattle.zf_enum.specs.Spreads.{IsSpread};
 
@@ -23,7 +23,7 @@ impl<'a> Model for Conjuncts<'a> {
     ghost use Rattle.std.specs.Coded.{codes};
     ghost use Rattle.zf_term.specs.contracts.resolved.Resolved as term;
     ghost use Rattle.zf_term.specs.declared.resolved.Resolved as program;
-    ghost use Rattle.zf_term.specs.ResolvedTrees.{resolved_of};
+    ghost use Rattle.zf_term.specs.ResolvedViews.{resolved_of};
     ghost use Rattle.zf_enum.specs.Spreads.{AreSpreads};
 
     ghost Value = { List program.Resolved };

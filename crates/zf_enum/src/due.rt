@@ -1,6 +1,6 @@
 //! Which components a term needs.
 ghost use Rattle.std.specs.Prelude.{◌≡◌, ◌<◌, ◌^◌, max, map};
-ghost use Rattle.zf_term.specs.ResolvedTrees.{resolved_of, resolved_link_of, range_of, terms, links, ranges, part_of};
+ghost use Rattle.zf_term.specs.ResolvedViews.{resolved_of, resolved_link_of, range_of, terms, links, ranges, part_of};
 ghost use Rattle.zf_enum.specs.Property as spec;
 ghost use Rattle.zf_enum.specs.Dues.{place_after, place_up_to, need, all_need, links_need, ranges_need, part_need};
 

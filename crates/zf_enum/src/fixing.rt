@@ -2,7 +2,8 @@
 ghost use Rattle.std.specs.Prelude.{◌≡◌, IfSome, IsTrue};
 ghost use Rattle.zf_reference.specs.declared.reference.Reference.TheVariants.{Component};
 ghost use Rattle.zf_tree.specs.declared.symbol.Relation.TheVariants.{Equal};
-ghost use Rattle.zf_term.specs.ResolvedTrees.{resolved_of, reference};
+ghost use Rattle.zf_term.specs.ResolvedViews.{resolved_of};
+ghost use Rattle.zf_term.specs.ResolvedTrees.{reference};
 ghost use Rattle.zf_enum.specs.Fixing.{IsName, IsBeside, Fixes};
 
 use crate::due::uses;

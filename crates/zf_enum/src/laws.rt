@@ -1,5 +1,5 @@
 //! Laws of the definitions.
-ghost use Rattle.zf_enum.specs.Events.{OneRanges, OneEvents, EventsResume, TestsAreBound};
+ghost use Rattle.zf_enum.specs.EventLaws.{OneRanges, OneEvents, EventsResume, TestsAreBound};
 ghost use Rattle.zf_enum.specs.Instances.{HaveSameEvents};
 
 /// A schema in an environment has one list of ranges, and one of events.

@@ -1,8 +1,8 @@
 //! The values of a declared set that is no disjunction.
 ghost use Rattle.std.specs.Prelude.{◌≡◌, true, IfOk, IfErr};
 ghost use Rattle.zf_term.specs.Definitions.{plain, carrier};
-ghost use Rattle.zf_term.specs.ResolvedTrees.{resolved_of};
-ghost use Rattle.zf_term.specs.Types.{type_of};
+ghost use Rattle.zf_term.specs.ResolvedViews.{resolved_of};
+ghost use Rattle.zf_term.specs.TypeViews.{type_of};
 ghost use Rattle.zf_value.specs.Sets.{IsAscending};
 ghost use Rattle.zf_meaning.specs.Environments.{globally};
 ghost use Rattle.zf_meaning.specs.Envs.{environment_of};

@@ -1,6 +1,6 @@
 //! Properties in which closed parts are names.
 ghost use Rattle.std.specs.Prelude.{◌<◌, ◌^◌, ℕ, IfOk, map, slice_get};
-ghost use Rattle.zf_term.specs.ResolvedTrees.{resolved_of};
+ghost use Rattle.zf_term.specs.ResolvedViews.{resolved_of};
 ghost use Rattle.zf_meaning.specs.Envs.{environment_of};
 ghost use Rattle.zf_lift.specs.Lifted.{AreLifted};
 ghost use Rattle.zf_enum.specs.Property.{due_of};

@@ -1,6 +1,7 @@
 //! Which values are of a type.
 ghost use Rattle.std.specs.Prelude.{◌≡◌, ◌↔◌, ◌<◌, IsTrue, IsSomeAnd, map};
-ghost use Rattle.zf_term.specs.Types.{type_of, types, power, product};
+ghost use Rattle.zf_term.specs.TypeViews.{type_of};
+ghost use Rattle.zf_term.specs.Types.{types, power, product};
 ghost use Rattle.zf_value.specs.declared.plain.Value.{Elem};
 ghost use Rattle.zf_meaning.specs.Environments.{type_number};
 ghost use Rattle.zf_meaning.specs.Envs.{environment_of};
@@ -22,7 +23,7 @@ pub(crate) struct OfType<'t, 'e, 'g, 'a> {
 }
 
 impl<'t, 'e, 'g, 'a> Test for OfType<'t, 'e, 'g, 'a> {
-    ghost use Rattle.zf_term.specs.Types.{type_of};
+    ghost use Rattle.zf_term.specs.TypeViews.{type_of};
     ghost use Rattle.zf_meaning.specs.Envs.{environment_of};
     ghost use Rattle.zf_meaning.specs.Rows.{IsOfType};
 

@@ -1,7 +1,7 @@
 //! Predicates as trees over their parts that are no connectives.
 ghost use Rattle.std.specs.Prelude.{◌≡◌, IfOk, OnOk, map};
-ghost use Rattle.zf_term.specs.Definitions.{conjunct_of, schema_of};
-ghost use Rattle.zf_term.specs.ResolvedTrees.{resolved_of};
+ghost use Rattle.zf_term.specs.SchemaViews.{conjunct_of, schema_of};
+ghost use Rattle.zf_term.specs.ResolvedViews.{resolved_of};
 ghost use Rattle.zf_plan.specs.Groves.{trees_of};
 ghost use Rattle.zf_enum.specs.Planting.{Plants, PlantsNext, ArePlanted};
 

@@ -1,6 +1,6 @@
 //! The property of a schema in an environment, as the judge of a walk.
 ghost use Rattle.std.specs.Prelude.{◌≡◌, ◌<◌, ◌^◌, ℕ, IfOk, map, slice_get};
-ghost use Rattle.zf_term.specs.ResolvedTrees.{resolved_of};
+ghost use Rattle.zf_term.specs.ResolvedViews.{resolved_of};
 ghost use Rattle.zf_enum.specs.Property.{due, due_of, told};
 
 use crate::candidates::{Tie, gather_candidates, gather_spread};
@@ -30,7 +30,7 @@ pub struct Property<'e, 'g, 'a> {
 
 impl<'e, 'g, 'a> Judge<Value> for Property<'e, 'g, 'a> {
     ghost use Rattle.std.specs.Prelude.{map};
-    ghost use Rattle.zf_term.specs.ResolvedTrees.{resolved_of};
+    ghost use Rattle.zf_term.specs.ResolvedViews.{resolved_of};
     ghost use Rattle.zf_meaning.specs.Envs.{environment_of};
     ghost use Rattle.zf_enum.specs.Property as spec;
     ghost use Rattle.zf_enum.specs.PropertyLaws.{has_one_truth, keeps_truths, follows_used};

@@ -1,6 +1,8 @@
 //! The values that lie in declared sets.
 ghost use Rattle.std.specs.Prelude.{◌≡◌, ◌≤◌, ◌<◌, true, IfOk, IfErr, MatchOption, length, map, option_map, slice_get};
-ghost use Rattle.zf_term.specs.Definitions.{globals_of, set_of, sets_of};
+ghost use Rattle.zf_term.specs.DefinitionViews.{globals_of};
+ghost use Rattle.zf_term.specs.SchemaViews.{set_of};
+ghost use Rattle.zf_term.specs.Definitions.{sets_of};
 ghost use Rattle.zf_meaning.specs.Envs.{environment_of};
 ghost use Rattle.zf_finite.specs.Finite as spec;
 ghost use Rattle.zf_value.specs.Sets.{IsAscending};

@@ -1,14 +1,14 @@
 //! Where a search begins.
 ghost use Rattle.std.specs.Prelude.{◌≡◌, length, IfOk, IfErr, map};
 ghost use Rattle.std.specs.Option.{option_copied};
-ghost use Rattle.zf_term.specs.Definitions.{conjunct_of, schema_of};
-ghost use Rattle.zf_term.specs.ResolvedTrees.{resolved_of};
+ghost use Rattle.zf_term.specs.SchemaViews.{conjunct_of, schema_of};
+ghost use Rattle.zf_term.specs.ResolvedViews.{resolved_of};
 ghost use Rattle.zf_finite.specs.Finite.{IsFinite};
 ghost use Rattle.zf_walk.specs.Progress.{AreDueWithin};
-ghost use Rattle.zf_walk.specs.Rows.{HasLength};
+ghost use Rattle.zf_walk.specs.RowLaws.{HasLength};
 ghost use Rattle.zf_meaning.specs.Envs.{environment_of};
 ghost use Rattle.zf_enum.specs.Property.{property};
-ghost use Rattle.zf_enum.specs.Portions.{portion};
+ghost use Rattle.zf_enum.specs.PortionViews.{portion};
 ghost use Rattle.zf_enum.specs.Starts.{Refuses, BeginsCounting};
 
 use crate::bindings::Bindings;

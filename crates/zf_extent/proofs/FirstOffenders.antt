@@ -9,7 +9,7 @@ use Rattle.zf_term.specs.declared.resolved.ResolvedLink.{ResolvedLink}
 use Rattle.zf_term.specs.Definitions.{Defined}
 use Rattle.zf_extent.specs.declared.offender.Offender.{Offender}
 use Rattle.zf_extent.specs.Extents.{first, unless, tested, is_last, offending, all_offending, links_offending, ranges_offending, part_offending}
-use Rattle.zf_term.specs.ResolvedTrees.{resolved_of, resolved_link_of, range_of, terms, links, ranges, part_of}
+use Rattle.zf_term.specs.ResolvedViews.{resolved_of, resolved_link_of, range_of, terms, links, ranges, part_of}
 use Rattle.zf_term.specs.FirstNamed.{or_else}
 use Rattle.zf_term.proofs.Choices.{or_none, or_else_assoc}
 use Rattle.zf_term.proofs.Walk.{dropped}

@@ -9,9 +9,12 @@ use Rattle.zf_term.specs.declared.conjunct.Batch.{Batch}
 use Rattle.zf_term.specs.declared.conjunct.Conjunct.{Conjunct}
 use Rattle.zf_term.specs.declared.conjunct.Conjunct.TheVariants as v
 use Rattle.zf_term.specs.declared.resolved.Resolved.{Resolved}
-use Rattle.zf_term.specs.Definitions.{Defined, all_joined, batch_of, both_hold, conjunct_of, is_member, joined, one_holds}
-use Rattle.zf_term.specs.ResolvedTrees.{ResolvedTree, resolved_of}
-use Rattle.zf_term.specs.Shapes.{moved, numbering}
+use Rattle.zf_term.specs.Definitions.{Defined, all_joined, both_hold, is_member, joined, one_holds}
+use Rattle.zf_term.specs.SchemaViews.{batch_of, conjunct_of}
+use Rattle.zf_term.specs.ResolvedTrees.{ResolvedTree}
+use Rattle.zf_term.specs.ResolvedViews.{resolved_of}
+use Rattle.zf_term.specs.Shapes.{moved}
+use Rattle.zf_term.specs.ShapeViews.{numbering}
 use Rattle.zf_term.specs.FirstNamed.{or_else}
 use Rattle.zf_term.proofs.Choices.{or_else_assoc}
 use Rattle.zf_term.proofs.ConjunctsSeen.{batch-seen, of-Either, of-Member, of-Term}

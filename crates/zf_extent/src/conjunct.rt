@@ -1,7 +1,8 @@
 //! What offends in conjuncts.
 ghost use Rattle.std.specs.Prelude.{◌≡◌, flat_map, map};
 ghost use Rattle.zf_data.specs.Chunks.{all_of};
-ghost use Rattle.zf_term.specs.Definitions.{batch_of, conjunct_of, globals_of};
+ghost use Rattle.zf_term.specs.SchemaViews.{batch_of, conjunct_of};
+ghost use Rattle.zf_term.specs.DefinitionViews.{globals_of};
 ghost use Rattle.zf_term.specs.FirstNamed.{or_else};
 ghost use Rattle.zf_extent.specs.Extents as extents;
 

@@ -1,8 +1,8 @@
 //! Infinite sets in terms: which terms are one, and what offends.
 ghost use Rattle.std.specs.Prelude.{◌≡◌, map};
-ghost use Rattle.zf_term.specs.Definitions.{definition_of, globals_of};
+ghost use Rattle.zf_term.specs.DefinitionViews.{definition_of, globals_of};
 ghost use Rattle.zf_extent.specs.Extents as spec;
-ghost use Rattle.zf_term.specs.ResolvedTrees.{resolved_of, resolved_link_of, range_of, terms, links, ranges, part_of};
+ghost use Rattle.zf_term.specs.ResolvedViews.{resolved_of, resolved_link_of, range_of, terms, links, ranges, part_of};
 ghost use Rattle.zf_term.specs.FirstNamed.{or_else};
 
 use crate::offender::Offender;

@@ -16,7 +16,9 @@ pub use Rattle.zf_value.proofs.Exact.{cmp_is, exact, ties}
 pub use Rattle.zf_value.proofs.Seen.{members-SetOf, parts-Tuple}
 pub use Rattle.zf_value.specs.Operations.{AreFrom, IsBetween, IsFunctional, IsInjective, IsRelationThat, IsSubset, IsTotal, pair, Relates}
 unfoldable pub use Rattle.zf_value.specs.Operations.{ArePartialFunctions, ArePartialInjections, AreRelations, AreTotalFunctions, AreTotalInjections, IsCross, IsPower}
-pub use Rattle.zf_value.specs.Sets.{Every, IsAscending, IsMember, IsSetOf, members, parts, row_order, value_order}
+pub use Rattle.zf_value.specs.Sets.{Every, IsAscending, IsMember, IsSetOf, members, value_order}
+pub use Rattle.zf_value.specs.SetLaws.{parts}
+pub use Rattle.zf_value.specs.ListLaws.{row_order}
 unfoldable pub use Rattle.zf_value.specs.Sets.{AreAmong}
 pub use Rattle.zf_value.specs.declared.TheConstants.{SET_MAX}
 pub use Rattle.zf_value.specs.declared.plain.Value.{out-Value, SetOf, Tuple, Value}

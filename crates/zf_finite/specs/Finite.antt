@@ -1,5 +1,5 @@
 -- Which schemas are finite: whose bindings are among those of finite sets, where each given set is finite.
-use Rattle.std.specs.Prelude.{◌≡◌, ◌↔◌, IsTrue, ℕ, Bool, true, false, not, ◌&&◌, ◌||◌, if◌then◌else◌, List, [], ◌∷◌, ◌++◌, flat_map, map, Option, Some, None}
+use Rattle.std.specs.Prelude.{◌≡◌, IsTrue, ℕ, Bool, true, false, not, ◌&&◌, ◌||◌, if◌then◌else◌, List, [], ◌∷◌, ◌++◌, flat_map, map, Option, Some, None}
 use Rattle.std.specs.List.{AllByRecursion}
 use Rattle.zf_term.specs.declared.extent.Infinite.{Infinite}
 use Rattle.zf_term.specs.Definitions.{Comp, Schema, DeclaredSet, plain, carrier, sides, DeclaredSets, no_sets, set, sets_of, Defined}
@@ -82,7 +82,3 @@ pub record IsFinite (g : List Defined) (a : Schema) : Type 0 where
   pub bounded : AllByRecursion (λ c. IsTrue (one_bounds g (sets_of c.sets))) a.comps
   pub sets : AllByRecursion (λ c. all_set_offenders g (sets_of c.sets) ≡ []) a.comps
   pub conjuncts : AllByRecursion (λ t. offending g t ≡ []) a.conjuncts
-
--- a schema is finite exactly where nothing makes it infinite
-abbrev pub FiniteWithoutCause : Type 0
-FiniteWithoutCause = (g : List Defined) (a : Schema) → IsFinite g a ↔ (causes g a ≡ [])

@@ -1,6 +1,8 @@
 //! Which schemas are finite.
 ghost use Rattle.std.specs.Prelude.{◌≡◌, OnOk, IfErr, Some, flat_map, map};
-ghost use Rattle.zf_term.specs.Definitions.{comp_of, conjunct_of, globals_of, schema_of, set_of, sets_of};
+ghost use Rattle.zf_term.specs.SchemaViews.{comp_of, conjunct_of, schema_of, set_of};
+ghost use Rattle.zf_term.specs.DefinitionViews.{globals_of};
+ghost use Rattle.zf_term.specs.Definitions.{sets_of};
 ghost use Rattle.zf_extent.specs.Extents.{first};
 ghost use Rattle.zf_extent.specs.Extents as extents;
 ghost use Rattle.zf_term.specs.FirstNamed.{or_else};

@@ -7,12 +7,16 @@ pub use Rattle.std.specs.Prelude.{◌≢◌, AllPairs, codes, Contains, FitsSign
 pub use Rattle.std.specs.declared.cmp.Ordering.{Ordering}
 pub use Rattle.std.specs.declared.cmp.Ordering.TheVariants.{Equal, Greater, Less}
 pub use Rattle.zf_walk.specs.Conjuncts.{Conjuncts, IsTruthOf}
-pub use Rattle.zf_walk.specs.Events.{Event, IsEvent, IsEvents}
-pub use Rattle.zf_walk.specs.Rows.{ComesAfter, IsFrontOf, IsLater, IsRowOf, TiesAreEqual}
-pub use Rattle.zf_walk.specs.Tests.{cut, IsBound, IsNumber, IsNumberOfTests, IsPair, IsReached, IsUpTo, IsWalked}
+pub use Rattle.zf_walk.specs.Events.{Event, IsEvent}
+pub use Rattle.zf_walk.specs.EventLists.{IsEvents}
+pub use Rattle.zf_walk.specs.Rows.{ComesAfter, IsFrontOf, IsLater, IsRowOf}
+pub use Rattle.zf_walk.specs.RowLaws.{TiesAreEqual}
+pub use Rattle.zf_walk.specs.Tests.{cut, IsNumber, IsNumberOfTests, IsPair, IsReached, IsUpTo, IsWalked}
+pub use Rattle.zf_walk.specs.TestBounds.{IsBound}
 pub use Rattle.zf_walk.specs.declared.judge.Truth.{Truth}
 pub use Rattle.zf_walk.specs.declared.judge.Truth.TheVariants.{False, Out, True}
-pub use Rattle.zf_value.specs.Sets.{Every, IsAscending, IsMember, members, parts, value_order}
+pub use Rattle.zf_value.specs.Sets.{Every, IsAscending, IsMember, members, value_order}
+pub use Rattle.zf_value.specs.SetLaws.{parts}
 pub use Rattle.zf_value.specs.declared.plain.Value.{Elem, Int, SetOf, Tuple, Value}
 pub use Rattle.zf_term.specs.Definitions.{carrier, Comp, DeclaredSet, DeclaredSets, no_sets, plain, Schema, set, sets_of, sides}
 pub use Rattle.zf_term.specs.ResolvedTrees.{ResolvedTree}

@@ -6,7 +6,7 @@ use Rattle.zf_value.specs.declared.value.Truth.TheVariants as truth
 use Rattle.zf_value.proofs.Exact.{exact}
 use Rattle.zf_walk.specs.declared.judge.Truth as walk
 use Rattle.zf_meaning.specs.InRow.{in_row}
-use Rattle.zf_enum.specs.Events.{AreEvents, IsBoundOf}
+use Rattle.zf_enum.specs.EventLaws.{AreEvents, IsBoundOf}
 use Rattle.zf_enum.specs.Portions.{Portion}
 use Rattle.zf_enum.specs.Property.{HasTruth, told, property}
 use Rattle.zf_enum.specs.PropertyLaws.{one_truth_in}

@@ -6,7 +6,7 @@ use Rattle.zf_finite.specs.Finite.{one_bounds}
 use Rattle.zf_value.specs.declared.plain.Value.{Value}
 use Rattle.zf_walk.specs.Events.{Event}
 use Rattle.zf_meaning.specs.Environments.{Environment}
-use Rattle.zf_enum.specs.Events.{AreEvents, IsBoundOf}
+use Rattle.zf_enum.specs.EventLaws.{AreEvents, IsBoundOf}
 use Rattle.zf_enum.specs.Portions.{Portion}
 use Rattle.zf_enum.specs.Ranges.{AreRanges, IsNoneOut, IsFirstOut}
 use Rattle.zf_lines.specs.declared.fault.Status.{Status}

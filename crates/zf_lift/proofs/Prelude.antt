@@ -14,7 +14,8 @@ pub use Rattle.zf_tree.specs.declared.symbol.Quantifier.{Quantifier}
 pub use Rattle.zf_tree.specs.declared.symbol.Relation.{Relation}
 pub use Rattle.zf_term.proofs.ResolvedSeen.{link-seen, new_link, new_range, of-Binary, of-Bracket, of-Builder, of-Chain, of-Constant, of-EmptySet, of-link, of-Listed, of-Name, of-Number, of-Quantified, of-range, of-Unary, range-seen}
 pub use Rattle.zf_term.specs.Definitions.{Defined}
-pub use Rattle.zf_term.specs.ResolvedTrees.{absent, binary, bracket, builder, chain, constant, empty_set, link, links, listed, no_links, no_ranges, no_terms, number, part_of, present, quantified, range, range_of, Ranges, ranges, reference, resolved_link_of, resolved_of, ResolvedLinks, ResolvedPart, ResolvedTree, ResolvedTrees, term, terms, unary}
+pub use Rattle.zf_term.specs.ResolvedTrees.{absent, binary, bracket, builder, chain, constant, empty_set, link, listed, no_links, no_ranges, no_terms, number, present, quantified, range, Ranges, reference, ResolvedLinks, ResolvedPart, ResolvedTree, ResolvedTrees, term, unary}
+pub use Rattle.zf_term.specs.ResolvedViews.{links, part_of, range_of, ranges, resolved_link_of, resolved_of, terms}
 pub use Rattle.zf_term.specs.declared.extent.Infinite.{Infinite}
 pub use Rattle.zf_extent.specs.Extents.{direct, extent_found, extent_set, is_membership}
 pub use Rattle.zf_meaning.specs.Environments.{Context, Environment, outcome_in, outcome_or, within}

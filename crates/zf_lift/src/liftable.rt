@@ -1,6 +1,7 @@
 //! Which parts of a predicate are worth a name.
 ghost use Rattle.std.specs.Prelude.{◌≡◌, ℕ};
-ghost use Rattle.zf_term.specs.ResolvedTrees.{ResolvedTree, unary, binary, resolved_of};
+ghost use Rattle.zf_term.specs.ResolvedTrees.{ResolvedTree, unary, binary};
+ghost use Rattle.zf_term.specs.ResolvedViews.{resolved_of};
 ghost use Rattle.zf_lift.specs.Lifts as spec;
 
 use zf_term::resolved::Resolved;

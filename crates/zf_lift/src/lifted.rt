@@ -1,6 +1,6 @@
 //! Predicates in which closed parts are names.
 ghost use Rattle.std.specs.Prelude.{◌≡◌, IfOk, IfSome, OnOk, true, map};
-ghost use Rattle.zf_term.specs.ResolvedTrees.{resolved_of};
+ghost use Rattle.zf_term.specs.ResolvedViews.{resolved_of};
 ghost use Rattle.zf_meaning.specs.Envs.{environment_of};
 ghost use Rattle.zf_lift.specs.Lifted.{IsLonger, AreLifted};
 ghost use Rattle.zf_lift.specs.Lists.{AreAllLifts};

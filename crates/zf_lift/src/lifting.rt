@@ -1,7 +1,8 @@
 //! Terms in which closed parts are names of what they come to.
 ghost use Rattle.std.specs.Prelude.{◌≡◌, ◌<◌, ℕ, true, false, IfOk, OnOk, length, map};
 ghost use Rattle.zf_reference.specs.declared.reference.Reference.TheVariants as names;
-ghost use Rattle.zf_term.specs.ResolvedTrees.{ResolvedTree, reference as reference_tree, resolved_of, resolved_link_of, range_of, terms, links, ranges, part_of};
+ghost use Rattle.zf_term.specs.ResolvedTrees.{ResolvedTree, reference as reference_tree};
+ghost use Rattle.zf_term.specs.ResolvedViews.{resolved_of, resolved_link_of, range_of, terms, links, ranges, part_of};
 ghost use Rattle.zf_meaning.specs.Environments.{Environment};
 ghost use Rattle.zf_meaning.specs.Envs.{environment_of};
 ghost use Rattle.zf_lift.specs.Lifted.{IsLonger};

@@ -21,7 +21,8 @@ pub use Rattle.zf_walk.specs.declared.judge.Truth.TheVariants.{Out, True}
 pub use Rattle.zf_walk.specs.declared.step.Step.TheVariants.{Breaks, End, Holds}
 pub use Rattle.zf_value.specs.Sets.{value_order}
 pub use Rattle.zf_value.specs.declared.plain.Value.{Value}
-pub use Rattle.zf_term.specs.Definitions.{Comp, comp_of, Schema, schema_of}
+pub use Rattle.zf_term.specs.Definitions.{Comp, Schema}
+pub use Rattle.zf_term.specs.SchemaViews.{comp_of, schema_of}
 pub use Rattle.zf_meaning.specs.Environments.{Environment}
 pub use Rattle.zf_texts.proofs.Printing.{ahead-further, drop-end, line-ended, texts-drop, texts-nil}
 pub use Rattle.zf_texts.specs.BindingTexts.{binding_text, component_text, component_texts}
@@ -34,7 +35,7 @@ pub use Rattle.zf_lines.specs.Columns.{AreColumns, head_of, Keeps, part_at}
 unfoldable pub use Rattle.zf_lines.specs.Columns.{AreTexts}
 pub use Rattle.zf_lines.specs.Counts.{device_of, failures_of}
 pub use Rattle.zf_lines.specs.Ends.{ending_status, EndsBy, IsEnd, last_text}
-pub use Rattle.zf_lines.specs.Faults.{AppendsFront}
-pub use Rattle.zf_lines.specs.Searches.{AreEventsUpTo, Hold, IsBegun, IsBelow, IsWithin, IsWritten, lines, out_line}
-pub use Rattle.zf_lines.specs.Shown.{FindsEvents, HasLimit, IsAtStart, IsCountingAtStart, StopsLines, TellsTests, WritesAll}
+pub use Rattle.zf_lines.specs.FaultViews.{AppendsFront}
+pub use Rattle.zf_lines.specs.Searches.{AreEventsUpTo, Hold, IsBegun, IsBelow, IsWithin, IsWritten, lines, out_line, HasLimit}
+pub use Rattle.zf_lines.specs.Shown.{FindsEvents, IsAtStart, IsCountingAtStart, StopsLines, TellsTests, WritesAll}
 pub use Rattle.zf_lines.specs.Texts.{binding_line, tests_line}

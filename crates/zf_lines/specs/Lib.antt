@@ -1,5 +1,7 @@
 pub mod Counts
+pub mod CountViews
 pub mod Faults
+pub mod FaultViews
 pub mod Texts
 pub mod Columns
 pub mod Searches

@@ -35,6 +35,11 @@ lines line events = flat_map (λ e. line e.row) events
 abbrev pub out_line : {V : Type 0} → (List V → List ℕ) → List V → List ℕ
 out_line line row = codes "out of bounds at: " ++ line row
 
+-- a limit is at least 1
+abbrev pub HasLimit : Option ℕ → Type 0
+HasLimit None = Unit {0}
+HasLimit (Some limit) = 0 < limit
+
 -- so many are fewer than the limit, if there is one
 abbrev pub IsBelow : Option ℕ → ℕ → Type 0
 IsBelow None n = Unit {0}

@@ -1,9 +1,9 @@
 -- What is written of a search that stands at its beginning.
-use Rattle.std.specs.Prelude.{◌≡◌, ◌⊎◌, ℕ, ◌<◌, Bool, true, false, List, [], ◌++◌, map, Option, Some, None}
+use Rattle.std.specs.Prelude.{◌≡◌, ◌⊎◌, ℕ, Bool, true, false, List, [], ◌++◌, map, Option, None}
 use Rattle.zf_term.specs.Definitions.{Schema}
 use Rattle.zf_value.specs.declared.plain.Value.{Value}
 use Rattle.zf_walk.specs.Events.{Event}
-use Rattle.zf_term.specs.ResolvedTrees.{resolved_of}
+use Rattle.zf_term.specs.ResolvedViews.{resolved_of}
 use Rattle.zf_value.specs.Sets.{value_order}
 use Rattle.zf_walk.specs.Progress.{AreAllAhead, Stage}
 use Rattle.zf_walk.specs.Tests.{IsNumberOfTests, cut}
@@ -13,14 +13,9 @@ use Rattle.zf_enum.specs.declared.bindings.Bindings.{Bindings}
 use Rattle.zf_enum.specs.Property.{property}
 use Rattle.zf_enum.specs.Searches.{Goal, conjuncts_of, counted_goal}
 use Rattle.zf_lines.specs.declared.fault.Status.{Status}
-use Rattle.zf_lines.specs.Faults.{AppendsFront}
+use Rattle.zf_lines.specs.FaultViews.{AppendsFront}
 use Rattle.zf_lines.specs.Searches.{AreEventsUpTo, IsBegun, IsWritten}
 use Rattle.zf_lines.specs.Texts.{tests_line}
-
--- a limit is at least 1
-abbrev pub HasLimit : Option ℕ → Type 0
-HasLimit None = Unit {0}
-HasLimit (Some limit) = 0 < limit
 
 -- the search for the bindings of the schema that lie in its ranges and come after its row is at its beginning
 pub record IsAtStart (a : Schema) (g : Goal) (b : Stage Value) : Type 0 where

@@ -1,7 +1,7 @@
 //! The parts of lines that were printed, so that each is worked out once.
 ghost use Rattle.std.specs.Prelude.{◌≡◌, ◌<◌, ◌++◌, ℕ, List, length, IfOk, OnOk, IfSome};
 ghost use Rattle.zf_lines.specs.Columns.{AreColumns, Keeps, head_of};
-ghost use Rattle.zf_term.specs.Definitions.{comp_of, schema_of};
+ghost use Rattle.zf_term.specs.SchemaViews.{comp_of, schema_of};
 ghost use Rattle.zf_texts.specs.declared.spelling.Spelling as spelling;
 ghost use Rattle.zf_value.specs.declared.plain.Value as value;
 

@@ -2,7 +2,8 @@
 ghost use Rattle.std.specs.Prelude.{◌≡◌, is_err};
 ghost use Rattle.std.specs.Io.{ReadsAtMost, WritesAtMost};
 ghost use Rattle.std.specs.Io.KnownBytes.{Keeps, ReadConsumes, WriteAppends};
-ghost use Rattle.zf_lines.specs.Counts.{count_after, device_of, failures_of, is_failed_write};
+ghost use Rattle.zf_lines.specs.CountViews.{count_after, is_failed_write};
+ghost use Rattle.zf_lines.specs.Counts.{device_of, failures_of};
 
 use std::io;
 use std::io::{Read, Write};

@@ -1,6 +1,6 @@
 //! How a run ends: its statuses and its faults.
 ghost use Rattle.std.specs.Prelude.{◌≡◌};
-ghost use Rattle.zf_lines.specs.Faults as spec;
+ghost use Rattle.zf_lines.specs.FaultViews as spec;
 ghost use Rattle.zf_lines.specs.declared.fault.RunFault.TheVariants.{OutOfMemory};
 
 use std::alloc::{AllocError, AllocFailed};

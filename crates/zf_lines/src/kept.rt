@@ -2,7 +2,7 @@
 ghost use Rattle.std.specs.Prelude.{◌≡◌, ◌<◌, ◌++◌, [], length, OnOk, IsSomeAnd, slice_index_or};
 ghost use Rattle.zf_lines.specs.Columns.{AreColumns, Keeps, part_at};
 ghost use Rattle.zf_lines.specs.Texts.{binding_line};
-ghost use Rattle.zf_term.specs.Definitions.{schema_of};
+ghost use Rattle.zf_term.specs.SchemaViews.{schema_of};
 ghost use Rattle.zf_texts.specs.BindingTexts.{binding_text};
 
 use crate::column::Column;

@@ -4,11 +4,13 @@ ghost use Rattle.std.specs.Io.KnownBytes.{Appends};
 ghost use Rattle.zf_enum.specs.Searches.{counted_goal};
 ghost use Rattle.zf_lines.specs.Columns.{AreColumns};
 ghost use Rattle.zf_lines.specs.Counts.{device_of, failures_of};
-ghost use Rattle.zf_lines.specs.Faults.{AppendsFront, read_failures, write_failures};
+ghost use Rattle.zf_lines.specs.FaultViews.{AppendsFront};
+ghost use Rattle.zf_lines.specs.Faults.{read_failures, write_failures};
 ghost use Rattle.zf_lines.specs.Ends.{EndsBy, last_text};
-ghost use Rattle.zf_lines.specs.Shown.{HasLimit, IsAtStart, IsCountingAtStart, StopsLines, StopsShown, WritesAll};
+ghost use Rattle.zf_lines.specs.Searches.{HasLimit};
+ghost use Rattle.zf_lines.specs.Shown.{IsAtStart, IsCountingAtStart, StopsLines, StopsShown, WritesAll};
 ghost use Rattle.zf_lines.specs.Texts.{binding_line};
-ghost use Rattle.zf_term.specs.Definitions.{schema_of};
+ghost use Rattle.zf_term.specs.SchemaViews.{schema_of};
 ghost use Rattle.zf_walk.specs.Progress.{SameRanges};
 
 use crate::column::{Column, columns_of};

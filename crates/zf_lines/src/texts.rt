@@ -1,7 +1,7 @@
 //! The lines of bindings and of the number of tests, each with its newline.
 ghost use Rattle.std.specs.Prelude.{◌≡◌, ◌++◌, OnOk};
 ghost use Rattle.zf_lines.specs.Texts as spec;
-ghost use Rattle.zf_term.specs.Definitions.{schema_of};
+ghost use Rattle.zf_term.specs.SchemaViews.{schema_of};
 
 use itoa::Buffer;
 use std::alloc::AllocError;

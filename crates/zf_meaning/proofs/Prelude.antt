@@ -26,7 +26,7 @@ unfoldable pub use Rattle.zf_value.specs.Numbers.{IsBetweenNumbers, IsInterval, 
 pub use Rattle.zf_value.specs.Operations.{AreFrom, IsApplied, IsEmptySet, IsSubset}
 unfoldable pub use Rattle.zf_value.specs.Operations.{AreElements, ArePartialFunctions, ArePartialInjections, AreRelations, AreTotalFunctions, AreTotalInjections, IsCross, IsDisplay, IsPower, IsSize}
 pub use Rattle.zf_value.specs.Sets.{Every, IsAscending, IsMember, IsSetOf, members, value_order}
-unfoldable pub use Rattle.zf_value.specs.Sets.{HaveSameMembers}
+unfoldable pub use Rattle.zf_value.specs.ListLaws.{HaveSameMembers}
 pub use Rattle.zf_value.specs.declared.value.Outcome.{Outcome}
 pub use Rattle.zf_value.specs.declared.value.Outcome.TheVariants.{Is, Out, Undefined}
 pub use Rattle.zf_value.specs.declared.value.Truth.{Truth}
@@ -50,10 +50,13 @@ pub use Rattle.zf_tree.specs.declared.symbol.Quantifier.{Quantifier}
 pub use Rattle.zf_tree.specs.declared.symbol.Quantifier.TheVariants.{Exists, ExistsOne, ForAll}
 pub use Rattle.zf_tree.specs.declared.symbol.Relation.{Relation}
 pub use Rattle.zf_term.proofs.ResolvedSeen.{link-seen, of-Binary, of-Bracket, of-Builder, of-Chain, of-Constant, of-EmptySet, of-Listed, of-Name, of-Number, of-Quantified, of-Unary, range-seen}
-pub use Rattle.zf_term.specs.Definitions.{abbreviation, constructor, Defined, Definition, definition_of, free_type, given_set, globals_of, schema}
+pub use Rattle.zf_term.specs.Definitions.{abbreviation, constructor, Defined, Definition, free_type, given_set, schema}
+pub use Rattle.zf_term.specs.DefinitionViews.{definition_of, globals_of}
 pub use Rattle.zf_term.specs.References.{all_onto, links_onto, onto, part_onto, ranges_onto}
-pub use Rattle.zf_term.specs.ResolvedTrees.{absent, binary, bracket, builder, chain, constant, empty_set, link, links, listed, no_links, no_ranges, no_terms, number, part_of, present, quantified, range, range_of, Ranges, ranges, reference, resolved_link_of, resolved_of, ResolvedLinks, ResolvedPart, ResolvedTree, ResolvedTrees, term, terms, unary}
-pub use Rattle.zf_term.specs.Types.{basic, int, no_types, power, product, Ty, type, type_of, types, Tys}
+pub use Rattle.zf_term.specs.ResolvedTrees.{absent, binary, bracket, builder, chain, constant, empty_set, link, listed, no_links, no_ranges, no_terms, number, present, quantified, range, Ranges, reference, ResolvedLinks, ResolvedPart, ResolvedTree, ResolvedTrees, term, unary}
+pub use Rattle.zf_term.specs.ResolvedViews.{links, part_of, range_of, ranges, resolved_link_of, resolved_of, terms}
+pub use Rattle.zf_term.specs.Types.{basic, int, no_types, power, product, Ty, type, types, Tys}
+pub use Rattle.zf_term.specs.TypeViews.{type_of}
 pub use Rattle.zf_term.specs.declared.extent.Infinite.{Infinite}
 pub use Rattle.zf_term.specs.declared.resolved.Range.{Range}
 pub use Rattle.zf_term.specs.declared.resolved.Resolved.{Resolved, size-Resolved}
@@ -66,7 +69,8 @@ pub use Rattle.zf_meaning.specs.Described.{IsDescribed, IsOfArrow, IsWithin, IsU
 unfoldable pub use Rattle.zf_meaning.specs.Described.{Describes, IsInDescribed, IsTruthIn}
 pub use Rattle.zf_meaning.specs.Early.{AreNeutral, AreNeutralIf, IsBound, IsEarlier, IsEquation, IsOther, IsPart, IsPiece, IsVariable, IsWanted, neutral, PassesBy}
 unfoldable pub use Rattle.zf_meaning.specs.Early.{ArePassed, Falsifies, IsNeutral, Refutes, Wants}
-pub use Rattle.zf_meaning.specs.Environments.{AreElementsIf, before, Context, definition_number, element_count, Environment, found_number, globally, outcome_in, type_number, value_or, with_further, within}
+pub use Rattle.zf_meaning.specs.Environments.{AreElementsIf, before, Context, definition_number, element_count, Environment, found_number, globally, outcome_in, type_number, value_or, within}
+pub use Rattle.zf_meaning.specs.Laws.{with_further}
 pub use Rattle.zf_meaning.specs.Envs.{environment_of}
 pub use Rattle.zf_meaning.specs.Found.{found_of, found_outcome}
 pub use Rattle.zf_meaning.specs.Gathered.{lack_with, several_by, several_of, values_with}

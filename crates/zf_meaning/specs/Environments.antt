@@ -69,9 +69,6 @@ globally e = record { environment = e; row = []; locals = [] }
 abbrev pub within : Context → List Value → Context
 within c vs = record { environment = c.environment; row = c.row; locals = c.locals ++ vs }
 
-abbrev pub with_further : Context → List Value → Context
-with_further c vs = record { environment = c.environment; row = c.row ++ vs; locals = c.locals }
-
 abbrev pub value_or : Option Value → Outcome
 value_or None = Undefined
 value_or (Some v) = Is v

@@ -1,8 +1,9 @@
 //! Carriers of types.
 ghost use Rattle.std.specs.Prelude.{◌≡◌, IfOk, map};
-ghost use Rattle.zf_term.specs.Definitions.{definition_of, globals_of};
+ghost use Rattle.zf_term.specs.DefinitionViews.{definition_of, globals_of};
 ghost use Rattle.zf_term.specs.FirstNamed.{first_named};
-ghost use Rattle.zf_term.specs.Types.{type_of, types};
+ghost use Rattle.zf_term.specs.TypeViews.{type_of};
+ghost use Rattle.zf_term.specs.Types.{types};
 ghost use Rattle.zf_value.specs.Operations.{IsPower};
 ghost use Rattle.zf_value.specs.Sets.{members};
 ghost use Rattle.zf_meaning.specs.Carriers.{IsCarrier, AreCarriers, IsTypeSetIf};

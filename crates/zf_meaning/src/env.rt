@@ -1,6 +1,6 @@
 //! Environments: the globals, with the sizes of given sets and free types, and the outcome of each.
 ghost use Rattle.std.specs.Prelude.{◌≡◌, [], ◌∷◌, None, Some, IfOk, IfErr, MatchOption, OnOk, length, slice_get};
-ghost use Rattle.zf_term.specs.Definitions.{globals_of};
+ghost use Rattle.zf_term.specs.DefinitionViews.{globals_of};
 ghost use Rattle.zf_meaning.specs.Envs.{environment_of, longer};
 ghost use Rattle.zf_meaning.specs.GlobalOutcomes.{IsEnvironment, AreWorkedOut};
 ghost use Rattle.zf_meaning.specs.Sizes.{given_sets, AreComplete, IsRefusal};

@@ -1,6 +1,6 @@
 //! The evaluator: the outcome of an expression, and the truth of a predicate.
 ghost use Rattle.std.specs.Prelude.{◌≡◌, IfOk, pos, slice_get};
-ghost use Rattle.zf_term.specs.ResolvedTrees.{resolved_of};
+ghost use Rattle.zf_term.specs.ResolvedViews.{resolved_of};
 ghost use Rattle.zf_value.specs.Numbers.{IsNumber};
 ghost use Rattle.zf_value.specs.Operations.{IsEmptySet};
 ghost use Rattle.zf_meaning.specs.Environments as spec;

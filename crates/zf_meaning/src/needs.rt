@@ -1,6 +1,6 @@
 //! Which bound variables a term needs.
 ghost use Rattle.std.specs.Prelude.{◌≡◌, max, map};
-ghost use Rattle.zf_term.specs.ResolvedTrees.{resolved_of, resolved_link_of, range_of, terms, links, ranges, part_of};
+ghost use Rattle.zf_term.specs.ResolvedViews.{resolved_of, resolved_link_of, range_of, terms, links, ranges, part_of};
 ghost use Rattle.zf_meaning.specs.Needs.{place_below, need, all_need, links_need, ranges_need, part_need};
 
 use zf_data::arena::{Boxed, Items};

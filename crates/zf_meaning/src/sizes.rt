@@ -1,6 +1,6 @@
 //! The sizes of the given sets.
 ghost use Rattle.std.specs.Prelude.{◌≡◌, [], ◌∷◌, ◌++◌, ◌↔◌, ℕ, Option, option_to_list, Contains, IsTrue, IfOk, IfErr, OnOk, MatchOption};
-ghost use Rattle.zf_term.specs.Definitions.{globals_of};
+ghost use Rattle.zf_term.specs.DefinitionViews.{globals_of};
 ghost use Rattle.zf_meaning.specs.Sizes.{given_sets, names, IsAccepted, AreAccepted, AreComplete, Refuses, IsRefusal, IsStated, AreSizes};
 ghost use Rattle.zf_meaning.specs.Counting.{given_at, CountsAt};
 

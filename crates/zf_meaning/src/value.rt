@@ -1,6 +1,6 @@
 //! What terms mean in a row.
 ghost use Rattle.std.specs.Prelude.{◌≡◌, [], IfOk};
-ghost use Rattle.zf_term.specs.ResolvedTrees.{resolved_of};
+ghost use Rattle.zf_term.specs.ResolvedViews.{resolved_of};
 ghost use Rattle.zf_meaning.specs.Described.{Describes};
 ghost use Rattle.zf_meaning.specs.InRow.{in_row};
 ghost use Rattle.zf_meaning.specs.Envs.{environment_of};

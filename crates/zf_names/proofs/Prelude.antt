@@ -17,4 +17,5 @@ pub use Rattle.zf_text.specs.Parsing.{ReadsSource}
 pub use Rattle.zf_text.specs.Spelling.{Next, PartedBy, Spells, SpellsBoxes, SpellsDecl, SpellsMarked, SpellsName, SpellsParagraph, SpellsPredicates, SpellsSchema}
 pub use Rattle.zf_term.specs.Definitions.{abbreviation, constructor, Defined, Definition, free_type, given_set, schema}
 pub use Rattle.zf_schema.specs.Checking.{a_box, a_paragraph, Constructs, Item, items, items_in, with_global}
-pub use Rattle.zf_texts.specs.Clear.{AreApart, AreNames, is_in_name, IsClear, IsName, IsNoneOf}
+pub use Rattle.zf_texts.specs.Clear.{AreApart, AreNames, IsClear, IsName, IsNoneOf}
+pub use Rattle.zf_texts.specs.Words.{is_in_name}

@@ -11,7 +11,9 @@ use Rattle.zf_meaning.specs.Environments.{Environment}
 use Rattle.zf_meaning.specs.GlobalOutcomes.{IsEnvironment}
 use Rattle.zf_meaning.specs.Sizes.{given_sets, AreComplete}
 use Rattle.zf_texts.specs.Clear.{AreClear}
-use Rattle.zf_texts.specs.Held.{HaveClearNames, IsHeldLine, IsLineOfSome}
+use Rattle.zf_texts.specs.HeldLaws.{HaveClearNames}
+use Rattle.zf_texts.specs.Held.{IsHeldLine}
+use Rattle.zf_texts.specs.HeldLines.{IsLineOfSome}
 use Rattle.zf_texts.specs.Spellings.{spellings}
 use Rattle.zf_value.specs.declared.plain.Value.{Value}
 

@@ -14,12 +14,14 @@ pub use Rattle.zf_walk.proofs.Given.{placed, placed_at, stands_there}
 pub use Rattle.zf_walk.proofs.Moving.{above-push, enough, range-is}
 pub use Rattle.zf_walk.proofs.Order.{greater-at, IsNth, less-at, nth, reaches-push, reaches-under, tied-at}
 pub use Rattle.zf_walk.proofs.Picks.{AreWithin-push, AreWithin-tail, AreWithin-take, IsFrontOf-picked, IsRowOf-front, IsRowOf-length, length-picked, nth-at, picked-cons, picked-nil, picked-push, slice_get-nth}
-pub use Rattle.zf_walk.specs.Conjuncts.{Conjuncts, HaveOneTruth, IsTruthOf, KeepTruths}
+pub use Rattle.zf_walk.specs.Conjuncts.{Conjuncts, IsTruthOf}
+pub use Rattle.zf_walk.specs.ConjunctLaws.{HaveOneTruth, KeepTruths}
 pub use Rattle.zf_walk.specs.Events.{Event, IsEvent}
 pub use Rattle.zf_walk.specs.Picked.{AreWithin, picked}
 pub use Rattle.zf_walk.specs.Places.{above, below, first_of, is_reached, reaches, under}
 pub use Rattle.zf_walk.specs.Progress.{Advances, Ahead, AreAllAhead, AreDueWithin, ended, IsAhead, IsNoneAhead, SameAhead, Stage, Takes}
-pub use Rattle.zf_walk.specs.Rows.{AreAscending, ComesAfter, IsRowOf, TiesAreEqual}
+pub use Rattle.zf_walk.specs.RowLaws.{AreAscending, TiesAreEqual}
+pub use Rattle.zf_walk.specs.Rows.{ComesAfter, IsRowOf}
 pub use Rattle.zf_walk.specs.declared.judge.Truth.{Truth}
 pub use Rattle.zf_walk.specs.declared.judge.Truth.TheVariants.{False, Out, True}
 pub use Rattle.zf_walk.specs.declared.step.Step.{Step}

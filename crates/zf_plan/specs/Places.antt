@@ -6,7 +6,7 @@ use Rattle.zf_walk.specs.declared.judge.Truth.TheVariants.{True, Out}
 use Rattle.zf_walk.specs.declared.step.Step.{Step}
 use Rattle.zf_walk.specs.declared.step.Step.TheVariants.{Holds, Breaks, End}
 use Rattle.zf_walk.specs.Conjuncts.{Conjuncts}
-use Rattle.zf_walk.specs.Rows.{TiesAreEqual, AreAscending, HasLength}
+use Rattle.zf_walk.specs.RowLaws.{TiesAreEqual, AreAscending, HasLength}
 use Rattle.zf_walk.specs.Events.{Event, IsEvent}
 use Rattle.zf_walk.specs.Progress.{Ahead, AreDueWithin, Takes, IsNoneAhead, ended}
 use Rattle.zf_walk.specs.Picked.{AreWithin, picked}

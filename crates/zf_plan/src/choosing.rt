@@ -2,7 +2,7 @@
 ghost use Rattle.std.specs.Prelude.{◌≡◌, ◌<◌, ◌≤◌, [], length, slice_index_or, IsTrue, IfOk, OnOk, Some};
 ghost use Rattle.zf_walk.specs.Picked.{AreWithin, picked};
 ghost use Rattle.zf_walk.specs.Progress.{AreDueWithin};
-ghost use Rattle.zf_walk.specs.Rows.{AreAscending};
+ghost use Rattle.zf_walk.specs.RowLaws.{AreAscending};
 ghost use Rattle.zf_plan.specs.Trees.{tree_at, HasLeavesWithin, HaveLeavesWithin};
 ghost use Rattle.zf_plan.specs.Groves.{trees_made, trees_of};
 ghost use Rattle.zf_plan.specs.Knowing.{Tells, AreBelow};

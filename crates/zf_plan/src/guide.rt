@@ -1,7 +1,7 @@
 //! Which values of a component leaves leave.
 ghost use Rattle.std.specs.Prelude.{◌<◌, ◌≤◌, length, IsTrue, IfOk};
 ghost use Rattle.zf_walk.specs.Picked.{AreWithin};
-ghost use Rattle.zf_walk.specs.Rows.{AreAscending};
+ghost use Rattle.zf_walk.specs.RowLaws.{AreAscending};
 ghost use Rattle.zf_plan.specs.Choices.{Leaves, StaysIn};
 
 use std::alloc::AllocError;

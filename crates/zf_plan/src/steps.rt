@@ -4,7 +4,7 @@ ghost use Rattle.std.specs.Option.{option_copied};
 ghost use Rattle.zf_walk.specs.Picked.{AreWithin, picked};
 ghost use Rattle.zf_walk.specs.Places.{is_reached};
 ghost use Rattle.zf_walk.specs.Progress.{AreDueWithin};
-ghost use Rattle.zf_walk.specs.Rows.{AreAscending};
+ghost use Rattle.zf_walk.specs.RowLaws.{AreAscending};
 ghost use Rattle.zf_plan.specs.Trees.{planted, HaveLeavesWithin};
 ghost use Rattle.zf_plan.specs.Groves.{trees_of};
 ghost use Rattle.zf_plan.specs.Knowing.{Tells};

@@ -1,6 +1,6 @@
 -- Components numbered anew: what a name stands for where the components of a schema have other places. Bound variables and globals keep their numbers, so no
 -- bound variable is captured.
-use Rattle.std.specs.Prelude.{ℕ, List, get_or}
+use Rattle.std.specs.Prelude.{ℕ}
 use Rattle.zf_reference.specs.declared.reference.Reference.{Reference}
 use Rattle.zf_reference.specs.declared.reference.Reference.TheVariants.{Component, Local, Global}
 
@@ -8,7 +8,3 @@ abbrev pub renumbered : (ℕ → ℕ) → Reference → Reference
 renumbered f (Component i) = Component (f i)
 renumbered f (Local i) = Local i
 renumbered f (Global i) = Global i
-
--- the number at this place of the list, or the place itself where there is none
-abbrev pub place_in : List ℕ → ℕ → ℕ
-place_in places i = get_or places i i

@@ -1,6 +1,7 @@
 //! References: a component, a bound variable or a global, each by its number.
 ghost use Rattle.std.specs.Prelude.{◌≡◌};
 ghost use Rattle.zf_reference.specs.Numbering as spec;
+ghost use Rattle.zf_reference.specs.NumberingViews as spec_views;
 
 /// What a name stands for.
 #[derive(Clone, Copy, PartialEq, Eq)]
@@ -16,7 +17,7 @@ pub enum Reference {
 impl Reference {
     /// The same, with the component numbered anew where the list has a number for it.
     pub fn moved(self, places: &[usize]) -> Reference
-        ensures { result ≡ spec.renumbered (spec.place_in places.now) self }
+        ensures { result ≡ spec.renumbered (spec_views.place_in places.now) self }
     {
         match self {
             Reference::Component(place) => Reference::Component(place_in(places, place)),
@@ -28,7 +29,7 @@ impl Reference {
 
 /// The number at the place, or the place itself where there is none.
 pub fn place_in(places: &[usize], place: usize) -> usize
-    ensures { result ≡ spec.place_in places.now place }
+    ensures { result ≡ spec_views.place_in places.now place }
 {
     match places.get(place) {
         Some(other) => *other,

@@ -13,9 +13,12 @@ use Rattle.zf_term.specs.declared.conjunct.Conjunct.TheVariants as conjuncts
 use Rattle.zf_term.specs.declared.resolved.Resolved.{Resolved}
 use Rattle.zf_term.specs.declared.resolved.Resolved.TheVariants as v
 use Rattle.zf_term.specs.declared.resolved.ResolvedLink.{ResolvedLink}
-use Rattle.zf_term.specs.Definitions.{all_joined, batch_of, both_hold, conjunct_of, is_member, joined}
-use Rattle.zf_term.specs.ResolvedTrees.{ResolvedTree, binary, chain, link, links, no_links, reference, resolved_link_of, resolved_of}
-use Rattle.zf_term.specs.Shapes.{line_of, moved, numbering}
+use Rattle.zf_term.specs.Definitions.{all_joined, both_hold, is_member, joined}
+use Rattle.zf_term.specs.SchemaViews.{batch_of, conjunct_of}
+use Rattle.zf_term.specs.ResolvedTrees.{ResolvedTree, binary, chain, link, no_links, reference}
+use Rattle.zf_term.specs.ResolvedViews.{links, resolved_link_of, resolved_of}
+use Rattle.zf_term.specs.Shapes.{line_of, moved}
+use Rattle.zf_term.specs.ShapeViews.{numbering}
 use Rattle.zf_term.proofs.ConjunctsSeen.{of-Either, of-Member, of-Term}
 use Rattle.zf_term.proofs.Places.{unmoved}
 use Rattle.zf_term.proofs.ResolvedSeen.{new_link, of-Chain, of-Constant, of-link, of-Name}

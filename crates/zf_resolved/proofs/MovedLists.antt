@@ -4,8 +4,10 @@ use Rattle.zf_tree.specs.declared.symbol.Relation.{Relation}
 use Rattle.zf_term.specs.declared.resolved.Range.{Range}
 use Rattle.zf_term.specs.declared.resolved.Resolved.{Resolved}
 use Rattle.zf_term.specs.declared.resolved.Resolved.TheVariants as v
-use Rattle.zf_term.specs.ResolvedTrees.{ResolvedTree, terms, links, ranges, resolved_of, range_of, part_of}
-use Rattle.zf_term.specs.Shapes.{moved, all_moved, links_moved, ranges_moved, part_moved, link_moved, range_moved}
+use Rattle.zf_term.specs.ResolvedTrees.{ResolvedTree}
+use Rattle.zf_term.specs.ResolvedViews.{terms, links, ranges, resolved_of, range_of, part_of}
+use Rattle.zf_term.specs.Shapes.{moved, all_moved, links_moved, ranges_moved, part_moved}
+use Rattle.zf_term.specs.ShapeViews.{link_moved, range_moved}
 use Rattle.zf_term.proofs.ResolvedSeen.{of-Builder}
 
 pub all-terms : (f : ℕ → ℕ) (ts : List ResolvedTree) → all_moved f (terms ts) ≡ terms (map (moved f) ts)

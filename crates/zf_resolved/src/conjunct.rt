@@ -4,9 +4,11 @@ ghost use Rattle.zf_data.specs.Chunks.{all_of};
 ghost use Rattle.zf_tree.specs.declared.operator.Operator.TheVariants as operator;
 ghost use Rattle.zf_tree.specs.declared.symbol.Connective.TheVariants as connective;
 ghost use Rattle.zf_term.specs.Definitions as spec;
-ghost use Rattle.zf_term.specs.Definitions.{batch_of, conjunct_of};
-ghost use Rattle.zf_term.specs.ResolvedTrees.{binary, resolved_of};
+ghost use Rattle.zf_term.specs.SchemaViews.{batch_of, conjunct_of};
+ghost use Rattle.zf_term.specs.ResolvedTrees.{binary};
+ghost use Rattle.zf_term.specs.ResolvedViews.{resolved_of};
 ghost use Rattle.zf_term.specs.Shapes as shape;
+ghost use Rattle.zf_term.specs.ShapeViews as shape_views;
 ghost use Rattle.zf_resolved.specs.Behind.{behind, onto, tree_in};
 
 use crate::moving::{copy, moved};
@@ -47,7 +49,7 @@ fn placed<'a>(
     term: &Resolved<'a>,
     places: &Places<'a>,
 ) -> Result<Resolved<'a>, AllocError>
-    ensures { IfOk result (λ t. resolved_of t ≡ shape.moved (shape.numbering places.now) (resolved_of term.now)) }
+    ensures { IfOk result (λ t. resolved_of t ≡ shape.moved (shape_views.numbering places.now) (resolved_of term.now)) }
 {
     match places {
         None => copy(term, arena),
@@ -61,7 +63,7 @@ fn numbered<'a>(
     term: Resolved<'a>,
     places: &Places<'a>,
 ) -> Result<Resolved<'a>, AllocError>
-    ensures { IfOk result (λ t. resolved_of t ≡ shape.moved (shape.numbering places.now) (resolved_of term.entry)) }
+    ensures { IfOk result (λ t. resolved_of t ≡ shape.moved (shape_views.numbering places.now) (resolved_of term.entry)) }
 {
     match places {
         None => Ok(term),

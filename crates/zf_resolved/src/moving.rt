@@ -1,8 +1,9 @@
 //! Copies of resolved terms, with their components numbered anew.
 ghost use Rattle.std.specs.Prelude.{◌≡◌, IfOk, map};
-ghost use Rattle.zf_term.specs.ResolvedTrees.{resolved_of, resolved_link_of, range_of, part_of};
+ghost use Rattle.zf_term.specs.ResolvedViews.{resolved_of, resolved_link_of, range_of, part_of};
 ghost use Rattle.zf_term.specs.Shapes as spec;
-ghost use Rattle.zf_reference.specs.Numbering as numbers;
+ghost use Rattle.zf_term.specs.ShapeViews as spec_views;
+ghost use Rattle.zf_reference.specs.NumberingViews as numbers;
 
 use bumpalo::Bump;
 use std::alloc::AllocError;
@@ -95,7 +96,7 @@ fn moved_links<'a>(
     arena: &'a Bump,
     places: &[usize],
 ) -> Result<Links<'a>, AllocError>
-    ensures { IfOk result (λ s. map resolved_link_of s ≡ map (spec.link_moved (numbers.place_in places.now)) (map resolved_link_of further.now)) }
+    ensures { IfOk result (λ s. map resolved_link_of s ≡ map (spec_views.link_moved (numbers.place_in places.now)) (map resolved_link_of further.now)) }
 {
     let mut all = Items::with_room(arena, further.as_slice().len())?;
     for link in further.as_slice() {
@@ -111,7 +112,7 @@ fn moved_link<'a>(
     arena: &'a Bump,
     places: &[usize],
 ) -> Result<ResolvedLink<'a>, AllocError>
-    ensures { IfOk result (λ k. resolved_link_of k ≡ spec.link_moved (numbers.place_in places.now) (resolved_link_of link.now)) }
+    ensures { IfOk result (λ k. resolved_link_of k ≡ spec_views.link_moved (numbers.place_in places.now) (resolved_link_of link.now)) }
 {
     Ok(ResolvedLink {
         relation: link.relation,
@@ -125,7 +126,7 @@ fn moved_ranges<'a>(
     arena: &'a Bump,
     places: &[usize],
 ) -> Result<Boxed<'a, Items<'a, Range<'a>>>, AllocError>
-    ensures { IfOk result (λ s. map range_of s ≡ map (spec.range_moved (numbers.place_in places.now)) (map range_of variables.now)) }
+    ensures { IfOk result (λ s. map range_of s ≡ map (spec_views.range_moved (numbers.place_in places.now)) (map range_of variables.now)) }
 {
     let mut all = Items::with_room(arena, variables.as_slice().len())?;
     for range in variables.as_slice() {
@@ -141,7 +142,7 @@ fn moved_range<'a>(
     arena: &'a Bump,
     places: &[usize],
 ) -> Result<Range<'a>, AllocError>
-    ensures { IfOk result (λ r. range_of r ≡ spec.range_moved (numbers.place_in places.now) (range_of range.now)) }
+    ensures { IfOk result (λ r. range_of r ≡ spec_views.range_moved (numbers.place_in places.now) (range_of range.now)) }
 {
     Ok(Range {
         variables: range.variables,

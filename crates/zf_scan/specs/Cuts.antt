@@ -2,7 +2,7 @@
 use Rattle.std.specs.Prelude.{◌≡◌, ℕ, ◌+◌, ◌≤◌, ◌<◌, ◌⊎◌, if◌then◌else◌, ◌==◌, List, [], ◌∷◌, ◌++◌, length, codes}
 use Rattle.zf_scan.specs.declared.fault.TextFault.{TextFault}
 use Rattle.zf_scan.specs.declared.fault.TextFaultKind.{TextFaultKind}
-use Rattle.zf_scan.specs.declared.fault.TextFaultKind.TheVariants.{BadByte, UnclosedBox, TooLong, OutOfMemory}
+use Rattle.zf_scan.specs.declared.fault.TextFaultKind.TheVariants.{BadByte, UnclosedBox, TooLong}
 use Rattle.zf_scan.specs.declared.pieces.Piece.{Piece}
 use Rattle.zf_scan.specs.declared.pieces.Piece.TheVariants.{Plain, Symbol, Refused}
 use Rattle.zf_scan.specs.declared.pieces.Place.{Place}
@@ -88,9 +88,6 @@ pub record IsCutInto (source : List ℕ) (tokens : List Token) : Type 0 where
   pub closed : end.place ≡ places.Outside
   pub told : tokens ≡ tokens_from start pieces
 
-abbrev pub IsUncut : List ℕ → Type 0
-IsUncut source = (tokens : List Token) → IsCutInto source tokens → ⊥
-
 -- ---- faults
 
 -- the line of the box's `\begin`
@@ -125,24 +122,3 @@ IsTooLong source fault = (SOURCE_MAX < length source) × (fault.kind ≡ TooLong
 
 abbrev pub HasFault : List ℕ → TextFault → Type 0
 HasFault source fault = IsTooLong source fault ⊎ IsStuck source fault
-
-abbrev pub IsWantOfMemory : TextFault → Type 0
-IsWantOfMemory fault = (fault.kind ≡ OutOfMemory) × (fault.line ≡ 0)
-
--- ---- laws
-
--- a source is cut in at most one way: its pieces are the same, and so its tokens
-abbrev pub IsCutOnce : Type 0
-IsCutOnce = (source : List ℕ) (one two : List Token) (c : IsCutInto source one) (d : IsCutInto source two) → (c.pieces ≡ d.pieces) × (one ≡ two)
-
--- it has at most one fault
-abbrev pub FaultsOnce : Type 0
-FaultsOnce = (source : List ℕ) (one two : TextFault) → HasFault source one → HasFault source two → one ≡ two
-
--- it is cut, or it has a fault
-abbrev pub IsCutOrFaults : Type 0
-IsCutOrFaults = (source : List ℕ) → ((tokens : List Token) × IsCutInto source tokens) ⊎ ((fault : TextFault) × HasFault source fault)
-
--- and never both
-abbrev pub IsNotBoth : Type 0
-IsNotBoth = (source : List ℕ) (tokens : List Token) (fault : TextFault) → IsCutInto source tokens → HasFault source fault → ⊥

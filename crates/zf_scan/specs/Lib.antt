@@ -1,5 +1,7 @@
 pub mod Pieces
 pub mod Cuts
+pub mod CutViews
+pub mod CutLaws
 pub mod Separators
 pub mod Steps
 pub mod Sights

@@ -2,6 +2,8 @@
 ghost use Rattle.std.specs.Prelude.{◌≡◌, ◌≤◌, ◌<◌, ◌⊎◌, ◌++◌, [], ℕ, List, IsTrue, length, take, map, IfOk, IfErr, OnOk};
 ghost use Rattle.zf_scan.specs.Boxes.{IsBorder, IsBoxAtMost, IsCutOn, IsCutUpTo};
 ghost use Rattle.zf_scan.specs.Cuts as cuts;
+ghost use Rattle.zf_scan.specs.CutLaws as cuts_laws;
+ghost use Rattle.zf_scan.specs.CutViews as cuts_views;
 ghost use Rattle.zf_scan.specs.Placing.{token_at};
 ghost use Rattle.zf_scan.specs.Sights.{kind_of, piece_of, told};
 ghost use Rattle.zf_scan.specs.Steps as steps;
@@ -54,7 +56,7 @@ pub fn next_box(
     ensures cut { OnOk result ((tokens : List Token) → IsCutUpTo source.now border.old tokens → IsCutUpTo source.now border.new (tokens ++ map (token_at source.now) symbols.new.items)) }
     ensures one { OnOk result (IsBoxAtMost (map (token_at source.now) symbols.new.items)) }
     ensures further { OnOk result (border.old.start < length source.now → border.old.start < border.new.start) }
-    ensures fault { IfErr result (λ fault. cuts.IsWantOfMemory fault ⊎ cuts.IsStuck source.now fault) }
+    ensures fault { IfErr result (λ fault. cuts_views.IsWantOfMemory fault ⊎ cuts.IsStuck source.now fault) }
 {
     symbols.clear();
     let mut place = Place::Outside;
@@ -112,7 +114,7 @@ pub fn cut_rest(
 ) -> Result<(), TextFault>
     requires { IsBorder source.now border.old }
     ensures cut { OnOk result ((tokens : List Token) → IsCutUpTo source.now border.old tokens → IsCutOn source.now tokens) }
-    ensures fault { IfErr result (λ fault. cuts.IsWantOfMemory fault ⊎ cuts.IsStuck source.now fault) }
+    ensures fault { IfErr result (λ fault. cuts_views.IsWantOfMemory fault ⊎ cuts.IsStuck source.now fault) }
 {
     while border.start < source.len() {
         next_box(source, border, symbols)?;
@@ -124,8 +126,8 @@ pub fn cut_rest(
 pub fn scan(alloc: Global, source: &[u8]) -> Result<Items<Token>, TextFault>
     // Ok exactly where the source is cut, with its tokens; otherwise its fault.
     ensures cut { IfOk result (λ tokens. cuts.IsCutInto source.now tokens) }
-    ensures fault { IfErr result (λ fault. cuts.IsWantOfMemory fault ⊎ cuts.HasFault source.now fault) }
-    ensures uncut { IfErr result (λ fault. cuts.IsWantOfMemory fault ⊎ cuts.IsUncut source.now) }
+    ensures fault { IfErr result (λ fault. cuts_views.IsWantOfMemory fault ⊎ cuts.HasFault source.now fault) }
+    ensures uncut { IfErr result (λ fault. cuts_views.IsWantOfMemory fault ⊎ cuts_views.IsUncut source.now) }
 {
     let mut border = Border::of(source)?;
     let mut symbols = Vec::new(alloc);
@@ -238,8 +240,8 @@ fn newlines(bytes: &[u8]) -> u32
 
 /// A source is cut in one way, or it has one fault: laws of the definitions, and no code.
 pub fn one_cut()
-    ensures pieces { cuts.IsCutOnce }
-    ensures fault { cuts.FaultsOnce }
-    ensures some { cuts.IsCutOrFaults }
-    ensures apart { cuts.IsNotBoth }
+    ensures pieces { cuts_laws.IsCutOnce }
+    ensures fault { cuts_laws.FaultsOnce }
+    ensures some { cuts_laws.IsCutOrFaults }
+    ensures apart { cuts_laws.IsNotBoth }
 {}

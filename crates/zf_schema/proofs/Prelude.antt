@@ -6,18 +6,23 @@ pub use Rattle.std.proofs.lemmas.Result.{on_ok_weaker}
 pub use Rattle.std.specs.Option.{option_map}
 pub use Rattle.std.specs.Str.{bytes_eq}
 pub use Rattle.zf_tree.specs.Names.{spelling}
-pub use Rattle.zf_tree.specs.Trees.{both, box_of, BoxTree, decl_of, DeclTree, definition, either, free, given, include, Links, no_decls, no_trees, paragraph_of, ParagraphTree, Perhaps, reference, schema_bracket, schema_text, SchemaTree, Tree, tree, tree_of, Trees, var_decl, VarDecls, vars}
+pub use Rattle.zf_tree.specs.Trees.{both, BoxTree, DeclTree, definition, either, free, given, include, Links, no_decls, no_trees, ParagraphTree, Perhaps, reference, schema_bracket, schema_text, SchemaTree, Tree, tree, Trees, var_decl, VarDecls, vars}
+pub use Rattle.zf_tree.specs.TreeViews.{box_of, decl_of, paragraph_of, tree_of}
 pub use Rattle.zf_tree.specs.declared.tree.Name.{Name}
 pub use Rattle.zf_tree.specs.declared.tree.SchemaRef.{SchemaRef}
 pub use Rattle.zf_term.proofs.Choices.{or_else_assoc, or_none}
 pub use Rattle.zf_term.proofs.SameNames.{is_itself, is_same, swapped, tests_alike}
 pub use Rattle.zf_term.proofs.Walk.{at_end, at_step, dropped}
-pub use Rattle.zf_term.specs.Definitions.{abbreviation, Comp, comp_of, constructor, DeclaredSet, Defined, Definition, definition_of, free_type, given_set, globals_of, plain, Schema, schema, schema_of, sets_of, sides}
+pub use Rattle.zf_term.specs.Definitions.{abbreviation, Comp, constructor, DeclaredSet, Defined, Definition, free_type, given_set, plain, Schema, schema, sets_of, sides}
+pub use Rattle.zf_term.specs.SchemaViews.{comp_of, schema_of}
+pub use Rattle.zf_term.specs.DefinitionViews.{definition_of, globals_of}
 pub use Rattle.zf_term.specs.FirstNamed.{first_named, later, or_else}
 pub use Rattle.zf_term.specs.Numbers.{has_elements, next_number}
-pub use Rattle.zf_term.specs.ResolvedTrees.{resolved_of, ResolvedTree}
+pub use Rattle.zf_term.specs.ResolvedViews.{resolved_of}
+pub use Rattle.zf_term.specs.ResolvedTrees.{ResolvedTree}
 pub use Rattle.zf_term.specs.Shapes.{conjuncts}
-pub use Rattle.zf_term.specs.Types.{Ty, type_of, Tys}
+pub use Rattle.zf_term.specs.Types.{Ty, Tys}
+pub use Rattle.zf_term.specs.TypeViews.{type_of}
 pub use Rattle.zf_term.specs.Faults.{Fault, Offence}
 pub use Rattle.zf_term.specs.declared.fault.Limit.{Limit}
 pub use Rattle.zf_type.proofs.NoOffence.{no_offence}
@@ -28,7 +33,8 @@ pub use Rattle.zf_type.specs.Refusals.{fault_of, IfFault, offence_of}
 pub use Rattle.zf_type.specs.Resolving.{bound, referent, resolved, resolved_all, resolved_links, resolved_part, resolved_ranges}
 pub use Rattle.zf_type.specs.Rules.{predicate, set_of, Sort, typed}
 pub use Rattle.zf_type.specs.declared.fault.Refusal.{Refusal}
-pub use Rattle.zf_calculus.specs.Calculus.{Agree, Agrees, all_unchanged, AreOnce, comp, comp_named, conjoined, decorated, disjoined, either_comps, HasTypeOf, MarkAgrees, marked, new_place, nothing, place_of, place_or, prime, sets_on, unchanged, with_comp, with_comps}
+pub use Rattle.zf_calculus.specs.Calculus.{Agree, Agrees, all_unchanged, comp, comp_named, conjoined, decorated, disjoined, either_comps, HasTypeOf, MarkAgrees, marked, new_place, nothing, place_of, place_or, prime, sets_on, unchanged, with_comp, with_comps}
+pub use Rattle.zf_calculus.specs.CalculusLaws.{AreOnce}
 pub use Rattle.zf_calculus.specs.Growth.{IfStopped, IsGrowing}
 pub use Rattle.zf_term.specs.Limits.{IsTooLarge, IsWithin, Keeps}
 pub use Rattle.zf_calculus.specs.Steps.{Adds, Clashes, Differs, Includes, IsNext, MarkClashes, OneClashes, Stops}

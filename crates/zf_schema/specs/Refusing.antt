@@ -13,7 +13,8 @@ use Rattle.zf_calculus.specs.Calculus as calculus
 use Rattle.zf_calculus.specs.Calculus.{Agree, Agrees}
 use Rattle.zf_tree.specs.declared.tree.Name.{Name}
 use Rattle.zf_tree.specs.Trees.{Tree, DeclTree}
-use Rattle.zf_term.specs.Types.{Ty, type_of}
+use Rattle.zf_term.specs.Types.{Ty}
+use Rattle.zf_term.specs.TypeViews.{type_of}
 use Rattle.zf_tree.specs.declared.operator.Need.TheVariants as need
 use Rattle.zf_type.specs.Offences.{Offends}
 use Rattle.zf_type.specs.Refusals.{IsRefusal}

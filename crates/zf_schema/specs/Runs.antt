@@ -1,7 +1,7 @@
 -- How far a check of a text has come, for private contracts alone.
 use Rattle.std.specs.Prelude.{◌≡◌, ℕ, length, List, [], ◌∷◌, ◌++◌, map, Result, Ok, Err}
 use Rattle.zf_tree.specs.Trees.{ParagraphTree, given, free, abbreviation, definition}
-use Rattle.zf_term.specs.Definitions.{globals_of}
+use Rattle.zf_term.specs.DefinitionViews.{globals_of}
 use Rattle.zf_type.specs.declared.fault.Refusal.{Refusal}
 use Rattle.zf_type.specs.declared.fault.Refusal.TheVariants.{Fault, OutOfMemory}
 use Rattle.zf_type.specs.declared.fault.TypeFault.{TypeFault}

@@ -10,7 +10,8 @@ use Rattle.zf_term.specs.ResolvedTrees.{reference, chain, no_links, link}
 use Rattle.zf_term.specs.FirstNamed.{or_else}
 use Rattle.zf_term.specs.Types.{Ty}
 use Rattle.zf_term.specs.Faults.{Offence, Fault}
-use Rattle.zf_calculus.specs.Calculus.{EachOnce, AreOnce, comp, comp_named, Agree, with_comps, new_place, conjoined, decorated, prime, delta, all_unchanged, xi, MarkAgrees, sets_on, disjoined}
+use Rattle.zf_calculus.specs.CalculusLaws.{EachOnce, AreOnce}
+use Rattle.zf_calculus.specs.Calculus.{comp, comp_named, Agree, with_comps, new_place, conjoined, decorated, prime, delta, all_unchanged, xi, MarkAgrees, sets_on, disjoined}
 use Rattle.zf_schema.specs.Checking.{Item, Defines, OffendsItem, IsChecked}
 use Rattle.zf_schema.specs.Expressions.{IsSchema}
 use Rattle.zf_schema.specs.SchemaOffences.{OffendsSchema}

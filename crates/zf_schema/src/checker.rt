@@ -1,7 +1,7 @@
 //! The checker: what a text defines, and what is wrong with it.
 ghost use Rattle.std.specs.Prelude.{◌≡◌, [], map, IfOk, OnOk};
-ghost use Rattle.zf_tree.specs.Trees.{boxes_of, box_of, paragraph_of, decl_of, tree_of};
-ghost use Rattle.zf_term.specs.Definitions.{globals_of};
+ghost use Rattle.zf_tree.specs.TreeViews.{boxes_of, box_of, paragraph_of, decl_of, tree_of};
+ghost use Rattle.zf_term.specs.DefinitionViews.{globals_of};
 ghost use Rattle.zf_term.specs.Numbers.{next_number};
 ghost use Rattle.zf_type.specs.Refusals.{fault_of};
 ghost use Rattle.zf_schema.specs.Checking.{a_paragraph, a_box, items, items_in, IsChecked};

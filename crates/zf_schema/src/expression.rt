@@ -1,8 +1,9 @@
 //! The schemas that schema expressions are.
 ghost use Rattle.std.specs.Prelude.{◌≡◌, IfErr, IfOk, map};
-ghost use Rattle.zf_tree.specs.Trees as tree;
-ghost use Rattle.zf_tree.specs.Trees.{decl_of};
-ghost use Rattle.zf_term.specs.Definitions.{globals_of, schema_of};
+ghost use Rattle.zf_tree.specs.TreeViews as tree;
+ghost use Rattle.zf_tree.specs.TreeViews.{decl_of};
+ghost use Rattle.zf_term.specs.DefinitionViews.{globals_of};
+ghost use Rattle.zf_term.specs.SchemaViews.{schema_of};
 ghost use Rattle.zf_type.specs.Refusals.{IfFault};
 ghost use Rattle.zf_calculus.specs.Calculus.{Agree, conjoined, disjoined};
 ghost use Rattle.zf_schema.specs.Expressions.{IsSchema};

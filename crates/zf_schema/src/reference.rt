@@ -1,6 +1,8 @@
 //! References to schemas.
 ghost use Rattle.std.specs.Prelude.{◌≡◌, ◌⊎◌, ℕ, IfErr, IfOk, MatchOption, Some, None};
-ghost use Rattle.zf_term.specs.Definitions.{Defined, definition_of, globals_of, schema, schema_of};
+ghost use Rattle.zf_term.specs.Definitions.{Defined, schema};
+ghost use Rattle.zf_term.specs.DefinitionViews.{definition_of, globals_of};
+ghost use Rattle.zf_term.specs.SchemaViews.{schema_of};
 ghost use Rattle.zf_term.specs.FirstNamed.{first_named};
 ghost use Rattle.zf_type.specs.Refusals.{IfFault, offence_of};
 ghost use Rattle.zf_schema.specs.Expressions.{Refers};

@@ -1,15 +1,18 @@
 //! The schemas of boxes and of horizontal texts: declarations, and predicates over them.
 ghost use Rattle.std.specs.Prelude.{◌≡◌, ◌∷◌, [], IfErr, IfOk, OnOk, map};
-ghost use Rattle.zf_tree.specs.Trees.{decl_of, include, tree_of, vars};
-ghost use Rattle.zf_term.specs.Definitions.{comp_of, globals_of, plain, schema_of};
-ghost use Rattle.zf_term.specs.ResolvedTrees.{resolved_of};
-ghost use Rattle.zf_term.specs.Types.{type_of};
+ghost use Rattle.zf_tree.specs.TreeViews.{decl_of, tree_of};
+ghost use Rattle.zf_tree.specs.Trees.{include, vars};
+ghost use Rattle.zf_term.specs.SchemaViews.{comp_of, schema_of};
+ghost use Rattle.zf_term.specs.DefinitionViews.{globals_of};
+ghost use Rattle.zf_term.specs.Definitions.{plain};
+ghost use Rattle.zf_term.specs.ResolvedViews.{resolved_of};
+ghost use Rattle.zf_term.specs.TypeViews.{type_of};
 ghost use Rattle.zf_tree.specs.declared.operator.Need.TheVariants as needs;
 ghost use Rattle.zf_type.specs.Offences.{Offends};
 ghost use Rattle.zf_type.specs.Refusals.{IfFault};
 ghost use Rattle.zf_type.specs.Resolving.{resolved};
 ghost use Rattle.zf_type.specs.Rules as rules;
-ghost use Rattle.zf_type.specs.Scopes.{scope_of};
+ghost use Rattle.zf_type.specs.ScopeViews.{scope_of};
 ghost use Rattle.zf_tree.specs.Names.{spelling};
 ghost use Rattle.zf_type.specs.Typing.{IsOf};
 ghost use Rattle.zf_calculus.specs.Calculus.{comp};
@@ -247,7 +250,7 @@ fn declared<'a>(
 }
 
 /// The scope of the globals and these components, where no variable is bound.
-#[tactic(auto, unfolding(zf_type::specs::Scopes::scope_of))]
+#[tactic(auto, unfolding(zf_type::specs::ScopeViews::scope_of))]
 pub fn scope_over<'a, 'b>(
     globals: &'b Globals<'a>,
     components: &'b [Component<'a>],

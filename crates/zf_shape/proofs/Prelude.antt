@@ -5,11 +5,15 @@ pub use Rattle.std.proofs.lemmas.List.{length-map}
 pub use Rattle.zf_term.proofs.ConjunctsSeen.{batch-seen}
 pub use Rattle.zf_term.proofs.ResolvedSeen.{link-seen, of-Builder, of-Quantified, range-seen}
 pub use Rattle.zf_data.specs.Chunks.{all_of}
-pub use Rattle.zf_term.specs.Definitions.{all_joined, both_hold, joined, one_holds, is_member, set_of}
-unfoldable pub use Rattle.zf_term.specs.Definitions.{batch_of, conjunct_of}
-pub use Rattle.zf_term.specs.ResolvedTrees.{absent, binary, bracket, builder, chain, constant, empty_set, link, links, listed, no_links, no_ranges, no_terms, number, part_of, present, quantified, range, range_of, Ranges, ranges, reference, resolved_link_of, resolved_of, ResolvedLinks, ResolvedPart, ResolvedTree, ResolvedTrees, term, terms, unary}
-pub use Rattle.zf_term.specs.SetShapes.{all_set_counts, all_set_nodes, set_count, set_nodes}
-pub use Rattle.zf_term.specs.Shapes.{all_nodes, height, moved, numbering, link_nodes, nodes, part_height, part_nodes, range_nodes, tallest, tallest_link, tallest_range}
+pub use Rattle.zf_term.specs.Definitions.{all_joined, both_hold, joined, one_holds, is_member}
+pub use Rattle.zf_term.specs.SchemaViews.{set_of}
+unfoldable pub use Rattle.zf_term.specs.SchemaViews.{batch_of, conjunct_of}
+pub use Rattle.zf_term.specs.ResolvedTrees.{absent, binary, bracket, builder, chain, constant, empty_set, link, listed, no_links, no_ranges, no_terms, number, present, quantified, range, Ranges, reference, ResolvedLinks, ResolvedPart, ResolvedTree, ResolvedTrees, term, unary}
+pub use Rattle.zf_term.specs.ResolvedViews.{links, part_of, range_of, ranges, resolved_link_of, resolved_of, terms}
+pub use Rattle.zf_term.specs.SetShapeViews.{all_set_counts, all_set_nodes}
+pub use Rattle.zf_term.specs.SetShapes.{set_count, set_nodes}
+pub use Rattle.zf_term.specs.Shapes.{all_nodes, height, moved, link_nodes, nodes, part_height, part_nodes, range_nodes, tallest, tallest_link, tallest_range}
+pub use Rattle.zf_term.specs.ShapeViews.{numbering}
 pub use Rattle.zf_term.specs.declared.conjunct.Batch.{Batch}
 pub use Rattle.zf_term.specs.declared.conjunct.Conjunct.{Conjunct}
 pub use Rattle.zf_term.specs.declared.resolved.Range.{Range}

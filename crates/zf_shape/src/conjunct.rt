@@ -2,8 +2,9 @@
 ghost use Rattle.std.specs.Prelude.{◌≡◌, ◌+◌, ◌<◌, ◌≤◌, ◌↔◌, IsTrue, MatchOption, length, map};
 ghost use Rattle.zf_data.specs.Chunks.{all_of};
 ghost use Rattle.zf_shape.specs.Joined.{AreLow};
-ghost use Rattle.zf_term.specs.Definitions.{batch_of, conjunct_of, joined};
-ghost use Rattle.zf_term.specs.ResolvedTrees.{terms};
+ghost use Rattle.zf_term.specs.SchemaViews.{batch_of, conjunct_of};
+ghost use Rattle.zf_term.specs.Definitions.{joined};
+ghost use Rattle.zf_term.specs.ResolvedViews.{terms};
 ghost use Rattle.zf_term.specs.Shapes as spec;
 
 use crate::terms;

@@ -1,7 +1,8 @@
 //! How many declared sets there are, and the nodes in them.
 ghost use Rattle.std.specs.Prelude.{◌≡◌, ◌+◌, ◌<◌, MatchOption, map};
-ghost use Rattle.zf_term.specs.Definitions.{set_of};
-ghost use Rattle.zf_term.specs.SetShapes.{set_count, set_nodes, all_set_counts, all_set_nodes};
+ghost use Rattle.zf_term.specs.SchemaViews.{set_of};
+ghost use Rattle.zf_term.specs.SetShapes.{set_count, set_nodes};
+ghost use Rattle.zf_term.specs.SetShapeViews.{all_set_counts, all_set_nodes};
 
 use crate::terms;
 use zf_data::arena::Items;

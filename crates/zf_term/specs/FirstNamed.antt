@@ -14,8 +14,3 @@ or_else (Some x) other = Some x
 abbrev pub first_named : {A : Type 0} → (A → List ℕ) → List ℕ → List A → Option (ℕ × A)
 first_named name x [] = None
 first_named name x (a ∷ rest) = if bytes_eq (name a) x then Some (0, a) else later (first_named name x rest)
-
--- what is found, with its place
-abbrev pub found_as : {A B : Type 0} → (A → B) → Option (ℕ × A) → Option (ℕ × B)
-found_as f None = None
-found_as f (Some p) = Some (p.0, f p.1)

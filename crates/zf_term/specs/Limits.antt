@@ -45,12 +45,6 @@ pub record IsWithin (a : Schema) : Type 0 where
   pub nodes : all_nodes a ≤ nodes_max
   pub low : AllByRecursion IsLow a.conjuncts
 
--- a schema within the limits, with what is left of two of them
-pub record HasLeft (a : Schema) (sets_left nodes_left : ℕ) : Type 0 where
-  pub sets : sets_left + declared_sets a ≡ sets_max
-  pub nodes : nodes_left + all_nodes a ≡ nodes_max
-  pub within : IsWithin a
-
 -- the schema is within this limit
 abbrev pub Keeps : Limit → Schema → Type 0
 Keeps limit.TypeNodes a = Unit {0}

@@ -32,3 +32,7 @@ abbrev mutual
   pub part_onto : List Reference → ResolvedPart → List Reference
   part_onto rs absent = rs
   part_onto rs (present t) = onto rs t
+
+-- what the names of a term stand for, from left to right
+abbrev pub references : ResolvedTree → List Reference
+references t = onto [] t

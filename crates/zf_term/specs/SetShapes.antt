@@ -1,6 +1,6 @@
 -- How large declared sets are.
-use Rattle.std.specs.Prelude.{ℕ, ◌+◌, List}
-use Rattle.zf_term.specs.Schemas.{DeclaredSet, plain, carrier, sides, DeclaredSets, no_sets, set, sets_of}
+use Rattle.std.specs.Prelude.{ℕ, ◌+◌}
+use Rattle.zf_term.specs.Schemas.{DeclaredSet, plain, carrier, sides, DeclaredSets, no_sets, set}
 use Rattle.zf_term.specs.Shapes.{nodes}
 
 -- the sets that are held: one for that of a declaration or of a type
@@ -14,9 +14,6 @@ abbrev mutual
   sets_count no_sets = 0
   sets_count (set d ds) = set_count d + sets_count ds
 
-abbrev pub all_set_counts : List DeclaredSet → ℕ
-all_set_counts ds = sets_count (sets_of ds)
-
 -- the nodes of the sets of declarations
 abbrev mutual
   pub set_nodes : DeclaredSet → ℕ
@@ -27,6 +24,3 @@ abbrev mutual
   pub sets_nodes : DeclaredSets → ℕ
   sets_nodes no_sets = 0
   sets_nodes (set d ds) = set_nodes d + sets_nodes ds
-
-abbrev pub all_set_nodes : List DeclaredSet → ℕ
-all_set_nodes ds = sets_nodes (sets_of ds)

@@ -1,10 +1,9 @@
 -- The shape of resolved terms: their nodes, their height, their conjuncts, and their components numbered anew.
-use Rattle.std.specs.Prelude.{ℕ, ◌+◌, max, Bool, true, false, if◌then◌else◌, List, [], ◌∷◌, ◌++◌, Option, Some, None}
+use Rattle.std.specs.Prelude.{ℕ, ◌+◌, max, Bool, true, false, if◌then◌else◌, List, [], ◌∷◌, ◌++◌}
 use Rattle.zf_tree.specs.declared.symbol.Connective.TheVariants.{And, Or, Implies, Iff}
-use Rattle.zf_tree.specs.declared.symbol.Relation.{Relation}
 use Rattle.zf_tree.specs.declared.operator.Operator.{Operator}
 use Rattle.zf_tree.specs.declared.operator.Operator.TheVariants as operator
-use Rattle.zf_reference.specs.Numbering.{renumbered, place_in}
+use Rattle.zf_reference.specs.Numbering.{renumbered}
 use Rattle.zf_term.specs.ResolvedTrees.{ResolvedTree, reference, number, constant, empty_set, bracket, listed, builder, unary, binary, chain, quantified, ResolvedTrees, no_terms, term, ResolvedLinks, no_links, link, Ranges, no_ranges, range, ResolvedPart, absent, present}
 
 -- the line of the first token
@@ -87,11 +86,6 @@ abbrev mutual
 
 -- ---- components numbered anew
 
--- by a list, where there is one
-abbrev pub numbering : Option (List ℕ) → ℕ → ℕ
-numbering None i = i
-numbering (Some places) i = place_in places i
-
 abbrev mutual
   pub moved : (ℕ → ℕ) → ResolvedTree → ResolvedTree
   moved f (reference l r) = reference l (renumbered f r)
@@ -121,12 +115,6 @@ abbrev mutual
   pub part_moved : (ℕ → ℕ) → ResolvedPart → ResolvedPart
   part_moved f absent = absent
   part_moved f (present t) = present (moved f t)
-
-abbrev pub link_moved : (ℕ → ℕ) → Relation × ResolvedTree → Relation × ResolvedTree
-link_moved f l = (l.0, moved f l.1)
-
-abbrev pub range_moved : (ℕ → ℕ) → ℕ × ResolvedTree → ℕ × ResolvedTree
-range_moved f r = (r.0, moved f r.1)
 
 -- ---- conjuncts: a predicate is split at its outermost `\land` symbols, brackets ignored; a part that is not split keeps its brackets
 

@@ -1,15 +1,9 @@
 -- What holds of every resolved term.
-use Rattle.std.specs.Prelude.{◌≡◌, ℕ, List, [], map}
-use Rattle.zf_reference.specs.declared.reference.Reference.{Reference}
+use Rattle.std.specs.Prelude.{◌≡◌, ℕ, map}
 use Rattle.zf_reference.specs.declared.reference.Reference.TheVariants.{Component, Local, Global}
 use Rattle.zf_term.specs.ResolvedTrees.{ResolvedTree}
-use Rattle.zf_term.specs.References.{onto}
 use Rattle.zf_reference.specs.Numbering.{renumbered}
 use Rattle.zf_term.specs.Shapes.{moved}
-
--- what the names of a term stand for, from left to right
-abbrev pub references : ResolvedTree → List Reference
-references t = onto [] t
 
 -- a term that is moved has the same references in the same order, each numbered anew
 abbrev pub MovedKeepsVariables : Type 0

@@ -1,7 +1,5 @@
 -- Types, without where they lie in memory (ZRM, 2.2).
 use Rattle.std.specs.Prelude.{ℕ, ◌+◌, Bool, true, false, ◌||◌, List, [], ◌∷◌, ◌≤◌}
-use Rattle.zf_term.specs.declared.ztype.ZType.{ZType, fold-ZType}
-use Rattle.zf_term.specs.declared.ztype.ZType.TheOpen.{ZType-F}
 
 mutual
   pub data Ty : Type 0 where
@@ -17,16 +15,6 @@ mutual
 abbrev pub types : List Ty → Tys
 types [] = no_types
 types (t ∷ ts) = type t (types ts)
-
--- one level, with a type in the place of each type in it
-abbrev pub type_step : ZType-F Ty → Ty
-type_step ZType-F.Int = int
-type_step (ZType-F.Basic name) = basic name
-type_step (ZType-F.Power t) = power t
-type_step (ZType-F.Product ts) = product (types ts)
-
-unfoldable pub type_of : ZType → Ty
-type_of = fold-ZType Ty type_step
 
 abbrev pub pair : Ty → Ty → Ty
 pair t u = product (type t (type u no_types))

@@ -1,10 +1,12 @@
 //! Conjuncts of schemas.
 ghost use Rattle.std.specs.Prelude.{◌≡◌, ℕ, IfOk, map};
 ghost use Rattle.zf_data.specs.Chunks.{all_of};
-ghost use Rattle.zf_term.specs.Definitions.{batch_of, conjunct_of, is_member, one_holds};
-ghost use Rattle.zf_term.specs.ResolvedTrees.{resolved_of};
+ghost use Rattle.zf_term.specs.SchemaViews.{batch_of, conjunct_of};
+ghost use Rattle.zf_term.specs.Definitions.{is_member, one_holds};
+ghost use Rattle.zf_term.specs.ResolvedViews.{resolved_of};
 ghost use Rattle.zf_term.specs.Shapes as spec;
-ghost use Rattle.zf_reference.specs.Numbering as numbers;
+ghost use Rattle.zf_term.specs.ShapeViews as spec_views;
+ghost use Rattle.zf_reference.specs.NumberingViews as numbers;
 
 use crate::resolved::Resolved;
 use bumpalo::Bump;
@@ -91,7 +93,7 @@ impl<'a> Conjunct<'a> {
     /// The conjunct with its components numbered anew.
     #[tactic(auto, using(crate::proofs::ConjunctsSeen::seen))]
     pub fn moved(&self, arena: &'a Bump, places: &Places<'a>) -> Result<Conjunct<'a>, AllocError>
-        ensures { IfOk result (λ c. conjunct_of c ≡ spec.moved (spec.numbering places.now) (conjunct_of self.now)) }
+        ensures { IfOk result (λ c. conjunct_of c ≡ spec.moved (spec_views.numbering places.now) (conjunct_of self.now)) }
     {
         match self {
             Conjunct::Term(term, own) => {
@@ -125,7 +127,7 @@ impl<'a> Batch<'a> {
     /// These conjuncts, with their components at these places.
     #[tactic(auto, using(crate::proofs::ConjunctsSeen::batches_seen))]
     pub fn of(conjuncts: Piece<'a, Conjunct<'a>>, places: &Places<'a>) -> Batch<'a>
-        ensures { batch_of result ≡ map (spec.moved (spec.numbering places.now)) (map conjunct_of conjuncts.entry) }
+        ensures { batch_of result ≡ map (spec.moved (spec_views.numbering places.now)) (map conjunct_of conjuncts.entry) }
     {
         Batch {
             conjuncts,
@@ -155,7 +157,7 @@ fn composed<'a>(
     first: &Places<'a>,
     then: &Places<'a>,
 ) -> Result<Places<'a>, AllocError>
-    ensures { IfOk result (λ ps. spec.numbering ps ≡ (λ (i : ℕ). spec.numbering then.now (spec.numbering first.now i))) }
+    ensures { IfOk result (λ ps. spec_views.numbering ps ≡ (λ (i : ℕ). spec_views.numbering then.now (spec_views.numbering first.now i))) }
 {
     match (first, then) {
         (None, then) => Ok(shared(then)),

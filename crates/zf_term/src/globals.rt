@@ -1,7 +1,8 @@
 //! What a text defines.
 ghost use Rattle.std.specs.Prelude.{◌≡◌, ◌++◌, ◌^◌, ◌<◌, ◌↔◌, ℕ, [], ◌∷◌, None, Some, IsTrue, IfOk, MatchOption, OnOk, OnErr, length, slice_get, take};
 ghost use Rattle.zf_term.specs.Definitions as spec;
-ghost use Rattle.zf_term.specs.Definitions.{definition_of, globals_of, schema_of};
+ghost use Rattle.zf_term.specs.DefinitionViews.{definition_of, globals_of};
+ghost use Rattle.zf_term.specs.SchemaViews.{schema_of};
 ghost use Rattle.zf_term.specs.FirstNamed.{first_named};
 
 use crate::extent::Extent;

@@ -1,7 +1,7 @@
 //! Schemas within the limits.
 ghost use Rattle.std.specs.Prelude.{◌≡◌};
-ghost use Rattle.zf_term.specs.Limits.{HasLeft};
-ghost use Rattle.zf_term.specs.Schemas.{schema_of};
+ghost use Rattle.zf_term.specs.LimitViews.{HasLeft};
+ghost use Rattle.zf_term.specs.SchemaViews.{schema_of};
 
 use crate::schema::Flat;
 use std::marker::Model;
@@ -22,8 +22,8 @@ pub struct Measured<'a> {
 
 impl<'a> Model for Measured<'a> {
     ghost use denote.Signature.{static_lft};
-    ghost use Rattle.zf_term.specs.Limits.{HasLeft};
-    ghost use Rattle.zf_term.specs.Schemas.{schema_of};
+    ghost use Rattle.zf_term.specs.LimitViews.{HasLeft};
+    ghost use Rattle.zf_term.specs.SchemaViews.{schema_of};
     ghost use Rattle.zf_term.specs.contracts.schema.Flat as stored;
     ghost use Rattle.zf_term.specs.declared.schema.Flat as program;
 

@@ -1,6 +1,7 @@
 //! Types.
 ghost use Rattle.std.specs.Prelude.{◌≡◌, ◌+◌, ◌<◌, ◌↔◌, IsTrue, IfOk, MatchOption, map};
-ghost use Rattle.zf_term.specs.Types.{Ty, int, power, product, types, type_of, nodes, nodes_of_all, IsSmall, pair};
+ghost use Rattle.zf_term.specs.Types.{Ty, int, power, product, types, nodes, nodes_of_all, IsSmall, pair};
+ghost use Rattle.zf_term.specs.TypeViews.{type_of};
 ghost use Rattle.zf_term.specs.Types as spec;
 
 use bumpalo::Bump;
@@ -38,7 +39,7 @@ impl<'a> ZType<'a> {
 
     /// Whether the types are the same.
     #[cycle(same)]
-    #[tactic(auto, unfolding(crate::specs::Types::type_of))]
+    #[tactic(auto, unfolding(crate::specs::TypeViews::type_of))]
     pub fn same(&self, other: &ZType<'a>) -> bool
         ensures { IsTrue result ↔ (type_of self.now ≡ type_of other.now) }
     {

@@ -9,12 +9,12 @@ use Rattle.zf_tree.specs.declared.operator.Unary.TheVariants as one
 use Rattle.zf_text.specs.Reading as basic
 use Rattle.zf_tree.specs.declared.tree.Term.TheVariants as term
 use Rattle.zf_text.specs.TermReading.{Outcome, binds, begins_decl, parted_by, closed_by, tall, listed, empty_set, round, display, builder, braced, prefixed, quantified, beginning}
-use Rattle.zf_tree.specs.Trees.{Tree, named, numeral, constant, bracket, Trees, tree, VarDecls, Perhaps, tree_of}
+use Rattle.zf_tree.specs.Trees.{Tree, named, numeral, constant, bracket, Trees, tree, VarDecls, Perhaps}
+use Rattle.zf_tree.specs.TreeViews.{tree_of, part_of}
 use Rattle.zf_tree.specs.Trees as shape
 use Rattle.zf_text.proofs.Marks.{kind_of}
 use Rattle.zf_text.proofs.TermFirsts.{not_closed}
 use Rattle.zf_tree.proofs.TermSeen as of
-use Rattle.zf_tree.specs.Trees.{part_of}
 use Rattle.zf_text.proofs.TermSteps.{ok_expect}
 use Rattle.zf_text.proofs.TermBegins.{same_parting}
 use Rattle.zf_text.proofs.TermParts.{decls_of}

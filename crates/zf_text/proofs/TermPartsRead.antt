@@ -3,12 +3,12 @@ use Rattle.zf_text.proofs.Prelude.{◌++◌, ◌<◌, ◌∙◌, ◌∷◌, ◌�
 use Rattle.zf_scan.specs.declared.next.Mark.TheVariants as mark
 use Rattle.zf_scan.specs.declared.next.Next as code
 use Rattle.zf_scan.specs.declared.token.Kind.TheVariants as k
-use Rattle.zf_tree.specs.Trees.{new_link, new_decl, Tree, named, Trees, no_trees, tree, Links, no_links, link, VarDecls, no_decls, var_decl, Perhaps, absent, present, tree_of}
+use Rattle.zf_tree.specs.TreeViews.{new_link, new_decl, tree_of, part_of}
+use Rattle.zf_tree.specs.Trees.{Tree, named, Trees, no_trees, tree, Links, no_links, link, VarDecls, no_decls, var_decl, Perhaps, absent, present}
 use Rattle.zf_text.proofs.Marks.{kind_of, seen, passed, next_shorter}
 use Rattle.zf_text.proofs.NamesRead.{names_shorter}
 use Rattle.zf_text.proofs.TermFirsts.{only_name, term_shorter}
 use Rattle.zf_tree.proofs.TermSeen as of
-use Rattle.zf_tree.specs.Trees.{part_of}
 use Rattle.zf_text.proofs.TermSteps.{ok_expect, ok_names}
 use Rattle.zf_text.proofs.TermParts.{trees_of, links_of, decls_of, SpellsSomeLinks, SpellsFurtherDecls}
 

@@ -12,7 +12,8 @@ use Rattle.zf_text.specs.declared.unread.Unread.{Unread}
 use Rattle.zf_text.specs.Height.{box_height, highest, height_limit}
 use Rattle.zf_text.specs.Levels.{BoxIsLevelled}
 use Rattle.zf_text.specs.Spelling.{SpellsBox, SpellsBoxes}
-use Rattle.zf_tree.specs.Trees.{BoxTree, box_of}
+use Rattle.zf_tree.specs.Trees.{BoxTree}
+use Rattle.zf_tree.specs.TreeViews.{box_of}
 
 -- ---- one box
 

@@ -20,7 +20,7 @@ use Rattle.zf_tree.specs.declared.tree.Paragraph.TheVariants as paragraph
 use Rattle.zf_tree.specs.declared.tree.ZBox.{ZBox}
 use Rattle.zf_tree.specs.declared.tree.ZBox.TheVariants as zbox
 use Rattle.zf_text.specs.Levels.{quantifier_level, expression_level}
-use Rattle.zf_tree.specs.Names.{is_bare}
+use Rattle.zf_tree.specs.NameViews.{is_bare}
 use Rattle.zf_text.specs.Reading as basic
 use Rattle.zf_scan.specs.Choosing.{is_mark}
 use Rattle.zf_text.specs.Reading.{first, rest, is_end, read_name, read_opening}

@@ -3,6 +3,7 @@ pub mod Height
 pub mod Spelling
 pub mod Reads
 pub mod Parsing
+pub mod ParsingViews
 pub mod Reading
 pub mod TermReading
 pub mod BoxReading

@@ -1,15 +1,13 @@
 -- What reading the tokens of a text answers, and what reading a source does.
-use Rattle.std.specs.Prelude.{◌≡◌, ℕ, ◌⊎◌, ◌≤◌, List, Result, Ok, Err}
+use Rattle.std.specs.Prelude.{◌≡◌, ℕ, ◌⊎◌, ◌≤◌, List}
 use Rattle.zf_scan.specs.declared.fault.TextFault.{TextFault}
 use Rattle.zf_scan.specs.declared.fault.TextFaultKind.{TextFaultKind}
 use Rattle.zf_scan.specs.declared.fault.TextFaultKind.TheVariants.{Unexpected, NotInProfile, TooDeep, OutOfMemory}
 use Rattle.zf_scan.specs.declared.token.Token.{Token}
-use Rattle.zf_tree.specs.declared.tree.Spec.{Spec}
-use Rattle.zf_scan.specs.Cuts.{IsCutInto, HasFault, IsWantOfMemory}
-use Rattle.zf_text.specs.declared.unread.Unread.{Unread}
+use Rattle.zf_scan.specs.Cuts.{IsCutInto, HasFault}
 use Rattle.zf_text.specs.Height.{highest, height_limit}
 use Rattle.zf_text.specs.Reads.{Reads}
-use Rattle.zf_tree.specs.Trees.{BoxTree, boxes_of}
+use Rattle.zf_tree.specs.Trees.{BoxTree}
 
 -- a tree that reads the tokens, with no part above the limit
 pub record ReadsLow (boxes : List BoxTree) (tokens : List Token) : Type 0 where
@@ -23,10 +21,6 @@ Refuses NotInProfile line tokens = (boxes : List BoxTree) → Reads boxes tokens
 Refuses TooDeep line tokens = (boxes : List BoxTree) → ReadsLow boxes tokens → ⊥
 Refuses OutOfMemory line tokens = line ≡ 0
 Refuses _ line tokens = ⊥
-
-abbrev pub Parses : Result Spec TextFault → List Token → Type 0
-Parses (Ok spec) tokens = ReadsLow (boxes_of spec) tokens
-Parses (Err fault) tokens = Refuses fault.kind fault.line tokens
 
 -- the source is cut, and the tree reads its tokens
 abbrev pub ReadsSource : List BoxTree → List ℕ → Type 0
@@ -42,7 +36,3 @@ IsGrammarFault _ = ⊥
 abbrev pub RefusesSource : List ℕ → TextFault → Type 0
 RefusesSource source fault =
     HasFault source fault ⊎ ((tokens : List Token) × IsCutInto source tokens × Refuses fault.kind fault.line tokens × IsGrammarFault fault.kind)
-
-abbrev pub ReadsSpec : Result Spec Unread → List ℕ → Type 0
-ReadsSpec (Ok spec) source = ReadsSource (boxes_of spec) source
-ReadsSpec (Err unread) source = IsWantOfMemory unread.fault ⊎ RefusesSource source unread.fault

@@ -12,7 +12,7 @@ use Rattle.zf_tree.specs.declared.symbol.Infix.TheVariants.{Minus}
 use Rattle.zf_tree.specs.declared.symbol.Quantifier.{Quantifier}
 use Rattle.zf_tree.specs.declared.symbol.Relation.{Relation}
 use Rattle.zf_tree.specs.declared.tree.Link.{Link}
-use Rattle.zf_tree.specs.Names.{ident_of}
+use Rattle.zf_tree.specs.NameViews.{ident_of}
 use Rattle.zf_tree.specs.declared.tree.Name.{Name}
 use Rattle.zf_text.specs.declared.levels.Role.{Role}
 use Rattle.zf_text.specs.declared.levels.Role.TheVariants as role
@@ -31,7 +31,8 @@ use Rattle.zf_scan.specs.Choosing.{next_of, goes_on, ends_names, is_mark}
 use Rattle.zf_text.specs.Reading as basic
 use Rattle.zf_text.specs.Reading.{first, rest, read_name, read_number}
 use Rattle.zf_scan.specs.Separators.{Symbol}
-use Rattle.zf_tree.specs.Trees.{line_of, tree_of, new_link, new_decl}
+use Rattle.zf_tree.specs.Trees.{line_of}
+use Rattle.zf_tree.specs.TreeViews.{tree_of, new_link, new_decl}
 
 -- ---- a value and the symbols after it, or why there is none
 

@@ -1,9 +1,11 @@
 //! Trees out of tokens, and out of a source.
 ghost use Rattle.std.specs.Prelude.{◌≡◌, ◌≤◌, ◌<◌, ◌⊎◌, ◌++◌, ℕ, List, IfOk, IfErr, OnOk, length, map, slice_index_or, slice_set};
 ghost use Rattle.zf_text.specs.BoxByBox.{ReadsOneBox, ReadsUpTo};
-ghost use Rattle.zf_text.specs.Parsing.{Parses, ReadsSpec, RefusesSource};
+ghost use Rattle.zf_text.specs.ParsingViews.{Parses, ReadsSpec};
+ghost use Rattle.zf_text.specs.Parsing.{RefusesSource};
 ghost use Rattle.zf_scan.specs.Boxes.{IsBorder, IsBoxAtMost, IsCutOn, IsCutUpTo};
-ghost use Rattle.zf_scan.specs.Cuts.{IsStuck, IsWantOfMemory};
+ghost use Rattle.zf_scan.specs.Cuts.{IsStuck};
+ghost use Rattle.zf_scan.specs.CutViews.{IsWantOfMemory};
 ghost use Rattle.zf_scan.specs.Placing.{symbol_at, token_at, unplaced};
 ghost use Rattle.zf_text.specs.Reads.{Reads};
 ghost use Rattle.zf_scan.specs.Separators.{reduced, starts_closed};

@@ -13,17 +13,22 @@ pub use Rattle.zf_value.proofs.Exactly.{same}
 pub use Rattle.zf_value.specs.Sets.{Every, IsAscending, value_order}
 pub use Rattle.zf_value.specs.declared.TheConstants.{SET_MAX}
 pub use Rattle.zf_value.specs.declared.plain.Value.{Elem, fold-roll-Value, Int, map-Value, roll-Value, SetOf, Tuple, Value}
-pub use Rattle.zf_term.specs.Definitions.{Comp, comp_of, Defined, globals_of}
+pub use Rattle.zf_term.specs.Definitions.{Comp, Defined}
+pub use Rattle.zf_term.specs.SchemaViews.{comp_of}
+pub use Rattle.zf_term.specs.DefinitionViews.{globals_of}
 pub use Rattle.zf_term.specs.FirstNamed.{first_named}
-pub use Rattle.zf_term.specs.Types.{basic, int, no_types, power, product, Ty, type, type_of, types, Tys}
+pub use Rattle.zf_term.specs.Types.{basic, int, no_types, power, product, Ty, type, types, Tys}
+pub use Rattle.zf_term.specs.TypeViews.{type_of}
 pub use Rattle.zf_term.specs.declared.schema.Component.{Component}
 pub use Rattle.zf_meaning.specs.Environments.{Environment, found_number, type_number}
 pub use Rattle.zf_meaning.specs.Envs.{environment_of}
 pub use Rattle.zf_meaning.specs.Rows.{AreOfTypes, IsElement, IsOfType, IsRow}
 pub use Rattle.zf_texts.specs.BindingTexts.{binding_text, component_text, component_texts}
-pub use Rattle.zf_texts.specs.Clear.{AreApart, AreClear, AreNames, Ends, is_in_name, is_in_word, IsClear, IsName, IsNoneOf}
-pub use Rattle.zf_texts.specs.Held.{held_comps, held_values, HoldNext, IsHeldLine, IsNamedNext}
-unfoldable pub use Rattle.zf_texts.specs.Held.{IsNoHeldLine}
+pub use Rattle.zf_texts.specs.Clear.{AreApart, AreClear, AreNames, IsClear, IsName, IsNoneOf}
+pub use Rattle.zf_texts.specs.Words.{Ends, is_in_name, is_in_word}
+pub use Rattle.zf_texts.specs.HeldLines.{held_comps, held_values}
+pub use Rattle.zf_texts.specs.Held.{HoldNext, IsHeldLine, IsNamedNext}
+unfoldable pub use Rattle.zf_texts.specs.HeldLaws.{IsNoHeldLine}
 pub use Rattle.zf_texts.specs.Readings.{IfMisfit, IsLineOf}
 unfoldable pub use Rattle.zf_texts.specs.Readings.{IsNoLine}
 pub use Rattle.zf_texts.specs.Spellings.{element_text, or_empty, spelled, spelled_if, spellings, with_spelling}

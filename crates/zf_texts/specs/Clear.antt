@@ -1,25 +1,11 @@
 -- When spellings are clear: each is that of one element, and it is seen where it ends.
-use Rattle.std.specs.Prelude.{◌≡◌, ℕ, ◌^◌, ◌<◌, ◌≤◌, Bool, true, false, ◌||◌, ◌==◌, List, [], ◌∷◌, length, Some, slice_get}
+use Rattle.std.specs.Prelude.{◌≡◌, ℕ, ◌^◌, ◌<◌, ◌≤◌, true, List, [], ◌∷◌, length, Some, slice_get}
 use Rattle.std.specs.List.{list_all}
-use Rattle.zf_scan.specs.Pieces.{is_letter, is_digit}
 use Rattle.zf_texts.specs.declared.spelling.Spelling.{Spelling}
 use Rattle.zf_texts.specs.declared.spelling.Spelling.TheVariants.{Numbered, Named}
 
--- a byte of a name with its strokes: a letter, a digit, or one of `! ' ? \ _`
-abbrev pub is_in_name : ℕ → Bool
-is_in_name b = is_letter b || is_digit b || (b == 33) || (b == 39) || (b == 63) || (b == 92) || (b == 95)
-
--- a byte of a name, a number or an element: `-` and `.` too
-abbrev pub is_in_word : ℕ → Bool
-is_in_word b = is_in_name b || (b == 45) || (b == 46)
-
 abbrev pub IsName : List ℕ → Type 0
 IsName name = (0 < length name) × (list_all is_in_name name ≡ true)
-
--- no word goes on with these
-abbrev pub Ends : List ℕ → Type 0
-Ends [] = Unit {0}
-Ends (b ∷ rest) = is_in_word b ≡ false
 
 abbrev pub AreNames : List (List ℕ) → Type 0
 AreNames [] = Unit {0}

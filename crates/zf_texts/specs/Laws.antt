@@ -8,8 +8,11 @@ use Rattle.zf_meaning.specs.Rows.{IsOfType, IsRow}
 use Rattle.zf_texts.specs.declared.spelling.Spelling.{Spelling}
 use Rattle.zf_texts.specs.ValueTexts.{value_text}
 use Rattle.zf_texts.specs.BindingTexts.{binding_text}
-use Rattle.zf_texts.specs.Clear.{Ends, AreClear}
-use Rattle.zf_texts.specs.Held.{HaveClearNames, IsHeldLine, IsLineOfSome}
+use Rattle.zf_texts.specs.Words.{Ends}
+use Rattle.zf_texts.specs.Clear.{AreClear}
+use Rattle.zf_texts.specs.HeldLaws.{HaveClearNames}
+use Rattle.zf_texts.specs.Held.{IsHeldLine}
+use Rattle.zf_texts.specs.HeldLines.{IsLineOfSome}
 
 -- values of one type with one text are one
 abbrev pub OneValue : Type 0

@@ -1,8 +1,11 @@
 pub mod Spellings
 pub mod ValueTexts
 pub mod BindingTexts
+pub mod Words
 pub mod Clear
 pub mod Held
+pub mod HeldLines
+pub mod HeldLaws
 pub mod Laws
 pub mod Readings
 pub mod Steps

@@ -12,7 +12,8 @@ use Rattle.zf_texts.specs.declared.spelling.Spelling.{Spelling}
 use Rattle.zf_texts.specs.Spellings.{spelled}
 use Rattle.zf_texts.specs.ValueTexts.{parted, later_parts, separator, value_text}
 use Rattle.zf_texts.specs.BindingTexts.{component_text, component_texts}
-use Rattle.zf_texts.specs.Clear.{is_in_word, Ends, IsClear, AreClear}
+use Rattle.zf_texts.specs.Words.{is_in_word, Ends}
+use Rattle.zf_texts.specs.Clear.{IsClear, AreClear}
 use Rattle.zf_texts.specs.Held.{IsNamedNext}
 
 -- what may stand behind the text of a value of the type: behind a word none goes on

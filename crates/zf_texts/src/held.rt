@@ -1,9 +1,10 @@
 //! Lines of some components, as they are read.
 ghost use Rattle.std.specs.Prelude.{◌≤◌, length, drop, IfOk, IfErr, MatchBool, MatchOption};
 ghost use Rattle.zf_meaning.specs.Envs.{environment_of};
-ghost use Rattle.zf_term.specs.Definitions.{comp_of, schema_of};
-ghost use Rattle.zf_texts.specs.Clear.{Ends};
-ghost use Rattle.zf_texts.specs.Held.{IsHeldLine, IsNoHeldLine};
+ghost use Rattle.zf_term.specs.SchemaViews.{comp_of, schema_of};
+ghost use Rattle.zf_texts.specs.Words.{Ends};
+ghost use Rattle.zf_texts.specs.Held.{IsHeldLine};
+ghost use Rattle.zf_texts.specs.HeldLaws.{IsNoHeldLine};
 ghost use Rattle.zf_texts.specs.Readings.{IfMisfit};
 ghost use Rattle.zf_texts.specs.Steps.{HoldsIfNamed, HoldsNothing, IsItem, IsNamedAt, IsNoItem, BeginsWithoutName, IsNotNamed, BeginsWithName, GoesOn};
 ghost use Rattle.zf_texts.specs.ValueTexts.{separator};

@@ -1,7 +1,7 @@
 //! Values and bindings as they are printed.
 ghost use Rattle.std.specs.Prelude.{◌≡◌, ◌<◌, ◌∷◌, ◌++◌, [], ℕ, IfOk, OnOk, codes, map};
 ghost use Rattle.std.specs.Fmt.{decimal, signed_decimal};
-ghost use Rattle.zf_term.specs.Definitions.{comp_of, schema_of};
+ghost use Rattle.zf_term.specs.SchemaViews.{comp_of, schema_of};
 ghost use Rattle.zf_texts.specs.BindingTexts as spec;
 ghost use Rattle.zf_texts.specs.Spellings.{spelled, spelled_if, element_text};
 ghost use Rattle.zf_texts.specs.ValueTexts.{parted, value_text, separator};

@@ -1,8 +1,9 @@
 //! Values and bindings as they are read back.
 ghost use Rattle.std.specs.Prelude.{◌≡◌, ◌↔◌, ◌≤◌, ◌++◌, [], ◌∷◌, length, map, drop, IsTrue, IfOk, IfErr};
 ghost use Rattle.zf_meaning.specs.Envs.{environment_of};
-ghost use Rattle.zf_term.specs.Definitions.{comp_of, schema_of};
-ghost use Rattle.zf_term.specs.Types.{int, power, product, types, type_of};
+ghost use Rattle.zf_term.specs.SchemaViews.{comp_of, schema_of};
+ghost use Rattle.zf_term.specs.Types.{int, power, product, types};
+ghost use Rattle.zf_term.specs.TypeViews.{type_of};
 ghost use Rattle.zf_value.specs.Sets.{IsAscending};
 ghost use Rattle.zf_texts.specs.Readings.{IsLineOf, IsNoLine, IfMisfit};
 ghost use Rattle.zf_texts.specs.Steps.{IsValueAt, IsNoValue, ArePartsAt, AreNoParts, AreMembersAt, AreNoMembers, IsNext, IsNoNext, IsComponentAt, IsNoComponent};

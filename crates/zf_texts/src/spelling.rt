@@ -1,6 +1,6 @@
 //! How elements are spelled.
 ghost use Rattle.std.specs.Prelude.{◌≡◌, ◌+◌, ◌++◌, ℕ, List, drop, IfOk, OnOk};
-ghost use Rattle.zf_term.specs.Definitions.{definition_of, globals_of};
+ghost use Rattle.zf_term.specs.DefinitionViews.{definition_of, globals_of};
 ghost use Rattle.zf_texts.specs.declared.spelling.Spelling as declared;
 ghost use Rattle.zf_texts.specs.Spellings.{with_spelling, spellings};
 

@@ -2,7 +2,7 @@
 ghost use Rattle.std.specs.Prelude.{◌≡◌, ◌+◌, ◌≤◌, ◌<◌, ◌^◌, ◌++◌, ℕ, ℤ, List, length, drop, take, codes, decimal, IsTrue, IfOk, IfErr, MatchOption, MatchBool, FitsSigned};
 ghost use Rattle.std.specs.Fmt.{signed_decimal};
 ghost use Rattle.std.specs.Int.{w64};
-ghost use Rattle.zf_texts.specs.Clear as spec;
+ghost use Rattle.zf_texts.specs.Words as spec;
 ghost use Rattle.zf_texts.specs.Readings.{IfMisfit};
 ghost use Rattle.zf_texts.specs.Steps.{IsItem, IsNoItem, IsWordAt};
 ghost use Rattle.zf_texts.specs.ValueTexts.{separator};

@@ -9,7 +9,8 @@ pub use Rattle.zf_value.proofs.Exact.{exact}
 pub use Rattle.zf_value.proofs.Seen.{is_Int, no_Int, parts-Tuple, same_number}
 pub use Rattle.zf_value.specs.Operations.{AreFrom, IsBetween, IsFunctional, IsInDomain, IsInjective, IsInRange, IsPairOf, IsRelationThat, IsTotal, pair, Relates}
 unfoldable pub use Rattle.zf_value.specs.Operations.{AreElements, ArePartialFunctions, ArePartialInjections, AreRelations, AreTotalFunctions, AreTotalInjections, IsApplied, IsComposition, IsCross, IsDisplay, IsDomain, IsDomainRestriction, IsDomainSubtraction, IsElement, IsImage, IsIntersection, IsInverse, IsOverriding, IsPower, IsRange, IsRangeRestriction, IsRangeSubtraction, IsSetDifference, IsSize, IsUnion}
-pub use Rattle.zf_value.specs.Sets.{Every, IsAscending, IsMember, IsSetOf, members, parts, value_order}
+pub use Rattle.zf_value.specs.Sets.{Every, IsAscending, IsMember, IsSetOf, members, value_order}
+pub use Rattle.zf_value.specs.SetLaws.{parts}
 unfoldable pub use Rattle.zf_value.specs.Sets.{AreAmong}
 pub use Rattle.zf_value.specs.declared.TheConstants.{SET_MAX}
 pub use Rattle.zf_value.specs.declared.value.Outcome.{Outcome}

@@ -8,7 +8,8 @@ use Rattle.zf_tree.specs.declared.tree.SchemaExp.TheOpen.{SchemaExp-F}
 use Rattle.zf_tree.specs.declared.tree.SchemaExp.TheViews.{roll-SchemaExp}
 use Rattle.zf_tree.specs.declared.tree.SchemaExp.TheVariants as v
 use Rattle.zf_tree.specs.declared.tree.SchemaExp.TheFolds.{fold-roll-SchemaExp, map-SchemaExp}
-use Rattle.zf_tree.specs.Trees.{SchemaTree, schema_text, reference, both, either, schema_bracket, decl_of, tree_of, schema_of, schema_step}
+use Rattle.zf_tree.specs.Trees.{SchemaTree, schema_text, reference, both, either, schema_bracket}
+use Rattle.zf_tree.specs.TreeViews.{decl_of, tree_of, schema_of, schema_step}
 
 rolled : (x : SchemaExp-F SchemaExp) → schema_of (roll-SchemaExp x) ≡ schema_step (map-SchemaExp SchemaExp SchemaTree schema_of x)
 unfolding schema_of

@@ -1,8 +1,9 @@
 //! The trees of a text.
 ghost use Rattle.std.specs.Prelude.{◌≡◌, ◌++◌};
-ghost use Rattle.zf_tree.specs.Names as spec;
-ghost use Rattle.zf_tree.specs.Names.{ident_of, name_at};
-ghost use Rattle.zf_tree.specs.Trees.{line_of, tree_of};
+ghost use Rattle.zf_tree.specs.NameViews as spec;
+ghost use Rattle.zf_tree.specs.NameViews.{ident_of, name_at};
+ghost use Rattle.zf_tree.specs.Trees.{line_of};
+ghost use Rattle.zf_tree.specs.TreeViews.{tree_of};
 
 use crate::ends::{back, front};
 use crate::operator::{Listed, Operator, Unary};
@@ -83,7 +84,7 @@ pub struct Ident<'a> {
 
 impl<'a> Model for Ident<'a> {
     ghost use Rattle.std.specs.Prelude.{take, drop};
-    ghost use Rattle.zf_tree.specs.Names as names;
+    ghost use Rattle.zf_tree.specs.NameViews as names;
 
     ghost Value = { names.Ident };
 

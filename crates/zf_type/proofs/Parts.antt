@@ -6,6 +6,7 @@ use Rattle.zf_term.specs.declared.resolved.Range.{Range}
 use Rattle.zf_term.specs.declared.resolved.Resolved.{Resolved}
 use Rattle.zf_term.specs.declared.resolved.Resolved.TheVariants as v
 use Rattle.zf_term.specs.ResolvedTrees as kept
+use Rattle.zf_term.specs.ResolvedViews as kept_views
 use Rattle.zf_term.proofs.ResolvedSeen as seen
 use Rattle.zf_type.proofs.Judging.{judged_of, fault_of}
 use Rattle.zf_type.proofs.ResolvedAlike.{part_within, resolved_within}
@@ -42,13 +43,13 @@ part_constrains s (present e) None h = absurd h
 part_constrains s (present e) (Some j) h = subst (λ z. IsOf s e z) h.met h.is_of
 
 -- the term of a part, in its box
-pub none_kept : (s : Scope) (n : Need) (p : Perhaps) → IsPart s n p None → kept.part_of None ≡ resolved_part s p
+pub none_kept : (s : Scope) (n : Need) (p : Perhaps) → IsPart s n p None → kept_views.part_of None ≡ resolved_part s p
 none_kept s n absent h = refl
 none_kept s n (present e) h = absurd h
 
-pub some_kept : (s : Scope) (n : Need) (p : Perhaps) (j : Judged) (t : Resolved) → t ≡ j.term → IsPart s n p (Some j) → kept.part_of (Some t) ≡ resolved_part s p
+pub some_kept : (s : Scope) (n : Need) (p : Perhaps) (j : Judged) (t : Resolved) → t ≡ j.term → IsPart s n p (Some j) → kept_views.part_of (Some t) ≡ resolved_part s p
 some_kept s n absent j t is h = absurd h
-some_kept s n (present e) j t is h = ap (λ u. kept.present (kept.resolved_of u)) is ∙ ap kept.present h.term
+some_kept s n (present e) j t is h = ap (λ u. kept.present (kept_views.resolved_of u)) is ∙ ap kept.present h.term
 
 -- ---- what stands within declarations
 
@@ -57,14 +58,14 @@ pub row_here : {E : Type 0} (r : Result ZType E) (t s : Scope) (vs : List Var) (
 row_here (Ok u) t s vs n h e row = row s vs h e
 row_here (Err x) t s vs n h e row = tt
 
-module _ (s : Scope) (ds : VarDecls) (vs : List Var) (declares : Declare s ds vs) (rs : List Range) (sets : kept.ranges (map kept.range_of rs) ≡ resolved_ranges s ds) where
-  pub quantified_kept : (l : ℕ) (q : Quantifier) (p : Perhaps) (e : Tree) (o : Option Resolved) (t : Resolved) → kept.part_of o ≡ resolved_part (within s vs) p → kept.resolved_of t ≡ resolved (within s vs) e → kept.resolved_of (v.Quantified q l rs o t) ≡ resolved s (quantified l q ds p e)
+module _ (s : Scope) (ds : VarDecls) (vs : List Var) (declares : Declare s ds vs) (rs : List Range) (sets : kept_views.ranges (map kept_views.range_of rs) ≡ resolved_ranges s ds) where
+  pub quantified_kept : (l : ℕ) (q : Quantifier) (p : Perhaps) (e : Tree) (o : Option Resolved) (t : Resolved) → kept_views.part_of o ≡ resolved_part (within s vs) p → kept_views.resolved_of t ≡ resolved (within s vs) e → kept_views.resolved_of (v.Quantified q l rs o t) ≡ resolved s (quantified l q ds p e)
   quantified_kept l q p e o t condition body =
       let one = condition ∙ sym (part_within s ds vs p declares) in
       let two = body ∙ sym (resolved_within s ds vs e declares) in
       seen.of-Quantified l q rs o t ∙ (cc)
 
-  pub builder_kept : (l : ℕ) (p e : Perhaps) (o t : Option Resolved) → kept.part_of o ≡ resolved_part (within s vs) p → kept.part_of t ≡ resolved_part (within s vs) e → kept.resolved_of (v.Builder l rs o t) ≡ resolved s (builder l ds p e)
+  pub builder_kept : (l : ℕ) (p e : Perhaps) (o t : Option Resolved) → kept_views.part_of o ≡ resolved_part (within s vs) p → kept_views.part_of t ≡ resolved_part (within s vs) e → kept_views.resolved_of (v.Builder l rs o t) ≡ resolved s (builder l ds p e)
   builder_kept l p e o t condition term =
       let one = condition ∙ sym (part_within s ds vs p declares) in
       let two = term ∙ sym (part_within s ds vs e declares) in

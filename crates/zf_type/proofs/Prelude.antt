@@ -12,7 +12,8 @@ pub use Rattle.std.specs.Vec.Iter.{into_iter_items}
 pub use Rattle.zf_reference.specs.declared.reference.Reference.TheVariants.{Component, Global, Local}
 pub use Rattle.zf_tree.specs.Names.{spelling}
 pub use Rattle.zf_tree.specs.Operators.{left_need, need_of, prefix_need, relation_rule, right_need, rule_of, sign_need}
-pub use Rattle.zf_tree.specs.Trees.{absent, binary, bracket, builder, chain, constant, empty_set, line_of, link, link_of, Links, links, listed, named, no_decls, no_links, no_trees, numeral, part_of, Perhaps, present, quantified, Tree, tree, tree_of, Trees, trees, unary, var_decl, var_decl_of, var_decls, VarDecls}
+pub use Rattle.zf_tree.specs.Trees.{absent, binary, bracket, builder, chain, constant, empty_set, line_of, link, Links, listed, named, no_decls, no_links, no_trees, numeral, Perhaps, present, quantified, Tree, tree, Trees, unary, var_decl, VarDecls}
+pub use Rattle.zf_tree.specs.TreeViews.{link_of, links, part_of, tree_of, trees, var_decl_of, var_decls}
 pub use Rattle.zf_tree.specs.declared.operator.Listed.{Listed}
 pub use Rattle.zf_tree.specs.declared.operator.Listed.TheVariants.{Display, Product, Tuple}
 pub use Rattle.zf_tree.specs.declared.operator.Need.{Need}
@@ -25,11 +26,16 @@ pub use Rattle.zf_tree.specs.declared.symbol.Relation.{Relation}
 pub use Rattle.zf_tree.specs.declared.tree.Name.{Name}
 pub use Rattle.zf_tree.specs.declared.tree.Term.{Term}
 pub use Rattle.zf_term.proofs.Walk.{at_end, at_step, dropped, pushed}
-pub use Rattle.zf_term.specs.Definitions.{Comp, comp_of, Defined, entry_of, globals_of}
-pub use Rattle.zf_term.specs.FirstNamed.{first_named, found_as, later, or_else}
-pub use Rattle.zf_term.specs.ResolvedTrees.{range_of, ranges, reference, resolved_link_of, resolved_of, ResolvedTree}
+pub use Rattle.zf_term.specs.Definitions.{Comp, Defined}
+pub use Rattle.zf_term.specs.SchemaViews.{comp_of}
+pub use Rattle.zf_term.specs.DefinitionViews.{entry_of, globals_of}
+pub use Rattle.zf_term.specs.FirstNamed.{first_named, later, or_else}
+pub use Rattle.zf_term.specs.FoundViews.{found_as}
+pub use Rattle.zf_term.specs.ResolvedViews.{range_of, ranges, resolved_link_of, resolved_of}
+pub use Rattle.zf_term.specs.ResolvedTrees.{reference, ResolvedTree}
 pub use Rattle.zf_term.specs.Shapes.{conjuncts, is_and}
-pub use Rattle.zf_term.specs.Types.{int, IsSmall, no_types, pair, power, product, Ty, type, type_of, types, Tys}
+pub use Rattle.zf_term.specs.Types.{int, IsSmall, no_types, pair, power, product, Ty, type, types, Tys}
+pub use Rattle.zf_term.specs.TypeViews.{type_of}
 pub use Rattle.zf_term.specs.Faults.{local_twice, mismatch, no_members, not_declared, Offence, too_large}
 pub use Rattle.zf_term.specs.declared.fault.Limit.TheVariants.{TypeNodes}
 pub use Rattle.zf_term.specs.declared.ztype.ZType.{ZType}
@@ -40,10 +46,12 @@ unfoldable pub use Rattle.zf_type.specs.Judging.{Judges, JudgesPart}
 pub use Rattle.zf_type.specs.Offences.{BuildsTooLarge, Clash, Differ, Disagree, IsRepeated, LinksOffend, ListedTooLarge, MakesTooLarge, MakeTooLarge, Misplaced, Offends, OneDiffers, OneOffends, PartOffends, Repeats, SetsOffend}
 pub use Rattle.zf_type.specs.Refusals.{IfFault, IsRefusal, offence_of}
 pub use Rattle.zf_type.specs.Resolving.{bound, referent, resolved, resolved_all, resolved_links, resolved_part, resolved_ranges}
-pub use Rattle.zf_type.specs.Rules.{a_schema, IsSmallSort, Meets, number, predicate, PrefixTakes, set_of, SignTakes, Sort, sort_of, Takes, typed, UnaryTakes}
-unfoldable pub use Rattle.zf_type.specs.Rules.{IsMade, IsMadeOfOne}
-pub use Rattle.zf_type.specs.Scopes.{global_sort, last_named, meaning, meant, Scope, Var, variable_of, with_comp, with_global, with_local, within}
-unfoldable pub use Rattle.zf_type.specs.Scopes.{scope_of}
+pub use Rattle.zf_type.specs.Rules.{a_schema, IsSmallSort, Meets, number, predicate, PrefixTakes, set_of, SignTakes, Sort, Takes, typed, UnaryTakes}
+pub use Rattle.zf_type.specs.RuleViews.{sort_of}
+unfoldable pub use Rattle.zf_type.specs.RuleViews.{IsMade, IsMadeOfOne}
+pub use Rattle.zf_type.specs.Scopes.{global_sort, last_named, meaning, Scope, Var, with_comp, with_global, with_local, within}
+pub use Rattle.zf_type.specs.ScopeViews.{meant, variable_of}
+unfoldable pub use Rattle.zf_type.specs.ScopeViews.{scope_of}
 pub use Rattle.zf_type.specs.Typing.{AreAll, AreApart, AreLinked, AreMembers, Builds, Constrains, Declare, declared, IsApart, IsOf, Makes, member_need, member_sort, row_type, types_of, variables}
 pub use Rattle.zf_type.specs.declared.fault.Refusal.{Refusal}
 pub use Rattle.zf_type.specs.declared.fault.Refusal.TheVariants.{Fault, OutOfMemory}

@@ -8,7 +8,7 @@ use Rattle.zf_tree.specs.declared.tree.VarDecl.{VarDecl}
 use Rattle.zf_tree.specs.declared.symbol.Quantifier.{Quantifier}
 use Rattle.zf_tree.specs.Trees.{line_of, Tree, VarDecls, Perhaps, absent, present, bracket, binary}
 use Rattle.zf_tree.specs.declared.operator.Need.{Need}
-use Rattle.zf_term.specs.ResolvedTrees.{resolved_of}
+use Rattle.zf_term.specs.ResolvedViews.{resolved_of}
 use Rattle.zf_term.specs.Shapes.{is_and}
 use Rattle.zf_term.specs.Types.{Ty, Tys, no_types, type}
 use Rattle.zf_type.specs.declared.fault.Refusal.{Refusal}
@@ -17,7 +17,8 @@ use Rattle.zf_term.specs.Faults.{Offence, local_twice, mismatch, no_members}
 use Rattle.zf_type.specs.Offences.{Offends, PartOffends, SetsOffend, Repeats, IsRepeated}
 use Rattle.zf_type.specs.Refusals.{IfFault}
 use Rattle.zf_type.specs.Resolving.{resolved}
-use Rattle.zf_type.specs.Rules.{typed, sort_of, Meets}
+use Rattle.zf_type.specs.Rules.{typed, Meets}
+use Rattle.zf_type.specs.RuleViews.{sort_of}
 use Rattle.zf_type.specs.Scopes.{Scope, Var}
 use Rattle.zf_tree.specs.Names.{spelling}
 use Rattle.zf_type.specs.Typing.{IsOf, IsApart, declared}

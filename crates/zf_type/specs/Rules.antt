@@ -1,12 +1,12 @@
 -- The rules of types: what the places of a symbol need, and how the types of its operands and of the whole belong together.
-use Rattle.std.specs.Prelude.{◌≡◌, Option, Some, None}
+use Rattle.std.specs.Prelude.{◌≡◌}
 use Rattle.zf_tree.specs.declared.symbol.Constant.{Constant}
 use Rattle.zf_tree.specs.declared.symbol.Constant.TheVariants.{True, False, Integers, Naturals, Positives}
 use Rattle.zf_tree.specs.declared.symbol.Prefix.{Prefix}
 use Rattle.zf_tree.specs.declared.symbol.Prefix.TheVariants.{Power, Finset, Domain, Range, Size}
 use Rattle.zf_tree.specs.declared.operator.Sign.{Sign}
 use Rattle.zf_tree.specs.declared.operator.Sign.TheVariants as sign
-use Rattle.zf_term.specs.Types.{Ty, int, power, type_of, pair, IsSmall}
+use Rattle.zf_term.specs.Types.{Ty, int, power, pair, IsSmall}
 use Rattle.zf_tree.specs.declared.operator.Need.{Need}
 use Rattle.zf_tree.specs.declared.operator.Need.TheVariants as need
 use Rattle.zf_tree.specs.declared.operator.Rule.{Rule}
@@ -14,13 +14,6 @@ use Rattle.zf_tree.specs.declared.operator.Rule.TheVariants as rule
 use Rattle.zf_tree.specs.declared.operator.Unary.{Unary}
 use Rattle.zf_tree.specs.declared.operator.Unary.TheVariants as unary
 pub use Rattle.zf_term.specs.Faults.{Sort, typed, predicate, a_schema}
-use Rattle.zf_type.specs.declared.sort.Sort as program
-use Rattle.zf_type.specs.declared.sort.Sort.TheVariants.{Typed}
-
-abbrev pub sort_of : program.Sort → Sort
-sort_of (Typed t) = typed (type_of t)
-sort_of program.TheVariants.Predicate = predicate
-sort_of program.TheVariants.Schema = a_schema
 
 abbrev pub number : Sort
 number = typed int
@@ -64,11 +57,6 @@ Takes rule.Including x y z = (t : Ty) × (x ≡ set_of t) × (y ≡ set_of t) ×
 Takes rule.Comparing x y z = (x ≡ number) × (y ≡ number) × (z ≡ predicate)
 Takes rule.Connecting x y z = (x ≡ predicate) × (y ≡ predicate) × (z ≡ predicate)
 
--- what two operands make is of the sort that the rule gives the whole; there is none where the rule doesn't take them together
-unfoldable pub IsMade : Rule → Sort → Sort → Option program.Sort → Type 0
-IsMade rule x y None = (z : Sort) → Takes rule x y z → ⊥
-IsMade rule x y (Some z) = Takes rule x y (sort_of z)
-
 abbrev pub PrefixTakes : Prefix → Sort → Sort → Type 0
 PrefixTakes Power x z = (t : Ty) × (x ≡ set_of t) × (z ≡ set_of (power t))
 PrefixTakes Finset x z = (t : Ty) × (x ≡ set_of t) × (z ≡ set_of (power t))
@@ -85,11 +73,6 @@ abbrev pub UnaryTakes : Unary → Sort → Sort → Type 0
 UnaryTakes (unary.Sign s) x z = SignTakes s x z
 UnaryTakes unary.Inverse x z = (t u : Ty) × (x ≡ relation t u) × (z ≡ relation u t)
 UnaryTakes unary.Not x z = (x ≡ predicate) × (z ≡ predicate)
-
--- what one operand makes
-unfoldable pub IsMadeOfOne : Unary → Sort → Option program.Sort → Type 0
-IsMadeOfOne op x None = (z : Sort) → UnaryTakes op x z → ⊥
-IsMadeOfOne op x (Some z) = UnaryTakes op x (sort_of z)
 
 abbrev pub constant_sort : Constant → Sort
 constant_sort True = predicate

@@ -1,15 +1,12 @@
 -- What a name stands for: the innermost bound variable of that name, else the component, else the global.
-use Rattle.std.specs.Prelude.{ℕ, if◌then◌else◌, List, [], ◌∷◌, ◌++◌, Option, Some, None, map}
+use Rattle.std.specs.Prelude.{ℕ, if◌then◌else◌, List, [], ◌∷◌, ◌++◌, Option, Some, None}
 use Rattle.std.specs.Str.{bytes_eq}
 use Rattle.zf_term.specs.FirstNamed.{later, or_else, first_named}
 use Rattle.zf_reference.specs.declared.reference.Reference.{Reference}
 use Rattle.zf_reference.specs.declared.reference.Reference.TheVariants.{Component, Local, Global}
-use Rattle.zf_term.specs.Definitions.{comp_of, globals_of, Comp, Defined, Definition, given_set, free_type, constructor, abbreviation, schema}
-use Rattle.zf_term.specs.Types.{Ty, basic, type_of}
-use Rattle.zf_type.specs.declared.scope.Scope as program_scope
-use Rattle.zf_type.specs.declared.variable.Variable.{Variable}
-use Rattle.zf_type.specs.declared.sort.Sort as program
-use Rattle.zf_type.specs.Rules.{Sort, typed, a_schema, set_of, sort_of}
+use Rattle.zf_term.specs.Definitions.{Comp, Defined, Definition, given_set, free_type, constructor, abbreviation, schema}
+use Rattle.zf_term.specs.Types.{Ty, basic}
+use Rattle.zf_type.specs.Rules.{Sort, typed, a_schema, set_of}
 
 -- a bound variable
 pub record Var : Type 0 where
@@ -21,9 +18,6 @@ pub record Scope : Type 0 where
   pub globals : List Defined
   pub comps : List Comp
   pub locals : List Var
-
-abbrev pub variable_of : Variable → Var
-variable_of v = record { name = v.name; type = type_of v.ztype }
 
 -- the scope with further bound variables
 abbrev pub within : Scope → List Var → Scope
@@ -61,12 +55,3 @@ abbrev pub meaning : Scope → List ℕ → Option (Reference × Sort)
 meaning s x =
     or_else (with_local (last_named (λ v. v.name) x s.locals))
     (or_else (with_comp (first_named (λ c. c.name) x s.comps)) (with_global (first_named (λ d. d.name) x s.globals)))
-
--- ---- the program's answers as these
-
-unfoldable pub scope_of : program_scope.Scope → Scope
-scope_of s = record { globals = globals_of s.globals.now; comps = map comp_of s.components.now; locals = map variable_of s.locals }
-
-abbrev pub meant : Option (Reference × program.Sort) → Option (Reference × Sort)
-meant None = None
-meant (Some p) = Some (p.0, sort_of p.1)

@@ -1,13 +1,16 @@
 //! Bound variables: how declarations bring them into scope, and how they leave it.
 ghost use Rattle.std.specs.Prelude.{◌≡◌, ℕ, IfOk, IfErr, OnOk, OnErr, List, ◌++◌, length, map};
 ghost use Rattle.zf_tree.specs.declared.tree.Name as program;
-ghost use Rattle.zf_term.specs.Types.{Ty, type_of};
+ghost use Rattle.zf_term.specs.Types.{Ty};
+ghost use Rattle.zf_term.specs.TypeViews.{type_of};
 ghost use Rattle.zf_tree.specs.declared.operator.Need.TheVariants as needs;
 ghost use Rattle.zf_type.specs.Judging.{AreNew, AreRepeated, var_type};
 ghost use Rattle.zf_type.specs.Refusals.{IfFault};
-ghost use Rattle.zf_type.specs.Rules.{Meets, set_of, sort_of};
+ghost use Rattle.zf_type.specs.Rules.{Meets, set_of};
+ghost use Rattle.zf_type.specs.RuleViews.{sort_of};
 ghost use Rattle.zf_type.specs.Scopes as spec;
-ghost use Rattle.zf_type.specs.Scopes.{Var, scope_of, variable_of, within};
+ghost use Rattle.zf_type.specs.Scopes.{Var, within};
+ghost use Rattle.zf_type.specs.ScopeViews.{scope_of, variable_of};
 ghost use Rattle.zf_tree.specs.Names.{spelling};
 ghost use Rattle.zf_type.specs.Typing as typing;
 ghost use Rattle.zf_term.specs.Faults as faults;

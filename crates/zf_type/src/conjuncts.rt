@@ -1,7 +1,7 @@
 //! The conjuncts of a predicate of the text.
 ghost use Rattle.std.specs.Prelude.{◌≡◌, ◌++◌, [], ◌∷◌, IfErr, OnOk, map};
-ghost use Rattle.zf_tree.specs.Trees.{tree_of};
-ghost use Rattle.zf_term.specs.ResolvedTrees.{resolved_of};
+ghost use Rattle.zf_tree.specs.TreeViews.{tree_of};
+ghost use Rattle.zf_term.specs.ResolvedViews.{resolved_of};
 ghost use Rattle.zf_term.specs.Shapes as spec;
 ghost use Rattle.zf_tree.specs.declared.operator.Need.TheVariants as needs;
 ghost use Rattle.zf_type.specs.Judging.{is_conjunction};
@@ -9,7 +9,7 @@ ghost use Rattle.zf_type.specs.Offences.{Offends};
 ghost use Rattle.zf_type.specs.Refusals.{IfFault};
 ghost use Rattle.zf_type.specs.Resolving.{resolved};
 ghost use Rattle.zf_type.specs.Rules.{predicate};
-ghost use Rattle.zf_type.specs.Scopes.{scope_of};
+ghost use Rattle.zf_type.specs.ScopeViews.{scope_of};
 ghost use Rattle.zf_type.specs.Typing.{IsOf};
 
 use crate::fault::Refusal;

@@ -1,9 +1,9 @@
 //! Faults of types.
 ghost use Rattle.std.specs.Prelude.{◌≡◌, IfOk};
 ghost use Rattle.zf_term.specs.Faults.{kind_of, mismatch, misplaced, typed};
-ghost use Rattle.zf_term.specs.Types.{type_of};
+ghost use Rattle.zf_term.specs.TypeViews.{type_of};
 ghost use Rattle.zf_type.specs.Refusals.{IsRefusal, fault_of, offence_of};
-ghost use Rattle.zf_type.specs.Rules.{sort_of};
+ghost use Rattle.zf_type.specs.RuleViews.{sort_of};
 
 use crate::sort::Sort;
 use bumpalo::Bump;

@@ -1,8 +1,9 @@
 //! Variables that are found by buckets of their names.
 ghost use Rattle.std.specs.Prelude.{◌≡◌, ◌-◌, ◌^◌, ◌∷◌, ◌++◌, ◌<◌, [], IfSome, OnOk, OnErr, get_or, length, map, take};
 ghost use Rattle.zf_type.specs.Buckets.{AreHeads, IsIndexed};
-ghost use Rattle.zf_type.specs.Scopes.{last_named, variable_of};
-ghost use Rattle.zf_term.specs.FirstNamed.{found_as};
+ghost use Rattle.zf_type.specs.Scopes.{last_named};
+ghost use Rattle.zf_type.specs.ScopeViews.{variable_of};
+ghost use Rattle.zf_term.specs.FoundViews.{found_as};
 
 use crate::spelling::{BUCKETS, bucket_of};
 use crate::variable::Variable;

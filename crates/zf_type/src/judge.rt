@@ -1,16 +1,18 @@
 //! What a term is by the typing rules, or an offence against them.
 ghost use Rattle.std.specs.Prelude.{◌≡◌, IfOk, IfErr};
 ghost use Rattle.zf_tree.specs.Trees as tree;
-ghost use Rattle.zf_tree.specs.Trees.{Tree, named, numeral, tree_of};
+ghost use Rattle.zf_tree.specs.Trees.{Tree, named, numeral};
+ghost use Rattle.zf_tree.specs.TreeViews.{tree_of};
 ghost use Rattle.zf_term.specs.Faults.{too_large};
-ghost use Rattle.zf_term.specs.ResolvedTrees.{resolved_of};
+ghost use Rattle.zf_term.specs.ResolvedViews.{resolved_of};
 ghost use Rattle.zf_type.specs.Judging.{Judges};
 ghost use Rattle.zf_type.specs.Offences.{Offends};
 ghost use Rattle.zf_type.specs.Refusals.{IfFault};
 ghost use Rattle.zf_type.specs.Resolving.{resolved};
-ghost use Rattle.zf_type.specs.Rules.{IsSmallSort, Meets, sort_of};
+ghost use Rattle.zf_type.specs.Rules.{IsSmallSort, Meets};
+ghost use Rattle.zf_type.specs.RuleViews.{sort_of};
 ghost use Rattle.zf_type.specs.Scopes as spec;
-ghost use Rattle.zf_type.specs.Scopes.{scope_of};
+ghost use Rattle.zf_type.specs.ScopeViews.{scope_of};
 ghost use Rattle.zf_type.specs.Typing.{IsOf};
 
 mod binders;

@@ -5,9 +5,11 @@ ghost use Rattle.zf_tree.specs.declared.operator.Sign.TheVariants as sign;
 ghost use Rattle.zf_tree.specs.Operators.{left_need};
 ghost use Rattle.zf_tree.specs.declared.operator.Rule.TheVariants as rule;
 ghost use Rattle.zf_tree.specs.declared.operator.Unary.TheVariants as unary;
-ghost use Rattle.zf_term.specs.Types.{int, type_of};
+ghost use Rattle.zf_term.specs.Types.{int};
+ghost use Rattle.zf_term.specs.TypeViews.{type_of};
 ghost use Rattle.zf_type.specs.Rules as spec;
-ghost use Rattle.zf_type.specs.Rules.{IsMade, IsMadeOfOne, Meets, predicate, relation, set_of, sort_of};
+ghost use Rattle.zf_type.specs.RuleViews.{IsMade, IsMadeOfOne, sort_of};
+ghost use Rattle.zf_type.specs.Rules.{Meets, predicate, relation, set_of};
 
 use crate::sort::Sort;
 use bumpalo::Bump;
@@ -71,7 +73,7 @@ fn are_alike<'a>(rule: Rule, left: &Sort<'a>, right: &Sort<'a>) -> bool
     left.meets(rule.left_need()) && left.same(right)
 }
 
-#[tactic(auto, unfolding(crate::specs::Rules::IsMade))]
+#[tactic(auto, unfolding(crate::specs::RuleViews::IsMade))]
 fn interval<'a>(
     arena: &'a Bump,
     left: &Sort<'a>,
@@ -88,7 +90,7 @@ fn interval<'a>(
     Ok(Some(set_of_numbers(arena)?))
 }
 
-#[tactic(auto, unfolding(crate::specs::Rules::IsMade))]
+#[tactic(auto, unfolding(crate::specs::RuleViews::IsMade))]
 fn paired<'a>(
     arena: &'a Bump,
     left: &Sort<'a>,
@@ -106,7 +108,7 @@ fn paired<'a>(
     Ok(Some(Sort::Typed(pair)))
 }
 
-#[tactic(auto, unfolding(crate::specs::Rules::IsMade))]
+#[tactic(auto, unfolding(crate::specs::RuleViews::IsMade))]
 fn composed<'a>(
     arena: &'a Bump,
     left: &Sort<'a>,
@@ -126,7 +128,7 @@ fn composed<'a>(
     Ok(Some(relation_sort(arena, from, into)?))
 }
 
-#[tactic(auto, unfolding(crate::specs::Rules::IsMade))]
+#[tactic(auto, unfolding(crate::specs::RuleViews::IsMade))]
 fn domain_restricted<'a>(left: &Sort<'a>, right: &Sort<'a>) -> Result<Option<Sort<'a>>, AllocError>
     ensures { IfOk result (IsMade rule.DomainRestricting (sort_of left.now) (sort_of right.now)) }
 {
@@ -142,7 +144,7 @@ fn domain_restricted<'a>(left: &Sort<'a>, right: &Sort<'a>) -> Result<Option<Sor
     Ok(Some(right.share()?))
 }
 
-#[tactic(auto, unfolding(crate::specs::Rules::IsMade))]
+#[tactic(auto, unfolding(crate::specs::RuleViews::IsMade))]
 fn range_restricted<'a>(left: &Sort<'a>, right: &Sort<'a>) -> Result<Option<Sort<'a>>, AllocError>
     ensures { IfOk result (IsMade rule.RangeRestricting (sort_of left.now) (sort_of right.now)) }
 {
@@ -158,7 +160,7 @@ fn range_restricted<'a>(left: &Sort<'a>, right: &Sort<'a>) -> Result<Option<Sort
     Ok(Some(left.share()?))
 }
 
-#[tactic(auto, unfolding(crate::specs::Rules::IsMade))]
+#[tactic(auto, unfolding(crate::specs::RuleViews::IsMade))]
 fn related<'a>(
     arena: &'a Bump,
     left: &Sort<'a>,
@@ -176,7 +178,7 @@ fn related<'a>(
     Ok(Some(set_sort(arena, set_type(arena, pair)?)?))
 }
 
-#[tactic(auto, unfolding(crate::specs::Rules::IsMade))]
+#[tactic(auto, unfolding(crate::specs::RuleViews::IsMade))]
 fn applied<'a>(left: &Sort<'a>, right: &Sort<'a>) -> Result<Option<Sort<'a>>, AllocError>
     ensures { IfOk result (IsMade rule.Applying (sort_of left.now) (sort_of right.now)) }
 {
@@ -192,7 +194,7 @@ fn applied<'a>(left: &Sort<'a>, right: &Sort<'a>) -> Result<Option<Sort<'a>>, Al
     Ok(Some(Sort::Typed(into.share()?)))
 }
 
-#[tactic(auto, unfolding(crate::specs::Rules::IsMade))]
+#[tactic(auto, unfolding(crate::specs::RuleViews::IsMade))]
 fn image<'a>(
     arena: &'a Bump,
     left: &Sort<'a>,
@@ -212,7 +214,7 @@ fn image<'a>(
     Ok(Some(set_sort(arena, into.share()?)?))
 }
 
-#[tactic(auto, unfolding(crate::specs::Rules::IsMade))]
+#[tactic(auto, unfolding(crate::specs::RuleViews::IsMade))]
 fn belonging<'a>(left: &Sort<'a>, right: &Sort<'a>) -> Option<Sort<'a>>
     ensures { IsMade rule.Belonging (sort_of left.now) (sort_of right.now) result }
 {
@@ -240,7 +242,7 @@ pub fn apply<'a>(
     }
 }
 
-#[tactic(auto, unfolding(crate::specs::Rules::IsMadeOfOne))]
+#[tactic(auto, unfolding(crate::specs::RuleViews::IsMadeOfOne))]
 fn negative<'a>(operand: &Sort<'a>) -> Option<Sort<'a>>
     ensures { IsMadeOfOne (unary.Sign sign.Minus) (sort_of operand.now) result }
 {
@@ -251,7 +253,7 @@ fn negative<'a>(operand: &Sort<'a>) -> Option<Sort<'a>>
     }
 }
 
-#[tactic(auto, unfolding(crate::specs::Rules::IsMadeOfOne))]
+#[tactic(auto, unfolding(crate::specs::RuleViews::IsMadeOfOne))]
 fn negated<'a>(operand: &Sort<'a>) -> Option<Sort<'a>>
     ensures { IsMadeOfOne unary.Not (sort_of operand.now) result }
 {
@@ -262,7 +264,7 @@ fn negated<'a>(operand: &Sort<'a>) -> Option<Sort<'a>>
     }
 }
 
-#[tactic(auto, unfolding(crate::specs::Rules::IsMadeOfOne))]
+#[tactic(auto, unfolding(crate::specs::RuleViews::IsMadeOfOne))]
 fn inverted<'a>(arena: &'a Bump, operand: &Sort<'a>) -> Result<Option<Sort<'a>>, AllocError>
     ensures { IfOk result (IsMadeOfOne unary.Inverse (sort_of operand.now)) }
 {
@@ -287,7 +289,7 @@ fn prefixed<'a>(
     }
 }
 
-#[tactic(auto, unfolding(crate::specs::Rules::IsMadeOfOne))]
+#[tactic(auto, unfolding(crate::specs::RuleViews::IsMadeOfOne))]
 fn size<'a>(operand: &Sort<'a>) -> Option<Sort<'a>>
     ensures { IsMadeOfOne (unary.Sign (sign.Symbol prefix.Size)) (sort_of operand.now) result }
 {
@@ -298,7 +300,7 @@ fn size<'a>(operand: &Sort<'a>) -> Option<Sort<'a>>
     }
 }
 
-#[tactic(auto, unfolding(crate::specs::Rules::IsMadeOfOne))]
+#[tactic(auto, unfolding(crate::specs::RuleViews::IsMadeOfOne))]
 fn domain<'a>(arena: &'a Bump, operand: &Sort<'a>) -> Result<Option<Sort<'a>>, AllocError>
     ensures { IfOk result (IsMadeOfOne (unary.Sign (sign.Symbol prefix.Domain)) (sort_of operand.now)) }
 {
@@ -308,7 +310,7 @@ fn domain<'a>(arena: &'a Bump, operand: &Sort<'a>) -> Result<Option<Sort<'a>>, A
     Ok(Some(set_sort(arena, from.share()?)?))
 }
 
-#[tactic(auto, unfolding(crate::specs::Rules::IsMadeOfOne))]
+#[tactic(auto, unfolding(crate::specs::RuleViews::IsMadeOfOne))]
 fn range<'a>(arena: &'a Bump, operand: &Sort<'a>) -> Result<Option<Sort<'a>>, AllocError>
     ensures { IfOk result (IsMadeOfOne (unary.Sign (sign.Symbol prefix.Range)) (sort_of operand.now)) }
 {
@@ -318,7 +320,7 @@ fn range<'a>(arena: &'a Bump, operand: &Sort<'a>) -> Result<Option<Sort<'a>>, Al
     Ok(Some(set_sort(arena, into.share()?)?))
 }
 
-#[tactic(auto, unfolding(crate::specs::Rules::IsMadeOfOne))]
+#[tactic(auto, unfolding(crate::specs::RuleViews::IsMadeOfOne))]
 fn subsets<'a>(arena: &'a Bump, operand: &Sort<'a>) -> Result<Option<Sort<'a>>, AllocError>
     ensures all { IfOk result (IsMadeOfOne (unary.Sign (sign.Symbol prefix.Power)) (sort_of operand.now)) }
     ensures finite { IfOk result (IsMadeOfOne (unary.Sign (sign.Symbol prefix.Finset)) (sort_of operand.now)) }

@@ -1,10 +1,10 @@
 //! What names stand for.
 ghost use Rattle.std.specs.Prelude.{◌≡◌, ◌↔◌, IsTrue, IfOk, map};
-ghost use Rattle.zf_term.specs.Definitions.{definition_of};
+ghost use Rattle.zf_term.specs.DefinitionViews.{definition_of};
 ghost use Rattle.zf_type.specs.Judging.{IsBound};
-ghost use Rattle.zf_type.specs.Rules.{sort_of};
+ghost use Rattle.zf_type.specs.RuleViews.{sort_of};
 ghost use Rattle.zf_type.specs.Scopes as spec;
-ghost use Rattle.zf_type.specs.Scopes.{scope_of, variable_of, meant};
+ghost use Rattle.zf_type.specs.ScopeViews.{scope_of, variable_of, meant};
 ghost use Rattle.zf_tree.specs.Names.{spelling};
 
 use crate::locals::Locals;

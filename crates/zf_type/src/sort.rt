@@ -1,8 +1,10 @@
 //! What a term can be.
 ghost use Rattle.std.specs.Prelude.{◌≡◌, ◌↔◌, IsTrue, IfOk, MatchOption};
-ghost use Rattle.zf_term.specs.Types.{Ty, type_of};
+ghost use Rattle.zf_term.specs.Types.{Ty};
+ghost use Rattle.zf_term.specs.TypeViews.{type_of};
 ghost use Rattle.zf_term.specs.Faults.{lack, lack_of, untyped_lack, typed};
-ghost use Rattle.zf_type.specs.Rules.{IsSmallSort, Meets, relation, set_of, sort_of};
+ghost use Rattle.zf_type.specs.Rules.{IsSmallSort, Meets, relation, set_of};
+ghost use Rattle.zf_type.specs.RuleViews.{sort_of};
 
 use std::alloc::AllocError;
 use zf_term::fault::TypeFaultKind;

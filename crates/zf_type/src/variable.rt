@@ -1,7 +1,8 @@
 //! Bound variables.
 ghost use Rattle.std.specs.Prelude.{◌≡◌, map};
-ghost use Rattle.zf_type.specs.Scopes.{last_named, variable_of};
-ghost use Rattle.zf_term.specs.FirstNamed.{found_as};
+ghost use Rattle.zf_type.specs.Scopes.{last_named};
+ghost use Rattle.zf_type.specs.ScopeViews.{variable_of};
+ghost use Rattle.zf_term.specs.FoundViews.{found_as};
 
 use zf_data::arena::Lent;
 use zf_term::spelling::is_same;

@@ -12,7 +12,8 @@ pub use Rattle.zf_value.specs.Numbers.{IsNumber, number_of, OnNumber, OnNumbers}
 unfoldable pub use Rattle.zf_value.specs.Numbers.{IsBetweenNumbers, IsDifference, IsInterval, IsModulus, IsNegation, IsProduct, IsQuotient, IsSum}
 pub use Rattle.zf_value.specs.Operations.{AreFrom, IsBetween, IsFunctional, IsInDomain, IsInjective, IsInRange, IsPairOf, IsRelationThat, IsSubset, IsTotal, Relates}
 unfoldable pub use Rattle.zf_value.specs.Operations.{AreElements, ArePartialFunctions, ArePartialInjections, AreRelations, AreTotalFunctions, AreTotalInjections, IsApplied, IsComposition, IsCross, IsDisplay, IsDomain, IsDomainRestriction, IsDomainSubtraction, IsImage, IsIntersection, IsInverse, IsOverriding, IsPower, IsRange, IsRangeRestriction, IsRangeSubtraction, IsSetDifference, IsSize, IsUnion}
-pub use Rattle.zf_value.specs.Sets.{IsAscending, IsMember, IsSetOf, members, parts, value_order}
+pub use Rattle.zf_value.specs.Sets.{IsAscending, IsMember, IsSetOf, members, value_order}
+pub use Rattle.zf_value.specs.SetLaws.{parts}
 unfoldable pub use Rattle.zf_value.specs.Sets.{AreAmong}
 pub use Rattle.zf_value.specs.declared.TheConstants.{SET_MAX}
 pub use Rattle.zf_value.specs.declared.value.Outcome.{Outcome}
@@ -35,7 +36,8 @@ pub use Rattle.zf_type.specs.Resolving.{bound, referent, resolved, resolved_all,
 pub use Rattle.zf_type.specs.Rules.{a_schema, constant_sort, number, predicate, PrefixTakes, relation, set_of, Sort, Takes, typed, UnaryTakes}
 pub use Rattle.zf_type.specs.Scopes.{definition_sort, global_sort, last_named, meaning, Scope, Var, with_comp, with_global, with_local}
 pub use Rattle.zf_type.specs.Typing.{AreAll, AreMembers, Declare, IsOf, Makes, member_sort, row_type, types_of, variables}
-pub use Rattle.zf_calculus.specs.Calculus.{comp, EachOnce, marked, nothing}
+pub use Rattle.zf_calculus.specs.Calculus.{comp, marked, nothing}
+pub use Rattle.zf_calculus.specs.CalculusLaws.{EachOnce}
 pub use Rattle.zf_extent.specs.Extents.{constant_set, definition_extent, direct, extent_by, extent_found, extent_named, extent_set, offending}
 pub use Rattle.zf_schema.proofs.Named.{joined_type, named_there, type_of_once, type_one_more}
 pub use Rattle.zf_schema.proofs.Once.{constrained_comps, decorated_once, joined_once, reference_once, schema_once}
@@ -47,5 +49,6 @@ pub use Rattle.zf_meaning.specs.Environments.{AreElementsIf, before, Context, de
 pub use Rattle.zf_meaning.specs.GlobalOutcomes.{AreWorkedOut, IsEnvironment, IsOutcomeOf}
 pub use Rattle.zf_meaning.specs.Meaning.{constant_outcome, HasOutcome, HaveOutcomes, HaveRanges, IsBuilt, IsBuiltBy, IsConstraint, row_value}
 pub use Rattle.zf_meaning.specs.Outcomes.{OnBoth, one_more, one_out, one_undefined, OnOne, OnSeveral, repeated, Several, values}
-pub use Rattle.zf_meaning.specs.Rows.{AreOfTypes, IsElement, IsFrontOfRow, IsOfType, IsRow}
+pub use Rattle.zf_meaning.specs.Rows.{AreOfTypes, IsElement, IsOfType, IsRow}
+pub use Rattle.zf_typed.specs.OutcomeLaws.{IsFrontOfRow}
 pub use Rattle.zf_meaning.specs.Symbols.{ArrowOutcome, BinaryOutcome, InfixOutcome, IsIn, ListedOutcome, PrefixOutcome, UnaryOutcome}

@@ -1,5 +1,5 @@
 -- Outcomes have the types of their terms.
-use Rattle.std.specs.Prelude.{ℕ, List, take}
+use Rattle.std.specs.Prelude.{ℕ, List, take, length}
 use Rattle.zf_tree.specs.Trees.{Tree}
 use Rattle.zf_term.specs.Definitions.{Comp, Defined}
 use Rattle.zf_term.specs.Types.{Ty}
@@ -13,9 +13,13 @@ use Rattle.zf_meaning.specs.declared.sizes.Size.{Size}
 use Rattle.zf_meaning.specs.Environments.{Environment, Context}
 use Rattle.zf_meaning.specs.GlobalOutcomes.{IsEnvironment}
 use Rattle.zf_meaning.specs.Meaning.{HasOutcome}
-use Rattle.zf_meaning.specs.Rows.{IsOfType, AreOfTypes, IsFrontOfRow}
+use Rattle.zf_meaning.specs.Rows.{IsOfType, AreOfTypes, IsRow}
 use Rattle.zf_schema.specs.SchemaLaws.{AreDefinedOnce}
 use Rattle.zf_schema.specs.WellTypedGlobals.{AreWellTyped}
+
+-- a value of its type for each of the first components
+abbrev pub IsFrontOfRow : Environment → List Comp → List Value → Type 0
+IsFrontOfRow e cs vs = IsRow e (take (length vs) cs) vs
 
 -- what is in scope after the first so many globals
 abbrev pub scope : List Defined → ℕ → List Comp → List Var → Scope

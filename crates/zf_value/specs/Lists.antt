@@ -1,18 +1,13 @@
 -- Lists of values, and which ascend.
-use Rattle.std.specs.Prelude.{◌≡◌, ◌⊎◌, ◌↔◌, List, [], ◌∷◌}
+use Rattle.std.specs.Prelude.{◌≡◌, ◌⊎◌, List, [], ◌∷◌}
 use Rattle.std.specs.declared.cmp.Ordering.{Ordering}
 use Rattle.std.specs.declared.cmp.Ordering.TheVariants.{Less}
-use Rattle.std.specs.Cmp.Lexicographic.{slice_cmp}
 use Rattle.zf_value.specs.declared.plain.Value.{Value}
 use Rattle.zf_value.specs.contracts.plain.ValueOrd.TheImpl.{ghosts}
 
 -- `cmp` of values
 abbrev pub value_order : Value → Value → Ordering
 value_order = ghosts.cmp
-
--- rows of values go lexicographically
-abbrev pub row_order : List Value → List Value → Ordering
-row_order = slice_cmp value_order
 
 abbrev pub IsMember : Value → List Value → Type 0
 IsMember z [] = ⊥
@@ -31,6 +26,3 @@ IsAscending (x ∷ xs) = Every (λ y. value_order x y ≡ Less) xs × IsAscendin
 -- each is among the others
 unfoldable pub AreAmong : List Value → List Value → Type 0
 AreAmong xs ys = (z : Value) → IsMember z xs → IsMember z ys
-
-unfoldable pub HaveSameMembers : List Value → List Value → Type 0
-HaveSameMembers xs ys = (z : Value) → IsMember z xs ↔ IsMember z ys

@@ -3,7 +3,8 @@ ghost use Rattle.std.specs.Bool.{MatchBool};
 ghost use Rattle.std.specs.Prelude.{◌≡◌, true, ◌↔◌, ◌*◌, ◌≤◌, ◌++◌, length, IsTrue, IfOk, OnOk};
 ghost use Rattle.zf_value.specs.Operations.{pair, IsPair, IsTuple, IsEmptySet, IsElement, AreElements, IsDisplay, IsUnion, IsIntersection, IsSetDifference, IsSize};
 ghost use Rattle.zf_value.specs.Steps.{IsJoined};
-ghost use Rattle.zf_value.specs.Sets.{members, IsMember, IsAscending, AreAmong, HaveSameMembers};
+ghost use Rattle.zf_value.specs.Sets.{members, IsMember, IsAscending, AreAmong};
+ghost use Rattle.zf_value.specs.ListLaws.{HaveSameMembers};
 
 use crate::SET_MAX;
 use crate::items::Items;

@@ -1,10 +1,10 @@
 -- What a walk is to find: the rows of the ranges that come after the named one and are not False, each with its truth.
-use Rattle.std.specs.Prelude.{◌≢◌, ◌↔◌, List, Option, Contains, AllPairs}
+use Rattle.std.specs.Prelude.{◌≢◌, List, Option}
 use Rattle.std.specs.declared.cmp.Ordering.{Ordering}
 use Rattle.zf_walk.specs.declared.judge.Truth.{Truth}
 use Rattle.zf_walk.specs.declared.judge.Truth.TheVariants.{False}
 use Rattle.zf_walk.specs.Conjuncts.{Conjuncts, IsTruthOf}
-use Rattle.zf_walk.specs.Rows.{IsRowOf, IsLater, ComesAfter}
+use Rattle.zf_walk.specs.Rows.{IsRowOf, IsLater}
 
 -- a row with its truth
 pub record Event (V : Type 0) : Type 0 where
@@ -16,8 +16,3 @@ pub record IsEvent {V : Type 0} (cmp : V → V → Ordering) (s : Conjuncts V) (
   pub later : IsLater cmp after e.row
   pub truth_of : IsTruthOf s e.row e.truth
   pub not_false : e.truth ≢ False
-
--- the strictly ascending list whose members are exactly the events
-pub record IsEvents {V : Type 0} (cmp : V → V → Ordering) (s : Conjuncts V) (ranges : List (List V)) (after : Option (List V)) (events : List (Event V)) : Type 0 where
-  pub ascending : AllPairs (λ (e f : Event V). ComesAfter cmp e.row f.row) events
-  pub members : (e : Event V) → Contains events e ↔ IsEvent cmp s ranges after e

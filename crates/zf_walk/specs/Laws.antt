@@ -2,9 +2,11 @@
 use Rattle.std.specs.Prelude.{◌≡◌, ◌↔◌, ℕ, ◌≤◌, List, [], ◌∷◌, ◌++◌, Option, Some}
 use Rattle.std.specs.declared.cmp.Ordering.{Ordering}
 use Rattle.zf_walk.specs.Conjuncts.{Conjuncts}
-use Rattle.zf_walk.specs.Rows.{TiesAreEqual}
-use Rattle.zf_walk.specs.Events.{Event, IsEvents}
-use Rattle.zf_walk.specs.Tests.{IsNumberOfTests, IsBound}
+use Rattle.zf_walk.specs.RowLaws.{TiesAreEqual}
+use Rattle.zf_walk.specs.Events.{Event}
+use Rattle.zf_walk.specs.EventLists.{IsEvents}
+use Rattle.zf_walk.specs.Tests.{IsNumberOfTests}
+use Rattle.zf_walk.specs.TestBounds.{IsBound}
 use Rattle.zf_walk.specs.Progress.{Ahead, AreAllAhead, Takes, IsNoneAhead, IsRest}
 
 -- There is one list of the events.

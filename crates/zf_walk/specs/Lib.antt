@@ -1,7 +1,11 @@
 pub mod Conjuncts
+pub mod ConjunctLaws
 pub mod Rows
+pub mod RowLaws
 pub mod Events
+pub mod EventLists
 pub mod Tests
+pub mod TestBounds
 pub mod Progress
 pub mod Laws
 pub mod Picked

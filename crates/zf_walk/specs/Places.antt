@@ -6,7 +6,7 @@ use Rattle.zf_walk.specs.declared.judge.Truth.TheVariants.{True, Out}
 use Rattle.zf_walk.specs.declared.place.Place.{Place}
 use Rattle.zf_walk.specs.declared.agenda.Agenda.{Agenda}
 use Rattle.zf_walk.specs.Conjuncts.{Conjuncts}
-use Rattle.zf_walk.specs.Rows.{TiesAreEqual, AreAscending, HasLength}
+use Rattle.zf_walk.specs.RowLaws.{TiesAreEqual, AreAscending, HasLength}
 use Rattle.zf_walk.specs.Tests.{IsWalked, IsNumber, cut}
 use Rattle.zf_walk.specs.Progress.{Ahead, AreDueWithin}
 use Rattle.zf_walk.specs.Picked.{AreWithin, picked}

@@ -7,7 +7,8 @@ use Rattle.zf_walk.specs.declared.step.Step.TheVariants.{Holds, Breaks, End}
 use Rattle.zf_walk.specs.Conjuncts.{Conjuncts}
 use Rattle.zf_walk.specs.Rows.{ComesAfter}
 use Rattle.zf_walk.specs.Events.{Event, IsEvent}
-use Rattle.zf_walk.specs.Tests.{IsNumberOfTests, IsBound, cut}
+use Rattle.zf_walk.specs.Tests.{IsNumberOfTests, cut}
+use Rattle.zf_walk.specs.TestBounds.{IsBound}
 
 -- each conjunct needs at most so many values
 abbrev pub AreDueWithin : {V : Type 0} → Conjuncts V → ℕ → Type 0

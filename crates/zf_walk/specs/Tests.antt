@@ -45,10 +45,6 @@ pub record IsNumber {V : Type 0} (P : List V × ℕ → Type 0) (number : ℕ) :
 abbrev pub IsNumberOfTests : {V : Type 0} → (V → V → Ordering) → Conjuncts V → List (List V) → Option (List V) → Option (List V) → ℕ → Type 0
 IsNumberOfTests cmp s ranges after whole = IsNumber (λ pair. IsWalked cmp s ranges after pair × IsUpTo cmp whole pair.0)
 
--- the number of all pairs
-abbrev pub IsBound : {V : Type 0} → Conjuncts V → List (List V) → ℕ → Type 0
-IsBound s ranges = IsNumber (IsPair s ranges)
-
 -- a number, or the greatest of 64 bits
 abbrev pub cut : ℕ → ℕ
 cut number = min number (2 ^ 64 - 1)

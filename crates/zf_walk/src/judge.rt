@@ -1,7 +1,8 @@
 //! What is asked of rows.
 ghost use Rattle.std.specs.Prelude.{◌≡◌, ◌<◌, ◌≤◌, ℕ, List, length, IfOk};
 ghost use Rattle.zf_walk.specs.declared.judge.Truth.{Truth};
-ghost use Rattle.zf_walk.specs.Conjuncts.{Conjuncts, HaveOneTruth, KeepTruths, FollowUsed};
+ghost use Rattle.zf_walk.specs.Conjuncts.{Conjuncts};
+ghost use Rattle.zf_walk.specs.ConjunctLaws.{HaveOneTruth, KeepTruths, FollowUsed};
 
 use crate::row::Row;
 use std::alloc::AllocError;

@@ -1,6 +1,6 @@
 //! The moves of a walk from a row to the next one, whatever the conjuncts say.
 ghost use Rattle.std.specs.Prelude.{◌≡◌, ◌+◌, ◌<◌, ◌≤◌, ℕ, length, IsTrue, IsFalse, slice_index_or};
-ghost use Rattle.zf_walk.specs.Rows.{AreAscending};
+ghost use Rattle.zf_walk.specs.RowLaws.{AreAscending};
 ghost use Rattle.zf_walk.specs.Places.{IsAt};
 ghost use Rattle.zf_walk.specs.Steps.{Binds, Moves};
 

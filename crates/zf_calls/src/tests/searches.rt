@@ -3,7 +3,7 @@
 ghost use Rattle.std.specs.Prelude.{IfOk};
 ghost use Rattle.zf_meaning.specs.Envs.{environment_of};
 ghost use Rattle.zf_schema.specs.WellTypedGlobals.{AreWellTyped};
-ghost use Rattle.zf_term.specs.Definitions.{globals_of};
+ghost use Rattle.zf_term.specs.DefinitionViews.{globals_of};
 
 use bumpalo::Bump;
 use std::alloc::{AllocError, Global};

@@ -7,7 +7,7 @@ ghost use Rattle.zf_tree.specs.declared.symbol.Quantifier.{Quantifier};
 ghost use Rattle.zf_term.specs.declared.resolved.Range as range;
 ghost use Rattle.zf_term.specs.declared.resolved.Resolved as resolved;
 ghost use Rattle.zf_term.specs.declared.resolved.Resolved.TheVariants as form;
-ghost use Rattle.zf_term.specs.ResolvedTrees.{resolved_of, part_of};
+ghost use Rattle.zf_term.specs.ResolvedViews.{resolved_of, part_of};
 ghost use Rattle.zf_value.specs.declared.value.Truth.TheVariants as truths;
 ghost use Rattle.zf_value.specs.declared.plain.Value as value;
 ghost use Rattle.zf_value.specs.Operations.{AreFrom};

@@ -1,7 +1,7 @@
 //! Chains of relations.
 ghost use Rattle.std.specs.Prelude.{◌≡◌, ◌↔◌, IfOk, IsTrue, List, None, map};
-ghost use Rattle.zf_term.specs.ResolvedTrees as tree;
-ghost use Rattle.zf_term.specs.ResolvedTrees.{resolved_of, resolved_link_of};
+ghost use Rattle.zf_term.specs.ResolvedViews as tree;
+ghost use Rattle.zf_term.specs.ResolvedViews.{resolved_of, resolved_link_of};
 ghost use Rattle.zf_value.specs.declared.plain.Value as value;
 ghost use Rattle.zf_extent.specs.Extents.{is_membership};
 ghost use Rattle.zf_meaning.specs.Envs.{environment_of};

@@ -8,7 +8,7 @@ ghost use Rattle.zf_tree.specs.declared.symbol.Relation.TheVariants as relations
 ghost use Rattle.zf_term.specs.declared.resolved.Resolved as resolved;
 ghost use Rattle.zf_term.specs.declared.resolved.ResolvedLink as link;
 ghost use Rattle.zf_term.specs.declared.resolved.Resolved.{size-Resolved};
-ghost use Rattle.zf_term.specs.ResolvedTrees.{resolved_of};
+ghost use Rattle.zf_term.specs.ResolvedViews.{resolved_of};
 ghost use Rattle.zf_meaning.specs.Early as spec;
 ghost use Rattle.zf_meaning.specs.Early.{Falsifies, IsEarlier, IsEquation, IsOther, IsPart, IsPiece, IsVariable, IsWanted, PassesBy, Refutes};
 ghost use Rattle.zf_meaning.specs.Found.{found_outcome};

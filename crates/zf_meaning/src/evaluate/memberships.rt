@@ -8,7 +8,8 @@ ghost use Rattle.zf_tree.specs.declared.operator.Unary.TheVariants as unaries;
 ghost use Rattle.zf_value.specs.declared.value.Outcome.TheVariants.{Is};
 ghost use Rattle.zf_meaning.specs.Found.{found_outcome};
 ghost use Rattle.zf_term.specs.ResolvedTrees as tree;
-ghost use Rattle.zf_term.specs.ResolvedTrees.{resolved_of};
+ghost use Rattle.zf_term.specs.ResolvedViews as tree_views;
+ghost use Rattle.zf_term.specs.ResolvedViews.{resolved_of};
 ghost use Rattle.zf_term.specs.declared.resolved.Resolved.{size-Resolved};
 ghost use Rattle.zf_meaning.specs.Described.{Describes};
 ghost use Rattle.zf_meaning.specs.Meaning.{HasOutcome};
@@ -138,7 +139,7 @@ fn many<'v, 'a, R: Row>(
     locals: &[&'v Value],
     env: &'v Env<'_, 'a>,
 ) -> Result<Described<'v>, AllocError>
-    ensures { (line : ℕ) → IfOk result (Describes (HasOutcome (scope_of env.now (R.values row.now) locals.now) (tree.listed line form (tree.terms (map resolved_of terms.now))))) }
+    ensures { (line : ℕ) → IfOk result (Describes (HasOutcome (scope_of env.now (R.values row.now) locals.now) (tree.listed line form (tree_views.terms (map resolved_of terms.now))))) }
 {
     let gathered = gather(terms, row, locals, env)?;
     match form {

@@ -3,7 +3,8 @@ ghost use Rattle.std.specs.Prelude.{◌≡◌, ◌<◌, ℕ, pos, IfSome, IsTrue
 ghost use Rattle.zf_tree.specs.declared.operator.Operator.TheVariants.{Application, Function};
 ghost use Rattle.zf_extent.specs.Extents.{is_membership};
 ghost use Rattle.zf_term.specs.ResolvedTrees as tree;
-ghost use Rattle.zf_term.specs.ResolvedTrees.{resolved_of, resolved_link_of};
+ghost use Rattle.zf_term.specs.ResolvedViews as tree_views;
+ghost use Rattle.zf_term.specs.ResolvedViews.{resolved_of, resolved_link_of};
 ghost use Rattle.zf_term.specs.declared.resolved.Resolved.{size-Resolved};
 ghost use Rattle.zf_value.specs.declared.value.Outcome.TheVariants.{Is};
 ghost use Rattle.zf_value.specs.declared.plain.Value.{Int};
@@ -50,7 +51,7 @@ fn compared<'v, 'a, R: Row>(
     locals: &[&'v Value],
     env: &'v Env<'_, 'a>,
 ) -> Option<Truth>
-    ensures { (line : ℕ) → IfSome result (IsTruth (scope_of env.now (R.values row.now) locals.now) (tree.chain line (resolved_of first.now) (tree.links (map resolved_link_of links.now)))) }
+    ensures { (line : ℕ) → IfSome result (IsTruth (scope_of env.now (R.values row.now) locals.now) (tree.chain line (resolved_of first.now) (tree_views.links (map resolved_link_of links.now)))) }
 {
     let [link] = links else {
         return None;

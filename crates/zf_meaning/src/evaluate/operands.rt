@@ -1,7 +1,8 @@
 //! Symbols with their operands.
 ghost use Rattle.std.specs.Prelude.{◌≡◌, ◌<◌, ℕ, IfOk, map};
 ghost use Rattle.zf_term.specs.ResolvedTrees as tree;
-ghost use Rattle.zf_term.specs.ResolvedTrees.{resolved_of};
+ghost use Rattle.zf_term.specs.ResolvedViews as tree_views;
+ghost use Rattle.zf_term.specs.ResolvedViews.{resolved_of};
 ghost use Rattle.zf_term.specs.declared.resolved.Resolved.{size-Resolved};
 ghost use Rattle.zf_meaning.specs.Found.{found_outcome};
 ghost use Rattle.zf_meaning.specs.Gathered.{several_of};
@@ -67,7 +68,7 @@ pub(super) fn listed<'v, 'a, R: Row>(
     locals: &[&'v Value],
     env: &'v Env<'_, 'a>,
 ) -> Result<Found<'v>, AllocError>
-    ensures { (line : ℕ) → IfOk result (λ o. HasOutcome (scope_of env.now (R.values row.now) locals.now) (tree.listed line form (tree.terms (map resolved_of terms.now))) (found_outcome o)) }
+    ensures { (line : ℕ) → IfOk result (λ o. HasOutcome (scope_of env.now (R.values row.now) locals.now) (tree.listed line form (tree_views.terms (map resolved_of terms.now))) (found_outcome o)) }
 {
     let gathered = gather(terms, row, locals, env)?;
     Ok(Found::own(on_several(env.allocator(), form, gathered)?))
@@ -81,7 +82,7 @@ pub(super) fn gather<'v, 'a, R: Row>(
     locals: &[&'v Value],
     env: &'v Env<'_, 'a>,
 ) -> Result<Gathered, AllocError>
-    ensures { IfOk result (λ s. HaveOutcomes (scope_of env.now (R.values row.now) locals.now) (tree.terms (map resolved_of terms.now)) (several_of s)) }
+    ensures { IfOk result (λ s. HaveOutcomes (scope_of env.now (R.values row.now) locals.now) (tree_views.terms (map resolved_of terms.now)) (several_of s)) }
 {
     let alloc = env.allocator();
     let mut gathered = Gathered::with_room(alloc, terms.len())?;

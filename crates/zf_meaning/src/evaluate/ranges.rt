@@ -1,7 +1,7 @@
 //! The declared sets of bound variables.
 ghost use Rattle.std.specs.Prelude.{◌≡◌, ◌++◌, [], IfOk, OnOk, map, replicate};
-ghost use Rattle.zf_term.specs.ResolvedTrees as tree;
-ghost use Rattle.zf_term.specs.ResolvedTrees.{range_of};
+ghost use Rattle.zf_term.specs.ResolvedViews as tree;
+ghost use Rattle.zf_term.specs.ResolvedViews.{range_of};
 ghost use Rattle.zf_value.specs.Sets.{Every, IsAscending, members};
 ghost use Rattle.zf_meaning.specs.RangeSets as spec;
 ghost use Rattle.zf_meaning.specs.RangeSets.{spread, declared_of};

@@ -1,7 +1,8 @@
 //! What goes on with a term.
 ghost use Rattle.std.specs.Prelude.{◌≡◌, ◌+◌, ◌≤◌, IfOk};
 ghost use Rattle.zf_text.specs.Nests.{Nests};
-ghost use Rattle.zf_tree.specs.Trees.{line_of, tree_of};
+ghost use Rattle.zf_tree.specs.Trees.{line_of};
+ghost use Rattle.zf_tree.specs.TreeViews.{tree_of};
 ghost use Rattle.zf_text.specs.TermReading as spec;
 ghost use Rattle.zf_text.specs.TermReading.{Gives, read_term};
 ghost use Rattle.zf_text.specs.declared.levels.Role.TheVariants as role;

@@ -1,17 +1,20 @@
 //! What binds variables: declarations, quantified predicates and builders.
 ghost use Rattle.std.specs.Prelude.{◌≡◌, IfOk, IfErr, OnErr, OnOk, List, map};
 ghost use Rattle.zf_tree.specs.Trees as tree;
-ghost use Rattle.zf_tree.specs.Trees.{Tree, part_of, tree_of, var_decl_of};
-ghost use Rattle.zf_term.specs.ResolvedTrees as kept;
-ghost use Rattle.zf_term.specs.ResolvedTrees.{range_of};
-ghost use Rattle.zf_term.specs.Types.{type_of};
+ghost use Rattle.zf_tree.specs.TreeViews as tree_views;
+ghost use Rattle.zf_tree.specs.Trees.{Tree};
+ghost use Rattle.zf_tree.specs.TreeViews.{part_of, tree_of, var_decl_of};
+ghost use Rattle.zf_term.specs.ResolvedViews as kept;
+ghost use Rattle.zf_term.specs.ResolvedViews.{range_of};
+ghost use Rattle.zf_term.specs.TypeViews.{type_of};
 ghost use Rattle.zf_tree.specs.declared.operator.Need.TheVariants as needs;
 ghost use Rattle.zf_tree.specs.declared.operator.Need as need;
 ghost use Rattle.zf_type.specs.Judging.{DeclarationsOffend, IsBuilder, IsPart, IsQuantified, Judges, JudgesPart};
 ghost use Rattle.zf_type.specs.Refusals.{IfFault};
 ghost use Rattle.zf_type.specs.Resolving.{resolved_part, resolved_ranges};
 ghost use Rattle.zf_type.specs.Scopes as spec;
-ghost use Rattle.zf_type.specs.Scopes.{Var, scope_of, variable_of, within};
+ghost use Rattle.zf_type.specs.Scopes.{Var, within};
+ghost use Rattle.zf_type.specs.ScopeViews.{scope_of, variable_of};
 ghost use Rattle.zf_type.specs.Typing.{Binds, Builds, row_type};
 
 use super::{Judged, Place, judge_boxed, judge_term, made, placed};
@@ -101,9 +104,9 @@ fn declare<'a>(
     arena: &'a Bump,
     scope: &mut Scope<'a, '_>,
 ) -> Result<Items<'a, Range<'a>>, Refusal<'a>>
-    ensures ok { OnOk result ((vs : List Var) × Binds (scope_of scope.old) (tree.var_decls (map var_decl_of decls.now)) vs × (scope_of scope.new ≡ within (scope_of scope.old) vs)) }
-    ensures ranges { IfOk result (λ rs. kept.ranges (map range_of rs) ≡ resolved_ranges (scope_of scope.old) (tree.var_decls (map var_decl_of decls.now))) }
-    ensures wrong { IfErr result (λ e. IfFault e (λ offence line. DeclarationsOffend (scope_of scope.old) (tree.var_decls (map var_decl_of decls.now)) offence line)) }
+    ensures ok { OnOk result ((vs : List Var) × Binds (scope_of scope.old) (tree_views.var_decls (map var_decl_of decls.now)) vs × (scope_of scope.new ≡ within (scope_of scope.old) vs)) }
+    ensures ranges { IfOk result (λ rs. kept.ranges (map range_of rs) ≡ resolved_ranges (scope_of scope.old) (tree_views.var_decls (map var_decl_of decls.now))) }
+    ensures wrong { IfErr result (λ e. IfFault e (λ offence line. DeclarationsOffend (scope_of scope.old) (tree_views.var_decls (map var_decl_of decls.now)) offence line)) }
     ensures scope { OnErr result (scope_of scope.new ≡ scope_of scope.old) }
 {
     let Declared { variables, ranges } = judge_sets(decls, arena, scope)?;
@@ -118,9 +121,9 @@ fn judge_sets<'a>(
     arena: &'a Bump,
     scope: &mut Scope<'a, '_>,
 ) -> Result<Declared<'a>, Refusal<'a>>
-    ensures ok { IfOk result (λ d. Binds (scope_of scope.old) (tree.var_decls (map var_decl_of decls.now)) (map variable_of d.variables)) }
-    ensures ranges { IfOk result (λ d. kept.ranges (map range_of d.ranges) ≡ resolved_ranges (scope_of scope.old) (tree.var_decls (map var_decl_of decls.now))) }
-    ensures wrong { IfErr result (λ e. IfFault e (λ offence line. DeclarationsOffend (scope_of scope.old) (tree.var_decls (map var_decl_of decls.now)) offence line)) }
+    ensures ok { IfOk result (λ d. Binds (scope_of scope.old) (tree_views.var_decls (map var_decl_of decls.now)) (map variable_of d.variables)) }
+    ensures ranges { IfOk result (λ d. kept.ranges (map range_of d.ranges) ≡ resolved_ranges (scope_of scope.old) (tree_views.var_decls (map var_decl_of decls.now))) }
+    ensures wrong { IfErr result (λ e. IfFault e (λ offence line. DeclarationsOffend (scope_of scope.old) (tree_views.var_decls (map var_decl_of decls.now)) offence line)) }
     ensures scope { scope_of scope.new ≡ scope_of scope.old }
 {
     let mut variables = Locals::new(scope.locals.allocator());

@@ -2,16 +2,19 @@
 ghost use Rattle.std.specs.Prelude.{◌≡◌, IfOk, IfErr, OnOk, map};
 ghost use Rattle.zf_term.specs.Faults as fault;
 ghost use Rattle.zf_tree.specs.Trees as tree;
-ghost use Rattle.zf_tree.specs.Trees.{Tree, link_of, tree_of};
-ghost use Rattle.zf_term.specs.ResolvedTrees as kept;
-ghost use Rattle.zf_term.specs.ResolvedTrees.{resolved_link_of};
+ghost use Rattle.zf_tree.specs.TreeViews as tree_views;
+ghost use Rattle.zf_tree.specs.Trees.{Tree};
+ghost use Rattle.zf_tree.specs.TreeViews.{link_of, tree_of};
+ghost use Rattle.zf_term.specs.ResolvedViews as kept;
+ghost use Rattle.zf_term.specs.ResolvedViews.{resolved_link_of};
 ghost use Rattle.zf_type.specs.Judging.{IsChain, Judges};
 ghost use Rattle.zf_type.specs.Offences.{LinksOffend};
 ghost use Rattle.zf_type.specs.Refusals.{IfFault};
 ghost use Rattle.zf_type.specs.Resolving.{resolved_links};
 ghost use Rattle.zf_type.specs.Rules as rules;
-ghost use Rattle.zf_type.specs.Rules.{Meets, Takes, sort_of};
-ghost use Rattle.zf_type.specs.Scopes.{scope_of};
+ghost use Rattle.zf_type.specs.Rules.{Meets, Takes};
+ghost use Rattle.zf_type.specs.RuleViews.{sort_of};
+ghost use Rattle.zf_type.specs.ScopeViews.{scope_of};
 ghost use Rattle.zf_type.specs.Typing.{AreLinked, IsOf};
 
 use super::{Judged, Place, judge_boxed, judge_term, placed};
@@ -72,9 +75,9 @@ fn judge_links<'a>(
     first: Operand<'a>,
     scope: &mut Scope<'a, '_>,
 ) -> Result<Items<'a, ResolvedLink<'a>>, Refusal<'a>>
-    ensures ok { OnOk result (AreLinked (scope_of scope.old) (sort_of first.entry.sort) (tree.links (map link_of links.now))) }
-    ensures resolved { IfOk result (λ ks. kept.links (map resolved_link_of ks) ≡ resolved_links (scope_of scope.old) (tree.links (map link_of links.now))) }
-    ensures wrong { (a : Tree) → IsOf (scope_of scope.old) a (sort_of first.entry.sort) → first.entry.line ≡ tree.line_of a → IfErr result (λ e. IfFault e (λ offence line. LinksOffend (scope_of scope.old) a (tree.links (map link_of links.now)) offence line)) }
+    ensures ok { OnOk result (AreLinked (scope_of scope.old) (sort_of first.entry.sort) (tree_views.links (map link_of links.now))) }
+    ensures resolved { IfOk result (λ ks. kept.links (map resolved_link_of ks) ≡ resolved_links (scope_of scope.old) (tree_views.links (map link_of links.now))) }
+    ensures wrong { (a : Tree) → IsOf (scope_of scope.old) a (sort_of first.entry.sort) → first.entry.line ≡ tree.line_of a → IfErr result (λ e. IfFault e (λ offence line. LinksOffend (scope_of scope.old) a (tree_views.links (map link_of links.now)) offence line)) }
     ensures scope { scope_of scope.new ≡ scope_of scope.old }
 {
     let mut left = first;
@@ -106,7 +109,7 @@ fn check_left<'a>(arena: &'a Bump, left: &Operand<'a>, need: Need) -> Result<(),
 }
 
 /// The rule takes both operands; the line is that of the right one.
-#[tactic(auto, unfolding(crate::specs::Rules::IsMade))]
+#[tactic(auto, unfolding(crate::specs::RuleViews::IsMade))]
 fn relate<'a>(
     arena: &'a Bump,
     rule: Rule,

@@ -1,18 +1,20 @@
 //! What several terms make: tuples, displays and products.
 ghost use Rattle.std.specs.Prelude.{◌≡◌, IfOk, IfErr, length, map};
 ghost use Rattle.zf_tree.specs.Trees as tree;
-ghost use Rattle.zf_tree.specs.Trees.{tree_of, trees};
-ghost use Rattle.zf_term.specs.ResolvedTrees as kept;
-ghost use Rattle.zf_term.specs.ResolvedTrees.{resolved_of};
+ghost use Rattle.zf_tree.specs.TreeViews.{tree_of, trees};
+ghost use Rattle.zf_term.specs.ResolvedViews as kept;
+ghost use Rattle.zf_term.specs.ResolvedViews.{resolved_of};
 ghost use Rattle.zf_term.specs.Types as tys;
-ghost use Rattle.zf_term.specs.Types.{Ty, power, type_of};
+ghost use Rattle.zf_term.specs.Types.{Ty, power};
+ghost use Rattle.zf_term.specs.TypeViews.{type_of};
 ghost use Rattle.zf_type.specs.Judging.{DiffersAt, Judges};
 ghost use Rattle.zf_type.specs.Offences.{OneOffends};
 ghost use Rattle.zf_type.specs.Refusals.{IfFault};
 ghost use Rattle.zf_type.specs.Resolving.{resolved_all};
-ghost use Rattle.zf_type.specs.Rules.{Meets, sort_of};
+ghost use Rattle.zf_type.specs.Rules.{Meets};
+ghost use Rattle.zf_type.specs.RuleViews.{sort_of};
 ghost use Rattle.zf_type.specs.Scopes as spec;
-ghost use Rattle.zf_type.specs.Scopes.{scope_of};
+ghost use Rattle.zf_type.specs.ScopeViews.{scope_of};
 ghost use Rattle.zf_type.specs.Typing as typing;
 ghost use Rattle.zf_type.specs.Typing.{AreMembers, Makes, member_sort};
 

@@ -2,12 +2,14 @@
 ghost use Rattle.std.specs.Prelude.{◌≡◌, ◌<◌};
 ghost use Rattle.zf_tree.specs.declared.tree.Term.{size-Term};
 ghost use Rattle.zf_tree.specs.Trees as tree;
-ghost use Rattle.zf_tree.specs.Trees.{line_of, Tree, tree_of};
+ghost use Rattle.zf_tree.specs.Trees.{line_of, Tree};
+ghost use Rattle.zf_tree.specs.TreeViews.{tree_of};
 ghost use Rattle.zf_tree.specs.Operators.{left_need, need_of, right_need, rule_of};
 ghost use Rattle.zf_type.specs.Judging.{IsJudged, Judges};
-ghost use Rattle.zf_type.specs.Rules.{Meets, sort_of};
+ghost use Rattle.zf_type.specs.Rules.{Meets};
+ghost use Rattle.zf_type.specs.RuleViews.{sort_of};
 ghost use Rattle.zf_type.specs.Scopes as spec;
-ghost use Rattle.zf_type.specs.Scopes.{scope_of};
+ghost use Rattle.zf_type.specs.ScopeViews.{scope_of};
 
 use super::{Judged, Place, judge_term, made};
 use crate::fault::{Refusal, mismatched};

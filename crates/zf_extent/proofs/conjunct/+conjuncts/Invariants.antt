@@ -1,5 +1,6 @@
 use Rattle.std.proofs.Common.{◌≡◌, drop, map}
-use Rattle.zf_term.specs.Definitions.{conjunct_of, globals_of}
+use Rattle.zf_term.specs.SchemaViews.{conjunct_of}
+use Rattle.zf_term.specs.DefinitionViews.{globals_of}
 use Rattle.zf_extent.specs.Extents.{first}
 use Rattle.zf_term.specs.FirstNamed.{or_else}
 use Rattle.zf_extent.proofs.JoinedOffences.{offenders, side}

@@ -1,5 +1,5 @@
 use Rattle.std.proofs.Common.{◌≡◌, drop}
-use Rattle.zf_term.specs.Definitions.{globals_of}
+use Rattle.zf_term.specs.DefinitionViews.{globals_of}
 use Rattle.zf_extent.specs.Extents.{first}
 use Rattle.zf_term.specs.FirstNamed.{or_else}
 use Rattle.zf_extent.proofs.FirstOffenders.{offending_terms, offending_links, offending_ranges}

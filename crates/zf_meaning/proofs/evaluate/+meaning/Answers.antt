@@ -1,5 +1,6 @@
 use Rattle.zf_meaning.proofs.Prelude.{◌+◌, ◌<◌, ◌∙◌, ◌∷◌, ◌≡◌, ◌≤◌, [], ap, arith, drop, false, inl, length, map, refl, rules, subst, sym, true, IfOk-weaker, All, IfOk, IfSome, out_told, AreFrom, IsEmptySet, IsDisplay, of-Binary, of-Chain, of-Listed, of-Unary, part_of, resolved_of, size-Resolved, Describes, AreNeutral, AreNeutralIf, IsPart, IsPiece, IsWanted, neutral, within, found_outcome, several_by, several_of, Builds, HasOutcome, IsBuilt, IsBuiltOver, IsConstraint, IsLink, IsTruth, row_value, seen, declared_of, spread, row_of, scope_of, is_settled, truth_by, IsConnected, IsOver, IsQuantified, IsTold, Arrows, Nothing}
 use Rattle.zf_term.specs.ResolvedTrees as tree
+use Rattle.zf_term.specs.ResolvedViews as tree_views
 use Rattle.zf_value.specs.declared.value.Outcome.TheVariants as outcome
 use Rattle.zf_value.specs.declared.value.Truth.TheVariants.{Out}
 use Rattle.zf_meaning.proofs.Binding.{same-quantifier, same-constraint, quantified-told, builder-has}
@@ -76,7 +77,7 @@ pub memberships::described-returns-in-Listed : goal.memberships::described-retur
 memberships::described-returns-in-Listed g t c =
     let i = c.in-Listed in
     subst (λ d. IfOk c.many.result (Describes (HasOutcome (scope_of c.args.env.now (g.R.Row.values c.args.row.now) c.args.locals.now) d)))
-    (ap (λ xs. tree.listed i.field-0 i.form (tree.terms (map resolved_of xs))) c.as_slice.ensures ∙ sym (ap resolved_of i.is ∙ of-Listed i.field-0 i.form i.terms))
+    (ap (λ xs. tree.listed i.field-0 i.form (tree_views.terms (map resolved_of xs))) c.as_slice.ensures ∙ sym (ap resolved_of i.is ∙ of-Listed i.field-0 i.form i.terms))
     (c.many.ensures i.field-0)
 
 pub memberships::described-returns-in-Unary : goal.memberships::described-returns-in-Unary
@@ -100,13 +101,13 @@ memberships::described-returns-in_ok-outcome-in_default g t c =
 
 pub memberships::many-returns-in-Product : goal.memberships::many-returns-in-Product
 memberships::many-returns-in-Product g t c =
-    λ line. product-told (scope_of c.args.env.now (g.R.Row.values c.args.row.now) c.args.locals.now) line c.args.form (tree.terms (map resolved_of c.args.terms.now)) (several_of c.in_ok-gathered.gathered) c.product_of.result c.in-Product.is c.in_ok-gathered.ensures c.product_of.ensures
+    λ line. product-told (scope_of c.args.env.now (g.R.Row.values c.args.row.now) c.args.locals.now) line c.args.form (tree_views.terms (map resolved_of c.args.terms.now)) (several_of c.in_ok-gathered.gathered) c.product_of.result c.in-Product.is c.in_ok-gathered.ensures c.product_of.ensures
 
 pub memberships::many-returns-in_ok-on_several-in_default : goal.memberships::many-returns-in_ok-on_several-in_default
 memberships::many-returns-in_ok-on_several-in_default g t c =
     let o = c.in_ok-on_several-in_default in
-    λ line. plain-describes (HasOutcome (scope_of c.args.env.now (g.R.Row.values c.args.row.now) c.args.locals.now) (tree.listed line c.args.form (tree.terms (map resolved_of c.args.terms.now)))) c.own.result
-    (subst (HasOutcome (scope_of c.args.env.now (g.R.Row.values c.args.row.now) c.args.locals.now) (tree.listed line c.args.form (tree.terms (map resolved_of c.args.terms.now)))) (sym c.own.ensures) (several_of c.in_ok-gathered.gathered, c.in_ok-gathered.ensures, o.ensures))
+    λ line. plain-describes (HasOutcome (scope_of c.args.env.now (g.R.Row.values c.args.row.now) c.args.locals.now) (tree.listed line c.args.form (tree_views.terms (map resolved_of c.args.terms.now)))) c.own.result
+    (subst (HasOutcome (scope_of c.args.env.now (g.R.Row.values c.args.row.now) c.args.locals.now) (tree.listed line c.args.form (tree_views.terms (map resolved_of c.args.terms.now)))) (sym c.own.ensures) (several_of c.in_ok-gathered.gathered, c.in_ok-gathered.ensures, o.ensures))
 
 pub memberships::of_both-returns-in-Generic : goal.memberships::of_both-returns-in-Generic
 memberships::of_both-returns-in-Generic g t c =
@@ -217,7 +218,7 @@ pub outcome-returns-in-Listed : goal.outcome-returns-in-Listed
 outcome-returns-in-Listed g t c =
     let i = c.in-Listed in
     subst (λ d. IfOk c.listed.result (λ o. HasOutcome (scope_of c.args.env.now (g.R.Row.values c.args.row.now) c.args.locals.now) d (found_outcome o)))
-    (ap (λ xs. tree.listed i.field-0 i.form (tree.terms (map resolved_of xs))) c.as_slice.ensures ∙ sym (ap resolved_of i.is ∙ of-Listed i.field-0 i.form i.terms))
+    (ap (λ xs. tree.listed i.field-0 i.form (tree_views.terms (map resolved_of xs))) c.as_slice.ensures ∙ sym (ap resolved_of i.is ∙ of-Listed i.field-0 i.form i.terms))
     (c.listed.ensures c.in-Listed.field-0)
 
 pub outcome-returns-in-Unary : goal.outcome-returns-in-Unary

@@ -1,6 +1,6 @@
 use Rattle.std.proofs.Common.{◌≡◌, drop, map, None}
 use Rattle.zf_data.specs.Chunks.{all_of}
-use Rattle.zf_term.specs.Definitions.{batch_of}
+use Rattle.zf_term.specs.SchemaViews.{batch_of}
 use Rattle.zf_resolved.specs.Behind.{onto, tree_in}
 use Rattle.zf_resolved.proofs.Joining.{numbered_anew}
 use Rattle.zf_resolved.proofs.conjunct.+resolved.Given as goal

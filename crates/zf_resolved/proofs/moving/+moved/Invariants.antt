@@ -1,7 +1,8 @@
 use Rattle.std.proofs.Common.{◌≡◌, map, take}
-use Rattle.zf_term.specs.ResolvedTrees.{resolved_of, resolved_link_of, range_of}
-use Rattle.zf_reference.specs.Numbering.{place_in}
-use Rattle.zf_term.specs.Shapes.{moved, link_moved, range_moved}
+use Rattle.zf_term.specs.ResolvedViews.{resolved_of, resolved_link_of, range_of}
+use Rattle.zf_reference.specs.NumberingViews.{place_in}
+use Rattle.zf_term.specs.Shapes.{moved}
+use Rattle.zf_term.specs.ShapeViews.{link_moved, range_moved}
 use Rattle.zf_resolved.proofs.moving.+moved.Given as goal
 
 abbrev pub invariant-moved_terms-loop-term : goal.invariant-moved_terms-loop-term

@@ -1,4 +1,4 @@
-use Rattle.zf_term.specs.Definitions.{comp_of}
+use Rattle.zf_term.specs.SchemaViews.{comp_of}
 use Rattle.zf_texts.proofs.HeldSoFar.{not_alone, not_separated}
 use Rattle.zf_texts.proofs.held.named_at.Goals as goal
 

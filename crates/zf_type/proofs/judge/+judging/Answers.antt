@@ -1,10 +1,12 @@
 use Rattle.zf_type.proofs.Prelude.{◌++◌, ◌+◌, ◌∙◌, ◌∷◌, ◌≡◌, [], ap, append-nil, arith, drop, Err, inl, inr, length, List, map, None, Ok, refl, Some, subst, sym, ℕ, ⊎_elim, left_need, need_of, relation_rule, right_need, rule_of, part_of, tree_of, trees, Name, at_end, at_step, pushed, range_of, resolved_link_of, resolved_of, no_types, type_of, types, mismatch, Offence, AreNew, AreRepeated, DeclarationsOffend, Judges, JudgesPart, LinksOffend, Offends, OneOffends, SetsOffend, IfFault, resolved, resolved_all, resolved_links, resolved_ranges, Meets, predicate, Sort, sort_of, Takes, variable_of, within, scope_of, AreLinked, AreMembers, Declare, declared, IsOf, member_need, variables}
 use Rattle.std.proofs.lemmas.List.{length-map, append_assoc}
 use Rattle.zf_tree.specs.Trees as tree
+use Rattle.zf_tree.specs.TreeViews as tree_views
 use Rattle.zf_tree.proofs.TermSeen as seen
 use Rattle.zf_term.proofs.Ahead.{decl_ahead, link_ahead}
 use Rattle.zf_tree.specs.declared.operator.Need.TheVariants as need
 use Rattle.zf_term.specs.ResolvedTrees as kept
+use Rattle.zf_term.specs.ResolvedViews as kept_views
 use Rattle.zf_term.proofs.ResolvedSeen as kept_seen
 use Rattle.zf_term.specs.Faults as fault
 use Rattle.zf_type.proofs.Members.{lengths}
@@ -140,7 +142,7 @@ lists::judge_all-loop-member-init t c =
     record {
       same = refl;
       told = λ us h. subst (λ xs. AreMembers c.args.form s es (types (map type_of xs ++ us))) (sym c.in_ok-types.ensures) h;
-      kept = λ ts h. ap (λ xs. kept.terms (map resolved_of xs ++ ts)) c.in_ok-resolved.ensures ∙ h;
+      kept = λ ts h. ap (λ xs. kept_views.terms (map resolved_of xs ++ ts)) c.in_ok-resolved.ensures ∙ h;
       offends = λ k m o. o;
     }
 
@@ -162,9 +164,9 @@ lists::judge_all-loop-member-preserved t c =
           subst (λ vs. AreMembers form s (trees (map tree_of all)) (types vs)) (sym (pushed type_of c.loop-member.types c.push.new.self u us c.in_ok-push.ensures.ok))
           (c.loop-member.invariant.told (type_of u ∷ us) (at_step (λ rs. AreMembers form s (trees (map tree_of rs)) (types (type_of u ∷ us))) all i r c.member-item.is (omega arith) (type_of u, types us, is, are, refl)));
       kept = λ ts h.
-          ap kept.terms (pushed resolved_of c.loop-member.resolved c.push-in-loop-member.new.self j.term ts c.in_ok-push-2.ensures.ok)
-          ∙ c.loop-member.invariant.kept (resolved_of j.term ∷ ts) (at_step (λ rs. kept.terms (resolved_of j.term ∷ ts) ≡ resolved_all s (trees (map tree_of rs))) all i r c.member-item.is (omega arith)
-          (ap (λ x. kept.term x (kept.terms ts)) judged.term ∙ ap (kept.term (resolved s e)) h));
+          ap kept_views.terms (pushed resolved_of c.loop-member.resolved c.push-in-loop-member.new.self j.term ts c.in_ok-push-2.ensures.ok)
+          ∙ c.loop-member.invariant.kept (resolved_of j.term ∷ ts) (at_step (λ rs. kept_views.terms (resolved_of j.term ∷ ts) ≡ resolved_all s (trees (map tree_of rs))) all i r c.member-item.is (omega arith)
+          (ap (λ x. kept.term x (kept_views.terms ts)) judged.term ∙ ap (kept.term (resolved s e)) h));
       offends = λ k m o. c.loop-member.invariant.offends k m (at_step (λ rs. OneOffends s (member_need form) (trees (map tree_of rs)) k m) all i r c.member-item.is (omega arith) (inr o));
     }
 
@@ -177,7 +179,7 @@ lists::judge_all-returns-clause-ok t c =
 pub lists::judge_all-returns-clause-resolved : goal.lists::judge_all-returns-clause-resolved
 lists::judge_all-returns-clause-resolved t c =
     let s = scope_of c.args.scope.now in
-    ap kept.terms (sym (append-nil (map resolved_of c.loop-member.resolved)))
+    ap kept_views.terms (sym (append-nil (map resolved_of c.loop-member.resolved)))
     ∙ c.loop-member.invariant.kept [] (at_end (λ rs. kept.no_terms ≡ resolved_all s (trees (map tree_of rs))) c.args.terms.now c.loop-member.member-index (omega arith) refl)
 
 pub lists::judge_all-returns-in_err-term-clause-wrong : goal.lists::judge_all-returns-in_err-term-clause-wrong
@@ -208,7 +210,7 @@ pub chains::judge_links-loop-link-init : goal.chains::judge_links-loop-link-init
 chains::judge_links-loop-link-init t c = record {
   same = refl;
   linked = λ h. h;
-  kept = λ ks h. ap (λ xs. kept.links (map resolved_link_of xs ++ ks)) c.in_ok-resolved.ensures ∙ h;
+  kept = λ ks h. ap (λ xs. kept_views.links (map resolved_link_of xs ++ ks)) c.in_ok-resolved.ensures ∙ h;
   offends = λ a h l. (a, h, l, λ k m o. o);
 }
 
@@ -230,9 +232,9 @@ chains::judge_links-loop-link-preserved t c =
       same = c.in_ok-term.ensures.scope ∙ c.loop-link.invariant.same;
       linked = λ h. c.loop-link.invariant.linked (link_ahead (λ l. AreLinked s x l) all i k c.link-item.is (omega arith) (y, judged.is_of, taken, h));
       kept = λ ks h.
-          ap kept.links (pushed resolved_link_of c.loop-link.resolved c.push.new.self (kept_seen.new_link k.relation j.term) ks c.in_ok-push.ensures.ok ∙ ap (λ p. map resolved_link_of c.loop-link.resolved ++ p ∷ ks) (kept_seen.of-link k.relation j.term))
-          ∙ c.loop-link.invariant.kept ((k.relation, resolved_of j.term) ∷ ks) (link_ahead (λ l. kept.link k.relation (resolved_of j.term) (kept.links ks) ≡ resolved_links s l) all i k c.link-item.is (omega arith)
-          (ap (λ x. kept.link k.relation x (kept.links ks)) judged.term ∙ ap (kept.link k.relation (resolved s e)) h));
+          ap kept_views.links (pushed resolved_link_of c.loop-link.resolved c.push.new.self (kept_seen.new_link k.relation j.term) ks c.in_ok-push.ensures.ok ∙ ap (λ p. map resolved_link_of c.loop-link.resolved ++ p ∷ ks) (kept_seen.of-link k.relation j.term))
+          ∙ c.loop-link.invariant.kept ((k.relation, resolved_of j.term) ∷ ks) (link_ahead (λ l. kept.link k.relation (resolved_of j.term) (kept_views.links ks) ≡ resolved_links s l) all i k c.link-item.is (omega arith)
+          (ap (λ x. kept.link k.relation x (kept_views.links ks)) judged.term ∙ ap (kept.link k.relation (resolved s e)) h));
       offends = λ a h l.
           let b = c.loop-link.invariant.offends a h l in (
             e,
@@ -245,13 +247,13 @@ chains::judge_links-loop-link-preserved t c =
 pub chains::judge_links-returns-clause-ok : goal.chains::judge_links-returns-clause-ok
 chains::judge_links-returns-clause-ok t c =
     let s = scope_of c.args.scope.now in
-    c.loop-link.invariant.linked (at_end (λ l. AreLinked s (sort_of c.loop-link.left.sort) (tree.links (map tree.link_of l))) c.args.links.now c.loop-link.link-index (omega arith) tt)
+    c.loop-link.invariant.linked (at_end (λ l. AreLinked s (sort_of c.loop-link.left.sort) (tree_views.links (map tree_views.link_of l))) c.args.links.now c.loop-link.link-index (omega arith) tt)
 
 pub chains::judge_links-returns-clause-resolved : goal.chains::judge_links-returns-clause-resolved
 chains::judge_links-returns-clause-resolved t c =
     let s = scope_of c.args.scope.now in
-    ap kept.links (sym (append-nil (map resolved_link_of c.loop-link.resolved)))
-    ∙ c.loop-link.invariant.kept [] (at_end (λ l. kept.no_links ≡ resolved_links s (tree.links (map tree.link_of l))) c.args.links.now c.loop-link.link-index (omega arith) refl)
+    ap kept_views.links (sym (append-nil (map resolved_link_of c.loop-link.resolved)))
+    ∙ c.loop-link.invariant.kept [] (at_end (λ l. kept.no_links ≡ resolved_links s (tree_views.links (map tree_views.link_of l))) c.args.links.now c.loop-link.link-index (omega arith) refl)
 
 pub chains::judge_links-returns-in_err-term-clause-wrong : goal.chains::judge_links-returns-in_err-term-clause-wrong
 chains::judge_links-returns-in_err-term-clause-wrong t c = λ a h l.
@@ -261,7 +263,7 @@ chains::judge_links-returns-in_err-term-clause-wrong t c = λ a h l.
     let n = right_need (relation_rule k.relation) in
     let e = tree_of k.right in
     let x = c.in_err-term.field-0.0 in
-    let P : Offence → ℕ → Type 0 = λ f m. LinksOffend s a (tree.links (map tree.link_of all)) f m in
+    let P : Offence → ℕ → Type 0 = λ f m. LinksOffend s a (tree_views.links (map tree_views.link_of all)) f m in
     let b = c.loop-link.invariant.offends a h l in
     let judged = judged_as s _ n _ k.right _ (Err x) c.loop-link.invariant.same (c.right_need.ensures ∙ ap right_need c.relation_rule-rule.ensures) refl c.in_err-term.ensures.judged in
     let step : (f : Offence) (m : ℕ) → Offends s n e f m → P f m =
@@ -276,7 +278,7 @@ chains::judge_links-returns-in_err-check_left-clause-wrong t c = λ a h l.
     let n = left_need (relation_rule k.relation) in
     let z = sort_of c.loop-link.left.sort in
     let x = c.in_err-check_left.field-0.0 in
-    let P : Offence → ℕ → Type 0 = λ f m. LinksOffend s a (tree.links (map tree.link_of all)) f m in
+    let P : Offence → ℕ → Type 0 = λ f m. LinksOffend s a (tree_views.links (map tree_views.link_of all)) f m in
     let b = c.loop-link.invariant.offends a h l in
     let is : c.left_need.result ≡ n = c.left_need.ensures ∙ ap left_need c.relation_rule-rule.ensures in
     let Q : Offence → ℕ → Type 0 = λ f m. (Meets c.left_need.result z → ⊥) × (f ≡ fault.misplaced c.left_need.result z) × (m ≡ c.loop-link.left.line) in
@@ -296,7 +298,7 @@ chains::judge_links-returns-in_err-relate-clause-wrong t c = λ a h l.
     let y = sort_of c.loop-link.left.sort in
     let z = sort_of j.sort in
     let x = c.in_err-relate.field-0.0 in
-    let P : Offence → ℕ → Type 0 = λ f m. LinksOffend s a (tree.links (map tree.link_of all)) f m in
+    let P : Offence → ℕ → Type 0 = λ f m. LinksOffend s a (tree_views.links (map tree_views.link_of all)) f m in
     let b = c.loop-link.invariant.offends a h l in
     let judged = judged_of s (right_need rule) e j (judged_as s _ (right_need rule) _ k.right _ (Ok j) c.loop-link.invariant.same (c.right_need.ensures ∙ ap right_need c.relation_rule-rule.ensures) refl c.in_ok-term.ensures.judged) in
     let meets : Meets (left_need rule) y = subst (λ n. Meets n y) (c.left_need.ensures ∙ ap left_need c.relation_rule-rule.ensures) c.in_ok-check_left.ensures.ok in
@@ -311,7 +313,7 @@ pub chains::chain-returns-in_err-term-clause-judged : goal.chains::chain-returns
 chains::chain-returns-in_err-term-clause-judged t c =
     let s = scope_of c.args.scope.now in
     let e = tree_of c.get.result.now in
-    let ks = tree.links (map tree.link_of c.in-Chain.links) in
+    let ks = tree_views.links (map tree_views.link_of c.in-Chain.links) in
     let x = c.in_err-term.field-0.0 in
     let is = ap tree_of c.in-Chain.is ∙ seen.of-Chain c.in-Chain.line c.in-Chain.first c.in-Chain.links ∙ ap (λ r. tree.chain c.in-Chain.line (tree_of r) ks) (sym c.get.ensures) in
     subst (λ d. Judges s c.args.need d c.from_residual.result) (sym is)
@@ -323,7 +325,7 @@ chains::chain-returns-in_err-links-clause-judged t c =
     let n = c.args.need in
     let l = c.in-Chain.line in
     let e = tree_of c.in-Chain.first in
-    let ks = tree.links (map tree.link_of c.in-Chain.links) in
+    let ks = tree_views.links (map tree_views.link_of c.in-Chain.links) in
     let is = ap tree_of c.in-Chain.is ∙ seen.of-Chain l c.in-Chain.first c.in-Chain.links in
     let j = c.in_ok-term.field-0 in
     let z = sort_of j.sort in
@@ -331,10 +333,10 @@ chains::chain-returns-in_err-links-clause-judged t c =
     let judged = judged_of s need.Expression e j (subst (λ y. Judges s need.Expression y (Ok j)) (ap tree_of c.get.ensures) c.in_ok-term.ensures.judged) in
     let line = c.line.ensures ∙ ap (λ y. tree.line_of (tree_of y)) c.get-2.ensures in
     let fault = c.in_err-links.ensures.wrong e (subst (λ y. IsOf y e z) (sym c.in_ok-term.ensures.scope) judged.is_of) line in
-    let here = subst (λ y. IfFault x (λ k m. LinksOffend y e (tree.links (map tree.link_of c.as_slice.result.now)) k m)) c.in_ok-term.ensures.scope fault in
+    let here = subst (λ y. IfFault x (λ k m. LinksOffend y e (tree_views.links (map tree_views.link_of c.as_slice.result.now)) k m)) c.in_ok-term.ensures.scope fault in
     subst (λ d. Judges s n d c.from_residual-in_err-links.result) (sym is)
     (from_fault s n (tree.chain l e ks) x c.from_residual-in_err-links.result
-    (if_fault x (λ k m. LinksOffend s e ks k m) (λ k m. Offends s n (tree.chain l e ks) k m) (λ k m o. inr (inl o)) (subst (λ ys. IfFault x (λ k m. LinksOffend s e (tree.links (map tree.link_of ys)) k m)) c.as_slice.ensures here))
+    (if_fault x (λ k m. LinksOffend s e ks k m) (λ k m. Offends s n (tree.chain l e ks) k m) (λ k m o. inr (inl o)) (subst (λ ys. IfFault x (λ k m. LinksOffend s e (tree_views.links (map tree_views.link_of ys)) k m)) c.as_slice.ensures here))
     c.from_residual-in_err-links.ensures.0 c.from_residual-in_err-links.ensures.1)
 
 pub chains::chain-returns-in_err-first-clause-judged : goal.chains::chain-returns-in_err-first-clause-judged
@@ -350,20 +352,20 @@ chains::chain-returns-clause-judged t c =
     let s = scope_of c.args.scope.now in
     let l = c.in-Chain.line in
     let e = tree_of c.in-Chain.first in
-    let ks = tree.links (map tree.link_of c.in-Chain.links) in
+    let ks = tree_views.links (map tree_views.link_of c.in-Chain.links) in
     let is = ap tree_of c.in-Chain.is ∙ seen.of-Chain l c.in-Chain.first c.in-Chain.links in
     let j = c.in_ok-term.field-0 in
     let judged = judged_of s need.Expression e j (subst (λ y. Judges s need.Expression y (Ok j)) (ap tree_of c.get.ensures) c.in_ok-term.ensures.judged) in
-    let linked = subst (λ ys. AreLinked s (sort_of j.sort) (tree.links (map tree.link_of ys))) c.as_slice.ensures
-    (subst (λ y. AreLinked y (sort_of j.sort) (tree.links (map tree.link_of c.as_slice.result.now))) c.in_ok-term.ensures.scope c.in_ok-links.ensures.ok) in
-    let further : kept.links (map resolved_link_of c.in_ok-links.links) ≡ resolved_links s ks =
-    c.in_ok-links.ensures.resolved ∙ ap (λ y. resolved_links y (tree.links (map tree.link_of c.as_slice.result.now))) c.in_ok-term.ensures.scope ∙ ap (λ ys. resolved_links s (tree.links (map tree.link_of ys))) c.as_slice.ensures in
+    let linked = subst (λ ys. AreLinked s (sort_of j.sort) (tree_views.links (map tree_views.link_of ys))) c.as_slice.ensures
+    (subst (λ y. AreLinked y (sort_of j.sort) (tree_views.links (map tree_views.link_of c.as_slice.result.now))) c.in_ok-term.ensures.scope c.in_ok-links.ensures.ok) in
+    let further : kept_views.links (map resolved_link_of c.in_ok-links.links) ≡ resolved_links s ks =
+    c.in_ok-links.ensures.resolved ∙ ap (λ y. resolved_links y (tree_views.links (map tree_views.link_of c.as_slice.result.now))) c.in_ok-term.ensures.scope ∙ ap (λ ys. resolved_links s (tree_views.links (map tree_views.link_of ys))) c.as_slice.ensures in
     subst (λ d. Judges s c.args.need d c.placed.result) (sym is)
     (c.placed.ensures s (tree.chain l e ks)
     (judged.met.0, subst (λ z. IsOf s e z) judged.met.1 judged.is_of, subst (λ z. AreLinked s z ks) judged.met.1 linked, refl)
     (kept_seen.of-Chain l c.in_ok-first.first c.in_ok-further.further
-    ∙ ap (λ x. kept.chain l x (kept.links (map resolved_link_of c.in_ok-further.further))) (ap resolved_of c.in_ok-first.ensures ∙ judged.term)
-    ∙ ap (λ xs. kept.chain l (resolved s e) (kept.links (map resolved_link_of xs))) c.in_ok-further.ensures
+    ∙ ap (λ x. kept.chain l x (kept_views.links (map resolved_link_of c.in_ok-further.further))) (ap resolved_of c.in_ok-first.ensures ∙ judged.term)
+    ∙ ap (λ xs. kept.chain l (resolved s e) (kept_views.links (map resolved_link_of xs))) c.in_ok-further.ensures
     ∙ ap (kept.chain l (resolved s e)) further) refl)
 
 -- ---- parts that may be left out
@@ -396,18 +398,18 @@ binders::declare-returns-clause-ok t c =
 
 pub binders::declare-returns-in_err-variables-clause-wrong : goal.binders::declare-returns-in_err-variables-clause-wrong
 binders::declare-returns-in_err-variables-clause-wrong t c =
-    fault_from c.in_err-variables.field-0.0 (λ k m. DeclarationsOffend (scope_of c.args.scope.now) (tree.var_decls (map tree.var_decl_of c.args.decls.now)) k m) c.from_residual.result c.in_err-variables.ensures.wrong c.from_residual.ensures.0 c.from_residual.ensures.1
+    fault_from c.in_err-variables.field-0.0 (λ k m. DeclarationsOffend (scope_of c.args.scope.now) (tree_views.var_decls (map tree_views.var_decl_of c.args.decls.now)) k m) c.from_residual.result c.in_err-variables.ensures.wrong c.from_residual.ensures.0 c.from_residual.ensures.1
 
 pub binders::judge_sets-loop-decl-init : goal.binders::judge_sets-loop-decl-init
 binders::judge_sets-loop-decl-init t c =
     let s = scope_of c.args.scope.now in
-    let ds = tree.var_decls (map tree.var_decl_of c.args.decls.now) in
+    let ds = tree_views.var_decls (map tree_views.var_decl_of c.args.decls.now) in
     record {
       same = refl;
       declares = λ vs h. subst (λ xs. Declare s ds (map variable_of xs ++ vs)) (sym c.new-variables.ensures) h;
       apart = λ h. subst (λ xs. AreNew (map variable_of xs) (declared ds)) c.new-variables.ensures h;
       repeated = λ k m h. subst (λ xs. AreRepeated (map variable_of xs) (declared ds) k m) c.new-variables.ensures h;
-      kept = λ rs h. ap (λ xs. kept.ranges (map range_of xs ++ rs)) c.in_ok-ranges.ensures ∙ h;
+      kept = λ rs h. ap (λ xs. kept_views.ranges (map range_of xs ++ rs)) c.in_ok-ranges.ensures ∙ h;
       offends = λ k m o. o;
     }
 
@@ -420,7 +422,7 @@ binders::judge_sets-loop-decl-preserved t c =
     let e = tree_of d.set in
     let j = c.in_ok-term.field-0 in
     let old = map variable_of c.loop-decl.variables in
-    let rest = tree.var_decls (map tree.var_decl_of (drop (i + 1) all)) in
+    let rest = tree_views.var_decls (map tree_views.var_decl_of (drop (i + 1) all)) in
     let judged = judged_of s need.Set e j (judged_as s _ need.Set need.Set d.set _ (Ok j) c.loop-decl.invariant.same refl refl c.in_ok-term.ensures.judged) in
     let added = c.in_ok-declare_names.ensures.ok in
     let u = added.0 in
@@ -430,16 +432,16 @@ binders::judge_sets-loop-decl-preserved t c =
     record {
       same = c.in_ok-term.ensures.scope ∙ c.loop-decl.invariant.same;
       declares = λ vs h.
-          subst (λ ws. Declare s (tree.var_decls (map tree.var_decl_of all)) ws) (sym (ap (λ ws. ws ++ vs) more ∙ append_assoc old here vs))
+          subst (λ ws. Declare s (tree_views.var_decls (map tree_views.var_decl_of all)) ws) (sym (ap (λ ws. ws ++ vs) more ∙ append_assoc old here vs))
           (c.loop-decl.invariant.declares (here ++ vs) (decl_ahead (λ ds. Declare s ds (here ++ vs)) all i d c.decl-item.is (omega arith) (u, vs, subst (λ z. IsOf s e z) added.1 judged.is_of, h, refl)));
       apart = λ h. c.loop-decl.invariant.apart (decl_ahead (λ ds. AreNew old (declared ds)) all i d c.decl-item.is (omega arith)
           (subst (λ ns. AreNew old (ns ++ declared rest)) c.as_slice.ensures (c.in_ok-declare_names.ensures.apart (declared rest) h)));
       repeated = λ k m h. c.loop-decl.invariant.repeated k m (decl_ahead (λ ds. AreRepeated old (declared ds) k m) all i d c.decl-item.is (omega arith)
           (subst (λ ns. AreRepeated old (ns ++ declared rest) k m) c.as_slice.ensures (c.in_ok-declare_names.ensures.later (declared rest) k m h)));
       kept = λ rs h.
-          ap kept.ranges (pushed range_of c.loop-decl.ranges c.push.new.self new rs c.in_ok-push.ensures.ok ∙ ap (λ p. map range_of c.loop-decl.ranges ++ p ∷ rs) (kept_seen.of-range c.len.result j.term ∙ ap (λ n. (n, resolved_of j.term)) c.len.ensures))
-          ∙ c.loop-decl.invariant.kept ((length d.names, resolved_of j.term) ∷ rs) (decl_ahead (λ ds. kept.range (length d.names) (resolved_of j.term) (kept.ranges rs) ≡ resolved_ranges s ds) all i d c.decl-item.is (omega arith)
-          (ap (λ x. kept.range (length d.names) x (kept.ranges rs)) judged.term ∙ ap (kept.range (length d.names) (resolved s e)) h));
+          ap kept_views.ranges (pushed range_of c.loop-decl.ranges c.push.new.self new rs c.in_ok-push.ensures.ok ∙ ap (λ p. map range_of c.loop-decl.ranges ++ p ∷ rs) (kept_seen.of-range c.len.result j.term ∙ ap (λ n. (n, resolved_of j.term)) c.len.ensures))
+          ∙ c.loop-decl.invariant.kept ((length d.names, resolved_of j.term) ∷ rs) (decl_ahead (λ ds. kept.range (length d.names) (resolved_of j.term) (kept_views.ranges rs) ≡ resolved_ranges s ds) all i d c.decl-item.is (omega arith)
+          (ap (λ x. kept.range (length d.names) x (kept_views.ranges rs)) judged.term ∙ ap (kept.range (length d.names) (resolved s e)) h));
       offends = λ k m o. c.loop-decl.invariant.offends k m (decl_ahead (λ ds. SetsOffend s ds k m) all i d c.decl-item.is (omega arith) (inr o));
     }
 
@@ -448,17 +450,17 @@ binders::judge_sets-returns-clause-ok t c =
     let s = scope_of c.args.scope.now in
     let all = c.args.decls.now in
     let i = c.loop-decl.decl-index in
-    let ds = tree.var_decls (map tree.var_decl_of all) in
+    let ds = tree_views.var_decls (map tree_views.var_decl_of all) in
     let vs = map variable_of c.loop-decl.variables in (
-      all_apart (declared ds) (c.loop-decl.invariant.apart (at_end (λ xs. AreNew vs (declared (tree.var_decls (map tree.var_decl_of xs)))) all i (omega arith) tt)),
-      subst (λ ws. Declare s ds ws) (append-nil vs) (c.loop-decl.invariant.declares [] (at_end (λ xs. Declare s (tree.var_decls (map tree.var_decl_of xs)) []) all i (omega arith) refl)),
+      all_apart (declared ds) (c.loop-decl.invariant.apart (at_end (λ xs. AreNew vs (declared (tree_views.var_decls (map tree_views.var_decl_of xs)))) all i (omega arith) tt)),
+      subst (λ ws. Declare s ds ws) (append-nil vs) (c.loop-decl.invariant.declares [] (at_end (λ xs. Declare s (tree_views.var_decls (map tree_views.var_decl_of xs)) []) all i (omega arith) refl)),
     )
 
 pub binders::judge_sets-returns-clause-ranges : goal.binders::judge_sets-returns-clause-ranges
 binders::judge_sets-returns-clause-ranges t c =
     let s = scope_of c.args.scope.now in
-    ap kept.ranges (sym (append-nil (map range_of c.loop-decl.ranges)))
-    ∙ c.loop-decl.invariant.kept [] (at_end (λ ds. kept.no_ranges ≡ resolved_ranges s (tree.var_decls (map tree.var_decl_of ds))) c.args.decls.now c.loop-decl.decl-index (omega arith) refl)
+    ap kept_views.ranges (sym (append-nil (map range_of c.loop-decl.ranges)))
+    ∙ c.loop-decl.invariant.kept [] (at_end (λ ds. kept.no_ranges ≡ resolved_ranges s (tree_views.var_decls (map tree_views.var_decl_of ds))) c.args.decls.now c.loop-decl.decl-index (omega arith) refl)
 
 pub binders::judge_sets-returns-in_err-term-clause-wrong : goal.binders::judge_sets-returns-in_err-term-clause-wrong
 binders::judge_sets-returns-in_err-term-clause-wrong t c =
@@ -467,7 +469,7 @@ binders::judge_sets-returns-in_err-term-clause-wrong t c =
     let d = c.decl-item.result in
     let e = tree_of d.set in
     let x = c.in_err-term.field-0.0 in
-    let P : Offence → ℕ → Type 0 = λ k m. DeclarationsOffend s (tree.var_decls (map tree.var_decl_of all)) k m in
+    let P : Offence → ℕ → Type 0 = λ k m. DeclarationsOffend s (tree_views.var_decls (map tree_views.var_decl_of all)) k m in
     let judged = judged_as s _ need.Set need.Set d.set _ (Err x) c.loop-decl.invariant.same refl refl c.in_err-term.ensures.judged in
     let step : (k : Offence) (m : ℕ) → Offends s need.Set e k m → P k m =
     λ k m o. inr (c.loop-decl.invariant.offends k m (decl_ahead (λ ds. SetsOffend s ds k m) all c.loop-decl.decl-index d c.decl-item.is (omega arith) (inl o))) in
@@ -481,11 +483,11 @@ binders::judge_sets-returns-in_err-declare_names-clause-wrong t c =
     let d = c.decl-item.result in
     let x = c.in_err-declare_names.field-0.0 in
     let old = map variable_of c.loop-decl.variables in
-    let rest = declared (tree.var_decls (map tree.var_decl_of (drop (i + 1) all))) in
-    let P : Offence → ℕ → Type 0 = λ k m. DeclarationsOffend s (tree.var_decls (map tree.var_decl_of all)) k m in
+    let rest = declared (tree_views.var_decls (map tree_views.var_decl_of (drop (i + 1) all))) in
+    let P : Offence → ℕ → Type 0 = λ k m. DeclarationsOffend s (tree_views.var_decls (map tree_views.var_decl_of all)) k m in
     let Q : Offence → ℕ → Type 0 = λ k m. (ns : List Name) → AreRepeated old (c.as_slice.result.now ++ ns) k m in
     let step : (k : Offence) (m : ℕ) → Q k m → P k m =
-    λ k m o. inl (some_repeated (declared (tree.var_decls (map tree.var_decl_of all))) k m (c.loop-decl.invariant.repeated k m (decl_ahead (λ ds. AreRepeated old (declared ds) k m) all i d c.decl-item.is (omega arith)
+    λ k m o. inl (some_repeated (declared (tree_views.var_decls (map tree_views.var_decl_of all))) k m (c.loop-decl.invariant.repeated k m (decl_ahead (λ ds. AreRepeated old (declared ds) k m) all i d c.decl-item.is (omega arith)
     (subst (λ ns. AreRepeated old (ns ++ rest) k m) c.as_slice.ensures (o rest))))) in
     fault_from x P c.from_residual-in_err-declare_names.result (if_fault x Q P step c.in_err-declare_names.ensures.repeated) c.from_residual-in_err-declare_names.ensures.0 c.from_residual-in_err-declare_names.ensures.1
 
@@ -506,9 +508,9 @@ binders::quantified-returns-in_err-ranges-clause-judged t c =
     let q = c.in-Quantified.quantifier in
     let p = part_of c.in-Quantified.constraint in
     let e = tree_of c.in-Quantified.body in
-    let ds = tree.var_decls (map tree.var_decl_of c.as_slice.result.now) in
+    let ds = tree_views.var_decls (map tree_views.var_decl_of c.as_slice.result.now) in
     let x = c.in_err-ranges.field-0.0 in
-    let is = ap tree_of c.in-Quantified.is ∙ seen.of-Quantified l q c.in-Quantified.decls c.in-Quantified.constraint c.in-Quantified.body ∙ ap (λ xs. tree.quantified l q (tree.var_decls (map tree.var_decl_of xs)) p e) (sym c.as_slice.ensures) in
+    let is = ap tree_of c.in-Quantified.is ∙ seen.of-Quantified l q c.in-Quantified.decls c.in-Quantified.constraint c.in-Quantified.body ∙ ap (λ xs. tree.quantified l q (tree_views.var_decls (map tree_views.var_decl_of xs)) p e) (sym c.as_slice.ensures) in
     subst (λ d. Judges s n d c.from_residual.result) (sym is)
     (from_fault s n (tree.quantified l q ds p e) x c.from_residual.result
     (if_fault x (λ k m. DeclarationsOffend s ds k m) (λ k m. Offends s n (tree.quantified l q ds p e) k m) (λ k m o. ⊎_elim (λ a. inl a) (λ b. inr (inl b)) o) c.in_err-ranges.ensures.wrong)
@@ -521,10 +523,10 @@ binders::quantified-returns-clause-judged t c =
     let q = c.in-Quantified.quantifier in
     let p = part_of c.in-Quantified.constraint in
     let e = tree_of c.get.result.now in
-    let ds = tree.var_decls (map tree.var_decl_of c.as_slice.result.now) in
+    let ds = tree_views.var_decls (map tree_views.var_decl_of c.as_slice.result.now) in
     let bound = c.in_ok-ranges.ensures.ok in
     let is = ap tree_of c.in-Quantified.is ∙ seen.of-Quantified l q c.in-Quantified.decls c.in-Quantified.constraint c.in-Quantified.body
-    ∙ ap (λ xs. tree.quantified l q (tree.var_decls (map tree.var_decl_of xs)) p (tree_of c.in-Quantified.body)) (sym c.as_slice.ensures) ∙ ap (λ y. tree.quantified l q ds p (tree_of y)) (sym c.get.ensures) in
+    ∙ ap (λ xs. tree.quantified l q (tree_views.var_decls (map tree_views.var_decl_of xs)) p (tree_of c.in-Quantified.body)) (sym c.as_slice.ensures) ∙ ap (λ y. tree.quantified l q ds p (tree_of y)) (sym c.get.ensures) in
     subst (λ d. Judges s c.args.need d c.with_body.result) (sym is)
     (c.with_body.ensures s ds bound.0 p e bound.1 c.in_ok-ranges.ensures.ranges
     (subst (λ z. JudgesPart z need.Predicate p c.judge_part-constraint.result) bound.2 c.judge_part-constraint.ensures.judged)
@@ -542,9 +544,9 @@ binders::builder-returns-in_err-ranges-clause-judged t c =
     let l = c.in-Builder.line in
     let p = part_of c.in-Builder.filter in
     let e = part_of c.in-Builder.member in
-    let ds = tree.var_decls (map tree.var_decl_of c.as_slice.result.now) in
+    let ds = tree_views.var_decls (map tree_views.var_decl_of c.as_slice.result.now) in
     let x = c.in_err-ranges.field-0.0 in
-    let is = ap tree_of c.in-Builder.is ∙ seen.of-Builder l c.in-Builder.decls c.in-Builder.filter c.in-Builder.member ∙ ap (λ xs. tree.builder l (tree.var_decls (map tree.var_decl_of xs)) p e) (sym c.as_slice.ensures) in
+    let is = ap tree_of c.in-Builder.is ∙ seen.of-Builder l c.in-Builder.decls c.in-Builder.filter c.in-Builder.member ∙ ap (λ xs. tree.builder l (tree_views.var_decls (map tree_views.var_decl_of xs)) p e) (sym c.as_slice.ensures) in
     subst (λ d. Judges s n d c.from_residual.result) (sym is)
     (from_fault s n (tree.builder l ds p e) x c.from_residual.result
     (if_fault x (λ k m. DeclarationsOffend s ds k m) (λ k m. Offends s n (tree.builder l ds p e) k m) (λ k m o. ⊎_elim (λ a. inl a) (λ b. inr (inl b)) o) c.in_err-ranges.ensures.wrong)
@@ -556,10 +558,10 @@ binders::builder-returns-clause-judged t c =
     let l = c.in-Builder.line in
     let p = part_of c.in-Builder.filter in
     let e = part_of c.in-Builder.member in
-    let ds = tree.var_decls (map tree.var_decl_of c.as_slice.result.now) in
+    let ds = tree_views.var_decls (map tree_views.var_decl_of c.as_slice.result.now) in
     let bound = c.in_ok-ranges.ensures.ok in
     let inside = c.judge_part-filter.ensures.scope ∙ bound.2 in
-    let is = ap tree_of c.in-Builder.is ∙ seen.of-Builder l c.in-Builder.decls c.in-Builder.filter c.in-Builder.member ∙ ap (λ xs. tree.builder l (tree.var_decls (map tree.var_decl_of xs)) p e) (sym c.as_slice.ensures) in
+    let is = ap tree_of c.in-Builder.is ∙ seen.of-Builder l c.in-Builder.decls c.in-Builder.filter c.in-Builder.member ∙ ap (λ xs. tree.builder l (tree_views.var_decls (map tree_views.var_decl_of xs)) p e) (sym c.as_slice.ensures) in
     subst (λ d. Judges s c.args.need d c.built.result) (sym is)
     (c.built.ensures s ds bound.0 p e bound.1 c.in_ok-ranges.ensures.ranges
     (subst (λ z. JudgesPart z need.Predicate p c.judge_part-filter.result) bound.2 c.judge_part-filter.ensures.judged)

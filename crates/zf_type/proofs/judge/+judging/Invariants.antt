@@ -1,5 +1,5 @@
 use Rattle.zf_type.proofs.Prelude.{◌++◌, ◌≡◌, [], drop, List, map, ℕ, line_of, link_of, links, Tree, tree_of, trees, var_decl_of, var_decls, Relation, range_of, resolved_link_of, resolved_of, ResolvedTree, Ty, type_of, types, Offence, AreNew, AreRepeated, LinksOffend, OneOffends, SetsOffend, resolved_all, resolved_links, resolved_ranges, sort_of, Var, variable_of, scope_of, AreLinked, AreMembers, Declare, declared, IsOf, member_need}
-use Rattle.zf_term.specs.ResolvedTrees as kept
+use Rattle.zf_term.specs.ResolvedViews as kept
 use Rattle.zf_type.proofs.judge.+judging.Given as goal
 
 abbrev pub invariant-lists::judge_all-loop-member : goal.invariant-lists::judge_all-loop-member

@@ -1,6 +1,7 @@
 use Rattle.zf_type.proofs.Prelude.{◌∙◌, ap, inl, inr, refl, subst, rule_of, mismatch, Offends, resolved, sort_of, IsMade}
 use Rattle.zf_tree.specs.Trees as tree
-use Rattle.zf_term.specs.ResolvedTrees.{resolved_of, binary}
+use Rattle.zf_term.specs.ResolvedViews.{resolved_of}
+use Rattle.zf_term.specs.ResolvedTrees.{binary}
 use Rattle.zf_term.proofs.ResolvedSeen as seen
 use Rattle.zf_type.proofs.Judging.{judges_err, from_memory, takes_both, takes_not, told}
 use Rattle.zf_type.proofs.judge.operands.with_operands.Goals as goal
