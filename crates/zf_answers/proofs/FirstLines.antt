@@ -1,5 +1,5 @@
 -- The first lines of a search are a front of what is written of it.
-use Rattle.zf_answers.proofs.Prelude.{◌++◌, ◌∙◌, ◌∷◌, ◌≡◌, ◌≤◌, [], ap, append-nil, append_assoc, codes, inl, inr, length, List, Option, refl, subst, sym, ℕ, flat_map-append, IsTotalOrder, AllPairs, Contains, Ordering, AllPairs-across, Contains-head, Contains-left, Contains-right, Conjuncts, Event, TiesAreEqual, IsUpTo, IsFront, AreEventsUpTo, Hold, IsWithin, IsWritten, lines, out_line, Status, AreTold}
+use Rattle.zf_answers.proofs.Prelude.{◌++◌, ◌∙◌, ◌∷◌, ◌≡◌, ◌≤◌, [], ap, append-nil, append_assoc, codes, inl, inr, length, List, Option, refl, subst, sym, ℕ, flat_map-append, IsTotalOrder, AllPairs, Contains, Ordering, AllPairs-across, Contains-head, Contains-left, Contains-right, Conjuncts, Event, TiesAreEqual, IsUpTo, IsFront, AreEventsUpTo, Hold, IsNotAbove, IsWritten, lines, out_line, Status, AreTold}
 use Rattle.zf_answers.proofs.Rows.{before_last, nothing_more}
 use Rattle.zf_answers.proofs.OneEnding.{Follows, begins, held, last_of, never_itself}
 
@@ -26,12 +26,12 @@ module _ {V : Type 0} (line : List V → List ℕ) where
 
 module _ {V : Type 0} (cmp : V → V → Ordering) (o : IsTotalOrder cmp) (ties : TiesAreEqual cmp) (s : Conjuncts V) (told : AreTold s) (ranges : List (List V)) (after : Option (List V))
     (line : List V → List ℕ) (limit : Option ℕ) (xs ys : List (Event V)) (last other_last : Option (List V)) (h : AreEventsUpTo cmp s ranges after last xs)
-    (k : AreEventsUpTo cmp s ranges after other_last ys) (hold : Hold xs) (within : IsWithin limit (length xs)) (text : List ℕ) (status : Status) where
+    (k : AreEventsUpTo cmp s ranges after other_last ys) (hold : Hold xs) (within : IsNotAbove limit (length xs)) (text : List ℕ) (status : Status) where
   -- the events that hold are no more than those that are written
   no_further : (more : List (Event V)) → xs ≡ ys ++ more → IsWritten line limit ys other_last text status → more ≡ []
   no_further [] q w = refl
   no_further (m ∷ more) q (IsWritten.pauses front e is up holds reached told done) =
-      nothing_more ys (m ∷ more) (subst (λ zs. length zs ≤ length ys) q (subst (λ l. IsWithin l (length xs)) reached within))
+      nothing_more ys (m ∷ more) (subst (λ zs. length zs ≤ length ys) q (subst (λ l. IsNotAbove l (length xs)) reached within))
   no_further (m ∷ more) q (IsWritten.breaks front e is up holds out below told past) =
       let there : Contains xs e = subst (λ zs. Contains zs e) (sym q) (Contains-left ys (m ∷ more) e (subst (λ zs. Contains zs e) (sym is) (last_of line limit front e))) in
       absurd (held line limit xs e hold there out)

@@ -2,7 +2,7 @@
 use Rattle.zf_answers.proofs.Prelude.{◌++◌, ◌+◌, ◌∙◌, ◌∷◌, ◌≡◌, [], ap, append_assoc, Bool, false, inl, inr, List, None, Option, refl, Some, subst, sym, true, ℕ, cases_eq, Value, Comp, Environment, IsOfType, Decided, decided_same, decided_some, HasSome, component_text, Ends, is_in_word, spellings, EveryHeldLineIsJudged}
 use Rattle.zf_texts.specs.declared.spelling.Spelling.{Spelling}
 use Rattle.zf_texts.specs.Held.{HoldNext, IsNamedNext}
-use Rattle.zf_texts.specs.ValueTexts.{separator}
+use Rattle.zf_texts.specs.ValueTexts.{comma_before}
 use Rattle.zf_texts.proofs.HeldSoFar.{told_named}
 use Rattle.zf_texts.proofs.Spelled.{cancel}
 use Rattle.zf_answers.proofs.ListedValues.{values_listed}
@@ -44,16 +44,16 @@ decided_ends (b ∷ bytes) = decided_false (is_in_word b)
 
 decided_named : (c : Comp) (n : ℕ) (bytes : List ℕ) → Decided (IsNamedNext c n bytes)
 decided_named c n bytes = decided_same
-    (λ h. (h.0, h.2, h.1 ∙ append_assoc (separator n) c.name h.0))
-    (λ h. (h.0, h.2 ∙ sym (append_assoc (separator n) c.name h.0), h.1))
-    (decided_behind (separator n ++ c.name) bytes Ends decided_ends)
+    (λ h. (h.0, h.2, h.1 ∙ append_assoc (comma_before n) c.name h.0))
+    (λ h. (h.0, h.2 ∙ sym (append_assoc (comma_before n) c.name h.0), h.1))
+    (decided_behind (comma_before n ++ c.name) bytes Ends decided_ends)
 
 -- ---- the values that are held
 
 module _ (ss : List Spelling) (e : Environment) where
   -- the bytes go on with this value of the component, and then with a rest
   abbrev Takes : Comp → List Comp → ℕ → List ℕ → Value → Type 0
-  Takes c cs n bytes v = (rest : List ℕ) × Follows (separator n ++ component_text ss c v) bytes rest × HasSome (HoldNext ss e cs (n + 1) rest)
+  Takes c cs n bytes v = (rest : List ℕ) × Follows (comma_before n ++ component_text ss c v) bytes rest × HasSome (HoldNext ss e cs (n + 1) rest)
 
   skipped : (c : Comp) (cs : List Comp) (n : ℕ) (bytes : List ℕ) → (IsNamedNext c n bytes → ⊥) → (held : List (Option Value)) → HoldNext ss e (c ∷ cs) n bytes held → HasSome (HoldNext ss e cs n bytes)
   skipped c cs n bytes not [] h = absurd h
@@ -63,14 +63,14 @@ module _ (ss : List Spelling) (e : Environment) where
   taken : (c : Comp) (cs : List Comp) (n : ℕ) (bytes : List ℕ) → IsNamedNext c n bytes → (held : List (Option Value)) → HoldNext ss e (c ∷ cs) n bytes held → (v : Value) × IsOfType e c.type v × Takes c cs n bytes v
   taken c cs n bytes named [] h = absurd h
   taken c cs n bytes named (None ∷ held) h = absurd (h.0 named)
-  taken c cs n bytes named (Some v ∷ held) (rest, of_type, is, h) = (v, of_type, (rest, is ∙ sym (append_assoc (separator n) (component_text ss c v) rest), (held, h)))
+  taken c cs n bytes named (Some v ∷ held) (rest, of_type, is, h) = (v, of_type, (rest, is ∙ sym (append_assoc (comma_before n) (component_text ss c v) rest), (held, h)))
 
   of_named : (c : Comp) (cs : List Comp) (n : ℕ) (bytes : List ℕ) → ((m : ℕ) (more : List ℕ) → Decided (HasSome (HoldNext ss e cs m more))) → Decided (IsNamedNext c n bytes) → Decided (HasSome (HoldNext ss e (c ∷ cs) n bytes))
   of_named c cs n bytes later (inr not) = decided_same (λ h. (None ∷ h.0, (not, h.1))) (λ h. skipped c cs n bytes not h.0 h.1) (later n bytes)
   of_named c cs n bytes later (inl named) = decided_same
-      (λ h. (Some h.0 ∷ h.2.2.0, (h.2.0, h.1, h.2.1 ∙ append_assoc (separator n) (component_text ss c h.0) h.2.0, h.2.2.1)))
+      (λ h. (Some h.0 ∷ h.2.2.0, (h.2.0, h.1, h.2.1 ∙ append_assoc (comma_before n) (component_text ss c h.0) h.2.0, h.2.2.1)))
       (λ h. taken c cs n bytes named h.0 h.1)
-      (decided_some (Takes c cs n bytes) (values_listed e c.type) (λ v. decided_behind (separator n ++ component_text ss c v) bytes (λ rest. HasSome (HoldNext ss e cs (n + 1) rest)) (λ rest. later (n + 1) rest)))
+      (decided_some (Takes c cs n bytes) (values_listed e c.type) (λ v. decided_behind (comma_before n ++ component_text ss c v) bytes (λ rest. HasSome (HoldNext ss e cs (n + 1) rest)) (λ rest. later (n + 1) rest)))
 
   none_behind : (n b : ℕ) (bytes : List ℕ) (held : List (Option Value)) → HoldNext ss e [] n (b ∷ bytes) held → ⊥
   none_behind n b bytes [] h = cc

@@ -1,5 +1,5 @@
 -- Each type has finitely many values, and there are finitely many rows of several types.
-use Rattle.zf_answers.proofs.Prelude.{◌<◌, ◌^◌, ◌∙◌, ◌∷◌, ◌≡◌, ◌≤◌, ◌⊎◌, [], inl, inr, length, List, None, Option, refl, Some, subst, sym, ℕ, ℤ, same_Some, FitsSigned, negsuc, pos, slice_get, SET_MAX, Elem, Int, SetOf, Tuple, Value, basic, int, no_types, power, product, Ty, type, Tys, Environment, type_number, AreOfTypes, IsElement, IsOfType, Listed, listed_either, listed_image, listed_kept, listed_none, listed_one, listed_pairs, listed_same}
+use Rattle.zf_answers.proofs.Prelude.{◌<◌, ◌^◌, ◌∙◌, ◌∷◌, ◌≡◌, ◌≤◌, ◌⊎◌, [], inl, inr, length, List, None, Option, refl, Some, subst, sym, ℕ, ℤ, same_Some, FitsSigned, negsuc, pos, slice_get, SET_MAX, Elem, Int, SetOf, Tuple, Value, basic, int, no_types, power, product, Ty, type, Tys, Environment, type_number, AreOfTypes, IsExistingElement, IsOfType, Listed, listed_either, listed_image, listed_kept, listed_none, listed_one, listed_pairs, listed_same}
 use Rattle.std.specs.Int.{w64}
 use Rattle.zf_value.proofs.Among.{every_at, every_from}
 use Rattle.zf_total.proofs.Naturals.{decided_le, listed_below}
@@ -18,12 +18,12 @@ numbers_listed = listed_same (listed_either (listed_image pos (listed_below (2 ^
     from (negsuc n) f = inr (n, f.sfits, refl)
 
 -- the elements of a given set or free type
-elements_listed : (e : Environment) (number : Option ℕ) → Listed (IsElement e number)
-elements_listed e None = listed_none (IsElement e None) (λ v h. h)
+elements_listed : (e : Environment) (number : Option ℕ) → Listed (IsExistingElement e number)
+elements_listed e None = listed_none (IsExistingElement e None) (λ v h. h)
 elements_listed e (Some n) = by (slice_get e.sizes n) refl
   where
-    by : (o : Option ℕ) → slice_get e.sizes n ≡ o → Listed (IsElement e (Some n))
-    by None there = listed_none (IsElement e (Some n)) (λ v w. let z : None ≡ Some w.0 = sym there ∙ w.2 in cc)
+    by : (o : Option ℕ) → slice_get e.sizes n ≡ o → Listed (IsExistingElement e (Some n))
+    by None there = listed_none (IsExistingElement e (Some n)) (λ v w. let z : None ≡ Some w.0 = sym there ∙ w.2 in cc)
     by (Some k) there = listed_same (listed_image (λ i. Elem n i) (listed_below k)) (λ v. (
       λ w. (k, w.0, there, w.1, sym w.2),
       λ w. (w.1, subst (λ j. w.1 < j) (same_Some w.0 k (sym w.2 ∙ there)) w.3, sym w.4),

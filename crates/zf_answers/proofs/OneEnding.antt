@@ -1,5 +1,5 @@
 -- Of one search there is one list of events up to where the lines end, one text of it and one status.
-use Rattle.zf_answers.proofs.Prelude.{◌++◌, ◌+◌, ◌<◌, ◌∙◌, ◌∷◌, ◌≡◌, ◌≤◌, ◌⊎◌, [], ap, arith, inl, inr, length, List, None, Option, refl, Some, subst, sym, take, ℕ, All-contains, IsTotalOrder, lists_total, slice_cmp, AllPairs, Contains, Ordering, AllPairs-across, Contains-head, Contains-right, IsRowOf-length, Conjuncts, IsTruthOf, Event, IsEvent, ComesAfter, TiesAreEqual, IsUpTo, Truth, Out, True, AreEventsUpTo, Hold, IsBelow, IsWithin, IsWritten, Status, AreTold, one_truth_of}
+use Rattle.zf_answers.proofs.Prelude.{◌++◌, ◌+◌, ◌<◌, ◌∙◌, ◌∷◌, ◌≡◌, ◌≤◌, ◌⊎◌, [], ap, arith, inl, inr, length, List, None, Option, refl, Some, subst, sym, take, ℕ, All-contains, IsTotalOrder, lists_total, slice_cmp, AllPairs, Contains, Ordering, AllPairs-across, Contains-head, Contains-right, IsRowOf-length, Conjuncts, IsTruthOf, Event, IsEvent, ComesAfter, TiesAreEqual, IsUpTo, Truth, Out, True, AreEventsUpTo, Hold, IsBelow, IsNotAbove, IsWritten, Status, AreTold, one_truth_of}
 use Rattle.std.specs.declared.cmp.Ordering.TheVariants.{Less, Equal, Greater}
 use Rattle.std.specs.Ordering.{ordering_reverse}
 use Rattle.std.proofs.lemmas.List.{length-append}
@@ -8,11 +8,11 @@ use Rattle.zf_answers.proofs.Rows.{nothing_more, before_last, same_last, All-fro
 
 -- ---- what is written of events
 
-within_below : (limit : Option ℕ) (n : ℕ) → IsBelow limit n → IsWithin limit (n + 1)
+within_below : (limit : Option ℕ) (n : ℕ) → IsBelow limit n → IsNotAbove limit (n + 1)
 within_below None n h = tt
 within_below (Some l) n h = omega arith
 
-within_of : (limit : Option ℕ) (m n : ℕ) → m ≤ n → IsWithin limit n → IsWithin limit m
+within_of : (limit : Option ℕ) (m n : ℕ) → m ≤ n → IsNotAbove limit n → IsNotAbove limit m
 within_of None m n le h = tt
 within_of (Some l) m n le h = omega arith
 
@@ -25,11 +25,11 @@ module _ {V : Type 0} (line : List V → List ℕ) (limit : Option ℕ) where
   last_of front e = Contains-right front (e ∷ []) e (Contains-head e [])
 
   -- no more events than the limit are written, or told as out
-  few : (events : List (Event V)) (last : Option (List V)) (text : List ℕ) (status : Status) → IsWritten line limit events last text status → IsWithin limit (length events)
-  few events last text status (IsWritten.pauses front e is up hold reached told done) = subst (λ l. IsWithin l (length events)) (sym reached) (omega arith)
+  few : (events : List (Event V)) (last : Option (List V)) (text : List ℕ) (status : Status) → IsWritten line limit events last text status → IsNotAbove limit (length events)
+  few events last text status (IsWritten.pauses front e is up hold reached told done) = subst (λ l. IsNotAbove l (length events)) (sym reached) (omega arith)
   few events last text status (IsWritten.breaks front e is up hold out below told past) =
       let n : length events ≡ length front + 1 = ap length is ∙ length-append front (e ∷ []) in
-      subst (IsWithin limit) (sym n) (within_below limit (length front) below)
+      subst (IsNotAbove limit) (sym n) (within_below limit (length front) below)
   few events last text status (IsWritten.ends none hold below told done) = within_of limit (length events) (length events + 1) (omega arith) (within_below limit (length events) below)
 
   -- each event before another one holds
@@ -128,7 +128,7 @@ module _ {V : Type 0} (cmp : V → V → Ordering) (o : IsTotalOrder cmp) (ties 
           → IsWritten line limit xs last text status → IsWritten line limit ys other_last other other_status → more ≡ []
       no_more line limit text other status other_status [] q w v = refl
       no_more line limit text other status other_status (m ∷ more) q (IsWritten.pauses front e is up hold reached told done) v =
-          let f : length ys ≤ length xs = subst (λ l. IsWithin l (length ys)) reached (few line limit ys other_last other other_status v) in
+          let f : length ys ≤ length xs = subst (λ l. IsNotAbove l (length ys)) reached (few line limit ys other_last other other_status v) in
           nothing_more xs (m ∷ more) (subst (λ zs. length zs ≤ length xs) q f)
       no_more line limit text other status other_status (m ∷ more) q (IsWritten.breaks front e is up hold out below told past) v =
           absurd (held line limit xs e (hold_before line limit ys other_last other other_status v xs m more q) (subst (λ es. Contains es e) (sym is) (last_of line limit front e)) out)

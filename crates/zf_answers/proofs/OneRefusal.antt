@@ -1,7 +1,7 @@
 -- The sizes of an environment are one list, and sizes that don't fit have one first fault.
 use Rattle.zf_answers.proofs.Prelude.{◌++◌, ◌<◌, ◌∙◌, ◌∷◌, ◌≡◌, ◌≤◌, ◌⊎◌, [], ap, arith, inl, inr, length, List, refl, subst, sym, ℕ, All-contains, ◌≢◌, Contains, Contains-cases, Contains-head, Contains-nil, Contains-right, SET_MAX, abbreviation, constructor, Defined, Definition, free_type, given_set, schema, Size, SizeFault, Contains-map}
 use Rattle.zf_meaning.specs.declared.sizes.SizeFault.TheVariants.{NoSize, NotGiven, SizeTwice, SizeTooLarge, OutOfMemory}
-use Rattle.zf_meaning.specs.Sizes.{names, IsAccepted, AreAccepted, AreComplete, Refuses, RefusesSize, LacksSize, IsRefusal, IsStated, AddsSize, AreSizes}
+use Rattle.zf_meaning.specs.Sizes.{names, IsAccepted, AreAccepted, AreComplete, IsSizeFault, RefusesSize, LacksSize, IsRefusal, IsStated, AddsSize, AreSizes}
 
 -- ---- two places of one list
 
@@ -33,7 +33,7 @@ apart : (m n : ℕ) → m < n → n ≤ m → ⊥
 apart m n h k = omega arith
 
 -- a size that is refused is not accepted
-not_accepted : (sets : List (List ℕ)) (earlier : List Size) (size : Size) (fault : SizeFault) → fault ≢ OutOfMemory → Refuses sets earlier size fault → IsAccepted sets earlier size → ⊥
+not_accepted : (sets : List (List ℕ)) (earlier : List Size) (size : Size) (fault : SizeFault) → fault ≢ OutOfMemory → IsSizeFault sets earlier size fault → IsAccepted sets earlier size → ⊥
 not_accepted sets earlier size (NoSize name) some r a = r
 not_accepted sets earlier size (NotGiven name) some r a = r.1 (subst (Contains sets) (sym r.0) a.given)
 not_accepted sets earlier size (SizeTwice name) some r a = a.first (subst (Contains (names earlier)) r.0 r.2)
@@ -42,7 +42,7 @@ not_accepted sets earlier size OutOfMemory some r a = some refl
 
 -- one size is refused in one way
 one_way : (sets : List (List ℕ)) (earlier : List Size) (size : Size) (one two : SizeFault) → one ≢ OutOfMemory → two ≢ OutOfMemory
-    → Refuses sets earlier size one → Refuses sets earlier size two → one ≡ two
+    → IsSizeFault sets earlier size one → IsSizeFault sets earlier size two → one ≡ two
 one_way sets earlier size OutOfMemory two some other_some r q = absurd (some refl)
 one_way sets earlier size (NoSize n) two some other_some r q = absurd r
 one_way sets earlier size (NotGiven n) OutOfMemory some other_some r q = absurd (other_some refl)
@@ -74,7 +74,7 @@ of_either sets sizes OutOfMemory some r = absurd (some refl)
 
 same_refused : (sets : List (List ℕ)) (sizes : List Size) (one two : SizeFault) → one ≢ OutOfMemory → two ≢ OutOfMemory → RefusesSize sets sizes one → RefusesSize sets sizes two → one ≡ two
 same_refused sets sizes one two some other_some r q = elim (two_places r.earlier r.size r.later q.earlier q.size q.later (sym r.split ∙ q.split)) [
-  | inl p ↦ one_way sets q.earlier q.size one two some other_some (subst (λ s. Refuses sets q.earlier s one) p.1 (subst (λ es. Refuses sets es r.size one) p.0 r.refused)) q.refused
+  | inl p ↦ one_way sets q.earlier q.size one two some other_some (subst (λ s. IsSizeFault sets q.earlier s one) p.1 (subst (λ es. IsSizeFault sets es r.size one) p.0 r.refused)) q.refused
   | inr (inl p) ↦ absurd (not_accepted sets r.earlier r.size one some r.refused (q.accepted r.earlier r.size p.0 p.1))
   | inr (inr p) ↦ absurd (not_accepted sets q.earlier q.size two other_some q.refused (r.accepted q.earlier q.size p.0 p.1))
 ]

@@ -1,5 +1,5 @@
 -- A source is read by one tree or refused, and defines one list of globals.
-use Rattle.zf_answers.proofs.Prelude.{◌++◌, ◌∙◌, ◌∷◌, ◌≡◌, [], ap, Bool, inl, inr, List, refl, subst, sym, ℕ, ◌≢◌, BoxTree, TextFault, Token, only_one, IsGrammarFault, ReadsLow, ReadsSource, Refuses, RefusesSource, Defined, Schema, Fault, Checks, IsNamed, text_fault_lines, AreAlike, AreOfSame}
+use Rattle.zf_answers.proofs.Prelude.{◌++◌, ◌∙◌, ◌∷◌, ◌≡◌, [], ap, Bool, inl, inr, List, refl, subst, sym, ℕ, ◌≢◌, BoxTree, TextFault, Token, only_one, IsGrammarFault, ReadsLow, ReadsSource, RefusesTokens, RefusesSource, Defined, Schema, Fault, Checks, IsNamed, text_fault_lines, AreAlike, AreOfSame}
 use Rattle.zf_scan.specs.declared.fault.TextFaultKind.{TextFaultKind}
 use Rattle.zf_scan.specs.declared.fault.TextFaultKind.TheVariants as fault
 use Rattle.zf_scan.proofs.Laws.{is_cut_once, is_not_both, faults_once}
@@ -17,7 +17,7 @@ one_tree source a b p q =
     only_one a b q.0 (subst (λ ts. ReadsLow a ts) tokens p.2).reads q.2.reads
 
 -- no tree that is low enough reads what is refused with a fault of the grammar
-none_reads : (kind : TextFaultKind) (line : ℕ) (tokens : List Token) (boxes : List BoxTree) → IsGrammarFault kind → Refuses kind line tokens → ReadsLow boxes tokens → ⊥
+none_reads : (kind : TextFaultKind) (line : ℕ) (tokens : List Token) (boxes : List BoxTree) → IsGrammarFault kind → RefusesTokens kind line tokens → ReadsLow boxes tokens → ⊥
 none_reads fault.Unexpected line tokens boxes g r low = r boxes low.reads
 none_reads fault.NotInProfile line tokens boxes g r low = r boxes low.reads
 none_reads fault.TooDeep line tokens boxes g r low = r boxes low
@@ -60,11 +60,11 @@ same_step g item h i es fs (inr p) (inr q) =
     let both : AreOfSame (e ∷ []) (f ∷ []) = ((g, item, p.2.1, q.2.1), tt) in
     subst (λ xs. AreOfSame xs fs) (sym p.2.2) (subst (λ xs. AreOfSame (e ∷ []) xs) (sym q.2.2) both)
 
-same_run : (g : List Defined) (steps : List Item) (h i : List Defined) (es fs : List Fault) → check.Checks g steps h es → check.Checks g steps i fs → (h ≡ i) × AreOfSame es fs
+same_run : (g : List Defined) (steps : List Item) (h i : List Defined) (es fs : List Fault) → check.ChecksAll g steps h es → check.ChecksAll g steps i fs → (h ≡ i) × AreOfSame es fs
 same_run g [] h i es fs p q = (p.0 ∙ sym q.0, subst (λ xs. AreOfSame xs fs) (sym p.1) (subst (λ xs. AreOfSame [] xs) (sym q.1) tt))
 same_run g (item ∷ steps) h i es fs p q =
     let first = one_step g item p.0 q.0 p.1 q.1 p.3 q.3 in
-    let rest = same_run q.0 steps h i p.2 q.2 (subst (λ m. check.Checks m steps h p.2) first.0 p.4) q.4 in
+    let rest = same_run q.0 steps h i p.2 q.2 (subst (λ m. check.ChecksAll m steps h p.2) first.0 p.4) q.4 in
     let both = same_joined p.1 q.1 p.2 q.2 (same_step g item p.0 q.0 p.1 q.1 p.3 q.3) rest.1 in
     (rest.0, subst (λ xs. AreOfSame xs fs) (sym p.5) (subst (λ xs. AreOfSame (p.1 ++ p.2) xs) (sym q.5) both))
 

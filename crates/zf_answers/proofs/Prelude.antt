@@ -29,7 +29,7 @@ pub use Rattle.zf_tree.specs.Trees.{BoxTree}
 pub use Rattle.zf_scan.specs.declared.fault.TextFault.{TextFault}
 pub use Rattle.zf_scan.specs.declared.token.Token.{Token}
 pub use Rattle.zf_text.proofs.Answers.{only_one, parsed, refused}
-pub use Rattle.zf_text.specs.Parsing.{IsGrammarFault, ReadsLow, ReadsSource, Refuses, RefusesSource}
+pub use Rattle.zf_text.specs.Parsing.{IsGrammarFault, ReadsLow, ReadsSource, RefusesTokens, RefusesSource}
 pub use Rattle.zf_term.specs.Definitions.{abbreviation, Comp, constructor, Defined, Definition, free_type, given_set, Schema, schema, sets_of}
 pub use Rattle.zf_term.specs.Types.{basic, int, no_types, power, product, Ty, type, types, Tys}
 pub use Rattle.zf_term.specs.Faults.{Fault}
@@ -39,7 +39,7 @@ pub use Rattle.zf_finite.specs.declared.not_finite.NotFinite.{NotFinite}
 pub use Rattle.zf_finite.specs.Finite.{causes, IsFinite, one_bounds}
 pub use Rattle.zf_meaning.specs.Environments.{Environment, type_number}
 pub use Rattle.zf_meaning.specs.GlobalOutcomes.{IsEnvironment}
-pub use Rattle.zf_meaning.specs.Rows.{AreOfTypes, IsElement, IsOfType, IsRow}
+pub use Rattle.zf_meaning.specs.Rows.{AreOfTypes, IsExistingElement, IsOfType, IsRow}
 pub use Rattle.zf_meaning.specs.Sizes.{AreComplete, given_sets, IsRefusal}
 pub use Rattle.zf_meaning.specs.declared.sizes.Size.{Size}
 pub use Rattle.zf_meaning.specs.declared.sizes.SizeFault.{SizeFault}
@@ -59,7 +59,7 @@ pub use Rattle.zf_command.specs.declared.job.Job.{Job}
 pub use Rattle.zf_command.specs.declared.job.Job.TheVariants.{Check, Show}
 pub use Rattle.zf_command.specs.declared.job.Request.{Request}
 pub use Rattle.zf_lines.specs.Faults.{IsFront}
-pub use Rattle.zf_lines.specs.Searches.{AreEventsUpTo, HasEvents, Hold, IsBegun, IsBelow, IsTestsLine, IsWithin, IsWritten, lines, out_line, HasLimit}
+pub use Rattle.zf_lines.specs.Searches.{AreEventsUpTo, HasEvents, Hold, IsBegun, IsBelow, IsTestsLine, IsNotAbove, IsWritten, lines, out_line, HasLimit}
 pub use Rattle.zf_lines.specs.Texts.{binding_line, tests_line}
 pub use Rattle.zf_lines.specs.declared.fault.Status.{Status}
 pub use Rattle.zf_lines.specs.declared.fault.Status.TheVariants.{BadRequest, BadSpec, PastBounds}

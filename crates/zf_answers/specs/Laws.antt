@@ -7,7 +7,7 @@ use Rattle.zf_finite.specs.Finite.{IsFinite}
 use Rattle.zf_scan.specs.declared.fault.TextFault.{TextFault}
 use Rattle.zf_scan.specs.declared.token.Token.{Token}
 use Rattle.zf_scan.specs.Cuts.{IsCutInto}
-use Rattle.zf_text.specs.Parsing.{IsGrammarFault, ReadsSource, Refuses, RefusesSource}
+use Rattle.zf_text.specs.Parsing.{IsGrammarFault, ReadsSource, RefusesTokens, RefusesSource}
 use Rattle.zf_tree.specs.Trees.{BoxTree}
 use Rattle.zf_term.specs.Definitions.{Comp, Defined, Schema}
 use Rattle.zf_term.specs.Faults.{Fault}
@@ -89,7 +89,7 @@ pub record TellsGrammar (details : Bool) (file source text : List ℕ) : Type 0 
   pub tokens : List Token
   pub cut : IsCutInto source tokens
   pub kind : IsGrammarFault fault.kind
-  pub refused : Refuses fault.kind fault.line tokens
+  pub refused : RefusesTokens fault.kind fault.line tokens
   pub told : text ≡ text_fault_lines details file fault symbol
 
 -- as many faults in both, and those at one place are offences of one paragraph or box

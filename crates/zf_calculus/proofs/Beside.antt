@@ -2,7 +2,7 @@
 use Rattle.zf_calculus.proofs.Prelude.{◌++◌, ◌+◌, ◌-◌, ◌<◌, ◌∙◌, ◌∷◌, ◌≡◌, ◌≤◌, [], ap, arith, length, length-append, List, map, refl, ℕ, length-map, sum_by-append, sum_by-cons, AllByRecursion, sum_by, place_in, Comp, DeclaredSet, Schema, ResolvedTree, set_count, set_nodes, moved, nodes, AreAt, counted, HasLeft, IsLow, Keeps}
 use Rattle.zf_term.specs.declared.fault.Limit.TheVariants as limit
 use Rattle.zf_term.proofs.Renumbered.{same_height, same_nodes}
-use Rattle.zf_calculus.specs.Calculus.{conjoined, new_place, schema_of, with_comp, with_comps}
+use Rattle.zf_calculus.specs.Calculus.{conjoined, new_place, schema_with, with_comp, with_comps}
 use Rattle.zf_calculus.proofs.Merging.{counts_more}
 use Rattle.zf_calculus.proofs.Monotony.{all_low}
 use Rattle.zf_calculus.proofs.Placing.{are_new_places}
@@ -64,7 +64,7 @@ pub conjuncts_beside : (a b : Schema) → 4096 < length a.conjuncts + length b.c
 conjuncts_beside a b e w = omega (arith, both_long a b, w)
 
 -- the components are joined, and the conjuncts follow them
-pub both_made : (a b : Schema) (cs : List Comp) (ts : List ResolvedTree) (ps : List ℕ) → cs ≡ with_comps a.comps b.comps → AreAt cs ps b.comps → ts ≡ a.conjuncts ++ map (moved (place_in ps)) b.conjuncts → schema_of cs ts ≡ conjoined a b
+pub both_made : (a b : Schema) (cs : List Comp) (ts : List ResolvedTree) (ps : List ℕ) → cs ≡ with_comps a.comps b.comps → AreAt cs ps b.comps → ts ≡ a.conjuncts ++ map (moved (place_in ps)) b.conjuncts → schema_with cs ts ≡ conjoined a b
 both_made a b cs ts ps joined at taken =
-    ap (λ (us : List ResolvedTree). schema_of cs us) (taken ∙ ap (λ (f : ℕ → ℕ). a.conjuncts ++ map (moved f) b.conjuncts) (are_new_places cs ps b.comps at))
-    ∙ ap (λ (ds : List Comp). schema_of ds (a.conjuncts ++ map (moved (new_place b.comps ds)) b.conjuncts)) joined
+    ap (λ (us : List ResolvedTree). schema_with cs us) (taken ∙ ap (λ (f : ℕ → ℕ). a.conjuncts ++ map (moved f) b.conjuncts) (are_new_places cs ps b.comps at))
+    ∙ ap (λ (ds : List Comp). schema_with ds (a.conjuncts ++ map (moved (new_place b.comps ds)) b.conjuncts)) joined

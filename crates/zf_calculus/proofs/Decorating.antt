@@ -2,7 +2,7 @@
 use Rattle.zf_calculus.proofs.Prelude.{set, drop-set-lt, drop_all, get_or_default, length-map, take_all, take_more_set, sum_by-cons, sum_by, dropped, pushed, Comp, comp_of, DeclaredSet, Schema, set_count, set_nodes, Component, counted, HasLeft, IsWithin, Keeps, Limit}
 use Rattle.zf_term.specs.declared.fault.Limit.TheVariants as limit
 use Rattle.std.proofs.Common.{◌≡◌, ℕ, ◌+◌, ◌<◌, ◌≤◌, Bool, true, ◌==◌, eqb-true, length, sym, List, [], ◌∷◌, ◌++◌, map, take, drop, get_or, refl, ap, ◌∙◌, subst, arith, append-nil}
-use Rattle.zf_calculus.specs.Calculus.{comp, schema_of, decorated}
+use Rattle.zf_calculus.specs.Calculus.{comp, schema_with, decorated}
 
 abbrev pub stroked : List ℕ → Comp → Comp
 stroked strokes c = comp (c.name ++ strokes) c.type c.sets
@@ -55,7 +55,7 @@ no_strokes [] = refl
 no_strokes (c ∷ cs) = ap (λ (x : List ℕ). comp x c.type c.sets ∷ map (stroked []) cs) (append-nil c.name) ∙ ap (λ (ds : List Comp). c ∷ ds) (no_strokes cs)
 
 pub undecorated : (a : Schema) → decorated [] a ≡ a
-undecorated a = ap (λ (cs : List Comp). schema_of cs a.conjuncts) (no_strokes a.comps)
+undecorated a = ap (λ (cs : List Comp). schema_with cs a.conjuncts) (no_strokes a.comps)
 
 pub unstroked : (strokes : List ℕ) (none : Bool) (a : Schema) → none ≡ true → none ≡ (length strokes == 0) → a ≡ decorated strokes a
 unstroked [] none a set is = sym (undecorated a)

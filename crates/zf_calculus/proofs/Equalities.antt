@@ -38,6 +38,6 @@ stops_equalities a b l ps i p t m e g whole k h = still_large (constrained a (t 
     let rest = equalities l (i + 1) (drop (i + 1) ps) in
     let now : Keeps x (constrained a (equalities l i (drop i ps))) = subst (Keeps x) (sym whole) w in
     let next : Keeps x (constrained a (equality l i p ∷ rest)) = subst (λ (qs : List ℕ). Keeps x (constrained a (equalities l i qs))) (dropped ps i p m e) now in
-    let parted : Keeps x (calculus.schema_of a.comps ((a.conjuncts ++ equality l i p ∷ []) ++ rest)) = subst (λ (ts : List ResolvedTree). Keeps x (calculus.schema_of a.comps ts)) (sym (append_assoc a.conjuncts (equality l i p ∷ []) rest)) next in
+    let parted : Keeps x (calculus.schema_with a.comps ((a.conjuncts ++ equality l i p ∷ []) ++ rest)) = subst (λ (ts : List ResolvedTree). Keeps x (calculus.schema_with a.comps ts)) (sym (append_assoc a.conjuncts (equality l i p ∷ []) rest)) next in
     let one : Keeps x (constrained a (equality l i p ∷ [])) = before_conjuncts x a.comps (a.conjuncts ++ equality l i p ∷ []) rest parted in
     subst (λ (u : ResolvedTree). Keeps x (constrained a (u ∷ []))) (sym g) one) h

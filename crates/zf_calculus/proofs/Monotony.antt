@@ -1,7 +1,7 @@
 -- A schema that has grown is within a limit only if it was before.
-use Rattle.zf_calculus.proofs.Prelude.{◌++◌, ◌+◌, ◌<◌, ◌∷◌, ◌≡◌, ◌≤◌, [], arith, length, length-append, List, ℕ, sum_by-append, sum_by_push, AllByRecursion, sum_by, Comp, Schema, ResolvedTree, set_count, set_nodes, height, nodes, constrained, grown, HasLeft, all_nodes, IsLow, IsTooLarge, Keeps, Limit, Offence}
+use Rattle.zf_calculus.proofs.Prelude.{◌++◌, ◌+◌, ◌<◌, ◌∷◌, ◌≡◌, ◌≤◌, [], arith, length, length-append, List, ℕ, sum_by-append, sum_by_push, AllByRecursion, sum_by, Comp, Schema, ResolvedTree, set_count, set_nodes, height, nodes, constrained, grown, HasLeft, schema_nodes, IsLow, IsTooLarge, Keeps, Limit, Offence}
 use Rattle.zf_term.specs.declared.fault.Limit.TheVariants as limit
-use Rattle.zf_calculus.specs.Calculus.{schema_of, with_comp}
+use Rattle.zf_calculus.specs.Calculus.{schema_with, with_comp}
 use Rattle.zf_calculus.proofs.Merging.{counts_more}
 
 -- what passes a limit passes it with more
@@ -12,7 +12,7 @@ first_low : (ts us : List ResolvedTree) → AllByRecursion IsLow (ts ++ us) → 
 first_low [] us h = tt
 first_low (t ∷ ts) us h = (h.0, first_low ts us h.1)
 
-pub before_conjuncts : (l : Limit) (cs : List Comp) (ts us : List ResolvedTree) → Keeps l (schema_of cs (ts ++ us)) → Keeps l (schema_of cs ts)
+pub before_conjuncts : (l : Limit) (cs : List Comp) (ts us : List ResolvedTree) → Keeps l (schema_with cs (ts ++ us)) → Keeps l (schema_with cs ts)
 before_conjuncts limit.TypeNodes cs ts us w = tt
 before_conjuncts limit.Components cs ts us w = w
 before_conjuncts limit.Sets cs ts us w = w
@@ -54,7 +54,7 @@ last_low : (ts : List ResolvedTree) (t : ResolvedTree) → AllByRecursion IsLow 
 last_low [] t h = h.0
 last_low (u ∷ ts) t h = last_low ts t h.1
 
-more_nodes : (a : Schema) (t : ResolvedTree) → all_nodes (constrained a (t ∷ [])) ≡ all_nodes a + nodes t
+more_nodes : (a : Schema) (t : ResolvedTree) → schema_nodes (constrained a (t ∷ [])) ≡ schema_nodes a + nodes t
 more_nodes a t = omega (arith, sum_by_push nodes a.conjuncts t)
 
 pub left_taken : (a : Schema) (t : ResolvedTree) (s n m : ℕ) → HasLeft a s n → m + nodes t ≡ n → length a.conjuncts < 4096 → height t ≤ 256 → HasLeft (constrained a (t ∷ [])) s m

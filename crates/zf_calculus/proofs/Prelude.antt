@@ -21,7 +21,7 @@ pub use Rattle.zf_term.specs.SchemaViews.{batch_of, comp_of, conjunct_of, schema
 pub use Rattle.zf_term.specs.Definitions.{Comp, DeclaredSet, is_member, one_holds, Schema, sets_of, sides}
 pub use Rattle.zf_term.specs.FoundViews.{found_as}
 pub use Rattle.zf_term.specs.FirstNamed.{later}
-pub use Rattle.zf_term.specs.Limits.{all_nodes, AreFew, IsLow, IsTooLarge, IsWithin, Keeps}
+pub use Rattle.zf_term.specs.Limits.{schema_nodes, AreFew, IsLow, IsTooLarge, IsWithin, Keeps}
 pub use Rattle.zf_term.specs.LimitViews.{HasLeft}
 pub use Rattle.zf_term.specs.ResolvedTrees.{chain, link, no_links, reference, ResolvedTree}
 pub use Rattle.zf_term.specs.ResolvedViews.{links, resolved_link_of, resolved_of}

@@ -1,7 +1,7 @@
 -- A schema that is taken into the one of no declarations is itself, where its components have names of their own.
 use Rattle.zf_calculus.proofs.Prelude.{if◌then◌else◌, ◌++◌, ◌∙◌, ◌∷◌, ◌≡◌, [], add-one, ap, Bool, false, List, None, Option, refl, slice_get, Some, subst, suc, sym, true, zero, ℕ, append-nil, append_assoc, none-some, same_Some, AllByRecursion, bytes_eq, unmoved, is_itself, is_same, swapped, Comp, Schema, later, ResolvedTree, moved}
 use Rattle.std.proofs.Math.Path.{fun_ext}
-use Rattle.zf_calculus.specs.Calculus.{carried, comp_named, conjoined, new_place, nothing, place_of, place_or, schema_of, with_comp, with_comps}
+use Rattle.zf_calculus.specs.Calculus.{carried, comp_named, conjoined, new_place, nothing, place_of, place_or, schema_with, with_comp, with_comps}
 use Rattle.zf_calculus.specs.CalculusLaws.{AreOnce}
 use Rattle.zf_calculus.proofs.Merging.{new_last, nothing_before, none_known}
 use Rattle.zf_calculus.proofs.Renumbering.{all_same}
@@ -58,4 +58,4 @@ none_carried ds ts once =
 pub taken_whole : (a b : Schema) → a ≡ nothing → AreOnce b.comps → b ≡ conjoined a b
 taken_whole a b e once =
     let joined = all_new [] b.comps once (new_to_none b.comps) in
-    sym (ap (λ (s : Schema). conjoined s b) e ∙ ap (λ (cs : List Comp). schema_of cs (carried b.comps cs b.conjuncts)) joined ∙ ap (λ (ts : List ResolvedTree). schema_of b.comps ts) (none_carried b.comps b.conjuncts once))
+    sym (ap (λ (s : Schema). conjoined s b) e ∙ ap (λ (cs : List Comp). schema_with cs (carried b.comps cs b.conjuncts)) joined ∙ ap (λ (ts : List ResolvedTree). schema_with b.comps ts) (none_carried b.comps b.conjuncts once))

@@ -16,12 +16,12 @@ use Rattle.zf_term.specs.Types.{Ty}
 abbrev pub comp : List ℕ → Ty → List DeclaredSet → Comp
 comp name type sets = record { name = name; type = type; sets = sets }
 
-abbrev pub schema_of : List Comp → List ResolvedTree → Schema
-schema_of comps conjuncts = record { comps = comps; conjuncts = conjuncts }
+abbrev pub schema_with : List Comp → List ResolvedTree → Schema
+schema_with comps conjuncts = record { comps = comps; conjuncts = conjuncts }
 
 -- the schema of no declarations
 abbrev pub nothing : Schema
-nothing = schema_of [] []
+nothing = schema_with [] []
 
 abbrev pub comp_named : List ℕ → List Comp → Option (ℕ × Comp)
 comp_named = first_named (λ c. c.name)
@@ -68,13 +68,13 @@ carried ds cs ts = map (moved (new_place ds cs)) ts
 
 -- A's components, then those of B that are new; the declared sets and conjuncts of A, then those of B
 abbrev pub conjoined : Schema → Schema → Schema
-conjoined a b = schema_of (with_comps a.comps b.comps) (a.conjuncts ++ carried b.comps (with_comps a.comps b.comps) b.conjuncts)
+conjoined a b = schema_with (with_comps a.comps b.comps) (a.conjuncts ++ carried b.comps (with_comps a.comps b.comps) b.conjuncts)
 
 -- ---- decoration, `\Delta` and `\Xi`
 
 -- strokes are appended to the name of each component, and to nothing else
 abbrev pub decorated : List ℕ → Schema → Schema
-decorated strokes a = schema_of (map (λ c. comp (c.name ++ strokes) c.type c.sets) a.comps) a.conjuncts
+decorated strokes a = schema_with (map (λ c. comp (c.name ++ strokes) c.type c.sets) a.comps) a.conjuncts
 
 -- the stroke of a state after an operation
 abbrev pub prime : List ℕ
@@ -95,7 +95,7 @@ all_unchanged l primed all i (c ∷ cs) = unchanged l primed all i ∷ all_uncha
 
 -- `\Delta S`, where no component changes
 abbrev pub xi : (line : ℕ) → Schema → Schema
-xi l a = schema_of (delta a).comps ((delta a).conjuncts ++ all_unchanged l (decorated prime a).comps (delta a).comps 0 a.comps)
+xi l a = schema_with (delta a).comps ((delta a).conjuncts ++ all_unchanged l (decorated prime a).comps (delta a).comps 0 a.comps)
 
 abbrev pub marked : RefMark → (line : ℕ) → Schema → Schema
 marked Plain l a = a
@@ -136,5 +136,5 @@ constraints a = memberships 0 a.comps ++ a.conjuncts
 
 abbrev pub disjoined : (line : ℕ) → Schema → Schema → Schema
 disjoined l a b =
-    schema_of (either_comps a.comps b.comps)
+    schema_with (either_comps a.comps b.comps)
     (one_holds l (constraints a) (carried b.comps (with_comps a.comps b.comps) (constraints b)) ∷ [])

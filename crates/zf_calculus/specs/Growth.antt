@@ -53,11 +53,11 @@ enriched c domains = record { name = c.name; ztype = c.ztype; domains = c.domain
 
 -- with one more component, whatever type one of its name has
 abbrev pub grown : Schema → Comp → Schema
-grown a c = calculus.schema_of (with_comp a.comps c) a.conjuncts
+grown a c = calculus.schema_with (with_comp a.comps c) a.conjuncts
 
 -- with further conjuncts
 abbrev pub constrained : Schema → List ResolvedTree → Schema
-constrained a ts = calculus.schema_of a.comps (a.conjuncts ++ ts)
+constrained a ts = calculus.schema_with a.comps (a.conjuncts ++ ts)
 
 -- what is counted of the declared sets of all components
 abbrev pub counted : (DeclaredSet → ℕ) → List Comp → ℕ
@@ -80,4 +80,4 @@ either_comp cs ds c = calculus.comp c.name c.type (sides (sets_of (calculus.sets
 
 -- the disjunction, which has these components
 abbrev pub disjoined_over : List Comp → (line : ℕ) → Schema → Schema → Schema
-disjoined_over all l a b = calculus.schema_of all (one_holds l (calculus.constraints a) (calculus.carried b.comps all (calculus.constraints b)) ∷ [])
+disjoined_over all l a b = calculus.schema_with all (one_holds l (calculus.constraints a) (calculus.carried b.comps all (calculus.constraints b)) ∷ [])

@@ -4,7 +4,7 @@ use Rattle.zf_tree.specs.declared.tree.RefMark.{RefMark}
 use Rattle.zf_tree.specs.declared.tree.RefMark.TheVariants.{Plain, Delta, Xi}
 use Rattle.zf_term.specs.Faults.{Offence, clash}
 use Rattle.zf_term.specs.Definitions.{Comp, Schema}
-use Rattle.zf_calculus.specs.Calculus.{schema_of, comp_named, Agrees, Agree, with_comp, conjoined, decorated, prime}
+use Rattle.zf_calculus.specs.Calculus.{schema_with, comp_named, Agrees, Agree, with_comp, conjoined, decorated, prime}
 use Rattle.zf_term.specs.Limits.{IsWithin, IsTooLarge}
 
 -- the schema after one more, well typed and within the limits
@@ -13,7 +13,7 @@ IsNext next b = (b ≡ next) × IsWithin next
 
 -- one more component
 abbrev pub Adds : Schema → Comp → Schema → Type 0
-Adds a c b = Agrees a.comps c × IsNext (schema_of (with_comp a.comps c) a.conjuncts) b
+Adds a c b = Agrees a.comps c × IsNext (schema_with (with_comp a.comps c) a.conjuncts) b
 
 -- another schema that is taken in
 abbrev pub Includes : Schema → Schema → Schema → Type 0

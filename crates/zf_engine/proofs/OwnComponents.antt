@@ -1,5 +1,5 @@
 -- The conjuncts of each schema that a text defines name its own components alone.
-use Rattle.zf_engine.proofs.Prelude.{if◌then◌else◌, ◌++◌, ◌+◌, ◌<◌, ◌∷◌, ◌≡◌, ◌≤◌, [], arith, Bool, false, length, List, map, None, Option, refl, Some, subst, suc, sym, true, zero, ℕ, length-map, none-some, same_Some, bytes_eq, Component, spelling, both, DeclTree, either, include, schema_bracket, schema_text, SchemaTree, Tree, vars, onto_behind, carrier, Comp, DeclaredSet, Defined, plain, Schema, schema, sides, first_named, later, binary, ResolvedTree, conjuncts, line_of, moved, references, resolved, due, greatest_place}
+use Rattle.zf_engine.proofs.Prelude.{if◌then◌else◌, ◌++◌, ◌+◌, ◌<◌, ◌∷◌, ◌≡◌, ◌≤◌, [], arith, Bool, false, length, List, map, None, Option, refl, Some, subst, suc, sym, true, zero, ℕ, length-map, none-some, same_Some, bytes_eq, Component, spelling, both, DeclTree, either, include, schema_bracket, schema_text, SchemaTree, Tree, vars, onto_behind, carrier, Comp, DeclaredSet, Defined, plain, Schema, schema, sides, first_named, later, binary, ResolvedTree, conjuncts, term_line, moved, references, resolved, due, greatest_place}
 use Rattle.std.specs.Prelude.{flat_map, fold, slice_get}
 use Rattle.zf_tree.specs.declared.symbol.Connective.TheVariants.{And}
 use Rattle.zf_tree.specs.declared.tree.Name.{Name}
@@ -204,9 +204,9 @@ memberships_due n i (c ∷ cs) l h = due_joined n (flat_map (membership i) c.set
 constraints_due : (a : Schema) → IsOwn a → AreDue (length a.comps) (constraints a)
 constraints_due a h = due_joined (length a.comps) (memberships 0 a.comps) a.conjuncts (memberships_due (length a.comps) 0 a.comps (omega arith) h.1) h.0
 
-folded_due : (n : ℕ) (t : ResolvedTree) (ts : List ResolvedTree) → due t ≤ n → AreDue n ts → due (fold (λ u v. binary (line_of u) (Connective And) u v) t ts) ≤ n
+folded_due : (n : ℕ) (t : ResolvedTree) (ts : List ResolvedTree) → due t ≤ n → AreDue n ts → due (fold (λ u v. binary (term_line u) (Connective And) u v) t ts) ≤ n
 folded_due n t [] h k = h
-folded_due n t (u ∷ us) h k = folded_due n (binary (line_of t) (Connective And) t u) us (due_both n t u h k.0) k.1
+folded_due n t (u ∷ us) h k = folded_due n (binary (term_line t) (Connective And) t u) us (due_both n t u h k.0) k.1
 
 joined_due : (n l : ℕ) (ts : List ResolvedTree) → AreDue n ts → due (joined l ts) ≤ n
 joined_due n l [] h = omega arith

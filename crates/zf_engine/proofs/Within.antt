@@ -5,7 +5,7 @@ use Rattle.zf_reference.specs.declared.reference.Reference.{Reference}
 use Rattle.zf_term.specs.References.{onto, all_onto, links_onto, ranges_onto, part_onto}
 use Rattle.zf_reference.specs.Numbering.{renumbered}
 use Rattle.zf_term.proofs.MovedReferences.{moved_keeps_variables}
-use Rattle.zf_type.specs.Scopes.{Scope, Var, last_named, with_local, with_comp, with_global, meaning}
+use Rattle.zf_type.specs.Scopes.{Scope, Var, last_named, variable_meaning, component_meaning, global_meaning, meaning}
 
 -- ---- places
 
@@ -51,15 +51,15 @@ first_below {A} name x (a ∷ rest) p e = go (bytes_eq (name a) x) (first_below 
 named_within : (n : ℕ) (s : Scope) (x : List ℕ) → length s.comps ≤ n → place_named (referent (meaning s x)) ≤ n
 named_within n s x h = local (last_named (λ v. v.name) x s.locals)
   where
-    global : (o : Option (ℕ × Defined)) → place_named (referent (with_global o)) ≤ n
+    global : (o : Option (ℕ × Defined)) → place_named (referent (global_meaning o)) ≤ n
     global None = omega arith
     global (Some p) = omega arith
 
-    component : (o : Option (ℕ × Comp)) → ((p : ℕ × Comp) → o ≡ Some p → p.0 < length s.comps) → place_named (referent (or_else (with_comp o) (with_global (first_named (λ d. d.name) x s.globals)))) ≤ n
+    component : (o : Option (ℕ × Comp)) → ((p : ℕ × Comp) → o ≡ Some p → p.0 < length s.comps) → place_named (referent (or_else (component_meaning o) (global_meaning (first_named (λ d. d.name) x s.globals)))) ≤ n
     component None k = global (first_named (λ d. d.name) x s.globals)
     component (Some p) k = let l = k p refl in omega (arith, l, h)
 
-    local : (o : Option (ℕ × Var)) → place_named (referent (or_else (with_local o) (or_else (with_comp (first_named (λ c. c.name) x s.comps)) (with_global (first_named (λ d. d.name) x s.globals))))) ≤ n
+    local : (o : Option (ℕ × Var)) → place_named (referent (or_else (variable_meaning o) (or_else (component_meaning (first_named (λ c. c.name) x s.comps)) (global_meaning (first_named (λ d. d.name) x s.globals))))) ≤ n
     local None = component (first_named (λ c. c.name) x s.comps) (first_below (λ c. c.name) x s.comps)
     local (Some p) = omega arith
 

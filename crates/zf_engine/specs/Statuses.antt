@@ -15,8 +15,8 @@ refused_number BadWords = 2
 refused_number OutOfMemory = 4
 
 -- the greatest: a file can't be opened, or a read or a write failed
-abbrev pub number_max : ℕ
-number_max = 5
+abbrev pub status_max : ℕ
+status_max = 5
 
 -- the number of the status of an answer of the job on some source: which bytes the file has is not known here
 abbrev pub IsAnswered : Job → (file : List ℕ) → ℕ → Type 0

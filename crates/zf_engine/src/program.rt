@@ -1,7 +1,7 @@
 //! All that the program does: words in, a status out.
 ghost use Rattle.std.specs.Prelude.{◌≡◌, ◌≤◌, ◌⊎◌, map};
 ghost use Rattle.zf_engine.specs.Answers.{IsLimited};
-ghost use Rattle.zf_engine.specs.Statuses.{number_max, refused_number, IsStatus, IsStatusOfRefused, IsWorkStatus};
+ghost use Rattle.zf_engine.specs.Statuses.{status_max, refused_number, IsStatus, IsStatusOfRefused, IsWorkStatus};
 
 use crate::run::run;
 use std::convert::AsStr;
@@ -16,7 +16,7 @@ use zf_lines::fault::RunFault;
 
 /// Does what the words after the program's own name ask for. The answer is the status.
 pub fn program<R: Files + Input + Print + Eprint + AllocGlobal, S: AsStr>(rt: &R, words: &[S]) -> u8
-    ensures bound { result ≤ number_max }
+    ensures bound { result ≤ status_max }
     ensures status { IsStatus (map S.text words.now) result }
     ensures refused { IsStatusOfRefused (map S.text words.now) result }
 {

@@ -1,5 +1,5 @@
 -- The ranges of components, one more at a time, and the first component that is out.
-use Rattle.zf_enum.proofs.Prelude.{◌++◌, ◌+◌, ◌<◌, ◌∙◌, ◌∷◌, ◌≡◌, ◌≤◌, [], add-one, ap, arith, Err, get_or, length, List, map, None, Ok, Option, refl, Result, Some, subst, suc, sym, take, zero, ℕ, length-map, AllByRecursion, IfErr, IsErrAnd, slice_get, Value, Comp, comp_of, sets_of, Environment, AreAllRanges, held_at, IsOneRange, IsOutBy, IsOneOut, AreRanges, IsFirstOut, IsNoneOut, IsRange, later_held}
+use Rattle.zf_enum.proofs.Prelude.{◌++◌, ◌+◌, ◌<◌, ◌∙◌, ◌∷◌, ◌≡◌, ◌≤◌, [], add-one, ap, arith, Err, get_or, length, List, map, None, Ok, Option, refl, Result, Some, subst, suc, sym, take, zero, ℕ, length-map, AllByRecursion, IfErr, IsErrAnd, slice_get, Value, Comp, comp_of, sets_of, Environment, AreAllRanges, held_at, IsOneRange, IsOutBy, IsOneOut, AreRanges, IsFirstOut, IsNoneOut, IsComponentRange, later_held}
 use Rattle.zf_term.specs.declared.schema.Component.{Component}
 use Rattle.zf_enum.specs.declared.start_fault.StartFault.{StartFault}
 use Rattle.zf_enum.specs.declared.start_fault.StartFault.TheVariants.{DeclaredOut, OutOfMemory}
@@ -20,9 +20,9 @@ held_none (x ∷ held) (suc place) l = held_none held place (omega (arith, l))
 
 -- ---- ranges
 
-ranges_next : (e : Environment) (cs : List Comp) (held : List (Option Value)) (i : ℕ) (c : Comp) (ranges : List (List Value)) (xs : List Value) → slice_get cs i ≡ Some c → AreRanges e (take i cs) held ranges → IsRange e c (held_at i held) xs → AreRanges e (take (suc i) cs) held (ranges ++ xs ∷ [])
+ranges_next : (e : Environment) (cs : List Comp) (held : List (Option Value)) (i : ℕ) (c : Comp) (ranges : List (List Value)) (xs : List Value) → slice_get cs i ≡ Some c → AreRanges e (take i cs) held ranges → IsComponentRange e c (held_at i held) xs → AreRanges e (take (suc i) cs) held (ranges ++ xs ∷ [])
 ranges_next e [] held i c ranges xs g h k = (cc)
-ranges_next e (d ∷ ds) held zero c [] xs g h k = let s : c ≡ d = (cc) in (subst (λ z. IsRange e z (held_at zero held) xs) s k, tt)
+ranges_next e (d ∷ ds) held zero c [] xs g h k = let s : c ≡ d = (cc) in (subst (λ z. IsComponentRange e z (held_at zero held) xs) s k, tt)
 ranges_next e (d ∷ ds) held zero c (r ∷ rs) xs g h k = absurd h
 ranges_next e (d ∷ ds) held (suc i) c [] xs g h k = absurd h
 ranges_next e (d ∷ ds) held (suc i) c (r ∷ rs) xs g h k = (h.0, ranges_next e ds (later_held held) i c rs xs g h.1 k)

@@ -1,5 +1,5 @@
 -- One list of ranges, one list of events; resuming, and the bound.
-use Rattle.zf_enum.proofs.Prelude.{◌∙◌, ◌∷◌, ◌≡◌, [], ap, List, Option, refl, subst, value_order, Value, Comp, Environment, property, AreRanges, first_held, IsRange, later_held}
+use Rattle.zf_enum.proofs.Prelude.{◌∙◌, ◌∷◌, ◌≡◌, [], ap, List, Option, refl, subst, value_order, Value, Comp, Environment, property, AreRanges, first_held, IsComponentRange, later_held}
 use Rattle.zf_value.specs.contracts.plain.ValueOrd.TheImpl.Laws as order_laws
 use Rattle.zf_value.proofs.Once as once
 use Rattle.zf_walk.specs.EventLists.{IsEvents}
@@ -7,7 +7,7 @@ use Rattle.zf_walk.specs.TestBounds.{IsBound}
 use Rattle.zf_walk.proofs.LawProofs as walk
 use Rattle.zf_enum.specs.EventLaws.{OneRanges, OneEvents, EventsResume, TestsAreBound}
 
-one_range : (e : Environment) (c : Comp) (held : Option Value) (xs ys : List Value) → IsRange e c held xs → IsRange e c held ys → xs ≡ ys
+one_range : (e : Environment) (c : Comp) (held : Option Value) (xs ys : List Value) → IsComponentRange e c held xs → IsComponentRange e c held ys → xs ≡ ys
 one_range e c held xs ys h k = once.one_list xs ys h.ascending k.ascending (λ z. (λ m. (k.members z).1 ((h.members z).0 m), λ m. (h.members z).1 ((k.members z).0 m)))
 
 same_ranges : (e : Environment) (cs : List Comp) (held : List (Option Value)) (xs ys : List (List Value)) → AreRanges e cs held xs → AreRanges e cs held ys → xs ≡ ys

@@ -65,6 +65,6 @@ pub use Rattle.zf_enum.specs.Parts.{BoundsAt, Filters, IsAllOf, IsAllOfEach, IsA
 pub use Rattle.zf_enum.specs.Planting.{ArePlanted, IsPlanted, NeedWithin, Plants, PlantsNext}
 pub use Rattle.zf_enum.specs.Property.{due, due_of, greatest_place, HasTruth, is_among, is_component, place_named, property, told, uses, uses_of}
 pub use Rattle.zf_enum.specs.PropertyLaws.{follows_outcome, uses_first}
-pub use Rattle.zf_enum.specs.Ranges.{AreRanges, first_held, IsFirstOut, IsHeld, IsNoneOut, IsRange, later_held}
+pub use Rattle.zf_enum.specs.Ranges.{AreRanges, first_held, IsFirstOut, IsHeld, IsNoneOut, IsComponentRange, later_held}
 pub use Rattle.zf_enum.specs.Searches.{judged, with_first}
 pub use Rattle.zf_enum.specs.declared.property.Property.{Property}

@@ -7,7 +7,7 @@ use Rattle.std.specs.Prelude.{FitsSigned}
 use Rattle.zf_value.specs.Numbers.{number_of}
 use Rattle.zf_value.specs.declared.plain.Value.{Elem}
 use Rattle.zf_value.proofs.Seen.{is_Int, no_Int}
-use Rattle.zf_meaning.specs.Rows.{IsElement}
+use Rattle.zf_meaning.specs.Rows.{IsExistingElement}
 use Rattle.zf_enum.specs.OfTypes.{IsNumberHere}
 
 pub never : (P : Type 0) → (P → ⊥) → IsTrue false ↔ P
@@ -45,9 +45,9 @@ number_here v n e f = (λ g. (n, is_Int v n e, f), λ p. refl)
 pub no_number_here : (v : Value) → None ≡ number_of v → IsTrue false ↔ IsNumberHere v
 no_number_here v e = never (IsNumberHere v) (λ p. no_Int v p.0 e p.1)
 
-pub no_element : (e : Environment) (o : Option ℕ) (v : Value) → ((t i : ℕ) → v ≡ Elem t i → ⊥) → IsTrue false ↔ IsElement e o v
-no_element e None v h = never (IsElement e None v) (λ p. p)
-no_element e (Some n) v h = never (IsElement e (Some n) v) (λ p. h n p.1 p.4)
+pub no_element : (e : Environment) (o : Option ℕ) (v : Value) → ((t i : ℕ) → v ≡ Elem t i → ⊥) → IsTrue false ↔ IsExistingElement e o v
+no_element e None v h = never (IsExistingElement e None v) (λ p. p)
+no_element e (Some n) v h = never (IsExistingElement e (Some n) v) (λ p. h n p.1 p.4)
 
 -- ---- lists
 

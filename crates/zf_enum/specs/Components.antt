@@ -6,7 +6,7 @@ use Rattle.zf_meaning.specs.Environments.{Environment}
 use Rattle.zf_enum.specs.declared.start_fault.StartFault.{StartFault}
 use Rattle.zf_enum.specs.declared.start_fault.StartFault.TheVariants.{DeclaredOut, OutOfMemory}
 use Rattle.zf_enum.specs.DeclaredSets.{IsOneOut}
-use Rattle.zf_enum.specs.Ranges.{IsRange, AreRanges, IsNoneOut, first_held, later_held}
+use Rattle.zf_enum.specs.Ranges.{IsComponentRange, AreRanges, IsNoneOut, first_held, later_held}
 
 -- what is held of the component at this place
 abbrev pub held_at : ℕ → List (Option Value) → Option Value
@@ -14,7 +14,7 @@ held_at zero held = first_held held
 held_at (suc place) held = held_at place (later_held held)
 
 abbrev pub IsOneRange : Environment → Comp → Option Value → List Value → Type 0
-IsOneRange e c held xs = IsRange e c held xs × (IsOneOut e (sets_of c.sets) → ⊥)
+IsOneRange e c held xs = IsComponentRange e c held xs × (IsOneOut e (sets_of c.sets) → ⊥)
 
 abbrev pub AreAllRanges : Environment → List Comp → List (Option Value) → List (List Value) → Type 0
 AreAllRanges e cs held ranges = AreRanges e cs held ranges × IsNoneOut e cs

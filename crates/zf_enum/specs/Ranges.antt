@@ -12,7 +12,7 @@ IsHeld None v = Unit {0}
 IsHeld (Some w) v = v ≡ w
 
 -- the ascending list of exactly the values in the component's range: those that lie in its declared sets, or of them the one that is held
-pub record IsRange (e : Environment) (c : Comp) (held : Option Value) (xs : List Value) : Type 0 where
+pub record IsComponentRange (e : Environment) (c : Comp) (held : Option Value) (xs : List Value) : Type 0 where
   pub ascending : IsAscending xs
   pub members : (v : Value) → IsMember v xs ↔ (IsInSets e (sets_of c.sets) v × IsHeld held v)
 
@@ -30,7 +30,7 @@ abbrev pub AreRanges : Environment → List Comp → (held : List (Option Value)
 AreRanges e [] held [] = Unit {0}
 AreRanges e [] held (xs ∷ ranges) = ⊥
 AreRanges e (c ∷ cs) held [] = ⊥
-AreRanges e (c ∷ cs) held (xs ∷ ranges) = IsRange e c (first_held held) xs × AreRanges e cs (later_held held) ranges
+AreRanges e (c ∷ cs) held (xs ∷ ranges) = IsComponentRange e c (first_held held) xs × AreRanges e cs (later_held held) ranges
 
 -- the component at this place has a declared set that is out
 abbrev pub IsOutAt : Environment → List Comp → ℕ → Type 0

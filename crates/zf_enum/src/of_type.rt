@@ -5,7 +5,7 @@ ghost use Rattle.zf_term.specs.Types.{types, power, product};
 ghost use Rattle.zf_value.specs.declared.plain.Value.{Elem};
 ghost use Rattle.zf_meaning.specs.Environments.{type_number};
 ghost use Rattle.zf_meaning.specs.Envs.{environment_of};
-ghost use Rattle.zf_meaning.specs.Rows.{IsElement, IsOfType, AreOfTypes};
+ghost use Rattle.zf_meaning.specs.Rows.{IsExistingElement, IsOfType, AreOfTypes};
 ghost use Rattle.zf_enum.specs.OfTypes.{IsNumberHere, AreAllOf};
 
 use crate::kept::Test;
@@ -114,7 +114,7 @@ fn is_number(value: &Value) -> bool
 }
 
 fn is_element(value: &Value, name: &[u8], env: &Env<'_, '_>) -> bool
-    ensures { IsTrue result ↔ IsElement (environment_of env.now) (type_number (environment_of env.now) name.now) value.now }
+    ensures { IsTrue result ↔ IsExistingElement (environment_of env.now) (type_number (environment_of env.now) name.now) value.now }
 {
     match &value.form {
         Form::Elem(number, index) => is_among(*number, *index, name, env),
@@ -124,7 +124,7 @@ fn is_element(value: &Value, name: &[u8], env: &Env<'_, '_>) -> bool
 
 /// Whether there is such an element, and its type is the one of this name.
 fn is_among(number: u32, index: u64, name: &[u8], env: &Env<'_, '_>) -> bool
-    ensures { IsTrue result ↔ IsElement (environment_of env.now) (type_number (environment_of env.now) name.now) (Elem number index) }
+    ensures { IsTrue result ↔ IsExistingElement (environment_of env.now) (type_number (environment_of env.now) name.now) (Elem number index) }
 {
     match number_named(env.globals(), name) {
         Some(named) => named == number as usize && is_below(index, env.size(number)),

@@ -7,7 +7,7 @@ use Rattle.zf_extent.specs.declared.offender.Offender.{Offender}
 use Rattle.zf_extent.specs.Extents.{direct, offender_line, offending, offending_within}
 use Rattle.zf_finite.specs.declared.not_finite.NotFinite.{NotFinite}
 use Rattle.zf_finite.specs.declared.not_finite.NotFinite.TheVariants.{Unbounded, Offends}
-use Rattle.zf_term.specs.Shapes.{line_of}
+use Rattle.zf_term.specs.Shapes.{term_line}
 use Rattle.zf_term.specs.Types.{has_numbers}
 
 -- ---- what bounds a component
@@ -34,7 +34,7 @@ first_or (l ∷ ls) other = l
 -- the lines of the sets of declarations, from left to right
 abbrev mutual
   pub plain_lines : DeclaredSet → List ℕ
-  plain_lines (plain t) = line_of t ∷ []
+  plain_lines (plain t) = term_line t ∷ []
   plain_lines (carrier t) = []
   plain_lines (sides left right) = all_plain_lines left ++ all_plain_lines right
 

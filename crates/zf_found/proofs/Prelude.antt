@@ -11,7 +11,7 @@ pub use Rattle.zf_walk.specs.Events.{Event, IsEvent}
 pub use Rattle.zf_walk.specs.EventLists.{IsEvents}
 pub use Rattle.zf_walk.specs.Rows.{ComesAfter, IsFrontOf, IsLater, IsRowOf}
 pub use Rattle.zf_walk.specs.RowLaws.{TiesAreEqual}
-pub use Rattle.zf_walk.specs.Tests.{cut, IsNumber, IsNumberOfTests, IsPair, IsReached, IsUpTo, IsWalked}
+pub use Rattle.zf_walk.specs.Tests.{cut, IsCount, IsNumberOfTests, IsDueTest, IsReached, IsUpTo, IsWalked}
 pub use Rattle.zf_walk.specs.TestBounds.{IsBound}
 pub use Rattle.zf_walk.specs.declared.judge.Truth.{Truth}
 pub use Rattle.zf_walk.specs.declared.judge.Truth.TheVariants.{False, Out, True}
@@ -30,6 +30,6 @@ pub use Rattle.zf_total.proofs.Orders.{AllPairs-mapped, Contains-map, Contains-m
 pub use Rattle.zf_total.proofs.Terms.{some_outcome, some_truth}
 pub use Rattle.zf_total.proofs.Values.{listed_members, same_row, same_value}
 pub use Rattle.zf_enum.specs.DeclaredSets.{IsCarrierOut, IsInCarrier, IsInOne, IsInPlain, IsInSet, IsInSets, IsOneOut, IsPlainOut, IsSetOut}
-pub use Rattle.zf_enum.specs.Ranges.{AreRanges, first_held, IsFirstOut, IsHeld, IsNoneOut, IsOutAt, IsRange, later_held}
+pub use Rattle.zf_enum.specs.Ranges.{AreRanges, first_held, IsFirstOut, IsHeld, IsNoneOut, IsOutAt, IsComponentRange, later_held}
 pub use Rattle.zf_lines.specs.Searches.{AreEventsUpTo, breaks, ends, HasEvents, Hold, IsBelow, IsTestsLine, IsWritten, lines, out_line, pauses}
 pub use Rattle.zf_lines.specs.declared.fault.Status.{Status}

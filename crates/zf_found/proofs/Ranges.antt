@@ -1,5 +1,5 @@
 -- The first component that is out, and the ranges of bounded ones.
-use Rattle.zf_found.proofs.Prelude.{◌<◌, ◌∷◌, ◌≡◌, ◌⊎◌, [], arith, inl, inr, length, List, None, Option, refl, Some, subst, suc, zero, ℕ, ⊎_elim, IsTrue, slice_get, Value, Comp, sets_of, one_bounds, Environment, Decided, HasSome, listed_kept, first_or_none, same_value, IsOneOut, AreRanges, first_held, IsFirstOut, IsHeld, IsNoneOut, IsOutAt, IsRange, later_held}
+use Rattle.zf_found.proofs.Prelude.{◌<◌, ◌∷◌, ◌≡◌, ◌⊎◌, [], arith, inl, inr, length, List, None, Option, refl, Some, subst, suc, zero, ℕ, ⊎_elim, IsTrue, slice_get, Value, Comp, sets_of, one_bounds, Environment, Decided, HasSome, listed_kept, first_or_none, same_value, IsOneOut, AreRanges, first_held, IsFirstOut, IsHeld, IsNoneOut, IsOutAt, IsComponentRange, later_held}
 use Rattle.std.specs.List.{AllByRecursion}
 use Rattle.zf_total.proofs.Sets.{ordered}
 use Rattle.zf_found.proofs.DeclaredSets.{decided_one_out, listed_in_sets}
@@ -29,7 +29,7 @@ decided_held : (held : Option Value) (v : Value) → Decided (IsHeld held v)
 decided_held None v = inl tt
 decided_held (Some w) v = same_value v w
 
-some_range : (e : Environment) (c : Comp) (held : Option Value) → IsTrue (one_bounds e.globals (sets_of c.sets)) → HasSome (IsRange e c held)
+some_range : (e : Environment) (c : Comp) (held : Option Value) → IsTrue (one_bounds e.globals (sets_of c.sets)) → HasSome (IsComponentRange e c held)
 some_range e c held b = let o = ordered (listed_kept (IsHeld held) (listed_in_sets e (sets_of c.sets) b) (decided_held held)) in (o.list, record { ascending = o.ascending; members = o.members })
 
 pub some_ranges : (e : Environment) (cs : List Comp) (held : List (Option Value)) → AllByRecursion (λ c. IsTrue (one_bounds e.globals (sets_of c.sets))) cs → HasSome (AreRanges e cs held)

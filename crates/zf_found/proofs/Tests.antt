@@ -1,5 +1,5 @@
 -- The number of the tests of a walk.
-use Rattle.zf_found.proofs.Prelude.{◌<◌, ◌≡◌, ap, inl, length, List, None, Option, refl, Some, take, ℕ, cases_eq, slice_cmp, Ordering, Greater, Less, Conjuncts, IsBound, IsNumber, IsNumberOfTests, IsPair, IsReached, IsUpTo, IsWalked, False, Decided, decided_all, decided_both, decided_lists, decided_not, decided_same, decided_then, HasSome, Listed, listed_kept, listed_pairs, listed_same, decided_lt, listed_below, distinct_of}
+use Rattle.zf_found.proofs.Prelude.{◌<◌, ◌≡◌, ap, inl, length, List, None, Option, refl, Some, take, ℕ, cases_eq, slice_cmp, Ordering, Greater, Less, Conjuncts, IsBound, IsCount, IsNumberOfTests, IsDueTest, IsReached, IsUpTo, IsWalked, False, Decided, decided_all, decided_both, decided_lists, decided_not, decided_same, decided_then, HasSome, Listed, listed_kept, listed_pairs, listed_same, decided_lt, listed_below, distinct_of}
 use Rattle.zf_found.proofs.Rows.{AreTold, same_ordering, fronts_of}
 
 same_pair : {A B : Type 0} → ((x y : A) → Decided (x ≡ y)) → ((x y : B) → Decided (x ≡ y)) → (p q : A × B) → Decided (p ≡ q)
@@ -7,7 +7,7 @@ same_pair f g p q = decided_same (λ e. (λ i. (e.0 i, e.1 i))) (λ e. (ap (λ r
 
 module _ {V : Type 0} (same : (v w : V) → Decided (v ≡ w)) where
   -- what a list has has a number
-  pub some_count : (P : List V × ℕ → Type 0) → Listed P → HasSome (IsNumber P)
+  pub some_count : (P : List V × ℕ → Type 0) → Listed P → HasSome (IsCount P)
   some_count P h =
       let d = distinct_of (same_pair (decided_lists same) cases_eq) h in
       (length d.list, record { pairs = d.list; distinct = d.distinct; members = d.members; is = refl })
@@ -38,7 +38,7 @@ module _ {V : Type 0} (cmp : V → V → Ordering) where
     decided_unbroken row c = decided_all (λ d. s.due d ≡ length row → s.says d row False → ⊥) (listed_below c) (λ d. decided_then (cases_eq (s.due d) (length row)) (decided_not (told.decided d row False)))
 
     module _ (ranges : List (List V)) where
-      listed_due : Listed (λ (p : List V × ℕ). IsPair s ranges p)
+      listed_due : Listed (λ (p : List V × ℕ). IsDueTest s ranges p)
       listed_due =
           listed_same (listed_kept (λ (p : List V × ℕ). IsKept p.0 × (s.due p.1 ≡ length p.0)) (listed_pairs (λ row c. c < s.number) (fronts_of ranges) (λ row. listed_below s.number)) (λ p. decided_both (decided_kept p.0) (cases_eq (s.due p.1) (length p.0)))) (λ p. (
             λ h. record { candidate = record { front = h.0.0; kept = h.1.0 }; conjunct = h.0.1; due = h.1.1 },
@@ -53,7 +53,7 @@ module _ {V : Type 0} (cmp : V → V → Ordering) where
           ))
 
       pub some_bound : ((v w : V) → Decided (v ≡ w)) → HasSome (IsBound s ranges)
-      some_bound same = some_count same (λ (p : List V × ℕ). IsPair s ranges p) listed_due
+      some_bound same = some_count same (λ (p : List V × ℕ). IsDueTest s ranges p) listed_due
 
       pub some_number_of_tests : ((v w : V) → Decided (v ≡ w)) → (after whole : Option (List V)) → HasSome (IsNumberOfTests cmp s ranges after whole)
       some_number_of_tests same after whole = some_count same (λ (p : List V × ℕ). IsWalked cmp s ranges after p × IsUpTo cmp whole p.0) (listed_tests after whole)

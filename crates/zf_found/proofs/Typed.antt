@@ -3,7 +3,7 @@ use Rattle.zf_found.proofs.Prelude.{◌<◌, ◌∙◌, ◌∷◌, ◌≡◌, �
 use Rattle.std.specs.Int.{w64}
 use Rattle.zf_value.specs.declared.TheConstants.{SET_MAX}
 use Rattle.zf_value.proofs.Seen.{members-SetOf, parts-Tuple, same_number}
-use Rattle.zf_meaning.specs.Rows.{IsElement, IsOfType, AreOfTypes}
+use Rattle.zf_meaning.specs.Rows.{IsExistingElement, IsOfType, AreOfTypes}
 use Rattle.zf_total.proofs.Numbers.{decided_fits, number_or_not}
 use Rattle.zf_found.proofs.Rows.{same_ordering}
 
@@ -26,7 +26,7 @@ element_of None n v = inr (λ h. let e = h.2 in (cc))
 element_of (Some k) n v =
     decided_same (λ h. (k, h.0, refl, h.1, h.2)) (λ h. (h.1, (let e : k ≡ h.0 = (let s = h.2 in (cc)) in subst (λ j. h.1 < j) (sym e) h.3), h.4)) (decided_some (λ i. v ≡ Elem n i) (listed_below k) (λ i. same_value v (Elem n i)))
 
-decided_element : (e : Environment) (n : Option ℕ) (v : Value) → Decided (IsElement e n v)
+decided_element : (e : Environment) (n : Option ℕ) (v : Value) → Decided (IsExistingElement e n v)
 decided_element e None v = inr (λ h. h)
 decided_element e (Some n) v = element_of (slice_get e.sizes n) n v
 

@@ -1,12 +1,12 @@
 -- The lines of a search grow with each event that is written.
-use Rattle.zf_lines.proofs.Prelude.{◌++◌, ◌+◌, ◌∙◌, ◌∷◌, ◌≡◌, [], ap, append-nil, append_assoc, arith, length, length-append, List, None, Option, refl, Some, subst, sym, ℕ, Event, Hold, IsBegun, IsBelow, IsWithin, lines}
+use Rattle.zf_lines.proofs.Prelude.{◌++◌, ◌+◌, ◌∙◌, ◌∷◌, ◌≡◌, [], ap, append-nil, append_assoc, arith, length, length-append, List, None, Option, refl, Some, subst, sym, ℕ, Event, Hold, IsBegun, IsBelow, IsNotAbove, lines}
 
 module _ {V : Type 0} (line : List V → List ℕ) where
   pub one_more_line : (front : List (Event V)) (e : Event V) → lines line (front ++ e ∷ []) ≡ lines line front ++ line e.row
   one_more_line [] e = append-nil (line e.row)
   one_more_line (f ∷ front) e = ap (λ t. line f.row ++ t) (one_more_line front e) ∙ sym (append_assoc (line f.row) (lines line front) (line e.row))
 
-  below_within : (limit : Option ℕ) (n : ℕ) → IsBelow limit n → IsWithin limit (n + 1)
+  below_within : (limit : Option ℕ) (n : ℕ) → IsBelow limit n → IsNotAbove limit (n + 1)
   below_within None n h = tt
   below_within (Some m) n h = omega (arith, h)
 
@@ -19,6 +19,6 @@ module _ {V : Type 0} (line : List V → List ℕ) where
     listed = refl;
     up_to = refl;
     hold = h;
-    within = subst (IsWithin limit) (sym (length-append front (e ∷ []))) (below_within limit (length front) b);
+    within = subst (IsNotAbove limit) (sym (length-append front (e ∷ []))) (below_within limit (length front) b);
     written = ap (λ u. u ++ line e.row) t ∙ sym (one_more_line front e);
   }

@@ -1,7 +1,7 @@
 -- Parts of lines, and columns of them.
 use Rattle.zf_lines.proofs.Prelude.{◌++◌, ◌+◌, ◌<◌, ◌∙◌, ◌∷◌, ◌≡◌, ◌≤◌, [], ap, append_assoc, arith, codes, drop, get_or, inl, inr, length, length-append, List, map, None, Option, refl, Some, subst, suc, sym, take, zero, ℕ, set, length-map, length-set, length-take-le, map_more, take_all, get_or_from_slice_get, slice_get_read, IfSome, IsSomeAnd, option_map, slice_get, slice_index_or, unwrap_or, Value, Comp, comp_of, ahead-further, texts-drop, component_text, component_texts, goes_on, Spelling, AreColumns, head_of, Keeps, part_at}
 use Rattle.zf_term.specs.declared.schema.Component.{Component}
-use Rattle.zf_texts.specs.ValueTexts.{value_text, separator}
+use Rattle.zf_texts.specs.ValueTexts.{value_text, comma_before}
 use Rattle.zf_lines.specs.declared.column.Column.{Column}
 use Rattle.zf_lines.proofs.Keeping.{at_push, at_set}
 
@@ -24,11 +24,11 @@ module _ (head : List ℕ) (ss : List Spelling) (last : Option (List Value)) (i 
 
 -- a part is that of a component with its value
 pub part_of_component : (ss : List Spelling) (n : ℕ) (c : Comp) (values : List Value) (i : ℕ) (v : Value) (head : List ℕ) → head ≡ head_of n c → slice_get values i ≡ Some v
-    → part_at head ss values i ≡ separator n ++ component_text ss c v
+    → part_at head ss values i ≡ comma_before n ++ component_text ss c v
 part_of_component ss n c values i v head is at =
     let worked : part_at head ss values i ≡ head ++ value_text ss v = ap (λ (o : Option Value). unwrap_or (option_map (λ w. head ++ value_text ss w) o) []) at in
-    let begun : head ++ value_text ss v ≡ (separator n ++ (c.name ++ codes " == ")) ++ value_text ss v = ap (λ h. h ++ value_text ss v) is in
-    worked ∙ begun ∙ append_assoc (separator n) (c.name ++ codes " == ") (value_text ss v)
+    let begun : head ++ value_text ss v ≡ (comma_before n ++ (c.name ++ codes " == ")) ++ value_text ss v = ap (λ h. h ++ value_text ss v) is in
+    worked ∙ begun ∙ append_assoc (comma_before n) (c.name ++ codes " == ") (value_text ss v)
 
 at_length : {A : Type 0} (xs : List A) (i : ℕ) (x : A) → slice_get xs i ≡ Some x → i < length xs
 at_length [] zero x e = (cc)
@@ -110,8 +110,8 @@ module _ (ss : List Spelling) (ranges : List (List Value)) where
       let v = at_some vs i long in
       let next = texts-drop ss comps comps vs i c.0 v.0 refl (sym (get_or_from_slice_get comps i c.0 c.0 c.1)) deep v.1 in
       let head = h.heads i (comp_of c.0) column (at_map comp_of comps i c.0 c.1) there in
-      ahead-further line (line ++ separator i) new whole (component_text ss (comp_of c.0) v.0) i _ (ap (λ l. line ++ goes_on i l) (sym next) ∙ ahead) refl
-      (is ∙ ap (λ t. line ++ t) (part_of_component ss i (comp_of c.0) vs i v.0 column.head head v.1) ∙ sym (append_assoc line (separator i) (component_text ss (comp_of c.0) v.0)))
+      ahead-further line (line ++ comma_before i) new whole (component_text ss (comp_of c.0) v.0) i _ (ap (λ l. line ++ goes_on i l) (sym next) ∙ ahead) refl
+      (is ∙ ap (λ t. line ++ t) (part_of_component ss i (comp_of c.0) vs i v.0 column.head head v.1) ∙ sym (append_assoc line (comma_before i) (component_text ss (comp_of c.0) v.0)))
 
   pub more_columns : (comps : List Component) (i : ℕ) (c : Component) (columns new : List Column) (column : Column) → c ≡ get_or comps i c → i < length comps → column.head ≡ head_of i (comp_of c)
       → ((f : ℕ → List ℕ) → Keeps f column) → new ≡ columns ++ column ∷ [] → AreColumns ss (map comp_of (take i comps)) ranges columns → AreColumns ss (map comp_of (take (i + 1) comps)) ranges new

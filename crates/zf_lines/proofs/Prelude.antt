@@ -36,6 +36,6 @@ unfoldable pub use Rattle.zf_lines.specs.Columns.{AreTexts}
 pub use Rattle.zf_lines.specs.Counts.{device_of, failures_of}
 pub use Rattle.zf_lines.specs.Ends.{ending_status, EndsBy, IsEnd, last_text}
 pub use Rattle.zf_lines.specs.FaultViews.{AppendsFront}
-pub use Rattle.zf_lines.specs.Searches.{AreEventsUpTo, Hold, IsBegun, IsBelow, IsWithin, IsWritten, lines, out_line, HasLimit}
+pub use Rattle.zf_lines.specs.Searches.{AreEventsUpTo, Hold, IsBegun, IsBelow, IsNotAbove, IsWritten, lines, out_line, HasLimit}
 pub use Rattle.zf_lines.specs.Shown.{FindsEvents, IsAtStart, IsCountingAtStart, StopsLines, TellsTests, WritesAll}
 pub use Rattle.zf_lines.specs.Texts.{binding_line, tests_line}

@@ -3,13 +3,13 @@ use Rattle.std.specs.Prelude.{◌≡◌, ℕ, List, [], ◌++◌, codes, length,
 use Rattle.zf_term.specs.Definitions.{Comp}
 use Rattle.zf_value.specs.declared.plain.Value.{Value}
 use Rattle.zf_texts.specs.declared.spelling.Spelling.{Spelling}
-use Rattle.zf_texts.specs.ValueTexts.{value_text, separator}
+use Rattle.zf_texts.specs.ValueTexts.{value_text, comma_before}
 use Rattle.zf_lines.specs.declared.column.Column.{Column}
 use Rattle.zf_lines.specs.declared.column.Kept.{Kept}
 
 -- what stands before the value of a component, behind so many others
 abbrev pub head_of : ℕ → Comp → List ℕ
-head_of count c = separator count ++ (c.name ++ codes " == ")
+head_of count c = comma_before count ++ (c.name ++ codes " == ")
 
 -- the part of a line for the value at a place
 abbrev pub part_at : List ℕ → List Spelling → List Value → ℕ → List ℕ

@@ -55,9 +55,9 @@ pub data IsWritten {V : Type 0} (line : List V → List ℕ) (limit : Option ℕ
       → IsWritten line limit events last text status
 
 -- the first lines of it: those of events up to a row, all of which hold and are no more than the limit
-abbrev pub IsWithin : Option ℕ → ℕ → Type 0
-IsWithin None n = Unit {0}
-IsWithin (Some limit) n = n ≤ limit
+abbrev pub IsNotAbove : Option ℕ → ℕ → Type 0
+IsNotAbove None n = Unit {0}
+IsNotAbove (Some limit) n = n ≤ limit
 
 pub record IsBegun {V : Type 0} (line : List V → List ℕ) (limit : Option ℕ) (events : List (Event V)) (last : Option (List V)) (text : List ℕ) : Type 0 where
   pub front : List (Event V)
@@ -65,7 +65,7 @@ pub record IsBegun {V : Type 0} (line : List V → List ℕ) (limit : Option ℕ
   pub listed : events ≡ front ++ event ∷ []
   pub up_to : last ≡ Some event.row
   pub hold : Hold events
-  pub within : IsWithin limit (length events)
+  pub within : IsNotAbove limit (length events)
   pub written : text ≡ lines line events
 
 -- ---- of a schema

@@ -1,5 +1,5 @@
 -- Sizes one after another: which are accepted so far, and where a fault stands.
-use Rattle.zf_meaning.proofs.Prelude.{◌++◌, ◌+◌, ◌<◌, ◌∙◌, ◌∷◌, ◌≡◌, ◌⊎◌, [], ap, drop, get_or, inl, inr, length, List, refl, subst, sym, take, take-append-drop, ℕ, drop_more, map-append, take_more, All-more, Contains-push_cases, All, Contains, AreAccepted, IsAccepted, IsRefusal, LacksSize, names, Refuses, RefusesSize, Size}
+use Rattle.zf_meaning.proofs.Prelude.{◌++◌, ◌+◌, ◌<◌, ◌∙◌, ◌∷◌, ◌≡◌, ◌⊎◌, [], ap, drop, get_or, inl, inr, length, List, refl, subst, sym, take, take-append-drop, ℕ, drop_more, map-append, take_more, All-more, Contains-push_cases, All, Contains, AreAccepted, IsAccepted, IsRefusal, LacksSize, names, IsSizeFault, RefusesSize, Size}
 use Rattle.zf_meaning.specs.declared.sizes.SizeFault.{SizeFault}
 use Rattle.zf_meaning.specs.declared.sizes.SizeFault.TheVariants.{NoSize, NotGiven, SizeTwice, SizeTooLarge, OutOfMemory}
 
@@ -52,7 +52,7 @@ AreAccepted-more sets sizes i size h e before here earlier other later split =
     ]
 
 first : (sets : List (List ℕ)) (sizes : List Size) (i : ℕ) (size : Size) (fault : SizeFault) → i < length sizes → size ≡ get_or sizes i size → AreAccepted sets (take i sizes)
-    → Refuses sets (take i sizes) size fault → RefusesSize sets sizes fault
+    → IsSizeFault sets (take i sizes) size fault → RefusesSize sets sizes fault
 first sets sizes i size fault h e before r = record {
   earlier = take i sizes;
   size = size;
@@ -63,7 +63,7 @@ first sets sizes i size fault h e before r = record {
 }
 
 pub refusal-at : (sets : List (List ℕ)) (sizes : List Size) (i : ℕ) (size : Size) (fault : SizeFault) → i < length sizes → size ≡ get_or sizes i size → AreAccepted sets (take i sizes)
-    → Refuses sets (take i sizes) size fault → IsRefusal sets sizes fault
+    → IsSizeFault sets (take i sizes) size fault → IsRefusal sets sizes fault
 refusal-at sets sizes i size (NoSize name) h e before r = absurd r
 refusal-at sets sizes i size (NotGiven name) h e before r = first sets sizes i size (NotGiven name) h e before r
 refusal-at sets sizes i size (SizeTwice name) h e before r = first sets sizes i size (SizeTwice name) h e before r

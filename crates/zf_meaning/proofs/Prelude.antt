@@ -83,7 +83,7 @@ unfoldable pub use Rattle.zf_meaning.specs.Places.{all_rows, ArePlaces, picked, 
 pub use Rattle.zf_meaning.specs.RangeSets.{declared_of, sets_with, spread}
 pub use Rattle.zf_meaning.specs.Rowed.{ahead, AreOthers, IsAt, IsFirst, IsNext, IsPassed, lists_of, row_of, Skips}
 pub use Rattle.zf_meaning.specs.Scopes.{scope_of}
-pub use Rattle.zf_meaning.specs.Sizes.{AreAccepted, AreComplete, AreSizes, given_sets, IsAccepted, IsRefusal, IsStated, LacksSize, names, Refuses, RefusesSize, with_given}
+pub use Rattle.zf_meaning.specs.Sizes.{AreAccepted, AreComplete, AreSizes, given_sets, IsAccepted, IsRefusal, IsStated, LacksSize, names, IsSizeFault, RefusesSize, with_given}
 pub use Rattle.zf_meaning.specs.Symbols.{ArrowOutcome, BinaryOutcome, Holds, HoldsOf, InfixOutcome, ListedOutcome, PrefixOutcome, SignOutcome, UnaryOutcome}
 pub use Rattle.zf_meaning.specs.Tallies.{is_settled, none, truth_by, when_over, when_settled, with}
 pub use Rattle.zf_meaning.specs.Truths.{HasTwo, IsAtom, IsConjunction, IsConnected, IsDisjunction, IsEquivalence, IsExists, IsExistsOne, IsForAll, IsOver, IsQuantified, IsTest, IsTold, opposite, Tells}

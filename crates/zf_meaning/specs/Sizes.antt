@@ -43,12 +43,12 @@ pub record AreComplete (sets : List (List ℕ)) (sizes : List Size) : Type 0 whe
 -- ---- what is refused
 
 -- The fault of a size after the earlier ones. Want of memory says nothing.
-abbrev pub Refuses : List (List ℕ) → List Size → Size → SizeFault → Type 0
-Refuses sets earlier size (NotGiven name) = (name ≡ size.name) × ¬ (Contains sets name)
-Refuses sets earlier size (SizeTwice name) = (name ≡ size.name) × Contains sets name × Contains (names earlier) name
-Refuses sets earlier size (SizeTooLarge name) = (name ≡ size.name) × Contains sets name × ¬ (Contains (names earlier) name) × (SET_MAX < size.count)
-Refuses sets earlier size (NoSize name) = ⊥
-Refuses sets earlier size OutOfMemory = Unit {0}
+abbrev pub IsSizeFault : List (List ℕ) → List Size → Size → SizeFault → Type 0
+IsSizeFault sets earlier size (NotGiven name) = (name ≡ size.name) × ¬ (Contains sets name)
+IsSizeFault sets earlier size (SizeTwice name) = (name ≡ size.name) × Contains sets name × Contains (names earlier) name
+IsSizeFault sets earlier size (SizeTooLarge name) = (name ≡ size.name) × Contains sets name × ¬ (Contains (names earlier) name) × (SET_MAX < size.count)
+IsSizeFault sets earlier size (NoSize name) = ⊥
+IsSizeFault sets earlier size OutOfMemory = Unit {0}
 
 -- The fault is that of the first size that is not accepted.
 pub record RefusesSize (sets : List (List ℕ)) (sizes : List Size) (fault : SizeFault) : Type 0 where
@@ -57,7 +57,7 @@ pub record RefusesSize (sets : List (List ℕ)) (sizes : List Size) (fault : Siz
   pub later : List Size
   pub split : sizes ≡ earlier ++ size ∷ later
   pub accepted : AreAccepted sets earlier
-  pub refused : Refuses sets earlier size fault
+  pub refused : IsSizeFault sets earlier size fault
 
 -- All sizes are accepted, and this is the first given set that has none.
 pub record LacksSize (sets : List (List ℕ)) (sizes : List Size) (name : List ℕ) : Type 0 where

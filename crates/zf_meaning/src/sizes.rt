@@ -1,7 +1,7 @@
 //! The sizes of the given sets.
 ghost use Rattle.std.specs.Prelude.{◌≡◌, [], ◌∷◌, ◌++◌, ◌↔◌, ℕ, Option, option_to_list, Contains, IsTrue, IfOk, IfErr, OnOk, MatchOption};
 ghost use Rattle.zf_term.specs.DefinitionViews.{globals_of};
-ghost use Rattle.zf_meaning.specs.Sizes.{given_sets, names, IsAccepted, AreAccepted, AreComplete, Refuses, IsRefusal, IsStated, AreSizes};
+ghost use Rattle.zf_meaning.specs.Sizes.{given_sets, names, IsAccepted, AreAccepted, AreComplete, IsSizeFault, IsRefusal, IsStated, AreSizes};
 ghost use Rattle.zf_meaning.specs.Counting.{given_at, CountsAt};
 
 use std::alloc::{AllocError, AllocFailed, Global};
@@ -119,7 +119,7 @@ fn check_accepted(alloc: Global, sets: &[Text], sizes: &[Size]) -> Result<(), Si
 /// Refuses a size that is not accepted after the earlier ones.
 fn check_size(alloc: Global, sets: &[Text], earlier: &[Size], size: &Size) -> Result<(), SizeFault>
     ensures ok { OnOk result (IsAccepted sets.now earlier.now size.now) }
-    ensures err { IfErr result (Refuses sets.now earlier.now size.now) }
+    ensures err { IfErr result (IsSizeFault sets.now earlier.now size.now) }
 {
     let name = size.name.as_slice();
     if !is_given(sets, name) {

@@ -9,7 +9,7 @@ use Rattle.zf_term.specs.Types.{Ty}
 use Rattle.zf_type.specs.Resolving.{resolved}
 use Rattle.zf_calculus.specs.Calculus.{comp, marked, nothing}
 use Rattle.zf_term.specs.Faults.{Fault}
-use Rattle.zf_schema.specs.Checking.{Item, a_paragraph, a_box, items, next_number, with_global, Gives, Constructs, DefinesParagraph, Defines, ChecksOne, Checks, IsChecked}
+use Rattle.zf_schema.specs.Checking.{Item, a_paragraph, a_box, items, next_number, with_global, Gives, Constructs, DefinesParagraph, Defines, ChecksOne, ChecksAll, IsChecked}
 use Rattle.zf_schema.specs.Expressions.{AddsAll, Declares, DeclaresOne, IsSchema, IsText, outside, Refers}
 use Rattle.zf_schema.proofs.Numbering.{next_more, defined_numbers}
 use Rattle.zf_schema.proofs.Once.{constrained_comps}
@@ -120,7 +120,7 @@ step_named g item h fs (inl p) names = item_named g item h p.0 names
 step_named g item h fs (inr p) names = (λ all. subst AreNamed (sym p.1) all, omega (arith, ap next_number p.1))
 
 run_named :
-    (most made : ℕ) (g : List Defined) (steps : List Item) (h : List Defined) (fs : List Fault) → Checks g steps h fs → AreItemsSpelled most made steps → next_number g ≤ made
+    (most made : ℕ) (g : List Defined) (steps : List Item) (h : List Defined) (fs : List Fault) → ChecksAll g steps h fs → AreItemsSpelled most made steps → next_number g ≤ made
     → AreNamed g → AreNamed h × (next_number h ≤ most)
 run_named most made g [] h fs p names few all = (subst AreNamed (sym p.0) all, omega (arith, ap next_number p.0, names))
 run_named most made g (item ∷ steps) h fs p names few all =

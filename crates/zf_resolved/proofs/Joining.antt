@@ -17,7 +17,7 @@ use Rattle.zf_term.specs.Definitions.{all_joined, both_hold, is_member, joined}
 use Rattle.zf_term.specs.SchemaViews.{batch_of, conjunct_of}
 use Rattle.zf_term.specs.ResolvedTrees.{ResolvedTree, binary, chain, link, no_links, reference}
 use Rattle.zf_term.specs.ResolvedViews.{links, resolved_link_of, resolved_of}
-use Rattle.zf_term.specs.Shapes.{line_of, moved}
+use Rattle.zf_term.specs.Shapes.{term_line, moved}
 use Rattle.zf_term.specs.ShapeViews.{numbering}
 use Rattle.zf_term.proofs.ConjunctsSeen.{of-Either, of-Member, of-Term}
 use Rattle.zf_term.proofs.Places.{unmoved}
@@ -32,7 +32,7 @@ kept t u places none is = is ∙ sym (ap (λ (ps : Option (List ℕ)). moved (nu
 
 -- ---- memberships
 
-pub member_seen : (l i : ℕ) (e t : Resolved) (ks : List ResolvedLink) → l ≡ line_of (resolved_of e) → t ≡ v.Name l (Component i) → ks ≡ new_link Member e ∷ [] → resolved_of (v.Chain l t ks) ≡ is_member i (resolved_of e)
+pub member_seen : (l i : ℕ) (e t : Resolved) (ks : List ResolvedLink) → l ≡ term_line (resolved_of e) → t ≡ v.Name l (Component i) → ks ≡ new_link Member e ∷ [] → resolved_of (v.Chain l t ks) ≡ is_member i (resolved_of e)
 member_seen l i e t ks m g h =
     of-Chain l t ks
     ∙ ap (λ (u : ResolvedTree). chain l u (links (map resolved_link_of ks))) (ap resolved_of g ∙ of-Name l (Component i))

@@ -1,5 +1,5 @@
 -- Every source is cut, or has a fault.
-use Rattle.zf_scan.proofs.Prelude.{◌++◌, ◌+◌, ◌<◌, ◌≡◌, ◌≤◌, ◌⊎◌, [], arith, drop, inl, inr, length, length-drop, List, refl, subst, suc, sym, take, zero, ℕ, Before, entered, Fails, fault_line, HasFault, IsCutInto, IsCutOrFaults, IsRead, newlines, tokens_of, Found, found_at, TextFault, TextFaultKind, TooLong, UnclosedBox, Piece, Plain, Refused, Symbol, Place, SOURCE_MAX, Token}
+use Rattle.zf_scan.proofs.Prelude.{◌++◌, ◌+◌, ◌<◌, ◌≡◌, ◌≤◌, ◌⊎◌, [], arith, drop, inl, inr, length, length-drop, List, refl, subst, suc, sym, take, zero, ℕ, Before, entered, Fails, reported_line, HasFault, IsCutInto, IsCutOrFaults, IsRead, newlines, tokens_of, Found, found_at, TextFault, TextFaultKind, TooLong, UnclosedBox, Piece, Plain, Refused, Symbol, Place, SOURCE_MAX, Token}
 use Rattle.std.proofs.lemmas.Bool.{cases_lt}
 use Rattle.zf_scan.specs.declared.pieces.Place.TheVariants as places
 use Rattle.zf_scan.proofs.Laws.{finished, stuck, refused, ended}
@@ -14,7 +14,7 @@ FromThere left source = (at line : ℕ) (place : Place) (tokens : List Token) �
 
 fails_there : (source : List ℕ) (at line : ℕ) (place : Place) (tokens : List Token) → Before source at line place tokens → length source ≤ SOURCE_MAX → (kind : TextFaultKind) → Fails place (drop at source) kind → Told source
 fails_there source at line place tokens b short kind fails =
-    let fault : TextFault = record { kind = kind; line = fault_line place line kind } in
+    let fault : TextFault = record { kind = kind; line = reported_line place line kind } in
     inr (fault, inr (stuck source at line place tokens b short fault kind refl refl fails))
 
 at_end : (source : List ℕ) (at line : ℕ) (place : Place) (tokens : List Token) → Before source at line place tokens → length source ≤ SOURCE_MAX → length source ≤ at → Told source

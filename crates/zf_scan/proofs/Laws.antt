@@ -1,5 +1,5 @@
 -- A source is cut in one way, and where it fails nothing goes on.
-use Rattle.zf_scan.proofs.Prelude.{◌++◌, ◌<◌, ◌∙◌, ◌∷◌, ◌≡◌, ◌≤◌, ◌⊎◌, [], ap, arith, drop, inl, inr, length, length-append, List, refl, subst, sym, take, take-append-drop, ℕ, ⊎_elim, append-nil, Before, IsCutUpTo, Cuts, Fails, fault_line, FaultsOnce, IsCutInto, IsCutOnce, IsNotBoth, IsRead, IsStuck, IsUncut, IsWantOfMemory, line_of, past, Spot, Stands, start, tokens_from, Found, TextFault, TextFaultKind, BadByte, UnclosedBox, Piece, Refused, Place, Border, SOURCE_MAX, Token}
+use Rattle.zf_scan.proofs.Prelude.{◌++◌, ◌<◌, ◌∙◌, ◌∷◌, ◌≡◌, ◌≤◌, ◌⊎◌, [], ap, arith, drop, inl, inr, length, length-append, List, refl, subst, sym, take, take-append-drop, ℕ, ⊎_elim, append-nil, Before, IsCutUpTo, Cuts, Fails, reported_line, FaultsOnce, IsCutInto, IsCutOnce, IsNotBoth, IsRead, IsStuck, IsUncut, IsWantOfMemory, spot_line, past, Spot, Stands, start, tokens_from, Found, TextFault, TextFaultKind, BadByte, UnclosedBox, Piece, Refused, Place, Border, SOURCE_MAX, Token}
 use Rattle.std.proofs.Math.ListN.{drop_of_length-le}
 use Rattle.zf_scan.specs.declared.pieces.Place.TheVariants as places
 use Rattle.zf_scan.proofs.Same.{same, stands_some}
@@ -79,7 +79,7 @@ finished source at line place tokens b over out short = record {
 pub cut_whole : (source : List ℕ) (border : Border) (tokens : List Token) → IsCutUpTo source border tokens → length source ≤ border.start → IsCutInto source tokens
 cut_whole source border tokens up over = finished source border.start border.line places.Outside tokens up.before over refl up.short
 
-pub stuck : (source : List ℕ) (at line : ℕ) (place : Place) (tokens : List Token) → Before source at line place tokens → length source ≤ SOURCE_MAX → (fault : TextFault) (kind : TextFaultKind) → fault.kind ≡ kind → fault.line ≡ fault_line place line kind
+pub stuck : (source : List ℕ) (at line : ℕ) (place : Place) (tokens : List Token) → Before source at line place tokens → length source ≤ SOURCE_MAX → (fault : TextFault) (kind : TextFaultKind) → fault.kind ≡ kind → fault.line ≡ reported_line place line kind
     → Fails place (drop at source) kind → IsStuck source fault
 stuck source at line place tokens b short fault kind e f fails = record {
   short = short;
@@ -88,7 +88,7 @@ stuck source at line place tokens b short fault kind e f fails = record {
   rest = drop at source;
   cuts = b.cuts;
   fails = subst (λ kind. Fails b.spot.place (drop at source) kind) (sym e) (subst (λ place. Fails place (drop at source) kind) b.place_is fails);
-  line = f ∙ ap (λ kind. fault_line place line kind) (sym e) ∙ ap (λ place. fault_line place line fault.kind) b.place_is ∙ ap (λ line. fault_line b.spot.place line fault.kind) b.line_is;
+  line = f ∙ ap (λ kind. reported_line place line kind) (sym e) ∙ ap (λ place. reported_line place line fault.kind) b.place_is ∙ ap (λ line. reported_line b.spot.place line fault.kind) b.line_is;
 }
 
 pub refused : (place : Place) (s : List ℕ) (f : Found) → Next place s f → (kind : TextFaultKind) → f.piece ≡ Refused kind → 0 < length s → Fails place s kind
@@ -138,7 +138,7 @@ one_stuck source f g s t o = by o.more o.cuts
     by [] h =
         let fails : Fails s.spot.place s.rest g.kind = subst (λ rest. Fails s.spot.place rest g.kind) (sym h.1) (subst (λ spot. Fails spot.place t.rest g.kind) (sym h.0) t.fails) in
         let kind = fails_once s.spot.place s.rest f.kind g.kind s.fails fails in
-        fault_is f g kind (s.line ∙ ap (λ kind. fault_line s.spot.place (line_of s.spot) kind) kind ∙ ap (λ spot. fault_line spot.place (line_of spot) g.kind) h.0 ∙ sym t.line)
+        fault_is f g kind (s.line ∙ ap (λ kind. reported_line s.spot.place (spot_line s.spot) kind) kind ∙ ap (λ spot. reported_line spot.place (spot_line spot) g.kind) h.0 ∙ sym t.line)
     by (r ∷ rs) h = absurd (stuck_here s.spot.place s.rest f.kind s.fails r.0 r.1 h.0 h.1 h.2 h.3)
 
 pub faults_once : FaultsOnce

@@ -1,5 +1,5 @@
 -- Inside a box: what is found at the front of a text is the longest, and where nothing is found no piece fits.
-use Rattle.zf_scan.proofs.Prelude.{◌++◌, ◌+◌, ◌<◌, ◌∙◌, ◌∷◌, ◌≡◌, ◌≤◌, ◌⊎◌, [], ap, append_assoc, arith, Bool, drop, false, inl, inr, length, length-append, length-drop, length-take-le, List, None, Option, refl, Some, sym, take, take-append-drop, true, ℕ, one-add, take-add, nat_tests, ◌&&◌, ◌==◌, ◌||◌, codes, StandsInside, closing, comment, fixed, InsideKind, is_base, is_digit, is_letter, is_number, is_one, is_run, is_two, IsComment, look_up, name, number, numeral, remark, SpellsInside, unknown, symbols, base_len, begins, Found, found, name_of, or_else, run_len, strokes_len, symbol_len, word_len, symbol_found, word_found, Piece, Refused, Symbol, Base, Digits, Line, Strokes}
+use Rattle.zf_scan.proofs.Prelude.{◌++◌, ◌+◌, ◌<◌, ◌∙◌, ◌∷◌, ◌≡◌, ◌≤◌, ◌⊎◌, [], ap, append_assoc, arith, Bool, drop, false, inl, inr, length, length-append, length-drop, length-take-le, List, None, Option, refl, Some, sym, take, take-append-drop, true, ℕ, one-add, take-add, nat_tests, ◌&&◌, ◌==◌, ◌||◌, codes, StandsInside, closing, comment, fixed, InsideKind, is_base, is_digit, is_letter, is_number, is_one, is_run, is_two, IsComment, look_up, name, number_piece, numeral, remark, SpellsInside, unknown, symbols, base_len, begins, Found, found, name_of, or_else, run_len, strokes_len, symbol_len, word_len, symbol_found, word_found, Piece, Refused, Symbol, Base, Digits, Line, Strokes}
 use Rattle.zf_scan.specs.declared.fault.TextFaultKind.TheVariants as faults
 use Rattle.zf_scan.proofs.Runs.{and_left, and_right, run_le, run_exact, run_all, run_within, run_len-one}
 use Rattle.zf_scan.proofs.Texts.{pick, eq_is, both, back_is, taken, front_le, head_is, tail_is, begins_is, is_begun, bytes_same}
@@ -141,7 +141,7 @@ number_text b bs d =
     let is : take (run_len Digits (b ∷ bs)) (b ∷ bs) ≡ b ∷ take (run_len Digits bs) bs = rw (long, one-add) in
     ap is_number is ∙ sym (ap (is_run Digits) is) ∙ run_all Digits (b ∷ bs)
 
-pub number_at : (z : List ℕ) (b : ℕ) (bs : List ℕ) → is_digit b ≡ true → At (92 ∷ z) (b ∷ bs) (number (take (run_len Digits (b ∷ bs)) (b ∷ bs))) (run_len Digits (b ∷ bs))
+pub number_at : (z : List ℕ) (b : ℕ) (bs : List ℕ) → is_digit b ≡ true → At (92 ∷ z) (b ∷ bs) (number_piece (take (run_len Digits (b ∷ bs)) (b ∷ bs))) (run_len Digits (b ∷ bs))
 number_at z b bs d = at_from (92 ∷ z) (b ∷ bs) _ (run_len Digits (b ∷ bs)) numeral (run_within Digits (b ∷ bs)) (number_text b bs d, refl) (number_bound z b bs d)
 
 -- ---- words

@@ -11,11 +11,11 @@ pub use Rattle.std.specs.Prelude.{if◌then◌else◌, ◌&&◌, ◌==◌, ◌||
 pub use Rattle.std.specs.Str.{bytes_eq}
 pub use Rattle.zf_scan.specs.Boxes.{Before, begins_box, BeginsBox, ends_box, EndsOnce, Follows, IsBox, IsBoxAtMost, IsCutOn, IsCutUpTo}
 pub use Rattle.zf_scan.specs.Choosing.{next_of}
-pub use Rattle.zf_scan.specs.Cuts.{Cuts, entered, Fails, fault_line, HasFault, IsCutInto, IsRead, IsStuck, line_of, newlines, past, Spot, Stands, StandsInside, StandsOutside, start, tokens_from, tokens_of}
+pub use Rattle.zf_scan.specs.Cuts.{Cuts, entered, Fails, reported_line, HasFault, IsCutInto, IsRead, IsStuck, spot_line, newlines, past, Spot, Stands, StandsInside, StandsOutside, start, tokens_from, tokens_of}
 pub use Rattle.zf_scan.specs.CutLaws.{FaultsOnce, IsCutOnce, IsCutOrFaults, IsNotBoth}
 pub use Rattle.zf_scan.specs.CutViews.{IsUncut, IsWantOfMemory}
 pub use Rattle.zf_scan.specs.Laying.{amount, AreWithin, IsLaid, spelling}
-pub use Rattle.zf_scan.specs.Pieces.{closing, comment, escape, fixed, informal, InsideKind, is_base, is_digit, is_directive, is_letter, is_number, is_one, is_run, is_two, IsCommand, IsComment, look_up, name, number, number_max, numeral, opening, OutsideKind, remark, schema, SpellsInside, SpellsOutside, turn, unknown, value}
+pub use Rattle.zf_scan.specs.Pieces.{closing, comment, escape, fixed, informal, InsideKind, is_base, is_digit, is_directive, is_letter, is_number, is_one, is_run, is_two, IsCommand, IsComment, look_up, name, number_piece, number_max, numeral, opening, OutsideKind, remark, schema, SpellsInside, SpellsOutside, turn, unknown, value}
 unfoldable pub use Rattle.zf_scan.specs.Pieces.{openings, symbols}
 pub use Rattle.zf_scan.specs.Placing.{between, symbol_at, token_at, unplaced}
 pub use Rattle.zf_scan.specs.Sights.{kind_of, piece_of, seen, told}

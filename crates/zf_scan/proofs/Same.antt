@@ -1,5 +1,5 @@
 -- One piece stands at a place.
-use Rattle.zf_scan.proofs.Prelude.{◌++◌, ◌+◌, ◌<◌, ◌∙◌, ◌∷◌, ◌≡◌, ◌≤◌, ◌⊎◌, [], ap, arith, Bool, drop, false, inl, inr, length, length-append, List, None, Option, refl, Some, sym, take, true, unwrap_or, ℕ, ⊎_elim, one-add, bytes_decides, if◌then◌else◌, ◌==◌, codes, bytes_eq, Stands, StandsInside, StandsOutside, comment, InsideKind, is_base, is_digit, is_letter, is_number, is_run, IsCommand, look_up, number, OutsideKind, SpellsInside, SpellsOutside, turn, openings, symbols, base_len, run_len, Piece, Plain, Refused, Symbol, Place, Base, Letters, Strokes, BeginSchema, EndBox, Name}
+use Rattle.zf_scan.proofs.Prelude.{◌++◌, ◌+◌, ◌<◌, ◌∙◌, ◌∷◌, ◌≡◌, ◌≤◌, ◌⊎◌, [], ap, arith, Bool, drop, false, inl, inr, length, length-append, List, None, Option, refl, Some, sym, take, true, unwrap_or, ℕ, ⊎_elim, one-add, bytes_decides, if◌then◌else◌, ◌==◌, codes, bytes_eq, Stands, StandsInside, StandsOutside, comment, InsideKind, is_base, is_digit, is_letter, is_number, is_run, IsCommand, look_up, number_piece, OutsideKind, SpellsInside, SpellsOutside, turn, openings, symbols, base_len, run_len, Piece, Plain, Refused, Symbol, Place, Base, Letters, Strokes, BeginSchema, EndBox, Name}
 use Rattle.zf_scan.specs.declared.fault.TextFaultKind.TheVariants as faults
 use Rattle.zf_scan.specs.declared.pieces.Place.TheVariants as places
 use Rattle.zf_scan.specs.Pieces
@@ -16,7 +16,7 @@ spelled [] = Plain
 spelled (b ∷ bs) =
     if b == 37 then comment (b ∷ bs)
     else (if is_letter b then Symbol (Name (take (base_len (b ∷ bs)) (b ∷ bs)) (drop (base_len (b ∷ bs)) (b ∷ bs)))
-    else (if is_digit b then number (b ∷ bs) else Refused faults.UnknownCommand))
+    else (if is_digit b then number_piece (b ∷ bs) else Refused faults.UnknownCommand))
 
 meaning : List ℕ → List ℕ → Piece
 meaning end p = unwrap_or (look_up p symbols) (if bytes_eq p end then Symbol EndBox else spelled p)
@@ -58,7 +58,7 @@ letter_is c cs h l = pick_true (c == 37) h _ _ _ (pick_false (is_letter c) l _ _
     pick_false true e x y z f = f
     pick_false false e x y z f = both false e refl
 
-digit_is : (c : ℕ) (cs : List ℕ) → (c == 37) ≡ false → is_digit c ≡ true → spelled (c ∷ cs) ≡ number (c ∷ cs)
+digit_is : (c : ℕ) (cs : List ℕ) → (c == 37) ≡ false → is_digit c ≡ true → spelled (c ∷ cs) ≡ number_piece (c ∷ cs)
 unfolding spelled
 digit_is c cs h d = rw (h, digit_no_letter c d, d)
 
@@ -94,7 +94,7 @@ closing_told z closer = unlisted_is (92 ∷ z) (92 ∷ z) closer.unlisted ∙ it
     itself : (if bytes_eq (92 ∷ z) (92 ∷ z) then Symbol EndBox else spelled (92 ∷ z)) ≡ Symbol EndBox
     itself = let e : bytes_eq (92 ∷ z) (92 ∷ z) ≡ true = (bytes_decides (92 ∷ z) (92 ∷ z)).1 refl in rw e
 
-number_told : (z p : List ℕ) → is_number p ≡ true → meaning (92 ∷ z) p ≡ number p
+number_told : (z p : List ℕ) → is_number p ≡ true → meaning (92 ∷ z) p ≡ number_piece p
 number_told z [] h = absurd (cc)
 number_told z (c ∷ cs) h =
     let d = run_head c cs h in

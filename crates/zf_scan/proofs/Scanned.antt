@@ -1,5 +1,5 @@
 -- What the loop of the scanner keeps, and what one turn does.
-use Rattle.zf_scan.proofs.Prelude.{◌++◌, ◌+◌, ◌-◌, ◌<◌, ◌∙◌, ◌∷◌, ◌≡◌, ◌≤◌, ◌⊎◌, [], ap, append_assoc, arith, Bool, drop, false, inl, inr, length, length-append, length-take-le, List, map, refl, subst, sym, take, take-append-drop, true, ℕ, append-nil, drop-drop, map-append, if◌then◌else◌, ◌==◌, codes, Before, Cuts, entered, IsRead, line_of, newlines, past, Spot, Stands, start, tokens_from, tokens_of, token_at, kind_of, told, Found, found_at, Piece, Plain, Refused, Symbol, Place, Placed, Kind, Token}
+use Rattle.zf_scan.proofs.Prelude.{◌++◌, ◌+◌, ◌-◌, ◌<◌, ◌∙◌, ◌∷◌, ◌≡◌, ◌≤◌, ◌⊎◌, [], ap, append_assoc, arith, Bool, drop, false, inl, inr, length, length-append, length-take-le, List, map, refl, subst, sym, take, take-append-drop, true, ℕ, append-nil, drop-drop, map-append, if◌then◌else◌, ◌==◌, codes, Before, Cuts, entered, IsRead, spot_line, newlines, past, Spot, Stands, start, tokens_from, tokens_of, token_at, kind_of, told, Found, found_at, Piece, Plain, Refused, Symbol, Place, Placed, Kind, Token}
 use Rattle.zf_scan.specs.declared.fault.TextFaultKind.TheVariants as faults
 use Rattle.zf_scan.specs.declared.next.Next as symbol
 use Rattle.zf_scan.specs.declared.pieces.Found as code
@@ -106,8 +106,8 @@ pub told_symbol : (source : List ℕ) (at line : ℕ) (place : Place) (tokens : 
 told_symbol source at line place tokens b f text kind e n =
     let one : ℕ → ℕ → ℕ → List Token = λ s t l. tokens ++ record { kind = kind; start = s; stop = t; line = l } ∷ [] in
     ap (λ piece. tokens ++ tokens_of b.spot piece text) e
-    ∙ ap (λ s. one s (length b.spot.before + length text) (line_of b.spot)) (sym b.at_is)
-    ∙ ap (λ t. one at t (line_of b.spot)) (ap (λ s. s + length text) (sym b.at_is) ∙ ap (λ n. at + n) n)
+    ∙ ap (λ s. one s (length b.spot.before + length text) (spot_line b.spot)) (sym b.at_is)
+    ∙ ap (λ t. one at t (spot_line b.spot)) (ap (λ s. s + length text) (sym b.at_is) ∙ ap (λ n. at + n) n)
     ∙ ap (λ l. one at (at + f.len) l) (sym b.line_is)
 
 pub placed_told : (source : List ℕ) (front : List Token) (at len : ℕ) (symbols : List Placed) (next : symbol.Next) (amount line : ℕ)

@@ -8,7 +8,7 @@ use Rattle.zf_scan.specs.declared.scan.TheConstants.{SOURCE_MAX}
 use Rattle.zf_scan.specs.declared.token.Kind.{Kind}
 use Rattle.zf_scan.specs.declared.token.Kind.TheVariants.{BeginZed, BeginSchema, EndBox}
 use Rattle.zf_scan.specs.declared.token.Token.{Token}
-use Rattle.zf_scan.specs.Cuts.{Spot, line_of, start, Cuts, tokens_from, IsCutInto}
+use Rattle.zf_scan.specs.Cuts.{Spot, spot_line, start, Cuts, tokens_from, IsCutInto}
 
 -- pieces of a source up to a place, and their tokens
 pub record Before (source : List ℕ) (at line : ℕ) (place : Place) (tokens : List Token) : Type 0 where
@@ -17,7 +17,7 @@ pub record Before (source : List ℕ) (at line : ℕ) (place : Place) (tokens : 
   pub cuts : Cuts pieces start source spot (drop at source)
   pub told : (qs : List (Piece × List ℕ)) → tokens_from start (pieces ++ qs) ≡ tokens ++ tokens_from spot qs
   pub at_is : at ≡ length spot.before
-  pub line_is : line ≡ line_of spot
+  pub line_is : line ≡ spot_line spot
   pub place_is : place ≡ spot.place
 
 -- a source is cut up to a place outside of all boxes, with these tokens

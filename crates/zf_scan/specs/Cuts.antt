@@ -40,8 +40,8 @@ pub record Spot : Type 0 where
   pub place : Place
   pub before : List ℕ
 
-abbrev pub line_of : Spot → ℕ
-line_of spot = 1 + newlines spot.before
+abbrev pub spot_line : Spot → ℕ
+spot_line spot = 1 + newlines spot.before
 
 abbrev pub start : Spot
 start = record { place = places.Outside; before = [] }
@@ -56,7 +56,7 @@ entered place line (Symbol EndBox) = places.Outside
 entered place line (Symbol _) = place
 
 abbrev pub past : Spot → Piece × List ℕ → Spot
-past spot p = record { place = entered spot.place (line_of spot) p.0; before = spot.before ++ p.1 }
+past spot p = record { place = entered spot.place (spot_line spot) p.0; before = spot.before ++ p.1 }
 
 -- ---- cuts
 
@@ -73,7 +73,7 @@ Cuts (p ∷ ps) spot source end rest = (after : List ℕ) × (source ≡ p.1 ++ 
 abbrev pub tokens_of : Spot → Piece → List ℕ → List Token
 tokens_of spot Plain p = []
 tokens_of spot (Refused kind) p = []
-tokens_of spot (Symbol kind) p = record { kind = kind; start = length spot.before; stop = length spot.before + length p; line = line_of spot } ∷ []
+tokens_of spot (Symbol kind) p = record { kind = kind; start = length spot.before; stop = length spot.before + length p; line = spot_line spot } ∷ []
 
 abbrev pub tokens_from : Spot → List (Piece × List ℕ) → List Token
 tokens_from spot [] = []
@@ -96,9 +96,9 @@ begun places.Outside = 0
 begun (places.Zed line) = line
 begun (places.Schema line) = line
 
-abbrev pub fault_line : Place → ℕ → TextFaultKind → ℕ
-fault_line place line UnclosedBox = begun place
-fault_line place line _ = line
+abbrev pub reported_line : Place → ℕ → TextFaultKind → ℕ
+reported_line place line UnclosedBox = begun place
+reported_line place line _ = line
 
 -- no piece fits: one that is refused stands there, or none, or the source ends in a box
 abbrev pub Fails : Place → List ℕ → TextFaultKind → Type 0
@@ -115,7 +115,7 @@ pub record IsStuck (source : List ℕ) (fault : TextFault) : Type 0 where
   pub rest : List ℕ
   pub cuts : Cuts pieces start source spot rest
   pub fails : Fails spot.place rest fault.kind
-  pub line : fault.line ≡ fault_line spot.place (line_of spot) fault.kind
+  pub line : fault.line ≡ reported_line spot.place (spot_line spot) fault.kind
 
 abbrev pub IsTooLong : List ℕ → TextFault → Type 0
 IsTooLong source fault = (SOURCE_MAX < length source) × (fault.kind ≡ TooLong) × (fault.line ≡ 0)

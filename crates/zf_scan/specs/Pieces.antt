@@ -222,8 +222,8 @@ value digits = fold (λ n b. 10 * n + (b - 48)) 0 digits
 abbrev pub number_max : ℕ
 number_max = 9223372036854775807
 
-abbrev pub number : List ℕ → Piece
-number p = if nat_le (value p) number_max then Symbol (Number (value p)) else Refused faults.NumberTooLarge
+abbrev pub number_piece : List ℕ → Piece
+number_piece p = if nat_le (value p) number_max then Symbol (Number (value p)) else Refused faults.NumberTooLarge
 
 -- a backslash with letters or with one byte, or alone, which is the longest only at the end of a source
 abbrev pub IsCommand : List ℕ → Type 0
@@ -246,7 +246,7 @@ SpellsInside end fixed piece p = look_up p symbols ≡ Some piece
 SpellsInside end closing piece p = (p ≡ end) × (piece ≡ Symbol EndBox)
 SpellsInside end remark piece p = IsComment p × (piece ≡ comment p)
 SpellsInside end name piece p = (base strokes : List ℕ) × (p ≡ base ++ strokes) × (is_base base ≡ true) × (is_run Strokes strokes ≡ true) × (look_up p symbols ≡ None) × (piece ≡ Symbol (Name base strokes))
-SpellsInside end numeral piece p = (is_number p ≡ true) × (piece ≡ number p)
+SpellsInside end numeral piece p = (is_number p ≡ true) × (piece ≡ number_piece p)
 SpellsInside end unknown piece p = IsCommand p × (look_up p symbols ≡ None) × (piece ≡ Refused faults.UnknownCommand)
 
 -- the kinds of piece outside a box: an opening of one spelling, that of a named schema box, a backslash with the byte after it,

@@ -12,7 +12,7 @@ use Rattle.zf_scan.specs.declared.pieces.Place.{Place}
 use Rattle.zf_scan.specs.declared.pieces.Place.TheVariants.{Outside, Zed, Schema}
 use Rattle.zf_scan.specs.declared.pieces.Run.{Run}
 use Rattle.zf_scan.specs.declared.pieces.Run.TheVariants.{Letters, Digits, Base, Strokes, Line}
-use Rattle.zf_scan.specs.Pieces.{is_one, is_two, is_letter, is_digit, look_up, symbols, comment, number}
+use Rattle.zf_scan.specs.Pieces.{is_one, is_two, is_letter, is_digit, look_up, symbols, comment, number_piece}
 
 -- ---- runs
 
@@ -87,7 +87,7 @@ abbrev pub digits_len : List ℕ → ℕ
 digits_len s = run_len Digits s
 
 unfoldable pub number_found : List ℕ → Found
-number_found s = found (number (take (digits_len s) s)) (digits_len s)
+number_found s = found (number_piece (take (digits_len s) s)) (digits_len s)
 
 abbrev pub symbol_len : List ℕ → ℕ
 symbol_len s = if begins s (codes "::=") then 3 else (if begins s (codes "==") then 2 else 1)

@@ -202,7 +202,7 @@ fn behind(place: Place, line: u32, next: Next) -> Place
 // A refusal at a line. A box that is not closed is told by the line of its `\begin`.
 fn fault_at(kind: TextFaultKind, place: Place, line: u32) -> TextFault
     ensures kind { result.kind ≡ kind }
-    ensures line { result.line ≡ cuts.fault_line place line kind }
+    ensures line { result.line ≡ cuts.reported_line place line kind }
 {
     let line = match kind {
         TextFaultKind::UnclosedBox => begun(place),

@@ -1,7 +1,7 @@
 -- The globals of a text: where they stand, and that each has a name of its own.
 use Rattle.zf_schema.proofs.Prelude.{if◌then◌else◌, ◌++◌, ◌+◌, ◌∙◌, ◌∷◌, ◌≡◌, [], ap, Bool, false, inl, inr, List, map, None, Option, refl, Some, subst, sym, true, ℕ, append-nil, append_assoc, none-some, bytes_eq, spelling, definition, free, given, ParagraphTree, Name, swapped, constructor, Defined, Definition, free_type, given_set, schema, first_named, later, resolved, Fault, outside, AreDefinedOnce, GlobalsKept, HasCompsOnce, HaveCompsOnce, NamesOnce}
 use Rattle.zf_tree.specs.Trees as text
-use Rattle.zf_schema.specs.Checking.{Item, a_paragraph, a_box, items, IsNew, with_global, next_number, Gives, Constructs, DefinesParagraph, Defines, ChecksOne, Checks, abbreviated}
+use Rattle.zf_schema.specs.Checking.{Item, a_paragraph, a_box, items, IsNew, with_global, next_number, Gives, Constructs, DefinesParagraph, Defines, ChecksOne, ChecksAll, abbreviated}
 use Rattle.zf_schema.proofs.Once.{schema_once, text_once}
 
 -- ---- what is defined stands behind what was
@@ -106,7 +106,7 @@ step_clean : (g : List Defined) (item : Item) (h : List Defined) (fs : List Faul
 step_clean g item h fs clean (inl p) = item_clean g item h clean p.0
 step_clean g item h fs clean (inr p) = subst IsClean (sym p.1) clean
 
-pub run_clean : (g : List Defined) (steps : List Item) (h : List Defined) (fs : List Fault) → IsClean g → Checks g steps h fs → IsClean h
+pub run_clean : (g : List Defined) (steps : List Item) (h : List Defined) (fs : List Fault) → IsClean g → ChecksAll g steps h fs → IsClean h
 run_clean g [] h fs clean p = subst IsClean (sym p.0) clean
 run_clean g (item ∷ steps) h fs clean p = run_clean p.0 steps h p.2 (step_clean g item p.0 p.1 clean p.3) p.4
 

@@ -1,10 +1,10 @@
 -- A schema expression that is a schema has no offence.
-use Rattle.zf_schema.proofs.Prelude.{◌∙◌, ◌++◌, ◌∷◌, [], inl, inr, List, refl, subst, sym, ℕ, None, none-some, Option, same_Some, Some, spelling, both, DeclTree, either, include, reference, schema_bracket, schema_text, SchemaTree, Tree, vars, Name, SchemaRef, DeclaredSet, Defined, plain, Schema, schema, ResolvedTree, conjuncts, Comp, Ty, Offence, no_offence, one_sort, same_set, Offends, resolved, predicate, set_of, Clashes, Differs, Includes, IsNext, IsTooLarge, IsWithin, Keeps, Limit, MarkClashes, OneClashes, Stops, AddsAll, Constrains, Declares, DeclaresOne, inside, IsSchema, IsText, outside, Refers, TakesAll, AnyByRecursion, CantRefer, IsNoSchema, name_line, OffendsAfter, OffendsAlone, OffendsConjuncts, OffendsDecls, OffendsNames, OffendsPredicates, OffendsRef, OffendsSchema, OffendsText, OneConstrainsTooMuch, OneOffendsAfter, StopsEither}
+use Rattle.zf_schema.proofs.Prelude.{◌∙◌, ◌++◌, ◌∷◌, [], inl, inr, List, refl, subst, sym, ℕ, None, none-some, Option, same_Some, Some, spelling, both, DeclTree, either, include, reference, schema_bracket, schema_text, SchemaTree, Tree, vars, Name, SchemaRef, DeclaredSet, Defined, plain, Schema, schema, ResolvedTree, conjuncts, Comp, Ty, Offence, no_offence, one_sort, same_set, Offends, resolved, predicate, set_sort, Clashes, Differs, Includes, IsNext, IsTooLarge, IsWithin, Keeps, Limit, MarkClashes, OneClashes, Stops, AddsAll, Constrains, Declares, DeclaresOne, inside, IsSchema, IsText, outside, Refers, TakesAll, AnyByRecursion, CantRefer, IsNoSchema, name_line, OffendsAfter, OffendsAlone, OffendsConjuncts, OffendsDecls, OffendsNames, OffendsPredicates, OffendsRef, OffendsSchema, OffendsText, OneConstrainsTooMuch, OneOffendsAfter, StopsEither}
 use Rattle.zf_tree.specs.declared.operator.Need.TheVariants as need
 use Rattle.zf_tree.specs.declared.tree.RefMark.{RefMark}
 use Rattle.zf_tree.specs.declared.tree.RefMark.TheVariants.{Plain, Delta, Xi}
 use Rattle.zf_term.specs.declared.fault.Limit.TheVariants as limit
-use Rattle.zf_calculus.specs.Calculus.{comp, schema_of, nothing, Agrees, Agree, HasTypeOf, comp_named, with_comp, conjoined, decorated, marked, MarkAgrees, disjoined, prime}
+use Rattle.zf_calculus.specs.Calculus.{comp, schema_with, nothing, Agrees, Agree, HasTypeOf, comp_named, with_comp, conjoined, decorated, marked, MarkAgrees, disjoined, prime}
 use Rattle.zf_schema.proofs.Once.{taken_comps}
 use Rattle.zf_schema.proofs.Texts.{same_judged}
 use Rattle.zf_schema.proofs.OneSchema.{one_base, one_reference, one_added, one_declaration, all_declared, one_constraint, one_schema}
@@ -71,18 +71,18 @@ pub no_name_offends : (a : Schema) (ns : List Name) (t : Ty) (s : DeclaredSet) (
 no_name_offends a [] t s b k m p o = o
 no_name_offends a (n ∷ ns) t s b k m p (inl o) =
     let c = comp (spelling n) t (s ∷ []) in
-    not_stopped (Clashes a.comps c) (Agrees a.comps c) (schema_of (with_comp a.comps c) a.conjuncts) p.0 k (no_clash a.comps c k p.1.0) p.1.1 o.1
+    not_stopped (Clashes a.comps c) (Agrees a.comps c) (schema_with (with_comp a.comps c) a.conjuncts) p.0 k (no_clash a.comps c k p.1.0) p.1.1 o.1
 no_name_offends a (n ∷ ns) t s b k m p (inr o) =
     let mid = one_added a (comp (spelling n) t (s ∷ [])) p.0 o.0 p.1 o.1 in
     no_name_offends o.0 ns t s b k m (subst (λ v. AddsAll v ns t s b) mid p.2) o.2
 
 no_offence_alone : (g : List Defined) (a : Schema) (d : DeclTree) (b : Schema) (k : Offence) (m : ℕ) → DeclaresOne g a d b → OffendsAlone g d k m → ⊥
-no_offence_alone g a (vars ns e) b k m p o = no_offence (outside g) need.Set e (set_of p.0) k m p.1 (p.0, refl) o
+no_offence_alone g a (vars ns e) b k m p o = no_offence (outside g) need.Set e (set_sort p.0) k m p.1 (p.0, refl) o
 no_offence_alone g a (include r) b k m p o = no_reference_offence g r p.0 k m p.1 o
 
 no_offence_after : (g : List Defined) (a : Schema) (d : DeclTree) (b : Schema) (k : Offence) (m : ℕ) → DeclaresOne g a d b → OffendsAfter g a d k m → ⊥
 no_offence_after g a (vars ns e) b k m p o =
-    let type = same_set p.0 o.0 (one_sort (outside g) e (set_of p.0) (set_of o.0) p.1 o.1) in
+    let type = same_set p.0 o.0 (one_sort (outside g) e (set_sort p.0) (set_sort o.0) p.1 o.1) in
     let set = plain (resolved (outside g) e) in
     no_name_offends a ns o.0 set b k m (subst (λ t. AddsAll a ns t set b) type p.2) o.2
 no_offence_after g a (include r) b k m p o =
@@ -110,7 +110,7 @@ no_declared_offence g a ds b k m p (inr o) = none_offends_after g a ds b k m p o
 
 pub no_conjunct_offends : (a : Schema) (cs : List ResolvedTree) (b : Schema) (k : Offence) (m : ℕ) → TakesAll a cs b → OffendsConjuncts a cs k m → ⊥
 no_conjunct_offends a [] b k m p o = o
-no_conjunct_offends a (c ∷ cs) b k m p (inl o) = not_large (schema_of a.comps (a.conjuncts ++ c ∷ [])) k p.1.1 o.1
+no_conjunct_offends a (c ∷ cs) b k m p (inl o) = not_large (schema_with a.comps (a.conjuncts ++ c ∷ [])) k p.1.1 o.1
 no_conjunct_offends a (c ∷ cs) b k m p (inr o) =
     let mid = p.1.0 ∙ sym o.1.0 in
     no_conjunct_offends o.0 cs b k m (subst (λ v. TakesAll v cs b) mid p.2) o.2

@@ -1,5 +1,5 @@
 -- A schema expression, and each of its parts, is one schema at most.
-use Rattle.zf_schema.proofs.Prelude.{◌∙◌, ◌∷◌, ◌≡◌, [], ap, List, Some, subst, sym, ℕ, same_Some, spelling, both, DeclTree, either, include, reference, schema_bracket, schema_text, SchemaTree, Tree, vars, Name, SchemaRef, Comp, DeclaredSet, Defined, plain, Schema, schema, first_named, ResolvedTree, conjuncts, Ty, one_sort, same_set, resolved, set_of, comp, conjoined, decorated, disjoined, marked, nothing, Adds, Includes, AddsAll, Constrains, ConstrainsOne, Declares, DeclaresOne, inside, IsSchema, IsText, outside, Refers, TakesAll}
+use Rattle.zf_schema.proofs.Prelude.{◌∙◌, ◌∷◌, ◌≡◌, [], ap, List, Some, subst, sym, ℕ, same_Some, spelling, both, DeclTree, either, include, reference, schema_bracket, schema_text, SchemaTree, Tree, vars, Name, SchemaRef, Comp, DeclaredSet, Defined, plain, Schema, schema, first_named, ResolvedTree, conjuncts, Ty, one_sort, same_set, resolved, set_sort, comp, conjoined, decorated, disjoined, marked, nothing, Adds, Includes, AddsAll, Constrains, ConstrainsOne, Declares, DeclaresOne, inside, IsSchema, IsText, outside, Refers, TakesAll}
 
 -- ---- the base of a reference
 
@@ -38,7 +38,7 @@ one_inclusion a c b d p q = p.1.0 ∙ sym q.1.0
 
 pub one_declaration : (g : List Defined) (a : Schema) (d : DeclTree) (b c : Schema) → DeclaresOne g a d b → DeclaresOne g a d c → b ≡ c
 one_declaration g a (vars ns e) b c p q =
-    let type = same_set p.0 q.0 (one_sort (outside g) e (set_of p.0) (set_of q.0) p.1 q.1) in
+    let type = same_set p.0 q.0 (one_sort (outside g) e (set_sort p.0) (set_sort q.0) p.1 q.1) in
     all_added_of a ns p.0 q.0 (plain (resolved (outside g) e)) b c type p.2 q.2
 one_declaration g a (include r) b c p q =
     let included = one_reference g r p.0 q.0 p.1 q.1 in

@@ -31,14 +31,14 @@ pub use Rattle.zf_type.proofs.OneSort.{one_sort, same_set, same_typed}
 pub use Rattle.zf_type.specs.Offences.{Offends}
 pub use Rattle.zf_type.specs.Refusals.{fault_of, IfFault, offence_of}
 pub use Rattle.zf_type.specs.Resolving.{bound, referent, resolved, resolved_all, resolved_links, resolved_part, resolved_ranges}
-pub use Rattle.zf_type.specs.Rules.{predicate, set_of, Sort, typed}
+pub use Rattle.zf_type.specs.Rules.{predicate, set_sort, Sort, typed}
 pub use Rattle.zf_type.specs.declared.fault.Refusal.{Refusal}
 pub use Rattle.zf_calculus.specs.Calculus.{Agree, Agrees, all_unchanged, comp, comp_named, conjoined, decorated, disjoined, either_comps, HasTypeOf, MarkAgrees, marked, new_place, nothing, place_of, place_or, prime, sets_on, unchanged, with_comp, with_comps}
 pub use Rattle.zf_calculus.specs.CalculusLaws.{AreOnce}
 pub use Rattle.zf_calculus.specs.Growth.{IfStopped, IsGrowing}
 pub use Rattle.zf_term.specs.Limits.{IsTooLarge, IsWithin, Keeps}
 pub use Rattle.zf_calculus.specs.Steps.{Adds, Clashes, Differs, Includes, IsNext, MarkClashes, OneClashes, Stops}
-pub use Rattle.zf_schema.specs.Checking.{a_box, a_paragraph, abbreviated, Checks, ChecksOne, Constructs, Defines, DefinesParagraph, Gives, IsChecked, Item, items, items_in, OffendsConstructors, OffendsGiven, OffendsItem, with_global}
+pub use Rattle.zf_schema.specs.Checking.{a_box, a_paragraph, abbreviated, ChecksAll, ChecksOne, Constructs, Defines, DefinesParagraph, Gives, IsChecked, Item, items, items_in, OffendsConstructors, OffendsGiven, OffendsItem, with_global}
 pub use Rattle.zf_schema.specs.Expressions.{AddsAll, Constrains, ConstrainsOne, Declares, DeclaresOne, inside, IsSchema, IsText, outside, Refers, TakesAll}
 pub use Rattle.zf_schema.specs.Listing.{choices_text, component_line, definition_text, listing}
 pub use Rattle.zf_schema.specs.Refusing.{CantAdd, CantConjoin, CantConstrain, CantDeclare, CantTake, either_line, IsNamed, LacksSchema, over, Refuses}

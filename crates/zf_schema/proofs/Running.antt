@@ -1,5 +1,5 @@
 -- Items that are checked, one after another.
-use Rattle.zf_schema.proofs.Prelude.{◌++◌, ◌∙◌, ◌∷◌, ◌≡◌, [], ap, Err, IfErr, inl, inr, List, Ok, OnErr, OnOk, refl, Result, subst, sym, append-nil, append_assoc, BoxTree, map, map-append, Defined, globals_of, IfFault, Fault, Refusal, fault_of, offence_of, Checks, Defines, IsChecked, Item, items, OffendsItem, Notes, Runs, RunsOne, Checked}
+use Rattle.zf_schema.proofs.Prelude.{◌++◌, ◌∙◌, ◌∷◌, ◌≡◌, [], ap, Err, IfErr, inl, inr, List, Ok, OnErr, OnOk, refl, Result, subst, sym, append-nil, append_assoc, BoxTree, map, map-append, Defined, globals_of, IfFault, Fault, Refusal, fault_of, offence_of, ChecksAll, Defines, IsChecked, Item, items, OffendsItem, Notes, Runs, RunsOne, Checked}
 use Rattle.zf_type.specs.declared.fault.Refusal.TheVariants as refusal
 use Rattle.zf_schema.proofs.OneDefinition.{no_item_offence}
 
@@ -31,9 +31,9 @@ run_one a b item p = run_step a b b item [] p (run_none b)
 
 checks_on :
     (g h i : List Defined) (xs ys : List Item) (es fs : List Fault)
-    → Checks g xs h es → Checks h ys i fs → Checks g (xs ++ ys) i (es ++ fs)
+    → ChecksAll g xs h es → ChecksAll h ys i fs → ChecksAll g (xs ++ ys) i (es ++ fs)
 checks_on g h i [] ys es fs p q =
-    subst (λ v. Checks v ys i (es ++ fs)) p.0 (subst (λ v. Checks h ys i (v ++ fs)) (sym p.1) q)
+    subst (λ v. ChecksAll v ys i (es ++ fs)) p.0 (subst (λ v. ChecksAll h ys i (v ++ fs)) (sym p.1) q)
 checks_on g h i (x ∷ xs) ys es fs p q =
     (p.0, p.1, p.2 ++ fs, p.3, checks_on p.0 h i xs ys p.2 fs p.4 q, ap (λ v. v ++ fs) p.5 ∙ append_assoc p.1 p.2 fs)
 
@@ -52,5 +52,5 @@ pub run_all :
 unfolding Runs
 run_all a b boxes empty none p =
     let faults = p.2 ∙ ap (λ fs. map fault_of fs ++ p.0) none in
-    subst (λ fs. Checks [] (items boxes) (globals_of b.globals) fs) (sym faults)
-    (subst (λ g. Checks g (items boxes) (globals_of b.globals) p.0) empty p.1)
+    subst (λ fs. ChecksAll [] (items boxes) (globals_of b.globals) fs) (sym faults)
+    (subst (λ g. ChecksAll g (items boxes) (globals_of b.globals) p.0) empty p.1)

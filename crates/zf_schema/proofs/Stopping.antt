@@ -1,7 +1,7 @@
 -- What is offended where a step stops.
 use Rattle.zf_schema.proofs.Prelude.{◌∷◌, ◌≡◌, [], inl, inr, List, None, Option, refl, Some, subst, sym, told, ℕ, spelling, Name, Comp, DeclaredSet, Schema, ResolvedTree, Ty, type_of, Limit, Offence, IfFault, Refusal, Agrees, comp, comp_named, IfStopped, IsTooLarge, Clashes, Differs, OneClashes, Stops, CantAdd, CantTake, either_line, Refuses, StopsEither}
 use Rattle.zf_term.specs.Faults.{clash, too_large}
-use Rattle.zf_term.specs.Shapes.{line_of}
+use Rattle.zf_term.specs.Shapes.{term_line}
 use Rattle.zf_term.specs.declared.fault.Clash as fault
 use Rattle.zf_calculus.specs.Growth.{grown, constrained}
 use Rattle.zf_calculus.specs.declared.stop.Stop.{Stop}
@@ -17,7 +17,7 @@ pub cant_add :
     → (k : Offence) → Stops (Clashes a.comps c) (Agrees a.comps c) (grown a c) k → CantAdd a n t d k l
 cant_add a n t d c l e line k h = (line, subst (λ (x : Comp). Stops (Clashes a.comps x) (Agrees a.comps x) (grown a x) k) e h)
 
-pub cant_take : (a : Schema) (t u : ResolvedTree) (l : ℕ) → u ≡ t → l ≡ line_of t → (k : Offence) → IsTooLarge (constrained a (u ∷ [])) k → CantTake a t k l
+pub cant_take : (a : Schema) (t u : ResolvedTree) (l : ℕ) → u ≡ t → l ≡ term_line t → (k : Offence) → IsTooLarge (constrained a (u ∷ [])) k → CantTake a t k l
 cant_take a t u l e line k h = (line, subst (λ (x : ResolvedTree). IsTooLarge (constrained a (x ∷ [])) k) e h)
 
 -- ---- a disjunction: a clash has the line of a name, a limit that of the disjunction

@@ -1,7 +1,7 @@
 -- What a text defines is well typed after what was defined before.
 use Rattle.zf_schema.proofs.Prelude.{◌++◌, ◌+◌, ◌∙◌, ◌∷◌, ◌≡◌, [], ap, arith, inl, inr, length, List, map, refl, slice_get, Some, subst, sym, ℕ, append_assoc, length-append, none-some, spelling, definition, free, given, ParagraphTree, schema_text, Name, constructor, Defined, Definition, free_type, given_set, schema, resolved, Fault, outside, AreWellTyped, GlobalsWellTyped, IsMadeAfter}
 use Rattle.zf_tree.specs.Trees as text
-use Rattle.zf_schema.specs.Checking.{Item, a_paragraph, a_box, items, with_global, abbreviated, next_number, Gives, Constructs, DefinesParagraph, Defines, ChecksOne, Checks}
+use Rattle.zf_schema.specs.Checking.{Item, a_paragraph, a_box, items, with_global, abbreviated, next_number, Gives, Constructs, DefinesParagraph, Defines, ChecksOne, ChecksAll}
 use Rattle.zf_schema.proofs.Fronts.{in_front, at_seam, before_or_last}
 
 none_yet : AreWellTyped []
@@ -61,7 +61,7 @@ step_well : (g : List Defined) (item : Item) (h : List Defined) (fs : List Fault
 step_well g item h fs well (inl p) = item_well g item h well p.0
 step_well g item h fs well (inr p) = subst AreWellTyped (sym p.1) well
 
-run_well : (g : List Defined) (steps : List Item) (h : List Defined) (fs : List Fault) → AreWellTyped g → Checks g steps h fs → AreWellTyped h
+run_well : (g : List Defined) (steps : List Item) (h : List Defined) (fs : List Fault) → AreWellTyped g → ChecksAll g steps h fs → AreWellTyped h
 run_well g [] h fs well p = subst AreWellTyped (sym p.0) well
 run_well g (item ∷ steps) h fs well p = run_well p.0 steps h p.2 (step_well g item p.0 p.1 well p.3) p.4
 

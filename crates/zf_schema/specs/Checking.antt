@@ -101,11 +101,11 @@ ChecksOne g item h faults =
     ⊎ (((other : List Defined) → Defines g item other → ⊥) × (h ≡ g) × ((f : Fault) × OffendsItem g item f.offence f.line × (faults ≡ f ∷ [])))
 
 -- what the items define after the globals g, and their faults, in order
-abbrev pub Checks : List Defined → List Item → List Defined → List Fault → Type 0
-Checks g [] h faults = (h ≡ g) × (faults ≡ [])
-Checks g (item ∷ rest) h faults =
-    (mid : List Defined) × (first more : List Fault) × ChecksOne g item mid first × Checks mid rest h more × (faults ≡ first ++ more)
+abbrev pub ChecksAll : List Defined → List Item → List Defined → List Fault → Type 0
+ChecksAll g [] h faults = (h ≡ g) × (faults ≡ [])
+ChecksAll g (item ∷ rest) h faults =
+    (mid : List Defined) × (first more : List Fault) × ChecksOne g item mid first × ChecksAll mid rest h more × (faults ≡ first ++ more)
 
 -- what a text defines, and its faults
 abbrev pub IsChecked : List BoxTree → List Defined → List Fault → Type 0
-IsChecked boxes globals faults = Checks [] (items boxes) globals faults
+IsChecked boxes globals faults = ChecksAll [] (items boxes) globals faults

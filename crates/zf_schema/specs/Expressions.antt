@@ -9,11 +9,11 @@ use Rattle.zf_term.specs.ResolvedTrees.{ResolvedTree}
 use Rattle.zf_term.specs.Shapes.{conjuncts}
 use Rattle.zf_term.specs.Types.{Ty}
 use Rattle.zf_type.specs.Resolving.{resolved}
-use Rattle.zf_type.specs.Rules.{set_of, predicate}
+use Rattle.zf_type.specs.Rules.{set_sort, predicate}
 use Rattle.zf_type.specs.Scopes.{Scope}
 use Rattle.zf_tree.specs.Names.{spelling}
 use Rattle.zf_type.specs.Typing.{IsOf}
-use Rattle.zf_calculus.specs.Calculus.{comp, schema_of, nothing, Agree, conjoined, decorated, marked, MarkAgrees, disjoined}
+use Rattle.zf_calculus.specs.Calculus.{comp, schema_with, nothing, Agree, conjoined, decorated, marked, MarkAgrees, disjoined}
 use Rattle.zf_calculus.specs.Steps.{IsNext, Adds, Includes}
 
 -- what is in scope in a declared set: the globals
@@ -36,7 +36,7 @@ AddsAll a [] t d b = b ≡ a
 AddsAll a (n ∷ ns) t d b = (mid : Schema) × Adds a (comp (spelling n) t (d ∷ [])) mid × AddsAll mid ns t d b
 
 abbrev pub DeclaresOne : List Defined → Schema → DeclTree → Schema → Type 0
-DeclaresOne g a (vars ns e) b = (t : Ty) × IsOf (outside g) e (set_of t) × AddsAll a ns t (plain (resolved (outside g) e)) b
+DeclaresOne g a (vars ns e) b = (t : Ty) × IsOf (outside g) e (set_sort t) × AddsAll a ns t (plain (resolved (outside g) e)) b
 DeclaresOne g a (include r) b = (c : Schema) × Refers g r c × Includes a c b
 
 -- declarations, one after another
@@ -47,7 +47,7 @@ Declares g a (d ∷ ds) b = (mid : Schema) × DeclaresOne g a d mid × Declares 
 -- conjuncts, one after another
 abbrev pub TakesAll : Schema → List ResolvedTree → Schema → Type 0
 TakesAll a [] b = b ≡ a
-TakesAll a (c ∷ cs) b = (mid : Schema) × IsNext (schema_of a.comps (a.conjuncts ++ c ∷ [])) mid × TakesAll mid cs b
+TakesAll a (c ∷ cs) b = (mid : Schema) × IsNext (schema_with a.comps (a.conjuncts ++ c ∷ [])) mid × TakesAll mid cs b
 
 -- a predicate, split at its outermost `\land`
 abbrev pub ConstrainsOne : List Defined → Schema → Tree → Schema → Type 0

@@ -3,7 +3,7 @@ use Rattle.std.specs.Prelude.{◌≡◌, ◌⊎◌, ℕ, List, [], ◌∷◌, So
 use Rattle.zf_term.specs.FirstNamed.{first_named}
 use Rattle.zf_term.specs.Definitions.{Comp, Schema, DeclaredSet, Defined, schema}
 use Rattle.zf_term.specs.ResolvedTrees.{ResolvedTree}
-use Rattle.zf_term.specs.Shapes.{line_of}
+use Rattle.zf_term.specs.Shapes.{term_line}
 use Rattle.zf_term.specs.Faults.{Offence, clash, not_declared, not_a_schema, too_large}
 use Rattle.zf_type.specs.declared.fault.Refusal.{Refusal}
 use Rattle.zf_type.specs.declared.fault.Refusal.TheVariants as refusal
@@ -58,7 +58,7 @@ CantAdd a n t d o m = (m ≡ n.line) × Stops (Clashes a.comps (calculus.comp (s
 
 -- the conjunct passes a limit
 abbrev pub CantTake : Schema → ResolvedTree → Offence → ℕ → Type 0
-CantTake a t o m = (m ≡ line_of t) × IsTooLarge (constrained a (t ∷ [])) o
+CantTake a t o m = (m ≡ term_line t) × IsTooLarge (constrained a (t ∷ [])) o
 
 -- the conjunction can't be: the fault has this line
 abbrev pub CantConjoin : (line : ℕ) → Schema → Schema → Offence → ℕ → Type 0

@@ -8,7 +8,7 @@ use Rattle.zf_type.specs.declared.fault.TypeFault.{TypeFault}
 use Rattle.zf_type.specs.Refusals.{fault_of}
 use Rattle.zf_term.specs.Faults as fault
 use Rattle.zf_schema.specs.declared.checker.Checked.{Checked}
-use Rattle.zf_schema.specs.Checking.{Item, ChecksOne, Checks}
+use Rattle.zf_schema.specs.Checking.{Item, ChecksOne, ChecksAll}
 
 -- the fault, if there is one, is put behind those that were there
 abbrev pub Notes : {A : Type 0} → Result A Refusal → List TypeFault → List TypeFault → Type 0
@@ -29,4 +29,4 @@ RunsOne a item b = (more : List fault.Fault) × ChecksOne (globals_of a.globals)
 
 -- more items are
 unfoldable pub Runs : Checked → List Item → Checked → Type 0
-Runs a items b = (more : List fault.Fault) × Checks (globals_of a.globals) items (globals_of b.globals) more × (map fault_of b.faults ≡ map fault_of a.faults ++ more)
+Runs a items b = (more : List fault.Fault) × ChecksAll (globals_of a.globals) items (globals_of b.globals) more × (map fault_of b.faults ≡ map fault_of a.faults ++ more)

@@ -7,15 +7,15 @@ use Rattle.zf_term.specs.FirstNamed.{first_named}
 use Rattle.zf_tree.specs.declared.operator.Need.TheVariants as need
 use Rattle.zf_term.specs.Definitions.{Schema, DeclaredSet, plain, Defined, Definition, given_set, free_type, constructor, abbreviation, schema}
 use Rattle.zf_term.specs.ResolvedTrees.{ResolvedTree}
-use Rattle.zf_term.specs.Shapes.{line_of, conjuncts}
+use Rattle.zf_term.specs.Shapes.{term_line, conjuncts}
 use Rattle.zf_term.specs.Types.{Ty}
 use Rattle.zf_term.specs.Faults.{Offence, not_declared, not_a_schema}
 use Rattle.zf_type.specs.Offences.{Offends}
 use Rattle.zf_type.specs.Resolving.{resolved}
-use Rattle.zf_type.specs.Rules.{set_of, predicate}
+use Rattle.zf_type.specs.Rules.{set_sort, predicate}
 use Rattle.zf_tree.specs.Names.{spelling}
 use Rattle.zf_type.specs.Typing.{IsOf}
-use Rattle.zf_calculus.specs.Calculus.{comp, schema_of, nothing, Agrees, Agree, with_comp, conjoined, decorated, marked, MarkAgrees, disjoined}
+use Rattle.zf_calculus.specs.Calculus.{comp, schema_with, nothing, Agrees, Agree, with_comp, conjoined, decorated, marked, MarkAgrees, disjoined}
 use Rattle.zf_schema.specs.Expressions.{outside, inside, Refers, DeclaresOne, Declares, ConstrainsOne, IsSchema}
 use Rattle.zf_calculus.specs.Steps.{IsNext, Adds, Clashes, OneClashes, MarkClashes, Stops}
 use Rattle.zf_term.specs.Limits.{IsTooLarge}
@@ -47,7 +47,7 @@ OffendsRef g r o m = (m ≡ r.name.line) × CantRefer g r o
 abbrev pub OffendsNames : Schema → List Name → Ty → DeclaredSet → Offence → ℕ → Type 0
 OffendsNames a [] t d o m = ⊥
 OffendsNames a (n ∷ ns) t d o m =
-    ((m ≡ n.line) × Stops (Clashes a.comps (comp (spelling n) t (d ∷ []))) (Agrees a.comps (comp (spelling n) t (d ∷ []))) (schema_of (with_comp a.comps (comp (spelling n) t (d ∷ []))) a.conjuncts) o)
+    ((m ≡ n.line) × Stops (Clashes a.comps (comp (spelling n) t (d ∷ []))) (Agrees a.comps (comp (spelling n) t (d ∷ []))) (schema_with (with_comp a.comps (comp (spelling n) t (d ∷ []))) a.conjuncts) o)
     ⊎ ((mid : Schema) × Adds a (comp (spelling n) t (d ∷ [])) mid × OffendsNames mid ns t d o m)
 
 -- what a declaration offends wherever it stands: its set is none, or its reference can't be taken
@@ -57,7 +57,7 @@ OffendsAlone g (include r) o m = OffendsRef g r o m
 
 -- what it offends after those before it: a component gets two types, or a limit is passed
 abbrev pub OffendsAfter : List Defined → Schema → DeclTree → Offence → ℕ → Type 0
-OffendsAfter g a (vars ns e) o m = (t : Ty) × IsOf (outside g) e (set_of t) × OffendsNames a ns t (plain (resolved (outside g) e)) o m
+OffendsAfter g a (vars ns e) o m = (t : Ty) × IsOf (outside g) e (set_sort t) × OffendsNames a ns t (plain (resolved (outside g) e)) o m
 OffendsAfter g a (include r) o m = (c : Schema) × Refers g r c × (m ≡ r.name.line) × Stops (OneClashes a.comps c.comps) (Agree a.comps c.comps) (conjoined a c) o
 
 abbrev pub OneOffendsAfter : List Defined → Schema → List DeclTree → Offence → ℕ → Type 0
@@ -71,8 +71,8 @@ OffendsDecls g a ds o m = AnyByRecursion (λ d. OffendsAlone g d o m) ds ⊎ One
 abbrev pub OffendsConjuncts : Schema → List ResolvedTree → Offence → ℕ → Type 0
 OffendsConjuncts a [] o m = ⊥
 OffendsConjuncts a (c ∷ cs) o m =
-    ((m ≡ line_of c) × IsTooLarge (schema_of a.comps (a.conjuncts ++ c ∷ [])) o)
-    ⊎ ((mid : Schema) × IsNext (schema_of a.comps (a.conjuncts ++ c ∷ [])) mid × OffendsConjuncts mid cs o m)
+    ((m ≡ term_line c) × IsTooLarge (schema_with a.comps (a.conjuncts ++ c ∷ [])) o)
+    ⊎ ((mid : Schema) × IsNext (schema_with a.comps (a.conjuncts ++ c ∷ [])) mid × OffendsConjuncts mid cs o m)
 
 -- what a predicate offends after those before it
 abbrev pub ConstrainsTooMuch : List Defined → Schema → Tree → Offence → ℕ → Type 0

@@ -32,8 +32,8 @@ pub fn schema_of_expression<'a>(
     arena: &'a Bump,
     globals: &Globals<'a>,
 ) -> Result<Measured<'a>, Refusal<'a>>
-    ensures ok { IfOk result (λ f. IsSchema (globals_of globals.now) (tree.schema_of exp.now) (schema_of f)) }
-    ensures wrong { IfErr result (λ e. IfFault e (OffendsSchema (globals_of globals.now) (tree.schema_of exp.now))) }
+    ensures ok { IfOk result (λ f. IsSchema (globals_of globals.now) (tree.schema_tree_of exp.now) (schema_of f)) }
+    ensures wrong { IfErr result (λ e. IfFault e (OffendsSchema (globals_of globals.now) (tree.schema_tree_of exp.now))) }
 {
     Ok(growing_schema(exp, arena, globals)?.measured())
 }
@@ -45,9 +45,9 @@ fn growing_schema<'a>(
     arena: &'a Bump,
     globals: &Globals<'a>,
 ) -> Result<Growing<'a>, Refusal<'a>>
-    ensures ok { IfOk result (λ g. IsSchema (globals_of globals.now) (tree.schema_of exp.now) (schema_of g.flat)) }
+    ensures ok { IfOk result (λ g. IsSchema (globals_of globals.now) (tree.schema_tree_of exp.now) (schema_of g.flat)) }
     ensures growing { IfOk result (λ g. IsGrowing g) }
-    ensures wrong { IfErr result (λ e. IfFault e (OffendsSchema (globals_of globals.now) (tree.schema_of exp.now))) }
+    ensures wrong { IfErr result (λ e. IfFault e (OffendsSchema (globals_of globals.now) (tree.schema_tree_of exp.now))) }
 {
     match exp {
         SchemaExp::Text(decls, predicates) => growing_text(
@@ -123,7 +123,7 @@ fn disjunction<'a>(
 /// The line of the first name.
 #[tactic(auto, using(zf_tree::proofs::SchemaSeen::seen))]
 fn name_line(exp: &SchemaExp<'_>) -> u32
-    ensures { result ≡ spec.name_line (tree.schema_of exp.now) }
+    ensures { result ≡ spec.name_line (tree.schema_tree_of exp.now) }
 {
     match exp {
         SchemaExp::Text(decls, _) => decls_line(decls.as_slice()),

@@ -1,6 +1,6 @@
 //! What a paragraph or box adds to the globals.
 ghost use Rattle.std.specs.Prelude.{◌≡◌, ◌<◌, ◌^◌, map, length, take, IfOk, IfErr, OnOk, OnErr};
-ghost use Rattle.zf_tree.specs.TreeViews.{paragraph_of, schema_of, decl_of, tree_of};
+ghost use Rattle.zf_tree.specs.TreeViews.{paragraph_of, schema_tree_of, decl_of, tree_of};
 ghost use Rattle.zf_tree.specs.Trees as text;
 ghost use Rattle.zf_tree.specs.TreeViews as text_views;
 ghost use Rattle.zf_tree.specs.declared.operator.Need.TheVariants as need;
@@ -181,8 +181,8 @@ fn add_schema<'a>(
     name: &Name<'a>,
     exp: &SchemaExp<'a>,
 ) -> Result<(), Refusal<'a>>
-    ensures ok { OnOk result (DefinesParagraph (globals_of globals.old) (text.definition name.now (text_views.schema_of exp.now)) (globals_of globals.new)) }
-    ensures fault { IfErr result (λ e. IfFault e (λ offence line. OffendsParagraph (globals_of globals.old) (text.definition name.now (text_views.schema_of exp.now)) offence line)) }
+    ensures ok { OnOk result (DefinesParagraph (globals_of globals.old) (text.definition name.now (text_views.schema_tree_of exp.now)) (globals_of globals.new)) }
+    ensures fault { IfErr result (λ e. IfFault e (λ offence line. OffendsParagraph (globals_of globals.old) (text.definition name.now (text_views.schema_tree_of exp.now)) offence line)) }
     ensures begun { take (length (globals_of globals.old)) (globals_of globals.new) ≡ globals_of globals.old }
 {
     let spelled = new_name(arena, globals, name)?;

@@ -24,7 +24,7 @@ unfoldable pub use Rattle.zf_term.specs.ResolvedViews.{range_of, resolved_link_o
 pub use Rattle.zf_term.specs.Shapes.{all_moved, links_moved, moved, part_moved, ranges_moved}
 pub use Rattle.zf_term.specs.ShapeViews.{numbering}
 pub use Rattle.zf_term.specs.TypeTexts.{later_parts_text, parts_text, type_text}
-pub use Rattle.zf_term.specs.Types.{basic, have_numbers, int, no_types, nodes, nodes_of_all, pair, power, product, Ty, type, types, Tys}
+pub use Rattle.zf_term.specs.Types.{basic, have_numbers, int, no_types, type_nodes, nodes_of_all, pair_type, power, product, Ty, type, types, Tys}
 pub use Rattle.zf_term.specs.TypeViews.{type_step}
 unfoldable pub use Rattle.zf_term.specs.TypeViews.{type_of}
 pub use Rattle.zf_term.specs.declared.globals.Entry.{Entry}

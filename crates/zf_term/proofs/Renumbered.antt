@@ -1,6 +1,6 @@
 -- What a term keeps when its components are numbered anew, and that it can be done at once.
 use Rattle.zf_term.proofs.Prelude.{◌+◌, ◌≡◌, ap, refl, ℕ, Component, Global, Local, absent, binary, bracket, builder, chain, constant, empty_set, link, listed, no_links, no_ranges, no_terms, number, present, quantified, range, Ranges, reference, ResolvedLinks, ResolvedPart, ResolvedTree, ResolvedTrees, term, unary}
-use Rattle.zf_term.specs.Shapes.{all_moved, all_nodes, height, line_of, link_nodes, links_moved, moved, nodes, part_height, part_moved, part_nodes, range_nodes, ranges_moved, tallest, tallest_link, tallest_range}
+use Rattle.zf_term.specs.Shapes.{all_moved, all_nodes, height, term_line, link_nodes, links_moved, moved, nodes, part_height, part_moved, part_nodes, range_nodes, ranges_moved, tallest, tallest_link, tallest_range}
 
 -- ---- one after the other
 
@@ -38,7 +38,7 @@ mutual
 
 -- ---- line, nodes and height
 
-pub same_line : (f : ℕ → ℕ) (t : ResolvedTree) → line_of (moved f t) ≡ line_of t
+pub same_line : (f : ℕ → ℕ) (t : ResolvedTree) → term_line (moved f t) ≡ term_line t
 same_line f (reference l r) = refl
 same_line f (number l v) = refl
 same_line f (constant l c) = refl

@@ -1,5 +1,5 @@
 -- Which form a type has, by what it is seen as.
-use Rattle.zf_term.proofs.Prelude.{◌+◌, ◌<◌, ◌↔◌, ◌∙◌, ◌≡◌, ◌≤◌, ◌⊎◌, ap, arith, List, map, None, Option, refl, Some, sym, ℕ, ⊎_elim, basic, int, nodes, nodes_of_all, power, product, Ty, type_step, types, Tys, type_of, map-ZType, out-ZType, roll-out-ZType, roll-ZType, ZType, ZType-F}
+use Rattle.zf_term.proofs.Prelude.{◌+◌, ◌<◌, ◌↔◌, ◌∙◌, ◌≡◌, ◌≤◌, ◌⊎◌, ap, arith, List, map, None, Option, refl, Some, sym, ℕ, ⊎_elim, basic, int, type_nodes, nodes_of_all, power, product, Ty, type_step, types, Tys, type_of, map-ZType, out-ZType, roll-out-ZType, roll-ZType, ZType, ZType-F}
 use Rattle.std.specs.Prelude.{MatchOption}
 use Rattle.zf_term.specs.declared.ztype.ZType.TheVariants as v
 use Rattle.zf_term.proofs.TypesSeen.{rolled, of-Int, of-Basic, of-Power, of-Product}
@@ -63,20 +63,20 @@ members_of a b c t e f h = let g : power (type_of c) ≡ power t = sym (of_membe
 
 -- ---- nodes
 
-pub some_nodes : (t : Ty) → 1 ≤ nodes t
+pub some_nodes : (t : Ty) → 1 ≤ type_nodes t
 some_nodes int = (omega arith)
 some_nodes (basic name) = (omega arith)
 some_nodes (power t) = (omega arith)
 some_nodes (product ts) = (omega arith)
 
-pub one_node : (a : ZType) → (a ≡ v.Int) ⊎ ((n : List ℕ) × (a ≡ v.Basic n)) → nodes (type_of a) ≡ 1
-one_node a e = ⊎_elim (λ i. ap nodes (ap type_of i ∙ of-Int)) (λ b. ap nodes (ap type_of b.1 ∙ of-Basic b.0)) e
+pub one_node : (a : ZType) → (a ≡ v.Int) ⊎ ((n : List ℕ) × (a ≡ v.Basic n)) → type_nodes (type_of a) ≡ 1
+one_node a e = ⊎_elim (λ i. ap type_nodes (ap type_of i ∙ of-Int)) (λ b. ap type_nodes (ap type_of b.1 ∙ of-Basic b.0)) e
 
-pub nodes-Power : (a b : ZType) → a ≡ v.Power b → nodes (type_of a) ≡ nodes (type_of b) + 1
-nodes-Power a b e = ap nodes (ap type_of e ∙ of-Power b)
+pub nodes-Power : (a b : ZType) → a ≡ v.Power b → type_nodes (type_of a) ≡ type_nodes (type_of b) + 1
+nodes-Power a b e = ap type_nodes (ap type_of e ∙ of-Power b)
 
-pub nodes-Product : (a : ZType) (xs : List ZType) → a ≡ v.Product xs → nodes (type_of a) ≡ nodes_of_all (types (map type_of xs)) + 1
-nodes-Product a xs e = ap nodes (ap type_of e ∙ of-Product xs)
+pub nodes-Product : (a : ZType) (xs : List ZType) → a ≡ v.Product xs → type_nodes (type_of a) ≡ nodes_of_all (types (map type_of xs)) + 1
+nodes-Product a xs e = ap type_nodes (ap type_of e ∙ of-Product xs)
 
 -- what is left of the room for all is left of what the rest of it has
 pub left_of_both : (o : Option ℕ) (room left n m : ℕ) → left + n ≡ room + m → MatchOption o (left < m) (λ k. k + m ≡ left) → MatchOption o (room < n) (λ k. k + n ≡ room)

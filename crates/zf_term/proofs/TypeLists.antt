@@ -1,5 +1,5 @@
 -- Lists of types, compared from the front and counted from the back.
-use Rattle.zf_term.proofs.Prelude.{◌+◌, ◌<◌, ◌↔◌, ◌∙◌, ◌∷◌, ◌≡◌, [], add-one, ap, arith, drop, get_or, length, List, map, refl, suc, sym, take, zero, ℕ, no_types, nodes, nodes_of_all, pair, product, Ty, type, types, Tys, type_of, ZType}
+use Rattle.zf_term.proofs.Prelude.{◌+◌, ◌<◌, ◌↔◌, ◌∙◌, ◌∷◌, ◌≡◌, [], add-one, ap, arith, drop, get_or, length, List, map, refl, suc, sym, take, zero, ℕ, no_types, type_nodes, nodes_of_all, pair_type, product, Ty, type, types, Tys, type_of, ZType}
 use Rattle.zf_term.specs.declared.ztype.ZType.TheVariants as v
 use Rattle.zf_term.proofs.TypesSeen.{of-Product}
 
@@ -46,23 +46,23 @@ of_two (x ∷ []) t u e = (cc)
 of_two (x ∷ y ∷ []) t u e = refl
 of_two (x ∷ y ∷ z ∷ zs) t u e = (cc)
 
-pub two_parts : (a : ZType) (xs : List ZType) (t u : Ty) → a ≡ v.Product xs → type_of a ≡ pair t u → length xs ≡ 2
+pub two_parts : (a : ZType) (xs : List ZType) (t u : Ty) → a ≡ v.Product xs → type_of a ≡ pair_type t u → length xs ≡ 2
 two_parts a xs t u e h =
     let p = sym (ap type_of e ∙ of-Product xs) ∙ h in
     let q : types (map type_of xs) ≡ type t (type u no_types) = (cc) in
     of_two xs t u q
 
-pub two_made : (a : ZType) (xs ys : List ZType) (first second : ZType) → a ≡ v.Product xs → ys ≡ xs → length ys ≡ 2 → first ≡ get_or ys 0 first → second ≡ get_or ys 1 second → type_of a ≡ pair (type_of first) (type_of second)
+pub two_made : (a : ZType) (xs ys : List ZType) (first second : ZType) → a ≡ v.Product xs → ys ≡ xs → length ys ≡ 2 → first ≡ get_or ys 0 first → second ≡ get_or ys 1 second → type_of a ≡ pair_type (type_of first) (type_of second)
 two_made a xs [] first second e f l p q = absurd (omega (arith, l))
 two_made a xs (x ∷ []) first second e f l p q = absurd (omega (arith, l))
 two_made a xs (x ∷ y ∷ []) first second e f l p q =
-    let is : type_of a ≡ pair (type_of x) (type_of y) = ap type_of (e ∙ ap v.Product (sym f)) ∙ of-Product (x ∷ y ∷ []) in
+    let is : type_of a ≡ pair_type (type_of x) (type_of y) = ap type_of (e ∙ ap v.Product (sym f)) ∙ of-Product (x ∷ y ∷ []) in
     let one : first ≡ x = p in
     let two : second ≡ y = q in
     (cc)
 two_made a xs (x ∷ y ∷ z ∷ zs) first second e f l p q = absurd (omega (arith, l))
 
-pub one_pair : (xs : List ZType) (a : ZType) → a ≡ v.Product xs → length xs ≡ 2 → (t u : Ty) × (type_of a ≡ pair t u)
+pub one_pair : (xs : List ZType) (a : ZType) → a ≡ v.Product xs → length xs ≡ 2 → (t u : Ty) × (type_of a ≡ pair_type t u)
 one_pair [] a e l = absurd (omega (arith, l))
 one_pair (x ∷ []) a e l = absurd (omega (arith, l))
 one_pair (x ∷ y ∷ []) a e l = (type_of x, type_of y, ap type_of e ∙ of-Product (x ∷ y ∷ []))
@@ -71,10 +71,10 @@ one_pair (x ∷ y ∷ z ∷ zs) a e l = absurd (omega (arith, l))
 -- ---- nodes
 
 -- what is counted of the rest is counted of its first part, and of what is behind it
-counted_on : (xs : List ZType) (i : ℕ) (x : ZType) → x ≡ get_or xs i x → i < length xs → nodes_of_all (types (map type_of (drop i xs))) ≡ nodes (type_of x) + nodes_of_all (types (map type_of (drop (suc i) xs)))
+counted_on : (xs : List ZType) (i : ℕ) (x : ZType) → x ≡ get_or xs i x → i < length xs → nodes_of_all (types (map type_of (drop i xs))) ≡ type_nodes (type_of x) + nodes_of_all (types (map type_of (drop (suc i) xs)))
 counted_on [] i x p l = absurd (omega arith)
-counted_on (a ∷ xs) zero x p l = ap (λ t. nodes (type_of t) + nodes_of_all (types (map type_of xs))) (sym p)
+counted_on (a ∷ xs) zero x p l = ap (λ t. type_nodes (type_of t) + nodes_of_all (types (map type_of xs))) (sym p)
 counted_on (a ∷ xs) (suc i) x p l = counted_on xs i x p (omega arith)
 
-pub counted : (xs : List ZType) (i : ℕ) (x : ZType) → x ≡ get_or xs i x → i < length xs → nodes_of_all (types (map type_of (drop i xs))) ≡ nodes (type_of x) + nodes_of_all (types (map type_of (drop (i + 1) xs)))
+pub counted : (xs : List ZType) (i : ℕ) (x : ZType) → x ≡ get_or xs i x → i < length xs → nodes_of_all (types (map type_of (drop i xs))) ≡ type_nodes (type_of x) + nodes_of_all (types (map type_of (drop (i + 1) xs)))
 counted xs i x p l = rw add-one (counted_on xs i x p l)

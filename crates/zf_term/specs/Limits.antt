@@ -29,8 +29,8 @@ abbrev pub declared_sets : Schema → ℕ
 declared_sets a = sum_by (λ c. sum_by set_count c.sets) a.comps
 
 -- the nodes of all terms in declared sets and conjuncts
-abbrev pub all_nodes : Schema → ℕ
-all_nodes a = sum_by (λ c. sum_by set_nodes c.sets) a.comps + sum_by nodes a.conjuncts
+abbrev pub schema_nodes : Schema → ℕ
+schema_nodes a = sum_by (λ c. sum_by set_nodes c.sets) a.comps + sum_by nodes a.conjuncts
 
 abbrev pub IsLow : ResolvedTree → Type 0
 IsLow t = height t ≤ height_max
@@ -42,7 +42,7 @@ pub record IsWithin (a : Schema) : Type 0 where
   pub comps : AreFew a.comps
   pub sets : declared_sets a ≤ sets_max
   pub conjuncts : length a.conjuncts ≤ conjuncts_max
-  pub nodes : all_nodes a ≤ nodes_max
+  pub nodes : schema_nodes a ≤ nodes_max
   pub low : AllByRecursion IsLow a.conjuncts
 
 -- the schema is within this limit
@@ -51,7 +51,7 @@ Keeps limit.TypeNodes a = Unit {0}
 Keeps limit.Components a = AreFew a.comps
 Keeps limit.Sets a = declared_sets a ≤ sets_max
 Keeps limit.Conjuncts a = length a.conjuncts ≤ conjuncts_max
-Keeps limit.Nodes a = all_nodes a ≤ nodes_max
+Keeps limit.Nodes a = schema_nodes a ≤ nodes_max
 Keeps limit.Height a = AllByRecursion IsLow a.conjuncts
 
 -- it passes one: which one is told

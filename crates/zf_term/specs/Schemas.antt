@@ -6,7 +6,7 @@ use Rattle.zf_tree.specs.declared.symbol.Connective.TheVariants.{And, Or}
 use Rattle.zf_tree.specs.declared.symbol.Constant.TheVariants.{True}
 use Rattle.zf_tree.specs.declared.symbol.Relation.TheVariants.{Member}
 use Rattle.zf_term.specs.ResolvedTrees.{ResolvedTree, binary, chain, constant, link, no_links, reference}
-use Rattle.zf_term.specs.Shapes.{line_of}
+use Rattle.zf_term.specs.Shapes.{term_line}
 use Rattle.zf_term.specs.Types.{Ty}
 
 -- a declared set: that of a declaration, all values of a type, or the two sides of a disjunction
@@ -39,11 +39,11 @@ sets_of (d ∷ ds) = set d (sets_of ds)
 
 -- the component is a member of the set
 abbrev pub is_member : (at : ℕ) → ResolvedTree → ResolvedTree
-is_member i e = chain (line_of e) (reference (line_of e) (component i)) (link Member e no_links)
+is_member i e = chain (term_line e) (reference (term_line e) (component i)) (link Member e no_links)
 
 -- joined to the left by `\land`
 abbrev pub both_hold : ResolvedTree → ResolvedTree → ResolvedTree
-both_hold t u = binary (line_of t) (Connective And) t u
+both_hold t u = binary (term_line t) (Connective And) t u
 
 abbrev pub all_joined : ResolvedTree → List ResolvedTree → ResolvedTree
 all_joined = fold both_hold

@@ -7,18 +7,18 @@ use Rattle.zf_reference.specs.Numbering.{renumbered}
 use Rattle.zf_term.specs.ResolvedTrees.{ResolvedTree, reference, number, constant, empty_set, bracket, listed, builder, unary, binary, chain, quantified, ResolvedTrees, no_terms, term, ResolvedLinks, no_links, link, Ranges, no_ranges, range, ResolvedPart, absent, present}
 
 -- the line of the first token
-abbrev pub line_of : ResolvedTree → ℕ
-line_of (reference l r) = l
-line_of (number l v) = l
-line_of (constant l c) = l
-line_of (empty_set l t) = l
-line_of (bracket l t) = l
-line_of (listed l form ts) = l
-line_of (builder l rs p t) = l
-line_of (unary l op t) = l
-line_of (binary l op a b) = l
-line_of (chain l t ks) = l
-line_of (quantified l q rs p t) = l
+abbrev pub term_line : ResolvedTree → ℕ
+term_line (reference l r) = l
+term_line (number l v) = l
+term_line (constant l c) = l
+term_line (empty_set l t) = l
+term_line (bracket l t) = l
+term_line (listed l form ts) = l
+term_line (builder l rs p t) = l
+term_line (unary l op t) = l
+term_line (binary l op a b) = l
+term_line (chain l t ks) = l
+term_line (quantified l q rs p t) = l
 
 -- ---- nodes: the terms in a term, itself among them; brackets do not count
 

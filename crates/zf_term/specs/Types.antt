@@ -16,24 +16,24 @@ abbrev pub types : List Ty → Tys
 types [] = no_types
 types (t ∷ ts) = type t (types ts)
 
-abbrev pub pair : Ty → Ty → Ty
-pair t u = product (type t (type u no_types))
+abbrev pub pair_type : Ty → Ty → Ty
+pair_type t u = product (type t (type u no_types))
 
 -- the number of nodes: of `\num`, of basic types, of power sets and of products
 abbrev mutual
-  pub nodes : Ty → ℕ
-  nodes int = 1
-  nodes (basic name) = 1
-  nodes (power t) = nodes t + 1
-  nodes (product ts) = nodes_of_all ts + 1
+  pub type_nodes : Ty → ℕ
+  type_nodes int = 1
+  type_nodes (basic name) = 1
+  type_nodes (power t) = type_nodes t + 1
+  type_nodes (product ts) = nodes_of_all ts + 1
 
   pub nodes_of_all : Tys → ℕ
   nodes_of_all no_types = 0
-  nodes_of_all (type t ts) = nodes t + nodes_of_all ts
+  nodes_of_all (type t ts) = type_nodes t + nodes_of_all ts
 
 -- a type within the limit
 abbrev pub IsSmall : Ty → Type 0
-IsSmall t = nodes t ≤ 256
+IsSmall t = type_nodes t ≤ 256
 
 -- numbers are parts of the values of the type
 abbrev mutual

@@ -113,7 +113,7 @@ impl<'a> Conjunct<'a> {
     /// The line of the first token.
     #[tactic(auto, using(crate::proofs::ConjunctsSeen::seen, crate::proofs::Renumbered::kept))]
     pub fn line(&self) -> u32
-        ensures { result ≡ spec.line_of (conjunct_of self.now) }
+        ensures { result ≡ spec.term_line (conjunct_of self.now) }
     {
         match self {
             Conjunct::Term(term, _) => term.get().line(),

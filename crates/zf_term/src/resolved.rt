@@ -58,7 +58,7 @@ impl<'a> Resolved<'a> {
     /// The line of the first token.
     #[tactic(auto, using(crate::proofs::ResolvedSeen::seen))]
     pub fn line(&self) -> u32
-        ensures { result ≡ spec.line_of (resolved_of self.now) }
+        ensures { result ≡ spec.term_line (resolved_of self.now) }
     {
         match self {
             Resolved::Name(line, _) => *line,

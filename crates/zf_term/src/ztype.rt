@@ -1,6 +1,6 @@
 //! Types.
 ghost use Rattle.std.specs.Prelude.{◌≡◌, ◌+◌, ◌<◌, ◌↔◌, IsTrue, IfOk, MatchOption, map};
-ghost use Rattle.zf_term.specs.Types.{Ty, int, power, product, types, nodes, nodes_of_all, IsSmall, pair};
+ghost use Rattle.zf_term.specs.Types.{Ty, int, power, product, types, type_nodes, nodes_of_all, IsSmall, pair_type};
 ghost use Rattle.zf_term.specs.TypeViews.{type_of};
 ghost use Rattle.zf_term.specs.Types as spec;
 
@@ -64,7 +64,7 @@ impl<'a> ZType<'a> {
     /// How much of the room for nodes is left behind the type, where there is enough. Ends as soon as there isn't.
     #[cycle(room)]
     fn room_after(&self, room: u32) -> Option<u32>
-        ensures { MatchOption result (room < nodes (type_of self.now)) (λ left. left + nodes (type_of self.now) ≡ room) }
+        ensures { MatchOption result (room < type_nodes (type_of self.now)) (λ left. left + type_nodes (type_of self.now) ≡ room) }
     {
         let mut ztype = self;
         let mut left = room;
@@ -111,7 +111,7 @@ impl<'a> ZType<'a> {
 
     /// Whether it is one of sets of pairs.
     pub fn is_relation(&self) -> bool
-        ensures { IsTrue result ↔ ((t u : Ty) × (type_of self.now ≡ power (pair t u))) }
+        ensures { IsTrue result ↔ ((t u : Ty) × (type_of self.now ≡ power (pair_type t u))) }
     {
         match self {
             ZType::Power(member) => member.get().is_pair(),
@@ -121,7 +121,7 @@ impl<'a> ZType<'a> {
 
     /// Whether it is one of pairs.
     pub fn is_pair(&self) -> bool
-        ensures { IsTrue result ↔ ((t u : Ty) × (type_of self.now ≡ pair t u)) }
+        ensures { IsTrue result ↔ ((t u : Ty) × (type_of self.now ≡ pair_type t u)) }
     {
         match self {
             ZType::Product(parts) => parts.get().len() == 2,
@@ -141,7 +141,7 @@ impl<'a> ZType<'a> {
 
     /// The types of both parts of a pair.
     pub fn pair(&self) -> Option<(&ZType<'a>, &ZType<'a>)>
-        ensures { MatchOption result ((t u : Ty) → type_of self.now ≡ pair t u → ⊥) (λ p. type_of self.now ≡ pair (type_of p.0.now) (type_of p.1.now)) }
+        ensures { MatchOption result ((t u : Ty) → type_of self.now ≡ pair_type t u → ⊥) (λ p. type_of self.now ≡ pair_type (type_of p.0.now) (type_of p.1.now)) }
     {
         let ZType::Product(parts) = self else {
             return None;
@@ -210,7 +210,7 @@ pub fn pair_type<'a>(
     first: ZType<'a>,
     second: ZType<'a>,
 ) -> Result<ZType<'a>, AllocError>
-    ensures { IfOk result (λ t. type_of t ≡ pair (type_of first.entry) (type_of second.entry)) }
+    ensures { IfOk result (λ t. type_of t ≡ pair_type (type_of first.entry) (type_of second.entry)) }
 {
     let mut parts = Items::with_room(arena, 2)?;
     parts.push(first)?;

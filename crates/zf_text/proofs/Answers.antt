@@ -1,5 +1,5 @@
 -- What an outcome of the rules says of the trees that read the tokens.
-use Rattle.zf_text.proofs.Prelude.{◌∙◌, ◌≡◌, ◌≤◌, [], ap, arith, Err, inl, inr, List, map, max, Ok, refl, Result, sym, ℕ, ◌⊎◌, box_of, BoxTree, ZBox, IsCutInto, IsWantOfMemory, reduced, Symbol, TextFault, TextFaultKind, Token, read_all, height_limit, highest, Parses, ReadsLow, ReadsSpec, Refuses, RefusesSource, Reads, Fails, Refused, TooDeep}
+use Rattle.zf_text.proofs.Prelude.{◌∙◌, ◌≡◌, ◌≤◌, [], ap, arith, Err, inl, inr, List, map, max, Ok, refl, Result, sym, ℕ, ◌⊎◌, box_of, BoxTree, ZBox, IsCutInto, IsWantOfMemory, reduced, Symbol, TextFault, TextFaultKind, Token, read_all, height_limit, highest, Parses, ReadsLow, ReadsSpec, RefusesTokens, RefusesSource, Reads, Fails, Refused, TooDeep}
 use Rattle.zf_scan.specs.declared.fault.TextFaultKind.TheVariants as fault
 use Rattle.zf_tree.specs.declared.tree.Spec.{Spec}
 use Rattle.zf_text.proofs.BoxesRead.{AreRead, all_sound, all_answers}
@@ -27,7 +27,7 @@ none_low n tokens e boxes r low = by (answers n tokens boxes r)
     by (inl a) = let read = a.read in cc
     by (inr d) = let above = d.above in omega arith
 
-pub refused : (kind : TextFaultKind) (line : ℕ) (tokens : List Token) → Fails (read_all height_limit (reduced tokens)) kind line → Refuses kind line tokens
+pub refused : (kind : TextFaultKind) (line : ℕ) (tokens : List Token) → Fails (read_all height_limit (reduced tokens)) kind line → RefusesTokens kind line tokens
 refused fault.OutOfMemory line tokens h = h
 refused fault.Unexpected line tokens h = none_reads height_limit tokens h
 refused fault.NotInProfile line tokens h = none_reads height_limit tokens h
@@ -53,7 +53,7 @@ only_one a b tokens r s =
 
 -- ---- a source
 
-pub refuses_source : (kind : TextFaultKind) (line : ℕ) (source : List ℕ) (tokens : List Token) → IsCutInto source tokens → Refuses kind line tokens
+pub refuses_source : (kind : TextFaultKind) (line : ℕ) (source : List ℕ) (tokens : List Token) → IsCutInto source tokens → RefusesTokens kind line tokens
     → IsWantOfMemory (record { kind = kind; line = line }) ⊎ RefusesSource source (record { kind = kind; line = line })
 refuses_source fault.OutOfMemory line source tokens cut h = inl (refl, h)
 refuses_source fault.Unexpected line source tokens cut h = inr (inr (tokens, cut, h, tt))

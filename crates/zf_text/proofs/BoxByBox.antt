@@ -1,5 +1,5 @@
 -- A source that is read box by box: what the boxes so far are, and what one that is refused says of the whole.
-use Rattle.zf_text.proofs.Prelude.{◌++◌, ◌∙◌, ◌∷◌, ◌≡◌, ◌≤◌, [], ap, append_assoc, arith, Bool, Err, false, inl, inr, length, List, map, Ok, refl, Result, subst, sym, true, ℕ, append-nil, map-append, AllByRecursion, if◌then◌else◌, ◌==◌, ◌||◌, ◌⊎◌, box_of, BoxTree, ZBox, begins_box, BeginsBox, ends_box, Follows, IsBoxAtMost, IsCutOn, IsCutUpTo, IsWantOfMemory, token_at, canonical, closes, is_separator, opens, reduced, reduced_after, starts_closed, Symbol, symbol_of, TextFault, TextFaultKind, Placed, Kind, Token, AreSoFar, Later, ReadsBox, ReadsOneBox, ReadsUpTo, RefusesBox, SpellsUpTo, read_box, read_only, box_height, height_limit, highest, BoxIsLevelled, ReadsSource, Refuses, RefusesSource, first, is_end, Reads, SpellsBox, SpellsBoxes, Fails, Gives, Refused, TooDeep}
+use Rattle.zf_text.proofs.Prelude.{◌++◌, ◌∙◌, ◌∷◌, ◌≡◌, ◌≤◌, [], ap, append_assoc, arith, Bool, Err, false, inl, inr, length, List, map, Ok, refl, Result, subst, sym, true, ℕ, append-nil, map-append, AllByRecursion, if◌then◌else◌, ◌==◌, ◌||◌, ◌⊎◌, box_of, BoxTree, ZBox, begins_box, BeginsBox, ends_box, Follows, IsBoxAtMost, IsCutOn, IsCutUpTo, IsWantOfMemory, token_at, canonical, closes, is_separator, opens, reduced, reduced_after, starts_closed, Symbol, symbol_of, TextFault, TextFaultKind, Placed, Kind, Token, AreSoFar, Later, ReadsBox, ReadsOneBox, ReadsUpTo, RefusesBox, SpellsUpTo, read_box, read_only, box_height, height_limit, highest, BoxIsLevelled, ReadsSource, RefusesTokens, RefusesSource, first, is_end, Reads, SpellsBox, SpellsBoxes, Fails, Gives, Refused, TooDeep}
 use Rattle.zf_scan.specs.declared.fault.TextFaultKind.TheVariants as fault
 use Rattle.zf_scan.specs.declared.scan.Border.{Border}
 use Rattle.zf_scan.specs.declared.token.Kind.TheVariants as k
@@ -164,7 +164,7 @@ whole_unread bs ts rs us all f ends e none boxes r =
     let l = f.apart boxes (rs ++ us) r.levelled (subst (SpellsBoxes boxes) e r.spelled) in
     first_unread l.later rs us ends l.levelled l.spelled none
 
-whole_refused : (bs : List BoxTree) (ts rs us : List Symbol) (all : List Token) (kind : TextFaultKind) (line : ℕ) → AreSoFar bs ts → EndsOnce rs → reduced all ≡ ts ++ (rs ++ us) → RefusesBox kind line rs → Refuses kind line all
+whole_refused : (bs : List BoxTree) (ts rs us : List Symbol) (all : List Token) (kind : TextFaultKind) (line : ℕ) → AreSoFar bs ts → EndsOnce rs → reduced all ≡ ts ++ (rs ++ us) → RefusesBox kind line rs → RefusesTokens kind line all
 whole_refused bs ts rs us all fault.OutOfMemory line f ends e h = h
 whole_refused bs ts rs us all fault.Unexpected line f ends e h = whole_unread bs ts rs us all f ends e h
 whole_refused bs ts rs us all fault.NotInProfile line f ends e h = whole_unread bs ts rs us all f ends e h

@@ -1,5 +1,5 @@
 -- Schema references, declarations and predicates: what is read is spelled, and what is spelled is read.
-use Rattle.zf_text.proofs.Prelude.{◌+◌, ◌∙◌, ◌∷◌, ◌≡◌, ◌≤◌, [], ap, arith, Bool, Err, false, inl, inr, length, List, map, Ok, refl, subst, sym, true, ℕ, leb-false, leb-true, AllByRecursion, if◌then◌else◌, ◌||◌, nat_le, decl_of, DeclTree, include, Tree, vars, tree_of, Name, RefMark, Delta, Plain, Xi, Term, is_mark, next_of, separator, Symbol, symbol, Mark, Kind, decl_height, height, most, atom_level, DeclIsLevelled, expression_level, IsAt, IsLevelled, quantifier_level, first, read_name, rest, parted, Next, PartedBy, Spells, SpellsDecl, SpellsMarked, SpellsName, SpellsNames, SpellsPredicates, SpellsRef, binds, expect, lift, Outcome, read_names, Refused, tall, TooDeep, read_term, Tall}
+use Rattle.zf_text.proofs.Prelude.{◌+◌, ◌∙◌, ◌∷◌, ◌≡◌, ◌≤◌, [], ap, arith, Bool, Err, false, inl, inr, length, List, map, Ok, refl, subst, sym, true, ℕ, leb-false, leb-true, AllByRecursion, if◌then◌else◌, ◌||◌, nat_le, decl_of, DeclTree, include, Tree, vars, tree_of, Name, RefMark, Delta, Plain, Xi, Term, is_mark, next_of, separator, Symbol, symbol, Mark, Kind, decl_height, tree_height, most, atom_level, DeclIsLevelled, expression_level, IsAt, IsLevelled, quantifier_level, first, read_name, rest, parted, Next, PartedBy, Spells, SpellsDecl, SpellsMarked, SpellsName, SpellsNames, SpellsPredicates, SpellsRef, binds, expect, lift, Outcome, read_names, Refused, tall, TooDeep, read_term, Tall}
 use Rattle.zf_scan.specs.declared.next.Mark.TheVariants as mark
 use Rattle.zf_scan.specs.declared.next.Next as code
 use Rattle.zf_scan.specs.declared.token.Kind.TheVariants as k
@@ -18,19 +18,19 @@ use Rattle.zf_text.proofs.BoxItems.{IsThere, Answers, Seen, and_answers, then_an
 
 -- ---- terms
 
-pub term_there : (n least : ℕ) (ts us : List Symbol) (x : Tall Term) → least ≤ atom_level → read_term n least ts ≡ Ok (x, us) → IsThere tree_of height (IsAt least) Spells n x ts us
+pub term_there : (n least : ℕ) (ts us : List Symbol) (x : Tall Term) → least ≤ atom_level → read_term n least ts ≡ Ok (x, us) → IsThere tree_of tree_height (IsAt least) Spells n x ts us
 term_there n least ts us x fits e =
     let s = term_sound n least ts us x fits e in
     record { fits = (s.fits, s.levelled); high_is = s.high; low = s.low; spelled = s.spelled }
 
-by_outcome : (n least : ℕ) (t : Tree) (ts us : List Symbol) (o : Outcome (Tall Term)) → least ≤ atom_level → read_term n least ts ≡ o → Answered n o t us → Answers (Seen tree_of t (height t)) n (height t) o us
+by_outcome : (n least : ℕ) (t : Tree) (ts us : List Symbol) (o : Outcome (Tall Term)) → least ≤ atom_level → read_term n least ts ≡ o → Answered n o t us → Answers (Seen tree_of t (tree_height t)) n (tree_height t) o us
 by_outcome n least t ts us (Ok p) fits e a =
     let s = term_sound n least ts p.1 p.0 fits e in
-    inl (record { value = p.0; is = record { is = a.0; high = s.high ∙ ap height a.0 }; low = a.2; read = ap (λ us. Ok (p.0, us)) a.1 })
+    inl (record { value = p.0; is = record { is = a.0; high = s.high ∙ ap tree_height a.0 }; low = a.2; read = ap (λ us. Ok (p.0, us)) a.1 })
 by_outcome n least t ts us (Err Refused) fits e a = absurd a
 by_outcome n least t ts us (Err TooDeep) fits e a = inr (record { above = a; refused = refl })
 
-pub term_read : (n least : ℕ) (t : Tree) (ts us : List Symbol) → least ≤ atom_level → IsAt least t → Spells t ts us → binds (first us) ≤ least → Answers (Seen tree_of t (height t)) n (height t) (read_term n least ts) us
+pub term_read : (n least : ℕ) (t : Tree) (ts us : List Symbol) → least ≤ atom_level → IsAt least t → Spells t ts us → binds (first us) ≤ least → Answers (Seen tree_of t (tree_height t)) n (tree_height t) (read_term n least ts) us
 term_read n least t ts us fits at h stop =
     by_outcome n least t ts us (read_term n least ts) fits refl (term_answers n least t ts us at h stop)
 
@@ -138,11 +138,11 @@ variables_answers : (n : ℕ) (ns : List Name) (t : Tree) (ts us : List Symbol) 
 unfolding variables
 variables_answers n ns t ts us at h stop =
     let (a, b, names, colon, set) = h in
-    let Is = Seen decl_of (vars ns t) (height t) in
-    then_answers Is n (height t) (read_names ts) _ ns a us (ok_names ns ts a (not_at mark.Comma k.Colon a b colon refl) names)
-    (then_answers Is n (height t) (expect mark.Colon a) _ tt b us (ok_expect mark.Colon a b colon)
-    (and_answers (Seen tree_of t (height t)) Is n (height t) n (height t) (read_term n expression_level b) _ us us (λ above. above) (term_read n expression_level t b us (omega arith) at set stop)
-    (λ x s low. done Is n (height t) (tall (decl.Vars ns x.part) x.height) us (record { is = ap (vars ns) s.is; high = s.high }) low)))
+    let Is = Seen decl_of (vars ns t) (tree_height t) in
+    then_answers Is n (tree_height t) (read_names ts) _ ns a us (ok_names ns ts a (not_at mark.Comma k.Colon a b colon refl) names)
+    (then_answers Is n (tree_height t) (expect mark.Colon a) _ tt b us (ok_expect mark.Colon a b colon)
+    (and_answers (Seen tree_of t (tree_height t)) Is n (tree_height t) n (tree_height t) (read_term n expression_level b) _ us us (λ above. above) (term_read n expression_level t b us (omega arith) at set stop)
+    (λ x s low. done Is n (tree_height t) (tall (decl.Vars ns x.part) x.height) us (record { is = ap (vars ns) s.is; high = s.high }) low)))
 
 inclusion_answers : (n : ℕ) (r : SchemaRef) (ts us : List Symbol) → SpellsRef r ts us → DeclIsRead n (include r) (inclusion n ts) us
 unfolding inclusion
@@ -156,7 +156,7 @@ inclusion_answers n r ts us h =
 pub decl_answers : (n : ℕ) (d : DeclTree) (ts us : List Symbol) → DeclIsLevelled d → SpellsDecl d ts us → Stops (first us) → DeclIsRead n d (read_decl n ts) us
 unfolding read_decl
 decl_answers n (vars ns t) ts us lev h stop =
-    if_true (Seen decl_of (vars ns t) (height t)) n (height t) (is_declared ts) _ _ us (declared ns ts h.0 h.1 h.2 h.3) (variables_answers n ns t ts us lev h (omega (arith, stop.loose)))
+    if_true (Seen decl_of (vars ns t) (tree_height t)) n (tree_height t) (is_declared ts) _ _ us (declared ns ts h.0 h.1 h.2 h.3) (variables_answers n ns t ts us lev h (omega (arith, stop.loose)))
 decl_answers n (include r) ts us lev h stop =
     if_false (Seen decl_of (include r) 1) n 1 (is_declared ts) _ _ us (not_declared r.mark r.name ts us h stop) (inclusion_answers n r ts us h)
 
@@ -186,13 +186,13 @@ decls_shorter ds ts us h = items_shorter decl_of decl_height DeclIsLevelled Spel
 -- ---- predicates
 
 abbrev pub PredicatesAreThere : Mark → ℕ → Tall (List Term) → List Symbol → List Symbol → Type 0
-PredicatesAreThere m = IsThere (map tree_of) (most height) (AllByRecursion IsLevelled) (SpellsPredicates (kind_of m))
+PredicatesAreThere m = IsThere (map tree_of) (most tree_height) (AllByRecursion IsLevelled) (SpellsPredicates (kind_of m))
 
 behind : (kind : Kind) (ps : List Tree) (ts a us : List Symbol) → Next kind ts a → PartedBy separator Spells ps a us → SpellsPredicates kind ps ts us
 behind kind [] ts a us next all = absurd all
 behind kind (p ∷ ps) ts a us next all = (a, next, all)
 
-predicate_sound : (n : ℕ) (ts us : List Symbol) (x : Tall Term) → read_term n quantifier_level ts ≡ Ok (x, us) → IsThere tree_of height IsLevelled Spells n x ts us
+predicate_sound : (n : ℕ) (ts us : List Symbol) (x : Tall Term) → read_term n quantifier_level ts ≡ Ok (x, us) → IsThere tree_of tree_height IsLevelled Spells n x ts us
 predicate_sound n ts us x e =
     let s = term_sound n quantifier_level ts us x (omega arith) e in
     record { fits = s.levelled; high_is = s.high; low = s.low; spelled = s.spelled }
@@ -202,33 +202,33 @@ unfolding predicates
 predicates_sound n m ts us xs e =
     if_cases (is_mark m (first ts)) _ _ (xs, us) e
     (λ is e.
-    let s = items_sound tree_of height IsLevelled Spells mark.Separator n (read_term n quantifier_level) (predicate_sound n) (rest ts) us xs e in
+    let s = items_sound tree_of tree_height IsLevelled Spells mark.Separator n (read_term n quantifier_level) (predicate_sound n) (rest ts) us xs e in
     record { fits = s.fits; high_is = s.high_is; low = s.low; spelled = behind (kind_of m) (map tree_of xs.part) ts (rest ts) us (marks.marked m ts is) s.spelled })
     (λ is e. subst (λ p. PredicatesAreThere m n p.0 ts p.1) (ok_pair (tall [] 0, ts) (xs, us) e) (record { fits = tt; high_is = refl; low = omega arith; spelled = refl }))
 
 abbrev IsLoose : code.Next → Type 0
 IsLoose x = binds x ≤ quantifier_level
 
-predicate_answers : (n : ℕ) (t : Tree) (ts us : List Symbol) → IsLevelled t → Spells t ts us → IsLoose (first us) → Answers (Seen tree_of t (height t)) n (height t) (read_term n quantifier_level ts) us
+predicate_answers : (n : ℕ) (t : Tree) (ts us : List Symbol) → IsLevelled t → Spells t ts us → IsLoose (first us) → Answers (Seen tree_of t (tree_height t)) n (tree_height t) (read_term n quantifier_level ts) us
 predicate_answers n t ts us lev h stop = term_read n quantifier_level t ts us (omega arith) (omega arith, lev) h stop
 
 pub predicates_answers : (n : ℕ) (m : Mark) (ps : List Tree) (ts us : List Symbol) → is_mark m (first us) ≡ false → is_mark mark.Separator (first us) ≡ false → binds (first us) ≤ quantifier_level → AllByRecursion IsLevelled ps
-    → SpellsPredicates (kind_of m) ps ts us → Answers (Seen (map tree_of) ps (most height ps)) n (most height ps) (predicates n m ts) us
+    → SpellsPredicates (kind_of m) ps ts us → Answers (Seen (map tree_of) ps (most tree_height ps)) n (most tree_height ps) (predicates n m ts) us
 unfolding predicates
 predicates_answers n m [] ts us none last stop all h =
     let Is = Seen (map tree_of) [] 0 in
     if_false Is n 0 (is_mark m (first ts)) _ _ us (ap (λ ts. is_mark m (first ts)) h ∙ none)
     (subst (λ ts. Answers Is n 0 (Ok (tall [] 0, ts)) us) (sym h) (done Is n 0 (tall [] 0) us (record { is = refl; high = refl }) (omega arith)))
 predicates_answers n m (p ∷ ps) ts us none last stop all h =
-    let Is = Seen (map tree_of) (p ∷ ps) (most height (p ∷ ps)) in
-    if_true Is n (most height (p ∷ ps)) (is_mark m (first ts)) _ _ us (seen m ts h.0 h.1)
-    (subst (λ a. Answers Is n (most height (p ∷ ps)) (items mark.Separator (read_term n quantifier_level) a) us) (sym (passed ts h.0 h.1))
-    (items_answers tree_of height IsLevelled Spells mark.Separator n (read_term n quantifier_level) IsLoose (omega arith) term_shorter (predicate_answers n) (p ∷ ps) h.0 us last stop all h.2))
+    let Is = Seen (map tree_of) (p ∷ ps) (most tree_height (p ∷ ps)) in
+    if_true Is n (most tree_height (p ∷ ps)) (is_mark m (first ts)) _ _ us (seen m ts h.0 h.1)
+    (subst (λ a. Answers Is n (most tree_height (p ∷ ps)) (items mark.Separator (read_term n quantifier_level) a) us) (sym (passed ts h.0 h.1))
+    (items_answers tree_of tree_height IsLevelled Spells mark.Separator n (read_term n quantifier_level) IsLoose (omega arith) term_shorter (predicate_answers n) (p ∷ ps) h.0 us last stop all h.2))
 
 pub predicates_shorter : (kind : Kind) (ps : List Tree) (ts us : List Symbol) → SpellsPredicates kind ps ts us → length us ≤ length ts
 predicates_shorter kind [] ts us h = omega (arith, ap length h)
 predicates_shorter kind (p ∷ ps) ts us h =
-    omega (arith, next_shorter ts h.0 h.1, items_shorter tree_of height IsLevelled Spells mark.Separator 0 (read_term 0 quantifier_level) term_shorter (p ∷ ps) h.0 us h.2)
+    omega (arith, next_shorter ts h.0 h.1, items_shorter tree_of tree_height IsLevelled Spells mark.Separator 0 (read_term 0 quantifier_level) term_shorter (p ∷ ps) h.0 us h.2)
 
 -- ---- a schema box with generic parameters
 

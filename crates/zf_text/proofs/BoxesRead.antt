@@ -1,5 +1,5 @@
 -- Boxes and whole texts: what is read is spelled, and what is spelled is read.
-use Rattle.zf_text.proofs.Prelude.{◌++◌, ◌+◌, ◌∙◌, ◌∷◌, ◌≡◌, ◌≤◌, [], ap, append_assoc, arith, false, length, List, map, max, Ok, refl, subst, suc, sym, true, zero, ℕ, append-nil, map-append, AllByRecursion, box_of, BoxTree, decl_of, DeclTree, paragraph_of, ParagraphTree, schema_box, Tree, zed, tree_of, Name, ZBox, is_mark, next_of, separator, Symbol, symbol, Kind, SpellsUpTo, box_by, predicates, read_decls, read_paragraph, boxes_from, items, read_all, read_box, read_boxes, read_schema_box, read_zed, box_height, decl_height, height, highest, most, paragraph_height, BoxIsLevelled, ParagraphIsLevelled, quantifier_level, first, is_end, read_opening, Next, PartedBy, SpellsBox, SpellsBoxes, SpellsParagraph, binds, expect, lift, Outcome}
+use Rattle.zf_text.proofs.Prelude.{◌++◌, ◌+◌, ◌∙◌, ◌∷◌, ◌≡◌, ◌≤◌, [], ap, append_assoc, arith, false, length, List, map, max, Ok, refl, subst, suc, sym, true, zero, ℕ, append-nil, map-append, AllByRecursion, box_of, BoxTree, decl_of, DeclTree, paragraph_of, ParagraphTree, schema_box, Tree, zed, tree_of, Name, ZBox, is_mark, next_of, separator, Symbol, symbol, Kind, SpellsUpTo, box_by, predicates, read_decls, read_paragraph, boxes_from, items, read_all, read_box, read_boxes, read_schema_box, read_zed, box_height, decl_height, tree_height, highest, most, paragraph_height, BoxIsLevelled, ParagraphIsLevelled, quantifier_level, first, is_end, read_opening, Next, PartedBy, SpellsBox, SpellsBoxes, SpellsParagraph, binds, expect, lift, Outcome}
 use Rattle.zf_scan.specs.declared.next.Mark.TheVariants as mark
 use Rattle.zf_scan.specs.declared.token.Kind.TheVariants as k
 use Rattle.zf_tree.specs.declared.tree.ZBox.TheVariants as zbox
@@ -88,7 +88,7 @@ schema_box_answers n name ds ps ts us lev h =
     then_answers Is n h (lift (read_opening ts)) _ m a us opened
     (and_answers (Seen (map decl_of) ds (most decl_height ds)) Is n (most decl_height ds) n h (read_decls n a) _ b us (λ above. omega arith) (decls_answers n ds a b last stop lev.0 decls)
     (λ xs sx low_x.
-    and_answers (Seen (map tree_of) ps (most height ps)) Is n (most height ps) n h (predicates n mark.Where b) _ c us (λ above. omega arith)
+    and_answers (Seen (map tree_of) ps (most tree_height ps)) Is n (most tree_height ps) n h (predicates n mark.Where b) _ c us (λ above. omega arith)
     (predicates_answers n mark.Where ps b c (not_at mark.Where k.EndBox c us end refl) (not_at mark.Separator k.EndBox c us end refl) loose lev.1 under)
     (λ ys sy low_y.
     let same : schema_box m (map decl_of xs.part) (map tree_of ys.part) ≡ schema_box name ds ps = ap (λ m. schema_box m (map decl_of xs.part) (map tree_of ys.part)) m_is ∙ ap (λ ds. schema_box name ds (map tree_of ys.part)) sx.is ∙ ap (schema_box name ds) sy.is in

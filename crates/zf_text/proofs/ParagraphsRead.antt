@@ -1,5 +1,5 @@
 -- Paragraphs: what is read is spelled, and what is spelled is read.
-use Rattle.zf_text.proofs.Prelude.{◌∙◌, ◌∷◌, ◌≡◌, ◌≤◌, [], ap, arith, false, length, List, Ok, refl, subst, sym, true, ℕ, is_bare, paragraph_of, ParagraphTree, schema_of, SchemaTree, Tree, tree_of, Name, is_mark, next_of, Symbol, symbol, Kind, height, paragraph_height, schema_height, expression_level, IsAt, ParagraphIsLevelled, SchemaIsLevelled, first, read_name, rest, parted, Next, PartedBy, Spells, SpellsName, SpellsNames, SpellsParagraph, SpellsSchema, binds, expect, lift, Outcome, read_names, tall, read_term, Tall}
+use Rattle.zf_text.proofs.Prelude.{◌∙◌, ◌∷◌, ◌≡◌, ◌≤◌, [], ap, arith, false, length, List, Ok, refl, subst, sym, true, ℕ, is_bare, paragraph_of, ParagraphTree, schema_tree_of, SchemaTree, Tree, tree_of, Name, is_mark, next_of, Symbol, symbol, Kind, tree_height, paragraph_height, schema_height, expression_level, IsAt, ParagraphIsLevelled, SchemaIsLevelled, first, read_name, rest, parted, Next, PartedBy, Spells, SpellsName, SpellsNames, SpellsParagraph, SpellsSchema, binds, expect, lift, Outcome, read_names, tall, read_term, Tall}
 use Rattle.zf_scan.specs.declared.next.Mark.TheVariants as mark
 use Rattle.zf_scan.specs.declared.next.Next as code
 use Rattle.zf_scan.specs.declared.token.Kind.TheVariants as k
@@ -108,16 +108,16 @@ free_answers n name ns ts us h stop =
 abbreviation_answers : (n : ℕ) (name : Name) (t : Tree) (ts us : List Symbol) → IsAt expression_level t → Spells t ts us → binds (first us) ≤ expression_level → ParagraphIsRead n (shape.abbreviation name t) (abbreviation n name ts) us
 unfolding abbreviation
 abbreviation_answers n name t ts us at h stop =
-    let Is = Seen paragraph_of (shape.abbreviation name t) (height t) in
-    and_answers (Seen tree_of t (height t)) Is n (height t) n (height t) (read_term n expression_level ts) _ us us (λ above. above) (term_read n expression_level t ts us (omega arith) at h stop)
-    (λ x s low. done Is n (height t) (tall (paragraph.Abbrev name x.part) x.height) us (record { is = ap (shape.abbreviation name) s.is; high = s.high }) low)
+    let Is = Seen paragraph_of (shape.abbreviation name t) (tree_height t) in
+    and_answers (Seen tree_of t (tree_height t)) Is n (tree_height t) n (tree_height t) (read_term n expression_level ts) _ us us (λ above. above) (term_read n expression_level t ts us (omega arith) at h stop)
+    (λ x s low. done Is n (tree_height t) (tall (paragraph.Abbrev name x.part) x.height) us (record { is = ap (shape.abbreviation name) s.is; high = s.high }) low)
 
 definition_answers : (n : ℕ) (name : Name) (t : SchemaTree) (ts us : List Symbol) → name.strokes ≡ [] → SchemaIsLevelled t → SpellsSchema t ts us → Closes (first us) → ParagraphIsRead n (shape.definition name t) (definition n name ts) us
 unfolding definition
 definition_answers n name t ts us bare lev h closes =
     let Is = Seen paragraph_of (shape.definition name t) (schema_height t) in
     if_true Is n (schema_height t) (is_bare name.strokes) _ _ us (ap is_bare bare)
-    (and_answers (Seen schema_of t (schema_height t)) Is n (schema_height t) n (schema_height t) (read_schema n ts) _ us us (λ above. above) (schema_answers n t ts us lev h closes)
+    (and_answers (Seen schema_tree_of t (schema_height t)) Is n (schema_height t) n (schema_height t) (read_schema n ts) _ us us (λ above. above) (schema_answers n t ts us lev h closes)
     (λ x s low. done Is n (schema_height t) (tall (paragraph.Defs name x.part) x.height) us (record { is = ap (shape.definition name) s.is; high = s.high }) low))
 
 -- after a name and its symbol

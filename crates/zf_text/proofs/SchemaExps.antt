@@ -1,5 +1,5 @@
 -- Schema expressions: what is read is spelled, and what is spelled is read.
-use Rattle.zf_text.proofs.Prelude.{◌+◌, ◌-◌, ◌<◌, ◌∙◌, ◌∷◌, ◌≡◌, ◌≤◌, [], ap, arith, Bool, Err, false, inl, inr, length, List, map, max, Ok, refl, subst, suc, sym, true, zero, ℕ, leb-false, leb-true, AllByRecursion, if◌then◌else◌, ◌⊎◌, nat_le, both, decl_of, DeclTree, either, reference, schema_of, SchemaTree, Tree, tree_of, And, Or, Name, RefMark, Delta, Plain, Xi, SchemaExp, is_mark, next_of, separator, Symbol, symbol, Kind, is_and, is_or, predicates, read_decls, read_ref, schema_part_by, conjunction, disjunction, joined, read_schema, schema_bracket, schema_part, schema_text, decl_height, height, most, schema_height, DeclIsLevelled, IsLevelled, quantifier_level, schema_level, SchemaIsLevelled, first, rest, IsOn, Next, PartedBy, SpellsDecl, SpellsMarked, SpellsPredicates, SpellsSchema, and_then, binds, expect, here, Outcome, Parser, tall, TooDeep, Tall}
+use Rattle.zf_text.proofs.Prelude.{◌+◌, ◌-◌, ◌<◌, ◌∙◌, ◌∷◌, ◌≡◌, ◌≤◌, [], ap, arith, Bool, Err, false, inl, inr, length, List, map, max, Ok, refl, subst, suc, sym, true, zero, ℕ, leb-false, leb-true, AllByRecursion, if◌then◌else◌, ◌⊎◌, nat_le, both, decl_of, DeclTree, either, reference, schema_tree_of, SchemaTree, Tree, tree_of, And, Or, Name, RefMark, Delta, Plain, Xi, SchemaExp, is_mark, next_of, separator, Symbol, symbol, Kind, is_and, is_or, predicates, read_decls, read_ref, schema_part_by, conjunction, disjunction, joined, read_schema, schema_bracket, schema_part, schema_text, decl_height, tree_height, most, schema_height, DeclIsLevelled, IsLevelled, quantifier_level, schema_level, SchemaIsLevelled, first, rest, IsOn, Next, PartedBy, SpellsDecl, SpellsMarked, SpellsPredicates, SpellsSchema, and_then, binds, expect, here, Outcome, Parser, tall, TooDeep, Tall}
 use Rattle.zf_scan.specs.declared.next.Mark.TheVariants as mark
 use Rattle.zf_scan.specs.declared.next.Next as code
 use Rattle.zf_scan.specs.declared.token.Kind.TheVariants as k
@@ -56,10 +56,10 @@ abbrev pub SchemaIsAt : ℕ → SchemaTree → Type 0
 SchemaIsAt place t = (place ≤ schema_level t) × SchemaIsLevelled t
 
 abbrev pub SchemaIsThere : ℕ → ℕ → Tall SchemaExp → List Symbol → List Symbol → Type 0
-SchemaIsThere place = IsThere schema_of schema_height (SchemaIsAt place) SpellsSchema
+SchemaIsThere place = IsThere schema_tree_of schema_height (SchemaIsAt place) SpellsSchema
 
 -- an expression that was made is seen as a tree that is there
-made : (place n : ℕ) (t : SchemaTree) (x : SchemaExp) (h : ℕ) (ts us vs : List Symbol) (y : Tall SchemaExp) → schema_of x ≡ t → ◌≡◌ {A = Outcome (Tall SchemaExp)} (Ok (tall x h, us)) (Ok (y, vs))
+made : (place n : ℕ) (t : SchemaTree) (x : SchemaExp) (h : ℕ) (ts us vs : List Symbol) (y : Tall SchemaExp) → schema_tree_of x ≡ t → ◌≡◌ {A = Outcome (Tall SchemaExp)} (Ok (tall x h, us)) (Ok (y, vs))
     → SchemaIsAt place t → h ≡ schema_height t → h ≤ n → SpellsSchema t ts us → SchemaIsThere place n y ts vs
 made place n t x h ts us vs y is e at high low spelled =
     subst (λ p. SchemaIsThere place n p.0 ts p.1) (ok_pair (tall x h, us) (y, vs) e)
@@ -111,7 +111,7 @@ module _ (n : ℕ) (below : Parser (Tall SchemaExp)) (ok : SchemaIsSound n below
       let s = ok ts y.1 y.0 y.2 in
       let high = s.high_is in
       let low = s.low in
-      made 2 (n + 1) (shape.schema_bracket (schema_of y.0.part)) (schema.Bracket y.0.part) (y.0.height + 1) begin end.1 us x (of.of-Bracket y.0.part) end.3
+      made 2 (n + 1) (shape.schema_bracket (schema_tree_of y.0.part)) (schema.Bracket y.0.part) (y.0.height + 1) begin end.1 us x (of.of-Bracket y.0.part) end.3
       (omega arith, s.fits.1) (omega arith) (omega arith) (ts, y.1, opened, s.spelled, expect_ok mark.CloseRound y.1 end.1 end.0 end.2)
 
   part_at : (kind : Kind) (line : ℕ) (ts us : List Symbol) (x : Tall SchemaExp) → schema_part_by n below (next_of kind) (symbol kind line ∷ ts) ≡ Ok (x, us) → SchemaIsThere 2 (n + 1) x (symbol kind line ∷ ts) us
@@ -130,7 +130,7 @@ module _ (n : ℕ) (below : Parser (Tall SchemaExp)) (ok : SchemaIsSound n below
       let t = part_sound (rest a) us y e in
       let high_s = s.high_is in
       let high_t = t.high_is in
-      made 1 (n + 1) (both (schema_of x.part) (schema_of y.part)) (schema.Both x.part y.part) (max x.height y.height + 1) begin us us _ (of.of-Both x.part y.part) refl
+      made 1 (n + 1) (both (schema_tree_of x.part) (schema_tree_of y.part)) (schema.Both x.part y.part) (max x.height y.height + 1) begin us us _ (of.of-Both x.part y.part) refl
       (omega arith, (s.fits.0, t.fits.0, s.fits.1, t.fits.1)) (omega arith) low (a, rest a, s.spelled, and_is a is, t.spelled)
 
   conjunction_sound : (ts us : List Symbol) (x : Tall SchemaExp) → conjunction n below ts ≡ Ok (x, us) → SchemaIsThere 1 (n + 1) x ts us
@@ -148,8 +148,8 @@ module _ (n : ℕ) (below : Parser (Tall SchemaExp)) (ok : SchemaIsSound n below
       let t = conjunction_sound (rest a) us y e in
       let high_s = s.high_is in
       let high_t = t.high_is in
-      made 0 (n + 1) (either (here begin) (schema_of x.part) (schema_of y.part)) (schema.Or (here begin) x.part y.part) (max x.height y.height + 1) begin us us _ (of.of-Or (here begin) x.part y.part) refl
-      (omega arith, (t.fits.0, s.fits.1, t.fits.1)) (omega arith) low (a, rest a, is_here begin a (schema_shorter (schema_of x.part) begin a s.spelled), s.spelled, or_is a is, t.spelled)
+      made 0 (n + 1) (either (here begin) (schema_tree_of x.part) (schema_tree_of y.part)) (schema.Or (here begin) x.part y.part) (max x.height y.height + 1) begin us us _ (of.of-Or (here begin) x.part y.part) refl
+      (omega arith, (t.fits.0, s.fits.1, t.fits.1)) (omega arith) low (a, rest a, is_here begin a (schema_shorter (schema_tree_of x.part) begin a s.spelled), s.spelled, or_is a is, t.spelled)
 
   disjunction_sound : (ts us : List Symbol) (x : Tall SchemaExp) → disjunction n below ts ≡ Ok (x, us) → SchemaIsThere 0 (n + 1) x ts us
   unfolding disjunction
@@ -170,7 +170,7 @@ schema_sound (suc n) ts us x e =
 -- ---- what is there is read
 
 abbrev pub SchemaIsRead : ℕ → SchemaTree → Outcome (Tall SchemaExp) → List Symbol → Type 0
-SchemaIsRead n t o us = Answers (Seen schema_of t (schema_height t)) n (schema_height t) o us
+SchemaIsRead n t o us = Answers (Seen schema_tree_of t (schema_height t)) n (schema_height t) o us
 
 ref_first : (n : ℕ) (below : Parser (Tall SchemaExp)) (m : RefMark) (r : Name) (ts us : List Symbol) → SpellsMarked m r ts us → schema_part n below ts ≡ and_then (read_ref ts) (λ r us. Ok (tall (schema.Ref r) 1, us))
 unfolding schema_part
@@ -187,7 +187,7 @@ begins P kind end (p ∷ ps) ts a us h close begin ends = subst (λ ts. P (first
 module _ (joins : code.Next → Bool) (operand : Parser (Tall SchemaExp)) (make : SchemaExp → SchemaExp → SchemaExp) (highest : ℕ) (start : Outcome (Tall SchemaExp)) where
   record IsRun (t : SchemaTree) (us : List Symbol) : Type 0 where
     value : Tall SchemaExp
-    is : Seen schema_of t (schema_height t) value
+    is : Seen schema_tree_of t (schema_height t) value
     low : schema_height t ≤ highest
     turns : ℕ
     enough : length us ≤ turns
@@ -199,8 +199,8 @@ module _ (joins : code.Next → Bool) (operand : Parser (Tall SchemaExp)) (make 
   -- one more operand
   module _ (t u node : SchemaTree) (mid b us : List Symbol) (is_joined : joins (first mid) ≡ true) (after : rest mid ≡ b) (shorter : length b + 1 ≤ length mid) (short : length us ≤ length b)
       (high : schema_height node ≡ max (schema_height t) (schema_height u) + 1)
-      (seen : (x y : SchemaExp) → schema_of x ≡ t → schema_of y ≡ u → schema_of (make x y) ≡ node) where
-    fits : (r : IsRun t mid) (j : ℕ) (y : Tall SchemaExp) → Seen schema_of u (schema_height u) y → length us ≤ j
+      (seen : (x y : SchemaExp) → schema_tree_of x ≡ t → schema_tree_of y ≡ u → schema_tree_of (make x y) ≡ node) where
+    fits : (r : IsRun t mid) (j : ℕ) (y : Tall SchemaExp) → Seen schema_tree_of u (schema_height u) y → length us ≤ j
         → start ≡ (if nat_le (max r.value.height y.height + 1) highest then joined joins operand make highest j (tall (make r.value.part y.part) (max r.value.height y.height + 1)) us else Err TooDeep)
         → (c : Bool) → nat_le (max r.value.height y.height + 1) highest ≡ c → Runs node us
     fits r j y sy few e true is =
@@ -275,14 +275,14 @@ module _ (n : ℕ) (below : Parser (Tall SchemaExp)) (ok : SchemaIsComplete n be
       → SchemaIsRead (n + 1) (shape.schema_text ds ps) (schema_text n ts) us
   unfolding schema_text
   text_answers ds ps ts us lev_d lev_p b c decls under close =
-      let Is = Seen schema_of (shape.schema_text ds ps) (schema_height (shape.schema_text ds ps)) in
+      let Is = Seen schema_tree_of (shape.schema_text ds ps) (schema_height (shape.schema_text ds ps)) in
       let h = schema_height (shape.schema_text ds ps) in
       let last : is_mark mark.Separator (first b) ≡ false = begins (λ x. is_mark mark.Separator x ≡ false) k.Bar k.CloseSquare ps b c us under close refl refl in
       let stop : Stops (first b) = begins Stops k.Bar k.CloseSquare ps b c us under close (record { loose = omega arith; no_comma = refl; no_colon = refl }) (record { loose = omega arith; no_comma = refl; no_colon = refl }) in
       let loose : binds (first c) ≤ quantifier_level = subst (λ c. binds (first c) ≤ quantifier_level) (sym close.1) (omega arith) in
       and_answers (Seen (map decl_of) ds (most decl_height ds)) Is n (most decl_height ds) (n + 1) h (read_decls n ts) _ b us (λ above. omega arith) (decls_answers n ds ts b last stop lev_d decls)
       (λ xs sx low_x.
-      and_answers (Seen (map tree_of) ps (most height ps)) Is n (most height ps) (n + 1) h (predicates n mark.Bar b) _ c us (λ above. omega arith)
+      and_answers (Seen (map tree_of) ps (most tree_height ps)) Is n (most tree_height ps) (n + 1) h (predicates n mark.Bar b) _ c us (λ above. omega arith)
       (predicates_answers n mark.Bar ps b c (not_at mark.Bar k.CloseSquare c us close refl) (not_at mark.Separator k.CloseSquare c us close refl) loose lev_p under)
       (λ ys sy low_y.
       let high_x = sx.high in
@@ -294,9 +294,9 @@ module _ (n : ℕ) (below : Parser (Tall SchemaExp)) (ok : SchemaIsComplete n be
   bracket_answers : (t : SchemaTree) (ts b us : List Symbol) → SchemaIsLevelled t → SpellsSchema t ts b → Next k.CloseRound b us → SchemaIsRead (n + 1) (shape.schema_bracket t) (schema_bracket n below ts) us
   unfolding schema_bracket
   bracket_answers t ts b us lev h close =
-      let Is = Seen schema_of (shape.schema_bracket t) (schema_height t + 1) in
+      let Is = Seen schema_tree_of (shape.schema_bracket t) (schema_height t + 1) in
       let closes : Closes (first b) = subst (λ b. Closes (first b)) (sym close.1) (record { no_and = refl; no_or = refl }) in
-      and_answers (Seen schema_of t (schema_height t)) Is n (schema_height t) (n + 1) (schema_height t + 1) (below ts) _ b us (λ above. omega arith) (ok t ts b lev h closes)
+      and_answers (Seen schema_tree_of t (schema_height t)) Is n (schema_height t) (n + 1) (schema_height t + 1) (below ts) _ b us (λ above. omega arith) (ok t ts b lev h closes)
       (λ x s low.
       let high = s.high in
       then_answers Is (n + 1) (schema_height t + 1) (expect mark.CloseRound b) _ tt us us (ok_expect mark.CloseRound b us close)
@@ -312,7 +312,7 @@ module _ (n : ℕ) (below : Parser (Tall SchemaExp)) (ok : SchemaIsComplete n be
       subst (λ o. SchemaIsRead (n + 1) (shape.schema_text ds ps) o us) (sym (part_is k.OpenSquare ts a begin (schema_text n a) (λ line. refl)))
       (text_answers ds ps a us at.1.0 at.1.1 b c decls under close)
   part_answers (reference r) ts us at h =
-      let Is = Seen schema_of (reference r) 1 in
+      let Is = Seen schema_tree_of (reference r) 1 in
       subst (λ o. SchemaIsRead (n + 1) (reference r) o us) (sym (ref_first n below r.mark r.name ts us h))
       (then_answers Is (n + 1) 1 (read_ref ts) _ r us us (ref_read r ts us h) (done Is (n + 1) 1 (tall (schema.Ref r) 1) us (record { is = of.of-Ref r; high = refl }) (omega arith)))
   part_answers (both a b) ts us at h = absurd (omega (arith, at.0))
@@ -334,7 +334,7 @@ module _ (n : ℕ) (below : Parser (Tall SchemaExp)) (ok : SchemaIsComplete n be
       let after = part_answers b c us (at.1.1, at.1.3) right in
       turn is_and (schema_part n below) schema.Both (n + 1) (and_then (schema_part n below ts) (λ x us. joined is_and (schema_part n below) schema.Both (n + 1) (length us) x us)) a b (both a b) mid c us
       (ap (λ ts. is_and (first ts)) next.1) (passed mid c next) (next_shorter mid c next) (omega (arith, schema_shorter b c us right)) refl
-      (λ x y is_x is_y. of.of-Both x y ∙ ap (λ a. both a (schema_of y)) is_x ∙ ap (both a) is_y) runs after
+      (λ x y is_x is_y. of.of-Both x y ∙ ap (λ a. both a (schema_tree_of y)) is_x ∙ ap (both a) is_y) runs after
   and_runs (either l a b) ts us at h = absurd (omega (arith, at.0))
   and_runs (shape.schema_text ds ps) ts us at h = and_begun (shape.schema_text ds ps) ts us (omega arith, at.1) h
   and_runs (reference r) ts us at h = and_begun (reference r) ts us (omega arith, at.1) h
@@ -358,7 +358,7 @@ module _ (n : ℕ) (below : Parser (Tall SchemaExp)) (ok : SchemaIsComplete n be
       let after = conjunction_answers b c us (lev.0, lev.2) right none in
       turn is_or (conjunction n below) (schema.Or (here ts)) (n + 1) (and_then (conjunction n below ts) (λ x us. joined is_or (conjunction n below) (schema.Or (here ts)) (n + 1) (length us) x us)) a b (either l a b) mid c us
       (ap (λ ts. is_or (first ts)) next.1) (passed mid c next) (next_shorter mid c next) (omega (arith, schema_shorter b c us right)) refl
-      (λ x y is_x is_y. of.of-Or (here ts) x y ∙ ap (λ l. either l (schema_of x) (schema_of y)) (here_is l ts on) ∙ ap (λ a. either l a (schema_of y)) is_x ∙ ap (either l a) is_y) runs after
+      (λ x y is_x is_y. of.of-Or (here ts) x y ∙ ap (λ l. either l (schema_tree_of x) (schema_tree_of y)) (here_is l ts on) ∙ ap (λ a. either l a (schema_tree_of y)) is_x ∙ ap (either l a) is_y) runs after
   or_runs (both a b) ts us lev h none = or_begun (both a b) ts us (omega arith, lev) h none
   or_runs (shape.schema_text ds ps) ts us lev h none = or_begun (shape.schema_text ds ps) ts us (omega arith, lev) h none
   or_runs (reference r) ts us lev h none = or_begun (reference r) ts us (omega arith, lev) h none

@@ -1,5 +1,5 @@
 -- What begins a term: what is read there is levelled, of the stated height, and spells the symbols.
-use Rattle.zf_text.proofs.Prelude.{◌+◌, ◌<◌, ◌∙◌, ◌∷◌, ◌≡◌, ◌≤◌, [], ap, arith, length, List, max, Ok, refl, subst, sym, true, ℕ, leb-true, nat_le, ident_of, bracket, constant, line_of, named, numeral, part_of, Tree, Trees, tree_of, Listed, Unary, Minus, Quantifier, Name, Term, is_mark, next_of, Symbol, symbol, Mark, Kind, tallest, AreAt, AreEnough, AreTwo, atom_level, expression_level, level, listed_level, member_place, quantifier_level, unary_level, first, After, Before, Closes, IsFirstLine, Opens, parting, SpellsItems, Tall}
+use Rattle.zf_text.proofs.Prelude.{◌+◌, ◌<◌, ◌∙◌, ◌∷◌, ◌≡◌, ◌≤◌, [], ap, arith, length, List, max, Ok, refl, subst, sym, true, ℕ, leb-true, nat_le, ident_of, bracket, constant, line_of, named, numeral, part_of, Tree, Trees, tree_of, Listed, Unary, Minus, Quantifier, Name, Term, is_mark, next_of, Symbol, symbol, Mark, Kind, trees_height, AreAt, AreEnough, AreTwo, atom_level, expression_level, level, listed_level, member_place, quantifier_level, unary_level, first, After, Before, Closes, IsFirstLine, Opens, parting, SpellsItems, Tall}
 use Rattle.zf_scan.specs.declared.next.Mark.TheVariants as mark
 use Rattle.zf_scan.specs.declared.token.Kind.TheVariants as k
 use Rattle.zf_tree.specs.declared.operator.Listed.TheVariants as list
@@ -35,7 +35,7 @@ module _ (below : Reader) (n : ℕ) (ok : IsSound n below) where
     pub levelled : AreAt place (trees_of all.part)
     pub two : is_mark m (first a) ≡ true → 0 < length a → AreTwo (trees_of all.part)
     pub line : IsFirstLine (line_of (tree_of x.part)) (trees_of all.part)
-    pub high : all.height ≡ tallest (trees_of all.part)
+    pub high : all.height ≡ trees_height (trees_of all.part)
     pub low : x.height ≤ n → all.height ≤ n
     pub spelled : SpellsItems (kind_of m) (trees_of all.part) ts us
 
@@ -51,12 +51,12 @@ module _ (below : Reader) (n : ℕ) (ok : IsSound n below) where
       let is : all.part ≡ x.part ∷ r.more = r.items in
       let high = s.high in
       let high_r = r.high in
-      let high_all : all.height ≡ tallest (trees_of (x.part ∷ r.more)) = omega arith in
+      let high_all : all.height ≡ trees_height (trees_of (x.part ∷ r.more)) = omega arith in
       record {
         levelled = subst (λ xs. AreAt place (trees_of xs)) (sym is) (first_fits, s.levelled, r.levelled);
         two = λ marked long. subst (λ xs. AreTwo (trees_of xs)) (sym is) (two_of x.part r.more (r.some marked long));
         line = subst (λ xs. IsFirstLine (line_of (tree_of x.part)) (trees_of xs)) (sym is) refl;
-        high = high_all ∙ ap (λ xs. tallest (trees_of xs)) (sym is);
+        high = high_all ∙ ap (λ xs. trees_height (trees_of xs)) (sym is);
         low = r.low;
         spelled = subst (λ xs. SpellsItems (kind_of m) (trees_of xs) ts us) (sym is) (a, s.spelled, r.spelled);
       }

@@ -1,5 +1,5 @@
 -- A levelled tree that spells symbols is what is read of them.
-use Rattle.zf_text.proofs.Prelude.{◌+◌, ◌-◌, ◌<◌, ◌∙◌, ◌∷◌, ◌≡◌, ◌≤◌, [], ap, arith, false, length, List, max, Ok, refl, subst, suc, sym, zero, ℕ, le-leb, bracket, chain, constant, line_of, link, Links, named, no_links, no_trees, numeral, Tree, tree, tree_of, Operator, Relation, Term, is_mark, Symbol, symbol, height, tallest_link, chain_level, expression_level, IsLevelled, left_place, level, LinksAreLevelled, operator_level, postfix_level, product_level, right_place, first, Behind, Spells, SpellsLinks, Role, Tall}
+use Rattle.zf_text.proofs.Prelude.{◌+◌, ◌-◌, ◌<◌, ◌∙◌, ◌∷◌, ◌≡◌, ◌≤◌, [], ap, arith, false, length, List, max, Ok, refl, subst, suc, sym, zero, ℕ, le-leb, bracket, chain, constant, line_of, link, Links, named, no_links, no_trees, numeral, Tree, tree, tree_of, Operator, Relation, Term, is_mark, Symbol, symbol, tree_height, links_height, chain_level, expression_level, IsLevelled, left_place, level, LinksAreLevelled, operator_level, postfix_level, product_level, right_place, first, Behind, Spells, SpellsLinks, Role, Tall}
 use Rattle.zf_scan.specs.declared.next.Mark.TheVariants as mark
 use Rattle.zf_scan.specs.declared.next.Next as code
 use Rattle.zf_scan.specs.declared.next.Next.TheVariants as next
@@ -49,33 +49,33 @@ module _ (below : Reader) (n : ℕ) (ok : IsComplete n below) where
     term : Term
     is : tree_of term ≡ t
     turns : ℕ
-    enough : n + 1 < turns + height t
-    same : reads least ts ≡ climb below (n + 1) least turns (tall term (height t)) us
+    enough : n + 1 < turns + tree_height t
+    same : reads least ts ≡ climb below (n + 1) least turns (tall term (tree_height t)) us
 
   begun : (least : ℕ) (t : Tree) (ts us : List Symbol) → IsRead (beginning below least ts) t us → Reaches least t ts us
   unfolding whole
   begun least t ts us r = record { term = r.term; is = r.is; turns = n + 1; enough = omega (arith, some_height t); same = rw (r.read) refl }
 
   -- one turn
-  turn : (least : ℕ) (t u : Tree) (ts mid us : List Symbol) (r : Role) → role_of (first mid) ≡ r → Reaches least t ts mid → height t < height u → height u ≤ n + 1 → least < bound_by r → place_before r ≤ level t
-      → ((x : Term) → tree_of x ≡ t → IsRead (longer_by below (tall x (height t)) r mid) u us) → Reaches least u ts us
+  turn : (least : ℕ) (t u : Tree) (ts mid us : List Symbol) (r : Role) → role_of (first mid) ≡ r → Reaches least t ts mid → tree_height t < tree_height u → tree_height u ≤ n + 1 → least < bound_by r → place_before r ≤ level t
+      → ((x : Term) → tree_of x ≡ t → IsRead (longer_by below (tall x (tree_height t)) r mid) u us) → Reaches least u ts us
   turn least t u ts mid us r role_is before taller low b l longer =
       let enough = before.enough in
       let is : before.turns ≡ suc (before.turns - 1) = omega arith in
       let x = longer before.term before.is in
       let tight : least < binds (first mid) = omega (arith, ap bound_by role_is) in
       let fits : place_before (role_of (first mid)) ≤ level (tree_of before.term) = omega (arith, ap level before.is, ap place_before role_is) in
-      let read = ap (λ r. longer_by below (tall before.term (height t)) r mid) role_is ∙ x.read in
+      let read = ap (λ r. longer_by below (tall before.term (tree_height t)) r mid) role_is ∙ x.read in
       record {
         term = x.term;
         is = x.is;
         turns = before.turns - 1;
         enough = omega arith;
-        same = before.same ∙ ap (λ m. climb below (n + 1) least m (tall before.term (height t)) mid) is ∙ goes_on below (n + 1) least (before.turns - 1) (tall before.term (height t)) mid tight fits (tall x.term (height u)) us read low;
+        same = before.same ∙ ap (λ m. climb below (n + 1) least m (tall before.term (tree_height t)) mid) is ∙ goes_on below (n + 1) least (before.turns - 1) (tall before.term (tree_height t)) mid tight fits (tall x.term (tree_height u)) us read low;
       }
 
-  binary_complete : (l : ℕ) (op : Operator) (x : Term) (s t : Tree) (a b c us : List Symbol) → tree_of x ≡ s → l ≡ line_of s → Joins op a b → right_place op ≤ level t → IsLevelled t → height t ≤ n → Spells t b c → Behind op c us
-      → binds (first us) ≤ operator_closing op → IsRead (binary below op (tall x (height s)) a) (shape.binary l op s t) us
+  binary_complete : (l : ℕ) (op : Operator) (x : Term) (s t : Tree) (a b c us : List Symbol) → tree_of x ≡ s → l ≡ line_of s → Joins op a b → right_place op ≤ level t → IsLevelled t → tree_height t ≤ n → Spells t b c → Behind op c us
+      → binds (first us) ≤ operator_closing op → IsRead (binary below op (tall x (tree_height s)) a) (shape.binary l op s t) us
   unfolding binary
   binary_complete l op x s t a b c us is line joins fits lev low h close stop =
       let y = ok (right_place op) t b c fits lev low h (behind_stops op c us stop close) in
@@ -84,15 +84,15 @@ module _ (below : Reader) (n : ℕ) (ok : IsComplete n below) where
       let same : shape.binary (line_of (tree_of x)) op (tree_of x) (tree_of y.term) ≡ shape.binary l op s t = cc in
       record { term = term.Binary (line_of (tree_of x)) op x y.term; is = of.of-Binary (line_of (tree_of x)) op x y.term ∙ same; read = rw (joins.passed, y.read, ended op c us close) refl }
 
-  chained_complete : (l : ℕ) (x : Term) (t : Tree) (r : Relation) (u : Tree) (ks : Links) (a us : List Symbol) → tree_of x ≡ t → l ≡ line_of t → LinksAreLevelled (link r u ks) → tallest_link (link r u ks) ≤ n → SpellsLinks (link r u ks) a us
-      → binds (first us) ≤ chain_level → IsRead (chained below (tall x (height t)) a) (chain l t (link r u ks)) us
+  chained_complete : (l : ℕ) (x : Term) (t : Tree) (r : Relation) (u : Tree) (ks : Links) (a us : List Symbol) → tree_of x ≡ t → l ≡ line_of t → LinksAreLevelled (link r u ks) → links_height (link r u ks) ≤ n → SpellsLinks (link r u ks) a us
+      → binds (first us) ≤ chain_level → IsRead (chained below (tall x (tree_height t)) a) (chain l t (link r u ks)) us
   unfolding chained chain_links
   chained_complete l x t r u ks a us is line lev low h stop =
       let more = links_complete below n ok (link r u ks) (length a) (tall [] 0) a us lev low (omega arith) stop h in
       let are = more.are in
       let line_is : line_of (tree_of x) ≡ l = ap line_of is ∙ sym line in
       let same : chain (line_of (tree_of x)) (tree_of x) (links_of more.more) ≡ chain l t (link r u ks) = cc in
-      let high : max (height t) (max 0 (tallest_link (link r u ks))) + 1 ≡ max (height t) (tallest_link (link r u ks)) + 1 = omega arith in
+      let high : max (tree_height t) (max 0 (links_height (link r u ks))) + 1 ≡ max (tree_height t) (links_height (link r u ks)) + 1 = omega arith in
       record {
         term = term.Chain (line_of (tree_of x)) x more.more;
         is = of.of-Chain (line_of (tree_of x)) x more.more ∙ same;
@@ -102,7 +102,7 @@ module _ (below : Reader) (n : ℕ) (ok : IsComplete n below) where
   inverse_seen : (l : ℕ) (x : Term) (t : Tree) → tree_of x ≡ t → l ≡ line_of t → tree_of (term.Unary (line_of (tree_of x)) one.Inverse x) ≡ shape.unary l one.Inverse t
   inverse_seen l x t is line = of.of-Unary (line_of (tree_of x)) one.Inverse x ∙ ap (λ l. shape.unary l one.Inverse (tree_of x)) (ap line_of is ∙ sym line) ∙ ap (shape.unary l one.Inverse) is
 
-  spine : (t : Tree) (least : ℕ) (ts us : List Symbol) → least ≤ level t → IsLevelled t → height t ≤ n + 1 → Spells t ts us → binds (first us) ≤ closing t → Reaches least t ts us
+  spine : (t : Tree) (least : ℕ) (ts us : List Symbol) → least ≤ level t → IsLevelled t → tree_height t ≤ n + 1 → Spells t ts us → binds (first us) ≤ closing t → Reaches least t ts us
   spine (named m) least ts us fits lev low h stop = begun least (named m) ts us (name_begins below n ok least m ts us h)
   spine (numeral l v) least ts us fits lev low h stop = begun least (numeral l v) ts us (numeral_begins below n ok least l v ts us h)
   spine (constant l c) least ts us fits lev low h stop = begun least (constant l c) ts us (constant_begins below n ok least l c ts us h)
@@ -121,7 +121,7 @@ module _ (below : Reader) (n : ℕ) (ok : IsComplete n below) where
       let whole_s = subst (λ ts. Spells t ts at) (sym same) (subst (Spells t a) cross.1 s) in
       let left = spine t least ts at (omega (arith, lev.1.0)) lev.1.1 (omega arith) whole_s (closes t (product_level + 1) (product_level + 1) cross_gap (omega arith) lev.1.0) in
       turn least t _ ts at us role.Cross refl left (omega arith) low (omega arith) lev.1.0 (λ x is.
-      subst (λ l. IsRead (longer_by below (tall x (height t)) role.Cross at) (shape.listed l list.Product (tree t (tree u vs))) us) (ap line_of is ∙ sym line)
+      subst (λ l. IsRead (longer_by below (tall x (tree_height t)) role.Cross at) (shape.listed l list.Product (tree t (tree u vs))) us) (ap line_of is ∙ sym line)
       (listed_complete below n ok list.Product (line_of (tree_of x)) x t (tree u vs) at b us is lev.1.2 (omega arith) (d, e, (cross.0, refl), s_u, further_u) (closes_product b us stop close)))
   spine (shape.builder l ds p t) least ts us fits lev low h stop = begun least _ ts us (builder_begins below n ok least l ds p t ts us lev low h)
   spine (shape.unary l (one.Sign s) t) least ts us fits lev low h stop = begun least _ ts us (sign_begins below n ok s least l t ts us fits lev (omega arith) h stop)
@@ -154,11 +154,11 @@ module _ (below : Reader) (n : ℕ) (ok : IsComplete n below) where
   stops least zero x us some stop = absurd (omega arith)
   stops least (suc j) x us some stop = rw (le-leb (binds (first us)) least stop) refl
 
-  whole_complete : (least : ℕ) (t : Tree) (ts us : List Symbol) → least ≤ level t → IsLevelled t → height t ≤ n + 1 → Spells t ts us → binds (first us) ≤ least → IsRead (reads least ts) t us
+  whole_complete : (least : ℕ) (t : Tree) (ts us : List Symbol) → least ≤ level t → IsLevelled t → tree_height t ≤ n + 1 → Spells t ts us → binds (first us) ≤ least → IsRead (reads least ts) t us
   whole_complete least t ts us fits lev low h stop =
       let r = spine t least ts us fits lev low h (omega (arith, level_closes t)) in
       let enough = r.enough in
-      record { term = r.term; is = r.is; read = r.same ∙ stops least r.turns (tall r.term (height t)) us (omega arith) stop }
+      record { term = r.term; is = r.is; read = r.same ∙ stops least r.turns (tall r.term (tree_height t)) us (omega arith) stop }
 
 -- a levelled tree that is spelled at a place, and with which what follows does not go on, is read
 pub term_complete : (n : ℕ) → IsComplete n (read_term n)

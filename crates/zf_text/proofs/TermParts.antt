@@ -1,5 +1,5 @@
 -- Lists of parts: what is read is levelled, of the stated height, and spells the symbols.
-use Rattle.zf_text.proofs.Prelude.{◌++◌, ◌<◌, ◌∙◌, ◌∷◌, ◌≡◌, ◌≤◌, [], ap, append_assoc, arith, length, List, map, max, None, Ok, Option, refl, Some, subst, suc, sym, true, zero, ℕ, append-nil, Relation, Link, Name, Term, VarDecl, is_mark, next_of, separator, Symbol, symbol, Mark, Kind, height, part_height, tallest, tallest_link, tallest_set, AreAt, atom_level, DeclsAreLevelled, expression_level, IsLevelled, level, LinksAreLevelled, PartIsAt, first, rest, Next, Spells, SpellsDecls, SpellsFurther, SpellsLinks, SpellsNames, SpellsPart, expect, links_by, Outcome, Parser, read_names, tall, with_decl, with_link, with_term, decls, decls_from, further_from, links_from, part, read_decl, Tall}
+use Rattle.zf_text.proofs.Prelude.{◌++◌, ◌<◌, ◌∙◌, ◌∷◌, ◌≡◌, ◌≤◌, [], ap, append_assoc, arith, length, List, map, max, None, Ok, Option, refl, Some, subst, suc, sym, true, zero, ℕ, append-nil, Relation, Link, Name, Term, VarDecl, is_mark, next_of, separator, Symbol, symbol, Mark, Kind, tree_height, perhaps_height, trees_height, links_height, decls_height, AreAt, atom_level, DeclsAreLevelled, expression_level, IsLevelled, level, LinksAreLevelled, PartIsAt, first, rest, Next, Spells, SpellsDecls, SpellsFurther, SpellsLinks, SpellsNames, SpellsPart, expect, links_by, Outcome, Parser, read_names, tall, with_decl, with_link, with_term, decls, decls_from, further_from, links_from, part, read_decl, Tall}
 use Rattle.zf_scan.specs.declared.next.Mark.TheVariants as mark
 use Rattle.zf_scan.specs.declared.token.Kind.TheVariants as k
 use Rattle.zf_tree.specs.TreeViews.{new_link, new_decl, trees, links, var_decls, tree_of, link_of, var_decl_of, part_of}
@@ -22,7 +22,7 @@ decls_of xs = var_decls (map var_decl_of xs)
 pub record IsThere (highest least : ℕ) (t : Tree) (h : ℕ) (ts us : List Symbol) : Type 0 where
   pub fits : least ≤ level t
   pub levelled : IsLevelled t
-  pub high : h ≡ height t
+  pub high : h ≡ tree_height t
   pub low : h ≤ highest
   pub spelled : Spells t ts us
 
@@ -38,7 +38,7 @@ pub record SoundTerms (highest place turns : ℕ) (m : Mark) (xs ys : Tall (List
   pub more : List Term
   pub items : ys.part ≡ xs.part ++ more
   pub levelled : AreAt place (trees_of more)
-  pub high : ys.height ≡ max xs.height (tallest (trees_of more))
+  pub high : ys.height ≡ max xs.height (trees_height (trees_of more))
   pub low : xs.height ≤ highest → ys.height ≤ highest
   pub some : is_mark m (first ts) ≡ true → 0 < turns → AreSome more
   pub spelled : SpellsFurther (kind_of m) (trees_of more) ts us
@@ -47,7 +47,7 @@ pub record SoundTerms (highest place turns : ℕ) (m : Mark) (xs ys : Tall (List
 pub record IsLink (highest : ℕ) (p : Relation × Tree) (h : ℕ) (ts us : List Symbol) : Type 0 where
   pub fits : expression_level ≤ level p.1
   pub levelled : IsLevelled p.1
-  pub high : h ≡ height p.1
+  pub high : h ≡ tree_height p.1
   pub low : h ≤ highest
   pub spelled : (a : List Symbol) × Next (k.Relation p.0) ts a × Spells p.1 a us
 
@@ -60,7 +60,7 @@ pub record SoundLinks (highest : ℕ) (xs ys : Tall (List Link)) (ts us : List S
   pub more : List Link
   pub items : ys.part ≡ xs.part ++ more
   pub levelled : LinksAreLevelled (links_of more)
-  pub high : ys.height ≡ max xs.height (tallest_link (links_of more))
+  pub high : ys.height ≡ max xs.height (links_height (links_of more))
   pub low : xs.height ≤ highest → ys.height ≤ highest
   pub spelled : SpellsSomeLinks (links_of more) ts us
 
@@ -68,7 +68,7 @@ pub record SoundLinks (highest : ℕ) (xs ys : Tall (List Link)) (ts us : List S
 pub record IsDecl (highest : ℕ) (p : List Name × Tree) (h : ℕ) (ts us : List Symbol) : Type 0 where
   pub fits : expression_level ≤ level p.1
   pub levelled : IsLevelled p.1
-  pub high : h ≡ height p.1
+  pub high : h ≡ tree_height p.1
   pub low : h ≤ highest
   pub spelled : (a b : List Symbol) × SpellsNames p.0 ts a × Next k.Colon a b × Spells p.1 b us
 
@@ -81,21 +81,21 @@ pub record SoundDecls (highest : ℕ) (xs ys : Tall (List VarDecl)) (ts us : Lis
   pub more : List VarDecl
   pub items : ys.part ≡ xs.part ++ more
   pub levelled : DeclsAreLevelled (decls_of more)
-  pub high : ys.height ≡ max xs.height (tallest_set (decls_of more))
+  pub high : ys.height ≡ max xs.height (decls_height (decls_of more))
   pub low : xs.height ≤ highest → ys.height ≤ highest
   pub spelled : SpellsFurtherDecls (decls_of more) ts us
 
 -- all declarations
 pub record AreDecls (highest : ℕ) (ds : Tall (List VarDecl)) (ts us : List Symbol) : Type 0 where
   pub levelled : DeclsAreLevelled (decls_of ds.part)
-  pub high : ds.height ≡ tallest_set (decls_of ds.part)
+  pub high : ds.height ≡ decls_height (decls_of ds.part)
   pub low : ds.height ≤ highest
   pub spelled : SpellsDecls (decls_of ds.part) ts us
 
 -- a part that may be left out
 pub record IsPart (highest place : ℕ) (m : Mark) (p : Tall (Option Term)) (ts us : List Symbol) : Type 0 where
   pub levelled : PartIsAt place (part_of p.part)
-  pub high : p.height ≡ part_height (part_of p.part)
+  pub high : p.height ≡ perhaps_height (part_of p.part)
   pub low : p.height ≤ highest
   pub spelled : SpellsPart (kind_of m) (part_of p.part) ts us
 
@@ -276,10 +276,10 @@ module _ (below : Reader) (n : ℕ) (ok : IsSound n below) where
       let high_r = more.high in
       let spelled = decl_first (var_decl_of x.0.part) (decls_of more.more) ts s.spelled.0 s.spelled.1 x.1 us s.spelled.2 s.spelled.3 s.spelled.4 more.spelled in
       let is : ds.part ≡ x.0.part ∷ more.more = more.items in
-      let high_ds : ds.height ≡ tallest_set (decls_of (x.0.part ∷ more.more)) = omega arith in
+      let high_ds : ds.height ≡ decls_height (decls_of (x.0.part ∷ more.more)) = omega arith in
       record {
         levelled = subst (λ xs. DeclsAreLevelled (decls_of xs)) (sym is) (s.fits, s.levelled, more.levelled);
-        high = high_ds ∙ ap (λ xs. tallest_set (decls_of xs)) (sym is);
+        high = high_ds ∙ ap (λ xs. decls_height (decls_of xs)) (sym is);
         low = more.low low;
         spelled = subst (λ xs. SpellsDecls (decls_of xs) ts us) (sym is) spelled;
       }

@@ -1,5 +1,5 @@
 -- What is read is a levelled tree of the stated height that spells the symbols.
-use Rattle.zf_text.proofs.Prelude.{◌+◌, ◌<◌, ◌∙◌, ◌∷◌, ◌≡◌, ◌≤◌, [], ap, arith, length, List, max, Ok, refl, subst, suc, sym, zero, ℕ, leb-false, leb-true, nat_le, chain, line_of, new_link, link_of, tree_of, Operator, Relation, Link, Term, next_of, Symbol, symbol, Kind, tallest_link, atom_level, chain_level, expression_level, left_place, level, LinksAreLevelled, operator_level, postfix_level, product_level, quantifier_level, right_place, first, Behind, Between, SpellsLinks, Tall}
+use Rattle.zf_text.proofs.Prelude.{◌+◌, ◌<◌, ◌∙◌, ◌∷◌, ◌≡◌, ◌≤◌, [], ap, arith, length, List, max, Ok, refl, subst, suc, sym, zero, ℕ, leb-false, leb-true, nat_le, chain, line_of, new_link, link_of, tree_of, Operator, Relation, Link, Term, next_of, Symbol, symbol, Kind, links_height, atom_level, chain_level, expression_level, left_place, level, LinksAreLevelled, operator_level, postfix_level, product_level, quantifier_level, right_place, first, Behind, Between, SpellsLinks, Tall}
 use Rattle.zf_scan.specs.declared.next.Mark.TheVariants as mark
 use Rattle.zf_scan.specs.declared.token.Kind.TheVariants as k
 use Rattle.zf_tree.specs.declared.operator.Listed.TheVariants as list
@@ -62,7 +62,7 @@ module _ (below : Reader) (n : ℕ) (ok : IsSound n below) where
   -- the links of a chain, the first of which is there
   record SomeLinks (ks : Tall (List Link)) (ts us : List Symbol) : Type 0 where
     levelled : LinksAreLevelled (links_of ks.part)
-    high : ks.height ≡ tallest_link (links_of ks.part)
+    high : ks.height ≡ links_height (links_of ks.part)
     spelled : SpellsLinks (links_of ks.part) ts us
 
   some_links : (r : Relation) (o : ℕ) (ks : Tall (List Link)) (a us : List Symbol) → chain_links below (symbol (k.Relation r) o ∷ a) ≡ Ok (ks, us) → SomeLinks ks (symbol (k.Relation r) o ∷ a) us
@@ -74,11 +74,11 @@ module _ (below : Reader) (n : ℕ) (ok : IsSound n below) where
       let is : ks.part ≡ new_link r x.0.part ∷ more.more = more.items in
       let high = one.high in
       let high_r = more.high in
-      let high_ks : ks.height ≡ tallest_link (links_of (new_link r x.0.part ∷ more.more)) = omega arith in
+      let high_ks : ks.height ≡ links_height (links_of (new_link r x.0.part ∷ more.more)) = omega arith in
       let spelled = link_first (link_of (new_link r x.0.part)) (links_of more.more) _ one.spelled.0 x.1 us one.spelled.1 one.spelled.2 more.spelled in
       record {
         levelled = subst (λ xs. LinksAreLevelled (links_of xs)) (sym is) (one.fits, one.levelled, more.levelled);
-        high = high_ks ∙ ap (λ xs. tallest_link (links_of xs)) (sym is);
+        high = high_ks ∙ ap (λ xs. links_height (links_of xs)) (sym is);
         spelled = subst (λ xs. SpellsLinks (links_of xs) (symbol (k.Relation r) o ∷ a) us) (sym is) spelled;
       }
 

@@ -4,37 +4,37 @@ use Rattle.std.specs.Prelude.{ℕ, ◌+◌, max, List, [], ◌∷◌}
 use Rattle.zf_tree.specs.Trees.{Tree, named, numeral, constant, empty_set, bracket, listed, builder, unary, binary, chain, quantified, Trees, no_trees, tree, Links, no_links, link, VarDecls, no_decls, var_decl, Perhaps, absent, present, DeclTree, vars, include, SchemaTree, schema_text, reference, both, either, schema_bracket, ParagraphTree, given, free, abbreviation, definition, BoxTree, zed, schema_box}
 
 abbrev mutual
-  pub height : Tree → ℕ
-  height (named n) = 1
-  height (numeral l v) = 1
-  height (constant l c) = 1
-  height (empty_set l t) = height t + 1
-  height (bracket l t) = height t + 1
-  height (listed l form ts) = tallest ts + 1
-  height (builder l ds p t) = max (max (tallest_set ds) (part_height p)) (part_height t) + 1
-  height (unary l op t) = height t + 1
-  height (binary l op a b) = max (height a) (height b) + 1
-  height (chain l t ks) = max (height t) (tallest_link ks) + 1
-  height (quantified l q ds p t) = max (max (tallest_set ds) (part_height p)) (height t) + 1
+  pub tree_height : Tree → ℕ
+  tree_height (named n) = 1
+  tree_height (numeral l v) = 1
+  tree_height (constant l c) = 1
+  tree_height (empty_set l t) = tree_height t + 1
+  tree_height (bracket l t) = tree_height t + 1
+  tree_height (listed l form ts) = trees_height ts + 1
+  tree_height (builder l ds p t) = max (max (decls_height ds) (perhaps_height p)) (perhaps_height t) + 1
+  tree_height (unary l op t) = tree_height t + 1
+  tree_height (binary l op a b) = max (tree_height a) (tree_height b) + 1
+  tree_height (chain l t ks) = max (tree_height t) (links_height ks) + 1
+  tree_height (quantified l q ds p t) = max (max (decls_height ds) (perhaps_height p)) (tree_height t) + 1
 
   -- the height of the highest of these
-  pub tallest : Trees → ℕ
-  tallest no_trees = 0
-  tallest (tree t ts) = max (height t) (tallest ts)
+  pub trees_height : Trees → ℕ
+  trees_height no_trees = 0
+  trees_height (tree t ts) = max (tree_height t) (trees_height ts)
 
   -- of the highest operand
-  pub tallest_link : Links → ℕ
-  tallest_link no_links = 0
-  tallest_link (link r t ks) = max (height t) (tallest_link ks)
+  pub links_height : Links → ℕ
+  links_height no_links = 0
+  links_height (link r t ks) = max (tree_height t) (links_height ks)
 
   -- of the highest declared set
-  pub tallest_set : VarDecls → ℕ
-  tallest_set no_decls = 0
-  tallest_set (var_decl ns t ds) = max (height t) (tallest_set ds)
+  pub decls_height : VarDecls → ℕ
+  decls_height no_decls = 0
+  decls_height (var_decl ns t ds) = max (tree_height t) (decls_height ds)
 
-  pub part_height : Perhaps → ℕ
-  part_height absent = 0
-  part_height (present t) = height t
+  pub perhaps_height : Perhaps → ℕ
+  perhaps_height absent = 0
+  perhaps_height (present t) = tree_height t
 
 -- the greatest of these numbers of the items; 0 for none
 abbrev pub most : {A : Type 0} → (A → ℕ) → List A → ℕ
@@ -43,11 +43,11 @@ most f (x ∷ xs) = max (f x) (most f xs)
 
 -- of the declared set, or of the schema that is included
 abbrev pub decl_height : DeclTree → ℕ
-decl_height (vars ns t) = height t
+decl_height (vars ns t) = tree_height t
 decl_height (include r) = 1
 
 abbrev pub schema_height : SchemaTree → ℕ
-schema_height (schema_text ds ps) = max (most decl_height ds) (most height ps) + 1
+schema_height (schema_text ds ps) = max (most decl_height ds) (most tree_height ps) + 1
 schema_height (reference r) = 1
 schema_height (both a b) = max (schema_height a) (schema_height b) + 1
 schema_height (either l a b) = max (schema_height a) (schema_height b) + 1
@@ -57,12 +57,12 @@ schema_height (schema_bracket a) = schema_height a + 1
 abbrev pub paragraph_height : ParagraphTree → ℕ
 paragraph_height (given ns) = 0
 paragraph_height (free n ns) = 0
-paragraph_height (abbreviation n t) = height t
+paragraph_height (abbreviation n t) = tree_height t
 paragraph_height (definition n a) = schema_height a
 
 abbrev pub box_height : BoxTree → ℕ
 box_height (zed ps) = most paragraph_height ps
-box_height (schema_box n ds ps) = max (most decl_height ds) (most height ps)
+box_height (schema_box n ds ps) = max (most decl_height ds) (most tree_height ps)
 
 -- the height of the highest term or schema expression of a text
 abbrev pub highest : List BoxTree → ℕ

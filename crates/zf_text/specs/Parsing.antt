@@ -15,12 +15,12 @@ pub record ReadsLow (boxes : List BoxTree) (tokens : List Token) : Type 0 where
   pub low : highest boxes ≤ height_limit
 
 -- when each fault comes: no tree reads the tokens, none within the limit does, or memory ended
-abbrev pub Refuses : TextFaultKind → (line : ℕ) → List Token → Type 0
-Refuses Unexpected line tokens = (boxes : List BoxTree) → Reads boxes tokens → ⊥
-Refuses NotInProfile line tokens = (boxes : List BoxTree) → Reads boxes tokens → ⊥
-Refuses TooDeep line tokens = (boxes : List BoxTree) → ReadsLow boxes tokens → ⊥
-Refuses OutOfMemory line tokens = line ≡ 0
-Refuses _ line tokens = ⊥
+abbrev pub RefusesTokens : TextFaultKind → (line : ℕ) → List Token → Type 0
+RefusesTokens Unexpected line tokens = (boxes : List BoxTree) → Reads boxes tokens → ⊥
+RefusesTokens NotInProfile line tokens = (boxes : List BoxTree) → Reads boxes tokens → ⊥
+RefusesTokens TooDeep line tokens = (boxes : List BoxTree) → ReadsLow boxes tokens → ⊥
+RefusesTokens OutOfMemory line tokens = line ≡ 0
+RefusesTokens _ line tokens = ⊥
 
 -- the source is cut, and the tree reads its tokens
 abbrev pub ReadsSource : List BoxTree → List ℕ → Type 0
@@ -35,4 +35,4 @@ IsGrammarFault _ = ⊥
 -- the source is not cut, with this fault; or it is, and its tokens are refused with it
 abbrev pub RefusesSource : List ℕ → TextFault → Type 0
 RefusesSource source fault =
-    HasFault source fault ⊎ ((tokens : List Token) × IsCutInto source tokens × Refuses fault.kind fault.line tokens × IsGrammarFault fault.kind)
+    HasFault source fault ⊎ ((tokens : List Token) × IsCutInto source tokens × RefusesTokens fault.kind fault.line tokens × IsGrammarFault fault.kind)

@@ -6,11 +6,11 @@ use Rattle.zf_tree.specs.declared.tree.Spec.{Spec}
 use Rattle.zf_scan.specs.CutViews.{IsWantOfMemory}
 use Rattle.zf_text.specs.declared.unread.Unread.{Unread}
 use Rattle.zf_tree.specs.TreeViews.{boxes_of}
-use Rattle.zf_text.specs.Parsing.{ReadsLow, Refuses, ReadsSource, RefusesSource}
+use Rattle.zf_text.specs.Parsing.{ReadsLow, RefusesTokens, ReadsSource, RefusesSource}
 
 abbrev pub Parses : Result Spec TextFault → List Token → Type 0
 Parses (Ok spec) tokens = ReadsLow (boxes_of spec) tokens
-Parses (Err fault) tokens = Refuses fault.kind fault.line tokens
+Parses (Err fault) tokens = RefusesTokens fault.kind fault.line tokens
 
 abbrev pub ReadsSpec : Result Spec Unread → List ℕ → Type 0
 ReadsSpec (Ok spec) source = ReadsSource (boxes_of spec) source

@@ -1,5 +1,5 @@
 -- A line of some components is the line of a schema with these alone; where names are clear each such line is one.
-use Rattle.zf_texts.proofs.Prelude.{Value, Comp, Environment, IsOfType, IsRow, component_text, component_texts, AreApart, AreNames, Ends, IsName, IsNoneOf, held_comps, held_values, HoldNext, goes_on, later_parts, separator, value_text, Spelling}
+use Rattle.zf_texts.proofs.Prelude.{Value, Comp, Environment, IsOfType, IsRow, component_text, component_texts, AreApart, AreNames, Ends, IsName, IsNoneOf, held_comps, held_values, HoldNext, goes_on, later_parts, comma_before, value_text, Spelling}
 use Rattle.std.proofs.Common.{◌≡◌, ℕ, suc, ◌+◌, List, [], ◌∷◌, ◌++◌, length, map, Option, Some, None, refl, sym, ap, ◌∙◌, subst, arith, codes, length-append}
 use Rattle.zf_texts.specs.Laws.{HeldIsLine, LineIsHeld, OneHeldLine}
 use Rattle.zf_texts.proofs.HeldSoFar.{component_parts}
@@ -40,28 +40,28 @@ module _ (ss : List Spelling) (e : Environment) where
   next_is_line (c ∷ cs) n bytes [] h = absurd h
   next_is_line (c ∷ cs) n bytes (None ∷ held) h = next_is_line cs n bytes held h.1
   next_is_line (c ∷ cs) n bytes (Some v ∷ held) (rest, of_type, is, h) =
-      is ∙ ap (λ l. separator n ++ (component_text ss c v ++ l)) (next_is_line cs (n + 1) rest held h ∙ goes_on-later n (n + 1) (texts cs held) (one_more n))
+      is ∙ ap (λ l. comma_before n ++ (component_text ss c v ++ l)) (next_is_line cs (n + 1) rest held h ∙ goes_on-later n (n + 1) (texts cs held) (one_more n))
       ∙ sym (goes_on-first n (component_text ss c v) (texts cs held))
 
   -- ---- where names are clear
 
-  some_name : (n : ℕ) (name rest : List ℕ) → IsName name → [] ≡ separator n ++ (name ++ rest) → ⊥
+  some_name : (n : ℕ) (name rest : List ℕ) → IsName name → [] ≡ comma_before n ++ (name ++ rest) → ⊥
   some_name n name rest named e =
       let all = ap length e in
-      let parts = length-append (separator n) (name ++ rest) in
+      let parts = length-append (comma_before n) (name ++ rest) in
       let inner = length-append name rest in
       let some = named.0 in
       omega (arith, all, parts, inner, some)
 
   -- no other name stands next
   not_next : (cs : List Comp) (held : List (Option Value)) → AreNames (names cs) → (n : ℕ) (bytes : List ℕ) → bytes ≡ goes_on n (texts cs held)
-      → (name rest : List ℕ) → IsName name → IsNoneOf (names cs) name → Ends rest → bytes ≡ separator n ++ (name ++ rest) → ⊥
+      → (name rest : List ℕ) → IsName name → IsNoneOf (names cs) name → Ends rest → bytes ≡ comma_before n ++ (name ++ rest) → ⊥
   not_next [] held clear n bytes q name rest named other ends is = some_name n name rest named (sym (q ∙ goes_on-nil n) ∙ is)
   not_next (c ∷ cs) [] clear n bytes q name rest named other ends is = some_name n name rest named (sym (q ∙ goes_on-nil n) ∙ is)
   not_next (c ∷ cs) (None ∷ held) clear n bytes q name rest named other ends is = not_next cs held clear.1 n bytes q name rest named other.1 ends is
   not_next (c ∷ cs) (Some v ∷ held) clear n bytes q name rest named other ends is =
       let line = q ∙ goes_on-first n (component_text ss c v) (texts cs held) in
-      let here = cancel (separator n) _ _ (sym line ∙ is) in
+      let here = cancel (comma_before n) _ _ (sym line ∙ is) in
       let run = one_run c.name name (codes " == " ++ (value_text ss v ++ later_parts (texts cs held))) rest (name_in_word c.name clear.0.1) (name_in_word name named.1) refl ends (sym (component_parts ss c v (later_parts (texts cs held))) ∙ here) in
       other.0 run.0
 
@@ -77,7 +77,7 @@ module _ (ss : List Spelling) (e : Environment) where
   line_is_next (c ∷ cs) n bytes (Some v ∷ held) clear apart long (w, ws, is, of_type, row) q = (
     goes_on (n + 1) (texts cs held),
     subst (IsOfType e c.type) (sym (first is)) of_type,
-    q ∙ goes_on-first n (component_text ss c v) (texts cs held) ∙ ap (λ l. separator n ++ (component_text ss c v ++ l)) (sym (goes_on-later n (n + 1) (texts cs held) (one_more n))),
+    q ∙ goes_on-first n (component_text ss c v) (texts cs held) ∙ ap (λ l. comma_before n ++ (component_text ss c v ++ l)) (sym (goes_on-later n (n + 1) (texts cs held) (one_more n))),
     line_is_next cs (n + 1) (goes_on (n + 1) (texts cs held)) held clear.1 apart.1 (omega (arith, long)) (subst (IsRow e (held_comps cs held)) (sym (others is)) row) refl,
   )
     where

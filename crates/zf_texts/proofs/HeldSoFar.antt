@@ -1,5 +1,5 @@
 -- What is read so far of a line of some components: each is named next or not, and holds a value where it is.
-use Rattle.zf_texts.proofs.Prelude.{◌++◌, ◌+◌, ◌-◌, ◌<◌, ◌∙◌, ◌∷◌, ◌≡◌, ◌≤◌, [], ap, arith, Bool, codes, drop, false, get_or, length, List, map, None, Option, refl, Some, subst, suc, sym, take, true, ℕ, append-nil, append_assoc, length-drop, take_all, MatchBool, slice_get, Value, Comp, comp_of, Component, Environment, IsOfType, component_text, AreClear, Ends, is_in_word, HoldNext, IsHeldLine, IsNamedNext, IsNoHeldLine, BeginsWithName, EndsAs, HoldsIfNamed, IsHeldAt, IsNamedAt, BeginsWithoutName, GoesOn, HoldsNothing, IsNoComponent, IsNoItem, IsNotNamed, separator, value_text, Spelling}
+use Rattle.zf_texts.proofs.Prelude.{◌++◌, ◌+◌, ◌-◌, ◌<◌, ◌∙◌, ◌∷◌, ◌≡◌, ◌≤◌, [], ap, arith, Bool, codes, drop, false, get_or, length, List, map, None, Option, refl, Some, subst, suc, sym, take, true, ℕ, append-nil, append_assoc, length-drop, take_all, MatchBool, slice_get, Value, Comp, comp_of, Component, Environment, IsOfType, component_text, AreClear, Ends, is_in_word, HoldNext, IsHeldLine, IsNamedNext, IsNoHeldLine, BeginsWithName, EndsAs, HoldsIfNamed, IsHeldAt, IsNamedAt, BeginsWithoutName, GoesOn, HoldsNothing, IsNoComponent, IsNoItem, IsNotNamed, comma_before, value_text, Spelling}
 use Rattle.std.proofs.lemmas.Option.{same_Some}
 use Rattle.zf_texts.proofs.OneFront.{ends_as}
 use Rattle.zf_texts.proofs.OneRow.{one_component}
@@ -33,23 +33,23 @@ pub none_begins : (name bytes here : List ℕ) → here ≡ bytes → IsNoItem n
 unfolding BeginsWithoutName IsNoItem
 none_begins name bytes here same none (rest, ends, is) = none rest (same ∙ is)
 
-pub not_separated : (c : Comp) (n : ℕ) (bytes : List ℕ) → IsNoItem (separator n) bytes → IsNotNamed c n bytes
+pub not_separated : (c : Comp) (n : ℕ) (bytes : List ℕ) → IsNoItem (comma_before n) bytes → IsNotNamed c n bytes
 unfolding IsNoItem IsNotNamed
 not_separated c n bytes none (rest, ends, is) = none _ is
 
-pub not_alone : (c : Comp) (name : List ℕ) (n : ℕ) (bytes mid : List ℕ) → name ≡ c.name → bytes ≡ separator n ++ mid → BeginsWithoutName name mid → IsNotNamed c n bytes
+pub not_alone : (c : Comp) (name : List ℕ) (n : ℕ) (bytes mid : List ℕ) → name ≡ c.name → bytes ≡ comma_before n ++ mid → BeginsWithoutName name mid → IsNotNamed c n bytes
 unfolding BeginsWithoutName IsNotNamed
-not_alone c name n bytes mid same b none (rest, ends, is) = none (rest, ends, cancel (separator n) mid _ (sym b ∙ is) ∙ ap (λ l. l ++ rest) (sym same))
+not_alone c name n bytes mid same b none (rest, ends, is) = none (rest, ends, cancel (comma_before n) mid _ (sym b ∙ is) ∙ ap (λ l. l ++ rest) (sym same))
 
-named_next : (c : Comp) (n : ℕ) (bytes mid : List ℕ) → bytes ≡ separator n ++ mid → BeginsWithName c.name mid → IsNamedNext c n bytes
-named_next c n bytes mid b (rest, ends, is) = (rest, ends, b ∙ ap (λ l. separator n ++ l) is)
+named_next : (c : Comp) (n : ℕ) (bytes mid : List ℕ) → bytes ≡ comma_before n ++ mid → BeginsWithName c.name mid → IsNamedNext c n bytes
+named_next c n bytes mid b (rest, ends, is) = (rest, ends, b ∙ ap (λ l. comma_before n ++ l) is)
 
 pub component_parts : (ss : List Spelling) (c : Comp) (v : Value) (rest : List ℕ) → component_text ss c v ++ rest ≡ c.name ++ (codes " == " ++ (value_text ss v ++ rest))
 component_parts ss c v rest = append_assoc (c.name ++ codes " == ") (value_text ss v) rest ∙ append_assoc c.name (codes " == ") (value_text ss v ++ rest)
 
 -- where a value of it stands, a component is named
-pub told_named : (ss : List Spelling) (c : Comp) (n : ℕ) (bytes rest : List ℕ) (v : Value) → bytes ≡ separator n ++ (component_text ss c v ++ rest) → IsNamedNext c n bytes
-told_named ss c n bytes rest v is = (codes " == " ++ (value_text ss v ++ rest), refl, is ∙ ap (λ l. separator n ++ l) (component_parts ss c v rest))
+pub told_named : (ss : List Spelling) (c : Comp) (n : ℕ) (bytes rest : List ℕ) (v : Value) → bytes ≡ comma_before n ++ (component_text ss c v ++ rest) → IsNamedNext c n bytes
+told_named ss c n bytes rest v is = (codes " == " ++ (value_text ss v ++ rest), refl, is ∙ ap (λ l. comma_before n ++ l) (component_parts ss c v rest))
 
 module _ (ss : List Spelling) (e : Environment) where
   -- what follows a value is the end of the line, or a comma
@@ -75,12 +75,12 @@ module _ (ss : List Spelling) (e : Environment) where
   none_of_skipped c cs n bytes not none clear (None ∷ held) h = none clear held h.1
   none_of_skipped c cs n bytes not none clear (Some v ∷ held) (rest, of_type, is, h) = not (told_named ss c n bytes rest v is)
 
-  none_of_held : (c : Comp) (cs : List Comp) (n : ℕ) (bytes more : List ℕ) (v : Value) → IsOfType e c.type v → bytes ≡ separator n ++ (component_text ss c v ++ more) → EndsAs c.type more
+  none_of_held : (c : Comp) (cs : List Comp) (n : ℕ) (bytes more : List ℕ) (v : Value) → IsOfType e c.type v → bytes ≡ comma_before n ++ (component_text ss c v ++ more) → EndsAs c.type more
       → HoldNone cs (n + 1) more → HoldNone (c ∷ cs) n bytes
   none_of_held c cs n bytes more v of_type is ends none clear [] h = h
   none_of_held c cs n bytes more v of_type is ends none clear (None ∷ held) h = h.0 (told_named ss c n bytes more v is)
   none_of_held c cs n bytes more v of_type is ends none clear (Some w ∷ held) (rest, other, are, h) =
-      let one = one_component ss e clear c v w more rest of_type other ends (ends_more c cs n rest held h) (cancel (separator n) _ _ (sym is ∙ are)) in
+      let one = one_component ss e clear c v w more rest of_type other ends (ends_more c cs n rest held h) (cancel (comma_before n) _ _ (sym is ∙ are)) in
       none clear held (subst (λ l. HoldNext ss e cs (n + 1) l held) (sym one.1) h)
 
   none_unread : (c : Comp) (cs : List Comp) (n : ℕ) (bytes : List ℕ) → HoldsNothing ss e c n bytes → HoldNone (c ∷ cs) n bytes
@@ -88,7 +88,7 @@ module _ (ss : List Spelling) (e : Environment) where
   none_unread c cs n bytes (mid, b, named, none) clear [] h = h
   none_unread c cs n bytes (mid, b, named, none) clear (None ∷ held) h = h.0 (named_next c n bytes mid b named)
   none_unread c cs n bytes (mid, b, named, none) clear (Some w ∷ held) (rest, of_type, is, h) =
-      none clear w rest of_type (ends_more c cs n rest held h) (cancel (separator n) mid _ (sym b ∙ is))
+      none clear w rest of_type (ends_more c cs n rest held h) (cancel (comma_before n) mid _ (sym b ∙ is))
 
   none_behind : (n : ℕ) (bytes : List ℕ) → 0 < length bytes → HoldNone [] n bytes
   none_behind n bytes l clear [] h = let none = ap length h in omega (arith, none)
@@ -113,7 +113,7 @@ module _ (ss : List Spelling) (e : Environment) where
   }
 
   taken : (all : List Comp) (c : Comp) (cs : List Comp) (text : List ℕ) (n : ℕ) (held : List (Option Value)) (here more : List ℕ) (v : Value) → HeldSoFar all (c ∷ cs) text n held here
-      → IsOfType e c.type v → here ≡ separator n ++ (component_text ss c v ++ more) → EndsAs c.type more → HeldSoFar all cs text (n + 1) (held ++ Some v ∷ []) more
+      → IsOfType e c.type v → here ≡ comma_before n ++ (component_text ss c v ++ more) → EndsAs c.type more → HeldSoFar all cs text (n + 1) (held ++ Some v ∷ []) more
   taken all c cs text n held here more v r of_type is ends = record {
     whole = λ later h. subst (IsHeldLine ss e all text) (sym (append_assoc held (Some v ∷ []) later)) (r.whole (Some v ∷ later) (more, of_type, is, h));
     none = λ h. r.none (none_of_held c cs n here more v of_type is ends h);
@@ -136,7 +136,7 @@ module _ (ss : List Spelling) (e : Environment) where
       subst (λ x. HeldSoFar (map comp_of cs) (map comp_of (drop (i + 1) cs)) text (n + 1) x (drop end text)) (sym pushed)
       (taken (map comp_of cs) (comp_of c) (map comp_of (drop (i + 1) cs)) text n held (drop at text) (drop end text) v
       (subst (λ x. HeldSoFar (map comp_of cs) x text n held (drop at text)) (comps-drop cs i c got l) r) k.held.value
-      (k.named.stands.stands ∙ ap (λ x. separator n ++ x) k.held.stands.stands) k.held.ends)
+      (k.named.stands.stands ∙ ap (λ x. comma_before n ++ x) k.held.stands.stands) k.held.ends)
 
   pub no_value : (cs : List Component) (i : ℕ) (c : Component) (text here : List ℕ) (n : ℕ) (held : List (Option Value)) → c ≡ get_or cs i c → i < length cs
       → HeldSoFar (map comp_of cs) (map comp_of (drop i cs)) text n held here → HoldsNothing ss e (comp_of c) n here → IsNoHeldLine ss e (map comp_of cs) text

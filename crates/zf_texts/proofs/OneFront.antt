@@ -1,5 +1,5 @@
 -- A text begins with the text of one value of a type alone.
-use Rattle.zf_texts.proofs.Prelude.{◌++◌, ◌<◌, ◌^◌, ◌∙◌, ◌∷◌, ◌≡◌, [], ap, arith, codes, false, List, map, negsuc, None, Option, pos, refl, Some, subst, sym, true, ℕ, ℤ, decimal_nonempty, signed_decimal_injective, append_assoc, signed_decimal, w64, FitsSigned, slice_get, Every, Elem, Int, SetOf, Tuple, Value, basic, int, no_types, power, product, Ty, type, Tys, Environment, type_number, AreOfTypes, IsElement, IsOfType, AreClear, Ends, is_in_word, spelled, spelled_if, Closes, EndsAs, is_opening, later_parts, parted, value_text, Spelling}
+use Rattle.zf_texts.proofs.Prelude.{◌++◌, ◌<◌, ◌^◌, ◌∙◌, ◌∷◌, ◌≡◌, [], ap, arith, codes, false, List, map, negsuc, None, Option, pos, refl, Some, subst, sym, true, ℕ, ℤ, decimal_nonempty, signed_decimal_injective, append_assoc, signed_decimal, w64, FitsSigned, slice_get, Every, Elem, Int, SetOf, Tuple, Value, basic, int, no_types, power, product, Ty, type, Tys, Environment, type_number, AreOfTypes, IsExistingElement, IsOfType, AreClear, Ends, is_in_word, spelled, spelled_if, Closes, EndsAs, is_opening, later_parts, parted, value_text, Spelling}
 use Rattle.zf_texts.proofs.TextsSeen.{of-Int, of-Elem, of-Tuple, of-SetOf}
 use Rattle.zf_texts.proofs.WordRuns.{one_run, never, signed_in_word}
 use Rattle.std.specs.Int.Signed.{mag}
@@ -20,7 +20,7 @@ ends_as (power t) r h = tt
 ends_as (product ts) r h = tt
 
 -- what is spelled by a word
-pub word_of_element : (ss : List Spelling) (e : Environment) (o : Option ℕ) (v : Value) → AreClear ss e.sizes → IsElement e o v → IsWord (value_text ss v)
+pub word_of_element : (ss : List Spelling) (e : Environment) (o : Option ℕ) (v : Value) → AreClear ss e.sizes → IsExistingElement e o v → IsWord (value_text ss v)
 word_of_element ss e None v c h = absurd h
 word_of_element ss e (Some n) v c (k, i, at, l, is) =
     let (s, found, clear) = c.spelled n k at in
@@ -52,7 +52,7 @@ element_spelled ss n i v s is found = ap (value_text ss) is ∙ of-Elem ss n i �
 same_some : {A : Type 0} (x y : A) → Some x ≡ Some y → x ≡ y
 same_some x y e = (cc)
 
-pub element_told : (ss : List Spelling) (e : Environment) (o : Option ℕ) (v w : Value) → AreClear ss e.sizes → IsElement e o v → IsElement e o w → value_text ss v ≡ value_text ss w → v ≡ w
+pub element_told : (ss : List Spelling) (e : Environment) (o : Option ℕ) (v w : Value) → AreClear ss e.sizes → IsExistingElement e o v → IsExistingElement e o w → value_text ss v ≡ value_text ss w → v ≡ w
 element_told ss e None v w c g h t = absurd g
 element_told ss e (Some n) v w c (k, i, at, l, is) (m, j, there, less, are) t =
     let (s, found, clear) = c.spelled n k at in

@@ -1,5 +1,5 @@
 -- One turn more of what reads the components of a line, the parts of a tuple, the members of a set.
-use Rattle.zf_texts.proofs.Prelude.{◌++◌, ◌+◌, ◌<◌, ◌∙◌, ◌∷◌, ◌≡◌, ◌≤◌, [], ap, arith, codes, drop, get_or, length, List, map, subst, sym, ℕ, append_assoc, drop_more, length-append, length-drop, IsAscending, SET_MAX, Value, comp_of, no_types, Ty, type, type_of, types, Tys, Component, Environment, IsLineOf, IsNoLine, AreMembersAt, ArePartsAt, IsComponentAt, IsItem, IsNext, IsValueAt, AreNoMembers, AreNoParts, IsNoComponent, IsNoItem, IsNoNext, IsNoRest, IsNoValue, parted, separator, value_text, Spelling}
+use Rattle.zf_texts.proofs.Prelude.{◌++◌, ◌+◌, ◌<◌, ◌∙◌, ◌∷◌, ◌≡◌, ◌≤◌, [], ap, arith, codes, drop, get_or, length, List, map, subst, sym, ℕ, append_assoc, drop_more, length-append, length-drop, IsAscending, SET_MAX, Value, comp_of, no_types, Ty, type, type_of, types, Tys, Component, Environment, IsLineOf, IsNoLine, AreMembersAt, ArePartsAt, IsComponentAt, IsItem, IsNext, IsValueAt, AreNoMembers, AreNoParts, IsNoComponent, IsNoItem, IsNoNext, IsNoRest, IsNoValue, parted, comma_before, value_text, Spelling}
 use Rattle.zf_term.specs.declared.ztype.ZType.{ZType}
 use Rattle.zf_texts.proofs.Printing.{comps-drop, drop-end}
 use Rattle.zf_texts.proofs.Reading.{parts_unseparated, parts_unread, parts_unclosed, members_unseparated, members_unread, members_full}
@@ -28,17 +28,17 @@ pushed vs new v n counted is =
 module _ (ss : List Spelling) (e : Environment) where
   -- ---- the parts of a tuple
 
-  unseparated_types : (ts : List ZType) (n : ℕ) (bytes : List ℕ) → 0 < length ts → IsNoItem (separator n) bytes → AreNoParts ss e (types (map type_of ts)) n bytes
+  unseparated_types : (ts : List ZType) (n : ℕ) (bytes : List ℕ) → 0 < length ts → IsNoItem (comma_before n) bytes → AreNoParts ss e (types (map type_of ts)) n bytes
   unseparated_types [] n bytes l none = absurd (omega arith)
   unseparated_types (t ∷ ts) n bytes l none = parts_unseparated ss e (type_of t) (types (map type_of ts)) n bytes none
 
-  pub no_separator : (all : Tys) (ts : List ZType) (i : ℕ) (bytes here : List ℕ) (vs : List Value) → i < length ts → PartsSoFar ss e all (types (map type_of (drop i ts))) bytes i vs here → IsNoItem (separator i) here → AreNoParts ss e all 0 bytes
+  pub no_separator : (all : Tys) (ts : List ZType) (i : ℕ) (bytes here : List ℕ) (vs : List Value) → i < length ts → PartsSoFar ss e all (types (map type_of (drop i ts))) bytes i vs here → IsNoItem (comma_before i) here → AreNoParts ss e all 0 bytes
   no_separator all ts i bytes here vs l r none = let long = length-drop i ts in r.none (unseparated_types (drop i ts) i here (omega (arith, long)) none)
 
-  pub no_part : (all : Tys) (ts : List ZType) (i : ℕ) (t : ZType) (bytes here mid : List ℕ) (vs : List Value) → t ≡ get_or ts i t → i < length ts → PartsSoFar ss e all (types (map type_of (drop i ts))) bytes i vs here → here ≡ separator i ++ mid → IsNoValue ss e (type_of t) mid → AreNoParts ss e all 0 bytes
+  pub no_part : (all : Tys) (ts : List ZType) (i : ℕ) (t : ZType) (bytes here mid : List ℕ) (vs : List Value) → t ≡ get_or ts i t → i < length ts → PartsSoFar ss e all (types (map type_of (drop i ts))) bytes i vs here → here ≡ comma_before i ++ mid → IsNoValue ss e (type_of t) mid → AreNoParts ss e all 0 bytes
   no_part all ts i t bytes here mid vs at l r m none = r.none (subst (λ x. AreNoParts ss e x i here) (sym (types-drop ts i t at l)) (parts_unread ss e (type_of t) (types (map type_of (drop (i + 1) ts))) i here mid m none))
 
-  pub one_part : (all : Tys) (ts : List ZType) (i : ℕ) (t : ZType) (text : List ℕ) (place at start end : ℕ) (vs new : List Value) (v : Value) → t ≡ get_or ts i t → i < length ts → PartsSoFar ss e all (types (map type_of (drop i ts))) (drop place text) i vs (drop at text) → IsItem text at (separator i) start → IsValueAt ss e (type_of t) text start v end → new ≡ vs ++ v ∷ []
+  pub one_part : (all : Tys) (ts : List ZType) (i : ℕ) (t : ZType) (text : List ℕ) (place at start end : ℕ) (vs new : List Value) (v : Value) → t ≡ get_or ts i t → i < length ts → PartsSoFar ss e all (types (map type_of (drop i ts))) (drop place text) i vs (drop at text) → IsItem text at (comma_before i) start → IsValueAt ss e (type_of t) text start v end → new ≡ vs ++ v ∷ []
       → PartsSoFar ss e all (types (map type_of (drop (i + 1) ts))) (drop place text) (i + 1) new (drop end text)
   one_part all ts i t text place at start end vs new v got l r m k pushed =
       subst (λ x. PartsSoFar ss e all (types (map type_of (drop (i + 1) ts))) (drop place text) (i + 1) x (drop end text)) (sym pushed)
@@ -55,19 +55,19 @@ module _ (ss : List Spelling) (e : Environment) where
 
   -- ---- the members of a set
 
-  pub no_member_separator : (t : Ty) (bytes here : List ℕ) (vs : List Value) (n : ℕ) → length vs ≡ n → MembersSoFar ss e t bytes vs here → IsNoItem (codes "}") here → IsNoItem (separator n) here → AreNoMembers ss e t [] bytes
-  no_member_separator t bytes here vs n counted r ahead none = r.none (members_unseparated ss e t vs here ahead (subst (λ x. IsNoItem (separator x) here) (sym counted) none))
+  pub no_member_separator : (t : Ty) (bytes here : List ℕ) (vs : List Value) (n : ℕ) → length vs ≡ n → MembersSoFar ss e t bytes vs here → IsNoItem (codes "}") here → IsNoItem (comma_before n) here → AreNoMembers ss e t [] bytes
+  no_member_separator t bytes here vs n counted r ahead none = r.none (members_unseparated ss e t vs here ahead (subst (λ x. IsNoItem (comma_before x) here) (sym counted) none))
 
-  pub no_member : (t : Ty) (bytes here mid : List ℕ) (vs ws : List Value) (n : ℕ) → length vs ≡ n → ws ≡ vs → MembersSoFar ss e t bytes vs here → IsNoItem (codes "}") here → here ≡ separator n ++ mid → IsNoNext ss e t ws mid → AreNoMembers ss e t [] bytes
+  pub no_member : (t : Ty) (bytes here mid : List ℕ) (vs ws : List Value) (n : ℕ) → length vs ≡ n → ws ≡ vs → MembersSoFar ss e t bytes vs here → IsNoItem (codes "}") here → here ≡ comma_before n ++ mid → IsNoNext ss e t ws mid → AreNoMembers ss e t [] bytes
   no_member t bytes here mid vs ws n counted same r ahead m none =
-      r.none (members_unread ss e t vs here mid ahead (m ∙ ap (λ x. separator x ++ mid) (sym counted)) (subst (λ x. IsNoNext ss e t x mid) same none))
+      r.none (members_unread ss e t vs here mid ahead (m ∙ ap (λ x. comma_before x ++ mid) (sym counted)) (subst (λ x. IsNoNext ss e t x mid) same none))
 
-  pub one_member : (t : Ty) (text : List ℕ) (place at start end : ℕ) (vs ws new : List Value) (v : Value) (n : ℕ) → length vs ≡ n → n < SET_MAX → ws ≡ vs → MembersSoFar ss e t (drop place text) vs (drop at text) → IsNoItem (codes "}") (drop at text) → IsItem text at (separator n) start → IsNext ss e t ws text start v end → new ≡ vs ++ v ∷ []
+  pub one_member : (t : Ty) (text : List ℕ) (place at start end : ℕ) (vs ws new : List Value) (v : Value) (n : ℕ) → length vs ≡ n → n < SET_MAX → ws ≡ vs → MembersSoFar ss e t (drop place text) vs (drop at text) → IsNoItem (codes "}") (drop at text) → IsItem text at (comma_before n) start → IsNext ss e t ws text start v end → new ≡ vs ++ v ∷ []
       → MembersSoFar ss e t (drop place text) new (drop end text)
   one_member t text place at start end vs ws new v n counted room same r ahead m k pushed =
       subst (λ x. MembersSoFar ss e t (drop place text) x (drop end text)) (sym pushed)
       (members_more ss e t (drop place text) vs (drop at text) (drop start text) (drop end text) v r ahead (subst (λ x. x < SET_MAX) (sym counted) room)
-      (m.stands ∙ ap (λ x. separator x ++ drop start text) (sym counted)) k.value.stands.stands k.value.value k.value.ends (subst (λ x. IsAscending (x ++ v ∷ [])) same k.ascending))
+      (m.stands ∙ ap (λ x. comma_before x ++ drop start text) (sym counted)) k.value.stands.stands k.value.value k.value.ends (subst (λ x. IsAscending (x ++ v ∷ [])) same k.ascending))
 
   pub no_room : (t : Ty) (bytes here : List ℕ) (vs : List Value) (n : ℕ) → length vs ≡ n → n ≡ SET_MAX → MembersSoFar ss e t bytes vs here → IsNoItem (codes "}") here → AreNoMembers ss e t [] bytes
   no_room t bytes here vs n counted full r none = r.none (members_full ss e t vs here (counted ∙ full) none)
@@ -77,17 +77,17 @@ module _ (ss : List Spelling) (e : Environment) where
 
   -- ---- the components of a line
 
-  unseparated_comps : (cs : List Component) (n : ℕ) (bytes : List ℕ) → 0 < length cs → IsNoItem (separator n) bytes → IsNoRest ss e (map comp_of cs) n bytes
+  unseparated_comps : (cs : List Component) (n : ℕ) (bytes : List ℕ) → 0 < length cs → IsNoItem (comma_before n) bytes → IsNoRest ss e (map comp_of cs) n bytes
   unseparated_comps [] n bytes l none = absurd (omega arith)
   unseparated_comps (c ∷ cs) n bytes l none = row_unseparated ss e (comp_of c) (map comp_of cs) n bytes none
 
-  pub no_further : (cs : List Component) (i : ℕ) (bytes here : List ℕ) (vs : List Value) → i < length cs → RowSoFar ss e (map comp_of cs) (map comp_of (drop i cs)) bytes i vs here → IsNoItem (separator i) here → IsNoLine ss e (map comp_of cs) bytes
+  pub no_further : (cs : List Component) (i : ℕ) (bytes here : List ℕ) (vs : List Value) → i < length cs → RowSoFar ss e (map comp_of cs) (map comp_of (drop i cs)) bytes i vs here → IsNoItem (comma_before i) here → IsNoLine ss e (map comp_of cs) bytes
   no_further cs i bytes here vs l r none = let long = length-drop i cs in r.none (unseparated_comps (drop i cs) i here (omega (arith, long)) none)
 
-  pub no_component : (cs : List Component) (i : ℕ) (c : Component) (bytes here mid : List ℕ) (vs : List Value) → c ≡ get_or cs i c → i < length cs → RowSoFar ss e (map comp_of cs) (map comp_of (drop i cs)) bytes i vs here → here ≡ separator i ++ mid → IsNoComponent ss e (comp_of c) mid → IsNoLine ss e (map comp_of cs) bytes
+  pub no_component : (cs : List Component) (i : ℕ) (c : Component) (bytes here mid : List ℕ) (vs : List Value) → c ≡ get_or cs i c → i < length cs → RowSoFar ss e (map comp_of cs) (map comp_of (drop i cs)) bytes i vs here → here ≡ comma_before i ++ mid → IsNoComponent ss e (comp_of c) mid → IsNoLine ss e (map comp_of cs) bytes
   no_component cs i c bytes here mid vs at l r m none = r.none (subst (λ x. IsNoRest ss e x i here) (sym (comps-drop cs i c at l)) (row_unread ss e (comp_of c) (map comp_of (drop (i + 1) cs)) i here mid m none))
 
-  pub one_component : (cs : List Component) (i : ℕ) (c : Component) (text : List ℕ) (at start end : ℕ) (vs new : List Value) (v : Value) → c ≡ get_or cs i c → i < length cs → RowSoFar ss e (map comp_of cs) (map comp_of (drop i cs)) text i vs (drop at text) → IsItem text at (separator i) start → IsComponentAt ss e (comp_of c) text start v end → new ≡ vs ++ v ∷ []
+  pub one_component : (cs : List Component) (i : ℕ) (c : Component) (text : List ℕ) (at start end : ℕ) (vs new : List Value) (v : Value) → c ≡ get_or cs i c → i < length cs → RowSoFar ss e (map comp_of cs) (map comp_of (drop i cs)) text i vs (drop at text) → IsItem text at (comma_before i) start → IsComponentAt ss e (comp_of c) text start v end → new ≡ vs ++ v ∷ []
       → RowSoFar ss e (map comp_of cs) (map comp_of (drop (i + 1) cs)) text (i + 1) new (drop end text)
   one_component cs i c text at start end vs new v got l r m k pushed =
       subst (λ x. RowSoFar ss e (map comp_of cs) (map comp_of (drop (i + 1) cs)) text (i + 1) x (drop end text)) (sym pushed)

@@ -22,7 +22,7 @@ pub use Rattle.zf_term.specs.TypeViews.{type_of}
 pub use Rattle.zf_term.specs.declared.schema.Component.{Component}
 pub use Rattle.zf_meaning.specs.Environments.{Environment, found_number, type_number}
 pub use Rattle.zf_meaning.specs.Envs.{environment_of}
-pub use Rattle.zf_meaning.specs.Rows.{AreOfTypes, IsElement, IsOfType, IsRow}
+pub use Rattle.zf_meaning.specs.Rows.{AreOfTypes, IsExistingElement, IsOfType, IsRow}
 pub use Rattle.zf_texts.specs.BindingTexts.{binding_text, component_text, component_texts}
 pub use Rattle.zf_texts.specs.Clear.{AreApart, AreClear, AreNames, IsClear, IsName, IsNoneOf}
 pub use Rattle.zf_texts.specs.Words.{Ends, is_in_name, is_in_word}
@@ -34,7 +34,7 @@ unfoldable pub use Rattle.zf_texts.specs.Readings.{IsNoLine}
 pub use Rattle.zf_texts.specs.Spellings.{element_text, or_empty, spelled, spelled_if, spellings, with_spelling}
 pub use Rattle.zf_texts.specs.Steps.{AreMembers, AreMembersAt, ArePartsAt, BeginsWithName, Closes, EndsAs, goes_on, HoldsIfNamed, is_opening, IsComponentAt, IsHeldAt, IsItem, IsNamedAt, IsNext, IsSpelledType, IsValueAt, IsWordAt}
 unfoldable pub use Rattle.zf_texts.specs.Steps.{AreNoMembers, AreNoParts, BeginsWithoutName, GoesOn, HasNoElements, HoldsNothing, IsNoComponent, IsNoItem, IsNoNext, IsNoRest, IsNoSpelledType, IsNotNamed, IsNoValue, SpellsNone}
-pub use Rattle.zf_texts.specs.ValueTexts.{later_parts, parted, separator, value_step}
+pub use Rattle.zf_texts.specs.ValueTexts.{later_parts, parted, comma_before, value_step}
 unfoldable pub use Rattle.zf_texts.specs.ValueTexts.{value_text}
 pub use Rattle.zf_texts.specs.declared.spelling.Spelling.{Spelling}
 pub use Rattle.zf_texts.specs.declared.spelling.Spelling.TheVariants.{Named, Numbered}

@@ -1,5 +1,5 @@
 -- What follows a part that was read, of a tuple or of a set.
-use Rattle.zf_texts.proofs.Prelude.{◌++◌, ◌+◌, ◌∙◌, ◌∷◌, ◌≡◌, [], ap, arith, codes, length, Less, List, map, refl, subst, suc, sym, ℕ, append_assoc, length-append, Every, IsAscending, value_order, SET_MAX, Value, no_types, Ty, type, Tys, Environment, IsOfType, AreMembers, EndsAs, goes_on, AreNoMembers, AreNoParts, IsNoItem, IsNoNext, IsNoValue, later_parts, separator, value_text, Spelling}
+use Rattle.zf_texts.proofs.Prelude.{◌++◌, ◌+◌, ◌∙◌, ◌∷◌, ◌≡◌, [], ap, arith, codes, length, Less, List, map, refl, subst, suc, sym, ℕ, append_assoc, length-append, Every, IsAscending, value_order, SET_MAX, Value, no_types, Ty, type, Tys, Environment, IsOfType, AreMembers, EndsAs, goes_on, AreNoMembers, AreNoParts, IsNoItem, IsNoNext, IsNoValue, later_parts, comma_before, value_text, Spelling}
 use Rattle.zf_texts.proofs.OneFront.{ends_as, ends_later, one_front}
 use Rattle.zf_texts.proofs.Printing.{goes_on-nil, front, goes_on-later}
 use Rattle.zf_texts.proofs.Spelled.{cancel}
@@ -17,22 +17,22 @@ module _ (ss : List Spelling) (e : Environment) where
   ends_member t ts rest = ends_as t _ (ends_later ts (codes "}" ++ rest) (refl, refl))
 
   -- the bytes, where such parts stand there
-  parts_split : (n : ℕ) (vs : List Value) (w : Value) (ws : List Value) (bytes c : List ℕ) → vs ≡ w ∷ ws → bytes ≡ goes_on n (map text vs) ++ c → bytes ≡ separator n ++ (text w ++ (later_parts (map text ws) ++ c))
+  parts_split : (n : ℕ) (vs : List Value) (w : Value) (ws : List Value) (bytes c : List ℕ) → vs ≡ w ∷ ws → bytes ≡ goes_on n (map text vs) ++ c → bytes ≡ comma_before n ++ (text w ++ (later_parts (map text ws) ++ c))
   parts_split n vs w ws bytes c is q = q ∙ ap (λ l. goes_on n (map text l) ++ c) is ∙ front n (text w) (map text ws) c
 
-  pub parts_unseparated : (t : Ty) (ts : Tys) (n : ℕ) (bytes : List ℕ) → IsNoItem (separator n) bytes → AreNoParts ss e (type t ts) n bytes
+  pub parts_unseparated : (t : Ty) (ts : Tys) (n : ℕ) (bytes : List ℕ) → IsNoItem (comma_before n) bytes → AreNoParts ss e (type t ts) n bytes
   unfolding IsNoItem AreNoParts
   parts_unseparated t ts n bytes none clear vs rest (w, ws, is, h, hs) q = none _ (parts_split n vs w ws bytes (codes ")" ++ rest) is q)
 
-  pub parts_unread : (t : Ty) (ts : Tys) (n : ℕ) (bytes mid : List ℕ) → bytes ≡ separator n ++ mid → IsNoValue ss e t mid → AreNoParts ss e (type t ts) n bytes
+  pub parts_unread : (t : Ty) (ts : Tys) (n : ℕ) (bytes mid : List ℕ) → bytes ≡ comma_before n ++ mid → IsNoValue ss e t mid → AreNoParts ss e (type t ts) n bytes
   unfolding IsNoValue AreNoParts
   parts_unread t ts n bytes mid m none clear vs rest (w, ws, is, h, hs) q =
-      none clear w _ h (ends_part t (map text ws) rest) (cancel (separator n) mid _ (sym m ∙ parts_split n vs w ws bytes (codes ")" ++ rest) is q))
+      none clear w _ h (ends_part t (map text ws) rest) (cancel (comma_before n) mid _ (sym m ∙ parts_split n vs w ws bytes (codes ")" ++ rest) is q))
 
-  pub parts_next : (t : Ty) (ts : Tys) (n m : ℕ) (bytes mid more : List ℕ) (v : Value) → m ≡ suc n → bytes ≡ separator n ++ mid → mid ≡ text v ++ more → IsOfType e t v → EndsAs t more → AreNoParts ss e ts m more → AreNoParts ss e (type t ts) n bytes
+  pub parts_next : (t : Ty) (ts : Tys) (n m : ℕ) (bytes mid more : List ℕ) (v : Value) → m ≡ suc n → bytes ≡ comma_before n ++ mid → mid ≡ text v ++ more → IsOfType e t v → EndsAs t more → AreNoParts ss e ts m more → AreNoParts ss e (type t ts) n bytes
   unfolding AreNoParts
   parts_next t ts n m bytes mid more v next b x k ends none clear vs rest (w, ws, is, h, hs) q =
-      let here = cancel (separator n) mid _ (sym b ∙ parts_split n vs w ws bytes (codes ")" ++ rest) is q) in
+      let here = cancel (comma_before n) mid _ (sym b ∙ parts_split n vs w ws bytes (codes ")" ++ rest) is q) in
       let one = one_front ss e clear t v w more _ k h ends (ends_part t (map text ws) rest) (sym x ∙ here) in
       none clear ws rest hs (one.1 ∙ ap (λ l. l ++ (codes ")" ++ rest)) (sym (goes_on-later n m (map text ws) next)))
 
@@ -45,7 +45,7 @@ module _ (ss : List Spelling) (e : Environment) where
   none_closed : (n : ℕ) (ws : List Value) (bytes rest : List ℕ) → ws ≡ [] → bytes ≡ goes_on n (map text ws) ++ (codes "}" ++ rest) → bytes ≡ codes "}" ++ rest
   none_closed n ws bytes rest is q = q ∙ ap (λ l. goes_on n (map text l) ++ (codes "}" ++ rest)) is ∙ ap (λ l. l ++ (codes "}" ++ rest)) (goes_on-nil n)
 
-  pub members_unseparated : (t : Ty) (vs : List Value) (bytes : List ℕ) → IsNoItem (codes "}") bytes → IsNoItem (separator (length vs)) bytes → AreNoMembers ss e t vs bytes
+  pub members_unseparated : (t : Ty) (vs : List Value) (bytes : List ℕ) → IsNoItem (codes "}") bytes → IsNoItem (comma_before (length vs)) bytes → AreNoMembers ss e t vs bytes
   unfolding IsNoItem AreNoMembers
   members_unseparated t vs bytes ahead none clear [] rest h q = ahead rest (none_closed (length vs) [] bytes rest refl q)
   members_unseparated t vs bytes ahead none clear (w ∷ ws) rest h q = none _ (parts_split (length vs) (w ∷ ws) w ws bytes (codes "}" ++ rest) refl q)
@@ -73,19 +73,19 @@ module _ (ss : List Spelling) (e : Environment) where
   pushed : (vs ws : List Value) (w : Value) → vs ++ w ∷ ws ≡ (vs ++ w ∷ []) ++ ws
   pushed vs ws w = sym (append_assoc vs (w ∷ []) ws)
 
-  pub members_unread : (t : Ty) (vs : List Value) (bytes mid : List ℕ) → IsNoItem (codes "}") bytes → bytes ≡ separator (length vs) ++ mid → IsNoNext ss e t vs mid → AreNoMembers ss e t vs bytes
+  pub members_unread : (t : Ty) (vs : List Value) (bytes mid : List ℕ) → IsNoItem (codes "}") bytes → bytes ≡ comma_before (length vs) ++ mid → IsNoNext ss e t vs mid → AreNoMembers ss e t vs bytes
   unfolding IsNoItem IsNoNext AreNoMembers
   members_unread t vs bytes mid ahead m none clear [] rest h q = ahead rest (none_closed (length vs) [] bytes rest refl q)
   members_unread t vs bytes mid ahead m none clear (w ∷ ws) rest h q =
-      let here = cancel (separator (length vs)) mid _ (sym m ∙ parts_split (length vs) (w ∷ ws) w ws bytes (codes "}" ++ rest) refl q) in
+      let here = cancel (comma_before (length vs)) mid _ (sym m ∙ parts_split (length vs) (w ∷ ws) w ws bytes (codes "}" ++ rest) refl q) in
       let up = ascending_front (vs ++ w ∷ []) ws (subst IsAscending (pushed vs ws w) h.ascending) in
       none clear w _ (every_behind t vs (w ∷ ws) h.values).0 up (ends_member t (map text ws) rest) here
 
-  pub members_next : (t : Ty) (vs : List Value) (bytes mid more : List ℕ) (v : Value) → IsNoItem (codes "}") bytes → bytes ≡ separator (length vs) ++ mid → mid ≡ text v ++ more → IsOfType e t v → EndsAs t more → AreNoMembers ss e t (vs ++ v ∷ []) more → AreNoMembers ss e t vs bytes
+  pub members_next : (t : Ty) (vs : List Value) (bytes mid more : List ℕ) (v : Value) → IsNoItem (codes "}") bytes → bytes ≡ comma_before (length vs) ++ mid → mid ≡ text v ++ more → IsOfType e t v → EndsAs t more → AreNoMembers ss e t (vs ++ v ∷ []) more → AreNoMembers ss e t vs bytes
   unfolding IsNoItem AreNoMembers
   members_next t vs bytes mid more v ahead b x k ends none clear [] rest h q = ahead rest (none_closed (length vs) [] bytes rest refl q)
   members_next t vs bytes mid more v ahead b x k ends none clear (w ∷ ws) rest h q =
-      let here = cancel (separator (length vs)) mid _ (sym b ∙ parts_split (length vs) (w ∷ ws) w ws bytes (codes "}" ++ rest) refl q) in
+      let here = cancel (comma_before (length vs)) mid _ (sym b ∙ parts_split (length vs) (w ∷ ws) w ws bytes (codes "}" ++ rest) refl q) in
       let one = one_front ss e clear t v w more _ k (every_behind t vs (w ∷ ws) h.values).0 ends (ends_member t (map text ws) rest) (sym x ∙ here) in
       let whole : vs ++ w ∷ ws ≡ (vs ++ v ∷ []) ++ ws = pushed vs ws w ∙ ap (λ y. (vs ++ y ∷ []) ++ ws) (sym one.0) in
       let long : length (vs ++ v ∷ []) ≡ length vs + length (v ∷ []) = length-append vs (v ∷ []) in

@@ -1,5 +1,5 @@
 -- What is read so far of the components of a line, the parts of a tuple, the members of a set.
-use Rattle.zf_texts.proofs.Prelude.{◌++◌, ◌+◌, ◌<◌, ◌∙◌, ◌∷◌, ◌≡◌, [], ap, arith, codes, length, List, map, refl, subst, suc, sym, ℕ, append-nil, append_assoc, length-append, Every, IsAscending, SET_MAX, Value, Comp, no_types, Ty, type, Tys, Environment, AreOfTypes, IsOfType, IsRow, binding_text, component_text, component_texts, IsNoLine, AreMembers, EndsAs, goes_on, AreNoMembers, AreNoParts, IsNoComponent, IsNoItem, IsNoRest, later_parts, parted, separator, value_text, Spelling}
+use Rattle.zf_texts.proofs.Prelude.{◌++◌, ◌+◌, ◌<◌, ◌∙◌, ◌∷◌, ◌≡◌, [], ap, arith, codes, length, List, map, refl, subst, suc, sym, ℕ, append-nil, append_assoc, length-append, Every, IsAscending, SET_MAX, Value, Comp, no_types, Ty, type, Tys, Environment, AreOfTypes, IsOfType, IsRow, binding_text, component_text, component_texts, IsNoLine, AreMembers, EndsAs, goes_on, AreNoMembers, AreNoParts, IsNoComponent, IsNoItem, IsNoRest, later_parts, parted, comma_before, value_text, Spelling}
 use Rattle.zf_texts.proofs.OneFront.{ends_as}
 use Rattle.zf_texts.proofs.OneRow.{one_component, ends_parts}
 use Rattle.zf_texts.proofs.Printing.{goes_on-nil, goes_on-first, front, goes_on-later}
@@ -17,22 +17,22 @@ module _ (ss : List Spelling) (e : Environment) where
   unfolding IsNoRest IsNoLine
   row_begun all bytes = record { whole = λ ws h q. (h, q); none = λ h. h }
 
-  row_split : (c : Comp) (cs : List Comp) (n : ℕ) (vs : List Value) (w : Value) (ws : List Value) (bytes : List ℕ) → vs ≡ w ∷ ws → bytes ≡ goes_on n (component_texts ss (c ∷ cs) vs) → bytes ≡ separator n ++ (component_text ss c w ++ later_parts (component_texts ss cs ws))
+  row_split : (c : Comp) (cs : List Comp) (n : ℕ) (vs : List Value) (w : Value) (ws : List Value) (bytes : List ℕ) → vs ≡ w ∷ ws → bytes ≡ goes_on n (component_texts ss (c ∷ cs) vs) → bytes ≡ comma_before n ++ (component_text ss c w ++ later_parts (component_texts ss cs ws))
   row_split c cs n vs w ws bytes is q = q ∙ ap (λ l. goes_on n (component_texts ss (c ∷ cs) l)) is ∙ goes_on-first n (component_text ss c w) (component_texts ss cs ws)
 
-  pub row_unseparated : (c : Comp) (cs : List Comp) (n : ℕ) (bytes : List ℕ) → IsNoItem (separator n) bytes → IsNoRest ss e (c ∷ cs) n bytes
+  pub row_unseparated : (c : Comp) (cs : List Comp) (n : ℕ) (bytes : List ℕ) → IsNoItem (comma_before n) bytes → IsNoRest ss e (c ∷ cs) n bytes
   unfolding IsNoItem IsNoRest
   row_unseparated c cs n bytes never clear vs (w, ws, is, h, hs) q = never _ (row_split c cs n vs w ws bytes is q)
 
-  pub row_unread : (c : Comp) (cs : List Comp) (n : ℕ) (bytes mid : List ℕ) → bytes ≡ separator n ++ mid → IsNoComponent ss e c mid → IsNoRest ss e (c ∷ cs) n bytes
+  pub row_unread : (c : Comp) (cs : List Comp) (n : ℕ) (bytes mid : List ℕ) → bytes ≡ comma_before n ++ mid → IsNoComponent ss e c mid → IsNoRest ss e (c ∷ cs) n bytes
   unfolding IsNoComponent IsNoRest
   row_unread c cs n bytes mid b never clear vs (w, ws, is, h, hs) q =
-      never clear w _ h (ends_as c.type _ (ends_parts (component_texts ss cs ws))) (cancel (separator n) mid _ (sym b ∙ row_split c cs n vs w ws bytes is q))
+      never clear w _ h (ends_as c.type _ (ends_parts (component_texts ss cs ws))) (cancel (comma_before n) mid _ (sym b ∙ row_split c cs n vs w ws bytes is q))
 
-  row_next : (c : Comp) (cs : List Comp) (n m : ℕ) (bytes mid more : List ℕ) (v : Value) → m ≡ suc n → bytes ≡ separator n ++ mid → mid ≡ component_text ss c v ++ more → IsOfType e c.type v → EndsAs c.type more → IsNoRest ss e cs m more → IsNoRest ss e (c ∷ cs) n bytes
+  row_next : (c : Comp) (cs : List Comp) (n m : ℕ) (bytes mid more : List ℕ) (v : Value) → m ≡ suc n → bytes ≡ comma_before n ++ mid → mid ≡ component_text ss c v ++ more → IsOfType e c.type v → EndsAs c.type more → IsNoRest ss e cs m more → IsNoRest ss e (c ∷ cs) n bytes
   unfolding IsNoRest
   row_next c cs n m bytes mid more v next b x k ends never clear vs (w, ws, is, h, hs) q =
-      let here = cancel (separator n) mid _ (sym b ∙ row_split c cs n vs w ws bytes is q) in
+      let here = cancel (comma_before n) mid _ (sym b ∙ row_split c cs n vs w ws bytes is q) in
       let one = one_component ss e clear c v w more _ k h ends (ends_as c.type _ (ends_parts (component_texts ss cs ws))) (sym x ∙ here) in
       never clear ws hs (one.1 ∙ sym (goes_on-later n m (component_texts ss cs ws) next))
 
@@ -41,10 +41,10 @@ module _ (ss : List Spelling) (e : Environment) where
   row_behind n bytes l clear vs h q = let none = ap length (q ∙ goes_on-nil n) in omega (arith, none)
 
   pub row_more : (all : List Comp) (c : Comp) (cs : List Comp) (bytes : List ℕ) (n m : ℕ) (vs : List Value) (here mid more : List ℕ) (v : Value) → RowSoFar all (c ∷ cs) bytes n vs here
-      → m ≡ suc n → here ≡ separator n ++ mid → mid ≡ component_text ss c v ++ more → IsOfType e c.type v → EndsAs c.type more → RowSoFar all cs bytes m (vs ++ v ∷ []) more
+      → m ≡ suc n → here ≡ comma_before n ++ mid → mid ≡ component_text ss c v ++ more → IsOfType e c.type v → EndsAs c.type more → RowSoFar all cs bytes m (vs ++ v ∷ []) more
   row_more all c cs bytes n m vs here mid more v r next b x k ends = record {
     whole = λ ws h q.
-        let line : here ≡ goes_on n (component_texts ss (c ∷ cs) (v ∷ ws)) = b ∙ ap (λ l. separator n ++ l) (x ∙ ap (λ l. component_text ss c v ++ l) (q ∙ goes_on-later n m (component_texts ss cs ws) next)) ∙ sym (goes_on-first n (component_text ss c v) (component_texts ss cs ws)) in
+        let line : here ≡ goes_on n (component_texts ss (c ∷ cs) (v ∷ ws)) = b ∙ ap (λ l. comma_before n ++ l) (x ∙ ap (λ l. component_text ss c v ++ l) (q ∙ goes_on-later n m (component_texts ss cs ws) next)) ∙ sym (goes_on-first n (component_text ss c v) (component_texts ss cs ws)) in
         subst (λ l. IsRow e all l × (bytes ≡ binding_text ss all l)) (sym (append_assoc vs (v ∷ []) ws)) (r.whole (v ∷ ws) (v, ws, refl, k, h) line);
     none = λ h. r.none (row_next c cs n m here mid more v next b x k ends h);
   }
@@ -62,10 +62,10 @@ module _ (ss : List Spelling) (e : Environment) where
   parts_begun all bytes = record { whole = λ ws rest h q. (h, q); none = λ h. h }
 
   pub parts_more : (all : Tys) (t : Ty) (ts : Tys) (bytes : List ℕ) (n m : ℕ) (vs : List Value) (here mid more : List ℕ) (v : Value) → PartsSoFar all (type t ts) bytes n vs here
-      → m ≡ suc n → here ≡ separator n ++ mid → mid ≡ value_text ss v ++ more → IsOfType e t v → EndsAs t more → PartsSoFar all ts bytes m (vs ++ v ∷ []) more
+      → m ≡ suc n → here ≡ comma_before n ++ mid → mid ≡ value_text ss v ++ more → IsOfType e t v → EndsAs t more → PartsSoFar all ts bytes m (vs ++ v ∷ []) more
   parts_more all t ts bytes n m vs here mid more v r next b x k ends = record {
     whole = λ ws rest h q.
-        let line : here ≡ goes_on n (map (value_text ss) (v ∷ ws)) ++ rest = b ∙ ap (λ l. separator n ++ l) (x ∙ ap (λ l. value_text ss v ++ l) (q ∙ ap (λ l. l ++ rest) (goes_on-later n m (map (value_text ss) ws) next))) ∙ sym (front n (value_text ss v) (map (value_text ss) ws) rest) in
+        let line : here ≡ goes_on n (map (value_text ss) (v ∷ ws)) ++ rest = b ∙ ap (λ l. comma_before n ++ l) (x ∙ ap (λ l. value_text ss v ++ l) (q ∙ ap (λ l. l ++ rest) (goes_on-later n m (map (value_text ss) ws) next))) ∙ sym (front n (value_text ss v) (map (value_text ss) ws) rest) in
         subst (λ l. AreOfTypes e all l × (bytes ≡ parted (map (value_text ss) l) ++ rest)) (sym (append_assoc vs (v ∷ []) ws)) (r.whole (v ∷ ws) rest (v, ws, refl, k, h) line);
     none = λ h. r.none (parts_next ss e t ts n m here mid more v next b x k ends h);
   }
@@ -88,14 +88,14 @@ module _ (ss : List Spelling) (e : Environment) where
   every_push P (x ∷ xs) v h p = (h.0, every_push P xs v h.1 p)
 
   pub members_more : (t : Ty) (bytes : List ℕ) (vs : List Value) (here mid more : List ℕ) (v : Value) → MembersSoFar t bytes vs here → IsNoItem (codes "}") here → length vs < SET_MAX
-      → here ≡ separator (length vs) ++ mid → mid ≡ value_text ss v ++ more → IsOfType e t v → EndsAs t more → IsAscending (vs ++ v ∷ []) → MembersSoFar t bytes (vs ++ v ∷ []) more
+      → here ≡ comma_before (length vs) ++ mid → mid ≡ value_text ss v ++ more → IsOfType e t v → EndsAs t more → IsAscending (vs ++ v ∷ []) → MembersSoFar t bytes (vs ++ v ∷ []) more
   members_more t bytes vs here mid more v r ahead room b x k ends up =
       let long : length (vs ++ v ∷ []) ≡ length vs + length (v ∷ []) = length-append vs (v ∷ []) in
       let next : length (vs ++ v ∷ []) ≡ suc (length vs) = omega arith in
       record {
         members = record { ascending = up; few = omega arith; values = every_push (λ z. IsOfType e t z) vs v r.members.values k };
         whole = λ ws rest q.
-            let line : here ≡ goes_on (length vs) (map (value_text ss) (v ∷ ws)) ++ rest = b ∙ ap (λ l. separator (length vs) ++ l) (x ∙ ap (λ l. value_text ss v ++ l) (q ∙ ap (λ l. l ++ rest) (goes_on-later (length vs) (length (vs ++ v ∷ [])) (map (value_text ss) ws) next))) ∙ sym (front (length vs) (value_text ss v) (map (value_text ss) ws) rest) in
+            let line : here ≡ goes_on (length vs) (map (value_text ss) (v ∷ ws)) ++ rest = b ∙ ap (λ l. comma_before (length vs) ++ l) (x ∙ ap (λ l. value_text ss v ++ l) (q ∙ ap (λ l. l ++ rest) (goes_on-later (length vs) (length (vs ++ v ∷ [])) (map (value_text ss) ws) next))) ∙ sym (front (length vs) (value_text ss v) (map (value_text ss) ws) rest) in
             subst (λ l. bytes ≡ parted (map (value_text ss) l) ++ rest) (sym (append_assoc vs (v ∷ []) ws)) (r.whole (v ∷ ws) rest line);
         none = λ h. r.none (members_next ss e t vs here mid more v ahead b x k ends h);
       }

@@ -1,5 +1,5 @@
 -- Elements by their spellings.
-use Rattle.zf_texts.proofs.Prelude.{◌++◌, ◌+◌, ◌<◌, ◌^◌, ◌∙◌, ◌∷◌, ◌≡◌, ◌≤◌, ◌⊎◌, [], ap, arith, codes, get_or, inl, inr, length, List, None, Option, refl, Some, subst, suc, sym, zero, ℕ, ⊎_elim, decimal_injective, append_assoc, decimal, MatchOption, slice_get, Value, Environment, type_number, IsElement, IsClear, or_empty, spelled, IsSpelledType, HasNoElements, IsNoItem, IsNoSpelledType, SpellsNone, Spelling, Named, Numbered}
+use Rattle.zf_texts.proofs.Prelude.{◌++◌, ◌+◌, ◌<◌, ◌^◌, ◌∙◌, ◌∷◌, ◌≡◌, ◌≤◌, ◌⊎◌, [], ap, arith, codes, get_or, inl, inr, length, List, None, Option, refl, Some, subst, suc, sym, zero, ℕ, ⊎_elim, decimal_injective, append_assoc, decimal, MatchOption, slice_get, Value, Environment, type_number, IsExistingElement, IsClear, or_empty, spelled, IsSpelledType, HasNoElements, IsNoItem, IsNoSpelledType, SpellsNone, Spelling, Named, Numbered}
 use denote.Bor.{Bor}
 use Rattle.zf_texts.proofs.Spelled.{cancel}
 
@@ -30,7 +30,7 @@ unspelled ss e n none clear k at =
     let l = spelled_within ss n s found in
     omega arith
 
-none_of : (ss : List Spelling) (e : Environment) (o : Option ℕ) (v : Value) → o ≡ None → IsElement e o v → ⊥
+none_of : (ss : List Spelling) (e : Environment) (o : Option ℕ) (v : Value) → o ≡ None → IsExistingElement e o v → ⊥
 none_of ss e None v is h = h
 none_of ss e (Some n) v is h = (cc)
 
@@ -38,7 +38,7 @@ pub unnamed : (ss : List Spelling) (e : Environment) (name : List ℕ) → None 
 unfolding IsNoSpelledType
 unnamed ss e name is clear v h = none_of ss e (type_number e name) v (sym is) h
 
-sized_of : (ss : List Spelling) (e : Environment) (o : Option ℕ) (n : ℕ) (v : Value) → o ≡ Some n → ((k : ℕ) → slice_get e.sizes n ≡ Some k → ⊥) → IsElement e o v → ⊥
+sized_of : (ss : List Spelling) (e : Environment) (o : Option ℕ) (n : ℕ) (v : Value) → o ≡ Some n → ((k : ℕ) → slice_get e.sizes n ≡ Some k → ⊥) → IsExistingElement e o v → ⊥
 sized_of ss e None n v is none h = (cc)
 sized_of ss e (Some m) n v is none (k, i, at, l, are) =
     let same : m ≡ n = (cc) in

@@ -1,5 +1,5 @@
 -- Values of each form at a place of a line, and where none stands.
-use Rattle.zf_texts.proofs.Prelude.{◌++◌, ◌+◌, ◌<◌, ◌∙◌, ◌≡◌, [], ap, codes, drop, length, List, map, refl, Some, subst, sym, ℕ, ℤ, append_assoc, signed_decimal, w64, FitsSigned, slice_get, Elem, Int, SetOf, Tuple, Value, Comp, basic, int, power, product, Ty, Tys, Environment, IsElement, component_text, IsClear, spelled, spelled_if, AreMembersAt, ArePartsAt, IsItem, IsSpelledType, IsValueAt, IsWordAt, AreNoMembers, AreNoParts, IsNoComponent, IsNoItem, IsNoSpelledType, IsNoValue, SpellsNone, parted, value_text, Spelling}
+use Rattle.zf_texts.proofs.Prelude.{◌++◌, ◌+◌, ◌<◌, ◌∙◌, ◌≡◌, [], ap, codes, drop, length, List, map, refl, Some, subst, sym, ℕ, ℤ, append_assoc, signed_decimal, w64, FitsSigned, slice_get, Elem, Int, SetOf, Tuple, Value, Comp, basic, int, power, product, Ty, Tys, Environment, IsExistingElement, component_text, IsClear, spelled, spelled_if, AreMembersAt, ArePartsAt, IsItem, IsSpelledType, IsValueAt, IsWordAt, AreNoMembers, AreNoParts, IsNoComponent, IsNoItem, IsNoSpelledType, IsNoValue, SpellsNone, parted, value_text, Spelling}
 use Rattle.zf_texts.proofs.Spelled.{cancel, spelled_word}
 use Rattle.zf_texts.proofs.TextsSeen.{of-Int, of-Elem, of-Tuple, of-SetOf}
 use Rattle.zf_texts.proofs.WordRuns.{AreInWord, one_run, signed_in_word}
@@ -43,7 +43,7 @@ module _ (ss : List Spelling) (e : Environment) where
 
   pub element_at : (name bytes : List ℕ) (place : ℕ) (word : List ℕ) (n k i : ℕ) (s : Spelling) → IsSpelledType ss e name n k s → i < k → word ≡ spelled s i → IsWordAt bytes place word → IsValueAt ss e (basic name) bytes place (Elem n i) (place + length word)
   element_at name bytes place word n k i s h less is at = record {
-    value = subst (λ o. IsElement e o (Elem n i)) (sym h.number) (k, i, h.size, less, refl);
+    value = subst (λ o. IsExistingElement e o (Elem n i)) (sym h.number) (k, i, h.size, less, refl);
     stands = word_item bytes place word (value_text ss (Elem n i)) at (is ∙ sym (element_text n i (Elem n i) s refl h.spelling));
     ends = at.ends;
   }
@@ -58,7 +58,7 @@ module _ (ss : List Spelling) (e : Environment) where
   pub no_element : (name bytes : List ℕ) (place : ℕ) (word : List ℕ) (n k : ℕ) (s : Spelling) → IsSpelledType ss e name n k s → IsWordAt bytes place word → SpellsNone s k word → IsNoValue ss e (basic name) (drop place bytes)
   unfolding SpellsNone IsNoValue
   no_element name bytes place word n k s typed h none clear v rest element ends q =
-      let (j, i, size, less, is) = subst (λ o. IsElement e o v) typed.number element in
+      let (j, i, size, less, is) = subst (λ o. IsExistingElement e o v) typed.number element in
       let (t, found, good) = clear.spelled n k typed.size in
       let same : t ≡ s = same_some t s (sym found ∙ typed.spelling) in
       let count : j ≡ k = same_some j k (sym size ∙ typed.size) in

@@ -7,10 +7,10 @@ use Rattle.zf_value.specs.declared.TheConstants.{SET_MAX}
 use Rattle.zf_value.specs.declared.plain.Value.{Value}
 use Rattle.zf_value.specs.Sets.{Every, IsAscending}
 use Rattle.zf_meaning.specs.Environments.{Environment, type_number}
-use Rattle.zf_meaning.specs.Rows.{IsElement, IsOfType, AreOfTypes, IsRow}
+use Rattle.zf_meaning.specs.Rows.{IsExistingElement, IsOfType, AreOfTypes, IsRow}
 use Rattle.zf_texts.specs.declared.spelling.Spelling.{Spelling}
 use Rattle.zf_texts.specs.Spellings.{spelled}
-use Rattle.zf_texts.specs.ValueTexts.{parted, later_parts, separator, value_text}
+use Rattle.zf_texts.specs.ValueTexts.{parted, later_parts, comma_before, value_text}
 use Rattle.zf_texts.specs.BindingTexts.{component_text, component_texts}
 use Rattle.zf_texts.specs.Words.{is_in_word, Ends}
 use Rattle.zf_texts.specs.Clear.{IsClear, AreClear}
@@ -82,7 +82,7 @@ HasNoElements ss e n = AreClear ss e.sizes → (k : ℕ) → slice_get e.sizes n
 
 -- no element of the type is spelled
 unfoldable pub IsNoSpelledType : List Spelling → Environment → List ℕ → Type 0
-IsNoSpelledType ss e name = AreClear ss e.sizes → (v : Value) → IsElement e (type_number e name) v → ⊥
+IsNoSpelledType ss e name = AreClear ss e.sizes → (v : Value) → IsExistingElement e (type_number e name) v → ⊥
 
 -- none of the first k elements has the word
 unfoldable pub SpellsNone : Spelling → ℕ → List ℕ → Type 0
@@ -151,7 +151,7 @@ BeginsWithoutName name bytes = BeginsWithName name bytes → ⊥
 
 -- the component is named next, from this place on
 pub record IsNamedAt (c : Comp) (bytes : List ℕ) (n place start : ℕ) : Type 0 where
-  pub stands : IsItem bytes place (separator n) start
+  pub stands : IsItem bytes place (comma_before n) start
   pub named : BeginsWithName c.name (drop start bytes)
 
 unfoldable pub IsNotNamed : Comp → ℕ → List ℕ → Type 0
@@ -169,4 +169,4 @@ HoldsIfNamed ss e c bytes n place (Some (v, end)) = IsHeldAt ss e c bytes n plac
 
 -- the component is named next, and no value of it follows
 unfoldable pub HoldsNothing : List Spelling → Environment → Comp → ℕ → List ℕ → Type 0
-HoldsNothing ss e c n bytes = (mid : List ℕ) × (bytes ≡ separator n ++ mid) × BeginsWithName c.name mid × IsNoComponent ss e c mid
+HoldsNothing ss e c n bytes = (mid : List ℕ) × (bytes ≡ comma_before n ++ mid) × BeginsWithName c.name mid × IsNoComponent ss e c mid

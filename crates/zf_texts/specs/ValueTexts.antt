@@ -24,9 +24,9 @@ value_step ss (Value-F.Tuple texts) = codes "(" ++ parted texts ++ codes ")"
 value_step ss (Value-F.SetOf texts) = codes "{" ++ parted texts ++ codes "}"
 
 -- what stands before a part behind n others
-abbrev pub separator : ℕ → List ℕ
-separator zero = []
-separator (suc n) = codes ", "
+abbrev pub comma_before : ℕ → List ℕ
+comma_before zero = []
+comma_before (suc n) = codes ", "
 
 unfoldable pub value_text : List Spelling → Value → List ℕ
 value_text ss = fold-Value (List ℕ) (value_step ss)

@@ -7,7 +7,7 @@ ghost use Rattle.zf_texts.specs.Held.{IsHeldLine};
 ghost use Rattle.zf_texts.specs.HeldLaws.{IsNoHeldLine};
 ghost use Rattle.zf_texts.specs.Readings.{IfMisfit};
 ghost use Rattle.zf_texts.specs.Steps.{HoldsIfNamed, HoldsNothing, IsItem, IsNamedAt, IsNoItem, BeginsWithoutName, IsNotNamed, BeginsWithName, GoesOn};
-ghost use Rattle.zf_texts.specs.ValueTexts.{separator};
+ghost use Rattle.zf_texts.specs.ValueTexts.{comma_before};
 
 use crate::fault::AfterFault;
 use crate::read::read_component;
@@ -91,7 +91,7 @@ fn named_at(text: &[u8], place: usize, count: usize, component: &Component<'_>) 
 /// The place behind what stands before a part behind so many others.
 fn behind_separator(text: &[u8], place: usize, count: usize) -> Option<usize>
     requires { place ≤ length text.now }
-    ensures { MatchOption result (IsNoItem (separator count) (drop place text.now)) (λ start. IsItem text.now place (separator count) start) }
+    ensures { MatchOption result (IsNoItem (comma_before count) (drop place text.now)) (λ start. IsItem text.now place (comma_before count) start) }
 {
     if count == 0 {
         return Some(place);

@@ -4,7 +4,7 @@ ghost use Rattle.std.specs.Fmt.{decimal, signed_decimal};
 ghost use Rattle.zf_term.specs.SchemaViews.{comp_of, schema_of};
 ghost use Rattle.zf_texts.specs.BindingTexts as spec;
 ghost use Rattle.zf_texts.specs.Spellings.{spelled, spelled_if, element_text};
-ghost use Rattle.zf_texts.specs.ValueTexts.{parted, value_text, separator};
+ghost use Rattle.zf_texts.specs.ValueTexts.{parted, value_text, comma_before};
 
 use crate::spelling::Spelling;
 use itoa::Buffer;
@@ -62,7 +62,7 @@ fn append_component(
 
 /// Appends what stands before a part, behind so many others.
 fn append_separator(text: &mut Vec<u8>, count: usize) -> Result<(), AllocError>
-    ensures { OnOk result (text.new.items ≡ text.old.items ++ separator count) }
+    ensures { OnOk result (text.new.items ≡ text.old.items ++ comma_before count) }
 {
     if count == 0 {
         return Ok(());

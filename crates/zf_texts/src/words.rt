@@ -5,7 +5,7 @@ ghost use Rattle.std.specs.Int.{w64};
 ghost use Rattle.zf_texts.specs.Words as spec;
 ghost use Rattle.zf_texts.specs.Readings.{IfMisfit};
 ghost use Rattle.zf_texts.specs.Steps.{IsItem, IsNoItem, IsWordAt};
-ghost use Rattle.zf_texts.specs.ValueTexts.{separator};
+ghost use Rattle.zf_texts.specs.ValueTexts.{comma_before};
 
 use crate::fault::AfterFault;
 use itoa::Buffer;
@@ -60,8 +60,8 @@ pub(crate) fn item(text: &[u8], place: usize, item: &[u8]) -> Result<usize, Afte
 /// What stands before a part, behind so many others.
 pub(crate) fn separated(text: &[u8], place: usize, count: usize) -> Result<usize, AfterFault>
     requires { place ≤ length text.now }
-    ensures read { IfOk result (λ end. IsItem text.now place (separator count) end) }
-    ensures refused { IfErr result (IfMisfit (IsNoItem (separator count) (drop place text.now))) }
+    ensures read { IfOk result (λ end. IsItem text.now place (comma_before count) end) }
+    ensures refused { IfErr result (IfMisfit (IsNoItem (comma_before count) (drop place text.now))) }
 {
     if count == 0 {
         return Ok(place);

@@ -1,5 +1,5 @@
 -- Stated sizes are complete, or one fault of theirs is the first.
-use Rattle.zf_total.proofs.Prelude.{◌+◌, ◌<◌, ◌∷◌, ◌≡◌, ◌≤◌, ◌⊎◌, [], ap, arith, get_or, inl, inr, length, List, refl, subst, suc, take, zero, ℕ, ⊎_elim, cases_eq, cases_lt, ◌≢◌, All, Contains, Contains-cases, Contains-head, Contains-later, Contains-nil, SET_MAX, abbreviation, constructor, Defined, Definition, free_type, given_set, schema, AddsSize, AreAccepted, AreComplete, AreSizes, given_sets, IsAccepted, IsRefusal, IsStated, names, Refuses, with_given, Size}
+use Rattle.zf_total.proofs.Prelude.{◌+◌, ◌<◌, ◌∷◌, ◌≡◌, ◌≤◌, ◌⊎◌, [], ap, arith, get_or, inl, inr, length, List, refl, subst, suc, take, zero, ℕ, ⊎_elim, cases_eq, cases_lt, ◌≢◌, All, Contains, Contains-cases, Contains-head, Contains-later, Contains-nil, SET_MAX, abbreviation, constructor, Defined, Definition, free_type, given_set, schema, AddsSize, AreAccepted, AreComplete, AreSizes, given_sets, IsAccepted, IsRefusal, IsStated, names, IsSizeFault, with_given, Size}
 use Rattle.std.proofs.lemmas.List.Elements.{All-nil}
 use Rattle.zf_meaning.specs.declared.sizes.SizeFault.{SizeFault}
 use Rattle.zf_meaning.specs.declared.sizes.SizeFault.TheVariants.{NoSize, NotGiven, SizeTwice, SizeTooLarge, OutOfMemory}
@@ -29,7 +29,7 @@ whole (x ∷ xs) (suc i) l = ap (λ ys. x ∷ ys) (whole xs i (omega arith))
 -- ---- what is accepted
 
 -- a size is accepted after the earlier ones, or has a fault
-accepted_or_not : (sets : List (List ℕ)) (earlier : List Size) (size : Size) → IsAccepted sets earlier size ⊎ ((fault : SizeFault) × Refuses sets earlier size fault × (fault ≢ OutOfMemory))
+accepted_or_not : (sets : List (List ℕ)) (earlier : List Size) (size : Size) → IsAccepted sets earlier size ⊎ ((fault : SizeFault) × IsSizeFault sets earlier size fault × (fault ≢ OutOfMemory))
 accepted_or_not sets earlier size = elim (has_name sets size.name) [
   | inr n ↦ inr (NotGiven size.name, (refl, n), λ e. (cc))
   | inl g ↦ elim (has_name (names earlier) size.name) [

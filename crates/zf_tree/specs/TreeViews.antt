@@ -88,14 +88,14 @@ schema_step (SchemaExp-F.Both a b) = both a b
 schema_step (SchemaExp-F.Or l a b) = either l a b
 schema_step (SchemaExp-F.Bracket a) = schema_bracket a
 
-unfoldable pub schema_of : SchemaExp → SchemaTree
-schema_of = fold-SchemaExp SchemaTree schema_step
+unfoldable pub schema_tree_of : SchemaExp → SchemaTree
+schema_tree_of = fold-SchemaExp SchemaTree schema_step
 
 abbrev pub paragraph_of : Paragraph → ParagraphTree
 paragraph_of (paragraph.Given names) = given names
 paragraph_of (paragraph.Free name names) = free name names
 paragraph_of (paragraph.Abbrev name term) = abbreviation name (tree_of term)
-paragraph_of (paragraph.Defs name exp) = definition name (schema_of exp)
+paragraph_of (paragraph.Defs name exp) = definition name (schema_tree_of exp)
 
 abbrev pub box_of : ZBox → BoxTree
 box_of (zbox.Zed ps) = zed (map paragraph_of ps)

@@ -1,5 +1,5 @@
 -- Bound variables: names that are declared apart, and scopes with variables in them.
-use Rattle.zf_type.proofs.Prelude.{if◌then◌else◌, ◌++◌, ◌∙◌, ◌∷◌, ◌≡◌, [], ap, Bool, Err, false, inl, inr, length, List, map, None, Ok, Option, refl, Some, sym, take, true, true≢false, ℕ, ⊎_elim, take-append_seam, length-map, map-append, take-map, bytes_eq-Decides, bytes_eq, spelling, Name, comp_of, globals_of, later, or_else, Offence, AreNew, AreRepeated, IsBound, IsRepeated, Repeats, last_named, Scope, Var, variable_of, within, scope_of, AreApart, IsApart, Variable}
+use Rattle.zf_type.proofs.Prelude.{if◌then◌else◌, ◌++◌, ◌∙◌, ◌∷◌, ◌≡◌, [], ap, Bool, Err, false, inl, inr, length, List, map, None, Ok, Option, refl, Some, sym, take, true, true≢false, ℕ, ⊎_elim, take-append_seam, length-map, map-append, take-map, bytes_eq-Decides, bytes_eq, spelling, Name, comp_of, globals_of, later, or_else, Offence, AreNew, AreRepeated, IsBound, IsRepeated, Repeats, last_named, Scope, Var, variable_of, with_variables, scope_of, AreApart, IsApart, Variable}
 use Rattle.std.specs.Prelude.{◌⊎◌, Result, OnErr, OnOk}
 use Rattle.zf_type.specs.declared.scope.Scope as program
 
@@ -78,7 +78,7 @@ pub depth_of : (p : program.Scope) → length p.locals ≡ length (scope_of p).l
 unfolding scope_of
 depth_of p = sym (length-map p.locals variable_of)
 
-pub more_bound : (p q : program.Scope) (vs : List Variable) → q.globals ≡ p.globals → q.components ≡ p.components → q.locals ≡ p.locals ++ vs → scope_of q ≡ within (scope_of p) (map variable_of vs)
+pub more_bound : (p q : program.Scope) (vs : List Variable) → q.globals ≡ p.globals → q.components ≡ p.components → q.locals ≡ p.locals ++ vs → scope_of q ≡ with_variables (scope_of p) (map variable_of vs)
 unfolding scope_of
 more_bound p q vs g c l =
     let locals = ap (map variable_of) l ∙ map-append variable_of p.locals vs in
@@ -94,7 +94,7 @@ same_bound p q g c l =
     ∙ ap (λ x. record { globals = globals_of p.globals.now; comps = map comp_of p.components.now; locals = map variable_of x }) l
 
 -- of a scope within another, as many variables as that one has are that one's
-pub less_bound : (p q : program.Scope) (s : Scope) (vs : List Var) (n : ℕ) → q.globals ≡ p.globals → q.components ≡ p.components → q.locals ≡ take n p.locals → scope_of p ≡ within s vs → n ≡ length s.locals → scope_of q ≡ s
+pub less_bound : (p q : program.Scope) (s : Scope) (vs : List Var) (n : ℕ) → q.globals ≡ p.globals → q.components ≡ p.components → q.locals ≡ take n p.locals → scope_of p ≡ with_variables s vs → n ≡ length s.locals → scope_of q ≡ s
 unfolding scope_of
 less_bound p q s vs n g c l h e =
     let globals : globals_of q.globals.now ≡ s.globals = ap (λ x. globals_of x.now) g ∙ ap (λ z. z.globals) h in

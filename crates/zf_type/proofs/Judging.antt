@@ -1,5 +1,5 @@
 -- From the answers about the parts of a term to the answer about the term.
-use Rattle.zf_type.proofs.Prelude.{◌≡◌, Err, inr, None, Ok, Option, refl, Some, subst, sym, true≢false, ℕ, IfErr, IfOk, IsErr, IsErrAnd, Result, need_of, binary, bracket, builder, chain, constant, empty_set, listed, named, numeral, quantified, Tree, tree_of, unary, Need, Rule, Unary, Domain, Finset, Power, Range, Size, Term, resolved_of, pair, power, Offence, IsJudged, Judges, Misplaced, Offends, IfFault, IsRefusal, offence_of, resolved, a_schema, Meets, number, predicate, set_of, Sort, sort_of, Takes, UnaryTakes, IsMade, IsMadeOfOne, Scope, IsOf, Refusal, Fault, OutOfMemory, Judged}
+use Rattle.zf_type.proofs.Prelude.{◌≡◌, Err, inr, None, Ok, Option, refl, Some, subst, sym, true≢false, ℕ, IfErr, IfOk, IsErr, IsErrAnd, Result, need_of, binary, bracket, builder, chain, constant, empty_set, listed, named, numeral, quantified, Tree, tree_of, unary, Need, Rule, Unary, Domain, Finset, Power, Range, Size, Term, resolved_of, pair_type, power, Offence, IsJudged, Judges, Misplaced, Offends, IfFault, IsRefusal, offence_of, resolved, a_schema, Meets, number_sort, predicate, set_sort, Sort, sort_of, Takes, UnaryTakes, IsMade, IsMadeOfOne, Scope, IsOf, Refusal, Fault, OutOfMemory, Judged}
 use Rattle.zf_tree.specs.declared.operator.Sign.TheVariants as sign
 use Rattle.zf_tree.specs.declared.operator.Need.TheVariants as need
 use Rattle.zf_tree.specs.declared.operator.Unary.TheVariants.{Sign, Inverse, Not}
@@ -79,13 +79,13 @@ no_schema need.Predicate x h e = (cc)
 
 -- what meets the need of a symbol is taken by it
 pub unary_taken : (op : Unary) (x : Sort) → Meets (need_of op) x → (z : Sort) × UnaryTakes op x z
-unary_taken (Sign sign.Minus) x h = (number, (h, refl))
-unary_taken (Sign (sign.Symbol Power)) x h = (set_of (power h.0), (h.0, h.1, refl))
-unary_taken (Sign (sign.Symbol Finset)) x h = (set_of (power h.0), (h.0, h.1, refl))
-unary_taken (Sign (sign.Symbol Size)) x h = (number, (h.0, h.1, refl))
-unary_taken (Sign (sign.Symbol Domain)) x h = (set_of h.0, (h.0, h.1, h.2, refl))
-unary_taken (Sign (sign.Symbol Range)) x h = (set_of h.1, (h.0, h.1, h.2, refl))
-unary_taken Inverse x h = (set_of (pair h.1 h.0), (h.0, h.1, h.2, refl))
+unary_taken (Sign sign.Minus) x h = (number_sort, (h, refl))
+unary_taken (Sign (sign.Symbol Power)) x h = (set_sort (power h.0), (h.0, h.1, refl))
+unary_taken (Sign (sign.Symbol Finset)) x h = (set_sort (power h.0), (h.0, h.1, refl))
+unary_taken (Sign (sign.Symbol Size)) x h = (number_sort, (h.0, h.1, refl))
+unary_taken (Sign (sign.Symbol Domain)) x h = (set_sort h.0, (h.0, h.1, h.2, refl))
+unary_taken (Sign (sign.Symbol Range)) x h = (set_sort h.1, (h.0, h.1, h.2, refl))
+unary_taken Inverse x h = (set_sort (pair_type h.1 h.0), (h.0, h.1, h.2, refl))
 unary_taken Not x h = (predicate, (h, refl))
 
 -- what one operand makes, or that it makes nothing

@@ -1,5 +1,5 @@
 -- A term that is well typed for its place has no offence there.
-use Rattle.zf_type.proofs.Prelude.{◌∙◌, ◌∷◌, ◌⊎◌, [], inl, inr, List, refl, subst, sym, ℕ, ⊎_elim, none-some, left_need, need_of, prefix_need, relation_rule, right_need, rule_of, sign_need, absent, binary, bracket, builder, chain, constant, empty_set, link, Links, listed, named, no_decls, no_links, no_trees, numeral, Perhaps, present, quantified, Tree, tree, Trees, unary, var_decl, VarDecls, Listed, Display, Product, Tuple, Need, Rule, Sign, Unary, Prefix, Domain, Finset, Power, Range, Size, Name, IsSmall, power, Ty, type, Tys, Offence, BuildsTooLarge, Clash, Differ, Disagree, IsRepeated, LinksOffend, ListedTooLarge, MakesTooLarge, MakeTooLarge, Misplaced, Offends, OneDiffers, OneOffends, PartOffends, Repeats, SetsOffend, IsSmallSort, Meets, predicate, PrefixTakes, set_of, SignTakes, Sort, Takes, typed, UnaryTakes, Scope, Var, within, AreAll, AreApart, AreLinked, AreMembers, Builds, Constrains, Declare, declared, IsApart, IsOf, Makes, member_need, member_sort}
+use Rattle.zf_type.proofs.Prelude.{◌∙◌, ◌∷◌, ◌⊎◌, [], inl, inr, List, refl, subst, sym, ℕ, ⊎_elim, none-some, left_need, need_of, prefix_need, relation_rule, right_need, rule_of, sign_need, absent, binary, bracket, builder, chain, constant, empty_set, link, Links, listed, named, no_decls, no_links, no_trees, numeral, Perhaps, present, quantified, Tree, tree, Trees, unary, var_decl, VarDecls, Listed, Display, Product, Tuple, Need, Rule, Sign, Unary, Prefix, Domain, Finset, Power, Range, Size, Name, IsSmall, power, Ty, type, Tys, Offence, BuildsTooLarge, Clash, Differ, Disagree, IsRepeated, LinksOffend, ListedTooLarge, MakesTooLarge, MakeTooLarge, Misplaced, Offends, OneDiffers, OneOffends, PartOffends, Repeats, SetsOffend, IsSmallSort, Meets, predicate, PrefixTakes, set_sort, SignTakes, Sort, Takes, typed, UnaryTakes, Scope, Var, with_variables, AreAll, AreApart, LinksAreTyped, AreMembers, HasMemberType, PartIsPredicate, Declare, declared, IsApart, IsOf, Makes, member_need, member_sort}
 use Rattle.zf_tree.specs.declared.operator.Sign.TheVariants as sign
 use Rattle.zf_tree.specs.declared.operator.Need.TheVariants as need
 use Rattle.zf_tree.specs.declared.operator.Rule.TheVariants as rule
@@ -86,7 +86,7 @@ no_clash s r l a b x y z k m p q taken small (inr o) = not_too_large s r l a b x
 pub unary_not_too_large : (s : Scope) (op : Unary) (l : ℕ) (a : Tree) (x z : Sort) (k : Offence) (m : ℕ) → IsOf s a x → UnaryTakes op x z → IsSmallSort z → MakesTooLarge s op l a k m → ⊥
 unary_not_too_large s op l a x z k m p taken small o = o.4 (subst IsSmallSort (same_unary op x z o.0 o.1 (one_sort s a x o.0 p o.2) taken o.3) small)
 
-pub built_not_too_large : (s : Scope) (vs : List Var) (l : ℕ) (e : Perhaps) (u : Ty) (k : Offence) (m : ℕ) → Builds s vs e u → IsSmall (power u) → BuildsTooLarge s vs l e k m → ⊥
+pub built_not_too_large : (s : Scope) (vs : List Var) (l : ℕ) (e : Perhaps) (u : Ty) (k : Offence) (m : ℕ) → HasMemberType s vs e u → IsSmall (power u) → BuildsTooLarge s vs l e k m → ⊥
 built_not_too_large s vs l e u k m p small o = o.2 (subst (λ v. IsSmall (power v)) (one_built s vs e u o.0 p o.1) small)
 
 not_repeated : (n : Name) (ns : List Name) (k : Offence) (m : ℕ) → IsApart n ns → IsRepeated n ns k m → ⊥
@@ -132,7 +132,7 @@ mutual
   no_offence s n (named x) z k m p meets (inr o) = not_misplaced s n (named x) z k m p meets o
   no_offence s n (numeral l v) z k m p meets o = not_misplaced s n (numeral l v) z k m p meets o
   no_offence s n (constant l c) z k m p meets o = not_misplaced s n (constant l c) z k m p meets o
-  no_offence s n (empty_set l e) z k m p meets (inl o) = no_offence s need.Set e (set_of p.0) k m p.1 (p.0, refl) o
+  no_offence s n (empty_set l e) z k m p meets (inl o) = no_offence s need.Set e (set_sort p.0) k m p.1 (p.0, refl) o
   no_offence s n (empty_set l e) z k m p meets (inr o) = not_misplaced s n (empty_set l e) z k m p meets o
   no_offence s n (bracket l e) z k m p meets (inl o) = no_offence s n e z k m p.0 meets o
   no_offence s n (bracket l e) z k m p meets (inr o) = not_misplaced s n (bracket l e) z k m p meets o
@@ -144,10 +144,10 @@ mutual
   no_offence s n (builder l ds c e) z k m p meets (inr (inl o)) = no_set_offends s ds p.0 k m p.3 o
   no_offence s n (builder l ds c e) z k m p meets (inr (inr (inl o))) =
       let vs = one_declared s ds p.0 o.0 p.3 o.1.1 in
-      let condition = subst (λ v. Constrains (within s v) c) vs p.4 in
-      let built = subst (λ v. Builds (within s v) v e p.1) vs p.5 in
-      ⊎_elim (no_condition_offends (within s o.0) c k m condition)
-      (⊎_elim (no_built_offends (within s o.0) o.0 e p.1 k m built) (built_not_too_large (within s o.0) o.0 l e p.1 k m built p.6)) o.2
+      let condition = subst (λ v. PartIsPredicate (with_variables s v) c) vs p.4 in
+      let built = subst (λ v. HasMemberType (with_variables s v) v e p.1) vs p.5 in
+      ⊎_elim (no_condition_offends (with_variables s o.0) c k m condition)
+      (⊎_elim (no_built_offends (with_variables s o.0) o.0 e p.1 k m built) (built_not_too_large (with_variables s o.0) o.0 l e p.1 k m built p.6)) o.2
   no_offence s n (builder l ds c e) z k m p meets (inr (inr (inr o))) = not_misplaced s n (builder l ds c e) z k m p meets o
   no_offence s n (unary l op e) z k m p meets (inl o) = no_offence s (need_of op) e p.0 k m p.1 (operand_meets op p.0 z p.2) o
   no_offence s n (unary l op e) z k m p meets (inr (inl o)) = unary_not_too_large s op l e p.0 z k m p.1 p.2 p.3 o
@@ -163,9 +163,9 @@ mutual
   no_offence s n (quantified l op ds c e) z k m p meets (inr (inl o)) = no_set_offends s ds p.0 k m p.2 o
   no_offence s n (quantified l op ds c e) z k m p meets (inr (inr (inl o))) =
       let vs = one_declared s ds p.0 o.0 p.2 o.1.1 in
-      let condition = subst (λ v. Constrains (within s v) c) vs p.3 in
-      let body = subst (λ v. IsOf (within s v) e predicate) vs p.4 in
-      ⊎_elim (no_condition_offends (within s o.0) c k m condition) (no_offence (within s o.0) need.Predicate e predicate k m body refl) o.2
+      let condition = subst (λ v. PartIsPredicate (with_variables s v) c) vs p.3 in
+      let body = subst (λ v. IsOf (with_variables s v) e predicate) vs p.4 in
+      ⊎_elim (no_condition_offends (with_variables s o.0) c k m condition) (no_offence (with_variables s o.0) need.Predicate e predicate k m body refl) o.2
   no_offence s n (quantified l op ds c e) z k m p meets (inr (inr (inr o))) = not_misplaced s n (quantified l op ds c e) z k m p meets o
 
   pub no_member_offends : (form : Listed) (s : Scope) (es : Trees) (us : Tys) (k : Offence) (m : ℕ) → AreMembers form s es us → OneOffends s (member_need form) es k m → ⊥
@@ -173,7 +173,7 @@ mutual
   no_member_offends form s (tree e es) us k m p (inl o) = no_offence s (member_need form) e (member_sort form p.0) k m p.2 (member_meets form p.0) o
   no_member_offends form s (tree e es) us k m p (inr o) = no_member_offends form s es p.1 k m p.3 o
 
-  pub no_link_offends : (s : Scope) (left : Tree) (x : Sort) (ks : Links) (k : Offence) (m : ℕ) → IsOf s left x → AreLinked s x ks → LinksOffend s left ks k m → ⊥
+  pub no_link_offends : (s : Scope) (left : Tree) (x : Sort) (ks : Links) (k : Offence) (m : ℕ) → IsOf s left x → LinksAreTyped s x ks → LinksOffend s left ks k m → ⊥
   no_link_offends s left x no_links k m p q o = o
   no_link_offends s left x (link r e ks) k m p q (inl o) =
       not_misplaced s (left_need (relation_rule r)) left x k m p (left_meets (relation_rule r) x q.0 predicate q.2) o
@@ -184,13 +184,13 @@ mutual
 
   pub no_set_offends : (s : Scope) (ds : VarDecls) (vs : List Var) (k : Offence) (m : ℕ) → Declare s ds vs → SetsOffend s ds k m → ⊥
   no_set_offends s no_decls vs k m p o = o
-  no_set_offends s (var_decl ns e ds) vs k m p (inl o) = no_offence s need.Set e (set_of p.0) k m p.2 (p.0, refl) o
+  no_set_offends s (var_decl ns e ds) vs k m p (inl o) = no_offence s need.Set e (set_sort p.0) k m p.2 (p.0, refl) o
   no_set_offends s (var_decl ns e ds) vs k m p (inr o) = no_set_offends s ds p.1 k m p.3 o
 
-  pub no_condition_offends : (s : Scope) (c : Perhaps) (k : Offence) (m : ℕ) → Constrains s c → PartOffends s need.Predicate c k m → ⊥
+  pub no_condition_offends : (s : Scope) (c : Perhaps) (k : Offence) (m : ℕ) → PartIsPredicate s c → PartOffends s need.Predicate c k m → ⊥
   no_condition_offends s absent k m p o = o
   no_condition_offends s (present e) k m p o = no_offence s need.Predicate e predicate k m p refl o
 
-  pub no_built_offends : (s : Scope) (vs : List Var) (e : Perhaps) (u : Ty) (k : Offence) (m : ℕ) → Builds s vs e u → PartOffends s need.Expression e k m → ⊥
+  pub no_built_offends : (s : Scope) (vs : List Var) (e : Perhaps) (u : Ty) (k : Offence) (m : ℕ) → HasMemberType s vs e u → PartOffends s need.Expression e k m → ⊥
   no_built_offends s vs absent u k m p o = o
   no_built_offends s vs (present e) u k m p o = no_offence s need.Expression e (typed u) k m p (u, refl) o

@@ -1,5 +1,5 @@
 -- A term is of one sort at most, and what it declares or builds is one thing.
-use Rattle.zf_type.proofs.Prelude.{◌++◌, ◌∙◌, ◌≡◌, ap, List, subst, sym, same_Some, rule_of, absent, binary, bracket, builder, chain, constant, empty_set, listed, named, no_decls, no_trees, numeral, Perhaps, present, quantified, Tree, tree, Trees, unary, var_decl, VarDecls, Listed, Display, Product, Tuple, Rule, Sign, Unary, Prefix, Domain, Finset, Power, Range, Size, no_types, power, product, Ty, type, Tys, PrefixTakes, set_of, SignTakes, Sort, Takes, typed, UnaryTakes, Scope, Var, within, AreAll, AreMembers, Builds, Declare, IsOf, Makes, member_sort, variables}
+use Rattle.zf_type.proofs.Prelude.{◌++◌, ◌∙◌, ◌≡◌, ap, List, subst, sym, same_Some, rule_of, absent, binary, bracket, builder, chain, constant, empty_set, listed, named, no_decls, no_trees, numeral, Perhaps, present, quantified, Tree, tree, Trees, unary, var_decl, VarDecls, Listed, Display, Product, Tuple, Rule, Sign, Unary, Prefix, Domain, Finset, Power, Range, Size, no_types, power, product, Ty, type, Tys, PrefixTakes, set_sort, SignTakes, Sort, Takes, typed, UnaryTakes, Scope, Var, with_variables, AreAll, AreMembers, HasMemberType, Declare, IsOf, Makes, member_sort, variables}
 use Rattle.zf_tree.specs.declared.operator.Sign.TheVariants as sign
 use Rattle.zf_tree.specs.declared.operator.Rule.TheVariants as rule
 use Rattle.zf_tree.specs.declared.operator.Unary.TheVariants as symbol
@@ -50,7 +50,7 @@ same_unary op x z a c operand p q = one_unary op a z c (subst (λ v. UnaryTakes 
 pub same_typed : (u v : Ty) → typed u ≡ typed v → u ≡ v
 same_typed u v e = (cc)
 
-pub same_set : (u v : Ty) → set_of u ≡ set_of v → u ≡ v
+pub same_set : (u v : Ty) → set_sort u ≡ set_sort v → u ≡ v
 same_set u v e = (cc)
 
 -- ---- of members too, and of what they make
@@ -80,13 +80,13 @@ mutual
   one_sort s (named n) x y p q = ap (λ v. v.1) (same_Some (p.0, x) (q.0, y) (sym p.1 ∙ q.1))
   one_sort s (numeral l v) x y p q = p ∙ sym q
   one_sort s (constant l c) x y p q = p ∙ sym q
-  one_sort s (empty_set l e) x y p q = p.2 ∙ one_sort s e (set_of p.0) (set_of q.0) p.1 q.1 ∙ sym q.2
+  one_sort s (empty_set l e) x y p q = p.2 ∙ one_sort s e (set_sort p.0) (set_sort q.0) p.1 q.1 ∙ sym q.2
   one_sort s (bracket l e) x y p q = one_sort s e x y p.0 q.0
   one_sort s (listed l form es) x y p q = p.5 ∙ ap typed (one_made form p.0 q.0 p.1 q.1 (one_row form s es p.0 q.0 p.2 q.2) p.3 q.3) ∙ sym q.5
   one_sort s (builder l ds c e) x y p q =
       let vs = one_declared s ds p.0 q.0 p.3 q.3 in
-      let built = subst (λ v. Builds (within s v) v e p.1) vs p.5 in
-      p.7 ∙ ap set_of (one_built (within s q.0) q.0 e p.1 q.1 built q.5) ∙ sym q.7
+      let built = subst (λ v. HasMemberType (with_variables s v) v e p.1) vs p.5 in
+      p.7 ∙ ap set_sort (one_built (with_variables s q.0) q.0 e p.1 q.1 built q.5) ∙ sym q.7
   one_sort s (unary l op e) x y p q = same_unary op p.0 x q.0 y (one_sort s e p.0 q.0 p.1 q.1) p.2 q.2
   one_sort s (binary l op a b) x y p q = same_whole (rule_of op) p.0 p.1 x q.0 q.1 y (one_sort s a p.0 q.0 p.2 q.2) (one_sort s b p.1 q.1 p.3 q.3) p.4 q.4
   one_sort s (chain l e ks) x y p q = p.3 ∙ sym q.3
@@ -102,10 +102,10 @@ mutual
   pub one_declared : (s : Scope) (ds : VarDecls) (us vs : List Var) → Declare s ds us → Declare s ds vs → us ≡ vs
   one_declared s no_decls us vs p q = p ∙ sym q
   one_declared s (var_decl ns e ds) us vs p q =
-      let set = same_set p.0 q.0 (one_sort s e (set_of p.0) (set_of q.0) p.2 q.2) in
+      let set = same_set p.0 q.0 (one_sort s e (set_sort p.0) (set_sort q.0) p.2 q.2) in
       let rest = one_declared s ds p.1 q.1 p.3 q.3 in
       p.4 ∙ ap (λ u. variables ns u ++ p.1) set ∙ ap (λ rest. variables ns q.0 ++ rest) rest ∙ sym q.4
 
-  pub one_built : (s : Scope) (ws : List Var) (e : Perhaps) (u v : Ty) → Builds s ws e u → Builds s ws e v → u ≡ v
+  pub one_built : (s : Scope) (ws : List Var) (e : Perhaps) (u v : Ty) → HasMemberType s ws e u → HasMemberType s ws e v → u ≡ v
   one_built s ws absent u v p q = p ∙ sym q
   one_built s ws (present e) u v p q = same_typed u v (one_sort s e (typed u) (typed v) p q)

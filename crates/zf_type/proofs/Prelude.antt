@@ -34,7 +34,7 @@ pub use Rattle.zf_term.specs.FoundViews.{found_as}
 pub use Rattle.zf_term.specs.ResolvedViews.{range_of, ranges, resolved_link_of, resolved_of}
 pub use Rattle.zf_term.specs.ResolvedTrees.{reference, ResolvedTree}
 pub use Rattle.zf_term.specs.Shapes.{conjuncts, is_and}
-pub use Rattle.zf_term.specs.Types.{int, IsSmall, no_types, pair, power, product, Ty, type, types, Tys}
+pub use Rattle.zf_term.specs.Types.{int, IsSmall, no_types, pair_type, power, product, Ty, type, types, Tys}
 pub use Rattle.zf_term.specs.TypeViews.{type_of}
 pub use Rattle.zf_term.specs.Faults.{local_twice, mismatch, no_members, not_declared, Offence, too_large}
 pub use Rattle.zf_term.specs.declared.fault.Limit.TheVariants.{TypeNodes}
@@ -46,13 +46,13 @@ unfoldable pub use Rattle.zf_type.specs.Judging.{Judges, JudgesPart}
 pub use Rattle.zf_type.specs.Offences.{BuildsTooLarge, Clash, Differ, Disagree, IsRepeated, LinksOffend, ListedTooLarge, MakesTooLarge, MakeTooLarge, Misplaced, Offends, OneDiffers, OneOffends, PartOffends, Repeats, SetsOffend}
 pub use Rattle.zf_type.specs.Refusals.{IfFault, IsRefusal, offence_of}
 pub use Rattle.zf_type.specs.Resolving.{bound, referent, resolved, resolved_all, resolved_links, resolved_part, resolved_ranges}
-pub use Rattle.zf_type.specs.Rules.{a_schema, IsSmallSort, Meets, number, predicate, PrefixTakes, set_of, SignTakes, Sort, Takes, typed, UnaryTakes}
+pub use Rattle.zf_type.specs.Rules.{a_schema, IsSmallSort, Meets, number_sort, predicate, PrefixTakes, set_sort, SignTakes, Sort, Takes, typed, UnaryTakes}
 pub use Rattle.zf_type.specs.RuleViews.{sort_of}
 unfoldable pub use Rattle.zf_type.specs.RuleViews.{IsMade, IsMadeOfOne}
-pub use Rattle.zf_type.specs.Scopes.{global_sort, last_named, meaning, Scope, Var, with_comp, with_global, with_local, within}
+pub use Rattle.zf_type.specs.Scopes.{global_sort, last_named, meaning, Scope, Var, component_meaning, global_meaning, variable_meaning, with_variables}
 pub use Rattle.zf_type.specs.ScopeViews.{meant, variable_of}
 unfoldable pub use Rattle.zf_type.specs.ScopeViews.{scope_of}
-pub use Rattle.zf_type.specs.Typing.{AreAll, AreApart, AreLinked, AreMembers, Builds, Constrains, Declare, declared, IsApart, IsOf, Makes, member_need, member_sort, row_type, types_of, variables}
+pub use Rattle.zf_type.specs.Typing.{AreAll, AreApart, LinksAreTyped, AreMembers, HasMemberType, PartIsPredicate, Declare, declared, IsApart, IsOf, Makes, member_need, member_sort, row_type, types_of, variables}
 pub use Rattle.zf_type.specs.declared.fault.Refusal.{Refusal}
 pub use Rattle.zf_type.specs.declared.fault.Refusal.TheVariants.{Fault, OutOfMemory}
 pub use Rattle.zf_type.specs.declared.index.Chained.{Chained}

@@ -1,5 +1,5 @@
 -- How a term is resolved depends on the names in scope alone, and not on the types of the bound variables.
-use Rattle.zf_type.proofs.Prelude.{if◌then◌else◌, ◌++◌, ◌+◌, ◌∙◌, ◌∷◌, ◌≡◌, [], ap, Bool, false, List, map, None, Option, refl, Some, sym, true, ℕ, map-append, bytes_eq, Local, spelling, Links, no_decls, no_trees, Perhaps, Tree, tree, Trees, var_decl, VarDecls, Name, Comp, Defined, first_named, later, or_else, int, Ty, bound, referent, resolved, resolved_all, resolved_links, resolved_part, resolved_ranges, Sort, last_named, meaning, Scope, Var, with_comp, with_global, with_local, within, Declare, declared, variables}
+use Rattle.zf_type.proofs.Prelude.{if◌then◌else◌, ◌++◌, ◌+◌, ◌∙◌, ◌∷◌, ◌≡◌, [], ap, Bool, false, List, map, None, Option, refl, Some, sym, true, ℕ, map-append, bytes_eq, Local, spelling, Links, no_decls, no_trees, Perhaps, Tree, tree, Trees, var_decl, VarDecls, Name, Comp, Defined, first_named, later, or_else, int, Ty, bound, referent, resolved, resolved_all, resolved_links, resolved_part, resolved_ranges, Sort, last_named, meaning, Scope, Var, component_meaning, global_meaning, variable_meaning, with_variables, Declare, declared, variables}
 use Rattle.zf_tree.specs.Trees as text
 use Rattle.zf_reference.specs.declared.reference.Reference.{Reference}
 use Rattle.zf_term.specs.ResolvedTrees.{reference, empty_set, bracket, listed, unary, present}
@@ -43,13 +43,13 @@ abbrev at_place : Option ℕ → Reference → Reference
 at_place None other = other
 at_place (Some n) other = Local n
 
-by_place : (found : Option (ℕ × Var)) (other : Option (Reference × Sort)) → referent (or_else (with_local found) other) ≡ at_place (place_of found) (referent other)
+by_place : (found : Option (ℕ × Var)) (other : Option (Reference × Sort)) → referent (or_else (variable_meaning found) other) ≡ at_place (place_of found) (referent other)
 by_place None other = refl
 by_place (Some p) other = refl
 
 -- what a name refers to where no variable is bound to it
 abbrev outside : List Comp → List Defined → List ℕ → Option (Reference × Sort)
-outside comps globals x = or_else (with_comp (first_named (λ c. c.name) x comps)) (with_global (first_named (λ d. d.name) x globals))
+outside comps globals x = or_else (component_meaning (first_named (λ c. c.name) x comps)) (global_meaning (first_named (λ d. d.name) x globals))
 
 by_names_alone : (s : Scope) (x : List ℕ) → referent (meaning s x) ≡ at_place (last_place x (names s.locals)) (referent (outside s.comps s.globals x))
 by_names_alone s x =
@@ -66,7 +66,7 @@ same_referent s r x alike =
 
 -- ---- within declarations
 
-pub alike_within : (s r : Scope) (vs us : List Var) → Alike s r → names vs ≡ names us → Alike (within s vs) (within r us)
+pub alike_within : (s r : Scope) (vs us : List Var) → Alike s r → names vs ≡ names us → Alike (with_variables s vs) (with_variables r us)
 alike_within s r vs us alike same = (
   alike.0,
   alike.1,
@@ -134,12 +134,12 @@ names_declared s (var_decl ns e ds) vs p =
     ∙ sym (map-append spelling ns (declared ds))
 
 -- for names alone, the scope within declarations is that with the variables that they declare
-pub alike_bound : (s : Scope) (ds : VarDecls) (vs : List Var) → Declare s ds vs → Alike (bound s ds) (within s vs)
+pub alike_bound : (s : Scope) (ds : VarDecls) (vs : List Var) → Declare s ds vs → Alike (bound s ds) (with_variables s vs)
 alike_bound s ds vs p =
     alike_within s s (variables (declared ds) int) vs (refl, refl, refl) (names_of_variables (declared ds) int ∙ sym (names_declared s ds vs p))
 
-pub resolved_within : (s : Scope) (ds : VarDecls) (vs : List Var) (e : Tree) → Declare s ds vs → resolved (bound s ds) e ≡ resolved (within s vs) e
-resolved_within s ds vs e p = resolved_alike (bound s ds) (within s vs) e (alike_bound s ds vs p)
+pub resolved_within : (s : Scope) (ds : VarDecls) (vs : List Var) (e : Tree) → Declare s ds vs → resolved (bound s ds) e ≡ resolved (with_variables s vs) e
+resolved_within s ds vs e p = resolved_alike (bound s ds) (with_variables s vs) e (alike_bound s ds vs p)
 
-pub part_within : (s : Scope) (ds : VarDecls) (vs : List Var) (e : Perhaps) → Declare s ds vs → resolved_part (bound s ds) e ≡ resolved_part (within s vs) e
-part_within s ds vs e p = part_alike (bound s ds) (within s vs) e (alike_bound s ds vs p)
+pub part_within : (s : Scope) (ds : VarDecls) (vs : List Var) (e : Perhaps) → Declare s ds vs → resolved_part (bound s ds) e ≡ resolved_part (with_variables s vs) e
+part_within s ds vs e p = part_alike (bound s ds) (with_variables s vs) e (alike_bound s ds vs p)

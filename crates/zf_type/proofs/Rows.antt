@@ -1,5 +1,5 @@
 -- What a builder without a term builds: the types of the variables within.
-use Rattle.zf_type.proofs.Prelude.{◌++◌, ◌+◌, ◌<◌, ◌∙◌, ◌∷◌, ◌≡◌, ◌≤◌, [], ap, drop, get_or, length, List, map, refl, sym, ℕ, drop-append_seam, drop-map, drop_all, length-map, dropped, product, type, type_of, types, ZType, var_type, Scope, Var, variable_of, within, scope_of, row_type, types_of, Variable}
+use Rattle.zf_type.proofs.Prelude.{◌++◌, ◌+◌, ◌<◌, ◌∙◌, ◌∷◌, ◌≡◌, ◌≤◌, [], ap, drop, get_or, length, List, map, refl, sym, ℕ, drop-append_seam, drop-map, drop_all, length-map, dropped, product, type, type_of, types, ZType, var_type, Scope, Var, variable_of, with_variables, scope_of, row_type, types_of, Variable}
 use Rattle.zf_type.specs.declared.scope.Scope as program
 
 -- ---- the type of a row, from the types of its variables
@@ -25,6 +25,6 @@ pub none_ahead : (xs : List Variable) (i : ℕ) → length xs ≤ i → [] ≡ m
 none_ahead xs i h = ap (λ ys. map var_type (map variable_of ys)) (sym (drop_all i xs h))
 
 -- those behind the ones outside
-pub variables_within : (p : program.Scope) (s : Scope) (vs : List Var) (n : ℕ) → scope_of p ≡ within s vs → n ≡ length s.locals → map variable_of (drop n p.locals) ≡ vs
+pub variables_within : (p : program.Scope) (s : Scope) (vs : List Var) (n : ℕ) → scope_of p ≡ with_variables s vs → n ≡ length s.locals → map variable_of (drop n p.locals) ≡ vs
 unfolding scope_of
 variables_within p s vs n h e = sym (drop-map variable_of n p.locals) ∙ ap (λ z. drop n z.locals) h ∙ ap (λ k. drop k (s.locals ++ vs)) e ∙ drop-append_seam s.locals vs

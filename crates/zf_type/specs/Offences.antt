@@ -14,9 +14,9 @@ use Rattle.zf_term.specs.declared.fault.Limit.TheVariants.{TypeNodes}
 use Rattle.zf_term.specs.Faults.{Offence, not_declared, local_twice, mismatch, no_members, too_large}
 use Rattle.zf_term.specs.Faults as fault
 use Rattle.zf_type.specs.Rules.{Sort, typed, IsSmallSort, Meets, Takes, UnaryTakes}
-use Rattle.zf_type.specs.Scopes.{Scope, Var, within, meaning}
+use Rattle.zf_type.specs.Scopes.{Scope, Var, with_variables, meaning}
 use Rattle.zf_tree.specs.Names.{spelling}
-use Rattle.zf_type.specs.Typing.{IsOf, AreMembers, Makes, member_need, Binds, Builds, declared}
+use Rattle.zf_type.specs.Typing.{IsOf, AreMembers, Makes, member_need, Binds, HasMemberType, declared}
 
 -- the term has a sort that its place does not take
 abbrev pub Misplaced : Scope → Need → Tree → Offence → ℕ → Type 0
@@ -66,7 +66,7 @@ abbrev pub ListedTooLarge : Listed → Scope → (line : ℕ) → Trees → Offe
 ListedTooLarge form s l es o m = (us : Tys) × (u : Ty) × AreMembers form s es us × Makes form us u × (IsSmall u → ⊥) × (o ≡ too_large TypeNodes) × (m ≡ l)
 
 abbrev pub BuildsTooLarge : Scope → List Var → (line : ℕ) → Perhaps → Offence → ℕ → Type 0
-BuildsTooLarge s vs l e o m = (u : Ty) × Builds s vs e u × (IsSmall (power u) → ⊥) × (o ≡ too_large TypeNodes) × (m ≡ l)
+BuildsTooLarge s vs l e o m = (u : Ty) × HasMemberType s vs e u × (IsSmall (power u) → ⊥) × (o ≡ too_large TypeNodes) × (m ≡ l)
 
 -- an offence of a term that stands where this is needed, with the line that it is told at
 abbrev mutual
@@ -81,7 +81,7 @@ abbrev mutual
   Offends s n (builder l ds p e) o m =
       Repeats (declared ds) o m
       ⊎ (SetsOffend s ds o m
-      ⊎ (((vs : List Var) × Binds s ds vs × (PartOffends (within s vs) need.Predicate p o m ⊎ (PartOffends (within s vs) need.Expression e o m ⊎ BuildsTooLarge (within s vs) vs l e o m)))
+      ⊎ (((vs : List Var) × Binds s ds vs × (PartOffends (with_variables s vs) need.Predicate p o m ⊎ (PartOffends (with_variables s vs) need.Expression e o m ⊎ BuildsTooLarge (with_variables s vs) vs l e o m)))
       ⊎ Misplaced s n (builder l ds p e) o m))
   Offends s n (unary l op e) o m = Offends s (need_of op) e o m ⊎ (MakesTooLarge s op l e o m ⊎ Misplaced s n (unary l op e) o m)
   Offends s n (binary l op a b) o m =
@@ -91,7 +91,7 @@ abbrev mutual
   Offends s n (quantified l q ds p e) o m =
       Repeats (declared ds) o m
       ⊎ (SetsOffend s ds o m
-      ⊎ (((vs : List Var) × Binds s ds vs × (PartOffends (within s vs) need.Predicate p o m ⊎ Offends (within s vs) need.Predicate e o m))
+      ⊎ (((vs : List Var) × Binds s ds vs × (PartOffends (with_variables s vs) need.Predicate p o m ⊎ Offends (with_variables s vs) need.Predicate e o m))
       ⊎ Misplaced s n (quantified l q ds p e) o m))
 
   -- of one of the terms, where each is to be this

@@ -7,7 +7,7 @@ use Rattle.zf_reference.specs.declared.reference.Reference.TheVariants.{Global}
 use Rattle.zf_term.specs.ResolvedTrees.{ResolvedTree, reference, number, constant, empty_set, bracket, listed, builder, unary, binary, chain, quantified, ResolvedTrees, no_terms, term, ResolvedLinks, no_links, link, Ranges, no_ranges, range, ResolvedPart, absent, present}
 use Rattle.zf_term.specs.Types.{int}
 use Rattle.zf_type.specs.Rules.{Sort}
-use Rattle.zf_type.specs.Scopes.{Scope, within, meaning}
+use Rattle.zf_type.specs.Scopes.{Scope, with_variables, meaning}
 use Rattle.zf_tree.specs.Names.{spelling}
 use Rattle.zf_type.specs.Typing.{variables, declared}
 
@@ -18,7 +18,7 @@ referent (Some p) = p.0
 
 -- the scope within declarations, for names alone: which types the variables have plays no part in it
 abbrev pub bound : Scope → VarDecls → Scope
-bound s ds = within s (variables (declared ds) int)
+bound s ds = with_variables s (variables (declared ds) int)
 
 abbrev mutual
   pub resolved : Scope → Tree → ResolvedTree

@@ -6,7 +6,7 @@ use Rattle.zf_tree.specs.declared.symbol.Prefix.{Prefix}
 use Rattle.zf_tree.specs.declared.symbol.Prefix.TheVariants.{Power, Finset, Domain, Range, Size}
 use Rattle.zf_tree.specs.declared.operator.Sign.{Sign}
 use Rattle.zf_tree.specs.declared.operator.Sign.TheVariants as sign
-use Rattle.zf_term.specs.Types.{Ty, int, power, pair, IsSmall}
+use Rattle.zf_term.specs.Types.{Ty, int, power, pair_type, IsSmall}
 use Rattle.zf_tree.specs.declared.operator.Need.{Need}
 use Rattle.zf_tree.specs.declared.operator.Need.TheVariants as need
 use Rattle.zf_tree.specs.declared.operator.Rule.{Rule}
@@ -15,14 +15,14 @@ use Rattle.zf_tree.specs.declared.operator.Unary.{Unary}
 use Rattle.zf_tree.specs.declared.operator.Unary.TheVariants as unary
 pub use Rattle.zf_term.specs.Faults.{Sort, typed, predicate, a_schema}
 
-abbrev pub number : Sort
-number = typed int
+abbrev pub number_sort : Sort
+number_sort = typed int
 
-abbrev pub set_of : Ty → Sort
-set_of t = typed (power t)
+abbrev pub set_sort : Ty → Sort
+set_sort t = typed (power t)
 
-abbrev pub relation : Ty → Ty → Sort
-relation t u = set_of (pair t u)
+abbrev pub relation_sort : Ty → Ty → Sort
+relation_sort t u = set_sort (pair_type t u)
 
 abbrev pub IsSmallSort : Sort → Type 0
 IsSmallSort (typed t) = IsSmall t
@@ -33,50 +33,50 @@ IsSmallSort a_schema = Unit {0}
 
 abbrev pub Meets : Need → Sort → Type 0
 Meets need.Expression z = (t : Ty) × (z ≡ typed t)
-Meets need.Number z = z ≡ number
-Meets need.Set z = (t : Ty) × (z ≡ set_of t)
-Meets need.Relation z = (t u : Ty) × (z ≡ relation t u)
+Meets need.Number z = z ≡ number_sort
+Meets need.Set z = (t : Ty) × (z ≡ set_sort t)
+Meets need.Relation z = (t u : Ty) × (z ≡ relation_sort t u)
 Meets need.Predicate z = z ≡ predicate
 
 -- the left operand, the right one, and the whole
 abbrev pub Takes : Rule → Sort → Sort → Sort → Type 0
-Takes rule.Arithmetic x y z = (x ≡ number) × (y ≡ number) × (z ≡ number)
-Takes rule.Interval x y z = (x ≡ number) × (y ≡ number) × (z ≡ set_of int)
-Takes rule.Pairing x y z = (t u : Ty) × (x ≡ typed t) × (y ≡ typed u) × (z ≡ typed (pair t u))
-Takes rule.SetFunction x y z = (t : Ty) × (x ≡ set_of t) × (y ≡ set_of t) × (z ≡ set_of t)
-Takes rule.Overriding x y z = (t u : Ty) × (x ≡ relation t u) × (y ≡ relation t u) × (z ≡ relation t u)
-Takes rule.Composing x y z = (t u v : Ty) × (x ≡ relation t u) × (y ≡ relation u v) × (z ≡ relation t v)
-Takes rule.DomainRestricting x y z = (t u : Ty) × (x ≡ set_of t) × (y ≡ relation t u) × (z ≡ relation t u)
-Takes rule.RangeRestricting x y z = (t u : Ty) × (x ≡ relation t u) × (y ≡ set_of u) × (z ≡ relation t u)
-Takes rule.Relating x y z = (t u : Ty) × (x ≡ set_of t) × (y ≡ set_of u) × (z ≡ set_of (power (pair t u)))
-Takes rule.Applying x y z = (t u : Ty) × (x ≡ relation t u) × (y ≡ typed t) × (z ≡ typed u)
-Takes rule.Imaging x y z = (t u : Ty) × (x ≡ relation t u) × (y ≡ set_of t) × (z ≡ set_of u)
+Takes rule.Arithmetic x y z = (x ≡ number_sort) × (y ≡ number_sort) × (z ≡ number_sort)
+Takes rule.Interval x y z = (x ≡ number_sort) × (y ≡ number_sort) × (z ≡ set_sort int)
+Takes rule.Pairing x y z = (t u : Ty) × (x ≡ typed t) × (y ≡ typed u) × (z ≡ typed (pair_type t u))
+Takes rule.SetFunction x y z = (t : Ty) × (x ≡ set_sort t) × (y ≡ set_sort t) × (z ≡ set_sort t)
+Takes rule.Overriding x y z = (t u : Ty) × (x ≡ relation_sort t u) × (y ≡ relation_sort t u) × (z ≡ relation_sort t u)
+Takes rule.Composing x y z = (t u v : Ty) × (x ≡ relation_sort t u) × (y ≡ relation_sort u v) × (z ≡ relation_sort t v)
+Takes rule.DomainRestricting x y z = (t u : Ty) × (x ≡ set_sort t) × (y ≡ relation_sort t u) × (z ≡ relation_sort t u)
+Takes rule.RangeRestricting x y z = (t u : Ty) × (x ≡ relation_sort t u) × (y ≡ set_sort u) × (z ≡ relation_sort t u)
+Takes rule.Relating x y z = (t u : Ty) × (x ≡ set_sort t) × (y ≡ set_sort u) × (z ≡ set_sort (power (pair_type t u)))
+Takes rule.Applying x y z = (t u : Ty) × (x ≡ relation_sort t u) × (y ≡ typed t) × (z ≡ typed u)
+Takes rule.Imaging x y z = (t u : Ty) × (x ≡ relation_sort t u) × (y ≡ set_sort t) × (z ≡ set_sort u)
 Takes rule.Equating x y z = (t : Ty) × (x ≡ typed t) × (y ≡ typed t) × (z ≡ predicate)
-Takes rule.Belonging x y z = (t : Ty) × (x ≡ typed t) × (y ≡ set_of t) × (z ≡ predicate)
-Takes rule.Including x y z = (t : Ty) × (x ≡ set_of t) × (y ≡ set_of t) × (z ≡ predicate)
-Takes rule.Comparing x y z = (x ≡ number) × (y ≡ number) × (z ≡ predicate)
+Takes rule.Belonging x y z = (t : Ty) × (x ≡ typed t) × (y ≡ set_sort t) × (z ≡ predicate)
+Takes rule.Including x y z = (t : Ty) × (x ≡ set_sort t) × (y ≡ set_sort t) × (z ≡ predicate)
+Takes rule.Comparing x y z = (x ≡ number_sort) × (y ≡ number_sort) × (z ≡ predicate)
 Takes rule.Connecting x y z = (x ≡ predicate) × (y ≡ predicate) × (z ≡ predicate)
 
 abbrev pub PrefixTakes : Prefix → Sort → Sort → Type 0
-PrefixTakes Power x z = (t : Ty) × (x ≡ set_of t) × (z ≡ set_of (power t))
-PrefixTakes Finset x z = (t : Ty) × (x ≡ set_of t) × (z ≡ set_of (power t))
-PrefixTakes Size x z = (t : Ty) × (x ≡ set_of t) × (z ≡ number)
-PrefixTakes Domain x z = (t u : Ty) × (x ≡ relation t u) × (z ≡ set_of t)
-PrefixTakes Range x z = (t u : Ty) × (x ≡ relation t u) × (z ≡ set_of u)
+PrefixTakes Power x z = (t : Ty) × (x ≡ set_sort t) × (z ≡ set_sort (power t))
+PrefixTakes Finset x z = (t : Ty) × (x ≡ set_sort t) × (z ≡ set_sort (power t))
+PrefixTakes Size x z = (t : Ty) × (x ≡ set_sort t) × (z ≡ number_sort)
+PrefixTakes Domain x z = (t u : Ty) × (x ≡ relation_sort t u) × (z ≡ set_sort t)
+PrefixTakes Range x z = (t u : Ty) × (x ≡ relation_sort t u) × (z ≡ set_sort u)
 
 abbrev pub SignTakes : Sign → Sort → Sort → Type 0
-SignTakes sign.Minus x z = (x ≡ number) × (z ≡ number)
+SignTakes sign.Minus x z = (x ≡ number_sort) × (z ≡ number_sort)
 SignTakes (sign.Symbol p) x z = PrefixTakes p x z
 
 -- the operand, and the whole
 abbrev pub UnaryTakes : Unary → Sort → Sort → Type 0
 UnaryTakes (unary.Sign s) x z = SignTakes s x z
-UnaryTakes unary.Inverse x z = (t u : Ty) × (x ≡ relation t u) × (z ≡ relation u t)
+UnaryTakes unary.Inverse x z = (t u : Ty) × (x ≡ relation_sort t u) × (z ≡ relation_sort u t)
 UnaryTakes unary.Not x z = (x ≡ predicate) × (z ≡ predicate)
 
 abbrev pub constant_sort : Constant → Sort
 constant_sort True = predicate
 constant_sort False = predicate
-constant_sort Integers = set_of int
-constant_sort Naturals = set_of int
-constant_sort Positives = set_of int
+constant_sort Integers = set_sort int
+constant_sort Naturals = set_sort int
+constant_sort Positives = set_sort int

@@ -6,7 +6,7 @@ use Rattle.zf_reference.specs.declared.reference.Reference.{Reference}
 use Rattle.zf_reference.specs.declared.reference.Reference.TheVariants.{Component, Local, Global}
 use Rattle.zf_term.specs.Definitions.{Comp, Defined, Definition, given_set, free_type, constructor, abbreviation, schema}
 use Rattle.zf_term.specs.Types.{Ty, basic}
-use Rattle.zf_type.specs.Rules.{Sort, typed, a_schema, set_of}
+use Rattle.zf_type.specs.Rules.{Sort, typed, a_schema, set_sort}
 
 -- a bound variable
 pub record Var : Type 0 where
@@ -20,8 +20,8 @@ pub record Scope : Type 0 where
   pub locals : List Var
 
 -- the scope with further bound variables
-abbrev pub within : Scope → List Var → Scope
-within s vs = record { globals = s.globals; comps = s.comps; locals = s.locals ++ vs }
+abbrev pub with_variables : Scope → List Var → Scope
+with_variables s vs = record { globals = s.globals; comps = s.comps; locals = s.locals ++ vs }
 
 -- the last that has it
 abbrev pub last_named : {A : Type 0} → (A → List ℕ) → List ℕ → List A → Option (ℕ × A)
@@ -29,8 +29,8 @@ last_named name x [] = None
 last_named name x (a ∷ rest) = or_else (later (last_named name x rest)) (if bytes_eq (name a) x then Some (0, a) else None)
 
 abbrev pub definition_sort : List ℕ → Definition → Sort
-definition_sort name (given_set n) = set_of (basic name)
-definition_sort name (free_type n names) = set_of (basic name)
+definition_sort name (given_set n) = set_sort (basic name)
+definition_sort name (free_type n names) = set_sort (basic name)
 definition_sort name (constructor n of_type place) = typed (basic of_type)
 definition_sort name (abbreviation t r x) = typed t
 definition_sort name (schema f) = a_schema
@@ -38,20 +38,20 @@ definition_sort name (schema f) = a_schema
 abbrev pub global_sort : Defined → Sort
 global_sort d = definition_sort d.name d.definition
 
-abbrev pub with_local : Option (ℕ × Var) → Option (Reference × Sort)
-with_local None = None
-with_local (Some p) = Some (Local p.0, typed p.1.type)
+abbrev pub variable_meaning : Option (ℕ × Var) → Option (Reference × Sort)
+variable_meaning None = None
+variable_meaning (Some p) = Some (Local p.0, typed p.1.type)
 
-abbrev pub with_comp : Option (ℕ × Comp) → Option (Reference × Sort)
-with_comp None = None
-with_comp (Some p) = Some (Component p.0, typed p.1.type)
+abbrev pub component_meaning : Option (ℕ × Comp) → Option (Reference × Sort)
+component_meaning None = None
+component_meaning (Some p) = Some (Component p.0, typed p.1.type)
 
-abbrev pub with_global : Option (ℕ × Defined) → Option (Reference × Sort)
-with_global None = None
-with_global (Some p) = Some (Global p.0, global_sort p.1)
+abbrev pub global_meaning : Option (ℕ × Defined) → Option (Reference × Sort)
+global_meaning None = None
+global_meaning (Some p) = Some (Global p.0, global_sort p.1)
 
 -- what a name refers to, and what it is
 abbrev pub meaning : Scope → List ℕ → Option (Reference × Sort)
 meaning s x =
-    or_else (with_local (last_named (λ v. v.name) x s.locals))
-    (or_else (with_comp (first_named (λ c. c.name) x s.comps)) (with_global (first_named (λ d. d.name) x s.globals)))
+    or_else (variable_meaning (last_named (λ v. v.name) x s.locals))
+    (or_else (component_meaning (first_named (λ c. c.name) x s.comps)) (global_meaning (first_named (λ d. d.name) x s.globals)))

@@ -10,8 +10,8 @@ use Rattle.zf_tree.specs.declared.operator.Need.{Need}
 use Rattle.zf_tree.specs.declared.operator.Need.TheVariants as need
 use Rattle.zf_reference.specs.declared.reference.Reference.{Reference}
 use Rattle.zf_term.specs.Types as t
-use Rattle.zf_type.specs.Rules.{Sort, typed, predicate, a_schema, number, set_of, IsSmallSort, Takes, UnaryTakes, constant_sort}
-use Rattle.zf_type.specs.Scopes.{Scope, Var, within, meaning}
+use Rattle.zf_type.specs.Rules.{Sort, typed, predicate, a_schema, number_sort, set_sort, IsSmallSort, Takes, UnaryTakes, constant_sort}
+use Rattle.zf_type.specs.Scopes.{Scope, Var, with_variables, meaning}
 use Rattle.zf_tree.specs.Names.{spelling}
 
 -- the variables of names that are declared to be in a set
@@ -55,7 +55,7 @@ member_need Product = need.Set
 abbrev pub member_sort : Listed → Ty → Sort
 member_sort Tuple u = typed u
 member_sort Display u = typed u
-member_sort Product u = set_of u
+member_sort Product u = set_sort u
 
 -- one type or more, all the same as this one
 abbrev pub AreAll : Tys → Ty → Type 0
@@ -74,16 +74,16 @@ Makes Display us u = (v : Ty) × AreAll us v × (u ≡ power v)
 abbrev mutual
   pub IsOf : Scope → Tree → Sort → Type 0
   IsOf s (named n) z = (r : Reference) × (meaning s (spelling n) ≡ Some (r, z))
-  IsOf s (numeral l v) z = z ≡ number
+  IsOf s (numeral l v) z = z ≡ number_sort
   IsOf s (constant l c) z = z ≡ constant_sort c
-  IsOf s (empty_set l e) z = (u : Ty) × IsOf s e (set_of u) × (z ≡ set_of u)
+  IsOf s (empty_set l e) z = (u : Ty) × IsOf s e (set_sort u) × (z ≡ set_sort u)
   IsOf s (bracket l e) z = IsOf s e z × (z ≡ a_schema → ⊥)
   IsOf s (listed l form es) z = (us : Tys) × (u : Ty) × AreMembers form s es us × Makes form us u × IsSmall u × (z ≡ typed u)
-  IsOf s (builder l ds p e) z = (vs : List Var) × (u : Ty) × AreApart (declared ds) × Declare s ds vs × Constrains (within s vs) p × Builds (within s vs) vs e u × IsSmall (power u) × (z ≡ set_of u)
+  IsOf s (builder l ds p e) z = (vs : List Var) × (u : Ty) × AreApart (declared ds) × Declare s ds vs × PartIsPredicate (with_variables s vs) p × HasMemberType (with_variables s vs) vs e u × IsSmall (power u) × (z ≡ set_sort u)
   IsOf s (unary l op e) z = (x : Sort) × IsOf s e x × UnaryTakes op x z × IsSmallSort z
   IsOf s (binary l op a b) z = (x y : Sort) × IsOf s a x × IsOf s b y × Takes (rule_of op) x y z × IsSmallSort z
-  IsOf s (chain l e ks) z = (u : Ty) × IsOf s e (typed u) × AreLinked s (typed u) ks × (z ≡ predicate)
-  IsOf s (quantified l q ds p e) z = (vs : List Var) × AreApart (declared ds) × Declare s ds vs × Constrains (within s vs) p × IsOf (within s vs) e predicate × (z ≡ predicate)
+  IsOf s (chain l e ks) z = (u : Ty) × IsOf s e (typed u) × LinksAreTyped s (typed u) ks × (z ≡ predicate)
+  IsOf s (quantified l q ds p e) z = (vs : List Var) × AreApart (declared ds) × Declare s ds vs × PartIsPredicate (with_variables s vs) p × IsOf (with_variables s vs) e predicate × (z ≡ predicate)
 
   -- the members are told by these types
   pub AreMembers : Listed → Scope → Trees → Tys → Type 0
@@ -91,24 +91,24 @@ abbrev mutual
   AreMembers form s (tree e es) us = (v : Ty) × (vs : Tys) × IsOf s e (member_sort form v) × AreMembers form s es vs × (us ≡ type v vs)
 
   -- what is left of a chain, behind an operand of this sort
-  pub AreLinked : Scope → Sort → Links → Type 0
-  AreLinked s x no_links = Unit {0}
-  AreLinked s x (link r e ks) = (y : Sort) × IsOf s e y × Takes (relation_rule r) x y predicate × AreLinked s y ks
+  pub LinksAreTyped : Scope → Sort → Links → Type 0
+  LinksAreTyped s x no_links = Unit {0}
+  LinksAreTyped s x (link r e ks) = (y : Sort) × IsOf s e y × Takes (relation_rule r) x y predicate × LinksAreTyped s y ks
 
   -- the declarations declare these variables; their sets know nothing of them
   pub Declare : Scope → VarDecls → List Var → Type 0
   Declare s no_decls vs = vs ≡ []
-  Declare s (var_decl ns e ds) vs = (u : Ty) × (us : List Var) × IsOf s e (set_of u) × Declare s ds us × (vs ≡ variables ns u ++ us)
+  Declare s (var_decl ns e ds) vs = (u : Ty) × (us : List Var) × IsOf s e (set_sort u) × Declare s ds us × (vs ≡ variables ns u ++ us)
 
   -- what may be left out is a predicate
-  pub Constrains : Scope → Perhaps → Type 0
-  Constrains s absent = Unit {0}
-  Constrains s (present e) = IsOf s e predicate
+  pub PartIsPredicate : Scope → Perhaps → Type 0
+  PartIsPredicate s absent = Unit {0}
+  PartIsPredicate s (present e) = IsOf s e predicate
 
   -- the type of what a builder builds out of these variables
-  pub Builds : Scope → List Var → Perhaps → Ty → Type 0
-  Builds s vs absent u = u ≡ row_type vs
-  Builds s vs (present e) u = IsOf s e (typed u)
+  pub HasMemberType : Scope → List Var → Perhaps → Ty → Type 0
+  HasMemberType s vs absent u = u ≡ row_type vs
+  HasMemberType s vs (present e) u = IsOf s e (typed u)
 
 -- the declarations bind these variables, each once
 abbrev pub Binds : Scope → VarDecls → List Var → Type 0

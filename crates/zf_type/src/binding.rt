@@ -6,10 +6,10 @@ ghost use Rattle.zf_term.specs.TypeViews.{type_of};
 ghost use Rattle.zf_tree.specs.declared.operator.Need.TheVariants as needs;
 ghost use Rattle.zf_type.specs.Judging.{AreNew, AreRepeated, var_type};
 ghost use Rattle.zf_type.specs.Refusals.{IfFault};
-ghost use Rattle.zf_type.specs.Rules.{Meets, set_of};
+ghost use Rattle.zf_type.specs.Rules.{Meets, set_sort};
 ghost use Rattle.zf_type.specs.RuleViews.{sort_of};
 ghost use Rattle.zf_type.specs.Scopes as spec;
-ghost use Rattle.zf_type.specs.Scopes.{Var, within};
+ghost use Rattle.zf_type.specs.Scopes.{Var, with_variables};
 ghost use Rattle.zf_type.specs.ScopeViews.{scope_of, variable_of};
 ghost use Rattle.zf_tree.specs.Names.{spelling};
 ghost use Rattle.zf_type.specs.Typing as typing;
@@ -34,7 +34,7 @@ pub(crate) fn declare_names<'a>(
     variables: &mut Locals<'a>,
 ) -> Result<(), Refusal<'a>>
     requires { Meets needs.Set (sort_of set.now) }
-    ensures ok { OnOk result ((u : Ty) × (sort_of set.now ≡ set_of u) × (map variable_of variables.new ≡ map variable_of variables.old ++ typing.variables names.now u)) }
+    ensures ok { OnOk result ((u : Ty) × (sort_of set.now ≡ set_sort u) × (map variable_of variables.new ≡ map variable_of variables.old ++ typing.variables names.now u)) }
     ensures apart { OnOk result ((ns : List program.Name) → AreNew (map variable_of variables.new) ns → AreNew (map variable_of variables.old) (names.now ++ ns)) }
     ensures later { OnOk result ((ns : List program.Name) (offence : faults.Offence) (line : ℕ) → AreRepeated (map variable_of variables.new) ns offence line → AreRepeated (map variable_of variables.old) (names.now ++ ns) offence line) }
     ensures repeated { IfErr result (λ e. IfFault e (λ offence line. (ns : List program.Name) → AreRepeated (map variable_of variables.old) (names.now ++ ns) offence line)) }
@@ -70,7 +70,7 @@ pub(crate) fn depth(scope: &Scope<'_, '_>) -> usize
 
 /// Brings variables into scope, within those that are bound.
 pub(crate) fn bind<'a>(scope: &mut Scope<'a, '_>, variables: Locals<'a>) -> Result<(), AllocError>
-    ensures ok { OnOk result (scope_of scope.new ≡ within (scope_of scope.old) (map variable_of variables.entry)) }
+    ensures ok { OnOk result (scope_of scope.new ≡ with_variables (scope_of scope.old) (map variable_of variables.entry)) }
     ensures err { OnErr result (scope_of scope.new ≡ scope_of scope.old) }
 {
     scope.locals.append(variables)
@@ -78,7 +78,7 @@ pub(crate) fn bind<'a>(scope: &mut Scope<'a, '_>, variables: Locals<'a>) -> Resu
 
 /// Leaves in scope the variables that are bound outside.
 pub(crate) fn unbind(scope: &mut Scope<'_, '_>, outside: usize)
-    ensures { (s : spec.Scope) (vs : List Var) → scope_of scope.old ≡ within s vs → outside ≡ length s.locals → scope_of scope.new ≡ s }
+    ensures { (s : spec.Scope) (vs : List Var) → scope_of scope.old ≡ with_variables s vs → outside ≡ length s.locals → scope_of scope.new ≡ s }
 {
     scope.locals.truncate(outside);
 }
@@ -89,7 +89,7 @@ pub(crate) fn row<'a>(
     scope: &Scope<'a, '_>,
     outside: usize,
 ) -> Result<ZType<'a>, AllocError>
-    ensures { IfOk result (λ t. (s : spec.Scope) (vs : List Var) → scope_of scope.now ≡ within s vs → outside ≡ length s.locals → type_of t ≡ typing.row_type vs) }
+    ensures { IfOk result (λ t. (s : spec.Scope) (vs : List Var) → scope_of scope.now ≡ with_variables s vs → outside ≡ length s.locals → type_of t ≡ typing.row_type vs) }
 {
     let locals = &scope.locals;
     let mut types = Items::new(arena);

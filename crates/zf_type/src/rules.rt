@@ -9,7 +9,7 @@ ghost use Rattle.zf_term.specs.Types.{int};
 ghost use Rattle.zf_term.specs.TypeViews.{type_of};
 ghost use Rattle.zf_type.specs.Rules as spec;
 ghost use Rattle.zf_type.specs.RuleViews.{IsMade, IsMadeOfOne, sort_of};
-ghost use Rattle.zf_type.specs.Rules.{Meets, predicate, relation, set_of};
+ghost use Rattle.zf_type.specs.Rules.{Meets, predicate, relation_sort, set_sort};
 
 use crate::sort::Sort;
 use bumpalo::Bump;
@@ -335,13 +335,13 @@ fn subsets<'a>(arena: &'a Bump, operand: &Sort<'a>) -> Result<Option<Sort<'a>>, 
 }
 
 fn set_sort<'a>(arena: &'a Bump, member: ZType<'a>) -> Result<Sort<'a>, AllocError>
-    ensures { IfOk result (λ z. sort_of z ≡ set_of (type_of member.entry)) }
+    ensures { IfOk result (λ z. sort_of z ≡ set_sort (type_of member.entry)) }
 {
     Ok(Sort::Typed(set_type(arena, member)?))
 }
 
 fn set_of_numbers<'a>(arena: &'a Bump) -> Result<Sort<'a>, AllocError>
-    ensures { IfOk result (λ z. sort_of z ≡ set_of int) }
+    ensures { IfOk result (λ z. sort_of z ≡ set_sort int) }
 {
     set_sort(arena, int_type())
 }
@@ -358,7 +358,7 @@ fn relation_sort<'a>(
     from: &ZType<'a>,
     into: &ZType<'a>,
 ) -> Result<Sort<'a>, AllocError>
-    ensures { IfOk result (λ z. sort_of z ≡ relation (type_of from.now) (type_of into.now)) }
+    ensures { IfOk result (λ z. sort_of z ≡ relation_sort (type_of from.now) (type_of into.now)) }
 {
     set_sort(arena, pair_type(arena, from.share()?, into.share()?)?)
 }

@@ -3,7 +3,7 @@ ghost use Rattle.std.specs.Prelude.{◌≡◌, ◌↔◌, IsTrue, IfOk, MatchOpt
 ghost use Rattle.zf_term.specs.Types.{Ty};
 ghost use Rattle.zf_term.specs.TypeViews.{type_of};
 ghost use Rattle.zf_term.specs.Faults.{lack, lack_of, untyped_lack, typed};
-ghost use Rattle.zf_type.specs.Rules.{IsSmallSort, Meets, relation, set_of};
+ghost use Rattle.zf_type.specs.Rules.{IsSmallSort, Meets, relation_sort, set_sort};
 ghost use Rattle.zf_type.specs.RuleViews.{sort_of};
 
 use std::alloc::AllocError;
@@ -97,14 +97,14 @@ impl<'a> Sort<'a> {
 
     /// The type of the members of a set.
     pub fn member(&self) -> Option<&ZType<'a>>
-        ensures { MatchOption result ((t : Ty) → sort_of self.now ≡ set_of t → ⊥) (λ t. sort_of self.now ≡ set_of (type_of t.now)) }
+        ensures { MatchOption result ((t : Ty) → sort_of self.now ≡ set_sort t → ⊥) (λ t. sort_of self.now ≡ set_sort (type_of t.now)) }
     {
         self.ztype()?.member()
     }
 
     /// The types that a relation is from and into.
     pub fn sides(&self) -> Option<(&ZType<'a>, &ZType<'a>)>
-        ensures { MatchOption result ((t u : Ty) → sort_of self.now ≡ relation t u → ⊥) (λ p. sort_of self.now ≡ relation (type_of p.0.now) (type_of p.1.now)) }
+        ensures { MatchOption result ((t u : Ty) → sort_of self.now ≡ relation_sort t u → ⊥) (λ p. sort_of self.now ≡ relation_sort (type_of p.0.now) (type_of p.1.now)) }
     {
         self.member()?.pair()
     }

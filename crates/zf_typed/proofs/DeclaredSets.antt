@@ -1,5 +1,5 @@
 -- What lies in the declared sets of a component is of its type, where it can be listed.
-use Rattle.zf_typed.proofs.Prelude.{◌+◌, ◌^◌, ◌↔◌, ◌∙◌, ◌∷◌, ◌≡◌, ◌⊎◌, [], ap, arith, Bool, false, inl, inr, List, None, Option, refl, Some, subst, sym, take, true, ℕ, ℤ, ⊎_elim, ints, none-some, same_Some, w64, ◌<ℤ◌, ◌≤ℤ◌, FitsSigned, negsuc, pos, slice_get, number_of-Int, same_number, number_of, IsMember, members, Outcome, Is, Int, Value, Tree, carrier, DeclaredSet, DeclaredSets, Defined, no_sets, plain, set, sides, ResolvedTree, has_numbers, int, power, Ty, Infinite, resolved, set_of, IsOf, direct, outside, AreWellTyped, Environment, globally, HasOutcome, IsOfType, IsIn}
+use Rattle.zf_typed.proofs.Prelude.{◌+◌, ◌^◌, ◌↔◌, ◌∙◌, ◌∷◌, ◌≡◌, ◌⊎◌, [], ap, arith, Bool, false, inl, inr, List, None, Option, refl, Some, subst, sym, take, true, ℕ, ℤ, ⊎_elim, ints, none-some, same_Some, w64, ◌<ℤ◌, ◌≤ℤ◌, FitsSigned, negsuc, pos, slice_get, number_of-Int, same_number, number_of, IsMember, members, Outcome, Is, Int, Value, Tree, carrier, DeclaredSet, DeclaredSets, Defined, no_sets, plain, set, sides, ResolvedTree, has_numbers, int, power, Ty, Infinite, resolved, set_sort, IsOf, direct, outside, AreWellTyped, Environment, globally, HasOutcome, IsOfType, IsIn}
 use Rattle.std.proofs.lemmas.Bool.{cases_lt}
 use Rattle.zf_term.specs.declared.extent.Infinite.TheVariants.{Num, Nat, Nat1}
 use Rattle.zf_enum.specs.DeclaredSets.{IsInPlain, IsInCarrier, IsInSet, IsInSets}
@@ -17,7 +17,7 @@ IsSome (set d ds) = Unit {0}
 -- the set is one for a component of the type
 abbrev mutual
   pub IsSetFor : List Defined → Ty → DeclaredSet → Type 0
-  IsSetFor g t (plain r) = (n : ℕ) × (a : Tree) × IsOf (outside (take n g)) a (set_of t) × (r ≡ resolved (outside (take n g)) a)
+  IsSetFor g t (plain r) = (n : ℕ) × (a : Tree) × IsOf (outside (take n g)) a (set_sort t) × (r ≡ resolved (outside (take n g)) a)
   IsSetFor g t (carrier u) = u ≡ t
   IsSetFor g t (sides ds es) = (IsSome ds × AreSetsFor g t ds) × (IsSome es × AreSetsFor g t es)
 
@@ -90,7 +90,7 @@ module _ (e : Environment) (well : AreWellTyped e.globals) (typed : (i : ℕ) (d
 
   in_outcome : (t : Ty) (r : ResolvedTree) (v w : Value) → IsSetFor e.globals t (plain r) → HasOutcome (globally e) r (Is w) → IsMember v (members w) → IsOfType e t v
   in_outcome t r v w k h m =
-      (members_of e t w (term_typed e (outside (take k.0 e.globals)) (globally e) k.1 (set_of t) w (fits k.0) k.2 (subst (λ q. HasOutcome (globally e) q (Is w)) k.3 h))).each v m
+      (members_of e t w (term_typed e (outside (take k.0 e.globals)) (globally e) k.1 (set_sort t) w (fits k.0) k.2 (subst (λ q. HasOutcome (globally e) q (Is w)) k.3 h))).each v m
 
   in_plain : (t : Ty) (r : ResolvedTree) (v : Value) → IsSetFor e.globals t (plain r) → (o : Option Infinite) → direct e.globals r ≡ o → IsInPlain e o r v → IsOfType e t v ⊎ IsFar t v
   in_plain t r v k None is h = inl (in_outcome t r v h.0 k h.1 h.2)

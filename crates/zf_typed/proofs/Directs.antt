@@ -1,5 +1,5 @@
 -- A term that is an infinite set is a set of numbers.
-use Rattle.zf_typed.proofs.Prelude.{◌<◌, ◌∙◌, ◌∷◌, ◌≡◌, [], ap, arith, List, None, Option, refl, Some, suc, sym, take, zero, ℕ, none-some, same_Some, slice_get, Reference, spelling, Tree, Constant, abbreviation, constructor, Defined, Definition, free_type, given_set, schema, first_named, int, power, Ty, Infinite, referent, resolved, constant_sort, typed, definition_sort, with_global, IsOf, constant_set, definition_extent, direct, extent_by, extent_found, extent_named, extent_set, offending, named_there, outside, AreWellTyped, IsMadeAfter}
+use Rattle.zf_typed.proofs.Prelude.{◌<◌, ◌∙◌, ◌∷◌, ◌≡◌, [], ap, arith, List, None, Option, refl, Some, suc, sym, take, zero, ℕ, none-some, same_Some, slice_get, Reference, spelling, Tree, Constant, abbreviation, constructor, Defined, Definition, free_type, given_set, schema, first_named, int, power, Ty, Infinite, referent, resolved, constant_sort, typed, definition_sort, global_meaning, IsOf, constant_set, definition_extent, direct, extent_by, extent_found, extent_named, extent_set, offending, named_there, outside, AreWellTyped, IsMadeAfter}
 use Rattle.zf_extent.specs.declared.offender.Offender.{Offender}
 use Rattle.zf_tree.specs.declared.symbol.Constant.TheVariants as constants
 use Rattle.zf_tree.specs.Trees as text
@@ -48,7 +48,7 @@ module _ (g : List Defined) (well : AreWellTyped g) where
       sym (typed_same t u sort) ∙ before (take j g) made.0 t s (λ i l. front_of j i g l) made.1 (sym (ap (direct (take j g)) made.2) ∙ there)
   global_numbers j name (schema a) u s before made sort e = none_found s e
 
-  named_numbers : (n : ℕ) (h : List Defined) (x : List ℕ) (u : Ty) (s : Infinite) → ((j : ℕ) → j < n → IsNumbersAt g j) → Begin n g h → (r : Reference) → (o : Option (ℕ × Defined)) → first_named (λ d. d.name) x (take n g) ≡ o → with_global o ≡ Some (r, typed u) → extent_set (extent_named h (referent (with_global o))) ≡ Some s → u ≡ power int
+  named_numbers : (n : ℕ) (h : List Defined) (x : List ℕ) (u : Ty) (s : Infinite) → ((j : ℕ) → j < n → IsNumbersAt g j) → Begin n g h → (r : Reference) → (o : Option (ℕ × Defined)) → first_named (λ d. d.name) x (take n g) ≡ o → global_meaning o ≡ Some (r, typed u) → extent_set (extent_named h (referent (global_meaning o))) ≡ Some s → u ≡ power int
   named_numbers n h x u s before begin r None found m e = none_found (r, typed u) m
   named_numbers n h x u s before begin r (Some p) found m e =
       let there = in_front n p.0 g p.1 (named_there (λ d. d.name) x (take n g) p found).0 in

@@ -1,5 +1,5 @@
 -- Each value of a type is a member of the type's carrier, and the carrier is the outcome of the expression that spells the type.
-use Rattle.zf_typed.proofs.Prelude.{if◌then◌else◌, ◌<◌, ◌^◌, ◌∙◌, ◌∷◌, ◌≡◌, [], ap, Bool, false, List, nat_lt, None, Option, refl, Some, subst, sym, true, ℕ, same_Some, slice_get, every_at, members-SetOf, AreFrom, IsSubset, AreElements, IsCross, IsPower, IsAscending, IsMember, IsSetOf, members, AreAmong, Outcome, Is, Out, Undefined, Elem, SetOf, Tuple, Value, abbreviation, constructor, Defined, Definition, free_type, given_set, schema, listed, ResolvedTree, ResolvedTrees, term, unary, basic, int, no_types, power, product, Ty, type, Tys, named_there, AreCarriers, IsCarrier, IsTypeSetIf, AreElementsIf, before, definition_number, Environment, found_number, globally, IsTypeSet, outcome_or, type_number, AreWorkedOut, IsOutcomeOf, HasOutcome, HaveOutcomes, one_out, one_undefined, OnOne, OnSeveral, Several, values, AreOfTypes, IsElement, IsOfType, ListedOutcome, UnaryOutcome}
+use Rattle.zf_typed.proofs.Prelude.{if◌then◌else◌, ◌<◌, ◌^◌, ◌∙◌, ◌∷◌, ◌≡◌, [], ap, Bool, false, List, nat_lt, None, Option, refl, Some, subst, sym, true, ℕ, same_Some, slice_get, every_at, members-SetOf, AreFrom, IsSubset, AreElements, IsCross, IsPower, IsAscending, IsMember, IsSetOf, members, AreAmong, Outcome, Is, Out, Undefined, Elem, SetOf, Tuple, Value, abbreviation, constructor, Defined, Definition, free_type, given_set, schema, listed, ResolvedTree, ResolvedTrees, term, unary, basic, int, no_types, power, product, Ty, type, Tys, named_there, AreCarriers, IsCarrier, IsTypeSetIf, AreElementsIf, before, definition_number, Environment, found_number, globally, IsTypeSet, outcome_or, type_number, AreWorkedOut, IsOutcomeOf, HasOutcome, HaveOutcomes, one_out, one_undefined, OnOne, OnSeveral, Several, values, AreOfTypes, IsExistingElement, IsOfType, ListedOutcome, UnaryOutcome}
 use Rattle.zf_tree.specs.declared.symbol.Prefix.TheVariants.{Power}
 use Rattle.zf_tree.specs.declared.operator.Sign.TheVariants.{Symbol}
 use Rattle.zf_tree.specs.declared.operator.Listed.TheVariants.{Product}
@@ -32,7 +32,7 @@ in_cross sets vs v z h is from = set_has (λ y. (ws : List Value) × (y ≡ Tupl
 no_value : {A : Type 0} (v : Value) → Is v ≡ Undefined → A
 no_value v h = absurd (cc)
 
-in_type_set : (e : Environment) (n : ℕ) (v z : Value) → IsTypeSet e n (Is v) → IsElement e (Some n) z → IsMember z (members v)
+in_type_set : (e : Environment) (n : ℕ) (v z : Value) → IsTypeSet e n (Is v) → IsExistingElement e (Some n) z → IsMember z (members v)
 in_type_set e n v z h (k, i, size, below, is) = go (nat_lt n (2 ^ 32)) (slice_get e.sizes n) refl h
   where
     go : (b : Bool) (m : Option ℕ) → slice_get e.sizes n ≡ m → AreElementsIf n (if b then m else None) (Is v) → IsMember z (members v)
@@ -45,7 +45,7 @@ mutual
   in_carrier e int v z h k = absurd (cc)
   in_carrier e (basic name) v z h k = go (type_number e name) h k
     where
-      go : (o : Option ℕ) → IsTypeSetIf e o (Is v) → IsElement e o z → IsMember z (members v)
+      go : (o : Option ℕ) → IsTypeSetIf e o (Is v) → IsExistingElement e o z → IsMember z (members v)
       go None p q = absurd q
       go (Some n) p q = in_type_set e n v z p q
   in_carrier e (power t) v z h k =

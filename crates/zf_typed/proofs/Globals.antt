@@ -1,5 +1,5 @@
 -- The outcomes of globals are of their types.
-use Rattle.zf_typed.proofs.Prelude.{if◌then◌else◌, ◌+◌, ◌<◌, ◌^◌, ◌∙◌, ◌∷◌, ◌≡◌, [], add-one, ap, arith, Bool, false, length, List, map, None, Option, refl, Some, subst, suc, sym, take, true, zero, ℕ, none-some, same_Some, bytes_eq, AreElements, Outcome, Is, Undefined, Elem, Value, is_itself, is_same, abbreviation, Comp, constructor, Defined, Definition, free_type, given_set, schema, first_named, later, basic, power, types, typed, Var, types_of, EachOnce, outside, AreDefinedOnce, AreWellTyped, IsMadeAfter, AreElementsIf, before, Context, definition_number, element, Environment, found_number, globally, IsTypeSet, type_number, AreWorkedOut, IsEnvironment, IsOutcomeOf, HasOutcome, AreOfTypes, IsElement, IsFrontOfRow, IsOfType}
+use Rattle.zf_typed.proofs.Prelude.{if◌then◌else◌, ◌+◌, ◌<◌, ◌^◌, ◌∙◌, ◌∷◌, ◌≡◌, [], add-one, ap, arith, Bool, false, length, List, map, None, Option, refl, Some, subst, suc, sym, take, true, zero, ℕ, none-some, same_Some, bytes_eq, AreElements, Outcome, Is, Undefined, Elem, Value, is_itself, is_same, abbreviation, Comp, constructor, Defined, Definition, free_type, given_set, schema, first_named, later, basic, power, types, typed, Var, types_of, EachOnce, outside, AreDefinedOnce, AreWellTyped, IsMadeAfter, AreElementsIf, before, Context, definition_number, element, Environment, found_number, globally, IsTypeSet, type_number, AreWorkedOut, IsEnvironment, IsOutcomeOf, HasOutcome, AreOfTypes, IsExistingElement, IsFrontOfRow, IsOfType}
 use Rattle.std.specs.Prelude.{slice_get, nat_lt}
 use Rattle.std.proofs.lemmas.List.Sums.{sum_by-cons}
 use Rattle.zf_term.specs.Numbers.{has_elements, next_number}
@@ -65,7 +65,7 @@ size_at stated (d ∷ g) sizes (suc i) name n names h at =
 -- ---- elements
 
 element_typed : (e : Environment) (name : List ℕ) (n m i : ℕ) (v : Value) → type_number e name ≡ Some n → slice_get e.sizes n ≡ Some m → i < m → v ≡ Elem n i → IsOfType e (basic name) v
-element_typed e name n m i v number size l is = subst (λ o. IsElement e o v) (sym number) (m, i, size, l, is)
+element_typed e name n m i v number size l is = subst (λ o. IsExistingElement e o v) (sym number) (m, i, size, l, is)
 
 set_typed : (e : Environment) (name : List ℕ) (n m : ℕ) (v : Value) → type_number e name ≡ Some n → slice_get e.sizes n ≡ Some m → AreElements n m (Is v) → IsOfType e (power (basic name)) v
 unfolding AreElements op.IsElement

@@ -1,5 +1,5 @@
 -- What a name stands for has a value of the name's type, where each value that is bound has its own.
-use Rattle.zf_typed.proofs.Prelude.{if◌then◌else◌, ◌++◌, ◌+◌, ◌∙◌, ◌∷◌, ◌≡◌, [], add-one, ap, Bool, false, List, None, Option, refl, Some, subst, suc, sym, true, zero, ℕ, none-some, same_Some, slice_get, bytes_eq, Reference, Outcome, Is, Value, Comp, Defined, first_named, later, or_else, Sort, typed, global_sort, last_named, meaning, Scope, Var, with_comp, with_global, with_local, types_of, named_there, Context, Environment, outcome_in, outcome_or, value_or, within, AreOfTypes, IsOfType}
+use Rattle.zf_typed.proofs.Prelude.{if◌then◌else◌, ◌++◌, ◌+◌, ◌∙◌, ◌∷◌, ◌≡◌, [], add-one, ap, Bool, false, List, None, Option, refl, Some, subst, suc, sym, true, zero, ℕ, none-some, same_Some, slice_get, bytes_eq, Reference, Outcome, Is, Value, Comp, Defined, first_named, later, or_else, Sort, typed, global_sort, last_named, meaning, Scope, Var, component_meaning, global_meaning, variable_meaning, types_of, named_there, Context, Environment, outcome_in, outcome_or, value_or, within, AreOfTypes, IsOfType}
 use Rattle.zf_reference.specs.declared.reference.Reference.TheVariants.{Component, Local, Global}
 use Rattle.zf_type.specs.Scopes as scopes
 use Rattle.zf_typed.proofs.OfTypes.{first_of_types}
@@ -39,7 +39,7 @@ joined e [] vs xs ys h k = subst (λ zs. AreOfTypes e (types_of vs) (zs ++ ys)) 
 joined e (u ∷ us) vs [] ys h k = nil_not_cons h.0 h.1 h.2
 joined e (u ∷ us) vs (x ∷ xs) ys h k = let p = first_of_types e u.type (types_of us) x xs h in (x, xs ++ ys, refl, p.0, joined e us vs xs ys p.1 k)
 
-pub fits_within : (e : Environment) (s : Scope) (c : Context) (vs : List Var) (ws : List Value) → Fits e s c → AreOfTypes e (types_of vs) ws → Fits e (scopes.within s vs) (within c ws)
+pub fits_within : (e : Environment) (s : Scope) (c : Context) (vs : List Var) (ws : List Value) → Fits e s c → AreOfTypes e (types_of vs) ws → Fits e (scopes.with_variables s vs) (within c ws)
 fits_within e s c vs ws f h = record { globals = f.globals; comps = f.comps; locals = joined e s.locals vs c.locals ws f.locals h }
 
 local_at : (e : Environment) (vs : List Var) (ws : List Value) (i : ℕ) (d : Var) (v : Value) → AreOfTypes e (types_of vs) ws → slice_get vs i ≡ Some d → slice_get ws i ≡ Some v → IsOfType e d.type v
@@ -71,15 +71,15 @@ named_typed e s c x r z v f = local (last_named (λ u. u.name) x s.locals) (last
     with_these : (q : Reference) (y : Sort) → (outcome_in c q ≡ Is v → IsOfSort e y v) → meant q y ≡ meant r z → outcome_in c r ≡ Is v → IsOfSort e z v
     with_these q y k m p = let t = parts_of_reference q r y z m in sorted e y z v t.1 (k (ap (outcome_in c) t.0 ∙ p))
 
-    global : (o : Option (ℕ × Defined)) → ((p : ℕ × Defined) → o ≡ Some p → (slice_get s.globals p.0 ≡ Some p.1) × (p.1.name ≡ x)) → with_global o ≡ meant r z → outcome_in c r ≡ Is v → IsOfSort e z v
+    global : (o : Option (ℕ × Defined)) → ((p : ℕ × Defined) → o ≡ Some p → (slice_get s.globals p.0 ≡ Some p.1) × (p.1.name ≡ x)) → global_meaning o ≡ meant r z → outcome_in c r ≡ Is v → IsOfSort e z v
     global None k m p = absurd (none-some (r, z) m)
     global (Some g) k m p =
         with_these (Global g.0) (global_sort g.1) (λ q. f.globals g.0 g.1 (Is v) (k g refl).0 (outcome_is (slice_get c.environment.outcomes g.0) v q) v refl) m p
 
-    component : (o : Option (ℕ × Comp)) → ((p : ℕ × Comp) → o ≡ Some p → (slice_get s.comps p.0 ≡ Some p.1) × (p.1.name ≡ x)) → or_else (with_comp o) (with_global (first_named (λ d. d.name) x s.globals)) ≡ meant r z → outcome_in c r ≡ Is v → IsOfSort e z v
+    component : (o : Option (ℕ × Comp)) → ((p : ℕ × Comp) → o ≡ Some p → (slice_get s.comps p.0 ≡ Some p.1) × (p.1.name ≡ x)) → or_else (component_meaning o) (global_meaning (first_named (λ d. d.name) x s.globals)) ≡ meant r z → outcome_in c r ≡ Is v → IsOfSort e z v
     component None k m p = global (first_named (λ d. d.name) x s.globals) (named_there (λ d. d.name) x s.globals) m p
     component (Some g) k m p = with_these (Component g.0) (typed g.1.type) (λ q. f.comps g.0 g.1 v (k g refl).0 (value_is (slice_get c.row g.0) v q)) m p
 
-    local : (o : Option (ℕ × Var)) → ((p : ℕ × Var) → o ≡ Some p → slice_get s.locals p.0 ≡ Some p.1) → or_else (with_local o) (or_else (with_comp (first_named (λ d. d.name) x s.comps)) (with_global (first_named (λ d. d.name) x s.globals))) ≡ meant r z → outcome_in c r ≡ Is v → IsOfSort e z v
+    local : (o : Option (ℕ × Var)) → ((p : ℕ × Var) → o ≡ Some p → slice_get s.locals p.0 ≡ Some p.1) → or_else (variable_meaning o) (or_else (component_meaning (first_named (λ d. d.name) x s.comps)) (global_meaning (first_named (λ d. d.name) x s.globals))) ≡ meant r z → outcome_in c r ≡ Is v → IsOfSort e z v
     local None k m p = component (first_named (λ d. d.name) x s.comps) (named_there (λ d. d.name) x s.comps) m p
     local (Some g) k m p = with_these (Local g.0) (typed g.1.type) (λ q. local_at e s.locals c.locals g.0 g.1 v f.locals (k g refl) (value_is (slice_get c.locals g.0) v q)) m p

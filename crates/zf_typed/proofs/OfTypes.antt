@@ -1,5 +1,5 @@
 -- Values of types: the sets, pairs and tuples that are made of them, and the parts that these have.
-use Rattle.zf_typed.proofs.Prelude.{◌∙◌, ◌∷◌, ◌≡◌, ◌≤◌, [], ap, length, List, refl, subst, sym, ℤ, every_at, every_from, members-SetOf, parts-Tuple, IsNumber, Relates, IsAscending, IsMember, IsSetOf, members, parts, SET_MAX, Is, Tuple, Value, int, no_types, pair, power, product, Ty, type, Tys, Environment, AreOfTypes, IsOfType}
+use Rattle.zf_typed.proofs.Prelude.{◌∙◌, ◌∷◌, ◌≡◌, ◌≤◌, [], ap, length, List, refl, subst, sym, ℤ, every_at, every_from, members-SetOf, parts-Tuple, IsNumber, Relates, IsAscending, IsMember, IsSetOf, members, parts, SET_MAX, Is, Tuple, Value, int, no_types, pair_type, power, product, Ty, type, Tys, Environment, AreOfTypes, IsOfType}
 use Rattle.zf_value.specs.Operations as op
 
 -- the members of a set of the type
@@ -17,7 +17,7 @@ a_set e t P v h f = (h.0, h.1, h.2, h.3, every_from (λ z. IsOfType e t z) h.0 (
 pub a_number : (e : Environment) (n : ℤ) (v : Value) → IsNumber n (Is v) → IsOfType e int v
 a_number e n v h = (n, h.0, h.1)
 
-pub a_pair : (e : Environment) (t u : Ty) (x y : Value) → IsOfType e t x → IsOfType e u y → IsOfType e (pair t u) (op.pair x y)
+pub a_pair : (e : Environment) (t u : Ty) (x y : Value) → IsOfType e t x → IsOfType e u y → IsOfType e (pair_type t u) (op.pair x y)
 a_pair e t u x y h k = (x ∷ y ∷ [], refl, (x, y ∷ [], refl, h, (y, [], refl, k, refl)))
 
 -- ---- tuples
@@ -34,12 +34,12 @@ heads v vs w ws h = (cc, cc)
 pub first_of_types : (e : Environment) (t : Ty) (ts : Tys) (v : Value) (vs : List Value) → AreOfTypes e (type t ts) (v ∷ vs) → IsOfType e t v × AreOfTypes e ts vs
 first_of_types e t ts v vs h = let same = heads v vs h.0 h.1 h.2 in (subst (IsOfType e t) same.0 h.3, subst (AreOfTypes e ts) same.1 h.4)
 
-pub parts_of_pair : (e : Environment) (t u : Ty) (x y : Value) → IsOfType e (pair t u) (op.pair x y) → IsOfType e t x × IsOfType e u y
+pub parts_of_pair : (e : Environment) (t u : Ty) (x y : Value) → IsOfType e (pair_type t u) (op.pair x y) → IsOfType e t x × IsOfType e u y
 parts_of_pair e t u x y h =
     let all = first_of_types e t (type u no_types) x (y ∷ []) (parts_of e (type t (type u no_types)) (x ∷ y ∷ []) h) in
     (all.0, (first_of_types e u no_types y [] all.1).0)
 
 -- ---- relations
 
-pub related : (e : Environment) (t u : Ty) (r : List Value) (x y : Value) → AreMembers e (pair t u) r → Relates r x y → IsOfType e t x × IsOfType e u y
+pub related : (e : Environment) (t u : Ty) (r : List Value) (x y : Value) → AreMembers e (pair_type t u) r → Relates r x y → IsOfType e t x × IsOfType e u y
 related e t u r x y h m = parts_of_pair e t u x y (h.each (op.pair x y) m)

@@ -1,5 +1,5 @@
 -- What each symbol makes of values of the types that it takes is a value of the type that it gives.
-use Rattle.zf_typed.proofs.Prelude.{◌∙◌, ◌≡◌, ◌⊎◌, ap, arith, List, Some, subst, sym, ℕ, ℤ, ⊎_elim, ints, w64, number_of-Int, number_of, OnNumber, OnNumbers, IsBetweenNumbers, IsDifference, IsInterval, IsModulus, IsNegation, IsProduct, IsQuotient, IsSum, IsInDomain, IsInRange, IsPairOf, Relates, IsApplied, IsComposition, IsDomain, IsDomainRestriction, IsDomainSubtraction, IsImage, IsIntersection, IsInverse, IsOverriding, IsRange, IsRangeRestriction, IsRangeSubtraction, IsSetDifference, IsSize, IsUnion, IsMember, IsSetOf, members, Outcome, Is, Undefined, Value, function_rule, rule_of, Operator, Unary, int, pair, power, Ty, a_schema, number, predicate, PrefixTakes, relation, set_of, Sort, Takes, typed, UnaryTakes, Environment, IsOfType, BinaryOutcome, InfixOutcome, PrefixOutcome, UnaryOutcome}
+use Rattle.zf_typed.proofs.Prelude.{◌∙◌, ◌≡◌, ◌⊎◌, ap, arith, List, Some, subst, sym, ℕ, ℤ, ⊎_elim, ints, w64, number_of-Int, number_of, OnNumber, OnNumbers, IsBetweenNumbers, IsDifference, IsInterval, IsModulus, IsNegation, IsProduct, IsQuotient, IsSum, IsInDomain, IsInRange, IsPairOf, Relates, IsApplied, IsComposition, IsDomain, IsDomainRestriction, IsDomainSubtraction, IsImage, IsIntersection, IsInverse, IsOverriding, IsRange, IsRangeRestriction, IsRangeSubtraction, IsSetDifference, IsSize, IsUnion, IsMember, IsSetOf, members, Outcome, Is, Undefined, Value, function_rule, rule_of, Operator, Unary, int, pair_type, power, Ty, a_schema, number_sort, predicate, PrefixTakes, relation_sort, set_sort, Sort, Takes, typed, UnaryTakes, Environment, IsOfType, BinaryOutcome, InfixOutcome, PrefixOutcome, UnaryOutcome}
 use Rattle.std.specs.Prelude.{pos, negsuc, ◌≤ℤ◌, FitsSigned, Option, None}
 use Rattle.zf_tree.specs.declared.symbol.Infix.{Infix}
 use Rattle.zf_tree.specs.declared.symbol.Infix.TheVariants.{Maplet, UpTo, Plus, Minus, Union, Difference, Times, Div, Mod, Intersection, Composition, Overriding, DomainRestriction, RangeRestriction, DomainSubtraction, RangeSubtraction}
@@ -107,58 +107,58 @@ module _ (e : Environment) where
 
   -- ---- relations
 
-  a_domain : (t u : Ty) (r : List Value) (v : Value) → AreMembers e (pair t u) r → IsDomain r (Is v) → IsOfType e (power t) v
+  a_domain : (t u : Ty) (r : List Value) (v : Value) → AreMembers e (pair_type t u) r → IsDomain r (Is v) → IsOfType e (power t) v
   unfolding IsDomain
   a_domain t u r v h p = a_set e t (IsInDomain r) v p (λ x q. (related e t u r x q.0 h q.1).0)
 
-  a_range : (t u : Ty) (r : List Value) (v : Value) → AreMembers e (pair t u) r → IsRange r (Is v) → IsOfType e (power u) v
+  a_range : (t u : Ty) (r : List Value) (v : Value) → AreMembers e (pair_type t u) r → IsRange r (Is v) → IsOfType e (power u) v
   unfolding IsRange
   a_range t u r v h p = a_set e u (IsInRange r) v p (λ y q. (related e t u r q.0 y h q.1).1)
 
-  an_inverse : (t u : Ty) (r : List Value) (v : Value) → AreMembers e (pair t u) r → IsInverse r (Is v) → IsOfType e (power (pair u t)) v
+  an_inverse : (t u : Ty) (r : List Value) (v : Value) → AreMembers e (pair_type t u) r → IsInverse r (Is v) → IsOfType e (power (pair_type u t)) v
   unfolding IsInverse
   an_inverse t u r v h p =
-      a_set e (pair u t) (λ z. (x y : Value) × (z ≡ op.pair y x) × Relates r x y) v p
-      (λ z q. let k = related e t u r q.0 q.1 h q.3 in subst (IsOfType e (pair u t)) (sym q.2) (a_pair e u t q.1 q.0 k.1 k.0))
+      a_set e (pair_type u t) (λ z. (x y : Value) × (z ≡ op.pair y x) × Relates r x y) v p
+      (λ z q. let k = related e t u r q.0 q.1 h q.3 in subst (IsOfType e (pair_type u t)) (sym q.2) (a_pair e u t q.1 q.0 k.1 k.0))
 
-  an_image : (t u : Ty) (r a : List Value) (v : Value) → AreMembers e (pair t u) r → IsImage r a (Is v) → IsOfType e (power u) v
+  an_image : (t u : Ty) (r a : List Value) (v : Value) → AreMembers e (pair_type t u) r → IsImage r a (Is v) → IsOfType e (power u) v
   unfolding IsImage
   an_image t u r a v h p = a_set e u (λ y. (x : Value) × IsMember x a × Relates r x y) v p (λ y q. (related e t u r q.0 y h q.2).1)
 
-  a_composition : (t u w : Ty) (r q : List Value) (v : Value) → AreMembers e (pair t u) r → AreMembers e (pair u w) q → IsComposition r q (Is v) → IsOfType e (power (pair t w)) v
+  a_composition : (t u w : Ty) (r q : List Value) (v : Value) → AreMembers e (pair_type t u) r → AreMembers e (pair_type u w) q → IsComposition r q (Is v) → IsOfType e (power (pair_type t w)) v
   unfolding IsComposition
   a_composition t u w r q v h k p =
-      a_set e (pair t w) (λ z. (x y s : Value) × (z ≡ op.pair x s) × Relates r x y × Relates q y s) v p
-      (λ z f. subst (IsOfType e (pair t w)) (sym f.3) (a_pair e t w f.0 f.2 (related e t u r f.0 f.1 h f.4).0 (related e u w q f.1 f.2 k f.5).1))
+      a_set e (pair_type t w) (λ z. (x y s : Value) × (z ≡ op.pair x s) × Relates r x y × Relates q y s) v p
+      (λ z f. subst (IsOfType e (pair_type t w)) (sym f.3) (a_pair e t w f.0 f.2 (related e t u r f.0 f.1 h f.4).0 (related e u w q f.1 f.2 k f.5).1))
 
-  pair_of : (t u : Ty) (r : List Value) (P : Value → Value → Type 0) (z : Value) → AreMembers e (pair t u) r → IsPairOf r P z → IsOfType e (pair t u) z
-  pair_of t u r P z h p = subst (IsOfType e (pair t u)) (sym p.2) (h.each (op.pair p.0 p.1) p.3)
+  pair_of : (t u : Ty) (r : List Value) (P : Value → Value → Type 0) (z : Value) → AreMembers e (pair_type t u) r → IsPairOf r P z → IsOfType e (pair_type t u) z
+  pair_of t u r P z h p = subst (IsOfType e (pair_type t u)) (sym p.2) (h.each (op.pair p.0 p.1) p.3)
 
-  an_overriding : (t u : Ty) (r q : List Value) (v : Value) → AreMembers e (pair t u) r → AreMembers e (pair t u) q → IsOverriding r q (Is v) → IsOfType e (power (pair t u)) v
+  an_overriding : (t u : Ty) (r q : List Value) (v : Value) → AreMembers e (pair_type t u) r → AreMembers e (pair_type t u) q → IsOverriding r q (Is v) → IsOfType e (power (pair_type t u)) v
   unfolding IsOverriding
   an_overriding t u r q v h k p =
-      a_set e (pair t u) (λ z. IsMember z q ⊎ IsPairOf r (λ x y. IsInDomain q x → ⊥) z) v p (λ z f. ⊎_elim (λ m. k.each z m) (λ g. pair_of t u r (λ x y. IsInDomain q x → ⊥) z h g) f)
+      a_set e (pair_type t u) (λ z. IsMember z q ⊎ IsPairOf r (λ x y. IsInDomain q x → ⊥) z) v p (λ z f. ⊎_elim (λ m. k.each z m) (λ g. pair_of t u r (λ x y. IsInDomain q x → ⊥) z h g) f)
 
-  pairs_of : (t u : Ty) (r : List Value) (P : Value → Value → Type 0) (v : Value) → AreMembers e (pair t u) r → IsSetOf (IsPairOf r P) (Is v) → IsOfType e (power (pair t u)) v
-  pairs_of t u r P v h p = a_set e (pair t u) (IsPairOf r P) v p (λ z q. pair_of t u r P z h q)
+  pairs_of : (t u : Ty) (r : List Value) (P : Value → Value → Type 0) (v : Value) → AreMembers e (pair_type t u) r → IsSetOf (IsPairOf r P) (Is v) → IsOfType e (power (pair_type t u)) v
+  pairs_of t u r P v h p = a_set e (pair_type t u) (IsPairOf r P) v p (λ z q. pair_of t u r P z h q)
 
-  domain_restricted : (t u : Ty) (a r : List Value) (v : Value) → AreMembers e (pair t u) r → IsDomainRestriction a r (Is v) → IsOfType e (power (pair t u)) v
+  domain_restricted : (t u : Ty) (a r : List Value) (v : Value) → AreMembers e (pair_type t u) r → IsDomainRestriction a r (Is v) → IsOfType e (power (pair_type t u)) v
   unfolding IsDomainRestriction
   domain_restricted t u a r v h p = pairs_of t u r (λ x y. IsMember x a) v h p
 
-  domain_subtracted : (t u : Ty) (a r : List Value) (v : Value) → AreMembers e (pair t u) r → IsDomainSubtraction a r (Is v) → IsOfType e (power (pair t u)) v
+  domain_subtracted : (t u : Ty) (a r : List Value) (v : Value) → AreMembers e (pair_type t u) r → IsDomainSubtraction a r (Is v) → IsOfType e (power (pair_type t u)) v
   unfolding IsDomainSubtraction
   domain_subtracted t u a r v h p = pairs_of t u r (λ x y. IsMember x a → ⊥) v h p
 
-  range_restricted : (t u : Ty) (r b : List Value) (v : Value) → AreMembers e (pair t u) r → IsRangeRestriction r b (Is v) → IsOfType e (power (pair t u)) v
+  range_restricted : (t u : Ty) (r b : List Value) (v : Value) → AreMembers e (pair_type t u) r → IsRangeRestriction r b (Is v) → IsOfType e (power (pair_type t u)) v
   unfolding IsRangeRestriction
   range_restricted t u r b v h p = pairs_of t u r (λ x y. IsMember y b) v h p
 
-  range_subtracted : (t u : Ty) (r b : List Value) (v : Value) → AreMembers e (pair t u) r → IsRangeSubtraction r b (Is v) → IsOfType e (power (pair t u)) v
+  range_subtracted : (t u : Ty) (r b : List Value) (v : Value) → AreMembers e (pair_type t u) r → IsRangeSubtraction r b (Is v) → IsOfType e (power (pair_type t u)) v
   unfolding IsRangeSubtraction
   range_subtracted t u r b v h p = pairs_of t u r (λ x y. IsMember y b → ⊥) v h p
 
-  applied : (t u : Ty) (r : List Value) (x v : Value) → AreMembers e (pair t u) r → IsApplied r x (Is v) → IsOfType e u v
+  applied : (t u : Ty) (r : List Value) (x v : Value) → AreMembers e (pair_type t u) r → IsApplied r x (Is v) → IsOfType e u v
   unfolding IsApplied
   applied t u r x v h p = (related e t u r x v h p.0).1
 
@@ -167,47 +167,47 @@ module _ (e : Environment) where
   pub sorted : (z y : Sort) (v : Value) → z ≡ y → IsOfSort e z v → IsOfSort e y v
   sorted z y v q h = subst (λ s. IsOfSort e s v) q h
 
-  listed : (z : Sort) (t : Ty) (v : Value) → z ≡ set_of t → IsOfSort e z v → AreMembers e t (members v)
-  listed z t v q h = members_of e t v (sorted z (set_of t) v q h)
+  listed : (z : Sort) (t : Ty) (v : Value) → z ≡ set_sort t → IsOfSort e z v → AreMembers e t (members v)
+  listed z t v q h = members_of e t v (sorted z (set_sort t) v q h)
 
   pub infixed : (op : Infix) (x y z : Sort) (a b v : Value) → Takes (function_rule op) x y z → IsOfSort e x a → IsOfSort e y b → InfixOutcome op a b (Is v) → IsOfSort e z v
-  infixed Maplet x y z a b v k h g p = sorted (typed (pair k.0 k.1)) z v (sym k.4) (subst (IsOfType e (pair k.0 k.1)) (sym (is_value v (op.pair a b) p)) (a_pair e k.0 k.1 a b (sorted x (typed k.0) a k.2 h) (sorted y (typed k.1) b k.3 g)))
+  infixed Maplet x y z a b v k h g p = sorted (typed (pair_type k.0 k.1)) z v (sym k.4) (subst (IsOfType e (pair_type k.0 k.1)) (sym (is_value v (op.pair a b) p)) (a_pair e k.0 k.1 a b (sorted x (typed k.0) a k.2 h) (sorted y (typed k.1) b k.3 g)))
     where
       is_value : (w u : Value) → Is w ≡ Is u → w ≡ u
       is_value w u q = cc
-  infixed UpTo x y z a b v k h g p = sorted (set_of int) z v (sym k.2) (an_interval a b v (sorted x number a k.0 h) (sorted y number b k.1 g) p)
-  infixed Plus x y z a b v k h g p = sorted number z v (sym k.2) (on_numbers (number_of a) (number_of b) IsSum v a_sum p)
-  infixed Minus x y z a b v k h g p = sorted number z v (sym k.2) (on_numbers (number_of a) (number_of b) IsDifference v a_difference p)
-  infixed Times x y z a b v k h g p = sorted number z v (sym k.2) (on_numbers (number_of a) (number_of b) IsProduct v a_product p)
-  infixed Div x y z a b v k h g p = sorted number z v (sym k.2) (on_numbers (number_of a) (number_of b) IsQuotient v a_quotient p)
-  infixed Mod x y z a b v k h g p = sorted number z v (sym k.2) (on_numbers (number_of a) (number_of b) IsModulus v a_modulus p)
-  infixed Union x y z a b v k h g p = sorted (set_of k.0) z v (sym k.3) (a_union k.0 (members a) (members b) v (listed x k.0 a k.1 h) (listed y k.0 b k.2 g) p)
-  infixed Intersection x y z a b v k h g p = sorted (set_of k.0) z v (sym k.3) (an_intersection k.0 (members a) (members b) v (listed x k.0 a k.1 h) p)
-  infixed Difference x y z a b v k h g p = sorted (set_of k.0) z v (sym k.3) (a_set_difference k.0 (members a) (members b) v (listed x k.0 a k.1 h) p)
+  infixed UpTo x y z a b v k h g p = sorted (set_sort int) z v (sym k.2) (an_interval a b v (sorted x number_sort a k.0 h) (sorted y number_sort b k.1 g) p)
+  infixed Plus x y z a b v k h g p = sorted number_sort z v (sym k.2) (on_numbers (number_of a) (number_of b) IsSum v a_sum p)
+  infixed Minus x y z a b v k h g p = sorted number_sort z v (sym k.2) (on_numbers (number_of a) (number_of b) IsDifference v a_difference p)
+  infixed Times x y z a b v k h g p = sorted number_sort z v (sym k.2) (on_numbers (number_of a) (number_of b) IsProduct v a_product p)
+  infixed Div x y z a b v k h g p = sorted number_sort z v (sym k.2) (on_numbers (number_of a) (number_of b) IsQuotient v a_quotient p)
+  infixed Mod x y z a b v k h g p = sorted number_sort z v (sym k.2) (on_numbers (number_of a) (number_of b) IsModulus v a_modulus p)
+  infixed Union x y z a b v k h g p = sorted (set_sort k.0) z v (sym k.3) (a_union k.0 (members a) (members b) v (listed x k.0 a k.1 h) (listed y k.0 b k.2 g) p)
+  infixed Intersection x y z a b v k h g p = sorted (set_sort k.0) z v (sym k.3) (an_intersection k.0 (members a) (members b) v (listed x k.0 a k.1 h) p)
+  infixed Difference x y z a b v k h g p = sorted (set_sort k.0) z v (sym k.3) (a_set_difference k.0 (members a) (members b) v (listed x k.0 a k.1 h) p)
   infixed Composition x y z a b v k h g p =
-      sorted (relation k.0 k.2) z v (sym k.5) (a_composition k.0 k.1 k.2 (members a) (members b) v (listed x (pair k.0 k.1) a k.3 h) (listed y (pair k.1 k.2) b k.4 g) p)
-  infixed Overriding x y z a b v k h g p = sorted (relation k.0 k.1) z v (sym k.4) (an_overriding k.0 k.1 (members a) (members b) v (listed x (pair k.0 k.1) a k.2 h) (listed y (pair k.0 k.1) b k.3 g) p)
-  infixed DomainRestriction x y z a b v k h g p = sorted (relation k.0 k.1) z v (sym k.4) (domain_restricted k.0 k.1 (members a) (members b) v (listed y (pair k.0 k.1) b k.3 g) p)
-  infixed DomainSubtraction x y z a b v k h g p = sorted (relation k.0 k.1) z v (sym k.4) (domain_subtracted k.0 k.1 (members a) (members b) v (listed y (pair k.0 k.1) b k.3 g) p)
-  infixed RangeRestriction x y z a b v k h g p = sorted (relation k.0 k.1) z v (sym k.4) (range_restricted k.0 k.1 (members a) (members b) v (listed x (pair k.0 k.1) a k.2 h) p)
-  infixed RangeSubtraction x y z a b v k h g p = sorted (relation k.0 k.1) z v (sym k.4) (range_subtracted k.0 k.1 (members a) (members b) v (listed x (pair k.0 k.1) a k.2 h) p)
+      sorted (relation_sort k.0 k.2) z v (sym k.5) (a_composition k.0 k.1 k.2 (members a) (members b) v (listed x (pair_type k.0 k.1) a k.3 h) (listed y (pair_type k.1 k.2) b k.4 g) p)
+  infixed Overriding x y z a b v k h g p = sorted (relation_sort k.0 k.1) z v (sym k.4) (an_overriding k.0 k.1 (members a) (members b) v (listed x (pair_type k.0 k.1) a k.2 h) (listed y (pair_type k.0 k.1) b k.3 g) p)
+  infixed DomainRestriction x y z a b v k h g p = sorted (relation_sort k.0 k.1) z v (sym k.4) (domain_restricted k.0 k.1 (members a) (members b) v (listed y (pair_type k.0 k.1) b k.3 g) p)
+  infixed DomainSubtraction x y z a b v k h g p = sorted (relation_sort k.0 k.1) z v (sym k.4) (domain_subtracted k.0 k.1 (members a) (members b) v (listed y (pair_type k.0 k.1) b k.3 g) p)
+  infixed RangeRestriction x y z a b v k h g p = sorted (relation_sort k.0 k.1) z v (sym k.4) (range_restricted k.0 k.1 (members a) (members b) v (listed x (pair_type k.0 k.1) a k.2 h) p)
+  infixed RangeSubtraction x y z a b v k h g p = sorted (relation_sort k.0 k.1) z v (sym k.4) (range_subtracted k.0 k.1 (members a) (members b) v (listed x (pair_type k.0 k.1) a k.2 h) p)
 
   pub binary : (op : Operator) (x y z : Sort) (a b v : Value) → Takes (rule_of op) x y z → IsOfSort e x a → IsOfSort e y b → BinaryOutcome op a b (Is v) → IsOfSort e z v
   binary (operator.Function f) x y z a b v k h g p = infixed f x y z a b v k h g p
-  binary (operator.Generic f) x y z a b v k h g p = sorted (set_of (power (pair k.0 k.1))) z v (sym k.4) (an_arrow e k.0 k.1 f a b v (listed x k.0 a k.2 h) (listed y k.1 b k.3 g) p)
+  binary (operator.Generic f) x y z a b v k h g p = sorted (set_sort (power (pair_type k.0 k.1))) z v (sym k.4) (an_arrow e k.0 k.1 f a b v (listed x k.0 a k.2 h) (listed y k.1 b k.3 g) p)
   binary (operator.Connective f) x y z a b v k h g p = never_undefined v p
-  binary operator.Application x y z a b v k h g p = sorted (typed k.1) z v (sym k.4) (applied k.0 k.1 (members a) b v (listed x (pair k.0 k.1) a k.2 h) p)
-  binary operator.Image x y z a b v k h g p = sorted (set_of k.1) z v (sym k.4) (an_image k.0 k.1 (members a) (members b) v (listed x (pair k.0 k.1) a k.2 h) p)
+  binary operator.Application x y z a b v k h g p = sorted (typed k.1) z v (sym k.4) (applied k.0 k.1 (members a) b v (listed x (pair_type k.0 k.1) a k.2 h) p)
+  binary operator.Image x y z a b v k h g p = sorted (set_sort k.1) z v (sym k.4) (an_image k.0 k.1 (members a) (members b) v (listed x (pair_type k.0 k.1) a k.2 h) p)
 
   prefixed : (op : Prefix) (x z : Sort) (a v : Value) → PrefixTakes op x z → IsOfSort e x a → PrefixOutcome op a (Is v) → IsOfSort e z v
-  prefixed prefix.Power x z a v k h p = sorted (set_of (power k.0)) z v (sym k.2) (a_power e k.0 (members a) v (listed x k.0 a k.1 h) p)
-  prefixed prefix.Finset x z a v k h p = sorted (set_of (power k.0)) z v (sym k.2) (a_power e k.0 (members a) v (listed x k.0 a k.1 h) p)
-  prefixed prefix.Size x z a v k h p = sorted number z v (sym k.2) (a_size (members a) v p)
-  prefixed prefix.Domain x z a v k h p = sorted (set_of k.0) z v (sym k.3) (a_domain k.0 k.1 (members a) v (listed x (pair k.0 k.1) a k.2 h) p)
-  prefixed prefix.Range x z a v k h p = sorted (set_of k.1) z v (sym k.3) (a_range k.0 k.1 (members a) v (listed x (pair k.0 k.1) a k.2 h) p)
+  prefixed prefix.Power x z a v k h p = sorted (set_sort (power k.0)) z v (sym k.2) (a_power e k.0 (members a) v (listed x k.0 a k.1 h) p)
+  prefixed prefix.Finset x z a v k h p = sorted (set_sort (power k.0)) z v (sym k.2) (a_power e k.0 (members a) v (listed x k.0 a k.1 h) p)
+  prefixed prefix.Size x z a v k h p = sorted number_sort z v (sym k.2) (a_size (members a) v p)
+  prefixed prefix.Domain x z a v k h p = sorted (set_sort k.0) z v (sym k.3) (a_domain k.0 k.1 (members a) v (listed x (pair_type k.0 k.1) a k.2 h) p)
+  prefixed prefix.Range x z a v k h p = sorted (set_sort k.1) z v (sym k.3) (a_range k.0 k.1 (members a) v (listed x (pair_type k.0 k.1) a k.2 h) p)
 
   pub unary_made : (op : Unary) (x z : Sort) (a v : Value) → UnaryTakes op x z → IsOfSort e x a → UnaryOutcome op a (Is v) → IsOfSort e z v
-  unary_made (unary.Sign sign.Minus) x z a v k h p = sorted number z v (sym k.1) (on_number (number_of a) IsNegation v (λ m q. a_negation m v q) p)
+  unary_made (unary.Sign sign.Minus) x z a v k h p = sorted number_sort z v (sym k.1) (on_number (number_of a) IsNegation v (λ m q. a_negation m v q) p)
   unary_made (unary.Sign (sign.Symbol f)) x z a v k h p = prefixed f x z a v k h p
-  unary_made unary.Inverse x z a v k h p = sorted (relation k.1 k.0) z v (sym k.3) (an_inverse k.0 k.1 (members a) v (listed x (pair k.0 k.1) a k.2 h) p)
+  unary_made unary.Inverse x z a v k h p = sorted (relation_sort k.1 k.0) z v (sym k.3) (an_inverse k.0 k.1 (members a) v (listed x (pair_type k.0 k.1) a k.2 h) p)
   unary_made unary.Not x z a v k h p = never_undefined v p

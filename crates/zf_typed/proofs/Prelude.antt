@@ -30,11 +30,11 @@ pub use Rattle.zf_term.proofs.SameNames.{is_itself, is_same, swapped}
 pub use Rattle.zf_term.specs.Definitions.{abbreviation, carrier, Comp, constructor, DeclaredSet, DeclaredSets, Defined, Definition, free_type, given_set, no_sets, plain, Schema, schema, set, sets_of, sides}
 pub use Rattle.zf_term.specs.FirstNamed.{first_named, later, or_else}
 pub use Rattle.zf_term.specs.ResolvedTrees.{listed, ResolvedPart, ResolvedTree, ResolvedTrees, term, unary}
-pub use Rattle.zf_term.specs.Types.{basic, has_numbers, int, no_types, pair, power, product, Ty, type, types, Tys}
+pub use Rattle.zf_term.specs.Types.{basic, has_numbers, int, no_types, pair_type, power, product, Ty, type, types, Tys}
 pub use Rattle.zf_term.specs.declared.extent.Infinite.{Infinite}
 pub use Rattle.zf_type.specs.Resolving.{bound, referent, resolved, resolved_all, resolved_part, resolved_ranges}
-pub use Rattle.zf_type.specs.Rules.{a_schema, constant_sort, number, predicate, PrefixTakes, relation, set_of, Sort, Takes, typed, UnaryTakes}
-pub use Rattle.zf_type.specs.Scopes.{definition_sort, global_sort, last_named, meaning, Scope, Var, with_comp, with_global, with_local}
+pub use Rattle.zf_type.specs.Rules.{a_schema, constant_sort, number_sort, predicate, PrefixTakes, relation_sort, set_sort, Sort, Takes, typed, UnaryTakes}
+pub use Rattle.zf_type.specs.Scopes.{definition_sort, global_sort, last_named, meaning, Scope, Var, component_meaning, global_meaning, variable_meaning}
 pub use Rattle.zf_type.specs.Typing.{AreAll, AreMembers, Declare, IsOf, Makes, member_sort, row_type, types_of, variables}
 pub use Rattle.zf_calculus.specs.Calculus.{comp, marked, nothing}
 pub use Rattle.zf_calculus.specs.CalculusLaws.{EachOnce}
@@ -49,6 +49,6 @@ pub use Rattle.zf_meaning.specs.Environments.{AreElementsIf, before, Context, de
 pub use Rattle.zf_meaning.specs.GlobalOutcomes.{AreWorkedOut, IsEnvironment, IsOutcomeOf}
 pub use Rattle.zf_meaning.specs.Meaning.{constant_outcome, HasOutcome, HaveOutcomes, HaveRanges, IsBuilt, IsBuiltBy, IsConstraint, row_value}
 pub use Rattle.zf_meaning.specs.Outcomes.{OnBoth, one_more, one_out, one_undefined, OnOne, OnSeveral, repeated, Several, values}
-pub use Rattle.zf_meaning.specs.Rows.{AreOfTypes, IsElement, IsOfType, IsRow}
+pub use Rattle.zf_meaning.specs.Rows.{AreOfTypes, IsExistingElement, IsOfType, IsRow}
 pub use Rattle.zf_typed.specs.OutcomeLaws.{IsFrontOfRow}
 pub use Rattle.zf_meaning.specs.Symbols.{ArrowOutcome, BinaryOutcome, InfixOutcome, IsIn, ListedOutcome, PrefixOutcome, UnaryOutcome}

@@ -1,5 +1,5 @@
 -- Sets of relations, functions and subsets are sets of sets of the type.
-use Rattle.zf_typed.proofs.Prelude.{◌∙◌, ◌∷◌, ◌≡◌, ◌≤◌, [], ap, arith, length, List, refl, subst, sym, ⊎_elim, every_from, members-SetOf, IsBetween, IsFunctional, IsInjective, IsRelationThat, IsSubset, IsTotal, ArePartialFunctions, ArePartialInjections, AreRelations, AreTotalFunctions, AreTotalInjections, IsPower, IsAscending, IsMember, IsSetOf, members, AreAmong, SET_MAX, Is, SetOf, Value, pair, power, Ty, Environment, IsOfType, ArrowOutcome}
+use Rattle.zf_typed.proofs.Prelude.{◌∙◌, ◌∷◌, ◌≡◌, ◌≤◌, [], ap, arith, length, List, refl, subst, sym, ⊎_elim, every_from, members-SetOf, IsBetween, IsFunctional, IsInjective, IsRelationThat, IsSubset, IsTotal, ArePartialFunctions, ArePartialInjections, AreRelations, AreTotalFunctions, AreTotalInjections, IsPower, IsAscending, IsMember, IsSetOf, members, AreAmong, SET_MAX, Is, SetOf, Value, pair_type, power, Ty, Environment, IsOfType, ArrowOutcome}
 use Rattle.zf_tree.specs.declared.symbol.Arrow.{Arrow}
 use Rattle.zf_tree.specs.declared.symbol.Arrow.TheVariants as arrow
 use Rattle.zf_value.specs.Operations as op
@@ -32,11 +32,11 @@ one_item : (x y : Value) → x ∷ [] ≡ y ∷ [] → x ≡ y
 one_item x y e = cc
 
 module _ (e : Environment) (t u : Ty) (a b : List Value) (left : AreMembers e t a) (right : AreMembers e u b) where
-  between : (r : List Value) (z : Value) → IsBetween a b r → IsMember z r → IsOfType e (pair t u) z
-  between r z h m = let p = h z m in subst (IsOfType e (pair t u)) (sym p.2) (a_pair e t u p.0 p.1 (left.each p.0 p.3) (right.each p.1 p.4))
+  between : (r : List Value) (z : Value) → IsBetween a b r → IsMember z r → IsOfType e (pair_type t u) z
+  between r z h m = let p = h z m in subst (IsOfType e (pair_type t u)) (sym p.2) (a_pair e t u p.0 p.1 (left.each p.0 p.3) (right.each p.1 p.4))
 
-  a_relation : (P : List Value → Type 0) (z : Value) → ((r : List Value) → IsAscending r → IsBetween a b r → P r → length r ≤ SET_MAX) → IsRelationThat P a b z → IsOfType e (power (pair t u)) z
-  a_relation P z few p = (p.0, p.1, p.2, few p.0 p.2 p.3 p.4, every_from (λ x. IsOfType e (pair t u) x) p.0 (λ x m. between p.0 x p.3 m))
+  a_relation : (P : List Value → Type 0) (z : Value) → ((r : List Value) → IsAscending r → IsBetween a b r → P r → length r ≤ SET_MAX) → IsRelationThat P a b z → IsOfType e (power (pair_type t u)) z
+  a_relation P z few p = (p.0, p.1, p.2, few p.0 p.2 p.3 p.4, every_from (λ x. IsOfType e (pair_type t u) x) p.0 (λ x m. between p.0 x p.3 m))
 
   -- a function has no more pairs than there are members that it goes from
   few_of_function : (r : List Value) → IsAscending r → IsBetween a b r → IsFunctional r → length r ≤ SET_MAX
@@ -55,13 +55,13 @@ module _ (e : Environment) (t u : Ty) (a b : List Value) (left : AreMembers e t 
       (λ z w s p q. one_item z w (same_members (z ∷ []) (w ∷ []) (sym p ∙ q))) in
       omega (arith, l, few)
 
-  functions : (P : List Value → Type 0) (v : Value) → ((r : List Value) → P r → IsFunctional r) → IsSetOf (IsRelationThat P a b) (Is v) → IsOfType e (power (power (pair t u))) v
-  functions P v f h = a_set e (power (pair t u)) (IsRelationThat P a b) v h (λ z p. a_relation P z (λ r asc k q. few_of_function r asc k (f r q)) p)
+  functions : (P : List Value → Type 0) (v : Value) → ((r : List Value) → P r → IsFunctional r) → IsSetOf (IsRelationThat P a b) (Is v) → IsOfType e (power (power (pair_type t u))) v
+  functions P v f h = a_set e (power (pair_type t u)) (IsRelationThat P a b) v h (λ z p. a_relation P z (λ r asc k q. few_of_function r asc k (f r q)) p)
 
-  relations : (v : Value) → IsSetOf (IsRelationThat (λ s. Unit {0}) a b) (Is v) → IsOfType e (power (power (pair t u))) v
-  relations v h = a_set e (power (pair t u)) (IsRelationThat (λ s. Unit {0}) a b) v h (λ z p. a_relation (λ s. Unit {0}) z (λ r asc k q. few_of_relation h.0 r h.3 (λ w s. (h.4 w).1 s) asc k) p)
+  relations : (v : Value) → IsSetOf (IsRelationThat (λ s. Unit {0}) a b) (Is v) → IsOfType e (power (power (pair_type t u))) v
+  relations v h = a_set e (power (pair_type t u)) (IsRelationThat (λ s. Unit {0}) a b) v h (λ z p. a_relation (λ s. Unit {0}) z (λ r asc k q. few_of_relation h.0 r h.3 (λ w s. (h.4 w).1 s) asc k) p)
 
-pub an_arrow : (e : Environment) (t u : Ty) (op : Arrow) (x y v : Value) → AreMembers e t (members x) → AreMembers e u (members y) → ArrowOutcome op x y (Is v) → IsOfType e (power (power (pair t u))) v
+pub an_arrow : (e : Environment) (t u : Ty) (op : Arrow) (x y v : Value) → AreMembers e t (members x) → AreMembers e u (members y) → ArrowOutcome op x y (Is v) → IsOfType e (power (power (pair_type t u))) v
 unfolding AreRelations ArePartialFunctions AreTotalFunctions ArePartialInjections AreTotalInjections
 an_arrow e t u arrow.Relation x y v h k p = relations e t u (members x) (members y) h k v p
 an_arrow e t u arrow.PartialFunction x y v h k p = functions e t u (members x) (members y) h k IsFunctional v (λ r q. q) p

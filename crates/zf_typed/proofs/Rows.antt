@@ -3,7 +3,7 @@ use Rattle.zf_typed.proofs.Prelude.{◌∷◌, ◌≡◌, [], List, None, Option
 use Rattle.zf_schema.proofs.Globals.{names_once}
 use Rattle.zf_schema.proofs.WellTyped.{globals_well_typed}
 use Rattle.zf_walk.specs.Rows.{IsRowOf}
-use Rattle.zf_enum.specs.Ranges.{AreRanges, IsRange, first_held, later_held}
+use Rattle.zf_enum.specs.Ranges.{AreRanges, IsComponentRange, first_held, later_held}
 use Rattle.zf_typed.specs.RowLaws.{AreHeldTyped, RowsTyped, EventsTyped, EventsOfTextsTyped}
 use Rattle.zf_typed.proofs.Components.{AreCompsFor}
 use Rattle.zf_typed.proofs.DeclaredSets.{listed_typed}
@@ -23,7 +23,7 @@ row_typed e well typed (c ∷ cs) held (xs ∷ ranges) (v ∷ row) h t r m =
     (v, row, refl, of_type (first_held held) t.0 r.0, row_typed e well typed cs (later_held held) ranges row h.1 t.1 r.1 m.1)
   where
     -- what is held is of the type, and what is not is where it can be listed
-    of_type : (one : Option Value) → MatchOption one (Unit {0}) (IsOfType e c.type) → IsRange e c one xs → IsOfType e c.type v
+    of_type : (one : Option Value) → MatchOption one (Unit {0}) (IsOfType e c.type) → IsComponentRange e c one xs → IsOfType e c.type v
     of_type None u k = listed_typed e well typed c.type (sets_of c.sets) xs h.0.0 h.0.1 (λ w. (λ n. ((k.members w).0 n).0, λ i. (k.members w).1 (i, tt))) v (member xs v m.0)
     of_type (Some w) u k = subst (IsOfType e c.type) (sym ((k.members v).0 (member xs v m.0)).1) u
 

@@ -1,5 +1,5 @@
 -- The outcome of a well typed term is of its type, where each value that is bound is of its own.
-use Rattle.zf_typed.proofs.Prelude.{◌++◌, ◌∙◌, ◌∷◌, ◌≡◌, [], ap, arith, length, List, refl, replicate, subst, sym, ℕ, ⊎_elim, pos, AreFrom, IsCross, IsDisplay, IsMember, Outcome, Is, Out, Undefined, SetOf, Value, spelling, rule_of, no_decls, no_trees, Perhaps, Tree, tree, Trees, var_decl, VarDecls, Operator, Unary, Constant, Name, ResolvedPart, ResolvedTree, no_types, power, Ty, type, Tys, bound, referent, resolved, resolved_all, resolved_part, resolved_ranges, number, predicate, set_of, Sort, Takes, typed, UnaryTakes, Scope, Var, AreAll, AreMembers, Declare, IsOf, Makes, member_sort, row_type, types_of, variables, Context, Environment, outcome_in, within, constant_outcome, HasOutcome, HaveOutcomes, HaveRanges, IsBuilt, IsBuiltBy, IsConstraint, row_value, OnBoth, one_more, one_out, one_undefined, OnOne, OnSeveral, repeated, Several, values, AreOfTypes, IsOfType, BinaryOutcome, ListedOutcome, UnaryOutcome}
+use Rattle.zf_typed.proofs.Prelude.{◌++◌, ◌∙◌, ◌∷◌, ◌≡◌, [], ap, arith, length, List, refl, replicate, subst, sym, ℕ, ⊎_elim, pos, AreFrom, IsCross, IsDisplay, IsMember, Outcome, Is, Out, Undefined, SetOf, Value, spelling, rule_of, no_decls, no_trees, Perhaps, Tree, tree, Trees, var_decl, VarDecls, Operator, Unary, Constant, Name, ResolvedPart, ResolvedTree, no_types, power, Ty, type, Tys, bound, referent, resolved, resolved_all, resolved_part, resolved_ranges, number_sort, predicate, set_sort, Sort, Takes, typed, UnaryTakes, Scope, Var, AreAll, AreMembers, Declare, IsOf, Makes, member_sort, row_type, types_of, variables, Context, Environment, outcome_in, within, constant_outcome, HasOutcome, HaveOutcomes, HaveRanges, IsBuilt, IsBuiltBy, IsConstraint, row_value, OnBoth, one_more, one_out, one_undefined, OnOne, OnSeveral, repeated, Several, values, AreOfTypes, IsOfType, BinaryOutcome, ListedOutcome, UnaryOutcome}
 use Rattle.zf_tree.specs.declared.symbol.Constant.TheVariants as constants
 use Rattle.zf_tree.specs.Trees as text
 use Rattle.zf_tree.specs.declared.operator.Listed.{Listed}
@@ -170,18 +170,18 @@ module _ (e : Environment) (c : Context) where
 mutual
   pub term_typed : (e : Environment) (s : Scope) (c : Context) (a : Tree) (z : Sort) (v : Value) → Fits e s c → IsOf s a z → HasOutcome c (resolved s a) (Is v) → IsOfSort e z v
   term_typed e s c (text.named n) z v f h p = named_typed e s c (spelling n) h.0 z v f h.1 (sym (p ∙ ap (λ o. outcome_in c (referent o)) h.1))
-  term_typed e s c (text.numeral l n) z v f h p = sorted e number z v (sym h) (a_number e (pos n) v p)
+  term_typed e s c (text.numeral l n) z v f h p = sorted e number_sort z v (sym h) (a_number e (pos n) v p)
   term_typed e s c (text.constant l k) z v f h p = no_constant k v p
-  term_typed e s c (text.empty_set l a) z v f h p = sorted e (set_of h.0) z v (sym h.2) (empty_typed e h.0 v p)
+  term_typed e s c (text.empty_set l a) z v f h p = sorted e (set_sort h.0) z v (sym h.2) (empty_typed e h.0 v p)
   term_typed e s c (text.bracket l a) z v f h p = term_typed e s c a z v f h.0 p
   term_typed e s c (text.listed l form es) z v f h p =
       let q = several p.0 (ListedOutcome form) v p.2 in
       sorted e (typed h.1) z v (sym h.5) (listed_typed e form h.0 h.1 q.0 v h.3 (members_typed e s c form es h.0 q.0 f h.2 (subst (HaveOutcomes c (resolved_all s es)) q.1 p.1)) q.2)
   term_typed e s c (text.builder l ds b a) z v f h p =
-      sorted e (set_of h.1) z v (sym h.7)
+      sorted e (set_sort h.1) z v (sym h.7)
       (built_typed e h.1 h.0 p.0 (λ ws u. IsConstraint (within c ws) (resolved_part (bound s ds) b) u) (λ ws x. meaning.Builds (within c ws) ws (resolved_part (bound s ds) a) x) v
       (λ ss q. ranges_typed e s c ds h.0 ss f h.3 (subst (HaveRanges c (resolved_ranges s ds)) q p.1))
-      (λ ws x k q. part_typed e (scopes.within s h.0) (within c ws) a h.0 ws h.1 x (fits_within e s c h.0 ws f k) k h.5 (subst (λ (r : ResolvedPart). meaning.Builds (within c ws) ws r (Is x)) (part_within s ds h.0 a h.3) q))
+      (λ ws x k q. part_typed e (scopes.with_variables s h.0) (within c ws) a h.0 ws h.1 x (fits_within e s c h.0 ws f k) k h.5 (subst (λ (r : ResolvedPart). meaning.Builds (within c ws) ws r (Is x)) (part_within s ds h.0 a h.3) q))
       p.2)
   term_typed e s c (text.unary l op a) z v f h p = unary_typed e c op (resolved s a) h.0 z v h.2 (λ w q. term_typed e s c a h.0 w f h.1 q) p.0 p.1 p.2
   term_typed e s c (text.binary l op a b) z v f h p = binary_typed e c op (resolved s a) (resolved s b) h.0 h.1 z v h.4 (λ w q. term_typed e s c a h.0 w f h.2 q) (λ w q. term_typed e s c b h.1 w f h.3 q) p.0 p.1 p.2 p.3 p.4
@@ -203,10 +203,10 @@ mutual
   ranges_typed e s c no_decls vs ss f h p = subst (λ us. AreOfTypes e (powers (types_of us)) ss) (sym h) (cc)
   ranges_typed e s c (var_decl ns a ds) vs ss f h p =
       let q = all_repeated (length ns) p.0 p.1 ss p.4 in
-      let first = term_typed e s c a (set_of h.0) q.0 f h.2 (subst (HasOutcome c (resolved s a)) q.2 p.2) in
+      let first = term_typed e s c a (set_sort h.0) q.0 f h.2 (subst (HasOutcome c (resolved s a)) q.2 p.2) in
       let rest = ranges_typed e s c ds h.1 q.1 f h.3 (subst (HaveRanges c (resolved_ranges s ds)) q.3 p.3) in
       subst (λ us. AreOfTypes e (powers (types_of us)) ss) (sym h.4) (subst (AreOfTypes e (powers (types_of (variables ns h.0 ++ h.1)))) (sym q.4) (declared_typed e ns h.0 h.1 q.0 q.1 first rest))
 
-  part_typed : (e : Environment) (s : Scope) (c : Context) (a : Perhaps) (vs : List Var) (ws : List Value) (u : Ty) (x : Value) → Fits e s c → AreOfTypes e (types_of vs) ws → typing.Builds s vs a u → meaning.Builds c ws (resolved_part s a) (Is x) → IsOfType e u x
+  part_typed : (e : Environment) (s : Scope) (c : Context) (a : Perhaps) (vs : List Var) (ws : List Value) (u : Ty) (x : Value) → Fits e s c → AreOfTypes e (types_of vs) ws → typing.HasMemberType s vs a u → meaning.Builds c ws (resolved_part s a) (Is x) → IsOfType e u x
   part_typed e s c text.absent vs ws u x f k h p = subst (λ r. IsOfType e r x) (sym h) (subst (IsOfType e (row_type vs)) (sym (is_value x (row_value ws) p)) (row_typed e vs ws k))
   part_typed e s c (text.present a) vs ws u x f k h p = term_typed e s c a (typed u) x f h p

@@ -1,5 +1,5 @@
 -- What can be decided: whether names, types and sorts are the same, whether types are small, and what a place takes.
-use Rattle.zf_verdicts.proofs.Prelude.{◌<◌, ◌∷◌, ◌≡◌, ◌≤◌, ◌⊎◌, [], arith, Bool, false, inl, inr, List, refl, true, ℕ, spelling, Need, Name, basic, int, IsSmall, no_types, nodes, power, product, Ty, type, Tys, local_twice, IsRepeated, Repeats, a_schema, IsSmallSort, Meets, number, predicate, relation, set_of, Sort, typed, AreApart, IsApart, SomeOffence}
+use Rattle.zf_verdicts.proofs.Prelude.{◌<◌, ◌∷◌, ◌≡◌, ◌≤◌, ◌⊎◌, [], arith, Bool, false, inl, inr, List, refl, true, ℕ, spelling, Need, Name, basic, int, IsSmall, no_types, type_nodes, power, product, Ty, type, Tys, local_twice, IsRepeated, Repeats, a_schema, IsSmallSort, Meets, number_sort, predicate, relation_sort, set_sort, Sort, typed, AreApart, IsApart, SomeOffence}
 use Rattle.std.specs.Bool.{Decides}
 use Rattle.std.specs.Str.{bytes_eq}
 use Rattle.std.specs.List.{AllByRecursion}
@@ -70,7 +70,7 @@ mutual
   same_types (type t ts) (type u us) = decided_as (λ e. let first = e.0 in let rest = e.1 in (cc)) (λ e. ((cc), (cc))) (both (same_type t u) (same_types ts us))
 
 pub is_small : (t : Ty) → Decided (IsSmall t)
-is_small t = at_most (nodes t) 256
+is_small t = at_most (type_nodes t) 256
 
 pub is_small_sort : (x : Sort) → Decided (IsSmallSort x)
 is_small_sort (typed t) = is_small t
@@ -79,7 +79,7 @@ is_small_sort a_schema = inl tt
 
 -- ---- what a place takes
 
-is_number : (x : Sort) → Decided (x ≡ number)
+is_number : (x : Sort) → Decided (x ≡ number_sort)
 is_number (typed t) = decided_as (λ e. (cc)) (λ e. (cc)) (same_type t int)
 is_number predicate = inr (λ e. (cc))
 is_number a_schema = inr (λ e. (cc))
@@ -94,7 +94,7 @@ is_predicate (typed t) = inr (λ e. (cc))
 is_predicate predicate = inl refl
 is_predicate a_schema = inr (λ e. (cc))
 
-is_set : (x : Sort) → Decided ((t : Ty) × (x ≡ set_of t))
+is_set : (x : Sort) → Decided ((t : Ty) × (x ≡ set_sort t))
 is_set (typed int) = inr (λ e. (cc))
 is_set (typed (basic n)) = inr (λ e. (cc))
 is_set (typed (power t)) = inl (t, refl)
@@ -102,7 +102,7 @@ is_set (typed (product ts)) = inr (λ e. (cc))
 is_set predicate = inr (λ e. (cc))
 is_set a_schema = inr (λ e. (cc))
 
-is_relation : (x : Sort) → Decided ((t u : Ty) × (x ≡ relation t u))
+is_relation : (x : Sort) → Decided ((t u : Ty) × (x ≡ relation_sort t u))
 is_relation (typed int) = inr (λ e. (cc))
 is_relation (typed (basic n)) = inr (λ e. (cc))
 is_relation (typed (power int)) = inr (λ e. (cc))

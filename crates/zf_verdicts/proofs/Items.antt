@@ -3,7 +3,7 @@ use Rattle.zf_verdicts.proofs.Prelude.{◌+◌, ◌∷◌, ◌≡◌, ◌⊎◌,
 use Rattle.zf_tree.specs.Trees as text
 use Rattle.zf_tree.specs.declared.operator.Need.TheVariants as need
 use Rattle.zf_schema.specs.Expressions.{outside, IsText, IsSchema}
-use Rattle.zf_schema.specs.Checking.{Item, a_paragraph, a_box, items, IsNew, with_global, abbreviated, next_number, Gives, Constructs, DefinesParagraph, Defines, IsTaken, OffendsGiven, OffendsConstructors, OffendsParagraph, OffendsItem, Checks, IsChecked}
+use Rattle.zf_schema.specs.Checking.{Item, a_paragraph, a_box, items, IsNew, with_global, abbreviated, next_number, Gives, Constructs, DefinesParagraph, Defines, IsTaken, OffendsGiven, OffendsConstructors, OffendsParagraph, OffendsItem, ChecksAll, IsChecked}
 use Rattle.zf_schema.proofs.OneDefinition.{no_item_offence}
 use Rattle.zf_verdicts.proofs.Decided.{Decided}
 use Rattle.zf_verdicts.proofs.Schemas.{text_judged, schema_judged}
@@ -74,7 +74,7 @@ item_judged g (a_box n ds ps) =
 -- ---- one after another
 
 abbrev HasVerdict : List Defined → List Item → Type 0
-HasVerdict g steps = (h : List Defined) × (faults : List Fault) × Checks g steps h faults
+HasVerdict g steps = (h : List Defined) × (faults : List Fault) × ChecksAll g steps h faults
 
 of_item : (g : List Defined) (item : Item) (steps : List Item) → ((h : List Defined) × Defines g item h) ⊎ SomeOffence (OffendsItem g item) → ((mid : List Defined) → HasVerdict mid steps) → HasVerdict g (item ∷ steps)
 of_item g item steps (inl p) rest = let q = rest p.0 in (q.0, q.1, (p.0, [], q.1, inl (p.1, refl), q.2, refl))

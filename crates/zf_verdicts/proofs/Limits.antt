@@ -1,5 +1,5 @@
 -- What can be decided of schemas: whether their components agree, and whether they are within the limits. So there is a next schema, or it is told why not.
-use Rattle.zf_verdicts.proofs.Prelude.{◌∷◌, ◌≡◌, ◌≤◌, ◌⊎◌, [], inl, inr, length, List, None, Option, refl, Some, ℕ, Comp, Schema, clash, Limit, Offence, too_large, Agree, Agrees, comp_named, decorated, HasTypeOf, MarkAgrees, prime, all_nodes, AreFew, components_max, conjuncts_max, declared_sets, height_max, IsLow, IsTooLarge, IsWithin, Keeps, nodes_max, sets_max, Clashes, Differs, IsNext, MarkClashes, OneClashes, Stops, SomeOffence}
+use Rattle.zf_verdicts.proofs.Prelude.{◌∷◌, ◌≡◌, ◌≤◌, ◌⊎◌, [], inl, inr, length, List, None, Option, refl, Some, ℕ, Comp, Schema, clash, Limit, Offence, too_large, Agree, Agrees, comp_named, decorated, HasTypeOf, MarkAgrees, prime, schema_nodes, AreFew, components_max, conjuncts_max, declared_sets, height_max, IsLow, IsTooLarge, IsWithin, Keeps, nodes_max, sets_max, Clashes, Differs, IsNext, MarkClashes, OneClashes, Stops, SomeOffence}
 use Rattle.std.specs.List.{AllByRecursion}
 use Rattle.zf_tree.specs.declared.tree.RefMark.{RefMark}
 use Rattle.zf_tree.specs.declared.tree.RefMark.TheVariants.{Plain, Delta, Xi}
@@ -13,14 +13,14 @@ OrTold P Q = P ⊎ ((k : Offence) × Q k)
 
 pub is_within : (a : Schema) → OrTold (IsWithin a) (IsTooLarge a)
 is_within a =
-    by (at_most (length a.comps) components_max) (at_most (declared_sets a) sets_max) (at_most (length a.conjuncts) conjuncts_max) (at_most (all_nodes a) nodes_max)
+    by (at_most (length a.comps) components_max) (at_most (declared_sets a) sets_max) (at_most (length a.conjuncts) conjuncts_max) (at_most (schema_nodes a) nodes_max)
     (decided_all IsLow (λ t. at_most (height t) height_max) a.conjuncts)
   where
     passed : (l : Limit) → (Keeps l a → ⊥) → OrTold (IsWithin a) (IsTooLarge a)
     passed l p = inr (too_large l, (l, refl, p))
 
     by :
-        Decided (AreFew a.comps) → Decided (declared_sets a ≤ sets_max) → Decided (length a.conjuncts ≤ conjuncts_max) → Decided (all_nodes a ≤ nodes_max)
+        Decided (AreFew a.comps) → Decided (declared_sets a ≤ sets_max) → Decided (length a.conjuncts ≤ conjuncts_max) → Decided (schema_nodes a ≤ nodes_max)
         → Decided (AllByRecursion IsLow a.conjuncts) → OrTold (IsWithin a) (IsTooLarge a)
     by (inr p) sets conjuncts nodes low = passed limit.Components p
     by (inl comps) (inr p) conjuncts nodes low = passed limit.Sets p

@@ -9,16 +9,16 @@ pub use Rattle.zf_tree.specs.declared.symbol.Relation.{Relation}
 pub use Rattle.zf_tree.specs.declared.tree.Name.{Name}
 pub use Rattle.zf_term.specs.Definitions.{abbreviation, Comp, constructor, DeclaredSet, Defined, Definition, free_type, given_set, plain, Schema, schema}
 pub use Rattle.zf_term.specs.FirstNamed.{first_named}
-pub use Rattle.zf_term.specs.Types.{basic, int, IsSmall, no_types, nodes, pair, power, product, Ty, type, Tys}
+pub use Rattle.zf_term.specs.Types.{basic, int, IsSmall, no_types, type_nodes, pair_type, power, product, Ty, type, Tys}
 pub use Rattle.zf_term.specs.Faults.{already_defined, clash, Fault, local_twice, mismatch, no_members, not_a_schema, not_declared, Offence, too_large}
 pub use Rattle.zf_term.specs.declared.fault.Limit.{Limit}
 pub use Rattle.zf_term.specs.declared.fault.Limit.TheVariants.{TypeNodes}
 pub use Rattle.zf_type.specs.Offences.{Differ, IsRepeated, LinksOffend, Misplaced, Offends, OneDiffers, OneOffends, PartOffends, Repeats, SetsOffend}
 pub use Rattle.zf_type.specs.Resolving.{resolved}
-pub use Rattle.zf_type.specs.Rules.{a_schema, constant_sort, IsSmallSort, Meets, number, predicate, PrefixTakes, relation, set_of, SignTakes, Sort, Takes, typed, UnaryTakes}
-pub use Rattle.zf_type.specs.Typing.{AreAll, AreApart, AreLinked, AreMembers, Builds, Constrains, Declare, declared, IsApart, IsOf, Makes, member_need, member_sort, row_type, variables}
-pub use Rattle.zf_calculus.specs.Calculus.{Agree, Agrees, comp, comp_named, conjoined, decorated, disjoined, HasTypeOf, MarkAgrees, marked, nothing, prime, schema_of, with_comp}
-pub use Rattle.zf_term.specs.Limits.{all_nodes, AreFew, components_max, conjuncts_max, declared_sets, height_max, IsLow, IsTooLarge, IsWithin, Keeps, nodes_max, sets_max}
+pub use Rattle.zf_type.specs.Rules.{a_schema, constant_sort, IsSmallSort, Meets, number_sort, predicate, PrefixTakes, relation_sort, set_sort, SignTakes, Sort, Takes, typed, UnaryTakes}
+pub use Rattle.zf_type.specs.Typing.{AreAll, AreApart, LinksAreTyped, AreMembers, HasMemberType, PartIsPredicate, Declare, declared, IsApart, IsOf, Makes, member_need, member_sort, row_type, variables}
+pub use Rattle.zf_calculus.specs.Calculus.{Agree, Agrees, comp, comp_named, conjoined, decorated, disjoined, HasTypeOf, MarkAgrees, marked, nothing, prime, schema_with, with_comp}
+pub use Rattle.zf_term.specs.Limits.{schema_nodes, AreFew, components_max, conjuncts_max, declared_sets, height_max, IsLow, IsTooLarge, IsWithin, Keeps, nodes_max, sets_max}
 pub use Rattle.zf_calculus.specs.Steps.{Adds, Clashes, Differs, Includes, IsNext, MarkClashes, OneClashes, Stops}
 pub use Rattle.zf_schema.specs.SchemaOffences.{AnyByRecursion, IsNoSchema, name_line, OffendsAfter, OffendsAlone, OffendsConjuncts, OffendsDecls, OffendsNames, OffendsPredicates, OffendsRef, OffendsSchema, OffendsText}
 pub use Rattle.zf_verdicts.specs.Laws.{SomeOffence}

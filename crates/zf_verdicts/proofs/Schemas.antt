@@ -1,9 +1,9 @@
 -- References, declarations, predicates and schema expressions are a schema, or have an offence.
-use Rattle.zf_verdicts.proofs.Prelude.{◌++◌, ◌∷◌, ◌≡◌, ◌⊎◌, [], inl, inr, List, None, Option, refl, Some, subst, ℕ, spelling, both, DeclTree, either, include, reference, schema_bracket, schema_text, SchemaTree, Tree, vars, Name, abbreviation, constructor, DeclaredSet, Defined, Definition, free_type, given_set, plain, Schema, schema, first_named, Ty, not_a_schema, not_declared, Offence, Offends, resolved, predicate, set_of, IsOf, Agree, Agrees, comp, conjoined, decorated, disjoined, MarkAgrees, marked, nothing, schema_of, with_comp, IsTooLarge, IsWithin, Adds, Clashes, Includes, IsNext, MarkClashes, OneClashes, Stops, AnyByRecursion, IsNoSchema, name_line, OffendsAfter, OffendsAlone, OffendsConjuncts, OffendsDecls, OffendsNames, OffendsPredicates, OffendsRef, OffendsSchema, OffendsText, SomeOffence}
+use Rattle.zf_verdicts.proofs.Prelude.{◌++◌, ◌∷◌, ◌≡◌, ◌⊎◌, [], inl, inr, List, None, Option, refl, Some, subst, ℕ, spelling, both, DeclTree, either, include, reference, schema_bracket, schema_text, SchemaTree, Tree, vars, Name, abbreviation, constructor, DeclaredSet, Defined, Definition, free_type, given_set, plain, Schema, schema, first_named, Ty, not_a_schema, not_declared, Offence, Offends, resolved, predicate, set_sort, IsOf, Agree, Agrees, comp, conjoined, decorated, disjoined, MarkAgrees, marked, nothing, schema_with, with_comp, IsTooLarge, IsWithin, Adds, Clashes, Includes, IsNext, MarkClashes, OneClashes, Stops, AnyByRecursion, IsNoSchema, name_line, OffendsAfter, OffendsAlone, OffendsConjuncts, OffendsDecls, OffendsNames, OffendsPredicates, OffendsRef, OffendsSchema, OffendsText, SomeOffence}
 use Rattle.zf_tree.specs.declared.tree.SchemaRef.{SchemaRef}
 use Rattle.zf_tree.specs.declared.operator.Need.TheVariants as need
 use Rattle.zf_term.specs.ResolvedTrees.{ResolvedTree}
-use Rattle.zf_term.specs.Shapes.{line_of, conjuncts}
+use Rattle.zf_term.specs.Shapes.{term_line, conjuncts}
 use Rattle.zf_schema.specs.Expressions.{outside, inside, Refers, AddsAll, DeclaresOne, Declares, TakesAll, ConstrainsOne, Constrains, IsText, IsSchema}
 use Rattle.zf_schema.proofs.Once.{taken_comps}
 use Rattle.zf_verdicts.proofs.Limits.{OrTold, is_within, agrees, agree, mark_agrees, next_or_stopped, next_at}
@@ -59,7 +59,7 @@ names_judged : (a : Schema) (ns : List Name) (t : Ty) (d : DeclaredSet) → ((b 
 names_judged a [] t d = inl (a, refl)
 names_judged a (n ∷ ns) t d =
     let c = comp (spelling n) t (d ∷ []) in
-    let next = schema_of (with_comp a.comps c) a.conjuncts in
+    let next = schema_with (with_comp a.comps c) a.conjuncts in
     then_rest (Adds a c) (λ mid b. AddsAll mid ns t d b) (λ k m. (m ≡ n.line) × Stops (Clashes a.comps c) (Agrees a.comps c) next k) (λ mid k m. OffendsNames mid ns t d k m)
     (next_at n.line (Clashes a.comps c) (Agrees a.comps c) next (agrees a.comps c)) (λ mid. names_judged mid ns t d)
 
@@ -72,7 +72,7 @@ of_vars g a ns e (inr o) = inr (inl o)
 of_vars g a ns e (inl p) = by (subst (IsOf (outside g) e) p.2.1 p.1) (names_judged a ns p.2.0 (plain (resolved (outside g) e)))
   where
     by :
-        IsOf (outside g) e (set_of p.2.0) → ((b : Schema) × AddsAll a ns p.2.0 (plain (resolved (outside g) e)) b) ⊎ SomeOffence (OffendsNames a ns p.2.0 (plain (resolved (outside g) e)))
+        IsOf (outside g) e (set_sort p.2.0) → ((b : Schema) × AddsAll a ns p.2.0 (plain (resolved (outside g) e)) b) ⊎ SomeOffence (OffendsNames a ns p.2.0 (plain (resolved (outside g) e)))
         → IsTakenIn g a (vars ns e)
     by is (inl q) = inl (q.0, (p.2.0, is, q.1))
     by is (inr o) = inr (inr (o.0, o.1, (p.2.0, is, o.2)))
@@ -125,9 +125,9 @@ conjunct_judged line next = by (is_within next)
 conjuncts_judged : (a : Schema) (cs : List ResolvedTree) → ((b : Schema) × TakesAll a cs b) ⊎ SomeOffence (OffendsConjuncts a cs)
 conjuncts_judged a [] = inl (a, refl)
 conjuncts_judged a (c ∷ cs) =
-    let next = schema_of a.comps (a.conjuncts ++ c ∷ []) in
-    then_rest (IsNext next) (λ mid b. TakesAll mid cs b) (λ k m. (m ≡ line_of c) × IsTooLarge next k) (λ mid k m. OffendsConjuncts mid cs k m)
-    (conjunct_judged (line_of c) next) (λ mid. conjuncts_judged mid cs)
+    let next = schema_with a.comps (a.conjuncts ++ c ∷ []) in
+    then_rest (IsNext next) (λ mid b. TakesAll mid cs b) (λ k m. (m ≡ term_line c) × IsTooLarge next k) (λ mid k m. OffendsConjuncts mid cs k m)
+    (conjunct_judged (term_line c) next) (λ mid. conjuncts_judged mid cs)
 
 later_constrained :
     (g : List Defined) (a mid : Schema) (p : Tree) (ps : List Tree) (k : Offence) (m : ℕ)

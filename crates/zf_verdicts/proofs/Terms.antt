@@ -1,5 +1,5 @@
 -- A term has a sort that its place takes, or an offence there: its parts are judged first.
-use Rattle.zf_verdicts.proofs.Prelude.{◌++◌, ◌≡◌, ◌⊎◌, [], inl, inr, List, None, Option, refl, Some, subst, sym, ℕ, spelling, left_need, need_of, relation_rule, right_need, rule_of, absent, binary, bracket, builder, chain, constant, empty_set, line_of, link, Links, listed, named, no_decls, no_links, no_trees, numeral, Perhaps, present, quantified, Tree, tree, Trees, unary, var_decl, VarDecls, Need, Unary, Relation, Name, IsSmall, no_types, power, Ty, type, Tys, mismatch, no_members, not_declared, Offence, too_large, TypeNodes, Differ, LinksOffend, Misplaced, Offends, OneDiffers, OneOffends, PartOffends, Repeats, SetsOffend, a_schema, constant_sort, IsSmallSort, Meets, number, predicate, set_of, Sort, Takes, typed, UnaryTakes, AreAll, AreApart, AreLinked, AreMembers, Builds, Constrains, Declare, declared, IsOf, Makes, member_need, member_sort, row_type, variables, SomeOffence}
+use Rattle.zf_verdicts.proofs.Prelude.{◌++◌, ◌≡◌, ◌⊎◌, [], inl, inr, List, None, Option, refl, Some, subst, sym, ℕ, spelling, left_need, need_of, relation_rule, right_need, rule_of, absent, binary, bracket, builder, chain, constant, empty_set, line_of, link, Links, listed, named, no_decls, no_links, no_trees, numeral, Perhaps, present, quantified, Tree, tree, Trees, unary, var_decl, VarDecls, Need, Unary, Relation, Name, IsSmall, no_types, power, Ty, type, Tys, mismatch, no_members, not_declared, Offence, too_large, TypeNodes, Differ, LinksOffend, Misplaced, Offends, OneDiffers, OneOffends, PartOffends, Repeats, SetsOffend, a_schema, constant_sort, IsSmallSort, Meets, number_sort, predicate, set_sort, Sort, Takes, typed, UnaryTakes, AreAll, AreApart, LinksAreTyped, AreMembers, HasMemberType, PartIsPredicate, Declare, declared, IsOf, Makes, member_need, member_sort, row_type, variables, SomeOffence}
 use Rattle.zf_tree.specs.declared.symbol.Quantifier.{Quantifier}
 use Rattle.zf_tree.specs.declared.operator.Need.TheVariants as need
 use Rattle.zf_tree.specs.declared.operator.Listed.{Listed}
@@ -8,7 +8,7 @@ use Rattle.zf_tree.specs.declared.operator.Operator.{Operator}
 use Rattle.zf_reference.specs.declared.reference.Reference.{Reference}
 use Rattle.zf_term.specs.Faults as fault
 use Rattle.zf_term.specs.Types as t
-use Rattle.zf_type.specs.Scopes.{Scope, Var, within, meaning}
+use Rattle.zf_type.specs.Scopes.{Scope, Var, with_variables, meaning}
 use Rattle.zf_verdicts.proofs.Combined.{AreCombined, combined, made, relates}
 use Rattle.zf_verdicts.proofs.Decided.{Decided, same_type, is_small, is_small_sort, meets, are_apart}
 
@@ -32,7 +32,7 @@ of_name s n x None e = inr (not_declared (spelling x), x.line, inl (e, refl, ref
 of_name s n x (Some r) e = placed s n (named x) r.1 (r.0, e) (λ k m o. inr o)
 
 of_empty_set : (s : Scope) (n : Need) (l : ℕ) (e : Tree) → IsJudged s need.Set e → IsJudged s n (empty_set l e)
-of_empty_set s n l e (inl p) = placed s n (empty_set l e) (set_of p.2.0) (p.2.0, subst (IsOf s e) p.2.1 p.1, refl) (λ k m o. inr o)
+of_empty_set s n l e (inl p) = placed s n (empty_set l e) (set_sort p.2.0) (p.2.0, subst (IsOf s e) p.2.1 p.1, refl) (λ k m o. inr o)
 of_empty_set s n l e (inr o) = inr (o.0, o.1, inl o.2)
 
 not_a_schema : (n : Need) (x : Sort) → Meets n x → x ≡ a_schema → ⊥
@@ -117,27 +117,27 @@ of_binary s n l op a b (inl p) (inl q) = by (combined (rule_of op) p.0 q.0 p.2 q
 module _ (s : Scope) (left : Tree) (x : Sort) (r : Relation) (e : Tree) (ks : Links) where
   of_link :
       IsOf s left x → Decided (Meets (left_need (relation_rule r)) x) → IsJudged s (right_need (relation_rule r)) e
-      → ((y : Sort) → IsOf s e y → AreLinked s y ks ⊎ SomeOffence (LinksOffend s e ks))
-      → AreLinked s x (link r e ks) ⊎ SomeOffence (LinksOffend s left (link r e ks))
+      → ((y : Sort) → IsOf s e y → LinksAreTyped s y ks ⊎ SomeOffence (LinksOffend s e ks))
+      → LinksAreTyped s x (link r e ks) ⊎ SomeOffence (LinksOffend s left (link r e ks))
   of_link p (inr h) right rest = inr (fault.misplaced (left_need (relation_rule r)) x, line_of left, inl (x, p, h, refl, refl))
   of_link p (inl h) (inr o) rest = inr (o.0, o.1, inr (inl o.2))
   of_link p (inl h) (inl q) rest = by (combined (relation_rule r) x q.0 h q.2)
     where
-      linked : (z : Sort) → Takes (relation_rule r) x q.0 z → AreLinked s q.0 ks ⊎ SomeOffence (LinksOffend s e ks) → AreLinked s x (link r e ks) ⊎ SomeOffence (LinksOffend s left (link r e ks))
+      linked : (z : Sort) → Takes (relation_rule r) x q.0 z → LinksAreTyped s q.0 ks ⊎ SomeOffence (LinksOffend s e ks) → LinksAreTyped s x (link r e ks) ⊎ SomeOffence (LinksOffend s left (link r e ks))
       linked z w (inl links) = inl (q.0, q.1, relates r x q.0 z w, links)
       linked z w (inr o) = inr (o.0, o.1, inr (inr (inr o.2)))
 
-      by : AreCombined (relation_rule r) x q.0 → AreLinked s x (link r e ks) ⊎ SomeOffence (LinksOffend s left (link r e ks))
+      by : AreCombined (relation_rule r) x q.0 → LinksAreTyped s x (link r e ks) ⊎ SomeOffence (LinksOffend s left (link r e ks))
       by (inl w) = linked w.0 w.1 (rest q.0 q.1)
       by (inr none) = inr (mismatch x q.0, line_of e, inr (inr (inl (x, q.0, p, q.1, h, q.2, none, refl, refl))))
 
 of_chain :
     (s : Scope) (n : Need) (l : ℕ) (e : Tree) (ks : Links) → IsJudged s need.Expression e
-    → ((x : Sort) → IsOf s e x → AreLinked s x ks ⊎ SomeOffence (LinksOffend s e ks)) → IsJudged s n (chain l e ks)
+    → ((x : Sort) → IsOf s e x → LinksAreTyped s x ks ⊎ SomeOffence (LinksOffend s e ks)) → IsJudged s n (chain l e ks)
 of_chain s n l e ks (inr o) rest = inr (o.0, o.1, inl o.2)
 of_chain s n l e ks (inl p) rest = let is = subst (IsOf s e) p.2.1 p.1 in by is (rest (typed p.2.0) is)
   where
-    by : IsOf s e (typed p.2.0) → AreLinked s (typed p.2.0) ks ⊎ SomeOffence (LinksOffend s e ks) → IsJudged s n (chain l e ks)
+    by : IsOf s e (typed p.2.0) → LinksAreTyped s (typed p.2.0) ks ⊎ SomeOffence (LinksOffend s e ks) → IsJudged s n (chain l e ks)
     by is (inl links) = placed s n (chain l e ks) predicate (p.2.0, is, links, refl) (λ k m o. inr (inr o))
     by is (inr o) = inr (o.0, o.1, inr (inl o.2))
 
@@ -145,18 +145,18 @@ of_chain s n l e ks (inl p) rest = let is = subst (IsOf s e) p.2.1 p.1 in by is 
 module _ (s : Scope) (n : Need) (l : ℕ) (ds : VarDecls) (p e : Perhaps) where
   of_builder :
       AreApart (declared ds) ⊎ SomeOffence (Repeats (declared ds)) → ((vs : List Var) × Declare s ds vs) ⊎ SomeOffence (SetsOffend s ds)
-      → ((w : Scope) → Constrains w p ⊎ SomeOffence (PartOffends w need.Predicate p))
-      → ((w : Scope) (vs : List Var) → ((u : Ty) × Builds w vs e u) ⊎ SomeOffence (PartOffends w need.Expression e))
+      → ((w : Scope) → PartIsPredicate w p ⊎ SomeOffence (PartOffends w need.Predicate p))
+      → ((w : Scope) (vs : List Var) → ((u : Ty) × HasMemberType w vs e u) ⊎ SomeOffence (PartOffends w need.Expression e))
       → IsJudged s n (builder l ds p e)
   of_builder (inr o) sets constraint term = inr (o.0, o.1, inl o.2)
   of_builder (inl apart) (inr o) constraint term = inr (o.0, o.1, inr (inl o.2))
-  of_builder (inl apart) (inl d) constraint term = by (constraint (within s d.0)) (term (within s d.0) d.0)
+  of_builder (inl apart) (inl d) constraint term = by (constraint (with_variables s d.0)) (term (with_variables s d.0) d.0)
     where
-      sized : Constrains (within s d.0) p → (u : Ty) → Builds (within s d.0) d.0 e u → Decided (IsSmall (power u)) → IsJudged s n (builder l ds p e)
-      sized c u b (inl small) = placed s n (builder l ds p e) (set_of u) (d.0, u, apart, d.1, c, b, small, refl) (λ k m o. inr (inr (inr o)))
+      sized : PartIsPredicate (with_variables s d.0) p → (u : Ty) → HasMemberType (with_variables s d.0) d.0 e u → Decided (IsSmall (power u)) → IsJudged s n (builder l ds p e)
+      sized c u b (inl small) = placed s n (builder l ds p e) (set_sort u) (d.0, u, apart, d.1, c, b, small, refl) (λ k m o. inr (inr (inr o)))
       sized c u b (inr large) = inr (too_large TypeNodes, l, inr (inr (inl (d.0, (apart, d.1), inr (inr (u, b, large, refl, refl))))))
 
-      by : Constrains (within s d.0) p ⊎ SomeOffence (PartOffends (within s d.0) need.Predicate p) → ((u : Ty) × Builds (within s d.0) d.0 e u) ⊎ SomeOffence (PartOffends (within s d.0) need.Expression e) → IsJudged s n (builder l ds p e)
+      by : PartIsPredicate (with_variables s d.0) p ⊎ SomeOffence (PartOffends (with_variables s d.0) need.Predicate p) → ((u : Ty) × HasMemberType (with_variables s d.0) d.0 e u) ⊎ SomeOffence (PartOffends (with_variables s d.0) need.Expression e) → IsJudged s n (builder l ds p e)
       by (inr o) term = inr (o.0, o.1, inr (inr (inl (d.0, (apart, d.1), inl o.2))))
       by (inl c) (inr o) = inr (o.0, o.1, inr (inr (inl (d.0, (apart, d.1), inr (inl o.2)))))
       by (inl c) (inl b) = sized c b.0 b.1 (is_small (power b.0))
@@ -165,17 +165,17 @@ module _ (s : Scope) (n : Need) (l : ℕ) (ds : VarDecls) (p e : Perhaps) where
 module _ (s : Scope) (n : Need) (l : ℕ) (q : Quantifier) (ds : VarDecls) (p : Perhaps) (e : Tree) where
   of_quantifier :
       AreApart (declared ds) ⊎ SomeOffence (Repeats (declared ds)) → ((vs : List Var) × Declare s ds vs) ⊎ SomeOffence (SetsOffend s ds)
-      → ((w : Scope) → Constrains w p ⊎ SomeOffence (PartOffends w need.Predicate p))
+      → ((w : Scope) → PartIsPredicate w p ⊎ SomeOffence (PartOffends w need.Predicate p))
       → ((w : Scope) → IsJudged w need.Predicate e)
       → IsJudged s n (quantified l q ds p e)
   of_quantifier (inr o) sets constraint body = inr (o.0, o.1, inl o.2)
   of_quantifier (inl apart) (inr o) constraint body = inr (o.0, o.1, inr (inl o.2))
-  of_quantifier (inl apart) (inl d) constraint body = by (constraint (within s d.0)) (body (within s d.0))
+  of_quantifier (inl apart) (inl d) constraint body = by (constraint (with_variables s d.0)) (body (with_variables s d.0))
     where
-      by : Constrains (within s d.0) p ⊎ SomeOffence (PartOffends (within s d.0) need.Predicate p) → IsJudged (within s d.0) need.Predicate e → IsJudged s n (quantified l q ds p e)
+      by : PartIsPredicate (with_variables s d.0) p ⊎ SomeOffence (PartOffends (with_variables s d.0) need.Predicate p) → IsJudged (with_variables s d.0) need.Predicate e → IsJudged s n (quantified l q ds p e)
       by (inr o) body = inr (o.0, o.1, inr (inr (inl (d.0, (apart, d.1), inl o.2))))
       by (inl c) (inr o) = inr (o.0, o.1, inr (inr (inl (d.0, (apart, d.1), inr o.2))))
-      by (inl c) (inl b) = placed s n (quantified l q ds p e) predicate (d.0, apart, d.1, c, subst (IsOf (within s d.0) e) b.2 b.1, refl) (λ k m o. inr (inr (inr o)))
+      by (inl c) (inl b) = placed s n (quantified l q ds p e) predicate (d.0, apart, d.1, c, subst (IsOf (with_variables s d.0) e) b.2 b.1, refl) (λ k m o. inr (inr (inr o)))
 
 -- ---- lists of parts, from what is judged of the first and of the rest
 
@@ -193,11 +193,11 @@ first_declared s ns e ds (inr o) rest = inr (o.0, o.1, inl o.2)
 first_declared s ns e ds (inl p) (inr o) = inr (o.0, o.1, inr o.2)
 first_declared s ns e ds (inl p) (inl q) = inl (variables ns p.2.0 ++ q.0, (p.2.0, q.0, subst (IsOf s e) p.2.1 p.1, q.1, refl))
 
-of_constraint : (s : Scope) (e : Tree) → IsJudged s need.Predicate e → Constrains s (present e) ⊎ SomeOffence (PartOffends s need.Predicate (present e))
+of_constraint : (s : Scope) (e : Tree) → IsJudged s need.Predicate e → PartIsPredicate s (present e) ⊎ SomeOffence (PartOffends s need.Predicate (present e))
 of_constraint s e (inl p) = inl (subst (IsOf s e) p.2 p.1)
 of_constraint s e (inr o) = inr o
 
-of_built : (s : Scope) (vs : List Var) (e : Tree) → IsJudged s need.Expression e → ((u : Ty) × Builds s vs (present e) u) ⊎ SomeOffence (PartOffends s need.Expression (present e))
+of_built : (s : Scope) (vs : List Var) (e : Tree) → IsJudged s need.Expression e → ((u : Ty) × HasMemberType s vs (present e) u) ⊎ SomeOffence (PartOffends s need.Expression (present e))
 of_built s vs e (inl p) = inl (p.2.0, subst (IsOf s e) p.2.1 p.1)
 of_built s vs e (inr o) = inr o
 
@@ -206,7 +206,7 @@ of_built s vs e (inr o) = inr o
 mutual
   pub judged : (s : Scope) (n : Need) (e : Tree) → IsJudged s n e
   judged s n (named x) = of_name s n x (meaning s (spelling x)) refl
-  judged s n (numeral l v) = placed s n (numeral l v) number refl (λ k m o. o)
+  judged s n (numeral l v) = placed s n (numeral l v) number_sort refl (λ k m o. o)
   judged s n (constant l c) = placed s n (constant l c) (constant_sort c) refl (λ k m o. o)
   judged s n (empty_set l e) = of_empty_set s n l e (judged s need.Set e)
   judged s n (bracket l e) = of_bracket s n l e (judged s n e)
@@ -221,7 +221,7 @@ mutual
   members_judged form s no_trees = inl (no_types, refl)
   members_judged form s (tree e es) = first_of_members form s e es (judged s (member_need form) e) (members_judged form s es)
 
-  links_judged : (s : Scope) (left : Tree) (x : Sort) (ks : Links) → IsOf s left x → AreLinked s x ks ⊎ SomeOffence (LinksOffend s left ks)
+  links_judged : (s : Scope) (left : Tree) (x : Sort) (ks : Links) → IsOf s left x → LinksAreTyped s x ks ⊎ SomeOffence (LinksOffend s left ks)
   links_judged s left x no_links p = inl tt
   links_judged s left x (link r e ks) p = of_link s left x r e ks p (meets (left_need (relation_rule r)) x) (judged s (right_need (relation_rule r)) e) (λ y q. links_judged s e y ks q)
 
@@ -229,10 +229,10 @@ mutual
   sets_judged s no_decls = inl ([], refl)
   sets_judged s (var_decl ns e ds) = first_declared s ns e ds (judged s need.Set e) (sets_judged s ds)
 
-  constraint_judged : (s : Scope) (p : Perhaps) → Constrains s p ⊎ SomeOffence (PartOffends s need.Predicate p)
+  constraint_judged : (s : Scope) (p : Perhaps) → PartIsPredicate s p ⊎ SomeOffence (PartOffends s need.Predicate p)
   constraint_judged s absent = inl tt
   constraint_judged s (present e) = of_constraint s e (judged s need.Predicate e)
 
-  built_judged : (s : Scope) (vs : List Var) (e : Perhaps) → ((u : Ty) × Builds s vs e u) ⊎ SomeOffence (PartOffends s need.Expression e)
+  built_judged : (s : Scope) (vs : List Var) (e : Perhaps) → ((u : Ty) × HasMemberType s vs e u) ⊎ SomeOffence (PartOffends s need.Expression e)
   built_judged s vs absent = inl (row_type vs, refl)
   built_judged s vs (present e) = of_built s vs e (judged s need.Expression e)

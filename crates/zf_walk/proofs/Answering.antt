@@ -1,5 +1,5 @@
 -- Where a walk begins, and what it answers.
-use Rattle.zf_walk.proofs.Prelude.{◌++◌, ◌+◌, ◌<◌, ◌∙◌, ◌∷◌, ◌≡◌, ◌≤◌, ◌⊎◌, [], ap, arith, Bool, cond, eqb, false, get_or, inl, inr, length, length-append, List, None, Option, refl, replicate, Some, subst, sym, take, true, ℕ, cases_Bool, false≢true, leb-true, nat_tests, get_or-replicate, length-replicate, take_all, ◌≢◌, Ordering, Equal, Less, Conjuncts, IsTruthOf, Event, IsEvent, AreWithin, picked, ahead_of, is_due, is_over, IsAt, IsDone, IsReady, IsSoFar, Knows, path, reaches, Stands, Ahead, AreAllAhead, AreDueWithin, ended, IsAhead, SameAhead, Takes, ComesAfter, Answers, Gives, GoesOn, Keeps, KeepsEvents, Passes, cut, IsBound, IsNumber, IsNumberOfTests, IsPair, IsUpTo, IsWalked, False, Out, True, Place}
+use Rattle.zf_walk.proofs.Prelude.{◌++◌, ◌+◌, ◌<◌, ◌∙◌, ◌∷◌, ◌≡◌, ◌≤◌, ◌⊎◌, [], ap, arith, Bool, cond, eqb, false, get_or, inl, inr, length, length-append, List, None, Option, refl, replicate, Some, subst, sym, take, true, ℕ, cases_Bool, false≢true, leb-true, nat_tests, get_or-replicate, length-replicate, take_all, ◌≢◌, Ordering, Equal, Less, Conjuncts, IsTruthOf, Event, IsEvent, AreWithin, picked, ahead_of, is_due, is_over, IsAt, IsDone, IsReady, IsSoFar, Knows, path, reaches, Stands, Ahead, AreAllAhead, AreDueWithin, ended, IsAhead, SameAhead, Takes, ComesAfter, Answers, Gives, GoesOn, Keeps, KeepsEvents, Passes, cut, IsBound, IsCount, IsNumberOfTests, IsDueTest, IsUpTo, IsWalked, False, Out, True, Place}
 use Rattle.zf_walk.specs.declared.step.Step.{Step}
 use Rattle.zf_walk.specs.declared.step.Step.TheVariants.{Holds, Breaks, End}
 use Rattle.zf_walk.proofs.Order.{reaches-under, further}
@@ -83,7 +83,7 @@ module _ {V : Type 0} {cmp : V → V → Ordering} {s : Conjuncts V} {ranges : L
       }
 
   -- all the tests behind a whole row are those up to it
-  up-to-whole : (whole : List V) (j number : ℕ) → length whole ≡ length ranges → IsNumber (Before given false whole j) number → IsNumberOfTests cmp s ranges after (Some whole) number
+  up-to-whole : (whole : List V) (j number : ℕ) → length whole ≡ length ranges → IsCount (Before given false whole j) number → IsNumberOfTests cmp s ranges after (Some whole) number
   up-to-whole whole j number l k = number-same (Before given false whole j) (λ x. IsWalked cmp s ranges after x × IsUpTo cmp (Some whole) x.0) number
       (λ x w. (w.0, IsUpTo-from cmp given.total whole x.0 (short x w.0) (reaches-under cmp given.total false whole x.0 ∙ w.1)))
       (λ x w. (w.0, sym (reaches-under cmp given.total false whole x.0) ∙ IsUpTo-to cmp given.total whole x.0 (short x w.0) w.1))
@@ -110,7 +110,7 @@ module _ {V : Type 0} {cmp : V → V → Ordering} {s : Conjuncts V} {ranges : L
     stop (x ∷ tail) c v u = let pair = v.is_pair in let cand = pair.candidate in
         let z = IsFrontOf-length ranges (path ranges p ++ x ∷ tail) cand.front in omega (arith, len, length-append (path ranges p) (x ∷ tail))
 
-    behind : IsNumber (Before given false (path ranges p) q.conjunct) (((st.knows).counted).0)
+    behind : IsCount (Before given false (path ranges p) q.conjunct) (((st.knows).counted).0)
     behind = let k = st.knows in let n = k.counted in counted-past given (path ranges p) p.conjunct q.conjunct n.0 stop (counted-of given p true p.conjunct (path ranges p) n.0 f refl refl n.1)
 
     stands : Stands cmp s ranges after q
@@ -264,5 +264,5 @@ module _ {V : Type 0} {cmp : V → V → Ordering} {s : Conjuncts V} {ranges : L
   pub tests-within_bound : (p : Place) → Knows cmp s ranges after p → (bound : ℕ) → IsBound s ranges bound → p.tests ≤ bound
   tests-within_bound p k bound it =
       let n = k.counted in
-      let le = number-le (Done given p) (IsPair s ranges) n.0 bound n.1 it (λ x w. let v = w.0 in v.is_pair) in
+      let le = number-le (Done given p) (IsDueTest s ranges) n.0 bound n.1 it (λ x w. let v = w.0 in v.is_pair) in
       let t : p.tests ≡ cut n.0 = n.2 in omega (arith, cut-le n.0)

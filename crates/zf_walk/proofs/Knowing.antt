@@ -1,5 +1,5 @@
 -- What is known of a place after each kind of step.
-use Rattle.zf_walk.proofs.Prelude.{◌++◌, ◌+◌, ◌<◌, ◌∙◌, ◌∷◌, ◌≡◌, ◌≤◌, [], ap, arith, Bool, drop, false, get_or, inl, inr, length, List, Option, refl, subst, sym, take, true, ℕ, cases_Bool, false≢true, leb-false, leb-true, nat_tests, append-nil, IsTotalOrder, Ordering, Conjuncts, HaveOneTruth, KeepTruths, Event, IsEvent, picked, front, is_due, is_reached, IsAt, IsDone, IsNextDue, IsReady, IsSoFar, IsSound, Knows, path, reaches, steps_left, under, HasLength, TiesAreEqual, Admits, Begins, KeepsEvents, Passes, IsNumber, IsWalked, Agenda, Place}
+use Rattle.zf_walk.proofs.Prelude.{◌++◌, ◌+◌, ◌<◌, ◌∙◌, ◌∷◌, ◌≡◌, ◌≤◌, [], ap, arith, Bool, drop, false, get_or, inl, inr, length, List, Option, refl, subst, sym, take, true, ℕ, cases_Bool, false≢true, leb-false, leb-true, nat_tests, append-nil, IsTotalOrder, Ordering, Conjuncts, HaveOneTruth, KeepTruths, Event, IsEvent, picked, front, is_due, is_reached, IsAt, IsDone, IsNextDue, IsReady, IsSoFar, IsSound, Knows, path, reaches, steps_left, under, HasLength, TiesAreEqual, Admits, Begins, KeepsEvents, Passes, IsCount, IsWalked, Agenda, Place}
 use Rattle.zf_walk.proofs.Order.{reaches-both, begins, under-differs, under-at}
 use Rattle.zf_walk.proofs.Picks.{IsFrontOf-picked, IsRowOf-length, IsFrontOf-length}
 use Rattle.zf_walk.proofs.Reaching.{IsReached-from, is_reached-from, later-reached, unreached}
@@ -34,11 +34,11 @@ module _ {V : Type 0} {cmp : V → V → Ordering} {s : Conjuncts V} {ranges : L
   abbrev pub Done : Place → List V × ℕ → Type 0
   Done p x = IsDone cmp s ranges after p x
 
-  pub counted-of : (p : Place) (here : Bool) (j : ℕ) (road : List V) (number : ℕ) → p.fresh ≡ here → p.conjunct ≡ j → path ranges p ≡ road → IsNumber (Done p) number → IsNumber (Before here road j) number
+  pub counted-of : (p : Place) (here : Bool) (j : ℕ) (road : List V) (number : ℕ) → p.fresh ≡ here → p.conjunct ≡ j → path ranges p ≡ road → IsCount (Done p) number → IsCount (Before here road j) number
   counted-of p here j road number f c r k = number-same (Done p) (Before here road j) number
       (λ x w. (w.0, sym (is_ahead-of cmp ranges p here j road x.0 x.1 f c r) ∙ w.1)) (λ x w. (w.0, is_ahead-of cmp ranges p here j road x.0 x.1 f c r ∙ w.1)) k
 
-  pub counted-to : (p : Place) (here : Bool) (j : ℕ) (road : List V) (number : ℕ) → p.fresh ≡ here → p.conjunct ≡ j → path ranges p ≡ road → IsNumber (Before here road j) number → IsNumber (Done p) number
+  pub counted-to : (p : Place) (here : Bool) (j : ℕ) (road : List V) (number : ℕ) → p.fresh ≡ here → p.conjunct ≡ j → path ranges p ≡ road → IsCount (Before here road j) number → IsCount (Done p) number
   counted-to p here j road number f c r k = number-same (Before here road j) (Done p) number
       (λ x w. (w.0, is_ahead-of cmp ranges p here j road x.0 x.1 f c r ∙ w.1)) (λ x w. (w.0, sym (is_ahead-of cmp ranges p here j road x.0 x.1 f c r) ∙ w.1)) k
 
@@ -51,7 +51,7 @@ module _ {V : Type 0} {cmp : V → V → Ordering} {s : Conjuncts V} {ranges : L
 
   -- leaving a row behind, where no test is left at it or below
   pub counted-past : (road : List V) (j i number : ℕ) → ((tail : List V) (c : ℕ) → Walked (road ++ tail, c) → is_due true j c tail ≡ true → ⊥)
-      → IsNumber (Before true road j) number → IsNumber (Before false road i) number
+      → IsCount (Before true road j) number → IsCount (Before false road i) number
   counted-past road j i number h k = number-same (Before true road j) (Before false road i) number
       (λ x w. (w.0, behind road (is_due true j x.1) (is_due false i x.1) x.0 (λ tail e f. false≢true e) w.1))
       (λ x w. (
@@ -72,7 +72,7 @@ module _ {V : Type 0} {cmp : V → V → Ordering} {s : Conjuncts V} {ranges : L
       (sym (append-nil road) ∙ ap (λ z. road ++ z) (sym b.0) ∙ d.1, b.1, b.2)
 
   -- conjuncts that are not due at the row
-  pub counted-skip : (road : List V) (j i number : ℕ) → IsNextDue s (length road) j i → IsNumber (Before true road j) number → IsNumber (Before true road i) number
+  pub counted-skip : (road : List V) (j i number : ℕ) → IsNextDue s (length road) j i → IsCount (Before true road j) number → IsCount (Before true road i) number
   counted-skip road j i number n k = number-same (Before true road j) (Before true road i) number
       (λ x w. (w.0, behind road (is_due true j x.1) (is_due true i x.1) x.0 (λ tail e f. let b = due-between i j x.1 tail e f in let from : j ≤ i = n.from in omega arith) w.1))
       (λ x w. (
@@ -85,7 +85,7 @@ module _ {V : Type 0} {cmp : V → V → Ordering} {s : Conjuncts V} {ranges : L
       k
 
   -- a finished test
-  pub counted-more : (road : List V) (j number : ℕ) → Walked (road, j) → IsNumber (Before true road j) number → IsNumber (Before true road (j + 1)) (number + 1)
+  pub counted-more : (road : List V) (j number : ℕ) → Walked (road, j) → IsCount (Before true road j) number → IsCount (Before true road (j + 1)) (number + 1)
   counted-more road j number here k = number-more (Before true road j) (Before true road (j + 1)) number (road, j)
       (λ w. let z : is_due {V = V} true j j [] ≡ false = sym (under-at cmp given.total road (is_due true j j) []) ∙ subst (λ r. under cmp road (is_due true j j) r ≡ false) (sym (append-nil road)) w.1 in
       let q : j < j = leb-false j j z in omega arith)

@@ -1,5 +1,5 @@
 -- The laws of the definitions.
-use Rattle.zf_walk.proofs.Prelude.{◌++◌, ◌∙◌, ◌∷◌, ◌≡◌, ◌⊎◌, [], ap, arith, inl, inr, length, List, None, Option, refl, Some, subst, suc, sym, take, zero, ℕ, false≢true, take_all, IsTotalOrder, lists_total, slice_cmp, ordering_reverse, ordering_then, ◌≢◌, Contains, IsTrue, Ordering, Equal, Greater, Less, Conjuncts, Event, IsEvent, Ahead, IsAhead, IsRest, past, ComesAfter, IsLater, TiesAreEqual, IsPair, IsUpTo, IsWalked}
+use Rattle.zf_walk.proofs.Prelude.{◌++◌, ◌∙◌, ◌∷◌, ◌≡◌, ◌⊎◌, [], ap, arith, inl, inr, length, List, None, Option, refl, Some, subst, suc, sym, take, zero, ℕ, false≢true, take_all, IsTotalOrder, lists_total, slice_cmp, ordering_reverse, ordering_then, ◌≢◌, Contains, IsTrue, Ordering, Equal, Greater, Less, Conjuncts, Event, IsEvent, Ahead, IsAhead, IsRest, past, ComesAfter, IsLater, TiesAreEqual, IsDueTest, IsUpTo, IsWalked}
 use Rattle.zf_walk.specs.Laws.{HasOneList, Resumes, StartsWithAll, TakesFirst, EndsWithNone, StaysWithinBound}
 use Rattle.zf_walk.proofs.Lists.{Contains-head, Contains-later, Contains-cases, Contains-nil, Contains-right, Contains-either, AllPairs-nil, AllPairs-cons, AllPairs-head, AllPairs-tail, AllPairs-back, AllPairs-across, AllPairs-unique}
 use Rattle.zf_walk.proofs.Order.{slice-ties}
@@ -134,4 +134,4 @@ module _ {V : Type 0} (cmp : V → V → Ordering) (o : IsTotalOrder cmp) where
 
     pub stays_within_bound : StaysWithinBound cmp s
     stays_within_bound ranges after whole number bound t b =
-        number-le (λ pair. IsWalked cmp s ranges after pair × IsUpTo cmp whole pair.0) (IsPair s ranges) number bound t b (λ x w. let v = w.0 in v.is_pair)
+        number-le (λ pair. IsWalked cmp s ranges after pair × IsUpTo cmp whole pair.0) (IsDueTest s ranges) number bound t b (λ x w. let v = w.0 in v.is_pair)

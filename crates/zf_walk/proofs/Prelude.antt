@@ -22,7 +22,7 @@ pub use Rattle.zf_walk.specs.RowLaws.{AreAscending, HasLength, TiesAreEqual}
 pub use Rattle.zf_walk.specs.Rows.{ComesAfter, IsFrontOf, IsLater, IsRowOf}
 pub use Rattle.zf_walk.specs.Steps.{Admits, Answers, Begins, Binds, Enters, Gives, Goes, GoesOn, Keeps, KeepsEvents, Leaves, Moves, Passes, Tests}
 pub use Rattle.zf_walk.specs.Tables.{AreTables, AreTrue, AreUsed, combinations, HavePlaces, number}
-pub use Rattle.zf_walk.specs.Tests.{cut, IsNumber, IsNumberOfTests, IsPair, IsReached, IsUpTo, IsWalked}
+pub use Rattle.zf_walk.specs.Tests.{cut, IsCount, IsNumberOfTests, IsDueTest, IsReached, IsUpTo, IsWalked}
 pub use Rattle.zf_walk.specs.TestBounds.{IsBound}
 pub use Rattle.zf_walk.specs.declared.agenda.Agenda.{Agenda}
 pub use Rattle.zf_walk.specs.declared.judge.Truth.{Truth}

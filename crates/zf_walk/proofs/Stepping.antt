@@ -1,5 +1,5 @@
 -- The steps of a walk: to another place, to another conjunct, or to an answer.
-use Rattle.zf_walk.proofs.Prelude.{◌++◌, ◌+◌, ◌<◌, ◌∙◌, ◌∷◌, ◌≡◌, ◌≤◌, [], ap, arith, Bool, false, get_or, inl, inr, length, length-append, List, Option, refl, subst, sym, true, ℕ, cases_Bool, cases_eq, false≢true, leb-true, append-nil, get_or-set_other, get_or-set_same, length-set, Ordering, Conjuncts, picked, front, is_ahead, is_due, is_reached, IsAt, IsNextDue, IsReady, IsSoFar, Knows, path, Admits, Enters, GoesOn, Leaves, Moves, Tests, cut, IsNumber, IsWalked, Truth, False, Out, True, Place}
+use Rattle.zf_walk.proofs.Prelude.{◌++◌, ◌+◌, ◌<◌, ◌∙◌, ◌∷◌, ◌≡◌, ◌≤◌, [], ap, arith, Bool, false, get_or, inl, inr, length, length-append, List, Option, refl, subst, sym, true, ℕ, cases_Bool, cases_eq, false≢true, leb-true, append-nil, get_or-set_other, get_or-set_same, length-set, Ordering, Conjuncts, picked, front, is_ahead, is_due, is_reached, IsAt, IsNextDue, IsReady, IsSoFar, Knows, path, Admits, Enters, GoesOn, Leaves, Moves, Tests, cut, IsCount, IsWalked, Truth, False, Out, True, Place}
 use Rattle.zf_walk.proofs.Counting.{cut-more, number-same}
 use Rattle.zf_walk.proofs.Truths.{so_far-at, so_far-skip, so_far-deeper, so_far-true, so_far-out, IsTruthOf-false}
 use Rattle.zf_walk.proofs.Moving.{length-front, fewer-at, same-path, last-value}
@@ -8,7 +8,7 @@ use Rattle.zf_walk.proofs.Knowing.{Setting, Walked, Before, Done, counted-of, co
 module _ {V : Type 0} {cmp : V → V → Ordering} {s : Conjuncts V} {ranges : List (List V)} {after : Option (List V)} (given : Setting cmp s ranges after) where
   -- a move of the place
   module _ (p q : Place) (at : IsAt ranges p) (k : Knows cmp s ranges after p) (done : p.fresh ≡ true → p.conjunct ≡ s.number) (m : Moves cmp s.number ranges p q) where
-    moved-counts : (number : ℕ) → IsNumber (Done given p) number → IsNumber (Done given q) number
+    moved-counts : (number : ℕ) → IsCount (Done given p) number → IsCount (Done given q) number
     moved-counts number = number-same (Done given p) (Done given q) number
         (λ x w. (w.0, sym (pairs x w.0) ∙ w.1)) (λ x w. (w.0, pairs x w.0 ∙ w.1)) where
           pairs : (x : List V × ℕ) → IsWalked cmp s ranges after x → is_ahead cmp ranges p x.0 x.1 ≡ is_ahead cmp ranges q x.0 x.1
@@ -83,7 +83,7 @@ module _ {V : Type 0} {cmp : V → V → Ordering} {s : Conjuncts V} {ranges : L
     place : IsAt ranges q
     place = let w = test.awaits in fewer-at ranges p q at w.places (let d = w.depth in omega arith)
 
-    more : IsNumber (Before given true (path ranges p) (p.conjunct + 1)) ((k.counted).0 + 1)
+    more : IsCount (Before given true (path ranges p) (p.conjunct + 1)) ((k.counted).0 + 1)
     more = let n = k.counted in counted-more given (path ranges p) p.conjunct n.0 (walked-here given p at k f l (ready.due f l) (ready.reached f)) (counted-of given p true p.conjunct (path ranges p) n.0 f refl refl n.1)
 
     counts : q.tests ≡ cut ((k.counted).0 + 1)

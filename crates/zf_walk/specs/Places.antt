@@ -7,7 +7,7 @@ use Rattle.zf_walk.specs.declared.place.Place.{Place}
 use Rattle.zf_walk.specs.declared.agenda.Agenda.{Agenda}
 use Rattle.zf_walk.specs.Conjuncts.{Conjuncts}
 use Rattle.zf_walk.specs.RowLaws.{TiesAreEqual, AreAscending, HasLength}
-use Rattle.zf_walk.specs.Tests.{IsWalked, IsNumber, cut}
+use Rattle.zf_walk.specs.Tests.{IsWalked, IsCount, cut}
 use Rattle.zf_walk.specs.Progress.{Ahead, AreDueWithin}
 use Rattle.zf_walk.specs.Picked.{AreWithin, picked}
 
@@ -97,7 +97,7 @@ pub record Knows {V : Type 0} (cmp : V → V → Ordering) (s : Conjuncts V) (ra
   pub all_outs : length p.outs.items ≡ length ranges + 1
   pub earlier : (i : ℕ) → i < p.depth → IsSoFar s i s.number (front ranges p i) (slice_index_or p.outs.items i false)
   pub now : p.fresh ≡ true → IsSoFar s p.depth p.conjunct (path ranges p) (slice_index_or p.outs.items p.depth false)
-  pub counted : (number : ℕ) × IsNumber (IsDone cmp s ranges after p) number × (p.tests ≡ cut number)
+  pub counted : (number : ℕ) × IsCount (IsDone cmp s ranges after p) number × (p.tests ≡ cut number)
 
 -- A place whose next test is known: the row is reached, and the conjunct is due there.
 pub record IsReady {V : Type 0} (cmp : V → V → Ordering) (s : Conjuncts V) (ranges : List (List V)) (after : Option (List V)) (p : Place) : Type 0 where

@@ -13,7 +13,7 @@ pub record IsCandidate {V : Type 0} (s : Conjuncts V) (ranges : List (List V)) (
   pub kept : (d : ℕ) → d < s.number → s.due d < length row → s.says d row False → ⊥
 
 -- a conjunct that is due at a candidate
-pub record IsPair {V : Type 0} (s : Conjuncts V) (ranges : List (List V)) (pair : List V × ℕ) : Type 0 where
+pub record IsDueTest {V : Type 0} (s : Conjuncts V) (ranges : List (List V)) (pair : List V × ℕ) : Type 0 where
   pub candidate : IsCandidate s ranges pair.0
   pub conjunct : pair.1 < s.number
   pub due : s.due pair.1 ≡ length pair.0
@@ -25,7 +25,7 @@ IsReached cmp (Some named) n row = (slice_cmp cmp (take (length row) named) row 
 
 -- a pair that is tested: no conjunct before it that is due at the row too is False there
 pub record IsWalked {V : Type 0} (cmp : V → V → Ordering) (s : Conjuncts V) (ranges : List (List V)) (after : Option (List V)) (pair : List V × ℕ) : Type 0 where
-  pub is_pair : IsPair s ranges pair
+  pub is_pair : IsDueTest s ranges pair
   pub first : (d : ℕ) → d < pair.1 → s.due d ≡ length pair.0 → s.says d pair.0 False → ⊥
   pub reached : IsReached cmp after (length ranges) pair.0
 
@@ -35,7 +35,7 @@ IsUpTo cmp None row = Unit {0}
 IsUpTo cmp (Some whole) row = slice_cmp cmp (take (length row) whole) row ≢ Less
 
 -- how many pairs there are
-pub record IsNumber {V : Type 0} (P : List V × ℕ → Type 0) (number : ℕ) : Type 0 where
+pub record IsCount {V : Type 0} (P : List V × ℕ → Type 0) (number : ℕ) : Type 0 where
   pub pairs : List (List V × ℕ)
   pub distinct : AllPairs (λ p q. p ≢ q) pairs
   pub members : (pair : List V × ℕ) → Contains pairs pair ↔ P pair
@@ -43,7 +43,7 @@ pub record IsNumber {V : Type 0} (P : List V × ℕ → Type 0) (number : ℕ) :
 
 -- the number of pairs that are tested up to a whole row, or up to the end
 abbrev pub IsNumberOfTests : {V : Type 0} → (V → V → Ordering) → Conjuncts V → List (List V) → Option (List V) → Option (List V) → ℕ → Type 0
-IsNumberOfTests cmp s ranges after whole = IsNumber (λ pair. IsWalked cmp s ranges after pair × IsUpTo cmp whole pair.0)
+IsNumberOfTests cmp s ranges after whole = IsCount (λ pair. IsWalked cmp s ranges after pair × IsUpTo cmp whole pair.0)
 
 -- a number, or the greatest of 64 bits
 abbrev pub cut : ℕ → ℕ

@@ -13,9 +13,9 @@ ghost use Rattle.zf_type.specs.Judging.{DeclarationsOffend, IsBuilder, IsPart, I
 ghost use Rattle.zf_type.specs.Refusals.{IfFault};
 ghost use Rattle.zf_type.specs.Resolving.{resolved_part, resolved_ranges};
 ghost use Rattle.zf_type.specs.Scopes as spec;
-ghost use Rattle.zf_type.specs.Scopes.{Var, within};
+ghost use Rattle.zf_type.specs.Scopes.{Var, with_variables};
 ghost use Rattle.zf_type.specs.ScopeViews.{scope_of, variable_of};
-ghost use Rattle.zf_type.specs.Typing.{Binds, Builds, row_type};
+ghost use Rattle.zf_type.specs.Typing.{Binds, HasMemberType, row_type};
 
 use super::{Judged, Place, judge_boxed, judge_term, made, placed};
 use crate::binding::{bind, declare_names, depth, row, unbind};
@@ -104,7 +104,7 @@ fn declare<'a>(
     arena: &'a Bump,
     scope: &mut Scope<'a, '_>,
 ) -> Result<Items<'a, Range<'a>>, Refusal<'a>>
-    ensures ok { OnOk result ((vs : List Var) × Binds (scope_of scope.old) (tree_views.var_decls (map var_decl_of decls.now)) vs × (scope_of scope.new ≡ within (scope_of scope.old) vs)) }
+    ensures ok { OnOk result ((vs : List Var) × Binds (scope_of scope.old) (tree_views.var_decls (map var_decl_of decls.now)) vs × (scope_of scope.new ≡ with_variables (scope_of scope.old) vs)) }
     ensures ranges { IfOk result (λ rs. kept.ranges (map range_of rs) ≡ resolved_ranges (scope_of scope.old) (tree_views.var_decls (map var_decl_of decls.now))) }
     ensures wrong { IfErr result (λ e. IfFault e (λ offence line. DeclarationsOffend (scope_of scope.old) (tree_views.var_decls (map var_decl_of decls.now)) offence line)) }
     ensures scope { OnErr result (scope_of scope.new ≡ scope_of scope.old) }
@@ -167,7 +167,7 @@ fn with_body<'a>(
     constraint: Result<Option<Judged<'a>>, Refusal<'a>>,
     body: Result<Judged<'a>, Refusal<'a>>,
 ) -> Result<Judged<'a>, Refusal<'a>>
-    ensures { (s : spec.Scope) (ds : tree.VarDecls) (vs : List Var) (p : tree.Perhaps) (e : Tree) → Binds s ds vs → kept.ranges (map range_of ranges.entry) ≡ resolved_ranges s ds → JudgesPart (within s vs) needs.Predicate p constraint.entry → Judges (within s vs) needs.Predicate e body.entry → Judges s place.need (tree.quantified place.line quantifier ds p e) result }
+    ensures { (s : spec.Scope) (ds : tree.VarDecls) (vs : List Var) (p : tree.Perhaps) (e : Tree) → Binds s ds vs → kept.ranges (map range_of ranges.entry) ≡ resolved_ranges s ds → JudgesPart (with_variables s vs) needs.Predicate p constraint.entry → Judges (with_variables s vs) needs.Predicate e body.entry → Judges s place.need (tree.quantified place.line quantifier ds p e) result }
 {
     let constraint = constraint?;
     let body = body?;
@@ -192,7 +192,7 @@ fn built<'a>(
     member: Result<Option<Judged<'a>>, Refusal<'a>>,
     row: Result<ZType<'a>, AllocError>,
 ) -> Result<Judged<'a>, Refusal<'a>>
-    ensures { (s : spec.Scope) (ds : tree.VarDecls) (vs : List Var) (p e : tree.Perhaps) → Binds s ds vs → kept.ranges (map range_of ranges.entry) ≡ resolved_ranges s ds → JudgesPart (within s vs) needs.Predicate p filter.entry → JudgesPart (within s vs) needs.Expression e member.entry → IfOk row.entry (λ t. type_of t ≡ row_type vs) → Judges s place.need (tree.builder place.line ds p e) result }
+    ensures { (s : spec.Scope) (ds : tree.VarDecls) (vs : List Var) (p e : tree.Perhaps) → Binds s ds vs → kept.ranges (map range_of ranges.entry) ≡ resolved_ranges s ds → JudgesPart (with_variables s vs) needs.Predicate p filter.entry → JudgesPart (with_variables s vs) needs.Expression e member.entry → IfOk row.entry (λ t. type_of t ≡ row_type vs) → Judges s place.need (tree.builder place.line ds p e) result }
 {
     let filter = filter?;
     let member = member?;
@@ -223,7 +223,7 @@ fn in_box<'a>(arena: &'a Bump, part: Option<Judged<'a>>) -> Result<ResolvedPart<
 
 /// The type of what a builder builds: that of its term, where it has one.
 fn member_type<'a>(member: &Option<Judged<'a>>, row: ZType<'a>) -> Result<ZType<'a>, AllocError>
-    ensures { (s : spec.Scope) (vs : List Var) (p : tree.Perhaps) → IsPart s needs.Expression p member.now → type_of row.entry ≡ row_type vs → IfOk result (λ t. Builds s vs p (type_of t)) }
+    ensures { (s : spec.Scope) (vs : List Var) (p : tree.Perhaps) → IsPart s needs.Expression p member.now → type_of row.entry ≡ row_type vs → IfOk result (λ t. HasMemberType s vs p (type_of t)) }
 {
     match member {
         None => Ok(row),

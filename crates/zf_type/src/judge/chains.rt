@@ -15,7 +15,7 @@ ghost use Rattle.zf_type.specs.Rules as rules;
 ghost use Rattle.zf_type.specs.Rules.{Meets, Takes};
 ghost use Rattle.zf_type.specs.RuleViews.{sort_of};
 ghost use Rattle.zf_type.specs.ScopeViews.{scope_of};
-ghost use Rattle.zf_type.specs.Typing.{AreLinked, IsOf};
+ghost use Rattle.zf_type.specs.Typing.{LinksAreTyped, IsOf};
 
 use super::{Judged, Place, judge_boxed, judge_term, placed};
 use crate::fault::{Refusal, mismatched, misplaced};
@@ -75,7 +75,7 @@ fn judge_links<'a>(
     first: Operand<'a>,
     scope: &mut Scope<'a, '_>,
 ) -> Result<Items<'a, ResolvedLink<'a>>, Refusal<'a>>
-    ensures ok { OnOk result (AreLinked (scope_of scope.old) (sort_of first.entry.sort) (tree_views.links (map link_of links.now))) }
+    ensures ok { OnOk result (LinksAreTyped (scope_of scope.old) (sort_of first.entry.sort) (tree_views.links (map link_of links.now))) }
     ensures resolved { IfOk result (λ ks. kept.links (map resolved_link_of ks) ≡ resolved_links (scope_of scope.old) (tree_views.links (map link_of links.now))) }
     ensures wrong { (a : Tree) → IsOf (scope_of scope.old) a (sort_of first.entry.sort) → first.entry.line ≡ tree.line_of a → IfErr result (λ e. IfFault e (λ offence line. LinksOffend (scope_of scope.old) a (tree_views.links (map link_of links.now)) offence line)) }
     ensures scope { scope_of scope.new ≡ scope_of scope.old }

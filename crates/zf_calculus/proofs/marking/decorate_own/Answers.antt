@@ -8,8 +8,8 @@ returns-then-is_empty-clause-ok c = unstroked c.args.strokes.now c.is_empty.resu
 
 pub returns-clause-growing : goal.returns-clause-growing
 returns-clause-growing c =
-    let made = ap (λ (cs : List Comp). calculus.schema_of cs (map conjunct_of c.args.growing.flat.conjuncts)) c.in_ok-add_strokes.ensures in
+    let made = ap (λ (cs : List Comp). calculus.schema_with cs (map conjunct_of c.args.growing.flat.conjuncts)) c.in_ok-add_strokes.ensures in
     left_decorated c.args.strokes.now (schema_of c.args.growing.flat) _ c.args.growing.sets_left c.args.growing.nodes_left c.requires made
 
 pub returns-clause-ok : goal.returns-clause-ok
-returns-clause-ok c = ap (λ (cs : List Comp). calculus.schema_of cs (map conjunct_of c.args.growing.flat.conjuncts)) c.in_ok-add_strokes.ensures
+returns-clause-ok c = ap (λ (cs : List Comp). calculus.schema_with cs (map conjunct_of c.args.growing.flat.conjuncts)) c.in_ok-add_strokes.ensures

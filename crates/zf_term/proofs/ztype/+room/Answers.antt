@@ -1,12 +1,12 @@
-use Rattle.zf_term.proofs.Prelude.{◌+◌, ◌-◌, ◌∙◌, ◌≡◌, ap, arith, map, sym, nodes, nodes_of_all, types, type_of}
+use Rattle.zf_term.proofs.Prelude.{◌+◌, ◌-◌, ◌∙◌, ◌≡◌, ap, arith, map, sym, type_nodes, nodes_of_all, types, type_of}
 use Rattle.zf_term.proofs.TypeForms.{some_nodes, one_node, nodes-Power, nodes-Product, left_of_both}
 use Rattle.zf_term.proofs.TypeLists.{counted}
 use Rattle.zf_term.proofs.ztype.+room.Goals as goal
 
 pub ZType::room_after-loop-left-preserved : goal.ZType::room_after-loop-left-preserved
 ZType::room_after-loop-left-preserved t c =
-    let one : nodes (type_of c.loop-left.ztype.now) ≡ nodes (type_of c.get-ztype.result.now) + 1 =
-    nodes-Power c.loop-left.ztype.now _ c.in-Power.is ∙ ap (λ x. nodes (type_of x) + 1) (sym c.get-ztype.ensures) in
+    let one : type_nodes (type_of c.loop-left.ztype.now) ≡ type_nodes (type_of c.get-ztype.result.now) + 1 =
+    nodes-Power c.loop-left.ztype.now _ c.in-Power.is ∙ ap (λ x. type_nodes (type_of x) + 1) (sym c.get-ztype.ensures) in
     record { counts = omega (arith, one, c.loop-left.invariant.counts, c.loop-left-test.true); less = omega (arith, c.loop-left.invariant.less) }
 
 pub ZType::room_after-returns-in-Int : goal.ZType::room_after-returns-in-Int

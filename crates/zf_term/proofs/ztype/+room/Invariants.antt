@@ -1,4 +1,4 @@
-use Rattle.zf_term.proofs.Prelude.{◌*◌, ◌+◌, ◌≡◌, ◌≤◌, drop, map, nodes, nodes_of_all, types, type_of}
+use Rattle.zf_term.proofs.Prelude.{◌*◌, ◌+◌, ◌≡◌, ◌≤◌, drop, map, type_nodes, nodes_of_all, types, type_of}
 use Rattle.zf_term.proofs.ztype.+room.Given as goal
 
 abbrev pub decreases-ZType::room_after : goal.decreases-ZType::room_after
@@ -12,7 +12,7 @@ decreases-ZType::room_after-loop-left l = l.left
 
 abbrev pub invariant-ZType::room_after-loop-left : goal.invariant-ZType::room_after-loop-left
 invariant-ZType::room_after-loop-left l = record {
-  counts : l.left + nodes (type_of l.self) ≡ l.room + nodes (type_of l.ztype);
+  counts : l.left + type_nodes (type_of l.self) ≡ l.room + type_nodes (type_of l.ztype);
   less : l.left ≤ l.room;
 }
 

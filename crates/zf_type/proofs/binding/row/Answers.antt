@@ -1,4 +1,4 @@
-use Rattle.zf_type.proofs.Prelude.{◌∙◌, ◌∷◌, ◌≡◌, [], ap, append-nil, arith, length, List, map, sym, IfOk-weaker, pushed, type_of, var_type, Scope, Var, within, scope_of, row_type}
+use Rattle.zf_type.proofs.Prelude.{◌∙◌, ◌∷◌, ◌≡◌, [], ap, append-nil, arith, length, List, map, sym, IfOk-weaker, pushed, type_of, var_type, Scope, Var, with_variables, scope_of, row_type}
 use Rattle.zf_type.proofs.Rows.{row_ahead, none_ahead, variables_within}
 use Rattle.zf_type.proofs.binding.row.Goals as goal
 
@@ -17,7 +17,7 @@ loop-place-preserved c =
 pub returns : goal.returns
 returns c =
     let locals = c.args.scope.now.locals in
-    IfOk-weaker c.row_of.result (λ t. (vs : List Var) → map type_of c.loop-place.types ≡ map var_type vs → type_of t ≡ row_type vs) (λ t. (s : Scope) (vs : List Var) → scope_of c.args.scope.now ≡ within s vs → c.args.outside ≡ length s.locals → type_of t ≡ row_type vs)
+    IfOk-weaker c.row_of.result (λ t. (vs : List Var) → map type_of c.loop-place.types ≡ map var_type vs → type_of t ≡ row_type vs) (λ t. (s : Scope) (vs : List Var) → scope_of c.args.scope.now ≡ with_variables s vs → c.args.outside ≡ length s.locals → type_of t ≡ row_type vs)
     (λ t of s vs h e. of vs
     (sym (append-nil (map type_of c.loop-place.types))
     ∙ c.loop-place.invariant.rows [] (none_ahead locals c.loop-place.place (omega (arith, c.loop-place-test.false, c.len-place-end.ensures)))

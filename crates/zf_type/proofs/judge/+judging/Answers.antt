@@ -1,4 +1,4 @@
-use Rattle.zf_type.proofs.Prelude.{◌++◌, ◌+◌, ◌∙◌, ◌∷◌, ◌≡◌, [], ap, append-nil, arith, drop, Err, inl, inr, length, List, map, None, Ok, refl, Some, subst, sym, ℕ, ⊎_elim, left_need, need_of, relation_rule, right_need, rule_of, part_of, tree_of, trees, Name, at_end, at_step, pushed, range_of, resolved_link_of, resolved_of, no_types, type_of, types, mismatch, Offence, AreNew, AreRepeated, DeclarationsOffend, Judges, JudgesPart, LinksOffend, Offends, OneOffends, SetsOffend, IfFault, resolved, resolved_all, resolved_links, resolved_ranges, Meets, predicate, Sort, sort_of, Takes, variable_of, within, scope_of, AreLinked, AreMembers, Declare, declared, IsOf, member_need, variables}
+use Rattle.zf_type.proofs.Prelude.{◌++◌, ◌+◌, ◌∙◌, ◌∷◌, ◌≡◌, [], ap, append-nil, arith, drop, Err, inl, inr, length, List, map, None, Ok, refl, Some, subst, sym, ℕ, ⊎_elim, left_need, need_of, relation_rule, right_need, rule_of, part_of, tree_of, trees, Name, at_end, at_step, pushed, range_of, resolved_link_of, resolved_of, no_types, type_of, types, mismatch, Offence, AreNew, AreRepeated, DeclarationsOffend, Judges, JudgesPart, LinksOffend, Offends, OneOffends, SetsOffend, IfFault, resolved, resolved_all, resolved_links, resolved_ranges, Meets, predicate, Sort, sort_of, Takes, variable_of, with_variables, scope_of, LinksAreTyped, AreMembers, Declare, declared, IsOf, member_need, variables}
 use Rattle.std.proofs.lemmas.List.{length-map, append_assoc}
 use Rattle.zf_tree.specs.Trees as tree
 use Rattle.zf_tree.specs.TreeViews as tree_views
@@ -230,7 +230,7 @@ chains::judge_links-loop-link-preserved t c =
     let taken : Takes rule x y predicate = compares k.relation x y made.0 (subst (λ r. Takes r x y made.0) c.relation_rule-rule.ensures made.1) in
     record {
       same = c.in_ok-term.ensures.scope ∙ c.loop-link.invariant.same;
-      linked = λ h. c.loop-link.invariant.linked (link_ahead (λ l. AreLinked s x l) all i k c.link-item.is (omega arith) (y, judged.is_of, taken, h));
+      linked = λ h. c.loop-link.invariant.linked (link_ahead (λ l. LinksAreTyped s x l) all i k c.link-item.is (omega arith) (y, judged.is_of, taken, h));
       kept = λ ks h.
           ap kept_views.links (pushed resolved_link_of c.loop-link.resolved c.push.new.self (kept_seen.new_link k.relation j.term) ks c.in_ok-push.ensures.ok ∙ ap (λ p. map resolved_link_of c.loop-link.resolved ++ p ∷ ks) (kept_seen.of-link k.relation j.term))
           ∙ c.loop-link.invariant.kept ((k.relation, resolved_of j.term) ∷ ks) (link_ahead (λ l. kept.link k.relation (resolved_of j.term) (kept_views.links ks) ≡ resolved_links s l) all i k c.link-item.is (omega arith)
@@ -247,7 +247,7 @@ chains::judge_links-loop-link-preserved t c =
 pub chains::judge_links-returns-clause-ok : goal.chains::judge_links-returns-clause-ok
 chains::judge_links-returns-clause-ok t c =
     let s = scope_of c.args.scope.now in
-    c.loop-link.invariant.linked (at_end (λ l. AreLinked s (sort_of c.loop-link.left.sort) (tree_views.links (map tree_views.link_of l))) c.args.links.now c.loop-link.link-index (omega arith) tt)
+    c.loop-link.invariant.linked (at_end (λ l. LinksAreTyped s (sort_of c.loop-link.left.sort) (tree_views.links (map tree_views.link_of l))) c.args.links.now c.loop-link.link-index (omega arith) tt)
 
 pub chains::judge_links-returns-clause-resolved : goal.chains::judge_links-returns-clause-resolved
 chains::judge_links-returns-clause-resolved t c =
@@ -356,13 +356,13 @@ chains::chain-returns-clause-judged t c =
     let is = ap tree_of c.in-Chain.is ∙ seen.of-Chain l c.in-Chain.first c.in-Chain.links in
     let j = c.in_ok-term.field-0 in
     let judged = judged_of s need.Expression e j (subst (λ y. Judges s need.Expression y (Ok j)) (ap tree_of c.get.ensures) c.in_ok-term.ensures.judged) in
-    let linked = subst (λ ys. AreLinked s (sort_of j.sort) (tree_views.links (map tree_views.link_of ys))) c.as_slice.ensures
-    (subst (λ y. AreLinked y (sort_of j.sort) (tree_views.links (map tree_views.link_of c.as_slice.result.now))) c.in_ok-term.ensures.scope c.in_ok-links.ensures.ok) in
+    let linked = subst (λ ys. LinksAreTyped s (sort_of j.sort) (tree_views.links (map tree_views.link_of ys))) c.as_slice.ensures
+    (subst (λ y. LinksAreTyped y (sort_of j.sort) (tree_views.links (map tree_views.link_of c.as_slice.result.now))) c.in_ok-term.ensures.scope c.in_ok-links.ensures.ok) in
     let further : kept_views.links (map resolved_link_of c.in_ok-links.links) ≡ resolved_links s ks =
     c.in_ok-links.ensures.resolved ∙ ap (λ y. resolved_links y (tree_views.links (map tree_views.link_of c.as_slice.result.now))) c.in_ok-term.ensures.scope ∙ ap (λ ys. resolved_links s (tree_views.links (map tree_views.link_of ys))) c.as_slice.ensures in
     subst (λ d. Judges s c.args.need d c.placed.result) (sym is)
     (c.placed.ensures s (tree.chain l e ks)
-    (judged.met.0, subst (λ z. IsOf s e z) judged.met.1 judged.is_of, subst (λ z. AreLinked s z ks) judged.met.1 linked, refl)
+    (judged.met.0, subst (λ z. IsOf s e z) judged.met.1 judged.is_of, subst (λ z. LinksAreTyped s z ks) judged.met.1 linked, refl)
     (kept_seen.of-Chain l c.in_ok-first.first c.in_ok-further.further
     ∙ ap (λ x. kept.chain l x (kept_views.links (map resolved_link_of c.in_ok-further.further))) (ap resolved_of c.in_ok-first.ensures ∙ judged.term)
     ∙ ap (λ xs. kept.chain l (resolved s e) (kept_views.links (map resolved_link_of xs))) c.in_ok-further.ensures
@@ -394,7 +394,7 @@ binders::judge_part-returns-in_ok-judged-in-Some-clause-judged t c =
 pub binders::declare-returns-clause-ok : goal.binders::declare-returns-clause-ok
 binders::declare-returns-clause-ok t c =
     let vs = map variable_of c.in_ok-variables.field-0.variables in
-    (vs, c.in_ok-variables.ensures.ok, c.in_ok-bind.ensures.ok ∙ ap (λ z. within z vs) c.in_ok-variables.ensures.scope)
+    (vs, c.in_ok-variables.ensures.ok, c.in_ok-bind.ensures.ok ∙ ap (λ z. with_variables z vs) c.in_ok-variables.ensures.scope)
 
 pub binders::declare-returns-in_err-variables-clause-wrong : goal.binders::declare-returns-in_err-variables-clause-wrong
 binders::declare-returns-in_err-variables-clause-wrong t c =

@@ -1,4 +1,4 @@
-use Rattle.zf_type.proofs.Prelude.{◌++◌, ◌≡◌, [], drop, List, map, ℕ, line_of, link_of, links, Tree, tree_of, trees, var_decl_of, var_decls, Relation, range_of, resolved_link_of, resolved_of, ResolvedTree, Ty, type_of, types, Offence, AreNew, AreRepeated, LinksOffend, OneOffends, SetsOffend, resolved_all, resolved_links, resolved_ranges, sort_of, Var, variable_of, scope_of, AreLinked, AreMembers, Declare, declared, IsOf, member_need}
+use Rattle.zf_type.proofs.Prelude.{◌++◌, ◌≡◌, [], drop, List, map, ℕ, line_of, link_of, links, Tree, tree_of, trees, var_decl_of, var_decls, Relation, range_of, resolved_link_of, resolved_of, ResolvedTree, Ty, type_of, types, Offence, AreNew, AreRepeated, LinksOffend, OneOffends, SetsOffend, resolved_all, resolved_links, resolved_ranges, sort_of, Var, variable_of, scope_of, LinksAreTyped, AreMembers, Declare, declared, IsOf, member_need}
 use Rattle.zf_term.specs.ResolvedViews as kept
 use Rattle.zf_type.proofs.judge.+judging.Given as goal
 
@@ -15,7 +15,7 @@ invariant-lists::judge_all-loop-member l = record {
 abbrev pub invariant-chains::judge_links-loop-link : goal.invariant-chains::judge_links-loop-link
 invariant-chains::judge_links-loop-link l = record {
   same : scope_of l.scope ≡ scope_of l.initial.scope;
-  linked : AreLinked (scope_of l.initial.scope) (sort_of l.left.sort) (links (map link_of (drop l.link-index l.links))) → AreLinked (scope_of l.initial.scope) (sort_of l.initial.left.sort) (links (map link_of l.links));
+  linked : LinksAreTyped (scope_of l.initial.scope) (sort_of l.left.sort) (links (map link_of (drop l.link-index l.links))) → LinksAreTyped (scope_of l.initial.scope) (sort_of l.initial.left.sort) (links (map link_of l.links));
   kept : (ks : List (Relation × ResolvedTree)) → kept.links ks ≡ resolved_links (scope_of l.initial.scope) (links (map link_of (drop l.link-index l.links)))
       → kept.links (map resolved_link_of l.resolved ++ ks) ≡ resolved_links (scope_of l.initial.scope) (links (map link_of l.links));
   offends : (a : Tree) → IsOf (scope_of l.initial.scope) a (sort_of l.initial.left.sort) → l.initial.left.line ≡ line_of a

@@ -18,7 +18,7 @@ returns-clause-growing c =
     let after : HasLeft (grown a (comp_of c.args.component)) c.in-Some.sets_left c.in-Some-after_nodes.nodes_left =
     left_grown a (comp_of c.args.component) c.args.self.now.sets_left c.args.self.now.nodes_left c.in-Some.sets_left c.in-Some-after_nodes.nodes_left c.requires (rw c.get.ensures at c.in-Some.ensures) (rw c.get-2.ensures at c.in-Some-after_nodes.ensures) c.in_ok-join.ensures.room
     in
-    subst (λ (cs : List Comp). HasLeft (calculus.schema_of cs a.conjuncts) c.in-Some.sets_left c.in-Some-after_nodes.nodes_left) (sym c.in_ok-join.ensures.ok) after
+    subst (λ (cs : List Comp). HasLeft (calculus.schema_with cs a.conjuncts) c.in-Some.sets_left c.in-Some-after_nodes.nodes_left) (sym c.in_ok-join.ensures.ok) after
 
 pub returns-clause-ok : goal.returns-clause-ok
 returns-clause-ok c =
@@ -26,4 +26,4 @@ returns-clause-ok c =
     let after : HasLeft (grown a (comp_of c.args.component)) c.in-Some.sets_left c.in-Some-after_nodes.nodes_left =
     left_grown a (comp_of c.args.component) c.args.self.now.sets_left c.args.self.now.nodes_left c.in-Some.sets_left c.in-Some-after_nodes.nodes_left c.requires (rw c.get.ensures at c.in-Some.ensures) (rw c.get-2.ensures at c.in-Some-after_nodes.ensures) c.in_ok-join.ensures.room
     in
-    (ap (λ (cs : List Comp). calculus.schema_of cs a.conjuncts) c.in_ok-join.ensures.ok, after.within)
+    (ap (λ (cs : List Comp). calculus.schema_with cs a.conjuncts) c.in_ok-join.ensures.ok, after.within)

@@ -1,4 +1,4 @@
-use Rattle.zf_type.proofs.Prelude.{◌∙◌, ◌≡◌, ap, inl, inr, map, refl, subst, sym, IfOk, range_of, ranges, IsSmall, power, type_of, JudgesPart, Offends, PartOffends, typed, within, row_type}
+use Rattle.zf_type.proofs.Prelude.{◌∙◌, ◌≡◌, ap, inl, inr, map, refl, subst, sym, IfOk, range_of, ranges, IsSmall, power, type_of, JudgesPart, Offends, PartOffends, typed, with_variables, row_type}
 use Rattle.zf_tree.specs.Trees as tree
 use Rattle.zf_tree.specs.declared.operator.Need.TheVariants as need
 use Rattle.zf_type.proofs.Judging.{from_memory, from_fault, if_fault}
@@ -10,8 +10,8 @@ returns-in_err-filter c = λ s ds vs p e binds sets hp he hr.
     let x = c.in_err-filter.field-0.0 in
     let whole = tree.builder c.args.place.line ds p e in
     from_fault s c.args.place.need whole x c.from_residual.result
-    (if_fault x (λ k m. PartOffends (within s vs) need.Predicate p k m) (λ k m. Offends s c.args.place.need whole k m) (λ k m o. inr (inr (inl (vs, binds, inl o))))
-    (part_fault (within s vs) need.Predicate p x (subst (λ r. JudgesPart (within s vs) need.Predicate p r) c.in_err-filter.was hp)))
+    (if_fault x (λ k m. PartOffends (with_variables s vs) need.Predicate p k m) (λ k m. Offends s c.args.place.need whole k m) (λ k m o. inr (inr (inl (vs, binds, inl o))))
+    (part_fault (with_variables s vs) need.Predicate p x (subst (λ r. JudgesPart (with_variables s vs) need.Predicate p r) c.in_err-filter.was hp)))
     c.from_residual.ensures.0 c.from_residual.ensures.1
 
 pub returns-in_err-member : goal.returns-in_err-member
@@ -19,8 +19,8 @@ returns-in_err-member c = λ s ds vs p e binds sets hp he hr.
     let x = c.in_err-member.field-0.0 in
     let whole = tree.builder c.args.place.line ds p e in
     from_fault s c.args.place.need whole x c.from_residual-in_err-member.result
-    (if_fault x (λ k m. PartOffends (within s vs) need.Expression e k m) (λ k m. Offends s c.args.place.need whole k m) (λ k m o. inr (inr (inl (vs, binds, inr (inl o)))))
-    (part_fault (within s vs) need.Expression e x (subst (λ r. JudgesPart (within s vs) need.Expression e r) c.in_err-member.was he)))
+    (if_fault x (λ k m. PartOffends (with_variables s vs) need.Expression e k m) (λ k m. Offends s c.args.place.need whole k m) (λ k m o. inr (inr (inl (vs, binds, inr (inl o)))))
+    (part_fault (with_variables s vs) need.Expression e x (subst (λ r. JudgesPart (with_variables s vs) need.Expression e r) c.in_err-member.was he)))
     c.from_residual-in_err-member.ensures.0 c.from_residual-in_err-member.ensures.1
 
 pub returns-in_err-rows : goal.returns-in_err-rows
@@ -50,7 +50,7 @@ returns-in_err-term c = λ s ds vs p e binds sets hp he hr.
 pub returns : goal.returns
 returns c = λ s ds vs p e binds sets hp he hr.
     let l = c.args.place.line in
-    let inside = within s vs in
+    let inside = with_variables s vs in
     let filter = part_of_judged inside need.Predicate p c.in_ok-filter.filter (subst (λ r. JudgesPart inside need.Predicate p r) c.in_ok-filter.was hp) in
     let member = part_of_judged inside need.Expression e c.in_ok-member.member (subst (λ r. JudgesPart inside need.Expression e r) c.in_ok-member.was he) in
     let row = subst (λ r. IfOk r (λ t. type_of t ≡ row_type vs)) c.in_ok-rows.was hr in
