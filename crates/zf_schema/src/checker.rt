@@ -139,7 +139,7 @@ fn note<'a>(
 {
     match defined {
         Ok(()) => Ok(()),
-        Err(Refusal::Fault(fault)) => faults.push(fault),
+        Err(Refusal::Fault(fault)) => faults.push(fault.get().share()),
         Err(Refusal::OutOfMemory) => Err(AllocError),
     }
 }

@@ -19,7 +19,9 @@ use zf_term::globals::{Entry, Globals};
 use zf_term::measured::Measured;
 use zf_term::named::global_of;
 use zf_tree::tree::{Name, SchemaRef};
-use zf_type::fault::{Offence, Refusal, refused};
+use zf_type::fault::{Offence, Refusal};
+use zf_type::hint::refused_name;
+use zf_type::like::global_like;
 
 /// The schema that is referred to, with room for what is expected of it.
 pub fn referred<'a>(
@@ -35,7 +37,10 @@ pub fn referred<'a>(
     let name = &reference.name;
     let schema = match schema_named(globals, name) {
         Ok(schema) => schema,
-        Err(offence) => return Err(refused(arena, offence, name.line)),
+        Err(offence) => {
+            let like = global_like(globals, name.base(), true);
+            return Err(refused_name(arena, offence, name.line, like));
+        }
     };
     let spare = spare.behind(schema.flat());
     match marked(arena, reference.mark, name.line, schema, spare) {

@@ -22,6 +22,8 @@ pub data Offence : Type 0 where
   local_twice : (name : List ℕ) → Offence
   -- what stands to the left and to the right is of two sorts that no rule takes together
   mismatch : (left right : Sort) → Offence
+  -- a type is needed, and another one found
+  unfit : (needed found : Ty) → Offence
   -- a display without members, which has no type
   no_members : Offence
   -- a place needs another sort than what was found there
@@ -62,6 +64,7 @@ kind_of (already_defined x) = AlreadyDefined
 kind_of (not_a_schema x) = NotASchema
 kind_of (local_twice x) = LocalTwice
 kind_of (mismatch x y) = Mismatch
+kind_of (unfit n f) = Mismatch
 kind_of no_members = Mismatch
 kind_of (misplaced n z) = lack_of n z
 kind_of (clash x t u) = ComponentClash

@@ -1,6 +1,7 @@
 -- What is left of the limits behind a schema.
 use Rattle.std.specs.Prelude.{◌≡◌, ℕ, ◌+◌}
 use Rattle.zf_term.specs.Schemas.{Schema}
+use Rattle.zf_term.specs.Shapes.{nodes}
 use Rattle.zf_term.specs.Limits.{sets_max, nodes_max, declared_sets, schema_nodes, IsWithin}
 
 -- a schema within the limits, with what is left of two of them

@@ -6,6 +6,7 @@ pub mod extent;
 pub mod fault;
 pub mod globals;
 pub mod laws;
+pub mod likeness;
 pub mod measured;
 pub mod named;
 pub mod resolved;

@@ -1,5 +1,5 @@
 -- From the answers about the parts of a term to the answer about the term.
-use Rattle.zf_type.proofs.Prelude.{◌≡◌, Err, inr, None, Ok, Option, refl, Some, subst, sym, true≢false, ℕ, IfErr, IfOk, IsErr, IsErrAnd, Result, need_of, binary, bracket, builder, chain, constant, empty_set, listed, named, numeral, quantified, Tree, tree_of, unary, Need, Rule, Unary, Domain, Finset, Power, Range, Size, Term, resolved_of, pair_type, power, Offence, IsJudged, Judges, Misplaced, Offends, IfFault, IsRefusal, offence_of, resolved, a_schema, Meets, number_sort, predicate, set_sort, Sort, sort_of, Takes, UnaryTakes, IsMade, IsMadeOfOne, Scope, IsOf, Refusal, Fault, OutOfMemory, Judged}
+use Rattle.zf_type.proofs.Prelude.{◌≡◌, Err, inr, None, Ok, Option, refl, Some, subst, sym, true≢false, ℕ, IfErr, IfOk, IsErr, IsErrAnd, Result, need_of, binary, bracket, builder, chain, constant, empty_set, listed, named, numeral, quantified, Tree, tree_of, unary, Need, Rule, Unary, Domain, Finset, Power, Range, Size, Term, resolved_of, pair_type, power, Offence, IsJudged, Judges, Misplaced, Offends, IfFault, IsRefusal, IsStill, offence_of, resolved, a_schema, Meets, number_sort, predicate, set_sort, Sort, sort_of, Takes, UnaryTakes, IsMade, IsMadeOfOne, Scope, IsOf, Refusal, Fault, OutOfMemory, Judged}
 use Rattle.zf_tree.specs.declared.operator.Sign.TheVariants as sign
 use Rattle.zf_tree.specs.declared.operator.Need.TheVariants as need
 use Rattle.zf_tree.specs.declared.operator.Unary.TheVariants.{Sign, Inverse, Not}
@@ -16,6 +16,11 @@ if_fault OutOfMemory P Q step h = tt
 pub told : (r : Refusal) (o : Offence) (m : ℕ) (P : Offence → ℕ → Type 0) → IsRefusal r o m → P o m → IfFault r P
 told (Fault f) o m P h p = subst (λ q. P q f.line) (sym h.0) (subst (λ l. P o l) (sym h.1) p)
 told OutOfMemory o m P h p = tt
+
+-- what holds of a fault holds of it with a hint
+pub still : (old new : Refusal) (P : Offence → ℕ → Type 0) → IsStill old new → IfFault old P → IfFault new P
+still (Fault f) new P same h = told new (offence_of f.offence) f.line P same h
+still OutOfMemory new P same h = subst (λ r. IfFault r P) (sym same) tt
 
 pub fault_from : {T : Type 0} (x : Refusal) (P : Offence → ℕ → Type 0) (r : Result T Refusal) → IfFault x P → IsErr r → IsErrAnd r (λ y. y ≡ x) → IfErr r (λ y. IfFault y P)
 fault_from x P (Ok j) h p g = absurd (true≢false (sym p))
@@ -38,6 +43,10 @@ judges_ok s n e j h = (h, tt)
 pub judges_err : (s : Scope) (n : Need) (e : Tree) (r : Refusal) → IfFault r (λ k m. Offends s n e k m) → Judges s n e (Err r)
 unfolding Judges
 judges_err s n e r h = (tt, h)
+
+-- the same term, and its fault with a hint
+pub still_judged : (s : Scope) (n : Need) (e : Tree) (old new : Refusal) → IsStill old new → Judges s n e (Err old) → Judges s n e (Err new)
+still_judged s n e old new same h = judges_err s n e new (still old new (λ k m. Offends s n e k m) same (fault_of s n e old h))
 
 pub from_fault : (s : Scope) (n : Need) (e : Tree) (x : Refusal) (r : Result Judged Refusal) → IfFault x (λ k m. Offends s n e k m) → IsErr r → IsErrAnd r (λ y. y ≡ x) → Judges s n e r
 from_fault s n e x (Ok j) h p g = absurd (true≢false (sym p))

@@ -43,8 +43,8 @@ pub use Rattle.zf_type.specs.Buckets.{before, bucket_from, last_in}
 unfoldable pub use Rattle.zf_type.specs.Buckets.{AreHeads, bucket, IsIndexed}
 pub use Rattle.zf_type.specs.Judging.{AreNew, AreRepeated, DeclarationsOffend, DiffersAt, is_conjunction, IsBound, IsJudged, IsOther, IsPart, var_type}
 unfoldable pub use Rattle.zf_type.specs.Judging.{Judges, JudgesPart}
-pub use Rattle.zf_type.specs.Offences.{BuildsTooLarge, Clash, Differ, Disagree, IsRepeated, LinksOffend, ListedTooLarge, MakesTooLarge, MakeTooLarge, Misplaced, Offends, OneDiffers, OneOffends, PartOffends, Repeats, SetsOffend}
-pub use Rattle.zf_type.specs.Refusals.{IfFault, IsRefusal, offence_of}
+pub use Rattle.zf_type.specs.Offences.{BuildsTooLarge, Clash, Differ, Disagree, Disagreement, IsRepeated, LinksOffend, ListedTooLarge, MakesTooLarge, MakeTooLarge, Misplaced, Offends, OneDiffers, OneOffends, PartOffends, Repeats, SetsOffend}
+pub use Rattle.zf_type.specs.Refusals.{IfFault, IsRefusal, IsStill, offence_of}
 pub use Rattle.zf_type.specs.Resolving.{bound, referent, resolved, resolved_all, resolved_links, resolved_part, resolved_ranges}
 pub use Rattle.zf_type.specs.Rules.{a_schema, IsSmallSort, Meets, number_sort, predicate, PrefixTakes, set_sort, SignTakes, Sort, Takes, typed, UnaryTakes}
 pub use Rattle.zf_type.specs.RuleViews.{sort_of}

@@ -1,6 +1,6 @@
 -- What a refusal says, and the program's faults as plain data.
 use Rattle.std.specs.Prelude.{◌≡◌, ℕ}
-use Rattle.zf_term.specs.Faults.{Offence, Fault, not_declared, already_defined, not_a_schema, local_twice, mismatch, no_members, misplaced, clash, too_large}
+use Rattle.zf_term.specs.Faults.{Offence, Fault, not_declared, already_defined, not_a_schema, local_twice, mismatch, unfit, no_members, misplaced, clash, too_large}
 use Rattle.zf_term.specs.TypeViews.{type_of}
 use Rattle.zf_type.specs.declared.fault.Offence as program
 use Rattle.zf_type.specs.declared.fault.Offence.TheVariants as variant
@@ -15,11 +15,13 @@ offence_of (variant.AlreadyDefined x) = already_defined x
 offence_of (variant.NotASchema x) = not_a_schema x
 offence_of (variant.LocalTwice x) = local_twice x
 offence_of (variant.Mismatch x y) = mismatch (sort_of x) (sort_of y)
+offence_of (variant.Unfit n f) = unfit (type_of n) (type_of f)
 offence_of variant.NoMembers = no_members
 offence_of (variant.Misplaced n z) = misplaced n (sort_of z)
 offence_of (variant.Clash c) = clash c.name (type_of c.left) (type_of c.right)
 offence_of (variant.TooLarge l) = too_large l
 
+-- without its hint
 abbrev pub fault_of : TypeFault → Fault
 fault_of f = record { offence = offence_of f.offence; line = f.line }
 
@@ -31,3 +33,8 @@ IfFault refusal.OutOfMemory P = Unit {0}
 -- the fault is this one, unless memory ran out
 abbrev pub IsRefusal : Refusal → Offence → ℕ → Type 0
 IsRefusal r o m = IfFault r (λ p l. (p ≡ o) × (l ≡ m))
+
+-- the fault is still the same, unless memory ran out
+abbrev pub IsStill : (old new : Refusal) → Type 0
+IsStill (refusal.Fault f) new = IsRefusal new (offence_of f.offence) f.line
+IsStill refusal.OutOfMemory new = new ≡ refusal.OutOfMemory

@@ -1,7 +1,6 @@
 //! Faults of types.
 ghost use Rattle.std.specs.Prelude.{◌≡◌, IfOk};
-ghost use Rattle.zf_term.specs.Faults.{kind_of, mismatch, misplaced, typed};
-ghost use Rattle.zf_term.specs.TypeViews.{type_of};
+ghost use Rattle.zf_term.specs.Faults.{kind_of, misplaced};
 ghost use Rattle.zf_type.specs.Refusals.{IsRefusal, fault_of, offence_of};
 ghost use Rattle.zf_type.specs.RuleViews.{sort_of};
 
@@ -22,6 +21,8 @@ pub enum Offence<'a> {
     LocalTwice(Lent<'a>),
     /// What stands to the left and to the right is of these sorts, which no rule takes together.
     Mismatch(Sort<'a>, Sort<'a>),
+    /// The one type is needed, and the other one found.
+    Unfit(ZType<'a>, ZType<'a>),
     /// A display without members, which has no type.
     NoMembers,
     /// A place needs another sort than what was found there.
@@ -36,12 +37,32 @@ pub enum Offence<'a> {
 pub struct TypeFault<'a> {
     pub offence: Lasting<'a, Offence<'a>>,
     pub line: u64,
+    /// What may help to find it.
+    pub hint: Option<Lasting<'a, Hint<'a>>>,
+}
+
+/// What is reported beside what is wrong. Nothing is promised of it.
+#[derive(Drop)]
+pub enum Hint<'a> {
+    /// The term that the fault is about.
+    Term(QuotedTerm<'a>),
+    /// A name in scope that may be meant.
+    Like(Lent<'a>),
+}
+
+/// A term of the text.
+#[derive(Drop)]
+pub struct QuotedTerm<'a> {
+    /// Its symbols as they are spelled, one right after another.
+    pub symbols: Lent<'a>,
+    /// The line of its first symbol.
+    pub line: u32,
 }
 
 /// Why there is no answer: a fault, or memory ran out.
 #[derive(Drop)]
 pub enum Refusal<'a> {
-    Fault(TypeFault<'a>),
+    Fault(Lasting<'a, TypeFault<'a>>),
     OutOfMemory,
 }
 
@@ -55,7 +76,9 @@ impl<'a> Offence<'a> {
             Offence::AlreadyDefined(_) => TypeFaultKind::AlreadyDefined,
             Offence::NotASchema(_) => TypeFaultKind::NotASchema,
             Offence::LocalTwice(_) => TypeFaultKind::LocalTwice,
-            Offence::Mismatch(_, _) | Offence::NoMembers => TypeFaultKind::Mismatch,
+            Offence::Mismatch(_, _) | Offence::Unfit(_, _) | Offence::NoMembers => {
+                TypeFaultKind::Mismatch
+            }
             Offence::Misplaced(need, found) => found.lack(*need),
             Offence::Clash(_) => TypeFaultKind::ComponentClash,
             Offence::TooLarge(_) => TypeFaultKind::TooLarge,
@@ -70,6 +93,26 @@ impl<'a> TypeFault<'a> {
     {
         self.offence.get().kind()
     }
+
+    /// The same fault, of which nothing is copied.
+    pub fn share(&self) -> TypeFault<'a>
+        ensures { result ≡ self.now }
+    {
+        TypeFault {
+            offence: self.offence.share(),
+            line: self.line,
+            hint: self.shared_hint(),
+        }
+    }
+
+    fn shared_hint(&self) -> Option<Lasting<'a, Hint<'a>>>
+        ensures { result ≡ self.now.hint }
+    {
+        match &self.hint {
+            Some(hint) => Some(hint.share()),
+            None => None,
+        }
+    }
 }
 
 /// The refusal by what is wrong at this line.
@@ -77,13 +120,32 @@ impl<'a> TypeFault<'a> {
 pub fn refused<'a>(arena: &'a Bump, offence: Offence<'a>, line: u32) -> Refusal<'a>
     ensures { IsRefusal result (offence_of offence.entry) line }
 {
-    match Lasting::new(arena, offence) {
-        Ok(offence) => Refusal::Fault(TypeFault {
-            offence,
-            line: u64::from(line),
-        }),
+    match fault(arena, offence, line, None) {
+        Ok(fault) => Refusal::Fault(fault),
         Err(_) => Refusal::OutOfMemory,
     }
+}
+
+/// The fault by what is wrong at this line.
+pub(crate) fn fault<'a>(
+    arena: &'a Bump,
+    offence: Offence<'a>,
+    line: u32,
+    hint: Option<Lasting<'a, Hint<'a>>>,
+) -> Result<Lasting<'a, TypeFault<'a>>, AllocError>
+    ensures offence { IfOk result (λ f. offence_of f.offence ≡ offence_of offence.entry) }
+    ensures line { IfOk result (λ f. f.line ≡ line) }
+{
+    let offence = Lasting::new(arena, offence)?;
+    let line = u64::from(line);
+    Lasting::new(
+        arena,
+        TypeFault {
+            offence,
+            line,
+            hint,
+        },
+    )
 }
 
 /// The refusal of a term of this sort at this line, where something else is needed.
@@ -95,54 +157,6 @@ pub(crate) fn misplaced<'a>(arena: &'a Bump, need: Need, found: &Sort<'a>, line:
         Ok(found) => refused(arena, Offence::Misplaced(need, found), line),
         Err(_) => Refusal::OutOfMemory,
     }
-}
-
-/// The refusal of operands that no rule takes together.
-#[inline(never)]
-pub(crate) fn mismatched<'a>(
-    arena: &'a Bump,
-    left: &Sort<'a>,
-    right: &Sort<'a>,
-    line: u32,
-) -> Refusal<'a>
-    ensures { IsRefusal result (mismatch (sort_of left.now) (sort_of right.now)) line }
-{
-    match both(left, right) {
-        Ok(offence) => refused(arena, offence, line),
-        Err(_) => Refusal::OutOfMemory,
-    }
-}
-
-fn both<'a>(left: &Sort<'a>, right: &Sort<'a>) -> Result<Offence<'a>, AllocError>
-    ensures { IfOk result (λ o. offence_of o ≡ mismatch (sort_of left.now) (sort_of right.now)) }
-{
-    let left = left.share()?;
-    let right = right.share()?;
-    Ok(Offence::Mismatch(left, right))
-}
-
-/// The refusal of members of a display whose types differ.
-#[inline(never)]
-pub(crate) fn differing<'a>(
-    arena: &'a Bump,
-    first: &ZType<'a>,
-    other: &ZType<'a>,
-    line: u32,
-) -> Refusal<'a>
-    ensures { IsRefusal result (mismatch (typed (type_of first.now)) (typed (type_of other.now))) line }
-{
-    match both_types(first, other) {
-        Ok(offence) => refused(arena, offence, line),
-        Err(_) => Refusal::OutOfMemory,
-    }
-}
-
-fn both_types<'a>(first: &ZType<'a>, other: &ZType<'a>) -> Result<Offence<'a>, AllocError>
-    ensures { IfOk result (λ o. offence_of o ≡ mismatch (typed (type_of first.now)) (typed (type_of other.now))) }
-{
-    let first = first.share()?;
-    let other = other.share()?;
-    Ok(Offence::Mismatch(Sort::Typed(first), Sort::Typed(other)))
 }
 
 impl<'a> From<AllocError> for Refusal<'a> {

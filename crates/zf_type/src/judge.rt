@@ -1,13 +1,14 @@
 //! What a term is by the typing rules, or an offence against them.
 ghost use Rattle.std.specs.Prelude.{◌≡◌, IfOk, IfErr};
+ghost use Rattle.zf_tree.specs.Names.{spelling};
 ghost use Rattle.zf_tree.specs.Trees as tree;
 ghost use Rattle.zf_tree.specs.Trees.{Tree, named, numeral};
 ghost use Rattle.zf_tree.specs.TreeViews.{tree_of};
-ghost use Rattle.zf_term.specs.Faults.{too_large};
+ghost use Rattle.zf_term.specs.Faults.{not_declared, too_large};
 ghost use Rattle.zf_term.specs.ResolvedViews.{resolved_of};
 ghost use Rattle.zf_type.specs.Judging.{Judges};
 ghost use Rattle.zf_type.specs.Offences.{Offends};
-ghost use Rattle.zf_type.specs.Refusals.{IfFault};
+ghost use Rattle.zf_type.specs.Refusals.{IfFault, IsRefusal};
 ghost use Rattle.zf_type.specs.Resolving.{resolved};
 ghost use Rattle.zf_type.specs.Rules.{IsSmallSort, Meets};
 ghost use Rattle.zf_type.specs.RuleViews.{sort_of};
@@ -21,6 +22,8 @@ mod lists;
 mod operands;
 
 use crate::fault::{Offence, Refusal, misplaced, refused};
+use crate::hint::refused_name;
+use crate::like::name_like;
 use crate::rules::constant_sort;
 use crate::scope::Scope;
 use crate::sort::Sort;
@@ -81,9 +84,27 @@ fn judge_boxed<'a>(
     judge_term(term.get(), arena, need, scope)
 }
 
+/// A term. A fault that passes out of it quotes it, if it quotes no term in it.
+#[cycle(judging)]
+#[inline(always)]
+fn judge_term<'a>(
+    term: &Term<'a>,
+    arena: &'a Bump,
+    need: Need,
+    scope: &mut Scope<'a, '_>,
+) -> Result<Judged<'a>, Refusal<'a>>
+    ensures judged { Judges (scope_of scope.old) need (tree_of term.now) result }
+    ensures scope { scope_of scope.new ≡ scope_of scope.old }
+{
+    match judge_form(term, arena, need, scope) {
+        Ok(judged) => Ok(judged),
+        Err(refusal) => Err(refusal.quoting(arena, term)),
+    }
+}
+
 #[cycle(judging)]
 #[tactic(auto, using(zf_tree::proofs::TermSeen::seen))]
-fn judge_term<'a>(
+fn judge_form<'a>(
     term: &Term<'a>,
     arena: &'a Bump,
     need: Need,
@@ -147,7 +168,7 @@ fn named<'a>(
 {
     let line = name.line;
     let Some((reference, sort)) = scope.meaning(arena, name)? else {
-        return Err(refused(arena, Offence::NotDeclared(name.spelled()), line));
+        return Err(not_declared(arena, name, scope));
     };
     placed(
         arena,
@@ -155,6 +176,15 @@ fn named<'a>(
         sort,
         Resolved::Name(line, reference),
     )
+}
+
+#[inline(never)]
+fn not_declared<'a>(arena: &'a Bump, name: &Name<'a>, scope: &Scope<'a, '_>) -> Refusal<'a>
+    ensures { IsRefusal result (not_declared (spelling name.now)) name.now.line }
+{
+    let spelled = name.spelled();
+    let like = name_like(scope, spelled.as_slice());
+    refused_name(arena, Offence::NotDeclared(name.spelled()), name.line, like)
 }
 
 #[inline(never)]

@@ -1,5 +1,5 @@
 -- What operands that are what their places need make, by the rule of their symbol, or that the rule does not take them together.
-use Rattle.zf_verdicts.proofs.Prelude.{◌⊎◌, inl, inr, refl, left_need, need_of, prefix_need, relation_rule, right_need, sign_need, Unary, Relation, int, pair_type, power, Meets, number_sort, predicate, PrefixTakes, relation_sort, set_sort, SignTakes, Sort, Takes, typed, UnaryTakes}
+use Rattle.zf_verdicts.proofs.Prelude.{◌⊎◌, inl, inr, refl, left_need, need_of, prefix_need, relation_rule, right_need, sign_need, Unary, Relation, int, pair_type, power, mismatch, Offence, unfit, Disagreement, Meets, number_sort, predicate, PrefixTakes, relation_sort, set_sort, SignTakes, Sort, Takes, typed, UnaryTakes}
 use Rattle.zf_tree.specs.declared.symbol.Prefix.{Prefix}
 use Rattle.zf_tree.specs.declared.symbol.Prefix.TheVariants.{Power, Finset, Domain, Range, Size}
 use Rattle.zf_tree.specs.declared.symbol.Relation.TheVariants.{Equal, NotEqual, Member, NotMember, Subset, ProperSubset, Less, AtMost, Greater, AtLeast}
@@ -35,6 +35,25 @@ combined rule.Belonging x y p q = where_so (λ e. (predicate, (p.0, p.1, (cc), r
 combined rule.Including x y p q = where_so (λ e. (predicate, (p.0, p.1, (cc), refl))) (λ z w. (cc)) (same_type p.0 q.0)
 combined rule.Comparing x y p q = inl (predicate, (p, q, refl))
 combined rule.Connecting x y p q = inl (predicate, (p, q, refl))
+
+-- what is wrong with operands that a rule doesn't take together
+pub disagreement : (r : Rule) (x y : Sort) → Meets (left_need r) x → Meets (right_need r) y → (o : Offence) × Disagreement r x y o
+disagreement rule.Arithmetic x y p q = (mismatch x y, refl)
+disagreement rule.Interval x y p q = (mismatch x y, refl)
+disagreement rule.Pairing x y p q = (mismatch x y, refl)
+disagreement rule.SetFunction x y p q = (mismatch x y, refl)
+disagreement rule.Overriding x y p q = (mismatch x y, refl)
+disagreement rule.Composing x y p q = (unfit p.1 q.0, (p.0, p.1, q.0, q.1, p.2, q.2, refl))
+disagreement rule.DomainRestricting x y p q = (unfit (power q.0) (power p.0), (q.0, q.1, p.0, p.1, q.2, refl))
+disagreement rule.RangeRestricting x y p q = (unfit (power p.1) (power q.0), (p.0, p.1, q.0, p.2, q.1, refl))
+disagreement rule.Relating x y p q = (mismatch x y, refl)
+disagreement rule.Applying x y p q = (unfit p.0 q.0, (p.0, p.1, q.0, p.2, q.1, refl))
+disagreement rule.Imaging x y p q = (unfit (power p.0) (power q.0), (p.0, p.1, q.0, p.2, q.1, refl))
+disagreement rule.Equating x y p q = (mismatch x y, refl)
+disagreement rule.Belonging x y p q = (unfit q.0 p.0, (p.0, q.0, p.1, q.1, refl))
+disagreement rule.Including x y p q = (mismatch x y, refl)
+disagreement rule.Comparing x y p q = (mismatch x y, refl)
+disagreement rule.Connecting x y p q = (mismatch x y, refl)
 
 prefixed : (op : Prefix) (x : Sort) → Meets (prefix_need op) x → (z : Sort) × PrefixTakes op x z
 prefixed Power x p = (set_sort (power p.0), (p.0, p.1, refl))

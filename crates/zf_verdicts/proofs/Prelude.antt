@@ -10,10 +10,10 @@ pub use Rattle.zf_tree.specs.declared.tree.Name.{Name}
 pub use Rattle.zf_term.specs.Definitions.{abbreviation, Comp, constructor, DeclaredSet, Defined, Definition, free_type, given_set, plain, Schema, schema}
 pub use Rattle.zf_term.specs.FirstNamed.{first_named}
 pub use Rattle.zf_term.specs.Types.{basic, int, IsSmall, no_types, type_nodes, pair_type, power, product, Ty, type, Tys}
-pub use Rattle.zf_term.specs.Faults.{already_defined, clash, Fault, local_twice, mismatch, no_members, not_a_schema, not_declared, Offence, too_large}
+pub use Rattle.zf_term.specs.Faults.{already_defined, clash, Fault, local_twice, mismatch, no_members, not_a_schema, not_declared, Offence, too_large, unfit}
 pub use Rattle.zf_term.specs.declared.fault.Limit.{Limit}
 pub use Rattle.zf_term.specs.declared.fault.Limit.TheVariants.{TypeNodes}
-pub use Rattle.zf_type.specs.Offences.{Differ, IsRepeated, LinksOffend, Misplaced, Offends, OneDiffers, OneOffends, PartOffends, Repeats, SetsOffend}
+pub use Rattle.zf_type.specs.Offences.{Differ, Disagreement, IsRepeated, LinksOffend, Misplaced, Offends, OneDiffers, OneOffends, PartOffends, Repeats, SetsOffend}
 pub use Rattle.zf_type.specs.Resolving.{resolved}
 pub use Rattle.zf_type.specs.Rules.{a_schema, constant_sort, IsSmallSort, Meets, number_sort, predicate, PrefixTakes, relation_sort, set_sort, SignTakes, Sort, Takes, typed, UnaryTakes}
 pub use Rattle.zf_type.specs.Typing.{AreAll, AreApart, LinksAreTyped, AreMembers, HasMemberType, PartIsPredicate, Declare, declared, IsApart, IsOf, Makes, member_need, member_sort, row_type, variables}

@@ -9,7 +9,7 @@ use Rattle.zf_reference.specs.declared.reference.Reference.{Reference}
 use Rattle.zf_term.specs.Faults as fault
 use Rattle.zf_term.specs.Types as t
 use Rattle.zf_type.specs.Scopes.{Scope, Var, with_variables, meaning}
-use Rattle.zf_verdicts.proofs.Combined.{AreCombined, combined, made, relates}
+use Rattle.zf_verdicts.proofs.Combined.{AreCombined, combined, disagreement, made, relates}
 use Rattle.zf_verdicts.proofs.Decided.{Decided, same_type, is_small, is_small_sort, meets, are_apart}
 
 abbrev pub IsJudged : Scope → Need → Tree → Type 0
@@ -111,7 +111,9 @@ of_binary s n l op a b (inl p) (inl q) = by (combined (rule_of op) p.0 q.0 p.2 q
 
     by : AreCombined (rule_of op) p.0 q.0 → IsJudged s n (binary l op a b)
     by (inl w) = sized w.0 w.1 (is_small_sort w.0)
-    by (inr none) = inr (mismatch p.0 q.0, line_of b, inr (inr (inl (inl (p.0, q.0, p.1, q.1, p.2, q.2, none, refl, refl)))))
+    by (inr none) =
+        let is = disagreement (rule_of op) p.0 q.0 p.2 q.2 in
+        inr (is.0, line_of b, inr (inr (inl (inl (p.0, q.0, p.1, q.1, p.2, q.2, none, is.1, refl)))))
 
 -- a chain behind an operand
 module _ (s : Scope) (left : Tree) (x : Sort) (r : Relation) (e : Tree) (ks : Links) where
@@ -129,7 +131,9 @@ module _ (s : Scope) (left : Tree) (x : Sort) (r : Relation) (e : Tree) (ks : Li
 
       by : AreCombined (relation_rule r) x q.0 → LinksAreTyped s x (link r e ks) ⊎ SomeOffence (LinksOffend s left (link r e ks))
       by (inl w) = linked w.0 w.1 (rest q.0 q.1)
-      by (inr none) = inr (mismatch x q.0, line_of e, inr (inr (inl (x, q.0, p, q.1, h, q.2, none, refl, refl))))
+      by (inr none) =
+          let is = disagreement (relation_rule r) x q.0 h q.2 in
+          inr (is.0, line_of e, inr (inr (inl (x, q.0, p, q.1, h, q.2, none, is.1, refl))))
 
 of_chain :
     (s : Scope) (n : Need) (l : ℕ) (e : Tree) (ks : Links) → IsJudged s need.Expression e

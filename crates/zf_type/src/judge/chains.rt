@@ -8,7 +8,8 @@ ghost use Rattle.zf_tree.specs.TreeViews.{link_of, tree_of};
 ghost use Rattle.zf_term.specs.ResolvedViews as kept;
 ghost use Rattle.zf_term.specs.ResolvedViews.{resolved_link_of};
 ghost use Rattle.zf_type.specs.Judging.{IsChain, Judges};
-ghost use Rattle.zf_type.specs.Offences.{LinksOffend};
+ghost use Rattle.zf_tree.specs.Operators.{left_need, right_need};
+ghost use Rattle.zf_type.specs.Offences.{Disagreement, LinksOffend};
 ghost use Rattle.zf_type.specs.Refusals.{IfFault};
 ghost use Rattle.zf_type.specs.Resolving.{resolved_links};
 ghost use Rattle.zf_type.specs.Rules as rules;
@@ -18,7 +19,8 @@ ghost use Rattle.zf_type.specs.ScopeViews.{scope_of};
 ghost use Rattle.zf_type.specs.Typing.{LinksAreTyped, IsOf};
 
 use super::{Judged, Place, judge_boxed, judge_term, placed};
-use crate::fault::{Refusal, mismatched, misplaced};
+use crate::disagreement::disagreeing;
+use crate::fault::{Refusal, misplaced};
 use crate::rules::combine;
 use crate::scope::Scope;
 use crate::sort::Sort;
@@ -57,7 +59,7 @@ pub(super) fn chain<'a>(
         sort,
         line: first.get().line(),
     };
-    let links = judge_links(links.as_slice(), arena, left, scope)?;
+    let links = judge_links(links.as_slice(), arena, left, first.get(), scope)?;
     let first = Boxed::new(arena, term)?;
     let further = Boxed::new(arena, links)?;
     placed(
@@ -73,6 +75,7 @@ fn judge_links<'a>(
     links: &[Link<'a>],
     arena: &'a Bump,
     first: Operand<'a>,
+    operand: &Term<'a>,
     scope: &mut Scope<'a, '_>,
 ) -> Result<Items<'a, ResolvedLink<'a>>, Refusal<'a>>
     ensures ok { OnOk result (LinksAreTyped (scope_of scope.old) (sort_of first.entry.sort) (tree_views.links (map link_of links.now))) }
@@ -81,10 +84,11 @@ fn judge_links<'a>(
     ensures scope { scope_of scope.new ≡ scope_of scope.old }
 {
     let mut left = first;
+    let mut operand = operand;
     let mut resolved = Items::with_room(arena, links.len())?;
     for link in links {
         let rule = relation_rule(link.relation);
-        check_left(arena, &left, rule.left_need())?;
+        check_left(arena, &left, operand, rule.left_need())?;
         let Judged { term, sort } = judge_boxed(&link.right, arena, rule.right_need(), scope)?;
         let line = link.right.get().line();
         relate(arena, rule, &left.sort, &sort, line)?;
@@ -93,19 +97,26 @@ fn judge_links<'a>(
             right: term,
         })?;
         left = Operand { sort, line };
+        operand = link.right.get();
     }
     Ok(resolved)
 }
 
-/// A place of this need takes the operand.
-fn check_left<'a>(arena: &'a Bump, left: &Operand<'a>, need: Need) -> Result<(), Refusal<'a>>
+/// A place of this need takes the operand; else a fault quotes its term.
+fn check_left<'a>(
+    arena: &'a Bump,
+    left: &Operand<'a>,
+    term: &Term<'a>,
+    need: Need,
+) -> Result<(), Refusal<'a>>
     ensures ok { OnOk result (Meets need (sort_of left.now.sort)) }
     ensures wrong { IfErr result (λ e. IfFault e (λ offence line. (Meets need (sort_of left.now.sort) → ⊥) × (offence ≡ fault.misplaced need (sort_of left.now.sort)) × (line ≡ left.now.line))) }
 {
     if left.sort.meets(need) {
         return Ok(());
     }
-    Err(misplaced(arena, need, &left.sort, left.line))
+    let refusal = misplaced(arena, need, &left.sort, left.line);
+    Err(refusal.quoting(arena, term))
 }
 
 /// The rule takes both operands; the line is that of the right one.
@@ -117,11 +128,13 @@ fn relate<'a>(
     right: &Sort<'a>,
     line: u32,
 ) -> Result<(), Refusal<'a>>
+    requires left { Meets (left_need rule) (sort_of left.now) }
+    requires right { Meets (right_need rule) (sort_of right.now) }
     ensures ok { OnOk result ((z : rules.Sort) × Takes rule (sort_of left.now) (sort_of right.now) z) }
-    ensures wrong { IfErr result (λ e. IfFault e (λ offence m. ((z : rules.Sort) → Takes rule (sort_of left.now) (sort_of right.now) z → ⊥) × (offence ≡ fault.mismatch (sort_of left.now) (sort_of right.now)) × (m ≡ line))) }
+    ensures wrong { IfErr result (λ e. IfFault e (λ offence m. ((z : rules.Sort) → Takes rule (sort_of left.now) (sort_of right.now) z → ⊥) × Disagreement rule (sort_of left.now) (sort_of right.now) offence × (m ≡ line))) }
 {
     match combine(arena, rule, left, right)? {
         Some(_) => Ok(()),
-        None => Err(mismatched(arena, left, right, line)),
+        None => Err(disagreeing(arena, rule, left, right, line)),
     }
 }

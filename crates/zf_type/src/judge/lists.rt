@@ -19,7 +19,7 @@ ghost use Rattle.zf_type.specs.Typing as typing;
 ghost use Rattle.zf_type.specs.Typing.{AreMembers, Makes, member_sort};
 
 use super::{Judged, Place, judge_term, made};
-use crate::fault::{Offence, Refusal, differing, refused};
+use crate::fault::{Offence, Refusal, refused};
 use crate::scope::Scope;
 use crate::sort::Sort;
 use bumpalo::Bump;
@@ -166,7 +166,9 @@ fn set_of<'a>(
         let other = &types[place];
         if !first.same(other) {
             let line = terms[place].get().line();
-            return Err(differing(arena, first, other, line));
+            let first = Sort::Typed(first.share()?);
+            let other = Sort::Typed(other.share()?);
+            return Err(refused(arena, Offence::Mismatch(first, other), line));
         }
     }
     Ok(set_type(arena, first.share()?)?)

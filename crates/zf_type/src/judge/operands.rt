@@ -12,7 +12,8 @@ ghost use Rattle.zf_type.specs.Scopes as spec;
 ghost use Rattle.zf_type.specs.ScopeViews.{scope_of};
 
 use super::{Judged, Place, judge_term, made};
-use crate::fault::{Refusal, mismatched};
+use crate::disagreement::disagreeing;
+use crate::fault::Refusal;
 use crate::rules::{apply, combine};
 use crate::scope::Scope;
 use bumpalo::Bump;
@@ -86,10 +87,13 @@ fn with_operands<'a>(
     right: Judged<'a>,
     line: u32,
 ) -> Result<Judged<'a>, Refusal<'a>>
+    requires left { Meets (left_need (rule_of op)) (sort_of left.sort) }
+    requires right { Meets (right_need (rule_of op)) (sort_of right.sort) }
     ensures { (s : spec.Scope) (a b : Tree) → IsJudged s (left_need (rule_of op)) a left.entry → IsJudged s (right_need (rule_of op)) b right.entry → line ≡ line_of b → Judges s place.need (tree.binary place.line op a b) result }
 {
-    let Some(sort) = combine(arena, op.rule(), &left.sort, &right.sort)? else {
-        return Err(mismatched(arena, &left.sort, &right.sort, line));
+    let rule = op.rule();
+    let Some(sort) = combine(arena, rule, &left.sort, &right.sort)? else {
+        return Err(disagreeing(arena, rule, &left.sort, &right.sort, line));
     };
     let left = Boxed::new(arena, left.term)?;
     let right = Boxed::new(arena, right.term)?;

@@ -25,4 +25,4 @@ returns-in-Err-clause-fault c =
     let g = globals_of c.args.globals.now in
     let r = c.args.reference.now in
     let k = offence_of c.in-Err.offence in
-    told c.refused.result k c.name.inside.line (OffendsRef g r) c.refused.ensures (subst (OffendsRef g r k) (ap (λ n. n.line) (sym c.name.view_is)) (lacks g r k c.in-Err.ensures.err))
+    told c.refused_name.result k c.name.inside.line (OffendsRef g r) c.refused_name.ensures (subst (OffendsRef g r k) (ap (λ n. n.line) (sym c.name.view_is)) (lacks g r k c.in-Err.ensures.err))

@@ -1,4 +1,4 @@
-use Rattle.zf_type.proofs.Prelude.{◌++◌, ◌+◌, ◌∙◌, ◌∷◌, ◌≡◌, [], ap, append-nil, arith, drop, Err, inl, inr, length, List, map, None, Ok, refl, Some, subst, sym, ℕ, ⊎_elim, left_need, need_of, relation_rule, right_need, rule_of, part_of, tree_of, trees, Name, at_end, at_step, pushed, range_of, resolved_link_of, resolved_of, no_types, type_of, types, mismatch, Offence, AreNew, AreRepeated, DeclarationsOffend, Judges, JudgesPart, LinksOffend, Offends, OneOffends, SetsOffend, IfFault, resolved, resolved_all, resolved_links, resolved_ranges, Meets, predicate, Sort, sort_of, Takes, variable_of, with_variables, scope_of, LinksAreTyped, AreMembers, Declare, declared, IsOf, member_need, variables}
+use Rattle.zf_type.proofs.Prelude.{◌++◌, ◌+◌, ◌∙◌, ◌∷◌, ◌≡◌, [], ap, append-nil, arith, drop, Err, inl, inr, length, List, map, None, Ok, refl, Some, subst, sym, ℕ, ⊎_elim, left_need, need_of, relation_rule, right_need, rule_of, part_of, tree_of, trees, Name, at_end, at_step, pushed, range_of, resolved_link_of, resolved_of, no_types, type_of, types, Disagreement, Offence, AreNew, AreRepeated, DeclarationsOffend, Judges, JudgesPart, LinksOffend, Offends, OneOffends, SetsOffend, IfFault, resolved, resolved_all, resolved_links, resolved_ranges, Meets, predicate, Sort, sort_of, Takes, variable_of, with_variables, scope_of, LinksAreTyped, AreMembers, Declare, declared, IsOf, member_need, variables}
 use Rattle.std.proofs.lemmas.List.{length-map, append_assoc}
 use Rattle.zf_tree.specs.Trees as tree
 use Rattle.zf_tree.specs.TreeViews as tree_views
@@ -13,8 +13,14 @@ use Rattle.zf_type.proofs.Members.{lengths}
 use Rattle.zf_type.proofs.Bound.{all_apart, some_repeated}
 use Rattle.zf_type.proofs.Parts.{no_part, part_judged, part_from, row_here}
 use Rattle.zf_type.proofs.Chains.{compares}
-use Rattle.zf_type.proofs.Judging.{judged_of, judged_as, judges_ok, if_fault, fault_of, fault_from, from_fault, from_memory, from_part, no_schema}
+use Rattle.zf_type.proofs.Judging.{judged_of, judged_as, judges_ok, still_judged, if_fault, fault_of, fault_from, from_fault, from_memory, from_part, no_schema}
 use Rattle.zf_type.proofs.judge.+judging.Goals as goal
+
+-- ---- a fault that passes out of a term
+
+pub judge_term-returns-in-Err-clause-judged : goal.judge_term-returns-in-Err-clause-judged
+judge_term-returns-in-Err-clause-judged t c =
+    still_judged (scope_of c.args.scope.now) c.args.need (tree_of c.args.term.now) c.in-Err.refusal c.quoting.result c.quoting.ensures (subst (Judges (scope_of c.args.scope.now) c.args.need (tree_of c.args.term.now)) c.in-Err.is c.judge_form.ensures.judged)
 
 -- ---- one part
 
@@ -101,6 +107,21 @@ operands::binary-returns-in_err-of_right-clause-judged t c =
     let x = c.in_err-of_right.field-0.0 in
     from_part s s n c.args.place.need b (tree.binary c.args.place.line c.args.op (tree_of c.args.left.now) b) x c.from_residual-in_err-of_right.result (λ k m o. inr (inl o))
     (judged_as s _ n _ c.args.right.now _ (Err x) c.in_ok-of_left.ensures.scope (c.right_need.ensures ∙ ap right_need c.rule-rule.ensures) refl c.in_err-of_right.ensures.judged) c.from_residual-in_err-of_right.ensures.0 c.from_residual-in_err-of_right.ensures.1
+
+pub operands::binary-with_operands-requires-clause-left : goal.operands::binary-with_operands-requires-clause-left
+operands::binary-with_operands-requires-clause-left t c =
+    let s = scope_of c.args.scope.now in
+    let a = tree_of c.args.left.now in
+    let i = c.in_ok-of_left.of_left in
+    (judged_of s (left_need (rule_of c.args.op)) a i (subst (λ n. Judges s n a (Ok i)) (c.left_need.ensures ∙ ap left_need c.rule-rule.ensures) c.in_ok-of_left.ensures.judged)).met
+
+pub operands::binary-with_operands-requires-clause-right : goal.operands::binary-with_operands-requires-clause-right
+operands::binary-with_operands-requires-clause-right t c =
+    let s = scope_of c.args.scope.now in
+    let n = right_need (rule_of c.args.op) in
+    let b = tree_of c.args.right.now in
+    let j = c.in_ok-of_right.of_right in
+    (judged_of s n b j (judged_as s _ n _ c.args.right.now _ (Ok j) c.in_ok-of_left.ensures.scope (c.right_need.ensures ∙ ap right_need c.rule-rule.ensures) refl c.in_ok-of_right.ensures.judged)).met
 
 pub operands::binary-returns-clause-judged : goal.operands::binary-returns-clause-judged
 operands::binary-returns-clause-judged t c =
@@ -287,6 +308,14 @@ chains::judge_links-returns-in_err-check_left-clause-wrong t c = λ a h l.
     (inl (z, b.1, (λ meets. o.0 (subst (λ q. Meets q z) (sym is) meets)), o.1 ∙ ap (λ q. fault.misplaced q z) is, o.2 ∙ b.2))) in
     fault_from x P c.from_residual-in_err-check_left.result (if_fault x Q P step c.in_err-check_left.ensures.wrong) c.from_residual-in_err-check_left.ensures.0 c.from_residual-in_err-check_left.ensures.1
 
+pub chains::judge_links-relate-requires-clause-right : goal.chains::judge_links-relate-requires-clause-right
+chains::judge_links-relate-requires-clause-right t c =
+    let s = scope_of c.args.scope.now in
+    let k = c.link-item.result in
+    let j = c.in_ok-term.field-0 in
+    let n = right_need c.relation_rule-rule.result in
+    (judged_of s n (tree_of k.right) j (judged_as s _ n _ k.right _ (Ok j) c.loop-link.invariant.same c.right_need.ensures refl c.in_ok-term.ensures.judged)).met
+
 pub chains::judge_links-returns-in_err-relate-clause-wrong : goal.chains::judge_links-returns-in_err-relate-clause-wrong
 chains::judge_links-returns-in_err-relate-clause-wrong t c = λ a h l.
     let s = scope_of c.args.scope.now in
@@ -303,10 +332,10 @@ chains::judge_links-returns-in_err-relate-clause-wrong t c = λ a h l.
     let judged = judged_of s (right_need rule) e j (judged_as s _ (right_need rule) _ k.right _ (Ok j) c.loop-link.invariant.same (c.right_need.ensures ∙ ap right_need c.relation_rule-rule.ensures) refl c.in_ok-term.ensures.judged) in
     let meets : Meets (left_need rule) y = subst (λ n. Meets n y) (c.left_need.ensures ∙ ap left_need c.relation_rule-rule.ensures) c.in_ok-check_left.ensures.ok in
     let line : c.line-line.result ≡ tree.line_of e = c.line-line.ensures ∙ ap (λ y. tree.line_of (tree_of y)) c.get.ensures in
-    let Q : Offence → ℕ → Type 0 = λ f m. ((q : Sort) → Takes c.relation_rule-rule.result y z q → ⊥) × (f ≡ mismatch y z) × (m ≡ c.line-line.result) in
+    let Q : Offence → ℕ → Type 0 = λ f m. ((q : Sort) → Takes c.relation_rule-rule.result y z q → ⊥) × Disagreement c.relation_rule-rule.result y z f × (m ≡ c.line-line.result) in
     let step : (f : Offence) (m : ℕ) → Q f m → P f m =
     λ f m o. b.3 f m (link_ahead (λ q. LinksOffend s b.0 q f m) all c.loop-link.link-index k c.link-item.is (omega arith)
-    (inr (inr (inl (y, z, b.1, judged.is_of, meets, judged.met, (λ q takes. o.0 q (subst (λ r. Takes r y z q) (sym c.relation_rule-rule.ensures) takes)), o.1, o.2 ∙ line))))) in
+    (inr (inr (inl (y, z, b.1, judged.is_of, meets, judged.met, (λ q takes. o.0 q (subst (λ r. Takes r y z q) (sym c.relation_rule-rule.ensures) takes)), subst (λ r. Disagreement r y z f) c.relation_rule-rule.ensures o.1, o.2 ∙ line))))) in
     fault_from x P c.from_residual-in_err-relate.result (if_fault x Q P step c.in_err-relate.ensures.wrong) c.from_residual-in_err-relate.ensures.0 c.from_residual-in_err-relate.ensures.1
 
 pub chains::chain-returns-in_err-term-clause-judged : goal.chains::chain-returns-in_err-term-clause-judged

@@ -1,4 +1,4 @@
-use Rattle.zf_type.proofs.Prelude.{◌∙◌, ◌≡◌, ap, inl, None, Some, sym, spelling, named, reference, not_declared, Offends, referent, sort_of, meaning, meant, scope_of}
+use Rattle.zf_type.proofs.Prelude.{◌∙◌, ◌≡◌, ap, inl, None, refl, Some, sym, spelling, named, reference, not_declared, Offends, referent, sort_of, meaning, meant, scope_of}
 use Rattle.zf_term.proofs.ResolvedSeen as seen
 use Rattle.zf_type.proofs.Judging.{judges_err, from_memory, told}
 use Rattle.zf_type.proofs.judge.named.Goals as goal
@@ -11,8 +11,8 @@ returns-in_default c =
     let found : None ≡ meaning (scope_of c.args.scope.now) (spelling c.args.name.now) = sym (ap meant c.in_default.is) ∙ c.in_ok-reference.ensures in
     let s = scope_of c.args.scope.now in
     let e = named c.args.name.now in
-    judges_err s c.args.need e c.refused.result
-    (told c.refused.result (not_declared c.spelled.result) c.name.inside.line (Offends s c.args.need e) c.refused.ensures (inl (sym found, ap not_declared c.spelled.ensures, ap (λ n. n.line) c.name.view_is)))
+    judges_err s c.args.need e c.not_declared.result
+    (told c.not_declared.result (not_declared (spelling c.args.name.now)) c.args.name.now.line (Offends s c.args.need e) c.not_declared.ensures (inl (sym found, refl, refl)))
 
 pub returns : goal.returns
 returns c =

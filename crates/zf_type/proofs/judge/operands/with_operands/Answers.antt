@@ -1,9 +1,9 @@
-use Rattle.zf_type.proofs.Prelude.{◌∙◌, ap, inl, inr, refl, subst, rule_of, mismatch, Offends, resolved, sort_of, IsMade}
+use Rattle.zf_type.proofs.Prelude.{◌∙◌, ◌≡◌, ap, inl, inr, refl, subst, rule_of, Disagreement, Offends, resolved, sort_of, IsMade}
 use Rattle.zf_tree.specs.Trees as tree
 use Rattle.zf_term.specs.ResolvedViews.{resolved_of}
 use Rattle.zf_term.specs.ResolvedTrees.{binary}
 use Rattle.zf_term.proofs.ResolvedSeen as seen
-use Rattle.zf_type.proofs.Judging.{judges_err, from_memory, takes_both, takes_not, told}
+use Rattle.zf_type.proofs.Judging.{judges_err, from_memory, if_fault, takes_both, takes_not}
 use Rattle.zf_type.proofs.judge.operands.with_operands.Goals as goal
 
 pub returns-in_err-sort : goal.returns-in_err-sort
@@ -14,10 +14,13 @@ returns-in_default c = λ s a b g h line.
     let whole = tree.binary c.args.place.line c.args.op a b in
     let x = sort_of c.args.left.sort in
     let y = sort_of c.args.right.sort in
-    let made = subst (λ u. IsMade u x y c.in_ok-sort.field-0) c.rule.ensures c.in_ok-sort.ensures in
+    let rule = c.rule-rule.result in
+    let made = subst (λ u. IsMade u x y c.in_ok-sort.field-0) c.rule-rule.ensures c.in_ok-sort.ensures in
     let none = takes_not (rule_of c.args.op) x y c.in_ok-sort.field-0 c.in_default.is made in
-    judges_err s c.args.place.need whole c.mismatched.result
-    (told c.mismatched.result (mismatch x y) c.args.line (Offends s c.args.place.need whole) c.mismatched.ensures (inr (inr (inl (inl (x, y, g.is_of, h.is_of, g.met, h.met, none, refl, line))))))
+    judges_err s c.args.place.need whole c.disagreeing.result
+    (if_fault c.disagreeing.result (λ o m. Disagreement rule x y o × (m ≡ c.args.line)) (λ o m. Offends s c.args.place.need whole o m)
+    (λ o m d. inr (inr (inl (inl (x, y, g.is_of, h.is_of, g.met, h.met, none, subst (λ u. Disagreement u x y o) c.rule-rule.ensures d.0, d.1 ∙ line)))))
+    c.disagreeing.ensures)
 
 pub returns-in_err-left : goal.returns-in_err-left
 returns-in_err-left c = λ s a b g h line. from_memory s c.args.place.need (tree.binary c.args.place.line c.args.op a b) c.from_residual-in_err-left.result c.from_residual-in_err-left.ensures.0 c.from_residual-in_err-left.ensures.1
@@ -32,7 +35,7 @@ returns c = λ s a b g h line.
     let x = sort_of c.args.left.sort in
     let y = sort_of c.args.right.sort in
     let z = sort_of c.in-Some.sort in
-    let made = subst (λ u. IsMade u x y c.in_ok-sort.field-0) c.rule.ensures c.in_ok-sort.ensures in
+    let made = subst (λ u. IsMade u x y c.in_ok-sort.field-0) c.rule-rule.ensures c.in_ok-sort.ensures in
     let takes = takes_both (rule_of op) x y c.in_ok-sort.field-0 c.in-Some.sort c.in-Some.is made in
     let first = ap resolved_of c.in_ok-left.ensures ∙ g.term in
     let second = ap resolved_of c.in_ok-right.ensures ∙ h.term in

@@ -1,0 +1,144 @@
+//! What is reported beside a fault: the term that it is about, or a name that may be meant.
+ghost use Rattle.std.specs.Prelude.{◌≡◌, IfOk};
+ghost use Rattle.zf_type.specs.Refusals.{IsRefusal, IsStill, offence_of};
+
+use crate::fault::{Hint, Offence, QuotedTerm, Refusal, TypeFault, fault};
+use bumpalo::Bump;
+use std::alloc::AllocError;
+use zf_data::arena::{Lasting, Lent};
+use zf_spelled::spelled;
+use zf_tree::operator::{Need, Operator};
+use zf_tree::tree::Term;
+
+impl<'a> Refusal<'a> {
+    /// The same, which quotes the term where the fault is one of a term and has no hint: of all terms that it passes out of, the
+    /// innermost one. Where that is a function that is not a relation, the application is quoted in its place: often none is
+    /// meant, and a separator between its operands was forgotten.
+    #[inline(never)]
+    pub(crate) fn quoting(self, arena: &'a Bump, term: &Term<'a>) -> Refusal<'a>
+        ensures { IsStill self.entry result }
+    {
+        let Refusal::Fault(fault) = self else {
+            return Refusal::OutOfMemory;
+        };
+        if !lacks_term(fault.get()) && !is_of_function(arena, fault.get(), term) {
+            return Refusal::Fault(fault);
+        }
+        match quoted(arena, fault.get(), term) {
+            Ok(fault) => Refusal::Fault(fault),
+            Err(_) => Refusal::OutOfMemory,
+        }
+    }
+}
+
+/// Whether it is a term that is wrong, and no name, and none is quoted.
+fn lacks_term(fault: &TypeFault<'_>) -> bool {
+    fault.hint.is_none() && is_of_term(fault.offence.get())
+}
+
+fn is_of_term(offence: &Offence<'_>) -> bool {
+    match offence {
+        Offence::Mismatch(_, _)
+        | Offence::Unfit(_, _)
+        | Offence::NoMembers
+        | Offence::Misplaced(_, _)
+        | Offence::TooLarge(_) => true,
+        Offence::NotDeclared(_)
+        | Offence::AlreadyDefined(_)
+        | Offence::NotASchema(_)
+        | Offence::LocalTwice(_)
+        | Offence::Clash(_) => false,
+    }
+}
+
+/// Whether the term is an application of what the fault quotes, where a relation is needed.
+fn is_of_function<'a>(arena: &'a Bump, fault: &TypeFault<'a>, term: &Term<'a>) -> bool {
+    let Term::Binary(_, Operator::Application, function, _) = term else {
+        return false;
+    };
+    needs_relation(fault.offence.get()) && quotes(&fault.hint, arena, function.get())
+}
+
+fn needs_relation(offence: &Offence<'_>) -> bool {
+    match offence {
+        Offence::Misplaced(need, _) => matches!(need, Need::Relation),
+        _ => false,
+    }
+}
+
+/// Whether the hint quotes this term, or one that is written like it.
+fn quotes<'a>(hint: &Option<Lasting<'a, Hint<'a>>>, arena: &'a Bump, term: &Term<'a>) -> bool {
+    let Some(hint) = hint else {
+        return false;
+    };
+    match (hint.get(), spelled(arena, term)) {
+        (Hint::Term(quoted), Ok(symbols)) => quoted.symbols.as_slice() == symbols.as_slice(),
+        _ => false,
+    }
+}
+
+/// The fault with the term.
+fn quoted<'a>(
+    arena: &'a Bump,
+    fault: &TypeFault<'a>,
+    term: &Term<'a>,
+) -> Result<Lasting<'a, TypeFault<'a>>, AllocError>
+    ensures offence { IfOk result (λ f. offence_of f.offence ≡ offence_of fault.now.offence) }
+    ensures line { IfOk result (λ f. f.line ≡ fault.now.line) }
+{
+    let hint = quotation(arena, term)?;
+    Lasting::new(
+        arena,
+        TypeFault {
+            offence: fault.offence.share(),
+            line: fault.line,
+            hint: Some(hint),
+        },
+    )
+}
+
+fn quotation<'a>(arena: &'a Bump, term: &Term<'a>) -> Result<Lasting<'a, Hint<'a>>, AllocError> {
+    let symbols = spelled(arena, term)?;
+    let line = term.line();
+    Lasting::new(arena, Hint::Term(QuotedTerm { symbols, line }))
+}
+
+/// The refusal of a name by what is wrong at this line, with a name that is like it.
+#[inline(never)]
+pub fn refused_name<'a>(
+    arena: &'a Bump,
+    offence: Offence<'a>,
+    line: u32,
+    like: Option<&[u8]>,
+) -> Refusal<'a>
+    ensures { IsRefusal result (offence_of offence.entry) line }
+{
+    match with_likeness(arena, offence, line, like) {
+        Ok(fault) => Refusal::Fault(fault),
+        Err(_) => Refusal::OutOfMemory,
+    }
+}
+
+fn with_likeness<'a>(
+    arena: &'a Bump,
+    offence: Offence<'a>,
+    line: u32,
+    like: Option<&[u8]>,
+) -> Result<Lasting<'a, TypeFault<'a>>, AllocError>
+    ensures offence { IfOk result (λ f. offence_of f.offence ≡ offence_of offence.entry) }
+    ensures line { IfOk result (λ f. f.line ≡ line) }
+{
+    let hint = likeness(arena, like)?;
+    fault(arena, offence, line, hint)
+}
+
+fn likeness<'a>(
+    arena: &'a Bump,
+    like: Option<&[u8]>,
+) -> Result<Option<Lasting<'a, Hint<'a>>>, AllocError> {
+    let Some(name) = like else {
+        return Ok(None);
+    };
+    let name = Lent::of(arena, name)?;
+    Ok(Some(Lasting::new(arena, Hint::Like(name))?))
+}
