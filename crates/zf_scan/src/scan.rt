@@ -46,7 +46,7 @@ impl Border {
 }
 
 /// The symbols of the next box, with their places, instead of those in the list; none where no box is left. The border is then
-/// the one behind the box; of a piece that is refused, its place.
+/// the one behind the box; of a piece that is refused, its place; of a box that the source does not close, its end.
 pub fn next_box(
     source: &[u8],
     border: &mut Border,
@@ -96,11 +96,9 @@ pub fn next_box(
         }
         start += len;
     }
+    *border = Border { line, start };
     match place {
-        Place::Outside => {
-            *border = Border { line, start };
-            Ok(())
-        }
+        Place::Outside => Ok(()),
         _ => Err(fault_at(TextFaultKind::UnclosedBox, place, line)),
     }
 }

@@ -2,6 +2,7 @@
 #![tactic(auto)]
 
 mod boxes;
+mod brackets;
 mod cursor;
 mod decls;
 mod items;

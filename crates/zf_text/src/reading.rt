@@ -14,8 +14,9 @@ ghost use Rattle.zf_scan.specs.declared.placed.Placed.{Placed};
 ghost use Rattle.zf_scan.specs.declared.token.Token.{Token};
 
 use crate::boxes::{all, only};
+use crate::brackets::unclosed;
 use crate::cursor::Cursor;
-use crate::unread::Unread;
+use crate::unread::{About, Unread};
 use bumpalo::Bump;
 use bumpalo::collections::into_bump_slice;
 use std::alloc::Global;
@@ -23,7 +24,7 @@ use zf_data::Items;
 use zf_scan::fault::{TextFault, TextFaultKind};
 use zf_scan::laid::{Laid, lay_out};
 use zf_scan::placed::Placed;
-use zf_scan::refused::refused_at;
+use zf_scan::refused::{refused_at, refused_place};
 use zf_scan::scan::{Border, cut_rest, next_box};
 use zf_scan::token::Token;
 use zf_tree::tree::{Spec, ZBox};
@@ -99,22 +100,37 @@ pub fn parse<'a>(alloc: Global, arena: &'a Bump, tokens: &[Token]) -> Result<Spe
     parsed(alloc, arena, into_bump_slice(text), symbols)
 }
 
-/// The symbol that a fault of the grammar is about, where so many are left: the next one, or, of a form that is not read, the
-/// one before it.
-fn symbol_at_fault<'a>(
-    fault: TextFault,
-    text: &'a [u8],
-    symbols: &[Placed],
-    left: usize,
-) -> &'a [u8] {
-    let next = symbols.len().saturating_sub(left);
-    let place = match fault.kind {
-        TextFaultKind::NotInProfile => next.saturating_sub(1),
-        _ => next,
-    };
+/// The symbol at a place, as the text spells it; nothing where there is none.
+fn spelled_at<'a>(text: &'a [u8], symbols: &[Placed], place: usize) -> &'a [u8] {
     match symbols.get(place) {
         Some(symbol) => symbol.spelled(text),
         None => b"",
+    }
+}
+
+/// An unexpected symbol, with the bracket before it that is not closed.
+fn unexpected<'a>(text: &'a [u8], symbols: &[Placed], place: usize) -> About<'a> {
+    let symbol = spelled_at(text, symbols, place);
+    match unclosed(symbols, place) {
+        Some(bracket) => About {
+            symbol,
+            other: bracket.spelled(text),
+            line: bracket.line,
+        },
+        None => About::of(symbol),
+    }
+}
+
+/// What a fault of the grammar is about, where so many symbols are left: the next one, or, of a form that is not read, the one
+/// before it.
+fn about<'a>(fault: TextFault, text: &'a [u8], symbols: &[Placed], left: usize) -> About<'a> {
+    let next = symbols.len().saturating_sub(left);
+    match fault.kind {
+        TextFaultKind::Unexpected => unexpected(text, symbols, next),
+        TextFaultKind::NotInProfile => {
+            About::of(spelled_at(text, symbols, next.saturating_sub(1)))
+        }
+        _ => About::of(spelled_at(text, symbols, next)),
     }
 }
 
@@ -132,8 +148,21 @@ fn only_box<'a>(
         Ok(next) => Ok(next),
         Err(fault) => Err(Unread {
             fault,
-            symbol: symbol_at_fault(fault, text, symbols.as_slice(), cursor.left()),
+            about: about(fault, text, symbols.as_slice(), cursor.left()),
         }),
+    }
+}
+
+/// What a fault of the scanner is about: the piece at the border.
+fn refused<'a>(fault: TextFault, source: &'a [u8], border: Border) -> About<'a> {
+    let Border { line, start } = border;
+    match fault.kind {
+        TextFaultKind::UnclosedBox => About {
+            symbol: b"",
+            other: refused_at(source, start),
+            line,
+        },
+        _ => About::of(refused_at(source, refused_place(source, start))),
     }
 }
 
@@ -153,7 +182,7 @@ fn cut_next<'a>(
         Ok(()) => Ok(()),
         Err(fault) => Err(Unread {
             fault,
-            symbol: refused_at(source, border.start),
+            about: refused(fault, source, *border),
         }),
     }
 }
@@ -172,7 +201,7 @@ fn cut_others<'a>(
         Ok(()) => Ok(()),
         Err(fault) => Err(Unread {
             fault,
-            symbol: refused_at(source, border.start),
+            about: refused(fault, source, *border),
         }),
     }
 }
