@@ -1,5 +1,5 @@
 -- Words that are refused ask for no work.
-use Rattle.zf_command.proofs.Prelude.{◌∙◌, ◌∷◌, ◌≡◌, [], arith, codes, inl, inr, List, None, Option, Some, subst, suc, sym, zero, ℕ, AllZip, Contains, first_of, IsAmong, Row, Text, HasBadLimit, IsAsked, IsJob, IsLimit, IsRefused, ReadsSize, Refuses, values_of, Work, Size}
+use Rattle.zf_command.proofs.Prelude.{◌∙◌, ◌∷◌, ◌≡◌, [], arith, codes, inl, inr, List, None, Option, Some, subst, suc, sym, zero, ℕ, AllZip, Contains, first_of, IsAmong, Row, Text, HasBadLimit, HasBadNumber, IsAsked, IsJob, IsLimit, IsSize, IsRefused, ReadsSize, Refuses, values_of, Work, Size}
 use Rattle.std.proofs.lemmas.Option.{same_Some}
 use Rattle.zf_command.specs.declared.job.Job.{Job}
 use Rattle.zf_command.specs.declared.job.Job.TheVariants.{Check, Show}
@@ -17,11 +17,19 @@ no_bad_limit None limit bad is = bad
 no_bad_limit (Some digits) None bad is = is
 no_bad_limit (Some digits) (Some n) bad is = bad n is
 
+-- a size that is read is a numeral
+no_bad_number : (given : Option Text) (size : Option ℕ) → HasBadNumber given → IsSize given size → ⊥
+no_bad_number None size bad is = bad
+no_bad_number (Some digits) None bad is = is
+no_bad_number (Some digits) (Some n) bad is = bad is.0
+
 not_both : (name : Text) (rows : List Row) (job : Job) → Refuses name rows → IsJob name rows job → ⊥
 not_both name rows (Check types details) (other, bad) (is, typed, detailed) = other is
-not_both name rows (Show r) (other, inl (word, among, bad)) (named, is, read, asked, held_so, bound, flagged, detailed) =
+not_both name rows (Show r) (other, inl (word, among, bad)) (named, is, read, shared, asked, held_so, bound, flagged, detailed) =
     let size = size_of (values_of (codes "NAME=SIZE") rows) r.sizes word read among in bad size.0 size.1
-not_both name rows (Show r) (other, inr bad) (named, is, read, asked, held_so, bound, flagged, detailed) =
+not_both name rows (Show r) (other, inr (inl bad)) (named, is, read, shared, asked, held_so, bound, flagged, detailed) =
+    no_bad_number (first_of (codes "size") rows) r.size bad shared
+not_both name rows (Show r) (other, inr (inr bad)) (named, is, read, shared, asked, held_so, bound, flagged, detailed) =
     no_bad_limit (first_of (codes "limit") rows) r.limit bad bound
 
 pub refused_ask_no_work : (words : List Text) (file : Text) (job : Job) → IsRefused words → IsAsked words (Work file job) → ⊥

@@ -1,4 +1,4 @@
--- The command line, as the literals that `clap` reads words by: `--version`, `check [-t] [--details] FILE` and `show [--after TEXT] [--with TEXT] [--limit N] [--tests] [--details] FILE SCHEMA [NAME=SIZE]...`.
+-- The command line, as the literals that `clap` reads words by: `--version`, `check [-t] [--details] FILE` and `show [--after TEXT] [--with TEXT] [--size N] [--limit N] [--tests] [--details] FILE SCHEMA [NAME=SIZE]...`.
 use Rattle.std.specs.Prelude.{◌≡◌, Some, codes, true, false}
 use Rattle.clap.specs.Words.{App, Rule, Text, app_of, new_app, new_rule, rule_of, with_rule, with_subcommand}
 use Rattle.clap.specs.declared.builder.ArgAction.TheVariants.{Append, SetTrue}
@@ -37,9 +37,9 @@ check_app = with_rule (with_rule (with_rule (new_app (codes "check")) types_rule
 -- the options of `show`
 abbrev pub show_options : App
 show_options =
-    with_rule (with_rule (with_rule (with_rule (with_rule (new_app (codes "show")) (option_rule (codes "after"))) (option_rule (codes "with"))) (option_rule (codes "limit"))) tests_rule) details_rule
+    with_rule (with_rule (with_rule (with_rule (with_rule (with_rule (new_app (codes "show")) (option_rule (codes "after"))) (option_rule (codes "with"))) (option_rule (codes "size"))) (option_rule (codes "limit"))) tests_rule) details_rule
 
--- `show [--after TEXT] [--with TEXT] [--limit N] [--tests] [--details] FILE SCHEMA [NAME=SIZE]...`
+-- `show [--after TEXT] [--with TEXT] [--size N] [--limit N] [--tests] [--details] FILE SCHEMA [NAME=SIZE]...`
 abbrev pub show_app : App
 show_app = with_rule (with_rule (with_rule show_options (required_rule (codes "FILE"))) (required_rule (codes "SCHEMA"))) sizes_rule
 

@@ -45,6 +45,16 @@ IsBadSize word = (size : Size) → ReadsSize word size → ⊥
 abbrev pub HasBadSize : List Text → Type 0
 HasBadSize words = (word : Text) × Contains words word × IsBadSize word
 
+-- the size of the option's value, where it was given
+abbrev pub IsSize : Option Text → Option ℕ → Type 0
+IsSize None size = size ≡ None
+IsSize (Some digits) size = IsSomeAnd size (ReadsNumber digits)
+
+-- it was given, and is no numeral
+abbrev pub HasBadNumber : Option Text → Type 0
+HasBadNumber None = ⊥
+HasBadNumber (Some digits) = ¬ (IsNumeral 10 digits)
+
 -- the digits spell a limit
 abbrev pub ReadsLimit : Text → ℕ → Type 0
 ReadsLimit digits n = ReadsNumber digits n × (1 ≤ n) × (n ≤ LIMIT_MAX)
@@ -66,7 +76,7 @@ abbrev pub IsJob : Text → List Row → Job → Type 0
 IsJob name rows (Check types details) = (name ≡ codes "check") × (types ≡ is_flagged (codes "types") rows) × (details ≡ is_flagged (codes "details") rows)
 IsJob name rows (Show r) =
     (name ≢ codes "check") × (r.name ≡ value_of (codes "SCHEMA") rows) × AllZip ReadsSize (values_of (codes "NAME=SIZE") rows) r.sizes
-    × (r.after ≡ first_of (codes "after") rows) × (r.held ≡ first_of (codes "with") rows) × IsLimit (first_of (codes "limit") rows) r.limit
+    × IsSize (first_of (codes "size") rows) r.size × (r.after ≡ first_of (codes "after") rows) × (r.held ≡ first_of (codes "with") rows) × IsLimit (first_of (codes "limit") rows) r.limit
     × (r.tests ≡ is_flagged (codes "tests") rows) × (r.details ≡ is_flagged (codes "details") rows)
 
 -- the matches of the subcommand of this name ask for the work
@@ -74,9 +84,9 @@ abbrev pub Asks : Text → List Row → Asked → Type 0
 Asks name rows (Work file job) = (file ≡ value_of (codes "FILE") rows) × IsJob name rows job
 Asks name rows (About text) = ⊥
 
--- the subcommand is `show`, and a size word among its matches has another form, or the limit has
+-- the subcommand is `show`, and a size word among its matches has another form, or the size or the limit has
 abbrev pub Refuses : Text → List Row → Type 0
-Refuses name rows = (name ≢ codes "check") × (HasBadSize (values_of (codes "NAME=SIZE") rows) ⊎ HasBadLimit (first_of (codes "limit") rows))
+Refuses name rows = (name ≢ codes "check") × (HasBadSize (values_of (codes "NAME=SIZE") rows) ⊎ HasBadNumber (first_of (codes "size") rows) ⊎ HasBadLimit (first_of (codes "limit") rows))
 
 -- `clap` takes the words, which name this subcommand, and the rows are its matches
 abbrev pub AreMatches : List Text → Text → List Row → Type 0
@@ -91,6 +101,6 @@ IsAsked words (Work file job) = (name : Text) × (rows : List Row) × AreMatches
 abbrev pub IsRefusedByClap : List Text → Type 0
 IsRefusedByClap words = (cause : ErrorKind) × IsAmong cause (fault_of zf_app words) × (cause ≢ OutOfMemory) × (cause ≢ DisplayHelp) × (cause ≢ DisplayVersion)
 
--- the words are refused: by `clap`, or since a size word or the limit among its matches has another form
+-- the words are refused: by `clap`, or since a size word, the size or the limit among its matches has another form
 abbrev pub IsRefused : List Text → Type 0
 IsRefused words = IsRefusedByClap words ⊎ ((name : Text) × (rows : List Row) × AreMatches words name rows × Refuses name rows)

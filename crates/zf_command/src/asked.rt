@@ -2,14 +2,14 @@
 ghost use Rattle.std.specs.Prelude.{◌≡◌, IfOk, IsErrOf, codes, map};
 ghost use Rattle.std.specs.List.{AllZip};
 ghost use Rattle.clap.specs.Words.{found_of, first_of, rows_of};
-ghost use Rattle.zf_command.specs.Jobs.{IsAsked, IsRefused, IsJob, IsLimit, Asks, Refuses, ReadsSize, HasBadSize, HasBadLimit, values_of};
+ghost use Rattle.zf_command.specs.Jobs.{IsAsked, IsRefused, IsJob, IsLimit, Asks, Refuses, IsSize, ReadsSize, HasBadSize, HasBadNumber, HasBadLimit, values_of};
 ghost use Rattle.zf_command.specs.declared.job.UsageFault.TheVariants.{BadWords};
 
 use crate::command::zf;
 use crate::job::{Asked, Job, Request, Size, UsageFault};
 use crate::limit::limit_of;
 use crate::matches::{all_in, first_in, is_flagged, option_in, value_in};
-use crate::sizes::sizes_of;
+use crate::sizes::{shared_size_of, sizes_of};
 use clap::ArgMatches;
 use clap::error::ErrorKind;
 use std::alloc::Global;
@@ -63,6 +63,7 @@ fn job_in(alloc: Global, name: &str, matches: &ArgMatches<'_>) -> Result<Job, Us
     }
     let schema = value_in(alloc, matches, "SCHEMA")?;
     let sizes = sizes_in(alloc, matches)?;
+    let size = shared_size_in(matches)?;
     let after = option_in(alloc, matches, "after")?;
     let held = option_in(alloc, matches, "with")?;
     let limit = limit_in(matches)?;
@@ -71,6 +72,7 @@ fn job_in(alloc: Global, name: &str, matches: &ArgMatches<'_>) -> Result<Job, Us
     Ok(Job::Show(Request {
         name: schema,
         sizes,
+        size,
         after,
         held,
         limit,
@@ -85,6 +87,13 @@ fn sizes_in(alloc: Global, matches: &ArgMatches<'_>) -> Result<Items<Size>, Usag
 {
     let words = all_in(matches, "NAME=SIZE").unwrap_or(&[]);
     sizes_of(alloc, words)
+}
+
+fn shared_size_in(matches: &ArgMatches<'_>) -> Result<Option<u64>, UsageFault>
+    ensures read { IfOk result (λ size. IsSize (first_of (codes "size") (rows_of (found_of matches.now))) size) }
+    ensures refused { IsErrOf result BadWords → HasBadNumber (first_of (codes "size") (rows_of (found_of matches.now))) }
+{
+    shared_size_of(first_in(matches, "size"))
 }
 
 fn limit_in(matches: &ArgMatches<'_>) -> Result<Option<u64>, UsageFault>

@@ -43,7 +43,7 @@ fn check_command<'a>(alloc: Global) -> Result<Command<'a>, AllocError>
     Ok(command)
 }
 
-/// `show [--after TEXT] [--with TEXT] [--limit N] [--tests] [--details] FILE SCHEMA [NAME=SIZE]...`
+/// `show [--after TEXT] [--with TEXT] [--size N] [--limit N] [--tests] [--details] FILE SCHEMA [NAME=SIZE]...`
 fn show_command<'a>(alloc: Global) -> Result<Command<'a>, AllocError>
     ensures { IfOk result (λ c. IsCommand c show_app) }
 {
@@ -51,6 +51,7 @@ fn show_command<'a>(alloc: Global) -> Result<Command<'a>, AllocError>
         .about("Writes the bindings of a schema, one a line")
         .arg(after_arg(alloc))?
         .arg(with_arg(alloc))?
+        .arg(size_arg(alloc))?
         .arg(limit_arg(alloc))?
         .arg(tests_arg(alloc))?
         .arg(details_arg(alloc))?
@@ -94,6 +95,15 @@ fn with_arg<'a>(alloc: Global) -> Arg<'a>
     Arg::new(alloc, "with").long("with").value_name("TEXT").help(
         "Writes only the bindings in which some components have these values, a line of only these components",
     )
+}
+
+fn size_arg<'a>(alloc: Global) -> Arg<'a>
+    ensures { IsArg result (option_rule (codes "size")) }
+{
+    Arg::new(alloc, "size")
+        .long("size")
+        .value_name("N")
+        .help("The size of each given set without a word of its own")
 }
 
 fn limit_arg<'a>(alloc: Global) -> Arg<'a>

@@ -19,6 +19,8 @@ pub struct Request {
     pub name: Word,
     /// The sizes of the given sets.
     pub sizes: Items<Size>,
+    /// The size of each other given set.
+    pub size: Option<u64>,
     /// The line of the binding after which it begins.
     pub after: Option<Word>,
     /// The line of some components, whose values are held.
