@@ -1,6 +1,7 @@
 -- Each request has an answer: it is refused at a stage, or what is asked for is searched.
-use Rattle.zf_answers.proofs.Prelude.{if◌then◌else◌, ◌++◌, ◌+◌, ◌∙◌, ◌∷◌, ◌≡◌, ◌⊎◌, [], ap, Bool, false, inl, inr, IsTrue, List, None, Option, refl, Some, subst, sym, true, ℕ, none-some, same_Some, AllByRecursion, flat_map, Value, BoxTree, TextFault, ReadsSource, RefusesSource, abbreviation, Comp, constructor, Defined, Definition, free_type, given_set, Schema, schema, sets_of, Fault, first, finite_without_cause, causes, NotFinite, one_bounds, Environment, AreComplete, given_sets, spellings, Portion, portion, IsNoneOut, Job, Check, Show, HasLimit, IsBelow, binding_line, Status, BadRequest, BadSpec, PastBounds, some_search, some_tests_line, Answer, AreHeld, check_status, check_text, Checks, HasSchema, IsAsked, IsLimited, IsNamed, IsNamedRow, IsSearch, JobAnswer, Request, ShowAnswer, size_fault_line, stated, wants_details, declared_out_line, no_schema_line, not_a_binding_line, not_finite_lines, not_held_line, text_fault_lines, type_fault_lines, EveryRequestIsAnswered, EverySourceIsRead}
+use Rattle.zf_answers.proofs.Prelude.{if◌then◌else◌, ◌++◌, ◌+◌, ◌∙◌, ◌∷◌, ◌≡◌, ◌⊎◌, [], ap, Bool, false, inl, inr, IsTrue, List, None, Option, refl, Some, subst, sym, true, ℕ, none-some, same_Some, AllByRecursion, Value, BoxTree, TextFault, ReadsSource, RefusesSource, abbreviation, Comp, constructor, Defined, Definition, free_type, given_set, Schema, schema, sets_of, Fault, first, finite_without_cause, causes, NotFinite, one_bounds, Environment, AreComplete, given_sets, spellings, Portion, portion, IsNoneOut, Job, Check, Show, HasLimit, IsBelow, binding_line, Status, BadRequest, BadSpec, PastBounds, some_search, some_tests_line, Answer, AreHeld, check_status, Checks, HasSchema, IsAsked, IsLimited, IsNamed, IsNamedRow, IsSearch, JobAnswer, Request, ShowAnswer, size_fault_lines, stated, wants_details, declared_out_line, no_schema_lines, not_a_binding_line, not_finite_lines, not_held_line, Cited, text_fault_lines, EveryRequestIsAnswered, EverySourceIsRead}
 use Rattle.std.specs.Str.{bytes_eq}
+use Rattle.zf_schema.specs.Listing.{listing}
 use Rattle.zf_term.specs.FirstNamed.{first_named, later}
 use Rattle.zf_term.proofs.SameNames.{is_same}
 use Rattle.zf_answers.proofs.HeldLines.{every_held_line_is_judged}
@@ -9,6 +10,7 @@ use Rattle.zf_found.proofs.Ranges.{first_out_or_none, some_ranges}
 use Rattle.zf_total.proofs.Environments.{some_environment}
 use Rattle.zf_total.proofs.StatedSizes.{complete_or_refused}
 use Rattle.zf_verdicts.proofs.Items.{text_has_verdict}
+use Rattle.zf_answers.proofs.FaultLines.{some_lines}
 
 -- ---- the name
 
@@ -83,30 +85,32 @@ module _ (r : Request) (file source : List ℕ) (limited : IsBelow r.limit 0) wh
           | inr none ↦ (not_a_binding_line 0, BadRequest, ShowAnswer.not_a_binding g a e 0 asked none refl refl)
         ]
 
-      some_at_finiteness : HasSchema source r.name g a → AreComplete (given_sets g) (stated r.sizes) → IsShown r file source
+      some_at_finiteness : HasSchema source r.name g a → AreComplete (given_sets g) (stated g r) → IsShown r file source
       some_at_finiteness has complete = by (causes g a) refl
         where
           by : (them : List NotFinite) → causes g a ≡ them → IsShown r file source
           by [] none =
-              let e = some_environment g (stated r.sizes) complete in
+              let e = some_environment g (stated g r) complete in
               some_at_row e.0 (record { has_schema = has; complete = complete; environment = e.1; finite = (finite_without_cause g a).1 none })
           by (cause ∷ them) some = (not_finite_lines r.details file g cause, BadSpec, ShowAnswer.not_finite g a cause has complete (ap first some) refl refl)
 
       some_at_sizes : HasSchema source r.name g a → IsShown r file source
-      some_at_sizes has = elim (complete_or_refused (given_sets g) (stated r.sizes)) [
+      some_at_sizes has = elim (complete_or_refused (given_sets g) (stated g r)) [
         | inl complete ↦ some_at_finiteness has complete
-        | inr bad ↦ (size_fault_line bad.0, BadRequest, ShowAnswer.bad_sizes g a bad.0 has bad.1 bad.2 refl refl)
+        | inr bad ↦ (size_fault_lines r.details g (stated g r) bad.0, BadRequest, ShowAnswer.bad_sizes g a bad.0 has bad.1 bad.2 refl refl)
       ]
 
     some_at_schema : Checks source g [] → IsShown r file source
     some_at_schema checks = elim (named_or_none g r.name) [
       | inl named ↦ some_at_sizes named.0 (record { checks = checks; named = named.1 })
-      | inr none ↦ (no_schema_line r.name, BadRequest, ShowAnswer.no_schema g checks none refl refl)
+      | inr none ↦ (no_schema_lines r.details g r.name, BadRequest, ShowAnswer.no_schema g checks none refl refl)
     ]
 
   some_at_types : (g : List Defined) (faults : List Fault) → Checks source g faults → IsShown r file source
   some_at_types g [] checks = some_at_schema g checks
-  some_at_types g (fault ∷ faults) checks = (flat_map (type_fault_lines r.details file) (fault ∷ faults), BadSpec, ShowAnswer.ill_typed g (fault ∷ faults) checks (λ none. cc) refl refl)
+  some_at_types g (fault ∷ faults) checks =
+      let some = some_lines r.details file (fault ∷ faults) in
+      (some.0, BadSpec, ShowAnswer.ill_typed g (fault ∷ faults) checks (λ none. cc) some.1 refl)
 
 -- ---- answers of a job
 
@@ -116,7 +120,9 @@ limited_of (Some limit) h = h
 
 some_of_job : (job : Job) (file source : List ℕ) → IsLimited job → (g : List Defined) (faults : List Fault) → Checks source g faults
     → (text : List ℕ) × (status : Status) × JobAnswer job file source text status
-some_of_job (Check types details) file source limited g faults checks = (check_text types details file g faults, check_status faults, (g, faults, checks, refl, refl))
+some_of_job (Check types details) file source limited g faults checks =
+    let some = some_lines details file faults in
+    (some.0 ++ (if types then listing g else []), check_status faults, (g, faults, checks, (some.0, some.1, refl), refl))
 some_of_job (Show r) file source limited g faults checks = some_at_types r file source (limited_of r.limit limited) g faults checks
 
 pub every_request_is_answered : EverySourceIsRead → EveryRequestIsAnswered
@@ -127,4 +133,6 @@ every_request_is_answered every_source job file source limited = by (every_sourc
         let judged = text_has_verdict read.0 in
         let answer = some_of_job job file source limited judged.0 judged.1 (record { boxes = read.0; reads = read.1; judged = judged.2 }) in
         (answer.0, answer.1, inr answer.2)
-    by (inr refused) = (text_fault_lines (wants_details job) file refused.0 [], BadSpec, inl (refused.0, [], refused.1, refl, refl))
+    by (inr refused) =
+        let none : Cited = record { symbol = []; other = []; line = 0 } in
+        (text_fault_lines (wants_details job) file refused.0 none, BadSpec, inl (refused.0, none, refused.1, refl, refl))

@@ -6,6 +6,7 @@ pub mod OneRefusal
 pub mod OneSource
 pub mod OneSearch
 pub mod Stages
+pub mod FaultLines
 pub mod OneAnswer
 pub mod Shown
 pub mod EverySource

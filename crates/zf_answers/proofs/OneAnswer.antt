@@ -1,11 +1,12 @@
 -- Two answers of one job on one source have one status, and one text but for what is left open.
-use Rattle.zf_answers.proofs.Prelude.{if◌then◌else◌, ◌++◌, ◌∙◌, ◌∷◌, ◌≡◌, [], ap, Bool, inl, inr, List, None, Option, Some, subst, sym, ℕ, same_Some, flat_map, slice_get, Value, Comp, Defined, Schema, Fault, Environment, IsEnvironment, AreComplete, given_sets, Portion, portion, Job, Check, Show, Status, Answer, AreHeld, check_status, check_text, CheckAnswer, Checks, HoldsNoValues, IsNamedRow, JobAnswer, NamesNoRow, Request, size_fault_line, stated, UnreadAnswer, wants_details, declared_out_line, not_finite_lines, type_fault_lines, AreAlike, AreOfSame, OneStatus, OneText}
+use Rattle.zf_answers.proofs.Prelude.{if◌then◌else◌, ◌++◌, ◌∙◌, ◌∷◌, ◌≡◌, [], ap, Bool, inl, inr, List, None, Option, Some, subst, sym, ℕ, same_Some, slice_get, Value, Comp, Defined, Schema, Fault, Environment, IsEnvironment, AreComplete, given_sets, Portion, portion, Job, Check, Show, Status, Answer, AreHeld, check_status, CheckAnswer, Checks, HoldsNoValues, IsNamedRow, JobAnswer, NamesNoRow, Request, size_fault_lines, stated, UnreadAnswer, wants_details, declared_out_line, not_finite_lines, AreAlike, AreOfSame, OneStatus, OneText, AreLines}
 use Rattle.std.proofs.lemmas.List.{append-nil}
 use Rattle.zf_schema.specs.Listing.{listing}
 use Rattle.zf_answers.proofs.OneSource.{none_and_some, one_checked, one_named, one_refused, some_and_none, unread}
 use Rattle.zf_answers.proofs.OneSearch.{clear_at, not_infinite, one_environment_at, one_first_out, one_held, one_named_row, one_shown}
 use Rattle.zf_answers.proofs.OneRefusal.{none_refused, one_refusal}
 use Rattle.zf_answers.proofs.Stages.{AtFiniteness, AtHeldValues, AtNamedRow, AtSchema, AtSearch, AtSizes, AtTypes, staged}
+use Rattle.zf_answers.proofs.FaultLines.{lines_of_none}
 
 -- one status, and texts that are alike
 abbrev IsOne : (details : Bool) → (file source one two : List ℕ) → (s t : Status) → Type 0
@@ -27,8 +28,8 @@ no_held_values e comps (Some text) held none are = none held are
 
 module _ (r : Request) (file source one two : List ℕ) (s t : Status) where
   module _ (g : List Defined) (checks : Checks source g []) where
-    module _ (a : Schema) (complete : AreComplete (given_sets g) (stated r.sizes)) where
-      module _ (e : Environment) (is : IsEnvironment g (stated r.sizes) e) where
+    module _ (a : Schema) (complete : AreComplete (given_sets g) (stated g r)) where
+      module _ (e : Environment) (is : IsEnvironment g (stated g r) e) where
         one_at_search : (p : Portion) → AtSearch r file source one s g a e p → AtSearch r file source two t g a e p → IsOne r.details file source one two s t
         one_at_search p (inl x) (inl y) =
             let place = one_first_out e a.comps x.place y.place x.first_out y.first_out in
@@ -43,7 +44,7 @@ module _ (r : Request) (file source one two : List ℕ) (s t : Status) where
         one_at_values after (inl x) (inr y) = absurd (no_held_values e a.comps r.held y.0 x.none y.1)
         one_at_values after (inr x) (inl y) = absurd (no_held_values e a.comps r.held x.0 y.none x.1)
         one_at_values after (inr x) (inr y) =
-            let held = one_held e a.comps r.held x.0 y.0 (clear_at source g [] (stated r.sizes) e checks complete is) x.1 y.1 in
+            let held = one_held e a.comps r.held x.0 y.0 (clear_at source g [] (stated g r) e checks complete is) x.1 y.1 in
             one_at_search (portion after y.0) (subst (λ values. AtSearch r file source one s g a e (portion after values)) held x.2) y.2
 
         one_at_row : AtNamedRow r file source one s g a e → AtNamedRow r file source two t g a e → IsOne r.details file source one two s t
@@ -51,7 +52,7 @@ module _ (r : Request) (file source one two : List ℕ) (s t : Status) where
         one_at_row (inl x) (inr y) = absurd (no_named_row e a.comps r.after y.0 x.none y.1)
         one_at_row (inr x) (inl y) = absurd (no_named_row e a.comps r.after x.0 y.none x.1)
         one_at_row (inr x) (inr y) =
-            let row = one_named_row e a.comps r.after x.0 y.0 (clear_at source g [] (stated r.sizes) e checks complete is) x.1 y.1 in
+            let row = one_named_row e a.comps r.after x.0 y.0 (clear_at source g [] (stated g r) e checks complete is) x.1 y.1 in
             one_at_values y.0 (subst (AtHeldValues r file source one s g a e) row x.2) y.2
 
       one_at_finiteness : AtFiniteness r file source one s g a → AtFiniteness r file source two t g a → IsOne r.details file source one two s t
@@ -63,15 +64,15 @@ module _ (r : Request) (file source one two : List ℕ) (s t : Status) where
       one_at_finiteness (inr x) (inr y) =
           let u = x.1 in
           let v = y.1 in
-          let environment = one_environment_at g (stated r.sizes) u.0 v.0 complete u.1 v.1 in
+          let environment = one_environment_at g (stated g r) u.0 v.0 complete u.1 v.1 in
           one_at_row v.0 v.1 (subst (AtNamedRow r file source one s g a) environment u.2) v.2
 
     one_at_sizes : (a : Schema) → AtSizes r file source one s g a → AtSizes r file source two t g a → IsOne r.details file source one two s t
     one_at_sizes a (inl x) (inl y) =
-        let fault = one_refusal (given_sets g) (stated r.sizes) x.fault y.fault x.some y.some x.refused y.refused in
-        of_same r.details file source one two s t (x.bad ∙ sym y.bad) (x.told ∙ ap size_fault_line fault ∙ sym y.told)
-    one_at_sizes a (inl x) (inr y) = absurd (none_refused (given_sets g) (stated r.sizes) x.fault y.0 x.some x.refused)
-    one_at_sizes a (inr x) (inl y) = absurd (none_refused (given_sets g) (stated r.sizes) y.fault x.0 y.some y.refused)
+        let fault = one_refusal (given_sets g) (stated g r) x.fault y.fault x.some y.some x.refused y.refused in
+        of_same r.details file source one two s t (x.bad ∙ sym y.bad) (x.told ∙ ap (size_fault_lines r.details g (stated g r)) fault ∙ sym y.told)
+    one_at_sizes a (inl x) (inr y) = absurd (none_refused (given_sets g) (stated g r) x.fault y.0 x.some x.refused)
+    one_at_sizes a (inr x) (inl y) = absurd (none_refused (given_sets g) (stated g r) y.fault x.0 y.some y.refused)
     one_at_sizes a (inr x) (inr y) = one_at_finiteness a y.0 x.1 y.1
 
     one_at_schema : AtSchema r file source one s g → AtSchema r file source two t g → IsOne r.details file source one two s t
@@ -84,8 +85,8 @@ module _ (r : Request) (file source one two : List ℕ) (s t : Status) where
   one_at_types (inl x) (inl y) =
       let c = one_checked source x.globals y.globals x.faults y.faults x.checks y.checks in (
         x.bad ∙ sym y.bad,
-        AreAlike.types y.globals x.faults y.faults [] (subst (λ h. Checks source h x.faults) c.0 x.checks) y.checks x.some c.1
-            (x.told ∙ sym (append-nil (flat_map (type_fault_lines r.details file) x.faults))) (y.told ∙ sym (append-nil (flat_map (type_fault_lines r.details file) y.faults))),
+        AreAlike.types y.globals x.faults y.faults one two [] (subst (λ h. Checks source h x.faults) c.0 x.checks) y.checks x.some c.1 x.told y.told
+            (sym (append-nil one)) (sym (append-nil two)),
       )
   one_at_types (inl x) (inr y) = absurd (some_and_none x.faults x.some (one_checked source x.globals y.0 x.faults [] x.checks y.1).1)
   one_at_types (inr x) (inl y) = absurd (none_and_some y.faults y.some (one_checked source x.0 y.globals [] y.faults x.1 y.checks).1)
@@ -93,25 +94,29 @@ module _ (r : Request) (file source one two : List ℕ) (s t : Status) where
 
 -- ---- answers of `check`
 
-alike_faults : (details : Bool) (file source : List ℕ) (g : List Defined) (es fs : List Fault) (listed one two : List ℕ) (s t : Status) → Checks source g es → Checks source g fs → AreOfSame es fs
-    → one ≡ flat_map (type_fault_lines details file) es ++ listed → two ≡ flat_map (type_fault_lines details file) fs ++ listed → s ≡ check_status es → t ≡ check_status fs → IsOne details file source one two s t
-alike_faults details file source g [] [] listed one two s t p q same told other_told done other_done = of_same details file source one two s t (done ∙ sym other_done) (told ∙ sym other_told)
-alike_faults details file source g [] (f ∷ fs) listed one two s t p q same told other_told done other_done = absurd same
-alike_faults details file source g (e ∷ es) [] listed one two s t p q same told other_told done other_done = absurd same
-alike_faults details file source g (e ∷ es) (f ∷ fs) listed one two s t p q same told other_told done other_done = (done ∙ sym other_done, AreAlike.types g (e ∷ es) (f ∷ fs) listed p q (λ none. cc) same told other_told)
+alike_faults : (details : Bool) (file source : List ℕ) (g : List Defined) (es fs : List Fault) (ones twos listed one two : List ℕ) (s t : Status) → Checks source g es → Checks source g fs
+    → AreOfSame es fs → AreLines details file es ones → AreLines details file fs twos → one ≡ ones ++ listed → two ≡ twos ++ listed → s ≡ check_status es → t ≡ check_status fs
+    → IsOne details file source one two s t
+alike_faults details file source g [] [] ones twos listed one two s t p q same are other_are told other_told done other_done =
+    let none = lines_of_none details file ones are ∙ sym (lines_of_none details file twos other_are) in
+    of_same details file source one two s t (done ∙ sym other_done) (told ∙ ap (λ ls. ls ++ listed) none ∙ sym other_told)
+alike_faults details file source g [] (f ∷ fs) ones twos listed one two s t p q same are other_are told other_told done other_done = absurd same
+alike_faults details file source g (e ∷ es) [] ones twos listed one two s t p q same are other_are told other_told done other_done = absurd same
+alike_faults details file source g (e ∷ es) (f ∷ fs) ones twos listed one two s t p q same are other_are told other_told done other_done =
+    (done ∙ sym other_done, AreAlike.types g (e ∷ es) (f ∷ fs) ones twos listed p q (λ none. cc) same are other_are told other_told)
 
 one_check_answer : (types details : Bool) (file source one two : List ℕ) (s t : Status) → CheckAnswer types details file source one s → CheckAnswer types details file source two t → IsOne details file source one two s t
-one_check_answer types details file source one two s t (g, es, p, told, done) (h, fs, q, other_told, other_done) =
+one_check_answer types details file source one two s t (g, es, p, (ones, are, told), done) (h, fs, q, (twos, other_are, other_told), other_done) =
     let c = one_checked source g h es fs p q in
-    alike_faults details file source h es fs (if types then listing h else []) one two s t (subst (λ h. Checks source h es) c.0 p) q c.1
-    (told ∙ ap (λ h. check_text types details file h es) c.0) other_told done other_done
+    alike_faults details file source h es fs ones twos (if types then listing h else []) one two s t (subst (λ h. Checks source h es) c.0 p) q c.1 are other_are
+    (told ∙ ap (λ h. ones ++ (if types then listing h else [])) c.0) other_told done other_done
 
 -- ---- answers of a job
 
 -- what is read is not refused
 read_unread : (job : Job) (file source one two : List ℕ) (s t : Status) → UnreadAnswer (wants_details job) file source one s → JobAnswer job file source two t → ⊥
-read_unread (Check types details) file source one two s t (fault, symbol, refused, told, bad) (g, es, p, other_told, done) = unread source fault p.boxes refused p.reads
-read_unread (Show r) file source one two s t (fault, symbol, refused, told, bad) answer =
+read_unread (Check types details) file source one two s t (fault, about, refused, told, bad) (g, es, p, are, done) = unread source fault p.boxes refused p.reads
+read_unread (Show r) file source one two s t (fault, about, refused, told, bad) answer =
     go (staged r file source two t answer)
   where
     go : AtTypes r file source two t → ⊥

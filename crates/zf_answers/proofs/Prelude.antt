@@ -65,9 +65,10 @@ pub use Rattle.zf_lines.specs.declared.fault.Status.{Status}
 pub use Rattle.zf_lines.specs.declared.fault.Status.TheVariants.{BadRequest, BadSpec, PastBounds}
 pub use Rattle.zf_found.proofs.Rows.{AreTold, one_truth_of}
 pub use Rattle.zf_found.proofs.Searches.{property_told, some_search, some_tests_line}
-pub use Rattle.zf_engine.specs.Answers.{Answer, AreHeld, check_status, check_text, CheckAnswer, Checks, HasSchema, HoldsNoValues, IsAsked, IsLimited, IsLineOf, IsNamed, IsNamedRow, IsSearch, JobAnswer, JobBegins, NamesNoRow, ShowAnswer, ShowBegins, size_fault_line, stated, UnreadAnswer, wants_details}
-pub use Rattle.zf_engine.specs.Details.{not_finite_lines, text_fault_lines, type_fault_lines}
-pub use Rattle.zf_engine.specs.Texts.{declared_out_line, no_schema_line, not_a_binding_line, not_held_line}
+pub use Rattle.zf_engine.specs.Answers.{Answer, AreHeld, check_status, CheckAnswer, Checks, HasSchema, HoldsNoValues, IsAsked, IsLimited, IsLineOf, IsNamed, IsNamedRow, IsSearch, JobAnswer, JobBegins, NamesNoRow, ShowAnswer, ShowBegins, size_fault_lines, stated, UnreadAnswer, wants_details}
+pub use Rattle.zf_engine.specs.Details.{Cited, not_finite_lines, text_fault_lines, AreLines}
+pub use Rattle.zf_engine.specs.Missing.{no_schema_lines}
+pub use Rattle.zf_engine.specs.Texts.{declared_out_line, not_a_binding_line, not_held_line}
 pub use Rattle.zf_answers.specs.Bindings.{EndsLines, IsBefore, IsBinding, IsInDoubt, IsNotPast, ShowsBindings}
 pub use Rattle.zf_answers.specs.Laws.{AnswersRequest, AreAlike, AreOfSame, EachBindingIsShown, EventsAreShown, EveryHeldLineIsJudged, EveryLineIsJudged, EveryRequestIsAnswered, EverySourceIsRead, IsGranted, IsShownInOneWay, OneStatus, OneText, ShowsEvents}
 pub use Rattle.zf_answers.specs.Runs.{FirstLinesAreAFront, limited, PartsAreFronts, resumed, RunsMakeOne, together}

@@ -26,7 +26,7 @@ module _ (r : Request) (file source : List ℕ) (g : List Defined) (a : Schema) 
       are_held None held none are = none
       are_held (Some text) held none are = none held are
   held_values (inr there) =
-      let clear = clear_at source g [] (stated r.sizes) e granted.has_schema.checks granted.complete granted.environment in
+      let clear = clear_at source g [] (stated g r) e granted.has_schema.checks granted.complete granted.environment in
       searched (subst (λ held. AtSearch r file source text status g a e (portion p.after held)) (one_held e a.comps r.held there.0 p.held clear there.1 granted.held) there.2)
 
   named_row : AtNamedRow r file source text status g a e → ShowsEvents r g a e p text status
@@ -37,17 +37,17 @@ module _ (r : Request) (file source : List ℕ) (g : List Defined) (a : Schema) 
       is_named (Some text) None none named = named
       is_named (Some text) (Some row) none named = none row named
   named_row (inr there) =
-      let clear = clear_at source g [] (stated r.sizes) e granted.has_schema.checks granted.complete granted.environment in
+      let clear = clear_at source g [] (stated g r) e granted.has_schema.checks granted.complete granted.environment in
       held_values (subst (AtHeldValues r file source text status g a e) (one_named_row e a.comps r.after there.0 p.after clear there.1 granted.named) there.2)
 
   finite : AtFiniteness r file source text status g a → ShowsEvents r g a e p text status
   finite (inl infinite) = absurd (not_infinite g a infinite.cause granted.finite infinite.first_cause)
   finite (inr ends) =
       let f = ends.1 in
-      named_row (subst (AtNamedRow r file source text status g a) (one_environment_at g (stated r.sizes) f.0 e granted.complete f.1 granted.environment) f.2)
+      named_row (subst (AtNamedRow r file source text status g a) (one_environment_at g (stated g r) f.0 e granted.complete f.1 granted.environment) f.2)
 
   sized : AtSizes r file source text status g a → ShowsEvents r g a e p text status
-  sized (inl bad) = absurd (none_refused (given_sets g) (stated r.sizes) bad.fault granted.complete bad.some bad.refused)
+  sized (inl bad) = absurd (none_refused (given_sets g) (stated g r) bad.fault granted.complete bad.some bad.refused)
   sized (inr fits) = finite fits.1
 
   schema_named : AtSchema r file source text status g → ShowsEvents r g a e p text status
@@ -59,7 +59,7 @@ module _ (r : Request) (file source : List ℕ) (g : List Defined) (a : Schema) 
   typed (inr well) = schema_named (subst (AtSchema r file source text status) (one_checked source well.0 g [] [] well.1 granted.has_schema.checks).0 well.2)
 
   shown : AnswersRequest r file source text status → ShowsEvents r g a e p text status
-  shown (inl (fault, symbol, refused, told, bad)) =
+  shown (inl (fault, about, refused, told, bad)) =
       let checks = granted.has_schema.checks in
       absurd (unread source fault checks.boxes refused checks.reads)
   shown (inr answer) = typed (staged r file source text status answer)

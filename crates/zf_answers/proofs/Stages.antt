@@ -1,5 +1,5 @@
 -- An answer of `show` by its stages: at each it is refused, or goes on with what the next one stands on.
-use Rattle.zf_answers.proofs.Prelude.{flat_map, slice_get, Value, Comp, Defined, Schema, Fault, first, causes, IsFinite, NotFinite, Environment, IsEnvironment, AreComplete, given_sets, IsRefusal, SizeFault, Portion, portion, IsFirstOut, IsNoneOut, Status, BadRequest, BadSpec, PastBounds, AreHeld, Checks, HoldsNoValues, IsNamed, IsNamedRow, NamesNoRow, Request, ShowAnswer, size_fault_line, stated, declared_out_line, no_schema_line, not_a_binding_line, not_finite_lines, not_held_line, type_fault_lines, ShowsEvents}
+use Rattle.zf_answers.proofs.Prelude.{slice_get, Value, Comp, Defined, Schema, Fault, first, causes, IsFinite, NotFinite, Environment, IsEnvironment, AreComplete, given_sets, IsRefusal, SizeFault, Portion, portion, IsFirstOut, IsNoneOut, Status, BadRequest, BadSpec, PastBounds, AreHeld, Checks, HoldsNoValues, IsNamed, IsNamedRow, NamesNoRow, Request, ShowAnswer, size_fault_lines, stated, declared_out_line, no_schema_lines, not_a_binding_line, not_finite_lines, not_held_line, ShowsEvents, AreLines}
 use Rattle.std.proofs.Common.{◌≡◌, ◌≢◌, ℕ, ◌⊎◌, List, [], Option, Some, inl, inr}
 use Rattle.zf_meaning.specs.declared.sizes.SizeFault.TheVariants as size_faults
 
@@ -11,19 +11,19 @@ module _ (r : Request) (file source text : List ℕ) (status : Status) where
     pub faults : List Fault
     pub checks : Checks source globals faults
     pub some : faults ≢ []
-    pub told : text ≡ flat_map (type_fault_lines r.details file) faults
+    pub told : AreLines r.details file faults text
     pub bad : status ≡ BadSpec
 
   pub record HasNoSchema (g : List Defined) : Type 0 where
     pub none : (a : Schema) → IsNamed g r.name a → ⊥
-    pub told : text ≡ no_schema_line r.name
+    pub told : text ≡ no_schema_lines r.details g r.name
     pub bad : status ≡ BadRequest
 
   pub record HasBadSizes (g : List Defined) : Type 0 where
     pub fault : SizeFault
-    pub refused : IsRefusal (given_sets g) (stated r.sizes) fault
+    pub refused : IsRefusal (given_sets g) (stated g r) fault
     pub some : fault ≢ size_faults.OutOfMemory
-    pub told : text ≡ size_fault_line fault
+    pub told : text ≡ size_fault_lines r.details g (stated g r) fault
     pub bad : status ≡ BadRequest
 
   pub record IsInfinite (g : List Defined) (a : Schema) : Type 0 where
@@ -65,10 +65,10 @@ module _ (r : Request) (file source text : List ℕ) (status : Status) where
   AtNamedRow g a e = HasNoRow a e ⊎ ((after : Option (List Value)) × IsNamedRow e a.comps r.after after × AtHeldValues g a e after)
 
   abbrev pub AtFiniteness : List Defined → Schema → Type 0
-  AtFiniteness g a = IsInfinite g a ⊎ (IsFinite g a × ((e : Environment) × IsEnvironment g (stated r.sizes) e × AtNamedRow g a e))
+  AtFiniteness g a = IsInfinite g a ⊎ (IsFinite g a × ((e : Environment) × IsEnvironment g (stated g r) e × AtNamedRow g a e))
 
   abbrev pub AtSizes : List Defined → Schema → Type 0
-  AtSizes g a = HasBadSizes g ⊎ (AreComplete (given_sets g) (stated r.sizes) × AtFiniteness g a)
+  AtSizes g a = HasBadSizes g ⊎ (AreComplete (given_sets g) (stated g r) × AtFiniteness g a)
 
   abbrev pub AtSchema : List Defined → Type 0
   AtSchema g = HasNoSchema g ⊎ ((a : Schema) × IsNamed g r.name a × AtSizes g a)

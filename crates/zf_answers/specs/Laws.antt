@@ -1,5 +1,5 @@
 -- What is claimed of the answers.
-use Rattle.std.specs.Prelude.{◌≡◌, ◌≢◌, ◌⊎◌, ℕ, Bool, List, [], ◌∷◌, ◌++◌, Option}
+use Rattle.std.specs.Prelude.{◌≡◌, ◌≢◌, ◌⊎◌, ℕ, Bool, false, List, [], ◌∷◌, ◌++◌, Option}
 use Rattle.std.specs.List.{flat_map}
 use Rattle.zf_command.specs.declared.job.Job.{Job}
 use Rattle.zf_command.specs.declared.job.Job.TheVariants.{Show}
@@ -25,8 +25,8 @@ use Rattle.zf_lines.specs.Searches.{HasEvents, IsTestsLine, IsWritten}
 use Rattle.zf_lines.specs.Texts.{binding_line}
 use Rattle.zf_command.specs.declared.job.Request.{Request}
 use Rattle.zf_engine.specs.Answers.{Answer, AreHeld, Checks, HasSchema, HoldsNoValues, IsLimited, IsNamedRow, NamesNoRow, stated, wants_details}
-use Rattle.zf_engine.specs.Details.{text_fault_lines, type_fault_lines}
-use Rattle.zf_engine.specs.Texts.{not_a_binding_line, not_held_line}
+use Rattle.zf_engine.specs.Details.{Cited, text_fault_lines, AreLines}
+use Rattle.zf_engine.specs.Texts.{not_a_binding_line, not_held_line, type_fault_line}
 use Rattle.zf_answers.specs.Bindings.{ShowsBindings}
 
 -- ---- what `show` answers
@@ -40,8 +40,8 @@ AnswersRequest r file source text status = Answer (Show r) file source text stat
 -- components is given, and no declared set is out.
 pub record IsGranted (r : Request) (source : List ℕ) (globals : List Defined) (a : Schema) (e : Environment) (p : Portion) : Type 0 where
   pub has_schema : HasSchema source r.name globals a
-  pub complete : AreComplete (given_sets globals) (stated r.sizes)
-  pub environment : IsEnvironment globals (stated r.sizes) e
+  pub complete : AreComplete (given_sets globals) (stated globals r)
+  pub environment : IsEnvironment globals (stated globals r) e
   pub finite : IsFinite globals a
   pub named : IsNamedRow e a.comps r.after p.after
   pub held : AreHeld e a.comps r.held p.held
@@ -85,12 +85,12 @@ OneStatus = (job : Job) (file source one two : List ℕ) (s t : Status) → Answ
 -- the text tells that no tree reads the source, or none that is low enough
 pub record TellsGrammar (details : Bool) (file source text : List ℕ) : Type 0 where
   pub fault : TextFault
-  pub symbol : List ℕ
+  pub about : Cited
   pub tokens : List Token
   pub cut : IsCutInto source tokens
   pub kind : IsGrammarFault fault.kind
   pub refused : RefusesTokens fault.kind fault.line tokens
-  pub told : text ≡ text_fault_lines details file fault symbol
+  pub told : text ≡ text_fault_lines details file fault about
 
 -- as many faults in both, and those at one place are offences of one paragraph or box
 abbrev pub AreOfSame : List Fault → List Fault → Type 0
@@ -99,21 +99,25 @@ AreOfSame [] (f ∷ fs) = ⊥
 AreOfSame (e ∷ es) [] = ⊥
 AreOfSame (e ∷ es) (f ∷ fs) = ((g : List Defined) × (item : Item) × OffendsItem g item e.offence e.line × OffendsItem g item f.offence f.line) × AreOfSame es fs
 
--- Two texts are one, or differ in what is left open: which fault of the grammar an unread source has, which symbol a fault of it is about, which offence of
--- an ill typed paragraph is told, and the byte at which a text is no binding, or no line of some components.
+-- Two texts are one, or differ in what is left open: which fault of the grammar an unread source has, which symbols a fault of it is about, which offence of
+-- an ill typed paragraph is told and what is reported beside it, and the byte at which a text is no binding, or no line of some components.
 pub data AreAlike (details : Bool) (file source one two : List ℕ) : Type 0 where
   same : one ≡ two → AreAlike details file source one two
-  symbol : (fault : TextFault) (first second : List ℕ) → RefusesSource source fault → one ≡ text_fault_lines details file fault first
+  symbols : (fault : TextFault) (first second : Cited) → RefusesSource source fault → one ≡ text_fault_lines details file fault first
       → two ≡ text_fault_lines details file fault second → AreAlike details file source one two
   grammar : TellsGrammar details file source one → TellsGrammar details file source two → AreAlike details file source one two
-  types : (globals : List Defined) (first second : List Fault) (listed : List ℕ) → Checks source globals first → Checks source globals second → first ≢ [] → AreOfSame first second
-      → one ≡ flat_map (type_fault_lines details file) first ++ listed → two ≡ flat_map (type_fault_lines details file) second ++ listed → AreAlike details file source one two
+  types : (globals : List Defined) (first second : List Fault) (ones twos listed : List ℕ) → Checks source globals first → Checks source globals second → first ≢ []
+      → AreOfSame first second → AreLines details file first ones → AreLines details file second twos → one ≡ ones ++ listed → two ≡ twos ++ listed → AreAlike details file source one two
   no_binding : (first second : ℕ) → one ≡ not_a_binding_line first → two ≡ not_a_binding_line second → AreAlike details file source one two
   no_values : (first second : ℕ) → one ≡ not_held_line first → two ≡ not_held_line second → AreAlike details file source one two
 
 -- A source has one text for a job, but for what is left open.
 abbrev pub OneText : Type 0
 OneText = (job : Job) (file source one two : List ℕ) (s t : Status) → Answer job file source one s → Answer job file source two t → AreAlike (wants_details job) file source one two
+
+-- Without details nothing is reported beside an offence: each fault has its line, and no more.
+abbrev pub PlainLines : Type 0
+PlainLines = (file : List ℕ) (faults : List Fault) (lines : List ℕ) → AreLines false file faults lines → lines ≡ flat_map (type_fault_line file) faults
 
 -- ---- what is always one of two
 

@@ -1,7 +1,7 @@
 //! Laws over what is answered, above the answers of the engine: each source has one answer, and that of `show` has each binding once.
 #![tactic(auto)]
 
-ghost use Rattle.zf_answers.specs.Laws.{EachBindingIsShown, EventsAreShown, EveryHeldLineIsJudged, EveryLineIsJudged, EveryRequestIsAnswered, EverySourceIsRead, IsShownInOneWay, OneStatus, OneText};
+ghost use Rattle.zf_answers.specs.Laws.{EachBindingIsShown, EventsAreShown, EveryHeldLineIsJudged, EveryLineIsJudged, EveryRequestIsAnswered, EverySourceIsRead, IsShownInOneWay, OneStatus, OneText, PlainLines};
 ghost use Rattle.zf_answers.specs.Limits.{LimitsAre};
 ghost use Rattle.zf_answers.specs.NamedLines.{OneRowOfALine, RefusedLinesAreOfNoRow};
 ghost use Rattle.zf_answers.specs.Runs.{FirstLinesAreAFront, PartsAreFronts, RunsMakeOne};
@@ -13,10 +13,11 @@ pub fn each_binding_is_shown()
     ensures one { IsShownInOneWay }
 {}
 
-/// A source has one status for a job, and one text, but for what is left open.
+/// A source has one status for a job, and one text, but for what is left open: without details, nothing beside an offence is.
 pub fn one_answer()
     ensures status { OneStatus }
     ensures text { OneText }
+    ensures plain { PlainLines }
 {}
 
 /// Each source is read by a tree, or is refused with a fault.

@@ -1,4 +1,6 @@
 mod Prelude
+pub mod Listing
+pub mod Reported
 pub mod Refusing
 pub mod Parts
 pub mod Within

@@ -5,7 +5,6 @@ pub use Rattle.std.proofs.lemmas.Bool.{eqb-true, false≢true}
 pub use Rattle.std.proofs.lemmas.List.{length-map, length-take}
 pub use Rattle.std.proofs.lemmas.Option.{none-some, same_Some}
 pub use Rattle.std.specs.Io.KnownBytes.{Appends, Consumes, Keeps}
-pub use Rattle.std.specs.List.{flat_map}
 pub use Rattle.std.specs.Option.{option_copied}
 pub use Rattle.std.specs.Str.{bytes_eq}
 pub use Rattle.zf_walk.specs.Progress.{AreDueWithin, Stage}
@@ -35,10 +34,11 @@ pub use Rattle.zf_enum.specs.Searches.{counted_goal, Goal, planted_goal}
 pub use Rattle.zf_command.specs.declared.job.Request.{Request}
 pub use Rattle.zf_lines.proofs.Beginning.{at_start, counting_at_start}
 pub use Rattle.zf_lines.specs.declared.fault.Status.{Status}
-pub use Rattle.zf_engine.specs.Answers.{Answer, AnswersReader, AnswersSource, AreHeld, Checks, HasSchema, IsAsked, IsNamed, IsNamedRow, IsSearch, ShowAnswer, ShowBegins, stated, stated_size, StopsInReader, UnreadAnswer}
+pub use Rattle.zf_engine.specs.Answers.{Answer, AnswersReader, AnswersSource, AreHeld, Checks, HasSchema, IsAsked, IsNamed, IsNamedRow, IsSearch, ShowAnswer, ShowBegins, stated, stated_size, StopsInReader, UnreadAnswer, without_size}
 pub use Rattle.zf_engine.specs.Stops.{StopsInSource, AnswersOver, AnswersRequest, AnswersShow, IfAnswered, IsFaultLine, Shows, Tells, TellsInfinite, TellsMisfit, TellsNoRow, TellsNoValues, TellsOut, TellsPlace, TellsPlaceHeld}
 pub use Rattle.zf_engine.specs.Statuses.{IsStatus, IsStatusOfRefused, IsWorkStatus}
-pub use Rattle.zf_engine.specs.Details.{type_fault_lines}
-pub use Rattle.zf_engine.specs.Texts.{declared_out_line, no_schema_line}
+pub use Rattle.zf_engine.specs.Details.{Cited, cited_of, type_fault_lines, AreLines}
+pub use Rattle.zf_engine.specs.Missing.{no_schema_lines}
+pub use Rattle.zf_engine.specs.Texts.{declared_out_line}
 pub use Rattle.zf_engine.specs.declared.stop.Stop.{Stop}
 pub use Rattle.zf_engine.specs.declared.stop.Stop.TheVariants.{Answered, OutOfMemory}

@@ -1,5 +1,5 @@
 -- The steps before the first binding make answers: refusals, in their order.
-use Rattle.zf_engine.proofs.Prelude.{◌==◌, ◌∙◌, ◌∷◌, ◌≡◌, ◌≢◌, ◌⊎◌, [], ap, arith, Bool, Err, false, IfErr, inl, inr, length, List, map, Ok, Option, refl, Result, Some, subst, sym, true, ℕ, eqb-true, flat_map, Value, Comp, Defined, Schema, AreWellTyped, Environment, spellings, Spelling, Portion, Status, AreHeld, Checks, HasSchema, IsAsked, IsNamed, IsNamedRow, Request, ShowAnswer, stated, UnreadAnswer, AnswersRequest, AnswersShow, IfAnswered, IsFaultLine, TellsInfinite, TellsMisfit, TellsNoRow, TellsNoValues, TellsOut, TellsPlace, TellsPlaceHeld, type_fault_lines, Stop, Answered, OutOfMemory}
+use Rattle.zf_engine.proofs.Prelude.{◌==◌, ◌∙◌, ◌∷◌, ◌≡◌, ◌≢◌, ◌⊎◌, [], ap, arith, Bool, Err, false, IfErr, inl, inr, length, List, map, Ok, Option, refl, Result, Some, subst, sym, true, ℕ, eqb-true, Value, Comp, Defined, Schema, AreWellTyped, Environment, spellings, Spelling, Portion, Status, AreHeld, Checks, HasSchema, IsAsked, IsNamed, IsNamedRow, Request, ShowAnswer, stated, UnreadAnswer, AnswersRequest, AnswersShow, IfAnswered, IsFaultLine, TellsInfinite, TellsMisfit, TellsNoRow, TellsNoValues, TellsOut, TellsPlace, TellsPlaceHeld, Cited, Stop, Answered, OutOfMemory, AreLines}
 use Rattle.zf_finite.specs.Finite.{IsFinite}
 use Rattle.zf_scan.specs.declared.fault.TextFault.{TextFault}
 use Rattle.zf_scan.specs.CutViews.{IsWantOfMemory}
@@ -24,21 +24,21 @@ pub weaker_err : {A : Type 0} (r : Result A Stop) (P Q : Stop → Type 0) → ((
 weaker_err (Ok x) P Q f h = tt
 weaker_err (Err stop) P Q f h = f stop h
 
-pub unread_answers : (details : Bool) (file source : List ℕ) (fault : TextFault) (symbol : List ℕ) (stop : Stop) → IsWantOfMemory fault ⊎ RefusesSource source fault
-    → IfAnswered stop (IsFaultLine details file fault symbol) → IfAnswered stop (UnreadAnswer details file source)
-unread_answers details file source fault symbol OutOfMemory (inl memory) h = tt
-unread_answers details file source fault symbol OutOfMemory (inr refuses) h = tt
-unread_answers details file source fault symbol (Answered text status) (inl memory) h = absurd (h.0 memory.0)
-unread_answers details file source fault symbol (Answered text status) (inr refuses) h = (fault, symbol, refuses, h.1, h.2)
+pub unread_answers : (details : Bool) (file source : List ℕ) (fault : TextFault) (about : Cited) (stop : Stop) → IsWantOfMemory fault ⊎ RefusesSource source fault
+    → IfAnswered stop (IsFaultLine details file fault about) → IfAnswered stop (UnreadAnswer details file source)
+unread_answers details file source fault about OutOfMemory (inl memory) h = tt
+unread_answers details file source fault about OutOfMemory (inr refuses) h = tt
+unread_answers details file source fault about (Answered text status) (inl memory) h = absurd (h.0 memory.0)
+unread_answers details file source fault about (Answered text status) (inr refuses) h = (fault, about, refuses, h.1, h.2)
 
 -- a source that is not read is answered so, whatever else is asked for
 pub unread_shown : (details : Bool) (file source : List ℕ) (stop : Stop) → IfAnswered stop (UnreadAnswer details file source) → AnswersShow details file source stop
 unread_shown details file source stop told r same = weaker stop (λ text status u. inl (subst (λ d. UnreadAnswer d file source text status) (sym same) u)) told
 
 pub ill_typed_answers : (details : Bool) (file source text : List ℕ) (globals : List Defined) (faults : List Fault) → Checks source globals faults → faults ≢ []
-    → text ≡ flat_map (type_fault_lines details file) faults → (r : Request) → r.details ≡ details → ShowAnswer r file source text BadSpec
-ill_typed_answers details file source text globals faults checks some is r same =
-    ShowAnswer.ill_typed globals faults checks some (is ∙ ap (λ d. flat_map (type_fault_lines d file) faults) (sym same)) refl
+    → AreLines details file faults text → (r : Request) → r.details ≡ details → ShowAnswer r file source text BadSpec
+ill_typed_answers details file source text globals faults checks some are r same =
+    ShowAnswer.ill_typed globals faults checks some (subst (λ d. AreLines d file faults text) (sym same) are) refl
 
 pub some_of : {A : Type 0} (xs : List A) (b : Bool) → b ≡ false → b ≡ (length xs == 0) → xs ≡ [] → ⊥
 some_of xs b unset test none =
@@ -78,7 +78,7 @@ no_values_told ss e comps text bytes stop place same is none told clear =
 pub clear_of : (r : Request) (source : List ℕ) (a : Schema) (e : Environment) → IsAsked r source e.globals a e → (ss : List Spelling) → ss ≡ spellings e.globals → AreClear ss e.sizes
 clear_of r source a e is ss same =
     let checks = is.has_schema.checks in
-    subst (λ k. AreClear k e.sizes) (sym same) (globals_clear checks.boxes source e.globals [] (stated r.sizes) e checks.reads checks.judged is.complete is.environment)
+    subst (λ k. AreClear k e.sizes) (sym same) (globals_clear checks.boxes source e.globals [] (stated e.globals r) e checks.reads checks.judged is.complete is.environment)
 
 -- ---- the refusals of a schema
 
@@ -86,14 +86,14 @@ module _ (r : Request) (file source : List ℕ) (g : List Defined) (a : Schema) 
   pub has_schema : Checks source g [] → IsNamed g r.name a → HasSchema source r.name g a
   has_schema checks named = record { checks = checks; named = named }
 
-  pub misfit_answers : HasSchema source r.name g a → (stop : Stop) → IfAnswered stop (TellsMisfit g (stated r.sizes)) → AnswersRequest r file source stop
+  pub misfit_answers : HasSchema source r.name g a → (stop : Stop) → IfAnswered stop (TellsMisfit r.details g (stated g r)) → AnswersRequest r file source stop
   misfit_answers has stop h = weaker stop (λ text status t. inr (ShowAnswer.bad_sizes g a t.0 has t.1 t.2.0 t.2.1 t.2.2)) h
 
-  pub infinite_answers : HasSchema source r.name g a → AreComplete (given_sets g) (stated r.sizes) → (stop : Stop) → IfAnswered stop (TellsInfinite g a r.details file) → AnswersRequest r file source stop
+  pub infinite_answers : HasSchema source r.name g a → AreComplete (given_sets g) (stated g r) → (stop : Stop) → IfAnswered stop (TellsInfinite g a r.details file) → AnswersRequest r file source stop
   infinite_answers has complete stop h = weaker stop (λ text status t. inr (ShowAnswer.not_finite g a t.0 has complete t.1 t.2 t.3)) h
 
   -- the schema is asked for in this environment
-  pub asked : (e : Environment) → HasSchema source r.name g a → AreComplete (given_sets g) (stated r.sizes) → IsEnvironment g (stated r.sizes) e → IsFinite g a → IsAsked r source e.globals a e
+  pub asked : (e : Environment) → HasSchema source r.name g a → AreComplete (given_sets g) (stated g r) → IsEnvironment g (stated g r) e → IsFinite g a → IsAsked r source e.globals a e
   asked e has complete is ends = subst (λ h. IsAsked r source h a e) (sym is.0) (record { has_schema = has; complete = complete; environment = is; finite = ends })
 
   module _ (e : Environment) (is : IsAsked r source g a e) where

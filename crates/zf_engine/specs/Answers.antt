@@ -1,6 +1,7 @@
 -- What a run writes and answers, by the first case that applies.
-use Rattle.std.specs.Prelude.{◌≡◌, ◌≢◌, ◌⊎◌, ℕ, Bool, if◌then◌else◌, List, [], ◌∷◌, ◌++◌, map, Option, Some, None, IsSomeAnd, slice_get}
-use Rattle.std.specs.List.{flat_map}
+use Rattle.std.specs.Prelude.{◌≡◌, ◌≢◌, ◌⊎◌, ℕ, Bool, not, if◌then◌else◌, List, [], ◌∷◌, ◌++◌, map, Option, Some, None, IsSomeAnd, slice_get}
+use Rattle.std.specs.List.{filter, list_any}
+use Rattle.std.specs.Str.{bytes_eq}
 use Rattle.std.specs.Io.KnownBytes.{Appends}
 use Rattle.zf_command.specs.declared.job.Job.{Job}
 use Rattle.zf_command.specs.declared.job.Job.TheVariants.{Check, Show}
@@ -37,8 +38,9 @@ use Rattle.zf_lines.specs.Faults.{IsFront}
 use Rattle.zf_lines.specs.Texts.{binding_line}
 use Rattle.zf_engine.specs.Faults.{Gave}
 use Rattle.zf_lines.specs.Searches.{HasEvents, IsTestsLine, IsWritten, IsBegun, HasLimit}
-use Rattle.zf_engine.specs.Details.{text_fault_lines, type_fault_lines, not_finite_lines}
-use Rattle.zf_engine.specs.Texts.{no_schema_line, no_size_line, not_given_line, size_twice_line, size_too_large_line, not_a_binding_line, not_held_line, declared_out_line}
+use Rattle.zf_engine.specs.Details.{Cited, text_fault_lines, not_finite_lines, AreLines}
+use Rattle.zf_engine.specs.Missing.{no_schema_lines, no_size_lines}
+use Rattle.zf_engine.specs.Texts.{not_given_line, size_twice_line, size_too_large_line, not_a_binding_line, not_held_line, declared_out_line}
 
 -- a tree reads the source; it defines these globals, and has these faults of types
 pub record Checks (source : List ℕ) (globals : List Defined) (faults : List Fault) : Type 0 where
@@ -63,35 +65,49 @@ check_status [] = Done
 check_status (fault ∷ faults) = BadSpec
 
 -- the lines of the faults, and the listing if it is asked for
-abbrev pub check_text : (types details : Bool) → (file : List ℕ) → List Defined → List Fault → List ℕ
-check_text types details file globals faults = flat_map (type_fault_lines details file) faults ++ (if types then listing globals else [])
+abbrev pub IsCheckText : (types details : Bool) → (file : List ℕ) → List Defined → List Fault → (text : List ℕ) → Type 0
+IsCheckText types details file globals faults text =
+    (lines : List ℕ) × AreLines details file faults lines × (text ≡ lines ++ (if types then listing globals else []))
 
 -- the answer of `check` for a source that is read
 abbrev pub CheckAnswer : (types details : Bool) → (file source text : List ℕ) → Status → Type 0
 CheckAnswer types details file source text status =
-    (globals : List Defined) × (faults : List Fault) × Checks source globals faults × (text ≡ check_text types details file globals faults) × (status ≡ check_status faults)
+    (globals : List Defined) × (faults : List Fault) × Checks source globals faults × IsCheckText types details file globals faults text × (status ≡ check_status faults)
 
 -- ---- what `show` is asked for
 
 abbrev pub stated_size : command.Size → Size
 stated_size s = record { name = s.name; count = s.count }
 
--- the sizes that are stated
-abbrev pub stated : List command.Size → List Size
-stated sizes = map stated_size sizes
+-- the sizes of words
+abbrev pub worded : Request → List Size
+worded r = map stated_size r.sizes
 
-abbrev pub size_fault_line : SizeFault → List ℕ
-size_fault_line (NoSize name) = no_size_line name
-size_fault_line (NotGiven name) = not_given_line name
-size_fault_line (SizeTwice name) = size_twice_line name
-size_fault_line (SizeTooLarge name) = size_too_large_line name
-size_fault_line OutOfMemory = []
+-- the sets for which no size is stated
+abbrev pub without_size : List Size → List (List ℕ) → List (List ℕ)
+without_size sizes sets = filter (λ set. not (list_any (λ s. bytes_eq s.name set) sizes)) sets
+
+-- each set with the one size, if that is given
+abbrev pub with_size : Option ℕ → List (List ℕ) → List Size
+with_size None sets = []
+with_size (Some count) sets = map (λ set. record { name = set; count = count }) sets
+
+-- the sizes that are stated: those of words, and then the one size of each given set that no word names
+abbrev pub stated : List Defined → Request → List Size
+stated g r = worded r ++ with_size r.size (without_size (worded r) (given_sets g))
+
+abbrev pub size_fault_lines : (details : Bool) → List Defined → List Size → SizeFault → List ℕ
+size_fault_lines details g sizes (NoSize name) = no_size_lines details (without_size sizes (given_sets g)) name
+size_fault_lines details g sizes (NotGiven name) = not_given_line name
+size_fault_lines details g sizes (SizeTwice name) = size_twice_line name
+size_fault_lines details g sizes (SizeTooLarge name) = size_too_large_line name
+size_fault_lines details g sizes OutOfMemory = []
 
 -- the schema that is asked for is finite, and this is the environment at the stated sizes
 pub record IsAsked (r : Request) (source : List ℕ) (globals : List Defined) (a : Schema) (e : Environment) : Type 0 where
   pub has_schema : HasSchema source r.name globals a
-  pub complete : AreComplete (given_sets globals) (stated r.sizes)
-  pub environment : IsEnvironment globals (stated r.sizes) e
+  pub complete : AreComplete (given_sets globals) (stated globals r)
+  pub environment : IsEnvironment globals (stated globals r) e
   pub finite : IsFinite globals a
 
 -- the text is the line of this row of the schema's types
@@ -129,13 +145,13 @@ pub record IsSearch (r : Request) (source : List ℕ) (globals : List Defined) (
 
 -- the answer of `show` for a source that is read, with the refusals in their order
 pub data ShowAnswer (r : Request) (file source text : List ℕ) (status : Status) : Type 0 where
-  ill_typed : (globals : List Defined) (faults : List Fault) → Checks source globals faults → faults ≢ [] → text ≡ flat_map (type_fault_lines r.details file) faults
+  ill_typed : (globals : List Defined) (faults : List Fault) → Checks source globals faults → faults ≢ [] → AreLines r.details file faults text
       → status ≡ BadSpec → ShowAnswer r file source text status
-  no_schema : (globals : List Defined) → Checks source globals [] → ((a : Schema) → IsNamed globals r.name a → ⊥) → text ≡ no_schema_line r.name
+  no_schema : (globals : List Defined) → Checks source globals [] → ((a : Schema) → IsNamed globals r.name a → ⊥) → text ≡ no_schema_lines r.details globals r.name
       → status ≡ BadRequest → ShowAnswer r file source text status
-  bad_sizes : (globals : List Defined) (a : Schema) (fault : SizeFault) → HasSchema source r.name globals a → IsRefusal (given_sets globals) (stated r.sizes) fault
-      → fault ≢ OutOfMemory → text ≡ size_fault_line fault → status ≡ BadRequest → ShowAnswer r file source text status
-  not_finite : (globals : List Defined) (a : Schema) (cause : NotFinite) → HasSchema source r.name globals a → AreComplete (given_sets globals) (stated r.sizes)
+  bad_sizes : (globals : List Defined) (a : Schema) (fault : SizeFault) → HasSchema source r.name globals a → IsRefusal (given_sets globals) (stated globals r) fault
+      → fault ≢ OutOfMemory → text ≡ size_fault_lines r.details globals (stated globals r) fault → status ≡ BadRequest → ShowAnswer r file source text status
+  not_finite : (globals : List Defined) (a : Schema) (cause : NotFinite) → HasSchema source r.name globals a → AreComplete (given_sets globals) (stated globals r)
       → first (causes globals a) ≡ Some cause → text ≡ not_finite_lines r.details file globals cause → status ≡ BadSpec → ShowAnswer r file source text status
   not_a_binding : (globals : List Defined) (a : Schema) (e : Environment) (place : ℕ) → IsAsked r source globals a e → NamesNoRow e a.comps r.after
       → text ≡ not_a_binding_line place → status ≡ BadRequest → ShowAnswer r file source text status
@@ -166,10 +182,10 @@ abbrev pub wants_details : Job → Bool
 wants_details (Check types details) = details
 wants_details (Show r) = r.details
 
--- the answer for a source with a fault of its text. Which fault of the grammar is told, on which line, and which symbol any fault is about, is open.
+-- the answer for a source with a fault of its text. Which fault of the grammar is told, on which line, and which symbols any fault is about, is open.
 abbrev pub UnreadAnswer : (details : Bool) → (file source text : List ℕ) → Status → Type 0
 UnreadAnswer details file source text status =
-    (fault : TextFault) × (symbol : List ℕ) × RefusesSource source fault × (text ≡ text_fault_lines details file fault symbol) × (status ≡ BadSpec)
+    (fault : TextFault) × (about : Cited) × RefusesSource source fault × (text ≡ text_fault_lines details file fault about) × (status ≡ BadSpec)
 
 abbrev pub JobAnswer : Job → (file source text : List ℕ) → Status → Type 0
 JobAnswer (Check types details) file source text status = CheckAnswer types details file source text status

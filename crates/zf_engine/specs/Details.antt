@@ -1,6 +1,6 @@
 -- The lines that say what a fault is about, behind its own. Each begins with four blanks.
-use Rattle.std.specs.Prelude.{ℕ, ◌&&◌, nat_eq, nat_le, Bool, if◌then◌else◌, List, [], ◌∷◌, ◌++◌, Option, Some, None, codes, decimal, slice_get}
-use Rattle.std.specs.List.{starts_with}
+use Rattle.std.specs.Prelude.{ℕ, ◌&&◌, nat_eq, nat_le, nat_lt, Bool, if◌then◌else◌, List, [], ◌∷◌, ◌++◌, Option, Some, None, codes, decimal, slice_get, ◌≡◌, ◌==◌, map}
+use Rattle.std.specs.List.{starts_with, flat_map}
 use Rattle.zf_tree.specs.declared.symbol.Constant.{Constant}
 use Rattle.zf_tree.specs.declared.symbol.Constant.TheVariants.{True, False, Integers, Naturals, Positives}
 use Rattle.zf_scan.specs.declared.fault.TextFault.{TextFault}
@@ -9,8 +9,9 @@ use Rattle.zf_scan.specs.declared.fault.TextFaultKind.TheVariants.{BadByte, Unkn
 use Rattle.zf_term.specs.declared.fault.Limit.{Limit}
 use Rattle.zf_term.specs.declared.fault.Limit.TheVariants.{TypeNodes, Components, Sets, Conjuncts, Nodes, Height}
 use Rattle.zf_term.specs.Definitions.{Defined}
-use Rattle.zf_term.specs.Faults.{Fault, Offence, not_declared, already_defined, not_a_schema, local_twice, mismatch, no_members, misplaced, clash, too_large, Sort, typed, predicate, a_schema}
+use Rattle.zf_term.specs.Faults.{Fault, Offence, not_declared, already_defined, not_a_schema, local_twice, mismatch, unfit, no_members, misplaced, clash, too_large, Sort, typed, predicate, a_schema}
 use Rattle.zf_term.specs.TypeTexts.{type_text}
+use Rattle.zf_text.specs.declared.unread.About.{About}
 use Rattle.zf_extent.specs.declared.offender.Offender.{Offender}
 use Rattle.zf_extent.specs.declared.offender.Offender.TheVariants.{Name, Symbol}
 use Rattle.zf_finite.specs.declared.not_finite.NotFinite.{NotFinite}
@@ -52,13 +53,46 @@ offence_details (already_defined x) = detail (codes "name") x
 offence_details (not_a_schema x) = detail (codes "name") x
 offence_details (local_twice x) = detail (codes "name") x
 offence_details (mismatch x y) = detail (codes "left") (sort_text x) ++ detail (codes "right") (sort_text y)
+offence_details (unfit n f) = detail (codes "needed") (type_text n) ++ detail (codes "found") (type_text f)
 offence_details no_members = []
 offence_details (misplaced n z) = detail (codes "found") (sort_text z)
 offence_details (clash x t u) = detail (codes "component") x ++ (detail (codes "left") (type_text t) ++ detail (codes "right") (type_text u))
 offence_details (too_large l) = detail (codes "limit") (limit_text l)
 
-abbrev pub type_fault_lines : (details : Bool) → (file : List ℕ) → Fault → List ℕ
-type_fault_lines details file fault = with_details details (type_fault_line file fault) (offence_details fault.offence)
+-- what is reported beside an offence: how the source spells the term that offends, with the lines of its first and of its last symbol, or a name
+-- that is like the one that is missing
+pub data Aside : Type 0 where
+  nothing : Aside
+  quoted : (text : List ℕ) → (first last : ℕ) → Aside
+  like : (name : List ℕ) → Aside
+
+-- the lines of a term that goes over more than one
+abbrev pub line_range : (first last : ℕ) → List ℕ
+line_range first last = if first == last then [] else detail (codes "lines") (decimal first ++ codes " to " ++ decimal last)
+
+abbrev pub quoted_details : (text : List ℕ) → (first last : ℕ) → List ℕ
+quoted_details text first last = detail (codes "term") text ++ line_range first last
+
+-- the term comes before what is wrong with it, and the name that is like the missing one after that
+abbrev pub beside : Aside → List ℕ → List ℕ
+beside nothing lines = lines
+beside (quoted text first last) lines = quoted_details text first last ++ lines
+beside (like name) lines = lines ++ detail (codes "like") name
+
+abbrev pub type_fault_lines : (details : Bool) → (file : List ℕ) → Fault → Aside → List ℕ
+type_fault_lines details file fault aside = with_details details (type_fault_line file fault) (beside aside (offence_details fault.offence))
+
+-- a fault, and what is reported beside it
+pub record Reported : Type 0 where
+  pub fault : Fault
+  pub aside : Aside
+
+abbrev pub reported_lines : (details : Bool) → (file : List ℕ) → List Reported → List ℕ
+reported_lines details file rs = flat_map (λ r. type_fault_lines details file r.fault r.aside) rs
+
+-- the lines of these faults, in their order, each with something beside it
+abbrev pub AreLines : (details : Bool) → (file : List ℕ) → List Fault → (lines : List ℕ) → Type 0
+AreLines details file faults lines = (rs : List Reported) × (map (λ r. r.fault) rs ≡ faults) × (lines ≡ reported_lines details file rs)
 
 -- ---- faults of the text
 
@@ -80,25 +114,54 @@ command_text (a ∷ b ∷ c ∷ text) = a ∷ b ∷ c ∷ text
 abbrev pub byte_text : ℕ → List ℕ
 byte_text b = if is_printed b then b ∷ [] else decimal b
 
--- of a byte that begins no piece, or of a command with what is missing behind it
+-- what more than one byte is, by the first: a character outside ASCII, or a command
+abbrev pub bad_word : ℕ → List ℕ
+bad_word b = if nat_lt b 128 then codes "symbol" else codes "character"
+
+-- of a byte or character that begins no piece, or of a command after which something is missing
 abbrev pub byte_details : List ℕ → List ℕ
 byte_details [] = []
 byte_details (b ∷ []) = detail (codes "byte") (byte_text b)
-byte_details (b ∷ c ∷ text) = detail (codes "symbol") (b ∷ c ∷ text)
+byte_details (b ∷ c ∷ text) = detail (bad_word b) (b ∷ c ∷ text)
 
-abbrev pub text_details : TextFaultKind → (symbol : List ℕ) → List ℕ
-text_details BadByte symbol = byte_details symbol
-text_details UnknownCommand symbol = detail_if_any (codes "command") (command_text symbol)
-text_details NotInProfile symbol = detail_if_any (codes "symbol") symbol
-text_details UnclosedBox symbol = []
-text_details Unexpected symbol = detail_if_any (codes "symbol") (symbol_text symbol)
-text_details NumberTooLarge symbol = detail (codes "limit") (codes "9223372036854775807")
-text_details TooDeep symbol = detail (codes "limit") (codes "128 levels")
-text_details TooLong symbol = detail (codes "limit") (codes "1048576 bytes")
-text_details OutOfMemory symbol = []
+-- the symbols that a fault of the text is about, as they are spelled, with the line of the second
+pub record Cited : Type 0 where
+  pub symbol : List ℕ
+  pub other : List ℕ
+  pub line : ℕ
 
-abbrev pub text_fault_lines : (details : Bool) → (file : List ℕ) → TextFault → (symbol : List ℕ) → List ℕ
-text_fault_lines details file fault symbol = with_details details (text_fault_line file fault) (text_details fault.kind symbol)
+abbrev pub cited_of : About → Cited
+cited_of a = record { symbol = a.symbol.now; other = a.other.now; line = a.line }
+
+abbrev pub located : List ℕ → ℕ → List ℕ
+located symbol line = symbol ++ codes ", line " ++ decimal line
+
+-- at what a box shows that it is not closed
+abbrev pub closing_details : List ℕ → ℕ → List ℕ
+closing_details [] line = detail (codes "closed by") (codes "the end of the text")
+closing_details (c ∷ other) line = detail (codes "closed by") (located (c ∷ other) line)
+
+-- a bracket that is not closed, where there is one
+abbrev pub open_details : List ℕ → ℕ → List ℕ
+open_details [] line = []
+open_details (c ∷ bracket) line = detail (codes "open") (located (c ∷ bracket) line)
+
+abbrev pub unexpected_details : Cited → List ℕ
+unexpected_details about = detail_if_any (codes "symbol") (symbol_text about.symbol) ++ open_details about.other about.line
+
+abbrev pub text_details : TextFaultKind → Cited → List ℕ
+text_details BadByte about = byte_details about.symbol
+text_details UnknownCommand about = detail_if_any (codes "command") (command_text about.symbol)
+text_details NotInProfile about = detail_if_any (codes "symbol") about.symbol
+text_details UnclosedBox about = closing_details about.other about.line
+text_details Unexpected about = unexpected_details about
+text_details NumberTooLarge about = detail (codes "limit") (codes "9223372036854775807")
+text_details TooDeep about = detail (codes "limit") (codes "128 levels")
+text_details TooLong about = detail (codes "limit") (codes "1048576 bytes")
+text_details OutOfMemory about = []
+
+abbrev pub text_fault_lines : (details : Bool) → (file : List ℕ) → TextFault → (about : Cited) → List ℕ
+text_fault_lines details file fault about = with_details details (text_fault_line file fault) (text_details fault.kind about)
 
 -- ---- schemas that are not finite
 

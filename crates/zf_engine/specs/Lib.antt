@@ -1,6 +1,9 @@
 pub mod Faults
 pub mod Texts
 pub mod Details
+pub mod Likeness
+pub mod Missing
+pub mod Named
 pub mod Answers
 pub mod Stops
 pub mod Begun

@@ -17,17 +17,26 @@ use Rattle.zf_enum.specs.Ranges.{IsFirstOut}
 use Rattle.zf_lines.specs.declared.fault.RunFault.{RunFault}
 use Rattle.zf_lines.specs.declared.fault.Status.{Status}
 use Rattle.zf_lines.specs.declared.fault.Status.TheVariants.{BadSpec, BadRequest, PastBounds}
+use Rattle.zf_engine.specs.declared.quoted.Aside as program
+use Rattle.zf_engine.specs.declared.quoted.Aside.TheVariants as variant
 use Rattle.zf_engine.specs.declared.stop.Stop.{Stop}
 use Rattle.zf_engine.specs.declared.stop.Stop.TheVariants.{Answered, OutOfMemory}
 use Rattle.zf_command.specs.declared.job.Request.{Request}
-use Rattle.zf_engine.specs.Answers.{Answer, AnswersSource, Checks, HoldsNoValues, NamesNoRow, size_fault_line, IsPartOfAnswer}
+use Rattle.zf_engine.specs.Answers.{Answer, AnswersSource, Checks, HoldsNoValues, NamesNoRow, size_fault_lines, IsPartOfAnswer}
 use Rattle.zf_lines.specs.FaultViews.{AppendsFront}
-use Rattle.zf_engine.specs.Details.{not_finite_lines, text_fault_lines}
+use Rattle.zf_engine.specs.Details.{not_finite_lines, Cited, text_fault_lines, Aside, nothing, quoted, like}
 use Rattle.zf_engine.specs.Texts.{declared_out_line, not_a_binding_line, not_held_line}
 use Rattle.zf_command.specs.declared.job.Job.{Job}
 
 abbrev pub StopsInSource : Job → List ℕ → List ℕ → Option (List ℕ) → Option (List ℕ) → Type 0
 StopsInSource job file source old new = (written : List ℕ) × IsPartOfAnswer job file source written × Appends old new written
+
+-- ---- what is reported beside an offence
+
+abbrev pub aside_of : program.Aside → Aside
+aside_of variant.Nothing = nothing
+aside_of (variant.Quoted q) = quoted q.text.items q.first q.last
+aside_of (variant.Like name) = like name
 
 -- ---- answers that are whole
 
@@ -36,15 +45,15 @@ abbrev pub IfAnswered : Stop → (List ℕ → Status → Type 0) → Type 0
 IfAnswered (Answered text status) P = P text.items status
 IfAnswered OutOfMemory P = Unit {0}
 
-abbrev pub IsFaultLine : (details : Bool) → (file : List ℕ) → TextFault → (symbol : List ℕ) → List ℕ → Status → Type 0
-IsFaultLine details file fault symbol text status = (fault.kind ≢ text_faults.OutOfMemory) × (text ≡ text_fault_lines details file fault symbol) × (status ≡ BadSpec)
+abbrev pub IsFaultLine : (details : Bool) → (file : List ℕ) → TextFault → (about : Cited) → List ℕ → Status → Type 0
+IsFaultLine details file fault about text status = (fault.kind ≢ text_faults.OutOfMemory) × (text ≡ text_fault_lines details file fault about) × (status ≡ BadSpec)
 
-abbrev pub IsMisfit : SizeFault → List ℕ → Status → Type 0
-IsMisfit fault text status = (fault ≢ size_faults.OutOfMemory) × (text ≡ size_fault_line fault) × (status ≡ BadRequest)
+abbrev pub IsMisfit : (details : Bool) → List Defined → List Size → SizeFault → List ℕ → Status → Type 0
+IsMisfit details g sizes fault text status = (fault ≢ size_faults.OutOfMemory) × (text ≡ size_fault_lines details g sizes fault) × (status ≡ BadRequest)
 
 -- the answer tells what is wrong with the sizes
-abbrev pub TellsMisfit : List Defined → List Size → List ℕ → Status → Type 0
-TellsMisfit g sizes text status = (fault : SizeFault) × IsRefusal (given_sets g) sizes fault × IsMisfit fault text status
+abbrev pub TellsMisfit : (details : Bool) → List Defined → List Size → List ℕ → Status → Type 0
+TellsMisfit details g sizes text status = (fault : SizeFault) × IsRefusal (given_sets g) sizes fault × IsMisfit details g sizes fault text status
 
 -- the answer tells the first that makes the schema infinite
 abbrev pub TellsInfinite : List Defined → Schema → (details : Bool) → (file : List ℕ) → List ℕ → Status → Type 0

@@ -17,6 +17,7 @@ use crate::begin::{Begun, begin, begin_counting};
 use crate::check::{check_answer, checked_in};
 use crate::held::values_held;
 use crate::named::named_row;
+use crate::report::Report;
 use crate::stop::Stop;
 use crate::typed::typed_in;
 use bumpalo::Bump;
@@ -79,8 +80,13 @@ fn checked_text(
 {
     let trees = Bump::new(alloc);
     let arena = Bump::new(alloc);
-    let checked = checked_in(alloc, &trees, &arena, details, file, source)?;
-    Ok(check_answer(alloc, types, details, file, &checked)?)
+    let report = Report {
+        source,
+        file,
+        details,
+    };
+    let checked = checked_in(alloc, &trees, &arena, report)?;
+    Ok(check_answer(alloc, types, report, &checked)?)
 }
 
 /// Writes an answer that is whole.
@@ -115,7 +121,12 @@ fn show_source<W: Write>(
 {
     let trees = Bump::new(alloc);
     let arena = Bump::new(alloc);
-    match typed_in(alloc, &trees, &arena, request.details, file, source) {
+    let report = Report {
+        source,
+        file,
+        details: request.details,
+    };
+    match typed_in(alloc, &trees, &arena, report) {
         Ok(globals) => show_globals(alloc, &arena, &globals, request, file, writer),
         Err(stop) => tell(stop, writer),
     }

@@ -1,7 +1,7 @@
 //! The schema that is asked for, in the environment of the stated sizes.
 ghost use Rattle.std.specs.Prelude.{◌≡◌, ℕ, List, [], IfOk, IfErr, OnOk};
-ghost use Rattle.zf_engine.specs.Answers as spec;
-ghost use Rattle.zf_engine.specs.Answers.{Checks, IsAsked, stated};
+ghost use Rattle.zf_engine.specs.Answers.{Checks, IsAsked, stated, without_size};
+ghost use Rattle.zf_engine.specs.Missing as spec;
 ghost use Rattle.zf_engine.specs.Stops.{AnswersOver, IfAnswered, IsMisfit, TellsInfinite, TellsMisfit};
 ghost use Rattle.zf_finite.specs.Finite.{IsFinite};
 ghost use Rattle.zf_meaning.specs.Envs.{environment_of};
@@ -11,11 +11,12 @@ ghost use Rattle.zf_term.specs.DefinitionViews.{globals_of};
 ghost use Rattle.zf_term.specs.SchemaViews.{schema_of};
 
 use crate::details::not_finite_lines;
+use crate::missing::{no_schema_lines, no_size_lines};
+use crate::stated::{sets_without_size, stated_sizes};
 use crate::stop::Stop;
 use crate::texts;
 use std::alloc::{AllocError, Global};
-use zf_command::job::{Request, Size};
-use zf_data::Text;
+use zf_command::job::Request;
 use zf_finite::finite;
 use zf_lines::fault::Status;
 use zf_meaning::env::Env;
@@ -41,10 +42,11 @@ pub fn asked_in<'g, 'a>(
     ensures stop { IfErr result (AnswersOver (globals_of globals.now) request.now file.now) }
 {
     let Some(schema) = globals.schema(request.name.as_str()) else {
-        let line = texts::no_schema_line(alloc, request.name.as_bytes())?;
-        return Err(Stop::Answered(line, Status::BadRequest));
+        let name = request.name.as_bytes();
+        let lines = no_schema_lines(alloc, request.details, globals, name)?;
+        return Err(Stop::Answered(lines, Status::BadRequest));
     };
-    let env = env_in(alloc, globals, request.sizes.as_slice())?;
+    let env = env_in(alloc, globals, request)?;
     check_end(alloc, request.details, file, globals, schema)?;
     Ok(Asked { schema, env })
 }
@@ -53,54 +55,54 @@ pub fn asked_in<'g, 'a>(
 fn env_in<'g, 'a>(
     alloc: Global,
     globals: &'g Globals<'a>,
-    sizes: &[Size],
+    request: &Request,
 ) -> Result<Env<'g, 'a>, Stop>
-    ensures complete { OnOk result (AreComplete (given_sets (globals_of globals.now)) (stated sizes.now)) }
-    ensures is { IfOk result (λ e. IsEnvironment (globals_of globals.now) (stated sizes.now) (environment_of e)) }
-    ensures stop { IfErr result (λ s. IfAnswered s (TellsMisfit (globals_of globals.now) (stated sizes.now))) }
+    ensures complete { OnOk result (AreComplete (given_sets (globals_of globals.now)) (stated (globals_of globals.now) request.now)) }
+    ensures is { IfOk result (λ e. IsEnvironment (globals_of globals.now) (stated (globals_of globals.now) request.now) (environment_of e)) }
+    ensures stop { IfErr result (λ s. IfAnswered s (TellsMisfit request.now.details (globals_of globals.now) (stated (globals_of globals.now) request.now))) }
 {
-    let sizes = stated_sizes(alloc, sizes)?;
+    let sizes = stated_sizes(alloc, globals, request)?;
     match Env::new(alloc, globals, &sizes) {
         Ok(env) => Ok(env),
-        Err(fault) => Err(misfit(alloc, fault)),
+        Err(fault) => Err(misfit(alloc, request.details, globals, &sizes, fault)),
     }
-}
-
-/// The sizes, as an environment takes them.
-fn stated_sizes(alloc: Global, sizes: &[Size]) -> Result<Vec<StatedSize>, AllocError>
-    ensures { IfOk result (λ made. made.items ≡ stated sizes.now) }
-{
-    let mut made = Vec::with_capacity(alloc, sizes.len())?;
-    for size in sizes {
-        made.push(stated_size(alloc, size)?)?;
-    }
-    Ok(made)
-}
-
-fn stated_size(alloc: Global, size: &Size) -> Result<StatedSize, AllocError>
-    ensures { IfOk result (λ made. made ≡ spec.stated_size size.now) }
-{
-    Ok(StatedSize {
-        name: Text::of(alloc, size.name.as_bytes())?,
-        count: size.count,
-    })
 }
 
 /// The answer for sizes that do not fit.
-fn misfit(alloc: Global, fault: SizeFault) -> Stop
-    ensures { IfAnswered result (IsMisfit fault) }
+fn misfit(
+    alloc: Global,
+    details: bool,
+    globals: &Globals<'_>,
+    sizes: &[StatedSize],
+    fault: SizeFault,
+) -> Stop
+    ensures { IfAnswered result (IsMisfit details (globals_of globals.now) sizes.now fault) }
 {
-    let line = match &fault {
-        SizeFault::NoSize(name) => texts::no_size_line(alloc, name.as_slice()),
+    let lines = match &fault {
+        SizeFault::NoSize(name) => unsized_lines(alloc, details, globals, sizes, name.as_slice()),
         SizeFault::NotGiven(name) => texts::not_given_line(alloc, name.as_slice()),
         SizeFault::SizeTwice(name) => texts::size_twice_line(alloc, name.as_slice()),
         SizeFault::SizeTooLarge(name) => texts::size_too_large_line(alloc, name.as_slice()),
         SizeFault::OutOfMemory => return Stop::OutOfMemory,
     };
-    match line {
-        Ok(line) => Stop::Answered(line, Status::BadRequest),
+    match lines {
+        Ok(lines) => Stop::Answered(lines, Status::BadRequest),
         Err(_) => Stop::OutOfMemory,
     }
+}
+
+/// The lines for a given set without a size.
+fn unsized_lines(
+    alloc: Global,
+    details: bool,
+    globals: &Globals<'_>,
+    sizes: &[StatedSize],
+    name: &[u8],
+) -> Result<Vec<u8>, AllocError>
+    ensures { IfOk result (λ v. v.items ≡ spec.no_size_lines details (without_size sizes.now (given_sets (globals_of globals.now))) name.now) }
+{
+    let sets = sets_without_size(alloc, globals, sizes)?;
+    no_size_lines(alloc, details, &sets, name)
 }
 
 /// Refuses a schema that is not finite.

@@ -1,15 +1,16 @@
 //! What a source defines, its faults, and the answer of `check`.
 ghost use Rattle.std.specs.Prelude.{◌≡◌, [], IfOk, IfErr, map};
-ghost use Rattle.std.specs.List.{flat_map};
-ghost use Rattle.zf_engine.specs.Answers.{Checks, CheckAnswer, UnreadAnswer, check_status, check_text};
+ghost use Rattle.zf_engine.specs.Answers.{Checks, IsCheckText, UnreadAnswer, check_status};
 ghost use Rattle.zf_engine.specs.Stops.{IfAnswered, IsFaultLine};
-ghost use Rattle.zf_engine.specs.Details.{type_fault_lines};
+ghost use Rattle.zf_engine.specs.Details.{cited_of, AreLines};
 ghost use Rattle.zf_text.specs.Parsing.{ReadsSource};
 ghost use Rattle.zf_tree.specs.TreeViews.{boxes_of};
 ghost use Rattle.zf_term.specs.DefinitionViews.{globals_of};
 ghost use Rattle.zf_type.specs.Refusals.{fault_of};
 
 use crate::details::{text_fault_lines, type_fault_lines};
+use crate::quoted::Quoting;
+use crate::report::Report;
 use crate::stop::Stop;
 use bumpalo::Bump;
 use std::alloc::{AllocError, Global};
@@ -18,6 +19,7 @@ use zf_scan::fault::{TextFault, TextFaultKind};
 use zf_schema::checker::{Checked, check_spec};
 use zf_schema::listing::listing;
 use zf_text::reading::read_spec;
+use zf_text::unread::About;
 use zf_tree::tree::Spec;
 use zf_type::fault::TypeFault;
 
@@ -27,14 +29,12 @@ pub fn checked_in<'a>(
     alloc: Global,
     trees: &'a Bump,
     arena: &'a Bump,
-    details: bool,
-    file: &[u8],
-    source: &'a [u8],
+    report: Report<'a>,
 ) -> Result<Checked<'a>, Stop>
-    ensures checks { IfOk result (λ c. Checks source.now (globals_of c.globals) (map fault_of c.faults)) }
-    ensures stop { IfErr result (λ s. IfAnswered s (UnreadAnswer details file.now source.now)) }
+    ensures checks { IfOk result (λ c. Checks report.entry.source.now (globals_of c.globals) (map fault_of c.faults)) }
+    ensures stop { IfErr result (λ s. IfAnswered s (UnreadAnswer report.entry.details report.entry.file.now report.entry.source.now)) }
 {
-    let spec = spec_in(alloc, trees, details, file, source)?;
+    let spec = spec_in(alloc, trees, report.details, report.file, report.source)?;
     let checked = check_spec(alloc, arena, &spec)?;
     Ok(checked)
 }
@@ -43,15 +43,14 @@ pub fn checked_in<'a>(
 pub fn check_answer(
     alloc: Global,
     types: bool,
-    details: bool,
-    file: &[u8],
+    report: Report<'_>,
     checked: &Checked<'_>,
 ) -> Result<(Vec<u8>, Status), AllocError>
-    ensures text { IfOk result (λ p. p.0.items ≡ check_text types details file.now (globals_of checked.now.globals) (map fault_of checked.now.faults)) }
+    ensures text { IfOk result (λ p. IsCheckText types report.entry.details report.entry.file.now (globals_of checked.now.globals) (map fault_of checked.now.faults) p.0.items) }
     ensures status { IfOk result (λ p. p.1 ≡ check_status (map fault_of checked.now.faults)) }
 {
     let faults = checked.faults.as_slice();
-    let mut text = fault_lines(alloc, details, file, faults)?;
+    let mut text = fault_lines(alloc, report, faults)?;
     if types {
         let defined = listing(alloc, &checked.globals)?;
         text.extend_from_slice(defined.as_slice())?;
@@ -73,16 +72,17 @@ fn check_status(faults: &[TypeFault<'_>]) -> Status
 /// The lines of faults.
 pub fn fault_lines(
     alloc: Global,
-    details: bool,
-    file: &[u8],
+    report: Report<'_>,
     faults: &[TypeFault<'_>],
 ) -> Result<Vec<u8>, AllocError>
-    ensures { IfOk result (λ v. v.items ≡ flat_map (type_fault_lines details file.now) (map fault_of faults.now)) }
+    ensures { IfOk result (λ v. AreLines report.entry.details report.entry.file.now (map fault_of faults.now) v.items) }
 {
+    let mut quoting = Quoting::of(alloc, report, faults)?;
     let mut lines = Vec::new(alloc);
     for fault in faults {
-        let told = type_fault_lines(alloc, details, file, fault)?;
-        lines.extend_from_slice(&told)?;
+        let aside = quoting.aside(alloc, fault)?;
+        let further = type_fault_lines(alloc, report.details, report.file, fault, &aside)?;
+        lines.extend_from_slice(&further)?;
     }
     Ok(lines)
 }
@@ -100,18 +100,18 @@ fn spec_in<'a>(
 {
     match read_spec(alloc, arena, source) {
         Ok(spec) => Ok(spec),
-        Err(unread) => Err(refusal(alloc, details, file, unread.fault, unread.symbol)),
+        Err(unread) => Err(refusal(alloc, details, file, unread.fault, &unread.about)),
     }
 }
 
-/// The answer for a fault of a text, which is about this symbol.
-fn refusal(alloc: Global, details: bool, file: &[u8], fault: TextFault, symbol: &[u8]) -> Stop
-    ensures { IfAnswered result (IsFaultLine details file.now fault symbol.now) }
+/// The answer for a fault of a text, which is about these symbols.
+fn refusal(alloc: Global, details: bool, file: &[u8], fault: TextFault, about: &About<'_>) -> Stop
+    ensures { IfAnswered result (IsFaultLine details file.now fault (cited_of about.now)) }
 {
     if fault.kind == TextFaultKind::OutOfMemory {
         return Stop::OutOfMemory;
     }
-    match text_fault_lines(alloc, details, file, fault, symbol) {
+    match text_fault_lines(alloc, details, file, fault, about) {
         Ok(lines) => Stop::Answered(lines, Status::BadSpec),
         Err(_) => Stop::OutOfMemory,
     }

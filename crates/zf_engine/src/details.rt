@@ -1,12 +1,14 @@
 //! The lines that say what a fault is about, behind its own.
 ghost use Rattle.std.specs.Prelude.{◌≡◌, ◌++◌, codes, IfOk, OnOk, slice_get};
 ghost use Rattle.zf_engine.specs.Details as spec;
+ghost use Rattle.zf_engine.specs.Stops.{aside_of};
 ghost use Rattle.zf_term.specs.DefinitionViews.{globals_of};
 ghost use Rattle.zf_term.specs.TypeTexts.{type_text};
 ghost use Rattle.zf_term.specs.TypeViews.{type_of};
 ghost use Rattle.zf_type.specs.Refusals.{fault_of, offence_of};
 ghost use Rattle.zf_type.specs.RuleViews.{sort_of};
 
+use crate::quoted::{Aside, Quoted};
 use crate::texts::{fault_line, not_finite_text, text_fault_line, type_fault_line};
 use itoa::Buffer;
 use std::alloc::{AllocError, Global};
@@ -17,6 +19,7 @@ use zf_term::fault::{Clash, Limit};
 use zf_term::globals::Globals;
 use zf_term::type_text::append_type;
 use zf_term::ztype::ZType;
+use zf_text::unread::About;
 use zf_tree::symbol::Constant;
 use zf_type::fault::{Offence, TypeFault};
 use zf_type::sort::Sort;
@@ -33,7 +36,7 @@ fn append_detail(lines: &mut Vec<u8>, word: &[u8], text: &[u8]) -> Result<(), Al
 }
 
 /// The same, of a text that may be missing.
-fn append_if_any(lines: &mut Vec<u8>, word: &[u8], text: &[u8]) -> Result<(), AllocError>
+pub fn append_if_any(lines: &mut Vec<u8>, word: &[u8], text: &[u8]) -> Result<(), AllocError>
     ensures { OnOk result (lines.new.items ≡ lines.old.items ++ spec.detail_if_any word.now text.now) }
 {
     match text {
@@ -109,6 +112,10 @@ fn append_offence(lines: &mut Vec<u8>, offence: &Offence<'_>) -> Result<(), Allo
             append_sort(lines, b"left", left)?;
             append_sort(lines, b"right", right)
         }
+        Offence::Unfit(needed, found) => {
+            append_type_detail(lines, b"needed", needed)?;
+            append_type_detail(lines, b"found", found)
+        }
         Offence::NoMembers => Ok(()),
         Offence::Misplaced(_, found) => append_sort(lines, b"found", found),
         Offence::Clash(clash) => append_clash(lines, clash),
@@ -116,18 +123,63 @@ fn append_offence(lines: &mut Vec<u8>, offence: &Offence<'_>) -> Result<(), Allo
     }
 }
 
-/// The lines of a fault of types.
+/// `    lines: FIRST to LAST`, of a term that goes over more than one.
+fn append_line_range(lines: &mut Vec<u8>, first: u32, last: u32) -> Result<(), AllocError>
+    ensures { OnOk result (lines.new.items ≡ lines.old.items ++ spec.line_range first last) }
+{
+    if first == last {
+        return Ok(());
+    }
+    let mut number = Buffer::new();
+    lines.extend_from_slice(b"    lines: ")?;
+    lines.extend_from_slice(number.format(first).as_bytes())?;
+    lines.extend_from_slice(b" to ")?;
+    lines.extend_from_slice(number.format(last).as_bytes())?;
+    lines.extend_from_slice(b"\n")
+}
+
+/// A term.
+fn append_quoted(lines: &mut Vec<u8>, term: &Quoted) -> Result<(), AllocError>
+    ensures { OnOk result (lines.new.items ≡ lines.old.items ++ spec.quoted_details term.now.text.items term.now.first term.now.last) }
+{
+    append_detail(lines, b"term", &term.text)?;
+    append_line_range(lines, term.first, term.last)
+}
+
+/// What is wrong with types, and what is reported beside it.
+fn append_beside(
+    lines: &mut Vec<u8>,
+    offence: &Offence<'_>,
+    aside: &Aside<'_>,
+) -> Result<(), AllocError>
+    ensures { OnOk result (lines.new.items ≡ lines.old.items ++ spec.beside (aside_of aside.now) (spec.offence_details (offence_of offence.now))) }
+{
+    match aside {
+        Aside::Nothing => append_offence(lines, offence),
+        Aside::Quoted(term) => {
+            append_quoted(lines, term)?;
+            append_offence(lines, offence)
+        }
+        Aside::Like(name) => {
+            append_offence(lines, offence)?;
+            append_detail(lines, b"like", name.as_slice())
+        }
+    }
+}
+
+/// The lines of a fault of types, and of what is reported beside it.
 pub fn type_fault_lines(
     alloc: Global,
     details: bool,
     file: &[u8],
     fault: &TypeFault<'_>,
+    aside: &Aside<'_>,
 ) -> Result<Vec<u8>, AllocError>
-    ensures { IfOk result (λ v. v.items ≡ spec.type_fault_lines details file.now (fault_of fault.now)) }
+    ensures { IfOk result (λ v. v.items ≡ spec.type_fault_lines details file.now (fault_of fault.now) (aside_of aside.now)) }
 {
     let mut lines = type_fault_line(alloc, file, fault)?;
     if details {
-        append_offence(&mut lines, fault.offence.get())?;
+        append_beside(&mut lines, fault.offence.get(), aside)?;
     }
     Ok(lines)
 }
@@ -179,31 +231,86 @@ fn append_byte(lines: &mut Vec<u8>, byte: u8) -> Result<(), AllocError>
     append_detail(lines, b"byte", number.format(u64::from(byte)).as_bytes())
 }
 
-/// A byte that begins no piece, or the command behind which something is missing.
+/// A byte or character that begins no piece, or the command after which something is missing.
 fn append_bad(lines: &mut Vec<u8>, symbol: &[u8]) -> Result<(), AllocError>
     ensures { OnOk result (lines.new.items ≡ lines.old.items ++ spec.byte_details symbol.now) }
 {
     match symbol {
         [] => Ok(()),
         [byte] => append_byte(lines, *byte),
-        [_, _, ..] => append_detail(lines, b"symbol", symbol),
+        [first, _, ..] => append_detail(lines, bad_word(*first), symbol),
     }
+}
+
+/// What more than one byte is, by the first: a character outside ASCII, or a command.
+fn bad_word(first: u8) -> &'static [u8]
+    ensures { result.now ≡ spec.bad_word first }
+{
+    if first < 128 { b"symbol" } else { b"character" }
+}
+
+/// `    WORD: SYMBOL, line LINE`
+fn append_located(
+    lines: &mut Vec<u8>,
+    word: &[u8],
+    symbol: &[u8],
+    line: u32,
+) -> Result<(), AllocError>
+    ensures { OnOk result (lines.new.items ≡ lines.old.items ++ spec.detail word.now (spec.located symbol.now line)) }
+{
+    let mut number = Buffer::new();
+    lines.extend_from_slice(b"    ")?;
+    lines.extend_from_slice(word)?;
+    lines.extend_from_slice(b": ")?;
+    lines.extend_from_slice(symbol)?;
+    lines.extend_from_slice(b", line ")?;
+    lines.extend_from_slice(number.format(line).as_bytes())?;
+    lines.extend_from_slice(b"\n")
+}
+
+/// At what a box shows that it is not closed.
+fn append_closing(lines: &mut Vec<u8>, other: &[u8], line: u32) -> Result<(), AllocError>
+    ensures { OnOk result (lines.new.items ≡ lines.old.items ++ spec.closing_details other.now line) }
+{
+    match other {
+        [] => append_detail(lines, b"closed by", b"the end of the text"),
+        [_, ..] => append_located(lines, b"closed by", other, line),
+    }
+}
+
+/// A bracket that is not closed, where there is one.
+fn append_open(lines: &mut Vec<u8>, bracket: &[u8], line: u32) -> Result<(), AllocError>
+    ensures { OnOk result (lines.new.items ≡ lines.old.items ++ spec.open_details bracket.now line) }
+{
+    match bracket {
+        [] => Ok(()),
+        [_, ..] => append_located(lines, b"open", bracket, line),
+    }
+}
+
+/// A symbol that is unexpected.
+fn append_unexpected(lines: &mut Vec<u8>, about: &About<'_>) -> Result<(), AllocError>
+    ensures { OnOk result (lines.new.items ≡ lines.old.items ++ spec.unexpected_details (spec.cited_of about.now)) }
+{
+    append_if_any(lines, b"symbol", symbol_text(about.symbol))?;
+    append_open(lines, about.other, about.line)
 }
 
 /// What a fault of the text is about.
 fn append_text_details(
     lines: &mut Vec<u8>,
     kind: TextFaultKind,
-    symbol: &[u8],
+    about: &About<'_>,
 ) -> Result<(), AllocError>
-    ensures { OnOk result (lines.new.items ≡ lines.old.items ++ spec.text_details kind symbol.now) }
+    ensures { OnOk result (lines.new.items ≡ lines.old.items ++ spec.text_details kind (spec.cited_of about.now)) }
 {
+    let symbol = about.symbol;
     match kind {
         TextFaultKind::BadByte => append_bad(lines, symbol),
         TextFaultKind::UnknownCommand => append_if_any(lines, b"command", command_text(symbol)),
         TextFaultKind::NotInProfile => append_if_any(lines, b"symbol", symbol),
-        TextFaultKind::UnclosedBox => Ok(()),
-        TextFaultKind::Unexpected => append_if_any(lines, b"symbol", symbol_text(symbol)),
+        TextFaultKind::UnclosedBox => append_closing(lines, about.other, about.line),
+        TextFaultKind::Unexpected => append_unexpected(lines, about),
         TextFaultKind::NumberTooLarge => append_detail(lines, b"limit", b"9223372036854775807"),
         TextFaultKind::TooDeep => append_detail(lines, b"limit", b"128 levels"),
         TextFaultKind::TooLong => append_detail(lines, b"limit", b"1048576 bytes"),
@@ -211,19 +318,19 @@ fn append_text_details(
     }
 }
 
-/// The lines of a fault of the text, which is about this symbol.
+/// The lines of a fault of the text, which is about these symbols.
 pub fn text_fault_lines(
     alloc: Global,
     details: bool,
     file: &[u8],
     fault: TextFault,
-    symbol: &[u8],
+    about: &About<'_>,
 ) -> Result<Vec<u8>, AllocError>
-    ensures { IfOk result (λ v. v.items ≡ spec.text_fault_lines details file.now fault symbol.now) }
+    ensures { IfOk result (λ v. v.items ≡ spec.text_fault_lines details file.now fault (spec.cited_of about.now)) }
 {
     let mut lines = text_fault_line(alloc, file, fault)?;
     if details {
-        append_text_details(&mut lines, fault.kind, symbol)?;
+        append_text_details(&mut lines, fault.kind, about)?;
     }
     Ok(lines)
 }

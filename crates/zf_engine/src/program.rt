@@ -11,8 +11,13 @@ use std::io::Read;
 use std::rt::Files;
 use zf_command::asked::job_of;
 use zf_command::job::{Asked, Job, UsageFault};
+use zf_command::refused::{UNREAD, why_refused};
 use zf_lines::counted::Counted;
 use zf_lines::fault::RunFault;
+
+const BAD_ARGUMENTS: &str = "zf: bad arguments";
+
+const OUT_OF_MEMORY: &str = "zf: out of memory";
 
 /// Does what the words after the program's own name ask for. The answer is the status.
 pub fn program<R: Files + Input + Print + Eprint + AllocGlobal, S: AsStr>(rt: &R, words: &[S]) -> u8
@@ -23,17 +28,32 @@ pub fn program<R: Files + Input + Print + Eprint + AllocGlobal, S: AsStr>(rt: &R
     match job_of(rt.alloc(), words) {
         Ok(Asked::Work(file, job)) => work(rt, file.as_str(), &job),
         Ok(Asked::About(text)) => tell(rt, text.as_str()),
-        Err(fault) => refuse(rt, fault),
+        Err(UsageFault::BadWords) => refuse_words(rt, words),
+        Err(UsageFault::OutOfMemory) => complain(rt, OUT_OF_MEMORY, 4),
     }
 }
 
-/// Says why words are refused. The answer is the status.
+/// Says why words that cannot be read are refused. The answer is the status.
 pub fn refuse<R: Eprint>(rt: &R, fault: UsageFault) -> u8
     ensures { result ≡ refused_number fault }
 {
     match fault {
-        UsageFault::BadWords => complain(rt, "zf: bad arguments", 2),
-        UsageFault::OutOfMemory => complain(rt, "zf: out of memory", 4),
+        UsageFault::BadWords => {
+            let status = complain(rt, BAD_ARGUMENTS, 2);
+            complain(rt, UNREAD, status)
+        }
+        UsageFault::OutOfMemory => complain(rt, OUT_OF_MEMORY, 4),
+    }
+}
+
+/// Says that words are refused, and why, unless memory runs out. The answer is the status.
+fn refuse_words<R: Eprint + AllocGlobal, S: AsStr>(rt: &R, words: &[S]) -> u8
+    ensures { result ≡ 2 }
+{
+    let status = complain(rt, BAD_ARGUMENTS, 2);
+    match why_refused(rt.alloc(), words) {
+        Ok(lines) => complain(rt, lines.as_str(), status),
+        Err(_) => status,
     }
 }
 
@@ -80,7 +100,7 @@ fn work_over<R: Print + Eprint + AllocGlobal, D: Read + Drop>(
         Ok(status) => status.number(),
         Err(RunFault::ReadFailed) => complain(rt, "zf: read failed", 5),
         Err(RunFault::WriteFailed) => complain(rt, "zf: write failed", 5),
-        Err(RunFault::OutOfMemory) => complain(rt, "zf: out of memory", 4),
+        Err(RunFault::OutOfMemory) => complain(rt, OUT_OF_MEMORY, 4),
     }
 }
 

@@ -5,6 +5,7 @@ ghost use Rattle.zf_engine.specs.Stops.{AnswersShow};
 ghost use Rattle.zf_term.specs.DefinitionViews.{globals_of};
 
 use crate::check::{checked_in, fault_lines};
+use crate::report::Report;
 use crate::stop::Stop;
 use bumpalo::Bump;
 use std::alloc::Global;
@@ -16,16 +17,14 @@ pub fn typed_in<'a>(
     alloc: Global,
     trees: &'a Bump,
     arena: &'a Bump,
-    details: bool,
-    file: &[u8],
-    source: &'a [u8],
+    report: Report<'a>,
 ) -> Result<Globals<'a>, Stop>
-    ensures checks { IfOk result (λ g. Checks source.now (globals_of g) []) }
-    ensures stop { IfErr result (AnswersShow details file.now source.now) }
+    ensures checks { IfOk result (λ g. Checks report.entry.source.now (globals_of g) []) }
+    ensures stop { IfErr result (AnswersShow report.entry.details report.entry.file.now report.entry.source.now) }
 {
-    let checked = checked_in(alloc, trees, arena, details, file, source)?;
+    let checked = checked_in(alloc, trees, arena, report)?;
     if !checked.faults.as_slice().is_empty() {
-        let lines = fault_lines(alloc, details, file, checked.faults.as_slice())?;
+        let lines = fault_lines(alloc, report, checked.faults.as_slice())?;
         return Err(Stop::Answered(lines, Status::BadSpec));
     }
     Ok(checked.globals)

@@ -1,22 +1,22 @@
-use Rattle.zf_engine.proofs.Prelude.{◌∙◌, ap, inr, refl, rules, globals_of, schema_of, environment_of, ShowAnswer, stated, AnswersOver, IfAnswered, TellsInfinite, TellsMisfit, no_schema_line}
+use Rattle.zf_engine.proofs.Prelude.{◌∙◌, ap, inr, refl, rules, globals_of, schema_of, environment_of, ShowAnswer, stated, AnswersOver, IfAnswered, TellsInfinite, TellsMisfit, no_schema_lines}
 use Rattle.zf_engine.proofs.Refusing.{asked, has_schema, infinite_answers, misfit_answers, weaker_err}
 use Rattle.zf_engine.proofs.asked.asked_in.Goals as goal
 
 pub returns-in_default-clause-stop : goal.returns-in_default-clause-stop
 returns-in_default-clause-stop c = λ source checks.
-    inr (ShowAnswer.no_schema (globals_of c.args.globals.now) checks (λ a named. (rw c.as_str.ensures at c.in_default.ensures) named.0 a named.1) (c.in_ok-line.ensures ∙ ap no_schema_line c.as_bytes.ensures) refl)
+    inr (ShowAnswer.no_schema (globals_of c.args.globals.now) checks (λ a named. (rw c.as_str.ensures at c.in_default.ensures) named.0 a named.1) (c.in_ok-lines.ensures ∙ ap (no_schema_lines c.args.request.now.details (globals_of c.args.globals.now)) c.as_bytes-name.ensures) refl)
 
 pub returns-in_err-env-clause-stop : goal.returns-in_err-env-clause-stop
 returns-in_err-env-clause-stop c =
-    weaker_err _ (λ s. IfAnswered s (TellsMisfit (globals_of c.args.globals.now) (stated c.as_slice.result.now))) (AnswersOver (globals_of c.args.globals.now) c.args.request.now c.args.file.now)
-    (λ stop told source checks. misfit_answers c.args.request.now c.args.file.now source _ _ (has_schema c.args.request.now c.args.file.now source _ _ checks (rw c.as_str.ensures at c.in-Some.ensures)) stop (rw c.as_slice.ensures at told)) (search rules)
+    weaker_err _ (λ s. IfAnswered s (TellsMisfit c.args.request.now.details (globals_of c.args.globals.now) (stated (globals_of c.args.globals.now) c.args.request.now))) (AnswersOver (globals_of c.args.globals.now) c.args.request.now c.args.file.now)
+    (λ stop told source checks. misfit_answers c.args.request.now c.args.file.now source _ _ (has_schema c.args.request.now c.args.file.now source _ _ checks (rw c.as_str.ensures at c.in-Some.ensures)) stop told) (search rules)
 
 pub returns-in_err-check_end-clause-stop : goal.returns-in_err-check_end-clause-stop
 returns-in_err-check_end-clause-stop c =
     weaker_err _ (λ s. IfAnswered s (TellsInfinite (globals_of c.args.globals.now) (schema_of c.in-Some.schema.now) c.args.request.now.details c.args.file.now)) (AnswersOver (globals_of c.args.globals.now) c.args.request.now c.args.file.now)
-    (λ stop told source checks. infinite_answers c.args.request.now c.args.file.now source _ _ (has_schema c.args.request.now c.args.file.now source _ _ checks (rw c.as_str.ensures at c.in-Some.ensures)) (rw c.as_slice.ensures at c.in_ok-env.ensures.complete) stop told) (search rules)
+    (λ stop told source checks. infinite_answers c.args.request.now c.args.file.now source _ _ (has_schema c.args.request.now c.args.file.now source _ _ checks (rw c.as_str.ensures at c.in-Some.ensures)) c.in_ok-env.ensures.complete stop told) (search rules)
 
 pub returns-clause-asked : goal.returns-clause-asked
 returns-clause-asked c = λ source checks.
     asked c.args.request.now c.args.file.now source _ _ (environment_of c.in_ok-env.env) (has_schema c.args.request.now c.args.file.now source _ _ checks (rw c.as_str.ensures at c.in-Some.ensures))
-    (rw c.as_slice.ensures at c.in_ok-env.ensures.complete) (rw c.as_slice.ensures at c.in_ok-env.ensures.is) c.in_ok-check_end.ensures.ok
+    c.in_ok-env.ensures.complete c.in_ok-env.ensures.is c.in_ok-check_end.ensures.ok

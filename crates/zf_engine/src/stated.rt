@@ -1,0 +1,147 @@
+//! The sizes that a request states.
+ghost use Rattle.std.specs.Prelude.{◌≡◌, ◌++◌, ◌∷◌, [], IfOk, MatchOption, OnOk, Some, map};
+ghost use Rattle.std.specs.List.{list_any};
+ghost use Rattle.std.specs.Str.{bytes_eq};
+ghost use Rattle.zf_engine.specs.Answers as spec;
+ghost use Rattle.zf_meaning.specs.Counting.{given_at};
+ghost use Rattle.zf_meaning.specs.Sizes.{given_sets};
+ghost use Rattle.zf_term.specs.DefinitionViews.{globals_of};
+
+use std::alloc::{AllocError, Global};
+use zf_command::job::{Request, Size};
+use zf_data::Text;
+use zf_meaning::sizes::Size as StatedSize;
+use zf_term::globals::{Entry, Globals};
+
+/// The sizes of words, and then the one size of each given set that no word names.
+pub fn stated_sizes(
+    alloc: Global,
+    globals: &Globals<'_>,
+    request: &Request,
+) -> Result<Vec<StatedSize>, AllocError>
+    ensures { IfOk result (λ sizes. sizes.items ≡ spec.stated (globals_of globals.now) request.now) }
+{
+    let mut sizes = worded(alloc, request.sizes.as_slice())?;
+    if let Some(count) = request.size {
+        add_others(alloc, globals, count, &mut sizes)?;
+    }
+    Ok(sizes)
+}
+
+/// The sizes of words, as an environment takes them.
+fn worded(alloc: Global, words: &[Size]) -> Result<Vec<StatedSize>, AllocError>
+    ensures { IfOk result (λ sizes. sizes.items ≡ map spec.stated_size words.now) }
+{
+    let mut sizes = Vec::with_capacity(alloc, words.len())?;
+    for word in words {
+        sizes.push(stated_size(alloc, word)?)?;
+    }
+    Ok(sizes)
+}
+
+fn stated_size(alloc: Global, word: &Size) -> Result<StatedSize, AllocError>
+    ensures { IfOk result (λ size. size ≡ spec.stated_size word.now) }
+{
+    Ok(StatedSize {
+        name: Text::of(alloc, word.name.as_bytes())?,
+        count: word.count,
+    })
+}
+
+/// Adds one size of all given sets that have none.
+fn add_others(
+    alloc: Global,
+    globals: &Globals<'_>,
+    count: u64,
+    sizes: &mut Vec<StatedSize>,
+) -> Result<(), AllocError>
+    ensures { OnOk result (sizes.new.items ≡ sizes.old.items ++ spec.with_size (Some count) (spec.without_size sizes.old.items (given_sets (globals_of globals.now)))) }
+{
+    let sets = sets_without_size(alloc, globals, sizes)?;
+    add_sizes(alloc, &sets, count, sizes)
+}
+
+/// Adds one size of each of the sets.
+fn add_sizes(
+    alloc: Global,
+    sets: &[Text],
+    count: u64,
+    sizes: &mut Vec<StatedSize>,
+) -> Result<(), AllocError>
+    ensures { OnOk result (sizes.new.items ≡ sizes.old.items ++ spec.with_size (Some count) sets.now) }
+{
+    for set in sets {
+        let name = set.copy(alloc)?;
+        sizes.push(StatedSize { name, count })?;
+    }
+    Ok(())
+}
+
+/// The given sets for which no size is stated, in order of definition.
+pub fn sets_without_size(
+    alloc: Global,
+    globals: &Globals<'_>,
+    sizes: &[StatedSize],
+) -> Result<Vec<Text>, AllocError>
+    ensures { IfOk result (λ sets. sets.items ≡ spec.without_size sizes.now (given_sets (globals_of globals.now))) }
+{
+    let mut sets = Vec::new(alloc);
+    for place in 0..globals.len() {
+        add_set(alloc, globals, place, sizes, &mut sets)?;
+    }
+    Ok(sets)
+}
+
+/// Adds the name of the global at this place, if it is a given set for which no size is stated.
+fn add_set(
+    alloc: Global,
+    globals: &Globals<'_>,
+    place: usize,
+    sizes: &[StatedSize],
+    sets: &mut Vec<Text>,
+) -> Result<(), AllocError>
+    ensures { OnOk result (sets.new.items ≡ sets.old.items ++ spec.without_size sizes.now (given_at place (globals_of globals.now))) }
+{
+    match given_set(globals, place) {
+        Some(name) => add_unsized(alloc, sizes, name, sets),
+        None => Ok(()),
+    }
+}
+
+/// Adds the name of a given set, if no size is stated for it.
+fn add_unsized(
+    alloc: Global,
+    sizes: &[StatedSize],
+    name: &[u8],
+    sets: &mut Vec<Text>,
+) -> Result<(), AllocError>
+    ensures { OnOk result (sets.new.items ≡ sets.old.items ++ spec.without_size sizes.now (name.now ∷ [])) }
+{
+    if is_sized(sizes, name) {
+        return Ok(());
+    }
+    sets.push(Text::of(alloc, name)?)?;
+    Ok(())
+}
+
+/// The name of the global at this place, if it is a given set.
+fn given_set<'g>(globals: &'g Globals<'_>, place: usize) -> Option<&'g [u8]>
+    ensures { MatchOption result (given_at place (globals_of globals.now) ≡ []) (λ name. given_at place (globals_of globals.now) ≡ name.now ∷ []) }
+{
+    match globals.in_order(place) {
+        Some((name, Entry::Given(_))) => Some(name),
+        _ => None,
+    }
+}
+
+/// Whether a size is stated for the set.
+fn is_sized(sizes: &[StatedSize], set: &[u8]) -> bool
+    ensures { result ≡ list_any (λ s. bytes_eq s.name set.now) sizes.now }
+{
+    for size in sizes {
+        if size.name.as_slice() == set {
+            return true;
+        }
+    }
+    false
+}
