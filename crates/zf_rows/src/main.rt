@@ -8,7 +8,7 @@ use std::process::ExitCode;
 use std::rt::Files;
 use std::{fs, io};
 
-static NAMES: [&str; 23] = [
+static NAMES: [&str; 28] = [
     "answers",
     "calculus",
     "command_lines",
@@ -19,17 +19,22 @@ static NAMES: [&str; 23] = [
     "large",
     "limits",
     "meaning",
+    "missing",
     "names",
+    "needed",
     "order",
     "out_of_bounds",
+    "quoted",
     "ranges",
     "refusals",
     "resuming",
     "sessions",
+    "sizes",
     "small",
     "tests",
     "truths",
     "types",
+    "unread",
     "usual_z",
     "values",
 ];

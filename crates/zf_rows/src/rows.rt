@@ -15,6 +15,7 @@
 //! | `|` | a line of the next source |
 //! | `<` | a file that the next source has the text of |
 //! | `*` | a number, and words that the next source has so many times, with no end of a line |
+//! | `-` | a number: so many bytes at the end of the next source are left out |
 //! | `?` | the last line of the next source: the row is run |
 //! | `.` | the row is run |
 use std::alloc::{AllocError, Global};
@@ -37,6 +38,7 @@ pub struct Rows {
     before: String,
     behind: String,
     source: String,
+    left_out: usize,
     as_written: u64,
 }
 
@@ -50,6 +52,7 @@ impl Rows {
             before: String::new(alloc),
             behind: String::new(alloc),
             source: String::new(alloc),
+            left_out: 0,
             as_written: 0,
         }
     }
@@ -84,6 +87,7 @@ impl Rows {
             "|" => push_line(&mut self.source, rest)?,
             "<" => push_file(&mut self.source, rt, rest)?,
             "*" => push_often(&mut self.source, rest)?,
+            "-" => self.left_out = number_in(rest)?,
             "?" => {
                 push_line(&mut self.source, rest)?;
                 return self.run_row();
@@ -98,12 +102,15 @@ impl Rows {
         let alloc = *self.words.allocator();
         let source = format!(in alloc; "{}{}{}", self.before, self.source, self.behind)?;
         self.source.clear();
+        let kept = source.len().saturating_sub(self.left_out);
+        self.left_out = 0;
         let mut written = Vec::new(alloc);
         let mut words: Vec<&str> = self.words.split_whitespace().collect(alloc)?;
         for word in self.further.lines() {
             words.push(word)?;
         }
-        let status = status_of(alloc, words.as_slice(), source.as_bytes(), &mut written)?;
+        let bytes = &source.as_bytes()[..kept];
+        let status = status_of(alloc, words.as_slice(), bytes, &mut written)?;
         if status == self.status.as_str() && written.as_slice() == self.written.as_bytes() {
             self.as_written = self.as_written.saturating_add(1);
             return Ok(None);
@@ -144,13 +151,17 @@ fn push_often(text: &mut String, often: &str) -> io::Result<()> {
     let Some((number, words)) = often.split_once(' ') else {
         return Err(io::Error::from(ErrorKind::InvalidData));
     };
-    let Ok(times) = number.parse::<usize>() else {
-        return Err(io::Error::from(ErrorKind::InvalidData));
-    };
-    for _turn in 0..times {
+    for _turn in 0..number_in(number)? {
         text.push_str(words)?;
     }
     Ok(())
+}
+
+fn number_in(text: &str) -> io::Result<usize> {
+    match text.parse::<usize>() {
+        Ok(number) => Ok(number),
+        Err(_) => Err(io::Error::from(ErrorKind::InvalidData)),
+    }
 }
 
 /// What the words write over the source. The answer is the status.
