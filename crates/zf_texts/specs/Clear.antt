@@ -1,6 +1,7 @@
 -- When spellings are clear: each is that of one element, and it is seen where it ends.
 use Rattle.std.specs.Prelude.{◌≡◌, ℕ, ◌^◌, ◌<◌, ◌≤◌, true, List, [], ◌∷◌, length, Some, slice_get}
 use Rattle.std.specs.List.{list_all}
+use Rattle.zf_texts.specs.Words.{is_in_name}
 use Rattle.zf_texts.specs.declared.spelling.Spelling.{Spelling}
 use Rattle.zf_texts.specs.declared.spelling.Spelling.TheVariants.{Numbered, Named}
 
