@@ -1,12 +1,35 @@
 # Completion of zf for bash: options, files, then the schemas of the file and the sizes of its given sets.
 
-# What `zf check -t` lists in FILE behind WORD. It is given two seconds.
+# FILE without its comments, on one line.
+__zf_text() {
+    sed 's/\(^\|[^\\]\)%.*/\1/' "$1" | tr '\n' ' '
+}
+
+# The names that KIND (Schema or Given) has in the text of FILE, where the text has faults.
+__zf_written() {
+    local name="[A-Za-z]([A-Za-z0-9]|\\\\_)*"
+    case $1 in
+        Schema) __zf_text "$2" | grep -oE "\\\\begin\{schema\}\{$name\}|$name *\\\\defs" |
+            sed -E 's/^\\begin\{schema\}\{(.*)\}$/\1/; s/ *\\defs$//' ;;
+        Given) __zf_text "$2" | grep -oE "(\\\\begin\{zed\}|\\\\\\\\|\\\\also|;) *\[ *$name *(, *$name *)*\]" |
+            sed 's/^[^[]*\[//; s/\]//' | tr -s ', ' '\n' | sed '/^$/d' ;;
+    esac
+}
+
+# What `zf check -t` lists as KIND in FILE, or what is written there, where it has faults; each as a word of the shell.
+# The program is given two seconds.
 __zf_listed() {
-    local program=$1 word=$2 file=$3
+    local program=$1 kind=$2 file=$3 listing name
     file=${file/#\~/$HOME}
     file=${file//[\\\'\"]/}
     [[ -r $file && ! -d $file ]] || return 0
-    timeout 2 "$program" check -t "$file" 2> /dev/null | sed -n "s/^$word \([^ ]*\).*/\1/p"
+    if listing=$(timeout 2 "$program" check -t "$file" 2> /dev/null); then
+        sed -n "s/^$kind \([^ ]*\).*/\1/p" <<< "$listing"
+    else
+        __zf_written "$kind" "$file"
+    fi | sort -u | while read -r name; do
+        printf '%q\n' "$name"
+    done
 }
 
 _zf() {
@@ -14,7 +37,7 @@ _zf() {
     local words=() places=()
     COMPREPLY=()
 
-    # bash parts words at `=`: NAME=2 is three of them
+    # bash splits words at `=`: NAME=2 is three of them
     for ((place = 1; place <= COMP_CWORD; place++)); do
         word=${COMP_WORDS[place]}
         if [[ ${#words[@]} -gt 0 && ($word == = || ${words[-1]} == *[!=]=) ]]; then
@@ -31,7 +54,7 @@ _zf() {
             skip=no
         elif [[ $options == yes && $word == -- ]]; then
             options=no
-        elif [[ $options == yes && ($word == --after || $word == --with || $word == --limit) ]]; then
+        elif [[ $options == yes && $word =~ ^--(after|with|limit|size)$ ]]; then
             skip=yes
         elif [[ $options == yes && $word == -?* ]]; then
             continue
@@ -46,23 +69,26 @@ _zf() {
     [[ $skip == no ]] || return 0
     if [[ $options == yes && $current == -* ]]; then
         case $command in
-            check) mapfile -t COMPREPLY < <(compgen -W '-t --details --help' -- "$current") ;;
-            show) mapfile -t COMPREPLY < <(compgen -W '--after --with --limit --tests --details --help' -- "$current") ;;
-            *) mapfile -t COMPREPLY < <(compgen -W '--help --version' -- "$current") ;;
+            check) mapfile -t COMPREPLY < <(compgen -W '-t -d --details -h --help' -- "$current") ;;
+            show) mapfile -t COMPREPLY < <(compgen -W '--after --with --limit --size --tests -d --details -h --help' -- "$current") ;;
+            '') mapfile -t COMPREPLY < <(compgen -W '-h --help -V --version' -- "$current") ;;
         esac
     elif [[ -z $command ]]; then
         mapfile -t COMPREPLY < <(compgen -W 'check show help' -- "$current")
+    elif [[ $command == help && ${#places[@]} -eq 0 ]]; then
+        mapfile -t COMPREPLY < <(compgen -W 'check show' -- "$current")
     elif [[ ($command == check || $command == show) && ${#places[@]} -eq 0 ]]; then
         compopt -o filenames
         mapfile -t COMPREPLY < <(compgen -d -- "$current"; compgen -f -X '!*.tex' -- "$current")
     elif [[ $command == show && ${#places[@]} -eq 1 ]]; then
-        mapfile -t COMPREPLY < <(compgen -W "$(__zf_listed "$1" Schema "${places[0]}")" -- "$current")
+        while read -r word; do
+            [[ $word != "$current"* ]] || COMPREPLY+=("$word")
+        done < <(__zf_listed "$1" Schema "${places[0]}")
     elif [[ $command == show && $current != *=* ]]; then
-        local given
         compopt -o nospace
-        for given in $(__zf_listed "$1" Given "${places[0]}"); do
-            [[ $given != "$current"* || " ${places[*]} " == *" $given="* ]] || COMPREPLY+=("$given=")
-        done
+        while read -r word; do
+            [[ $word != "$current"* || " ${places[*]} " == *" $word="* ]] || COMPREPLY+=("$word=")
+        done < <(__zf_listed "$1" Given "${places[0]}")
     fi
 }
 

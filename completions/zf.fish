@@ -6,7 +6,7 @@ function __zf_places
     for word in (commandline --tokenize --current-process --cut-at-cursor)
         if test $skip = yes
             set skip no
-        else if contains -- $word --after --with --limit
+        else if contains -- $word --after --with --limit --size
             set skip yes
         else if not string match --quiet -- '-?*' $word
             echo $word
@@ -19,17 +19,36 @@ function __zf_stands_at -a command count
     test (count $places) -eq $count; and test "$places[2]" = $command
 end
 
-function __zf_stands_behind -a command count
+function __zf_stands_after -a command count
     set -l places (__zf_places)
     test (count $places) -ge $count; and test "$places[2]" = $command
 end
 
-# What `zf check -t` lists in the file behind a word. It is given two seconds.
-function __zf_listed -a word
+# The names that a kind (Schema or Given) has in the text of the file, where the text has faults.
+function __zf_written -a kind file
+    set -l text (string replace --regex -- '(^|[^\\\\])%.*' '$1' <$file | string join ' ')
+    set -l name '[A-Za-z](?:[A-Za-z0-9]|\\\\_)*'
+    switch $kind
+        case Schema
+            string match --all --regex --groups-only -- "\\\\begin\{schema\}\{($name)\}" $text
+            string match --all --regex --groups-only -- "($name) *\\\\defs" $text
+        case Given
+            string match --all --regex --groups-only -- "(?:\\\\begin\{zed\}|\\\\\\\\|\\\\also|;) *\[ *($name(?: *, *$name)*) *\]" $text |
+                string split , | string trim
+    end
+end
+
+# What `zf check -t` lists as a kind in the file, or what is written there, where it has faults. The program is given two seconds.
+function __zf_listed -a kind
     set -l places (__zf_places)
     set -l file (string replace --regex '^~' $HOME -- $places[3])
     test -r "$file"; and not test -d "$file"; or return
-    timeout 2 $places[1] check -t $file 2>/dev/null | string match --regex --groups-only "^$word (\S+)"
+    set -l listing (timeout 2 $places[1] check -t $file 2>/dev/null)
+    if test $status -eq 0
+        string match --regex --groups-only -- "^$kind (\S+)" $listing
+    else
+        __zf_written $kind $file
+    end
 end
 
 complete -c zf -f
@@ -38,13 +57,18 @@ complete -c zf -n 'test (count (__zf_places)) -eq 1' -s V -l version -d 'Print t
 complete -c zf -n 'test (count (__zf_places)) -eq 1' -a check -d 'Write the faults of a specification'
 complete -c zf -n 'test (count (__zf_places)) -eq 1' -a show -d 'Write the bindings of a schema'
 complete -c zf -n 'test (count (__zf_places)) -eq 1' -a help -d 'Print help'
-complete -c zf -n '__zf_stands_behind check 2' -s t -d 'Write also what is defined, with its types'
-complete -c zf -n '__zf_stands_behind check 2' -s d -l details -d 'Write behind each fault what it is about'
-complete -c zf -n '__zf_stands_behind show 2' -x -l after -d 'Write only what comes after this binding'
-complete -c zf -n '__zf_stands_behind show 2' -x -l with -d 'Write only the bindings with these values'
-complete -c zf -n '__zf_stands_behind show 2' -x -l limit -d 'Write at most so many bindings'
-complete -c zf -n '__zf_stands_behind show 2' -l tests -d 'Write also how many tests were finished'
-complete -c zf -n '__zf_stands_behind show 2' -s d -l details -d 'Write behind each fault what it is about'
+complete -c zf -n '__zf_stands_at help 2' -a check -d 'Write the faults of a specification'
+complete -c zf -n '__zf_stands_at help 2' -a show -d 'Write the bindings of a schema'
+complete -c zf -n '__zf_stands_after check 2' -s h -l help -d 'Print help'
+complete -c zf -n '__zf_stands_after check 2' -s t -d 'Write also what is defined, with its types'
+complete -c zf -n '__zf_stands_after check 2' -s d -l details -d 'Write after each fault what it is about'
+complete -c zf -n '__zf_stands_after show 2' -s h -l help -d 'Print help'
+complete -c zf -n '__zf_stands_after show 2' -x -l after -d 'Write only what follows this binding'
+complete -c zf -n '__zf_stands_after show 2' -x -l with -d 'Write only the bindings with these values'
+complete -c zf -n '__zf_stands_after show 2' -x -l limit -d 'Write at most so many bindings'
+complete -c zf -n '__zf_stands_after show 2' -x -l size -d 'The size of each other given set'
+complete -c zf -n '__zf_stands_after show 2' -l tests -d 'Write also how many tests were finished'
+complete -c zf -n '__zf_stands_after show 2' -s d -l details -d 'Write after each fault what it is about'
 complete -c zf -n '__zf_stands_at check 2; or __zf_stands_at show 2' -F
 complete -c zf -n '__zf_stands_at show 3' -a '(__zf_listed Schema)' -d schema
-complete -c zf -n '__zf_stands_behind show 4' -a '(__zf_listed Given | string replace --regex \$ =)' -d 'given set'
+complete -c zf -n '__zf_stands_after show 4' -a '(__zf_listed Given | string replace --regex \$ =)' -d 'given set'
