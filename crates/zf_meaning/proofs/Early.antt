@@ -1,11 +1,11 @@
 -- Parts of a binder that tell that rows do not count.
-use Rattle.zf_meaning.proofs.Prelude.{◌++◌, ◌+◌, ◌<◌, ◌↔◌, ◌∙◌, ◌∷◌, ◌≡◌, ◌≤◌, [], ap, arith, Bool, false, get_or, inl, inr, length, List, map, None, Option, refl, Some, slice_get, subst, suc, sym, take, true, zero, ℕ, ⊎_elim, take_all, false≢true, All-push, All, Bor, IfSome, AreFrom, Is, Out, Outcome, Undefined, Truth, False, Value, And, Quantifier, Exists, ExistsOne, ForAll, Local, Reference, link-seen, of-Binary, of-Bracket, of-Builder, of-Chain, of-Name, of-Quantified, chain, link, links, no_links, part_of, reference, resolved_link_of, resolved_of, ResolvedTree, Range, Resolved, ResolvedLink, size-Resolved, IsEarlier, seen, AreNeutral, AreNeutralIf, IsBound, IsEquation, IsOther, IsPart, IsPiece, IsVariable, IsWanted, neutral, PassesBy, ArePassed, Falsifies, IsNeutral, Refutes, Wants, Context, value_or, within, HasOutcome, IsConstraint, IsTruth, need, Front, IsPassed, Passing, Holds, IsAtom, IsTold, Span, Wanted}
+use Rattle.zf_meaning.proofs.Prelude.{◌++◌, ◌+◌, ◌<◌, ◌↔◌, ◌∙◌, ◌∷◌, ◌≡◌, ◌≤◌, ◌⊎◌, [], ap, arith, Bool, false, get_or, inl, inr, length, List, map, None, Option, refl, Some, slice_get, subst, suc, sym, take, true, zero, ℕ, ⊎_elim, take_all, false≢true, All-push, All, Bor, IfSome, AreFrom, Is, Out, Outcome, Undefined, Truth, False, Value, And, Quantifier, Exists, ExistsOne, ForAll, Local, Reference, link-seen, of-Binary, of-Bracket, of-Builder, of-Chain, of-Name, of-Quantified, chain, link, links, no_links, part_of, reference, resolved_link_of, resolved_of, ResolvedTree, Range, Resolved, ResolvedLink, size-Resolved, IsEarlier, seen, AreNeutral, AreNeutralIf, IsBound, IsEquation, IsOther, IsPart, IsPiece, IsVariable, IsWanted, neutral, PassesBy, ArePassed, Falsifies, IsNeutral, Refutes, Wants, Context, value_or, within, HasOutcome, IsConstraint, IsTruth, need, part_need, NeedsFront, Front, IsPassed, Passing, Holds, IsAtom, IsTold, Span, Wanted}
 use Rattle.std.proofs.lemmas.Option.{same_Some}
 use Rattle.zf_tree.specs.declared.symbol.Relation.TheVariants.{Equal}
 use Rattle.zf_tree.specs.declared.operator.Operator.TheVariants.{Connective}
 use Rattle.zf_term.specs.declared.resolved.Resolved.TheVariants as v
 use Rattle.zf_meaning.specs.declared.evaluate.early.Piece.{Piece}
-use Rattle.zf_meaning.proofs.SameLocals.{same-row, same-row-outcome}
+use Rattle.zf_meaning.proofs.SameLocals.{same-row, same-row-outcome, same-row-told}
 use Rattle.zf_meaning.proofs.Walking.{MayPass}
 
 -- ---- rows that do not count
@@ -193,11 +193,31 @@ pub neutral-other-if : (whole : Resolved) (span : Span) (term : Resolved) (wante
 neutral-other-if whole span term wanted here c row o None part w b h n by = tt
 neutral-other-if whole span term wanted here c row o (Some p) part w b h n by = neutral-other whole span term wanted here c row o by.0 p part w b h n by.1 by.2
 
+-- where the row does not count, none does that begins with the values which the quantifier needs
+pub neutral-front : (d : Resolved) (q : Quantifier) (l : ℕ) (rs : List Range) (p : Option Resolved) (e : Resolved) (span : Span) (front : ℕ) (here c : Context) (row : List Value) → d ≡ v.Quantified q l rs p e → IsBound span here c row
+    → NeedsFront span front (part_of p) (resolved_of e) → IsTold q (λ a. IsConstraint here (part_of p) a) (λ b. IsTruth here (resolved_of e) b) (neutral q) → ArePassed (resolved_of d) c row (Front front)
+unfolding ArePassed IsNeutral
+neutral-front d q l rs p e span front here c row is b needs told =
+    λ vs m i.
+    let whole : length c.locals + length vs ≡ span.whole = omega (arith, b.whole, m) in
+    let part : part_need (length c.locals + length vs) (part_of p) ≤ length c.locals + front = subst (λ n. part_need n (part_of p) ≤ length c.locals + front) (sym whole) (omega (arith, needs, b.outside)) in
+    let body : need (length c.locals + length vs) (resolved_of e) ≤ length c.locals + front = subst (λ n. need n (resolved_of e) ≤ length c.locals + front) (sym whole) (omega (arith, needs, b.outside)) in
+    let here = subst (λ k. IsTold q (λ a. IsConstraint k (part_of p) a) (λ x. IsTruth k (resolved_of e) x) (neutral q)) b.is told in
+    inr (subst (λ t. IsNeutral t (within c vs)) (sym (ap resolved_of is ∙ of-Quantified l q rs p e)) (same-row-told c front row vs q (part_of p) (resolved_of e) (neutral q) (sym m) (sym i) part body here))
+
 -- only this row begins with all its values
 pub itself-passed : (whole : ResolvedTree) (span : Span) (here c : Context) (row : List Value) → IsBound span here c row → ArePassed whole c row (Front span.whole)
 unfolding ArePassed
 itself-passed whole span here c row b =
     λ vs l e. inl (sym (take_all span.whole vs (omega (arith, l, b.whole))) ∙ e ∙ take_all span.whole row (omega (arith, b.whole)))
+
+-- the rows that are passed after one that is bound
+pub passed-after : (d : Resolved) (q : Quantifier) (l : ℕ) (rs : List Range) (p : Option Resolved) (e : Resolved) (span : Span) (front : ℕ) (here c : Context) (row : List Value) (w : Truth) (passing : Passing) → d ≡ v.Quantified q l rs p e → IsBound span here c row
+    → NeedsFront span front (part_of p) (resolved_of e) → IsTold q (λ a. IsConstraint here (part_of p) a) (λ b. IsTruth here (resolved_of e) b) w → (passing ≡ Front span.whole) ⊎ ((w ≡ neutral q) × (passing ≡ Front front)) → ArePassed (resolved_of d) c row passing
+passed-after d q l rs p e span front here c row w passing is b needs told (inl whole) = subst (ArePassed (resolved_of d) c row) (sym whole) (itself-passed (resolved_of d) span here c row b)
+passed-after d q l rs p e span front here c row w passing is b needs told (inr (none, same)) =
+    subst (ArePassed (resolved_of d) c row) (sym same)
+    (neutral-front d q l rs p e span front here c row is b needs (subst (λ u. IsTold q (λ a. IsConstraint here (part_of p) a) (λ x. IsTruth here (resolved_of e) x) u) none told))
 
 pub from_length : (ss vs : List Value) → AreFrom vs ss → length vs ≡ length ss
 from_length [] [] h = refl

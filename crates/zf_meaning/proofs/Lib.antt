@@ -26,6 +26,7 @@ pub mod Linking
 pub mod Turns
 pub mod Early
 pub mod NeedsFound
+mod NeedsBelow
 pub mod Binding
 pub mod CarrierLists
 pub mod InRow

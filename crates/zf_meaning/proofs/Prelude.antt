@@ -67,7 +67,7 @@ pub use Rattle.zf_meaning.specs.Carriers.{AreCarriers, IsCarrier, IsTypeSetIf}
 pub use Rattle.zf_meaning.specs.Connected.{conjunction, connected, connective_of, decided, disjunction, equivalence}
 pub use Rattle.zf_meaning.specs.Described.{IsDescribed, IsOfArrow, IsWithin, IsUnbuilt, told_in}
 unfoldable pub use Rattle.zf_meaning.specs.Described.{Describes, IsInDescribed, IsTruthIn}
-pub use Rattle.zf_meaning.specs.Early.{AreNeutral, AreNeutralIf, IsBound, IsEarlier, IsEquation, IsOther, IsPart, IsPiece, IsVariable, IsWanted, neutral, PassesBy}
+pub use Rattle.zf_meaning.specs.Early.{AreNeutral, AreNeutralIf, IsBound, IsEarlier, IsEquation, IsOther, IsPart, IsPiece, IsVariable, IsWanted, neutral, NeedsFront, PassesBy}
 unfoldable pub use Rattle.zf_meaning.specs.Early.{ArePassed, Falsifies, IsNeutral, Refutes, Wants}
 pub use Rattle.zf_meaning.specs.Environments.{AreElementsIf, before, Context, definition_number, element_count, Environment, found_number, globally, outcome_in, type_number, value_or, within}
 pub use Rattle.zf_meaning.specs.Laws.{with_further}

@@ -1,5 +1,5 @@
 -- A term means the same where the bound variables that it names have the same values.
-use Rattle.zf_meaning.proofs.Prelude.{◌++◌, ◌+◌, ◌<◌, ◌∷◌, ◌≡◌, ◌≤◌, ◌⊎◌, [], ap, arith, cond, inl, inr, length, List, refl, subst, suc, take, zero, ℕ, ⊎_elim, nat_tests, nat_lt, slice_get, Reference, Component, Global, Local, Outcome, Truth, Value, absent, binary, bracket, builder, chain, constant, empty_set, link, listed, no_links, no_ranges, no_terms, number, present, quantified, range, Ranges, reference, ResolvedLinks, ResolvedPart, ResolvedTree, ResolvedTrees, term, unary, Context, outcome_in, value_or, within, AreLinked, Builds, HasOutcome, HaveOutcomes, HaveRanges, infinite_right, IsBuilt, IsConstraint, IsLink, IsTruth, all_need, links_need, need, part_need, place_below, ranges_need, OnBoth, one_more, OnOne, OnSeveral, repeated, Several, BinaryOutcome, ListedOutcome, UnaryOutcome, IsConjunction, IsConnected, IsQuantified, IsTold, opposite}
+use Rattle.zf_meaning.proofs.Prelude.{◌++◌, ◌+◌, ◌<◌, ◌∷◌, ◌≡◌, ◌≤◌, ◌⊎◌, [], ap, arith, cond, inl, inr, length, List, refl, subst, suc, take, zero, ℕ, ⊎_elim, nat_tests, nat_lt, slice_get, Reference, Component, Global, Local, Outcome, Truth, Value, absent, binary, bracket, builder, chain, constant, empty_set, link, listed, no_links, no_ranges, no_terms, number, present, quantified, range, Ranges, reference, ResolvedLinks, ResolvedPart, ResolvedTree, ResolvedTrees, term, unary, Context, outcome_in, value_or, within, AreLinked, Builds, HasOutcome, HaveOutcomes, HaveRanges, infinite_right, IsBuilt, IsConstraint, IsLink, IsTruth, all_need, links_need, need, part_need, place_below, ranges_need, OnBoth, one_more, OnOne, OnSeveral, repeated, Several, BinaryOutcome, ListedOutcome, UnaryOutcome, IsConjunction, IsConnected, IsQuantified, IsTold, opposite, Quantifier}
 use Rattle.zf_tree.specs.declared.operator.Operator.TheVariants as operator
 use Rattle.zf_tree.specs.declared.operator.Unary.TheVariants as the_unary
 
@@ -132,6 +132,15 @@ rows_alike ls front us vs l e = record { lengths = lengths_behind ls us vs l; ea
 pub same-row-outcome : (c : Context) (front : ℕ) (us vs : List Value) (t : ResolvedTree) (o : Outcome) → length us ≡ length vs → take front us ≡ take front vs → need (length c.locals + length vs) t ≤ length c.locals + front → HasOutcome (within c us) t o → HasOutcome (within c vs) t o
 same-row-outcome c front us vs t o l e h p =
     subst (λ X. X) (same_outcome (within c us) (c.locals ++ vs) (length c.locals + front) (length c.locals + length vs) t (rows_alike c.locals front us vs l e) h o) p
+
+pub same-row-told : (c : Context) (front : ℕ) (us vs : List Value) (q : Quantifier) (p : ResolvedPart) (t : ResolvedTree) (u : Truth) → length us ≡ length vs → take front us ≡ take front vs
+    → part_need (length c.locals + length vs) p ≤ length c.locals + front → need (length c.locals + length vs) t ≤ length c.locals + front
+    → IsTold q (λ a. IsConstraint (within c us) p a) (λ b. IsTruth (within c us) t b) u → IsTold q (λ a. IsConstraint (within c vs) p a) (λ b. IsTruth (within c vs) t b) u
+same-row-told c front us vs q p t u l e h k told =
+    let n = length c.locals + front in
+    let m = length c.locals + length vs in
+    let alike = rows_alike c.locals front us vs l e in
+    subst (λ X. X) (λ i. IsTold q (λ a. same_constraint (within c us) (c.locals ++ vs) n m p alike h a i) (λ b. same_truth (within c us) (c.locals ++ vs) n m t alike k b i) u) told
 
 pub same-row : (c : Context) (front : ℕ) (us vs : List Value) (t : ResolvedTree) (u : Truth) → length us ≡ length vs → take front us ≡ take front vs → need (length c.locals + length vs) t ≤ length c.locals + front → IsTruth (within c us) t u → IsTruth (within c vs) t u
 same-row c front us vs t u l e h p =

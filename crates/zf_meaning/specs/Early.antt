@@ -1,11 +1,11 @@
 -- Rows that do not count, and the parts of a binder that tell so before all variables are bound. No public clause rests on this.
-use Rattle.std.specs.Prelude.{◌≡◌, ◌⊎◌, ℕ, ◌+◌, ◌<◌, ◌≤◌, List, length, Option, Some, None, IfSome, slice_get}
+use Rattle.std.specs.Prelude.{◌≡◌, ◌⊎◌, ℕ, ◌+◌, ◌<◌, ◌≤◌, max, List, length, Option, Some, None, IfSome, slice_get}
 use Rattle.zf_reference.specs.declared.reference.Reference.TheVariants.{Local}
 use Rattle.zf_tree.specs.declared.symbol.Quantifier.{Quantifier}
 use Rattle.zf_tree.specs.declared.symbol.Quantifier.TheVariants.{ForAll, Exists, ExistsOne}
 use Rattle.zf_tree.specs.declared.symbol.Relation.TheVariants.{Equal}
 use Rattle.zf_term.specs.declared.resolved.Resolved.{Resolved, size-Resolved}
-use Rattle.zf_term.specs.ResolvedTrees.{ResolvedTree, reference, number, constant, empty_set, bracket, listed, builder, unary, binary, chain, quantified, link, no_links}
+use Rattle.zf_term.specs.ResolvedTrees.{ResolvedTree, reference, number, constant, empty_set, bracket, listed, builder, unary, binary, chain, quantified, link, no_links, ResolvedPart}
 use Rattle.zf_term.specs.ResolvedViews.{resolved_of}
 use Rattle.zf_value.specs.declared.plain.Value.{Value}
 use Rattle.zf_value.specs.declared.value.Outcome.{Outcome}
@@ -19,7 +19,7 @@ use Rattle.zf_meaning.specs.declared.rows.Passing.{Passing}
 use Rattle.zf_meaning.specs.declared.rows.Passing.TheVariants as passing
 use Rattle.zf_meaning.specs.Environments.{Context, within}
 use Rattle.zf_meaning.specs.Meaning.{HasOutcome, IsConstraint, IsTruth}
-use Rattle.zf_meaning.specs.Needs.{need}
+use Rattle.zf_meaning.specs.Needs.{need, part_need}
 use Rattle.zf_meaning.specs.Rowed.{IsPassed}
 use Rattle.zf_meaning.specs.Truths.{IsTold}
 
@@ -97,6 +97,10 @@ pub record IsPiece (whole : Resolved) (span : Span) (piece : Piece) : Type 0 whe
   pub part : IsPart whole piece.term.now
   pub needs : need span.whole (resolved_of piece.term.now) ≤ span.outside + piece.front
   pub wanted : IfSome piece.wanted (IsWanted piece.term.now span)
+
+-- a quantifier with this constraint and body needs so many first variables of its own
+abbrev pub NeedsFront : Span → ℕ → ResolvedPart → ResolvedTree → Type 0
+NeedsFront span front p t = max (need span.whole t) (part_need span.whole p) ≤ span.outside + front
 
 -- of the rows that may be passed beside this one, none counts but it
 unfoldable pub ArePassed : ResolvedTree → Context → List Value → Passing → Type 0

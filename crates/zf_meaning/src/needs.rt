@@ -20,6 +20,9 @@ pub(crate) fn last_local(term: &Resolved<'_>, bound: usize) -> usize
 fn last_below(term: &Resolved<'_>, bound: usize, found: usize) -> usize
     ensures { result ≡ max found (need bound (resolved_of term.now)) }
 {
+    if found >= bound {
+        return found;
+    }
     match term {
         Resolved::Name(_, reference) => later(*reference, bound, found),
         Resolved::Number(_, _) => found,
@@ -83,7 +86,7 @@ fn last_of_ranges<'a>(
 }
 
 #[cycle(last)]
-fn last_of_part(part: &Part<'_>, bound: usize, found: usize) -> usize
+pub(crate) fn last_of_part(part: &Part<'_>, bound: usize, found: usize) -> usize
     ensures { result ≡ max found (part_need bound (part_of part.now)) }
 {
     match part.get() {

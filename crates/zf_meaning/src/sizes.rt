@@ -53,7 +53,7 @@ impl<T: Drop> From<AllocFailed<T>> for SizeFault {
 }
 
 /// The names of the given sets, in order of definition.
-pub(crate) fn given_names(alloc: Global, globals: &Globals<'_>) -> Result<Vec<Text>, AllocError>
+pub fn given_names(alloc: Global, globals: &Globals<'_>) -> Result<Vec<Text>, AllocError>
     ensures { IfOk result (λ sets. sets.items ≡ given_sets (globals_of globals.now)) }
 {
     let mut sets = Vec::new(alloc);

@@ -13,7 +13,7 @@ ghost use Rattle.zf_value.specs.declared.plain.Value as value;
 ghost use Rattle.zf_value.specs.Operations.{AreFrom};
 ghost use Rattle.zf_meaning.specs.Building.{AddsRow, AddsValue};
 ghost use Rattle.zf_meaning.specs.RangeSets.{spread};
-ghost use Rattle.zf_meaning.specs.Early.{IsPiece, IsBound, AreNeutralIf, ArePassed, ArePassedIf};
+ghost use Rattle.zf_meaning.specs.Early.{NeedsFront, IsPiece, IsBound, AreNeutralIf, ArePassed, ArePassedIf};
 ghost use Rattle.zf_meaning.specs.Environments.{Context, within};
 ghost use Rattle.zf_meaning.specs.Forms.{IsQuantified, IsBuilder};
 ghost use Rattle.zf_meaning.specs.Found.{found_outcome};
@@ -23,7 +23,7 @@ ghost use Rattle.zf_meaning.specs.Scopes.{scope_of};
 ghost use Rattle.zf_meaning.specs.Truths.{IsTold, IsOver};
 
 use super::chains::is_false;
-use super::early::{Piece, Span, neutral, passing_by, pieces_of, span_of};
+use super::early::{Piece, Span, front_of, neutral, passing_after, passing_by, pieces_of, span_of};
 use super::ranges::{Spread, declared_sets, lists_of};
 use super::{empty_set, outcome, truth};
 use crate::connected::{connected, connective_of, decided};
@@ -75,7 +75,7 @@ fn over_rows<'v, 'a, R: Row>(
     ensures { (q : Quantifier) (l : ℕ) (rs : List range.Range) (p : Option resolved.Resolved) (e : resolved.Resolved) → term.now ≡ form.Quantified q l rs p e
         → IfOk result (IsOver q (λ vs. AreFrom vs (spread sets.now)) (λ vs w. IsTold q (λ a. IsConstraint (within (scope_of env.now (R.values row.now) locals.now) vs) (part_of p) a) (λ b. IsTruth (within (scope_of env.now (R.values row.now) locals.now) vs) (resolved_of e) b) w)) }
 {
-    let Resolved::Quantified(quantifier, _, _, _, _) = term else {
+    let Resolved::Quantified(quantifier, _, _, constraint, body) = term else {
         unreachable!();
     };
     let alloc = env.allocator();
@@ -84,10 +84,11 @@ fn over_rows<'v, 'a, R: Row>(
         return Ok(tally.truth(*quantifier));
     };
     let span = span_of(locals, &rows);
-    let pieces = pieces_of(alloc, term, span, &rows)?;
+    let front = front_of(constraint, body.get(), span, &rows);
+    let pieces = pieces_of(alloc, term, span, front, &rows)?;
     let mut anew = 0;
     'walk: loop {
-        let met = met_at(term, span, &pieces, anew, &*row, rows.bound(), &*env)?;
+        let met = met_at(term, span, front, &pieces, anew, &*row, rows.bound(), &*env)?;
         tally = tally.with(met.truth);
         if tally.is_settled(*quantifier) {
             return Ok(tally.truth(*quantifier));
@@ -106,11 +107,12 @@ pub(crate) struct Met<'v> {
     pub passing: Passing<'v>,
 }
 
-/// What a quantifier tells of the row that is bound, of which some first values are anew.
+/// What a quantifier that needs so many first variables tells of the row that is bound, of which some first values are anew.
 #[cycle(meaning)]
 fn met_at<'v, 'a, R: Row>(
     term: &Resolved<'a>,
     span: Span,
+    front: usize,
     pieces: &[Piece<'_, 'a>],
     anew: usize,
     row: &'v R,
@@ -118,6 +120,7 @@ fn met_at<'v, 'a, R: Row>(
     env: &'v Env<'_, 'a>,
 ) -> Result<Met<'v>, AllocError>
     requires form { IsQuantified term.now }
+    requires front { (q : Quantifier) (l : ℕ) (rs : List range.Range) (p : Option resolved.Resolved) (e : resolved.Resolved) → term.now ≡ form.Quantified q l rs p e → NeedsFront span front (part_of p) (resolved_of e) }
     requires pieces { All (IsPiece term.now span) pieces.now }
     ensures told { (c : Context) (vs : List value.Value) → IsBound span (scope_of env.now (R.values row.now) bound.now) c vs
         → (q : Quantifier) (l : ℕ) (rs : List range.Range) (p : Option resolved.Resolved) (e : resolved.Resolved) → term.now ≡ form.Quantified q l rs p e
@@ -137,7 +140,7 @@ fn met_at<'v, 'a, R: Row>(
     let truth = told_at(term, row, bound, env)?;
     Ok(Met {
         truth,
-        passing: Passing::Front(span.whole),
+        passing: passing_after(*quantifier, truth, span, front),
     })
 }
 
@@ -274,7 +277,7 @@ fn built_over<'v, 'a, R: Row>(
         return set::display(alloc, built);
     };
     let span = span_of(locals, &rows);
-    let pieces = pieces_of(alloc, term, span, &rows)?;
+    let pieces = pieces_of(alloc, term, span, span.whole, &rows)?;
     let mut anew = 0;
     'walk: loop {
         let Some(passing) = built_at(

@@ -1,5 +1,5 @@
 //! What of a binder tells that rows do not count before all its variables are bound: parts of what has to hold, each with the variables that it needs.
-ghost use Rattle.std.specs.Prelude.{◌≡◌, ◌↔◌, ◌+◌, ◌<◌, ◌≤◌, [], ◌∷◌, ℕ, IfOk, IfSome, IsTrue, OnOk, Some, length, slice_get};
+ghost use Rattle.std.specs.Prelude.{◌≡◌, ◌↔◌, ◌⊎◌, ◌+◌, ◌<◌, ◌≤◌, [], ◌∷◌, ℕ, IfOk, IfSome, IsTrue, OnOk, Some, length, slice_get};
 ghost use Rattle.std.specs.List.{All};
 ghost use Rattle.zf_reference.specs.declared.reference.Reference.TheVariants as references;
 ghost use Rattle.zf_tree.specs.declared.symbol.Connective.TheVariants.{And};
@@ -8,18 +8,19 @@ ghost use Rattle.zf_tree.specs.declared.symbol.Relation.TheVariants as relations
 ghost use Rattle.zf_term.specs.declared.resolved.Resolved as resolved;
 ghost use Rattle.zf_term.specs.declared.resolved.ResolvedLink as link;
 ghost use Rattle.zf_term.specs.declared.resolved.Resolved.{size-Resolved};
-ghost use Rattle.zf_term.specs.ResolvedViews.{resolved_of};
+ghost use Rattle.zf_term.specs.ResolvedViews.{resolved_of, part_of};
 ghost use Rattle.zf_meaning.specs.Early as spec;
-ghost use Rattle.zf_meaning.specs.Early.{Falsifies, IsEarlier, IsEquation, IsOther, IsPart, IsPiece, IsVariable, IsWanted, PassesBy, Refutes};
+ghost use Rattle.zf_meaning.specs.Early.{Falsifies, IsEarlier, IsEquation, IsOther, IsPart, IsPiece, IsVariable, IsWanted, NeedsFront, PassesBy, Refutes};
+ghost use Rattle.zf_meaning.specs.declared.rows.Passing.TheVariants as passing;
 ghost use Rattle.zf_meaning.specs.Found.{found_outcome};
 ghost use Rattle.zf_meaning.specs.Places.{seen};
 
 use crate::found::Found;
-use crate::needs::last_local;
+use crate::needs::{last_local, last_of_part};
 use crate::rows::{Passing, Rows};
 use std::alloc::{AllocError, Global};
 use zf_reference::reference::Reference;
-use zf_term::resolved::{Resolved, ResolvedLink};
+use zf_term::resolved::{Part, Resolved, ResolvedLink};
 use zf_tree::operator::Operator;
 use zf_tree::symbol::{Connective, Quantifier, Relation};
 use zf_value::value::{Truth, Value};
@@ -57,17 +58,39 @@ pub(super) fn span_of(outside: &[&Value], rows: &Rows<'_>) -> Span
     }
 }
 
-/// The parts that need the first variables alone, of a binder that has many rows.
+/// How many first variables of a quantifier its constraint and body need: rows that begin with the same values, so many, tell the
+/// same. All where the quantifier has few rows, and its body is none.
+pub(super) fn front_of(
+    constraint: &Part<'_>,
+    body: &Resolved<'_>,
+    span: Span,
+    rows: &Rows<'_>,
+) -> usize
+    ensures { NeedsFront span result (part_of constraint.now) (resolved_of body.now) }
+{
+    if !rows.are_many() && !is_quantified(body) {
+        return span.whole;
+    }
+    let last = last_of_part(constraint, span.whole, last_local(body, span.whole));
+    last.saturating_sub(span.outside)
+}
+
+fn is_quantified(term: &Resolved<'_>) -> bool {
+    matches!(term, Resolved::Quantified(_, _, _, _, _))
+}
+
+/// The parts that need the first variables alone, of a binder that has many rows and needs some first variables.
 pub(super) fn pieces_of<'t, 'a>(
     alloc: Global,
     term: &'t Resolved<'a>,
     span: Span,
+    front: usize,
     rows: &Rows<'_>,
 ) -> Result<Vec<Piece<'t, 'a>>, AllocError>
     ensures { IfOk result (λ pieces. All (IsPiece term.now span) pieces.items) }
 {
     let mut pieces = Vec::new(alloc);
-    if !rows.are_many() {
+    if front == 0 || !rows.are_many() {
         return Ok(pieces);
     }
     add_parts(term, span, &mut pieces)?;
@@ -350,6 +373,22 @@ fn is_bound(bound: &[&Value], place: usize, value: &Value) -> bool
         bound[place].equals(value)
     } else {
         false
+    }
+}
+
+/// Which rows beside one of this truth don't count, where all tell the same that begin with the same values, so many.
+pub(super) fn passing_after<'v>(
+    quantifier: Quantifier,
+    truth: Truth,
+    span: Span,
+    front: usize,
+) -> Passing<'v>
+    ensures { (result ≡ passing.Front span.whole) ⊎ ((truth ≡ spec.neutral quantifier) × (result ≡ passing.Front front)) }
+{
+    if truth == neutral(quantifier) {
+        Passing::Front(front)
+    } else {
+        Passing::Front(span.whole)
     }
 }
 

@@ -1,12 +1,13 @@
-use Rattle.zf_meaning.proofs.Prelude.{◌+◌, ◌<◌, ◌∙◌, ◌∷◌, ◌≡◌, ◌≤◌, [], ap, arith, drop, false, inl, length, map, refl, rules, subst, sym, true, IfOk-weaker, All, IfOk, IfSome, out_told, AreFrom, IsEmptySet, IsDisplay, of-Binary, of-Chain, of-Listed, of-Unary, part_of, resolved_of, size-Resolved, Describes, AreNeutral, AreNeutralIf, IsPart, IsPiece, IsWanted, neutral, within, found_outcome, several_by, several_of, Builds, HasOutcome, IsBuilt, IsBuiltOver, IsConstraint, IsLink, IsTruth, row_value, seen, declared_of, spread, row_of, scope_of, is_settled, truth_by, IsConnected, IsOver, IsQuantified, IsTold, Arrows, Nothing}
+use Rattle.zf_meaning.proofs.Prelude.{◌+◌, ◌<◌, ◌∙◌, ◌∷◌, ◌≡◌, ◌≤◌, [], ap, arith, drop, false, inl, length, List, map, Option, refl, rules, subst, sym, true, ℕ, IfOk-weaker, All, IfOk, IfSome, out_told, AreFrom, IsEmptySet, IsDisplay, of-Binary, of-Chain, of-Listed, of-Unary, part_of, resolved_of, Quantifier, Range, Resolved, size-Resolved, Describes, AreNeutral, AreNeutralIf, IsPart, IsPiece, IsWanted, neutral, NeedsFront, within, found_outcome, several_by, several_of, Builds, HasOutcome, IsBuilt, IsBuiltOver, IsConstraint, IsLink, IsTruth, row_value, seen, declared_of, spread, row_of, scope_of, is_settled, truth_by, IsConnected, IsOver, IsQuantified, IsTold, Arrows, Nothing}
 use Rattle.zf_term.specs.ResolvedTrees as tree
 use Rattle.zf_term.specs.ResolvedViews as tree_views
 use Rattle.zf_value.specs.declared.value.Outcome.TheVariants as outcome
 use Rattle.zf_value.specs.declared.value.Truth.TheVariants.{Out}
-use Rattle.zf_meaning.proofs.Binding.{same-quantifier, same-constraint, quantified-told, builder-has}
+use Rattle.zf_term.specs.declared.resolved.Resolved.TheVariants as v
+use Rattle.zf_meaning.proofs.Binding.{same-quantifier, same-constraint, same-body, quantified-told, builder-has}
 use Rattle.zf_meaning.proofs.Builds.{nothing, built-same, built-more, built-too-many, built-out, built-all}
 use Rattle.zf_meaning.proofs.Connecting.{decided-told, told-by}
-use Rattle.zf_meaning.proofs.Early.{neutral-told, neutral-built, neutral-by, neutral-other-if, itself-passed}
+use Rattle.zf_meaning.proofs.Early.{neutral-told, neutral-built, neutral-by, neutral-other-if, itself-passed, passed-after}
 use Rattle.zf_meaning.proofs.Told.{IsTallied, none-tallied, one-more, settled-truth, all-told}
 use Rattle.zf_meaning.proofs.Turns.{fewer, adds-here, told-here, one-told, one-filter, one-term, span-bound, row-bound, next-turn, told-ended, built-ended}
 use Rattle.zf_meaning.proofs.Walking.{walk-begun, walk-row, walk-done, walk-new, no-row, none-from, bound-row, outside-bound, FilterIn, TermIn, ToldIn, NeutralIn}
@@ -278,7 +279,7 @@ binders::over_rows-returns-in_default-2 g t c =
     let i = c.in-Quantified in
     let ss = spread c.args.sets.now in
     let k = scope_of c.args.env.now (g.R.Row.values c.args.row.now) c.args.locals.now in
-    let sq = same-quantifier i.quantifier q i.field-1 l i.field-2 rs i.field-3 p i.field-4 e (sym i.is ∙ is) in
+    let sq = same-quantifier i.quantifier q i.field-1 l i.field-2 rs i.constraint p i.body e (sym i.is ∙ is) in
     let none = rw c.in_default-2.is at c.in_ok-rows.ensures in
     let tallied = subst (IsTallied (ToldIn k q (part_of p) (resolved_of e)) []) (sym c.none-tally.ensures) (none-tallied (ToldIn k q (part_of p) (resolved_of e))) in
     subst (IsOver q (λ vs. AreFrom vs ss) (ToldIn k q (part_of p) (resolved_of e))) (sym (c.truth.ensures ∙ ap (λ z. truth_by z c.none-tally.result) sq))
@@ -297,15 +298,20 @@ binders::over_rows-returns-then-is_settled g t c =
     let wide : length (seen c.args.locals.now) + length (spread c.args.sets.now) ≡ c.span_of-span.result.whole = span-bound c.in-Some.rows outside ss (seen c.in_ok-lists_of.field-0.items) c.span_of-span.result.whole c.in_ok-lists_of.ensures.is (rw c.in-Some.is at c.in_ok-rows.ensures) c.span_of-span.ensures.whole in
     let b = row-bound (NeutralIn c.args.term.now k) env values c.args.locals.now c.bound.result.now c.walk.rows ss inv.0 c.span_of-span.result c.bound.ensures c.span_of-span.ensures.outside wide inv.1 in
     let i = c.in-Quantified in
-    let sq = same-quantifier i.quantifier q i.field-1 l i.field-2 rs i.field-3 p i.field-4 e (sym i.is ∙ is) in
+    let sq = same-quantifier i.quantifier q i.field-1 l i.field-2 rs i.constraint p i.body e (sym i.is ∙ is) in
     let tallied : IsTallied (ToldIn k q (part_of p) (resolved_of e)) (row ∷ inv.0) c.with-tally.result = subst (IsTallied (ToldIn k q (part_of p) (resolved_of e)) (row ∷ inv.0)) (sym c.with-tally.ensures) (one-more (ToldIn k q (part_of p) (resolved_of e)) inv.0 c.walk.tally row c.in_ok-met.met.truth (one-told k q (part_of p) (resolved_of e)) (walk-new (NeutralIn c.args.term.now k) c.walk.rows outside ss inv.0 inv.1) (c.in_ok-met.ensures.told k row b q l rs p e is) (inv.2 q l rs p e is)) in
     subst (IsOver q (λ vs. AreFrom vs ss) (ToldIn k q (part_of p) (resolved_of e))) (sym (c.truth-then-is_settled.ensures ∙ ap (λ z. truth_by z c.with-tally.result) sq))
     (settled-truth q (λ vs. AreFrom vs ss) (ToldIn k q (part_of p) (resolved_of e)) (row ∷ inv.0) c.with-tally.result (walk-done (NeutralIn c.args.term.now k) c.walk.rows outside ss inv.0 inv.1) tallied (ap (λ z. is_settled z c.with-tally.result) (sym sq) ∙ sym c.is_settled.ensures ∙ c.if-is_settled.true))
 
 pub binders::over_rows-met_at-requires : goal.binders::over_rows-met_at-requires
 binders::over_rows-met_at-requires g t c =
+    let i = c.in-Quantified in
+    let front : (q : Quantifier) (l : ℕ) (rs : List Range) (p : Option Resolved) (e : Resolved) → c.args.term.now ≡ v.Quantified q l rs p e → NeedsFront c.span_of-span.result c.front_of-front.result (part_of p) (resolved_of e) =
+    λ q l rs p e is.
+    subst (λ x. NeedsFront c.span_of-span.result c.front_of-front.result (part_of x) (resolved_of e)) (same-constraint i.quantifier q i.field-1 l i.field-2 rs i.constraint p i.body e (sym i.is ∙ is))
+    (subst (λ x. NeedsFront c.span_of-span.result c.front_of-front.result (part_of i.constraint) (resolved_of x)) (c.get.ensures ∙ same-body i.quantifier q i.field-1 l i.field-2 rs i.constraint p i.body e (sym i.is ∙ is)) c.front_of-front.ensures) in
     let pieces : All (IsPiece c.args.term.now c.span_of-span.result) c.deref.result.now = subst (All (IsPiece c.args.term.now c.span_of-span.result)) (sym c.deref.ensures.value) c.in_ok-pieces.ensures in
-    search (rules, pieces)
+    search (rules, pieces, front)
 
 pub binders::over_rows-pass-requires : goal.binders::over_rows-pass-requires
 binders::over_rows-pass-requires g t c = (seen c.args.locals.now, c.walk.invariant.1.at)
@@ -323,7 +329,7 @@ binders::over_rows-returns-in-None g t c =
     let wide : length (seen c.args.locals.now) + length (spread c.args.sets.now) ≡ c.span_of-span.result.whole = span-bound c.in-Some.rows outside ss (seen c.in_ok-lists_of.field-0.items) c.span_of-span.result.whole c.in_ok-lists_of.ensures.is (rw c.in-Some.is at c.in_ok-rows.ensures) c.span_of-span.ensures.whole in
     let b = row-bound (NeutralIn c.args.term.now k) env values c.args.locals.now c.bound.result.now c.walk.rows ss inv.0 c.span_of-span.result c.bound.ensures c.span_of-span.ensures.outside wide inv.1 in
     let i = c.in-Quantified in
-    let sq = same-quantifier i.quantifier q i.field-1 l i.field-2 rs i.field-3 p i.field-4 e (sym i.is ∙ is) in
+    let sq = same-quantifier i.quantifier q i.field-1 l i.field-2 rs i.constraint p i.body e (sym i.is ∙ is) in
     let tallied : IsTallied (ToldIn k q (part_of p) (resolved_of e)) (row ∷ inv.0) c.with-tally.result = subst (IsTallied (ToldIn k q (part_of p) (resolved_of e)) (row ∷ inv.0)) (sym c.with-tally.ensures) (one-more (ToldIn k q (part_of p) (resolved_of e)) inv.0 c.walk.tally row c.in_ok-met.met.truth (one-told k q (part_of p) (resolved_of e)) (walk-new (NeutralIn c.args.term.now k) c.walk.rows outside ss inv.0 inv.1) (c.in_ok-met.ensures.told k row b q l rs p e is) (inv.2 q l rs p e is)) in
     let none = rw c.in-None.is at (c.in_ok-pass.ensures outside inv.1.at) in
     subst (IsOver q (λ vs. AreFrom vs ss) (ToldIn k q (part_of p) (resolved_of e))) (sym (c.truth-in-None.ensures ∙ ap (λ z. truth_by z c.with-tally.result) sq))
@@ -398,7 +404,11 @@ pub binders::met_at-returns-clause-told : goal.binders::met_at-returns-clause-to
 binders::met_at-returns-clause-told g t c = λ k vs b q l rs p e is. told-here _ k vs q (part_of p) (resolved_of e) c.in_ok-truth.truth b.is (c.in_ok-truth.ensures q l rs p e is)
 
 pub binders::met_at-returns-clause-passed : goal.binders::met_at-returns-clause-passed
-binders::met_at-returns-clause-passed g t c = λ k vs b. itself-passed (resolved_of c.args.term.now) c.args.span _ k vs b
+binders::met_at-returns-clause-passed g t c =
+    λ k vs b.
+    let i = c.in-Quantified in
+    passed-after c.args.term.now i.quantifier i.field-1 i.field-2 i.field-3 i.field-4 c.args.span c.args.front _ k vs c.in_ok-truth.truth c.passing_after.result i.is b
+    (c.requires.front i.quantifier i.field-1 i.field-2 i.field-3 i.field-4 i.is) (c.in_ok-truth.ensures i.quantifier i.field-1 i.field-2 i.field-3 i.field-4 i.is) c.passing_after.ensures
 
 pub binders::refuted-passing_at-requires : goal.binders::refuted-passing_at-requires
 binders::refuted-passing_at-requires g t c =

@@ -1,5 +1,6 @@
 use Rattle.zf_meaning.proofs.Prelude.{◌∙◌, ◌≡◌, ap, arith, map, max, subst, sym, links, part_of, range_of, ranges, resolved_link_of, resolved_of, terms, all_need, links_need, need, part_need, ranges_need}
 use Rattle.zf_meaning.proofs.NeedsFound.{terms_step, links_step, ranges_step, terms_end, links_end, ranges_end, of_name, of_number, of_constant, of_empty_set, of_bracket, of_listed, of_builder, of_unary, of_binary, of_chain, of_quantified}
+use Rattle.zf_meaning.proofs.NeedsBelow.{need-below}
 use Rattle.zf_meaning.proofs.needs.+last.Goals as goal
 
 pub last_of_links-loop-link-preserved : goal.last_of_links-loop-link-preserved
@@ -103,3 +104,9 @@ last_of_part-returns-in-None t c =
 pub last_of_part-returns-in-Some : goal.last_of_part-returns-in-Some
 last_of_part-returns-in-Some t c =
     subst (λ m. c.last_below.result ≡ max c.args.found (part_need c.args.bound (part_of m))) (sym c.in-Some.is ∙ c.get.ensures) (subst (λ x. c.last_below.result ≡ max c.args.found (need c.args.bound (resolved_of x))) c.get-in-Some.ensures c.last_below.ensures)
+
+pub last_below-returns-then-found-bound : goal.last_below-returns-then-found-bound
+last_below-returns-then-found-bound t c =
+    let below = need-below c.args.bound (resolved_of c.args.term.now) in
+    let past = c.if-found-bound.true in
+    omega (arith, below, past)

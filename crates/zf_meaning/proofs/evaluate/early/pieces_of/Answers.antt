@@ -1,8 +1,8 @@
 use Rattle.zf_meaning.proofs.Prelude.{subst, sym, All-nil, All, IsPiece}
 use Rattle.zf_meaning.proofs.evaluate.early.pieces_of.Goals as goal
 
-pub returns-then-not-are_many : goal.returns-then-not-are_many
-returns-then-not-are_many c = subst (All (IsPiece c.args.term.now c.args.span)) (sym c.new-pieces.ensures.items) (All-nil (IsPiece c.args.term.now c.args.span))
+pub returns-then-front-eq0 : goal.returns-then-front-eq0
+returns-then-front-eq0 c = subst (All (IsPiece c.args.term.now c.args.span)) (sym c.new-pieces.ensures.items) (All-nil (IsPiece c.args.term.now c.args.span))
 
 pub returns : goal.returns
 returns c = c.in_ok-add_parts.ensures (subst (All (IsPiece c.args.term.now c.args.span)) (sym c.new-pieces.ensures.items) (All-nil (IsPiece c.args.term.now c.args.span)))
