@@ -1,7 +1,8 @@
 -- The trees of a list of nodes: each is that of its node over the others.
-use Rattle.zf_plan.proofs.Prelude.{◌++◌, ◌+◌, ◌<◌, ◌∙◌, ◌∷◌, ◌≡◌, [], ap, arith, get_or, inl, inr, length, length-append, List, map, refl, Some, subst, suc, sym, zero, ℕ, get_or-append_seam, cases_lt, get_or_append_left, length-map, map-append, get_or_from_slice_get, slice_get-get_or, slice_get_within, All, slice_get, both, either, leaf, negated, Tree, tree_at}
+use Rattle.zf_plan.proofs.Prelude.{◌++◌, ◌+◌, ◌<◌, ◌∙◌, ◌∷◌, ◌≡◌, [], ap, arith, get_or, inl, inr, length, length-append, List, map, refl, Some, subst, suc, sym, zero, ℕ, get_or-append_seam, cases_lt, get_or_append_left, get_or_default, length-map, map-append, get_or_from_slice_get, slice_get-get_or, slice_get_within, All, slice_get, both, either, leaf, negated, Tree, tree_at}
 use Rattle.zf_plan.specs.declared.node.Node.{Node}
 use Rattle.zf_plan.specs.declared.node.Node.TheVariants.{Leaf, Not, And, Or}
+use Rattle.zf_plan.specs.Trees.{HasLeavesWithin, HaveLeavesWithin, IsFlat}
 use Rattle.zf_plan.specs.Groves.{Grove, tree_of, trees_onto, trees_made, trees_of, IsOver, IsGrown, Grows, Takes}
 
 onto-append : (made : List Tree) (nodes : List Node) (node : Node) → trees_onto made (nodes ++ node ∷ []) ≡ trees_onto made nodes ++ tree_of (trees_onto made nodes) node ∷ []
@@ -129,3 +130,26 @@ pub root-within : (g : Grove) (j r : ℕ) → IsGrown g → j < length (trees_of
 root-within g j r w l e =
     let long : j < length g.roots = omega (arith, length-map g.roots (tree_at (trees_made g))) in
     omega (arith, w.roots j r long, length-made g)
+
+-- one leaf more
+pub flat_push : (n at : ℕ) (old mid new : Grove) → IsFlat n (trees_of old) → Grows old (leaf n) at mid → Takes mid at new → IsFlat (n + 1) (trees_of new)
+flat_push n at old mid new f g t =
+    let trees : trees_of new ≡ trees_of old ++ leaf n ∷ [] = t.trees ∙ ap (λ ts. ts ++ tree_at (trees_made mid) at ∷ []) g.trees ∙ ap (λ x. trees_of old ++ x ∷ [])
+    (ap (tree_at (trees_made mid)) g.place ∙ ap (λ ts. tree_at ts (length (trees_made old))) g.made ∙ get_or-append_seam (trees_made old) (leaf n) [] (leaf 0)) in
+    record {
+      number = ap length trees ∙ length-append (trees_of old) (leaf n ∷ []) ∙ ap (λ i. i + 1) f.number;
+      leaves = λ c m. ap (λ ts. tree_at ts c) trees ∙ elim (cases_lt c n) [
+        | inl low ↦ get_or_append_left (trees_of old) (leaf n ∷ []) (leaf 0) c (let e = f.number in omega arith) ∙ f.leaves c low
+        | inr high ↦
+            let here : c ≡ length (trees_of old) = let e = f.number in omega arith in
+            ap (tree_at (trees_of old ++ leaf n ∷ [])) here ∙ get_or-append_seam (trees_of old) (leaf n) [] (leaf 0) ∙ ap leaf (let e = f.number in omega arith)
+      ];
+    }
+
+pub flat_none : (g : Grove) → trees_of g ≡ [] → IsFlat 0 (trees_of g)
+flat_none g e = record { number = ap length e; leaves = λ c m. absurd (omega arith) }
+
+pub flat-leaves : (n : ℕ) (trees : List Tree) → IsFlat n trees → HaveLeavesWithin n trees
+flat-leaves n trees f i d h =
+    let low : i < n = let e = f.number in omega arith in
+    subst (HasLeavesWithin n) (sym (get_or_default trees i d (leaf 0) h ∙ f.leaves i low)) low

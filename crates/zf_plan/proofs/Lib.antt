@@ -8,3 +8,5 @@ pub mod Narrowing
 pub mod Moving
 pub mod Stepping
 pub mod Alike
+pub mod Counting
+pub mod Walking

@@ -25,14 +25,14 @@ module _ {V : Type 0} (cmp : V → V → Ordering) (o : IsTotalOrder cmp) (ties 
     go Greater e k = refl
 
   module _ (range : List V) where
-    frontier-first : IsFrontier range 0 (λ _. true)
+    pub frontier-first : IsFrontier range 0 (λ _. true)
     frontier-first = record { ahead = λ m v tail n h. refl; behind = λ m v tail n h. absurd (omega arith) }
 
-    frontier-last : (g : ℕ) → length range ≤ g → IsFrontier range g (λ _. false)
+    pub frontier-last : (g : ℕ) → length range ≤ g → IsFrontier range g (λ _. false)
     frontier-last g l = record { ahead = λ m v tail n h. absurd (let w = n.within in omega arith); behind = λ m v tail n h. refl }
 
     module _ (r : AllPairs (λ v w. cmp v w ≡ Less) range) (i : ℕ) (x : V) (n : IsNth range i x) where
-      frontier-past : IsFrontier range (i + 1) (reaches cmp false (x ∷ []))
+      pub frontier-past : IsFrontier range (i + 1) (reaches cmp false (x ∷ []))
       frontier-past = record {
         ahead = λ m v tail w h. ap (λ q. first_of q false) (less-at cmp o range i m x v r n w (omega arith));
         behind = λ m v tail w h. elim (cases_eq m i) [
@@ -41,7 +41,7 @@ module _ {V : Type 0} (cmp : V → V → Ordering) (o : IsTotalOrder cmp) (ties 
         ];
       }
 
-      frontier-at : IsFrontier range i (reaches cmp true (x ∷ []))
+      pub frontier-at : IsFrontier range i (reaches cmp true (x ∷ []))
       frontier-at = record {
         ahead = λ m v tail w h. elim (cases_eq m i) [
           | inl e ↦ ap (λ q. first_of q true) (tied-at cmp o range i m x v n w (sym e))
@@ -72,7 +72,7 @@ module _ {V : Type 0} (cmp : V → V → Ordering) (o : IsTotalOrder cmp) (ties 
 -- ---- places
 
 module _ {V : Type 0} (ranges : List (List V)) (p : Place) (at : IsAt ranges p) where
-  within-front : (i : ℕ) → i ≤ p.depth → AreWithin ranges (take i p.places.items)
+  pub within-front : (i : ℕ) → i ≤ p.depth → AreWithin ranges (take i p.places.items)
   within-front i h = subst (AreWithin ranges) (take-take i p.depth p.places.items h) (AreWithin-take ranges (take p.depth p.places.items) i at.within)
 
   length-places : (i : ℕ) → i ≤ p.depth → length (take i p.places.items) ≡ i
@@ -88,7 +88,7 @@ module _ {V : Type 0} (ranges : List (List V)) (p : Place) (at : IsAt ranges p) 
   length-path = length-front p.depth (omega arith)
 
   -- the last value of a path
-  last-value : (k : ℕ) → p.depth ≡ k + 1 → (x : V) × IsNth (get_or ranges k []) (get_or p.places.items k 0) x
+  pub last-value : (k : ℕ) → p.depth ≡ k + 1 → (x : V) × IsNth (get_or ranges k []) (get_or p.places.items k 0) x
       × (path ranges p ≡ picked ranges (take k p.places.items) ++ x ∷ []) × (bound p ≡ take k p.places.items ++ get_or p.places.items k 0 ∷ [])
   last-value k d =
       let le : k ≤ p.depth = omega arith in
@@ -237,6 +237,6 @@ tells-landed l ranges k places new old told tells g deep short fronts = record {
     | inl here ↦ absurd (let z : get_or told c None ≡ None = g.none c m here in let y : get_or told c None ≡ Some t = e in cc)
     | inr ne ↦
         let low : l.due c ≤ k = omega arith in
-        subst (λ is. l.says c (picked ranges is) t) (sym (fronts (l.due c) low)) (tells.right c t m (omega arith) (g.kept c t m e))
+        subst (λ is. l.says c (picked ranges is) t) (sym (fronts (l.due c) low)) (tells.right c t m (omega arith) (sym (g.others c m ne) ∙ e))
   ];
 }

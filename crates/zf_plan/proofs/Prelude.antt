@@ -28,7 +28,7 @@ pub use Rattle.zf_walk.specs.declared.step.Step.{Step}
 pub use Rattle.zf_walk.specs.declared.step.Step.TheVariants.{Breaks, End, Holds}
 pub use Rattle.zf_plan.specs.Choosing.{IsChoice, IsChosen, IsNextChoice, Narrows}
 pub use Rattle.zf_plan.specs.Groves.{Grove, Grows, IsOver, tree_of, trees_made, trees_of}
-pub use Rattle.zf_plan.specs.Knowing.{AreBelow, conjoined, IsKnown, IsSettled, Tells}
+pub use Rattle.zf_plan.specs.Knowing.{AreBelow, conjoined, IsKnown, IsSettled, Remembers, Tells}
 pub use Rattle.zf_plan.specs.Places.{ahead_of, bound, Forgets, Gives, Goes, GoesOn, is_over, IsAt, IsHopeless, IsPlan, IsSound, KeepsEvents, Lands, LandsNext, path, Stands, steps_left}
 pub use Rattle.zf_plan.specs.Trees.{both, due_of, either, HasLeavesWithin, HaveLeavesWithin, IsOfBoth, IsOfEither, IsTreeTruth, leaf, negated, opposite, planted, Tree, tree_at}
 pub use Rattle.zf_plan.specs.declared.place.Place.{Place}

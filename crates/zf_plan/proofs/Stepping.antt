@@ -1,10 +1,12 @@
 -- The steps of a search: rows that hold no event are passed, and a whole row is an answer.
-use Rattle.zf_plan.proofs.Prelude.{◌++◌, ◌+◌, ◌<◌, ◌∙◌, ◌∷◌, ◌≡◌, ◌≤◌, ◌⊎◌, [], ap, append_assoc, arith, cond, drop, eqb, false, get_or, inl, inr, length, length-append, List, None, Option, refl, replicate, set, Some, subst, sym, take, true, ℕ, cases_eq, false≢true, get_or-replicate, get_or-set_other, get_or-set_same, length-replicate, length-set, length-take-le, take-take, take_all, IsTotalOrder, ◌≢◌, slice_get, Ordering, Equal, Less, enough, reaches-under, IsFrontOf-picked, IsRowOf-front, IsRowOf-length, picked-nil, slice_get-nth, Conjuncts, HaveOneTruth, IsTruthOf, KeepTruths, Event, IsEvent, AreWithin, picked, above, below, is_reached, reaches, Ahead, AreAllAhead, AreDueWithin, ended, IsAhead, SameAhead, Takes, ComesAfter, IsRowOf, Truth, False, Out, True, Step, Breaks, End, Holds, IsChoice, IsChosen, Tells, ahead_of, bound, Forgets, Gives, GoesOn, is_over, IsAt, IsHopeless, IsSound, KeepsEvents, LandsNext, path, Stands, steps_left, planted, Tree, Place}
+use Rattle.zf_plan.proofs.Prelude.{◌++◌, ◌+◌, ◌<◌, ◌∙◌, ◌∷◌, ◌≡◌, ◌≤◌, ◌⊎◌, [], ap, arith, cond, drop, eqb, false, get_or, inl, inr, length, List, None, Option, refl, replicate, set, Some, subst, sym, take, true, ℕ, cases_eq, false≢true, get_or-replicate, get_or-set_other, get_or-set_same, length-replicate, length-set, take-take, take_all, IsTotalOrder, ◌≢◌, slice_get, Ordering, Equal, Less, enough, reaches-under, IsFrontOf-picked, IsRowOf-front, IsRowOf-length, picked-nil, slice_get-nth, Conjuncts, HaveOneTruth, IsTruthOf, KeepTruths, Event, IsEvent, AreWithin, picked, above, below, is_reached, reaches, Ahead, AreAllAhead, AreDueWithin, ended, IsAhead, SameAhead, Takes, ComesAfter, IsRowOf, False, Out, Truth, True, Step, Breaks, End, Holds, IsChoice, IsChosen, Remembers, ahead_of, bound, Forgets, Gives, GoesOn, is_over, IsAt, IsHopeless, IsSound, KeepsEvents, LandsNext, path, Stands, steps_left, planted, Tree, Place}
 use Rattle.zf_walk.proofs.Reaching.{IsLater-from, later-reached, unreached, IsAhead-from, IsAhead-to}
 use Rattle.zf_walk.proofs.Truths.{IsTruthOf-false, IsTruthOf-only}
+use Rattle.zf_plan.specs.Places.{begun}
+use Rattle.zf_plan.specs.declared.memo.Memo.{Memo}
 use Rattle.zf_plan.specs.declared.plan.Plan.{Plan}
 use Rattle.zf_plan.proofs.TreeTruths.{planted-one, planted-kept, planted-due}
-use Rattle.zf_plan.proofs.Moving.{same-under, length-front, length-bound, length-path, IsFrom, from-fresh, from-past, landed, tells-landed}
+use Rattle.zf_plan.proofs.Moving.{same-under, length-bound, length-path, IsFrom, from-fresh, from-past, Landed, landed, tells-landed}
 
 -- what the order, the leaves and what is gone over are known to be
 pub record Setting {V : Type 0} (cmp : V → V → Ordering) (l : Conjuncts V) (trees : List Tree) (ranges : List (List V)) (after : Option (List V)) (planned : Plan) : Type 0 where
@@ -44,66 +46,77 @@ module _ {V : Type 0} {cmp : V → V → Ordering} {l : Conjuncts V} {trees : Li
 
   -- ---- moves
 
-  -- to a chosen place of range k, where the leaves that need one value more are forgotten
-  moves : (p q : Place) (old told : List (Option Truth)) (choices : List (Option (List ℕ))) (k f : ℕ) → IsAt ranges p → Tells l ranges (bound p) old → length choices ≡ length ranges
-      → ((j : ℕ) → j ≤ k → IsChoice l trees ranges (picked ranges (take j p.places.items)) (get_or ranges j []) (get_or choices j None)) → (near : k < length ranges) → k ≤ p.depth
-      → IsFrom cmp ranges p k (picked ranges (take k p.places.items)) f → Forgets l (k + 1) old told → LandsNext (length (get_or ranges k [])) (get_or choices k None) k f p q
-      → GoesOn cmp (planted l trees) ranges after p q × Stands l trees ranges q told choices
-  moves p q old told choices k f at tells long chosen near deep from g next =
-      let road = picked ranges (take k p.places.items) in
-      let n = next.1 in
-      let short : length (take k p.places.items) ≡ k = length-take-le k p.places.items (omega (arith, at.all_places)) in
-      let h = landed cmp given.total (given.sound).ties ranges (given.sound).ascending p at k near (planted l trees) after deep f next.0 n.up from q
-      (λ e ev m v tail a b w is. unchosen-none road (get_or ranges k []) (get_or choices k None) m v (chosen k (omega arith)) (slice_get-nth (get_or ranges k []) m v w) (n.skipped m a b) e tail ev is) next.2 in (
-        record { same = h.same; smaller = h.smaller },
+  -- to a chosen place of range k
+  module _ (p q : Place) (choices : List (Option (List ℕ))) (k f : ℕ) (at : IsAt ranges p) (near : k < length ranges) (deep : k ≤ p.depth)
+      (chosen : (j : ℕ) → j ≤ k → IsChoice l trees ranges (picked ranges (take j p.places.items)) (get_or ranges j []) (get_or choices j None))
+      (from : IsFrom cmp ranges p k (picked ranges (take k p.places.items)) f) (next : LandsNext (length (get_or ranges k [])) (get_or choices k None) k f p q) where
+    lands : Landed cmp (planted l trees) ranges after p k q
+    lands =
+        let n = next.1 in
+        landed cmp given.total (given.sound).ties ranges (given.sound).ascending p at k near (planted l trees) after deep f next.0 n.up from q
+        (λ e ev m v tail a b w is. unchosen-none (picked ranges (take k p.places.items)) (get_or ranges k []) (get_or choices k None) m v (chosen k (omega arith)) (slice_get-nth (get_or ranges k []) m v w) (n.skipped m a b) e tail ev is) next.2
+
+    moves-on : GoesOn cmp (planted l trees) ranges after p q
+    moves-on = let h = lands in record { same = h.same; smaller = h.smaller }
+
+    -- the leaves that need one value more are forgotten
+    moves-stand : (old new : Memo) → Remembers l ranges (bound p) old → length choices ≡ length ranges → Forgets l (k + 1) old.truths.items new.truths.items → Stands l trees ranges q new choices
+    moves-stand old new remembers long g =
+        let h = lands in
         record {
           at = h.at;
-          tells = tells-landed l ranges k (bound p) (bound q) old told tells g (omega (arith, length-bound ranges p at)) (omega (arith, length-bound ranges q h.at, h.deep)) h.fronts;
+          remembers = record { tells = tells-landed l ranges k (bound p) (bound q) old.truths.items new.truths.items remembers.tells g (omega (arith, length-bound ranges p at)) (omega (arith, length-bound ranges q h.at, h.deep)) h.fronts };
           all_choices = long;
           chosen = λ j m.
               let low : j ≤ k = omega (arith, h.deep) in
               let same : take j p.places.items ≡ take j q.places.items = sym (take-take j p.depth p.places.items (omega arith)) ∙ sym (h.fronts j low) ∙ take-take j q.depth q.places.items (omega arith) in
               subst (λ is. IsChoice l trees ranges (picked ranges is) (get_or ranges j []) (get_or choices j None)) same (chosen j low);
-        },
-      )
+        }
 
-  pub descends : (p q : Place) (first old told : List (Option Truth)) (choices : List (Option (List ℕ))) (choice : Option (List ℕ)) → Stands l trees ranges p first choices → Tells l ranges (bound p) old
-      → IsChoice l trees ranges (path ranges p) (get_or ranges p.depth []) choice → p.fresh ≡ true → p.depth < length ranges → Forgets l (p.depth + 1) old told
-      → LandsNext (length (get_or ranges p.depth [])) (get_or (set choices p.depth choice) p.depth None) p.depth 0 p q
-      → GoesOn cmp (planted l trees) ranges after p q × Stands l trees ranges q told (set choices p.depth choice)
-  descends p q first old told choices choice st tells here f near g lands =
-      let at = st.at in
-      let inside : p.depth < length choices = omega (arith, st.all_choices) in
-      moves p q old told (set choices p.depth choice) p.depth 0 at tells (length-set choices p.depth choice ∙ st.all_choices)
-      (λ j h. elim (cases_eq j p.depth) [
-        | inl e ↦
-            let is : get_or (set choices p.depth choice) j None ≡ choice = ap (λ i. get_or (set choices p.depth choice) i None) e ∙ get_or-set_same choices p.depth choice None inside in
-            subst (IsChoice l trees ranges (picked ranges (take j p.places.items)) (get_or ranges j [])) (sym is) (subst (λ i. IsChoice l trees ranges (picked ranges (take i p.places.items)) (get_or ranges i []) choice) (sym e) here)
-        | inr ne ↦
-            subst (IsChoice l trees ranges (picked ranges (take j p.places.items)) (get_or ranges j [])) (sym (get_or-set_other choices p.depth j choice None ne)) (st.chosen j (omega arith))
-      ])
-      near (omega arith) (from-fresh cmp given.total (given.sound).ties ranges (given.sound).ascending p at p.depth near f refl) g lands
+  module _ (p q : Place) (first : Memo) (choices : List (Option (List ℕ))) (choice : Option (List ℕ)) (st : Stands l trees ranges p first choices) (here : IsChoice l trees ranges (path ranges p) (get_or ranges p.depth []) choice) (f : p.fresh ≡ true)
+      (near : p.depth < length ranges) (next : LandsNext (length (get_or ranges p.depth [])) (get_or (set choices p.depth choice) p.depth None) p.depth 0 p q) where
+    all-chosen : (j : ℕ) → j ≤ p.depth → IsChoice l trees ranges (picked ranges (take j p.places.items)) (get_or ranges j []) (get_or (set choices p.depth choice) j None)
+    all-chosen j h = elim (cases_eq j p.depth) [
+      | inl e ↦
+          let is : get_or (set choices p.depth choice) j None ≡ choice = ap (λ i. get_or (set choices p.depth choice) i None) e ∙ get_or-set_same choices p.depth choice None (omega (arith, st.all_choices)) in
+          subst (IsChoice l trees ranges (picked ranges (take j p.places.items)) (get_or ranges j [])) (sym is) (subst (λ i. IsChoice l trees ranges (picked ranges (take i p.places.items)) (get_or ranges i []) choice) (sym e) here)
+      | inr ne ↦
+          subst (IsChoice l trees ranges (picked ranges (take j p.places.items)) (get_or ranges j [])) (sym (get_or-set_other choices p.depth j choice None ne)) (st.chosen j (omega arith))
+    ]
 
-  pub retreats : (p q : Place) (old told : List (Option Truth)) (choices : List (Option (List ℕ))) (k : ℕ) → Stands l trees ranges p old choices → p.fresh ≡ false → p.depth ≡ k + 1 → Forgets l (k + 1) old told
-      → LandsNext (length (get_or ranges k [])) (get_or choices k None) k (get_or p.places.items k 0 + 1) p q → GoesOn cmp (planted l trees) ranges after p q × Stands l trees ranges q told choices
-  retreats p q old told choices k st f d g lands =
-      let at = st.at in
-      let near : k < length ranges = omega (arith, at.shallow) in
-      moves p q old told choices k (get_or p.places.items k 0 + 1) at st.tells st.all_choices (λ j h. st.chosen j (omega arith)) near (omega arith)
-      (from-past cmp given.total (given.sound).ties ranges (given.sound).ascending p at k near f d) g lands
+    pub descends : GoesOn cmp (planted l trees) ranges after p q
+    descends = moves-on p q (set choices p.depth choice) p.depth 0 st.at near (omega arith) all-chosen (from-fresh cmp given.total (given.sound).ties ranges (given.sound).ascending p st.at p.depth near f refl) next
+
+    pub descends-stand : (old new : Memo) → Remembers l ranges (bound p) old → Forgets l (p.depth + 1) old.truths.items new.truths.items → Stands l trees ranges q new (set choices p.depth choice)
+    descends-stand old new remembers g =
+        moves-stand p q (set choices p.depth choice) p.depth 0 st.at near (omega arith) all-chosen (from-fresh cmp given.total (given.sound).ties ranges (given.sound).ascending p st.at p.depth near f refl) next old new remembers
+        (length-set choices p.depth choice ∙ st.all_choices) g
+
+  module _ (p q : Place) (old : Memo) (choices : List (Option (List ℕ))) (k : ℕ) (st : Stands l trees ranges p old choices) (f : p.fresh ≡ false) (d : p.depth ≡ k + 1)
+      (next : LandsNext (length (get_or ranges k [])) (get_or choices k None) k (get_or p.places.items k 0 + 1) p q) where
+    near-last : k < length ranges
+    near-last = let at = st.at in omega (arith, at.shallow)
+
+    pub retreats : GoesOn cmp (planted l trees) ranges after p q
+    retreats =
+        moves-on p q choices k (get_or p.places.items k 0 + 1) st.at near-last (omega arith) (λ j h. st.chosen j (omega arith)) (from-past cmp given.total (given.sound).ties ranges (given.sound).ascending p st.at k near-last f d) next
+
+    pub retreats-stand : (new : Memo) → Forgets l (k + 1) old.truths.items new.truths.items → Stands l trees ranges q new choices
+    retreats-stand new g =
+        moves-stand p q choices k (get_or p.places.items k 0 + 1) st.at near-last (omega arith) (λ j h. st.chosen j (omega arith)) (from-past cmp given.total (given.sound).ties ranges (given.sound).ascending p st.at k near-last f d) next old new st.remembers st.all_choices g
 
   -- where no choice was made
-  pub unchosen : (p : Place) (first told : List (Option Truth)) (choices : List (Option (List ℕ))) (choice : Option (List ℕ)) → Stands l trees ranges p first choices → Tells l ranges (bound p) told → Stands l trees ranges p told (set choices p.depth choice)
-  unchosen p first told choices choice st tells = record {
+  pub unchosen : (p : Place) (first new : Memo) (choices : List (Option (List ℕ))) (choice : Option (List ℕ)) → Stands l trees ranges p first choices → Remembers l ranges (bound p) new → Stands l trees ranges p new (set choices p.depth choice)
+  unchosen p first new choices choice st remembers = record {
     at = st.at;
-    tells = tells;
+    remembers = remembers;
     all_choices = length-set choices p.depth choice ∙ st.all_choices;
     chosen = λ j m. subst (IsChoice l trees ranges (picked ranges (take j p.places.items)) (get_or ranges j [])) (sym (get_or-set_other choices p.depth j choice None (λ e. omega arith))) (st.chosen j m);
   }
 
-  pub passes : (p q : Place) (told : List (Option Truth)) (choices : List (Option (List ℕ))) → Stands l trees ranges p told choices → p.fresh ≡ true → q.fresh ≡ false → q.places.items ≡ p.places.items → q.depth ≡ p.depth
+  pub passes : (p q : Place) (memo : Memo) (choices : List (Option (List ℕ))) → Stands l trees ranges p memo choices → p.fresh ≡ true → q.fresh ≡ false → q.places.items ≡ p.places.items → q.depth ≡ p.depth
       → IsHopeless cmp l trees (length ranges) after (path ranges p) → GoesOn cmp (planted l trees) ranges after p q
-  passes p q told choices st f g ps d h =
+  passes p q memo choices st f g ps d h =
       let at = st.at in
       let same : path ranges q ≡ path ranges p = ap (λ is. picked ranges (take q.depth is)) ps ∙ ap (λ k. picked ranges (take k p.places.items)) d in
       let stairs : bound q ≡ bound p = ap (λ is. take q.depth is) ps ∙ ap (λ k. take k p.places.items) d in
@@ -211,39 +224,39 @@ module _ {V : Type 0} {cmp : V → V → Ordering} {l : Conjuncts V} {trees : Li
   gives-on p q r Breaks same g = (takes-on (ahead_of ranges p) (ahead_of ranges q) (ahead_of ranges r) (record { row = path ranges r; truth = Out }) same g.0, g.1)
   gives-on p q r End same g = ((λ e ev a. g.0 e ev ((same e ev).0 a)), g.1, g.2)
 
--- where a search begins every event is ahead
-pub ahead-begins : {V : Type 0} (cmp : V → V → Ordering) (s : Conjuncts V) (ranges : List (List V)) (after : Option (List V)) (p : Place) → p.depth ≡ 0 → p.fresh ≡ true → AreAllAhead cmp s ranges after (ahead_of ranges p)
-ahead-begins cmp s ranges after p d f e ev =
-    let none : path ranges p ≡ [] = ap (λ k. picked ranges (take k p.places.items)) d ∙ picked-nil ranges in
-    inr (f, ap (λ r. take (length r) e.row) none ∙ sym none)
+-- at first every event is ahead
+pub ahead-begins : {V : Type 0} (cmp : V → V → Ordering) (s : Conjuncts V) (ranges : List (List V)) (after : Option (List V)) (a : Ahead V) → a ≡ begun → AreAllAhead cmp s ranges after a
+ahead-begins cmp s ranges after a is e ev = subst (λ b. IsAhead cmp b e.row) (sym is) (inr (refl, refl))
 
 pub setting-of : {V : Type 0} {cmp : V → V → Ordering} {l : Conjuncts V} {trees : List Tree} {ranges : List (List V)} {after : Option (List V)} {planned : Plan}
     → IsTotalOrder cmp → HaveOneTruth l → KeepTruths l → IsSound cmp l trees ranges after planned → Setting cmp l trees ranges after planned
 setting-of o one keep sound = record { total = o; one_truth = one; kept = keep; sound = sound }
 
--- no value is bound and nothing is told
-pub stands-first : {V : Type 0} (l : Conjuncts V) (trees : List Tree) (ranges : List (List V)) (p : Place) (told : List (Option Truth)) (choices : List (Option (List ℕ))) → p.depth ≡ 0 → length p.places.items ≡ length ranges
-    → told ≡ replicate l.number None → length choices ≡ length ranges → Stands l trees ranges p told choices
-stands-first l trees ranges p told choices d long e all = record {
+-- no value is bound and nothing is known
+pub stands-first : {V : Type 0} (l : Conjuncts V) (trees : List Tree) (ranges : List (List V)) (p : Place) (memo : Memo) (choices : List (Option (List ℕ))) → p.depth ≡ 0 → length p.places.items ≡ length ranges
+    → memo.truths.items ≡ replicate l.number None → length choices ≡ length ranges → Stands l trees ranges p memo choices
+stands-first l trees ranges p memo choices d long e all = record {
   at = record {
     all_places = long;
     shallow = omega arith;
     within = subst (λ k. AreWithin ranges (take k p.places.items)) (sym d) (record { few = omega arith; each = λ k h. absurd (omega arith) });
   };
-  tells = record {
-    all = ap length e ∙ length-replicate l.number None;
-    right = λ c t m n f. absurd (let z : get_or told c None ≡ None = ap (λ xs. get_or xs c None) e ∙ get_or-replicate l.number c None None m in cc);
+  remembers = record {
+    tells = record {
+      all = ap length e ∙ length-replicate l.number None;
+      right = λ c t m n f. absurd (let z : get_or memo.truths.items c None ≡ None = ap (λ xs. get_or xs c None) e ∙ get_or-replicate l.number c None None m in cc);
+    };
   };
   all_choices = all;
   chosen = λ k m. absurd (omega arith);
 }
 
--- what was told at a list of places that is the bound one
-pub stands-told : {V : Type 0} (l : Conjuncts V) (trees : List Tree) (ranges : List (List V)) (p : Place) (old told : List (Option Truth)) (choices : List (Option (List ℕ))) (all : List ℕ) → all ≡ p.places.items → Stands l trees ranges p old choices
-    → Tells l ranges (take p.depth all) told → Stands l trees ranges p told choices
-stands-told l trees ranges p old told choices all e st h = record {
+-- what is remembered at a list of places that is the bound one
+pub stands-told : {V : Type 0} (l : Conjuncts V) (trees : List Tree) (ranges : List (List V)) (p : Place) (old new : Memo) (choices : List (Option (List ℕ))) (all : List ℕ) → all ≡ p.places.items → Stands l trees ranges p old choices
+    → Remembers l ranges (take p.depth all) new → Stands l trees ranges p new choices
+stands-told l trees ranges p old new choices all e st h = record {
   at = st.at;
-  tells = subst (λ is. Tells l ranges (take p.depth is) told) e h;
+  remembers = subst (λ is. Remembers l ranges (take p.depth is) new) e h;
   all_choices = st.all_choices;
   chosen = st.chosen;
 }

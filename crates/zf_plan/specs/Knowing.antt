@@ -1,15 +1,20 @@
 -- What is known of leaves and trees at a row: for private contracts and the model of `Search` alone.
-use Rattle.std.specs.Prelude.{◌≡◌, ℕ, ◌<◌, ◌≤◌, List, ◌++◌, length, take, slice_index_or, Option, Some, None}
+use Rattle.std.specs.Prelude.{◌≡◌, ℕ, ◌<◌, ◌≤◌, Bool, true, false, List, ◌++◌, length, take, slice_index_or, Option, Some, None}
 use Rattle.zf_walk.specs.declared.judge.Truth.{Truth}
 use Rattle.zf_walk.specs.declared.judge.Truth.TheVariants.{True, False, Out}
 use Rattle.zf_walk.specs.Conjuncts.{Conjuncts}
 use Rattle.zf_walk.specs.Picked.{picked}
+use Rattle.zf_plan.specs.declared.memo.Memo.{Memo}
 use Rattle.zf_plan.specs.Trees.{Tree, opposite, IsTreeTruth, due_of, tree_at}
 
 -- what was told of a leaf that needs no more values than there are is its truth on those that it needs
 pub record Tells {V : Type 0} (l : Conjuncts V) (ranges : List (List V)) (places : List ℕ) (told : List (Option Truth)) : Type 0 where
   pub all : length told ≡ l.number
   pub right : (c : ℕ) (t : Truth) → c < l.number → l.due c ≤ length places → slice_index_or told c None ≡ Some t → l.says c (picked ranges (take (l.due c) places)) t
+
+-- what a search remembers is right at these places
+pub record Remembers {V : Type 0} (l : Conjuncts V) (ranges : List (List V)) (places : List ℕ) (memo : Memo) : Type 0 where
+  pub tells : Tells l ranges places memo.truths.items
 
 -- the truth of a tree on every row that begins with this one
 abbrev pub IsSettled : {V : Type 0} → Conjuncts V → Tree → List V → Truth → Type 0
@@ -39,6 +44,13 @@ known_both (Some Out) (Some Out) = Some Out
 
 abbrev pub known_either : Option Truth → Option Truth → Option Truth
 known_either a b = known_not (known_both (known_not a) (known_not b))
+
+-- whether it is known to be False
+abbrev pub known_false : Option Truth → Bool
+known_false None = false
+known_false (Some True) = false
+known_false (Some False) = true
+known_false (Some Out) = false
 
 -- the truth of two conjuncts
 abbrev pub conjoined : Truth → Truth → Truth

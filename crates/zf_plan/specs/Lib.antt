@@ -7,4 +7,6 @@ pub mod Laws
 pub mod Knowing
 pub mod Choosing
 pub mod Places
+pub mod Counts
 pub mod Searches
+pub mod Walks

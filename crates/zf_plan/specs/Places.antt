@@ -1,5 +1,5 @@
 -- Where a search is, and what its steps do: for private contracts and the model of `Search` alone.
-use Rattle.std.specs.Prelude.{◌≡◌, ◌⊎◌, ℕ, ◌+◌, ◌<◌, ◌≤◌, Bool, true, false, cond, eqb, ◌||◌, nat_eq, List, [], length, take, drop, slice_index_or, slice_set, Option, Some, None}
+use Rattle.std.specs.Prelude.{◌≡◌, ◌≢◌, ◌⊎◌, ℕ, ◌+◌, ◌<◌, ◌≤◌, Bool, true, false, cond, eqb, ◌||◌, nat_eq, List, [], length, take, drop, slice_index_or, slice_set, AllPairs, Contains, Option, Some, None}
 use Rattle.std.specs.declared.cmp.Ordering.{Ordering}
 use Rattle.zf_walk.specs.declared.judge.Truth.{Truth}
 use Rattle.zf_walk.specs.declared.judge.Truth.TheVariants.{True, Out}
@@ -13,8 +13,9 @@ use Rattle.zf_walk.specs.Picked.{AreWithin, picked}
 use Rattle.zf_walk.specs.Places.{IsAgenda, reaches, is_reached, below, above}
 use Rattle.zf_plan.specs.declared.place.Place.{Place}
 use Rattle.zf_plan.specs.declared.plan.Plan.{Plan}
-use Rattle.zf_plan.specs.Trees.{Tree, leaf, negated, both, either, HaveLeavesWithin}
-use Rattle.zf_plan.specs.Knowing.{Tells, IsRefuted, AreBelow}
+use Rattle.zf_plan.specs.declared.memo.Memo.{Memo}
+use Rattle.zf_plan.specs.Trees.{Tree, leaf, negated, both, either, tree_at, HaveLeavesWithin}
+use Rattle.zf_plan.specs.Knowing.{Remembers, IsRefuted, AreBelow}
 use Rattle.zf_plan.specs.Choosing.{IsChoice, IsNextChoice}
 
 -- ---- plans
@@ -31,10 +32,22 @@ pub record AreListed (count n : ℕ) (lists : List (List ℕ)) : Type 0 where
   pub all : length lists ≡ n + 1
   pub below : (k : ℕ) → k < length lists → AreBelow count (slice_index_or lists k [])
 
-pub record IsPlan {V : Type 0} (l : Conjuncts V) (count n : ℕ) (plan : Plan) : Type 0 where
+-- of the first n conjuncts those that have a leaf which needs k values, in order
+pub record AreTouched {V : Type 0} (l : Conjuncts V) (trees : List Tree) (k n : ℕ) (numbers : List ℕ) : Type 0 where
+  pub below : AreBelow n numbers
+  pub ascending : AllPairs (λ i j. i < j) numbers
+  pub all : (c : ℕ) → c < n → touches l k (tree_at trees c) ≡ true → Contains numbers c
+  pub only : (c : ℕ) → Contains numbers c → touches l k (tree_at trees c) ≡ true
+
+-- for each number of values up to n the conjuncts that it touches
+pub record AreAllTouched {V : Type 0} (l : Conjuncts V) (trees : List Tree) (n : ℕ) (lists : List (List ℕ)) : Type 0 where
+  pub all : length lists ≡ n + 1
+  pub each : (k : ℕ) → k < length lists → AreTouched l trees k (length trees) (slice_index_or lists k [])
+
+pub record IsPlan {V : Type 0} (l : Conjuncts V) (trees : List Tree) (n : ℕ) (plan : Plan) : Type 0 where
   pub agenda : IsAgenda l n plan.agenda
-  pub touched : AreListed count n plan.touched.items
-  pub narrowing : AreListed count n plan.narrowing.items
+  pub touched : AreAllTouched l trees n plan.touched.items
+  pub narrowing : AreListed (length trees) n plan.narrowing.items
 
 -- ---- places
 
@@ -53,10 +66,14 @@ path ranges p = picked ranges (bound p)
 abbrev pub ahead_of : {V : Type 0} → List (List V) → Place → Ahead V
 ahead_of ranges p = record { path = path ranges p; here = p.fresh }
 
--- what holds between two steps: what was told is right, and for each value that is bound what was chosen of its range
-pub record Stands {V : Type 0} (l : Conjuncts V) (trees : List Tree) (ranges : List (List V)) (p : Place) (told : List (Option Truth)) (choices : List (Option (List ℕ))) : Type 0 where
+-- all rows
+abbrev pub begun : {V : Type 0} → Ahead V
+begun = record { path = []; here = true }
+
+-- what holds between two steps: what is remembered is right, and for each value that is bound what was chosen of its range
+pub record Stands {V : Type 0} (l : Conjuncts V) (trees : List Tree) (ranges : List (List V)) (p : Place) (memo : Memo) (choices : List (Option (List ℕ))) : Type 0 where
   pub at : IsAt ranges p
-  pub tells : Tells l ranges (bound p) told
+  pub remembers : Remembers l ranges (bound p) memo
   pub all_choices : length choices ≡ length ranges
   pub chosen : (k : ℕ) → k < p.depth → IsChoice l trees ranges (picked ranges (take k p.places.items)) (slice_index_or ranges k []) (slice_index_or choices k None)
 
@@ -67,7 +84,7 @@ pub record IsSound {V : Type 0} (cmp : V → V → Ordering) (l : Conjuncts V) (
   pub named : HasLength after (length ranges)
   pub due : AreDueWithin l (length ranges)
   pub leaves : HaveLeavesWithin l.number trees
-  pub plan : IsPlan l (length trees) (length ranges) planned
+  pub plan : IsPlan l trees (length ranges) planned
 
 -- how many steps are left
 abbrev pub steps_left : {V : Type 0} → List (List V) → Place → ℕ
@@ -79,10 +96,10 @@ is_over p = cond p.fresh false (eqb p.depth 0)
 
 -- ---- moves
 
--- nothing is kept of the leaves that need k values, and what is kept of others is what it was
+-- nothing is kept of the leaves that need k values, and all of the others
 pub record Forgets {V : Type 0} (l : Conjuncts V) (k : ℕ) (old new : List (Option Truth)) : Type 0 where
   pub all : length new ≡ length old
-  pub kept : (c : ℕ) (t : Truth) → c < l.number → slice_index_or new c None ≡ Some t → slice_index_or old c None ≡ Some t
+  pub others : (c : ℕ) → c < l.number → l.due c ≢ k → slice_index_or new c None ≡ slice_index_or old c None
   pub none : (c : ℕ) → c < l.number → l.due c ≡ k → slice_index_or new c None ≡ None
 
 -- the value at place i of range k is bound as the last one, or where the range ends before it the row before it is passed

@@ -1,5 +1,5 @@
 -- Conjuncts as trees over leaves: the truth of a tree from those of its leaves.
-use Rattle.std.specs.Prelude.{◌⊎◌, ℕ, ◌<◌, Bool, ◌||◌, List, length, max, slice_index_or, All}
+use Rattle.std.specs.Prelude.{◌≡◌, ◌⊎◌, ℕ, ◌<◌, Bool, ◌||◌, List, length, max, slice_index_or, All}
 use Rattle.zf_walk.specs.declared.judge.Truth.{Truth}
 use Rattle.zf_walk.specs.declared.judge.Truth.TheVariants.{True, False, Out}
 use Rattle.zf_walk.specs.Conjuncts.{Conjuncts}
@@ -72,3 +72,8 @@ planted l trees = record {
   uses = λ j. uses_of l (tree_at trees j);
   says = λ j. IsTreeTruth l (tree_at trees j);
 }
+
+-- a tree for each of n leaves, in order, and it is the leaf
+pub record IsFlat (n : ℕ) (trees : List Tree) : Type 0 where
+  pub number : length trees ≡ n
+  pub leaves : (c : ℕ) → c < n → tree_at trees c ≡ leaf c

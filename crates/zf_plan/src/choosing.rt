@@ -1,18 +1,20 @@
 //! How the values of a range are chosen that are tried.
-ghost use Rattle.std.specs.Prelude.{◌≡◌, ◌<◌, ◌≤◌, [], length, slice_index_or, IsTrue, IfOk, OnOk, Some};
+ghost use Rattle.std.specs.Prelude.{◌≡◌, ◌<◌, ◌≤◌, [], length, slice_index_or, IsTrue, false, IfOk, OnOk, Some, None};
 ghost use Rattle.zf_walk.specs.Picked.{AreWithin, picked};
 ghost use Rattle.zf_walk.specs.Progress.{AreDueWithin};
 ghost use Rattle.zf_walk.specs.RowLaws.{AreAscending};
 ghost use Rattle.zf_plan.specs.Trees.{tree_at, HasLeavesWithin, HaveLeavesWithin};
 ghost use Rattle.zf_plan.specs.Groves.{trees_made, trees_of};
-ghost use Rattle.zf_plan.specs.Knowing.{Tells, AreBelow};
+ghost use Rattle.zf_plan.specs.Knowing.{Remembers, AreBelow};
 ghost use Rattle.zf_plan.specs.Choices.{StaysIn};
 ghost use Rattle.zf_plan.specs.Choosing.{Narrows, IsChoice};
+ghost use Rattle.zf_plan.specs.Counts.{IsSame};
 
 use crate::choice::Choice;
 use crate::evaluating::evaluate;
 use crate::forest::Forest;
 use crate::guide::Guide;
+use crate::memo::Memo;
 use crate::node::Node;
 use std::alloc::AllocError;
 use zf_walk::{Range, Truth};
@@ -24,7 +26,7 @@ fn gather<V: Ord, J: Guide<V>>(
     ranges: &[Range<V>],
     places: &[usize],
     part: usize,
-    told: &mut [Option<Truth>],
+    memo: &mut Memo,
     gathered: &mut Vec<usize>,
 ) -> Result<bool, AllocError>
     requires part { part < length (trees_made forest.now) }
@@ -33,8 +35,9 @@ fn gather<V: Ord, J: Guide<V>>(
     requires ascending { AreAscending V.cmp ranges.now }
     requires within { AreWithin ranges.now places.now }
     requires deeper { length places.now < length ranges.now }
-    requires tells { Tells (J.conjuncts judge.now) ranges.now places.now told.old }
-    ensures tells { Tells (J.conjuncts judge.now) ranges.now places.now told.new }
+    requires remembers { Remembers (J.conjuncts judge.now) ranges.now places.now memo.old }
+    ensures remembers { Remembers (J.conjuncts judge.now) ranges.now places.now memo.new }
+    ensures more { memo.old.asked ≤ memo.new.asked }
     ensures stay { StaysIn gathered.old.items gathered.new.items }
     ensures narrows { IfOk result (λ found. IsTrue found → Narrows (J.conjuncts judge.now) (tree_at (trees_made forest.now) part) ranges.now (picked ranges.now places.now) (slice_index_or ranges.now (length places.now) []) gathered.new.items) }
 {
@@ -42,26 +45,26 @@ fn gather<V: Ord, J: Guide<V>>(
         Node::Leaf(of) => judge.narrow(of, ranges, places, gathered),
         Node::Not(_) => Ok(false),
         Node::And(left, right) => {
-            let first = gather(judge, forest, ranges, places, left, told, gathered)?;
+            let first = gather(judge, forest, ranges, places, left, memo, gathered)?;
             if first {
                 return Ok(true);
             }
-            gather(judge, forest, ranges, places, right, told, gathered)
+            gather(judge, forest, ranges, places, right, memo, gathered)
         }
         Node::Or(left, right) => {
-            let known = evaluate(judge, forest, ranges, places, left, told)?;
+            let known = evaluate(judge, forest, ranges, places, left, memo)?;
             if let Some(Truth::False) = known {
-                return gather(judge, forest, ranges, places, right, told, gathered);
+                return gather(judge, forest, ranges, places, right, memo, gathered);
             }
-            let first = gather(judge, forest, ranges, places, left, told, gathered)?;
+            let first = gather(judge, forest, ranges, places, left, memo, gathered)?;
             if !first {
                 return Ok(false);
             }
-            let known = evaluate(judge, forest, ranges, places, right, told)?;
+            let known = evaluate(judge, forest, ranges, places, right, memo)?;
             if let Some(Truth::False) = known {
                 return Ok(true);
             }
-            gather(judge, forest, ranges, places, right, told, gathered)
+            gather(judge, forest, ranges, places, right, memo, gathered)
         }
     }
 }
@@ -73,7 +76,7 @@ fn gather_first<V: Ord, J: Guide<V>>(
     ranges: &[Range<V>],
     places: &[usize],
     conjuncts: &[usize],
-    told: &mut [Option<Truth>],
+    memo: &mut Memo,
     gathered: &mut Vec<usize>,
 ) -> Result<bool, AllocError>
     requires conjuncts { AreBelow (length (trees_of forest.now)) conjuncts.now }
@@ -82,15 +85,17 @@ fn gather_first<V: Ord, J: Guide<V>>(
     requires ascending { AreAscending V.cmp ranges.now }
     requires within { AreWithin ranges.now places.now }
     requires deeper { length places.now < length ranges.now }
-    requires tells { Tells (J.conjuncts judge.now) ranges.now places.now told.old }
-    ensures tells { Tells (J.conjuncts judge.now) ranges.now places.now told.new }
+    requires remembers { Remembers (J.conjuncts judge.now) ranges.now places.now memo.old }
+    ensures remembers { Remembers (J.conjuncts judge.now) ranges.now places.now memo.new }
+    ensures more { memo.old.asked ≤ memo.new.asked }
     ensures choice { IfOk result (λ found. IsTrue found → IsChoice (J.conjuncts judge.now) (trees_of forest.now) ranges.now (picked ranges.now places.now) (slice_index_or ranges.now (length places.now) []) (Some gathered.new.items)) }
+    ensures none { conjuncts.now ≡ [] → IsSame memo.old memo.new × (result ≡ Ok false) }
 {
     for i in 0..conjuncts.len() {
         let conjunct = conjuncts[i];
         gathered.clear();
         let root = forest.root(conjunct);
-        let found = gather(judge, forest, ranges, places, root, told, gathered)?;
+        let found = gather(judge, forest, ranges, places, root, memo, gathered)?;
         if found {
             return Ok(true);
         }
@@ -105,7 +110,7 @@ pub fn choose<V: Ord, J: Guide<V>>(
     ranges: &[Range<V>],
     places: &[usize],
     conjuncts: &[usize],
-    told: &mut [Option<Truth>],
+    memo: &mut Memo,
     choice: &mut Choice,
 ) -> Result<(), AllocError>
     requires conjuncts { AreBelow (length (trees_of forest.now)) conjuncts.now }
@@ -114,9 +119,11 @@ pub fn choose<V: Ord, J: Guide<V>>(
     requires ascending { AreAscending V.cmp ranges.now }
     requires within { AreWithin ranges.now places.now }
     requires deeper { length places.now < length ranges.now }
-    requires tells { Tells (J.conjuncts judge.now) ranges.now places.now told.old }
-    ensures tells { Tells (J.conjuncts judge.now) ranges.now places.now told.new }
+    requires remembers { Remembers (J.conjuncts judge.now) ranges.now places.now memo.old }
+    ensures remembers { Remembers (J.conjuncts judge.now) ranges.now places.now memo.new }
+    ensures more { memo.old.asked ≤ memo.new.asked }
     ensures choice { OnOk result (IsChoice (J.conjuncts judge.now) (trees_of forest.now) ranges.now (picked ranges.now places.now) (slice_index_or ranges.now (length places.now) []) choice.new) }
+    ensures none { conjuncts.now ≡ [] → IsSame memo.old memo.new × OnOk result (choice.new ≡ None) }
 {
     let found = gather_first(
         judge,
@@ -124,7 +131,7 @@ pub fn choose<V: Ord, J: Guide<V>>(
         ranges,
         places,
         conjuncts,
-        told,
+        memo,
         &mut choice.places,
     )?;
     choice.all = !found;

@@ -1,6 +1,6 @@
 //! Forests.
 ghost use Rattle.std.specs.Prelude.{◌≡◌, ◌<◌, [], length, IfOk, OnOk, OnErr};
-ghost use Rattle.zf_plan.specs.Trees.{leaf, negated, both, either, tree_at};
+ghost use Rattle.zf_plan.specs.Trees.{leaf, negated, both, either, tree_at, IsFlat};
 ghost use Rattle.zf_plan.specs.Groves.{trees_made, trees_of, tree_of, IsOver, Grows, Takes};
 
 use crate::node::Node;
@@ -34,6 +34,19 @@ impl Forest {
             nodes: Vec::new(alloc),
             roots: Vec::new(alloc),
         }
+    }
+
+    /// Each of so many leaves as a conjunct, in order.
+    #[tactic(auto, using(crate::proofs::Groves::flat_push, crate::proofs::Groves::flat_none))]
+    pub fn flat(alloc: Global, count: usize) -> Result<Forest, AllocError>
+        ensures { IfOk result (λ f. IsFlat count (trees_of f)) }
+    {
+        let mut forest = Forest::new(alloc);
+        for of in 0..count {
+            let place = forest.leaf(of)?;
+            forest.take(place)?;
+        }
+        Ok(forest)
     }
 
     /// The leaf at this place of its judge. As each tree that is made, it is answered by its own place here.

@@ -1,6 +1,6 @@
 //! What is known of a tree from what is known of its sides.
 ghost use Rattle.std.specs.Prelude.{◌≡◌};
-ghost use Rattle.zf_plan.specs.Knowing.{known_not, known_both, known_either, conjoined};
+ghost use Rattle.zf_plan.specs.Knowing.{known_not, known_both, known_either, known_false, conjoined};
 
 use zf_walk::Truth;
 
@@ -40,6 +40,18 @@ pub fn either(left: Option<Truth>, right: Option<Truth>) -> Option<Truth>
     ensures { result ≡ known_either left right }
 {
     not(both(not(left), not(right)))
+}
+
+/// Whether a tree is known to be False.
+pub fn is_false(of: Option<Truth>) -> bool
+    ensures { result ≡ known_false of }
+{
+    match of {
+        None => false,
+        Some(Truth::True) => false,
+        Some(Truth::False) => true,
+        Some(Truth::Out) => false,
+    }
 }
 
 /// The truth of several conjuncts from those of the first ones and of the last.

@@ -9,13 +9,16 @@ mod guide;
 mod known;
 pub mod laws;
 mod listed;
+mod memo;
 mod moves;
 mod node;
 mod place;
 mod plan;
 mod search;
 mod steps;
+mod walk;
 
 pub use forest::Forest;
 pub use guide::Guide;
 pub use search::Search;
+pub use walk::Walk;

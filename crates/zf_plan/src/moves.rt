@@ -4,8 +4,9 @@ ghost use Rattle.zf_walk.specs.Places.{IsAgenda};
 ghost use Rattle.zf_plan.specs.Places.{IsAt, Forgets, Lands, LandsNext};
 
 use crate::choice::Choice;
+use crate::memo::Memo;
 use crate::place::Place;
-use zf_walk::{Agenda, Judge, Range, Truth};
+use zf_walk::{Agenda, Judge, Range};
 
 /// Goes to the value at place `i` of range `k`, or past the row before it where the range ends before.
 fn land(place: &mut Place, k: usize, i: usize, end: usize)
@@ -29,14 +30,15 @@ pub fn descend<V, J: Judge<V>>(
     agenda: &Agenda,
     choices: &[Choice],
     place: &mut Place,
-    told: &mut [Option<Truth>],
+    memo: &mut Memo,
 )
     requires agenda { IsAgenda (J.conjuncts judge.now) (length ranges.now) agenda.now }
     requires at { IsAt ranges.now place.old }
     requires deeper { place.old.depth < length ranges.now }
-    requires all { length told.old ≡ (J.conjuncts judge.now).number }
+    requires all { length memo.old.truths.items ≡ (J.conjuncts judge.now).number }
     requires choices { length choices.now ≡ length ranges.now }
-    ensures forgets { Forgets (J.conjuncts judge.now) (place.old.depth + 1) told.old told.new }
+    ensures forgets { Forgets (J.conjuncts judge.now) (place.old.depth + 1) memo.old.truths.items memo.new.truths.items }
+    ensures same { memo.new.asked ≡ memo.old.asked }
     ensures lands { LandsNext (length (slice_index_or ranges.now place.old.depth [])) (slice_index_or choices.now place.old.depth None) place.old.depth 0 place.old place.new }
 {
     let depth = place.depth;
@@ -44,7 +46,7 @@ pub fn descend<V, J: Judge<V>>(
     let end = range.values.len();
     let choice = &choices[depth];
     let next = choice.next(0, end);
-    forget(judge, agenda, ranges.len(), depth + 1, told);
+    forget(judge, agenda, ranges.len(), depth + 1, memo);
     land(place, depth, next, end);
 }
 
@@ -55,14 +57,15 @@ pub fn retreat<V, J: Judge<V>>(
     agenda: &Agenda,
     choices: &[Choice],
     place: &mut Place,
-    told: &mut [Option<Truth>],
+    memo: &mut Memo,
 )
     requires agenda { IsAgenda (J.conjuncts judge.now) (length ranges.now) agenda.now }
     requires at { IsAt ranges.now place.old }
     requires below { 0 < place.old.depth }
-    requires all { length told.old ≡ (J.conjuncts judge.now).number }
+    requires all { length memo.old.truths.items ≡ (J.conjuncts judge.now).number }
     requires choices { length choices.now ≡ length ranges.now }
-    ensures forgets { Forgets (J.conjuncts judge.now) place.old.depth told.old told.new }
+    ensures forgets { Forgets (J.conjuncts judge.now) place.old.depth memo.old.truths.items memo.new.truths.items }
+    ensures same { memo.new.asked ≡ memo.old.asked }
     ensures lands { LandsNext (length (slice_index_or ranges.now (place.old.depth - 1) [])) (slice_index_or choices.now (place.old.depth - 1) None) (place.old.depth - 1) (slice_index_or place.old.places.items (place.old.depth - 1) 0 + 1) place.old place.new }
 {
     let last = place.depth - 1;
@@ -71,7 +74,7 @@ pub fn retreat<V, J: Judge<V>>(
     let from = place.places[last] + 1;
     let choice = &choices[last];
     let next = choice.next(from, end);
-    forget(judge, agenda, ranges.len(), last + 1, told);
+    forget(judge, agenda, ranges.len(), last + 1, memo);
     land(place, last, next, end);
 }
 
@@ -81,16 +84,17 @@ fn forget<V, J: Judge<V>>(
     agenda: &Agenda,
     components: usize,
     due: usize,
-    told: &mut [Option<Truth>],
+    memo: &mut Memo,
 )
     requires agenda { IsAgenda (J.conjuncts judge.now) components agenda.now }
     requires due { due ≤ components }
-    requires all { length told.old ≡ (J.conjuncts judge.now).number }
-    ensures { Forgets (J.conjuncts judge.now) due told.old told.new }
+    requires all { length memo.old.truths.items ≡ (J.conjuncts judge.now).number }
+    ensures forgets { Forgets (J.conjuncts judge.now) due memo.old.truths.items memo.new.truths.items }
+    ensures same { memo.new.asked ≡ memo.old.asked }
 {
     let mut leaf = agenda.firsts[due];
-    while leaf < told.len() {
-        told[leaf] = None;
+    while leaf < memo.truths.len() {
+        memo.truths[leaf] = None;
         leaf = agenda.nexts[leaf];
     }
 }

@@ -1,10 +1,10 @@
 //! Which leaves and which conjuncts a value that is bound concerns.
-ghost use Rattle.std.specs.Prelude.{◌≡◌, ◌+◌, ◌^◌, ◌<◌, length, IfOk};
+ghost use Rattle.std.specs.Prelude.{◌≡◌, ◌+◌, ◌^◌, ◌<◌, ℕ, [], length, slice_index_or, IfOk};
 ghost use Rattle.zf_walk.specs.Progress.{AreDueWithin};
 ghost use Rattle.zf_plan.specs.Trees.{tree_at, HasLeavesWithin, HaveLeavesWithin};
 ghost use Rattle.zf_plan.specs.Groves.{trees_made, trees_of};
 ghost use Rattle.zf_plan.specs.Knowing.{AreBelow};
-ghost use Rattle.zf_plan.specs.Places.{touches, AreListed, IsPlan};
+ghost use Rattle.zf_plan.specs.Places.{touches, AreListed, AreTouched, AreAllTouched, IsPlan};
 
 use crate::forest::Forest;
 use crate::guide::Guide;
@@ -31,7 +31,7 @@ impl Plan {
         requires due { AreDueWithin (J.conjuncts judge.now) components }
         requires leaves { HaveLeavesWithin (J.conjuncts judge.now).number (trees_of forest.now) }
         requires room { components + 1 < 2 ^ 64 }
-        ensures { IfOk result (IsPlan (J.conjuncts judge.now) (length (trees_of forest.now)) components) }
+        ensures { IfOk result (IsPlan (J.conjuncts judge.now) (trees_of forest.now) components) }
     {
         let agenda = Agenda::new(alloc, judge, components)?;
         let touched = all_touched(alloc, judge, forest, components)?;
@@ -42,10 +42,33 @@ impl Plan {
             narrowing,
         })
     }
+
+    /// One by which no component is narrowed.
+    pub fn plain<V, J: Judge<V>>(
+        alloc: Global,
+        judge: &J,
+        forest: &Forest,
+        components: usize,
+    ) -> Result<Plan, AllocError>
+        requires due { AreDueWithin (J.conjuncts judge.now) components }
+        requires leaves { HaveLeavesWithin (J.conjuncts judge.now).number (trees_of forest.now) }
+        requires room { components + 1 < 2 ^ 64 }
+        ensures plan { IfOk result (IsPlan (J.conjuncts judge.now) (trees_of forest.now) components) }
+        ensures none { IfOk result (λ p. (k : ℕ) → slice_index_or p.narrowing.items k [] ≡ []) }
+    {
+        let agenda = Agenda::new(alloc, judge, components)?;
+        let touched = all_touched(alloc, judge, forest, components)?;
+        let narrowing = none_narrowing(alloc, components)?;
+        Ok(Plan {
+            agenda,
+            touched,
+            narrowing,
+        })
+    }
 }
 
 /// For each number of values the conjuncts that have a leaf which needs so many.
-#[tactic(auto, using(crate::proofs::Numbers::all_below_push))]
+#[tactic(auto, using(crate::proofs::Numbers::all_touched_push))]
 fn all_touched<V, J: Judge<V>>(
     alloc: Global,
     judge: &J,
@@ -54,7 +77,7 @@ fn all_touched<V, J: Judge<V>>(
 ) -> Result<Vec<Listed>, AllocError>
     requires leaves { HaveLeavesWithin (J.conjuncts judge.now).number (trees_of forest.now) }
     requires room { components + 1 < 2 ^ 64 }
-    ensures { IfOk result (λ lists. AreListed (length (trees_of forest.now)) components lists.items) }
+    ensures { IfOk result (λ lists. AreAllTouched (J.conjuncts judge.now) (trees_of forest.now) components lists.items) }
 {
     let mut touched = Vec::new(alloc);
     for due in 0..components + 1 {
@@ -64,7 +87,7 @@ fn all_touched<V, J: Judge<V>>(
 }
 
 /// The conjuncts that have a leaf which needs so many values.
-#[tactic(auto, using(crate::proofs::Numbers::below_push))]
+#[tactic(auto, using(crate::proofs::Numbers::touched_push, crate::proofs::Numbers::touched_skip))]
 fn touched_at<V, J: Judge<V>>(
     alloc: Global,
     judge: &J,
@@ -72,7 +95,7 @@ fn touched_at<V, J: Judge<V>>(
     due: usize,
 ) -> Result<Listed, AllocError>
     requires { HaveLeavesWithin (J.conjuncts judge.now).number (trees_of forest.now) }
-    ensures { IfOk result (AreBelow (length (trees_of forest.now))) }
+    ensures { IfOk result (AreTouched (J.conjuncts judge.now) (trees_of forest.now) due (length (trees_of forest.now))) }
 {
     let mut numbers = Vec::new(alloc);
     for conjunct in 0..forest.count() {
@@ -116,6 +139,22 @@ fn all_narrowing<V: Ord, J: Guide<V>>(
     let mut narrowing = Vec::new(alloc);
     for component in 0..components + 1 {
         narrowing.push(narrowing_at(alloc, judge, forest, component)?)?;
+    }
+    Ok(narrowing)
+}
+
+/// For each number of values no conjunct.
+#[tactic(auto, using(crate::proofs::Numbers::none_push))]
+fn none_narrowing(alloc: Global, components: usize) -> Result<Vec<Listed>, AllocError>
+    requires { components + 1 < 2 ^ 64 }
+    ensures all { IfOk result (λ lists. length lists.items ≡ components + 1) }
+    ensures none { IfOk result (λ lists. (k : ℕ) → slice_index_or lists.items k [] ≡ []) }
+{
+    let mut narrowing = Vec::new(alloc);
+    for component in 0..components + 1 {
+        narrowing.push(Listed {
+            numbers: Vec::new(alloc),
+        })?;
     }
     Ok(narrowing)
 }

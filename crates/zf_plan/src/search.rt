@@ -1,21 +1,24 @@
 //! Searches.
-ghost use Rattle.std.specs.Prelude.{◌≡◌, ◌<◌, length, IfOk, OnErr, IsSomeAnd, IfSome, slice_get, slice_index_or, unwrap_or, []};
+ghost use Rattle.std.specs.Prelude.{◌≡◌, ◌<◌, ◌≤◌, length, IsTrue, IfOk, OnOk, OnErr, IsSomeAnd, IfSome, slice_get, slice_index_or, unwrap_or, []};
 ghost use Rattle.std.specs.Option.{option_copied};
 ghost use Rattle.zf_walk.specs.RowLaws.{TiesAreEqual, AreAscending, HasLength};
-ghost use Rattle.zf_walk.specs.Progress.{AreDueWithin, ended, AreAllAhead, Advances, Stays};
-ghost use Rattle.zf_plan.specs.Trees.{planted, HaveLeavesWithin};
+ghost use Rattle.zf_walk.specs.Progress.{AreDueWithin, ended, AreAllAhead, Advances, Stays, AreTests, IsBounded};
+ghost use Rattle.zf_plan.specs.Trees.{planted, HaveLeavesWithin, IsFlat};
 ghost use Rattle.zf_plan.specs.Groves.{trees_of};
-ghost use Rattle.zf_plan.specs.Progress.{SameProblem};
+ghost use Rattle.zf_plan.specs.Places.{IsSound, begun};
+ghost use Rattle.zf_plan.specs.Counts.{IsPlain};
+ghost use Rattle.zf_plan.specs.Progress.{SameProblem, counted};
 
 use crate::choice::{Choice, all_chosen};
 use crate::forest::Forest;
 use crate::guide::Guide;
+use crate::memo::Memo;
 use crate::place::Place;
 use crate::plan::Plan;
 use crate::steps::next_answer;
 use std::alloc::{AllocError, Global};
 use std::marker::Model;
-use zf_walk::{Range, Row, Step, Truth, pick};
+use zf_walk::{Range, Row, Step, pick};
 
 /// A search over the rows of some ranges, in ascending order, for those on which no conjunct is False. It passes over rows that hold none, and takes no memory of its own once it stands.
 #[derive(Drop)]
@@ -26,12 +29,13 @@ pub struct Search<'a, V: Ord, J: Guide<V>> {
     after: Option<&'a [V]>,
     plan: Plan,
     place: Place,
-    /// For each leaf its truth on the bound values, where it was asked for.
-    told: Vec<Option<Truth>>,
+    memo: Memo,
     /// For each range which of its values are tried.
     choices: Vec<Choice>,
     /// Whether the place is that of a row that the last step gave.
     given: bool,
+    /// Whether each conjunct is a leaf and no component is narrowed.
+    plain: bool,
 }
 
 impl<'a, V: Ord, J: Guide<V>> Model for Search<'a, V, J> {
@@ -41,9 +45,9 @@ impl<'a, V: Ord, J: Guide<V>> Model for Search<'a, V, J> {
 
     ghost Value = { Progress V J };
 
-    ghost view = { λ w. view_of w.judge w.forest w.ranges.items (option_copied w.after) w.place w.given };
+    ghost view = { λ w. view_of w.judge w.forest w.ranges.items (option_copied w.after) w.place w.memo w.given w.plain };
 
-    ghost invariant = { λ w. IsStanding V.cmp (J.conjuncts w.judge) w.forest w.ranges.items (option_copied w.after) w.plan w.place w.told.items w.choices.items w.given };
+    ghost invariant = { λ w. IsStanding V.cmp (J.conjuncts w.judge) w.forest w.ranges.items (option_copied w.after) w.plan w.place w.memo w.choices.items w.given w.plain };
 }
 
 impl<'a, V: Ord + Drop, J: Guide<V> + Drop> Search<'a, V, J> {
@@ -65,14 +69,56 @@ impl<'a, V: Ord + Drop, J: Guide<V> + Drop> Search<'a, V, J> {
         ensures first { IfOk result (λ w. w.stage.last ≡ None) }
     {
         let plan = Plan::new(alloc, &judge, &forest, ranges.len())?;
+        let search = Search::over(alloc, judge, forest, ranges, after, plan, false)?;
+        Ok(search)
+    }
+
+    /// The same with each leaf as a conjunct and no component narrowed: it asks for one leaf after another, and counts them.
+    pub fn counting(
+        alloc: Global,
+        judge: J,
+        ranges: Vec<Range<V>>,
+        after: Option<&'a [V]>,
+    ) -> Result<Search<'a, V, J>, AllocError>
+        requires ascending { AreAscending V.cmp ranges.items }
+        requires ties { TiesAreEqual V.cmp }
+        requires named { HasLength (option_copied after) (length ranges.items) }
+        requires due { AreDueWithin (J.conjuncts judge) (length ranges.items) }
+        ensures problem { IfOk result (λ w. (w.judge ≡ judge) × IsFlat (J.conjuncts judge).number (trees_of w.forest) × (w.stage.ranges ≡ ranges.items) × (w.stage.after ≡ option_copied after.entry)) }
+        ensures events { IfOk result (λ w. AreAllAhead V.cmp (J.conjuncts judge) ranges.items (option_copied after.entry) w.stage.ahead) }
+        ensures first { IfOk result (λ w. (w.stage.last ≡ None) × (w.tests ≡ 0) × IsTrue w.counts) }
+    {
+        let forest = Forest::flat(alloc, judge.count())?;
+        let plan = Plan::plain(alloc, &judge, &forest, ranges.len())?;
+        let search = Search::over(alloc, judge, forest, ranges, after, plan, true)?;
+        Ok(search)
+    }
+
+    /// Stands before the first event, by this plan.
+    fn over(
+        alloc: Global,
+        judge: J,
+        forest: Forest,
+        ranges: Vec<Range<V>>,
+        after: Option<&'a [V]>,
+        plan: Plan,
+        plain: bool,
+    ) -> Result<Search<'a, V, J>, AllocError>
+        requires sound { IsSound V.cmp (J.conjuncts judge) (trees_of forest) ranges.items (option_copied after) plan }
+        requires plain { IsTrue plain → IsPlain (J.conjuncts judge) (trees_of forest) plan }
+        ensures problem { IfOk result (λ w. (w.judge ≡ judge) × (w.forest ≡ forest) × (w.stage.ranges ≡ ranges.items) × (w.stage.after ≡ option_copied after.entry)) }
+        ensures events { IfOk result (λ w. w.stage.ahead ≡ begun) }
+        ensures first { IfOk result (λ w. (w.stage.last ≡ None) × (w.tests ≡ 0) × (w.counts ≡ plain)) }
+    {
         let places = vec![in alloc; 0; ranges.len()]?;
-        let told = vec![in alloc; None; judge.count()]?;
+        let truths = vec![in alloc; None; judge.count()]?;
         let choices = all_chosen(alloc, ranges.len())?;
         let place = Place {
             places,
             depth: 0,
             fresh: true,
         };
+        let memo = Memo { truths, asked: 0 };
         Ok(Search {
             judge,
             forest,
@@ -80,9 +126,10 @@ impl<'a, V: Ord + Drop, J: Guide<V> + Drop> Search<'a, V, J> {
             after,
             plan,
             place,
-            told,
+            memo,
             choices,
             given: false,
+            plain,
         })
     }
 }
@@ -92,7 +139,9 @@ impl<'a, V: Ord, J: Guide<V>> Search<'a, V, J> {
     pub fn advance(&mut self) -> Result<Step, AllocError>
         ensures problem { SameProblem self.old self.new }
         ensures answer { IfOk result (λ step. Advances V.cmp (planted (J.conjuncts self.old.judge) (trees_of self.old.forest)) step self.old.stage self.new.stage) }
+        ensures tests { OnOk result (IsTrue self.old.counts → AreTests V.cmp (J.conjuncts self.old.judge) (counted self.new) self.new.stage.last) }
         ensures refused { OnErr result (Stays V.cmp (planted (J.conjuncts self.old.judge) (trees_of self.old.forest)) self.old.stage self.new.stage) }
+        ensures no_test_lost { self.old.tests ≤ self.new.tests }
         ensures ended { self.old.stage.ahead ≡ ended → result ≡ Ok Step.End }
     {
         self.given = false;
@@ -103,7 +152,7 @@ impl<'a, V: Ord, J: Guide<V>> Search<'a, V, J> {
             self.after,
             &self.plan,
             &mut self.place,
-            &mut self.told,
+            &mut self.memo,
             &mut self.choices,
         )? {
             Step::Holds => {
@@ -116,6 +165,14 @@ impl<'a, V: Ord, J: Guide<V>> Search<'a, V, J> {
             }
             Step::End => Ok(Step::End),
         }
+    }
+
+    /// How many times a leaf was asked for: where each conjunct is a leaf and no component is narrowed, how many tests were finished.
+    pub fn tests(&self) -> u64
+        ensures count { result ≡ self.now.tests }
+        ensures bounded { IsTrue self.now.counts → IsBounded V.cmp (J.conjuncts self.now.judge) (counted self.now) result }
+    {
+        self.memo.asked
     }
 
     /// A value of the row that the last step gave.

@@ -1,5 +1,5 @@
 //! The steps of a search.
-ghost use Rattle.std.specs.Prelude.{◌≡◌, ◌<◌, true, [], length, slice_index_or, IsTrue, IsFalse, IfOk, OnOk, OnErr};
+ghost use Rattle.std.specs.Prelude.{◌≡◌, ◌<◌, ◌≤◌, None, true, [], length, slice_index_or, IsTrue, IsFalse, IfOk, OnOk, OnErr};
 ghost use Rattle.std.specs.Option.{option_copied};
 ghost use Rattle.zf_walk.specs.Picked.{AreWithin, picked};
 ghost use Rattle.zf_walk.specs.Places.{is_reached};
@@ -7,8 +7,9 @@ ghost use Rattle.zf_walk.specs.Progress.{AreDueWithin};
 ghost use Rattle.zf_walk.specs.RowLaws.{AreAscending};
 ghost use Rattle.zf_plan.specs.Trees.{planted, HaveLeavesWithin};
 ghost use Rattle.zf_plan.specs.Groves.{trees_of};
-ghost use Rattle.zf_plan.specs.Knowing.{Tells};
+ghost use Rattle.zf_plan.specs.Knowing.{Remembers};
 ghost use Rattle.zf_plan.specs.Choosing.{IsChoice};
+ghost use Rattle.zf_plan.specs.Counts.{IsPlain, Counts, CountsOn, IsCounted, IsSame};
 ghost use Rattle.zf_plan.specs.Places.{IsPlan, IsSound, IsHopeless, Stands, Goes, Gives, KeepsEvents, is_over};
 
 use crate::choice::Choice;
@@ -16,6 +17,7 @@ use crate::choosing::choose;
 use crate::evaluating::{is_refuted, truth_of_all};
 use crate::forest::Forest;
 use crate::guide::Guide;
+use crate::memo::Memo;
 use crate::moves::{descend, retreat};
 use crate::place::Place;
 use crate::plan::Plan;
@@ -30,20 +32,22 @@ fn is_hopeless<V: Ord, J: Guide<V>>(
     after: Option<&[V]>,
     plan: &Plan,
     places: &[usize],
-    told: &mut [Option<Truth>],
+    memo: &mut Memo,
 ) -> Result<bool, AllocError>
     requires sound { IsSound V.cmp (J.conjuncts judge.now) (trees_of forest.now) ranges.now (option_copied after) plan.now }
     requires within { AreWithin ranges.now places.now }
-    requires tells { Tells (J.conjuncts judge.now) ranges.now places.now told.old }
-    ensures tells { Tells (J.conjuncts judge.now) ranges.now places.now told.new }
+    requires remembers { Remembers (J.conjuncts judge.now) ranges.now places.now memo.old }
+    ensures remembers { Remembers (J.conjuncts judge.now) ranges.now places.now memo.new }
+    ensures more { memo.old.asked ≤ memo.new.asked }
     ensures hopeless { IfOk result (λ found. IsTrue found → IsHopeless V.cmp (J.conjuncts judge.now) (trees_of forest.now) (length ranges.now) (option_copied after.entry) (picked ranges.now places.now)) }
     ensures reached { IfOk result (λ found. IsFalse found → is_reached V.cmp (option_copied after.entry) (length ranges.now) (picked ranges.now places.now) ≡ true) }
+    ensures counts { IsPlain (J.conjuncts judge.now) (trees_of forest.now) plan.now → Counts V.cmp (J.conjuncts judge.now) ranges.now (option_copied after.entry) true places.now memo.old.truths.items memo.old.asked → CountsOn V.cmp (J.conjuncts judge.now) ranges.now (option_copied after.entry) places.now result memo.new }
 {
     if !is_reached(after, ranges, places) {
         return Ok(true);
     }
     let touched = &plan.touched[places.len()];
-    is_refuted(judge, forest, ranges, places, &touched.numbers, told)
+    is_refuted(judge, forest, ranges, places, &touched.numbers, memo)
 }
 
 /// Chooses the values of the next range that are tried.
@@ -53,18 +57,20 @@ fn choose_next<V: Ord, J: Guide<V>>(
     ranges: &[Range<V>],
     plan: &Plan,
     places: &[usize],
-    told: &mut [Option<Truth>],
+    memo: &mut Memo,
     choice: &mut Choice,
 ) -> Result<(), AllocError>
     requires due { AreDueWithin (J.conjuncts judge.now) (length ranges.now) }
     requires ascending { AreAscending V.cmp ranges.now }
-    requires plan { IsPlan (J.conjuncts judge.now) (length (trees_of forest.now)) (length ranges.now) plan.now }
+    requires plan { IsPlan (J.conjuncts judge.now) (trees_of forest.now) (length ranges.now) plan.now }
     requires leaves { HaveLeavesWithin (J.conjuncts judge.now).number (trees_of forest.now) }
     requires within { AreWithin ranges.now places.now }
     requires deeper { length places.now < length ranges.now }
-    requires tells { Tells (J.conjuncts judge.now) ranges.now places.now told.old }
-    ensures tells { Tells (J.conjuncts judge.now) ranges.now places.now told.new }
+    requires remembers { Remembers (J.conjuncts judge.now) ranges.now places.now memo.old }
+    ensures remembers { Remembers (J.conjuncts judge.now) ranges.now places.now memo.new }
+    ensures more { memo.old.asked ≤ memo.new.asked }
     ensures choice { OnOk result (IsChoice (J.conjuncts judge.now) (trees_of forest.now) ranges.now (picked ranges.now places.now) (slice_index_or ranges.now (length places.now) []) choice.new) }
+    ensures plain { IsPlain (J.conjuncts judge.now) (trees_of forest.now) plan.now → IsSame memo.old memo.new × OnOk result (choice.new ≡ None) }
 {
     let narrowing = &plan.narrowing[places.len()];
     choose(
@@ -73,7 +79,7 @@ fn choose_next<V: Ord, J: Guide<V>>(
         ranges,
         places,
         &narrowing.numbers,
-        told,
+        memo,
         choice,
     )
 }
@@ -86,21 +92,23 @@ fn step_on<V: Ord, J: Guide<V>>(
     after: Option<&[V]>,
     plan: &Plan,
     place: &mut Place,
-    told: &mut [Option<Truth>],
+    memo: &mut Memo,
     choices: &mut [Choice],
 ) -> Result<Option<Step>, AllocError>
     requires sound { IsSound V.cmp (J.conjuncts judge.now) (trees_of forest.now) ranges.now (option_copied after) plan.now }
-    requires stands { Stands (J.conjuncts judge.now) (trees_of forest.now) ranges.now place.old told.old choices.old }
-    ensures stands { Stands (J.conjuncts judge.now) (trees_of forest.now) ranges.now place.new told.new choices.new }
+    requires stands { Stands (J.conjuncts judge.now) (trees_of forest.now) ranges.now place.old memo.old choices.old }
+    ensures stands { Stands (J.conjuncts judge.now) (trees_of forest.now) ranges.now place.new memo.new choices.new }
     ensures goes { IfOk result (λ found. Goes V.cmp (planted (J.conjuncts judge.now) (trees_of forest.now)) ranges.now (option_copied after.entry) place.old found place.new) }
     ensures err { OnErr result (place.new ≡ place.old) }
+    ensures counts { IsPlain (J.conjuncts judge.now) (trees_of forest.now) plan.now → IsCounted V.cmp (J.conjuncts judge.now) ranges.now (option_copied after.entry) place.old memo.old choices.old → IsCounted V.cmp (J.conjuncts judge.now) ranges.now (option_copied after.entry) place.new memo.new choices.new }
+    ensures more { memo.old.asked ≤ memo.new.asked }
     ensures over { IsTrue (is_over place.old) → result ≡ Ok (Some Step.End) }
 {
     if !place.fresh {
         if place.depth == 0 {
             return Ok(Some(Step::End));
         }
-        retreat(judge, ranges, &plan.agenda, choices, place, told);
+        retreat(judge, ranges, &plan.agenda, choices, place, memo);
         return Ok(None);
     }
     let depth = place.depth;
@@ -111,7 +119,7 @@ fn step_on<V: Ord, J: Guide<V>>(
         after,
         plan,
         &place.places[..depth],
-        told,
+        memo,
     )?;
     if hopeless {
         place.fresh = false;
@@ -124,13 +132,13 @@ fn step_on<V: Ord, J: Guide<V>>(
             ranges,
             plan,
             &place.places[..depth],
-            told,
+            memo,
             &mut choices[depth],
         )?;
-        descend(judge, ranges, &plan.agenda, choices, place, told);
+        descend(judge, ranges, &plan.agenda, choices, place, memo);
         return Ok(None);
     }
-    let truth = truth_of_all(judge, forest, ranges, &place.places[..depth], told)?;
+    let truth = truth_of_all(judge, forest, ranges, &place.places[..depth], memo)?;
     place.fresh = false;
     match truth {
         Truth::True => Ok(Some(Step::Holds)),
@@ -147,18 +155,20 @@ pub fn next_answer<V: Ord, J: Guide<V>>(
     after: Option<&[V]>,
     plan: &Plan,
     place: &mut Place,
-    told: &mut [Option<Truth>],
+    memo: &mut Memo,
     choices: &mut [Choice],
 ) -> Result<Step, AllocError>
     requires sound { IsSound V.cmp (J.conjuncts judge.now) (trees_of forest.now) ranges.now (option_copied after) plan.now }
-    requires stands { Stands (J.conjuncts judge.now) (trees_of forest.now) ranges.now place.old told.old choices.old }
-    ensures stands { Stands (J.conjuncts judge.now) (trees_of forest.now) ranges.now place.new told.new choices.new }
+    requires stands { Stands (J.conjuncts judge.now) (trees_of forest.now) ranges.now place.old memo.old choices.old }
+    ensures stands { Stands (J.conjuncts judge.now) (trees_of forest.now) ranges.now place.new memo.new choices.new }
     ensures gives { IfOk result (λ step. Gives V.cmp (planted (J.conjuncts judge.now) (trees_of forest.now)) ranges.now (option_copied after.entry) place.old step place.new) }
     ensures refused { OnErr result (KeepsEvents V.cmp (planted (J.conjuncts judge.now) (trees_of forest.now)) ranges.now (option_copied after.entry) place.old place.new) }
+    ensures counts { IsPlain (J.conjuncts judge.now) (trees_of forest.now) plan.now → IsCounted V.cmp (J.conjuncts judge.now) ranges.now (option_copied after.entry) place.old memo.old choices.old → IsCounted V.cmp (J.conjuncts judge.now) ranges.now (option_copied after.entry) place.new memo.new choices.new }
+    ensures more { memo.old.asked ≤ memo.new.asked }
     ensures over { IsTrue (is_over place.old) → result ≡ Ok Step.End }
 {
     loop {
-        if let Some(answer) = step_on(judge, forest, ranges, after, plan, place, told, choices)? {
+        if let Some(answer) = step_on(judge, forest, ranges, after, plan, place, memo, choices)? {
             return Ok(answer);
         }
     }

@@ -1,4 +1,4 @@
-use Rattle.zf_plan.proofs.Prelude.{◌∙◌, ◌≡◌, ap, arith, length, subst, take, length-take-le, AreWithin-take, length-picked, picked}
+use Rattle.zf_plan.proofs.Prelude.{◌∙◌, ◌≡◌, ap, arith, get_or_default, length, None, subst, sym, take, length-take-le, AreWithin-take, length-picked, picked}
 use Rattle.zf_plan.proofs.Knowing.{known-later, known-told, settled-leaf}
 use Rattle.zf_plan.proofs.evaluating.look.Goals as goal
 
@@ -15,7 +15,8 @@ judge-requires-clause-due g c =
 pub returns-in-Some-clause-known : goal.returns-in-Some-clause-known
 returns-in-Some-clause-known g c =
     let l = g.J.Judge.conjuncts c.args.judge.now in
-    known-told l (g.met.J.Judge.kept c.args.judge.now) c.args.ranges.now c.args.places.now c.requires.within c.args.told.now c.args.of c.in-Some.truth c.requires.tells c.requires.of (omega (arith, c.due-due.ensures)) c.in-Some.is
+    known-told l (g.met.J.Judge.kept c.args.judge.now) c.args.ranges.now c.args.places.now c.requires.within c.args.memo.now.truths.items c.args.of c.in-Some.truth c.requires.remembers.tells c.requires.of (omega (arith, c.due-due.ensures))
+    (get_or_default c.args.memo.now.truths.items c.args.of None c.index.result.now (omega (arith, c.requires.of, c.requires.remembers.tells.all)) ∙ sym c.index.ensures ∙ c.in-Some.is)
 
 pub returns-in_ok-truth-in-None-clause-known : goal.returns-in_ok-truth-in-None-clause-known
 returns-in_ok-truth-in-None-clause-known g c =

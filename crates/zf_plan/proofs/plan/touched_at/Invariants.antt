@@ -1,6 +1,7 @@
-use Rattle.zf_plan.proofs.Prelude.{length, trees_of, AreBelow}
+use Rattle.zf_plan.proofs.Prelude.{trees_of}
+use Rattle.zf_plan.specs.Places.{AreTouched}
 use Rattle.zf_plan.proofs.plan.touched_at.Given as goal
 
--- They are conjuncts.
+-- They are those of the first conjuncts.
 abbrev pub invariant-loop-conjunct : goal.invariant-loop-conjunct
-invariant-loop-conjunct g l = AreBelow (length (trees_of l.forest)) l.numbers.items
+invariant-loop-conjunct g l = AreTouched (g.J.Judge.conjuncts l.judge) (trees_of l.forest) l.due l.conjunct l.numbers.items

@@ -1,0 +1,32 @@
+use Rattle.zf_plan.proofs.Prelude.{◌≡◌, arith, length, subst, sym, option_copied, trees_of, IsPlan}
+use Rattle.zf_plan.specs.Trees.{IsFlat}
+use Rattle.zf_plan.proofs.Groves.{flat-leaves}
+use Rattle.zf_plan.proofs.Stepping.{ahead-begins}
+use Rattle.zf_plan.proofs.search.Search.counting.Goals as goal
+
+pub plain-requires-clause-leaves : goal.plain-requires-clause-leaves
+plain-requires-clause-leaves g c = flat-leaves (g.J.Judge.conjuncts c.args.judge).number (trees_of c.in_ok-forest.forest) (subst (λ n. IsFlat n (trees_of c.in_ok-forest.forest)) c.count.ensures c.in_ok-forest.ensures)
+
+pub over-requires-clause-sound : goal.over-requires-clause-sound
+over-requires-clause-sound g c =
+    let n : c.len.result ≡ length c.args.ranges.items = omega (arith, c.len.ensures, c.args.ranges.ok.0) in
+    record {
+      ascending = c.requires.ascending;
+      ties = c.requires.ties;
+      named = c.requires.named;
+      due = c.requires.due;
+      leaves = flat-leaves (g.J.Judge.conjuncts c.args.judge).number (trees_of c.in_ok-forest.forest) (subst (λ n. IsFlat n (trees_of c.in_ok-forest.forest)) c.count.ensures c.in_ok-forest.ensures);
+      plan = subst (λ k. IsPlan (g.J.Judge.conjuncts c.args.judge) (trees_of c.in_ok-forest.forest) k c.in_ok-plan.plan) n c.in_ok-plan.ensures.plan;
+    }
+
+pub over-requires-clause-plain : goal.over-requires-clause-plain
+over-requires-clause-plain g c = λ e. record { flat = subst (λ n. IsFlat n (trees_of c.in_ok-forest.forest)) c.count.ensures c.in_ok-forest.ensures; none = c.in_ok-plan.ensures.none }
+
+pub returns-clause-problem : goal.returns-clause-problem
+returns-clause-problem g c =
+    let p = c.in_ok-search.ensures.problem in
+    (p.0, subst (λ f. IsFlat (g.J.Judge.conjuncts c.args.judge).number (trees_of f)) (sym p.1) (subst (λ n. IsFlat n (trees_of c.in_ok-forest.forest)) c.count.ensures c.in_ok-forest.ensures), p.2, p.3)
+
+pub returns-clause-events : goal.returns-clause-events
+returns-clause-events g c =
+    ahead-begins g.V.Ord.cmp (g.J.Judge.conjuncts c.args.judge) c.args.ranges.items (option_copied c.args.after) c.in_ok-search.search.stage.ahead c.in_ok-search.ensures.events
