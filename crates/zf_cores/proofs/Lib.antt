@@ -1,0 +1,3 @@
+mod Prelude
+pub mod Choosing
+pub mod LeftOut

@@ -1,0 +1,6 @@
+use Rattle.zf_cores.proofs.Prelude.{◌≡◌, true}
+use Rattle.std.specs.Prelude.{replicate}
+use Rattle.zf_cores.proofs.trimming.all_chosen.Given as goal
+
+abbrev pub invariant-loop : goal.invariant-loop
+invariant-loop l = l.chosen.items ≡ replicate l.counter true

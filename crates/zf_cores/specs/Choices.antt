@@ -1,0 +1,35 @@
+-- Choices among several members, by their places, and the minimal ones of which nothing is possible.
+use Rattle.std.specs.Prelude.{◌≡◌, ℕ, Bool, true, false, List, [], ◌∷◌, length, slice_get, slice_set, Some}
+
+-- the member at this place is chosen, or is left
+abbrev pub IsChosen : List Bool → ℕ → Type 0
+IsChosen chosen i = slice_get chosen i ≡ Some true
+
+abbrev pub IsLeft : List Bool → ℕ → Type 0
+IsLeft chosen i = slice_get chosen i ≡ Some false
+
+-- one is chosen
+abbrev pub HasChosen : List Bool → Type 0
+HasChosen chosen = (i : ℕ) × IsChosen chosen i
+
+-- what is chosen by the one is chosen by the other
+pub record IsFewer (small large : List Bool) : Type 0 where
+  pub chosen : (i : ℕ) → IsChosen small i → IsChosen large i
+
+-- of some things those that are chosen
+abbrev pub chosen_of : {A : Type 0} → List A → List Bool → List A
+chosen_of [] chosen = []
+chosen_of (x ∷ xs) [] = []
+chosen_of (x ∷ xs) (false ∷ chosen) = chosen_of xs chosen
+chosen_of (x ∷ xs) (true ∷ chosen) = x ∷ chosen_of xs chosen
+
+-- Nothing is possible with the chosen ones, of n members, and without any one of them something is.
+pub record IsMinimal (Possible : List Bool → Type 0) (n : ℕ) (chosen : List Bool) : Type 0 where
+  pub each : length chosen ≡ n
+  pub impossible : Possible chosen → ⊥
+  pub needed : (i : ℕ) → IsChosen chosen i → Possible (slice_set chosen i false)
+
+-- P where it is so, Q where not
+abbrev pub OneOf : Type 0 → Type 0 → Bool → Type 0
+OneOf P Q true = P
+OneOf P Q false = Q

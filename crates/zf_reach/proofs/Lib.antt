@@ -1,0 +1,5 @@
+mod Prelude
+pub mod Fronts
+pub mod Passing
+pub mod Running
+pub mod Parts

@@ -1,0 +1,33 @@
+-- What the search for the edges of a node answers.
+use Rattle.std.specs.Prelude.{◌≡◌, ℕ, ◌<◌, true, List, []}
+use Rattle.zf_graph.specs.Explorations.{Explored, Turn}
+use Rattle.zf_graph.specs.Texts.{broken, ended, Ending, no_turn, paused, with_edge}
+use Rattle.zf_reach.specs.declared.ending.Ending as code
+use Rattle.zf_reach.specs.declared.ending.Ending.TheVariants as endings
+use Rattle.zf_reach.specs.declared.machine.Beginning.{Beginning}
+use Rattle.zf_reach.specs.declared.machine.Beginning.TheVariants as beginnings
+use Rattle.zf_reach.specs.declared.machine.Found.{Found}
+use Rattle.zf_reach.specs.declared.machine.Found.TheVariants as founds
+
+abbrev pub ending_of : code.Ending → (at : List ℕ) → Ending
+ending_of endings.Ended at = ended
+ending_of endings.Paused at = paused
+ending_of endings.Broken at = broken at
+
+-- the turn of the node begins so
+abbrev pub BeginsAs : {N L : Type 0} → Explored N L → Beginning → (node : N) → (now : Turn N L) → (stop : List ℕ) → Type 0
+BeginsAs p beginnings.Regular node now stop = (now ≡ no_turn) × p.BeginsTurn node now
+BeginsAs p beginnings.Stray node now stop = (now ≡ record { stray = true; edges = [] }) × p.BeginsTurn node now
+BeginsAs p beginnings.Out node now stop = (now ≡ no_turn) × p.BreaksTurn node no_turn stop
+
+-- The search goes on to one more edge, or all edges of the part are passed, or the turn breaks off here.
+abbrev pub AdvancesTo : {N L : Type 0} → Explored N L → Found N L → (of : N) → (now : Turn N L) → (Stands HasPassed : Turn N L → Type 0) → (stop : List ℕ) → Type 0
+AdvancesTo p (founds.Edge label to) of now Stands HasPassed stop = Stands (with_edge now (record { label = label; to = to })) × p.BeginsTurn of (with_edge now (record { label = label; to = to }))
+AdvancesTo p founds.Over of now Stands HasPassed stop = HasPassed now
+AdvancesTo p founds.Out of now Stands HasPassed stop = p.BreaksTurn of now stop
+
+-- fewer edges are ahead behind an edge
+abbrev pub HasFewer : {N L : Type 0} → Found N L → (before after : ℕ) → Type 0
+HasFewer (founds.Edge label to) before after = after < before
+HasFewer founds.Over before after = Unit {0}
+HasFewer founds.Out before after = Unit {0}

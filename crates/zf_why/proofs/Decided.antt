@@ -1,0 +1,69 @@
+-- A search finds an event exactly where some row makes all predicates other than False.
+use Rattle.zf_why.proofs.Prelude.{◌<◌, ◌∷◌, ◌≡◌, ◌⊎◌, [], arith, inl, inr, length, List, None, Option, subst, suc, sym, zero, ℕ, AllByRecursion, slice_get, IsTruthOf, Event, IsEvent, Advances, Stage, False, Out, True, Breaks, End, Holds, Schema, ResolvedTree, value_order, Value, Environment, portion, HasTruth, property, told, conjuncts_of, Goal, Begins, HasRow, IsAllowed, RuleOut, Decides, Bool, Result, Ok, Err}
+use Rattle.std.specs.Prelude.{IfOk}
+use Rattle.zf_plan.proofs.Alike.{advances}
+use Rattle.zf_walk.specs.Conjuncts.{Conjuncts}
+use Rattle.zf_why.proofs.Rows.{row_of, row_in}
+
+module _ (e : Environment) (row : List Value) where
+  says : (ps : List ResolvedTree) → ((c : ℕ) → c < length ps → HasTruth e row (slice_get ps c) (told True) ⊎ HasTruth e row (slice_get ps c) (told Out)) → AllByRecursion (IsAllowed e row) ps
+  says [] h = tt
+  says (p ∷ ps) h = (h zero (omega arith), says ps (λ c l. h (suc c) (omega arith)))
+
+  said : (ps : List ResolvedTree) → AllByRecursion (IsAllowed e row) ps → (c : ℕ) → c < length ps → HasTruth e row (slice_get ps c) (told True) ⊎ HasTruth e row (slice_get ps c) (told Out)
+  said [] h c l = absurd (omega arith)
+  said (p ∷ ps) h zero l = h.0
+  said (p ∷ ps) h (suc c) l = said ps h.1 c (omega arith)
+
+  true_at : (p : ResolvedTree) (ps : List ResolvedTree) → HasTruth e row (slice_get (p ∷ ps) zero) (told True) → ((c : ℕ) → c < length ps → HasTruth e row (slice_get ps c) (told True))
+      → (c : ℕ) → c < length (p ∷ ps) → HasTruth e row (slice_get (p ∷ ps) c) (told True)
+  true_at p ps h hs zero l = h
+  true_at p ps h hs (suc c) l = hs c (omega arith)
+
+  -- all are True, or one is Out
+  true_or_out : (ps : List ResolvedTree) → AllByRecursion (IsAllowed e row) ps
+      → ((c : ℕ) → c < length ps → HasTruth e row (slice_get ps c) (told True)) ⊎ ((c : ℕ) × (c < length ps) × HasTruth e row (slice_get ps c) (told Out))
+  true_or_out [] h = inl (λ c l. absurd (omega arith))
+  true_or_out (p ∷ ps) (inr out, hs) = inr (zero, omega arith, out)
+  true_or_out (p ∷ ps) (inl true, hs) = elim (true_or_out ps hs) [
+    | inl all ↦ inl (true_at p ps true all)
+    | inr (c, l, out) ↦ inr (suc c, omega arith, out)
+  ]
+
+module _ (e : Environment) (a : Schema) (held : List (Option Value)) (g : Goal) (b : Stage Value) (begun : Begins e a (portion None held) g b) where
+  abbrev stated : Conjuncts Value
+  stated = property e a.conjuncts
+
+  pub holds : (d : Stage Value) → Advances value_order (conjuncts_of g) Holds b d → HasRow e a.comps held a.conjuncts
+  holds d h = let t = advances value_order (conjuncts_of g) stated begun.same Holds b d h in record {
+    row = t.0;
+    within = row_of e a.comps held b.ranges t.0 begun.ranges t.2.event.within;
+    allowed = says e t.0 a.conjuncts (λ c l. inl (t.2.event.truth_of c l));
+  }
+
+  pub breaks : (d : Stage Value) → Advances value_order (conjuncts_of g) Breaks b d → HasRow e a.comps held a.conjuncts
+  breaks d h = let t = advances value_order (conjuncts_of g) stated begun.same Breaks b d h in record {
+    row = t.0;
+    within = row_of e a.comps held b.ranges t.0 begun.ranges t.2.event.within;
+    allowed = says e t.0 a.conjuncts t.2.event.truth_of.0;
+  }
+
+  -- the event of a row that allows all
+  event_of : (h : HasRow e a.comps held a.conjuncts) → (ev : Event Value) × IsEvent value_order stated b.ranges None ev
+  event_of h = elim (true_or_out e h.row a.conjuncts h.allowed) [
+    | inl all ↦ (record { row = h.row; truth = True }, record { within = row_in e a.comps held b.ranges h.row begun.ranges h.within; later = tt; truth_of = all; not_false = λ q. cc })
+    | inr out ↦ (record { row = h.row; truth = Out }, record { within = row_in e a.comps held b.ranges h.row begun.ranges h.within; later = tt; truth_of = (said e h.row a.conjuncts h.allowed, out); not_false = λ q. cc })
+  ]
+
+  pub ends : (d : Stage Value) → Advances value_order (conjuncts_of g) End b d → RuleOut e a.comps held a.conjuncts
+  ends d h row =
+      let t = advances value_order (conjuncts_of g) stated begun.same End b d h in
+      let ev = event_of row in
+      let there : IsEvent value_order stated b.ranges b.after ev.0 = subst (λ n. IsEvent value_order stated b.ranges n ev.0) (sym begun.named) ev.1 in
+      t.1 ev.0 there (begun.ahead ev.0 ev.1)
+
+-- what a search finds decides it
+pub found : (e : Environment) (a : Schema) (held : List (Option Value)) (g : Goal) (b : Stage Value) {E : Type 0} (r : Result Bool E) → Begins e a (portion None held) g b
+    → IfOk r (λ f. (e : Environment) (a : Schema) (held : List (Option Value)) → Begins e a (portion None held) g b → Decides e a.comps held a.conjuncts f) → IfOk r (Decides e a.comps held a.conjuncts)
+found e a held g b (Ok f) begun h = h e a held begun
+found e a held g b (Err x) begun h = tt

@@ -1,0 +1,5 @@
+pub mod Rows
+pub mod Cores
+pub mod Causes
+pub mod Searching
+pub mod Besides

@@ -1,0 +1,37 @@
+-- Which predicates some row of a schema's components makes other than False.
+use Rattle.std.specs.Prelude.{◌⊎◌, List, [], ◌∷◌, Option}
+use Rattle.std.specs.List.{AllByRecursion}
+use Rattle.zf_term.specs.Definitions.{Comp, sets_of}
+use Rattle.zf_term.specs.ResolvedTrees.{ResolvedTree}
+use Rattle.zf_value.specs.declared.plain.Value.{Value}
+use Rattle.zf_value.specs.declared.value.Truth.TheVariants.{True, Out}
+use Rattle.zf_meaning.specs.Environments.{Environment}
+use Rattle.zf_meaning.specs.InRow.{in_row}
+use Rattle.zf_meaning.specs.Meaning.{IsTruth}
+use Rattle.zf_enum.specs.DeclaredSets.{IsInSets}
+use Rattle.zf_enum.specs.Ranges.{IsHeld, first_held, later_held}
+
+-- the value is in the component's range: it is a member of all its declared sets, and the one that is held, if one is
+abbrev pub IsInRange : Environment → Comp → (held : Option Value) → Value → Type 0
+IsInRange e c held v = IsInSets e (sets_of c.sets) v × IsHeld held v
+
+-- a value of the range of each component
+abbrev pub IsRowOf : Environment → List Comp → (held : List (Option Value)) → List Value → Type 0
+IsRowOf e [] held [] = Unit {0}
+IsRowOf e [] held (v ∷ row) = ⊥
+IsRowOf e (c ∷ cs) held [] = ⊥
+IsRowOf e (c ∷ cs) held (v ∷ row) = IsInRange e c (first_held held) v × IsRowOf e cs (later_held held) row
+
+-- the predicate is not False in the row: it is True, or out of bounds
+abbrev pub IsAllowed : Environment → (row : List Value) → ResolvedTree → Type 0
+IsAllowed e row p = IsTruth (in_row e row) p True ⊎ IsTruth (in_row e row) p Out
+
+-- some row makes all of these predicates other than False
+pub record HasRow (e : Environment) (cs : List Comp) (held : List (Option Value)) (ps : List ResolvedTree) : Type 0 where
+  pub row : List Value
+  pub within : IsRowOf e cs held row
+  pub allowed : AllByRecursion (IsAllowed e row) ps
+
+-- they rule out everything
+abbrev pub RuleOut : Environment → List Comp → (held : List (Option Value)) → List ResolvedTree → Type 0
+RuleOut e cs held ps = HasRow e cs held ps → ⊥

@@ -1,0 +1,36 @@
+-- What the search for a row needs and answers. No public clause rests on this file.
+use Rattle.std.specs.Prelude.{◌≡◌, ◌≤◌, Bool, List, [], length, IsTrue, Option, ℕ}
+use Rattle.std.specs.List.{AllByRecursion}
+use Rattle.zf_term.specs.Definitions.{Comp, Schema, Defined, sets_of}
+use Rattle.zf_term.specs.ResolvedTrees.{ResolvedTree}
+use Rattle.zf_extent.specs.Extents.{offending}
+use Rattle.zf_finite.specs.Finite.{all_set_offenders, one_bounds}
+use Rattle.zf_value.specs.declared.plain.Value.{Value}
+use Rattle.zf_meaning.specs.Environments.{Environment}
+use Rattle.zf_enum.specs.Property.{due}
+use Rattle.zf_enum.specs.Ranges.{IsNoneOut}
+use Rattle.zf_cores.specs.Choices.{OneOf}
+use Rattle.zf_why.specs.Rows.{HasRow, RuleOut}
+
+abbrev pub schema_with : List Comp → List ResolvedTree → Schema
+schema_with cs ps = record { comps = cs; conjuncts = ps }
+
+-- the components have ranges
+pub record HaveRanges (e : Environment) (cs : List Comp) : Type 0 where
+  pub bounded : AllByRecursion (λ c. IsTrue (one_bounds e.globals (sets_of c.sets))) cs
+  pub sets : AllByRecursion (λ c. all_set_offenders e.globals (sets_of c.sets) ≡ []) cs
+  pub none_out : IsNoneOut e cs
+
+-- the predicate can be asked for rows of so many values
+pub record CanAsk (e : Environment) (values : ℕ) (p : ResolvedTree) : Type 0 where
+  pub finite : offending e.globals p ≡ []
+  pub due : due p ≤ values
+
+-- a search over these predicates can begin
+pub record CanBegin (e : Environment) (cs : List Comp) (ps : List ResolvedTree) : Type 0 where
+  pub ranges : HaveRanges e cs
+  pub predicates : AllByRecursion (CanAsk e (length cs)) ps
+
+-- whether there is a row
+abbrev pub Decides : Environment → List Comp → List (Option Value) → List ResolvedTree → Bool → Type 0
+Decides e cs held ps = OneOf (HasRow e cs held ps) (RuleOut e cs held ps)
