@@ -43,7 +43,7 @@ show_options =
 abbrev pub show_app : App
 show_app = with_rule (with_rule (with_rule show_options (required_rule (codes "FILE"))) (required_rule (codes "SCHEMA"))) sizes_rule
 
--- `zf [--version]`, which wants a subcommand, and whose words do not begin with its own name
+-- `zf [--version]`, which needs a subcommand, and whose words do not begin with its own name
 abbrev pub zf_top : App
 zf_top = record (new_app (codes "zf")) { top = record (new_app (codes "zf")).top { has_version = true; no_binary_name = true; subcommand_required = true } }
 
@@ -58,6 +58,6 @@ IsArg a r = (rule_of a ≡ r) × (a.global ≡ false)
 abbrev pub IsCommand : Command → App → Type 0
 IsCommand c a = (app_of c ≡ a) × ((out-Command c).has_globals ≡ false)
 
--- the same of a command that wants a subcommand
+-- the same of a command that needs a subcommand
 abbrev pub IsTop : Command → App → Type 0
 IsTop c a = (app_of c ≡ a) × ((out-Command c).has_globals ≡ false) × ((out-Command c).subcommand_required ≡ true)

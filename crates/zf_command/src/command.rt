@@ -77,7 +77,7 @@ fn details_arg<'a>(alloc: Global) -> Arg<'a>
         .short('d')
         .long("details")
         .action(ArgAction::SetTrue)
-        .help("Writes behind each fault what it is about")
+        .help("Writes after each fault what it is about")
 }
 
 fn after_arg<'a>(alloc: Global) -> Arg<'a>

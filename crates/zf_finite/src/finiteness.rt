@@ -63,7 +63,7 @@ fn component_cause<'a>(component: &Component<'a>, globals: &Globals<'a>) -> Opti
 }
 
 /// Whether one of the declared sets bounds a component.
-fn is_bounded<'a>(domains: &Chunked<'a, Domain<'a>>, globals: &Globals<'a>) -> bool
+pub fn is_bounded<'a>(domains: &Chunked<'a, Domain<'a>>, globals: &Globals<'a>) -> bool
     ensures { result ≡ spec.one_bounds (globals_of globals.now) (sets_of (map set_of domains.now)) }
 {
     for domain in domains.iter() {

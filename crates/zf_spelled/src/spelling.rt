@@ -21,7 +21,7 @@ fn push(text: &mut Vec<u8, &Bump>, symbol: &[u8]) -> Result<(), AllocError> {
         return Ok(());
     }
     text.extend_from_slice(symbol)?;
-    text.extend_from_slice(b" ")
+    Ok(text.push(b' ')?)
 }
 
 fn push_number(text: &mut Vec<u8, &Bump>, value: u64) -> Result<(), AllocError> {

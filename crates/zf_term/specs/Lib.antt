@@ -17,5 +17,6 @@ pub mod DefinitionViews
 pub mod References
 pub mod Numbers
 pub mod FirstNamed
+pub mod Likeness
 pub mod FoundViews
 pub mod TermLaws

@@ -31,9 +31,12 @@ abbrev mutual
   nodes_of_all no_types = 0
   nodes_of_all (type t ts) = type_nodes t + nodes_of_all ts
 
+abbrev pub type_nodes_max : ℕ
+type_nodes_max = 256
+
 -- a type within the limit
 abbrev pub IsSmall : Ty → Type 0
-IsSmall t = type_nodes t ≤ 256
+IsSmall t = type_nodes t ≤ type_nodes_max
 
 -- numbers are parts of the values of the type
 abbrev mutual

@@ -1,54 +1,65 @@
-//! Names that are easily taken for one another. They help where a fault is reported, and nothing is promised of them.
+//! Names that are easily taken for one another.
+ghost use Rattle.std.specs.Prelude.{◌≡◌, ◌<◌, ◌≢◌, length, slice_index};
+ghost use Rattle.zf_term.specs.Likeness as spec;
 
-/// Whether the names differ by one letter (one more, one less, another one), or by case or strokes alone.
-pub fn is_like(name: &[u8], other: &[u8]) -> bool {
-    let name = without_strokes(name);
-    let other = without_strokes(other);
-    same_but_case(name, other) || differ_by_one(name, other)
+/// Whether the names differ by case or by one letter, whatever their strokes.
+pub fn is_like(name: &[u8], other: &[u8]) -> bool
+    ensures { result ≡ spec.is_like name.now other.now }
+{
+    are_like(without_strokes(name), without_strokes(other))
 }
 
-/// The name up to its strokes.
-fn without_strokes(name: &[u8]) -> &[u8] {
-    for place in 1..name.len() {
-        if is_stroke(name[place - 1], name[place]) {
+/// The same of names without strokes.
+fn are_like(name: &[u8], other: &[u8]) -> bool
+    ensures { result ≡ spec.are_like name.now other.now }
+{
+    if name.eq_ignore_ascii_case(other) {
+        return true;
+    }
+    (2 <= name.len() || 2 <= other.len()) && differ_by_one(name, other)
+}
+
+/// The name without its strokes.
+fn without_strokes(name: &[u8]) -> &[u8]
+    ensures { result.now ≡ spec.without_strokes name.now }
+{
+    let mut before = 0;
+    for place in 0..name.len() {
+        if begins_stroke(before, name[place]) {
             return &name[..place];
         }
+        before = name[place];
     }
     name
 }
 
-/// Whether a stroke begins with the byte that follows this one. A name may contain `\_`.
-fn is_stroke(before: u8, byte: u8) -> bool {
-    match byte {
-        b'\'' | b'?' | b'!' => true,
-        b'_' => before != b'\\',
-        _ => false,
-    }
+/// Whether a stroke begins with the byte that follows the one before.
+fn begins_stroke(before: u8, byte: u8) -> bool
+    ensures { result ≡ spec.begins_stroke before byte }
+{
+    byte == b'\'' || byte == b'?' || byte == b'!' || (byte == b'_' && before != b'\\')
 }
 
-fn same_but_case(name: &[u8], other: &[u8]) -> bool {
-    if name.len() != other.len() {
-        return false;
-    }
-    for place in 0..name.len() {
-        if name[place].to_ascii_lowercase() != other[place].to_ascii_lowercase() {
-            return false;
-        }
-    }
-    true
-}
-
-/// Whether one letter is inserted, left out or replaced. Two single letters are not alike.
-fn differ_by_one(name: &[u8], other: &[u8]) -> bool {
-    if name.len() < 2 && other.len() < 2 {
-        return false;
-    }
+/// Whether one letter is left out, inserted or replaced, or none is.
+fn differ_by_one(name: &[u8], other: &[u8]) -> bool
+    ensures { result ≡ spec.differ_by_one name.now other.now }
+{
     for place in 0..name.len().min(other.len()) {
         if name[place] != other[place] {
-            let more = &name[place + 1..];
-            let further = &other[place + 1..];
-            return more == further || more == &other[place..] || &name[place..] == further;
+            return differ_at_first(&name[place..], &other[place..]);
         }
     }
-    name.len().abs_diff(other.len()) == 1
+    name.len().abs_diff(other.len()) <= 1
+}
+
+/// The same of names that differ in their first letters.
+fn differ_at_first(name: &[u8], other: &[u8]) -> bool
+    requires some { 0 < length name.now }
+    requires others { 0 < length other.now }
+    requires first { slice_index name.now 0 ≢ slice_index other.now 0 }
+    ensures { result ≡ spec.differ_by_one name.now other.now }
+{
+    let further = &name[1..];
+    let other_further = &other[1..];
+    further == other || name == other_further || further == other_further
 }

@@ -53,7 +53,7 @@ pub enum Hint<'a> {
 /// A term of the text.
 #[derive(Drop)]
 pub struct QuotedTerm<'a> {
-    /// Its symbols as they are spelled, one right after another.
+    /// Its symbols as they are spelled, with a blank after each.
     pub symbols: Lent<'a>,
     /// The line of its first symbol.
     pub line: u32,
