@@ -1,16 +1,19 @@
 //! The program.
 #![tactic(auto)]
 
+use std::io::IsTerminal;
 use std::process::ExitCode;
 use std::rt::Env;
 use std::{env, io};
 use zf_command::job::UsageFault;
 use zf_engine::program::{program, refuse};
 
+/// A person at a terminal reads why words are refused; a program that reads standard error has the first line alone.
 fn main(rt: HostRuntime) -> ExitCode {
+    let explained = rt.stderr().is_terminal();
     match words_of(&rt) {
-        Ok(words) => ExitCode::from(program(&rt, words.as_slice())),
-        Err(error) => ExitCode::from(refuse(&rt, fault_of(error))),
+        Ok(words) => ExitCode::from(program(&rt, words.as_slice(), explained)),
+        Err(error) => ExitCode::from(refuse(&rt, fault_of(error), explained)),
     }
 }
 

@@ -4,6 +4,8 @@ use Rattle.std.specs.Str.{bytes_eq}
 use Rattle.zf_schema.specs.Listing.{listing}
 use Rattle.zf_term.specs.FirstNamed.{first_named, later}
 use Rattle.zf_term.proofs.SameNames.{is_same}
+use Rattle.zf_engine.specs.Details.{IsReportedBeside}
+use Rattle.zf_finite.specs.declared.not_finite.NotFinite.TheVariants.{Offends, Unbounded}
 use Rattle.zf_answers.proofs.HeldLines.{every_held_line_is_judged}
 use Rattle.zf_answers.proofs.NamedRows.{every_line_is_judged}
 use Rattle.zf_found.proofs.Ranges.{first_out_or_none, some_ranges}
@@ -46,6 +48,11 @@ named_or_none g name = by (first_named (λ d. d.name) name g) refl
             ap (λ (n : List ℕ). record { name = n; definition = p.1.definition }) (found_named name g p there) ∙ ap (λ (d : Definition). record { name = name; definition = d }) s.1 in
             inl (s.0, (p.0, there ∙ ap (λ (d : Defined). Some (p.0, d)) whole))
         of (inr none) = inr (λ a n. none a (ap (λ (q : ℕ × Defined). q.1.definition) (same_Some p (n.0, record { name = name; definition = schema a }) (sym there ∙ n.1))))
+
+-- nothing need be reported beside what makes a schema infinite
+none_beside : (g : List Defined) (cause : NotFinite) → IsReportedBeside g cause []
+none_beside g (Unbounded l name) = tt
+none_beside g (Offends o) = refl
 
 -- ---- answers of `show`, the last stage first
 
@@ -92,7 +99,7 @@ module _ (r : Request) (file source : List ℕ) (limited : IsBelow r.limit 0) wh
           by [] none =
               let e = some_environment g (stated g r) complete in
               some_at_row e.0 (record { has_schema = has; complete = complete; environment = e.1; finite = (finite_without_cause g a).1 none })
-          by (cause ∷ them) some = (not_finite_lines r.details file g cause, BadSpec, ShowAnswer.not_finite g a cause has complete (ap first some) refl refl)
+          by (cause ∷ them) some = (not_finite_lines r.details file g cause [], BadSpec, ShowAnswer.not_finite g a cause [] has complete (ap first some) (none_beside g cause) refl refl)
 
       some_at_sizes : HasSchema source r.name g a → IsShown r file source
       some_at_sizes has = elim (complete_or_refused (given_sets g) (stated g r)) [

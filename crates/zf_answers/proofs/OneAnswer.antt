@@ -1,9 +1,9 @@
 -- Two answers of one job on one source have one status, and one text but for what is left open.
-use Rattle.zf_answers.proofs.Prelude.{if◌then◌else◌, ◌++◌, ◌∙◌, ◌∷◌, ◌≡◌, [], ap, Bool, inl, inr, List, None, Option, Some, subst, sym, ℕ, same_Some, slice_get, Value, Comp, Defined, Schema, Fault, Environment, IsEnvironment, AreComplete, given_sets, Portion, portion, Job, Check, Show, Status, Answer, AreHeld, check_status, CheckAnswer, Checks, HoldsNoValues, IsNamedRow, JobAnswer, NamesNoRow, Request, size_fault_lines, stated, UnreadAnswer, wants_details, declared_out_line, not_finite_lines, AreAlike, AreOfSame, OneStatus, OneText, AreLines}
+use Rattle.zf_answers.proofs.Prelude.{if◌then◌else◌, ◌++◌, ◌∙◌, ◌∷◌, ◌≡◌, [], ap, Bool, inl, inr, List, None, Option, Some, subst, sym, ℕ, same_Some, slice_get, Value, Comp, Defined, Schema, Fault, Environment, IsEnvironment, AreComplete, given_sets, Portion, portion, Job, Check, Show, Status, Answer, AreHeld, check_status, CheckAnswer, Checks, HoldsNoValues, IsNamed, IsNamedRow, JobAnswer, NamesNoRow, Request, size_fault_lines, stated, UnreadAnswer, wants_details, declared_out_line, not_finite_lines, AreAlike, AreOfSame, OneStatus, OneText, AreLines}
 use Rattle.std.proofs.lemmas.List.{append-nil}
 use Rattle.zf_schema.specs.Listing.{listing}
 use Rattle.zf_answers.proofs.OneSource.{none_and_some, one_checked, one_named, one_refused, some_and_none, unread}
-use Rattle.zf_answers.proofs.OneSearch.{clear_at, not_infinite, one_environment_at, one_first_out, one_held, one_named_row, one_shown}
+use Rattle.zf_answers.proofs.OneSearch.{clear_at, names_at, not_infinite, one_environment_at, one_first_out, one_held, one_named_row, one_shown}
 use Rattle.zf_answers.proofs.OneRefusal.{none_refused, one_refusal}
 use Rattle.zf_answers.proofs.Stages.{AtFiniteness, AtHeldValues, AtNamedRow, AtSchema, AtSearch, AtSizes, AtTypes, staged}
 use Rattle.zf_answers.proofs.FaultLines.{lines_of_none}
@@ -28,7 +28,7 @@ no_held_values e comps (Some text) held none are = none held are
 
 module _ (r : Request) (file source one two : List ℕ) (s t : Status) where
   module _ (g : List Defined) (checks : Checks source g []) where
-    module _ (a : Schema) (complete : AreComplete (given_sets g) (stated g r)) where
+    module _ (a : Schema) (named : IsNamed g r.name a) (complete : AreComplete (given_sets g) (stated g r)) where
       module _ (e : Environment) (is : IsEnvironment g (stated g r) e) where
         one_at_search : (p : Portion) → AtSearch r file source one s g a e p → AtSearch r file source two t g a e p → IsOne r.details file source one two s t
         one_at_search p (inl x) (inl y) =
@@ -44,7 +44,7 @@ module _ (r : Request) (file source one two : List ℕ) (s t : Status) where
         one_at_values after (inl x) (inr y) = absurd (no_held_values e a.comps r.held y.0 x.none y.1)
         one_at_values after (inr x) (inl y) = absurd (no_held_values e a.comps r.held x.0 y.none x.1)
         one_at_values after (inr x) (inr y) =
-            let held = one_held e a.comps r.held x.0 y.0 (clear_at source g [] (stated g r) e checks complete is) x.1 y.1 in
+            let held = one_held e a.comps r.held x.0 y.0 (clear_at source g [] (stated g r) e checks complete is) (names_at source g [] r.name a checks named) x.1 y.1 in
             one_at_search (portion after y.0) (subst (λ values. AtSearch r file source one s g a e (portion after values)) held x.2) y.2
 
         one_at_row : AtNamedRow r file source one s g a e → AtNamedRow r file source two t g a e → IsOne r.details file source one two s t
@@ -58,7 +58,7 @@ module _ (r : Request) (file source one two : List ℕ) (s t : Status) where
       one_at_finiteness : AtFiniteness r file source one s g a → AtFiniteness r file source two t g a → IsOne r.details file source one two s t
       one_at_finiteness (inl x) (inl y) =
           let cause = same_Some x.cause y.cause (sym x.first_cause ∙ y.first_cause) in
-          of_same r.details file source one two s t (x.bad ∙ sym y.bad) (x.told ∙ ap (not_finite_lines r.details file g) cause ∙ sym y.told)
+          (x.bad ∙ sym y.bad, AreAlike.infinite g y.cause x.side y.side (x.told ∙ ap (λ k. not_finite_lines r.details file g k x.side) cause) y.told)
       one_at_finiteness (inl x) (inr y) = absurd (not_infinite g a x.cause y.0 x.first_cause)
       one_at_finiteness (inr x) (inl y) = absurd (not_infinite g a y.cause x.0 y.first_cause)
       one_at_finiteness (inr x) (inr y) =
@@ -67,19 +67,19 @@ module _ (r : Request) (file source one two : List ℕ) (s t : Status) where
           let environment = one_environment_at g (stated g r) u.0 v.0 complete u.1 v.1 in
           one_at_row v.0 v.1 (subst (AtNamedRow r file source one s g a) environment u.2) v.2
 
-    one_at_sizes : (a : Schema) → AtSizes r file source one s g a → AtSizes r file source two t g a → IsOne r.details file source one two s t
-    one_at_sizes a (inl x) (inl y) =
+    one_at_sizes : (a : Schema) → IsNamed g r.name a → AtSizes r file source one s g a → AtSizes r file source two t g a → IsOne r.details file source one two s t
+    one_at_sizes a named (inl x) (inl y) =
         let fault = one_refusal (given_sets g) (stated g r) x.fault y.fault x.some y.some x.refused y.refused in
         of_same r.details file source one two s t (x.bad ∙ sym y.bad) (x.told ∙ ap (size_fault_lines r.details g (stated g r)) fault ∙ sym y.told)
-    one_at_sizes a (inl x) (inr y) = absurd (none_refused (given_sets g) (stated g r) x.fault y.0 x.some x.refused)
-    one_at_sizes a (inr x) (inl y) = absurd (none_refused (given_sets g) (stated g r) y.fault x.0 y.some y.refused)
-    one_at_sizes a (inr x) (inr y) = one_at_finiteness a y.0 x.1 y.1
+    one_at_sizes a named (inl x) (inr y) = absurd (none_refused (given_sets g) (stated g r) x.fault y.0 x.some x.refused)
+    one_at_sizes a named (inr x) (inl y) = absurd (none_refused (given_sets g) (stated g r) y.fault x.0 y.some y.refused)
+    one_at_sizes a named (inr x) (inr y) = one_at_finiteness a named y.0 x.1 y.1
 
     one_at_schema : AtSchema r file source one s g → AtSchema r file source two t g → IsOne r.details file source one two s t
     one_at_schema (inl x) (inl y) = of_same r.details file source one two s t (x.bad ∙ sym y.bad) (x.told ∙ sym y.told)
     one_at_schema (inl x) (inr y) = absurd (x.none y.0 y.1)
     one_at_schema (inr x) (inl y) = absurd (y.none x.0 x.1)
-    one_at_schema (inr x) (inr y) = one_at_sizes y.0 (subst (AtSizes r file source one s g) (one_named g r.name x.0 y.0 x.1 y.1) x.2) y.2
+    one_at_schema (inr x) (inr y) = one_at_sizes y.0 y.1 (subst (AtSizes r file source one s g) (one_named g r.name x.0 y.0 x.1 y.1) x.2) y.2
 
   one_at_types : AtTypes r file source one s → AtTypes r file source two t → IsOne r.details file source one two s t
   one_at_types (inl x) (inl y) =

@@ -1,12 +1,13 @@
 -- What is asked for is one environment and one named row, and its search has one text and one status.
-use Rattle.zf_answers.proofs.Prelude.{◌++◌, ◌<◌, ◌∙◌, ◌≡◌, ◌⊎◌, ap, arith, Bool, false, inl, inr, List, None, Option, Some, subst, sym, true, ℕ, cases_order, Event, cut, IsNumberOfTests, IsUpTo, IsWalked, exact, value_order, Value, Comp, Defined, Schema, Fault, first, finite_without_cause, causes, IsFinite, NotFinite, Environment, IsEnvironment, AreComplete, given_sets, Size, one_row, AreClear, spellings, one_ranges, Portion, property, IsFirstOut, AreEventsUpTo, HasEvents, IsTestsLine, IsWritten, binding_line, tests_line, Status, property_told, AreHeld, Checks, IsNamedRow, Request, ShowsEvents}
+use Rattle.zf_answers.proofs.Prelude.{◌++◌, ◌<◌, ◌∙◌, ◌≡◌, ◌⊎◌, ap, arith, Bool, false, inl, inr, List, None, Option, Some, subst, sym, true, ℕ, cases_order, Event, cut, IsNumberOfTests, IsUpTo, IsWalked, exact, value_order, Value, Comp, Defined, Schema, Fault, first, finite_without_cause, causes, IsFinite, NotFinite, Environment, IsEnvironment, AreComplete, given_sets, Size, one_row, AreClear, spellings, one_ranges, Portion, property, IsFirstOut, AreEventsUpTo, HasEvents, IsTestsLine, IsWritten, binding_line, tests_line, Status, property_told, AreHeld, Checks, IsNamed, IsNamedRow, Request, ShowsEvents}
 use Rattle.zf_value.specs.declared.value.Outcome.{Outcome}
 use Rattle.zf_value.specs.contracts.plain.ValueOrd.TheImpl.Laws as order_laws
 use Rattle.zf_walk.proofs.Counting.{number-le}
 use Rattle.zf_meaning.proofs.Environments.{one_environment}
 use Rattle.zf_enum.specs.Events.{AreTests}
-use Rattle.zf_texts.proofs.OneHeld.{one_next}
-use Rattle.zf_names.proofs.Clear.{globals_clear}
+use Rattle.zf_texts.specs.HeldLaws.{HaveClearNames}
+use Rattle.zf_texts.proofs.Chosen.{line_is_held, one_held_line}
+use Rattle.zf_names.proofs.Clear.{components_clear, globals_clear}
 use Rattle.zf_answers.proofs.OneEnding.{AreOneEnd, one_ending}
 use Rattle.zf_answers.proofs.OneRefusal.{one_sizes}
 
@@ -43,11 +44,17 @@ one_named_row e comps (Some text) None two clear p q = absurd p
 one_named_row e comps (Some text) (Some x) None clear p q = absurd q
 one_named_row e comps (Some text) (Some x) (Some y) clear p q = ap Some (one_row (spellings e.globals) e clear comps x y p.0 q.0 (sym p.1 ∙ q.1))
 
--- and it holds one list of values
-pub one_held : (e : Environment) (comps : List Comp) (text : Option (List ℕ)) (one two : List (Option Value)) → AreClear (spellings e.globals) e.sizes
+-- the components of a schema that a text defines have clear names
+pub names_at : (source : List ℕ) (g : List Defined) (faults : List Fault) (name : List ℕ) (a : Schema) → Checks source g faults → IsNamed g name a → HaveClearNames a.comps
+names_at source g faults name a checks named =
+    components_clear source g a (record { boxes = checks.boxes; faults = faults; place = named.0; name = name; reads = checks.reads; checked = checks.judged; there = named.1 })
+
+-- so a text holds one list of values
+pub one_held : (e : Environment) (comps : List Comp) (text : Option (List ℕ)) (one two : List (Option Value)) → AreClear (spellings e.globals) e.sizes → HaveClearNames comps
     → AreHeld e comps text one → AreHeld e comps text two → one ≡ two
-one_held e comps None one two clear p q = p ∙ sym q
-one_held e comps (Some text) one two clear p q = one_next (spellings e.globals) e clear comps 0 text one two p q
+one_held e comps None one two clear names p q = p ∙ sym q
+one_held e comps (Some text) one two clear names p q =
+    one_held_line (spellings e.globals) e comps text one two clear (line_is_held (spellings e.globals) e comps text one names p) (line_is_held (spellings e.globals) e comps text two names q)
 
 -- ---- declared sets
 

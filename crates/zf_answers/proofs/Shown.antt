@@ -7,7 +7,7 @@ use Rattle.zf_value.specs.contracts.plain.ValueOrd.TheImpl.Laws as order_laws
 use Rattle.zf_meaning.specs.InRow.{in_row}
 use Rattle.zf_meaning.specs.Meaning.{IsTruth}
 use Rattle.zf_answers.proofs.OneSource.{unread, one_checked, one_named, some_and_none}
-use Rattle.zf_answers.proofs.OneSearch.{clear_at, not_infinite, one_environment_at, one_held, one_named_row, one_shown}
+use Rattle.zf_answers.proofs.OneSearch.{clear_at, names_at, not_infinite, one_environment_at, one_held, one_named_row, one_shown}
 use Rattle.zf_answers.proofs.OneRefusal.{none_refused}
 use Rattle.zf_answers.proofs.Stages.{AtFiniteness, AtHeldValues, AtNamedRow, AtSchema, AtSearch, AtSizes, AtTypes, staged}
 use Rattle.zf_answers.proofs.WrittenRows.{with_truth, written_rows}
@@ -27,7 +27,8 @@ module _ (r : Request) (file source : List ℕ) (g : List Defined) (a : Schema) 
       are_held (Some text) held none are = none held are
   held_values (inr there) =
       let clear = clear_at source g [] (stated g r) e granted.has_schema.checks granted.complete granted.environment in
-      searched (subst (λ held. AtSearch r file source text status g a e (portion p.after held)) (one_held e a.comps r.held there.0 p.held clear there.1 granted.held) there.2)
+      let names = names_at source g [] r.name a granted.has_schema.checks granted.has_schema.named in
+      searched (subst (λ held. AtSearch r file source text status g a e (portion p.after held)) (one_held e a.comps r.held there.0 p.held clear names there.1 granted.held) there.2)
 
   named_row : AtNamedRow r file source text status g a e → ShowsEvents r g a e p text status
   named_row (inl none) = absurd (is_named r.after p.after none.none granted.named)

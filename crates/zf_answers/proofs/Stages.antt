@@ -28,8 +28,9 @@ module _ (r : Request) (file source text : List ℕ) (status : Status) where
 
   pub record IsInfinite (g : List Defined) (a : Schema) : Type 0 where
     pub cause : NotFinite
+    pub side : List ℕ
     pub first_cause : first (causes g a) ≡ Some cause
-    pub told : text ≡ not_finite_lines r.details file g cause
+    pub told : text ≡ not_finite_lines r.details file g cause side
     pub bad : status ≡ BadSpec
 
   pub record HasNoRow (a : Schema) (e : Environment) : Type 0 where
@@ -82,8 +83,8 @@ module _ (r : Request) (file source text : List ℕ) (status : Status) where
   staged (ShowAnswer.no_schema g checks none told bad) = inr (g, checks, inl (record { none = none; told = told; bad = bad }))
   staged (ShowAnswer.bad_sizes g a fault has refused some told bad) =
       inr (g, has.checks, inr (a, has.named, inl (record { fault = fault; refused = refused; some = some; told = told; bad = bad })))
-  staged (ShowAnswer.not_finite g a cause has complete first_cause told bad) =
-      inr (g, has.checks, inr (a, has.named, inr (complete, inl (record { cause = cause; first_cause = first_cause; told = told; bad = bad }))))
+  staged (ShowAnswer.not_finite g a cause side has complete first_cause beside told bad) =
+      inr (g, has.checks, inr (a, has.named, inr (complete, inl (record { cause = cause; side = side; first_cause = first_cause; told = told; bad = bad }))))
   staged (ShowAnswer.not_a_binding g a e place asked none told bad) =
       let has = asked.has_schema in
       inr (g, has.checks, inr (a, has.named, inr (asked.complete, inr (asked.finite, (e, asked.environment, inl (record { place = place; none = none; told = told; bad = bad }))))))

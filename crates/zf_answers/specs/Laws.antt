@@ -3,6 +3,7 @@ use Rattle.std.specs.Prelude.{◌≡◌, ◌≢◌, ◌⊎◌, ℕ, Bool, false,
 use Rattle.std.specs.List.{flat_map}
 use Rattle.zf_command.specs.declared.job.Job.{Job}
 use Rattle.zf_command.specs.declared.job.Job.TheVariants.{Show}
+use Rattle.zf_finite.specs.declared.not_finite.NotFinite.{NotFinite}
 use Rattle.zf_finite.specs.Finite.{IsFinite}
 use Rattle.zf_scan.specs.declared.fault.TextFault.{TextFault}
 use Rattle.zf_scan.specs.declared.token.Token.{Token}
@@ -25,7 +26,7 @@ use Rattle.zf_lines.specs.Searches.{HasEvents, IsTestsLine, IsWritten}
 use Rattle.zf_lines.specs.Texts.{binding_line}
 use Rattle.zf_command.specs.declared.job.Request.{Request}
 use Rattle.zf_engine.specs.Answers.{Answer, AreHeld, Checks, HasSchema, HoldsNoValues, IsLimited, IsNamedRow, NamesNoRow, stated, wants_details}
-use Rattle.zf_engine.specs.Details.{Cited, text_fault_lines, AreLines}
+use Rattle.zf_engine.specs.Details.{Cited, text_fault_lines, not_finite_lines, AreLines}
 use Rattle.zf_engine.specs.Texts.{not_a_binding_line, not_held_line, type_fault_line}
 use Rattle.zf_answers.specs.Bindings.{ShowsBindings}
 
@@ -100,7 +101,7 @@ AreOfSame (e ∷ es) [] = ⊥
 AreOfSame (e ∷ es) (f ∷ fs) = ((g : List Defined) × (item : Item) × OffendsItem g item e.offence e.line × OffendsItem g item f.offence f.line) × AreOfSame es fs
 
 -- Two texts are one, or differ in what is left open: which fault of the grammar an unread source has, which symbols a fault of it is about, which offence of
--- an ill typed paragraph is told and what is reported beside it, and the byte at which a text is no binding, or no line of some components.
+-- an ill typed paragraph is told and what is reported beside it, which schema without a component is reported, and the byte at which a text is no binding, or no line of some components.
 pub data AreAlike (details : Bool) (file source one two : List ℕ) : Type 0 where
   same : one ≡ two → AreAlike details file source one two
   symbols : (fault : TextFault) (first second : Cited) → RefusesSource source fault → one ≡ text_fault_lines details file fault first
@@ -108,6 +109,8 @@ pub data AreAlike (details : Bool) (file source one two : List ℕ) : Type 0 whe
   grammar : TellsGrammar details file source one → TellsGrammar details file source two → AreAlike details file source one two
   types : (globals : List Defined) (first second : List Fault) (ones twos listed : List ℕ) → Checks source globals first → Checks source globals second → first ≢ []
       → AreOfSame first second → AreLines details file first ones → AreLines details file second twos → one ≡ ones ++ listed → two ≡ twos ++ listed → AreAlike details file source one two
+  infinite : (globals : List Defined) (cause : NotFinite) (first second : List ℕ) → one ≡ not_finite_lines details file globals cause first
+      → two ≡ not_finite_lines details file globals cause second → AreAlike details file source one two
   no_binding : (first second : ℕ) → one ≡ not_a_binding_line first → two ≡ not_a_binding_line second → AreAlike details file source one two
   no_values : (first second : ℕ) → one ≡ not_held_line first → two ≡ not_held_line second → AreAlike details file source one two
 

@@ -61,7 +61,7 @@ pub fn lines_name_rows()
     ensures none { RefusedLinesAreOfNoRow }
 {}
 
-/// The limits that the definitions take from the code are these numbers.
+/// The limits that the definitions speak of are these numbers.
 pub fn limits_are()
     ensures { LimitsAre }
 {}

@@ -11,9 +11,11 @@ use Rattle.zf_meaning.specs.Sizes.{given_sets, AreComplete}
 use Rattle.zf_texts.specs.BindingTexts.{binding_text}
 use Rattle.zf_texts.specs.Clear.{AreClear}
 use Rattle.zf_texts.specs.Held.{IsHeldLine}
-use Rattle.zf_texts.specs.HeldLaws.{IsNoHeldLine}
+use Rattle.zf_texts.specs.HeldLaws.{HaveClearNames, IsNoHeldLine}
 use Rattle.zf_texts.specs.Readings.{IsNoLine}
-use Rattle.zf_names.proofs.Clear.{globals_clear}
+use Rattle.zf_names.proofs.Clear.{components_clear, globals_clear}
+use Rattle.zf_texts.proofs.Chosen.{held_is_line, line_is_held}
+use Rattle.zf_engine.specs.Details.{IsWithout, LacksComponent}
 use Rattle.zf_lines.specs.declared.fault.Status.TheVariants.{BadSpec}
 
 pub weaker : (stop : Stop) {P Q : List ℕ → Status → Type 0} → ((text : List ℕ) (status : Status) → P text status → Q text status) → IfAnswered stop P → IfAnswered stop Q
@@ -67,18 +69,36 @@ unfolding IsNoLine
 no_row_told ss e comps text bytes stop place same is none told clear =
     weaker stop (λ written status t. ((λ row line. none clear row line.0 (is ∙ line.1 ∙ ap (λ k. binding_text k comps row) (sym same))), (place, t))) told
 
--- where spellings are clear, a text that is the line of no components holds no values
+-- what a text is read to hold it holds
+pub line_told : (ss : List Spelling) (e : Environment) (comps : List Comp) (text bytes : List ℕ) (held : List (Option Value)) → ss ≡ spellings e.globals → bytes ≡ text → IsHeldLine ss e comps bytes held
+    → AreHeld e comps (Some text) held
+line_told ss e comps text bytes held same is h =
+    held_is_line (spellings e.globals) e comps text held (subst (λ l. IsHeldLine (spellings e.globals) e comps l held) is (subst (λ k. IsHeldLine k e comps bytes held) same h))
+
+-- where spellings and names are clear, a text that is read as the line of no components holds no values
 pub no_values_told : (ss : List Spelling) (e : Environment) (comps : List Comp) (text bytes : List ℕ) (stop : Stop) (place : ℕ) → ss ≡ spellings e.globals → bytes ≡ text → IsNoHeldLine ss e comps bytes
-    → IfAnswered stop (TellsPlaceHeld place) → AreClear ss e.sizes → IfAnswered stop (TellsNoValues e comps (Some text))
+    → IfAnswered stop (TellsPlaceHeld place) → AreClear ss e.sizes → HaveClearNames comps → IfAnswered stop (TellsNoValues e comps (Some text))
 unfolding IsNoHeldLine
-no_values_told ss e comps text bytes stop place same is none told clear =
-    weaker stop (λ written status t. ((λ held line. none clear held (subst (λ l. IsHeldLine ss e comps l held) (sym is) (subst (λ k. IsHeldLine k e comps text held) (sym same) line))), (place, t))) told
+no_values_told ss e comps text bytes stop place same is none told clear names =
+    weaker stop (λ written status t. ((λ held line. none clear held (subst (λ l. IsHeldLine ss e comps l held) (sym is) (subst (λ k. IsHeldLine k e comps text held) (sym same) (line_is_held (spellings e.globals) e comps text held names line)))), (place, t))) told
 
 -- the spellings of what is asked for are clear
 pub clear_of : (r : Request) (source : List ℕ) (a : Schema) (e : Environment) → IsAsked r source e.globals a e → (ss : List Spelling) → ss ≡ spellings e.globals → AreClear ss e.sizes
 clear_of r source a e is ss same =
     let checks = is.has_schema.checks in
     subst (λ k. AreClear k e.sizes) (sym same) (globals_clear checks.boxes source e.globals [] (stated e.globals r) e checks.reads checks.judged is.complete is.environment)
+
+-- so are the names of its components
+pub names_of : (r : Request) (source : List ℕ) (a : Schema) (e : Environment) → IsAsked r source e.globals a e → HaveClearNames a.comps
+names_of r source a e is =
+    let has = is.has_schema in
+    let checks = has.checks in
+    components_clear source e.globals a (record { boxes = checks.boxes; faults = []; place = has.named.0; name = r.name; reads = checks.reads; checked = checks.judged; there = has.named.1 })
+
+-- the name of a schema without the component is reported, or nothing
+pub is_without : (g : List Defined) (component side : List ℕ) → LacksComponent g component side → IsWithout g component side
+is_without g component [] lacks = tt
+is_without g component (c ∷ side) lacks = lacks
 
 -- ---- the refusals of a schema
 
@@ -90,7 +110,7 @@ module _ (r : Request) (file source : List ℕ) (g : List Defined) (a : Schema) 
   misfit_answers has stop h = weaker stop (λ text status t. inr (ShowAnswer.bad_sizes g a t.0 has t.1 t.2.0 t.2.1 t.2.2)) h
 
   pub infinite_answers : HasSchema source r.name g a → AreComplete (given_sets g) (stated g r) → (stop : Stop) → IfAnswered stop (TellsInfinite g a r.details file) → AnswersRequest r file source stop
-  infinite_answers has complete stop h = weaker stop (λ text status t. inr (ShowAnswer.not_finite g a t.0 has complete t.1 t.2 t.3)) h
+  infinite_answers has complete stop h = weaker stop (λ text status t. inr (ShowAnswer.not_finite g a t.0 t.1 has complete t.2 t.3 t.4 t.5)) h
 
   -- the schema is asked for in this environment
   pub asked : (e : Environment) → HasSchema source r.name g a → AreComplete (given_sets g) (stated g r) → IsEnvironment g (stated g r) e → IsFinite g a → IsAsked r source e.globals a e

@@ -30,7 +30,7 @@ use Rattle.zf_meaning.specs.Sizes.{given_sets, AreComplete, IsRefusal}
 use Rattle.zf_enum.specs.Portions.{Portion}
 use Rattle.zf_enum.specs.Ranges.{IsFirstOut, IsNoneOut}
 use Rattle.zf_texts.specs.BindingTexts.{binding_text}
-use Rattle.zf_texts.specs.Held.{IsHeldLine}
+use Rattle.zf_texts.specs.HeldLines.{IsLineOfSome}
 use Rattle.zf_texts.specs.Spellings.{spellings}
 use Rattle.zf_lines.specs.declared.fault.Status.{Status}
 use Rattle.zf_lines.specs.declared.fault.Status.TheVariants.{Done, BadSpec, BadRequest, PastBounds}
@@ -38,7 +38,7 @@ use Rattle.zf_lines.specs.Faults.{IsFront}
 use Rattle.zf_lines.specs.Texts.{binding_line}
 use Rattle.zf_engine.specs.Faults.{Gave}
 use Rattle.zf_lines.specs.Searches.{HasEvents, IsTestsLine, IsWritten, IsBegun, HasLimit}
-use Rattle.zf_engine.specs.Details.{Cited, text_fault_lines, not_finite_lines, AreLines}
+use Rattle.zf_engine.specs.Details.{Cited, text_fault_lines, IsReportedBeside, not_finite_lines, AreLines}
 use Rattle.zf_engine.specs.Missing.{no_schema_lines, no_size_lines}
 use Rattle.zf_engine.specs.Texts.{not_given_line, size_twice_line, size_too_large_line, not_a_binding_line, not_held_line, declared_out_line}
 
@@ -127,12 +127,12 @@ NamesNoRow e comps (Some text) = (row : List Value) → IsLineOf e comps text ro
 -- the values that are held, by the components' places, if a line of some components is given
 abbrev pub AreHeld : Environment → List Comp → Option (List ℕ) → List (Option Value) → Type 0
 AreHeld e comps None held = held ≡ []
-AreHeld e comps (Some text) held = IsHeldLine (spellings e.globals) e comps text held
+AreHeld e comps (Some text) held = IsLineOfSome (spellings e.globals) e comps text held
 
 -- a text is given that is no such line
 abbrev pub HoldsNoValues : Environment → List Comp → Option (List ℕ) → Type 0
 HoldsNoValues e comps None = ⊥
-HoldsNoValues e comps (Some text) = (held : List (Option Value)) → IsHeldLine (spellings e.globals) e comps text held → ⊥
+HoldsNoValues e comps (Some text) = (held : List (Option Value)) → IsLineOfSome (spellings e.globals) e comps text held → ⊥
 
 -- the search goes over the events of the schema after the named row that have the values which are held, and no declared set is out
 pub record IsSearch (r : Request) (source : List ℕ) (globals : List Defined) (a : Schema) (e : Environment) (p : Portion) : Type 0 where
@@ -151,8 +151,9 @@ pub data ShowAnswer (r : Request) (file source text : List ℕ) (status : Status
       → status ≡ BadRequest → ShowAnswer r file source text status
   bad_sizes : (globals : List Defined) (a : Schema) (fault : SizeFault) → HasSchema source r.name globals a → IsRefusal (given_sets globals) (stated globals r) fault
       → fault ≢ OutOfMemory → text ≡ size_fault_lines r.details globals (stated globals r) fault → status ≡ BadRequest → ShowAnswer r file source text status
-  not_finite : (globals : List Defined) (a : Schema) (cause : NotFinite) → HasSchema source r.name globals a → AreComplete (given_sets globals) (stated globals r)
-      → first (causes globals a) ≡ Some cause → text ≡ not_finite_lines r.details file globals cause → status ≡ BadSpec → ShowAnswer r file source text status
+  not_finite : (globals : List Defined) (a : Schema) (cause : NotFinite) (side : List ℕ) → HasSchema source r.name globals a → AreComplete (given_sets globals) (stated globals r)
+      → first (causes globals a) ≡ Some cause → IsReportedBeside globals cause side → text ≡ not_finite_lines r.details file globals cause side → status ≡ BadSpec
+      → ShowAnswer r file source text status
   not_a_binding : (globals : List Defined) (a : Schema) (e : Environment) (place : ℕ) → IsAsked r source globals a e → NamesNoRow e a.comps r.after
       → text ≡ not_a_binding_line place → status ≡ BadRequest → ShowAnswer r file source text status
   holds_nothing : (globals : List Defined) (a : Schema) (e : Environment) (after : Option (List Value)) (place : ℕ) → IsAsked r source globals a e

@@ -1,17 +1,23 @@
--- The lines that say what a fault is about, behind its own. Each begins with four blanks.
+-- The lines that say what a fault is about, after its own. Each begins with four blanks.
 use Rattle.std.specs.Prelude.{ℕ, ◌&&◌, nat_eq, nat_le, nat_lt, Bool, if◌then◌else◌, List, [], ◌∷◌, ◌++◌, Option, Some, None, codes, decimal, slice_get, ◌≡◌, ◌==◌, map}
 use Rattle.std.specs.List.{starts_with, flat_map}
 use Rattle.zf_tree.specs.declared.symbol.Constant.{Constant}
 use Rattle.zf_tree.specs.declared.symbol.Constant.TheVariants.{True, False, Integers, Naturals, Positives}
 use Rattle.zf_scan.specs.declared.fault.TextFault.{TextFault}
+use Rattle.zf_scan.specs.declared.scan.TheConstants.{SOURCE_MAX}
+use Rattle.zf_scan.specs.Pieces.{number_max}
 use Rattle.zf_scan.specs.declared.fault.TextFaultKind.{TextFaultKind}
 use Rattle.zf_scan.specs.declared.fault.TextFaultKind.TheVariants.{BadByte, UnknownCommand, NotInProfile, UnclosedBox, Unexpected, NumberTooLarge, TooDeep, TooLong, OutOfMemory}
 use Rattle.zf_term.specs.declared.fault.Limit.{Limit}
 use Rattle.zf_term.specs.declared.fault.Limit.TheVariants.{TypeNodes, Components, Sets, Conjuncts, Nodes, Height}
-use Rattle.zf_term.specs.Definitions.{Defined}
+use Rattle.zf_term.specs.Definitions.{Defined, Schema, schema}
 use Rattle.zf_term.specs.Faults.{Fault, Offence, not_declared, already_defined, not_a_schema, local_twice, mismatch, unfit, no_members, misplaced, clash, too_large, Sort, typed, predicate, a_schema}
+use Rattle.zf_term.specs.FirstNamed.{first_named}
+use Rattle.zf_term.specs.Limits.{components_max, sets_max, conjuncts_max, nodes_max, height_max}
+use Rattle.zf_term.specs.Types.{type_nodes_max}
 use Rattle.zf_term.specs.TypeTexts.{type_text}
 use Rattle.zf_text.specs.declared.unread.About.{About}
+use Rattle.zf_text.specs.Height.{height_limit}
 use Rattle.zf_extent.specs.declared.offender.Offender.{Offender}
 use Rattle.zf_extent.specs.declared.offender.Offender.TheVariants.{Name, Symbol}
 use Rattle.zf_finite.specs.declared.not_finite.NotFinite.{NotFinite}
@@ -28,7 +34,7 @@ abbrev pub detail_if_any : List ℕ → List ℕ → List ℕ
 detail_if_any word [] = []
 detail_if_any word (c ∷ text) = detail word (c ∷ text)
 
--- the line of a fault; behind it what it is about, if that is asked for
+-- the line of a fault; after it what it is about, if that is asked for
 abbrev pub with_details : (details : Bool) → List ℕ → List ℕ → List ℕ
 with_details details line lines = if details then line ++ lines else line
 
@@ -40,12 +46,12 @@ sort_text predicate = codes "a predicate"
 sort_text a_schema = codes "a schema"
 
 abbrev pub limit_text : Limit → List ℕ
-limit_text TypeNodes = codes "256 nodes in a type"
-limit_text Components = codes "64 components in a schema"
-limit_text Sets = codes "4096 declared sets in a schema"
-limit_text Conjuncts = codes "4096 conjuncts in a schema"
-limit_text Nodes = codes "65536 nodes in the terms of a schema"
-limit_text Height = codes "256 levels in a conjunct"
+limit_text TypeNodes = decimal type_nodes_max ++ codes " nodes in a type"
+limit_text Components = decimal components_max ++ codes " components in a schema"
+limit_text Sets = decimal sets_max ++ codes " declared sets in a schema"
+limit_text Conjuncts = decimal conjuncts_max ++ codes " conjuncts in a schema"
+limit_text Nodes = decimal nodes_max ++ codes " nodes in the terms of a schema"
+limit_text Height = decimal height_max ++ codes " levels in a conjunct"
 
 abbrev pub offence_details : Offence → List ℕ
 offence_details (not_declared x) = detail (codes "name") x
@@ -155,9 +161,9 @@ text_details UnknownCommand about = detail_if_any (codes "command") (command_tex
 text_details NotInProfile about = detail_if_any (codes "symbol") about.symbol
 text_details UnclosedBox about = closing_details about.other about.line
 text_details Unexpected about = unexpected_details about
-text_details NumberTooLarge about = detail (codes "limit") (codes "9223372036854775807")
-text_details TooDeep about = detail (codes "limit") (codes "128 levels")
-text_details TooLong about = detail (codes "limit") (codes "1048576 bytes")
+text_details NumberTooLarge about = detail (codes "limit") (decimal number_max)
+text_details TooDeep about = detail (codes "limit") (decimal height_limit ++ codes " levels")
+text_details TooLong about = detail (codes "limit") (decimal SOURCE_MAX ++ codes " bytes")
 text_details OutOfMemory about = []
 
 abbrev pub text_fault_lines : (details : Bool) → (file : List ℕ) → TextFault → (about : Cited) → List ℕ
@@ -180,9 +186,24 @@ abbrev pub offender_text : List Defined → Offender → List ℕ
 offender_text g (Name l place) = name_of (slice_get g place)
 offender_text g (Symbol l c) = constant_text c
 
-abbrev pub cause_details : List Defined → NotFinite → List ℕ
-cause_details g (Unbounded l name) = detail (codes "component") name
-cause_details g (Offends o) = detail (codes "name") (offender_text g o)
+-- this is the name of a schema that has no such component
+abbrev pub LacksComponent : List Defined → (component name : List ℕ) → Type 0
+LacksComponent g component name =
+    (place : ℕ) × (a : Schema) × (first_named (λ d. d.name) name g ≡ Some (place, record { name = name; definition = schema a })) × (first_named (λ c. c.name) component a.comps ≡ None)
 
-abbrev pub not_finite_lines : (details : Bool) → (file : List ℕ) → List Defined → NotFinite → List ℕ
-not_finite_lines details file g cause = with_details details (fault_line file (cause_line cause) not_finite_text) (cause_details g cause)
+-- the name of such a schema, or nothing
+abbrev pub IsWithout : List Defined → (component side : List ℕ) → Type 0
+IsWithout g component [] = Unit {0}
+IsWithout g component (c ∷ side) = LacksComponent g component (c ∷ side)
+
+-- what is reported beside the cause: of a component that nothing bounds, a schema that does not declare it, if there is one
+abbrev pub IsReportedBeside : List Defined → NotFinite → (side : List ℕ) → Type 0
+IsReportedBeside g (Unbounded l name) side = IsWithout g name side
+IsReportedBeside g (Offends o) side = side ≡ []
+
+abbrev pub cause_details : List Defined → NotFinite → (side : List ℕ) → List ℕ
+cause_details g (Unbounded l name) side = detail (codes "component") name ++ detail_if_any (codes "not declared in") side
+cause_details g (Offends o) side = detail (codes "name") (offender_text g o)
+
+abbrev pub not_finite_lines : (details : Bool) → (file : List ℕ) → List Defined → NotFinite → (side : List ℕ) → List ℕ
+not_finite_lines details file g cause side = with_details details (fault_line file (cause_line cause) not_finite_text) (cause_details g cause side)

@@ -1,7 +1,6 @@
 pub mod Faults
 pub mod Texts
 pub mod Details
-pub mod Likeness
 pub mod Missing
 pub mod Named
 pub mod Answers

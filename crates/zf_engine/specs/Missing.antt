@@ -3,7 +3,7 @@ use Rattle.std.specs.Prelude.{ℕ, Bool, if◌then◌else◌, List, [], ◌∷�
 use Rattle.std.specs.List.{flat_map, fold}
 use Rattle.zf_term.specs.Definitions.{Defined, Definition, given_set, free_type, constructor, abbreviation, schema}
 use Rattle.zf_engine.specs.Details.{detail_if_any, with_details}
-use Rattle.zf_engine.specs.Likeness.{is_like}
+use Rattle.zf_term.specs.Likeness.{is_like}
 use Rattle.zf_engine.specs.Texts.{no_schema_line, no_size_line}
 
 -- names, and one more

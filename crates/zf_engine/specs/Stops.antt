@@ -24,7 +24,7 @@ use Rattle.zf_engine.specs.declared.stop.Stop.TheVariants.{Answered, OutOfMemory
 use Rattle.zf_command.specs.declared.job.Request.{Request}
 use Rattle.zf_engine.specs.Answers.{Answer, AnswersSource, Checks, HoldsNoValues, NamesNoRow, size_fault_lines, IsPartOfAnswer}
 use Rattle.zf_lines.specs.FaultViews.{AppendsFront}
-use Rattle.zf_engine.specs.Details.{not_finite_lines, Cited, text_fault_lines, Aside, nothing, quoted, like}
+use Rattle.zf_engine.specs.Details.{IsReportedBeside, not_finite_lines, Cited, text_fault_lines, Aside, nothing, quoted, like}
 use Rattle.zf_engine.specs.Texts.{declared_out_line, not_a_binding_line, not_held_line}
 use Rattle.zf_command.specs.declared.job.Job.{Job}
 
@@ -58,7 +58,7 @@ TellsMisfit details g sizes text status = (fault : SizeFault) × IsRefusal (give
 -- the answer tells the first that makes the schema infinite
 abbrev pub TellsInfinite : List Defined → Schema → (details : Bool) → (file : List ℕ) → List ℕ → Status → Type 0
 TellsInfinite g a details file text status =
-    (cause : NotFinite) × (first (causes g a) ≡ Some cause) × (text ≡ not_finite_lines details file g cause) × (status ≡ BadSpec)
+    (cause : NotFinite) × (side : List ℕ) × (first (causes g a) ≡ Some cause) × IsReportedBeside g cause side × (text ≡ not_finite_lines details file g cause side) × (status ≡ BadSpec)
 
 -- the answer tells a place of a text that is the line of no row
 abbrev pub TellsPlace : ℕ → List ℕ → Status → Type 0

@@ -127,7 +127,7 @@ fn show_source<W: Write>(
         details: request.details,
     };
     match typed_in(alloc, &trees, &arena, report) {
-        Ok(globals) => show_globals(alloc, &arena, &globals, request, file, writer),
+        Ok(globals) => show_globals(alloc, &arena, &globals, request, report, writer),
         Err(stop) => tell(stop, writer),
     }
 }
@@ -138,17 +138,18 @@ fn show_globals<'a, W: Write>(
     arena: &'a Bump,
     globals: &Globals<'a>,
     request: &Request,
-    file: &[u8],
+    report: Report<'_>,
     writer: &mut Counted<W>,
 ) -> Result<Status, RunFault>
     requires unfailed { failures_of writer.old ≡ 0 }
     requires limited { HasLimit request.now.limit }
+    requires details { report.details ≡ request.now.details }
     requires checks { (source : List ℕ) × Checks source (globals_of globals.now) [] }
-    ensures shows { (source : List ℕ) → Checks source (globals_of globals.now) [] → Shows request.now file.now source (W.contents (device_of writer.old)) (W.contents (device_of writer.new)) result }
+    ensures shows { (source : List ℕ) → Checks source (globals_of globals.now) [] → Shows request.now report.entry.file.now source (W.contents (device_of writer.old)) (W.contents (device_of writer.new)) result }
     ensures count { failures_of writer.new ≡ write_failures result }
     ensures unread { read_failures result ≡ 0 }
 {
-    match asked_in(alloc, globals, request, file) {
+    match asked_in(alloc, globals, request, report) {
         Ok(Asked { schema, env }) => show_schema(alloc, arena, schema, &env, request, writer),
         Err(stop) => tell(stop, writer),
     }

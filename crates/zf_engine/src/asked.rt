@@ -1,7 +1,9 @@
 //! The schema that is asked for, in the environment of the stated sizes.
 ghost use Rattle.std.specs.Prelude.{◌≡◌, ℕ, List, [], IfOk, IfErr, OnOk};
 ghost use Rattle.zf_engine.specs.Answers.{Checks, IsAsked, stated, without_size};
+ghost use Rattle.zf_engine.specs.Details.{IsReportedBeside};
 ghost use Rattle.zf_engine.specs.Missing as spec;
+ghost use Rattle.zf_engine.specs.declared.stop.Stop.TheVariants.{OutOfMemory};
 ghost use Rattle.zf_engine.specs.Stops.{AnswersOver, IfAnswered, IsMisfit, TellsInfinite, TellsMisfit};
 ghost use Rattle.zf_finite.specs.Finite.{IsFinite};
 ghost use Rattle.zf_meaning.specs.Envs.{environment_of};
@@ -12,12 +14,15 @@ ghost use Rattle.zf_term.specs.SchemaViews.{schema_of};
 
 use crate::details::not_finite_lines;
 use crate::missing::{no_schema_lines, no_size_lines};
+use crate::report::Report;
 use crate::stated::{sets_without_size, stated_sizes};
 use crate::stop::Stop;
 use crate::texts;
+use crate::undeclared::side_without;
 use std::alloc::{AllocError, Global};
 use zf_command::job::Request;
 use zf_finite::finite;
+use zf_finite::not_finite::NotFinite;
 use zf_lines::fault::Status;
 use zf_meaning::env::Env;
 use zf_meaning::sizes::{Size as StatedSize, SizeFault};
@@ -36,18 +41,19 @@ pub fn asked_in<'g, 'a>(
     alloc: Global,
     globals: &'g Globals<'a>,
     request: &Request,
-    file: &[u8],
+    report: Report<'_>,
 ) -> Result<Asked<'g, 'a>, Stop>
+    requires { report.details ≡ request.now.details }
     ensures asked { IfOk result (λ p. (source : List ℕ) → Checks source (globals_of globals.now) [] → IsAsked request.now source (environment_of p.env).globals (schema_of p.schema.now) (environment_of p.env)) }
-    ensures stop { IfErr result (AnswersOver (globals_of globals.now) request.now file.now) }
+    ensures stop { IfErr result (AnswersOver (globals_of globals.now) request.now report.entry.file.now) }
 {
+    let name = request.name.as_bytes();
     let Some(schema) = globals.schema(request.name.as_str()) else {
-        let name = request.name.as_bytes();
         let lines = no_schema_lines(alloc, request.details, globals, name)?;
         return Err(Stop::Answered(lines, Status::BadRequest));
     };
     let env = env_in(alloc, globals, request)?;
-    check_end(alloc, request.details, file, globals, schema)?;
+    check_finite(alloc, report, globals, name, schema)?;
     Ok(Asked { schema, env })
 }
 
@@ -106,21 +112,41 @@ fn unsized_lines(
 }
 
 /// Refuses a schema that is not finite.
-fn check_end<'a>(
+fn check_finite<'a>(
     alloc: Global,
-    details: bool,
-    file: &[u8],
+    report: Report<'_>,
     globals: &Globals<'a>,
+    name: &[u8],
     schema: &Flat<'a>,
 ) -> Result<(), Stop>
     ensures ok { OnOk result (IsFinite (globals_of globals.now) (schema_of schema.now)) }
-    ensures stop { IfErr result (λ s. IfAnswered s (TellsInfinite (globals_of globals.now) (schema_of schema.now) details file.now)) }
+    ensures stop { IfErr result (λ s. IfAnswered s (TellsInfinite (globals_of globals.now) (schema_of schema.now) report.entry.details report.entry.file.now)) }
 {
     match finite(schema, globals) {
         Ok(()) => Ok(()),
         Err(cause) => {
-            let lines = not_finite_lines(alloc, details, file, globals, &cause)?;
+            let side = side_beside(alloc, report, globals, name, &cause)?;
+            let lines = not_finite_lines(alloc, report, globals, &cause, &side)?;
             Err(Stop::Answered(lines, Status::BadSpec))
         }
+    }
+}
+
+/// What is reported beside the cause, if details are asked for: the name of a side that does not declare the component.
+fn side_beside(
+    alloc: Global,
+    report: Report<'_>,
+    globals: &Globals<'_>,
+    name: &[u8],
+    cause: &NotFinite<'_>,
+) -> Result<Vec<u8>, Stop>
+    ensures side { IfOk result (λ side. IsReportedBeside (globals_of globals.now) cause.now side.items) }
+    ensures stop { IfErr result (λ s. s ≡ OutOfMemory) }
+{
+    match cause {
+        NotFinite::Unbounded(_, component) if report.details => {
+            side_without(alloc, report.source, globals, name, component.as_slice())
+        }
+        _ => Ok(Vec::new(alloc)),
     }
 }

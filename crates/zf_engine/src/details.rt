@@ -1,5 +1,5 @@
-//! The lines that say what a fault is about, behind its own.
-ghost use Rattle.std.specs.Prelude.{◌≡◌, ◌++◌, codes, IfOk, OnOk, slice_get};
+//! The lines that say what a fault is about, after its own.
+ghost use Rattle.std.specs.Prelude.{◌≡◌, ◌++◌, codes, decimal, IfOk, OnOk, slice_get};
 ghost use Rattle.zf_engine.specs.Details as spec;
 ghost use Rattle.zf_engine.specs.Stops.{aside_of};
 ghost use Rattle.zf_term.specs.DefinitionViews.{globals_of};
@@ -9,12 +9,14 @@ ghost use Rattle.zf_type.specs.Refusals.{fault_of, offence_of};
 ghost use Rattle.zf_type.specs.RuleViews.{sort_of};
 
 use crate::quoted::{Aside, Quoted};
+use crate::report::Report;
 use crate::texts::{fault_line, not_finite_text, text_fault_line, type_fault_line};
 use itoa::Buffer;
 use std::alloc::{AllocError, Global};
 use zf_extent::offender::Offender;
 use zf_finite::not_finite::NotFinite;
 use zf_scan::fault::{TextFault, TextFaultKind};
+use zf_scan::scan::SOURCE_MAX;
 use zf_term::fault::{Clash, Limit};
 use zf_term::globals::Globals;
 use zf_term::type_text::append_type;
@@ -69,17 +71,28 @@ fn append_sort(lines: &mut Vec<u8>, word: &[u8], sort: &Sort<'_>) -> Result<(), 
     }
 }
 
-/// A limit, in words.
-fn limit_text(limit: Limit) -> &'static [u8]
-    ensures { result.now ≡ spec.limit_text limit }
+/// `    limit: NUMBER` and what is counted.
+fn append_number(lines: &mut Vec<u8>, number: u64, counted: &[u8]) -> Result<(), AllocError>
+    ensures { OnOk result (lines.new.items ≡ lines.old.items ++ spec.detail (codes "limit") (decimal number ++ counted.now)) }
+{
+    let mut digits = Buffer::new();
+    lines.extend_from_slice(b"    limit: ")?;
+    lines.extend_from_slice(digits.format(number).as_bytes())?;
+    lines.extend_from_slice(counted)?;
+    lines.extend_from_slice(b"\n")
+}
+
+/// A limit of the schema calculus.
+fn append_limit(lines: &mut Vec<u8>, limit: Limit) -> Result<(), AllocError>
+    ensures { OnOk result (lines.new.items ≡ lines.old.items ++ spec.detail (codes "limit") (spec.limit_text limit)) }
 {
     match limit {
-        Limit::TypeNodes => b"256 nodes in a type",
-        Limit::Components => b"64 components in a schema",
-        Limit::Sets => b"4096 declared sets in a schema",
-        Limit::Conjuncts => b"4096 conjuncts in a schema",
-        Limit::Nodes => b"65536 nodes in the terms of a schema",
-        Limit::Height => b"256 levels in a conjunct",
+        Limit::TypeNodes => append_number(lines, 256, b" nodes in a type"),
+        Limit::Components => append_number(lines, 64, b" components in a schema"),
+        Limit::Sets => append_number(lines, 4096, b" declared sets in a schema"),
+        Limit::Conjuncts => append_number(lines, 4096, b" conjuncts in a schema"),
+        Limit::Nodes => append_number(lines, 65536, b" nodes in the terms of a schema"),
+        Limit::Height => append_number(lines, 256, b" levels in a conjunct"),
     }
 }
 
@@ -119,7 +132,7 @@ fn append_offence(lines: &mut Vec<u8>, offence: &Offence<'_>) -> Result<(), Allo
         Offence::NoMembers => Ok(()),
         Offence::Misplaced(_, found) => append_sort(lines, b"found", found),
         Offence::Clash(clash) => append_clash(lines, clash),
-        Offence::TooLarge(limit) => append_detail(lines, b"limit", limit_text(*limit)),
+        Offence::TooLarge(limit) => append_limit(lines, *limit),
     }
 }
 
@@ -311,9 +324,9 @@ fn append_text_details(
         TextFaultKind::NotInProfile => append_if_any(lines, b"symbol", symbol),
         TextFaultKind::UnclosedBox => append_closing(lines, about.other, about.line),
         TextFaultKind::Unexpected => append_unexpected(lines, about),
-        TextFaultKind::NumberTooLarge => append_detail(lines, b"limit", b"9223372036854775807"),
-        TextFaultKind::TooDeep => append_detail(lines, b"limit", b"128 levels"),
-        TextFaultKind::TooLong => append_detail(lines, b"limit", b"1048576 bytes"),
+        TextFaultKind::NumberTooLarge => append_number(lines, i64::MAX as u64, b""),
+        TextFaultKind::TooDeep => append_number(lines, 128, b" levels"),
+        TextFaultKind::TooLong => append_number(lines, SOURCE_MAX as u64, b" bytes"),
         TextFaultKind::OutOfMemory => Ok(()),
     }
 }
@@ -374,34 +387,43 @@ fn append_offender(
     }
 }
 
+/// A component that nothing bounds, and a schema that does not declare it, if there is one.
+fn append_unbounded(lines: &mut Vec<u8>, name: &[u8], side: &[u8]) -> Result<(), AllocError>
+    ensures { OnOk result (lines.new.items ≡ lines.old.items ++ (spec.detail (codes "component") name.now ++ spec.detail_if_any (codes "not declared in") side.now)) }
+{
+    append_detail(lines, b"component", name)?;
+    append_if_any(lines, b"not declared in", side)
+}
+
 /// What makes a schema infinite.
 fn append_cause(
     lines: &mut Vec<u8>,
     globals: &Globals<'_>,
     cause: &NotFinite<'_>,
+    side: &[u8],
 ) -> Result<(), AllocError>
-    ensures { OnOk result (lines.new.items ≡ lines.old.items ++ spec.cause_details (globals_of globals.now) cause.now) }
+    ensures { OnOk result (lines.new.items ≡ lines.old.items ++ spec.cause_details (globals_of globals.now) cause.now side.now) }
 {
     match cause {
-        NotFinite::Unbounded(_, name) => append_detail(lines, b"component", name.as_slice()),
+        NotFinite::Unbounded(_, name) => append_unbounded(lines, name.as_slice(), side),
         NotFinite::Offends(offender) => append_offender(lines, globals, *offender),
     }
 }
 
-/// The lines of a schema that is not finite.
+/// The lines of a schema that is not finite, and of a side of a disjunction that does not declare the component.
 pub fn not_finite_lines(
     alloc: Global,
-    details: bool,
-    file: &[u8],
+    report: Report<'_>,
     globals: &Globals<'_>,
     cause: &NotFinite<'_>,
+    side: &[u8],
 ) -> Result<Vec<u8>, AllocError>
-    ensures { IfOk result (λ v. v.items ≡ spec.not_finite_lines details file.now (globals_of globals.now) cause.now) }
+    ensures { IfOk result (λ v. v.items ≡ spec.not_finite_lines report.entry.details report.entry.file.now (globals_of globals.now) cause.now side.now) }
 {
     let line = u64::from(cause.line());
-    let mut lines = fault_line(alloc, file, line, not_finite_text())?;
-    if details {
-        append_cause(&mut lines, globals, cause)?;
+    let mut lines = fault_line(alloc, report.file, line, not_finite_text())?;
+    if report.details {
+        append_cause(&mut lines, globals, cause, side)?;
     }
     Ok(lines)
 }

@@ -5,6 +5,7 @@ ghost use Rattle.zf_engine.specs.Stops.{IfAnswered, TellsNoValues, TellsPlaceHel
 ghost use Rattle.zf_meaning.specs.Envs.{environment_of};
 ghost use Rattle.zf_term.specs.SchemaViews.{schema_of};
 ghost use Rattle.zf_texts.specs.Clear.{AreClear};
+ghost use Rattle.zf_texts.specs.HeldLaws.{HaveClearNames};
 ghost use Rattle.zf_texts.specs.Spellings.{spellings};
 
 use crate::stop::Stop;
@@ -28,7 +29,7 @@ pub fn values_held(
 ) -> Result<Vec<Option<Value>>, Stop>
     requires { elements.now ≡ spellings (environment_of env.now).globals }
     ensures held { IfOk result (λ values. AreHeld (environment_of env.now) (schema_of flat.now).comps held.now values.items) }
-    ensures stop { IfErr result (λ s. AreClear elements.now (environment_of env.now).sizes → IfAnswered s (TellsNoValues (environment_of env.now) (schema_of flat.now).comps held.now)) }
+    ensures stop { IfErr result (λ s. AreClear elements.now (environment_of env.now).sizes → HaveClearNames (schema_of flat.now).comps → IfAnswered s (TellsNoValues (environment_of env.now) (schema_of flat.now).comps held.now)) }
 {
     match held {
         None => Ok(Vec::new(alloc)),
@@ -46,7 +47,7 @@ fn values_of(
 ) -> Result<Vec<Option<Value>>, Stop>
     requires { elements.now ≡ spellings (environment_of env.now).globals }
     ensures held { IfOk result (λ values. AreHeld (environment_of env.now) (schema_of flat.now).comps (Some text.now) values.items) }
-    ensures stop { IfErr result (λ s. AreClear elements.now (environment_of env.now).sizes → IfAnswered s (TellsNoValues (environment_of env.now) (schema_of flat.now).comps (Some text.now))) }
+    ensures stop { IfErr result (λ s. AreClear elements.now (environment_of env.now).sizes → HaveClearNames (schema_of flat.now).comps → IfAnswered s (TellsNoValues (environment_of env.now) (schema_of flat.now).comps (Some text.now))) }
 {
     match read_held(alloc, text.as_bytes(), flat, env, elements) {
         Ok(values) => Ok(values),

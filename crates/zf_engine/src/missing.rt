@@ -6,11 +6,11 @@ ghost use Rattle.zf_engine.specs.Named.{schema_at};
 ghost use Rattle.zf_term.specs.DefinitionViews.{globals_of};
 
 use crate::details::append_if_any;
-use crate::likeness::is_like;
 use crate::texts;
 use std::alloc::{AllocError, Global};
 use zf_data::Text;
 use zf_term::globals::{Entry, Globals};
+use zf_term::likeness::is_like;
 
 /// The lines for a name that no schema has.
 pub fn no_schema_lines(

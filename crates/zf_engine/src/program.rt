@@ -19,8 +19,13 @@ const BAD_ARGUMENTS: &str = "zf: bad arguments";
 
 const OUT_OF_MEMORY: &str = "zf: out of memory";
 
-/// Does what the words after the program's own name ask for. The answer is the status.
-pub fn program<R: Files + Input + Print + Eprint + AllocGlobal, S: AsStr>(rt: &R, words: &[S]) -> u8
+/// Does what the words after the program's own name ask for. The answer is the status. Further lines say why words are
+/// refused, if that is to be explained or the words ask for details.
+pub fn program<R: Files + Input + Print + Eprint + AllocGlobal, S: AsStr>(
+    rt: &R,
+    words: &[S],
+    explained: bool,
+) -> u8
     ensures bound { result ≤ status_max }
     ensures status { IsStatus (map S.text words.now) result }
     ensures refused { IsStatusOfRefused (map S.text words.now) result }
@@ -28,29 +33,45 @@ pub fn program<R: Files + Input + Print + Eprint + AllocGlobal, S: AsStr>(rt: &R
     match job_of(rt.alloc(), words) {
         Ok(Asked::Work(file, job)) => work(rt, file.as_str(), &job),
         Ok(Asked::About(text)) => tell(rt, text.as_str()),
-        Err(UsageFault::BadWords) => refuse_words(rt, words),
+        Err(UsageFault::BadWords) => refuse_words(rt, words, explained || ask_for_details(words)),
         Err(UsageFault::OutOfMemory) => complain(rt, OUT_OF_MEMORY, 4),
     }
 }
 
-/// Says why words that cannot be read are refused. The answer is the status.
-pub fn refuse<R: Eprint>(rt: &R, fault: UsageFault) -> u8
+/// Refuses words that cannot be read, and says why, if that is to be explained. The answer is the status.
+pub fn refuse<R: Eprint>(rt: &R, fault: UsageFault, explained: bool) -> u8
     ensures { result ≡ refused_number fault }
 {
     match fault {
         UsageFault::BadWords => {
             let status = complain(rt, BAD_ARGUMENTS, 2);
-            complain(rt, UNREAD, status)
+            if explained {
+                return complain(rt, UNREAD, status);
+            }
+            status
         }
         UsageFault::OutOfMemory => complain(rt, OUT_OF_MEMORY, 4),
     }
 }
 
-/// Says that words are refused, and why, unless memory runs out. The answer is the status.
-fn refuse_words<R: Eprint + AllocGlobal, S: AsStr>(rt: &R, words: &[S]) -> u8
+/// Whether one of the words is the option for details.
+fn ask_for_details<S: AsStr>(words: &[S]) -> bool {
+    for word in words {
+        if word.as_str() == "-d" || word.as_str() == "--details" {
+            return true;
+        }
+    }
+    false
+}
+
+/// Says that words are refused, and why, if that is to be explained and memory doesn't run out. The answer is the status.
+fn refuse_words<R: Eprint + AllocGlobal, S: AsStr>(rt: &R, words: &[S], explained: bool) -> u8
     ensures { result ≡ 2 }
 {
     let status = complain(rt, BAD_ARGUMENTS, 2);
+    if !explained {
+        return status;
+    }
     match why_refused(rt.alloc(), words) {
         Ok(lines) => complain(rt, lines.as_str(), status),
         Err(_) => status,

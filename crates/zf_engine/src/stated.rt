@@ -1,17 +1,16 @@
 //! The sizes that a request states.
-ghost use Rattle.std.specs.Prelude.{◌≡◌, ◌++◌, ◌∷◌, [], IfOk, MatchOption, OnOk, Some, map};
+ghost use Rattle.std.specs.Prelude.{◌≡◌, ◌++◌, ◌∷◌, [], IfOk, OnOk, Some, map};
 ghost use Rattle.std.specs.List.{list_any};
 ghost use Rattle.std.specs.Str.{bytes_eq};
 ghost use Rattle.zf_engine.specs.Answers as spec;
-ghost use Rattle.zf_meaning.specs.Counting.{given_at};
 ghost use Rattle.zf_meaning.specs.Sizes.{given_sets};
 ghost use Rattle.zf_term.specs.DefinitionViews.{globals_of};
 
 use std::alloc::{AllocError, Global};
 use zf_command::job::{Request, Size};
 use zf_data::Text;
-use zf_meaning::sizes::Size as StatedSize;
-use zf_term::globals::{Entry, Globals};
+use zf_meaning::sizes::{Size as StatedSize, given_names};
+use zf_term::globals::Globals;
 
 /// The sizes of words, and then the one size of each given set that no word names.
 pub fn stated_sizes(
@@ -85,53 +84,35 @@ pub fn sets_without_size(
 ) -> Result<Vec<Text>, AllocError>
     ensures { IfOk result (λ sets. sets.items ≡ spec.without_size sizes.now (given_sets (globals_of globals.now))) }
 {
-    let mut sets = Vec::new(alloc);
-    for place in 0..globals.len() {
-        add_set(alloc, globals, place, sizes, &mut sets)?;
-    }
-    Ok(sets)
+    let sets = given_names(alloc, globals)?;
+    unsized_of(alloc, &sets, sizes)
 }
 
-/// Adds the name of the global at this place, if it is a given set for which no size is stated.
-fn add_set(
-    alloc: Global,
-    globals: &Globals<'_>,
-    place: usize,
-    sizes: &[StatedSize],
-    sets: &mut Vec<Text>,
-) -> Result<(), AllocError>
-    ensures { OnOk result (sets.new.items ≡ sets.old.items ++ spec.without_size sizes.now (given_at place (globals_of globals.now))) }
+/// Those of the sets for which no size is stated.
+fn unsized_of(alloc: Global, sets: &[Text], sizes: &[StatedSize]) -> Result<Vec<Text>, AllocError>
+    ensures { IfOk result (λ others. others.items ≡ spec.without_size sizes.now sets.now) }
 {
-    match given_set(globals, place) {
-        Some(name) => add_unsized(alloc, sizes, name, sets),
-        None => Ok(()),
+    let mut others = Vec::new(alloc);
+    for set in sets {
+        add_unsized(alloc, sizes, set, &mut others)?;
     }
+    Ok(others)
 }
 
-/// Adds the name of a given set, if no size is stated for it.
+/// Adds the set, if no size is stated for it.
 fn add_unsized(
     alloc: Global,
     sizes: &[StatedSize],
-    name: &[u8],
-    sets: &mut Vec<Text>,
+    set: &Text,
+    others: &mut Vec<Text>,
 ) -> Result<(), AllocError>
-    ensures { OnOk result (sets.new.items ≡ sets.old.items ++ spec.without_size sizes.now (name.now ∷ [])) }
+    ensures { OnOk result (others.new.items ≡ others.old.items ++ spec.without_size sizes.now (set.now ∷ [])) }
 {
-    if is_sized(sizes, name) {
+    if is_sized(sizes, set.as_slice()) {
         return Ok(());
     }
-    sets.push(Text::of(alloc, name)?)?;
+    others.push(set.copy(alloc)?)?;
     Ok(())
-}
-
-/// The name of the global at this place, if it is a given set.
-fn given_set<'g>(globals: &'g Globals<'_>, place: usize) -> Option<&'g [u8]>
-    ensures { MatchOption result (given_at place (globals_of globals.now) ≡ []) (λ name. given_at place (globals_of globals.now) ≡ name.now ∷ []) }
-{
-    match globals.in_order(place) {
-        Some((name, Entry::Given(_))) => Some(name),
-        _ => None,
-    }
 }
 
 /// Whether a size is stated for the set.

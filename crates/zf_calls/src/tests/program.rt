@@ -17,7 +17,7 @@ static STATUSES: [(&[&str], u8); 9] = [
 #[test]
 fn statuses(rt: HostRuntime) -> Result<(), Fail> {
     for (words, status) in &STATUSES {
-        assert!(rt; program(&rt, words) == *status, "{words:?}");
+        assert!(rt; program(&rt, words, false) == *status, "{words:?}");
     }
     Ok(())
 }

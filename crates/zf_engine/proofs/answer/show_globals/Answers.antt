@@ -6,4 +6,4 @@ show_schema-requires-clause-asked g c = (c.requires.checks.0, c.in-Ok.ensures.as
 
 pub returns-in-Err-clause-shows : goal.returns-in-Err-clause-shows
 returns-in-Err-clause-shows g c = λ source checks.
-    told c.args.request.now c.args.file.now source c.in-Err.stop _ _ _ (c.in-Err.ensures.stop source checks) c.tell.ensures.told
+    told c.args.request.now c.args.report.file.now source c.in-Err.stop _ _ _ (c.in-Err.ensures.stop source checks) c.tell.ensures.told

@@ -1,4 +1,4 @@
-use Rattle.zf_engine.proofs.Prelude.{◌∙◌, ap, inr, refl, rules, globals_of, schema_of, environment_of, ShowAnswer, stated, AnswersOver, IfAnswered, TellsInfinite, TellsMisfit, no_schema_lines}
+use Rattle.zf_engine.proofs.Prelude.{◌∙◌, ap, inr, refl, subst, rules, globals_of, schema_of, environment_of, ShowAnswer, stated, AnswersOver, IfAnswered, TellsInfinite, TellsMisfit, no_schema_lines}
 use Rattle.zf_engine.proofs.Refusing.{asked, has_schema, infinite_answers, misfit_answers, weaker_err}
 use Rattle.zf_engine.proofs.asked.asked_in.Goals as goal
 
@@ -8,15 +8,16 @@ returns-in_default-clause-stop c = λ source checks.
 
 pub returns-in_err-env-clause-stop : goal.returns-in_err-env-clause-stop
 returns-in_err-env-clause-stop c =
-    weaker_err _ (λ s. IfAnswered s (TellsMisfit c.args.request.now.details (globals_of c.args.globals.now) (stated (globals_of c.args.globals.now) c.args.request.now))) (AnswersOver (globals_of c.args.globals.now) c.args.request.now c.args.file.now)
-    (λ stop told source checks. misfit_answers c.args.request.now c.args.file.now source _ _ (has_schema c.args.request.now c.args.file.now source _ _ checks (rw c.as_str.ensures at c.in-Some.ensures)) stop told) (search rules)
+    weaker_err _ (λ s. IfAnswered s (TellsMisfit c.args.request.now.details (globals_of c.args.globals.now) (stated (globals_of c.args.globals.now) c.args.request.now))) (AnswersOver (globals_of c.args.globals.now) c.args.request.now c.args.report.file.now)
+    (λ stop told source checks. misfit_answers c.args.request.now c.args.report.file.now source _ _ (has_schema c.args.request.now c.args.report.file.now source _ _ checks (rw c.as_str.ensures at c.in-Some.ensures)) stop told) (search rules)
 
-pub returns-in_err-check_end-clause-stop : goal.returns-in_err-check_end-clause-stop
-returns-in_err-check_end-clause-stop c =
-    weaker_err _ (λ s. IfAnswered s (TellsInfinite (globals_of c.args.globals.now) (schema_of c.in-Some.schema.now) c.args.request.now.details c.args.file.now)) (AnswersOver (globals_of c.args.globals.now) c.args.request.now c.args.file.now)
-    (λ stop told source checks. infinite_answers c.args.request.now c.args.file.now source _ _ (has_schema c.args.request.now c.args.file.now source _ _ checks (rw c.as_str.ensures at c.in-Some.ensures)) c.in_ok-env.ensures.complete stop told) (search rules)
+pub returns-in_err-check_finite-clause-stop : goal.returns-in_err-check_finite-clause-stop
+returns-in_err-check_finite-clause-stop c =
+    weaker_err _ (λ s. IfAnswered s (TellsInfinite (globals_of c.args.globals.now) (schema_of c.in-Some.schema.now) c.args.report.details c.args.report.file.now)) (AnswersOver (globals_of c.args.globals.now) c.args.request.now c.args.report.file.now)
+    (λ stop told source checks. infinite_answers c.args.request.now c.args.report.file.now source _ _ (has_schema c.args.request.now c.args.report.file.now source _ _ checks (rw c.as_str.ensures at c.in-Some.ensures)) c.in_ok-env.ensures.complete stop
+    (subst (λ d. IfAnswered stop (TellsInfinite (globals_of c.args.globals.now) (schema_of c.in-Some.schema.now) d c.args.report.file.now)) c.requires told)) (search rules)
 
 pub returns-clause-asked : goal.returns-clause-asked
 returns-clause-asked c = λ source checks.
-    asked c.args.request.now c.args.file.now source _ _ (environment_of c.in_ok-env.env) (has_schema c.args.request.now c.args.file.now source _ _ checks (rw c.as_str.ensures at c.in-Some.ensures))
-    c.in_ok-env.ensures.complete c.in_ok-env.ensures.is c.in_ok-check_end.ensures.ok
+    asked c.args.request.now c.args.report.file.now source _ _ (environment_of c.in_ok-env.env) (has_schema c.args.request.now c.args.report.file.now source _ _ checks (rw c.as_str.ensures at c.in-Some.ensures))
+    c.in_ok-env.ensures.complete c.in_ok-env.ensures.is c.in_ok-check_finite.ensures.ok

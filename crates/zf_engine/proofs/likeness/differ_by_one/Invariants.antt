@@ -1,7 +1,0 @@
--- The names are the same up to the place.
-use Rattle.std.proofs.Common.{◌≡◌, drop}
-use Rattle.zf_engine.specs.Likeness.{differ_by_one}
-use Rattle.zf_engine.proofs.likeness.differ_by_one.Given as goal
-
-abbrev pub invariant-loop-place : goal.invariant-loop-place
-invariant-loop-place l = differ_by_one l.name l.other ≡ differ_by_one (drop l.place l.name) (drop l.place l.other)
