@@ -63,8 +63,9 @@ pub use Rattle.zf_enum.specs.Dues.{all_need, links_need, need, part_need, place_
 pub use Rattle.zf_enum.specs.Fixing.{AreCandidates, Fixes, GoesOn, IsKept, IsName}
 pub use Rattle.zf_enum.specs.Parts.{BoundsAt, Filters, IsAllOf, IsAllOfEach, IsAllWith, IsIn, IsListed, Lists, Narrows, NarrowsAll, Tells}
 pub use Rattle.zf_enum.specs.Planting.{ArePlanted, IsPlanted, NeedWithin, Plants, PlantsNext}
-pub use Rattle.zf_enum.specs.Property.{due, due_of, greatest_place, HasTruth, is_among, is_component, place_named, property, told, uses, uses_of}
+pub use Rattle.zf_enum.specs.Property.{due, due_of, greatest_place, HasTruth, place_named, property, told}
 pub use Rattle.zf_enum.specs.PropertyLaws.{follows_outcome, uses_first}
 pub use Rattle.zf_enum.specs.Ranges.{AreRanges, first_held, IsFirstOut, IsHeld, IsNoneOut, IsComponentRange, later_held}
 pub use Rattle.zf_enum.specs.Searches.{judged, with_first}
+pub use Rattle.zf_enum.specs.Uses.{is_among, is_component, uses, uses_of}
 pub use Rattle.zf_enum.specs.declared.property.Property.{Property}

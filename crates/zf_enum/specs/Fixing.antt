@@ -13,7 +13,7 @@ use Rattle.zf_meaning.specs.InRow.{in_row}
 use Rattle.zf_meaning.specs.Meaning.{HasOutcome}
 use Rattle.zf_enum.specs.declared.candidates.Tie.{Tie}
 use Rattle.zf_enum.specs.declared.candidates.Tie.TheVariants as tie
-use Rattle.zf_enum.specs.Property.{uses}
+use Rattle.zf_enum.specs.Uses.{uses}
 
 -- ---- equations
 

@@ -1,4 +1,5 @@
 pub mod Property
+pub mod Uses
 pub mod PropertyLaws
 pub mod Dues
 pub mod DeclaredSets

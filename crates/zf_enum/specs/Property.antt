@@ -1,5 +1,5 @@
 -- The property of a schema in an environment, as the conjuncts of a walk.
-use Rattle.std.specs.Prelude.{ℕ, ◌+◌, max, Bool, true, false, cond, eqb, List, [], ◌∷◌, length, Option, Some, None, slice_get}
+use Rattle.std.specs.Prelude.{ℕ, ◌+◌, max, List, [], ◌∷◌, length, Option, Some, None, slice_get}
 use Rattle.zf_reference.specs.declared.reference.Reference.{Reference}
 use Rattle.zf_reference.specs.declared.reference.Reference.TheVariants.{Component, Local, Global}
 use Rattle.zf_term.specs.ResolvedTrees.{ResolvedTree}
@@ -34,26 +34,6 @@ abbrev pub due_of : Option ResolvedTree → ℕ
 due_of None = 0
 due_of (Some t) = due t
 
--- ---- which components a term uses
-
--- whether the name is of this component
-abbrev pub is_component : ℕ → Reference → Bool
-is_component k (Component i) = eqb i k
-is_component k (Local i) = false
-is_component k (Global i) = false
-
-abbrev pub is_among : ℕ → List Reference → Bool
-is_among k [] = false
-is_among k (r ∷ rs) = cond (is_component k r) true (is_among k rs)
-
--- whether the term names this component
-abbrev pub uses : ResolvedTree → ℕ → Bool
-uses t k = is_among k (references t)
-
-abbrev pub uses_of : Option ResolvedTree → ℕ → Bool
-uses_of None k = false
-uses_of (Some t) k = uses t k
-
 -- ---- truths
 
 abbrev pub HasTruth : Environment → List Value → Option ResolvedTree → Truth → Type 0
@@ -66,11 +46,10 @@ told True = truth.True
 told False = truth.False
 told Out = truth.Out
 
--- the conjuncts, each with the number of components that it needs, the components that it uses and its truth on a row
+-- the conjuncts, each with the number of components that it needs and its truth on a row
 abbrev pub property : Environment → List ResolvedTree → Conjuncts Value
 property e ts = record {
   number = length ts;
   due = λ c. due_of (slice_get ts c);
-  uses = λ c k. uses_of (slice_get ts c) k;
   says = λ c row t. HasTruth e row (slice_get ts c) (told t);
 }

@@ -20,7 +20,8 @@ use Rattle.zf_meaning.proofs.Stays.{truths_stay}
 use Rattle.zf_meaning.proofs.SameRows.{AgreeAt, Agree, same_outcome, same_truth}
 use Rattle.zf_meaning.specs.InRow.{in_row}
 use Rattle.zf_meaning.specs.Meaning.{HasOutcome}
-use Rattle.zf_enum.specs.Property.{place_named, greatest_place, due, due_of, is_component, is_among, uses, uses_of, HasTruth, told, property}
+use Rattle.zf_enum.specs.Property.{place_named, greatest_place, due, due_of, HasTruth, told, property}
+use Rattle.zf_enum.specs.Uses.{is_component, is_among, uses, uses_of, are_used}
 
 -- ---- a term uses the components that are due
 
@@ -98,5 +99,5 @@ followed_by e row other (Some p) t h a = subst (λ X. X) (same_truth (in_row e r
 pub follows_outcome : (e : Environment) (row other : List Value) (t : ResolvedTree) (o : Outcome) → ((k : ℕ) → uses t k ≡ true → slice_get row k ≡ slice_get other k) → HasOutcome (in_row e row) t o → HasOutcome (in_row e other) t o
 follows_outcome e row other t o h a = subst (λ X. X) (same_outcome (in_row e row) other [] t (agree row other (references t) h) o) a
 
-pub follows_used : (e : Environment) (ts : List ResolvedTree) → FollowUsed (property e ts)
+pub follows_used : (e : Environment) (ts : List ResolvedTree) → FollowUsed (property e ts) (are_used ts)
 follows_used e ts c row other t l d b h a = followed_by e row other (slice_get ts c) (told t) h a

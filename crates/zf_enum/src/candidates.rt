@@ -10,6 +10,7 @@ ghost use Rattle.zf_plan.specs.Choices.{StaysIn};
 ghost use Rattle.zf_meaning.specs.Envs.{environment_of};
 ghost use Rattle.zf_enum.specs.Fixing.{HasPlace, IsKept, AreCandidates};
 ghost use Rattle.zf_enum.specs.Property as spec;
+ghost use Rattle.zf_enum.specs.Uses as named;
 
 use crate::due::{due, uses};
 use crate::shown::Shown;
@@ -156,7 +157,7 @@ fn gather_ahead<'a>(
 /// How many values of a component are tried: all that there are, or one where the expression doesn't use it.
 fn tried(side: &Resolved<'_>, component: usize, count: usize) -> usize
     ensures within { result ≤ count }
-    ensures all { spec.uses (resolved_of side.now) component ≡ true → result ≡ count }
+    ensures all { named.uses (resolved_of side.now) component ≡ true → result ≡ count }
     ensures some { 0 < count → 0 < result }
 {
     if uses(side, component) {

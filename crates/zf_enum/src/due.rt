@@ -2,6 +2,7 @@
 ghost use Rattle.std.specs.Prelude.{◌≡◌, ◌<◌, ◌^◌, max, map};
 ghost use Rattle.zf_term.specs.ResolvedViews.{resolved_of, resolved_link_of, range_of, terms, links, ranges, part_of};
 ghost use Rattle.zf_enum.specs.Property as spec;
+ghost use Rattle.zf_enum.specs.Uses as named;
 ghost use Rattle.zf_enum.specs.Dues.{place_after, place_up_to, need, all_need, links_need, ranges_need, part_need};
 
 use zf_data::arena::{Boxed, Items};
@@ -26,7 +27,7 @@ pub(crate) fn last(term: &Resolved<'_>) -> Option<usize> {
 
 /// Whether the term names a component.
 pub(crate) fn uses(term: &Resolved<'_>, component: usize) -> bool
-    ensures { result ≡ spec.uses (resolved_of term.now) component }
+    ensures { result ≡ named.uses (resolved_of term.now) component }
 {
     match last_up_to(term, component, None) {
         None => false,

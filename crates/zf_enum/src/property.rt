@@ -33,9 +33,12 @@ impl<'e, 'g, 'a> Judge<Value> for Property<'e, 'g, 'a> {
     ghost use Rattle.zf_term.specs.ResolvedViews.{resolved_of};
     ghost use Rattle.zf_meaning.specs.Envs.{environment_of};
     ghost use Rattle.zf_enum.specs.Property as spec;
+    ghost use Rattle.zf_enum.specs.Uses.{are_used};
     ghost use Rattle.zf_enum.specs.PropertyLaws.{has_one_truth, keeps_truths, follows_used};
 
     ghost conjuncts = { λ j. spec.property (environment_of j.env.now) (map resolved_of j.conjuncts) };
+
+    ghost is_used = { λ j. are_used (map resolved_of j.conjuncts) };
 
     ghost one_truth = { λ j. has_one_truth (environment_of j.env.now) (map resolved_of j.conjuncts) };
 

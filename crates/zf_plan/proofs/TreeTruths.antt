@@ -123,7 +123,7 @@ planted-due l n due trees w c h = due-within l n due (tree_at trees c) (w c (lea
 -- ---- all conjuncts, one after another
 
 abbrev pub firsts : {V : Type 0} → Conjuncts V → ℕ → Conjuncts V
-firsts s n = record { number = n; due = s.due; uses = s.uses; says = s.says }
+firsts s n = record { number = n; due = s.due; says = s.says }
 
 pub settled-here : {V : Type 0} (l : Conjuncts V) (tree : Tree) (row : List V) (t : Truth) → IsSettled l tree row t → IsTreeTruth l tree row t
 settled-here l tree row t h = subst (λ r. IsTreeTruth l tree r t) (append-nil row) (h [])

@@ -1,5 +1,5 @@
 -- Conjuncts as trees over leaves: the truth of a tree from those of its leaves.
-use Rattle.std.specs.Prelude.{◌≡◌, ◌⊎◌, ℕ, ◌<◌, Bool, ◌||◌, List, length, max, slice_index_or, All}
+use Rattle.std.specs.Prelude.{◌≡◌, ◌⊎◌, ℕ, ◌<◌, List, length, max, slice_index_or, All}
 use Rattle.zf_walk.specs.declared.judge.Truth.{Truth}
 use Rattle.zf_walk.specs.declared.judge.Truth.TheVariants.{True, False, Out}
 use Rattle.zf_walk.specs.Conjuncts.{Conjuncts}
@@ -43,13 +43,6 @@ due_of l (negated a) = due_of l a
 due_of l (both a b) = max (due_of l a) (due_of l b)
 due_of l (either a b) = max (due_of l a) (due_of l b)
 
--- whether a tree has a leaf that uses this component
-abbrev pub uses_of : {V : Type 0} → Conjuncts V → Tree → ℕ → Bool
-uses_of l (leaf c) k = l.uses c k
-uses_of l (negated a) k = uses_of l a k
-uses_of l (both a b) k = uses_of l a k || uses_of l b k
-uses_of l (either a b) k = uses_of l a k || uses_of l b k
-
 -- the leaves of a tree are among the first n
 abbrev pub HasLeavesWithin : ℕ → Tree → Type 0
 HasLeavesWithin n (leaf c) = c < n
@@ -69,7 +62,6 @@ abbrev pub planted : {V : Type 0} → Conjuncts V → List Tree → Conjuncts V
 planted l trees = record {
   number = length trees;
   due = λ j. due_of l (tree_at trees j);
-  uses = λ j. uses_of l (tree_at trees j);
   says = λ j. IsTreeTruth l (tree_at trees j);
 }
 

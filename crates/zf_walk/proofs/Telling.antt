@@ -66,9 +66,9 @@ combinations-more (w ∷ us) u = let e = ap (λ n. w.count * n) (combinations-mo
 
 -- ---- what is known of one conjunct
 
-module _ {V : Type 0} (s : Conjuncts V) (ranges : List (List V)) (c : ℕ) where
+module _ {V : Type 0} (s : Conjuncts V) (uses : ℕ → ℕ → Bool) (ranges : List (List V)) (c : ℕ) where
   -- nothing is known in a new table
-  pub table-new : (t : Table) → AreUsed ranges (s.uses c) (s.due c) t.used.items → combinations t.used.items < 2 ^ 64 → t.entries.items ≡ [] → IsTableOf s ranges c t
+  pub table-new : (t : Table) → AreUsed ranges (uses c) (s.due c) t.used.items → combinations t.used.items < 2 ^ 64 → t.entries.items ≡ [] → IsTableOf s uses ranges c t
   table-new t used few none = record {
     used = used;
     few = few;
@@ -76,57 +76,57 @@ module _ {V : Type 0} (s : Conjuncts V) (ranges : List (List V)) (c : ℕ) where
   }
 
   module _ (places : List ℕ) (w : AreWithin ranges places) (due : s.due c ≡ length places) where
-    pub table-fits : (o : Option Table) → IfSome o (IsTableOf s ranges c) → IfSome o (Fits places)
+    pub table-fits : (o : Option Table) → IfSome o (IsTableOf s uses ranges c) → IfSome o (Fits places)
     table-fits None h = tt
-    table-fits (Some t) h = record { used = places-used ranges (s.uses c) (s.due c) t.used.items places h.used w due; few = h.few }
+    table-fits (Some t) h = record { used = places-used ranges (uses c) (s.due c) t.used.items places h.used w due; few = h.few }
 
-    pub known-so : (o : Option Table) (u : Truth) → IfSome o (IsTableOf s ranges c) → known_in o places ≡ Some u → s.says c (picked ranges places) u
+    pub known-so : (o : Option Table) (u : Truth) → IfSome o (IsTableOf s uses ranges c) → known_in o places ≡ Some u → s.says c (picked ranges places) u
     known-so None u h e = absurd (cc)
     known-so (Some t) u h e = h.truths places u w due e
 
     -- a truth that is kept is one on each row that agrees in what is used
-    pub kept-so : FollowUsed s → c < s.number → (kept : Truth) → s.says c (picked ranges places) kept → (o p : Option Table) → MayKeep places kept o p → IfSome o (IsTableOf s ranges c) → IfSome p (IsTableOf s ranges c)
+    pub kept-so : FollowUsed s uses → c < s.number → (kept : Truth) → s.says c (picked ranges places) kept → (o p : Option Table) → MayKeep places kept o p → IfSome o (IsTableOf s uses ranges c) → IfSome p (IsTableOf s uses ranges c)
     kept-so follow near kept says None None k h = tt
     kept-so follow near kept says None (Some new) k h = absurd k
     kept-so follow near kept says (Some old) None k h = absurd k
     kept-so follow near kept says (Some old) (Some new) k h = record {
-      used = subst (AreUsed ranges (s.uses c) (s.due c)) (sym k.used) h.used;
+      used = subst (AreUsed ranges (uses c) (s.due c)) (sym k.used) h.used;
       few = subst (λ us. combinations us < 2 ^ 64) (sym k.used) h.few;
       truths = λ others u v l e. elim (k.truths others u e) [
         | inl before ↦ h.truths others u v l before
         | inr now ↦ subst (s.says c (picked ranges others)) (sym now.1)
             (follow c (picked ranges places) (picked ranges others) kept near
             (omega (arith, length-picked ranges places w)) (omega (arith, length-picked ranges others v))
-            (same-used ranges (s.uses c) old.used.items places others (subst (λ n. AreUsed ranges (s.uses c) n old.used.items) due h.used) w v (sym due ∙ l) now.0) says)
+            (same-used ranges (uses c) old.used.items places others (subst (λ n. AreUsed ranges (uses c) n old.used.items) due h.used) w v (sym due ∙ l) now.0) says)
       ];
     }
 
 -- ---- what is known of all
 
-pub tables-none : {V : Type 0} (s : Conjuncts V) (ranges : List (List V)) (ts : List (Option Table)) → ts ≡ [] → AreTables s ranges 0 ts
-tables-none s ranges ts e = record { all = ap length e; each = λ c l. absurd (omega arith) }
+pub tables-none : {V : Type 0} (s : Conjuncts V) (uses : ℕ → ℕ → Bool) (ranges : List (List V)) (ts : List (Option Table)) → ts ≡ [] → AreTables s uses ranges 0 ts
+tables-none s uses ranges ts e = record { all = ap length e; each = λ c l. absurd (omega arith) }
 
-module _ {V : Type 0} (s : Conjuncts V) (ranges : List (List V)) (n : ℕ) (ts : List (Option Table)) (a : AreTables s ranges n ts) where
-  pub table-at : (c : ℕ) (o : Option Table) → c < n → o ≡ get_or ts c o → IfSome o (IsTableOf s ranges c)
-  table-at c o near is = subst (λ p. IfSome p (IsTableOf s ranges c)) (get_or_default ts c None o (omega (arith, a.all)) ∙ sym is) (a.each c near)
+module _ {V : Type 0} (s : Conjuncts V) (uses : ℕ → ℕ → Bool) (ranges : List (List V)) (n : ℕ) (ts : List (Option Table)) (a : AreTables s uses ranges n ts) where
+  pub table-at : (c : ℕ) (o : Option Table) → c < n → o ≡ get_or ts c o → IfSome o (IsTableOf s uses ranges c)
+  table-at c o near is = subst (λ p. IfSome p (IsTableOf s uses ranges c)) (get_or_default ts c None o (omega (arith, a.all)) ∙ sym is) (a.each c near)
 
-  pub tables-more : (o : Option Table) → IfSome o (IsTableOf s ranges n) → AreTables s ranges (n + 1) (ts ++ o ∷ [])
+  pub tables-more : (o : Option Table) → IfSome o (IsTableOf s uses ranges n) → AreTables s uses ranges (n + 1) (ts ++ o ∷ [])
   tables-more o h = record {
     all = omega (arith, length-append ts (o ∷ []), a.all);
     each = λ c l. elim (cases_eq c n) [
-      | inl same ↦ subst (λ k. IfSome (get_or (ts ++ o ∷ []) k None) (IsTableOf s ranges k)) (a.all ∙ sym same)
-          (subst (λ p. IfSome p (IsTableOf s ranges (length ts))) (sym (get_or-append_seam ts o [] None)) (subst (λ k. IfSome o (IsTableOf s ranges k)) (sym a.all) h))
-      | inr other ↦ subst (λ p. IfSome p (IsTableOf s ranges c)) (sym (get_or_append_left ts (o ∷ []) None c (omega (arith, a.all)))) (a.each c (omega arith))
+      | inl same ↦ subst (λ k. IfSome (get_or (ts ++ o ∷ []) k None) (IsTableOf s uses ranges k)) (a.all ∙ sym same)
+          (subst (λ p. IfSome p (IsTableOf s uses ranges (length ts))) (sym (get_or-append_seam ts o [] None)) (subst (λ k. IfSome o (IsTableOf s uses ranges k)) (sym a.all) h))
+      | inr other ↦ subst (λ p. IfSome p (IsTableOf s uses ranges c)) (sym (get_or_append_left ts (o ∷ []) None c (omega (arith, a.all)))) (a.each c (omega arith))
     ];
   }
 
-  pub tables-set : (c : ℕ) (o : Option Table) → c < n → IfSome o (IsTableOf s ranges c) → AreTables s ranges n (set ts c o)
+  pub tables-set : (c : ℕ) (o : Option Table) → c < n → IfSome o (IsTableOf s uses ranges c) → AreTables s uses ranges n (set ts c o)
   tables-set c o near h = record {
     all = length-set ts c o ∙ a.all;
     each = λ d l. elim (cases_eq d c) [
-      | inl same ↦ subst (λ k. IfSome (get_or (set ts c o) k None) (IsTableOf s ranges k)) (sym same)
-          (subst (λ p. IfSome p (IsTableOf s ranges c)) (sym (get_or-set_same ts c o None (omega (arith, a.all)))) h)
-      | inr other ↦ subst (λ p. IfSome p (IsTableOf s ranges d)) (sym (get_or-set_other ts c d o None other)) (a.each d l)
+      | inl same ↦ subst (λ k. IfSome (get_or (set ts c o) k None) (IsTableOf s uses ranges k)) (sym same)
+          (subst (λ p. IfSome p (IsTableOf s uses ranges c)) (sym (get_or-set_same ts c o None (omega (arith, a.all)))) h)
+      | inr other ↦ subst (λ p. IfSome p (IsTableOf s uses ranges d)) (sym (get_or-set_other ts c d o None other)) (a.each d l)
     ];
   }
 

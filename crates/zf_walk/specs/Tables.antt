@@ -61,16 +61,16 @@ pub record AreUsed {V : Type 0} (ranges : List (List V)) (uses : ℕ → Bool) (
   pub all : (k : ℕ) → k < n → uses k ≡ true → (u : Used) × Contains us u × (u.component ≡ k)
 
 -- a table of a conjunct: what is known is so
-pub record IsTableOf {V : Type 0} (s : Conjuncts V) (ranges : List (List V)) (c : ℕ) (t : Table) : Type 0 where
-  pub used : AreUsed ranges (s.uses c) (s.due c) t.used.items
+pub record IsTableOf {V : Type 0} (s : Conjuncts V) (uses : ℕ → ℕ → Bool) (ranges : List (List V)) (c : ℕ) (t : Table) : Type 0 where
+  pub used : AreUsed ranges (uses c) (s.due c) t.used.items
   pub few : combinations t.used.items < 2 ^ 64
   pub truths : (places : List ℕ) (u : Truth) → AreWithin ranges places → s.due c ≡ length places → known t places ≡ Some u → s.says c (picked ranges places) u
 
 -- tables of the first n conjuncts, where they have one
-pub record AreTables {V : Type 0} (s : Conjuncts V) (ranges : List (List V)) (n : ℕ) (ts : List (Option Table)) : Type 0 where
+pub record AreTables {V : Type 0} (s : Conjuncts V) (uses : ℕ → ℕ → Bool) (ranges : List (List V)) (n : ℕ) (ts : List (Option Table)) : Type 0 where
   pub all : length ts ≡ n
-  pub each : (c : ℕ) → c < n → IfSome (slice_index_or ts c None) (IsTableOf s ranges c)
+  pub each : (c : ℕ) → c < n → IfSome (slice_index_or ts c None) (IsTableOf s uses ranges c)
 
 -- tables of all conjuncts
-abbrev pub AreTrue : {V : Type 0} → Conjuncts V → List (List V) → List (Option Table) → Type 0
-AreTrue s ranges ts = AreTables s ranges s.number ts
+abbrev pub AreTrue : {V : Type 0} → Conjuncts V → (ℕ → ℕ → Bool) → List (List V) → List (Option Table) → Type 0
+AreTrue s uses ranges ts = AreTables s uses ranges s.number ts

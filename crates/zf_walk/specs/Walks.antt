@@ -1,5 +1,5 @@
 -- How a walk is seen, and what always holds of one: for the model of `Walk` alone.
-use Rattle.std.specs.Prelude.{◌≡◌, Bool, true, cond, List, length, Option, Some, None}
+use Rattle.std.specs.Prelude.{◌≡◌, ℕ, Bool, true, cond, List, length, Option, Some, None}
 use Rattle.std.specs.declared.cmp.Ordering.{Ordering}
 use Rattle.zf_walk.specs.declared.place.Place.{Place}
 use Rattle.zf_walk.specs.declared.agenda.Agenda.{Agenda}
@@ -16,8 +16,8 @@ view_of judge ranges after p given = record {
   tests = p.tests;
 }
 
-pub record IsStanding {V : Type 0} (cmp : V → V → Ordering) (s : Conjuncts V) (ranges : List (List V)) (after : Option (List V)) (a : Agenda) (tables : List (Option Table)) (p : Place) (given : Bool) : Type 0 where
+pub record IsStanding {V : Type 0} (cmp : V → V → Ordering) (s : Conjuncts V) (uses : ℕ → ℕ → Bool) (ranges : List (List V)) (after : Option (List V)) (a : Agenda) (tables : List (Option Table)) (p : Place) (given : Bool) : Type 0 where
   pub sound : IsSound cmp s ranges after a
   pub stands : Stands cmp s ranges after p
-  pub known : AreTrue s ranges tables
+  pub known : AreTrue s uses ranges tables
   pub whole : given ≡ true → p.depth ≡ length ranges

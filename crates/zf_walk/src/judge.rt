@@ -1,5 +1,5 @@
 //! What is asked of rows.
-ghost use Rattle.std.specs.Prelude.{◌≡◌, ◌<◌, ◌≤◌, ℕ, List, length, IfOk};
+ghost use Rattle.std.specs.Prelude.{◌≡◌, ◌<◌, ◌≤◌, ℕ, Bool, List, length, IfOk};
 ghost use Rattle.zf_walk.specs.declared.judge.Truth.{Truth};
 ghost use Rattle.zf_walk.specs.Conjuncts.{Conjuncts};
 ghost use Rattle.zf_walk.specs.ConjunctLaws.{HaveOneTruth, KeepTruths, FollowUsed};
@@ -20,6 +20,8 @@ pub enum Truth {
 pub trait Judge<V> {
     ghost conjuncts: { Self → Conjuncts V };
 
+    ghost is_used: { Self → ℕ → ℕ → Bool };
+
     /// How many conjuncts there are.
     fn count(&self) -> usize
         ensures { result ≡ (conjuncts self.now).number };
@@ -32,7 +34,7 @@ pub trait Judge<V> {
     /// Whether a conjunct uses a component.
     fn uses(&self, conjunct: usize, component: usize) -> bool
         requires { conjunct < (conjuncts self.now).number }
-        ensures { result ≡ (conjuncts self.now).uses conjunct component };
+        ensures { result ≡ is_used self.now conjunct component };
 
     /// The truth of a conjunct on a row that has what it needs.
     fn judge<R: Row<V>>(&self, conjunct: usize, row: &R) -> Result<Truth, AllocError>
@@ -44,5 +46,5 @@ pub trait Judge<V> {
 
     ghost kept: { (j : Self) → KeepTruths (conjuncts j) };
 
-    ghost follow_used: { (j : Self) → FollowUsed (conjuncts j) };
+    ghost follow_used: { (j : Self) → FollowUsed (conjuncts j) (is_used j) };
 }

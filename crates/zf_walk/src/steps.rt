@@ -28,10 +28,10 @@ fn test_next<V: Ord, J: Judge<V>>(
     requires outs { length place.old.outs.items ≡ length ranges.now + 1 }
     requires conjunct { place.old.conjunct < (J.conjuncts judge.now).number }
     requires due { (J.conjuncts judge.now).due place.old.conjunct ≡ place.old.depth }
-    requires known { AreTrue (J.conjuncts judge.now) ranges.now tables.old.each.items }
+    requires known { AreTrue (J.conjuncts judge.now) (J.is_used judge.now) ranges.now tables.old.each.items }
     ensures ok { OnOk result (Tests (J.conjuncts judge.now) ranges.now place.old place.new) }
     ensures err { OnErr result (place.new ≡ place.old) }
-    ensures known { AreTrue (J.conjuncts judge.now) ranges.now tables.new.each.items }
+    ensures known { AreTrue (J.conjuncts judge.now) (J.is_used judge.now) ranges.now tables.new.each.items }
 {
     let conjunct = place.conjunct;
     let depth = place.depth;
@@ -57,10 +57,10 @@ fn step_on<V: Ord, J: Judge<V>>(
 ) -> Result<Option<Step>, AllocError>
     requires sound { IsSound V.cmp (J.conjuncts judge.now) ranges.now (option_copied after) agenda.now }
     requires stands { Stands V.cmp (J.conjuncts judge.now) ranges.now (option_copied after) place.old }
-    requires known { AreTrue (J.conjuncts judge.now) ranges.now tables.old.each.items }
+    requires known { AreTrue (J.conjuncts judge.now) (J.is_used judge.now) ranges.now tables.old.each.items }
     ensures goes { IfOk result (λ found. Goes V.cmp (J.conjuncts judge.now) ranges.now (option_copied after.entry) place.old found place.new) }
     ensures err { OnErr result (place.new ≡ place.old) }
-    ensures known { AreTrue (J.conjuncts judge.now) ranges.now tables.new.each.items }
+    ensures known { AreTrue (J.conjuncts judge.now) (J.is_used judge.now) ranges.now tables.new.each.items }
     ensures over { IsTrue (is_over place.old) → result ≡ Ok (Some Step.End) }
 {
     if !place.fresh {
@@ -99,10 +99,10 @@ pub fn next_answer<V: Ord, J: Judge<V>>(
 ) -> Result<Step, AllocError>
     requires sound { IsSound V.cmp (J.conjuncts judge.now) ranges.now (option_copied after) agenda.now }
     requires stands { Stands V.cmp (J.conjuncts judge.now) ranges.now (option_copied after) place.old }
-    requires known { AreTrue (J.conjuncts judge.now) ranges.now tables.old.each.items }
+    requires known { AreTrue (J.conjuncts judge.now) (J.is_used judge.now) ranges.now tables.old.each.items }
     ensures answers { IfOk result (λ step. Answers V.cmp (J.conjuncts judge.now) ranges.now (option_copied after.entry) place.old step place.new) }
     ensures refused { OnErr result (Keeps V.cmp (J.conjuncts judge.now) ranges.now (option_copied after.entry) place.old place.new) }
-    ensures known { AreTrue (J.conjuncts judge.now) ranges.now tables.new.each.items }
+    ensures known { AreTrue (J.conjuncts judge.now) (J.is_used judge.now) ranges.now tables.new.each.items }
     ensures over { IsTrue (is_over place.old) → result ≡ Ok Step.End }
 {
     loop {

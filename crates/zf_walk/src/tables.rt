@@ -27,7 +27,7 @@ impl Tables {
         ranges: &[Range<V>],
     ) -> Result<Tables, AllocError>
         requires { AreDueWithin (J.conjuncts judge.now) (length ranges.now) }
-        ensures { IfOk result (λ ts. AreTrue (J.conjuncts judge.now) ranges.now ts.each.items) }
+        ensures { IfOk result (λ ts. AreTrue (J.conjuncts judge.now) (J.is_used judge.now) ranges.now ts.each.items) }
     {
         let count = judge.count();
         let mut each = Vec::with_capacity(alloc, count)?;
@@ -50,9 +50,9 @@ impl Tables {
         requires conjunct { conjunct < (J.conjuncts judge.now).number }
         requires due { (J.conjuncts judge.now).due conjunct ≡ length places.now }
         requires within { AreWithin ranges.now places.now }
-        requires known { AreTrue (J.conjuncts judge.now) ranges.now self.old.each.items }
+        requires known { AreTrue (J.conjuncts judge.now) (J.is_used judge.now) ranges.now self.old.each.items }
         ensures says { IfOk result ((J.conjuncts judge.now).says conjunct (picked ranges.now places.now)) }
-        ensures known { AreTrue (J.conjuncts judge.now) ranges.now self.new.each.items }
+        ensures known { AreTrue (J.conjuncts judge.now) (J.is_used judge.now) ranges.now self.new.each.items }
     {
         if let Some(truth) = find_in(&self.each[conjunct], places) {
             return Ok(truth);
@@ -96,7 +96,7 @@ fn table_of<V, J: Judge<V>>(
 ) -> Result<Option<Table>, AllocError>
     requires conjunct { conjunct < (J.conjuncts judge.now).number }
     requires due { (J.conjuncts judge.now).due conjunct ≤ length ranges.now }
-    ensures { IfOk result (λ table. IfSome table (IsTableOf (J.conjuncts judge.now) ranges.now conjunct)) }
+    ensures { IfOk result (λ table. IfSome table (IsTableOf (J.conjuncts judge.now) (J.is_used judge.now) ranges.now conjunct)) }
 {
     if *room == 0 {
         return Ok(None);

@@ -39,7 +39,7 @@ impl<'a, V: Ord, J: Judge<V>> Model for Walk<'a, V, J> {
 
     ghost view = { λ w. view_of w.judge w.ranges.items (option_copied w.after) w.place w.given };
 
-    ghost invariant = { λ w. IsStanding V.cmp (J.conjuncts w.judge) w.ranges.items (option_copied w.after) w.agenda w.tables.each.items w.place w.given };
+    ghost invariant = { λ w. IsStanding V.cmp (J.conjuncts w.judge) (J.is_used w.judge) w.ranges.items (option_copied w.after) w.agenda w.tables.each.items w.place w.given };
 }
 
 impl<'a, V: Ord + Drop, J: Judge<V> + Drop> Walk<'a, V, J> {

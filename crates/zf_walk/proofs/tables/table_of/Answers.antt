@@ -5,7 +5,7 @@ use Rattle.zf_walk.proofs.tables.table_of.Goals.{then-uses+else-not-have_room+in
 
 pub loop-component-init : goal.loop-component-init
 loop-component-init g c =
-    let uses = (g.J.Judge.conjuncts c.args.judge.now).uses c.args.conjunct in
+    let uses = g.J.Judge.is_used c.args.judge.now c.args.conjunct in
     record {
       used = subst (λ (us : List Used). AreUsed c.args.ranges.now uses 0 us) (sym c.new-used.ensures.items) (used-none c.args.ranges.now uses);
       product = ap combinations c.new-used.ensures.items;
@@ -14,7 +14,7 @@ loop-component-init g c =
 
 pub loop-component-preserved : goal.loop-component-preserved
 loop-component-preserved g c =
-    let uses = (g.J.Judge.conjuncts c.args.judge.now).uses c.args.conjunct in
+    let uses = g.J.Judge.is_used c.args.judge.now c.args.conjunct in
     let ranges = c.args.ranges.now in
     let n = c.loop-component.component in
     let us = c.loop-component.used.items in
@@ -46,8 +46,9 @@ loop-component-preserved g c =
 pub returns : goal.returns
 returns g c =
     let s = g.J.Judge.conjuncts c.args.judge.now in
+    let uses = g.J.Judge.is_used c.args.judge.now in
     let t : Table = record { used = c.loop-component.used; entries = c.in_ok-entries.entries } in
     let all : c.loop-component.component ≡ s.due c.args.conjunct = omega (arith, c.due-due.ensures) in
-    table-new s c.args.ranges.now c.args.conjunct t
-    (subst (λ (n : ℕ). AreUsed c.args.ranges.now (s.uses c.args.conjunct) n c.loop-component.used.items) all c.loop-component.invariant.used)
+    table-new s uses c.args.ranges.now c.args.conjunct t
+    (subst (λ (n : ℕ). AreUsed c.args.ranges.now (uses c.args.conjunct) n c.loop-component.used.items) all c.loop-component.invariant.used)
     (omega (arith, c.loop-component.invariant.product)) c.in_ok-entries.ensures.items
