@@ -7,7 +7,7 @@ pub use Rattle.std.specs.List.{AllByRecursion}
 pub use Rattle.std.specs.Option.{option_copied}
 pub use Rattle.std.specs.Prelude.{All, AllPairs, Contains, IfErr, IsErrAnd, IsTrue, nat_le, slice_get, unwrap_or}
 pub use Rattle.std.specs.declared.cmp.Ordering.TheVariants.{Less}
-pub use Rattle.zf_walk.proofs.Moving.{range-is}
+pub use Rattle.zf_walk.proofs.Picks.{range-is}
 pub use Rattle.zf_walk.proofs.Picks.{AreWithin-push, length-picked, nth-at, picked-push}
 pub use Rattle.zf_walk.specs.Picked.{AreWithin, picked}
 pub use Rattle.zf_walk.specs.Progress.{Ahead, AreAllAhead, AreDueWithin}

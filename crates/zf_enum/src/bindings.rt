@@ -10,8 +10,9 @@ use crate::property::Property;
 use crate::search::Search;
 use std::alloc::{AllocError, Global};
 use zf_meaning::row::Row;
+use zf_plan::Walk;
 use zf_value::value::Value;
-use zf_walk::{Range, Step, Walk};
+use zf_walk::{Range, Step};
 
 /// The bindings of a schema that are not False, one after another in ascending order.
 #[derive(Drop)]

@@ -1,6 +1,5 @@
 -- What is known of leaves, from what was told of them.
-use Rattle.zf_plan.proofs.Prelude.{◌++◌, ◌<◌, ◌∙◌, ◌∷◌, ◌≡◌, ◌≤◌, [], ap, append_assoc, arith, drop, get_or, length, List, None, Option, refl, Some, subst, suc, sym, take, zero, ℕ, length-take-le, take-append-drop, AreWithin-tail, AreWithin-take, length-picked, picked-cons, slice_get-nth, Conjuncts, KeepTruths, AreWithin, picked, Truth, False, Out, True, IsKnown, IsSettled, Tells, leaf, Tree, true, false≢true}
-use Rattle.zf_plan.specs.Knowing.{known_false}
+use Rattle.zf_plan.proofs.Prelude.{◌++◌, ◌<◌, ◌∙◌, ◌∷◌, ◌≡◌, ◌≤◌, [], ap, append_assoc, arith, drop, get_or, length, List, None, Option, refl, Some, subst, suc, sym, take, zero, ℕ, length-take-le, take-append-drop, AreWithin-tail, AreWithin-take, length-picked, picked-cons, slice_get-nth, Conjuncts, KeepTruths, AreWithin, picked, Truth, IsKnown, IsSettled, Tells, leaf}
 
 take-none : {V : Type 0} (k : ℕ) → take {A = V} k [] ≡ []
 take-none zero = refl
@@ -32,10 +31,3 @@ module _ {V : Type 0} (l : Conjuncts V) (keep : KeepTruths l) (ranges : List (Li
 
   pub known-later : (c : ℕ) → length places < l.due c → IsKnown l (leaf c) (picked ranges places) None
   known-later c h = omega (arith, length-picked ranges places w)
-
--- what is known to be False is settled so
-pub known-false : {V : Type 0} (l : Conjuncts V) (tree : Tree) (row : List V) (known : Option Truth) → known_false known ≡ true → IsKnown l tree row known → IsSettled l tree row False
-known-false l tree row None e h = absurd (false≢true e)
-known-false l tree row (Some True) e h = absurd (false≢true e)
-known-false l tree row (Some False) e h = h
-known-false l tree row (Some Out) e h = absurd (false≢true e)

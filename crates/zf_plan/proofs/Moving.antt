@@ -1,12 +1,33 @@
 -- The moves of a search: the same events are ahead, and fewer steps.
-use Rattle.zf_plan.proofs.Prelude.{◌*◌, ◌++◌, ◌+◌, ◌-◌, ◌<◌, ◌∙◌, ◌∷◌, ◌≡◌, ◌≤◌, [], ap, arith, Bool, cond, drop, false, get_or, inl, inr, length, List, None, Option, refl, set, Some, subst, suc, sym, take, true, ℕ, cases_eq, cases_lt, drop_more, get_or-take, length-set, length-take-le, take-set-le, take-take, take_more, take_more_set, IsTotalOrder, AllPairs, Ordering, Equal, Greater, Less, above-push, greater-at, IsNth, less-at, nth, reaches-push, reaches-under, tied-at, AreWithin-push, AreWithin-take, length-picked, nth-at, picked-push, Conjuncts, Event, IsEvent, AreWithin, picked, above, below, first_of, reaches, under, AreAscending, IsRowOf, TiesAreEqual, Truth, Tells, bound, Forgets, IsAt, KeepsEvents, Lands, path, steps_left, Place}
+use Rattle.zf_plan.proofs.Prelude.{◌*◌, ◌++◌, ◌+◌, ◌-◌, ◌<◌, ◌∙◌, ◌∷◌, ◌≡◌, ◌≤◌, [], ap, arith, Bool, cond, drop, false, get_or, inl, inr, length, List, None, Option, refl, set, Some, subst, suc, sym, take, true, ℕ, cases_eq, cases_lt, drop_more, get_or-take, length-set, length-take-le, take-set-le, take-take, take_more, take_more_set, IsTotalOrder, AllPairs, Ordering, Equal, Greater, Less, greater-at, IsNth, less-at, nth, reaches-push, reaches-under, tied-at, AreWithin-push, AreWithin-take, length-picked, nth-at, picked-push, Conjuncts, Event, IsEvent, AreWithin, picked, above, below, first_of, reaches, under, AreAscending, IsRowOf, TiesAreEqual, Truth, Tells, bound, IsAt, KeepsEvents, Lands, path, steps_left, Place}
 use Rattle.std.proofs.Math.Nat.{mul-le-mul_right}
+use Rattle.zf_plan.proofs.Forgetting.{AreForgotten}
 
 -- what the row has behind a road is a row of the ranges behind it
 tail-row : {V : Type 0} (road tail : List V) (ranges : List (List V)) → IsRowOf ranges (road ++ tail) → IsRowOf (drop (length road) ranges) tail
 tail-row [] tail ranges m = m
 tail-row (x ∷ road) tail [] m = absurd m
 tail-row (x ∷ road) tail (r ∷ ranges) m = tail-row road tail ranges m.1
+
+-- ---- how many steps are left
+
+above-nil : {V : Type 0} (ranges : List (List V)) → above ranges [] ≡ 0
+above-nil [] = refl
+above-nil (r ∷ ranges) = refl
+
+pub above-push : {V : Type 0} (ranges : List (List V)) (places : List ℕ) (i : ℕ) (range : List V) (later : List (List V)) → drop (length places) ranges ≡ range ∷ later
+    → above ranges (places ++ i ∷ []) ≡ above ranges places + ((length range - suc i) * below later + 1)
+above-push [] [] i range later e = cc
+above-push [] (j ∷ places) i range later e = cc
+above-push (r ∷ ranges) [] i range later e =
+    let p : r ≡ range = cc in let q : ranges ≡ later = cc in let z : above later [] ≡ 0 = above-nil later in rw (p, q) (omega arith)
+above-push (r ∷ ranges) (j ∷ places) i range later e = let ih = above-push ranges places i range later e in omega (arith, ih)
+
+pub enough : {V : Type 0} (rs : List (List V)) → 2 ≤ below rs
+enough [] = omega arith
+enough (r ∷ rs) = omega arith
+
+-- ---- what is ahead in a range
 
 -- a test that holds of the values of a range from a place on
 pub record IsFrontier {V : Type 0} (range : List V) (f : ℕ) (F : List V → Bool) : Type 0 where
@@ -106,16 +127,12 @@ module _ {V : Type 0} (ranges : List (List V)) (p : Place) (at : IsAt ranges p) 
             let e : get_or (take p.depth p.places.items) k 0 ≡ get_or p.places.items k 0 = get_or-take p.depth p.places.items k 0 (omega arith) in
             subst (λ i. i < length (get_or ranges k [])) e w
 
-  -- the last place lies in its range
-  pub last-inside : (k : ℕ) → p.depth ≡ k + 1 → get_or p.places.items k 0 < length (get_or ranges k [])
-  last-inside k d = let w = last-value k d in let n = w.1 in n.within
-
 -- how a place stands to range k: from which place of it on its values are ahead
 pub record IsFrom {V : Type 0} (cmp : V → V → Ordering) (ranges : List (List V)) (p : Place) (k : ℕ) (road : List V) (f : ℕ) : Type 0 where
   pub test : List V → Bool
   pub reaches_so : (row : List V) → reaches cmp p.fresh (path ranges p) row ≡ under cmp road test row
   pub frontier : IsFrontier (get_or ranges k []) f test
-  pub left : steps_left ranges p ≡ above 0 ranges (take k p.places.items) + (length (get_or ranges k []) - f) * below 0 (drop (k + 1) ranges) + 2
+  pub left : steps_left ranges p ≡ above ranges (take k p.places.items) + (length (get_or ranges k []) - f) * below (drop (k + 1) ranges) + 2
 
 -- what a landing at range k leaves
 pub record Landed {V : Type 0} (cmp : V → V → Ordering) (s : Conjuncts V) (ranges : List (List V)) (after : Option (List V)) (p : Place) (k : ℕ) (q : Place) : Type 0 where
@@ -134,10 +151,10 @@ module _ {V : Type 0} (cmp : V → V → Ordering) (o : IsTotalOrder cmp) (ties 
         ∙ reaches-under cmp o true (picked ranges (take k p.places.items)) row;
     frontier = frontier-first cmp o ties (get_or ranges k []);
     left =
-        let a : steps_left ranges p ≡ below 0 (drop k ranges) + above 0 ranges (take k p.places.items) =
-        ap (λ b. cond b (below 0 (drop p.depth ranges)) 1 + above 0 ranges (bound p)) f ∙ ap (λ j. below 0 (drop j ranges) + above 0 ranges (take j p.places.items)) d in
-        let e : below 0 (drop k ranges) ≡ 0 + 2 + length (get_or ranges k []) * below 0 (drop (k + 1) ranges) = ap (below 0) (drop_more ranges k [] near) in
-        let z : (length (get_or ranges k []) - 0) * below 0 (drop (k + 1) ranges) ≡ length (get_or ranges k []) * below 0 (drop (k + 1) ranges) = ap (λ n. n * below 0 (drop (k + 1) ranges)) (omega arith) in
+        let a : steps_left ranges p ≡ below (drop k ranges) + above ranges (take k p.places.items) =
+        ap (λ b. cond b (below (drop p.depth ranges)) 1 + above ranges (bound p)) f ∙ ap (λ j. below (drop j ranges) + above ranges (take j p.places.items)) d in
+        let e : below (drop k ranges) ≡ 2 + length (get_or ranges k []) * below (drop (k + 1) ranges) = ap below (drop_more ranges k [] near) in
+        let z : (length (get_or ranges k []) - 0) * below (drop (k + 1) ranges) ≡ length (get_or ranges k []) * below (drop (k + 1) ranges) = ap (λ n. n * below (drop (k + 1) ranges)) (omega arith) in
         omega (arith, a, e, z);
   }
 
@@ -153,11 +170,11 @@ module _ {V : Type 0} (cmp : V → V → Ordering) (o : IsTotalOrder cmp) (ties 
             ∙ reaches-push cmp o false (picked ranges (take k p.places.items)) x row;
         frontier = frontier-past cmp o ties (get_or ranges k []) (asc k [] near) i x was.1;
         left =
-            let a : steps_left ranges p ≡ 1 + above 0 ranges (take k p.places.items ++ i ∷ []) =
-            ap (λ b. cond b (below 0 (drop p.depth ranges)) 1 + above 0 ranges (bound p)) f ∙ ap (λ is. 1 + above 0 ranges is) was.3 in
+            let a : steps_left ranges p ≡ 1 + above ranges (take k p.places.items ++ i ∷ []) =
+            ap (λ b. cond b (below (drop p.depth ranges)) 1 + above ranges (bound p)) f ∙ ap (λ is. 1 + above ranges is) was.3 in
             let long = length-places ranges p at k (omega arith) in
-            let e = above-push 0 ranges (take k p.places.items) i (get_or ranges k []) (drop (k + 1) ranges) (ap (λ n. drop n ranges) long ∙ drop_more ranges k [] near) in
-            let z : (length (get_or ranges k []) - suc i) * below 0 (drop (k + 1) ranges) ≡ (length (get_or ranges k []) - (i + 1)) * below 0 (drop (k + 1) ranges) = ap (λ n. n * below 0 (drop (k + 1) ranges)) (omega arith) in
+            let e = above-push ranges (take k p.places.items) i (get_or ranges k []) (drop (k + 1) ranges) (ap (λ n. drop n ranges) long ∙ drop_more ranges k [] near) in
+            let z : (length (get_or ranges k []) - suc i) * below (drop (k + 1) ranges) ≡ (length (get_or ranges k []) - (i + 1)) * below (drop (k + 1) ranges) = ap (λ n. n * below (drop (k + 1) ranges)) (omega arith) in
             omega (arith, a, e, z);
       }
 
@@ -175,11 +192,11 @@ module _ {V : Type 0} (cmp : V → V → Ordering) (o : IsTotalOrder cmp) (ties 
         ∙ crossed cmp o ties ranges (picked ranges (take k p.places.items)) (get_or ranges k []) (drop (k + 1) ranges) split e.row ev.within f g from.test G from.frontier w up (skip e ev)
         ∙ sym (h e.row)
 
-    falls : (length (get_or ranges k []) - g) * below 0 (drop (k + 1) ranges) ≤ (length (get_or ranges k []) - f) * below 0 (drop (k + 1) ranges)
-    falls = let h : length (get_or ranges k []) - g ≤ length (get_or ranges k []) - f = omega arith in mul-le-mul_right (below 0 (drop (k + 1) ranges)) h
+    falls : (length (get_or ranges k []) - g) * below (drop (k + 1) ranges) ≤ (length (get_or ranges k []) - f) * below (drop (k + 1) ranges)
+    falls = let h : length (get_or ranges k []) - g ≤ length (get_or ranges k []) - f = omega arith in mul-le-mul_right (below (drop (k + 1) ranges)) h
 
-    on-value : g < length (get_or ranges k []) → q.places.items ≡ set p.places.items k g → q.depth ≡ k + 1 → q.fresh ≡ true → Landed cmp s ranges after p k q
-    on-value l ps d fr =
+    on-value : q.found.items ≡ p.found.items → g < length (get_or ranges k []) → q.places.items ≡ set p.places.items k g → q.depth ≡ k + 1 → q.fresh ≡ true → Landed cmp s ranges after p k q
+    on-value found l ps d fr =
         let n = nth-at (get_or ranges k []) g l in
         let y = n.0 in
         let long = length-places ranges p at k deep in
@@ -191,45 +208,47 @@ module _ {V : Type 0} (cmp : V → V → Ordering) (o : IsTotalOrder cmp) (ties 
         record {
           at = record {
             all_places = ap length ps ∙ length-set p.places.items k g ∙ at.all_places;
+            all_found = ap length found ∙ at.all_found;
             shallow = omega arith;
             within = subst (AreWithin ranges) (sym stairs) (AreWithin-push ranges (take k p.places.items) g y inner (omega arith) n');
           };
           same = keeps (reaches cmp true (y ∷ [])) (frontier-at cmp o ties (get_or ranges k []) (asc k [] near) g y n.1)
               (λ row. ap (λ b. reaches cmp b (path ranges q) row) fr ∙ ap (λ r. reaches cmp true r row) there ∙ reaches-push cmp o true (picked ranges (take k p.places.items)) y row);
           smaller =
-              let a : steps_left ranges q ≡ below 0 (drop (k + 1) ranges) + above 0 ranges (take k p.places.items ++ g ∷ []) =
-              ap (λ b. cond b (below 0 (drop q.depth ranges)) 1 + above 0 ranges (bound q)) fr ∙ ap (λ j. below 0 (drop j ranges) + above 0 ranges (bound q)) d ∙ ap (λ is. below 0 (drop (k + 1) ranges) + above 0 ranges is) stairs in
-              let e = above-push 0 ranges (take k p.places.items) g (get_or ranges k []) (drop (k + 1) ranges) (ap (λ j. drop j ranges) long ∙ drop_more ranges k [] near) in
-              let z = peel (length (get_or ranges k []) - g) (length (get_or ranges k []) - suc g) (below 0 (drop (k + 1) ranges)) (omega arith) in
+              let a : steps_left ranges q ≡ below (drop (k + 1) ranges) + above ranges (take k p.places.items ++ g ∷ []) =
+              ap (λ b. cond b (below (drop q.depth ranges)) 1 + above ranges (bound q)) fr ∙ ap (λ j. below (drop j ranges) + above ranges (bound q)) d ∙ ap (λ is. below (drop (k + 1) ranges) + above ranges is) stairs in
+              let e = above-push ranges (take k p.places.items) g (get_or ranges k []) (drop (k + 1) ranges) (ap (λ j. drop j ranges) long ∙ drop_more ranges k [] near) in
+              let z = peel (length (get_or ranges k []) - g) (length (get_or ranges k []) - suc g) (below (drop (k + 1) ranges)) (omega arith) in
               omega (arith, a, e, z, falls, from.left);
           deep = omega arith;
           fronts = λ i h. take-take i q.depth q.places.items (omega arith) ∙ ap (take i) ps ∙ take-set-le i p.places.items k g h ∙ sym (take-take i p.depth p.places.items (omega arith));
         }
 
-    past-row : length (get_or ranges k []) ≤ g → q.places.items ≡ p.places.items → q.depth ≡ k → q.fresh ≡ false → Landed cmp s ranges after p k q
-    past-row l ps d fr =
+    past-row : q.found.items ≡ p.found.items → length (get_or ranges k []) ≤ g → q.places.items ≡ p.places.items → q.depth ≡ k → q.fresh ≡ false → Landed cmp s ranges after p k q
+    past-row found l ps d fr =
         let stairs : bound q ≡ take k p.places.items = ap (λ j. take j q.places.items) d ∙ ap (take k) ps in
         record {
           at = record {
             all_places = ap length ps ∙ at.all_places;
+            all_found = ap length found ∙ at.all_found;
             shallow = omega arith;
             within = subst (AreWithin ranges) (sym stairs) (within-front ranges p at k deep);
           };
           same = keeps (λ _. false) (frontier-last cmp o ties (get_or ranges k []) g l)
               (λ row. ap (λ b. reaches cmp b (path ranges q) row) fr ∙ ap (λ is. reaches cmp false (picked ranges is) row) stairs ∙ reaches-under cmp o false (picked ranges (take k p.places.items)) row);
           smaller =
-              let a : steps_left ranges q ≡ 1 + above 0 ranges (take k p.places.items) = ap (λ b. cond b (below 0 (drop q.depth ranges)) 1 + above 0 ranges (bound q)) fr ∙ ap (λ is. 1 + above 0 ranges is) stairs in
+              let a : steps_left ranges q ≡ 1 + above ranges (take k p.places.items) = ap (λ b. cond b (below (drop q.depth ranges)) 1 + above ranges (bound q)) fr ∙ ap (λ is. 1 + above ranges is) stairs in
               omega (arith, a, from.left);
           deep = omega arith;
           fronts = λ i h. take-take i q.depth q.places.items (omega arith) ∙ ap (take i) ps ∙ sym (take-take i p.depth p.places.items (omega arith));
         }
 
     pub landed : Lands (length (get_or ranges k [])) k g p q → Landed cmp s ranges after p k q
-    landed (inl a) = on-value a.0 a.1 a.2 a.3
-    landed (inr a) = past-row a.0 a.1 a.2 a.3
+    landed (found, inl a) = on-value found a.0 a.1 a.2 a.3
+    landed (found, inr a) = past-row found a.0 a.1 a.2 a.3
 
 -- what was told stays right where the leaves that need one value more are forgotten
-pub tells-landed : {V : Type 0} (l : Conjuncts V) (ranges : List (List V)) (k : ℕ) (places new : List ℕ) (old told : List (Option Truth)) → Tells l ranges places old → Forgets l (k + 1) old told
+pub tells-landed : {V : Type 0} (l : Conjuncts V) (ranges : List (List V)) (k : ℕ) (places new : List ℕ) (old told : List (Option Truth)) → Tells l ranges places old → AreForgotten l (k + 1) old told
     → k ≤ length places → length new ≤ k + 1 → ((i : ℕ) → i ≤ k → take i new ≡ take i places) → Tells l ranges new told
 tells-landed l ranges k places new old told tells g deep short fronts = record {
   all = g.all ∙ tells.all;

@@ -1,8 +1,8 @@
 -- Lists of conjuncts.
 use Rattle.zf_plan.proofs.Prelude.{◌++◌, ◌+◌, ◌<◌, ◌∙◌, ◌∷◌, ◌≡◌, [], ap, arith, false, get_or, inl, inr, length, length-append, List, refl, subst, suc, sym, true, zero, ℕ, get_or-append_seam, cases_lt, false≢true, get_or_append_left, get_or_default, AllPairs, Contains, Conjuncts, AreBelow, leaf, Tree, tree_at}
-use Rattle.std.proofs.lemmas.Bool.{eq-eqb, eqb-true}
-use Rattle.zf_walk.proofs.Lists.{AllPairs-nil, Contains-cases, Contains-either, Contains-head, Contains-left, Contains-nil, Contains-right}
-use Rattle.zf_plan.specs.Places.{AreTouched, touches}
+use Rattle.zf_walk.proofs.Lists.{Contains-cases, Contains-either, Contains-head, Contains-left, Contains-nil, Contains-right}
+use Rattle.zf_plan.specs.Knowing.{IsLeafDue}
+use Rattle.zf_plan.specs.Places.{AreDue, AreTouched, touches_inside}
 
 push-all : {X : Type 0} (P : X → Type 0) (xs : List X) (x d : X) → ((i : ℕ) → i < length xs → P (get_or xs i d)) → P x → (i : ℕ) → i < length (xs ++ x ∷ []) → P (get_or (xs ++ x ∷ []) i d)
 push-all P xs x d h p i l = elim (cases_lt i (length xs)) [
@@ -17,67 +17,106 @@ pub below_push : (n : ℕ) (js : List ℕ) (j : ℕ) → AreBelow n js → j < n
 below_push n js j h l = push-all (λ k. k < n) js j 0 h l
 
 -- one list more
-pub all_below_push : (n : ℕ) (lists : List (List ℕ)) (js : List ℕ) (m : ℕ) → ((k : ℕ) → k < length lists → AreBelow n (get_or lists k [])) → AreBelow n js
-    → m < length (lists ++ js ∷ []) → AreBelow n (get_or (lists ++ js ∷ []) m [])
-all_below_push n lists js m h b l = push-all (AreBelow n) lists js [] h b m l
+pub all_push : (P : ℕ → List ℕ → Type 0) (lists : List (List ℕ)) (js : List ℕ) → ((k : ℕ) → k < length lists → P k (get_or lists k [])) → P (length lists) js
+    → (m : ℕ) → m < length (lists ++ js ∷ []) → P m (get_or (lists ++ js ∷ []) m [])
+all_push P lists js h b m near = elim (cases_lt m (length lists)) [
+  | inl old ↦ subst (P m) (sym (get_or_append_left lists (js ∷ []) [] m old)) (h m old)
+  | inr new ↦
+      let here : m ≡ length lists = omega (arith, length-append lists (js ∷ [])) in
+      subst (λ k. P k (get_or (lists ++ js ∷ []) k [])) (sym here) (subst (P (length lists)) (sym (get_or-append_seam lists js [] [])) b)
+]
+
+-- the lists so far
+abbrev pub AreSoFar : (ℕ → List ℕ → Type 0) → ℕ → List (List ℕ) → Type 0
+AreSoFar P k lists = (length lists ≡ k) × ((m : ℕ) → m < length lists → P m (get_or lists m []))
+
+pub so_far_more : (P : ℕ → List ℕ → Type 0) (k : ℕ) (lists new : List (List ℕ)) (js : List ℕ) → new ≡ lists ++ js ∷ [] → AreSoFar P k lists → P k js → AreSoFar P (k + 1) new
+so_far_more P k lists new js e h b = (
+  omega (arith, ap length e, length-append lists (js ∷ []), h.0),
+  λ m near. subst (λ xs. P m (get_or xs m [])) (sym e) (all_push P lists js h.1 (subst (λ n. P n js) (sym h.0) b) m (subst (λ xs. m < length xs) e near)),
+)
 
 -- ---- the conjuncts that a number of values touches
 
 module _ {V : Type 0} (l : Conjuncts V) (trees : List Tree) (k : ℕ) where
-  pub touched_none : AreTouched l trees k 0 []
-  touched_none = record { below = λ i h. absurd (omega arith); ascending = AllPairs-nil (λ i j. i < j); all = λ c h. absurd (omega arith); only = λ c m. absurd (Contains-nil c m) }
-
-  pub touched_skip : (n : ℕ) (numbers : List ℕ) → AreTouched l trees k n numbers → touches l k (tree_at trees n) ≡ false → AreTouched l trees k (n + 1) numbers
+  pub touched_skip : (n : ℕ) (numbers : List ℕ) → AreTouched l trees k n numbers → touches_inside l k (tree_at trees n) ≡ false → AreTouched l trees k (n + 1) numbers
   touched_skip n numbers t no' = record {
     below = λ i h. let b = t.below i h in omega arith;
-    ascending = t.ascending;
-    all = λ c h so. elim (cases_lt c n) [ inl old ↦ t.all c old so | inr new ↦ absurd (false≢true (sym no' ∙ ap (λ i. touches l k (tree_at trees i)) (omega arith) ∙ so)) ];
+    all = λ c h so. elim (cases_lt c n) [ inl old ↦ t.all c old so | inr new ↦ absurd (false≢true (sym no' ∙ ap (λ i. touches_inside l k (tree_at trees i)) (omega arith) ∙ so)) ];
     only = t.only;
   }
 
-  pub touched_push : (n : ℕ) (numbers : List ℕ) → AreTouched l trees k n numbers → touches l k (tree_at trees n) ≡ true → AreTouched l trees k (n + 1) (numbers ++ n ∷ [])
+  pub touched_push : (n : ℕ) (numbers : List ℕ) → AreTouched l trees k n numbers → touches_inside l k (tree_at trees n) ≡ true → AreTouched l trees k (n + 1) (numbers ++ n ∷ [])
   touched_push n numbers t yes' = record {
     below = below_push (n + 1) numbers n (λ i h. let b = t.below i h in omega arith) (omega arith);
-    ascending = rising;
     all = λ c h so. elim (cases_lt c n) [
       | inl old ↦ Contains-left numbers (n ∷ []) c (t.all c old so)
       | inr new ↦ subst (Contains (numbers ++ n ∷ [])) (omega arith) (Contains-right numbers (n ∷ []) n (Contains-head n []))
     ];
     only = λ c m. elim (Contains-either numbers (n ∷ []) c m) [
       | inl old ↦ t.only c old
-      | inr new ↦ elim (Contains-cases n [] c new) [ inl e ↦ subst (λ i. touches l k (tree_at trees i) ≡ true) e yes' | inr none ↦ absurd (Contains-nil c none) ]
+      | inr new ↦ elim (Contains-cases n [] c new) [ inl e ↦ subst (λ i. touches_inside l k (tree_at trees i) ≡ true) e yes' | inr none ↦ absurd (Contains-nil c none) ]
     ];
-  } where
-    rising : AllPairs (λ i j. i < j) (numbers ++ n ∷ [])
-    rising i j d less near = elim (cases_lt j (length numbers)) [
+  }
+
+  -- where each conjunct is a leaf none is touched inside
+  pub touched_flat : (n : ℕ) (numbers : List ℕ) → AreTouched l trees k n numbers → ((j : ℕ) → j < n → tree_at trees j ≡ leaf j) → numbers ≡ []
+  touched_flat n [] t flat = refl
+  touched_flat n (j ∷ numbers) t flat =
+      absurd (false≢true (sym (ap (touches_inside l k) (flat j (t.below 0 (omega arith)))) ∙ t.only j (Contains-head j numbers)))
+
+  -- ---- the leaves that are conjuncts
+
+  pub due_skip : (n : ℕ) (leaves : List ℕ) → AreDue l trees k n leaves → ((c : ℕ) → IsLeafDue l k (tree_at trees n) c → ⊥) → AreDue l trees k (n + 1) leaves
+  due_skip n leaves d none = record {
+    all = λ j c h is. elim (cases_lt j n) [ inl old ↦ d.all j c old is | inr new ↦ absurd (none c (subst (λ i. IsLeafDue l k (tree_at trees i) c) (omega arith) is)) ];
+    only = λ c m. let w = d.only c m in (w.0, (let z = w.1 in omega arith), w.2);
+    ascending = λ flat. d.ascending (λ j h. flat j (omega arith));
+  }
+
+  leaf-same : (b c : ℕ) → leaf b ≡ leaf c → b ≡ c
+  leaf-same b c e = cc
+
+  -- where each conjunct is the leaf with its number, the next one comes after those that are there
+  module _ (n : ℕ) (leaves : List ℕ) (b : ℕ) (d : AreDue l trees k n leaves) (is : IsLeafDue l k (tree_at trees n) b) (flat : (j : ℕ) → j < n + 1 → tree_at trees j ≡ leaf j) where
+    last : b ≡ n
+    last = leaf-same b n (sym is.0 ∙ flat n (omega arith))
+
+    earlier : (i : ℕ) → i < length leaves → get_or leaves i 0 < n
+    earlier i near =
+        let c = get_or leaves i 0 in
+        let w = d.only c (i, near, get_or_default leaves i c 0 near) in
+        let same : w.0 ≡ c = leaf-same w.0 c (sym (flat w.0 (let z = w.1 in omega arith)) ∙ w.2.0) in
+        omega (arith, same, w.1)
+
+    rising : AllPairs (λ i j. i < j) (leaves ++ b ∷ [])
+    rising i j e less near = elim (cases_lt j (length leaves)) [
       | inl old ↦
-          let a : get_or (numbers ++ n ∷ []) i d ≡ get_or numbers i d = get_or_append_left numbers (n ∷ []) d i (omega arith) in
-          let b : get_or (numbers ++ n ∷ []) j d ≡ get_or numbers j d = get_or_append_left numbers (n ∷ []) d j old in
-          omega (arith, a, b, t.ascending i j d less old)
+          let x : get_or (leaves ++ b ∷ []) i e ≡ get_or leaves i e = get_or_append_left leaves (b ∷ []) e i (omega arith) in
+          let y : get_or (leaves ++ b ∷ []) j e ≡ get_or leaves j e = get_or_append_left leaves (b ∷ []) e j old in
+          omega (arith, x, y, d.ascending (λ m h. flat m (omega arith)) i j e less old)
       | inr new ↦
-          let here : j ≡ length numbers = omega (arith, length-append numbers (n ∷ [])) in
-          let before : i < length numbers = omega arith in
-          let a : get_or (numbers ++ n ∷ []) i d ≡ get_or numbers i 0 = get_or_append_left numbers (n ∷ []) d i before ∙ get_or_default numbers i d 0 before in
-          let b : get_or (numbers ++ n ∷ []) j d ≡ n = ap (λ m. get_or (numbers ++ n ∷ []) m d) here ∙ get_or-append_seam numbers n [] d in
-          omega (arith, a, b, t.below i before)
+          let here : j ≡ length leaves = omega (arith, length-append leaves (b ∷ [])) in
+          let before : i < length leaves = omega arith in
+          let x : get_or (leaves ++ b ∷ []) i e ≡ get_or leaves i 0 = get_or_append_left leaves (b ∷ []) e i before ∙ get_or_default leaves i e 0 before in
+          let y : get_or (leaves ++ b ∷ []) j e ≡ b = ap (λ m. get_or (leaves ++ b ∷ []) m e) here ∙ get_or-append_seam leaves b [] e in
+          omega (arith, x, y, last, earlier i before)
     ]
 
-  -- a leaf that needs so many values is one of them
-  pub touched_leaf : (n c : ℕ) (numbers : List ℕ) → AreTouched l trees k n numbers → c < n → tree_at trees c ≡ leaf c → l.due c ≡ k → Contains numbers c
-  touched_leaf n c numbers t m e d = t.all c m (ap (touches l k) e ∙ eq-eqb (l.due c) k d)
-
-  pub due_leaf : (n c : ℕ) (numbers : List ℕ) → AreTouched l trees k n numbers → Contains numbers c → tree_at trees c ≡ leaf c → l.due c ≡ k
-  due_leaf n c numbers t m e = eqb-true (l.due c) k (sym (ap (touches l k) e) ∙ t.only c m)
-
--- one list more
-pub all_touched_push : {V : Type 0} (l : Conjuncts V) (trees : List Tree) (n : ℕ) (lists : List (List ℕ)) (js : List ℕ) → ((k : ℕ) → k < length lists → AreTouched l trees k n (get_or lists k [])) → AreTouched l trees (length lists) n js
-    → (m : ℕ) → m < length (lists ++ js ∷ []) → AreTouched l trees m n (get_or (lists ++ js ∷ []) m [])
-all_touched_push l trees n lists js h b m near = elim (cases_lt m (length lists)) [
-  | inl old ↦ subst (AreTouched l trees m n) (sym (get_or_append_left lists (js ∷ []) [] m old)) (h m old)
-  | inr new ↦
-      let here : m ≡ length lists = omega (arith, length-append lists (js ∷ [])) in
-      subst (λ k. AreTouched l trees k n (get_or (lists ++ js ∷ []) k [])) (sym here) (subst (AreTouched l trees (length lists) n) (sym (get_or-append_seam lists js [] [])) b)
-]
+  pub due_push : (n : ℕ) (leaves : List ℕ) (b : ℕ) → AreDue l trees k n leaves → IsLeafDue l k (tree_at trees n) b → AreDue l trees k (n + 1) (leaves ++ b ∷ [])
+  due_push n leaves b d is = record {
+    all = λ j c h so. elim (cases_lt j n) [
+      | inl old ↦ Contains-left leaves (b ∷ []) c (d.all j c old so)
+      | inr new ↦
+          let same : b ≡ c = leaf-same b c (sym is.0 ∙ ap (tree_at trees) (omega arith) ∙ so.0) in
+          subst (Contains (leaves ++ b ∷ [])) same (Contains-right leaves (b ∷ []) b (Contains-head b []))
+    ];
+    only = λ c m. elim (Contains-either leaves (b ∷ []) c m) [
+      | inl old ↦ let w = d.only c old in (w.0, (let z = w.1 in omega arith), w.2)
+      | inr new ↦ elim (Contains-cases b [] c new) [ inl e ↦ (n, omega arith, subst (IsLeafDue l k (tree_at trees n)) e is) | inr none ↦ absurd (Contains-nil c none) ]
+    ];
+    ascending = λ flat. rising n leaves b d is flat;
+  }
 
 -- lists without a number
 pub none_push : (lists : List (List ℕ)) → ((k : ℕ) → get_or lists k [] ≡ []) → (m : ℕ) → get_or (lists ++ [] ∷ []) m [] ≡ []

@@ -1,12 +1,16 @@
 -- The steps of a search: rows that hold no event are passed, and a whole row is an answer.
-use Rattle.zf_plan.proofs.Prelude.{◌++◌, ◌+◌, ◌<◌, ◌∙◌, ◌∷◌, ◌≡◌, ◌≤◌, ◌⊎◌, [], ap, arith, cond, drop, eqb, false, get_or, inl, inr, length, List, None, Option, refl, replicate, set, Some, subst, sym, take, true, ℕ, cases_eq, false≢true, get_or-replicate, get_or-set_other, get_or-set_same, length-replicate, length-set, take-take, take_all, IsTotalOrder, ◌≢◌, slice_get, Ordering, Equal, Less, enough, reaches-under, IsFrontOf-picked, IsRowOf-front, IsRowOf-length, picked-nil, slice_get-nth, Conjuncts, HaveOneTruth, IsTruthOf, KeepTruths, Event, IsEvent, AreWithin, picked, above, below, is_reached, reaches, Ahead, AreAllAhead, AreDueWithin, ended, IsAhead, SameAhead, Takes, ComesAfter, IsRowOf, False, Out, Truth, True, Step, Breaks, End, Holds, IsChoice, IsChosen, Remembers, ahead_of, bound, Forgets, Gives, GoesOn, is_over, IsAt, IsHopeless, IsSound, KeepsEvents, LandsNext, path, Stands, steps_left, planted, Tree, Place}
+use Rattle.zf_plan.proofs.Prelude.{Bool, suc, zero, ◌++◌, ◌+◌, ◌<◌, ◌∙◌, ◌∷◌, ◌≡◌, ◌≤◌, ◌⊎◌, [], ap, arith, cond, drop, eqb, false, get_or, inl, inr, length, List, None, Option, refl, set, Some, subst, sym, take, true, ℕ, cases_eq, false≢true, get_or-replicate, get_or-set_other, get_or-set_same, length-replicate, length-set, take-take, take_all, IsTotalOrder, ◌≢◌, slice_get, Ordering, Equal, Less, reaches-under, IsFrontOf-picked, IsRowOf-front, IsRowOf-length, picked-nil, slice_get-nth, Conjuncts, HaveOneTruth, IsTruthOf, KeepTruths, Event, IsEvent, AreWithin, picked, above, below, is_reached, reaches, Ahead, AreAllAhead, AreDueWithin, ended, IsAhead, SameAhead, Takes, ComesAfter, IsRowOf, False, Out, Truth, True, Step, Breaks, End, Holds, IsChoice, IsChosen, Remembers, ahead_of, bound, Gives, GoesOn, is_over, IsAt, IsHopeless, IsSoFar, IsSound, KeepsEvents, LandsNext, path, Stands, steps_left, planted, Tree, Place}
 use Rattle.zf_walk.proofs.Reaching.{IsLater-from, later-reached, unreached, IsAhead-from, IsAhead-to}
 use Rattle.zf_walk.proofs.Truths.{IsTruthOf-false, IsTruthOf-only}
-use Rattle.zf_plan.specs.Places.{begun}
-use Rattle.zf_plan.specs.declared.memo.Memo.{Memo}
+use Rattle.zf_plan.specs.Places.{begun, Finds, found_before, IsFound}
+use Rattle.zf_plan.specs.Knowing.{NeedsBelow, NeedsWithin}
+use Rattle.zf_plan.proofs.Forgetting.{are-forgotten}
+use Rattle.zf_plan.proofs.SoFar.{so-fewer, so-longer, so-none, so-refuted, so-whole}
+use Rattle.zf_walk.specs.Tables.{AreTrue}
+use Rattle.zf_plan.specs.Memories.{AreDues, Forgets, IsNew, Memory}
 use Rattle.zf_plan.specs.declared.plan.Plan.{Plan}
 use Rattle.zf_plan.proofs.TreeTruths.{planted-one, planted-kept, planted-due}
-use Rattle.zf_plan.proofs.Moving.{same-under, length-bound, length-path, IsFrom, from-fresh, from-past, Landed, landed, tells-landed}
+use Rattle.zf_plan.proofs.Moving.{enough, same-under, length-bound, length-path, last-value, IsFrom, from-fresh, from-past, Landed, landed, tells-landed}
 
 -- what the order, the leaves and what is gone over are known to be
 pub record Setting {V : Type 0} (cmp : V → V → Ordering) (l : Conjuncts V) (trees : List Tree) (ranges : List (List V)) (after : Option (List V)) (planned : Plan) : Type 0 where
@@ -60,64 +64,78 @@ module _ {V : Type 0} {cmp : V → V → Ordering} {l : Conjuncts V} {trees : Li
     moves-on = let h = lands in record { same = h.same; smaller = h.smaller }
 
     -- the leaves that need one value more are forgotten
-    moves-stand : (old new : Memo) → Remembers l ranges (bound p) old → length choices ≡ length ranges → Forgets l (k + 1) old.truths.items new.truths.items → Stands l trees ranges q new choices
-    moves-stand old new remembers long g =
+    moves-stand : (uses : ℕ → ℕ → Bool) (old new : Memory) → Remembers l uses ranges (bound p) old → length choices ≡ length ranges → Forgets (k + 1) old new
+        → ((j : ℕ) → j ≤ k → IsFound l trees (picked ranges (take j p.places.items)) j (get_or p.found.items j True)) → Stands l uses trees ranges q new choices
+    moves-stand uses old new remembers long g found =
         let h = lands in
+        let n = next.2 in
+        let fronts : (j : ℕ) → j ≤ k → j ≤ q.depth → take j p.places.items ≡ take j q.places.items =
+        λ j low deep'. sym (take-take j p.depth p.places.items (omega arith)) ∙ sym (h.fronts j low) ∙ take-take j q.depth q.places.items deep' in
         record {
           at = h.at;
-          remembers = record { tells = tells-landed l ranges k (bound p) (bound q) old.truths.items new.truths.items remembers.tells g (omega (arith, length-bound ranges p at)) (omega (arith, length-bound ranges q h.at, h.deep)) h.fronts };
+          remembers = record {
+            dues = subst (AreDues l) (sym g.dues) remembers.dues;
+            tells = tells-landed l ranges k (bound p) (bound q) old.truths new.truths remembers.tells (are-forgotten l (k + 1) old new remembers.dues g)
+                (omega (arith, length-bound ranges p at)) (omega (arith, length-bound ranges q h.at, h.deep)) h.fronts;
+            tables = subst (AreTrue l uses ranges) (sym g.tables) remembers.tables;
+          };
+          found = λ j m.
+              let low : j ≤ k = omega (arith, h.deep) in
+              subst (λ is. IsFound l trees (picked ranges is) j (get_or q.found.items j True)) (fronts j low (omega arith))
+              (subst (λ ts. IsFound l trees (picked ranges (take j p.places.items)) j (get_or ts j True)) (sym n.0) (found j low));
           all_choices = long;
           chosen = λ j m.
               let low : j ≤ k = omega (arith, h.deep) in
-              let same : take j p.places.items ≡ take j q.places.items = sym (take-take j p.depth p.places.items (omega arith)) ∙ sym (h.fronts j low) ∙ take-take j q.depth q.places.items (omega arith) in
-              subst (λ is. IsChoice l trees ranges (picked ranges is) (get_or ranges j []) (get_or choices j None)) same (chosen j low);
+              subst (λ is. IsChoice l trees ranges (picked ranges is) (get_or ranges j []) (get_or choices j None)) (fronts j low (omega arith)) (chosen j low);
         }
 
-  module _ (p q : Place) (first : Memo) (choices : List (Option (List ℕ))) (choice : Option (List ℕ)) (st : Stands l trees ranges p first choices) (here : IsChoice l trees ranges (path ranges p) (get_or ranges p.depth []) choice) (f : p.fresh ≡ true)
+  module _ (p q : Place) (choices : List (Option (List ℕ))) (choice : Option (List ℕ)) (at : IsAt ranges p) (all : length choices ≡ length ranges)
+      (before : (j : ℕ) → j < p.depth → IsChoice l trees ranges (picked ranges (take j p.places.items)) (get_or ranges j []) (get_or choices j None))
+      (here : IsChoice l trees ranges (path ranges p) (get_or ranges p.depth []) choice) (f : p.fresh ≡ true)
       (near : p.depth < length ranges) (next : LandsNext (length (get_or ranges p.depth [])) (get_or (set choices p.depth choice) p.depth None) p.depth 0 p q) where
     all-chosen : (j : ℕ) → j ≤ p.depth → IsChoice l trees ranges (picked ranges (take j p.places.items)) (get_or ranges j []) (get_or (set choices p.depth choice) j None)
     all-chosen j h = elim (cases_eq j p.depth) [
       | inl e ↦
-          let is : get_or (set choices p.depth choice) j None ≡ choice = ap (λ i. get_or (set choices p.depth choice) i None) e ∙ get_or-set_same choices p.depth choice None (omega (arith, st.all_choices)) in
-          subst (IsChoice l trees ranges (picked ranges (take j p.places.items)) (get_or ranges j [])) (sym is) (subst (λ i. IsChoice l trees ranges (picked ranges (take i p.places.items)) (get_or ranges i []) choice) (sym e) here)
+          let is : get_or (set choices p.depth choice) j None ≡ choice =
+          ap (λ i. get_or (set choices p.depth choice) i None) e ∙ get_or-set_same choices p.depth choice None (omega (arith, all)) in
+          subst (IsChoice l trees ranges (picked ranges (take j p.places.items)) (get_or ranges j [])) (sym is)
+          (subst (λ i. IsChoice l trees ranges (picked ranges (take i p.places.items)) (get_or ranges i []) choice) (sym e) here)
       | inr ne ↦
-          subst (IsChoice l trees ranges (picked ranges (take j p.places.items)) (get_or ranges j [])) (sym (get_or-set_other choices p.depth j choice None ne)) (st.chosen j (omega arith))
+          subst (IsChoice l trees ranges (picked ranges (take j p.places.items)) (get_or ranges j []))
+          (sym (get_or-set_other choices p.depth j choice None ne)) (before j (omega arith))
     ]
 
+    first-from : IsFrom cmp ranges p p.depth (path ranges p) 0
+    first-from = from-fresh cmp given.total (given.sound).ties ranges (given.sound).ascending p at p.depth near f refl
+
     pub descends : GoesOn cmp (planted l trees) ranges after p q
-    descends = moves-on p q (set choices p.depth choice) p.depth 0 st.at near (omega arith) all-chosen (from-fresh cmp given.total (given.sound).ties ranges (given.sound).ascending p st.at p.depth near f refl) next
+    descends = moves-on p q (set choices p.depth choice) p.depth 0 at near (omega arith) all-chosen first-from next
 
-    pub descends-stand : (old new : Memo) → Remembers l ranges (bound p) old → Forgets l (p.depth + 1) old.truths.items new.truths.items → Stands l trees ranges q new (set choices p.depth choice)
-    descends-stand old new remembers g =
-        moves-stand p q (set choices p.depth choice) p.depth 0 st.at near (omega arith) all-chosen (from-fresh cmp given.total (given.sound).ties ranges (given.sound).ascending p st.at p.depth near f refl) next old new remembers
-        (length-set choices p.depth choice ∙ st.all_choices) g
+    pub descends-stand : (uses : ℕ → ℕ → Bool) (old new : Memory) → Remembers l uses ranges (bound p) old → Forgets (p.depth + 1) old new
+        → ((j : ℕ) → j ≤ p.depth → IsFound l trees (picked ranges (take j p.places.items)) j (get_or p.found.items j True)) → Stands l uses trees ranges q new (set choices p.depth choice)
+    descends-stand uses old new remembers g found =
+        moves-stand p q (set choices p.depth choice) p.depth 0 at near (omega arith) all-chosen first-from next uses old new remembers
+        (length-set choices p.depth choice ∙ all) g found
 
-  module _ (p q : Place) (old : Memo) (choices : List (Option (List ℕ))) (k : ℕ) (st : Stands l trees ranges p old choices) (f : p.fresh ≡ false) (d : p.depth ≡ k + 1)
+  module _ (uses : ℕ → ℕ → Bool) (p q : Place) (old : Memory) (choices : List (Option (List ℕ))) (k : ℕ) (st : Stands l uses trees ranges p old choices) (f : p.fresh ≡ false) (d : p.depth ≡ k + 1)
       (next : LandsNext (length (get_or ranges k [])) (get_or choices k None) k (get_or p.places.items k 0 + 1) p q) where
     near-last : k < length ranges
     near-last = let at = st.at in omega (arith, at.shallow)
 
+    last-from : IsFrom cmp ranges p k (picked ranges (take k p.places.items)) (get_or p.places.items k 0 + 1)
+    last-from = from-past cmp given.total (given.sound).ties ranges (given.sound).ascending p st.at k near-last f d
+
     pub retreats : GoesOn cmp (planted l trees) ranges after p q
-    retreats =
-        moves-on p q choices k (get_or p.places.items k 0 + 1) st.at near-last (omega arith) (λ j h. st.chosen j (omega arith)) (from-past cmp given.total (given.sound).ties ranges (given.sound).ascending p st.at k near-last f d) next
+    retreats = moves-on p q choices k (get_or p.places.items k 0 + 1) st.at near-last (omega arith) (λ j h. st.chosen j (omega arith)) last-from next
 
-    pub retreats-stand : (new : Memo) → Forgets l (k + 1) old.truths.items new.truths.items → Stands l trees ranges q new choices
+    pub retreats-stand : (new : Memory) → Forgets (k + 1) old new → Stands l uses trees ranges q new choices
     retreats-stand new g =
-        moves-stand p q choices k (get_or p.places.items k 0 + 1) st.at near-last (omega arith) (λ j h. st.chosen j (omega arith)) (from-past cmp given.total (given.sound).ties ranges (given.sound).ascending p st.at k near-last f d) next old new st.remembers st.all_choices g
+        moves-stand p q choices k (get_or p.places.items k 0 + 1) st.at near-last (omega arith) (λ j h. st.chosen j (omega arith)) last-from next
+        uses old new st.remembers st.all_choices g (λ j h. st.found j (omega arith))
 
-  -- where no choice was made
-  pub unchosen : (p : Place) (first new : Memo) (choices : List (Option (List ℕ))) (choice : Option (List ℕ)) → Stands l trees ranges p first choices → Remembers l ranges (bound p) new → Stands l trees ranges p new (set choices p.depth choice)
-  unchosen p first new choices choice st remembers = record {
-    at = st.at;
-    remembers = remembers;
-    all_choices = length-set choices p.depth choice ∙ st.all_choices;
-    chosen = λ j m. subst (IsChoice l trees ranges (picked ranges (take j p.places.items)) (get_or ranges j [])) (sym (get_or-set_other choices p.depth j choice None (λ e. omega arith))) (st.chosen j m);
-  }
-
-  pub passes : (p q : Place) (memo : Memo) (choices : List (Option (List ℕ))) → Stands l trees ranges p memo choices → p.fresh ≡ true → q.fresh ≡ false → q.places.items ≡ p.places.items → q.depth ≡ p.depth
+  pub passes : (p q : Place) → IsAt ranges p → p.fresh ≡ true → q.fresh ≡ false → q.places.items ≡ p.places.items → q.depth ≡ p.depth
       → IsHopeless cmp l trees (length ranges) after (path ranges p) → GoesOn cmp (planted l trees) ranges after p q
-  passes p q memo choices st f g ps d h =
-      let at = st.at in
+  passes p q at f g ps d h =
       let same : path ranges q ≡ path ranges p = ap (λ is. picked ranges (take q.depth is)) ps ∙ ap (λ k. picked ranges (take k p.places.items)) d in
       let stairs : bound q ≡ bound p = ap (λ is. take q.depth is) ps ∙ ap (λ k. take k p.places.items) d in
       record {
@@ -127,15 +145,57 @@ module _ {V : Type 0} {cmp : V → V → Ordering} {l : Conjuncts V} {trees : Li
             ∙ sym (reaches-under cmp given.total false (path ranges p) e.row)
             ∙ sym (ap (λ b. reaches cmp b (path ranges q) e.row) g ∙ ap (λ r. reaches cmp false r e.row) same);
         smaller =
-            let a : steps_left ranges p ≡ below 0 (drop p.depth ranges) + above 0 ranges (bound p) = ap (λ b. cond b (below 0 (drop p.depth ranges)) 1 + above 0 ranges (bound p)) f in
-            let z : steps_left ranges q ≡ 1 + above 0 ranges (bound p) =
-            ap (λ b. cond b (below 0 (drop q.depth ranges)) 1 + above 0 ranges (bound q)) g ∙ ap (λ is. 1 + above 0 ranges is) stairs in
-            omega (arith, a, z, enough 0 (drop p.depth ranges));
+            let a : steps_left ranges p ≡ below (drop p.depth ranges) + above ranges (bound p) = ap (λ b. cond b (below (drop p.depth ranges)) 1 + above ranges (bound p)) f in
+            let z : steps_left ranges q ≡ 1 + above ranges (bound p) =
+            ap (λ b. cond b (below (drop q.depth ranges)) 1 + above ranges (bound q)) g ∙ ap (λ is. 1 + above ranges is) stairs in
+            omega (arith, a, z, enough (drop p.depth ranges));
       }
 
-  -- a whole row on which a conjunct is False
-  pub refuted-whole : (p : Place) → IsAt ranges p → length ranges ≤ p.depth → IsTruthOf (planted l trees) (path ranges p) False → IsHopeless cmp l trees (length ranges) after (path ranges p)
-  refuted-whole p at whole r = inr (r.0, r.1, λ more. keep r.0 (path ranges p) more False r.1 (let d = due r.0 r.1 in omega (arith, length-path ranges p at)) r.2)
+  -- ---- what a test finds
+
+  -- what was found on the values before the last one
+  pub before-found : (uses : ℕ → ℕ → Bool) (p : Place) (memo : Memory) (choices : List (Option (List ℕ))) → Stands l uses trees ranges p memo choices
+      → (found_before p.found.items p.depth ≢ False) × IsSoFar l trees (path ranges p) (NeedsBelow l trees p.depth) (found_before p.found.items p.depth)
+  before-found uses p memo choices st = go p.depth refl where
+    go : (d : ℕ) → p.depth ≡ d → (found_before p.found.items d ≢ False) × IsSoFar l trees (path ranges p) (NeedsBelow l trees d) (found_before p.found.items d)
+    go zero e = ((λ z. let y : True ≡ False = z in cc), so-none l trees (NeedsBelow l trees 0) (path ranges p) (λ j m h. omega arith))
+    go (suc k) e =
+        let f = st.found k (omega arith) in
+        let last = last-value ranges p st.at k (omega (arith, e)) in
+        let t = get_or p.found.items k True in (
+          f.not_false,
+          subst (λ row. IsSoFar l trees row (NeedsBelow l trees (suc k)) t) (sym last.2)
+              (so-longer l trees (NeedsBelow l trees (suc k)) (picked ranges (take k p.places.items)) (last.0 ∷ []) t
+              (so-fewer l trees (NeedsWithin l trees k) (NeedsBelow l trees (suc k)) (picked ranges (take k p.places.items)) t (λ j m h. omega arith) f.so)),
+        )
+
+  pub finds-unreached : (row : List V) → is_reached cmp after (length ranges) row ≡ false → Finds cmp l trees (length ranges) after row False
+  unfolding Finds
+  finds-unreached row e = inl e
+
+  pub finds-from : (row : List V) (t : Truth) → is_reached cmp after (length ranges) row ≡ true → IsSoFar l trees row (NeedsWithin l trees (length row)) t → Finds cmp l trees (length ranges) after row t
+  unfolding Finds
+  finds-from row False r h = inr (so-refuted l trees (NeedsWithin l trees (length row)) row h)
+  finds-from row True r h = (r, h)
+  finds-from row Out r h = (r, h)
+
+  -- False
+  pub finds-hopeless : (row : List V) (t : Truth) → t ≡ False → Finds cmp l trees (length ranges) after row t → IsHopeless cmp l trees (length ranges) after row
+  unfolding Finds
+  finds-hopeless row False e h = h
+  finds-hopeless row True e h = absurd (cc)
+  finds-hopeless row Out e h = absurd (cc)
+
+  -- or the truth of the conjuncts that need no more values
+  pub finds-reached : (row : List V) (t : Truth) → t ≢ False → Finds cmp l trees (length ranges) after row t
+      → (is_reached cmp after (length ranges) row ≡ true) × IsSoFar l trees row (NeedsWithin l trees (length row)) t
+  unfolding Finds
+  finds-reached row False ne h = absurd (ne refl)
+  finds-reached row True ne h = h
+  finds-reached row Out ne h = h
+
+  pub finds-whole : (row : List V) (t : Truth) → length row ≡ length ranges → t ≢ False → Finds cmp l trees (length ranges) after row t → IsTruthOf (planted l trees) row t
+  finds-whole row t long ne h = so-whole l trees (length row) row t (λ j m. let d = due j m in omega (arith, long)) ne (finds-reached row t ne h).1
 
   -- ---- answers
 
@@ -233,30 +293,25 @@ pub setting-of : {V : Type 0} {cmp : V → V → Ordering} {l : Conjuncts V} {tr
 setting-of o one keep sound = record { total = o; one_truth = one; kept = keep; sound = sound }
 
 -- no value is bound and nothing is known
-pub stands-first : {V : Type 0} (l : Conjuncts V) (trees : List Tree) (ranges : List (List V)) (p : Place) (memo : Memo) (choices : List (Option (List ℕ))) → p.depth ≡ 0 → length p.places.items ≡ length ranges
-    → memo.truths.items ≡ replicate l.number None → length choices ≡ length ranges → Stands l trees ranges p memo choices
-stands-first l trees ranges p memo choices d long e all = record {
+pub stands-first : {V : Type 0} (l : Conjuncts V) (uses : ℕ → ℕ → Bool) (trees : List Tree) (ranges : List (List V)) (p : Place) (memo : Memory) (choices : List (Option (List ℕ)))
+    → p.depth ≡ 0 → length p.places.items ≡ length ranges → length p.found.items ≡ length ranges
+    → IsNew l uses ranges memo → length choices ≡ length ranges → Stands l uses trees ranges p memo choices
+stands-first l uses trees ranges p memo choices d long found new all = record {
   at = record {
     all_places = long;
+    all_found = found;
     shallow = omega arith;
     within = subst (λ k. AreWithin ranges (take k p.places.items)) (sym d) (record { few = omega arith; each = λ k h. absurd (omega arith) });
   };
   remembers = record {
+    dues = new.dues;
     tells = record {
-      all = ap length e ∙ length-replicate l.number None;
-      right = λ c t m n f. absurd (let z : get_or memo.truths.items c None ≡ None = ap (λ xs. get_or xs c None) e ∙ get_or-replicate l.number c None None m in cc);
+      all = ap length new.none ∙ length-replicate l.number None;
+      right = λ c t m n f. absurd (let z : get_or memo.truths c None ≡ None = ap (λ xs. get_or xs c None) new.none ∙ get_or-replicate l.number c None None m in cc);
     };
+    tables = new.tables;
   };
+  found = λ k m. absurd (omega arith);
   all_choices = all;
   chosen = λ k m. absurd (omega arith);
-}
-
--- what is remembered at a list of places that is the bound one
-pub stands-told : {V : Type 0} (l : Conjuncts V) (trees : List Tree) (ranges : List (List V)) (p : Place) (old new : Memo) (choices : List (Option (List ℕ))) (all : List ℕ) → all ≡ p.places.items → Stands l trees ranges p old choices
-    → Remembers l ranges (take p.depth all) new → Stands l trees ranges p new choices
-stands-told l trees ranges p old new choices all e st h = record {
-  at = st.at;
-  remembers = subst (λ is. Remembers l ranges (take p.depth is) new) e h;
-  all_choices = st.all_choices;
-  chosen = st.chosen;
 }

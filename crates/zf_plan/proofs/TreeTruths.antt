@@ -1,5 +1,5 @@
--- Trees have one truth and keep it, as their leaves; and the truth of all conjuncts, one after another.
-use Rattle.zf_plan.proofs.Prelude.{◌++◌, ◌+◌, ◌<◌, ◌∙◌, ◌≡◌, ◌≤◌, ◌⊎◌, [], ap, arith, inl, inr, length, List, refl, subst, sym, ℕ, cases_eq, append-nil, Conjuncts, HaveOneTruth, IsTruthOf, KeepTruths, AreDueWithin, Truth, False, Out, True, conjoined, IsSettled, both, due_of, either, HasLeavesWithin, HaveLeavesWithin, IsOfBoth, IsOfEither, IsTreeTruth, leaf, negated, opposite, planted, Tree, tree_at}
+-- Trees have one truth and keep it, as their leaves.
+use Rattle.zf_plan.proofs.Prelude.{◌++◌, ◌∙◌, ◌≡◌, ◌≤◌, ◌⊎◌, [], ap, arith, inl, inr, length, List, refl, subst, sym, ℕ, append-nil, Conjuncts, HaveOneTruth, KeepTruths, AreDueWithin, Truth, False, Out, True, IsSettled, both, due_of, either, HasLeavesWithin, HaveLeavesWithin, IsOfBoth, IsOfEither, IsTreeTruth, leaf, negated, opposite, planted, Tree, tree_at}
 
 -- ---- one truth
 
@@ -120,26 +120,7 @@ due-within l n due (either a b) m = omega (arith, due-within l n due a m.0, due-
 pub planted-due : {V : Type 0} (l : Conjuncts V) (n : ℕ) → AreDueWithin l n → (trees : List Tree) → HaveLeavesWithin l.number trees → AreDueWithin (planted l trees) n
 planted-due l n due trees w c h = due-within l n due (tree_at trees c) (w c (leaf 0) h)
 
--- ---- all conjuncts, one after another
-
-abbrev pub firsts : {V : Type 0} → Conjuncts V → ℕ → Conjuncts V
-firsts s n = record { number = n; due = s.due; says = s.says }
+-- ---- settled truths
 
 pub settled-here : {V : Type 0} (l : Conjuncts V) (tree : Tree) (row : List V) (t : Truth) → IsSettled l tree row t → IsTreeTruth l tree row t
 settled-here l tree row t h = subst (λ r. IsTreeTruth l tree r t) (append-nil row) (h [])
-
-module _ {V : Type 0} (s : Conjuncts V) (row : List V) where
-  one-more : (P : ℕ → Type 0) (n : ℕ) → ((c : ℕ) → c < n → P c) → P n → (c : ℕ) → c < n + 1 → P c
-  one-more P n h p c m = elim (cases_eq c n) [ inl e ↦ subst P (sym e) p | inr ne ↦ h c (omega arith) ]
-
-  some-more : (t : Truth) (n : ℕ) → (c : ℕ) × (c < n) × s.says c row t → (c : ℕ) × (c < n + 1) × s.says c row t
-  some-more t n w = (w.0, let h : w.0 < n = w.1 in omega arith, w.2)
-
-  pub firsts-more : (n : ℕ) (t u : Truth) → IsTruthOf (firsts s n) row t → s.says n row u → IsTruthOf (firsts s (n + 1)) row (conjoined t u)
-  firsts-more n False u h k = some-more False n h
-  firsts-more n True True h k = one-more (λ c. s.says c row True) n h k
-  firsts-more n True False h k = (n, omega arith, k)
-  firsts-more n True Out h k = (one-more (λ c. s.says c row True ⊎ s.says c row Out) n (λ c m. inl (h c m)) (inr k), (n, omega arith, k))
-  firsts-more n Out True h k = (one-more (λ c. s.says c row True ⊎ s.says c row Out) n h.0 (inl k), some-more Out n h.1)
-  firsts-more n Out False h k = (n, omega arith, k)
-  firsts-more n Out Out h k = (one-more (λ c. s.says c row True ⊎ s.says c row Out) n h.0 (inr k), (n, omega arith, k))

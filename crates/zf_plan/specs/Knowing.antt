@@ -1,11 +1,12 @@
 -- What is known of leaves and trees at a row: for private contracts and the model of `Search` alone.
-use Rattle.std.specs.Prelude.{◌≡◌, ℕ, ◌<◌, ◌≤◌, Bool, true, false, List, ◌++◌, length, take, slice_index_or, Option, Some, None}
+use Rattle.std.specs.Prelude.{◌≡◌, ◌⊎◌, ℕ, ◌<◌, ◌≤◌, Bool, List, ◌++◌, length, take, slice_index_or, Contains, Option, Some, None}
 use Rattle.zf_walk.specs.declared.judge.Truth.{Truth}
 use Rattle.zf_walk.specs.declared.judge.Truth.TheVariants.{True, False, Out}
 use Rattle.zf_walk.specs.Conjuncts.{Conjuncts}
 use Rattle.zf_walk.specs.Picked.{picked}
-use Rattle.zf_plan.specs.declared.memo.Memo.{Memo}
-use Rattle.zf_plan.specs.Trees.{Tree, opposite, IsTreeTruth, due_of, tree_at}
+use Rattle.zf_walk.specs.Tables.{AreTrue}
+use Rattle.zf_plan.specs.Memories.{Memory, AreDues}
+use Rattle.zf_plan.specs.Trees.{Tree, leaf, opposite, IsTreeTruth, due_of, tree_at}
 
 -- what was told of a leaf that needs no more values than there are is its truth on those that it needs
 pub record Tells {V : Type 0} (l : Conjuncts V) (ranges : List (List V)) (places : List ℕ) (told : List (Option Truth)) : Type 0 where
@@ -13,8 +14,10 @@ pub record Tells {V : Type 0} (l : Conjuncts V) (ranges : List (List V)) (places
   pub right : (c : ℕ) (t : Truth) → c < l.number → l.due c ≤ length places → slice_index_or told c None ≡ Some t → l.says c (picked ranges (take (l.due c) places)) t
 
 -- what a search remembers is right at these places
-pub record Remembers {V : Type 0} (l : Conjuncts V) (ranges : List (List V)) (places : List ℕ) (memo : Memo) : Type 0 where
-  pub tells : Tells l ranges places memo.truths.items
+pub record Remembers {V : Type 0} (l : Conjuncts V) (uses : ℕ → ℕ → Bool) (ranges : List (List V)) (places : List ℕ) (m : Memory) : Type 0 where
+  pub dues : AreDues l m.dues
+  pub tells : Tells l ranges places m.truths
+  pub tables : AreTrue l uses ranges m.tables
 
 -- the truth of a tree on every row that begins with this one
 abbrev pub IsSettled : {V : Type 0} → Conjuncts V → Tree → List V → Truth → Type 0
@@ -45,13 +48,6 @@ known_both (Some Out) (Some Out) = Some Out
 abbrev pub known_either : Option Truth → Option Truth → Option Truth
 known_either a b = known_not (known_both (known_not a) (known_not b))
 
--- whether it is known to be False
-abbrev pub known_false : Option Truth → Bool
-known_false None = false
-known_false (Some True) = false
-known_false (Some False) = true
-known_false (Some Out) = false
-
 -- the truth of two conjuncts
 abbrev pub conjoined : Truth → Truth → Truth
 conjoined True u = u
@@ -60,9 +56,41 @@ conjoined Out True = Out
 conjoined Out False = False
 conjoined Out Out = Out
 
+-- the same where the second may not be known
+abbrev pub joined : Truth → Option Truth → Truth
+joined t None = t
+joined t (Some u) = conjoined t u
+
 -- one of the conjuncts is False on every row that begins with this one
 abbrev pub IsRefuted : {V : Type 0} → Conjuncts V → List Tree → List V → Type 0
 IsRefuted l trees row = (j : ℕ) × (j < length trees) × IsSettled l (tree_at trees j) row False
+
+-- the truth of the conjuncts of which P holds, on every row that begins with this one: False where some conjunct is, else True where all of these are, else Out where some conjunct is
+unfoldable pub IsSoFar : {V : Type 0} → Conjuncts V → List Tree → List V → (ℕ → Type 0) → Truth → Type 0
+IsSoFar l trees row P False = IsRefuted l trees row
+IsSoFar l trees row P True = (j : ℕ) → j < length trees → P j → IsSettled l (tree_at trees j) row True
+IsSoFar l trees row P Out = ((j : ℕ) → j < length trees → P j → IsSettled l (tree_at trees j) row True ⊎ IsSettled l (tree_at trees j) row Out)
+    × ((j : ℕ) × (j < length trees) × IsSettled l (tree_at trees j) row Out)
+
+-- the conjunct needs at most k values
+abbrev pub NeedsWithin : {V : Type 0} → Conjuncts V → List Tree → ℕ → ℕ → Type 0
+NeedsWithin l trees k j = due_of l (tree_at trees j) ≤ k
+
+-- the conjunct needs fewer than k values
+abbrev pub NeedsBelow : {V : Type 0} → Conjuncts V → List Tree → ℕ → ℕ → Type 0
+NeedsBelow l trees k j = due_of l (tree_at trees j) < k
+
+-- the tree is a leaf that needs k values
+abbrev pub IsLeafDue : {V : Type 0} → Conjuncts V → ℕ → Tree → ℕ → Type 0
+IsLeafDue l k tree c = (tree ≡ leaf c) × (l.due c ≡ k)
+
+-- the conjunct needs fewer than k values, or it is a leaf that needs so many
+abbrev pub IsLeafOrBelow : {V : Type 0} → Conjuncts V → List Tree → ℕ → ℕ → Type 0
+IsLeafOrBelow l trees k j = NeedsBelow l trees k j ⊎ (c : ℕ) × IsLeafDue l k (tree_at trees j) c
+
+-- or it is one of these and needs at most k values
+abbrev pub IsAmong : {V : Type 0} → Conjuncts V → List Tree → ℕ → List ℕ → ℕ → Type 0
+IsAmong l trees k conjuncts j = IsLeafOrBelow l trees k j ⊎ Contains conjuncts j × NeedsWithin l trees k j
 
 -- each of these is less
 abbrev pub AreBelow : ℕ → List ℕ → Type 0

@@ -4,7 +4,10 @@ pub mod Choices
 pub mod Progress
 pub mod Alike
 pub mod Laws
+pub mod Memories
+pub mod Stamps
 pub mod Knowing
+pub mod Testing
 pub mod Choosing
 pub mod Places
 pub mod Counts

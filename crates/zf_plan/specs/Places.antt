@@ -1,8 +1,8 @@
 -- Where a search is, and what its steps do: for private contracts and the model of `Search` alone.
-use Rattle.std.specs.Prelude.{◌≡◌, ◌≢◌, ◌⊎◌, ℕ, ◌+◌, ◌<◌, ◌≤◌, Bool, true, false, cond, eqb, ◌||◌, nat_eq, List, [], length, take, drop, slice_index_or, slice_set, AllPairs, Contains, Option, Some, None}
+use Rattle.std.specs.Prelude.{◌≡◌, ◌≢◌, ◌⊎◌, ℕ, zero, suc, ◌+◌, ◌-◌, ◌*◌, ◌<◌, ◌≤◌, Bool, true, false, cond, eqb, ◌||◌, nat_eq, List, [], ◌∷◌, length, take, drop, slice_index_or, slice_set, AllPairs, Contains, Option, Some, None}
 use Rattle.std.specs.declared.cmp.Ordering.{Ordering}
 use Rattle.zf_walk.specs.declared.judge.Truth.{Truth}
-use Rattle.zf_walk.specs.declared.judge.Truth.TheVariants.{True, Out}
+use Rattle.zf_walk.specs.declared.judge.Truth.TheVariants.{True, False, Out}
 use Rattle.zf_walk.specs.declared.step.Step.{Step}
 use Rattle.zf_walk.specs.declared.step.Step.TheVariants.{Holds, Breaks, End}
 use Rattle.zf_walk.specs.Conjuncts.{Conjuncts}
@@ -10,12 +10,12 @@ use Rattle.zf_walk.specs.RowLaws.{TiesAreEqual, AreAscending, HasLength}
 use Rattle.zf_walk.specs.Events.{Event, IsEvent}
 use Rattle.zf_walk.specs.Progress.{Ahead, AreDueWithin, Takes, IsNoneAhead, ended}
 use Rattle.zf_walk.specs.Picked.{AreWithin, picked}
-use Rattle.zf_walk.specs.Places.{IsAgenda, reaches, is_reached, below, above}
+use Rattle.zf_walk.specs.Order.{reaches, is_reached}
 use Rattle.zf_plan.specs.declared.place.Place.{Place}
 use Rattle.zf_plan.specs.declared.plan.Plan.{Plan}
-use Rattle.zf_plan.specs.declared.memo.Memo.{Memo}
+use Rattle.zf_plan.specs.Memories.{Memory}
 use Rattle.zf_plan.specs.Trees.{Tree, leaf, negated, both, either, tree_at, HaveLeavesWithin}
-use Rattle.zf_plan.specs.Knowing.{Remembers, IsRefuted, AreBelow}
+use Rattle.zf_plan.specs.Knowing.{Remembers, IsRefuted, IsSoFar, IsLeafDue, NeedsWithin, AreBelow}
 use Rattle.zf_plan.specs.Choosing.{IsChoice, IsNextChoice}
 
 -- ---- plans
@@ -27,32 +27,40 @@ touches l due (negated a) = touches l due a
 touches l due (both a b) = touches l due a || touches l due b
 touches l due (either a b) = touches l due a || touches l due b
 
--- for each number up to n a list of numbers below another
-pub record AreListed (count n : ℕ) (lists : List (List ℕ)) : Type 0 where
-  pub all : length lists ≡ n + 1
-  pub below : (k : ℕ) → k < length lists → AreBelow count (slice_index_or lists k [])
+-- whether a tree that is no leaf has a leaf that needs so many values
+abbrev pub touches_inside : {V : Type 0} → Conjuncts V → ℕ → Tree → Bool
+touches_inside l due (leaf c) = false
+touches_inside l due (negated a) = touches l due a
+touches_inside l due (both a b) = touches l due a || touches l due b
+touches_inside l due (either a b) = touches l due a || touches l due b
 
--- of the first n conjuncts those that have a leaf which needs k values, in order
+-- the leaves that the first n conjuncts are, as far as these are leaves that need k values; in order, where each conjunct is the leaf with its number
+pub record AreDue {V : Type 0} (l : Conjuncts V) (trees : List Tree) (k n : ℕ) (leaves : List ℕ) : Type 0 where
+  pub all : (j c : ℕ) → j < n → IsLeafDue l k (tree_at trees j) c → Contains leaves c
+  pub only : (c : ℕ) → Contains leaves c → (j : ℕ) × (j < n) × IsLeafDue l k (tree_at trees j) c
+  pub ascending : ((j : ℕ) → j < n → tree_at trees j ≡ leaf j) → AllPairs (λ i j. i < j) leaves
+
+-- the first n conjuncts, as far as they are no leaves and have a leaf that needs k values
 pub record AreTouched {V : Type 0} (l : Conjuncts V) (trees : List Tree) (k n : ℕ) (numbers : List ℕ) : Type 0 where
   pub below : AreBelow n numbers
-  pub ascending : AllPairs (λ i j. i < j) numbers
-  pub all : (c : ℕ) → c < n → touches l k (tree_at trees c) ≡ true → Contains numbers c
-  pub only : (c : ℕ) → Contains numbers c → touches l k (tree_at trees c) ≡ true
+  pub all : (j : ℕ) → j < n → touches_inside l k (tree_at trees j) ≡ true → Contains numbers j
+  pub only : (j : ℕ) → Contains numbers j → touches_inside l k (tree_at trees j) ≡ true
 
--- for each number of values up to n the conjuncts that it touches
-pub record AreAllTouched {V : Type 0} (l : Conjuncts V) (trees : List Tree) (n : ℕ) (lists : List (List ℕ)) : Type 0 where
+-- for each number of values up to n a list of which P holds
+pub record AreAll (P : ℕ → List ℕ → Type 0) (n : ℕ) (lists : List (List ℕ)) : Type 0 where
   pub all : length lists ≡ n + 1
-  pub each : (k : ℕ) → k < length lists → AreTouched l trees k (length trees) (slice_index_or lists k [])
+  pub each : (k : ℕ) → k < length lists → P k (slice_index_or lists k [])
 
 pub record IsPlan {V : Type 0} (l : Conjuncts V) (trees : List Tree) (n : ℕ) (plan : Plan) : Type 0 where
-  pub agenda : IsAgenda l n plan.agenda
-  pub touched : AreAllTouched l trees n plan.touched.items
-  pub narrowing : AreListed (length trees) n plan.narrowing.items
+  pub due : AreAll (λ k. AreDue l trees k (length trees)) n plan.due.items
+  pub touched : AreAll (λ k. AreTouched l trees k (length trees)) n plan.touched.items
+  pub narrowing : AreAll (λ k. AreBelow (length trees)) n plan.narrowing.items
 
 -- ---- places
 
 pub record IsAt {V : Type 0} (ranges : List (List V)) (p : Place) : Type 0 where
   pub all_places : length p.places.items ≡ length ranges
+  pub all_found : length p.found.items ≡ length ranges
   pub shallow : p.depth ≤ length ranges
   pub within : AreWithin ranges (take p.depth p.places.items)
 
@@ -70,10 +78,21 @@ ahead_of ranges p = record { path = path ranges p; here = p.fresh }
 abbrev pub begun : {V : Type 0} → Ahead V
 begun = record { path = []; here = true }
 
--- what holds between two steps: what is remembered is right, and for each value that is bound what was chosen of its range
-pub record Stands {V : Type 0} (l : Conjuncts V) (trees : List Tree) (ranges : List (List V)) (p : Place) (memo : Memo) (choices : List (Option (List ℕ))) : Type 0 where
+-- what was found on the first values, but for the last of so many
+abbrev pub found_before : List Truth → ℕ → Truth
+found_before found zero = True
+found_before found (suc k) = slice_index_or found k True
+
+-- it is the truth of the conjuncts that need no more of them, and not False
+pub record IsFound {V : Type 0} (l : Conjuncts V) (trees : List Tree) (row : List V) (k : ℕ) (t : Truth) : Type 0 where
+  pub so : IsSoFar l trees row (NeedsWithin l trees k) t
+  pub not_false : t ≢ False
+
+-- what holds between two steps: what is remembered and was found is right, and for each value that is bound what was chosen of its range
+pub record Stands {V : Type 0} (l : Conjuncts V) (uses : ℕ → ℕ → Bool) (trees : List Tree) (ranges : List (List V)) (p : Place) (memo : Memory) (choices : List (Option (List ℕ))) : Type 0 where
   pub at : IsAt ranges p
-  pub remembers : Remembers l ranges (bound p) memo
+  pub remembers : Remembers l uses ranges (bound p) memo
+  pub found : (k : ℕ) → k < p.depth → IsFound l trees (picked ranges (take k p.places.items)) k (slice_index_or p.found.items k True)
   pub all_choices : length choices ≡ length ranges
   pub chosen : (k : ℕ) → k < p.depth → IsChoice l trees ranges (picked ranges (take k p.places.items)) (slice_index_or ranges k []) (slice_index_or choices k None)
 
@@ -86,9 +105,20 @@ pub record IsSound {V : Type 0} (cmp : V → V → Ordering) (l : Conjuncts V) (
   pub leaves : HaveLeavesWithin l.number trees
   pub plan : IsPlan l trees (length ranges) planned
 
+-- how many steps a search from a row on takes at most
+abbrev pub below : {V : Type 0} → List (List V) → ℕ
+below [] = 2
+below (range ∷ ranges) = 2 + length range * below ranges
+
+-- how many steps are left beside and above these places
+abbrev pub above : {V : Type 0} → List (List V) → List ℕ → ℕ
+above [] places = 0
+above (range ∷ ranges) [] = 0
+above (range ∷ ranges) (i ∷ places) = (length range - suc i) * below ranges + 1 + above ranges places
+
 -- how many steps are left
 abbrev pub steps_left : {V : Type 0} → List (List V) → Place → ℕ
-steps_left ranges p = cond p.fresh (below 0 (drop p.depth ranges)) 1 + above 0 ranges (bound p)
+steps_left ranges p = cond p.fresh (below (drop p.depth ranges)) 1 + above ranges (bound p)
 
 -- whether there is nothing to be tried any more
 abbrev pub is_over : Place → Bool
@@ -96,16 +126,10 @@ is_over p = cond p.fresh false (eqb p.depth 0)
 
 -- ---- moves
 
--- nothing is kept of the leaves that need k values, and all of the others
-pub record Forgets {V : Type 0} (l : Conjuncts V) (k : ℕ) (old new : List (Option Truth)) : Type 0 where
-  pub all : length new ≡ length old
-  pub others : (c : ℕ) → c < l.number → l.due c ≢ k → slice_index_or new c None ≡ slice_index_or old c None
-  pub none : (c : ℕ) → c < l.number → l.due c ≡ k → slice_index_or new c None ≡ None
-
 -- the value at place i of range k is bound as the last one, or where the range ends before it the row before it is passed
 abbrev pub Lands : ℕ → ℕ → ℕ → Place → Place → Type 0
-Lands end k i old new = ((i < end) × (new.places.items ≡ slice_set old.places.items k i) × (new.depth ≡ k + 1) × (new.fresh ≡ true))
-    ⊎ ((end ≤ i) × (new.places.items ≡ old.places.items) × (new.depth ≡ k) × (new.fresh ≡ false))
+Lands end k i old new = (new.found.items ≡ old.found.items) × (((i < end) × (new.places.items ≡ slice_set old.places.items k i) × (new.depth ≡ k + 1) × (new.fresh ≡ true))
+    ⊎ ((end ≤ i) × (new.places.items ≡ old.places.items) × (new.depth ≡ k) × (new.fresh ≡ false)))
 
 -- to the next chosen place from one on
 abbrev pub LandsNext : ℕ → Option (List ℕ) → ℕ → ℕ → Place → Place → Type 0
@@ -116,6 +140,12 @@ LandsNext end choice k from old new = (next : ℕ) × IsNextChoice choice from n
 -- no event begins with this row: the named row comes after all that do, or a conjunct is False on them
 abbrev pub IsHopeless : {V : Type 0} → (V → V → Ordering) → Conjuncts V → List Tree → ℕ → Option (List V) → List V → Type 0
 IsHopeless cmp l trees n after row = (is_reached cmp after n row ≡ false) ⊎ IsRefuted l trees row
+
+-- what a test of a row finds: False where no event begins with it, else the truth of the conjuncts that need no more values
+unfoldable pub Finds : {V : Type 0} → (V → V → Ordering) → Conjuncts V → List Tree → ℕ → Option (List V) → List V → Truth → Type 0
+Finds cmp l trees n after row False = IsHopeless cmp l trees n after row
+Finds cmp l trees n after row True = (is_reached cmp after n row ≡ true) × IsSoFar l trees row (NeedsWithin l trees (length row)) True
+Finds cmp l trees n after row Out = (is_reached cmp after n row ≡ true) × IsSoFar l trees row (NeedsWithin l trees (length row)) Out
 
 -- the same events are ahead
 abbrev pub KeepsEvents : {V : Type 0} → (V → V → Ordering) → Conjuncts V → List (List V) → Option (List V) → Place → Place → Type 0

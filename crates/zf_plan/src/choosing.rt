@@ -1,5 +1,5 @@
 //! How the values of a range are chosen that are tried.
-ghost use Rattle.std.specs.Prelude.{◌≡◌, ◌<◌, ◌≤◌, [], length, slice_index_or, IsTrue, false, IfOk, OnOk, Some, None};
+ghost use Rattle.std.specs.Prelude.{◌≡◌, ◌<◌, [], length, slice_index_or, IsTrue, false, IfOk, OnOk, OnErr, Ok, Some, None};
 ghost use Rattle.zf_walk.specs.Picked.{AreWithin, picked};
 ghost use Rattle.zf_walk.specs.Progress.{AreDueWithin};
 ghost use Rattle.zf_walk.specs.RowLaws.{AreAscending};
@@ -8,7 +8,6 @@ ghost use Rattle.zf_plan.specs.Groves.{trees_made, trees_of};
 ghost use Rattle.zf_plan.specs.Knowing.{Remembers, AreBelow};
 ghost use Rattle.zf_plan.specs.Choices.{StaysIn};
 ghost use Rattle.zf_plan.specs.Choosing.{Narrows, IsChoice};
-ghost use Rattle.zf_plan.specs.Counts.{IsSame};
 
 use crate::choice::Choice;
 use crate::evaluating::evaluate;
@@ -35,9 +34,9 @@ fn gather<V: Ord, J: Guide<V>>(
     requires ascending { AreAscending V.cmp ranges.now }
     requires within { AreWithin ranges.now places.now }
     requires deeper { length places.now < length ranges.now }
-    requires remembers { Remembers (J.conjuncts judge.now) ranges.now places.now memo.old }
-    ensures remembers { Remembers (J.conjuncts judge.now) ranges.now places.now memo.new }
-    ensures more { memo.old.asked ≤ memo.new.asked }
+    requires remembers { Remembers (J.conjuncts judge.now) (J.is_used judge.now) ranges.now places.now memo.old }
+    ensures remembers { Remembers (J.conjuncts judge.now) (J.is_used judge.now) ranges.now places.now memo.new }
+    ensures same { memo.new.tests ≡ memo.old.tests }
     ensures stay { StaysIn gathered.old.items gathered.new.items }
     ensures narrows { IfOk result (λ found. IsTrue found → Narrows (J.conjuncts judge.now) (tree_at (trees_made forest.now) part) ranges.now (picked ranges.now places.now) (slice_index_or ranges.now (length places.now) []) gathered.new.items) }
 {
@@ -85,11 +84,11 @@ fn gather_first<V: Ord, J: Guide<V>>(
     requires ascending { AreAscending V.cmp ranges.now }
     requires within { AreWithin ranges.now places.now }
     requires deeper { length places.now < length ranges.now }
-    requires remembers { Remembers (J.conjuncts judge.now) ranges.now places.now memo.old }
-    ensures remembers { Remembers (J.conjuncts judge.now) ranges.now places.now memo.new }
-    ensures more { memo.old.asked ≤ memo.new.asked }
+    requires remembers { Remembers (J.conjuncts judge.now) (J.is_used judge.now) ranges.now places.now memo.old }
+    ensures remembers { Remembers (J.conjuncts judge.now) (J.is_used judge.now) ranges.now places.now memo.new }
+    ensures same { memo.new.tests ≡ memo.old.tests }
     ensures choice { IfOk result (λ found. IsTrue found → IsChoice (J.conjuncts judge.now) (trees_of forest.now) ranges.now (picked ranges.now places.now) (slice_index_or ranges.now (length places.now) []) (Some gathered.new.items)) }
-    ensures none { conjuncts.now ≡ [] → IsSame memo.old memo.new × (result ≡ Ok false) }
+    ensures none { conjuncts.now ≡ [] → result ≡ Ok false }
 {
     for i in 0..conjuncts.len() {
         let conjunct = conjuncts[i];
@@ -119,11 +118,12 @@ pub fn choose<V: Ord, J: Guide<V>>(
     requires ascending { AreAscending V.cmp ranges.now }
     requires within { AreWithin ranges.now places.now }
     requires deeper { length places.now < length ranges.now }
-    requires remembers { Remembers (J.conjuncts judge.now) ranges.now places.now memo.old }
-    ensures remembers { Remembers (J.conjuncts judge.now) ranges.now places.now memo.new }
-    ensures more { memo.old.asked ≤ memo.new.asked }
+    requires remembers { Remembers (J.conjuncts judge.now) (J.is_used judge.now) ranges.now places.now memo.old }
+    ensures remembers { Remembers (J.conjuncts judge.now) (J.is_used judge.now) ranges.now places.now memo.new }
+    ensures same { memo.new.tests ≡ memo.old.tests }
     ensures choice { OnOk result (IsChoice (J.conjuncts judge.now) (trees_of forest.now) ranges.now (picked ranges.now places.now) (slice_index_or ranges.now (length places.now) []) choice.new) }
-    ensures none { conjuncts.now ≡ [] → IsSame memo.old memo.new × OnOk result (choice.new ≡ None) }
+    ensures all { OnOk result (conjuncts.now ≡ [] → choice.new ≡ None) }
+    ensures granted { OnErr result (conjuncts.now ≡ [] → ⊥) }
 {
     let found = gather_first(
         judge,

@@ -1,6 +1,6 @@
 //! What is known of a tree from what is known of its sides.
 ghost use Rattle.std.specs.Prelude.{◌≡◌};
-ghost use Rattle.zf_plan.specs.Knowing.{known_not, known_both, known_either, known_false, conjoined};
+ghost use Rattle.zf_plan.specs.Knowing.{known_not, known_both, known_either, conjoined, joined};
 
 use zf_walk::Truth;
 
@@ -42,18 +42,6 @@ pub fn either(left: Option<Truth>, right: Option<Truth>) -> Option<Truth>
     not(both(not(left), not(right)))
 }
 
-/// Whether a tree is known to be False.
-pub fn is_false(of: Option<Truth>) -> bool
-    ensures { result ≡ known_false of }
-{
-    match of {
-        None => false,
-        Some(Truth::True) => false,
-        Some(Truth::False) => true,
-        Some(Truth::Out) => false,
-    }
-}
-
 /// The truth of several conjuncts from those of the first ones and of the last.
 pub fn conjoin(first: Truth, last: Truth) -> Truth
     ensures { result ≡ conjoined first last }
@@ -66,5 +54,15 @@ pub fn conjoin(first: Truth, last: Truth) -> Truth
             Truth::False => Truth::False,
             Truth::Out => Truth::Out,
         },
+    }
+}
+
+/// The same where the last may not be known.
+pub fn join(first: Truth, last: Option<Truth>) -> Truth
+    ensures { result ≡ joined first last }
+{
+    match last {
+        None => first,
+        Some(truth) => conjoin(first, truth),
     }
 }

@@ -1,12 +1,12 @@
 //! The moves of a search, whatever the conjuncts say.
 ghost use Rattle.std.specs.Prelude.{◌≡◌, ◌+◌, ◌-◌, ◌<◌, ◌≤◌, [], length, slice_index_or, None};
-ghost use Rattle.zf_walk.specs.Places.{IsAgenda};
-ghost use Rattle.zf_plan.specs.Places.{IsAt, Forgets, Lands, LandsNext};
+ghost use Rattle.zf_plan.specs.Memories.{Forgets};
+ghost use Rattle.zf_plan.specs.Places.{IsAt, Lands, LandsNext};
 
 use crate::choice::Choice;
 use crate::memo::Memo;
 use crate::place::Place;
-use zf_walk::{Agenda, Judge, Range};
+use zf_walk::Range;
 
 /// Goes to the value at place `i` of range `k`, or past the row before it where the range ends before.
 fn land(place: &mut Place, k: usize, i: usize, end: usize)
@@ -24,21 +24,11 @@ fn land(place: &mut Place, k: usize, i: usize, end: usize)
 }
 
 /// Goes to the first chosen value of the next range, or past the row where there is none.
-pub fn descend<V, J: Judge<V>>(
-    judge: &J,
-    ranges: &[Range<V>],
-    agenda: &Agenda,
-    choices: &[Choice],
-    place: &mut Place,
-    memo: &mut Memo,
-)
-    requires agenda { IsAgenda (J.conjuncts judge.now) (length ranges.now) agenda.now }
+pub fn descend<V>(ranges: &[Range<V>], choices: &[Choice], place: &mut Place, memo: &mut Memo)
     requires at { IsAt ranges.now place.old }
     requires deeper { place.old.depth < length ranges.now }
-    requires all { length memo.old.truths.items ≡ (J.conjuncts judge.now).number }
     requires choices { length choices.now ≡ length ranges.now }
-    ensures forgets { Forgets (J.conjuncts judge.now) (place.old.depth + 1) memo.old.truths.items memo.new.truths.items }
-    ensures same { memo.new.asked ≡ memo.old.asked }
+    ensures forgets { Forgets (place.old.depth + 1) memo.old memo.new }
     ensures lands { LandsNext (length (slice_index_or ranges.now place.old.depth [])) (slice_index_or choices.now place.old.depth None) place.old.depth 0 place.old place.new }
 {
     let depth = place.depth;
@@ -46,26 +36,16 @@ pub fn descend<V, J: Judge<V>>(
     let end = range.values.len();
     let choice = &choices[depth];
     let next = choice.next(0, end);
-    forget(judge, agenda, ranges.len(), depth + 1, memo);
+    memo.forget(depth + 1);
     land(place, depth, next, end);
 }
 
 /// Goes to the next chosen value of the last range, or past the row before it.
-pub fn retreat<V, J: Judge<V>>(
-    judge: &J,
-    ranges: &[Range<V>],
-    agenda: &Agenda,
-    choices: &[Choice],
-    place: &mut Place,
-    memo: &mut Memo,
-)
-    requires agenda { IsAgenda (J.conjuncts judge.now) (length ranges.now) agenda.now }
+pub fn retreat<V>(ranges: &[Range<V>], choices: &[Choice], place: &mut Place, memo: &mut Memo)
     requires at { IsAt ranges.now place.old }
     requires below { 0 < place.old.depth }
-    requires all { length memo.old.truths.items ≡ (J.conjuncts judge.now).number }
     requires choices { length choices.now ≡ length ranges.now }
-    ensures forgets { Forgets (J.conjuncts judge.now) place.old.depth memo.old.truths.items memo.new.truths.items }
-    ensures same { memo.new.asked ≡ memo.old.asked }
+    ensures forgets { Forgets place.old.depth memo.old memo.new }
     ensures lands { LandsNext (length (slice_index_or ranges.now (place.old.depth - 1) [])) (slice_index_or choices.now (place.old.depth - 1) None) (place.old.depth - 1) (slice_index_or place.old.places.items (place.old.depth - 1) 0 + 1) place.old place.new }
 {
     let last = place.depth - 1;
@@ -74,27 +54,6 @@ pub fn retreat<V, J: Judge<V>>(
     let from = place.places[last] + 1;
     let choice = &choices[last];
     let next = choice.next(from, end);
-    forget(judge, agenda, ranges.len(), last + 1, memo);
+    memo.forget(last + 1);
     land(place, last, next, end);
-}
-
-/// Forgets the truths of the leaves that need so many values.
-fn forget<V, J: Judge<V>>(
-    judge: &J,
-    agenda: &Agenda,
-    components: usize,
-    due: usize,
-    memo: &mut Memo,
-)
-    requires agenda { IsAgenda (J.conjuncts judge.now) components agenda.now }
-    requires due { due ≤ components }
-    requires all { length memo.old.truths.items ≡ (J.conjuncts judge.now).number }
-    ensures forgets { Forgets (J.conjuncts judge.now) due memo.old.truths.items memo.new.truths.items }
-    ensures same { memo.new.asked ≡ memo.old.asked }
-{
-    let mut leaf = agenda.firsts[due];
-    while leaf < memo.truths.len() {
-        memo.truths[leaf] = None;
-        leaf = agenda.nexts[leaf];
-    }
 }

@@ -1,22 +1,21 @@
 //! Which leaves and which conjuncts a value that is bound concerns.
-ghost use Rattle.std.specs.Prelude.{◌≡◌, ◌+◌, ◌^◌, ◌<◌, ℕ, [], length, slice_index_or, IfOk};
-ghost use Rattle.zf_walk.specs.Progress.{AreDueWithin};
+ghost use Rattle.std.specs.Prelude.{◌≡◌, ◌+◌, ◌^◌, ◌<◌, ℕ, [], length, slice_index_or, IfOk, MatchOption};
 ghost use Rattle.zf_plan.specs.Trees.{tree_at, HasLeavesWithin, HaveLeavesWithin};
 ghost use Rattle.zf_plan.specs.Groves.{trees_made, trees_of};
-ghost use Rattle.zf_plan.specs.Knowing.{AreBelow};
-ghost use Rattle.zf_plan.specs.Places.{touches, AreListed, AreTouched, AreAllTouched, IsPlan};
+ghost use Rattle.zf_plan.specs.Knowing.{AreBelow, IsLeafDue};
+ghost use Rattle.zf_plan.specs.Places.{touches, touches_inside, AreAll, AreDue, AreTouched, IsPlan};
 
 use crate::forest::Forest;
 use crate::guide::Guide;
 use crate::listed::Listed;
 use crate::node::Node;
 use std::alloc::{AllocError, Global};
-use zf_walk::{Agenda, Judge};
+use zf_walk::Judge;
 
-/// The leaves by how many values they need, and for each number of values the conjuncts that have a leaf which needs so many, and those that narrow the next.
+/// For each number of values the leaves that are conjuncts and need so many, the other conjuncts that have such a leaf, and those that narrow the next component.
 #[derive(Drop)]
 pub struct Plan {
-    pub agenda: Agenda,
+    pub due: Vec<Listed>,
     pub touched: Vec<Listed>,
     pub narrowing: Vec<Listed>,
 }
@@ -28,16 +27,15 @@ impl Plan {
         forest: &Forest,
         components: usize,
     ) -> Result<Plan, AllocError>
-        requires due { AreDueWithin (J.conjuncts judge.now) components }
         requires leaves { HaveLeavesWithin (J.conjuncts judge.now).number (trees_of forest.now) }
         requires room { components + 1 < 2 ^ 64 }
         ensures { IfOk result (IsPlan (J.conjuncts judge.now) (trees_of forest.now) components) }
     {
-        let agenda = Agenda::new(alloc, judge, components)?;
+        let due = all_due(alloc, judge, forest, components)?;
         let touched = all_touched(alloc, judge, forest, components)?;
         let narrowing = all_narrowing(alloc, judge, forest, components)?;
         Ok(Plan {
-            agenda,
+            due,
             touched,
             narrowing,
         })
@@ -50,25 +48,72 @@ impl Plan {
         forest: &Forest,
         components: usize,
     ) -> Result<Plan, AllocError>
-        requires due { AreDueWithin (J.conjuncts judge.now) components }
         requires leaves { HaveLeavesWithin (J.conjuncts judge.now).number (trees_of forest.now) }
         requires room { components + 1 < 2 ^ 64 }
         ensures plan { IfOk result (IsPlan (J.conjuncts judge.now) (trees_of forest.now) components) }
         ensures none { IfOk result (λ p. (k : ℕ) → slice_index_or p.narrowing.items k [] ≡ []) }
     {
-        let agenda = Agenda::new(alloc, judge, components)?;
+        let due = all_due(alloc, judge, forest, components)?;
         let touched = all_touched(alloc, judge, forest, components)?;
         let narrowing = none_narrowing(alloc, components)?;
         Ok(Plan {
-            agenda,
+            due,
             touched,
             narrowing,
         })
     }
 }
 
-/// For each number of values the conjuncts that have a leaf which needs so many.
-#[tactic(auto, using(crate::proofs::Numbers::all_touched_push))]
+/// For each number of values the leaves that are conjuncts and need so many.
+fn all_due<V, J: Judge<V>>(
+    alloc: Global,
+    judge: &J,
+    forest: &Forest,
+    components: usize,
+) -> Result<Vec<Listed>, AllocError>
+    requires leaves { HaveLeavesWithin (J.conjuncts judge.now).number (trees_of forest.now) }
+    requires room { components + 1 < 2 ^ 64 }
+    ensures { IfOk result (λ lists. AreAll (λ k. AreDue (J.conjuncts judge.now) (trees_of forest.now) k (length (trees_of forest.now))) components lists.items) }
+{
+    let mut all = Vec::new(alloc);
+    for due in 0..components + 1 {
+        all.push(due_at(alloc, judge, forest, due)?)?;
+    }
+    Ok(all)
+}
+
+/// The leaves that are conjuncts and need so many values.
+fn due_at<V, J: Judge<V>>(
+    alloc: Global,
+    judge: &J,
+    forest: &Forest,
+    due: usize,
+) -> Result<Listed, AllocError>
+    requires { HaveLeavesWithin (J.conjuncts judge.now).number (trees_of forest.now) }
+    ensures { IfOk result (AreDue (J.conjuncts judge.now) (trees_of forest.now) due (length (trees_of forest.now))) }
+{
+    let mut numbers = Vec::new(alloc);
+    for conjunct in 0..forest.count() {
+        if let Some(leaf) = leaf_due(judge, forest, forest.root(conjunct), due) {
+            numbers.push(leaf)?;
+        }
+    }
+    Ok(Listed { numbers })
+}
+
+/// The leaf that a tree is, if it is one that needs so many values.
+fn leaf_due<V, J: Judge<V>>(judge: &J, forest: &Forest, part: usize, due: usize) -> Option<usize>
+    requires part { part < length (trees_made forest.now) }
+    requires leaves { HasLeavesWithin (J.conjuncts judge.now).number (tree_at (trees_made forest.now) part) }
+    ensures { MatchOption result ((c : ℕ) → IsLeafDue (J.conjuncts judge.now) due (tree_at (trees_made forest.now) part) c → ⊥) (IsLeafDue (J.conjuncts judge.now) due (tree_at (trees_made forest.now) part)) }
+{
+    match forest.node(part) {
+        Node::Leaf(of) => { if judge.due(of) == due { Some(of) } else { None } }
+        _ => None,
+    }
+}
+
+/// For each number of values the conjuncts that are no leaves and have one which needs so many.
 fn all_touched<V, J: Judge<V>>(
     alloc: Global,
     judge: &J,
@@ -77,7 +122,7 @@ fn all_touched<V, J: Judge<V>>(
 ) -> Result<Vec<Listed>, AllocError>
     requires leaves { HaveLeavesWithin (J.conjuncts judge.now).number (trees_of forest.now) }
     requires room { components + 1 < 2 ^ 64 }
-    ensures { IfOk result (λ lists. AreAllTouched (J.conjuncts judge.now) (trees_of forest.now) components lists.items) }
+    ensures { IfOk result (λ lists. AreAll (λ k. AreTouched (J.conjuncts judge.now) (trees_of forest.now) k (length (trees_of forest.now))) components lists.items) }
 {
     let mut touched = Vec::new(alloc);
     for due in 0..components + 1 {
@@ -86,7 +131,7 @@ fn all_touched<V, J: Judge<V>>(
     Ok(touched)
 }
 
-/// The conjuncts that have a leaf which needs so many values.
+/// The conjuncts that are no leaves and have one which needs so many values.
 #[tactic(auto, using(crate::proofs::Numbers::touched_push, crate::proofs::Numbers::touched_skip))]
 fn touched_at<V, J: Judge<V>>(
     alloc: Global,
@@ -99,11 +144,29 @@ fn touched_at<V, J: Judge<V>>(
 {
     let mut numbers = Vec::new(alloc);
     for conjunct in 0..forest.count() {
-        if is_touched(judge, forest, forest.root(conjunct), due) {
+        if is_touched_inside(judge, forest, forest.root(conjunct), due) {
             numbers.push(conjunct)?;
         }
     }
     Ok(Listed { numbers })
+}
+
+/// Whether a tree that is no leaf has a leaf that needs so many values.
+fn is_touched_inside<V, J: Judge<V>>(judge: &J, forest: &Forest, part: usize, due: usize) -> bool
+    requires part { part < length (trees_made forest.now) }
+    requires leaves { HasLeavesWithin (J.conjuncts judge.now).number (tree_at (trees_made forest.now) part) }
+    ensures { result ≡ touches_inside (J.conjuncts judge.now) due (tree_at (trees_made forest.now) part) }
+{
+    match forest.node(part) {
+        Node::Leaf(_) => false,
+        Node::Not(of) => is_touched(judge, forest, of, due),
+        Node::And(left, right) => {
+            is_touched(judge, forest, left, due) || is_touched(judge, forest, right, due)
+        }
+        Node::Or(left, right) => {
+            is_touched(judge, forest, left, due) || is_touched(judge, forest, right, due)
+        }
+    }
 }
 
 /// Whether a tree has a leaf that needs so many values.
@@ -125,7 +188,6 @@ fn is_touched<V, J: Judge<V>>(judge: &J, forest: &Forest, part: usize, due: usiz
 }
 
 /// For each number of values the conjuncts that narrow the next.
-#[tactic(auto, using(crate::proofs::Numbers::all_below_push))]
 fn all_narrowing<V: Ord, J: Guide<V>>(
     alloc: Global,
     judge: &J,
@@ -134,7 +196,7 @@ fn all_narrowing<V: Ord, J: Guide<V>>(
 ) -> Result<Vec<Listed>, AllocError>
     requires leaves { HaveLeavesWithin (J.conjuncts judge.now).number (trees_of forest.now) }
     requires room { components + 1 < 2 ^ 64 }
-    ensures { IfOk result (λ lists. AreListed (length (trees_of forest.now)) components lists.items) }
+    ensures { IfOk result (λ lists. AreAll (λ k. AreBelow (length (trees_of forest.now))) components lists.items) }
 {
     let mut narrowing = Vec::new(alloc);
     for component in 0..components + 1 {

@@ -18,7 +18,7 @@ use crate::plan::Plan;
 use crate::steps::next_answer;
 use std::alloc::{AllocError, Global};
 use std::marker::Model;
-use zf_walk::{Range, Row, Step, pick};
+use zf_walk::{Range, Row, Step, Truth, pick};
 
 /// A search over the rows of some ranges, in ascending order, for those on which no conjunct is False. It passes over rows that hold none, and takes no memory of its own once it stands.
 #[derive(Drop)]
@@ -47,7 +47,7 @@ impl<'a, V: Ord, J: Guide<V>> Model for Search<'a, V, J> {
 
     ghost view = { λ w. view_of w.judge w.forest w.ranges.items (option_copied w.after) w.place w.memo w.given w.plain };
 
-    ghost invariant = { λ w. IsStanding V.cmp (J.conjuncts w.judge) w.forest w.ranges.items (option_copied w.after) w.plan w.place w.memo w.choices.items w.given w.plain };
+    ghost invariant = { λ w. IsStanding V.cmp (J.conjuncts w.judge) (J.is_used w.judge) w.forest w.ranges.items (option_copied w.after) w.plan w.place w.memo w.choices.items w.given w.plain };
 }
 
 impl<'a, V: Ord + Drop, J: Guide<V> + Drop> Search<'a, V, J> {
@@ -73,7 +73,7 @@ impl<'a, V: Ord + Drop, J: Guide<V> + Drop> Search<'a, V, J> {
         Ok(search)
     }
 
-    /// The same with each leaf as a conjunct and no component narrowed: it asks for one leaf after another, and counts them.
+    /// The same with each leaf as a conjunct and no component narrowed: it tests one leaf after another, and counts them.
     pub fn counting(
         alloc: Global,
         judge: J,
@@ -111,14 +111,15 @@ impl<'a, V: Ord + Drop, J: Guide<V> + Drop> Search<'a, V, J> {
         ensures first { IfOk result (λ w. (w.stage.last ≡ None) × (w.tests ≡ 0) × (w.counts ≡ plain)) }
     {
         let places = vec![in alloc; 0; ranges.len()]?;
-        let truths = vec![in alloc; None; judge.count()]?;
+        let memo = Memo::new(alloc, &judge, &ranges)?;
         let choices = all_chosen(alloc, ranges.len())?;
+        let found = vec![in alloc; Truth::True; ranges.len()]?;
         let place = Place {
             places,
+            found,
             depth: 0,
             fresh: true,
         };
-        let memo = Memo { truths, asked: 0 };
         Ok(Search {
             judge,
             forest,
@@ -167,12 +168,12 @@ impl<'a, V: Ord, J: Guide<V>> Search<'a, V, J> {
         }
     }
 
-    /// How many times a leaf was asked for: where each conjunct is a leaf and no component is narrowed, how many tests were finished.
+    /// How many leaves that are conjuncts were tested: where each conjunct is one and no component is narrowed, how many tests were finished.
     pub fn tests(&self) -> u64
         ensures count { result ≡ self.now.tests }
         ensures bounded { IsTrue self.now.counts → IsBounded V.cmp (J.conjuncts self.now.judge) (counted self.now) result }
     {
-        self.memo.asked
+        self.memo.tests()
     }
 
     /// A value of the row that the last step gave.

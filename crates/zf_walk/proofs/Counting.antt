@@ -5,9 +5,6 @@ use Rattle.zf_walk.proofs.Lists.{Contains-head, Contains-later, Contains-cases, 
 pub cut-le : (number : ℕ) → cut number ≤ number
 cut-le number = omega arith
 
-pub cut-more : (number : ℕ) → cut (cut number + 1) ≡ cut (number + 1)
-cut-more number = omega arith
-
 module _ {V : Type 0} (P Q : List V × ℕ → Type 0) where
   pub number-same : (number : ℕ) → ((x : List V × ℕ) → P x → Q x) → ((x : List V × ℕ) → Q x → P x) → IsCount P number → IsCount Q number
   number-same number f g k = record { pairs = k.pairs; distinct = k.distinct; members = λ x. ((λ m. f x ((k.members x).0 m)), (λ q. (k.members x).1 (g x q))); is = k.is }

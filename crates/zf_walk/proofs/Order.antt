@@ -1,5 +1,5 @@
 -- The order of rows, value by value, over any totally ordered values.
-use Rattle.zf_walk.proofs.Prelude.{◌++◌, ◌+◌, ◌<◌, ◌∙◌, ◌∷◌, ◌≡◌, ◌≤◌, ◌⊎◌, [], ap, arith, Bool, drop, false, get_or, inl, inr, length, List, refl, suc, sym, take, true, zero, ℕ, cases_order, false≢true, alike_right, tied_itself, get_or_default, IsTotalOrder, slice_cmp, ordering_reverse, ordering_then, AllPairs, Contains, Ordering, Equal, Greater, Less, first_of, is_due, reaches, under, IsFrontOf, IsRowOf, TiesAreEqual}
+use Rattle.zf_walk.proofs.Prelude.{◌++◌, ◌<◌, ◌∙◌, ◌∷◌, ◌≡◌, ◌≤◌, ◌⊎◌, [], ap, arith, Bool, drop, false, get_or, inl, inr, length, List, refl, sym, take, true, ℕ, false≢true, tied_itself, get_or_default, IsTotalOrder, slice_cmp, ordering_reverse, ordering_then, AllPairs, Contains, Ordering, Equal, Greater, Less, first_of, reaches, under, IsFrontOf, IsRowOf, TiesAreEqual}
 
 -- x stands at place i
 pub record IsNth {V : Type 0} (range : List V) (i : ℕ) (x : V) : Type 0 where
@@ -71,45 +71,6 @@ module _ {V : Type 0} (cmp : V → V → Ordering) (o : IsTotalOrder cmp) where
   under-at [] f tail = refl
   under-at (x ∷ path) f tail = let e : cmp x x ≡ Equal = tied_itself o x in rw e (under-at path f tail)
 
-  -- One range: at its first place all rows are ahead, past one place is from the next one on, past the last one none is ahead.
-  module _ (range : List V) (r : IsRange range) (v : V) (m : Contains range v) where
-    pub at-first : (x : V) (rest : Bool) → IsNth range 0 x → (cmp x v ≡ Equal → rest ≡ true) → first_of (cmp x v) rest ≡ true
-    at-first x rest n h = go (nth range v m) where
-      go : ((k : ℕ) × IsNth range k v) → first_of (cmp x v) rest ≡ true
-      go (zero, w) = let e : cmp x v ≡ Equal = tied-at range 0 0 x v n w refl in rw (e, h e) refl
-      go (suc k, w) = let e : cmp x v ≡ Less = less-at range 0 (suc k) x v r n w (omega arith) in rw e refl
-
-    pub at-next : (i : ℕ) (x y : V) → IsNth range i x → IsNth range (i + 1) y → first_of (cmp x v) false ≡ first_of (cmp y v) true
-    at-next i x y n n' = go (nth range v m) where
-      go : ((k : ℕ) × IsNth range k v) → first_of (cmp x v) false ≡ first_of (cmp y v) true
-      go (k, w) = elim (cases_order k (i + 1)) [
-        | inl e ↦ let a : cmp x v ≡ Less = less-at range i k x v r n w (omega arith) in
-            let b : cmp y v ≡ Equal = tied-at range (i + 1) k y v n' w (sym e) in rw (a, b) refl
-        | inr other ↦ elim other [
-          | inl less ↦ let b : cmp y v ≡ Greater = greater-at range (i + 1) k y v r n' w less in
-              elim (cases_order k i) [
-                | inl e ↦ let a : cmp x v ≡ Equal = tied-at range i k x v n w (sym e) in rw (a, b) refl
-                | inr rest ↦ elim rest [
-                  | inl before ↦ let a : cmp x v ≡ Greater = greater-at range i k x v r n w before in rw (a, b) refl
-                  | inr over ↦ absurd (omega arith)
-                ]
-              ]
-          | inr more ↦ let a : cmp x v ≡ Less = less-at range i k x v r n w (omega arith) in
-              let b : cmp y v ≡ Less = less-at range (i + 1) k y v r n' w more in rw (a, b) refl
-        ]
-      ]
-
-    pub at-last : (i : ℕ) (x : V) → IsNth range i x → length range ≡ i + 1 → first_of (cmp x v) false ≡ false
-    at-last i x n l = go (nth range v m) where
-      go : ((k : ℕ) × IsNth range k v) → first_of (cmp x v) false ≡ false
-      go (k, w) = elim (cases_order k i) [
-        | inl e ↦ let a : cmp x v ≡ Equal = tied-at range i k x v n w (sym e) in rw a refl
-        | inr other ↦ elim other [
-          | inl less ↦ let a : cmp x v ≡ Greater = greater-at range i k x v r n w less in rw a refl
-          | inr more ↦ let z : k < length range = w.within in absurd (omega arith)
-        ]
-      ]
-
   -- the order on whole rows, and on rows cut to one length
 
   pub reaches-cmp : (here : Bool) (a b : List V) → length a ≡ length b → reaches cmp here a b ≡ first_of (slice_cmp cmp a b) here
@@ -143,25 +104,6 @@ module _ {V : Type 0} (cmp : V → V → Ordering) (o : IsTotalOrder cmp) where
     go Less ih k = refl
     go Equal ih k = ih k
     go Greater ih k = k
-
-  -- what comes after a row that is ahead is ahead
-  pub further : (here : Bool) (j c : ℕ) (road whole row : List V) → reaches cmp here road whole ≡ true → reaches cmp false whole row ≡ true → under cmp road (is_due here j c) row ≡ true
-  further false j c [] whole row a b = absurd (false≢true a)
-  further true j c [] [] row a b = absurd (false≢true b)
-  further true j c [] (v ∷ whole) [] a b = absurd (false≢true b)
-  further true j c [] (v ∷ whole) (w ∷ row) a b = refl
-  further here j c (y ∷ road) [] row a b = absurd (false≢true a)
-  further here j c (y ∷ road) (v ∷ whole) [] a b = absurd (false≢true b)
-  further here j c (y ∷ road) (v ∷ whole) (w ∷ row) a b = go (cmp y v) (cmp v w) refl refl a b (further here j c road whole row) where
-    go : (p q : Ordering) → cmp y v ≡ p → cmp v w ≡ q → first_of p (reaches cmp here road whole) ≡ true → first_of q (reaches cmp false whole row) ≡ true
-        → (reaches cmp here road whole ≡ true → reaches cmp false whole row ≡ true → under cmp road (is_due here j c) row ≡ true) → first_of (cmp y w) (under cmp road (is_due here j c) row) ≡ true
-    go Less Less e f k l ih = let g : cmp y w ≡ Less = o.trans y v w e f in rw g refl
-    go Less Equal e f k l ih = let g : cmp y w ≡ Less = sym (alike_right o v w y f) ∙ e in rw g refl
-    go Equal Less e f k l ih = let g : cmp y w ≡ Less = o.congr y v w e ∙ f in rw g refl
-    go Equal Equal e f k l ih = let g : cmp y w ≡ Equal = o.congr y v w e ∙ f in rw g (ih k l)
-    go Greater q e f k l ih = absurd (false≢true k)
-    go Less Greater e f k l ih = absurd (false≢true l)
-    go Equal Greater e f k l ih = absurd (false≢true l)
 
   -- where values that tie are one
   module _ (ties : TiesAreEqual cmp) where

@@ -1,5 +1,5 @@
 -- Rows by the places of their values in ranges.
-use Rattle.zf_walk.proofs.Prelude.{◌++◌, ◌<◌, ◌∙◌, ◌∷◌, ◌≡◌, ◌≤◌, [], ap, arith, get_or, length, List, refl, Some, subst, suc, sym, take, zero, ℕ, get_or-take, length-take, take_all, slice_get-get_or, slice_get, AreWithin, picked, IsFrontOf, IsRowOf}
+use Rattle.zf_walk.proofs.Prelude.{◌++◌, ◌<◌, ◌∙◌, ◌∷◌, ◌≡◌, ◌≤◌, [], ap, arith, get_or, length, List, refl, Some, subst, suc, sym, take, zero, ℕ, get_or-take, get_or_default, length-take, take_all, slice_get-get_or, slice_get, AreWithin, picked, IsFrontOf, IsRowOf}
 use Rattle.zf_walk.proofs.Order.{IsNth}
 
 pub slice_get-nth : {V : Type 0} (range : List V) (i : ℕ) (x : V) → IsNth range i x → slice_get range i ≡ Some x
@@ -90,9 +90,6 @@ IsRowOf-length (r ∷ ranges) (v ∷ row) m = let ih = IsRowOf-length ranges row
 pub IsFrontOf-length : {V : Type 0} (ranges : List (List V)) (row : List V) → IsFrontOf ranges row → length row ≤ length ranges
 IsFrontOf-length ranges row f = let e = IsRowOf-length (take (length row) ranges) row f in omega (arith, length-take (length row) ranges)
 
-pub front-of-row : {V : Type 0} (ranges : List (List V)) (row : List V) → IsRowOf ranges row → IsFrontOf ranges row
-front-of-row ranges row m = subst (λ rs. IsRowOf rs row) (sym (take_all (length row) ranges (let e = IsRowOf-length ranges row m in omega arith))) m
-
 -- a row of all ranges has nothing behind it
 pub nothing-more : {V : Type 0} (ranges : List (List V)) (row tail : List V) → length row ≡ length ranges → IsRowOf ranges (row ++ tail) → row ++ tail ≡ row
 nothing-more [] [] [] l m = refl
@@ -100,3 +97,7 @@ nothing-more [] [] (v ∷ tail) l m = absurd m
 nothing-more [] (v ∷ row) tail l m = absurd m
 nothing-more (r ∷ ranges) [] tail l m = absurd (omega arith)
 nothing-more (r ∷ ranges) (v ∷ row) tail l m = ap (λ w. v ∷ w) (nothing-more ranges row tail (omega arith) m.1)
+
+-- a range that is read
+pub range-is : {V : Type 0} (ranges : List (List V)) (k : ℕ) (r : List V) → k < length ranges → r ≡ get_or ranges k r → get_or ranges k [] ≡ r
+range-is ranges k r h e = get_or_default ranges k [] r h ∙ sym e

@@ -16,17 +16,14 @@ pub use Rattle.zf_walk.specs.Conjuncts.{Conjuncts, IsTruthOf}
 pub use Rattle.zf_walk.specs.ConjunctLaws.{FollowUsed, HaveOneTruth, KeepTruths}
 pub use Rattle.zf_walk.specs.Events.{Event, IsEvent}
 pub use Rattle.zf_walk.specs.Picked.{AreWithin, picked}
-pub use Rattle.zf_walk.specs.Places.{above, ahead_of, below, first_of, front, is_ahead, is_due, is_over, is_reached, IsAgenda, IsAt, IsDone, IsNextDue, IsReady, IsSoFar, IsSound, IsTested, Knows, path, reaches, Stands, steps_left, under}
+pub use Rattle.zf_walk.specs.Order.{first_of, is_reached, reaches, under}
 pub use Rattle.zf_walk.specs.Progress.{Ahead, AreAllAhead, AreDueWithin, ended, IsAhead, IsBounded, IsRest, past, SameAhead, Takes}
 pub use Rattle.zf_walk.specs.RowLaws.{AreAscending, HasLength, TiesAreEqual}
 pub use Rattle.zf_walk.specs.Rows.{ComesAfter, IsFrontOf, IsLater, IsRowOf}
-pub use Rattle.zf_walk.specs.Steps.{Admits, Answers, Begins, Binds, Enters, Gives, Goes, GoesOn, Keeps, KeepsEvents, Leaves, Moves, Passes, Tests}
 pub use Rattle.zf_walk.specs.Tables.{AreTables, AreTrue, AreUsed, combinations, HavePlaces, number}
 pub use Rattle.zf_walk.specs.Tests.{cut, IsCount, IsNumberOfTests, IsDueTest, IsReached, IsUpTo, IsWalked}
 pub use Rattle.zf_walk.specs.TestBounds.{IsBound}
-pub use Rattle.zf_walk.specs.declared.agenda.Agenda.{Agenda}
 pub use Rattle.zf_walk.specs.declared.judge.Truth.{Truth}
 pub use Rattle.zf_walk.specs.declared.judge.Truth.TheVariants.{False, Out, True}
-pub use Rattle.zf_walk.specs.declared.place.Place.{Place}
 pub use Rattle.zf_walk.specs.declared.table.Table.{Table}
 pub use Rattle.zf_walk.specs.declared.table.Used.{Used}

@@ -1,5 +1,5 @@
 -- What the order value by value says in the words of the definitions.
-use Rattle.zf_walk.proofs.Prelude.{◌++◌, ◌+◌, ◌<◌, ◌∙◌, ◌∷◌, ◌≡◌, ◌≤◌, [], ap, arith, Bool, drop, false, get_or, inl, inr, length, length-append, List, ltb, None, Option, refl, Some, subst, sym, take, true, ℕ, cases_eq, false≢true, le-ltb, lt-ltb, tied_itself, append-nil, drop_more, length-take-le, nil_from_length, take-take, take_all, get_or_from_slice_get, slice_get_within, IsTotalOrder, lists_total, slice_cmp, ◌≢◌, slice_get, Ordering, Equal, Greater, Less, first_of, is_reached, reaches, IsAhead, ComesAfter, HasLength, IsLater, TiesAreEqual, IsReached, IsUpTo}
+use Rattle.zf_walk.proofs.Prelude.{◌++◌, ◌+◌, ◌<◌, ◌∙◌, ◌∷◌, ◌≡◌, ◌≤◌, [], ap, arith, Bool, drop, false, get_or, inl, inr, length, length-append, List, ltb, None, Option, refl, Some, subst, sym, take, true, ℕ, cases_eq, false≢true, le-ltb, lt-ltb, tied_itself, append-nil, drop_more, length-take-le, nil_from_length, take-take, take_all, get_or_from_slice_get, slice_get_within, IsTotalOrder, lists_total, slice_cmp, ◌≢◌, slice_get, Ordering, Equal, Greater, Less, first_of, is_reached, reaches, IsAhead, HasLength, IsLater, TiesAreEqual, IsReached, IsUpTo}
 use Rattle.zf_walk.proofs.Order.{reaches-cmp, reaches-take, reaches-front, slice-ties}
 
 less-of : (q : Ordering) → first_of q false ≡ true → q ≡ Less
@@ -35,13 +35,6 @@ module _ {V : Type 0} (cmp : V → V → Ordering) (o : IsTotalOrder cmp) where
       let n : drop i named ≡ x ∷ drop (i + 1) named = drop_more named i x l ∙ ap (λ y. y ∷ drop (i + 1) named) (sym e) in
       let r : drop i row ≡ v ∷ drop (i + 1) row = drop_more row i v (slice_get_within row i v f) ∙ ap (λ y. y ∷ drop (i + 1) row) (get_or_from_slice_get row i v v f) in
       ap (λ ys. reaches cmp here ys (drop i row)) n ∙ ap (λ ys. reaches cmp here (x ∷ drop (i + 1) named) ys) r
-
-  -- of rows of one length
-  pub comes-reaches : (a b : List V) → length a ≡ length b → ComesAfter cmp a b → reaches cmp false a b ≡ true
-  comes-reaches a b l h = reaches-cmp cmp o false a b l ∙ ap (λ q. first_of q false) h
-
-  pub reaches-comes : (a b : List V) → length a ≡ length b → reaches cmp false a b ≡ true → ComesAfter cmp a b
-  reaches-comes a b l h = less-of (slice_cmp cmp a b) (sym (reaches-cmp cmp o false a b l) ∙ h)
 
   -- a front of the named row
   front-told : (named row : List V) (here : Bool) → length row ≤ length named → reaches cmp here (take (length row) named) row ≡ first_of (slice_cmp cmp (take (length row) named) row) here

@@ -3,7 +3,7 @@ use Rattle.zf_walk.proofs.Prelude.{◌*◌, ◌++◌, ◌+◌, ◌<◌, ◌^◌,
 use Rattle.std.proofs.Math.Seq.{get_or-append_seam}
 use Rattle.zf_walk.specs.declared.entry.Entry.{Entry}
 use Rattle.zf_walk.specs.declared.entry.Entry.TheVariants.{Unknown}
-use Rattle.zf_walk.specs.Tables.{told, number, combinations, HavePlaces, Fits, Keeps, MayKeep, AreUsed, IsTableOf, AreTables, known_in}
+use Rattle.zf_walk.specs.Tables.{told, number, combinations, HavePlaces, Fits, MayKeep, AreUsed, IsTableOf, AreTables, known_in}
 use Rattle.zf_walk.proofs.Lists.{Contains-head, Contains-nil, Contains-left, Contains-right, Contains-either, Contains-cases}
 use Rattle.zf_walk.proofs.Picks.{slice_get-picked, length-picked}
 use Rattle.zf_walk.proofs.Numbering.{number-same}
@@ -142,26 +142,3 @@ pub unknown-behind : (es : List Entry) (m k : ℕ) → get_or (es ++ replicate m
 unknown-behind [] m k = unknown-replicate m k
 unknown-behind (e ∷ es) m zero = refl
 unknown-behind (e ∷ es) m (suc k) = unknown-behind es m k
-
--- a new entry at a number
-pub keeps-at : (places : List ℕ) (kept : Truth) (old new : Table) (i : ℕ) (e : Entry) (es : List Entry) → i ≡ number 0 old.used.items places → i < length es → told e ≡ Some kept
-    → ((k : ℕ) → get_or es k Unknown ≡ get_or old.entries.items k Unknown) → new.used.items ≡ old.used.items → new.entries.items ≡ set es i e → Keeps places kept old new
-keeps-at places kept old new i e es at near is same used entries = record {
-  used = used;
-  truths = λ others t known.
-      let j = number 0 old.used.items others in
-      let there : told (get_or (set es i e) j Unknown) ≡ Some t = ap (λ us. told (get_or (set es i e) (number 0 us others) Unknown)) (sym used) ∙ ap (λ xs. told (get_or xs (number 0 new.used.items others) Unknown)) (sym entries) ∙ known in
-      elim (cases_eq j i) [
-        | inl here ↦ let now : told e ≡ Some t = ap told (sym (get_or-set_same es i e Unknown near)) ∙ ap (λ k. told (get_or (set es i e) k Unknown)) (sym here) ∙ there in
-            let one : Some t ≡ Some kept = sym now ∙ is in inr (here ∙ at, (cc))
-        | inr other ↦ inl (ap told (sym (same j) ∙ sym (get_or-set_other es i j e Unknown other)) ∙ there)
-      ];
-}
-
--- nothing new
-pub keeps-none : (places : List ℕ) (kept : Truth) (old new : Table) → ((k : ℕ) → get_or new.entries.items k Unknown ≡ get_or old.entries.items k Unknown) → new.used.items ≡ old.used.items → Keeps places kept old new
-keeps-none places kept old new same used = record {
-  used = used;
-  truths = λ others t known.
-      inl (ap told (sym (same (number 0 old.used.items others))) ∙ ap (λ us. told (get_or new.entries.items (number 0 us others) Unknown)) (sym used) ∙ known);
-}

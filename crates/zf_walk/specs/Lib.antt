@@ -9,7 +9,5 @@ pub mod TestBounds
 pub mod Progress
 pub mod Laws
 pub mod Picked
-pub mod Places
+pub mod Order
 pub mod Tables
-pub mod Steps
-pub mod Walks

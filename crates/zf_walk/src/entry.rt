@@ -7,10 +7,10 @@ use crate::judge::Truth;
 /// A truth, or that it is not known.
 #[derive(Clone, Copy)]
 pub enum Entry {
-    Unknown,
     True,
     False,
     Out,
+    Unknown,
 }
 
 impl Entry {

@@ -1,28 +1,21 @@
-//! The walk over the rows of some ranges that conjuncts don't refuse, in ascending order, with the exact number of its tests.
+//! What a search over the rows of some ranges is to find, and how many tests a walk makes that finds it; what searches ask of rows and of conjuncts, and which truths they keep.
 #![tactic(auto)]
 
-mod agenda;
-mod beginning;
 mod entry;
 mod judge;
 pub mod laws;
-mod moves;
 mod picked;
-mod place;
 mod range;
 mod reach;
 mod row;
 mod step;
-mod steps;
 mod table;
 mod tables;
-mod walk;
 
-pub use agenda::Agenda;
 pub use judge::{Judge, Truth};
 pub use picked::{Picked, pick};
 pub use range::Range;
 pub use reach::is_reached;
 pub use row::Row;
 pub use step::Step;
-pub use walk::Walk;
+pub use tables::Tables;

@@ -1,15 +1,11 @@
 //! Which rows come after the named one.
-ghost use Rattle.std.specs.Prelude.{◌≡◌, ◌+◌, ◌<◌, ◌≤◌, length};
+ghost use Rattle.std.specs.Prelude.{◌≡◌, length};
 ghost use Rattle.std.specs.Option.{option_copied};
 ghost use Rattle.zf_walk.specs.RowLaws.{HasLength};
 ghost use Rattle.zf_walk.specs.Picked.{AreWithin, picked};
-ghost use Rattle.zf_walk.specs.Places.{IsAt, IsAgenda, is_reached, reaches};
-ghost use Rattle.zf_walk.specs.Steps.{Admits};
+ghost use Rattle.zf_walk.specs.Order.{is_reached, reaches};
 
-use crate::agenda::Agenda;
-use crate::judge::Judge;
 use crate::picked::pick;
-use crate::place::Place;
 use crate::range::Range;
 use std::cmp::Ordering;
 
@@ -41,29 +37,5 @@ pub fn is_reached<V: Ord>(after: Option<&[V]>, ranges: &[Range<V>], places: &[us
             let is_partial = places.len() < ranges.len();
             reaches(is_partial, &named[..places.len()], ranges, places)
         }
-    }
-}
-
-/// Makes a row that was entered ready for its tests, or passes it where it is not reached.
-pub fn admit<V: Ord, J: Judge<V>>(
-    judge: &J,
-    ranges: &[Range<V>],
-    after: Option<&[V]>,
-    agenda: &Agenda,
-    place: &mut Place,
-)
-    requires named { HasLength (option_copied after) (length ranges.now) }
-    requires at { IsAt ranges.now place.old }
-    requires agenda { IsAgenda (J.conjuncts judge.now) (length ranges.now) agenda.now }
-    ensures { Admits V.cmp (J.conjuncts judge.now) ranges.now (option_copied after.entry) place.old place.new }
-{
-    if !place.fresh {
-        return;
-    }
-    let depth = place.depth;
-    if is_reached(after, ranges, &place.places[..depth]) {
-        place.conjunct = agenda.firsts[depth];
-    } else {
-        place.fresh = false;
     }
 }

@@ -57,6 +57,25 @@ impl Tables {
         if let Some(truth) = find_in(&self.each[conjunct], places) {
             return Ok(truth);
         }
+        self.find_out(judge, ranges, conjunct, places)
+    }
+
+    /// The same where it is not known.
+    #[inline(never)]
+    fn find_out<V, J: Judge<V>>(
+        &mut self,
+        judge: &J,
+        ranges: &[Range<V>],
+        conjunct: usize,
+        places: &[usize],
+    ) -> Result<Truth, AllocError>
+        requires conjunct { conjunct < (J.conjuncts judge.now).number }
+        requires due { (J.conjuncts judge.now).due conjunct ≡ length places.now }
+        requires within { AreWithin ranges.now places.now }
+        requires known { AreTrue (J.conjuncts judge.now) (J.is_used judge.now) ranges.now self.old.each.items }
+        ensures says { IfOk result ((J.conjuncts judge.now).says conjunct (picked ranges.now places.now)) }
+        ensures known { AreTrue (J.conjuncts judge.now) (J.is_used judge.now) ranges.now self.new.each.items }
+    {
         let row = Picked::new(ranges, places);
         let truth = judge.judge(conjunct, &row)?;
         keep_in(&mut self.each[conjunct], places, truth);

@@ -1,4 +1,4 @@
-use Rattle.zf_plan.proofs.Prelude.{◌++◌, ◌≡◌, ◌∷◌, ap, arith, get_or, length, subst, picked, False, IsTreeTruth}
+use Rattle.zf_plan.proofs.Prelude.{◌++◌, ◌∙◌, ◌≡◌, ◌∷◌, ap, arith, get_or, length, subst, picked, False, IsTreeTruth}
 use Rattle.zf_plan.proofs.choosing.gather_first.Goals as goal
 
 pub returns-then-found-clause-choice : goal.returns-then-found-clause-choice
@@ -15,8 +15,4 @@ pub returns-then-found-clause-none : goal.returns-then-found-clause-none
 returns-then-found-clause-none g c = λ e. absurd (let z : length c.args.conjuncts.now ≡ 0 = ap length e in omega (arith, z, c.loop-i-test.true))
 
 pub loop-i-preserved : goal.loop-i-preserved
-loop-i-preserved g c = (
-  c.in_ok-found.ensures.remembers,
-  omega (arith, c.loop-i.invariant.1, c.in_ok-found.ensures.more),
-  λ e. absurd (let z : length c.args.conjuncts.now ≡ 0 = ap length e in omega (arith, z, c.loop-i-test.true)),
-)
+loop-i-preserved g c = (c.in_ok-found.ensures.remembers, c.in_ok-found.ensures.same ∙ c.loop-i.invariant.1)

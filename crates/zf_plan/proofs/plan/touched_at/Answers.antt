@@ -1,9 +1,9 @@
 use Rattle.zf_plan.proofs.Prelude.{◌+◌, ◌∙◌, ◌≡◌, ap, subst, sym, trees_of, tree_at}
 use Rattle.std.proofs.Common.{Global, Vec, ℕ}
-use Rattle.zf_plan.specs.Places.{AreTouched, touches}
+use Rattle.zf_plan.specs.Places.{AreTouched, touches_inside}
 use Rattle.zf_plan.proofs.Numbers.{touched_push, touched_skip}
 use Rattle.zf_plan.proofs.plan.touched_at.Goals as goal
-use Rattle.zf_plan.proofs.plan.touched_at.Goals.{then-is_touched+in_ok-push, else-is_touched}
+use Rattle.zf_plan.proofs.plan.touched_at.Goals.{then-is_touched_inside+in_ok-push, else-is_touched_inside}
 
 pub loop-conjunct-preserved : goal.loop-conjunct-preserved
 loop-conjunct-preserved g c =
@@ -11,10 +11,10 @@ loop-conjunct-preserved g c =
     let trees = trees_of c.args.forest.now in
     let n = c.loop-conjunct.conjunct in
     let numbers = c.loop-conjunct.numbers.items in
-    let so : touches l c.args.due (tree_at trees n) ≡ c.is_touched.result = ap (touches l c.args.due) (sym c.root.ensures.tree) ∙ sym c.is_touched.ensures in
-    elim c.if-is_touched.branch [
-      | then-is_touched+in_ok-push w ↦
-          subst (AreTouched l trees c.args.due (n + 1)) (sym (ap (λ (v : Vec ℕ Global). v.items) w.numbers-is ∙ w.in_ok-push.ensures.items)) (touched_push l trees c.args.due n numbers c.loop-conjunct.invariant (so ∙ w.if-is_touched.true))
-      | else-is_touched w ↦
-          subst (AreTouched l trees c.args.due (n + 1)) (sym (ap (λ (v : Vec ℕ Global). v.items) w.numbers-is)) (touched_skip l trees c.args.due n numbers c.loop-conjunct.invariant (so ∙ w.if-is_touched.false))
+    let so : touches_inside l c.args.due (tree_at trees n) ≡ c.is_touched_inside.result = ap (touches_inside l c.args.due) (sym c.root.ensures.tree) ∙ sym c.is_touched_inside.ensures in
+    elim c.if-is_touched_inside.branch [
+      | then-is_touched_inside+in_ok-push w ↦
+          subst (AreTouched l trees c.args.due (n + 1)) (sym (ap (λ (v : Vec ℕ Global). v.items) w.numbers-is ∙ w.in_ok-push.ensures.items)) (touched_push l trees c.args.due n numbers c.loop-conjunct.invariant (so ∙ w.if-is_touched_inside.true))
+      | else-is_touched_inside w ↦
+          subst (AreTouched l trees c.args.due (n + 1)) (sym (ap (λ (v : Vec ℕ Global). v.items) w.numbers-is)) (touched_skip l trees c.args.due n numbers c.loop-conjunct.invariant (so ∙ w.if-is_touched_inside.false))
     ]

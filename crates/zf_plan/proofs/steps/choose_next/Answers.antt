@@ -1,18 +1,43 @@
-use Rattle.zf_plan.proofs.Prelude.{◌<◌, ◌∙◌, ◌≡◌, [], arith, get_or, length, subst, sym, get_or_default, trees_of, AreBelow}
+use Rattle.zf_plan.proofs.Prelude.{◌<◌, ◌∙◌, ◌≡◌, [], arith, get_or, length, subst, sym, None, Err, Ok, OnErr, Result, get_or_default, trees_of, AreBelow}
+use Rattle.std.specs.Result.{OnOk}
+use Rattle.zf_plan.specs.Counts.{IsPlain}
 use Rattle.zf_plan.proofs.steps.choose_next.Goals as goal
+
+on-ok : {T E : Type 0} (r : Result T E) (P Q : Type 0) → (P → Q) → OnOk r P → OnOk r Q
+on-ok (Ok x) P Q f h = f h
+on-ok (Err e) P Q f h = tt
+
+on-err : {T E : Type 0} (r : Result T E) (P Q : Type 0) → (P → Q) → OnErr r P → OnErr r Q
+on-err (Ok x) P Q f h = tt
+on-err (Err e) P Q f h = f h
 
 pub choose-requires-clause-conjuncts : goal.choose-requires-clause-conjuncts
 choose-requires-clause-conjuncts g c =
     let lists = c.args.plan.now.narrowing.items in
     let k = length c.args.places.now in
-    let inside : k < length lists = omega (arith, c.requires.plan.narrowing.all, c.requires.deeper) in
+    let narrowing = c.requires.plan.narrowing in
+    let inside : k < length lists = omega (arith, narrowing.all, c.requires.deeper) in
     let list : get_or lists k [] ≡ c.deref.result.now = get_or_default lists k [] c.index-narrowing.result.now inside ∙ sym c.index-narrowing.ensures ∙ sym c.narrowing.view_is ∙ sym c.deref.ensures.value in
-    subst (AreBelow (length (trees_of c.args.forest.now))) list (c.requires.plan.narrowing.below k inside)
+    subst (AreBelow (length (trees_of c.args.forest.now))) list (narrowing.each k inside)
 
-pub returns-clause-plain : goal.returns-clause-plain
-returns-clause-plain g c = λ plain.
+pub returns-clause-all : goal.returns-clause-all
+returns-clause-all g c =
     let lists = c.args.plan.now.narrowing.items in
     let k = length c.args.places.now in
-    let inside : k < length lists = omega (arith, c.requires.plan.narrowing.all, c.requires.deeper) in
+    let narrowing = c.requires.plan.narrowing in
+    let inside : k < length lists = omega (arith, narrowing.all, c.requires.deeper) in
     let list : get_or lists k [] ≡ c.deref.result.now = get_or_default lists k [] c.index-narrowing.result.now inside ∙ sym c.index-narrowing.ensures ∙ sym c.narrowing.view_is ∙ sym c.deref.ensures.value in
-    c.choose.ensures.none (sym list ∙ plain.none k)
+    let l = g.J.Judge.conjuncts c.args.judge.now in
+    let plain = IsPlain l (trees_of c.args.forest.now) c.args.plan.now in
+    on-ok c.choose.result (c.deref.result.now ≡ [] → c.choose.new.choice ≡ None) (plain → c.choose.new.choice ≡ None) (λ h is. h (sym list ∙ is.none k)) c.choose.ensures.all
+
+pub returns-clause-granted : goal.returns-clause-granted
+returns-clause-granted g c =
+    let lists = c.args.plan.now.narrowing.items in
+    let k = length c.args.places.now in
+    let narrowing = c.requires.plan.narrowing in
+    let inside : k < length lists = omega (arith, narrowing.all, c.requires.deeper) in
+    let list : get_or lists k [] ≡ c.deref.result.now = get_or_default lists k [] c.index-narrowing.result.now inside ∙ sym c.index-narrowing.ensures ∙ sym c.narrowing.view_is ∙ sym c.deref.ensures.value in
+    let l = g.J.Judge.conjuncts c.args.judge.now in
+    let plain = IsPlain l (trees_of c.args.forest.now) c.args.plan.now in
+    on-err c.choose.result (c.deref.result.now ≡ [] → ⊥) (plain → ⊥) (λ h is. h (sym list ∙ is.none k)) c.choose.ensures.granted

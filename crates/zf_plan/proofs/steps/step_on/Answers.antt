@@ -1,8 +1,12 @@
-use Rattle.zf_plan.proofs.Prelude.{◌-◌, ◌∙◌, ◌≡◌, [], ap, arith, false, get_or, length, refl, subst, take, true, option_copied, IsTruthOf, picked, is_reached, False, Out, True, IsChoice, trees_of, Remembers, Forgets, IsHopeless, path, planted, Place}
-use Rattle.zf_plan.proofs.Moving.{length-bound}
-use Rattle.zf_plan.proofs.Stepping.{setting-of, descends, descends-stand, retreats, retreats-stand, passes, refuted-whole, gives-end, takes-whole}
-use Rattle.zf_plan.specs.Counts.{CountsFound}
-use Rattle.zf_plan.proofs.Counting.{basis-of, counted-descends, counted-here, counted-retreats, counted-whole, counts-same, kept-same}
+use Rattle.zf_plan.proofs.Prelude.{◌-◌, ◌≤◌, ◌∙◌, ◌≡◌, [], ap, arith, false, get_or, inl, inr, length, refl, subst, sym, take, ℕ, option_copied, cases_eq, get_or-set_other, get_or-set_same, length-set, IsAt, IsTruthOf, picked, Out, True, IsChoice, IsSoFar, trees_of, Remembers, path, planted, Place}
+use Rattle.zf_plan.specs.Counts.{below_it, Counts, CountsFound, IsCounted}
+use Rattle.zf_plan.specs.Knowing.{NeedsBelow, NeedsWithin}
+use Rattle.std.specs.Vec.{with_item}
+use Rattle.zf_plan.specs.Memories.{Forgets}
+use Rattle.zf_plan.specs.Places.{Finds, IsFound}
+use Rattle.zf_plan.proofs.Moving.{length-bound, length-path}
+use Rattle.zf_plan.proofs.Stepping.{before-found, descends, descends-stand, finds-hopeless, finds-reached, finds-whole, gives-end, passes, retreats, retreats-stand, setting-of, takes-whole}
+use Rattle.zf_plan.proofs.Counting.{basis-of, counted-descends, counted-here, counted-retreats, counted-still, counts-whole, found-false, found-other}
 use Rattle.zf_plan.proofs.steps.step_on.Goals as goal
 
 pub returns-then-place-eq0-clause-goes : goal.returns-then-place-eq0-clause-goes
@@ -12,141 +16,297 @@ returns-then-place-eq0-clause-goes g c =
 
 pub returns-then-not-place-clause-goes : goal.returns-then-not-place-clause-goes
 returns-then-not-place-clause-goes g c =
-    let given = setting-of g.met.V.Ord.total (g.met.J.Judge.one_truth c.args.judge.now) (g.met.J.Judge.kept c.args.judge.now) c.requires.sound in
+    let l = g.J.Judge.conjuncts c.args.judge.now in
+    let uses = g.J.Judge.is_used c.args.judge.now in
+    let trees = trees_of c.args.forest.now in
+    let ranges = c.args.ranges.now in
+    let after = option_copied c.args.after in
     let p : Place = c.args.place.now in
-    retreats given p c.retreat.new.place c.args.memo.now c.args.choices.now (p.depth - 1) c.requires.stands c.if-not-place.true (omega arith) c.retreat.ensures.lands
+    let given = setting-of g.met.V.Ord.total (g.met.J.Judge.one_truth c.args.judge.now) (g.met.J.Judge.kept c.args.judge.now) c.requires.sound in
+    retreats given uses p c.retreat.new.place c.args.memo.now c.args.choices.now (p.depth - 1) c.requires.stands c.if-not-place.true (omega arith) c.retreat.ensures.lands
 
 pub returns-then-not-place-clause-stands : goal.returns-then-not-place-clause-stands
 returns-then-not-place-clause-stands g c =
-    let given = setting-of g.met.V.Ord.total (g.met.J.Judge.one_truth c.args.judge.now) (g.met.J.Judge.kept c.args.judge.now) c.requires.sound in
+    let l = g.J.Judge.conjuncts c.args.judge.now in
+    let uses = g.J.Judge.is_used c.args.judge.now in
+    let trees = trees_of c.args.forest.now in
+    let ranges = c.args.ranges.now in
+    let after = option_copied c.args.after in
     let p : Place = c.args.place.now in
-    retreats-stand given p c.retreat.new.place c.args.memo.now c.args.choices.now (p.depth - 1) c.requires.stands c.if-not-place.true (omega arith) c.retreat.ensures.lands c.retreat.new.memo
-    (subst (λ n. Forgets (g.J.Judge.conjuncts c.args.judge.now) n c.args.memo.now.truths.items c.retreat.new.memo.truths.items) (omega arith) c.retreat.ensures.forgets)
+    let given = setting-of g.met.V.Ord.total (g.met.J.Judge.one_truth c.args.judge.now) (g.met.J.Judge.kept c.args.judge.now) c.requires.sound in
+    retreats-stand given uses p c.retreat.new.place c.args.memo.now c.args.choices.now (p.depth - 1) c.requires.stands c.if-not-place.true (omega arith) c.retreat.ensures.lands
+    c.retreat.new.memo (subst (λ n. Forgets n c.args.memo.now c.retreat.new.memo) (omega arith) c.retreat.ensures.forgets)
 
 pub returns-then-not-place-clause-counts : goal.returns-then-not-place-clause-counts
 returns-then-not-place-clause-counts g c = λ plain h.
+    let l = g.J.Judge.conjuncts c.args.judge.now in
+    let uses = g.J.Judge.is_used c.args.judge.now in
+    let trees = trees_of c.args.forest.now in
+    let ranges = c.args.ranges.now in
+    let after = option_copied c.args.after in
+    let p : Place = c.args.place.now in
     let basis = basis-of g.met.V.Ord.total (g.met.J.Judge.one_truth c.args.judge.now) (g.met.J.Judge.kept c.args.judge.now) c.requires.sound in
-    let p : Place = c.args.place.now in
-    counted-retreats basis p c.retreat.new.place c.requires.stands.at c.requires.sound.ascending c.args.choices.now c.args.memo.now c.args.memo.now c.retreat.new.memo h (p.depth - 1) c.if-not-place.true (omega arith)
-    (subst (λ n. Forgets (g.J.Judge.conjuncts c.args.judge.now) n c.args.memo.now.truths.items c.retreat.new.memo.truths.items) (omega arith) c.retreat.ensures.forgets) c.retreat.ensures.same c.retreat.ensures.lands
+    let tests = c.args.memo.now.tests in
+    let choices = c.args.choices.now in
+    subst (λ n. IsCounted g.V.Ord.cmp l ranges after c.retreat.new.place n choices) (sym c.retreat.ensures.forgets.tests)
+    (counted-retreats basis p c.retreat.new.place c.requires.stands.at c.requires.sound.ascending choices tests (p.depth - 1) h c.if-not-place.true (omega arith) c.retreat.ensures.lands)
 
-pub returns-then-hopeless-clause-goes : goal.returns-then-hopeless-clause-goes
-returns-then-hopeless-clause-goes g c =
+pub test-requires-clause-before : goal.test-requires-clause-before
+test-requires-clause-before g c =
     let l = g.J.Judge.conjuncts c.args.judge.now in
-    let given = setting-of g.met.V.Ord.total (g.met.J.Judge.one_truth c.args.judge.now) (g.met.J.Judge.kept c.args.judge.now) c.requires.sound in
+    let uses = g.J.Judge.is_used c.args.judge.now in
+    let trees = trees_of c.args.forest.now in
+    let ranges = c.args.ranges.now in
+    let after = option_copied c.args.after in
     let p : Place = c.args.place.now in
-    let q : Place = record p { fresh = false } in
-    let h = subst (λ is. IsHopeless g.V.Ord.cmp l (trees_of c.args.forest.now) (length c.args.ranges.now) (option_copied c.args.after) (picked c.args.ranges.now (take p.depth is))) c.deref.ensures.value
-    (c.in_ok-hopeless.ensures.hopeless c.if-hopeless.true) in
-    passes given p q c.args.memo.now c.args.choices.now c.requires.stands c.if-not-place.false refl refl refl h
-
-pub returns-then-depth-ranges-clause-goes : goal.returns-then-depth-ranges-clause-goes
-returns-then-depth-ranges-clause-goes g c =
     let given = setting-of g.met.V.Ord.total (g.met.J.Judge.one_truth c.args.judge.now) (g.met.J.Judge.kept c.args.judge.now) c.requires.sound in
+    λ e. (before-found given uses p c.args.memo.now c.args.choices.now c.requires.stands).0 (sym c.so_far.ensures ∙ e)
+
+pub test-requires-clause-so_far : goal.test-requires-clause-so_far
+test-requires-clause-so_far g c =
     let l = g.J.Judge.conjuncts c.args.judge.now in
+    let uses = g.J.Judge.is_used c.args.judge.now in
+    let trees = trees_of c.args.forest.now in
+    let ranges = c.args.ranges.now in
+    let after = option_copied c.args.after in
     let p : Place = c.args.place.now in
-    let long : length (take p.depth c.deref-then-depth-ranges.result.now) ≡ p.depth = ap (λ is. length (take p.depth is)) c.deref-then-depth-ranges.ensures.value ∙ length-bound c.args.ranges.now p c.requires.stands.at in
-    let choice = subst (λ n. IsChoice l (trees_of c.args.forest.now) c.args.ranges.now (path c.args.ranges.now p) (get_or c.args.ranges.now n []) c.choose_next.new.choice) long
-    (subst (λ is. IsChoice l (trees_of c.args.forest.now) c.args.ranges.now (picked c.args.ranges.now (take p.depth is)) (get_or c.args.ranges.now (length (take p.depth c.deref-then-depth-ranges.result.now)) []) c.choose_next.new.choice) c.deref-then-depth-ranges.ensures.value c.in_ok-choose_next.ensures.choice) in
-    descends given p c.descend.new.place c.args.memo.now c.args.choices.now c.choose_next.new.choice c.requires.stands choice c.if-not-place.false c.if-depth-ranges.true c.descend.ensures.lands
-
-pub returns-then-depth-ranges-clause-stands : goal.returns-then-depth-ranges-clause-stands
-returns-then-depth-ranges-clause-stands g c =
     let given = setting-of g.met.V.Ord.total (g.met.J.Judge.one_truth c.args.judge.now) (g.met.J.Judge.kept c.args.judge.now) c.requires.sound in
-    let l = g.J.Judge.conjuncts c.args.judge.now in
-    let p : Place = c.args.place.now in
-    let long : length (take p.depth c.deref-then-depth-ranges.result.now) ≡ p.depth = ap (λ is. length (take p.depth is)) c.deref-then-depth-ranges.ensures.value ∙ length-bound c.args.ranges.now p c.requires.stands.at in
-    let choice = subst (λ n. IsChoice l (trees_of c.args.forest.now) c.args.ranges.now (path c.args.ranges.now p) (get_or c.args.ranges.now n []) c.choose_next.new.choice) long
-    (subst (λ is. IsChoice l (trees_of c.args.forest.now) c.args.ranges.now (picked c.args.ranges.now (take p.depth is)) (get_or c.args.ranges.now (length (take p.depth c.deref-then-depth-ranges.result.now)) []) c.choose_next.new.choice) c.deref-then-depth-ranges.ensures.value c.in_ok-choose_next.ensures.choice) in
-    let remembers = subst (λ is. Remembers l c.args.ranges.now (take p.depth is) c.choose_next.new.memo) c.deref-then-depth-ranges.ensures.value c.in_ok-choose_next.ensures.remembers in
-    descends-stand given p c.descend.new.place c.args.memo.now c.args.choices.now c.choose_next.new.choice c.requires.stands choice c.if-not-place.false c.if-depth-ranges.true c.descend.ensures.lands c.choose_next.new.memo c.descend.new.memo remembers
-    c.descend.ensures.forgets
+    let so = (before-found given uses p c.args.memo.now c.args.choices.now c.requires.stands).1 in
+    let long : length (take p.depth c.deref.result.now) ≡ p.depth =
+    ap (λ is. length (take p.depth is)) c.deref.ensures.value ∙ length-bound ranges p c.requires.stands.at in
+    subst (λ is. IsSoFar l trees (picked ranges (take p.depth is)) (NeedsBelow l trees (length (take p.depth c.deref.result.now))) c.so_far.result) (sym c.deref.ensures.value)
+    (subst (λ n. IsSoFar l trees (path ranges p) (NeedsBelow l trees n) c.so_far.result) (sym long)
+    (subst (IsSoFar l trees (path ranges p) (NeedsBelow l trees p.depth)) (sym c.so_far.ensures) so))
 
-pub returns-then-depth-ranges-clause-counts : goal.returns-then-depth-ranges-clause-counts
-returns-then-depth-ranges-clause-counts g c = λ plain h.
+pub returns-in_err-truth-clause-counts : goal.returns-in_err-truth-clause-counts
+returns-in_err-truth-clause-counts g c = λ plain h.
+    let l = g.J.Judge.conjuncts c.args.judge.now in
+    let uses = g.J.Judge.is_used c.args.judge.now in
+    let trees = trees_of c.args.forest.now in
+    let ranges = c.args.ranges.now in
+    let after = option_copied c.args.after in
+    let p : Place = c.args.place.now in
     let basis = basis-of g.met.V.Ord.total (g.met.J.Judge.one_truth c.args.judge.now) (g.met.J.Judge.kept c.args.judge.now) c.requires.sound in
-    let l = g.J.Judge.conjuncts c.args.judge.now in
-    let p : Place = c.args.place.now in
-    let here = counted-here basis p c.deref.result.now c.deref.ensures.value c.if-not-place.false c.args.choices.now c.args.memo.now c.args.memo.now h in
-    let found = subst (λ b. CountsFound g.V.Ord.cmp l c.args.ranges.now (option_copied c.args.after) (take p.depth c.deref.result.now) b c.is_hopeless.new.memo) c.if-hopeless.false (c.in_ok-hopeless.ensures.counts plain here) in
-    let chose = c.in_ok-choose_next.ensures.plain plain in
-    let same = chose.0 in
-    counted-descends basis p c.descend.new.place c.requires.stands.at c.requires.sound.ascending c.args.choices.now c.args.memo.now c.choose_next.new.memo c.descend.new.memo h c.deref.result.now c.deref.ensures.value c.if-depth-ranges.true c.requires.stands.all_choices
-    c.choose_next.new.choice chose.1 (counts-same g.V.Ord.cmp l c.args.ranges.now (option_copied c.args.after) true (take p.depth c.deref.result.now) c.is_hopeless.new.memo c.choose_next.new.memo same found.0)
-    (kept-same l c.is_hopeless.new.memo c.choose_next.new.memo same (length (take p.depth c.deref.result.now)) found.1) c.descend.ensures.forgets c.descend.ensures.same c.descend.ensures.lands
-
-pub returns-in-True-clause-goes : goal.returns-in-True-clause-goes
-returns-in-True-clause-goes g c =
-    let l = g.J.Judge.conjuncts c.args.judge.now in
-    let given = setting-of g.met.V.Ord.total (g.met.J.Judge.one_truth c.args.judge.now) (g.met.J.Judge.kept c.args.judge.now) c.requires.sound in
-    let p : Place = c.args.place.now in
-    let q : Place = record p { fresh = false } in
-    let reached = subst (λ is. is_reached g.V.Ord.cmp (option_copied c.args.after) (length c.args.ranges.now) (picked c.args.ranges.now (take p.depth is)) ≡ true) c.deref.ensures.value (c.in_ok-hopeless.ensures.reached c.if-hopeless.false) in
-    let truth = subst (λ is. IsTruthOf (planted l (trees_of c.args.forest.now)) (picked c.args.ranges.now (take p.depth is)) True) c.deref-2.ensures.value
-    (subst (IsTruthOf (planted l (trees_of c.args.forest.now)) (picked c.args.ranges.now (take p.depth c.deref-2.result.now))) c.in-True.is c.in_ok-truth.ensures.truth) in
-    takes-whole given p q True c.requires.stands.at c.if-not-place.false c.if-depth-ranges.false reached truth (λ e. cc) refl refl refl
-
-pub returns-in-Out-clause-goes : goal.returns-in-Out-clause-goes
-returns-in-Out-clause-goes g c =
-    let l = g.J.Judge.conjuncts c.args.judge.now in
-    let given = setting-of g.met.V.Ord.total (g.met.J.Judge.one_truth c.args.judge.now) (g.met.J.Judge.kept c.args.judge.now) c.requires.sound in
-    let p : Place = c.args.place.now in
-    let q : Place = record p { fresh = false } in
-    let reached = subst (λ is. is_reached g.V.Ord.cmp (option_copied c.args.after) (length c.args.ranges.now) (picked c.args.ranges.now (take p.depth is)) ≡ true) c.deref.ensures.value (c.in_ok-hopeless.ensures.reached c.if-hopeless.false) in
-    let truth = subst (λ is. IsTruthOf (planted l (trees_of c.args.forest.now)) (picked c.args.ranges.now (take p.depth is)) Out) c.deref-2.ensures.value
-    (subst (IsTruthOf (planted l (trees_of c.args.forest.now)) (picked c.args.ranges.now (take p.depth c.deref-2.result.now))) c.in-Out.is c.in_ok-truth.ensures.truth) in
-    takes-whole given p q Out c.requires.stands.at c.if-not-place.false c.if-depth-ranges.false reached truth (λ e. cc) refl refl refl
+    let at = c.requires.stands.at in
+    let here = counted-here basis p c.deref.result.now c.deref.ensures.value c.if-not-place.false c.args.choices.now c.args.memo.now.tests c.test.new.memo.tests h in
+    counted-still basis p c.deref.result.now c.deref.ensures.value c.if-not-place.false c.args.choices.now c.args.memo.now.tests c.test.new.memo.tests h
+    (c.in_err-truth.ensures.counts plain here)
 
 pub returns-in-False-clause-goes : goal.returns-in-False-clause-goes
 returns-in-False-clause-goes g c =
     let l = g.J.Judge.conjuncts c.args.judge.now in
-    let given = setting-of g.met.V.Ord.total (g.met.J.Judge.one_truth c.args.judge.now) (g.met.J.Judge.kept c.args.judge.now) c.requires.sound in
+    let uses = g.J.Judge.is_used c.args.judge.now in
+    let trees = trees_of c.args.forest.now in
+    let ranges = c.args.ranges.now in
+    let after = option_copied c.args.after in
     let p : Place = c.args.place.now in
     let q : Place = record p { fresh = false } in
-    let truth = subst (λ is. IsTruthOf (planted l (trees_of c.args.forest.now)) (picked c.args.ranges.now (take p.depth is)) False) c.deref-2.ensures.value
-    (subst (IsTruthOf (planted l (trees_of c.args.forest.now)) (picked c.args.ranges.now (take p.depth c.deref-2.result.now))) c.in-False.is c.in_ok-truth.ensures.truth) in
-    passes given p q c.args.memo.now c.args.choices.now c.requires.stands c.if-not-place.false refl refl refl (refuted-whole given p c.requires.stands.at c.if-depth-ranges.false truth)
-
-pub returns-in_err-truth-clause-counts : goal.returns-in_err-truth-clause-counts
-returns-in_err-truth-clause-counts g c = λ plain h.
-    let basis = basis-of g.met.V.Ord.total (g.met.J.Judge.one_truth c.args.judge.now) (g.met.J.Judge.kept c.args.judge.now) c.requires.sound in
-    let l = g.J.Judge.conjuncts c.args.judge.now in
-    let p : Place = c.args.place.now in
-    let here = counted-here basis p c.deref.result.now c.deref.ensures.value c.if-not-place.false c.args.choices.now c.args.memo.now c.args.memo.now h in
-    let found = subst (λ b. CountsFound g.V.Ord.cmp l c.args.ranges.now (option_copied c.args.after) (take p.depth c.deref.result.now) b c.is_hopeless.new.memo) c.if-hopeless.false (c.in_ok-hopeless.ensures.counts plain here) in
-    let r = counted-whole basis c.requires.sound.due p c.requires.stands.at c.deref.result.now c.deref.ensures.value c.if-not-place.false c.args.choices.now c.args.memo.now c.is_hopeless.new.memo c.truth_of_all.new.memo h c.if-depth-ranges.false found
-    (c.in_err-truth.ensures.same plain.flat) in
-    r.0
-
-pub returns-in-True-clause-counts : goal.returns-in-True-clause-counts
-returns-in-True-clause-counts g c = λ plain h.
-    let basis = basis-of g.met.V.Ord.total (g.met.J.Judge.one_truth c.args.judge.now) (g.met.J.Judge.kept c.args.judge.now) c.requires.sound in
-    let l = g.J.Judge.conjuncts c.args.judge.now in
-    let p : Place = c.args.place.now in
-    let here = counted-here basis p c.deref.result.now c.deref.ensures.value c.if-not-place.false c.args.choices.now c.args.memo.now c.args.memo.now h in
-    let found = subst (λ b. CountsFound g.V.Ord.cmp l c.args.ranges.now (option_copied c.args.after) (take p.depth c.deref.result.now) b c.is_hopeless.new.memo) c.if-hopeless.false (c.in_ok-hopeless.ensures.counts plain here) in
-    let r = counted-whole basis c.requires.sound.due p c.requires.stands.at c.deref.result.now c.deref.ensures.value c.if-not-place.false c.args.choices.now c.args.memo.now c.is_hopeless.new.memo c.truth_of_all.new.memo h c.if-depth-ranges.false found
-    (c.in_ok-truth.ensures.same plain.flat) in
-    r.1
+    let given = setting-of g.met.V.Ord.total (g.met.J.Judge.one_truth c.args.judge.now) (g.met.J.Judge.kept c.args.judge.now) c.requires.sound in
+    let truth = c.in_ok-truth.truth in
+    let finds : Finds g.V.Ord.cmp l trees (length ranges) after (path ranges p) truth =
+    subst (λ is. Finds g.V.Ord.cmp l trees (length ranges) after (picked ranges (take p.depth is)) truth) c.deref.ensures.value c.in_ok-truth.ensures.finds in
+    passes given p q c.requires.stands.at c.if-not-place.false refl refl refl (finds-hopeless given (path ranges p) truth c.in-False.is finds)
 
 pub returns-in-False-clause-counts : goal.returns-in-False-clause-counts
 returns-in-False-clause-counts g c = λ plain h.
-    let basis = basis-of g.met.V.Ord.total (g.met.J.Judge.one_truth c.args.judge.now) (g.met.J.Judge.kept c.args.judge.now) c.requires.sound in
     let l = g.J.Judge.conjuncts c.args.judge.now in
+    let uses = g.J.Judge.is_used c.args.judge.now in
+    let trees = trees_of c.args.forest.now in
+    let ranges = c.args.ranges.now in
+    let after = option_copied c.args.after in
     let p : Place = c.args.place.now in
-    let here = counted-here basis p c.deref.result.now c.deref.ensures.value c.if-not-place.false c.args.choices.now c.args.memo.now c.args.memo.now h in
-    let found = subst (λ b. CountsFound g.V.Ord.cmp l c.args.ranges.now (option_copied c.args.after) (take p.depth c.deref.result.now) b c.is_hopeless.new.memo) c.if-hopeless.false (c.in_ok-hopeless.ensures.counts plain here) in
-    let r = counted-whole basis c.requires.sound.due p c.requires.stands.at c.deref.result.now c.deref.ensures.value c.if-not-place.false c.args.choices.now c.args.memo.now c.is_hopeless.new.memo c.truth_of_all.new.memo h c.if-depth-ranges.false found
-    (c.in_ok-truth.ensures.same plain.flat) in
-    r.1
+    let basis = basis-of g.met.V.Ord.total (g.met.J.Judge.one_truth c.args.judge.now) (g.met.J.Judge.kept c.args.judge.now) c.requires.sound in
+    let at = c.requires.stands.at in
+    let here = counted-here basis p c.deref.result.now c.deref.ensures.value c.if-not-place.false c.args.choices.now c.args.memo.now.tests c.test.new.memo.tests h in
+    let found : CountsFound g.V.Ord.cmp l ranges after (path ranges p) c.in_ok-truth.truth c.test.new.memo.tests =
+    subst (λ is. CountsFound g.V.Ord.cmp l ranges after (picked ranges (take p.depth is)) c.in_ok-truth.truth c.test.new.memo.tests) c.deref.ensures.value (c.in_ok-truth.ensures.counts plain here) in
+    record {
+      counts = found-false basis (path ranges p) c.in_ok-truth.truth c.test.new.memo.tests c.in-False.is found;
+      whole = h.whole;
+    }
+
+pub returns-then-depth-ranges-clause-goes : goal.returns-then-depth-ranges-clause-goes
+returns-then-depth-ranges-clause-goes g c =
+    let l = g.J.Judge.conjuncts c.args.judge.now in
+    let uses = g.J.Judge.is_used c.args.judge.now in
+    let trees = trees_of c.args.forest.now in
+    let ranges = c.args.ranges.now in
+    let after = option_copied c.args.after in
+    let p : Place = c.args.place.now in
+    let given = setting-of g.met.V.Ord.total (g.met.J.Judge.one_truth c.args.judge.now) (g.met.J.Judge.kept c.args.judge.now) c.requires.sound in
+    let st = c.requires.stands in
+    let at : IsAt ranges p = st.at in
+    let now : Place = record p { found = with_item p.found p.depth c.in_ok-truth.truth } in
+    let now-at : IsAt ranges now = record {
+      all_places = at.all_places;
+      all_found = length-set p.found.items p.depth c.in_ok-truth.truth ∙ at.all_found;
+      shallow = at.shallow;
+      within = at.within;
+    } in
+    let choices = c.args.choices.now in
+    let choice = c.choose_next.new.choice in
+    let places = c.deref-then-depth-ranges in
+    let long : length (take p.depth places.result.now) ≡ p.depth = ap (λ is. length (take p.depth is)) places.ensures.value ∙ length-bound ranges p at in
+    let chosen = subst (λ n. IsChoice l trees ranges (path ranges p) (get_or ranges n []) choice) long
+    (subst (λ is. IsChoice l trees ranges (picked ranges (take p.depth is)) (get_or ranges (length (take p.depth places.result.now)) []) choice) places.ensures.value
+    c.in_ok-choose_next.ensures.choice) in
+    let h = descends given now c.descend.new.place choices choice now-at st.all_choices st.chosen chosen c.if-not-place.false c.if-depth-ranges.true c.descend.ensures.lands in
+    record { same = h.same; smaller = h.smaller }
+
+pub returns-then-depth-ranges-clause-stands : goal.returns-then-depth-ranges-clause-stands
+returns-then-depth-ranges-clause-stands g c =
+    let l = g.J.Judge.conjuncts c.args.judge.now in
+    let uses = g.J.Judge.is_used c.args.judge.now in
+    let trees = trees_of c.args.forest.now in
+    let ranges = c.args.ranges.now in
+    let after = option_copied c.args.after in
+    let p : Place = c.args.place.now in
+    let given = setting-of g.met.V.Ord.total (g.met.J.Judge.one_truth c.args.judge.now) (g.met.J.Judge.kept c.args.judge.now) c.requires.sound in
+    let truth = c.in_ok-truth.truth in
+    let finds : Finds g.V.Ord.cmp l trees (length ranges) after (path ranges p) truth =
+    subst (λ is. Finds g.V.Ord.cmp l trees (length ranges) after (picked ranges (take p.depth is)) truth) c.deref.ensures.value c.in_ok-truth.ensures.finds in
+    let st = c.requires.stands in
+    let at : IsAt ranges p = st.at in
+    let now : Place = record p { found = with_item p.found p.depth c.in_ok-truth.truth } in
+    let now-at : IsAt ranges now = record {
+      all_places = at.all_places;
+      all_found = length-set p.found.items p.depth c.in_ok-truth.truth ∙ at.all_found;
+      shallow = at.shallow;
+      within = at.within;
+    } in
+    let choices = c.args.choices.now in
+    let choice = c.choose_next.new.choice in
+    let places = c.deref-then-depth-ranges in
+    let long : length (take p.depth places.result.now) ≡ p.depth = ap (λ is. length (take p.depth is)) places.ensures.value ∙ length-bound ranges p at in
+    let chosen = subst (λ n. IsChoice l trees ranges (path ranges p) (get_or ranges n []) choice) long
+    (subst (λ is. IsChoice l trees ranges (picked ranges (take p.depth is)) (get_or ranges (length (take p.depth places.result.now)) []) choice) places.ensures.value
+    c.in_ok-choose_next.ensures.choice) in
+    let remembers = subst (λ is. Remembers l uses ranges (take p.depth is) c.choose_next.new.memo) places.ensures.value c.in_ok-choose_next.ensures.remembers in
+    let found-here : IsFound l trees (path ranges p) p.depth truth = record {
+      so = subst (λ n. IsSoFar l trees (path ranges p) (NeedsWithin l trees n) truth) (length-path ranges p at)
+          (finds-reached given (path ranges p) truth c.in_default.not-False finds).1;
+      not_false = c.in_default.not-False;
+    } in
+    let found : (j : ℕ) → j ≤ p.depth → IsFound l trees (picked ranges (take j p.places.items)) j (get_or now.found.items j True) = λ j low. elim (cases_eq j p.depth) [
+      | inl e ↦
+          let is : get_or now.found.items j True ≡ truth =
+          ap (λ i. get_or now.found.items i True) e ∙ get_or-set_same p.found.items p.depth truth True (omega (arith, at.all_found, c.if-depth-ranges.true)) in
+          subst (IsFound l trees (picked ranges (take j p.places.items)) j) (sym is)
+          (subst (λ i. IsFound l trees (picked ranges (take i p.places.items)) i truth) (sym e) found-here)
+      | inr ne ↦
+          subst (IsFound l trees (picked ranges (take j p.places.items)) j) (sym (get_or-set_other p.found.items p.depth j truth True ne)) (st.found j (omega (arith, low, ne)))
+    ] in
+    descends-stand given now c.descend.new.place choices choice now-at st.all_choices st.chosen chosen c.if-not-place.false c.if-depth-ranges.true c.descend.ensures.lands
+    uses c.choose_next.new.memo c.descend.new.memo remembers c.descend.ensures.forgets found
+
+pub returns-then-depth-ranges-clause-counts : goal.returns-then-depth-ranges-clause-counts
+returns-then-depth-ranges-clause-counts g c = λ plain h.
+    let l = g.J.Judge.conjuncts c.args.judge.now in
+    let uses = g.J.Judge.is_used c.args.judge.now in
+    let trees = trees_of c.args.forest.now in
+    let ranges = c.args.ranges.now in
+    let after = option_copied c.args.after in
+    let p : Place = c.args.place.now in
+    let basis = basis-of g.met.V.Ord.total (g.met.J.Judge.one_truth c.args.judge.now) (g.met.J.Judge.kept c.args.judge.now) c.requires.sound in
+    let here = counted-here basis p c.deref.result.now c.deref.ensures.value c.if-not-place.false c.args.choices.now c.args.memo.now.tests c.test.new.memo.tests h in
+    let found : CountsFound g.V.Ord.cmp l ranges after (path ranges p) c.in_ok-truth.truth c.test.new.memo.tests =
+    subst (λ is. CountsFound g.V.Ord.cmp l ranges after (picked ranges (take p.depth is)) c.in_ok-truth.truth c.test.new.memo.tests) c.deref.ensures.value (c.in_ok-truth.ensures.counts plain here) in
+    let below = found-other basis (path ranges p) c.in_ok-truth.truth c.test.new.memo.tests c.in_default.not-False found in
+    let st = c.requires.stands in
+    let at : IsAt ranges p = st.at in
+    let now : Place = record p { found = with_item p.found p.depth c.in_ok-truth.truth } in
+    let now-at : IsAt ranges now = record {
+      all_places = at.all_places;
+      all_found = length-set p.found.items p.depth c.in_ok-truth.truth ∙ at.all_found;
+      shallow = at.shallow;
+      within = at.within;
+    } in
+    let choices = c.args.choices.now in
+    let choice = c.choose_next.new.choice in
+    let places = c.deref-then-depth-ranges in
+    let long : length (take p.depth places.result.now) ≡ p.depth = ap (λ is. length (take p.depth is)) places.ensures.value ∙ length-bound ranges p at in
+    let chosen = subst (λ n. IsChoice l trees ranges (path ranges p) (get_or ranges n []) choice) long
+    (subst (λ is. IsChoice l trees ranges (picked ranges (take p.depth is)) (get_or ranges (length (take p.depth places.result.now)) []) choice) places.ensures.value
+    c.in_ok-choose_next.ensures.choice) in
+    let tests = c.descend.new.memo.tests in
+    let none = c.in_ok-choose_next.ensures.all plain in
+    let there = subst (Counts g.V.Ord.cmp l ranges after (path ranges p) below_it) (sym (c.descend.ensures.forgets.tests ∙ c.in_ok-choose_next.ensures.same)) below in
+    let old : IsCounted g.V.Ord.cmp l ranges after now c.args.memo.now.tests choices = record { counts = h.counts; whole = h.whole } in
+    counted-descends basis now c.descend.new.place now-at c.requires.sound.ascending choices c.args.memo.now.tests tests old c.if-depth-ranges.true st.all_choices choice none there
+    c.descend.ensures.lands
+
+pub returns-in-True-clause-goes : goal.returns-in-True-clause-goes
+returns-in-True-clause-goes g c =
+    let l = g.J.Judge.conjuncts c.args.judge.now in
+    let uses = g.J.Judge.is_used c.args.judge.now in
+    let trees = trees_of c.args.forest.now in
+    let ranges = c.args.ranges.now in
+    let after = option_copied c.args.after in
+    let p : Place = c.args.place.now in
+    let q : Place = record p { fresh = false } in
+    let given = setting-of g.met.V.Ord.total (g.met.J.Judge.one_truth c.args.judge.now) (g.met.J.Judge.kept c.args.judge.now) c.requires.sound in
+    let truth = c.in_ok-truth.truth in
+    let finds : Finds g.V.Ord.cmp l trees (length ranges) after (path ranges p) truth =
+    subst (λ is. Finds g.V.Ord.cmp l trees (length ranges) after (picked ranges (take p.depth is)) truth) c.deref.ensures.value c.in_ok-truth.ensures.finds in
+    let at = c.requires.stands.at in
+    let whole : length (path ranges p) ≡ length ranges = omega (arith, length-path ranges p at, at.shallow, c.if-depth-ranges.false) in
+    let so = finds-whole given (path ranges p) truth whole c.in_default.not-False finds in
+    takes-whole given p q True at c.if-not-place.false c.if-depth-ranges.false (finds-reached given (path ranges p) truth c.in_default.not-False finds).0
+    (subst (IsTruthOf (planted l trees) (path ranges p)) c.in-True.is so) (λ e. cc) refl refl refl
+
+pub returns-in-True-clause-counts : goal.returns-in-True-clause-counts
+returns-in-True-clause-counts g c = λ plain h.
+    let l = g.J.Judge.conjuncts c.args.judge.now in
+    let uses = g.J.Judge.is_used c.args.judge.now in
+    let trees = trees_of c.args.forest.now in
+    let ranges = c.args.ranges.now in
+    let after = option_copied c.args.after in
+    let p : Place = c.args.place.now in
+    let basis = basis-of g.met.V.Ord.total (g.met.J.Judge.one_truth c.args.judge.now) (g.met.J.Judge.kept c.args.judge.now) c.requires.sound in
+    let here = counted-here basis p c.deref.result.now c.deref.ensures.value c.if-not-place.false c.args.choices.now c.args.memo.now.tests c.test.new.memo.tests h in
+    let found : CountsFound g.V.Ord.cmp l ranges after (path ranges p) c.in_ok-truth.truth c.test.new.memo.tests =
+    subst (λ is. CountsFound g.V.Ord.cmp l ranges after (picked ranges (take p.depth is)) c.in_ok-truth.truth c.test.new.memo.tests) c.deref.ensures.value (c.in_ok-truth.ensures.counts plain here) in
+    let below = found-other basis (path ranges p) c.in_ok-truth.truth c.test.new.memo.tests c.in_default.not-False found in
+    let at : IsAt ranges p = c.requires.stands.at in
+    record {
+      counts = counts-whole basis (take p.depth p.places.items) at.within c.test.new.memo.tests (omega (arith, length-bound ranges p at, c.if-depth-ranges.false)) below;
+      whole = h.whole;
+    }
+
+pub returns-in-Out-clause-goes : goal.returns-in-Out-clause-goes
+returns-in-Out-clause-goes g c =
+    let l = g.J.Judge.conjuncts c.args.judge.now in
+    let uses = g.J.Judge.is_used c.args.judge.now in
+    let trees = trees_of c.args.forest.now in
+    let ranges = c.args.ranges.now in
+    let after = option_copied c.args.after in
+    let p : Place = c.args.place.now in
+    let q : Place = record p { fresh = false } in
+    let given = setting-of g.met.V.Ord.total (g.met.J.Judge.one_truth c.args.judge.now) (g.met.J.Judge.kept c.args.judge.now) c.requires.sound in
+    let truth = c.in_ok-truth.truth in
+    let finds : Finds g.V.Ord.cmp l trees (length ranges) after (path ranges p) truth =
+    subst (λ is. Finds g.V.Ord.cmp l trees (length ranges) after (picked ranges (take p.depth is)) truth) c.deref.ensures.value c.in_ok-truth.ensures.finds in
+    let at = c.requires.stands.at in
+    let whole : length (path ranges p) ≡ length ranges = omega (arith, length-path ranges p at, at.shallow, c.if-depth-ranges.false) in
+    let so = finds-whole given (path ranges p) truth whole c.in_default.not-False finds in
+    takes-whole given p q Out at c.if-not-place.false c.if-depth-ranges.false (finds-reached given (path ranges p) truth c.in_default.not-False finds).0
+    (subst (IsTruthOf (planted l trees) (path ranges p)) c.in-Out.is so) (λ e. cc) refl refl refl
 
 pub returns-in-Out-clause-counts : goal.returns-in-Out-clause-counts
 returns-in-Out-clause-counts g c = λ plain h.
-    let basis = basis-of g.met.V.Ord.total (g.met.J.Judge.one_truth c.args.judge.now) (g.met.J.Judge.kept c.args.judge.now) c.requires.sound in
     let l = g.J.Judge.conjuncts c.args.judge.now in
+    let uses = g.J.Judge.is_used c.args.judge.now in
+    let trees = trees_of c.args.forest.now in
+    let ranges = c.args.ranges.now in
+    let after = option_copied c.args.after in
     let p : Place = c.args.place.now in
-    let here = counted-here basis p c.deref.result.now c.deref.ensures.value c.if-not-place.false c.args.choices.now c.args.memo.now c.args.memo.now h in
-    let found = subst (λ b. CountsFound g.V.Ord.cmp l c.args.ranges.now (option_copied c.args.after) (take p.depth c.deref.result.now) b c.is_hopeless.new.memo) c.if-hopeless.false (c.in_ok-hopeless.ensures.counts plain here) in
-    let r = counted-whole basis c.requires.sound.due p c.requires.stands.at c.deref.result.now c.deref.ensures.value c.if-not-place.false c.args.choices.now c.args.memo.now c.is_hopeless.new.memo c.truth_of_all.new.memo h c.if-depth-ranges.false found
-    (c.in_ok-truth.ensures.same plain.flat) in
-    r.1
+    let basis = basis-of g.met.V.Ord.total (g.met.J.Judge.one_truth c.args.judge.now) (g.met.J.Judge.kept c.args.judge.now) c.requires.sound in
+    let here = counted-here basis p c.deref.result.now c.deref.ensures.value c.if-not-place.false c.args.choices.now c.args.memo.now.tests c.test.new.memo.tests h in
+    let found : CountsFound g.V.Ord.cmp l ranges after (path ranges p) c.in_ok-truth.truth c.test.new.memo.tests =
+    subst (λ is. CountsFound g.V.Ord.cmp l ranges after (picked ranges (take p.depth is)) c.in_ok-truth.truth c.test.new.memo.tests) c.deref.ensures.value (c.in_ok-truth.ensures.counts plain here) in
+    let below = found-other basis (path ranges p) c.in_ok-truth.truth c.test.new.memo.tests c.in_default.not-False found in
+    let at : IsAt ranges p = c.requires.stands.at in
+    record {
+      counts = counts-whole basis (take p.depth p.places.items) at.within c.test.new.memo.tests (omega (arith, length-bound ranges p at, c.if-depth-ranges.false)) below;
+      whole = h.whole;
+    }

@@ -1,0 +1,7 @@
+use Rattle.zf_plan.proofs.Prelude.{trees_of}
+use Rattle.zf_plan.specs.Places.{AreDue}
+use Rattle.zf_plan.proofs.plan.due_at.Given as goal
+
+-- They are those of the first conjuncts.
+abbrev pub invariant-loop-conjunct : goal.invariant-loop-conjunct
+invariant-loop-conjunct g l = AreDue (g.J.Judge.conjuncts l.judge) (trees_of l.forest) l.due l.conjunct l.numbers.items
