@@ -1,0 +1,3 @@
+pub mod Finds
+pub mod Turns
+pub mod Going
