@@ -18,21 +18,23 @@ use zf_lines::counted::Counted;
 use zf_lines::fault::RunFault;
 use zf_lines::writing::write_text;
 
-/// Writes the exploration of a machine, up to so many nodes beside the root. Each part is written before anything further is searched for.
+/// Writes the exploration of a machine by a search of it, up to so many nodes beside the root. Each part is written before anything further is searched for.
 pub fn explore<M: Machine, W: Write>(
     alloc: Global,
     machine: &M,
+    cursor: M::Cursor,
     limit: usize,
     writer: &mut Counted<W>,
 ) -> Result<Ending, RunFault>
     requires unfailed { failures_of writer.old ≡ 0 }
     requires limited { 1 ≤ limit }
+    requires fits { M.Fits machine.now cursor }
     ensures ok { IfOk result (λ ending. (at text : List ℕ) × IsWritten (M.explored machine.now) (M.words machine.now) limit (ending_of ending at) text × Appends (W.contents (device_of writer.old)) (W.contents (device_of writer.new)) text) }
     ensures err { OnErr result (StopsEarly (M.explored machine.now) (M.words machine.now) limit (W.contents (device_of writer.old)) (W.contents (device_of writer.new))) }
     ensures count { failures_of writer.new ≡ write_failures result }
     ensures unread { read_failures result ≡ 0 }
 {
-    let mut run = begun(alloc, machine)?;
+    let mut run = begun(alloc, machine, cursor)?;
     let ending = write_turns(machine, limit, &mut run, writer)?;
     append_last(machine, &mut run, ending)?;
     write_text(writer, &run.line)?;
@@ -49,6 +51,7 @@ fn write_turns<M: Machine, W: Write>(
     ghost origin: { Option (List ℕ) }
     requires unfailed { failures_of writer.old ≡ 0 }
     requires before { AtTurn (M.explored machine.now) (M.words machine.now) limit origin (W.contents (device_of writer.old)) run.old.met.keys run.old.place run.old.edges }
+    requires fits { M.Fits machine.now run.old.cursor }
     ensures ok { IfOk result (λ ending. Closes (M.explored machine.now) (M.words machine.now) limit (ending_of ending (M.stop run.new.cursor)) origin (W.contents (device_of writer.new)) run.new.met.keys run.new.edges) }
     ensures err { OnErr result (StopsEarly (M.explored machine.now) (M.words machine.now) limit origin (W.contents (device_of writer.new))) }
     ensures count { failures_of writer.new ≡ write_failures result }
@@ -74,9 +77,11 @@ fn write_turn<M: Machine, W: Write>(
     requires unfailed { failures_of writer.old ≡ 0 }
     requires before { AtTurn (M.explored machine.now) (M.words machine.now) limit origin (W.contents (device_of writer.old)) run.old.met.keys run.old.place run.old.edges }
     requires next { run.old.place < index_set_len run.old.met }
+    requires fits { M.Fits machine.now run.old.cursor }
     ensures ok { IfOk result (λ left. LeavesTurn (M.explored machine.now) (M.words machine.now) limit left (AtTurn (M.explored machine.now) (M.words machine.now) limit origin (W.contents (device_of writer.new)) run.new.met.keys (run.new.place + 1) run.new.edges) (M.stop run.new.cursor) origin (W.contents (device_of writer.new)) run.new.met.keys run.new.edges) }
     ensures err { OnErr result (StopsEarly (M.explored machine.now) (M.words machine.now) limit origin (W.contents (device_of writer.new))) }
     ensures place { OnOk result (run.new.place ≡ run.old.place) }
+    ensures fits { OnOk result (M.Fits machine.now run.new.cursor) }
     ensures count { failures_of writer.new ≡ write_failures result }
     ensures unread { read_failures result ≡ 0 }
 {
@@ -101,9 +106,11 @@ fn open_turn<M: Machine, W: Write>(
     requires unfailed { failures_of writer.old ≡ 0 }
     requires before { AtTurn (M.explored machine.now) (M.words machine.now) limit origin (W.contents (device_of writer.old)) run.old.met.keys run.old.place run.old.edges }
     requires next { run.old.place < index_set_len run.old.met }
+    requires fits { M.Fits machine.now run.old.cursor }
     ensures ok { IfOk result (λ goes_on. MatchBool goes_on (InParts (M.explored machine.now) (M.words machine.now) limit (λ of now. M.HasPassed machine.now of 0 now) origin (W.contents (device_of writer.new)) run.new.met.keys run.new.place run.new.edges run.new.stuck) (Closes (M.explored machine.now) (M.words machine.now) limit (broken (M.stop run.new.cursor)) origin (W.contents (device_of writer.new)) run.new.met.keys run.new.edges)) }
     ensures err { OnErr result (StopsEarly (M.explored machine.now) (M.words machine.now) limit origin (W.contents (device_of writer.new))) }
     ensures place { OnOk result (run.new.place ≡ run.old.place) }
+    ensures fits { OnOk result (M.Fits machine.now run.new.cursor) }
     ensures count { failures_of writer.new ≡ write_failures result }
     ensures unread { read_failures result ≡ 0 }
 {
@@ -127,9 +134,11 @@ fn close_turn<M: Machine, W: Write>(
     ghost origin: { Option (List ℕ) }
     requires unfailed { failures_of writer.old ≡ 0 }
     requires over { InParts (M.explored machine.now) (M.words machine.now) limit (M.explored machine.now).HasTurn origin (W.contents (device_of writer.old)) run.old.met.keys run.old.place run.old.edges run.old.stuck }
+    requires fits { M.Fits machine.now run.old.cursor }
     ensures ok { OnOk result (AtTurn (M.explored machine.now) (M.words machine.now) limit origin (W.contents (device_of writer.new)) run.new.met.keys (run.new.place + 1) run.new.edges) }
     ensures err { OnErr result (StopsEarly (M.explored machine.now) (M.words machine.now) limit origin (W.contents (device_of writer.new))) }
     ensures place { OnOk result (run.new.place ≡ run.old.place) }
+    ensures fits { OnOk result (M.Fits machine.now run.new.cursor) }
     ensures count { failures_of writer.new ≡ write_failures result }
     ensures unread { read_failures result ≡ 0 }
 {
@@ -149,9 +158,11 @@ fn write_parts<M: Machine, W: Write>(
     ghost origin: { Option (List ℕ) }
     requires unfailed { failures_of writer.old ≡ 0 }
     requires begun { InParts (M.explored machine.now) (M.words machine.now) limit (λ of now. M.HasPassed machine.now of 0 now) origin (W.contents (device_of writer.old)) run.old.met.keys run.old.place run.old.edges run.old.stuck }
+    requires fits { M.Fits machine.now run.old.cursor }
     ensures ok { IfOk result (λ left. LeavesTurn (M.explored machine.now) (M.words machine.now) limit left (InParts (M.explored machine.now) (M.words machine.now) limit (M.explored machine.now).HasTurn origin (W.contents (device_of writer.new)) run.new.met.keys run.new.place run.new.edges run.new.stuck) (M.stop run.new.cursor) origin (W.contents (device_of writer.new)) run.new.met.keys run.new.edges) }
     ensures err { OnErr result (StopsEarly (M.explored machine.now) (M.words machine.now) limit origin (W.contents (device_of writer.new))) }
     ensures place { OnOk result (run.new.place ≡ run.old.place) }
+    ensures fits { OnOk result (M.Fits machine.now run.new.cursor) }
     ensures count { failures_of writer.new ≡ write_failures result }
     ensures unread { read_failures result ≡ 0 }
 {
@@ -175,10 +186,12 @@ fn write_part<M: Machine, W: Write>(
     ghost origin: { Option (List ℕ) }
     requires unfailed { failures_of writer.old ≡ 0 }
     requires begun { InParts (M.explored machine.now) (M.words machine.now) limit (M.Stands machine.now run.old.cursor) origin (W.contents (device_of writer.old)) run.old.met.keys run.old.place run.old.edges run.old.stuck }
+    requires fits { M.Fits machine.now run.old.cursor }
     ensures ok { IfOk result (λ left. LeavesTurn (M.explored machine.now) (M.words machine.now) limit left (InParts (M.explored machine.now) (M.words machine.now) limit (λ of now. M.HasPassed machine.now of (M.part run.old.cursor + 1) now) origin (W.contents (device_of writer.new)) run.new.met.keys run.new.place run.new.edges run.new.stuck) (M.stop run.new.cursor) origin (W.contents (device_of writer.new)) run.new.met.keys run.new.edges) }
     ensures err { OnErr result (StopsEarly (M.explored machine.now) (M.words machine.now) limit origin (W.contents (device_of writer.new))) }
     ensures place { OnOk result (run.new.place ≡ run.old.place) }
     ensures keeps { OnOk result (KeepsNodes run.old.met.keys run.new.met.keys) }
+    ensures fits { OnOk result (M.Fits machine.now run.new.cursor) }
     ensures count { failures_of writer.new ≡ write_failures result }
     ensures unread { read_failures result ≡ 0 }
 {

@@ -48,6 +48,9 @@ pub trait Machine {
     /// How many parts the edges of a node have.
     ghost parts: { Self → Self.Node → ℕ };
 
+    /// The search is one of the machine.
+    ghost Fits: { Self → Self.Cursor → Type 0 };
+
     /// The turn of the node begins with the edges of so many parts.
     ghost HasPassed: { Self → Self.Node → ℕ → Turn Self.Node Self.Label → Type 0 };
 
@@ -67,16 +70,15 @@ pub trait Machine {
     fn root(&self) -> Result<Self::Node, AllocError>
         ensures { IfOk result (λ n. n ≡ (explored self.now).root) };
 
-    /// A search for the edges of no node.
-    fn cursor(&self) -> Result<Self::Cursor, AllocError>;
-
     /// How many parts the edges of a node have.
     fn count(&self, of: &Self::Node) -> usize
         ensures { result ≡ parts self.now of.now };
 
     /// Begins the turn of a node.
     fn begin(&self, cursor: &mut Self::Cursor, of: &Self::Node) -> Result<Beginning, AllocError>
-        ensures { IfOk result (λ b. (now : Turn Self.Node Self.Label) × BeginsAs (explored self.now) b of.now now (stop cursor.new) × HasPassed self.now of.now 0 now) };
+        requires { Fits self.now cursor.old }
+        ensures fits { OnOk result (Fits self.now cursor.new) }
+        ensures begins { IfOk result (λ b. (now : Turn Self.Node Self.Label) × BeginsAs (explored self.now) b of.now now (stop cursor.new) × HasPassed self.now of.now 0 now) };
 
     /// Begins the search for the edges of a part.
     fn start(
@@ -85,7 +87,9 @@ pub trait Machine {
         of: &Self::Node,
         which: usize,
     ) -> Result<(), AllocError>
-        requires { which < parts self.now of.now }
+        requires fits { Fits self.now cursor.old }
+        requires which { which < parts self.now of.now }
+        ensures fits { OnOk result (Fits self.now cursor.new) }
         ensures stands { OnOk result ((now : Turn Self.Node Self.Label) → HasPassed self.now of.now which now → Stands self.now cursor.new of.now now) }
         ensures part { OnOk result (part cursor.new ≡ which) };
 
@@ -94,6 +98,8 @@ pub trait Machine {
         &self,
         cursor: &mut Self::Cursor,
     ) -> Result<Found<Self::Node, Self::Label>, AllocError>
+        requires { Fits self.now cursor.old }
+        ensures fits { OnOk result (Fits self.now cursor.new) }
         ensures part { OnOk result (part cursor.new ≡ part cursor.old) }
         ensures answer { IfOk result (λ f. (of : Self.Node) (now : Turn Self.Node Self.Label) → Stands self.now cursor.old of now → AdvancesTo (explored self.now) f of now (Stands self.now cursor.new of) (HasPassed self.now of (part cursor.old + 1)) (stop cursor.new)) }
         ensures fewer { IfOk result (λ f. HasFewer f (ahead cursor.old) (ahead cursor.new)) };

@@ -28,14 +28,18 @@ pub struct Run<N: Eq + Hash, C> {
 }
 
 /// Before the turn of the root.
-pub fn begun<M: Machine>(alloc: Global, machine: &M) -> Result<Run<M::Node, M::Cursor>, AllocError>
+pub fn begun<M: Machine>(
+    alloc: Global,
+    machine: &M,
+    cursor: M::Cursor,
+) -> Result<Run<M::Node, M::Cursor>, AllocError>
+    ensures cursor { IfOk result (λ r. r.cursor ≡ cursor) }
     ensures met { IfOk result (λ r. r.met.keys ≡ (M.explored machine.now).root ∷ []) }
     ensures none { IfOk result (λ r. (r.place ≡ 0) × (r.edges ≡ 0)) }
 {
     let mut met = IndexSet::new(alloc);
     let root = machine.root()?;
     let _is_new = met.insert(root)?;
-    let cursor = machine.cursor()?;
     Ok(Run {
         met,
         cursor,
@@ -51,7 +55,9 @@ pub fn begin_turn<M: Machine>(
     machine: &M,
     run: &mut Run<M::Node, M::Cursor>,
 ) -> Result<Beginning, AllocError>
-    requires { run.old.place < index_set_len run.old.met }
+    requires node { run.old.place < index_set_len run.old.met }
+    requires fits { M.Fits machine.now run.old.cursor }
+    ensures fits { OnOk result (M.Fits machine.now run.new.cursor) }
     ensures begins { IfOk result (λ b. (of : M.Node) (at : slice_get run.old.met.keys run.old.place ≡ Some of) → (now : Turn M.Node M.Label) × BeginsAs (M.explored machine.now) b of now (M.stop run.new.cursor) × M.HasPassed machine.now of 0 now) }
     ensures same { OnOk result ((run.new.met ≡ run.old.met) × (run.new.place ≡ run.old.place) × (run.new.edges ≡ run.old.edges)) }
     ensures stuck { OnOk result (run.new.stuck ≡ true) }
@@ -82,6 +88,8 @@ pub fn start_part<M: Machine>(
 ) -> Result<(), AllocError>
     requires node { run.old.place < index_set_len run.old.met }
     requires which { (of : M.Node) → slice_get run.old.met.keys run.old.place ≡ Some of → which < M.parts machine.now of }
+    requires fits { M.Fits machine.now run.old.cursor }
+    ensures fits { OnOk result (M.Fits machine.now run.new.cursor) }
     ensures stands { OnOk result ((of : M.Node) → slice_get run.old.met.keys run.old.place ≡ Some of → (now : Turn M.Node M.Label) → M.HasPassed machine.now of which now → M.Stands machine.now run.new.cursor of now) }
     ensures part { OnOk result (M.part run.new.cursor ≡ which) }
     ensures same { OnOk result ((run.new.met ≡ run.old.met) × (run.new.place ≡ run.old.place) × (run.new.edges ≡ run.old.edges) × (run.new.stuck ≡ run.old.stuck)) }

@@ -35,6 +35,7 @@ edges-preserved g c =
       same.1 ∙ c.edges.invariant.2,
       (search rules),
       keeps_more (g.M.Machine.explored c.args.machine.now).eq _ _ _ c.in-Edge.to c.edges.invariant.4 c.in_ok-full-in-Edge.ensures.met,
+      rw same.0 c.in_ok-label.ensures.fits,
     )
 
 pub returns-in-Out-clause-ok : goal.returns-in-Out-clause-ok
@@ -43,7 +44,7 @@ returns-in-Out-clause-ok g c =
     closes_out _ _ _ _ _ _ _ _ _ _ t _ ((rw c.in-Out.is at c.in_ok-label.ensures.answer) t.node t.now t.stands)
 
 pub edges-init : goal.edges-init
-edges-init g c = let r = c.requires.1.1.1.1.1 in (r.1, refl, refl, r.0, keeps_same _)
+edges-init g c = let r = c.requires.1.1.1.1.1 in (r.1.0, refl, refl, r.0, keeps_same _, r.1.1)
 
 pub returns-then-full-clause-keeps : goal.returns-then-full-clause-keeps
 returns-then-full-clause-keeps g c = keeps_more (g.M.Machine.explored c.args.machine.now).eq _ _ _ c.in-Edge.to c.edges.invariant.4 c.in_ok-full-in-Edge.ensures.met

@@ -8,6 +8,7 @@ invariant-edges g l =
     × (l.run.place ≡ l.initial.run.place)
     × (failures_of l.writer ≡ 0)
     × KeepsNodes l.initial.run.met.keys l.run.met.keys
+    × g.M.Machine.Fits l.machine l.run.cursor
 
 abbrev pub decreases-edges : goal.decreases-edges
 decreases-edges g l = g.M.Machine.ahead l.run.cursor

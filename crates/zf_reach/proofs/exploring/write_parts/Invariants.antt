@@ -7,6 +7,7 @@ invariant-loop-which g l =
     × (l.run.place ≡ l.initial.run.place)
     × (failures_of l.writer ≡ 0)
     × KeepsNodes l.initial.run.met.keys l.run.met.keys
+    × g.M.Machine.Fits l.machine l.run.cursor
 
 abbrev pub ghost-write_part : goal.ghost-write_part
 ghost-write_part g a = g.origin
