@@ -10,7 +10,8 @@ pub write_turns-requires : goal.write_turns-requires
 write_turns-requires g c κs within =
     let at = at_first_seen (g.M.Machine.explored c.args.machine.now) (g.M.Machine.words c.args.machine.now) c.args.limit (g.W.Write.contents (device_of c.args.writer.now)) c.requires.limited
     c.in_ok-run.run'.met.keys c.in_ok-run.run'.place c.in_ok-run.run'.edges c.in_ok-run.ensures.met c.in_ok-run.ensures.none.0 c.in_ok-run.ensures.none.1 in
-    search (rules, c.requires.unfailed, at, rw c.in_ok-run.ensures.cursor c.requires.fits)
+    let fits : g.M.Machine.Fits c.args.machine.now c.in_ok-run.run'.cursor = rw c.in_ok-run.ensures.cursor c.requires.fits in
+    search (rules, c.requires.unfailed, at, fits)
 
 pub returns-in_err-append_last-clause-err : goal.returns-in_err-append_last-clause-err
 returns-in_err-append_last-clause-err g c = always_on_err _ (stops_closed _ _ _ _ _ _ _ _ c.in_ok-ending.ensures.ok)
