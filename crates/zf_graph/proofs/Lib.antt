@@ -9,3 +9,6 @@ pub mod OneWay
 pub mod Fronts
 pub mod Existing
 pub mod Seeking
+pub mod Finds
+pub mod Turns
+pub mod Going

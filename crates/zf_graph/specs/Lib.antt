@@ -4,3 +4,4 @@ pub mod Texts
 pub mod Laws
 pub mod Stages
 pub mod Seeking
+pub mod Parts

@@ -1,3 +1,1 @@
-pub mod Finds
-pub mod Turns
-pub mod Going
+pub mod Laws

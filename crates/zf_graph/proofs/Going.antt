@@ -4,8 +4,8 @@ use Rattle.std.proofs.lemmas.List.{append-nil, append_assoc, map-append}
 use Rattle.std.specs.Prelude.{AllPairs, Contains, slice_get}
 use Rattle.zf_graph.specs.Graphs.{Edge}
 use Rattle.zf_graph.proofs.Places.{none_some, one_some}
-use Rattle.zf_steps.proofs.Finds.{first_of_all}
-use Rattle.zf_steps.specs.Parts.{AllHold, AreFinds, AreFirst, BeginsParts, BreaksParts, HasParts, IsOrderly, Searched}
+use Rattle.zf_graph.proofs.Finds.{first_of_all}
+use Rattle.zf_graph.specs.Parts.{AllHold, AreFinds, AreFirst, BeginsParts, BreaksParts, HasParts, IsOrderly, Searched}
 
 module _ {N L O X : Type 0} (s : Searched N L O X) (a : N) where
   abbrev Edges : Type 0

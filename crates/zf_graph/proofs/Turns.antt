@@ -7,8 +7,8 @@ use Rattle.zf_graph.specs.Graphs.{Edge}
 use Rattle.zf_graph.specs.Laws.{IsFrontTurn, IsOf, IsSure}
 use Rattle.zf_graph.proofs.Places.{none_some, one_some}
 use Rattle.zf_walk.proofs.Lists.{Contains-cases, Contains-either, Contains-head, Contains-later, Contains-left, Contains-nil, Contains-right}
-use Rattle.zf_steps.proofs.Finds.{all_or_out, before_out, first_in_all, first_of_all, IsFront, one_all, one_first}
-use Rattle.zf_steps.specs.Parts.{AllHold, AreFinds, AreFirst, BeginsParts, BreaksParts, explored_of, graph_of, HasParts, IsFound, IsOrderly, Searched}
+use Rattle.zf_graph.proofs.Finds.{all_or_out, before_out, first_in_all, first_of_all, IsFront, one_all, one_first}
+use Rattle.zf_graph.specs.Parts.{AllHold, AreFinds, AreFirst, BeginsParts, BreaksParts, explored_of, graph_of, HasParts, IsFound, IsOrderly, Searched}
 
 -- ---- lists
 

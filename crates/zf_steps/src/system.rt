@@ -1,0 +1,29 @@
+//! What is explored of a specification.
+use std::alloc::Global;
+use zf_meaning::env::Env;
+use zf_term::schema::Flat;
+use zf_texts::Spelling;
+
+/// A schema whose bindings are steps, with which of its components are those of the state before, and which are those of the state after.
+#[derive(Drop)]
+pub struct Operation<'p, 'a> {
+    pub name: &'p [u8],
+    pub schema: &'p Flat<'a>,
+    /// Of each component of the schema, which component of the state before it is, if it is one.
+    pub sources: Vec<Option<usize>>,
+    /// The places of the components of the state after, in their order.
+    pub after: Vec<usize>,
+    /// The places of those of neither.
+    pub others: Vec<usize>,
+}
+
+/// The schema of the state, of which each component is one of the state before, that of the initial states, and the operations.
+#[derive(Drop)]
+pub struct System<'p, 'e, 'g, 'a> {
+    pub alloc: Global,
+    pub env: &'e Env<'g, 'a>,
+    pub elements: &'p [Spelling],
+    pub state: Operation<'p, 'a>,
+    pub init: Operation<'p, 'a>,
+    pub operations: Vec<Operation<'p, 'a>>,
+}
