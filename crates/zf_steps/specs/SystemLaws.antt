@@ -32,11 +32,11 @@ use Rattle.zf_steps.specs.Steps.{IsDoubtful, IsEventOf, IsFirstOf, IsStray, sear
 use Rattle.zf_steps.specs.Systems.{System}
 
 -- no row comes after one that comes after it
-never_both : (a b : List Value) → ComesAfter value_order a b → ComesAfter value_order b a → ⊥
+pub never_both : (a b : List Value) → ComesAfter value_order a b → ComesAfter value_order b a → ⊥
 never_both a b h k = let e : slice_cmp value_order a b ≡ Greater = (lists_total order_laws.total-law).antisymm a b ∙ ap ordering_reverse k in let f : Less ≡ Greater = sym h ∙ e in cc
 
 -- two rows are one, or one comes after the other
-comparable : (a b : List Value) → (a ≡ b) ⊎ ComesAfter value_order a b ⊎ ComesAfter value_order b a
+pub comparable : (a b : List Value) → (a ≡ b) ⊎ ComesAfter value_order a b ⊎ ComesAfter value_order b a
 comparable a b = by (slice_cmp value_order a b) refl where
   by : (o : Ordering) → slice_cmp value_order a b ≡ o → (a ≡ b) ⊎ ComesAfter value_order a b ⊎ ComesAfter value_order b a
   by Less h = inr (inl h)

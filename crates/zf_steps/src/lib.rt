@@ -10,5 +10,5 @@ pub use node::{Label, Node};
 pub use system::{Operation, System};
 
 /// A law.
-#[tactic(auto, using(crate::proofs::Laws::is_of))]
+#[tactic(auto, using(crate::proofs::Laws::is_of, crate::proofs::Searching::all_passed))]
 pub fn law() {}
