@@ -1,6 +1,5 @@
 -- The lines of states and steps.
 use Rattle.std.specs.Prelude.{ℕ, ◌-◌, ◌^◌, ◌++◌, List, [], ◌∷◌, codes, cond, decimal, eqb, min, Option, slice_get}
-use Rattle.std.specs.List.{filter_map}
 use Rattle.zf_graph.specs.Texts.{broken, ended, Ending, paused, Words}
 use Rattle.zf_term.specs.Definitions.{Comp}
 use Rattle.zf_texts.specs.BindingTexts.{binding_text}
@@ -28,7 +27,7 @@ module _ (m : System) where
 
   abbrev pub label_at : Option Operation → List Value → List ℕ
   label_at Option.None values = []
-  label_at (Option.Some o) values = label_text (filter_map (slice_get o.schema.comps) o.others) values
+  label_at (Option.Some o) values = label_text o.label values
 
   -- `step 1 OPERATION 2: LABEL`; that a state is initial has no line but the state's
   abbrev pub step_line : (from : ℕ) → Label → (number : ℕ) → List ℕ

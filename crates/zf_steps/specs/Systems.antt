@@ -1,6 +1,6 @@
 -- What is explored of a specification: the schema of the state, that of the initial states, and the operations.
 use Rattle.std.specs.Prelude.{ℕ, List, Option, map}
-use Rattle.zf_term.specs.Definitions.{Schema}
+use Rattle.zf_term.specs.Definitions.{Comp, Schema}
 use Rattle.zf_term.specs.SchemaViews.{schema_of}
 use Rattle.zf_texts.specs.declared.spelling.Spelling.{Spelling}
 use Rattle.zf_meaning.specs.Environments.{Environment}
@@ -8,13 +8,14 @@ use Rattle.zf_meaning.specs.Envs.{environment_of}
 use Rattle.zf_steps.specs.declared.system.Operation as code
 use Rattle.zf_steps.specs.declared.system.System as codes
 
--- A schema whose bindings are steps: of each of its components, which one of the state before it is, if it is one; the places of those of the state after, and the places of the others.
+-- A schema whose bindings are steps: of each of its components, which one of the state before it is, if it is one; the places of those of the state after, and those of the others, with the others themselves.
 pub record Operation : Type 0 where
   pub name : List ℕ
   pub schema : Schema
   pub sources : List (Option ℕ)
   pub after : List ℕ
   pub others : List ℕ
+  pub label : List Comp
 
 -- in an environment, with how elements are spelled
 pub record System : Type 0 where
@@ -27,9 +28,9 @@ pub record System : Type 0 where
 -- ---- as the program has them
 
 abbrev pub operation_of : code.Operation → Operation
-operation_of o = record { name = o.name.now; schema = schema_of o.schema.now; sources = o.sources.items; after = o.after.items; others = o.others.items }
+operation_of o = record { name = o.name.now; schema = schema_of o.schema.now; sources = o.sources.items; after = o.after.items; others = o.others.items; label = (schema_of o.label.now).comps }
 
-abbrev pub system_of : codes.System → System
+abbrev pub system_of : {S : Type 0} → codes.System S → System
 system_of s = record {
   environment = environment_of s.env.now;
   elements = s.elements.now;

@@ -1,5 +1,6 @@
 //! What is explored of a specification.
 use std::alloc::Global;
+use std::marker::PhantomData;
 use zf_meaning::env::Env;
 use zf_term::schema::Flat;
 use zf_texts::Spelling;
@@ -15,15 +16,19 @@ pub struct Operation<'p, 'a> {
     pub after: Vec<usize>,
     /// The places of those of neither.
     pub others: Vec<usize>,
+    /// A schema of the latter alone.
+    pub label: &'p Flat<'a>,
 }
 
-/// The schema of the state, of which each component is one of the state before, that of the initial states, and the operations.
+/// The schema of the state, of which each component is one of the state before, that of the initial states, and the operations; in an environment, with how elements are spelled.
 #[derive(Drop)]
-pub struct System<'p, 'e, 'g, 'a> {
+pub struct System<'p, 'e, 'g, 'a, S> {
     pub alloc: Global,
     pub env: &'e Env<'g, 'a>,
     pub elements: &'p [Spelling],
     pub state: Operation<'p, 'a>,
     pub init: Operation<'p, 'a>,
     pub operations: Vec<Operation<'p, 'a>>,
+    /// By which searches it is explored.
+    pub searches: PhantomData<S>,
 }

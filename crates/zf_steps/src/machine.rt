@@ -1,0 +1,76 @@
+//! A specification as a machine that is explored.
+ghost use Rattle.std.specs.Prelude.{◌≡◌, IfOk, OnOk};
+ghost use Rattle.zf_steps.specs.Machines.{stopped};
+ghost use Rattle.zf_steps.specs.Steps.{held_by, source_value, values_at};
+ghost use Rattle.zf_steps.specs.Systems.{operation_of, system_of};
+
+use crate::system::{Operation, System};
+use std::alloc::{AllocError, Global};
+use zf_meaning::row::Row;
+use zf_texts::append_binding;
+use zf_value::items::Items;
+use zf_value::value::Value;
+
+/// The values that are held of a schema's components where the state before has these values.
+pub fn held_by(
+    alloc: Global,
+    sources: &[Option<usize>],
+    values: &[Value],
+) -> Result<Vec<Option<Value>>, AllocError>
+    ensures { IfOk result (λ held. held.items ≡ held_by sources.now values.now) }
+{
+    let mut held = Vec::with_capacity(alloc, sources.len())?;
+    for source in sources {
+        held.push(source_value(alloc, values, *source)?)?;
+    }
+    Ok(held)
+}
+
+/// The value of this component of the state, if it is one.
+fn source_value(
+    alloc: Global,
+    values: &[Value],
+    source: Option<usize>,
+) -> Result<Option<Value>, AllocError>
+    ensures { IfOk result (λ held. held ≡ source_value values.now source) }
+{
+    match source {
+        None => Ok(None),
+        Some(place) => match values.get(place) {
+            None => Ok(None),
+            Some(value) => Ok(Some(value.copy(alloc)?)),
+        },
+    }
+}
+
+/// The values at these places of a row.
+pub fn values_at<R: Row>(
+    alloc: Global,
+    places: &[usize],
+    row: &R,
+) -> Result<Items<Value>, AllocError>
+    ensures { IfOk result (λ values. values ≡ values_at places.now (R.values row.now)) }
+{
+    let mut values = Vec::with_capacity(alloc, places.len())?;
+    for place in places {
+        if *place < row.len() {
+            values.push(row.get(*place).copy(alloc)?)?;
+        }
+    }
+    Items::of(alloc, values)
+}
+
+/// Lays out what is said of a binding that is out.
+pub fn lay_out_stop<S, R: Row>(
+    text: &mut Vec<u8>,
+    system: &System<'_, '_, '_, '_, S>,
+    operation: &Operation<'_, '_>,
+    row: &R,
+) -> Result<(), AllocError>
+    ensures { OnOk result (text.new.items ≡ stopped (system_of system.now) (operation_of operation.now) (R.values row.now)) }
+{
+    text.clear();
+    text.extend_from_slice(operation.name)?;
+    text.extend_from_slice(b": ")?;
+    append_binding(text, operation.schema, system.elements, row)
+}
