@@ -37,7 +37,7 @@ module _ {X : Type 0} (R : X → X → Type 0) (never : (x y : X) → R x y → 
   fronts (x ∷ xs) [] p q h k c = inr (x ∷ xs, refl)
   fronts (x ∷ xs) (y ∷ ys) p q h k c = elim (c x y (Contains-head x xs) (Contains-head y ys)) [
     | inl same ↦ fronts_here x y xs ys same p q h k (λ a b. fronts xs ys (AllPairs-tail R x xs p) (AllPairs-tail R y ys q) a b
-      (λ v w m n. c v w (Contains-later x xs v m) (Contains-later y ys w n)))
+        (λ v w m n. c v w (Contains-later x xs v m) (Contains-later y ys w n)))
     | inr (inl r) ↦ absurd (before x y xs ys p q k r)
     | inr (inr r) ↦ absurd (before y x ys xs q p h r)
   ] where
@@ -72,16 +72,16 @@ module _ {N L O X : Type 0} (s : Searched N L O X) (orderly : IsOrderly s) (a : 
   first_in_all xs ys h k = elim (one_first xs ys h (first_of_all ys k)) [
     | inl f ↦ f
     | inr f ↦
-      let none : f.0 ≡ [] = no_more s.IsBefore orderly.never_both ys f.0 (subst (AllPairs s.IsBefore) f.1 h.ascending)
-          (λ x m. (k.members x).1 (h.are x (subst (λ w. Contains w x) (sym f.1) (Contains-right ys f.0 x m)))) in
-      ([], sym (append-nil xs ∙ f.1 ∙ ap (λ w. ys ++ w) none ∙ append-nil ys))
+        let none : f.0 ≡ [] = no_more s.IsBefore orderly.never_both ys f.0 (subst (AllPairs s.IsBefore) f.1 h.ascending)
+        (λ x m. (k.members x).1 (h.are x (subst (λ w. Contains w x) (sym f.1) (Contains-right ys f.0 x m)))) in
+        ([], sym (append-nil xs ∙ f.1 ∙ ap (λ w. ys ++ w) none ∙ append-nil ys))
   ]
 
   pub one_all : (xs ys : List X) → AreFinds s a o xs → AreFinds s a o ys → xs ≡ ys
   one_all xs ys h k =
       let f = first_in_all xs ys (first_of_all xs h) k in
       let none : f.0 ≡ [] = no_more s.IsBefore orderly.never_both xs f.0 (subst (AllPairs s.IsBefore) f.1 k.ascending)
-          (λ x m. (h.members x).1 ((k.members x).0 (subst (λ w. Contains w x) (sym f.1) (Contains-right xs f.0 x m)))) in
+      (λ x m. (h.members x).1 ((k.members x).0 (subst (λ w. Contains w x) (sym f.1) (Contains-right xs f.0 x m)))) in
       sym (f.1 ∙ ap (λ w. xs ++ w) none ∙ append-nil xs)
 
   -- where what can't be told is found first, not all hold

@@ -26,9 +26,14 @@ module _ {N L O X : Type 0} (s : Searched N L O X) (a : N) where
       let number : n + 0 ≡ n = omega arith in
       (xs, [], subst (λ q. AreFinds s a q xs) same all, hold, refl, ap (λ w. w ++ map (s.edge (n + 0) o) xs) h ∙ ap (λ m. map (s.edge m o) xs) number ∙ ap (λ q. map (s.edge n q) xs) same ∙ sym (append-nil (map (s.edge n p) xs)))
   one_more_part n (p ∷ os) (suc k) o es xs at (ys, rest, whole, held, later, is) all hold =
-      let number : n + suc k ≡ n + 1 + k = omega arith in
-      (ys, rest ++ map (s.edge (n + 1 + k) o) xs, whole, held, one_more_part (n + 1) os k o rest xs at later all hold,
-        ap (λ m. es ++ map (s.edge m o) xs) number ∙ ap (λ w. w ++ map (s.edge (n + 1 + k) o) xs) is ∙ append_assoc (map (s.edge n p) ys) rest (map (s.edge (n + 1 + k) o) xs))
+      let number : n + suc k ≡ n + 1 + k = omega arith in (
+        ys,
+        rest ++ map (s.edge (n + 1 + k) o) xs,
+        whole,
+        held,
+        one_more_part (n + 1) os k o rest xs at later all hold,
+        ap (λ m. es ++ map (s.edge m o) xs) number ∙ ap (λ w. w ++ map (s.edge (n + 1 + k) o) xs) is ∙ append_assoc (map (s.edge n p) ys) rest (map (s.edge (n + 1 + k) o) xs),
+      )
 
   -- the parts before a place, and the first edges of that which stands there, begin the turn
   pub begins_in_part : (n : ℕ) (os : List O) (k : ℕ) (o : O) (es : Edges) (xs : List X) → slice_get os k ≡ Some o → HasParts s a n (take k os) es → AreFirst s a o xs → AllHold s xs
@@ -40,8 +45,14 @@ module _ {N L O X : Type 0} (s : Searched N L O X) (a : N) where
       inl (xs, subst (λ q. AreFirst s a q xs) same first, hold, ap (λ w. w ++ map (s.edge (n + 0) o) xs) h ∙ ap (λ m. map (s.edge m o) xs) number ∙ ap (λ q. map (s.edge n q) xs) same)
   begins_in_part n (p ∷ os) (suc k) o es xs at (ys, rest, whole, held, later, is) first hold =
       let number : n + suc k ≡ n + 1 + k = omega arith in
-      inr (ys, rest ++ map (s.edge (n + 1 + k) o) xs, whole, held, begins_in_part (n + 1) os k o rest xs at later first hold,
-        ap (λ m. es ++ map (s.edge m o) xs) number ∙ ap (λ w. w ++ map (s.edge (n + 1 + k) o) xs) is ∙ append_assoc (map (s.edge n p) ys) rest (map (s.edge (n + 1 + k) o) xs))
+      inr (
+        ys,
+        rest ++ map (s.edge (n + 1 + k) o) xs,
+        whole,
+        held,
+        begins_in_part (n + 1) os k o rest xs at later first hold,
+        ap (λ m. es ++ map (s.edge m o) xs) number ∙ ap (λ w. w ++ map (s.edge (n + 1 + k) o) xs) is ∙ append_assoc (map (s.edge n p) ys) rest (map (s.edge (n + 1 + k) o) xs),
+      )
 
   -- the same where the next can't be told
   pub breaks_in_part : (n : ℕ) (os : List O) (k : ℕ) (o : O) (es : Edges) (xs : List X) (x : X) → slice_get os k ≡ Some o → HasParts s a n (take k os) es
@@ -50,12 +61,25 @@ module _ {N L O X : Type 0} (s : Searched N L O X) (a : N) where
   breaks_in_part n (p ∷ os) zero o es xs x at h first hold out =
       let same : o ≡ p = sym (one_some p o at) in
       let number : n + 0 ≡ n = omega arith in
-      inl (xs, x, subst (λ q. AreFirst s a q (xs ++ x ∷ [])) same first, hold, out,
-        ap (λ w. w ++ map (s.edge (n + 0) o) xs) h ∙ ap (λ m. map (s.edge m o) xs) number ∙ ap (λ q. map (s.edge n q) xs) same, ap (λ q. s.stop q x) same)
+      inl (
+        xs,
+        x,
+        subst (λ q. AreFirst s a q (xs ++ x ∷ [])) same first,
+        hold,
+        out,
+        ap (λ w. w ++ map (s.edge (n + 0) o) xs) h ∙ ap (λ m. map (s.edge m o) xs) number ∙ ap (λ q. map (s.edge n q) xs) same,
+        ap (λ q. s.stop q x) same,
+      )
   breaks_in_part n (p ∷ os) (suc k) o es xs x at (ys, rest, whole, held, later, is) first hold out =
       let number : n + suc k ≡ n + 1 + k = omega arith in
-      inr (ys, rest ++ map (s.edge (n + 1 + k) o) xs, whole, held, breaks_in_part (n + 1) os k o rest xs x at later first hold out,
-        ap (λ m. es ++ map (s.edge m o) xs) number ∙ ap (λ w. w ++ map (s.edge (n + 1 + k) o) xs) is ∙ append_assoc (map (s.edge n p) ys) rest (map (s.edge (n + 1 + k) o) xs))
+      inr (
+        ys,
+        rest ++ map (s.edge (n + 1 + k) o) xs,
+        whole,
+        held,
+        breaks_in_part (n + 1) os k o rest xs x at later first hold out,
+        ap (λ m. es ++ map (s.edge m o) xs) number ∙ ap (λ w. w ++ map (s.edge (n + 1 + k) o) xs) is ∙ append_assoc (map (s.edge n p) ys) rest (map (s.edge (n + 1 + k) o) xs),
+      )
 
   -- nothing begins it too
   pub begins_with_none : (n : ℕ) (os : List O) → ((o : O) → AreFirst s a o []) → BeginsParts s a n os []

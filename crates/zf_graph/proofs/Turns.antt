@@ -190,7 +190,7 @@ module _ {N L O X : Type 0} (s : Searched N L O X) (orderly : IsOrderly s) (a : 
   in_parts n (p ∷ os) es (suc place) o x (xs, rest, all, hold, later, is) at has =
       let number : n + suc place ≡ n + 1 + place = omega arith in
       subst (λ k. Contains es (s.edge k o x)) (sym number) (subst (λ w. Contains w (s.edge (n + 1 + place) o x)) (sym is) (
-        Contains-right (map (s.edge n p) xs) rest (s.edge (n + 1 + place) o x) (in_parts (n + 1) os rest place o x later at has)
+      Contains-right (map (s.edge n p) xs) rest (s.edge (n + 1 + place) o x) (in_parts (n + 1) os rest place o x later at has)
       ))
 
   found : (e : Edge N L) → IsIn 0 (s.parts a) e → IsFound s a e
@@ -205,7 +205,7 @@ module _ {N L O X : Type 0} (s : Searched N L O X) (orderly : IsOrderly s) where
     edges = λ a t h e. (
       (λ m. found s orderly a e (parts_in s orderly a 0 (s.parts a) t.edges e h.1 m)),
       (λ f. let same : 0 + f.number ≡ f.number = omega arith in
-        subst (Contains t.edges) (ap (λ m. s.edge m f.part f.find) same ∙ f.is) (in_parts s orderly a 0 (s.parts a) t.edges f.number f.part f.find h.1 f.stands f.has)),
+          subst (Contains t.edges) (ap (λ m. s.edge m f.part f.find) same ∙ f.is) (in_parts s orderly a 0 (s.parts a) t.edges f.number f.part f.find h.1 f.stands f.has)),
     );
     some_edges = λ a t h e m. found s orderly a e (begun_in s orderly a 0 (s.parts a) t.edges e h.1 m);
   }

@@ -1,3 +1,4 @@
-pub mod Laws
+pub mod Sure
 pub mod Searching
 pub mod Fitting
+pub mod Picked

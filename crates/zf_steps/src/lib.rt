@@ -1,18 +1,15 @@
-//! What a specification can reach: the states, and the steps between them.
+//! What a specification can reach: the graph of its states and steps, and the searches for the steps of a state.
 #![tactic(auto)]
 
 mod cursor;
 mod finder;
-mod machine;
+pub mod laws;
 mod node;
+mod rows;
 mod system;
 
 pub use cursor::{Cursor, advance_at, hold_at};
 pub use finder::Finder;
-pub use machine::{held_by, lay_out_stop, values_at};
 pub use node::{Label, Node};
+pub use rows::{held_by, lay_out_stop, values_at};
 pub use system::{Operation, System};
-
-/// A law.
-#[tactic(auto, using(crate::proofs::Laws::is_of, crate::proofs::Searching::all_passed, crate::proofs::Fitting::some_at))]
-pub fn law() {}

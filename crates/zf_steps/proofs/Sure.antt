@@ -1,9 +1,7 @@
 -- The laws of what is searched.
 use Rattle.zf_graph.specs.Laws.{IsOf, IsSure}
-use Rattle.zf_graph.specs.Parts.{explored_of, graph_of}
 use Rattle.zf_graph.proofs.Turns.{of_graph, sure}
 use Rattle.zf_steps.specs.contracts.node.NodePartialEq.TheImpl as nodes
-use Rattle.zf_steps.specs.Lines.{lines}
 use Rattle.zf_steps.specs.Steps.{exploration, searched, steps}
 use Rattle.zf_steps.specs.SystemLaws.{orderly}
 use Rattle.zf_steps.specs.Systems.{System}

@@ -1,4 +1,4 @@
-//! A specification as a machine that is explored.
+//! Rows in parts: what is held of a schema where the state has these values, and the values at places of a binding.
 ghost use Rattle.std.specs.Prelude.{◌≡◌, IfOk, OnOk};
 ghost use Rattle.zf_steps.specs.Machines.{stopped};
 ghost use Rattle.zf_steps.specs.Steps.{held_by, source_value, values_at};
