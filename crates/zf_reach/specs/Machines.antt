@@ -20,6 +20,12 @@ BeginsAs p beginnings.Regular node now stop = (now ≡ no_turn) × p.BeginsTurn 
 BeginsAs p beginnings.Stray node now stop = (now ≡ record { stray = true; edges = [] }) × p.BeginsTurn node now
 BeginsAs p beginnings.Out node now stop = (now ≡ no_turn) × p.BreaksTurn node no_turn stop
 
+-- what holds of the turn, unless it breaks off at once
+abbrev pub UnlessOut : Beginning → Type 0 → Type 0
+UnlessOut beginnings.Regular Holds = Holds
+UnlessOut beginnings.Stray Holds = Holds
+UnlessOut beginnings.Out Holds = Unit {0}
+
 -- The search goes on to one more edge, or all edges of the part are passed, or the turn breaks off here.
 abbrev pub AdvancesTo : {N L : Type 0} → Explored N L → Found N L → (of : N) → (now : Turn N L) → (Stands HasPassed : Turn N L → Type 0) → (stop : List ℕ) → Type 0
 AdvancesTo p (founds.Edge label to) of now Stands HasPassed stop = Stands (with_edge now (record { label = label; to = to })) × p.BeginsTurn of (with_edge now (record { label = label; to = to }))

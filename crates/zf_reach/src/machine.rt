@@ -4,7 +4,7 @@ ghost use Rattle.zf_graph.specs.Explorations.{Explored, Turn};
 ghost use Rattle.zf_graph.specs.Graphs.{Graph};
 ghost use Rattle.zf_graph.specs.Laws.{IsOf, IsSure};
 ghost use Rattle.zf_graph.specs.Texts.{Words};
-ghost use Rattle.zf_reach.specs.Machines.{AdvancesTo, BeginsAs, ending_of, HasFewer};
+ghost use Rattle.zf_reach.specs.Machines.{AdvancesTo, BeginsAs, ending_of, HasFewer, UnlessOut};
 
 use crate::ending::Ending;
 use std::alloc::AllocError;
@@ -78,7 +78,7 @@ pub trait Machine {
     fn begin(&self, cursor: &mut Self::Cursor, of: &Self::Node) -> Result<Beginning, AllocError>
         requires { Fits self.now cursor.old }
         ensures fits { OnOk result (Fits self.now cursor.new) }
-        ensures begins { IfOk result (λ b. (now : Turn Self.Node Self.Label) × BeginsAs (explored self.now) b of.now now (stop cursor.new) × HasPassed self.now of.now 0 now) };
+        ensures begins { IfOk result (λ b. (now : Turn Self.Node Self.Label) × BeginsAs (explored self.now) b of.now now (stop cursor.new) × UnlessOut b (HasPassed self.now of.now 0 now)) };
 
     /// Begins the search for the edges of a part.
     fn start(

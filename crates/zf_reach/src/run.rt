@@ -3,7 +3,7 @@ ghost use Rattle.std.specs.Prelude.{◌≡◌, ℕ, ◌<◌, ◌∷◌, ◌-◌,
 ghost use Rattle.indexmap.specs.IndexSet.{index_set_len};
 ghost use Rattle.zf_graph.specs.Explorations.{Turn, with_node};
 ghost use Rattle.zf_graph.specs.Texts.{edge_text};
-ghost use Rattle.zf_reach.specs.Machines.{BeginsAs, ending_of};
+ghost use Rattle.zf_reach.specs.Machines.{BeginsAs, ending_of, UnlessOut};
 ghost use Rattle.zf_reach.specs.Runs.{edge, counted, cut, IsFull};
 
 use crate::ending::Ending;
@@ -58,7 +58,7 @@ pub fn begin_turn<M: Machine>(
     requires node { run.old.place < index_set_len run.old.met }
     requires fits { M.Fits machine.now run.old.cursor }
     ensures fits { OnOk result (M.Fits machine.now run.new.cursor) }
-    ensures begins { IfOk result (λ b. (of : M.Node) (at : slice_get run.old.met.keys run.old.place ≡ Some of) → (now : Turn M.Node M.Label) × BeginsAs (M.explored machine.now) b of now (M.stop run.new.cursor) × M.HasPassed machine.now of 0 now) }
+    ensures begins { IfOk result (λ b. (of : M.Node) (at : slice_get run.old.met.keys run.old.place ≡ Some of) → (now : Turn M.Node M.Label) × BeginsAs (M.explored machine.now) b of now (M.stop run.new.cursor) × UnlessOut b (M.HasPassed machine.now of 0 now)) }
     ensures same { OnOk result ((run.new.met ≡ run.old.met) × (run.new.place ≡ run.old.place) × (run.new.edges ≡ run.old.edges)) }
     ensures stuck { OnOk result (run.new.stuck ≡ true) }
 {
