@@ -271,7 +271,7 @@ module _ {V : Type 0} {cmp : V → V → Ordering} {l : Conjuncts V} {ranges : L
       few = length-take-le k p.places.items (omega (arith, at.all_places))
 
       counts-landed : (tests : ℕ) → Counts cmp l ranges after front F tests → Lands (length (get_or ranges k [])) k f p q → Counts cmp l ranges after (picked ranges (bound q)) (λ tail. q.fresh) tests
-      counts-landed tests (number, count, is) (found, inl (low, ps, d, fr)) =
+      counts-landed tests (number, count, is) (found, inl (low, ps, d, fr, marks)) =
           let n = nth-at (get_or ranges k []) f low in
           let there : bound q ≡ take k p.places.items ++ f ∷ [] =
           ap (λ j. take j q.places.items) d ∙ ap (take (k + 1)) ps ∙ take_more_set p.places.items k f (omega (arith, at.all_places)) in
@@ -281,7 +281,7 @@ module _ {V : Type 0} {cmp : V → V → Ordering} {l : Conjuncts V} {ranges : L
             subst (λ b. IsCount (Passed (picked ranges (bound q)) (λ tail. b)) number) (sym fr) (subst (λ r. IsCount (Passed r all_of) number) (sym line) (on-value n.0 n.1 number count)),
             is,
           )
-      counts-landed tests (number, count, is) (found, inr (high, ps, d, fr)) =
+      counts-landed tests (number, count, is) (found, inr (high, ps, d, fr, marks)) =
           let there : bound q ≡ take k p.places.items = ap (λ j. take j q.places.items) d ∙ ap (take k) ps in (
             number,
             subst (λ b. IsCount (Passed (picked ranges (bound q)) (λ tail. b)) number) (sym fr) (subst (λ ps. IsCount (Passed (picked ranges ps) none_of) number) (sym there) (past-row high number count)),
@@ -396,7 +396,7 @@ module _ {V : Type 0} {cmp : V → V → Ordering} {l : Conjuncts V} {ranges : L
   pub counts-first : Counts cmp l ranges after [] all_of 0
   counts-first = (0, number-none (Passed [] all_of) (λ x w. false≢true (sym w.1)), refl)
 
-pub basis-of : {V : Type 0} {cmp : V → V → Ordering} {l : Conjuncts V} {trees : List Tree} {ranges : List (List V)} {after : Option (List V)} {planned : Plan} → IsTotalOrder cmp → HaveOneTruth l → KeepTruths l → IsSound cmp l trees ranges after planned
+pub basis-of : {V : Type 0} {cmp : V → V → Ordering} {l : Conjuncts V} {used : ℕ → ℕ → Bool} {trees : List Tree} {ranges : List (List V)} {after : Option (List V)} {planned : Plan} → IsTotalOrder cmp → HaveOneTruth l → KeepTruths l → IsSound cmp l used trees ranges after planned
     → Basis cmp l ranges after
 basis-of o one keep sound = record { total = o; ties = sound.ties; one_truth = one; kept = keep; named = sound.named }
 
@@ -458,10 +458,6 @@ module _ {V : Type 0} {cmp : V → V → Ordering} {l : Conjuncts V} {ranges : L
   found-other line True tests ne h = h
   found-other line Out tests ne h = h
 
-  lands-deep : (end k i : ℕ) (p q : Place) → Lands end k i p q → q.depth ≤ k + 1
-  lands-deep end k i p q (found, inl (low, ps, d, fr)) = omega arith
-  lands-deep end k i p q (found, inr (high, ps, d, fr)) = omega arith
-
   module _ (p q : Place) (at : IsAt ranges p) (asc : AreAscending cmp ranges) (choices : List (Option (List ℕ))) where
     pub counted-descends : (first new : ℕ) → IsCounted cmp l ranges after p first choices → p.depth < length ranges → length choices ≡ length ranges → (choice : Option (List ℕ)) → choice ≡ None
         → Counts cmp l ranges after (path ranges p) below_it new → LandsNext (length (get_or ranges p.depth [])) (get_or (set choices p.depth choice) p.depth None) p.depth 0 p q
@@ -471,19 +467,19 @@ module _ {V : Type 0} {cmp : V → V → Ordering} {l : Conjuncts V} {ranges : L
         let next = subst (λ w. LandsNext (length (get_or ranges p.depth [])) w p.depth 0 p q) here lands in
         record {
           counts = counts-descends given p q new at near (asc p.depth [] near) k next;
-          whole = λ i m. elim (cases_eq i p.depth) [
+          whole = λ i. elim (cases_eq i p.depth) [
             | inl is ↦ ap (λ j. get_or (set choices p.depth choice) j None) is ∙ here
-            | inr other ↦ get_or-set_other choices p.depth i choice None other ∙ h.whole i (let d = lands-deep (length (get_or ranges p.depth [])) p.depth next.0 p q next.2 in omega arith)
+            | inr other ↦ get_or-set_other choices p.depth i choice None other ∙ h.whole i
           ];
         }
 
     pub counted-retreats : (tests k : ℕ) → IsCounted cmp l ranges after p tests choices → p.fresh ≡ false → p.depth ≡ k + 1
         → LandsNext (length (get_or ranges k [])) (get_or choices k None) k (get_or p.places.items k 0 + 1) p q → IsCounted cmp l ranges after q tests choices
     counted-retreats tests k h f d lands =
-        let next = subst (λ w. LandsNext (length (get_or ranges k [])) w k (get_or p.places.items k 0 + 1) p q) (h.whole k (omega arith)) lands in
+        let next = subst (λ w. LandsNext (length (get_or ranges k [])) w k (get_or p.places.items k 0 + 1) p q) (h.whole k) lands in
         record {
           counts = counts-retreats given p q tests k at d (asc k [] (omega (arith, at.shallow))) (subst (λ b. Counts cmp l ranges after (path ranges p) (λ tail. b) tests) f h.counts) next;
-          whole = λ i m. h.whole i (let z = lands-deep (length (get_or ranges k [])) k next.0 p q next.2 in omega arith);
+          whole = h.whole;
         }
 
   -- ---- what a step answers
@@ -512,11 +508,11 @@ module _ {V : Type 0} {cmp : V → V → Ordering} {l : Conjuncts V} {ranges : L
         tests-all given tests (subst (λ r. Counts cmp l ranges after r none_of tests) none (subst (λ b. Counts cmp l ranges after (path ranges q) (λ tail. b) tests) over.0 h.counts))
 
   -- nothing is counted where no value is bound
-  pub counted-first : (p : Place) (tests : ℕ) (choices : List (Option (List ℕ))) → p.depth ≡ 0 → p.fresh ≡ true → tests ≡ 0 → IsCounted cmp l ranges after p tests choices
-  counted-first p tests choices d f e = record {
+  pub counted-first : (p : Place) (tests : ℕ) (choices : List (Option (List ℕ))) → p.depth ≡ 0 → p.fresh ≡ true → tests ≡ 0 → ((k : ℕ) → get_or choices k None ≡ None) → IsCounted cmp l ranges after p tests choices
+  counted-first p tests choices d f e none = record {
     counts =
         let none : path ranges p ≡ [] = ap (λ k. picked ranges (take k p.places.items)) d ∙ picked-nil ranges in
         subst (λ b. Counts cmp l ranges after (path ranges p) (λ tail. b) tests) (sym f)
         (subst (λ r. Counts cmp l ranges after r all_of tests) (sym none) (subst (Counts cmp l ranges after [] all_of) (sym e) (counts-first given)));
-    whole = λ k m. absurd (omega arith);
+    whole = none;
   }

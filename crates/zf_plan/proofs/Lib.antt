@@ -10,6 +10,7 @@ pub mod Looking
 pub mod Testing
 pub mod Narrowing
 pub mod Moving
+pub mod Marking
 pub mod Stepping
 pub mod Alike
 pub mod Counting

@@ -2,6 +2,9 @@
 use Rattle.zf_plan.proofs.Prelude.{◌*◌, ◌++◌, ◌+◌, ◌-◌, ◌<◌, ◌∙◌, ◌∷◌, ◌≡◌, ◌≤◌, [], ap, arith, Bool, cond, drop, false, get_or, inl, inr, length, List, None, Option, refl, set, Some, subst, suc, sym, take, true, ℕ, cases_eq, cases_lt, drop_more, get_or-take, length-set, length-take-le, take-set-le, take-take, take_more, take_more_set, IsTotalOrder, AllPairs, Ordering, Equal, Greater, Less, greater-at, IsNth, less-at, nth, reaches-push, reaches-under, tied-at, AreWithin-push, AreWithin-take, length-picked, nth-at, picked-push, Conjuncts, Event, IsEvent, AreWithin, picked, above, below, first_of, reaches, under, AreAscending, IsRowOf, TiesAreEqual, Truth, Tells, bound, IsAt, KeepsEvents, Lands, path, steps_left, Place}
 use Rattle.std.proofs.Math.Nat.{mul-le-mul_right}
 use Rattle.zf_plan.proofs.Forgetting.{AreForgotten}
+use Rattle.zf_walk.specs.Tests.{cut}
+use Rattle.zf_plan.specs.Marks.{Renews}
+use Rattle.zf_plan.specs.declared.marks.Marks.{Marks}
 
 -- what the row has behind a road is a row of the ranges behind it
 tail-row : {V : Type 0} (road tail : List V) (ranges : List (List V)) → IsRowOf ranges (road ++ tail) → IsRowOf (drop (length road) ranges) tail
@@ -195,8 +198,8 @@ module _ {V : Type 0} (cmp : V → V → Ordering) (o : IsTotalOrder cmp) (ties 
     falls : (length (get_or ranges k []) - g) * below (drop (k + 1) ranges) ≤ (length (get_or ranges k []) - f) * below (drop (k + 1) ranges)
     falls = let h : length (get_or ranges k []) - g ≤ length (get_or ranges k []) - f = omega arith in mul-le-mul_right (below (drop (k + 1) ranges)) h
 
-    on-value : q.found.items ≡ p.found.items → g < length (get_or ranges k []) → q.places.items ≡ set p.places.items k g → q.depth ≡ k + 1 → q.fresh ≡ true → Landed cmp s ranges after p k q
-    on-value found l ps d fr =
+    on-value : q.found.items ≡ p.found.items → g < length (get_or ranges k []) → q.places.items ≡ set p.places.items k g → q.depth ≡ k + 1 → q.fresh ≡ true → Renews (k + 1) p.marks q.marks → Landed cmp s ranges after p k q
+    on-value found l ps d fr renews =
         let n = nth-at (get_or ranges k []) g l in
         let y = n.0 in
         let long = length-places ranges p at k deep in
@@ -210,6 +213,8 @@ module _ {V : Type 0} (cmp : V → V → Ordering) (o : IsTotalOrder cmp) (ties 
             all_places = ap length ps ∙ length-set p.places.items k g ∙ at.all_places;
             all_found = ap length found ∙ at.all_found;
             shallow = omega arith;
+            all_stamps = ap length renews.stamps ∙ length-set p.marks.stamps.items (k + 1) (cut (get_or p.marks.stamps.items (k + 1) 0 + 1)) ∙ at.all_stamps;
+            all_marks = ap length renews.choices ∙ at.all_marks;
             within = subst (AreWithin ranges) (sym stairs) (AreWithin-push ranges (take k p.places.items) g y inner (omega arith) n');
           };
           same = keeps (reaches cmp true (y ∷ [])) (frontier-at cmp o ties (get_or ranges k []) (asc k [] near) g y n.1)
@@ -224,14 +229,16 @@ module _ {V : Type 0} (cmp : V → V → Ordering) (o : IsTotalOrder cmp) (ties 
           fronts = λ i h. take-take i q.depth q.places.items (omega arith) ∙ ap (take i) ps ∙ take-set-le i p.places.items k g h ∙ sym (take-take i p.depth p.places.items (omega arith));
         }
 
-    past-row : q.found.items ≡ p.found.items → length (get_or ranges k []) ≤ g → q.places.items ≡ p.places.items → q.depth ≡ k → q.fresh ≡ false → Landed cmp s ranges after p k q
-    past-row found l ps d fr =
+    past-row : q.found.items ≡ p.found.items → length (get_or ranges k []) ≤ g → q.places.items ≡ p.places.items → q.depth ≡ k → q.fresh ≡ false → q.marks ≡ p.marks → Landed cmp s ranges after p k q
+    past-row found l ps d fr marks =
         let stairs : bound q ≡ take k p.places.items = ap (λ j. take j q.places.items) d ∙ ap (take k) ps in
         record {
           at = record {
             all_places = ap length ps ∙ at.all_places;
             all_found = ap length found ∙ at.all_found;
             shallow = omega arith;
+            all_stamps = ap (λ (m : Marks). length m.stamps.items) marks ∙ at.all_stamps;
+            all_marks = ap (λ (m : Marks). length m.choices.items) marks ∙ at.all_marks;
             within = subst (AreWithin ranges) (sym stairs) (within-front ranges p at k deep);
           };
           same = keeps (λ _. false) (frontier-last cmp o ties (get_or ranges k []) g l)
@@ -244,8 +251,8 @@ module _ {V : Type 0} (cmp : V → V → Ordering) (o : IsTotalOrder cmp) (ties 
         }
 
     pub landed : Lands (length (get_or ranges k [])) k g p q → Landed cmp s ranges after p k q
-    landed (found, inl a) = on-value found a.0 a.1 a.2 a.3
-    landed (found, inr a) = past-row found a.0 a.1 a.2 a.3
+    landed (found, inl a) = on-value found a.0 a.1 a.2 a.3 a.4
+    landed (found, inr a) = past-row found a.0 a.1 a.2 a.3 a.4
 
 -- what was told stays right where the leaves that need one value more are forgotten
 pub tells-landed : {V : Type 0} (l : Conjuncts V) (ranges : List (List V)) (k : ℕ) (places new : List ℕ) (old told : List (Option Truth)) → Tells l ranges places old → AreForgotten l (k + 1) old told

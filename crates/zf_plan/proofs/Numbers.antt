@@ -1,8 +1,17 @@
 -- Lists of conjuncts.
-use Rattle.zf_plan.proofs.Prelude.{◌++◌, ◌+◌, ◌<◌, ◌∙◌, ◌∷◌, ◌≡◌, [], ap, arith, false, get_or, inl, inr, length, length-append, List, refl, subst, suc, sym, true, zero, ℕ, get_or-append_seam, cases_lt, false≢true, get_or_append_left, get_or_default, AllPairs, Contains, Conjuncts, AreBelow, leaf, Tree, tree_at}
+use Rattle.zf_plan.proofs.Prelude.{Bool, max, ◌≤◌, ◌++◌, ◌+◌, ◌<◌, ◌∙◌, ◌∷◌, ◌≡◌, [], ap, arith, false, get_or, inl, inr, length, length-append, List, refl, subst, suc, sym, true, zero, ℕ, get_or-append_seam, cases_lt, false≢true, get_or_append_left, get_or_default, AllPairs, Contains, Conjuncts, AreBelow, leaf, Tree, tree_at}
 use Rattle.zf_walk.proofs.Lists.{Contains-cases, Contains-either, Contains-head, Contains-left, Contains-nil, Contains-right}
+use Rattle.zf_plan.specs.Choosing.{AreLasts, UsesFirst}
 use Rattle.zf_plan.specs.Knowing.{IsLeafDue}
-use Rattle.zf_plan.specs.Places.{AreDue, AreTouched, touches_inside}
+use Rattle.zf_plan.proofs.Marking.{uses-more}
+use Rattle.zf_plan.specs.Places.{AreAll, AreDue, AreTouched, touches_inside}
+
+-- the last one of a conjunct, and of the first i
+abbrev IsLast : (ℕ → ℕ → Bool) → List Tree → ℕ → List ℕ → ℕ → ℕ → Type 0
+IsLast uses trees k conjuncts m last = (last ≤ k) × UsesFirst uses last k (tree_at trees (get_or conjuncts m 0))
+
+abbrev pub AreLastsSoFar : (ℕ → ℕ → Bool) → List Tree → ℕ → List ℕ → ℕ → List ℕ → Type 0
+AreLastsSoFar uses trees k conjuncts i lasts = (length lasts ≡ i) × ((m : ℕ) → m < length lasts → IsLast uses trees k conjuncts m (get_or lasts m 0))
 
 push-all : {X : Type 0} (P : X → Type 0) (xs : List X) (x d : X) → ((i : ℕ) → i < length xs → P (get_or xs i d)) → P x → (i : ℕ) → i < length (xs ++ x ∷ []) → P (get_or (xs ++ x ∷ []) i d)
 push-all P xs x d h p i l = elim (cases_lt i (length xs)) [
@@ -12,6 +21,15 @@ push-all P xs x d h p i l = elim (cases_lt i (length xs)) [
       subst P (sym (ap (λ k. get_or (xs ++ x ∷ []) k d) here ∙ get_or-append_seam xs x [] d)) p
 ]
 
+-- one item more, by the places of the items
+pub each_push : {X : Type 0} (P : ℕ → X → Type 0) (xs : List X) (x d : X) → ((i : ℕ) → i < length xs → P i (get_or xs i d)) → P (length xs) x → (i : ℕ) → i < length (xs ++ x ∷ []) → P i (get_or (xs ++ x ∷ []) i d)
+each_push P xs x d h p i l = elim (cases_lt i (length xs)) [
+  | inl old ↦ subst (P i) (sym (get_or_append_left xs (x ∷ []) d i old)) (h i old)
+  | inr new ↦
+      let here : i ≡ length xs = omega (arith, length-append xs (x ∷ [])) in
+      subst (λ k. P k (get_or (xs ++ x ∷ []) k d)) (sym here) (subst (P (length xs)) (sym (get_or-append_seam xs x [] d)) p)
+]
+
 -- one number more
 pub below_push : (n : ℕ) (js : List ℕ) (j : ℕ) → AreBelow n js → j < n → AreBelow n (js ++ j ∷ [])
 below_push n js j h l = push-all (λ k. k < n) js j 0 h l
@@ -19,12 +37,7 @@ below_push n js j h l = push-all (λ k. k < n) js j 0 h l
 -- one list more
 pub all_push : (P : ℕ → List ℕ → Type 0) (lists : List (List ℕ)) (js : List ℕ) → ((k : ℕ) → k < length lists → P k (get_or lists k [])) → P (length lists) js
     → (m : ℕ) → m < length (lists ++ js ∷ []) → P m (get_or (lists ++ js ∷ []) m [])
-all_push P lists js h b m near = elim (cases_lt m (length lists)) [
-  | inl old ↦ subst (P m) (sym (get_or_append_left lists (js ∷ []) [] m old)) (h m old)
-  | inr new ↦
-      let here : m ≡ length lists = omega (arith, length-append lists (js ∷ [])) in
-      subst (λ k. P k (get_or (lists ++ js ∷ []) k [])) (sym here) (subst (P (length lists)) (sym (get_or-append_seam lists js [] [])) b)
-]
+all_push P lists js h b m near = each_push P lists js [] h b m near
 
 -- the lists so far
 abbrev pub AreSoFar : (ℕ → List ℕ → Type 0) → ℕ → List (List ℕ) → Type 0
@@ -118,9 +131,35 @@ module _ {V : Type 0} (l : Conjuncts V) (trees : List Tree) (k : ℕ) where
     ascending = λ flat. rising n leaves b d is flat;
   }
 
--- lists without a number
-pub none_push : (lists : List (List ℕ)) → ((k : ℕ) → get_or lists k [] ≡ []) → (m : ℕ) → get_or (lists ++ [] ∷ []) m [] ≡ []
-none_push [] h zero = refl
-none_push [] h (suc m) = refl
-none_push (js ∷ lists) h zero = h 0
-none_push (js ∷ lists) h (suc m) = none_push lists (λ k. h (suc k)) m
+-- the same item everywhere
+pub default_push : {X : Type 0} (d : X) (xs : List X) → ((k : ℕ) → get_or xs k d ≡ d) → (m : ℕ) → get_or (xs ++ d ∷ []) m d ≡ d
+default_push d [] h zero = refl
+default_push d [] h (suc m) = refl
+default_push d (x ∷ xs) h zero = h 0
+default_push d (x ∷ xs) h (suc m) = default_push d xs (λ k. h (suc k)) m
+
+-- ---- of how many first values they are
+
+pub lasts_push : (uses : ℕ → ℕ → Bool) (trees : List Tree) (k : ℕ) (conjuncts lasts : List ℕ) (i last used : ℕ) → AreLastsSoFar uses trees k conjuncts i lasts → last ≤ k → used ≤ k
+    → UsesFirst uses used k (tree_at trees (get_or conjuncts i 0)) → AreLastsSoFar uses trees k conjuncts (i + 1) (lasts ++ max used last ∷ [])
+lasts_push uses trees k conjuncts lasts i last used so low within u = (
+  omega (arith, length-append lasts (max used last ∷ []), so.0),
+  each_push (IsLast uses trees k conjuncts) lasts (max used last) 0 so.1
+      (subst (λ m. IsLast uses trees k conjuncts m (max used last)) (sym so.0) (omega arith, uses-more uses used (max used last) k (omega arith) (tree_at trees (get_or conjuncts i 0)) u)),
+)
+
+-- where no conjunct narrows
+module _ (n : ℕ) (narrowing : List (List ℕ)) (none : (k : ℕ) → get_or narrowing k [] ≡ []) where
+  pub below-none : (m : ℕ) → length narrowing ≡ n + 1 → AreAll (λ k. AreBelow m) n narrowing
+  below-none m all = record {
+    all = all;
+    each = λ k near. subst (AreBelow m) (sym (none k)) (λ i h. absurd (omega arith));
+  }
+
+  pub lasts-none : (uses : ℕ → ℕ → Bool) (trees : List Tree) (lasts : List (List ℕ)) → length lasts ≡ n + 1 → ((k : ℕ) → get_or lasts k [] ≡ []) → AreAll (λ k. AreLasts uses trees k (get_or narrowing k [])) n lasts
+  lasts-none uses trees lasts all empty = record {
+    all = all;
+    each = λ k near.
+        subst (λ js. AreLasts uses trees k js (get_or lasts k [])) (sym (none k))
+        (subst (AreLasts uses trees k []) (sym (empty k)) (record { all = refl; each = λ i h. absurd (omega arith) }));
+  }

@@ -2,7 +2,9 @@
 use Rattle.zf_plan.proofs.Prelude.{Bool, suc, zero, ◌++◌, ◌+◌, ◌<◌, ◌∙◌, ◌∷◌, ◌≡◌, ◌≤◌, ◌⊎◌, [], ap, arith, cond, drop, eqb, false, get_or, inl, inr, length, List, None, Option, refl, set, Some, subst, sym, take, true, ℕ, cases_eq, false≢true, get_or-replicate, get_or-set_other, get_or-set_same, length-replicate, length-set, take-take, take_all, IsTotalOrder, ◌≢◌, slice_get, Ordering, Equal, Less, reaches-under, IsFrontOf-picked, IsRowOf-front, IsRowOf-length, picked-nil, slice_get-nth, Conjuncts, HaveOneTruth, IsTruthOf, KeepTruths, Event, IsEvent, AreWithin, picked, above, below, is_reached, reaches, Ahead, AreAllAhead, AreDueWithin, ended, IsAhead, SameAhead, Takes, ComesAfter, IsRowOf, False, Out, Truth, True, Step, Breaks, End, Holds, IsChoice, IsChosen, Remembers, ahead_of, bound, Gives, GoesOn, is_over, IsAt, IsHopeless, IsSoFar, IsSound, KeepsEvents, LandsNext, path, Stands, steps_left, planted, Tree, Place}
 use Rattle.zf_walk.proofs.Reaching.{IsLater-from, later-reached, unreached, IsAhead-from, IsAhead-to}
 use Rattle.zf_walk.proofs.Truths.{IsTruthOf-false, IsTruthOf-only}
-use Rattle.zf_plan.specs.Places.{begun, Finds, found_before, IsFound}
+use Rattle.zf_plan.specs.Marks.{AreNew, mark_at}
+use Rattle.zf_plan.specs.Places.{AreKept, begun, Finds, found_before, IsFound, IsKept}
+use Rattle.zf_plan.proofs.Marking.{kept-chosen, kept-first, moved-on}
 use Rattle.zf_plan.specs.Knowing.{NeedsBelow, NeedsWithin}
 use Rattle.zf_plan.proofs.Forgetting.{are-forgotten}
 use Rattle.zf_plan.proofs.SoFar.{so-fewer, so-longer, so-none, so-refuted, so-whole}
@@ -13,13 +15,13 @@ use Rattle.zf_plan.proofs.TreeTruths.{planted-one, planted-kept, planted-due}
 use Rattle.zf_plan.proofs.Moving.{enough, same-under, length-bound, length-path, last-value, IsFrom, from-fresh, from-past, Landed, landed, tells-landed}
 
 -- what the order, the leaves and what is gone over are known to be
-pub record Setting {V : Type 0} (cmp : V → V → Ordering) (l : Conjuncts V) (trees : List Tree) (ranges : List (List V)) (after : Option (List V)) (planned : Plan) : Type 0 where
+pub record Setting {V : Type 0} (cmp : V → V → Ordering) (l : Conjuncts V) (used : ℕ → ℕ → Bool) (trees : List Tree) (ranges : List (List V)) (after : Option (List V)) (planned : Plan) : Type 0 where
   pub total : IsTotalOrder cmp
   pub one_truth : HaveOneTruth l
   pub kept : KeepTruths l
-  pub sound : IsSound cmp l trees ranges after planned
+  pub sound : IsSound cmp l used trees ranges after planned
 
-module _ {V : Type 0} {cmp : V → V → Ordering} {l : Conjuncts V} {trees : List Tree} {ranges : List (List V)} {after : Option (List V)} {planned : Plan} (given : Setting cmp l trees ranges after planned) where
+module _ {V : Type 0} {cmp : V → V → Ordering} {l : Conjuncts V} {used : ℕ → ℕ → Bool} {trees : List Tree} {ranges : List (List V)} {after : Option (List V)} {planned : Plan} (given : Setting cmp l used trees ranges after planned) where
   due : AreDueWithin (planted l trees) (length ranges)
   due = planted-due l (length ranges) (given.sound).due trees (given.sound).leaves
 
@@ -64,9 +66,9 @@ module _ {V : Type 0} {cmp : V → V → Ordering} {l : Conjuncts V} {trees : Li
     moves-on = let h = lands in record { same = h.same; smaller = h.smaller }
 
     -- the leaves that need one value more are forgotten
-    moves-stand : (uses : ℕ → ℕ → Bool) (old new : Memory) → Remembers l uses ranges (bound p) old → length choices ≡ length ranges → Forgets (k + 1) old new
+    moves-stand : (uses : ℕ → ℕ → Bool) (old new : Memory) → Remembers l uses ranges (bound p) old → length choices ≡ length ranges → AreKept l trees ranges p.marks (bound p) choices → Forgets (k + 1) old new
         → ((j : ℕ) → j ≤ k → IsFound l trees (picked ranges (take j p.places.items)) j (get_or p.found.items j True)) → Stands l uses trees ranges q new choices
-    moves-stand uses old new remembers long g found =
+    moves-stand uses old new remembers long kept g found =
         let h = lands in
         let n = next.2 in
         let fronts : (j : ℕ) → j ≤ k → j ≤ q.depth → take j p.places.items ≡ take j q.places.items =
@@ -84,6 +86,7 @@ module _ {V : Type 0} {cmp : V → V → Ordering} {l : Conjuncts V} {trees : Li
               subst (λ is. IsFound l trees (picked ranges is) j (get_or q.found.items j True)) (fronts j low (omega arith))
               (subst (λ ts. IsFound l trees (picked ranges (take j p.places.items)) j (get_or ts j True)) (sym n.0) (found j low));
           all_choices = long;
+          kept = λ d within. moved-on l trees ranges k p q deep at h.at h.deep h.fronts d (get_or choices d None) (length (get_or ranges k [])) next.0 n (kept d within);
           chosen = λ j m.
               let low : j ≤ k = omega (arith, h.deep) in
               subst (λ is. IsChoice l trees ranges (picked ranges is) (get_or ranges j []) (get_or choices j None)) (fronts j low (omega arith)) (chosen j low);
@@ -111,11 +114,11 @@ module _ {V : Type 0} {cmp : V → V → Ordering} {l : Conjuncts V} {trees : Li
     pub descends : GoesOn cmp (planted l trees) ranges after p q
     descends = moves-on p q (set choices p.depth choice) p.depth 0 at near (omega arith) all-chosen first-from next
 
-    pub descends-stand : (uses : ℕ → ℕ → Bool) (old new : Memory) → Remembers l uses ranges (bound p) old → Forgets (p.depth + 1) old new
+    pub descends-stand : (uses : ℕ → ℕ → Bool) (old new : Memory) → Remembers l uses ranges (bound p) old → AreKept l trees ranges p.marks (bound p) (set choices p.depth choice) → Forgets (p.depth + 1) old new
         → ((j : ℕ) → j ≤ p.depth → IsFound l trees (picked ranges (take j p.places.items)) j (get_or p.found.items j True)) → Stands l uses trees ranges q new (set choices p.depth choice)
-    descends-stand uses old new remembers g found =
+    descends-stand uses old new remembers kept g found =
         moves-stand p q (set choices p.depth choice) p.depth 0 at near (omega arith) all-chosen first-from next uses old new remembers
-        (length-set choices p.depth choice ∙ all) g found
+        (length-set choices p.depth choice ∙ all) kept g found
 
   module _ (uses : ℕ → ℕ → Bool) (p q : Place) (old : Memory) (choices : List (Option (List ℕ))) (k : ℕ) (st : Stands l uses trees ranges p old choices) (f : p.fresh ≡ false) (d : p.depth ≡ k + 1)
       (next : LandsNext (length (get_or ranges k [])) (get_or choices k None) k (get_or p.places.items k 0 + 1) p q) where
@@ -131,7 +134,7 @@ module _ {V : Type 0} {cmp : V → V → Ordering} {l : Conjuncts V} {trees : Li
     pub retreats-stand : (new : Memory) → Forgets (k + 1) old new → Stands l uses trees ranges q new choices
     retreats-stand new g =
         moves-stand p q choices k (get_or p.places.items k 0 + 1) st.at near-last (omega arith) (λ j h. st.chosen j (omega arith)) last-from next
-        uses old new st.remembers st.all_choices g (λ j h. st.found j (omega arith))
+        uses old new st.remembers st.all_choices st.kept g (λ j h. st.found j (omega arith))
 
   pub passes : (p q : Place) → IsAt ranges p → p.fresh ≡ true → q.fresh ≡ false → q.places.items ≡ p.places.items → q.depth ≡ p.depth
       → IsHopeless cmp l trees (length ranges) after (path ranges p) → GoesOn cmp (planted l trees) ranges after p q
@@ -284,24 +287,38 @@ module _ {V : Type 0} {cmp : V → V → Ordering} {l : Conjuncts V} {trees : Li
   gives-on p q r Breaks same g = (takes-on (ahead_of ranges p) (ahead_of ranges q) (ahead_of ranges r) (record { row = path ranges r; truth = Out }) same g.0, g.1)
   gives-on p q r End same g = ((λ e ev a. g.0 e ev ((same e ev).0 a)), g.1, g.2)
 
+-- there is no row where a range is empty
+pub empty-none : {V : Type 0} (ranges : List (List V)) (k : ℕ) → k < length ranges → length (get_or ranges k []) ≡ 0 → (row : List V) → IsRowOf ranges row → ⊥
+empty-none [] k near e row m = omega arith
+empty-none (r ∷ ranges) k near e [] m = m
+empty-none (r ∷ ranges) zero near e (v ∷ row) m = let w = m.0 in omega (arith, w.1)
+empty-none (r ∷ ranges) (suc k) near e (v ∷ row) m = empty-none ranges k (omega arith) e row m.1
+
 -- at first every event is ahead
 pub ahead-begins : {V : Type 0} (cmp : V → V → Ordering) (s : Conjuncts V) (ranges : List (List V)) (after : Option (List V)) (a : Ahead V) → a ≡ begun → AreAllAhead cmp s ranges after a
 ahead-begins cmp s ranges after a is e ev = subst (λ b. IsAhead cmp b e.row) (sym is) (inr (refl, refl))
 
-pub setting-of : {V : Type 0} {cmp : V → V → Ordering} {l : Conjuncts V} {trees : List Tree} {ranges : List (List V)} {after : Option (List V)} {planned : Plan}
-    → IsTotalOrder cmp → HaveOneTruth l → KeepTruths l → IsSound cmp l trees ranges after planned → Setting cmp l trees ranges after planned
+pub ahead-first : {V : Type 0} (cmp : V → V → Ordering) (s : Conjuncts V) (ranges : List (List V)) (after : Option (List V)) (road : List V) (fresh : Bool) → road ≡ [] → (fresh ≡ false → (row : List V) → IsRowOf ranges row → ⊥)
+    → AreAllAhead cmp s ranges after (record { path = road; here = fresh })
+ahead-first cmp s ranges after road true e none ev is = ahead-begins cmp s ranges after (record { path = road; here = true }) (ap (λ r. record { path = r; here = true }) e) ev is
+ahead-first cmp s ranges after road false e none ev is = absurd (none refl ev.row is.within)
+
+pub setting-of : {V : Type 0} {cmp : V → V → Ordering} {l : Conjuncts V} {used : ℕ → ℕ → Bool} {trees : List Tree} {ranges : List (List V)} {after : Option (List V)} {planned : Plan}
+    → IsTotalOrder cmp → HaveOneTruth l → KeepTruths l → IsSound cmp l used trees ranges after planned → Setting cmp l used trees ranges after planned
 setting-of o one keep sound = record { total = o; one_truth = one; kept = keep; sound = sound }
 
 -- no value is bound and nothing is known
 pub stands-first : {V : Type 0} (l : Conjuncts V) (uses : ℕ → ℕ → Bool) (trees : List Tree) (ranges : List (List V)) (p : Place) (memo : Memory) (choices : List (Option (List ℕ)))
-    → p.depth ≡ 0 → length p.places.items ≡ length ranges → length p.found.items ≡ length ranges
+    → p.depth ≡ 0 → length p.places.items ≡ length ranges → length p.found.items ≡ length ranges → AreNew (length ranges) p.marks
     → IsNew l uses ranges memo → length choices ≡ length ranges → Stands l uses trees ranges p memo choices
-stands-first l uses trees ranges p memo choices d long found new all = record {
+stands-first l uses trees ranges p memo choices d long found marks new all = record {
   at = record {
     all_places = long;
     all_found = found;
     shallow = omega arith;
     within = subst (λ k. AreWithin ranges (take k p.places.items)) (sym d) (record { few = omega arith; each = λ k h. absurd (omega arith) });
+    all_stamps = marks.all_stamps;
+    all_marks = marks.all_choices;
   };
   remembers = record {
     dues = new.dues;
@@ -313,5 +330,19 @@ stands-first l uses trees ranges p memo choices d long found new all = record {
   };
   found = λ k m. absurd (omega arith);
   all_choices = all;
+  kept = kept-first l trees ranges p.marks (bound p) choices marks;
   chosen = λ k m. absurd (omega arith);
+}
+
+-- a choice that was refused leaves all as it was
+pub stands-refused : {V : Type 0} (l : Conjuncts V) (uses : ℕ → ℕ → Bool) (trees : List Tree) (ranges : List (List V)) (p : Place) (old new : Memory) (choices : List (Option (List ℕ))) (choice : Option (List ℕ))
+    → Stands l uses trees ranges p old choices → p.depth < length ranges → Remembers l uses ranges (bound p) new
+    → IsKept l trees ranges p.marks.stamps.items (bound p) p.depth choice (mark_at p.marks p.depth) → Stands l uses trees ranges p new (set choices p.depth choice)
+stands-refused l uses trees ranges p old new choices choice st near remembers kept = record {
+  at = st.at;
+  remembers = remembers;
+  found = st.found;
+  all_choices = length-set choices p.depth choice ∙ st.all_choices;
+  kept = kept-chosen l trees ranges p.marks p.marks (bound p) choices p.depth choice (omega (arith, st.all_choices)) refl (λ d ne. refl) st.kept kept;
+  chosen = λ k m. subst (IsChoice l trees ranges (picked ranges (take k p.places.items)) (get_or ranges k [])) (sym (get_or-set_other choices p.depth k choice None (λ e. absurd (omega arith)))) (st.chosen k m);
 }

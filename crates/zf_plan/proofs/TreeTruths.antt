@@ -79,7 +79,7 @@ side P P' Q Q' f g (inl a) = inl (f a)
 side P P' Q Q' f g (inr b) = inr (g b)
 
 module _ (P P' Q Q' : Truth → Type 0) (f : (t : Truth) → P t → P' t) (g : (t : Truth) → Q t → Q' t) where
-  both-kept : (t : Truth) → IsOfBoth P Q t → IsOfBoth P' Q' t
+  pub both-kept : (t : Truth) → IsOfBoth P Q t → IsOfBoth P' Q' t
   both-kept True h = (f True h.0, g True h.1)
   both-kept False h = side (P False) (P' False) (Q False) (Q' False) (f False) (g False) h
   both-kept Out h = (
@@ -88,7 +88,7 @@ module _ (P P' Q Q' : Truth → Type 0) (f : (t : Truth) → P t → P' t) (g : 
     side (P Out) (P' Out) (Q Out) (Q' Out) (f Out) (g Out) h.2,
   )
 
-  either-kept : (t : Truth) → IsOfEither P Q t → IsOfEither P' Q' t
+  pub either-kept : (t : Truth) → IsOfEither P Q t → IsOfEither P' Q' t
   either-kept False h = (f False h.0, g False h.1)
   either-kept True h = side (P True) (P' True) (Q True) (Q' True) (f True) (g True) h
   either-kept Out h = (

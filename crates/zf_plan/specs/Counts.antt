@@ -1,5 +1,5 @@
 -- What is counted where each conjunct is a leaf and nothing is left out: for private contracts and the model of `Search` alone.
-use Rattle.std.specs.Prelude.{◌≡◌, ℕ, ◌<◌, Bool, true, false, List, [], ◌∷◌, slice_index_or, Option, None, Result, Ok, Err}
+use Rattle.std.specs.Prelude.{◌≡◌, ℕ, Bool, true, false, List, [], ◌∷◌, slice_index_or, Option, None, Result, Ok, Err}
 use Rattle.std.specs.declared.cmp.Ordering.{Ordering}
 use Rattle.zf_walk.specs.declared.judge.Truth.{Truth}
 use Rattle.zf_walk.specs.declared.judge.Truth.TheVariants.{True, False, Out}
@@ -49,4 +49,4 @@ CountsOn cmp l ranges after road (Ok t) tests = CountsFound cmp l ranges after r
 -- what is counted at a place, where all values of each range are tried
 pub record IsCounted {V : Type 0} (cmp : V → V → Ordering) (l : Conjuncts V) (ranges : List (List V)) (after : Option (List V)) (p : Place) (tests : ℕ) (choices : List (Option (List ℕ))) : Type 0 where
   pub counts : Counts cmp l ranges after (picked ranges (bound p)) (λ tail. p.fresh) tests
-  pub whole : (k : ℕ) → k < p.depth → slice_index_or choices k None ≡ None
+  pub whole : (k : ℕ) → slice_index_or choices k None ≡ None

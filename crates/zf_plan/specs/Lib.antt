@@ -6,6 +6,7 @@ pub mod Alike
 pub mod Laws
 pub mod Memories
 pub mod Stamps
+pub mod Marks
 pub mod Knowing
 pub mod Testing
 pub mod Choosing

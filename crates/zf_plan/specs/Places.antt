@@ -1,5 +1,5 @@
 -- Where a search is, and what its steps do: for private contracts and the model of `Search` alone.
-use Rattle.std.specs.Prelude.{◌≡◌, ◌≢◌, ◌⊎◌, ℕ, zero, suc, ◌+◌, ◌-◌, ◌*◌, ◌<◌, ◌≤◌, Bool, true, false, cond, eqb, ◌||◌, nat_eq, List, [], ◌∷◌, length, take, drop, slice_index_or, slice_set, AllPairs, Contains, Option, Some, None}
+use Rattle.std.specs.Prelude.{◌≡◌, ◌≢◌, ◌⊎◌, ℕ, zero, suc, ◌+◌, ◌-◌, ◌*◌, ◌<◌, ◌≤◌, ◌^◌, Bool, true, false, cond, eqb, ◌||◌, nat_eq, List, [], ◌∷◌, length, take, drop, slice_index_or, slice_set, AllPairs, Contains, Option, Some, None}
 use Rattle.std.specs.declared.cmp.Ordering.{Ordering}
 use Rattle.zf_walk.specs.declared.judge.Truth.{Truth}
 use Rattle.zf_walk.specs.declared.judge.Truth.TheVariants.{True, False, Out}
@@ -16,7 +16,10 @@ use Rattle.zf_plan.specs.declared.plan.Plan.{Plan}
 use Rattle.zf_plan.specs.Memories.{Memory}
 use Rattle.zf_plan.specs.Trees.{Tree, leaf, negated, both, either, tree_at, HaveLeavesWithin}
 use Rattle.zf_plan.specs.Knowing.{Remembers, IsRefuted, IsSoFar, IsLeafDue, NeedsWithin, AreBelow}
-use Rattle.zf_plan.specs.Choosing.{IsChoice, IsNextChoice}
+use Rattle.zf_plan.specs.Choosing.{AreLasts, IsChoice, IsNextChoice, StaysChoice}
+use Rattle.zf_plan.specs.declared.marks.Mark.{Mark}
+use Rattle.zf_plan.specs.declared.marks.Marks.{Marks}
+use Rattle.zf_plan.specs.Marks.{is_still, mark_at, Renews}
 
 -- ---- plans
 
@@ -51,10 +54,11 @@ pub record AreAll (P : ℕ → List ℕ → Type 0) (n : ℕ) (lists : List (Lis
   pub all : length lists ≡ n + 1
   pub each : (k : ℕ) → k < length lists → P k (slice_index_or lists k [])
 
-pub record IsPlan {V : Type 0} (l : Conjuncts V) (trees : List Tree) (n : ℕ) (plan : Plan) : Type 0 where
+pub record IsPlan {V : Type 0} (l : Conjuncts V) (uses : ℕ → ℕ → Bool) (trees : List Tree) (n : ℕ) (plan : Plan) : Type 0 where
   pub due : AreAll (λ k. AreDue l trees k (length trees)) n plan.due.items
   pub touched : AreAll (λ k. AreTouched l trees k (length trees)) n plan.touched.items
   pub narrowing : AreAll (λ k. AreBelow (length trees)) n plan.narrowing.items
+  pub lasts : AreAll (λ k. AreLasts uses trees k (slice_index_or plan.narrowing.items k [])) n plan.lasts.items
 
 -- ---- places
 
@@ -63,6 +67,8 @@ pub record IsAt {V : Type 0} (ranges : List (List V)) (p : Place) : Type 0 where
   pub all_found : length p.found.items ≡ length ranges
   pub shallow : p.depth ≤ length ranges
   pub within : AreWithin ranges (take p.depth p.places.items)
+  pub all_stamps : length p.marks.stamps.items ≡ length ranges + 1
+  pub all_marks : length p.marks.choices.items ≡ length ranges
 
 -- the places of the values that are bound
 abbrev pub bound : Place → List ℕ
@@ -88,22 +94,34 @@ pub record IsFound {V : Type 0} (l : Conjuncts V) (trees : List Tree) (row : Lis
   pub so : IsSoFar l trees row (NeedsWithin l trees k) t
   pub not_false : t ≢ False
 
--- what holds between two steps: what is remembered and was found is right, and for each value that is bound what was chosen of its range
+-- a choice of range k: it is one still where the values at these places are those of which its mark says that it was made
+pub record IsKept {V : Type 0} (l : Conjuncts V) (trees : List Tree) (ranges : List (List V)) (stamps places : List ℕ) (k : ℕ) (choice : Option (List ℕ)) (mark : Mark) : Type 0 where
+  pub few : mark.due ≤ k
+  pub past : mark.stamp ≤ slice_index_or stamps mark.due 0
+  pub small : mark.stamp < 2 ^ 64 - 1
+  pub still : is_still stamps mark ≡ true → mark.due ≤ length places → StaysChoice l trees ranges k mark.due places choice
+
+-- each choice is kept so
+abbrev pub AreKept : {V : Type 0} → Conjuncts V → List Tree → List (List V) → Marks → List ℕ → List (Option (List ℕ)) → Type 0
+AreKept l trees ranges marks places choices = (k : ℕ) → k < length ranges → IsKept l trees ranges marks.stamps.items places k (slice_index_or choices k None) (mark_at marks k)
+
+-- what holds between two steps: what is remembered, kept and was found is right, and for each value that is bound what was chosen of its range
 pub record Stands {V : Type 0} (l : Conjuncts V) (uses : ℕ → ℕ → Bool) (trees : List Tree) (ranges : List (List V)) (p : Place) (memo : Memory) (choices : List (Option (List ℕ))) : Type 0 where
   pub at : IsAt ranges p
   pub remembers : Remembers l uses ranges (bound p) memo
   pub found : (k : ℕ) → k < p.depth → IsFound l trees (picked ranges (take k p.places.items)) k (slice_index_or p.found.items k True)
   pub all_choices : length choices ≡ length ranges
+  pub kept : AreKept l trees ranges p.marks (bound p) choices
   pub chosen : (k : ℕ) → k < p.depth → IsChoice l trees ranges (picked ranges (take k p.places.items)) (slice_index_or ranges k []) (slice_index_or choices k None)
 
 -- what holds of what a search goes over
-pub record IsSound {V : Type 0} (cmp : V → V → Ordering) (l : Conjuncts V) (trees : List Tree) (ranges : List (List V)) (after : Option (List V)) (planned : Plan) : Type 0 where
+pub record IsSound {V : Type 0} (cmp : V → V → Ordering) (l : Conjuncts V) (uses : ℕ → ℕ → Bool) (trees : List Tree) (ranges : List (List V)) (after : Option (List V)) (planned : Plan) : Type 0 where
   pub ascending : AreAscending cmp ranges
   pub ties : TiesAreEqual cmp
   pub named : HasLength after (length ranges)
   pub due : AreDueWithin l (length ranges)
   pub leaves : HaveLeavesWithin l.number trees
-  pub plan : IsPlan l trees (length ranges) planned
+  pub plan : IsPlan l uses trees (length ranges) planned
 
 -- how many steps a search from a row on takes at most
 abbrev pub below : {V : Type 0} → List (List V) → ℕ
@@ -128,12 +146,19 @@ is_over p = cond p.fresh false (eqb p.depth 0)
 
 -- the value at place i of range k is bound as the last one, or where the range ends before it the row before it is passed
 abbrev pub Lands : ℕ → ℕ → ℕ → Place → Place → Type 0
-Lands end k i old new = (new.found.items ≡ old.found.items) × (((i < end) × (new.places.items ≡ slice_set old.places.items k i) × (new.depth ≡ k + 1) × (new.fresh ≡ true))
-    ⊎ ((end ≤ i) × (new.places.items ≡ old.places.items) × (new.depth ≡ k) × (new.fresh ≡ false)))
+Lands end k i old new = (new.found.items ≡ old.found.items) × (((i < end) × (new.places.items ≡ slice_set old.places.items k i) × (new.depth ≡ k + 1) × (new.fresh ≡ true) × Renews (k + 1) old.marks new.marks)
+    ⊎ ((end ≤ i) × (new.places.items ≡ old.places.items) × (new.depth ≡ k) × (new.fresh ≡ false) × (new.marks ≡ old.marks)))
 
 -- to the next chosen place from one on
 abbrev pub LandsNext : ℕ → Option (List ℕ) → ℕ → ℕ → Place → Place → Type 0
 LandsNext end choice k from old new = (next : ℕ) × IsNextChoice choice from next × Lands end k next old new
+
+-- the place is the same, but for the mark of what is chosen of the next range
+pub record IsMarked (old new : Place) : Type 0 where
+  pub is : new ≡ record old { marks = new.marks }
+  pub stamps : new.marks.stamps.items ≡ old.marks.stamps.items
+  pub all : length new.marks.choices.items ≡ length old.marks.choices.items
+  pub others : (k : ℕ) → k ≢ old.depth → mark_at new.marks k ≡ mark_at old.marks k
 
 -- ---- steps
 

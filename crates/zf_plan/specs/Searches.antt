@@ -20,7 +20,7 @@ view_of judge forest ranges after p memo given counting = record {
 }
 
 pub record IsStanding {V : Type 0} (cmp : V → V → Ordering) (l : Conjuncts V) (uses : ℕ → ℕ → Bool) (forest : Grove) (ranges : List (List V)) (after : Option (List V)) (planned : Plan) (p : Place) (memo : Memory) (choices : List (Option (List ℕ))) (given counting : Bool) : Type 0 where
-  pub sound : IsSound cmp l (trees_of forest) ranges after planned
+  pub sound : IsSound cmp l uses (trees_of forest) ranges after planned
   pub stands : Stands l uses (trees_of forest) ranges p memo choices
   pub whole : given ≡ true → p.depth ≡ length ranges
   pub plain : counting ≡ true → IsPlain l (trees_of forest) planned

@@ -1,5 +1,5 @@
 //! The values of a range that are tried.
-ghost use Rattle.std.specs.Prelude.{◌≡◌, ◌≤◌, ◌<◌, ℕ, length, Contains, IfOk};
+ghost use Rattle.std.specs.Prelude.{◌≡◌, ◌≤◌, ◌<◌, ℕ, length, slice_index_or, Contains, IfOk, None};
 ghost use Rattle.zf_plan.specs.Choosing.{IsNextChoice};
 
 use std::alloc::{AllocError, Global};
@@ -35,8 +35,10 @@ impl Choice {
 }
 
 /// For each of so many ranges all its places.
+#[tactic(auto, using(crate::proofs::Numbers::default_push))]
 pub fn all_chosen(alloc: Global, ranges: usize) -> Result<Vec<Choice>, AllocError>
-    ensures { IfOk result (λ choices. length choices.items ≡ ranges) }
+    ensures all { IfOk result (λ choices. length choices.items ≡ ranges) }
+    ensures none { IfOk result (λ choices. (k : ℕ) → slice_index_or choices.items k None ≡ None) }
 {
     let mut choices = Vec::new(alloc);
     for range in 0..ranges {

@@ -1,5 +1,5 @@
 //! How the values of a range are chosen that are tried.
-ghost use Rattle.std.specs.Prelude.{◌≡◌, ◌<◌, [], length, slice_index_or, IsTrue, false, IfOk, OnOk, OnErr, Ok, Some, None};
+ghost use Rattle.std.specs.Prelude.{◌≡◌, ◌<◌, ◌≤◌, [], length, slice_index_or, IsTrue, IfOk, IfSome, OnOk, OnErr, Ok, None};
 ghost use Rattle.zf_walk.specs.Picked.{AreWithin, picked};
 ghost use Rattle.zf_walk.specs.Progress.{AreDueWithin};
 ghost use Rattle.zf_walk.specs.RowLaws.{AreAscending};
@@ -7,7 +7,7 @@ ghost use Rattle.zf_plan.specs.Trees.{tree_at, HasLeavesWithin, HaveLeavesWithin
 ghost use Rattle.zf_plan.specs.Groves.{trees_made, trees_of};
 ghost use Rattle.zf_plan.specs.Knowing.{Remembers, AreBelow};
 ghost use Rattle.zf_plan.specs.Choices.{StaysIn};
-ghost use Rattle.zf_plan.specs.Choosing.{Narrows, IsChoice};
+ghost use Rattle.zf_plan.specs.Choosing.{AreLasts, Narrows, StaysChoice};
 
 use crate::choice::Choice;
 use crate::evaluating::evaluate;
@@ -68,7 +68,7 @@ fn gather<V: Ord, J: Guide<V>>(
     }
 }
 
-/// Gathers the places that the first of these conjuncts leaves which says so. Answers false where none does.
+/// Gathers the places that the first of these conjuncts leaves which says so, and answers which one that is, if any.
 fn gather_first<V: Ord, J: Guide<V>>(
     judge: &J,
     forest: &Forest,
@@ -77,7 +77,7 @@ fn gather_first<V: Ord, J: Guide<V>>(
     conjuncts: &[usize],
     memo: &mut Memo,
     gathered: &mut Vec<usize>,
-) -> Result<bool, AllocError>
+) -> Result<Option<usize>, AllocError>
     requires conjuncts { AreBelow (length (trees_of forest.now)) conjuncts.now }
     requires leaves { HaveLeavesWithin (J.conjuncts judge.now).number (trees_of forest.now) }
     requires due { AreDueWithin (J.conjuncts judge.now) (length ranges.now) }
@@ -87,8 +87,9 @@ fn gather_first<V: Ord, J: Guide<V>>(
     requires remembers { Remembers (J.conjuncts judge.now) (J.is_used judge.now) ranges.now places.now memo.old }
     ensures remembers { Remembers (J.conjuncts judge.now) (J.is_used judge.now) ranges.now places.now memo.new }
     ensures same { memo.new.tests ≡ memo.old.tests }
-    ensures choice { IfOk result (λ found. IsTrue found → IsChoice (J.conjuncts judge.now) (trees_of forest.now) ranges.now (picked ranges.now places.now) (slice_index_or ranges.now (length places.now) []) (Some gathered.new.items)) }
-    ensures none { conjuncts.now ≡ [] → result ≡ Ok false }
+    ensures narrows { IfOk result (λ found. IfSome found (λ i. Narrows (J.conjuncts judge.now) (tree_at (trees_of forest.now) (slice_index_or conjuncts.now i 0)) ranges.now (picked ranges.now places.now) (slice_index_or ranges.now (length places.now) []) gathered.new.items)) }
+    ensures within { IfOk result (λ found. IfSome found (λ i. i < length conjuncts.now)) }
+    ensures none { conjuncts.now ≡ [] → result ≡ Ok None }
 {
     for i in 0..conjuncts.len() {
         let conjunct = conjuncts[i];
@@ -96,23 +97,25 @@ fn gather_first<V: Ord, J: Guide<V>>(
         let root = forest.root(conjunct);
         let found = gather(judge, forest, ranges, places, root, memo, gathered)?;
         if found {
-            return Ok(true);
+            return Ok(Some(i));
         }
     }
-    Ok(false)
+    Ok(None)
 }
 
-/// Chooses the places of the next component that are tried. With a value at any other place a conjunct is False on every row.
+/// Chooses the places of the next component that are tried. With a value at any other place a conjunct is False on every row, whatever the values are behind those first ones that the answer counts.
 pub fn choose<V: Ord, J: Guide<V>>(
     judge: &J,
     forest: &Forest,
     ranges: &[Range<V>],
     places: &[usize],
     conjuncts: &[usize],
+    lasts: &[usize],
     memo: &mut Memo,
     choice: &mut Choice,
-) -> Result<(), AllocError>
+) -> Result<usize, AllocError>
     requires conjuncts { AreBelow (length (trees_of forest.now)) conjuncts.now }
+    requires lasts { AreLasts (J.is_used judge.now) (trees_of forest.now) (length places.now) conjuncts.now lasts.now }
     requires leaves { HaveLeavesWithin (J.conjuncts judge.now).number (trees_of forest.now) }
     requires due { AreDueWithin (J.conjuncts judge.now) (length ranges.now) }
     requires ascending { AreAscending V.cmp ranges.now }
@@ -121,7 +124,8 @@ pub fn choose<V: Ord, J: Guide<V>>(
     requires remembers { Remembers (J.conjuncts judge.now) (J.is_used judge.now) ranges.now places.now memo.old }
     ensures remembers { Remembers (J.conjuncts judge.now) (J.is_used judge.now) ranges.now places.now memo.new }
     ensures same { memo.new.tests ≡ memo.old.tests }
-    ensures choice { OnOk result (IsChoice (J.conjuncts judge.now) (trees_of forest.now) ranges.now (picked ranges.now places.now) (slice_index_or ranges.now (length places.now) []) choice.new) }
+    ensures few { IfOk result (λ due. due ≤ length places.now) }
+    ensures choice { IfOk result (λ due. StaysChoice (J.conjuncts judge.now) (trees_of forest.now) ranges.now (length places.now) due places.now choice.new) }
     ensures all { OnOk result (conjuncts.now ≡ [] → choice.new ≡ None) }
     ensures granted { OnErr result (conjuncts.now ≡ [] → ⊥) }
 {
@@ -134,6 +138,25 @@ pub fn choose<V: Ord, J: Guide<V>>(
         memo,
         &mut choice.places,
     )?;
-    choice.all = !found;
-    Ok(())
+    match found {
+        Some(i) => {
+            choice.all = false;
+            Ok(lasts[i])
+        }
+        None => {
+            choice.all = true;
+            Ok(made_of(conjuncts, places))
+        }
+    }
+}
+
+/// Of how many first values it was made that none of these conjuncts leaves fewer: where there is none, of no value.
+fn made_of(conjuncts: &[usize], places: &[usize]) -> usize
+    ensures { result ≤ length places.now }
+{
+    if conjuncts.len() == 0 {
+        0
+    } else {
+        places.len()
+    }
 }

@@ -9,6 +9,7 @@ mod guide;
 mod known;
 pub mod laws;
 mod listed;
+mod marks;
 mod memo;
 mod moves;
 mod node;

@@ -10,13 +10,15 @@ use zf_walk::Range;
 
 /// Goes to the value at place `i` of range `k`, or past the row before it where the range ends before.
 fn land(place: &mut Place, k: usize, i: usize, end: usize)
-    requires { k < length place.old.places.items }
+    requires places { k < length place.old.places.items }
+    requires stamps { k + 1 < length place.old.marks.stamps.items }
     ensures { Lands end k i place.old place.new }
 {
     if i < end {
         place.places[k] = i;
         place.depth = k + 1;
         place.fresh = true;
+        place.marks.renew(k + 1);
     } else {
         place.depth = k;
         place.fresh = false;

@@ -2,6 +2,7 @@
 ghost use Rattle.std.specs.Prelude.{◌≡◌, ◌≤◌, length};
 ghost use Rattle.zf_plan.specs.Places.{found_before};
 
+use crate::marks::Marks;
 use zf_walk::Truth;
 
 /// The first `depth` places are those of the values that are bound. Where it is `fresh` the rows that begin with them are still ahead, and else only those that are greater.
@@ -10,6 +11,7 @@ pub struct Place {
     pub places: Vec<usize>,
     /// For each number of first values the truth of the conjuncts that need no more of them.
     pub found: Vec<Truth>,
+    pub marks: Marks,
     pub depth: usize,
     pub fresh: bool,
 }

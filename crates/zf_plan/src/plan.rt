@@ -1,8 +1,9 @@
 //! Which leaves and which conjuncts a value that is bound concerns.
-ghost use Rattle.std.specs.Prelude.{◌≡◌, ◌+◌, ◌^◌, ◌<◌, ℕ, [], length, slice_index_or, IfOk, MatchOption};
+ghost use Rattle.std.specs.Prelude.{◌≡◌, ◌+◌, ◌^◌, ◌<◌, ◌≤◌, ℕ, false, [], length, slice_index_or, IfOk, MatchOption};
 ghost use Rattle.zf_plan.specs.Trees.{tree_at, HasLeavesWithin, HaveLeavesWithin};
 ghost use Rattle.zf_plan.specs.Groves.{trees_made, trees_of};
 ghost use Rattle.zf_plan.specs.Knowing.{AreBelow, IsLeafDue};
+ghost use Rattle.zf_plan.specs.Choosing.{AreLasts, UsesFirst};
 ghost use Rattle.zf_plan.specs.Places.{touches, touches_inside, AreAll, AreDue, AreTouched, IsPlan};
 
 use crate::forest::Forest;
@@ -12,12 +13,13 @@ use crate::node::Node;
 use std::alloc::{AllocError, Global};
 use zf_walk::Judge;
 
-/// For each number of values the leaves that are conjuncts and need so many, the other conjuncts that have such a leaf, and those that narrow the next component.
+/// For each number of values the leaves that are conjuncts and need so many, the other conjuncts that have such a leaf, those that narrow the next component, and for each of these of how many first values it and those before it do so.
 #[derive(Drop)]
 pub struct Plan {
     pub due: Vec<Listed>,
     pub touched: Vec<Listed>,
     pub narrowing: Vec<Listed>,
+    pub lasts: Vec<Listed>,
 }
 
 impl Plan {
@@ -29,15 +31,17 @@ impl Plan {
     ) -> Result<Plan, AllocError>
         requires leaves { HaveLeavesWithin (J.conjuncts judge.now).number (trees_of forest.now) }
         requires room { components + 1 < 2 ^ 64 }
-        ensures { IfOk result (IsPlan (J.conjuncts judge.now) (trees_of forest.now) components) }
+        ensures { IfOk result (IsPlan (J.conjuncts judge.now) (J.is_used judge.now) (trees_of forest.now) components) }
     {
         let due = all_due(alloc, judge, forest, components)?;
         let touched = all_touched(alloc, judge, forest, components)?;
         let narrowing = all_narrowing(alloc, judge, forest, components)?;
+        let lasts = all_lasts(alloc, judge, forest, &narrowing, components)?;
         Ok(Plan {
             due,
             touched,
             narrowing,
+            lasts,
         })
     }
 
@@ -50,16 +54,18 @@ impl Plan {
     ) -> Result<Plan, AllocError>
         requires leaves { HaveLeavesWithin (J.conjuncts judge.now).number (trees_of forest.now) }
         requires room { components + 1 < 2 ^ 64 }
-        ensures plan { IfOk result (IsPlan (J.conjuncts judge.now) (trees_of forest.now) components) }
+        ensures plan { IfOk result (IsPlan (J.conjuncts judge.now) (J.is_used judge.now) (trees_of forest.now) components) }
         ensures none { IfOk result (λ p. (k : ℕ) → slice_index_or p.narrowing.items k [] ≡ []) }
     {
         let due = all_due(alloc, judge, forest, components)?;
         let touched = all_touched(alloc, judge, forest, components)?;
         let narrowing = none_narrowing(alloc, components)?;
+        let lasts = none_narrowing(alloc, components)?;
         Ok(Plan {
             due,
             touched,
             narrowing,
+            lasts,
         })
     }
 }
@@ -206,7 +212,7 @@ fn all_narrowing<V: Ord, J: Guide<V>>(
 }
 
 /// For each number of values no conjunct.
-#[tactic(auto, using(crate::proofs::Numbers::none_push))]
+#[tactic(auto, using(crate::proofs::Numbers::default_push))]
 fn none_narrowing(alloc: Global, components: usize) -> Result<Vec<Listed>, AllocError>
     requires { components + 1 < 2 ^ 64 }
     ensures all { IfOk result (λ lists. length lists.items ≡ components + 1) }
@@ -263,4 +269,81 @@ fn is_narrowing<V: Ord, J: Guide<V>>(
                 && is_narrowing(judge, forest, right, component)
         }
     }
+}
+
+/// For each number of values the conjuncts' last ones, where they narrow the next.
+fn all_lasts<V, J: Judge<V>>(
+    alloc: Global,
+    judge: &J,
+    forest: &Forest,
+    narrowing: &[Listed],
+    components: usize,
+) -> Result<Vec<Listed>, AllocError>
+    requires narrowing { AreAll (λ k. AreBelow (length (trees_of forest.now))) components narrowing.now }
+    requires leaves { HaveLeavesWithin (J.conjuncts judge.now).number (trees_of forest.now) }
+    requires room { components + 1 < 2 ^ 64 }
+    ensures { IfOk result (λ lists. AreAll (λ k. AreLasts (J.is_used judge.now) (trees_of forest.now) k (slice_index_or narrowing.now k [])) components lists.items) }
+{
+    let mut all = Vec::new(alloc);
+    for component in 0..components + 1 {
+        let conjuncts = &narrowing[component];
+        all.push(lasts_at(alloc, judge, forest, &conjuncts.numbers, component)?)?;
+    }
+    Ok(all)
+}
+
+/// For each of these conjuncts how many first values it and those before it use, of those before a component.
+fn lasts_at<V, J: Judge<V>>(
+    alloc: Global,
+    judge: &J,
+    forest: &Forest,
+    conjuncts: &[usize],
+    component: usize,
+) -> Result<Listed, AllocError>
+    requires conjuncts { AreBelow (length (trees_of forest.now)) conjuncts.now }
+    requires leaves { HaveLeavesWithin (J.conjuncts judge.now).number (trees_of forest.now) }
+    ensures { IfOk result (AreLasts (J.is_used judge.now) (trees_of forest.now) component conjuncts.now) }
+{
+    let mut numbers = Vec::new(alloc);
+    let mut last = 0;
+    for i in 0..conjuncts.len() {
+        let root = forest.root(conjuncts[i]);
+        last = last_used(judge, forest, root, component).max(last);
+        numbers.push(last)?;
+    }
+    Ok(Listed { numbers })
+}
+
+/// How many first components a tree uses of those before one.
+fn last_used<V, J: Judge<V>>(judge: &J, forest: &Forest, part: usize, component: usize) -> usize
+    requires part { part < length (trees_made forest.now) }
+    requires leaves { HasLeavesWithin (J.conjuncts judge.now).number (tree_at (trees_made forest.now) part) }
+    ensures few { result ≤ component }
+    ensures first { UsesFirst (J.is_used judge.now) result component (tree_at (trees_made forest.now) part) }
+{
+    match forest.node(part) {
+        Node::Leaf(of) => last_of_leaf(judge, of, component),
+        Node::Not(of) => last_used(judge, forest, of, component),
+        Node::And(left, right) => {
+            let last = last_used(judge, forest, left, component);
+            last_used(judge, forest, right, component).max(last)
+        }
+        Node::Or(left, right) => {
+            let last = last_used(judge, forest, left, component);
+            last_used(judge, forest, right, component).max(last)
+        }
+    }
+}
+
+/// How many first components a leaf uses of those before one.
+fn last_of_leaf<V, J: Judge<V>>(judge: &J, of: usize, component: usize) -> usize
+    requires { of < (J.conjuncts judge.now).number }
+    ensures few { result ≤ component }
+    ensures first { (i : ℕ) → result ≤ i → i < component → J.is_used judge.now of i ≡ false }
+{
+    let mut last = component;
+    while last > 0 && !judge.uses(of, last - 1) {
+        last -= 1;
+    }
+    last
 }

@@ -1,6 +1,7 @@
 //! Searches.
-ghost use Rattle.std.specs.Prelude.{◌≡◌, ◌<◌, ◌≤◌, length, IsTrue, IfOk, OnOk, OnErr, IsSomeAnd, IfSome, slice_get, slice_index_or, unwrap_or, []};
+ghost use Rattle.std.specs.Prelude.{◌≡◌, ◌<◌, ◌≤◌, length, IsTrue, IfOk, OnOk, OnErr, IsSomeAnd, IfSome, slice_get, slice_index_or, true, false, unwrap_or, List, []};
 ghost use Rattle.std.specs.Option.{option_copied};
+ghost use Rattle.zf_walk.specs.Rows.{IsRowOf};
 ghost use Rattle.zf_walk.specs.RowLaws.{TiesAreEqual, AreAscending, HasLength};
 ghost use Rattle.zf_walk.specs.Progress.{AreDueWithin, ended, AreAllAhead, Advances, Stays, AreTests, IsBounded};
 ghost use Rattle.zf_plan.specs.Trees.{planted, HaveLeavesWithin, IsFlat};
@@ -12,6 +13,7 @@ ghost use Rattle.zf_plan.specs.Progress.{SameProblem, counted};
 use crate::choice::{Choice, all_chosen};
 use crate::forest::Forest;
 use crate::guide::Guide;
+use crate::marks::Marks;
 use crate::memo::Memo;
 use crate::place::Place;
 use crate::plan::Plan;
@@ -94,7 +96,7 @@ impl<'a, V: Ord + Drop, J: Guide<V> + Drop> Search<'a, V, J> {
         Ok(search)
     }
 
-    /// Stands before the first event, by this plan.
+    /// Stands before the first event, by this plan. Where a range is empty it is over at once, unless it counts tests.
     fn over(
         alloc: Global,
         judge: J,
@@ -104,21 +106,24 @@ impl<'a, V: Ord + Drop, J: Guide<V> + Drop> Search<'a, V, J> {
         plan: Plan,
         plain: bool,
     ) -> Result<Search<'a, V, J>, AllocError>
-        requires sound { IsSound V.cmp (J.conjuncts judge) (trees_of forest) ranges.items (option_copied after) plan }
+        requires sound { IsSound V.cmp (J.conjuncts judge) (J.is_used judge) (trees_of forest) ranges.items (option_copied after) plan }
         requires plain { IsTrue plain → IsPlain (J.conjuncts judge) (trees_of forest) plan }
         ensures problem { IfOk result (λ w. (w.judge ≡ judge) × (w.forest ≡ forest) × (w.stage.ranges ≡ ranges.items) × (w.stage.after ≡ option_copied after.entry)) }
-        ensures events { IfOk result (λ w. w.stage.ahead ≡ begun) }
+        ensures events { IfOk result (λ w. AreAllAhead V.cmp (planted (J.conjuncts judge) (trees_of forest)) ranges.items (option_copied after.entry) w.stage.ahead) }
+        ensures begun { IfOk result (λ w. plain ≡ true → w.stage.ahead ≡ begun) }
         ensures first { IfOk result (λ w. (w.stage.last ≡ None) × (w.tests ≡ 0) × (w.counts ≡ plain)) }
     {
         let places = vec![in alloc; 0; ranges.len()]?;
         let memo = Memo::new(alloc, &judge, &ranges)?;
         let choices = all_chosen(alloc, ranges.len())?;
         let found = vec![in alloc; Truth::True; ranges.len()]?;
+        let marks = Marks::new(alloc, ranges.len())?;
         let place = Place {
             places,
             found,
+            marks,
             depth: 0,
-            fresh: true,
+            fresh: may_begin(&ranges, plain),
         };
         Ok(Search {
             judge,
@@ -204,4 +209,25 @@ impl<'a, V: Ord, J: Guide<V>> Row<V> for Search<'a, V, J> {
     fn get(&self, i: usize) -> &V {
         self.value(i)
     }
+}
+
+/// Whether there may be a row, or tests are counted all the same.
+fn may_begin<V>(ranges: &[Range<V>], plain: bool) -> bool
+    ensures plain { plain ≡ true → result ≡ true }
+    ensures none { result ≡ false → (row : List V) → IsRowOf ranges.now row → ⊥ }
+{
+    plain || !has_empty(ranges)
+}
+
+/// Whether a range has no value.
+fn has_empty<V>(ranges: &[Range<V>]) -> bool
+    ensures { result ≡ true → (row : List V) → IsRowOf ranges.now row → ⊥ }
+{
+    for i in 0..ranges.len() {
+        let range = &ranges[i];
+        if range.values.len() == 0 {
+            return true;
+        }
+    }
+    false
 }

@@ -8,9 +8,10 @@ ghost use Rattle.zf_walk.specs.RowLaws.{AreAscending};
 ghost use Rattle.zf_plan.specs.Trees.{planted, HaveLeavesWithin};
 ghost use Rattle.zf_plan.specs.Groves.{trees_of};
 ghost use Rattle.zf_plan.specs.Knowing.{Remembers, IsSoFar, NeedsBelow};
-ghost use Rattle.zf_plan.specs.Choosing.{IsChoice};
+ghost use Rattle.zf_plan.specs.Choosing.{IsChoice, StaysChoice};
+ghost use Rattle.zf_plan.specs.Marks.{mark_at};
 ghost use Rattle.zf_plan.specs.Counts.{IsPlain, Counts, CountsOn, IsCounted, all_of};
-ghost use Rattle.zf_plan.specs.Places.{IsPlan, IsSound, Finds, Stands, Goes, Gives, KeepsEvents, is_over};
+ghost use Rattle.zf_plan.specs.Places.{bound, path, IsAt, IsKept, IsMarked, IsPlan, IsSound, Finds, Stands, Goes, Gives, KeepsEvents, is_over};
 
 use crate::choice::Choice;
 use crate::choosing::choose;
@@ -35,7 +36,7 @@ fn test<V: Ord, J: Guide<V>>(
     before: Truth,
     memo: &mut Memo,
 ) -> Result<Truth, AllocError>
-    requires sound { IsSound V.cmp (J.conjuncts judge.now) (trees_of forest.now) ranges.now (option_copied after) plan.now }
+    requires sound { IsSound V.cmp (J.conjuncts judge.now) (J.is_used judge.now) (trees_of forest.now) ranges.now (option_copied after) plan.now }
     requires within { AreWithin ranges.now places.now }
     requires before { before ≢ False }
     requires so_far { IsSoFar (J.conjuncts judge.now) (trees_of forest.now) (picked ranges.now places.now) (NeedsBelow (J.conjuncts judge.now) (trees_of forest.now) (length places.now)) before }
@@ -65,8 +66,8 @@ fn test<V: Ord, J: Guide<V>>(
     )
 }
 
-/// Chooses the values of the next range that are tried.
-fn choose_next<V: Ord, J: Guide<V>>(
+/// Chooses the values of the next range that are tried. Answers of how many first values the choice was made.
+fn choose_at<V: Ord, J: Guide<V>>(
     judge: &J,
     forest: &Forest,
     ranges: &[Range<V>],
@@ -74,30 +75,77 @@ fn choose_next<V: Ord, J: Guide<V>>(
     places: &[usize],
     memo: &mut Memo,
     choice: &mut Choice,
-) -> Result<(), AllocError>
+) -> Result<usize, AllocError>
     requires due { AreDueWithin (J.conjuncts judge.now) (length ranges.now) }
     requires ascending { AreAscending V.cmp ranges.now }
-    requires plan { IsPlan (J.conjuncts judge.now) (trees_of forest.now) (length ranges.now) plan.now }
+    requires plan { IsPlan (J.conjuncts judge.now) (J.is_used judge.now) (trees_of forest.now) (length ranges.now) plan.now }
     requires leaves { HaveLeavesWithin (J.conjuncts judge.now).number (trees_of forest.now) }
     requires within { AreWithin ranges.now places.now }
     requires deeper { length places.now < length ranges.now }
     requires remembers { Remembers (J.conjuncts judge.now) (J.is_used judge.now) ranges.now places.now memo.old }
     ensures remembers { Remembers (J.conjuncts judge.now) (J.is_used judge.now) ranges.now places.now memo.new }
     ensures same { memo.new.tests ≡ memo.old.tests }
-    ensures choice { OnOk result (IsChoice (J.conjuncts judge.now) (trees_of forest.now) ranges.now (picked ranges.now places.now) (slice_index_or ranges.now (length places.now) []) choice.new) }
+    ensures few { IfOk result (λ due. due ≤ length places.now) }
+    ensures choice { IfOk result (λ due. StaysChoice (J.conjuncts judge.now) (trees_of forest.now) ranges.now (length places.now) due places.now choice.new) }
     ensures all { OnOk result (IsPlain (J.conjuncts judge.now) (trees_of forest.now) plan.now → choice.new ≡ None) }
     ensures granted { OnErr result (IsPlain (J.conjuncts judge.now) (trees_of forest.now) plan.now → ⊥) }
 {
     let narrowing = &plan.narrowing[places.len()];
+    let lasts = &plan.lasts[places.len()];
     choose(
         judge,
         forest,
         ranges,
         places,
         &narrowing.numbers,
+        &lasts.numbers,
         memo,
         choice,
     )
+}
+
+/// Chooses the values of the next range that are tried, unless the choice that was made of it before is one still.
+fn choose_next<V: Ord, J: Guide<V>>(
+    judge: &J,
+    forest: &Forest,
+    ranges: &[Range<V>],
+    plan: &Plan,
+    place: &mut Place,
+    memo: &mut Memo,
+    choice: &mut Choice,
+) -> Result<(), AllocError>
+    requires due { AreDueWithin (J.conjuncts judge.now) (length ranges.now) }
+    requires ascending { AreAscending V.cmp ranges.now }
+    requires plan { IsPlan (J.conjuncts judge.now) (J.is_used judge.now) (trees_of forest.now) (length ranges.now) plan.now }
+    requires leaves { HaveLeavesWithin (J.conjuncts judge.now).number (trees_of forest.now) }
+    requires at { IsAt ranges.now place.old }
+    requires deeper { place.old.depth < length ranges.now }
+    requires remembers { Remembers (J.conjuncts judge.now) (J.is_used judge.now) ranges.now (bound place.old) memo.old }
+    requires kept { IsKept (J.conjuncts judge.now) (trees_of forest.now) ranges.now place.old.marks.stamps.items (bound place.old) place.old.depth choice.old (mark_at place.old.marks place.old.depth) }
+    ensures remembers { Remembers (J.conjuncts judge.now) (J.is_used judge.now) ranges.now (bound place.old) memo.new }
+    ensures same { memo.new.tests ≡ memo.old.tests }
+    ensures place { IsMarked place.old place.new }
+    ensures kept { IsKept (J.conjuncts judge.now) (trees_of forest.now) ranges.now place.new.marks.stamps.items (bound place.old) place.old.depth choice.new (mark_at place.new.marks place.old.depth) }
+    ensures choice { OnOk result (IsChoice (J.conjuncts judge.now) (trees_of forest.now) ranges.now (path ranges.now place.old) (slice_index_or ranges.now place.old.depth []) choice.new) }
+    ensures all { OnOk result (IsPlain (J.conjuncts judge.now) (trees_of forest.now) plan.now → choice.old ≡ None → choice.new ≡ None) }
+    ensures granted { OnErr result (IsPlain (J.conjuncts judge.now) (trees_of forest.now) plan.now → ⊥) }
+    ensures err { OnErr result (place.new ≡ place.old) }
+{
+    let depth = place.depth;
+    if place.marks.is_still(depth) {
+        return Ok(());
+    }
+    let due = choose_at(
+        judge,
+        forest,
+        ranges,
+        plan,
+        &place.places[..depth],
+        memo,
+        choice,
+    )?;
+    place.marks.keep(depth, due);
+    Ok(())
 }
 
 /// One step: to another place, or to an answer.
@@ -111,7 +159,7 @@ fn step_on<V: Ord, J: Guide<V>>(
     memo: &mut Memo,
     choices: &mut [Choice],
 ) -> Result<Option<Step>, AllocError>
-    requires sound { IsSound V.cmp (J.conjuncts judge.now) (trees_of forest.now) ranges.now (option_copied after) plan.now }
+    requires sound { IsSound V.cmp (J.conjuncts judge.now) (J.is_used judge.now) (trees_of forest.now) ranges.now (option_copied after) plan.now }
     requires stands { Stands (J.conjuncts judge.now) (J.is_used judge.now) (trees_of forest.now) ranges.now place.old memo.old choices.old }
     ensures stands { Stands (J.conjuncts judge.now) (J.is_used judge.now) (trees_of forest.now) ranges.now place.new memo.new choices.new }
     ensures goes { IfOk result (λ found. Goes V.cmp (planted (J.conjuncts judge.now) (trees_of forest.now)) ranges.now (option_copied after.entry) place.old found place.new) }
@@ -148,7 +196,7 @@ fn step_on<V: Ord, J: Guide<V>>(
             forest,
             ranges,
             plan,
-            &place.places[..depth],
+            place,
             memo,
             &mut choices[depth],
         )?;
@@ -175,7 +223,7 @@ pub fn next_answer<V: Ord, J: Guide<V>>(
     memo: &mut Memo,
     choices: &mut [Choice],
 ) -> Result<Step, AllocError>
-    requires sound { IsSound V.cmp (J.conjuncts judge.now) (trees_of forest.now) ranges.now (option_copied after) plan.now }
+    requires sound { IsSound V.cmp (J.conjuncts judge.now) (J.is_used judge.now) (trees_of forest.now) ranges.now (option_copied after) plan.now }
     requires stands { Stands (J.conjuncts judge.now) (J.is_used judge.now) (trees_of forest.now) ranges.now place.old memo.old choices.old }
     ensures stands { Stands (J.conjuncts judge.now) (J.is_used judge.now) (trees_of forest.now) ranges.now place.new memo.new choices.new }
     ensures gives { IfOk result (λ step. Gives V.cmp (planted (J.conjuncts judge.now) (trees_of forest.now)) ranges.now (option_copied after.entry) place.old step place.new) }

@@ -1,13 +1,22 @@
-use Rattle.zf_plan.proofs.Prelude.{◌-◌, ◌≤◌, ◌∙◌, ◌≡◌, [], ap, arith, false, get_or, inl, inr, length, refl, subst, sym, take, ℕ, option_copied, cases_eq, get_or-set_other, get_or-set_same, length-set, IsAt, IsTruthOf, picked, Out, True, IsChoice, IsSoFar, trees_of, Remembers, path, planted, Place}
+use Rattle.zf_plan.proofs.Prelude.{Err, Ok, OnErr, Result, set, Stands, Option, List, None, get_or_default, ◌<◌, ◌+◌, bound, ◌-◌, ◌≤◌, ◌∙◌, ◌≡◌, ap, arith, false, get_or, inl, inr, length, refl, subst, sym, take, ℕ, option_copied, cases_eq, get_or-set_other, get_or-set_same, length-set, IsAt, IsTruthOf, picked, Out, True, IsSoFar, trees_of, Remembers, path, planted, Place}
+use Rattle.zf_plan.proofs.Marking.{kept-chosen, landed-marked}
 use Rattle.zf_plan.specs.Counts.{below_it, Counts, CountsFound, IsCounted}
 use Rattle.zf_plan.specs.Knowing.{NeedsBelow, NeedsWithin}
 use Rattle.std.specs.Vec.{with_item}
 use Rattle.zf_plan.specs.Memories.{Forgets}
-use Rattle.zf_plan.specs.Places.{Finds, IsFound}
+use Rattle.zf_plan.specs.Marks.{mark_at}
+use Rattle.zf_plan.specs.Places.{Finds, IsFound, IsKept}
 use Rattle.zf_plan.proofs.Moving.{length-bound, length-path}
-use Rattle.zf_plan.proofs.Stepping.{before-found, descends, descends-stand, finds-hopeless, finds-reached, finds-whole, gives-end, passes, retreats, retreats-stand, setting-of, takes-whole}
+use Rattle.zf_plan.proofs.Stepping.{before-found, descends, descends-stand, stands-refused, finds-hopeless, finds-reached, finds-whole, gives-end, passes, retreats, retreats-stand, setting-of, takes-whole}
 use Rattle.zf_plan.proofs.Counting.{basis-of, counted-descends, counted-here, counted-retreats, counted-still, counts-whole, found-false, found-other}
 use Rattle.zf_plan.proofs.steps.step_on.Goals as goal
+
+was-none : (choices : List (Option (List ℕ))) (k : ℕ) (other : Option (List ℕ)) → k < length choices → get_or choices k None ≡ None → get_or choices k other ≡ None
+was-none choices k other near none = sym (get_or_default choices k None other near) ∙ none
+
+on-err : {T E : Type 0} (r : Result T E) (P : Type 0) → P → OnErr r P
+on-err (Ok x) P p = tt
+on-err (Err e) P p = p
 
 pub returns-then-place-eq0-clause-goes : goal.returns-then-place-eq0-clause-goes
 returns-then-place-eq0-clause-goes g c =
@@ -78,6 +87,41 @@ test-requires-clause-so_far g c =
     (subst (λ n. IsSoFar l trees (path ranges p) (NeedsBelow l trees n) c.so_far.result) (sym long)
     (subst (IsSoFar l trees (path ranges p) (NeedsBelow l trees p.depth)) (sym c.so_far.ensures) so))
 
+pub choose_next-requires-clause-remembers : goal.choose_next-requires-clause-remembers
+choose_next-requires-clause-remembers g c =
+    let p : Place = c.args.place.now in
+    let l = g.J.Judge.conjuncts c.args.judge.now in
+    let uses = g.J.Judge.is_used c.args.judge.now in
+    subst (λ is. Remembers l uses c.args.ranges.now (take p.depth is) c.test.new.memo) c.deref.ensures.value c.in_ok-truth.ensures.remembers
+
+pub choose_next-requires-clause-kept : goal.choose_next-requires-clause-kept
+choose_next-requires-clause-kept g c =
+    let p : Place = c.args.place.now in
+    let st = c.requires.stands in
+    let choices = c.args.choices.now in
+    let near : p.depth < length choices = omega (arith, st.all_choices, c.if-depth-ranges.true) in
+    subst (λ w. IsKept (g.J.Judge.conjuncts c.args.judge.now) (trees_of c.args.forest.now) c.args.ranges.now p.marks.stamps.items (bound p) p.depth w (mark_at p.marks p.depth))
+    (get_or_default choices p.depth None c.index-choices-depth.result near) (st.kept p.depth c.if-depth-ranges.true)
+
+pub returns-in_err-choose_next-clause-stands : goal.returns-in_err-choose_next-clause-stands
+returns-in_err-choose_next-clause-stands g c =
+    let l = g.J.Judge.conjuncts c.args.judge.now in
+    let uses = g.J.Judge.is_used c.args.judge.now in
+    let trees = trees_of c.args.forest.now in
+    let ranges = c.args.ranges.now in
+    let p : Place = c.args.place.now in
+    let choice = c.choose_next.new.choice in
+    let same = c.in_err-choose_next.ensures.err in
+    let kept = subst (λ (q : Place). IsKept l trees ranges q.marks.stamps.items (bound p) p.depth choice (mark_at q.marks p.depth)) same c.in_err-choose_next.ensures.kept in
+    subst (λ q. Stands l uses trees ranges q c.choose_next.new.memo (set c.args.choices.now p.depth choice)) (sym same)
+    (stands-refused l uses trees ranges p c.args.memo.now c.choose_next.new.memo c.args.choices.now choice c.requires.stands c.if-depth-ranges.true c.in_err-choose_next.ensures.remembers kept)
+
+pub returns-in_err-choose_next-clause-counts : goal.returns-in_err-choose_next-clause-counts
+returns-in_err-choose_next-clause-counts g c = λ plain h. absurd (c.in_err-choose_next.ensures.granted plain)
+
+pub returns-in_err-choose_next-clause-err : goal.returns-in_err-choose_next-clause-err
+returns-in_err-choose_next-clause-err g c = on-err c.from_residual-in_err-choose_next.result (c.choose_next.new.place ≡ c.args.place.now) c.in_err-choose_next.ensures.err
+
 pub returns-in_err-truth-clause-counts : goal.returns-in_err-truth-clause-counts
 returns-in_err-truth-clause-counts g c = λ plain h.
     let l = g.J.Judge.conjuncts c.args.judge.now in
@@ -136,21 +180,22 @@ returns-then-depth-ranges-clause-goes g c =
     let given = setting-of g.met.V.Ord.total (g.met.J.Judge.one_truth c.args.judge.now) (g.met.J.Judge.kept c.args.judge.now) c.requires.sound in
     let st = c.requires.stands in
     let at : IsAt ranges p = st.at in
-    let now : Place = record p { found = with_item p.found p.depth c.in_ok-truth.truth } in
+    let marked = c.choose_next.ensures.place in
+    let marks = c.choose_next.new.place.marks in
+    let now : Place = record p { marks = marks; found = with_item p.found p.depth c.in_ok-truth.truth } in
     let now-at : IsAt ranges now = record {
       all_places = at.all_places;
       all_found = length-set p.found.items p.depth c.in_ok-truth.truth ∙ at.all_found;
       shallow = at.shallow;
       within = at.within;
+      all_stamps = ap length marked.stamps ∙ at.all_stamps;
+      all_marks = marked.all ∙ at.all_marks;
     } in
     let choices = c.args.choices.now in
     let choice = c.choose_next.new.choice in
-    let places = c.deref-then-depth-ranges in
-    let long : length (take p.depth places.result.now) ≡ p.depth = ap (λ is. length (take p.depth is)) places.ensures.value ∙ length-bound ranges p at in
-    let chosen = subst (λ n. IsChoice l trees ranges (path ranges p) (get_or ranges n []) choice) long
-    (subst (λ is. IsChoice l trees ranges (picked ranges (take p.depth is)) (get_or ranges (length (take p.depth places.result.now)) []) choice) places.ensures.value
-    c.in_ok-choose_next.ensures.choice) in
-    let h = descends given now c.descend.new.place choices choice now-at st.all_choices st.chosen chosen c.if-not-place.false c.if-depth-ranges.true c.descend.ensures.lands in
+    let chosen = c.in_ok-choose_next.ensures.choice in
+    let lands = landed-marked ranges choices choice p c.choose_next.new.place c.descend.new.place c.in_ok-truth.truth marked.is c.descend.ensures.lands in
+    let h = descends given now c.descend.new.place choices choice now-at st.all_choices st.chosen chosen c.if-not-place.false c.if-depth-ranges.true lands in
     record { same = h.same; smaller = h.smaller }
 
 pub returns-then-depth-ranges-clause-stands : goal.returns-then-depth-ranges-clause-stands
@@ -167,21 +212,23 @@ returns-then-depth-ranges-clause-stands g c =
     subst (λ is. Finds g.V.Ord.cmp l trees (length ranges) after (picked ranges (take p.depth is)) truth) c.deref.ensures.value c.in_ok-truth.ensures.finds in
     let st = c.requires.stands in
     let at : IsAt ranges p = st.at in
-    let now : Place = record p { found = with_item p.found p.depth c.in_ok-truth.truth } in
+    let marked = c.choose_next.ensures.place in
+    let marks = c.choose_next.new.place.marks in
+    let now : Place = record p { marks = marks; found = with_item p.found p.depth c.in_ok-truth.truth } in
     let now-at : IsAt ranges now = record {
       all_places = at.all_places;
       all_found = length-set p.found.items p.depth c.in_ok-truth.truth ∙ at.all_found;
       shallow = at.shallow;
       within = at.within;
+      all_stamps = ap length marked.stamps ∙ at.all_stamps;
+      all_marks = marked.all ∙ at.all_marks;
     } in
     let choices = c.args.choices.now in
     let choice = c.choose_next.new.choice in
-    let places = c.deref-then-depth-ranges in
-    let long : length (take p.depth places.result.now) ≡ p.depth = ap (λ is. length (take p.depth is)) places.ensures.value ∙ length-bound ranges p at in
-    let chosen = subst (λ n. IsChoice l trees ranges (path ranges p) (get_or ranges n []) choice) long
-    (subst (λ is. IsChoice l trees ranges (picked ranges (take p.depth is)) (get_or ranges (length (take p.depth places.result.now)) []) choice) places.ensures.value
-    c.in_ok-choose_next.ensures.choice) in
-    let remembers = subst (λ is. Remembers l uses ranges (take p.depth is) c.choose_next.new.memo) places.ensures.value c.in_ok-choose_next.ensures.remembers in
+    let chosen = c.in_ok-choose_next.ensures.choice in
+    let lands = landed-marked ranges choices choice p c.choose_next.new.place c.descend.new.place c.in_ok-truth.truth marked.is c.descend.ensures.lands in
+    let remembers = c.in_ok-choose_next.ensures.remembers in
+    let forgets = subst (λ (q : Place). Forgets (q.depth + 1) c.choose_next.new.memo c.descend.new.memo) marked.is c.descend.ensures.forgets in
     let found-here : IsFound l trees (path ranges p) p.depth truth = record {
       so = subst (λ n. IsSoFar l trees (path ranges p) (NeedsWithin l trees n) truth) (length-path ranges p at)
           (finds-reached given (path ranges p) truth c.in_default.not-False finds).1;
@@ -196,8 +243,9 @@ returns-then-depth-ranges-clause-stands g c =
       | inr ne ↦
           subst (IsFound l trees (picked ranges (take j p.places.items)) j) (sym (get_or-set_other p.found.items p.depth j truth True ne)) (st.found j (omega (arith, low, ne)))
     ] in
-    descends-stand given now c.descend.new.place choices choice now-at st.all_choices st.chosen chosen c.if-not-place.false c.if-depth-ranges.true c.descend.ensures.lands
-    uses c.choose_next.new.memo c.descend.new.memo remembers c.descend.ensures.forgets found
+    let kept = kept-chosen l trees ranges p.marks marks (bound p) choices p.depth choice (omega (arith, st.all_choices, c.if-depth-ranges.true)) marked.stamps marked.others st.kept c.choose_next.ensures.kept in
+    descends-stand given now c.descend.new.place choices choice now-at st.all_choices st.chosen chosen c.if-not-place.false c.if-depth-ranges.true lands
+    uses c.choose_next.new.memo c.descend.new.memo remembers kept forgets found
 
 pub returns-then-depth-ranges-clause-counts : goal.returns-then-depth-ranges-clause-counts
 returns-then-depth-ranges-clause-counts g c = λ plain h.
@@ -214,26 +262,27 @@ returns-then-depth-ranges-clause-counts g c = λ plain h.
     let below = found-other basis (path ranges p) c.in_ok-truth.truth c.test.new.memo.tests c.in_default.not-False found in
     let st = c.requires.stands in
     let at : IsAt ranges p = st.at in
-    let now : Place = record p { found = with_item p.found p.depth c.in_ok-truth.truth } in
+    let marked = c.choose_next.ensures.place in
+    let marks = c.choose_next.new.place.marks in
+    let now : Place = record p { marks = marks; found = with_item p.found p.depth c.in_ok-truth.truth } in
     let now-at : IsAt ranges now = record {
       all_places = at.all_places;
       all_found = length-set p.found.items p.depth c.in_ok-truth.truth ∙ at.all_found;
       shallow = at.shallow;
       within = at.within;
+      all_stamps = ap length marked.stamps ∙ at.all_stamps;
+      all_marks = marked.all ∙ at.all_marks;
     } in
     let choices = c.args.choices.now in
     let choice = c.choose_next.new.choice in
-    let places = c.deref-then-depth-ranges in
-    let long : length (take p.depth places.result.now) ≡ p.depth = ap (λ is. length (take p.depth is)) places.ensures.value ∙ length-bound ranges p at in
-    let chosen = subst (λ n. IsChoice l trees ranges (path ranges p) (get_or ranges n []) choice) long
-    (subst (λ is. IsChoice l trees ranges (picked ranges (take p.depth is)) (get_or ranges (length (take p.depth places.result.now)) []) choice) places.ensures.value
-    c.in_ok-choose_next.ensures.choice) in
+    let chosen = c.in_ok-choose_next.ensures.choice in
+    let lands = landed-marked ranges choices choice p c.choose_next.new.place c.descend.new.place c.in_ok-truth.truth marked.is c.descend.ensures.lands in
     let tests = c.descend.new.memo.tests in
-    let none = c.in_ok-choose_next.ensures.all plain in
+    let none = c.in_ok-choose_next.ensures.all plain (was-none choices p.depth c.index-choices-depth.result (omega (arith, st.all_choices, c.if-depth-ranges.true)) (h.whole p.depth)) in
     let there = subst (Counts g.V.Ord.cmp l ranges after (path ranges p) below_it) (sym (c.descend.ensures.forgets.tests ∙ c.in_ok-choose_next.ensures.same)) below in
     let old : IsCounted g.V.Ord.cmp l ranges after now c.args.memo.now.tests choices = record { counts = h.counts; whole = h.whole } in
     counted-descends basis now c.descend.new.place now-at c.requires.sound.ascending choices c.args.memo.now.tests tests old c.if-depth-ranges.true st.all_choices choice none there
-    c.descend.ensures.lands
+    lands
 
 pub returns-in-True-clause-goes : goal.returns-in-True-clause-goes
 returns-in-True-clause-goes g c =

@@ -1,4 +1,4 @@
-use Rattle.zf_plan.proofs.Prelude.{◌≡◌, arith, length, subst, sym, option_copied, trees_of, IsPlan}
+use Rattle.zf_plan.proofs.Prelude.{◌≡◌, arith, length, refl, subst, sym, option_copied, trees_of, IsPlan}
 use Rattle.zf_plan.specs.Trees.{IsFlat}
 use Rattle.zf_plan.proofs.Groves.{flat-leaves}
 use Rattle.zf_plan.proofs.Stepping.{ahead-begins}
@@ -16,7 +16,7 @@ over-requires-clause-sound g c =
       named = c.requires.named;
       due = c.requires.due;
       leaves = flat-leaves (g.J.Judge.conjuncts c.args.judge).number (trees_of c.in_ok-forest.forest) (subst (λ n. IsFlat n (trees_of c.in_ok-forest.forest)) c.count.ensures c.in_ok-forest.ensures);
-      plan = subst (λ k. IsPlan (g.J.Judge.conjuncts c.args.judge) (trees_of c.in_ok-forest.forest) k c.in_ok-plan.plan) n c.in_ok-plan.ensures.plan;
+      plan = subst (λ k. IsPlan (g.J.Judge.conjuncts c.args.judge) (g.J.Judge.is_used c.args.judge) (trees_of c.in_ok-forest.forest) k c.in_ok-plan.plan) n c.in_ok-plan.ensures.plan;
     }
 
 pub over-requires-clause-plain : goal.over-requires-clause-plain
@@ -29,4 +29,4 @@ returns-clause-problem g c =
 
 pub returns-clause-events : goal.returns-clause-events
 returns-clause-events g c =
-    ahead-begins g.V.Ord.cmp (g.J.Judge.conjuncts c.args.judge) c.args.ranges.items (option_copied c.args.after) c.in_ok-search.search.stage.ahead c.in_ok-search.ensures.events
+    ahead-begins g.V.Ord.cmp (g.J.Judge.conjuncts c.args.judge) c.args.ranges.items (option_copied c.args.after) c.in_ok-search.search.stage.ahead (c.in_ok-search.ensures.begun refl)

@@ -1,6 +1,7 @@
-use Rattle.zf_plan.proofs.Prelude.{◌∙◌, ◌≡◌, ap, arith, length, refl, rules, subst, true, false≢true, picked-nil, trees_of, Place}
+use Rattle.zf_plan.proofs.Prelude.{[], false, List, IsRowOf, option_copied, picked, planted, ◌∙◌, ◌≡◌, ap, arith, length, refl, rules, subst, false≢true, picked-nil, trees_of, Place}
+use Rattle.zf_plan.specs.Marks.{AreNew}
 use Rattle.zf_plan.specs.Memories.{IsNew}
-use Rattle.zf_plan.proofs.Stepping.{stands-first}
+use Rattle.zf_plan.proofs.Stepping.{ahead-first, stands-first}
 use Rattle.zf_plan.proofs.Counting.{basis-of, counted-first}
 use Rattle.zf_plan.proofs.search.Search.over.Goals as goal
 
@@ -9,19 +10,27 @@ invariant_of-result g c =
     let l = g.J.Judge.conjuncts c.args.judge in
     let uses = g.J.Judge.is_used c.args.judge in
     let ranges = c.args.ranges.items in
-    let p : Place = record { places = c.in_ok-places.places; found = c.in_ok-found.found; depth = 0; fresh = true } in
+    let p : Place = record { places = c.in_ok-places.places; found = c.in_ok-found.found; marks = c.in_ok-marks.marks; depth = 0; fresh = c.may_begin.result } in
     let memo = c.in_ok-memo.memo in
     let choices = c.in_ok-choices.choices.items in
     let places : length c.in_ok-places.places.items ≡ length ranges = search rules in
     let found : length c.in_ok-found.found.items ≡ length ranges = search rules in
     let new : IsNew l uses ranges memo = subst (λ rs. IsNew l uses rs memo) c.deref.ensures.value c.in_ok-memo.ensures in
+    let marks : AreNew (length ranges) c.in_ok-marks.marks = subst (λ n. AreNew n c.in_ok-marks.marks) (omega (arith, c.len-4.ensures, c.args.ranges.ok.0)) c.in_ok-marks.ensures in
     record {
       sound = c.requires.sound;
-      stands = stands-first l uses (trees_of c.args.forest) ranges p memo choices refl places found new (c.in_ok-choices.ensures ∙ (omega (arith, c.len-2.ensures, c.args.ranges.ok.0)));
+      stands = stands-first l uses (trees_of c.args.forest) ranges p memo choices refl places found marks new (c.in_ok-choices.ensures.all ∙ (omega (arith, c.len-2.ensures, c.args.ranges.ok.0)));
       whole = λ e. absurd (false≢true e);
       plain = c.requires.plain;
-      counts = λ _. counted-first (basis-of g.met.V.Ord.total (g.met.J.Judge.one_truth c.args.judge) (g.met.J.Judge.kept c.args.judge) c.requires.sound) p memo.tests choices refl refl new.tests;
+      counts = λ plain. counted-first (basis-of g.met.V.Ord.total (g.met.J.Judge.one_truth c.args.judge) (g.met.J.Judge.kept c.args.judge) c.requires.sound) p memo.tests choices refl (c.may_begin.ensures.plain plain) new.tests c.in_ok-choices.ensures.none;
     }
 
 pub returns-clause-events : goal.returns-clause-events
-returns-clause-events g c = ap (λ r. record { path = r; here = true }) (picked-nil c.args.ranges.items)
+returns-clause-events g c =
+    let ranges = c.args.ranges.items in
+    ahead-first g.V.Ord.cmp (planted (g.J.Judge.conjuncts c.args.judge) (trees_of c.args.forest)) ranges (option_copied c.args.after) (picked ranges []) c.may_begin.result (picked-nil ranges)
+    (subst (λ rs. c.may_begin.result ≡ false → (row : List g.row.V.Denot) → IsRowOf rs row → ⊥) c.deref-2.ensures.value c.may_begin.ensures.none)
+
+pub returns-clause-begun : goal.returns-clause-begun
+returns-clause-begun g c = λ plain.
+    ap (λ r. record { path = r; here = c.may_begin.result }) (picked-nil c.args.ranges.items) ∙ ap (λ b. record { path = []; here = b }) (c.may_begin.ensures.plain plain)

@@ -1,7 +1,8 @@
 use Rattle.zf_plan.proofs.Prelude.{◌<◌, ◌∙◌, ◌≡◌, [], arith, get_or, length, subst, sym, None, Err, Ok, OnErr, Result, get_or_default, trees_of, AreBelow}
 use Rattle.std.specs.Result.{OnOk}
+use Rattle.zf_plan.specs.Choosing.{AreLasts}
 use Rattle.zf_plan.specs.Counts.{IsPlain}
-use Rattle.zf_plan.proofs.steps.choose_next.Goals as goal
+use Rattle.zf_plan.proofs.steps.choose_at.Goals as goal
 
 on-ok : {T E : Type 0} (r : Result T E) (P Q : Type 0) → (P → Q) → OnOk r P → OnOk r Q
 on-ok (Ok x) P Q f h = f h
@@ -19,6 +20,21 @@ choose-requires-clause-conjuncts g c =
     let inside : k < length lists = omega (arith, narrowing.all, c.requires.deeper) in
     let list : get_or lists k [] ≡ c.deref.result.now = get_or_default lists k [] c.index-narrowing.result.now inside ∙ sym c.index-narrowing.ensures ∙ sym c.narrowing.view_is ∙ sym c.deref.ensures.value in
     subst (AreBelow (length (trees_of c.args.forest.now))) list (narrowing.each k inside)
+
+pub choose-requires-clause-lasts : goal.choose-requires-clause-lasts
+choose-requires-clause-lasts g c =
+    let narrowing = c.args.plan.now.narrowing.items in
+    let lists = c.args.plan.now.lasts.items in
+    let k = length c.args.places.now in
+    let lasts = c.requires.plan.lasts in
+    let all = c.requires.plan.narrowing in
+    let inside : k < length lists = omega (arith, lasts.all, c.requires.deeper) in
+    let there : k < length narrowing = omega (arith, all.all, c.requires.deeper) in
+    let conjuncts : get_or narrowing k [] ≡ c.deref.result.now = get_or_default narrowing k [] c.index-narrowing.result.now there ∙ sym c.index-narrowing.ensures ∙ sym c.narrowing.view_is ∙ sym c.deref.ensures.value in
+    let list : get_or lists k [] ≡ c.deref-2.result.now = get_or_default lists k [] c.index-lasts.result.now inside ∙ sym c.index-lasts.ensures ∙ sym c.lasts.view_is ∙ sym c.deref-2.ensures.value in
+    let uses = g.J.Judge.is_used c.args.judge.now in
+    subst (λ cs. AreLasts uses (trees_of c.args.forest.now) k cs c.deref-2.result.now) conjuncts
+    (subst (AreLasts uses (trees_of c.args.forest.now) k (get_or narrowing k [])) list (lasts.each k inside))
 
 pub returns-clause-all : goal.returns-clause-all
 returns-clause-all g c =

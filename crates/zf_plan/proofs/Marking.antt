@@ -1,0 +1,196 @@
+-- What was chosen stays a choice where the values of which it was made stay.
+use Rattle.zf_plan.proofs.Prelude.{◌++◌, ◌+◌, ◌<◌, ◌∙◌, ◌∷◌, ◌≡◌, ◌≤◌, ◌⊎◌, [], ap, arith, Bool, eqb, false, get_or, inl, inr, length, List, None, Option, refl, set, Some, subst, suc, sym, take, true, zero, ℕ, cases_eq, cases_lt, false≢true, get_or-set_other, get_or-set_same, get_or-take, ◌≢◌, slice_get, IsRowOf-length, length-picked, picked-cons, AreDueWithin, AreWithin, AreWithin-tail, bound, both, Conjuncts, either, False, HasLeavesWithin, IsAt, IsChoice, IsRowOf, IsTreeTruth, Lands, LandsNext, leaf, Narrows, negated, opposite, picked, Place, Tree, tree_at, Truth}
+use Rattle.std.proofs.lemmas.Bool.{eqb-true}
+use Rattle.std.specs.Vec.{with_item}
+use Rattle.zf_walk.proofs.Picks.{slice_get-picked}
+use Rattle.zf_walk.specs.ConjunctLaws.{FollowUsed}
+use Rattle.zf_walk.specs.Tests.{cut}
+use Rattle.zf_plan.specs.Choosing.{StaysChoice, UsesFirst}
+use Rattle.zf_plan.specs.Marks.{AreNew, is_still, mark_at}
+use Rattle.zf_plan.specs.Places.{AreKept, IsKept}
+use Rattle.zf_plan.specs.declared.marks.Mark.{Mark}
+use Rattle.zf_plan.specs.declared.marks.Marks.{Marks}
+use Rattle.zf_plan.proofs.Moving.{length-bound}
+use Rattle.zf_plan.proofs.TreeTruths.{both-kept, either-kept}
+
+-- ---- rows that agree
+
+get-left : {V : Type 0} (xs ys : List V) (i : ℕ) → i < length xs → slice_get (xs ++ ys) i ≡ slice_get xs i
+get-left [] ys i h = absurd (omega arith)
+get-left (x ∷ xs) ys zero h = refl
+get-left (x ∷ xs) ys (suc i) h = get-left xs ys i (omega arith)
+
+get-right : {V : Type 0} (xs zs ys : List V) (i : ℕ) → length xs ≡ length zs → length xs ≤ i → slice_get (xs ++ ys) i ≡ slice_get (zs ++ ys) i
+get-right [] [] ys i e h = refl
+get-right [] (z ∷ zs) ys i e h = absurd (omega arith)
+get-right (x ∷ xs) [] ys i e h = absurd (omega arith)
+get-right (x ∷ xs) (z ∷ zs) ys zero e h = absurd (omega arith)
+get-right (x ∷ xs) (z ∷ zs) ys (suc i) e h = get-right xs zs ys i (omega arith) (omega arith)
+
+-- a row of the ranges is one with other first values too
+row-front : {V : Type 0} (ranges : List (List V)) (places others : List ℕ) → AreWithin ranges places → AreWithin ranges others → length others ≡ length places → (tail : List V)
+    → IsRowOf ranges (picked ranges others ++ tail) → IsRowOf ranges (picked ranges places ++ tail)
+row-front [] [] [] w v e tail m = m
+row-front [] (i ∷ places) others w v e tail m = absurd (let h = w.few in omega arith)
+row-front [] [] (j ∷ others) w v e tail m = absurd (omega arith)
+row-front (r ∷ ranges) [] [] w v e tail m = m
+row-front (r ∷ ranges) [] (j ∷ others) w v e tail m = absurd (omega arith)
+row-front (r ∷ ranges) (i ∷ places) [] w v e tail m = absurd (omega arith)
+row-front (r ∷ ranges) (i ∷ places) (j ∷ others) w v e tail m =
+    let a = picked-cons r ranges i places w in
+    let n = a.1 in
+    let b = picked-cons r ranges j others v in
+    let rest = subst (λ row. IsRowOf (r ∷ ranges) (row ++ tail)) b.2 m in
+    subst (λ row. IsRowOf (r ∷ ranges) (row ++ tail)) (sym a.2)
+    ((i, n.within, n.is), row-front ranges places others (AreWithin-tail r ranges i places w) (AreWithin-tail r ranges j others v) (omega arith) tail rest.1)
+
+module _ {V : Type 0} (ranges : List (List V)) (places others : List ℕ) (w : AreWithin ranges places) (v : AreWithin ranges others) (long : length others ≡ length places)
+    (n : ℕ) (first : take n others ≡ take n places) where
+  first-same : (i : ℕ) → i < n → get_or places i 0 ≡ get_or others i 0
+  first-same i low = sym (get_or-take n places i 0 low) ∙ ap (λ is. get_or is i 0) (sym first) ∙ get_or-take n others i 0 low
+
+  same-get : (more : List V) (i : ℕ) → (length places ≤ i) ⊎ (i < n) → slice_get (picked ranges places ++ more) i ≡ slice_get (picked ranges others ++ more) i
+  same-get more i h = elim (cases_lt i (length places)) [
+    | inr far ↦ get-right (picked ranges places) (picked ranges others) more i
+        (length-picked ranges places w ∙ sym long ∙ sym (length-picked ranges others v)) (omega (arith, far, length-picked ranges places w))
+    | inl near ↦ elim h [
+      | inl far ↦ absurd (omega arith)
+      | inr low ↦ get-left (picked ranges places) more i (omega (arith, near, length-picked ranges places w))
+          ∙ slice_get-picked ranges places i w near ∙ ap (slice_get (get_or ranges i [])) (first-same i low)
+          ∙ sym (slice_get-picked ranges others i v (omega arith)) ∙ sym (get-left (picked ranges others) more i (omega (arith, near, long, length-picked ranges others v)))
+    ]
+  ]
+
+-- ---- trees follow what their leaves use
+
+module _ {V : Type 0} (l : Conjuncts V) (uses : ℕ → ℕ → Bool) (follow : FollowUsed l uses) (n k : ℕ) (row other : List V)
+    (same : (i : ℕ) → (k ≤ i) ⊎ (i < n) → slice_get row i ≡ slice_get other i) (due : AreDueWithin l (length row)) (long : length other ≡ length row) where
+  tree-follows : (tree : Tree) → HasLeavesWithin l.number tree → UsesFirst uses n k tree → (t : Truth) → IsTreeTruth l tree row t → IsTreeTruth l tree other t
+  tree-follows (leaf c) m u t h = follow c row other t m (due c m) (omega (arith, due c m, long))
+      (λ i is. elim (cases_lt i n) [
+        | inl low ↦ same i (inr low)
+        | inr high ↦ elim (cases_lt i k) [ inl between ↦ absurd (false≢true (sym (u i high between) ∙ is)) | inr far ↦ same i (inl far) ]
+      ]) h
+  tree-follows (negated a) m u t h = tree-follows a m u (opposite t) h
+  tree-follows (both a b) m u t h = both-kept (IsTreeTruth l a row) (IsTreeTruth l a other) (IsTreeTruth l b row) (IsTreeTruth l b other)
+      (tree-follows a m.0 u.0) (tree-follows b m.1 u.1) t h
+  tree-follows (either a b) m u t h = either-kept (IsTreeTruth l a row) (IsTreeTruth l a other) (IsTreeTruth l b row) (IsTreeTruth l b other)
+      (tree-follows a m.0 u.0) (tree-follows b m.1 u.1) t h
+
+-- more first components
+pub uses-more : (uses : ℕ → ℕ → Bool) (n m k : ℕ) → n ≤ m → (tree : Tree) → UsesFirst uses n k tree → UsesFirst uses m k tree
+uses-more uses n m k h (leaf c) u = λ i low high. u i (omega arith) high
+uses-more uses n m k h (negated a) u = uses-more uses n m k h a u
+uses-more uses n m k h (both a b) u = (uses-more uses n m k h a u.0, uses-more uses n m k h b u.1)
+uses-more uses n m k h (either a b) u = (uses-more uses n m k h a u.0, uses-more uses n m k h b u.1)
+
+-- ---- choices
+
+module _ {V : Type 0} (l : Conjuncts V) (trees : List Tree) (ranges : List (List V)) (k n : ℕ) (places : List ℕ) where
+  -- all values
+  pub stays-all : StaysChoice l trees ranges k n places None
+  stays-all others w e first i v more at out is = absurd (out tt)
+
+  -- what a conjunct leaves that uses these first values alone
+  pub stays-narrowed : (uses : ℕ → ℕ → Bool) → FollowUsed l uses → AreDueWithin l (length ranges) → AreWithin ranges places → length places ≡ k → (j : ℕ) → j < length trees → HasLeavesWithin l.number (tree_at trees j)
+      → UsesFirst uses n k (tree_at trees j) → (left : List ℕ) → Narrows l (tree_at trees j) ranges (picked ranges places) (get_or ranges k []) left → StaysChoice l trees ranges k n places (Some left)
+  stays-narrowed uses follow due w long j near leaves u left h others v e first i x more at out is =
+      let m = row-front ranges places others w v (e ∙ sym long) (x ∷ more) is in
+      let a : length (picked ranges places ++ x ∷ more) ≡ length ranges = length-row (picked ranges places ++ x ∷ more) m in
+      let b : length (picked ranges others ++ x ∷ more) ≡ length ranges = length-row (picked ranges others ++ x ∷ more) is in (
+        j,
+        near,
+        tree-follows l uses follow n k (picked ranges places ++ x ∷ more) (picked ranges others ++ x ∷ more)
+            (λ c h. same-get ranges places others w v (e ∙ sym long) n first (x ∷ more) c (subst (λ d. (d ≤ c) ⊎ (c < n)) (sym long) h))
+            (λ c m. omega (arith, due c m, a)) (b ∙ sym a) (tree_at trees j) leaves u False (h i x more at out m),
+      ) where
+        length-row : (row : List V) → IsRowOf ranges row → length row ≡ length ranges
+        length-row row m = IsRowOf-length ranges row m
+
+-- ---- marks
+
+module _ {V : Type 0} (l : Conjuncts V) (trees : List Tree) (ranges : List (List V)) where
+  -- a choice that is still one
+  pub still-choice : (stamps places : List ℕ) (k : ℕ) (choice : Option (List ℕ)) (mark : Mark) → IsKept l trees ranges stamps places k choice mark → is_still stamps mark ≡ true → AreWithin ranges places → length places ≡ k
+      → IsChoice l trees ranges (picked ranges places) (get_or ranges k []) choice
+  still-choice stamps places k choice mark h is w long = h.still is (let f = h.few in omega arith) places w long refl
+
+  -- another one, where that is not
+  pub not-kept : (stamps places : List ℕ) (k : ℕ) (choice other : Option (List ℕ)) (mark : Mark) → IsKept l trees ranges stamps places k choice mark → is_still stamps mark ≡ false → IsKept l trees ranges stamps places k other mark
+  not-kept stamps places k choice other mark h no' = record {
+    few = h.few;
+    past = h.past;
+    small = h.small;
+    still = λ is. absurd (false≢true (sym no' ∙ is));
+  }
+
+  -- a move that leaves the first k values
+  module _ (k : ℕ) (p q : Place) (deep : k ≤ p.depth) (at : IsAt ranges p) (bt : IsAt ranges q) (short : q.depth ≤ k + 1)
+      (fronts : (i : ℕ) → i ≤ k → take i (bound q) ≡ take i (bound p)) (d : ℕ) (choice : Option (List ℕ)) where
+    moved : (stamps new : List ℕ) (mark : Mark) → IsKept l trees ranges stamps (bound p) d choice mark
+        → (is_still new mark ≡ true → (mark.due ≤ q.depth → mark.due ≤ k) × (is_still stamps mark ≡ true)) → mark.stamp ≤ get_or new mark.due 0 → IsKept l trees ranges new (bound q) d choice mark
+    moved stamps new mark h before past = record {
+      few = h.few;
+      past = past;
+      small = h.small;
+      still = λ is within others w long first.
+          let b = before is in
+          let low : mark.due ≤ k = b.0 (omega (arith, within, length-bound ranges q bt)) in
+          h.still b.1 (omega (arith, low, deep, length-bound ranges p at)) others w long (first ∙ fronts mark.due low);
+    }
+
+    pub moved-on : (end i : ℕ) → Lands end k i p q → IsKept l trees ranges p.marks.stamps.items (bound p) d choice (mark_at p.marks d)
+        → IsKept l trees ranges q.marks.stamps.items (bound q) d choice (mark_at q.marks d)
+    moved-on end i (found, inl (low, ps, depth, fr, renews)) h =
+        let mark = mark_at p.marks d in
+        let stamps = p.marks.stamps.items in
+        let next = cut (get_or stamps (k + 1) 0 + 1) in
+        let there : k + 1 < length stamps = let a = at.all_stamps in let b = bt.shallow in omega arith in
+        let same : mark_at p.marks d ≡ mark_at q.marks d = ap (λ ms. get_or ms d (record { due = 0; stamp = 0 })) (sym renews.choices) in
+        let new : IsKept l trees ranges (set stamps (k + 1) next) (bound q) d choice mark = elim (cases_eq mark.due (k + 1)) [
+          | inl e ↦
+              let now : get_or (set stamps (k + 1) next) mark.due 0 ≡ next = ap (λ j. get_or (set stamps (k + 1) next) j 0) e ∙ get_or-set_same stamps (k + 1) next 0 there in
+              let less : mark.stamp < next = let a = h.past in let b = h.small in let c = ap (λ j. get_or stamps j 0) e in omega arith in
+              moved stamps (set stamps (k + 1) next) mark h
+              (λ is. absurd (let f = eqb-true mark.stamp (get_or (set stamps (k + 1) next) mark.due 0) is in omega arith)) (omega (arith, now, less))
+          | inr ne ↦
+              let now : get_or (set stamps (k + 1) next) mark.due 0 ≡ get_or stamps mark.due 0 = get_or-set_other stamps (k + 1) mark.due next 0 ne in
+              moved stamps (set stamps (k + 1) next) mark h
+              (λ is. ((λ within. omega arith), sym (ap (eqb mark.stamp) now) ∙ is)) (let a = h.past in omega (arith, now, a))
+        ] in
+        subst (λ m. IsKept l trees ranges q.marks.stamps.items (bound q) d choice m) same
+        (subst (λ ss. IsKept l trees ranges ss (bound q) d choice mark) (sym renews.stamps) new)
+    moved-on end i (found, inr (high, ps, depth, fr, marks)) h =
+        subst (λ (ms : Marks). IsKept l trees ranges ms.stamps.items (bound q) d choice (mark_at ms d)) (sym marks)
+        (moved p.marks.stamps.items p.marks.stamps.items (mark_at p.marks d) h (λ is. ((λ within. omega arith), is)) h.past)
+
+  -- at first nothing is kept
+  pub kept-first : (marks : Marks) (places : List ℕ) (choices : List (Option (List ℕ))) → AreNew (length ranges) marks → AreKept l trees ranges marks places choices
+  kept-first marks places choices new k near =
+      subst (IsKept l trees ranges marks.stamps.items places k (get_or choices k None)) (sym (new.none k)) (record {
+        few = omega arith;
+        past = omega arith;
+        small = omega arith;
+        still = λ is. absurd (let e = eqb-true 0 (get_or marks.stamps.items 0 0) is in let f = new.some 0 (omega arith) in omega arith);
+      })
+
+  -- a choice that is made anew
+  pub kept-chosen : (old new : Marks) (places : List ℕ) (choices : List (Option (List ℕ))) (k : ℕ) (choice : Option (List ℕ)) → k < length choices → new.stamps.items ≡ old.stamps.items
+      → ((d : ℕ) → d ≢ k → mark_at new d ≡ mark_at old d) → AreKept l trees ranges old places choices → IsKept l trees ranges new.stamps.items places k choice (mark_at new k)
+      → AreKept l trees ranges new places (set choices k choice)
+  kept-chosen old new places choices k choice inside stamps others kept here d near = elim (cases_eq d k) [
+    | inl e ↦
+        subst (λ i. IsKept l trees ranges new.stamps.items places i (get_or (set choices k choice) i None) (mark_at new i)) (sym e)
+        (subst (λ w. IsKept l trees ranges new.stamps.items places k w (mark_at new k)) (sym (get_or-set_same choices k choice None inside)) here)
+    | inr ne ↦
+        subst (λ ss. IsKept l trees ranges ss places d (get_or (set choices k choice) d None) (mark_at new d)) (sym stamps)
+        (subst (λ w. IsKept l trees ranges old.stamps.items places d w (mark_at new d)) (sym (get_or-set_other choices k d choice None ne))
+        (subst (IsKept l trees ranges old.stamps.items places d (get_or choices d None)) (sym (others d ne)) (kept d near)))
+  ]
+
+-- a landing from a place of which only a mark and what was found are others
+pub landed-marked : {V : Type 0} (ranges : List (List V)) (choices : List (Option (List ℕ))) (choice : Option (List ℕ)) (p now q : Place) (truth : Truth) → now ≡ record p { marks = now.marks }
+    → LandsNext (length (get_or ranges now.depth [])) (get_or (set choices p.depth choice) now.depth None) now.depth 0 (record now { found = with_item now.found p.depth truth }) q
+    → LandsNext (length (get_or ranges p.depth [])) (get_or (set choices p.depth choice) p.depth None) p.depth 0 (record p { marks = now.marks; found = with_item p.found p.depth truth }) q
+landed-marked ranges choices choice p now q truth is h =
+    subst (λ (w : Place). LandsNext (length (get_or ranges w.depth [])) (get_or (set choices p.depth choice) w.depth None) w.depth 0 (record w { found = with_item w.found p.depth truth }) q) is h

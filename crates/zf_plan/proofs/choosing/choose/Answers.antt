@@ -1,0 +1,20 @@
+use Rattle.zf_plan.proofs.Prelude.{[], ◌<◌, arith, get_or, IfSome, leaf, length, Narrows, picked, refl, subst, tree_at, trees_of}
+use Rattle.zf_plan.proofs.Marking.{stays-narrowed}
+use Rattle.zf_plan.proofs.choosing.choose.Goals as goal
+
+pub returns-in-Some-clause-choice : goal.returns-in-Some-clause-choice
+returns-in-Some-clause-choice g c =
+    let l = g.J.Judge.conjuncts c.args.judge.now in
+    let trees = trees_of c.args.forest.now in
+    let ranges = c.args.ranges.now in
+    let places = c.args.places.now in
+    let conjuncts = c.args.conjuncts.now in
+    let lasts = c.requires.lasts in
+    let i = c.in-Some.i in
+    let left = c.gather_first.new.gathered.items in
+    let within : i < length conjuncts = subst (λ found. IfSome found (λ j. j < length conjuncts)) c.in-Some.is c.in_ok-found.ensures.within in
+    let narrows : Narrows l (tree_at trees (get_or conjuncts i 0)) ranges (picked ranges places) (get_or ranges (length places) []) left =
+    subst (λ found. IfSome found (λ j. Narrows l (tree_at trees (get_or conjuncts j 0)) ranges (picked ranges places) (get_or ranges (length places) []) left)) c.in-Some.is c.in_ok-found.ensures.narrows in
+    let conjunct : get_or conjuncts i 0 < length trees = c.requires.conjuncts i within in
+    stays-narrowed l trees ranges (length places) (get_or c.args.lasts.now i 0) places (g.J.Judge.is_used c.args.judge.now) (g.met.J.Judge.follow_used c.args.judge.now) c.requires.due c.requires.within refl
+    (get_or conjuncts i 0) conjunct (c.requires.leaves (get_or conjuncts i 0) (leaf 0) conjunct) (lasts.each i (omega (arith, lasts.all, within))).1 left narrows
