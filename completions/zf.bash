@@ -71,20 +71,21 @@ _zf() {
         case $command in
             check) mapfile -t COMPREPLY < <(compgen -W '-t -d --details -h --help' -- "$current") ;;
             show) mapfile -t COMPREPLY < <(compgen -W '--after --with --limit --size --tests -d --details -h --help' -- "$current") ;;
+            why) mapfile -t COMPREPLY < <(compgen -W '--with --size -d --details -h --help' -- "$current") ;;
             '') mapfile -t COMPREPLY < <(compgen -W '-h --help -V --version' -- "$current") ;;
         esac
     elif [[ -z $command ]]; then
-        mapfile -t COMPREPLY < <(compgen -W 'check show help' -- "$current")
+        mapfile -t COMPREPLY < <(compgen -W 'check show why help' -- "$current")
     elif [[ $command == help && ${#places[@]} -eq 0 ]]; then
-        mapfile -t COMPREPLY < <(compgen -W 'check show' -- "$current")
-    elif [[ ($command == check || $command == show) && ${#places[@]} -eq 0 ]]; then
+        mapfile -t COMPREPLY < <(compgen -W 'check show why' -- "$current")
+    elif [[ $command =~ ^(check|show|why)$ && ${#places[@]} -eq 0 ]]; then
         compopt -o filenames
         mapfile -t COMPREPLY < <(compgen -d -- "$current"; compgen -f -X '!*.tex' -- "$current")
-    elif [[ $command == show && ${#places[@]} -eq 1 ]]; then
+    elif [[ $command =~ ^(show|why)$ && ${#places[@]} -eq 1 ]]; then
         while read -r word; do
             [[ $word != "$current"* ]] || COMPREPLY+=("$word")
         done < <(__zf_listed "$1" Schema "${places[0]}")
-    elif [[ $command == show && $current != *=* ]]; then
+    elif [[ $command =~ ^(show|why)$ && $current != *=* ]]; then
         compopt -o nospace
         while read -r word; do
             [[ $word != "$current"* || " ${places[*]} " == *" $word="* ]] || COMPREPLY+=("$word=")

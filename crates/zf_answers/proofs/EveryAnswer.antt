@@ -1,5 +1,5 @@
 -- Each request has an answer: it is refused at a stage, or what is asked for is searched.
-use Rattle.zf_answers.proofs.Prelude.{if◌then◌else◌, ◌++◌, ◌+◌, ◌∙◌, ◌∷◌, ◌≡◌, ◌⊎◌, [], ap, Bool, false, inl, inr, IsTrue, List, None, Option, refl, Some, subst, sym, true, ℕ, none-some, same_Some, AllByRecursion, Value, BoxTree, TextFault, ReadsSource, RefusesSource, abbreviation, Comp, constructor, Defined, Definition, free_type, given_set, Schema, schema, sets_of, Fault, first, finite_without_cause, causes, NotFinite, one_bounds, Environment, AreComplete, given_sets, spellings, Portion, portion, IsNoneOut, Job, Check, Show, HasLimit, IsBelow, binding_line, Status, BadRequest, BadSpec, PastBounds, some_search, some_tests_line, Answer, AreHeld, check_status, Checks, HasSchema, IsAsked, IsLimited, IsNamed, IsNamedRow, IsSearch, JobAnswer, Request, ShowAnswer, size_fault_lines, stated, wants_details, declared_out_line, no_schema_lines, not_a_binding_line, not_finite_lines, not_held_line, Cited, text_fault_lines, EveryRequestIsAnswered, EverySourceIsRead}
+use Rattle.zf_answers.proofs.Prelude.{if◌then◌else◌, ◌++◌, ◌+◌, ◌∙◌, ◌∷◌, ◌≡◌, ◌⊎◌, [], ap, Bool, false, inl, inr, IsTrue, List, None, Option, refl, Some, subst, sym, true, ℕ, none-some, same_Some, AllByRecursion, Value, BoxTree, TextFault, ReadsSource, RefusesSource, abbreviation, Comp, constructor, Defined, Definition, free_type, given_set, Schema, schema, sets_of, Fault, first, finite_without_cause, causes, NotFinite, one_bounds, Environment, AreComplete, given_sets, spellings, Portion, portion, IsNoneOut, Job, Check, Show, Why, HasLimit, IsBelow, binding_line, Status, BadRequest, BadSpec, PastBounds, some_search, some_tests_line, Answer, AreHeld, check_status, Checks, HasSchema, IsAsked, IsLimited, IsNamed, IsNamedRow, IsSearch, JobAnswer, Request, RefusesRequest, RequestAnswer, ShowsEvents, TellsWhy, size_fault_lines, stated, wants_details, declared_out_line, no_schema_lines, not_a_binding_line, not_finite_lines, not_held_line, Cited, text_fault_lines, EveryRequestIsAnswered, EverySourceIsRead}
 use Rattle.std.specs.Str.{bytes_eq}
 use Rattle.zf_schema.specs.Listing.{listing}
 use Rattle.zf_term.specs.FirstNamed.{first_named, later}
@@ -12,7 +12,9 @@ use Rattle.zf_found.proofs.Ranges.{first_out_or_none, some_ranges}
 use Rattle.zf_total.proofs.Environments.{some_environment}
 use Rattle.zf_total.proofs.StatedSizes.{complete_or_refused}
 use Rattle.zf_verdicts.proofs.Items.{text_has_verdict}
+use Rattle.zf_command.specs.Requests.{IsBare}
 use Rattle.zf_answers.proofs.FaultLines.{some_lines}
+use Rattle.zf_answers.proofs.Reasons.{some_told}
 
 -- ---- the name
 
@@ -54,70 +56,69 @@ none_beside : (g : List Defined) (cause : NotFinite) → IsReportedBeside g caus
 none_beside g (Unbounded l name) = tt
 none_beside g (Offends o) = refl
 
--- ---- answers of `show`, the last stage first
+-- ---- answers of a request, the last stage first
 
-abbrev IsShown : Request → (file source : List ℕ) → Type 0
-IsShown r file source = (text : List ℕ) × (status : Status) × ShowAnswer r file source text status
+-- there is something to tell of each search that is granted
+abbrev CanBeTold : (Tells : List Defined → Schema → Environment → Portion → List ℕ → Status → Type 0) → Request → (source : List ℕ) → Type 0
+CanBeTold Tells r source = (g : List Defined) (a : Schema) (e : Environment) (p : Portion) → IsSearch r source g a e p → (text : List ℕ) × (status : Status) × Tells g a e p text status
 
-module _ (r : Request) (file source : List ℕ) (limited : IsBelow r.limit 0) where
+module _ (Tells : List Defined → Schema → Environment → Portion → List ℕ → Status → Type 0) (r : Request) (file source : List ℕ) (can_be_told : CanBeTold Tells r source) where
+  abbrev IsAnswered : Type 0
+  IsAnswered = (text : List ℕ) × (status : Status) × RequestAnswer Tells r file source text status
+
   module _ (g : List Defined) where
     module _ (a : Schema) where
       module _ (e : Environment) (asked : IsAsked r source g a e) where
-        some_bindings : (p : Portion) → IsNamedRow e a.comps r.after p.after → AreHeld e a.comps r.held p.held → IsNoneOut e a.comps → IsShown r file source
-        some_bindings p named held none_out =
-            let finite = asked.finite in
-            let environment = asked.environment in
-            let bounded = subst (λ h. AllByRecursion (λ (c : Comp). IsTrue (one_bounds h (sets_of c.sets))) a.comps) (sym environment.0) finite.bounded in
-            let ranges = some_ranges e a.comps p.held bounded in
-            let s = some_search e a ranges.0 p r.limit (binding_line (spellings g) a.comps) ranges.1 limited in
-            let counted = some_tests_line e a ranges.0 p s.0 r.tests ranges.1 in
+        some_told_of : (p : Portion) → IsNamedRow e a.comps r.after p.after → AreHeld e a.comps r.held p.held → IsNoneOut e a.comps → IsAnswered
+        some_told_of p named held none_out =
             let search : IsSearch r source g a e p = record { asked = asked; named = named; held = held; none_out = none_out } in
-            (s.2 ++ counted.0, s.3, ShowAnswer.bindings g a e p s.0 s.1 s.2 counted.0 search s.4 s.5 counted.1 refl)
+            let told = can_be_told g a e p search in
+            (told.0, told.1, RequestAnswer.granted g a e p search told.2)
 
-        some_at_sets : (p : Portion) → IsNamedRow e a.comps r.after p.after → AreHeld e a.comps r.held p.held → IsShown r file source
+        some_at_sets : (p : Portion) → IsNamedRow e a.comps r.after p.after → AreHeld e a.comps r.held p.held → IsAnswered
         some_at_sets p named held = elim (first_out_or_none e a.comps) [
-          | inl out ↦ let here = out.1.here in (declared_out_line here.0.name, PastBounds, ShowAnswer.declared_out g a e p out.0 here.0 asked named held out.1 here.1 refl refl)
-          | inr none ↦ some_bindings p named held none
+          | inl out ↦ let here = out.1.here in (declared_out_line here.0.name, PastBounds, RequestAnswer.refused (RefusesRequest.declared_out g a e p out.0 here.0 asked named held out.1 here.1 refl refl))
+          | inr none ↦ some_told_of p named held none
         ]
 
-        some_at_values : (after : Option (List Value)) → IsNamedRow e a.comps r.after after → IsShown r file source
+        some_at_values : (after : Option (List Value)) → IsNamedRow e a.comps r.after after → IsAnswered
         some_at_values after named = elim (every_held_line_is_judged e a.comps r.held) [
           | inl held ↦ some_at_sets (portion after held.0) named held.1
-          | inr none ↦ (not_held_line 0, BadRequest, ShowAnswer.holds_nothing g a e after 0 asked named none refl refl)
+          | inr none ↦ (not_held_line 0, BadRequest, RequestAnswer.refused (RefusesRequest.holds_nothing g a e after 0 asked named none refl refl))
         ]
 
-        some_at_row : IsShown r file source
+        some_at_row : IsAnswered
         some_at_row = elim (every_line_is_judged e a.comps r.after) [
           | inl named ↦ some_at_values named.0 named.1
-          | inr none ↦ (not_a_binding_line 0, BadRequest, ShowAnswer.not_a_binding g a e 0 asked none refl refl)
+          | inr none ↦ (not_a_binding_line 0, BadRequest, RequestAnswer.refused (RefusesRequest.not_a_binding g a e 0 asked none refl refl))
         ]
 
-      some_at_finiteness : HasSchema source r.name g a → AreComplete (given_sets g) (stated g r) → IsShown r file source
+      some_at_finiteness : HasSchema source r.name g a → AreComplete (given_sets g) (stated g r) → IsAnswered
       some_at_finiteness has complete = by (causes g a) refl
         where
-          by : (them : List NotFinite) → causes g a ≡ them → IsShown r file source
+          by : (them : List NotFinite) → causes g a ≡ them → IsAnswered
           by [] none =
               let e = some_environment g (stated g r) complete in
               some_at_row e.0 (record { has_schema = has; complete = complete; environment = e.1; finite = (finite_without_cause g a).1 none })
-          by (cause ∷ them) some = (not_finite_lines r.details file g cause [], BadSpec, ShowAnswer.not_finite g a cause [] has complete (ap first some) (none_beside g cause) refl refl)
+          by (cause ∷ them) some = (not_finite_lines r.details file g cause [], BadSpec, RequestAnswer.refused (RefusesRequest.not_finite g a cause [] has complete (ap first some) (none_beside g cause) refl refl))
 
-      some_at_sizes : HasSchema source r.name g a → IsShown r file source
+      some_at_sizes : HasSchema source r.name g a → IsAnswered
       some_at_sizes has = elim (complete_or_refused (given_sets g) (stated g r)) [
         | inl complete ↦ some_at_finiteness has complete
-        | inr bad ↦ (size_fault_lines r.details g (stated g r) bad.0, BadRequest, ShowAnswer.bad_sizes g a bad.0 has bad.1 bad.2 refl refl)
+        | inr bad ↦ (size_fault_lines r.details g (stated g r) bad.0, BadRequest, RequestAnswer.refused (RefusesRequest.bad_sizes g a bad.0 has bad.1 bad.2 refl refl))
       ]
 
-    some_at_schema : Checks source g [] → IsShown r file source
+    some_at_schema : Checks source g [] → IsAnswered
     some_at_schema checks = elim (named_or_none g r.name) [
       | inl named ↦ some_at_sizes named.0 (record { checks = checks; named = named.1 })
-      | inr none ↦ (no_schema_lines r.details g r.name, BadRequest, ShowAnswer.no_schema g checks none refl refl)
+      | inr none ↦ (no_schema_lines r.details g r.name, BadRequest, RequestAnswer.refused (RefusesRequest.no_schema g checks none refl refl))
     ]
 
-  some_at_types : (g : List Defined) (faults : List Fault) → Checks source g faults → IsShown r file source
+  some_at_types : (g : List Defined) (faults : List Fault) → Checks source g faults → IsAnswered
   some_at_types g [] checks = some_at_schema g checks
   some_at_types g (fault ∷ faults) checks =
       let some = some_lines r.details file (fault ∷ faults) in
-      (some.0, BadSpec, ShowAnswer.ill_typed g (fault ∷ faults) checks (λ none. cc) some.1 refl)
+      (some.0, BadSpec, RequestAnswer.refused (RefusesRequest.ill_typed g (fault ∷ faults) checks (λ none. cc) some.1 refl))
 
 -- ---- answers of a job
 
@@ -125,12 +126,37 @@ limited_of : (limit : Option ℕ) → HasLimit limit → IsBelow limit 0
 limited_of None h = tt
 limited_of (Some limit) h = h
 
+-- components that are bounded among the globals are so in the environment
+bounded_in : (r : Request) (source : List ℕ) (g : List Defined) (a : Schema) (e : Environment) (p : Portion) → IsSearch r source g a e p
+    → AllByRecursion (λ (c : Comp). IsTrue (one_bounds e.globals (sets_of c.sets))) a.comps
+bounded_in r source g a e p search =
+    let asked = search.asked in
+    let finite = asked.finite in
+    let environment = asked.environment in
+    subst (λ h. AllByRecursion (λ (c : Comp). IsTrue (one_bounds h (sets_of c.sets))) a.comps) (sym environment.0) finite.bounded
+
+shown : (r : Request) (source : List ℕ) → HasLimit r.limit → CanBeTold (ShowsEvents r) r source
+shown r source limited g a e p search =
+    let ranges = some_ranges e a.comps p.held (bounded_in r source g a e p search) in
+    let s = some_search e a ranges.0 p r.limit (binding_line (spellings g) a.comps) ranges.1 (limited_of r.limit limited) in
+    let counted = some_tests_line e a ranges.0 p s.0 r.tests ranges.1 in
+    (s.2 ++ counted.0, s.3, record { last = s.0; events = s.1; lines = s.2; counted = counted.0; listed = s.4; ends = s.5; numbered = counted.1; whole = refl })
+
+-- no row is named
+first_row : (e : Environment) (comps : List Comp) (text : Option (List ℕ)) (after : Option (List Value)) → text ≡ None → IsNamedRow e comps text after → after ≡ None
+first_row e comps text after none named = subst (λ t. IsNamedRow e comps t after) none named
+
+explained : (r : Request) (file source : List ℕ) → IsBare r → CanBeTold (TellsWhy file source) r source
+explained r file source plain g a e p search =
+    some_told file source g a e p (first_row e a.comps r.after p.after plain.0 search.named) (bounded_in r source g a e p search)
+
 some_of_job : (job : Job) (file source : List ℕ) → IsLimited job → (g : List Defined) (faults : List Fault) → Checks source g faults
     → (text : List ℕ) × (status : Status) × JobAnswer job file source text status
 some_of_job (Check types details) file source limited g faults checks =
     let some = some_lines details file faults in
     (some.0 ++ (if types then listing g else []), check_status faults, (g, faults, checks, (some.0, some.1, refl), refl))
-some_of_job (Show r) file source limited g faults checks = some_at_types r file source (limited_of r.limit limited) g faults checks
+some_of_job (Show r) file source limited g faults checks = some_at_types (ShowsEvents r) r file source (shown r source limited) g faults checks
+some_of_job (Why r) file source plain g faults checks = some_at_types (TellsWhy file source) r file source (explained r file source plain) g faults checks
 
 pub every_request_is_answered : EverySourceIsRead → EveryRequestIsAnswered
 every_request_is_answered every_source job file source limited = by (every_source source)

@@ -19,3 +19,6 @@ pub mod EarlyStops
 pub mod Joined
 pub mod RunsFollow
 pub mod NamedLines
+mod OneCause
+mod SomeCause
+mod Reasons

@@ -1,11 +1,12 @@
 -- Two answers of one job on one source have one status, and one text but for what is left open.
-use Rattle.zf_answers.proofs.Prelude.{if◌then◌else◌, ◌++◌, ◌∙◌, ◌∷◌, ◌≡◌, [], ap, Bool, inl, inr, List, None, Option, Some, subst, sym, ℕ, same_Some, slice_get, Value, Comp, Defined, Schema, Fault, Environment, IsEnvironment, AreComplete, given_sets, Portion, portion, Job, Check, Show, Status, Answer, AreHeld, check_status, CheckAnswer, Checks, HoldsNoValues, IsNamed, IsNamedRow, JobAnswer, NamesNoRow, Request, size_fault_lines, stated, UnreadAnswer, wants_details, declared_out_line, not_finite_lines, AreAlike, AreOfSame, OneStatus, OneText, AreLines}
+use Rattle.zf_answers.proofs.Prelude.{if◌then◌else◌, ◌++◌, ◌∙◌, ◌∷◌, ◌≡◌, [], ap, Bool, inl, inr, List, None, Option, Some, subst, sym, ℕ, same_Some, slice_get, Value, Comp, Defined, Schema, Fault, Environment, IsEnvironment, AreComplete, given_sets, Portion, portion, Job, Check, Show, Why, Status, Answer, AreHeld, check_status, CheckAnswer, Checks, HasSchema, HoldsNoValues, RefusesSource, RequestAnswer, ShowsEvents, TellsWhy, TextFault, IsNamed, IsNamedRow, JobAnswer, NamesNoRow, Request, size_fault_lines, stated, UnreadAnswer, wants_details, declared_out_line, not_finite_lines, AreAlike, AreOfSame, OneStatus, OneText, AreLines}
 use Rattle.std.proofs.lemmas.List.{append-nil}
 use Rattle.zf_schema.specs.Listing.{listing}
 use Rattle.zf_answers.proofs.OneSource.{none_and_some, one_checked, one_named, one_refused, some_and_none, unread}
 use Rattle.zf_answers.proofs.OneSearch.{clear_at, names_at, not_infinite, one_environment_at, one_first_out, one_held, one_named_row, one_shown}
 use Rattle.zf_answers.proofs.OneRefusal.{none_refused, one_refusal}
 use Rattle.zf_answers.proofs.Stages.{AtFiniteness, AtHeldValues, AtNamedRow, AtSchema, AtSearch, AtSizes, AtTypes, staged}
+use Rattle.zf_answers.proofs.Reasons.{AreOneReason, one_told}
 use Rattle.zf_answers.proofs.FaultLines.{lines_of_none}
 
 -- one status, and texts that are alike
@@ -24,38 +25,44 @@ no_held_values : (e : Environment) (comps : List Comp) (text : Option (List ℕ)
 no_held_values e comps None held none are = none
 no_held_values e comps (Some text) held none are = none held are
 
--- ---- answers of `show`, stage by stage
+-- ---- answers of a request, stage by stage
 
-module _ (r : Request) (file source one two : List ℕ) (s t : Status) where
+-- what is told of a search that is granted is one thing
+abbrev IsOneTold : (Tells : List Defined → Schema → Environment → Portion → List ℕ → Status → Type 0) → Request → (file source one two : List ℕ) → (s t : Status) → Type 0
+IsOneTold Tells r file source one two s t =
+    (g : List Defined) (a : Schema) (e : Environment) (p : Portion) → HasSchema source r.name g a → IsEnvironment g (stated g r) e → Tells g a e p one s → Tells g a e p two t
+    → IsOne r.details file source one two s t
+
+module _ (Tells : List Defined → Schema → Environment → Portion → List ℕ → Status → Type 0) (r : Request) (file source one two : List ℕ) (s t : Status) (one_told : IsOneTold Tells r file source one two s t) where
   module _ (g : List Defined) (checks : Checks source g []) where
     module _ (a : Schema) (named : IsNamed g r.name a) (complete : AreComplete (given_sets g) (stated g r)) where
       module _ (e : Environment) (is : IsEnvironment g (stated g r) e) where
-        one_at_search : (p : Portion) → AtSearch r file source one s g a e p → AtSearch r file source two t g a e p → IsOne r.details file source one two s t
+        one_at_search : (p : Portion) → AtSearch Tells r file source one s g a e p → AtSearch Tells r file source two t g a e p → IsOne r.details file source one two s t
         one_at_search p (inl x) (inl y) =
             let place = one_first_out e a.comps x.place y.place x.first_out y.first_out in
             let component = same_Some x.component y.component (sym x.there ∙ ap (slice_get a.comps) place ∙ y.there) in
             of_same r.details file source one two s t (x.past ∙ sym y.past) (x.told ∙ ap (λ (c : Comp). declared_out_line c.name) component ∙ sym y.told)
         one_at_search p (inl x) (inr y) = absurd (y.0 x.place x.first_out.here)
         one_at_search p (inr x) (inl y) = absurd (x.0 y.place y.first_out.here)
-        one_at_search p (inr x) (inr y) = let same = one_shown r g a e p one two s t x.1 y.1 in of_same r.details file source one two s t same.1 same.0
+        one_at_search p (inr x) (inr y) = one_told g a e p (record { checks = checks; named = named }) is x.1 y.1
 
-        one_at_values : (after : Option (List Value)) → AtHeldValues r file source one s g a e after → AtHeldValues r file source two t g a e after → IsOne r.details file source one two s t
+        one_at_values : (after : Option (List Value)) → AtHeldValues Tells r file source one s g a e after → AtHeldValues Tells r file source two t g a e after → IsOne r.details file source one two s t
         one_at_values after (inl x) (inl y) = (x.bad ∙ sym y.bad, AreAlike.no_values x.place y.place x.told y.told)
         one_at_values after (inl x) (inr y) = absurd (no_held_values e a.comps r.held y.0 x.none y.1)
         one_at_values after (inr x) (inl y) = absurd (no_held_values e a.comps r.held x.0 y.none x.1)
         one_at_values after (inr x) (inr y) =
             let held = one_held e a.comps r.held x.0 y.0 (clear_at source g [] (stated g r) e checks complete is) (names_at source g [] r.name a checks named) x.1 y.1 in
-            one_at_search (portion after y.0) (subst (λ values. AtSearch r file source one s g a e (portion after values)) held x.2) y.2
+            one_at_search (portion after y.0) (subst (λ values. AtSearch Tells r file source one s g a e (portion after values)) held x.2) y.2
 
-        one_at_row : AtNamedRow r file source one s g a e → AtNamedRow r file source two t g a e → IsOne r.details file source one two s t
+        one_at_row : AtNamedRow Tells r file source one s g a e → AtNamedRow Tells r file source two t g a e → IsOne r.details file source one two s t
         one_at_row (inl x) (inl y) = (x.bad ∙ sym y.bad, AreAlike.no_binding x.place y.place x.told y.told)
         one_at_row (inl x) (inr y) = absurd (no_named_row e a.comps r.after y.0 x.none y.1)
         one_at_row (inr x) (inl y) = absurd (no_named_row e a.comps r.after x.0 y.none x.1)
         one_at_row (inr x) (inr y) =
             let row = one_named_row e a.comps r.after x.0 y.0 (clear_at source g [] (stated g r) e checks complete is) x.1 y.1 in
-            one_at_values y.0 (subst (AtHeldValues r file source one s g a e) row x.2) y.2
+            one_at_values y.0 (subst (AtHeldValues Tells r file source one s g a e) row x.2) y.2
 
-      one_at_finiteness : AtFiniteness r file source one s g a → AtFiniteness r file source two t g a → IsOne r.details file source one two s t
+      one_at_finiteness : AtFiniteness Tells r file source one s g a → AtFiniteness Tells r file source two t g a → IsOne r.details file source one two s t
       one_at_finiteness (inl x) (inl y) =
           let cause = same_Some x.cause y.cause (sym x.first_cause ∙ y.first_cause) in
           (x.bad ∙ sym y.bad, AreAlike.infinite g y.cause x.side y.side (x.told ∙ ap (λ k. not_finite_lines r.details file g k x.side) cause) y.told)
@@ -65,9 +72,9 @@ module _ (r : Request) (file source one two : List ℕ) (s t : Status) where
           let u = x.1 in
           let v = y.1 in
           let environment = one_environment_at g (stated g r) u.0 v.0 complete u.1 v.1 in
-          one_at_row v.0 v.1 (subst (AtNamedRow r file source one s g a) environment u.2) v.2
+          one_at_row v.0 v.1 (subst (AtNamedRow Tells r file source one s g a) environment u.2) v.2
 
-    one_at_sizes : (a : Schema) → IsNamed g r.name a → AtSizes r file source one s g a → AtSizes r file source two t g a → IsOne r.details file source one two s t
+    one_at_sizes : (a : Schema) → IsNamed g r.name a → AtSizes Tells r file source one s g a → AtSizes Tells r file source two t g a → IsOne r.details file source one two s t
     one_at_sizes a named (inl x) (inl y) =
         let fault = one_refusal (given_sets g) (stated g r) x.fault y.fault x.some y.some x.refused y.refused in
         of_same r.details file source one two s t (x.bad ∙ sym y.bad) (x.told ∙ ap (size_fault_lines r.details g (stated g r)) fault ∙ sym y.told)
@@ -75,13 +82,13 @@ module _ (r : Request) (file source one two : List ℕ) (s t : Status) where
     one_at_sizes a named (inr x) (inl y) = absurd (none_refused (given_sets g) (stated g r) y.fault x.0 y.some y.refused)
     one_at_sizes a named (inr x) (inr y) = one_at_finiteness a named y.0 x.1 y.1
 
-    one_at_schema : AtSchema r file source one s g → AtSchema r file source two t g → IsOne r.details file source one two s t
+    one_at_schema : AtSchema Tells r file source one s g → AtSchema Tells r file source two t g → IsOne r.details file source one two s t
     one_at_schema (inl x) (inl y) = of_same r.details file source one two s t (x.bad ∙ sym y.bad) (x.told ∙ sym y.told)
     one_at_schema (inl x) (inr y) = absurd (x.none y.0 y.1)
     one_at_schema (inr x) (inl y) = absurd (y.none x.0 x.1)
-    one_at_schema (inr x) (inr y) = one_at_sizes y.0 y.1 (subst (AtSizes r file source one s g) (one_named g r.name x.0 y.0 x.1 y.1) x.2) y.2
+    one_at_schema (inr x) (inr y) = one_at_sizes y.0 y.1 (subst (AtSizes Tells r file source one s g) (one_named g r.name x.0 y.0 x.1 y.1) x.2) y.2
 
-  one_at_types : AtTypes r file source one s → AtTypes r file source two t → IsOne r.details file source one two s t
+  one_at_types : AtTypes Tells r file source one s → AtTypes Tells r file source two t → IsOne r.details file source one two s t
   one_at_types (inl x) (inl y) =
       let c = one_checked source x.globals y.globals x.faults y.faults x.checks y.checks in (
         x.bad ∙ sym y.bad,
@@ -90,7 +97,7 @@ module _ (r : Request) (file source one two : List ℕ) (s t : Status) where
       )
   one_at_types (inl x) (inr y) = absurd (some_and_none x.faults x.some (one_checked source x.globals y.0 x.faults [] x.checks y.1).1)
   one_at_types (inr x) (inl y) = absurd (none_and_some y.faults y.some (one_checked source x.0 y.globals [] y.faults x.1 y.checks).1)
-  one_at_types (inr x) (inr y) = one_at_schema y.0 y.1 (subst (AtSchema r file source one s) (one_checked source x.0 y.0 [] [] x.1 y.1).0 x.2) y.2
+  one_at_types (inr x) (inr y) = one_at_schema y.0 y.1 (subst (AtSchema Tells r file source one s) (one_checked source x.0 y.0 [] [] x.1 y.1).0 x.2) y.2
 
 -- ---- answers of `check`
 
@@ -114,23 +121,36 @@ one_check_answer types details file source one two s t (g, es, p, (ones, are, to
 -- ---- answers of a job
 
 -- what is read is not refused
-read_unread : (job : Job) (file source one two : List ℕ) (s t : Status) → UnreadAnswer (wants_details job) file source one s → JobAnswer job file source two t → ⊥
-read_unread (Check types details) file source one two s t (fault, about, refused, told, bad) (g, es, p, are, done) = unread source fault p.boxes refused p.reads
-read_unread (Show r) file source one two s t (fault, about, refused, told, bad) answer =
-    go (staged r file source two t answer)
+read_request : (Tells : List Defined → Schema → Environment → Portion → List ℕ → Status → Type 0) (r : Request) (file source text : List ℕ) (status : Status) (fault : TextFault) → RefusesSource source fault
+    → RequestAnswer Tells r file source text status → ⊥
+read_request Tells r file source text status fault refused answer = go (staged Tells r file source text status answer)
   where
-    go : AtTypes r file source two t → ⊥
+    go : AtTypes Tells r file source text status → ⊥
     go (inl x) = let checks = x.checks in unread source fault checks.boxes refused checks.reads
     go (inr x) = let checks = x.1 in unread source fault checks.boxes refused checks.reads
+
+read_unread : (job : Job) (file source one two : List ℕ) (s t : Status) → UnreadAnswer (wants_details job) file source one s → JobAnswer job file source two t → ⊥
+read_unread (Check types details) file source one two s t (fault, about, refused, told, bad) (g, es, p, are, done) = unread source fault p.boxes refused p.reads
+read_unread (Show r) file source one two s t (fault, about, refused, told, bad) answer = read_request (ShowsEvents r) r file source two t fault refused answer
+read_unread (Why r) file source one two s t (fault, about, refused, told, bad) answer = read_request (TellsWhy file source) r file source two t fault refused answer
 
 one_unread : (details : Bool) (file source one two : List ℕ) (s t : Status) → UnreadAnswer details file source one s → UnreadAnswer details file source two t → IsOne details file source one two s t
 one_unread details file source one two s t (e, x, refused, told, bad) (f, y, other_refused, other_told, other_bad) =
     (bad ∙ sym other_bad, one_refused details file source one two e f x y refused other_refused told other_told)
 
+one_reason : (r : Request) (file source one two : List ℕ) (g : List Defined) (a : Schema) (e : Environment) (p : Portion) → HasSchema source r.name g a → IsEnvironment g (stated g r) e
+    → AreOneReason file source g a e p one two → AreAlike r.details file source one two
+one_reason r file source one two g a e p has is (inl same) = AreAlike.same same
+one_reason r file source one two g a e p has is (inr (first, second, x, y, told, other_told)) = AreAlike.reasons r.name g a (stated g r) e p.held first second has is x y told other_told
+
 one_job_answer : (job : Job) (file source one two : List ℕ) (s t : Status) → JobAnswer job file source one s → JobAnswer job file source two t → IsOne (wants_details job) file source one two s t
 one_job_answer (Check types details) file source one two s t x y = one_check_answer types details file source one two s t x y
 one_job_answer (Show r) file source one two s t x y =
-    one_at_types r file source one two s t (staged r file source one s x) (staged r file source two t y)
+    one_at_types (ShowsEvents r) r file source one two s t (λ g a e p has is u v. let same = one_shown r g a e p one two s t u v in of_same r.details file source one two s t same.1 same.0)
+    (staged (ShowsEvents r) r file source one s x) (staged (ShowsEvents r) r file source two t y)
+one_job_answer (Why r) file source one two s t x y =
+    one_at_types (TellsWhy file source) r file source one two s t (λ g a e p has is u v. let told = one_told file source g a e p one two s t u v in (told.statuses, one_reason r file source one two g a e p has is told.reasons))
+    (staged (TellsWhy file source) r file source one s x) (staged (TellsWhy file source) r file source two t y)
 
 pub one_answer : (job : Job) (file source one two : List ℕ) (s t : Status) → Answer job file source one s → Answer job file source two t → IsOne (wants_details job) file source one two s t
 one_answer job file source one two s t (inl x) (inl y) = one_unread (wants_details job) file source one two s t x y

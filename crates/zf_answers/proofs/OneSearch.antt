@@ -69,7 +69,7 @@ one_first_out e comps i j p q = go (cases_order i j)
 
 -- ---- the events
 
-one_search : (e : Environment) (a : Schema) (p : Portion) (line : List Value → List ℕ) (limit : Option ℕ) (xs ys : List (Event Value)) (last other_last : Option (List Value))
+pub one_search : (e : Environment) (a : Schema) (p : Portion) (line : List Value → List ℕ) (limit : Option ℕ) (xs ys : List (Event Value)) (last other_last : Option (List Value))
     (text other : List ℕ) (status other_status : Status)
     → HasEvents e a p last xs → HasEvents e a p other_last ys → IsWritten line limit xs last text status → IsWritten line limit ys other_last other other_status → AreOneEnd line limit last other_last text other status other_status
 one_search e a p line limit xs ys last other_last text other status other_status h k w v =

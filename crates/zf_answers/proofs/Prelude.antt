@@ -56,7 +56,7 @@ pub use Rattle.zf_enum.specs.Portions.{Portion}
 pub use Rattle.zf_enum.specs.Property.{HasTruth, property}
 pub use Rattle.zf_enum.specs.Ranges.{IsFirstOut, IsNoneOut}
 pub use Rattle.zf_command.specs.declared.job.Job.{Job}
-pub use Rattle.zf_command.specs.declared.job.Job.TheVariants.{Check, Show}
+pub use Rattle.zf_command.specs.declared.job.Job.TheVariants.{Check, Show, Why}
 pub use Rattle.zf_command.specs.declared.job.Request.{Request}
 pub use Rattle.zf_lines.specs.Faults.{IsFront}
 pub use Rattle.zf_lines.specs.Searches.{AreEventsUpTo, HasEvents, Hold, IsBegun, IsBelow, IsTestsLine, IsNotAbove, IsWritten, lines, out_line, HasLimit}
@@ -65,10 +65,11 @@ pub use Rattle.zf_lines.specs.declared.fault.Status.{Status}
 pub use Rattle.zf_lines.specs.declared.fault.Status.TheVariants.{BadRequest, BadSpec, PastBounds}
 pub use Rattle.zf_found.proofs.Rows.{AreTold, one_truth_of}
 pub use Rattle.zf_found.proofs.Searches.{property_told, some_search, some_tests_line}
-pub use Rattle.zf_engine.specs.Answers.{Answer, AreHeld, check_status, CheckAnswer, Checks, HasSchema, HoldsNoValues, IsAsked, IsLimited, IsLineOf, IsNamed, IsNamedRow, IsSearch, JobAnswer, JobBegins, NamesNoRow, ShowAnswer, ShowBegins, size_fault_lines, stated, UnreadAnswer, wants_details}
+pub use Rattle.zf_engine.specs.Answers.{Answer, AreHeld, check_status, CheckAnswer, Checks, HasSchema, HoldsNoValues, IsAsked, IsLimited, IsLineOf, IsNamed, IsNamedRow, IsSearch, JobAnswer, JobBegins, NamesNoRow, RefusesRequest, RequestAnswer, ShowAnswer, ShowBegins, ShowsEvents, size_fault_lines, stated, UnreadAnswer, wants_details}
 pub use Rattle.zf_engine.specs.Details.{Cited, not_finite_lines, text_fault_lines, AreLines}
 pub use Rattle.zf_engine.specs.Missing.{no_schema_lines}
+pub use Rattle.zf_engine.specs.Reasons.{conjunct_lines, empty_lines, TellsWhy}
 pub use Rattle.zf_engine.specs.Texts.{declared_out_line, not_a_binding_line, not_held_line}
 pub use Rattle.zf_answers.specs.Bindings.{EndsLines, IsBefore, IsBinding, IsInDoubt, IsNotPast, ShowsBindings}
-pub use Rattle.zf_answers.specs.Laws.{AnswersRequest, AreAlike, AreOfSame, EachBindingIsShown, EventsAreShown, EveryHeldLineIsJudged, EveryLineIsJudged, EveryRequestIsAnswered, EverySourceIsRead, IsGranted, IsShownInOneWay, OneStatus, OneText, ShowsEvents}
+pub use Rattle.zf_answers.specs.Laws.{AnswersRequest, AreAlike, AreOfSame, EachBindingIsShown, EventsAreShown, EveryHeldLineIsJudged, EveryLineIsJudged, EveryRequestIsAnswered, EverySourceIsRead, IsGranted, IsShownInOneWay, OneStatus, OneText, ReasonIsTold}
 pub use Rattle.zf_answers.specs.Runs.{FirstLinesAreAFront, limited, PartsAreFronts, resumed, RunsMakeOne, together}

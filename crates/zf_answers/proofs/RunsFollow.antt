@@ -1,5 +1,5 @@
 -- Runs that follow each other make one.
-use Rattle.zf_answers.proofs.Prelude.{◌++◌, ◌↔◌, ◌∙◌, ◌∷◌, ◌≡◌, [], ap, append-nil, Bool, codes, false, inr, length, List, map, None, Option, refl, Some, subst, sym, ℕ, length-map, flat_map-map, flat_map, Contains, Event, True, exact, value_order, Value, Defined, Schema, Environment, binding_text, spellings, one_ranges, behind, Portion, property, AreEventsUpTo, HasEvents, Hold, IsTestsLine, IsWritten, lines, binding_line, Status, property_told, IsLineOf, IsSearch, Request, ShowAnswer, EndsLines, IsBefore, IsBinding, IsInDoubt, IsNotPast, ShowsBindings, AnswersRequest, IsGranted, ShowsEvents, limited, resumed, RunsMakeOne, together}
+use Rattle.zf_answers.proofs.Prelude.{◌++◌, ◌↔◌, ◌∙◌, ◌∷◌, ◌≡◌, [], ap, append-nil, Bool, codes, false, inr, length, List, map, None, Option, refl, Some, subst, sym, ℕ, length-map, flat_map-map, flat_map, Contains, Event, True, exact, value_order, Value, Defined, Schema, Environment, binding_text, spellings, one_ranges, behind, Portion, property, AreEventsUpTo, HasEvents, Hold, IsTestsLine, IsWritten, lines, binding_line, Status, property_told, IsLineOf, IsSearch, Request, RequestAnswer, EndsLines, IsBefore, IsBinding, IsInDoubt, IsNotPast, ShowsBindings, AnswersRequest, IsGranted, ShowsEvents, limited, resumed, RunsMakeOne, together}
 use Rattle.zf_value.specs.contracts.plain.ValueOrd.TheImpl.Laws as order_laws
 use Rattle.zf_resuming.specs.Laws.{LinesAreRows}
 use Rattle.zf_answers.proofs.Joined.{both_listed, both_written, last_event, last_is_event, rows_are_events, rows_hold}
@@ -115,9 +115,18 @@ module _ (resuming : LinesAreRows) (r : Request) (n : ℕ) (limit : Option ℕ) 
         ∙ sym (append-nil (lines line events ++ shown.lines))
 
     both_shown : AnswersRequest (limited (together n limit) r) file source (flat_map line run.rows ++ second) t
-    both_shown = inr (ShowAnswer.bindings g a e p shown.last (events ++ shown.events) (lines line events ++ shown.lines) []
+    both_shown = inr (RequestAnswer.granted g a e p
         (record { asked = record { has_schema = record { checks = granted.has_schema.checks; named = granted.has_schema.named }; complete = granted.complete; environment = granted.environment; finite = granted.finite }; named = granted.named; held = granted.held; none_out = granted.none_out })
-        both_have both_end (subst (λ b. IsTestsLine b e a p shown.last []) (sym untold) refl) text_of_both)
+        (record {
+          last = shown.last;
+          events = events ++ shown.events;
+          lines = lines line events ++ shown.lines;
+          counted = [];
+          listed = both_have;
+          ends = both_end;
+          numbered = subst (λ b. IsTestsLine b e a p shown.last []) (sym untold) refl;
+          whole = text_of_both;
+        }))
 
 pub runs_make_one : LinesAreRows → RunsMakeOne
 runs_make_one resuming r n limit file source g a e p first second s t run row granted untold more at answer =

@@ -1,5 +1,5 @@
--- What `show` answers where nothing stands in the way of a request.
-use Rattle.zf_answers.proofs.Prelude.{◌++◌, ◌<◌, ◌↔◌, ◌∙◌, ◌∷◌, ◌⊎◌, [], ap, arith, inl, inr, length, List, None, Option, Some, subst, suc, sym, zero, ℕ, All-cons, All-head, All-nil, All-tail, All, Contains, slice_get, Contains-cases, Contains-head, Contains-later, Contains-nil, IsEvent, Out, True, exact, value_order, Value, Defined, Schema, Environment, given_sets, spellings, Portion, portion, HasTruth, property, binding_line, Status, AreHeld, HoldsNoValues, IsNamedRow, NamesNoRow, Request, stated, IsBinding, IsInDoubt, ShowsBindings, AnswersRequest, EachBindingIsShown, EventsAreShown, IsGranted, IsShownInOneWay, ShowsEvents}
+-- What is answered where nothing stands in the way of a request.
+use Rattle.zf_answers.proofs.Prelude.{◌++◌, ◌<◌, ◌↔◌, ◌∙◌, ◌∷◌, ◌⊎◌, [], ap, arith, inl, inr, length, List, None, Option, Some, subst, suc, sym, zero, ℕ, All-cons, All-head, All-nil, All-tail, All, Contains, slice_get, Contains-cases, Contains-head, Contains-later, Contains-nil, IsEvent, Out, True, exact, value_order, Value, Defined, Schema, Environment, given_sets, spellings, Portion, portion, HasTruth, property, binding_line, Status, AreHeld, HoldsNoValues, IsNamedRow, NamesNoRow, ReasonIsTold, Request, RequestAnswer, stated, TellsWhy, UnreadAnswer, IsBinding, IsInDoubt, ShowsBindings, AnswersRequest, EachBindingIsShown, EventsAreShown, IsGranted, IsShownInOneWay, ShowsEvents}
 use Rattle.zf_term.specs.ResolvedTrees.{ResolvedTree}
 use Rattle.zf_value.specs.declared.value.Truth.{Truth}
 use Rattle.zf_value.specs.declared.value.Truth.TheVariants as truth
@@ -14,12 +14,12 @@ use Rattle.zf_answers.proofs.WrittenRows.{with_truth, written_rows}
 
 -- ---- the events
 
-module _ (r : Request) (file source : List ℕ) (g : List Defined) (a : Schema) (e : Environment) (p : Portion) (text : List ℕ) (status : Status) (granted : IsGranted r source g a e p) where
-  searched : AtSearch r file source text status g a e p → ShowsEvents r g a e p text status
+module _ (Tells : List Defined → Schema → Environment → Portion → List ℕ → Status → Type 0) (r : Request) (file source : List ℕ) (g : List Defined) (a : Schema) (e : Environment) (p : Portion) (text : List ℕ) (status : Status) (granted : IsGranted r source g a e p) where
+  searched : AtSearch Tells r file source text status g a e p → Tells g a e p text status
   searched (inl out) = absurd (granted.none_out out.place out.first_out.here)
   searched (inr shows) = shows.1
 
-  held_values : AtHeldValues r file source text status g a e p.after → ShowsEvents r g a e p text status
+  held_values : AtHeldValues Tells r file source text status g a e p.after → Tells g a e p text status
   held_values (inl none) = absurd (are_held r.held p.held none.none granted.held)
     where
       are_held : (text : Option (List ℕ)) (held : List (Option Value)) → HoldsNoValues e a.comps text → AreHeld e a.comps text held → ⊥
@@ -28,9 +28,9 @@ module _ (r : Request) (file source : List ℕ) (g : List Defined) (a : Schema) 
   held_values (inr there) =
       let clear = clear_at source g [] (stated g r) e granted.has_schema.checks granted.complete granted.environment in
       let names = names_at source g [] r.name a granted.has_schema.checks granted.has_schema.named in
-      searched (subst (λ held. AtSearch r file source text status g a e (portion p.after held)) (one_held e a.comps r.held there.0 p.held clear names there.1 granted.held) there.2)
+      searched (subst (λ held. AtSearch Tells r file source text status g a e (portion p.after held)) (one_held e a.comps r.held there.0 p.held clear names there.1 granted.held) there.2)
 
-  named_row : AtNamedRow r file source text status g a e → ShowsEvents r g a e p text status
+  named_row : AtNamedRow Tells r file source text status g a e → Tells g a e p text status
   named_row (inl none) = absurd (is_named r.after p.after none.none granted.named)
     where
       is_named : (text : Option (List ℕ)) (after : Option (List Value)) → NamesNoRow e a.comps text → IsNamedRow e a.comps text after → ⊥
@@ -39,38 +39,41 @@ module _ (r : Request) (file source : List ℕ) (g : List Defined) (a : Schema) 
       is_named (Some text) (Some row) none named = none row named
   named_row (inr there) =
       let clear = clear_at source g [] (stated g r) e granted.has_schema.checks granted.complete granted.environment in
-      held_values (subst (AtHeldValues r file source text status g a e) (one_named_row e a.comps r.after there.0 p.after clear there.1 granted.named) there.2)
+      held_values (subst (AtHeldValues Tells r file source text status g a e) (one_named_row e a.comps r.after there.0 p.after clear there.1 granted.named) there.2)
 
-  finite : AtFiniteness r file source text status g a → ShowsEvents r g a e p text status
+  finite : AtFiniteness Tells r file source text status g a → Tells g a e p text status
   finite (inl infinite) = absurd (not_infinite g a infinite.cause granted.finite infinite.first_cause)
   finite (inr ends) =
       let f = ends.1 in
-      named_row (subst (AtNamedRow r file source text status g a) (one_environment_at g (stated g r) f.0 e granted.complete f.1 granted.environment) f.2)
+      named_row (subst (AtNamedRow Tells r file source text status g a) (one_environment_at g (stated g r) f.0 e granted.complete f.1 granted.environment) f.2)
 
-  sized : AtSizes r file source text status g a → ShowsEvents r g a e p text status
+  sized : AtSizes Tells r file source text status g a → Tells g a e p text status
   sized (inl bad) = absurd (none_refused (given_sets g) (stated g r) bad.fault granted.complete bad.some bad.refused)
   sized (inr fits) = finite fits.1
 
-  schema_named : AtSchema r file source text status g → ShowsEvents r g a e p text status
+  schema_named : AtSchema Tells r file source text status g → Tells g a e p text status
   schema_named (inl none) = absurd (none.none a granted.has_schema.named)
-  schema_named (inr has) = sized (subst (AtSizes r file source text status g) (one_named g r.name has.0 a has.1 granted.has_schema.named) has.2)
+  schema_named (inr has) = sized (subst (AtSizes Tells r file source text status g) (one_named g r.name has.0 a has.1 granted.has_schema.named) has.2)
 
-  typed : AtTypes r file source text status → ShowsEvents r g a e p text status
+  typed : AtTypes Tells r file source text status → Tells g a e p text status
   typed (inl bad) = absurd (some_and_none bad.faults bad.some (one_checked source bad.globals g bad.faults [] bad.checks granted.has_schema.checks).1)
-  typed (inr well) = schema_named (subst (AtSchema r file source text status) (one_checked source well.0 g [] [] well.1 granted.has_schema.checks).0 well.2)
+  typed (inr well) = schema_named (subst (AtSchema Tells r file source text status) (one_checked source well.0 g [] [] well.1 granted.has_schema.checks).0 well.2)
 
-  shown : AnswersRequest r file source text status → ShowsEvents r g a e p text status
-  shown (inl (fault, about, refused, told, bad)) =
+  pub of_answer : UnreadAnswer r.details file source text status ⊎ RequestAnswer Tells r file source text status → Tells g a e p text status
+  of_answer (inl (fault, about, refused, lines, bad)) =
       let checks = granted.has_schema.checks in
       absurd (unread source fault checks.boxes refused checks.reads)
-  shown (inr answer) = typed (staged r file source text status answer)
+  of_answer (inr answer) = typed (staged Tells r file source text status answer)
 
 pub events_are_shown : EventsAreShown
-events_are_shown r file source g a e p text status granted answer = shown r file source g a e p text status granted answer
+events_are_shown r file source g a e p text status granted answer = of_answer (ShowsEvents r) r file source g a e p text status granted answer
+
+pub reason_is_told : ReasonIsTold
+reason_is_told r file source g a e p text status granted answer = of_answer (TellsWhy file source) r file source g a e p text status granted answer
 
 pub is_shown_in_one_way : IsShownInOneWay
 is_shown_in_one_way r file source g a e p one two s t granted x y =
-    one_shown r g a e p one two s t (shown r file source g a e p one s granted x) (shown r file source g a e p two t granted y)
+    one_shown r g a e p one two s t (of_answer (ShowsEvents r) r file source g a e p one s granted x) (of_answer (ShowsEvents r) r file source g a e p two t granted y)
 
 -- ---- the bindings
 

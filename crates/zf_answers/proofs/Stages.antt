@@ -1,9 +1,9 @@
--- An answer of `show` by its stages: at each it is refused, or goes on with what the next one stands on.
-use Rattle.zf_answers.proofs.Prelude.{slice_get, Value, Comp, Defined, Schema, Fault, first, causes, IsFinite, NotFinite, Environment, IsEnvironment, AreComplete, given_sets, IsRefusal, SizeFault, Portion, portion, IsFirstOut, IsNoneOut, Status, BadRequest, BadSpec, PastBounds, AreHeld, Checks, HoldsNoValues, IsNamed, IsNamedRow, NamesNoRow, Request, ShowAnswer, size_fault_lines, stated, declared_out_line, no_schema_lines, not_a_binding_line, not_finite_lines, not_held_line, ShowsEvents, AreLines}
+-- An answer of a request by its stages: at each it is refused, or goes on with what the next one stands on.
+use Rattle.zf_answers.proofs.Prelude.{slice_get, Value, Comp, Defined, Schema, Fault, first, causes, IsFinite, NotFinite, Environment, IsEnvironment, AreComplete, given_sets, IsRefusal, SizeFault, Portion, portion, IsFirstOut, IsNoneOut, Status, BadRequest, BadSpec, PastBounds, AreHeld, Checks, HoldsNoValues, IsNamed, IsNamedRow, NamesNoRow, Request, RefusesRequest, RequestAnswer, size_fault_lines, stated, declared_out_line, no_schema_lines, not_a_binding_line, not_finite_lines, not_held_line, AreLines}
 use Rattle.std.proofs.Common.{◌≡◌, ◌≢◌, ℕ, ◌⊎◌, List, [], Option, Some, inl, inr}
 use Rattle.zf_meaning.specs.declared.sizes.SizeFault.TheVariants as size_faults
 
-module _ (r : Request) (file source text : List ℕ) (status : Status) where
+module _ (Tells : List Defined → Schema → Environment → Portion → List ℕ → Status → Type 0) (r : Request) (file source text : List ℕ) (status : Status) where
   -- ---- the refusals
 
   pub record IsIllTyped : Type 0 where
@@ -57,7 +57,7 @@ module _ (r : Request) (file source text : List ℕ) (status : Status) where
 
   -- what the request asks for is searched
   abbrev pub AtSearch : List Defined → Schema → Environment → Portion → Type 0
-  AtSearch g a e p = HasSetOut a e ⊎ (IsNoneOut e a.comps × ShowsEvents r g a e p text status)
+  AtSearch g a e p = HasSetOut a e ⊎ (IsNoneOut e a.comps × Tells g a e p text status)
 
   abbrev pub AtHeldValues : List Defined → Schema → Environment → Option (List Value) → Type 0
   AtHeldValues g a e after = HoldsNothing a e ⊎ ((held : List (Option Value)) × AreHeld e a.comps r.held held × AtSearch g a e (portion after held))
@@ -77,21 +77,21 @@ module _ (r : Request) (file source text : List ℕ) (status : Status) where
   abbrev pub AtTypes : Type 0
   AtTypes = IsIllTyped ⊎ ((g : List Defined) × Checks source g [] × AtSchema g)
 
-  -- each answer stands at one of them
-  pub staged : ShowAnswer r file source text status → AtTypes
-  staged (ShowAnswer.ill_typed g faults checks some told bad) = inl (record { globals = g; faults = faults; checks = checks; some = some; told = told; bad = bad })
-  staged (ShowAnswer.no_schema g checks none told bad) = inr (g, checks, inl (record { none = none; told = told; bad = bad }))
-  staged (ShowAnswer.bad_sizes g a fault has refused some told bad) =
+  -- each refusal stands at one of them
+  refused_at : RefusesRequest r file source text status → AtTypes
+  refused_at (RefusesRequest.ill_typed g faults checks some told bad) = inl (record { globals = g; faults = faults; checks = checks; some = some; told = told; bad = bad })
+  refused_at (RefusesRequest.no_schema g checks none told bad) = inr (g, checks, inl (record { none = none; told = told; bad = bad }))
+  refused_at (RefusesRequest.bad_sizes g a fault has refused some told bad) =
       inr (g, has.checks, inr (a, has.named, inl (record { fault = fault; refused = refused; some = some; told = told; bad = bad })))
-  staged (ShowAnswer.not_finite g a cause side has complete first_cause beside told bad) =
+  refused_at (RefusesRequest.not_finite g a cause side has complete first_cause beside told bad) =
       inr (g, has.checks, inr (a, has.named, inr (complete, inl (record { cause = cause; side = side; first_cause = first_cause; told = told; bad = bad }))))
-  staged (ShowAnswer.not_a_binding g a e place asked none told bad) =
+  refused_at (RefusesRequest.not_a_binding g a e place asked none told bad) =
       let has = asked.has_schema in
       inr (g, has.checks, inr (a, has.named, inr (asked.complete, inr (asked.finite, (e, asked.environment, inl (record { place = place; none = none; told = told; bad = bad }))))))
-  staged (ShowAnswer.holds_nothing g a e after place asked named none told bad) =
+  refused_at (RefusesRequest.holds_nothing g a e after place asked named none told bad) =
       let has = asked.has_schema in
       inr (g, has.checks, inr (a, has.named, inr (asked.complete, inr (asked.finite, (e, asked.environment, inr (after, named, inl (record { place = place; none = none; told = told; bad = bad })))))))
-  staged (ShowAnswer.declared_out g a e p place c asked named held first_out there told past) =
+  refused_at (RefusesRequest.declared_out g a e p place c asked named held first_out there told past) =
       let has = asked.has_schema in
       inr (
         g,
@@ -116,7 +116,11 @@ module _ (r : Request) (file source text : List ℕ) (status : Status) where
           ),
         ),
       )
-  staged (ShowAnswer.bindings g a e p last events lines counted search listed written numbered whole) =
+
+  -- and each answer
+  pub staged : RequestAnswer Tells r file source text status → AtTypes
+  staged (RequestAnswer.refused refuses) = refused_at refuses
+  staged (RequestAnswer.granted g a e p search told) =
       let asked = search.asked in
       let has = asked.has_schema in
       inr (
@@ -138,7 +142,7 @@ module _ (r : Request) (file source text : List ℕ) (status : Status) where
                   inr (
                     p.held,
                     search.held,
-                    inr (search.none_out, record { last = last; events = events; lines = lines; counted = counted; listed = listed; ends = written; numbered = numbered; whole = whole }),
+                    inr (search.none_out, told),
                   ),
                 ),
               ),

@@ -1,8 +1,8 @@
 -- What is claimed of the answers.
-use Rattle.std.specs.Prelude.{◌≡◌, ◌≢◌, ◌⊎◌, ℕ, Bool, false, List, [], ◌∷◌, ◌++◌, Option}
+use Rattle.std.specs.Prelude.{◌≡◌, ◌≢◌, ◌⊎◌, ℕ, Bool, false, List, [], ◌∷◌, ◌++◌, codes, Option}
 use Rattle.std.specs.List.{flat_map}
 use Rattle.zf_command.specs.declared.job.Job.{Job}
-use Rattle.zf_command.specs.declared.job.Job.TheVariants.{Show}
+use Rattle.zf_command.specs.declared.job.Job.TheVariants.{Show, Why}
 use Rattle.zf_finite.specs.declared.not_finite.NotFinite.{NotFinite}
 use Rattle.zf_finite.specs.Finite.{IsFinite}
 use Rattle.zf_scan.specs.declared.fault.TextFault.{TextFault}
@@ -14,19 +14,19 @@ use Rattle.zf_term.specs.Definitions.{Comp, Defined, Schema}
 use Rattle.zf_term.specs.Faults.{Fault}
 use Rattle.zf_schema.specs.Checking.{Item, OffendsItem}
 use Rattle.zf_value.specs.declared.plain.Value.{Value}
-use Rattle.zf_walk.specs.Events.{Event}
 use Rattle.zf_meaning.specs.Environments.{Environment}
 use Rattle.zf_meaning.specs.GlobalOutcomes.{IsEnvironment}
+use Rattle.zf_meaning.specs.declared.sizes.Size.{Size}
 use Rattle.zf_meaning.specs.Sizes.{given_sets, AreComplete}
+use Rattle.zf_cores.specs.Choices.{chosen_of}
+use Rattle.zf_why.specs.Causes.{RefutedTogetherBy}
 use Rattle.zf_enum.specs.Portions.{Portion}
 use Rattle.zf_enum.specs.Ranges.{IsNoneOut}
-use Rattle.zf_texts.specs.Spellings.{spellings}
 use Rattle.zf_lines.specs.declared.fault.Status.{Status}
-use Rattle.zf_lines.specs.Searches.{HasEvents, IsTestsLine, IsWritten}
-use Rattle.zf_lines.specs.Texts.{binding_line}
 use Rattle.zf_command.specs.declared.job.Request.{Request}
-use Rattle.zf_engine.specs.Answers.{Answer, AreHeld, Checks, HasSchema, HoldsNoValues, IsLimited, IsNamedRow, NamesNoRow, stated, wants_details}
+use Rattle.zf_engine.specs.Answers.{Answer, AreHeld, Checks, HasSchema, HoldsNoValues, IsLimited, IsNamedRow, NamesNoRow, ShowsEvents, stated, wants_details}
 use Rattle.zf_engine.specs.Details.{Cited, text_fault_lines, not_finite_lines, AreLines}
+use Rattle.zf_engine.specs.Reasons.{TellsWhy, conjunct_lines}
 use Rattle.zf_engine.specs.Texts.{not_a_binding_line, not_held_line, type_fault_line}
 use Rattle.zf_answers.specs.Bindings.{ShowsBindings}
 
@@ -62,20 +62,18 @@ IsShownInOneWay =
     → IsGranted r source globals a e p → AnswersRequest r file source one s → AnswersRequest r file source two t → (one ≡ two) × (s ≡ t)
 
 -- the text and the status of the schema's events after the named row with the held values, as the contract of the lines has them
-pub record ShowsEvents (r : Request) (globals : List Defined) (a : Schema) (e : Environment) (p : Portion) (text : List ℕ) (status : Status) : Type 0 where
-  pub last : Option (List Value)
-  pub events : List (Event Value)
-  pub lines : List ℕ
-  pub counted : List ℕ
-  pub listed : HasEvents e a p last events
-  pub ends : IsWritten (binding_line (spellings globals) a.comps) r.limit events last lines status
-  pub numbered : IsTestsLine r.tests e a p last counted
-  pub whole : text ≡ lines ++ counted
-
 abbrev pub EventsAreShown : Type 0
 EventsAreShown =
     (r : Request) (file source : List ℕ) (globals : List Defined) (a : Schema) (e : Environment) (p : Portion) (text : List ℕ) (status : Status)
     → IsGranted r source globals a e p → AnswersRequest r file source text status → ShowsEvents r globals a e p text status
+
+-- ---- what `why` answers
+
+-- Where nothing stands in the way of the request, every answer of `why` is the first event of the search, or why there is none.
+abbrev pub ReasonIsTold : Type 0
+ReasonIsTold =
+    (r : Request) (file source : List ℕ) (globals : List Defined) (a : Schema) (e : Environment) (p : Portion) (text : List ℕ) (status : Status)
+    → IsGranted r source globals a e p → Answer (Why r) file source text status → TellsWhy file source globals a e p text status
 
 -- ---- one answer
 
@@ -101,7 +99,8 @@ AreOfSame (e ∷ es) [] = ⊥
 AreOfSame (e ∷ es) (f ∷ fs) = ((g : List Defined) × (item : Item) × OffendsItem g item e.offence e.line × OffendsItem g item f.offence f.line) × AreOfSame es fs
 
 -- Two texts are one, or differ in what is left open: which fault of the grammar an unread source has, which symbols a fault of it is about, which offence of
--- an ill typed paragraph is told and what is reported beside it, which schema without a component is reported, and the byte at which a text is no binding, or no line of some components.
+-- an ill typed paragraph is told and what is reported beside it, which schema without a component is reported, the byte at which a text is no binding, or no line of some components, and
+-- which minimal set of conjuncts that can't hold together is told.
 pub data AreAlike (details : Bool) (file source one two : List ℕ) : Type 0 where
   same : one ≡ two → AreAlike details file source one two
   symbols : (fault : TextFault) (first second : Cited) → RefusesSource source fault → one ≡ text_fault_lines details file fault first
@@ -113,6 +112,9 @@ pub data AreAlike (details : Bool) (file source one two : List ℕ) : Type 0 whe
       → two ≡ not_finite_lines details file globals cause second → AreAlike details file source one two
   no_binding : (first second : ℕ) → one ≡ not_a_binding_line first → two ≡ not_a_binding_line second → AreAlike details file source one two
   no_values : (first second : ℕ) → one ≡ not_held_line first → two ≡ not_held_line second → AreAlike details file source one two
+  reasons : (name : List ℕ) (globals : List Defined) (a : Schema) (sizes : List Size) (e : Environment) (held : List (Option Value)) (first second : List Bool) → HasSchema source name globals a
+      → IsEnvironment globals sizes e → RefutedTogetherBy e a held first → RefutedTogetherBy e a held second → one ≡ conjunct_lines file source (chosen_of a.conjuncts first) ++ codes "no binding\n"
+      → two ≡ conjunct_lines file source (chosen_of a.conjuncts second) ++ codes "no binding\n" → AreAlike details file source one two
 
 -- A source has one text for a job, but for what is left open.
 abbrev pub OneText : Type 0

@@ -1,7 +1,7 @@
-//! Laws over what is answered, above the answers of the engine: each source has one answer, and that of `show` has each binding once.
+//! Laws over what is answered, above the answers of the engine: each source has one answer, that of `show` has each binding once, and that of `why` the first one, or why there is none.
 #![tactic(auto)]
 
-ghost use Rattle.zf_answers.specs.Laws.{EachBindingIsShown, EventsAreShown, EveryHeldLineIsJudged, EveryLineIsJudged, EveryRequestIsAnswered, EverySourceIsRead, IsShownInOneWay, OneStatus, OneText, PlainLines};
+ghost use Rattle.zf_answers.specs.Laws.{EachBindingIsShown, EventsAreShown, EveryHeldLineIsJudged, EveryLineIsJudged, EveryRequestIsAnswered, EverySourceIsRead, IsShownInOneWay, OneStatus, OneText, PlainLines, ReasonIsTold};
 ghost use Rattle.zf_answers.specs.Limits.{LimitsAre};
 ghost use Rattle.zf_answers.specs.NamedLines.{OneRowOfALine, RefusedLinesAreOfNoRow};
 ghost use Rattle.zf_answers.specs.Runs.{FirstLinesAreAFront, PartsAreFronts, RunsMakeOne};
@@ -11,6 +11,11 @@ pub fn each_binding_is_shown()
     ensures bindings { EachBindingIsShown }
     ensures events { EventsAreShown }
     ensures one { IsShownInOneWay }
+{}
+
+/// What `why` answers, where nothing stands in its way: the first binding or row that is out of bounds, or why there is none.
+pub fn reason_is_told()
+    ensures { ReasonIsTold }
 {}
 
 /// A source has one status for a job, and one text, but for what is left open: without details, nothing beside an offence is.

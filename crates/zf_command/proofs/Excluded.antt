@@ -1,8 +1,9 @@
 -- Words that are refused ask for no work.
-use Rattle.zf_command.proofs.Prelude.{◌∙◌, ◌∷◌, ◌≡◌, [], arith, codes, inl, inr, List, None, Option, Some, subst, suc, sym, zero, ℕ, AllZip, Contains, first_of, IsAmong, Row, Text, HasBadLimit, HasBadNumber, IsAsked, IsJob, IsLimit, IsSize, IsRefused, ReadsSize, Refuses, values_of, Work, Size}
+use Rattle.zf_command.proofs.Prelude.{◌∙◌, ◌∷◌, ◌≡◌, [], arith, codes, inl, inr, List, None, Option, Some, subst, suc, sym, zero, ℕ, AllZip, Contains, first_of, IsAmong, Row, Text, HasBadLimit, HasBadNumber, HasBadSizes, IsAsked, IsJob, IsLimit, IsRequest, IsSize, IsRefused, ReadsSize, Refuses, values_of, Work, Size}
 use Rattle.std.proofs.lemmas.Option.{same_Some}
 use Rattle.zf_command.specs.declared.job.Job.{Job}
-use Rattle.zf_command.specs.declared.job.Job.TheVariants.{Check, Show}
+use Rattle.zf_command.specs.declared.job.Request.{Request}
+use Rattle.zf_command.specs.declared.job.Job.TheVariants.{Check, Show, Why}
 
 -- each word of which the sizes are read is one
 size_of : (words : List Text) (sizes : List Size) (word : Text) → AllZip ReadsSize words sizes → Contains words word → (size : Size) × ReadsSize word size
@@ -23,14 +24,19 @@ no_bad_number None size bad is = bad
 no_bad_number (Some digits) None bad is = is
 no_bad_number (Some digits) (Some n) bad is = bad is.0
 
+-- sizes that are read are not bad
+no_bad_sizes : (rows : List Row) (r : Request) → HasBadSizes rows → IsRequest rows r → ⊥
+no_bad_sizes rows r (inl (word, among, bad)) (named, read, shared, held_so, detailed) =
+    let size = size_of (values_of (codes "NAME=SIZE") rows) r.sizes word read among in bad size.0 size.1
+no_bad_sizes rows r (inr bad) (named, read, shared, held_so, detailed) = no_bad_number (first_of (codes "size") rows) r.size bad shared
+
 not_both : (name : Text) (rows : List Row) (job : Job) → Refuses name rows → IsJob name rows job → ⊥
 not_both name rows (Check types details) (other, bad) (is, typed, detailed) = other is
-not_both name rows (Show r) (other, inl (word, among, bad)) (named, is, read, shared, asked, held_so, bound, flagged, detailed) =
-    let size = size_of (values_of (codes "NAME=SIZE") rows) r.sizes word read among in bad size.0 size.1
-not_both name rows (Show r) (other, inr (inl bad)) (named, is, read, shared, asked, held_so, bound, flagged, detailed) =
-    no_bad_number (first_of (codes "size") rows) r.size bad shared
-not_both name rows (Show r) (other, inr (inr bad)) (named, is, read, shared, asked, held_so, bound, flagged, detailed) =
+not_both name rows (Show r) (other, inl bad) (no_check, no_why, asked, shown) = no_bad_sizes rows r bad asked
+not_both name rows (Show r) (other, inr (no_why, bad)) (no_check, not_why, asked, (after, bound, counted)) =
     no_bad_limit (first_of (codes "limit") rows) r.limit bad bound
+not_both name rows (Why r) (other, inl bad) (is, asked, plain) = no_bad_sizes rows r bad asked
+not_both name rows (Why r) (other, inr (no_why, bad)) (is, asked, plain) = no_why is
 
 pub refused_ask_no_work : (words : List Text) (file : Text) (job : Job) → IsRefused words → IsAsked words (Work file job) → ⊥
 refused_ask_no_work words file job (inl (cause, among, memory, help, version)) (name, rows, are, asks) = subst (IsAmong cause) are.0 among

@@ -1,4 +1,5 @@
--- The command line, as the literals that `clap` reads words by: `--version`, `check [-t] [--details] FILE` and `show [--after TEXT] [--with TEXT] [--size N] [--limit N] [--tests] [--details] FILE SCHEMA [NAME=SIZE]...`.
+-- The command line, as the literals that `clap` reads words by: `--version`, `check [-t] [--details] FILE`, `show [--after TEXT] [--with TEXT] [--size N] [--limit N] [--tests] [--details] FILE SCHEMA [NAME=SIZE]...`
+-- and `why [--with TEXT] [--size N] [--details] FILE SCHEMA [NAME=SIZE]...`.
 use Rattle.std.specs.Prelude.{◌≡◌, Some, codes, true, false}
 use Rattle.clap.specs.Words.{App, Rule, Text, app_of, new_app, new_rule, rule_of, with_rule, with_subcommand}
 use Rattle.clap.specs.declared.builder.ArgAction.TheVariants.{Append, SetTrue}
@@ -43,12 +44,20 @@ show_options =
 abbrev pub show_app : App
 show_app = with_rule (with_rule (with_rule show_options (required_rule (codes "FILE"))) (required_rule (codes "SCHEMA"))) sizes_rule
 
+-- the options of `why`
+abbrev pub why_options : App
+why_options = with_rule (with_rule (with_rule (new_app (codes "why")) (option_rule (codes "with"))) (option_rule (codes "size"))) details_rule
+
+-- `why [--with TEXT] [--size N] [--details] FILE SCHEMA [NAME=SIZE]...`
+abbrev pub why_app : App
+why_app = with_rule (with_rule (with_rule why_options (required_rule (codes "FILE"))) (required_rule (codes "SCHEMA"))) sizes_rule
+
 -- `zf [--version]`, which needs a subcommand, and whose words do not begin with its own name
 abbrev pub zf_top : App
 zf_top = record (new_app (codes "zf")) { top = record (new_app (codes "zf")).top { has_version = true; no_binary_name = true; subcommand_required = true } }
 
 abbrev pub zf_app : App
-zf_app = with_subcommand (with_subcommand zf_top check_app.top) show_app.top
+zf_app = with_subcommand (with_subcommand (with_subcommand zf_top check_app.top) show_app.top) why_app.top
 
 -- the argument is the rule, and is for its own command alone
 abbrev pub IsArg : Arg → Rule → Type 0

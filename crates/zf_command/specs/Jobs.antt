@@ -10,10 +10,12 @@ use Rattle.clap.specs.declared.error.kind.ErrorKind.TheVariants.{DisplayHelp, Di
 use Rattle.zf_command.specs.declared.job.Asked.{Asked}
 use Rattle.zf_command.specs.declared.job.Asked.TheVariants.{About, Work}
 use Rattle.zf_command.specs.declared.job.Job.{Job}
-use Rattle.zf_command.specs.declared.job.Job.TheVariants.{Check, Show}
+use Rattle.zf_command.specs.declared.job.Job.TheVariants.{Check, Show, Why}
+use Rattle.zf_command.specs.declared.job.Request.{Request}
 use Rattle.zf_command.specs.declared.job.Size.{Size}
 use Rattle.zf_command.specs.declared.limit.TheConstants.{LIMIT_MAX}
 use Rattle.zf_command.specs.Apps.{zf_app}
+use Rattle.zf_command.specs.Requests.{IsBare}
 
 -- the value of an argument, and the values of one that may be given more than once
 abbrev pub value_of : Text → List Row → Text
@@ -71,22 +73,35 @@ abbrev pub HasBadLimit : Option Text → Type 0
 HasBadLimit None = ⊥
 HasBadLimit (Some digits) = IsBadLimit digits
 
--- the job is `check` where the subcommand has this name, else `show`, read from the matches of its arguments
+-- the schema, the sizes and the values that are held, and whether it is asked what faults are about
+abbrev pub IsRequest : List Row → Request → Type 0
+IsRequest rows r =
+    (r.name ≡ value_of (codes "SCHEMA") rows) × AllZip ReadsSize (values_of (codes "NAME=SIZE") rows) r.sizes × IsSize (first_of (codes "size") rows) r.size
+    × (r.held ≡ first_of (codes "with") rows) × (r.details ≡ is_flagged (codes "details") rows)
+
+-- what `show` alone is asked for: where it begins, how many bindings it writes, and whether it counts tests
+abbrev pub IsShown : List Row → Request → Type 0
+IsShown rows r =
+    (r.after ≡ first_of (codes "after") rows) × IsLimit (first_of (codes "limit") rows) r.limit × (r.tests ≡ is_flagged (codes "tests") rows)
+
+-- the job is `check` or `why` where the subcommand has this name, else `show`, read from the matches of its arguments
 abbrev pub IsJob : Text → List Row → Job → Type 0
 IsJob name rows (Check types details) = (name ≡ codes "check") × (types ≡ is_flagged (codes "types") rows) × (details ≡ is_flagged (codes "details") rows)
-IsJob name rows (Show r) =
-    (name ≢ codes "check") × (r.name ≡ value_of (codes "SCHEMA") rows) × AllZip ReadsSize (values_of (codes "NAME=SIZE") rows) r.sizes
-    × IsSize (first_of (codes "size") rows) r.size × (r.after ≡ first_of (codes "after") rows) × (r.held ≡ first_of (codes "with") rows) × IsLimit (first_of (codes "limit") rows) r.limit
-    × (r.tests ≡ is_flagged (codes "tests") rows) × (r.details ≡ is_flagged (codes "details") rows)
+IsJob name rows (Show r) = (name ≢ codes "check") × (name ≢ codes "why") × IsRequest rows r × IsShown rows r
+IsJob name rows (Why r) = (name ≡ codes "why") × IsRequest rows r × IsBare r
 
 -- the matches of the subcommand of this name ask for the work
 abbrev pub Asks : Text → List Row → Asked → Type 0
 Asks name rows (Work file job) = (file ≡ value_of (codes "FILE") rows) × IsJob name rows job
 Asks name rows (About text) = ⊥
 
--- the subcommand is `show`, and a size word among its matches has another form, or the size or the limit has
+-- a size word among the matches has another form, or the size has
+abbrev pub HasBadSizes : List Row → Type 0
+HasBadSizes rows = HasBadSize (values_of (codes "NAME=SIZE") rows) ⊎ HasBadNumber (first_of (codes "size") rows)
+
+-- the subcommand is `show` or `why`, and among its matches a size has another form, or the limit of `show` has
 abbrev pub Refuses : Text → List Row → Type 0
-Refuses name rows = (name ≢ codes "check") × (HasBadSize (values_of (codes "NAME=SIZE") rows) ⊎ HasBadNumber (first_of (codes "size") rows) ⊎ HasBadLimit (first_of (codes "limit") rows))
+Refuses name rows = (name ≢ codes "check") × (HasBadSizes rows ⊎ ((name ≢ codes "why") × HasBadLimit (first_of (codes "limit") rows)))
 
 -- `clap` takes the words, which name this subcommand, and the rows are its matches
 abbrev pub AreMatches : List Text → Text → List Row → Type 0

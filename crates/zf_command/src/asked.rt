@@ -2,7 +2,8 @@
 ghost use Rattle.std.specs.Prelude.{◌≡◌, IfOk, IsErrOf, codes, map};
 ghost use Rattle.std.specs.List.{AllZip};
 ghost use Rattle.clap.specs.Words.{found_of, first_of, rows_of};
-ghost use Rattle.zf_command.specs.Jobs.{IsAsked, IsRefused, IsJob, IsLimit, Asks, Refuses, IsSize, ReadsSize, HasBadSize, HasBadNumber, HasBadLimit, values_of};
+ghost use Rattle.zf_command.specs.Jobs.{IsAsked, IsRefused, IsJob, IsLimit, IsRequest, Asks, Refuses, IsSize, ReadsSize, HasBadSize, HasBadSizes, HasBadNumber, HasBadLimit, values_of};
+ghost use Rattle.zf_command.specs.Requests.{IsBare};
 ghost use Rattle.zf_command.specs.declared.job.UsageFault.TheVariants.{BadWords};
 
 use crate::command::zf;
@@ -61,24 +62,37 @@ fn job_in(alloc: Global, name: &str, matches: &ArgMatches<'_>) -> Result<Job, Us
         let details = is_flagged(matches, "details");
         return Ok(Job::Check { types, details });
     }
+    let mut request = request_in(alloc, matches)?;
+    if name == "why" {
+        return Ok(Job::Why(request));
+    }
+    request.after = option_in(alloc, matches, "after")?;
+    request.limit = limit_in(matches)?;
+    request.tests = is_flagged(matches, "tests");
+    Ok(Job::Show(request))
+}
+
+/// What `show` and `why` both are asked for.
+fn request_in(alloc: Global, matches: &ArgMatches<'_>) -> Result<Request, UsageFault>
+    ensures asked { IfOk result (IsRequest (rows_of (found_of matches.now))) }
+    ensures plain { IfOk result IsBare }
+    ensures refused { IsErrOf result BadWords → HasBadSizes (rows_of (found_of matches.now)) }
+{
     let schema = value_in(alloc, matches, "SCHEMA")?;
     let sizes = sizes_in(alloc, matches)?;
     let size = shared_size_in(matches)?;
-    let after = option_in(alloc, matches, "after")?;
     let held = option_in(alloc, matches, "with")?;
-    let limit = limit_in(matches)?;
-    let tests = is_flagged(matches, "tests");
     let details = is_flagged(matches, "details");
-    Ok(Job::Show(Request {
+    Ok(Request {
         name: schema,
         sizes,
         size,
-        after,
+        after: None,
         held,
-        limit,
-        tests,
+        limit: None,
+        tests: false,
         details,
-    }))
+    })
 }
 
 fn sizes_in(alloc: Global, matches: &ArgMatches<'_>) -> Result<Items<Size>, UsageFault>

@@ -1,6 +1,6 @@
 //! The command that `clap` is given, one small function for each argument.
 ghost use Rattle.std.specs.Prelude.{◌≡◌, IfOk, codes};
-ghost use Rattle.zf_command.specs.Apps.{IsArg, IsCommand, IsTop, check_app, details_rule, option_rule, required_rule, show_app, sizes_rule, tests_rule, types_rule, zf_app, zf_top};
+ghost use Rattle.zf_command.specs.Apps.{IsArg, IsCommand, IsTop, check_app, details_rule, option_rule, required_rule, show_app, sizes_rule, tests_rule, types_rule, why_app, zf_app, zf_top};
 
 use clap::{Arg, ArgAction, Command};
 use std::alloc::{AllocError, Global};
@@ -14,7 +14,11 @@ pub fn zf<'a>(alloc: Global) -> Result<Command<'a>, AllocError>
 {
     let check = check_command(alloc)?;
     let show = show_command(alloc)?;
-    let command = top_command(alloc)?.subcommand(check)?.subcommand(show)?;
+    let why = why_command(alloc)?;
+    let command = top_command(alloc)?
+        .subcommand(check)?
+        .subcommand(show)?
+        .subcommand(why)?;
     Ok(command)
 }
 
@@ -50,10 +54,31 @@ fn show_command<'a>(alloc: Global) -> Result<Command<'a>, AllocError>
     let command = Command::new(alloc, "show")
         .about("Writes the bindings of a schema, one a line")
         .arg(after_arg(alloc))?
-        .arg(with_arg(alloc))?
+        .arg(with_arg(
+            alloc,
+            "Writes only the bindings in which some components have these values, a line of only these components",
+        ))?
         .arg(size_arg(alloc))?
         .arg(limit_arg(alloc))?
         .arg(tests_arg(alloc))?
+        .arg(details_arg(alloc))?
+        .arg(file_arg(alloc))?
+        .arg(schema_arg(alloc))?
+        .arg(sizes_arg(alloc))?;
+    Ok(command)
+}
+
+/// `why [--with TEXT] [--size N] [--details] FILE SCHEMA [NAME=SIZE]...`
+fn why_command<'a>(alloc: Global) -> Result<Command<'a>, AllocError>
+    ensures { IfOk result (λ c. IsCommand c why_app) }
+{
+    let command = Command::new(alloc, "why")
+        .about("Writes a binding of a schema, or why it has none")
+        .arg(with_arg(
+            alloc,
+            "Asks only of the bindings in which some components have these values, a line of only these components",
+        ))?
+        .arg(size_arg(alloc))?
         .arg(details_arg(alloc))?
         .arg(file_arg(alloc))?
         .arg(schema_arg(alloc))?
@@ -89,12 +114,13 @@ fn after_arg<'a>(alloc: Global) -> Arg<'a>
         .help("Writes only what comes after this binding, a line of another run or one like it")
 }
 
-fn with_arg<'a>(alloc: Global) -> Arg<'a>
+fn with_arg<'a>(alloc: Global, help: &'a str) -> Arg<'a>
     ensures { IsArg result (option_rule (codes "with")) }
 {
-    Arg::new(alloc, "with").long("with").value_name("TEXT").help(
-        "Writes only the bindings in which some components have these values, a line of only these components",
-    )
+    Arg::new(alloc, "with")
+        .long("with")
+        .value_name("TEXT")
+        .help(help)
 }
 
 fn size_arg<'a>(alloc: Global) -> Arg<'a>

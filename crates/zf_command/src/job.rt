@@ -12,7 +12,7 @@ pub struct Size {
     pub count: u64,
 }
 
-/// What `show` is asked for.
+/// What `show` or `why` is asked for.
 #[derive(Drop)]
 pub struct Request {
     /// The name of the schema.
@@ -41,6 +41,8 @@ pub enum Job {
     Check { types: bool, details: bool },
     /// The bindings of a schema.
     Show(Request),
+    /// A binding of a schema, or why it has none; begun after no binding, without a limit and a count of tests.
+    Why(Request),
 }
 
 /// What the words of a command line ask for.

@@ -43,7 +43,7 @@ fn append_causes<S: AsStr>(
 fn append_error(alloc: Global, error: &Error, lines: &mut String) -> Result<(), AllocError> {
     let text = error.to_string(alloc)?;
     match error.kind() {
-        ErrorKind::MissingSubcommand => append_line("no command: check or show", lines),
+        ErrorKind::MissingSubcommand => append_line("no command: check, show or why", lines),
         ErrorKind::MissingRequiredArgument => append_missing(text.as_str(), lines),
         _ => append_message(text.as_str(), lines),
     }
@@ -94,7 +94,7 @@ fn append_help<S: AsStr>(words: &[S], lines: &mut String) -> Result<(), AllocErr
         Some(word) => word.as_str(),
         None => "",
     };
-    if name == "check" || name == "show" {
+    if name == "check" || name == "show" || name == "why" {
         return write!(lines, "  zf {name} --help says more");
     }
     lines.push_str("  zf --help says more")

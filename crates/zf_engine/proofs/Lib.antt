@@ -8,3 +8,7 @@ pub mod OwnComponents
 pub mod DueWithin
 pub mod NamedRows
 pub mod Statuses
+pub mod FirstEvents
+pub mod WhyAnswers
+pub mod SourceLines
+pub mod ChosenLines

@@ -1,8 +1,8 @@
 -- How the parts of an answer that are written come together.
-use Rattle.zf_engine.proofs.Prelude.{◌++◌, ◌∙◌, ◌∷◌, ◌≡◌, ◌⊎◌, [], append-nil, Bool, Err, false, IfOk, inl, inr, List, Ok, OnErr, Option, refl, Result, subst, sym, true, ℕ, Appends-kept, Appends-nil, false≢true, Appends, Keeps, Stage, Value, Schema, Environment, spellings, Spelling, Portion, property, Goal, Status, Answer, AnswersReader, AnswersSource, AreHeld, IsAsked, IsNamedRow, IsSearch, Request, ShowAnswer, ShowBegins, StopsInReader, StopsInSource, AnswersRequest, IfAnswered, Shows, Tells, Stop, Answered, OutOfMemory}
+use Rattle.zf_engine.proofs.Prelude.{◌++◌, ◌∙◌, ◌∷◌, ◌≡◌, ◌⊎◌, [], append-nil, Bool, Err, false, IfOk, inl, inr, List, Ok, OnErr, Option, refl, Result, subst, sym, true, ℕ, Appends-kept, Appends-nil, false≢true, Appends, Keeps, Stage, Value, Schema, Environment, spellings, Spelling, Portion, property, Goal, Status, Answer, AnswersReader, AnswersSource, AreHeld, IsAsked, IsNamedRow, IsSearch, Request, RequestAnswer, ShowAnswer, ShowBegins, ShowsEvents, StopsInReader, StopsInSource, UnreadAnswer, RefusesRequest, AnswersRequest, IfAnswered, IsRefused, Shows, Tells, Stop, Answered, OutOfMemory}
 use Rattle.std.specs.Result.{IsErr}
 use Rattle.zf_command.specs.declared.job.Job.{Job}
-use Rattle.zf_command.specs.declared.job.Job.TheVariants.{Show}
+use Rattle.zf_command.specs.declared.job.Job.TheVariants.{Show, Why}
 use Rattle.zf_value.specs.Sets.{value_order}
 use Rattle.zf_enum.specs.Starts.{Begins}
 use Rattle.zf_lines.specs.declared.fault.RunFault.{RunFault}
@@ -16,11 +16,20 @@ use Rattle.zf_lines.specs.Texts.{binding_line}
 
 -- ---- answers that are whole
 
+-- a refusal is an answer, whatever would be told of a search
+pub show_refused : (r : Request) (file source text : List ℕ) (status : Status) → IsRefused r file source text status → Answer (Show r) file source text status
+show_refused r file source text status (inl unread) = inl unread
+show_refused r file source text status (inr refused) = inr (RequestAnswer.refused refused)
+
+pub why_refused : (r : Request) (file source text : List ℕ) (status : Status) → IsRefused r file source text status → Answer (Why r) file source text status
+why_refused r file source text status (inl unread) = inl unread
+why_refused r file source text status (inr refused) = inr (RequestAnswer.refused refused)
+
 pub told : (r : Request) (file source : List ℕ) (stop : Stop) (a b : Option (List ℕ)) (result : Result Status RunFault) → AnswersRequest r file source stop → Tells stop a b result
     → Shows r file source a b result
 told r file source (Answered text status) a b (Ok given) answer (same, written) =
-    (text.items, subst (λ s. Answer (Show r) file source text.items s) same answer, written)
-told r file source (Answered text status) a b (Err fault) answer (f, front, written) = (f, inr (inl (text.items, status, answer, front)), written)
+    (text.items, subst (λ s. Answer (Show r) file source text.items s) same (show_refused r file source text.items status answer), written)
+told r file source (Answered text status) a b (Err fault) answer (f, front, written) = (f, inr (inl (text.items, status, show_refused r file source text.items status answer, front)), written)
 told r file source OutOfMemory a b (Ok given) answer h = absurd h
 told r file source OutOfMemory a b (Err fault) answer h = ([], inl refl, h)
 
@@ -90,11 +99,16 @@ module _ (r : Request) (file source : List ℕ) (a : Schema) (g : Goal) (b : Sta
   )
 
   whole_answer : (tests : Bool) (text : List ℕ) (status : Status) → tests ≡ r.tests → WritesAll (binding_line ss a.comps) r.limit tests g.environment a b text status → ShowAnswer r file source text status
-  whole_answer tests text status same w = ShowAnswer.bindings e.globals a e p w.last w.events w.written w.counted search_of
-      (listed w.last w.events w.listed)
-      (subst (λ k. IsWritten (binding_line k a.comps) r.limit w.events w.last w.written status) spelled w.ends)
-      (subst (λ t. IsTestsLine t e a p w.last w.counted) same (counted tests w.last w.counted w.numbered))
-      w.whole
+  whole_answer tests text status same w = RequestAnswer.granted e.globals a e p search_of (record {
+    last = w.last;
+    events = w.events;
+    lines = w.written;
+    counted = w.counted;
+    listed = listed w.last w.events w.listed;
+    ends = subst (λ k. IsWritten (binding_line k a.comps) r.limit w.events w.last w.written status) spelled w.ends;
+    numbered = subst (λ t. IsTestsLine t e a p w.last w.counted) same (counted tests w.last w.counted w.numbered);
+    whole = w.whole;
+  })
 
   first_lines : (text : List ℕ) → IsSome (binding_line ss a.comps) r.limit g.environment a b text → (text ≡ []) ⊎ ShowBegins r source text
   first_lines text (inl none) = inl none

@@ -1,5 +1,5 @@
 -- The steps before the first binding make answers: refusals, in their order.
-use Rattle.zf_engine.proofs.Prelude.{◌==◌, ◌∙◌, ◌∷◌, ◌≡◌, ◌≢◌, ◌⊎◌, [], ap, arith, Bool, Err, false, IfErr, inl, inr, length, List, map, Ok, Option, refl, Result, Some, subst, sym, true, ℕ, eqb-true, Value, Comp, Defined, Schema, AreWellTyped, Environment, spellings, Spelling, Portion, Status, AreHeld, Checks, HasSchema, IsAsked, IsNamed, IsNamedRow, Request, ShowAnswer, stated, UnreadAnswer, AnswersRequest, AnswersShow, IfAnswered, IsFaultLine, TellsInfinite, TellsMisfit, TellsNoRow, TellsNoValues, TellsOut, TellsPlace, TellsPlaceHeld, Cited, Stop, Answered, OutOfMemory, AreLines}
+use Rattle.zf_engine.proofs.Prelude.{◌==◌, ◌∙◌, ◌∷◌, ◌≡◌, ◌≢◌, ◌⊎◌, [], ap, arith, Bool, Err, false, IfErr, IfOk, inl, inr, length, List, map, Ok, Option, refl, Result, Some, subst, sym, true, ℕ, eqb-true, Value, Comp, Defined, Schema, AreWellTyped, Environment, spellings, Spelling, Portion, Status, AreHeld, Checks, HasSchema, IsAsked, IsNamed, IsNamedRow, Request, RefusesRequest, stated, UnreadAnswer, AnswersEach, AnswersRequest, IfAnswered, IsFaultLine, TellsInfinite, TellsMisfit, TellsNoRow, TellsNoValues, TellsOut, TellsPlace, TellsPlaceHeld, Cited, Stop, Answered, OutOfMemory, AreLines}
 use Rattle.zf_finite.specs.Finite.{IsFinite}
 use Rattle.zf_scan.specs.declared.fault.TextFault.{TextFault}
 use Rattle.zf_scan.specs.CutViews.{IsWantOfMemory}
@@ -15,7 +15,9 @@ use Rattle.zf_texts.specs.HeldLaws.{HaveClearNames, IsNoHeldLine}
 use Rattle.zf_texts.specs.Readings.{IsNoLine}
 use Rattle.zf_names.proofs.Clear.{components_clear, globals_clear}
 use Rattle.zf_texts.proofs.Chosen.{held_is_line, line_is_held}
+use Rattle.std.proofs.Common.{Global, Vec}
 use Rattle.zf_engine.specs.Details.{IsWithout, LacksComponent}
+use Rattle.zf_engine.specs.Stops.{IsWhole}
 use Rattle.zf_lines.specs.declared.fault.Status.TheVariants.{BadSpec}
 
 pub weaker : (stop : Stop) {P Q : List ℕ → Status → Type 0} → ((text : List ℕ) (status : Status) → P text status → Q text status) → IfAnswered stop P → IfAnswered stop Q
@@ -26,6 +28,12 @@ pub weaker_err : {A : Type 0} (r : Result A Stop) (P Q : Stop → Type 0) → ((
 weaker_err (Ok x) P Q f h = tt
 weaker_err (Err stop) P Q f h = f stop h
 
+-- a fact about a whole answer, or about the stop in its place, is one about the two
+pub made_whole : (P : List ℕ → Status → Type 0) (answer : Result (Vec ℕ Global × Status) Stop) (stop : Stop) → IsWhole answer stop → IfOk answer (λ p. P p.0.items p.1)
+    → IfErr answer (λ s. IfAnswered s P) → IfAnswered stop P
+made_whole P (Ok (text, status)) stop is ok err = subst (λ s. IfAnswered s P) (sym is) ok
+made_whole P (Err other) stop is ok err = subst (λ s. IfAnswered s P) (sym is) err
+
 pub unread_answers : (details : Bool) (file source : List ℕ) (fault : TextFault) (about : Cited) (stop : Stop) → IsWantOfMemory fault ⊎ RefusesSource source fault
     → IfAnswered stop (IsFaultLine details file fault about) → IfAnswered stop (UnreadAnswer details file source)
 unread_answers details file source fault about OutOfMemory (inl memory) h = tt
@@ -34,13 +42,13 @@ unread_answers details file source fault about (Answered text status) (inl memor
 unread_answers details file source fault about (Answered text status) (inr refuses) h = (fault, about, refuses, h.1, h.2)
 
 -- a source that is not read is answered so, whatever else is asked for
-pub unread_shown : (details : Bool) (file source : List ℕ) (stop : Stop) → IfAnswered stop (UnreadAnswer details file source) → AnswersShow details file source stop
-unread_shown details file source stop told r same = weaker stop (λ text status u. inl (subst (λ d. UnreadAnswer d file source text status) (sym same) u)) told
+pub unread_each : (details : Bool) (file source : List ℕ) (stop : Stop) → IfAnswered stop (UnreadAnswer details file source) → AnswersEach details file source stop
+unread_each details file source stop told r same = weaker stop (λ text status u. inl (subst (λ d. UnreadAnswer d file source text status) (sym same) u)) told
 
 pub ill_typed_answers : (details : Bool) (file source text : List ℕ) (globals : List Defined) (faults : List Fault) → Checks source globals faults → faults ≢ []
-    → AreLines details file faults text → (r : Request) → r.details ≡ details → ShowAnswer r file source text BadSpec
+    → AreLines details file faults text → (r : Request) → r.details ≡ details → RefusesRequest r file source text BadSpec
 ill_typed_answers details file source text globals faults checks some are r same =
-    ShowAnswer.ill_typed globals faults checks some (subst (λ d. AreLines d file faults text) (sym same) are) refl
+    RefusesRequest.ill_typed globals faults checks some (subst (λ d. AreLines d file faults text) (sym same) are) refl
 
 pub some_of : {A : Type 0} (xs : List A) (b : Bool) → b ≡ false → b ≡ (length xs == 0) → xs ≡ [] → ⊥
 some_of xs b unset test none =
@@ -107,10 +115,10 @@ module _ (r : Request) (file source : List ℕ) (g : List Defined) (a : Schema) 
   has_schema checks named = record { checks = checks; named = named }
 
   pub misfit_answers : HasSchema source r.name g a → (stop : Stop) → IfAnswered stop (TellsMisfit r.details g (stated g r)) → AnswersRequest r file source stop
-  misfit_answers has stop h = weaker stop (λ text status t. inr (ShowAnswer.bad_sizes g a t.0 has t.1 t.2.0 t.2.1 t.2.2)) h
+  misfit_answers has stop h = weaker stop (λ text status t. inr (RefusesRequest.bad_sizes g a t.0 has t.1 t.2.0 t.2.1 t.2.2)) h
 
   pub infinite_answers : HasSchema source r.name g a → AreComplete (given_sets g) (stated g r) → (stop : Stop) → IfAnswered stop (TellsInfinite g a r.details file) → AnswersRequest r file source stop
-  infinite_answers has complete stop h = weaker stop (λ text status t. inr (ShowAnswer.not_finite g a t.0 t.1 has complete t.2 t.3 t.4 t.5)) h
+  infinite_answers has complete stop h = weaker stop (λ text status t. inr (RefusesRequest.not_finite g a t.0 t.1 has complete t.2 t.3 t.4 t.5)) h
 
   -- the schema is asked for in this environment
   pub asked : (e : Environment) → HasSchema source r.name g a → AreComplete (given_sets g) (stated g r) → IsEnvironment g (stated g r) e → IsFinite g a → IsAsked r source e.globals a e
@@ -118,10 +126,10 @@ module _ (r : Request) (file source : List ℕ) (g : List Defined) (a : Schema) 
 
   module _ (e : Environment) (is : IsAsked r source g a e) where
     pub no_row_answers : (stop : Stop) → IfAnswered stop (TellsNoRow e a.comps r.after) → AnswersRequest r file source stop
-    no_row_answers stop h = weaker stop (λ text status t. inr (ShowAnswer.not_a_binding g a e t.1.0 is t.0 t.1.1.0 t.1.1.1)) h
+    no_row_answers stop h = weaker stop (λ text status t. inr (RefusesRequest.not_a_binding g a e t.1.0 is t.0 t.1.1.0 t.1.1.1)) h
 
     pub no_values_answers : (after : Option (List Value)) → IsNamedRow e a.comps r.after after → (stop : Stop) → IfAnswered stop (TellsNoValues e a.comps r.held) → AnswersRequest r file source stop
-    no_values_answers after named stop h = weaker stop (λ text status t. inr (ShowAnswer.holds_nothing g a e after t.1.0 is named t.0 t.1.1.0 t.1.1.1)) h
+    no_values_answers after named stop h = weaker stop (λ text status t. inr (RefusesRequest.holds_nothing g a e after t.1.0 is named t.0 t.1.1.0 t.1.1.1)) h
 
     pub out_answers : (p : Portion) → IsNamedRow e a.comps r.after p.after → AreHeld e a.comps r.held p.held → (stop : Stop) → IfAnswered stop (TellsOut e a.comps) → AnswersRequest r file source stop
-    out_answers p named held stop h = weaker stop (λ text status t. inr (ShowAnswer.declared_out g a e p t.0 t.2.0 is named held t.1 t.2.1 t.2.2 t.2.3)) h
+    out_answers p named held stop h = weaker stop (λ text status t. inr (RefusesRequest.declared_out g a e p t.0 t.2.0 is named held t.1 t.2.1 t.2.2 t.2.3)) h

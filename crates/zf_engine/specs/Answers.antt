@@ -4,9 +4,10 @@ use Rattle.std.specs.List.{filter, list_any}
 use Rattle.std.specs.Str.{bytes_eq}
 use Rattle.std.specs.Io.KnownBytes.{Appends}
 use Rattle.zf_command.specs.declared.job.Job.{Job}
-use Rattle.zf_command.specs.declared.job.Job.TheVariants.{Check, Show}
+use Rattle.zf_command.specs.declared.job.Job.TheVariants.{Check, Show, Why}
 use Rattle.zf_command.specs.declared.job.Request.{Request}
 use Rattle.zf_command.specs.declared.job.Size as command
+use Rattle.zf_command.specs.Requests.{IsBare}
 use Rattle.zf_schema.specs.Checking.{IsChecked}
 use Rattle.zf_schema.specs.Listing.{listing}
 use Rattle.zf_finite.specs.declared.not_finite.NotFinite.{NotFinite}
@@ -40,6 +41,7 @@ use Rattle.zf_engine.specs.Faults.{Gave}
 use Rattle.zf_lines.specs.Searches.{HasEvents, IsTestsLine, IsWritten, IsBegun, HasLimit}
 use Rattle.zf_engine.specs.Details.{Cited, text_fault_lines, IsReportedBeside, not_finite_lines, AreLines}
 use Rattle.zf_engine.specs.Missing.{no_schema_lines, no_size_lines}
+use Rattle.zf_engine.specs.Reasons.{TellsWhy}
 use Rattle.zf_engine.specs.Texts.{not_given_line, size_twice_line, size_too_large_line, not_a_binding_line, not_held_line, declared_out_line}
 
 -- a tree reads the source; it defines these globals, and has these faults of types
@@ -74,7 +76,7 @@ abbrev pub CheckAnswer : (types details : Bool) → (file source text : List ℕ
 CheckAnswer types details file source text status =
     (globals : List Defined) × (faults : List Fault) × Checks source globals faults × IsCheckText types details file globals faults text × (status ≡ check_status faults)
 
--- ---- what `show` is asked for
+-- ---- what `show` and `why` are asked for
 
 abbrev pub stated_size : command.Size → Size
 stated_size s = record { name = s.name; count = s.count }
@@ -141,29 +143,48 @@ pub record IsSearch (r : Request) (source : List ℕ) (globals : List Defined) (
   pub held : AreHeld e a.comps r.held p.held
   pub none_out : IsNoneOut e a.comps
 
--- ---- `show`
+-- ---- refusals
 
--- the answer of `show` for a source that is read, with the refusals in their order
-pub data ShowAnswer (r : Request) (file source text : List ℕ) (status : Status) : Type 0 where
+-- A request is refused for a source that is read, by the first case that applies.
+pub data RefusesRequest (r : Request) (file source text : List ℕ) (status : Status) : Type 0 where
   ill_typed : (globals : List Defined) (faults : List Fault) → Checks source globals faults → faults ≢ [] → AreLines r.details file faults text
-      → status ≡ BadSpec → ShowAnswer r file source text status
+      → status ≡ BadSpec → RefusesRequest r file source text status
   no_schema : (globals : List Defined) → Checks source globals [] → ((a : Schema) → IsNamed globals r.name a → ⊥) → text ≡ no_schema_lines r.details globals r.name
-      → status ≡ BadRequest → ShowAnswer r file source text status
+      → status ≡ BadRequest → RefusesRequest r file source text status
   bad_sizes : (globals : List Defined) (a : Schema) (fault : SizeFault) → HasSchema source r.name globals a → IsRefusal (given_sets globals) (stated globals r) fault
-      → fault ≢ OutOfMemory → text ≡ size_fault_lines r.details globals (stated globals r) fault → status ≡ BadRequest → ShowAnswer r file source text status
+      → fault ≢ OutOfMemory → text ≡ size_fault_lines r.details globals (stated globals r) fault → status ≡ BadRequest → RefusesRequest r file source text status
   not_finite : (globals : List Defined) (a : Schema) (cause : NotFinite) (side : List ℕ) → HasSchema source r.name globals a → AreComplete (given_sets globals) (stated globals r)
       → first (causes globals a) ≡ Some cause → IsReportedBeside globals cause side → text ≡ not_finite_lines r.details file globals cause side → status ≡ BadSpec
-      → ShowAnswer r file source text status
+      → RefusesRequest r file source text status
   not_a_binding : (globals : List Defined) (a : Schema) (e : Environment) (place : ℕ) → IsAsked r source globals a e → NamesNoRow e a.comps r.after
-      → text ≡ not_a_binding_line place → status ≡ BadRequest → ShowAnswer r file source text status
+      → text ≡ not_a_binding_line place → status ≡ BadRequest → RefusesRequest r file source text status
   holds_nothing : (globals : List Defined) (a : Schema) (e : Environment) (after : Option (List Value)) (place : ℕ) → IsAsked r source globals a e
-      → IsNamedRow e a.comps r.after after → HoldsNoValues e a.comps r.held → text ≡ not_held_line place → status ≡ BadRequest → ShowAnswer r file source text status
+      → IsNamedRow e a.comps r.after after → HoldsNoValues e a.comps r.held → text ≡ not_held_line place → status ≡ BadRequest → RefusesRequest r file source text status
   declared_out : (globals : List Defined) (a : Schema) (e : Environment) (p : Portion) (place : ℕ) (c : Comp) → IsAsked r source globals a e
       → IsNamedRow e a.comps r.after p.after → AreHeld e a.comps r.held p.held → IsFirstOut e a.comps place → slice_get a.comps place ≡ Some c → text ≡ declared_out_line c.name
-      → status ≡ PastBounds → ShowAnswer r file source text status
-  bindings : (globals : List Defined) (a : Schema) (e : Environment) (p : Portion) (last : Option (List Value)) (events : List (Event Value)) (lines counted : List ℕ)
-      → IsSearch r source globals a e p → HasEvents e a p last events → IsWritten (binding_line (spellings globals) a.comps) r.limit events last lines status
-      → IsTestsLine r.tests e a p last counted → text ≡ lines ++ counted → ShowAnswer r file source text status
+      → status ≡ PastBounds → RefusesRequest r file source text status
+
+-- The answer of a request for a source that is read: it is refused, or this is told of the search.
+pub data RequestAnswer (Tells : List Defined → Schema → Environment → Portion → (text : List ℕ) → Status → Type 0) (r : Request) (file source text : List ℕ) (status : Status) : Type 0 where
+  refused : RefusesRequest r file source text status → RequestAnswer Tells r file source text status
+  granted : (globals : List Defined) (a : Schema) (e : Environment) (p : Portion) → IsSearch r source globals a e p → Tells globals a e p text status
+      → RequestAnswer Tells r file source text status
+
+-- ---- `show`
+
+-- the lines of the events of a schema among these globals, the last line, and that of the number of tests, if it is asked for
+pub record ShowsEvents (r : Request) (globals : List Defined) (a : Schema) (e : Environment) (p : Portion) (text : List ℕ) (status : Status) : Type 0 where
+  pub last : Option (List Value)
+  pub events : List (Event Value)
+  pub lines : List ℕ
+  pub counted : List ℕ
+  pub listed : HasEvents e a p last events
+  pub ends : IsWritten (binding_line (spellings globals) a.comps) r.limit events last lines status
+  pub numbered : IsTestsLine r.tests e a p last counted
+  pub whole : text ≡ lines ++ counted
+
+abbrev pub ShowAnswer : Request → (file source text : List ℕ) → Status → Type 0
+ShowAnswer r file source text status = RequestAnswer (ShowsEvents r) r file source text status
 
 -- the first lines that `show` writes: those of the first bindings
 pub data ShowBegins (r : Request) (source text : List ℕ) : Type 0 where
@@ -171,17 +192,24 @@ pub data ShowBegins (r : Request) (source text : List ℕ) : Type 0 where
       → IsSearch r source globals a e p → HasEvents e a p last events → IsBegun (binding_line (spellings globals) a.comps) r.limit events last text
       → ShowBegins r source text
 
+-- ---- `why`
+
+abbrev pub WhyAnswer : Request → (file source text : List ℕ) → Status → Type 0
+WhyAnswer r file source text status = RequestAnswer (TellsWhy file source) r file source text status
+
 -- ---- jobs
 
--- a limit is at least 1
+-- a limit is at least 1; of `why` nothing is asked that is for `show` alone
 abbrev pub IsLimited : Job → Type 0
 IsLimited (Check types details) = Unit {0}
 IsLimited (Show r) = HasLimit r.limit
+IsLimited (Why r) = IsBare r
 
 -- whether it is asked what faults are about
 abbrev pub wants_details : Job → Bool
 wants_details (Check types details) = details
 wants_details (Show r) = r.details
+wants_details (Why r) = r.details
 
 -- the answer for a source with a fault of its text. Which fault of the grammar is told, on which line, and which symbols any fault is about, is open.
 abbrev pub UnreadAnswer : (details : Bool) → (file source text : List ℕ) → Status → Type 0
@@ -191,6 +219,7 @@ UnreadAnswer details file source text status =
 abbrev pub JobAnswer : Job → (file source text : List ℕ) → Status → Type 0
 JobAnswer (Check types details) file source text status = CheckAnswer types details file source text status
 JobAnswer (Show r) file source text status = ShowAnswer r file source text status
+JobAnswer (Why r) file source text status = WhyAnswer r file source text status
 
 -- the text and the status that answer a job on a source
 abbrev pub Answer : Job → (file source text : List ℕ) → Status → Type 0
@@ -200,6 +229,7 @@ Answer job file source text status = UnreadAnswer (wants_details job) file sourc
 abbrev pub JobBegins : Job → (source text : List ℕ) → Type 0
 JobBegins (Check types details) source text = ⊥
 JobBegins (Show r) source text = ShowBegins r source text
+JobBegins (Why r) source text = ⊥
 
 -- ---- what a run leaves
 

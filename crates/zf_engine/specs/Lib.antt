@@ -3,7 +3,9 @@ pub mod Texts
 pub mod Details
 pub mod Missing
 pub mod Named
+pub mod SourceLines
+pub mod Reasons
 pub mod Answers
 pub mod Stops
-pub mod Begun
+pub mod Subjects
 pub mod Statuses

@@ -1,5 +1,6 @@
 -- What the steps of an answer ensure. No public clause rests on this file.
-use Rattle.std.specs.Prelude.{◌≡◌, ◌≢◌, ℕ, Bool, List, [], Option, Some, Result, Ok, Err, slice_get}
+use Rattle.std.specs.Prelude.{◌≡◌, ◌≢◌, ◌⊎◌, ℕ, Bool, List, [], Option, Some, Result, Ok, Err, Vec, slice_get}
+use Rattle.std.specs.declared.alloc.Global.{Global}
 use Rattle.std.specs.Io.KnownBytes.{Appends}
 use Rattle.zf_command.specs.declared.job.Job.TheVariants.{Show}
 use Rattle.zf_finite.specs.declared.not_finite.NotFinite.{NotFinite}
@@ -22,7 +23,7 @@ use Rattle.zf_engine.specs.declared.quoted.Aside.TheVariants as variant
 use Rattle.zf_engine.specs.declared.stop.Stop.{Stop}
 use Rattle.zf_engine.specs.declared.stop.Stop.TheVariants.{Answered, OutOfMemory}
 use Rattle.zf_command.specs.declared.job.Request.{Request}
-use Rattle.zf_engine.specs.Answers.{Answer, AnswersSource, Checks, HoldsNoValues, NamesNoRow, size_fault_lines, IsPartOfAnswer}
+use Rattle.zf_engine.specs.Answers.{AnswersSource, Checks, HoldsNoValues, NamesNoRow, RefusesRequest, UnreadAnswer, size_fault_lines, IsPartOfAnswer}
 use Rattle.zf_lines.specs.FaultViews.{AppendsFront}
 use Rattle.zf_engine.specs.Details.{IsReportedBeside, not_finite_lines, Cited, text_fault_lines, Aside, nothing, quoted, like}
 use Rattle.zf_engine.specs.Texts.{declared_out_line, not_a_binding_line, not_held_line}
@@ -44,6 +45,11 @@ aside_of (variant.Like name) = like name
 abbrev pub IfAnswered : Stop → (List ℕ → Status → Type 0) → Type 0
 IfAnswered (Answered text status) P = P text.items status
 IfAnswered OutOfMemory P = Unit {0}
+
+-- it is this text with this status, or this stop
+abbrev pub IsWhole : Result (Vec ℕ Global × Status) Stop → Stop → Type 0
+IsWhole (Ok (text, status)) stop = stop ≡ Answered text status
+IsWhole (Err other) stop = stop ≡ other
 
 abbrev pub IsFaultLine : (details : Bool) → (file : List ℕ) → TextFault → (about : Cited) → List ℕ → Status → Type 0
 IsFaultLine details file fault about text status = (fault.kind ≢ text_faults.OutOfMemory) × (text ≡ text_fault_lines details file fault about) × (status ≡ BadSpec)
@@ -82,13 +88,17 @@ TellsComponent comps place text status = (c : Comp) × (slice_get comps place �
 abbrev pub TellsOut : Environment → List Comp → List ℕ → Status → Type 0
 TellsOut e comps text status = (place : ℕ) × IsFirstOut e comps place × TellsComponent comps place text status
 
--- this answers the request
+-- the source is not read, or the request is refused for it
+abbrev pub IsRefused : Request → (file source text : List ℕ) → Status → Type 0
+IsRefused r file source text status = UnreadAnswer r.details file source text status ⊎ RefusesRequest r file source text status
+
+-- this answers the request, whatever would be told of a search
 abbrev pub AnswersRequest : Request → (file source : List ℕ) → Stop → Type 0
-AnswersRequest r file source stop = IfAnswered stop (Answer (Show r) file source)
+AnswersRequest r file source stop = IfAnswered stop (IsRefused r file source)
 
 -- whatever else is asked for, this is the answer
-abbrev pub AnswersShow : (details : Bool) → (file source : List ℕ) → Stop → Type 0
-AnswersShow details file source stop = (r : Request) → r.details ≡ details → AnswersRequest r file source stop
+abbrev pub AnswersEach : (details : Bool) → (file source : List ℕ) → Stop → Type 0
+AnswersEach details file source stop = (r : Request) → r.details ≡ details → AnswersRequest r file source stop
 
 -- the same of a source that is well typed and defines these globals
 abbrev pub AnswersOver : List Defined → Request → (file : List ℕ) → Stop → Type 0

@@ -13,13 +13,14 @@ ghost use Rattle.zf_term.specs.SchemaViews.{schema_of};
 ghost use Rattle.zf_texts.specs.Spellings.{spellings};
 
 use crate::asked::{Asked, asked_in};
-use crate::begin::{Begun, begin, begin_counting};
+use crate::begin::{begin, begin_counting};
 use crate::check::{check_answer, checked_in};
 use crate::held::values_held;
 use crate::named::named_row;
 use crate::report::Report;
-use crate::stop::Stop;
+use crate::stop::{Stop, whole};
 use crate::typed::typed_in;
+use crate::why::why_answer;
 use bumpalo::Bump;
 use std::alloc::Global;
 use std::io::Write;
@@ -55,6 +56,7 @@ pub fn answer<W: Write>(
             tell(checked(alloc, *types, *details, file, source), writer)
         }
         Job::Show(request) => show_source(alloc, request, file, source, writer),
+        Job::Why(request) => tell(why_answer(alloc, request, file, source), writer),
     }
 }
 
@@ -62,10 +64,7 @@ pub fn answer<W: Write>(
 fn checked(alloc: Global, types: bool, details: bool, file: &[u8], source: &[u8]) -> Stop
     ensures { IfAnswered result (Answer (Check types details) file.now source.now) }
 {
-    match checked_text(alloc, types, details, file, source) {
-        Ok((text, status)) => Stop::Answered(text, status),
-        Err(stop) => stop,
-    }
+    whole(checked_text(alloc, types, details, file, source))
 }
 
 fn checked_text(
@@ -244,16 +243,10 @@ fn show_after<'a, W: Write>(
         );
     }
     match begin(alloc, arena, schema, env, after, held) {
-        Ok(begun) => match begun {
-            Begun::Walked(found) => {
-                let mut search = found;
-                show(alloc, schema, elements, &mut search, request.limit, writer)
-            }
-            Begun::Planted(found) => {
-                let mut search = found;
-                show(alloc, schema, elements, &mut search, request.limit, writer)
-            }
-        },
+        Ok(found) => {
+            let mut search = found;
+            show(alloc, schema, elements, &mut search, request.limit, writer)
+        }
         Err(stop) => tell(stop, writer),
     }
 }

@@ -1,7 +1,6 @@
 //! The search for the bindings of a schema, or the answer where none is begun.
 ghost use Rattle.std.specs.Prelude.{◌<◌, length, IfOk, IfErr};
 ghost use Rattle.std.specs.Option.{option_copied};
-ghost use Rattle.zf_engine.specs.Begun.{IsBegun};
 ghost use Rattle.zf_engine.specs.Stops.{IfAnswered, TellsComponent, TellsOut};
 ghost use Rattle.zf_enum.specs.PortionViews.{portion};
 ghost use Rattle.zf_enum.specs.Property.{property};
@@ -18,45 +17,14 @@ use crate::stop::Stop;
 use crate::texts;
 use bumpalo::Bump;
 use std::alloc::Global;
-use zf_enum::{Bindings, Instances, StartFault, gains_by_trees};
+use zf_enum::{Bindings, Instances, StartFault};
 use zf_lines::fault::Status;
 use zf_meaning::env::Env;
 use zf_term::schema::Flat;
 use zf_value::value::Value;
 
-/// A search whose tests nobody asks for.
-#[derive(Drop)]
-pub enum Begun<'s, 'e, 'g, 'a> {
-    /// It tests each conjunct as a whole.
-    Walked(Bindings<'s, 'e, 'g, 'a>),
-    /// It tests the sides of each conjunct apart.
-    Planted(Instances<'s, 'e, 'g, 'a>),
-}
-
 /// The search for the bindings of the schema that come after the named one and have the values that are held.
 pub fn begin<'s, 'e, 'g, 'a>(
-    alloc: Global,
-    arena: &'a Bump,
-    flat: &Flat<'a>,
-    env: &'e Env<'g, 'a>,
-    after: Option<&'s [Value]>,
-    held: &[Option<Value>],
-) -> Result<Begun<'s, 'e, 'g, 'a>, Stop>
-    requires finite { IsFinite (environment_of env.now).globals (schema_of flat.now) }
-    requires named { HasLength (option_copied after) (length (schema_of flat.now).comps) }
-    requires due { AreDueWithin (property (environment_of env.now) (schema_of flat.now).conjuncts) (length (schema_of flat.now).comps) }
-    ensures begins { IfOk result (IsBegun (environment_of env.now) (schema_of flat.now) (portion (option_copied after.entry) held.now)) }
-    ensures stop { IfErr result (λ s. IfAnswered s (TellsOut (environment_of env.now) (schema_of flat.now).comps)) }
-{
-    if gains_by_trees(alloc, arena, flat)? {
-        Ok(Begun::Planted(begin_planted(alloc, arena, flat, env, after, held)?))
-    } else {
-        Ok(Begun::Walked(begin_counting(alloc, arena, flat, env, after, held)?))
-    }
-}
-
-/// The search that tests sides apart.
-fn begin_planted<'s, 'e, 'g, 'a>(
     alloc: Global,
     arena: &'a Bump,
     flat: &Flat<'a>,
@@ -76,7 +44,7 @@ fn begin_planted<'s, 'e, 'g, 'a>(
     }
 }
 
-/// The search that counts its tests.
+/// The same search, which counts its tests.
 pub fn begin_counting<'s, 'e, 'g, 'a>(
     alloc: Global,
     arena: &'a Bump,

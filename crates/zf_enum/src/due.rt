@@ -20,11 +20,6 @@ pub(crate) fn due(term: &Resolved<'_>) -> usize
     }
 }
 
-/// The last component that the term names.
-pub(crate) fn last(term: &Resolved<'_>) -> Option<usize> {
-    last_up_to(term, usize::MAX, None)
-}
-
 /// Whether the term names a component.
 pub(crate) fn uses(term: &Resolved<'_>, component: usize) -> bool
     ensures { result ≡ named.uses (resolved_of term.now) component }

@@ -4,7 +4,6 @@
 mod bindings;
 mod bounding;
 mod candidates;
-mod closed;
 mod component;
 mod conjuncts;
 mod due;
@@ -31,7 +30,6 @@ mod weight;
 pub use bindings::Bindings;
 pub use conjuncts::Conjuncts;
 pub use instances::Instances;
-pub use planting::gains_by_trees;
 pub use property::Property;
 pub use search::Search;
 pub use start_fault::StartFault;

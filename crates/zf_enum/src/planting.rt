@@ -1,13 +1,10 @@
 //! Predicates as trees over their parts that are no connectives.
-ghost use Rattle.std.specs.Prelude.{◌≡◌, ◌<◌, IfOk, OnOk, length, map};
+ghost use Rattle.std.specs.Prelude.{IfOk, OnOk, map};
 ghost use Rattle.zf_term.specs.SchemaViews.{conjunct_of, schema_of};
 ghost use Rattle.zf_term.specs.ResolvedViews.{resolved_of};
 ghost use Rattle.zf_plan.specs.Groves.{trees_of};
 ghost use Rattle.zf_enum.specs.Planting.{Plants, PlantsNext, ArePlanted};
 
-use crate::closed::has_closed_part;
-use crate::due::uses;
-use crate::fixing::fixing;
 use bumpalo::Bump;
 use std::alloc::{AllocError, Global};
 use zf_plan::Forest;
@@ -15,7 +12,7 @@ use zf_resolved::conjunct::resolved;
 use zf_resolved::moving::copy;
 use zf_term::conjunct::Conjunct;
 use zf_term::resolved::Resolved;
-use zf_term::schema::{Component, Flat};
+use zf_term::schema::Flat;
 use zf_tree::operator::{Operator, Unary};
 use zf_tree::symbol::Connective;
 
@@ -24,49 +21,6 @@ use zf_tree::symbol::Connective;
 pub(crate) struct Planting<'a> {
     pub(crate) leaves: Vec<Resolved<'a>>,
     pub(crate) forest: Forest,
-}
-
-/// Whether a search over trees is likely to be the faster one: some conjunct has two sides, which it asks apart, fixes a component, or has a closed part, which it works out once. No contract says so: it decides how is searched, and nothing that is found.
-pub fn gains_by_trees<'a>(
-    alloc: Global,
-    arena: &'a Bump,
-    flat: &Flat<'a>,
-) -> Result<bool, AllocError> {
-    let planting = plant_schema(alloc, arena, flat)?;
-    if planting.leaves.len() > flat.conjuncts.len() {
-        return Ok(true);
-    }
-    for leaf in &planting.leaves {
-        if fixes_a_component(leaf, flat.components.as_slice()) || has_closed_part(leaf) {
-            return Ok(true);
-        }
-    }
-    Ok(false)
-}
-
-/// Whether the predicate equates a component with an expression that leaves it few values.
-fn fixes_a_component<'a>(leaf: &Resolved<'a>, components: &[Component<'a>]) -> bool {
-    for place in 0..components.len() {
-        if let Some(side) = fixing(leaf, place) {
-            if leaves_few(side, place, components) {
-                return true;
-            }
-        }
-    }
-    false
-}
-
-/// Whether an expression is likely to leave the component at a place few values: it names nothing behind, or it leaves a set, and what it names behind are no sets.
-fn leaves_few<'a>(side: &Resolved<'a>, place: usize, components: &[Component<'a>]) -> bool
-    requires { place < length components.now }
-{
-    let is_set = components[place].ztype.is_set();
-    for behind in place + 1..components.len() {
-        if uses(side, behind) && !(is_set && !components[behind].ztype.is_set()) {
-            return false;
-        }
-    }
-    true
 }
 
 /// Plants the conjuncts of a schema.

@@ -8,7 +8,7 @@ use std::process::ExitCode;
 use std::rt::Files;
 use std::{fs, io};
 
-static NAMES: [&str; 28] = [
+static NAMES: [&str; 29] = [
     "answers",
     "calculus",
     "command_lines",
@@ -37,6 +37,7 @@ static NAMES: [&str; 28] = [
     "unread",
     "usual_z",
     "values",
+    "why",
 ];
 
 fn main(rt: HostRuntime) -> ExitCode {

@@ -1,6 +1,7 @@
 -- A search finds an event exactly where some row makes all predicates other than False.
-use Rattle.zf_why.proofs.Prelude.{◌<◌, ◌∷◌, ◌≡◌, ◌⊎◌, [], arith, inl, inr, length, List, None, Option, subst, suc, sym, zero, ℕ, AllByRecursion, slice_get, IsTruthOf, Event, IsEvent, Advances, Stage, False, Out, True, Breaks, End, Holds, Schema, ResolvedTree, value_order, Value, Environment, portion, HasTruth, property, told, conjuncts_of, Goal, Begins, HasRow, IsAllowed, RuleOut, Decides, Bool, Result, Ok, Err}
-use Rattle.std.specs.Prelude.{IfOk}
+use Rattle.zf_why.proofs.Prelude.{◌<◌, ◌∷◌, ◌≡◌, ◌⊎◌, refl, [], arith, inl, inr, length, List, None, Option, subst, suc, sym, zero, ℕ, AllByRecursion, slice_get, IsTruthOf, Event, IsEvent, Advances, Stage, False, Out, True, Breaks, End, Holds, Schema, ResolvedTree, value_order, Value, Environment, AreRanges, portion, HasTruth, property, told, conjuncts_of, Goal, Begins, HasRow, IsAllowed, RuleOut, Decides, Bool, Result, Ok, Err}
+use Rattle.std.specs.Prelude.{IfOk, ◌≢◌}
+use Rattle.zf_walk.specs.declared.judge.Truth.{Truth}
 use Rattle.zf_plan.proofs.Alike.{advances}
 use Rattle.zf_walk.specs.Conjuncts.{Conjuncts}
 use Rattle.zf_why.proofs.Rows.{row_of, row_in}
@@ -30,6 +31,22 @@ module _ (e : Environment) (row : List Value) where
     | inr (c, l, out) ↦ inr (suc c, omega arith, out)
   ]
 
+module _ (e : Environment) (a : Schema) (held : List (Option Value)) (ranges : List (List Value)) (are : AreRanges e a.comps held ranges) where
+  -- the event of a row that allows all
+  pub event_of : HasRow e a.comps held a.conjuncts → (ev : Event Value) × IsEvent value_order (property e a.conjuncts) ranges None ev
+  event_of h = elim (true_or_out e h.row a.conjuncts h.allowed) [
+    | inl all ↦ (record { row = h.row; truth = True }, record { within = row_in e a.comps held ranges h.row are h.within; later = tt; truth_of = all; not_false = λ q. cc })
+    | inr out ↦ (record { row = h.row; truth = Out }, record { within = row_in e a.comps held ranges h.row are h.within; later = tt; truth_of = (said e h.row a.conjuncts h.allowed, out); not_false = λ q. cc })
+  ]
+
+  -- the row of an event allows all
+  pub row_at : (after : Option (List Value)) (ev : Event Value) → IsEvent value_order (property e a.conjuncts) ranges after ev → HasRow e a.comps held a.conjuncts
+  row_at after ev i = record { row = ev.row; within = row_of e a.comps held ranges ev.row are i.within; allowed = of ev.truth i.truth_of i.not_false } where
+    of : (t : Truth) → IsTruthOf (property e a.conjuncts) ev.row t → t ≢ False → AllByRecursion (IsAllowed e ev.row) a.conjuncts
+    of False t not = absurd (not refl)
+    of True t not = says e ev.row a.conjuncts (λ c l. inl (t c l))
+    of Out t not = says e ev.row a.conjuncts t.0
+
 module _ (e : Environment) (a : Schema) (held : List (Option Value)) (g : Goal) (b : Stage Value) (begun : Begins e a (portion None held) g b) where
   abbrev stated : Conjuncts Value
   stated = property e a.conjuncts
@@ -48,17 +65,10 @@ module _ (e : Environment) (a : Schema) (held : List (Option Value)) (g : Goal) 
     allowed = says e t.0 a.conjuncts t.2.event.truth_of.0;
   }
 
-  -- the event of a row that allows all
-  event_of : (h : HasRow e a.comps held a.conjuncts) → (ev : Event Value) × IsEvent value_order stated b.ranges None ev
-  event_of h = elim (true_or_out e h.row a.conjuncts h.allowed) [
-    | inl all ↦ (record { row = h.row; truth = True }, record { within = row_in e a.comps held b.ranges h.row begun.ranges h.within; later = tt; truth_of = all; not_false = λ q. cc })
-    | inr out ↦ (record { row = h.row; truth = Out }, record { within = row_in e a.comps held b.ranges h.row begun.ranges h.within; later = tt; truth_of = (said e h.row a.conjuncts h.allowed, out); not_false = λ q. cc })
-  ]
-
   pub ends : (d : Stage Value) → Advances value_order (conjuncts_of g) End b d → RuleOut e a.comps held a.conjuncts
   ends d h row =
       let t = advances value_order (conjuncts_of g) stated begun.same End b d h in
-      let ev = event_of row in
+      let ev = event_of e a held b.ranges begun.ranges row in
       let there : IsEvent value_order stated b.ranges b.after ev.0 = subst (λ n. IsEvent value_order stated b.ranges n ev.0) (sym begun.named) ev.1 in
       t.1 ev.0 there (begun.ahead ev.0 ev.1)
 

@@ -2,7 +2,7 @@
 use Rattle.zf_why.proofs.Prelude.{◌++◌, ◌∷◌, ◌≡◌, [], drop, List, Option, refl, Some, subst, suc, sym, zero, ℕ, slice_get, Comp, Value, Environment, first_held, later_held, HasRow, HasNoValue, HasValue, IsInRange, IsRowOf, RuleOut, Decides, OneOf, Bool, true, false, Result, Ok, Err}
 use Rattle.std.specs.Prelude.{IfOk, IfSome}
 
-held_later : (i : ℕ) (held : List (Option Value)) → first_held (drop (suc i) held) ≡ first_held (drop i (later_held held))
+pub held_later : (i : ℕ) (held : List (Option Value)) → first_held (drop (suc i) held) ≡ first_held (drop i (later_held held))
 held_later zero [] = refl
 held_later (suc i) [] = refl
 held_later i (h ∷ held) = refl

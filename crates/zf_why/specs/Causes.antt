@@ -1,5 +1,5 @@
 -- Why a schema has no binding.
-use Rattle.std.specs.Prelude.{◌≡◌, ℕ, List, [], ◌∷◌, Option, Some, slice_get}
+use Rattle.std.specs.Prelude.{◌≡◌, ℕ, Bool, List, [], ◌∷◌, Option, Some, slice_get}
 use Rattle.zf_term.specs.Definitions.{Schema}
 use Rattle.zf_term.specs.ResolvedTrees.{ResolvedTree}
 use Rattle.zf_value.specs.declared.plain.Value.{Value}
@@ -10,9 +10,21 @@ use Rattle.zf_why.specs.Rows.{HasRow}
 use Rattle.zf_cores.specs.Choices.{HasChosen}
 use Rattle.zf_why.specs.Cores.{IsCore, AreAlone, AreEmpty}
 
+-- some ranges are empty, and these are they
+abbrev pub EmptiedBy : Environment → Schema → (held : List (Option Value)) → List Bool → Type 0
+EmptiedBy e a held empty = AreEmpty e a.comps held empty × HasChosen empty
+
+-- no range is empty; some conjuncts rule out everything alone, and these are they
+abbrev pub RefutedBy : Environment → Schema → (held : List (Option Value)) → List Bool → Type 0
+RefutedBy e a held alone = HasRow e a.comps held [] × AreAlone e a.comps held a.conjuncts alone × HasChosen alone
+
+-- no range is empty, and no conjunct rules out everything alone; these are a minimal set of conjuncts that can't hold together
+abbrev pub RefutedTogetherBy : Environment → Schema → (held : List (Option Value)) → List Bool → Type 0
+RefutedTogetherBy e a held core =
+    ((i : ℕ) (p : ResolvedTree) → slice_get a.conjuncts i ≡ Some p → HasRow e a.comps held (p ∷ [])) × IsCore e a.comps held [] a.conjuncts core × HasRow e a.comps held []
+
 -- Where a range is empty, the components of all such ranges; else, where a conjunct rules out everything alone, all that do; else a minimal set of conjuncts that can't hold together.
 abbrev pub Explains : Environment → Schema → (held : List (Option Value)) → Cause → Type 0
-Explains e a held (Empty empty) = AreEmpty e a.comps held empty.items × HasChosen empty.items
-Explains e a held (Alone alone) = HasRow e a.comps held [] × AreAlone e a.comps held a.conjuncts alone.items × HasChosen alone.items
-Explains e a held (Together core) =
-    ((i : ℕ) (p : ResolvedTree) → slice_get a.conjuncts i ≡ Some p → HasRow e a.comps held (p ∷ [])) × IsCore e a.comps held [] a.conjuncts core.items × HasRow e a.comps held []
+Explains e a held (Empty empty) = EmptiedBy e a held empty.items
+Explains e a held (Alone alone) = RefutedBy e a held alone.items
+Explains e a held (Together core) = RefutedTogetherBy e a held core.items

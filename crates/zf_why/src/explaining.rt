@@ -18,7 +18,6 @@ use crate::setting::Setting;
 use bumpalo::Bump;
 use std::alloc::{AllocError, Global};
 use zf_cores::minimal;
-use zf_enum::gains_by_trees;
 use zf_meaning::env::Env;
 use zf_term::conjunct::Conjunct;
 use zf_term::schema::Flat;
@@ -44,7 +43,6 @@ pub fn why<'s, 'g, 'a>(
         components: flat.components.as_slice(),
         env,
         held,
-        by_trees: gains_by_trees(alloc, arena, flat)?,
     };
     let empty = empty_ranges(&setting)?;
     if has_one(&empty) {

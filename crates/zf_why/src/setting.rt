@@ -15,7 +15,7 @@ ghost use Rattle.zf_why.specs.Searching.{CanBegin, Decides};
 use bumpalo::Bump;
 use std::alloc::{AllocError, Global};
 use zf_data::arena::{Chunked, Items};
-use zf_enum::{Bindings, Instances, Search, StartFault};
+use zf_enum::{Instances, Search, StartFault};
 use zf_meaning::env::Env;
 use zf_term::conjunct::Conjunct;
 use zf_term::schema::{Component, Flat};
@@ -30,8 +30,6 @@ pub struct Setting<'s, 'g, 'a> {
     pub components: &'s [Component<'a>],
     pub env: &'s Env<'g, 'a>,
     pub held: &'s [Option<Value>],
-    /// Whether searches go by trees.
-    pub by_trees: bool,
 }
 
 impl<'s, 'g, 'a> Setting<'s, 'g, 'a> {
@@ -149,23 +147,12 @@ fn has_event<'a>(
     requires { CanBegin (environment_of setting.now.env.now) (schema_of flat.now).comps (schema_of flat.now).conjuncts }
     ensures { IfOk result (Decides (environment_of setting.now.env.now) (schema_of flat.now).comps held.now (schema_of flat.now).conjuncts) }
 {
-    let alloc = setting.alloc;
-    if setting.by_trees {
-        match Instances::start(alloc, setting.arena, flat, setting.env, None, held) {
-            Ok(begun) => {
-                let mut search = begun;
-                finds(&mut search)
-            }
-            Err(fault) => Err(no_memory(fault)),
+    match Instances::start(setting.alloc, setting.arena, flat, setting.env, None, held) {
+        Ok(begun) => {
+            let mut search = begun;
+            finds(&mut search)
         }
-    } else {
-        match Bindings::start(alloc, setting.arena, flat, setting.env, None, held) {
-            Ok(begun) => {
-                let mut search = begun;
-                finds(&mut search)
-            }
-            Err(fault) => Err(no_memory(fault)),
-        }
+        Err(fault) => Err(no_memory(fault)),
     }
 }
 

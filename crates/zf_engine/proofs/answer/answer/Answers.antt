@@ -1,4 +1,4 @@
-use Rattle.zf_command.specs.declared.job.Job.TheVariants.{Check}
+use Rattle.zf_command.specs.declared.job.Job.TheVariants.{Check, Why}
 use Rattle.zf_engine.proofs.Parts.{told_answers, told_stops, shows_ok, shows_err}
 use Rattle.zf_engine.proofs.answer.answer.Goals as goal
 
@@ -15,3 +15,9 @@ returns-in-Show-clause-answered g c =
 pub returns-in-Show-clause-stopped : goal.returns-in-Show-clause-stopped
 returns-in-Show-clause-stopped g c =
     shows_err _ c.args.job.now _ _ _ _ _ _ c.in-Show.is c.as_bytes-file.ensures.value c.show_source.ensures.shows
+
+pub returns-in-Why-clause-answered : goal.returns-in-Why-clause-answered
+returns-in-Why-clause-answered g c = told_answers c.args.job.now (Why c.in-Why.request) _ _ _ _ _ _ _ c.in-Why.is c.as_bytes-file.ensures.value c.why_answer.ensures c.tell-in-Why.ensures.told
+
+pub returns-in-Why-clause-stopped : goal.returns-in-Why-clause-stopped
+returns-in-Why-clause-stopped g c = told_stops c.args.job.now (Why c.in-Why.request) _ _ _ _ _ _ _ c.in-Why.is c.as_bytes-file.ensures.value c.why_answer.ensures c.tell-in-Why.ensures.told

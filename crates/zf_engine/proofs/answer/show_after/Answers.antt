@@ -1,4 +1,4 @@
-use Rattle.zf_engine.proofs.Prelude.{false, rules, option_copied, schema_of, environment_of, portion, counted_goal, planted_goal, at_start}
+use Rattle.zf_engine.proofs.Prelude.{false, rules, option_copied, schema_of, environment_of, portion, planted_goal, at_start}
 use Rattle.zf_engine.proofs.DueWithin.{due_within}
 use Rattle.zf_engine.proofs.NamedRows.{named_length}
 use Rattle.zf_engine.proofs.Parts.{shown, told}
@@ -14,20 +14,12 @@ begin-requires-clause-due g c =
     due_within (environment_of c.args.env.now) (environment_of c.args.env.now).globals c.args.request.now.name (schema_of c.args.schema.now) (well_typed _ _ is.has_schema.checks) is.has_schema.named
 
 pub show-requires-clause-start : goal.show-requires-clause-start
-show-requires-clause-start g c = at_start _ _ _ _ _ (rw c.in-Walked.is at c.in-Ok.ensures.begins)
+show-requires-clause-start g c = at_start _ _ _ _ _ c.in-Ok.ensures.begins
 
-pub show-requires-in-Planted-clause-start : goal.show-requires-in-Planted-clause-start
-show-requires-in-Planted-clause-start g c = at_start _ _ _ _ _ (rw c.in-Planted.is at c.in-Ok.ensures.begins)
-
-pub returns-in-Walked-clause-shows : goal.returns-in-Walked-clause-shows
-returns-in-Walked-clause-shows g c = λ file source is.
-    shown c.args.request.now file source (schema_of c.args.schema.now) (counted_goal c.in-Walked.found.walk) c.in-Walked.found.walk.stage c.args.elements.now (environment_of c.args.env.now) (portion (option_copied c.args.after) c.args.held.now)
-    is c.requires.named c.requires.held (rw c.in-Walked.is at c.in-Ok.ensures.begins) c.requires.elements false _ _ _ (search rules) c.show.ensures.ok c.show.ensures.err
-
-pub returns-in-Planted-clause-shows : goal.returns-in-Planted-clause-shows
-returns-in-Planted-clause-shows g c = λ file source is.
-    shown c.args.request.now file source (schema_of c.args.schema.now) (planted_goal c.in-Planted.found.names c.in-Planted.found.search) c.in-Planted.found.search.stage c.args.elements.now (environment_of c.args.env.now) (portion (option_copied c.args.after) c.args.held.now)
-    is c.requires.named c.requires.held (rw c.in-Planted.is at c.in-Ok.ensures.begins) c.requires.elements false _ _ _ (search rules) c.show-in-Planted.ensures.ok c.show-in-Planted.ensures.err
+pub returns-in-Ok-clause-shows : goal.returns-in-Ok-clause-shows
+returns-in-Ok-clause-shows g c = λ file source is.
+    shown c.args.request.now file source (schema_of c.args.schema.now) (planted_goal c.in-Ok.found.names c.in-Ok.found.search) c.in-Ok.found.search.stage c.args.elements.now (environment_of c.args.env.now) (portion (option_copied c.args.after) c.args.held.now)
+    is c.requires.named c.requires.held c.in-Ok.ensures.begins c.requires.elements false _ _ _ (search rules) c.show.ensures.ok c.show.ensures.err
 
 pub returns-in-Err-clause-shows : goal.returns-in-Err-clause-shows
 returns-in-Err-clause-shows g c = λ file source is.

@@ -1,10 +1,10 @@
-use Rattle.zf_engine.proofs.Prelude.{◌∙◌, ap, inr, refl, subst, rules, globals_of, schema_of, environment_of, ShowAnswer, stated, AnswersOver, IfAnswered, TellsInfinite, TellsMisfit, no_schema_lines}
+use Rattle.zf_engine.proofs.Prelude.{◌∙◌, ap, inr, refl, subst, rules, globals_of, schema_of, environment_of, RefusesRequest, stated, AnswersOver, IfAnswered, TellsInfinite, TellsMisfit, no_schema_lines}
 use Rattle.zf_engine.proofs.Refusing.{asked, has_schema, infinite_answers, misfit_answers, weaker_err}
 use Rattle.zf_engine.proofs.asked.asked_in.Goals as goal
 
 pub returns-in_default-clause-stop : goal.returns-in_default-clause-stop
 returns-in_default-clause-stop c = λ source checks.
-    inr (ShowAnswer.no_schema (globals_of c.args.globals.now) checks (λ a named. (rw c.as_str.ensures at c.in_default.ensures) named.0 a named.1) (c.in_ok-lines.ensures ∙ ap (no_schema_lines c.args.request.now.details (globals_of c.args.globals.now)) c.as_bytes-name.ensures) refl)
+    inr (RefusesRequest.no_schema (globals_of c.args.globals.now) checks (λ a named. (rw c.as_str.ensures at c.in_default.ensures) named.0 a named.1) (c.in_ok-lines.ensures ∙ ap (no_schema_lines c.args.request.now.details (globals_of c.args.globals.now)) c.as_bytes-name.ensures) refl)
 
 pub returns-in_err-env-clause-stop : goal.returns-in_err-env-clause-stop
 returns-in_err-env-clause-stop c =

@@ -1,11 +1,11 @@
-use Rattle.zf_engine.proofs.Prelude.{◌==◌, ◌∙◌, ap, inr, length, map, rules, subst, fault_of, globals_of, AnswersShow, AreLines, Checks, IfAnswered, UnreadAnswer}
-use Rattle.zf_engine.proofs.Refusing.{ill_typed_answers, some_mapped, some_of, none_of, unread_shown, weaker_err}
+use Rattle.zf_engine.proofs.Prelude.{◌==◌, ◌∙◌, ap, inr, length, map, rules, subst, fault_of, globals_of, AnswersEach, AreLines, Checks, IfAnswered, UnreadAnswer}
+use Rattle.zf_engine.proofs.Refusing.{ill_typed_answers, some_mapped, some_of, none_of, unread_each, weaker_err}
 use Rattle.zf_engine.proofs.typed.typed_in.Goals as goal
 
 pub returns-in_err-checked-clause-stop : goal.returns-in_err-checked-clause-stop
 returns-in_err-checked-clause-stop c =
-    weaker_err _ (λ s. IfAnswered s (UnreadAnswer c.args.report.details c.args.report.file.now c.args.report.source.now)) (AnswersShow c.args.report.details c.args.report.file.now c.args.report.source.now)
-    (unread_shown c.args.report.details c.args.report.file.now c.args.report.source.now) (search rules)
+    weaker_err _ (λ s. IfAnswered s (UnreadAnswer c.args.report.details c.args.report.file.now c.args.report.source.now)) (AnswersEach c.args.report.details c.args.report.file.now c.args.report.source.now)
+    (unread_each c.args.report.details c.args.report.file.now c.args.report.source.now) (search rules)
 
 pub returns-then-not-is_empty-clause-stop : goal.returns-then-not-is_empty-clause-stop
 returns-then-not-is_empty-clause-stop c = λ r same.

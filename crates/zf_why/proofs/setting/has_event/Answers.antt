@@ -3,6 +3,3 @@ use Rattle.zf_why.proofs.setting.has_event.Goals as goal
 
 pub returns-in-Ok : goal.returns-in-Ok
 returns-in-Ok c = found _ _ _ _ _ _ c.in-Ok.ensures.begins c.finds.ensures
-
-pub returns-in-Ok-start : goal.returns-in-Ok-start
-returns-in-Ok-start c = found _ _ _ _ _ _ c.in-Ok-start.ensures.begins.begins c.finds-in-Ok-start.ensures

@@ -1,0 +1,49 @@
+-- What `why` finds is the answer of its request.
+use Rattle.zf_engine.proofs.Prelude.{Err, IfOk, inr, List, None, Ok, Option, refl, Result, subst, sym, ℕ, Value, Schema, Environment, portion, Status, Answer, AreHeld, IsAsked, IsNamedRow, Request, RequestAnswer, AnswersRequest, IfAnswered, TellsOut, Stop}
+use Rattle.std.proofs.Common.{Global, Vec}
+use Rattle.std.specs.Prelude.{OnOk}
+use Rattle.zf_command.specs.Requests.{IsBare}
+use Rattle.zf_command.specs.declared.job.Job.TheVariants.{Why}
+use Rattle.zf_enum.specs.Ranges.{IsNoneOut}
+use Rattle.zf_lines.specs.declared.fault.Status.TheVariants.{Done}
+use Rattle.zf_why.specs.Causes.{Explains}
+use Rattle.zf_why.specs.declared.cause.Cause.{Cause}
+use Rattle.zf_why.specs.declared.cause.Cause.TheVariants.{Alone, Empty, Together}
+use Rattle.zf_engine.specs.Reasons.{TellsWhy}
+use Rattle.zf_engine.specs.Subjects.{HasNone, IsOfSchema, TellsNone, TellsOf}
+use Rattle.zf_engine.specs.declared.why.Subject.{Subject}
+use Rattle.zf_engine.proofs.Parts.{why_refused}
+use Rattle.zf_engine.proofs.Refusing.{out_answers, weaker}
+
+-- what refuses every request refuses this one
+pub why_stopped : (r : Request) (file source : List ℕ) (stop : Stop) → AnswersRequest r file source stop → IfAnswered stop (Answer (Why r) file source)
+why_stopped r file source stop h = weaker stop (λ text status f. why_refused r file source text status f) h
+
+-- no row is named where none is asked for
+pub none_named : (r : Request) (e : Environment) (a : Schema) → IsBare r → IsNamedRow e a.comps r.after None
+none_named r e a plain = subst (λ t. IsNamedRow e a.comps t None) (sym plain.0) refl
+
+module _ (r : Request) (file source : List ℕ) (a : Schema) (e : Environment) (held : List (Option Value)) (plain : IsBare r) (is : IsAsked r source e.globals a e) (are : AreHeld e a.comps r.held held) where
+  pub why_told : (text : List ℕ) (status : Status) → IsNoneOut e a.comps → TellsWhy file source e.globals a e (portion None held) text status → Answer (Why r) file source text status
+  why_told text status none_out told =
+      inr (RequestAnswer.granted e.globals a e (portion None held) (record { asked = is; named = none_named r e a plain; held = are; none_out = none_out }) told)
+
+  pub why_found : {E : Type 0} (result : Result (Vec ℕ Global × Status) E) → OnOk result (IsNoneOut e a.comps)
+      → IfOk result (λ p. TellsWhy file source e.globals a e (portion None held) p.0.items p.1) → IfOk result (λ p. Answer (Why r) file source p.0.items p.1)
+  why_found (Ok (text, status)) none_out told = why_told text.items status none_out told
+  why_found (Err stop) none_out told = tt
+
+  pub why_out : (stop : Stop) → IfAnswered stop (TellsOut e a.comps) → IfAnswered stop (Answer (Why r) file source)
+  why_out stop h = why_stopped r file source stop (out_answers r file source e.globals a e is (portion None held) (none_named r e a plain) are stop h)
+
+-- a cause speaks of each component, or of each conjunct
+pub of_schema : (e : Environment) (a : Schema) (held : List (Option Value)) (cause : Cause) → Explains e a held cause → IsOfSchema a cause
+of_schema e a held (Empty empty) h = h.0.each
+of_schema e a held (Alone alone) h = h.1.each
+of_schema e a held (Together core) h = h.1.each
+
+-- a schema without an event, and why
+pub none_told : (s : Subject) (file source text : List ℕ) → HasNone s → TellsNone s file source text → TellsOf s file source text Done
+none_told s file source text none (Empty empty, explains, told) = TellsWhy.emptied empty.items none.events explains told refl
+none_told s file source text none (Alone alone, explains, told) = TellsWhy.refuted alone.items none.events explains told refl
+none_told s file source text none (Together core, explains, told) = TellsWhy.refuted_together core.items none.events explains told refl

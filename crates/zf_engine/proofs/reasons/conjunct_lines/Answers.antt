@@ -1,0 +1,34 @@
+use Rattle.zf_engine.proofs.Prelude.{◌+◌, ◌∙◌, ◌≡◌, ap, arith, Some, subst, sym, ℕ}
+use Rattle.std.proofs.Common.{Global, Vec}
+use Rattle.std.specs.Prelude.{slice_get}
+use Rattle.zf_term.specs.SchemaViews.{conjunct_of}
+use Rattle.zf_term.specs.declared.conjunct.Conjunct.{Conjunct}
+use Rattle.zf_why.proofs.Lists.{read_at}
+use Rattle.zf_engine.specs.Reasons.{conjunct_line}
+use Rattle.zf_engine.proofs.ChosenLines.{all_told, AreToldTo, none_told, one_left, one_told, seen_told}
+use Rattle.zf_engine.proofs.reasons.conjunct_lines.Goals.{then-chosen-place+in_ok-append_conjunct, else-chosen-place}
+use Rattle.zf_engine.proofs.reasons.conjunct_lines.Goals as goal
+
+pub loop-place-init : goal.loop-place-init
+loop-place-init c = subst (AreToldTo (λ (x : Conjunct). conjunct_line c.args.report.file.now c.args.report.source.now (conjunct_of x)) c.args.conjuncts.now c.args.chosen.now 0) (sym c.new-lines.ensures.items) (none_told _ _ _)
+
+pub loop-place-preserved : goal.loop-place-preserved
+loop-place-preserved c =
+    let f = (λ (x : Conjunct). conjunct_line c.args.report.file.now c.args.report.source.now (conjunct_of x)) in
+    let xs = c.args.conjuncts.now in
+    let m = c.args.chosen.now in
+    let i = c.loop-place.place in
+    let seen = λ (v w : Vec ℕ Global) (is : v ≡ w). ap (λ (u : Vec ℕ Global). u.items) is in
+    elim c.if-chosen-place.branch [
+      | then-chosen-place+in_ok-append_conjunct w ↦
+          let x = w.index-conjuncts-place.result in
+          let there : slice_get xs i ≡ Some x = read_at xs i x x c.loop-place-test.true (sym w.index-conjuncts-place.is) in
+          one_told f xs m i c.loop-place.lines.items c.loop-place.invariant x _ there (read_at m i _ _ (omega (arith, c.requires, c.loop-place-test.true)) w.if-chosen-place.true)
+          (seen _ _ w.lines-is ∙ w.in_ok-append_conjunct.ensures)
+      | else-chosen-place w ↦
+          subst (AreToldTo f xs m (i + 1)) (sym (seen _ _ w.lines-is))
+          (one_left f xs m i c.loop-place.lines.items c.loop-place.invariant c.loop-place-test.true (read_at m i _ _ (omega (arith, c.requires, c.loop-place-test.true)) w.if-chosen-place.false))
+    ]
+
+pub returns : goal.returns
+returns c = seen_told (conjunct_line c.args.report.file.now c.args.report.source.now) conjunct_of c.args.conjuncts.now c.args.chosen.now _ (all_told (λ (x : Conjunct). conjunct_line c.args.report.file.now c.args.report.source.now (conjunct_of x)) c.args.conjuncts.now c.args.chosen.now c.loop-place.place _ c.loop-place.invariant c.loop-place-test.false)

@@ -1,0 +1,8 @@
+use Rattle.zf_term.specs.SchemaViews.{comp_of}
+use Rattle.zf_term.specs.declared.schema.Component.{Component}
+use Rattle.zf_engine.specs.Reasons.{empty_line}
+use Rattle.zf_engine.proofs.ChosenLines.{AreToldTo}
+use Rattle.zf_engine.proofs.reasons.empty_lines.Given as goal
+
+abbrev pub invariant-loop-place : goal.invariant-loop-place
+invariant-loop-place l = AreToldTo (λ (x : Component). empty_line l.report.file.now (comp_of x)) l.components l.chosen l.place l.lines.items
