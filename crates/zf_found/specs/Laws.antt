@@ -9,6 +9,9 @@ use Rattle.zf_meaning.specs.Environments.{Environment}
 use Rattle.zf_enum.specs.EventLaws.{AreEvents, IsBoundOf}
 use Rattle.zf_enum.specs.Portions.{Portion}
 use Rattle.zf_enum.specs.Ranges.{AreRanges, IsNoneOut, IsFirstOut}
+use Rattle.zf_graph.specs.Laws.{EachNodeHasTurn}
+use Rattle.zf_steps.specs.Explored.{CanExplore, explored_in}
+use Rattle.zf_steps.specs.Systems.{System}
 use Rattle.zf_lines.specs.declared.fault.Status.{Status}
 use Rattle.zf_lines.specs.Searches.{HasEvents, IsBelow, IsWritten, IsTestsLine}
 
@@ -37,3 +40,7 @@ EveryNumberOfTests = (e : Environment) (a : Schema) (ranges : List (List Value))
 -- The tests of all searches have a bound.
 abbrev pub EveryBound : Type 0
 EveryBound = (e : Environment) (a : Schema) (held : List (Option Value)) (ranges : List (List Value)) → AreRanges e a.comps held ranges → (bound : ℕ) × IsBoundOf e a held bound
+
+-- What is explored of finite schemas has a turn of each node, or a place at which the turn breaks off.
+abbrev pub EveryTurn : Type 0
+EveryTurn = (m : System) → CanExplore m → EachNodeHasTurn (explored_in m)

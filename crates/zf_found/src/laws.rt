@@ -1,5 +1,5 @@
 //! Laws of the definitions.
-ghost use Rattle.zf_found.specs.Laws.{OutIsDecided, EveryRange, EveryEvent, EverySearch, EveryNumberOfTests, EveryBound};
+ghost use Rattle.zf_found.specs.Laws.{OutIsDecided, EveryRange, EveryEvent, EverySearch, EveryNumberOfTests, EveryBound, EveryTurn};
 
 /// One component is the first that is out, or none is.
 pub fn out_decided()
@@ -21,4 +21,9 @@ pub fn every_search()
 pub fn every_number()
     ensures tests { EveryNumberOfTests }
     ensures bound { EveryBound }
+{}
+
+/// In an exploration each state has its steps, or one that can't be told.
+pub fn every_turn()
+    ensures { EveryTurn }
 {}

@@ -12,3 +12,4 @@ pub mod Seeking
 pub mod Finds
 pub mod Turns
 pub mod Going
+pub mod Having

@@ -38,10 +38,10 @@ module _ (m : System) (eq : Node → Node → Bool) (a : Node) (number : ℕ) (o
 
   module _ (ranges : List (List Value)) (are : AreRanges m.environment o.schema.comps held ranges) where
     -- what is an event in the ranges is found at the node
-    found_at : (x : Event Value) → IsEvent value_order conjuncts ranges None x → IsFoundAt m a o x
+    pub found_at : (x : Event Value) → IsEvent value_order conjuncts ranges None x → IsFoundAt m a o x
     found_at x i = record { ranges = ranges; of_components = are; is = i }
 
-    event_in : (x : Event Value) → IsFoundAt m a o x → IsEvent value_order conjuncts ranges None x
+    pub event_in : (x : Event Value) → IsFoundAt m a o x → IsEvent value_order conjuncts ranges None x
     event_in x h = subst (λ rs. IsEvent value_order conjuncts rs None x) (one_ranges m.environment o.schema held h.ranges ranges h.of_components are) h.is
 
     -- what a search has behind it is found first
@@ -55,7 +55,8 @@ module _ (m : System) (eq : Node → Node → Bool) (a : Node) (number : ℕ) (o
       ];
     }
 
-    all_behind : (ahead : Ahead Value) (xs : List (Event Value)) → Behind value_order conjuncts ranges None ahead xs → IsNoneAhead value_order conjuncts ranges None ahead → AreFinds (searched m eq) a o xs
+    all_behind : (ahead : Ahead Value) (xs : List (Event Value)) → Behind value_order conjuncts ranges None ahead xs
+        → IsNoneAhead value_order conjuncts ranges None ahead → AreFinds (searched m eq) a o xs
     all_behind ahead xs h none = record {
       ascending = h.ascending;
       members = λ x. (
@@ -65,7 +66,8 @@ module _ (m : System) (eq : Node → Node → Bool) (a : Node) (number : ℕ) (o
     }
 
   -- a search that is begun
-  pub started : (b : Stage Value) (now : Turn Node Label) → slice_get (parts_of m a) number ≡ Some o → BeginsFor m.environment o.schema held b → HasPassed m eq a number now → HasFound m eq a number o b now
+  pub started : (b : Stage Value) (now : Turn Node Label) → slice_get (parts_of m a) number ≡ Some o → BeginsFor m.environment o.schema held b
+      → HasPassed m eq a number now → HasFound m eq a number o b now
   started b now at begins passed = record {
     stands = at;
     of_components = begins.ranges;
@@ -101,7 +103,8 @@ module _ (m : System) (eq : Node → Node → Bool) (a : Node) (number : ℕ) (o
       longer = one_behind value_order conjuncts b.ranges None order_laws.total-law b.ahead d.ahead h.found x (taken_of x t) h.behind
 
       edges_more : (with_edge now (step m number o x)).edges ≡ h.done ++ map (step m number o) (h.found ++ x ∷ [])
-      edges_more = ap (λ es. es ++ step m number o x ∷ []) h.edges ∙ append_assoc h.done (map (step m number o) h.found) (step m number o x ∷ []) ∙ ap (λ es. h.done ++ es) (sym (map-append (step m number o) h.found (x ∷ [])))
+      edges_more = ap (λ es. es ++ step m number o x ∷ []) h.edges ∙ append_assoc h.done (map (step m number o) h.found) (step m number o x ∷ [])
+          ∙ ap (λ es. h.done ++ es) (sym (map-append (step m number o) h.found (x ∷ [])))
 
       pub goes_on : HasFound m eq a number o d (with_edge now (step m number o x))
       goes_on = record {
@@ -120,8 +123,12 @@ module _ (m : System) (eq : Node → Node → Bool) (a : Node) (number : ℕ) (o
       -- the turn begins so
       pub begins_so : BeginsTurn (searched m eq) a (with_edge now (step m number o x))
       begins_so =
-          let part = begins_in_part (searched m eq) a 0 (parts_of m a) number o h.done (h.found ++ x ∷ []) h.stands h.whole (first_behind b.ranges h.of_components d.ahead (h.found ++ x ∷ []) longer) (holds_more x refl) in
-          (h.stray, subst (BeginsParts (searched m eq) a 0 (parts_of m a)) (ap (λ n. h.done ++ map (step m n o) (h.found ++ x ∷ [])) numbered ∙ sym edges_more) part)
+          let part = begins_in_part (searched m eq) a 0 (parts_of m a) number o h.done (h.found ++ x ∷ []) h.stands h.whole
+          (first_behind b.ranges h.of_components d.ahead (h.found ++ x ∷ []) longer) (holds_more x refl) in (
+            h.stray,
+            subst (BeginsParts (searched m eq) a 0 (parts_of m a)) (ap (λ n. h.done ++ map (step m n o) (h.found ++ x ∷ [])) numbered
+                ∙ sym edges_more) part,
+          )
 
     -- a step that can't be told
     pub breaks_so : (row : List Value) → Takes value_order conjuncts b.ranges b.after b.ahead (record { row = row; truth = Out }) d.ahead
@@ -129,12 +136,21 @@ module _ (m : System) (eq : Node → Node → Bool) (a : Node) (number : ℕ) (o
     breaks_so row t =
         let x : Event Value = record { row = row; truth = Out } in
         let longer = one_behind value_order conjuncts b.ranges None order_laws.total-law b.ahead d.ahead h.found x (taken_of x t) h.behind in
-        let part = breaks_in_part (searched m eq) a 0 (parts_of m a) number o h.done h.found x h.stands h.whole (first_behind b.ranges h.of_components d.ahead (h.found ++ x ∷ []) longer) h.hold refl in
-        inr (h.stray, subst (λ es. BreaksParts (searched m eq) a 0 (parts_of m a) es (stop m o x)) (ap (λ n. h.done ++ map (step m n o) h.found) numbered ∙ sym h.edges) part)
+        let part = breaks_in_part (searched m eq) a 0 (parts_of m a) number o h.done h.found x h.stands h.whole
+        (first_behind b.ranges h.of_components d.ahead (h.found ++ x ∷ []) longer) h.hold refl in
+        inr (
+          h.stray,
+          subst (λ es. BreaksParts (searched m eq) a 0 (parts_of m a) es (stop m o x)) (ap (λ n. h.done ++ map (step m n o) h.found) numbered
+              ∙ sym h.edges) part,
+        )
 
     -- no step more
     pub all_passed : IsNoneAhead value_order conjuncts b.ranges b.after b.ahead → HasPassed m eq a (suc number) now
     all_passed none =
-        let all = all_behind b.ranges h.of_components b.ahead h.found h.behind (subst (λ n. IsNoneAhead value_order conjuncts b.ranges n b.ahead) h.named none) in
-        let more = one_more_part (searched m eq) a 0 (parts_of m a) number o h.done h.found h.stands h.whole all h.hold in
-        (h.stray, subst (HasParts (searched m eq) a 0 (take (suc number) (parts_of m a))) (ap (λ n. h.done ++ map (step m n o) h.found) numbered ∙ sym h.edges) more)
+        let all = all_behind b.ranges h.of_components b.ahead h.found h.behind
+        (subst (λ n. IsNoneAhead value_order conjuncts b.ranges n b.ahead) h.named none) in
+        let more = one_more_part (searched m eq) a 0 (parts_of m a) number o h.done h.found h.stands h.whole all h.hold in (
+          h.stray,
+          subst (HasParts (searched m eq) a 0 (take (suc number) (parts_of m a))) (ap (λ n. h.done ++ map (step m n o) h.found) numbered
+              ∙ sym h.edges) more,
+        )

@@ -9,6 +9,22 @@ use Rattle.zf_steps.specs.declared.node.Node.{Node}
 use Rattle.zf_steps.specs.declared.node.Node.TheVariants.{Root, State}
 use Rattle.zf_steps.specs.Systems.{Operation, System}
 
+abbrev pub stray_line : (number : ℕ) → List ℕ
+stray_line number = codes "stray " ++ decimal number ++ codes "\n"
+
+-- where there is no initial state there is no line
+abbrev pub stuck_line : (number : ℕ) → List ℕ
+stuck_line number = cond (eqb number 0) [] (codes "stuck " ++ decimal number ++ codes "\n")
+
+abbrev pub ending_line : Ending → List ℕ
+ending_line ended = codes "end\n"
+ending_line paused = codes "more\n"
+ending_line (broken at) = codes "out of bounds at: " ++ at ++ codes "\n"
+
+-- `2 states, 1 steps`; a number past 64 bits is told as the greatest
+abbrev pub count_line : (states steps : ℕ) → List ℕ
+count_line states steps = decimal states ++ codes " states, " ++ decimal (min steps (2 ^ 64 - 1)) ++ codes " steps\n"
+
 module _ (m : System) where
   -- `state 2: BINDING`
   abbrev pub state_line : (from number : ℕ) → Node → List ℕ
@@ -20,35 +36,15 @@ module _ (m : System) where
   label_text cs [] = []
   label_text cs (v ∷ vs) = codes ": " ++ binding_text m.elements cs (v ∷ vs)
 
-  -- the name of an operation, and its label
-  abbrev pub name_at : Option Operation → List ℕ
-  name_at Option.None = []
-  name_at (Option.Some o) = o.name
-
-  abbrev pub label_at : Option Operation → List Value → List ℕ
-  label_at Option.None values = []
-  label_at (Option.Some o) values = label_text o.label values
+  -- `OPERATION 2: LABEL`, where there is such an operation
+  abbrev pub operation_text : Option Operation → (number : ℕ) → List Value → List ℕ
+  operation_text Option.None number values = codes " " ++ decimal number
+  operation_text (Option.Some o) number values = o.name ++ codes " " ++ decimal number ++ label_text o.label values
 
   -- `step 1 OPERATION 2: LABEL`; that a state is initial has no line but the state's
   abbrev pub step_line : (from : ℕ) → Label → (number : ℕ) → List ℕ
-  step_line from label number = cond (eqb from 0) []
-      (codes "step " ++ decimal from ++ codes " " ++ name_at (slice_get m.operations label.operation) ++ codes " " ++ decimal number ++ label_at (slice_get m.operations label.operation) label.values ++ codes "\n")
-
-  abbrev pub stray_line : (number : ℕ) → List ℕ
-  stray_line number = codes "stray " ++ decimal number ++ codes "\n"
-
-  -- where there is no initial state there is no line
-  abbrev pub stuck_line : (number : ℕ) → List ℕ
-  stuck_line number = cond (eqb number 0) [] (codes "stuck " ++ decimal number ++ codes "\n")
-
-  abbrev pub ending_line : Ending → List ℕ
-  ending_line ended = codes "end\n"
-  ending_line paused = codes "more\n"
-  ending_line (broken at) = codes "out of bounds at: " ++ at ++ codes "\n"
-
-  -- `2 states, 1 steps`; a number past 64 bits is told as the greatest
-  abbrev pub count_line : (states steps : ℕ) → List ℕ
-  count_line states steps = decimal states ++ codes " states, " ++ decimal (min steps (2 ^ 64 - 1)) ++ codes " steps\n"
+  step_line from label number =
+      cond (eqb from 0) [] (codes "step " ++ decimal from ++ codes " " ++ operation_text (slice_get m.operations label.operation) number label.values ++ codes "\n")
 
   abbrev pub lines : Words Node Label
   lines = record {

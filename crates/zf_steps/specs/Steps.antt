@@ -5,6 +5,7 @@ use Rattle.zf_graph.specs.Graphs.{Edge, Graph}
 use Rattle.zf_graph.specs.Explorations.{Explored}
 use Rattle.zf_term.specs.Definitions.{Comp, Schema}
 use Rattle.zf_texts.specs.BindingTexts.{binding_text}
+use Rattle.zf_texts.specs.declared.spelling.Spelling.{Spelling}
 use Rattle.zf_value.specs.declared.plain.Value.{Value}
 use Rattle.zf_value.specs.Sets.{value_order}
 use Rattle.zf_walk.specs.declared.judge.Truth.TheVariants as truth
@@ -33,6 +34,10 @@ source_value values (Some place) = slice_get values place
 -- what is held of a schema's components where the state before has these values
 abbrev pub held_by : List (Option ℕ) → List Value → List (Option Value)
 held_by sources values = map (source_value values) sources
+
+-- a binding that is out, with the operation
+abbrev pub stopped : List Spelling → Operation → List Value → List ℕ
+stopped elements o row = o.name ++ codes ": " ++ binding_text elements o.schema.comps row
 
 -- ---- what is found
 
@@ -65,9 +70,8 @@ module _ (m : System) where
   abbrev pub step : ℕ → Operation → Event Value → Edge Node Label
   step number o x = record { label = record { operation = number; values = values_at o.others x.row }; to = State (values_at o.after x.row) }
 
-  -- a binding that is out, with the operation
   abbrev pub stop : Operation → Event Value → List ℕ
-  stop o x = o.name ++ codes ": " ++ binding_text m.elements o.schema.comps x.row
+  stop o x = stopped m.elements o x.row
 
   -- Whether a state is a stray, since it satisfies the schema of the state in no way, or that it can't be told. What is before the initial states is none.
   abbrev pub IsStray : Node → Bool → Type 0

@@ -1,5 +1,6 @@
 -- What is searched of a specification is in order. No public clause rests on the proofs here, but those of the machine's laws.
-use Rattle.std.proofs.Common.{◌≡◌, ◌⊎◌, ◌∙◌, ap, ap₂, Bool, false, inl, inr, List, None, Option, refl, subst, sym, true, ℕ}
+use Rattle.std.proofs.Common.{◌≡◌, ◌⊎◌, ◌∙◌, ap, ap₂, Bool, false, inl, inr, length, List, None, Option, refl, subst, sym, true, ℕ}
+use Rattle.std.proofs.Math.Seq.{take-length}
 use Rattle.std.proofs.lemmas.Bool.{false≢true}
 use Rattle.std.proofs.lemmas.Cmp.{tied_itself}
 use Rattle.std.specs.Prelude.{slice_get}
@@ -7,7 +8,8 @@ use Rattle.std.specs.Cmp.Lexicographic.{lists_ties, lists_total, pointwise, slic
 use Rattle.std.specs.declared.cmp.Ordering.{Ordering}
 use Rattle.std.specs.declared.cmp.Ordering.TheVariants.{Equal, Greater, Less}
 use Rattle.std.specs.Ordering.{is_eq, ordering_reverse}
-use Rattle.zf_graph.specs.Parts.{IsOrderly}
+use Rattle.zf_graph.specs.Explorations.{Turn}
+use Rattle.zf_graph.specs.Parts.{HasParts, HasTurn, IsOrderly}
 use Rattle.zf_term.specs.Definitions.{Schema}
 use Rattle.zf_value.specs.contracts.plain.ValueOrd.TheImpl.Laws as order_laws
 use Rattle.zf_value.specs.contracts.plain.ValuePartialEq.TheImpl as equality
@@ -26,9 +28,11 @@ use Rattle.zf_enum.specs.PropertyLaws.{one_truth_in}
 use Rattle.zf_term.specs.ResolvedTrees.{ResolvedTree}
 use Rattle.zf_enum.specs.Ranges.{AreRanges}
 use Rattle.zf_steps.specs.contracts.node.NodePartialEq.TheImpl as nodes
+use Rattle.zf_steps.specs.declared.node.Label.{Label}
 use Rattle.zf_steps.specs.declared.node.Node.{Node}
 use Rattle.zf_steps.specs.declared.node.Node.TheVariants.{Root, State}
-use Rattle.zf_steps.specs.Steps.{IsDoubtful, IsEventOf, IsFirstOf, IsStray, searched, stop}
+use Rattle.zf_steps.specs.Searching.{HasPassed}
+use Rattle.zf_steps.specs.Steps.{IsDoubtful, IsEventOf, IsFirstOf, IsStray, parts_of, searched, stop}
 use Rattle.zf_steps.specs.Systems.{System}
 
 -- no row comes after one that comes after it
@@ -115,6 +119,10 @@ module _ (m : System) where
   no_doubt (State values) true at h (row, first, said) = h _ first.event
   no_doubt (State values) false at h (row, first, said) =
       let same = one_first m.environment m.state.schema _ _ _ h.1 first in let told : True ≡ Out = ap (λ (x : Event Value). x.truth) same in cc
+
+  -- a turn that has the steps of all parts is whole
+  pub all_parts : (eq : Node → Node → Bool) (a : Node) (now : Turn Node Label) → HasPassed m eq a (length (parts_of m a)) now → HasTurn (searched m eq) a now
+  all_parts eq a now h = (h.0, subst (λ os. HasParts (searched m eq) a 0 os now.edges) (take-length (parts_of m a)) h.1)
 
   pub orderly : IsOrderly (searched m nodes.ghosts.eq)
   orderly = record {

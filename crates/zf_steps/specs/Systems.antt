@@ -1,10 +1,8 @@
 -- What is explored of a specification: the schema of the state, that of the initial states, and the operations.
 use Rattle.std.specs.Prelude.{ℕ, List, Option, map}
 use Rattle.zf_term.specs.Definitions.{Comp, Schema}
-use Rattle.zf_term.specs.SchemaViews.{schema_of}
 use Rattle.zf_texts.specs.declared.spelling.Spelling.{Spelling}
 use Rattle.zf_meaning.specs.Environments.{Environment}
-use Rattle.zf_meaning.specs.Envs.{environment_of}
 use Rattle.zf_steps.specs.declared.system.Operation as code
 use Rattle.zf_steps.specs.declared.system.System as codes
 
@@ -27,14 +25,14 @@ pub record System : Type 0 where
 
 -- ---- as the program has them
 
-abbrev pub operation_of : code.Operation → Operation
-operation_of o = record { name = o.name.now; schema = schema_of o.schema.now; sources = o.sources.items; after = o.after.items; others = o.others.items; label = (schema_of o.label.now).comps }
+abbrev pub operation_of : {F : Type 0} → (F → Schema) → code.Operation F → Operation
+operation_of schema o = record { name = o.name.now; schema = schema o.schema.now; sources = o.sources.items; after = o.after.items; others = o.others.items; label = (schema o.label.now).comps }
 
-abbrev pub system_of : {S : Type 0} → codes.System S → System
-system_of s = record {
-  environment = environment_of s.env.now;
+abbrev pub system_of : {E F S : Type 0} → (E → Environment) → (F → Schema) → codes.System E F S → System
+system_of environment schema s = record {
+  environment = environment s.env.now;
   elements = s.elements.now;
-  state = operation_of s.state;
-  init = operation_of s.init;
-  operations = map operation_of s.operations.items;
+  state = operation_of schema s.state;
+  init = operation_of schema s.init;
+  operations = map (operation_of schema) s.operations.items;
 }

@@ -1,46 +1,107 @@
-//! The searches of an exploration.
-ghost use Rattle.std.specs.Prelude.{◌≡◌, ◌<◌, ℕ, List, Some, IfOk, OnOk, length, slice_get};
+//! The searches of an exploration, and what a step of one comes to.
+ghost use Rattle.std.specs.Prelude.{IfOk, OnOk};
 ghost use Rattle.zf_meaning.specs.Environments.{Environment};
+ghost use Rattle.zf_reach.specs.Machines.{HasFewer};
+ghost use Rattle.zf_steps.specs.contracts.node.NodePartialEq.TheImpl as nodes;
+ghost use Rattle.zf_steps.specs.declared.node.Node.TheVariants.{State};
+ghost use Rattle.zf_steps.specs.Finders.{BeginsFor};
+ghost use Rattle.zf_steps.specs.Machines.{BeginsState, GoesOn, rows_ahead};
+ghost use Rattle.zf_steps.specs.Steps.{held_by};
+ghost use Rattle.zf_steps.specs.Systems.{operation_of, system_of};
 ghost use Rattle.zf_term.specs.Definitions.{Schema};
-ghost use Rattle.zf_value.specs.declared.plain.Value as value;
-ghost use Rattle.zf_walk.specs.Progress.{Stage};
-ghost use Rattle.zf_steps.specs.Fitting.{AdvancesAt, AreFor, HoldsAt};
 
 use crate::finder::Finder;
-use std::alloc::AllocError;
+use crate::given::{Schematic, Surrounding};
+use crate::node::{Label, Node};
+use crate::rows::{held_by, lay_out_stop, values_at};
+use crate::system::{Operation, System};
+use std::alloc::{AllocError, Global};
+use zf_reach::{Beginning, Found};
 use zf_value::value::Value;
 use zf_walk::Step;
+
+/// What is searched for in the turn of a node.
+#[derive(Clone, Copy, PartialEq, Eq)]
+pub enum Part {
+    /// The initial states.
+    Initial,
+    /// The steps of the operation of this number, from 0.
+    Operation(usize),
+}
 
 /// The searches of the schema of the state, of that of the initial states, and of the operations, and which of them is gone on with.
 #[derive(Drop)]
 pub struct Cursor<S> {
-    pub searches: Vec<S>,
-    /// The place of the search of the first part of the node.
-    pub first: usize,
-    /// The part that it is for.
-    pub part: usize,
+    pub state: S,
+    pub init: S,
+    pub operations: Vec<S>,
+    pub part: Part,
     /// What can't be told.
     pub stop: Vec<u8>,
 }
 
-/// Begins the search at this place, with these values held.
-pub fn hold_at<S: Finder>(
-    searches: &mut Vec<S>,
-    place: usize,
-    held: &[Option<Value>],
+/// Begins the search for the bindings of a schema in which the state before has these values.
+pub fn hold<F: Schematic, S: Finder>(
+    alloc: Global,
+    operation: &Operation<'_, F>,
+    search: &mut S,
+    values: &[Value],
 ) -> Result<(), AllocError>
-    requires { place < length searches.old.items }
-    ensures kept { (e : Environment) (schemas : List Schema) → AreFor S.IsFor e schemas searches.old.items → AreFor S.IsFor e schemas searches.new.items }
-    ensures begins { OnOk result ((e : Environment) (schemas : List Schema) → AreFor S.IsFor e schemas searches.old.items → HoldsAt S.stage e schemas searches.new.items place held.now) }
+    requires { (e : Environment) × (a : Schema) × S.IsFor search.old e a }
+    ensures kept { (e : Environment) (a : Schema) → S.IsFor search.old e a → S.IsFor search.new e a }
+    ensures begins { OnOk result ((e : Environment) (a : Schema) → S.IsFor search.old e a → BeginsFor e a (held_by (operation_of F.schema operation.now).sources values.now) (S.stage search.new)) }
 {
-    searches[place].hold(held)
+    let held = held_by(alloc, &operation.sources, values)?;
+    search.hold(&held)
 }
 
-/// Goes on with the search at this place.
-pub fn advance_at<S: Finder>(searches: &mut Vec<S>, place: usize) -> Result<Step, AllocError>
-    requires { place < length searches.old.items }
-    ensures kept { (e : Environment) (schemas : List Schema) → AreFor S.IsFor e schemas searches.old.items → AreFor S.IsFor e schemas searches.new.items }
-    ensures answer { IfOk result (λ step. (e : Environment) (schemas : List Schema) → AreFor S.IsFor e schemas searches.old.items → AdvancesAt S.stage e schemas step searches.old.items searches.new.items place) }
+/// Begins the turn of a state.
+pub fn begin_state<E: Surrounding, F: Schematic, T, S: Finder>(
+    system: &System<'_, E, F, T>,
+    values: &[Value],
+    search: &mut S,
+    stop: &mut Vec<u8>,
+) -> Result<Beginning, AllocError>
+    requires { S.IsFor search.old (system_of E.environment F.schema system.now).environment (system_of E.environment F.schema system.now).state.schema }
+    ensures kept { (e : Environment) (a : Schema) → S.IsFor search.old e a → S.IsFor search.new e a }
+    ensures begins { IfOk result (λ b. BeginsState (system_of E.environment F.schema system.now) nodes.ghosts.eq (State values.now) b stop.new.items) }
 {
-    searches[place].advance()
+    hold(system.alloc, &system.state, search, values)?;
+    match search.advance()? {
+        Step::Holds => Ok(Beginning::Regular),
+        Step::Breaks => {
+            lay_out_stop(stop, system.elements, &system.state, search)?;
+            Ok(Beginning::Out)
+        }
+        Step::End => Ok(Beginning::Stray),
+    }
+}
+
+/// Goes on to the next step by an operation.
+pub fn go_on<E: Surrounding, F: Schematic, T, S: Finder>(
+    system: &System<'_, E, F, T>,
+    operation: &Operation<'_, F>,
+    number: usize,
+    search: &mut S,
+    stop: &mut Vec<u8>,
+) -> Result<Found<Node, Label>, AllocError>
+    requires { S.IsFor search.old (system_of E.environment F.schema system.now).environment (operation_of F.schema operation.now).schema }
+    ensures kept { (e : Environment) (a : Schema) → S.IsFor search.old e a → S.IsFor search.new e a }
+    ensures answer { IfOk result (λ f. GoesOn (system_of E.environment F.schema system.now) nodes.ghosts.eq number (operation_of F.schema operation.now) (S.stage search.old) (S.stage search.new) f stop.new.items) }
+    ensures fewer { IfOk result (λ f. HasFewer f (rows_ahead (S.stage search.old)) (rows_ahead (S.stage search.new))) }
+{
+    match search.advance()? {
+        Step::Holds => Ok(Found::Edge(
+            Label {
+                operation: number,
+                values: values_at(system.alloc, &operation.others, search)?,
+            },
+            Node::State(values_at(system.alloc, &operation.after, search)?),
+        )),
+        Step::Breaks => {
+            lay_out_stop(stop, system.elements, operation, search)?;
+            Ok(Found::Out)
+        }
+        Step::End => Ok(Found::Over),
+    }
 }

@@ -26,6 +26,7 @@ pub trait Finder: Row {
 
     /// Stands before the first binding that has these values, by the components' places.
     fn hold(&mut self, held: &[Option<Value>]) -> Result<(), AllocError>
+        requires { (e : Environment) × (a : Schema) × IsFor self.old e a }
         ensures kept { (e : Environment) (a : Schema) → IsFor self.old e a → IsFor self.new e a }
         ensures begins { OnOk result ((e : Environment) (a : Schema) → IsFor self.old e a → BeginsFor e a held.now (stage self.new)) };
 

@@ -3,13 +3,18 @@
 
 mod cursor;
 mod finder;
+mod given;
 pub mod laws;
+mod lines;
+mod machine;
 mod node;
+mod renewed;
 mod rows;
 mod system;
 
-pub use cursor::{Cursor, advance_at, hold_at};
+pub use cursor::{Cursor, Part};
 pub use finder::Finder;
+pub use given::{Schematic, Surrounding};
 pub use node::{Label, Node};
-pub use rows::{held_by, lay_out_stop, values_at};
+pub use renewed::{Renewed, searches_of};
 pub use system::{Operation, System};

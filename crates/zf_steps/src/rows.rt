@@ -1,13 +1,13 @@
 //! Rows in parts: what is held of a schema where the state has these values, and the values at places of a binding.
 ghost use Rattle.std.specs.Prelude.{◌≡◌, IfOk, OnOk};
-ghost use Rattle.zf_steps.specs.Machines.{stopped};
-ghost use Rattle.zf_steps.specs.Steps.{held_by, source_value, values_at};
-ghost use Rattle.zf_steps.specs.Systems.{operation_of, system_of};
+ghost use Rattle.zf_steps.specs.Steps.{held_by, source_value, stopped, values_at};
+ghost use Rattle.zf_steps.specs.Systems.{operation_of};
 
-use crate::system::{Operation, System};
+use crate::given::Schematic;
+use crate::system::Operation;
 use std::alloc::{AllocError, Global};
 use zf_meaning::row::Row;
-use zf_texts::append_binding;
+use zf_texts::Spelling;
 use zf_value::items::Items;
 use zf_value::value::Value;
 
@@ -61,16 +61,16 @@ pub fn values_at<R: Row>(
 }
 
 /// Lays out what is said of a binding that is out.
-pub fn lay_out_stop<S, R: Row>(
+pub fn lay_out_stop<F: Schematic, R: Row>(
     text: &mut Vec<u8>,
-    system: &System<'_, '_, '_, '_, S>,
-    operation: &Operation<'_, '_>,
+    elements: &[Spelling],
+    operation: &Operation<'_, F>,
     row: &R,
 ) -> Result<(), AllocError>
-    ensures { OnOk result (text.new.items ≡ stopped (system_of system.now) (operation_of operation.now) (R.values row.now)) }
+    ensures { OnOk result (text.new.items ≡ stopped elements.now (operation_of F.schema operation.now) (R.values row.now)) }
 {
     text.clear();
     text.extend_from_slice(operation.name)?;
     text.extend_from_slice(b": ")?;
-    append_binding(text, operation.schema, system.elements, row)
+    operation.schema.append_row(text, elements, row)
 }

@@ -1,15 +1,13 @@
 //! What is explored of a specification.
 use std::alloc::Global;
 use std::marker::PhantomData;
-use zf_meaning::env::Env;
-use zf_term::schema::Flat;
 use zf_texts::Spelling;
 
 /// A schema whose bindings are steps, with which of its components are those of the state before, and which are those of the state after.
 #[derive(Drop)]
-pub struct Operation<'p, 'a> {
+pub struct Operation<'p, F> {
     pub name: &'p [u8],
-    pub schema: &'p Flat<'a>,
+    pub schema: &'p F,
     /// Of each component of the schema, which component of the state before it is, if it is one.
     pub sources: Vec<Option<usize>>,
     /// The places of the components of the state after, in their order.
@@ -17,18 +15,18 @@ pub struct Operation<'p, 'a> {
     /// The places of those of neither.
     pub others: Vec<usize>,
     /// A schema of the latter alone.
-    pub label: &'p Flat<'a>,
+    pub label: &'p F,
 }
 
 /// The schema of the state, of which each component is one of the state before, that of the initial states, and the operations; in an environment, with how elements are spelled.
 #[derive(Drop)]
-pub struct System<'p, 'e, 'g, 'a, S> {
+pub struct System<'p, E, F, S> {
     pub alloc: Global,
-    pub env: &'e Env<'g, 'a>,
+    pub env: &'p E,
     pub elements: &'p [Spelling],
-    pub state: Operation<'p, 'a>,
-    pub init: Operation<'p, 'a>,
-    pub operations: Vec<Operation<'p, 'a>>,
+    pub state: Operation<'p, F>,
+    pub init: Operation<'p, F>,
+    pub operations: Vec<Operation<'p, F>>,
     /// By which searches it is explored.
     pub searches: PhantomData<S>,
 }

@@ -1,0 +1,136 @@
+-- What the searches answer, in the turn of a node.
+use Rattle.std.proofs.Common.{◌+◌, ◌<◌, ◌∙◌, ◌∷◌, ◌≡◌, ◌⊎◌, [], ap, arith, Bool, false, inl, inr, List, None, Option, refl, Some, subst, suc, sym, true, ℕ}
+use Rattle.std.specs.Prelude.{unwrap_or}
+use Rattle.zf_graph.proofs.Going.{begins_with_none}
+use Rattle.zf_graph.specs.Explorations.{Turn}
+use Rattle.zf_graph.specs.Parts.{AreFirst, BeginsTurn}
+use Rattle.zf_lines.proofs.Fewer.{ahead_count, one_fewer}
+use Rattle.zf_reach.specs.declared.machine.Beginning.TheVariants as beginnings
+use Rattle.zf_reach.specs.declared.machine.Found.TheVariants as founds
+use Rattle.zf_reach.specs.Machines.{AdvancesTo}
+use Rattle.zf_value.specs.contracts.plain.ValueOrd.TheImpl.Laws as order_laws
+use Rattle.zf_value.specs.declared.plain.Value.{Value}
+use Rattle.zf_value.specs.Sets.{value_order}
+use Rattle.zf_walk.proofs.Lists.{AllPairs-nil, Contains-nil}
+use Rattle.zf_walk.specs.declared.judge.Truth.{Truth}
+use Rattle.zf_walk.specs.declared.judge.Truth.TheVariants.{Out, True}
+use Rattle.zf_walk.specs.declared.step.Step.TheVariants.{Breaks, End, Holds}
+use Rattle.zf_walk.specs.Conjuncts.{Conjuncts}
+use Rattle.zf_walk.specs.Events.{Event, IsEvent}
+use Rattle.zf_walk.specs.Progress.{Advances, Ahead, IsNoneAhead, SameRanges, Stage, Takes}
+use Rattle.zf_walk.specs.Rows.{ComesAfter}
+use Rattle.zf_enum.specs.Property.{property}
+use Rattle.zf_steps.proofs.Searching.{all_passed, begins_so, breaks_so, event_in, found_at, goes_on}
+use Rattle.zf_steps.specs.declared.node.Label.{Label}
+use Rattle.zf_steps.specs.declared.node.Node.{Node}
+use Rattle.zf_steps.specs.declared.node.Node.TheVariants.{State}
+use Rattle.zf_steps.specs.Finders.{BeginsFor}
+use Rattle.zf_steps.specs.Machines.{BeginsState, GoesOn, rows_ahead}
+use Rattle.zf_steps.specs.Searching.{HasFound, HasPassed}
+use Rattle.zf_steps.specs.Steps.{exploration, held_by, IsEventOf, IsFirstOf, IsStray, parts_of, searched, stopped, values_at}
+use Rattle.zf_steps.specs.Systems.{Operation, System}
+
+-- the row that a step gave
+row_of : (given row : List Value) (last : Option (List Value)) → given ≡ unwrap_or last [] → last ≡ Some row → given ≡ row
+row_of given row last g l = g ∙ ap (λ o. unwrap_or o []) l
+
+-- ---- a search goes on
+
+module _ (m : System) (eq : Node → Node → Bool) (number : ℕ) (o : Operation) (old new : Stage Value) (same : SameRanges old new) (given : List Value)
+    (gives : given ≡ unwrap_or new.last []) (stop : List ℕ) where
+  -- to one more step
+  pub goes_to : (values after : List Value) → values ≡ values_at o.others given → after ≡ values_at o.after given
+      → Advances value_order (property m.environment o.schema.conjuncts) Holds old new
+      → GoesOn m eq number o old new (founds.Edge (record { operation = number; values = values }) (State after)) stop
+  goes_to values after is is' (row, last, takes) = λ a now h.
+      let here : given ≡ row = row_of given row new.last gives last in
+      let Goes : List Value → List Value → Type 0 = λ v w. AdvancesTo (exploration m eq)
+      (founds.Edge (record { operation = number; values = v }) (State w)) a now (HasFound m eq a number o new) (HasPassed m eq a (number + 1)) stop in
+      subst (λ v. Goes v after) (sym (is ∙ ap (values_at o.others) here))
+      (subst (λ w. Goes (values_at o.others row) w) (sym (is'
+      ∙ ap (values_at o.after) here)) (goes_on m eq a number o old new now h same row takes, begins_so m eq a number o old new now h same row takes))
+
+  -- to one that can't be told
+  pub goes_out : stop ≡ stopped m.elements o given → Advances value_order (property m.environment o.schema.conjuncts) Breaks old new
+      → GoesOn m eq number o old new founds.Out stop
+  goes_out said (row, last, takes) = λ a now h.
+      let here : given ≡ row = row_of given row new.last gives last in
+      subst (λ t. AdvancesTo (exploration m eq) founds.Out a now (HasFound m eq a number o new) (HasPassed m eq a (number + 1)) t) (sym (said
+      ∙ ap (stopped m.elements o) here)) (breaks_so m eq a number o old new now h same row takes)
+
+  -- to the end
+  pub goes_over : Advances value_order (property m.environment o.schema.conjuncts) End old new → GoesOn m eq number o old new founds.Over stop
+  goes_over (last, none, past) = λ a now h.
+      let next : suc number ≡ number + 1 = omega arith in
+      subst (λ n. HasPassed m eq a n now) next (all_passed m eq a number o old new now h same none)
+
+-- with fewer rows ahead
+pub fewer_ahead : (s : Conjuncts Value) (old new : Stage Value) → SameRanges old new → Advances value_order s Holds old new → rows_ahead new < rows_ahead old
+fewer_ahead s old new same (row, last, takes) =
+    subst (λ rs. ahead_count value_order rs new.ahead < rows_ahead old) (sym same.ranges)
+    (one_fewer value_order order_laws.total-law s old.ranges old.after old.ahead new.ahead (record { row = row; truth = True }) takes)
+
+-- ---- the turn of a state begins
+
+module _ (m : System) (eq : Node → Node → Bool) (values : List Value) (begun new : Stage Value)
+    (begins : BeginsFor m.environment m.state.schema (held_by m.state.sources values) begun) where
+  abbrev conjuncts : Conjuncts Value
+  conjuncts = property m.environment m.state.schema.conjuncts
+
+  abbrev Found : Event Value → Type 0
+  Found x = IsEventOf m.environment m.state.schema (held_by m.state.sources values) x
+
+  -- what a search takes first is the first of all
+  first_taken : (x : Event Value) → Takes value_order conjuncts begun.ranges begun.after begun.ahead x new.ahead
+      → IsFirstOf m.environment m.state.schema (held_by m.state.sources values) x
+  first_taken x t = record {
+    event = found_at m eq (State values) 0 m.state begun.ranges begins.ranges x
+        (subst (λ n. IsEvent value_order conjuncts begun.ranges n x) begins.named t.event);
+    first = λ y f. let i = event_in m eq (State values) 0 m.state begun.ranges begins.ranges y f in
+        t.first y (subst (λ n. IsEvent value_order conjuncts begun.ranges n y) (sym begins.named) i) (begins.ahead y i);
+  }
+
+  none_there : IsNoneAhead value_order conjuncts begun.ranges begun.after begun.ahead → (x : Event Value) → Found x → ⊥
+  none_there none x f = let i = event_in m eq (State values) 0 m.state begun.ranges begins.ranges x f in
+      none x (subst (λ n. IsEvent value_order conjuncts begun.ranges n x) (sym begins.named) i) (begins.ahead x i)
+
+  nothing_first : (o : Operation) → AreFirst (searched m eq) (State values) o []
+  nothing_first o = record {
+    ascending = AllPairs-nil (λ (x y : Event Value). ComesAfter value_order x.row y.row);
+    are = λ x i. absurd (Contains-nil x i);
+    first = λ x y i f c. absurd (Contains-nil x i);
+  }
+
+  begun_so : (b : Bool) → IsStray m (State values) b → BeginsTurn (searched m eq) (State values) (record { stray = b; edges = [] })
+  begun_so b stray = (stray, begins_with_none (searched m eq) (State values) 0 (parts_of m (State values)) nothing_first)
+
+  module _ (stop : List ℕ) where
+    pub begins_regular : Advances value_order conjuncts Holds begun new → BeginsState m eq (State values) beginnings.Regular stop
+    begins_regular (row, last, takes) =
+        let stray : IsStray m (State values) false = (row, first_taken (record { row = row; truth = True }) takes) in
+        (record { stray = false; edges = [] }, (refl, begun_so false stray), (stray, refl))
+
+    pub begins_stray : Advances value_order conjuncts End begun new → BeginsState m eq (State values) beginnings.Stray stop
+    begins_stray (last, none, past) =
+        let stray : IsStray m (State values) true = none_there none in
+        (record { stray = true; edges = [] }, (refl, begun_so true stray), (stray, refl))
+
+    pub begins_out : (given : List Value) → given ≡ unwrap_or new.last [] → stop ≡ stopped m.elements m.state given
+        → Advances value_order conjuncts Breaks begun new → BeginsState m eq (State values) beginnings.Out stop
+    begins_out given gives said (row, last, takes) =
+        let here : given ≡ row = row_of given row new.last gives last in (
+          record { stray = false; edges = [] },
+          (
+            refl,
+            inl (
+              refl,
+              (
+                row,
+                first_taken (record { row = row; truth = Out }) takes,
+                said
+                    ∙ ap (stopped m.elements m.state) here,
+              ),
+            ),
+          ),
+          tt,
+        )

@@ -1,0 +1,14 @@
+-- Pieces that are appended one after another.
+use Rattle.std.proofs.Common.{◌++◌, ◌∙◌, ◌≡◌, ap, Err, List, Ok, OnOk, Result, ℕ}
+use Rattle.std.proofs.lemmas.List.{append_assoc}
+use Rattle.std.specs.Prelude.{if◌then◌else◌}
+use Rattle.std.specs.Result.{is_ok}
+
+pub three_pieces : (line a b d u v w : List ℕ) → u ≡ line ++ a → v ≡ u ++ b → w ≡ v ++ d → w ≡ line ++ (a ++ (b ++ d))
+three_pieces line a b d u v w p q r =
+    r ∙ ap (λ x. x ++ d) (q ∙ ap (λ x. x ++ b) p) ∙ append_assoc (line ++ a) b d ∙ append_assoc line a (b ++ d)
+
+-- what is so where nothing is refused
+pub if_appended : {T E : Type 0} (r : Result T E) (w x y : List ℕ) → w ≡ (if is_ok r then x else y) → OnOk r (w ≡ x)
+if_appended (Ok v) w x y h = h
+if_appended (Err e) w x y h = tt

@@ -1,0 +1,18 @@
+-- One more search.
+use Rattle.std.proofs.Common.{◌+◌, map, subst, sym, take}
+use Rattle.zf_steps.proofs.Fitting.{for_item}
+use Rattle.zf_steps.proofs.renewed.searches_among.Goals as goal
+use Rattle.zf_steps.specs.Fitting.{AreFor}
+use Rattle.zf_steps.specs.Renewing.{CanSearch, IsFor}
+use Rattle.zf_meaning.specs.Envs.{environment_of}
+use Rattle.zf_term.specs.SchemaViews.{schema_of}
+use Rattle.zf_steps.specs.Systems.{operation_of, system_of}
+
+pub loop-operation-preserved : goal.loop-operation-preserved
+loop-operation-preserved c =
+    let e = (system_of environment_of schema_of c.args.system.now).environment in
+    subst (AreFor IsFor e (map (λ o. (operation_of schema_of o).schema) (take (c.loop-operation.operation-index + 1) c.args.operations.now)))
+    (sym c.in_ok-push.ensures.items)
+    (for_item IsFor e (λ o. (operation_of schema_of o).schema) (CanSearch e) c.args.operations.now c.loop-operation.operation-index _ c.operation-item.result
+    c.loop-operation.searches.items c.new.result
+    c.operation-item.is c.loop-operation-test.true c.requires c.loop-operation.invariant c.new.ensures)

@@ -1,0 +1,53 @@
+//! What an exploration asks of a schema and of an environment. It names neither type, so that the machine's statements stay small.
+ghost use Rattle.std.specs.Prelude.{◌≡◌, ◌++◌, OnOk};
+ghost use Rattle.zf_texts.specs.BindingTexts.{binding_text};
+
+use std::alloc::AllocError;
+use zf_meaning::env::Env;
+use zf_meaning::row::Row;
+use zf_term::schema::Flat;
+use zf_texts::{Spelling, append_binding};
+
+/// An environment, of which only what it means is asked.
+pub trait Surrounding {
+    ghost use Rattle.zf_meaning.specs.Environments.{Environment};
+
+    ghost environment: { Self → Environment };
+}
+
+/// A schema, whose bindings can be written.
+pub trait Schematic {
+    ghost use Rattle.zf_term.specs.Definitions.{Schema};
+
+    ghost schema: { Self → Schema };
+
+    /// Appends the line of a row, without the end of the line. A refusal leaves a part of it.
+    fn append_row<R: Row>(
+        &self,
+        text: &mut Vec<u8>,
+        elements: &[Spelling],
+        row: &R,
+    ) -> Result<(), AllocError>
+        ensures { OnOk result (text.new.items ≡ text.old.items ++ binding_text elements.now (schema self.now).comps (R.values row.now)) };
+}
+
+impl<'g, 'a> Surrounding for Env<'g, 'a> {
+    ghost use Rattle.zf_meaning.specs.Envs.{environment_of};
+
+    ghost environment = { environment_of };
+}
+
+impl<'a> Schematic for Flat<'a> {
+    ghost use Rattle.zf_term.specs.SchemaViews.{schema_of};
+
+    ghost schema = { schema_of };
+
+    fn append_row<R: Row>(
+        &self,
+        text: &mut Vec<u8>,
+        elements: &[Spelling],
+        row: &R,
+    ) -> Result<(), AllocError> {
+        append_binding(text, self, elements, row)
+    }
+}

@@ -1,0 +1,151 @@
+//! The lines of states and steps, each with its newline.
+ghost use Rattle.std.specs.Prelude.{◌≡◌, ◌-◌, ◌^◌, ◌++◌, ℕ, OnOk, Some, codes, decimal, min, slice_get};
+ghost use Rattle.zf_graph.specs.Texts.{broken};
+ghost use Rattle.zf_reach.specs.Machines.{ending_of};
+ghost use Rattle.zf_steps.specs.declared.node.Node.TheVariants.{State};
+ghost use Rattle.zf_steps.specs.Lines.{count_line, ending_line, label_text, operation_text, state_line, step_line};
+ghost use Rattle.zf_steps.specs.Systems.{operation_of, system_of};
+
+use crate::given::{Schematic, Surrounding};
+use crate::node::Label;
+use crate::system::{Operation, System};
+use itoa::Buffer;
+use std::alloc::AllocError;
+use zf_reach::Ending;
+use zf_value::value::Value;
+
+/// Appends `state 2: BINDING`. A refusal leaves a part of it.
+pub fn append_state<E: Surrounding, F: Schematic, S>(
+    line: &mut Vec<u8>,
+    system: &System<'_, E, F, S>,
+    number: usize,
+    values: &[Value],
+) -> Result<(), AllocError>
+    ensures { OnOk result (line.new.items ≡ line.old.items ++ state_line (system_of E.environment F.schema system.now) 0 number (State values.now)) }
+{
+    line.extend_from_slice(b"state ")?;
+    append_number(line, number)?;
+    line.extend_from_slice(b": ")?;
+    system
+        .state
+        .schema
+        .append_row(line, system.elements, &values)?;
+    line.extend_from_slice(b"\n")
+}
+
+/// Appends `step 1 OPERATION 2: LABEL`. A refusal leaves a part of it.
+pub fn append_step<E: Surrounding, F: Schematic, S>(
+    line: &mut Vec<u8>,
+    system: &System<'_, E, F, S>,
+    from: usize,
+    label: &Label,
+    number: usize,
+) -> Result<(), AllocError>
+    ensures { OnOk result (line.new.items ≡ line.old.items ++ step_line (system_of E.environment F.schema system.now) from label.now number) }
+{
+    if from == 0 {
+        return Ok(());
+    }
+    line.extend_from_slice(b"step ")?;
+    append_number(line, from)?;
+    line.extend_from_slice(b" ")?;
+    append_operation(line, system, label, number)?;
+    line.extend_from_slice(b"\n")
+}
+
+/// Appends `OPERATION 2: LABEL`.
+fn append_operation<E: Surrounding, F: Schematic, S>(
+    line: &mut Vec<u8>,
+    system: &System<'_, E, F, S>,
+    label: &Label,
+    number: usize,
+) -> Result<(), AllocError>
+    ensures { OnOk result (line.new.items ≡ line.old.items ++ operation_text (system_of E.environment F.schema system.now) (slice_get (system_of E.environment F.schema system.now).operations label.now.operation) number label.now.values) }
+{
+    match system.operations.get(label.operation) {
+        None => {
+            line.extend_from_slice(b" ")?;
+            append_number(line, number)
+        }
+        Some(operation) => {
+            append_named(line, system, operation, number, label.values.as_slice())
+        }
+    }
+}
+
+/// Appends `OPERATION 2: LABEL` of an operation.
+fn append_named<E: Surrounding, F: Schematic, S>(
+    line: &mut Vec<u8>,
+    system: &System<'_, E, F, S>,
+    operation: &Operation<'_, F>,
+    number: usize,
+    values: &[Value],
+) -> Result<(), AllocError>
+    ensures { OnOk result (line.new.items ≡ line.old.items ++ operation_text (system_of E.environment F.schema system.now) (Some (operation_of F.schema operation.now)) number values.now) }
+{
+    line.extend_from_slice(operation.name)?;
+    line.extend_from_slice(b" ")?;
+    append_number(line, number)?;
+    append_label(line, system, operation, values)
+}
+
+/// Appends `: BINDING` of what else a step has, and nothing where it has nothing.
+fn append_label<E: Surrounding, F: Schematic, S>(
+    line: &mut Vec<u8>,
+    system: &System<'_, E, F, S>,
+    operation: &Operation<'_, F>,
+    values: &[Value],
+) -> Result<(), AllocError>
+    ensures { OnOk result (line.new.items ≡ line.old.items ++ label_text (system_of E.environment F.schema system.now) (operation_of F.schema operation.now).label values.now) }
+{
+    if values.is_empty() {
+        return Ok(());
+    }
+    line.extend_from_slice(b": ")?;
+    operation.label.append_row(line, system.elements, &values)
+}
+
+/// Appends `end`, `more`, or what can't be told.
+pub fn append_ending(line: &mut Vec<u8>, ending: Ending, stop: &[u8]) -> Result<(), AllocError>
+    ensures { OnOk result (line.new.items ≡ line.old.items ++ ending_line (ending_of ending stop.now)) }
+{
+    match ending {
+        Ending::Ended => line.extend_from_slice(b"end\n"),
+        Ending::Paused => line.extend_from_slice(b"more\n"),
+        Ending::Broken => append_broken(line, stop),
+    }
+}
+
+/// Appends what can't be told.
+fn append_broken(line: &mut Vec<u8>, stop: &[u8]) -> Result<(), AllocError>
+    ensures { OnOk result (line.new.items ≡ line.old.items ++ ending_line (broken stop.now)) }
+{
+    line.extend_from_slice(b"out of bounds at: ")?;
+    line.extend_from_slice(stop)?;
+    line.extend_from_slice(b"\n")
+}
+
+/// Appends `2 states, 1 steps`.
+pub fn append_counts(line: &mut Vec<u8>, nodes: usize, edges: u64) -> Result<(), AllocError>
+    ensures { OnOk result ((n : ℕ) → edges ≡ min n (2 ^ 64 - 1) → line.new.items ≡ line.old.items ++ count_line nodes n) }
+{
+    append_number(line, nodes)?;
+    line.extend_from_slice(b" states, ")?;
+    line.extend_from_slice(Buffer::new().format(edges).as_bytes())?;
+    line.extend_from_slice(b" steps\n")
+}
+
+/// Appends a word, a number and a newline.
+pub fn append_numbered(line: &mut Vec<u8>, word: &[u8], number: usize) -> Result<(), AllocError>
+    ensures { OnOk result (line.new.items ≡ line.old.items ++ word.now ++ decimal number ++ codes "\n") }
+{
+    line.extend_from_slice(word)?;
+    append_number(line, number)?;
+    line.extend_from_slice(b"\n")
+}
+
+fn append_number(line: &mut Vec<u8>, number: usize) -> Result<(), AllocError>
+    ensures { OnOk result (line.new.items ≡ line.old.items ++ decimal number) }
+{
+    line.extend_from_slice(Buffer::new().format(number).as_bytes())
+}

@@ -1,0 +1,157 @@
+//! A specification as a machine that is explored.
+use crate::cursor::{Cursor, Part, begin_state, go_on, hold};
+use crate::finder::Finder;
+use crate::given::{Schematic, Surrounding};
+use crate::lines::{append_counts, append_ending, append_numbered, append_state, append_step};
+use crate::node::{Label, Node};
+use crate::system::System;
+use std::alloc::AllocError;
+use zf_reach::{Beginning, Ending, Found, Machine};
+
+impl<'p, E: Surrounding + Drop, F: Schematic + Drop, S: Finder + Drop> Machine
+    for System<'p, E, F, S> {
+    ghost use Rattle.std.proofs.Common.{refl};
+    ghost use Rattle.std.specs.Prelude.{length};
+    ghost use Rattle.zf_graph.proofs.Turns.{of_graph, sure};
+    ghost use Rattle.zf_steps.specs.contracts.node.NodePartialEq.TheImpl as nodes;
+    ghost use Rattle.zf_steps.specs.Lines.{lines};
+    ghost use Rattle.zf_steps.specs.Machines.{Fits, number_of, rows_ahead_at, search_of, Stands};
+    ghost use Rattle.zf_steps.specs.Searching.{HasPassed};
+    ghost use Rattle.zf_steps.specs.Steps.{exploration, parts_of, searched, steps};
+    ghost use Rattle.zf_steps.specs.SystemLaws.{all_parts, orderly};
+    ghost use Rattle.zf_steps.specs.Systems.{system_of};
+
+    type Node = Node;
+
+    type Label = Label;
+
+    type Cursor = Cursor<S>;
+
+    ghost explored = { λ m. exploration (system_of E.environment F.schema m) nodes.ghosts.eq };
+
+    ghost graph = { λ m. steps (system_of E.environment F.schema m) nodes.ghosts.eq };
+
+    ghost words = { λ m. lines (system_of E.environment F.schema m) };
+
+    ghost parts = { λ m a. length (parts_of (system_of E.environment F.schema m) a) };
+
+    ghost Fits = { λ m c. Fits S.IsFor (system_of E.environment F.schema m) c.state c.init c.operations.items c.part };
+
+    ghost HasPassed = { λ m. HasPassed (system_of E.environment F.schema m) nodes.ghosts.eq };
+
+    ghost Stands = { λ m c. Stands (system_of E.environment F.schema m) nodes.ghosts.eq S.stage c.part (search_of c.part c.init c.operations.items) };
+
+    ghost part = { λ c. number_of c.part };
+
+    ghost ahead = { λ c. rows_ahead_at S.stage (search_of c.part c.init c.operations.items) };
+
+    ghost stop = { λ c. c.stop.items };
+
+    ghost all_passed = { λ m. all_parts (system_of E.environment F.schema m) nodes.ghosts.eq };
+
+    ghost of_graph = { λ m. of_graph (searched (system_of E.environment F.schema m) nodes.ghosts.eq) (orderly (system_of E.environment F.schema m)) };
+
+    ghost sure = { λ m. sure (searched (system_of E.environment F.schema m) nodes.ghosts.eq) (orderly (system_of E.environment F.schema m)) };
+
+    ghost same_nodes = { λ m. refl };
+
+    fn root(&self) -> Result<Node, AllocError> {
+        Ok(Node::Root)
+    }
+
+    fn count(&self, of: &Node) -> usize {
+        match of {
+            Node::Root => 1,
+            Node::State(_) => self.operations.len(),
+        }
+    }
+
+    fn begin(&self, cursor: &mut Cursor<S>, of: &Node) -> Result<Beginning, AllocError> {
+        match of {
+            Node::Root => Ok(Beginning::Regular),
+            Node::State(values) => begin_state(
+                self,
+                values.as_slice(),
+                &mut cursor.state,
+                &mut cursor.stop,
+            ),
+        }
+    }
+
+    fn start(&self, cursor: &mut Cursor<S>, of: &Node, which: usize) -> Result<(), AllocError> {
+        match of {
+            Node::Root => {
+                cursor.part = Part::Initial;
+                hold(self.alloc, &self.init, &mut cursor.init, &[])
+            }
+            Node::State(values) => {
+                cursor.part = Part::Operation(which);
+                hold(
+                    self.alloc,
+                    &self.operations[which],
+                    &mut cursor.operations[which],
+                    values.as_slice(),
+                )
+            }
+        }
+    }
+
+    fn advance(&self, cursor: &mut Cursor<S>) -> Result<Found<Node, Label>, AllocError> {
+        match cursor.part {
+            Part::Initial => go_on(self, &self.init, 0, &mut cursor.init, &mut cursor.stop),
+            Part::Operation(number) => go_on(
+                self,
+                &self.operations[number],
+                number,
+                &mut cursor.operations[number],
+                &mut cursor.stop,
+            ),
+        }
+    }
+
+    fn append_node(
+        &self,
+        line: &mut Vec<u8>,
+        _from: usize,
+        number: usize,
+        of: &Node,
+    ) -> Result<(), AllocError> {
+        match of {
+            Node::Root => Ok(()),
+            Node::State(values) => append_state(line, self, number, values.as_slice()),
+        }
+    }
+
+    fn append_edge(
+        &self,
+        line: &mut Vec<u8>,
+        from: usize,
+        label: &Label,
+        number: usize,
+    ) -> Result<(), AllocError> {
+        append_step(line, self, from, label, number)
+    }
+
+    fn append_stray(&self, line: &mut Vec<u8>, number: usize) -> Result<(), AllocError> {
+        append_numbered(line, b"stray ", number)
+    }
+
+    fn append_stuck(&self, line: &mut Vec<u8>, number: usize) -> Result<(), AllocError> {
+        if number == 0 {
+            return Ok(());
+        }
+        append_numbered(line, b"stuck ", number)
+    }
+
+    fn append_last(
+        &self,
+        line: &mut Vec<u8>,
+        ending: Ending,
+        cursor: &Cursor<S>,
+        nodes: usize,
+        edges: u64,
+    ) -> Result<(), AllocError> {
+        append_ending(line, ending, &cursor.stop)?;
+        append_counts(line, nodes, edges)
+    }
+}
