@@ -11,7 +11,9 @@ pub mod Testing
 pub mod Narrowing
 pub mod Moving
 pub mod Marking
+pub mod Sieving
 pub mod Stepping
+pub mod Leaping
 pub mod Alike
 pub mod Counting
 pub mod Walking

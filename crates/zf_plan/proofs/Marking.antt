@@ -91,21 +91,25 @@ module _ {V : Type 0} (l : Conjuncts V) (trees : List Tree) (ranges : List (List
   pub stays-all : StaysChoice l trees ranges k n places None
   stays-all others w e first i v more at out is = absurd (out tt)
 
+  -- what is False where these first values are the same
+  pub stays-false : (uses : ℕ → ℕ → Bool) → FollowUsed l uses → AreDueWithin l (length ranges) → AreWithin ranges places → length places ≡ k → (tree : Tree) → HasLeavesWithin l.number tree → UsesFirst uses n k tree
+      → (others : List ℕ) → AreWithin ranges others → length others ≡ k → take n others ≡ take n places → (x : V) (more : List V) → IsRowOf ranges (picked ranges others ++ x ∷ more)
+      → (IsRowOf ranges (picked ranges places ++ x ∷ more) → IsTreeTruth l tree (picked ranges places ++ x ∷ more) False) → IsTreeTruth l tree (picked ranges others ++ x ∷ more) False
+  stays-false uses follow due w long tree leaves u others v e first x more is h =
+      let m = row-front ranges places others w v (e ∙ sym long) (x ∷ more) is in
+      let a : length (picked ranges places ++ x ∷ more) ≡ length ranges = length-row (picked ranges places ++ x ∷ more) m in
+      let b : length (picked ranges others ++ x ∷ more) ≡ length ranges = length-row (picked ranges others ++ x ∷ more) is in
+      tree-follows l uses follow n k (picked ranges places ++ x ∷ more) (picked ranges others ++ x ∷ more)
+      (λ c h. same-get ranges places others w v (e ∙ sym long) n first (x ∷ more) c (subst (λ d. (d ≤ c) ⊎ (c < n)) (sym long) h))
+      (λ c m. omega (arith, due c m, a)) (b ∙ sym a) tree leaves u False (h m) where
+        length-row : (row : List V) → IsRowOf ranges row → length row ≡ length ranges
+        length-row row m = IsRowOf-length ranges row m
+
   -- what a conjunct leaves that uses these first values alone
   pub stays-narrowed : (uses : ℕ → ℕ → Bool) → FollowUsed l uses → AreDueWithin l (length ranges) → AreWithin ranges places → length places ≡ k → (j : ℕ) → j < length trees → HasLeavesWithin l.number (tree_at trees j)
       → UsesFirst uses n k (tree_at trees j) → (left : List ℕ) → Narrows l (tree_at trees j) ranges (picked ranges places) (get_or ranges k []) left → StaysChoice l trees ranges k n places (Some left)
   stays-narrowed uses follow due w long j near leaves u left h others v e first i x more at out is =
-      let m = row-front ranges places others w v (e ∙ sym long) (x ∷ more) is in
-      let a : length (picked ranges places ++ x ∷ more) ≡ length ranges = length-row (picked ranges places ++ x ∷ more) m in
-      let b : length (picked ranges others ++ x ∷ more) ≡ length ranges = length-row (picked ranges others ++ x ∷ more) is in (
-        j,
-        near,
-        tree-follows l uses follow n k (picked ranges places ++ x ∷ more) (picked ranges others ++ x ∷ more)
-            (λ c h. same-get ranges places others w v (e ∙ sym long) n first (x ∷ more) c (subst (λ d. (d ≤ c) ⊎ (c < n)) (sym long) h))
-            (λ c m. omega (arith, due c m, a)) (b ∙ sym a) (tree_at trees j) leaves u False (h i x more at out m),
-      ) where
-        length-row : (row : List V) → IsRowOf ranges row → length row ≡ length ranges
-        length-row row m = IsRowOf-length ranges row m
+      (j, near, stays-false uses follow due w long (tree_at trees j) leaves u others v e first x more is (λ m. h i x more at out m))
 
 -- ---- marks
 
@@ -123,6 +127,15 @@ module _ {V : Type 0} (l : Conjuncts V) (trees : List Tree) (ranges : List (List
     small = h.small;
     still = λ is. absurd (false≢true (sym no' ∙ is));
   }
+
+  -- all values, which are always a choice
+  pub kept-all : (stamps places : List ℕ) (k : ℕ) (choice other : Option (List ℕ)) (mark : Mark) → other ≡ None → IsKept l trees ranges stamps places k choice mark → IsKept l trees ranges stamps places k other mark
+  kept-all stamps places k choice other mark all h = subst (λ c. IsKept l trees ranges stamps places k c mark) (sym all) (record {
+    few = h.few;
+    past = h.past;
+    small = h.small;
+    still = λ is within. stays-all l trees ranges k mark.due places;
+  })
 
   -- a move that leaves the first k values
   module _ (k : ℕ) (p q : Place) (deep : k ≤ p.depth) (at : IsAt ranges p) (bt : IsAt ranges q) (short : q.depth ≤ k + 1)

@@ -7,7 +7,7 @@ use Rattle.zf_plan.specs.Marks.{Renews}
 use Rattle.zf_plan.specs.declared.marks.Marks.{Marks}
 
 -- what the row has behind a road is a row of the ranges behind it
-tail-row : {V : Type 0} (road tail : List V) (ranges : List (List V)) → IsRowOf ranges (road ++ tail) → IsRowOf (drop (length road) ranges) tail
+pub tail-row : {V : Type 0} (road tail : List V) (ranges : List (List V)) → IsRowOf ranges (road ++ tail) → IsRowOf (drop (length road) ranges) tail
 tail-row [] tail ranges m = m
 tail-row (x ∷ road) tail [] m = absurd m
 tail-row (x ∷ road) tail (r ∷ ranges) m = tail-row road tail ranges m.1

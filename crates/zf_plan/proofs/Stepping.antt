@@ -44,7 +44,7 @@ module _ {V : Type 0} {cmp : V → V → Ordering} {l : Conjuncts V} {used : ℕ
       ev.not_false (IsTruthOf-false (planted l trees) one e.row r.0 e.truth r.1 (let d = due r.0 r.1 in omega arith) (subst (λ row. (planted l trees).says r.0 row False) is (r.2 tail)) ev.truth_of)
 
   -- a value that is not chosen begins no event
-  unchosen-none : (row range : List V) (choice : Option (List ℕ)) (i : ℕ) (v : V) → IsChoice l trees ranges row range choice → slice_get range i ≡ Some v → (IsChosen choice i → ⊥) → (e : Event V) (tail : List V) → IsEvent cmp (planted l trees) ranges after e → row ++ v ∷ tail ≡ e.row → ⊥
+  pub unchosen-none : (row range : List V) (choice : Option (List ℕ)) (i : ℕ) (v : V) → IsChoice l trees ranges row range choice → slice_get range i ≡ Some v → (IsChosen choice i → ⊥) → (e : Event V) (tail : List V) → IsEvent cmp (planted l trees) ranges after e → row ++ v ∷ tail ≡ e.row → ⊥
   unchosen-none row range choice i v chosen at out e tail ev is =
       let m = IsRowOf-length ranges e.row ev.within in
       let r = chosen i v tail at out (subst (IsRowOf ranges) (sym is) ev.within) in

@@ -1,10 +1,16 @@
 -- Which values of a range are tried: for private contracts and the model of `Search` alone.
-use Rattle.std.specs.Prelude.{◌≡◌, ℕ, ◌<◌, ◌≤◌, Bool, false, List, [], ◌∷◌, ◌++◌, length, take, Option, Some, None, Contains, slice_get, slice_index_or}
+use Rattle.std.specs.Prelude.{◌≡◌, ℕ, suc, ◌<◌, ◌≤◌, Bool, true, false, List, [], ◌∷◌, ◌++◌, length, take, Option, Some, None, Contains, slice_get, slice_index_or}
 use Rattle.zf_walk.specs.declared.judge.Truth.TheVariants.{False}
 use Rattle.zf_walk.specs.Conjuncts.{Conjuncts}
 use Rattle.zf_walk.specs.Picked.{AreWithin, picked}
 use Rattle.zf_walk.specs.Rows.{IsRowOf}
 use Rattle.zf_plan.specs.Trees.{Tree, leaf, negated, both, either, IsTreeTruth, tree_at}
+
+-- the numbers, from n on, of those that are marked as passing
+abbrev pub passing : ℕ → List Bool → List ℕ
+passing n [] = []
+passing n (true ∷ passes) = n ∷ passing (suc n) passes
+passing n (false ∷ passes) = passing (suc n) passes
 
 -- the place is one of those that are chosen, or all are
 abbrev pub IsChosen : Option (List ℕ) → ℕ → Type 0

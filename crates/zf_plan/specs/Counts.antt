@@ -12,10 +12,11 @@ use Rattle.zf_plan.specs.Places.{bound}
 use Rattle.zf_plan.specs.declared.place.Place.{Place}
 use Rattle.zf_plan.specs.declared.plan.Plan.{Plan}
 
--- Each conjunct is a leaf, and no component is narrowed.
+-- Each conjunct is a leaf, and no component is narrowed or sifted.
 pub record IsPlain {V : Type 0} (l : Conjuncts V) (trees : List Tree) (planned : Plan) : Type 0 where
   pub flat : IsFlat l.number trees
   pub none : (k : ℕ) → slice_index_or planned.narrowing.items k [] ≡ []
+  pub unsifted : (k : ℕ) → slice_index_or planned.sifting.items k [] ≡ []
 
 -- which rows that begin with a given one are ahead, by what they have behind it: all, those that go on, or none
 abbrev pub all_of : {V : Type 0} → List V → Bool

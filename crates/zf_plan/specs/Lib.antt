@@ -10,6 +10,7 @@ pub mod Marks
 pub mod Knowing
 pub mod Testing
 pub mod Choosing
+pub mod Sieves
 pub mod Places
 pub mod Counts
 pub mod Searches

@@ -59,6 +59,8 @@ pub record IsPlan {V : Type 0} (l : Conjuncts V) (uses : ℕ → ℕ → Bool) (
   pub touched : AreAll (λ k. AreTouched l trees k (length trees)) n plan.touched.items
   pub narrowing : AreAll (λ k. AreBelow (length trees)) n plan.narrowing.items
   pub lasts : AreAll (λ k. AreLasts uses trees k (slice_index_or plan.narrowing.items k [])) n plan.lasts.items
+  pub sifting : AreAll (λ k. AreBelow (length trees)) n plan.sifting.items
+  pub sifting_lasts : AreAll (λ k. AreLasts uses trees k (slice_index_or plan.sifting.items k [])) n plan.sifting_lasts.items
 
 -- ---- places
 
@@ -152,6 +154,10 @@ Lands end k i old new = (new.found.items ≡ old.found.items) × (((i < end) × 
 -- to the next chosen place from one on
 abbrev pub LandsNext : ℕ → Option (List ℕ) → ℕ → ℕ → Place → Place → Type 0
 LandsNext end choice k from old new = (next : ℕ) × IsNextChoice choice from next × Lands end k next old new
+
+-- the place is the same, or past the first values of which the choice of a range was made, which is none of all values and was made of those
+abbrev pub Leaps : ℕ → Option (List ℕ) → Place → Place → Type 0
+Leaps range choice old new = (new ≡ old) ⊎ ((old.fresh ≡ false) × (choice ≢ None) × (is_still old.marks.stamps.items (mark_at old.marks range) ≡ true) × (new ≡ record old { depth = (mark_at old.marks range).due }))
 
 -- the place is the same, but for the mark of what is chosen of the next range
 pub record IsMarked (old new : Place) : Type 0 where

@@ -1,33 +1,48 @@
 //! The values of a range that are tried.
-ghost use Rattle.std.specs.Prelude.{◌≡◌, ◌≤◌, ◌<◌, ℕ, length, slice_index_or, Contains, IfOk, None};
-ghost use Rattle.zf_plan.specs.Choosing.{IsNextChoice};
+ghost use Rattle.std.specs.Prelude.{◌≡◌, ◌≤◌, ◌<◌, ℕ, true, length, slice_index_or, Contains, IfOk, None};
+ghost use Rattle.zf_plan.specs.Choosing.{IsNextChoice, passing};
 
 use std::alloc::{AllocError, Global};
 use std::marker::Model;
 
-/// All places of a range, or those of a list, in any order.
+/// All places of a range, or those that are marked as passing, or those of a list, in any order.
 #[derive(Drop)]
 pub struct Choice {
     pub all: bool,
+    /// Whether all places are chosen only until the same first values come again.
+    pub waits: bool,
+    pub marked: bool,
+    pub passes: Vec<bool>,
     pub places: Vec<usize>,
 }
 
 impl Model for Choice {
     ghost use Rattle.std.specs.Prelude.{ℕ, List, Option, Some, None, cond};
+    ghost use Rattle.zf_plan.specs.Choosing.{passing};
 
     ghost Value = { Option (List ℕ) };
 
-    ghost view = { λ c. cond c.all None (Some c.places.items) };
+    ghost view = { λ c. cond c.all None (Some (cond c.marked (passing 0 c.passes.items) c.places.items)) };
 }
 
 impl Choice {
+    /// Whether all places are chosen only until the same first values come again.
+    pub fn is_waiting(&self) -> bool
+        ensures { result ≡ true → self.now ≡ None }
+    {
+        self.all && self.waits
+    }
+
     /// The first chosen place from one on, or where there is none before the end, the end.
     pub fn next(&self, from: usize, end: usize) -> usize
         requires { from ≤ end }
         ensures { IsNextChoice self.now from result }
     {
         if self.all {
-            from
+            return from;
+        }
+        if self.marked {
+            first_passing(&self.passes, from, end)
         } else {
             least_from(&self.places, from, end)
         }
@@ -44,10 +59,38 @@ pub fn all_chosen(alloc: Global, ranges: usize) -> Result<Vec<Choice>, AllocErro
     for range in 0..ranges {
         choices.push(Choice {
             all: true,
+            waits: false,
+            marked: false,
+            passes: Vec::new(alloc),
             places: Vec::new(alloc),
         })?;
     }
     Ok(choices)
+}
+
+/// The first place from one on that is marked as passing, up to the end.
+fn first_passing(passes: &[bool], from: usize, end: usize) -> usize
+    requires { from ≤ end }
+    ensures up { from ≤ result }
+    ensures skipped { (i : ℕ) → from ≤ i → i < result → Contains (passing 0 passes.now) i → ⊥ }
+{
+    for place in from..end {
+        if is_passing(passes, place) {
+            return place;
+        }
+    }
+    end
+}
+
+/// Whether a place is marked as passing.
+fn is_passing(passes: &[bool], place: usize) -> bool
+    ensures { Contains (passing 0 passes.now) place → result ≡ true }
+{
+    if place < passes.len() {
+        passes[place]
+    } else {
+        false
+    }
 }
 
 /// The least of these places from one on, up to the end.

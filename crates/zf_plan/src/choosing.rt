@@ -141,10 +141,12 @@ pub fn choose<V: Ord, J: Guide<V>>(
     match found {
         Some(i) => {
             choice.all = false;
+            choice.marked = false;
             Ok(lasts[i])
         }
         None => {
             choice.all = true;
+            choice.waits = false;
             Ok(made_of(conjuncts, places))
         }
     }

@@ -1,10 +1,10 @@
 //! What is known of trees at a row. The truth of each leaf is asked for once on the values that it needs.
-ghost use Rattle.std.specs.Prelude.{◌≡◌, ◌≢◌, ◌<◌, Ok, [], length, IfOk};
+ghost use Rattle.std.specs.Prelude.{◌≡◌, ◌≢◌, ◌<◌, Ok, [], length, IfOk, IfSome};
 ghost use Rattle.zf_walk.specs.declared.judge.Truth.TheVariants.{False};
 ghost use Rattle.zf_walk.specs.Picked.{AreWithin, picked};
 ghost use Rattle.zf_plan.specs.Trees.{tree_at, HasLeavesWithin, HaveLeavesWithin};
 ghost use Rattle.zf_plan.specs.Groves.{trees_made, trees_of};
-ghost use Rattle.zf_plan.specs.Knowing.{Remembers, IsKnown, IsSoFar, IsLeafOrBelow, IsAmong, AreBelow};
+ghost use Rattle.zf_plan.specs.Knowing.{Remembers, IsKnown, IsSettled, IsSoFar, IsLeafOrBelow, IsAmong, AreBelow};
 
 use crate::forest::Forest;
 use crate::known::{both, either, join, not};
@@ -34,6 +34,9 @@ pub fn evaluate<V, J: Judge<V>>(
         Node::Leaf(of) => memo.look(judge, ranges, places, of),
         Node::Not(of) => Ok(not(evaluate(judge, forest, ranges, places, of, memo)?)),
         Node::And(left, right) => {
+            if let Some(Truth::False) = told(judge, forest, ranges, places, right, memo) {
+                return Ok(Some(Truth::False));
+            }
             let first = evaluate(judge, forest, ranges, places, left, memo)?;
             if let Some(Truth::False) = first {
                 return Ok(first);
@@ -42,6 +45,9 @@ pub fn evaluate<V, J: Judge<V>>(
             Ok(both(first, second))
         }
         Node::Or(left, right) => {
+            if let Some(Truth::True) = told(judge, forest, ranges, places, right, memo) {
+                return Ok(Some(Truth::True));
+            }
             let first = evaluate(judge, forest, ranges, places, left, memo)?;
             if let Some(Truth::True) = first {
                 return Ok(first);
@@ -49,6 +55,27 @@ pub fn evaluate<V, J: Judge<V>>(
             let second = evaluate(judge, forest, ranges, places, right, memo)?;
             Ok(either(first, second))
         }
+    }
+}
+
+/// What is known of a tree without a question, if it is a leaf.
+fn told<V, J: Judge<V>>(
+    judge: &J,
+    forest: &Forest,
+    ranges: &[Range<V>],
+    places: &[usize],
+    part: usize,
+    memo: &Memo,
+) -> Option<Truth>
+    requires part { part < length (trees_made forest.now) }
+    requires leaves { HasLeavesWithin (J.conjuncts judge.now).number (tree_at (trees_made forest.now) part) }
+    requires within { AreWithin ranges.now places.now }
+    requires remembers { Remembers (J.conjuncts judge.now) (J.is_used judge.now) ranges.now places.now memo.now }
+    ensures { IfSome result (IsSettled (J.conjuncts judge.now) (tree_at (trees_made forest.now) part) (picked ranges.now places.now)) }
+{
+    match forest.node(part) {
+        Node::Leaf(of) => memo.told(judge, ranges, places, of),
+        _ => None,
     }
 }
 

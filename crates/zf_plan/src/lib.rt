@@ -16,6 +16,7 @@ mod node;
 mod place;
 mod plan;
 mod search;
+mod sieve;
 mod steps;
 mod walk;
 

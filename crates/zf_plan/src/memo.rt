@@ -1,12 +1,12 @@
 //! What a search remembers of the leaves.
-ghost use Rattle.std.specs.Prelude.{◌≡◌, ◌≢◌, ◌+◌, ◌<◌, ◌≤◌, ◌^◌, length, IfOk, OnErr};
+ghost use Rattle.std.specs.Prelude.{◌≡◌, ◌≢◌, ◌+◌, ◌<◌, ◌≤◌, ◌^◌, length, IfOk, IfSome, OnErr};
 ghost use Rattle.zf_walk.specs.declared.judge.Truth.TheVariants.{False};
 ghost use Rattle.zf_walk.specs.Progress.{AreDueWithin};
 ghost use Rattle.zf_walk.specs.Picked.{AreWithin, picked};
 ghost use Rattle.zf_walk.specs.Tables.{AreTrue};
 ghost use Rattle.zf_plan.specs.Trees.{leaf};
 ghost use Rattle.zf_plan.specs.Memories.{Forgets, IsNew};
-ghost use Rattle.zf_plan.specs.Knowing.{Remembers, IsKnown};
+ghost use Rattle.zf_plan.specs.Knowing.{Remembers, IsKnown, IsSettled};
 ghost use Rattle.zf_plan.specs.Testing.{AreLeaves, IsTested, Tests};
 ghost use Rattle.zf_plan.specs.Stamps.{AreUnknown, IsCleared, cleared};
 
@@ -135,6 +135,30 @@ impl Memo {
             truth,
         };
         Ok(Some(truth))
+    }
+
+    /// What is known of a leaf without a question.
+    pub fn told<V, J: Judge<V>>(
+        &self,
+        judge: &J,
+        ranges: &[Range<V>],
+        places: &[usize],
+        of: usize,
+    ) -> Option<Truth>
+        requires of { of < (J.conjuncts judge.now).number }
+        requires within { AreWithin ranges.now places.now }
+        requires remembers { Remembers (J.conjuncts judge.now) (J.is_used judge.now) ranges.now places.now self.now }
+        ensures { IfSome result (IsSettled (J.conjuncts judge.now) (leaf of) (picked ranges.now places.now)) }
+    {
+        let leaf = self.leaves[of];
+        if leaf.due > places.len() {
+            return None;
+        }
+        let stamp = self.stamps[leaf.due];
+        if leaf.stamp == stamp {
+            return Some(leaf.truth);
+        }
+        None
     }
 
     /// Forgets the truths of the leaves that need so many values.

@@ -1,7 +1,8 @@
 //! The moves of a search, whatever the conjuncts say.
 ghost use Rattle.std.specs.Prelude.{◌≡◌, ◌+◌, ◌-◌, ◌<◌, ◌≤◌, [], length, slice_index_or, None};
 ghost use Rattle.zf_plan.specs.Memories.{Forgets};
-ghost use Rattle.zf_plan.specs.Places.{IsAt, Lands, LandsNext};
+ghost use Rattle.zf_plan.specs.Marks.{mark_at};
+ghost use Rattle.zf_plan.specs.Places.{IsAt, Lands, LandsNext, Leaps};
 
 use crate::choice::Choice;
 use crate::memo::Memo;
@@ -58,4 +59,25 @@ pub fn retreat<V>(ranges: &[Range<V>], choices: &[Choice], place: &mut Place, me
     let next = choice.next(from, end);
     memo.forget(last + 1);
     land(place, last, next, end);
+}
+
+/// Goes back past the first values of which the choice of a range was made: where that leaves no value, no event begins with them.
+pub fn leap(choices: &[Choice], place: &mut Place, range: usize)
+    requires choices { range < length choices.now }
+    requires marks { range < length place.old.marks.choices.items }
+    requires due { (mark_at place.old.marks range).due < length place.old.marks.stamps.items }
+    ensures { Leaps range (slice_index_or choices.now range None) place.old place.new }
+{
+    if place.fresh {
+        return;
+    }
+    let choice = &choices[range];
+    if choice.all {
+        return;
+    }
+    if !place.marks.is_still(range) {
+        return;
+    }
+    let mark = place.marks.choices[range];
+    place.depth = mark.due;
 }

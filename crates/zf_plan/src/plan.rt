@@ -11,15 +11,17 @@ use crate::guide::Guide;
 use crate::listed::Listed;
 use crate::node::Node;
 use std::alloc::{AllocError, Global};
-use zf_walk::Judge;
+use zf_walk::{Judge, Range};
 
-/// For each number of values the leaves that are conjuncts and need so many, the other conjuncts that have such a leaf, those that narrow the next component, and for each of these of how many first values it and those before it do so.
+/// For each number of values the leaves that are conjuncts and need so many, the other conjuncts that have such a leaf, those that narrow the next component, and for each of these of how many first values it and those before it do so; and the same of those by which the values of the next component are sifted.
 #[derive(Drop)]
 pub struct Plan {
     pub due: Vec<Listed>,
     pub touched: Vec<Listed>,
     pub narrowing: Vec<Listed>,
     pub lasts: Vec<Listed>,
+    pub sifting: Vec<Listed>,
+    pub sifting_lasts: Vec<Listed>,
 }
 
 impl Plan {
@@ -27,6 +29,7 @@ impl Plan {
         alloc: Global,
         judge: &J,
         forest: &Forest,
+        ranges: &[Range<V>],
         components: usize,
     ) -> Result<Plan, AllocError>
         requires leaves { HaveLeavesWithin (J.conjuncts judge.now).number (trees_of forest.now) }
@@ -37,15 +40,19 @@ impl Plan {
         let touched = all_touched(alloc, judge, forest, components)?;
         let narrowing = all_narrowing(alloc, judge, forest, components)?;
         let lasts = all_lasts(alloc, judge, forest, &narrowing, components)?;
+        let sifting = all_sifting(alloc, judge, forest, ranges, &narrowing, components)?;
+        let sifting_lasts = all_lasts(alloc, judge, forest, &sifting, components)?;
         Ok(Plan {
             due,
             touched,
             narrowing,
             lasts,
+            sifting,
+            sifting_lasts,
         })
     }
 
-    /// One by which no component is narrowed.
+    /// One by which no component is narrowed or sifted.
     pub fn plain<V, J: Judge<V>>(
         alloc: Global,
         judge: &J,
@@ -56,16 +63,21 @@ impl Plan {
         requires room { components + 1 < 2 ^ 64 }
         ensures plan { IfOk result (IsPlan (J.conjuncts judge.now) (J.is_used judge.now) (trees_of forest.now) components) }
         ensures none { IfOk result (λ p. (k : ℕ) → slice_index_or p.narrowing.items k [] ≡ []) }
+        ensures unsifted { IfOk result (λ p. (k : ℕ) → slice_index_or p.sifting.items k [] ≡ []) }
     {
         let due = all_due(alloc, judge, forest, components)?;
         let touched = all_touched(alloc, judge, forest, components)?;
         let narrowing = none_narrowing(alloc, components)?;
         let lasts = none_narrowing(alloc, components)?;
+        let sifting = none_narrowing(alloc, components)?;
+        let sifting_lasts = none_narrowing(alloc, components)?;
         Ok(Plan {
             due,
             touched,
             narrowing,
             lasts,
+            sifting,
+            sifting_lasts,
         })
     }
 }
@@ -346,4 +358,116 @@ fn last_of_leaf<V, J: Judge<V>>(judge: &J, of: usize, component: usize) -> usize
         last -= 1;
     }
     last
+}
+
+/// For each number of values the conjuncts by which those of the next component are sifted.
+fn all_sifting<V: Ord, J: Guide<V>>(
+    alloc: Global,
+    judge: &J,
+    forest: &Forest,
+    ranges: &[Range<V>],
+    narrowing: &[Listed],
+    components: usize,
+) -> Result<Vec<Listed>, AllocError>
+    requires leaves { HaveLeavesWithin (J.conjuncts judge.now).number (trees_of forest.now) }
+    requires narrowing { AreAll (λ k. AreBelow (length (trees_of forest.now))) components narrowing.now }
+    requires room { components + 1 < 2 ^ 64 }
+    ensures { IfOk result (λ lists. AreAll (λ k. AreBelow (length (trees_of forest.now))) components lists.items) }
+{
+    let mut sifting = Vec::new(alloc);
+    for component in 0..components + 1 {
+        let narrowed = &narrowing[component];
+        let may = narrowed.numbers.len() == 0;
+        sifting.push(sifting_at(alloc, judge, forest, ranges, may, component)?)?;
+    }
+    Ok(sifting)
+}
+
+/// The conjuncts by which the values of a component are sifted, if it may be: those that use the fewest components before it, where the others before it have many rows.
+#[tactic(auto, using(crate::proofs::Numbers::below_push))]
+fn sifting_at<V: Ord, J: Guide<V>>(
+    alloc: Global,
+    judge: &J,
+    forest: &Forest,
+    ranges: &[Range<V>],
+    may: bool,
+    component: usize,
+) -> Result<Listed, AllocError>
+    requires leaves { HaveLeavesWithin (J.conjuncts judge.now).number (trees_of forest.now) }
+    requires room { component + 1 < 2 ^ 64 }
+    ensures { IfOk result (AreBelow (length (trees_of forest.now))) }
+{
+    let mut numbers = Vec::new(alloc);
+    if !may {
+        return Ok(Listed { numbers });
+    }
+    let least = fewest_used(judge, forest, component);
+    if !are_many(ranges, least, component) {
+        return Ok(Listed { numbers });
+    }
+    for conjunct in 0..forest.count() {
+        if used_by_sieve(judge, forest, forest.root(conjunct), component) == least {
+            numbers.push(conjunct)?;
+        }
+    }
+    Ok(Listed { numbers })
+}
+
+/// How few first components a conjunct uses by which the values of a component can be sifted; all before it where there is none.
+fn fewest_used<V: Ord, J: Guide<V>>(judge: &J, forest: &Forest, component: usize) -> usize
+    requires leaves { HaveLeavesWithin (J.conjuncts judge.now).number (trees_of forest.now) }
+    requires room { component + 1 < 2 ^ 64 }
+{
+    let mut least = component;
+    for conjunct in 0..forest.count() {
+        least = used_by_sieve(judge, forest, forest.root(conjunct), component).min(least);
+    }
+    least
+}
+
+/// How many first components a tree uses of those before one, if it uses that one and no later; else all.
+fn used_by_sieve<V: Ord, J: Guide<V>>(
+    judge: &J,
+    forest: &Forest,
+    part: usize,
+    component: usize,
+) -> usize
+    requires part { part < length (trees_made forest.now) }
+    requires leaves { HasLeavesWithin (J.conjuncts judge.now).number (tree_at (trees_made forest.now) part) }
+    requires room { component + 1 < 2 ^ 64 }
+{
+    if !is_touched(judge, forest, part, component + 1) {
+        return component;
+    }
+    if !is_due_within(judge, forest, part, component + 1) {
+        return component;
+    }
+    last_used(judge, forest, part, component)
+}
+
+/// Whether no leaf of a tree needs more values than so many.
+fn is_due_within<V: Ord, J: Guide<V>>(judge: &J, forest: &Forest, part: usize, due: usize) -> bool
+    requires part { part < length (trees_made forest.now) }
+    requires leaves { HasLeavesWithin (J.conjuncts judge.now).number (tree_at (trees_made forest.now) part) }
+{
+    match forest.node(part) {
+        Node::Leaf(of) => judge.due(of) <= due,
+        Node::Not(of) => is_due_within(judge, forest, of, due),
+        Node::And(left, right) => {
+            is_due_within(judge, forest, left, due) && is_due_within(judge, forest, right, due)
+        }
+        Node::Or(left, right) => {
+            is_due_within(judge, forest, left, due) && is_due_within(judge, forest, right, due)
+        }
+    }
+}
+
+/// Whether the ranges from one to before another have at least eight rows.
+fn are_many<V>(ranges: &[Range<V>], from: usize, to: usize) -> bool {
+    let mut rows: usize = 1;
+    for i in from..to.min(ranges.len()) {
+        let range = &ranges[i];
+        rows = rows.saturating_mul(range.values.len());
+    }
+    rows >= 8
 }

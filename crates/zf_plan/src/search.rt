@@ -36,7 +36,7 @@ pub struct Search<'a, V: Ord, J: Guide<V>> {
     choices: Vec<Choice>,
     /// Whether the place is that of a row that the last step gave.
     given: bool,
-    /// Whether each conjunct is a leaf and no component is narrowed.
+    /// Whether each conjunct is a leaf and no component is narrowed or sifted.
     plain: bool,
 }
 
@@ -70,7 +70,7 @@ impl<'a, V: Ord + Drop, J: Guide<V> + Drop> Search<'a, V, J> {
         ensures events { IfOk result (λ w. AreAllAhead V.cmp (planted (J.conjuncts judge) (trees_of forest)) ranges.items (option_copied after.entry) w.stage.ahead) }
         ensures first { IfOk result (λ w. w.stage.last ≡ None) }
     {
-        let plan = Plan::new(alloc, &judge, &forest, ranges.len())?;
+        let plan = Plan::new(alloc, &judge, &forest, &ranges, ranges.len())?;
         let search = Search::over(alloc, judge, forest, ranges, after, plan, false)?;
         Ok(search)
     }

@@ -19,9 +19,10 @@ use crate::evaluating::test_trees;
 use crate::forest::Forest;
 use crate::guide::Guide;
 use crate::memo::Memo;
-use crate::moves::{descend, retreat};
+use crate::moves::{descend, leap, retreat};
 use crate::place::Place;
 use crate::plan::Plan;
+use crate::sieve::{sift, wait};
 use std::alloc::AllocError;
 use zf_walk::{Range, Step, Truth, is_reached};
 
@@ -90,6 +91,10 @@ fn choose_at<V: Ord, J: Guide<V>>(
     ensures all { OnOk result (IsPlain (J.conjuncts judge.now) (trees_of forest.now) plan.now → choice.new ≡ None) }
     ensures granted { OnErr result (IsPlain (J.conjuncts judge.now) (trees_of forest.now) plan.now → ⊥) }
 {
+    let sifting_lasts = &plan.sifting_lasts[places.len()];
+    if sifting_lasts.numbers.len() > 0 {
+        return Ok(wait(&sifting_lasts.numbers, choice));
+    }
     let narrowing = &plan.narrowing[places.len()];
     let lasts = &plan.lasts[places.len()];
     choose(
@@ -102,6 +107,90 @@ fn choose_at<V: Ord, J: Guide<V>>(
         memo,
         choice,
     )
+}
+
+/// Chooses the values of the next range that remain when it is sifted. Answers of how many first values the choice was made.
+fn sift_at<V: Ord, J: Guide<V>>(
+    judge: &J,
+    forest: &Forest,
+    ranges: &[Range<V>],
+    plan: &Plan,
+    places: &[usize],
+    memo: &mut Memo,
+    choice: &mut Choice,
+) -> Result<usize, AllocError>
+    requires due { AreDueWithin (J.conjuncts judge.now) (length ranges.now) }
+    requires plan { IsPlan (J.conjuncts judge.now) (J.is_used judge.now) (trees_of forest.now) (length ranges.now) plan.now }
+    requires leaves { HaveLeavesWithin (J.conjuncts judge.now).number (trees_of forest.now) }
+    requires within { AreWithin ranges.now places.now }
+    requires deeper { length places.now < length ranges.now }
+    requires remembers { Remembers (J.conjuncts judge.now) (J.is_used judge.now) ranges.now places.now memo.old }
+    requires waits { choice.old ≡ None }
+    ensures remembers { Remembers (J.conjuncts judge.now) (J.is_used judge.now) ranges.now places.now memo.new }
+    ensures same { memo.new.tests ≡ memo.old.tests }
+    ensures few { IfOk result (λ due. due ≤ length places.now) }
+    ensures choice { IfOk result (λ due. StaysChoice (J.conjuncts judge.now) (trees_of forest.now) ranges.now (length places.now) due places.now choice.new) }
+    ensures all { OnOk result (IsPlain (J.conjuncts judge.now) (trees_of forest.now) plan.now → choice.new ≡ None) }
+    ensures granted { OnErr result (IsPlain (J.conjuncts judge.now) (trees_of forest.now) plan.now → ⊥) }
+    ensures refused { OnErr result (choice.new ≡ None) }
+{
+    let sifting = &plan.sifting[places.len()];
+    if sifting.numbers.len() == 0 {
+        return Ok(0);
+    }
+    let sifting_lasts = &plan.sifting_lasts[places.len()];
+    sift(
+        judge,
+        forest,
+        ranges,
+        places,
+        &sifting.numbers,
+        &sifting_lasts.numbers,
+        memo,
+        choice,
+    )
+}
+
+/// Chooses the values of the next range that remain when it is sifted, where all were chosen till now.
+fn choose_again<V: Ord, J: Guide<V>>(
+    judge: &J,
+    forest: &Forest,
+    ranges: &[Range<V>],
+    plan: &Plan,
+    place: &mut Place,
+    memo: &mut Memo,
+    choice: &mut Choice,
+) -> Result<(), AllocError>
+    requires due { AreDueWithin (J.conjuncts judge.now) (length ranges.now) }
+    requires ascending { AreAscending V.cmp ranges.now }
+    requires plan { IsPlan (J.conjuncts judge.now) (J.is_used judge.now) (trees_of forest.now) (length ranges.now) plan.now }
+    requires leaves { HaveLeavesWithin (J.conjuncts judge.now).number (trees_of forest.now) }
+    requires at { IsAt ranges.now place.old }
+    requires deeper { place.old.depth < length ranges.now }
+    requires remembers { Remembers (J.conjuncts judge.now) (J.is_used judge.now) ranges.now (bound place.old) memo.old }
+    requires waits { choice.old ≡ None }
+    requires kept { IsKept (J.conjuncts judge.now) (trees_of forest.now) ranges.now place.old.marks.stamps.items (bound place.old) place.old.depth choice.old (mark_at place.old.marks place.old.depth) }
+    ensures remembers { Remembers (J.conjuncts judge.now) (J.is_used judge.now) ranges.now (bound place.old) memo.new }
+    ensures same { memo.new.tests ≡ memo.old.tests }
+    ensures place { IsMarked place.old place.new }
+    ensures kept { IsKept (J.conjuncts judge.now) (trees_of forest.now) ranges.now place.new.marks.stamps.items (bound place.old) place.old.depth choice.new (mark_at place.new.marks place.old.depth) }
+    ensures choice { OnOk result (IsChoice (J.conjuncts judge.now) (trees_of forest.now) ranges.now (path ranges.now place.old) (slice_index_or ranges.now place.old.depth []) choice.new) }
+    ensures all { OnOk result (IsPlain (J.conjuncts judge.now) (trees_of forest.now) plan.now → choice.old ≡ None → choice.new ≡ None) }
+    ensures granted { OnErr result (IsPlain (J.conjuncts judge.now) (trees_of forest.now) plan.now → ⊥) }
+    ensures err { OnErr result (place.new ≡ place.old) }
+{
+    let depth = place.depth;
+    let due = sift_at(
+        judge,
+        forest,
+        ranges,
+        plan,
+        &place.places[..depth],
+        memo,
+        choice,
+    )?;
+    place.marks.keep(depth, due);
+    Ok(())
 }
 
 /// Chooses the values of the next range that are tried, unless the choice that was made of it before is one still.
@@ -133,7 +222,10 @@ fn choose_next<V: Ord, J: Guide<V>>(
 {
     let depth = place.depth;
     if place.marks.is_still(depth) {
-        return Ok(());
+        if !choice.is_waiting() {
+            return Ok(());
+        }
+        return choose_again(judge, forest, ranges, plan, place, memo, choice);
     }
     let due = choose_at(
         judge,
@@ -202,6 +294,7 @@ fn step_on<V: Ord, J: Guide<V>>(
         )?;
         place.found[depth] = truth;
         descend(ranges, choices, place, memo);
+        leap(choices, place, depth);
         return Ok(None);
     }
     place.fresh = false;

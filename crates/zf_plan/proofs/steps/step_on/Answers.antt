@@ -1,4 +1,4 @@
-use Rattle.zf_plan.proofs.Prelude.{Err, Ok, OnErr, Result, set, Stands, Option, List, None, get_or_default, ◌<◌, ◌+◌, bound, ◌-◌, ◌≤◌, ◌∙◌, ◌≡◌, ap, arith, false, get_or, inl, inr, length, refl, subst, sym, take, ℕ, option_copied, cases_eq, get_or-set_other, get_or-set_same, length-set, IsAt, IsTruthOf, picked, Out, True, IsSoFar, trees_of, Remembers, path, planted, Place}
+use Rattle.zf_plan.proofs.Prelude.{[], Err, Ok, OnErr, Result, set, Stands, Option, List, None, get_or_default, ◌<◌, ◌+◌, bound, ◌-◌, ◌≤◌, ◌∙◌, ◌≡◌, ap, arith, false, get_or, inl, inr, length, refl, subst, sym, take, ℕ, option_copied, cases_eq, get_or-set_other, get_or-set_same, length-set, IsAt, IsTruthOf, picked, Out, True, IsSoFar, trees_of, Remembers, path, planted, Place}
 use Rattle.zf_plan.proofs.Marking.{kept-chosen, landed-marked}
 use Rattle.zf_plan.specs.Counts.{below_it, Counts, CountsFound, IsCounted}
 use Rattle.zf_plan.specs.Knowing.{NeedsBelow, NeedsWithin}
@@ -7,6 +7,7 @@ use Rattle.zf_plan.specs.Memories.{Forgets}
 use Rattle.zf_plan.specs.Marks.{mark_at}
 use Rattle.zf_plan.specs.Places.{Finds, IsFound, IsKept}
 use Rattle.zf_plan.proofs.Moving.{length-bound, length-path}
+use Rattle.zf_plan.proofs.Leaping.{landed-none, leaps, never-leaps}
 use Rattle.zf_plan.proofs.Stepping.{before-found, descends, descends-stand, stands-refused, finds-hopeless, finds-reached, finds-whole, gives-end, passes, retreats, retreats-stand, setting-of, takes-whole}
 use Rattle.zf_plan.proofs.Counting.{basis-of, counted-descends, counted-here, counted-retreats, counted-still, counts-whole, found-false, found-other}
 use Rattle.zf_plan.proofs.steps.step_on.Goals as goal
@@ -178,6 +179,9 @@ returns-then-depth-ranges-clause-goes g c =
     let after = option_copied c.args.after in
     let p : Place = c.args.place.now in
     let given = setting-of g.met.V.Ord.total (g.met.J.Judge.one_truth c.args.judge.now) (g.met.J.Judge.kept c.args.judge.now) c.requires.sound in
+    let truth = c.in_ok-truth.truth in
+    let finds : Finds g.V.Ord.cmp l trees (length ranges) after (path ranges p) truth =
+    subst (λ is. Finds g.V.Ord.cmp l trees (length ranges) after (picked ranges (take p.depth is)) truth) c.deref.ensures.value c.in_ok-truth.ensures.finds in
     let st = c.requires.stands in
     let at : IsAt ranges p = st.at in
     let marked = c.choose_next.ensures.place in
@@ -195,8 +199,29 @@ returns-then-depth-ranges-clause-goes g c =
     let choice = c.choose_next.new.choice in
     let chosen = c.in_ok-choose_next.ensures.choice in
     let lands = landed-marked ranges choices choice p c.choose_next.new.place c.descend.new.place c.in_ok-truth.truth marked.is c.descend.ensures.lands in
+    let remembers = c.in_ok-choose_next.ensures.remembers in
+    let forgets = subst (λ (q : Place). Forgets (q.depth + 1) c.choose_next.new.memo c.descend.new.memo) marked.is c.descend.ensures.forgets in
+    let found-here : IsFound l trees (path ranges p) p.depth truth = record {
+      so = subst (λ n. IsSoFar l trees (path ranges p) (NeedsWithin l trees n) truth) (length-path ranges p at)
+          (finds-reached given (path ranges p) truth c.in_default.not-False finds).1;
+      not_false = c.in_default.not-False;
+    } in
+    let found : (j : ℕ) → j ≤ p.depth → IsFound l trees (picked ranges (take j p.places.items)) j (get_or now.found.items j True) = λ j low. elim (cases_eq j p.depth) [
+      | inl e ↦
+          let is : get_or now.found.items j True ≡ truth =
+          ap (λ i. get_or now.found.items i True) e ∙ get_or-set_same p.found.items p.depth truth True (omega (arith, at.all_found, c.if-depth-ranges.true)) in
+          subst (IsFound l trees (picked ranges (take j p.places.items)) j) (sym is)
+          (subst (λ i. IsFound l trees (picked ranges (take i p.places.items)) i truth) (sym e) found-here)
+      | inr ne ↦
+          subst (IsFound l trees (picked ranges (take j p.places.items)) j) (sym (get_or-set_other p.found.items p.depth j truth True ne)) (st.found j (omega (arith, low, ne)))
+    ] in
+    let kept = kept-chosen l trees ranges p.marks marks (bound p) choices p.depth choice (omega (arith, st.all_choices, c.if-depth-ranges.true)) marked.stamps marked.others st.kept c.choose_next.ensures.kept in
+    let stood = descends-stand given now c.descend.new.place choices choice now-at st.all_choices st.chosen chosen c.if-not-place.false c.if-depth-ranges.true lands
+    uses c.choose_next.new.memo c.descend.new.memo remembers kept forgets found in
+    let leapt = leaps given uses c.descend.new.place c.leap.new.place c.descend.new.memo (set choices p.depth choice) stood p.depth c.if-depth-ranges.true c.leap.ensures
+    (landed-none (length (get_or ranges p.depth [])) p.depth (get_or (set choices p.depth choice) p.depth None) now c.descend.new.place lands) in
     let h = descends given now c.descend.new.place choices choice now-at st.all_choices st.chosen chosen c.if-not-place.false c.if-depth-ranges.true lands in
-    record { same = h.same; smaller = h.smaller }
+    record { same = λ e ev. h.same e ev ∙ leapt.keeps e ev; smaller = let a = h.smaller in let b = leapt.fewer in omega arith }
 
 pub returns-then-depth-ranges-clause-stands : goal.returns-then-depth-ranges-clause-stands
 returns-then-depth-ranges-clause-stands g c =
@@ -244,8 +269,11 @@ returns-then-depth-ranges-clause-stands g c =
           subst (IsFound l trees (picked ranges (take j p.places.items)) j) (sym (get_or-set_other p.found.items p.depth j truth True ne)) (st.found j (omega (arith, low, ne)))
     ] in
     let kept = kept-chosen l trees ranges p.marks marks (bound p) choices p.depth choice (omega (arith, st.all_choices, c.if-depth-ranges.true)) marked.stamps marked.others st.kept c.choose_next.ensures.kept in
-    descends-stand given now c.descend.new.place choices choice now-at st.all_choices st.chosen chosen c.if-not-place.false c.if-depth-ranges.true lands
-    uses c.choose_next.new.memo c.descend.new.memo remembers kept forgets found
+    let stood = descends-stand given now c.descend.new.place choices choice now-at st.all_choices st.chosen chosen c.if-not-place.false c.if-depth-ranges.true lands
+    uses c.choose_next.new.memo c.descend.new.memo remembers kept forgets found in
+    let leapt = leaps given uses c.descend.new.place c.leap.new.place c.descend.new.memo (set choices p.depth choice) stood p.depth c.if-depth-ranges.true c.leap.ensures
+    (landed-none (length (get_or ranges p.depth [])) p.depth (get_or (set choices p.depth choice) p.depth None) now c.descend.new.place lands) in
+    leapt.stands
 
 pub returns-then-depth-ranges-clause-counts : goal.returns-then-depth-ranges-clause-counts
 returns-then-depth-ranges-clause-counts g c = λ plain h.
@@ -281,8 +309,10 @@ returns-then-depth-ranges-clause-counts g c = λ plain h.
     let none = c.in_ok-choose_next.ensures.all plain (was-none choices p.depth c.index-choices-depth.result (omega (arith, st.all_choices, c.if-depth-ranges.true)) (h.whole p.depth)) in
     let there = subst (Counts g.V.Ord.cmp l ranges after (path ranges p) below_it) (sym (c.descend.ensures.forgets.tests ∙ c.in_ok-choose_next.ensures.same)) below in
     let old : IsCounted g.V.Ord.cmp l ranges after now c.args.memo.now.tests choices = record { counts = h.counts; whole = h.whole } in
-    counted-descends basis now c.descend.new.place now-at c.requires.sound.ascending choices c.args.memo.now.tests tests old c.if-depth-ranges.true st.all_choices choice none there
-    lands
+    let counted = counted-descends basis now c.descend.new.place now-at c.requires.sound.ascending choices c.args.memo.now.tests tests old c.if-depth-ranges.true st.all_choices choice none there
+    lands in
+    let whole : get_or (set choices p.depth choice) p.depth None ≡ None = get_or-set_same choices p.depth choice None (omega (arith, st.all_choices, c.if-depth-ranges.true)) ∙ none in
+    subst (λ q. IsCounted g.V.Ord.cmp l ranges after q tests (set choices p.depth choice)) (sym (never-leaps p.depth (get_or (set choices p.depth choice) p.depth None) c.descend.new.place c.leap.new.place whole c.leap.ensures)) counted
 
 pub returns-in-True-clause-goes : goal.returns-in-True-clause-goes
 returns-in-True-clause-goes g c =

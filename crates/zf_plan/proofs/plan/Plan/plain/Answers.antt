@@ -12,4 +12,6 @@ returns-clause-plan g c =
       touched = c.in_ok-touched.ensures;
       narrowing = below-none c.args.components narrowing none (length trees) c.in_ok-narrowing.ensures.all;
       lasts = lasts-none c.args.components narrowing none (g.J.Judge.is_used c.args.judge.now) trees c.in_ok-lasts.lasts.items c.in_ok-lasts.ensures.all c.in_ok-lasts.ensures.none;
+      sifting = below-none c.args.components c.in_ok-sifting.sifting.items c.in_ok-sifting.ensures.none (length trees) c.in_ok-sifting.ensures.all;
+      sifting_lasts = lasts-none c.args.components c.in_ok-sifting.sifting.items c.in_ok-sifting.ensures.none (g.J.Judge.is_used c.args.judge.now) trees c.in_ok-sifting_lasts.sifting_lasts.items c.in_ok-sifting_lasts.ensures.all c.in_ok-sifting_lasts.ensures.none;
     }
