@@ -1,5 +1,5 @@
 -- Each request has an answer: it is refused at a stage, or what is asked for is searched.
-use Rattle.zf_answers.proofs.Prelude.{if◌then◌else◌, ◌++◌, ◌+◌, ◌∙◌, ◌∷◌, ◌≡◌, ◌⊎◌, [], ap, Bool, false, inl, inr, IsTrue, List, None, Option, refl, Some, subst, sym, true, ℕ, none-some, same_Some, AllByRecursion, Value, BoxTree, TextFault, ReadsSource, RefusesSource, abbreviation, Comp, constructor, Defined, Definition, free_type, given_set, Schema, schema, sets_of, Fault, first, finite_without_cause, causes, NotFinite, one_bounds, Environment, AreComplete, given_sets, spellings, Portion, portion, IsNoneOut, Job, Check, Show, Why, HasLimit, IsBelow, binding_line, Status, BadRequest, BadSpec, PastBounds, some_search, some_tests_line, Answer, AreHeld, check_status, Checks, HasSchema, IsAsked, IsLimited, IsNamed, IsNamedRow, IsSearch, JobAnswer, Request, RefusesRequest, RequestAnswer, ShowsEvents, TellsWhy, size_fault_lines, stated, wants_details, declared_out_line, no_schema_lines, not_a_binding_line, not_finite_lines, not_held_line, Cited, text_fault_lines, EveryRequestIsAnswered, EverySourceIsRead}
+use Rattle.zf_answers.proofs.Prelude.{if◌then◌else◌, ◌++◌, ◌+◌, ◌∙◌, ◌∷◌, ◌≡◌, ◌⊎◌, [], ap, Bool, false, inl, inr, IsTrue, List, None, Option, refl, Some, subst, sym, true, ℕ, none-some, same_Some, AllByRecursion, Value, BoxTree, TextFault, ReadsSource, RefusesSource, abbreviation, Comp, constructor, Defined, Definition, free_type, given_set, Schema, schema, sets_of, Fault, first, finite_without_cause, causes, NotFinite, one_bounds, Environment, AreComplete, given_sets, spellings, Portion, portion, IsNoneOut, Job, Check, Show, Why, HasLimit, IsBelow, binding_line, Status, BadRequest, BadSpec, PastBounds, some_search, some_tests_line, Answer, AreHeld, check_status, Checks, HasSchema, IsAsked, IsLimited, IsNamed, IsNamedRow, IsSearch, JobAnswer, Request, RefusesRequest, RequestAnswer, ShowsEvents, TellsWhy, size_fault_lines, stated, wants_details, declared_out_line, no_schema_lines, not_a_binding_line, not_finite_lines, not_held_line, Cited, text_fault_lines, EveryRequestIsAnswered, EverySourceIsRead, numbers_of, IsFinite}
 use Rattle.std.specs.Str.{bytes_eq}
 use Rattle.zf_schema.specs.Listing.{listing}
 use Rattle.zf_term.specs.FirstNamed.{first_named, later}
@@ -94,12 +94,12 @@ module _ (Tells : List Defined → Schema → Environment → Portion → List �
         ]
 
       some_at_finiteness : HasSchema source r.name g a → AreComplete (given_sets g) (stated g r) → IsAnswered
-      some_at_finiteness has complete = by (causes g a) refl
+      some_at_finiteness has complete = by (causes (numbers_of r) g a) refl
         where
-          by : (them : List NotFinite) → causes g a ≡ them → IsAnswered
+          by : (them : List NotFinite) → causes (numbers_of r) g a ≡ them → IsAnswered
           by [] none =
-              let e = some_environment g (stated g r) complete in
-              some_at_row e.0 (record { has_schema = has; complete = complete; environment = e.1; finite = (finite_without_cause g a).1 none })
+              let e = some_environment g (stated g r) (numbers_of r) complete in
+              some_at_row e.0 (record { has_schema = has; complete = complete; environment = e.1; finite = subst (λ n. IsFinite n g a) (sym e.1.3) ((finite_without_cause (numbers_of r) g a).1 none) })
           by (cause ∷ them) some = (not_finite_lines r.details file g cause [], BadSpec, RequestAnswer.refused (RefusesRequest.not_finite g a cause [] has complete (ap first some) (none_beside g cause) refl refl))
 
       some_at_sizes : HasSchema source r.name g a → IsAnswered
@@ -128,12 +128,12 @@ limited_of (Some limit) h = h
 
 -- components that are bounded among the globals are so in the environment
 bounded_in : (r : Request) (source : List ℕ) (g : List Defined) (a : Schema) (e : Environment) (p : Portion) → IsSearch r source g a e p
-    → AllByRecursion (λ (c : Comp). IsTrue (one_bounds e.globals (sets_of c.sets))) a.comps
+    → AllByRecursion (λ (c : Comp). IsTrue (one_bounds e.numbers e.globals (sets_of c.sets))) a.comps
 bounded_in r source g a e p search =
     let asked = search.asked in
     let finite = asked.finite in
     let environment = asked.environment in
-    subst (λ h. AllByRecursion (λ (c : Comp). IsTrue (one_bounds h (sets_of c.sets))) a.comps) (sym environment.0) finite.bounded
+    subst (λ h. AllByRecursion (λ (c : Comp). IsTrue (one_bounds e.numbers h (sets_of c.sets))) a.comps) (sym environment.0) finite.bounded
 
 shown : (r : Request) (source : List ℕ) → HasLimit r.limit → CanBeTold (ShowsEvents r) r source
 shown r source limited g a e p search =

@@ -5,7 +5,7 @@ use Rattle.zf_answers.specs.NamedLines.{IsSchemaAt, OneRowOfALine, RefusedLinesA
 use Rattle.zf_answers.proofs.OneSearch.{clear_at}
 
 clear_there : (source name : List ℕ) (sizes : List Size) (g : List Defined) (a : Schema) (e : Environment) → IsSchemaAt source name sizes g a e → AreClear (spellings e.globals) e.sizes
-clear_there source name sizes g a e at = clear_at source g [] sizes e at.has_schema.checks at.complete at.environment
+clear_there source name sizes g a e at = clear_at source g [] sizes e.numbers e at.has_schema.checks at.complete at.environment
 
 pub one_row_of_a_line : OneRowOfALine
 one_row_of_a_line source name sizes g a e text row other at one two =

@@ -1,5 +1,5 @@
 -- Two answers of one job on one source have one status, and one text but for what is left open.
-use Rattle.zf_answers.proofs.Prelude.{if◌then◌else◌, ◌++◌, ◌∙◌, ◌∷◌, ◌≡◌, [], ap, Bool, inl, inr, List, None, Option, Some, subst, sym, ℕ, same_Some, slice_get, Value, Comp, Defined, Schema, Fault, Environment, IsEnvironment, AreComplete, given_sets, Portion, portion, Job, Check, Show, Why, Status, Answer, AreHeld, check_status, CheckAnswer, Checks, HasSchema, HoldsNoValues, RefusesSource, RequestAnswer, ShowsEvents, TellsWhy, TextFault, IsNamed, IsNamedRow, JobAnswer, NamesNoRow, Request, size_fault_lines, stated, UnreadAnswer, wants_details, declared_out_line, not_finite_lines, AreAlike, AreOfSame, OneStatus, OneText, AreLines}
+use Rattle.zf_answers.proofs.Prelude.{if◌then◌else◌, ◌++◌, ◌∙◌, ◌∷◌, ◌≡◌, [], ap, Bool, inl, inr, List, None, Option, Some, subst, sym, ℕ, same_Some, slice_get, Value, Comp, Defined, Schema, Fault, Environment, IsEnvironment, AreComplete, given_sets, Portion, portion, Job, Check, Show, Why, Status, Answer, AreHeld, check_status, CheckAnswer, Checks, HasSchema, HoldsNoValues, RefusesSource, RequestAnswer, ShowsEvents, TellsWhy, TextFault, IsNamed, IsNamedRow, JobAnswer, NamesNoRow, Request, size_fault_lines, stated, UnreadAnswer, wants_details, declared_out_line, not_finite_lines, AreAlike, AreOfSame, OneStatus, OneText, AreLines, numbers_of}
 use Rattle.std.proofs.lemmas.List.{append-nil}
 use Rattle.zf_schema.specs.Listing.{listing}
 use Rattle.zf_answers.proofs.OneSource.{none_and_some, one_checked, one_named, one_refused, some_and_none, unread}
@@ -30,13 +30,13 @@ no_held_values e comps (Some text) held none are = none held are
 -- what is told of a search that is granted is one thing
 abbrev IsOneTold : (Tells : List Defined → Schema → Environment → Portion → List ℕ → Status → Type 0) → Request → (file source one two : List ℕ) → (s t : Status) → Type 0
 IsOneTold Tells r file source one two s t =
-    (g : List Defined) (a : Schema) (e : Environment) (p : Portion) → HasSchema source r.name g a → IsEnvironment g (stated g r) e → Tells g a e p one s → Tells g a e p two t
+    (g : List Defined) (a : Schema) (e : Environment) (p : Portion) → HasSchema source r.name g a → IsEnvironment g (stated g r) (numbers_of r) e → Tells g a e p one s → Tells g a e p two t
     → IsOne r.details file source one two s t
 
 module _ (Tells : List Defined → Schema → Environment → Portion → List ℕ → Status → Type 0) (r : Request) (file source one two : List ℕ) (s t : Status) (one_told : IsOneTold Tells r file source one two s t) where
   module _ (g : List Defined) (checks : Checks source g []) where
     module _ (a : Schema) (named : IsNamed g r.name a) (complete : AreComplete (given_sets g) (stated g r)) where
-      module _ (e : Environment) (is : IsEnvironment g (stated g r) e) where
+      module _ (e : Environment) (is : IsEnvironment g (stated g r) (numbers_of r) e) where
         one_at_search : (p : Portion) → AtSearch Tells r file source one s g a e p → AtSearch Tells r file source two t g a e p → IsOne r.details file source one two s t
         one_at_search p (inl x) (inl y) =
             let place = one_first_out e a.comps x.place y.place x.first_out y.first_out in
@@ -51,7 +51,7 @@ module _ (Tells : List Defined → Schema → Environment → Portion → List �
         one_at_values after (inl x) (inr y) = absurd (no_held_values e a.comps r.held y.0 x.none y.1)
         one_at_values after (inr x) (inl y) = absurd (no_held_values e a.comps r.held x.0 y.none x.1)
         one_at_values after (inr x) (inr y) =
-            let held = one_held e a.comps r.held x.0 y.0 (clear_at source g [] (stated g r) e checks complete is) (names_at source g [] r.name a checks named) x.1 y.1 in
+            let held = one_held e a.comps r.held x.0 y.0 (clear_at source g [] (stated g r) (numbers_of r) e checks complete is) (names_at source g [] r.name a checks named) x.1 y.1 in
             one_at_search (portion after y.0) (subst (λ values. AtSearch Tells r file source one s g a e (portion after values)) held x.2) y.2
 
         one_at_row : AtNamedRow Tells r file source one s g a e → AtNamedRow Tells r file source two t g a e → IsOne r.details file source one two s t
@@ -59,19 +59,19 @@ module _ (Tells : List Defined → Schema → Environment → Portion → List �
         one_at_row (inl x) (inr y) = absurd (no_named_row e a.comps r.after y.0 x.none y.1)
         one_at_row (inr x) (inl y) = absurd (no_named_row e a.comps r.after x.0 y.none x.1)
         one_at_row (inr x) (inr y) =
-            let row = one_named_row e a.comps r.after x.0 y.0 (clear_at source g [] (stated g r) e checks complete is) x.1 y.1 in
+            let row = one_named_row e a.comps r.after x.0 y.0 (clear_at source g [] (stated g r) (numbers_of r) e checks complete is) x.1 y.1 in
             one_at_values y.0 (subst (AtHeldValues Tells r file source one s g a e) row x.2) y.2
 
       one_at_finiteness : AtFiniteness Tells r file source one s g a → AtFiniteness Tells r file source two t g a → IsOne r.details file source one two s t
       one_at_finiteness (inl x) (inl y) =
           let cause = same_Some x.cause y.cause (sym x.first_cause ∙ y.first_cause) in
           (x.bad ∙ sym y.bad, AreAlike.infinite g y.cause x.side y.side (x.told ∙ ap (λ k. not_finite_lines r.details file g k x.side) cause) y.told)
-      one_at_finiteness (inl x) (inr y) = absurd (not_infinite g a x.cause y.0 x.first_cause)
-      one_at_finiteness (inr x) (inl y) = absurd (not_infinite g a y.cause x.0 y.first_cause)
+      one_at_finiteness (inl x) (inr y) = absurd (not_infinite (numbers_of r) g a x.cause y.0 x.first_cause)
+      one_at_finiteness (inr x) (inl y) = absurd (not_infinite (numbers_of r) g a y.cause x.0 y.first_cause)
       one_at_finiteness (inr x) (inr y) =
           let u = x.1 in
           let v = y.1 in
-          let environment = one_environment_at g (stated g r) u.0 v.0 complete u.1 v.1 in
+          let environment = one_environment_at g (stated g r) (numbers_of r) u.0 v.0 complete u.1 v.1 in
           one_at_row v.0 v.1 (subst (AtNamedRow Tells r file source one s g a) environment u.2) v.2
 
     one_at_sizes : (a : Schema) → IsNamed g r.name a → AtSizes Tells r file source one s g a → AtSizes Tells r file source two t g a → IsOne r.details file source one two s t
@@ -138,10 +138,10 @@ one_unread : (details : Bool) (file source one two : List ℕ) (s t : Status) �
 one_unread details file source one two s t (e, x, refused, told, bad) (f, y, other_refused, other_told, other_bad) =
     (bad ∙ sym other_bad, one_refused details file source one two e f x y refused other_refused told other_told)
 
-one_reason : (r : Request) (file source one two : List ℕ) (g : List Defined) (a : Schema) (e : Environment) (p : Portion) → HasSchema source r.name g a → IsEnvironment g (stated g r) e
+one_reason : (r : Request) (file source one two : List ℕ) (g : List Defined) (a : Schema) (e : Environment) (p : Portion) → HasSchema source r.name g a → IsEnvironment g (stated g r) (numbers_of r) e
     → AreOneReason file source g a e p one two → AreAlike r.details file source one two
 one_reason r file source one two g a e p has is (inl same) = AreAlike.same same
-one_reason r file source one two g a e p has is (inr (first, second, x, y, told, other_told)) = AreAlike.reasons r.name g a (stated g r) e p.held first second has is x y told other_told
+one_reason r file source one two g a e p has is (inr (first, second, x, y, told, other_told)) = AreAlike.reasons r.name g a (stated g r) (numbers_of r) e p.held first second has is x y told other_told
 
 one_job_answer : (job : Job) (file source one two : List ℕ) (s t : Status) → JobAnswer job file source one s → JobAnswer job file source two t → IsOne (wants_details job) file source one two s t
 one_job_answer (Check types details) file source one two s t x y = one_check_answer types details file source one two s t x y

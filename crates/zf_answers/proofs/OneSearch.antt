@@ -14,27 +14,26 @@ use Rattle.zf_answers.proofs.OneRefusal.{one_sizes}
 -- ---- finiteness
 
 -- a schema that is finite has no cause that makes it infinite
-pub not_infinite : (g : List Defined) (a : Schema) (cause : NotFinite) → IsFinite g a → first (causes g a) ≡ Some cause → ⊥
-not_infinite g a cause finite e = let none : None ≡ Some cause = sym (ap first ((finite_without_cause g a).0 finite)) ∙ e in cc
+pub not_infinite : (n : Option ℕ) (g : List Defined) (a : Schema) (cause : NotFinite) → IsFinite n g a → first (causes n g a) ≡ Some cause → ⊥
+not_infinite n g a cause finite e = let none : None ≡ Some cause = sym (ap first ((finite_without_cause n g a).0 finite)) ∙ e in cc
 
 -- ---- the environment
 
 -- sizes that fit make one environment
-pub one_environment_at : (g : List Defined) (sizes : List Size) (e f : Environment) → AreComplete (given_sets g) sizes → IsEnvironment g sizes e → IsEnvironment g sizes f → e ≡ f
-one_environment_at g sizes e f complete p q =
+pub one_environment_at : (g : List Defined) (sizes : List Size) (numbers : Option ℕ) (e f : Environment) → AreComplete (given_sets g) sizes → IsEnvironment g sizes numbers e → IsEnvironment g sizes numbers f → e ≡ f
+one_environment_at g sizes numbers e f complete p q =
     let globals = p.0 ∙ sym q.0 in
     let counts = one_sizes (given_sets g) sizes complete g e.sizes f.sizes p.1 q.1 in
-    let outcomes = one_environment e f globals counts p.2 q.2 in
-    ap (λ (x : List Defined). record { globals = x; sizes = e.sizes; outcomes = e.outcomes }) globals
-    ∙ ap (λ (x : List ℕ). record { globals = f.globals; sizes = x; outcomes = e.outcomes }) counts
-    ∙ ap (λ (x : List Outcome). record { globals = f.globals; sizes = f.sizes; outcomes = x }) outcomes
+    let same = p.3 ∙ sym q.3 in
+    let outcomes = one_environment e f globals counts same p.2 q.2 in
+    λ i. record { globals = globals i; sizes = counts i; outcomes = outcomes i; numbers = same i }
 
 -- ---- the named row
 
-pub clear_at : (source : List ℕ) (g : List Defined) (faults : List Fault) (sizes : List Size) (e : Environment) → Checks source g faults → AreComplete (given_sets g) sizes → IsEnvironment g sizes e
+pub clear_at : (source : List ℕ) (g : List Defined) (faults : List Fault) (sizes : List Size) (numbers : Option ℕ) (e : Environment) → Checks source g faults → AreComplete (given_sets g) sizes → IsEnvironment g sizes numbers e
     → AreClear (spellings e.globals) e.sizes
-clear_at source g faults sizes e checks complete is =
-    subst (λ h. AreClear (spellings h) e.sizes) (sym is.0) (globals_clear checks.boxes source g faults sizes e checks.reads checks.judged complete is)
+clear_at source g faults sizes numbers e checks complete is =
+    subst (λ h. AreClear (spellings h) e.sizes) (sym is.0) (globals_clear checks.boxes source g faults sizes numbers e checks.reads checks.judged complete is)
 
 -- where spellings are clear a text names one row
 pub one_named_row : (e : Environment) (comps : List Comp) (text : Option (List ℕ)) (one two : Option (List Value)) → AreClear (spellings e.globals) e.sizes

@@ -65,7 +65,7 @@ pub use Rattle.zf_lines.specs.declared.fault.Status.{Status}
 pub use Rattle.zf_lines.specs.declared.fault.Status.TheVariants.{BadRequest, BadSpec, PastBounds}
 pub use Rattle.zf_found.proofs.Rows.{AreTold, one_truth_of}
 pub use Rattle.zf_found.proofs.Searches.{property_told, some_search, some_tests_line}
-pub use Rattle.zf_engine.specs.Answers.{Answer, AreHeld, check_status, CheckAnswer, Checks, HasSchema, HoldsNoValues, IsAsked, IsLimited, IsLineOf, IsNamed, IsNamedRow, IsSearch, JobAnswer, JobBegins, NamesNoRow, RefusesRequest, RequestAnswer, ShowAnswer, ShowBegins, ShowsEvents, size_fault_lines, stated, UnreadAnswer, wants_details}
+pub use Rattle.zf_engine.specs.Answers.{Answer, AreHeld, check_status, CheckAnswer, Checks, HasSchema, HoldsNoValues, IsAsked, IsLimited, IsLineOf, IsNamed, IsNamedRow, IsSearch, JobAnswer, JobBegins, NamesNoRow, RefusesRequest, RequestAnswer, ShowAnswer, ShowBegins, ShowsEvents, size_fault_lines, stated, UnreadAnswer, wants_details, numbers_of}
 pub use Rattle.zf_engine.specs.Details.{Cited, not_finite_lines, text_fault_lines, AreLines}
 pub use Rattle.zf_engine.specs.Missing.{no_schema_lines}
 pub use Rattle.zf_engine.specs.Reasons.{conjunct_lines, empty_lines, TellsWhy}

@@ -164,7 +164,7 @@ module _ (file source : List ℕ) (g : List Defined) (a : Schema) (e : Environme
   by_cause none (inr (inl (m, cause))) = (conjunct_lines file source (chosen_of a.conjuncts m) ++ codes "no binding\n", Done, TellsWhy.refuted m none cause refl refl)
   by_cause none (inr (inr (m, cause))) = (conjunct_lines file source (chosen_of a.conjuncts m) ++ codes "no binding\n", Done, TellsWhy.refuted_together m none cause refl refl)
 
-  pub some_told : p.after ≡ None → AllByRecursion (λ (c : Comp). IsTrue (one_bounds e.globals (sets_of c.sets))) a.comps → CanTell
+  pub some_told : p.after ≡ None → AllByRecursion (λ (c : Comp). IsTrue (one_bounds e.numbers e.globals (sets_of c.sets))) a.comps → CanTell
   some_told first bounded =
       let ranges = some_ranges e a.comps p.held bounded in
       let s = some_search e a ranges.0 p (Some 1) line ranges.1 (omega arith) in

@@ -1,5 +1,5 @@
 -- An answer of a request by its stages: at each it is refused, or goes on with what the next one stands on.
-use Rattle.zf_answers.proofs.Prelude.{slice_get, Value, Comp, Defined, Schema, Fault, first, causes, IsFinite, NotFinite, Environment, IsEnvironment, AreComplete, given_sets, IsRefusal, SizeFault, Portion, portion, IsFirstOut, IsNoneOut, Status, BadRequest, BadSpec, PastBounds, AreHeld, Checks, HoldsNoValues, IsNamed, IsNamedRow, NamesNoRow, Request, RefusesRequest, RequestAnswer, size_fault_lines, stated, declared_out_line, no_schema_lines, not_a_binding_line, not_finite_lines, not_held_line, AreLines}
+use Rattle.zf_answers.proofs.Prelude.{slice_get, Value, Comp, Defined, Schema, Fault, first, causes, IsFinite, NotFinite, Environment, IsEnvironment, AreComplete, given_sets, IsRefusal, SizeFault, Portion, portion, IsFirstOut, IsNoneOut, Status, BadRequest, BadSpec, PastBounds, AreHeld, Checks, HoldsNoValues, IsNamed, IsNamedRow, NamesNoRow, Request, RefusesRequest, RequestAnswer, size_fault_lines, stated, declared_out_line, no_schema_lines, not_a_binding_line, not_finite_lines, not_held_line, AreLines, numbers_of, IsAsked, subst}
 use Rattle.std.proofs.Common.{◌≡◌, ◌≢◌, ℕ, ◌⊎◌, List, [], Option, Some, inl, inr}
 use Rattle.zf_meaning.specs.declared.sizes.SizeFault.TheVariants as size_faults
 
@@ -29,7 +29,7 @@ module _ (Tells : List Defined → Schema → Environment → Portion → List �
   pub record IsInfinite (g : List Defined) (a : Schema) : Type 0 where
     pub cause : NotFinite
     pub side : List ℕ
-    pub first_cause : first (causes g a) ≡ Some cause
+    pub first_cause : first (causes (numbers_of r) g a) ≡ Some cause
     pub told : text ≡ not_finite_lines r.details file g cause side
     pub bad : status ≡ BadSpec
 
@@ -66,7 +66,7 @@ module _ (Tells : List Defined → Schema → Environment → Portion → List �
   AtNamedRow g a e = HasNoRow a e ⊎ ((after : Option (List Value)) × IsNamedRow e a.comps r.after after × AtHeldValues g a e after)
 
   abbrev pub AtFiniteness : List Defined → Schema → Type 0
-  AtFiniteness g a = IsInfinite g a ⊎ (IsFinite g a × ((e : Environment) × IsEnvironment g (stated g r) e × AtNamedRow g a e))
+  AtFiniteness g a = IsInfinite g a ⊎ (IsFinite (numbers_of r) g a × ((e : Environment) × IsEnvironment g (stated g r) (numbers_of r) e × AtNamedRow g a e))
 
   abbrev pub AtSizes : List Defined → Schema → Type 0
   AtSizes g a = HasBadSizes g ⊎ (AreComplete (given_sets g) (stated g r) × AtFiniteness g a)
@@ -76,6 +76,9 @@ module _ (Tells : List Defined → Schema → Environment → Portion → List �
 
   abbrev pub AtTypes : Type 0
   AtTypes = IsIllTyped ⊎ ((g : List Defined) × Checks source g [] × AtSchema g)
+
+  finite_for : (g : List Defined) (a : Schema) (e : Environment) → IsAsked r source g a e → IsFinite (numbers_of r) g a
+  finite_for g a e asked = subst (λ n. IsFinite n g a) asked.environment.3 asked.finite
 
   -- each refusal stands at one of them
   refused_at : RefusesRequest r file source text status → AtTypes
@@ -87,10 +90,10 @@ module _ (Tells : List Defined → Schema → Environment → Portion → List �
       inr (g, has.checks, inr (a, has.named, inr (complete, inl (record { cause = cause; side = side; first_cause = first_cause; told = told; bad = bad }))))
   refused_at (RefusesRequest.not_a_binding g a e place asked none told bad) =
       let has = asked.has_schema in
-      inr (g, has.checks, inr (a, has.named, inr (asked.complete, inr (asked.finite, (e, asked.environment, inl (record { place = place; none = none; told = told; bad = bad }))))))
+      inr (g, has.checks, inr (a, has.named, inr (asked.complete, inr (finite_for g a e asked, (e, asked.environment, inl (record { place = place; none = none; told = told; bad = bad }))))))
   refused_at (RefusesRequest.holds_nothing g a e after place asked named none told bad) =
       let has = asked.has_schema in
-      inr (g, has.checks, inr (a, has.named, inr (asked.complete, inr (asked.finite, (e, asked.environment, inr (after, named, inl (record { place = place; none = none; told = told; bad = bad })))))))
+      inr (g, has.checks, inr (a, has.named, inr (asked.complete, inr (finite_for g a e asked, (e, asked.environment, inr (after, named, inl (record { place = place; none = none; told = told; bad = bad })))))))
   refused_at (RefusesRequest.declared_out g a e p place c asked named held first_out there told past) =
       let has = asked.has_schema in
       inr (
@@ -102,7 +105,7 @@ module _ (Tells : List Defined → Schema → Environment → Portion → List �
           inr (
             asked.complete,
             inr (
-              asked.finite,
+              finite_for g a e asked,
               (
                 e,
                 asked.environment,
@@ -132,7 +135,7 @@ module _ (Tells : List Defined → Schema → Environment → Portion → List �
           inr (
             asked.complete,
             inr (
-              asked.finite,
+              finite_for g a e asked,
               (
                 e,
                 asked.environment,

@@ -24,7 +24,7 @@ use Rattle.zf_enum.specs.Portions.{Portion}
 use Rattle.zf_enum.specs.Ranges.{IsNoneOut}
 use Rattle.zf_lines.specs.declared.fault.Status.{Status}
 use Rattle.zf_command.specs.declared.job.Request.{Request}
-use Rattle.zf_engine.specs.Answers.{Answer, AreHeld, Checks, HasSchema, HoldsNoValues, IsLimited, IsNamedRow, NamesNoRow, ShowsEvents, stated, wants_details}
+use Rattle.zf_engine.specs.Answers.{Answer, AreHeld, Checks, HasSchema, HoldsNoValues, IsLimited, IsNamedRow, NamesNoRow, ShowsEvents, stated, wants_details, numbers_of}
 use Rattle.zf_engine.specs.Details.{Cited, text_fault_lines, not_finite_lines, AreLines}
 use Rattle.zf_engine.specs.Reasons.{TellsWhy, conjunct_lines}
 use Rattle.zf_engine.specs.Texts.{not_a_binding_line, not_held_line, type_fault_line}
@@ -42,8 +42,8 @@ AnswersRequest r file source text status = Answer (Show r) file source text stat
 pub record IsGranted (r : Request) (source : List ℕ) (globals : List Defined) (a : Schema) (e : Environment) (p : Portion) : Type 0 where
   pub has_schema : HasSchema source r.name globals a
   pub complete : AreComplete (given_sets globals) (stated globals r)
-  pub environment : IsEnvironment globals (stated globals r) e
-  pub finite : IsFinite globals a
+  pub environment : IsEnvironment globals (stated globals r) (numbers_of r) e
+  pub finite : IsFinite e.numbers globals a
   pub named : IsNamedRow e a.comps r.after p.after
   pub held : AreHeld e a.comps r.held p.held
   pub none_out : IsNoneOut e a.comps
@@ -112,8 +112,8 @@ pub data AreAlike (details : Bool) (file source one two : List ℕ) : Type 0 whe
       → two ≡ not_finite_lines details file globals cause second → AreAlike details file source one two
   no_binding : (first second : ℕ) → one ≡ not_a_binding_line first → two ≡ not_a_binding_line second → AreAlike details file source one two
   no_values : (first second : ℕ) → one ≡ not_held_line first → two ≡ not_held_line second → AreAlike details file source one two
-  reasons : (name : List ℕ) (globals : List Defined) (a : Schema) (sizes : List Size) (e : Environment) (held : List (Option Value)) (first second : List Bool) → HasSchema source name globals a
-      → IsEnvironment globals sizes e → RefutedTogetherBy e a held first → RefutedTogetherBy e a held second → one ≡ conjunct_lines file source (chosen_of a.conjuncts first) ++ codes "no binding\n"
+  reasons : (name : List ℕ) (globals : List Defined) (a : Schema) (sizes : List Size) (numbers : Option ℕ) (e : Environment) (held : List (Option Value)) (first second : List Bool) → HasSchema source name globals a
+      → IsEnvironment globals sizes numbers e → RefutedTogetherBy e a held first → RefutedTogetherBy e a held second → one ≡ conjunct_lines file source (chosen_of a.conjuncts first) ++ codes "no binding\n"
       → two ≡ conjunct_lines file source (chosen_of a.conjuncts second) ++ codes "no binding\n" → AreAlike details file source one two
 
 -- A source has one text for a job, but for what is left open.

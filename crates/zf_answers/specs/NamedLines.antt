@@ -14,7 +14,7 @@ use Rattle.zf_engine.specs.Answers.{HasSchema, IsLineOf, NamesNoRow}
 pub record IsSchemaAt (source name : List ℕ) (sizes : List Size) (globals : List Defined) (a : Schema) (e : Environment) : Type 0 where
   pub has_schema : HasSchema source name globals a
   pub complete : AreComplete (given_sets globals) sizes
-  pub environment : IsEnvironment globals sizes e
+  pub environment : IsEnvironment globals sizes e.numbers e
 
 -- Two rows of a schema's types with one line are one row.
 abbrev pub OneRowOfALine : Type 0

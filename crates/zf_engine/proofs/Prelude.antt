@@ -34,7 +34,7 @@ pub use Rattle.zf_enum.specs.Searches.{counted_goal, Goal, planted_goal}
 pub use Rattle.zf_command.specs.declared.job.Request.{Request}
 pub use Rattle.zf_lines.proofs.Beginning.{at_start, counting_at_start}
 pub use Rattle.zf_lines.specs.declared.fault.Status.{Status}
-pub use Rattle.zf_engine.specs.Answers.{Answer, AnswersReader, AnswersSource, AreHeld, Checks, HasSchema, IsAsked, IsNamed, IsNamedRow, IsSearch, RefusesRequest, RequestAnswer, ShowAnswer, ShowBegins, ShowsEvents, stated, stated_size, StopsInReader, UnreadAnswer, without_size}
+pub use Rattle.zf_engine.specs.Answers.{Answer, AnswersReader, AnswersSource, AreHeld, Checks, HasSchema, IsAsked, IsNamed, IsNamedRow, IsSearch, numbers_of, RefusesRequest, RequestAnswer, ShowAnswer, ShowBegins, ShowsEvents, stated, stated_size, StopsInReader, UnreadAnswer, without_size}
 pub use Rattle.zf_engine.specs.Stops.{StopsInSource, AnswersEach, AnswersOver, AnswersRequest, IfAnswered, IsFaultLine, IsRefused, Shows, Tells, TellsInfinite, TellsMisfit, TellsNoRow, TellsNoValues, TellsOut, TellsPlace, TellsPlaceHeld}
 pub use Rattle.zf_engine.specs.Statuses.{IsStatus, IsStatusOfRefused, IsWorkStatus}
 pub use Rattle.zf_engine.specs.Details.{Cited, cited_of, type_fault_lines, AreLines}

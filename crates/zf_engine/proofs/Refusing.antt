@@ -1,5 +1,5 @@
 -- The steps before the first binding make answers: refusals, in their order.
-use Rattle.zf_engine.proofs.Prelude.{◌==◌, ◌∙◌, ◌∷◌, ◌≡◌, ◌≢◌, ◌⊎◌, [], ap, arith, Bool, Err, false, IfErr, IfOk, inl, inr, length, List, map, Ok, Option, refl, Result, Some, subst, sym, true, ℕ, eqb-true, Value, Comp, Defined, Schema, AreWellTyped, Environment, spellings, Spelling, Portion, Status, AreHeld, Checks, HasSchema, IsAsked, IsNamed, IsNamedRow, Request, RefusesRequest, stated, UnreadAnswer, AnswersEach, AnswersRequest, IfAnswered, IsFaultLine, TellsInfinite, TellsMisfit, TellsNoRow, TellsNoValues, TellsOut, TellsPlace, TellsPlaceHeld, Cited, Stop, Answered, OutOfMemory, AreLines}
+use Rattle.zf_engine.proofs.Prelude.{◌==◌, ◌∙◌, ◌∷◌, ◌≡◌, ◌≢◌, ◌⊎◌, [], ap, arith, Bool, Err, false, IfErr, IfOk, inl, inr, length, List, map, Ok, Option, refl, Result, Some, subst, sym, true, ℕ, eqb-true, Value, Comp, Defined, Schema, AreWellTyped, Environment, spellings, Spelling, Portion, Status, AreHeld, Checks, HasSchema, IsAsked, IsNamed, IsNamedRow, Request, RefusesRequest, numbers_of, stated, UnreadAnswer, AnswersEach, AnswersRequest, IfAnswered, IsFaultLine, TellsInfinite, TellsMisfit, TellsNoRow, TellsNoValues, TellsOut, TellsPlace, TellsPlaceHeld, Cited, Stop, Answered, OutOfMemory, AreLines}
 use Rattle.zf_finite.specs.Finite.{IsFinite}
 use Rattle.zf_scan.specs.declared.fault.TextFault.{TextFault}
 use Rattle.zf_scan.specs.CutViews.{IsWantOfMemory}
@@ -94,7 +94,7 @@ no_values_told ss e comps text bytes stop place same is none told clear names =
 pub clear_of : (r : Request) (source : List ℕ) (a : Schema) (e : Environment) → IsAsked r source e.globals a e → (ss : List Spelling) → ss ≡ spellings e.globals → AreClear ss e.sizes
 clear_of r source a e is ss same =
     let checks = is.has_schema.checks in
-    subst (λ k. AreClear k e.sizes) (sym same) (globals_clear checks.boxes source e.globals [] (stated e.globals r) e checks.reads checks.judged is.complete is.environment)
+    subst (λ k. AreClear k e.sizes) (sym same) (globals_clear checks.boxes source e.globals [] (stated e.globals r) (numbers_of r) e checks.reads checks.judged is.complete is.environment)
 
 -- so are the names of its components
 pub names_of : (r : Request) (source : List ℕ) (a : Schema) (e : Environment) → IsAsked r source e.globals a e → HaveClearNames a.comps
@@ -117,12 +117,17 @@ module _ (r : Request) (file source : List ℕ) (g : List Defined) (a : Schema) 
   pub misfit_answers : HasSchema source r.name g a → (stop : Stop) → IfAnswered stop (TellsMisfit r.details g (stated g r)) → AnswersRequest r file source stop
   misfit_answers has stop h = weaker stop (λ text status t. inr (RefusesRequest.bad_sizes g a t.0 has t.1 t.2.0 t.2.1 t.2.2)) h
 
-  pub infinite_answers : HasSchema source r.name g a → AreComplete (given_sets g) (stated g r) → (stop : Stop) → IfAnswered stop (TellsInfinite g a r.details file) → AnswersRequest r file source stop
+  pub infinite_answers : HasSchema source r.name g a → AreComplete (given_sets g) (stated g r) → (stop : Stop) → IfAnswered stop (TellsInfinite (numbers_of r) g a r.details file) → AnswersRequest r file source stop
   infinite_answers has complete stop h = weaker stop (λ text status t. inr (RefusesRequest.not_finite g a t.0 t.1 has complete t.2 t.3 t.4 t.5)) h
 
+  -- the same of the globals and the numbers of this environment
+  pub infinite_here : (e : Environment) → IsEnvironment g (stated g r) (numbers_of r) e → (stop : Stop) → IfAnswered stop (TellsInfinite e.numbers e.globals a r.details file) → IfAnswered stop (TellsInfinite (numbers_of r) g a r.details file)
+  infinite_here e is stop h =
+      subst (λ n. IfAnswered stop (TellsInfinite n g a r.details file)) is.3 (subst (λ (h : List Defined). IfAnswered stop (TellsInfinite e.numbers h a r.details file)) is.0 h)
+
   -- the schema is asked for in this environment
-  pub asked : (e : Environment) → HasSchema source r.name g a → AreComplete (given_sets g) (stated g r) → IsEnvironment g (stated g r) e → IsFinite g a → IsAsked r source e.globals a e
-  asked e has complete is ends = subst (λ h. IsAsked r source h a e) (sym is.0) (record { has_schema = has; complete = complete; environment = is; finite = ends })
+  pub asked : (e : Environment) → HasSchema source r.name g a → AreComplete (given_sets g) (stated g r) → IsEnvironment g (stated g r) (numbers_of r) e → IsFinite e.numbers e.globals a → IsAsked r source e.globals a e
+  asked e has complete is ends = subst (λ h. IsAsked r source h a e) (sym is.0) (record { has_schema = has; complete = complete; environment = is; finite = subst (λ h. IsFinite e.numbers h a) is.0 ends })
 
   module _ (e : Environment) (is : IsAsked r source g a e) where
     pub no_row_answers : (stop : Stop) → IfAnswered stop (TellsNoRow e a.comps r.after) → AnswersRequest r file source stop

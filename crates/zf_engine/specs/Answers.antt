@@ -105,12 +105,16 @@ size_fault_lines details g sizes (SizeTwice name) = size_twice_line name
 size_fault_lines details g sizes (SizeTooLarge name) = size_too_large_line name
 size_fault_lines details g sizes OutOfMemory = []
 
+-- the greatest number that there is, if numbers end
+abbrev pub numbers_of : Request → Option ℕ
+numbers_of r = None
+
 -- the schema that is asked for is finite, and this is the environment at the stated sizes
 pub record IsAsked (r : Request) (source : List ℕ) (globals : List Defined) (a : Schema) (e : Environment) : Type 0 where
   pub has_schema : HasSchema source r.name globals a
   pub complete : AreComplete (given_sets globals) (stated globals r)
-  pub environment : IsEnvironment globals (stated globals r) e
-  pub finite : IsFinite globals a
+  pub environment : IsEnvironment globals (stated globals r) (numbers_of r) e
+  pub finite : IsFinite e.numbers globals a
 
 -- the text is the line of this row of the schema's types
 abbrev pub IsLineOf : Environment → List Comp → List ℕ → List Value → Type 0
@@ -154,7 +158,7 @@ pub data RefusesRequest (r : Request) (file source text : List ℕ) (status : St
   bad_sizes : (globals : List Defined) (a : Schema) (fault : SizeFault) → HasSchema source r.name globals a → IsRefusal (given_sets globals) (stated globals r) fault
       → fault ≢ OutOfMemory → text ≡ size_fault_lines r.details globals (stated globals r) fault → status ≡ BadRequest → RefusesRequest r file source text status
   not_finite : (globals : List Defined) (a : Schema) (cause : NotFinite) (side : List ℕ) → HasSchema source r.name globals a → AreComplete (given_sets globals) (stated globals r)
-      → first (causes globals a) ≡ Some cause → IsReportedBeside globals cause side → text ≡ not_finite_lines r.details file globals cause side → status ≡ BadSpec
+      → first (causes (numbers_of r) globals a) ≡ Some cause → IsReportedBeside globals cause side → text ≡ not_finite_lines r.details file globals cause side → status ≡ BadSpec
       → RefusesRequest r file source text status
   not_a_binding : (globals : List Defined) (a : Schema) (e : Environment) (place : ℕ) → IsAsked r source globals a e → NamesNoRow e a.comps r.after
       → text ≡ not_a_binding_line place → status ≡ BadRequest → RefusesRequest r file source text status

@@ -62,9 +62,9 @@ abbrev pub TellsMisfit : (details : Bool) → List Defined → List Size → Lis
 TellsMisfit details g sizes text status = (fault : SizeFault) × IsRefusal (given_sets g) sizes fault × IsMisfit details g sizes fault text status
 
 -- the answer tells the first that makes the schema infinite
-abbrev pub TellsInfinite : List Defined → Schema → (details : Bool) → (file : List ℕ) → List ℕ → Status → Type 0
-TellsInfinite g a details file text status =
-    (cause : NotFinite) × (side : List ℕ) × (first (causes g a) ≡ Some cause) × IsReportedBeside g cause side × (text ≡ not_finite_lines details file g cause side) × (status ≡ BadSpec)
+abbrev pub TellsInfinite : (numbers : Option ℕ) → List Defined → Schema → (details : Bool) → (file : List ℕ) → List ℕ → Status → Type 0
+TellsInfinite n g a details file text status =
+    (cause : NotFinite) × (side : List ℕ) × (first (causes n g a) ≡ Some cause) × IsReportedBeside g cause side × (text ≡ not_finite_lines details file g cause side) × (status ≡ BadSpec)
 
 -- the answer tells a place of a text that is the line of no row
 abbrev pub TellsPlace : ℕ → List ℕ → Status → Type 0

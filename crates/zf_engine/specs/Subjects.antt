@@ -39,7 +39,7 @@ line_in s row = binding_line s.elements.now (schema_in s).comps row
 
 -- a search of it can begin, and its elements have these spellings
 pub record CanBeSearched (s : Subject) : Type 0 where
-  pub finite : IsFinite (environment_in s).globals (schema_in s)
+  pub finite : IsFinite (environment_in s).numbers (environment_in s).globals (schema_in s)
   pub due : AreDueWithin (property (environment_in s) (schema_in s).conjuncts) (length (schema_in s).comps)
   pub spelled : s.elements.now ≡ spellings (environment_in s).globals
 

@@ -1,6 +1,6 @@
 //! The schema that is asked for, in the environment of the stated sizes.
 ghost use Rattle.std.specs.Prelude.{◌≡◌, ℕ, List, [], IfOk, IfErr, OnOk};
-ghost use Rattle.zf_engine.specs.Answers.{Checks, IsAsked, stated, without_size};
+ghost use Rattle.zf_engine.specs.Answers.{Checks, IsAsked, numbers_of, stated, without_size};
 ghost use Rattle.zf_engine.specs.Details.{IsReportedBeside};
 ghost use Rattle.zf_engine.specs.Missing as spec;
 ghost use Rattle.zf_engine.specs.declared.stop.Stop.TheVariants.{OutOfMemory};
@@ -53,7 +53,7 @@ pub fn asked_in<'g, 'a>(
         return Err(Stop::Answered(lines, Status::BadRequest));
     };
     let env = env_in(alloc, globals, request)?;
-    check_finite(alloc, report, globals, name, schema)?;
+    check_finite(alloc, report, &env, name, schema)?;
     Ok(Asked { schema, env })
 }
 
@@ -64,11 +64,11 @@ fn env_in<'g, 'a>(
     request: &Request,
 ) -> Result<Env<'g, 'a>, Stop>
     ensures complete { OnOk result (AreComplete (given_sets (globals_of globals.now)) (stated (globals_of globals.now) request.now)) }
-    ensures is { IfOk result (λ e. IsEnvironment (globals_of globals.now) (stated (globals_of globals.now) request.now) (environment_of e)) }
+    ensures is { IfOk result (λ e. IsEnvironment (globals_of globals.now) (stated (globals_of globals.now) request.now) (numbers_of request.now) (environment_of e)) }
     ensures stop { IfErr result (λ s. IfAnswered s (TellsMisfit request.now.details (globals_of globals.now) (stated (globals_of globals.now) request.now))) }
 {
     let sizes = stated_sizes(alloc, globals, request)?;
-    match Env::new(alloc, globals, &sizes) {
+    match Env::new(alloc, globals, &sizes, None) {
         Ok(env) => Ok(env),
         Err(fault) => Err(misfit(alloc, request.details, globals, &sizes, fault)),
     }
@@ -115,14 +115,15 @@ fn unsized_lines(
 fn check_finite<'a>(
     alloc: Global,
     report: Report<'_>,
-    globals: &Globals<'a>,
+    env: &Env<'_, 'a>,
     name: &[u8],
     schema: &Flat<'a>,
 ) -> Result<(), Stop>
-    ensures ok { OnOk result (IsFinite (globals_of globals.now) (schema_of schema.now)) }
-    ensures stop { IfErr result (λ s. IfAnswered s (TellsInfinite (globals_of globals.now) (schema_of schema.now) report.entry.details report.entry.file.now)) }
+    ensures ok { OnOk result (IsFinite (environment_of env.now).numbers (environment_of env.now).globals (schema_of schema.now)) }
+    ensures stop { IfErr result (λ s. IfAnswered s (TellsInfinite (environment_of env.now).numbers (environment_of env.now).globals (schema_of schema.now) report.entry.details report.entry.file.now)) }
 {
-    match finite(schema, globals) {
+    let globals = env.globals();
+    match finite(env.numbers(), schema, globals) {
         Ok(()) => Ok(()),
         Err(cause) => {
             let side = side_beside(alloc, report, globals, name, &cause)?;

@@ -5,7 +5,6 @@ mod answer;
 mod asked;
 mod begin;
 mod check;
-mod declaring;
 mod details;
 mod held;
 mod lines;

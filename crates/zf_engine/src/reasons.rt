@@ -5,11 +5,11 @@ ghost use Rattle.zf_engine.specs.Reasons as spec;
 ghost use Rattle.zf_engine.specs.Subjects.{IsOfSchema};
 ghost use Rattle.zf_term.specs.SchemaViews.{comp_of, conjunct_of, schema_of};
 
-use crate::declaring::declaring_line;
 use crate::lines::trimmed_line;
 use crate::report::Report;
 use crate::texts::fault_line;
 use std::alloc::{AllocError, Global};
+use zf_finite::first_plain;
 use zf_term::conjunct::Conjunct;
 use zf_term::schema::{Component, Flat};
 use zf_why::Cause;
@@ -59,7 +59,7 @@ fn append_empty(
 ) -> Result<(), AllocError>
     ensures { OnOk result (lines.new.items ≡ lines.old.items ++ spec.empty_line report.entry.file.now (comp_of component.now)) }
 {
-    let line = u64::from(declaring_line(component));
+    let line = u64::from(first_plain(component.domains.get()));
     let mut text = Vec::from_slice(alloc, component.name.as_slice())?;
     text.extend_from_slice(b": empty")?;
     let told = fault_line(alloc, report.file, line, &text)?;

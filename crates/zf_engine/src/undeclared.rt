@@ -236,7 +236,7 @@ fn cause_in_reference(
     let (schema, flat) = schema_named(globals, reference.name.base())?;
     let place = referred(flat, reference, component)?;
     let sets = flat.components.as_slice().get(place)?.domains.get();
-    if is_bounded(sets, globals) {
+    if is_bounded(None, sets, globals) {
         return None;
     }
     Some(Cause::Within(Unbounded {

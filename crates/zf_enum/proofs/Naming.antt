@@ -19,7 +19,7 @@ no_more [] = refl
 no_more (x ∷ xs) = ap (λ ys. x ∷ ys) (no_more xs)
 
 with_outcomes : Environment → List Outcome → Environment
-with_outcomes e os = record { globals = e.globals; sizes = e.sizes; outcomes = os }
+with_outcomes e os = record { globals = e.globals; sizes = e.sizes; outcomes = os; numbers = e.numbers }
 
 pub unchanged : (e : Environment) (ts : List ResolvedTree) → AreLifted e e ts ts
 unfolding with_outcomes

@@ -58,7 +58,7 @@ pub use Rattle.zf_meaning.specs.Rows.{AreOfTypes, IsOfType}
 pub use Rattle.zf_meaning.specs.Truths.{IsAtom, IsConjunction, IsDisjunction}
 pub use Rattle.zf_lift.specs.Lifted.{AreEach, AreLifted, IsLifted, IsLonger}
 pub use Rattle.zf_enum.specs.Components.{AreAllRanges, held_at, IsOneRange, IsOutBy}
-pub use Rattle.zf_enum.specs.DeclaredSets.{IsCarrierOut, IsInCarrier, IsInOne, IsInPlain, IsInSet, IsInSets, IsOneOut, IsPlainOut, IsSetOut}
+pub use Rattle.zf_enum.specs.DeclaredSets.{has_endless, IsCarrierOut, IsInCarrier, IsInOne, IsInPlain, IsInSet, IsInSets, IsOneOut, IsPlainOut, IsSetOut}
 pub use Rattle.zf_enum.specs.Dues.{all_need, links_need, need, part_need, place_after, place_up_to, ranges_need}
 pub use Rattle.zf_enum.specs.Fixing.{AreCandidates, Fixes, GoesOn, IsKept, IsName}
 pub use Rattle.zf_enum.specs.Parts.{BoundsAt, Filters, IsAllOf, IsAllOfEach, IsAllWith, IsIn, IsListed, Lists, Narrows, NarrowsAll, Tells}

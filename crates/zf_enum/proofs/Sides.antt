@@ -1,5 +1,5 @@
 -- Several declared sets, one after another, and the two sides of a disjunction.
-use Rattle.zf_enum.proofs.Prelude.{◌+◌, ◌-◌, ◌<◌, ◌↔◌, ◌∙◌, ◌∷◌, ◌≡◌, ◌≤◌, ◌⊎◌, [], add-one, ap, arith, drop, get_or, inl, inr, length, List, map, refl, subst, suc, sym, take, true, zero, ℕ, ⊎_elim, and_parts, length-drop, IsMember, IsAscending, Value, of-Either, DeclaredSet, DeclaredSets, Defined, set_of, sets_of, sides, Domain, bounds, one_bounds, Environment, IsInSet, IsInSets, IsOneOut, IsSetOut, BoundsAt, IsAllOf, IsAllOfEach, Lists, Narrows, NarrowsAll}
+use Rattle.zf_enum.proofs.Prelude.{◌+◌, ◌-◌, ◌<◌, ◌↔◌, ◌∙◌, ◌∷◌, ◌≡◌, ◌≤◌, ◌⊎◌, [], add-one, ap, arith, drop, get_or, inl, inr, length, List, map, Option, refl, subst, suc, sym, take, true, zero, ℕ, ⊎_elim, and_parts, length-drop, IsMember, IsAscending, Value, of-Either, DeclaredSet, DeclaredSets, Defined, set_of, sets_of, sides, Domain, bounds, one_bounds, Environment, IsInSet, IsInSets, IsOneOut, IsSetOut, BoundsAt, IsAllOf, IsAllOfEach, Lists, Narrows, NarrowsAll}
 use Rattle.zf_term.specs.declared.schema.Domain.TheVariants as domain
 use Rattle.zf_enum.proofs.Listing.{lists_same}
 
@@ -120,10 +120,10 @@ some_of_sides e left right vs ls ms ns h k m = (
 )
 
 -- where a disjunction bounds, both of its sides do
-pub sides_bound : (g : List Defined) (d : Domain) (left right : List Domain) → d ≡ domain.Either left right → bounds g (set_of d) ≡ true → (one_bounds g (sets_of (map set_of left)) ≡ true) × (one_bounds g (sets_of (map set_of right)) ≡ true)
-sides_bound g d left right is b =
-    and_parts (one_bounds g (sets_of (map set_of left))) (one_bounds g (sets_of (map set_of right))) (subst (λ (s : DeclaredSet). bounds g s ≡ true) (ap set_of is ∙ of-Either left right) b)
+pub sides_bound : (n : Option ℕ) (g : List Defined) (d : Domain) (left right : List Domain) → d ≡ domain.Either left right → bounds n g (set_of d) ≡ true → (one_bounds n g (sets_of (map set_of left)) ≡ true) × (one_bounds n g (sets_of (map set_of right)) ≡ true)
+sides_bound n g d left right is b =
+    and_parts (one_bounds n g (sets_of (map set_of left))) (one_bounds n g (sets_of (map set_of right))) (subst (λ (s : DeclaredSet). bounds n g s ≡ true) (ap set_of is ∙ of-Either left right) b)
 
 -- the place of a set that bounds, by the same globals
-pub bounds_at : (g h : List Defined) (xs : List Domain) (place : ℕ) → g ≡ h → (one_bounds g (whole xs) ≡ true → BoundsAt g xs place) → one_bounds h (whole xs) ≡ true → BoundsAt h xs place
-bounds_at g h xs place e f b = subst (λ (k : List Defined). BoundsAt k xs place) e (f (subst (λ (k : List Defined). one_bounds k (whole xs) ≡ true) (sym e) b))
+pub bounds_at : (n : Option ℕ) (g h : List Defined) (xs : List Domain) (place : ℕ) → g ≡ h → (one_bounds n g (whole xs) ≡ true → BoundsAt n g xs place) → one_bounds n h (whole xs) ≡ true → BoundsAt n h xs place
+bounds_at n g h xs place e f b = subst (λ (k : List Defined). BoundsAt n k xs place) e (f (subst (λ (k : List Defined). one_bounds n k (whole xs) ≡ true) (sym e) b))

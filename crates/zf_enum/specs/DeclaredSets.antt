@@ -1,8 +1,7 @@
 -- What lies in the declared sets of a component, and which of them are out.
-use Rattle.std.specs.Prelude.{◌⊎◌, Bool, true, false, Option, Some, None}
+use Rattle.std.specs.Prelude.{◌⊎◌, ℕ, Bool, true, false, Option, Some, None}
 use Rattle.zf_term.specs.declared.extent.Infinite.{Infinite}
 use Rattle.zf_term.specs.Definitions.{DeclaredSet, plain, carrier, sides, DeclaredSets, no_sets, set}
-use Rattle.zf_extent.specs.Extents.{direct}
 use Rattle.zf_term.specs.ResolvedTrees.{ResolvedTree}
 use Rattle.zf_term.specs.Types.{Ty, has_numbers}
 use Rattle.zf_value.specs.declared.plain.Value.{Value}
@@ -11,6 +10,7 @@ use Rattle.zf_value.specs.declared.value.Outcome.TheVariants.{Is, Out}
 use Rattle.zf_value.specs.Sets.{IsMember, members}
 use Rattle.zf_meaning.specs.Environments.{Environment, globally}
 use Rattle.zf_meaning.specs.Meaning.{HasOutcome}
+use Rattle.zf_meaning.specs.NumberSets.{infinite_in}
 use Rattle.zf_meaning.specs.Rows.{IsOfType}
 use Rattle.zf_meaning.specs.Carriers.{IsCarrier}
 use Rattle.zf_meaning.specs.Symbols.{IsIn}
@@ -19,20 +19,25 @@ use Rattle.zf_meaning.specs.Symbols.{IsIn}
 abbrev pub IsInOne : (Outcome → Type 0) → Value → Type 0
 IsInOne P v = (w : Value) × P (Is w) × IsMember v (members w)
 
--- a direct infinite set only filters
+-- an infinite set only filters
 abbrev pub IsInPlain : Environment → Option Infinite → ResolvedTree → Value → Type 0
 IsInPlain e (Some s) t v = IsIn s v
 IsInPlain e None t v = IsInOne (HasOutcome (globally e) t) v
 
--- so does a type of which numbers are parts
+-- so does a type of which numbers are parts, where these have no end
 abbrev pub IsInCarrier : Environment → (numbers : Bool) → Ty → Value → Type 0
 IsInCarrier e true t v = IsOfType e t v
 IsInCarrier e false t v = IsInOne (IsCarrier e t) v
 
+-- whether numbers without an end are parts of a type, where n is the greatest number, if there is one
+abbrev pub has_endless : (n : Option ℕ) → Ty → Bool
+has_endless None t = has_numbers t
+has_endless (Some n) t = false
+
 abbrev mutual
   pub IsInSet : Environment → DeclaredSet → Value → Type 0
-  IsInSet e (plain t) v = IsInPlain e (direct e.globals t) t v
-  IsInSet e (carrier t) v = IsInCarrier e (has_numbers t) t v
+  IsInSet e (plain t) v = IsInPlain e (infinite_in e t) t v
+  IsInSet e (carrier t) v = IsInCarrier e (has_endless e.numbers t) t v
   IsInSet e (sides ds es) v = IsInSets e ds v ⊎ IsInSets e es v
 
   -- in each of them
@@ -52,8 +57,8 @@ IsCarrierOut e false t = IsCarrier e t Out
 
 abbrev mutual
   pub IsSetOut : Environment → DeclaredSet → Type 0
-  IsSetOut e (plain t) = IsPlainOut e (direct e.globals t) t
-  IsSetOut e (carrier t) = IsCarrierOut e (has_numbers t) t
+  IsSetOut e (plain t) = IsPlainOut e (infinite_in e t) t
+  IsSetOut e (carrier t) = IsCarrierOut e (has_endless e.numbers t) t
   IsSetOut e (sides ds es) = IsOneOut e ds ⊎ IsOneOut e es
 
   pub IsOneOut : Environment → DeclaredSets → Type 0

@@ -67,6 +67,6 @@ Tells Out P = P
 Tells OutOfMemory P = Unit {0}
 
 -- the declared set at this place bounds
-pub record BoundsAt (g : List Defined) (ds : List Domain) (place : ℕ) : Type 0 where
+pub record BoundsAt (n : Option ℕ) (g : List Defined) (ds : List Domain) (place : ℕ) : Type 0 where
   pub within : place < length ds
-  pub bounds : (x : Domain) → x ≡ get_or ds place x → bounds g (set_of x) ≡ true
+  pub bounds : (x : Domain) → x ≡ get_or ds place x → bounds n g (set_of x) ≡ true

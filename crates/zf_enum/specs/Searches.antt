@@ -38,7 +38,7 @@ counted_goal w = record { environment = environment_of w.judge.env.now; further 
 
 -- the environment of its first n names
 abbrev pub with_first : ℕ → Environment → Environment
-with_first n e = record { globals = e.globals; sizes = e.sizes; outcomes = take n e.outcomes }
+with_first n e = record { globals = e.globals; sizes = e.sizes; outcomes = take n e.outcomes; numbers = e.numbers }
 
 -- one that counts none goes by trees, and the schema's are the first names
 abbrev pub planted_goal : ℕ → plan.Progress Value judge.Property → Goal

@@ -19,16 +19,17 @@ pub(crate) fn lightest_bounding<'a>(
     domains: &[Domain<'a>],
     env: &Env<'_, 'a>,
 ) -> Result<usize, AllocError>
-    ensures { spec.one_bounds (environment_of env.now).globals (sets_of (map set_of domains.now)) ≡ true → IfOk result (BoundsAt (environment_of env.now).globals domains.now) }
+    ensures { spec.one_bounds (environment_of env.now).numbers (environment_of env.now).globals (sets_of (map set_of domains.now)) ≡ true → IfOk result (BoundsAt (environment_of env.now).numbers (environment_of env.now).globals domains.now) }
 {
+    let numbers = env.numbers();
     let globals = env.globals();
-    let mut best = first_bounding(domains, globals);
+    let mut best = first_bounding(numbers, domains, globals);
     if domains.len() < 2 {
         return Ok(best);
     }
     let mut least = usize::MAX;
     for place in 0..domains.len() {
-        if bounds(&domains[place], globals) {
+        if bounds(numbers, &domains[place], globals) {
             let next = weight(&domains[place], env)?;
             if next < least {
                 best = place;
@@ -40,11 +41,15 @@ pub(crate) fn lightest_bounding<'a>(
 }
 
 /// The place of the first declared set that bounds, or their number where none does.
-pub(crate) fn first_bounding<'a>(domains: &[Domain<'a>], globals: &Globals<'a>) -> usize
-    ensures { spec.one_bounds (globals_of globals.now) (sets_of (map set_of domains.now)) ≡ true → BoundsAt (globals_of globals.now) domains.now result }
+pub(crate) fn first_bounding<'a>(
+    numbers: Option<u16>,
+    domains: &[Domain<'a>],
+    globals: &Globals<'a>,
+) -> usize
+    ensures { spec.one_bounds numbers (globals_of globals.now) (sets_of (map set_of domains.now)) ≡ true → BoundsAt numbers (globals_of globals.now) domains.now result }
 {
     for place in 0..domains.len() {
-        if bounds(&domains[place], globals) {
+        if bounds(numbers, &domains[place], globals) {
             return place;
         }
     }

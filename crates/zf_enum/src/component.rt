@@ -24,7 +24,7 @@ pub(crate) fn ranges<'a>(
     held: &[Option<Value>],
     env: &Env<'_, 'a>,
 ) -> Result<Vec<Range<Value>>, StartFault>
-    requires { AllByRecursion (λ c. IsTrue (one_bounds (environment_of env.now).globals (sets_of c.sets))) (map comp_of components.now) }
+    requires { AllByRecursion (λ c. IsTrue (one_bounds (environment_of env.now).numbers (environment_of env.now).globals (sets_of c.sets))) (map comp_of components.now) }
     ensures is { IfOk result (λ rs. AreAllRanges (environment_of env.now) (map comp_of components.now) held.now rs.items) }
     ensures refused { IfErr result (Refuses (environment_of env.now) (map comp_of components.now)) }
 {
@@ -54,7 +54,7 @@ fn range_at<'a>(
     held: Option<&Value>,
     env: &Env<'_, 'a>,
 ) -> Result<Range<Value>, StartFault>
-    requires { IsTrue (one_bounds (environment_of env.now).globals (sets_of (comp_of component.now).sets)) }
+    requires { IsTrue (one_bounds (environment_of env.now).numbers (environment_of env.now).globals (sets_of (comp_of component.now).sets)) }
     ensures is { IfOk result (IsOneRange (environment_of env.now) (comp_of component.now) (option_map (λ k. k.now) held.entry)) }
     ensures refused { IfErr result (IsOutBy (environment_of env.now) (comp_of component.now) place) }
 {

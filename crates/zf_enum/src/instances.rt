@@ -43,7 +43,7 @@ impl<'s, 'e, 'g, 'a> Instances<'s, 'e, 'g, 'a> {
         after: Option<&'s [Value]>,
         held: &[Option<Value>],
     ) -> Result<Instances<'s, 'e, 'g, 'a>, StartFault>
-        requires finite { IsFinite (environment_of env.now).globals (schema_of flat.now) }
+        requires finite { IsFinite (environment_of env.now).numbers (environment_of env.now).globals (schema_of flat.now) }
         requires named { HasLength (option_copied after) (length (schema_of flat.now).comps) }
         requires due { AreDueWithin (property (environment_of env.now) (schema_of flat.now).conjuncts) (length (schema_of flat.now).comps) }
         ensures begins { IfOk result (λ i. Begins (environment_of env.now) (schema_of flat.now) (portion (option_copied after.entry) held.now) (planted_goal i.names i.search) i.search.stage) }

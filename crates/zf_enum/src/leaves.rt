@@ -8,6 +8,7 @@ ghost use Rattle.zf_meaning.specs.Environments.{globally};
 ghost use Rattle.zf_meaning.specs.Envs.{environment_of};
 ghost use Rattle.zf_meaning.specs.Meaning.{HasOutcome};
 ghost use Rattle.zf_finite.specs.Finite as spec;
+ghost use Rattle.zf_enum.specs.DeclaredSets as sets;
 ghost use Rattle.zf_enum.specs.DeclaredSets.{IsSetOut};
 ghost use Rattle.zf_enum.specs.Parts.{Narrows, IsAllOf, Tells};
 
@@ -17,10 +18,10 @@ use crate::lack::Lack;
 use crate::members::{members_among, members_of};
 use crate::of_type::OfType;
 use std::alloc::{AllocError, Global};
-use zf_extent::infinite::direct;
 use zf_meaning::carrier::carrier_of;
 use zf_meaning::described::Described;
 use zf_meaning::env::Env;
+use zf_meaning::number_set::infinite_in;
 use zf_meaning::value::{described_in, value_of};
 use zf_term::resolved::Resolved;
 use zf_term::ztype::ZType;
@@ -32,9 +33,9 @@ pub(crate) fn of_plain<'a>(
     set: &Resolved<'a>,
     env: &Env<'_, 'a>,
 ) -> Result<Vec<Value>, Lack>
-    ensures is { spec.bounds (environment_of env.now).globals (plain (resolved_of set.now)) ≡ true → IfOk result (λ xs. IsAllOf (environment_of env.now) (plain (resolved_of set.now)) xs.items) }
+    ensures is { spec.bounds (environment_of env.now).numbers (environment_of env.now).globals (plain (resolved_of set.now)) ≡ true → IfOk result (λ xs. IsAllOf (environment_of env.now) (plain (resolved_of set.now)) xs.items) }
     ensures ascending { IfOk result (λ xs. IsAscending xs.items) }
-    ensures out { spec.bounds (environment_of env.now).globals (plain (resolved_of set.now)) ≡ true → IfErr result (λ lack. Tells lack (IsSetOut (environment_of env.now) (plain (resolved_of set.now)))) }
+    ensures out { spec.bounds (environment_of env.now).numbers (environment_of env.now).globals (plain (resolved_of set.now)) ≡ true → IfErr result (λ lack. Tells lack (IsSetOut (environment_of env.now) (plain (resolved_of set.now)))) }
 {
     let outcome = outcome_of(set, env)?;
     members_of(alloc, &outcome)
@@ -48,15 +49,15 @@ fn outcome_of<'a>(set: &Resolved<'a>, env: &Env<'_, 'a>) -> Result<Outcome, Allo
     value_of(set, &none, env)
 }
 
-/// The members of the carrier of a type without numbers.
+/// The members of the carrier of a type without endless numbers.
 pub(crate) fn of_carrier<'a>(
     alloc: Global,
     ztype: &ZType<'a>,
     env: &Env<'_, 'a>,
 ) -> Result<Vec<Value>, Lack>
-    ensures is { spec.bounds (environment_of env.now).globals (carrier (type_of ztype.now)) ≡ true → IfOk result (λ xs. IsAllOf (environment_of env.now) (carrier (type_of ztype.now)) xs.items) }
+    ensures is { spec.bounds (environment_of env.now).numbers (environment_of env.now).globals (carrier (type_of ztype.now)) ≡ true → IfOk result (λ xs. IsAllOf (environment_of env.now) (carrier (type_of ztype.now)) xs.items) }
     ensures ascending { IfOk result (λ xs. IsAscending xs.items) }
-    ensures out { spec.bounds (environment_of env.now).globals (carrier (type_of ztype.now)) ≡ true → IfErr result (λ lack. Tells lack (IsSetOut (environment_of env.now) (carrier (type_of ztype.now)))) }
+    ensures out { spec.bounds (environment_of env.now).numbers (environment_of env.now).globals (carrier (type_of ztype.now)) ≡ true → IfErr result (λ lack. Tells lack (IsSetOut (environment_of env.now) (carrier (type_of ztype.now)))) }
 {
     let outcome = carrier_of(ztype, env)?;
     members_of(alloc, &outcome)
@@ -73,7 +74,7 @@ pub(crate) fn among_plain<'a>(
     ensures is { IfOk result (λ xs. Narrows (environment_of env.now) (plain (resolved_of set.now)) values.now xs.items) }
     ensures out { IfErr result (λ lack. Tells lack (IsSetOut (environment_of env.now) (plain (resolved_of set.now)))) }
 {
-    if let Some(infinite) = direct(set, env.globals()) {
+    if let Some(infinite) = infinite_in(set, env) {
         let test = InNumbers { set: infinite };
         return Ok(kept(alloc, values, &test)?);
     }
@@ -82,7 +83,7 @@ pub(crate) fn among_plain<'a>(
     members_among(alloc, values, &described)
 }
 
-/// Those of the values that lie in the carrier of the type, or, where numbers are parts of them, are of the type.
+/// Those of the values that lie in the carrier of the type, or, where endless numbers are parts of them, are of the type.
 pub(crate) fn among_carrier<'a>(
     alloc: Global,
     values: &[Value],
@@ -93,10 +94,20 @@ pub(crate) fn among_carrier<'a>(
     ensures is { IfOk result (λ xs. Narrows (environment_of env.now) (carrier (type_of ztype.now)) values.now xs.items) }
     ensures out { IfErr result (λ lack. Tells lack (IsSetOut (environment_of env.now) (carrier (type_of ztype.now)))) }
 {
-    if ztype.has_numbers() {
+    if has_endless(ztype, env) {
         let test = OfType { ztype, env };
         return Ok(kept(alloc, values, &test)?);
     }
     let carrier = Described::of(carrier_of(ztype, env)?);
     members_among(alloc, values, &carrier)
+}
+
+/// Whether numbers without an end are parts of the type.
+fn has_endless(ztype: &ZType<'_>, env: &Env<'_, '_>) -> bool
+    ensures { result ≡ sets.has_endless (environment_of env.now).numbers (type_of ztype.now) }
+{
+    match env.numbers() {
+        Some(_) => false,
+        None => ztype.has_numbers(),
+    }
 }

@@ -25,7 +25,7 @@ pub(crate) fn values_with<'a>(
     held: Option<&Value>,
     env: &Env<'_, 'a>,
 ) -> Result<Vec<Value>, Lack>
-    requires { spec.one_bounds (environment_of env.now).globals (sets_of (map set_of domains.now)) ≡ true }
+    requires { spec.one_bounds (environment_of env.now).numbers (environment_of env.now).globals (sets_of (map set_of domains.now)) ≡ true }
     ensures is { IfOk result (λ xs. IsAllWith (environment_of env.now) (sets_of (map set_of domains.now)) (option_map (λ k. k.now) held.entry) xs.items) }
     ensures out { IfErr result (λ lack. Tells lack (IsOneOut (environment_of env.now) (sets_of (map set_of domains.now)))) }
 {
@@ -38,9 +38,9 @@ pub(crate) fn values_with<'a>(
 /// The values that lie in each of the declared sets, of which one bounds; none where none does.
 #[cycle(listing)]
 fn range<'a>(alloc: Global, domains: &[Domain<'a>], env: &Env<'_, 'a>) -> Result<Vec<Value>, Lack>
-    ensures is { spec.one_bounds (environment_of env.now).globals (sets_of (map set_of domains.now)) ≡ true → IfOk result (λ xs. IsAllOfEach (environment_of env.now) (sets_of (map set_of domains.now)) xs.items) }
+    ensures is { spec.one_bounds (environment_of env.now).numbers (environment_of env.now).globals (sets_of (map set_of domains.now)) ≡ true → IfOk result (λ xs. IsAllOfEach (environment_of env.now) (sets_of (map set_of domains.now)) xs.items) }
     ensures ascending { IfOk result (λ xs. IsAscending xs.items) }
-    ensures out { spec.one_bounds (environment_of env.now).globals (sets_of (map set_of domains.now)) ≡ true → IfErr result (λ lack. Tells lack (IsOneOut (environment_of env.now) (sets_of (map set_of domains.now)))) }
+    ensures out { spec.one_bounds (environment_of env.now).numbers (environment_of env.now).globals (sets_of (map set_of domains.now)) ≡ true → IfErr result (λ lack. Tells lack (IsOneOut (environment_of env.now) (sets_of (map set_of domains.now)))) }
 {
     let place = lightest_bounding(domains, env)?;
     if place >= domains.len() {
@@ -56,9 +56,9 @@ fn range<'a>(alloc: Global, domains: &[Domain<'a>], env: &Env<'_, 'a>) -> Result
 #[cycle(listing)]
 #[tactic(auto, using(zf_term::proofs::SetsSeen::seen))]
 fn values<'a>(alloc: Global, domain: &Domain<'a>, env: &Env<'_, 'a>) -> Result<Vec<Value>, Lack>
-    ensures is { spec.bounds (environment_of env.now).globals (set_of domain.now) ≡ true → IfOk result (λ xs. IsAllOf (environment_of env.now) (set_of domain.now) xs.items) }
+    ensures is { spec.bounds (environment_of env.now).numbers (environment_of env.now).globals (set_of domain.now) ≡ true → IfOk result (λ xs. IsAllOf (environment_of env.now) (set_of domain.now) xs.items) }
     ensures ascending { IfOk result (λ xs. IsAscending xs.items) }
-    ensures out { spec.bounds (environment_of env.now).globals (set_of domain.now) ≡ true → IfErr result (λ lack. Tells lack (IsSetOut (environment_of env.now) (set_of domain.now))) }
+    ensures out { spec.bounds (environment_of env.now).numbers (environment_of env.now).globals (set_of domain.now) ≡ true → IfErr result (λ lack. Tells lack (IsSetOut (environment_of env.now) (set_of domain.now))) }
 {
     match domain {
         Domain::Plain(set) => of_plain(alloc, set.get(), env),

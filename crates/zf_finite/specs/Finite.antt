@@ -1,5 +1,6 @@
 -- Which schemas are finite: whose bindings are among those of finite sets, where each given set is finite.
-use Rattle.std.specs.Prelude.{◌≡◌, IsTrue, ℕ, Bool, true, false, not, ◌&&◌, ◌||◌, if◌then◌else◌, List, [], ◌∷◌, ◌++◌, flat_map, map, Option, Some, None}
+-- Where there is a greatest number, each set of numbers is finite too: then each declared set bounds, and nothing offends.
+use Rattle.std.specs.Prelude.{◌≡◌, IsTrue, ℕ, Bool, true, false, not, ◌&&◌, ◌||◌, is_some, if◌then◌else◌, List, [], ◌∷◌, ◌++◌, flat_map, map, Option, Some, None}
 use Rattle.std.specs.List.{AllByRecursion}
 use Rattle.zf_term.specs.declared.extent.Infinite.{Infinite}
 use Rattle.zf_term.specs.Definitions.{Comp, Schema, DeclaredSet, plain, carrier, sides, DeclaredSets, no_sets, set, sets_of, Defined}
@@ -16,16 +17,16 @@ abbrev pub is_none : Option Infinite → Bool
 is_none None = true
 is_none (Some s) = false
 
--- a declared set bounds, unless it is infinite; a disjunction needs a bound on both sides
+-- where n is the greatest number, if there is one: a declared set bounds, unless it is infinite; a disjunction needs a bound on both sides
 abbrev mutual
-  pub bounds : List Defined → DeclaredSet → Bool
-  bounds g (plain t) = is_none (direct g t)
-  bounds g (carrier t) = not (has_numbers t)
-  bounds g (sides left right) = one_bounds g left && one_bounds g right
+  pub bounds : Option ℕ → List Defined → DeclaredSet → Bool
+  bounds n g (plain t) = is_some n || is_none (direct g t)
+  bounds n g (carrier t) = is_some n || not (has_numbers t)
+  bounds n g (sides left right) = one_bounds n g left && one_bounds n g right
 
-  pub one_bounds : List Defined → DeclaredSets → Bool
-  one_bounds g no_sets = false
-  one_bounds g (set d ds) = bounds g d || one_bounds g ds
+  pub one_bounds : Option ℕ → List Defined → DeclaredSets → Bool
+  one_bounds n g no_sets = false
+  one_bounds n g (set d ds) = bounds n g d || one_bounds n g ds
 
 abbrev pub first_or : List ℕ → ℕ → ℕ
 first_or [] other = other
@@ -47,8 +48,8 @@ abbrev pub first_plain : DeclaredSets → ℕ
 first_plain ds = first_or (all_plain_lines ds) 0
 
 -- the component, with that line, where nothing bounds it
-abbrev pub unbounded : List Defined → (name : List ℕ) → DeclaredSets → List NotFinite
-unbounded g name ds = if one_bounds g ds then [] else Unbounded (first_plain ds) name ∷ []
+abbrev pub unbounded : Option ℕ → List Defined → (name : List ℕ) → DeclaredSets → List NotFinite
+unbounded n g name ds = if one_bounds n g ds then [] else Unbounded (first_plain ds) name ∷ []
 
 -- ---- what offends in it
 
@@ -63,14 +64,19 @@ abbrev mutual
   all_set_offenders g no_sets = []
   all_set_offenders g (set d ds) = set_offenders g d ++ all_set_offenders g ds
 
+-- where there is a greatest number, nothing offends
+abbrev pub unless_ended : Option ℕ → List Offender → List Offender
+unless_ended None offenders = offenders
+unless_ended (Some n) offenders = []
+
 -- ---- schemas
 
-abbrev pub comp_causes : List Defined → Comp → List NotFinite
-comp_causes g c = unbounded g c.name (sets_of c.sets) ++ map Offends (all_set_offenders g (sets_of c.sets))
+abbrev pub comp_causes : Option ℕ → List Defined → Comp → List NotFinite
+comp_causes n g c = unbounded n g c.name (sets_of c.sets) ++ map Offends (unless_ended n (all_set_offenders g (sets_of c.sets)))
 
 -- what makes a schema infinite: its components with their declared sets, and then its conjuncts
-abbrev pub causes : List Defined → Schema → List NotFinite
-causes g a = flat_map (comp_causes g) a.comps ++ map Offends (flat_map (offending g) a.conjuncts)
+abbrev pub causes : Option ℕ → List Defined → Schema → List NotFinite
+causes n g a = flat_map (comp_causes n g) a.comps ++ map Offends (flat_map (λ t. unless_ended n (offending g t)) a.conjuncts)
 
 -- the line on which it stands
 abbrev pub cause_line : NotFinite → ℕ
@@ -78,7 +84,7 @@ cause_line (Unbounded l name) = l
 cause_line (Offends o) = offender_line o
 
 -- each component has a declared set that bounds it, and nothing offends
-pub record IsFinite (g : List Defined) (a : Schema) : Type 0 where
-  pub bounded : AllByRecursion (λ c. IsTrue (one_bounds g (sets_of c.sets))) a.comps
-  pub sets : AllByRecursion (λ c. all_set_offenders g (sets_of c.sets) ≡ []) a.comps
-  pub conjuncts : AllByRecursion (λ t. offending g t ≡ []) a.conjuncts
+pub record IsFinite (n : Option ℕ) (g : List Defined) (a : Schema) : Type 0 where
+  pub bounded : AllByRecursion (λ c. IsTrue (one_bounds n g (sets_of c.sets))) a.comps
+  pub sets : AllByRecursion (λ c. unless_ended n (all_set_offenders g (sets_of c.sets)) ≡ []) a.comps
+  pub conjuncts : AllByRecursion (λ t. unless_ended n (offending g t) ≡ []) a.conjuncts

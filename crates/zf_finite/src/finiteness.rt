@@ -18,14 +18,18 @@ use zf_term::conjunct::Conjunct;
 use zf_term::globals::Globals;
 use zf_term::schema::{Component, Domain, Flat};
 
-/// Whether the schema is finite, after the globals that it is made of.
-pub fn finite<'a>(schema: &Flat<'a>, globals: &Globals<'a>) -> Result<(), NotFinite<'a>>
-    ensures ok { OnOk result (IsFinite (globals_of globals.now) (schema_of schema.now)) }
-    ensures err { IfErr result (λ e. first (spec.causes (globals_of globals.now) (schema_of schema.now)) ≡ Some e) }
+/// Whether the schema is finite, after the globals that it is made of, with this greatest number or without one.
+pub fn finite<'a>(
+    numbers: Option<u16>,
+    schema: &Flat<'a>,
+    globals: &Globals<'a>,
+) -> Result<(), NotFinite<'a>>
+    ensures ok { OnOk result (IsFinite numbers (globals_of globals.now) (schema_of schema.now)) }
+    ensures err { IfErr result (λ e. first (spec.causes numbers (globals_of globals.now) (schema_of schema.now)) ≡ Some e) }
 {
-    match components_cause(schema.components.as_slice(), globals) {
+    match components_cause(numbers, schema.components.as_slice(), globals) {
         Some(cause) => Err(cause),
-        None => match conjuncts_offender(&schema.conjuncts, globals) {
+        None => match conjuncts_offender(numbers, &schema.conjuncts, globals) {
             Some(offender) => Err(NotFinite::Offends(offender)),
             None => Ok(()),
         },
@@ -34,13 +38,14 @@ pub fn finite<'a>(schema: &Flat<'a>, globals: &Globals<'a>) -> Result<(), NotFin
 
 /// The first that makes the components infinite.
 fn components_cause<'a>(
+    numbers: Option<u16>,
     components: &[Component<'a>],
     globals: &Globals<'a>,
 ) -> Option<NotFinite<'a>>
-    ensures { result ≡ first (flat_map (spec.comp_causes (globals_of globals.now)) (map comp_of components.now)) }
+    ensures { result ≡ first (flat_map (spec.comp_causes numbers (globals_of globals.now)) (map comp_of components.now)) }
 {
     for component in components {
-        match component_cause(component, globals) {
+        match component_cause(numbers, component, globals) {
             Some(cause) => return Some(cause),
             None => {}
         }
@@ -49,29 +54,51 @@ fn components_cause<'a>(
 }
 
 /// That nothing bounds the component, or the first in its declared sets that offends.
-fn component_cause<'a>(component: &Component<'a>, globals: &Globals<'a>) -> Option<NotFinite<'a>>
-    ensures { result ≡ first (spec.comp_causes (globals_of globals.now) (comp_of component.now)) }
+fn component_cause<'a>(
+    numbers: Option<u16>,
+    component: &Component<'a>,
+    globals: &Globals<'a>,
+) -> Option<NotFinite<'a>>
+    ensures { result ≡ first (spec.comp_causes numbers (globals_of globals.now) (comp_of component.now)) }
 {
     let sets = component.domains.get();
-    if !is_bounded(sets, globals) {
+    if !is_bounded(numbers, sets, globals) {
         return Some(NotFinite::Unbounded(first_plain(sets), component.name.share()));
     }
-    match offender_in(sets, globals) {
+    match sets_offender(numbers, sets, globals) {
         Some(offender) => Some(NotFinite::Offends(offender)),
         None => None,
     }
 }
 
 /// Whether one of the declared sets bounds a component.
-pub fn is_bounded<'a>(domains: &Chunked<'a, Domain<'a>>, globals: &Globals<'a>) -> bool
-    ensures { result ≡ spec.one_bounds (globals_of globals.now) (sets_of (map set_of domains.now)) }
+pub fn is_bounded<'a>(
+    numbers: Option<u16>,
+    domains: &Chunked<'a, Domain<'a>>,
+    globals: &Globals<'a>,
+) -> bool
+    ensures { result ≡ spec.one_bounds numbers (globals_of globals.now) (sets_of (map set_of domains.now)) }
 {
     for domain in domains.iter() {
-        if bounds(domain, globals) {
+        if bounds(numbers, domain, globals) {
             return true;
         }
     }
     false
+}
+
+/// The first in the declared sets that offends, if no number is the greatest.
+fn sets_offender<'a>(
+    numbers: Option<u16>,
+    domains: &Chunked<'a, Domain<'a>>,
+    globals: &Globals<'a>,
+) -> Option<Offender>
+    ensures { result ≡ first (spec.unless_ended numbers (spec.all_set_offenders (globals_of globals.now) (sets_of (map set_of domains.now)))) }
+{
+    match numbers {
+        Some(_) => None,
+        None => offender_in(domains, globals),
+    }
 }
 
 /// The first in the declared sets that offends.
@@ -85,8 +112,8 @@ fn offender_in<'a>(domains: &Chunked<'a, Domain<'a>>, globals: &Globals<'a>) -> 
     offender
 }
 
-/// The line of the first set of a declaration.
-fn first_plain<'a>(domains: &Chunked<'a, Domain<'a>>) -> u32
+/// The line of the first set of a declaration; 0 where there is none.
+pub fn first_plain<'a>(domains: &Chunked<'a, Domain<'a>>) -> u32
     ensures { result ≡ spec.first_plain (sets_of (map set_of domains.now)) }
 {
     match plain_in(domains) {
@@ -106,8 +133,22 @@ fn plain_in<'a>(domains: &Chunked<'a, Domain<'a>>) -> Option<u32>
     line
 }
 
-/// The first in the conjuncts that offends.
+/// The first in the conjuncts that offends, if no number is the greatest.
 fn conjuncts_offender<'a>(
+    numbers: Option<u16>,
+    conjuncts: &Chunked<'a, Conjunct<'a>>,
+    globals: &Globals<'a>,
+) -> Option<Offender>
+    ensures { result ≡ first (flat_map (λ t. spec.unless_ended numbers (extents.offending (globals_of globals.now) t)) (map conjunct_of conjuncts.now)) }
+{
+    match numbers {
+        Some(_) => None,
+        None => offender_among(conjuncts, globals),
+    }
+}
+
+/// The first in the conjuncts that offends.
+fn offender_among<'a>(
     conjuncts: &Chunked<'a, Conjunct<'a>>,
     globals: &Globals<'a>,
 ) -> Option<Offender>
@@ -123,23 +164,27 @@ fn conjuncts_offender<'a>(
 /// Whether the declared set bounds a component.
 #[cycle(bounds)]
 #[tactic(auto, using(zf_term::proofs::SetsSeen::seen))]
-pub fn bounds<'a>(domain: &Domain<'a>, globals: &Globals<'a>) -> bool
-    ensures { result ≡ spec.bounds (globals_of globals.now) (set_of domain.now) }
+pub fn bounds<'a>(numbers: Option<u16>, domain: &Domain<'a>, globals: &Globals<'a>) -> bool
+    ensures { result ≡ spec.bounds numbers (globals_of globals.now) (set_of domain.now) }
 {
     match domain {
-        Domain::Plain(set) => direct(set.get(), globals).is_none(),
-        Domain::Carrier(ztype) => !ztype.has_numbers(),
-        Domain::Either(left, right) => one_bounds(left.get(), globals)
-            && one_bounds(right.get(), globals),
+        Domain::Plain(set) => numbers.is_some() || direct(set.get(), globals).is_none(),
+        Domain::Carrier(ztype) => numbers.is_some() || !ztype.has_numbers(),
+        Domain::Either(left, right) => one_bounds(numbers, left.get(), globals)
+            && one_bounds(numbers, right.get(), globals),
     }
 }
 
 #[cycle(bounds)]
-fn one_bounds<'a>(domains: &Items<'a, Domain<'a>>, globals: &Globals<'a>) -> bool
-    ensures { result ≡ spec.one_bounds (globals_of globals.now) (sets_of (map set_of domains.now)) }
+fn one_bounds<'a>(
+    numbers: Option<u16>,
+    domains: &Items<'a, Domain<'a>>,
+    globals: &Globals<'a>,
+) -> bool
+    ensures { result ≡ spec.one_bounds numbers (globals_of globals.now) (sets_of (map set_of domains.now)) }
 {
     for domain in domains.as_slice() {
-        if bounds(domain, globals) {
+        if bounds(numbers, domain, globals) {
             return true;
         }
     }

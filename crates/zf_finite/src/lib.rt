@@ -5,4 +5,4 @@ mod finiteness;
 pub mod laws;
 pub mod not_finite;
 
-pub use finiteness::{bounds, finite, is_bounded};
+pub use finiteness::{bounds, finite, first_plain, is_bounded};

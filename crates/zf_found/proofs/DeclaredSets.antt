@@ -1,14 +1,16 @@
 -- What lies in declared sets is decided, and where they are bounded it is listed.
-use Rattle.zf_found.proofs.Prelude.{◌≡◌, Bool, false, inl, inr, None, not, Option, Some, subst, true, ⊎_elim, and_parts, or_cases, IsMember, members, Value, carrier, DeclaredSet, DeclaredSets, no_sets, plain, set, sides, ResolvedTree, has_numbers, Ty, bounds, is_none, one_bounds, Environment, globally, HasOutcome, Decided, decided_both, decided_either, decided_in, Listed, listed_either, listed_kept, listed_none, listed_same, some_outcome, listed_members, same_value, IsCarrierOut, IsInCarrier, IsInOne, IsInPlain, IsInSet, IsInSets, IsOneOut, IsPlainOut, IsSetOut}
+use Rattle.zf_found.proofs.Prelude.{◌≡◌, Bool, false, inl, inr, None, Option, Some, subst, true, ⊎_elim, and_parts, or_cases, IsMember, members, Value, carrier, DeclaredSet, DeclaredSets, no_sets, plain, set, sides, ResolvedTree, Ty, bounds, is_none, one_bounds, Environment, globally, HasOutcome, Decided, decided_both, decided_either, decided_in, Listed, listed_either, listed_kept, listed_none, listed_same, some_outcome, listed_members, same_value, IsCarrierOut, IsInCarrier, IsInOne, IsInPlain, IsInSet, IsInSets, IsOneOut, IsPlainOut, IsSetOut}
 use Rattle.zf_term.specs.declared.extent.Infinite.{Infinite}
-use Rattle.zf_extent.specs.Extents.{direct}
 use Rattle.zf_value.specs.declared.value.Outcome.{Outcome}
 use Rattle.zf_value.specs.declared.value.Outcome.TheVariants.{Is, Undefined, Out}
 use Rattle.zf_meaning.specs.Carriers.{IsCarrier}
+use Rattle.zf_meaning.specs.NumberSets.{infinite_in}
 use Rattle.zf_meaning.proofs.Environments.{one_carrier}
 use Rattle.zf_meaning.proofs.Unique.{one_outcome}
 use Rattle.zf_total.proofs.Carriers.{some_carrier}
 use Rattle.zf_total.proofs.Truths.{decided_is_in}
+use Rattle.zf_enum.specs.DeclaredSets.{has_endless}
+use Rattle.zf_enum.proofs.Single.{bounding, endless}
 use Rattle.zf_found.proofs.Typed.{decided_of_type}
 
 -- ---- one set
@@ -43,8 +45,8 @@ decided_in_carrier e false t v = decided_in same_value (listed_carrier e t) v
 
 mutual
   decided_in_set : (e : Environment) (d : DeclaredSet) (v : Value) → Decided (IsInSet e d v)
-  decided_in_set e (plain t) v = decided_in_plain e (direct e.globals t) t v
-  decided_in_set e (carrier t) v = decided_in_carrier e (has_numbers t) t v
+  decided_in_set e (plain t) v = decided_in_plain e (infinite_in e t) t v
+  decided_in_set e (carrier t) v = decided_in_carrier e (has_endless e.numbers t) t v
   decided_in_set e (sides ds es) v = decided_either (decided_in_sets e ds v) (decided_in_sets e es v)
 
   decided_in_sets : (e : Environment) (ds : DeclaredSets) (v : Value) → Decided (IsInSets e ds v)
@@ -61,8 +63,8 @@ decided_carrier_out e false t = let o = some_carrier e t in is_out_or_not (IsCar
 
 mutual
   decided_set_out : (e : Environment) (d : DeclaredSet) → Decided (IsSetOut e d)
-  decided_set_out e (plain t) = decided_plain_out e (direct e.globals t) t
-  decided_set_out e (carrier t) = decided_carrier_out e (has_numbers t) t
+  decided_set_out e (plain t) = decided_plain_out e (infinite_in e t) t
+  decided_set_out e (carrier t) = decided_carrier_out e (has_endless e.numbers t) t
   decided_set_out e (sides ds es) = decided_either (decided_one_out e ds) (decided_one_out e es)
 
   pub decided_one_out : (e : Environment) (ds : DeclaredSets) → Decided (IsOneOut e ds)
@@ -75,19 +77,19 @@ listed_in_plain : (e : Environment) (x : Option Infinite) (t : ResolvedTree) →
 listed_in_plain e (Some s) t b = absurd (cc)
 listed_in_plain e None t b = listed_term e t
 
-listed_in_carrier : (e : Environment) (numbers : Bool) (t : Ty) → not numbers ≡ true → Listed (IsInCarrier e numbers t)
+listed_in_carrier : (e : Environment) (numbers : Bool) (t : Ty) → numbers ≡ false → Listed (IsInCarrier e numbers t)
 listed_in_carrier e true t b = absurd (cc)
 listed_in_carrier e false t b = listed_carrier e t
 
 mutual
-  listed_in_set : (e : Environment) (d : DeclaredSet) → bounds e.globals d ≡ true → Listed (IsInSet e d)
-  listed_in_set e (plain t) b = listed_in_plain e (direct e.globals t) t b
-  listed_in_set e (carrier t) b = listed_in_carrier e (has_numbers t) t b
-  listed_in_set e (sides ds es) b = let both = and_parts (one_bounds e.globals ds) (one_bounds e.globals es) b in listed_either (listed_in_sets e ds both.0) (listed_in_sets e es both.1)
+  listed_in_set : (e : Environment) (d : DeclaredSet) → bounds e.numbers e.globals d ≡ true → Listed (IsInSet e d)
+  listed_in_set e (plain t) b = listed_in_plain e (infinite_in e t) t (bounding e t b)
+  listed_in_set e (carrier t) b = listed_in_carrier e (has_endless e.numbers t) t (endless e.numbers t b)
+  listed_in_set e (sides ds es) b = let both = and_parts (one_bounds e.numbers e.globals ds) (one_bounds e.numbers e.globals es) b in listed_either (listed_in_sets e ds both.0) (listed_in_sets e es both.1)
 
   -- where one of them bounds
-  pub listed_in_sets : (e : Environment) (ds : DeclaredSets) → one_bounds e.globals ds ≡ true → Listed (IsInSets e ds)
+  pub listed_in_sets : (e : Environment) (ds : DeclaredSets) → one_bounds e.numbers e.globals ds ≡ true → Listed (IsInSets e ds)
   listed_in_sets e no_sets b = absurd (cc)
   listed_in_sets e (set d ds) b =
       ⊎_elim (λ here. listed_kept (IsInSets e ds) (listed_in_set e d here) (λ v. decided_in_sets e ds v))
-      (λ there. listed_same (listed_kept (IsInSet e d) (listed_in_sets e ds there) (λ v. decided_in_set e d v)) (λ v. (λ h. (h.1, h.0), λ h. (h.1, h.0)))) (or_cases (bounds e.globals d) (one_bounds e.globals ds) b)
+      (λ there. listed_same (listed_kept (IsInSet e d) (listed_in_sets e ds there) (λ v. decided_in_set e d v)) (λ v. (λ h. (h.1, h.0), λ h. (h.1, h.0)))) (or_cases (bounds e.numbers e.globals d) (one_bounds e.numbers e.globals ds) b)

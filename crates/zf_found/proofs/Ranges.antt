@@ -29,9 +29,9 @@ decided_held : (held : Option Value) (v : Value) → Decided (IsHeld held v)
 decided_held None v = inl tt
 decided_held (Some w) v = same_value v w
 
-some_range : (e : Environment) (c : Comp) (held : Option Value) → IsTrue (one_bounds e.globals (sets_of c.sets)) → HasSome (IsComponentRange e c held)
+some_range : (e : Environment) (c : Comp) (held : Option Value) → IsTrue (one_bounds e.numbers e.globals (sets_of c.sets)) → HasSome (IsComponentRange e c held)
 some_range e c held b = let o = ordered (listed_kept (IsHeld held) (listed_in_sets e (sets_of c.sets) b) (decided_held held)) in (o.list, record { ascending = o.ascending; members = o.members })
 
-pub some_ranges : (e : Environment) (cs : List Comp) (held : List (Option Value)) → AllByRecursion (λ c. IsTrue (one_bounds e.globals (sets_of c.sets))) cs → HasSome (AreRanges e cs held)
+pub some_ranges : (e : Environment) (cs : List Comp) (held : List (Option Value)) → AllByRecursion (λ c. IsTrue (one_bounds e.numbers e.globals (sets_of c.sets))) cs → HasSome (AreRanges e cs held)
 some_ranges e [] held h = ([], tt)
 some_ranges e (c ∷ cs) held h = let xs = some_range e c (first_held held) h.0 in let rest = some_ranges e cs (later_held held) h.1 in (xs.0 ∷ rest.0, (xs.1, rest.1))

@@ -34,7 +34,7 @@ in_all P (y ∷ xs) x h i = elim (Contains-cases y xs x i) [ inl e ↦ subst P e
 
 -- ---- the bindings of a schema in which some values are held
 
-module _ (e : Environment) (a : Schema) (held : List (Option Value)) (finite : IsFinite e.globals a) where
+module _ (e : Environment) (a : Schema) (held : List (Option Value)) (finite : IsFinite e.numbers e.globals a) where
   -- all of them
   record AreAll (events : List (Event Value)) : Type 0 where
     pub ascending : AllPairs (λ (x y : Event Value). ComesAfter value_order x.row y.row) events
@@ -73,12 +73,12 @@ module _ (e : Environment) (a : Schema) (held : List (Option Value)) (finite : I
 
 module _ (m : System) (can : CanExplore m) where
   -- the schemas of a node's parts are finite
-  finite_part : (a : Node) (o : Operation) → Contains (parts_of m a) o → IsFinite m.environment.globals o.schema
+  finite_part : (a : Node) (o : Operation) → Contains (parts_of m a) o → IsFinite m.environment.numbers m.environment.globals o.schema
   finite_part Root o i = elim (Contains-cases m.init [] o i) [
-    | inl e ↦ subst (λ (p : Operation). IsFinite m.environment.globals p.schema) e can.init
+    | inl e ↦ subst (λ (p : Operation). IsFinite m.environment.numbers m.environment.globals p.schema) e can.init
     | inr k ↦ absurd (Contains-nil o k)
   ]
-  finite_part (State values) o i = in_all (λ (p : Operation). IsFinite m.environment.globals p.schema) m.operations o can.operations i
+  finite_part (State values) o i = in_all (λ (p : Operation). IsFinite m.environment.numbers m.environment.globals p.schema) m.operations o can.operations i
 
   listed : (a : Node) (o : Operation) → Contains (parts_of m a) o → AreListed (searched m nodes.ghosts.eq) (orderly m) a o
   listed a o i =

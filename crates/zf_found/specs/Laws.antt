@@ -21,7 +21,7 @@ OutIsDecided = (e : Environment) (cs : List Comp) → ((place : ℕ) × IsFirstO
 
 -- Components that are bounded have ranges, whatever is held. Those of a finite schema are.
 abbrev pub EveryRange : Type 0
-EveryRange = (e : Environment) (cs : List Comp) (held : List (Option Value)) → AllByRecursion (λ c. IsTrue (one_bounds e.globals (sets_of c.sets))) cs → (ranges : List (List Value)) × AreRanges e cs held ranges
+EveryRange = (e : Environment) (cs : List Comp) (held : List (Option Value)) → AllByRecursion (λ c. IsTrue (one_bounds e.numbers e.globals (sets_of c.sets))) cs → (ranges : List (List Value)) × AreRanges e cs held ranges
 
 -- Where there are ranges, there is the list of the events after any row.
 abbrev pub EveryEvent : Type 0

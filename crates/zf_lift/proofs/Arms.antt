@@ -34,8 +34,8 @@ number b f e l n whole is = across b f e _ _ _ _ (of-Number l n) (ap resolved_of
 pub number_closed : (e : Environment) (l n : ℕ) (whole : Resolved) → whole ≡ v.Number l n → IsClosed e (resolved_of whole)
 number_closed e l n whole is = seen_closed e _ _ (ap resolved_of is ∙ of-Number l n) (made.number_closed e l n)
 
-pub constant : (b : Bool) (f e : Environment) (l : ℕ) (k : Constant) (whole : Resolved) → whole ≡ v.Constant l k → IsLift b f e (resolved_of (v.Constant l k)) (resolved_of whole)
-constant b f e l k whole is = across b f e _ _ _ _ (of-Constant l k) (ap resolved_of is ∙ of-Constant l k) (made.constant_lift b f e l k)
+pub constant : (b : Bool) (f e : Environment) (l : ℕ) (k : Constant) (whole : Resolved) → whole ≡ v.Constant l k → IsLonger e f → IsLift b f e (resolved_of (v.Constant l k)) (resolved_of whole)
+constant b f e l k whole is h = across b f e _ _ _ _ (of-Constant l k) (ap resolved_of is ∙ of-Constant l k) (made.constant_lift b f e l k h)
 
 pub constant_closed : (e : Environment) (l : ℕ) (k : Constant) (whole : Resolved) → whole ≡ v.Constant l k → IsClosed e (resolved_of whole)
 constant_closed e l k whole is = seen_closed e _ _ (ap resolved_of is ∙ of-Constant l k) (made.constant_closed e l k)

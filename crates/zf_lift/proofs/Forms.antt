@@ -2,6 +2,9 @@
 use Rattle.zf_lift.proofs.Prelude.{◌↔◌, ◌≡◌, ap, List, None, Option, refl, subst, sym, ℕ, if◌then◌else◌, Reference, Outcome, Truth, Value, Listed, Operator, Unary, Constant, Quantifier, Relation, absent, binary, bracket, builder, chain, constant, empty_set, link, listed, no_links, no_ranges, no_terms, number, present, quantified, range, Ranges, reference, ResolvedLinks, ResolvedPart, ResolvedTree, ResolvedTrees, term, unary, Infinite, direct, is_membership, Context, outcome_in, within, AreLinked, Builds, HasOutcome, infinite_right, IsConstraint, IsLink, IsTruth, IsTold, opposite, AreSame, AreSameLinks, AreSameRanges, IsSame, IsSamePart}
 use Rattle.zf_tree.specs.declared.operator.Operator.TheVariants as operator
 use Rattle.zf_tree.specs.declared.operator.Unary.TheVariants as the_unary
+use Rattle.zf_extent.specs.Extents.{constant_set}
+use Rattle.zf_meaning.specs.Meaning.{IsConstantOutcome}
+use Rattle.zf_meaning.specs.NumberSets.{unended}
 use Rattle.zf_lift.proofs.Mapped as mapped
 
 itself : (X : Type 0) → X ↔ X
@@ -15,18 +18,22 @@ opposite_way c t d u h = record { outcome = λ o. ((h.outcome o).1, (h.outcome o
 
 -- ---- forms without parts
 
-pub same_reference : (c d : Context) (l : ℕ) (r : Reference) → outcome_in c r ≡ outcome_in d r → c.environment.globals ≡ d.environment.globals → IsSame c (reference l r) d (reference l r)
-same_reference c d l r e g = record {
+pub same_reference : (c d : Context) (l : ℕ) (r : Reference) → outcome_in c r ≡ outcome_in d r → c.environment.globals ≡ d.environment.globals → c.environment.numbers ≡ d.environment.numbers → IsSame c (reference l r) d (reference l r)
+same_reference c d l r e g m = record {
   outcome = λ o. (λ x. subst (λ y. o ≡ y) e x, λ x. subst (λ y. o ≡ y) (sym e) x);
   truth = λ a. (λ x. x, λ x. x);
-  infinite = ap (λ gs. direct gs (reference l r)) g;
+  infinite = λ i. unended (direct (g i) (reference l r)) (m i);
 }
 
 pub same_number : (c d : Context) (l n : ℕ) → IsSame c (number l n) d (number l n)
 same_number c d l n = record { outcome = λ o. (λ x. x, λ x. x); truth = λ a. (λ x. x, λ x. x); infinite = refl }
 
-pub same_constant : (c d : Context) (l : ℕ) (k : Constant) → IsSame c (constant l k) d (constant l k)
-same_constant c d l k = record { outcome = λ o. (λ x. x, λ x. x); truth = λ a. (λ x. x, λ x. x); infinite = refl }
+pub same_constant : (c d : Context) (l : ℕ) (k : Constant) → c.environment.numbers ≡ d.environment.numbers → IsSame c (constant l k) d (constant l k)
+same_constant c d l k m = record {
+  outcome = λ o. (λ x. subst (λ n. IsConstantOutcome n k o) m x, λ x. subst (λ n. IsConstantOutcome n k o) (sym m) x);
+  truth = λ a. (λ x. x, λ x. x);
+  infinite = ap (λ n. unended (constant_set k) n) m;
+}
 
 pub same_empty_set : (c d : Context) (l : ℕ) (t u : ResolvedTree) → IsSame c (empty_set l t) d (empty_set l u)
 same_empty_set c d l t u = record { outcome = λ o. (λ x. x, λ x. x); truth = λ a. (λ x. x, λ x. x); infinite = refl }

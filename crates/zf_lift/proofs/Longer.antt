@@ -7,7 +7,7 @@ no_more [] = refl
 no_more (x ∷ xs) = ap (λ ys. x ∷ ys) (no_more xs)
 
 with_outcomes : Environment → List Outcome → Environment
-with_outcomes e os = record { globals = e.globals; sizes = e.sizes; outcomes = os }
+with_outcomes e os = record { globals = e.globals; sizes = e.sizes; outcomes = os; numbers = e.numbers }
 
 pub itself : (e : Environment) → IsLonger e e
 unfolding with_outcomes
@@ -22,6 +22,9 @@ later outside f g e P k h x l row locals o = h x (further f g x k l) row locals 
 
 pub same_globals : (e f : Environment) → IsLonger e f → f.globals ≡ e.globals
 same_globals e f h = ap (λ x. x.globals) h.1
+
+pub same_numbers : (e f : Environment) → IsLonger e f → f.numbers ≡ e.numbers
+same_numbers e f h = ap (λ x. x.numbers) h.1
 
 front_place : (xs ys : List Outcome) (i : ℕ) → i < length xs → slice_get (xs ++ ys) i ≡ slice_get xs i
 front_place [] ys i h = absurd (omega arith)

@@ -1,8 +1,15 @@
 -- Terms of one form are lifts, or closed, where their parts are.
 use Rattle.zf_lift.proofs.Prelude.{◌++◌, ◌<◌, ◌↔◌, ◌∙◌, ◌∷◌, ◌≡◌, ◌≤◌, [], ap, arith, Bool, false, length, List, None, Option, refl, subst, sym, true, ℕ, Reference, Component, Global, Local, Outcome, Truth, Value, Listed, Operator, Unary, Constant, Quantifier, Relation, Defined, absent, binary, bracket, builder, chain, constant, empty_set, link, links, listed, number, present, quantified, range, Ranges, ranges, reference, ResolvedLinks, ResolvedPart, ResolvedTree, ResolvedTrees, term, terms, unary, direct, extent_found, extent_set, Context, Environment, outcome_in, outcome_or, longer, HasOutcome, IsTruth, AreEach, IsLifted, IsLonger, at, is_liftable, AreClosed, AreLifts, AreLinkLifts, AreLinksClosed, AreRangeLifts, AreRangesClosed, IsClosed, IsLift, IsPartClosed, IsPartLift, AreAllLifts, IsLinkClosed, IsLinkLift, IsRangeClosed, IsRangeLift, need, AreSameLinks, AreSameRanges, IsSame, IsSamePart}
+use Rattle.std.specs.Prelude.{◌&&◌, is_some, Some}
+use Rattle.std.proofs.Common.{true≢false}
+use Rattle.zf_tree.specs.declared.symbol.Constant.TheVariants as constants
 use Rattle.zf_tree.specs.declared.operator.Operator.TheVariants as operator
 use Rattle.zf_tree.specs.declared.operator.Unary.TheVariants as the_unary
 use Rattle.zf_value.specs.declared.value.Truth.TheVariants as truth
+use Rattle.zf_term.specs.declared.extent.Infinite.{Infinite}
+use Rattle.zf_extent.specs.Extents.{constant_set}
+use Rattle.zf_meaning.specs.Meaning.{constant_truth}
+use Rattle.zf_meaning.specs.NumberSets.{infinite_in, unended}
 use Rattle.zf_meaning.proofs.Unique.{one_outcome}
 use Rattle.zf_lift.proofs.Needs.{uses_no_more}
 use Rattle.zf_lift.proofs.Forms as forms
@@ -41,16 +48,16 @@ name_lift b e f l r k h = record {
   needs = omega arith;
   same = λ g x row locals o.
       let y = longer_ones.further e f g h x in
-      forms.same_reference (at g row locals) (at e row locals) l r (same_named e g row locals r y k) (longer_ones.same_globals e g y);
+      forms.same_reference (at g row locals) (at e row locals) l r (same_named e g row locals r y k) (longer_ones.same_globals e g y) (longer_ones.same_numbers e g y);
 }
 
 pub local_closed : (e : Environment) (l i : ℕ) → IsClosed e (reference l (Local i))
 unfolding IsClosed
-local_closed e l i row locals = forms.same_reference (at e [] locals) (at e row locals) l (Local i) refl refl
+local_closed e l i row locals = forms.same_reference (at e [] locals) (at e row locals) l (Local i) refl refl refl
 
 pub global_closed : (e : Environment) (l i : ℕ) → IsClosed e (reference l (Global i))
 unfolding IsClosed
-global_closed e l i row locals = forms.same_reference (at e [] locals) (at e row locals) l (Global i) refl refl
+global_closed e l i row locals = forms.same_reference (at e [] locals) (at e row locals) l (Global i) refl refl refl
 
 -- ---- forms without parts
 
@@ -62,13 +69,13 @@ pub number_closed : (e : Environment) (l n : ℕ) → IsClosed e (number l n)
 unfolding IsClosed
 number_closed e l n row locals = forms.same_number (at e [] locals) (at e row locals) l n
 
-pub constant_lift : (b : Bool) (f e : Environment) (l : ℕ) (k : Constant) → IsLift b f e (constant l k) (constant l k)
+pub constant_lift : (b : Bool) (f e : Environment) (l : ℕ) (k : Constant) → IsLonger e f → IsLift b f e (constant l k) (constant l k)
 unfolding IsLift
-constant_lift b f e l k = record { needs = omega arith; same = λ g x row locals o. forms.same_constant (at g row locals) (at e row locals) l k }
+constant_lift b f e l k h = record { needs = omega arith; same = λ g x row locals o. forms.same_constant (at g row locals) (at e row locals) l k (longer_ones.same_numbers e g (longer_ones.further e f g h x)) }
 
 pub constant_closed : (e : Environment) (l : ℕ) (k : Constant) → IsClosed e (constant l k)
 unfolding IsClosed
-constant_closed e l k row locals = forms.same_constant (at e [] locals) (at e row locals) l k
+constant_closed e l k row locals = forms.same_constant (at e [] locals) (at e row locals) l k refl
 
 pub empty_set_lift : (b : Bool) (f e : Environment) (l : ℕ) (t u : ResolvedTree) → need t ≤ need u → IsLift b f e (empty_set l t) (empty_set l u)
 unfolding IsLift
@@ -235,42 +242,55 @@ links_closed e (k ∷ ks) (m ∷ ls) h row locals = forms.same_links (at e [] lo
 
 -- ---- the name of what a closed part comes to
 
-no_predicate : (c : Context) (t : ResolvedTree) (a : Truth) → is_liftable t ≡ true → IsTruth c t a ↔ (a ≡ truth.False)
-no_predicate c (reference l r) a h = absurd (cc)
-no_predicate c (number l n) a h = absurd (cc)
-no_predicate c (constant l k) a h = absurd (cc)
-no_predicate c (empty_set l t) a h = (λ x. x, λ x. x)
-no_predicate c (bracket l t) a h = absurd (cc)
-no_predicate c (listed l form ts) a h = (λ x. x, λ x. x)
-no_predicate c (builder l rs p t) a h = (λ x. x, λ x. x)
-no_predicate c (unary l the_unary.Not t) a h = absurd (cc)
-no_predicate c (unary l (the_unary.Sign s) t) a h = (λ x. x, λ x. x)
-no_predicate c (unary l the_unary.Inverse t) a h = (λ x. x, λ x. x)
-no_predicate c (binary l (operator.Connective k) u v) a h = absurd (cc)
-no_predicate c (binary l (operator.Function k) u v) a h = (λ x. x, λ x. x)
-no_predicate c (binary l (operator.Generic k) u v) a h = (λ x. x, λ x. x)
-no_predicate c (binary l operator.Application u v) a h = (λ x. x, λ x. x)
-no_predicate c (binary l operator.Image u v) a h = (λ x. x, λ x. x)
-no_predicate c (chain l t ks) a h = absurd (cc)
-no_predicate c (quantified l q rs p t) a h = absurd (cc)
+number_truth : (k : Constant) (b : Bool) → (b && is_some (constant_set k)) ≡ true → constant_truth k ≡ truth.False
+number_truth constants.True true h = absurd (true≢false (sym h))
+number_truth constants.True false h = absurd (true≢false (sym h))
+number_truth constants.False b h = refl
+number_truth constants.Integers b h = refl
+number_truth constants.Naturals b h = refl
+number_truth constants.Positives b h = refl
 
-no_infinite : (ds : List Defined) (t : ResolvedTree) → is_liftable t ≡ true → direct ds t ≡ None
-no_infinite ds (reference l r) h = absurd (cc)
-no_infinite ds (number l n) h = refl
-no_infinite ds (constant l k) h = absurd (cc)
-no_infinite ds (empty_set l t) h = refl
-no_infinite ds (bracket l t) h = absurd (cc)
-no_infinite ds (listed l form ts) h = refl
-no_infinite ds (builder l rs p t) h = refl
-no_infinite ds (unary l op t) h = refl
-no_infinite ds (binary l op u v) h = refl
-no_infinite ds (chain l t ks) h = refl
-no_infinite ds (quantified l q rs p t) h = refl
+no_predicate : (n : Option ℕ) (c : Context) (t : ResolvedTree) (a : Truth) → is_liftable n t ≡ true → IsTruth c t a ↔ (a ≡ truth.False)
+no_predicate n c (reference l r) a h = absurd (cc)
+no_predicate n c (number l v) a h = absurd (cc)
+no_predicate n c (constant l k) a h = let f = number_truth k (is_some n) h in (λ x. x ∙ f, λ x. x ∙ sym f)
+no_predicate n c (empty_set l t) a h = (λ x. x, λ x. x)
+no_predicate n c (bracket l t) a h = absurd (cc)
+no_predicate n c (listed l form ts) a h = (λ x. x, λ x. x)
+no_predicate n c (builder l rs p t) a h = (λ x. x, λ x. x)
+no_predicate n c (unary l the_unary.Not t) a h = absurd (cc)
+no_predicate n c (unary l (the_unary.Sign s) t) a h = (λ x. x, λ x. x)
+no_predicate n c (unary l the_unary.Inverse t) a h = (λ x. x, λ x. x)
+no_predicate n c (binary l (operator.Connective k) u v) a h = absurd (cc)
+no_predicate n c (binary l (operator.Function k) u v) a h = (λ x. x, λ x. x)
+no_predicate n c (binary l (operator.Generic k) u v) a h = (λ x. x, λ x. x)
+no_predicate n c (binary l operator.Application u v) a h = (λ x. x, λ x. x)
+no_predicate n c (binary l operator.Image u v) a h = (λ x. x, λ x. x)
+no_predicate n c (chain l t ks) a h = absurd (cc)
+no_predicate n c (quantified l q rs p t) a h = absurd (cc)
 
-found_none : (o : Option Defined) → o ≡ None → extent_set (extent_found o) ≡ None
-found_none o h = ap (λ p. extent_set (extent_found p)) h
+ended : (d : Option Infinite) (n : Option ℕ) → (is_some n && is_some d) ≡ true → unended d n ≡ None
+ended None n h = refl
+ended (Some s) None h = absurd (true≢false (sym h))
+ended (Some s) (Some n) h = refl
 
-pub named_lift : (e f g : Environment) (l : ℕ) (t u : ResolvedTree) (x : Outcome) → IsLonger e f → length f.globals ≤ length f.outcomes → g ≡ longer f (x ∷ []) → is_liftable u ≡ true → IsClosed e u → IsLift true f e t u → HasOutcome (at f [] []) t x → IsLift true g e (reference l (Global (length f.outcomes))) u
+no_infinite : (e : Environment) (t : ResolvedTree) → is_liftable e.numbers t ≡ true → infinite_in e t ≡ None
+no_infinite e (reference l r) h = absurd (cc)
+no_infinite e (number l n) h = refl
+no_infinite e (constant l k) h = ended (constant_set k) e.numbers h
+no_infinite e (empty_set l t) h = refl
+no_infinite e (bracket l t) h = absurd (cc)
+no_infinite e (listed l form ts) h = refl
+no_infinite e (builder l rs p t) h = refl
+no_infinite e (unary l op t) h = refl
+no_infinite e (binary l op u v) h = refl
+no_infinite e (chain l t ks) h = refl
+no_infinite e (quantified l q rs p t) h = refl
+
+found_none : (n : Option ℕ) (o : Option Defined) → o ≡ None → unended (extent_set (extent_found o)) n ≡ None
+found_none n o h = ap (λ p. unended (extent_set (extent_found p)) n) h
+
+pub named_lift : (e f g : Environment) (l : ℕ) (t u : ResolvedTree) (x : Outcome) → IsLonger e f → length f.globals ≤ length f.outcomes → g ≡ longer f (x ∷ []) → is_liftable e.numbers u ≡ true → IsClosed e u → IsLift true f e t u → HasOutcome (at f [] []) t x → IsLift true g e (reference l (Global (length f.outcomes))) u
 unfolding IsLift IsClosed
 named_lift e f g l t u x e-f behind is liftable closed lift has = record {
   needs = omega arith;
@@ -282,8 +302,8 @@ named_lift e f g l t u x e-f behind is liftable closed lift has = record {
       let f-h = longer_ones.further f g h (x ∷ [], is) g-h in
       record {
         outcome = λ o. (λ y. subst (λ z. HasOutcome (at e row locals) u z) (sym (y ∙ known)) here, λ y. one_outcome (at e row locals) u o x y here ∙ sym known);
-        truth = λ a. (λ y. (no_predicate (at e row locals) u a liftable).1 y, λ y. (no_predicate (at e row locals) u a liftable).0 y);
-        infinite = found_none _ (longer_ones.no_global f h (length f.outcomes) behind f-h) ∙ sym (no_infinite e.globals u liftable);
+        truth = λ a. (λ y. (no_predicate e.numbers (at e row locals) u a liftable).1 y, λ y. (no_predicate e.numbers (at e row locals) u a liftable).0 y);
+        infinite = found_none h.numbers _ (longer_ones.no_global f h (length f.outcomes) behind f-h) ∙ sym (no_infinite e u liftable);
       };
 }
 

@@ -1,7 +1,8 @@
 -- Terms in which closed parts are names of what they come to, which stand behind all others. Public clauses rest on `is_liftable` alone.
-use Rattle.std.specs.Prelude.{◌≡◌, ◌≤◌, ℕ, Bool, true, false, List, []}
+use Rattle.std.specs.Prelude.{◌≡◌, ◌≤◌, ℕ, Bool, true, false, ◌&&◌, is_some, List, [], Option}
 use Rattle.zf_tree.specs.declared.operator.Operator.TheVariants as operator
 use Rattle.zf_tree.specs.declared.operator.Unary.TheVariants as the_unary
+use Rattle.zf_extent.specs.Extents.{constant_set}
 use Rattle.zf_term.specs.ResolvedTrees.{ResolvedTree, reference, number, constant, empty_set, bracket, listed, builder, unary, binary, chain, quantified, ResolvedTrees, ResolvedLinks, Ranges, ResolvedPart}
 use Rattle.zf_value.specs.declared.plain.Value.{Value}
 use Rattle.zf_meaning.specs.Environments.{Environment, Context}
@@ -55,22 +56,22 @@ AreLinksClosed e ks = Whichever e (λ c d. AreSameLinks c ks d ks)
 unfoldable pub IsPartClosed : Environment → ResolvedPart → Type 0
 IsPartClosed e p = Whichever e (λ c d. IsSamePart c p d p)
 
--- a form that builds a value: it is no predicate, and no infinite set
-abbrev pub is_liftable : ResolvedTree → Bool
-is_liftable (reference l r) = false
-is_liftable (number l n) = false
-is_liftable (constant l k) = false
-is_liftable (empty_set l t) = true
-is_liftable (bracket l t) = false
-is_liftable (listed l form ts) = true
-is_liftable (builder l rs p t) = true
-is_liftable (unary l the_unary.Not t) = false
-is_liftable (unary l (the_unary.Sign s) t) = true
-is_liftable (unary l the_unary.Inverse t) = true
-is_liftable (binary l (operator.Connective k) a b) = false
-is_liftable (binary l (operator.Function k) a b) = true
-is_liftable (binary l (operator.Generic k) a b) = true
-is_liftable (binary l operator.Application a b) = true
-is_liftable (binary l operator.Image a b) = true
-is_liftable (chain l t ks) = false
-is_liftable (quantified l q rs p t) = false
+-- a form that builds a value, where these are the numbers: it is no predicate, and no infinite set
+abbrev pub is_liftable : (numbers : Option ℕ) → ResolvedTree → Bool
+is_liftable n (reference l r) = false
+is_liftable n (number l v) = false
+is_liftable n (constant l k) = is_some n && is_some (constant_set k)
+is_liftable n (empty_set l t) = true
+is_liftable n (bracket l t) = false
+is_liftable n (listed l form ts) = true
+is_liftable n (builder l rs p t) = true
+is_liftable n (unary l the_unary.Not t) = false
+is_liftable n (unary l (the_unary.Sign s) t) = true
+is_liftable n (unary l the_unary.Inverse t) = true
+is_liftable n (binary l (operator.Connective k) a b) = false
+is_liftable n (binary l (operator.Function k) a b) = true
+is_liftable n (binary l (operator.Generic k) a b) = true
+is_liftable n (binary l operator.Application a b) = true
+is_liftable n (binary l operator.Image a b) = true
+is_liftable n (chain l t ks) = false
+is_liftable n (quantified l q rs p t) = false

@@ -1,18 +1,18 @@
 -- Terms that mean the same, each in a context of its own. No public clause rests on this.
 use Rattle.std.specs.Prelude.{◌≡◌, ◌↔◌, List}
-use Rattle.zf_extent.specs.Extents.{direct}
 use Rattle.zf_term.specs.ResolvedTrees.{ResolvedTree, ResolvedTrees, ResolvedLinks, Ranges, ResolvedPart}
 use Rattle.zf_value.specs.declared.plain.Value.{Value}
 use Rattle.zf_value.specs.declared.value.Outcome.{Outcome}
 use Rattle.zf_value.specs.declared.value.Truth.{Truth}
 use Rattle.zf_meaning.specs.Environments.{Context}
+use Rattle.zf_meaning.specs.NumberSets.{infinite_in}
 use Rattle.zf_meaning.specs.Outcomes.{Several}
 use Rattle.zf_meaning.specs.Meaning.{HasOutcome, HaveOutcomes, HaveRanges, Builds, IsConstraint, IsTruth, AreLinked}
 
 pub record IsSame (c : Context) (t : ResolvedTree) (d : Context) (u : ResolvedTree) : Type 0 where
   pub outcome : (o : Outcome) → HasOutcome c t o ↔ HasOutcome d u o
   pub truth : (a : Truth) → IsTruth c t a ↔ IsTruth d u a
-  pub infinite : direct c.environment.globals t ≡ direct d.environment.globals u
+  pub infinite : infinite_in c.environment t ≡ infinite_in d.environment u
 
 abbrev pub AreSame : Context → ResolvedTrees → Context → ResolvedTrees → Type 0
 AreSame c ts d us = (s : Several) → HaveOutcomes c ts s ↔ HaveOutcomes d us s

@@ -1,22 +1,25 @@
 //! Which parts of a predicate are worth a name.
-ghost use Rattle.std.specs.Prelude.{◌≡◌, ℕ};
+ghost use Rattle.std.specs.Prelude.{◌≡◌, ◌&&◌, ℕ, Option, is_some};
+ghost use Rattle.zf_extent.specs.Extents.{constant_set};
 ghost use Rattle.zf_term.specs.ResolvedTrees.{ResolvedTree, unary, binary};
 ghost use Rattle.zf_term.specs.ResolvedViews.{resolved_of};
+ghost use Rattle.zf_meaning.specs.Envs.{environment_of};
 ghost use Rattle.zf_lift.specs.Lifts as spec;
 
+use zf_meaning::env::Env;
 use zf_term::resolved::Resolved;
 use zf_tree::operator::{Listed, Operator, Sign, Unary};
-use zf_tree::symbol::{Infix, Prefix, Relation};
+use zf_tree::symbol::{Constant, Infix, Prefix, Relation};
 
-/// Whether the term is of a form that builds a value.
+/// Whether the term is of a form that builds a value in the environment.
 #[tactic(auto, using(zf_term::proofs::ResolvedSeen::seen))]
-pub fn is_liftable(term: &Resolved<'_>) -> bool
-    ensures { result ≡ spec.is_liftable (resolved_of term.now) }
+pub fn is_liftable(term: &Resolved<'_>, env: &Env<'_, '_>) -> bool
+    ensures { result ≡ spec.is_liftable (environment_of env.now).numbers (resolved_of term.now) }
 {
     match term {
         Resolved::Name(_, _) => false,
         Resolved::Number(_, _) => false,
-        Resolved::Constant(_, _) => false,
+        Resolved::Constant(_, symbol) => is_ended_set(*symbol, env),
         Resolved::EmptySet(_, _) => true,
         Resolved::Bracket(_, _) => false,
         Resolved::Listed(_, _, _) => true,
@@ -28,7 +31,7 @@ pub fn is_liftable(term: &Resolved<'_>) -> bool
     }
 }
 
-/// Whether what stands behind a relation is asked only for whether it has a member, and then need not be built: a family of sets behind a membership.
+/// Whether what stands behind a relation is asked only for whether it has a member, and then need not be built: numbers, or a family of sets, behind a membership.
 pub fn is_asked(relation: Relation, term: &Resolved<'_>) -> bool {
     match relation {
         Relation::Member => is_family(term),
@@ -40,6 +43,7 @@ pub fn is_asked(relation: Relation, term: &Resolved<'_>) -> bool {
 /// Whether the term is a set that is told by what it is made of.
 fn is_family(term: &Resolved<'_>) -> bool {
     match term {
+        Resolved::Constant(_, _) => true,
         Resolved::Listed(_, Listed::Product, _) => true,
         Resolved::Unary(_, Unary::Sign(Sign::Symbol(Prefix::Power)), _) => true,
         Resolved::Unary(_, Unary::Sign(Sign::Symbol(Prefix::Finset)), _) => true,
@@ -49,9 +53,31 @@ fn is_family(term: &Resolved<'_>) -> bool {
     }
 }
 
+/// Whether the symbol is a set of numbers, which end.
+fn is_ended_set(symbol: Constant, env: &Env<'_, '_>) -> bool
+    ensures { result ≡ (is_some (environment_of env.now).numbers && is_some (constant_set symbol)) }
+{
+    match env.numbers() {
+        Some(_) => is_number_set(symbol),
+        None => false,
+    }
+}
+
+fn is_number_set(symbol: Constant) -> bool
+    ensures { result ≡ is_some (constant_set symbol) }
+{
+    match symbol {
+        Constant::True => false,
+        Constant::False => false,
+        Constant::Integers => true,
+        Constant::Naturals => true,
+        Constant::Positives => true,
+    }
+}
+
 /// Whether what stands before or behind a term makes a value of it.
 fn builds(operator: Unary) -> bool
-    ensures { (l : ℕ) (t : ResolvedTree) → result ≡ spec.is_liftable (unary l operator t) }
+    ensures { (n : Option ℕ) (l : ℕ) (t : ResolvedTree) → result ≡ spec.is_liftable n (unary l operator t) }
 {
     match operator {
         Unary::Not => false,
@@ -62,7 +88,7 @@ fn builds(operator: Unary) -> bool
 
 /// Whether what stands between two terms makes a value of them.
 fn combines(operator: Operator) -> bool
-    ensures { (l : ℕ) (t u : ResolvedTree) → result ≡ spec.is_liftable (binary l operator t u) }
+    ensures { (n : Option ℕ) (l : ℕ) (t u : ResolvedTree) → result ≡ spec.is_liftable n (binary l operator t u) }
 {
     match operator {
         Operator::Connective(_) => false,

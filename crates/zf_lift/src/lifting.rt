@@ -49,7 +49,7 @@ pub(crate) fn lifted<'g, 'a>(
     if !found.is_closed {
         return Ok(found);
     }
-    if !is_liftable(term) {
+    if !is_liftable(term, base) {
         return Ok(found);
     }
     named(found, own)
@@ -61,7 +61,7 @@ fn named<'g, 'a>(
     own: &mut Env<'g, 'a>,
 ) -> Result<Lifting<Resolved<'a>>, Unlifted>
     ensures grows { OnOk result (IsLonger (environment_of own.old) (environment_of own.new)) }
-    ensures same { (e : Environment) (t : ResolvedTree) → IsLonger e (environment_of own.old) → spec.is_liftable t ≡ true → spec.IsClosed e t → spec.IsLift true (environment_of own.old) e (resolved_of found.entry.part) t
+    ensures same { (e : Environment) (t : ResolvedTree) → IsLonger e (environment_of own.old) → spec.is_liftable e.numbers t ≡ true → spec.IsClosed e t → spec.IsLift true (environment_of own.old) e (resolved_of found.entry.part) t
         → IfOk result (λ p. spec.IsLift true (environment_of own.new) e (resolved_of p.part) t) }
 {
     let place = own.count();

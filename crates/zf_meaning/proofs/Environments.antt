@@ -1,7 +1,8 @@
--- A type has one carrier, and globals at the same sizes have one list of outcomes.
+-- A type has one carrier, and globals at the same sizes, with the same numbers, have one list of outcomes.
 use Rattle.zf_meaning.proofs.Prelude.{◌<◌, ◌∙◌, ◌∷◌, ◌≡◌, ◌≤◌, [], ap, arith, length, List, None, Option, refl, Some, subst, suc, sym, take, zero, ℕ, slice_get, HasOne, one_set, AreElements, IsCross, IsPower, members, Outcome, abbreviation, constructor, Definition, free_type, given_set, schema, basic, int, no_types, power, product, Ty, type, Tys, AreCarriers, IsCarrier, IsTypeSetIf, AreElementsIf, before, element_count, Environment, globally, type_number, AreWorkedOut, IsOutcomeOf, OnOne, OnSeveral, Several}
 use Rattle.zf_value.proofs.Once as once
-use Rattle.zf_meaning.proofs.Unique.{one_outcome, one_on_one, one_on_several}
+use Rattle.zf_term.specs.declared.extent.Infinite.TheVariants.{Num}
+use Rattle.zf_meaning.proofs.Unique.{one_number_set, one_outcome, one_on_one, one_on_several}
 
 one_elements : (n k : ℕ) → HasOne (AreElements n k)
 unfolding AreElements
@@ -17,7 +18,7 @@ one_type_set e (Some n) o p h m = one_elements_if n (element_count e n) o p h m
 
 mutual
   pub one_carrier : (e : Environment) (t : Ty) (o p : Outcome) → IsCarrier e t o → IsCarrier e t p → o ≡ p
-  one_carrier e int o p h k = h ∙ sym k
+  one_carrier e int o p h k = one_number_set e.numbers Num o p h k
   one_carrier e (basic name) o p h k = one_type_set e (type_number e name) o p h k
   one_carrier e (power t) o p h k =
       let x = one_carrier e t h.0 k.0 h.1 k.1 in
@@ -67,20 +68,20 @@ take_all [] (suc n) h = refl
 take_all (x ∷ xs) zero h = absurd (omega arith)
 take_all (x ∷ xs) (suc n) h = ap (λ ys. x ∷ ys) (take_all xs n (omega arith))
 
-same_before : (e f : Environment) (n : ℕ) → e.globals ≡ f.globals → e.sizes ≡ f.sizes → take n e.outcomes ≡ take n f.outcomes → before e n ≡ before f n
-same_before e f n g s t = λ i. record { globals = g i; sizes = s i; outcomes = t i }
+same_before : (e f : Environment) (n : ℕ) → e.globals ≡ f.globals → e.sizes ≡ f.sizes → e.numbers ≡ f.numbers → take n e.outcomes ≡ take n f.outcomes → before e n ≡ before f n
+same_before e f n g s m t = λ i. record { globals = g i; sizes = s i; outcomes = t i; numbers = m i }
 
-fronts : (e f : Environment) → e.globals ≡ f.globals → e.sizes ≡ f.sizes → AreWorkedOut e → AreWorkedOut f → (n : ℕ) → n ≤ length e.globals → take n e.outcomes ≡ take n f.outcomes
-fronts e f g s h k zero l = refl
-fronts e f g s h k (suc n) l =
-    let rest = fronts e f g s h k n (omega (arith, l)) in
+fronts : (e f : Environment) → e.globals ≡ f.globals → e.sizes ≡ f.sizes → e.numbers ≡ f.numbers → AreWorkedOut e → AreWorkedOut f → (n : ℕ) → n ≤ length e.globals → take n e.outcomes ≡ take n f.outcomes
+fronts e f g s m h k zero l = refl
+fronts e f g s m h k (suc n) l =
+    let rest = fronts e f g s m h k n (omega (arith, l)) in
     let d = found e.globals n (omega (arith, l)) in
     let a = h.1 n d.0 d.1 in
     let b = k.1 n d.0 (ap (λ x. slice_get x n) (sym g) ∙ d.1) in
-    let o = one_outcome_of (before f n) d.0.definition a.0 b.0 (subst (λ x. IsOutcomeOf x d.0.definition a.0) (same_before e f n g s rest) a.2) b.2 in
+    let o = one_outcome_of (before f n) d.0.definition a.0 b.0 (subst (λ x. IsOutcomeOf x d.0.definition a.0) (same_before e f n g s m rest) a.2) b.2 in
     take_more e.outcomes f.outcomes n rest (a.1 ∙ ap Some o ∙ sym b.1)
 
-pub one_environment : (e f : Environment) → e.globals ≡ f.globals → e.sizes ≡ f.sizes → AreWorkedOut e → AreWorkedOut f → e.outcomes ≡ f.outcomes
-one_environment e f g s h k =
+pub one_environment : (e f : Environment) → e.globals ≡ f.globals → e.sizes ≡ f.sizes → e.numbers ≡ f.numbers → AreWorkedOut e → AreWorkedOut f → e.outcomes ≡ f.outcomes
+one_environment e f g s m h k =
     let n = length e.globals in
-    sym (take_all e.outcomes n (sym h.0)) ∙ fronts e f g s h k n (omega arith) ∙ take_all f.outcomes n (ap length g ∙ sym k.0)
+    sym (take_all e.outcomes n (sym h.0)) ∙ fronts e f g s m h k n (omega arith) ∙ take_all f.outcomes n (ap length g ∙ sym k.0)

@@ -13,6 +13,7 @@ pub mod PassedRows
 pub mod Told
 pub mod RowValues
 pub mod Tests
+pub mod NumberSets
 pub mod Operands
 pub mod Gathering
 pub mod Connecting

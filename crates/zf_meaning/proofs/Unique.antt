@@ -1,7 +1,9 @@
 -- A term has one outcome at most, and one truth.
-use Rattle.zf_meaning.proofs.Prelude.{◌∙◌, ◌≡◌, List, None, Option, refl, Some, subst, sym, ⊎_elim, pos, one_Modulus, one_Quotient, HasOne, one_number, one_on_number, one_on_numbers, one_set, IsDifference, IsModulus, IsNegation, IsProduct, IsSum, IsInterval, IsQuotient, AreFrom, Outcome, Is, Out, Undefined, Truth, Value, Listed, Operator, Unary, Arrow, Connective, Infix, Composition, Difference, Div, DomainRestriction, DomainSubtraction, Intersection, Maplet, Minus, Mod, Overriding, Plus, RangeRestriction, RangeSubtraction, Times, Union, UpTo, Quantifier, Relation, absent, binary, bracket, builder, chain, constant, empty_set, link, listed, no_links, no_ranges, no_terms, number, present, quantified, range, Ranges, reference, ResolvedLinks, ResolvedPart, ResolvedTree, ResolvedTrees, term, unary, Infinite, Context, within, AreLinked, Builds, HasOutcome, HaveOutcomes, HaveRanges, infinite_right, IsBuilt, IsBuiltBy, IsBuiltOver, IsConstraint, IsLink, IsOutOfBounds, IsTruth, IsWithinBounds, OnBoth, one_out, one_undefined, OnOne, OnSeveral, Several, values, ArrowOutcome, BinaryOutcome, Holds, HoldsOf, InfixOutcome, ListedOutcome, PrefixOutcome, SignOutcome, UnaryOutcome, IsAtom, IsConjunction, IsConnected, IsDisjunction, IsEquivalence, IsExists, IsExistsOne, IsForAll, IsOver, IsQuantified, IsTest, IsTold, opposite, Tells}
+use Rattle.zf_meaning.proofs.Prelude.{◌∙◌, ◌≡◌, List, None, Option, refl, Some, subst, sym, ⊎_elim, pos, one_Modulus, one_Quotient, HasOne, one_number, one_on_number, one_on_numbers, one_set, IsDifference, IsModulus, IsNegation, IsProduct, IsSum, IsInterval, IsQuotient, AreFrom, Outcome, Is, Out, Undefined, Truth, Value, Listed, Operator, Unary, Arrow, Connective, Infix, Composition, Difference, Div, DomainRestriction, DomainSubtraction, Intersection, Maplet, Minus, Mod, Overriding, Plus, RangeRestriction, RangeSubtraction, Times, Union, UpTo, Quantifier, Relation, absent, binary, bracket, builder, chain, constant, empty_set, link, listed, no_links, no_ranges, no_terms, number, present, quantified, range, Ranges, reference, ResolvedLinks, ResolvedPart, ResolvedTree, ResolvedTrees, term, unary, Infinite, Context, within, AreLinked, Builds, HasOutcome, HaveOutcomes, HaveRanges, infinite_right, IsBuilt, IsBuiltBy, IsBuiltOver, IsConstraint, IsLink, IsOutOfBounds, IsTruth, IsWithinBounds, OnBoth, one_out, one_undefined, OnOne, OnSeveral, Several, values, ArrowOutcome, BinaryOutcome, Holds, HoldsOf, InfixOutcome, ListedOutcome, PrefixOutcome, SignOutcome, UnaryOutcome, IsAtom, IsConjunction, IsConnected, IsDisjunction, IsEquivalence, IsExists, IsExistsOne, IsForAll, IsOver, IsQuantified, IsTest, IsTold, opposite, Tells, ℕ}
 use Rattle.zf_tree.specs.declared.symbol.Arrow.TheVariants as arrow
 use Rattle.zf_tree.specs.declared.symbol.Connective.TheVariants as connective
+use Rattle.zf_tree.specs.declared.symbol.Constant.{Constant}
+use Rattle.zf_tree.specs.declared.symbol.Constant.TheVariants as the_constant
 use Rattle.zf_tree.specs.declared.symbol.Prefix.{Prefix}
 use Rattle.zf_tree.specs.declared.symbol.Prefix.TheVariants as prefix
 use Rattle.zf_tree.specs.declared.symbol.Quantifier.TheVariants as quantifier
@@ -11,6 +13,9 @@ use Rattle.zf_tree.specs.declared.operator.Listed.TheVariants as the_listed
 use Rattle.zf_tree.specs.declared.operator.Operator.TheVariants as operator
 use Rattle.zf_tree.specs.declared.operator.Unary.TheVariants as the_unary
 use Rattle.zf_value.specs.declared.value.Truth.TheVariants as truth
+use Rattle.zf_term.specs.declared.extent.Infinite.TheVariants.{Num, Nat, Nat1}
+use Rattle.zf_meaning.specs.Meaning.{IsConstantOutcome}
+use Rattle.zf_meaning.specs.NumberSets.{IsNumberSet}
 use Rattle.zf_value.proofs.Once as once
 
 one_infix : (op : Infix) (v w : Value) → HasOne (InfixOutcome op v w)
@@ -60,6 +65,17 @@ one_unary : (op : Unary) (v : Value) → HasOne (UnaryOutcome op v)
 one_unary (the_unary.Sign s) v o p h k = one_sign s v o p h k
 one_unary the_unary.Inverse v o p h k = once.one_Inverse _ o p h k
 one_unary the_unary.Not v o p h k = h ∙ sym k
+
+pub one_number_set : (n : Option ℕ) (s : Infinite) → HasOne (IsNumberSet n s)
+one_number_set None s o p h k = h ∙ sym k
+one_number_set (Some n) s o p h k = once.one_Interval _ _ o p h k
+
+one_constant : (n : Option ℕ) (k : Constant) → HasOne (IsConstantOutcome n k)
+one_constant n the_constant.True o p h k = h ∙ sym k
+one_constant n the_constant.False o p h k = h ∙ sym k
+one_constant n the_constant.Integers o p h k = one_number_set n Num o p h k
+one_constant n the_constant.Naturals o p h k = one_number_set n Nat o p h k
+one_constant n the_constant.Positives o p h k = one_number_set n Nat1 o p h k
 
 one_listed : (form : Listed) (vs : List Value) → HasOne (ListedOutcome form vs)
 one_listed the_listed.Tuple vs o p h k = h ∙ sym k
@@ -297,7 +313,7 @@ mutual
   pub one_outcome : (c : Context) (t : ResolvedTree) (o p : Outcome) → HasOutcome c t o → HasOutcome c t p → o ≡ p
   one_outcome c (reference l r) o p h k = h ∙ sym k
   one_outcome c (number l n) o p h k = one_number (pos n) o p h k
-  one_outcome c (constant l x) o p h k = h ∙ sym k
+  one_outcome c (constant l x) o p h k = one_constant c.environment.numbers x o p h k
   one_outcome c (empty_set l t) o p h k = h ∙ sym k
   one_outcome c (bracket l t) o p h k = one_outcome c t o p h k
   one_outcome c (listed l form ts) o p h k =

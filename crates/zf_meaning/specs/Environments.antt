@@ -1,4 +1,4 @@
--- What names stand for: the globals with the sizes of given sets and free types, and what a row and bound variables give.
+-- What names stand for: the globals with the sizes of given sets and free types, which numbers there are, and what a row and bound variables give.
 use Rattle.std.specs.Prelude.{◌≡◌, ℕ, ◌^◌, nat_lt, if◌then◌else◌, List, [], ◌++◌, take, Option, Some, None, slice_get}
 use Rattle.zf_reference.specs.declared.reference.Reference.{Reference}
 use Rattle.zf_reference.specs.declared.reference.Reference.TheVariants.{Component, Local, Global}
@@ -9,15 +9,17 @@ use Rattle.zf_value.specs.declared.value.Outcome.{Outcome}
 use Rattle.zf_value.specs.declared.value.Outcome.TheVariants.{Is, Undefined}
 use Rattle.zf_value.specs.Operations.{AreElements}
 
--- the globals, how many elements each given set and free type has, in order of definition, and the outcome of each global, by its place
+-- the globals, how many elements each given set and free type has, in order of definition, the outcome of each global, by its place,
+-- and the greatest number that there is, if numbers end: then `\num` has it, its opposite and what is between
 pub record Environment : Type 0 where
   pub globals : List Defined
   pub sizes : List ℕ
   pub outcomes : List Outcome
+  pub numbers : Option ℕ
 
 -- the environment as it is before the global at this place
 abbrev pub before : Environment → ℕ → Environment
-before e i = record { globals = e.globals; sizes = e.sizes; outcomes = take i e.outcomes }
+before e i = record { globals = e.globals; sizes = e.sizes; outcomes = take i e.outcomes; numbers = e.numbers }
 
 -- ---- elements
 

@@ -1,5 +1,5 @@
 -- The outcomes of the globals, worked out in order: each by those before it.
-use Rattle.std.specs.Prelude.{◌≡◌, ℕ, List, length, Some, slice_get}
+use Rattle.std.specs.Prelude.{◌≡◌, ℕ, List, length, Option, Some, slice_get}
 use Rattle.zf_term.specs.Definitions.{Defined, Definition, given_set, free_type, constructor, abbreviation, schema}
 use Rattle.zf_value.specs.declared.value.Outcome.{Outcome}
 use Rattle.zf_value.specs.declared.value.Outcome.TheVariants.{Undefined}
@@ -22,6 +22,6 @@ IsWorkedOut e i d = (o : Outcome) × (slice_get e.outcomes i ≡ Some o) × IsOu
 abbrev pub AreWorkedOut : Environment → Type 0
 AreWorkedOut e = (length e.outcomes ≡ length e.globals) × ((i : ℕ) (d : Defined) → slice_get e.globals i ≡ Some d → IsWorkedOut e i d)
 
--- the environment of these globals at the stated sizes
-abbrev pub IsEnvironment : List Defined → List Size → Environment → Type 0
-IsEnvironment g stated e = (e.globals ≡ g) × AreSizes stated g e.sizes × AreWorkedOut e
+-- the environment of these globals at the stated sizes, where these are the numbers
+abbrev pub IsEnvironment : List Defined → List Size → (numbers : Option ℕ) → Environment → Type 0
+IsEnvironment g stated numbers e = (e.globals ≡ g) × AreSizes stated g e.sizes × AreWorkedOut e × (e.numbers ≡ numbers)

@@ -2,6 +2,7 @@ pub mod Outcomes
 pub mod Truths
 pub mod Symbols
 pub mod Environments
+pub mod NumberSets
 pub mod Meaning
 pub mod Sizes
 pub mod GlobalOutcomes

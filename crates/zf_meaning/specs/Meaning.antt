@@ -1,13 +1,14 @@
 -- What terms mean: the outcome of an expression and the truth of a predicate, as relations.
 -- They are total: an expression that typing rules out is undefined, and a predicate false.
-use Rattle.std.specs.Prelude.{◌≡◌, ◌⊎◌, pos, if◌then◌else◌, List, [], ◌∷◌, Option, Some, None}
+use Rattle.std.specs.Prelude.{◌≡◌, ◌⊎◌, ℕ, pos, if◌then◌else◌, List, [], ◌∷◌, Option, Some, None}
 use Rattle.zf_tree.specs.declared.symbol.Constant.{Constant}
 use Rattle.zf_tree.specs.declared.symbol.Constant.TheVariants as constants
 use Rattle.zf_tree.specs.declared.symbol.Relation.{Relation}
 use Rattle.zf_term.specs.declared.extent.Infinite.{Infinite}
+use Rattle.zf_term.specs.declared.extent.Infinite.TheVariants.{Num, Nat, Nat1}
 use Rattle.zf_tree.specs.declared.operator.Operator.TheVariants.{Connective}
 use Rattle.zf_tree.specs.declared.operator.Unary.TheVariants.{Not}
-use Rattle.zf_extent.specs.Extents.{direct, is_membership}
+use Rattle.zf_extent.specs.Extents.{is_membership}
 use Rattle.zf_term.specs.ResolvedTrees.{ResolvedTree, reference, number, constant, empty_set, bracket, listed, builder, unary, binary, chain, quantified, ResolvedTrees, no_terms, term, ResolvedLinks, no_links, link, Ranges, no_ranges, range, ResolvedPart, absent, present}
 use Rattle.zf_value.specs.declared.plain.Value.{Value, Tuple}
 use Rattle.zf_value.specs.declared.value.Outcome.{Outcome}
@@ -18,19 +19,20 @@ use Rattle.zf_value.specs.Numbers.{IsNumber}
 use Rattle.zf_value.specs.Operations.{AreFrom, IsEmptySet}
 use Rattle.zf_value.specs.Sets.{IsSetOf}
 use Rattle.zf_meaning.specs.Environments.{Context, within, outcome_in}
+use Rattle.zf_meaning.specs.NumberSets.{IsNumberSet, infinite_in}
 use Rattle.zf_meaning.specs.Outcomes.{OnOne, OnBoth, Several, values, one_undefined, one_out, one_more, repeated, OnSeveral}
 use Rattle.zf_meaning.specs.Symbols.{BinaryOutcome, UnaryOutcome, ListedOutcome, Holds, HoldsOf}
 use Rattle.zf_meaning.specs.Truths.{IsAtom, IsTest, opposite, IsConjunction, IsConnected, IsTold, IsQuantified}
 
 -- ---- constants
 
--- an infinite set is out as a value
-abbrev pub constant_outcome : Constant → Outcome
-constant_outcome constants.True = Undefined
-constant_outcome constants.False = Undefined
-constant_outcome constants.Integers = Out
-constant_outcome constants.Naturals = Out
-constant_outcome constants.Positives = Out
+-- where these are the numbers
+abbrev pub IsConstantOutcome : (numbers : Option ℕ) → Constant → Outcome → Type 0
+IsConstantOutcome n constants.True o = o ≡ Undefined
+IsConstantOutcome n constants.False o = o ≡ Undefined
+IsConstantOutcome n constants.Integers o = IsNumberSet n Num o
+IsConstantOutcome n constants.Naturals o = IsNumberSet n Nat o
+IsConstantOutcome n constants.Positives o = IsNumberSet n Nat1 o
 
 abbrev pub constant_truth : Constant → Truth
 constant_truth constants.True = truth.True
@@ -43,7 +45,7 @@ constant_truth constants.Positives = truth.False
 
 -- the infinite set that a link tests for, if the whole right side of a membership is one
 abbrev pub infinite_right : Context → Relation → ResolvedTree → Option Infinite
-infinite_right c r t = if is_membership r then direct c.environment.globals t else None
+infinite_right c r t = if is_membership r then infinite_in c.environment t else None
 
 -- the truth of a link between two outcomes, where the right one may be an infinite set instead
 abbrev pub IsLink : Option Infinite → Relation → Outcome → Outcome → Truth → Type 0
@@ -87,7 +89,7 @@ abbrev mutual
   pub HasOutcome : Context → ResolvedTree → Outcome → Type 0
   HasOutcome c (reference l r) o = o ≡ outcome_in c r
   HasOutcome c (number l n) o = IsNumber (pos n) o
-  HasOutcome c (constant l k) o = o ≡ constant_outcome k
+  HasOutcome c (constant l k) o = IsConstantOutcome c.environment.numbers k o
   HasOutcome c (empty_set l t) o = IsEmptySet o
   HasOutcome c (bracket l t) o = HasOutcome c t o
   HasOutcome c (listed l form ts) o = (s : Several) × HaveOutcomes c ts s × OnSeveral s (ListedOutcome form) o

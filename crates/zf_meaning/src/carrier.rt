@@ -16,9 +16,11 @@ use crate::env::Env;
 use crate::found::Found;
 use crate::gathered::Gathered;
 use crate::global_outcome::type_set;
+use crate::number_set::built_numbers;
 use crate::symbols::on_several;
 use std::alloc::{AllocError, Global};
 use zf_families::power::power;
+use zf_term::extent::Infinite;
 use zf_term::globals::{Entry, Globals};
 use zf_term::ztype::ZType;
 use zf_tree::operator::Listed;
@@ -31,7 +33,7 @@ pub fn carrier_of(ztype: &ZType<'_>, env: &Env<'_, '_>) -> Result<Outcome, Alloc
     ensures { IfOk result (IsCarrier (environment_of env.now) (type_of ztype.now)) }
 {
     match ztype {
-        ZType::Int => Ok(Outcome::Out),
+        ZType::Int => built_numbers(env, Infinite::Num),
         ZType::Basic(name) => basic_carrier(name.as_slice(), env),
         ZType::Power(member) => {
             let members = carrier_of(member.get(), env)?;

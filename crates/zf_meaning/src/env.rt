@@ -1,4 +1,4 @@
-//! Environments: the globals, with the sizes of given sets and free types, and the outcome of each.
+//! Environments: the globals, with the sizes of given sets and free types, which numbers there are, and the outcome of each.
 ghost use Rattle.std.specs.Prelude.{◌≡◌, [], ◌∷◌, None, Some, IfOk, IfErr, MatchOption, OnOk, length, slice_get};
 ghost use Rattle.zf_term.specs.DefinitionViews.{globals_of};
 ghost use Rattle.zf_meaning.specs.Envs.{environment_of, longer};
@@ -11,34 +11,43 @@ use std::alloc::{AllocError, Global};
 use zf_term::globals::Globals;
 use zf_value::value::Outcome;
 
-/// The globals of a text at stated sizes. The outcome of each abbreviation is worked out once.
+/// The globals of a text at stated sizes, with or without an end of the numbers. The outcome of each abbreviation is worked out once.
 #[derive(Drop)]
 pub struct Env<'g, 'a> {
     globals: &'g Globals<'a>,
     sizes: Vec<u64>,
     outcomes: Vec<Outcome>,
+    numbers: Option<u16>,
 }
 
 impl<'g, 'a> Env<'g, 'a> {
-    /// The globals at these sizes of the given sets.
+    /// The globals at these sizes of the given sets. With a greatest number `\num` has the numbers from its opposite to it; without one it is infinite.
     pub fn new(
         alloc: Global,
         globals: &'g Globals<'a>,
         sizes: &[Size],
+        numbers: Option<u16>,
     ) -> Result<Env<'g, 'a>, SizeFault>
         ensures complete { OnOk result (AreComplete (given_sets (globals_of globals.now)) sizes.now) }
-        ensures is { IfOk result (λ e. IsEnvironment (globals_of globals.now) sizes.now (environment_of e)) }
+        ensures is { IfOk result (λ e. IsEnvironment (globals_of globals.now) sizes.now numbers (environment_of e)) }
         ensures refused { IfErr result (IsRefusal (given_sets (globals_of globals.now)) sizes.now) }
     {
         check_sizes(alloc, &given_names(alloc, globals)?, sizes)?;
         let sizes = sizes_of(alloc, globals, sizes)?;
-        Ok(worked_out(alloc, globals, sizes)?)
+        Ok(worked_out(alloc, globals, sizes, numbers)?)
     }
 
     pub fn globals(&self) -> &'g Globals<'a>
         ensures { globals_of result.now ≡ (environment_of self.now).globals }
     {
         self.globals
+    }
+
+    /// The greatest number that there is, if numbers end.
+    pub fn numbers(&self) -> Option<u16>
+        ensures { result ≡ (environment_of self.now).numbers }
+    {
+        self.numbers
     }
 
     /// How many elements the given set or free type of this number has.
@@ -70,7 +79,7 @@ impl<'g, 'a> Env<'g, 'a> {
         Ok(())
     }
 
-    /// The same globals at the same sizes.
+    /// The same globals at the same sizes, with the same numbers.
     pub fn copy(&self, alloc: Global) -> Result<Env<'g, 'a>, AllocError>
         ensures { IfOk result (λ e. environment_of e ≡ environment_of self.now) }
     {
@@ -80,6 +89,7 @@ impl<'g, 'a> Env<'g, 'a> {
             globals: self.globals,
             sizes,
             outcomes: copied(alloc, &self.outcomes)?,
+            numbers: self.numbers,
         })
     }
 
@@ -93,15 +103,18 @@ fn worked_out<'g, 'a>(
     alloc: Global,
     globals: &'g Globals<'a>,
     sizes: Vec<u64>,
+    numbers: Option<u16>,
 ) -> Result<Env<'g, 'a>, AllocError>
     ensures globals { IfOk result (λ e. (environment_of e).globals ≡ globals_of globals.now) }
     ensures sizes { IfOk result (λ e. (environment_of e).sizes ≡ sizes.items) }
+    ensures numbers { IfOk result (λ e. (environment_of e).numbers ≡ numbers) }
     ensures outcomes { IfOk result (λ e. AreWorkedOut (environment_of e)) }
 {
     let mut env = Env {
         globals,
         sizes,
         outcomes: Vec::new(alloc),
+        numbers,
     };
     for place in 0..globals.len() {
         let outcome = outcome_at(&env, place)?;

@@ -7,7 +7,8 @@ ghost use Rattle.zf_meaning.specs.Environments as spec;
 ghost use Rattle.zf_meaning.specs.Envs.{environment_of};
 ghost use Rattle.zf_meaning.specs.Found.{found_of, found_outcome};
 ghost use Rattle.zf_meaning.specs.Meaning as meaning;
-ghost use Rattle.zf_meaning.specs.Meaning.{HasOutcome, IsTruth};
+ghost use Rattle.zf_meaning.specs.Meaning.{HasOutcome, IsConstantOutcome, IsTruth};
+ghost use Rattle.zf_meaning.specs.NumberSets.{IsNumberSet};
 ghost use Rattle.zf_meaning.specs.Places.{seen};
 ghost use Rattle.zf_meaning.specs.Scopes.{scope_of};
 
@@ -21,12 +22,14 @@ mod ranges;
 
 use crate::env::Env;
 use crate::found::Found;
+use crate::number_set::built_numbers;
 use crate::row::Row;
 use binders::{builder, quantified};
 use chains::chain;
 use operands::{binary, connective, listed, not, unary};
 use std::alloc::{AllocError, Global};
 use zf_reference::reference::Reference;
+use zf_term::extent::Infinite;
 use zf_term::resolved::Resolved;
 use zf_tree::operator::{Operator, Unary};
 use zf_tree::symbol::Constant;
@@ -48,7 +51,7 @@ pub(crate) fn outcome<'v, 'a, R: Row>(
     match term {
         Resolved::Name(_, reference) => Ok(named(*reference, row, locals, env)),
         Resolved::Number(_, value) => Ok(number(*value)),
-        Resolved::Constant(_, constant) => Ok(constant_outcome(*constant)),
+        Resolved::Constant(_, constant) => constant_outcome(*constant, env),
         Resolved::EmptySet(_, _) => empty_set(env.allocator()),
         Resolved::Bracket(_, inner) => outcome(inner.get(), row, locals, env),
         Resolved::Listed(_, form, terms) => listed(terms.as_slice(), *form, row, locals, env),
@@ -143,16 +146,23 @@ fn number<'v>(value: u64) -> Found<'v>
     }
 }
 
-fn constant_outcome<'v>(constant: Constant) -> Found<'v>
-    ensures { found_outcome result ≡ meaning.constant_outcome constant }
+fn constant_outcome<'v>(constant: Constant, env: &Env<'_, '_>) -> Result<Found<'v>, AllocError>
+    ensures { IfOk result (λ o. IsConstantOutcome (environment_of env.now).numbers constant (found_outcome o)) }
 {
     match constant {
-        Constant::True => Found::Undefined,
-        Constant::False => Found::Undefined,
-        Constant::Integers => Found::Out,
-        Constant::Naturals => Found::Out,
-        Constant::Positives => Found::Out,
+        Constant::True => Ok(Found::Undefined),
+        Constant::False => Ok(Found::Undefined),
+        Constant::Integers => numbers(env, Infinite::Num),
+        Constant::Naturals => numbers(env, Infinite::Nat),
+        Constant::Positives => numbers(env, Infinite::Nat1),
     }
+}
+
+/// The set of its numbers.
+fn numbers<'v>(env: &Env<'_, '_>, set: Infinite) -> Result<Found<'v>, AllocError>
+    ensures { IfOk result (λ o. IsNumberSet (environment_of env.now).numbers set (found_outcome o)) }
+{
+    Ok(Found::own(built_numbers(env, set)?))
 }
 
 fn constant_truth(constant: Constant) -> Truth

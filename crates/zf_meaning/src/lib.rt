@@ -11,6 +11,7 @@ mod gathered;
 mod global_outcome;
 pub mod laws;
 mod needs;
+pub mod number_set;
 mod relation;
 pub mod row;
 mod rows;

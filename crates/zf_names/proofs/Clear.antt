@@ -68,7 +68,7 @@ types_told stated small (d ∷ g) ks named p =
 -- ---- the laws
 
 pub globals_clear : GlobalsAreClear
-globals_clear boxes source globals faults stated e reads checked complete environment =
+globals_clear boxes source globals faults stated numbers e reads checked complete environment =
     let named = globals_named boxes source globals faults reads checked in
     let told = types_told stated (stated_small (given_sets globals) stated complete) globals e.sizes named.0 environment.1 in
     record { numbers = omega (arith, named.1, told.1, reads.1.short); spelled = told.0 }

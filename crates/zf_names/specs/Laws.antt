@@ -20,8 +20,8 @@ use Rattle.zf_value.specs.declared.plain.Value.{Value}
 -- the globals of a text, at sizes of all its given sets, have clear spellings
 abbrev pub GlobalsAreClear : Type 0
 GlobalsAreClear =
-    (boxes : List BoxTree) (source : List ℕ) (globals : List Defined) (faults : List Fault) (stated : List Size) (e : Environment)
-    → ReadsSource boxes source → IsChecked boxes globals faults → AreComplete (given_sets globals) stated → IsEnvironment globals stated e → AreClear (spellings globals) e.sizes
+    (boxes : List BoxTree) (source : List ℕ) (globals : List Defined) (faults : List Fault) (stated : List Size) (numbers : Option ℕ) (e : Environment)
+    → ReadsSource boxes source → IsChecked boxes globals faults → AreComplete (given_sets globals) stated → IsEnvironment globals stated numbers e → AreClear (spellings globals) e.sizes
 
 -- a schema that a text defines
 pub record IsSchemaOf (source : List ℕ) (globals : List Defined) (a : Schema) : Type 0 where

@@ -13,6 +13,6 @@ explored_in m = exploration m nodes.ghosts.eq
 
 -- each of its schemas is finite
 pub record CanExplore (m : System) : Type 0 where
-  pub state : IsFinite m.environment.globals m.state.schema
-  pub init : IsFinite m.environment.globals m.init.schema
-  pub operations : AllByRecursion (λ o. IsFinite m.environment.globals o.schema) m.operations
+  pub state : IsFinite m.environment.numbers m.environment.globals m.state.schema
+  pub init : IsFinite m.environment.numbers m.environment.globals m.init.schema
+  pub operations : AllByRecursion (λ o. IsFinite m.environment.numbers m.environment.globals o.schema) m.operations

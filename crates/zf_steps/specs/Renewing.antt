@@ -18,7 +18,7 @@ use Rattle.zf_steps.specs.Systems.{System}
 
 -- The schema can be searched, whatever is held: it is finite, no conjunct needs more than its components, and no declared set is out.
 pub record CanSearch (e : Environment) (a : Schema) : Type 0 where
-  pub finite : IsFinite e.globals a
+  pub finite : IsFinite e.numbers e.globals a
   pub due : AreDueWithin (property e a.conjuncts) (length a.comps)
   pub none_out : IsNoneOut e a.comps
 

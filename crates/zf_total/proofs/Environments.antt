@@ -19,19 +19,19 @@ some_outcome_at : (e : Environment) (x : Option Defined) → HasSome (λ o. (d :
 some_outcome_at e None = (Undefined, λ d s. absurd (cc))
 some_outcome_at e (Some it) = let o = some_outcome_of e it.definition in (o.0, λ d s. let same : it ≡ d = cc in subst (λ (d : Defined). IsOutcomeOf e d.definition o.0) same o.1)
 
-abbrev at_sizes : List Defined → List ℕ → List Outcome → Environment
-at_sizes g sizes outcomes = record { globals = g; sizes = sizes; outcomes = outcomes }
+abbrev at_sizes : List Defined → List ℕ → (numbers : Option ℕ) → List Outcome → Environment
+at_sizes g sizes n outcomes = record { globals = g; sizes = sizes; outcomes = outcomes; numbers = n }
 
 -- the outcomes of the rest, one after another
-worked_out : (g : List Defined) (sizes : List ℕ) (n i : ℕ) (outcomes : List Outcome) → i + n ≡ length g → AreWorkedOutTo i (at_sizes g sizes outcomes) → (all : List Outcome) × AreWorkedOut (at_sizes g sizes all)
-worked_out g sizes zero i outcomes e h = (outcomes, all-worked_out i (at_sizes g sizes outcomes) (omega arith) h)
-worked_out g sizes (suc n) i outcomes e h =
-    let before = at_sizes g sizes outcomes in
+worked_out : (g : List Defined) (sizes : List ℕ) (m : Option ℕ) (n i : ℕ) (outcomes : List Outcome) → i + n ≡ length g → AreWorkedOutTo i (at_sizes g sizes m outcomes) → (all : List Outcome) × AreWorkedOut (at_sizes g sizes m all)
+worked_out g sizes m zero i outcomes e h = (outcomes, all-worked_out i (at_sizes g sizes m outcomes) (omega arith) h)
+worked_out g sizes m (suc n) i outcomes e h =
+    let before = at_sizes g sizes m outcomes in
     let o = some_outcome_at before (slice_get g i) in
-    worked_out g sizes n (i + 1) (further before o.0).outcomes (omega arith) (one-worked_out i before o.0 h o.1)
+    worked_out g sizes m n (i + 1) (further before o.0).outcomes (omega arith) (one-worked_out i before o.0 h o.1)
 
-pub some_environment : (g : List Defined) (stated : List Size) → AreComplete (given_sets g) stated → HasSome (IsEnvironment g stated)
-some_environment g stated h =
+pub some_environment : (g : List Defined) (stated : List Size) (numbers : Option ℕ) → AreComplete (given_sets g) stated → HasSome (IsEnvironment g stated numbers)
+some_environment g stated numbers h =
     let sizes = some_sizes stated g h in
-    let all = worked_out g sizes.0 (length g) 0 [] (omega arith) (none-worked_out (at_sizes g sizes.0 []) refl) in
-    (at_sizes g sizes.0 all.0, (refl, sizes.1, all.1))
+    let all = worked_out g sizes.0 numbers (length g) 0 [] (omega arith) (none-worked_out (at_sizes g sizes.0 numbers []) refl) in
+    (at_sizes g sizes.0 numbers all.0, (refl, sizes.1, all.1, refl))

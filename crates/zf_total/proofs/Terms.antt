@@ -1,7 +1,9 @@
 -- Each expression has an outcome, and each predicate a truth.
-use Rattle.zf_total.proofs.Prelude.{[], List, refl, pos, pair, Outcome, Is, Out, Undefined, SetOf, Tuple, Value, Context, outcome_in, within, AreLinked, Builds, constant_outcome, constant_truth, HasOutcome, HaveOutcomes, HaveRanges, infinite_right, IsConstraint, IsLink, IsTruth, row_value, OnBoth, one_more, one_out, one_undefined, OnOne, OnSeveral, repeated, Several, values, ArrowOutcome, BinaryOutcome, InfixOutcome, ListedOutcome, PrefixOutcome, SignOutcome, UnaryOutcome, IsTold}
+use Rattle.zf_total.proofs.Prelude.{[], List, None, Option, refl, Some, ℕ, pos, pair, Outcome, Is, Out, Undefined, SetOf, Tuple, Value, Context, outcome_in, within, AreLinked, Builds, constant_truth, HasOutcome, HaveOutcomes, HaveRanges, infinite_right, IsConstraint, IsLink, IsTruth, row_value, OnBoth, one_more, one_out, one_undefined, OnOne, OnSeveral, repeated, Several, values, ArrowOutcome, BinaryOutcome, InfixOutcome, ListedOutcome, PrefixOutcome, SignOutcome, UnaryOutcome, IsTold}
 use Rattle.zf_tree.specs.declared.symbol.Arrow.{Arrow}
 use Rattle.zf_tree.specs.declared.symbol.Arrow.TheVariants as arrow
+use Rattle.zf_tree.specs.declared.symbol.Constant.{Constant}
+use Rattle.zf_tree.specs.declared.symbol.Constant.TheVariants as constants
 use Rattle.zf_tree.specs.declared.symbol.Infix.{Infix}
 use Rattle.zf_tree.specs.declared.symbol.Infix.TheVariants.{Maplet, UpTo, Plus, Minus, Union, Difference, Times, Div, Mod, Intersection, Composition, Overriding, DomainRestriction, RangeRestriction, DomainSubtraction, RangeSubtraction}
 use Rattle.zf_tree.specs.declared.symbol.Prefix.{Prefix}
@@ -15,6 +17,10 @@ use Rattle.zf_tree.specs.declared.operator.Operator.TheVariants as operator
 use Rattle.zf_tree.specs.declared.operator.Unary.{Unary}
 use Rattle.zf_tree.specs.declared.operator.Unary.TheVariants as the_unary
 use Rattle.zf_term.specs.ResolvedTrees.{ResolvedTree, reference, number, constant, empty_set, bracket, listed, builder, unary, binary, chain, quantified, ResolvedTrees, no_terms, term, ResolvedLinks, no_links, link, Ranges, no_ranges, range, ResolvedPart, absent, present}
+use Rattle.zf_term.specs.declared.extent.Infinite.{Infinite}
+use Rattle.zf_term.specs.declared.extent.Infinite.TheVariants.{Num, Nat, Nat1}
+use Rattle.zf_meaning.specs.Meaning.{IsConstantOutcome}
+use Rattle.zf_meaning.specs.NumberSets.{IsNumberSet, least}
 use Rattle.zf_value.specs.declared.value.Truth.TheVariants as truth
 use Rattle.zf_value.specs.Numbers.{IsNegation, IsSum, IsDifference, IsProduct, IsQuotient, IsModulus, IsInterval}
 use Rattle.zf_meaning.proofs.Unique.{one_truth, one_constraint, one_build, one_told_of}
@@ -98,13 +104,26 @@ some_on_several one_out P f = (Out, refl)
 some_on_several one_undefined P f = (Undefined, refl)
 some_on_several (values vs) P f = f vs
 
+-- ---- sets of numbers
+
+pub some_number_set : (n : Option ℕ) (s : Infinite) → HasSome (IsNumberSet n s)
+some_number_set None s = (Out, refl)
+some_number_set (Some n) s = numbers.some_interval (least s n) (pos n)
+
+some_constant : (n : Option ℕ) (k : Constant) → HasSome (IsConstantOutcome n k)
+some_constant n constants.True = (Undefined, refl)
+some_constant n constants.False = (Undefined, refl)
+some_constant n constants.Integers = some_number_set n Num
+some_constant n constants.Naturals = some_number_set n Nat
+some_constant n constants.Positives = some_number_set n Nat1
+
 -- ---- terms
 
 mutual
   pub some_outcome : (c : Context) (t : ResolvedTree) → HasSome (HasOutcome c t)
   some_outcome c (reference l r) = (outcome_in c r, refl)
   some_outcome c (number l n) = numbers.some_number (pos n)
-  some_outcome c (constant l x) = (constant_outcome x, refl)
+  some_outcome c (constant l x) = some_constant c.environment.numbers x
   some_outcome c (empty_set l t) = (Is (SetOf []), refl)
   some_outcome c (bracket l t) = some_outcome c t
   some_outcome c (listed l form ts) = let s = some_several c ts in let o = some_on_several s.0 (ListedOutcome form) (some_listed form) in (o.0, (s.0, s.1, o.1))

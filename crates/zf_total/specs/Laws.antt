@@ -1,5 +1,5 @@
 -- Everything has a meaning: there is an outcome, a truth, a carrier, an environment. That there is no second one are laws of `zf_meaning`.
-use Rattle.std.specs.Prelude.{◌≡◌, ◌≢◌, ◌⊎◌, ◌↔◌, ℕ, List}
+use Rattle.std.specs.Prelude.{◌≡◌, ◌≢◌, ◌⊎◌, ◌↔◌, ℕ, List, Option}
 use Rattle.zf_tree.specs.declared.operator.Operator.TheVariants as operator
 use Rattle.zf_tree.specs.declared.symbol.Connective.{Connective}
 use Rattle.zf_term.specs.Definitions.{Defined}
@@ -37,6 +37,6 @@ EveryCarrier = (e : Environment) (t : Ty) → (o : Outcome) × IsCarrier e t o
 abbrev pub SizesAreJudged : Type 0
 SizesAreJudged = (sets : List (List ℕ)) (sizes : List Size) → AreComplete sets sizes ⊎ ((fault : SizeFault) × IsRefusal sets sizes fault × (fault ≢ OutOfMemory))
 
--- Globals at complete sizes have an environment.
+-- Globals at complete sizes have an environment, with a greatest number or without one.
 abbrev pub EveryEnvironment : Type 0
-EveryEnvironment = (g : List Defined) (stated : List Size) → AreComplete (given_sets g) stated → (e : Environment) × IsEnvironment g stated e
+EveryEnvironment = (g : List Defined) (stated : List Size) (numbers : Option ℕ) → AreComplete (given_sets g) stated → (e : Environment) × IsEnvironment g stated numbers e

@@ -1,13 +1,15 @@
 -- The carrier of a type is a set of values of the type.
 use Rattle.zf_typed.proofs.Prelude.{◌≡◌, List, None, Option, refl, Some, subst, ℕ, IsCross, IsPower, members, Is, Value, basic, int, no_types, power, product, Ty, type, Tys, AreCarriers, IsCarrier, IsTypeSetIf, Environment, type_number, values, AreOfTypes, IsOfType}
 use Rattle.zf_typed.proofs.Globals.{type_set_typed}
+use Rattle.zf_term.specs.declared.extent.Infinite.TheVariants.{Num}
 use Rattle.zf_typed.proofs.OfTypes.{members_of}
+use Rattle.zf_typed.proofs.Operations.{number_set}
 use Rattle.zf_typed.proofs.Relations.{a_power}
 use Rattle.zf_typed.proofs.Terms.{one, several, all_values, powers, cross_typed}
 
 mutual
   pub carrier_typed : (e : Environment) (t : Ty) (v : Value) → IsCarrier e t (Is v) → IsOfType e (power t) v
-  carrier_typed e int v h = absurd (cc)
+  carrier_typed e int v h = number_set e e.numbers Num v h
   carrier_typed e (basic name) v h = go (type_number e name) refl h
     where
       go : (o : Option ℕ) → type_number e name ≡ o → IsTypeSetIf e o (Is v) → IsOfType e (power (basic name)) v

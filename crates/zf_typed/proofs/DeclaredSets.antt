@@ -1,8 +1,9 @@
 -- What lies in the declared sets of a component is of its type, where it can be listed.
-use Rattle.zf_typed.proofs.Prelude.{◌+◌, ◌^◌, ◌↔◌, ◌∙◌, ◌∷◌, ◌≡◌, ◌⊎◌, [], ap, arith, Bool, false, inl, inr, List, None, Option, refl, Some, subst, sym, take, true, ℕ, ℤ, ⊎_elim, ints, none-some, same_Some, w64, ◌<ℤ◌, ◌≤ℤ◌, FitsSigned, negsuc, pos, slice_get, number_of-Int, same_number, number_of, IsMember, members, Outcome, Is, Int, Value, Tree, carrier, DeclaredSet, DeclaredSets, Defined, no_sets, plain, set, sides, ResolvedTree, has_numbers, int, power, Ty, Infinite, resolved, set_sort, IsOf, direct, outside, AreWellTyped, Environment, globally, HasOutcome, IsOfType, IsIn}
+use Rattle.zf_typed.proofs.Prelude.{◌+◌, ◌^◌, ◌↔◌, ◌∙◌, ◌∷◌, ◌≡◌, ◌⊎◌, [], ap, arith, Bool, false, inl, inr, List, None, Option, refl, Some, subst, sym, take, true, ℕ, ℤ, ⊎_elim, ints, none-some, same_Some, w64, ◌<ℤ◌, ◌≤ℤ◌, FitsSigned, negsuc, pos, slice_get, number_of-Int, same_number, number_of, IsMember, members, Outcome, Is, Int, Value, Tree, carrier, DeclaredSet, DeclaredSets, Defined, no_sets, plain, set, sides, ResolvedTree, int, power, Ty, Infinite, resolved, set_sort, IsOf, direct, outside, AreWellTyped, Environment, globally, HasOutcome, IsOfType, IsIn}
 use Rattle.std.proofs.lemmas.Bool.{cases_lt}
 use Rattle.zf_term.specs.declared.extent.Infinite.TheVariants.{Num, Nat, Nat1}
-use Rattle.zf_enum.specs.DeclaredSets.{IsInPlain, IsInCarrier, IsInSet, IsInSets}
+use Rattle.zf_meaning.specs.NumberSets.{infinite_in, unended}
+use Rattle.zf_enum.specs.DeclaredSets.{has_endless, IsInPlain, IsInCarrier, IsInSet, IsInSets}
 use Rattle.zf_typed.proofs.Carriers.{carrier_typed}
 use Rattle.zf_typed.proofs.Directs.{are_numbers}
 use Rattle.zf_typed.proofs.Globals.{in_front}
@@ -45,6 +46,11 @@ from_infinite : (s : Infinite) (v : Value) → IsIn s v → (n : ℤ) × (v ≡ 
 from_infinite Num v h = h
 from_infinite Nat v h = (h.0, h.1)
 from_infinite Nat1 v h = (h.0, h.1)
+
+infinite_numbers : (d : Option Infinite) (n : Option ℕ) (s : Infinite) → unended d n ≡ Some s → d ≡ Some s
+infinite_numbers None n s e = absurd (none-some s e)
+infinite_numbers (Some r) None s e = e
+infinite_numbers (Some r) (Some n) s e = absurd (none-some s e)
 
 -- of an infinite set each greater number is a member too
 upward : (s : Infinite) (n m : ℤ) → n ≤ℤ m → IsIn s (Int n) → IsIn s (Int m)
@@ -92,11 +98,11 @@ module _ (e : Environment) (well : AreWellTyped e.globals) (typed : (i : ℕ) (d
   in_outcome t r v w k h m =
       (members_of e t w (term_typed e (outside (take k.0 e.globals)) (globally e) k.1 (set_sort t) w (fits k.0) k.2 (subst (λ q. HasOutcome (globally e) q (Is w)) k.3 h))).each v m
 
-  in_plain : (t : Ty) (r : ResolvedTree) (v : Value) → IsSetFor e.globals t (plain r) → (o : Option Infinite) → direct e.globals r ≡ o → IsInPlain e o r v → IsOfType e t v ⊎ IsFar t v
+  in_plain : (t : Ty) (r : ResolvedTree) (v : Value) → IsSetFor e.globals t (plain r) → (o : Option Infinite) → infinite_in e r ≡ o → IsInPlain e o r v → IsOfType e t v ⊎ IsFar t v
   in_plain t r v k None is h = inl (in_outcome t r v h.0 k h.1 h.2)
   in_plain t r v k (Some s) is h =
       let number = from_infinite s v h in
-      let same : t ≡ int = of_power t (are_numbers e.globals well k.0 k.1 (power t) s k.2 (sym (ap (direct e.globals) k.3) ∙ is)) in
+      let same : t ≡ int = of_power t (are_numbers e.globals well k.0 k.1 (power t) s k.2 (sym (ap (direct e.globals) k.3) ∙ infinite_numbers (direct e.globals r) e.numbers s is)) in
       ⊎_elim (λ f. inl (subst (λ u. IsOfType e u v) (sym same) (number.0, number.1, f))) (λ f. inr (same, (number.0, number.1, f))) (fits_or_not number.0)
 
   in_carrier : (t u : Ty) (v : Value) → u ≡ t → (b : Bool) → IsInCarrier e b u v → IsOfType e t v
@@ -105,8 +111,8 @@ module _ (e : Environment) (well : AreWellTyped e.globals) (typed : (i : ℕ) (d
 
   mutual
     in_set : (t : Ty) (d : DeclaredSet) (v : Value) → IsSetFor e.globals t d → IsInSet e d v → IsOfType e t v ⊎ IsFar t v
-    in_set t (plain r) v k h = in_plain t r v k (direct e.globals r) refl h
-    in_set t (carrier u) v k h = inl (in_carrier t u v k (has_numbers u) h)
+    in_set t (plain r) v k h = in_plain t r v k (infinite_in e r) refl h
+    in_set t (carrier u) v k h = inl (in_carrier t u v k (has_endless e.numbers u) h)
     in_set t (sides ds es) v k h = ⊎_elim (λ m. in_sets t ds v k.0.0 k.0.1 m) (λ m. in_sets t es v k.1.0 k.1.1 m) h
 
     -- the first of them tells
@@ -121,8 +127,8 @@ module _ (e : Environment) (well : AreWellTyped e.globals) (typed : (i : ℕ) (d
 
   mutual
     far_set : (d : DeclaredSet) (n m : ℤ) → IsSetFor e.globals int d → (FitsSigned w64 n → ⊥) → n ≤ℤ m → IsInSet e d (Int n) → IsInSet e d (Int m)
-    far_set (plain r) n m k far l h = far_plain r n m k far l (direct e.globals r) h
-    far_set (carrier u) n m k far l h = absurd (not_far e n far (in_carrier int u (Int n) k (has_numbers u) h))
+    far_set (plain r) n m k far l h = far_plain r n m k far l (infinite_in e r) h
+    far_set (carrier u) n m k far l h = absurd (not_far e n far (in_carrier int u (Int n) k (has_endless e.numbers u) h))
     far_set (sides ds es) n m k far l h = ⊎_elim (λ p. inl (far_sets ds n m k.0.1 far l p)) (λ p. inr (far_sets es n m k.1.1 far l p)) h
 
     far_sets : (ds : DeclaredSets) (n m : ℤ) → AreSetsFor e.globals int ds → (FitsSigned w64 n → ⊥) → n ≤ℤ m → IsInSets e ds (Int n) → IsInSets e ds (Int m)

@@ -1,6 +1,12 @@
 -- Each value of a type is a member of the type's carrier, and the carrier is the outcome of the expression that spells the type.
 use Rattle.zf_typed.proofs.Prelude.{if◌then◌else◌, ◌<◌, ◌^◌, ◌∙◌, ◌∷◌, ◌≡◌, [], ap, Bool, false, List, nat_lt, None, Option, refl, Some, subst, sym, true, ℕ, same_Some, slice_get, every_at, members-SetOf, AreFrom, IsSubset, AreElements, IsCross, IsPower, IsAscending, IsMember, IsSetOf, members, AreAmong, Outcome, Is, Out, Undefined, Elem, SetOf, Tuple, Value, abbreviation, constructor, Defined, Definition, free_type, given_set, schema, listed, ResolvedTree, ResolvedTrees, term, unary, basic, int, no_types, power, product, Ty, type, Tys, named_there, AreCarriers, IsCarrier, IsTypeSetIf, AreElementsIf, before, definition_number, Environment, found_number, globally, IsTypeSet, outcome_or, type_number, AreWorkedOut, IsOutcomeOf, HasOutcome, HaveOutcomes, one_out, one_undefined, OnOne, OnSeveral, Several, values, AreOfTypes, IsExistingElement, IsOfType, ListedOutcome, UnaryOutcome}
+use Rattle.std.specs.Prelude.{◌||◌, ◌⊎◌}
+use Rattle.std.proofs.Common.{inl, inr, ⊎_elim}
+use Rattle.std.proofs.Common.{true≢false}
 use Rattle.zf_tree.specs.declared.symbol.Prefix.TheVariants.{Power}
+use Rattle.zf_term.specs.Types.{has_numbers, have_numbers}
+use Rattle.zf_term.specs.declared.extent.Infinite.TheVariants.{Num}
+use Rattle.zf_meaning.specs.NumberSets.{IsNumberSet}
 use Rattle.zf_tree.specs.declared.operator.Sign.TheVariants.{Symbol}
 use Rattle.zf_tree.specs.declared.operator.Listed.TheVariants.{Product}
 use Rattle.zf_tree.specs.declared.operator.Unary.TheVariants.{Sign}
@@ -40,35 +46,52 @@ in_type_set e n v z h (k, i, size, below, is) = go (nat_lt n (2 ^ 32)) (slice_ge
     go true None at p = no_value v p
     go true (Some m) at p = in_elements n m i v z p is (subst (λ j. i < j) (same_Some k m (sym size ∙ at)) below)
 
+-- numbers that end are no part of the type
+abbrev IsWhole : Environment → Bool → Type 0
+IsWhole e numbers = (e.numbers ≡ None) ⊎ (numbers ≡ false)
+
+neither : (a b : Bool) → (a || b) ≡ false → (a ≡ false) × (b ≡ false)
+neither true b h = absurd (true≢false h)
+neither false b h = (refl, h)
+
+first_whole : (e : Environment) (a b : Bool) → IsWhole e (a || b) → IsWhole e a
+first_whole e a b h = ⊎_elim (λ n. inl n) (λ f. inr (neither a b f).0) h
+
+rest_whole : (e : Environment) (a b : Bool) → IsWhole e (a || b) → IsWhole e b
+rest_whole e a b h = ⊎_elim (λ n. inl n) (λ f. inr (neither a b f).1) h
+
+no_numbers : {A : Type 0} (e : Environment) (v : Value) → IsWhole e true → IsNumberSet e.numbers Num (Is v) → A
+no_numbers e v w h = ⊎_elim (λ n. let out : Is v ≡ Out = subst (λ m. IsNumberSet m Num (Is v)) n h in absurd (cc)) (λ f. absurd (true≢false f)) w
+
 mutual
-  in_carrier : (e : Environment) (t : Ty) (v z : Value) → IsCarrier e t (Is v) → IsOfType e t z → IsMember z (members v)
-  in_carrier e int v z h k = absurd (cc)
-  in_carrier e (basic name) v z h k = go (type_number e name) h k
+  in_carrier : (e : Environment) (t : Ty) (v z : Value) → IsWhole e (has_numbers t) → IsCarrier e t (Is v) → IsOfType e t z → IsMember z (members v)
+  in_carrier e int v z w h k = no_numbers e v w h
+  in_carrier e (basic name) v z w h k = go (type_number e name) h k
     where
       go : (o : Option ℕ) → IsTypeSetIf e o (Is v) → IsExistingElement e o z → IsMember z (members v)
       go None p q = absurd q
       go (Some n) p q = in_type_set e n v z p q
-  in_carrier e (power t) v z h k =
+  in_carrier e (power t) v z w h k =
       let q = one h.0 (λ w. IsPower (members w)) v h.2 in
-      in_power (members q.0) k.0 v z q.2 k.1 k.2 (λ y m. in_carrier e t q.0 y (subst (IsCarrier e t) q.1 h.1) (every_at (λ x. IsOfType e t x) k.0 y k.4 m))
-  in_carrier e (product ts) v z h k =
+      in_power (members q.0) k.0 v z q.2 k.1 k.2 (λ y m. in_carrier e t q.0 y w (subst (IsCarrier e t) q.1 h.1) (every_at (λ x. IsOfType e t x) k.0 y k.4 m))
+  in_carrier e (product ts) v z w h k =
       let q = several h.0 IsCross v h.2 in
-      in_cross q.0 k.0 v z q.2 k.1 (in_carriers e ts q.0 k.0 (subst (AreCarriers e ts) q.1 h.1) k.2)
+      in_cross q.0 k.0 v z q.2 k.1 (in_carriers e ts q.0 k.0 w (subst (AreCarriers e ts) q.1 h.1) k.2)
 
-  in_carriers : (e : Environment) (ts : Tys) (ss vs : List Value) → AreCarriers e ts (values ss) → AreOfTypes e ts vs → AreFrom vs ss
-  in_carriers e no_types ss vs h k =
+  in_carriers : (e : Environment) (ts : Tys) (ss vs : List Value) → IsWhole e (have_numbers ts) → AreCarriers e ts (values ss) → AreOfTypes e ts vs → AreFrom vs ss
+  in_carriers e no_types ss vs w h k =
       let none : ss ≡ [] = cc in
       subst (λ xs. AreFrom xs ss) (sym k) (subst (λ ys. AreFrom [] ys) (sym none) tt)
-  in_carriers e (type t ts) ss vs h k =
+  in_carriers e (type t ts) ss vs w h k =
       let q = all_values h.0 h.1 ss h.4 in
-      let first = in_carrier e t q.0 k.0 (subst (IsCarrier e t) q.2 h.2) k.3 in
-      let rest = in_carriers e ts q.1 k.1 (subst (AreCarriers e ts) q.3 h.3) k.4 in
+      let first = in_carrier e t q.0 k.0 (first_whole e (has_numbers t) (have_numbers ts) w) (subst (IsCarrier e t) q.2 h.2) k.3 in
+      let rest = in_carriers e ts q.1 k.1 (rest_whole e (has_numbers t) (have_numbers ts) w) (subst (AreCarriers e ts) q.3 h.3) k.4 in
       subst (λ xs. AreFrom xs ss) (sym k.2) (subst (λ ys. AreFrom (k.0 ∷ k.1) ys) (sym q.4) (first, rest))
 
 pub carriers_are_exact : CarriersAreExact
 carriers_are_exact e t v h =
     let typed = carrier_typed e t v h in
-    (typed, λ z. ((members_of e t v typed).each z, in_carrier e t v z h))
+    (typed, λ w z. ((members_of e t v typed).each z, in_carrier e t v z w h))
 
 -- ---- outcomes
 
@@ -145,6 +168,6 @@ module _ (e : Environment) (worked : AreWorkedOut e) where
         (k.0, k.1, from_outcome t z k.0 first k.2, from_outcomes ts zs k.1 rest k.3, k.4)
 
 pub carriers_are_outcomes : CarriersAreOutcomes
-carriers_are_outcomes g stated e t x o (same, sizes, worked) spelled =
+carriers_are_outcomes g stated numbers e t x o (same, sizes, worked, given) spelled =
     let here : Spells e.globals t x = subst (λ h. Spells h t x) (sym same) spelled in
     (to_outcome e worked t x o here, from_outcome e worked t x o here)

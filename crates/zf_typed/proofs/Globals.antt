@@ -134,8 +134,8 @@ module _ (e : Environment) (stated : List Size) (well : AreWellTyped e.globals) 
       let w = worked.1 i d at in
       definition_typed i d.name d.definition o (λ j k q m. typed_below worked n j k q (omega (arith, l, m))) at (well i d at) (subst (IsOutcomeOf (before e i) d.definition) (same_Some w.0 o (sym w.1 ∙ there)) w.2)
 
-pub globals_typed : (e : Environment) (g : List Defined) (stated : List Size) → AreWellTyped g → AreDefinedOnce g → IsEnvironment g stated e → (i : ℕ) (d : Defined) (o : Outcome) → slice_get g i ≡ Some d → slice_get e.outcomes i ≡ Some o → HasValues e d o
-globals_typed e g stated well once h i d o at there =
+pub globals_typed : (e : Environment) (g : List Defined) (stated : List Size) (numbers : Option ℕ) → AreWellTyped g → AreDefinedOnce g → IsEnvironment g stated numbers e → (i : ℕ) (d : Defined) (o : Outcome) → slice_get g i ≡ Some d → slice_get e.outcomes i ≡ Some o → HasValues e d o
+globals_typed e g stated numbers well once h i d o at there =
     typed_below e stated (subst AreWellTyped (sym h.0) well) (subst AreDefinedOnce (sym h.0) once) (subst (λ x. AreSizes stated x e.sizes) (sym h.0) h.1) h.2 (suc i) i d o (omega arith) (subst (λ x. slice_get x i ≡ Some d) (sym h.0) at) there
 
 -- ---- scopes
@@ -147,13 +147,13 @@ row_at e (c ∷ cs) (w ∷ ws) zero d v h a b =
     subst (λ (x : Comp). IsOfType e x.type v) (same_Some c d a) (subst (IsOfType e c.type) (same_Some w v b) (first_of_types e c.type (types (map (λ c. c.type) (take (length ws) cs))) w ws h).0)
 row_at e (c ∷ cs) (w ∷ ws) (suc i) d v h a b = row_at e cs ws i d v (first_of_types e c.type (types (map (λ c. c.type) (take (length ws) cs))) w ws h).1 a b
 
-pub fits_all : (e : Environment) (g : List Defined) (stated : List Size) (n : ℕ) (comps : List Comp) (variables : List Var) (row locals : List Value) → AreWellTyped g → AreDefinedOnce g → IsEnvironment g stated e → IsFrontOfRow e comps row → AreOfTypes e (types_of variables) locals → Fits e (scope g n comps variables) (context e row locals)
-fits_all e g stated n comps variables row locals well once env r l = record {
-  globals = λ i d o at there. let p = in_front n i g d at in globals_typed e g stated well once env i d o p.1 there;
+pub fits_all : (e : Environment) (g : List Defined) (stated : List Size) (numbers : Option ℕ) (n : ℕ) (comps : List Comp) (variables : List Var) (row locals : List Value) → AreWellTyped g → AreDefinedOnce g → IsEnvironment g stated numbers e → IsFrontOfRow e comps row → AreOfTypes e (types_of variables) locals → Fits e (scope g n comps variables) (context e row locals)
+fits_all e g stated numbers n comps variables row locals well once env r l = record {
+  globals = λ i d o at there. let p = in_front n i g d at in globals_typed e g stated numbers well once env i d o p.1 there;
   comps = λ i d v at there. row_at e comps row i d v r at there;
   locals = l;
 }
 
 pub outcomes_typed : OutcomesTyped
-outcomes_typed g stated e n comps variables row locals t u v well once env r l is h =
-    term_typed e (scope g n comps variables) (context e row locals) t (typed u) v (fits_all e g stated n comps variables row locals well once env r l) is h
+outcomes_typed g stated numbers e n comps variables row locals t u v well once env r l is h =
+    term_typed e (scope g n comps variables) (context e row locals) t (typed u) v (fits_all e g stated numbers n comps variables row locals well once env r l) is h

@@ -1,6 +1,14 @@
 -- What each symbol makes of values of the types that it takes is a value of the type that it gives.
-use Rattle.zf_typed.proofs.Prelude.{◌∙◌, ◌≡◌, ◌⊎◌, ap, arith, List, Some, subst, sym, ℕ, ℤ, ⊎_elim, ints, w64, number_of-Int, number_of, OnNumber, OnNumbers, IsBetweenNumbers, IsDifference, IsInterval, IsModulus, IsNegation, IsProduct, IsQuotient, IsSum, IsInDomain, IsInRange, IsPairOf, Relates, IsApplied, IsComposition, IsDomain, IsDomainRestriction, IsDomainSubtraction, IsImage, IsIntersection, IsInverse, IsOverriding, IsRange, IsRangeRestriction, IsRangeSubtraction, IsSetDifference, IsSize, IsUnion, IsMember, IsSetOf, members, Outcome, Is, Undefined, Value, function_rule, rule_of, Operator, Unary, int, pair_type, power, Ty, a_schema, number_sort, predicate, PrefixTakes, relation_sort, set_sort, Sort, Takes, typed, UnaryTakes, Environment, IsOfType, BinaryOutcome, InfixOutcome, PrefixOutcome, UnaryOutcome}
-use Rattle.std.specs.Prelude.{pos, negsuc, ◌≤ℤ◌, FitsSigned, Option, None}
+use Rattle.zf_typed.proofs.Prelude.{◌∙◌, ◌≡◌, ◌⊎◌, ap, arith, List, Some, subst, sym, ℕ, ℤ, ⊎_elim, ints, w64, number_of-Int, number_of, OnNumber, OnNumbers, IsBetweenNumbers, IsDifference, IsInterval, IsModulus, IsNegation, IsProduct, IsQuotient, IsSum, IsInDomain, IsInRange, IsPairOf, Relates, IsApplied, IsComposition, IsDomain, IsDomainRestriction, IsDomainSubtraction, IsImage, IsIntersection, IsInverse, IsOverriding, IsRange, IsRangeRestriction, IsRangeSubtraction, IsSetDifference, IsSize, IsUnion, IsMember, IsSetOf, members, Outcome, Is, Undefined, Value, function_rule, rule_of, Operator, Unary, int, pair_type, power, Ty, a_schema, number_sort, predicate, PrefixTakes, relation_sort, set_sort, Sort, Takes, typed, UnaryTakes, Environment, IsOfType, BinaryOutcome, InfixOutcome, PrefixOutcome, UnaryOutcome, refl}
+use Rattle.std.specs.Prelude.{◌<◌, ◌≤◌, zero, suc, pos, negsuc, ◌+ℤ◌, ◌≤ℤ◌, FitsSigned, Option, None}
+use Rattle.std.proofs.lemmas.Bool.{cases_lt}
+use Rattle.zf_term.specs.declared.extent.Infinite.{Infinite}
+use Rattle.zf_term.specs.declared.extent.Infinite.TheVariants.{Num, Nat, Nat1}
+use Rattle.zf_value.specs.declared.TheConstants.{SET_MAX}
+use Rattle.zf_value.specs.declared.value.Outcome.TheVariants.{Out}
+use Rattle.zf_value.proofs.Intervals.{interval_out}
+use Rattle.zf_value.proofs.Once.{one_Interval}
+use Rattle.zf_meaning.specs.NumberSets.{IsNumberSet, least}
 use Rattle.zf_tree.specs.declared.symbol.Infix.{Infix}
 use Rattle.zf_tree.specs.declared.symbol.Infix.TheVariants.{Maplet, UpTo, Plus, Minus, Union, Difference, Times, Div, Mod, Intersection, Composition, Overriding, DomainRestriction, RangeRestriction, DomainSubtraction, RangeSubtraction}
 use Rattle.zf_tree.specs.declared.symbol.Prefix.{Prefix}
@@ -31,6 +39,28 @@ at_least_fits n (negsuc m) f l = record { sfits = omega (arith, ints, f.sfits, l
 pub between_fits : (a n b : ℤ) → FitsSigned w64 a → FitsSigned w64 b → a ≤ℤ n → n ≤ℤ b → FitsSigned w64 n
 between_fits a (pos n) b f g l m = at_most_fits n b g m
 between_fits a (negsuc n) b f g l m = at_least_fits n a f l
+
+-- ---- sets of numbers
+
+wide : (s : Infinite) (n : ℕ) → SET_MAX < n → (least s n +ℤ pos SET_MAX) ≤ℤ pos n
+wide Num zero l = absurd (omega (arith, l))
+wide Num (suc k) l = omega (arith, ints, l)
+wide Nat n l = omega (arith, ints, l)
+wide Nat1 n l = omega (arith, ints, l)
+
+-- where the set of all up to a greatest number is there, this is not greater than such a set may have members
+greatest_small : (s : Infinite) (n : ℕ) (v : Value) → IsInterval (least s n) (pos n) (Is v) → n ≤ SET_MAX
+greatest_small s n v h =
+    ⊎_elim (λ l. let same : Is v ≡ Out = one_Interval (least s n) (pos n) (Is v) Out h (interval_out (least s n) (pos n) (wide s n l)) in absurd (cc)) (λ l. l) (cases_lt SET_MAX n)
+
+greatest_fits : (n : ℕ) → n ≤ SET_MAX → FitsSigned w64 (pos n)
+greatest_fits n l = let most : SET_MAX ≡ 65536 = refl in record { sfits = omega (arith, l, most) }
+
+least_fits : (s : Infinite) (n : ℕ) → n ≤ SET_MAX → FitsSigned w64 (least s n)
+least_fits Num zero l = greatest_fits 0 (omega arith)
+least_fits Num (suc k) l = let most : SET_MAX ≡ 65536 = refl in record { sfits = omega (arith, l, most) }
+least_fits Nat n l = greatest_fits 0 (omega arith)
+least_fits Nat1 n l = record { sfits = omega arith }
 
 module _ (e : Environment) where
   -- an operation on two numbers that makes a number
@@ -84,6 +114,10 @@ module _ (e : Environment) where
   interval_of : (m n : ℤ) (v : Value) → FitsSigned w64 m → FitsSigned w64 n → IsInterval m n (Is v) → IsOfType e (power int) v
   unfolding IsInterval
   interval_of m n v f g h = a_set e int (IsBetweenNumbers m n) v h (λ z p. between_numbers m n z f g p)
+
+  pub number_set : (n : Option ℕ) (s : Infinite) (v : Value) → IsNumberSet n s (Is v) → IsOfType e (power int) v
+  number_set None s v h = absurd (cc)
+  number_set (Some n) s v h = let l = greatest_small s n v h in interval_of (least s n) (pos n) v (least_fits s n l) (greatest_fits n l) h
 
   an_interval : (x y v : Value) → IsOfType e int x → IsOfType e int y → OnNumbers (number_of x) (number_of y) IsInterval (Is v) → IsOfType e (power int) v
   an_interval x y v h k p =

@@ -28,14 +28,14 @@ row_typed e well typed (c ∷ cs) held (xs ∷ ranges) (v ∷ row) h t r m =
     of_type (Some w) u k = subst (IsOfType e c.type) (sym ((k.members v).0 (member xs v m.0)).1) u
 
 pub rows_typed : RowsTyped
-rows_typed g stated e place name a held ranges row well once env at t r m =
+rows_typed g stated numbers e place name a held ranges row well once env at t r m =
     let here = subst AreWellTyped (sym env.0) well in
-    row_typed e here (λ i d o f there. globals_typed e g stated well once env i d o (subst (λ x. slice_get x i ≡ Some d) env.0 f) there) a.comps held ranges row
+    row_typed e here (λ i d o f there. globals_typed e g stated numbers well once env i d o (subst (λ x. slice_get x i ≡ Some d) env.0 f) there) a.comps held ranges row
     (comps_for e.globals here place name a (subst (λ x. slice_get x place ≡ Some (record { name = name; definition = schema a })) (sym env.0) at)) t r m
 
 pub events_typed : EventsTyped
-events_typed g stated e place name a held ranges after x well once env at t r is = rows_typed g stated e place name a held ranges x.row well once env at t r is.within
+events_typed g stated numbers e place name a held ranges after x well once env at t r is = rows_typed g stated numbers e place name a held ranges x.row well once env at t r is.within
 
 pub events_of_texts_typed : EventsOfTextsTyped
-events_of_texts_typed boxes g faults stated e place name a held ranges after x checked env at t r is =
-    events_typed g stated e place name a held ranges after x (globals_well_typed boxes g faults checked) (names_once boxes g faults checked).0 env at t r is
+events_of_texts_typed boxes g faults stated numbers e place name a held ranges after x checked env at t r is =
+    events_typed g stated numbers e place name a held ranges after x (globals_well_typed boxes g faults checked) (names_once boxes g faults checked).0 env at t r is

@@ -1,5 +1,5 @@
 -- The outcome of a well typed term is of its type, where each value that is bound is of its own.
-use Rattle.zf_typed.proofs.Prelude.{◌++◌, ◌∙◌, ◌∷◌, ◌≡◌, [], ap, arith, length, List, refl, replicate, subst, sym, ℕ, ⊎_elim, pos, AreFrom, IsCross, IsDisplay, IsMember, Outcome, Is, Out, Undefined, SetOf, Value, spelling, rule_of, no_decls, no_trees, Perhaps, Tree, tree, Trees, var_decl, VarDecls, Operator, Unary, Constant, Name, ResolvedPart, ResolvedTree, no_types, power, Ty, type, Tys, bound, referent, resolved, resolved_all, resolved_part, resolved_ranges, number_sort, predicate, set_sort, Sort, Takes, typed, UnaryTakes, Scope, Var, AreAll, AreMembers, Declare, IsOf, Makes, member_sort, row_type, types_of, variables, Context, Environment, outcome_in, within, constant_outcome, HasOutcome, HaveOutcomes, HaveRanges, IsBuilt, IsBuiltBy, IsConstraint, row_value, OnBoth, one_more, one_out, one_undefined, OnOne, OnSeveral, repeated, Several, values, AreOfTypes, IsOfType, BinaryOutcome, ListedOutcome, UnaryOutcome}
+use Rattle.zf_typed.proofs.Prelude.{◌++◌, ◌∙◌, ◌∷◌, ◌≡◌, [], ap, arith, length, List, Option, refl, replicate, subst, sym, ℕ, ⊎_elim, pos, AreFrom, IsCross, IsDisplay, IsMember, Outcome, Is, Out, Undefined, SetOf, Value, spelling, rule_of, no_decls, no_trees, Perhaps, Tree, tree, Trees, var_decl, VarDecls, Operator, Unary, Constant, Name, ResolvedPart, ResolvedTree, no_types, power, Ty, type, Tys, bound, referent, resolved, resolved_all, resolved_part, resolved_ranges, constant_sort, number_sort, predicate, set_sort, Sort, Takes, typed, UnaryTakes, Scope, Var, AreAll, AreMembers, Declare, IsOf, Makes, member_sort, row_type, types_of, variables, Context, Environment, outcome_in, within, HasOutcome, HaveOutcomes, HaveRanges, IsBuilt, IsBuiltBy, IsConstraint, row_value, OnBoth, one_more, one_out, one_undefined, OnOne, OnSeveral, repeated, Several, values, AreOfTypes, IsOfType, BinaryOutcome, ListedOutcome, UnaryOutcome}
 use Rattle.zf_tree.specs.declared.symbol.Constant.TheVariants as constants
 use Rattle.zf_tree.specs.Trees as text
 use Rattle.zf_tree.specs.declared.operator.Listed.{Listed}
@@ -10,10 +10,12 @@ use Rattle.zf_type.specs.Typing as typing
 use Rattle.zf_type.proofs.ResolvedAlike.{part_within}
 use Rattle.zf_value.specs.declared.plain.Value as value
 use Rattle.zf_value.specs.declared.value.Truth.{Truth}
+use Rattle.zf_term.specs.declared.extent.Infinite.TheVariants.{Num, Nat, Nat1}
 use Rattle.zf_meaning.specs.Meaning as meaning
+use Rattle.zf_meaning.specs.Meaning.{IsConstantOutcome}
 use Rattle.zf_typed.proofs.Names.{Fits, fits_within, named_typed}
 use Rattle.zf_typed.proofs.OfTypes.{members_of, a_set, a_number, first_of_types}
-use Rattle.zf_typed.proofs.Operations.{IsOfSort, sorted, binary, unary_made}
+use Rattle.zf_typed.proofs.Operations.{IsOfSort, sorted, binary, number_set, unary_made}
 
 -- ---- outcomes that are values, by those of the operands
 
@@ -54,12 +56,12 @@ all_repeated n (Is w) one_out vs e = absurd (cc)
 all_repeated n (Is w) one_undefined vs e = absurd (cc)
 all_repeated n (Is w) (values ws) vs e = (w, ws, refl, refl, cc)
 
-no_constant : {A : Type 0} (k : Constant) (v : Value) → Is v ≡ constant_outcome k → A
-no_constant constants.True v h = absurd (cc)
-no_constant constants.False v h = absurd (cc)
-no_constant constants.Integers v h = absurd (cc)
-no_constant constants.Naturals v h = absurd (cc)
-no_constant constants.Positives v h = absurd (cc)
+constant_typed : (e : Environment) (n : Option ℕ) (k : Constant) (v : Value) → IsConstantOutcome n k (Is v) → IsOfSort e (constant_sort k) v
+constant_typed e n constants.True v h = absurd (cc)
+constant_typed e n constants.False v h = absurd (cc)
+constant_typed e n constants.Integers v h = number_set e n Num v h
+constant_typed e n constants.Naturals v h = number_set e n Nat v h
+constant_typed e n constants.Positives v h = number_set e n Nat1 v h
 
 -- ---- rows of sets
 
@@ -171,7 +173,7 @@ mutual
   pub term_typed : (e : Environment) (s : Scope) (c : Context) (a : Tree) (z : Sort) (v : Value) → Fits e s c → IsOf s a z → HasOutcome c (resolved s a) (Is v) → IsOfSort e z v
   term_typed e s c (text.named n) z v f h p = named_typed e s c (spelling n) h.0 z v f h.1 (sym (p ∙ ap (λ o. outcome_in c (referent o)) h.1))
   term_typed e s c (text.numeral l n) z v f h p = sorted e number_sort z v (sym h) (a_number e (pos n) v p)
-  term_typed e s c (text.constant l k) z v f h p = no_constant k v p
+  term_typed e s c (text.constant l k) z v f h p = sorted e (constant_sort k) z v (sym h) (constant_typed e c.environment.numbers k v p)
   term_typed e s c (text.empty_set l a) z v f h p = sorted e (set_sort h.0) z v (sym h.2) (empty_typed e h.0 v p)
   term_typed e s c (text.bracket l a) z v f h p = term_typed e s c a z v f h.0 p
   term_typed e s c (text.listed l form es) z v f h p =

@@ -1,5 +1,5 @@
 -- What the carrier of a type is: the set of exactly the type's values, and the outcome of the expression that spells the type.
-use Rattle.std.specs.Prelude.{◌≡◌, ◌↔◌, ℕ, List, Some}
+use Rattle.std.specs.Prelude.{◌≡◌, ◌↔◌, ◌⊎◌, ℕ, false, List, Option, None, Some}
 use Rattle.zf_tree.specs.declared.symbol.Constant.TheVariants.{Integers}
 use Rattle.zf_tree.specs.declared.symbol.Prefix.TheVariants.{Power}
 use Rattle.zf_tree.specs.declared.operator.Sign.TheVariants.{Symbol}
@@ -9,7 +9,7 @@ use Rattle.zf_reference.specs.declared.reference.Reference.TheVariants.{Global}
 use Rattle.zf_term.specs.Definitions.{Defined}
 use Rattle.zf_term.specs.FirstNamed.{first_named}
 use Rattle.zf_term.specs.ResolvedTrees.{ResolvedTree, reference, constant, listed, unary, ResolvedTrees, no_terms, term}
-use Rattle.zf_term.specs.Types.{Ty, int, basic, power, product, Tys, no_types, type}
+use Rattle.zf_term.specs.Types.{Ty, has_numbers, int, basic, power, product, Tys, no_types, type}
 use Rattle.zf_value.specs.declared.plain.Value.{Value}
 use Rattle.zf_value.specs.declared.value.Outcome.{Outcome}
 use Rattle.zf_value.specs.declared.value.Outcome.TheVariants.{Is}
@@ -23,9 +23,11 @@ use Rattle.zf_meaning.specs.Rows.{IsOfType}
 
 -- ---- its members
 
--- A carrier that is a value is a set of values of the type, and has each of them.
+-- A carrier that is a value is a set of values of the type, and has each of them, unless numbers are parts of the type and end.
 abbrev pub CarriersAreExact : Type 0
-CarriersAreExact = (e : Environment) (t : Ty) (v : Value) → IsCarrier e t (Is v) → IsOfType e (power t) v × ((z : Value) → IsMember z (members v) ↔ IsOfType e t z)
+CarriersAreExact =
+    (e : Environment) (t : Ty) (v : Value)
+    → IsCarrier e t (Is v) → IsOfType e (power t) v × ((e.numbers ≡ None) ⊎ (has_numbers t ≡ false) → (z : Value) → IsMember z (members v) ↔ IsOfType e t z)
 
 -- ---- as an outcome
 
@@ -48,5 +50,5 @@ abbrev mutual
 -- The carrier of a type is the outcome of each expression that spells it.
 abbrev pub CarriersAreOutcomes : Type 0
 CarriersAreOutcomes =
-    (g : List Defined) (stated : List Size) (e : Environment) (t : Ty) (x : ResolvedTree) (o : Outcome)
-    → IsEnvironment g stated e → Spells g t x → IsCarrier e t o ↔ HasOutcome (globally e) x o
+    (g : List Defined) (stated : List Size) (numbers : Option ℕ) (e : Environment) (t : Ty) (x : ResolvedTree) (o : Outcome)
+    → IsEnvironment g stated numbers e → Spells g t x → IsCarrier e t o ↔ HasOutcome (globally e) x o

@@ -1,5 +1,5 @@
 -- Outcomes have the types of their terms.
-use Rattle.std.specs.Prelude.{ℕ, List, take, length}
+use Rattle.std.specs.Prelude.{ℕ, List, Option, take, length}
 use Rattle.zf_tree.specs.Trees.{Tree}
 use Rattle.zf_term.specs.Definitions.{Comp, Defined}
 use Rattle.zf_term.specs.Types.{Ty}
@@ -31,8 +31,8 @@ context e row locals = record { environment = e; row = row; locals = locals }
 -- where each component and variable that is bound has a value of its type, the outcome of a well typed expression is of its type
 abbrev pub OutcomesTyped : Type 0
 OutcomesTyped =
-    (g : List Defined) (stated : List Size) (e : Environment) (n : ℕ) (comps : List Comp) (variables : List Var) (row locals : List Value) (t : Tree) (u : Ty) (v : Value)
-    → AreWellTyped g → AreDefinedOnce g → IsEnvironment g stated e
+    (g : List Defined) (stated : List Size) (numbers : Option ℕ) (e : Environment) (n : ℕ) (comps : List Comp) (variables : List Var) (row locals : List Value) (t : Tree) (u : Ty) (v : Value)
+    → AreWellTyped g → AreDefinedOnce g → IsEnvironment g stated numbers e
     → IsFrontOfRow e comps row → AreOfTypes e (types_of variables) locals
     → IsOf (scope g n comps variables) t (typed u) → HasOutcome (context e row locals) (resolved (scope g n comps variables) t) (Is v)
     → IsOfType e u v

@@ -25,24 +25,24 @@ AreHeldTyped e (c ∷ cs) held = MatchOption (first_held held) (Unit {0}) (IsOfT
 -- of a schema among well typed globals, each row of the ranges of its components has a value of its type for each of them
 abbrev pub RowsTyped : Type 0
 RowsTyped =
-    (g : List Defined) (stated : List Size) (e : Environment) (place : ℕ) (name : List ℕ) (a : Schema) (held : List (Option Value)) (ranges : List (List Value)) (row : List Value)
-    → AreWellTyped g → AreDefinedOnce g → IsEnvironment g stated e
+    (g : List Defined) (stated : List Size) (numbers : Option ℕ) (e : Environment) (place : ℕ) (name : List ℕ) (a : Schema) (held : List (Option Value)) (ranges : List (List Value)) (row : List Value)
+    → AreWellTyped g → AreDefinedOnce g → IsEnvironment g stated numbers e
     → slice_get g place ≡ Some (record { name = name; definition = schema a }) → AreHeldTyped e a.comps held → AreRanges e a.comps held ranges
     → IsRowOf ranges row → IsRow e a.comps row
 
 -- so has the row of each event
 abbrev pub EventsTyped : Type 0
 EventsTyped =
-    (g : List Defined) (stated : List Size) (e : Environment) (place : ℕ) (name : List ℕ) (a : Schema) (held : List (Option Value)) (ranges : List (List Value)) (after : Option (List Value)) (x : Event Value)
-    → AreWellTyped g → AreDefinedOnce g → IsEnvironment g stated e
+    (g : List Defined) (stated : List Size) (numbers : Option ℕ) (e : Environment) (place : ℕ) (name : List ℕ) (a : Schema) (held : List (Option Value)) (ranges : List (List Value)) (after : Option (List Value)) (x : Event Value)
+    → AreWellTyped g → AreDefinedOnce g → IsEnvironment g stated numbers e
     → slice_get g place ≡ Some (record { name = name; definition = schema a }) → AreHeldTyped e a.comps held → AreRanges e a.comps held ranges
     → IsEvent value_order (property e a.conjuncts) ranges after x → IsRow e a.comps x.row
 
 -- and of a schema that a text defines
 abbrev pub EventsOfTextsTyped : Type 0
 EventsOfTextsTyped =
-    (boxes : List BoxTree) (g : List Defined) (faults : List Fault) (stated : List Size) (e : Environment) (place : ℕ) (name : List ℕ) (a : Schema)
+    (boxes : List BoxTree) (g : List Defined) (faults : List Fault) (stated : List Size) (numbers : Option ℕ) (e : Environment) (place : ℕ) (name : List ℕ) (a : Schema)
     (held : List (Option Value)) (ranges : List (List Value)) (after : Option (List Value)) (x : Event Value)
-    → IsChecked boxes g faults → IsEnvironment g stated e
+    → IsChecked boxes g faults → IsEnvironment g stated numbers e
     → slice_get g place ≡ Some (record { name = name; definition = schema a }) → AreHeldTyped e a.comps held → AreRanges e a.comps held ranges
     → IsEvent value_order (property e a.conjuncts) ranges after x → IsRow e a.comps x.row

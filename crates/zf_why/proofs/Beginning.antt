@@ -1,7 +1,7 @@
 -- Where a search over some predicates can begin, so can one over some of them.
 use Rattle.zf_why.proofs.Prelude.{◌++◌, ◌<◌, ◌∷◌, ◌≡◌, ◌≤◌, [], arith, Bool, true, false, length, List, Some, subst, suc, sym, zero, ℕ, AllByRecursion, slice_get, Comp, sets_of, ResolvedTree, Environment, property, IsNoneOut, chosen_of, CanAsk, CanBegin, HaveRanges, schema_with}
 use Rattle.zf_extent.specs.Extents.{offending}
-use Rattle.zf_finite.specs.Finite.{all_set_offenders, IsFinite, one_bounds}
+use Rattle.zf_finite.specs.Finite.{all_set_offenders, IsFinite, one_bounds, unless_ended}
 use Rattle.zf_walk.specs.Progress.{AreDueWithin}
 use Rattle.zf_enum.specs.Property.{due_of}
 use Rattle.zf_enum.specs.DeclaredSets.{IsOneOut}
@@ -11,7 +11,7 @@ use Rattle.zf_why.proofs.Lists.{all_at}
 use Rattle.zf_cores.proofs.Choosing.{all_chosen_of}
 
 module _ (e : Environment) (cs : List Comp) where
-  finite_each : (ps : List ResolvedTree) → AllByRecursion (CanAsk e (length cs)) ps → AllByRecursion (λ t. offending e.globals t ≡ []) ps
+  finite_each : (ps : List ResolvedTree) → AllByRecursion (CanAsk e (length cs)) ps → AllByRecursion (λ t. unless_ended e.numbers (offending e.globals t) ≡ []) ps
   finite_each [] h = tt
   finite_each (p ∷ ps) h = (h.0.finite, finite_each ps h.1)
 
@@ -20,18 +20,18 @@ module _ (e : Environment) (cs : List Comp) where
   due_each (p ∷ ps) h zero l = h.0.due
   due_each (p ∷ ps) h (suc c) l = due_each ps h.1 c (omega arith)
 
-  pub is_finite : (ps : List ResolvedTree) → CanBegin e cs ps → IsFinite e.globals (schema_with cs ps)
+  pub is_finite : (ps : List ResolvedTree) → CanBegin e cs ps → IsFinite e.numbers e.globals (schema_with cs ps)
   is_finite ps h = record { bounded = h.ranges.bounded; sets = h.ranges.sets; conjuncts = finite_each ps h.predicates }
 
   pub are_due : (ps : List ResolvedTree) → CanBegin e cs ps → AreDueWithin (property e ps) (length cs)
   are_due ps h = due_each ps h.predicates
 
-  each_asked : (ps : List ResolvedTree) → AllByRecursion (λ t. offending e.globals t ≡ []) ps → ((c : ℕ) → c < length ps → due_of (slice_get ps c) ≤ length cs) → AllByRecursion (CanAsk e (length cs)) ps
+  each_asked : (ps : List ResolvedTree) → AllByRecursion (λ t. unless_ended e.numbers (offending e.globals t) ≡ []) ps → ((c : ℕ) → c < length ps → due_of (slice_get ps c) ≤ length cs) → AllByRecursion (CanAsk e (length cs)) ps
   each_asked [] f d = tt
   each_asked (p ∷ ps) f d = (record { finite = f.0; due = d zero (omega arith) }, each_asked ps f.1 (λ c l. d (suc c) (omega arith)))
 
   -- a search of a schema
-  pub can_begin : (ps : List ResolvedTree) → IsFinite e.globals (schema_with cs ps) → AreDueWithin (property e ps) (length cs) → IsNoneOut e cs → CanBegin e cs ps
+  pub can_begin : (ps : List ResolvedTree) → IsFinite e.numbers e.globals (schema_with cs ps) → AreDueWithin (property e ps) (length cs) → IsNoneOut e cs → CanBegin e cs ps
   can_begin ps finite due none = record {
     ranges = record { bounded = finite.bounded; sets = finite.sets; none_out = none };
     predicates = each_asked ps finite.conjuncts due;
@@ -47,8 +47,8 @@ module _ (e : Environment) (cs : List Comp) where
   pub one_component : (i : ℕ) (c : Comp) → slice_get cs i ≡ Some c → CanBegin e cs [] → CanBegin e (c ∷ []) []
   one_component i c at h = record {
     ranges = record {
-      bounded = (all_at (λ d. IsTrue (one_bounds e.globals (sets_of d.sets))) cs i c at h.ranges.bounded, tt);
-      sets = (all_at (λ d. all_set_offenders e.globals (sets_of d.sets) ≡ []) cs i c at h.ranges.sets, tt);
+      bounded = (all_at (λ d. IsTrue (one_bounds e.numbers e.globals (sets_of d.sets))) cs i c at h.ranges.bounded, tt);
+      sets = (all_at (λ d. unless_ended e.numbers (all_set_offenders e.globals (sets_of d.sets)) ≡ []) cs i c at h.ranges.sets, tt);
       none_out = λ place out. never place out;
     };
     predicates = tt;

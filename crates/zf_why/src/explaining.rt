@@ -31,7 +31,7 @@ pub fn why<'s, 'g, 'a>(
     env: &'s Env<'g, 'a>,
     held: &'s [Option<Value>],
 ) -> Result<Cause, AllocError>
-    requires finite { IsFinite (environment_of env.now).globals (schema_of flat.now) }
+    requires finite { IsFinite (environment_of env.now).numbers (environment_of env.now).globals (schema_of flat.now) }
     requires due { AreDueWithin (property (environment_of env.now) (schema_of flat.now).conjuncts) (length (schema_of flat.now).comps) }
     requires none_out { IsNoneOut (environment_of env.now) (schema_of flat.now).comps }
     requires none { RuleOut (environment_of env.now) (schema_of flat.now).comps held.now (schema_of flat.now).conjuncts }

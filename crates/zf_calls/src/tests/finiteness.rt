@@ -1,4 +1,4 @@
-//! Which schemas are finite, and the line of the first name that makes one infinite.
+//! Which schemas are finite, and the line of the first name that makes one infinite. With a greatest number each of them is finite.
 use bumpalo::Bump;
 use std::alloc::Global;
 use std::test::Fail;
@@ -64,7 +64,10 @@ fn line_of(alloc: Global, exp: &str) -> Result<u32, Fail> {
     let spec = read_spec(alloc, &arena, source.as_bytes())?;
     let checked = check_spec(alloc, &arena, &spec)?;
     let schema = checked.globals.schema("S").ok_or("no schema")?;
-    match finite(schema, &checked.globals) {
+    let Ok(()) = finite(Some(2), schema, &checked.globals) else {
+        return Err(Fail::new("not finite with a greatest number"));
+    };
+    match finite(None, schema, &checked.globals) {
         Ok(()) => Ok(0),
         Err(cause) => Ok(cause.line()),
     }

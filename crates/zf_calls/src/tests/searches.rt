@@ -44,7 +44,7 @@ fn steps(rt: HostRuntime) -> Result<(), Fail> {
     let arena = Bump::new(rt.alloc());
     let globals = globals_in(rt.alloc(), &arena)?;
     let name = Text::of(rt.alloc(), b"NAME")?;
-    let env = Env::new(rt.alloc(), &globals, &[Size { name, count: 2 }])?;
+    let env = Env::new(rt.alloc(), &globals, &[Size { name, count: 2 }], None)?;
     for (name, holding, tests) in SCHEMAS {
         let mut search = begun(rt.alloc(), &arena, &env, name)?;
         for place in 0..holding {
@@ -63,7 +63,7 @@ fn uncounted_steps(rt: HostRuntime) -> Result<(), Fail> {
     let arena = Bump::new(rt.alloc());
     let globals = globals_in(rt.alloc(), &arena)?;
     let name = Text::of(rt.alloc(), b"NAME")?;
-    let env = Env::new(rt.alloc(), &globals, &[Size { name, count: 2 }])?;
+    let env = Env::new(rt.alloc(), &globals, &[Size { name, count: 2 }], None)?;
     for (name, holding, _) in SCHEMAS {
         let mut search = begun_uncounted(rt.alloc(), &arena, &env, name)?;
         for place in 0..holding {
@@ -105,7 +105,7 @@ fn begun<'e, 'g, 'a>(
     let Some(schema) = globals.schema(name) else {
         return Err(Fail::new("no schema"));
     };
-    let Ok(()) = finite(schema, globals) else {
+    let Ok(()) = finite(None, schema, globals) else {
         return Err(Fail::new("not finite"));
     };
     match Bindings::start(alloc, arena, schema, env, None, &[]) {
@@ -128,7 +128,7 @@ fn begun_uncounted<'e, 'g, 'a>(
     let Some(schema) = globals.schema(name) else {
         return Err(Fail::new("no schema"));
     };
-    let Ok(()) = finite(schema, globals) else {
+    let Ok(()) = finite(None, schema, globals) else {
         return Err(Fail::new("not finite"));
     };
     match Instances::start(alloc, arena, schema, env, None, &[]) {

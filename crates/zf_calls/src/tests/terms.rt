@@ -126,7 +126,7 @@ fn env_in<'g, 'a>(
     count: u64,
 ) -> Result<Env<'g, 'a>, Fail> {
     let name = Text::of(alloc, b"NAME")?;
-    Ok(Env::new(alloc, globals, &[Size { name, count }])?)
+    Ok(Env::new(alloc, globals, &[Size { name, count }], None)?)
 }
 
 fn is_outcome(alloc: Global, outcome: &Outcome, wanted: &str) -> Result<bool, Fail> {

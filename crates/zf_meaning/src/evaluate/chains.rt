@@ -18,10 +18,10 @@ use crate::connected::conjunction;
 use crate::described::membership;
 use crate::env::Env;
 use crate::found::Found;
+use crate::number_set::infinite_in;
 use crate::relation;
 use crate::row::Row;
 use std::alloc::AllocError;
-use zf_extent::infinite::direct;
 use zf_term::extent::Infinite;
 use zf_term::resolved::{Resolved, ResolvedLink};
 use zf_tree::symbol::Relation;
@@ -118,8 +118,8 @@ fn infinite_right<'a>(
     ensures { (row locals : List value.Value) → result ≡ spec.infinite_right (record { environment = environment_of env.now; row = row; locals = locals }) relation (resolved_of right.now) }
 {
     match relation {
-        Relation::Member => direct(right, env.globals()),
-        Relation::NotMember => direct(right, env.globals()),
+        Relation::Member => infinite_in(right, env),
+        Relation::NotMember => infinite_in(right, env),
         _ => None,
     }
 }

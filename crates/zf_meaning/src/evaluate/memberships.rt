@@ -12,7 +12,8 @@ ghost use Rattle.zf_term.specs.ResolvedViews as tree_views;
 ghost use Rattle.zf_term.specs.ResolvedViews.{resolved_of};
 ghost use Rattle.zf_term.specs.declared.resolved.Resolved.{size-Resolved};
 ghost use Rattle.zf_meaning.specs.Described.{Describes};
-ghost use Rattle.zf_meaning.specs.Meaning.{HasOutcome};
+ghost use Rattle.zf_meaning.specs.Envs.{environment_of};
+ghost use Rattle.zf_meaning.specs.Meaning.{HasOutcome, IsConstantOutcome};
 ghost use Rattle.zf_meaning.specs.Scopes.{scope_of};
 
 use super::operands::gather;
@@ -20,12 +21,14 @@ use super::outcome;
 use crate::described::{Described, interval_between, power_of, product_of};
 use crate::env::Env;
 use crate::found::Found;
+use crate::number_set::described_numbers;
 use crate::row::Row;
 use crate::symbols::{on_both, on_one, on_several};
 use std::alloc::AllocError;
+use zf_term::extent::Infinite;
 use zf_term::resolved::Resolved;
 use zf_tree::operator::{Listed, Operator, Sign, Unary};
-use zf_tree::symbol::{Infix, Prefix};
+use zf_tree::symbol::{Constant, Infix, Prefix};
 use zf_value::value::Value;
 
 /// What an expression comes to. A set of a family is told by the values that it is made of.
@@ -40,6 +43,7 @@ pub(crate) fn described<'v, 'a, R: Row>(
     ensures { IfOk result (Describes (HasOutcome (scope_of env.now (R.values row.now) locals.now) (resolved_of term.now))) }
 {
     match term {
+        Resolved::Constant(_, constant) => Ok(described_constant(*constant, env)),
         Resolved::Bracket(_, inner) => described(inner.get(), row, locals, env),
         Resolved::Listed(_, form, terms) => many(terms.as_slice(), *form, row, locals, env),
         Resolved::Unary(_, op, of) => of_one(of.get(), *op, row, locals, env),
@@ -47,6 +51,19 @@ pub(crate) fn described<'v, 'a, R: Row>(
             of_both(term, *op, left.get(), right.get(), row, locals, env)
         }
         _ => Ok(Described::Plain(outcome(term, row, locals, env)?)),
+    }
+}
+
+/// A constant.
+fn described_constant<'v>(constant: Constant, env: &Env<'_, '_>) -> Described<'v>
+    ensures { Describes (IsConstantOutcome (environment_of env.now).numbers constant) result }
+{
+    match constant {
+        Constant::True => Described::Plain(Found::Undefined),
+        Constant::False => Described::Plain(Found::Undefined),
+        Constant::Integers => described_numbers(env, Infinite::Num),
+        Constant::Naturals => described_numbers(env, Infinite::Nat),
+        Constant::Positives => described_numbers(env, Infinite::Nat1),
     }
 }
 

@@ -1,5 +1,5 @@
 use Rattle.zf_engine.proofs.Prelude.{◌∙◌, ap, inr, refl, subst, rules, globals_of, schema_of, environment_of, RefusesRequest, stated, AnswersOver, IfAnswered, TellsInfinite, TellsMisfit, no_schema_lines}
-use Rattle.zf_engine.proofs.Refusing.{asked, has_schema, infinite_answers, misfit_answers, weaker_err}
+use Rattle.zf_engine.proofs.Refusing.{asked, has_schema, infinite_answers, infinite_here, misfit_answers, weaker_err}
 use Rattle.zf_engine.proofs.asked.asked_in.Goals as goal
 
 pub returns-in_default-clause-stop : goal.returns-in_default-clause-stop
@@ -13,9 +13,10 @@ returns-in_err-env-clause-stop c =
 
 pub returns-in_err-check_finite-clause-stop : goal.returns-in_err-check_finite-clause-stop
 returns-in_err-check_finite-clause-stop c =
-    weaker_err _ (λ s. IfAnswered s (TellsInfinite (globals_of c.args.globals.now) (schema_of c.in-Some.schema.now) c.args.report.details c.args.report.file.now)) (AnswersOver (globals_of c.args.globals.now) c.args.request.now c.args.report.file.now)
+    let e = environment_of c.in_ok-env.env in
+    weaker_err _ (λ s. IfAnswered s (TellsInfinite e.numbers e.globals (schema_of c.in-Some.schema.now) c.args.report.details c.args.report.file.now)) (AnswersOver (globals_of c.args.globals.now) c.args.request.now c.args.report.file.now)
     (λ stop told source checks. infinite_answers c.args.request.now c.args.report.file.now source _ _ (has_schema c.args.request.now c.args.report.file.now source _ _ checks (rw c.as_str.ensures at c.in-Some.ensures)) c.in_ok-env.ensures.complete stop
-    (subst (λ d. IfAnswered stop (TellsInfinite (globals_of c.args.globals.now) (schema_of c.in-Some.schema.now) d c.args.report.file.now)) c.requires told)) (search rules)
+    (infinite_here c.args.request.now c.args.report.file.now source _ _ e c.in_ok-env.ensures.is stop (subst (λ d. IfAnswered stop (TellsInfinite e.numbers e.globals (schema_of c.in-Some.schema.now) d c.args.report.file.now)) c.requires told))) (search rules)
 
 pub returns-clause-asked : goal.returns-clause-asked
 returns-clause-asked c = λ source checks.

@@ -3,4 +3,4 @@ use Rattle.zf_enum.proofs.bounding.first_bounding.Given as goal
 
 abbrev pub invariant-loop-place : goal.invariant-loop-place
 invariant-loop-place l =
-    one_bounds (globals_of l.globals) (sets_of (map set_of l.domains)) ≡ one_bounds (globals_of l.globals) (sets_of (map set_of (drop l.place l.domains)))
+    one_bounds l.numbers (globals_of l.globals) (sets_of (map set_of l.domains)) ≡ one_bounds l.numbers (globals_of l.globals) (sets_of (map set_of (drop l.place l.domains)))

@@ -1,7 +1,7 @@
 use Rattle.zf_enum.proofs.Prelude.{IfOk-weaker, resolved_of, environment_of}
 use Rattle.zf_enum.proofs.Lacks.{told}
 use Rattle.zf_enum.proofs.Listing.{lists_set}
-use Rattle.zf_enum.proofs.Single.{all_of_plain, plain_is_out}
+use Rattle.zf_enum.proofs.Single.{all_of_plain, bounding, plain_is_out}
 use Rattle.zf_enum.proofs.leaves.of_plain.Goals as goal
 
 pub returns-clause-is : goal.returns-clause-is
@@ -10,7 +10,7 @@ returns-clause-is c b =
 
 pub returns-clause-out : goal.returns-clause-out
 returns-clause-out c b =
-    told c.members_of.result _ _ (plain_is_out (environment_of c.args.env.now) (resolved_of c.args.set.now) c.in_ok-outcome.outcome b c.in_ok-outcome.ensures) c.members_of.ensures.out
+    told c.members_of.result _ _ (plain_is_out (environment_of c.args.env.now) (resolved_of c.args.set.now) c.in_ok-outcome.outcome (bounding (environment_of c.args.env.now) (resolved_of c.args.set.now) b) c.in_ok-outcome.ensures) c.members_of.ensures.out
 
 pub returns-clause-ascending : goal.returns-clause-ascending
 returns-clause-ascending c = IfOk-weaker c.members_of.result _ _ (λ xs listed. lists_set _ xs.items listed.lists) c.members_of.ensures.is

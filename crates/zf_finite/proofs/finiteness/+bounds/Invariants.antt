@@ -3,4 +3,4 @@ use Rattle.zf_finite.proofs.finiteness.+bounds.Given as goal
 
 abbrev pub invariant-one_bounds-loop-domain : goal.invariant-one_bounds-loop-domain
 invariant-one_bounds-loop-domain l =
-    one_bounds (globals_of l.globals) (sets_of (map set_of l.domains)) ≡ one_bounds (globals_of l.globals) (sets_of (map set_of (drop l.domain-index l.domain-items)))
+    one_bounds l.numbers (globals_of l.globals) (sets_of (map set_of l.domains)) ≡ one_bounds l.numbers (globals_of l.globals) (sets_of (map set_of (drop l.domain-index l.domain-items)))

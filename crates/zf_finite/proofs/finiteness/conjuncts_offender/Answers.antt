@@ -1,8 +1,9 @@
-use Rattle.zf_finite.proofs.Prelude.{flat_map, map, conjunct_of, globals_of, flat_map-cons, offending}
-use Rattle.zf_finite.proofs.FirstCauses.{step_ahead}
+use Rattle.zf_finite.proofs.Prelude.{◌≡◌, ap, flat_map, map, None, subst, sym, conjunct_of, globals_of, first, offending, unless_ended}
+use Rattle.zf_finite.proofs.FiniteSchemas.{none_where_ended}
 use Rattle.zf_finite.proofs.finiteness.conjuncts_offender.Goals as goal
 
-pub loop-conjunct-preserved : goal.loop-conjunct-preserved
-loop-conjunct-preserved c =
+pub returns-in-Some : goal.returns-in-Some
+returns-in-Some c =
     let g = globals_of c.args.globals.now in
-    step_ahead (λ cs. flat_map (offending g) (map conjunct_of cs)) (offending g (conjunct_of c.in-Some.conjunct.now)) _ _ _ _ _ _ c.in-Some.ensures.steps (flat_map-cons (offending g) (conjunct_of c.in-Some.conjunct.now) (map conjunct_of c.next.new.self)) c.loop-conjunct.invariant c.offending_after-offender.ensures
+    let ts = map conjunct_of c.args.conjuncts.now in
+    subst (λ n. None ≡ first (flat_map (λ t. unless_ended n (offending g t)) ts)) (sym c.in-Some.is) (sym (ap first (none_where_ended c.in-Some.field-0 g ts)))

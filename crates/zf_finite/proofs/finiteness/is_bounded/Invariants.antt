@@ -3,4 +3,4 @@ use Rattle.zf_finite.proofs.finiteness.is_bounded.Given as goal
 
 abbrev pub invariant-loop-domain : goal.invariant-loop-domain
 invariant-loop-domain l =
-    one_bounds (globals_of l.globals) (sets_of (map set_of l.domains)) ≡ one_bounds (globals_of l.globals) (sets_of (map set_of l.domain-iterator))
+    one_bounds l.numbers (globals_of l.globals) (sets_of (map set_of l.domains)) ≡ one_bounds l.numbers (globals_of l.globals) (sets_of (map set_of l.domain-iterator))

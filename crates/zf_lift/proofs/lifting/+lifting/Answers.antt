@@ -20,7 +20,7 @@ pub rebuilt-returns-in-Number-clause-closed : goal.rebuilt-returns-in-Number-cla
 rebuilt-returns-in-Number-clause-closed t c = let i = c.in-Number in λ h. arms.number_closed _ i.line i.value c.args.term.now i.is
 
 pub rebuilt-returns-in-Constant-clause-same : goal.rebuilt-returns-in-Constant-clause-same
-rebuilt-returns-in-Constant-clause-same t c = let i = c.in-Constant in λ h. arms.constant _ _ _ i.line i.constant c.args.term.now i.is
+rebuilt-returns-in-Constant-clause-same t c = let i = c.in-Constant in λ h. arms.constant _ _ _ i.line i.constant c.args.term.now i.is h
 
 pub rebuilt-returns-in-Constant-clause-closed : goal.rebuilt-returns-in-Constant-clause-closed
 rebuilt-returns-in-Constant-clause-closed t c = let i = c.in-Constant in λ h. arms.constant_closed _ i.line i.constant c.args.term.now i.is

@@ -3,7 +3,7 @@ use Rattle.zf_meaning.proofs.WorkedOut.{AreWorkedOutTo, none-worked_out, one-wor
 use Rattle.zf_meaning.proofs.env.worked_out.Goals as goal
 
 pub loop-place-init : goal.loop-place-init
-loop-place-init c = record { globals = refl; sizes = refl; outcomes = none-worked_out _ c.new.ensures.items }
+loop-place-init c = record { globals = refl; sizes = refl; numbers = refl; outcomes = none-worked_out _ c.new.ensures.items }
 
 pub loop-place-preserved : goal.loop-place-preserved
 loop-place-preserved c =
@@ -12,7 +12,8 @@ loop-place-preserved c =
     record {
       globals = c.loop-place.invariant.globals;
       sizes = c.loop-place.invariant.sizes;
-      outcomes = subst (λ (os : List Outcome). let e : Environment = record { globals = old.globals; sizes = old.sizes; outcomes = os } in AreWorkedOutTo (c.loop-place.place + 1) e) (sym c.in_ok-push.ensures.items) one;
+      numbers = c.loop-place.invariant.numbers;
+      outcomes = subst (λ (os : List Outcome). let e : Environment = record { globals = old.globals; sizes = old.sizes; outcomes = os; numbers = old.numbers } in AreWorkedOutTo (c.loop-place.place + 1) e) (sym c.in_ok-push.ensures.items) one;
     }
 
 pub returns-clause-outcomes : goal.returns-clause-outcomes

@@ -1,4 +1,4 @@
-use Rattle.zf_meaning.proofs.Prelude.{◌+◌, ◌<◌, ◌∙◌, ◌∷◌, ◌≡◌, ◌≤◌, [], ap, arith, drop, false, inl, length, List, map, Option, refl, rules, subst, sym, true, ℕ, IfOk-weaker, All, IfOk, IfSome, out_told, AreFrom, IsEmptySet, IsDisplay, of-Binary, of-Chain, of-Listed, of-Unary, part_of, resolved_of, Quantifier, Range, Resolved, size-Resolved, Describes, AreNeutral, AreNeutralIf, IsPart, IsPiece, IsWanted, neutral, NeedsFront, within, found_outcome, several_by, several_of, Builds, HasOutcome, IsBuilt, IsBuiltOver, IsConstraint, IsLink, IsTruth, row_value, seen, declared_of, spread, row_of, scope_of, is_settled, truth_by, IsConnected, IsOver, IsQuantified, IsTold, Arrows, Nothing}
+use Rattle.zf_meaning.proofs.Prelude.{◌+◌, ◌<◌, ◌∙◌, ◌∷◌, ◌≡◌, ◌≤◌, [], ap, arith, drop, false, inl, length, List, map, Option, refl, rules, subst, sym, true, ℕ, IfOk-weaker, All, IfOk, IfSome, out_told, AreFrom, IsEmptySet, IsDisplay, of-Binary, of-Chain, of-Constant, of-Listed, of-Unary, part_of, resolved_of, Quantifier, Range, Resolved, size-Resolved, Describes, AreNeutral, AreNeutralIf, IsPart, IsPiece, IsWanted, neutral, NeedsFront, within, found_outcome, several_by, several_of, Builds, HasOutcome, IsBuilt, IsBuiltOver, IsConstraint, IsLink, IsTruth, row_value, seen, declared_of, spread, row_of, scope_of, is_settled, truth_by, IsConnected, IsOver, IsQuantified, IsTold, Arrows, Nothing}
 use Rattle.zf_term.specs.ResolvedTrees as tree
 use Rattle.zf_term.specs.ResolvedViews as tree_views
 use Rattle.zf_value.specs.declared.value.Outcome.TheVariants as outcome
@@ -73,6 +73,11 @@ pub chains::last_link-returns : goal.chains::last_link-returns
 chains::last_link-returns g t c =
     let row = g.R.Row.values c.args.row.now in
     last-worked (scope_of c.args.env.now (g.R.Row.values c.args.row.now) c.args.locals.now) c.args.relation (resolved_of c.args.right.now) (found_outcome c.args.left.now) (found_outcome c.in_ok-right.right) c.infinite_right-infinite.result c.link.result (c.infinite_right-infinite.ensures row (seen c.args.locals.now)) c.in_ok-right.ensures c.link.ensures
+
+pub memberships::described-returns-in-Constant : goal.memberships::described-returns-in-Constant
+memberships::described-returns-in-Constant g t c =
+    let i = c.in-Constant in
+    subst (λ d. Describes (HasOutcome (scope_of c.args.env.now (g.R.Row.values c.args.row.now) c.args.locals.now) d) c.described_constant.result) (sym (ap resolved_of i.is ∙ of-Constant i.field-0 i.constant)) c.described_constant.ensures
 
 pub memberships::described-returns-in-Listed : goal.memberships::described-returns-in-Listed
 memberships::described-returns-in-Listed g t c =

@@ -1,5 +1,5 @@
 use Rattle.zf_finite.proofs.Prelude.{◌≡◌, flat_map, map, conjunct_of, globals_of, or_else, first, offending}
-use Rattle.zf_finite.proofs.finiteness.conjuncts_offender.Given as goal
+use Rattle.zf_finite.proofs.finiteness.offender_among.Given as goal
 
 abbrev pub invariant-loop-conjunct : goal.invariant-loop-conjunct
 invariant-loop-conjunct l =

@@ -1,0 +1,31 @@
+-- The sets of numbers: infinite, or, where numbers end at a greatest one and its opposite, sets like others.
+use Rattle.std.specs.Prelude.{◌≡◌, ℕ, ℤ, pos, neg_ℤ, Option, Some, None}
+use Rattle.zf_term.specs.declared.extent.Infinite.{Infinite}
+use Rattle.zf_term.specs.declared.extent.Infinite.TheVariants.{Num, Nat, Nat1}
+use Rattle.zf_extent.specs.Extents.{direct}
+use Rattle.zf_term.specs.ResolvedTrees.{ResolvedTree}
+use Rattle.zf_value.specs.declared.value.Outcome.{Outcome}
+use Rattle.zf_value.specs.declared.value.Outcome.TheVariants.{Out}
+use Rattle.zf_value.specs.Numbers.{IsInterval}
+use Rattle.zf_meaning.specs.Environments.{Environment}
+
+-- the least number of a set, where n is the greatest of all numbers
+abbrev pub least : Infinite → ℕ → ℤ
+least Num n = neg_ℤ (pos n)
+least Nat n = pos 0
+least Nat1 n = pos 1
+
+-- the set of its numbers up to the greatest of all; out where there is no greatest
+abbrev pub IsNumberSet : Option ℕ → Infinite → Outcome → Type 0
+IsNumberSet None s o = o ≡ Out
+IsNumberSet (Some n) s o = IsInterval (least s n) (pos n) o
+
+-- the set, if it is infinite: none is where numbers end
+abbrev pub unended : Option Infinite → (numbers : Option ℕ) → Option Infinite
+unended None n = None
+unended (Some s) None = Some s
+unended (Some s) (Some n) = None
+
+-- the infinite set that a term is
+abbrev pub infinite_in : Environment → ResolvedTree → Option Infinite
+infinite_in e t = unended (direct e.globals t) e.numbers
