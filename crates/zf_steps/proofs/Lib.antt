@@ -2,6 +2,7 @@ pub mod Sure
 pub mod Searching
 pub mod Answering
 pub mod Fitting
+pub mod Shapes
 pub mod Moving
 pub mod Picked
 pub mod Renewing

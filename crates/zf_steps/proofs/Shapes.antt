@@ -1,0 +1,169 @@
+-- The schemas of a machine, component by component.
+use Rattle.std.proofs.Common.{◌++◌, ◌+◌, ◌<◌, ◌∙◌, ◌∷◌, ◌≡◌, ◌≤◌, ◌⊎◌, ◌↔◌, [], add-one, ap, append_assoc, arith, Bool, drop, Err, false, get_or, IfOk, inl, inr, IsTrue, length, List, map, MatchOption, None, Ok, Option, refl, Result, Some, subst, suc, sym, take, true, zero, ℕ}
+use Rattle.std.proofs.lemmas.Bool.{false≢true}
+use Rattle.std.proofs.lemmas.List.{append-nil, map-append, map_more, take_more}
+use Rattle.std.proofs.lemmas.List.Elements.{filter_map-append}
+use Rattle.std.proofs.lemmas.Option.{slice_get-get_or}
+use Rattle.std.specs.List.{AllByRecursion, filter_map}
+use Rattle.std.specs.Prelude.{cond, option_to_list, slice_get}
+use Rattle.zf_graph.proofs.Places.{none_some, one_some}
+use Rattle.zf_term.specs.Definitions.{Comp, Schema}
+use Rattle.zf_term.specs.declared.schema.Component.{Component}
+use Rattle.zf_term.specs.FirstNamed.{first_named}
+use Rattle.zf_term.specs.SchemaViews.{comp_of}
+use Rattle.zf_term.specs.Types.{Ty}
+use Rattle.zf_steps.specs.Shapes.{Has, HasAll, init_in, IsInit, is_other, Lacks, others_from, with_strokes}
+use Rattle.zf_steps.specs.Systems.{Operation}
+use Rattle.zf_steps.proofs.Fitting.{map_map}
+
+-- ---- lists, item by item
+
+-- what is ahead of a place, and at it
+ahead : {X : Type 0} (xs : List X) (i : ℕ) (x : X) → slice_get xs i ≡ Some x → drop i xs ≡ x ∷ drop (suc i) xs
+ahead [] i x e = absurd (none_some x e)
+ahead (y ∷ xs) zero x e = ap (λ z. z ∷ xs) (one_some y x e)
+ahead (y ∷ xs) (suc i) x e = ahead xs i x e
+
+ahead_got : {X : Type 0} (xs : List X) (i : ℕ) (x : X) → x ≡ get_or xs i x → i < length xs → drop i xs ≡ x ∷ drop (i + 1) xs
+ahead_got xs i x at l = ahead xs i x (slice_get-get_or xs i x l ∙ ap Some (sym at)) ∙ ap (λ k. x ∷ drop k xs) (sym (add-one i))
+
+nothing_ahead : {X : Type 0} (xs : List X) (n : ℕ) → length xs ≤ n → drop n xs ≡ []
+nothing_ahead [] zero l = refl
+nothing_ahead [] (suc n) l = refl
+nothing_ahead (x ∷ xs) zero l = absurd (omega (arith, l))
+nothing_ahead (x ∷ xs) (suc n) l = nothing_ahead xs n (omega (arith, l))
+
+-- one more of what two functions give alike
+pub mapped_push : {X Y Z : Type 0} (g : Y → Z) (f : X → Z) (xs : List X) (i : ℕ) (x : X) (ys : List Y) (y : Y) → x ≡ get_or xs i x → i < length xs → map g ys ≡ map f (take i xs) → g y ≡ f x
+    → map g (ys ++ y ∷ []) ≡ map f (take (i + 1) xs)
+mapped_push g f xs i x ys y at l h same =
+    map-append g ys (y ∷ []) ∙ ap (λ zs. zs ++ g y ∷ []) h ∙ ap (λ z. map f (take i xs) ++ z ∷ []) (same ∙ ap f at) ∙ sym (map_more f xs i x l)
+
+-- all of it
+past_all : {X : Type 0} (xs : List X) (n : ℕ) → length xs ≤ n → take n xs ≡ xs
+past_all [] zero l = refl
+past_all [] (suc n) l = refl
+past_all (x ∷ xs) zero l = absurd (omega (arith, l))
+past_all (x ∷ xs) (suc n) l = ap (λ ys. x ∷ ys) (past_all xs n (omega (arith, l)))
+
+pub mapped_whole : {W X Y Z : Type 0} (g : Y → W) (h : Z → W) (f : X → Z) (xs : List X) (n : ℕ) (ys : List Y) → length xs ≤ n → map g ys ≡ map (λ x. h (f x)) (take n xs) → map g ys ≡ map h (map f xs)
+mapped_whole g h f xs n ys l e = e ∙ ap (map (λ x. h (f x))) (past_all xs n l) ∙ map_map h f xs
+
+one_of : {X Y : Type 0} (f : X → Option Y) (x : X) (o : Option Y) → f x ≡ o → filter_map f (x ∷ []) ≡ option_to_list o
+one_of f x None e = rw e refl
+one_of f x (Some y) e = rw e refl
+
+-- one more of what a function gives, if it gives something
+pub filter_push : {X Y : Type 0} (f : X → Option Y) (xs : List X) (i : ℕ) (d x : X) (old new : List Y) (o : Option Y) → x ≡ get_or xs i d → i < length xs → old ≡ filter_map f (take i xs) → o ≡ f x
+    → new ≡ old ++ option_to_list o → new ≡ filter_map f (take (i + 1) xs)
+filter_push f xs i d x old new o at l h same e =
+    e ∙ ap (λ zs. zs ++ option_to_list o) h ∙ ap (λ p. filter_map f (take i xs) ++ p) (sym (one_of f (get_or xs i d) o (ap f (sym at) ∙ sym same)))
+    ∙ sym (filter_map-append f (take i xs) (get_or xs i d ∷ [])) ∙ ap (filter_map f) (sym (take_more xs i d l))
+
+-- nothing stands past the end, however it is seen
+pub past_mapped : {X Y : Type 0} (f : X → Y) (xs : List X) (i : ℕ) → length xs ≤ i → slice_get (map f xs) i ≡ None
+past_mapped f [] i l = refl
+past_mapped f (x ∷ xs) zero l = absurd (omega (arith, l))
+past_mapped f (x ∷ xs) (suc i) l = past_mapped f xs i (omega (arith, l))
+
+-- ---- the places of other components
+
+pub others_push : (state comps : List Comp) (i : ℕ) (c : Comp) (old new whole : List ℕ) (b : Bool) → slice_get comps i ≡ Some c → old ++ others_from state i (drop i comps) ≡ whole → b ≡ is_other state c.name
+    → new ≡ old ++ cond b (i ∷ []) [] → new ++ others_from state (i + 1) (drop (i + 1) comps) ≡ whole
+others_push state comps i c old new whole b at h same e =
+    let rest = others_from state (i + 1) (drop (i + 1) comps) in
+    let here : List ℕ = cond b (i ∷ []) [] in
+    let step : here ++ rest ≡ others_from state i (drop i comps) =
+    ap (λ k. here ++ others_from state (i + 1) (drop k comps)) (add-one i)
+    ∙ ap (λ t. cond t (i ∷ []) [] ++ others_from state (i + 1) (drop (suc i) comps)) same
+    ∙ ap (others_from state i) (sym (ahead comps i c at)) in
+    ap (λ xs. xs ++ rest) e ∙ append_assoc old here rest ∙ ap (λ xs. old ++ xs) step ∙ h
+
+pub others_whole : (state comps : List Comp) (n : ℕ) (found whole : List ℕ) → length comps ≤ n → found ++ others_from state n (drop n comps) ≡ whole → found ≡ whole
+others_whole state comps n found whole l h = sym (ap (λ cs. found ++ others_from state n cs) (nothing_ahead comps n l) ∙ append-nil found) ∙ h
+
+-- ---- which components there are
+
+pub found_has : (comps : List Comp) (c d : Comp) (place : ℕ) (b : Bool) → Some (place, d) ≡ first_named (λ e. e.name) c.name comps → IsTrue b ↔ (d.type ≡ c.type) → IsTrue b ↔ Has comps c
+found_has comps c d place b at same = (
+  λ t. record { place = place; component = d; named = sym at; typed = same.0 t },
+  λ h. same.1 (let one : (place, d) ≡ (h.place, h.component) = one_some (place, d) (h.place, h.component) (at ∙ h.named) in ap (λ (p : ℕ × Comp). p.1.type) one ∙ h.typed),
+)
+
+pub none_has : (comps : List Comp) (c : Comp) → None ≡ first_named (λ e. e.name) c.name comps → IsTrue false ↔ Has comps c
+none_has comps c at = (λ t. absurd (false≢true t), λ h. absurd (none_some (h.place, h.component) (at ∙ h.named)))
+
+-- what is still ahead decides
+pub record IsAhead (comps all rest : List Comp) : Type 0 where
+  pub has : HasAll comps rest → HasAll comps all
+  pub lacks : (name : List ℕ) → Lacks comps rest name → Lacks comps all name
+
+module _ (comps all : List Comp) (xs : List Component) (i : ℕ) (x : Component) (at : x ≡ get_or xs i x) (l : i < length xs) (h : IsAhead comps all (map comp_of (drop i xs))) where
+  here : map comp_of (drop i xs) ≡ comp_of x ∷ map comp_of (drop (i + 1) xs)
+  here = ap (map comp_of) (ahead_got xs i x at l)
+
+  pub passed : Has comps (comp_of x) → IsAhead comps all (map comp_of (drop (i + 1) xs))
+  passed has = record {
+    has = λ rest. h.has (subst (HasAll comps) (sym here) (has, rest));
+    lacks = λ name rest. h.lacks name (subst (λ cs. Lacks comps cs name) (sym here) (inr (has, rest)));
+  }
+
+  pub lacked : (name : List ℕ) → (Has comps (comp_of x) → ⊥) → name ≡ (comp_of x).name → Lacks comps all name
+  lacked name none is = h.lacks name (subst (λ cs. Lacks comps cs name) (sym here) (inl (none, is)))
+
+pub all_passed : (comps all : List Comp) (xs : List Component) (n : ℕ) → length xs ≤ n → IsAhead comps all (map comp_of (drop n xs)) → HasAll comps all
+all_passed comps all xs n l h = h.has (subst (HasAll comps) (sym (ap (map comp_of) (nothing_ahead xs n l))) tt)
+
+pub not_all : (comps wanted : List Comp) (name : List ℕ) → Lacks comps wanted name → HasAll comps wanted → ⊥
+not_all comps [] name h k = h
+not_all comps (c ∷ cs) name (inl (none, is)) k = none k.0
+not_all comps (c ∷ cs) name (inr (has, h)) k = not_all comps cs name h k.1
+
+pub has_both : (comps xs ys : List Comp) → HasAll comps xs → HasAll comps ys → HasAll comps (xs ++ ys)
+has_both comps [] ys h k = k
+has_both comps (x ∷ xs) ys h k = (h.0, has_both comps xs ys h.1 k)
+
+pub lacks_front : (comps xs ys : List Comp) (name : List ℕ) → Lacks comps xs name → Lacks comps (xs ++ ys) name
+lacks_front comps [] ys name h = absurd h
+lacks_front comps (x ∷ xs) ys name (inl h) = inl h
+lacks_front comps (x ∷ xs) ys name (inr h) = inr (h.0, lacks_front comps xs ys name h.1)
+
+pub lacks_behind : (comps xs ys : List Comp) (name : List ℕ) → HasAll comps xs → Lacks comps ys name → Lacks comps (xs ++ ys) name
+lacks_behind comps [] ys name h k = k
+lacks_behind comps (x ∷ xs) ys name h k = inr (h.0, lacks_behind comps xs ys name h.1 k)
+
+-- ---- the schemas
+
+pub if_ok : {A E : Type 0} (r : Result A E) (P Q : A → Type 0) → ((x : A) → P x → Q x) → IfOk r P → IfOk r Q
+if_ok (Ok x) P Q f h = f x h
+if_ok (Err e) P Q f h = tt
+
+pub match_option : {A : Type 0} (o : Option A) (P R : Type 0) (Q S : A → Type 0) → (P → R) → ((x : A) → Q x → S x) → MatchOption o P Q → MatchOption o R S
+match_option None P R Q S f g h = f h
+match_option (Some x) P R Q S f g h = g x h
+
+pub same_operation : (o p : Operation) → o.name ≡ p.name → o.schema ≡ p.schema → o.sources ≡ p.sources → o.after ≡ p.after → o.others ≡ p.others → o.label ≡ p.label → o ≡ p
+same_operation o p a b c d e f =
+    ap (λ (x : List ℕ). record { name = x; schema = o.schema; sources = o.sources; after = o.after; others = o.others; label = o.label }) a
+    ∙ ap (λ (x : Schema). record { name = p.name; schema = x; sources = o.sources; after = o.after; others = o.others; label = o.label }) b
+    ∙ ap (λ (x : List (Option ℕ)). record { name = p.name; schema = p.schema; sources = x; after = o.after; others = o.others; label = o.label }) c
+    ∙ ap (λ (x : List ℕ). record { name = p.name; schema = p.schema; sources = p.sources; after = x; others = o.others; label = o.label }) d
+    ∙ ap (λ (x : List ℕ). record { name = p.name; schema = p.schema; sources = p.sources; after = p.after; others = x; label = o.label }) e
+    ∙ ap (λ (x : List Comp). record { name = p.name; schema = p.schema; sources = p.sources; after = p.after; others = p.others; label = x }) f
+
+-- what is gathered of components is gathered of them as contracts see them
+pub filter_mapped : {X Y Z : Type 0} (f : Y → Option Z) (g : X → Y) (xs : List X) → filter_map (λ x. f (g x)) xs ≡ filter_map f (map g xs)
+filter_mapped f g [] = refl
+filter_mapped {X} {Y} {Z} f g (x ∷ xs) = by (f (g x)) refl (filter_mapped f g xs) where
+  by : (o : Option Z) → f (g x) ≡ o → filter_map (λ x. f (g x)) xs ≡ filter_map f (map g xs) → filter_map (λ x. f (g x)) (x ∷ xs) ≡ filter_map f (map g (x ∷ xs))
+  by None e h = rw e h
+  by (Some z) e h = rw e (ap (λ zs. z ∷ zs) h)
+
+-- initial states have strokes, or else none
+pub init_stroked : (state : List Comp) (name : List ℕ) (a : Schema) (o : Operation) → HasAll a.comps (with_strokes state) → o ≡ init_in (with_strokes state) name a → IsInit state name a o
+init_stroked state name a o has is = inl (has, is)
+
+pub init_plain : (state : List Comp) (name component : List ℕ) (a : Schema) (o : Operation) → Lacks a.comps (with_strokes state) component → HasAll a.comps (with_strokes state) ⊎ HasAll a.comps state
+    → o ≡ init_in state name a → IsInit state name a o
+init_plain state name component a o lacks (inl has) is = absurd (not_all a.comps (with_strokes state) component lacks has)
+init_plain state name component a o lacks (inr has) is = inr (not_all a.comps (with_strokes state) component lacks, has, is)

@@ -1,0 +1,10 @@
+-- The others so far, and those ahead.
+use Rattle.std.proofs.Common.{◌++◌, ◌≡◌, drop, map}
+use Rattle.zf_term.specs.SchemaViews.{comp_of}
+use Rattle.zf_steps.specs.Shapes.{others_from}
+use Rattle.zf_steps.specs.States.{before_of}
+use Rattle.zf_steps.proofs.shape.others_of.Given as goal
+
+abbrev pub invariant-loop-place : goal.invariant-loop-place
+invariant-loop-place l =
+    l.others.items ++ others_from (before_of l.states) l.place (drop l.place (map comp_of l.components)) ≡ others_from (before_of l.states) 0 (map comp_of l.components)

@@ -1,0 +1,8 @@
+-- The sources so far.
+use Rattle.std.proofs.Common.{◌≡◌, map, take}
+use Rattle.zf_term.specs.SchemaViews.{comp_of}
+use Rattle.zf_steps.specs.Shapes.{place_of}
+use Rattle.zf_steps.proofs.shape.sources_of.Given as goal
+
+abbrev pub invariant-loop-component : goal.invariant-loop-component
+invariant-loop-component l = l.sources.items ≡ map (λ c. place_of (map comp_of l.state) (comp_of c).name) (take l.component-index l.components)

@@ -1,0 +1,8 @@
+-- The components so far have one more stroke.
+use Rattle.std.proofs.Common.{◌≡◌, map, take}
+use Rattle.zf_term.specs.SchemaViews.{comp_of}
+use Rattle.zf_steps.specs.Shapes.{stroked}
+use Rattle.zf_steps.proofs.shape.with_strokes.Given as goal
+
+abbrev pub invariant-loop-component : goal.invariant-loop-component
+invariant-loop-component l = map comp_of l.stroked ≡ map (λ c. stroked (comp_of c)) (take l.component-index l.components)

@@ -1,0 +1,94 @@
+-- The schemas of a machine: which of their components are those of the state before, and which those of the state after.
+use Rattle.std.specs.Prelude.{◌≡◌, ◌⊎◌, ◌++◌, ◌+◌, ℕ, Bool, not, cond, List, [], ◌∷◌, codes, map, Option, None, Some, is_some, option_map, option_to_list, slice_get}
+use Rattle.std.specs.List.{AllByRecursion, filter_map}
+use Rattle.zf_term.specs.Definitions.{Comp, Schema}
+use Rattle.zf_term.specs.FirstNamed.{first_named}
+use Rattle.zf_steps.specs.Systems.{Operation}
+
+-- ---- components
+
+-- the place of the component of this name
+abbrev pub place_of : List Comp → (name : List ℕ) → Option ℕ
+place_of comps name = option_map (λ p. p.0) (first_named (λ c. c.name) name comps)
+
+-- there is a component with the name and the type of this one
+pub record Has (comps : List Comp) (c : Comp) : Type 0 where
+  pub place : ℕ
+  pub component : Comp
+  pub named : first_named (λ d. d.name) c.name comps ≡ Some (place, component)
+  pub typed : component.type ≡ c.type
+
+abbrev pub HasAll : List Comp → (wanted : List Comp) → Type 0
+HasAll comps wanted = AllByRecursion (Has comps) wanted
+
+-- the first of the components that are wanted and are not there has this name
+abbrev pub Lacks : List Comp → (wanted : List Comp) → (name : List ℕ) → Type 0
+Lacks comps [] name = ⊥
+Lacks comps (c ∷ cs) name = ((Has comps c → ⊥) × (name ≡ c.name)) ⊎ (Has comps c × Lacks comps cs name)
+
+-- where the components are that are wanted, and what stands at places
+abbrev pub places_of : List Comp → (wanted : List Comp) → List ℕ
+places_of comps wanted = filter_map (λ c. place_of comps c.name) wanted
+
+abbrev pub comps_at : List Comp → (places : List ℕ) → List Comp
+comps_at comps places = filter_map (slice_get comps) places
+
+-- ---- states
+
+-- a component of the state after: it has one more stroke
+abbrev pub stroked : Comp → Comp
+stroked c = record { name = c.name ++ codes "'"; type = c.type; sets = c.sets }
+
+abbrev pub with_strokes : (state : List Comp) → List Comp
+with_strokes state = map stroked state
+
+-- which component of the state before each of these is
+abbrev pub sources_of : (state : List Comp) → List Comp → List (Option ℕ)
+sources_of state comps = map (λ c. place_of state c.name) comps
+
+-- whether neither state has a component of the name
+abbrev pub is_other : (state : List Comp) → (name : List ℕ) → Bool
+is_other state name = cond (is_some (place_of state name)) Bool.false (not (is_some (place_of (with_strokes state) name)))
+
+-- the places of such components, from this place on
+abbrev pub others_from : (state : List Comp) → (place : ℕ) → List Comp → List ℕ
+others_from state place [] = []
+others_from state place (c ∷ cs) = cond (is_other state c.name) (place ∷ []) [] ++ others_from state (place + 1) cs
+
+-- ---- the schemas of a machine
+
+-- the schema of the state
+abbrev pub state_in : (name : List ℕ) → Schema → Operation
+state_in name a = record { name = name; schema = a; sources = sources_of a.comps a.comps; after = []; others = []; label = [] }
+
+-- that of the initial states, whose components are these
+abbrev pub init_in : (wanted : List Comp) → (name : List ℕ) → Schema → Operation
+init_in wanted name a = record { name = name; schema = a; sources = []; after = places_of a.comps wanted; others = []; label = [] }
+
+-- They are those of the state with a stroke, if it has all of these, or else those of the state.
+abbrev pub IsInit : (state : List Comp) → (name : List ℕ) → Schema → Operation → Type 0
+IsInit state name a o =
+    (HasAll a.comps (with_strokes state) × (o ≡ init_in (with_strokes state) name a)) ⊎ ((HasAll a.comps (with_strokes state) → ⊥) × HasAll a.comps state × (o ≡ init_in state name a))
+
+abbrev pub LacksInit : (state : List Comp) → Schema → (name : List ℕ) → Type 0
+LacksInit state a name = (HasAll a.comps (with_strokes state) → ⊥) × Lacks a.comps state name
+
+-- an operation has the components of both states
+abbrev pub both : (state : List Comp) → List Comp
+both state = state ++ with_strokes state
+
+abbrev pub operation_in : (state : List Comp) → (name : List ℕ) → Schema → Operation
+operation_in state name a = record {
+  name = name;
+  schema = a;
+  sources = sources_of state a.comps;
+  after = places_of a.comps (with_strokes state);
+  others = others_from state 0 a.comps;
+  label = comps_at a.comps (others_from state 0 a.comps);
+}
+
+abbrev pub IsOperation : (state : List Comp) → (name : List ℕ) → Schema → Operation → Type 0
+IsOperation state name a o = HasAll a.comps (both state) × (o ≡ operation_in state name a)
+
+abbrev pub LacksStep : (state : List Comp) → Schema → (name : List ℕ) → Type 0
+LacksStep state a name = Lacks a.comps (both state) name

@@ -1,0 +1,40 @@
+//! The text of what a specification can reach.
+ghost use Rattle.std.specs.Prelude.{◌≡◌, ◌≤◌, ℕ, List, IfOk, OnErr};
+ghost use Rattle.std.specs.Io.KnownBytes.{Appends};
+ghost use Rattle.zf_graph.specs.Texts.{IsWritten};
+ghost use Rattle.zf_lines.specs.Counts.{device_of, failures_of};
+ghost use Rattle.zf_lines.specs.Faults.{read_failures, write_failures};
+ghost use Rattle.zf_reach.specs.Machines.{ending_of};
+ghost use Rattle.zf_reach.specs.Runs.{StopsEarly};
+ghost use Rattle.zf_steps.specs.Explored.{explored_in};
+ghost use Rattle.zf_steps.specs.Lines.{lines};
+ghost use Rattle.zf_steps.specs.Machines.{Fits};
+ghost use Rattle.zf_steps.specs.Systems.{system_of};
+
+use crate::cursor::Cursor;
+use crate::finder::Finder;
+use crate::given::{Schematic, Surrounding};
+use crate::system::System;
+use std::io::Write;
+use zf_lines::counted::Counted;
+use zf_lines::fault::RunFault;
+use zf_reach::{Ending, explore};
+
+/// Writes the exploration of a specification by these searches, up to so many states. Each line is written before anything
+/// further is searched for.
+pub fn explore_by<E: Surrounding + Drop, F: Schematic + Drop, S: Finder + Drop, W: Write>(
+    system: &System<'_, E, F, S>,
+    cursor: Cursor<S>,
+    limit: usize,
+    writer: &mut Counted<W>,
+) -> Result<Ending, RunFault>
+    requires unfailed { failures_of writer.old ≡ 0 }
+    requires limited { 1 ≤ limit }
+    requires fits { Fits S.IsFor (system_of E.environment F.schema system.now) cursor.state cursor.init cursor.operations.items cursor.part }
+    ensures ok { IfOk result (λ ending. (at text : List ℕ) × IsWritten (explored_in (system_of E.environment F.schema system.now)) (lines (system_of E.environment F.schema system.now)) limit (ending_of ending at) text × Appends (W.contents (device_of writer.old)) (W.contents (device_of writer.new)) text) }
+    ensures err { OnErr result (StopsEarly (explored_in (system_of E.environment F.schema system.now)) (lines (system_of E.environment F.schema system.now)) limit (W.contents (device_of writer.old)) (W.contents (device_of writer.new))) }
+    ensures count { failures_of writer.new ≡ write_failures result }
+    ensures unread { read_failures result ≡ 0 }
+{
+    explore(system.alloc, system, cursor, limit, writer)
+}
