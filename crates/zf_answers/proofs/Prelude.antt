@@ -54,7 +54,7 @@ pub use Rattle.zf_enum.proofs.EventLaws.{one_ranges}
 pub use Rattle.zf_enum.specs.PortionViews.{behind, portion}
 pub use Rattle.zf_enum.specs.Portions.{Portion}
 pub use Rattle.zf_enum.specs.Property.{HasTruth, property}
-pub use Rattle.zf_enum.specs.Ranges.{IsFirstOut, IsNoneOut}
+pub use Rattle.zf_ranges.specs.Ranges.{IsFirstOut, IsNoneOut}
 pub use Rattle.zf_command.specs.declared.job.Job.{Job}
 pub use Rattle.zf_command.specs.declared.job.Job.TheVariants.{Check, Show, Why}
 pub use Rattle.zf_command.specs.declared.job.Request.{Request}

@@ -3,7 +3,7 @@ use Rattle.zf_answers.proofs.Prelude.{◌++◌, ◌+◌, ◌<◌, ◌∙◌, ◌
 use Rattle.std.proofs.lemmas.List.{length-append}
 use Rattle.zf_lines.specs.declared.fault.Status.TheVariants.{Done}
 use Rattle.zf_cores.specs.Choices.{chosen_of}
-use Rattle.zf_enum.specs.Ranges.{AreRanges}
+use Rattle.zf_ranges.specs.Ranges.{AreRanges}
 use Rattle.zf_found.proofs.Ranges.{some_ranges}
 use Rattle.zf_found.proofs.Searches.{some_search}
 use Rattle.zf_why.specs.Causes.{EmptiedBy, RefutedBy, RefutedTogetherBy}

@@ -4,7 +4,7 @@ use Rattle.std.specs.Prelude.{replicate, slice_set}
 use Rattle.zf_term.specs.ResolvedTrees.{ResolvedTree}
 use Rattle.zf_walk.specs.EventLists.{IsEvents}
 use Rattle.zf_enum.specs.EventLaws.{AreEvents}
-use Rattle.zf_enum.specs.Ranges.{AreRanges, first_held, later_held}
+use Rattle.zf_ranges.specs.Ranges.{AreRanges, first_held, later_held}
 use Rattle.zf_found.proofs.Searches.{some_list}
 use Rattle.zf_cores.specs.Choices.{chosen_of, HasChosen, IsChosen, IsFewer, IsLeft, IsMinimal}
 use Rattle.zf_cores.proofs.Choosing.{all_chosen}

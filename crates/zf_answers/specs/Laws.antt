@@ -21,7 +21,7 @@ use Rattle.zf_meaning.specs.Sizes.{given_sets, AreComplete}
 use Rattle.zf_cores.specs.Choices.{chosen_of}
 use Rattle.zf_why.specs.Causes.{RefutedTogetherBy}
 use Rattle.zf_enum.specs.Portions.{Portion}
-use Rattle.zf_enum.specs.Ranges.{IsNoneOut}
+use Rattle.zf_ranges.specs.Ranges.{IsNoneOut}
 use Rattle.zf_lines.specs.declared.fault.Status.{Status}
 use Rattle.zf_command.specs.declared.job.Request.{Request}
 use Rattle.zf_engine.specs.Answers.{Answer, AreHeld, Checks, HasSchema, HoldsNoValues, IsLimited, IsNamedRow, NamesNoRow, ShowsEvents, stated, wants_details, numbers_of}

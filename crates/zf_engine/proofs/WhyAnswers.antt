@@ -4,7 +4,7 @@ use Rattle.std.proofs.Common.{Global, Vec}
 use Rattle.std.specs.Prelude.{OnOk}
 use Rattle.zf_command.specs.Requests.{IsBare}
 use Rattle.zf_command.specs.declared.job.Job.TheVariants.{Why}
-use Rattle.zf_enum.specs.Ranges.{IsNoneOut}
+use Rattle.zf_ranges.specs.Ranges.{IsNoneOut}
 use Rattle.zf_lines.specs.declared.fault.Status.TheVariants.{Done}
 use Rattle.zf_why.specs.Causes.{Explains}
 use Rattle.zf_why.specs.declared.cause.Cause.{Cause}

@@ -29,7 +29,7 @@ use Rattle.zf_meaning.specs.GlobalOutcomes.{IsEnvironment}
 use Rattle.zf_meaning.specs.Rows.{IsRow}
 use Rattle.zf_meaning.specs.Sizes.{given_sets, AreComplete, IsRefusal}
 use Rattle.zf_enum.specs.Portions.{Portion}
-use Rattle.zf_enum.specs.Ranges.{IsFirstOut, IsNoneOut}
+use Rattle.zf_ranges.specs.Ranges.{IsFirstOut, IsNoneOut}
 use Rattle.zf_texts.specs.BindingTexts.{binding_text}
 use Rattle.zf_texts.specs.HeldLines.{IsLineOfSome}
 use Rattle.zf_texts.specs.Spellings.{spellings}

@@ -14,7 +14,7 @@ use Rattle.zf_meaning.specs.declared.sizes.SizeFault.{SizeFault}
 use Rattle.zf_meaning.specs.declared.sizes.SizeFault.TheVariants as size_faults
 use Rattle.zf_meaning.specs.Environments.{Environment}
 use Rattle.zf_meaning.specs.Sizes.{given_sets, IsRefusal}
-use Rattle.zf_enum.specs.Ranges.{IsFirstOut}
+use Rattle.zf_ranges.specs.Ranges.{IsFirstOut}
 use Rattle.zf_lines.specs.declared.fault.RunFault.{RunFault}
 use Rattle.zf_lines.specs.declared.fault.Status.{Status}
 use Rattle.zf_lines.specs.declared.fault.Status.TheVariants.{BadSpec, BadRequest, PastBounds}

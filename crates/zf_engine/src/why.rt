@@ -5,7 +5,7 @@ ghost use Rattle.zf_command.specs.declared.job.Job.TheVariants.{Why};
 ghost use Rattle.zf_engine.specs.Answers.{Answer, Checks, IsAsked};
 ghost use Rattle.zf_engine.specs.Stops.{IfAnswered, TellsOut};
 ghost use Rattle.zf_engine.specs.Subjects.{CanBeSearched, HasNone, environment_in, IsBegunOf, line_in, schema_in, TellsFirst, TellsNone, TellsOf};
-ghost use Rattle.zf_enum.specs.Ranges.{IsNoneOut};
+ghost use Rattle.zf_ranges.specs.Ranges.{IsNoneOut};
 ghost use Rattle.zf_meaning.specs.Envs.{environment_of};
 ghost use Rattle.zf_term.specs.DefinitionViews.{globals_of};
 ghost use Rattle.zf_term.specs.SchemaViews.{schema_of};

@@ -1,14 +1,7 @@
 mod Prelude
 pub mod Dues
 pub mod Judging
-pub mod Listing
-pub mod Held
 pub mod EventLaws
-pub mod Single
-pub mod Sides
-pub mod Comps
-pub mod Lacks
-pub mod Typed
 pub mod Resolved
 pub mod Started
 pub mod Planted

@@ -1,11 +1,10 @@
 -- What the proofs of this crate take from elsewhere, passed on from one place.
-pub use Rattle.std.proofs.Common.{◌++◌, ◌+◌, ◌-◌, ◌<◌, ◌^◌, ◌↔◌, ◌∙◌, ◌∷◌, ◌≡◌, ◌≤◌, ◌⊎◌, [], add-one, ap, ap₂, arith, Bool, cond, drop, eqb, Err, false, get_or, IfOk, IfSome, inl, inr, length, length-append, List, map, max, None, not, Ok, Option, refl, Result, rules, Some, subst, suc, sym, take, true, zero, ℕ, ⊎_elim}
-pub use Rattle.std.proofs.lemmas.Bool.{and_parts, both_ways, cases_Bool, cases_lt, eqb-true, false≢true}
-pub use Rattle.std.proofs.lemmas.List.{length-drop, length-map}
+pub use Rattle.std.proofs.Common.{◌++◌, ◌+◌, ◌-◌, ◌<◌, ◌^◌, ◌↔◌, ◌∙◌, ◌∷◌, ◌≡◌, ◌≤◌, ◌⊎◌, [], add-one, ap, ap₂, arith, Bool, cond, drop, eqb, false, get_or, IfOk, IfSome, inl, inr, length, length-append, List, map, max, None, Option, refl, rules, Some, subst, suc, sym, take, true, zero, ℕ, ⊎_elim}
+pub use Rattle.std.proofs.lemmas.Bool.{cases_Bool, cases_lt, eqb-true, false≢true}
+pub use Rattle.std.proofs.lemmas.List.{length-map}
 pub use Rattle.std.proofs.lemmas.Result.{IfOk-weaker, on_ok_weaker}
-pub use Rattle.std.specs.List.{AllByRecursion}
 pub use Rattle.std.specs.Option.{option_copied}
-pub use Rattle.std.specs.Prelude.{All, AllPairs, Contains, IfErr, IsErrAnd, IsTrue, nat_le, slice_get, unwrap_or}
+pub use Rattle.std.specs.Prelude.{All, AllPairs, Contains, nat_le, slice_get, unwrap_or}
 pub use Rattle.std.specs.declared.cmp.Ordering.TheVariants.{Less}
 pub use Rattle.zf_walk.proofs.Picks.{range-is}
 pub use Rattle.zf_walk.proofs.Picks.{AreWithin-push, length-picked, nth-at, picked-push}
@@ -21,51 +20,37 @@ pub use Rattle.zf_plan.specs.Groves.{Grove, Grows, Takes, trees_made, trees_of}
 pub use Rattle.zf_plan.specs.Trees.{both, either, HasLeavesWithin, HaveLeavesWithin, IsOfBoth, IsOfEither, IsTreeTruth, leaf, negated, opposite, planted, Tree, tree_at}
 pub use Rattle.zf_reference.specs.declared.reference.Reference.{Reference}
 pub use Rattle.zf_reference.specs.declared.reference.Reference.TheVariants.{Component, Global, Local}
-pub use Rattle.zf_value.proofs.Among.{ascending-push, every_at, every_from, member_at, members-append, members-push, members-take_more, take_all}
+pub use Rattle.zf_value.proofs.Among.{members-take_more, take_all}
 pub use Rattle.zf_value.proofs.Exact.{exact}
-pub use Rattle.zf_value.proofs.Seen.{members-SetOf, parts-Tuple}
+pub use Rattle.zf_value.proofs.Seen.{members-SetOf}
 pub use Rattle.zf_value.specs.Sets.{Every, IsAscending, IsMember, members, value_order}
-pub use Rattle.zf_value.specs.SetLaws.{parts}
-unfoldable pub use Rattle.zf_value.specs.ListLaws.{HaveSameMembers}
 pub use Rattle.zf_value.specs.declared.value.Outcome.{Outcome}
 pub use Rattle.zf_value.specs.declared.value.Outcome.TheVariants.{Is, Out, Undefined}
-pub use Rattle.zf_value.specs.declared.plain.Value.{SetOf, Tuple, Value}
+pub use Rattle.zf_value.specs.declared.plain.Value.{Value}
 pub use Rattle.zf_tree.specs.declared.operator.Unary.TheVariants.{Not}
 pub use Rattle.zf_tree.specs.declared.symbol.Relation.TheVariants.{Equal}
 pub use Rattle.zf_term.proofs.ResolvedSeen.{link-seen, of-Binary, of-Chain, of-Name, of-Unary, range-seen}
-pub use Rattle.zf_term.proofs.SetsSeen.{of-Either}
-pub use Rattle.zf_term.specs.Definitions.{carrier, Comp, DeclaredSet, DeclaredSets, Defined, plain, sets_of, sides}
-pub use Rattle.zf_term.specs.SchemaViews.{comp_of, conjunct_of, schema_of, set_of}
-pub use Rattle.zf_term.specs.DefinitionViews.{globals_of}
+pub use Rattle.zf_term.specs.Definitions.{Comp}
+pub use Rattle.zf_term.specs.SchemaViews.{comp_of, conjunct_of, schema_of}
 pub use Rattle.zf_term.specs.ResolvedTrees.{absent, binary, bracket, builder, chain, constant, empty_set, link, listed, no_links, no_ranges, no_terms, number, present, quantified, range, Ranges, reference, ResolvedLinks, ResolvedPart, ResolvedTree, ResolvedTrees, term, unary}
 pub use Rattle.zf_term.specs.ResolvedViews.{links, range_of, ranges, resolved_link_of, resolved_of, terms}
 pub use Rattle.zf_term.specs.References.{references}
-pub use Rattle.zf_term.specs.Types.{has_numbers, power, product, Ty, types, Tys}
-pub use Rattle.zf_term.specs.TypeViews.{type_of}
 pub use Rattle.zf_term.specs.declared.conjunct.Conjunct.{Conjunct}
-pub use Rattle.zf_term.specs.declared.extent.Infinite.{Infinite}
-pub use Rattle.zf_term.specs.declared.schema.Domain.{Domain}
 pub use Rattle.zf_term.specs.declared.resolved.Resolved.{Resolved}
 pub use Rattle.zf_term.specs.declared.resolved.ResolvedLink.{ResolvedLink}
-pub use Rattle.zf_extent.specs.Extents.{direct}
-pub use Rattle.zf_finite.specs.Finite.{bounds, is_none, one_bounds}
-pub use Rattle.zf_meaning.specs.Carriers.{IsCarrier}
-pub use Rattle.zf_meaning.specs.Environments.{Environment, globally, value_or}
+pub use Rattle.zf_meaning.specs.Environments.{Environment, value_or}
 pub use Rattle.zf_meaning.specs.Envs.{environment_of, longer}
 pub use Rattle.zf_meaning.specs.InRow.{in_row}
 pub use Rattle.zf_meaning.specs.Meaning.{HasOutcome, IsTruth}
-pub use Rattle.zf_meaning.specs.Rows.{AreOfTypes, IsOfType}
 pub use Rattle.zf_meaning.specs.Truths.{IsAtom, IsConjunction, IsDisjunction}
 pub use Rattle.zf_lift.specs.Lifted.{AreEach, AreLifted, IsLifted, IsLonger}
-pub use Rattle.zf_enum.specs.Components.{AreAllRanges, held_at, IsOneRange, IsOutBy}
-pub use Rattle.zf_enum.specs.DeclaredSets.{has_endless, IsCarrierOut, IsInCarrier, IsInOne, IsInPlain, IsInSet, IsInSets, IsOneOut, IsPlainOut, IsSetOut}
+pub use Rattle.zf_ranges.specs.Components.{AreAllRanges}
 pub use Rattle.zf_enum.specs.Dues.{all_need, links_need, need, part_need, place_after, place_up_to, ranges_need}
 pub use Rattle.zf_enum.specs.Fixing.{AreCandidates, Fixes, GoesOn, IsKept, IsName}
-pub use Rattle.zf_enum.specs.Parts.{BoundsAt, Filters, IsAllOf, IsAllOfEach, IsAllWith, IsIn, IsListed, Lists, Narrows, NarrowsAll, Tells}
 pub use Rattle.zf_enum.specs.Planting.{ArePlanted, IsPlanted, NeedWithin, Plants, PlantsNext}
 pub use Rattle.zf_enum.specs.Property.{due, due_of, greatest_place, HasTruth, place_named, property, told}
 pub use Rattle.zf_enum.specs.PropertyLaws.{follows_outcome, uses_first}
-pub use Rattle.zf_enum.specs.Ranges.{AreRanges, first_held, IsFirstOut, IsHeld, IsNoneOut, IsComponentRange, later_held}
+pub use Rattle.zf_ranges.specs.Ranges.{AreRanges, first_held, IsComponentRange, later_held}
 pub use Rattle.zf_enum.specs.Searches.{judged, with_first}
 pub use Rattle.zf_enum.specs.Uses.{is_among, is_component, uses, uses_of}
 pub use Rattle.zf_enum.specs.declared.property.Property.{Property}

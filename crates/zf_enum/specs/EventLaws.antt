@@ -10,7 +10,7 @@ use Rattle.zf_meaning.specs.Environments.{Environment}
 use Rattle.zf_enum.specs.Property.{property}
 use Rattle.zf_enum.specs.Portions.{Portion}
 use Rattle.zf_enum.specs.PortionViews.{behind}
-use Rattle.zf_enum.specs.Ranges.{AreRanges}
+use Rattle.zf_ranges.specs.Ranges.{AreRanges}
 use Rattle.zf_enum.specs.Events.{AreTests}
 
 -- the list of the events

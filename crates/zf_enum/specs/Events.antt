@@ -7,7 +7,7 @@ use Rattle.zf_walk.specs.Tests.{IsNumberOfTests}
 use Rattle.zf_meaning.specs.Environments.{Environment}
 use Rattle.zf_enum.specs.Property.{property}
 use Rattle.zf_enum.specs.Portions.{Portion}
-use Rattle.zf_enum.specs.Ranges.{AreRanges}
+use Rattle.zf_ranges.specs.Ranges.{AreRanges}
 
 -- the number of the tests up to a whole row, or up to the end
 pub record AreTests (e : Environment) (s : Schema) (p : Portion) (whole : Option (List Value)) (number : ℕ) : Type 0 where

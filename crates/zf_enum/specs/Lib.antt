@@ -2,17 +2,12 @@ pub mod Property
 pub mod Uses
 pub mod PropertyLaws
 pub mod Dues
-pub mod DeclaredSets
-pub mod Ranges
 pub mod Portions
 pub mod PortionViews
 pub mod Events
 pub mod EventLaws
-pub mod Parts
-pub mod Components
 pub mod Starts
 pub mod Searches
-pub mod OfTypes
 pub mod Planting
 pub mod Fixing
 pub mod Spreads

@@ -1,4 +1,4 @@
--- What a search begins with, and why none can be started.
+-- What a search begins with.
 use Rattle.std.specs.Prelude.{◌≡◌, List, map, None}
 use Rattle.zf_term.specs.Definitions.{Comp, Schema}
 use Rattle.zf_term.specs.ResolvedViews.{resolved_of}
@@ -7,18 +7,11 @@ use Rattle.zf_value.specs.Sets.{value_order}
 use Rattle.zf_walk.specs.Progress.{AreAllAhead, Stage}
 use Rattle.zf_plan.specs.Alike.{SayTheSame}
 use Rattle.zf_meaning.specs.Environments.{Environment}
-use Rattle.zf_enum.specs.declared.start_fault.StartFault.{StartFault}
-use Rattle.zf_enum.specs.declared.start_fault.StartFault.TheVariants.{DeclaredOut, OutOfMemory}
 use Rattle.zf_enum.specs.declared.bindings.Bindings.{Bindings}
 use Rattle.zf_enum.specs.Property.{property}
 use Rattle.zf_enum.specs.Searches.{Goal, conjuncts_of, counted_goal}
 use Rattle.zf_enum.specs.Portions.{Portion}
-use Rattle.zf_enum.specs.Ranges.{AreRanges, IsFirstOut, IsNoneOut}
-
--- Want of memory says nothing.
-abbrev pub Refuses : Environment → List Comp → StartFault → Type 0
-Refuses e cs (DeclaredOut place) = IsFirstOut e cs place
-Refuses e cs OutOfMemory = Unit {0}
+use Rattle.zf_ranges.specs.Ranges.{AreRanges, IsNoneOut}
 
 -- What goes by this and stands here is the search of the schema in the environment: its conjuncts say the same as those of the schema, no declared set is out, and every event is ahead.
 pub record Begins (e : Environment) (s : Schema) (p : Portion) (g : Goal) (b : Stage Value) : Type 0 where

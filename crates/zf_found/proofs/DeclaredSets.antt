@@ -9,8 +9,8 @@ use Rattle.zf_meaning.proofs.Environments.{one_carrier}
 use Rattle.zf_meaning.proofs.Unique.{one_outcome}
 use Rattle.zf_total.proofs.Carriers.{some_carrier}
 use Rattle.zf_total.proofs.Truths.{decided_is_in}
-use Rattle.zf_enum.specs.DeclaredSets.{has_endless}
-use Rattle.zf_enum.proofs.Single.{bounding, endless}
+use Rattle.zf_ranges.specs.DeclaredSets.{has_endless}
+use Rattle.zf_ranges.proofs.Single.{bounding, endless}
 use Rattle.zf_found.proofs.Typed.{decided_of_type}
 
 -- ---- one set

@@ -29,7 +29,7 @@ pub use Rattle.zf_total.proofs.Naturals.{decided_le, decided_lt, first_or_none, 
 pub use Rattle.zf_total.proofs.Orders.{AllPairs-mapped, Contains-map, Contains-mapped, distinct_of, in_order}
 pub use Rattle.zf_total.proofs.Terms.{some_outcome, some_truth}
 pub use Rattle.zf_total.proofs.Values.{listed_members, same_row, same_value}
-pub use Rattle.zf_enum.specs.DeclaredSets.{IsCarrierOut, IsInCarrier, IsInOne, IsInPlain, IsInSet, IsInSets, IsOneOut, IsPlainOut, IsSetOut}
-pub use Rattle.zf_enum.specs.Ranges.{AreRanges, first_held, IsFirstOut, IsHeld, IsNoneOut, IsOutAt, IsComponentRange, later_held}
+pub use Rattle.zf_ranges.specs.DeclaredSets.{IsCarrierOut, IsInCarrier, IsInOne, IsInPlain, IsInSet, IsInSets, IsOneOut, IsPlainOut, IsSetOut}
+pub use Rattle.zf_ranges.specs.Ranges.{AreRanges, first_held, IsFirstOut, IsHeld, IsNoneOut, IsOutAt, IsComponentRange, later_held}
 pub use Rattle.zf_lines.specs.Searches.{AreEventsUpTo, breaks, ends, HasEvents, Hold, IsBelow, IsTestsLine, IsWritten, lines, out_line, pauses}
 pub use Rattle.zf_lines.specs.declared.fault.Status.{Status}

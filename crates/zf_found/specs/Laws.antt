@@ -8,7 +8,7 @@ use Rattle.zf_walk.specs.Events.{Event}
 use Rattle.zf_meaning.specs.Environments.{Environment}
 use Rattle.zf_enum.specs.EventLaws.{AreEvents, IsBoundOf}
 use Rattle.zf_enum.specs.Portions.{Portion}
-use Rattle.zf_enum.specs.Ranges.{AreRanges, IsNoneOut, IsFirstOut}
+use Rattle.zf_ranges.specs.Ranges.{AreRanges, IsNoneOut, IsFirstOut}
 use Rattle.zf_graph.specs.Laws.{EachNodeHasTurn}
 use Rattle.zf_steps.specs.Explored.{CanExplore, explored_in}
 use Rattle.zf_steps.specs.Systems.{System}

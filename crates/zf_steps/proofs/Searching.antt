@@ -19,7 +19,7 @@ use Rattle.zf_walk.specs.Progress.{Advances, Ahead, IsNoneAhead, SameRanges, Sta
 use Rattle.zf_walk.specs.Rows.{ComesAfter}
 use Rattle.zf_enum.proofs.EventLaws.{one_ranges}
 use Rattle.zf_enum.specs.Property.{property}
-use Rattle.zf_enum.specs.Ranges.{AreRanges}
+use Rattle.zf_ranges.specs.Ranges.{AreRanges}
 use Rattle.zf_lines.proofs.Behind.{Behind, none_behind, one_behind}
 use Rattle.zf_steps.specs.declared.node.Label.{Label}
 use Rattle.zf_steps.specs.declared.node.Node.{Node}

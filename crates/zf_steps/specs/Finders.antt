@@ -6,7 +6,7 @@ use Rattle.zf_value.specs.Sets.{value_order}
 use Rattle.zf_walk.specs.Progress.{AreAllAhead, Stage}
 use Rattle.zf_meaning.specs.Environments.{Environment}
 use Rattle.zf_enum.specs.Property.{property}
-use Rattle.zf_enum.specs.Ranges.{AreRanges}
+use Rattle.zf_ranges.specs.Ranges.{AreRanges}
 
 -- before all events of the schema that have these values
 pub record BeginsFor (e : Environment) (a : Schema) (held : List (Option Value)) (b : Stage Value) : Type 0 where

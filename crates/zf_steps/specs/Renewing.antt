@@ -11,7 +11,7 @@ use Rattle.zf_meaning.specs.Environments.{Environment}
 use Rattle.zf_meaning.specs.Envs.{environment_of}
 use Rattle.zf_enum.specs.declared.instances.Instances.{Instances}
 use Rattle.zf_enum.specs.Property.{property}
-use Rattle.zf_enum.specs.Ranges.{IsNoneOut}
+use Rattle.zf_ranges.specs.Ranges.{IsNoneOut}
 use Rattle.zf_enum.specs.Searches.{conjuncts_of, planted_goal}
 use Rattle.zf_steps.specs.declared.renewed.Renewed.{Renewed}
 use Rattle.zf_steps.specs.Systems.{System}

@@ -8,7 +8,7 @@ use Rattle.zf_value.specs.Sets.{value_order}
 use Rattle.zf_walk.specs.Events.{Event}
 use Rattle.zf_walk.specs.Progress.{Stage}
 use Rattle.zf_enum.specs.Property.{property}
-use Rattle.zf_enum.specs.Ranges.{AreRanges}
+use Rattle.zf_ranges.specs.Ranges.{AreRanges}
 use Rattle.zf_lines.proofs.Behind.{Behind}
 use Rattle.zf_steps.specs.declared.node.Label.{Label}
 use Rattle.zf_steps.specs.declared.node.Node.{Node}

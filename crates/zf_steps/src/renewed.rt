@@ -1,8 +1,7 @@
 //! A search that is begun anew for each state.
 ghost use Rattle.std.specs.Prelude.{IfOk, List, map};
 ghost use Rattle.std.specs.List.{AllByRecursion};
-ghost use Rattle.zf_enum.specs.Ranges.{IsNoneOut};
-ghost use Rattle.zf_enum.specs.Starts.{Refuses};
+ghost use Rattle.zf_ranges.specs.Ranges.{IsNoneOut, Refuses};
 ghost use Rattle.zf_meaning.specs.Environments.{Environment};
 ghost use Rattle.zf_meaning.specs.Envs.{environment_of};
 ghost use Rattle.zf_steps.specs.Fitting.{AreFor};
@@ -17,9 +16,10 @@ use crate::finder::Finder;
 use crate::system::{Operation, System};
 use bumpalo::Bump;
 use std::alloc::{AllocError, Global};
-use zf_enum::{Instances, Search, StartFault};
+use zf_enum::{Instances, Search};
 use zf_meaning::env::Env;
 use zf_meaning::row::Row;
+use zf_ranges::StartFault;
 use zf_term::schema::Flat;
 use zf_value::value::Value;
 use zf_walk::Step;

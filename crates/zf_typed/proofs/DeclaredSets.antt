@@ -3,7 +3,7 @@ use Rattle.zf_typed.proofs.Prelude.{◌+◌, ◌^◌, ◌↔◌, ◌∙◌, ◌�
 use Rattle.std.proofs.lemmas.Bool.{cases_lt}
 use Rattle.zf_term.specs.declared.extent.Infinite.TheVariants.{Num, Nat, Nat1}
 use Rattle.zf_meaning.specs.NumberSets.{infinite_in, unended}
-use Rattle.zf_enum.specs.DeclaredSets.{has_endless, IsInPlain, IsInCarrier, IsInSet, IsInSets}
+use Rattle.zf_ranges.specs.DeclaredSets.{has_endless, IsInPlain, IsInCarrier, IsInSet, IsInSets}
 use Rattle.zf_typed.proofs.Carriers.{carrier_typed}
 use Rattle.zf_typed.proofs.Directs.{are_numbers}
 use Rattle.zf_typed.proofs.Globals.{in_front}

@@ -3,7 +3,7 @@ use Rattle.zf_typed.proofs.Prelude.{◌∷◌, ◌≡◌, [], List, None, Option
 use Rattle.zf_schema.proofs.Globals.{names_once}
 use Rattle.zf_schema.proofs.WellTyped.{globals_well_typed}
 use Rattle.zf_walk.specs.Rows.{IsRowOf}
-use Rattle.zf_enum.specs.Ranges.{AreRanges, IsComponentRange, first_held, later_held}
+use Rattle.zf_ranges.specs.Ranges.{AreRanges, IsComponentRange, first_held, later_held}
 use Rattle.zf_typed.specs.RowLaws.{AreHeldTyped, RowsTyped, EventsTyped, EventsOfTextsTyped}
 use Rattle.zf_typed.proofs.Components.{AreCompsFor}
 use Rattle.zf_typed.proofs.DeclaredSets.{listed_typed}

@@ -12,7 +12,7 @@ use Rattle.zf_meaning.specs.Environments.{Environment}
 use Rattle.zf_meaning.specs.GlobalOutcomes.{IsEnvironment}
 use Rattle.zf_meaning.specs.Rows.{IsOfType, IsRow}
 use Rattle.zf_enum.specs.Property.{property}
-use Rattle.zf_enum.specs.Ranges.{AreRanges, first_held, later_held}
+use Rattle.zf_ranges.specs.Ranges.{AreRanges, first_held, later_held}
 use Rattle.zf_schema.specs.Checking.{IsChecked}
 use Rattle.zf_schema.specs.SchemaLaws.{AreDefinedOnce}
 use Rattle.zf_schema.specs.WellTypedGlobals.{AreWellTyped}

@@ -4,8 +4,8 @@ use Rattle.zf_extent.specs.Extents.{offending}
 use Rattle.zf_finite.specs.Finite.{all_set_offenders, IsFinite, one_bounds, unless_ended}
 use Rattle.zf_walk.specs.Progress.{AreDueWithin}
 use Rattle.zf_enum.specs.Property.{due_of}
-use Rattle.zf_enum.specs.DeclaredSets.{IsOneOut}
-use Rattle.zf_enum.specs.Ranges.{IsOutAt}
+use Rattle.zf_ranges.specs.DeclaredSets.{IsOneOut}
+use Rattle.zf_ranges.specs.Ranges.{IsOutAt}
 use Rattle.std.specs.Prelude.{IsTrue}
 use Rattle.zf_why.proofs.Lists.{all_at}
 use Rattle.zf_cores.proofs.Choosing.{all_chosen_of}

@@ -17,7 +17,7 @@ pub use Rattle.zf_meaning.specs.Envs.{environment_of}
 pub use Rattle.zf_term.specs.SchemaViews.{comp_of, conjunct_of}
 pub use Rattle.zf_enum.specs.PortionViews.{portion}
 pub use Rattle.zf_enum.specs.Property.{HasTruth, property, told}
-pub use Rattle.zf_enum.specs.Ranges.{AreRanges, first_held, IsNoneOut, later_held}
+pub use Rattle.zf_ranges.specs.Ranges.{AreRanges, first_held, IsNoneOut, later_held}
 pub use Rattle.zf_enum.specs.Searches.{conjuncts_of, Goal}
 pub use Rattle.zf_enum.specs.Starts.{Begins}
 pub use Rattle.zf_why.specs.Rows.{HasRow, IsAllowed, IsInRange, IsRowOf, RuleOut}

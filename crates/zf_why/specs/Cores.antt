@@ -5,7 +5,7 @@ use Rattle.zf_term.specs.Definitions.{Comp}
 use Rattle.zf_term.specs.ResolvedTrees.{ResolvedTree}
 use Rattle.zf_value.specs.declared.plain.Value.{Value}
 use Rattle.zf_meaning.specs.Environments.{Environment}
-use Rattle.zf_enum.specs.Ranges.{first_held}
+use Rattle.zf_ranges.specs.Ranges.{first_held}
 use Rattle.zf_why.specs.Rows.{IsInRange, HasRow, RuleOut}
 
 -- P holds of what is chosen, and Q of what is left

@@ -8,8 +8,8 @@ use Rattle.zf_value.specs.declared.value.Truth.TheVariants.{True, Out}
 use Rattle.zf_meaning.specs.Environments.{Environment}
 use Rattle.zf_meaning.specs.InRow.{in_row}
 use Rattle.zf_meaning.specs.Meaning.{IsTruth}
-use Rattle.zf_enum.specs.DeclaredSets.{IsInSets}
-use Rattle.zf_enum.specs.Ranges.{IsHeld, first_held, later_held}
+use Rattle.zf_ranges.specs.DeclaredSets.{IsInSets}
+use Rattle.zf_ranges.specs.Ranges.{IsHeld, first_held, later_held}
 
 -- the value is in the component's range: it is a member of all its declared sets, and the one that is held, if one is
 abbrev pub IsInRange : Environment → Comp → (held : Option Value) → Value → Type 0

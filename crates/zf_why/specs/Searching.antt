@@ -8,7 +8,7 @@ use Rattle.zf_finite.specs.Finite.{all_set_offenders, one_bounds, unless_ended}
 use Rattle.zf_value.specs.declared.plain.Value.{Value}
 use Rattle.zf_meaning.specs.Environments.{Environment}
 use Rattle.zf_enum.specs.Property.{due}
-use Rattle.zf_enum.specs.Ranges.{IsNoneOut}
+use Rattle.zf_ranges.specs.Ranges.{IsNoneOut}
 use Rattle.zf_cores.specs.Choices.{OneOf}
 use Rattle.zf_why.specs.Rows.{HasRow, RuleOut}
 

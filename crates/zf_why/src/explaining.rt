@@ -5,7 +5,7 @@ ghost use Rattle.zf_finite.specs.Finite.{IsFinite};
 ghost use Rattle.zf_walk.specs.Progress.{AreDueWithin};
 ghost use Rattle.zf_meaning.specs.Envs.{environment_of};
 ghost use Rattle.zf_enum.specs.Property.{property};
-ghost use Rattle.zf_enum.specs.Ranges.{IsNoneOut};
+ghost use Rattle.zf_ranges.specs.Ranges.{IsNoneOut};
 ghost use Rattle.zf_cores.specs.Choices.{HasChosen, OneOf};
 ghost use Rattle.zf_why.specs.Rows.{RuleOut};
 ghost use Rattle.zf_why.specs.Cores.{AreAlone, AreEmpty, IsCore};

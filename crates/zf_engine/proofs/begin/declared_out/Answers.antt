@@ -1,6 +1,6 @@
 use Rattle.zf_engine.proofs.Prelude.{◌∙◌, ◌≡◌, ap, arith, get_or, List, refl, subst, length-map, comp_of, declared_out_line}
 use Rattle.zf_term.specs.declared.schema.Component.{Component}
-use Rattle.zf_enum.proofs.Comps.{comp_at}
+use Rattle.zf_ranges.proofs.Comps.{comp_at}
 use Rattle.zf_engine.proofs.begin.declared_out.Goals as goal
 
 pub returns-in-Ok : goal.returns-in-Ok

@@ -1,6 +1,6 @@
 use Rattle.std.proofs.Common.{◌++◌, ◌∙◌, ◌∷◌, [], ap, append-nil, map, option_to_list, sym}
 use Rattle.std.proofs.lemmas.List.{map-append}
-use Rattle.zf_enum.proofs.Comps.{comp_at}
+use Rattle.zf_ranges.proofs.Comps.{comp_at}
 use Rattle.zf_term.specs.SchemaViews.{comp_of}
 use Rattle.zf_steps.proofs.Shapes.{past_mapped}
 use Rattle.zf_steps.proofs.shape.add_component.Goals as goal

@@ -1,6 +1,6 @@
 -- No declared set is out.
 use Rattle.std.proofs.Common.{subst}
-use Rattle.zf_enum.specs.Starts.{Refuses}
+use Rattle.zf_ranges.specs.Ranges.{Refuses}
 use Rattle.zf_meaning.specs.Envs.{environment_of}
 use Rattle.zf_steps.proofs.renewed.RenewedFinder.hold.Goals as goal
 

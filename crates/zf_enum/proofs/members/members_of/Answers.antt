@@ -1,5 +1,0 @@
-use Rattle.zf_enum.proofs.Listing.{listed_none}
-use Rattle.zf_enum.proofs.members.members_of.Goals as goal
-
-pub returns-in-Undefined-clause-is : goal.returns-in-Undefined-clause-is
-returns-in-Undefined-clause-is c = listed_none c.args.of.now c.new.result.items c.in-Undefined.is c.new.ensures.items

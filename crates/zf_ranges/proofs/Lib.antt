@@ -1,0 +1,8 @@
+mod Prelude
+pub mod Listing
+pub mod Held
+pub mod Single
+pub mod Sides
+pub mod Comps
+pub mod Lacks
+pub mod Typed

@@ -1,0 +1,5 @@
+pub mod DeclaredSets
+pub mod Ranges
+pub mod Parts
+pub mod Components
+pub mod OfTypes
