@@ -20,7 +20,7 @@ pub use Rattle.zf_term.specs.FirstNamed.{first_named, later, or_else}
 pub use Rattle.zf_term.specs.ResolvedTrees.{binary, bracket, builder, chain, constant, empty_set, listed, number, quantified, reference, ResolvedTree, unary}
 pub use Rattle.zf_term.specs.Shapes.{conjuncts, is_and, is_conjunction, term_line, moved}
 pub use Rattle.zf_term.specs.References.{references}
-pub use Rattle.zf_type.specs.Refusals.{fault_of}
+pub use Rattle.zf_sorts.specs.Refusals.{fault_of}
 pub use Rattle.zf_type.specs.Resolving.{bound, referent, resolved, resolved_all, resolved_links, resolved_part, resolved_ranges}
 pub use Rattle.zf_schema.specs.WellTypedGlobals.{AreWellTyped}
 pub use Rattle.zf_meaning.specs.Environments.{Environment}

@@ -2,7 +2,7 @@
 use Rattle.zf_engine.proofs.Prelude.{◌++◌, ◌+◌, ◌<◌, ◌∙◌, ◌∷◌, ◌≡◌, [], ap, Bool, get_or, length, List, map, subst, sym, take, ℕ, fault_of, AreLines, type_fault_lines}
 use Rattle.std.proofs.lemmas.List.{flat_map_more, map-append, take_more}
 use Rattle.zf_term.specs.Faults.{Fault}
-use Rattle.zf_type.specs.declared.fault.TypeFault.{TypeFault}
+use Rattle.zf_sorts.specs.declared.fault.TypeFault.{TypeFault}
 use Rattle.zf_engine.specs.Details.{Aside, Reported, reported_lines}
 
 module _ (details : Bool) (file : List ℕ) where

@@ -6,7 +6,7 @@ ghost use Rattle.zf_engine.specs.Details.{cited_of, AreLines};
 ghost use Rattle.zf_text.specs.Parsing.{ReadsSource};
 ghost use Rattle.zf_tree.specs.TreeViews.{boxes_of};
 ghost use Rattle.zf_term.specs.DefinitionViews.{globals_of};
-ghost use Rattle.zf_type.specs.Refusals.{fault_of};
+ghost use Rattle.zf_sorts.specs.Refusals.{fault_of};
 
 use crate::details::{text_fault_lines, type_fault_lines};
 use crate::quoted::Quoting;
@@ -18,10 +18,10 @@ use zf_lines::fault::Status;
 use zf_scan::fault::{TextFault, TextFaultKind};
 use zf_schema::checker::{Checked, check_spec};
 use zf_schema::listing::listing;
+use zf_sorts::fault::TypeFault;
 use zf_text::reading::read_spec;
 use zf_text::unread::About;
 use zf_tree::tree::Spec;
-use zf_type::fault::TypeFault;
 
 /// What a source defines, and its faults of types. Its trees stand in an arena of their own, which asks for its room while the
 /// symbols of the source still have theirs: what is made of the trees gets the room of the symbols.

@@ -5,8 +5,8 @@ ghost use Rattle.zf_engine.specs.Stops.{aside_of};
 ghost use Rattle.zf_term.specs.DefinitionViews.{globals_of};
 ghost use Rattle.zf_term.specs.TypeTexts.{type_text};
 ghost use Rattle.zf_term.specs.TypeViews.{type_of};
-ghost use Rattle.zf_type.specs.Refusals.{fault_of, offence_of};
-ghost use Rattle.zf_type.specs.RuleViews.{sort_of};
+ghost use Rattle.zf_sorts.specs.Refusals.{fault_of, offence_of};
+ghost use Rattle.zf_sorts.specs.RuleViews.{sort_of};
 
 use crate::quoted::{Aside, Quoted};
 use crate::report::Report;
@@ -17,14 +17,14 @@ use zf_extent::offender::Offender;
 use zf_finite::not_finite::NotFinite;
 use zf_scan::fault::{TextFault, TextFaultKind};
 use zf_scan::scan::SOURCE_MAX;
+use zf_sorts::fault::{Offence, TypeFault};
+use zf_sorts::sort::Sort;
 use zf_term::fault::{Clash, Limit};
 use zf_term::globals::Globals;
 use zf_term::type_text::append_type;
 use zf_term::ztype::ZType;
 use zf_text::unread::About;
 use zf_tree::symbol::Constant;
-use zf_type::fault::{Offence, TypeFault};
-use zf_type::sort::Sort;
 
 /// `    WORD: TEXT`. As for all that follow, a refusal leaves a part of it.
 fn append_detail(lines: &mut Vec<u8>, word: &[u8], text: &[u8]) -> Result<(), AllocError>

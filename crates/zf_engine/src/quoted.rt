@@ -7,8 +7,8 @@ use zf_data::Items;
 use zf_data::arena::Lent;
 use zf_scan::scan::scan;
 use zf_scan::token::{Kind, Token};
+use zf_sorts::fault::{Hint, QuotedTerm, TypeFault};
 use zf_tree::ends::{back, front};
-use zf_type::fault::{Hint, QuotedTerm, TypeFault};
 
 /// How many bytes of a term are quoted at most.
 const WIDTH: usize = 60;

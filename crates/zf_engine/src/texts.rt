@@ -1,13 +1,13 @@
 //! The lines of refusals, each with its newline.
 ghost use Rattle.std.specs.Prelude.{◌≡◌, ◌++◌, IfOk};
 ghost use Rattle.zf_engine.specs.Texts as spec;
-ghost use Rattle.zf_type.specs.Refusals.{fault_of};
+ghost use Rattle.zf_sorts.specs.Refusals.{fault_of};
 
 use itoa::Buffer;
 use std::alloc::{AllocError, Global};
 use zf_scan::fault::{TextFault, TextFaultKind};
+use zf_sorts::fault::TypeFault;
 use zf_term::fault::TypeFaultKind;
-use zf_type::fault::TypeFault;
 
 /// The text of a fault of a text.
 pub fn text_fault_text(kind: TextFaultKind) -> &'static [u8]

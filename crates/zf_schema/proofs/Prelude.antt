@@ -29,10 +29,10 @@ pub use Rattle.zf_type.proofs.NoOffence.{no_offence}
 pub use Rattle.zf_type.proofs.Judging.{told}
 pub use Rattle.zf_type.proofs.OneSort.{one_sort, same_set, same_typed}
 pub use Rattle.zf_type.specs.Offences.{Offends}
-pub use Rattle.zf_type.specs.Refusals.{fault_of, IfFault, offence_of}
+pub use Rattle.zf_sorts.specs.Refusals.{fault_of, IfFault, offence_of}
 pub use Rattle.zf_type.specs.Resolving.{bound, referent, resolved, resolved_all, resolved_links, resolved_part, resolved_ranges}
-pub use Rattle.zf_type.specs.Rules.{predicate, set_sort, Sort, typed}
-pub use Rattle.zf_type.specs.declared.fault.Refusal.{Refusal}
+pub use Rattle.zf_sorts.specs.Rules.{predicate, set_sort, Sort, typed}
+pub use Rattle.zf_sorts.specs.declared.fault.Refusal.{Refusal}
 pub use Rattle.zf_calculus.specs.Calculus.{Agree, Agrees, all_unchanged, comp, comp_named, conjoined, decorated, disjoined, either_comps, HasTypeOf, MarkAgrees, marked, new_place, nothing, place_of, place_or, prime, sets_on, unchanged, with_comp, with_comps}
 pub use Rattle.zf_calculus.specs.CalculusLaws.{AreOnce}
 pub use Rattle.zf_calculus.specs.Growth.{IfStopped, IsGrowing}

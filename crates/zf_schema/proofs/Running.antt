@@ -1,6 +1,6 @@
 -- Items that are checked, one after another.
 use Rattle.zf_schema.proofs.Prelude.{◌++◌, ◌∙◌, ◌∷◌, ◌≡◌, [], ap, Err, IfErr, inl, inr, List, Ok, OnErr, OnOk, refl, Result, subst, sym, append-nil, append_assoc, BoxTree, map, map-append, Defined, globals_of, IfFault, Fault, Refusal, fault_of, offence_of, ChecksAll, Defines, IsChecked, Item, items, OffendsItem, Notes, Runs, RunsOne, Checked}
-use Rattle.zf_type.specs.declared.fault.Refusal.TheVariants as refusal
+use Rattle.zf_sorts.specs.declared.fault.Refusal.TheVariants as refusal
 use Rattle.zf_schema.proofs.OneDefinition.{no_item_offence}
 
 -- what an item defines, or its fault that is noted

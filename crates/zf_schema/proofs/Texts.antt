@@ -1,7 +1,7 @@
 -- The steps of a text: a walk over its parts, and what stops one.
 use Rattle.zf_schema.proofs.Prelude.{◌+◌, ◌<◌, ◌∷◌, ◌≡◌, ◌≤◌, [], drop, get_or, inl, inr, length, List, refl, subst, sym, ℕ, drop_all, DeclTree, include, Tree, SchemaRef, dropped, Comp, Defined, Schema, conjuncts, Offence, Offends, IfFault, resolved, Refusal, offence_of, Agree, conjoined, OneClashes, Stops, ConstrainsOne, DeclaresOne, inside, Refers, CantConstrain, CantDeclare, over, AnyByRecursion, OffendsDecls, OffendsPredicates}
 use Rattle.zf_tree.specs.declared.operator.Need.TheVariants as need
-use Rattle.zf_type.specs.declared.fault.Refusal.TheVariants as refusal
+use Rattle.zf_sorts.specs.declared.fault.Refusal.TheVariants as refusal
 use Rattle.zf_schema.proofs.Once.{taken_comps}
 
 -- what follows of each kind and line follows of the fault

@@ -13,7 +13,7 @@ use Rattle.zf_term.specs.Types.{Ty}
 use Rattle.zf_term.specs.Faults.{Offence, Fault, already_defined}
 use Rattle.zf_type.specs.Offences.{Offends}
 use Rattle.zf_type.specs.Resolving.{resolved}
-use Rattle.zf_type.specs.Rules.{typed}
+use Rattle.zf_sorts.specs.Rules.{typed}
 use Rattle.zf_tree.specs.Names.{spelling}
 use Rattle.zf_type.specs.Typing.{IsOf}
 use Rattle.zf_schema.specs.Expressions.{outside, IsText, IsSchema}

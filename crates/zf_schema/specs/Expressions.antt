@@ -9,7 +9,7 @@ use Rattle.zf_term.specs.ResolvedTrees.{ResolvedTree}
 use Rattle.zf_term.specs.Shapes.{conjuncts}
 use Rattle.zf_term.specs.Types.{Ty}
 use Rattle.zf_type.specs.Resolving.{resolved}
-use Rattle.zf_type.specs.Rules.{set_sort, predicate}
+use Rattle.zf_sorts.specs.Rules.{set_sort, predicate}
 use Rattle.zf_type.specs.Scopes.{Scope}
 use Rattle.zf_tree.specs.Names.{spelling}
 use Rattle.zf_type.specs.Typing.{IsOf}

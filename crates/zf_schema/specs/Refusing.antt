@@ -5,8 +5,8 @@ use Rattle.zf_term.specs.Definitions.{Comp, Schema, DeclaredSet, Defined, schema
 use Rattle.zf_term.specs.ResolvedTrees.{ResolvedTree}
 use Rattle.zf_term.specs.Shapes.{term_line}
 use Rattle.zf_term.specs.Faults.{Offence, clash, not_declared, not_a_schema, too_large}
-use Rattle.zf_type.specs.declared.fault.Refusal.{Refusal}
-use Rattle.zf_type.specs.declared.fault.Refusal.TheVariants as refusal
+use Rattle.zf_sorts.specs.declared.fault.Refusal.{Refusal}
+use Rattle.zf_sorts.specs.declared.fault.Refusal.TheVariants as refusal
 use Rattle.zf_calculus.specs.declared.stop.Stop.{Stop}
 use Rattle.zf_calculus.specs.declared.stop.Stop.TheVariants.{Clash, TooLarge, OutOfMemory}
 use Rattle.zf_calculus.specs.Calculus as calculus
@@ -17,7 +17,7 @@ use Rattle.zf_term.specs.Types.{Ty}
 use Rattle.zf_term.specs.TypeViews.{type_of}
 use Rattle.zf_tree.specs.declared.operator.Need.TheVariants as need
 use Rattle.zf_type.specs.Offences.{Offends}
-use Rattle.zf_type.specs.Refusals.{IsRefusal}
+use Rattle.zf_sorts.specs.Refusals.{IsRefusal}
 use Rattle.zf_type.specs.Scopes.{Scope}
 use Rattle.zf_tree.specs.Names.{spelling}
 use Rattle.zf_schema.specs.Expressions.{inside}

@@ -2,10 +2,10 @@
 use Rattle.std.specs.Prelude.{◌≡◌, ℕ, length, List, [], ◌∷◌, ◌++◌, map, Result, Ok, Err}
 use Rattle.zf_tree.specs.Trees.{ParagraphTree, given, free, abbreviation, definition}
 use Rattle.zf_term.specs.DefinitionViews.{globals_of}
-use Rattle.zf_type.specs.declared.fault.Refusal.{Refusal}
-use Rattle.zf_type.specs.declared.fault.Refusal.TheVariants.{Fault, OutOfMemory}
-use Rattle.zf_type.specs.declared.fault.TypeFault.{TypeFault}
-use Rattle.zf_type.specs.Refusals.{fault_of}
+use Rattle.zf_sorts.specs.declared.fault.Refusal.{Refusal}
+use Rattle.zf_sorts.specs.declared.fault.Refusal.TheVariants.{Fault, OutOfMemory}
+use Rattle.zf_sorts.specs.declared.fault.TypeFault.{TypeFault}
+use Rattle.zf_sorts.specs.Refusals.{fault_of}
 use Rattle.zf_term.specs.Faults as fault
 use Rattle.zf_schema.specs.declared.checker.Checked.{Checked}
 use Rattle.zf_schema.specs.Checking.{Item, ChecksOne, ChecksAll}

@@ -12,7 +12,7 @@ use Rattle.zf_term.specs.Types.{Ty}
 use Rattle.zf_term.specs.Faults.{Offence, not_declared, not_a_schema}
 use Rattle.zf_type.specs.Offences.{Offends}
 use Rattle.zf_type.specs.Resolving.{resolved}
-use Rattle.zf_type.specs.Rules.{set_sort, predicate}
+use Rattle.zf_sorts.specs.Rules.{set_sort, predicate}
 use Rattle.zf_tree.specs.Names.{spelling}
 use Rattle.zf_type.specs.Typing.{IsOf}
 use Rattle.zf_calculus.specs.Calculus.{comp, schema_with, nothing, Agrees, Agree, with_comp, conjoined, decorated, marked, MarkAgrees, disjoined}

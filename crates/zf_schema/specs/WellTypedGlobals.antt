@@ -8,7 +8,7 @@ use Rattle.zf_term.specs.ResolvedTrees.{ResolvedTree}
 use Rattle.zf_term.specs.Types.{Ty}
 use Rattle.zf_term.specs.Faults.{Fault}
 use Rattle.zf_type.specs.Resolving.{resolved}
-use Rattle.zf_type.specs.Rules.{typed}
+use Rattle.zf_sorts.specs.Rules.{typed}
 use Rattle.zf_type.specs.Typing.{IsOf}
 use Rattle.zf_schema.specs.Expressions.{outside, IsSchema}
 use Rattle.zf_schema.specs.Checking.{next_number, IsChecked}

@@ -3,7 +3,7 @@ ghost use Rattle.std.specs.Prelude.{◌≡◌, [], map, IfOk, OnOk};
 ghost use Rattle.zf_tree.specs.TreeViews.{boxes_of, box_of, paragraph_of, decl_of, tree_of};
 ghost use Rattle.zf_term.specs.DefinitionViews.{globals_of};
 ghost use Rattle.zf_term.specs.Numbers.{next_number};
-ghost use Rattle.zf_type.specs.Refusals.{fault_of};
+ghost use Rattle.zf_sorts.specs.Refusals.{fault_of};
 ghost use Rattle.zf_schema.specs.Checking.{a_paragraph, a_box, items, items_in, IsChecked};
 ghost use Rattle.zf_schema.specs.Runs.{Notes, Runs, RunsOne};
 
@@ -12,9 +12,9 @@ use bumpalo::Bump;
 use std::alloc::{AllocError, Global};
 use zf_data::Items;
 use zf_data::arena::Boxed;
+use zf_sorts::fault::{Refusal, TypeFault};
 use zf_term::globals::Globals;
 use zf_tree::tree::{Decl, Name, Paragraph, Spec, Term, ZBox};
-use zf_type::fault::{Refusal, TypeFault};
 
 /// What a text defines, and its faults in order.
 #[derive(Drop)]

@@ -4,7 +4,7 @@ ghost use Rattle.zf_tree.specs.TreeViews as tree;
 ghost use Rattle.zf_tree.specs.TreeViews.{decl_of};
 ghost use Rattle.zf_term.specs.DefinitionViews.{globals_of};
 ghost use Rattle.zf_term.specs.SchemaViews.{schema_of};
-ghost use Rattle.zf_type.specs.Refusals.{IfFault};
+ghost use Rattle.zf_sorts.specs.Refusals.{IfFault};
 ghost use Rattle.zf_calculus.specs.Calculus.{Agree, conjoined, disjoined};
 ghost use Rattle.zf_schema.specs.Expressions.{IsSchema};
 ghost use Rattle.zf_calculus.specs.Steps.{IsNext, OneClashes};
@@ -20,11 +20,11 @@ use bumpalo::Bump;
 use zf_calculus::disjunction::disjoin;
 use zf_calculus::growing::Growing;
 use zf_calculus::spare::Spare;
+use zf_sorts::fault::Refusal;
 use zf_term::globals::Globals;
 use zf_term::measured::Measured;
 use zf_term::schema::Flat;
 use zf_tree::tree::{Decl, Name, SchemaExp};
-use zf_type::fault::Refusal;
 
 /// The schema that the expression is.
 pub fn schema_of_expression<'a>(

@@ -9,10 +9,10 @@ ghost use Rattle.zf_term.specs.Numbers.{next_number};
 ghost use Rattle.zf_term.specs.Types.{Ty};
 ghost use Rattle.zf_type.specs.Offences.{Offends};
 ghost use Rattle.zf_type.specs.Resolving.{resolved};
-ghost use Rattle.zf_type.specs.Rules.{typed};
+ghost use Rattle.zf_sorts.specs.Rules.{typed};
 ghost use Rattle.zf_type.specs.Typing.{IsOf};
 ghost use Rattle.zf_schema.specs.Expressions.{outside};
-ghost use Rattle.zf_type.specs.Refusals.{IfFault};
+ghost use Rattle.zf_sorts.specs.Refusals.{IfFault};
 ghost use Rattle.zf_tree.specs.Names.{spelling};
 ghost use Rattle.zf_schema.specs.Runs as spec;
 ghost use Rattle.zf_schema.specs.Checking.{IsNew, with_global, abbreviated, Gives, Constructs, DefinesParagraph, Defines, a_box, IsTaken, OffendsGiven, OffendsConstructors, OffendsParagraph, OffendsItem};
@@ -23,10 +23,10 @@ use bumpalo::Bump;
 use std::alloc::AllocError;
 use zf_data::arena::{Boxed, Items, Lent, Shared};
 use zf_extent::infinite::extent_of;
+use zf_sorts::fault::{Offence, Refusal, refused};
 use zf_term::globals::{Entry, Globals};
 use zf_tree::operator::Need;
 use zf_tree::tree::{Decl, Name, Paragraph, SchemaExp, Term};
-use zf_type::fault::{Offence, Refusal, refused};
 use zf_type::judge::{Judged, judge};
 
 /// Defines what the paragraph does, or leaves the globals as they were. Keeps the number of the next given set or free type.

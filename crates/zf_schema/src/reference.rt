@@ -4,7 +4,7 @@ ghost use Rattle.zf_term.specs.Definitions.{Defined, schema};
 ghost use Rattle.zf_term.specs.DefinitionViews.{definition_of, globals_of};
 ghost use Rattle.zf_term.specs.SchemaViews.{schema_of};
 ghost use Rattle.zf_term.specs.FirstNamed.{first_named};
-ghost use Rattle.zf_type.specs.Refusals.{IfFault, offence_of};
+ghost use Rattle.zf_sorts.specs.Refusals.{IfFault, offence_of};
 ghost use Rattle.zf_schema.specs.Expressions.{Refers};
 ghost use Rattle.zf_calculus.specs.Growth.{IsGrowing};
 ghost use Rattle.zf_schema.specs.Refusing.{IsNamed, LacksSchema};
@@ -15,12 +15,12 @@ use bumpalo::Bump;
 use zf_calculus::growing::Growing;
 use zf_calculus::marking::{decorate_own, marked};
 use zf_calculus::spare::Spare;
+use zf_sorts::fault::{Offence, Refusal};
+use zf_sorts::hint::refused_name;
 use zf_term::globals::{Entry, Globals};
 use zf_term::measured::Measured;
 use zf_term::named::global_of;
 use zf_tree::tree::{Name, SchemaRef};
-use zf_type::fault::{Offence, Refusal};
-use zf_type::hint::refused_name;
 use zf_type::like::global_like;
 
 /// The schema that is referred to, with room for what is expected of it.

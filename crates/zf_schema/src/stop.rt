@@ -5,7 +5,7 @@ ghost use Rattle.zf_schema.specs.Refusing.{Refuses};
 
 use bumpalo::Bump;
 use zf_calculus::stop::Stop;
-use zf_type::fault::{Offence, Refusal, refused};
+use zf_sorts::fault::{Offence, Refusal, refused};
 
 /// The refusal at this line.
 #[inline(never)]

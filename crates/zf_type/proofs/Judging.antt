@@ -3,7 +3,7 @@ use Rattle.zf_type.proofs.Prelude.{◌≡◌, Err, inr, None, Ok, Option, refl, 
 use Rattle.zf_tree.specs.declared.operator.Sign.TheVariants as sign
 use Rattle.zf_tree.specs.declared.operator.Need.TheVariants as need
 use Rattle.zf_tree.specs.declared.operator.Unary.TheVariants.{Sign, Inverse, Not}
-use Rattle.zf_type.specs.declared.sort.Sort as program
+use Rattle.zf_sorts.specs.declared.sort.Sort as program
 
 -- ---- faults
 

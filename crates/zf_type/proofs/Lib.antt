@@ -2,7 +2,6 @@ mod Prelude
 pub mod NoOffence
 pub mod OneSort
 pub mod ResolvedAlike
-pub mod Taken
 pub mod Conjunctions
 pub mod Named
 pub mod Judging

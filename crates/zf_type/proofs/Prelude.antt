@@ -6,7 +6,7 @@ pub use Rattle.std.proofs.lemmas.List.{at_drop_more, drop-map, drop_all, get_or-
 pub use Rattle.std.proofs.lemmas.Option.{none-some, same_Some}
 pub use Rattle.std.proofs.lemmas.Result.{IfOk-weaker}
 pub use Rattle.std.proofs.lemmas.Slice.Eq.{bytes_eq-Decides}
-pub use Rattle.std.specs.Prelude.{IfErr, IfOk, IsErr, IsErrAnd, MatchOption, Result, slice_get, slice_set}
+pub use Rattle.std.specs.Prelude.{IfErr, IfOk, IsErr, IsErrAnd, Result, slice_get, slice_set}
 pub use Rattle.std.specs.Str.{bytes_eq}
 pub use Rattle.std.specs.Vec.Iter.{into_iter_items}
 pub use Rattle.zf_reference.specs.declared.reference.Reference.TheVariants.{Component, Global, Local}
@@ -43,18 +43,18 @@ pub use Rattle.zf_type.specs.Buckets.{before, bucket_from, last_in}
 unfoldable pub use Rattle.zf_type.specs.Buckets.{AreHeads, bucket, IsIndexed}
 pub use Rattle.zf_type.specs.Judging.{AreNew, AreRepeated, DeclarationsOffend, DiffersAt, is_conjunction, IsBound, IsJudged, IsOther, IsPart, var_type}
 unfoldable pub use Rattle.zf_type.specs.Judging.{Judges, JudgesPart}
-pub use Rattle.zf_type.specs.Offences.{BuildsTooLarge, Clash, Differ, Disagree, Disagreement, IsRepeated, LinksOffend, ListedTooLarge, MakesTooLarge, MakeTooLarge, Misplaced, Offends, OneDiffers, OneOffends, PartOffends, Repeats, SetsOffend}
-pub use Rattle.zf_type.specs.Refusals.{IfFault, IsRefusal, IsStill, offence_of}
+pub use Rattle.zf_type.specs.Offences.{BuildsTooLarge, Clash, Differ, Disagree, IsRepeated, LinksOffend, ListedTooLarge, MakesTooLarge, MakeTooLarge, Misplaced, Offends, OneDiffers, OneOffends, PartOffends, Repeats, SetsOffend}
+pub use Rattle.zf_sorts.specs.Rules.{Disagreement, a_schema, IsSmallSort, Meets, number_sort, predicate, PrefixTakes, set_sort, SignTakes, Sort, Takes, typed, UnaryTakes}
+pub use Rattle.zf_sorts.specs.Refusals.{IfFault, IsRefusal, IsStill, offence_of}
 pub use Rattle.zf_type.specs.Resolving.{bound, referent, resolved, resolved_all, resolved_links, resolved_part, resolved_ranges}
-pub use Rattle.zf_type.specs.Rules.{a_schema, IsSmallSort, Meets, number_sort, predicate, PrefixTakes, set_sort, SignTakes, Sort, Takes, typed, UnaryTakes}
-pub use Rattle.zf_type.specs.RuleViews.{sort_of}
-unfoldable pub use Rattle.zf_type.specs.RuleViews.{IsMade, IsMadeOfOne}
+pub use Rattle.zf_sorts.specs.RuleViews.{sort_of}
+unfoldable pub use Rattle.zf_sorts.specs.RuleViews.{IsMade, IsMadeOfOne}
 pub use Rattle.zf_type.specs.Scopes.{global_sort, last_named, meaning, Scope, Var, component_meaning, global_meaning, variable_meaning, with_variables}
 pub use Rattle.zf_type.specs.ScopeViews.{meant, variable_of}
 unfoldable pub use Rattle.zf_type.specs.ScopeViews.{scope_of}
 pub use Rattle.zf_type.specs.Typing.{AreAll, AreApart, LinksAreTyped, AreMembers, HasMemberType, PartIsPredicate, Declare, declared, IsApart, IsOf, Makes, member_need, member_sort, row_type, types_of, variables}
-pub use Rattle.zf_type.specs.declared.fault.Refusal.{Refusal}
-pub use Rattle.zf_type.specs.declared.fault.Refusal.TheVariants.{Fault, OutOfMemory}
+pub use Rattle.zf_sorts.specs.declared.fault.Refusal.{Refusal}
+pub use Rattle.zf_sorts.specs.declared.fault.Refusal.TheVariants.{Fault, OutOfMemory}
 pub use Rattle.zf_type.specs.declared.index.Chained.{Chained}
 pub use Rattle.zf_type.specs.declared.judge.Judged.{Judged}
 pub use Rattle.zf_type.specs.declared.variable.Variable.{Variable}

@@ -11,14 +11,14 @@ use Rattle.zf_tree.specs.declared.operator.Need.{Need}
 use Rattle.zf_term.specs.ResolvedViews.{resolved_of}
 use Rattle.zf_term.specs.Shapes.{is_and}
 use Rattle.zf_term.specs.Types.{Ty, Tys, no_types, type}
-use Rattle.zf_type.specs.declared.fault.Refusal.{Refusal}
+use Rattle.zf_sorts.specs.declared.fault.Refusal.{Refusal}
 use Rattle.zf_type.specs.declared.judge.Judged.{Judged}
 use Rattle.zf_term.specs.Faults.{Offence, local_twice, mismatch, no_members}
 use Rattle.zf_type.specs.Offences.{Offends, PartOffends, SetsOffend, Repeats, IsRepeated}
-use Rattle.zf_type.specs.Refusals.{IfFault}
+use Rattle.zf_sorts.specs.Refusals.{IfFault}
 use Rattle.zf_type.specs.Resolving.{resolved}
-use Rattle.zf_type.specs.Rules.{typed, Meets}
-use Rattle.zf_type.specs.RuleViews.{sort_of}
+use Rattle.zf_sorts.specs.Rules.{typed, Meets}
+use Rattle.zf_sorts.specs.RuleViews.{sort_of}
 use Rattle.zf_type.specs.Scopes.{Scope, Var}
 use Rattle.zf_tree.specs.Names.{spelling}
 use Rattle.zf_type.specs.Typing.{IsOf, IsApart, declared}

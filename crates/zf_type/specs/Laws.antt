@@ -3,7 +3,7 @@ use Rattle.std.specs.Prelude.{◌≡◌, ℕ}
 use Rattle.zf_tree.specs.Trees.{Tree}
 use Rattle.zf_tree.specs.declared.operator.Need.{Need}
 use Rattle.zf_term.specs.Faults.{Offence}
-use Rattle.zf_type.specs.Rules.{Sort, Meets}
+use Rattle.zf_sorts.specs.Rules.{Sort, Meets}
 use Rattle.zf_type.specs.Scopes.{Scope}
 use Rattle.zf_type.specs.Typing.{IsOf}
 use Rattle.zf_type.specs.Offences.{Offends}

@@ -1,11 +1,8 @@
-pub mod Rules
-pub mod RuleViews
 pub mod Buckets
 pub mod Scopes
 pub mod ScopeViews
 pub mod Typing
 pub mod Resolving
 pub mod Offences
-pub mod Refusals
 pub mod Laws
 pub mod Judging

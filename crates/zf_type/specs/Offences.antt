@@ -14,7 +14,7 @@ use Rattle.zf_tree.specs.declared.operator.Listed.TheVariants.{Tuple, Display, P
 use Rattle.zf_term.specs.declared.fault.Limit.TheVariants.{TypeNodes}
 use Rattle.zf_term.specs.Faults.{Offence, not_declared, local_twice, mismatch, unfit, no_members, too_large}
 use Rattle.zf_term.specs.Faults as fault
-use Rattle.zf_type.specs.Rules.{Sort, typed, set_sort, relation_sort, IsSmallSort, Meets, Takes, UnaryTakes}
+use Rattle.zf_sorts.specs.Rules.{Disagreement, Sort, typed, set_sort, relation_sort, IsSmallSort, Meets, Takes, UnaryTakes}
 use Rattle.zf_type.specs.Scopes.{Scope, Var, with_variables, meaning}
 use Rattle.zf_tree.specs.Names.{spelling}
 use Rattle.zf_type.specs.Typing.{IsOf, AreMembers, Makes, member_need, Binds, HasMemberType, declared}
@@ -22,16 +22,6 @@ use Rattle.zf_type.specs.Typing.{IsOf, AreMembers, Makes, member_need, Binds, Ha
 -- the term has a sort that its place does not take
 abbrev pub Misplaced : Scope → Need → Tree → Offence → ℕ → Type 0
 Misplaced s n e o m = (x : Sort) × IsOf s e x × (Meets n x → ⊥) × (o ≡ fault.misplaced n x) × (m ≡ line_of e)
-
--- what is wrong with two operands that a rule doesn't take together: where one has to fit the other, the type that is needed and the one that is found
-abbrev pub Disagreement : Rule → (left right : Sort) → Offence → Type 0
-Disagreement rule.Belonging x y o = (t u : Ty) × (x ≡ typed t) × (y ≡ set_sort u) × (o ≡ unfit u t)
-Disagreement rule.Applying x y o = (t u v : Ty) × (x ≡ relation_sort t u) × (y ≡ typed v) × (o ≡ unfit t v)
-Disagreement rule.Imaging x y o = (t u v : Ty) × (x ≡ relation_sort t u) × (y ≡ set_sort v) × (o ≡ unfit (power t) (power v))
-Disagreement rule.DomainRestricting x y o = (t u v : Ty) × (x ≡ set_sort v) × (y ≡ relation_sort t u) × (o ≡ unfit (power t) (power v))
-Disagreement rule.RangeRestricting x y o = (t u v : Ty) × (x ≡ relation_sort t u) × (y ≡ set_sort v) × (o ≡ unfit (power u) (power v))
-Disagreement rule.Composing x y o = (t n f v : Ty) × (x ≡ relation_sort t n) × (y ≡ relation_sort f v) × (o ≡ unfit n f)
-Disagreement _ x y o = o ≡ mismatch x y
 
 -- both operands are what their places need, but no rule takes them together: the line is that of the right one
 abbrev pub Disagree : Scope → Rule → Tree → Tree → Offence → ℕ → Type 0

@@ -6,9 +6,9 @@ use Rattle.zf_term.specs.DefinitionViews.{globals_of}
 use Rattle.zf_term.specs.TypeViews.{type_of}
 use Rattle.zf_type.specs.declared.scope.Scope as program_scope
 use Rattle.zf_type.specs.declared.variable.Variable.{Variable}
-use Rattle.zf_type.specs.declared.sort.Sort as program
-use Rattle.zf_type.specs.Rules.{Sort}
-use Rattle.zf_type.specs.RuleViews.{sort_of}
+use Rattle.zf_sorts.specs.declared.sort.Sort as program
+use Rattle.zf_sorts.specs.Rules.{Sort}
+use Rattle.zf_sorts.specs.RuleViews.{sort_of}
 use Rattle.zf_type.specs.Scopes.{Var, Scope}
 
 abbrev pub variable_of : Variable → Var

@@ -6,7 +6,7 @@ use Rattle.zf_reference.specs.declared.reference.Reference.{Reference}
 use Rattle.zf_reference.specs.declared.reference.Reference.TheVariants.{Component, Local, Global}
 use Rattle.zf_term.specs.Definitions.{Comp, Defined, Definition, given_set, free_type, constructor, abbreviation, schema}
 use Rattle.zf_term.specs.Types.{Ty, basic}
-use Rattle.zf_type.specs.Rules.{Sort, typed, a_schema, set_sort}
+use Rattle.zf_sorts.specs.Rules.{Sort, typed, a_schema, set_sort}
 
 -- a bound variable
 pub record Var : Type 0 where

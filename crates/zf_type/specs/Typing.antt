@@ -10,7 +10,7 @@ use Rattle.zf_tree.specs.declared.operator.Need.{Need}
 use Rattle.zf_tree.specs.declared.operator.Need.TheVariants as need
 use Rattle.zf_reference.specs.declared.reference.Reference.{Reference}
 use Rattle.zf_term.specs.Types as t
-use Rattle.zf_type.specs.Rules.{Sort, typed, predicate, a_schema, number_sort, set_sort, IsSmallSort, Takes, UnaryTakes, constant_sort}
+use Rattle.zf_sorts.specs.Rules.{Sort, typed, predicate, a_schema, number_sort, set_sort, IsSmallSort, Takes, UnaryTakes, constant_sort}
 use Rattle.zf_type.specs.Scopes.{Scope, Var, with_variables, meaning}
 use Rattle.zf_tree.specs.Names.{spelling}
 

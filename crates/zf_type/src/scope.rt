@@ -2,17 +2,17 @@
 ghost use Rattle.std.specs.Prelude.{◌≡◌, ◌↔◌, IsTrue, IfOk, map};
 ghost use Rattle.zf_term.specs.DefinitionViews.{definition_of};
 ghost use Rattle.zf_type.specs.Judging.{IsBound};
-ghost use Rattle.zf_type.specs.RuleViews.{sort_of};
+ghost use Rattle.zf_sorts.specs.RuleViews.{sort_of};
 ghost use Rattle.zf_type.specs.Scopes as spec;
 ghost use Rattle.zf_type.specs.ScopeViews.{scope_of, variable_of, meant};
 ghost use Rattle.zf_tree.specs.Names.{spelling};
 
 use crate::locals::Locals;
-use crate::sort::Sort;
 use bumpalo::Bump;
 use std::alloc::AllocError;
 use zf_data::arena::{Lent, Shared};
 use zf_reference::reference::Reference;
+use zf_sorts::sort::Sort;
 use zf_term::globals::{Entry, Globals};
 use zf_term::named::{component_of, global_of};
 use zf_term::schema::Component;

@@ -33,7 +33,7 @@ pub use Rattle.zf_term.specs.ResolvedTrees.{listed, ResolvedPart, ResolvedTree, 
 pub use Rattle.zf_term.specs.Types.{basic, has_numbers, int, no_types, pair_type, power, product, Ty, type, types, Tys}
 pub use Rattle.zf_term.specs.declared.extent.Infinite.{Infinite}
 pub use Rattle.zf_type.specs.Resolving.{bound, referent, resolved, resolved_all, resolved_part, resolved_ranges}
-pub use Rattle.zf_type.specs.Rules.{a_schema, constant_sort, number_sort, predicate, PrefixTakes, relation_sort, set_sort, Sort, Takes, typed, UnaryTakes}
+pub use Rattle.zf_sorts.specs.Rules.{a_schema, constant_sort, number_sort, predicate, PrefixTakes, relation_sort, set_sort, Sort, Takes, typed, UnaryTakes}
 pub use Rattle.zf_type.specs.Scopes.{definition_sort, global_sort, last_named, meaning, Scope, Var, component_meaning, global_meaning, variable_meaning}
 pub use Rattle.zf_type.specs.Typing.{AreAll, AreMembers, Declare, IsOf, Makes, member_sort, row_type, types_of, variables}
 pub use Rattle.zf_calculus.specs.Calculus.{comp, marked, nothing}

@@ -4,7 +4,7 @@ use Rattle.zf_tree.specs.Trees.{Tree}
 use Rattle.zf_term.specs.Definitions.{Comp, Defined}
 use Rattle.zf_term.specs.Types.{Ty}
 use Rattle.zf_type.specs.Resolving.{resolved}
-use Rattle.zf_type.specs.Rules.{typed}
+use Rattle.zf_sorts.specs.Rules.{typed}
 use Rattle.zf_type.specs.Scopes.{Scope, Var}
 use Rattle.zf_type.specs.Typing.{IsOf, types_of}
 use Rattle.zf_value.specs.declared.plain.Value.{Value}

@@ -13,9 +13,9 @@ pub use Rattle.zf_term.specs.Types.{basic, int, IsSmall, no_types, type_nodes, p
 pub use Rattle.zf_term.specs.Faults.{already_defined, clash, Fault, local_twice, mismatch, no_members, not_a_schema, not_declared, Offence, too_large, unfit}
 pub use Rattle.zf_term.specs.declared.fault.Limit.{Limit}
 pub use Rattle.zf_term.specs.declared.fault.Limit.TheVariants.{TypeNodes}
-pub use Rattle.zf_type.specs.Offences.{Differ, Disagreement, IsRepeated, LinksOffend, Misplaced, Offends, OneDiffers, OneOffends, PartOffends, Repeats, SetsOffend}
+pub use Rattle.zf_type.specs.Offences.{Differ, IsRepeated, LinksOffend, Misplaced, Offends, OneDiffers, OneOffends, PartOffends, Repeats, SetsOffend}
+pub use Rattle.zf_sorts.specs.Rules.{Disagreement, a_schema, constant_sort, IsSmallSort, Meets, number_sort, predicate, PrefixTakes, relation_sort, set_sort, SignTakes, Sort, Takes, typed, UnaryTakes}
 pub use Rattle.zf_type.specs.Resolving.{resolved}
-pub use Rattle.zf_type.specs.Rules.{a_schema, constant_sort, IsSmallSort, Meets, number_sort, predicate, PrefixTakes, relation_sort, set_sort, SignTakes, Sort, Takes, typed, UnaryTakes}
 pub use Rattle.zf_type.specs.Typing.{AreAll, AreApart, LinksAreTyped, AreMembers, HasMemberType, PartIsPredicate, Declare, declared, IsApart, IsOf, Makes, member_need, member_sort, row_type, variables}
 pub use Rattle.zf_calculus.specs.Calculus.{Agree, Agrees, comp, comp_named, conjoined, decorated, disjoined, HasTypeOf, MarkAgrees, marked, nothing, prime, schema_with, with_comp}
 pub use Rattle.zf_term.specs.Limits.{schema_nodes, AreFew, components_max, conjuncts_max, declared_sets, height_max, IsLow, IsTooLarge, IsWithin, Keeps, nodes_max, sets_max}

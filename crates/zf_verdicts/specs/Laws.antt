@@ -5,7 +5,7 @@ use Rattle.zf_tree.specs.declared.operator.Need.{Need}
 use Rattle.zf_term.specs.Definitions.{Schema, Defined}
 use Rattle.zf_term.specs.Faults.{Offence, Fault}
 use Rattle.zf_type.specs.Offences.{Offends}
-use Rattle.zf_type.specs.Rules.{Sort, Meets}
+use Rattle.zf_sorts.specs.Rules.{Sort, Meets}
 use Rattle.zf_type.specs.Scopes.{Scope}
 use Rattle.zf_type.specs.Typing.{IsOf}
 use Rattle.zf_schema.specs.Expressions.{IsText, IsSchema}

@@ -9,23 +9,23 @@ ghost use Rattle.zf_term.specs.ResolvedViews as kept;
 ghost use Rattle.zf_term.specs.ResolvedViews.{resolved_link_of};
 ghost use Rattle.zf_type.specs.Judging.{IsChain, Judges};
 ghost use Rattle.zf_tree.specs.Operators.{left_need, right_need};
-ghost use Rattle.zf_type.specs.Offences.{Disagreement, LinksOffend};
-ghost use Rattle.zf_type.specs.Refusals.{IfFault};
+ghost use Rattle.zf_type.specs.Offences.{LinksOffend};
+ghost use Rattle.zf_sorts.specs.Rules.{Disagreement, Meets, Takes};
+ghost use Rattle.zf_sorts.specs.Refusals.{IfFault};
 ghost use Rattle.zf_type.specs.Resolving.{resolved_links};
-ghost use Rattle.zf_type.specs.Rules as rules;
-ghost use Rattle.zf_type.specs.Rules.{Meets, Takes};
-ghost use Rattle.zf_type.specs.RuleViews.{sort_of};
+ghost use Rattle.zf_sorts.specs.Rules as rules;
+ghost use Rattle.zf_sorts.specs.RuleViews.{sort_of};
 ghost use Rattle.zf_type.specs.ScopeViews.{scope_of};
 ghost use Rattle.zf_type.specs.Typing.{LinksAreTyped, IsOf};
 
 use super::{Judged, Place, judge_boxed, judge_term, placed};
-use crate::disagreement::disagreeing;
-use crate::fault::{Refusal, misplaced};
-use crate::rules::combine;
 use crate::scope::Scope;
-use crate::sort::Sort;
 use bumpalo::Bump;
 use zf_data::arena::{Boxed, Items};
+use zf_sorts::disagreement::disagreeing;
+use zf_sorts::fault::{Refusal, misplaced};
+use zf_sorts::rules::combine;
+use zf_sorts::sort::Sort;
 use zf_term::resolved::{Resolved, ResolvedLink};
 use zf_tree::operator::{Need, Rule, relation_rule};
 use zf_tree::tree::{Link, Term};
@@ -120,7 +120,7 @@ fn check_left<'a>(
 }
 
 /// The rule takes both operands; the line is that of the right one.
-#[tactic(auto, unfolding(crate::specs::RuleViews::IsMade))]
+#[tactic(auto, unfolding(zf_sorts::specs::RuleViews::IsMade))]
 fn relate<'a>(
     arena: &'a Bump,
     rule: Rule,

@@ -1,6 +1,6 @@
-use Rattle.zf_type.proofs.Prelude.{IfOk-weaker, sort_of, IsMade}
-use Rattle.zf_type.proofs.Taken.{IsAlike, alike, compared}
-use Rattle.zf_type.proofs.rules.combine.Goals as goal
+use Rattle.zf_sorts.proofs.Prelude.{IfOk-weaker, sort_of, IsMade}
+use Rattle.zf_sorts.proofs.Taken.{IsAlike, alike, compared}
+use Rattle.zf_sorts.proofs.rules.combine.Goals as goal
 
 pub returns-in-Arithmetic : goal.returns-in-Arithmetic
 returns-in-Arithmetic c =

@@ -2,12 +2,12 @@
 use Rattle.std.specs.Prelude.{◌≡◌, ℕ}
 use Rattle.zf_term.specs.Faults.{Offence, Fault, not_declared, already_defined, not_a_schema, local_twice, mismatch, unfit, no_members, misplaced, clash, too_large}
 use Rattle.zf_term.specs.TypeViews.{type_of}
-use Rattle.zf_type.specs.declared.fault.Offence as program
-use Rattle.zf_type.specs.declared.fault.Offence.TheVariants as variant
-use Rattle.zf_type.specs.declared.fault.TypeFault.{TypeFault}
-use Rattle.zf_type.specs.declared.fault.Refusal.{Refusal}
-use Rattle.zf_type.specs.declared.fault.Refusal.TheVariants as refusal
-use Rattle.zf_type.specs.RuleViews.{sort_of}
+use Rattle.zf_sorts.specs.declared.fault.Offence as program
+use Rattle.zf_sorts.specs.declared.fault.Offence.TheVariants as variant
+use Rattle.zf_sorts.specs.declared.fault.TypeFault.{TypeFault}
+use Rattle.zf_sorts.specs.declared.fault.Refusal.{Refusal}
+use Rattle.zf_sorts.specs.declared.fault.Refusal.TheVariants as refusal
+use Rattle.zf_sorts.specs.RuleViews.{sort_of}
 
 abbrev pub offence_of : program.Offence → Offence
 offence_of (variant.NotDeclared x) = not_declared x

@@ -3,8 +3,8 @@ ghost use Rattle.std.specs.Prelude.{◌≡◌, ◌↔◌, IsTrue, IfOk, MatchOpt
 ghost use Rattle.zf_term.specs.Types.{Ty};
 ghost use Rattle.zf_term.specs.TypeViews.{type_of};
 ghost use Rattle.zf_term.specs.Faults.{lack, lack_of, untyped_lack, typed};
-ghost use Rattle.zf_type.specs.Rules.{IsSmallSort, Meets, relation_sort, set_sort};
-ghost use Rattle.zf_type.specs.RuleViews.{sort_of};
+ghost use Rattle.zf_sorts.specs.Rules.{IsSmallSort, Meets, relation_sort, set_sort};
+ghost use Rattle.zf_sorts.specs.RuleViews.{sort_of};
 
 use std::alloc::AllocError;
 use zf_term::fault::TypeFaultKind;

@@ -13,6 +13,7 @@ use Rattle.zf_tree.specs.declared.operator.Rule.{Rule}
 use Rattle.zf_tree.specs.declared.operator.Rule.TheVariants as rule
 use Rattle.zf_tree.specs.declared.operator.Unary.{Unary}
 use Rattle.zf_tree.specs.declared.operator.Unary.TheVariants as unary
+use Rattle.zf_term.specs.Faults.{Offence, mismatch, unfit}
 pub use Rattle.zf_term.specs.Faults.{Sort, typed, predicate, a_schema}
 
 abbrev pub number_sort : Sort
@@ -80,3 +81,13 @@ constant_sort False = predicate
 constant_sort Integers = set_sort int
 constant_sort Naturals = set_sort int
 constant_sort Positives = set_sort int
+
+-- what is wrong with two operands that a rule doesn't take together: where one has to fit the other, the type that is needed and the one that is found
+abbrev pub Disagreement : Rule → (left right : Sort) → Offence → Type 0
+Disagreement rule.Belonging x y o = (t u : Ty) × (x ≡ typed t) × (y ≡ set_sort u) × (o ≡ unfit u t)
+Disagreement rule.Applying x y o = (t u v : Ty) × (x ≡ relation_sort t u) × (y ≡ typed v) × (o ≡ unfit t v)
+Disagreement rule.Imaging x y o = (t u v : Ty) × (x ≡ relation_sort t u) × (y ≡ set_sort v) × (o ≡ unfit (power t) (power v))
+Disagreement rule.DomainRestricting x y o = (t u v : Ty) × (x ≡ set_sort v) × (y ≡ relation_sort t u) × (o ≡ unfit (power t) (power v))
+Disagreement rule.RangeRestricting x y o = (t u v : Ty) × (x ≡ relation_sort t u) × (y ≡ set_sort v) × (o ≡ unfit (power u) (power v))
+Disagreement rule.Composing x y o = (t n f v : Ty) × (x ≡ relation_sort t n) × (y ≡ relation_sort f v) × (o ≡ unfit n f)
+Disagreement _ x y o = o ≡ mismatch x y

@@ -5,10 +5,9 @@ ghost use Rattle.zf_term.specs.Types.{power};
 ghost use Rattle.zf_term.specs.TypeViews.{type_of};
 ghost use Rattle.zf_tree.specs.Operators.{left_need, right_need};
 ghost use Rattle.zf_tree.specs.declared.operator.Rule.TheVariants as rule;
-ghost use Rattle.zf_type.specs.Offences.{Disagreement};
-ghost use Rattle.zf_type.specs.Refusals.{IfFault, offence_of};
-ghost use Rattle.zf_type.specs.Rules.{Meets};
-ghost use Rattle.zf_type.specs.RuleViews.{sort_of};
+ghost use Rattle.zf_sorts.specs.Rules.{Disagreement, Meets};
+ghost use Rattle.zf_sorts.specs.Refusals.{IfFault, offence_of};
+ghost use Rattle.zf_sorts.specs.RuleViews.{sort_of};
 
 use crate::fault::{Offence, Refusal, refused};
 use crate::sort::Sort;
@@ -19,7 +18,7 @@ use zf_tree::operator::Rule;
 
 /// The refusal of operands that are each what its place needs, and that the rule doesn't take together.
 #[inline(never)]
-pub(crate) fn disagreeing<'a>(
+pub fn disagreeing<'a>(
     arena: &'a Bump,
     rule: Rule,
     left: &Sort<'a>,

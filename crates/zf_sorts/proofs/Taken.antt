@@ -1,7 +1,7 @@
 -- What is taken together where both operands have one sort, rule by rule.
-use Rattle.zf_type.proofs.Prelude.{◌∙◌, ◌≡◌, ◌⊎◌, None, Option, Some, subst, sym, ⊎_elim, MatchOption, left_need, Rule, Meets, predicate, Sort, sort_of, IsMade}
+use Rattle.zf_sorts.proofs.Prelude.{◌∙◌, ◌≡◌, ◌⊎◌, None, Option, Some, subst, sym, ⊎_elim, MatchOption, left_need, Rule, Meets, predicate, Sort, sort_of, IsMade}
 use Rattle.zf_tree.specs.declared.operator.Rule.TheVariants as rule
-use Rattle.zf_type.specs.declared.sort.Sort as program
+use Rattle.zf_sorts.specs.declared.sort.Sort as program
 
 -- both operands have one sort, which the rule takes, and it is that of the whole
 abbrev pub IsAlike : Rule → Sort → Sort → Option program.Sort → Type 0

@@ -7,9 +7,9 @@ ghost use Rattle.zf_tree.specs.declared.operator.Rule.TheVariants as rule;
 ghost use Rattle.zf_tree.specs.declared.operator.Unary.TheVariants as unary;
 ghost use Rattle.zf_term.specs.Types.{int};
 ghost use Rattle.zf_term.specs.TypeViews.{type_of};
-ghost use Rattle.zf_type.specs.Rules as spec;
-ghost use Rattle.zf_type.specs.RuleViews.{IsMade, IsMadeOfOne, sort_of};
-ghost use Rattle.zf_type.specs.Rules.{Meets, predicate, relation_sort, set_sort};
+ghost use Rattle.zf_sorts.specs.Rules as spec;
+ghost use Rattle.zf_sorts.specs.RuleViews.{IsMade, IsMadeOfOne, sort_of};
+ghost use Rattle.zf_sorts.specs.Rules.{Meets, predicate, relation_sort, set_sort};
 
 use crate::sort::Sort;
 use bumpalo::Bump;

@@ -1,6 +1,6 @@
 //! What is reported beside a fault: the term that it is about, or a name that may be meant.
 ghost use Rattle.std.specs.Prelude.{◌≡◌, IfOk};
-ghost use Rattle.zf_type.specs.Refusals.{IsRefusal, IsStill, offence_of};
+ghost use Rattle.zf_sorts.specs.Refusals.{IsRefusal, IsStill, offence_of};
 
 use crate::fault::{Hint, Offence, QuotedTerm, Refusal, TypeFault, fault};
 use bumpalo::Bump;
@@ -15,7 +15,7 @@ impl<'a> Refusal<'a> {
     /// innermost one. Where that is a function that is not a relation, the application is quoted in its place: often none is
     /// meant, and a separator between its operands was forgotten.
     #[inline(never)]
-    pub(crate) fn quoting(self, arena: &'a Bump, term: &Term<'a>) -> Refusal<'a>
+    pub fn quoting(self, arena: &'a Bump, term: &Term<'a>) -> Refusal<'a>
         ensures { IsStill self.entry result }
     {
         let Refusal::Fault(fault) = self else {

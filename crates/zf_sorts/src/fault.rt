@@ -1,8 +1,8 @@
 //! Faults of types.
 ghost use Rattle.std.specs.Prelude.{◌≡◌, IfOk};
 ghost use Rattle.zf_term.specs.Faults.{kind_of, misplaced};
-ghost use Rattle.zf_type.specs.Refusals.{IsRefusal, fault_of, offence_of};
-ghost use Rattle.zf_type.specs.RuleViews.{sort_of};
+ghost use Rattle.zf_sorts.specs.Refusals.{IsRefusal, fault_of, offence_of};
+ghost use Rattle.zf_sorts.specs.RuleViews.{sort_of};
 
 use crate::sort::Sort;
 use bumpalo::Bump;
@@ -127,7 +127,7 @@ pub fn refused<'a>(arena: &'a Bump, offence: Offence<'a>, line: u32) -> Refusal<
 }
 
 /// The fault by what is wrong at this line.
-pub(crate) fn fault<'a>(
+pub fn fault<'a>(
     arena: &'a Bump,
     offence: Offence<'a>,
     line: u32,
@@ -150,7 +150,7 @@ pub(crate) fn fault<'a>(
 
 /// The refusal of a term of this sort at this line, where something else is needed.
 #[inline(never)]
-pub(crate) fn misplaced<'a>(arena: &'a Bump, need: Need, found: &Sort<'a>, line: u32) -> Refusal<'a>
+pub fn misplaced<'a>(arena: &'a Bump, need: Need, found: &Sort<'a>, line: u32) -> Refusal<'a>
     ensures { IsRefusal result (misplaced need (sort_of found.now)) line }
 {
     match found.share() {
@@ -160,7 +160,7 @@ pub(crate) fn misplaced<'a>(arena: &'a Bump, need: Need, found: &Sort<'a>, line:
 }
 
 impl<'a> From<AllocError> for Refusal<'a> {
-    ghost use Rattle.zf_type.specs.declared.fault.Refusal.TheVariants.{OutOfMemory};
+    ghost use Rattle.zf_sorts.specs.declared.fault.Refusal.TheVariants.{OutOfMemory};
 
     ghost from_gives = { λ _ refusal. refusal ≡ OutOfMemory };
 
@@ -170,7 +170,7 @@ impl<'a> From<AllocError> for Refusal<'a> {
 }
 
 impl<'a, T: Drop> From<AllocFailed<T>> for Refusal<'a> {
-    ghost use Rattle.zf_type.specs.declared.fault.Refusal.TheVariants.{OutOfMemory};
+    ghost use Rattle.zf_sorts.specs.declared.fault.Refusal.TheVariants.{OutOfMemory};
 
     ghost from_gives = { λ _ refusal. refusal ≡ OutOfMemory };
 

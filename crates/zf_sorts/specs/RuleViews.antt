@@ -4,9 +4,9 @@ use Rattle.zf_term.specs.TypeViews.{type_of}
 use Rattle.zf_tree.specs.declared.operator.Rule.{Rule}
 use Rattle.zf_tree.specs.declared.operator.Unary.{Unary}
 use Rattle.zf_term.specs.Faults.{Sort, typed, predicate, a_schema}
-use Rattle.zf_type.specs.declared.sort.Sort as program
-use Rattle.zf_type.specs.declared.sort.Sort.TheVariants.{Typed}
-use Rattle.zf_type.specs.Rules.{Takes, UnaryTakes}
+use Rattle.zf_sorts.specs.declared.sort.Sort as program
+use Rattle.zf_sorts.specs.declared.sort.Sort.TheVariants.{Typed}
+use Rattle.zf_sorts.specs.Rules.{Takes, UnaryTakes}
 
 abbrev pub sort_of : program.Sort → Sort
 sort_of (Typed t) = typed (type_of t)
