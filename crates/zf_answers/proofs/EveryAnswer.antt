@@ -1,7 +1,7 @@
 -- Each request has an answer: it is refused at a stage, or what is asked for is searched.
 use Rattle.zf_answers.proofs.Prelude.{if◌then◌else◌, ◌++◌, ◌+◌, ◌∙◌, ◌∷◌, ◌≡◌, ◌⊎◌, [], ap, Bool, false, inl, inr, IsTrue, List, None, Option, refl, Some, subst, sym, true, ℕ, none-some, same_Some, AllByRecursion, Value, BoxTree, TextFault, ReadsSource, RefusesSource, abbreviation, Comp, constructor, Defined, Definition, free_type, given_set, Schema, schema, sets_of, Fault, first, finite_without_cause, causes, NotFinite, one_bounds, Environment, AreComplete, given_sets, spellings, Portion, portion, IsNoneOut, Job, Check, Show, Why, HasLimit, IsBelow, binding_line, Status, BadRequest, BadSpec, PastBounds, some_search, some_tests_line, Answer, AreHeld, check_status, Checks, HasSchema, IsAsked, IsLimited, IsNamed, IsNamedRow, IsSearch, JobAnswer, Request, RefusesRequest, RequestAnswer, ShowsEvents, TellsWhy, size_fault_lines, stated, wants_details, declared_out_line, no_schema_lines, not_a_binding_line, not_finite_lines, not_held_line, Cited, text_fault_lines, EveryRequestIsAnswered, EverySourceIsRead, numbers_of, IsFinite}
 use Rattle.std.specs.Str.{bytes_eq}
-use Rattle.zf_schema.specs.Listing.{listing}
+use Rattle.zf_checker.specs.Listing.{listing}
 use Rattle.zf_term.specs.FirstNamed.{first_named, later}
 use Rattle.zf_term.proofs.SameNames.{is_same}
 use Rattle.zf_engine.specs.Details.{IsReportedBeside}

@@ -1,7 +1,7 @@
 -- Two answers of one job on one source have one status, and one text but for what is left open.
 use Rattle.zf_answers.proofs.Prelude.{if◌then◌else◌, ◌++◌, ◌∙◌, ◌∷◌, ◌≡◌, [], ap, Bool, inl, inr, List, None, Option, Some, subst, sym, ℕ, same_Some, slice_get, Value, Comp, Defined, Schema, Fault, Environment, IsEnvironment, AreComplete, given_sets, Portion, portion, Job, Check, Show, Why, Status, Answer, AreHeld, check_status, CheckAnswer, Checks, HasSchema, HoldsNoValues, RefusesSource, RequestAnswer, ShowsEvents, TellsWhy, TextFault, IsNamed, IsNamedRow, JobAnswer, NamesNoRow, Request, size_fault_lines, stated, UnreadAnswer, wants_details, declared_out_line, not_finite_lines, AreAlike, AreOfSame, OneStatus, OneText, AreLines, numbers_of}
 use Rattle.std.proofs.lemmas.List.{append-nil}
-use Rattle.zf_schema.specs.Listing.{listing}
+use Rattle.zf_checker.specs.Listing.{listing}
 use Rattle.zf_answers.proofs.OneSource.{none_and_some, one_checked, one_named, one_refused, some_and_none, unread}
 use Rattle.zf_answers.proofs.OneSearch.{clear_at, names_at, not_infinite, one_environment_at, one_first_out, one_held, one_named_row, one_shown}
 use Rattle.zf_answers.proofs.OneRefusal.{none_refused, one_refusal}

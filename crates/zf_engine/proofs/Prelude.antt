@@ -22,7 +22,7 @@ pub use Rattle.zf_term.specs.Shapes.{conjuncts, is_and, is_conjunction, term_lin
 pub use Rattle.zf_term.specs.References.{references}
 pub use Rattle.zf_sorts.specs.Refusals.{fault_of}
 pub use Rattle.zf_type.specs.Resolving.{bound, referent, resolved, resolved_all, resolved_links, resolved_part, resolved_ranges}
-pub use Rattle.zf_schema.specs.WellTypedGlobals.{AreWellTyped}
+pub use Rattle.zf_checker.specs.WellTypedGlobals.{AreWellTyped}
 pub use Rattle.zf_meaning.specs.Environments.{Environment}
 pub use Rattle.zf_meaning.specs.Envs.{environment_of}
 pub use Rattle.zf_texts.specs.Spellings.{spellings}

@@ -5,7 +5,7 @@ use Rattle.zf_scan.specs.declared.fault.TextFault.{TextFault}
 use Rattle.zf_scan.specs.CutViews.{IsWantOfMemory}
 use Rattle.zf_text.specs.Parsing.{RefusesSource}
 use Rattle.zf_term.specs.Faults.{Fault}
-use Rattle.zf_schema.proofs.WellTyped.{globals_well_typed}
+use Rattle.zf_checker.proofs.WellTyped.{globals_well_typed}
 use Rattle.zf_meaning.specs.GlobalOutcomes.{IsEnvironment}
 use Rattle.zf_meaning.specs.Sizes.{given_sets, AreComplete}
 use Rattle.zf_texts.specs.BindingTexts.{binding_text}

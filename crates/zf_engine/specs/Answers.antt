@@ -9,7 +9,7 @@ use Rattle.zf_command.specs.declared.job.Request.{Request}
 use Rattle.zf_command.specs.declared.job.Size as command
 use Rattle.zf_command.specs.Requests.{IsBare}
 use Rattle.zf_schema.specs.Checking.{IsChecked}
-use Rattle.zf_schema.specs.Listing.{listing}
+use Rattle.zf_checker.specs.Listing.{listing}
 use Rattle.zf_finite.specs.declared.not_finite.NotFinite.{NotFinite}
 use Rattle.zf_finite.specs.Finite.{IsFinite, causes}
 use Rattle.zf_scan.specs.declared.fault.TextFault.{TextFault}

@@ -12,7 +12,7 @@ use Rattle.zf_names.specs.Laws.{ComponentsAreClear, EachLineIsHeld, GlobalsAreCl
 use Rattle.zf_term.specs.Definitions.{Schema}
 use Rattle.zf_term.specs.FirstNamed.{first_named, later}
 use Rattle.zf_schema.specs.SchemaLaws.{HasCompsOnce, HaveCompsOnce}
-use Rattle.zf_schema.proofs.Globals.{names_once}
+use Rattle.zf_checker.proofs.Globals.{names_once}
 use Rattle.zf_texts.proofs.Chosen.{line_is_held}
 use Rattle.zf_names.proofs.Components.{once_apart}
 use Rattle.zf_names.proofs.Named.{IsNamed, AreNamed, found_named, globals_named}

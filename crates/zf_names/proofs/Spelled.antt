@@ -8,7 +8,7 @@ use Rattle.zf_tree.specs.declared.tree.RefMark.{RefMark}
 use Rattle.zf_tree.specs.declared.tree.RefMark.TheVariants.{Plain, Delta, Xi}
 use Rattle.zf_tree.specs.Trees.{ParagraphTree, given, free, abbreviation, definition, BoxTree, zed, schema_box, DeclTree, vars, include, SchemaTree, schema_text, reference, both, either, schema_bracket}
 use Rattle.zf_text.specs.Spelling.{SpellsDecl, SpellsMarked, SpellsSchema}
-use Rattle.zf_schema.specs.Runs.{elements}
+use Rattle.zf_schema.specs.Checking.{elements}
 use Rattle.zf_names.proofs.Fronts.{Behind, next_behind, name_behind, then, term_behind, decl_behind, decls_behind, predicates_behind, schema_behind}
 use Rattle.zf_names.proofs.Tokens.{AreSpelled, symbols_spelled}
 

@@ -1,23 +1,10 @@
 mod Prelude
 pub mod OneSchema
 pub mod NoSchemaOffence
-pub mod OneDefinition
-pub mod OneCheck
-pub mod Decoration
-pub mod FirstComponents
 pub mod Named
-pub mod Joined
-pub mod Lines
-pub mod NewComponents
 pub mod Once
-pub mod Fronts
-pub mod Unchanged
-pub mod Globals
-pub mod WellTyped
-pub mod Extended
 pub mod Referring
 pub mod Stopping
-pub mod Running
 pub mod Beginning
 pub mod Texts
 pub mod Numbering

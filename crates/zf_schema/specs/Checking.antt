@@ -1,5 +1,5 @@
 -- What a text defines, and the faults of its paragraphs and boxes.
-use Rattle.std.specs.Prelude.{◌≡◌, ◌⊎◌, ℕ, ◌+◌, List, [], ◌∷◌, ◌++◌, map, flat_map, None}
+use Rattle.std.specs.Prelude.{◌≡◌, ◌⊎◌, ℕ, ◌+◌, List, [], ◌∷◌, ◌++◌, length, map, flat_map, None}
 use Rattle.zf_tree.specs.declared.tree.Name.{Name}
 use Rattle.zf_tree.specs.Trees.{Tree, DeclTree, ParagraphTree, given, free, definition, BoxTree, zed, schema_box}
 use Rattle.zf_tree.specs.Trees as text
@@ -109,3 +109,10 @@ ChecksAll g (item ∷ rest) h faults =
 -- what a text defines, and its faults
 abbrev pub IsChecked : List BoxTree → List Defined → List Fault → Type 0
 IsChecked boxes globals faults = ChecksAll [] (items boxes) globals faults
+
+-- how many given sets and free types a paragraph defines
+abbrev pub elements : ParagraphTree → ℕ
+elements (given ns) = length ns
+elements (free n ns) = 1
+elements (text.abbreviation n e) = 0
+elements (definition n x) = 0

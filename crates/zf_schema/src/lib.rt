@@ -1,11 +1,8 @@
-//! What schema expressions and paragraphs define, and the checker of a text.
+//! What schema expressions and paragraphs define.
 #![tactic(auto)]
 
-pub mod checker;
 mod expression;
-pub mod laws;
-pub mod listing;
-mod paragraph;
+pub mod paragraph;
 mod reference;
 mod stop;
 mod text;

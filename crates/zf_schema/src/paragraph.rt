@@ -14,7 +14,7 @@ ghost use Rattle.zf_type.specs.Typing.{IsOf};
 ghost use Rattle.zf_schema.specs.Expressions.{outside};
 ghost use Rattle.zf_sorts.specs.Refusals.{IfFault};
 ghost use Rattle.zf_tree.specs.Names.{spelling};
-ghost use Rattle.zf_schema.specs.Runs as spec;
+ghost use Rattle.zf_schema.specs.Checking as spec;
 ghost use Rattle.zf_schema.specs.Checking.{IsNew, with_global, abbreviated, Gives, Constructs, DefinesParagraph, Defines, a_box, IsTaken, OffendsGiven, OffendsConstructors, OffendsParagraph, OffendsItem};
 
 use crate::expression::schema_of_expression;

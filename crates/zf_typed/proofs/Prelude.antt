@@ -43,7 +43,7 @@ pub use Rattle.zf_schema.proofs.Named.{joined_type, named_there, type_of_once, t
 pub use Rattle.zf_schema.proofs.Once.{constrained_comps, decorated_once, joined_once, reference_once, schema_once}
 pub use Rattle.zf_schema.specs.Expressions.{AddsAll, Declares, DeclaresOne, IsSchema, outside, Refers}
 pub use Rattle.zf_schema.specs.SchemaLaws.{AreDefinedOnce, HasCompsOnce, HaveCompsOnce, type_found, type_named}
-pub use Rattle.zf_schema.specs.WellTypedGlobals.{AreWellTyped, IsMadeAfter}
+pub use Rattle.zf_checker.specs.WellTypedGlobals.{AreWellTyped, IsMadeAfter}
 pub use Rattle.zf_meaning.specs.Carriers.{AreCarriers, IsCarrier, IsTypeSetIf}
 pub use Rattle.zf_meaning.specs.Environments.{AreElementsIf, before, Context, definition_number, element, Environment, found_number, globally, IsTypeSet, outcome_in, outcome_or, type_number, value_or, within}
 pub use Rattle.zf_meaning.specs.GlobalOutcomes.{AreWorkedOut, IsEnvironment, IsOutcomeOf}

@@ -1,7 +1,7 @@
 -- The rows of a schema's ranges are rows of its types.
 use Rattle.zf_typed.proofs.Prelude.{◌∷◌, ◌≡◌, [], List, None, Option, refl, Some, subst, sym, ℕ, MatchOption, slice_get, member, Outcome, Value, Comp, Defined, schema, sets_of, AreWellTyped, Environment, IsOfType, IsRow}
-use Rattle.zf_schema.proofs.Globals.{names_once}
-use Rattle.zf_schema.proofs.WellTyped.{globals_well_typed}
+use Rattle.zf_checker.proofs.Globals.{names_once}
+use Rattle.zf_checker.proofs.WellTyped.{globals_well_typed}
 use Rattle.zf_walk.specs.Rows.{IsRowOf}
 use Rattle.zf_ranges.specs.Ranges.{AreRanges, IsComponentRange, first_held, later_held}
 use Rattle.zf_typed.specs.RowLaws.{AreHeldTyped, RowsTyped, EventsTyped, EventsOfTextsTyped}

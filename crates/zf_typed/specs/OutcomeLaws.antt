@@ -15,7 +15,7 @@ use Rattle.zf_meaning.specs.GlobalOutcomes.{IsEnvironment}
 use Rattle.zf_meaning.specs.Meaning.{HasOutcome}
 use Rattle.zf_meaning.specs.Rows.{IsOfType, AreOfTypes, IsRow}
 use Rattle.zf_schema.specs.SchemaLaws.{AreDefinedOnce}
-use Rattle.zf_schema.specs.WellTypedGlobals.{AreWellTyped}
+use Rattle.zf_checker.specs.WellTypedGlobals.{AreWellTyped}
 
 -- a value of its type for each of the first components
 abbrev pub IsFrontOfRow : Environment → List Comp → List Value → Type 0

@@ -15,7 +15,7 @@ use Rattle.zf_enum.specs.Property.{property}
 use Rattle.zf_ranges.specs.Ranges.{AreRanges, first_held, later_held}
 use Rattle.zf_schema.specs.Checking.{IsChecked}
 use Rattle.zf_schema.specs.SchemaLaws.{AreDefinedOnce}
-use Rattle.zf_schema.specs.WellTypedGlobals.{AreWellTyped}
+use Rattle.zf_checker.specs.WellTypedGlobals.{AreWellTyped}
 
 -- each value that is held of a component is of its type
 abbrev pub AreHeldTyped : Environment → List Comp → List (Option Value) → Type 0

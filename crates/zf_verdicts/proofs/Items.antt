@@ -4,7 +4,7 @@ use Rattle.zf_tree.specs.Trees as text
 use Rattle.zf_tree.specs.declared.operator.Need.TheVariants as need
 use Rattle.zf_schema.specs.Expressions.{outside, IsText, IsSchema}
 use Rattle.zf_schema.specs.Checking.{Item, a_paragraph, a_box, items, IsNew, with_global, abbreviated, next_number, Gives, Constructs, DefinesParagraph, Defines, IsTaken, OffendsGiven, OffendsConstructors, OffendsParagraph, OffendsItem, ChecksAll, IsChecked}
-use Rattle.zf_schema.proofs.OneDefinition.{no_item_offence}
+use Rattle.zf_checker.proofs.OneDefinition.{no_item_offence}
 use Rattle.zf_verdicts.proofs.Decided.{Decided}
 use Rattle.zf_verdicts.proofs.Schemas.{text_judged, schema_judged}
 use Rattle.zf_verdicts.proofs.Terms.{IsJudged, judged}

@@ -1,9 +1,9 @@
 //! What the calls below `run` answer where there is memory.
 use bumpalo::Bump;
 use std::test::Fail;
+use zf_checker::checker::check_spec;
+use zf_checker::listing::listing;
 use zf_scan::scan::scan;
-use zf_schema::checker::check_spec;
-use zf_schema::listing::listing;
 use zf_term::globals::Entry;
 use zf_term::type_text::type_text;
 use zf_text::reading::parse;

@@ -1,9 +1,9 @@
 //! A bound variable that has the decorated name of a component is none of it.
 use bumpalo::Bump;
 use std::test::Fail;
+use zf_checker::checker::check_spec;
 use zf_reference::reference::Reference;
 use zf_resolved::conjunct::resolved;
-use zf_schema::checker::check_spec;
 use zf_term::resolved::Resolved;
 use zf_text::reading::read_spec;
 

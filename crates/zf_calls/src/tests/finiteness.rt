@@ -2,9 +2,9 @@
 use bumpalo::Bump;
 use std::alloc::Global;
 use std::test::Fail;
+use zf_checker::checker::check_spec;
 use zf_extent::infinite::direct;
 use zf_finite::finite;
-use zf_schema::checker::check_spec;
 use zf_term::extent::Infinite;
 use zf_term::globals::Entry;
 use zf_text::reading::read_spec;

@@ -2,19 +2,19 @@
 //! `bench/refuse-growths` refuses each growth of this test in turn.
 ghost use Rattle.std.specs.Prelude.{IfOk};
 ghost use Rattle.zf_meaning.specs.Envs.{environment_of};
-ghost use Rattle.zf_schema.specs.WellTypedGlobals.{AreWellTyped};
+ghost use Rattle.zf_checker.specs.WellTypedGlobals.{AreWellTyped};
 ghost use Rattle.zf_term.specs.DefinitionViews.{globals_of};
 
 use bumpalo::Bump;
 use std::alloc::{AllocError, Global};
 use std::test::Fail;
+use zf_checker::checker::check_spec;
 use zf_data::Text;
 use zf_enum::{Bindings, Instances, Search};
 use zf_finite::finite;
 use zf_meaning::env::Env;
 use zf_meaning::sizes::Size;
 use zf_ranges::StartFault;
-use zf_schema::checker::check_spec;
 use zf_term::globals::Globals;
 use zf_text::reading::read_spec;
 use zf_walk::Step;

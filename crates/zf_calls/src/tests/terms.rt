@@ -2,13 +2,13 @@
 use bumpalo::Bump;
 use std::alloc::{AllocError, Global};
 use std::test::Fail;
+use zf_checker::checker::check_spec;
 use zf_data::Text;
 use zf_meaning::carrier::carrier_of;
 use zf_meaning::env::Env;
 use zf_meaning::sizes::Size;
 use zf_meaning::value::{truth_of, value_of};
 use zf_resolved::conjunct::resolved;
-use zf_schema::checker::check_spec;
 use zf_term::globals::{Entry, Globals};
 use zf_term::resolved::Resolved;
 use zf_text::reading::read_spec;

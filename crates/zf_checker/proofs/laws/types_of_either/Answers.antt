@@ -1,0 +1,5 @@
+use Rattle.zf_checker.proofs.Joined as schemas
+use Rattle.zf_checker.proofs.laws.types_of_either.Goals as goal
+
+pub returns : goal.returns
+returns c = schemas.types_of_either

@@ -1,5 +1,0 @@
-use Rattle.zf_schema.proofs.FirstComponents as schemas
-use Rattle.zf_schema.proofs.laws.comps_of_either.Goals as goal
-
-pub returns : goal.returns
-returns c = schemas.comps_of_either
