@@ -106,7 +106,7 @@ fn begun<'e, 'g, 'a>(
     let Some(schema) = globals.schema(name) else {
         return Err(Fail::new("no schema"));
     };
-    let Ok(()) = finite(None, schema, globals) else {
+    let Ok(()) = finite(env.numbers(), schema, globals) else {
         return Err(Fail::new("not finite"));
     };
     match Bindings::start(alloc, arena, schema, env, None, &[]) {
@@ -129,7 +129,7 @@ fn begun_uncounted<'e, 'g, 'a>(
     let Some(schema) = globals.schema(name) else {
         return Err(Fail::new("no schema"));
     };
-    let Ok(()) = finite(None, schema, globals) else {
+    let Ok(()) = finite(env.numbers(), schema, globals) else {
         return Err(Fail::new("not finite"));
     };
     match Instances::start(alloc, arena, schema, env, None, &[]) {
