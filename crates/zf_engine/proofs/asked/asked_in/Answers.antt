@@ -16,7 +16,7 @@ returns-in_err-check_finite-clause-stop c =
     let e = environment_of c.in_ok-env.env in
     weaker_err _ (λ s. IfAnswered s (TellsInfinite e.numbers e.globals (schema_of c.in-Some.schema.now) c.args.report.details c.args.report.file.now)) (AnswersOver (globals_of c.args.globals.now) c.args.request.now c.args.report.file.now)
     (λ stop told source checks. infinite_answers c.args.request.now c.args.report.file.now source _ _ (has_schema c.args.request.now c.args.report.file.now source _ _ checks (rw c.as_str.ensures at c.in-Some.ensures)) c.in_ok-env.ensures.complete stop
-    (infinite_here c.args.request.now c.args.report.file.now source _ _ e c.in_ok-env.ensures.is stop (subst (λ d. IfAnswered stop (TellsInfinite e.numbers e.globals (schema_of c.in-Some.schema.now) d c.args.report.file.now)) c.requires told))) (search rules)
+    (infinite_here c.args.request.now c.args.report.file.now source (globals_of c.args.globals.now) (schema_of c.in-Some.schema.now) e c.in_ok-env.ensures.is stop (subst (λ d. IfAnswered stop (TellsInfinite e.numbers e.globals (schema_of c.in-Some.schema.now) d c.args.report.file.now)) c.requires told))) (search rules)
 
 pub returns-clause-asked : goal.returns-clause-asked
 returns-clause-asked c = λ source checks.
