@@ -4,6 +4,7 @@ pub mod Judging
 pub mod EventLaws
 pub mod Resolved
 pub mod Started
+pub mod Held
 pub mod Planted
 pub mod Naming
 pub mod Fixed

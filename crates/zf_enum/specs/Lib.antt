@@ -7,6 +7,7 @@ pub mod PortionViews
 pub mod Events
 pub mod EventLaws
 pub mod Starts
+pub mod Holding
 pub mod Searches
 pub mod Planting
 pub mod Fixing

@@ -101,7 +101,7 @@ fn has_few_rows<'a>(
     Ok(rows / 4 <= next.values.len())
 }
 
-/// Whether the components behind that an expression uses have values of which there are less than half as many as in the range.
+/// Whether the components behind that an expression uses have no more rows than the range has values. With each value that is not left out, all these rows would have to be tried.
 fn is_worth_it(side: &Resolved<'_>, ranges: &[Range<Value>], next: usize, due: usize) -> bool
     requires next { next < length ranges.now }
     requires due { due ≤ length ranges.now }
@@ -114,7 +114,7 @@ fn is_worth_it(side: &Resolved<'_>, ranges: &[Range<Value>], next: usize, due: u
         }
     }
     let range = &ranges[next];
-    rows <= range.values.len() / 2
+    rows <= range.values.len()
 }
 
 /// The same from the first places on, of so many that the expression needs.

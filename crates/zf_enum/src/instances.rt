@@ -9,6 +9,7 @@ ghost use Rattle.zf_meaning.specs.Envs.{environment_of};
 ghost use Rattle.zf_enum.specs.Property.{property};
 ghost use Rattle.zf_enum.specs.Searches.{planted_goal};
 ghost use Rattle.zf_enum.specs.PortionViews.{portion};
+ghost use Rattle.zf_enum.specs.Holding.{CanHold};
 ghost use Rattle.zf_enum.specs.Starts.{Begins};
 ghost use Rattle.zf_ranges.specs.Ranges.{Refuses};
 
@@ -21,7 +22,7 @@ use std::alloc::{AllocError, Global};
 use zf_meaning::env::Env;
 use zf_meaning::row::Row;
 use zf_ranges::StartFault;
-use zf_ranges::component::ranges;
+use zf_ranges::component::{held_ranges, ranges};
 use zf_term::schema::Flat;
 use zf_value::value::Value;
 use zf_walk::Step;
@@ -56,6 +57,24 @@ impl<'s, 'e, 'g, 'a> Instances<'s, 'e, 'g, 'a> {
         let property = lifted(alloc, arena, leaves, env)?;
         let search = zf_plan::Search::start(alloc, property, forest, ranges, after)?;
         let names = env.count();
+        Ok(Instances { search, names })
+    }
+
+    /// Stands before the first event that has these values, of components of which values were held before. What the conjuncts were made into stays, and so do the ranges of the other components.
+    pub fn holding(
+        self,
+        alloc: Global,
+        flat: &Flat<'a>,
+        env: &Env<'_, 'a>,
+        held: &[Option<Value>],
+    ) -> Result<Instances<'s, 'e, 'g, 'a>, AllocError>
+        requires finite { IsFinite (environment_of env.now).numbers (environment_of env.now).globals (schema_of flat.now) }
+        requires again { CanHold (environment_of env.now) (schema_of flat.now) held.now (planted_goal self.names self.search) self.search.stage.ranges }
+        ensures { IfOk result (λ i. Begins (environment_of env.now) (schema_of flat.now) (portion None held.now) (planted_goal i.names i.search) i.search.stage) }
+    {
+        let Instances { search, names } = self;
+        let others = held_ranges(alloc, flat.components.as_slice(), held, env)?;
+        let search = search.exchange(others)?;
         Ok(Instances { search, names })
     }
 }

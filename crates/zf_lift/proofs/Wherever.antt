@@ -1,5 +1,5 @@
 -- Terms of one form are lifts, or closed, where their parts are.
-use Rattle.zf_lift.proofs.Prelude.{◌++◌, ◌<◌, ◌↔◌, ◌∙◌, ◌∷◌, ◌≡◌, ◌≤◌, [], ap, arith, Bool, false, length, List, None, Option, refl, subst, sym, true, ℕ, Reference, Component, Global, Local, Outcome, Truth, Value, Listed, Operator, Unary, Constant, Quantifier, Relation, Defined, absent, binary, bracket, builder, chain, constant, empty_set, link, links, listed, number, present, quantified, range, Ranges, ranges, reference, ResolvedLinks, ResolvedPart, ResolvedTree, ResolvedTrees, term, terms, unary, direct, extent_found, extent_set, Context, Environment, outcome_in, outcome_or, longer, HasOutcome, IsTruth, AreEach, IsLifted, IsLonger, at, is_liftable, AreClosed, AreLifts, AreLinkLifts, AreLinksClosed, AreRangeLifts, AreRangesClosed, IsClosed, IsLift, IsPartClosed, IsPartLift, AreAllLifts, IsLinkClosed, IsLinkLift, IsRangeClosed, IsRangeLift, need, AreSameLinks, AreSameRanges, IsSame, IsSamePart}
+use Rattle.zf_lift.proofs.Prelude.{◌++◌, ◌<◌, ◌↔◌, ◌∙◌, ◌∷◌, ◌≡◌, ◌≤◌, [], ap, arith, Bool, false, length, List, None, Option, refl, subst, sym, true, ℕ, Reference, Component, Global, Local, Outcome, Truth, Value, Listed, Operator, Unary, Constant, Quantifier, Relation, Defined, absent, binary, bracket, builder, chain, constant, empty_set, link, links, listed, number, present, quantified, range, Ranges, ranges, reference, ResolvedLinks, ResolvedPart, ResolvedTree, ResolvedTrees, terms, unary, extent_found, extent_set, Context, Environment, outcome_in, outcome_or, longer, HasOutcome, IsTruth, AreEach, IsLifted, IsLonger, at, is_liftable, AreClosed, AreLifts, AreLinkLifts, AreLinksClosed, AreRangeLifts, AreRangesClosed, IsClosed, IsLift, IsPartClosed, IsPartLift, AreAllLifts, IsLinkClosed, IsLinkLift, IsRangeClosed, IsRangeLift, need, AreSameLinks, AreSameRanges, IsSame, IsSamePart}
 use Rattle.std.specs.Prelude.{◌&&◌, is_some, Some}
 use Rattle.std.proofs.Common.{true≢false}
 use Rattle.zf_tree.specs.declared.symbol.Constant.TheVariants as constants

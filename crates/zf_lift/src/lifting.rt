@@ -55,7 +55,7 @@ pub(crate) fn lifted<'g, 'a>(
     named(found, own)
 }
 
-/// The name of what a closed part comes to.
+/// The name of what a closed part comes to, unless memory ends: it may be that nothing asks for it.
 fn named<'g, 'a>(
     found: Lifting<Resolved<'a>>,
     own: &mut Env<'g, 'a>,
@@ -69,7 +69,9 @@ fn named<'g, 'a>(
         return Ok(found);
     }
     let none: &[Value] = &[];
-    let outcome = value_of(&found.part, &none, &*own)?;
+    let Ok(outcome) = value_of(&found.part, &none, &*own) else {
+        return Ok(found);
+    };
     own.add(outcome)?;
     Ok(Lifting {
         part: Resolved::Name(found.part.line(), Reference::Global(place)),

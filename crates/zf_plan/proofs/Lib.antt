@@ -5,6 +5,7 @@ pub mod TreeTruths
 pub mod SoFar
 pub mod Numbers
 pub mod Forgetting
+pub mod Exchanging
 pub mod Stamping
 pub mod Looking
 pub mod Testing

@@ -12,6 +12,7 @@ pub mod Testing
 pub mod Choosing
 pub mod Sieves
 pub mod Places
+pub mod Exchanges
 pub mod Counts
 pub mod Searches
 pub mod Walks

@@ -13,6 +13,9 @@ use Rattle.zf_walk.specs.Picked.{AreWithin, picked}
 use Rattle.zf_walk.specs.Order.{reaches, is_reached}
 use Rattle.zf_plan.specs.declared.place.Place.{Place}
 use Rattle.zf_plan.specs.declared.plan.Plan.{Plan}
+use Rattle.zf_plan.specs.declared.problem.Problem.{Problem}
+use Rattle.std.specs.Option.{option_copied}
+use Rattle.zf_plan.specs.Groves.{trees_of}
 use Rattle.zf_plan.specs.Memories.{Memory}
 use Rattle.zf_plan.specs.Trees.{Tree, leaf, negated, both, either, tree_at, HaveLeavesWithin}
 use Rattle.zf_plan.specs.Knowing.{Remembers, IsRefuted, IsSoFar, IsLeafDue, NeedsWithin, AreBelow}
@@ -124,6 +127,10 @@ pub record IsSound {V : Type 0} (cmp : V → V → Ordering) (l : Conjuncts V) (
   pub due : AreDueWithin l (length ranges)
   pub leaves : HaveLeavesWithin l.number trees
   pub plan : IsPlan l uses trees (length ranges) planned
+
+-- it holds of a problem
+abbrev pub IsPosed : {V J : Type 0} → (V → V → Ordering) → (J → Conjuncts V) → (J → ℕ → ℕ → Bool) → Problem V J → Type 0
+IsPosed cmp conjuncts uses p = IsSound cmp (conjuncts p.judge.now) (uses p.judge.now) (trees_of p.forest.now) p.ranges.now (option_copied p.after) p.plan.now
 
 -- how many steps a search from a row on takes at most
 abbrev pub below : {V : Type 0} → List (List V) → ℕ

@@ -2,108 +2,104 @@
 ghost use Rattle.std.specs.Prelude.{◌≡◌, ◌≢◌, ◌<◌, Ok, [], length, IfOk, IfSome};
 ghost use Rattle.zf_walk.specs.declared.judge.Truth.TheVariants.{False};
 ghost use Rattle.zf_walk.specs.Picked.{AreWithin, picked};
-ghost use Rattle.zf_plan.specs.Trees.{tree_at, HasLeavesWithin, HaveLeavesWithin};
+ghost use Rattle.zf_plan.specs.Trees.{tree_at, HasLeavesWithin};
 ghost use Rattle.zf_plan.specs.Groves.{trees_made, trees_of};
 ghost use Rattle.zf_plan.specs.Knowing.{Remembers, IsKnown, IsSettled, IsSoFar, IsLeafOrBelow, IsAmong, AreBelow};
+ghost use Rattle.zf_plan.specs.Places.{IsPosed};
 
-use crate::forest::Forest;
+use crate::guide::Guide;
 use crate::known::{both, either, join, not};
 use crate::memo::Memo;
 use crate::node::Node;
+use crate::problem::Problem;
 use std::alloc::AllocError;
-use zf_walk::{Judge, Range, Truth};
+use zf_walk::Truth;
 
 /// What is known of a tree. Of two sides the second is asked for only where the first doesn't decide.
-pub fn evaluate<V, J: Judge<V>>(
-    judge: &J,
-    forest: &Forest,
-    ranges: &[Range<V>],
+pub fn evaluate<V: Ord, J: Guide<V>>(
+    problem: &Problem<V, J>,
     places: &[usize],
     part: usize,
     memo: &mut Memo,
 ) -> Result<Option<Truth>, AllocError>
-    requires part { part < length (trees_made forest.now) }
-    requires leaves { HasLeavesWithin (J.conjuncts judge.now).number (tree_at (trees_made forest.now) part) }
-    requires within { AreWithin ranges.now places.now }
-    requires remembers { Remembers (J.conjuncts judge.now) (J.is_used judge.now) ranges.now places.now memo.old }
-    ensures remembers { Remembers (J.conjuncts judge.now) (J.is_used judge.now) ranges.now places.now memo.new }
+    requires part { part < length (trees_made problem.now.forest.now) }
+    requires leaves { HasLeavesWithin (J.conjuncts problem.now.judge.now).number (tree_at (trees_made problem.now.forest.now) part) }
+    requires within { AreWithin problem.now.ranges.now places.now }
+    requires remembers { Remembers (J.conjuncts problem.now.judge.now) (J.is_used problem.now.judge.now) problem.now.ranges.now places.now memo.old }
+    ensures remembers { Remembers (J.conjuncts problem.now.judge.now) (J.is_used problem.now.judge.now) problem.now.ranges.now places.now memo.new }
     ensures same { memo.new.tests ≡ memo.old.tests }
-    ensures known { IfOk result (IsKnown (J.conjuncts judge.now) (tree_at (trees_made forest.now) part) (picked ranges.now places.now)) }
+    ensures known { IfOk result (IsKnown (J.conjuncts problem.now.judge.now) (tree_at (trees_made problem.now.forest.now) part) (picked problem.now.ranges.now places.now)) }
 {
-    match forest.node(part) {
-        Node::Leaf(of) => memo.look(judge, ranges, places, of),
-        Node::Not(of) => Ok(not(evaluate(judge, forest, ranges, places, of, memo)?)),
+    match problem.forest.node(part) {
+        Node::Leaf(of) => memo.look(problem.judge, problem.ranges, places, of),
+        Node::Not(of) => Ok(not(evaluate(problem, places, of, memo)?)),
         Node::And(left, right) => {
-            if let Some(Truth::False) = told(judge, forest, ranges, places, right, memo) {
+            if let Some(Truth::False) = told(problem, places, right, memo) {
                 return Ok(Some(Truth::False));
             }
-            let first = evaluate(judge, forest, ranges, places, left, memo)?;
+            let first = evaluate(problem, places, left, memo)?;
             if let Some(Truth::False) = first {
                 return Ok(first);
             }
-            let second = evaluate(judge, forest, ranges, places, right, memo)?;
+            let second = evaluate(problem, places, right, memo)?;
             Ok(both(first, second))
         }
         Node::Or(left, right) => {
-            if let Some(Truth::True) = told(judge, forest, ranges, places, right, memo) {
+            if let Some(Truth::True) = told(problem, places, right, memo) {
                 return Ok(Some(Truth::True));
             }
-            let first = evaluate(judge, forest, ranges, places, left, memo)?;
+            let first = evaluate(problem, places, left, memo)?;
             if let Some(Truth::True) = first {
                 return Ok(first);
             }
-            let second = evaluate(judge, forest, ranges, places, right, memo)?;
+            let second = evaluate(problem, places, right, memo)?;
             Ok(either(first, second))
         }
     }
 }
 
 /// What is known of a tree without a question, if it is a leaf.
-fn told<V, J: Judge<V>>(
-    judge: &J,
-    forest: &Forest,
-    ranges: &[Range<V>],
+fn told<V: Ord, J: Guide<V>>(
+    problem: &Problem<V, J>,
     places: &[usize],
     part: usize,
     memo: &Memo,
 ) -> Option<Truth>
-    requires part { part < length (trees_made forest.now) }
-    requires leaves { HasLeavesWithin (J.conjuncts judge.now).number (tree_at (trees_made forest.now) part) }
-    requires within { AreWithin ranges.now places.now }
-    requires remembers { Remembers (J.conjuncts judge.now) (J.is_used judge.now) ranges.now places.now memo.now }
-    ensures { IfSome result (IsSettled (J.conjuncts judge.now) (tree_at (trees_made forest.now) part) (picked ranges.now places.now)) }
+    requires part { part < length (trees_made problem.now.forest.now) }
+    requires leaves { HasLeavesWithin (J.conjuncts problem.now.judge.now).number (tree_at (trees_made problem.now.forest.now) part) }
+    requires within { AreWithin problem.now.ranges.now places.now }
+    requires remembers { Remembers (J.conjuncts problem.now.judge.now) (J.is_used problem.now.judge.now) problem.now.ranges.now places.now memo.now }
+    ensures { IfSome result (IsSettled (J.conjuncts problem.now.judge.now) (tree_at (trees_made problem.now.forest.now) part) (picked problem.now.ranges.now places.now)) }
 {
-    match forest.node(part) {
-        Node::Leaf(of) => memo.told(judge, ranges, places, of),
+    match problem.forest.node(part) {
+        Node::Leaf(of) => memo.told(problem.judge, problem.ranges, places, of),
         _ => None,
     }
 }
 
 /// The truth of these conjuncts, as far as it is known, and of what was found before: asked for one after another, up to the first that is False.
-pub fn test_trees<V, J: Judge<V>>(
-    judge: &J,
-    forest: &Forest,
-    ranges: &[Range<V>],
+pub fn test_trees<V: Ord, J: Guide<V>>(
+    problem: &Problem<V, J>,
     places: &[usize],
     conjuncts: &[usize],
     before: Truth,
     memo: &mut Memo,
 ) -> Result<Truth, AllocError>
-    requires conjuncts { AreBelow (length (trees_of forest.now)) conjuncts.now }
+    requires sound { IsPosed V.cmp J.conjuncts J.is_used problem.now }
+    requires conjuncts { AreBelow (length (trees_of problem.now.forest.now)) conjuncts.now }
     requires before { before ≢ False }
-    requires so_far { IsSoFar (J.conjuncts judge.now) (trees_of forest.now) (picked ranges.now places.now) (IsLeafOrBelow (J.conjuncts judge.now) (trees_of forest.now) (length places.now)) before }
-    requires leaves { HaveLeavesWithin (J.conjuncts judge.now).number (trees_of forest.now) }
-    requires within { AreWithin ranges.now places.now }
-    requires remembers { Remembers (J.conjuncts judge.now) (J.is_used judge.now) ranges.now places.now memo.old }
-    ensures remembers { Remembers (J.conjuncts judge.now) (J.is_used judge.now) ranges.now places.now memo.new }
+    requires so_far { IsSoFar (J.conjuncts problem.now.judge.now) (trees_of problem.now.forest.now) (picked problem.now.ranges.now places.now) (IsLeafOrBelow (J.conjuncts problem.now.judge.now) (trees_of problem.now.forest.now) (length places.now)) before }
+    requires within { AreWithin problem.now.ranges.now places.now }
+    requires remembers { Remembers (J.conjuncts problem.now.judge.now) (J.is_used problem.now.judge.now) problem.now.ranges.now places.now memo.old }
+    ensures remembers { Remembers (J.conjuncts problem.now.judge.now) (J.is_used problem.now.judge.now) problem.now.ranges.now places.now memo.new }
     ensures same { memo.new.tests ≡ memo.old.tests }
-    ensures so_far { IfOk result (IsSoFar (J.conjuncts judge.now) (trees_of forest.now) (picked ranges.now places.now) (IsAmong (J.conjuncts judge.now) (trees_of forest.now) (length places.now) conjuncts.now)) }
+    ensures so_far { IfOk result (IsSoFar (J.conjuncts problem.now.judge.now) (trees_of problem.now.forest.now) (picked problem.now.ranges.now places.now) (IsAmong (J.conjuncts problem.now.judge.now) (trees_of problem.now.forest.now) (length places.now) conjuncts.now)) }
     ensures none { conjuncts.now ≡ [] → result ≡ Ok before }
 {
     let mut all = before;
     for i in 0..conjuncts.len() {
-        let root = forest.root(conjuncts[i]);
-        let known = evaluate(judge, forest, ranges, places, root, memo)?;
+        let root = problem.forest.root(conjuncts[i]);
+        let known = evaluate(problem, places, root, memo)?;
         all = join(all, known);
         if let Truth::False = all {
             return Ok(all);

@@ -15,6 +15,7 @@ mod moves;
 mod node;
 mod place;
 mod plan;
+mod problem;
 mod search;
 mod sieve;
 mod steps;

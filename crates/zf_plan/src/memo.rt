@@ -10,7 +10,9 @@ ghost use Rattle.zf_plan.specs.Knowing.{Remembers, IsKnown, IsSettled};
 ghost use Rattle.zf_plan.specs.Testing.{AreLeaves, IsTested, Tests};
 ghost use Rattle.zf_plan.specs.Stamps.{AreUnknown, IsCleared, cleared};
 
+use crate::guide::Guide;
 use crate::known::conjoin;
+use crate::problem::Problem;
 use std::alloc::{AllocError, Global};
 use std::marker::Model;
 use zf_walk::{Judge, Range, Tables, Truth};
@@ -81,24 +83,23 @@ impl Memo {
     }
 
     /// The truth of some leaves, which need just these values, and of what was found before. The leaves are tested one after another, up to the first that is False, and counted at the end.
-    pub fn test<V, J: Judge<V>>(
+    pub fn test<V: Ord, J: Guide<V>>(
         &mut self,
-        judge: &J,
-        ranges: &[Range<V>],
+        problem: &Problem<V, J>,
         places: &[usize],
         leaves: &[usize],
         before: Truth,
     ) -> Result<Truth, AllocError>
-        requires leaves { AreLeaves (J.conjuncts judge.now) (length places.now) leaves.now }
+        requires leaves { AreLeaves (J.conjuncts problem.now.judge.now) (length places.now) leaves.now }
         requires before { before ≢ False }
-        requires within { AreWithin ranges.now places.now }
-        requires remembers { Remembers (J.conjuncts judge.now) (J.is_used judge.now) ranges.now places.now self.old }
-        ensures remembers { Remembers (J.conjuncts judge.now) (J.is_used judge.now) ranges.now places.now self.new }
-        ensures tested { IfOk result (λ t. IsTested (J.conjuncts judge.now) (picked ranges.now places.now) leaves.now before t self.old.tests self.new.tests) }
+        requires within { AreWithin problem.now.ranges.now places.now }
+        requires remembers { Remembers (J.conjuncts problem.now.judge.now) (J.is_used problem.now.judge.now) problem.now.ranges.now places.now self.old }
+        ensures remembers { Remembers (J.conjuncts problem.now.judge.now) (J.is_used problem.now.judge.now) problem.now.ranges.now places.now self.new }
+        ensures tested { IfOk result (λ t. IsTested (J.conjuncts problem.now.judge.now) (picked problem.now.ranges.now places.now) leaves.now before t self.old.tests self.new.tests) }
         ensures refused { OnErr result (self.new.tests ≡ self.old.tests) }
         ensures more { self.old.tests ≤ self.new.tests }
     {
-        let tested = test_all(judge, ranges, places, leaves, before, &mut self.tables)?;
+        let tested = test_all(problem, places, leaves, before, &mut self.tables)?;
         self.tests = self.tests.saturating_add(tested.number as u64);
         Ok(tested.truth)
     }
@@ -215,24 +216,23 @@ fn cleared(leaf: Stamped, due: usize) -> Stamped
 }
 
 /// Tests these leaves.
-fn test_all<V, J: Judge<V>>(
-    judge: &J,
-    ranges: &[Range<V>],
+fn test_all<V: Ord, J: Guide<V>>(
+    problem: &Problem<V, J>,
     places: &[usize],
     leaves: &[usize],
     before: Truth,
     tables: &mut Tables,
 ) -> Result<Tested, AllocError>
-    requires leaves { AreLeaves (J.conjuncts judge.now) (length places.now) leaves.now }
+    requires leaves { AreLeaves (J.conjuncts problem.now.judge.now) (length places.now) leaves.now }
     requires before { before ≢ False }
-    requires within { AreWithin ranges.now places.now }
-    requires known { AreTrue (J.conjuncts judge.now) (J.is_used judge.now) ranges.now tables.old.each.items }
-    ensures known { AreTrue (J.conjuncts judge.now) (J.is_used judge.now) ranges.now tables.new.each.items }
-    ensures tests { IfOk result (λ t. Tests (J.conjuncts judge.now) (picked ranges.now places.now) leaves.now before t.truth t.number) }
+    requires within { AreWithin problem.now.ranges.now places.now }
+    requires known { AreTrue (J.conjuncts problem.now.judge.now) (J.is_used problem.now.judge.now) problem.now.ranges.now tables.old.each.items }
+    ensures known { AreTrue (J.conjuncts problem.now.judge.now) (J.is_used problem.now.judge.now) problem.now.ranges.now tables.new.each.items }
+    ensures tests { IfOk result (λ t. Tests (J.conjuncts problem.now.judge.now) (picked problem.now.ranges.now places.now) leaves.now before t.truth t.number) }
 {
     let mut all = before;
     for i in 0..leaves.len() {
-        let truth = tables.truth_of(judge, ranges, leaves[i], places)?;
+        let truth = tables.truth_of(problem.judge, problem.ranges, leaves[i], places)?;
         all = conjoin(all, truth);
         if let Truth::False = all {
             return Ok(Tested {

@@ -1,5 +1,5 @@
 //! Which leaves and which conjuncts a value that is bound concerns.
-ghost use Rattle.std.specs.Prelude.{◌≡◌, ◌+◌, ◌^◌, ◌<◌, ◌≤◌, ℕ, false, [], length, slice_index_or, IfOk, MatchOption};
+ghost use Rattle.std.specs.Prelude.{◌≡◌, ◌+◌, ◌^◌, ◌<◌, ◌≤◌, ℕ, true, false, [], length, slice_index_or, IfOk, MatchOption};
 ghost use Rattle.zf_plan.specs.Trees.{tree_at, HasLeavesWithin, HaveLeavesWithin};
 ghost use Rattle.zf_plan.specs.Groves.{trees_made, trees_of};
 ghost use Rattle.zf_plan.specs.Knowing.{AreBelow, IsLeafDue};
@@ -22,6 +22,15 @@ pub struct Plan {
     pub lasts: Vec<Listed>,
     pub sifting: Vec<Listed>,
     pub sifting_lasts: Vec<Listed>,
+    /// Whether it is one by which no component is narrowed or sifted.
+    pub is_plain: bool,
+}
+
+/// Conjuncts by which the values of a component are chosen, and for each of these of how many first values it and those before it do so.
+#[derive(Drop)]
+pub struct Choosers<'p> {
+    pub conjuncts: &'p [usize],
+    pub lasts: &'p [usize],
 }
 
 impl Plan {
@@ -30,17 +39,18 @@ impl Plan {
         judge: &J,
         forest: &Forest,
         ranges: &[Range<V>],
-        components: usize,
     ) -> Result<Plan, AllocError>
         requires leaves { HaveLeavesWithin (J.conjuncts judge.now).number (trees_of forest.now) }
-        requires room { components + 1 < 2 ^ 64 }
-        ensures { IfOk result (IsPlan (J.conjuncts judge.now) (J.is_used judge.now) (trees_of forest.now) components) }
+        requires room { length ranges.now + 1 < 2 ^ 64 }
+        ensures plan { IfOk result (IsPlan (J.conjuncts judge.now) (J.is_used judge.now) (trees_of forest.now) (length ranges.now)) }
+        ensures not_plain { IfOk result (λ p. p.is_plain ≡ false) }
     {
+        let components = ranges.len();
         let due = all_due(alloc, judge, forest, components)?;
         let touched = all_touched(alloc, judge, forest, components)?;
         let narrowing = all_narrowing(alloc, judge, forest, components)?;
         let lasts = all_lasts(alloc, judge, forest, &narrowing, components)?;
-        let sifting = all_sifting(alloc, judge, forest, ranges, &narrowing, components)?;
+        let sifting = all_sifting(alloc, judge, forest, ranges, &narrowing)?;
         let sifting_lasts = all_lasts(alloc, judge, forest, &sifting, components)?;
         Ok(Plan {
             due,
@@ -49,6 +59,7 @@ impl Plan {
             lasts,
             sifting,
             sifting_lasts,
+            is_plain: false,
         })
     }
 
@@ -64,6 +75,7 @@ impl Plan {
         ensures plan { IfOk result (IsPlan (J.conjuncts judge.now) (J.is_used judge.now) (trees_of forest.now) components) }
         ensures none { IfOk result (λ p. (k : ℕ) → slice_index_or p.narrowing.items k [] ≡ []) }
         ensures unsifted { IfOk result (λ p. (k : ℕ) → slice_index_or p.sifting.items k [] ≡ []) }
+        ensures plain { IfOk result (λ p. p.is_plain ≡ true) }
     {
         let due = all_due(alloc, judge, forest, components)?;
         let touched = all_touched(alloc, judge, forest, components)?;
@@ -78,6 +90,7 @@ impl Plan {
             lasts,
             sifting,
             sifting_lasts,
+            is_plain: true,
         })
     }
 }
@@ -367,38 +380,35 @@ fn all_sifting<V: Ord, J: Guide<V>>(
     forest: &Forest,
     ranges: &[Range<V>],
     narrowing: &[Listed],
-    components: usize,
 ) -> Result<Vec<Listed>, AllocError>
     requires leaves { HaveLeavesWithin (J.conjuncts judge.now).number (trees_of forest.now) }
-    requires narrowing { AreAll (λ k. AreBelow (length (trees_of forest.now))) components narrowing.now }
-    requires room { components + 1 < 2 ^ 64 }
-    ensures { IfOk result (λ lists. AreAll (λ k. AreBelow (length (trees_of forest.now))) components lists.items) }
+    requires narrowing { AreAll (λ k. AreBelow (length (trees_of forest.now))) (length ranges.now) narrowing.now }
+    requires room { length ranges.now + 1 < 2 ^ 64 }
+    ensures { IfOk result (λ lists. AreAll (λ k. AreBelow (length (trees_of forest.now))) (length ranges.now) lists.items) }
 {
     let mut sifting = Vec::new(alloc);
-    for component in 0..components + 1 {
+    for component in 0..ranges.len() + 1 {
         let narrowed = &narrowing[component];
-        let may = narrowed.numbers.len() == 0;
-        sifting.push(sifting_at(alloc, judge, forest, ranges, may, component)?)?;
+        sifting.push(sifting_at(judge, forest, ranges, narrowed, component)?)?;
     }
     Ok(sifting)
 }
 
-/// The conjuncts by which the values of a component are sifted, if it may be: those that use the fewest components before it, where the others before it have many rows.
+/// The conjuncts by which the values of a component are sifted, where none narrows it: those that use the fewest components before it, where the others before it have many rows.
 #[tactic(auto, using(crate::proofs::Numbers::below_push))]
 fn sifting_at<V: Ord, J: Guide<V>>(
-    alloc: Global,
     judge: &J,
     forest: &Forest,
     ranges: &[Range<V>],
-    may: bool,
+    narrowed: &Listed,
     component: usize,
 ) -> Result<Listed, AllocError>
     requires leaves { HaveLeavesWithin (J.conjuncts judge.now).number (trees_of forest.now) }
     requires room { component + 1 < 2 ^ 64 }
     ensures { IfOk result (AreBelow (length (trees_of forest.now))) }
 {
-    let mut numbers = Vec::new(alloc);
-    if !may {
+    let mut numbers = Vec::new(*narrowed.numbers.allocator());
+    if narrowed.numbers.len() > 0 {
         return Ok(Listed { numbers });
     }
     let least = fewest_used(judge, forest, component);

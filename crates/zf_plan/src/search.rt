@@ -1,11 +1,12 @@
 //! Searches.
-ghost use Rattle.std.specs.Prelude.{◌≡◌, ◌<◌, ◌≤◌, length, IsTrue, IfOk, OnOk, OnErr, IsSomeAnd, IfSome, slice_get, slice_index_or, true, false, unwrap_or, List, []};
+ghost use Rattle.std.specs.Prelude.{◌≡◌, ◌<◌, ◌≤◌, ◌+◌, ◌∷◌, ◌++◌, length, drop, take, IsTrue, IfOk, OnOk, OnErr, IsSomeAnd, IfSome, slice_get, slice_index_or, true, false, unwrap_or, List, Option, []};
 ghost use Rattle.std.specs.Option.{option_copied};
 ghost use Rattle.zf_walk.specs.Rows.{IsRowOf};
 ghost use Rattle.zf_walk.specs.RowLaws.{TiesAreEqual, AreAscending, HasLength};
 ghost use Rattle.zf_walk.specs.Progress.{AreDueWithin, ended, AreAllAhead, Advances, Stays, AreTests, IsBounded};
 ghost use Rattle.zf_plan.specs.Trees.{planted, HaveLeavesWithin, IsFlat};
 ghost use Rattle.zf_plan.specs.Groves.{trees_of};
+ghost use Rattle.zf_plan.specs.Exchanges.{exchanged};
 ghost use Rattle.zf_plan.specs.Places.{IsSound, begun};
 ghost use Rattle.zf_plan.specs.Counts.{IsPlain};
 ghost use Rattle.zf_plan.specs.Progress.{SameProblem, counted};
@@ -17,6 +18,7 @@ use crate::marks::Marks;
 use crate::memo::Memo;
 use crate::place::Place;
 use crate::plan::Plan;
+use crate::problem::Problem;
 use crate::steps::next_answer;
 use std::alloc::{AllocError, Global};
 use std::marker::Model;
@@ -36,8 +38,6 @@ pub struct Search<'a, V: Ord, J: Guide<V>> {
     choices: Vec<Choice>,
     /// Whether the place is that of a row that the last step gave.
     given: bool,
-    /// Whether each conjunct is a leaf and no component is narrowed or sifted.
-    plain: bool,
 }
 
 impl<'a, V: Ord, J: Guide<V>> Model for Search<'a, V, J> {
@@ -47,9 +47,9 @@ impl<'a, V: Ord, J: Guide<V>> Model for Search<'a, V, J> {
 
     ghost Value = { Progress V J };
 
-    ghost view = { λ w. view_of w.judge w.forest w.ranges.items (option_copied w.after) w.place w.memo w.given w.plain };
+    ghost view = { λ w. view_of w.judge w.forest w.ranges.items (option_copied w.after) w.place w.memo w.given w.plan.is_plain };
 
-    ghost invariant = { λ w. IsStanding V.cmp (J.conjuncts w.judge) (J.is_used w.judge) w.forest w.ranges.items (option_copied w.after) w.plan w.place w.memo w.choices.items w.given w.plain };
+    ghost invariant = { λ w. IsStanding V.cmp (J.conjuncts w.judge) (J.is_used w.judge) w.forest w.ranges.items (option_copied w.after) w.plan w.place w.memo w.choices.items w.given w.plan.is_plain };
 }
 
 impl<'a, V: Ord + Drop, J: Guide<V> + Drop> Search<'a, V, J> {
@@ -70,8 +70,8 @@ impl<'a, V: Ord + Drop, J: Guide<V> + Drop> Search<'a, V, J> {
         ensures events { IfOk result (λ w. AreAllAhead V.cmp (planted (J.conjuncts judge) (trees_of forest)) ranges.items (option_copied after.entry) w.stage.ahead) }
         ensures first { IfOk result (λ w. w.stage.last ≡ None) }
     {
-        let plan = Plan::new(alloc, &judge, &forest, &ranges, ranges.len())?;
-        let search = Search::over(alloc, judge, forest, ranges, after, plan, false)?;
+        let plan = Plan::new(alloc, &judge, &forest, &ranges)?;
+        let search = Search::over(judge, forest, ranges, after, plan)?;
         Ok(search)
     }
 
@@ -92,27 +92,47 @@ impl<'a, V: Ord + Drop, J: Guide<V> + Drop> Search<'a, V, J> {
     {
         let forest = Forest::flat(alloc, judge.count())?;
         let plan = Plan::plain(alloc, &judge, &forest, ranges.len())?;
-        let search = Search::over(alloc, judge, forest, ranges, after, plan, true)?;
+        let search = Search::over(judge, forest, ranges, after, plan)?;
+        Ok(search)
+    }
+
+    /// Stands before the first event where some ranges are others, and no row is named. The plan stays; what was worked out of the rows before is let go.
+    pub fn exchange(self, others: Vec<Option<Range<V>>>) -> Result<Search<'a, V, J>, AllocError>
+        requires each { length others.items ≡ length self.stage.ranges }
+        requires ascending { AreAscending V.cmp (exchanged self.stage.ranges others.items) }
+        ensures problem { IfOk result (λ w. (w.judge ≡ self.entry.judge) × (w.forest ≡ self.entry.forest) × (w.stage.ranges ≡ exchanged self.entry.stage.ranges others.items) × (w.stage.after ≡ None)) }
+        ensures events { IfOk result (λ w. AreAllAhead V.cmp (planted (J.conjuncts self.entry.judge) (trees_of self.entry.forest)) (exchanged self.entry.stage.ranges others.items) None w.stage.ahead) }
+        ensures first { IfOk result (λ w. w.stage.last ≡ None) }
+    {
+        let Search {
+            judge,
+            forest,
+            ranges,
+            plan,
+            ..
+        } = self;
+        let ranges = with_others(ranges, others);
+        let search = Search::over(judge, forest, ranges, None, plan)?;
         Ok(search)
     }
 
     /// Stands before the first event, by this plan. Where a range is empty it is over at once, unless it counts tests.
     fn over(
-        alloc: Global,
         judge: J,
         forest: Forest,
         ranges: Vec<Range<V>>,
         after: Option<&'a [V]>,
         plan: Plan,
-        plain: bool,
     ) -> Result<Search<'a, V, J>, AllocError>
         requires sound { IsSound V.cmp (J.conjuncts judge) (J.is_used judge) (trees_of forest) ranges.items (option_copied after) plan }
-        requires plain { IsTrue plain → IsPlain (J.conjuncts judge) (trees_of forest) plan }
+        requires plain { IsTrue plan.is_plain → IsPlain (J.conjuncts judge) (trees_of forest) plan }
         ensures problem { IfOk result (λ w. (w.judge ≡ judge) × (w.forest ≡ forest) × (w.stage.ranges ≡ ranges.items) × (w.stage.after ≡ option_copied after.entry)) }
         ensures events { IfOk result (λ w. AreAllAhead V.cmp (planted (J.conjuncts judge) (trees_of forest)) ranges.items (option_copied after.entry) w.stage.ahead) }
-        ensures begun { IfOk result (λ w. plain ≡ true → w.stage.ahead ≡ begun) }
-        ensures first { IfOk result (λ w. (w.stage.last ≡ None) × (w.tests ≡ 0) × (w.counts ≡ plain)) }
+        ensures begun { IfOk result (λ w. plan.is_plain ≡ true → w.stage.ahead ≡ begun) }
+        ensures first { IfOk result (λ w. (w.stage.last ≡ None) × (w.tests ≡ 0) × (w.counts ≡ plan.is_plain)) }
     {
+        let alloc = *ranges.allocator();
+        let plain = plan.is_plain;
         let places = vec![in alloc; 0; ranges.len()]?;
         let memo = Memo::new(alloc, &judge, &ranges)?;
         let choices = all_chosen(alloc, ranges.len())?;
@@ -135,7 +155,6 @@ impl<'a, V: Ord + Drop, J: Guide<V> + Drop> Search<'a, V, J> {
             memo,
             choices,
             given: false,
-            plain,
         })
     }
 }
@@ -151,16 +170,14 @@ impl<'a, V: Ord, J: Guide<V>> Search<'a, V, J> {
         ensures ended { self.old.stage.ahead ≡ ended → result ≡ Ok Step.End }
     {
         self.given = false;
-        match next_answer(
-            &self.judge,
-            &self.forest,
-            &self.ranges,
-            self.after,
-            &self.plan,
-            &mut self.place,
-            &mut self.memo,
-            &mut self.choices,
-        )? {
+        let problem = Problem {
+            judge: &self.judge,
+            forest: &self.forest,
+            ranges: &self.ranges,
+            after: self.after,
+            plan: &self.plan,
+        };
+        match next_answer(&problem, &mut self.place, &mut self.memo, &mut self.choices)? {
             Step::Holds => {
                 self.given = true;
                 Ok(Step::Holds)
@@ -208,6 +225,31 @@ impl<'a, V: Ord, J: Guide<V>> Row<V> for Search<'a, V, J> {
 
     fn get(&self, i: usize) -> &V {
         self.value(i)
+    }
+}
+
+/// The ranges, some of them exchanged for others.
+fn with_others<V: Drop>(ranges: Vec<Range<V>>, others: Vec<Option<Range<V>>>) -> Vec<Range<V>>
+    requires { length others.items ≡ length ranges.items }
+    ensures { result.items ≡ exchanged ranges.items others.items }
+{
+    let mut ranges = ranges;
+    let mut place = 0;
+    for other in others {
+        put(&mut ranges, place, other);
+        place += 1;
+    }
+    ranges
+}
+
+/// Puts another range, if there is one, into the place of this one.
+fn put<V: Drop>(ranges: &mut Vec<Range<V>>, place: usize, other: Option<Range<V>>)
+    requires { place < length ranges.old.items }
+    ensures { ((others : List (Option (List V))) → take place ranges.old.items ++ exchanged (drop place ranges.old.items) (other ∷ others) ≡ take (place + 1) ranges.new.items ++ exchanged (drop (place + 1) ranges.new.items) others) × (length ranges.new.items ≡ length ranges.old.items) }
+{
+    match other {
+        None => {}
+        Some(range) => ranges[place] = range,
     }
 }
 

@@ -65,7 +65,7 @@ all_at P (d ∷ ds) (suc i) c g h = all_at P ds i c g h.1
 pub none_yet : (e : Environment) (cs : List Comp) (held : List (Option Value)) (rs : List (List Value)) → rs ≡ [] → AreAllRanges e (take 0 cs) held rs
 none_yet e cs held rs s = subst (λ (ys : List (List Value)). AreAllRanges e [] held ys) (sym s) (tt, λ place o. (cc (o.1)))
 
-whole : (cs : List Comp) (i : ℕ) → length cs ≤ i → take i cs ≡ cs
+pub whole : (cs : List Comp) (i : ℕ) → length cs ≤ i → take i cs ≡ cs
 whole [] zero l = refl
 whole [] (suc i) l = refl
 whole (c ∷ cs) zero l = absurd (omega arith)

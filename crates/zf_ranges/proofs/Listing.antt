@@ -1,5 +1,5 @@
 -- Ascending lists of exactly the values that pass.
-use Rattle.zf_ranges.proofs.Prelude.{◌++◌, ◌+◌, ◌<◌, ◌↔◌, ◌∷◌, ◌≡◌, ◌≤◌, ◌⊎◌, [], add-one, arith, get_or, inl, inr, length, List, subst, suc, sym, take, zero, ℕ, ⊎_elim, Less, ascending-push, every_at, every_from, member_at, members-append, members-push, members-take_more, take_all, IsAscending, IsMember, members, value_order, HaveSameMembers, Outcome, Undefined, Value}
+use Rattle.zf_ranges.proofs.Prelude.{◌++◌, ◌+◌, ◌<◌, ◌↔◌, ◌∷◌, ◌≡◌, ◌≤◌, ◌⊎◌, [], add-one, arith, get_or, inl, inr, length, List, subst, suc, sym, take, zero, ℕ, ⊎_elim, Less, ascending-push, every_at, every_from, member_at, members-append, members-push, members-take_more, take_all, IsAscending, IsMember, value_order, HaveSameMembers, Outcome, Undefined, Value}
 use Rattle.zf_ranges.specs.Parts.{Lists, Grows, IsListed, IsIn}
 
 -- the same values pass

@@ -1,5 +1,5 @@
--- The ranges of components one after another. No public clause rests on this.
-use Rattle.std.specs.Prelude.{◌≡◌, ℕ, suc, zero, List, Option}
+-- The ranges of components one after another. No public clause of a search rests on this.
+use Rattle.std.specs.Prelude.{◌≡◌, ℕ, suc, zero, List, [], ◌∷◌, Option, Some, None, IsSomeAnd}
 use Rattle.zf_term.specs.Definitions.{Comp, sets_of}
 use Rattle.zf_value.specs.declared.plain.Value.{Value}
 use Rattle.zf_meaning.specs.Environments.{Environment}
@@ -23,3 +23,14 @@ AreAllRanges e cs held ranges = AreRanges e cs held ranges × IsNoneOut e cs
 abbrev pub IsOutBy : Environment → Comp → ℕ → StartFault → Type 0
 IsOutBy e c place (DeclaredOut other) = (other ≡ place) × IsOneOut e (sets_of c.sets)
 IsOutBy e c place OutOfMemory = Unit {0}
+
+-- where a value of the component is held its range, else nothing
+abbrev pub IsHeldRange : Environment → Comp → Option Value → Option (List Value) → Type 0
+IsHeldRange e c None range = range ≡ None
+IsHeldRange e c (Some v) range = IsSomeAnd range (IsComponentRange e c (Some v))
+
+abbrev pub AreHeldRanges : Environment → List Comp → List (Option Value) → List (Option (List Value)) → Type 0
+AreHeldRanges e [] held [] = Unit {0}
+AreHeldRanges e [] held (range ∷ ranges) = ⊥
+AreHeldRanges e (c ∷ cs) held [] = ⊥
+AreHeldRanges e (c ∷ cs) held (range ∷ ranges) = IsHeldRange e c (first_held held) range × AreHeldRanges e cs (later_held held) ranges

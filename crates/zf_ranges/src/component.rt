@@ -5,13 +5,15 @@ ghost use Rattle.zf_term.specs.SchemaViews.{comp_of};
 ghost use Rattle.zf_term.specs.Definitions.{sets_of};
 ghost use Rattle.zf_finite.specs.Finite.{one_bounds};
 ghost use Rattle.zf_meaning.specs.Envs.{environment_of};
-ghost use Rattle.zf_ranges.specs.Components.{AreAllRanges, IsOneRange, IsOutBy, held_at};
-ghost use Rattle.zf_ranges.specs.Ranges.{Refuses};
+ghost use Rattle.zf_ranges.specs.Components.{AreAllRanges, AreHeldRanges, IsHeldRange, IsOneRange, IsOutBy, held_at};
+ghost use Rattle.zf_ranges.specs.DeclaredSets.{IsOneOut};
+ghost use Rattle.zf_ranges.specs.Ranges.{IsNoneOut, Refuses};
 
 use crate::lack::Lack;
 use crate::ranges::values_with;
+use crate::sharing::shared;
 use crate::start_fault::StartFault;
-use std::alloc::Global;
+use std::alloc::{AllocError, Global};
 use zf_meaning::env::Env;
 use zf_term::schema::Component;
 use zf_value::value::Value;
@@ -31,9 +33,51 @@ pub fn ranges<'a>(
     let mut ranges = Vec::with_capacity(alloc, components.len())?;
     for place in 0..components.len() {
         let of_this = value_held(held, place);
-        ranges.push(range_at(alloc, &components[place], place, of_this, env)?)?;
+        let range = range_at(alloc, &components[place], place, of_this, env)?;
+        ranges.push(shared(alloc, range, &ranges))?;
     }
     Ok(ranges)
+}
+
+/// Of each component of which a value is held the range, and nothing of the others.
+pub fn held_ranges<'a>(
+    alloc: Global,
+    components: &[Component<'a>],
+    held: &[Option<Value>],
+    env: &Env<'_, 'a>,
+) -> Result<Vec<Option<Range<Value>>>, AllocError>
+    requires bounded { AllByRecursion (λ c. IsTrue (one_bounds (environment_of env.now).numbers (environment_of env.now).globals (sets_of c.sets))) (map comp_of components.now) }
+    requires none_out { IsNoneOut (environment_of env.now) (map comp_of components.now) }
+    ensures { IfOk result (λ rs. AreHeldRanges (environment_of env.now) (map comp_of components.now) held.now rs.items) }
+{
+    let mut ranges = Vec::with_capacity(alloc, components.len())?;
+    for place in 0..components.len() {
+        let of_this = value_held(held, place);
+        ranges.push(held_range(alloc, &components[place], place, of_this, env)?)?;
+    }
+    Ok(ranges)
+}
+
+/// The range of the component at this place, if a value of it is held.
+fn held_range<'a>(
+    alloc: Global,
+    component: &Component<'a>,
+    place: usize,
+    held: Option<&Value>,
+    env: &Env<'_, 'a>,
+) -> Result<Option<Range<Value>>, AllocError>
+    requires bounded { IsTrue (one_bounds (environment_of env.now).numbers (environment_of env.now).globals (sets_of (comp_of component.now).sets)) }
+    requires not_out { IsOneOut (environment_of env.now) (sets_of (comp_of component.now).sets) → ⊥ }
+    ensures { IfOk result (IsHeldRange (environment_of env.now) (comp_of component.now) (option_map (λ k. k.now) held.entry)) }
+{
+    let Some(value) = held else {
+        return Ok(None);
+    };
+    match range_at(alloc, component, place, Some(value), env) {
+        Ok(range) => Ok(Some(range)),
+        Err(StartFault::DeclaredOut(_)) => unreachable!(),
+        Err(StartFault::OutOfMemory) => Err(AllocError),
+    }
 }
 
 /// What is held of the component at this place.

@@ -10,6 +10,7 @@ mod leaves;
 mod members;
 mod of_type;
 mod ranges;
+mod sharing;
 mod start_fault;
 mod weight;
 

@@ -1,5 +1,5 @@
 -- A search that is begun anew for each state. Public clauses cite `CanSearch` and `CanSearchAll` alone.
-use Rattle.std.specs.Prelude.{◌≡◌, List, [], length, Option, None, Some}
+use Rattle.std.specs.Prelude.{◌≡◌, ◌≢◌, ◌⊎◌, ℕ, Bool, true, List, [], length, Option, None, Some, slice_get}
 use Rattle.std.specs.List.{AllByRecursion}
 use Rattle.zf_term.specs.Definitions.{Schema}
 use Rattle.zf_term.specs.SchemaViews.{schema_of}
@@ -11,7 +11,8 @@ use Rattle.zf_meaning.specs.Environments.{Environment}
 use Rattle.zf_meaning.specs.Envs.{environment_of}
 use Rattle.zf_enum.specs.declared.instances.Instances.{Instances}
 use Rattle.zf_enum.specs.Property.{property}
-use Rattle.zf_ranges.specs.Ranges.{IsNoneOut}
+use Rattle.zf_ranges.specs.Components.{held_at}
+use Rattle.zf_ranges.specs.Ranges.{AreRanges, IsNoneOut}
 use Rattle.zf_enum.specs.Searches.{conjuncts_of, planted_goal}
 use Rattle.zf_steps.specs.declared.renewed.Renewed.{Renewed}
 use Rattle.zf_steps.specs.Systems.{System}
@@ -32,13 +33,28 @@ abbrev pub stage_of : Option Instances → Stage Value
 stage_of None = record { ranges = []; after = None; last = None; ahead = ended }
 stage_of (Some i) = i.search.stage
 
--- it goes by the conjuncts of the schema
-abbrev pub GoesBy : Option Instances → Environment → Schema → Type 0
-GoesBy None e a = Unit {0}
-GoesBy (Some i) e a = SayTheSame (conjuncts_of (planted_goal i.names i.search)) (property e a.conjuncts)
+-- the components of which a value is held are marked
+abbrev pub AreMarked : (held : List (Option Value)) → (given : List Bool) → Type 0
+AreMarked held given = (place : ℕ) → (held_at place held ≡ None) ⊎ (slice_get given place ≡ Some true)
+
+-- of each that is marked a value is held
+abbrev pub AreMarkedHeld : (given : List Bool) → (held : List (Option Value)) → Type 0
+AreMarkedHeld given held = (place : ℕ) → slice_get given place ≡ Some true → held_at place held ≢ None
+
+-- it goes by the conjuncts of the schema, over ranges where values of marked components are held
+pub record GoesOver (i : Instances) (given : List Bool) (e : Environment) (a : Schema) : Type 0 where
+  pub environment : (planted_goal i.names i.search).environment ≡ e
+  pub same : SayTheSame (conjuncts_of (planted_goal i.names i.search)) (property e a.conjuncts)
+  pub before : List (Option Value)
+  pub ranges : AreRanges e a.comps before i.search.stage.ranges
+  pub marked : AreMarked before given
+
+abbrev pub GoesBy : Option Instances → (given : List Bool) → Environment → Schema → Type 0
+GoesBy None given e a = Unit {0}
+GoesBy (Some i) given e a = GoesOver i given e a
 
 pub record IsFor (r : Renewed) (e : Environment) (a : Schema) : Type 0 where
   pub environment : environment_of r.env.now ≡ e
   pub schema : schema_of r.flat.now ≡ a
   pub can : CanSearch e a
-  pub goes_by : GoesBy r.search e a
+  pub goes_by : GoesBy r.search r.given.items e a

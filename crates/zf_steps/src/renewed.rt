@@ -1,14 +1,20 @@
 //! A search that is begun anew for each state.
-ghost use Rattle.std.specs.Prelude.{IfOk, List, map};
+ghost use Rattle.std.specs.Prelude.{◌≡◌, ◌≢◌, IfOk, IfSome, List, None, map, true};
 ghost use Rattle.std.specs.List.{AllByRecursion};
+ghost use Rattle.std.specs.Option.{is_some};
 ghost use Rattle.zf_ranges.specs.Ranges.{IsNoneOut, Refuses};
 ghost use Rattle.zf_meaning.specs.Environments.{Environment};
 ghost use Rattle.zf_meaning.specs.Envs.{environment_of};
 ghost use Rattle.zf_steps.specs.Fitting.{AreFor};
 ghost use Rattle.zf_steps.specs.Machines.{Fits};
-ghost use Rattle.zf_steps.specs.Renewing.{CanSearch, CanSearchAll, IsFor};
+ghost use Rattle.zf_enum.specs.Holding.{CanHold};
+ghost use Rattle.zf_enum.specs.PortionViews.{portion};
+ghost use Rattle.zf_enum.specs.Searches.{planted_goal};
+ghost use Rattle.zf_enum.specs.Starts.{Begins};
+ghost use Rattle.zf_ranges.specs.Components.{held_at};
+ghost use Rattle.zf_steps.specs.Renewing.{AreMarkedHeld, CanSearch, CanSearchAll, IsFor};
 ghost use Rattle.zf_steps.specs.Systems.{operation_of, system_of};
-ghost use Rattle.zf_term.specs.Definitions.{Comp};
+ghost use Rattle.zf_term.specs.Definitions.{Comp, Schema};
 ghost use Rattle.zf_term.specs.SchemaViews.{schema_of};
 
 use crate::cursor::{Cursor, Part};
@@ -24,7 +30,7 @@ use zf_term::schema::Flat;
 use zf_value::value::Value;
 use zf_walk::Step;
 
-/// The search for the bindings of a schema, begun anew whenever other values are held. What each begins with stays in the arena.
+/// The search for the bindings of a schema, begun again whenever other values are held. What the first begins with stays in the arena; so does what another does where values of other components are held.
 #[derive(Drop)]
 pub struct Renewed<'p, 'e, 'g, 'a> {
     alloc: Global,
@@ -32,6 +38,8 @@ pub struct Renewed<'p, 'e, 'g, 'a> {
     flat: &'p Flat<'a>,
     env: &'e Env<'g, 'a>,
     search: Option<Instances<'e, 'e, 'g, 'a>>,
+    /// For each component whether a value of it was held when that was begun.
+    given: Vec<bool>,
 }
 
 impl<'p, 'e, 'g, 'a> Renewed<'p, 'e, 'g, 'a> {
@@ -50,6 +58,52 @@ impl<'p, 'e, 'g, 'a> Renewed<'p, 'e, 'g, 'a> {
             flat,
             env,
             search: None,
+            given: Vec::new(alloc),
+        }
+    }
+
+    /// The last search, if it can be begun again with these values.
+    fn last(&mut self, held: &[Option<Value>]) -> Option<Instances<'e, 'e, 'g, 'a>>
+        requires { (e : Environment) × (a : Schema) × IsFor self.old e a }
+        ensures same { (self.new.env ≡ self.old.env) × (self.new.flat ≡ self.old.flat) × (self.new.search ≡ None) }
+        ensures again { IfSome result (λ i. CanHold (environment_of self.old.env.now) (schema_of self.old.flat.now) held.now (planted_goal i.names i.search) i.search.stage.ranges) }
+    {
+        match self.search.take() {
+            None => None,
+            Some(search) => {
+                if are_held_again(&self.given, held) {
+                    Some(search)
+                } else {
+                    None
+                }
+            }
+        }
+    }
+
+    /// The search for what has these values: the last one begun again, if there is one, or one from the beginning.
+    fn begun(
+        &self,
+        last: Option<Instances<'e, 'e, 'g, 'a>>,
+        held: &[Option<Value>],
+    ) -> Result<Instances<'e, 'e, 'g, 'a>, AllocError>
+        requires can { CanSearch (environment_of self.now.env.now) (schema_of self.now.flat.now) }
+        requires again { IfSome last (λ i. CanHold (environment_of self.now.env.now) (schema_of self.now.flat.now) held.now (planted_goal i.names i.search) i.search.stage.ranges) }
+        ensures { IfOk result (λ i. Begins (environment_of self.now.env.now) (schema_of self.now.flat.now) (portion None held.now) (planted_goal i.names i.search) i.search.stage) }
+    {
+        match last {
+            Some(search) => search.holding(self.alloc, self.flat, self.env, held),
+            None => self.started(held),
+        }
+    }
+
+    /// One from the beginning.
+    fn started(&self, held: &[Option<Value>]) -> Result<Instances<'e, 'e, 'g, 'a>, AllocError>
+        requires { CanSearch (environment_of self.now.env.now) (schema_of self.now.flat.now) }
+        ensures { IfOk result (λ i. Begins (environment_of self.now.env.now) (schema_of self.now.flat.now) (portion None held.now) (planted_goal i.names i.search) i.search.stage) }
+    {
+        match Instances::start(self.alloc, self.arena, self.flat, self.env, None, held) {
+            Ok(begun) => Ok(begun),
+            Err(fault) => Err(no_memory(fault)),
         }
     }
 }
@@ -87,13 +141,12 @@ impl<'p, 'e, 'g, 'a> Finder for Renewed<'p, 'e, 'g, 'a> {
     ghost given = { λ r. refl };
 
     fn hold(&mut self, held: &[Option<Value>]) -> Result<(), AllocError> {
-        match Instances::start(self.alloc, self.arena, self.flat, self.env, None, held) {
-            Ok(begun) => {
-                self.search = Some(begun);
-                Ok(())
-            }
-            Err(fault) => Err(no_memory(fault)),
-        }
+        let given = are_given(self.alloc, held)?;
+        let last = self.last(held);
+        let begun = self.begun(last, held)?;
+        self.search = Some(begun);
+        self.given = given;
+        Ok(())
     }
 
     fn advance(&mut self) -> Result<Step, AllocError> {
@@ -136,6 +189,41 @@ fn searches_among<'p, 'g, 'a>(
         searches.push(Renewed::new(system.alloc, arena, operation.schema, system.env))?;
     }
     Ok(searches)
+}
+
+/// For each component whether a value of it is held.
+fn are_given(alloc: Global, held: &[Option<Value>]) -> Result<Vec<bool>, AllocError>
+    ensures { IfOk result (λ given. given.items ≡ map is_some held.now) }
+{
+    let mut given = Vec::with_capacity(alloc, held.len())?;
+    for value in held {
+        given.push(value.is_some())?;
+    }
+    Ok(given)
+}
+
+/// Whether of each component of which a value was held one is held again.
+fn are_held_again(given: &[bool], held: &[Option<Value>]) -> bool
+    ensures { result ≡ true → AreMarkedHeld given.now held.now }
+{
+    for place in 0..given.len() {
+        if given[place] {
+            if !is_held(held, place) {
+                return false;
+            }
+        }
+    }
+    true
+}
+
+/// Whether a value of the component at this place is held.
+fn is_held(held: &[Option<Value>], place: usize) -> bool
+    ensures { result ≡ true → held_at place held.now ≢ None }
+{
+    match held.get(place) {
+        Some(value) => value.is_some(),
+        None => false,
+    }
 }
 
 /// Where no declared set is out, what is missing is memory.

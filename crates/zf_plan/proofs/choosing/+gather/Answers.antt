@@ -8,13 +8,13 @@ if-ok (Err e) P Q f h = tt
 
 pub returns-in-Some-False-clause-narrows : goal.returns-in-Some-False-clause-narrows
 returns-in-Some-False-clause-narrows g t c =
-    let l = g.J.Judge.conjuncts c.args.judge.now in
-    let made = trees_made c.args.forest.now in
+    let l = g.J.Judge.conjuncts c.args.problem.now.judge.now in
+    let made = trees_made c.args.problem.now.forest.now in
     let left = tree_at made c.in-Or.left in
     let right = tree_at made c.in-Or.right in
-    let ranges = c.args.ranges.now in
-    let row = picked c.args.ranges.now c.args.places.now in
-    let range = get_or c.args.ranges.now (length c.args.places.now) [] in
+    let ranges = c.args.problem.now.ranges.now in
+    let row = picked c.args.problem.now.ranges.now c.args.places.now in
+    let range = get_or c.args.problem.now.ranges.now (length c.args.places.now) [] in
     let xs = c.gather-in-Some-False.new.gathered.items in
     let settled : IsSettled l left row False = search rules in
     if-ok c.gather-in-Some-False.result (λ found. IsTrue found → Narrows l right ranges row range xs) (λ found. IsTrue found → Narrows l (tree_at made c.args.part) ranges row range xs)
@@ -23,13 +23,13 @@ returns-in-Some-False-clause-narrows g t c =
 
 pub returns-after-known-3-clause-narrows : goal.returns-after-known-3-clause-narrows
 returns-after-known-3-clause-narrows g t c =
-    let l = g.J.Judge.conjuncts c.args.judge.now in
-    let made = trees_made c.args.forest.now in
+    let l = g.J.Judge.conjuncts c.args.problem.now.judge.now in
+    let made = trees_made c.args.problem.now.forest.now in
     let left = tree_at made c.in-Or.left in
     let right = tree_at made c.in-Or.right in
-    let ranges = c.args.ranges.now in
-    let row = picked c.args.ranges.now c.args.places.now in
-    let range = get_or c.args.ranges.now (length c.args.places.now) [] in
+    let ranges = c.args.problem.now.ranges.now in
+    let row = picked c.args.problem.now.ranges.now c.args.places.now in
+    let range = get_or c.args.problem.now.ranges.now (length c.args.places.now) [] in
     let xs = c.gather-in-Or.new.gathered.items in
     let ys = c.gather-in-Or-2.new.gathered.items in
     if-ok c.gather-in-Or-2.result (λ found. IsTrue found → Narrows l right ranges row range ys) (λ found. IsTrue found → Narrows l (tree_at made c.args.part) ranges row range ys)

@@ -4,11 +4,11 @@ use Rattle.zf_plan.proofs.choosing.choose.Goals as goal
 
 pub returns-in-Some-clause-choice : goal.returns-in-Some-clause-choice
 returns-in-Some-clause-choice g c =
-    let l = g.J.Judge.conjuncts c.args.judge.now in
-    let trees = trees_of c.args.forest.now in
-    let ranges = c.args.ranges.now in
+    let l = g.J.Judge.conjuncts c.args.problem.now.judge.now in
+    let trees = trees_of c.args.problem.now.forest.now in
+    let ranges = c.args.problem.now.ranges.now in
     let places = c.args.places.now in
-    let conjuncts = c.args.conjuncts.now in
+    let conjuncts = c.args.by.now.conjuncts.now in
     let lasts = c.requires.lasts in
     let i = c.in-Some.i in
     let left = c.gather_first.new.gathered.items in
@@ -16,5 +16,5 @@ returns-in-Some-clause-choice g c =
     let narrows : Narrows l (tree_at trees (get_or conjuncts i 0)) ranges (picked ranges places) (get_or ranges (length places) []) left =
     subst (λ found. IfSome found (λ j. Narrows l (tree_at trees (get_or conjuncts j 0)) ranges (picked ranges places) (get_or ranges (length places) []) left)) c.in-Some.is c.in_ok-found.ensures.narrows in
     let conjunct : get_or conjuncts i 0 < length trees = c.requires.conjuncts i within in
-    stays-narrowed l trees ranges (length places) (get_or c.args.lasts.now i 0) places (g.J.Judge.is_used c.args.judge.now) (g.met.J.Judge.follow_used c.args.judge.now) c.requires.due c.requires.within refl
-    (get_or conjuncts i 0) conjunct (c.requires.leaves (get_or conjuncts i 0) (leaf 0) conjunct) (lasts.each i (omega (arith, lasts.all, within))).1 left narrows
+    stays-narrowed l trees ranges (length places) (get_or c.args.by.now.lasts.now i 0) places (g.J.Judge.is_used c.args.problem.now.judge.now) (g.met.J.Judge.follow_used c.args.problem.now.judge.now) c.requires.sound.due c.requires.within refl
+    (get_or conjuncts i 0) conjunct (c.requires.sound.leaves (get_or conjuncts i 0) (leaf 0) conjunct) (lasts.each i (omega (arith, lasts.all, within))).1 left narrows

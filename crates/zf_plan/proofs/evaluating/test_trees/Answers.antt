@@ -5,23 +5,23 @@ use Rattle.zf_plan.proofs.evaluating.test_trees.Goals as goal
 
 pub loop-i-init : goal.loop-i-init
 loop-i-init g c =
-    let l = g.J.Judge.conjuncts c.args.judge.now in
-    let row = picked c.args.ranges.now c.args.places.now in
-    let long = length-picked c.args.ranges.now c.args.places.now c.requires.within in (
+    let l = g.J.Judge.conjuncts c.args.problem.now.judge.now in
+    let row = picked c.args.problem.now.ranges.now c.args.places.now in
+    let long = length-picked c.args.problem.now.ranges.now c.args.places.now c.requires.within in (
       c.requires.remembers,
       refl,
       c.requires.before,
       (λ e. refl),
-      first-none l (trees_of c.args.forest.now) (length c.args.places.now) row long c.args.conjuncts.now c.args.before c.requires.so_far,
+      first-none l (trees_of c.args.problem.now.forest.now) (length c.args.places.now) row long c.args.conjuncts.now c.args.before c.requires.so_far,
     )
 
 pub loop-i-preserved : goal.loop-i-preserved
 loop-i-preserved g c =
-    let l = g.J.Judge.conjuncts c.args.judge.now in
-    let trees = trees_of c.args.forest.now in
-    let row = picked c.args.ranges.now c.args.places.now in
+    let l = g.J.Judge.conjuncts c.args.problem.now.judge.now in
+    let trees = trees_of c.args.problem.now.forest.now in
+    let row = picked c.args.problem.now.ranges.now c.args.places.now in
     let k = length c.args.places.now in
-    let long = length-picked c.args.ranges.now c.args.places.now c.requires.within in
+    let long = length-picked c.args.problem.now.ranges.now c.args.places.now c.requires.within in
     let i = c.loop-i.i in
     let conjunct = get_or c.args.conjuncts.now i 0 in
     let before = c.loop-i.invariant in
@@ -36,11 +36,11 @@ loop-i-preserved g c =
 
 pub returns-in-False-clause-so_far : goal.returns-in-False-clause-so_far
 returns-in-False-clause-so_far g c =
-    let l = g.J.Judge.conjuncts c.args.judge.now in
-    let trees = trees_of c.args.forest.now in
-    let row = picked c.args.ranges.now c.args.places.now in
+    let l = g.J.Judge.conjuncts c.args.problem.now.judge.now in
+    let trees = trees_of c.args.problem.now.forest.now in
+    let row = picked c.args.problem.now.ranges.now c.args.places.now in
     let k = length c.args.places.now in
-    let long = length-picked c.args.ranges.now c.args.places.now c.requires.within in
+    let long = length-picked c.args.problem.now.ranges.now c.args.places.now c.requires.within in
     let i = c.loop-i.i in
     let conjunct = get_or c.args.conjuncts.now i 0 in
     let before = c.loop-i.invariant in
@@ -52,11 +52,11 @@ returns-in-False-clause-so_far g c =
 
 pub returns-clause-so_far : goal.returns-clause-so_far
 returns-clause-so_far g c =
-    let l = g.J.Judge.conjuncts c.args.judge.now in
-    let trees = trees_of c.args.forest.now in
-    let row = picked c.args.ranges.now c.args.places.now in
+    let l = g.J.Judge.conjuncts c.args.problem.now.judge.now in
+    let trees = trees_of c.args.problem.now.forest.now in
+    let row = picked c.args.problem.now.ranges.now c.args.places.now in
     let k = length c.args.places.now in
-    let long = length-picked c.args.ranges.now c.args.places.now c.requires.within in
+    let long = length-picked c.args.problem.now.ranges.now c.args.places.now c.requires.within in
     let all : c.loop-i.i ≡ length c.args.conjuncts.now = omega (arith, c.loop-i-test.false, c.loop-i.auto.i-end) in
     first-all l trees k row long c.args.conjuncts.now c.loop-i.all
     (subst (λ i. IsSoFar l trees row (IsFirst l trees k c.args.conjuncts.now i) c.loop-i.all) all c.loop-i.invariant.4)

@@ -4,4 +4,4 @@ use Rattle.zf_plan.proofs.sieve.is_one_false.Given as goal
 -- What is remembered is right, and no test is counted.
 abbrev pub invariant-loop-i : goal.invariant-loop-i
 invariant-loop-i g l =
-    Remembers (g.J.Judge.conjuncts l.judge) (g.J.Judge.is_used l.judge) l.ranges l.places l.memo × (l.memo.tests ≡ l.initial.memo.tests)
+    Remembers (g.J.Judge.conjuncts l.problem.judge.now) (g.J.Judge.is_used l.problem.judge.now) l.problem.ranges.now l.places l.memo × (l.memo.tests ≡ l.initial.memo.tests)

@@ -9,13 +9,13 @@ loop-place-init g c = record {
   same = search rules;
   remembers = c.requires.remembers;
   tests = refl;
-  passes = subst (AreSifted (g.J.Judge.conjuncts c.args.judge.now) (trees_of c.args.forest.now) c.args.ranges.now c.args.conjuncts.now c.args.places.now 0) (sym c.clear.ensures.items)
-      (sifted-none (g.J.Judge.conjuncts c.args.judge.now) (trees_of c.args.forest.now) c.args.ranges.now c.args.conjuncts.now c.args.places.now);
+  passes = subst (AreSifted (g.J.Judge.conjuncts c.args.problem.now.judge.now) (trees_of c.args.problem.now.forest.now) c.args.problem.now.ranges.now c.args.conjuncts.now c.args.places.now 0) (sym c.clear.ensures.items)
+      (sifted-none (g.J.Judge.conjuncts c.args.problem.now.judge.now) (trees_of c.args.problem.now.forest.now) c.args.problem.now.ranges.now c.args.conjuncts.now c.args.places.now);
 }
 
 pub is_one_false-requires-clause-within : goal.is_one_false-requires-clause-within
 is_one_false-requires-clause-within g c =
-    let ranges = c.args.ranges.now in
+    let ranges = c.args.problem.now.ranges.now in
     let places = c.args.places.now in
     let k = length places in
     let place = c.loop-place.place in
@@ -27,9 +27,9 @@ is_one_false-requires-clause-within g c =
 
 pub is_one_false-requires-clause-remembers : goal.is_one_false-requires-clause-remembers
 is_one_false-requires-clause-remembers g c =
-    let l = g.J.Judge.conjuncts c.args.judge.now in
-    let uses = g.J.Judge.is_used c.args.judge.now in
-    let ranges = c.args.ranges.now in
+    let l = g.J.Judge.conjuncts c.args.problem.now.judge.now in
+    let uses = g.J.Judge.is_used c.args.problem.now.judge.now in
+    let ranges = c.args.problem.now.ranges.now in
     let places = c.args.places.now in
     let place = c.loop-place.place in
     let longer : c.deref.result.now ≡ places ++ place ∷ [] = c.deref.ensures.value ∙ c.in_ok-push.ensures.items ∙ ap (λ (js : List ℕ). js ++ place ∷ []) c.loop-place.invariant.same in
@@ -37,9 +37,9 @@ is_one_false-requires-clause-remembers g c =
 
 pub returns-in_err-is_false-clause-remembers : goal.returns-in_err-is_false-clause-remembers
 returns-in_err-is_false-clause-remembers g c =
-    let l = g.J.Judge.conjuncts c.args.judge.now in
-    let uses = g.J.Judge.is_used c.args.judge.now in
-    let ranges = c.args.ranges.now in
+    let l = g.J.Judge.conjuncts c.args.problem.now.judge.now in
+    let uses = g.J.Judge.is_used c.args.problem.now.judge.now in
+    let ranges = c.args.problem.now.ranges.now in
     let places = c.args.places.now in
     let place = c.loop-place.place in
     let longer : c.deref.result.now ≡ places ++ place ∷ [] = c.deref.ensures.value ∙ c.in_ok-push.ensures.items ∙ ap (λ (js : List ℕ). js ++ place ∷ []) c.loop-place.invariant.same in
@@ -47,9 +47,9 @@ returns-in_err-is_false-clause-remembers g c =
 
 pub returns-in_err-push-2-clause-remembers : goal.returns-in_err-push-2-clause-remembers
 returns-in_err-push-2-clause-remembers g c =
-    let l = g.J.Judge.conjuncts c.args.judge.now in
-    let uses = g.J.Judge.is_used c.args.judge.now in
-    let ranges = c.args.ranges.now in
+    let l = g.J.Judge.conjuncts c.args.problem.now.judge.now in
+    let uses = g.J.Judge.is_used c.args.problem.now.judge.now in
+    let ranges = c.args.problem.now.ranges.now in
     let places = c.args.places.now in
     let place = c.loop-place.place in
     let longer : c.deref.result.now ≡ places ++ place ∷ [] = c.deref.ensures.value ∙ c.in_ok-push.ensures.items ∙ ap (λ (js : List ℕ). js ++ place ∷ []) c.loop-place.invariant.same in
@@ -57,10 +57,10 @@ returns-in_err-push-2-clause-remembers g c =
 
 pub loop-place-preserved : goal.loop-place-preserved
 loop-place-preserved g c =
-    let l = g.J.Judge.conjuncts c.args.judge.now in
-    let uses = g.J.Judge.is_used c.args.judge.now in
-    let trees = trees_of c.args.forest.now in
-    let ranges = c.args.ranges.now in
+    let l = g.J.Judge.conjuncts c.args.problem.now.judge.now in
+    let uses = g.J.Judge.is_used c.args.problem.now.judge.now in
+    let trees = trees_of c.args.problem.now.forest.now in
+    let ranges = c.args.problem.now.ranges.now in
     let places = c.args.places.now in
     let conjuncts = c.args.conjuncts.now in
     let place = c.loop-place.place in
@@ -78,10 +78,10 @@ loop-place-preserved g c =
 
 pub returns-clause-sifted : goal.returns-clause-sifted
 returns-clause-sifted g c =
-    let ranges = c.args.ranges.now in
+    let ranges = c.args.problem.now.ranges.now in
     let places = c.args.places.now in
     let k = length places in
     let v = c.range.inside.values in
     let column = range-is ranges k c.index-ranges-next.result c.requires.deeper c.index-ranges-next.is in
     let all : c.loop-place.place ≡ length (get_or ranges k []) = omega (arith, c.loop-place-test.false, c.loop-place.auto.place-end, c.len-place-end.ensures, v.ok.0, ap length c.range.view_is, ap length column) in
-    subst (λ n. AreSifted (g.J.Judge.conjuncts c.args.judge.now) (trees_of c.args.forest.now) ranges c.args.conjuncts.now places n c.loop-place.passes.items) all c.loop-place.invariant.passes
+    subst (λ n. AreSifted (g.J.Judge.conjuncts c.args.problem.now.judge.now) (trees_of c.args.problem.now.forest.now) ranges c.args.conjuncts.now places n c.loop-place.passes.items) all c.loop-place.invariant.passes

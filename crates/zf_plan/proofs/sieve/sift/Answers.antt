@@ -12,8 +12,8 @@ returns-clause-few g c = c.greatest.ensures.least (length c.args.places.now) (λ
 
 pub returns-clause-choice : goal.returns-clause-choice
 returns-clause-choice g c =
-    sifted-stays (g.J.Judge.conjuncts c.args.judge.now) (trees_of c.args.forest.now) c.args.ranges.now (length c.args.places.now) c.greatest.result c.args.places.now (g.J.Judge.is_used c.args.judge.now)
-    (g.met.J.Judge.follow_used c.args.judge.now) c.requires.due c.requires.within refl c.requires.deeper c.args.conjuncts.now c.args.lasts.now c.requires.conjuncts c.requires.lasts c.requires.leaves
+    sifted-stays (g.J.Judge.conjuncts c.args.problem.now.judge.now) (trees_of c.args.problem.now.forest.now) c.args.problem.now.ranges.now (length c.args.places.now) c.greatest.result c.args.places.now (g.J.Judge.is_used c.args.problem.now.judge.now)
+    (g.met.J.Judge.follow_used c.args.problem.now.judge.now) c.requires.sound.due c.requires.within refl c.requires.deeper c.args.by.now.conjuncts.now c.args.by.now.lasts.now c.requires.conjuncts c.requires.lasts c.requires.sound.leaves
     c.greatest.ensures.all c.mark_passing.new.passes.items c.in_ok-mark_passing.ensures.sifted
 
 pub returns-in_err-mark_passing-clause-refused : goal.returns-in_err-mark_passing-clause-refused

@@ -21,41 +21,41 @@ on-err (Err e) P p = p
 
 pub returns-then-place-eq0-clause-goes : goal.returns-then-place-eq0-clause-goes
 returns-then-place-eq0-clause-goes g c =
-    let given = setting-of g.met.V.Ord.total (g.met.J.Judge.one_truth c.args.judge.now) (g.met.J.Judge.kept c.args.judge.now) c.requires.sound in
+    let given = setting-of g.met.V.Ord.total (g.met.J.Judge.one_truth c.args.problem.now.judge.now) (g.met.J.Judge.kept c.args.problem.now.judge.now) c.requires.sound in
     gives-end given c.args.place.now c.if-not-place.true c.if-place-eq0.true
 
 pub returns-then-not-place-clause-goes : goal.returns-then-not-place-clause-goes
 returns-then-not-place-clause-goes g c =
-    let l = g.J.Judge.conjuncts c.args.judge.now in
-    let uses = g.J.Judge.is_used c.args.judge.now in
-    let trees = trees_of c.args.forest.now in
-    let ranges = c.args.ranges.now in
-    let after = option_copied c.args.after in
+    let l = g.J.Judge.conjuncts c.args.problem.now.judge.now in
+    let uses = g.J.Judge.is_used c.args.problem.now.judge.now in
+    let trees = trees_of c.args.problem.now.forest.now in
+    let ranges = c.args.problem.now.ranges.now in
+    let after = option_copied c.args.problem.now.after in
     let p : Place = c.args.place.now in
-    let given = setting-of g.met.V.Ord.total (g.met.J.Judge.one_truth c.args.judge.now) (g.met.J.Judge.kept c.args.judge.now) c.requires.sound in
+    let given = setting-of g.met.V.Ord.total (g.met.J.Judge.one_truth c.args.problem.now.judge.now) (g.met.J.Judge.kept c.args.problem.now.judge.now) c.requires.sound in
     retreats given uses p c.retreat.new.place c.args.memo.now c.args.choices.now (p.depth - 1) c.requires.stands c.if-not-place.true (omega arith) c.retreat.ensures.lands
 
 pub returns-then-not-place-clause-stands : goal.returns-then-not-place-clause-stands
 returns-then-not-place-clause-stands g c =
-    let l = g.J.Judge.conjuncts c.args.judge.now in
-    let uses = g.J.Judge.is_used c.args.judge.now in
-    let trees = trees_of c.args.forest.now in
-    let ranges = c.args.ranges.now in
-    let after = option_copied c.args.after in
+    let l = g.J.Judge.conjuncts c.args.problem.now.judge.now in
+    let uses = g.J.Judge.is_used c.args.problem.now.judge.now in
+    let trees = trees_of c.args.problem.now.forest.now in
+    let ranges = c.args.problem.now.ranges.now in
+    let after = option_copied c.args.problem.now.after in
     let p : Place = c.args.place.now in
-    let given = setting-of g.met.V.Ord.total (g.met.J.Judge.one_truth c.args.judge.now) (g.met.J.Judge.kept c.args.judge.now) c.requires.sound in
+    let given = setting-of g.met.V.Ord.total (g.met.J.Judge.one_truth c.args.problem.now.judge.now) (g.met.J.Judge.kept c.args.problem.now.judge.now) c.requires.sound in
     retreats-stand given uses p c.retreat.new.place c.args.memo.now c.args.choices.now (p.depth - 1) c.requires.stands c.if-not-place.true (omega arith) c.retreat.ensures.lands
     c.retreat.new.memo (subst (λ n. Forgets n c.args.memo.now c.retreat.new.memo) (omega arith) c.retreat.ensures.forgets)
 
 pub returns-then-not-place-clause-counts : goal.returns-then-not-place-clause-counts
 returns-then-not-place-clause-counts g c = λ plain h.
-    let l = g.J.Judge.conjuncts c.args.judge.now in
-    let uses = g.J.Judge.is_used c.args.judge.now in
-    let trees = trees_of c.args.forest.now in
-    let ranges = c.args.ranges.now in
-    let after = option_copied c.args.after in
+    let l = g.J.Judge.conjuncts c.args.problem.now.judge.now in
+    let uses = g.J.Judge.is_used c.args.problem.now.judge.now in
+    let trees = trees_of c.args.problem.now.forest.now in
+    let ranges = c.args.problem.now.ranges.now in
+    let after = option_copied c.args.problem.now.after in
     let p : Place = c.args.place.now in
-    let basis = basis-of g.met.V.Ord.total (g.met.J.Judge.one_truth c.args.judge.now) (g.met.J.Judge.kept c.args.judge.now) c.requires.sound in
+    let basis = basis-of g.met.V.Ord.total (g.met.J.Judge.one_truth c.args.problem.now.judge.now) (g.met.J.Judge.kept c.args.problem.now.judge.now) c.requires.sound in
     let tests = c.args.memo.now.tests in
     let choices = c.args.choices.now in
     subst (λ n. IsCounted g.V.Ord.cmp l ranges after c.retreat.new.place n choices) (sym c.retreat.ensures.forgets.tests)
@@ -63,24 +63,24 @@ returns-then-not-place-clause-counts g c = λ plain h.
 
 pub test-requires-clause-before : goal.test-requires-clause-before
 test-requires-clause-before g c =
-    let l = g.J.Judge.conjuncts c.args.judge.now in
-    let uses = g.J.Judge.is_used c.args.judge.now in
-    let trees = trees_of c.args.forest.now in
-    let ranges = c.args.ranges.now in
-    let after = option_copied c.args.after in
+    let l = g.J.Judge.conjuncts c.args.problem.now.judge.now in
+    let uses = g.J.Judge.is_used c.args.problem.now.judge.now in
+    let trees = trees_of c.args.problem.now.forest.now in
+    let ranges = c.args.problem.now.ranges.now in
+    let after = option_copied c.args.problem.now.after in
     let p : Place = c.args.place.now in
-    let given = setting-of g.met.V.Ord.total (g.met.J.Judge.one_truth c.args.judge.now) (g.met.J.Judge.kept c.args.judge.now) c.requires.sound in
+    let given = setting-of g.met.V.Ord.total (g.met.J.Judge.one_truth c.args.problem.now.judge.now) (g.met.J.Judge.kept c.args.problem.now.judge.now) c.requires.sound in
     λ e. (before-found given uses p c.args.memo.now c.args.choices.now c.requires.stands).0 (sym c.so_far.ensures ∙ e)
 
 pub test-requires-clause-so_far : goal.test-requires-clause-so_far
 test-requires-clause-so_far g c =
-    let l = g.J.Judge.conjuncts c.args.judge.now in
-    let uses = g.J.Judge.is_used c.args.judge.now in
-    let trees = trees_of c.args.forest.now in
-    let ranges = c.args.ranges.now in
-    let after = option_copied c.args.after in
+    let l = g.J.Judge.conjuncts c.args.problem.now.judge.now in
+    let uses = g.J.Judge.is_used c.args.problem.now.judge.now in
+    let trees = trees_of c.args.problem.now.forest.now in
+    let ranges = c.args.problem.now.ranges.now in
+    let after = option_copied c.args.problem.now.after in
     let p : Place = c.args.place.now in
-    let given = setting-of g.met.V.Ord.total (g.met.J.Judge.one_truth c.args.judge.now) (g.met.J.Judge.kept c.args.judge.now) c.requires.sound in
+    let given = setting-of g.met.V.Ord.total (g.met.J.Judge.one_truth c.args.problem.now.judge.now) (g.met.J.Judge.kept c.args.problem.now.judge.now) c.requires.sound in
     let so = (before-found given uses p c.args.memo.now c.args.choices.now c.requires.stands).1 in
     let long : length (take p.depth c.deref.result.now) ≡ p.depth =
     ap (λ is. length (take p.depth is)) c.deref.ensures.value ∙ length-bound ranges p c.requires.stands.at in
@@ -91,31 +91,31 @@ test-requires-clause-so_far g c =
 pub choose_next-requires-clause-remembers : goal.choose_next-requires-clause-remembers
 choose_next-requires-clause-remembers g c =
     let p : Place = c.args.place.now in
-    let l = g.J.Judge.conjuncts c.args.judge.now in
-    let uses = g.J.Judge.is_used c.args.judge.now in
-    subst (λ is. Remembers l uses c.args.ranges.now (take p.depth is) c.test.new.memo) c.deref.ensures.value c.in_ok-truth.ensures.remembers
+    let l = g.J.Judge.conjuncts c.args.problem.now.judge.now in
+    let uses = g.J.Judge.is_used c.args.problem.now.judge.now in
+    subst (λ is. Remembers l uses c.args.problem.now.ranges.now (take p.depth is) c.test.new.memo) c.deref.ensures.value c.in_ok-truth.ensures.remembers
 
 pub choose_next-requires-clause-kept : goal.choose_next-requires-clause-kept
 choose_next-requires-clause-kept g c =
     let p : Place = c.args.place.now in
     let st = c.requires.stands in
     let choices = c.args.choices.now in
-    let near : p.depth < length choices = omega (arith, st.all_choices, c.if-depth-ranges.true) in
-    subst (λ w. IsKept (g.J.Judge.conjuncts c.args.judge.now) (trees_of c.args.forest.now) c.args.ranges.now p.marks.stamps.items (bound p) p.depth w (mark_at p.marks p.depth))
-    (get_or_default choices p.depth None c.index-choices-depth.result near) (st.kept p.depth c.if-depth-ranges.true)
+    let near : p.depth < length choices = omega (arith, st.all_choices, c.if-depth-problem.true) in
+    subst (λ w. IsKept (g.J.Judge.conjuncts c.args.problem.now.judge.now) (trees_of c.args.problem.now.forest.now) c.args.problem.now.ranges.now p.marks.stamps.items (bound p) p.depth w (mark_at p.marks p.depth))
+    (get_or_default choices p.depth None c.index-choices-depth.result near) (st.kept p.depth c.if-depth-problem.true)
 
 pub returns-in_err-choose_next-clause-stands : goal.returns-in_err-choose_next-clause-stands
 returns-in_err-choose_next-clause-stands g c =
-    let l = g.J.Judge.conjuncts c.args.judge.now in
-    let uses = g.J.Judge.is_used c.args.judge.now in
-    let trees = trees_of c.args.forest.now in
-    let ranges = c.args.ranges.now in
+    let l = g.J.Judge.conjuncts c.args.problem.now.judge.now in
+    let uses = g.J.Judge.is_used c.args.problem.now.judge.now in
+    let trees = trees_of c.args.problem.now.forest.now in
+    let ranges = c.args.problem.now.ranges.now in
     let p : Place = c.args.place.now in
     let choice = c.choose_next.new.choice in
     let same = c.in_err-choose_next.ensures.err in
     let kept = subst (λ (q : Place). IsKept l trees ranges q.marks.stamps.items (bound p) p.depth choice (mark_at q.marks p.depth)) same c.in_err-choose_next.ensures.kept in
     subst (λ q. Stands l uses trees ranges q c.choose_next.new.memo (set c.args.choices.now p.depth choice)) (sym same)
-    (stands-refused l uses trees ranges p c.args.memo.now c.choose_next.new.memo c.args.choices.now choice c.requires.stands c.if-depth-ranges.true c.in_err-choose_next.ensures.remembers kept)
+    (stands-refused l uses trees ranges p c.args.memo.now c.choose_next.new.memo c.args.choices.now choice c.requires.stands c.if-depth-problem.true c.in_err-choose_next.ensures.remembers kept)
 
 pub returns-in_err-choose_next-clause-counts : goal.returns-in_err-choose_next-clause-counts
 returns-in_err-choose_next-clause-counts g c = λ plain h. absurd (c.in_err-choose_next.ensures.granted plain)
@@ -125,13 +125,13 @@ returns-in_err-choose_next-clause-err g c = on-err c.from_residual-in_err-choose
 
 pub returns-in_err-truth-clause-counts : goal.returns-in_err-truth-clause-counts
 returns-in_err-truth-clause-counts g c = λ plain h.
-    let l = g.J.Judge.conjuncts c.args.judge.now in
-    let uses = g.J.Judge.is_used c.args.judge.now in
-    let trees = trees_of c.args.forest.now in
-    let ranges = c.args.ranges.now in
-    let after = option_copied c.args.after in
+    let l = g.J.Judge.conjuncts c.args.problem.now.judge.now in
+    let uses = g.J.Judge.is_used c.args.problem.now.judge.now in
+    let trees = trees_of c.args.problem.now.forest.now in
+    let ranges = c.args.problem.now.ranges.now in
+    let after = option_copied c.args.problem.now.after in
     let p : Place = c.args.place.now in
-    let basis = basis-of g.met.V.Ord.total (g.met.J.Judge.one_truth c.args.judge.now) (g.met.J.Judge.kept c.args.judge.now) c.requires.sound in
+    let basis = basis-of g.met.V.Ord.total (g.met.J.Judge.one_truth c.args.problem.now.judge.now) (g.met.J.Judge.kept c.args.problem.now.judge.now) c.requires.sound in
     let at = c.requires.stands.at in
     let here = counted-here basis p c.deref.result.now c.deref.ensures.value c.if-not-place.false c.args.choices.now c.args.memo.now.tests c.test.new.memo.tests h in
     counted-still basis p c.deref.result.now c.deref.ensures.value c.if-not-place.false c.args.choices.now c.args.memo.now.tests c.test.new.memo.tests h
@@ -139,14 +139,14 @@ returns-in_err-truth-clause-counts g c = λ plain h.
 
 pub returns-in-False-clause-goes : goal.returns-in-False-clause-goes
 returns-in-False-clause-goes g c =
-    let l = g.J.Judge.conjuncts c.args.judge.now in
-    let uses = g.J.Judge.is_used c.args.judge.now in
-    let trees = trees_of c.args.forest.now in
-    let ranges = c.args.ranges.now in
-    let after = option_copied c.args.after in
+    let l = g.J.Judge.conjuncts c.args.problem.now.judge.now in
+    let uses = g.J.Judge.is_used c.args.problem.now.judge.now in
+    let trees = trees_of c.args.problem.now.forest.now in
+    let ranges = c.args.problem.now.ranges.now in
+    let after = option_copied c.args.problem.now.after in
     let p : Place = c.args.place.now in
     let q : Place = record p { fresh = false } in
-    let given = setting-of g.met.V.Ord.total (g.met.J.Judge.one_truth c.args.judge.now) (g.met.J.Judge.kept c.args.judge.now) c.requires.sound in
+    let given = setting-of g.met.V.Ord.total (g.met.J.Judge.one_truth c.args.problem.now.judge.now) (g.met.J.Judge.kept c.args.problem.now.judge.now) c.requires.sound in
     let truth = c.in_ok-truth.truth in
     let finds : Finds g.V.Ord.cmp l trees (length ranges) after (path ranges p) truth =
     subst (λ is. Finds g.V.Ord.cmp l trees (length ranges) after (picked ranges (take p.depth is)) truth) c.deref.ensures.value c.in_ok-truth.ensures.finds in
@@ -154,13 +154,13 @@ returns-in-False-clause-goes g c =
 
 pub returns-in-False-clause-counts : goal.returns-in-False-clause-counts
 returns-in-False-clause-counts g c = λ plain h.
-    let l = g.J.Judge.conjuncts c.args.judge.now in
-    let uses = g.J.Judge.is_used c.args.judge.now in
-    let trees = trees_of c.args.forest.now in
-    let ranges = c.args.ranges.now in
-    let after = option_copied c.args.after in
+    let l = g.J.Judge.conjuncts c.args.problem.now.judge.now in
+    let uses = g.J.Judge.is_used c.args.problem.now.judge.now in
+    let trees = trees_of c.args.problem.now.forest.now in
+    let ranges = c.args.problem.now.ranges.now in
+    let after = option_copied c.args.problem.now.after in
     let p : Place = c.args.place.now in
-    let basis = basis-of g.met.V.Ord.total (g.met.J.Judge.one_truth c.args.judge.now) (g.met.J.Judge.kept c.args.judge.now) c.requires.sound in
+    let basis = basis-of g.met.V.Ord.total (g.met.J.Judge.one_truth c.args.problem.now.judge.now) (g.met.J.Judge.kept c.args.problem.now.judge.now) c.requires.sound in
     let at = c.requires.stands.at in
     let here = counted-here basis p c.deref.result.now c.deref.ensures.value c.if-not-place.false c.args.choices.now c.args.memo.now.tests c.test.new.memo.tests h in
     let found : CountsFound g.V.Ord.cmp l ranges after (path ranges p) c.in_ok-truth.truth c.test.new.memo.tests =
@@ -170,15 +170,15 @@ returns-in-False-clause-counts g c = λ plain h.
       whole = h.whole;
     }
 
-pub returns-then-depth-ranges-clause-goes : goal.returns-then-depth-ranges-clause-goes
-returns-then-depth-ranges-clause-goes g c =
-    let l = g.J.Judge.conjuncts c.args.judge.now in
-    let uses = g.J.Judge.is_used c.args.judge.now in
-    let trees = trees_of c.args.forest.now in
-    let ranges = c.args.ranges.now in
-    let after = option_copied c.args.after in
+pub returns-then-depth-problem-clause-goes : goal.returns-then-depth-problem-clause-goes
+returns-then-depth-problem-clause-goes g c =
+    let l = g.J.Judge.conjuncts c.args.problem.now.judge.now in
+    let uses = g.J.Judge.is_used c.args.problem.now.judge.now in
+    let trees = trees_of c.args.problem.now.forest.now in
+    let ranges = c.args.problem.now.ranges.now in
+    let after = option_copied c.args.problem.now.after in
     let p : Place = c.args.place.now in
-    let given = setting-of g.met.V.Ord.total (g.met.J.Judge.one_truth c.args.judge.now) (g.met.J.Judge.kept c.args.judge.now) c.requires.sound in
+    let given = setting-of g.met.V.Ord.total (g.met.J.Judge.one_truth c.args.problem.now.judge.now) (g.met.J.Judge.kept c.args.problem.now.judge.now) c.requires.sound in
     let truth = c.in_ok-truth.truth in
     let finds : Finds g.V.Ord.cmp l trees (length ranges) after (path ranges p) truth =
     subst (λ is. Finds g.V.Ord.cmp l trees (length ranges) after (picked ranges (take p.depth is)) truth) c.deref.ensures.value c.in_ok-truth.ensures.finds in
@@ -209,29 +209,29 @@ returns-then-depth-ranges-clause-goes g c =
     let found : (j : ℕ) → j ≤ p.depth → IsFound l trees (picked ranges (take j p.places.items)) j (get_or now.found.items j True) = λ j low. elim (cases_eq j p.depth) [
       | inl e ↦
           let is : get_or now.found.items j True ≡ truth =
-          ap (λ i. get_or now.found.items i True) e ∙ get_or-set_same p.found.items p.depth truth True (omega (arith, at.all_found, c.if-depth-ranges.true)) in
+          ap (λ i. get_or now.found.items i True) e ∙ get_or-set_same p.found.items p.depth truth True (omega (arith, at.all_found, c.if-depth-problem.true)) in
           subst (IsFound l trees (picked ranges (take j p.places.items)) j) (sym is)
           (subst (λ i. IsFound l trees (picked ranges (take i p.places.items)) i truth) (sym e) found-here)
       | inr ne ↦
           subst (IsFound l trees (picked ranges (take j p.places.items)) j) (sym (get_or-set_other p.found.items p.depth j truth True ne)) (st.found j (omega (arith, low, ne)))
     ] in
-    let kept = kept-chosen l trees ranges p.marks marks (bound p) choices p.depth choice (omega (arith, st.all_choices, c.if-depth-ranges.true)) marked.stamps marked.others st.kept c.choose_next.ensures.kept in
-    let stood = descends-stand given now c.descend.new.place choices choice now-at st.all_choices st.chosen chosen c.if-not-place.false c.if-depth-ranges.true lands
+    let kept = kept-chosen l trees ranges p.marks marks (bound p) choices p.depth choice (omega (arith, st.all_choices, c.if-depth-problem.true)) marked.stamps marked.others st.kept c.choose_next.ensures.kept in
+    let stood = descends-stand given now c.descend.new.place choices choice now-at st.all_choices st.chosen chosen c.if-not-place.false c.if-depth-problem.true lands
     uses c.choose_next.new.memo c.descend.new.memo remembers kept forgets found in
-    let leapt = leaps given uses c.descend.new.place c.leap.new.place c.descend.new.memo (set choices p.depth choice) stood p.depth c.if-depth-ranges.true c.leap.ensures
+    let leapt = leaps given uses c.descend.new.place c.leap.new.place c.descend.new.memo (set choices p.depth choice) stood p.depth c.if-depth-problem.true c.leap.ensures
     (landed-none (length (get_or ranges p.depth [])) p.depth (get_or (set choices p.depth choice) p.depth None) now c.descend.new.place lands) in
-    let h = descends given now c.descend.new.place choices choice now-at st.all_choices st.chosen chosen c.if-not-place.false c.if-depth-ranges.true lands in
+    let h = descends given now c.descend.new.place choices choice now-at st.all_choices st.chosen chosen c.if-not-place.false c.if-depth-problem.true lands in
     record { same = λ e ev. h.same e ev ∙ leapt.keeps e ev; smaller = let a = h.smaller in let b = leapt.fewer in omega arith }
 
-pub returns-then-depth-ranges-clause-stands : goal.returns-then-depth-ranges-clause-stands
-returns-then-depth-ranges-clause-stands g c =
-    let l = g.J.Judge.conjuncts c.args.judge.now in
-    let uses = g.J.Judge.is_used c.args.judge.now in
-    let trees = trees_of c.args.forest.now in
-    let ranges = c.args.ranges.now in
-    let after = option_copied c.args.after in
+pub returns-then-depth-problem-clause-stands : goal.returns-then-depth-problem-clause-stands
+returns-then-depth-problem-clause-stands g c =
+    let l = g.J.Judge.conjuncts c.args.problem.now.judge.now in
+    let uses = g.J.Judge.is_used c.args.problem.now.judge.now in
+    let trees = trees_of c.args.problem.now.forest.now in
+    let ranges = c.args.problem.now.ranges.now in
+    let after = option_copied c.args.problem.now.after in
     let p : Place = c.args.place.now in
-    let given = setting-of g.met.V.Ord.total (g.met.J.Judge.one_truth c.args.judge.now) (g.met.J.Judge.kept c.args.judge.now) c.requires.sound in
+    let given = setting-of g.met.V.Ord.total (g.met.J.Judge.one_truth c.args.problem.now.judge.now) (g.met.J.Judge.kept c.args.problem.now.judge.now) c.requires.sound in
     let truth = c.in_ok-truth.truth in
     let finds : Finds g.V.Ord.cmp l trees (length ranges) after (path ranges p) truth =
     subst (λ is. Finds g.V.Ord.cmp l trees (length ranges) after (picked ranges (take p.depth is)) truth) c.deref.ensures.value c.in_ok-truth.ensures.finds in
@@ -262,28 +262,28 @@ returns-then-depth-ranges-clause-stands g c =
     let found : (j : ℕ) → j ≤ p.depth → IsFound l trees (picked ranges (take j p.places.items)) j (get_or now.found.items j True) = λ j low. elim (cases_eq j p.depth) [
       | inl e ↦
           let is : get_or now.found.items j True ≡ truth =
-          ap (λ i. get_or now.found.items i True) e ∙ get_or-set_same p.found.items p.depth truth True (omega (arith, at.all_found, c.if-depth-ranges.true)) in
+          ap (λ i. get_or now.found.items i True) e ∙ get_or-set_same p.found.items p.depth truth True (omega (arith, at.all_found, c.if-depth-problem.true)) in
           subst (IsFound l trees (picked ranges (take j p.places.items)) j) (sym is)
           (subst (λ i. IsFound l trees (picked ranges (take i p.places.items)) i truth) (sym e) found-here)
       | inr ne ↦
           subst (IsFound l trees (picked ranges (take j p.places.items)) j) (sym (get_or-set_other p.found.items p.depth j truth True ne)) (st.found j (omega (arith, low, ne)))
     ] in
-    let kept = kept-chosen l trees ranges p.marks marks (bound p) choices p.depth choice (omega (arith, st.all_choices, c.if-depth-ranges.true)) marked.stamps marked.others st.kept c.choose_next.ensures.kept in
-    let stood = descends-stand given now c.descend.new.place choices choice now-at st.all_choices st.chosen chosen c.if-not-place.false c.if-depth-ranges.true lands
+    let kept = kept-chosen l trees ranges p.marks marks (bound p) choices p.depth choice (omega (arith, st.all_choices, c.if-depth-problem.true)) marked.stamps marked.others st.kept c.choose_next.ensures.kept in
+    let stood = descends-stand given now c.descend.new.place choices choice now-at st.all_choices st.chosen chosen c.if-not-place.false c.if-depth-problem.true lands
     uses c.choose_next.new.memo c.descend.new.memo remembers kept forgets found in
-    let leapt = leaps given uses c.descend.new.place c.leap.new.place c.descend.new.memo (set choices p.depth choice) stood p.depth c.if-depth-ranges.true c.leap.ensures
+    let leapt = leaps given uses c.descend.new.place c.leap.new.place c.descend.new.memo (set choices p.depth choice) stood p.depth c.if-depth-problem.true c.leap.ensures
     (landed-none (length (get_or ranges p.depth [])) p.depth (get_or (set choices p.depth choice) p.depth None) now c.descend.new.place lands) in
     leapt.stands
 
-pub returns-then-depth-ranges-clause-counts : goal.returns-then-depth-ranges-clause-counts
-returns-then-depth-ranges-clause-counts g c = λ plain h.
-    let l = g.J.Judge.conjuncts c.args.judge.now in
-    let uses = g.J.Judge.is_used c.args.judge.now in
-    let trees = trees_of c.args.forest.now in
-    let ranges = c.args.ranges.now in
-    let after = option_copied c.args.after in
+pub returns-then-depth-problem-clause-counts : goal.returns-then-depth-problem-clause-counts
+returns-then-depth-problem-clause-counts g c = λ plain h.
+    let l = g.J.Judge.conjuncts c.args.problem.now.judge.now in
+    let uses = g.J.Judge.is_used c.args.problem.now.judge.now in
+    let trees = trees_of c.args.problem.now.forest.now in
+    let ranges = c.args.problem.now.ranges.now in
+    let after = option_copied c.args.problem.now.after in
     let p : Place = c.args.place.now in
-    let basis = basis-of g.met.V.Ord.total (g.met.J.Judge.one_truth c.args.judge.now) (g.met.J.Judge.kept c.args.judge.now) c.requires.sound in
+    let basis = basis-of g.met.V.Ord.total (g.met.J.Judge.one_truth c.args.problem.now.judge.now) (g.met.J.Judge.kept c.args.problem.now.judge.now) c.requires.sound in
     let here = counted-here basis p c.deref.result.now c.deref.ensures.value c.if-not-place.false c.args.choices.now c.args.memo.now.tests c.test.new.memo.tests h in
     let found : CountsFound g.V.Ord.cmp l ranges after (path ranges p) c.in_ok-truth.truth c.test.new.memo.tests =
     subst (λ is. CountsFound g.V.Ord.cmp l ranges after (picked ranges (take p.depth is)) c.in_ok-truth.truth c.test.new.memo.tests) c.deref.ensures.value (c.in_ok-truth.ensures.counts plain here) in
@@ -306,86 +306,86 @@ returns-then-depth-ranges-clause-counts g c = λ plain h.
     let chosen = c.in_ok-choose_next.ensures.choice in
     let lands = landed-marked ranges choices choice p c.choose_next.new.place c.descend.new.place c.in_ok-truth.truth marked.is c.descend.ensures.lands in
     let tests = c.descend.new.memo.tests in
-    let none = c.in_ok-choose_next.ensures.all plain (was-none choices p.depth c.index-choices-depth.result (omega (arith, st.all_choices, c.if-depth-ranges.true)) (h.whole p.depth)) in
+    let none = c.in_ok-choose_next.ensures.all plain (was-none choices p.depth c.index-choices-depth.result (omega (arith, st.all_choices, c.if-depth-problem.true)) (h.whole p.depth)) in
     let there = subst (Counts g.V.Ord.cmp l ranges after (path ranges p) below_it) (sym (c.descend.ensures.forgets.tests ∙ c.in_ok-choose_next.ensures.same)) below in
     let old : IsCounted g.V.Ord.cmp l ranges after now c.args.memo.now.tests choices = record { counts = h.counts; whole = h.whole } in
-    let counted = counted-descends basis now c.descend.new.place now-at c.requires.sound.ascending choices c.args.memo.now.tests tests old c.if-depth-ranges.true st.all_choices choice none there
+    let counted = counted-descends basis now c.descend.new.place now-at c.requires.sound.ascending choices c.args.memo.now.tests tests old c.if-depth-problem.true st.all_choices choice none there
     lands in
-    let whole : get_or (set choices p.depth choice) p.depth None ≡ None = get_or-set_same choices p.depth choice None (omega (arith, st.all_choices, c.if-depth-ranges.true)) ∙ none in
+    let whole : get_or (set choices p.depth choice) p.depth None ≡ None = get_or-set_same choices p.depth choice None (omega (arith, st.all_choices, c.if-depth-problem.true)) ∙ none in
     subst (λ q. IsCounted g.V.Ord.cmp l ranges after q tests (set choices p.depth choice)) (sym (never-leaps p.depth (get_or (set choices p.depth choice) p.depth None) c.descend.new.place c.leap.new.place whole c.leap.ensures)) counted
 
 pub returns-in-True-clause-goes : goal.returns-in-True-clause-goes
 returns-in-True-clause-goes g c =
-    let l = g.J.Judge.conjuncts c.args.judge.now in
-    let uses = g.J.Judge.is_used c.args.judge.now in
-    let trees = trees_of c.args.forest.now in
-    let ranges = c.args.ranges.now in
-    let after = option_copied c.args.after in
+    let l = g.J.Judge.conjuncts c.args.problem.now.judge.now in
+    let uses = g.J.Judge.is_used c.args.problem.now.judge.now in
+    let trees = trees_of c.args.problem.now.forest.now in
+    let ranges = c.args.problem.now.ranges.now in
+    let after = option_copied c.args.problem.now.after in
     let p : Place = c.args.place.now in
     let q : Place = record p { fresh = false } in
-    let given = setting-of g.met.V.Ord.total (g.met.J.Judge.one_truth c.args.judge.now) (g.met.J.Judge.kept c.args.judge.now) c.requires.sound in
+    let given = setting-of g.met.V.Ord.total (g.met.J.Judge.one_truth c.args.problem.now.judge.now) (g.met.J.Judge.kept c.args.problem.now.judge.now) c.requires.sound in
     let truth = c.in_ok-truth.truth in
     let finds : Finds g.V.Ord.cmp l trees (length ranges) after (path ranges p) truth =
     subst (λ is. Finds g.V.Ord.cmp l trees (length ranges) after (picked ranges (take p.depth is)) truth) c.deref.ensures.value c.in_ok-truth.ensures.finds in
     let at = c.requires.stands.at in
-    let whole : length (path ranges p) ≡ length ranges = omega (arith, length-path ranges p at, at.shallow, c.if-depth-ranges.false) in
+    let whole : length (path ranges p) ≡ length ranges = omega (arith, length-path ranges p at, at.shallow, c.if-depth-problem.false) in
     let so = finds-whole given (path ranges p) truth whole c.in_default.not-False finds in
-    takes-whole given p q True at c.if-not-place.false c.if-depth-ranges.false (finds-reached given (path ranges p) truth c.in_default.not-False finds).0
+    takes-whole given p q True at c.if-not-place.false c.if-depth-problem.false (finds-reached given (path ranges p) truth c.in_default.not-False finds).0
     (subst (IsTruthOf (planted l trees) (path ranges p)) c.in-True.is so) (λ e. cc) refl refl refl
 
 pub returns-in-True-clause-counts : goal.returns-in-True-clause-counts
 returns-in-True-clause-counts g c = λ plain h.
-    let l = g.J.Judge.conjuncts c.args.judge.now in
-    let uses = g.J.Judge.is_used c.args.judge.now in
-    let trees = trees_of c.args.forest.now in
-    let ranges = c.args.ranges.now in
-    let after = option_copied c.args.after in
+    let l = g.J.Judge.conjuncts c.args.problem.now.judge.now in
+    let uses = g.J.Judge.is_used c.args.problem.now.judge.now in
+    let trees = trees_of c.args.problem.now.forest.now in
+    let ranges = c.args.problem.now.ranges.now in
+    let after = option_copied c.args.problem.now.after in
     let p : Place = c.args.place.now in
-    let basis = basis-of g.met.V.Ord.total (g.met.J.Judge.one_truth c.args.judge.now) (g.met.J.Judge.kept c.args.judge.now) c.requires.sound in
+    let basis = basis-of g.met.V.Ord.total (g.met.J.Judge.one_truth c.args.problem.now.judge.now) (g.met.J.Judge.kept c.args.problem.now.judge.now) c.requires.sound in
     let here = counted-here basis p c.deref.result.now c.deref.ensures.value c.if-not-place.false c.args.choices.now c.args.memo.now.tests c.test.new.memo.tests h in
     let found : CountsFound g.V.Ord.cmp l ranges after (path ranges p) c.in_ok-truth.truth c.test.new.memo.tests =
     subst (λ is. CountsFound g.V.Ord.cmp l ranges after (picked ranges (take p.depth is)) c.in_ok-truth.truth c.test.new.memo.tests) c.deref.ensures.value (c.in_ok-truth.ensures.counts plain here) in
     let below = found-other basis (path ranges p) c.in_ok-truth.truth c.test.new.memo.tests c.in_default.not-False found in
     let at : IsAt ranges p = c.requires.stands.at in
     record {
-      counts = counts-whole basis (take p.depth p.places.items) at.within c.test.new.memo.tests (omega (arith, length-bound ranges p at, c.if-depth-ranges.false)) below;
+      counts = counts-whole basis (take p.depth p.places.items) at.within c.test.new.memo.tests (omega (arith, length-bound ranges p at, c.if-depth-problem.false)) below;
       whole = h.whole;
     }
 
 pub returns-in-Out-clause-goes : goal.returns-in-Out-clause-goes
 returns-in-Out-clause-goes g c =
-    let l = g.J.Judge.conjuncts c.args.judge.now in
-    let uses = g.J.Judge.is_used c.args.judge.now in
-    let trees = trees_of c.args.forest.now in
-    let ranges = c.args.ranges.now in
-    let after = option_copied c.args.after in
+    let l = g.J.Judge.conjuncts c.args.problem.now.judge.now in
+    let uses = g.J.Judge.is_used c.args.problem.now.judge.now in
+    let trees = trees_of c.args.problem.now.forest.now in
+    let ranges = c.args.problem.now.ranges.now in
+    let after = option_copied c.args.problem.now.after in
     let p : Place = c.args.place.now in
     let q : Place = record p { fresh = false } in
-    let given = setting-of g.met.V.Ord.total (g.met.J.Judge.one_truth c.args.judge.now) (g.met.J.Judge.kept c.args.judge.now) c.requires.sound in
+    let given = setting-of g.met.V.Ord.total (g.met.J.Judge.one_truth c.args.problem.now.judge.now) (g.met.J.Judge.kept c.args.problem.now.judge.now) c.requires.sound in
     let truth = c.in_ok-truth.truth in
     let finds : Finds g.V.Ord.cmp l trees (length ranges) after (path ranges p) truth =
     subst (λ is. Finds g.V.Ord.cmp l trees (length ranges) after (picked ranges (take p.depth is)) truth) c.deref.ensures.value c.in_ok-truth.ensures.finds in
     let at = c.requires.stands.at in
-    let whole : length (path ranges p) ≡ length ranges = omega (arith, length-path ranges p at, at.shallow, c.if-depth-ranges.false) in
+    let whole : length (path ranges p) ≡ length ranges = omega (arith, length-path ranges p at, at.shallow, c.if-depth-problem.false) in
     let so = finds-whole given (path ranges p) truth whole c.in_default.not-False finds in
-    takes-whole given p q Out at c.if-not-place.false c.if-depth-ranges.false (finds-reached given (path ranges p) truth c.in_default.not-False finds).0
+    takes-whole given p q Out at c.if-not-place.false c.if-depth-problem.false (finds-reached given (path ranges p) truth c.in_default.not-False finds).0
     (subst (IsTruthOf (planted l trees) (path ranges p)) c.in-Out.is so) (λ e. cc) refl refl refl
 
 pub returns-in-Out-clause-counts : goal.returns-in-Out-clause-counts
 returns-in-Out-clause-counts g c = λ plain h.
-    let l = g.J.Judge.conjuncts c.args.judge.now in
-    let uses = g.J.Judge.is_used c.args.judge.now in
-    let trees = trees_of c.args.forest.now in
-    let ranges = c.args.ranges.now in
-    let after = option_copied c.args.after in
+    let l = g.J.Judge.conjuncts c.args.problem.now.judge.now in
+    let uses = g.J.Judge.is_used c.args.problem.now.judge.now in
+    let trees = trees_of c.args.problem.now.forest.now in
+    let ranges = c.args.problem.now.ranges.now in
+    let after = option_copied c.args.problem.now.after in
     let p : Place = c.args.place.now in
-    let basis = basis-of g.met.V.Ord.total (g.met.J.Judge.one_truth c.args.judge.now) (g.met.J.Judge.kept c.args.judge.now) c.requires.sound in
+    let basis = basis-of g.met.V.Ord.total (g.met.J.Judge.one_truth c.args.problem.now.judge.now) (g.met.J.Judge.kept c.args.problem.now.judge.now) c.requires.sound in
     let here = counted-here basis p c.deref.result.now c.deref.ensures.value c.if-not-place.false c.args.choices.now c.args.memo.now.tests c.test.new.memo.tests h in
     let found : CountsFound g.V.Ord.cmp l ranges after (path ranges p) c.in_ok-truth.truth c.test.new.memo.tests =
     subst (λ is. CountsFound g.V.Ord.cmp l ranges after (picked ranges (take p.depth is)) c.in_ok-truth.truth c.test.new.memo.tests) c.deref.ensures.value (c.in_ok-truth.ensures.counts plain here) in
     let below = found-other basis (path ranges p) c.in_ok-truth.truth c.test.new.memo.tests c.in_default.not-False found in
     let at : IsAt ranges p = c.requires.stands.at in
     record {
-      counts = counts-whole basis (take p.depth p.places.items) at.within c.test.new.memo.tests (omega (arith, length-bound ranges p at, c.if-depth-ranges.false)) below;
+      counts = counts-whole basis (take p.depth p.places.items) at.within c.test.new.memo.tests (omega (arith, length-bound ranges p at, c.if-depth-problem.false)) below;
       whole = h.whole;
     }

@@ -1,4 +1,4 @@
-use Rattle.zf_plan.proofs.Prelude.{◌≡◌, arith, length, refl, subst, sym, option_copied, trees_of, IsPlan}
+use Rattle.zf_plan.proofs.Prelude.{◌≡◌, arith, length, subst, sym, option_copied, trees_of, IsPlan}
 use Rattle.zf_plan.specs.Trees.{IsFlat}
 use Rattle.zf_plan.proofs.Groves.{flat-leaves}
 use Rattle.zf_plan.proofs.Stepping.{ahead-begins}
@@ -29,4 +29,4 @@ returns-clause-problem g c =
 
 pub returns-clause-events : goal.returns-clause-events
 returns-clause-events g c =
-    ahead-begins g.V.Ord.cmp (g.J.Judge.conjuncts c.args.judge) c.args.ranges.items (option_copied c.args.after) c.in_ok-search.search.stage.ahead (c.in_ok-search.ensures.begun refl)
+    ahead-begins g.V.Ord.cmp (g.J.Judge.conjuncts c.args.judge) c.args.ranges.items (option_copied c.args.after) c.in_ok-search.search.stage.ahead (c.in_ok-search.ensures.begun c.in_ok-plan.ensures.plain)

@@ -1,15 +1,8 @@
--- No declared set is out.
-use Rattle.std.proofs.Common.{subst}
-use Rattle.zf_ranges.specs.Ranges.{Refuses}
-use Rattle.zf_meaning.specs.Envs.{environment_of}
+-- The search is still one for its schema.
+use Rattle.std.proofs.Common.{refl}
+use Rattle.zf_steps.proofs.Renewing.{is_for}
 use Rattle.zf_steps.proofs.renewed.RenewedFinder.hold.Goals as goal
 
-pub no_memory-requires : goal.no_memory-requires
-no_memory-requires c =
-    let for_it = c.requires.2 in (
-      c.requires.0,
-      c.requires.1.comps,
-      for_it.can.none_out,
-      subst (λ e. Refuses e c.requires.1.comps c.in-Err.fault) for_it.environment
-          (subst (λ a. Refuses (environment_of c.args.self.now.env.now) a.comps c.in-Err.fault) for_it.schema c.in-Err.ensures.refused),
-    )
+pub returns-clause-kept : goal.returns-clause-kept
+returns-clause-kept c = λ e a f.
+    is_for c.args.self.now _ e a c.in_ok-begun.begun c.args.held.now c.last-last.ensures.same.0 c.last-last.ensures.same.1 refl c.in_ok-given.ensures c.in_ok-begun.ensures f

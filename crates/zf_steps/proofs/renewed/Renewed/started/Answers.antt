@@ -1,0 +1,7 @@
+-- No declared set is out.
+use Rattle.zf_meaning.specs.Envs.{environment_of}
+use Rattle.zf_term.specs.SchemaViews.{schema_of}
+use Rattle.zf_steps.proofs.renewed.Renewed.started.Goals as goal
+
+pub no_memory-requires : goal.no_memory-requires
+no_memory-requires c = (environment_of c.args.self.now.env.now, (schema_of c.args.self.now.flat.now).comps, c.requires.none_out, c.in-Err.ensures.refused)
