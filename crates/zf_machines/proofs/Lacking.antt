@@ -1,0 +1,23 @@
+-- Which schemas make a machine.
+use Rattle.std.proofs.Common.{◌≡◌, ◌∷◌, [], ap, inl, inr, List, map, None, Option, refl, Some, ℕ}
+use Rattle.std.specs.List.{AllByRecursion}
+use Rattle.std.specs.Prelude.{MatchOption}
+use Rattle.zf_machines.specs.declared.shape.Lack.{Lack}
+use Rattle.zf_machines.specs.Machines.{CanBeInitial, CanStep, HasShape, LacksFirst, LacksStepFirst, Named, Schemas, state_of}
+use Rattle.zf_steps.specs.Shapes.{LacksStep}
+use Rattle.zf_term.specs.Definitions.{Comp}
+
+-- an operation of the first name lacks the component of the second one
+abbrev pub LacksIt : List Comp → List ℕ × List ℕ → Named → Type 0
+LacksIt state names o = (names.0 ≡ o.name) × LacksStep state o.schema names.1
+
+pub map_map : {X Y Z : Type 0} (h : Y → Z) (f : X → Y) (xs : List X) → map (λ x. h (f x)) xs ≡ map h (map f xs)
+map_map h f [] = refl
+map_map h f (x ∷ xs) = ap (λ ys. h (f x) ∷ ys) (map_map h f xs)
+
+-- the initial states have what they need, and what is found of the operations decides
+pub shape_by : (p : Schemas) (o : Option Lack) → CanBeInitial (state_of p) p.init.schema
+    → MatchOption o (AllByRecursion (CanStep (state_of p)) p.operations) (λ k. LacksStepFirst (state_of p) p.operations k.schema.now k.component.now)
+    → MatchOption o (HasShape p) (λ k. LacksFirst p k.schema.now k.component.now)
+shape_by p None init all = record { init = init; operations = all }
+shape_by p (Some k) init lacks = inr (init, lacks)

@@ -1,0 +1,22 @@
+use Rattle.std.proofs.Common.{◌∙◌, ◌≡◌, ap, List, map, refl, subst}
+use Rattle.zf_machines.proofs.Lacking.{map_map}
+use Rattle.zf_machines.specs.Machines.{Named}
+use Rattle.zf_machines.specs.SchemaViews.{named_of}
+use Rattle.zf_steps.specs.Shapes.{IsInit, operation_in, state_in}
+use Rattle.zf_steps.specs.Systems.{operation_of}
+use Rattle.zf_term.specs.declared.schema.Component.{Component}
+use Rattle.zf_term.specs.SchemaViews.{comp_of, schema_of}
+use Rattle.zf_machines.proofs.making.machine_of.Goals as goal
+
+pub returns : goal.returns
+returns g c =
+    let p = c.args.schemas.now in
+    let whole = c.as_slice-before.ensures in record {
+      environment = refl;
+      spelled = refl;
+      state = c.in_ok-state.ensures;
+      init = subst (λ (ks : List Component). IsInit (map comp_of ks) p.init.name.now (schema_of p.init.schema.now) (operation_of schema_of c.in_ok-init.init)) whole c.in_ok-init.ensures;
+      operations = subst (λ (ks : List Component). map (operation_of schema_of) c.in_ok-operations.operations.items ≡ map (λ (o : Named). operation_in (map comp_of ks) o.name o.schema) (map named_of p.operations.items)) whole
+          (c.in_ok-operations.ensures ∙ ap (map (λ o. operation_in (map comp_of c.as_slice-before.result.now) (named_of o).name (named_of o).schema)) c.deref.ensures.value
+          ∙ map_map (λ (o : Named). operation_in (map comp_of c.as_slice-before.result.now) o.name o.schema) named_of p.operations.items);
+    }

@@ -1,0 +1,11 @@
+-- What is still ahead decides.
+use Rattle.std.proofs.Common.{drop, List, map, ℕ}
+use Rattle.zf_machines.specs.Machines.{CanStep}
+use Rattle.zf_machines.specs.SchemaViews.{named_of}
+use Rattle.zf_machines.proofs.Firsts.{IsAhead}
+use Rattle.zf_machines.proofs.Lacking.{LacksIt}
+use Rattle.zf_steps.specs.States.{before_of}
+use Rattle.zf_machines.proofs.shape.step_lack.Given as goal
+
+abbrev pub invariant-loop-operation : goal.invariant-loop-operation
+invariant-loop-operation l = IsAhead (CanStep (before_of l.states)) (LacksIt (before_of l.states)) (map named_of l.operations) (map named_of (drop l.operation-index l.operations))

@@ -1,0 +1,10 @@
+//! The machine that schemas make in an environment.
+#![tactic(auto)]
+
+mod making;
+mod schemas;
+mod shape;
+
+pub use making::machine_of;
+pub use schemas::{Named, Schemas};
+pub use shape::{Lack, lack_of};

@@ -1,0 +1,65 @@
+//! The machine that schemas make.
+ghost use Rattle.std.specs.Prelude.{◌≡◌, IfOk, map};
+ghost use Rattle.zf_machines.specs.Machines.{HasShape, IsMachineOf};
+ghost use Rattle.zf_machines.specs.SchemaViews.{named_of, schemas_of};
+ghost use Rattle.zf_steps.specs.Shapes as shapes;
+ghost use Rattle.zf_steps.specs.States.{AreStates, before_of};
+ghost use Rattle.zf_steps.specs.Systems.{operation_of, system_of};
+ghost use Rattle.zf_term.specs.SchemaViews.{schema_of};
+
+use crate::schemas::{Named, Schemas};
+use bumpalo::Bump;
+use std::alloc::{AllocError, Global};
+use std::marker::PhantomData;
+use zf_steps::{
+    Operation, States, Surrounding, System, init_in, operation_in, state_in, with_strokes,
+};
+use zf_term::schema::Flat;
+use zf_texts::Spelling;
+
+/// The machine that these schemas make.
+pub fn machine_of<'p, 'a, E: Surrounding, S>(
+    alloc: Global,
+    arena: &'a Bump,
+    env: &'p E,
+    elements: &'p [Spelling],
+    schemas: &Schemas<'p, 'a>,
+) -> Result<System<'p, E, Flat<'a>, S>, AllocError>
+    requires { HasShape (schemas_of schemas.now) }
+    ensures { IfOk result (λ m. IsMachineOf (E.environment env.now) elements.now (schemas_of schemas.now) (system_of E.environment schema_of m)) }
+{
+    let before = schemas.state.schema.components.as_slice();
+    let stroked = with_strokes(arena, before)?;
+    let after = stroked.as_slice();
+    let states = States { before, after };
+    let state = state_in(alloc, arena, schemas.state.name, schemas.state.schema)?;
+    let init = init_in(alloc, arena, states, schemas.init.name, schemas.init.schema)?;
+    let operations = operations_in(alloc, arena, states, &schemas.operations)?;
+    Ok(System {
+        alloc,
+        env,
+        elements,
+        state,
+        init,
+        operations,
+        searches: PhantomData,
+    })
+}
+
+/// The operations of a machine with these states.
+fn operations_in<'p, 'a>(
+    alloc: Global,
+    arena: &'a Bump,
+    states: States<'_, 'a>,
+    schemas: &[Named<'p, 'a>],
+) -> Result<Vec<Operation<'p, Flat<'a>>>, AllocError>
+    requires { AreStates states }
+    ensures { IfOk result (λ v. map (operation_of schema_of) v.items ≡ map (λ o. shapes.operation_in (before_of states.entry) (named_of o).name (named_of o).schema) schemas.now) }
+{
+    let mut operations = Vec::with_capacity(alloc, schemas.len())?;
+    for operation in schemas {
+        let made = operation_in(alloc, arena, states, operation.name, operation.schema)?;
+        operations.push(made)?;
+    }
+    Ok(operations)
+}
