@@ -54,7 +54,7 @@ _zf() {
             skip=no
         elif [[ $options == yes && $word == -- ]]; then
             options=no
-        elif [[ $options == yes && $word =~ ^--(after|with|limit|size)$ ]]; then
+        elif [[ $options == yes && $word =~ ^--(after|with|limit|numbers|size)$ ]]; then
             skip=yes
         elif [[ $options == yes && $word == -?* ]]; then
             continue
@@ -70,8 +70,8 @@ _zf() {
     if [[ $options == yes && $current == -* ]]; then
         case $command in
             check) mapfile -t COMPREPLY < <(compgen -W '-t -d --details -h --help' -- "$current") ;;
-            show) mapfile -t COMPREPLY < <(compgen -W '--after --with --limit --size --tests -d --details -h --help' -- "$current") ;;
-            why) mapfile -t COMPREPLY < <(compgen -W '--with --size -d --details -h --help' -- "$current") ;;
+            show) mapfile -t COMPREPLY < <(compgen -W '--after --with --limit --numbers --size --tests -d --details -h --help' -- "$current") ;;
+            why) mapfile -t COMPREPLY < <(compgen -W '--with --numbers --size -d --details -h --help' -- "$current") ;;
             '') mapfile -t COMPREPLY < <(compgen -W '-h --help -V --version' -- "$current") ;;
         esac
     elif [[ -z $command ]]; then

@@ -6,7 +6,7 @@ function __zf_places
     for word in (commandline --tokenize --current-process --cut-at-cursor)
         if test $skip = yes
             set skip no
-        else if contains -- $word --after --with --limit --size
+        else if contains -- $word --after --with --limit --numbers --size
             set skip yes
         else if not string match --quiet -- '-?*' $word
             echo $word
@@ -68,11 +68,13 @@ complete -c zf -n '__zf_stands_after show 2' -s h -l help -d 'Print help'
 complete -c zf -n '__zf_stands_after show 2' -x -l after -d 'Write only what follows this binding'
 complete -c zf -n '__zf_stands_after show 2' -x -l with -d 'Write only the bindings with these values'
 complete -c zf -n '__zf_stands_after show 2' -x -l limit -d 'Write at most so many bindings'
+complete -c zf -n '__zf_stands_after show 2' -x -l numbers -d 'The greatest number'
 complete -c zf -n '__zf_stands_after show 2' -x -l size -d 'The size of each other given set'
 complete -c zf -n '__zf_stands_after show 2' -l tests -d 'Write also how many tests were finished'
 complete -c zf -n '__zf_stands_after show 2' -s d -l details -d 'Write after each fault what it is about'
 complete -c zf -n '__zf_stands_after why 2' -s h -l help -d 'Print help'
 complete -c zf -n '__zf_stands_after why 2' -x -l with -d 'Ask only of the bindings with these values'
+complete -c zf -n '__zf_stands_after why 2' -x -l numbers -d 'The greatest number'
 complete -c zf -n '__zf_stands_after why 2' -x -l size -d 'The size of each other given set'
 complete -c zf -n '__zf_stands_after why 2' -s d -l details -d 'Write after each fault what it is about'
 complete -c zf -n '__zf_stands_at check 2; or __zf_stands_at show 2; or __zf_stands_at why 2' -F

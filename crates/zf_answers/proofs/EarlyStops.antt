@@ -8,6 +8,7 @@ use Rattle.zf_answers.proofs.Shown.{events_are_shown}
 pub granted : (r : Request) (source : List ℕ) (g : List Defined) (a : Schema) (e : Environment) (p : Portion) → IsSearch r source g a e p → IsGranted r source g a e p
 granted r source g a e p search = record {
   has_schema = search.asked.has_schema;
+  small = search.asked.small;
   complete = search.asked.complete;
   environment = search.asked.environment;
   finite = search.asked.finite;

@@ -1,5 +1,5 @@
 -- Each request has an answer: it is refused at a stage, or what is asked for is searched.
-use Rattle.zf_answers.proofs.Prelude.{if◌then◌else◌, ◌++◌, ◌+◌, ◌∙◌, ◌∷◌, ◌≡◌, ◌⊎◌, [], ap, Bool, false, inl, inr, IsTrue, List, None, Option, refl, Some, subst, sym, true, ℕ, none-some, same_Some, AllByRecursion, Value, BoxTree, TextFault, ReadsSource, RefusesSource, abbreviation, Comp, constructor, Defined, Definition, free_type, given_set, Schema, schema, sets_of, Fault, first, finite_without_cause, causes, NotFinite, one_bounds, Environment, AreComplete, given_sets, spellings, Portion, portion, IsNoneOut, Job, Check, Show, Why, HasLimit, IsBelow, binding_line, Status, BadRequest, BadSpec, PastBounds, some_search, some_tests_line, Answer, AreHeld, check_status, Checks, HasSchema, IsAsked, IsLimited, IsNamed, IsNamedRow, IsSearch, JobAnswer, Request, RefusesRequest, RequestAnswer, ShowsEvents, TellsWhy, size_fault_lines, stated, wants_details, declared_out_line, no_schema_lines, not_a_binding_line, not_finite_lines, not_held_line, Cited, text_fault_lines, EveryRequestIsAnswered, EverySourceIsRead, numbers_of, IsFinite}
+use Rattle.zf_answers.proofs.Prelude.{if◌then◌else◌, ◌++◌, ◌+◌, ◌∙◌, ◌∷◌, ◌≡◌, ◌⊎◌, [], ap, Bool, false, inl, inr, IsTrue, List, None, Option, refl, Some, subst, sym, true, ℕ, none-some, same_Some, AllByRecursion, Value, BoxTree, TextFault, ReadsSource, RefusesSource, abbreviation, Comp, constructor, Defined, Definition, free_type, given_set, Schema, schema, sets_of, Fault, first, finite_without_cause, causes, NotFinite, one_bounds, Environment, AreComplete, given_sets, spellings, Portion, portion, IsNoneOut, Job, Check, Show, Why, HasLimit, IsBelow, binding_line, Status, BadRequest, BadSpec, PastBounds, some_search, some_tests_line, Answer, AreHeld, check_status, Checks, HasSchema, IsAsked, IsLimited, IsNamed, IsNamedRow, IsSearch, JobAnswer, Request, RefusesRequest, RequestAnswer, ShowsEvents, TellsWhy, size_fault_lines, stated, wants_details, declared_out_line, no_schema_lines, not_a_binding_line, not_finite_lines, not_held_line, numbers_too_large_line, AreSmall, Cited, text_fault_lines, EveryRequestIsAnswered, EverySourceIsRead, numbers_of, IsFinite}
 use Rattle.std.specs.Str.{bytes_eq}
 use Rattle.zf_checker.specs.Listing.{listing}
 use Rattle.zf_term.specs.FirstNamed.{first_named, later}
@@ -15,6 +15,7 @@ use Rattle.zf_verdicts.proofs.Items.{text_has_verdict}
 use Rattle.zf_command.specs.Requests.{IsBare}
 use Rattle.zf_answers.proofs.FaultLines.{some_lines}
 use Rattle.zf_answers.proofs.Reasons.{some_told}
+use Rattle.zf_answers.proofs.SmallNumbers.{small_or_too_large}
 
 -- ---- the name
 
@@ -93,24 +94,30 @@ module _ (Tells : List Defined → Schema → Environment → Portion → List �
           | inr none ↦ (not_a_binding_line 0, BadRequest, RequestAnswer.refused (RefusesRequest.not_a_binding g a e 0 asked none refl refl))
         ]
 
-      some_at_finiteness : HasSchema source r.name g a → AreComplete (given_sets g) (stated g r) → IsAnswered
-      some_at_finiteness has complete = by (causes (numbers_of r) g a) refl
+      some_at_finiteness : HasSchema source r.name g a → AreSmall (numbers_of r) → AreComplete (given_sets g) (stated g r) → IsAnswered
+      some_at_finiteness has small complete = by (causes (numbers_of r) g a) refl
         where
           by : (them : List NotFinite) → causes (numbers_of r) g a ≡ them → IsAnswered
           by [] none =
               let e = some_environment g (stated g r) (numbers_of r) complete in
-              some_at_row e.0 (record { has_schema = has; complete = complete; environment = e.1; finite = subst (λ n. IsFinite n g a) (sym e.1.3) ((finite_without_cause (numbers_of r) g a).1 none) })
-          by (cause ∷ them) some = (not_finite_lines r.details file g cause [], BadSpec, RequestAnswer.refused (RefusesRequest.not_finite g a cause [] has complete (ap first some) (none_beside g cause) refl refl))
+              some_at_row e.0 (record { has_schema = has; small = small; complete = complete; environment = e.1; finite = subst (λ n. IsFinite n g a) (sym e.1.3) ((finite_without_cause (numbers_of r) g a).1 none) })
+          by (cause ∷ them) some = (not_finite_lines r.details file g cause [], BadSpec, RequestAnswer.refused (RefusesRequest.not_finite g a cause [] has small complete (ap first some) (none_beside g cause) refl refl))
 
-      some_at_sizes : HasSchema source r.name g a → IsAnswered
-      some_at_sizes has = elim (complete_or_refused (given_sets g) (stated g r)) [
-        | inl complete ↦ some_at_finiteness has complete
-        | inr bad ↦ (size_fault_lines r.details g (stated g r) bad.0, BadRequest, RequestAnswer.refused (RefusesRequest.bad_sizes g a bad.0 has bad.1 bad.2 refl refl))
+      some_at_sizes : HasSchema source r.name g a → AreSmall (numbers_of r) → IsAnswered
+      some_at_sizes has small = elim (complete_or_refused (given_sets g) (stated g r)) [
+        | inl complete ↦ some_at_finiteness has small complete
+        | inr bad ↦ (size_fault_lines r.details g (stated g r) bad.0, BadRequest, RequestAnswer.refused (RefusesRequest.bad_sizes g a bad.0 has small bad.1 bad.2 refl refl))
+      ]
+
+      some_at_numbers : HasSchema source r.name g a → IsAnswered
+      some_at_numbers has = elim (small_or_too_large (numbers_of r)) [
+        | inl small ↦ some_at_sizes has small
+        | inr large ↦ (numbers_too_large_line, BadRequest, RequestAnswer.refused (RefusesRequest.large_numbers g a has large refl refl))
       ]
 
     some_at_schema : Checks source g [] → IsAnswered
     some_at_schema checks = elim (named_or_none g r.name) [
-      | inl named ↦ some_at_sizes named.0 (record { checks = checks; named = named.1 })
+      | inl named ↦ some_at_numbers named.0 (record { checks = checks; named = named.1 })
       | inr none ↦ (no_schema_lines r.details g r.name, BadRequest, RequestAnswer.refused (RefusesRequest.no_schema g checks none refl refl))
     ]
 

@@ -1,4 +1,5 @@
 mod Prelude
+mod SmallNumbers
 pub mod Rows
 pub mod OneEnding
 pub mod WrittenRows

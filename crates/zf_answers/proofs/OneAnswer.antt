@@ -5,7 +5,8 @@ use Rattle.zf_checker.specs.Listing.{listing}
 use Rattle.zf_answers.proofs.OneSource.{none_and_some, one_checked, one_named, one_refused, some_and_none, unread}
 use Rattle.zf_answers.proofs.OneSearch.{clear_at, names_at, not_infinite, one_environment_at, one_first_out, one_held, one_named_row, one_shown}
 use Rattle.zf_answers.proofs.OneRefusal.{none_refused, one_refusal}
-use Rattle.zf_answers.proofs.Stages.{AtFiniteness, AtHeldValues, AtNamedRow, AtSchema, AtSearch, AtSizes, AtTypes, staged}
+use Rattle.zf_answers.proofs.Stages.{AtFiniteness, AtHeldValues, AtNamedRow, AtNumbers, AtSchema, AtSearch, AtSizes, AtTypes, staged}
+use Rattle.zf_answers.proofs.SmallNumbers.{small_not_too_large}
 use Rattle.zf_answers.proofs.Reasons.{AreOneReason, one_told}
 use Rattle.zf_answers.proofs.FaultLines.{lines_of_none}
 
@@ -82,11 +83,17 @@ module _ (Tells : List Defined → Schema → Environment → Portion → List �
     one_at_sizes a named (inr x) (inl y) = absurd (none_refused (given_sets g) (stated g r) y.fault x.0 y.some y.refused)
     one_at_sizes a named (inr x) (inr y) = one_at_finiteness a named y.0 x.1 y.1
 
+    one_at_numbers : (a : Schema) → IsNamed g r.name a → AtNumbers Tells r file source one s g a → AtNumbers Tells r file source two t g a → IsOne r.details file source one two s t
+    one_at_numbers a named (inl x) (inl y) = of_same r.details file source one two s t (x.bad ∙ sym y.bad) (x.told ∙ sym y.told)
+    one_at_numbers a named (inl x) (inr y) = absurd (small_not_too_large (numbers_of r) y.0 x.large)
+    one_at_numbers a named (inr x) (inl y) = absurd (small_not_too_large (numbers_of r) x.0 y.large)
+    one_at_numbers a named (inr x) (inr y) = one_at_sizes a named x.1 y.1
+
     one_at_schema : AtSchema Tells r file source one s g → AtSchema Tells r file source two t g → IsOne r.details file source one two s t
     one_at_schema (inl x) (inl y) = of_same r.details file source one two s t (x.bad ∙ sym y.bad) (x.told ∙ sym y.told)
     one_at_schema (inl x) (inr y) = absurd (x.none y.0 y.1)
     one_at_schema (inr x) (inl y) = absurd (y.none x.0 x.1)
-    one_at_schema (inr x) (inr y) = one_at_sizes y.0 y.1 (subst (AtSizes Tells r file source one s g) (one_named g r.name x.0 y.0 x.1 y.1) x.2) y.2
+    one_at_schema (inr x) (inr y) = one_at_numbers y.0 y.1 (subst (AtNumbers Tells r file source one s g) (one_named g r.name x.0 y.0 x.1 y.1) x.2) y.2
 
   one_at_types : AtTypes Tells r file source one s → AtTypes Tells r file source two t → IsOne r.details file source one two s t
   one_at_types (inl x) (inl y) =

@@ -68,8 +68,9 @@ pub use Rattle.zf_found.proofs.Searches.{property_told, some_search, some_tests_
 pub use Rattle.zf_engine.specs.Answers.{Answer, AreHeld, check_status, CheckAnswer, Checks, HasSchema, HoldsNoValues, IsAsked, IsLimited, IsLineOf, IsNamed, IsNamedRow, IsSearch, JobAnswer, JobBegins, NamesNoRow, RefusesRequest, RequestAnswer, ShowAnswer, ShowBegins, ShowsEvents, size_fault_lines, stated, UnreadAnswer, wants_details, numbers_of}
 pub use Rattle.zf_engine.specs.Details.{Cited, not_finite_lines, text_fault_lines, AreLines}
 pub use Rattle.zf_engine.specs.Missing.{no_schema_lines}
+pub use Rattle.zf_engine.specs.Numbers.{AreSmall, AreTooLarge}
 pub use Rattle.zf_engine.specs.Reasons.{conjunct_lines, empty_lines, TellsWhy}
-pub use Rattle.zf_engine.specs.Texts.{declared_out_line, not_a_binding_line, not_held_line}
+pub use Rattle.zf_engine.specs.Texts.{declared_out_line, not_a_binding_line, not_held_line, numbers_too_large_line}
 pub use Rattle.zf_answers.specs.Bindings.{EndsLines, IsBefore, IsBinding, IsInDoubt, IsNotPast, ShowsBindings}
 pub use Rattle.zf_answers.specs.Laws.{AnswersRequest, AreAlike, AreOfSame, EachBindingIsShown, EventsAreShown, EveryHeldLineIsJudged, EveryLineIsJudged, EveryRequestIsAnswered, EverySourceIsRead, IsGranted, IsShownInOneWay, OneStatus, OneText, ReasonIsTold}
 pub use Rattle.zf_answers.specs.Runs.{FirstLinesAreAFront, limited, PartsAreFronts, resumed, RunsMakeOne, together}

@@ -57,7 +57,7 @@ module _ (resuming : LinesAreRows) (r : Request) (n : ℕ) (limit : Option ℕ) 
 
   search : IsSearch r source g a e p
   search = record {
-    asked = record { has_schema = granted.has_schema; complete = granted.complete; environment = granted.environment; finite = granted.finite };
+    asked = record { has_schema = granted.has_schema; small = granted.small; complete = granted.complete; environment = granted.environment; finite = granted.finite };
     named = granted.named;
     held = granted.held;
     none_out = granted.none_out;
@@ -74,6 +74,7 @@ module _ (resuming : LinesAreRows) (r : Request) (n : ℕ) (limit : Option ℕ) 
   next_granted : IsGranted next source g a e (behind row p)
   next_granted = record {
     has_schema = record { checks = granted.has_schema.checks; named = granted.has_schema.named };
+    small = granted.small;
     complete = granted.complete;
     environment = granted.environment;
     finite = granted.finite;
@@ -116,7 +117,7 @@ module _ (resuming : LinesAreRows) (r : Request) (n : ℕ) (limit : Option ℕ) 
 
     both_shown : AnswersRequest (limited (together n limit) r) file source (flat_map line run.rows ++ second) t
     both_shown = inr (RequestAnswer.granted g a e p
-        (record { asked = record { has_schema = record { checks = granted.has_schema.checks; named = granted.has_schema.named }; complete = granted.complete; environment = granted.environment; finite = granted.finite }; named = granted.named; held = granted.held; none_out = granted.none_out })
+        (record { asked = record { has_schema = record { checks = granted.has_schema.checks; named = granted.has_schema.named }; small = granted.small; complete = granted.complete; environment = granted.environment; finite = granted.finite }; named = granted.named; held = granted.held; none_out = granted.none_out })
         (record {
           last = shown.last;
           events = events ++ shown.events;

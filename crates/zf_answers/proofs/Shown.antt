@@ -9,7 +9,8 @@ use Rattle.zf_meaning.specs.Meaning.{IsTruth}
 use Rattle.zf_answers.proofs.OneSource.{unread, one_checked, one_named, some_and_none}
 use Rattle.zf_answers.proofs.OneSearch.{clear_at, names_at, not_infinite, one_environment_at, one_held, one_named_row, one_shown}
 use Rattle.zf_answers.proofs.OneRefusal.{none_refused}
-use Rattle.zf_answers.proofs.Stages.{AtFiniteness, AtHeldValues, AtNamedRow, AtSchema, AtSearch, AtSizes, AtTypes, staged}
+use Rattle.zf_answers.proofs.Stages.{AtFiniteness, AtHeldValues, AtNamedRow, AtNumbers, AtSchema, AtSearch, AtSizes, AtTypes, staged}
+use Rattle.zf_answers.proofs.SmallNumbers.{small_not_too_large}
 use Rattle.zf_answers.proofs.WrittenRows.{with_truth, written_rows}
 
 -- ---- the events
@@ -51,9 +52,13 @@ module _ (Tells : List Defined → Schema → Environment → Portion → List �
   sized (inl bad) = absurd (none_refused (given_sets g) (stated g r) bad.fault granted.complete bad.some bad.refused)
   sized (inr fits) = finite fits.1
 
+  numbered : AtNumbers Tells r file source text status g a → Tells g a e p text status
+  numbered (inl bad) = absurd (small_not_too_large (numbers_of r) granted.small bad.large)
+  numbered (inr small) = sized small.1
+
   schema_named : AtSchema Tells r file source text status g → Tells g a e p text status
   schema_named (inl none) = absurd (none.none a granted.has_schema.named)
-  schema_named (inr has) = sized (subst (AtSizes Tells r file source text status g) (one_named g r.name has.0 a has.1 granted.has_schema.named) has.2)
+  schema_named (inr has) = numbered (subst (AtNumbers Tells r file source text status g) (one_named g r.name has.0 a has.1 granted.has_schema.named) has.2)
 
   typed : AtTypes Tells r file source text status → Tells g a e p text status
   typed (inl bad) = absurd (some_and_none bad.faults bad.some (one_checked source bad.globals g bad.faults [] bad.checks granted.has_schema.checks).1)

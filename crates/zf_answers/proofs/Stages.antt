@@ -1,5 +1,5 @@
 -- An answer of a request by its stages: at each it is refused, or goes on with what the next one stands on.
-use Rattle.zf_answers.proofs.Prelude.{slice_get, Value, Comp, Defined, Schema, Fault, first, causes, IsFinite, NotFinite, Environment, IsEnvironment, AreComplete, given_sets, IsRefusal, SizeFault, Portion, portion, IsFirstOut, IsNoneOut, Status, BadRequest, BadSpec, PastBounds, AreHeld, Checks, HoldsNoValues, IsNamed, IsNamedRow, NamesNoRow, Request, RefusesRequest, RequestAnswer, size_fault_lines, stated, declared_out_line, no_schema_lines, not_a_binding_line, not_finite_lines, not_held_line, AreLines, numbers_of, IsAsked, subst}
+use Rattle.zf_answers.proofs.Prelude.{slice_get, Value, Comp, Defined, Schema, Fault, first, causes, IsFinite, NotFinite, Environment, IsEnvironment, AreComplete, given_sets, IsRefusal, SizeFault, Portion, portion, IsFirstOut, IsNoneOut, Status, BadRequest, BadSpec, PastBounds, AreHeld, Checks, HasSchema, HoldsNoValues, IsNamed, IsNamedRow, NamesNoRow, Request, RefusesRequest, RequestAnswer, size_fault_lines, stated, declared_out_line, no_schema_lines, not_a_binding_line, not_finite_lines, not_held_line, numbers_too_large_line, AreLines, AreSmall, AreTooLarge, numbers_of, IsAsked, subst}
 use Rattle.std.proofs.Common.{◌≡◌, ◌≢◌, ℕ, ◌⊎◌, List, [], Option, Some, inl, inr}
 use Rattle.zf_meaning.specs.declared.sizes.SizeFault.TheVariants as size_faults
 
@@ -17,6 +17,11 @@ module _ (Tells : List Defined → Schema → Environment → Portion → List �
   pub record HasNoSchema (g : List Defined) : Type 0 where
     pub none : (a : Schema) → IsNamed g r.name a → ⊥
     pub told : text ≡ no_schema_lines r.details g r.name
+    pub bad : status ≡ BadRequest
+
+  pub record HasLargeNumbers : Type 0 where
+    pub large : AreTooLarge (numbers_of r)
+    pub told : text ≡ numbers_too_large_line
     pub bad : status ≡ BadRequest
 
   pub record HasBadSizes (g : List Defined) : Type 0 where
@@ -71,8 +76,11 @@ module _ (Tells : List Defined → Schema → Environment → Portion → List �
   abbrev pub AtSizes : List Defined → Schema → Type 0
   AtSizes g a = HasBadSizes g ⊎ (AreComplete (given_sets g) (stated g r) × AtFiniteness g a)
 
+  abbrev pub AtNumbers : List Defined → Schema → Type 0
+  AtNumbers g a = HasLargeNumbers ⊎ (AreSmall (numbers_of r) × AtSizes g a)
+
   abbrev pub AtSchema : List Defined → Type 0
-  AtSchema g = HasNoSchema g ⊎ ((a : Schema) × IsNamed g r.name a × AtSizes g a)
+  AtSchema g = HasNoSchema g ⊎ ((a : Schema) × IsNamed g r.name a × AtNumbers g a)
 
   abbrev pub AtTypes : Type 0
   AtTypes = IsIllTyped ⊎ ((g : List Defined) × Checks source g [] × AtSchema g)
@@ -80,76 +88,32 @@ module _ (Tells : List Defined → Schema → Environment → Portion → List �
   finite_for : (g : List Defined) (a : Schema) (e : Environment) → IsAsked r source g a e → IsFinite (numbers_of r) g a
   finite_for g a e asked = subst (λ n. IsFinite n g a) asked.environment.3 asked.finite
 
+  -- what stands at a later stage stands at the first
+  at_finiteness : (g : List Defined) (a : Schema) → HasSchema source r.name g a → AreSmall (numbers_of r) → AreComplete (given_sets g) (stated g r) → AtFiniteness g a → AtTypes
+  at_finiteness g a has small complete at = inr (g, has.checks, inr (a, has.named, inr (small, inr (complete, at))))
+
+  at_row : (g : List Defined) (a : Schema) (e : Environment) → IsAsked r source g a e → AtNamedRow g a e → AtTypes
+  at_row g a e asked at = at_finiteness g a asked.has_schema asked.small asked.complete (inr (finite_for g a e asked, (e, asked.environment, at)))
+
   -- each refusal stands at one of them
   refused_at : RefusesRequest r file source text status → AtTypes
   refused_at (RefusesRequest.ill_typed g faults checks some told bad) = inl (record { globals = g; faults = faults; checks = checks; some = some; told = told; bad = bad })
   refused_at (RefusesRequest.no_schema g checks none told bad) = inr (g, checks, inl (record { none = none; told = told; bad = bad }))
-  refused_at (RefusesRequest.bad_sizes g a fault has refused some told bad) =
-      inr (g, has.checks, inr (a, has.named, inl (record { fault = fault; refused = refused; some = some; told = told; bad = bad })))
-  refused_at (RefusesRequest.not_finite g a cause side has complete first_cause beside told bad) =
-      inr (g, has.checks, inr (a, has.named, inr (complete, inl (record { cause = cause; side = side; first_cause = first_cause; told = told; bad = bad }))))
+  refused_at (RefusesRequest.large_numbers g a has large told bad) =
+      inr (g, has.checks, inr (a, has.named, inl (record { large = large; told = told; bad = bad })))
+  refused_at (RefusesRequest.bad_sizes g a fault has small refused some told bad) =
+      inr (g, has.checks, inr (a, has.named, inr (small, inl (record { fault = fault; refused = refused; some = some; told = told; bad = bad }))))
+  refused_at (RefusesRequest.not_finite g a cause side has small complete first_cause beside told bad) =
+      at_finiteness g a has small complete (inl (record { cause = cause; side = side; first_cause = first_cause; told = told; bad = bad }))
   refused_at (RefusesRequest.not_a_binding g a e place asked none told bad) =
-      let has = asked.has_schema in
-      inr (g, has.checks, inr (a, has.named, inr (asked.complete, inr (finite_for g a e asked, (e, asked.environment, inl (record { place = place; none = none; told = told; bad = bad }))))))
+      at_row g a e asked (inl (record { place = place; none = none; told = told; bad = bad }))
   refused_at (RefusesRequest.holds_nothing g a e after place asked named none told bad) =
-      let has = asked.has_schema in
-      inr (g, has.checks, inr (a, has.named, inr (asked.complete, inr (finite_for g a e asked, (e, asked.environment, inr (after, named, inl (record { place = place; none = none; told = told; bad = bad })))))))
+      at_row g a e asked (inr (after, named, inl (record { place = place; none = none; told = told; bad = bad })))
   refused_at (RefusesRequest.declared_out g a e p place c asked named held first_out there told past) =
-      let has = asked.has_schema in
-      inr (
-        g,
-        has.checks,
-        inr (
-          a,
-          has.named,
-          inr (
-            asked.complete,
-            inr (
-              finite_for g a e asked,
-              (
-                e,
-                asked.environment,
-                inr (
-                  p.after,
-                  named,
-                  inr (p.held, held, inl (record { place = place; component = c; first_out = first_out; there = there; told = told; past = past })),
-                ),
-              ),
-            ),
-          ),
-        ),
-      )
+      at_row g a e asked (inr (p.after, named, inr (p.held, held, inl (record { place = place; component = c; first_out = first_out; there = there; told = told; past = past }))))
 
   -- and each answer
   pub staged : RequestAnswer Tells r file source text status → AtTypes
   staged (RequestAnswer.refused refuses) = refused_at refuses
   staged (RequestAnswer.granted g a e p search told) =
-      let asked = search.asked in
-      let has = asked.has_schema in
-      inr (
-        g,
-        has.checks,
-        inr (
-          a,
-          has.named,
-          inr (
-            asked.complete,
-            inr (
-              finite_for g a e asked,
-              (
-                e,
-                asked.environment,
-                inr (
-                  p.after,
-                  search.named,
-                  inr (
-                    p.held,
-                    search.held,
-                    inr (search.none_out, told),
-                  ),
-                ),
-              ),
-            ),
-          ),
-        ),
-      )
+      at_row g a e search.asked (inr (p.after, search.named, inr (p.held, search.held, inr (search.none_out, told))))

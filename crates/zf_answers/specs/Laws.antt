@@ -26,6 +26,7 @@ use Rattle.zf_lines.specs.declared.fault.Status.{Status}
 use Rattle.zf_command.specs.declared.job.Request.{Request}
 use Rattle.zf_engine.specs.Answers.{Answer, AreHeld, Checks, HasSchema, HoldsNoValues, IsLimited, IsNamedRow, NamesNoRow, ShowsEvents, stated, wants_details, numbers_of}
 use Rattle.zf_engine.specs.Details.{Cited, text_fault_lines, not_finite_lines, AreLines}
+use Rattle.zf_engine.specs.Numbers.{AreSmall}
 use Rattle.zf_engine.specs.Reasons.{TellsWhy, conjunct_lines}
 use Rattle.zf_engine.specs.Texts.{not_a_binding_line, not_held_line, type_fault_line}
 use Rattle.zf_answers.specs.Bindings.{ShowsBindings}
@@ -36,11 +37,12 @@ use Rattle.zf_answers.specs.Bindings.{ShowsBindings}
 abbrev pub AnswersRequest : Request → (file source text : List ℕ) → Status → Type 0
 AnswersRequest r file source text status = Answer (Show r) file source text status
 
--- Nothing stands in the way of the request: a tree reads the source, it is well typed and this is its schema of the name, the sizes fit and this is the
--- environment at them, the schema is finite, the named row is this row of the schema's types, if one is named, these values are held, if a line of some
+-- Nothing stands in the way of the request: a tree reads the source, it is well typed and this is its schema of the name, the numbers and the sizes fit and
+-- this is the environment at them, the schema is finite, the named row is this row of the schema's types, if one is named, these values are held, if a line of some
 -- components is given, and no declared set is out.
 pub record IsGranted (r : Request) (source : List ℕ) (globals : List Defined) (a : Schema) (e : Environment) (p : Portion) : Type 0 where
   pub has_schema : HasSchema source r.name globals a
+  pub small : AreSmall (numbers_of r)
   pub complete : AreComplete (given_sets globals) (stated globals r)
   pub environment : IsEnvironment globals (stated globals r) (numbers_of r) e
   pub finite : IsFinite e.numbers globals a

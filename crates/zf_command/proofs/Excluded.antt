@@ -1,5 +1,5 @@
 -- Words that are refused ask for no work.
-use Rattle.zf_command.proofs.Prelude.{◌∙◌, ◌∷◌, ◌≡◌, [], arith, codes, inl, inr, List, None, Option, Some, subst, suc, sym, zero, ℕ, AllZip, Contains, first_of, IsAmong, Row, Text, HasBadLimit, HasBadNumber, HasBadSizes, IsAsked, IsJob, IsLimit, IsRequest, IsSize, IsRefused, ReadsSize, Refuses, values_of, Work, Size}
+use Rattle.zf_command.proofs.Prelude.{◌∙◌, ◌∷◌, ◌≡◌, [], arith, codes, inl, inr, List, None, Option, Some, subst, suc, sym, zero, ℕ, AllZip, Contains, first_of, IsAmong, Row, Text, HasBadLimit, HasBadNumber, HasBadNumbers, HasBadSizes, IsAsked, IsJob, IsLimit, IsNumberOf, IsRequest, IsRefused, ReadsSize, Refuses, values_of, Work, Size}
 use Rattle.std.proofs.lemmas.Option.{same_Some}
 use Rattle.zf_command.specs.declared.job.Job.{Job}
 use Rattle.zf_command.specs.declared.job.Request.{Request}
@@ -18,17 +18,23 @@ no_bad_limit None limit bad is = bad
 no_bad_limit (Some digits) None bad is = is
 no_bad_limit (Some digits) (Some n) bad is = bad n is
 
--- a size that is read is a numeral
-no_bad_number : (given : Option Text) (size : Option ℕ) → HasBadNumber given → IsSize given size → ⊥
-no_bad_number None size bad is = bad
+-- a number that is read is a numeral
+no_bad_number : (given : Option Text) (number : Option ℕ) → HasBadNumber given → IsNumberOf given number → ⊥
+no_bad_number None number bad is = bad
 no_bad_number (Some digits) None bad is = is
 no_bad_number (Some digits) (Some n) bad is = bad is.0
 
+-- nor are the greatest number and the size bad
+no_bad_numbers : (rows : List Row) (numbers size : Option ℕ) → HasBadNumbers rows
+    → IsNumberOf (first_of (codes "numbers") rows) numbers → IsNumberOf (first_of (codes "size") rows) size → ⊥
+no_bad_numbers rows numbers size (inl bad) numbered shared = no_bad_number (first_of (codes "numbers") rows) numbers bad numbered
+no_bad_numbers rows numbers size (inr bad) numbered shared = no_bad_number (first_of (codes "size") rows) size bad shared
+
 -- sizes that are read are not bad
 no_bad_sizes : (rows : List Row) (r : Request) → HasBadSizes rows → IsRequest rows r → ⊥
-no_bad_sizes rows r (inl (word, among, bad)) (named, read, shared, held_so, detailed) =
+no_bad_sizes rows r (inl (word, among, bad)) (named, read, numbered, shared, held_so, detailed) =
     let size = size_of (values_of (codes "NAME=SIZE") rows) r.sizes word read among in bad size.0 size.1
-no_bad_sizes rows r (inr bad) (named, read, shared, held_so, detailed) = no_bad_number (first_of (codes "size") rows) r.size bad shared
+no_bad_sizes rows r (inr bad) (named, read, numbered, shared, held_so, detailed) = no_bad_numbers rows r.numbers r.size bad numbered shared
 
 not_both : (name : Text) (rows : List Row) (job : Job) → Refuses name rows → IsJob name rows job → ⊥
 not_both name rows (Check types details) (other, bad) (is, typed, detailed) = other is

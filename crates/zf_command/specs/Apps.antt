@@ -1,5 +1,6 @@
--- The command line, as the literals that `clap` reads words by: `--version`, `check [-t] [--details] FILE`, `show [--after TEXT] [--with TEXT] [--size N] [--limit N] [--tests] [--details] FILE SCHEMA [NAME=SIZE]...`
--- and `why [--with TEXT] [--size N] [--details] FILE SCHEMA [NAME=SIZE]...`.
+-- The command line, as the literals that `clap` reads words by: `--version`, `check [-t] [--details] FILE`,
+-- `show [--after TEXT] [--with TEXT] [--numbers N] [--size N] [--limit N] [--tests] [--details] FILE SCHEMA [NAME=SIZE]...`
+-- and `why [--with TEXT] [--numbers N] [--size N] [--details] FILE SCHEMA [NAME=SIZE]...`.
 use Rattle.std.specs.Prelude.{◌≡◌, Some, codes, true, false}
 use Rattle.clap.specs.Words.{App, Rule, Text, app_of, new_app, new_rule, rule_of, with_rule, with_subcommand}
 use Rattle.clap.specs.declared.builder.ArgAction.TheVariants.{Append, SetTrue}
@@ -35,20 +36,25 @@ tests_rule = record (new_rule (codes "tests")) { long = Some (codes "tests"); ac
 abbrev pub check_app : App
 check_app = with_rule (with_rule (with_rule (new_app (codes "check")) types_rule) details_rule) (required_rule (codes "FILE"))
 
+-- `[--numbers N] [--size N]`
+abbrev pub with_sizes : App → App
+with_sizes app = with_rule (with_rule app (option_rule (codes "numbers"))) (option_rule (codes "size"))
+
 -- the options of `show`
 abbrev pub show_options : App
 show_options =
-    with_rule (with_rule (with_rule (with_rule (with_rule (with_rule (new_app (codes "show")) (option_rule (codes "after"))) (option_rule (codes "with"))) (option_rule (codes "size"))) (option_rule (codes "limit"))) tests_rule) details_rule
+    let bound = with_sizes (with_rule (with_rule (new_app (codes "show")) (option_rule (codes "after"))) (option_rule (codes "with"))) in
+    with_rule (with_rule (with_rule bound (option_rule (codes "limit"))) tests_rule) details_rule
 
--- `show [--after TEXT] [--with TEXT] [--size N] [--limit N] [--tests] [--details] FILE SCHEMA [NAME=SIZE]...`
+-- `show [--after TEXT] [--with TEXT] [--numbers N] [--size N] [--limit N] [--tests] [--details] FILE SCHEMA [NAME=SIZE]...`
 abbrev pub show_app : App
 show_app = with_rule (with_rule (with_rule show_options (required_rule (codes "FILE"))) (required_rule (codes "SCHEMA"))) sizes_rule
 
 -- the options of `why`
 abbrev pub why_options : App
-why_options = with_rule (with_rule (with_rule (new_app (codes "why")) (option_rule (codes "with"))) (option_rule (codes "size"))) details_rule
+why_options = with_rule (with_sizes (with_rule (new_app (codes "why")) (option_rule (codes "with")))) details_rule
 
--- `why [--with TEXT] [--size N] [--details] FILE SCHEMA [NAME=SIZE]...`
+-- `why [--with TEXT] [--numbers N] [--size N] [--details] FILE SCHEMA [NAME=SIZE]...`
 abbrev pub why_app : App
 why_app = with_rule (with_rule (with_rule why_options (required_rule (codes "FILE"))) (required_rule (codes "SCHEMA"))) sizes_rule
 

@@ -47,10 +47,10 @@ IsBadSize word = (size : Size) → ReadsSize word size → ⊥
 abbrev pub HasBadSize : List Text → Type 0
 HasBadSize words = (word : Text) × Contains words word × IsBadSize word
 
--- the size of the option's value, where it was given
-abbrev pub IsSize : Option Text → Option ℕ → Type 0
-IsSize None size = size ≡ None
-IsSize (Some digits) size = IsSomeAnd size (ReadsNumber digits)
+-- the number of the option's value, where it was given
+abbrev pub IsNumberOf : Option Text → Option ℕ → Type 0
+IsNumberOf None number = number ≡ None
+IsNumberOf (Some digits) number = IsSomeAnd number (ReadsNumber digits)
 
 -- it was given, and is no numeral
 abbrev pub HasBadNumber : Option Text → Type 0
@@ -73,10 +73,11 @@ abbrev pub HasBadLimit : Option Text → Type 0
 HasBadLimit None = ⊥
 HasBadLimit (Some digits) = IsBadLimit digits
 
--- the schema, the sizes and the values that are held, and whether it is asked what faults are about
+-- the schema, the sizes, the greatest number and the values that are held, and whether it is asked what faults are about
 abbrev pub IsRequest : List Row → Request → Type 0
 IsRequest rows r =
-    (r.name ≡ value_of (codes "SCHEMA") rows) × AllZip ReadsSize (values_of (codes "NAME=SIZE") rows) r.sizes × IsSize (first_of (codes "size") rows) r.size
+    (r.name ≡ value_of (codes "SCHEMA") rows) × AllZip ReadsSize (values_of (codes "NAME=SIZE") rows) r.sizes
+    × IsNumberOf (first_of (codes "numbers") rows) r.numbers × IsNumberOf (first_of (codes "size") rows) r.size
     × (r.held ≡ first_of (codes "with") rows) × (r.details ≡ is_flagged (codes "details") rows)
 
 -- what `show` alone is asked for: where it begins, how many bindings it writes, and whether it counts tests
@@ -95,11 +96,15 @@ abbrev pub Asks : Text → List Row → Asked → Type 0
 Asks name rows (Work file job) = (file ≡ value_of (codes "FILE") rows) × IsJob name rows job
 Asks name rows (About text) = ⊥
 
--- a size word among the matches has another form, or the size has
-abbrev pub HasBadSizes : List Row → Type 0
-HasBadSizes rows = HasBadSize (values_of (codes "NAME=SIZE") rows) ⊎ HasBadNumber (first_of (codes "size") rows)
+-- among the matches the greatest number or the size is no numeral
+abbrev pub HasBadNumbers : List Row → Type 0
+HasBadNumbers rows = HasBadNumber (first_of (codes "numbers") rows) ⊎ HasBadNumber (first_of (codes "size") rows)
 
--- the subcommand is `show` or `why`, and among its matches a size has another form, or the limit of `show` has
+-- a size word among the matches has another form, or one of the two numbers has
+abbrev pub HasBadSizes : List Row → Type 0
+HasBadSizes rows = HasBadSize (values_of (codes "NAME=SIZE") rows) ⊎ HasBadNumbers rows
+
+-- the subcommand is `show` or `why`, and among its matches a size word or a number has another form, or the limit of `show` has
 abbrev pub Refuses : Text → List Row → Type 0
 Refuses name rows = (name ≢ codes "check") × (HasBadSizes rows ⊎ ((name ≢ codes "why") × HasBadLimit (first_of (codes "limit") rows)))
 
@@ -116,6 +121,6 @@ IsAsked words (Work file job) = (name : Text) × (rows : List Row) × AreMatches
 abbrev pub IsRefusedByClap : List Text → Type 0
 IsRefusedByClap words = (cause : ErrorKind) × IsAmong cause (fault_of zf_app words) × (cause ≢ OutOfMemory) × (cause ≢ DisplayHelp) × (cause ≢ DisplayVersion)
 
--- the words are refused: by `clap`, or since a size word, the size or the limit among its matches has another form
+-- the words are refused: by `clap`, or since a size word, a number or the limit among its matches has another form
 abbrev pub IsRefused : List Text → Type 0
 IsRefused words = IsRefusedByClap words ⊎ ((name : Text) × (rows : List Row) × AreMatches words name rows × Refuses name rows)

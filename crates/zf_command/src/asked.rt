@@ -2,7 +2,7 @@
 ghost use Rattle.std.specs.Prelude.{◌≡◌, IfOk, IsErrOf, codes, map};
 ghost use Rattle.std.specs.List.{AllZip};
 ghost use Rattle.clap.specs.Words.{found_of, first_of, rows_of};
-ghost use Rattle.zf_command.specs.Jobs.{IsAsked, IsRefused, IsJob, IsLimit, IsRequest, Asks, Refuses, IsSize, ReadsSize, HasBadSize, HasBadSizes, HasBadNumber, HasBadLimit, values_of};
+ghost use Rattle.zf_command.specs.Jobs.{IsAsked, IsRefused, IsJob, IsLimit, IsRequest, Asks, Refuses, IsNumberOf, ReadsSize, HasBadSize, HasBadSizes, HasBadNumber, HasBadLimit, values_of};
 ghost use Rattle.zf_command.specs.Requests.{IsBare};
 ghost use Rattle.zf_command.specs.declared.job.UsageFault.TheVariants.{BadWords};
 
@@ -10,7 +10,8 @@ use crate::command::zf;
 use crate::job::{Asked, Job, Request, Size, UsageFault};
 use crate::limit::limit_of;
 use crate::matches::{all_in, first_in, is_flagged, option_in, value_in};
-use crate::sizes::{shared_size_of, sizes_of};
+use crate::numerals::given_number;
+use crate::sizes::sizes_of;
 use clap::ArgMatches;
 use clap::error::ErrorKind;
 use std::alloc::Global;
@@ -80,13 +81,15 @@ fn request_in(alloc: Global, matches: &ArgMatches<'_>) -> Result<Request, UsageF
 {
     let schema = value_in(alloc, matches, "SCHEMA")?;
     let sizes = sizes_in(alloc, matches)?;
-    let size = shared_size_in(matches)?;
+    let numbers = number_in(matches, "numbers")?;
+    let size = number_in(matches, "size")?;
     let held = option_in(alloc, matches, "with")?;
     let details = is_flagged(matches, "details");
     Ok(Request {
         name: schema,
         sizes,
         size,
+        numbers,
         after: None,
         held,
         limit: None,
@@ -103,11 +106,11 @@ fn sizes_in(alloc: Global, matches: &ArgMatches<'_>) -> Result<Items<Size>, Usag
     sizes_of(alloc, words)
 }
 
-fn shared_size_in(matches: &ArgMatches<'_>) -> Result<Option<u64>, UsageFault>
-    ensures read { IfOk result (λ size. IsSize (first_of (codes "size") (rows_of (found_of matches.now))) size) }
-    ensures refused { IsErrOf result BadWords → HasBadNumber (first_of (codes "size") (rows_of (found_of matches.now))) }
+fn number_in(matches: &ArgMatches<'_>, id: &str) -> Result<Option<u64>, UsageFault>
+    ensures read { IfOk result (λ number. IsNumberOf (first_of id.now (rows_of (found_of matches.now))) number) }
+    ensures refused { IsErrOf result BadWords → HasBadNumber (first_of id.now (rows_of (found_of matches.now))) }
 {
-    shared_size_of(first_in(matches, "size"))
+    given_number(first_in(matches, id))
 }
 
 fn limit_in(matches: &ArgMatches<'_>) -> Result<Option<u64>, UsageFault>

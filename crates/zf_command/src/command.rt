@@ -47,7 +47,7 @@ fn check_command<'a>(alloc: Global) -> Result<Command<'a>, AllocError>
     Ok(command)
 }
 
-/// `show [--after TEXT] [--with TEXT] [--size N] [--limit N] [--tests] [--details] FILE SCHEMA [NAME=SIZE]...`
+/// `show [--after TEXT] [--with TEXT] [--numbers N] [--size N] [--limit N] [--tests] [--details] FILE SCHEMA [NAME=SIZE]...`
 fn show_command<'a>(alloc: Global) -> Result<Command<'a>, AllocError>
     ensures { IfOk result (λ c. IsCommand c show_app) }
 {
@@ -58,6 +58,7 @@ fn show_command<'a>(alloc: Global) -> Result<Command<'a>, AllocError>
             alloc,
             "Writes only the bindings in which some components have these values, a line of only these components",
         ))?
+        .arg(numbers_arg(alloc))?
         .arg(size_arg(alloc))?
         .arg(limit_arg(alloc))?
         .arg(tests_arg(alloc))?
@@ -68,7 +69,7 @@ fn show_command<'a>(alloc: Global) -> Result<Command<'a>, AllocError>
     Ok(command)
 }
 
-/// `why [--with TEXT] [--size N] [--details] FILE SCHEMA [NAME=SIZE]...`
+/// `why [--with TEXT] [--numbers N] [--size N] [--details] FILE SCHEMA [NAME=SIZE]...`
 fn why_command<'a>(alloc: Global) -> Result<Command<'a>, AllocError>
     ensures { IfOk result (λ c. IsCommand c why_app) }
 {
@@ -78,6 +79,7 @@ fn why_command<'a>(alloc: Global) -> Result<Command<'a>, AllocError>
             alloc,
             "Asks only of the bindings in which some components have these values, a line of only these components",
         ))?
+        .arg(numbers_arg(alloc))?
         .arg(size_arg(alloc))?
         .arg(details_arg(alloc))?
         .arg(file_arg(alloc))?
@@ -121,6 +123,15 @@ fn with_arg<'a>(alloc: Global, help: &'a str) -> Arg<'a>
         .long("with")
         .value_name("TEXT")
         .help(help)
+}
+
+fn numbers_arg<'a>(alloc: Global) -> Arg<'a>
+    ensures { IsArg result (option_rule (codes "numbers")) }
+{
+    Arg::new(alloc, "numbers")
+        .long("numbers")
+        .value_name("N")
+        .help("The greatest number: \\num is -N..N, \\nat is 0..N, \\nat_1 is 1..N")
 }
 
 fn size_arg<'a>(alloc: Global) -> Arg<'a>

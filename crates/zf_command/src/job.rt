@@ -21,6 +21,8 @@ pub struct Request {
     pub sizes: Items<Size>,
     /// The size of each other given set.
     pub size: Option<u64>,
+    /// The greatest number, if numbers have an end.
+    pub numbers: Option<u64>,
     /// The line of the binding after which it begins.
     pub after: Option<Word>,
     /// The line of some components, whose values are held.

@@ -1,8 +1,25 @@
 //! Numbers that texts of digits spell.
-ghost use Rattle.std.specs.Prelude.{◌≡◌, ◌↔◌, IsTrue, MatchOption, EachIndex, slice_index};
+ghost use Rattle.std.specs.Prelude.{◌≡◌, ◌↔◌, IfOk, IsErrOf, IsTrue, MatchOption, EachIndex, option_map, slice_index};
 ghost use Rattle.std.specs.Int.{IsInRange};
 ghost use Rattle.std.specs.Str.Parse.{IsNumeral};
-ghost use Rattle.zf_command.specs.Jobs.{ReadsNumber};
+ghost use Rattle.zf_command.specs.Jobs.{HasBadNumber, IsNumberOf, ReadsNumber};
+ghost use Rattle.zf_command.specs.declared.job.UsageFault.TheVariants.{BadWords};
+
+use crate::job::UsageFault;
+
+/// The number of an option's value, if it was given.
+pub fn given_number(digits: Option<&str>) -> Result<Option<u64>, UsageFault>
+    ensures read { IfOk result (λ number. IsNumberOf (option_map (λ d. d.now) digits.entry) number) }
+    ensures refused { IsErrOf result BadWords → HasBadNumber (option_map (λ d. d.now) digits.entry) }
+{
+    match digits {
+        None => Ok(None),
+        Some(digits) => match number_of(digits) {
+            Some(number) => Ok(Some(number)),
+            None => Err(UsageFault::BadWords),
+        },
+    }
+}
 
 /// The number that a text of digits spells.
 pub fn number_of(digits: &str) -> Option<u64>

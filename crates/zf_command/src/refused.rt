@@ -5,7 +5,8 @@
 use crate::command::zf;
 use crate::limit::{LIMIT_MAX, limit_of};
 use crate::matches::{all_in, first_in};
-use crate::sizes::{parts_of, shared_size_of};
+use crate::numerals::given_number;
+use crate::sizes::parts_of;
 use clap::ArgMatches;
 use clap::error::{Error, ErrorKind};
 use std::alloc::{AllocError, Global};
@@ -79,8 +80,10 @@ fn append_bad_values(matches: &ArgMatches<'_>, lines: &mut String) -> Result<(),
             write!(lines, "  {word}: NAME=SIZE is expected\n")?;
         }
     }
-    if shared_size_of(first_in(matches, "size")).is_err() {
-        append_line("--size: a number", lines)?;
+    for option in ["numbers", "size"] {
+        if given_number(first_in(matches, option)).is_err() {
+            write!(lines, "  --{option}: a number\n")?;
+        }
     }
     if limit_of(first_in(matches, "limit")).is_err() {
         write!(lines, "  --limit: a number from 1 to {LIMIT_MAX}\n")?;

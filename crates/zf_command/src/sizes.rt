@@ -1,27 +1,13 @@
 //! Size words: `NAME=SIZE`.
-ghost use Rattle.std.specs.Prelude.{◌≡◌, IfOk, IsErrOf, MatchOption, map, option_map};
+ghost use Rattle.std.specs.Prelude.{◌≡◌, IfOk, IsErrOf, MatchOption, map};
 ghost use Rattle.std.specs.List.{AllZip};
-ghost use Rattle.zf_command.specs.Jobs.{HasBadNumber, HasBadSize, IsBadSize, IsSize, ReadsSize};
+ghost use Rattle.zf_command.specs.Jobs.{HasBadSize, IsBadSize, ReadsSize};
 ghost use Rattle.zf_command.specs.declared.job.UsageFault.TheVariants.{BadWords};
 
 use crate::job::{Size, UsageFault};
 use crate::numerals::number_of;
 use std::alloc::Global;
 use zf_data::{Items, Word};
-
-/// The size of the option's value, which serves several given sets, if it was given.
-pub fn shared_size_of(digits: Option<&str>) -> Result<Option<u64>, UsageFault>
-    ensures read { IfOk result (λ size. IsSize (option_map (λ d. d.now) digits.entry) size) }
-    ensures refused { IsErrOf result BadWords → HasBadNumber (option_map (λ d. d.now) digits.entry) }
-{
-    match digits {
-        None => Ok(None),
-        Some(digits) => match number_of(digits) {
-            Some(size) => Ok(Some(size)),
-            None => Err(UsageFault::BadWords),
-        },
-    }
-}
 
 /// The sizes of the words, in their order.
 pub fn sizes_of(alloc: Global, words: &[&str]) -> Result<Items<Size>, UsageFault>

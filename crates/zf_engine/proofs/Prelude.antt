@@ -35,10 +35,11 @@ pub use Rattle.zf_command.specs.declared.job.Request.{Request}
 pub use Rattle.zf_lines.proofs.Beginning.{at_start, counting_at_start}
 pub use Rattle.zf_lines.specs.declared.fault.Status.{Status}
 pub use Rattle.zf_engine.specs.Answers.{Answer, AnswersReader, AnswersSource, AreHeld, Checks, HasSchema, IsAsked, IsNamed, IsNamedRow, IsSearch, numbers_of, RefusesRequest, RequestAnswer, ShowAnswer, ShowBegins, ShowsEvents, stated, stated_size, StopsInReader, UnreadAnswer, without_size}
-pub use Rattle.zf_engine.specs.Stops.{StopsInSource, AnswersEach, AnswersOver, AnswersRequest, IfAnswered, IsFaultLine, IsRefused, Shows, Tells, TellsInfinite, TellsMisfit, TellsNoRow, TellsNoValues, TellsOut, TellsPlace, TellsPlaceHeld}
+pub use Rattle.zf_engine.specs.Stops.{StopsInSource, AnswersEach, AnswersOver, AnswersRequest, IfAnswered, IsFaultLine, IsRefused, Shows, Tells, TellsInfinite, TellsMisfit, TellsNoRow, TellsNoValues, TellsNumbers, TellsOut, TellsPlace, TellsPlaceHeld}
 pub use Rattle.zf_engine.specs.Statuses.{IsStatus, IsStatusOfRefused, IsWorkStatus}
 pub use Rattle.zf_engine.specs.Details.{Cited, cited_of, type_fault_lines, AreLines}
 pub use Rattle.zf_engine.specs.Missing.{no_schema_lines}
+pub use Rattle.zf_engine.specs.Numbers.{AreSmall}
 pub use Rattle.zf_engine.specs.Texts.{declared_out_line}
 pub use Rattle.zf_engine.specs.declared.stop.Stop.{Stop}
 pub use Rattle.zf_engine.specs.declared.stop.Stop.TheVariants.{Answered, OutOfMemory}

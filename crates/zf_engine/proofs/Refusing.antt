@@ -1,5 +1,5 @@
 -- The steps before the first binding make answers: refusals, in their order.
-use Rattle.zf_engine.proofs.Prelude.{◌==◌, ◌∙◌, ◌∷◌, ◌≡◌, ◌≢◌, ◌⊎◌, [], ap, arith, Bool, Err, false, IfErr, IfOk, inl, inr, length, List, map, Ok, Option, refl, Result, Some, subst, sym, true, ℕ, eqb-true, Value, Comp, Defined, Schema, AreWellTyped, Environment, spellings, Spelling, Portion, Status, AreHeld, Checks, HasSchema, IsAsked, IsNamed, IsNamedRow, Request, RefusesRequest, numbers_of, stated, UnreadAnswer, AnswersEach, AnswersRequest, IfAnswered, IsFaultLine, TellsInfinite, TellsMisfit, TellsNoRow, TellsNoValues, TellsOut, TellsPlace, TellsPlaceHeld, Cited, Stop, Answered, OutOfMemory, AreLines}
+use Rattle.zf_engine.proofs.Prelude.{◌==◌, ◌∙◌, ◌∷◌, ◌≡◌, ◌≢◌, ◌⊎◌, [], ap, arith, Bool, Err, false, IfErr, IfOk, inl, inr, length, List, map, Ok, Option, refl, Result, Some, subst, sym, true, ℕ, eqb-true, Value, Comp, Defined, Schema, AreWellTyped, Environment, spellings, Spelling, Portion, Status, AreHeld, Checks, HasSchema, IsAsked, IsNamed, IsNamedRow, Request, RefusesRequest, numbers_of, stated, UnreadAnswer, AnswersEach, AnswersRequest, IfAnswered, IsFaultLine, AreSmall, TellsInfinite, TellsMisfit, TellsNumbers, TellsNoRow, TellsNoValues, TellsOut, TellsPlace, TellsPlaceHeld, Cited, Stop, Answered, OutOfMemory, AreLines}
 use Rattle.zf_finite.specs.Finite.{IsFinite}
 use Rattle.zf_scan.specs.declared.fault.TextFault.{TextFault}
 use Rattle.zf_scan.specs.CutViews.{IsWantOfMemory}
@@ -114,11 +114,14 @@ module _ (r : Request) (file source : List ℕ) (g : List Defined) (a : Schema) 
   pub has_schema : Checks source g [] → IsNamed g r.name a → HasSchema source r.name g a
   has_schema checks named = record { checks = checks; named = named }
 
-  pub misfit_answers : HasSchema source r.name g a → (stop : Stop) → IfAnswered stop (TellsMisfit r.details g (stated g r)) → AnswersRequest r file source stop
-  misfit_answers has stop h = weaker stop (λ text status t. inr (RefusesRequest.bad_sizes g a t.0 has t.1 t.2.0 t.2.1 t.2.2)) h
+  pub numbers_answer : HasSchema source r.name g a → (stop : Stop) → IfAnswered stop (TellsNumbers (numbers_of r)) → AnswersRequest r file source stop
+  numbers_answer has stop h = weaker stop (λ text status t. inr (RefusesRequest.large_numbers g a has t.0 t.1 t.2)) h
 
-  pub infinite_answers : HasSchema source r.name g a → AreComplete (given_sets g) (stated g r) → (stop : Stop) → IfAnswered stop (TellsInfinite (numbers_of r) g a r.details file) → AnswersRequest r file source stop
-  infinite_answers has complete stop h = weaker stop (λ text status t. inr (RefusesRequest.not_finite g a t.0 t.1 has complete t.2 t.3 t.4 t.5)) h
+  pub misfit_answers : HasSchema source r.name g a → AreSmall (numbers_of r) → (stop : Stop) → IfAnswered stop (TellsMisfit r.details g (stated g r)) → AnswersRequest r file source stop
+  misfit_answers has small stop h = weaker stop (λ text status t. inr (RefusesRequest.bad_sizes g a t.0 has small t.1 t.2.0 t.2.1 t.2.2)) h
+
+  pub infinite_answers : HasSchema source r.name g a → AreSmall (numbers_of r) → AreComplete (given_sets g) (stated g r) → (stop : Stop) → IfAnswered stop (TellsInfinite (numbers_of r) g a r.details file) → AnswersRequest r file source stop
+  infinite_answers has small complete stop h = weaker stop (λ text status t. inr (RefusesRequest.not_finite g a t.0 t.1 has small complete t.2 t.3 t.4 t.5)) h
 
   -- the same of the globals and the numbers of this environment
   pub infinite_here : (e : Environment) → IsEnvironment g (stated g r) (numbers_of r) e → (stop : Stop) → IfAnswered stop (TellsInfinite e.numbers e.globals a r.details file) → IfAnswered stop (TellsInfinite (numbers_of r) g a r.details file)
@@ -126,8 +129,8 @@ module _ (r : Request) (file source : List ℕ) (g : List Defined) (a : Schema) 
       subst (λ n. IfAnswered stop (TellsInfinite n g a r.details file)) is.3 (subst (λ (h : List Defined). IfAnswered stop (TellsInfinite e.numbers h a r.details file)) is.0 h)
 
   -- the schema is asked for in this environment
-  pub asked : (e : Environment) → HasSchema source r.name g a → AreComplete (given_sets g) (stated g r) → IsEnvironment g (stated g r) (numbers_of r) e → IsFinite e.numbers e.globals a → IsAsked r source e.globals a e
-  asked e has complete is ends = subst (λ h. IsAsked r source h a e) (sym is.0) (record { has_schema = has; complete = complete; environment = is; finite = subst (λ h. IsFinite e.numbers h a) is.0 ends })
+  pub asked : (e : Environment) → HasSchema source r.name g a → AreSmall (numbers_of r) → AreComplete (given_sets g) (stated g r) → IsEnvironment g (stated g r) (numbers_of r) e → IsFinite e.numbers e.globals a → IsAsked r source e.globals a e
+  asked e has small complete is ends = subst (λ h. IsAsked r source h a e) (sym is.0) (record { has_schema = has; small = small; complete = complete; environment = is; finite = subst (λ h. IsFinite e.numbers h a) is.0 ends })
 
   module _ (e : Environment) (is : IsAsked r source g a e) where
     pub no_row_answers : (stop : Stop) → IfAnswered stop (TellsNoRow e a.comps r.after) → AnswersRequest r file source stop

@@ -41,8 +41,9 @@ use Rattle.zf_engine.specs.Faults.{Gave}
 use Rattle.zf_lines.specs.Searches.{HasEvents, IsTestsLine, IsWritten, IsBegun, HasLimit}
 use Rattle.zf_engine.specs.Details.{Cited, text_fault_lines, IsReportedBeside, not_finite_lines, AreLines}
 use Rattle.zf_engine.specs.Missing.{no_schema_lines, no_size_lines}
+use Rattle.zf_engine.specs.Numbers.{AreSmall, AreTooLarge}
 use Rattle.zf_engine.specs.Reasons.{TellsWhy}
-use Rattle.zf_engine.specs.Texts.{not_given_line, size_twice_line, size_too_large_line, not_a_binding_line, not_held_line, declared_out_line}
+use Rattle.zf_engine.specs.Texts.{numbers_too_large_line, not_given_line, size_twice_line, size_too_large_line, not_a_binding_line, not_held_line, declared_out_line}
 
 -- a tree reads the source; it defines these globals, and has these faults of types
 pub record Checks (source : List ℕ) (globals : List Defined) (faults : List Fault) : Type 0 where
@@ -107,11 +108,12 @@ size_fault_lines details g sizes OutOfMemory = []
 
 -- the greatest number that there is, if numbers end
 abbrev pub numbers_of : Request → Option ℕ
-numbers_of r = None
+numbers_of r = r.numbers
 
--- the schema that is asked for is finite, and this is the environment at the stated sizes
+-- the schema that is asked for is finite, and this is the environment at the stated sizes with the stated end of the numbers
 pub record IsAsked (r : Request) (source : List ℕ) (globals : List Defined) (a : Schema) (e : Environment) : Type 0 where
   pub has_schema : HasSchema source r.name globals a
+  pub small : AreSmall (numbers_of r)
   pub complete : AreComplete (given_sets globals) (stated globals r)
   pub environment : IsEnvironment globals (stated globals r) (numbers_of r) e
   pub finite : IsFinite e.numbers globals a
@@ -155,10 +157,12 @@ pub data RefusesRequest (r : Request) (file source text : List ℕ) (status : St
       → status ≡ BadSpec → RefusesRequest r file source text status
   no_schema : (globals : List Defined) → Checks source globals [] → ((a : Schema) → IsNamed globals r.name a → ⊥) → text ≡ no_schema_lines r.details globals r.name
       → status ≡ BadRequest → RefusesRequest r file source text status
-  bad_sizes : (globals : List Defined) (a : Schema) (fault : SizeFault) → HasSchema source r.name globals a → IsRefusal (given_sets globals) (stated globals r) fault
-      → fault ≢ OutOfMemory → text ≡ size_fault_lines r.details globals (stated globals r) fault → status ≡ BadRequest → RefusesRequest r file source text status
-  not_finite : (globals : List Defined) (a : Schema) (cause : NotFinite) (side : List ℕ) → HasSchema source r.name globals a → AreComplete (given_sets globals) (stated globals r)
-      → first (causes (numbers_of r) globals a) ≡ Some cause → IsReportedBeside globals cause side → text ≡ not_finite_lines r.details file globals cause side → status ≡ BadSpec
+  large_numbers : (globals : List Defined) (a : Schema) → HasSchema source r.name globals a → AreTooLarge (numbers_of r) → text ≡ numbers_too_large_line
+      → status ≡ BadRequest → RefusesRequest r file source text status
+  bad_sizes : (globals : List Defined) (a : Schema) (fault : SizeFault) → HasSchema source r.name globals a → AreSmall (numbers_of r)
+      → IsRefusal (given_sets globals) (stated globals r) fault → fault ≢ OutOfMemory → text ≡ size_fault_lines r.details globals (stated globals r) fault → status ≡ BadRequest → RefusesRequest r file source text status
+  not_finite : (globals : List Defined) (a : Schema) (cause : NotFinite) (side : List ℕ) → HasSchema source r.name globals a → AreSmall (numbers_of r)
+      → AreComplete (given_sets globals) (stated globals r) → first (causes (numbers_of r) globals a) ≡ Some cause → IsReportedBeside globals cause side → text ≡ not_finite_lines r.details file globals cause side → status ≡ BadSpec
       → RefusesRequest r file source text status
   not_a_binding : (globals : List Defined) (a : Schema) (e : Environment) (place : ℕ) → IsAsked r source globals a e → NamesNoRow e a.comps r.after
       → text ≡ not_a_binding_line place → status ≡ BadRequest → RefusesRequest r file source text status

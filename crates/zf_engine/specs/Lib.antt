@@ -5,6 +5,7 @@ pub mod Missing
 pub mod Named
 pub mod SourceLines
 pub mod Reasons
+pub mod Numbers
 pub mod Answers
 pub mod Stops
 pub mod Subjects

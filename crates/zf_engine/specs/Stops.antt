@@ -26,7 +26,8 @@ use Rattle.zf_command.specs.declared.job.Request.{Request}
 use Rattle.zf_engine.specs.Answers.{AnswersSource, Checks, HoldsNoValues, NamesNoRow, RefusesRequest, UnreadAnswer, size_fault_lines, IsPartOfAnswer}
 use Rattle.zf_lines.specs.FaultViews.{AppendsFront}
 use Rattle.zf_engine.specs.Details.{IsReportedBeside, not_finite_lines, Cited, text_fault_lines, Aside, nothing, quoted, like}
-use Rattle.zf_engine.specs.Texts.{declared_out_line, not_a_binding_line, not_held_line}
+use Rattle.zf_engine.specs.Numbers.{AreTooLarge}
+use Rattle.zf_engine.specs.Texts.{declared_out_line, not_a_binding_line, not_held_line, numbers_too_large_line}
 use Rattle.zf_command.specs.declared.job.Job.{Job}
 
 abbrev pub StopsInSource : Job → List ℕ → List ℕ → Option (List ℕ) → Option (List ℕ) → Type 0
@@ -60,6 +61,10 @@ IsMisfit details g sizes fault text status = (fault ≢ size_faults.OutOfMemory)
 -- the answer tells what is wrong with the sizes
 abbrev pub TellsMisfit : (details : Bool) → List Defined → List Size → List ℕ → Status → Type 0
 TellsMisfit details g sizes text status = (fault : SizeFault) × IsRefusal (given_sets g) sizes fault × IsMisfit details g sizes fault text status
+
+-- the answer tells that numbers are too large
+abbrev pub TellsNumbers : (numbers : Option ℕ) → List ℕ → Status → Type 0
+TellsNumbers n text status = AreTooLarge n × (text ≡ numbers_too_large_line) × (status ≡ BadRequest)
 
 -- the answer tells the first that makes the schema infinite
 abbrev pub TellsInfinite : (numbers : Option ℕ) → List Defined → Schema → (details : Bool) → (file : List ℕ) → List ℕ → Status → Type 0

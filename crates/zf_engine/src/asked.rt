@@ -1,4 +1,4 @@
-//! The schema that is asked for, in the environment of the stated sizes.
+//! The schema that is asked for, in the environment of the stated sizes and numbers.
 ghost use Rattle.std.specs.Prelude.{◌≡◌, ℕ, List, [], IfOk, IfErr, OnOk};
 ghost use Rattle.zf_engine.specs.Answers.{Checks, IsAsked, numbers_of, stated, without_size};
 ghost use Rattle.zf_engine.specs.Details.{IsReportedBeside};
@@ -14,6 +14,7 @@ ghost use Rattle.zf_term.specs.SchemaViews.{schema_of};
 
 use crate::details::not_finite_lines;
 use crate::missing::{no_schema_lines, no_size_lines};
+use crate::numbers::greatest_number;
 use crate::report::Report;
 use crate::stated::{sets_without_size, stated_sizes};
 use crate::stop::Stop;
@@ -36,7 +37,7 @@ pub struct Asked<'g, 'a> {
     pub env: Env<'g, 'a>,
 }
 
-/// The schema that is asked for, if there is one, the sizes fit, and it is finite.
+/// The schema that is asked for, if there is one, the numbers and the sizes fit, and it is finite.
 pub fn asked_in<'g, 'a>(
     alloc: Global,
     globals: &'g Globals<'a>,
@@ -52,23 +53,26 @@ pub fn asked_in<'g, 'a>(
         let lines = no_schema_lines(alloc, request.details, globals, name)?;
         return Err(Stop::Answered(lines, Status::BadRequest));
     };
-    let env = env_in(alloc, globals, request)?;
+    let numbers = greatest_number(alloc, request.numbers)?;
+    let env = env_in(alloc, globals, request, numbers)?;
     check_finite(alloc, report, &env, name, schema)?;
     Ok(Asked { schema, env })
 }
 
-/// The environment of the globals at the stated sizes.
+/// The environment of the globals at the stated sizes, with the stated end of the numbers.
 fn env_in<'g, 'a>(
     alloc: Global,
     globals: &'g Globals<'a>,
     request: &Request,
+    numbers: Option<u16>,
 ) -> Result<Env<'g, 'a>, Stop>
+    requires { numbers ≡ numbers_of request.now }
     ensures complete { OnOk result (AreComplete (given_sets (globals_of globals.now)) (stated (globals_of globals.now) request.now)) }
     ensures is { IfOk result (λ e. IsEnvironment (globals_of globals.now) (stated (globals_of globals.now) request.now) (numbers_of request.now) (environment_of e)) }
     ensures stop { IfErr result (λ s. IfAnswered s (TellsMisfit request.now.details (globals_of globals.now) (stated (globals_of globals.now) request.now))) }
 {
     let sizes = stated_sizes(alloc, globals, request)?;
-    match Env::new(alloc, globals, &sizes, None) {
+    match Env::new(alloc, globals, &sizes, numbers) {
         Ok(env) => Ok(env),
         Err(fault) => Err(misfit(alloc, request.details, globals, &sizes, fault)),
     }

@@ -10,6 +10,7 @@ mod held;
 mod lines;
 mod missing;
 mod named;
+mod numbers;
 pub mod program;
 mod quoted;
 mod reading;

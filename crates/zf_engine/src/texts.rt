@@ -112,6 +112,13 @@ pub fn no_schema_line(alloc: Global, schema: &[u8]) -> Result<Vec<u8>, AllocErro
     around(alloc, b"zf: no schema ", schema, b"\n")
 }
 
+/// `zf: numbers are too large`
+pub fn numbers_too_large_line(alloc: Global) -> Result<Vec<u8>, AllocError>
+    ensures { IfOk result (λ v. v.items ≡ spec.numbers_too_large_line) }
+{
+    Vec::from_slice(alloc, b"zf: numbers are too large\n")
+}
+
 /// `zf: no size for N`
 pub fn no_size_line(alloc: Global, name: &[u8]) -> Result<Vec<u8>, AllocError>
     ensures { IfOk result (λ v. v.items ≡ spec.no_size_line name.now) }

@@ -8,7 +8,7 @@ use std::process::ExitCode;
 use std::rt::Files;
 use std::{fs, io};
 
-static NAMES: [&str; 29] = [
+static NAMES: [&str; 30] = [
     "answers",
     "calculus",
     "command_lines",
@@ -22,6 +22,7 @@ static NAMES: [&str; 29] = [
     "missing",
     "names",
     "needed",
+    "numbers",
     "order",
     "out_of_bounds",
     "quoted",

@@ -6,8 +6,9 @@ pub returns : goal.returns
 returns c =
     let told = with_about _ _ _ _ (c.new.ensures.app, c.new.ensures.local) c.about.ensures in
     let held = with_one_more _ _ _ _ _ told c.with_arg.ensures c.in_ok-arg.ensures in
-    let sized = with_one_more _ _ _ _ _ held c.size_arg.ensures c.in_ok-arg-2.ensures in
-    let detailed = with_one_more _ _ _ _ _ sized c.details_arg.ensures c.in_ok-arg-3.ensures in
-    let one = with_one_more _ _ _ _ _ detailed c.file_arg.ensures c.in_ok-arg-4.ensures in
-    let two = with_one_more _ _ _ _ _ one c.schema_arg.ensures c.in_ok-arg-5.ensures in
+    let numbered = with_one_more _ _ _ _ _ held c.numbers_arg.ensures c.in_ok-arg-2.ensures in
+    let sized = with_one_more _ _ _ _ _ numbered c.size_arg.ensures c.in_ok-arg-3.ensures in
+    let detailed = with_one_more _ _ _ _ _ sized c.details_arg.ensures c.in_ok-arg-4.ensures in
+    let one = with_one_more _ _ _ _ _ detailed c.file_arg.ensures c.in_ok-arg-5.ensures in
+    let two = with_one_more _ _ _ _ _ one c.schema_arg.ensures c.in_ok-arg-6.ensures in
     with_one_more _ _ _ _ _ two c.sizes_arg.ensures c.in_ok-command.ensures

@@ -1,0 +1,40 @@
+//! The greatest number that a request states.
+ghost use Rattle.std.specs.Prelude.{◌≡◌, IfErr, IfOk, OnOk, Some};
+ghost use Rattle.zf_engine.specs.Numbers.{AreSmall};
+ghost use Rattle.zf_engine.specs.Stops.{IfAnswered, TellsNumbers};
+
+use crate::stop::Stop;
+use crate::texts;
+use std::alloc::Global;
+use zf_lines::fault::Status;
+use zf_value::SET_MAX;
+
+/// The greatest number up to which `\num` has no more members than a set may have.
+pub const NUMBERS_MAX: u64 = 32_767;
+
+const _: () = prove!(NUMBERS_MAX == (SET_MAX as u64 - 1) / 2);
+
+/// The greatest number that is stated, if one is. The answer where it is too large.
+pub fn greatest_number(alloc: Global, stated: Option<u64>) -> Result<Option<u16>, Stop>
+    ensures small { OnOk result (AreSmall stated) }
+    ensures same { IfOk result (λ numbers. numbers ≡ stated) }
+    ensures stop { IfErr result (λ s. IfAnswered s (TellsNumbers stated)) }
+{
+    match stated {
+        None => Ok(None),
+        Some(number) => Ok(Some(small(alloc, number)?)),
+    }
+}
+
+/// The number, if it is not too large.
+fn small(alloc: Global, number: u64) -> Result<u16, Stop>
+    ensures small { OnOk result (AreSmall (Some number)) }
+    ensures same { IfOk result (λ n. n ≡ number) }
+    ensures stop { IfErr result (λ s. IfAnswered s (TellsNumbers (Some number))) }
+{
+    if number > NUMBERS_MAX {
+        let line = texts::numbers_too_large_line(alloc)?;
+        return Err(Stop::Answered(line, Status::BadRequest));
+    }
+    Ok(number as u16)
+}
