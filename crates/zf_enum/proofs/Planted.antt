@@ -8,7 +8,7 @@ use Rattle.zf_tree.specs.declared.operator.Unary.{Unary}
 use Rattle.zf_term.specs.declared.resolved.Resolved.TheVariants as form
 use Rattle.zf_value.specs.declared.value.Truth as value
 use Rattle.zf_walk.specs.declared.judge.Truth.TheVariants.{True, False, Out}
-use Rattle.zf_meaning.specs.Truths as meaning
+use Rattle.zf_outcome.specs.Truths as meaning
 use Rattle.zf_enum.proofs.Dues.{due_need}
 
 -- ---- connectives of a tree and of a predicate

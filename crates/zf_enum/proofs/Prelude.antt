@@ -42,7 +42,7 @@ pub use Rattle.zf_meaning.specs.Environments.{Environment, value_or}
 pub use Rattle.zf_meaning.specs.Envs.{environment_of, longer}
 pub use Rattle.zf_meaning.specs.InRow.{in_row}
 pub use Rattle.zf_meaning.specs.Meaning.{HasOutcome, IsTruth}
-pub use Rattle.zf_meaning.specs.Truths.{IsAtom, IsConjunction, IsDisjunction}
+pub use Rattle.zf_outcome.specs.Truths.{IsAtom, IsConjunction, IsDisjunction}
 pub use Rattle.zf_lift.specs.Lifted.{AreEach, AreLifted, IsLifted, IsLonger}
 pub use Rattle.zf_ranges.specs.Components.{AreAllRanges}
 pub use Rattle.zf_enum.specs.Dues.{all_need, links_need, need, part_need, place_after, place_up_to, ranges_need}

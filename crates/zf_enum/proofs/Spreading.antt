@@ -8,8 +8,8 @@ use Rattle.zf_value.specs.declared.value.Truth.TheVariants as truth
 use Rattle.zf_value.specs.Operations.{AreFrom}
 use Rattle.zf_meaning.specs.Environments.{Context, within, outcome_in}
 use Rattle.zf_meaning.specs.Meaning.{IsConstraint, Builds, IsBuilt, IsBuiltOver}
-use Rattle.zf_meaning.specs.Outcomes.{Several, values, one_undefined, one_out}
-use Rattle.zf_meaning.specs.Truths.{IsTold, IsQuantified}
+use Rattle.zf_outcome.specs.Outcomes.{Several, values, one_undefined, one_out}
+use Rattle.zf_outcome.specs.Truths.{IsTold, IsQuantified}
 use Rattle.zf_enum.specs.declared.candidates.Tie.TheVariants as tie
 use Rattle.zf_enum.specs.Spreads.{IsThere, Equates, IsSpread}
 use Rattle.zf_enum.proofs.Dues.{due_need}

@@ -20,9 +20,9 @@ pub use Rattle.zf_term.specs.declared.extent.Infinite.{Infinite}
 pub use Rattle.zf_extent.specs.Extents.{direct, extent_found, extent_set, is_membership}
 pub use Rattle.zf_meaning.specs.Environments.{Context, Environment, outcome_in, outcome_or, within}
 pub use Rattle.zf_meaning.specs.Envs.{environment_of, longer}
-pub use Rattle.zf_meaning.specs.Meaning.{AreLinked, Builds, HasOutcome, infinite_right, IsBuilt, IsBuiltBy, IsBuiltOver, IsConstraint, IsLink, IsOutOfBounds, IsTruth, IsWithinBounds}
-pub use Rattle.zf_meaning.specs.Outcomes.{one_out, one_undefined, Several, values}
-pub use Rattle.zf_meaning.specs.Truths.{HasTwo, IsConjunction, IsConnected, IsDisjunction, IsEquivalence, IsExists, IsExistsOne, IsForAll, IsOver, IsQuantified, IsTold, opposite}
+pub use Rattle.zf_meaning.specs.Meaning.{AreLinked, Builds, HasOutcome, infinite_right, IsBuilt, IsBuiltBy, IsBuiltOver, IsConstraint, IsOutOfBounds, IsTruth, IsWithinBounds}
+pub use Rattle.zf_outcome.specs.Outcomes.{one_out, one_undefined, Several, values}
+pub use Rattle.zf_outcome.specs.Truths.{HasTwo, IsConjunction, IsConnected, IsDisjunction, IsEquivalence, IsExists, IsExistsOne, IsForAll, IsLink, IsOver, IsQuantified, IsTold, opposite}
 pub use Rattle.zf_lift.specs.Lifted.{AreEach, AreLifted, IsLifted, IsLonger}
 pub use Rattle.zf_lift.specs.Lifts.{at, is_liftable, Wherever}
 unfoldable pub use Rattle.zf_lift.specs.Lifts.{AreClosed, AreLifts, AreLinkLifts, AreLinksClosed, AreRangeLifts, AreRangesClosed, IsClosed, IsLift, IsPartClosed, IsPartLift}

@@ -6,7 +6,7 @@ use Rattle.zf_value.specs.declared.value.Outcome.{Outcome}
 use Rattle.zf_value.specs.declared.value.Truth.{Truth}
 use Rattle.zf_meaning.specs.Environments.{Context}
 use Rattle.zf_meaning.specs.NumberSets.{infinite_in}
-use Rattle.zf_meaning.specs.Outcomes.{Several}
+use Rattle.zf_outcome.specs.Outcomes.{Several}
 use Rattle.zf_meaning.specs.Meaning.{HasOutcome, HaveOutcomes, HaveRanges, Builds, IsConstraint, IsTruth, AreLinked}
 
 pub record IsSame (c : Context) (t : ResolvedTree) (d : Context) (u : ResolvedTree) : Type 0 where

@@ -1,7 +1,7 @@
 -- Several values are gathered one after another.
 use Rattle.zf_meaning.proofs.Prelude.{◌++◌, ◌+◌, ◌<◌, ◌∙◌, ◌∷◌, ◌≡◌, ◌≤◌, [], add-one, ap, append-nil, append_assoc, arith, drop, get_or, length, List, map, refl, replicate, subst, suc, sym, take, zero, ℕ, drop_more, map-append, Bor, members, Outcome, Value, range-seen, range_of, ranges, resolved_of, terms, Range, Resolved, Context, lack_with, several_by, values_with, HasOutcome, HaveOutcomes, HaveRanges, one_more, one_out, one_undefined, repeated, Several, values, seen, sets_with, spread, Spread, Lack, Every, IsAscending}
 use Rattle.zf_value.specs.declared.value.Outcome.TheVariants as outcome
-use Rattle.zf_meaning.specs.declared.gathered.Lack.TheVariants.{Nothing, Undefined, Out}
+use Rattle.zf_outcome.specs.declared.gathered.Lack.TheVariants.{Nothing, Undefined, Out}
 use Rattle.zf_meaning.proofs.NextRow.{seen-append}
 
 -- what was gathered, before what is still to come

@@ -12,7 +12,6 @@ pub mod AllRows
 pub mod PassedRows
 pub mod Told
 pub mod RowValues
-pub mod Tests
 pub mod NumberSets
 pub mod Operands
 pub mod Gathering

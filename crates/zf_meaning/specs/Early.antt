@@ -21,7 +21,7 @@ use Rattle.zf_meaning.specs.Environments.{Context, within}
 use Rattle.zf_meaning.specs.Meaning.{HasOutcome, IsConstraint, IsTruth}
 use Rattle.zf_meaning.specs.Needs.{need, part_need}
 use Rattle.zf_meaning.specs.Rowed.{IsPassed}
-use Rattle.zf_meaning.specs.Truths.{IsTold}
+use Rattle.zf_outcome.specs.Truths.{IsTold}
 
 -- what a quantifier tells of a row that does not count
 abbrev pub neutral : Quantifier → Truth

@@ -1,6 +1,3 @@
-pub mod Outcomes
-pub mod Truths
-pub mod Symbols
 pub mod Environments
 pub mod NumberSets
 pub mod Meaning
@@ -13,17 +10,11 @@ pub mod Envs
 pub mod InRow
 pub mod Places
 pub mod Rowed
-pub mod Found
-pub mod Described
 pub mod Linked
 pub mod Scopes
 pub mod Forms
-pub mod Gathered
 pub mod RangeSets
 pub mod Building
 pub mod Needs
 pub mod Early
-pub mod Tallies
-pub mod Connected
-pub mod Arithmetic
 pub mod Counting

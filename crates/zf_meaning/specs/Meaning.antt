@@ -20,9 +20,9 @@ use Rattle.zf_value.specs.Operations.{AreFrom, IsEmptySet}
 use Rattle.zf_value.specs.Sets.{IsSetOf}
 use Rattle.zf_meaning.specs.Environments.{Context, within, outcome_in}
 use Rattle.zf_meaning.specs.NumberSets.{IsNumberSet, infinite_in}
-use Rattle.zf_meaning.specs.Outcomes.{OnOne, OnBoth, Several, values, one_undefined, one_out, one_more, repeated, OnSeveral}
-use Rattle.zf_meaning.specs.Symbols.{BinaryOutcome, UnaryOutcome, ListedOutcome, Holds, HoldsOf}
-use Rattle.zf_meaning.specs.Truths.{IsAtom, IsTest, opposite, IsConjunction, IsConnected, IsTold, IsQuantified}
+use Rattle.zf_outcome.specs.Outcomes.{OnOne, OnBoth, Several, values, one_undefined, one_out, one_more, repeated, OnSeveral}
+use Rattle.zf_outcome.specs.Symbols.{BinaryOutcome, UnaryOutcome, ListedOutcome}
+use Rattle.zf_outcome.specs.Truths.{IsLink, opposite, IsConjunction, IsConnected, IsTold, IsQuantified}
 
 -- ---- constants
 
@@ -46,11 +46,6 @@ constant_truth constants.Positives = truth.False
 -- the infinite set that a link tests for, if the whole right side of a membership is one
 abbrev pub infinite_right : Context → Relation → ResolvedTree → Option Infinite
 infinite_right c r t = if is_membership r then infinite_in c.environment t else None
-
--- the truth of a link between two outcomes, where the right one may be an infinite set instead
-abbrev pub IsLink : Option Infinite → Relation → Outcome → Outcome → Truth → Type 0
-IsLink None r x y t = IsAtom x y (Holds r) t
-IsLink (Some s) r x y t = IsTest x (HoldsOf s r) t
 
 -- ---- builders, over the rows that `rows` admits, where `filter` and `outcome` say the truth of a row's filter and the outcome of its term
 

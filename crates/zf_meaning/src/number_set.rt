@@ -1,16 +1,16 @@
 //! The sets of numbers, where numbers end or have no end.
 ghost use Rattle.std.specs.Prelude.{◌≡◌, IfOk, Some};
 ghost use Rattle.zf_term.specs.ResolvedViews.{resolved_of};
-ghost use Rattle.zf_meaning.specs.Described.{Describes};
+ghost use Rattle.zf_outcome.specs.Described.{Describes};
 ghost use Rattle.zf_meaning.specs.Envs.{environment_of};
 ghost use Rattle.zf_meaning.specs.NumberSets as spec;
 ghost use Rattle.zf_meaning.specs.NumberSets.{IsNumberSet};
 
-use crate::described::Described;
 use crate::env::Env;
-use crate::found::Found;
 use std::alloc::AllocError;
 use zf_extent::infinite::direct;
+use zf_outcome::described::Described;
+use zf_outcome::found::Found;
 use zf_term::extent::Infinite;
 use zf_term::resolved::Resolved;
 use zf_value::number::interval;

@@ -1,18 +1,18 @@
 //! What terms mean in a row.
 ghost use Rattle.std.specs.Prelude.{◌≡◌, [], IfOk};
 ghost use Rattle.zf_term.specs.ResolvedViews.{resolved_of};
-ghost use Rattle.zf_meaning.specs.Described.{Describes};
+ghost use Rattle.zf_outcome.specs.Described.{Describes};
 ghost use Rattle.zf_meaning.specs.InRow.{in_row};
 ghost use Rattle.zf_meaning.specs.Envs.{environment_of};
 ghost use Rattle.zf_meaning.specs.Meaning.{HasOutcome, IsTruth};
 
-use crate::described::Described;
 use crate::env::Env;
 use crate::evaluate::memberships::described;
 use crate::evaluate::numeric::compared_in;
 use crate::evaluate::{outcome, truth};
 use crate::row::Row;
 use std::alloc::AllocError;
+use zf_outcome::described::Described;
 use zf_term::resolved::Resolved;
 use zf_value::value::{Outcome, Truth, Value};
 

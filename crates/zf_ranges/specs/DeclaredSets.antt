@@ -13,7 +13,7 @@ use Rattle.zf_meaning.specs.Meaning.{HasOutcome}
 use Rattle.zf_meaning.specs.NumberSets.{infinite_in}
 use Rattle.zf_meaning.specs.Rows.{IsOfType}
 use Rattle.zf_meaning.specs.Carriers.{IsCarrier}
-use Rattle.zf_meaning.specs.Symbols.{IsIn}
+use Rattle.zf_outcome.specs.Symbols.{IsIn}
 
 -- a member of the set that has such an outcome; what is undefined has no members
 abbrev pub IsInOne : (Outcome → Type 0) → Value → Type 0

@@ -11,8 +11,8 @@ use Rattle.zf_value.specs.declared.value.Outcome.TheVariants.{Is, Undefined}
 use Rattle.zf_value.specs.declared.value.Outcome.TheVariants as outcome
 use Rattle.zf_ranges.specs.declared.lack.Lack.{Lack}
 use Rattle.zf_ranges.specs.declared.lack.Lack.TheVariants.{Out, OutOfMemory}
-use Rattle.zf_meaning.specs.declared.described.Described.{Described}
-use Rattle.zf_meaning.specs.Described.{IsInDescribed, IsWithin}
+use Rattle.zf_outcome.specs.declared.described.Described.{Described}
+use Rattle.zf_outcome.specs.Described.{IsInDescribed, IsWithin}
 use Rattle.zf_meaning.specs.Environments.{Environment}
 use Rattle.zf_ranges.specs.DeclaredSets.{IsInSet, IsInSets, IsSetOut, IsOneOut}
 use Rattle.zf_ranges.specs.Ranges.{IsHeld}

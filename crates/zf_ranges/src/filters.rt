@@ -1,6 +1,6 @@
 //! Declared sets that only filter.
 ghost use Rattle.std.specs.Prelude.{◌↔◌, IsTrue};
-ghost use Rattle.zf_meaning.specs.Arithmetic.{IsFrom};
+ghost use Rattle.zf_outcome.specs.Arithmetic.{IsFrom};
 
 use crate::kept::Test;
 use zf_term::extent::Infinite;
@@ -13,7 +13,7 @@ pub(crate) struct InNumbers {
 }
 
 impl Test for InNumbers {
-    ghost use Rattle.zf_meaning.specs.Symbols.{IsIn};
+    ghost use Rattle.zf_outcome.specs.Symbols.{IsIn};
 
     ghost passes = { λ t v. IsIn t.set v };
 

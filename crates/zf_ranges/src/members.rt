@@ -2,13 +2,13 @@
 ghost use Rattle.std.specs.Prelude.{◌≡◌, ◌↔◌, ◌++◌, ◌⊎◌, [], ◌∷◌, IsTrue, IfOk, IfErr, OnOk};
 ghost use Rattle.zf_value.specs.declared.value.Outcome.TheVariants as outcome;
 ghost use Rattle.zf_value.specs.Sets.{IsAscending, IsMember};
-ghost use Rattle.zf_meaning.specs.Described.{IsDescribed};
+ghost use Rattle.zf_outcome.specs.Described.{IsDescribed};
 ghost use Rattle.zf_ranges.specs.Parts.{Lists, Filters, IsListed, IsIn, Tells};
 
 use crate::kept::{Test, kept};
 use crate::lack::Lack;
 use std::alloc::{AllocError, Global};
-use zf_meaning::described::Described;
+use zf_outcome::described::Described;
 use zf_value::value::{Outcome, Value};
 
 /// Whether a value is a member of a set, which need not be there.
@@ -18,7 +18,7 @@ pub(crate) struct InSet<'d, 'v> {
 }
 
 impl<'d, 'v> Test for InSet<'d, 'v> {
-    ghost use Rattle.zf_meaning.specs.Described.{IsInDescribed, IsWithin};
+    ghost use Rattle.zf_outcome.specs.Described.{IsInDescribed, IsWithin};
 
     ghost passes = { λ t v. IsInDescribed t.set.now v };
 

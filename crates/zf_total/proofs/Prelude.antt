@@ -19,9 +19,9 @@ pub use Rattle.zf_value.specs.declared.value.Truth.{Truth}
 pub use Rattle.zf_value.specs.declared.plain.Value.{Elem, Int, SetOf, Tuple, Value}
 pub use Rattle.zf_term.specs.Definitions.{abbreviation, constructor, Defined, Definition, free_type, given_set, schema}
 pub use Rattle.zf_meaning.specs.Environments.{AreElementsIf, Context, element, element_count, Environment, globally, IsTypeSet, outcome_in, type_number, within}
-pub use Rattle.zf_meaning.specs.Meaning.{AreLinked, Builds, constant_truth, HasOutcome, HaveOutcomes, HaveRanges, infinite_right, IsBuilt, IsBuiltBy, IsBuiltOver, IsConstraint, IsLink, IsOutOfBounds, IsTruth, IsWithinBounds, row_value}
-pub use Rattle.zf_meaning.specs.Outcomes.{OnBoth, one_more, one_out, one_undefined, OnOne, OnSeveral, repeated, Several, values}
+pub use Rattle.zf_meaning.specs.Meaning.{AreLinked, Builds, constant_truth, HasOutcome, HaveOutcomes, HaveRanges, infinite_right, IsBuilt, IsBuiltBy, IsBuiltOver, IsConstraint, IsOutOfBounds, IsTruth, IsWithinBounds, row_value}
+pub use Rattle.zf_outcome.specs.Outcomes.{OnBoth, one_more, one_out, one_undefined, OnOne, OnSeveral, repeated, Several, values}
 pub use Rattle.zf_meaning.specs.Sizes.{AddsSize, AreAccepted, AreComplete, AreSizes, given_sets, IsAccepted, IsRefusal, IsStated, names, IsSizeFault, with_given}
-pub use Rattle.zf_meaning.specs.Symbols.{ArrowOutcome, BinaryOutcome, Compares, Holds, HoldsOf, InfixOutcome, IsIn, ListedOutcome, PrefixOutcome, SignOutcome, UnaryOutcome}
-pub use Rattle.zf_meaning.specs.Truths.{HasTwo, IsAtom, IsConjunction, IsConnected, IsExists, IsExistsOne, IsForAll, IsOver, IsQuantified, IsTest, IsTold, opposite, Tells}
+pub use Rattle.zf_outcome.specs.Symbols.{ArrowOutcome, BinaryOutcome, Compares, Holds, HoldsOf, InfixOutcome, IsIn, ListedOutcome, PrefixOutcome, SignOutcome, UnaryOutcome}
+pub use Rattle.zf_outcome.specs.Truths.{HasTwo, IsAtom, IsConjunction, IsConnected, IsExists, IsExistsOne, IsForAll, IsLink, IsOver, IsQuantified, IsTest, IsTold, opposite, Tells}
 pub use Rattle.zf_meaning.specs.declared.sizes.Size.{Size}

@@ -3,7 +3,7 @@ use Rattle.zf_total.proofs.Prelude.{◌≡◌, subst, sym, Truth, IsTruth}
 use Rattle.zf_tree.specs.declared.operator.Operator.TheVariants as operator
 use Rattle.zf_tree.specs.declared.symbol.Connective.{Connective}
 use Rattle.zf_term.specs.ResolvedTrees.{ResolvedTree, binary}
-use Rattle.zf_meaning.specs.Connected.{connected}
+use Rattle.zf_outcome.specs.Connected.{connected}
 use Rattle.zf_meaning.proofs.Connecting.{connected-told}
 use Rattle.zf_meaning.proofs.Unique.{one_truth}
 use Rattle.zf_total.specs.Laws.{ConnectivesByTable}

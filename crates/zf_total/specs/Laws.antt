@@ -11,7 +11,7 @@ use Rattle.zf_meaning.specs.declared.sizes.Size.{Size}
 use Rattle.zf_meaning.specs.declared.sizes.SizeFault.{SizeFault}
 use Rattle.zf_meaning.specs.declared.sizes.SizeFault.TheVariants.{OutOfMemory}
 use Rattle.zf_meaning.specs.Carriers.{IsCarrier}
-use Rattle.zf_meaning.specs.Connected.{connected}
+use Rattle.zf_outcome.specs.Connected.{connected}
 use Rattle.zf_meaning.specs.Environments.{Environment, Context}
 use Rattle.zf_meaning.specs.GlobalOutcomes.{IsEnvironment}
 use Rattle.zf_meaning.specs.Meaning.{HasOutcome, IsTruth}

@@ -48,7 +48,7 @@ pub use Rattle.zf_meaning.specs.Carriers.{AreCarriers, IsCarrier, IsTypeSetIf}
 pub use Rattle.zf_meaning.specs.Environments.{AreElementsIf, before, Context, definition_number, element, Environment, found_number, globally, IsTypeSet, outcome_in, outcome_or, type_number, value_or, within}
 pub use Rattle.zf_meaning.specs.GlobalOutcomes.{AreWorkedOut, IsEnvironment, IsOutcomeOf}
 pub use Rattle.zf_meaning.specs.Meaning.{HasOutcome, HaveOutcomes, HaveRanges, IsBuilt, IsBuiltBy, IsConstraint, row_value}
-pub use Rattle.zf_meaning.specs.Outcomes.{OnBoth, one_more, one_out, one_undefined, OnOne, OnSeveral, repeated, Several, values}
+pub use Rattle.zf_outcome.specs.Outcomes.{OnBoth, one_more, one_out, one_undefined, OnOne, OnSeveral, repeated, Several, values}
 pub use Rattle.zf_meaning.specs.Rows.{AreOfTypes, IsExistingElement, IsOfType, IsRow}
 pub use Rattle.zf_typed.specs.OutcomeLaws.{IsFrontOfRow}
-pub use Rattle.zf_meaning.specs.Symbols.{ArrowOutcome, BinaryOutcome, InfixOutcome, IsIn, ListedOutcome, PrefixOutcome, UnaryOutcome}
+pub use Rattle.zf_outcome.specs.Symbols.{ArrowOutcome, BinaryOutcome, InfixOutcome, IsIn, ListedOutcome, PrefixOutcome, UnaryOutcome}

@@ -12,13 +12,13 @@ ghost use Rattle.zf_term.specs.ResolvedViews.{resolved_of, part_of};
 ghost use Rattle.zf_meaning.specs.Early as spec;
 ghost use Rattle.zf_meaning.specs.Early.{Falsifies, IsEarlier, IsEquation, IsOther, IsPart, IsPiece, IsVariable, IsWanted, NeedsFront, PassesBy, Refutes};
 ghost use Rattle.zf_meaning.specs.declared.rows.Passing.TheVariants as passing;
-ghost use Rattle.zf_meaning.specs.Found.{found_outcome};
+ghost use Rattle.zf_outcome.specs.Found.{found_outcome};
 ghost use Rattle.zf_meaning.specs.Places.{seen};
 
-use crate::found::Found;
 use crate::needs::{last_local, last_of_part};
 use crate::rows::{Passing, Rows};
 use std::alloc::{AllocError, Global};
+use zf_outcome::found::Found;
 use zf_reference::reference::Reference;
 use zf_term::resolved::{Part, Resolved, ResolvedLink};
 use zf_tree::operator::Operator;

@@ -13,12 +13,12 @@ ghost use Rattle.zf_meaning.specs.Environments as spec;
 ghost use Rattle.zf_meaning.specs.Envs.{environment_of};
 ghost use Rattle.zf_meaning.specs.Meaning.{HasOutcome, IsTruth};
 ghost use Rattle.zf_meaning.specs.Scopes.{scope_of};
-ghost use Rattle.zf_meaning.specs.Symbols.{InfixOutcome};
+ghost use Rattle.zf_outcome.specs.Symbols.{InfixOutcome};
 
 use super::{component, local};
 use crate::env::Env;
-use crate::relation::between_numbers;
 use crate::row::Row;
+use zf_outcome::relation::between_numbers;
 use zf_reference::reference::Reference;
 use zf_term::resolved::{Resolved, ResolvedLink};
 use zf_tree::operator::Operator;

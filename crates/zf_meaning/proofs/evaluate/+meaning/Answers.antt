@@ -12,7 +12,7 @@ use Rattle.zf_meaning.proofs.Told.{IsTallied, none-tallied, one-more, settled-tr
 use Rattle.zf_meaning.proofs.Turns.{fewer, adds-here, told-here, one-told, one-filter, one-term, span-bound, row-bound, next-turn, told-ended, built-ended}
 use Rattle.zf_meaning.proofs.Walking.{walk-begun, walk-row, walk-done, walk-new, no-row, none-from, bound-row, outside-bound, FilterIn, TermIn, ToldIn, NeutralIn}
 use Rattle.zf_meaning.proofs.Gathering.{gather-begun, gather-more, gather-all, ranges-begun, ranges-more, ranges-all, drop-past}
-use Rattle.zf_meaning.proofs.Tests.{plain-describes}
+use Rattle.zf_outcome.proofs.Tests.{plain-describes}
 use Rattle.zf_meaning.proofs.Operands.{power-told, both-told, arrows-told, interval-told, product-told}
 use Rattle.zf_meaning.proofs.Linking.{link-more, link-false, link-all, link-last, last-described, last-worked, chain-told}
 use Rattle.zf_meaning.proofs.RowValues.{seen-rest}

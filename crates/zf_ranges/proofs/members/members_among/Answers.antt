@@ -1,4 +1,4 @@
-use Rattle.zf_meaning.proofs.Tests.{not_out}
+use Rattle.zf_outcome.proofs.Tests.{not_out}
 use Rattle.zf_ranges.proofs.members.members_among.Goals as goal
 
 pub kept-requires-clause-ready : goal.kept-requires-clause-ready

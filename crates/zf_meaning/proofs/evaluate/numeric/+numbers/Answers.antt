@@ -1,5 +1,6 @@
 use Rattle.zf_meaning.proofs.Prelude.{◌∙◌, ap, rules, subst, sym, w64, IfSome, FitsSigned, Is, Int, of-Binary, binary, resolved_of, HasOutcome, scope_of, InfixOutcome}
-use Rattle.zf_meaning.proofs.Numeric.{both-numbers, written-both}
+use Rattle.zf_meaning.proofs.Numeric.{both-numbers}
+use Rattle.zf_outcome.proofs.Comparisons.{written-both}
 use Rattle.zf_meaning.proofs.evaluate.numeric.+numbers.Goals as goal
 
 pub calculated-returns : goal.calculated-returns

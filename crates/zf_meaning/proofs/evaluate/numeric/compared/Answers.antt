@@ -1,5 +1,6 @@
 use Rattle.zf_meaning.proofs.Prelude.{arith, map, rules, subst, sym, w64, FitsSigned, Is, Int, chain, links, resolved_link_of, resolved_of, IsTruth, scope_of, Holds, IsAtom}
-use Rattle.zf_meaning.proofs.Numeric.{compared-told, one-link, written-both}
+use Rattle.zf_meaning.proofs.Numeric.{compared-told, one-link}
+use Rattle.zf_outcome.proofs.Comparisons.{written-both}
 use Rattle.zf_meaning.proofs.evaluate.numeric.compared.Goals as goal
 
 pub returns : goal.returns

@@ -1,6 +1,0 @@
-use Rattle.std.proofs.Common.{◌≡◌}
-use Rattle.zf_meaning.proofs.Tests.{plain-describes}
-use Rattle.zf_meaning.proofs.described.Described.of.Goals as goal
-
-pub returns : goal.returns
-returns c = plain-describes (λ o. o ≡ c.args.outcome) c.own.result c.own.ensures

@@ -1,0 +1,3 @@
+mod Prelude
+pub mod Comparisons
+pub mod Tests

@@ -1,0 +1,9 @@
+pub mod Outcomes
+pub mod Truths
+pub mod Symbols
+pub mod Found
+pub mod Described
+pub mod Gathered
+pub mod Tallies
+pub mod Connected
+pub mod Arithmetic
