@@ -5,6 +5,7 @@ mod captures;
 mod chunks;
 mod finiteness;
 mod fronts;
+mod holds;
 mod program;
 mod runs;
 mod searches;

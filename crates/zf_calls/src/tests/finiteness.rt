@@ -1,4 +1,5 @@
 //! Which schemas are finite, and the line of the first name that makes one infinite. With a greatest number each of them is finite.
+use crate::tests::holds::holds;
 use bumpalo::Bump;
 use std::alloc::Global;
 use std::test::Fail;
@@ -6,7 +7,7 @@ use zf_checker::checker::check_spec;
 use zf_extent::infinite::direct;
 use zf_finite::finite;
 use zf_term::extent::Infinite;
-use zf_term::globals::Entry;
+use zf_term::globals::{Entry, Globals};
 use zf_text::reading::read_spec;
 
 /// What stands before the schema: direct infinite sets, an open name and two closed ones.
@@ -63,11 +64,16 @@ fn line_of(alloc: Global, exp: &str) -> Result<u32, Fail> {
     let arena = Bump::new(alloc);
     let spec = read_spec(alloc, &arena, source.as_bytes())?;
     let checked = check_spec(alloc, &arena, &spec)?;
-    let schema = checked.globals.schema("S").ok_or("no schema")?;
-    let Ok(()) = finite(Some(2), schema, &checked.globals) else {
+    first_infinite(&checked.globals)
+}
+
+/// The line of the first name that makes the schema infinite, or 0.
+fn first_infinite(globals: &Globals<'_>) -> Result<u32, Fail> {
+    let schema = globals.schema("S").ok_or("no schema")?;
+    let Ok(()) = finite(Some(2), schema, globals) else {
         return Err(Fail::new("not finite with a greatest number"));
     };
-    match finite(None, schema, &checked.globals) {
+    match finite(None, schema, globals) {
         Ok(()) => Ok(0),
         Err(cause) => Ok(cause.line()),
     }
@@ -87,11 +93,15 @@ fn names(rt: HostRuntime) -> Result<(), Fail> {
     let arena = Bump::new(rt.alloc());
     let spec = read_spec(rt.alloc(), &arena, BEFORE.as_bytes())?;
     let checked = check_spec(rt.alloc(), &arena, &spec)?;
+    are_direct(&checked.globals)
+}
+
+fn are_direct(globals: &Globals<'_>) -> Result<(), Fail> {
     for (name, set) in NAMES {
-        let Some(Entry::Abbrev(_, term, _)) = checked.globals.entry(name) else {
+        let Some(Entry::Abbrev(_, term, _)) = globals.entry(name) else {
             return Err(Fail::new(name));
         };
-        assert!(rt; direct(term, &checked.globals) == set, "{name}");
+        holds(direct(term, globals) == set, name)?;
     }
     Ok(())
 }

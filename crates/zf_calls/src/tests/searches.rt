@@ -5,6 +5,7 @@ ghost use Rattle.zf_meaning.specs.Envs.{environment_of};
 ghost use Rattle.zf_checker.specs.WellTypedGlobals.{AreWellTyped};
 ghost use Rattle.zf_term.specs.DefinitionViews.{globals_of};
 
+use crate::tests::holds::holds;
 use bumpalo::Bump;
 use std::alloc::{AllocError, Global};
 use std::test::Fail;
@@ -44,18 +45,29 @@ static SCHEMAS: [(&str, u64, u64); 3] = [("Names", 2, 0), ("Bounded", 4, 9), ("S
 fn steps(rt: HostRuntime) -> Result<(), Fail> {
     let arena = Bump::new(rt.alloc());
     let globals = globals_in(rt.alloc(), &arena)?;
-    let name = Text::of(rt.alloc(), b"NAME")?;
-    let env = Env::new(rt.alloc(), &globals, &[Size { name, count: 2 }], None)?;
+    let env = env_in(rt.alloc(), &globals)?;
+    are_steps(rt.alloc(), &arena, &env)
+}
+
+fn are_steps<'a>(alloc: Global, arena: &'a Bump, env: &Env<'_, 'a>) -> Result<(), Fail>
+    requires { AreWellTyped (environment_of env.now).globals }
+{
     for (name, holding, tests) in SCHEMAS {
-        let mut search = begun(rt.alloc(), &arena, &env, name)?;
-        for place in 0..holding {
-            assert!(rt; next(&mut search) == Ok(Step::Holds), "{name} at {place}");
-        }
-        assert!(rt; next(&mut search) == Ok(Step::End), "{name}");
-        assert!(rt; search.tests() == tests, "{name}");
-        assert!(rt; next(&mut search) == Ok(Step::End), "{name}");
+        let mut search = begun(alloc, arena, env, name)?;
+        are_counted(&mut search, name, holding, tests)?;
     }
     Ok(())
+}
+
+fn are_counted(
+    search: &mut Bindings<'_, '_, '_, '_>,
+    name: &str,
+    holding: u64,
+    tests: u64,
+) -> Result<(), Fail> {
+    are_found(search, name, holding)?;
+    holds(search.tests() == tests, name)?;
+    has_ended(search, name)
 }
 
 /// A search that counts no tests finds the same.
@@ -63,17 +75,31 @@ fn steps(rt: HostRuntime) -> Result<(), Fail> {
 fn uncounted_steps(rt: HostRuntime) -> Result<(), Fail> {
     let arena = Bump::new(rt.alloc());
     let globals = globals_in(rt.alloc(), &arena)?;
-    let name = Text::of(rt.alloc(), b"NAME")?;
-    let env = Env::new(rt.alloc(), &globals, &[Size { name, count: 2 }], None)?;
+    let env = env_in(rt.alloc(), &globals)?;
+    are_uncounted_steps(rt.alloc(), &arena, &env)
+}
+
+fn are_uncounted_steps<'a>(alloc: Global, arena: &'a Bump, env: &Env<'_, 'a>) -> Result<(), Fail>
+    requires { AreWellTyped (environment_of env.now).globals }
+{
     for (name, holding, _) in SCHEMAS {
-        let mut search = begun_uncounted(rt.alloc(), &arena, &env, name)?;
-        for place in 0..holding {
-            assert!(rt; next(&mut search) == Ok(Step::Holds), "{name} at {place}");
-        }
-        assert!(rt; next(&mut search) == Ok(Step::End), "{name}");
-        assert!(rt; next(&mut search) == Ok(Step::End), "{name}");
+        let mut search = begun_uncounted(alloc, arena, env, name)?;
+        are_found(&mut search, name, holding)?;
     }
     Ok(())
+}
+
+/// So many bindings hold, and then there is none, however often it is asked for.
+fn are_found<S: Search>(search: &mut S, name: &str, holding: u64) -> Result<(), Fail> {
+    for _ in 0..holding {
+        holds(next(search) == Ok(Step::Holds), name)?;
+    }
+    has_ended(search, name)?;
+    has_ended(search, name)
+}
+
+fn has_ended<S: Search>(search: &mut S, name: &str) -> Result<(), Fail> {
+    holds(next(search) == Ok(Step::End), name)
 }
 
 /// The next step, which is asked for once more where memory is refused.
@@ -91,6 +117,15 @@ fn globals_in<'a>(alloc: Global, arena: &'a Bump) -> Result<Globals<'a>, Fail>
     let spec = read_spec(alloc, arena, SOURCE.as_bytes())?;
     let checked = check_spec(alloc, arena, &spec)?;
     Ok(checked.globals)
+}
+
+/// An environment of two names.
+fn env_in<'g, 'a>(alloc: Global, globals: &'g Globals<'a>) -> Result<Env<'g, 'a>, Fail>
+    requires { AreWellTyped (globals_of globals.now) }
+    ensures { IfOk result (λ e. AreWellTyped (environment_of e).globals) }
+{
+    let name = Text::of(alloc, b"NAME")?;
+    Ok(Env::new(alloc, globals, &[Size { name, count: 2 }], None)?)
 }
 
 /// The search for the bindings of a schema.
