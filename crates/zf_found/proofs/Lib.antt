@@ -6,4 +6,4 @@ pub mod Typed
 pub mod DeclaredSets
 pub mod Ranges
 pub mod Searches
-mod Turns
+pub mod Turns

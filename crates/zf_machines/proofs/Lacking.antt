@@ -1,5 +1,5 @@
 -- Which schemas make a machine.
-use Rattle.std.proofs.Common.{◌≡◌, ◌∷◌, [], ap, inl, inr, List, map, None, Option, refl, Some, ℕ}
+use Rattle.std.proofs.Common.{◌≡◌, ◌∷◌, [], ap, inr, List, map, None, Option, refl, Some, ℕ}
 use Rattle.std.specs.List.{AllByRecursion}
 use Rattle.std.specs.Prelude.{MatchOption}
 use Rattle.zf_machines.specs.declared.shape.Lack.{Lack}

@@ -1,6 +1,7 @@
 //! The machine that schemas make.
 ghost use Rattle.std.specs.Prelude.{◌≡◌, IfOk, map};
 ghost use Rattle.zf_machines.specs.Machines.{HasShape, IsMachineOf};
+ghost use Rattle.zf_meaning.specs.Environments.{Environment};
 ghost use Rattle.zf_machines.specs.SchemaViews.{named_of, schemas_of};
 ghost use Rattle.zf_steps.specs.Shapes as shapes;
 ghost use Rattle.zf_steps.specs.States.{AreStates, before_of};
@@ -10,23 +11,19 @@ ghost use Rattle.zf_term.specs.SchemaViews.{schema_of};
 use crate::schemas::{Named, Schemas};
 use bumpalo::Bump;
 use std::alloc::{AllocError, Global};
-use std::marker::PhantomData;
-use zf_steps::{
-    Operation, States, Surrounding, System, init_in, operation_in, state_in, with_strokes,
-};
+use zf_steps::{Operation, States, System, init_in, operation_in, state_in, with_strokes};
 use zf_term::schema::Flat;
 use zf_texts::Spelling;
 
-/// The machine that these schemas make.
-pub fn machine_of<'p, 'a, E: Surrounding, S>(
+/// The machine that these schemas make, in whatever environment.
+pub fn machine_of<'s, 'p, 'a>(
     alloc: Global,
     arena: &'a Bump,
-    env: &'p E,
-    elements: &'p [Spelling],
+    elements: &'s [Spelling],
     schemas: &Schemas<'p, 'a>,
-) -> Result<System<'p, E, Flat<'a>, S>, AllocError>
+) -> Result<System<'s, 'p, Flat<'a>>, AllocError>
     requires { HasShape (schemas_of schemas.now) }
-    ensures { IfOk result (λ m. IsMachineOf (E.environment env.now) elements.now (schemas_of schemas.now) (system_of E.environment schema_of m)) }
+    ensures { IfOk result (λ m. (e : Environment) → IsMachineOf e elements.now (schemas_of schemas.now) (system_of e schema_of m)) }
 {
     let before = schemas.state.schema.components.as_slice();
     let stroked = with_strokes(arena, before)?;
@@ -37,12 +34,10 @@ pub fn machine_of<'p, 'a, E: Surrounding, S>(
     let operations = operations_in(alloc, arena, states, &schemas.operations)?;
     Ok(System {
         alloc,
-        env,
         elements,
         state,
         init,
         operations,
-        searches: PhantomData,
     })
 }
 

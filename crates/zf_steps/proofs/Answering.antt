@@ -5,9 +5,11 @@ use Rattle.zf_graph.proofs.Going.{begins_with_none}
 use Rattle.zf_graph.specs.Explorations.{Turn}
 use Rattle.zf_graph.specs.Parts.{AreFirst, BeginsTurn}
 use Rattle.zf_lines.proofs.Fewer.{ahead_count, one_fewer}
+use Rattle.zf_reach.specs.declared.machine.Beginning.{Beginning}
 use Rattle.zf_reach.specs.declared.machine.Beginning.TheVariants as beginnings
+use Rattle.zf_reach.specs.declared.machine.Found as answer
 use Rattle.zf_reach.specs.declared.machine.Found.TheVariants as founds
-use Rattle.zf_reach.specs.Machines.{AdvancesTo}
+use Rattle.zf_reach.specs.Machines.{AdvancesTo, HasFewer}
 use Rattle.zf_value.specs.contracts.plain.ValueOrd.TheImpl.Laws as order_laws
 use Rattle.zf_value.specs.declared.plain.Value.{Value}
 use Rattle.zf_value.specs.Sets.{value_order}
@@ -25,7 +27,8 @@ use Rattle.zf_steps.specs.declared.node.Label.{Label}
 use Rattle.zf_steps.specs.declared.node.Node.{Node}
 use Rattle.zf_steps.specs.declared.node.Node.TheVariants.{State}
 use Rattle.zf_steps.specs.Finders.{BeginsFor}
-use Rattle.zf_steps.specs.Machines.{BeginsState, GoesOn, rows_ahead}
+use Rattle.zf_steps.specs.declared.stepped.Stepped.{Stepped}
+use Rattle.zf_steps.specs.Machines.{BeginsState, GoesOn, IsBeginning, IsFound, rows_ahead}
 use Rattle.zf_steps.specs.Searching.{HasFound, HasPassed}
 use Rattle.zf_steps.specs.Steps.{exploration, held_by, IsEventOf, IsFirstOf, IsStray, parts_of, searched, stopped, values_at}
 use Rattle.zf_steps.specs.Systems.{Operation, System}
@@ -134,3 +137,36 @@ module _ (m : System) (eq : Node → Node → Bool) (values : List Value) (begun
           ),
           tt,
         )
+
+-- ---- steps as what they are taken for
+
+pub begins_told : (m : System) (eq : Node → Node → Bool) (values : List Value) (begun new : Stage Value) → BeginsFor m.environment m.state.schema (held_by m.state.sources values) begun
+    → (s : Stepped) → s.row.items ≡ unwrap_or new.last [] → Advances value_order (property m.environment m.state.schema.conjuncts) s.step begun new
+    → (b : Beginning) (stop : List ℕ) → IsBeginning m.elements m.state s b stop → BeginsState m eq (State values) b stop
+begins_told m eq values begun new begins s row h beginnings.Regular stop is =
+    begins_regular m eq values begun new begins stop (subst (λ x. Advances value_order (property m.environment m.state.schema.conjuncts) x begun new) is h)
+begins_told m eq values begun new begins s row h beginnings.Stray stop is =
+    begins_stray m eq values begun new begins stop (subst (λ x. Advances value_order (property m.environment m.state.schema.conjuncts) x begun new) is h)
+begins_told m eq values begun new begins s row h beginnings.Out stop is =
+    begins_out m eq values begun new begins stop s.row.items row is.1 (subst (λ x. Advances value_order (property m.environment m.state.schema.conjuncts) x begun new) is.0 h)
+
+pub goes_told : (m : System) (eq : Node → Node → Bool) (number : ℕ) (o : Operation) (old new : Stage Value) → SameRanges old new
+    → (s : Stepped) → s.row.items ≡ unwrap_or new.last [] → Advances value_order (property m.environment o.schema.conjuncts) s.step old new
+    → (f : answer.Found Node Label) (stop : List ℕ) → IsFound m.elements number o s f stop → GoesOn m eq number o old new f stop
+goes_told m eq number o old new same s row h (founds.Edge label to) stop (step, is, at) =
+    subst (λ l. GoesOn m eq number o old new (founds.Edge l to) stop) (sym is)
+    (subst (λ n. GoesOn m eq number o old new (founds.Edge (record { operation = number; values = values_at o.others s.row.items }) n) stop) (sym at)
+    (goes_to m eq number o old new same s.row.items row stop (values_at o.others s.row.items) (values_at o.after s.row.items) refl refl
+    (subst (λ x. Advances value_order (property m.environment o.schema.conjuncts) x old new) step h)))
+goes_told m eq number o old new same s row h founds.Over stop is =
+    goes_over m eq number o old new same s.row.items row stop (subst (λ x. Advances value_order (property m.environment o.schema.conjuncts) x old new) is h)
+goes_told m eq number o old new same s row h founds.Out stop is =
+    goes_out m eq number o old new same s.row.items row stop is.1 (subst (λ x. Advances value_order (property m.environment o.schema.conjuncts) x old new) is.0 h)
+
+pub fewer_told : (m : System) (number : ℕ) (o : Operation) (old new : Stage Value) → SameRanges old new
+    → (s : Stepped) → Advances value_order (property m.environment o.schema.conjuncts) s.step old new
+    → (f : answer.Found Node Label) (stop : List ℕ) → IsFound m.elements number o s f stop → HasFewer f (rows_ahead old) (rows_ahead new)
+fewer_told m number o old new same s h (founds.Edge label to) stop is =
+    fewer_ahead (property m.environment o.schema.conjuncts) old new same (subst (λ x. Advances value_order (property m.environment o.schema.conjuncts) x old new) is.0 h)
+fewer_told m number o old new same s h founds.Over stop is = tt
+fewer_told m number o old new same s h founds.Out stop is = tt

@@ -2,7 +2,7 @@
 use Rattle.std.proofs.Common.{◌++◌, ◌+◌, ◌<◌, ◌≡◌, ◌≤◌, ◌∙◌, ◌∷◌, [], ap, arith, get_or, length, List, None, Option, refl, Some, subst, sym, take, ℕ}
 use Rattle.std.proofs.lemmas.List.{append-nil, take_more}
 use Rattle.std.proofs.lemmas.List.Elements.{filter_map-append}
-use Rattle.std.proofs.lemmas.Option.{slice_get_past}
+use Rattle.std.proofs.lemmas.Option.{get_or_from_slice_get, slice_get_past, slice_get_within}
 use Rattle.std.specs.List.{filter_map}
 use Rattle.std.specs.Prelude.{slice_get}
 
@@ -33,3 +33,8 @@ module _ {X : Type 0} (places : List ℕ) (row : List X) (i : ℕ) (d : ℕ) (be
       let past : length row ≤ get_or places i d = omega (arith, is, beyond) in
       so_far ∙ sym (append-nil (picked (take i places) row)) ∙ ap (λ us. picked (take i places) row ++ us) (sym (one_beyond row (get_or places i d) past))
       ∙ sym more
+
+-- one more from the front
+pub one_more_taken : {X : Type 0} (row : List X) (i : ℕ) (vs : List X) → vs ≡ take i row → (v u : X) → slice_get row i ≡ Some u → v ≡ u → vs ++ v ∷ [] ≡ take (i + 1) row
+one_more_taken row i vs so_far v u at same =
+    ap (λ us. us ++ v ∷ []) so_far ∙ ap (λ w. take i row ++ w ∷ []) (same ∙ sym (get_or_from_slice_get row i u u at)) ∙ sym (take_more row i u (slice_get_within row i u at))

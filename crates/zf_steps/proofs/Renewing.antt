@@ -6,7 +6,6 @@ use Rattle.zf_plan.proofs.Alike.{advances}
 use Rattle.zf_plan.specs.Alike.{SayTheSame}
 use Rattle.zf_value.specs.declared.plain.Value.{Value}
 use Rattle.zf_value.specs.Sets.{value_order}
-use Rattle.zf_walk.specs.declared.step.Step.{Step}
 use Rattle.zf_walk.specs.Progress.{Advances, SameRanges}
 use Rattle.zf_meaning.specs.Environments.{Environment}
 use Rattle.zf_meaning.specs.Envs.{environment_of}
@@ -21,16 +20,17 @@ use Rattle.zf_enum.specs.Property.{property}
 use Rattle.zf_enum.specs.Searches.{conjuncts_of, planted_goal}
 use Rattle.zf_enum.specs.Starts.{Begins}
 use Rattle.zf_steps.specs.declared.renewed.Renewed.{Renewed}
+use Rattle.zf_steps.specs.declared.stepped.Stepped.{Stepped}
 use Rattle.zf_steps.specs.Finders.{BeginsFor}
 use Rattle.zf_steps.specs.Renewing.{AreMarked, AreMarkedHeld, CanSearch, GoesBy, GoesOver, IsFor, stage_of}
 
-pub goes_by_schema : {E : Type 0} (r : Renewed) (i j : Instances) (result : Result Step E) → r.search ≡ Some i
-    → IfOk result (λ step. Advances value_order (conjuncts_of (planted_goal i.names i.search)) step i.search.stage j.search.stage)
-    → IfOk result (λ step. (e : Environment) (a : Schema) → IsFor r e a → Advances value_order (property e a.conjuncts) step (stage_of r.search) j.search.stage)
-goes_by_schema r i j (Ok step) is h = λ e a f.
+pub goes_by_schema : {E : Type 0} (r : Renewed) (i j : Instances) (result : Result Stepped E) → r.search ≡ Some i
+    → IfOk result (λ s. Advances value_order (conjuncts_of (planted_goal i.names i.search)) s.step i.search.stage j.search.stage)
+    → IfOk result (λ s. (e : Environment) (a : Schema) → IsFor r e a → Advances value_order (property e a.conjuncts) s.step (stage_of r.search) j.search.stage)
+goes_by_schema r i j (Ok s) is h = λ e a f.
     let over = subst (λ o. GoesBy o r.given.items e a) is f.goes_by in
-    subst (λ o. Advances value_order (property e a.conjuncts) step (stage_of o) j.search.stage) (sym is)
-    (advances value_order (conjuncts_of (planted_goal i.names i.search)) (property e a.conjuncts) over.same step i.search.stage j.search.stage h)
+    subst (λ o. Advances value_order (property e a.conjuncts) s.step (stage_of o) j.search.stage) (sym is)
+    (advances value_order (conjuncts_of (planted_goal i.names i.search)) (property e a.conjuncts) over.same s.step i.search.stage j.search.stage h)
 goes_by_schema r i j (Err e) is h = tt
 
 -- a step changes neither
@@ -93,6 +93,15 @@ is_for r s e a i held env flat is given h f =
     let b = begins_as (environment_of s.env.now) e (schema_of s.flat.now) a i held here at h in
     let over : GoesOver i s.given.items e a = record { environment = b.environment; same = b.same; before = held; ranges = b.ranges; marked = marks_all held s.given.items given } in
     record { environment = here; schema = at; can = f.can; goes_by = subst (λ o. GoesBy o s.given.items e a) (sym is) over }
+
+-- of one with no search begun
+pub emptied : (r s : Renewed) (e : Environment) (a : Schema) → s.env ≡ r.env → s.flat ≡ r.flat → s.search ≡ None → IsFor r e a → IsFor s e a
+emptied r s e a env flat none f = record {
+  environment = ap (λ x. environment_of x.now) env ∙ f.environment;
+  schema = ap (λ x. schema_of x.now) flat ∙ f.schema;
+  can = f.can;
+  goes_by = subst (λ o. GoesBy o s.given.items e a) (sym none) tt;
+}
 
 pub begins_for : (r : Renewed) (e : Environment) (a : Schema) (i : Instances) (held : List (Option Value)) → IsFor r e a
     → Begins (environment_of r.env.now) (schema_of r.flat.now) (portion None held) (planted_goal i.names i.search) i.search.stage

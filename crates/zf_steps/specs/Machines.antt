@@ -4,20 +4,25 @@ use Rattle.zf_graph.specs.Explorations.{Turn}
 use Rattle.zf_lines.proofs.Fewer.{ahead_count}
 use Rattle.zf_meaning.specs.Environments.{Environment}
 use Rattle.zf_reach.specs.declared.machine.Beginning.{Beginning}
+use Rattle.zf_reach.specs.declared.machine.Beginning.TheVariants as beginnings
 use Rattle.zf_reach.specs.declared.machine.Found.{Found}
+use Rattle.zf_reach.specs.declared.machine.Found.TheVariants as founds
 use Rattle.zf_reach.specs.Machines.{AdvancesTo, BeginsAs, UnlessOut}
 use Rattle.zf_term.specs.Definitions.{Schema}
 use Rattle.zf_value.specs.declared.plain.Value.{Value}
 use Rattle.zf_value.specs.Sets.{value_order}
+use Rattle.zf_texts.specs.declared.spelling.Spelling.{Spelling}
+use Rattle.zf_walk.specs.declared.step.Step.TheVariants as steps
 use Rattle.zf_walk.specs.Progress.{Stage}
 use Rattle.zf_steps.specs.declared.cursor.Part.{Part}
 use Rattle.zf_steps.specs.declared.cursor.Part.TheVariants as parts
 use Rattle.zf_steps.specs.declared.node.Label.{Label}
 use Rattle.zf_steps.specs.declared.node.Node.{Node}
 use Rattle.zf_steps.specs.declared.node.Node.TheVariants.{Root, State}
+use Rattle.zf_steps.specs.declared.stepped.Stepped.{Stepped}
 use Rattle.zf_steps.specs.Fitting.{AreFor}
 use Rattle.zf_steps.specs.Searching.{HasFound, HasPassed}
-use Rattle.zf_steps.specs.Steps.{exploration}
+use Rattle.zf_steps.specs.Steps.{exploration, stopped, values_at}
 use Rattle.zf_steps.specs.Systems.{Operation, System}
 
 -- ---- which part is searched
@@ -57,6 +62,21 @@ pub record Fits {S : Type 0} (IsFor : S → Environment → Schema → Type 0) (
   pub of_init : IsFor init m.environment m.init.schema
   pub of_operations : AreFor IsFor m.environment (map (λ o. o.schema) m.operations) operations
   pub has_part : HasPart m part
+
+-- ---- what a step of a search is taken for
+
+-- as the beginning of a turn, by the search for the state in its schema
+abbrev pub IsBeginning : (elements : List Spelling) → Operation → Stepped → Beginning → (stop : List ℕ) → Type 0
+IsBeginning elements o s beginnings.Regular stop = s.step ≡ steps.Holds
+IsBeginning elements o s beginnings.Stray stop = s.step ≡ steps.End
+IsBeginning elements o s beginnings.Out stop = (s.step ≡ steps.Breaks) × (stop ≡ stopped elements o s.row.items)
+
+-- as what is found of the steps by an operation
+abbrev pub IsFound : (elements : List Spelling) → (number : ℕ) → Operation → Stepped → Found Node Label → (stop : List ℕ) → Type 0
+IsFound elements number o s (founds.Edge label to) stop =
+    (s.step ≡ steps.Holds) × (label ≡ record { operation = number; values = values_at o.others s.row.items }) × (to ≡ State (values_at o.after s.row.items))
+IsFound elements number o s founds.Over stop = s.step ≡ steps.End
+IsFound elements number o s founds.Out stop = (s.step ≡ steps.Breaks) × (stop ≡ stopped elements o s.row.items)
 
 -- ---- what they come to
 

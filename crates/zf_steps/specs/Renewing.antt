@@ -15,6 +15,7 @@ use Rattle.zf_ranges.specs.Components.{held_at}
 use Rattle.zf_ranges.specs.Ranges.{AreRanges, IsNoneOut}
 use Rattle.zf_enum.specs.Searches.{conjuncts_of, planted_goal}
 use Rattle.zf_steps.specs.declared.renewed.Renewed.{Renewed}
+use Rattle.zf_steps.specs.Finders.{Place}
 use Rattle.zf_steps.specs.Systems.{System}
 
 -- The schema can be searched, whatever is held: it is finite, no conjunct needs more than its components, and no declared set is out.
@@ -32,6 +33,9 @@ pub record CanSearchAll (m : System) : Type 0 where
 abbrev pub stage_of : Option Instances → Stage Value
 stage_of None = record { ranges = []; after = None; last = None; ahead = ended }
 stage_of (Some i) = i.search.stage
+
+abbrev pub stage_at : Renewed → Stage Value
+stage_at r = stage_of r.search
 
 -- the components of which a value is held are marked
 abbrev pub AreMarked : (held : List (Option Value)) → (given : List Bool) → Type 0
@@ -58,3 +62,7 @@ pub record IsFor (r : Renewed) (e : Environment) (a : Schema) : Type 0 where
   pub schema : schema_of r.flat.now ≡ a
   pub can : CanSearch e a
   pub goes_by : GoesBy r.search r.given.items e a
+
+-- where it stands, and what it is for
+abbrev pub place_of : Renewed → Place
+place_of r = record { stage = stage_at r; IsFor = IsFor r }

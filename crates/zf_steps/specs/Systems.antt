@@ -1,5 +1,5 @@
 -- What is explored of a specification: the schema of the state, that of the initial states, and the operations.
-use Rattle.std.specs.Prelude.{ℕ, List, Option, map}
+use Rattle.std.specs.Prelude.{ℕ, List, [], Option, None, map}
 use Rattle.zf_term.specs.Definitions.{Comp, Schema}
 use Rattle.zf_texts.specs.declared.spelling.Spelling.{Spelling}
 use Rattle.zf_meaning.specs.Environments.{Environment}
@@ -23,14 +23,18 @@ pub record System : Type 0 where
   pub init : Operation
   pub operations : List Operation
 
+-- an environment of nothing
+abbrev pub no_environment : Environment
+no_environment = record { globals = []; sizes = []; outcomes = []; numbers = None }
+
 -- ---- as the program has them
 
 abbrev pub operation_of : {F : Type 0} → (F → Schema) → code.Operation F → Operation
 operation_of schema o = record { name = o.name.now; schema = schema o.schema.now; sources = o.sources.items; after = o.after.items; others = o.others.items; label = (schema o.label.now).comps }
 
-abbrev pub system_of : {E F S : Type 0} → (E → Environment) → (F → Schema) → codes.System E F S → System
+abbrev pub system_of : {F : Type 0} → Environment → (F → Schema) → codes.System F → System
 system_of environment schema s = record {
-  environment = environment s.env.now;
+  environment = environment;
   elements = s.elements.now;
   state = operation_of schema s.state;
   init = operation_of schema s.init;

@@ -4,16 +4,17 @@ ghost use Rattle.zf_meaning.specs.Environments.{Environment};
 ghost use Rattle.zf_reach.specs.Machines.{HasFewer};
 ghost use Rattle.zf_steps.specs.contracts.node.NodePartialEq.TheImpl as nodes;
 ghost use Rattle.zf_steps.specs.declared.node.Node.TheVariants.{State};
-ghost use Rattle.zf_steps.specs.Finders.{BeginsFor};
-ghost use Rattle.zf_steps.specs.Machines.{BeginsState, GoesOn, rows_ahead};
+ghost use Rattle.zf_steps.specs.Finders.{BeginsFor, IsForIn, stage_in};
+ghost use Rattle.zf_steps.specs.Machines.{BeginsState, GoesOn, IsBeginning, IsFound, rows_ahead};
 ghost use Rattle.zf_steps.specs.Steps.{held_by};
 ghost use Rattle.zf_steps.specs.Systems.{operation_of, system_of};
 ghost use Rattle.zf_term.specs.Definitions.{Schema};
 
-use crate::finder::Finder;
+use crate::finder::{Finder, advance, begin};
 use crate::given::{Schematic, Surrounding};
 use crate::node::{Label, Node};
 use crate::rows::{held_by, lay_out_stop, values_at};
+use crate::stepped::Stepped;
 use crate::system::{Operation, System};
 use std::alloc::{AllocError, Global};
 use zf_reach::{Beginning, Found};
@@ -47,30 +48,47 @@ pub fn hold<F: Schematic, S: Finder>(
     search: &mut S,
     values: &[Value],
 ) -> Result<(), AllocError>
-    requires { (e : Environment) × (a : Schema) × S.IsFor search.old e a }
-    ensures kept { (e : Environment) (a : Schema) → S.IsFor search.old e a → S.IsFor search.new e a }
-    ensures begins { OnOk result ((e : Environment) (a : Schema) → S.IsFor search.old e a → BeginsFor e a (held_by (operation_of F.schema operation.now).sources values.now) (S.stage search.new)) }
+    requires { (e : Environment) × (a : Schema) × IsForIn S.place search.old e a }
+    ensures kept { (e : Environment) (a : Schema) → IsForIn S.place search.old e a → IsForIn S.place search.new e a }
+    ensures begins { OnOk result ((e : Environment) (a : Schema) → IsForIn S.place search.old e a → BeginsFor e a (held_by (operation_of F.schema operation.now).sources values.now) (stage_in S.place search.new)) }
 {
     let held = held_by(alloc, &operation.sources, values)?;
-    search.hold(&held)
+    begin(search, &held)
 }
 
 /// Begins the turn of a state.
-pub fn begin_state<E: Surrounding, F: Schematic, T, S: Finder>(
-    system: &System<'_, E, F, T>,
+pub fn begin_state<E: Surrounding, F: Schematic, S: Finder>(
+    system: &System<'_, '_, F>,
     values: &[Value],
     search: &mut S,
     stop: &mut Vec<u8>,
 ) -> Result<Beginning, AllocError>
-    requires { S.IsFor search.old (system_of E.environment F.schema system.now).environment (system_of E.environment F.schema system.now).state.schema }
-    ensures kept { (e : Environment) (a : Schema) → S.IsFor search.old e a → S.IsFor search.new e a }
+    requires { IsForIn S.place search.old (system_of E.environment F.schema system.now).environment (system_of E.environment F.schema system.now).state.schema }
+    ensures kept { (e : Environment) (a : Schema) → IsForIn S.place search.old e a → IsForIn S.place search.new e a }
     ensures begins { IfOk result (λ b. BeginsState (system_of E.environment F.schema system.now) nodes.ghosts.eq (State values.now) b stop.new.items) }
 {
     hold(system.alloc, &system.state, search, values)?;
-    match search.advance()? {
+    let stepped = advance(search)?;
+    beginning_of(system, &stepped, stop)
+}
+
+/// How the turn of a state begins, by the first step of the search for it in its schema.
+fn beginning_of<F: Schematic>(
+    system: &System<'_, '_, F>,
+    stepped: &Stepped,
+    stop: &mut Vec<u8>,
+) -> Result<Beginning, AllocError>
+    ensures { IfOk result (λ b. IsBeginning system.now.elements.now (operation_of F.schema system.now.state) stepped.now b stop.new.items) }
+{
+    match stepped.step {
         Step::Holds => Ok(Beginning::Regular),
         Step::Breaks => {
-            lay_out_stop(stop, system.elements, &system.state, search)?;
+            lay_out_stop(
+                stop,
+                system.elements,
+                &system.state,
+                &stepped.row.as_slice(),
+            )?;
             Ok(Beginning::Out)
         }
         Step::End => Ok(Beginning::Stray),
@@ -78,28 +96,43 @@ pub fn begin_state<E: Surrounding, F: Schematic, T, S: Finder>(
 }
 
 /// Goes on to the next step by an operation.
-pub fn go_on<E: Surrounding, F: Schematic, T, S: Finder>(
-    system: &System<'_, E, F, T>,
+pub fn go_on<E: Surrounding, F: Schematic, S: Finder>(
+    system: &System<'_, '_, F>,
     operation: &Operation<'_, F>,
     number: usize,
     search: &mut S,
     stop: &mut Vec<u8>,
 ) -> Result<Found<Node, Label>, AllocError>
-    requires { S.IsFor search.old (system_of E.environment F.schema system.now).environment (operation_of F.schema operation.now).schema }
-    ensures kept { (e : Environment) (a : Schema) → S.IsFor search.old e a → S.IsFor search.new e a }
-    ensures answer { IfOk result (λ f. GoesOn (system_of E.environment F.schema system.now) nodes.ghosts.eq number (operation_of F.schema operation.now) (S.stage search.old) (S.stage search.new) f stop.new.items) }
-    ensures fewer { IfOk result (λ f. HasFewer f (rows_ahead (S.stage search.old)) (rows_ahead (S.stage search.new))) }
+    requires { IsForIn S.place search.old (system_of E.environment F.schema system.now).environment (operation_of F.schema operation.now).schema }
+    ensures kept { (e : Environment) (a : Schema) → IsForIn S.place search.old e a → IsForIn S.place search.new e a }
+    ensures answer { IfOk result (λ f. GoesOn (system_of E.environment F.schema system.now) nodes.ghosts.eq number (operation_of F.schema operation.now) (stage_in S.place search.old) (stage_in S.place search.new) f stop.new.items) }
+    ensures fewer { IfOk result (λ f. HasFewer f (rows_ahead (stage_in S.place search.old)) (rows_ahead (stage_in S.place search.new))) }
 {
-    match search.advance()? {
+    let stepped = advance(search)?;
+    found_of(system, operation, number, &stepped, stop)
+}
+
+/// What a step of the search for steps by an operation is.
+fn found_of<F: Schematic>(
+    system: &System<'_, '_, F>,
+    operation: &Operation<'_, F>,
+    number: usize,
+    stepped: &Stepped,
+    stop: &mut Vec<u8>,
+) -> Result<Found<Node, Label>, AllocError>
+    ensures { IfOk result (λ f. IsFound system.now.elements.now number (operation_of F.schema operation.now) stepped.now f stop.new.items) }
+{
+    let row = stepped.row.as_slice();
+    match stepped.step {
         Step::Holds => Ok(Found::Edge(
             Label {
                 operation: number,
-                values: values_at(system.alloc, &operation.others, search)?,
+                values: values_at(system.alloc, &operation.others, &row)?,
             },
-            Node::State(values_at(system.alloc, &operation.after, search)?),
+            Node::State(values_at(system.alloc, &operation.after, &row)?),
         )),
         Step::Breaks => {
-            lay_out_stop(stop, system.elements, operation, search)?;
+            lay_out_stop(stop, system.elements, operation, &row)?;
             Ok(Found::Out)
         }
         Step::End => Ok(Found::Over),

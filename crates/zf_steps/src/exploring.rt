@@ -7,6 +7,7 @@ ghost use Rattle.zf_lines.specs.Faults.{read_failures, write_failures};
 ghost use Rattle.zf_reach.specs.Machines.{ending_of};
 ghost use Rattle.zf_reach.specs.Runs.{StopsEarly};
 ghost use Rattle.zf_steps.specs.Explored.{explored_in};
+ghost use Rattle.zf_steps.specs.Finders.{IsForIn};
 ghost use Rattle.zf_steps.specs.Lines.{lines};
 ghost use Rattle.zf_steps.specs.Machines.{Fits};
 ghost use Rattle.zf_steps.specs.Systems.{system_of};
@@ -14,8 +15,10 @@ ghost use Rattle.zf_steps.specs.Systems.{system_of};
 use crate::cursor::Cursor;
 use crate::finder::Finder;
 use crate::given::{Schematic, Surrounding};
+use crate::machine::Explorer;
 use crate::system::System;
 use std::io::Write;
+use std::marker::PhantomData;
 use zf_lines::counted::Counted;
 use zf_lines::fault::RunFault;
 use zf_reach::{Ending, explore};
@@ -23,18 +26,23 @@ use zf_reach::{Ending, explore};
 /// Writes the exploration of a specification by these searches, up to so many states. Each line is written before anything
 /// further is searched for.
 pub fn explore_by<E: Surrounding + Drop, F: Schematic + Drop, S: Finder + Drop, W: Write>(
-    system: &System<'_, E, F, S>,
+    system: &System<'_, '_, F>,
     cursor: Cursor<S>,
     limit: usize,
     writer: &mut Counted<W>,
 ) -> Result<Ending, RunFault>
     requires unfailed { failures_of writer.old ≡ 0 }
     requires limited { 1 ≤ limit }
-    requires fits { Fits S.IsFor (system_of E.environment F.schema system.now) cursor.state cursor.init cursor.operations.items cursor.part }
+    requires fits { Fits (IsForIn S.place) (system_of E.environment F.schema system.now) cursor.state cursor.init cursor.operations.items cursor.part }
     ensures ok { IfOk result (λ ending. (at text : List ℕ) × IsWritten (explored_in (system_of E.environment F.schema system.now)) (lines (system_of E.environment F.schema system.now)) limit (ending_of ending at) text × Appends (W.contents (device_of writer.old)) (W.contents (device_of writer.new)) text) }
     ensures err { OnErr result (StopsEarly (explored_in (system_of E.environment F.schema system.now)) (lines (system_of E.environment F.schema system.now)) limit (W.contents (device_of writer.old)) (W.contents (device_of writer.new))) }
     ensures count { failures_of writer.new ≡ write_failures result }
     ensures unread { read_failures result ≡ 0 }
 {
-    explore(system.alloc, system, cursor, limit, writer)
+    let explorer = Explorer::<E, F, S> {
+        system,
+        surrounding: PhantomData,
+        searches: PhantomData,
+    };
+    explore(system.alloc, &explorer, cursor, limit, writer)
 }

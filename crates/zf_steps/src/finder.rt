@@ -1,40 +1,38 @@
 //! A search for bindings that can be begun again with other values held.
-ghost use Rattle.std.specs.Prelude.{◌≡◌, ◌↔◌, IfOk, OnOk, unwrap_or, []};
-ghost use Rattle.zf_value.specs.Sets.{value_order};
-ghost use Rattle.zf_walk.specs.Progress.{Advances, SameRanges};
-ghost use Rattle.zf_enum.specs.Property.{property};
-ghost use Rattle.zf_steps.specs.Finders.{BeginsFor};
+ghost use Rattle.std.specs.Option.{option_copied};
+ghost use Rattle.zf_steps.specs.Finders.{BeginsAgain, GoesAhead, Goes, IsSearch, MayGo};
 
+use crate::stepped::Stepped;
 use std::alloc::AllocError;
-use zf_meaning::row::Row;
 use zf_value::value::Value;
-use zf_walk::Step;
 
-/// A search for the bindings of a schema that are not False, one after another in ascending order. It is also the binding that the last step gave; no values where it gave none.
-pub trait Finder: Row {
-    ghost use Rattle.std.specs.Prelude.{List};
-    ghost use Rattle.zf_value.specs.declared.plain.Value as value;
-    ghost use Rattle.zf_walk.specs.Progress.{Stage};
-    ghost use Rattle.zf_meaning.specs.Environments.{Environment};
-    ghost use Rattle.zf_term.specs.Definitions.{Schema};
+/// A search for the bindings of a schema that are not False, one after another in ascending order. It has one method: at a
+/// type of many parts, each method of a bound costs the proof of a call seconds.
+pub trait Finder {
+    ghost use Rattle.zf_steps.specs.Finders.{Place};
 
-    /// Where it stands.
-    ghost stage: { Self → Stage value.Value };
+    /// Where it stands, and what it is for.
+    ghost place: { Self → Place };
 
-    /// It is one for this schema in this environment.
-    ghost IsFor: { Self → Environment → Schema → Type 0 };
+    /// Stands before the first binding that has these values, by the components' places; without any, goes on to the next
+    /// binding that is not False.
+    fn go(&mut self, held: Option<&[Option<Value>]>) -> Result<Stepped, AllocError>
+        requires { MayGo (place self.old) (option_copied held) }
+        ensures { Goes (place self.old) (place self.new) (option_copied held.entry) result };
+}
 
-    /// Stands before the first binding that has these values, by the components' places.
-    fn hold(&mut self, held: &[Option<Value>]) -> Result<(), AllocError>
-        requires { (e : Environment) × (a : Schema) × IsFor self.old e a }
-        ensures kept { (e : Environment) (a : Schema) → IsFor self.old e a → IsFor self.new e a }
-        ensures begins { OnOk result ((e : Environment) (a : Schema) → IsFor self.old e a → BeginsFor e a held.now (stage self.new)) };
+/// Begins a search again with these values held.
+pub fn begin<S: Finder>(search: &mut S, held: &[Option<Value>]) -> Result<(), AllocError>
+    requires { IsSearch (S.place search.old) }
+    ensures { BeginsAgain (S.place search.old) (S.place search.new) held.now result }
+{
+    let _begun = search.go(Some(held))?;
+    Ok(())
+}
 
-    /// Goes on to the next binding that is not False.
-    fn advance(&mut self) -> Result<Step, AllocError>
-        ensures kept { (e : Environment) (a : Schema) → IsFor self.old e a → IsFor self.new e a }
-        ensures ranges { SameRanges (stage self.old) (stage self.new) }
-        ensures answer { IfOk result (λ step. (e : Environment) (a : Schema) → IsFor self.old e a → Advances value_order (property e a.conjuncts) step (stage self.old) (stage self.new)) };
-
-    ghost given: { (s : Self) → Self.Row.values s ≡ unwrap_or (stage s).last [] };
+/// Goes on to the next binding.
+pub fn advance<S: Finder>(search: &mut S) -> Result<Stepped, AllocError>
+    ensures { GoesAhead (S.place search.old) (S.place search.new) result }
+{
+    search.go(None)
 }

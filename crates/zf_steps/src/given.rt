@@ -1,18 +1,24 @@
-//! What an exploration asks of a schema and of an environment. It names neither type, so that the machine's statements stay small.
+//! What an exploration asks of a schema and of an environment. It names neither type, so that the machine's statements stay small; nor does a value of the environment's stand in them.
 ghost use Rattle.std.specs.Prelude.{◌≡◌, ◌++◌, OnOk};
 ghost use Rattle.zf_texts.specs.BindingTexts.{binding_text};
 
 use std::alloc::AllocError;
-use zf_meaning::env::Env;
+use std::marker::Brand;
 use zf_meaning::row::Row;
 use zf_term::schema::Flat;
 use zf_texts::{Spelling, append_binding};
 
-/// An environment, of which only what it means is asked.
+/// What an environment means, in proofs alone: at `Brand` a caller picks it.
 pub trait Surrounding {
     ghost use Rattle.zf_meaning.specs.Environments.{Environment};
 
-    ghost environment: { Self → Environment };
+    ghost environment: { Environment };
+}
+
+impl Surrounding for Brand {
+    ghost use Rattle.zf_steps.specs.Systems.{no_environment};
+
+    ghost environment = { no_environment };
 }
 
 /// A schema, whose bindings can be written.
@@ -29,12 +35,6 @@ pub trait Schematic {
         row: &R,
     ) -> Result<(), AllocError>
         ensures { OnOk result (text.new.items ≡ text.old.items ++ binding_text elements.now (schema self.now).comps (R.values row.now)) };
-}
-
-impl<'g, 'a> Surrounding for Env<'g, 'a> {
-    ghost use Rattle.zf_meaning.specs.Envs.{environment_of};
-
-    ghost environment = { environment_of };
 }
 
 impl<'a> Schematic for Flat<'a> {

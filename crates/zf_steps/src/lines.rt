@@ -15,9 +15,9 @@ use zf_reach::Ending;
 use zf_value::value::Value;
 
 /// Appends `state 2: BINDING`. A refusal leaves a part of it.
-pub fn append_state<E: Surrounding, F: Schematic, S>(
+pub fn append_state<E: Surrounding, F: Schematic>(
     line: &mut Vec<u8>,
-    system: &System<'_, E, F, S>,
+    system: &System<'_, '_, F>,
     number: usize,
     values: &[Value],
 ) -> Result<(), AllocError>
@@ -34,9 +34,9 @@ pub fn append_state<E: Surrounding, F: Schematic, S>(
 }
 
 /// Appends `step 1 OPERATION 2: LABEL`. A refusal leaves a part of it.
-pub fn append_step<E: Surrounding, F: Schematic, S>(
+pub fn append_step<E: Surrounding, F: Schematic>(
     line: &mut Vec<u8>,
-    system: &System<'_, E, F, S>,
+    system: &System<'_, '_, F>,
     from: usize,
     label: &Label,
     number: usize,
@@ -49,14 +49,14 @@ pub fn append_step<E: Surrounding, F: Schematic, S>(
     line.extend_from_slice(b"step ")?;
     append_number(line, from)?;
     line.extend_from_slice(b" ")?;
-    append_operation(line, system, label, number)?;
+    append_operation::<E, F>(line, system, label, number)?;
     line.extend_from_slice(b"\n")
 }
 
 /// Appends `OPERATION 2: LABEL`.
-fn append_operation<E: Surrounding, F: Schematic, S>(
+fn append_operation<E: Surrounding, F: Schematic>(
     line: &mut Vec<u8>,
-    system: &System<'_, E, F, S>,
+    system: &System<'_, '_, F>,
     label: &Label,
     number: usize,
 ) -> Result<(), AllocError>
@@ -68,15 +68,15 @@ fn append_operation<E: Surrounding, F: Schematic, S>(
             append_number(line, number)
         }
         Some(operation) => {
-            append_named(line, system, operation, number, label.values.as_slice())
+            append_named::<E, F>(line, system, operation, number, label.values.as_slice())
         }
     }
 }
 
 /// Appends `OPERATION 2: LABEL` of an operation.
-fn append_named<E: Surrounding, F: Schematic, S>(
+fn append_named<E: Surrounding, F: Schematic>(
     line: &mut Vec<u8>,
-    system: &System<'_, E, F, S>,
+    system: &System<'_, '_, F>,
     operation: &Operation<'_, F>,
     number: usize,
     values: &[Value],
@@ -86,13 +86,13 @@ fn append_named<E: Surrounding, F: Schematic, S>(
     line.extend_from_slice(operation.name)?;
     line.extend_from_slice(b" ")?;
     append_number(line, number)?;
-    append_label(line, system, operation, values)
+    append_label::<E, F>(line, system, operation, values)
 }
 
 /// Appends `: BINDING` of what else a step has, and nothing where it has nothing.
-fn append_label<E: Surrounding, F: Schematic, S>(
+fn append_label<E: Surrounding, F: Schematic>(
     line: &mut Vec<u8>,
-    system: &System<'_, E, F, S>,
+    system: &System<'_, '_, F>,
     operation: &Operation<'_, F>,
     values: &[Value],
 ) -> Result<(), AllocError>

@@ -6,14 +6,24 @@ use crate::lines::{append_counts, append_ending, append_numbered, append_state, 
 use crate::node::{Label, Node};
 use crate::system::System;
 use std::alloc::AllocError;
+use std::marker::PhantomData;
 use zf_reach::{Beginning, Ending, Found, Machine};
 
-impl<'p, E: Surrounding + Drop, F: Schematic + Drop, S: Finder + Drop> Machine
-    for System<'p, E, F, S> {
+/// A system in an environment, explored by such searches.
+#[derive(Drop)]
+pub struct Explorer<'m, 's, 'p, E, F, S> {
+    pub system: &'m System<'s, 'p, F>,
+    pub surrounding: PhantomData<E>,
+    pub searches: PhantomData<S>,
+}
+
+impl<'m, 's, 'p, E: Surrounding + Drop, F: Schematic + Drop, S: Finder + Drop> Machine
+    for Explorer<'m, 's, 'p, E, F, S> {
     ghost use Rattle.std.proofs.Common.{refl};
     ghost use Rattle.std.specs.Prelude.{length};
     ghost use Rattle.zf_graph.proofs.Turns.{of_graph, sure};
     ghost use Rattle.zf_steps.specs.contracts.node.NodePartialEq.TheImpl as nodes;
+    ghost use Rattle.zf_steps.specs.Finders.{IsForIn, stage_in};
     ghost use Rattle.zf_steps.specs.Lines.{lines};
     ghost use Rattle.zf_steps.specs.Machines.{Fits, number_of, rows_ahead_at, search_of, Stands};
     ghost use Rattle.zf_steps.specs.Searching.{HasPassed};
@@ -27,31 +37,31 @@ impl<'p, E: Surrounding + Drop, F: Schematic + Drop, S: Finder + Drop> Machine
 
     type Cursor = Cursor<S>;
 
-    ghost explored = { λ m. exploration (system_of E.environment F.schema m) nodes.ghosts.eq };
+    ghost explored = { λ m. exploration (system_of E.environment F.schema m.system.now) nodes.ghosts.eq };
 
-    ghost graph = { λ m. steps (system_of E.environment F.schema m) nodes.ghosts.eq };
+    ghost graph = { λ m. steps (system_of E.environment F.schema m.system.now) nodes.ghosts.eq };
 
-    ghost words = { λ m. lines (system_of E.environment F.schema m) };
+    ghost words = { λ m. lines (system_of E.environment F.schema m.system.now) };
 
-    ghost parts = { λ m a. length (parts_of (system_of E.environment F.schema m) a) };
+    ghost parts = { λ m a. length (parts_of (system_of E.environment F.schema m.system.now) a) };
 
-    ghost Fits = { λ m c. Fits S.IsFor (system_of E.environment F.schema m) c.state c.init c.operations.items c.part };
+    ghost Fits = { λ m c. Fits (IsForIn S.place) (system_of E.environment F.schema m.system.now) c.state c.init c.operations.items c.part };
 
-    ghost HasPassed = { λ m. HasPassed (system_of E.environment F.schema m) nodes.ghosts.eq };
+    ghost HasPassed = { λ m. HasPassed (system_of E.environment F.schema m.system.now) nodes.ghosts.eq };
 
-    ghost Stands = { λ m c. Stands (system_of E.environment F.schema m) nodes.ghosts.eq S.stage c.part (search_of c.part c.init c.operations.items) };
+    ghost Stands = { λ m c. Stands (system_of E.environment F.schema m.system.now) nodes.ghosts.eq (stage_in S.place) c.part (search_of c.part c.init c.operations.items) };
 
     ghost part = { λ c. number_of c.part };
 
-    ghost ahead = { λ c. rows_ahead_at S.stage (search_of c.part c.init c.operations.items) };
+    ghost ahead = { λ c. rows_ahead_at (stage_in S.place) (search_of c.part c.init c.operations.items) };
 
     ghost stop = { λ c. c.stop.items };
 
-    ghost all_passed = { λ m. all_parts (system_of E.environment F.schema m) nodes.ghosts.eq };
+    ghost all_passed = { λ m. all_parts (system_of E.environment F.schema m.system.now) nodes.ghosts.eq };
 
-    ghost of_graph = { λ m. of_graph (searched (system_of E.environment F.schema m) nodes.ghosts.eq) (orderly (system_of E.environment F.schema m)) };
+    ghost of_graph = { λ m. of_graph (searched (system_of E.environment F.schema m.system.now) nodes.ghosts.eq) (orderly (system_of E.environment F.schema m.system.now)) };
 
-    ghost sure = { λ m. sure (searched (system_of E.environment F.schema m) nodes.ghosts.eq) (orderly (system_of E.environment F.schema m)) };
+    ghost sure = { λ m. sure (searched (system_of E.environment F.schema m.system.now) nodes.ghosts.eq) (orderly (system_of E.environment F.schema m.system.now)) };
 
     ghost same_nodes = { λ m. refl };
 
@@ -62,15 +72,15 @@ impl<'p, E: Surrounding + Drop, F: Schematic + Drop, S: Finder + Drop> Machine
     fn count(&self, of: &Node) -> usize {
         match of {
             Node::Root => 1,
-            Node::State(_) => self.operations.len(),
+            Node::State(_) => self.system.operations.len(),
         }
     }
 
     fn begin(&self, cursor: &mut Cursor<S>, of: &Node) -> Result<Beginning, AllocError> {
         match of {
             Node::Root => Ok(Beginning::Regular),
-            Node::State(values) => begin_state(
-                self,
+            Node::State(values) => begin_state::<E, F, S>(
+                self.system,
                 values.as_slice(),
                 &mut cursor.state,
                 &mut cursor.stop,
@@ -82,13 +92,13 @@ impl<'p, E: Surrounding + Drop, F: Schematic + Drop, S: Finder + Drop> Machine
         match of {
             Node::Root => {
                 cursor.part = Part::Initial;
-                hold(self.alloc, &self.init, &mut cursor.init, &[])
+                hold(self.system.alloc, &self.system.init, &mut cursor.init, &[])
             }
             Node::State(values) => {
                 cursor.part = Part::Operation(which);
                 hold(
-                    self.alloc,
-                    &self.operations[which],
+                    self.system.alloc,
+                    &self.system.operations[which],
                     &mut cursor.operations[which],
                     values.as_slice(),
                 )
@@ -98,10 +108,16 @@ impl<'p, E: Surrounding + Drop, F: Schematic + Drop, S: Finder + Drop> Machine
 
     fn advance(&self, cursor: &mut Cursor<S>) -> Result<Found<Node, Label>, AllocError> {
         match cursor.part {
-            Part::Initial => go_on(self, &self.init, 0, &mut cursor.init, &mut cursor.stop),
-            Part::Operation(number) => go_on(
-                self,
-                &self.operations[number],
+            Part::Initial => go_on::<E, F, S>(
+                self.system,
+                &self.system.init,
+                0,
+                &mut cursor.init,
+                &mut cursor.stop,
+            ),
+            Part::Operation(number) => go_on::<E, F, S>(
+                self.system,
+                &self.system.operations[number],
                 number,
                 &mut cursor.operations[number],
                 &mut cursor.stop,
@@ -118,7 +134,12 @@ impl<'p, E: Surrounding + Drop, F: Schematic + Drop, S: Finder + Drop> Machine
     ) -> Result<(), AllocError> {
         match of {
             Node::Root => Ok(()),
-            Node::State(values) => append_state(line, self, number, values.as_slice()),
+            Node::State(values) => append_state::<E, F>(
+                line,
+                self.system,
+                number,
+                values.as_slice(),
+            ),
         }
     }
 
@@ -129,7 +150,7 @@ impl<'p, E: Surrounding + Drop, F: Schematic + Drop, S: Finder + Drop> Machine
         label: &Label,
         number: usize,
     ) -> Result<(), AllocError> {
-        append_step(line, self, from, label, number)
+        append_step::<E, F>(line, self.system, from, label, number)
     }
 
     fn append_stray(&self, line: &mut Vec<u8>, number: usize) -> Result<(), AllocError> {

@@ -1,5 +1,5 @@
 //! A search that is begun anew for each state.
-ghost use Rattle.std.specs.Prelude.{◌≡◌, ◌≢◌, IfOk, IfSome, List, None, map, true};
+ghost use Rattle.std.specs.Prelude.{◌≡◌, ◌≢◌, IfOk, IfSome, OnOk, List, [], None, map, true, unwrap_or};
 ghost use Rattle.std.specs.List.{AllByRecursion};
 ghost use Rattle.std.specs.Option.{is_some};
 ghost use Rattle.zf_ranges.specs.Ranges.{IsNoneOut, Refuses};
@@ -9,32 +9,34 @@ ghost use Rattle.zf_steps.specs.Fitting.{AreFor};
 ghost use Rattle.zf_steps.specs.Machines.{Fits};
 ghost use Rattle.zf_enum.specs.Holding.{CanHold};
 ghost use Rattle.zf_enum.specs.PortionViews.{portion};
-ghost use Rattle.zf_enum.specs.Searches.{planted_goal};
+ghost use Rattle.zf_enum.specs.Property.{property};
+ghost use Rattle.zf_enum.specs.Searches.{conjuncts_of, planted_goal};
 ghost use Rattle.zf_enum.specs.Starts.{Begins};
 ghost use Rattle.zf_ranges.specs.Components.{held_at};
-ghost use Rattle.zf_steps.specs.Renewing.{AreMarkedHeld, CanSearch, CanSearchAll, IsFor};
+ghost use Rattle.zf_steps.specs.Finders.{BeginsFor};
+ghost use Rattle.zf_steps.specs.Renewing.{AreMarkedHeld, CanSearch, CanSearchAll, IsFor, stage_at};
 ghost use Rattle.zf_steps.specs.Systems.{operation_of, system_of};
 ghost use Rattle.zf_term.specs.Definitions.{Comp, Schema};
 ghost use Rattle.zf_term.specs.SchemaViews.{schema_of};
+ghost use Rattle.zf_value.specs.Sets.{value_order};
+ghost use Rattle.zf_walk.specs.Progress.{Advances, SameRanges};
 
 use crate::cursor::{Cursor, Part};
 use crate::finder::Finder;
+use crate::rows::values_of;
+use crate::stepped::Stepped;
 use crate::system::{Operation, System};
-use bumpalo::Bump;
 use std::alloc::{AllocError, Global};
 use zf_enum::{Instances, Search};
 use zf_meaning::env::Env;
-use zf_meaning::row::Row;
 use zf_ranges::StartFault;
 use zf_term::schema::Flat;
 use zf_value::value::Value;
 use zf_walk::Step;
 
-/// The search for the bindings of a schema, begun again whenever other values are held. What the first begins with stays in the arena; so does what another does where values of other components are held.
+/// The search for the bindings of a schema, begun again whenever other values are held. What the first begins with stays in the schema's arena; so does what another does where values of other components are held.
 #[derive(Drop)]
 pub struct Renewed<'p, 'e, 'g, 'a> {
-    alloc: Global,
-    arena: &'a Bump,
     flat: &'p Flat<'a>,
     env: &'e Env<'g, 'a>,
     search: Option<Instances<'e, 'e, 'g, 'a>>,
@@ -44,21 +46,52 @@ pub struct Renewed<'p, 'e, 'g, 'a> {
 
 impl<'p, 'e, 'g, 'a> Renewed<'p, 'e, 'g, 'a> {
     /// Nothing is searched for yet.
-    pub fn new(
-        alloc: Global,
-        arena: &'a Bump,
-        flat: &'p Flat<'a>,
-        env: &'e Env<'g, 'a>,
-    ) -> Renewed<'p, 'e, 'g, 'a>
+    pub fn new(alloc: Global, flat: &'p Flat<'a>, env: &'e Env<'g, 'a>) -> Renewed<'p, 'e, 'g, 'a>
         ensures { CanSearch (environment_of env.now) (schema_of flat.now) → IsFor result (environment_of env.now) (schema_of flat.now) }
     {
         Renewed {
-            alloc,
-            arena,
             flat,
             env,
             search: None,
             given: Vec::new(alloc),
+        }
+    }
+
+    fn alloc(&self) -> Global {
+        *self.given.allocator()
+    }
+
+    /// Stands before the first binding that has these values, by the components' places.
+    fn hold(&mut self, held: &[Option<Value>]) -> Result<Stepped, AllocError>
+        requires { (e : Environment) × (a : Schema) × IsFor self.old e a }
+        ensures kept { (e : Environment) (a : Schema) → IsFor self.old e a → IsFor self.new e a }
+        ensures begins { OnOk result ((e : Environment) (a : Schema) → IsFor self.old e a → BeginsFor e a held.now (stage_at self.new)) }
+    {
+        let given = are_given(self.alloc(), held)?;
+        let last = self.last(held);
+        let begun = self.begun(last, held)?;
+        self.search = Some(begun);
+        self.given = given;
+        let row = Vec::new(self.alloc());
+        let step = Step::End;
+        Ok(Stepped { step, row })
+    }
+
+    /// Goes on to the next binding that is not False.
+    fn advance(&mut self) -> Result<Stepped, AllocError>
+        ensures kept { (e : Environment) (a : Schema) → IsFor self.old e a → IsFor self.new e a }
+        ensures ranges { SameRanges (stage_at self.old) (stage_at self.new) }
+        ensures answer { IfOk result (λ s. (e : Environment) (a : Schema) → IsFor self.old e a → Advances value_order (property e a.conjuncts) s.step (stage_at self.old) (stage_at self.new)) }
+        ensures row { IfOk result (λ s. s.row.items ≡ unwrap_or (stage_at self.new).last []) }
+    {
+        let alloc = self.alloc();
+        match &mut self.search {
+            None => {
+                let row = Vec::new(alloc);
+                let step = Step::End;
+                Ok(Stepped { step, row })
+            }
+            Some(search) => advanced(alloc, search),
         }
     }
 
@@ -91,7 +124,7 @@ impl<'p, 'e, 'g, 'a> Renewed<'p, 'e, 'g, 'a> {
         ensures { IfOk result (λ i. Begins (environment_of self.now.env.now) (schema_of self.now.flat.now) (portion None held.now) (planted_goal i.names i.search) i.search.stage) }
     {
         match last {
-            Some(search) => search.holding(self.alloc, self.flat, self.env, held),
+            Some(search) => search.holding(self.alloc(), self.flat, self.env, held),
             None => self.started(held),
         }
     }
@@ -101,74 +134,51 @@ impl<'p, 'e, 'g, 'a> Renewed<'p, 'e, 'g, 'a> {
         requires { CanSearch (environment_of self.now.env.now) (schema_of self.now.flat.now) }
         ensures { IfOk result (λ i. Begins (environment_of self.now.env.now) (schema_of self.now.flat.now) (portion None held.now) (planted_goal i.names i.search) i.search.stage) }
     {
-        match Instances::start(self.alloc, self.arena, self.flat, self.env, None, held) {
+        let arena = self.flat.components.arena();
+        match Instances::start(self.alloc(), arena, self.flat, self.env, None, held) {
             Ok(begun) => Ok(begun),
             Err(fault) => Err(no_memory(fault)),
         }
     }
 }
 
-/// The binding that the last step gave; no values where it gave none.
-impl<'p, 'e, 'g, 'a> Row for Renewed<'p, 'e, 'g, 'a> {
-    ghost use Rattle.std.specs.Prelude.{unwrap_or, []};
-    ghost use Rattle.zf_steps.specs.Renewing.{stage_of};
+impl<'p, 'e, 'g, 'a> Finder for Renewed<'p, 'e, 'g, 'a> {
+    ghost use Rattle.zf_steps.specs.Renewing.{place_of};
 
-    ghost values = { λ r. unwrap_or (stage_of r.search).last [] };
+    ghost place = { place_of };
 
-    fn len(&self) -> usize {
-        match &self.search {
-            None => 0,
-            Some(search) => search.len(),
-        }
-    }
-
-    fn get(&self, place: usize) -> &Value {
-        match &self.search {
-            None => unreachable!(),
-            Some(search) => search.get(place),
+    fn go(&mut self, held: Option<&[Option<Value>]>) -> Result<Stepped, AllocError> {
+        match held {
+            None => self.advance(),
+            Some(held) => self.hold(held),
         }
     }
 }
 
-impl<'p, 'e, 'g, 'a> Finder for Renewed<'p, 'e, 'g, 'a> {
-    ghost use Rattle.std.proofs.Common.{refl};
-    ghost use Rattle.zf_steps.specs.Renewing.{IsFor, stage_of};
-
-    ghost stage = { λ r. stage_of r.search };
-
-    ghost IsFor = { IsFor };
-
-    ghost given = { λ r. refl };
-
-    fn hold(&mut self, held: &[Option<Value>]) -> Result<(), AllocError> {
-        let given = are_given(self.alloc, held)?;
-        let last = self.last(held);
-        let begun = self.begun(last, held)?;
-        self.search = Some(begun);
-        self.given = given;
-        Ok(())
-    }
-
-    fn advance(&mut self) -> Result<Step, AllocError> {
-        match &mut self.search {
-            None => Ok(Step::End),
-            Some(search) => search.advance(),
-        }
-    }
+/// The next binding of a search.
+fn advanced(alloc: Global, search: &mut Instances<'_, '_, '_, '_>) -> Result<Stepped, AllocError>
+    ensures goal { planted_goal search.new.names search.new.search ≡ planted_goal search.old.names search.old.search }
+    ensures ranges { SameRanges search.old.search.stage search.new.search.stage }
+    ensures answer { IfOk result (λ s. Advances value_order (conjuncts_of (planted_goal search.old.names search.old.search)) s.step search.old.search.stage search.new.search.stage) }
+    ensures row { IfOk result (λ s. s.row.items ≡ unwrap_or search.new.search.stage.last []) }
+{
+    let step = search.advance()?;
+    let row = values_of(alloc, search)?;
+    Ok(Stepped { step, row })
 }
 
 /// The searches of a specification, none of which is begun.
-pub fn searches_of<'p, 'g, 'a>(
-    arena: &'a Bump,
-    system: &System<'p, Env<'g, 'a>, Flat<'a>, Renewed<'p, 'p, 'g, 'a>>,
-) -> Result<Cursor<Renewed<'p, 'p, 'g, 'a>>, AllocError>
-    requires { CanSearchAll (system_of environment_of schema_of system.now) }
-    ensures { IfOk result (λ c. Fits IsFor (system_of environment_of schema_of system.now) c.state c.init c.operations.items c.part) }
+pub fn searches_of<'p, 'e, 'g, 'a>(
+    system: &System<'_, 'p, Flat<'a>>,
+    env: &'e Env<'g, 'a>,
+) -> Result<Cursor<Renewed<'p, 'e, 'g, 'a>>, AllocError>
+    requires { CanSearchAll (system_of (environment_of env.now) schema_of system.now) }
+    ensures { IfOk result (λ c. Fits IsFor (system_of (environment_of env.now) schema_of system.now) c.state c.init c.operations.items c.part) }
 {
-    let operations = searches_among(arena, system, &system.operations)?;
+    let operations = searches_among(system.alloc, env, &system.operations)?;
     Ok(Cursor {
-        state: Renewed::new(system.alloc, arena, system.state.schema, system.env),
-        init: Renewed::new(system.alloc, arena, system.init.schema, system.env),
+        state: Renewed::new(system.alloc, system.state.schema, env),
+        init: Renewed::new(system.alloc, system.init.schema, env),
         operations,
         part: Part::Initial,
         stop: Vec::new(system.alloc),
@@ -176,17 +186,17 @@ pub fn searches_of<'p, 'g, 'a>(
 }
 
 /// The searches of operations.
-fn searches_among<'p, 'g, 'a>(
-    arena: &'a Bump,
-    system: &System<'p, Env<'g, 'a>, Flat<'a>, Renewed<'p, 'p, 'g, 'a>>,
+fn searches_among<'p, 'e, 'g, 'a>(
+    alloc: Global,
+    env: &'e Env<'g, 'a>,
     operations: &[Operation<'p, Flat<'a>>],
-) -> Result<Vec<Renewed<'p, 'p, 'g, 'a>>, AllocError>
-    requires { AllByRecursion (λ o. CanSearch (system_of environment_of schema_of system.now).environment (operation_of schema_of o).schema) operations.now }
-    ensures { IfOk result (λ ss. AreFor IsFor (system_of environment_of schema_of system.now).environment (map (λ o. (operation_of schema_of o).schema) operations.now) ss.items) }
+) -> Result<Vec<Renewed<'p, 'e, 'g, 'a>>, AllocError>
+    requires { AllByRecursion (λ o. CanSearch (environment_of env.now) (operation_of schema_of o).schema) operations.now }
+    ensures { IfOk result (λ ss. AreFor IsFor (environment_of env.now) (map (λ o. (operation_of schema_of o).schema) operations.now) ss.items) }
 {
-    let mut searches = Vec::with_capacity(system.alloc, operations.len())?;
+    let mut searches = Vec::with_capacity(alloc, operations.len())?;
     for operation in operations {
-        searches.push(Renewed::new(system.alloc, arena, operation.schema, system.env))?;
+        searches.push(Renewed::new(alloc, operation.schema, env))?;
     }
     Ok(searches)
 }

@@ -60,6 +60,17 @@ pub fn values_at<R: Row>(
     Items::of(alloc, values)
 }
 
+/// The values of a row.
+pub fn values_of<R: Row>(alloc: Global, row: &R) -> Result<Vec<Value>, AllocError>
+    ensures { IfOk result (λ values. values.items ≡ R.values row.now) }
+{
+    let mut values = Vec::with_capacity(alloc, row.len())?;
+    for place in 0..row.len() {
+        values.push(row.get(place).copy(alloc)?)?;
+    }
+    Ok(values)
+}
+
 /// Lays out what is said of a binding that is out.
 pub fn lay_out_stop<F: Schematic, R: Row>(
     text: &mut Vec<u8>,

@@ -1,6 +1,5 @@
 //! What is explored of a specification.
 use std::alloc::Global;
-use std::marker::PhantomData;
 use zf_texts::Spelling;
 
 /// A schema whose bindings are steps, with which of its components are those of the state before, and which are those of the state after.
@@ -18,15 +17,12 @@ pub struct Operation<'p, F> {
     pub label: &'p F,
 }
 
-/// The schema of the state, of which each component is one of the state before, that of the initial states, and the operations; in an environment, with how elements are spelled.
+/// The schema of the state, of which each component is one of the state before, that of the initial states, and the operations; with how elements are spelled.
 #[derive(Drop)]
-pub struct System<'p, E, F, S> {
+pub struct System<'s, 'p, F> {
     pub alloc: Global,
-    pub env: &'p E,
-    pub elements: &'p [Spelling],
+    pub elements: &'s [Spelling],
     pub state: Operation<'p, F>,
     pub init: Operation<'p, F>,
     pub operations: Vec<Operation<'p, F>>,
-    /// By which searches it is explored.
-    pub searches: PhantomData<S>,
 }

@@ -2,14 +2,14 @@ use Rattle.std.proofs.Common.{◌∙◌, ◌≡◌, ap, List, map, refl, subst}
 use Rattle.zf_machines.proofs.Lacking.{map_map}
 use Rattle.zf_machines.specs.Machines.{Named}
 use Rattle.zf_machines.specs.SchemaViews.{named_of}
-use Rattle.zf_steps.specs.Shapes.{IsInit, operation_in, state_in}
+use Rattle.zf_steps.specs.Shapes.{IsInit, operation_in}
 use Rattle.zf_steps.specs.Systems.{operation_of}
 use Rattle.zf_term.specs.declared.schema.Component.{Component}
 use Rattle.zf_term.specs.SchemaViews.{comp_of, schema_of}
 use Rattle.zf_machines.proofs.making.machine_of.Goals as goal
 
 pub returns : goal.returns
-returns g c =
+returns c e =
     let p = c.args.schemas.now in
     let whole = c.as_slice-before.ensures in record {
       environment = refl;

@@ -1,4 +1,4 @@
-use Rattle.std.proofs.Common.{◌⊎◌, inl, List, map, refl, subst}
+use Rattle.std.proofs.Common.{inl, List, map, refl, subst}
 use Rattle.std.specs.List.{AllByRecursion}
 use Rattle.std.specs.Prelude.{MatchOption}
 use Rattle.zf_machines.proofs.Lacking.{shape_by}

@@ -1,5 +1,5 @@
 -- What is still ahead decides.
-use Rattle.std.proofs.Common.{drop, List, map, ℕ}
+use Rattle.std.proofs.Common.{drop, map}
 use Rattle.zf_machines.specs.Machines.{CanStep}
 use Rattle.zf_machines.specs.SchemaViews.{named_of}
 use Rattle.zf_machines.proofs.Firsts.{IsAhead}

@@ -6,11 +6,11 @@ use Rattle.zf_steps.specs.Fitting.{AreFor}
 use Rattle.zf_steps.specs.Renewing.{CanSearch, IsFor}
 use Rattle.zf_meaning.specs.Envs.{environment_of}
 use Rattle.zf_term.specs.SchemaViews.{schema_of}
-use Rattle.zf_steps.specs.Systems.{operation_of, system_of}
+use Rattle.zf_steps.specs.Systems.{operation_of}
 
 pub loop-operation-preserved : goal.loop-operation-preserved
 loop-operation-preserved c =
-    let e = (system_of environment_of schema_of c.args.system.now).environment in
+    let e = environment_of c.args.env.now in
     subst (AreFor IsFor e (map (λ o. (operation_of schema_of o).schema) (take (c.loop-operation.operation-index + 1) c.args.operations.now)))
     (sym c.in_ok-push.ensures.items)
     (for_item IsFor e (λ o. (operation_of schema_of o).schema) (CanSearch e) c.args.operations.now c.loop-operation.operation-index _ c.operation-item.result

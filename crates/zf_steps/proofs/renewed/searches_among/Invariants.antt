@@ -4,9 +4,9 @@ use Rattle.zf_steps.specs.Fitting.{AreFor}
 use Rattle.zf_steps.specs.Renewing.{IsFor}
 use Rattle.zf_meaning.specs.Envs.{environment_of}
 use Rattle.zf_term.specs.SchemaViews.{schema_of}
-use Rattle.zf_steps.specs.Systems.{operation_of, system_of}
+use Rattle.zf_steps.specs.Systems.{operation_of}
 use Rattle.zf_steps.proofs.renewed.searches_among.Given as goal
 
 abbrev pub invariant-loop-operation : goal.invariant-loop-operation
-invariant-loop-operation l = AreFor IsFor (system_of environment_of schema_of l.system).environment
+invariant-loop-operation l = AreFor IsFor (environment_of l.env)
     (map (λ o. (operation_of schema_of o).schema) (take l.operation-index l.operations)) l.searches.items

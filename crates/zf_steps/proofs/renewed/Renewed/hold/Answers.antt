@@ -1,7 +1,7 @@
 -- The search is still one for its schema.
 use Rattle.std.proofs.Common.{refl}
 use Rattle.zf_steps.proofs.Renewing.{is_for}
-use Rattle.zf_steps.proofs.renewed.RenewedFinder.hold.Goals as goal
+use Rattle.zf_steps.proofs.renewed.Renewed.hold.Goals as goal
 
 pub returns-clause-kept : goal.returns-clause-kept
 returns-clause-kept c = λ e a f.

@@ -1,0 +1,62 @@
+//! What the machine that schemas make can reach.
+ghost use Rattle.std.specs.Prelude.{◌≡◌, ◌≤◌, ◌⊎◌, ℕ, List, [], IfOk, OnErr};
+ghost use Rattle.std.specs.List.{AllByRecursion};
+ghost use Rattle.std.specs.Io.KnownBytes.{Appends};
+ghost use Rattle.zf_graph.specs.Texts.{IsWritten};
+ghost use Rattle.zf_lines.specs.Counts.{device_of, failures_of};
+ghost use Rattle.zf_lines.specs.Faults.{read_failures, write_failures};
+ghost use Rattle.zf_machines.specs.Machines.{all_of, HasShape, IsMachineOf};
+ghost use Rattle.zf_machines.specs.SchemaViews.{schemas_of};
+ghost use Rattle.zf_meaning.specs.Envs.{environment_of};
+ghost use Rattle.zf_reach.specs.Machines.{ending_of};
+ghost use Rattle.zf_reach.specs.Runs.{StopsEarly};
+ghost use Rattle.zf_steps.specs.Explored.{explored_in};
+ghost use Rattle.zf_steps.specs.Lines.{lines};
+ghost use Rattle.zf_steps.specs.Renewing.{CanSearch};
+ghost use Rattle.zf_steps.specs.Systems.{System};
+
+use crate::making::machine_of;
+use crate::schemas::Schemas;
+use bumpalo::Bump;
+use std::alloc::Global;
+use std::io::Write;
+use zf_lines::counted::Counted;
+use zf_lines::fault::RunFault;
+use zf_meaning::env::Env;
+use zf_reach::Ending;
+use zf_steps::explore_flat;
+use zf_texts::Spelling;
+
+/// The schemas of a machine in an environment, with how elements are spelled.
+#[derive(Drop)]
+pub struct Specification<'s, 'e, 'p, 'g, 'a> {
+    pub alloc: Global,
+    pub arena: &'a Bump,
+    pub env: &'e Env<'g, 'a>,
+    pub elements: &'s [Spelling],
+    pub schemas: &'s Schemas<'p, 'a>,
+}
+
+/// Writes the exploration of the machine, up to so many states. Each line is written before anything further is searched for.
+pub fn explore_schemas<W: Write>(
+    specification: &Specification<'_, '_, '_, '_, '_>,
+    limit: usize,
+    writer: &mut Counted<W>,
+) -> Result<Ending, RunFault>
+    requires unfailed { failures_of writer.old ≡ 0 }
+    requires limited { 1 ≤ limit }
+    requires shape { HasShape (schemas_of specification.now.schemas.now) }
+    requires searchable { AllByRecursion (λ n. CanSearch (environment_of specification.now.env.now) n.schema) (all_of (schemas_of specification.now.schemas.now)) }
+    ensures ok { IfOk result (λ ending. (m : System) × IsMachineOf (environment_of specification.now.env.now) specification.now.elements.now (schemas_of specification.now.schemas.now) m × (at text : List ℕ) × IsWritten (explored_in m) (lines m) limit (ending_of ending at) text × Appends (W.contents (device_of writer.old)) (W.contents (device_of writer.new)) text) }
+    ensures err { OnErr result (Appends (W.contents (device_of writer.old)) (W.contents (device_of writer.new)) [] ⊎ ((m : System) × IsMachineOf (environment_of specification.now.env.now) specification.now.elements.now (schemas_of specification.now.schemas.now) m × StopsEarly (explored_in m) (lines m) limit (W.contents (device_of writer.old)) (W.contents (device_of writer.new)))) }
+    ensures count { failures_of writer.new ≡ write_failures result }
+    ensures unread { read_failures result ≡ 0 }
+{
+    let system = machine_of(
+        specification.alloc,
+        specification.arena,
+        specification.elements,
+        specification.schemas,
+    )?;
+    explore_flat(&system, specification.env, limit, writer)
+}

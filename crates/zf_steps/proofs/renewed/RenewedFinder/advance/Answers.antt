@@ -1,6 +1,0 @@
--- The next binding.
-use Rattle.zf_steps.proofs.Renewing.{goes_by_schema}
-use Rattle.zf_steps.proofs.renewed.RenewedFinder.advance.Goals as goal
-
-pub returns-in-Some-clause-answer : goal.returns-in-Some-clause-answer
-returns-in-Some-clause-answer c = goes_by_schema c.args.self.now c.in-Some.search c.advance.new.self c.advance.result c.in-Some.is c.advance.ensures.answer
