@@ -71,20 +71,33 @@ _zf() {
         case $command in
             check) mapfile -t COMPREPLY < <(compgen -W '-t -d --details -h --help' -- "$current") ;;
             show) mapfile -t COMPREPLY < <(compgen -W '--after --with --limit --numbers --size --tests -d --details -h --help' -- "$current") ;;
+            reach) mapfile -t COMPREPLY < <(compgen -W '--limit --numbers --size -d --details -h --help' -- "$current") ;;
             why) mapfile -t COMPREPLY < <(compgen -W '--with --numbers --size -d --details -h --help' -- "$current") ;;
             '') mapfile -t COMPREPLY < <(compgen -W '-h --help -V --version' -- "$current") ;;
         esac
     elif [[ -z $command ]]; then
-        mapfile -t COMPREPLY < <(compgen -W 'check show why help' -- "$current")
+        mapfile -t COMPREPLY < <(compgen -W 'check show why reach help' -- "$current")
     elif [[ $command == help && ${#places[@]} -eq 0 ]]; then
-        mapfile -t COMPREPLY < <(compgen -W 'check show why' -- "$current")
-    elif [[ $command =~ ^(check|show|why)$ && ${#places[@]} -eq 0 ]]; then
+        mapfile -t COMPREPLY < <(compgen -W 'check show why reach' -- "$current")
+    elif [[ $command =~ ^(check|show|why|reach)$ && ${#places[@]} -eq 0 ]]; then
         compopt -o filenames
         mapfile -t COMPREPLY < <(compgen -d -- "$current"; compgen -f -X '!*.tex' -- "$current")
     elif [[ $command =~ ^(show|why)$ && ${#places[@]} -eq 1 ]]; then
         while read -r word; do
             [[ $word != "$current"* ]] || COMPREPLY+=("$word")
         done < <(__zf_listed "$1" Schema "${places[0]}")
+    elif [[ $command == reach && $current != *=* ]]; then
+        # the schemas of the state and of the initial states, then operations, and sizes among them
+        while read -r word; do
+            [[ $word != "$current"* || " ${places[*]} " == *" $word "* ]] || COMPREPLY+=("$word")
+        done < <(__zf_listed "$1" Schema "${places[0]}")
+        if [[ ${#places[@]} -gt 2 ]]; then
+            compopt -o nospace
+            COMPREPLY=("${COMPREPLY[@]/%/ }")
+            while read -r word; do
+                [[ $word != "$current"* || " ${places[*]} " == *" $word="* ]] || COMPREPLY+=("$word=")
+            done < <(__zf_listed "$1" Given "${places[0]}")
+        fi
     elif [[ $command =~ ^(show|why)$ && $current != *=* ]]; then
         compopt -o nospace
         while read -r word; do

@@ -57,10 +57,12 @@ complete -c zf -n 'test (count (__zf_places)) -eq 1' -s V -l version -d 'Print t
 complete -c zf -n 'test (count (__zf_places)) -eq 1' -a check -d 'Write the faults of a specification'
 complete -c zf -n 'test (count (__zf_places)) -eq 1' -a show -d 'Write the bindings of a schema'
 complete -c zf -n 'test (count (__zf_places)) -eq 1' -a why -d 'Write a binding of a schema, or why it has none'
+complete -c zf -n 'test (count (__zf_places)) -eq 1' -a reach -d 'Write what can be reached'
 complete -c zf -n 'test (count (__zf_places)) -eq 1' -a help -d 'Print help'
 complete -c zf -n '__zf_stands_at help 2' -a check -d 'Write the faults of a specification'
 complete -c zf -n '__zf_stands_at help 2' -a show -d 'Write the bindings of a schema'
 complete -c zf -n '__zf_stands_at help 2' -a why -d 'Write a binding of a schema, or why it has none'
+complete -c zf -n '__zf_stands_at help 2' -a reach -d 'Write what can be reached'
 complete -c zf -n '__zf_stands_after check 2' -s h -l help -d 'Print help'
 complete -c zf -n '__zf_stands_after check 2' -s t -d 'Write also what is defined, with its types'
 complete -c zf -n '__zf_stands_after check 2' -s d -l details -d 'Write after each fault what it is about'
@@ -77,6 +79,11 @@ complete -c zf -n '__zf_stands_after why 2' -x -l with -d 'Ask only of the bindi
 complete -c zf -n '__zf_stands_after why 2' -x -l numbers -d 'The greatest number'
 complete -c zf -n '__zf_stands_after why 2' -x -l size -d 'The size of each other given set'
 complete -c zf -n '__zf_stands_after why 2' -s d -l details -d 'Write after each fault what it is about'
-complete -c zf -n '__zf_stands_at check 2; or __zf_stands_at show 2; or __zf_stands_at why 2' -F
-complete -c zf -n '__zf_stands_at show 3; or __zf_stands_at why 3' -a '(__zf_listed Schema)' -d schema
-complete -c zf -n '__zf_stands_after show 4; or __zf_stands_after why 4' -a '(__zf_listed Given | string replace --regex \$ =)' -d 'given set'
+complete -c zf -n '__zf_stands_after reach 2' -s h -l help -d 'Print help'
+complete -c zf -n '__zf_stands_after reach 2' -x -l limit -d 'Write at most so many states'
+complete -c zf -n '__zf_stands_after reach 2' -x -l numbers -d 'The greatest number'
+complete -c zf -n '__zf_stands_after reach 2' -x -l size -d 'The size of each other given set'
+complete -c zf -n '__zf_stands_after reach 2' -s d -l details -d 'Write after each fault what it is about'
+complete -c zf -n '__zf_stands_at check 2; or __zf_stands_at show 2; or __zf_stands_at why 2; or __zf_stands_at reach 2' -F
+complete -c zf -n '__zf_stands_at show 3; or __zf_stands_at why 3; or __zf_stands_after reach 3' -a '(__zf_listed Schema)' -d schema
+complete -c zf -n '__zf_stands_after show 4; or __zf_stands_after why 4; or __zf_stands_after reach 5' -a '(__zf_listed Given | string replace --regex \$ =)' -d 'given set'

@@ -1,9 +1,12 @@
 -- Words that are refused ask for no work.
-use Rattle.zf_command.proofs.Prelude.{◌∙◌, ◌∷◌, ◌≡◌, [], arith, codes, inl, inr, List, None, Option, Some, subst, suc, sym, zero, ℕ, AllZip, Contains, first_of, IsAmong, Row, Text, HasBadLimit, HasBadNumber, HasBadNumbers, HasBadSizes, IsAsked, IsJob, IsLimit, IsNumberOf, IsRequest, IsRefused, ReadsSize, Refuses, values_of, Work, Size}
+use Rattle.zf_command.proofs.Prelude.{◌∙◌, ◌∷◌, ◌≡◌, [], arith, codes, inl, inr, List, None, Option, Some, subst, suc, sym, zero, ℕ, AllZip, Contains, first_of, IsAmong, Row, Text, HasBadLimit, HasBadNumber, HasBadNumbers, HasBadSetting, IsAsked, IsExploration, IsJob, IsLimit, IsNumberOf, IsRefused, IsSetting, ReadsSize, Refuses, RefusesExploration, size_words, values_of, words_after, Work, Size}
+use Rattle.std.proofs.Common.{◌==◌, ap, Bool, false, true}
 use Rattle.std.proofs.lemmas.Option.{same_Some}
 use Rattle.zf_command.specs.declared.job.Job.{Job}
-use Rattle.zf_command.specs.declared.job.Request.{Request}
-use Rattle.zf_command.specs.declared.job.Job.TheVariants.{Check, Show, Why}
+use Rattle.zf_command.specs.declared.job.Exploration.{Exploration}
+use Rattle.zf_command.specs.declared.job.Setting.{Setting}
+use Rattle.zf_command.specs.declared.limit.TheConstants.{LIMIT_MAX, STATES_MAX}
+use Rattle.zf_command.specs.declared.job.Job.TheVariants.{Check, Reach, Show, Why}
 
 -- each word of which the sizes are read is one
 size_of : (words : List Text) (sizes : List Size) (word : Text) → AllZip ReadsSize words sizes → Contains words word → (size : Size) × ReadsSize word size
@@ -13,10 +16,10 @@ size_of (w ∷ words) (z ∷ sizes) word all (zero, h, e) = (z, subst (λ v. Rea
 size_of (w ∷ words) (z ∷ sizes) word all (suc k, h, e) = size_of words sizes word all.1 (k, omega arith, e)
 
 -- a limit that is read is not bad
-no_bad_limit : (given : Option Text) (limit : Option ℕ) → HasBadLimit given → IsLimit given limit → ⊥
-no_bad_limit None limit bad is = bad
-no_bad_limit (Some digits) None bad is = is
-no_bad_limit (Some digits) (Some n) bad is = bad n is
+no_bad_limit : (most : ℕ) (given : Option Text) (limit : Option ℕ) → HasBadLimit most given → IsLimit most given limit → ⊥
+no_bad_limit most None limit bad is = bad
+no_bad_limit most (Some digits) None bad is = is
+no_bad_limit most (Some digits) (Some n) bad is = bad n is
 
 -- a number that is read is a numeral
 no_bad_number : (given : Option Text) (number : Option ℕ) → HasBadNumber given → IsNumberOf given number → ⊥
@@ -31,18 +34,41 @@ no_bad_numbers rows numbers size (inl bad) numbered shared = no_bad_number (firs
 no_bad_numbers rows numbers size (inr bad) numbered shared = no_bad_number (first_of (codes "size") rows) size bad shared
 
 -- sizes that are read are not bad
-no_bad_sizes : (rows : List Row) (r : Request) → HasBadSizes rows → IsRequest rows r → ⊥
-no_bad_sizes rows r (inl (word, among, bad)) (named, read, numbered, shared, held_so, detailed) =
-    let size = size_of (values_of (codes "NAME=SIZE") rows) r.sizes word read among in bad size.0 size.1
-no_bad_sizes rows r (inr bad) (named, read, numbered, shared, held_so, detailed) = no_bad_numbers rows r.numbers r.size bad numbered shared
+no_bad_setting : (words : List Text) (rows : List Row) (s : Setting) → HasBadSetting words rows → IsSetting words rows s → ⊥
+no_bad_setting words rows s (inl (word, among, bad)) (read, numbered, shared) =
+    let size = size_of words s.sizes word read among in bad size.0 size.1
+no_bad_setting words rows s (inr bad) (read, numbered, shared) = no_bad_numbers rows s.numbers s.size bad numbered shared
+
+not_explored : (rows : List Row) (x : Exploration) → RefusesExploration rows → IsExploration rows x → ⊥
+not_explored rows x (inl none) ((of_state, of_init, operations, some), set, bound, detailed) = some (operations ∙ none)
+not_explored rows x (inr (inl bad)) (named, set, bound, detailed) = no_bad_setting (size_words (words_after rows)) rows x.setting bad set
+not_explored rows x (inr (inr bad)) (named, set, bound, detailed) = no_bad_limit STATES_MAX (first_of (codes "limit") rows) x.limit bad bound
+
+-- `reach` is no other subcommand
+begins_with_r : Text → Bool
+begins_with_r [] = false
+begins_with_r (b ∷ bs) = b == 114
+
+other_than_check : codes "reach" ≡ codes "check" → ⊥
+unfolding begins_with_r
+other_than_check e = let both : true ≡ false = ap begins_with_r e in cc
+
+other_than_why : codes "reach" ≡ codes "why" → ⊥
+unfolding begins_with_r
+other_than_why e = let both : true ≡ false = ap begins_with_r e in cc
 
 not_both : (name : Text) (rows : List Row) (job : Job) → Refuses name rows → IsJob name rows job → ⊥
-not_both name rows (Check types details) (other, bad) (is, typed, detailed) = other is
-not_both name rows (Show r) (other, inl bad) (no_check, no_why, asked, shown) = no_bad_sizes rows r bad asked
-not_both name rows (Show r) (other, inr (no_why, bad)) (no_check, not_why, asked, (after, bound, counted)) =
-    no_bad_limit (first_of (codes "limit") rows) r.limit bad bound
-not_both name rows (Why r) (other, inl bad) (is, asked, plain) = no_bad_sizes rows r bad asked
-not_both name rows (Why r) (other, inr (no_why, bad)) (is, asked, plain) = no_why is
+not_both name rows (Check types details) (inl (is, bad)) (called, typed, detailed) = other_than_check (sym is ∙ called)
+not_both name rows (Check types details) (inr (other, no_reach, bad)) (called, typed, detailed) = other called
+not_both name rows (Show r) (inl (is, bad)) (no_check, no_reach, no_why, asked, shown) = no_reach is
+not_both name rows (Show r) (inr (other, no_reach, inl bad)) (no_check, not_reach, no_why, (named, set, held_so, detailed), shown) = no_bad_setting (values_of (codes "NAME=SIZE") rows) rows r.setting bad set
+not_both name rows (Show r) (inr (other, no_reach, inr (no_why, bad))) (no_check, not_reach, is_no_why, asked, (after, bound, counted)) =
+    no_bad_limit LIMIT_MAX (first_of (codes "limit") rows) r.limit bad bound
+not_both name rows (Why r) (inl (is, bad)) (called, asked, plain) = other_than_why (sym is ∙ called)
+not_both name rows (Why r) (inr (other, no_reach, inl bad)) (called, (named, set, held_so, detailed), plain) = no_bad_setting (values_of (codes "NAME=SIZE") rows) rows r.setting bad set
+not_both name rows (Why r) (inr (other, no_reach, inr (no_why, bad))) (called, asked, plain) = no_why called
+not_both name rows (Reach x) (inl (is, bad)) (called, asked) = not_explored rows x bad asked
+not_both name rows (Reach x) (inr (other, no_reach, bad)) (called, asked) = no_reach called
 
 pub refused_ask_no_work : (words : List Text) (file : Text) (job : Job) → IsRefused words → IsAsked words (Work file job) → ⊥
 refused_ask_no_work words file job (inl (cause, among, memory, help, version)) (name, rows, are, asks) = subst (IsAmong cause) are.0 among

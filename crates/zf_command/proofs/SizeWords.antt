@@ -1,6 +1,9 @@
 -- What `split_once` makes of a size word, and what a loop over size words has read.
 use Rattle.zf_command.proofs.Prelude.{◌++◌, ◌+◌, ◌<◌, ◌∙◌, ◌∷◌, ◌≡◌, ◌≢◌, [], ap, append_assoc, Bor, get_or, length, List, lit<, map, MatchOption, None, Option, Some, subst, sym, take, ℕ, AllZip, IsNumeral, HasBadSize, IsBadSize, ReadsNumber, ReadsSize, Size}
+use Rattle.std.proofs.Common.{append-nil, Bool, cond, false, true}
 use Rattle.std.proofs.lemmas.List.{get_or-map, get_or_default, length-map, map_more}
+use Rattle.std.proofs.lemmas.List.Elements.{filter_more}
+use Rattle.std.specs.List.{filter}
 use Rattle.std.proofs.lemmas.Str.Pattern.{IsSplitOnceResult, split_after, split_parts}
 
 -- where a word is read as a size, it is parted into the name and the digits
@@ -47,3 +50,19 @@ pub bad_among : (words : List (Bor (List ℕ))) (i : ℕ) (d : Bor (List ℕ)) �
 bad_among words i d below bad =
     let within : i < length (texts words) = rw (length-map words (λ (w : Bor (List ℕ)). w.now)) below in
     ((get_or words i d).now, (i, within, get_or-map (λ (w : Bor (List ℕ)). w.now) words i d _ below), bad)
+
+-- ---- those of the words that pass a test
+
+module _ (p : List ℕ → Bool) (words : List (Bor (List ℕ))) (i : ℕ) (d : Bor (List ℕ)) (below : i < length words) where
+  one_more : filter p (take (i + 1) (texts words)) ≡ filter p (take i (texts words)) ++ cond (p (get_or words i d).now) ((get_or words i d).now ∷ []) []
+  one_more =
+      subst (λ x. filter p (take (i + 1) (texts words)) ≡ filter p (take i (texts words)) ++ cond (p x) (x ∷ []) []) (get_or-map (λ (w : Bor (List ℕ)). w.now) words i d d.now below)
+      (filter_more p (texts words) i d.now (rw (length-map words (λ (w : Bor (List ℕ)). w.now)) below))
+
+  pub picked : (found : List (List ℕ)) → p (get_or words i d).now ≡ true → found ≡ filter p (take i (texts words)) → found ++ (get_or words i d).now ∷ [] ≡ filter p (take (i + 1) (texts words))
+  picked found passes so_far =
+      ap (λ xs. xs ++ (get_or words i d).now ∷ []) so_far ∙ sym (one_more ∙ ap (λ b. filter p (take i (texts words)) ++ cond b ((get_or words i d).now ∷ []) []) passes)
+
+  pub left_out : (found : List (List ℕ)) → p (get_or words i d).now ≡ false → found ≡ filter p (take i (texts words)) → found ≡ filter p (take (i + 1) (texts words))
+  left_out found fails so_far =
+      so_far ∙ sym (one_more ∙ ap (λ b. filter p (take i (texts words)) ++ cond b ((get_or words i d).now ∷ []) []) fails ∙ append-nil (filter p (take i (texts words))))

@@ -1,6 +1,7 @@
 -- The command line, as the literals that `clap` reads words by: `--version`, `check [-t] [--details] FILE`,
 -- `show [--after TEXT] [--with TEXT] [--numbers N] [--size N] [--limit N] [--tests] [--details] FILE SCHEMA [NAME=SIZE]...`
--- and `why [--with TEXT] [--numbers N] [--size N] [--details] FILE SCHEMA [NAME=SIZE]...`.
+-- `why [--with TEXT] [--numbers N] [--size N] [--details] FILE SCHEMA [NAME=SIZE]...`
+-- and `reach [--limit N] [--numbers N] [--size N] [--details] FILE STATE INIT OPERATION... [NAME=SIZE]...`.
 use Rattle.std.specs.Prelude.{◌≡◌, Some, codes, true, false}
 use Rattle.clap.specs.Words.{App, Rule, Text, app_of, new_app, new_rule, rule_of, with_rule, with_subcommand}
 use Rattle.clap.specs.declared.builder.ArgAction.TheVariants.{Append, SetTrue}
@@ -15,6 +16,10 @@ required_rule name = record (new_rule name) { required = true }
 -- `[NAME=SIZE]...`
 abbrev pub sizes_rule : Rule
 sizes_rule = record (new_rule (codes "NAME=SIZE")) { action = Some Append }
+
+-- `OPERATION...`, with size words among them
+abbrev pub operations_rule : Rule
+operations_rule = record (new_rule (codes "OPERATION")) { required = true; action = Some Append }
 
 -- `[-t]`; the letter is the character 116
 abbrev pub types_rule : Rule
@@ -58,12 +63,22 @@ why_options = with_rule (with_sizes (with_rule (new_app (codes "why")) (option_r
 abbrev pub why_app : App
 why_app = with_rule (with_rule (with_rule why_options (required_rule (codes "FILE"))) (required_rule (codes "SCHEMA"))) sizes_rule
 
+-- the options of `reach`
+abbrev pub reach_options : App
+reach_options = with_rule (with_sizes (with_rule (new_app (codes "reach")) (option_rule (codes "limit")))) details_rule
+
+-- `reach [--limit N] [--numbers N] [--size N] [--details] FILE STATE INIT OPERATION... [NAME=SIZE]...`
+abbrev pub reach_app : App
+reach_app =
+    let with_state = with_rule (with_rule reach_options (required_rule (codes "FILE"))) (required_rule (codes "STATE")) in
+    with_rule (with_rule with_state (required_rule (codes "INIT"))) operations_rule
+
 -- `zf [--version]`, which needs a subcommand, and whose words do not begin with its own name
 abbrev pub zf_top : App
 zf_top = record (new_app (codes "zf")) { top = record (new_app (codes "zf")).top { has_version = true; no_binary_name = true; subcommand_required = true } }
 
 abbrev pub zf_app : App
-zf_app = with_subcommand (with_subcommand (with_subcommand zf_top check_app.top) show_app.top) why_app.top
+zf_app = with_subcommand (with_subcommand (with_subcommand (with_subcommand zf_top check_app.top) show_app.top) why_app.top) reach_app.top
 
 -- the argument is the rule, and is for its own command alone
 abbrev pub IsArg : Arg → Rule → Type 0

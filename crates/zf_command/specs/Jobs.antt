@@ -1,8 +1,8 @@
 -- What a job is read from: the matches that `clap` makes of the words.
-use Rattle.std.specs.Prelude.{◌≡◌, ◌≢◌, ◌⊎◌, ◌++◌, ◌-◌, ◌^◌, ◌≤◌, ℕ, Bool, false, List, [], Option, Some, None, IsSomeAnd, codes, min, unwrap_or}
+use Rattle.std.specs.Prelude.{◌≡◌, ◌≢◌, ◌⊎◌, ◌++◌, ◌-◌, ◌^◌, ◌≤◌, ◌==◌, ℕ, Bool, false, not, List, [], Option, Some, None, IsSomeAnd, codes, min, unwrap_or}
 use Rattle.std.specs.Option.{option_map_or}
 use Rattle.std.specs.Str.{bytes_eq}
-use Rattle.std.specs.List.{All, AllZip, Contains}
+use Rattle.std.specs.List.{All, AllZip, Contains, filter, list_any}
 use Rattle.std.specs.Str.Parse.{IsNumeral, digits_value}
 use Rattle.clap.specs.Words.{IsAmong, Row, Text, all_of, fault_of, first_of, subcommand_of}
 use Rattle.clap.specs.declared.error.kind.ErrorKind.{ErrorKind}
@@ -10,10 +10,12 @@ use Rattle.clap.specs.declared.error.kind.ErrorKind.TheVariants.{DisplayHelp, Di
 use Rattle.zf_command.specs.declared.job.Asked.{Asked}
 use Rattle.zf_command.specs.declared.job.Asked.TheVariants.{About, Work}
 use Rattle.zf_command.specs.declared.job.Job.{Job}
-use Rattle.zf_command.specs.declared.job.Job.TheVariants.{Check, Show, Why}
+use Rattle.zf_command.specs.declared.job.Job.TheVariants.{Check, Reach, Show, Why}
+use Rattle.zf_command.specs.declared.job.Exploration.{Exploration}
 use Rattle.zf_command.specs.declared.job.Request.{Request}
+use Rattle.zf_command.specs.declared.job.Setting.{Setting}
 use Rattle.zf_command.specs.declared.job.Size.{Size}
-use Rattle.zf_command.specs.declared.limit.TheConstants.{LIMIT_MAX}
+use Rattle.zf_command.specs.declared.limit.TheConstants.{LIMIT_MAX, STATES_MAX}
 use Rattle.zf_command.specs.Apps.{zf_app}
 use Rattle.zf_command.specs.Requests.{IsBare}
 
@@ -57,39 +59,74 @@ abbrev pub HasBadNumber : Option Text → Type 0
 HasBadNumber None = ⊥
 HasBadNumber (Some digits) = ¬ (IsNumeral 10 digits)
 
--- the digits spell a limit
-abbrev pub ReadsLimit : Text → ℕ → Type 0
-ReadsLimit digits n = ReadsNumber digits n × (1 ≤ n) × (n ≤ LIMIT_MAX)
+-- the digits spell a limit, which is at most so great
+abbrev pub ReadsLimit : (most : ℕ) → Text → ℕ → Type 0
+ReadsLimit most digits n = ReadsNumber digits n × (1 ≤ n) × (n ≤ most)
 
-abbrev pub IsBadLimit : Text → Type 0
-IsBadLimit digits = (n : ℕ) → ReadsLimit digits n → ⊥
+abbrev pub IsBadLimit : (most : ℕ) → Text → Type 0
+IsBadLimit most digits = (n : ℕ) → ReadsLimit most digits n → ⊥
 
 -- the limit of the option's value, where it was given
-abbrev pub IsLimit : Option Text → Option ℕ → Type 0
-IsLimit None limit = limit ≡ None
-IsLimit (Some digits) limit = IsSomeAnd limit (ReadsLimit digits)
+abbrev pub IsLimit : (most : ℕ) → Option Text → Option ℕ → Type 0
+IsLimit most None limit = limit ≡ None
+IsLimit most (Some digits) limit = IsSomeAnd limit (ReadsLimit most digits)
 
-abbrev pub HasBadLimit : Option Text → Type 0
-HasBadLimit None = ⊥
-HasBadLimit (Some digits) = IsBadLimit digits
+abbrev pub HasBadLimit : (most : ℕ) → Option Text → Type 0
+HasBadLimit most None = ⊥
+HasBadLimit most (Some digits) = IsBadLimit most digits
 
--- the schema, the sizes, the greatest number and the values that are held, and whether it is asked what faults are about
+-- ---- the words after the names of STATE and INIT
+
+-- a word with a `=`, which is the byte 61, is a size word
+abbrev pub is_size_word : Text → Bool
+is_size_word word = list_any (λ b. b == 61) word
+
+abbrev pub size_words : List Text → List Text
+size_words words = filter is_size_word words
+
+-- the others name operations
+abbrev pub other_words : List Text → List Text
+other_words words = filter (λ word. not (is_size_word word)) words
+
+abbrev pub words_after : List Row → List Text
+words_after rows = values_of (codes "OPERATION") rows
+
+-- ---- jobs
+
+-- how large the given sets and the sets of numbers are, where these are the size words
+abbrev pub IsSetting : (words : List Text) → List Row → Setting → Type 0
+IsSetting words rows s =
+    AllZip ReadsSize words s.sizes × IsNumberOf (first_of (codes "numbers") rows) s.numbers × IsNumberOf (first_of (codes "size") rows) s.size
+
+-- what `show` and `why` both are asked for
 abbrev pub IsRequest : List Row → Request → Type 0
 IsRequest rows r =
-    (r.name ≡ value_of (codes "SCHEMA") rows) × AllZip ReadsSize (values_of (codes "NAME=SIZE") rows) r.sizes
-    × IsNumberOf (first_of (codes "numbers") rows) r.numbers × IsNumberOf (first_of (codes "size") rows) r.size
+    (r.name ≡ value_of (codes "SCHEMA") rows) × IsSetting (values_of (codes "NAME=SIZE") rows) rows r.setting
     × (r.held ≡ first_of (codes "with") rows) × (r.details ≡ is_flagged (codes "details") rows)
 
 -- what `show` alone is asked for: where it begins, how many bindings it writes, and whether it counts tests
 abbrev pub IsShown : List Row → Request → Type 0
 IsShown rows r =
-    (r.after ≡ first_of (codes "after") rows) × IsLimit (first_of (codes "limit") rows) r.limit × (r.tests ≡ is_flagged (codes "tests") rows)
+    (r.after ≡ first_of (codes "after") rows) × IsLimit LIMIT_MAX (first_of (codes "limit") rows) r.limit × (r.tests ≡ is_flagged (codes "tests") rows)
 
--- the job is `check` or `why` where the subcommand has this name, else `show`, read from the matches of its arguments
+-- the names of the schemas that `reach` is asked for, with at least one operation
+abbrev pub AreNames : List Row → Exploration → Type 0
+AreNames rows x =
+    (x.state ≡ value_of (codes "STATE") rows) × (x.initial ≡ value_of (codes "INIT") rows)
+    × (x.operations ≡ other_words (words_after rows)) × (x.operations ≢ [])
+
+-- what `reach` is asked for
+abbrev pub IsExploration : List Row → Exploration → Type 0
+IsExploration rows x =
+    AreNames rows x × IsSetting (size_words (words_after rows)) rows x.setting
+    × IsLimit STATES_MAX (first_of (codes "limit") rows) x.limit × (x.details ≡ is_flagged (codes "details") rows)
+
+-- the job is `check`, `why` or `reach` where the subcommand has this name, else `show`, read from the matches of its arguments
 abbrev pub IsJob : Text → List Row → Job → Type 0
 IsJob name rows (Check types details) = (name ≡ codes "check") × (types ≡ is_flagged (codes "types") rows) × (details ≡ is_flagged (codes "details") rows)
-IsJob name rows (Show r) = (name ≢ codes "check") × (name ≢ codes "why") × IsRequest rows r × IsShown rows r
+IsJob name rows (Show r) = (name ≢ codes "check") × (name ≢ codes "reach") × (name ≢ codes "why") × IsRequest rows r × IsShown rows r
 IsJob name rows (Why r) = (name ≡ codes "why") × IsRequest rows r × IsBare r
+IsJob name rows (Reach x) = (name ≡ codes "reach") × IsExploration rows x
 
 -- the matches of the subcommand of this name ask for the work
 abbrev pub Asks : Text → List Row → Asked → Type 0
@@ -100,13 +137,22 @@ Asks name rows (About text) = ⊥
 abbrev pub HasBadNumbers : List Row → Type 0
 HasBadNumbers rows = HasBadNumber (first_of (codes "numbers") rows) ⊎ HasBadNumber (first_of (codes "size") rows)
 
--- a size word among the matches has another form, or one of the two numbers has
-abbrev pub HasBadSizes : List Row → Type 0
-HasBadSizes rows = HasBadSize (values_of (codes "NAME=SIZE") rows) ⊎ HasBadNumbers rows
+-- one of the size words has another form, or one of the two numbers has
+abbrev pub HasBadSetting : (words : List Text) → List Row → Type 0
+HasBadSetting words rows = HasBadSize words ⊎ HasBadNumbers rows
 
--- the subcommand is `show` or `why`, and among its matches a size word or a number has another form, or the limit of `show` has
+-- among the matches of `show` or `why` a size word or a number has another form, or the limit of `show` has
+abbrev pub RefusesRequest : Text → List Row → Type 0
+RefusesRequest name rows = HasBadSetting (values_of (codes "NAME=SIZE") rows) rows ⊎ ((name ≢ codes "why") × HasBadLimit LIMIT_MAX (first_of (codes "limit") rows))
+
+-- among those of `reach` is no operation, or a size word, a number or the limit has another form
+abbrev pub RefusesExploration : List Row → Type 0
+RefusesExploration rows =
+    (other_words (words_after rows) ≡ []) ⊎ (HasBadSetting (size_words (words_after rows)) rows ⊎ HasBadLimit STATES_MAX (first_of (codes "limit") rows))
+
+-- the matches of the subcommand of this name ask for nothing
 abbrev pub Refuses : Text → List Row → Type 0
-Refuses name rows = (name ≢ codes "check") × (HasBadSizes rows ⊎ ((name ≢ codes "why") × HasBadLimit (first_of (codes "limit") rows)))
+Refuses name rows = ((name ≡ codes "reach") × RefusesExploration rows) ⊎ ((name ≢ codes "check") × (name ≢ codes "reach") × RefusesRequest name rows)
 
 -- `clap` takes the words, which name this subcommand, and the rows are its matches
 abbrev pub AreMatches : List Text → Text → List Row → Type 0
@@ -121,6 +167,6 @@ IsAsked words (Work file job) = (name : Text) × (rows : List Row) × AreMatches
 abbrev pub IsRefusedByClap : List Text → Type 0
 IsRefusedByClap words = (cause : ErrorKind) × IsAmong cause (fault_of zf_app words) × (cause ≢ OutOfMemory) × (cause ≢ DisplayHelp) × (cause ≢ DisplayVersion)
 
--- the words are refused: by `clap`, or since a size word, a number or the limit among its matches has another form
+-- the words are refused: by `clap`, or since its matches ask for nothing
 abbrev pub IsRefused : List Text → Type 0
 IsRefused words = IsRefusedByClap words ⊎ ((name : Text) × (rows : List Row) × AreMatches words name rows × Refuses name rows)

@@ -1,17 +1,17 @@
 //! What the words of a command line ask for.
-ghost use Rattle.std.specs.Prelude.{◌≡◌, IfOk, IsErrOf, codes, map};
+ghost use Rattle.std.specs.Prelude.{◌≡◌, ◌≢◌, ◌⊎◌, [], IfOk, IsErrOf, codes, map};
 ghost use Rattle.std.specs.List.{AllZip};
 ghost use Rattle.clap.specs.Words.{found_of, first_of, rows_of};
-ghost use Rattle.zf_command.specs.Jobs.{IsAsked, IsRefused, IsJob, IsLimit, IsRequest, Asks, Refuses, IsNumberOf, ReadsSize, HasBadSize, HasBadSizes, HasBadNumber, HasBadLimit, values_of};
+ghost use Rattle.zf_command.specs.Jobs.{AreNames, Asks, HasBadLimit, HasBadNumber, HasBadSetting, IsAsked, IsExploration, IsJob, IsLimit, IsNumberOf, IsRefused, IsRequest, IsSetting, IsShown, other_words, Refuses, RefusesExploration, RefusesRequest, size_words, values_of, words_after};
 ghost use Rattle.zf_command.specs.Requests.{IsBare};
 ghost use Rattle.zf_command.specs.declared.job.UsageFault.TheVariants.{BadWords};
 
 use crate::command::zf;
-use crate::job::{Asked, Job, Request, Size, UsageFault};
-use crate::limit::limit_of;
+use crate::job::{Asked, Exploration, Job, Request, Setting, UsageFault};
+use crate::limit::{LIMIT_MAX, STATES_MAX, limit_of};
 use crate::matches::{all_in, first_in, is_flagged, option_in, value_in};
 use crate::numerals::given_number;
-use crate::sizes::sizes_of;
+use crate::sizes::{other_words, size_words, sizes_of};
 use clap::ArgMatches;
 use clap::error::ErrorKind;
 use std::alloc::Global;
@@ -63,33 +63,30 @@ fn job_in(alloc: Global, name: &str, matches: &ArgMatches<'_>) -> Result<Job, Us
         let details = is_flagged(matches, "details");
         return Ok(Job::Check { types, details });
     }
-    let mut request = request_in(alloc, matches)?;
+    if name == "reach" {
+        return Ok(Job::Reach(exploration_in(alloc, matches)?));
+    }
+    let request = request_in(alloc, matches)?;
     if name == "why" {
         return Ok(Job::Why(request));
     }
-    request.after = option_in(alloc, matches, "after")?;
-    request.limit = limit_in(matches)?;
-    request.tests = is_flagged(matches, "tests");
-    Ok(Job::Show(request))
+    Ok(Job::Show(shown_in(alloc, matches, request)?))
 }
 
 /// What `show` and `why` both are asked for.
 fn request_in(alloc: Global, matches: &ArgMatches<'_>) -> Result<Request, UsageFault>
     ensures asked { IfOk result (IsRequest (rows_of (found_of matches.now))) }
     ensures plain { IfOk result IsBare }
-    ensures refused { IsErrOf result BadWords → HasBadSizes (rows_of (found_of matches.now)) }
+    ensures refused { IsErrOf result BadWords → HasBadSetting (values_of (codes "NAME=SIZE") (rows_of (found_of matches.now))) (rows_of (found_of matches.now)) }
 {
-    let schema = value_in(alloc, matches, "SCHEMA")?;
-    let sizes = sizes_in(alloc, matches)?;
-    let numbers = number_in(matches, "numbers")?;
-    let size = number_in(matches, "size")?;
+    let name = value_in(alloc, matches, "SCHEMA")?;
+    let words = all_in(matches, "NAME=SIZE").unwrap_or(&[]);
+    let setting = setting_in(alloc, matches, words)?;
     let held = option_in(alloc, matches, "with")?;
     let details = is_flagged(matches, "details");
     Ok(Request {
-        name: schema,
-        sizes,
-        size,
-        numbers,
+        name,
+        setting,
         after: None,
         held,
         limit: None,
@@ -98,12 +95,63 @@ fn request_in(alloc: Global, matches: &ArgMatches<'_>) -> Result<Request, UsageF
     })
 }
 
-fn sizes_in(alloc: Global, matches: &ArgMatches<'_>) -> Result<Items<Size>, UsageFault>
-    ensures read { IfOk result (λ sizes. AllZip ReadsSize (values_of (codes "NAME=SIZE") (rows_of (found_of matches.now))) sizes) }
-    ensures refused { IsErrOf result BadWords → HasBadSize (values_of (codes "NAME=SIZE") (rows_of (found_of matches.now))) }
+/// With what `show` alone is asked for.
+fn shown_in(
+    alloc: Global,
+    matches: &ArgMatches<'_>,
+    request: Request,
+) -> Result<Request, UsageFault>
+    ensures kept { IsRequest (rows_of (found_of matches.now)) request → IfOk result (IsRequest (rows_of (found_of matches.now))) }
+    ensures shown { IfOk result (IsShown (rows_of (found_of matches.now))) }
+    ensures refused { IsErrOf result BadWords → HasBadLimit LIMIT_MAX (first_of (codes "limit") (rows_of (found_of matches.now))) }
 {
-    let words = all_in(matches, "NAME=SIZE").unwrap_or(&[]);
-    sizes_of(alloc, words)
+    let mut shown = request;
+    shown.after = option_in(alloc, matches, "after")?;
+    shown.limit = limit_of(first_in(matches, "limit"), LIMIT_MAX)?;
+    shown.tests = is_flagged(matches, "tests");
+    Ok(shown)
+}
+
+/// What `reach` is asked for.
+fn exploration_in(alloc: Global, matches: &ArgMatches<'_>) -> Result<Exploration, UsageFault>
+    ensures asked { IfOk result (IsExploration (rows_of (found_of matches.now))) }
+    ensures refused { IsErrOf result BadWords → RefusesExploration (rows_of (found_of matches.now)) }
+{
+    let words = all_in(matches, "OPERATION").unwrap_or(&[]);
+    let operations = other_words(alloc, words)?;
+    if operations.as_slice().is_empty() {
+        return Err(UsageFault::BadWords);
+    }
+    let sizes = size_words(alloc, words)?;
+    let setting = setting_in(alloc, matches, &sizes)?;
+    let limit = limit_of(first_in(matches, "limit"), STATES_MAX)?;
+    Ok(Exploration {
+        state: value_in(alloc, matches, "STATE")?,
+        initial: value_in(alloc, matches, "INIT")?,
+        operations,
+        setting,
+        limit,
+        details: is_flagged(matches, "details"),
+    })
+}
+
+/// How large the given sets and the sets of numbers are, where these are the size words.
+fn setting_in(
+    alloc: Global,
+    matches: &ArgMatches<'_>,
+    words: &[&str],
+) -> Result<Setting, UsageFault>
+    ensures read { IfOk result (IsSetting (map (λ w. w.now) words.now) (rows_of (found_of matches.now))) }
+    ensures refused { IsErrOf result BadWords → HasBadSetting (map (λ w. w.now) words.now) (rows_of (found_of matches.now)) }
+{
+    let sizes = sizes_of(alloc, words)?;
+    let numbers = number_in(matches, "numbers")?;
+    let size = number_in(matches, "size")?;
+    Ok(Setting {
+        sizes,
+        size,
+        numbers,
+    })
 }
 
 fn number_in(matches: &ArgMatches<'_>, id: &str) -> Result<Option<u64>, UsageFault>
@@ -111,11 +159,4 @@ fn number_in(matches: &ArgMatches<'_>, id: &str) -> Result<Option<u64>, UsageFau
     ensures refused { IsErrOf result BadWords → HasBadNumber (first_of id.now (rows_of (found_of matches.now))) }
 {
     given_number(first_in(matches, id))
-}
-
-fn limit_in(matches: &ArgMatches<'_>) -> Result<Option<u64>, UsageFault>
-    ensures read { IfOk result (λ limit. IsLimit (first_of (codes "limit") (rows_of (found_of matches.now))) limit) }
-    ensures refused { IsErrOf result BadWords → HasBadLimit (first_of (codes "limit") (rows_of (found_of matches.now))) }
-{
-    limit_of(first_in(matches, "limit"))
 }

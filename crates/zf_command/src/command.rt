@@ -1,6 +1,6 @@
 //! The command that `clap` is given, one small function for each argument.
 ghost use Rattle.std.specs.Prelude.{◌≡◌, IfOk, codes};
-ghost use Rattle.zf_command.specs.Apps.{IsArg, IsCommand, IsTop, check_app, details_rule, option_rule, required_rule, show_app, sizes_rule, tests_rule, types_rule, why_app, zf_app, zf_top};
+ghost use Rattle.zf_command.specs.Apps.{IsArg, IsCommand, IsTop, check_app, details_rule, operations_rule, option_rule, reach_app, required_rule, show_app, sizes_rule, tests_rule, types_rule, why_app, zf_app, zf_top};
 
 use clap::{Arg, ArgAction, Command};
 use std::alloc::{AllocError, Global};
@@ -15,10 +15,12 @@ pub fn zf<'a>(alloc: Global) -> Result<Command<'a>, AllocError>
     let check = check_command(alloc)?;
     let show = show_command(alloc)?;
     let why = why_command(alloc)?;
+    let reach = reach_command(alloc)?;
     let command = top_command(alloc)?
         .subcommand(check)?
         .subcommand(show)?
-        .subcommand(why)?;
+        .subcommand(why)?
+        .subcommand(reach)?;
     Ok(command)
 }
 
@@ -60,11 +62,11 @@ fn show_command<'a>(alloc: Global) -> Result<Command<'a>, AllocError>
         ))?
         .arg(numbers_arg(alloc))?
         .arg(size_arg(alloc))?
-        .arg(limit_arg(alloc))?
+        .arg(limit_arg(alloc, "Writes at most so many bindings, 1 to 1000000000"))?
         .arg(tests_arg(alloc))?
         .arg(details_arg(alloc))?
         .arg(file_arg(alloc))?
-        .arg(schema_arg(alloc))?
+        .arg(name_arg(alloc, "SCHEMA", "The name of the schema"))?
         .arg(sizes_arg(alloc))?;
     Ok(command)
 }
@@ -83,8 +85,29 @@ fn why_command<'a>(alloc: Global) -> Result<Command<'a>, AllocError>
         .arg(size_arg(alloc))?
         .arg(details_arg(alloc))?
         .arg(file_arg(alloc))?
-        .arg(schema_arg(alloc))?
+        .arg(name_arg(alloc, "SCHEMA", "The name of the schema"))?
         .arg(sizes_arg(alloc))?;
+    Ok(command)
+}
+
+/// `reach [--limit N] [--numbers N] [--size N] [--details] FILE STATE INIT OPERATION... [NAME=SIZE]...`
+fn reach_command<'a>(alloc: Global) -> Result<Command<'a>, AllocError>
+    ensures { IfOk result (λ c. IsCommand c reach_app) }
+{
+    let command = Command::new(alloc, "reach")
+        .about("Writes the states that can be reached and the steps between them, one a line")
+        .arg(limit_arg(alloc, "Writes at most so many states, 1 to 1000000"))?
+        .arg(numbers_arg(alloc))?
+        .arg(size_arg(alloc))?
+        .arg(details_arg(alloc))?
+        .arg(file_arg(alloc))?
+        .arg(name_arg(alloc, "STATE", "The name of the schema of the state"))?
+        .arg(name_arg(
+            alloc,
+            "INIT",
+            "The name of the schema of the initial states",
+        ))?
+        .arg(operations_arg(alloc))?;
     Ok(command)
 }
 
@@ -143,13 +166,13 @@ fn size_arg<'a>(alloc: Global) -> Arg<'a>
         .help("The size of each given set without a word of its own")
 }
 
-fn limit_arg<'a>(alloc: Global) -> Arg<'a>
+fn limit_arg<'a>(alloc: Global, help: &'a str) -> Arg<'a>
     ensures { IsArg result (option_rule (codes "limit")) }
 {
     Arg::new(alloc, "limit")
         .long("limit")
         .value_name("N")
-        .help("Writes at most so many bindings, 1 to 1000000000")
+        .help(help)
 }
 
 fn tests_arg<'a>(alloc: Global) -> Arg<'a>
@@ -169,12 +192,11 @@ fn file_arg<'a>(alloc: Global) -> Arg<'a>
         .help("The specification; - is standard input")
 }
 
-fn schema_arg<'a>(alloc: Global) -> Arg<'a>
-    ensures { IsArg result (required_rule (codes "SCHEMA")) }
+/// The name of a schema.
+fn name_arg<'a>(alloc: Global, id: &'a str, help: &'a str) -> Arg<'a>
+    ensures { IsArg result (required_rule id.now) }
 {
-    Arg::new(alloc, "SCHEMA")
-        .required(true)
-        .help("The name of the schema")
+    Arg::new(alloc, id).required(true).help(help)
 }
 
 fn sizes_arg<'a>(alloc: Global) -> Arg<'a>
@@ -183,4 +205,15 @@ fn sizes_arg<'a>(alloc: Global) -> Arg<'a>
     Arg::new(alloc, "NAME=SIZE")
         .action(ArgAction::Append)
         .help("The size of a given set, one word for each")
+}
+
+fn operations_arg<'a>(alloc: Global) -> Arg<'a>
+    ensures { IsArg result operations_rule }
+{
+    Arg::new(alloc, "OPERATION")
+        .required(true)
+        .action(ArgAction::Append)
+        .help(
+            "The name of the schema of an operation, one word for each; a word NAME=SIZE is the size of a given set",
+        )
 }

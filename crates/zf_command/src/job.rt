@@ -12,17 +12,23 @@ pub struct Size {
     pub count: u64,
 }
 
-/// What `show` or `why` is asked for.
+/// How large the given sets and the sets of numbers are.
 #[derive(Drop)]
-pub struct Request {
-    /// The name of the schema.
-    pub name: Word,
-    /// The sizes of the given sets.
+pub struct Setting {
+    /// The sizes of given sets.
     pub sizes: Items<Size>,
     /// The size of each other given set.
     pub size: Option<u64>,
     /// The greatest number, if numbers have an end.
     pub numbers: Option<u64>,
+}
+
+/// What `show` or `why` is asked for.
+#[derive(Drop)]
+pub struct Request {
+    /// The name of the schema.
+    pub name: Word,
+    pub setting: Setting,
     /// The line of the binding after which it begins.
     pub after: Option<Word>,
     /// The line of some components, whose values are held.
@@ -31,6 +37,22 @@ pub struct Request {
     pub limit: Option<u64>,
     /// Whether it tells the number of tests.
     pub tests: bool,
+    /// Whether it tells what faults are about.
+    pub details: bool,
+}
+
+/// What `reach` is asked for.
+#[derive(Drop)]
+pub struct Exploration {
+    /// The name of the schema of the state.
+    pub state: Word,
+    /// The name of the schema of the initial states.
+    pub initial: Word,
+    /// The names of the operations.
+    pub operations: Items<Word>,
+    pub setting: Setting,
+    /// How many states it writes at most.
+    pub limit: Option<u64>,
     /// Whether it tells what faults are about.
     pub details: bool,
 }
@@ -45,6 +67,8 @@ pub enum Job {
     Show(Request),
     /// A binding of a schema, or why it has none; begun after no binding, without a limit and a count of tests.
     Why(Request),
+    /// The states that can be reached, and the steps between them.
+    Reach(Exploration),
 }
 
 /// What the words of a command line ask for.

@@ -3,10 +3,10 @@
 //! Each line begins with two blanks, and the last one names the help that says more.
 
 use crate::command::zf;
-use crate::limit::{LIMIT_MAX, limit_of};
+use crate::limit::{LIMIT_MAX, STATES_MAX, limit_of};
 use crate::matches::{all_in, first_in};
 use crate::numerals::given_number;
-use crate::sizes::parts_of;
+use crate::sizes::{is_size_word, parts_of};
 use clap::ArgMatches;
 use clap::error::{Error, ErrorKind};
 use std::alloc::{AllocError, Global};
@@ -15,6 +15,9 @@ use zf_data::Word;
 
 /// The lines for words that cannot be read as text.
 pub const UNREAD: &str = "  a word that is not UTF-8\n  zf --help says more";
+
+/// The line where no operation is named.
+const NO_OPERATION: &str = "no OPERATION";
 
 /// The lines for words that `job_of` refuses.
 pub fn why_refused<S: AsStr>(alloc: Global, words: &[S]) -> Result<Word, AllocError> {
@@ -33,7 +36,7 @@ fn append_causes<S: AsStr>(
     let command = zf(alloc)?;
     match command.try_get_matches_from(words) {
         Ok(matches) => match matches.subcommand() {
-            Some((_, inner)) => append_bad_values(inner, lines),
+            Some((name, inner)) => append_bad_values(name, inner, lines),
             None => Ok(()),
         },
         Err(error) => append_error(alloc, &error, lines),
@@ -44,7 +47,7 @@ fn append_causes<S: AsStr>(
 fn append_error(alloc: Global, error: &Error, lines: &mut String) -> Result<(), AllocError> {
     let text = error.to_string(alloc)?;
     match error.kind() {
-        ErrorKind::MissingSubcommand => append_line("no command: check, show or why", lines),
+        ErrorKind::MissingSubcommand => append_line("no command: check, show, why or reach", lines),
         ErrorKind::MissingRequiredArgument => append_missing(text.as_str(), lines),
         _ => append_message(text.as_str(), lines),
     }
@@ -57,6 +60,15 @@ fn append_missing(text: &str, lines: &mut String) -> Result<(), AllocError> {
     }
     if text.contains("\n  <SCHEMA>") {
         append_line("no SCHEMA", lines)?;
+    }
+    if text.contains("\n  <STATE>") {
+        append_line("no STATE", lines)?;
+    }
+    if text.contains("\n  <INIT>") {
+        append_line("no INIT", lines)?;
+    }
+    if text.contains("\n  <OPERATION>") {
+        append_line(NO_OPERATION, lines)?;
     }
     Ok(())
 }
@@ -74,19 +86,64 @@ fn append_message(text: &str, lines: &mut String) -> Result<(), AllocError> {
 }
 
 /// The values that are no sizes, no number or no limit.
-fn append_bad_values(matches: &ArgMatches<'_>, lines: &mut String) -> Result<(), AllocError> {
-    for word in all_in(matches, "NAME=SIZE").unwrap_or(&[]) {
-        if parts_of(word).is_none() {
-            write!(lines, "  {word}: NAME=SIZE is expected\n")?;
+fn append_bad_values(
+    name: &str,
+    matches: &ArgMatches<'_>,
+    lines: &mut String,
+) -> Result<(), AllocError> {
+    if name == "reach" {
+        let words = all_in(matches, "OPERATION").unwrap_or(&[]);
+        append_bad_words(words, lines)?;
+        return append_bad_numbers(matches, STATES_MAX, lines);
+    }
+    append_bad_sizes(all_in(matches, "NAME=SIZE").unwrap_or(&[]), lines)?;
+    append_bad_numbers(matches, LIMIT_MAX, lines)
+}
+
+/// The words that are no sizes.
+fn append_bad_sizes(words: &[&str], lines: &mut String) -> Result<(), AllocError> {
+    for word in words {
+        append_bad_size(word, lines)?;
+    }
+    Ok(())
+}
+
+fn append_bad_size(word: &str, lines: &mut String) -> Result<(), AllocError> {
+    if parts_of(word).is_none() {
+        write!(lines, "  {word}: NAME=SIZE is expected\n")?;
+    }
+    Ok(())
+}
+
+/// The size words that are no sizes, or that there are no others.
+fn append_bad_words(words: &[&str], lines: &mut String) -> Result<(), AllocError> {
+    let mut has_operation = false;
+    for word in words {
+        if is_size_word(word) {
+            append_bad_size(word, lines)?;
+        } else {
+            has_operation = true;
         }
     }
+    if !has_operation {
+        append_line(NO_OPERATION, lines)?;
+    }
+    Ok(())
+}
+
+/// The options that are no number or no limit.
+fn append_bad_numbers(
+    matches: &ArgMatches<'_>,
+    most: u64,
+    lines: &mut String,
+) -> Result<(), AllocError> {
     for option in ["numbers", "size"] {
         if given_number(first_in(matches, option)).is_err() {
             write!(lines, "  --{option}: a number\n")?;
         }
     }
-    if limit_of(first_in(matches, "limit")).is_err() {
-        write!(lines, "  --limit: a number from 1 to {LIMIT_MAX}\n")?;
+    if limit_of(first_in(matches, "limit"), most).is_err() {
+        write!(lines, "  --limit: a number from 1 to {most}\n")?;
     }
     Ok(())
 }
@@ -97,7 +154,7 @@ fn append_help<S: AsStr>(words: &[S], lines: &mut String) -> Result<(), AllocErr
         Some(word) => word.as_str(),
         None => "",
     };
-    if name == "check" || name == "show" || name == "why" {
+    if name == "check" || name == "show" || name == "why" || name == "reach" {
         return write!(lines, "  zf {name} --help says more");
     }
     lines.push_str("  zf --help says more")

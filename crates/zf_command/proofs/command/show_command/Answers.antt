@@ -13,5 +13,5 @@ returns c =
     let counted = with_one_more _ _ _ _ _ limited c.tests_arg.ensures c.in_ok-arg-6.ensures in
     let detailed = with_one_more _ _ _ _ _ counted c.details_arg.ensures c.in_ok-arg-7.ensures in
     let one = with_one_more _ _ _ _ _ detailed c.file_arg.ensures c.in_ok-arg-8.ensures in
-    let two = with_one_more _ _ _ _ _ one c.schema_arg.ensures c.in_ok-arg-9.ensures in
+    let two = with_one_more _ _ _ _ _ one c.name_arg.ensures c.in_ok-arg-9.ensures in
     with_one_more _ _ _ _ _ two c.sizes_arg.ensures c.in_ok-command.ensures

@@ -10,5 +10,5 @@ returns c =
     let sized = with_one_more _ _ _ _ _ numbered c.size_arg.ensures c.in_ok-arg-3.ensures in
     let detailed = with_one_more _ _ _ _ _ sized c.details_arg.ensures c.in_ok-arg-4.ensures in
     let one = with_one_more _ _ _ _ _ detailed c.file_arg.ensures c.in_ok-arg-5.ensures in
-    let two = with_one_more _ _ _ _ _ one c.schema_arg.ensures c.in_ok-arg-6.ensures in
+    let two = with_one_more _ _ _ _ _ one c.name_arg.ensures c.in_ok-arg-6.ensures in
     with_one_more _ _ _ _ _ two c.sizes_arg.ensures c.in_ok-command.ensures
